@@ -1,13 +1,28 @@
 -- A table in which one entry changes, or leaves: what holds of each entry.
-use Rattle.std.proofs.Common.{◌≡◌, ◌≢◌, ℕ, ◌<◌, ◌==◌, nat_lt, Bool, true, false, not, length, get_or, Contains, refl, sym, ap, subst, ◌∙◌}
-use Rattle.std.proofs.Common.{arith, Some}
+use Rattle.std.proofs.Common.{◌≡◌, ◌≢◌, ℕ, ◌<◌, ◌==◌, nat_lt, Bool, true, false, not, List, [], ◌∷◌, length, filter, map, get_or, Contains}
+use Rattle.std.proofs.Common.{Some, refl, sym, ap, subst, ◌∙◌, arith}
 use Rattle.std.specs.List.{All}
 use Rattle.std.proofs.lemmas.Bool.Decides.{nat_tests}
 use Rattle.std.proofs.lemmas.{List.get_or_default, Option.slice_get-get_or}
 use Rattle.std.proofs.lemmas.List.Elements.{All-filter, All-map, filter_passes}
-use Rattle.vs_flow.proofs.Entries.{found_at}
+use Rattle.vs_flow.proofs.{Entries.found_at, Tables.revalued-slot}
 use Rattle.vs_flow.specs.Table.{entry_under, IsTable, Table, revalued, with_value, without}
 use Rattle.vs_flow.specs.declared.table.Entry.{Entry}
+
+-- A change of an entry that then leaves.
+module _ {T : Type 0} (slot : ℕ) (v : T) where
+  same_kept : (es : List (Entry T)) → filter (λ e. not (e.slot == slot)) (map (revalued slot v) es) ≡ filter (λ e. not (e.slot == slot)) es
+  same_kept [] = refl
+  same_kept (e ∷ es) = by (e.slot == slot) refl (same_kept es)
+    where
+      by : (b : Bool) → (e.slot == slot) ≡ b
+          → filter (λ x. not (x.slot == slot)) (map (revalued slot v) es) ≡ filter (λ x. not (x.slot == slot)) es
+          → filter (λ x. not (x.slot == slot)) (revalued slot v e ∷ map (revalued slot v) es) ≡ filter (λ x. not (x.slot == slot)) (e ∷ es)
+      by true at rest = rw (revalued-slot slot v e, at) rest
+      by false at rest = rw (revalued-slot slot v e, at) (ap (λ (xs : List (Entry T)). e ∷ xs) rest)
+
+pub without_changed : {T : Type 0} (t : Table T) (slot : ℕ) (v : T) → without (with_value t slot v) slot ≡ without t slot
+without_changed t slot v = ap (λ es. record t { entries = es }) (same_kept slot v t.entries)
 
 module _ {T : Type 0} (t : Table T) (sound : IsTable t) (x : Entry T) (there : Contains t.entries x) where
   -- Another entry has another slot and another flow.

@@ -1,3 +1,4 @@
 pub mod Changes
 pub mod Logs
 pub mod Steps
+pub mod Firsts

@@ -1,31 +1,48 @@
 -- What the device keeps as it takes a packet, whose page stands in the log: each verdict, and each end of a REQUEST.
-use Rattle.std.proofs.{lemmas.Bool.Decides.nat_tests, lemmas.Grind.common_steps}
-use Rattle.std.proofs.Common.{◌≡◌, ℕ, ◌+◌, ◌≤◌, ◌==◌, ◌&&◌, Bool, true, false, cond, List, [], ◌∷◌, ◌++◌, length, take, drop, Contains}
-use Rattle.std.proofs.Common.{Option, Some, None, refl, sym, ap, subst, ◌∙◌, arith, length-append, length-take}
+use Rattle.std.proofs.{lemmas.Bool.Decides.nat_tests, lemmas.Grind.common_steps, Common.◌≡◌, Common.ℕ, Common.◌+◌, Common.◌≤◌, Common.◌==◌}
+use Rattle.std.proofs.Common.{◌&&◌, Bool, true, false, cond, List, [], ◌∷◌, ◌++◌, length, take, drop, Contains, Option, Some, None, refl}
+use Rattle.std.proofs.Common.{sym, ap, subst, ◌∙◌, arith, length-append, length-take, get_or, is_some}
+use Rattle.std.proofs.lemmas.List.{get_or_default}
 use Rattle.vs_contents.specs.CallTree.{Done, Ask, bind}
-use Rattle.vs_conn.specs.{declared.end.Verdict.Verdict, declared.end.Why.Why}
-use Rattle.vs_conn.specs.End.{ConnectionEnd, after_op, end_after, is_reset, is_of, verdict_of}
-use Rattle.vs_flow.specs.{Flow.is_assigned, Flow.same_flow, Table.entry_of, Table.has_place}
+use Rattle.vs_conn.specs.{declared.end.Verdict.Verdict, declared.end.Why.Why, End.ConnectionEnd, End.after_op, End.end_after, End.is_reset}
+use Rattle.vs_conn.specs.End.{is_of, verdict_of}
+use Rattle.vs_flow.specs.{Flow.is_assigned, Flow.same_flow, Table.entry_of, Table.has_place, Table.with_value, Table.Table}
+use Rattle.vs_flow.specs.declared.flow.Flow.{Flow}
 use Rattle.vs_flow.proofs.Entries.{same_flow_true}
 use Rattle.vs_header.specs.{Op.op_named, declared.Header.Header, declared.TheConstants.HEADER_LEN, declared.Kind.TheVariants.Stream}
 use Rattle.laws_history.specs.{Packets.is_request, declared.packet.Packet.Packet}
-use Rattle.vs_outside.specs.declared.host_net.Dialed.{Dialed}
-use Rattle.vs_page.specs.{Fair.IsFairLog, Held.FitsWire, Log.Device, Log.Log, Log.flow_to_host, Open.is_dropped}
-use Rattle.vs_page.specs.declared.log.LogEntry.TheVariants.{GotPacket}
+use Rattle.vs_outside.specs.{declared.host_net.Dialed.Dialed, Host.HostContents, Host.IsDialed, Host.after_dial, Host.after_failed}
+use Rattle.vs_outside.specs.Host.{called}
+use Rattle.vs_page.specs.{Fair.IsFairLog, Held.FitsWire, Held.IsWhole, Held.packet_held, Log.Device, Log.Log, Log.flow_to_host}
+use Rattle.vs_page.specs.{Open.is_dropped, declared.log.LogEntry.TheVariants.GotPacket}
 use Rattle.vs_replies.specs.Owed.{reply_to}
-use Rattle.vs_ring_port.specs.{Chains.Held, Chains.bytes_in, Contents.RingContents, EndLog.EndLog, declared.device_ring.Chain.Chain}
-use Rattle.laws_tables.specs.{Ends.is_new, Steps.is_overrun}
-use Rattle.laws_tables.proofs.Slots.{found_by}
-use Rattle.vs_device_parts.specs.{Calls.DeviceTree, Calls.Dial, State.DeviceConnection, State.DeviceEntry, State.DeviceState}
-use Rattle.vs_device_parts.specs.Connections.{after_leaving, stream_closed, with_connection, with_dialed, with_fault, with_reply}
+use Rattle.vs_ring_port.specs.{Chains.Held, Chains.bytes_in, EndLog.EndLog, declared.device_ring.Chain.Chain}
+use Rattle.laws_tables.specs.{Ends.is_new, Steps.is_overrun, Steps.HasEnd}
+use Rattle.laws_tables.proofs.{Slots.found_by, Fair.got_one}
+use Rattle.vs_device_parts.specs.{Calls.DeviceTree, Calls.Dial, Calls.Allows, Calls.HostMoves, Calls.Situation, State.DeviceConnection}
+use Rattle.vs_device_parts.specs.{State.DeviceEntry, State.DeviceState, Connections.after_leaving, Connections.stream_closed}
+use Rattle.vs_device_parts.specs.Connections.{with_connection, with_dialed, with_fault, with_reply}
 use Rattle.vs_device_parts.specs.Transmitting.{dial_answered, heard, on_known, on_packet, on_unknown, refused, try_request, unknown_why}
 use Rattle.vs_device_parts.specs.Streams.{leaving}
 use Rattle.vs_wrap.specs.Wrap.{counted}
-use Rattle.laws_device.specs.Honest.{AgreesWith, HoldsBytes, IsLeft, unwritten}
-use Rattle.laws_device.proofs.{Fits.delivered, Fits.fewer, Fits.fits_after, Keeping.Keeps, Keeping.keeps_bind}
-use Rattle.laws_device.proofs.{Ringing.HoldsFirst, Ringing.Tells, Ringing.moves, Ringing.tells_weaker, Steps.closing_keeps}
-use Rattle.laws_device.proofs.Taking.{drops_it, has_its_room, ignores_it, leaves_with, opens, replies_to, stays_with}
-use Rattle.laws_device.proofs.Tabling.{IsFitConnection, begun_fits, entry_fits}
+use Rattle.laws_device.specs.{Honest.AgreesWith, Honest.HoldsBytes, Honest.IsLeft, Honest.unwritten, Honest.ends_of_state, Streams.IsPlain}
+use Rattle.laws_device.proofs.{Fits.delivered, Fits.fewer, Fits.fits_after, Keeping.Keeps, Keeping.keeps_bind, Ringing.HoldsFirst}
+use Rattle.laws_device.proofs.Ringing.{Tells, moves, tells_weaker, host_moves, Telling, bytes_held}
+use Rattle.laws_device.proofs.{Steps.closing_keeps, Taking.drops_it, Taking.has_its_room, Taking.ignores_it, Taking.leaves_with}
+use Rattle.laws_device.proofs.{Taking.opens, Taking.replies_to, Taking.stays_with, Tabling.IsFitConnection, Tabling.begun_fits}
+use Rattle.laws_device.proofs.{Tabling.entry_fits, Tabling.has_end, Carrying.Fact, Carrying.StreamedOver, Carrying.closed_over}
+use Rattle.laws_device.proofs.Carrying.{closed_tells, plain_before, streams_call, streams_go}
+use Rattle.laws_device_bytes.proofs.Changing.{accepts_streams, called_host, delivered_rw, delivers_streams, dialed_id, empty_streams}
+use Rattle.laws_device_bytes.proofs.Changing.{failed_host, got_nothing, hears_streams, leaves_streams, passes_streams, payload_in}
+use Rattle.laws_device_bytes.proofs.{Changing.request_empty, Changing.reset_empty, Changing.unknown_streams, Streamed.join_of}
+use Rattle.laws_device_bytes.proofs.Opens.{dial_host}
+use Rattle.vs_proxy_parts.specs.State.{Handshake}
+use Rattle.laws_device_bytes.specs.Streamed.{IsStreamed, gives, look}
+use Rattle.laws_bytes.proofs.{Firsts.asked_first, Firsts.once_history, Logs.got_passes, Logs.none_passed, Logs.passed_after_got}
+use Rattle.laws_bytes.proofs.Logs.{put_after_got}
+use Rattle.laws_bytes.specs.Drains.{has_passed}
+use Rattle.vs_uds.specs.OkLine.{ok_text}
+use Rattle.std.specs.List.{All}
 use Rattle.vs_conn.specs.declared.end.Verdict.TheVariants as verdict
 use Rattle.vs_conn.specs.declared.end.Why.TheVariants as why
 use Rattle.vs_outside.specs.declared.host_net.Dialed.TheVariants as dialed
@@ -47,52 +64,107 @@ accept_old e h is = ap (λ (v : Verdict). is_new (after_op (op_named h.op) e h v
 deliver_old : (e : ConnectionEnd) (h : Header) → verdict_of e h ≡ verdict.Deliver → is_new (end_after e h) ≡ false
 deliver_old e h is = grind (arith, common_steps, is)
 
-module _ (first port : ℕ) (s : DeviceState) (chain : Chain) (h : Header) (wire : FitsWire h) where
+module _ (ok : Type 0) (lines : List Handshake) (first port : ℕ) (s : DeviceState) (chain : Chain) (h : Header) (wire : FitsWire h) where
+  abbrev Streamed : Table DeviceConnection → Fact
+  Streamed t = StreamedOver ok lines first port t
+
   -- The packet with this header came, and its payload is this.
   abbrev pub packet : List ℕ → Packet
   packet payload = record { header = h; payload = payload }
 
   -- The newest entry of the log is the packet, and the device agrees with the log before it.
-  pub record IsCome (l : EndLog) : Type 0 where
+  pub record IsCome (page : List ℕ) (host : Option HostContents) (l : EndLog) : Type 0 where
     pub payload : List ℕ
     pub log : Log
     pub entries_are : l.entries ≡ GotPacket (record { header = h; payload = payload }) ∷ log
     pub was : IsLeft first port s.cid s.overrun s.table s.replies log
     pub fair : IsFairLog Device (GotPacket (record { header = h; payload = payload }) ∷ log)
+    pub streams : Streamed s.table host log
+    pub whole : IsWhole (packet payload)
+    pub held : packet_held page ≡ Some (packet payload)
 
-  abbrev pub Came : Bool → EndLog → Type 0
-  Came honest l = (page : List ℕ) × HoldsFirst chain page (unwritten s.chain) l × (honest ≡ true → IsCome l)
+  abbrev pub Came : Telling
+  Came honest host l = (page : List ℕ) × HoldsFirst chain page (unwritten s.chain) l × (honest ≡ true → IsCome page host l)
 
   -- The device t took the packet.
-  abbrev pub After : DeviceState → Bool → EndLog → Type 0
-  After t honest l = (page : List ℕ) × HoldsFirst chain page (unwritten t.chain) l × (honest ≡ true → AgreesWith first port t l)
+  abbrev pub After : DeviceState → Telling
+  After t honest host l =
+      (page : List ℕ) × HoldsFirst chain page (unwritten t.chain) l × (honest ≡ true → AgreesWith first port t l × Streamed t.table host l.entries)
 
-  abbrev pub Heard : DeviceState × Verdict → RingContents → Type 0
+  abbrev pub Heard : DeviceState × Verdict → Situation → Type 0
   Heard x c = (x.0.failed ≡ s.failed) × (x.0.chain ≡ s.chain) × Tells (After x.0) c
 
-  abbrev HearsOf : DeviceState → List ℕ → Log → Type 0
-  HearsOf t payload log = IsLeft first port s.cid s.overrun s.table s.replies log → IsFairLog Device (GotPacket (packet payload) ∷ log)
+  abbrev Hears : DeviceState → Type 0
+  Hears t = (payload : List ℕ) (log : Log) → IsLeft first port s.cid s.overrun s.table s.replies log → IsFairLog Device (GotPacket (packet payload) ∷ log)
       → IsLeft first port t.cid t.overrun t.table t.replies (GotPacket (packet payload) ∷ log)
 
-  abbrev Hears : DeviceState → Type 0
-  Hears t = (payload : List ℕ) (log : Log) → HearsOf t payload log
+  -- What comes to the streams, of which one may be made or closed.
+  abbrev Streams : (HostContents → HostContents) → DeviceState → Type 0
+  Streams f t = (payload : List ℕ) (log : Log) → IsLeft first port s.cid s.overrun s.table s.replies log → IsFairLog Device (GotPacket (packet payload) ∷ log)
+      → IsWhole (packet payload) → IsPlain first (GotPacket (packet payload) ∷ log) → (c : HostContents) → IsStreamed c log port s.table lines
+      → IsStreamed (f c) (GotPacket (packet payload) ∷ log) port t.table lines
 
-  agrees_by : (t : DeviceState) (l : EndLog) → Hears t → IsCome l → AgreesWith first port t l
-  agrees_by t l step come =
-      subst (λ (log : Log). IsLeft first port t.cid t.overrun t.table t.replies log) (sym come.entries_are)
-      (step come.payload come.log come.was come.fair)
+  agrees_by : (t : DeviceState) (page : List ℕ) (o n : Option HostContents) (l : EndLog) → Hears t → (come : IsCome page o l)
+      → (Streamed s.table o come.log → Streamed t.table n (GotPacket (packet come.payload) ∷ come.log)) → AgreesWith first port t l × Streamed t.table n l.entries
+  agrees_by t page o n l step come streams = (
+    subst (λ (log : Log). IsLeft first port t.cid t.overrun t.table t.replies log) (sym come.entries_are)
+        (step come.payload come.log come.was come.fair),
+    subst (λ (log : Log). Streamed t.table n log) (sym come.entries_are) (streams come.streams),
+  )
 
-  quiet : (t : DeviceState) (v : Verdict) (c : RingContents) → t.failed ≡ s.failed → t.chain ≡ s.chain → Hears t → Tells Came c → Heard
-      (t, v) c
-  quiet t v c failed chain_is step tells = (
+  stays_so : (t : DeviceState) (page : List ℕ) (o : Option HostContents) (l : EndLog) → Streams (λ c. c) t → (come : IsCome page o l)
+      → Streamed s.table o come.log → Streamed t.table o (GotPacket (packet come.payload) ∷ come.log)
+  stays_so t page o l streams come = streams_go ok first lines lines port port s.table t.table come.log (GotPacket (packet come.payload) ∷ come.log)
+      (plain_before first (GotPacket (packet come.payload)) come.log) (λ c few x. streams come.payload come.log come.was come.fair come.whole few c x) o
+
+  behind : (t : DeviceState) (page : List ℕ) (l : EndLog) → t.chain ≡ s.chain → HoldsFirst chain page (unwritten s.chain) l
+      → HoldsFirst chain page (unwritten t.chain) l
+  behind t page l chain_is held =
+      held ∙ ap (λ (o : Option Chain). let x : Held = record { chain = chain; bytes = page } in x ∷ unwritten o) (sym chain_is)
+
+  quiet : (t : DeviceState) (v : Verdict) (c : Situation) → t.failed ≡ s.failed → t.chain ≡ s.chain → Hears t → Streams (λ c. c) t → Tells Came c
+      → Heard (t, v) c
+  quiet t v c failed chain_is step streams tells = (
     failed,
     chain_is,
-    tells_weaker Came (After t) (λ hon l came. (
+    tells_weaker Came (After t) (λ hon o l came. (
       came.0,
-      came.1 ∙ ap (λ (o : Option Chain). let x : Held = record { chain = chain; bytes = came.0 } in x ∷ unwritten o) (sym chain_is),
-      λ honest. agrees_by t l step (came.2 honest),
+      behind t came.0 l chain_is came.1,
+      λ honest. let come = came.2 honest in agrees_by t came.0 o o l step come (stays_so t came.0 o l streams come),
     )) c tells,
   )
+
+  -- With a call on the host.
+  calls : (t : DeviceState) (v : Verdict) (c d : Situation) (faults : Bool) (A : HostContents → Type 0) (f : HostContents → HostContents)
+      → t.failed ≡ s.failed → t.chain ≡ s.chain → Hears t
+      → ((payload : List ℕ) (log : Log) → IsLeft first port s.cid s.overrun s.table s.replies log → IsFairLog Device (GotPacket (packet payload) ∷ log)
+      → IsWhole (packet payload) → IsPlain first (GotPacket (packet payload) ∷ log) → (h : HostContents) → A h → IsStreamed h log port s.table lines
+      → IsStreamed (f h) (GotPacket (packet payload) ∷ log) port t.table lines)
+      → HostMoves faults A f c d → Tells Came c → Heard (t, v) d
+  calls t v c d faults A f failed chain_is step streams made tells = (
+    failed,
+    chain_is,
+    host_moves faults A f c d made Came (After t) (λ hon o n l exposes came. (
+      came.0,
+      behind t came.0 l chain_is came.1,
+      λ honest. let come = came.2 honest in agrees_by t came.0 o n l step come
+          (streams_call ok first lines lines port port s.table t.table come.log (GotPacket (packet come.payload) ∷ come.log)
+          (plain_before first (GotPacket (packet come.payload)) come.log) A f
+          (λ h answers few x. streams come.payload come.log come.was come.fair come.whole few h answers x) o n exposes),
+    )) tells,
+  )
+
+  -- No connection that gives its stream payload misses some of a packet that is dropped.
+  idle : (payload : List ℕ) (log : Log) → IsLeft first port s.cid s.overrun s.table s.replies log → IsFairLog Device (GotPacket (packet payload) ∷ log)
+      → IsPlain first (GotPacket (packet payload) ∷ log) → is_dropped Device s.cid h ≡ true
+      → All (λ e. e.flow ≡ flow_to_host h → gives e.value.end ≡ true → payload ≡ []) s.table.entries
+  idle payload log was fair plain dropped i d within flow given =
+      let e : DeviceEntry = get_or s.table.entries i d in
+      let there : Contains s.table.entries e = (i, within, sym (get_or_default s.table.entries i d e within)) in
+      let has : HasEnd (flow_to_host h) e.value.end (ends_of_state port s) =
+      subst (λ (f : Flow). HasEnd f e.value.end (ends_of_state port s)) flow (has_end s was.fits e there port) in
+      let own = got_one Device first (packet payload) e.value.end (ends_of_state port s) log was.matches.flows has (fair (flow_to_host h)) in
+      plain.heard.0 (ap (λ (cid : ℕ). is_dropped Device cid h) (sym was.matches.flows.cid) ∙ dropped) (ap is_some own.kind_is)
 
   module _ (kept : is_dropped Device s.cid h ≡ false) where
     -- A packet of a connection of the table.
@@ -156,90 +228,144 @@ module _ (first port : ℕ) (s : DeviceState) (chain : Chain) (h : Header) (wire
       abbrev with_verdict : Verdict → DeviceTree DeviceState → DeviceTree (DeviceState × Verdict)
       with_verdict v tree = bind tree (λ t. Done (t, v))
 
-      module _ (c : RingContents) (tells : Tells Came c) where
+      heard_on : (v : Verdict) → verdict_of e.value.end h ≡ v → (v ≡ verdict.Accept → ⊥) → (v ≡ verdict.Deliver → ⊥)
+          → Streams (λ c. c) (with_connection e.slot (heard h e.value) s)
+      heard_on v is other undelivered payload log was fair whole few c x =
+          hears_streams c log port s.table lines x was.fits.sound (packet payload) whole e there flow v is other undelivered
+
+      module _ (c : Situation) (tells : Tells Came c) where
         peers : (b : Bool) → is_reset h ≡ b → verdict_of e.value.end h ≡ verdict.Peer
             → Keeps Heard (with_verdict verdict.Peer (cond b (leaving (record e { value = heard h e.value }) s)
             (Done (with_connection e.slot (heard h e.value) s)))) c
         peers false reset is = quiet (with_connection e.slot (heard h e.value) s) verdict.Peer c refl refl
-            (λ payload log was fair. hears payload log was fair verdict.Peer is reset) tells
+            (λ payload log was fair. hears payload log was fair verdict.Peer is reset) (heard_on verdict.Peer is
+            (λ (q : verdict.Peer ≡ verdict.Accept). cc) (λ (q : verdict.Peer ≡ verdict.Deliver). cc)) tells
         peers true reset is =
             let x : DeviceEntry = record e { value = heard h e.value } in
             let gone : DeviceState = after_leaving e.slot (with_connection e.slot (stream_closed (heard h e.value)) s) in
             let next : DeviceState → DeviceTree DeviceState = λ t. Done (after_leaving e.slot t) in
             keeps_bind Heard (leaving x s) (λ t. Done (t, verdict.Peer)) c
-            (closing_keeps first port (λ t d. Heard (t, verdict.Peer) d) next x stream_closed s c
-            (quiet gone verdict.Peer c refl refl (λ payload log was fair. leaves payload log was fair is reset) tells))
+            (closing_keeps ok lines first port (λ t d. Heard (t, verdict.Peer) d) next x stream_closed s c (λ d closes.
+            let all = quiet gone verdict.Peer c refl refl (λ payload log was fair. leaves payload log was fair is reset)
+            (λ payload log was fair whole few c y. leaves_streams c (GotPacket (packet payload) ∷ log) port s.table lines
+            (empty_streams c log port s.table lines y was.fits.sound (packet payload) whole (reset_empty e.value.end.kind (packet payload)
+            (sym (rst_leaves e.value.end h) ∙ ap (λ (w : Verdict). peer_resets w h) is ∙ reset))) was.fits.sound e (stream_closed (heard h e.value)) there) tells in (
+              refl,
+              refl,
+              closed_tells (After gone) x.value c d (λ hon o n l exposes was. (
+                was.0,
+                was.1,
+                λ honest. let p = was.2 honest in (p.0, closed_over ok first lines port gone.table l.entries x.value.stream o n exposes p.1),
+              )) closes all.2,
+            )))
 
         refuses : (w : Why) → verdict_of e.value.end h ≡ verdict.Rst w → Keeps Heard
             (with_verdict (verdict.Rst w) (on_known (verdict.Rst w) chain h e s)) c
         refuses (why.Overrun o) is = quiet (with_connection e.slot (heard h e.value) (record s { overrun = counted s.overrun }))
             (verdict.Rst (why.Overrun o)) c refl refl
-            (λ payload log was fair. absurd (overruns payload log was fair (why.Overrun o) is refl)) tells
+            (λ payload log was fair. absurd (overruns payload log was fair (why.Overrun o) is refl))
+            (λ payload log was fair whole few c y. absurd (overruns payload log was fair (why.Overrun o) is refl)) tells
         refuses w is = quiet (with_connection e.slot (heard h e.value) s) (verdict.Rst w) c refl refl
-            (λ payload log was fair. hears payload log was fair _ is refl) tells
+            (λ payload log was fair. hears payload log was fair _ is refl)
+            (heard_on (verdict.Rst w) is (λ (q : verdict.Rst w ≡ verdict.Accept). cc) (λ (q : verdict.Rst w ≡ verdict.Deliver). cc)) tells
 
-        accepted : (line : List ℕ) → verdict_of e.value.end h ≡ verdict.Accept
+        accepted : (line : List ℕ) → line ≡ cond e.value.by_client (ok_text e.flow.host) [] → verdict_of e.value.end h ≡ verdict.Accept
             → Heard (with_connection e.slot (record (heard h e.value) { ok_line = line }) s, verdict.Accept) c
-        accepted line is = quiet (with_connection e.slot (record (heard h e.value) { ok_line = line }) s) verdict.Accept c refl refl
-            (λ payload log was fair. accepts payload log was fair line is) tells
+        accepted line written is = quiet (with_connection e.slot (record (heard h e.value) { ok_line = line }) s) verdict.Accept c refl refl
+            (λ payload log was fair. accepts payload log was fair line is) (λ payload log was fair whole few c y.
+            accepts_streams c log port s.table lines y was.fits.sound (packet payload) whole e there flow fair
+            (once_history Device e.flow log (was.fair e.flow) ((plain_before first (GotPacket (packet payload)) log few).once e.flow))
+            (join_of (look c) c.labelled log port s.table lines y e there).client line written is) tells
 
         by_verdict : (v : Verdict) → verdict_of e.value.end h ≡ v → Keeps Heard (with_verdict v (on_known v chain h e s)) c
-        by_verdict verdict.Accept is = accepted _ is
+        by_verdict verdict.Accept is = accepted _ refl is
         by_verdict verdict.Deliver is = (
           tt,
-          λ bytes d fit made. (
+          λ bytes d made. (
             refl,
             refl,
-            moves _ _ _ _ _ (λ l. l) c d made Came (After (with_connection e.slot
+            moves _ _ _ _ _ (λ l. l) c d made.0 made.1 Came (After (with_connection e.slot
                 (record (heard h e.value) { pending = e.value.pending ++ bytes }) s))
-                (λ hon l asked came stays. (
+                (λ hon o l asked came stays. (
                   came.0,
                   came.1,
                   λ honest.
+                      let come = came.2 honest in
+                      let read : bytes ≡ take h.len (drop HEADER_LEN came.0) =
+                      asked ∙ ap (λ (page : List ℕ). take h.len (drop HEADER_LEN page)) (bytes_held chain came.0 (unwritten s.chain) l came.1) in
                       let few = length-take h.len (drop HEADER_LEN (bytes_in chain l.held)) in
                       let same : length bytes ≡ length (take h.len (drop HEADER_LEN (bytes_in chain l.held))) = ap length asked in
-                      agrees_by (with_connection e.slot (record (heard h e.value) { pending = e.value.pending ++ bytes }) s) l
-                      (λ payload log was fair. delivers payload log was fair bytes (omega (arith, few, same)) is) (came.2 honest),
+                      agrees_by (with_connection e.slot (record (heard h e.value) { pending = e.value.pending ++ bytes }) s) came.0 o o l
+                      (λ payload log was fair. delivers payload log was fair bytes (omega (arith, few, same)) is) come
+                      (streams_go ok first lines lines port port s.table (with_value s.table e.slot (record (heard h e.value) { pending = e.value.pending ++ bytes }))
+                      come.log (GotPacket (packet come.payload) ∷ come.log) (plain_before first (GotPacket (packet come.payload)) come.log) (λ c some x.
+                      delivers_streams c come.log port s.table lines x come.was.fits.sound (packet come.payload) come.whole e there flow bytes
+                      (read ∙ payload_in came.0 (packet come.payload) come.held (delivered_rw e.value.end (packet come.payload) is)) is) o),
                 )) tells,
           ),
         )
         by_verdict verdict.Discard is = quiet (with_connection e.slot (heard h e.value) s) verdict.Discard c refl refl
-            (λ payload log was fair. hears payload log was fair _ is refl) tells
+            (λ payload log was fair. hears payload log was fair _ is refl)
+            (heard_on verdict.Discard is (λ (q : verdict.Discard ≡ verdict.Accept). cc) (λ (q : verdict.Discard ≡ verdict.Deliver). cc)) tells
         by_verdict verdict.Ignore is = quiet (with_connection e.slot (heard h e.value) s) verdict.Ignore c refl refl
-            (λ payload log was fair. hears payload log was fair _ is refl) tells
+            (λ payload log was fair. hears payload log was fair _ is refl)
+            (heard_on verdict.Ignore is (λ (q : verdict.Ignore ≡ verdict.Accept). cc) (λ (q : verdict.Ignore ≡ verdict.Deliver). cc)) tells
         by_verdict verdict.Peer is = peers (is_reset h) refl is
         by_verdict (verdict.Rst w) is = refuses w is
 
     -- A packet of another flow.
-    module _ (none : entry_of s.table (flow_to_host h) ≡ None) (c : RingContents) (tells : Tells Came c) where
+    module _ (none : entry_of s.table (flow_to_host h) ≡ None) (c : Situation) (tells : Tells Came c) where
+      passes : Streams (λ c. c) s
+      passes payload log was fair whole few c x = unknown_streams c log port s.table lines x was.fits.sound (packet payload) whole none
+
       replied : (t : DeviceState) (v : Verdict) → (t.failed ≡ s.failed) × (t.chain ≡ s.chain) × (t.cid ≡ s.cid) × (t.overrun ≡ s.overrun)
           × (t.table ≡ s.table)
           × (t.replies ≡ s.replies ++ reply_to (flow_to_host h) h ∷ []) → is_reset h ≡ false → Heard (t, v) c
       replied t v (failed, chain_is, cid, overrun, table, replies) plain = quiet t v c failed chain_is (λ payload log was fair.
-          rw (cid, overrun, table, replies) (replies_to first port s (packet payload) log was fair wire kept none plain)) tells
+          rw (cid, overrun, table, replies) (replies_to first port s (packet payload) log was fair wire kept none plain))
+          (λ payload log was fair whole few c x. rw table (passes payload log was fair whole few c x)) tells
 
-      dial_by : (d : Dialed) → is_reset h ≡ false → is_request (packet []) ≡ true → h.kind ≡ 1 → has_place s.table ≡ true → Heard (dial_answered h d s) c
-      dial_by (dialed.Stream stream) plain request kind place =
-          quiet (with_dialed (flow_to_host h) h stream s) verdict.Accept c refl refl
-          (λ payload log was fair. opens first port s (packet payload) log was fair wire kept none stream request kind place) tells
-      dial_by dialed.Refused plain request kind place = replied (with_reply (reply_to (flow_to_host h) h) s) (verdict.Rst why.NotLive)
-          (refl, refl, refl, refl, refl, refl) plain
-      dial_by dialed.Failed plain request kind place = replied (with_reply (reply_to (flow_to_host h) h) (with_fault s)) (verdict.Rst why.NotLive)
-          (refl, refl, refl, refl, refl, refl) plain
+      -- The REQUEST is the first packet of its flow.
+      dials : (path : List ℕ) (a : Dialed) (d : Situation) (f : HostContents → HostContents) (t : DeviceState) (faults : Bool) → (t.failed ≡ s.failed) × (t.chain ≡ s.chain)
+          × (t.cid ≡ s.cid) × (t.overrun ≡ s.overrun) × (t.table ≡ s.table) × (t.replies ≡ s.replies ++ reply_to (flow_to_host h) h ∷ []) → is_reset h ≡ false
+          → HostMoves faults (IsDialed path a) f c d
+          → ((g : HostContents) (log : Log) → IsStreamed g log port s.table lines → IsStreamed (f g) log port s.table lines) → Heard (t, verdict.Rst why.NotLive) d
+      dials path a d f t faults (failed, chain_is, cid, overrun, table, replies) plain made carries =
+          calls t (verdict.Rst why.NotLive) c d faults (IsDialed path a) f failed chain_is (λ payload log was fair.
+          rw (cid, overrun, table, replies) (replies_to first port s (packet payload) log was fair wire kept none plain))
+          (λ payload log was fair whole few g is x. rw table (carries g (GotPacket (packet payload) ∷ log) (passes payload log was fair whole few g x))) made tells
+
+      quiet_flow : (payload : List ℕ) (log : Log) → IsFairLog Device (GotPacket (packet payload) ∷ log) → IsPlain first (GotPacket (packet payload) ∷ log)
+          → is_request (packet payload) ≡ true → has_passed Device (flow_to_host h) log ≡ false
+      quiet_flow payload log fair few request =
+          none_passed Device (flow_to_host h) log (asked_first Device (packet payload) log fair (few.once (flow_to_host h)) request)
+
+      dial_by : (path : List ℕ) (a : Dialed) (d : Situation) → Allows (Dial path (flow_to_host h)) a c d → is_assigned h.dst_port ≡ false → is_reset h ≡ false
+          → is_request (packet []) ≡ true → h.kind ≡ 1 → has_place s.table ≡ true → Heard (dial_answered h a s) d
+      dial_by path (dialed.Stream stream) d made outside plain request kind place =
+          calls (with_dialed (flow_to_host h) h stream s) verdict.Accept c d false (IsDialed path (dialed.Stream stream))
+          (after_dial (flow_to_host h) (dialed.Stream stream)) refl refl
+          (λ payload log was fair. opens first port s (packet payload) log was fair wire kept none stream request kind place)
+          (λ payload log was fair whole few g is x.
+          subst (λ (n : ℕ). IsStreamed (after_dial (flow_to_host h) (dialed.Stream n) g) (GotPacket (packet payload) ∷ log) port
+          (with_dialed (flow_to_host h) h n s).table lines) (sym (dialed_id path stream g (sym is)))
+          (dial_host g log (GotPacket (packet payload) ∷ log) port s.table lines x (flow_to_host h) h outside (quiet_flow payload log fair few request)
+          (got_passes Device (packet payload) log (flow_to_host h) refl) (λ f. sym (put_after_got Device (packet payload) log f))
+          (got_nothing (packet payload) log (whole.none (request_empty (packet payload) request))) (passed_after_got Device (packet payload) log))) made tells
+      dial_by path dialed.Refused d made outside plain request kind place = dials path dialed.Refused d called (with_reply (reply_to (flow_to_host h) h) s) false
+          (refl, refl, refl, refl, refl, refl) plain made (λ g log x. called_host g log port s.table lines x)
+      dial_by path dialed.Failed d made outside plain request kind place = dials path dialed.Failed d after_failed (with_reply (reply_to (flow_to_host h) h) (with_fault s)) true
+          (refl, refl, refl, refl, refl, refl) plain made (λ g log x. failed_host g log port s.table lines x)
 
       refused_keeps : is_reset h ≡ false → Heard (refused h s) c
       refused_keeps plain = replied (with_reply (reply_to (flow_to_host h) h) s) (verdict.Rst why.NotLive) (refl, refl, refl, refl, refl, refl) plain
 
-      tried : (path : List ℕ) (b x : Bool) → has_place s.table ≡ x → is_reset h ≡ false → is_request (packet []) ≡ true → h.kind ≡ 1
+      tried : (path : List ℕ) (b x : Bool) → is_assigned h.dst_port ≡ b → has_place s.table ≡ x → is_reset h ≡ false → is_request (packet []) ≡ true → h.kind ≡ 1
           → Keeps Heard (cond b (Done (refused h s)) (cond x (Ask (Dial path (flow_to_host h)) (λ answer. Done (dial_answered h answer s)))
           (Done (refused h s)))) c
-      tried path true x place plain request kind = refused_keeps plain
-      tried path false true place plain request kind = (
-        tt,
-        λ a d fit same. subst (λ (r : RingContents). Heard (dial_answered h a s) r) (sym same)
-            (dial_by a plain request kind place),
-      )
-      tried path false false place plain request kind = refused_keeps plain
+      tried path true x outside place plain request kind = refused_keeps plain
+      tried path false true outside place plain request kind = (tt, λ a d made. dial_by path a d made outside plain request kind place)
+      tried path false false outside place plain request kind = refused_keeps plain
 
       asked_by : (is_of Stream h && (h.op == 1)) ≡ true → is_request (packet []) ≡ true
       asked_by is = grind (arith, nat_tests, common_steps, is)
@@ -249,18 +375,18 @@ module _ (first port : ℕ) (s : DeviceState) (chain : Chain) (h : Header) (wire
 
       requested : (b : Bool) → (is_of Stream h && (h.op == 1)) ≡ b → is_reset h ≡ false
           → Keeps Heard (cond b (try_request h s) (Done (with_reply (reply_to (flow_to_host h) h) s, verdict.Rst (unknown_why h)))) c
-      requested true is plain = tried _ (is_assigned h.dst_port) (has_place s.table) refl plain (asked_by is) (of_stream is)
+      requested true is plain = tried _ (is_assigned h.dst_port) (has_place s.table) refl refl plain (asked_by is) (of_stream is)
       requested false is plain = replied (with_reply (reply_to (flow_to_host h) h) s) (verdict.Rst (unknown_why h)) (refl, refl, refl, refl, refl, refl) plain
 
       unknown : (b : Bool) → is_reset h ≡ b → Keeps Heard (cond b (Done (s, verdict.Ignore))
           (cond (is_of Stream h && (h.op == 1)) (try_request h s)
           (Done (with_reply (reply_to (flow_to_host h) h) s, verdict.Rst (unknown_why h))))) c
       unknown true is = quiet s verdict.Ignore c refl refl (λ payload log was fair. ignores_it first port s
-          (packet payload) log was fair wire kept none is) tells
+          (packet payload) log was fair wire kept none is) passes tells
       unknown false is = requested (is_of Stream h && (h.op == 1)) refl is
 
     -- By the entry of its flow.
-    by_entry : (o : Option DeviceEntry) → entry_of s.table (flow_to_host h) ≡ o → (c : RingContents) → Tells Came c → Keeps Heard (elim o [
+    by_entry : (o : Option DeviceEntry) → entry_of s.table (flow_to_host h) ≡ o → (c : Situation) → Tells Came c → Keeps Heard (elim o [
       | None ↦ on_unknown h s
       | Some e ↦ bind (on_known (verdict_of e.value.end h) chain h e s) (λ t. Done (t, verdict_of e.value.end h))
     ]) c
@@ -269,7 +395,7 @@ module _ (first port : ℕ) (s : DeviceState) (chain : Chain) (h : Header) (wire
         let found = found_by (λ (x : DeviceEntry). same_flow (flow_to_host h) x.flow) s.table.entries e is in
         by_verdict e found.0 (same_flow_true (flow_to_host h) e.flow found.1) c tells (verdict_of e.value.end h) refl
 
-  pub packet_keeps : (c : RingContents) → Tells Came c → Keeps Heard (on_packet chain h s) c
+  pub packet_keeps : (c : Situation) → Tells Came c → Keeps Heard (on_packet chain h s) c
   packet_keeps c tells = by (is_dropped Device s.cid h) refl
     where
       by : (b : Bool) → is_dropped Device s.cid h ≡ b → Keeps Heard
@@ -279,5 +405,6 @@ module _ (first port : ℕ) (s : DeviceState) (chain : Chain) (h : Header) (wire
             | Some e ↦ bind (on_known (verdict_of e.value.end h) chain h e s) (λ t. Done (t, verdict_of e.value.end h))
           ])) c
       by true is = quiet (record s { dropped = counted s.dropped }) verdict.Ignore c refl refl
-          (λ payload log was fair. drops_it first port s (packet payload) log was fair wire is) tells
+          (λ payload log was fair. drops_it first port s (packet payload) log was fair wire is) (λ payload log was fair whole few g x.
+          passes_streams g log port s.table lines x was.fits.sound (packet payload) whole (idle payload log was fair few is)) tells
       by false is = by_entry is (entry_of s.table (flow_to_host h)) refl c tells

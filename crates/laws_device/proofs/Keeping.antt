@@ -1,12 +1,12 @@
 -- What a conversation keeps of its ring: what holds at each of its ends, where each of its calls on the ring may be made.
-use Rattle.std.proofs.Common.{◌≡◌, ℕ, zero, suc, ◌<◌, ◌≤◌, length, Bool, true, false, List, [], ◌∷◌, Contains, subst}
+use Rattle.std.proofs.Common.{ℕ, zero, suc, ◌<◌, Bool, true, false, List, [], ◌∷◌, Contains, subst}
 use Rattle.std.specs.Option.{ForSome}
 use Rattle.vs_contents.specs.CallTree.{Done, Ask, bind, for_each, while_up_to}
 use Rattle.vs_ring_port.specs.{Chains.chains_of, Contents.RingContents, Contents.DeviceCall, Contents.Take, Contents.Read, Contents.Write}
-use Rattle.vs_ring_port.specs.{Contents.Return, Contents.Given, Contents.PublishCid, DeviceCalls.CanReturn, DeviceCalls.DeviceAllows}
-use Rattle.vs_ring_port.specs.{DeviceCalls.LeavesNoGap, declared.device_ring.Chain.Chain}
+use Rattle.vs_ring_port.specs.{Contents.Return, Contents.Given, Contents.PublishCid, DeviceCalls.CanReturn, DeviceCalls.LeavesNoGap}
+use Rattle.vs_ring_port.specs.declared.device_ring.Chain.{Chain}
 use Rattle.vs_device_parts.specs.Calls.{Call, Answer, Ring, Accept, Dial, Label, ReadStream, WriteStream, ShutWrite, CloseStream}
-use Rattle.vs_device_parts.specs.{Calls.DeviceTree, Calls.Situation, Calls.Allows, Calls.IsFitAnswer, Calls.TakesWithin, Playing.Runs}
+use Rattle.vs_device_parts.specs.{Calls.DeviceTree, Calls.Situation, Calls.Allows, Playing.Runs}
 use Rattle.laws_device_streams.specs.Split.{CanPut, MayPut}
 
 -- The chain is among those that are held.
@@ -18,10 +18,6 @@ abbrev pub Can : Call → RingContents → Type 0
 Can (Ring (Write chain place bytes)) c = LeavesNoGap chain place c
 Can (Ring (Return chain len)) c = (0 < len → CanReturn chain len c) × HoldsChain chain c
 Can _ c = Unit {0}
-
-abbrev pub Moves : (call : Call) → Answer call → RingContents → RingContents → Type 0
-Moves (Ring call) a c d = DeviceAllows call a c d
-Moves _ a c d = d ≡ c
 
 can_ring : (call : DeviceCall) (s : Situation) → Can (Ring call) s.ring → CanPut (Ring call) s
 can_ring (Take queue) s can = tt
@@ -41,94 +37,60 @@ can_make (WriteStream stream bytes) s can = tt
 can_make (ShutWrite stream) s can = tt
 can_make (CloseStream stream) s can = tt
 
-pub moved : (call : Call) (a : Answer call) (s t : Situation) → Allows call a s t → Moves call a s.ring t.ring
-moved (Ring call) a s t allowed = allowed.0
-moved Accept a s t allowed = allowed.ring
-moved (Dial path flow) a s t allowed = allowed.ring
-moved (Label stream flow) a s t allowed = allowed.ring
-moved (ReadStream stream n) a s t allowed = allowed.0.ring
-moved (WriteStream stream bytes) a s t allowed = allowed.0.ring
-moved (ShutWrite stream) a s t allowed = allowed.ring
-moved (CloseStream stream) a s t allowed = allowed.ring
+abbrev pub Keeps : {A : Type 0} → (A → Situation → Type 0) → DeviceTree A → Situation → Type 0
+Keeps Q (Done x) s = Q x s
+Keeps Q (Ask call next) s = Can call s.ring × ((a : Answer call) (t : Situation) → Allows call a s t → Keeps Q (next a) t)
 
--- The bounds that ring and host keep to.
-abbrev pub IsFit : (call : Call) → Answer call → Type 0
-IsFit (Ring call) a = IsFitAnswer call a
-IsFit (ReadStream stream n) a = length a.1 ≤ n
-IsFit (WriteStream stream bytes) a = TakesWithin (length bytes) a
-IsFit _ a = Unit {0}
-
-pub fitted : (call : Call) (a : Answer call) (s t : Situation) → Allows call a s t → IsFit call a
-fitted (Ring call) a s t allowed = allowed.3
-fitted Accept a s t allowed = tt
-fitted (Dial path flow) a s t allowed = tt
-fitted (Label stream flow) a s t allowed = tt
-fitted (ReadStream stream n) a s t allowed = allowed.1
-fitted (WriteStream stream bytes) a s t allowed = allowed.1
-fitted (ShutWrite stream) a s t allowed = tt
-fitted (CloseStream stream) a s t allowed = tt
-
-abbrev pub Keeps : {A : Type 0} → (A → RingContents → Type 0) → DeviceTree A → RingContents → Type 0
-Keeps Q (Done x) c = Q x c
-Keeps Q (Ask call next) c =
-    Can call c × ((a : Answer call) (d : RingContents) → IsFit call a → Moves call a c d → Keeps Q (next a) d)
-
-module _ {A : Type 0} (Q : A → RingContents → Type 0) where
-  pub keeps_put : (t : DeviceTree A) (s : Situation) → Keeps Q t s.ring → MayPut t s
+module _ {A : Type 0} (Q : A → Situation → Type 0) where
+  pub keeps_put : (t : DeviceTree A) (s : Situation) → Keeps Q t s → MayPut t s
   keeps_put (Done x) s keeps = tt
-  keeps_put (Ask call next) s keeps = (
-    can_make call s keeps.0,
-    λ a d allowed. keeps_put (next a) d
-        (keeps.1 a d.ring (fitted call a s d allowed) (moved call a s d allowed)),
-  )
+  keeps_put (Ask call next) s keeps = (can_make call s keeps.0, λ a d allowed. keeps_put (next a) d (keeps.1 a d allowed))
 
-  pub keeps_end : (t : DeviceTree A) (s d : Situation) (x : A) → Keeps Q t s.ring → Runs t s x d → Q x d.ring
+  pub keeps_end : (t : DeviceTree A) (s d : Situation) (x : A) → Keeps Q t s → Runs t s x d → Q x d
   keeps_end (Done y) s d x keeps runs =
-      let P : A → Type 0 = λ z. Q z s.ring in
-      let R : Situation → Type 0 = λ e. Q x e.ring in
+      let P : A → Type 0 = λ z. Q z s in
+      let R : Situation → Type 0 = λ e. Q x e in
       subst R runs.1 (subst P runs.0 keeps)
-  keeps_end (Ask call next) s d x keeps runs =
-      keeps_end (next runs.0) runs.1 d x (keeps.1 runs.0 runs.1.ring (fitted call runs.0 s runs.1 runs.2)
-      (moved call runs.0 s runs.1 runs.2)) runs.3
+  keeps_end (Ask call next) s d x keeps runs = keeps_end (next runs.0) runs.1 d x (keeps.1 runs.0 runs.1 runs.2) runs.3
 
-  pub keeps_weaker : (R : A → RingContents → Type 0) → ((x : A) (d : RingContents) → Q x d → R x d) → (t : DeviceTree A) (c : RingContents)
+  pub keeps_weaker : (R : A → Situation → Type 0) → ((x : A) (d : Situation) → Q x d → R x d) → (t : DeviceTree A) (c : Situation)
       → Keeps Q t c → Keeps R t c
   keeps_weaker R then (Done x) c keeps = then x c keeps
-  keeps_weaker R then (Ask call next) c keeps = (keeps.0, λ a d fit moves. keeps_weaker R then (next a) d (keeps.1 a d fit moves))
+  keeps_weaker R then (Ask call next) c keeps = (keeps.0, λ a d allowed. keeps_weaker R then (next a) d (keeps.1 a d allowed))
 
-  pub keeps_bind : {B : Type 0} (t : DeviceTree B) (f : B → DeviceTree A) (c : RingContents) → Keeps (λ x d. Keeps Q (f x) d) t c
+  pub keeps_bind : {B : Type 0} (t : DeviceTree B) (f : B → DeviceTree A) (c : Situation) → Keeps (λ x d. Keeps Q (f x) d) t c
       → Keeps Q (bind t f) c
   keeps_bind (Done x) f c keeps = keeps
-  keeps_bind (Ask call next) f c keeps = (keeps.0, λ a d fit moves. keeps_bind (next a) f d (keeps.1 a d fit moves))
+  keeps_bind (Ask call next) f c keeps = (keeps.0, λ a d allowed. keeps_bind (next a) f d (keeps.1 a d allowed))
 
 -- One conversation, and then what follows each of its ends.
-pub keeps_then : {A B : Type 0} (P : B → RingContents → Type 0) (Q : A → RingContents → Type 0) (t : DeviceTree B) (f : B → DeviceTree A)
-    (c : RingContents)
-    → Keeps P t c → ((x : B) (d : RingContents) → P x d → Keeps Q (f x) d) → Keeps Q (bind t f) c
+pub keeps_then : {A B : Type 0} (P : B → Situation → Type 0) (Q : A → Situation → Type 0) (t : DeviceTree B) (f : B → DeviceTree A)
+    (c : Situation)
+    → Keeps P t c → ((x : B) (d : Situation) → P x d → Keeps Q (f x) d) → Keeps Q (bind t f) c
 keeps_then P Q t f c first then = keeps_bind Q t f c (keeps_weaker P (λ x d. Keeps Q (f x) d) then t c first)
 
 -- A step that says whether it goes on: where it does P holds, else E.
-abbrev pub Goes : {A : Type 0} → (A → RingContents → Type 0) → (A → RingContents → Type 0) → A × Bool → RingContents → Type 0
+abbrev pub Goes : {A : Type 0} → (A → Situation → Type 0) → (A → Situation → Type 0) → A × Bool → Situation → Type 0
 Goes P E (x, true) c = P x c
 Goes P E (x, false) c = E x c
 
-module _ {A : Type 0} (P E : A → RingContents → Type 0) (ends : (x : A) (c : RingContents) → P x c → E x c) where
-  by_last : (n : ℕ) (step : A → DeviceTree (A × Bool)) → ((x : A) (c : RingContents) → P x c → Keeps E (while_up_to n step x) c)
-      → (r : A × Bool) (d : RingContents) → Goes P E r d → Keeps E (elim r.1 [ true ↦ while_up_to n step r.0 | false ↦ Done r.0 ]) d
+module _ {A : Type 0} (P E : A → Situation → Type 0) (ends : (x : A) (c : Situation) → P x c → E x c) where
+  by_last : (n : ℕ) (step : A → DeviceTree (A × Bool)) → ((x : A) (c : Situation) → P x c → Keeps E (while_up_to n step x) c)
+      → (r : A × Bool) (d : Situation) → Goes P E r d → Keeps E (elim r.1 [ true ↦ while_up_to n step r.0 | false ↦ Done r.0 ]) d
   by_last n step rest (y, true) d kept = rest y d kept
   by_last n step rest (y, false) d kept = kept
 
-  pub keeps_while : (step : A → DeviceTree (A × Bool)) → ((x : A) (c : RingContents) → P x c → Keeps (Goes P E) (step x) c)
-      → (n : ℕ) (x : A) (c : RingContents) → P x c → Keeps E (while_up_to n step x) c
+  pub keeps_while : (step : A → DeviceTree (A × Bool)) → ((x : A) (c : Situation) → P x c → Keeps (Goes P E) (step x) c)
+      → (n : ℕ) (x : A) (c : Situation) → P x c → Keeps E (while_up_to n step x) c
   keeps_while step each zero x c holds = ends x c holds
   keeps_while step each (suc n) x c holds =
       let go : A × Bool → DeviceTree A = λ r. elim r.1 [ true ↦ while_up_to n step r.0 | false ↦ Done r.0 ] in
-      let rest : (y : A) (d : RingContents) → P y d → Keeps E (while_up_to n step y) d = λ y d kept. keeps_while step each n y d kept in
+      let rest : (y : A) (d : Situation) → P y d → Keeps E (while_up_to n step y) d = λ y d kept. keeps_while step each n y d kept in
       keeps_then (Goes P E) E (step x) go c (each x c holds) (by_last n step rest)
 
-module _ {A : Type 0} (P : A → RingContents → Type 0) where
-  pub keeps_each : {X : Type 0} (step : X → A → DeviceTree A) → ((i : X) (x : A) (c : RingContents) → P x c → Keeps P (step i x) c)
-      → (is : List X) (x : A) (c : RingContents) → P x c → Keeps P (for_each step is x) c
+module _ {A : Type 0} (P : A → Situation → Type 0) where
+  pub keeps_each : {X : Type 0} (step : X → A → DeviceTree A) → ((i : X) (x : A) (c : Situation) → P x c → Keeps P (step i x) c)
+      → (is : List X) (x : A) (c : Situation) → P x c → Keeps P (for_each step is x) c
   keeps_each step each [] x c holds = holds
   keeps_each step each (i ∷ is) x c holds =
       keeps_then P P (step i x) (for_each step is) c (each i x c holds) (λ y d kept. keeps_each step each is y d kept)

@@ -6,6 +6,7 @@ pub mod Tabling
 pub mod Changing
 pub mod Putting
 pub mod Ringing
+pub mod Carrying
 pub mod Writing
 pub mod Steps
 pub mod Filling

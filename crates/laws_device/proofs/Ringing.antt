@@ -5,6 +5,8 @@ use Rattle.std.proofs.lemmas.Bool.Decides.{nat_tests}
 use Rattle.std.proofs.lemmas.List.{take_at}
 use Rattle.std.specs.Option.{ForSome}
 use Rattle.vs_contents.specs.Contents.{Exposes}
+use Rattle.vs_outside.specs.Host.{HostContents}
+use Rattle.vs_device_parts.specs.Calls.{HostMoves, Situation}
 use Rattle.vs_page.specs.{Fair.IsFairLog, Log.Device, Overwriting.overwritten}
 use Rattle.vs_ring_port.specs.Chains.{Held, bytes_in, chains_of, same_chain, same_queue, with_bytes, without_held}
 use Rattle.vs_ring_port.specs.{Contents.RingContents, Contents.DeviceCall, Contents.DeviceAnswer, DeviceCalls.DeviceMoves, EndLog.EndLog}
@@ -12,28 +14,38 @@ use Rattle.vs_ring_port.specs.{EndLog.entries_returned, EndLog.log_returned, End
 use Rattle.vs_ring_port.specs.declared.{device_ring.Chain.Chain, queue.Queue.Queue, queue.Queue.TheVariants.Rx, queue.Queue.TheVariants.Tx}
 use Rattle.vs_ring_port.specs.declared.queue.Queue.TheVariants.{Event}
 
--- P holds of the log that a ring tells; it depends on whether the ring is honest.
-abbrev pub Tells : (Bool → EndLog → Type 0) → RingContents → Type 0
-Tells P c = ForSome c.log (P c.honest)
+-- P holds of the log that a ring tells; it depends on whether the ring is honest, and on what the host exposes.
+abbrev pub Telling : Type 1
+Telling = Bool → Option HostContents → EndLog → Type 0
 
-pub tells_weaker : (P Q : Bool → EndLog → Type 0) → ((h : Bool) (l : EndLog) → P h l → Q h l) → (c : RingContents) → Tells P c → Tells Q c
-tells_weaker P Q then c tells = λ l is. then c.honest l (tells l is)
+abbrev pub Tells : Telling → Situation → Type 0
+Tells P c = ForSome c.ring.log (P c.ring.honest c.host)
+
+pub tells_weaker : (P Q : Telling) → ((h : Bool) (o : Option HostContents) (l : EndLog) → P h o l → Q h o l) → (c : Situation) → Tells P c → Tells Q c
+tells_weaker P Q then c tells = λ l is. then c.ring.honest c.host l (tells l is)
 
 -- A call changes the log by g: what follows of each log, which is fair after it where the ring is honest, it tells.
 pub moves : (call : DeviceCall) (a : DeviceAnswer call) (L : Rings → Type 0) (f : Rings → Rings) (R : EndLog → Type 0)
-    (g : EndLog → EndLog) (c d : RingContents)
-    → DeviceMoves call a L f R g c d → (P Q : Bool → EndLog → Type 0)
-    → ((h : Bool) (l : EndLog) → R l → P h l → (h ≡ true → IsFairLog Device (g l).entries) → Q h (g l)) → Tells P c → Tells Q d
-moves call a L f R g c d made P Q then tells = λ l is. by c.log refl made.log l is
+    (g : EndLog → EndLog) (c d : Situation)
+    → DeviceMoves call a L f R g c.ring d.ring → d.host ≡ c.host → (P Q : Telling)
+    → ((h : Bool) (o : Option HostContents) (l : EndLog) → R l → P h o l → (h ≡ true → IsFairLog Device (g l).entries) → Q h o (g l)) → Tells P c → Tells Q d
+moves call a L f R g c d made stays P Q then tells = λ l is. by c.ring.log refl made.log l is
   where
-    by : (o : Option EndLog) → c.log ≡ o → Exposes o d.log R g → (l : EndLog) → d.log ≡ Some l → Q d.honest l
+    by : (o : Option EndLog) → c.ring.log ≡ o → Exposes o d.ring.log R g → (l : EndLog) → d.ring.log ≡ Some l → Q d.ring.honest d.host l
     by None log exposes l is = let e : None ≡ Some l = sym exposes ∙ is in absurd cc
     by (Some before) log exposes l is =
         let e : Some (g before) ≡ Some l = sym exposes.1 ∙ is in
         let same : g before ≡ l = cc in
-        let fair : c.honest ≡ true → IsFairLog Device (g before).entries = λ honest. made.fair (made.honest ∙ honest)
+        let fair : c.ring.honest ≡ true → IsFairLog Device (g before).entries = λ honest. made.fair (made.honest ∙ honest)
         (g before) exposes.1 in
-        subst (λ (h : Bool). Q h l) (sym made.honest) (subst (Q c.honest) same (then c.honest before exposes.0 (tells before log) fair))
+        subst (λ (x : Option HostContents). Q d.ring.honest x l) (sym stays) (subst (λ (h : Bool). Q h c.host l) (sym made.honest)
+        (subst (Q c.ring.honest c.host) same (then c.ring.honest c.host before exposes.0 (tells before log) fair)))
+
+-- A call on the host leaves the log.
+pub host_moves : (failed : Bool) (A : HostContents → Type 0) (f : HostContents → HostContents) (c d : Situation) → HostMoves failed A f c d → (P Q : Telling)
+    → ((h : Bool) (o n : Option HostContents) (l : EndLog) → Exposes o n A f → P h o l → Q h n l) → Tells P c → Tells Q d
+host_moves failed A f c d made P Q then tells =
+    subst (λ (r : RingContents). ForSome r.log (Q r.honest d.host)) (sym made.ring) (λ l is. then c.ring.honest c.host d.host l made.host (tells l is))
 
 -- A chain is itself.
 pub same_self : (c : Chain) → same_chain c c ≡ true

@@ -1,61 +1,87 @@
 -- Steps of the device between its calls on the ring, and the chain that it takes for a packet.
 use Rattle.std.proofs.Common.{◌≡◌, ℕ, Bool, true, false, not, cond, List, [], ◌∷◌, Option, Some, None, refl, sym, ap, subst, ◌∙◌, IfSome}
+use Rattle.std.proofs.Common.{inl, inr}
 use Rattle.vs_contents.specs.CallTree.{Done, Ask, bind}
-use Rattle.vs_ring_port.specs.{Chains.Held, Contents.RingContents, Contents.Take, DeviceCalls.DeviceAllows, DeviceCalls.IsTakenAs}
-use Rattle.vs_ring_port.specs.{EndLog.EndLog, EndLog.log_taken, declared.device_ring.Chain.Chain, declared.device_ring.Next.Next}
-use Rattle.vs_ring_port.specs.declared.queue.Queue.TheVariants.{Rx}
-use Rattle.vs_device_parts.specs.{Calls.CloseStream, Calls.DeviceTree, Calls.IsFitAnswer, Connections.with_connection, Playing.IsRxChain}
-use Rattle.vs_device_parts.specs.{State.DeviceConnection, State.DeviceEntry, State.DeviceState, Streams.closing, Transmitting.failing}
-use Rattle.vs_device_parts.specs.Receiving.{Filling, hold, holding}
-use Rattle.laws_device.specs.Honest.{IsFitState, IsToldOf, IsWith, unwritten}
-use Rattle.laws_device.proofs.{Changing.Changes, Keeping.Goes, Keeping.Keeps, Ringing.moves}
+use Rattle.vs_ring_port.specs.{Chains.Held, Contents.Take, DeviceCalls.IsTakenAs, EndLog.EndLog, EndLog.log_taken}
+use Rattle.vs_ring_port.specs.declared.{device_ring.Chain.Chain, device_ring.Next.Next, queue.Queue.TheVariants.Rx}
+use Rattle.vs_device_parts.specs.Calls.{CloseStream, DeviceTree, Allows, HostMoves, Ring, Situation}
+use Rattle.vs_device_parts.specs.{Connections.with_connection, Playing.IsRxChain, State.DeviceConnection, State.DeviceEntry}
+use Rattle.vs_device_parts.specs.{State.DeviceState, Streams.closing, Transmitting.failing, Receiving.Filling, Receiving.hold}
+use Rattle.vs_device_parts.specs.Receiving.{holding}
+use Rattle.laws_device.specs.Honest.{IsFitState, unwritten}
+use Rattle.laws_device.proofs.{Changing.Changes, Keeping.Goes, Keeping.Keeps, Ringing.moves, Ringing.host_moves, Ringing.tells_weaker}
+use Rattle.laws_device.proofs.Carrying.{Closes, Fact, IsToldBy, StreamedOver, With, streams_call, streams_go}
+use Rattle.vs_proxy_parts.specs.State.{Handshake}
+use Rattle.vs_outside.specs.Host.{HostContents}
+use Rattle.laws_device_bytes.specs.Streamed.{IsStreamed}
+use Rattle.vs_page.specs.Log.{Log}
+use Rattle.vs_flow.specs.Table.{Table}
 use Rattle.vs_ring_port.specs.declared.device_ring.Next.TheVariants as next
 
-module _ (first port : ℕ) where
-  -- A step that puts and gets nothing.
-  pub changed : (s t : DeviceState) → t.chain ≡ s.chain → t.failed ≡ s.failed → (IsFitState s → Changes port s t) → (c : RingContents)
-      → IsWith first port s c
-      → IsWith first port t c
-  changed s t chain failed step c holds = (
-    subst (λ (o : Option Chain). IfSome o IsRxChain) (sym chain) holds.0,
-    λ l is. let was = holds.1 l is in (
-      λ going. was.0 (sym failed ∙ going) ∙ sym (ap unwritten chain),
-      λ honest. let p = was.1 honest in let k = step p.fits in
-          record {
-            fits = k.fits;
-            none_overrun = k.overrun_is ∙ p.none_overrun;
-            matches = k.matches first l.entries p.matches;
-            fair = p.fair;
-          },
+module _ (ok : Type 0) (lines : List Handshake) (first port : ℕ) where
+  abbrev Streamed : Table DeviceConnection → Fact
+  Streamed t = StreamedOver ok lines first port t
+
+  pub told_changed : (s t : DeviceState) (F G : Fact) (hon : Bool) (o n : Option HostContents) (l : EndLog) → t.chain ≡ s.chain → t.failed ≡ s.failed
+      → (IsFitState s → Changes port s t) → (IsFitState s → F o l.entries → G n l.entries) → IsToldBy F first port s hon o l → IsToldBy G first port t hon n l
+  told_changed s t F G hon o n l chain failed step carries was = (
+    λ going. was.0 (sym failed ∙ going) ∙ sym (ap unwritten chain),
+    λ honest. let p = was.1 honest in let k = step p.0.fits in (
+      record {
+        fits = k.fits;
+        none_overrun = k.overrun_is ∙ p.0.none_overrun;
+        matches = k.matches first l.entries p.0.matches;
+        fair = p.0.fair;
+      },
+      carries p.0.fits p.1,
     ),
   )
 
+  -- A step that puts and gets nothing, without a call on the host and with one.
+  pub changed : (s t : DeviceState) → t.chain ≡ s.chain → t.failed ≡ s.failed → (IsFitState s → Changes port s t)
+      → (IsFitState s → (h : HostContents) (log : Log) → IsStreamed h log port s.table lines → IsStreamed h log port t.table lines) → (c : Situation)
+      → With ok lines first port s c → With ok lines first port t c
+  changed s t chain failed step carries c holds = (
+    subst (λ (o : Option Chain). IfSome o IsRxChain) (sym chain) holds.0,
+    tells_weaker (IsToldBy (Streamed s.table) first port s) (IsToldBy (Streamed t.table) first port t) (λ hon o l was.
+        told_changed s t (Streamed s.table) (Streamed t.table) hon o o l chain failed step (λ fits x.
+        streams_go ok first lines lines port port s.table t.table l.entries l.entries (λ few. few) (λ h few y. carries fits h l.entries y) o x) was) c holds.1,
+  )
+
+  pub called_with : (s t : DeviceState) → t.chain ≡ s.chain → t.failed ≡ s.failed → (IsFitState s → Changes port s t) → (failed : Bool)
+      (A : HostContents → Type 0) (f : HostContents → HostContents)
+      → (IsFitState s → (h : HostContents) (log : Log) → A h → IsStreamed h log port s.table lines → IsStreamed (f h) log port t.table lines) → (c d : Situation)
+      → HostMoves failed A f c d → With ok lines first port s c → With ok lines first port t d
+  called_with s t chain failed step faults A f carries c d made holds = (
+    subst (λ (o : Option Chain). IfSome o IsRxChain) (sym chain) holds.0,
+    host_moves faults A f c d made (IsToldBy (Streamed s.table) first port s) (IsToldBy (Streamed t.table) first port t) (λ hon o n l exposes was.
+        told_changed s t (Streamed s.table) (Streamed t.table) hon o n l chain failed step (λ fits x.
+        streams_call ok first lines lines port port s.table t.table l.entries l.entries (λ few. few) A f (λ h answers few y. carries fits h l.entries answers y) o n exposes x) was)
+        holds.1,
+  )
+
   -- The host closes a stream, and the ring stays.
-  pub closing_keeps : {A : Type 0} (Q : A → RingContents → Type 0) (next : DeviceState → DeviceTree A) (e : DeviceEntry)
-      (f : DeviceConnection → DeviceConnection) (s : DeviceState) (c : RingContents)
-      → Keeps Q (next (with_connection e.slot (f e.value) s)) c → Keeps Q (bind (closing e f s) next) c
+  pub closing_keeps : {A : Type 0} (Q : A → Situation → Type 0) (next : DeviceState → DeviceTree A) (e : DeviceEntry)
+      (f : DeviceConnection → DeviceConnection) (s : DeviceState) (c : Situation)
+      → ((d : Situation) → Closes e.value c d → Keeps Q (next (with_connection e.slot (f e.value) s)) d) → Keeps Q (bind (closing e f s) next) c
   closing_keeps Q next e f s c keeps = by e.value.closed
     where
       by : (b : Bool) → Keeps Q (bind (cond b (Done (with_connection e.slot (f e.value) s))
           (Ask (CloseStream e.value.stream) (λ _. Done (with_connection e.slot (f e.value) s)))) next) c
-      by true = keeps
-      by false = (
-        tt,
-        λ a d fit same. subst (λ (r : RingContents). Keeps Q (next (with_connection e.slot (f e.value) s)) r)
-            (sym same) keeps,
-      )
+      by true = keeps c (inl refl)
+      by false = (tt, λ a d made. keeps d (inr made))
 
   -- A stage that goes on, and one that may be over.
-  abbrev pub Open : Filling → RingContents → Type 0
-  Open r c = IsWith first port r.state c × (r.state.failed ≡ None) × (r.over ≡ false)
+  abbrev pub Open : Filling → Situation → Type 0
+  Open r c = With ok lines first port r.state c × (r.state.failed ≡ None) × (r.over ≡ false)
 
-  abbrev pub Filled : Filling → RingContents → Type 0
-  Filled r c = IsWith first port r.state c × (r.over ≡ false → r.state.failed ≡ None)
+  abbrev pub Filled : Filling → Situation → Type 0
+  Filled r c = With ok lines first port r.state c × (r.over ≡ false → r.state.failed ≡ None)
 
-  pub open_filled : (r : Filling) (c : RingContents) → Open r c → Filled r c
+  pub open_filled : (r : Filling) (c : Situation) → Open r c → Filled r c
   open_filled r c ready = (ready.0, λ going. ready.1)
 
-  pub goes_on : (q : Filling) (c : RingContents) → Filled q c → Goes Open Filled (q, not q.over) c
+  pub goes_on : (q : Filling) (c : Situation) → Filled q c → Goes Open Filled (q, not q.over) c
   goes_on q c filled = by q.over refl
     where
       by : (b : Bool) → q.over ≡ b → Goes Open Filled (q, not b) c
@@ -66,59 +92,58 @@ module _ (first port : ℕ) where
   abbrev with_chain : Option Chain → Filling → Filling
   with_chain o r = record r { state = record r.state { chain = o } }
 
-  took : (s : DeviceState) (answer : Next) (c d : RingContents) → s.chain ≡ None → s.failed ≡ None → IsFitAnswer (Take Rx) answer
-      → DeviceAllows (Take Rx) answer c d → IsWith first port s c → (r : Filling) → r.state ≡ s → IsWith first port
+  took : (s : DeviceState) (answer : Next) (c d : Situation) → s.chain ≡ None → s.failed ≡ None → Allows (Ring (Take Rx)) answer c d → With ok lines first port s c → (r : Filling) → r.state ≡ s → With ok lines first port
       (holding answer r).state d
-  took s (next.Chain chain) c d none going fit made holds r is =
-      let P : DeviceState → Type 0 = λ x. IsWith first port (record x { chain = Some chain }) d in
+  took s (next.Chain chain) c d none going made holds r is =
+      let P : DeviceState → Type 0 = λ x. With ok lines first port (record x { chain = Some chain }) d in
       subst P (sym is) (
-        (fit.queue_is, fit.long),
-        moves _ _ _ _ _ (log_taken Rx (next.Chain chain) made.0) c d made.1 (IsToldOf first port s)
-            (IsToldOf first port (record s { chain = Some chain }))
-            (λ h l asked was fair. taken_by made.0 h l asked.0 was) holds.1,
+        (made.3.queue_is, made.3.long),
+        moves _ _ _ _ _ (log_taken Rx (next.Chain chain) made.0.0) c d made.0.1 made.1 (IsToldBy (Streamed s.table) first port s)
+            (IsToldBy (Streamed s.table) first port (record s { chain = Some chain }))
+            (λ h o l asked was fair. taken_by made.0.0 h o l asked.0 was) holds.1,
       )
     where
-      taken_by : (page : Option (List ℕ)) (h : Bool) (l : EndLog) → IsTakenAs Rx (next.Chain chain) page → IsToldOf first port s h l
-          → IsToldOf first port (record s { chain = Some chain }) h (log_taken Rx (next.Chain chain) page l)
-      taken_by None h l asked was = absurd asked
-      taken_by (Some page) h l asked was = (
+      taken_by : (page : Option (List ℕ)) (h : Bool) (o : Option HostContents) (l : EndLog) → IsTakenAs Rx (next.Chain chain) page → IsToldBy (Streamed s.table) first port s h o l
+          → IsToldBy (Streamed s.table) first port (record s { chain = Some chain }) h o (log_taken Rx (next.Chain chain) page l)
+      taken_by None h o l asked was = absurd asked
+      taken_by (Some page) h o l asked was = (
         λ still. ap (λ (held : List Held). let x : Held = record { chain = chain; bytes = [] } in x ∷ held)
             (was.0 going ∙ ap unwritten none),
-        λ honest. let p = was.1 honest in record { fits = p.fits; none_overrun = p.none_overrun; matches = p.matches; fair = p.fair },
+        λ honest. let p = (was.1 honest).0 in (record { fits = p.fits; none_overrun = p.none_overrun; matches = p.matches; fair = p.fair }, (was.1 honest).1),
       )
-  took s next.None c d none going fit made holds r is =
-      let P : DeviceState → Type 0 = λ x. IsWith first port x d in
+  took s next.None c d none going made holds r is =
+      let P : DeviceState → Type 0 = λ x. With ok lines first port x d in
       subst P (sym is) (
         holds.0,
-        moves _ _ _ _ _ (log_taken Rx next.None made.0) c d made.1 (IsToldOf first port s) (IsToldOf first port s)
-            (λ h l asked was fair. was) holds.1,
+        moves _ _ _ _ _ (log_taken Rx next.None made.0.0) c d made.0.1 made.1 (IsToldBy (Streamed s.table) first port s) (IsToldBy (Streamed s.table) first port s)
+            (λ h o l asked was fair. was) holds.1,
       )
-  took s (next.Failed failure) c d none going fit made holds r is =
-      let P : DeviceState → Type 0 = λ x. IsWith first port (failing failure x) d in
+  took s (next.Failed failure) c d none going made holds r is =
+      let P : DeviceState → Type 0 = λ x. With ok lines first port (failing failure x) d in
       subst P (sym is) (
         holds.0,
-        moves _ _ _ _ _ (log_taken Rx (next.Failed failure) made.0) c d made.1 (IsToldOf first port s)
-            (IsToldOf first port (failing failure s))
-            (λ h l asked was fair. (λ still. was.0 going, was.1)) holds.1,
+        moves _ _ _ _ _ (log_taken Rx (next.Failed failure) made.0.0) c d made.0.1 made.1 (IsToldBy (Streamed s.table) first port s)
+            (IsToldBy (Streamed s.table) first port (failing failure s))
+            (λ h o l asked was fair. (λ still. was.0 going, was.1)) holds.1,
       )
 
-  module _ {A : Type 0} (Q : A → RingContents → Type 0) (f : Filling → DeviceTree A) (r : Filling)
-      (some : (chain : Chain) (d : RingContents) → IsWith first port (record r.state { chain = Some chain }) d
+  module _ {A : Type 0} (Q : A → Situation → Type 0) (f : Filling → DeviceTree A) (r : Filling)
+      (some : (chain : Chain) (d : Situation) → With ok lines first port (record r.state { chain = Some chain }) d
       → Keeps Q (f (record r { state = record r.state { chain = Some chain } })) d)
-      (none : (q : Filling) (d : RingContents) → q.state.chain ≡ None → q.over ≡ true → IsWith first port q.state d → Keeps Q (f q) d) where
-    answered : (answer : Next) (d : RingContents) (is : r.state.chain ≡ None) → IsWith first port (holding answer r).state d
+      (none : (q : Filling) (d : Situation) → q.state.chain ≡ None → q.over ≡ true → With ok lines first port q.state d → Keeps Q (f q) d) where
+    answered : (answer : Next) (d : Situation) (is : r.state.chain ≡ None) → With ok lines first port (holding answer r).state d
         → Keeps Q (f (holding answer (with_chain None r))) d
     answered (next.Chain chain) d is holds = some chain d holds
     answered next.None d is holds =
         none (record (with_chain None r) { over = true }) d refl refl
-        (subst (λ (o : Option Chain). IsWith first port (record r.state { chain = o }) d) is holds)
+        (subst (λ (o : Option Chain). With ok lines first port (record r.state { chain = o }) d) is holds)
     answered (next.Failed failure) d is holds =
         none (record (with_chain None r) { state = failing failure (record r.state { chain = None }); over = true }) d refl refl
-        (subst (λ (o : Option Chain). IsWith first port (failing failure (record r.state { chain = o })) d) is holds)
+        (subst (λ (o : Option Chain). With ok lines first port (failing failure (record r.state { chain = o })) d) is holds)
 
-    pub hold_keeps : (c : RingContents) → Open r c → Keeps Q (bind (hold r) f) c
+    pub hold_keeps : (c : Situation) → Open r c → Keeps Q (bind (hold r) f) c
     hold_keeps c ready = by r.state.chain refl
       where
         by : (o : Option Chain) → r.state.chain ≡ o → Keeps Q (bind (hold (with_chain o r)) f) c
-        by (Some chain) is = some chain c (subst (λ (o : Option Chain). IsWith first port (record r.state { chain = o }) c) is ready.0)
-        by None is = (tt, λ answer d fit made. answered answer d is (took r.state answer c d is ready.1 fit made ready.0 r refl))
+        by (Some chain) is = some chain c (subst (λ (o : Option Chain). With ok lines first port (record r.state { chain = o }) c) is ready.0)
+        by None is = (tt, λ answer d made. answered answer d is (took r.state answer c d is ready.1 made ready.0 r refl))

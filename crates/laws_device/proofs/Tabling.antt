@@ -1,14 +1,14 @@
 -- What steps on the table do to the device's numbers, and to its connections as ends.
-use Rattle.std.proofs.Common.{◌≡◌, ℕ, ◌==◌, Bool, true, false, cond, not, List, [], ◌∷◌, get_or, map, filter, length, Contains, refl, sym}
-use Rattle.std.proofs.Common.{ap, subst, ◌∙◌}
+use Rattle.std.proofs.Common.{◌≡◌, ℕ, ◌==◌, Bool, true, false, cond, not, List, get_or, length, Contains, sym, ap, subst, ◌∙◌}
 use Rattle.std.proofs.lemmas.List.Elements.{All-map, All-push, All-filter}
 use Rattle.vs_header.specs.declared.Kind.TheVariants.{Stream}
 use Rattle.vs_flow.specs.Table.{Table, with_value, without, with_entry, next_entry, revalued}
 use Rattle.vs_flow.specs.declared.flow.Flow.{Flow}
-use Rattle.vs_flow.proofs.Tables.{revalued-slot, with_value_sound, without_sound, with_entry_sound, IsAccepted}
+use Rattle.vs_flow.proofs.Tables.{with_value_sound, without_sound, with_entry_sound, IsAccepted}
 use Rattle.laws_tables.specs.{Ends.Ends, Ends.FlowEnd, Ends.entries_of, Ends.is_new, Steps.HasEnd, Steps.with_end, Steps.left}
 use Rattle.laws_tables.proofs.Slots.{changed_slot, one_end, removed_slot}
 use Rattle.vs_device_parts.specs.{State.DeviceConnection, State.DeviceEntry, State.DeviceState, Connections.with_connection}
+use Rattle.laws_bytes.proofs.Changes.{without_changed}
 use Rattle.laws_device.specs.Honest.{HasNothing, HoldsBytes, IsFit, IsFitEntry, IsFitFlow, IsFitState, end_in, ends_of_state}
 
 -- What is kept of a connection.
@@ -27,22 +27,6 @@ revalued_fits slot c e held kind fits = by (e.slot == slot)
     by : (b : Bool) → IsFitEntry (cond b (record e { value = c }) e)
     by true = record { ports = fits.ports; kind = kind; bytes = held.bytes; new = held.new }
     by false = fits
-
--- A change of an entry that then leaves.
-same_kept : (slot : ℕ) (v : DeviceConnection) (es : List DeviceEntry)
-    → filter (λ e. not (e.slot == slot)) (map (revalued slot v) es) ≡ filter (λ e. not (e.slot == slot)) es
-same_kept slot v [] = refl
-same_kept slot v (e ∷ es) = by (e.slot == slot) refl (same_kept slot v es)
-  where
-    by : (b : Bool) → (e.slot == slot) ≡ b
-        → filter (λ x. not (x.slot == slot)) (map (revalued slot v) es) ≡ filter (λ x. not (x.slot == slot)) es
-        → filter (λ x. not (x.slot == slot)) (revalued slot v e ∷ map (revalued slot v) es) ≡ filter (λ x. not (x.slot == slot)) (e ∷ es)
-    by true at rest = rw (revalued-slot slot v e, at) rest
-    by false at rest = rw (revalued-slot slot v e, at) (ap (λ (xs : List DeviceEntry). e ∷ xs) rest)
-
-without_changed : (t : Table DeviceConnection) (slot : ℕ) (v : DeviceConnection) → without (with_value t slot v) slot ≡ without t slot
-without_changed t slot v = ap (λ (es : List DeviceEntry). let x : Table DeviceConnection = record t { entries = es } in x)
-    (same_kept slot v t.entries)
 
 module _ (s : DeviceState) (fits : IsFitState s) where
   -- Another connection under a slot.

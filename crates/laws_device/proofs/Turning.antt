@@ -1,38 +1,43 @@
 -- What the owed event, a reset, a tick, a round of writing and an opening keep.
 use Rattle.std.proofs.Common.{◌≡◌, ℕ, ◌+◌, ◌<◌, ◌≤◌, ◌^◌, ◌==◌, ◌&&◌, ◌||◌, Bool, true, false, cond, if◌then◌else◌, List, [], ◌∷◌, ◌++◌}
 use Rattle.std.proofs.Common.{length, take, Contains, Option, Some, None, Result, Ok, Err, refl, sym, ap, subst, ◌∙◌, arith, IfSome, nat_le}
-use Rattle.std.proofs.Common.{◌⊎◌, inl, inr, length-append, length-take}
-use Rattle.std.proofs.lemmas.Bool.Decides.{nat_tests}
+use Rattle.std.proofs.{Common.◌⊎◌, Common.inl, Common.inr, Common.length-append, Common.length-take, lemmas.Bool.Decides.nat_tests}
 use Rattle.byteorder.specs.Endian.{little_bytes}
-use Rattle.vs_contents.specs.CallTree.{Done, Ask, bind, for_each}
+use Rattle.vs_contents.specs.{CallTree.Done, CallTree.Ask, CallTree.bind, CallTree.for_each, Contents.Exposes}
 use Rattle.vs_conn.specs.End.{asked}
-use Rattle.vs_flow.specs.{Table.IsTable, Table.Table, Table.emptied, Table.entry_under, Table.refusal, Table.slots, declared.flow.Flow.Flow}
-use Rattle.vs_flow.specs.declared.table.TableFault.{TableFault}
+use Rattle.vs_flow.specs.Table.{IsTable, Table, emptied, entry_under, refusal, slots, with_value}
+use Rattle.vs_flow.specs.declared.{flow.Flow.Flow, table.TableFault.TableFault}
 use Rattle.vs_flow.proofs.Tables.{accepted}
 use Rattle.vs_limits.specs.declared.TheConstants.{BUF_ALLOC}
-use Rattle.vs_outside.specs.declared.host_net.StreamWrite.{StreamWrite}
-use Rattle.vs_page.specs.{Log.Device, Log.Log, Overwriting.overwritten}
+use Rattle.vs_outside.specs.{declared.host_net.StreamWrite.StreamWrite, Host.HostContents, Host.IsWritten, Host.after_failed}
+use Rattle.vs_outside.specs.Host.{after_label, after_shut_write, after_write, called}
+use Rattle.vs_page.specs.{Log.Device, Log.Log, Overwriting.overwritten, declared.log.LogEntry.TheVariants.Mark}
+use Rattle.vs_page.specs.declared.log.LogEntry.TheVariants.{PutEvent}
 use Rattle.vs_ring_port.specs.{Chains.Held, Chains.bytes_in, Contents.RingContents, Contents.PublishCid, Contents.Return, Contents.Take}
 use Rattle.vs_ring_port.specs.{EndLog.EndLog, EndLog.log_reset, EndLog.log_returned, EndLog.log_taken, declared.device_ring.Chain.Chain}
 use Rattle.vs_ring_port.specs.declared.{device_ring.Next.Next, failure.Failure.Failure, queue.Queue.Queue}
-use Rattle.vs_ring_port.specs.DeviceCalls.{DeviceAllows, IsTakenAs, IsWholePacket}
-use Rattle.vs_ring_port.specs.declared.queue.Queue.TheVariants.{Event}
+use Rattle.vs_ring_port.specs.{DeviceCalls.IsTakenAs, DeviceCalls.IsWholePacket, declared.queue.Queue.TheVariants.Event}
 use Rattle.laws_tables.specs.{Ends.Ends, Ends.FlowEnd, Ends.is_new, Matches.Matches, Steps.IsNextFlow, Steps.asking}
 use Rattle.laws_tables.proofs.{Keeps.asks, Keeps.makes_reset, Keeps.puts_event, Keeps.start_matches, Slots.added_slot, Slots.found_by}
 use Rattle.vs_device_parts.specs.{Playing.IsRxChain, Receiving.event_on, Receiving.pay_event_of, State.DeviceConnection, State.DeviceEntry}
-use Rattle.vs_device_parts.specs.{State.DeviceState, Transmitting.failing, Calls.CloseStream, Calls.DeviceTree, Calls.IsFitAnswer}
-use Rattle.vs_device_parts.specs.{Calls.Label, Calls.Ring, Calls.TakesWithin, Calls.ShutWrite, Calls.WriteStream, Connections.after_shut}
+use Rattle.vs_device_parts.specs.{State.DeviceState, Transmitting.failing, Calls.CloseStream, Calls.DeviceTree, Calls.Label, Calls.Ring}
+use Rattle.vs_device_parts.specs.{Calls.ShutWrite, Calls.WriteStream, Calls.Allows, Calls.Situation, Connections.after_shut}
 use Rattle.vs_device_parts.specs.Connections.{after_written, cut_off, is_timed_out, new_connection, stream_closed, with_client}
 use Rattle.vs_device_parts.specs.{Connections.with_connection, Connections.with_fault, Streams.Writing, Streams.closing}
 use Rattle.vs_device_parts.specs.Streams.{is_written_out, pump_of, pump_slot, shut_write, tick_of, tick_slot, to_write, write_answered}
 use Rattle.vs_device_parts.specs.{Streams.write_pending, Turns.after_reset, Turns.close_slot, Turns.new_device, Turns.open_of}
 use Rattle.vs_device_parts.specs.Turns.{reset_of}
-use Rattle.laws_device.specs.Honest.{IsFitFlow, IsFitState, IsFresh, IsLeft, IsToldOf, IsWith, end_in, ends_of_state, port_after, unwritten}
-use Rattle.laws_device.proofs.{Changing.cuts, Changing.shuts, Changing.unseen, Changing.writes, Filling.under_there, Keeping.Keeps}
-use Rattle.laws_device.proofs.{Keeping.keeps_each, Keeping.keeps_then, Steps.changed, Steps.closing_keeps, Tabling.IsFitConnection}
-use Rattle.laws_device.proofs.{Tabling.entry_fits, Tabling.opening_fits, Writing.Writes, Writing.write_keeps, Ringing.Tells}
-use Rattle.laws_device.proofs.Ringing.{bytes_held, first_there, moves, returned_entries, returned_held, tells_weaker}
+use Rattle.laws_device.specs.Honest.{IsFitFlow, IsFitState, IsFresh, IsLeft, IsWith, end_in, ends_of_state, port_after, unwritten}
+use Rattle.laws_device.proofs.{Changing.cuts, Changing.shuts, Changing.unseen, Changing.writes, Changing.same, Filling.under_there}
+use Rattle.laws_device.proofs.{Keeping.Keeps, Keeping.keeps_each, Keeping.keeps_then, Steps.changed, Steps.closing_keeps, Steps.called_with}
+use Rattle.laws_device.proofs.{Steps.told_changed, Tabling.IsFitConnection, Tabling.entry_fits, Tabling.opening_fits, Writing.Writes}
+use Rattle.laws_device.proofs.{Writing.write_keeps, Ringing.Tells, Ringing.bytes_held, Ringing.first_there, Ringing.moves}
+use Rattle.laws_device.proofs.{Ringing.returned_entries, Ringing.returned_held, Ringing.tells_weaker, Ringing.host_moves, Carrying.Fact}
+use Rattle.laws_device.proofs.Carrying.{IsHeldBy, IsToldBy, StreamedOver, With, closed_with, plain_before, streams_go, plain_with}
 use Rattle.vs_header.specs.declared.Kind.TheVariants.{Stream}
+use Rattle.laws_device_bytes.proofs.Changing.{called_host, cuts_streams, emptied_streams, ends_streams, event_streams, failed_host}
+use Rattle.laws_device_bytes.proofs.Changing.{mark_streams, shut_write_host, shuts_streams, writes_streams}
+use Rattle.vs_proxy_parts.specs.State.{Handshake}
 use Rattle.vs_outside.specs.declared.host_net.StreamWrite.TheVariants as write
 use Rattle.vs_ring_port.specs.declared.device_ring.Next.TheVariants as next
 
@@ -123,20 +128,23 @@ closing_done : (e : DeviceEntry) (f : DeviceConnection → DeviceConnection) (s 
     (λ t. Done t) ≡ closing e f s
 closing_done e f s = closing_by e.value.closed e.value.stream (with_connection e.slot (f e.value) s)
 
-module _ (first port : ℕ) where
-  abbrev With : DeviceState → RingContents → Type 0
-  With s c = IsWith first port s c
+module _ (ok : Type 0) (lines : List Handshake) (first port : ℕ) where
+  abbrev Now : DeviceState → Situation → Type 0
+  Now = With ok lines first port
+
+  abbrev Streamed : Table DeviceConnection → Fact
+  Streamed t = StreamedOver ok lines first port t
 
   -- The event that is owed.
   module _ (s : DeviceState) where
-    abbrev PayEnds : DeviceState × Result Bool Failure → RingContents → Type 0
-    PayEnds x c = IsWith first port x.0 c
+    abbrev PayEnds : DeviceState × Result Bool Failure → Situation → Type 0
+    PayEnds x c = Now x.0 c
 
     abbrev event : List ℕ
     event = overwritten [] 0 (little_bytes 4 0)
 
-    event_returned : (chain : Chain) → chain.queue ≡ Event → 4 ≤ chain.writable → IfSome s.chain IsRxChain → (c : RingContents)
-        → Tells (Writes first port s chain event (unwritten s.chain)) c
+    event_returned : (chain : Chain) → chain.queue ≡ Event → 4 ≤ chain.writable → IfSome s.chain IsRxChain → (c : Situation)
+        → Tells (Writes first port s (Streamed s.table) chain event (unwritten s.chain)) c
         → Keeps PayEnds (Ask (Ring (Return chain 4)) (λ _. Done (record s { event_owed = false }, Ok true))) c
     event_returned chain queue room rx c tells = (
       (
@@ -150,60 +158,63 @@ module _ (first port : ℕ) where
         },
         λ l is. first_there chain event (unwritten s.chain) l (tells l is).0,
       ),
-      λ a d fit made. (
+      λ a d made. (
         rx,
-        moves _ _ _ _ _ (log_returned chain 4) c d made.1 (Writes first port s chain event (unwritten s.chain)) (IsToldOf first port s)
-            (λ hon l asked was fair. (
+        moves _ _ _ _ _ (log_returned chain 4) c d made.0.1 made.1 (Writes first port s (Streamed s.table) chain event (unwritten s.chain)) (IsToldBy (Streamed s.table) first port s)
+            (λ hon o l asked was fair. (
               λ still. returned_held chain event 4 (unwritten s.chain) l was.0,
               λ honest.
-                  let p = was.1 honest in
-                  subst (λ (log : Log). IsLeft first port s.cid s.overrun s.table s.replies log)
-                  (sym (returned_entries chain Event event 4 (unwritten s.chain) l queue was.0)) (record {
-                    fits = p.fits;
-                    none_overrun = p.none_overrun;
-                    matches = puts_event Device first 0 (ends_of_state port s) l.entries p.matches;
-                    fair = p.fair;
-                  }),
+                  let p = (was.1 honest).0 in
+                  subst (λ (log : Log). IsLeft first port s.cid s.overrun s.table s.replies log × Streamed s.table o log)
+                  (sym (returned_entries chain Event event 4 (unwritten s.chain) l queue was.0)) (
+                    record {
+                      fits = p.fits;
+                      none_overrun = p.none_overrun;
+                      matches = puts_event Device first 0 (ends_of_state port s) l.entries p.matches;
+                      fair = p.fair;
+                    },
+                    streams_go ok first lines lines port port s.table s.table l.entries (PutEvent 0 ∷ l.entries) (plain_before first (PutEvent 0) l.entries)
+                        (λ h few x. event_streams h l.entries 0 port s.table lines x) o (was.1 honest).1,
+                  ),
             )) tells,
       ),
     )
 
-    event_keeps : (answer : Next) (c d : RingContents) → s.failed ≡ None → IsFitAnswer (Take Event) answer → DeviceAllows
-        (Take Event) answer c d
-        → IsWith first port s c → Keeps PayEnds (event_on answer s) d
-    event_keeps (next.Chain chain) c d going fit made holds =
-        write_keeps first port s PayEnds (Ask (Ring (Return chain 4)) (λ _. Done (record s { event_owed = false }, Ok true))) chain []
+    event_keeps : (answer : Next) (c d : Situation) → s.failed ≡ None → Allows (Ring (Take Event)) answer c d → Now s c → Keeps PayEnds (event_on answer s) d
+    event_keeps (next.Chain chain) c d going made holds =
+        write_keeps first port s (Streamed s.table) PayEnds (Ask (Ring (Return chain 4)) (λ _. Done (record s { event_owed = false }, Ok true))) chain []
         (little_bytes 4 0) 0
         (unwritten s.chain) d (omega arith)
-        (moves _ _ _ _ _ (log_taken Event (next.Chain chain) made.0) c d made.1 (IsToldOf first port s)
-        (Writes first port s chain [] (unwritten s.chain))
-        (λ hon l asked was fair. by made.0 hon l asked.0 was) holds.1)
-        (λ e now. event_returned chain fit.queue_is fit.long holds.0 e now)
+        (moves _ _ _ _ _ (log_taken Event (next.Chain chain) made.0.0) c d made.0.1 made.1 (IsToldBy (Streamed s.table) first port s)
+        (Writes first port s (Streamed s.table) chain [] (unwritten s.chain))
+        (λ hon o l asked was fair. by made.0.0 hon o l asked.0 was) holds.1)
+        (λ e now. event_returned chain made.3.queue_is made.3.long holds.0 e now)
       where
-        by : (page : Option (List ℕ)) (hon : Bool) (l : EndLog) → IsTakenAs Event (next.Chain chain) page → IsToldOf first port s hon l
-            → Writes first port s chain [] (unwritten s.chain) hon (log_taken Event (next.Chain chain) page l)
-        by None hon l asked was = absurd asked
-        by (Some page) hon l asked was = (
+        by : (page : Option (List ℕ)) (hon : Bool) (o : Option HostContents) (l : EndLog) → IsTakenAs Event (next.Chain chain) page
+            → IsToldBy (Streamed s.table) first port s hon o l
+            → Writes first port s (Streamed s.table) chain [] (unwritten s.chain) hon o (log_taken Event (next.Chain chain) page l)
+        by None hon o l asked was = absurd asked
+        by (Some page) hon o l asked was = (
           ap (λ (held : List Held). let x : Held = record { chain = chain; bytes = [] } in x ∷ held) (was.0 going),
           was.1,
         )
-    event_keeps next.None c d going fit made holds = (
+    event_keeps next.None c d going made holds = (
       holds.0,
-      moves _ _ _ _ _ (log_taken Event next.None made.0) c d made.1 (IsToldOf first port s) (IsToldOf first port s)
-          (λ hon l asked was fair. was) holds.1,
+      moves _ _ _ _ _ (log_taken Event next.None made.0.0) c d made.0.1 made.1 (IsToldBy (Streamed s.table) first port s) (IsToldBy (Streamed s.table) first port s)
+          (λ hon o l asked was fair. was) holds.1,
     )
-    event_keeps (next.Failed f) c d going fit made holds = (
+    event_keeps (next.Failed f) c d going made holds = (
       holds.0,
-      moves _ _ _ _ _ (log_taken Event (next.Failed f) made.0) c d made.1 (IsToldOf first port s) (IsToldOf first port (failing f s))
-          (λ hon l asked was fair. (λ still. was.0 going, was.1)) holds.1,
+      moves _ _ _ _ _ (log_taken Event (next.Failed f) made.0.0) c d made.0.1 made.1 (IsToldBy (Streamed s.table) first port s) (IsToldBy (Streamed s.table) first port (failing f s))
+          (λ hon o l asked was fair. (λ still. was.0 going, was.1)) holds.1,
     )
 
-    pub pay_keeps : (c : RingContents) → IsWith first port s c → Keeps PayEnds (pay_event_of s) c
+    pub pay_keeps : (c : Situation) → Now s c → Keeps PayEnds (pay_event_of s) c
     pay_keeps c holds = by s.failed refl
       where
         owed : (b : Bool) → s.failed ≡ None → Keeps PayEnds (cond b (Ask (Ring (Take Event)) (λ answer. event_on answer s))
             (Done (s, Ok false))) c
-        owed true going = (tt, λ answer d fit made. event_keeps answer c d going fit made holds)
+        owed true going = (tt, λ answer d made. event_keeps answer c d going made holds)
         owed false going = holds
 
         by : (o : Option Failure) → s.failed ≡ o → Keeps PayEnds (elim o [
@@ -214,79 +225,88 @@ module _ (first port : ℕ) where
         by None going = owed s.event_owed going
 
   -- Timeouts.
-  tick_slot_keeps : (slot : ℕ) (s : DeviceState) (c : RingContents) → With s c → Keeps With (tick_slot slot s) c
+  tick_slot_keeps : (slot : ℕ) (s : DeviceState) (c : Situation) → Now s c → Keeps Now (tick_slot slot s) c
   tick_slot_keeps slot s c holds = by (entry_under s.table slot) refl
     where
       late : (e : DeviceEntry) → Contains s.table.entries e → (b : Bool) → is_timed_out s.now e.value ≡ b
-          → Keeps With (cond b (closing e cut_off s) (Done s)) c
+          → Keeps Now (cond b (closing e cut_off s) (Done s)) c
       late e there false is = holds
-      late e there true is = subst (λ (t : DeviceTree DeviceState). Keeps With t c) (closing_done e cut_off s)
-          (closing_keeps first port With (λ t. Done t) e cut_off s c
-          (changed first port s (with_connection e.slot (cut_off e.value) s) refl refl
-          (λ fits. cuts port s fits e there (late_old e s fits there is)) c holds))
+      late e there true is = subst (λ (t : DeviceTree DeviceState). Keeps Now t c) (closing_done e cut_off s)
+          (closing_keeps ok lines first port Now (λ t. Done t) e cut_off s c (λ d closes.
+          let t : DeviceState = with_connection e.slot (cut_off e.value) s in
+          closed_with ok lines first port t.table t e.value c d closes (changed ok lines first port s t refl refl
+          (λ fits. cuts port s fits e there (late_old e s fits there is)) (λ fits h log x. cuts_streams h log port s.table lines x fits.sound e there) c holds)))
 
       by : (o : Option DeviceEntry) → entry_under s.table slot ≡ o
-          → Keeps With (elim o [ None ↦ Done s | Some e ↦ if is_timed_out s.now e.value then closing e cut_off s else Done s ]) c
+          → Keeps Now (elim o [ None ↦ Done s | Some e ↦ if is_timed_out s.now e.value then closing e cut_off s else Done s ]) c
       by None under = holds
       by (Some e) under = late e (under_there s slot e under) (is_timed_out s.now e.value) refl
 
-  pub tick_keeps : (now : ℕ) (s : DeviceState) (c : RingContents) → With s c → Keeps With (tick_of now s) c
-  tick_keeps now s c holds = keeps_each With tick_slot tick_slot_keeps (slots s.table) (record s { now = now }) c holds
+  pub tick_keeps : (now : ℕ) (s : DeviceState) (c : Situation) → Now s c → Keeps Now (tick_of now s) c
+  tick_keeps now s c holds = keeps_each Now tick_slot tick_slot_keeps (slots s.table) (record s { now = now }) c holds
 
   -- Streams are written.
-  abbrev WritingWith : Writing → RingContents → Type 0
-  WritingWith w c = IsWith first port w.state c
+  abbrev WritingWith : Writing → Situation → Type 0
+  WritingWith w c = Now w.state c
 
   module _ (e : DeviceEntry) (w : Writing) (there : Contains w.state.table.entries e)
       (some : (length (to_write e.value) == 0) ≡ false) where
-    answered_keeps : (answer : StreamWrite) → TakesWithin (length (to_write e.value)) answer → (c : RingContents) → WritingWith w c
-        → Keeps WritingWith (write_answered e answer w) c
-    answered_keeps (write.Took n) within c holds =
-        changed first port w.state (with_connection e.slot (after_written n e.value) w.state) refl refl
-        (λ fits. writes port w.state fits e there n within (writes_old e w.state fits there some)) c holds
-    answered_keeps write.Again within c holds = holds
-    answered_keeps write.Closed within c holds =
-        changed first port w.state (with_connection e.slot (after_shut 1 w.state.now e.value) w.state) refl refl
-        (λ fits. shuts port w.state fits e there 1 w.state.now (writes_old e w.state fits there some)) c holds
-    answered_keeps write.Failed within c holds =
-        closing_keeps first port WritingWith (λ s. Done (record w { state = s })) e cut_off (with_fault w.state) c
-        (changed first port w.state (with_connection e.slot (cut_off e.value) (with_fault w.state)) refl refl
-        (λ fits. cuts port w.state fits e there (writes_old e w.state fits there some)) c holds)
+    abbrev WritesIt : StreamWrite → Situation → Situation → Type 0
+    WritesIt answer c d = Allows (WriteStream e.value.stream (to_write e.value)) answer c d
 
-  write_keeps_all : (e : DeviceEntry) (w : Writing) → Contains w.state.table.entries e → (c : RingContents) → WritingWith w c
+    begun : IsFitState w.state → is_new e.value.end ≡ false
+    begun fits = writes_old e w.state fits there some
+
+    answered_keeps : (answer : StreamWrite) (c d : Situation) → WritesIt answer c d → WritingWith w c → Keeps WritingWith (write_answered e answer w) d
+    answered_keeps (write.Took n) c d made holds =
+        called_with ok lines first port w.state (with_connection e.slot (after_written n e.value) w.state) refl refl
+        (λ fits. writes port w.state fits e there n made.1 (begun fits)) false (IsWritten e.value.stream (length (to_write e.value)) (write.Took n))
+        (after_write e.value.stream (to_write e.value) (write.Took n))
+        (λ fits h log is x. writes_streams h log port w.state.table lines x fits.sound e there n made.1) c d made.0 holds
+    answered_keeps write.Again c d made holds =
+        called_with ok lines first port w.state w.state refl refl (λ fits. same port w.state fits) false
+        (IsWritten e.value.stream (length (to_write e.value)) write.Again) called (λ fits h log is x. called_host h log port w.state.table lines x) c d made.0 holds
+    answered_keeps write.Closed c d made holds =
+        let t : DeviceState = with_connection e.slot (after_shut 1 w.state.now e.value) w.state in
+        called_with ok lines first port w.state t refl refl (λ fits. shuts port w.state fits e there 1 w.state.now (begun fits)) false
+        (IsWritten e.value.stream (length (to_write e.value)) write.Closed) called (λ fits h log is x. called_host h log port t.table lines
+        (shuts_streams h log port w.state.table lines x fits.sound e 1 w.state.now there)) c d made.0 holds
+    answered_keeps write.Failed c d made holds =
+        let t : DeviceState = with_connection e.slot (cut_off e.value) (with_fault w.state) in
+        closing_keeps ok lines first port WritingWith (λ s. Done (record w { state = s })) e cut_off (with_fault w.state) d (λ x closes.
+        closed_with ok lines first port t.table t e.value d x closes
+        (called_with ok lines first port w.state t refl refl (λ fits. cuts port w.state fits e there (begun fits)) true
+        (IsWritten e.value.stream (length (to_write e.value)) write.Failed) after_failed
+        (λ fits h log is y. failed_host h log port t.table lines (cuts_streams h log port w.state.table lines y fits.sound e there)) c d made.0 holds))
+
+  write_keeps_all : (e : DeviceEntry) (w : Writing) → Contains w.state.table.entries e → (c : Situation) → WritingWith w c
       → Keeps WritingWith (write_pending e w) c
   write_keeps_all e w there c holds = by (length (to_write e.value) == 0) refl
     where
       by : (b : Bool) → (length (to_write e.value) == 0) ≡ b → Keeps WritingWith (cond b (Done w)
           (Ask (WriteStream e.value.stream (to_write e.value)) (λ answer. write_answered e answer w))) c
       by true is = holds
-      by false is = (
-        tt,
-        λ answer d fit same. answered_keeps e w there is answer fit d
-            (subst (λ (x : RingContents). WritingWith w x) (sym same) holds),
-      )
+      by false is = (tt, λ answer d made. answered_keeps e w there is answer c d made holds)
 
-  shut_keeps : (slot : ℕ) (w : Writing) (c : RingContents) → WritingWith w c → Keeps WritingWith (shut_write slot w) c
+  shut_keeps : (slot : ℕ) (w : Writing) (c : Situation) → WritingWith w c → Keeps WritingWith (shut_write slot w) c
   shut_keeps slot w c holds = by (entry_under w.state.table slot) refl
     where
-      shut : (e : DeviceEntry) → Contains w.state.table.entries e → (e.slot == slot) ≡ true → WritingWith
-          (record w { state = with_connection slot (record e.value { write_shut = true }) w.state }) c
-      shut e there at =
+      shut : (e : DeviceEntry) → Contains w.state.table.entries e → (e.slot == slot) ≡ true → (d : Situation)
+          → Allows (ShutWrite e.value.stream) tt c d → WritingWith (record w { state = with_connection slot (record e.value { write_shut = true }) w.state }) d
+      shut e there at d made =
           let v : DeviceConnection = record e.value { write_shut = true } in
           let same : e.slot ≡ slot = grind (arith, nat_tests, at) in
-          subst (λ (n : ℕ). IsWith first port (with_connection n v w.state) c) same
-          (changed first port w.state (with_connection e.slot v w.state) refl refl
-          (λ fits. unseen port w.state fits e there v refl (shut_fits e w.state fits there)) c holds)
+          subst (λ (n : ℕ). Now (with_connection n v w.state) d) same
+          (called_with ok lines first port w.state (with_connection e.slot v w.state) refl refl
+          (λ fits. unseen port w.state fits e there v refl (shut_fits e w.state fits there)) false (λ h. Unit {0}) (after_shut_write e.value.stream)
+          (λ fits h log any x. shut_write_host e.value.stream h log port (with_value w.state.table e.slot v) lines
+          (ends_streams h log port w.state.table lines x fits.sound e there v refl refl refl refl (λ on. on) (λ on. on))) c d made holds)
 
       done : (e : DeviceEntry) → Contains w.state.table.entries e → (e.slot == slot) ≡ true → (b : Bool)
           → Keeps WritingWith (cond b (Ask (ShutWrite e.value.stream) (λ _.
           Done (record w { state = with_connection slot (record e.value { write_shut = true }) w.state }))) (Done w)) c
       done e there at false = holds
-      done e there at true = (
-        tt,
-        λ a d fit stays. subst (λ (x : RingContents). WritingWith
-            (record w { state = with_connection slot (record e.value { write_shut = true }) w.state }) x) (sym stays) (shut e there at),
-      )
+      done e there at true = (tt, λ a d made. shut e there at d made)
 
       by : (o : Option DeviceEntry) → entry_under w.state.table slot ≡ o → Keeps WritingWith (elim o [
         | None ↦ Done w
@@ -300,7 +320,7 @@ module _ (first port : ℕ) where
           let found = found_by (λ (x : DeviceEntry). x.slot == slot) w.state.table.entries e under in
           done e found.0 found.1 (is_written_out e.value)
 
-  pump_slot_keeps : (slot : ℕ) (w : Writing) (c : RingContents) → WritingWith w c → Keeps WritingWith (pump_slot slot w) c
+  pump_slot_keeps : (slot : ℕ) (w : Writing) (c : Situation) → WritingWith w c → Keeps WritingWith (pump_slot slot w) c
   pump_slot_keeps slot w c holds = by (entry_under w.state.table slot) refl
     where
       standing : (e : DeviceEntry) → Contains w.state.table.entries e → (b : Bool)
@@ -316,67 +336,94 @@ module _ (first port : ℕ) where
       by None under = holds
       by (Some e) under = standing e (under_there w.state slot e under) e.value.closed
 
-  pub pump_keeps : (s : DeviceState) (c : RingContents) → With s c → Keeps WritingWith (pump_of s) c
+  pub pump_keeps : (s : DeviceState) (c : Situation) → Now s c → Keeps WritingWith (pump_of s) c
   pump_keeps s c holds = keeps_each WritingWith pump_slot pump_slot_keeps (slots s.table) (record { state = s; wrote = 0 }) c holds
 
-  -- A reset.
-  close_keeps : (slot : ℕ) (s : DeviceState) (c : RingContents) → With s c → Keeps With (close_slot slot s) c
+  -- A reset. Of the streams is said what is left of them with no connection.
+  abbrev pub Emptied : DeviceState → Situation → Type 0
+  Emptied s c = IsHeldBy (Streamed (emptied s.table)) first port s c
+
+  close_keeps : (slot : ℕ) (s : DeviceState) (c : Situation) → Emptied s c → Keeps Emptied (close_slot slot s) c
   close_keeps slot s c holds = by (entry_under s.table slot) refl
     where
-      by : (o : Option DeviceEntry) → entry_under s.table slot ≡ o → Keeps With
+      by : (o : Option DeviceEntry) → entry_under s.table slot ≡ o → Keeps Emptied
           (elim o [ None ↦ Done s | Some e ↦ closing e stream_closed s ]) c
       by None under = holds
       by (Some e) under =
           let there = under_there s slot e under in
-          subst (λ (t : DeviceTree DeviceState). Keeps With t c) (closing_done e stream_closed s)
-          (closing_keeps first port With (λ t. Done t) e stream_closed s c
-          (changed first port s (with_connection e.slot (stream_closed e.value) s) refl refl
-          (λ fits. unseen port s fits e there (stream_closed e.value) refl (closed_fits e s fits there)) c holds))
+          let t : DeviceState = with_connection e.slot (stream_closed e.value) s in
+          subst (λ (t : DeviceTree DeviceState). Keeps Emptied t c) (closing_done e stream_closed s)
+          (closing_keeps ok lines first port Emptied (λ t. Done t) e stream_closed s c (λ d closes.
+          closed_with ok lines first port (emptied t.table) t e.value c d closes (
+            holds.0,
+            tells_weaker (IsToldBy (Streamed (emptied s.table)) first port s) (IsToldBy (Streamed (emptied t.table)) first port t) (λ hon o l was.
+                told_changed ok lines first port s t (Streamed (emptied s.table)) (Streamed (emptied t.table)) hon o o l refl refl
+                (λ fits. unseen port s fits e there (stream_closed e.value) refl (closed_fits e s fits there)) (λ fits x.
+                streams_go ok first lines lines port port (emptied s.table) (emptied t.table) l.entries l.entries (λ few. few) (λ h few y.
+                emptied_streams h l.entries port (emptied s.table) (emptied t.table) lines refl y) o x) was) c holds.1,
+          )))
 
   module _ (cid : ℕ) (cid_fits : cid < 2 ^ 64) where
-    emptied_with : (t : DeviceState) (hon : Bool) (l : EndLog) → IsToldOf first port t hon l → IsToldOf first port (after_reset cid t) hon
-        (log_reset cid l)
-    emptied_with t hon l was = (
+    emptied_with : (t : DeviceState) (hon : Bool) (o : Option HostContents) (l : EndLog) → IsToldBy (Streamed (emptied t.table)) first port t hon o l
+        → IsToldBy (Streamed (emptied t.table)) first port (after_reset cid t) hon o (log_reset cid l)
+    emptied_with t hon o l was = (
       was.0,
-      λ honest. let p = was.1 honest in record {
-        fits = record {
-          cid_fits = cid_fits;
-          sound = empty_table t.table p.fits.sound;
-          entries = λ i d within. absurd (omega (arith, within));
-          owed = λ i d within. absurd (omega (arith, within));
-        };
-        none_overrun = p.none_overrun;
-        matches = makes_reset Device first cid (ends_of_state port t) l.entries p.matches;
-        fair = p.fair;
-      },
-    )
-
-    abbrev ResetEnds : DeviceState × Result (Unit {0}) Failure → RingContents → Type 0
-    ResetEnds x c = IsWith first port x.0 c
-
-    publishes : (t : DeviceState) (c : RingContents) → With t c → Keeps ResetEnds
-        (Ask (Ring (PublishCid cid)) (λ _. Done (after_reset cid t, Ok tt))) c
-    publishes t c holds = (
-      tt,
-      λ a d fit made. (
-        holds.0,
-        moves _ _ _ _ _ (log_reset cid) c d made (IsToldOf first port t) (IsToldOf first port (after_reset cid t))
-            (λ hon l asked was fair. emptied_with t hon l was) holds.1,
+      λ honest. let p = (was.1 honest).0 in (
+        record {
+          fits = record {
+            cid_fits = cid_fits;
+            sound = empty_table t.table p.fits.sound;
+            entries = λ i d within. absurd (omega (arith, within));
+            owed = λ i d within. absurd (omega (arith, within));
+          };
+          none_overrun = p.none_overrun;
+          matches = makes_reset Device first cid (ends_of_state port t) l.entries p.matches;
+          fair = p.fair;
+        },
+        streams_go ok first lines lines port port (emptied t.table) (emptied t.table) l.entries (Mark cid ∷ l.entries) (plain_before first (Mark cid) l.entries)
+            (λ h few x. mark_streams h l.entries cid port (emptied t.table) lines x) o (was.1 honest).1,
       ),
     )
 
-    pub reset_keeps : (s : DeviceState) (c : RingContents) → With s c → Keeps ResetEnds (reset_of cid s) c
+    abbrev ResetEnds : DeviceState × Result (Unit {0}) Failure → Situation → Type 0
+    ResetEnds x c = Now x.0 c
+
+    publishes : (t : DeviceState) (c : Situation) → Emptied t c → Keeps ResetEnds
+        (Ask (Ring (PublishCid cid)) (λ _. Done (after_reset cid t, Ok tt))) c
+    publishes t c holds = (
+      tt,
+      λ a d made. (
+        holds.0,
+        moves _ _ _ _ _ (log_reset cid) c d made.0 made.1 (IsToldBy (Streamed (emptied t.table)) first port t)
+            (IsToldBy (Streamed (emptied t.table)) first port (after_reset cid t)) (λ hon o l asked was fair. emptied_with t hon o l was) holds.1,
+      ),
+    )
+
+    pub reset_keeps : (s : DeviceState) (c : Situation) → Now s c → Keeps ResetEnds (reset_of cid s) c
     reset_keeps s c holds = by s.failed
       where
+        first_emptied : Emptied s c
+        first_emptied = (
+          holds.0,
+          tells_weaker (IsToldBy (Streamed s.table) first port s) (IsToldBy (Streamed (emptied s.table)) first port s) (λ hon o l was. (
+            was.0,
+            λ honest. let p = was.1 honest in (
+              p.0,
+              streams_go ok first lines lines port port s.table (emptied s.table) l.entries l.entries (λ few. few) (λ h few x.
+                  emptied_streams h l.entries port s.table (emptied s.table) lines refl x) o p.1,
+            ),
+          )) c holds.1,
+        )
+
         by : (o : Option Failure) → Keeps ResetEnds (elim o [
           | Some f ↦ Done (s, Err f)
           | None ↦ bind (for_each close_slot (slots s.table) s) (λ t. Ask (Ring (PublishCid cid)) (λ _. Done (after_reset cid t, Ok tt)))
         ]) c
         by (Some f) = holds
         by None =
-            keeps_then With ResetEnds (for_each close_slot (slots s.table) s)
+            keeps_then Emptied ResetEnds (for_each close_slot (slots s.table) s)
             (λ t. Ask (Ring (PublishCid cid)) (λ _. Done (after_reset cid t, Ok tt))) c
-            (keeps_each With close_slot close_keeps (slots s.table) s c holds) publishes
+            (keeps_each Emptied close_slot close_keeps (slots s.table) s c first_emptied) publishes
 
   -- A client's connection.
   module _ (flow : Flow) (stream : ℕ) (s : DeviceState) (next : IsNextFlow Device flow (ends_of_state port s))
@@ -385,53 +432,72 @@ module _ (first port : ℕ) where
     given (inl later) = grind (arith, nat_tests, later)
     given (inr kept) = absurd cc
 
-    opened_with : refusal s.table flow ≡ None → (hon : Bool) (l : EndLog) → IsToldOf first port s hon l
-        → IsToldOf first (flow.host + 1) (with_client flow stream s) hon l
-    opened_with free hon l was = (
-      was.0,
-      λ honest.
-          let p = was.1 honest in
-          let c : DeviceConnection = new_connection (asked Stream BUF_ALLOC) stream true in
-          record {
-            fits = opening_fits s p.fits flow c (accepted s.table flow free) ports (record {
-              bytes = record { unread = omega arith; within = omega arith; alloc = omega arith; rx = omega arith; fwd = omega arith };
-              new = λ new. record { by_client = refl; ok_line = refl; pending = refl; asked_at = refl; shut_at = refl };
-            }) refl;
-            none_overrun = p.none_overrun;
-            matches = subst (λ (part : Ends). Matches Device first part l.entries)
-                (ap (λ (n : ℕ). let part : Ends = record (asking Device flow Stream (ends_of_state port s)) { next_port = n } in part) (given next.port)
-                ∙ ap (λ (es : List FlowEnd). let part : Ends = record (ends_of_state (flow.host + 1) s) { entries = es } in part)
-                (sym (added_slot end_in s.table flow c)))
-                (asks first flow Stream (ends_of_state port s) l.entries p.matches next);
-            fair = p.fair;
-          },
-    )
+    -- What is known before, and what the label leaves of it.
+    module _ (F : Fact)
+        (labels : (o n : Option HostContents) (log : Log) → Exposes o n (λ h. Unit {0}) (after_label stream flow) → F o log
+        → StreamedOver ok lines first (flow.host + 1) (with_client flow stream s).table n log)
+        (refused : (o : Option HostContents) (log : Log) → F o log → Streamed s.table o log) where
+      opened_with : refusal s.table flow ≡ None → (hon : Bool) (o n : Option HostContents) (l : EndLog) → Exposes o n (λ h. Unit {0}) (after_label stream flow)
+          → IsToldBy F first port s hon o l
+          → IsToldBy (StreamedOver ok lines first (flow.host + 1) (with_client flow stream s).table) first (flow.host + 1) (with_client flow stream s) hon n l
+      opened_with free hon o n l exposes was = (
+        was.0,
+        λ honest.
+            let p = (was.1 honest).0 in
+            let c : DeviceConnection = new_connection (asked Stream BUF_ALLOC) stream true in (
+              record {
+                fits = opening_fits s p.fits flow c (accepted s.table flow free) ports (record {
+                  bytes = record { unread = omega arith; within = omega arith; alloc = omega arith; rx = omega arith; fwd = omega arith };
+                  new = λ new. record { by_client = refl; ok_line = refl; pending = refl; asked_at = refl; shut_at = refl };
+                }) refl;
+                none_overrun = p.none_overrun;
+                matches = subst (λ (part : Ends). Matches Device first part l.entries)
+                    (ap (λ (n : ℕ). let part : Ends = record (asking Device flow Stream (ends_of_state port s)) { next_port = n } in part) (given next.port)
+                    ∙ ap (λ (es : List FlowEnd). let part : Ends = record (ends_of_state (flow.host + 1) s) { entries = es } in part)
+                    (sym (added_slot end_in s.table flow c)))
+                    (asks first flow Stream (ends_of_state port s) l.entries p.matches next);
+                fair = p.fair;
+              },
+              labels o n l.entries exposes (was.1 honest).1,
+            ),
+      )
 
-    abbrev OpenEnds : DeviceState × Result ℕ TableFault → RingContents → Type 0
-    OpenEnds x c = IsWith first (port_after flow port x.1) x.0 c
+      abbrev OpenEnds : DeviceState × Result ℕ TableFault → Situation → Type 0
+      OpenEnds x c = With ok lines first (port_after flow port x.1) x.0 c
 
-    pub open_keeps : (c : RingContents) → With s c → Keeps OpenEnds (open_of flow stream s) c
-    open_keeps c holds = by (refusal s.table flow) refl
-      where
-        by : (o : Option TableFault) → refusal s.table flow ≡ o → Keeps OpenEnds (elim o [
-          | Some fault ↦ Done (s, Err fault)
-          | None ↦ Ask (Label stream flow) (λ _. Done (with_client flow stream s, Ok s.table.given))
-        ]) c
-        by (Some fault) refused = holds
-        by None free = (
-          tt,
-          λ a d fit same. subst (λ (x : RingContents). IsWith first (flow.host + 1) (with_client flow stream s) x) (sym same) (
+      pub open_keeps : (c : Situation) → IsHeldBy F first port s c → Keeps OpenEnds (open_of flow stream s) c
+      open_keeps c holds = by (refusal s.table flow) refl
+        where
+          by : (o : Option TableFault) → refusal s.table flow ≡ o → Keeps OpenEnds (elim o [
+            | Some fault ↦ Done (s, Err fault)
+            | None ↦ Ask (Label stream flow) (λ _. Done (with_client flow stream s, Ok s.table.given))
+          ]) c
+          by (Some fault) full = (
             holds.0,
-            tells_weaker (IsToldOf first port s) (IsToldOf first (flow.host + 1) (with_client flow stream s))
-                (opened_with free) c holds.1,
-          ),
-        )
+            tells_weaker (IsToldBy F first port s) (IsToldBy (Streamed s.table) first port s)
+                (λ hon o l was. (was.0, λ honest. ((was.1 honest).0, refused o l.entries (was.1 honest).1))) c holds.1,
+          )
+          by None free = (
+            tt,
+            λ a d made. (
+              holds.0,
+              host_moves false (λ h. Unit {0}) (after_label stream flow) c d made (IsToldBy F first port s)
+                  (IsToldBy (StreamedOver ok lines first (flow.host + 1) (with_client flow stream s).table) first (flow.host + 1) (with_client flow stream s))
+                  (opened_with free) holds.1,
+            ),
+          )
+
+pub opens_plain : (first port : ℕ) (flow : Flow) (stream : ℕ) (s : DeviceState) → IsNextFlow Device flow (ends_of_state port s) → IsFitFlow flow
+    → (c : Situation) → IsWith first port s c.ring → Keeps (λ x d. With ⊥ [] first (port_after flow port x.1) x.0 d) (open_of flow stream s) c
+opens_plain first port flow stream s next ports c holds =
+    open_keeps ⊥ [] first port flow stream s next ports (StreamedOver ⊥ [] first port s.table) (λ o n log made x no. absurd no) (λ o log x. x) c
+    (plain_with first port s c holds)
 
 -- A new device.
 pub new_with : (port cid : ℕ) (base : List ℕ) (c : RingContents) → cid < 2 ^ 64 → IsFresh c → IsWith cid port (new_device cid base) c
 new_with port cid base c less fresh = (
   tt,
-  tells_weaker (λ hon l. (l.entries ≡ []) × (l.held ≡ [])) (IsToldOf cid port (new_device cid base)) (λ hon l was. (
+  λ l is. let was = fresh l is in (
     λ still. was.1,
     λ honest. subst (λ (log : Log). IsLeft cid port cid 0 (new_device cid base).table [] log) (sym was.0) (record {
       fits = record {
@@ -450,5 +516,5 @@ new_with port cid base c less fresh = (
       matches = start_matches Device cid port;
       fair = λ f. tt;
     }),
-  )) c fresh,
+  ),
 )

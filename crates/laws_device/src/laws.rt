@@ -22,7 +22,8 @@ ghost use Rattle.vs_device_parts.specs.declared.answers.Taken.{Taken};
 ghost use Rattle.laws_device_streams.specs.Streams.{FindsStreams};
 ghost use Rattle.laws_device.specs.Honest.{Advertises, AgreesWith, IsClients, IsFitFlow, IsFresh, IsLeftOpen, IsWith, ends_of_state};
 ghost use Rattle.laws_device.specs.{Honest.port_after, Packets.HasAdded, Packets.HasTaken, Packets.HoldsLast, Packets.IsWholeAs};
-ghost use Rattle.laws_device.specs.Packets.{packet_with};
+ghost use Rattle.laws_device.specs.{Packets.packet_with, Streams.AreStreamedWith};
+ghost use Rattle.vs_proxy_parts.specs.State.{Handshake};
 
 /// Over a ring that tells its log the device holds the one chain that it keeps for the next packet, and after each call it does again.
 /// Over an honest ring each packet that it puts keeps the log fair, so it never exceeds the credit that was advertised, and a call that
@@ -59,6 +60,28 @@ pub fn law_of_other_calls()
     ensures opened { (first port stream : ℕ) (flow : Flow) (s : DeviceState) (a b : Situation) (x : DeviceState × Result ℕ TableFault)
         → IsNextFlow Device flow (ends_of_state port s) → IsFitFlow flow → IsWith first port s a.ring → Runs (open_of flow stream s) a x b
         → IsWith first (port_after flow port x.1) x.0 b.ring }
+{}
+
+/// Over an honest ring that tells its log and a host that exposes its streams each call keeps what these took and gave in step with the log, where
+/// the guest uses no flow twice and sends payload under its own CID. The payload put on a connection is what was taken of its stream, behind the
+/// CONNECT line where there is one. A stream is given a prefix of its OK line and the payload got on its connection, and what is pending is what
+/// is between (Virtio 1.2, section 5.10.6).
+pub fn law_of_streamed()
+    ensures take_tx { (first port : ℕ) (lines : List Handshake) (s : DeviceState) (a b : Situation) (x : DeviceState × Taken) → IsWith first port s a.ring
+        → AreStreamedWith first port lines s.table a → Runs (take_tx_of s) a x b → AreStreamedWith first port lines x.0.table b }
+    ensures pay_event { (first port : ℕ) (lines : List Handshake) (s : DeviceState) (a b : Situation) (x : DeviceState × Result Bool Failure)
+        → IsWith first port s a.ring → AreStreamedWith first port lines s.table a → Runs (pay_event_of s) a x b
+        → AreStreamedWith first port lines x.0.table b }
+    ensures fill_rx { (first port : ℕ) (lines : List Handshake) (s : DeviceState) (a b : Situation) (x : DeviceState × Result Filled Failure)
+        → IsWith first port s a.ring → AreStreamedWith first port lines s.table a → Runs (fill_rx_of s) a x b
+        → AreStreamedWith first port lines x.0.table b }
+    ensures reset { (first port cid : ℕ) (lines : List Handshake) (s : DeviceState) (a b : Situation) (x : DeviceState × Result (Unit {0}) Failure)
+        → cid < 2 ^ 64 → IsWith first port s a.ring → AreStreamedWith first port lines s.table a → Runs (reset_of cid s) a x b
+        → AreStreamedWith first port lines x.0.table b }
+    ensures tick { (first port now : ℕ) (lines : List Handshake) (s t : DeviceState) (a b : Situation) → IsWith first port s a.ring
+        → AreStreamedWith first port lines s.table a → Runs (tick_of now s) a t b → AreStreamedWith first port lines t.table b }
+    ensures pump_out { (first port : ℕ) (lines : List Handshake) (s : DeviceState) (a b : Situation) (w : Writing) → IsWith first port s a.ring
+        → AreStreamedWith first port lines s.table a → Runs (pump_of s) a w b → AreStreamedWith first port lines w.state.table b }
 {}
 
 /// The device's table has exactly the flows that the log left open, and those whose REQUEST isn't put, which come from clients of the

@@ -7,3 +7,4 @@ pub mod Opens
 pub mod Gives
 pub mod Cids
 pub mod Short
+pub mod Changing

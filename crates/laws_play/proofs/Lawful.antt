@@ -83,7 +83,7 @@ module _ (w v : World) (f : Flow) (well : IsWell Fresh w) (goes : Goes Fresh w v
       ∙ decided_put Device (is_shut Device first_cid f (device_ends w.proxy) (both_of w).device.log e.value.end
       (well.sound.matches Device).flows
       (subst (λ (g : Flow). HasEnd g e.value.end (device_ends w.proxy)) own (one_end
-      (λ c. c.end) w.proxy.device.table e well.device.sound there)) shut)
+      (λ c. c.end) w.proxy.device.table e well.device.fits.sound there)) shut)
       ∙ wrote_is_put w.host _ _ _ _ (well.streams fresh) f
 
   stays_shut : is_at_rest w.rings.driver.staged ≡ true → StaysShut f w v

@@ -1,17 +1,23 @@
 -- A proxy in order: its turn and its reset may be made, and what each keeps, from the conversation that it ran.
-use Rattle.std.proofs.Common.{[], ℕ, ◌<◌, ◌^◌, List, Result}
+use Rattle.std.proofs.Common.{[], ℕ, ◌<◌, ◌^◌, List, Result, ◌≡◌, refl, sym, subst}
 use Rattle.vs_ring_port.specs.declared.failure.Failure.{Failure}
 use Rattle.vs_device_parts.specs.{Calls.Allows, Calls.Situation, Playing.CanMake, Playing.MayRun, Playing.Runs}
 use Rattle.laws_device_streams.specs.{Split.CanReach, Streams.FindsStreams}
-use Rattle.laws_device_streams.proofs.{Conditions.may_where, Conditions.quiet_can, Keeping.keeps_may, Keeping.keeps_end as streams_end}
-use Rattle.laws_device_streams.proofs.Opening.{new_has}
+use Rattle.laws_device_streams.proofs.{Conditions.may_where, Conditions.quiet_can, Keeping.keeps_may, Opening.new_has}
 use Rattle.laws_device.specs.Honest.{IsFresh}
 use Rattle.laws_device.proofs.Keeping.{keeps_end, keeps_put}
 use Rattle.vs_proxy_parts.specs.{Handshakes.streams_of, State.ProxyState, Turns.new_proxy, Turns.proxy_reset_of, Turns.turn_of}
 use Rattle.vs_proxy_parts.specs.declared.answers.Turn.{Turn}
 use Rattle.laws_proxy_streams.proofs.{Lists.none_open, Turning.keeps_proxy_reset, Turning.keeps_turn}
-use Rattle.laws_proxy.specs.{Honest.IsProxyWith, Order.IsInOrder}
-use Rattle.laws_proxy.proofs.Turning.{new_proxy_with, proxy_reset_keeps, turn_keeps}
+use Rattle.laws_proxy.specs.{Honest.IsProxyWith, Honest.IsProxyStreamed, Order.IsInOrder}
+use Rattle.laws_proxy.proofs.Turning.{new_proxy_with, proxy_reset_keeps, turn_keeps, plain_proxied, proxied_ring, proxied_streams}
+use Rattle.laws_proxy.proofs.Turning.{streamed_proxied}
+use Rattle.laws_device_bytes.specs.Streamed.{IsStreamed}
+use Rattle.laws_device_bytes.proofs.Changing.{no_streams}
+use Rattle.vs_limits.specs.declared.TheConstants.{ASSIGNED_FIRST}
+use Rattle.vs_page.specs.Log.{Log}
+use Rattle.std.specs.Option.{ForSome}
+use Rattle.laws_device_streams.proofs.Keeping.{keeps_end as streams_end}
 
 pub new_in_order : (cid : ℕ) (base : List ℕ) (a : Situation) → cid < 2 ^ 64 → IsFresh a.ring → IsInOrder cid (new_proxy cid base) a
 new_in_order cid base a fits fresh = record {
@@ -19,10 +25,15 @@ new_in_order cid base a fits fresh = record {
   ring = new_proxy_with cid base a.ring fits fresh;
 }
 
+pub new_streamed : (cid : ℕ) (base : List ℕ) (a : Situation) → IsFresh a.ring → ForSome a.host (λ h. h.streams ≡ []) → IsProxyStreamed cid (new_proxy cid base) a
+new_streamed cid base a fresh none honest l is plain h there =
+    subst (λ (log : Log). IsStreamed h log ASSIGNED_FIRST (new_proxy cid base).device.table []) (sym (fresh l is).0)
+    (no_streams h ASSIGNED_FIRST (new_proxy cid base).device.table refl (none h there))
+
 pub turn_may : (first size now : ℕ) (s : ProxyState) (a : Situation) → IsInOrder first s a → MayRun (turn_of size now s) a
 turn_may first size now s a is =
     may_where (turn_of size now s) a (keeps_may CanReach Allows _ (turn_of size now s) a (keeps_turn size now s a is.streams))
-    (keeps_put _ (turn_of size now s) a (turn_keeps first size now s a.ring is.ring))
+    (keeps_put _ (turn_of size now s) a (turn_keeps ⊥ first size now s a (plain_proxied first s a is.ring)))
 
 pub reset_may : (first cid : ℕ) (s : ProxyState) (a : Situation) → IsInOrder first s a → MayRun (proxy_reset_of cid s) a
 reset_may first cid s a is =
@@ -35,7 +46,13 @@ module _ (s : ProxyState) (a b : Situation) where
 
   pub turn_honest : (size now : ℕ) (x : ProxyState × Turn) → Runs (turn_of size now s) a x b → (first : ℕ) → IsProxyWith first s a.ring
       → IsProxyWith first x.0 b.ring
-  turn_honest size now x runs first holds = keeps_end _ (turn_of size now s) a b x (turn_keeps first size now s a.ring holds) runs
+  turn_honest size now x runs first holds =
+      proxied_ring ⊥ first x.0 b (keeps_end _ (turn_of size now s) a b x (turn_keeps ⊥ first size now s a (plain_proxied first s a holds)) runs)
+
+  pub turn_streamed : (size now : ℕ) (x : ProxyState × Turn) → Runs (turn_of size now s) a x b → (first : ℕ) → IsProxyWith first s a.ring
+      → IsProxyStreamed first s a → IsProxyStreamed first x.0 b
+  turn_streamed size now x runs first holds streams = proxied_streams first x.0 b
+      (keeps_end _ (turn_of size now s) a b x (turn_keeps (Unit {0}) first size now s a (streamed_proxied first s a holds streams)) runs)
 
   pub reset_streams : (cid : ℕ) (x : ProxyState × Result (Unit {0}) Failure) → Runs (proxy_reset_of cid s) a x b
       → FindsStreams (streams_of s) s.device a → FindsStreams (streams_of x.0) x.0.device b
@@ -45,4 +62,10 @@ module _ (s : ProxyState) (a b : Situation) where
   pub reset_honest : (cid : ℕ) (x : ProxyState × Result (Unit {0}) Failure) → cid < 2 ^ 64 → Runs (proxy_reset_of cid s) a x b
       → (first : ℕ) → IsProxyWith first s a.ring → IsProxyWith first x.0 b.ring
   reset_honest cid x fits runs first holds =
-      keeps_end _ (proxy_reset_of cid s) a b x (proxy_reset_keeps first cid s a.ring fits holds) runs
+      proxied_ring ⊥ first x.0 b
+      (keeps_end _ (proxy_reset_of cid s) a b x (proxy_reset_keeps ⊥ first cid s a fits (plain_proxied first s a holds)) runs)
+
+  pub reset_streamed : (cid : ℕ) (x : ProxyState × Result (Unit {0}) Failure) → cid < 2 ^ 64 → Runs (proxy_reset_of cid s) a x b
+      → (first : ℕ) → IsProxyWith first s a.ring → IsProxyStreamed first s a → IsProxyStreamed first x.0 b
+  reset_streamed cid x fits runs first holds streams = proxied_streams first x.0 b
+      (keeps_end _ (proxy_reset_of cid s) a b x (proxy_reset_keeps (Unit {0}) first cid s a fits (streamed_proxied first s a holds streams)) runs)

@@ -1,50 +1,28 @@
 -- Connections whose end changes, streams that are closed, connections that leave.
-use Rattle.std.proofs.Common.{◌≡◌, ℕ, ◌==◌, not, Bool, true, false, cond, List, [], ◌∷◌, map, filter, Contains, Option, Some, None, refl}
-use Rattle.std.proofs.Common.{sym, ap, subst, ◌∙◌}
+use Rattle.std.proofs.Common.{◌≡◌, ℕ, ◌==◌, Bool, true, false, cond, List, ◌∷◌, Contains, Option, Some, None, refl, sym, subst, ◌∙◌}
 use Rattle.std.proofs.lemmas.List.Elements.{All-contains}
-use Rattle.vs_conn.specs.declared.end.State.TheVariants as state
 use Rattle.vs_contents.specs.CallTree.{Done, Ask}
-use Rattle.vs_flow.specs.Table.{Table, entry_of, entry_under, revalued, slots, with_value, without}
-use Rattle.vs_flow.specs.{Flow.same_flow, declared.flow.Flow.Flow}
+use Rattle.vs_flow.specs.{Table.Table, Table.entry_of, Table.entry_under, Table.slots, Table.with_value, Table.without, Flow.same_flow}
+use Rattle.vs_flow.specs.declared.flow.Flow.{Flow}
 use Rattle.laws_tables.proofs.Slots.{found_by}
 use Rattle.vs_device_parts.specs.{Calls.CloseStream, Connections.after_leaving, Connections.cut_off, Connections.is_timed_out}
 use Rattle.vs_device_parts.specs.{Connections.stream_closed, Connections.with_connection, State.DeviceConnection, State.DeviceEntry}
 use Rattle.vs_device_parts.specs.{State.DeviceState, Streams.closing, Streams.leaving, Streams.tick_of, Streams.tick_slot}
 use Rattle.vs_conn.specs.End.{aborted}
 use Rattle.vs_proxy_parts.specs.State.{Handshake}
-use Rattle.laws_bytes.proofs.Changes.{changed, others_left}
+use Rattle.laws_bytes.proofs.Changes.{changed, others_left, without_changed}
 use Rattle.laws_proxy_bytes.specs.{Made.Account, Made.Made, Made.account_of, Made.made, Made.payload_put, Made.payload_taken, Made.shut}
 use Rattle.laws_proxy_bytes.specs.Tied.{Agree, AgreesWith, IsLawful, IsOver, IsTied, IsTiedTo}
 use Rattle.laws_proxy_bytes.proofs.{Accounts.Changes, Accounts.changes, Accounts.changing, Accounts.stays, Entries.given_of}
 use Rattle.laws_proxy_bytes.proofs.{Entries.given_shut, Entries.join_of, Entries.left, Entries.moved, Keeping.Keeps, Keeping.keeps_each}
 use Rattle.laws_proxy_bytes.proofs.{Keeping.keeps_then, Ties.closed_before, Ties.closes}
+use Rattle.vs_conn.specs.declared.end.State.TheVariants as state
 
 pub there_under : (t : Table DeviceConnection) (slot : ℕ) (e : DeviceEntry) → entry_under t slot ≡ Some e → Contains t.entries e
 there_under t slot e found = (found_by (λ (x : DeviceEntry). x.slot == slot) t.entries e found).0
 
 pub there_of : (t : Table DeviceConnection) (flow : Flow) (e : DeviceEntry) → entry_of t flow ≡ Some e → Contains t.entries e
 there_of t flow e found = (found_by (λ (x : DeviceEntry). same_flow flow x.flow) t.entries e found).0
-
--- What leaves a table, leaves it whatever it was last.
-left_entries : (slot : ℕ) (c : DeviceConnection) (es : List DeviceEntry)
-    → filter (λ (e : DeviceEntry). not (e.slot == slot)) (map (revalued slot c) es) ≡ filter (λ (e : DeviceEntry). not (e.slot == slot)) es
-left_entries slot c [] = refl
-left_entries slot c (e ∷ es) = by (e.slot == slot) refl (left_entries slot c es)
-  where
-    others : List DeviceEntry → List DeviceEntry
-    others xs = filter (λ (e : DeviceEntry). not (e.slot == slot)) xs
-
-    by : (b : Bool) → (e.slot == slot) ≡ b
-        → filter (λ (e : DeviceEntry). not (e.slot == slot)) (map (revalued slot c) es) ≡ filter
-        (λ (e : DeviceEntry). not (e.slot == slot)) es
-        → filter (λ (e : DeviceEntry). not (e.slot == slot)) (cond (e.slot == slot) (record e { value = c }) e ∷ map (revalued slot c) es)
-        ≡ filter (λ (e : DeviceEntry). not (e.slot == slot)) (e ∷ es)
-    by true is same = rw is (rw is same)
-    by false is same = rw is (rw is (ap (λ (xs : List DeviceEntry). e ∷ xs) same))
-
-pub without_changed : (t : Table DeviceConnection) (slot : ℕ) (c : DeviceConnection) → without (with_value t slot c) slot ≡ without t slot
-without_changed t slot c =
-    ap (λ (es : List DeviceEntry). let r : Table DeviceConnection = record t { entries = es } in r) (left_entries slot c t.entries)
 
 -- A connection and its stream's account change, or the connection leaves.
 module _ (at now : ℕ → Option Account) (put taken : Flow → List ℕ) (t : Table DeviceConnection) (hands : List Handshake)

@@ -1,7 +1,7 @@
 -- Each of the device's conversations is some of the steps of the two ends.
-use Rattle.std.proofs.lemmas.{Bool.Decides.nat_tests, Grind.common_steps, List.length-take}
-use Rattle.std.proofs.Common.{◌≡◌, ℕ, ◌+◌, ◌-◌, ◌^◌, ◌<◌, ◌≤◌, ◌==◌, ◌&&◌, nat_lt, Bool, true, false, cond, List, [], ◌∷◌, ◌++◌, length}
-use Rattle.std.proofs.Common.{take, drop, Contains, Option, Some, None, refl, sym, ap, subst, ◌∙◌, arith, length-append}
+use Rattle.std.proofs.{lemmas.Bool.Decides.nat_tests, lemmas.Grind.common_steps, lemmas.List.length-take, Common.◌≡◌, Common.ℕ, Common.◌+◌}
+use Rattle.std.proofs.Common.{◌-◌, ◌^◌, ◌<◌, ◌≤◌, ◌==◌, ◌&&◌, nat_lt, Bool, true, false, cond, List, [], ◌∷◌, ◌++◌, length, take, drop}
+use Rattle.std.proofs.Common.{Contains, Option, Some, None, refl, sym, ap, subst, ◌∙◌, arith, length-append}
 use Rattle.vs_contents.specs.CallTree.{Done, Ask, bind, played}
 use Rattle.vs_conn.specs.{End.end_after, End.is_of, End.is_reset, End.verdict_of, End.after_op, declared.end.Verdict.Verdict}
 use Rattle.vs_conn.specs.declared.end.Why.{Why}
@@ -25,25 +25,24 @@ use Rattle.vs_device_parts.specs.Transmitting.{dial_answered, failing, heard, on
 use Rattle.vs_device_parts.specs.{Transmitting.unknown_why, Calls.CloseStream, Calls.DeviceTree, Calls.Dial}
 use Rattle.vs_wrap.specs.Wrap.{counted}
 use Rattle.laws_world.specs.Answers.{Around, answer_around}
-use Rattle.laws_world.proofs.{Chains.HoldsRx, DeviceTakes.heard_fresh, Wire.PutsFit, Firsts.once_history, DeviceSide.DeviceHolds}
-use Rattle.laws_world.proofs.DeviceSide.{IsFresh, Kept, end_in, entry_fits, entry_fresh, seated}
-use Rattle.laws_world.proofs.Streams.{StreamedIf, accepts_streams, called_host, delivered_rw, delivers_streams, dialed_id, empty_streams}
-use Rattle.laws_world.proofs.Streams.{failed_host, got_nothing, hears_streams, leaves_streams, passes_streams, request_empty, reset_empty}
-use Rattle.laws_world.proofs.{Streams.unknown_streams, Once.AreOnce, Once.asked_once, Once.number_of_once}
-use Rattle.laws_device.specs.Honest.{HoldsBytes}
-use Rattle.laws_device.proofs.{Fits.delivered, Fits.fits_after, Hearing.peer_resets, Hearing.rst_leaves}
+use Rattle.laws_world.proofs.{Chains.HoldsRx, Wire.PutsFit, DeviceSide.DeviceHolds, DeviceSide.Kept, DeviceSide.seated, Once.AreOnce}
+use Rattle.laws_world.proofs.Once.{asked_once, number_of_once}
+use Rattle.laws_bytes.proofs.{Firsts.once_history, Logs.got_passes, Logs.none_passed, Logs.passed_after_got, Logs.put_after_got}
+use Rattle.laws_device_bytes.proofs.Changing.{StreamedIf, accepts_streams, called_host, delivered_rw, delivers_streams, dialed_id}
+use Rattle.laws_device_bytes.proofs.Changing.{empty_streams, failed_host, got_nothing, hears_streams, leaves_streams, passes_streams}
+use Rattle.laws_device_bytes.proofs.{Changing.request_empty, Changing.reset_empty, Changing.unknown_streams, HostCalls.closed_host}
+use Rattle.laws_device_bytes.proofs.{Opens.dial_host, Streamed.join_of}
+use Rattle.laws_device.specs.Honest.{HoldsBytes, end_in}
+use Rattle.laws_device.proofs.{Fits.delivered, Fits.fits_after, Hearing.peer_resets, Hearing.rst_leaves, Hearing.still_new}
+use Rattle.laws_device.proofs.Tabling.{IsFitConnection, begun_fits, entry_fits}
 use Rattle.std.specs.List.{All}
 use Rattle.vs_proxy_parts.specs.State.{Handshake}
 use Rattle.laws_bytes.specs.Drains.{has_passed}
 use Rattle.laws_device_bytes.specs.Streamed.{gives, look}
-use Rattle.laws_bytes.proofs.Logs.{got_passes, none_passed, passed_after_got, put_after_got}
-use Rattle.laws_device_bytes.proofs.HostCalls.{closed_host}
-use Rattle.laws_device_bytes.proofs.{Opens.dial_host, Streamed.join_of}
 use Rattle.vs_conn.specs.declared.end.Verdict.TheVariants as verdict
 use Rattle.vs_conn.specs.declared.end.Why.TheVariants as why
 use Rattle.vs_outside.specs.declared.host_net.Dialed.TheVariants as dialed
 use Rattle.vs_ring_port.specs.declared.failure.Failure.TheVariants as failure
-use Rattle.laws_world.proofs.DeviceSide as side
 use Rattle.laws_world.proofs.DeviceTakes as takes
 
 abbrev with_verdict : Verdict → DeviceTree DeviceState → DeviceTree DeviceState
@@ -94,35 +93,40 @@ module _ (driver : Seat) (first port : ℕ) (s : DeviceState) (log : Log) (sound
 
     module _ (kept : is_dropped Device s.cid p.header ≡ false) where
       module _ (e : DeviceEntry) (there : Contains s.table.entries e) (flow : flow_to_host p.header ≡ e.flow) where
-        still_fresh : (c : DeviceConnection) → c.end ≡ end_after e.value.end h → c.ok_line ≡ e.value.ok_line → c.asked_at ≡ e.value.asked_at
-            → c.shut_at ≡ e.value.shut_at → IsFresh c
-        still_fresh c is ok asked shut = heard_fresh e.value c h is ok asked shut (entry_fresh driver first port s log sound holds puts e there)
-
         after : (v : Verdict) → verdict_of e.value.end h ≡ v
             → HoldsBytes (end_after e.value.end h).credit (length e.value.pending + delivered v h.len)
         after v is = subst (λ (w : Verdict). HoldsBytes (end_after e.value.end h).credit (length e.value.pending + delivered w h.len)) is
-            (fits_after e.value.end h (length e.value.pending) (entry_fits driver first port s log sound holds puts e there).credit)
+            (fits_after e.value.end h (length e.value.pending) (entry_fits s holds.fits e there).bytes)
 
         none_new : HoldsBytes (end_after e.value.end h).credit (length e.value.pending)
         none_new = let fits = after (verdict_of e.value.end h) refl in
             record { alloc = fits.alloc; fwd = fits.fwd; rx = fits.rx; unread = omega (arith, fits.unread); within = fits.within }
 
+        heard_fits : IsFitConnection (heard h e.value)
+        heard_fits = record {
+          bytes = none_new;
+          new = λ new. let n = (entry_fits s holds.fits e there).new (still_new e.value.end h new) in
+              record { by_client = n.by_client; ok_line = n.ok_line; pending = n.pending; asked_at = n.asked_at; shut_at = n.shut_at };
+        }
+
         goes_on : (v : Verdict) → verdict_of e.value.end h ≡ v → peer_resets v h ≡ false → (is_reset h && is_of e.value.end.kind h) ≡ false
         goes_on v is other = sym (rst_leaves e.value.end h) ∙ ap (λ (w : Verdict). peer_resets w h) is ∙ other
 
         hears : (v : Verdict) → verdict_of e.value.end h ≡ v → peer_resets v h ≡ false → Kept driver port s log port (with_connection e.slot (heard h e.value) s) (GotPacket p ∷ log)
-        hears v is other = takes.stays_with driver first port s log sound holds puts p next fits kept e there flow (heard h e.value) refl none_new
-            (still_fresh (heard h e.value) refl refl refl refl) (goes_on v is other)
+        hears v is other = takes.stays_with driver first port s log sound holds puts p next fits kept e there flow (heard h e.value) refl heard_fits (goes_on v is other)
 
         accept_old : verdict_of e.value.end h ≡ verdict.Accept → is_new (end_after e.value.end h) ≡ false
         accept_old is = ap (λ (v : Verdict). is_new (after_op (op_named h.op) e.value.end h v)) is
+
+        deliver_old : verdict_of e.value.end h ≡ verdict.Deliver → is_new (end_after e.value.end h) ≡ false
+        deliver_old is = grind (arith, common_steps, is)
 
         accepts : (line : List ℕ) → verdict_of e.value.end h ≡ verdict.Accept
             → Kept driver port s log port (with_connection e.slot (record (heard h e.value) { ok_line = line }) s) (GotPacket p ∷ log)
         accepts line is =
             let c : DeviceConnection = record (heard h e.value) { ok_line = line } in
-            takes.stays_with driver first port s log sound holds puts p next fits kept e there flow c refl none_new
-            (side.not_fresh c (accept_old is)) (goes_on verdict.Accept is refl)
+            takes.stays_with driver first port s log sound holds puts p next fits kept e there flow c refl
+            (begun_fits c none_new (accept_old is)) (goes_on verdict.Accept is refl)
 
         delivers_some : (payload : List ℕ) → length payload ≤ h.len → verdict_of e.value.end h ≡ verdict.Deliver
             → Kept driver port s log port (with_connection e.slot (record (heard h e.value) { pending = e.value.pending ++ payload }) s) (GotPacket p ∷ log)
@@ -130,12 +134,12 @@ module _ (driver : Seat) (first port : ℕ) (s : DeviceState) (log : Log) (sound
             let c : DeviceConnection = record (heard h e.value) { pending = e.value.pending ++ payload } in
             let fits' = after verdict.Deliver is in
             takes.stays_with driver first port s log sound holds puts p next fits kept e there flow c refl
-            (record { alloc = fits'.alloc; fwd = fits'.fwd; rx = fits'.rx; within = fits'.within; unread = omega (arith, fits'.unread, short, length-append e.value.pending payload) })
-            (still_fresh c refl refl refl refl) (goes_on verdict.Deliver is refl)
+            (begun_fits c (record { alloc = fits'.alloc; fwd = fits'.fwd; rx = fits'.rx; within = fits'.within; unread = omega (arith, fits'.unread, short, length-append e.value.pending payload) })
+            (deliver_old is)) (goes_on verdict.Deliver is refl)
 
         heard_on : (v : Verdict) → verdict_of e.value.end h ≡ v → (v ≡ verdict.Accept → ⊥) → (v ≡ verdict.Deliver → ⊥)
             → StreamedIf fresh a.host (GotPacket p ∷ log) port (with_value s.table e.slot (heard h e.value)) lines
-        heard_on v is other undelivered = λ ok. hears_streams a.host log port s.table lines (x ok) holds.sound p whole e there flow v is other undelivered
+        heard_on v is other undelivered = λ ok. hears_streams a.host log port s.table lines (x ok) holds.fits.sound p whole e there flow v is other undelivered
 
         peers : (b : Bool) → is_reset h ≡ b → verdict_of e.value.end h ≡ verdict.Peer
             → KeptBy (with_verdict verdict.Peer (cond b (leaving (record e { value = heard h e.value }) s) (Done (with_connection e.slot (heard h e.value) s)))) a
@@ -154,7 +158,7 @@ module _ (driver : Seat) (first port : ℕ) (s : DeviceState) (log : Log) (sound
 
             left_on : StreamedIf fresh a.host (GotPacket p ∷ log) port (without (with_value s.table e.slot (stream_closed (heard h e.value))) e.slot) lines
             left_on = λ ok. leaves_streams a.host (GotPacket p ∷ log) port s.table lines
-                (empty_streams a.host log port s.table lines (x ok) holds.sound p whole (reset_empty e.value.end.kind p over_reset)) holds.sound e (stream_closed (heard h e.value)) there
+                (empty_streams a.host log port s.table lines (x ok) holds.fits.sound p whole (reset_empty e.value.end.kind p over_reset)) holds.fits.sound e (stream_closed (heard h e.value)) there
 
             closed_by : (b : Bool) → KeptBy (with_verdict verdict.Peer (bind (cond b (Done (with_connection e.slot (stream_closed (heard h e.value)) s))
                 (Ask (CloseStream e.value.stream) (λ _. Done (with_connection e.slot (stream_closed (heard h e.value)) s))))
@@ -166,7 +170,7 @@ module _ (driver : Seat) (first port : ℕ) (s : DeviceState) (log : Log) (sound
         refuses : (w : Why) → verdict_of e.value.end h ≡ verdict.Rst w → KeptBy (with_verdict (verdict.Rst w) (on_known (verdict.Rst w) chain h e s)) a
         refuses (why.Overrun o) is =
             let room = device_has_room first p e.value.end (seated driver port s log) sound next
-            (ap (λ (g : Flow). ends_of g (entries_of end_in s.table)) flow ∙ one_end end_in s.table e holds.sound there) in
+            (ap (λ (g : Flow). ends_of g (entries_of end_in s.table)) flow ∙ one_end end_in s.table e holds.fits.sound there) in
             let no : true ≡ false = sym (ap is_overrun is) ∙ room in
             absurd cc
         refuses w is = over _ refl (hears (verdict.Rst w) is refl) (heard_on (verdict.Rst w) is
@@ -174,11 +178,11 @@ module _ (driver : Seat) (first port : ℕ) (s : DeviceState) (log : Log) (sound
 
         by_verdict : (v : Verdict) → verdict_of e.value.end h ≡ v → KeptBy (with_verdict v (on_known v chain h e s)) a
         by_verdict verdict.Accept is = over _ refl (accepts (cond e.value.by_client (ok_text e.flow.host) []) is)
-            (λ ok. accepts_streams a.host log port s.table lines (x ok) holds.sound p whole e there flow fair (first_use e.flow)
+            (λ ok. accepts_streams a.host log port s.table lines (x ok) holds.fits.sound p whole e there flow fair (first_use e.flow)
             (join_of (look a.host) a.host.labelled log port s.table lines (x ok) e there).client (cond e.value.by_client (ok_text e.flow.host) []) refl is)
         by_verdict verdict.Deliver is =
             over _ refl (delivers_some (take h.len (drop 44 (bytes_in chain a.log.held))) (omega (arith, length-take h.len (drop 44 (bytes_in chain a.log.held)))) is)
-            (λ ok. delivers_streams a.host log port s.table lines (x ok) holds.sound p whole e there flow (take h.len (drop 44 (bytes_in chain a.log.held)))
+            (λ ok. delivers_streams a.host log port s.table lines (x ok) holds.fits.sound p whole e there flow (take h.len (drop 44 (bytes_in chain a.log.held)))
             (payload_is (delivered_rw e.value.end p is)) is)
         by_verdict verdict.Discard is = over _ refl (hears verdict.Discard is refl) (heard_on verdict.Discard is
             (λ (q : verdict.Discard ≡ verdict.Accept). cc) (λ (q : verdict.Discard ≡ verdict.Deliver). cc))
@@ -194,7 +198,7 @@ module _ (driver : Seat) (first port : ℕ) (s : DeviceState) (log : Log) (sound
         replies_to t same other = takes.replies_to driver first port s log sound holds puts p next fits kept none other
 
         passes : StreamedIf fresh a.host (GotPacket p ∷ log) port s.table lines
-        passes = λ ok. unknown_streams a.host log port s.table lines (x ok) holds.sound p whole none
+        passes = λ ok. unknown_streams a.host log port s.table lines (x ok) holds.fits.sound p whole none
 
         quiet : is_request p ≡ true → has_passed Device (flow_to_host h) log ≡ false
         quiet request = none_passed Device (flow_to_host h) log (asked_once Device first (seated driver port s log) sound once p next request)
@@ -261,7 +265,7 @@ module _ (driver : Seat) (first port : ℕ) (s : DeviceState) (log : Log) (sound
     packet_came true is =
         let k = takes.drops driver first port s log sound holds puts p next fits is in
         over (record s { dropped = counted s.dropped }) refl (record { runs = k.runs; holds = k.holds; puts = k.puts; overrun = k.overrun })
-        (λ ok. passes_streams a.host log port s.table lines (x ok) holds.sound p whole (idle is))
+        (λ ok. passes_streams a.host log port s.table lines (x ok) holds.fits.sound p whole (idle is))
     packet_came false is = by_entry is (entry_of s.table (flow_to_host h)) refl
 
     pub header_came_keeps : nat_lt (chain.readable - 44) h.len ≡ false → KeptBy (header_came chain h s) a

@@ -1,6 +1,6 @@
 -- What the device puts into the receive chain that it holds.
 use Rattle.std.proofs.Common.{◌≡◌, ℕ, ◌+◌, ◌^◌, ◌<◌, ◌==◌, not, Bool, true, false, cond, List, [], ◌∷◌, ◌++◌, length, take, Contains}
-use Rattle.std.proofs.Common.{Option, Some, None, refl, sym, ap, subst, ◌∙◌, arith}
+use Rattle.std.proofs.Common.{Option, Some, None, refl, sym, ap, subst, ◌∙◌}
 use Rattle.vs_contents.specs.CallTree.{Done, Ask, bind}
 use Rattle.vs_conn.specs.{End.owes_of, End.paid_of, End.ConnectionEnd, Headers.owed_header, declared.end.Owed.Owed}
 use Rattle.vs_conn.proofs.Frames.{paid_asked}
@@ -13,7 +13,7 @@ use Rattle.vs_ring_port.specs.{Chains.bytes_in, Chains.with_bytes, EndLog.EndLog
 use Rattle.vs_ring_port.specs.{Lists.after_return, declared.device_ring.Chain.Chain, declared.queue.Queue.Queue}
 use Rattle.vs_ring_port.specs.declared.queue.Queue.TheVariants.{Rx}
 use Rattle.laws_tables.specs.{Both.IsSound, Both.Seat, Steps.owed_on, Steps.paid, Steps.reply_on, Steps.with_end}
-use Rattle.laws_tables.proofs.{Slots.found_by, Keeps.owed_old}
+use Rattle.laws_tables.proofs.Slots.{found_by}
 use Rattle.vs_device_parts.specs.{Calls.CloseStream, Calls.DeviceTree, State.DeviceConnection, State.DeviceEntry, State.DeviceState}
 use Rattle.vs_device_parts.specs.Connections.{after_leaving, route_to_guest, stream_closed, with_connection}
 use Rattle.vs_device_parts.specs.Receiving.{Filling, after_paying, put_packet, put_reply_of, reply_header}
@@ -21,12 +21,12 @@ use Rattle.vs_device_parts.specs.Steps.{filling, puts_owed, puts_reply}
 use Rattle.laws_world.specs.{Answers.Around, Pages.is_held}
 use Rattle.laws_world.proofs.{DeviceTurns.same_cid, DeviceTurns.still, Fits.holds_header, Wire.PutsFit, Wire.not_payload, Chains.HoldsRx}
 use Rattle.laws_world.proofs.{Chains.both_written, Chains.bytes_written, Chains.first_written, Chains.held_written, DeviceEvents.KeptBy}
-use Rattle.laws_world.proofs.{DeviceEvents.Over, DeviceSide.DeviceHolds, DeviceSide.IsFresh, DeviceSide.Kept, DeviceSide.not_fresh}
-use Rattle.laws_world.proofs.{DeviceSide.seated, Streams.StreamedIf, Streams.ends_streams, Streams.leaves_streams, Streams.put_empty}
+use Rattle.laws_world.proofs.{DeviceEvents.Over, DeviceSide.DeviceHolds, DeviceSide.Kept, DeviceSide.seated}
+use Rattle.laws_device_bytes.proofs.Changing.{StreamedIf, ends_streams, leaves_streams, put_empty}
+use Rattle.laws_device_bytes.proofs.{Gives.pays_gives, HostCalls.closed_host}
 use Rattle.vs_outside.specs.Host.{HostContents, after_close}
 use Rattle.vs_proxy_parts.specs.State.{Handshake}
 use Rattle.laws_device_bytes.specs.Streamed.{gives}
-use Rattle.laws_device_bytes.proofs.{Gives.pays_gives, HostCalls.closed_host}
 use Rattle.vs_conn.specs.declared.end.Owed.TheVariants as owed
 use Rattle.laws_world.proofs.DeviceSide as side
 
@@ -125,12 +125,12 @@ module _ (driver : Seat) (first port : ℕ) (s : DeviceState) (a : Around) (soun
         (holds_header h k.puts.0 (not_payload e.value.end (route_to_guest s.cid e.flow) what)) (header_written c h has.1) t none k host streams log entries
 
     pays_other : (what : Owed) (v : DeviceConnection) → owes_of e.value.end ≡ Some what → v.end ≡ paid_of e.value.end what
-        → v.pending ≡ e.value.pending → IsFresh v
+        → v.pending ≡ e.value.pending
         → paid e.flow e.value.end what (side.part_of driver port s) ≡ with_end e.flow (paid_of e.value.end what) (side.part_of driver port s)
         → (last : Option ℕ)
         → Goes (record (with_connection e.slot v s) { chain = None; last_put = last }) (PutPacket (owed_on Device s.cid e.flow e.value.end what) ∷ a.log.entries)
-    pays_other what v owes end pending fresh stays_in last =
-        let k = side.pays_as driver first port s a.log.entries sound holds puts what e v there owes end pending fresh stays_in in
+    pays_other what v owes end pending stays_in last =
+        let k = side.pays_as driver first port s a.log.entries sound holds puts what e v there owes end pending stays_in in
         record { runs = k.runs; holds = k.holds; puts = k.puts; overrun = k.overrun }
 
     -- Its stream stays.
@@ -139,7 +139,7 @@ module _ (driver : Seat) (first port : ℕ) (s : DeviceState) (a : Around) (soun
         → StreamedIf fresh a.host (PutPacket (owed_on Device s.cid e.flow e.value.end what) ∷ a.log.entries) port (with_value s.table e.slot v) lines
     pays_streams what owes v stream client ok pending end =
         λ at_first. put_empty a.host a.log.entries port (with_value s.table e.slot v) lines (owed_on Device s.cid e.flow e.value.end what) refl
-        (ends_streams a.host a.log.entries port s.table lines (x at_first) holds.sound e there v stream client ok pending
+        (ends_streams a.host a.log.entries port s.table lines (x at_first) holds.fits.sound e there v stream client ok pending
         (λ on. pays_gives e.value.end what owes (ap (λ (y : ConnectionEnd). gives y) (sym end) ∙ on))
         (λ on. paid_asked e.value.end what (ap (λ (y : ConnectionEnd). y.state) (sym end) ∙ on)))
 
@@ -149,8 +149,7 @@ module _ (driver : Seat) (first port : ℕ) (s : DeviceState) (a : Around) (soun
 
     paying : (what : Owed) → owes_of e.value.end ≡ Some what → Paying what
     paying owed.Request owes = paid_over owed.Request owes _ refl
-        (pays_other owed.Request (record e.value { end = paid_of e.value.end owed.Request; asked_at = Some s.now }) owes refl refl
-        (not_fresh _ (owed_old e.value.end owed.Request owes)) refl (Some e.slot)) a.host
+        (pays_other owed.Request (record e.value { end = paid_of e.value.end owed.Request; asked_at = Some s.now }) owes refl refl refl (Some e.slot)) a.host
         (pays_streams owed.Request owes (record e.value { end = paid_of e.value.end owed.Request; asked_at = Some s.now }) refl refl refl refl refl) _ refl
     paying owed.Rst owes = by e.value.closed
       where
@@ -163,7 +162,7 @@ module _ (driver : Seat) (first port : ℕ) (s : DeviceState) (a : Around) (soun
             (without (with_value s.table e.slot (stream_closed e.value)) e.slot) lines
         left_on = λ ok. put_empty a.host a.log.entries port (without (with_value s.table e.slot (stream_closed e.value)) e.slot) lines
             (owed_on Device s.cid e.flow e.value.end owed.Rst) refl
-            (leaves_streams a.host a.log.entries port s.table lines (x ok) holds.sound e (stream_closed e.value) there)
+            (leaves_streams a.host a.log.entries port s.table lines (x ok) holds.fits.sound e (stream_closed e.value) there)
 
         by : (b : Bool) → KeptNow (bind {A = Filling × Bool} (bind (put_packet (owed_header e.value.end (route_to_guest s.cid e.flow) owed.Rst)
             (λ t. bind (cond b (Done (with_connection e.slot (stream_closed e.value) (record t { last_put = Some e.slot })))
@@ -175,8 +174,7 @@ module _ (driver : Seat) (first port : ℕ) (s : DeviceState) (a : Around) (soun
             (λ ok. closed_host e.value.stream a.host (PutPacket (owed_on Device s.cid e.flow e.value.end owed.Rst) ∷ a.log.entries) port
             (without (with_value s.table e.slot (stream_closed e.value)) e.slot) lines (left_on ok)) _ refl
     paying what owes = paid_over what owes _ refl
-        (pays_other what (record e.value { end = paid_of e.value.end what }) owes refl refl
-        (not_fresh _ (owed_old e.value.end what owes)) refl (Some e.slot)) a.host
+        (pays_other what (record e.value { end = paid_of e.value.end what }) owes refl refl refl (Some e.slot)) a.host
         (pays_streams what owes (record e.value { end = paid_of e.value.end what }) refl refl refl refl refl) _ refl
 
   held_still : (c : Chain) → s.chain ≡ Some c → Left (record s { chain = Some c }) a.lists a.log a.host

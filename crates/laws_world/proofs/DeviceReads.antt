@@ -7,7 +7,6 @@ use Rattle.vs_credit.specs.Credit.{free_of}
 use Rattle.vs_flow.specs.Table.{entry_under, with_value}
 use Rattle.vs_outside.specs.Host.{HostContents, after_read, fails_now, read_answer, stream_at, after_close, called, next_bytes}
 use Rattle.vs_outside.specs.declared.host_net.StreamRead.{StreamRead}
-use Rattle.vs_outside.specs.declared.host_net.StreamRead.TheVariants as read
 use Rattle.vs_ring_port.specs.{EndLog.EndLog, Lists.Rings, declared.device_ring.Chain.Chain}
 use Rattle.laws_tables.specs.{Both.IsSound, Both.Seat, Both.WantsCredit, Ends.is_new}
 use Rattle.laws_tables.proofs.Slots.{found_by}
@@ -17,13 +16,14 @@ use Rattle.vs_device_parts.specs.{Receiving.read_room, Receiving.read_with_chain
 use Rattle.vs_device_parts.specs.{State.DeviceState, Steps.filling, Steps.puts_payload, Steps.reads}
 use Rattle.laws_world.specs.Answers.{Around, bytes_with}
 use Rattle.laws_world.proofs.{Chains.HoldsRx, DeviceEvents.KeptBy, DeviceEvents.Over, DeviceSide.DeviceHolds, DeviceSide.Kept}
-use Rattle.laws_world.proofs.{DeviceSide.entry_fits, DeviceSide.not_fresh, DeviceSide.seated, DeviceTurns.still, Wire.PutsFit}
-use Rattle.laws_world.proofs.Streams.{StreamedIf, called_host, ends_streams, reads_streams, shuts_streams}
+use Rattle.laws_world.proofs.{DeviceSide.seated, DeviceTurns.still, Wire.PutsFit}
+use Rattle.laws_device_bytes.proofs.Changing.{StreamedIf, called_host, ends_streams, reads_streams, shuts_streams}
+use Rattle.laws_device_bytes.proofs.Short.{bytes_short, read_short}
+use Rattle.laws_device.proofs.{Filling.live_old, Changing.wants}
+use Rattle.vs_proxy_parts.specs.State.{Handshake}
+use Rattle.vs_outside.specs.declared.host_net.StreamRead.TheVariants as read
 use Rattle.laws_world.proofs.DeviceSide as side
 use Rattle.laws_world.proofs.DeviceStreams as streams
-use Rattle.laws_device.proofs.Filling.{live_old}
-use Rattle.laws_device_bytes.proofs.Short.{bytes_short, read_short}
-use Rattle.vs_proxy_parts.specs.State.{Handshake}
 
 module _ (driver : Seat) (first port : ℕ) (s : DeviceState) (a : Around) (sound : IsSound first (seated driver port s a.log.entries))
     (holds : DeviceHolds port s) (puts : PutsFit a.log.entries) (rx : HoldsRx s.chain a.log.held) (known : a.lists.cid < 2 ^ 64) (fresh : Type 0) (lines : List Handshake)
@@ -65,13 +65,13 @@ module _ (driver : Seat) (first port : ℕ) (s : DeviceState) (a : Around) (soun
     answered (read.Got n) less len =
         streams.payload_put driver first port s a sound holds puts rx known fresh lines x c is e there may (next_bytes e.value.stream n a.host) less len
         (after_read e.value.stream (read.Got n) a.host)
-        (λ ok. reads_streams a.host a.log.entries port s.table lines (x ok) holds.sound e there n s.cid)
+        (λ ok. reads_streams a.host a.log.entries port s.table lines (x ok) holds.fits.sound e there n s.cid)
     answered read.Again less len = chained s refl unmoved.kept (called a.host) (λ ok. called_host a.host a.log.entries port s.table lines (x ok))
     answered read.End less len =
         chained (with_connection e.slot (after_shut 2 s.now e.value) s) refl
         (streams.shuts driver first port s a sound holds puts rx known fresh lines x e there 2 s.now old) (called a.host)
         (λ ok. called_host a.host a.log.entries port (with_value s.table e.slot (after_shut 2 s.now e.value)) lines
-        (shuts_streams a.host a.log.entries port s.table lines (x ok) holds.sound e 2 s.now there))
+        (shuts_streams a.host a.log.entries port s.table lines (x ok) holds.fits.sound e 2 s.now there))
     answered read.Failed less len = closed_by e.value.closed
       where
         failed : StreamedIf fresh (called a.host) a.log.entries port (with_value s.table e.slot (cut_off e.value)) lines
@@ -132,9 +132,9 @@ module _ (driver : Seat) (first port : ℕ) (s : DeviceState) (a : Around) (soun
       by_credit o is e there may true =
           let c : DeviceConnection = record e.value { end = wanting_credit e.value.end } in
           let k = side.decides driver first port s a.log.entries sound holds puts e c WantsCredit there (live_old e.value.end may) refl tt
-          (entry_fits driver first port s a.log.entries sound holds puts e there).credit (not_fresh c (live_old e.value.end may)) in
+          (wants port s holds.fits e there (live_old e.value.end may)) in
           record {
-            streams = λ ok. ends_streams a.host a.log.entries port s.table lines (x ok) holds.sound e there (record e.value { end = wanting_credit e.value.end }) refl refl refl refl
+            streams = λ ok. ends_streams a.host a.log.entries port s.table lines (x ok) holds.fits.sound e there (record e.value { end = wanting_credit e.value.end }) refl refl refl refl
                 (λ on. on) (λ on. on);
             kept = record { runs = k.runs; holds = k.holds; puts = k.puts; overrun = k.overrun };
             chain = subst (λ (o : Option Chain). HoldsRx o a.log.held) is rx;

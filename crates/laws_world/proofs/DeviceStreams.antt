@@ -1,16 +1,14 @@
 -- What the device does with its connections' streams.
-use Rattle.std.proofs.Common.{◌≡◌, ℕ, ◌-◌, ◌^◌, ◌<◌, ◌≤◌, ◌==◌, ◌&&◌, ◌||◌, Bool, true, false, cond, List, [], ◌∷◌, ◌++◌, length, drop}
-use Rattle.std.proofs.Common.{Contains, Option, Some, None, refl, sym, ap, subst, ◌∙◌, arith, length-append}
-use Rattle.std.proofs.lemmas.Bool.Decides.{nat_tests}
-use Rattle.std.proofs.lemmas.List.{length-take, length-drop, append-nil}
+use Rattle.std.proofs.Common.{◌≡◌, ℕ, ◌-◌, ◌^◌, ◌<◌, ◌≤◌, ◌==◌, ◌&&◌, ◌||◌, Bool, true, false, cond, List, [], ◌∷◌, ◌++◌, length, Contains}
+use Rattle.std.proofs.Common.{Option, Some, None, refl, sym, ap, subst, ◌∙◌, arith, length-append}
+use Rattle.std.proofs.lemmas.{Bool.Decides.nat_tests, List.length-take, List.append-nil}
 use Rattle.vs_contents.specs.CallTree.{Done, Ask, bind}
-use Rattle.vs_conn.specs.{End.with_payload_sent, End.with_shut, Headers.payload_header}
+use Rattle.vs_conn.specs.{End.with_payload_sent, Headers.payload_header}
 use Rattle.vs_credit.specs.Credit.{free_of}
 use Rattle.vs_flow.specs.Table.{entry_under, with_value}
 use Rattle.vs_header.specs.Packet.{header_bytes}
 use Rattle.vs_outside.specs.Host.{after_write, fails_now, stream_at, write_answer, HostContents, after_close, after_failed}
 use Rattle.vs_outside.specs.{Host.after_shut_write, Host.called, declared.host_net.StreamWrite.StreamWrite}
-use Rattle.vs_outside.specs.declared.host_net.StreamWrite.TheVariants as write
 use Rattle.vs_page.specs.{Held.packet_held, Log.Device, declared.log.LogEntry.TheVariants.PutPacket}
 use Rattle.vs_ring_port.specs.{EndLog.EndLog, Lists.Rings, declared.device_ring.Chain.Chain}
 use Rattle.laws_tables.specs.{Both.Aborts, Both.Forwards, Both.IsSound, Both.Seat, Both.Shuts, Ends.is_new, Steps.payload_on}
@@ -21,18 +19,17 @@ use Rattle.vs_device_parts.specs.{Connections.with_fault, Receiving.may_read, Re
 use Rattle.vs_device_parts.specs.{State.DeviceEntry, State.DeviceState, Streams.Writing, Streams.closing, Streams.is_written_out}
 use Rattle.vs_device_parts.specs.{Streams.tick_slot, Streams.to_write, Streams.write_answered, Streams.write_pending, Steps.filling}
 use Rattle.vs_device_parts.specs.Steps.{shuts_write, writes, writes_on, writing}
-use Rattle.laws_device.proofs.{Filling.can_send, Filling.live_old, Fits.fits_forwarded, Fits.fits_shut, Changing.forward_old}
-use Rattle.laws_device.proofs.Changing.{shut_old}
-use Rattle.laws_device_bytes.proofs.{Short.write_short, HostCalls.closed_host}
+use Rattle.laws_device.proofs.{Filling.can_send, Filling.live_old, Tabling.entry_fits}
+use Rattle.laws_device_bytes.proofs.{Short.write_short, HostCalls.closed_host, Changing.StreamedIf, Changing.called_host}
+use Rattle.laws_device_bytes.proofs.Changing.{cuts_streams, ends_streams, failed_host, shut_write_host, shuts_streams, writes_streams}
 use Rattle.laws_world.specs.Answers.{Around}
-use Rattle.laws_world.proofs.{Chains.HoldsRx, DeviceEvents.KeptBy, DeviceEvents.Over, DeviceSide.DeviceHolds, DeviceSide.IsFresh}
-use Rattle.laws_world.proofs.DeviceSide.{Kept, entry_fits, entry_fresh, new_unread, not_fresh, seated}
-use Rattle.laws_world.proofs.{DeviceTurns.still, DeviceTurns.quiet, Fits.holds_payload, Wire.PutsFit, Streams.StreamedIf}
-use Rattle.laws_world.proofs.Streams.{called_host, cuts_streams, ends_streams, failed_host, shut_write_host, shuts_streams, writes_streams}
+use Rattle.laws_world.proofs.{Chains.HoldsRx, DeviceEvents.KeptBy, DeviceEvents.Over, DeviceSide.DeviceHolds, DeviceSide.Kept}
+use Rattle.laws_world.proofs.{DeviceSide.seated, DeviceTurns.still, DeviceTurns.quiet, Fits.holds_payload, Wire.PutsFit}
+use Rattle.vs_proxy_parts.specs.State.{Handshake}
+use Rattle.vs_outside.specs.declared.host_net.StreamWrite.TheVariants as write
 use Rattle.laws_world.proofs.DevicePuts as puts_of
 use Rattle.laws_world.proofs.DeviceSide as side
-use Rattle.laws_device.specs.Honest.{HoldsBytes}
-use Rattle.vs_proxy_parts.specs.State.{Handshake}
+use Rattle.laws_device.proofs.Changing as changing
 
 module _ (driver : Seat) (first port : ℕ) (s : DeviceState) (a : Around) (sound : IsSound first (seated driver port s a.log.entries))
     (holds : DeviceHolds port s) (puts : PutsFit a.log.entries) (rx : HoldsRx s.chain a.log.held) (known : a.lists.cid < 2 ^ 64) (fresh : Type 0) (lines : List Handshake)
@@ -56,23 +53,14 @@ module _ (driver : Seat) (first port : ℕ) (s : DeviceState) (a : Around) (soun
   silent = quiet driver first port s a sound holds puts rx known fresh lines x
 
   module _ (e : DeviceEntry) (there : Contains s.table.entries e) where
-    fits : HoldsBytes e.value.end.credit (length e.value.pending)
-    fits = (entry_fits driver first port s a.log.entries sound holds puts e there).credit
-
     -- The connection is over, as for a host call that failed.
     pub cuts : is_new e.value.end ≡ false → Kept driver port s a.log.entries port (with_connection e.slot (cut_off e.value) s) a.log.entries
-    cuts old = side.decides driver first port s a.log.entries sound holds puts e (cut_off e.value) Aborts there old refl tt
-        (record { alloc = fits.alloc; fwd = fits.fwd; rx = fits.rx; unread = omega arith; within = fits.within }) (not_fresh (cut_off e.value) refl)
+    cuts old = side.decides driver first port s a.log.entries sound holds puts e (cut_off e.value) Aborts there old refl tt (changing.cuts port s holds.fits e there old)
 
     pub shuts : (bits now : ℕ) → is_new e.value.end ≡ false
         → Kept driver port s a.log.entries port (with_connection e.slot (after_shut bits now e.value) s) a.log.entries
     shuts bits now old = side.decides driver first port s a.log.entries sound holds puts e (after_shut bits now e.value) (Shuts bits) there old refl tt
-        (subst (λ (u : ℕ). HoldsBytes (after_shut bits now e.value).end.credit u) (kept_by (with_shut e.value.end bits).own.receive)
-        (fits_shut e.value.end bits (length e.value.pending) fits)) (not_fresh (after_shut bits now e.value) (shut_old e.value.end bits old))
-      where
-        kept_by : (b : Bool) → cond b 0 (length e.value.pending) ≡ length (cond b [] e.value.pending)
-        kept_by true = refl
-        kept_by false = refl
+        (changing.shuts port s holds.fits e there bits now old)
 
     -- Its stream is closed too.
     pub cut_over : is_new e.value.end ≡ false → (t : DeviceState) → t.chain ≡ s.chain → (t.table ≡ s.table) × (t.replies ≡ s.replies) × (t.cid ≡ s.cid) × (t.overrun ≡ s.overrun)
@@ -89,7 +77,7 @@ module _ (driver : Seat) (first port : ℕ) (s : DeviceState) (a : Around) (soun
 
     -- What its stream took and gave stays.
     pub cut_streams : StreamedIf fresh a.host a.log.entries port (with_value s.table e.slot (cut_off e.value)) lines
-    cut_streams = λ ok. cuts_streams a.host a.log.entries port s.table lines (x ok) holds.sound e there
+    cut_streams = λ ok. cuts_streams a.host a.log.entries port s.table lines (x ok) holds.fits.sound e there
 
     pub cut_closed : (host : HostContents) → StreamedIf fresh host a.log.entries port (with_value s.table e.slot (cut_off e.value)) lines
         → StreamedIf fresh (after_close e.value.stream host) a.log.entries port (with_value s.table e.slot (cut_off e.value)) lines
@@ -99,19 +87,18 @@ module _ (driver : Seat) (first port : ℕ) (s : DeviceState) (a : Around) (soun
   pub tick_keeps : (slot : ℕ) → KeptNow (tick_slot slot s)
   tick_keeps slot = by (entry_under s.table slot) refl
     where
-      late_old : (e : DeviceEntry) → IsFresh e.value → is_timed_out s.now e.value ≡ true → (b : Bool) → is_new e.value.end ≡ b → is_new e.value.end ≡ false
-      late_old e fresh late true new =
-          let asked = fresh.asked_at new in
-          let shut = fresh.shut_at new in
+      late_old : (e : DeviceEntry) → Contains s.table.entries e → is_timed_out s.now e.value ≡ true → (b : Bool) → is_new e.value.end ≡ b → is_new e.value.end ≡ false
+      late_old e there late true new =
+          let n = (entry_fits s holds.fits e there).new new in
           let never : (is_asked e.value.end.state && is_late s.now None || is_late s.now None) ≡ true =
-          ap (λ (o : Option ℕ). is_asked e.value.end.state && is_late s.now o || is_late s.now None) (sym asked)
-          ∙ ap (λ (o : Option ℕ). is_asked e.value.end.state && is_late s.now e.value.asked_at || is_late s.now o) (sym shut) ∙ late in
+          ap (λ (o : Option ℕ). is_asked e.value.end.state && is_late s.now o || is_late s.now None) (sym n.asked_at)
+          ∙ ap (λ (o : Option ℕ). is_asked e.value.end.state && is_late s.now e.value.asked_at || is_late s.now o) (sym n.shut_at) ∙ late in
           absurd (no_time (is_asked e.value.end.state) never)
         where
           no_time : (b : Bool) → (b && false || false) ≡ true → ⊥
           no_time true is = cc
           no_time false is = cc
-      late_old e fresh late false old = old
+      late_old e there late false old = old
 
       timed : (e : DeviceEntry) → Contains s.table.entries e → (b : Bool) → is_timed_out s.now e.value ≡ b
           → KeptNow (cond b (cond e.value.closed (Done (with_connection e.slot (cut_off e.value) s))
@@ -120,7 +107,7 @@ module _ (driver : Seat) (first port : ℕ) (s : DeviceState) (a : Around) (soun
       timed e there true late = closed_by e.value.closed
         where
           old : is_new e.value.end ≡ false
-          old = late_old e (entry_fresh driver first port s a.log.entries sound holds puts e there) late (is_new e.value.end) refl
+          old = late_old e there late (is_new e.value.end) refl
 
           closed_by : (b : Bool) → KeptNow (cond b (Done (with_connection e.slot (cut_off e.value) s))
               (Ask (CloseStream e.value.stream) (λ _. Done (with_connection e.slot (cut_off e.value) s))))
@@ -143,12 +130,12 @@ module _ (driver : Seat) (first port : ℕ) (s : DeviceState) (a : Around) (soun
           → is_new e.value.end ≡ false
       some_old e there some false old = old
       some_old e there some true new =
-          let none = (entry_fresh driver first port s a.log.entries sound holds puts e there).ok_line new in
-          let few = new_unread driver first port s a.log.entries sound holds puts e there new in
+          let n = (entry_fits s holds.fits e there).new new in
           let len = length-take 4096 (e.value.ok_line ++ e.value.pending) in
           let both = length-append e.value.ok_line e.value.pending in
-          let zero : length e.value.ok_line ≡ 0 = ap length none in
-          let nothing : length (to_write e.value) ≡ 0 = omega (arith, few, len, both, zero) in
+          let none : length e.value.ok_line ≡ 0 = ap length n.ok_line in
+          let few : length e.value.pending ≡ 0 = ap length n.pending in
+          let nothing : length (to_write e.value) ≡ 0 = omega (arith, few, len, both, none) in
           absurd (grind (arith, nat_tests, some, nothing))
 
       took : (e : DeviceEntry) → Contains s.table.entries e → is_new e.value.end ≡ false → (n : ℕ) → n ≤ length (to_write e.value)
@@ -158,16 +145,13 @@ module _ (driver : Seat) (first port : ℕ) (s : DeviceState) (a : Around) (soun
           let len = length-take 4096 (e.value.ok_line ++ e.value.pending) in
           let both = length-append e.value.ok_line e.value.pending in
           let few : payload ≤ length e.value.pending = omega (arith, less, len, both) in
-          let fit = fits e there in
-          let left : length e.value.pending - payload ≡ length (drop payload e.value.pending) = omega (arith, length-drop payload e.value.pending) in
+          let fit = (entry_fits s holds.fits e there).bytes in
           side.decides driver first port s a.log.entries sound holds puts e (after_written n e.value) (Forwards payload) there old refl
-          (omega (arith, few, fit.unread))
-          (subst (λ (u : ℕ). HoldsBytes (after_written n e.value).end.credit u) left (fits_forwarded e.value.end.credit payload (length e.value.pending) fit few))
-          (not_fresh (after_written n e.value) (forward_old e.value.end payload old))
+          (omega (arith, few, fit.unread)) (changing.writes port s holds.fits e there n less old)
 
       took_streams : (e : DeviceEntry) (there : Contains s.table.entries e) (n : ℕ) → n ≤ length (to_write e.value)
           → StreamedIf fresh (after_write e.value.stream (to_write e.value) (write.Took n) a.host) a.log.entries port (with_value s.table e.slot (after_written n e.value)) lines
-      took_streams e there n less = λ ok. writes_streams a.host a.log.entries port s.table lines (x ok) holds.sound e there n less
+      took_streams e there n less = λ ok. writes_streams a.host a.log.entries port s.table lines (x ok) holds.fits.sound e there n less
 
       answered : (e : DeviceEntry) → Contains s.table.entries e → is_new e.value.end ≡ false → (answer : StreamWrite)
           → write_answer e.value.stream (length (to_write e.value)) a.host ≡ answer
@@ -179,7 +163,7 @@ module _ (driver : Seat) (first port : ℕ) (s : DeviceState) (a : Around) (soun
       answered e there old write.Again is = silent s refl unmoved.kept (called a.host) (λ ok. called_host a.host a.log.entries port s.table lines (x ok))
       answered e there old write.Closed is = silent (with_connection e.slot (after_shut 1 s.now e.value) s) refl (shuts e there 1 s.now old) (called a.host)
           (λ ok. called_host a.host a.log.entries port (with_value s.table e.slot (after_shut 1 s.now e.value)) lines
-          (shuts_streams a.host a.log.entries port s.table lines (x ok) holds.sound e 1 s.now there))
+          (shuts_streams a.host a.log.entries port s.table lines (x ok) holds.fits.sound e 1 s.now there))
       answered e there old write.Failed is = closed_by e.value.closed
         where
           failed : StreamedIf fresh (after_failed a.host) a.log.entries port (with_value s.table e.slot (cut_off e.value)) lines
@@ -227,18 +211,21 @@ module _ (driver : Seat) (first port : ℕ) (s : DeviceState) (a : Around) (soun
       kept_streams e there at =
           let same : e.slot ≡ slot = grind (arith, nat_tests, at) in
           subst (λ (n : ℕ). StreamedIf fresh a.host a.log.entries port (with_value s.table n (record e.value { write_shut = true })) lines) same
-          (λ ok. ends_streams a.host a.log.entries port s.table lines (x ok) holds.sound e there (record e.value { write_shut = true }) refl refl refl refl
+          (λ ok. ends_streams a.host a.log.entries port s.table lines (x ok) holds.fits.sound e there (record e.value { write_shut = true }) refl refl refl refl
           (λ on. on) (λ on. on))
 
       kept : (e : DeviceEntry) → Contains s.table.entries e → (e.slot == slot) ≡ true
           → Kept driver port s a.log.entries port (with_connection slot (record e.value { write_shut = true }) s) a.log.entries
       kept e there at =
           let c : DeviceConnection = record e.value { write_shut = true } in
-          let fresh = entry_fresh driver first port s a.log.entries sound holds puts e there in
+          let entry = entry_fits s holds.fits e there in
           let same : e.slot ≡ slot = grind (arith, nat_tests, at) in
           subst (λ (n : ℕ). Kept driver port s a.log.entries port (with_connection n c s) a.log.entries) same
-          (side.unseen driver first port s a.log.entries sound holds puts e c there refl (omega arith)
-          (record { ok_line = fresh.ok_line; asked_at = fresh.asked_at; shut_at = fresh.shut_at }))
+          (side.unseen driver first port s a.log.entries sound holds puts e c there refl (changing.unseen port s holds.fits e there c refl (record {
+            bytes = entry.bytes;
+            new = λ new. let n = entry.new new in
+                record { by_client = n.by_client; ok_line = n.ok_line; pending = n.pending; asked_at = n.asked_at; shut_at = n.shut_at };
+          })))
 
       by : (o : Option DeviceEntry) → entry_under s.table slot ≡ o → KeptNow (bind (elim o as (λ _. DeviceTree Writing) [
         | None ↦ Done (writing s)

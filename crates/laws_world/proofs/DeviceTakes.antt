@@ -1,55 +1,35 @@
 -- What the device takes and opens is among the steps of the two ends.
-use Rattle.std.proofs.{lemmas.Bool.Decides.nat_tests, lemmas.Grind.common_steps, lemmas.List.Elements.All-push}
-use Rattle.std.proofs.Common.{◌≡◌, ℕ, ◌+◌, ◌^◌, ◌<◌, ◌≤◌, ◌&&◌, Bool, true, false, cond, List, [], ◌∷◌, length, Contains, None, refl, sym}
-use Rattle.std.proofs.Common.{ap, inl, ◌∙◌, arith}
+use Rattle.std.proofs.{lemmas.Bool.Decides.nat_tests, lemmas.Grind.common_steps, lemmas.List.Elements.All-push, Common.◌≡◌, Common.ℕ}
+use Rattle.std.proofs.Common.{◌+◌, ◌^◌, ◌<◌, ◌≤◌, ◌&&◌, Bool, true, false, cond, List, [], ◌∷◌, Contains, None, refl, sym, ap, inl, ◌∙◌}
+use Rattle.std.proofs.Common.{arith}
 use Rattle.vs_conn.specs.End.{ConnectionEnd, answering, asked, end_after, is_of, is_reset}
 use Rattle.vs_conn.proofs.Frames.{got_kind}
 use Rattle.vs_flow.specs.{Flow.host_flow, Flow.is_assigned, Table.entry_of, Table.has_place, Table.with_value, Table.without, Table.refusal}
 use Rattle.vs_flow.specs.declared.flow.Flow.{Flow}
-use Rattle.vs_limits.specs.declared.TheConstants.{ASSIGNED_FIRST, ASSIGNED_LAST, HOST_CID, BUF_ALLOC}
-use Rattle.vs_flow.proofs.Tables.{with_entry_sound, IsAccepted}
-use Rattle.vs_header.specs.{declared.Header.Header, declared.Kind.TheVariants.Stream}
+use Rattle.vs_limits.specs.declared.TheConstants.{ASSIGNED_FIRST, ASSIGNED_LAST, BUF_ALLOC}
+use Rattle.vs_flow.proofs.Tables.{IsAccepted}
+use Rattle.vs_header.specs.declared.Kind.TheVariants.{Stream}
 use Rattle.laws_history.specs.{Packets.is_request, Packets.is_rst, declared.packet.Packet.Packet}
 use Rattle.vs_page.specs.{Held.FitsWire, Log.Log, Log.Device, Log.IsNextPacket, Log.flow_to_host, Log.side_by, Open.is_dropped}
 use Rattle.vs_page.specs.declared.log.LogEntry.TheVariants.{GotPacket}
 use Rattle.vs_replies.specs.Owed.{reply_to}
-use Rattle.laws_tables.specs.Ends.{Ends, FlowEnd, answer_kind, ends_of, entries_of, is_new, replaced}
-use Rattle.laws_tables.specs.Steps.{accepted, asking, forgotten, is_kept, left, refused, with_clean, with_end}
+use Rattle.laws_tables.specs.{Ends.Ends, Ends.FlowEnd, Ends.answer_kind, Ends.ends_of, Ends.entries_of, Ends.replaced, Steps.accepted}
+use Rattle.laws_tables.specs.Steps.{asking, forgotten, is_kept, left, refused, with_clean, with_end}
 use Rattle.laws_tables.specs.Both.{Asks, IsSound, Seat, after_packet, answered}
 use Rattle.laws_tables.proofs.{Slots.added_slot, Slots.changed_slot, Slots.no_entry, Slots.one_end, Steps.port_next}
 use Rattle.vs_device_parts.specs.Connections.{new_connection, with_client, with_connection, with_dialed, with_opened, with_reply}
 use Rattle.vs_device_parts.specs.State.{DeviceConnection, DeviceEntry, DeviceState}
-use Rattle.laws_world.proofs.{Entries.ReplyFits, Entries.FlowFits, Entries.fits_with_entry, Runs.one_step, Runs.takes_step, Wire.PutsFit}
-use Rattle.laws_world.proofs.DeviceSide.{DeviceHolds, FreshEntry, IsFresh, Kept, at_part, end_in, entry_fits, held_in, holds_changed}
-use Rattle.laws_world.proofs.DeviceSide.{left_holds, left_part, not_fresh, part_of, seated}
-use Rattle.laws_device.specs.Honest.{HoldsBytes}
-use Rattle.laws_device.proofs.Hearing.{still_new}
+use Rattle.laws_world.proofs.{Runs.one_step, Runs.takes_step, Wire.PutsFit, DeviceSide.DeviceHolds, DeviceSide.Kept, DeviceSide.at_part}
+use Rattle.laws_world.proofs.DeviceSide.{part_of, seated}
+use Rattle.laws_device.specs.Honest.{IsFitFlow, IsFitReply, end_in}
+use Rattle.laws_device.proofs.Tabling.{IsFitConnection, begun_fits, connection_fits, entry_fits, left_ends, left_fits, opening_fits}
 use Rattle.vs_flow.proofs.Tables.{accepted as free_flow}
-
--- What a packet leaves of a connection whose REQUEST isn't put.
-pub heard_fresh : (old c : DeviceConnection) (h : Header) → c.end ≡ end_after old.end h → c.ok_line ≡ old.ok_line → c.asked_at ≡ old.asked_at
-    → c.shut_at ≡ old.shut_at → IsFresh old → IsFresh c
-heard_fresh old c h is ok asked shut fresh = record {
-  ok_line = λ new. ok ∙ fresh.ok_line (was new);
-  asked_at = λ new. asked ∙ fresh.asked_at (was new);
-  shut_at = λ new. shut ∙ fresh.shut_at (was new);
-}
-  where
-    was : is_new c.end ≡ true → is_new old.end ≡ true
-    was new = still_new old.end h (ap is_new (sym is) ∙ new)
 
 module _ (driver : Seat) (first port : ℕ) (s : DeviceState) (log : Log) (sound : IsSound first (seated driver port s log))
     (holds : DeviceHolds port s) (puts : PutsFit log) where
-  open_holds : (f : Flow) (c : DeviceConnection) (next : ℕ) → IsAccepted s.table f → FlowFits f → f.peer ≡ HOST_CID → HoldsBytes c.end.credit (length c.pending) → c.end.kind ≡ Stream
-      → IsFresh c → ASSIGNED_FIRST ≤ next → DeviceHolds next (with_opened f c s)
-  open_holds f c next free flow peer fits kind fresh above = record {
-    sound = with_entry_sound s.table f c holds.sound free;
-    ends = fits_with_entry end_in held_in s.table f c flow peer fits kind holds.ends;
-    fresh = All-push FreshEntry s.table.entries (record { slot = s.table.given; flow = f; value = c }) holds.fresh fresh;
-    owed = holds.owed;
-    port = above;
-    known = holds.known;
-  }
+  open_holds : (f : Flow) (c : DeviceConnection) (next : ℕ) → IsAccepted s.table f → IsFitFlow f → IsFitConnection c → c.end.kind ≡ Stream
+      → ASSIGNED_FIRST ≤ next → DeviceHolds next (with_opened f c s)
+  open_holds f c next free flow fits kind above = record { fits = opening_fits s holds.fits f c free flow fits kind; port = above }
 
   -- A client's connection opens, which owes its REQUEST.
   pub asks : (guest stream : ℕ) → IsAccepted s.table (host_flow guest port) → guest < 2 ^ 32 → port ≤ ASSIGNED_LAST
@@ -65,9 +45,10 @@ module _ (driver : Seat) (first port : ℕ) (s : DeviceState) (log : Log) (sound
             (ap (λ (n : ℕ). at_part driver (record (asking Device f Stream (part_of driver port s)) { next_port = n }) log) (port_next port)
             ∙ ap (λ (entries : List FlowEnd). at_part driver (record (part_of driver port s) { entries = entries; next_port = port + 1 }) log)
             (sym (added_slot end_in s.table f c)));
-        holds = open_holds f c (port + 1) free (record { guest = fits; host = omega (arith, last); peer = omega arith }) refl
-            (record { alloc = omega arith; fwd = omega arith; rx = omega arith; unread = omega arith; within = omega arith }) refl
-            (record { ok_line = λ new. refl; asked_at = λ new. refl; shut_at = λ new. refl }) (omega (arith, holds.port));
+        holds = open_holds f c (port + 1) free (record { guest = fits; host = omega (arith, last); peer = omega arith }) (record {
+          bytes = record { alloc = omega arith; fwd = omega arith; rx = omega arith; unread = omega arith; within = omega arith };
+          new = λ new. record { by_client = refl; ok_line = refl; pending = refl; asked_at = refl; shut_at = refl };
+        }) refl (omega (arith, holds.port));
         puts = puts;
       }
 
@@ -100,9 +81,6 @@ module _ (driver : Seat) (first port : ℕ) (s : DeviceState) (log : Log) (sound
           (after_packet Device (ends_of (flow_to_host p.header) (entries_of end_in s.table)) p (flow_to_host p.header) answer (part_of driver port s)))) got) kept
           ∙ ap (λ (es : List ConnectionEnd). at_part driver (forgotten (after_packet Device es p (flow_to_host p.header) answer (part_of driver port s))) got) is
 
-      peer_is : (let f : Flow = flow_to_host p.header in f.peer) ≡ HOST_CID
-      peer_is = grind (arith, nat_tests, common_steps, kept)
-
       -- A packet of a connection of the table.
       module _ (e : DeviceEntry) (there : Contains s.table.entries e) (flow : flow_to_host p.header ≡ e.flow) where
         abbrev leaves_as : Bool → Ends
@@ -113,11 +91,11 @@ module _ (driver : Seat) (first port : ℕ) (s : DeviceState) (log : Log) (sound
         none_kept false = refl
 
         has_it : ends_of (flow_to_host p.header) (entries_of end_in s.table) ≡ e.value.end ∷ []
-        has_it = ap (λ (g : Flow). ends_of g (entries_of end_in s.table)) flow ∙ one_end end_in s.table e holds.sound there
+        has_it = ap (λ (g : Flow). ends_of g (entries_of end_in s.table)) flow ∙ one_end end_in s.table e holds.fits.sound there
 
-        pub stays_with : (c : DeviceConnection) → c.end ≡ end_after e.value.end p.header → HoldsBytes c.end.credit (length c.pending) → IsFresh c
+        pub stays_with : (c : DeviceConnection) → c.end ≡ end_after e.value.end p.header → IsFitConnection c
             → (is_reset p.header && is_of e.value.end.kind p.header) ≡ false → Goes (with_connection e.slot c s)
-        stays_with c is credit fresh goes_on = record {
+        stays_with c is fit goes_on = record {
           overrun = refl;
           runs = takes_step Device p false (seated driver port s log) (seated driver port (with_connection e.slot c s) got) next
               (taken_as (e.value.end ∷ []) false has_it
@@ -125,9 +103,12 @@ module _ (driver : Seat) (first port : ℕ) (s : DeviceState) (log : Log) (sound
               (with_end (flow_to_host p.header) (end_after e.value.end p.header) (part_of driver port s)))) got) goes_on
               ∙ ap (λ (g : Flow). at_part driver (with_end g (end_after e.value.end p.header) (part_of driver port s)) got) flow
               ∙ ap (λ (entries : List FlowEnd). at_part driver (record (part_of driver port s) { entries = entries }) got)
-              (ap (λ (x : ConnectionEnd). replaced e.flow x (entries_of end_in s.table)) (sym is) ∙ sym (changed_slot end_in s.table e c holds.sound there)));
-          holds = holds_changed driver first port s log sound holds puts e.slot c credit
-              (ap (λ (x : ConnectionEnd). x.kind) is ∙ got_kind e.value.end p.header ∙ (entry_fits driver first port s log sound holds puts e there).kind) fresh;
+              (ap (λ (x : ConnectionEnd). replaced e.flow x (entries_of end_in s.table)) (sym is) ∙ sym (changed_slot end_in s.table e c holds.fits.sound there)));
+          holds = record {
+            fits = connection_fits s holds.fits e.slot c fit
+                (ap (λ (x : ConnectionEnd). x.kind) is ∙ got_kind e.value.end p.header ∙ (entry_fits s holds.fits e there).kind);
+            port = holds.port;
+          };
           puts = puts;
         }
 
@@ -141,8 +122,8 @@ module _ (driver : Seat) (first port : ℕ) (s : DeviceState) (log : Log) (sound
               (with_end (flow_to_host p.header) (end_after e.value.end p.header) (part_of driver port s)))) got) over
               ∙ ap (λ (part : Ends). at_part driver part got) (none_kept (is_kept Device (flow_to_host p.header) e.value.end p))
               ∙ ap (λ (g : Flow). at_part driver (left g (part_of driver port s)) got) flow
-              ∙ ap (λ (part : Ends). at_part driver part got) (left_part driver first port s log sound holds puts e c there));
-          holds = left_holds driver first port s log sound holds puts e.slot c;
+              ∙ ap (λ (part : Ends). at_part driver part got) (sym (left_ends s holds.fits e there port c)));
+          holds = record { fits = left_fits s holds.fits e there c; port = holds.port };
           puts = puts;
         }
 
@@ -165,9 +146,8 @@ module _ (driver : Seat) (first port : ℕ) (s : DeviceState) (log : Log) (sound
                   ∙ ap (λ (n : ℕ). at_part driver (forgotten (accepted f (answer_kind n) p.header (part_of driver port s))) got) kind
                   ∙ ap (λ (entries : List FlowEnd). at_part driver (record (part_of driver port s) { entries = entries }) got)
                   (sym (added_slot end_in s.table f c)));
-              holds = open_holds f c port (free_flow s.table f free) (record { guest = fits.src_port; host = fits.dst_port; peer = fits.dst_cid }) peer_is
-                  (record { alloc = omega arith; fwd = omega arith; rx = omega arith; unread = omega arith; within = omega arith }) refl
-                  (not_fresh c refl) holds.port;
+              holds = open_holds f c port (free_flow s.table f free) (record { guest = fits.src_port; host = fits.dst_port; peer = fits.dst_cid })
+                  (begun_fits c (record { alloc = omega arith; fwd = omega arith; rx = omega arith; unread = omega arith; within = omega arith }) refl) refl holds.port;
               puts = puts;
             }
           where
@@ -187,12 +167,14 @@ module _ (driver : Seat) (first port : ℕ) (s : DeviceState) (log : Log) (sound
                   ∙ ap (λ (b : Bool). at_part driver (forgotten (cond b (part_of driver port s) (answered (is_request p) false p f (part_of driver port s)))) got) other
                   ∙ answered_none (is_request p));
               holds = record {
-                sound = holds.sound;
-                ends = holds.ends;
-                fresh = holds.fresh;
-                owed = All-push ReplyFits s.replies (reply_to f p.header) holds.owed (record { guest = fits.src_port; host = fits.dst_port; peer = fits.dst_cid });
+                fits = record {
+                  cid_fits = holds.fits.cid_fits;
+                  sound = holds.fits.sound;
+                  entries = holds.fits.entries;
+                  owed = All-push IsFitReply s.replies (reply_to f p.header) holds.fits.owed
+                      (record { guest = fits.src_port; host = fits.dst_port; peer = fits.dst_cid });
+                };
                 port = holds.port;
-                known = holds.known;
               };
               puts = puts;
             }

@@ -20,7 +20,8 @@ use Rattle.vs_device_parts.specs.Steps.{chain_came, filling, header_came, puts_e
 use Rattle.vs_limits.specs.declared.TheConstants.{DEVICE_REPLIES}
 use Rattle.laws_world.specs.{Answers.Around, Answers.answer_around, Pages.AllHold, Pages.PageHolds, Pages.is_held}
 use Rattle.laws_world.proofs.{DeviceSide.DeviceHolds, DeviceSide.Kept, DeviceSide.seated, Wire.PutsFit, Wire.next_fits}
-use Rattle.laws_world.proofs.{Streams.StreamedIf, Streams.payload_in, Once.AreOnce}
+use Rattle.laws_world.proofs.Once.{AreOnce}
+use Rattle.laws_device_bytes.proofs.Changing.{StreamedIf, payload_in}
 use Rattle.laws_world.proofs.Chains.{HoldsRx, bytes_written, first_written, held_more, held_without, held_written}
 use Rattle.laws_world.proofs.DeviceEvents.{KeptBy, Over, header_came_keeps}
 use Rattle.std.specs.List.{All}

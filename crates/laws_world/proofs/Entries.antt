@@ -1,14 +1,13 @@
 -- Entries of a table whose ends fit, through changes of the table.
-use Rattle.std.proofs.Common.{◌≡◌, ℕ, ◌^◌, ◌<◌, ◌==◌, Bool, true, false, not, cond, List, [], ◌∷◌, map, filter, Contains, refl, ap, subst}
-use Rattle.std.proofs.Common.{suc, ◌∙◌, arith}
-use Rattle.std.proofs.lemmas.List.Elements.{All-filter, All-push, All-map}
+use Rattle.std.proofs.Common.{◌≡◌, ℕ, ◌^◌, ◌<◌, ◌==◌, Bool, true, false, not, cond, List, [], ◌∷◌, map, Contains, refl, ap, subst, suc, ◌∙◌}
+use Rattle.std.proofs.{Common.arith, lemmas.List.Elements.All-filter, lemmas.List.Elements.All-push, lemmas.List.Elements.All-map}
 use Rattle.std.specs.List.{All}
 use Rattle.vs_conn.specs.End.{ConnectionEnd}
 use Rattle.vs_header.specs.declared.Kind.TheVariants.{Stream}
-use Rattle.vs_flow.specs.{declared.flow.Flow.Flow, declared.table.Entry.Entry}
-use Rattle.vs_flow.specs.{Table.Table, Table.revalued, Table.with_value, Table.without, Table.with_entry, Table.next_entry, Flow.same_flow}
+use Rattle.vs_flow.specs.{declared.flow.Flow.Flow, declared.table.Entry.Entry, Table.Table, Table.revalued, Table.with_value, Table.without}
+use Rattle.vs_flow.specs.{Table.with_entry, Table.next_entry, Flow.same_flow}
 use Rattle.vs_limits.specs.declared.TheConstants.{HOST_CID}
-use Rattle.vs_flow.proofs.{Tables.revalued-slot, Entries.same_flow_true}
+use Rattle.vs_flow.proofs.Entries.{same_flow_true}
 use Rattle.laws_tables.specs.Ends.{ends_of, entries_of}
 use Rattle.vs_replies.specs.declared.Reply.{Reply}
 use Rattle.laws_device.specs.Honest.{HoldsBytes}
@@ -67,18 +66,3 @@ module _ {T : Type 0} (end_of : T → ConnectionEnd) (held_of : T → ℕ) where
   pub host_of : (t : Table T) (f : Flow) (e : ConnectionEnd) → All (λ x. x.flow.peer ≡ HOST_CID) t.entries → ends_of f (entries_of end_of t) ≡ e ∷ []
       → f.peer ≡ HOST_CID
   host_of t f e all has = host_among f e t.entries all has
-
-  -- A change of an entry that then leaves.
-  same_kept : (slot : ℕ) (v : T) (es : List (Entry T))
-      → filter (λ e. not (e.slot == slot)) (map (revalued slot v) es) ≡ filter (λ e. not (e.slot == slot)) es
-  same_kept slot v [] = refl
-  same_kept slot v (e ∷ es) = by (e.slot == slot) refl (same_kept slot v es)
-    where
-      by : (b : Bool) → (e.slot == slot) ≡ b
-          → filter (λ x. not (x.slot == slot)) (map (revalued slot v) es) ≡ filter (λ x. not (x.slot == slot)) es
-          → filter (λ x. not (x.slot == slot)) (revalued slot v e ∷ map (revalued slot v) es) ≡ filter (λ x. not (x.slot == slot)) (e ∷ es)
-      by true at rest = rw (revalued-slot slot v e, at) rest
-      by false at rest = rw (revalued-slot slot v e, at) (ap (λ (xs : List (Entry T)). e ∷ xs) rest)
-
-  pub without_changed : (t : Table T) (slot : ℕ) (v : T) → without (with_value t slot v) slot ≡ without t slot
-  without_changed t slot v = ap (λ (es : List (Entry T)). let x : Table T = record t { entries = es } in x) (same_kept slot v t.entries)

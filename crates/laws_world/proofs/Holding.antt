@@ -8,7 +8,7 @@ use Rattle.vs_ring_port.specs.declared.device_ring.Chain.{Chain}
 use Rattle.vs_ring_list.proofs.Held.{same_chain_is}
 use Rattle.vs_device_parts.specs.Calls.{Call, Answer, Ring, Accept, Dial, Label, ReadStream, WriteStream, ShutWrite, CloseStream, Situation}
 use Rattle.vs_device_parts.specs.{Calls.DeviceTree, Calls.Allows, Playing.CanMake, Playing.MayRun}
-use Rattle.laws_device.proofs.Keeping.{Can, HoldsChain, Keeps, fitted, moved}
+use Rattle.laws_device.proofs.Keeping.{Can, HoldsChain, Keeps}
 
 abbrev pub IsHeldFor : Call → RingContents → Type 0
 IsHeldFor (Ring (Return chain len)) c = HoldsChain chain c
@@ -39,13 +39,9 @@ can_held (WriteStream stream bytes) c can = tt
 can_held (ShutWrite stream) c can = tt
 can_held (CloseStream stream) c can = tt
 
-pub kept_held : {A : Type 0} (Q : A → RingContents → Type 0) (tree : DeviceTree A) (s : Situation) → Keeps Q tree s.ring → MayHold tree s
+pub kept_held : {A : Type 0} (Q : A → Situation → Type 0) (tree : DeviceTree A) (s : Situation) → Keeps Q tree s → MayHold tree s
 kept_held Q (Done x) s keeps = tt
-kept_held Q (Ask call next) s keeps = (
-  can_held call s.ring keeps.0,
-  λ a t allowed. kept_held Q (next a) t
-      (keeps.1 a t.ring (fitted call a s t allowed) (moved call a s t allowed)),
-)
+kept_held Q (Ask call next) s keeps = (can_held call s.ring keeps.0, λ a t allowed. kept_held Q (next a) t (keeps.1 a t allowed))
 
 -- A call that returns no chain with nothing.
 abbrev pub ReturnsSome : Call → Type 0

@@ -2,7 +2,6 @@ pub mod Queues
 pub mod Played
 pub mod Fits
 pub mod Runs
-pub mod Firsts
 pub mod Once
 pub mod Entries
 pub mod Wire
@@ -22,7 +21,6 @@ pub mod ProxyResets
 pub mod Rings
 pub mod Sound
 pub mod Opening
-pub mod Streams
 pub mod Bytes
 pub mod Growing
 pub mod Carried

@@ -24,7 +24,7 @@ use Rattle.laws_tables.proofs.{Both.next_is_fair, Both.step_keeps, Fair.own_got_
 use Rattle.laws_tables.proofs.Keeps.{paid_old}
 use Rattle.laws_tables.proofs.Entries.{added_other, added_same, replaced_other, replaced_same, without_other, without_same}
 use Rattle.laws_world.specs.Sides.{AsksAnew, Runs, RunsAnew}
-use Rattle.laws_world.proofs.Firsts.{asker_asks, none_begun}
+use Rattle.laws_bytes.proofs.Firsts.{asker_asks, none_begun}
 use Rattle.vs_conn.specs.declared.end.Owed.TheVariants as owed
 
 -- How many REQUESTs an end put on a flow.

@@ -1,15 +1,12 @@
 -- The world in which nothing has happened yet.
 use Rattle.std.proofs.Common.{◌≡◌, ℕ, zero, suc, ◌+◌, ◌^◌, ◌<◌, ◌==◌, Bool, true, false, cond, List, [], ◌∷◌, refl, sym, ap, subst, ◌∙◌}
-use Rattle.std.proofs.Common.{arith, ◌-◌, slice_get, Some, None}
+use Rattle.std.proofs.Common.{arith}
 use Rattle.vs_contents.specs.CallTree.{Done, Ask, bind, while_up_to, played}
 use Rattle.vs_flow.specs.Connection.{first_of}
 use Rattle.vs_limits.specs.declared.TheConstants.{ASSIGNED_FIRST, FIRST_PORT}
-use Rattle.vs_outside.specs.Host.{HostContents, Stream}
+use Rattle.vs_outside.specs.Host.{HostContents}
 use Rattle.vs_page.specs.{Fair.payload_put, Log.Driver, Log.Log}
-use Rattle.laws_device_bytes.specs.Streamed.{IsStreamed, Seen, look, seen}
-use Rattle.std.specs.Option.{option_map}
 use Rattle.laws_tables.proofs.{Voices.AreVoiced, Voices.voices_start, Both.start_sound}
-use Rattle.vs_proxy_parts.specs.Turns.{new_proxy}
 use Rattle.laws_world.specs.{Pipes.IsFresh, Pages.AllHold, Pages.AllPacked, Events.happens, Events.run, Sides.both_of, Sides.driver_ends}
 use Rattle.laws_world.specs.{Sides.log_with_staged, World.World, World.opening, World.first_cid}
 use Rattle.vs_ring_port.specs.{EndLog.EndLog, EndLog.all_put, EndLog.entries_marked, Lists.Rings, DriverCalls.driver_answer}
@@ -25,6 +22,7 @@ use Rattle.laws_driver_bytes.specs.Received.{AreReceived, no_account}
 use Rattle.laws_driver_bytes.proofs.Connecting.{none_received}
 use Rattle.laws_world.proofs.{Once.AreOnce, Once.start_once, Played.opening_queued, Runs.and_then, Sound.Goes, Sound.IsWell}
 use Rattle.laws_world.proofs.{Sound.goes_still, Sound.happens_goes, Wire.PutsFit}
+use Rattle.laws_device_bytes.proofs.Changing.{no_streams}
 use Rattle.laws_tables.specs.Both as both
 use Rattle.laws_world.specs.Events as events
 
@@ -106,27 +104,6 @@ new_made n = twice (MadeBy n) (posts Rx (made n 0 0)) (publish_of Rx) post_event
     after_rx m lists log quiet = twice (MadeBy n) (posts Event (made n 0 0)) (publish_of Event) load_cid _ (posts_event (MadeBy n) n (λ s. bind (publish_of Event s) load_cid) loaded n 0 _ _
         (record { entries = quiet.entries; staged = quiet.staged; given = quiet.given; cid = quiet.cid }))
 
--- A host without streams.
-none_streamed : (host : HostContents) (port : ℕ) → IsFresh host → IsStreamed host [] port (new_proxy first_cid host.base).device.table []
-none_streamed host port fresh = record {
-  joined = λ i e within. absurd (omega (arith, within));
-  labels = λ id s f there label. absurd (none id s there);
-  unique = λ i j s t f a b p q. absurd (none i s a);
-  none = λ f without. refl;
-  waiting = λ id s there waits. absurd (none id s there);
-  lines = record {
-    read = λ i h within. absurd (omega (arith, within));
-    undecided = λ i h within. absurd (omega (arith, within));
-    apart = λ i j h less within. absurd (omega (arith, within));
-  };
-}
-  where
-    by : (b : Bool) (id : ℕ) (s : Seen) → option_map seen (cond b None (slice_get {X = Stream} [] (id - 1))) ≡ Some s → ⊥
-    by true id s there = cc
-    by false id s there = cc
-
-    none : (id : ℕ) (s : Seen) → look host id ≡ Some s → ⊥
-    none id s there = by (id == 0) id s (ap (λ (xs : List Stream). option_map seen (cond (id == 0) None (slice_get xs (id - 1)))) (sym fresh.streams) ∙ there)
 
 module _ (n : ℕ) (host : HostContents) where
   new : IsMade n (opening n host).driver (opening n host).rings.lists (opening n host).rings.driver
@@ -153,18 +130,19 @@ module _ (n : ℕ) (host : HostContents) where
     sound = subst (λ (b : Both). both.IsSound first_cid b) opening_is (start_sound first_cid FIRST_PORT ASSIGNED_FIRST);
     driver = subst IsFitState (sym new.state) (made_fits n FIRST_PORT 1 (omega arith) first_cid (omega arith));
     device = record {
-      sound = record {
-        within = omega arith;
-        rising = λ i j d less within. absurd (omega (arith, within));
-        distinct = λ i j d less within. absurd (omega (arith, within));
-        were_given = λ i d within. absurd (omega (arith, within));
-        slots_left = omega arith;
+      fits = record {
+        cid_fits = omega arith;
+        sound = record {
+          within = omega arith;
+          rising = λ i j d less within. absurd (omega (arith, within));
+          distinct = λ i j d less within. absurd (omega (arith, within));
+          were_given = λ i d within. absurd (omega (arith, within));
+          slots_left = omega arith;
+        };
+        entries = λ i d within. absurd (omega (arith, within));
+        owed = λ i d within. absurd (omega (arith, within));
       };
-      ends = λ i d within. absurd (omega (arith, within));
-      fresh = λ i d within. absurd (omega (arith, within));
-      owed = λ i d within. absurd (omega (arith, within));
       port = omega arith;
-      known = omega arith;
     };
     driver_puts = subst PutsFit (sym log_empty) tt;
     device_puts = tt;
@@ -175,7 +153,7 @@ module _ (n : ℕ) (host : HostContents) where
     overrun = refl;
     cids = subst (AreVoiced first_cid) opening_is (voices_start first_cid FIRST_PORT ASSIGNED_FIRST);
     once = subst AreOnce opening_is (start_once first_cid FIRST_PORT ASSIGNED_FIRST);
-    streams = none_streamed host (opening n host).proxy.next_port;
+    streams = λ fresh. no_streams host (opening n host).proxy.next_port (opening n host).proxy.device.table refl fresh.streams;
     opened = (no_account 1).opened;
     received = subst (λ (log : Log). AreReceived (no_account 1) log (slots_of (opening n host).driver)) (sym log_empty)
         (subst (λ (s : DriverState). AreReceived (no_account 1) [] (slots_of s)) (sym new.state) (none_received n FIRST_PORT 1));

@@ -255,8 +255,8 @@ over_held {A} tree v w h g n m x may runs =
           ∙ ap₂ (λ (a : Ends) (b : HostContents). (x, (a, b))) w_is g_is);
     }
 
-pub over : {A : Type 0} (Q : A → RingContents → Type 0) (tree : DeviceTree A) (v w : Ends) (h g : HostContents) (n m : ℕ) (x : A)
-    → Keeps Q tree (device_contents v)
+pub over : {A : Type 0} (Q : A → Situation → Type 0) (tree : DeviceTree A) (v w : Ends) (h g : HostContents) (n m : ℕ) (x : A)
+    → Keeps Q tree (situation (device_contents v) (Some h) n)
     → Runs tree (situation (device_contents v) (Some h) n) x (situation (device_contents w) (Some g) m)
     → IsPlayed tree v h x w g
 over Q tree v w h g n m x keeps runs = over_held tree v w h g n m x (kept_held Q tree (situation (device_contents v) (Some h) n) keeps) runs

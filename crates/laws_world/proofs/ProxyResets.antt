@@ -14,7 +14,8 @@ use Rattle.vs_proxy_parts.specs.{Handshakes.streams_of, State.ProxyState, State.
 use Rattle.vs_proxy_parts.specs.Turns.{close_handshake, proxy_reset_of, reset_with}
 use Rattle.laws_world.specs.Answers.{Around, answer_around}
 use Rattle.laws_world.proofs.{Chains.HoldsRx, DeviceSide.DeviceHolds, DeviceSide.Kept, DeviceSide.seated}
-use Rattle.laws_world.proofs.{ProxySide.Over, ProxySide.StreamedWith, ProxySide.stays_as, Streams.StreamedIf, Streams.emptied_streams}
+use Rattle.laws_device_bytes.proofs.Changing.{StreamedIf, emptied_streams}
+use Rattle.laws_world.proofs.ProxySide.{Over, StreamedWith, stays_as}
 use Rattle.laws_world.proofs.{Runs.one_step, Wire.PutsFit}
 use Rattle.laws_device_bytes.specs.Streamed.{look}
 use Rattle.laws_device_bytes.proofs.{HostCalls.closed_host, Opens.no_lines, Streamed.same_streamed}
@@ -108,18 +109,19 @@ module _ (driver : Seat) (first : ℕ) (w : ProxyState) (a : Around) (sound : Is
           runs = one_step Device (MakesReset cid) (seated driver w.next_port w.device a.log.entries)
               (seated driver w.next_port (after_reset cid t) (Mark cid ∷ a.log.entries)) refl tt refl;
           holds = record {
-            sound = record {
-              within = omega arith;
-              rising = λ i j d less within. absurd (omega (arith, within));
-              distinct = λ i j d less within. absurd (omega (arith, within));
-              were_given = λ i d within. absurd (omega (arith, within));
-              slots_left = closed.table.slots_left;
+            fits = record {
+              cid_fits = fits;
+              sound = record {
+                within = omega arith;
+                rising = λ i j d less within. absurd (omega (arith, within));
+                distinct = λ i j d less within. absurd (omega (arith, within));
+                were_given = λ i d within. absurd (omega (arith, within));
+                slots_left = closed.table.slots_left;
+              };
+              entries = λ i d within. absurd (omega (arith, within));
+              owed = λ i d within. absurd (omega (arith, within));
             };
-            ends = λ i d within. absurd (omega (arith, within));
-            fresh = λ i d within. absurd (omega (arith, within));
-            owed = λ i d within. absurd (omega (arith, within));
             port = holds.port;
-            known = fits;
           };
           puts = puts;
         });
@@ -136,7 +138,7 @@ module _ (driver : Seat) (first : ℕ) (w : ProxyState) (a : Around) (sound : Is
           (λ t b closed. hands_then Left Keep closes (λ u. Done (record (with_device (after_reset cid t) u) { handshakes = [] }, Ok tt)) w
           (record { lists = record b.lists { cid = cid }; log = record b.log { entries = Mark cid ∷ b.log.entries }; host = b.host })
           (reset_in t b closed) (streams_of w) b.host closed.host) (slots w.device.table) w.device a
-          (record { table = holds.sound; chain = refl; overrun = refl; lists = refl; log = refl; host = held }))
+          (record { table = holds.fits.sound; chain = refl; overrun = refl; lists = refl; log = refl; host = held }))
         where
           bound : Left (played answer_around (bind (for_each close_slot (slots w.device.table) w.device)
               (λ t. Ask (Ring (PublishCid cid)) (λ _. reset_with (after_reset cid t, Ok tt) w))) a)

@@ -21,13 +21,14 @@ use Rattle.vs_proxy_parts.specs.Handshakes.{accept_answered, accept_one, byte_re
 use Rattle.vs_proxy_parts.specs.Handshakes.{tick_handshake, with_line, without_handshake, without_stream}
 use Rattle.vs_proxy_parts.specs.State.{Handshake, ProxyState, Turning, start, with_device}
 use Rattle.laws_world.specs.{Answers.Around, Answers.answer_around, Answers.bytes_with, Events.line_read}
-use Rattle.laws_world.proofs.{Chains.HoldsRx, DeviceSide.DeviceHolds, DeviceSide.Kept, DeviceSide.end_in, DeviceSide.seated, Wire.PutsFit}
-use Rattle.laws_world.proofs.Streams.{StreamedIf, called_host, goes_on}
+use Rattle.laws_world.proofs.{Chains.HoldsRx, DeviceSide.DeviceHolds, DeviceSide.Kept, DeviceSide.seated, Wire.PutsFit}
+use Rattle.laws_device_bytes.proofs.{Changing.StreamedIf, Changing.called_host, Changing.goes_on, HostCalls.accepted_host}
+use Rattle.laws_device_bytes.proofs.{HostCalls.closed_host, Lines.line_ends, Lines.line_whole, Opens.IsHand, Opens.hand_of}
+use Rattle.laws_device_bytes.proofs.Opens.{label_host, line_more, line_now, line_over, one_byte, without_host}
+use Rattle.laws_device_bytes.proofs.Hands.{ends_by, no_line, without_after, without_none}
 use Rattle.std.specs.List.{All}
 use Rattle.laws_device_bytes.specs.Streamed.{has_line, look, reading}
-use Rattle.laws_device_bytes.proofs.{HostCalls.accepted_host, HostCalls.closed_host, Lines.line_ends, Lines.line_whole, Opens.IsHand}
-use Rattle.laws_device_bytes.proofs.Opens.{hand_of, label_host, line_more, line_now, line_over, one_byte, without_host}
-use Rattle.laws_device_bytes.proofs.Hands.{ends_by, no_line, without_after, without_none}
+use Rattle.laws_device.specs.Honest.{end_in}
 use Rattle.vs_outside.specs.declared.host_net.Accepted.TheVariants as accepted_as
 use Rattle.vs_outside.specs.declared.host_net.StreamRead.TheVariants as read
 use Rattle.vs_uds.specs.declared.scan.Step.TheVariants as step
@@ -112,7 +113,7 @@ module _ (driver : Seat) (first : ℕ) (w : ProxyState) (a : Around) (sound : Is
       by None is = refl
       by (Some e) is =
           let found = found_by (λ (x : DeviceEntry). same_flow f x.flow) w.device.table.entries e is in
-          let one = one_end end_in w.device.table e holds.sound found.0 in
+          let one = one_end end_in w.device.table e holds.fits.sound found.0 in
           let same = same_flow_true f e.flow found.1 in
           let two : [] ≡ end_in e.value ∷ [] = sym none ∙ ap (λ (g : Flow). ends_of g (entries_of end_in w.device.table)) same ∙ one in
           absurd cc

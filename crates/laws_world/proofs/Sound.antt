@@ -32,8 +32,9 @@ use Rattle.laws_world.proofs.{Chains.HoldsRx, DeviceSide.DeviceHolds, DriverGoes
 use Rattle.laws_world.proofs.{DriverGoes.call_walks, DriverGoes.poll_left, DriverGoes.poll_walks, DriverWalks.Ties, DriverWalks.first_fair}
 use Rattle.laws_world.proofs.{DriverWalks.shown, DriverWalks.walk, Journals.AllAgree, Played.device_plays_keeps, Played.driver_got}
 use Rattle.laws_world.proofs.{Queues.pages_put, Rings.device_leaves_given, Runs.goes_run, Runs.keeps_sound, Runs.stays, Once.AreOnce}
-use Rattle.laws_world.proofs.{Once.keeps_once, Once.number_of_once, Wire.PutsFit, Streams.StreamedIf}
+use Rattle.laws_world.proofs.{Once.keeps_once, Once.number_of_once, Wire.PutsFit}
 use Rattle.vs_flow.specs.{declared.flow.Flow.Flow, Table.Table, Connection.Connection, Connection.first_of}
+use Rattle.laws_device_bytes.proofs.Changing.{StreamedIf}
 use Rattle.std.specs.List.{All}
 use Rattle.vs_limits.specs.declared.TheConstants.{GUEST_CID_MIN, GUEST_CID_MAX}
 use Rattle.laws_tables.proofs.{Both.next_is_fair, Fair.got_formed, Slots.one_end, Voices.AreVoiced, Voices.voices_run}
@@ -330,7 +331,7 @@ module _ (fresh : Type 0) (w : World) (well : IsWell fresh w) where
       let fair = next_is_fair Device first_cid p (both_of w) well.sound next in
       dropped_empty first_cid (both_of w) well.sound well.cids p next dropped (λ other. (got_formed Device p w.rings.device.entries (fair (flow_got Device p))).payload other) e.value.end
       (subst (λ (f : Flow). ends_of f (entries_of (λ (c : DeviceConnection). c.end) w.proxy.device.table) ≡ e.value.end ∷ []) on
-      (one_end (λ (c : DeviceConnection). c.end) w.proxy.device.table e well.device.sound there)) given
+      (one_end (λ (c : DeviceConnection). c.end) w.proxy.device.table e well.device.fits.sound there)) given
 
   device_takes_goes : (queue : Queue) → Goes fresh w (device_step (takes_chain queue) w)
   device_takes_goes q.Rx = device_step_goes (takes_chain q.Rx)

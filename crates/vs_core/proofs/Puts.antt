@@ -5,7 +5,6 @@ use Rattle.std.proofs.lemmas.List.{append-nil}
 use Rattle.vs_contents.specs.CallTree.{Done, Ask, bind}
 use Rattle.vs_conn.specs.{End.owes_of, End.wanting_credit, Headers.owed_header, Headers.payload_header, declared.end.Owed.Owed}
 use Rattle.vs_conn.proofs.Steps.{stream_fits}
-use Rattle.laws_history.specs.History.{puts as puts_of}
 use Rattle.vs_credit.specs.Credit.{free_of}
 use Rattle.vs_flow.specs.Table.{entry_under}
 use Rattle.vs_header.specs.{Packet.header_bytes, declared.Header.Header, declared.TheConstants.HEADER_LEN}
@@ -16,22 +15,22 @@ use Rattle.vs_page.specs.declared.log.LogEntry.TheVariants.{PutPacket}
 use Rattle.vs_replies.specs.declared.Reply.{Reply}
 use Rattle.vs_ring_port.specs.{Chains.chains_of, Contents.RingContents, EndLog.EndLog, declared.device_ring.Chain.Chain}
 use Rattle.vs_ring_port.specs.declared.queue.Queue.TheVariants.{Event}
-use Rattle.laws_tables.specs.{Both.IsSound, Both.Pays, Both.Seat, Both.Sends, Heard.route_of}
-use Rattle.laws_tables.specs.Steps.{owed_on, payload_on, reply_on}
+use Rattle.laws_tables.specs.{Both.IsSound, Both.Pays, Both.Seat, Both.Sends, Heard.route_of, Steps.owed_on, Steps.payload_on}
+use Rattle.laws_tables.specs.Steps.{reply_on}
 use Rattle.laws_tables.proofs.Both.{step_keeps}
 use Rattle.vs_device_parts.specs.{Calls.CloseStream, Calls.Situation, Calls.DeviceTree, Playing.IsAmong, Playing.IsRxChain}
 use Rattle.vs_device_parts.specs.Connections.{after_leaving, cut_off, route_to_guest, stream_closed, with_connection, with_fault}
 use Rattle.vs_device_parts.specs.Receiving.{Filling, after_paying, may_read, put_packet, put_payload, put_reply_of, reply_header}
-use Rattle.vs_device_parts.specs.Receiving.{read_answered, read_room, read_with_chain, written}
-use Rattle.vs_device_parts.specs.Steps.{filling, puts_event, puts_owed, puts_payload, puts_reply, reads}
-use Rattle.vs_device_parts.specs.State.{DeviceEntry, DeviceState}
+use Rattle.vs_device_parts.specs.{Receiving.read_answered, Receiving.read_room, Receiving.read_with_chain, Receiving.written, Steps.filling}
+use Rattle.vs_device_parts.specs.{Steps.puts_event, Steps.puts_owed, Steps.puts_payload, Steps.puts_reply, Steps.reads, State.DeviceEntry}
+use Rattle.vs_device_parts.specs.State.{DeviceState}
 use Rattle.laws_device_streams.specs.Split.{MayPut}
-use Rattle.laws_device.proofs.Filling.{can_send, under_there}
+use Rattle.laws_device.proofs.{Filling.can_send, Filling.under_there, Tabling.entry_fits, Tabling.has_end}
 use Rattle.laws_world.specs.Pages.{is_held}
-use Rattle.laws_world.proofs.{Chains.HoldsRx, DeviceSide.DeviceHolds, DeviceSide.entry_fits, DeviceSide.seated}
-use Rattle.laws_world.proofs.{Fits.holds_header, Fits.holds_payload, Runs.keeps_sound}
-use Rattle.laws_world.proofs.Wire.{PutsFit, RouteFits, not_payload, owed_fits, payload_fits}
+use Rattle.laws_world.proofs.{Chains.HoldsRx, DeviceSide.DeviceHolds, DeviceSide.seated, Fits.holds_header, Fits.holds_payload}
+use Rattle.laws_world.proofs.{Runs.keeps_sound, Wire.PutsFit, Wire.RouteFits, Wire.not_payload, Wire.owed_fits, Wire.payload_fits}
 use Rattle.vs_core.proofs.Written.{MayHold, event_may, written_may}
+use Rattle.laws_history.specs.History.{puts as puts_of}
 use Rattle.vs_conn.specs.declared.end.Owed.TheVariants as owed
 use Rattle.vs_outside.specs.declared.host_net.StreamRead.TheVariants as read
 use Rattle.laws_world.proofs.DeviceSide as side
@@ -79,8 +78,8 @@ module _ (driver : Seat) (first port : ℕ) (s : DeviceState) (l : EndLog) (soun
       -- Its numbers fit the wire.
       route : RouteFits (route_of Device s.cid e.flow)
       route =
-          let flow = (entry_fits driver first port s l.entries sound holds puts e there).flow in
-          record { src_cid = flow.peer; dst_cid = holds.known; src_port = flow.host; dst_port = flow.guest }
+          let flow = (entry_fits s holds.fits e there).ports in
+          record { src_cid = flow.peer; dst_cid = holds.fits.cid_fits; src_port = flow.host; dst_port = flow.guest }
 
       -- What a connection owes.
       owed_holds : (what : Owed) → owes_of e.value.end ≡ Some what
@@ -88,10 +87,10 @@ module _ (driver : Seat) (first port : ℕ) (s : DeviceState) (l : EndLog) (soun
       owed_holds what owes =
           alone (owed_header e.value.end (route_to_guest s.cid e.flow) what) (owed_on Device s.cid e.flow e.value.end what) refl
           (owed_fits e.value.end _ what (length e.value.pending) route
-          (entry_fits driver first port s l.entries sound holds puts e there).credit owes)
+          (entry_fits s holds.fits e there).bytes owes)
           (not_payload e.value.end (route_to_guest s.cid e.flow) what)
           ((step_keeps Device first (Pays e.flow e.value.end what) (seated driver port s l.entries) sound
-          (side.has_end driver first port s l.entries sound holds puts e there, owes)).fair Device)
+          (has_end s holds.fits e there port, owes)).fair Device)
 
       -- Payload that was read with room for it.
       payload_holds : may_read e.value.end e.value.end.state ≡ true → (payload : List ℕ)
@@ -102,7 +101,7 @@ module _ (driver : Seat) (first port : ℕ) (s : DeviceState) (l : EndLog) (soun
           let h : Header = payload_header e.value.end (route_to_guest s.cid e.flow) (length payload) in
           let fits : FitsWire h = payload_fits e.value.end _ (length payload) (length e.value.pending)
           route
-          (entry_fits driver first port s l.entries sound holds puts e there).credit (omega (arith, less)) in
+          (entry_fits s holds.fits e there).bytes (omega (arith, less)) in
           record {
             queue = held.0;
             held = held.1;
@@ -110,10 +109,10 @@ module _ (driver : Seat) (first port : ℕ) (s : DeviceState) (l : EndLog) (soun
             packet = holds_payload h payload fits refl refl;
             bytes = refl;
             fair = (step_keeps Device first (Sends e.flow e.value.end payload) (seated driver port s l.entries) sound (
-              side.has_end driver first port s l.entries sound holds puts e there,
+              has_end s holds.fits e there port,
               can_send e.value.end (length payload) may (omega (arith, less)),
               stream_fits e.value.end (puts_of (history_of Device e.flow l.entries)) (length payload)
-                  (entry_fits driver first port s l.entries sound holds puts e there).kind,
+                  (entry_fits s holds.fits e there).kind,
             )).fair Device;
           }
 

@@ -9,6 +9,7 @@ ghost use Rattle.vs_limits.specs.declared.TheConstants.{BUF_ALLOC, GUEST_CID_MIN
 ghost use Rattle.laws_tables.specs.Steps.{IsNextFlow};
 ghost use Rattle.vs_page.specs.Log as log;
 ghost use Rattle.laws_device_streams.specs.Streams.{HasStreams, IsFree};
+ghost use Rattle.laws_device.specs.Streams.{AreStreamedWith};
 ghost use Rattle.laws_device.specs.Honest.{AgreesWith, IsLeftOpen, IsWith, ends_of_state, port_after};
 ghost use Rattle.laws_proxy_bytes.specs.{Made.Made, Told.AreAccounted, Told.IsAsking, Told.StayAccounted};
 ghost use Rattle.vs_proxy_parts.specs.State.{Handshake};
@@ -91,6 +92,11 @@ impl Device {
         // Over an honest ring that tells its log the connections are those that the log left, and all that is put keeps the log fair.
         ensures honest { (first port : ℕ) → IsWith first port self.old (R.contents ring.old)
             → IsWith first port self.new (R.contents ring.new) }
+        // Where the guest uses no flow twice and sends payload under its own CID, the payload put on each connection is what was taken
+        // of its stream, and its stream was given a prefix of its OK line and the payload got.
+        ensures streamed { (first port : ℕ) (lines : List Handshake) → IsWith first port self.old (R.contents ring.old)
+            → AreStreamedWith first port lines self.old.table (situation (R.contents ring.old) (H.contents host.old) (H.faults host.old))
+            → AreStreamedWith first port lines self.new.table (situation (R.contents ring.new) (H.contents host.new) (H.faults host.new)) }
         // The calls made account for the host's streams, as they did before; handshakes are forgotten.
         ensures bytes { (calls : List Made) (hands : List Handshake) → AreAccounted calls self.old.table hands (H.contents host.old)
             → StayAccounted (reset_of cid self.old) calls (self.new, result) self.new.table [] (H.contents host.new) }

@@ -7,18 +7,16 @@ use Rattle.vs_ring_list.specs.Ends.{Ends, device_contents, driver_contents, empt
 use Rattle.vs_outside.specs.Host.{HostContents}
 use Rattle.vs_driver_parts.specs.State.{DriverState}
 use Rattle.laws_driver.specs.Honest.{IsHonestWith}
-use Rattle.vs_device_parts.specs.{Calls.Allows, Calls.Situation, Playing.CanMake, Playing.IsItsRing, Playing.Runs, Playing.situation}
-use Rattle.laws_device_streams.specs.Split.{CanReach}
-use Rattle.laws_device_streams.proofs.{Conditions.quiet_can, Opening.new_has}
-use Rattle.laws_device.proofs.Keeping.{keeps_end}
+use Rattle.vs_device_parts.specs.{Calls.Situation, Playing.IsItsRing, Playing.Runs, Playing.situation}
+use Rattle.laws_device_streams.proofs.Opening.{new_has}
 use Rattle.vs_proxy_parts.specs.{State.ProxyState, Turns.new_proxy, Turns.proxy_reset_of, Turns.turn_of, declared.answers.Turn.Turn}
-use Rattle.laws_proxy_streams.proofs.{Lists.none_open, Turning.keeps_proxy_reset, Turning.keeps_turn}
-use Rattle.laws_proxy.proofs.Turning.{new_proxy_with, proxy_reset_keeps, turn_keeps}
+use Rattle.laws_proxy_streams.proofs.Lists.{none_open}
+use Rattle.laws_proxy.proofs.Turning.{new_proxy_with, proxy_reset_keeps, turn_keeps, plain_proxied}
+use Rattle.laws_proxy.proofs.Ordered.{reset_honest, reset_streams, turn_honest, turn_streams}
 use Rattle.laws_world.specs.World.{first_cid}
 use Rattle.vs_play.specs.{Answer.base_path, Ready.IsDriven, Ready.IsServed, Told.Serves}
 use Rattle.vs_report.specs.DeviceLines.{reset_text, turn_text}
 use Rattle.laws_world.proofs.{Flown.LeavesDriver, OverBoth.IsPlayed, OverBoth.over}
-use Rattle.laws_device_streams.proofs.Keeping.{keeps_end as streams_end}
 
 -- The rings stay the driver's.
 pub driven_still : (v w : Ends) → LeavesDriver v w → (s : DriverState) → IsDriven s v → IsDriven s w
@@ -40,14 +38,17 @@ pub turn_played : (size now : ℕ) (s : ProxyState) (v w : Ends) (h g : HostCont
     → Runs (turn_of size now s) (situation (device_contents v) (Some h) n) x (situation (device_contents w) (Some g) m)
     → IsPlayed (turn_of size now s) v h x w g
 turn_played size now s v w h g n m x served runs =
-    over _ (turn_of size now s) v w h g n m x (turn_keeps first_cid size now s (device_contents v) served.order.ring) runs
+    over _ (turn_of size now s) v w h g n m x
+    (turn_keeps ⊥ first_cid size now s (situation (device_contents v) (Some h) n)
+    (plain_proxied first_cid s (situation (device_contents v) (Some h) n) served.order.ring)) runs
 
 pub reset_played : (cid : ℕ) (s : ProxyState) (v w : Ends) (h g : HostContents) (n m : ℕ) (x : ProxyState × Result (Unit {0}) Failure)
     → cid < 2 ^ 64 → IsServed s v h
     → Runs (proxy_reset_of cid s) (situation (device_contents v) (Some h) n) x (situation (device_contents w) (Some g) m)
     → IsPlayed (proxy_reset_of cid s) v h x w g
 reset_played cid s v w h g n m x fits served runs =
-    over _ (proxy_reset_of cid s) v w h g n m x (proxy_reset_keeps first_cid cid s (device_contents v) fits served.order.ring) runs
+    over _ (proxy_reset_of cid s) v w h g n m x (proxy_reset_keeps ⊥ first_cid cid s (situation (device_contents v) (Some h) n) fits
+    (plain_proxied first_cid s (situation (device_contents v) (Some h) n) served.order.ring)) runs
 
 module _ (s : ProxyState) (v w : Ends) (h g : HostContents) (n m : ℕ) (served : IsServed s v h) where
   abbrev before : Situation
@@ -61,8 +62,8 @@ module _ (s : ProxyState) (v w : Ends) (h g : HostContents) (n m : ℕ) (served 
   turn_serves size now x chains runs = record {
     chains = chains;
     order = record {
-      streams = streams_end CanReach Allows _ (turn_of size now s) before behind x (keeps_turn size now s before served.order.streams) runs;
-      ring = keeps_end _ (turn_of size now s) before behind x (turn_keeps first_cid size now s (device_contents v) served.order.ring) runs;
+      streams = turn_streams s before behind size now x runs served.order.streams;
+      ring = turn_honest s before behind size now x runs first_cid served.order.ring;
     };
   }
 
@@ -71,9 +72,8 @@ module _ (s : ProxyState) (v w : Ends) (h g : HostContents) (n m : ℕ) (served 
   reset_serves cid x fits chains runs = record {
     chains = chains;
     order = record {
-      streams = streams_end CanMake Allows _ (proxy_reset_of cid s) before behind x
-          (keeps_proxy_reset CanMake quiet_can cid s before served.order.streams) runs;
-      ring = keeps_end _ (proxy_reset_of cid s) before behind x (proxy_reset_keeps first_cid cid s (device_contents v) fits served.order.ring) runs;
+      streams = reset_streams s before behind cid x runs served.order.streams;
+      ring = reset_honest s before behind cid x fits runs first_cid served.order.ring;
     };
   }
 

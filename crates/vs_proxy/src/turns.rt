@@ -9,7 +9,7 @@ ghost use Rattle.vs_device_parts.specs.Playing.{IsItsRing, MayRun, MayRunOnHost,
 ghost use Rattle.vs_device_parts.specs.{Turns.counters_of, Turns.table_shown, State.DeviceEntry};
 ghost use Rattle.laws_device_streams.specs.Streams.{HasStreams};
 ghost use Rattle.laws_device.specs.Honest.{AgreesWith, IsLeftOpen};
-ghost use Rattle.laws_proxy.specs.{Honest.IsProxyWith, Order.IsInOrder};
+ghost use Rattle.laws_proxy.specs.{Honest.IsProxyStreamed, Honest.IsProxyWith, Order.IsInOrder};
 ghost use Rattle.vs_proxy_parts.specs.{Handshakes.streams_of, State.ProxyState, Turning.turning_of, Turns.close_handshake};
 ghost use Rattle.vs_proxy_parts.specs.Turns.{proxy_reset_of, turn_of, turned};
 ghost use Rattle.laws_proxy_bytes.specs.{Counts.CountsFaults, Counts.DeviceCounts, Counts.counts_of, Counts.counts_shown, Made.Made};
@@ -44,6 +44,11 @@ impl Proxy {
             → ForSome (H.contents host.new) (HasStreams (streams_of self.new) self.new.device.table) }
         // Over an honest ring that tells its log the connections are those that the log left, and all that is put keeps the log fair.
         ensures honest { (first : ℕ) → IsProxyWith first self.old (R.contents ring.old) → IsProxyWith first self.new (R.contents ring.new) }
+        // Where the guest uses no flow twice and sends payload under its own CID, the payload put on each connection is what was taken
+        // of its stream, and its stream was given a prefix of its OK line and the payload got.
+        ensures streamed { (first : ℕ) → IsProxyWith first self.old (R.contents ring.old)
+            → IsProxyStreamed first self.old (situation (R.contents ring.old) (H.contents host.old) (H.faults host.old))
+            → IsProxyStreamed first self.new (situation (R.contents ring.new) (H.contents host.new) (H.faults host.new)) }
         // The calls made account for the host's streams, as they did before: what a stream is given is the payload delivered on its own
         // connection, and what is taken of it is put on its flow.
         ensures bytes { (calls : List Made)
@@ -119,6 +124,11 @@ impl Proxy {
             → ForSome (H.contents host.new) (HasStreams (streams_of self.new) self.new.device.table) }
         // Over an honest ring that tells its log the connections are those that the log left, and all that is put keeps the log fair.
         ensures honest { (first : ℕ) → IsProxyWith first self.old (R.contents ring.old) → IsProxyWith first self.new (R.contents ring.new) }
+        // Where the guest uses no flow twice and sends payload under its own CID, the payload put on each connection is what was taken
+        // of its stream, and its stream was given a prefix of its OK line and the payload got.
+        ensures streamed { (first : ℕ) → IsProxyWith first self.old (R.contents ring.old)
+            → IsProxyStreamed first self.old (situation (R.contents ring.old) (H.contents host.old) (H.faults host.old))
+            → IsProxyStreamed first self.new (situation (R.contents ring.new) (H.contents host.new) (H.faults host.new)) }
         // The calls made account for the host's streams, as they did before.
         ensures bytes { (calls : List Made)
             → AreAccounted calls self.old.device.table self.old.handshakes (H.contents host.old)

@@ -14,4 +14,4 @@ returns-clause-unread c = λ n host es i d less.
 
 pub returns-clause-pending : goal.returns-clause-pending
 returns-clause-pending c = λ n host es i d less.
-    let fits = ((run_well n host es).device.ends i d less).credit in omega (arith, fits.unread, fits.within, fits.alloc)
+    let fits = ((run_well n host es).device.fits.entries i d less).bytes in omega (arith, fits.unread, fits.within, fits.alloc)

@@ -1,6 +1,7 @@
 use Rattle.std.proofs.Common.{◌≡◌, None, Ok, ap, ◌∙◌, rules, arith}
 use Rattle.vs_device_parts.specs.{Playing.situation, State.DeviceState}
-use Rattle.vs_device.proofs.{Among.same_ring, Resetting.may_close_all, Resetting.was_reset, Ordered.reset_honest, Ordered.reset_streams}
+use Rattle.vs_device.proofs.{Among.same_ring, Resetting.may_close_all, Resetting.was_reset, Ordered.reset_honest, Ordered.reset_streamed}
+use Rattle.vs_device.proofs.Ordered.{reset_streams}
 use Rattle.vs_device.proofs.Accounted.{reset_accounted}
 use Rattle.vs_device.proofs.device.Device.reset.Goals as goal
 
@@ -35,6 +36,15 @@ pub returns-clause-honest : goal.returns-clause-honest
 returns-clause-honest g c =
     let low = c.requires.cid.1 in
     reset_honest c.args.self.now
+    (situation (g.R.DeviceRing.contents c.args.ring.now) (g.H.HostNet.contents c.args.host.now) (g.H.HostNet.faults c.args.host.now))
+    (situation (g.R.DeviceRing.contents c.publish_cid.new.ring) (g.H.HostNet.contents c.close_all.new.host) (g.H.HostNet.faults c.close_all.new.host))
+    c.args.cid (c.forget.new.self, Ok tt) (omega (arith, low))
+    (returns-clause-calls g c)
+
+pub returns-clause-streamed : goal.returns-clause-streamed
+returns-clause-streamed g c =
+    let low = c.requires.cid.1 in
+    reset_streamed c.args.self.now
     (situation (g.R.DeviceRing.contents c.args.ring.now) (g.H.HostNet.contents c.args.host.now) (g.H.HostNet.faults c.args.host.now))
     (situation (g.R.DeviceRing.contents c.publish_cid.new.ring) (g.H.HostNet.contents c.close_all.new.host) (g.H.HostNet.faults c.close_all.new.host))
     c.args.cid (c.forget.new.self, Ok tt) (omega (arith, low))

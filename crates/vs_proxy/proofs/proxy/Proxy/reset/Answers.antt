@@ -1,6 +1,6 @@
 use Rattle.std.proofs.Common.{arith}
 use Rattle.vs_device_parts.specs.Playing.{situation}
-use Rattle.laws_proxy.proofs.Ordered.{reset_honest, reset_may, reset_streams}
+use Rattle.laws_proxy.proofs.Ordered.{reset_honest, reset_may, reset_streamed, reset_streams}
 use Rattle.laws_proxy_bytes.proofs.{Packets.reset_counts, Packets.reset_faults, Packets.reset_takes_none, Turning.reset_accounted}
 use Rattle.vs_proxy.proofs.proxy.Proxy.reset.Goals as goal
 
@@ -24,6 +24,13 @@ returns-clause-honest g c =
     let z = situation (g.R.DeviceRing.contents c.reset_all.new.ring) (g.H.HostNet.contents c.reset_all.new.host) (g.H.HostNet.faults c.reset_all.new.host) in
     let low = c.requires.cid.1 in
     reset_honest c.args.self.now x z c.args.cid (c.reset_all.new.self, c.reset_all.result) (omega (arith, low)) c.reset_all.ensures.calls
+
+pub returns-clause-streamed : goal.returns-clause-streamed
+returns-clause-streamed g c =
+    let x = situation (g.R.DeviceRing.contents c.args.ring.now) (g.H.HostNet.contents c.args.host.now) (g.H.HostNet.faults c.args.host.now) in
+    let z = situation (g.R.DeviceRing.contents c.reset_all.new.ring) (g.H.HostNet.contents c.reset_all.new.host) (g.H.HostNet.faults c.reset_all.new.host) in
+    let low = c.requires.cid.1 in
+    reset_streamed c.args.self.now x z c.args.cid (c.reset_all.new.self, c.reset_all.result) (omega (arith, low)) c.reset_all.ensures.calls
 
 pub returns-clause-bytes : goal.returns-clause-bytes
 returns-clause-bytes g c =

@@ -1,9 +1,9 @@
 -- What the host's streams took and gave, through the small changes of the device.
 use Rattle.vs_flow.specs.{Flow.is_assigned, Flow.same_flow, Table.IsTable, Table.Table, Table.entry_of, Table.with_value, Table.without}
 use Rattle.vs_flow.specs.declared.flow.Flow.{Flow}
-use Rattle.std.proofs.lemmas.{Bool.Decides.nat_tests, Grind.common_steps, List.append-nil}
-use Rattle.std.proofs.Common.{◌≡◌, ℕ, ◌+◌, ◌-◌, ◌≤◌, ◌==◌, ◌&&◌, nat_le, Bool, true, false, cond, List, [], ◌∷◌, ◌++◌, length, take, drop}
-use Rattle.std.proofs.Common.{Contains, Option, Some, None, refl, sym, ap, subst, ◌∙◌, arith}
+use Rattle.std.proofs.{lemmas.Bool.Decides.nat_tests, lemmas.Grind.common_steps, lemmas.List.append-nil, Common.◌≡◌, Common.ℕ, Common.◌+◌}
+use Rattle.std.proofs.Common.{◌-◌, ◌≤◌, ◌==◌, ◌&&◌, nat_le, Bool, true, false, cond, List, [], ◌∷◌, ◌++◌, length, take, drop, Contains}
+use Rattle.std.proofs.Common.{Option, Some, None, refl, sym, ap, subst, ◌∙◌, arith, slice_get}
 use Rattle.std.proofs.Math.Seq.{drop-nil, take-nil}
 use Rattle.std.specs.{List.All, Option.option_map}
 use Rattle.vs_conn.specs.End.{ConnectionEnd, end_after, is_of, is_reset, verdict_of, with_shut, with_payload_sent}
@@ -15,30 +15,27 @@ use Rattle.vs_flow.proofs.Entries.{none_found}
 use Rattle.laws_history.specs.{Packets.has, Packets.is_request, Packets.is_response, Packets.is_rw, declared.packet.Packet.Packet}
 use Rattle.laws_history.specs.History.{Answerer, Asker, Got, History, IsFair, Side, gots, puts, MayPut, peer}
 use Rattle.laws_history.specs.Again.{AllowsNow}
-use Rattle.vs_driver_parts.proofs.Delivers.{delivers, named_rw}
 use Rattle.laws_tables.specs.Steps.{payload_on}
 use Rattle.laws_bytes.specs.Drains.{Drains, got_on, put_on}
-use Rattle.laws_device_bytes.specs.Streamed.{IsJoined, IsStreamed, gives, line_for, look, seen}
-use Rattle.laws_device_bytes.proofs.{HostCalls.read_host, HostCalls.write_host, HostCalls.same_host, Hosts.unseen}
-use Rattle.laws_device_bytes.proofs.Gives.{drop_both, first_of, forwards_asked, forwards_gives, accepted_other, accepts_asked, accepts_response}
+use Rattle.laws_device_bytes.specs.Streamed.{IsJoined, IsStreamed, gives, line_for, look, seen, Seen}
+use Rattle.laws_device_bytes.proofs.{HostCalls.read_host, HostCalls.write_host, HostCalls.same_host, Hosts.unseen, Gives.drop_both}
+use Rattle.laws_device_bytes.proofs.Gives.{first_of, forwards_asked, forwards_gives, accepted_other, accepts_asked, accepts_response}
 use Rattle.laws_device_bytes.proofs.Gives.{answered_host, comes_behind, delivered_other, delivers_gives, gives_delivered, goes_host}
 use Rattle.laws_device_bytes.proofs.Gives.{hears_gives, kept_empty, response_empty, shut_gives, shuts_asked, unanswered_got}
+use Rattle.laws_device_bytes.proofs.Streamed.{join_of, left_streamed, passed_streamed, same_streamed}
 use Rattle.laws_bytes.proofs.Logs.{got_after_got, got_after_put, none_on_any, only_on, passed_after_got, passed_after_put, put_after_got}
-use Rattle.laws_bytes.proofs.{Logs.put_after_put, Steps.comes_out, Steps.Goes, Steps.drops, Steps.stays_still}
-use Rattle.laws_device_bytes.proofs.Streamed.{join_of}
-use Rattle.laws_device_bytes.proofs.Streamed.{left_streamed, passed_streamed, same_streamed}
+use Rattle.laws_bytes.proofs.{Logs.put_after_put, Steps.comes_out, Steps.Goes, Steps.drops, Steps.stays_still, Changes.without_changed}
 use Rattle.vs_outside.specs.Host.{after_failed, after_read, after_shut_write, after_write, called, dial_answer, fails_now, is_listened}
-use Rattle.vs_outside.specs.Host.{next_bytes, HostContents, with_shut_write_call}
+use Rattle.vs_outside.specs.Host.{next_bytes, HostContents, with_shut_write_call, Stream}
 use Rattle.vs_outside.proofs.Frames.{stream_at-after_failed}
 use Rattle.vs_page.specs.{Fair.IsFairLog, Fair.payload_of, Fair.IsFairOn, Held.IsWhole, Held.packet_held, Held.packet_with}
 use Rattle.vs_page.specs.{Held.payload_held, Log.Device, Log.Log, Log.flow_got, Log.flow_put, Log.history_of, Log.side_of, Log.whole_of}
-use Rattle.vs_page.specs.declared.log.LogEntry.TheVariants.{GotPacket, PutPacket}
+use Rattle.vs_page.specs.declared.log.LogEntry.TheVariants.{GotPacket, Mark, PutEvent, PutPacket}
 use Rattle.vs_header.specs.{Packet.header_of, declared.Header.Header, declared.Kind.Kind}
 use Rattle.vs_page.proofs.Flows.{same_self}
 use Rattle.vs_proxy_parts.specs.State.{Handshake}
 use Rattle.vs_uds.specs.{ConnectLine.connect_port, ConnectLine.connect_step, Reading.is_decided, Reading.port_or_bad}
 use Rattle.vs_uds.specs.{declared.connect.TheConstants.CONNECT_MAX, OkLine.ok_text}
-use Rattle.laws_world.proofs.{DeviceSide.end_in, DeviceSide.held_in, Entries.without_changed}
 use Rattle.laws_tables.proofs.Fair.{fair_now, own_got_fair}
 use Rattle.vs_outside.specs.declared.host_net.Dialed.TheVariants as dialed
 use Rattle.vs_conn.specs.declared.end.State.TheVariants as state
@@ -53,7 +50,7 @@ StreamedIf fresh c log port t hands = fresh → IsStreamed c log port t hands
 
 -- What packets carry payload.
 pub delivered_rw : (e : ConnectionEnd) (p : Packet) → verdict_of e p.header ≡ verdict.Deliver → is_rw p ≡ true
-delivered_rw e p is = let five = named_rw p.header.op (delivers e p.header is).rw in rw five refl
+delivered_rw e p is = grind (arith, nat_tests, common_steps, is)
 
 pub request_empty : (p : Packet) → is_request p ≡ true → is_rw p ≡ false
 request_empty p is = grind (arith, nat_tests, common_steps, is)
@@ -223,7 +220,7 @@ module _ (c : HostContents) (log : Log) (port : ℕ) (t : Table DeviceConnection
 
   -- A connection leaves, after another change of it.
   pub leaves_streams : (e : DeviceEntry) (k : DeviceConnection) → Contains t.entries e → IsStreamed c log port (without (with_value t e.slot k) e.slot) hands
-  leaves_streams e k is = subst (λ (u : Table DeviceConnection). IsStreamed c log port u hands) (sym (without_changed end_in held_in t e.slot k))
+  leaves_streams e k is = subst (λ (u : Table DeviceConnection). IsStreamed c log port u hands) (sym (without_changed t e.slot k))
       (left_streamed (look c) c.labelled log port t hands x sound e is)
 
   -- Bytes of its stream are read and put; its stream is given bytes.
@@ -273,6 +270,17 @@ pub shut_write_host : (id : ℕ) (c : HostContents) (log : Log) (port : ℕ) (t 
 shut_write_host id c log port t hands x = same_host c (after_shut_write id c) log port t hands
     (unseen id (λ s. record s { write_shut = true }) (with_shut_write_call c) (λ st. refl)) refl x
 
+-- Entries that are no packets.
+pub event_streams : (c : HostContents) (log : Log) (id port : ℕ) (t : Table DeviceConnection) (hands : List Handshake) → IsStreamed c log port t hands
+    → IsStreamed c (PutEvent id ∷ log) port t hands
+event_streams c log id port t hands x = same_streamed (look c) (look c) c.labelled log (PutEvent id ∷ log) port (λ j. refl) (λ f. refl) (λ f. refl)
+    (λ f on. on) t hands x
+
+pub mark_streams : (c : HostContents) (log : Log) (cid port : ℕ) (t : Table DeviceConnection) (hands : List Handshake) → IsStreamed c log port t hands
+    → IsStreamed c (Mark cid ∷ log) port t hands
+mark_streams c log cid port t hands x = same_streamed (look c) (look c) c.labelled log (Mark cid ∷ log) port (λ j. refl) (λ f. refl) (λ f. refl)
+    (λ f on. on) t hands x
+
 -- No connection is left.
 pub emptied_streams : (c : HostContents) (log : Log) (port : ℕ) (t u : Table DeviceConnection) (hands : List Handshake) → u.entries ≡ []
     → IsStreamed c log port t hands → IsStreamed c log port u hands
@@ -293,3 +301,25 @@ goes_on line is = by (is_decided 32 line) (connect_port line) is
     by false o is = refl
     by true None is = absurd cc
     by true (Some port) is = absurd cc
+
+-- A host without streams, and a table without connections.
+pub no_streams : (c : HostContents) (port : ℕ) (t : Table DeviceConnection) → t.entries ≡ [] → c.streams ≡ [] → IsStreamed c [] port t []
+no_streams c port t empty fresh = record {
+  joined = subst (λ (es : List DeviceEntry). All (IsJoined (look c) []) es) (sym empty) (λ i e within. absurd (omega (arith, within)));
+  labels = λ id s f there label. absurd (none id s there);
+  unique = λ i j s u f a b p q. absurd (none i s a);
+  none = λ f without. refl;
+  waiting = λ id s there waits. absurd (none id s there);
+  lines = record {
+    read = λ i h within. absurd (omega (arith, within));
+    undecided = λ i h within. absurd (omega (arith, within));
+    apart = λ i j h less within. absurd (omega (arith, within));
+  };
+}
+  where
+    by : (b : Bool) (id : ℕ) (s : Seen) → option_map seen (cond b None (slice_get {X = Stream} [] (id - 1))) ≡ Some s → ⊥
+    by true id s there = cc
+    by false id s there = cc
+
+    none : (id : ℕ) (s : Seen) → look c id ≡ Some s → ⊥
+    none id s there = by (id == 0) id s (ap (λ (xs : List Stream). option_map seen (cond (id == 0) None (slice_get xs (id - 1)))) (sym fresh) ∙ there)

@@ -1,0 +1,11 @@
+use Rattle.laws_proxy.proofs.Ordered.{new_streamed, reset_streamed, turn_streamed}
+use Rattle.laws_proxy.proofs.laws.law_of_streamed.Goals as goal
+
+pub returns-clause-new : goal.returns-clause-new
+returns-clause-new c = new_streamed
+
+pub returns-clause-turn : goal.returns-clause-turn
+returns-clause-turn c = λ first size now s a b x holds streams runs. turn_streamed s a b size now x runs first holds streams
+
+pub returns-clause-reset : goal.returns-clause-reset
+returns-clause-reset c = λ first cid s a b x fits holds streams runs. reset_streamed s a b cid x fits runs first holds streams
