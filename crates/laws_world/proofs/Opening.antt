@@ -16,7 +16,7 @@ use Rattle.vs_ring_list.specs.Ends.{empty_ends}
 use Rattle.laws_tables.specs.Both.{Both}
 use Rattle.vs_driver_parts.specs.Conversations.{DriverTree, load_cid, new_of, new_state, post_events, post_one, posts, publish_of}
 use Rattle.vs_driver_parts.specs.State.{DriverState}
-use Rattle.laws_driver.specs.Honest.{IsFitState, slots_of}
+use Rattle.laws_driver.specs.{Honest.IsFitState, Honest.slots_of, Resets.MarksResets}
 use Rattle.laws_driver.proofs.Calls.{made_fits}
 use Rattle.laws_driver_bytes.specs.Received.{AreReceived, no_account}
 use Rattle.laws_driver_bytes.proofs.Connecting.{none_received}
@@ -104,7 +104,6 @@ new_made n = twice (MadeBy n) (posts Rx (made n 0 0)) (publish_of Rx) post_event
     after_rx m lists log quiet = twice (MadeBy n) (posts Event (made n 0 0)) (publish_of Event) load_cid _ (posts_event (MadeBy n) n (λ s. bind (publish_of Event s) load_cid) loaded n 0 _ _
         (record { entries = quiet.entries; staged = quiet.staged; given = quiet.given; cid = quiet.cid }))
 
-
 module _ (n : ℕ) (host : HostContents) where
   new : IsMade n (opening n host).driver (opening n host).rings.lists (opening n host).rings.driver
   new = new_made n
@@ -150,6 +149,7 @@ module _ (n : ℕ) (host : HostContents) where
     chain = tt;
     known = subst (λ (c : ℕ). c < 2 ^ 64) (sym new.cid) (omega arith);
     broken = ap (λ (s : DriverState). s.broken) new.state;
+    marks = subst MarksResets (sym log_empty) tt;
     overrun = refl;
     cids = subst (AreVoiced first_cid) opening_is (voices_start first_cid FIRST_PORT ASSIGNED_FIRST);
     once = subst AreOnce opening_is (start_once first_cid FIRST_PORT ASSIGNED_FIRST);

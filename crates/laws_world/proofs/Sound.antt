@@ -38,7 +38,7 @@ use Rattle.laws_device_bytes.proofs.Changing.{StreamedIf}
 use Rattle.std.specs.List.{All}
 use Rattle.vs_limits.specs.declared.TheConstants.{GUEST_CID_MIN, GUEST_CID_MAX}
 use Rattle.laws_tables.proofs.{Both.next_is_fair, Fair.got_formed, Slots.one_end, Voices.AreVoiced, Voices.voices_run}
-use Rattle.laws_driver.specs.{Honest.IsFitState, Honest.ends_of_state, Honest.slots_of, Staged.IsLeft}
+use Rattle.laws_driver.specs.{Honest.IsFitState, Honest.ends_of_state, Honest.slots_of, Resets.MarksResets, Staged.IsLeft}
 use Rattle.laws_driver.proofs.{Carrying.Carries, Carrying.Fact, Carrying.Holds, Carrying.IsTiedBy, Carrying.RestsWith, Keeping.Keeps}
 use Rattle.laws_driver.proofs.{Keeping.keeps_weaker, Staging.Rests, Staging.rests_tied, Stepping.Works, Stepping.owed_with}
 use Rattle.laws_driver.proofs.Stepping.{publish_with, reply_with, takes_with}
@@ -85,6 +85,7 @@ pub record IsWell (fresh : Type 0) (w : World) : Type 0 where
   pub chain : HoldsRx w.proxy.device.chain w.rings.device.held
   pub known : w.rings.lists.cid < 2 ^ 64
   pub broken : w.driver.broken ≡ 0
+  pub marks : MarksResets (log_with_staged w.rings.driver)
   -- Ids were given to these connections.
   pub opened : ℕ → Connection
   pub received : AreReceived (account_of 1 opened w.journal) (log_with_staged w.rings.driver) (slots_of w.driver)
@@ -145,7 +146,7 @@ module _ (fresh : Type 0) (w : World) (well : IsWell fresh w) where
   -- Where nothing is staged, and where packets may be.
   ties_at : (fact : Fact) → Holds fact w.driver (log_with_staged w.rings.driver) → DriverTies first_cid fact w.driver (exposed rings)
   ties_at fact held = λ on l is. subst (IsTiedBy first_cid fact w.driver) (same_told is) (
-    (well.driver, record { none_refused = well.broken; matches = well.sound.matches Driver; fair = well.sound.fair Driver }),
+    (well.driver, record { none_refused = well.broken; matches = well.sound.matches Driver; fair = well.sound.fair Driver; marks = well.marks }),
     held,
   )
 
@@ -154,7 +155,7 @@ module _ (fresh : Type 0) (w : World) (well : IsWell fresh w) where
     (
       well.driver,
       subst (λ (pages : List (List ℕ)). IsLeft first_cid w.driver.broken (ends_of_state w.driver) pages w.rings.driver.entries) none
-          (record { none_refused = well.broken; matches = well.sound.matches Driver; fair = well.sound.fair Driver }),
+          (record { none_refused = well.broken; matches = well.sound.matches Driver; fair = well.sound.fair Driver; marks = well.marks }),
       none,
     ),
     subst (λ (pages : List (List ℕ)). Holds fact w.driver (all_put pages w.rings.driver.entries)) none held,
@@ -187,6 +188,7 @@ module _ (fresh : Type 0) (w : World) (well : IsWell fresh w) where
           chain = well.chain;
           known = ends.1.cid;
           broken = now.0.1.none_refused;
+          marks = now.0.1.marks;
           opened = after.opened;
           received = after.received;
           agrees = after.agrees;
@@ -283,6 +285,7 @@ device_goes fresh tree state_of w well (kept, chain, known, streams) = record {
     chain = chain;
     known = known;
     broken = well.broken;
+    marks = well.marks;
     opened = well.opened;
     received = well.received;
     agrees = well.agrees;
@@ -358,6 +361,7 @@ module _ (fresh : Type 0) (w : World) (well : IsWell fresh w) where
       chain = well.chain;
       known = well.known;
       broken = well.broken;
+      marks = well.marks;
       opened = well.opened;
       received = well.received;
       agrees = well.agrees;
