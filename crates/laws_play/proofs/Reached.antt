@@ -16,6 +16,7 @@ use Rattle.vs_page.proofs.Opened.{was_opened}
 use Rattle.laws_bytes.specs.Drains.{Drains, receives}
 use Rattle.laws_world.specs.{Events.is_at_rest, Events.none_staged, Sides.device_ends, Sides.driver_ends, Sides.log_with_staged}
 use Rattle.laws_world.specs.World.{World, first_cid}
+use Rattle.laws_driver.specs.Resets.{MarksResets}
 use Rattle.laws_driver_bytes.specs.Calls.{received_on, sent_on}
 use Rattle.laws_world.proofs.{Bytes.read_own, Bytes.wrote_own, Sound.IsWell, Carried.given_is, Carried.gone_of, Carried.one_stream}
 use Rattle.laws_world.proofs.Carried.{pending_of, received_is, sent_is, to_device, to_driver, to_guest, to_host, unread_of, wrote_is}
@@ -133,6 +134,7 @@ module _ {fresh : Type 0} (w : World) (well : IsWell fresh w) (yes : fresh) (res
     };
     guest_since = λ f there. opened_by Driver first_cid f (driver_log w) _ (sym (open_at_guest f) ∙ there);
     device_since = λ f there. opened_by Device first_cid f (device_log w) _ (sym (begun_at_device f) ∙ there);
+    marks = at_rest MarksResets well.marks;
   }
 
   pub keeps_credit : KeepsCredit w

@@ -20,7 +20,8 @@ use Rattle.laws_tables.proofs.{Both.step_keeps, Fair.heard_none, Tables.end_begu
 use Rattle.laws_tables.proofs.Entries.{replaced_other, replaced_same, without_other, without_same}
 use Rattle.vs_page.proofs.Entries.{present_is}
 use Rattle.laws_world.specs.Sides.{AsksAnew, RunsAnew}
-use Rattle.laws_world.proofs.{Firsts.silent_whole, Once.AreOnce, Once.asked_once, Once.keeps_once, Runs.one_step}
+use Rattle.laws_bytes.proofs.Firsts.{silent_whole}
+use Rattle.laws_world.proofs.{Once.AreOnce, Once.asked_once, Once.keeps_once, Runs.one_step}
 use Rattle.vs_page.specs.{Fair.payload_of, Log.Device, Log.Driver, Log.Log, Log.Role, Log.flow_got, Log.flow_put, Log.side_of, Log.whole_of}
 use Rattle.vs_page.specs.{Open.is_dropped, declared.log.LogEntry.LogEntry, declared.log.LogEntry.TheVariants.GotEvent}
 use Rattle.vs_page.specs.declared.log.LogEntry.TheVariants.{GotPacket, Mark, PutEvent, PutPacket}

@@ -19,6 +19,7 @@ use Rattle.vs_script.specs.{Data.Content, Play.Event}
 use Rattle.vs_report.specs.{Report.counts_text, Report.device_open_text, Report.guest_open_text, Report.stream_texts, GuestLines.recv_text}
 use Rattle.vs_report.specs.GuestLines.{send_text}
 use Rattle.laws_world.specs.{Laws.IsEmptied, Sides.device_ends, Sides.driver_ends, Steps.Leads, World.World, World.first_cid}
+use Rattle.laws_driver.specs.Resets.{MarksResets}
 use Rattle.laws_driver_bytes.specs.Calls.{received_on, sent_on}
 use Rattle.vs_play.specs.{Answer.opened_play, Answer.printed, Answer.texts_of, Answer.world_after, Lines.event_played}
 use Rattle.laws_play.specs.Said.{received_in, recv_answer, recv_bytes, send_answer, sent_in}
@@ -122,6 +123,8 @@ pub record HoldsOpen (w : World) : Type 0 where
   pub guest_since : (f : Flow) → is_among f (guest_flows w) ≡ true → WasOpened Driver first_cid f (driver_log w)
   pub device_since : (f : Flow) → is_among f (begun_flows (device_ends w.proxy).entries) ≡ true
       → WasOpened Device first_cid f (device_log w)
+  -- The guest's log has a reset right behind each event that told of one, and no other.
+  pub marks : MarksResets (driver_log w)
 
 -- A transport reset leaves the device's table, its owed replies and its handshakes empty.
 abbrev pub EmptiesDevice : ℕ → List Event → Type 0

@@ -47,7 +47,6 @@ use Rattle.vs_wrap.specs.Wrap.{counted}
 use Rattle.vs_ring_port.specs.declared.failure.Failure.TheVariants as failure
 use Rattle.vs_device_parts.specs.declared.answers.Taken.TheVariants as taken
 use Rattle.vs_device_parts.specs.declared.answers.{Filled.Filled}
-use Rattle.laws_device.proofs.Keeping.{fitted, moved}
 use Rattle.vs_proxy_parts.specs.Handshakes.{accept_answered, accept_one, byte_read, dropping, handshake_on, host_fault, line_decided, may_open}
 use Rattle.vs_proxy_parts.specs.Handshakes.{opening, read_byte, read_line, shake_hands, streams_of, tick_handshake, tick_handshakes}
 use Rattle.vs_proxy_parts.specs.{State.Handshake, State.ProxyState, State.Turning, State.start, declared.answers.Turn.Turn}
@@ -141,20 +140,20 @@ other_same c d same = ap (λ r. resets_in r.log) same
 
 call_same : (call : Call) (a : Answer call) (s t : Situation) → IsCalm call → Allows call a s t → resets_in t.ring.log ≡ resets_in s.ring.log
 call_same (Ring call) a s t calm allowed = ring_same call a s t calm allowed
-call_same Accept a s t calm allowed = other_same s.ring t.ring (moved Accept a s t allowed)
-call_same (Dial path flow) a s t calm allowed = other_same s.ring t.ring (moved (Dial path flow) a s t allowed)
-call_same (Label stream flow) a s t calm allowed = other_same s.ring t.ring (moved (Label stream flow) a s t allowed)
-call_same (ReadStream stream n) a s t calm allowed = other_same s.ring t.ring (moved (ReadStream stream n) a s t allowed)
-call_same (WriteStream stream bytes) a s t calm allowed = other_same s.ring t.ring (moved (WriteStream stream bytes) a s t allowed)
-call_same (ShutWrite stream) a s t calm allowed = other_same s.ring t.ring (moved (ShutWrite stream) a s t allowed)
-call_same (CloseStream stream) a s t calm allowed = other_same s.ring t.ring (moved (CloseStream stream) a s t allowed)
+call_same Accept a s t calm allowed = other_same s.ring t.ring allowed.ring
+call_same (Dial path flow) a s t calm allowed = other_same s.ring t.ring allowed.ring
+call_same (Label stream flow) a s t calm allowed = other_same s.ring t.ring allowed.ring
+call_same (ReadStream stream n) a s t calm allowed = other_same s.ring t.ring allowed.0.ring
+call_same (WriteStream stream bytes) a s t calm allowed = other_same s.ring t.ring allowed.0.ring
+call_same (ShutWrite stream) a s t calm allowed = other_same s.ring t.ring allowed.ring
+call_same (CloseStream stream) a s t calm allowed = other_same s.ring t.ring allowed.ring
 
 fits_next : (queue : Queue) (o : Option Chain) → IfSome o (λ chain. IsFitChain queue chain) → IfSome o (λ chain. chain.queue ≡ queue)
 fits_next queue None fit = fit
 fits_next queue (Some chain) fit = fit.queue_is
 
 fits : (call : Call) (a : Answer call) (s t : Situation) → Allows call a s t → Fits call a
-fits (Ring (Take queue)) a s t allowed = fits_next queue (chain_of a) (fitted (Ring (Take queue)) a s t allowed)
+fits (Ring (Take queue)) a s t allowed = fits_next queue (chain_of a) allowed.3
 fits (Ring (Read chain place n)) a s t allowed = tt
 fits (Ring (Write chain place bytes)) a s t allowed = tt
 fits (Ring (Return chain len)) a s t allowed = tt
