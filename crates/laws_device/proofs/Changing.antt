@@ -1,7 +1,6 @@
 -- Decisions of a connection: no packet passes, and the device still matches its log.
 use Rattle.std.proofs.Common.{◌≡◌, ℕ, ◌-◌, ◌≤◌, Bool, true, false, cond, List, [], ◌∷◌, ◌++◌, length, drop, Contains, refl, sym, ap, subst}
-use Rattle.std.proofs.Common.{◌∙◌, arith, length-append, length-drop, length-take}
-use Rattle.std.proofs.lemmas.Grind.{common_steps}
+use Rattle.std.proofs.{Common.◌∙◌, Common.arith, Common.length-append, Common.length-drop, Common.length-take, lemmas.Grind.common_steps}
 use Rattle.vs_conn.specs.{End.ConnectionEnd, End.wanting_credit, End.with_payload_forwarded, End.with_shut, Follows.Follows}
 use Rattle.vs_conn.proofs.Steps.{abort_follows, ask_follows, forward_follows, shut_follows}
 use Rattle.laws_history.specs.History.{Side, gots, puts, History}
@@ -11,8 +10,8 @@ use Rattle.laws_tables.specs.{Ends.Ends, Ends.FlowEnd, Ends.ends_of, Ends.is_new
 use Rattle.laws_tables.specs.Steps.{with_end}
 use Rattle.laws_tables.proofs.Keeps.{changes}
 use Rattle.vs_replies.specs.declared.Reply.{Reply}
-use Rattle.vs_device_parts.specs.{State.DeviceConnection, State.DeviceEntry, State.DeviceState, Streams.to_write}
-use Rattle.vs_device_parts.specs.Connections.{after_shut, after_written, cut_off, with_connection}
+use Rattle.vs_device_parts.specs.{State.DeviceConnection, State.DeviceEntry, State.DeviceState, Streams.to_write, Connections.after_shut}
+use Rattle.vs_device_parts.specs.Connections.{after_written, cut_off, with_connection}
 use Rattle.laws_device.specs.Honest.{HoldsBytes, IsFit, IsFitState, ends_of_state, ends_with}
 use Rattle.laws_device.proofs.Tabling.{IsFitConnection, begun_fits, connection_ends, connection_fits, entry_fits, has_end}
 use Rattle.laws_device.proofs.Fits.{fits_forwarded, fits_shut}

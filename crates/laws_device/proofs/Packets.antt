@@ -1,17 +1,16 @@
 -- What one packet does to the log: the packet that is put, the one that is taken, and an event.
 use Rattle.std.proofs.Common.{◌≡◌, ℕ, ◌+◌, ◌==◌, nat_le, Bool, true, false, cond, List, [], ◌∷◌, ◌++◌, length, take, drop, Option, Some}
-use Rattle.std.proofs.Common.{None, Result, refl, sym, ap, subst, ◌∙◌}
-use Rattle.std.proofs.lemmas.List.{append-nil}
+use Rattle.std.proofs.{Common.None, Common.Result, Common.refl, Common.sym, Common.ap, Common.subst, Common.◌∙◌, lemmas.List.append-nil}
 use Rattle.std.specs.Option.{ForSome, option_map}
 use Rattle.byteorder.specs.Endian.{little_bytes}
 use Rattle.vs_contents.specs.Contents.{Exposes, Relates}
 use Rattle.vs_header.specs.{Packet.header_bytes, Packet.header_of, declared.Header.Header, declared.TheConstants.HEADER_LEN}
 use Rattle.laws_history.specs.{Packets.is_rw, declared.packet.Packet.Packet}
-use Rattle.vs_page.specs.{Held.packet_held, Held.payload_held, Log.Log, Overwriting.overwritten}
-use Rattle.vs_page.specs.declared.log.LogEntry.TheVariants.{PutEvent, PutPacket}
+use Rattle.vs_page.specs.{Held.packet_held, Held.payload_held, Log.Log, Overwriting.overwritten, declared.log.LogEntry.TheVariants.PutEvent}
+use Rattle.vs_page.specs.declared.log.LogEntry.TheVariants.{PutPacket}
 use Rattle.vs_ring_port.specs.{Chains.Held, Chains.bytes_in, DeviceCalls.DeviceMoves, DeviceCalls.IsTakenAs, Lists.Rings}
-use Rattle.vs_ring_port.specs.{declared.device_ring.Chain.Chain, declared.failure.Failure.Failure}
-use Rattle.vs_ring_port.specs.Contents.{DeviceAnswer, DeviceCall, Read, Return, RingContents, Take, Write}
+use Rattle.vs_ring_port.specs.{declared.device_ring.Chain.Chain, declared.failure.Failure.Failure, Contents.DeviceAnswer}
+use Rattle.vs_ring_port.specs.Contents.{DeviceCall, Read, Return, RingContents, Take, Write}
 use Rattle.vs_ring_port.specs.EndLog.{EndLog, log_returned, log_taken, log_written, with_packet}
 use Rattle.vs_ring_port.specs.declared.queue.Queue.TheVariants.{Event, Rx, Tx}
 use Rattle.vs_device_parts.specs.{Calls.Allows, Calls.Ring, Calls.Situation, Playing.Runs, Receiving.event_on, Receiving.written}

@@ -1,8 +1,7 @@
 -- The table that is shown and what is pending, and the log.
 use Rattle.std.specs.List.{All}
 use Rattle.std.proofs.Common.{true, false, ◌≡◌, ℕ, ◌≤◌, Bool, not, ◌||◌, cond, List, [], ◌∷◌, map, length, Contains, refl, ap, subst, ◌∙◌}
-use Rattle.std.proofs.Common.{arith}
-use Rattle.std.proofs.lemmas.List.Elements.{All-nil, All-cons}
+use Rattle.std.proofs.{Common.arith, lemmas.List.Elements.All-nil, lemmas.List.Elements.All-cons}
 use Rattle.vs_flow.specs.declared.flow.Flow.{Flow}
 use Rattle.laws_history.specs.{Again.AllowsNow, History.Got, History.History, History.IsFair, History.IsHonest, History.Put, History.Side}
 use Rattle.laws_history.specs.{History.gots, History.puts, Packets.has, Packets.is_request, Packets.is_rst, Packets.tells}

@@ -1,6 +1,5 @@
 -- The host's streams, where an honest ring tells the log.
-use Rattle.std.specs.Prelude.{◌≡◌, ℕ, ◌≤◌, true, List, [], ◌∷◌}
-use Rattle.std.specs.Option.{ForSome}
+use Rattle.std.specs.{Prelude.◌≡◌, Prelude.ℕ, Prelude.◌≤◌, Prelude.true, Prelude.List, Prelude.[], Prelude.◌∷◌, Option.ForSome}
 use Rattle.vs_flow.specs.{Table.Table, declared.flow.Flow.Flow}
 use Rattle.vs_page.specs.{Fair.number_of, Log.Device, Log.Log, Log.flow_got, Open.cid_of, Open.is_dropped, Open.is_left_open}
 use Rattle.vs_page.specs.declared.log.LogEntry.TheVariants.{GotPacket}

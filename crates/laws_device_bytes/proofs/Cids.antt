@@ -1,7 +1,6 @@
 -- A packet with payload is not dropped where its connection's stream is given payload.
-use Rattle.std.proofs.lemmas.{Bool.Decides.nat_tests, Grind.common_steps}
-use Rattle.std.proofs.Common.{◌≡◌, ◌≢◌, ℕ, ◌==◌, ◌&&◌, Bool, true, false, not, is_some, List, [], ◌∷◌, ◌++◌, refl, sym, ap, ◌∙◌, subst}
-use Rattle.std.proofs.Common.{arith}
+use Rattle.std.proofs.{lemmas.Bool.Decides.nat_tests, lemmas.Grind.common_steps, Common.◌≡◌, Common.◌≢◌, Common.ℕ, Common.◌==◌, Common.◌&&◌}
+use Rattle.std.proofs.Common.{Bool, true, false, not, is_some, List, [], ◌∷◌, ◌++◌, refl, sym, ap, ◌∙◌, subst, arith}
 use Rattle.vs_conn.specs.{End.ConnectionEnd, Follows.Follows, declared.end.State.TheVariants.Ended}
 use Rattle.vs_flow.specs.declared.flow.Flow.{Flow}
 use Rattle.vs_limits.specs.declared.TheConstants.{HOST_CID}

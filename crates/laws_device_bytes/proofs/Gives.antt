@@ -1,8 +1,7 @@
 -- What the end of a device's connection does to the payload that its stream is given.
 use Rattle.std.proofs.Common.{◌≡◌, ℕ, zero, suc, ◌-◌, ◌≤◌, Bool, true, false, cond, List, [], ◌∷◌, ◌++◌, length, take, drop, Contains, Some}
 use Rattle.std.proofs.Common.{refl, sym, ap, subst, ◌∙◌, append_assoc, arith}
-use Rattle.std.proofs.lemmas.Bool.Decides.{nat_tests}
-use Rattle.std.proofs.lemmas.{Grind.common_steps, List.append-nil, List.length-take, List.take-take}
+use Rattle.std.proofs.lemmas.{Bool.Decides.nat_tests, Grind.common_steps, List.append-nil, List.length-take, List.take-take}
 use Rattle.vs_conn.specs.End.{ConnectionEnd, end_after, owes_of, paid_of, verdict_of, with_payload_forwarded, with_shut}
 use Rattle.vs_conn.specs.declared.end.{Owed.Owed, Verdict.Verdict}
 use Rattle.vs_conn.specs.declared.end.Owed.TheVariants as owed
@@ -17,8 +16,7 @@ use Rattle.vs_outside.specs.Host.{HostContents}
 use Rattle.vs_page.specs.{Fair.payload_of, Log.Device, Log.Log}
 use Rattle.vs_proxy_parts.specs.State.{Handshake}
 use Rattle.laws_bytes.specs.Drains.{Drains, got_on, has_passed, put_on}
-use Rattle.laws_device_bytes.specs.Streamed.{IsJoined, IsStreamed}
-use Rattle.laws_device_bytes.specs.Streamed.{gives, line_for, look}
+use Rattle.laws_device_bytes.specs.Streamed.{IsJoined, IsStreamed, gives, line_for, look}
 use Rattle.laws_bytes.proofs.{Logs.all_of, Logs.only_on, Logs.there_on, Steps.Goes, Steps.comes_in, Steps.drops, Steps.stays_still}
 use Rattle.laws_device_bytes.proofs.Streamed.{changed_streamed, join_of}
 

@@ -1,12 +1,11 @@
 -- What the host's streams took and gave, through the calls of the proxy and of the host's programs.
 use Rattle.std.proofs.Common.{◌≡◌, ◌≢◌, ℕ, zero, suc, ◌-◌, ◌==◌, Bool, true, false, cond, List, [], ◌∷◌, ◌++◌, take, get_or, slice_get}
 use Rattle.std.proofs.Common.{Contains, Option, Some, None, refl, sym, ap, subst, ◌∙◌, arith}
+use Rattle.std.proofs.lemmas.{Bool.Decides.nat_tests, List.append-nil, List.Elements.All-push, List.Quantifiers.all_pairs_push}
 use Rattle.std.specs.Option.{option_map, option_map_or}
 use Rattle.vs_outside.specs.{HostBytes.after_line, Host.HostContents, Host.Stream, Host.accept_answer, Host.after_accept, Host.after_close}
 use Rattle.vs_outside.specs.Host.{after_read, after_write, called, give_bytes, next_bytes, stream_at, take_bytes, waits}
 use Rattle.vs_outside.specs.HostProgram.{after_client, client_stream}
-use Rattle.std.proofs.lemmas.Bool.Decides.{nat_tests}
-use Rattle.std.proofs.lemmas.List.{append-nil, Elements.All-push, Quantifiers.all_pairs_push}
 use Rattle.vs_conn.specs.declared.end.State.TheVariants.{Asked}
 use Rattle.vs_device_parts.specs.State.{DeviceConnection, DeviceEntry}
 use Rattle.vs_flow.specs.{Table.IsTable, Table.Table, Table.with_value, declared.flow.Flow.Flow}
@@ -19,11 +18,10 @@ use Rattle.vs_page.specs.Log.{Device, Log}
 use Rattle.vs_proxy_parts.specs.State.{Handshake}
 use Rattle.vs_uds.specs.{Reading.is_decided, declared.connect.TheConstants.CONNECT_MAX}
 use Rattle.laws_bytes.specs.Drains.{Drains, got_on, has_passed, put_on}
-use Rattle.laws_device_bytes.specs.Streamed.{AreStreamed, IsJoined}
-use Rattle.laws_device_bytes.specs.Streamed.{IsStreamed, Seen, client_waits, gives, has_line, line_for, look, reading, seen, taken_of}
-use Rattle.laws_bytes.proofs.Logs.{none_on_any}
+use Rattle.laws_device_bytes.specs.Streamed.{AreStreamed, IsJoined, IsStreamed, Seen, client_waits, gives, has_line, line_for, look}
+use Rattle.laws_device_bytes.specs.Streamed.{reading, seen, taken_of}
+use Rattle.laws_bytes.proofs.Logs.{none_on_any, only_on}
 use Rattle.laws_device_bytes.proofs.{Hosts.changed_seen, Hosts.others_seen, Hosts.there, Hosts.unseen_none, Lines.after_longer}
-use Rattle.laws_bytes.proofs.Logs.{only_on}
 use Rattle.laws_device_bytes.proofs.Streamed.{join_of, moved_streamed, same_streamed, unlabelled_streamed}
 
 -- Another host, whose streams look the same.

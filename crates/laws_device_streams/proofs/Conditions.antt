@@ -1,6 +1,5 @@
 -- What a call asks for, of the host and of the ring apart.
-use Rattle.std.proofs.Common.{◌≡◌, ◌==◌, true, arith}
-use Rattle.std.proofs.lemmas.Bool.Decides.{nat_tests}
+use Rattle.std.proofs.{Common.◌≡◌, Common.◌==◌, Common.true, Common.arith, lemmas.Bool.Decides.nat_tests}
 use Rattle.vs_ring_port.specs.Contents.{Take, Read, Write, Return, Given, PublishCid}
 use Rattle.vs_device_parts.specs.Calls.{Call, Ring, Accept, Dial, Label, ReadStream, WriteStream, ShutWrite, CloseStream, Situation}
 use Rattle.vs_device_parts.specs.{Calls.DeviceTree, Calls.Allows, Playing.CanMake, Playing.MayRun}

@@ -1,8 +1,7 @@
 -- The streams of a table, and what a change of the table or of the host does to them.
 use Rattle.std.proofs.Common.{◌≡◌, ◌≢◌, ℕ, ◌==◌, Bool, true, false, cond, List, Option, Some, None, Contains, ◌⊎◌, inl, inr, refl, sym, ap}
-use Rattle.std.proofs.Common.{subst, ◌∙◌, arith}
+use Rattle.std.proofs.{Common.subst, Common.◌∙◌, Common.arith, lemmas.Bool.Decides.nat_tests}
 use Rattle.std.specs.Option.{ForSome, option_map, option_and_then, option_or}
-use Rattle.std.proofs.lemmas.Bool.Decides.{nat_tests}
 use Rattle.vs_conn.specs.declared.end.State.TheVariants.{Ended}
 use Rattle.vs_contents.specs.Contents.{Exposes}
 use Rattle.vs_flow.specs.Table.{Table, IsTable, entry_of, entry_under, value_under, next_entry, with_entry, with_value, without, revalued}

@@ -30,7 +30,7 @@ use Rattle.laws_driver.specs.{Honest.IsFitState, Honest.ends_of_state, Staged.Is
 use Rattle.laws_driver.proofs.{Putting.owed_puts, Putting.reply_puts, Resetting.resets, Tabling.Stands, Taking.gets_packet, Keeping.Keeps}
 use Rattle.laws_driver.proofs.{Keeping.keeps_bind, Keeping.keeps_each, Keeping.keeps_weaker, Keeping.keeps_while, Staging.Rests}
 use Rattle.laws_driver.proofs.Staging.{SameBut, Ties, publish_other, publish_tx, reap_keeps, rests_tied, stage_other, stage_tx}
-use Rattle.laws_driver.proofs.Ringing.{IsAtRest, Tells, moves, tells_weaker}
+use Rattle.laws_driver.proofs.Ringing.{IsAtRest, Tells, moves}
 use Rattle.laws_driver.proofs.Carrying.{Carries, Fact, Holds, RestsWith}
 
 pub not_tx_rx : Rx ≡ Tx → ⊥

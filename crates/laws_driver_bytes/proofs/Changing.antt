@@ -1,7 +1,6 @@
 -- Calls that read nothing keep the account: those that make no use of the ring, and a send.
 use Rattle.std.proofs.Common.{◌≡◌, ℕ, ◌==◌, not, Bool, true, false, cond, List, [], ◌∷◌, take, length, Option, Some, None, refl, Contains}
-use Rattle.std.proofs.Common.{Result, Ok, Err, ◌∙◌}
-use Rattle.std.proofs.lemmas.List.Elements.{All-filter}
+use Rattle.std.proofs.{Common.Result, Common.Ok, Common.Err, Common.◌∙◌, lemmas.List.Elements.All-filter}
 use Rattle.vs_conn.specs.{End.with_payload_sent, End.wanting_credit, declared.end.State.State}
 use Rattle.vs_flow.specs.{Flow.same_flow, Table.IsTable, declared.flow.Flow.Flow}
 use Rattle.laws_history.specs.{declared.packet.Packet.Packet, Packets.is_request, History.Got, History.History, History.Put, History.Side}

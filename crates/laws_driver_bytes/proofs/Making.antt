@@ -1,7 +1,6 @@
 -- The guest's calls on the pages as they stand: what each carries to its end.
 use Rattle.std.proofs.Common.{◌≡◌, ℕ, ◌≤◌, ◌<◌, ◌^◌, ◌==◌, Bool, true, false, cond, List, [], ◌++◌, Result, Ok, Err, is_some, refl, sym, ap}
-use Rattle.std.proofs.Common.{subst, ◌∙◌, append-nil, arith}
-use Rattle.std.proofs.{Math.Path.fun_ext, lemmas.Bool.Decides.nat_tests}
+use Rattle.std.proofs.{Common.subst, Common.◌∙◌, Common.append-nil, Common.arith, Math.Path.fun_ext, lemmas.Bool.Decides.nat_tests}
 use Rattle.vs_contents.specs.CallTree.{Ask, Done}
 use Rattle.vs_flow.specs.Connection.{Connection}
 use Rattle.vs_header.specs.declared.Kind.TheVariants.{Stream}

@@ -1,7 +1,6 @@
 -- What an application received, through each change of a connection.
-use Rattle.std.proofs.Common.{◌≡◌, ◌≢◌, ℕ, ◌+◌, ◌<◌, ◌≤◌, ◌==◌, ◌&&◌, Bool, true, false, cond, List, [], ◌++◌, length, get_or, Contains, refl, sym}
-use Rattle.std.proofs.Common.{ap, subst, ◌∙◌, arith, append-nil}
-use Rattle.std.proofs.Math.Path.{fun_ext}
+use Rattle.std.proofs.Common.{◌≡◌, ◌≢◌, ℕ, ◌+◌, ◌<◌, ◌≤◌, ◌==◌, ◌&&◌, Bool, true, false, cond, List, [], ◌++◌, length, get_or, Contains}
+use Rattle.std.proofs.{Common.refl, Common.sym, Common.ap, Common.subst, Common.◌∙◌, Common.arith, Common.append-nil, Math.Path.fun_ext}
 use Rattle.std.proofs.lemmas.{Bool.Decides.nat_tests, List.Elements.All-contains}
 use Rattle.vs_flow.specs.{Connection.Connection, Table.IsTable, declared.flow.Flow.Flow}
 use Rattle.vs_flow.proofs.Entries.{same_flow_false}

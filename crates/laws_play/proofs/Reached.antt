@@ -1,9 +1,8 @@
 -- What holds of a world in which nothing is staged, where it is well.
 use Rattle.vs_flow.specs.{Connection.first_of, declared.flow.Flow.Flow}
 use Rattle.std.proofs.lemmas.{List.length-map, Bool.and_parts, List.Elements.All-map, List.Elements.Contains-get_or}
-use Rattle.std.proofs.lemmas.List.Kept.{AllPairs-cons}
-use Rattle.std.proofs.Common.{[], ap, Bool, false, get_or, length, List, not, refl, subst, suc, sym, true, ℕ, ◌&&◌, ◌++◌, ◌∷◌, ◌≡◌, ◌≢◌}
-use Rattle.std.proofs.Common.{◌∙◌, arith}
+use Rattle.std.proofs.{lemmas.List.Kept.AllPairs-cons, Common.[], Common.ap, Common.Bool, Common.false, Common.get_or, Common.length}
+use Rattle.std.proofs.Common.{List, not, refl, subst, suc, sym, true, ℕ, ◌&&◌, ◌++◌, ◌∷◌, ◌≡◌, ◌≢◌, ◌∙◌, arith}
 use Rattle.std.specs.List.{AllPairs}
 use Rattle.laws_history.specs.History.{History, IsFair, MayPut, Put, Side, gots, puts}
 use Rattle.laws_history.specs.declared.packet.Packet.{Packet}

@@ -1,7 +1,6 @@
 -- An end that decided to send no more on a connection puts no payload there.
 use Rattle.std.proofs.Common.{◌≡◌, ℕ, ◌≤◌, ◌&&◌, ◌||◌, Bool, true, false, cond, List, [], ◌∷◌, ◌++◌, length, IsOkAnd, Ok, Err, refl, sym}
-use Rattle.std.proofs.Common.{ap, subst, ◌∙◌}
-use Rattle.std.proofs.lemmas.List.{append-nil}
+use Rattle.std.proofs.{Common.ap, Common.subst, Common.◌∙◌, lemmas.List.append-nil}
 use Rattle.vs_conn.specs.{declared.end.Owed.Owed, declared.end.State.State, End.ConnectionEnd, End.answering, End.asked, End.end_after}
 use Rattle.vs_conn.specs.End.{is_of, paid_of, state_may_send, with_payload_sent}
 use Rattle.vs_conn.proofs.Frames.{got_own}

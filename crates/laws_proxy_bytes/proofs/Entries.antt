@@ -1,9 +1,8 @@
 -- Connections and handshakes with the accounts of their streams, through each change of them.
 use Rattle.std.proofs.Common.{◌≡◌, ◌≢◌, ℕ, ◌==◌, ◌&&◌, not, Bool, true, false, cond, List, [], ◌++◌, Contains, Option, Some, None, refl}
-use Rattle.std.proofs.Common.{sym, ap, subst, ◌∙◌, arith}
-use Rattle.std.specs.{List.All, List.AllPairs, Option.option_map, Option.option_map_or, Option.option_and_then, Option.option_or}
-use Rattle.std.proofs.lemmas.Bool.Decides.{nat_tests}
+use Rattle.std.proofs.{Common.sym, Common.ap, Common.subst, Common.◌∙◌, Common.arith, lemmas.Bool.Decides.nat_tests}
 use Rattle.std.proofs.lemmas.List.Elements.{All-contains, All-push, All-weaker}
+use Rattle.std.specs.{List.All, List.AllPairs, Option.option_map, Option.option_map_or, Option.option_and_then, Option.option_or}
 use Rattle.vs_flow.specs.{Flow.same_flow, Table.IsTable, Table.Table, Table.entry_of, Table.entry_under, Table.next_entry, Table.revalued}
 use Rattle.vs_flow.specs.{Table.with_entry, Table.with_value, Table.without, declared.flow.Flow.Flow}
 use Rattle.vs_flow.proofs.{Entries.same_flow_true, Lookups.entry_of-with_entry, Lookups.entry_of-with_value, Lookups.entry_of-without}

@@ -1,6 +1,6 @@
 -- The packets of a turn are judged, and counted where they are dropped, as the host's faults are.
-use Rattle.std.proofs.Common.{◌≡◌, ℕ, ◌+◌, ◌-◌, ◌==◌, ◌&&◌, not, zero, suc, Bool, true, false, cond, List, length, nat_lt}
-use Rattle.std.proofs.Common.{nat_le, Option, Some, None, Result, Ok, Err, refl, sym, subst, ◌∙◌}
+use Rattle.std.proofs.Common.{◌≡◌, ℕ, ◌+◌, ◌-◌, ◌==◌, ◌&&◌, not, zero, suc, Bool, true, false, cond, List, length, nat_lt, nat_le, Option}
+use Rattle.std.proofs.Common.{Some, None, Result, Ok, Err, refl, sym, subst, ◌∙◌}
 use Rattle.vs_contents.specs.CallTree.{Done, Ask, bind, for_each, while_up_to, Leads}
 use Rattle.vs_contents.proofs.Leads.{leads_bind, leads_split}
 use Rattle.vs_conn.specs.{End.is_reset, End.is_of, End.verdict_of, declared.end.Verdict.Verdict}
@@ -12,9 +12,8 @@ use Rattle.vs_page.specs.{Log.Device, Log.flow_to_host, Open.is_dropped}
 use Rattle.vs_ring_port.specs.{Contents.Return, Contents.Take, declared.device_ring.Chain.Chain, declared.device_ring.Next.Next}
 use Rattle.vs_ring_port.specs.declared.{failure.Failure.Failure, queue.Queue.TheVariants.Tx}
 use Rattle.vs_device_parts.specs.{Calls.DeviceTree, Calls.Ring, Calls.Situation, Playing.Runs, State.DeviceEntry, State.DeviceState}
-use Rattle.vs_device_parts.specs.Receiving.{fill_rx_of}
-use Rattle.vs_device_parts.specs.{Receiving.pay_event_of, Streams.pump_of, Streams.tick_of, Turns.reset_of, Transmitting.heard}
-use Rattle.vs_device_parts.specs.Transmitting.{dial_answered, failing, on_header, on_known, on_next, on_unknown, take_tx_of}
+use Rattle.vs_device_parts.specs.{Receiving.fill_rx_of, Receiving.pay_event_of, Streams.pump_of, Streams.tick_of, Turns.reset_of}
+use Rattle.vs_device_parts.specs.Transmitting.{heard, dial_answered, failing, on_header, on_known, on_next, on_unknown, take_tx_of}
 use Rattle.vs_device_parts.specs.declared.answers.{Filled.Filled, Taken.Taken}
 use Rattle.vs_wrap.specs.Wrap.{counted}
 use Rattle.vs_limits.specs.declared.TheConstants.{DEVICE_REPLIES}

@@ -1,6 +1,6 @@
 -- Conversations that take no chain of tx: what their calls come to in the device's counts.
-use Rattle.std.proofs.Common.{◌≡◌, ℕ, ◌+◌, ◌==◌, not, Bool, true, false, cond, List, [], ◌∷◌, ◌++◌, length, nat_lt, Option, Some}
-use Rattle.std.proofs.Common.{None, Result, Ok, Err, refl}
+use Rattle.std.proofs.Common.{◌≡◌, ℕ, ◌+◌, ◌==◌, not, Bool, true, false, cond, List, [], ◌∷◌, ◌++◌, length, nat_lt, Option, Some, None}
+use Rattle.std.proofs.Common.{Result, Ok, Err, refl}
 use Rattle.vs_contents.specs.CallTree.{Done, Ask, bind, for_each, while_up_to}
 use Rattle.vs_conn.specs.{End.owes_of, End.with_payload_sent, Headers.owed_header, Headers.payload_header, declared.end.Owed.Owed}
 use Rattle.vs_conn.specs.declared.end.TheConstants.{OWED_MAX}
@@ -9,8 +9,8 @@ use Rattle.vs_flow.specs.{Flow.host_flow, Table.entry_under, Table.refusal, Tabl
 use Rattle.vs_flow.specs.declared.table.TableFault.{TableFault}
 use Rattle.vs_header.specs.declared.Header.{Header}
 use Rattle.vs_limits.specs.declared.TheConstants.{HANDSHAKES}
-use Rattle.vs_outside.specs.Host.{accept_failed, read_failed, write_failed}
-use Rattle.vs_outside.specs.declared.host_net.{Accepted.Accepted, StreamRead.StreamRead, StreamWrite.StreamWrite}
+use Rattle.vs_outside.specs.{Host.accept_failed, Host.read_failed, Host.write_failed, declared.host_net.Accepted.Accepted}
+use Rattle.vs_outside.specs.declared.host_net.{StreamRead.StreamRead, StreamWrite.StreamWrite}
 use Rattle.vs_replies.specs.declared.Reply.{Reply}
 use Rattle.vs_ring_port.specs.declared.{device_ring.Chain.Chain, device_ring.Next.Next, failure.Failure.Failure}
 use Rattle.vs_wrap.specs.Wrap.{counted}
@@ -18,17 +18,15 @@ use Rattle.vs_uds.specs.{ConnectLine.connect_step, declared.connect.TheConstants
 use Rattle.vs_device_parts.specs.Connections.{after_leaving, cut_off, is_timed_out, route_to_guest, stream_closed, with_client}
 use Rattle.vs_device_parts.specs.{Connections.with_connection, Connections.with_fault, Connections.is_late, Receiving.Filling}
 use Rattle.vs_device_parts.specs.Receiving.{after_paying, event_on, fill_rx_of, filled_of, hold, holding, may_read, pay_event_of, put_on}
-use Rattle.vs_device_parts.specs.Receiving.{put_owed}
-use Rattle.vs_device_parts.specs.Receiving.{put_packet, put_payload, put_reply, put_reply_of, read_answered, read_stream, read_with_chain}
-use Rattle.vs_device_parts.specs.{Receiving.reply_header, Receiving.round_from, Receiving.serve_slot, Receiving.written, Streams.Writing}
-use Rattle.vs_device_parts.specs.Streams.{closing, is_written_out, leaving, pump_of, pump_slot, shut_write, tick_of, tick_slot, to_write}
-use Rattle.vs_device_parts.specs.{Streams.write_answered, Streams.write_pending, Calls.DeviceTree, Calls.Label}
+use Rattle.vs_device_parts.specs.Receiving.{put_owed, put_packet, put_payload, put_reply, put_reply_of, read_answered, read_stream}
+use Rattle.vs_device_parts.specs.Receiving.{read_with_chain, reply_header, round_from, serve_slot, written}
+use Rattle.vs_device_parts.specs.Streams.{Writing, closing, is_written_out, leaving, pump_of, pump_slot, shut_write, tick_of, tick_slot}
+use Rattle.vs_device_parts.specs.{Streams.to_write, Streams.write_answered, Streams.write_pending, Calls.DeviceTree, Calls.Label}
 use Rattle.vs_device_parts.specs.{Calls.ReadStream, Calls.ShutWrite, State.DeviceConnection, State.DeviceEntry, State.DeviceState}
 use Rattle.vs_device_parts.specs.Turns.{close_slot, open_of, reset_of}
 use Rattle.vs_proxy_parts.specs.Handshakes.{accept_answered, accept_one, byte_read, dropping, handshake_on, host_fault, line_decided}
-use Rattle.vs_proxy_parts.specs.Handshakes.{may_open, opening}
-use Rattle.vs_proxy_parts.specs.Handshakes.{read_byte, read_line, shake_hands, streams_of, tick_handshake, tick_handshakes, with_line}
-use Rattle.vs_proxy_parts.specs.State.{Handshake, Turning}
+use Rattle.vs_proxy_parts.specs.Handshakes.{may_open, opening, read_byte, read_line, shake_hands, streams_of, tick_handshake}
+use Rattle.vs_proxy_parts.specs.{Handshakes.tick_handshakes, Handshakes.with_line, State.Handshake, State.Turning}
 use Rattle.laws_proxy_bytes.specs.Counts.{DeviceCounts, counts_shown}
 use Rattle.laws_proxy_bytes.proofs.Walks.{Walks, quiet, walk_bind, walk_each, walk_if, walk_while}
 use Rattle.vs_conn.specs.declared.end.Owed.TheVariants as owed

@@ -1,9 +1,8 @@
 -- Packets to the guest, and the reads of the host's streams that give their payload: no stream is given a byte.
 use Rattle.std.proofs.Common.{◌≡◌, ℕ, ◌+◌, ◌==◌, Bool, true, false, not, cond, List, [], ◌∷◌, ◌++◌, length, bytes_eq, Option, Some, None}
 use Rattle.std.proofs.Common.{Result, Ok, Err, refl, sym, ap, subst, ◌∙◌}
+use Rattle.std.proofs.lemmas.List.{append-nil, Elements.All-weaker}
 use Rattle.std.specs.Option.{option_map_or}
-use Rattle.std.proofs.lemmas.List.{append-nil}
-use Rattle.std.proofs.lemmas.List.Elements.{All-weaker}
 use Rattle.vs_flow.specs.{declared.flow.Flow.Flow, Table.Table, Table.entry_under, Table.slots}
 use Rattle.vs_conn.specs.{End.owes_of, End.paid_of, End.wanting_credit, End.with_payload_sent, Headers.owed_header, Headers.payload_header}
 use Rattle.vs_conn.specs.declared.end.{Owed.Owed, State.TheVariants.Asked, State.TheVariants.Ended, TheConstants.OWED_MAX}
@@ -33,7 +32,7 @@ use Rattle.laws_proxy_bytes.specs.Tied.{Agree, AgreesWith, IsTied, reading_accou
 use Rattle.laws_proxy_bytes.proofs.Closing.{Has, agree_same, join, keeps_cut_off, keeps_leaving, over_there, there_under}
 use Rattle.laws_proxy_bytes.proofs.{Accounts.Changes, Accounts.changes, Accounts.changing, Accounts.stays, Entries.hand_other}
 use Rattle.laws_proxy_bytes.proofs.{Entries.taken_tied, Keeping.Keeps, Keeping.keeps_each, Keeping.keeps_then, Keeping.keeps_while}
-use Rattle.laws_proxy_bytes.proofs.{Ties.end_changes, Ties.shuts}
+use Rattle.laws_proxy_bytes.proofs.Ties.{end_changes, shuts}
 
 module _ (hands : List Handshake) where
   -- A connection has another end, and nothing else of it changes.

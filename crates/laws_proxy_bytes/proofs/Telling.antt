@@ -1,7 +1,6 @@
 -- Each call of the proxy on a host in memory: its answer may be got, and the accounts show the host after it.
 use Rattle.std.proofs.Common.{◌≡◌, ℕ, ◌+◌, ◌≤◌, ◌==◌, Bool, true, false, cond, List, ◌∷◌, ◌++◌, length, take, Option, Some, None, refl, sym}
-use Rattle.std.proofs.Common.{ap, subst, ◌∙◌, append_assoc, []}
-use Rattle.std.proofs.lemmas.List.{append-nil}
+use Rattle.std.proofs.{Common.ap, Common.subst, Common.◌∙◌, Common.append_assoc, Common.[], lemmas.List.append-nil}
 use Rattle.std.specs.Option.{option_map, option_map_or}
 use Rattle.vs_contents.specs.{CallTree.Done, CallTree.Ask, CallTree.Leads, Contents.Exposes}
 use Rattle.vs_flow.specs.{declared.flow.Flow.Flow, Table.Table}
@@ -18,9 +17,8 @@ use Rattle.vs_device_parts.specs.{Playing.Runs, State.DeviceConnection, Calls.An
 use Rattle.vs_device_parts.specs.Calls.{Accept, Dial, Label, ReadStream, WriteStream, ShutWrite, CloseStream, Allows, IsReadOf, Situation}
 use Rattle.vs_device_parts.specs.Calls.{TakesWithin}
 use Rattle.laws_proxy_bytes.specs.Made.{Account, Made, MayGet, account_of, delivering, header_in, labelled, made, new_account, shut}
-use Rattle.laws_proxy_bytes.specs.Made.{with_given}
-use Rattle.laws_proxy_bytes.specs.{Made.took, Made.with_taken, Tied.IsRead, Tied.IsWhole, Tied.reading_account, Tied.AgreesWith}
-use Rattle.laws_proxy_bytes.specs.Told.{AreAccounted, Shows, ShowsAt, ShowsIn, StayAccounted}
+use Rattle.laws_proxy_bytes.specs.{Made.with_given, Made.took, Made.with_taken, Tied.IsRead, Tied.IsWhole, Tied.reading_account}
+use Rattle.laws_proxy_bytes.specs.{Tied.AgreesWith, Told.AreAccounted, Told.Shows, Told.ShowsAt, Told.ShowsIn, Told.StayAccounted}
 use Rattle.laws_proxy_bytes.proofs.{Carrying.carries, Keeping.Asks, Keeping.Keeps, Keeping.keeps_answer, Shown.change_shows}
 use Rattle.laws_proxy_bytes.proofs.Shown.{delivers_same, new_shows, none_there, read_same, same_seen, unseen_shows}
 use Rattle.laws_proxy_bytes.proofs.Accounts.{Changes, changes, changing, comes, differs, self_is}

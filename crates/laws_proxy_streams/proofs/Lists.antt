@@ -1,13 +1,12 @@
 -- The streams of handshakes, as a list in which none stands twice.
 use Rattle.std.proofs.Common.{◌≡◌, ℕ, zero, suc, ◌==◌, Bool, true, false, cond, List, [], ◌∷◌, ◌++◌, map, Some, Contains, ◌⊎◌, inl, inr}
-use Rattle.std.proofs.Common.{refl, sym, ap, subst, ◌∙◌, arith}
-use Rattle.std.specs.List.{find}
-use Rattle.std.proofs.lemmas.Bool.Decides.{nat_tests}
+use Rattle.std.proofs.{Common.refl, Common.sym, Common.ap, Common.subst, Common.◌∙◌, Common.arith, lemmas.Bool.Decides.nat_tests}
 use Rattle.std.proofs.lemmas.List.Elements.{Contains-push_cases}
+use Rattle.std.specs.List.{find}
 use Rattle.vs_outside.specs.Host.{HostContents}
 use Rattle.laws_device_streams.specs.Streams.{AreApart, AreOpen}
-use Rattle.vs_proxy_parts.specs.Handshakes.{handshake_on, with_line, without_stream}
-use Rattle.vs_proxy_parts.specs.State.{Handshake, ProxyState}
+use Rattle.vs_proxy_parts.specs.{Handshakes.handshake_on, Handshakes.with_line, Handshakes.without_stream, State.Handshake}
+use Rattle.vs_proxy_parts.specs.State.{ProxyState}
 
 abbrev pub ids : List Handshake → List ℕ
 ids hs = map (λ h. h.stream) hs

@@ -1,10 +1,10 @@
 -- A turn publishes no CID, and puts no event where none is owed.
-use Rattle.std.proofs.Common.{◌≡◌, ◌≢◌, ◌+◌, ◌-◌, ◌==◌, ◌&&◌, ℕ, zero, suc, Bool, true, false, cond, List, [], ◌∷◌, ◌++◌, length, not, nat_le, nat_lt, Option, Some}
-use Rattle.std.proofs.Common.{None, Result, Ok, Err, refl, sym, ap, subst, ◌∙◌}
+use Rattle.std.proofs.Common.{◌≡◌, ◌≢◌, ◌+◌, ◌-◌, ◌==◌, ◌&&◌, ℕ, zero, suc, Bool, true, false, cond, List, [], ◌∷◌, ◌++◌, length, not}
+use Rattle.std.proofs.Common.{nat_le, nat_lt, Option, Some, None, Result, Ok, Err, refl, sym, ap, subst, ◌∙◌}
 use Rattle.std.specs.Option.{IfSome}
 use Rattle.vs_contents.specs.{CallTree.Ask, CallTree.Done, CallTree.bind, CallTree.for_each, CallTree.while_up_to, Contents.Exposes}
-use Rattle.vs_conn.specs.{End.is_of, End.is_reset, End.owes_of, End.verdict_of, declared.end.Owed.Owed, declared.end.Verdict.Verdict}
-use Rattle.vs_conn.specs.{End.wanting_credit, Headers.owed_header, Headers.payload_header, declared.end.TheConstants.OWED_MAX}
+use Rattle.vs_conn.specs.{End.is_of, End.is_reset, End.owes_of, End.verdict_of, End.wanting_credit, declared.end.Owed.Owed}
+use Rattle.vs_conn.specs.{declared.end.Verdict.Verdict, Headers.owed_header, Headers.payload_header, declared.end.TheConstants.OWED_MAX}
 use Rattle.vs_conn.specs.declared.end.Owed.TheVariants as owed
 use Rattle.vs_conn.specs.declared.end.Verdict.TheVariants as verdict
 use Rattle.vs_conn.specs.declared.end.Why.TheVariants as why
@@ -15,9 +15,8 @@ use Rattle.vs_header.specs.{Op.op_number, Packet.header_of, declared.Header.Head
 use Rattle.vs_header.specs.declared.{Kind.TheVariants.Stream, Op.TheVariants.Request}
 use Rattle.laws_history.specs.declared.packet.Packet.{Packet}
 use Rattle.vs_limits.specs.declared.TheConstants.{DEVICE_REPLIES, HANDSHAKES}
-use Rattle.vs_outside.specs.declared.host_net.{Accepted.Accepted, StreamRead.StreamRead, StreamWrite.StreamWrite}
+use Rattle.vs_outside.specs.declared.host_net.{Accepted.Accepted, StreamRead.StreamRead, StreamWrite.StreamWrite, Dialed.Dialed}
 use Rattle.vs_outside.specs.declared.host_net.Accepted.TheVariants as accepted
-use Rattle.vs_outside.specs.declared.host_net.Dialed.{Dialed}
 use Rattle.vs_outside.specs.declared.host_net.Dialed.TheVariants as dialed
 use Rattle.vs_outside.specs.declared.host_net.StreamRead.TheVariants as read
 use Rattle.vs_outside.specs.declared.host_net.StreamWrite.TheVariants as write
@@ -25,33 +24,33 @@ use Rattle.vs_page.specs.{Held.packet_held, Log.Device, Log.events_put, Log.flow
 use Rattle.vs_page.specs.declared.log.LogEntry.TheVariants.{GotPacket, PutPacket}
 use Rattle.vs_replies.specs.{Owed.reply_to, declared.Reply.Reply}
 use Rattle.vs_ring_port.specs.{Chains.chain_of, Contents.DeviceAnswer, Contents.DeviceCall, Contents.Given, Contents.PublishCid}
-use Rattle.vs_ring_port.specs.Contents.{Read, Return, RingContents, Take, Write}
-use Rattle.vs_ring_port.specs.EndLog.{EndLog, entries_returned, log_returned, log_taken, log_written, with_packet}
+use Rattle.vs_ring_port.specs.{Contents.Read, Contents.Return, Contents.RingContents, Contents.Take, Contents.Write, EndLog.EndLog}
+use Rattle.vs_ring_port.specs.EndLog.{entries_returned, log_returned, log_taken, log_written, with_packet}
 use Rattle.vs_ring_port.specs.declared.{device_ring.Chain.Chain, device_ring.Next.Next, failure.Failure.Failure, queue.Queue.Queue}
-use Rattle.vs_ring_port.specs.declared.device_ring.Next.TheVariants as next
 use Rattle.vs_ring_port.specs.declared.queue.Queue.TheVariants.{Event, Rx, Tx}
+use Rattle.vs_ring_port.specs.declared.device_ring.Next.TheVariants as next
 use Rattle.vs_uds.specs.{ConnectLine.connect_step, Path.path_of, declared.connect.TheConstants.CONNECT_MAX, declared.scan.Step.Step}
 use Rattle.vs_uds.specs.declared.scan.Step.TheVariants as step
 use Rattle.vs_device_parts.specs.Calls.{Accept, Allows, Answer, Call, CloseStream, DeviceTree, Dial, IsFitChain, Label, ReadStream, Ring}
-use Rattle.vs_device_parts.specs.Calls.{ShutWrite, Situation, WriteStream}
-use Rattle.vs_device_parts.specs.{Connections.cut_off, Connections.is_late, Connections.is_timed_out, Connections.stream_closed, Playing.Runs}
-use Rattle.vs_device_parts.specs.Connections.{after_leaving, route_to_guest, with_client, with_connection, with_fault, with_reply}
-use Rattle.vs_device_parts.specs.Receiving.{Filling, after_paying, event_on, fill_rx_of, filled_of, hold, holding, may_read, pay_event_of, put_on}
-use Rattle.vs_device_parts.specs.Receiving.{put_owed, put_packet, put_reply, put_reply_of, read_answered, read_room, read_stream, read_with_chain}
-use Rattle.vs_device_parts.specs.Receiving.{reply_header, round_from, serve_slot}
-use Rattle.vs_device_parts.specs.{State.DeviceConnection, State.DeviceEntry, State.DeviceState, Steps.filling, Streams.Writing, Streams.closing}
-use Rattle.vs_device_parts.specs.Streams.{is_written_out, leaving, pump_of, pump_slot, shut_write, tick_of, tick_slot, to_write, write_answered}
-use Rattle.vs_device_parts.specs.{Streams.write_pending, Transmitting.dial_answered, Transmitting.heard, Turns.open_of}
+use Rattle.vs_device_parts.specs.{Calls.ShutWrite, Calls.Situation, Calls.WriteStream, Connections.cut_off, Connections.is_late}
+use Rattle.vs_device_parts.specs.Connections.{is_timed_out, stream_closed, after_leaving, route_to_guest, with_client, with_connection}
+use Rattle.vs_device_parts.specs.{Connections.with_fault, Connections.with_reply, Playing.Runs, Receiving.Filling, Receiving.after_paying}
+use Rattle.vs_device_parts.specs.Receiving.{event_on, fill_rx_of, filled_of, hold, holding, may_read, pay_event_of, put_on, put_owed}
+use Rattle.vs_device_parts.specs.Receiving.{put_packet, put_reply, put_reply_of, read_answered, read_room, read_stream, read_with_chain}
+use Rattle.vs_device_parts.specs.{Receiving.reply_header, Receiving.round_from, Receiving.serve_slot, State.DeviceConnection}
+use Rattle.vs_device_parts.specs.{State.DeviceEntry, State.DeviceState, Steps.filling, Streams.Writing, Streams.closing}
+use Rattle.vs_device_parts.specs.Streams.{is_written_out, leaving, pump_of, pump_slot, shut_write, tick_of, tick_slot, to_write}
+use Rattle.vs_device_parts.specs.{Streams.write_answered, Streams.write_pending, Transmitting.dial_answered, Transmitting.heard}
 use Rattle.vs_device_parts.specs.Transmitting.{failing, on_known, on_next, on_packet, on_unknown, refused, take_tx_of, unknown_why}
+use Rattle.vs_device_parts.specs.{Turns.open_of, declared.answers.Filled.Filled}
 use Rattle.vs_wrap.specs.Wrap.{counted}
 use Rattle.vs_ring_port.specs.declared.failure.Failure.TheVariants as failure
 use Rattle.vs_device_parts.specs.declared.answers.Taken.TheVariants as taken
-use Rattle.vs_device_parts.specs.declared.answers.{Filled.Filled}
-use Rattle.vs_proxy_parts.specs.Handshakes.{accept_answered, accept_one, byte_read, dropping, handshake_on, host_fault, line_decided, may_open}
-use Rattle.vs_proxy_parts.specs.Handshakes.{opening, read_byte, read_line, shake_hands, streams_of, tick_handshake, tick_handshakes}
-use Rattle.vs_proxy_parts.specs.{State.Handshake, State.ProxyState, State.Turning, State.start, declared.answers.Turn.Turn}
-use Rattle.vs_proxy_parts.specs.Turns.{device_after, event_stage, fill_stage, filled, pump_stage, take_one, take_stage, tick_stage, took_packet}
-use Rattle.vs_proxy_parts.specs.Turns.{turn_of, unless_failed}
+use Rattle.vs_proxy_parts.specs.Handshakes.{accept_answered, accept_one, byte_read, dropping, handshake_on, host_fault, line_decided}
+use Rattle.vs_proxy_parts.specs.Handshakes.{may_open, opening, read_byte, read_line, shake_hands, streams_of, tick_handshake}
+use Rattle.vs_proxy_parts.specs.{Handshakes.tick_handshakes, State.Handshake, State.ProxyState, State.Turning, State.start}
+use Rattle.vs_proxy_parts.specs.{declared.answers.Turn.Turn, Turns.device_after, Turns.event_stage, Turns.fill_stage, Turns.filled}
+use Rattle.vs_proxy_parts.specs.Turns.{pump_stage, take_one, take_stage, tick_stage, took_packet, turn_of, unless_failed}
 use Rattle.laws_rest.specs.{Calm.OwesNoEvent, Calm.resets_in, Rest.has_no_mark}
 
 -- Such a call, and a chain that fits its queue.

@@ -12,15 +12,14 @@ use Rattle.vs_ring_port.specs.{Contents.RingContents, declared.queue.Queue.TheVa
 use Rattle.vs_ring_port.specs.declared.queue.Queue.TheVariants.{Tx}
 use Rattle.vs_driver_parts.specs.Conversations.{DriverTree, Round, after_paying, has_page, one_put, owed_bytes, pay_all, pay_and_publish}
 use Rattle.vs_driver_parts.specs.Conversations.{pay_slot, poll_of, poll_packets, poll_puts, poll_reaps, polled, publish_and_pay, published}
-use Rattle.vs_driver_parts.specs.Conversations.{put_all, put_owed, put_owed_of, put_replies, put_reply, put_reply_of, reap_all, reply_header}
-use Rattle.vs_driver_parts.specs.Conversations.{stage_packet, start, take_all, take_event, take_packet}
+use Rattle.vs_driver_parts.specs.Conversations.{put_all, put_owed, put_owed_of, put_replies, put_reply, put_reply_of, reap_all}
+use Rattle.vs_driver_parts.specs.Conversations.{reply_header, stage_packet, start, take_all, take_event, take_packet}
 use Rattle.vs_driver_parts.specs.{Playing.Plays, Playing.RingAllows, State.DriverEntry, State.DriverState, declared.answers.Polled.Polled}
 use Rattle.laws_driver.specs.Honest.{end_in, ends_of_state}
 use Rattle.laws_rest.specs.Rest.{OwesNothing}
-use Rattle.laws_rest.proofs.Owing.{all_owe_none, end_under, listed}
-use Rattle.laws_rest.proofs.Quiet.{NoReplies, NoneAt, OwesNone, Relation, Same, Serves, Served, Sight, Steps, all_served, ends_any}
-use Rattle.laws_rest.proofs.Quiet.{ends_then, is_over, more, none_at, one_then, quiet_each, quiet_while, serves, some_at, still, touches_none}
-use Rattle.laws_rest.proofs.Quiet.{weaker}
+use Rattle.laws_rest.proofs.{Owing.all_owe_none, Owing.end_under, Owing.listed, Quiet.NoReplies, Quiet.NoneAt, Quiet.OwesNone}
+use Rattle.laws_rest.proofs.Quiet.{Relation, Same, Serves, Served, Sight, Steps, all_served, ends_any, ends_then, is_over, more, none_at}
+use Rattle.laws_rest.proofs.Quiet.{one_then, quiet_each, quiet_while, serves, some_at, still, touches_none, weaker}
 
 -- A stage is over early where no page is free.
 abbrev see : Round → Sight

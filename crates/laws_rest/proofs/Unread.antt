@@ -1,17 +1,17 @@
 -- Bytes are pending as they are unread, whatever the end does.
-use Rattle.std.proofs.Common.{◌≡◌, ◌+◌, ◌-◌, ◌<◌, ◌≤◌, ◌%◌, ◌^◌, ℕ, Bool, true, false, cond, List, [], ◌++◌, length, Option, Some, refl, sym}
-use Rattle.std.proofs.Common.{ap, ◌∙◌, arith, length-append, length-drop, length-take}
+use Rattle.std.proofs.Common.{◌≡◌, ◌+◌, ◌-◌, ◌<◌, ◌≤◌, ◌%◌, ◌^◌, ℕ, Bool, true, false, cond, List, [], ◌++◌, length, Option, Some, refl}
+use Rattle.std.proofs.Common.{sym, ap, ◌∙◌, arith, length-append, length-drop, length-take}
 use Rattle.std.proofs.lemmas.{Bool.Decides.nat_tests, Grind.common_steps}
-use Rattle.vs_conn.specs.End.{ConnectionEnd, after_message, after_op, owes_of, paid_of, verdict_of}
-use Rattle.vs_conn.specs.{End.with_shut, declared.end.Owed.Owed, declared.end.State.State, declared.end.State.TheVariants.Ended}
-use Rattle.vs_conn.specs.declared.end.Verdict.{Verdict}
+use Rattle.vs_conn.specs.End.{ConnectionEnd, after_message, after_op, owes_of, paid_of, verdict_of, with_shut}
+use Rattle.vs_conn.specs.declared.end.{Owed.Owed, State.State, State.TheVariants.Ended, Verdict.Verdict}
 use Rattle.vs_conn.specs.declared.end.Verdict.TheVariants as verdict
 use Rattle.vs_conn.proofs.Frames.{got_over, paid_credit}
-use Rattle.vs_credit.specs.{Credit.room_of, Credit.unread_of}
+use Rattle.vs_credit.specs.Credit.{room_of, unread_of}
 use Rattle.vs_header.specs.{Op.op_named, declared.Header.Header, declared.Op.Op}
 use Rattle.vs_header.specs.declared.Op.TheVariants as op
 use Rattle.vs_limits.specs.declared.TheConstants.{BUF_ALLOC}
-use Rattle.vs_device_parts.specs.{Connections.after_shut, Connections.after_written, State.DeviceConnection, Streams.to_write, Transmitting.heard}
+use Rattle.vs_device_parts.specs.{Connections.after_shut, Connections.after_written, State.DeviceConnection, Streams.to_write}
+use Rattle.vs_device_parts.specs.Transmitting.{heard}
 use Rattle.laws_device.specs.Honest.{HoldsBytes}
 use Rattle.laws_rest.specs.Pending.{IsExact, delivered}
 

@@ -1,8 +1,7 @@
 -- Credit and unread bytes of two ends at rest.
 use Rattle.std.proofs.Common.{◌≡◌, ◌<◌, ◌≤◌, ◌+◌, ◌-◌, ◌^◌, ℕ, false, sym, subst, arith}
 use Rattle.vs_wrap.specs.Wrap.{difference32}
-use Rattle.vs_conn.specs.End.{ConnectionEnd}
-use Rattle.vs_conn.specs.Shut.{is_both}
+use Rattle.vs_conn.specs.{End.ConnectionEnd, Shut.is_both}
 use Rattle.vs_credit.specs.Credit.{free_of, unread_of}
 use Rattle.laws_rest.specs.Rest.{ArePaired}
 

@@ -1,7 +1,6 @@
 -- What the device holds of a connection.
 use Rattle.std.specs.Prelude.{◌≡◌, ◌≢◌, ℕ, length}
-use Rattle.vs_conn.specs.declared.end.State.TheVariants.{Ended}
-use Rattle.vs_conn.specs.declared.end.Verdict.{Verdict}
+use Rattle.vs_conn.specs.declared.end.{State.TheVariants.Ended, Verdict.Verdict}
 use Rattle.vs_conn.specs.declared.end.Verdict.TheVariants as verdict
 use Rattle.vs_credit.specs.Credit.{unread_of}
 use Rattle.vs_device_parts.specs.State.{DeviceConnection}

@@ -6,8 +6,8 @@ use Rattle.vs_conn.specs.{End.ConnectionEnd, End.owes_of, Shut.is_both, declared
 use Rattle.vs_conn.specs.declared.end.TheConstants.{UPDATE_AT}
 use Rattle.vs_flow.specs.declared.flow.Flow.{Flow}
 use Rattle.vs_limits.specs.declared.TheConstants.{BUF_ALLOC, HOST_CID}
-use Rattle.vs_page.specs.{Fair.IsFairLog, Log.Device, Log.Log, Log.Role, Log.other_role, Log.packets_got, Log.packets_put, Open.cid_of, Open.is_dropped}
-use Rattle.vs_page.specs.declared.log.LogEntry.TheVariants.{Mark, PutPacket}
+use Rattle.vs_page.specs.{Fair.IsFairLog, Log.Device, Log.Log, Log.Role, Log.other_role, Log.packets_got, Log.packets_put, Open.cid_of}
+use Rattle.vs_page.specs.{Open.is_dropped, declared.log.LogEntry.TheVariants.Mark, declared.log.LogEntry.TheVariants.PutPacket}
 use Rattle.laws_tables.specs.{Both.Both, Both.at, Ends.Ends, Ends.flows_of, Ends.is_among, Matches.Matches}
 
 -- No transport reset stands in a log.

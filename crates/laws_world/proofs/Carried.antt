@@ -13,14 +13,12 @@ use Rattle.vs_page.proofs.{PayloadLogs.prefix, Shut.shut_put}
 use Rattle.laws_tables.specs.Both.{at}
 use Rattle.laws_bytes.specs.Drains.{Drains, got_on, put_on, receives}
 use Rattle.laws_device_bytes.specs.Streamed.{IsJoined, Seen, gives, line_for, look, seen}
-use Rattle.laws_bytes.proofs.Logs.{prefix_then}
+use Rattle.laws_bytes.proofs.{Logs.prefix_then, Firsts.once_got, Firsts.once_put, Firsts.put_begun}
 use Rattle.laws_world.specs.{Sides.both_of, World.World, World.first_cid}
 use Rattle.laws_driver_bytes.specs.{Received.ReceivedOn, Received.ReceivesOn, Calls.account_of, Calls.received_by, Calls.received_on}
 use Rattle.laws_driver_bytes.specs.Calls.{sent_on}
-use Rattle.laws_bytes.proofs.Firsts.{once_got, once_put, put_begun}
-use Rattle.laws_world.proofs.{Once.number_of_once, Bytes.read_is_got}
-use Rattle.laws_world.proofs.{Bytes.wrote_is_put, Growing.Grows, Growing.runs_grow, Journals.by_flow, Journals.received_some, Sound.Goes}
-use Rattle.laws_world.proofs.Sound.{IsWell}
+use Rattle.laws_world.proofs.{Once.number_of_once, Bytes.read_is_got, Bytes.wrote_is_put, Growing.Grows, Growing.runs_grow}
+use Rattle.laws_world.proofs.{Journals.by_flow, Journals.received_some, Sound.Goes, Sound.IsWell}
 use Rattle.laws_device_bytes.proofs.Hosts.{there as is_there}
 
 abbrev pub ToGuest : Flow → World → Type 0

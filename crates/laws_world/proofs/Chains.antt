@@ -1,7 +1,6 @@
 -- Chains that the device holds, and what is written into them.
 use Rattle.std.proofs.Common.{◌≡◌, ℕ, ◌+◌, ◌==◌, ◌&&◌, Bool, true, false, cond, List, [], ◌∷◌, ◌++◌, length, take, drop, Option, Some, None}
-use Rattle.std.proofs.Common.{refl, sym, ap, ◌∙◌, length-append}
-use Rattle.std.proofs.lemmas.List.{take_at}
+use Rattle.std.proofs.{Common.refl, Common.sym, Common.ap, Common.◌∙◌, Common.length-append, lemmas.List.take_at}
 use Rattle.vs_page.specs.Overwriting.{overwritten}
 use Rattle.laws_world.specs.Pages.{is_held}
 use Rattle.vs_ring_port.specs.Chains.{Held, bytes_in, same_chain, same_queue, with_bytes, without_held}

@@ -10,26 +10,24 @@ use Rattle.vs_page.specs.{Log.Log, Log.IsNextPacket, Log.packets_put, Log.packet
 use Rattle.vs_page.specs.{declared.log.LogEntry.TheVariants.GotPacket, declared.log.LogEntry.TheVariants.PutEvent, Open.is_dropped}
 use Rattle.vs_page.specs.Held.{event_held, held_in, listed, packet_held}
 use Rattle.vs_ring_port.specs.{Contents.Return, Contents.Take, Contents.Write, declared.device_ring.Chain.Chain, declared.queue.Queue.Queue}
-use Rattle.vs_ring_port.specs.EndLog.{EndLog, entries_returned, log_taken, with_event, with_packet}
-use Rattle.vs_ring_port.specs.Lists.{Rings, after_return, all_but_oldest, chain_with, next_at, oldest, place_after}
+use Rattle.vs_ring_port.specs.{EndLog.EndLog, EndLog.entries_returned, EndLog.log_taken, EndLog.with_event, EndLog.with_packet, Lists.Rings}
+use Rattle.vs_ring_port.specs.Lists.{after_return, all_but_oldest, chain_with, next_at, oldest, place_after}
 use Rattle.vs_ring_port.specs.Chains.{Held, bytes_in, same_queue, with_bytes, without_held}
 use Rattle.vs_ring_port.specs.declared.queue.Queue.TheVariants.{Rx, Tx, Event}
 use Rattle.laws_tables.specs.Both.{IsSound, Seat}
-use Rattle.vs_device_parts.specs.{Calls.DeviceTree, Calls.Ring, Receiving.hold, Receiving.holding, State.DeviceState}
-use Rattle.vs_device_parts.specs.Steps.{chain_came, filling, header_came, puts_event, returns, takes_chain}
+use Rattle.vs_device_parts.specs.{Calls.DeviceTree, Calls.Ring, Receiving.hold, Receiving.holding, State.DeviceState, Steps.chain_came}
+use Rattle.vs_device_parts.specs.Steps.{filling, header_came, puts_event, returns, takes_chain}
 use Rattle.vs_limits.specs.declared.TheConstants.{DEVICE_REPLIES}
 use Rattle.laws_world.specs.{Answers.Around, Answers.answer_around, Pages.AllHold, Pages.PageHolds, Pages.is_held}
-use Rattle.laws_world.proofs.{DeviceSide.DeviceHolds, DeviceSide.Kept, DeviceSide.seated, Wire.PutsFit, Wire.next_fits}
-use Rattle.laws_world.proofs.Once.{AreOnce}
-use Rattle.laws_device_bytes.proofs.Changing.{StreamedIf, payload_in}
+use Rattle.laws_world.proofs.{DeviceSide.DeviceHolds, DeviceSide.Kept, DeviceSide.seated, Wire.PutsFit, Wire.next_fits, Once.AreOnce}
 use Rattle.laws_world.proofs.Chains.{HoldsRx, bytes_written, first_written, held_more, held_without, held_written}
 use Rattle.laws_world.proofs.DeviceEvents.{KeptBy, Over, header_came_keeps}
+use Rattle.laws_device_bytes.proofs.{Changing.StreamedIf, Changing.payload_in, Streamed.same_streamed}
 use Rattle.std.specs.List.{All}
 use Rattle.vs_outside.specs.Host.{HostContents}
 use Rattle.vs_page.proofs.Holding.{packet_whole}
 use Rattle.vs_proxy_parts.specs.State.{Handshake}
 use Rattle.laws_device_bytes.specs.Streamed.{gives, look}
-use Rattle.laws_device_bytes.proofs.Streamed.{same_streamed}
 use Rattle.laws_device.proofs.{Transmitting.header_is, Ringing.same_self}
 use Rattle.laws_world.proofs.DeviceSide as side
 

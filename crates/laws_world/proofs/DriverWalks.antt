@@ -13,8 +13,7 @@ use Rattle.vs_ring_port.specs.{Contents.RingContents, EndLog.EndLog, EndLog.all_
 use Rattle.vs_ring_port.specs.EndLog.{log_loaded, log_published, log_reaped, log_staged, pages_at, with_event, with_packet}
 use Rattle.vs_ring_port.specs.DriverCalls.{DriverAnswer, DriverCall, DriverMoves, HoldsPacket, LoadCid, MayPublish, Publish, Reap, Stage}
 use Rattle.vs_ring_port.specs.{DriverCalls.driver_answer, Lists.Rings, Lists.after_publish, Lists.after_reap, Lists.next_back}
-use Rattle.vs_ring_port.specs.{declared.queue.Queue.Queue, declared.queue.Queue.TheVariants.Event, declared.queue.Queue.TheVariants.Rx}
-use Rattle.vs_ring_port.specs.declared.queue.Queue.TheVariants.{Tx}
+use Rattle.vs_ring_port.specs.declared.queue.Queue.{Queue, TheVariants.Event, TheVariants.Rx, TheVariants.Tx}
 use Rattle.vs_ring_list.specs.Ends.{driver_contents}
 use Rattle.vs_driver_parts.specs.{Conversations.DriverTree, Playing.BringsFit, Playing.CanMake, Playing.FitsPorts, Playing.IsFitPage}
 use Rattle.vs_driver_parts.specs.Playing.{RingAllows}

@@ -1,7 +1,6 @@
 -- A journal by flows and by ids: the same where no flow is used twice.
 use Rattle.std.proofs.Common.{◌≡◌, ℕ, ◌≤◌, ◌==◌, ◌⊎◌, inl, inr, Bool, true, false, cond, List, [], ◌∷◌, ◌++◌, Option, Some, refl, sym, ap}
-use Rattle.std.proofs.Common.{subst, ◌∙◌, arith, append-nil}
-use Rattle.std.proofs.lemmas.Bool.Decides.{nat_tests}
+use Rattle.std.proofs.{Common.subst, Common.◌∙◌, Common.arith, Common.append-nil, lemmas.Bool.Decides.nat_tests}
 use Rattle.vs_flow.specs.{Connection.Connection, Flow.same_flow, declared.flow.Flow.Flow}
 use Rattle.vs_page.proofs.Flows.{same_is, same_self}
 use Rattle.laws_driver_bytes.specs.Calls.{Journal, Made, bytes_received, is_on, names, received_by, received_on}

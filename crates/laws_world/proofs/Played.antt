@@ -1,6 +1,5 @@
 -- Each conversation over the world's rings keeps what is under way between the two logs.
-use Rattle.std.proofs.Common.{ℕ, [], ◌++◌, refl, sym, ap, ◌∙◌}
-use Rattle.std.proofs.lemmas.List.{append-nil}
+use Rattle.std.proofs.{Common.ℕ, Common.[], Common.◌++◌, Common.refl, Common.sym, Common.ap, Common.◌∙◌, lemmas.List.append-nil}
 use Rattle.vs_contents.specs.CallTree.{Done, Ask, played}
 use Rattle.vs_outside.specs.Host.{HostContents}
 use Rattle.vs_page.specs.{Log.Log, Log.HasGotAll, Log.events_put, Held.packet_held, Held.event_held, Held.held_in}

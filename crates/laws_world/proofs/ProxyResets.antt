@@ -10,15 +10,14 @@ use Rattle.vs_ring_port.specs.{Contents.PublishCid, EndLog.EndLog, declared.fail
 use Rattle.laws_tables.specs.Both.{IsSound, MakesReset, Seat}
 use Rattle.vs_device_parts.specs.{Calls.CloseStream, Calls.DeviceTree, Calls.Ring, Connections.stream_closed, Connections.with_connection}
 use Rattle.vs_device_parts.specs.{State.DeviceEntry, State.DeviceState, Turns.after_reset, Turns.close_slot}
-use Rattle.vs_proxy_parts.specs.{Handshakes.streams_of, State.ProxyState, State.with_device}
-use Rattle.vs_proxy_parts.specs.Turns.{close_handshake, proxy_reset_of, reset_with}
+use Rattle.vs_proxy_parts.specs.{Handshakes.streams_of, State.ProxyState, State.with_device, Turns.close_handshake, Turns.proxy_reset_of}
+use Rattle.vs_proxy_parts.specs.Turns.{reset_with}
 use Rattle.laws_world.specs.Answers.{Around, answer_around}
-use Rattle.laws_world.proofs.{Chains.HoldsRx, DeviceSide.DeviceHolds, DeviceSide.Kept, DeviceSide.seated}
-use Rattle.laws_device_bytes.proofs.Changing.{StreamedIf, emptied_streams}
-use Rattle.laws_world.proofs.ProxySide.{Over, StreamedWith, stays_as}
-use Rattle.laws_world.proofs.{Runs.one_step, Wire.PutsFit}
+use Rattle.laws_world.proofs.{Chains.HoldsRx, DeviceSide.DeviceHolds, DeviceSide.Kept, DeviceSide.seated, ProxySide.Over}
+use Rattle.laws_world.proofs.{ProxySide.StreamedWith, ProxySide.stays_as, Runs.one_step, Wire.PutsFit}
+use Rattle.laws_device_bytes.proofs.{Changing.StreamedIf, Changing.emptied_streams, HostCalls.closed_host, Opens.no_lines}
+use Rattle.laws_device_bytes.proofs.Streamed.{same_streamed}
 use Rattle.laws_device_bytes.specs.Streamed.{look}
-use Rattle.laws_device_bytes.proofs.{HostCalls.closed_host, Opens.no_lines, Streamed.same_streamed}
 
 -- Three conversations one after another.
 played_twice : {A B C : Type 0} (p : DeviceTree A) (f : A → DeviceTree B) (g : B → DeviceTree C) (a : Around)

@@ -3,8 +3,7 @@ use Rattle.std.proofs.Common.{ℕ, List, [], ◌∷◌}
 use Rattle.vs_contents.specs.CallTree.{Done, Ask, played}
 use Rattle.vs_ring_port.specs.Contents.{DeviceCall, Take, Read, Write, Return, Given, PublishCid}
 use Rattle.vs_ring_port.specs.{DeviceCalls.device_answer, EndLog.EndLog, Lists.Rings, Lists.all_but_oldest, Lists.after_return}
-use Rattle.vs_ring_port.specs.{declared.queue.Queue.Queue, declared.queue.Queue.TheVariants.Rx, declared.queue.Queue.TheVariants.Tx}
-use Rattle.vs_ring_port.specs.declared.queue.Queue.TheVariants.{Event}
+use Rattle.vs_ring_port.specs.declared.queue.Queue.{Queue, TheVariants.Rx, TheVariants.Tx, TheVariants.Event}
 use Rattle.vs_device_parts.specs.Calls.{DeviceTree, Call, Ring, Accept, Dial, Label, ReadStream, WriteStream, ShutWrite, CloseStream}
 use Rattle.laws_world.specs.{Answers.Around, Answers.answer_around, Pages.AllHold}
 

@@ -1,6 +1,6 @@
 -- Each event is some of the steps of the two ends.
-use Rattle.std.proofs.lemmas.{Bool.Decides.nat_tests, List.Elements.Contains-get_or, Bool.and_parts}
-use Rattle.std.proofs.Common.{◌≡◌, ℕ, ◌^◌, ◌<◌, ◌≤◌, ◌&&◌, nat_le, Bool, true, false, List, [], ◌∷◌, ◌++◌, refl, sym, ap, subst, ◌∙◌, arith}
+use Rattle.std.proofs.{lemmas.Bool.Decides.nat_tests, lemmas.List.Elements.Contains-get_or, lemmas.Bool.and_parts, Common.◌≡◌, Common.ℕ}
+use Rattle.std.proofs.Common.{◌^◌, ◌<◌, ◌≤◌, ◌&&◌, nat_le, Bool, true, false, List, [], ◌∷◌, ◌++◌, refl, sym, ap, subst, ◌∙◌, arith}
 use Rattle.std.proofs.Common.{append_assoc, get_or, Some}
 use Rattle.vs_contents.specs.CallTree.{played}
 use Rattle.laws_history.specs.declared.packet.Packet.{Packet}
@@ -34,7 +34,7 @@ use Rattle.laws_world.proofs.{DriverWalks.shown, DriverWalks.walk, Journals.AllA
 use Rattle.laws_world.proofs.{Queues.pages_put, Rings.device_leaves_given, Runs.goes_run, Runs.keeps_sound, Runs.stays, Once.AreOnce}
 use Rattle.laws_world.proofs.{Once.keeps_once, Once.number_of_once, Wire.PutsFit}
 use Rattle.vs_flow.specs.{declared.flow.Flow.Flow, Table.Table, Connection.Connection, Connection.first_of}
-use Rattle.laws_device_bytes.proofs.Changing.{StreamedIf}
+use Rattle.laws_device_bytes.proofs.{Changing.StreamedIf, Cids.dropped_empty, HostCalls.client_host, HostCalls.same_host, Hosts.unseen}
 use Rattle.std.specs.List.{All}
 use Rattle.vs_limits.specs.declared.TheConstants.{GUEST_CID_MIN, GUEST_CID_MAX}
 use Rattle.laws_tables.proofs.{Both.next_is_fair, Fair.got_formed, Slots.one_end, Voices.AreVoiced, Voices.voices_run}
@@ -45,7 +45,6 @@ use Rattle.laws_driver.proofs.Stepping.{publish_with, reply_with, takes_with}
 use Rattle.laws_driver_bytes.proofs.{Making.account_after, Making.at_first, Making.made_with, Making.sent_with, Polling.IsFurther}
 use Rattle.laws_driver_bytes.proofs.Sending.{puts_as}
 use Rattle.laws_device_bytes.specs.Streamed.{IsStreamed, gives}
-use Rattle.laws_device_bytes.proofs.{Cids.dropped_empty, HostCalls.client_host, HostCalls.same_host, Hosts.unseen}
 use Rattle.vs_ring_list.proofs.Held.{same_queue_is}
 use Rattle.laws_driver.proofs.Staging.{Ties as DriverTies}
 use Rattle.laws_driver.proofs.Going.{stays as seat_stays}

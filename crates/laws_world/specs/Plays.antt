@@ -6,8 +6,7 @@ use Rattle.vs_outside.specs.HostProgram.{after_listen, after_unlisten, after_cli
 use Rattle.vs_outside.specs.HostProgram.{allowed, ended, closed, after_fail}
 use Rattle.vs_outside.specs.declared.mem_stream.HostWritten.{HostWritten}
 use Rattle.vs_ring_port.specs.declared.failure.Failure.{Failure}
-use Rattle.vs_driver_parts.specs.{State.DriverState, declared.answers.Polled.Polled, Conversations.connect_of, Conversations.send_of}
-use Rattle.vs_driver_parts.specs.Conversations.{poll_of, DriverTree}
+use Rattle.vs_driver_parts.specs.{declared.answers.Polled.Polled, Conversations.poll_of}
 use Rattle.vs_proxy_parts.specs.{Turns.turn_of, Turns.proxy_reset_of, declared.answers.Turn.Turn}
 use Rattle.laws_world.specs.{Events.is_guest_cid, World.World, World.driver_plays, World.device_plays}
 use Rattle.laws_driver_bytes.specs.Calls.{GuestCall, ReplyTo, bytes_sent, flow_named, is_on, is_right, whole_call, with_call}

@@ -1,9 +1,8 @@
 -- What the device, the proxy and the host's programs do is an event of the world.
 use Rattle.std.proofs.Common.{◌≡◌, ℕ, suc, ◌+◌, ◌&&◌, Bool, true, false, cond, List, [], ◌∷◌, Option, Some, Result, is_some, Contains, refl}
-use Rattle.std.proofs.Common.{sym, ap, subst, ◌∙◌, arith}
-use Rattle.std.specs.{Option.ForSome, List.position, List.position_from}
-use Rattle.std.proofs.lemmas.Iterator.Adapters.{position_from-zero}
+use Rattle.std.proofs.{Common.sym, Common.ap, Common.subst, Common.◌∙◌, Common.arith, lemmas.Iterator.Adapters.position_from-zero}
 use Rattle.std.proofs.lemmas.Bool.{and_parts}
+use Rattle.std.specs.{Option.ForSome, List.position, List.position_from}
 use Rattle.vs_outside.specs.Host.{HostContents}
 use Rattle.vs_ring_port.specs.{Chains.Held, Chains.chains_of, Chains.same_chain, Chains.same_queue, declared.device_ring.Chain.Chain}
 use Rattle.vs_ring_port.specs.declared.{failure.Failure.Failure, queue.Queue.Queue}

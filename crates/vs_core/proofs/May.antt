@@ -1,7 +1,6 @@
 -- Each single step of the device and of the proxy may be made in a world that events lead to.
 use Rattle.std.proofs.Common.{◌≡◌, ℕ, nat_le, true, Option, Some, unwrap_or, refl, ap, subst, arith, sym}
-use Rattle.std.proofs.lemmas.Bool.Decides.{nat_tests}
-use Rattle.std.proofs.lemmas.Bool.{and_parts}
+use Rattle.std.proofs.lemmas.Bool.{Decides.nat_tests, and_parts}
 use Rattle.vs_outside.specs.Host.{HostContents}
 use Rattle.vs_ring_port.specs.{Chains.chains_of, Chains.same_queue, declared.device_ring.Chain.Chain, declared.queue.Queue.Queue}
 use Rattle.vs_ring_port.specs.declared.queue.Queue.TheVariants.{Event}

@@ -1,7 +1,6 @@
 -- Events one after another.
 use Rattle.std.proofs.Common.{◌≡◌, ℕ, ◌+◌, ◌<◌, ◌≤◌, List, [], ◌∷◌, length, map, drop, get_or, sym, ap, ◌∙◌}
-use Rattle.std.proofs.Math.ListN.{drop_of_length-le}
-use Rattle.std.proofs.lemmas.List.{drop_more, drop-map, length-map}
+use Rattle.std.proofs.{Math.ListN.drop_of_length-le, lemmas.List.drop_more, lemmas.List.drop-map, lemmas.List.length-map}
 use Rattle.laws_world.specs.{Events.Event, Events.happens, Events.run, World.World}
 use Rattle.vs_core.specs.{Ready.WorldState, Ready.shown, Ready.with_journal, Views.event_view}
 use Rattle.vs_core.specs.declared.event.Event as program

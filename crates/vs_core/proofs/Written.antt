@@ -1,8 +1,7 @@
 -- What may be written into a chain that is held, and returned with it.
 use Rattle.std.specs.Option.{ForSome}
 use Rattle.std.proofs.Common.{◌≡◌, ℕ, ◌+◌, ◌≤◌, true, List, [], ◌∷◌, ◌++◌, length, take, Option, Some, IsSomeAnd, refl, sym, ap, subst, ◌∙◌}
-use Rattle.std.proofs.Common.{arith, length-append}
-use Rattle.std.proofs.lemmas.List.{append-nil, length-take}
+use Rattle.std.proofs.{Common.arith, Common.length-append, lemmas.List.append-nil, lemmas.List.length-take}
 use Rattle.vs_contents.specs.{CallTree.Ask, CallTree.bind, Contents.Exposes}
 use Rattle.vs_header.specs.{Packet.header_bytes, declared.Header.Header, declared.TheConstants.HEADER_LEN}
 use Rattle.laws_history.specs.{Packets.packet_bytes, declared.packet.Packet.Packet}

@@ -1,6 +1,5 @@
 -- Conversations put together in another way are the same.
-use Rattle.std.proofs.Common.{◌≡◌, refl, ap}
-use Rattle.std.proofs.Math.Path.{fun_ext}
+use Rattle.std.proofs.{Common.◌≡◌, Common.refl, Common.ap, Math.Path.fun_ext}
 use Rattle.vs_contents.specs.CallTree.{CallTree, Done, Ask, bind}
 
 module _ {Call : Type 0} {Answer : Call → Type 0} {A B : Type 0} where

@@ -1,7 +1,6 @@
 -- How reading and writing in pieces add up.
 use Rattle.std.proofs.Common.{◌≡◌, ℕ, suc, ◌+◌, ◌-◌, ◌<◌, List, [], ◌++◌, length, take, drop, Option, Some, None, refl, sym, ap, ◌∙◌, subst}
-use Rattle.std.proofs.Common.{append_assoc, append-nil, length-append, ◌∷◌, arith}
-use Rattle.std.proofs.Math.Seq.{take-add}
+use Rattle.std.proofs.{Common.append_assoc, Common.append-nil, Common.length-append, Common.◌∷◌, Common.arith, Math.Seq.take-add}
 use Rattle.std.proofs.lemmas.List.{take_rest, length-drop}
 use Rattle.std.specs.Bool.{⊤}
 use Rattle.vs_contents.specs.Contents.{Exposes}

@@ -1,7 +1,6 @@
 -- The slices that are sent one after another.
 use Rattle.std.proofs.Common.{◌≡◌, ℕ, zero, suc, ◌+◌, ◌≤◌, false, List, [], ◌∷◌, ◌++◌, length, take, drop, Option, refl, sym, ap, ◌∙◌}
-use Rattle.std.proofs.Common.{arith}
-use Rattle.std.proofs.lemmas.List.{take-take, drop-take}
+use Rattle.std.proofs.{Common.arith, lemmas.List.take-take, lemmas.List.drop-take}
 use Rattle.vs_contents.specs.Contents.{Relates}
 use Rattle.vs_outside.specs.Host.{HostContents}
 use Rattle.vs_peer.specs.Passing.{Moves, SameStreams}

@@ -1,9 +1,7 @@
 -- What each status of a client says follows from how it ends.
 use Rattle.std.proofs.Common.{◌⊎◌, ◌≡◌, ◌≤◌, ◌<◌, ◌-◌, ◌^◌, inl, inr, ℕ, true, List, length, take, Option, Some, None, refl, ap, subst, ◌∙◌}
-use Rattle.std.proofs.Common.{arith}
+use Rattle.std.proofs.{Common.arith, lemmas.List.length-take, lemmas.Bool.Decides.nat_tests}
 use Rattle.std.specs.Option.{ForSome}
-use Rattle.std.proofs.lemmas.List.{length-take}
-use Rattle.std.proofs.lemmas.Bool.Decides.{nat_tests}
 use Rattle.vs_outside.specs.Faults.{CountsFault}
 use Rattle.vs_peer.specs.Ends as ends
 use Rattle.vs_peer.specs.{Ends.Lent, Ends.Meets, Ends.PeerEnds, Pieces.Emits, Pieces.EmitsSome, Pieces.IsReading, Pieces.ReadsAll}

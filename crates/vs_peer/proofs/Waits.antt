@@ -1,6 +1,5 @@
 -- Pauses of a gate, and the steps in a row for which a client waits.
-use Rattle.std.proofs.Common.{◌≡◌, ◌≤◌, ℕ, arith}
-use Rattle.std.proofs.lemmas.Bool.Decides.{nat_tests}
+use Rattle.std.proofs.{Common.◌≡◌, Common.◌≤◌, Common.ℕ, Common.arith, lemmas.Bool.Decides.nat_tests}
 use Rattle.vs_outside.specs.Faults.{one_more}
 use Rattle.vs_peer.specs.Waiting.{Paused, after_still}
 

@@ -1,4 +1,5 @@
-use Rattle.vs_device_parts.specs.{Receiving.fill_rx_of, Receiving.pay_event_of, Streams.pump_of, Streams.tick_of, Transmitting.take_tx_of, Turns.reset_of}
+use Rattle.vs_device_parts.specs.{Receiving.fill_rx_of, Receiving.pay_event_of, Streams.pump_of, Streams.tick_of, Transmitting.take_tx_of}
+use Rattle.vs_device_parts.specs.Turns.{reset_of}
 use Rattle.laws_device.proofs.{Carrying.streamed_end, Filling.fill_keeps, Transmitting.take_keeps, Turning.pay_keeps, Turning.pump_keeps}
 use Rattle.laws_device.proofs.Turning.{reset_keeps, tick_keeps}
 use Rattle.laws_device.proofs.laws.law_of_streamed.Goals as goal

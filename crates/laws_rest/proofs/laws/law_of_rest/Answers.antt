@@ -1,5 +1,4 @@
-use Rattle.laws_rest.proofs.Counting.{same_numbers}
-use Rattle.laws_rest.proofs.Resting.{paired, same_flows}
+use Rattle.laws_rest.proofs.{Counting.same_numbers, Resting.paired, Resting.same_flows}
 use Rattle.laws_rest.proofs.laws.law_of_rest.Goals as goal
 
 pub returns-clause-same_flows : goal.returns-clause-same_flows

@@ -1,5 +1,4 @@
-use Rattle.std.proofs.Common.{◌≡◌, Some, ap}
-use Rattle.std.proofs.lemmas.List.Elements.{All-contains}
+use Rattle.std.proofs.{Common.◌≡◌, Common.Some, Common.ap, lemmas.List.Elements.All-contains}
 use Rattle.vs_proxy_parts.specs.State.{Handshake}
 use Rattle.laws_device_bytes.specs.Streamed.{Seen, look, reading}
 use Rattle.laws_world.specs.{Events.run, World.opening}

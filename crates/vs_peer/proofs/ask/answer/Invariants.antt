@@ -3,8 +3,7 @@ use Rattle.std.specs.Option.{ForSome}
 use Rattle.vs_contents.specs.Contents.{Relates}
 use Rattle.vs_outside.specs.Host.{IsOpen}
 use Rattle.vs_uds.specs.{OkLine.ok_step, Reading.is_decided, declared.ok.TheConstants.OK_MAX, declared.scan.Step.TheVariants.More}
-use Rattle.vs_peer.specs.Passing.{Moves}
-use Rattle.vs_peer.specs.Waiting.{Paused}
+use Rattle.vs_peer.specs.{Passing.Moves, Waiting.Paused}
 use Rattle.vs_peer.proofs.ask.answer.Given as goal
 
 -- what was taken so far

@@ -2,8 +2,7 @@ use Rattle.std.proofs.Common.{◌≡◌, ◌≤◌, [], false, length, take}
 use Rattle.std.specs.Option.{ForSome}
 use Rattle.vs_contents.specs.Contents.{Relates}
 use Rattle.vs_outside.specs.Host.{IsOpen}
-use Rattle.vs_peer.specs.Passing.{Moves}
-use Rattle.vs_peer.specs.Waiting.{Paused}
+use Rattle.vs_peer.specs.{Passing.Moves, Waiting.Paused}
 use Rattle.vs_peer.proofs.ask.ask.Given as goal
 
 -- what was given so far

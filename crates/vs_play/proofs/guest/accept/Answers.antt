@@ -1,5 +1,4 @@
-use Rattle.std.proofs.Common.{◌++◌, ap, refl, string_bytes, ◌∙◌}
-use Rattle.std.proofs.lemmas.Result.{on_ok_weaker}
+use Rattle.std.proofs.{Common.◌++◌, Common.ap, Common.refl, Common.string_bytes, Common.◌∙◌, lemmas.Result.on_ok_weaker}
 use Rattle.vs_report.specs.GuestLines.{accept_text}
 use Rattle.laws_world.proofs.SamePages.{accept_stays}
 use Rattle.vs_play.proofs.Driven.{replies_as}

@@ -1,5 +1,4 @@
-use Rattle.std.proofs.Common.{◌++◌, ap, string_bytes, ◌∙◌}
-use Rattle.std.proofs.lemmas.Result.{on_ok_weaker}
+use Rattle.std.proofs.{Common.◌++◌, Common.ap, Common.string_bytes, Common.◌∙◌, lemmas.Result.on_ok_weaker}
 use Rattle.vs_report.specs.GuestLines.{connect_text}
 use Rattle.vs_play.proofs.OverRings.{answered, honest_of, ring_of}
 use Rattle.vs_play.proofs.guest.connect.Goals as goal

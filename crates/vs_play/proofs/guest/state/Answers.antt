@@ -1,5 +1,4 @@
-use Rattle.std.proofs.Common.{◌++◌, ap, refl, string_bytes, ◌∙◌}
-use Rattle.std.proofs.lemmas.Result.{on_ok_weaker}
+use Rattle.std.proofs.{Common.◌++◌, Common.ap, Common.refl, Common.string_bytes, Common.◌∙◌, lemmas.Result.on_ok_weaker}
 use Rattle.vs_report.specs.GuestLines.{state_text}
 use Rattle.vs_play.proofs.Driven.{replies}
 use Rattle.laws_driver_bytes.specs.Calls as call

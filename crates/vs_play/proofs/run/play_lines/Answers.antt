@@ -1,5 +1,4 @@
-use Rattle.std.proofs.Common.{arith, refl}
-use Rattle.std.proofs.lemmas.Option.{slice_get_read}
+use Rattle.std.proofs.{Common.arith, Common.refl, lemmas.Option.slice_get_read}
 use Rattle.vs_play.proofs.LinesPlayed.{playable_at, played_next, played_until}
 use Rattle.vs_play.proofs.run.play_lines.Goals as goal
 

@@ -1,5 +1,4 @@
-use Rattle.std.proofs.Common.{refl, sym, subst}
-use Rattle.std.proofs.lemmas.Result.{on_ok_weaker}
+use Rattle.std.proofs.{Common.refl, Common.sym, Common.subst, lemmas.Result.on_ok_weaker}
 use Rattle.vs_device_parts.specs.Steps.{puts_owed}
 use Rattle.laws_world.specs.Events.{DevicePays}
 use Rattle.vs_core.specs.Ready.{IsReady}

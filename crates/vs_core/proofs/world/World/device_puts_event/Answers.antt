@@ -1,6 +1,5 @@
 use Rattle.std.proofs.Common.{◌≡◌, ◌&&◌, nat_le, true, List, Some, refl, sym, subst, arith}
-use Rattle.std.proofs.lemmas.Bool.Decides.{nat_tests}
-use Rattle.std.proofs.lemmas.{Result.on_ok_weaker, Bool.and_parts}
+use Rattle.std.proofs.lemmas.{Bool.Decides.nat_tests, Result.on_ok_weaker, Bool.and_parts}
 use Rattle.vs_ring_port.specs.{Chains.Held, Chains.same_queue, declared.device_ring.Chain.Chain, declared.queue.Queue.TheVariants.Event}
 use Rattle.vs_device_parts.specs.Steps.{puts_event}
 use Rattle.laws_world.specs.{Events.DevicePutsEvent, Pages.is_held}

@@ -1,5 +1,4 @@
-use Rattle.std.proofs.Common.{Some, refl, sym, subst}
-use Rattle.std.proofs.lemmas.Result.{on_ok_weaker}
+use Rattle.std.proofs.{Common.Some, Common.refl, Common.sym, Common.subst, lemmas.Result.on_ok_weaker}
 use Rattle.vs_ring_port.specs.declared.queue.Queue.TheVariants.{Rx, Tx, Event}
 use Rattle.vs_device_parts.specs.Steps.{takes_chain}
 use Rattle.laws_world.specs.Events.{DeviceTakes}

@@ -1,5 +1,4 @@
-use Rattle.std.proofs.Common.{ap, refl, sym, subst}
-use Rattle.std.proofs.lemmas.Result.{on_ok_weaker}
+use Rattle.std.proofs.{Common.ap, Common.refl, Common.sym, Common.subst, lemmas.Result.on_ok_weaker}
 use Rattle.vs_outside.specs.HostProgram.{after_fail}
 use Rattle.laws_world.specs.Events.{HostFails}
 use Rattle.vs_core.specs.Ready.{IsReady}

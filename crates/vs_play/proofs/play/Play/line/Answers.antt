@@ -1,5 +1,4 @@
-use Rattle.std.proofs.Common.{sym, subst}
-use Rattle.std.proofs.lemmas.Result.{on_ok_weaker}
+use Rattle.std.proofs.{Common.sym, Common.subst, lemmas.Result.on_ok_weaker}
 use Rattle.vs_script.specs.Play.{play_view}
 use Rattle.vs_play.specs.Ready.{IsReady}
 use Rattle.vs_play.proofs.Playing.{drives_play, no_outside}

@@ -1,5 +1,4 @@
-use Rattle.std.proofs.Common.{sym, subst}
-use Rattle.std.proofs.lemmas.Result.{on_ok_weaker}
+use Rattle.std.proofs.{Common.sym, Common.subst, lemmas.Result.on_ok_weaker}
 use Rattle.vs_script.specs.Outside.{host_view}
 use Rattle.vs_play.specs.Ready.{IsReady, PlayState}
 use Rattle.vs_play.proofs.Playing.{client_plays, host_plays, on_ok_both, reset_plays, tick_plays, turn_plays}
