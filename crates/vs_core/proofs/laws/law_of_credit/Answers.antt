@@ -9,8 +9,7 @@ pub returns-clause-overrun : goal.returns-clause-overrun
 returns-clause-overrun c = λ n host es. (run_well n host es).overrun
 
 pub returns-clause-unread : goal.returns-clause-unread
-returns-clause-unread c = λ n host es i d less.
-    let fits = ((run_well n host es).driver.ends i d less).credit in omega (arith, fits.unread, fits.within, fits.alloc)
+returns-clause-unread c = λ n host es i d less. ((run_well n host es).driver.entries i d less).buffer.fits
 
 pub returns-clause-pending : goal.returns-clause-pending
 returns-clause-pending c = λ n host es i d less.
