@@ -69,25 +69,32 @@ staged_with first before after p s t page l step tie =
     let held = step.carries (all_put l.staged.tx l.entries) tie.0.1.matches tie.0.1.fair fair tie.1 in
     (now, subst (λ (log : Log). after (slots_of t) log) (sym last) held)
 
--- A poll's steps carry it: what a connection owes is put, and the oldest reply; a packet and an event are got; a transport reset is taken.
+-- An event was got last.
+abbrev pub IsEventLast : Log → Type 0
+IsEventLast log = (id : ℕ) × (older : Log) × (log ≡ GotEvent id ∷ older)
+
+-- A poll's steps carry it: what a connection owes is put, and the oldest reply; a packet and an event are got; a transport reset is taken,
+-- right after its event.
 pub record Carries (first : ℕ) (fact : Fact) : Type 0 where
   pub owed : (what : Owed) (e : DriverEntry) (s : DriverState) (log : Log) → let p = owed_on Driver s.cid e.flow e.value.end what in
       IsFitState s → Stands s e → owes_of e.value.end ≡ Some what → Matches Driver first (ends_of_state s) log
       → IsFairLog Driver log → IsFairLog Driver (PutPacket p ∷ log) → fact (slots_of s) log
       → fact (slots_of (after_paying what e s)) (PutPacket p ∷ log)
   pub reply : (r : Reply) (s : DriverState) (log : Log) → let p = reply_on Driver s.cid r in
-      IsFairLog Driver log → IsFairLog Driver (PutPacket p ∷ log) → fact (slots_of s) log → fact (slots_of s) (PutPacket p ∷ log)
+      Matches Driver first (ends_of_state s) log → IsFairLog Driver log → IsFairLog Driver (PutPacket p ∷ log) → fact (slots_of s) log
+      → fact (slots_of s) (PutPacket p ∷ log)
   pub got : (p : Packet) (s : DriverState) (log : Log) → IsFitState s → FitsPorts p.header → IsWhole p
       → Matches Driver first (ends_of_state s) log → IsFairLog Driver log → IsFairLog Driver (GotPacket p ∷ log) → fact (slots_of s) log
       → fact (slots_of (on_packet p s)) (GotPacket p ∷ log)
   pub event : (id : ℕ) (slots : HeldSlots) (log : Log) → fact slots log → fact slots (GotEvent id ∷ log)
-  pub reset : (cid : ℕ) (s : DriverState) (log : Log) → cid < 2 ^ 64 → IsFitState s → fact (slots_of s) log → fact (slots_of (after_reset cid s)) (Mark cid ∷ log)
+  pub reset : (cid : ℕ) (s : DriverState) (log : Log) → cid < 2 ^ 64 → IsFitState s → IsEventLast log → fact (slots_of s) log
+      → fact (slots_of (after_reset cid s)) (Mark cid ∷ log)
 
 pub carries_nothing : (first : ℕ) → Carries first nothing
 carries_nothing first = record {
   owed = λ what e s log fits stands owes m was fair held. tt;
-  reply = λ r s log was fair held. tt;
+  reply = λ r s log m was fair held. tt;
   got = λ p s log fits ports whole m was fair held. tt;
   event = λ id slots log held. tt;
-  reset = λ cid s log less fits held. tt;
+  reset = λ cid s log less fits last held. tt;
 }

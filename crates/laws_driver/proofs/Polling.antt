@@ -6,7 +6,7 @@ use Rattle.vs_conn.specs.{End.owes_of, declared.end.Owed.Owed, declared.end.TheC
 use Rattle.vs_flow.specs.Table.{entry_under, slots}
 use Rattle.vs_header.specs.Packet.{header_bytes}
 use Rattle.laws_history.specs.declared.packet.Packet.{Packet}
-use Rattle.vs_page.specs.{Fair.IsFairLog, Held.event_held, Held.packet_held, Log.Driver, Log.Log, declared.log.LogEntry.LogEntry}
+use Rattle.vs_page.specs.{Fair.IsFairLog, Held.event_held, Held.packet_held, Log.Driver, Log.Log}
 use Rattle.vs_page.specs.declared.log.LogEntry.TheVariants.{GotEvent, GotPacket, Mark}
 use Rattle.vs_page.proofs.Holding.{packet_whole}
 use Rattle.vs_replies.specs.declared.Reply.{Reply}
@@ -30,7 +30,7 @@ use Rattle.laws_driver.proofs.{Putting.owed_puts, Putting.reply_puts, Resetting.
 use Rattle.laws_driver.proofs.{Keeping.keeps_bind, Keeping.keeps_each, Keeping.keeps_weaker, Keeping.keeps_while, Staging.Rests}
 use Rattle.laws_driver.proofs.Staging.{SameBut, Ties, publish_other, publish_tx, reap_keeps, rests_tied, stage_other, stage_tx}
 use Rattle.laws_driver.proofs.Ringing.{IsAtRest, Tells, moves, tells_weaker}
-use Rattle.laws_driver.proofs.Carrying.{Carries, Fact, RestsWith}
+use Rattle.laws_driver.proofs.Carrying.{Carries, Fact, IsEventLast, RestsWith}
 
 pub not_tx_rx : Rx ≡ Tx → ⊥
 not_tx_rx is = absurd cc
@@ -64,17 +64,17 @@ gets_with first fact steps s page l ports rest fair = (gets_page first s page l 
     by (Some p) is fair =
         steps.got p s l.entries rest.0.0 (ports p is) (packet_whole page p is).0 rest.0.1.matches rest.0.1.fair fair rest.1
 
--- An event comes back. Where it tells a reset, something passed.
+-- An event comes back. Where it tells a reset, it is the last entry.
 abbrev HasPassed : Bool → Log → Type 0
-HasPassed true entries = (entry : LogEntry) × (older : Log) × (entries ≡ entry ∷ older)
+HasPassed true entries = IsEventLast entries
 HasPassed false entries = Unit {0}
 
 abbrev AfterEvent : ℕ → List ℕ → DriverState → EndLog → Type 0
 AfterEvent first page s l = IsAtRest first s l × HasPassed (is_reset_event page) l.entries
 
-passed : (b : Bool) (entry : LogEntry) (older : Log) → HasPassed b (entry ∷ older)
-passed true entry older = (entry, older, refl)
-passed false entry older = tt
+passed : (b : Bool) (id : ℕ) (older : Log) → HasPassed b (GotEvent id ∷ older)
+passed true id older = (id, older, refl)
+passed false id older = tt
 
 event_by : (first : ℕ) (s : DriverState) (o : Option ℕ) (entries : Log) → IsLeft first s.broken (ends_of_state s) [] entries
     → IsFairLog Driver (with_event (λ id. GotEvent id) o entries)
@@ -83,7 +83,7 @@ event_by : (first : ℕ) (s : DriverState) (o : Option ℕ) (entries : Log) → 
 event_by first s None entries left fair = (left, tt)
 event_by first s (Some id) entries left fair = (
   record { none_refused = left.none_refused; matches = takes_event Driver first id (ends_of_state s) entries left.matches; fair = fair },
-  passed (id == 0) (GotEvent id) entries,
+  passed (id == 0) id entries,
 )
 
 gets_event : (first : ℕ) (s : DriverState) (page : List ℕ) (l : EndLog) → IsAtRest first s l → IsFairLog Driver (log_reaped Event (Some page) l).entries
@@ -119,7 +119,7 @@ loads_with : (first : ℕ) (fact : Fact) → Carries first fact → (cid : ℕ) 
 loads_with first fact steps cid s l less rest has =
     let marked : entries_marked cid l.entries ≡ Mark cid ∷ l.entries = ap (entries_marked cid) has.2 ∙ ap (λ (log : Log). Mark cid ∷ log) (sym has.2) in (
       loads first cid s l less rest.0 has,
-      subst (λ (log : Log). fact (slots_of (after_reset cid s)) log) (sym marked) (steps.reset cid s l.entries less rest.0.0 rest.1),
+      subst (λ (log : Log). fact (slots_of (after_reset cid s)) log) (sym marked) (steps.reset cid s l.entries less rest.0.0 has rest.1),
     )
 
 module _ (first : ℕ) (fact : Fact) (steps : Carries first fact) where
@@ -208,7 +208,7 @@ module _ (first : ℕ) (fact : Fact) (steps : Carries first fact) where
           (stage_tx first fact (reply_on Driver r.state.cid reply) r.state (record r.state { replies = rest }) (header_bytes (reply_header r.state.cid reply)) c
           (λ l tie. record {
             puts = reply_puts reply rest r.state tie.0 is;
-            carries = λ log m was fair held. steps.reply reply r.state log was fair held;
+            carries = λ log m was fair held. steps.reply reply r.state log m was fair held;
           }) ties)
       by false = ties
 

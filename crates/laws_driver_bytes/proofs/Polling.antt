@@ -267,10 +267,10 @@ poll_carries first a = record {
   owed = λ what e s log fits stands owes m was fair x.
       let old = driver_begun first (ends_of_state s) log e.flow e.value.end m.flows (has_end s e fits stands) in
       (x.0, x.1, pays_received what x.0 e s log fits stands owes old x.2);
-  reply = λ r s log was fair x. (x.0, x.1, puts_received x.0 (reply_on Driver s.cid r) log (slots_of s) refl x.2);
+  reply = λ r s log m was fair x. (x.0, x.1, puts_received x.0 (reply_on Driver s.cid r) log (slots_of s) refl x.2);
   got = λ p s log fits ports whole m was fair x. heard_received first a p s log fits whole m was fair x;
   event = λ id slots log x. (x.0, x.1, same_received x.0 log (GotEvent id ∷ log) slots (λ c. refl) (λ f. refl) x.2);
-  reset = λ cid s log less fits x. (
+  reset = λ cid s log less fits last x. (
     x.0,
     x.1,
     all_leave x.0 (Mark cid ∷ log) s.table.entries (record s { cid = cid }) refl (with_cid cid s less fits)

@@ -50,10 +50,10 @@ connect_carries first host log = record {
 poll_carries : (first : ℕ) (log : Log) → Carries first (puts_as log)
 poll_carries first log = record {
   owed = λ what e s now fits stands owes m was fair held c. put_none Driver now _ c refl ∙ held c;
-  reply = λ r s now was fair held c. put_none Driver now _ c refl ∙ held c;
+  reply = λ r s now m was fair held c. put_none Driver now _ c refl ∙ held c;
   got = λ p s now fits ports whole m was fair held c. put_over_got Driver p now c ∙ held c;
   event = λ id slots now held. held;
-  reset = λ cid s now less fits held. held;
+  reset = λ cid s now less fits last held. held;
 }
 
 -- A call that puts none.
