@@ -1,12 +1,14 @@
 -- Driver and device at rest, as plain data: each got all that the other put, and nothing is owed.
 use Rattle.std.specs.Prelude.{◌≡◌, ℕ, ◌<◌, ◌≤◌, ◌^◌, Bool, true, false, [], ◌∷◌, None}
-use Rattle.std.specs.List.{All}
+use Rattle.std.specs.{List.All, Option.ForSome}
+use Rattle.laws_history.specs.declared.packet.Packet.{Packet}
+use Rattle.vs_ring_port.specs.Contents.{RingContents}
 use Rattle.vs_wrap.specs.Wrap.{difference32}
 use Rattle.vs_conn.specs.{End.ConnectionEnd, End.owes_of, Shut.is_both, declared.end.State.TheVariants.Live}
 use Rattle.vs_conn.specs.declared.end.TheConstants.{UPDATE_AT}
 use Rattle.vs_flow.specs.declared.flow.Flow.{Flow}
 use Rattle.vs_limits.specs.declared.TheConstants.{BUF_ALLOC, HOST_CID}
-use Rattle.vs_page.specs.{Fair.IsFairLog, Log.Device, Log.Log, Log.Role, Log.other_role, Log.packets_got, Log.packets_put, Open.cid_of, Open.is_dropped}
+use Rattle.vs_page.specs.{Fair.IsFairLog, Log.Device, Log.Log, Log.events_got, Log.Role, Log.other_role, Log.packets_got, Log.packets_put, Open.cid_of, Open.is_dropped}
 use Rattle.vs_page.specs.declared.log.LogEntry.TheVariants.{Mark, PutPacket}
 use Rattle.laws_tables.specs.{Both.Both, Both.at, Ends.Ends, Ends.flows_of, Ends.is_among, Matches.Matches}
 
@@ -22,6 +24,18 @@ abbrev pub AreRouted : ℕ → Log → Type 0
 AreRouted first [] = Unit {0}
 AreRouted first (PutPacket p ∷ log) = (is_dropped Device (cid_of first log) p.header ≡ false) × AreRouted first log
 AreRouted first (_ ∷ log) = AreRouted first log
+
+-- What a driver's log tells, as long as all packets that it got come from the host: the packets that it put are routed so. And as long as no
+-- event was got, no transport reset stands in it.
+abbrev pub ComesFromHost : Packet → Type 0
+ComesFromHost p = p.header.src_cid ≡ HOST_CID
+
+pub record IsRoutedLog (first : ℕ) (log : Log) : Type 0 where
+  pub routed : All ComesFromHost (packets_got log) → AreRouted first log
+  pub marks : events_got log ≡ [] → has_no_mark log ≡ true
+
+abbrev pub IsRoutedWith : ℕ → RingContents → Type 0
+IsRoutedWith first c = c.honest ≡ true → ForSome c.log (λ l. IsRoutedLog first l.entries)
 
 -- An end owes nothing: no connection of its own does, and no reply is owed.
 pub record OwesNothing (part : Ends) : Type 0 where
