@@ -1,6 +1,6 @@
 //! The bytes that a line of a script carries.
 
-ghost use Rattle.std.specs.Prelude.{◌≡◌, ◌≤◌, ◌<◌, ◌+◌, ◌-◌, ◌%◌, ◌^◌, ◌==◌, IfOk, if◌then◌else◌};
+ghost use Rattle.std.specs.Prelude.{◌≡◌, ◌≤◌, ◌<◌, ◌+◌, ◌*◌, ◌^◌, IfOk, OnOk};
 ghost use Rattle.vs_script.specs.Data.{content_of, size_of, byte_at, bytes_of, filled, filled_bytes};
 
 use std::alloc::{AllocError, Global};
@@ -24,7 +24,37 @@ pub struct Fill {
 }
 
 /// After so many bytes the rule adds one more.
-const RUN: u8 = 251;
+const RUN: usize = 251;
+
+/// The multiples of 7 from 0 on, mod 256. Each run of bytes by the rule is a part of it, since 183 is the inverse of 7: a run that begins with
+/// the byte b lies at (183b) mod 256. From one run to the next the first byte grows by 222, and so the place by 178, both mod 256.
+static SEVENS: [u8; 507] = [
+    0, 7, 14, 21, 28, 35, 42, 49, 56, 63, 70, 77, 84, 91, 98, 105, 112, 119, 126, 133, 140, 147,
+    154, 161, 168, 175, 182, 189, 196, 203, 210, 217, 224, 231, 238, 245, 252, 3, 10, 17, 24, 31,
+    38, 45, 52, 59, 66, 73, 80, 87, 94, 101, 108, 115, 122, 129, 136, 143, 150, 157, 164, 171, 178,
+    185, 192, 199, 206, 213, 220, 227, 234, 241, 248, 255, 6, 13, 20, 27, 34, 41, 48, 55, 62, 69,
+    76, 83, 90, 97, 104, 111, 118, 125, 132, 139, 146, 153, 160, 167, 174, 181, 188, 195, 202, 209,
+    216, 223, 230, 237, 244, 251, 2, 9, 16, 23, 30, 37, 44, 51, 58, 65, 72, 79, 86, 93, 100, 107,
+    114, 121, 128, 135, 142, 149, 156, 163, 170, 177, 184, 191, 198, 205, 212, 219, 226, 233, 240,
+    247, 254, 5, 12, 19, 26, 33, 40, 47, 54, 61, 68, 75, 82, 89, 96, 103, 110, 117, 124, 131, 138,
+    145, 152, 159, 166, 173, 180, 187, 194, 201, 208, 215, 222, 229, 236, 243, 250, 1, 8, 15, 22,
+    29, 36, 43, 50, 57, 64, 71, 78, 85, 92, 99, 106, 113, 120, 127, 134, 141, 148, 155, 162, 169,
+    176, 183, 190, 197, 204, 211, 218, 225, 232, 239, 246, 253, 4, 11, 18, 25, 32, 39, 46, 53, 60,
+    67, 74, 81, 88, 95, 102, 109, 116, 123, 130, 137, 144, 151, 158, 165, 172, 179, 186, 193, 200,
+    207, 214, 221, 228, 235, 242, 249, 0, 7, 14, 21, 28, 35, 42, 49, 56, 63, 70, 77, 84, 91, 98,
+    105, 112, 119, 126, 133, 140, 147, 154, 161, 168, 175, 182, 189, 196, 203, 210, 217, 224, 231,
+    238, 245, 252, 3, 10, 17, 24, 31, 38, 45, 52, 59, 66, 73, 80, 87, 94, 101, 108, 115, 122, 129,
+    136, 143, 150, 157, 164, 171, 178, 185, 192, 199, 206, 213, 220, 227, 234, 241, 248, 255, 6,
+    13, 20, 27, 34, 41, 48, 55, 62, 69, 76, 83, 90, 97, 104, 111, 118, 125, 132, 139, 146, 153,
+    160, 167, 174, 181, 188, 195, 202, 209, 216, 223, 230, 237, 244, 251, 2, 9, 16, 23, 30, 37, 44,
+    51, 58, 65, 72, 79, 86, 93, 100, 107, 114, 121, 128, 135, 142, 149, 156, 163, 170, 177, 184,
+    191, 198, 205, 212, 219, 226, 233, 240, 247, 254, 5, 12, 19, 26, 33, 40, 47, 54, 61, 68, 75,
+    82, 89, 96, 103, 110, 117, 124, 131, 138, 145, 152, 159, 166, 173, 180, 187, 194, 201, 208,
+    215, 222, 229, 236, 243, 250, 1, 8, 15, 22, 29, 36, 43, 50, 57, 64, 71, 78, 85, 92, 99, 106,
+    113, 120, 127, 134, 141, 148, 155, 162, 169, 176, 183, 190, 197, 204, 211, 218, 225, 232, 239,
+    246, 253, 4, 11, 18, 25, 32, 39, 46, 53, 60, 67, 74, 81, 88, 95, 102, 109, 116, 123, 130, 137,
+    144, 151, 158, 165, 172, 179, 186, 193, 200, 207, 214,
+];
 
 impl Fill {
     /// The byte at a place, counted from 0.
@@ -35,41 +65,30 @@ impl Fill {
         ((usize::from(self.start) + 7 * place + place / 251) % 256) as u8
     }
 
-    /// All of the bytes, with no division for each. The only error is want of memory.
-    #[tactic(auto, using(crate::proofs::Filling::one_more_byte))]
+    /// All of the bytes, run by run. The only error is want of memory.
     fn to_vec(self, alloc: Global) -> Result<Vec<u8>, AllocError>
         ensures { IfOk result (λ bytes. bytes.items ≡ filled_bytes self.n self.start) }
     {
         let n = self.n as usize;
         let mut bytes = Vec::with_capacity(alloc, n)?;
-        let mut next = self.start;
-        let mut left = RUN;
-        for place in 0..n {
-            bytes.push_reserved(next);
-            next = byte_after(next, left);
-            left = left_after(left);
+        for run in 0..n / RUN {
+            self.push_run(&mut bytes, run, RUN)?;
         }
+        self.push_run(&mut bytes, n / RUN, n % RUN)?;
         Ok(bytes)
     }
-}
 
-// The byte after this one, where so many bytes of its run are left, this one among them.
-fn byte_after(byte: u8, left: u8) -> u8
-    ensures { result ≡ (byte + (if left == 1 then 8 else 7)) % 256 }
-{
-    if left == 1 {
-        byte.wrapping_add(8)
-    } else {
-        byte.wrapping_add(7)
+    // Appends this many bytes of a run, behind all runs before it. The only error is want of memory.
+    fn push_run(self, bytes: &mut Vec<u8>, run: usize, count: usize) -> Result<(), AllocError>
+        requires few { run < 2 ^ 32 }
+        requires within { count ≤ RUN }
+        requires before { bytes.old.items ≡ filled_bytes (RUN * run) self.start }
+        ensures { OnOk result (bytes.new.items ≡ filled_bytes (RUN * run + count) self.start) }
+    {
+        let first = (183 * usize::from(self.start) + 178 * run) % 256;
+        bytes.extend_from_slice(&SEVENS[first..first + count])?;
+        Ok(())
     }
-}
-
-// How many bytes of the next byte's run are left.
-fn left_after(left: u8) -> u8
-    requires { 1 ≤ left }
-    ensures { result ≡ (if left == 1 then 251 else left - 1) }
-{
-    if left == 1 { RUN } else { left - 1 }
 }
 
 impl Data {
