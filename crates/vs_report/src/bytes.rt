@@ -4,9 +4,8 @@ ghost use Rattle.std.specs.Prelude.{◌≡◌, ◌++◌, OnOk, string_bytes};
 ghost use Rattle.hex.specs.Hex.{encode_lower};
 ghost use Rattle.vs_report.specs.Bytes.{data_text, counted_text, some_text};
 
-use itoa::Buffer;
+use crate::number::push_number;
 use std::alloc::AllocError;
-use std::fmt::Write;
 
 /// The most bytes that are printed in full.
 const MAX_IN_FULL: usize = 64;
@@ -29,7 +28,8 @@ pub fn push_data(out: &mut String, bytes: &[u8]) -> Result<(), AllocError>
 pub fn push_counted(out: &mut String, bytes: &[u8]) -> Result<(), AllocError>
     ensures { OnOk result (string_bytes out.new ≡ string_bytes out.old ++ counted_text bytes.now) }
 {
-    write!(out, "{} ", Buffer::new().format(bytes.len()))?;
+    push_number(out, "", bytes.len() as u64)?;
+    out.push_str(" ")?;
     push_data(out, bytes)
 }
 

@@ -4,9 +4,8 @@ ghost use Rattle.std.specs.Prelude.{◌≡◌, ◌++◌, OnOk, string_bytes};
 ghost use Rattle.vs_report.specs.DeviceLines.{one_value_text, two_values_text, failure_text, moved_text, turn_text, turned_text};
 ghost use Rattle.vs_report.specs.DeviceLines.{reset_text};
 
-use itoa::Buffer;
+use crate::number::{push_last, push_number};
 use std::alloc::AllocError;
-use std::fmt::Write;
 use vs_proxy_parts::answers::Turn;
 use vs_ring_port::Failure;
 
@@ -32,13 +31,9 @@ fn push_turned(
 ) -> Result<(), AllocError>
     ensures { OnOk result (string_bytes out.new ≡ string_bytes out.old ++ turned_text took put read wrote opened closed) }
 {
-    write!(
-        out,
-        "turned {} {} {}",
-        Buffer::new().format(took),
-        Buffer::new().format(put),
-        Buffer::new().format(read)
-    )?;
+    push_number(out, "turned ", took as u64)?;
+    push_number(out, " ", put as u64)?;
+    push_number(out, " ", read as u64)?;
     push_moved(out, wrote, opened, closed)
 }
 
@@ -46,13 +41,9 @@ fn push_turned(
 fn push_moved(out: &mut String, wrote: u32, opened: u32, closed: u32) -> Result<(), AllocError>
     ensures { OnOk result (string_bytes out.new ≡ string_bytes out.old ++ moved_text wrote opened closed) }
 {
-    write!(
-        out,
-        " {} {} {}\n",
-        Buffer::new().format(wrote),
-        Buffer::new().format(opened),
-        Buffer::new().format(closed)
-    )
+    push_number(out, " ", wrote as u64)?;
+    push_number(out, " ", opened as u64)?;
+    push_last(out, " ", closed as u64)
 }
 
 /// `reset CID`
@@ -92,18 +83,17 @@ pub fn push_failure(out: &mut String, failure: Failure) -> Result<(), AllocError
 fn push_one(out: &mut String, name: &str, value: u64) -> Result<(), AllocError>
     ensures { OnOk result (string_bytes out.new ≡ string_bytes out.old ++ one_value_text name.now value) }
 {
-    write!(out, "failed {} {}\n", name, Buffer::new().format(value))
+    out.push_str("failed ")?;
+    out.push_str(name)?;
+    push_last(out, " ", value)
 }
 
 // A failure that two values show.
 fn push_two(out: &mut String, name: &str, first: u64, second: u64) -> Result<(), AllocError>
     ensures { OnOk result (string_bytes out.new ≡ string_bytes out.old ++ two_values_text name.now first second) }
 {
-    write!(
-        out,
-        "failed {} {} {}\n",
-        name,
-        Buffer::new().format(first),
-        Buffer::new().format(second)
-    )
+    out.push_str("failed ")?;
+    out.push_str(name)?;
+    push_number(out, " ", first)?;
+    push_last(out, " ", second)
 }

@@ -2,14 +2,13 @@
 
 ghost use Rattle.std.specs.Prelude.{◌≡◌, ◌++◌, OnOk, string_bytes, codes, decimal};
 ghost use Rattle.vs_report.specs.Bytes.{data_text};
-ghost use Rattle.vs_report.specs.GuestLines.{connection_text, connect_text, refused_text, listen_text, unlisten_text, accept_text};
-ghost use Rattle.vs_report.specs.GuestLines.{send_text, recv_text, shutdown_text, close_text, state_text, reset_text, poll_text};
+ghost use Rattle.vs_driver_parts.specs.declared.answers.Sent.TheVariants.{NoCredit};
+ghost use Rattle.vs_report.specs.GuestLines.{opened_text, connection_text, connect_text, refused_text, listen_text, unlisten_text};
+ghost use Rattle.vs_report.specs.GuestLines.{accept_text, send_text, recv_text, shutdown_text, close_text, state_text, reset_text, poll_text};
 
 use crate::bytes::push_data;
-use crate::number::push_named;
-use itoa::Buffer;
+use crate::number::{push_last, push_number};
 use std::alloc::AllocError;
-use std::fmt::Write;
 use vs_driver_parts::answers::{
     Accepted, Closed, ConnId, ConnectError, ConnectionState, ListenError, Polled, Received, Sent,
     Shut,
@@ -35,15 +34,18 @@ fn push_connection(out: &mut String, id: ConnId, flow: Option<Flow>) -> Result<(
     ensures { OnOk result (string_bytes out.new ≡ string_bytes out.old ++ connection_text id flow) }
 {
     match flow {
-        Some(flow) => write!(
-            out,
-            "conn {} on {} {}\n",
-            Buffer::new().format(id),
-            Buffer::new().format(flow.guest),
-            Buffer::new().format(flow.host)
-        ),
+        Some(flow) => push_opened(out, id, flow),
         None => out.push_str("unknown\n"),
     }
+}
+
+// A connection that has a flow.
+fn push_opened(out: &mut String, id: ConnId, flow: Flow) -> Result<(), AllocError>
+    ensures { OnOk result (string_bytes out.new ≡ string_bytes out.old ++ opened_text id flow) }
+{
+    push_number(out, "conn ", id as u64)?;
+    push_number(out, " on ", flow.guest as u64)?;
+    push_last(out, " ", flow.host as u64)
 }
 
 // Why a connect opened nothing.
@@ -51,12 +53,12 @@ fn push_refusal(out: &mut String, refusal: ConnectError) -> Result<(), AllocErro
     ensures { OnOk result (string_bytes out.new ≡ string_bytes out.old ++ refused_text refusal) }
 {
     match refusal {
-        ConnectError::BadPort { port } => write!(out, "bad port {}\n", Buffer::new().format(port)),
-        ConnectError::Full { slots } => write!(out, "full {}\n", Buffer::new().format(slots)),
+        ConnectError::BadPort { port } => push_last(out, "bad port ", port as u64),
+        ConnectError::Full { slots } => push_last(out, "full ", slots as u64),
         ConnectError::PortsSpent { .. } => out.push_str("ports spent\n"),
-        ConnectError::NoDescriptor { in_flight } => push_named(
+        ConnectError::NoDescriptor { in_flight } => push_last(
             out,
-            "no descriptor",
+            "no descriptor ",
             in_flight as u64,
         ),
     }
@@ -69,9 +71,7 @@ pub fn push_listen(out: &mut String, answer: Result<(), ListenError>) -> Result<
     match answer {
         Ok(()) => out.push_str("ok\n"),
         Err(ListenError::Taken) => out.push_str("taken\n"),
-        Err(ListenError::Full { listeners }) => {
-            write!(out, "full {}\n", Buffer::new().format(listeners))
-        }
+        Err(ListenError::Full { listeners }) => push_last(out, "full ", listeners as u64),
     }
 }
 
@@ -102,20 +102,23 @@ pub fn push_send(out: &mut String, answer: Sent) -> Result<(), AllocError>
     ensures { OnOk result (string_bytes out.new ≡ string_bytes out.old ++ send_text answer) }
 {
     match answer {
-        Sent::Took(n) => write!(out, "took {}\n", Buffer::new().format(n)),
+        Sent::Took(n) => push_last(out, "took ", n as u64),
         Sent::Unknown => out.push_str("unknown\n"),
         Sent::NotOpen => out.push_str("not open\n"),
         Sent::Reset => out.push_str("reset\n"),
         Sent::ShutDown => out.push_str("shut down\n"),
-        Sent::NoCredit { tx, alloc, fwd } => write!(
-            out,
-            "no credit {} {} {}\n",
-            Buffer::new().format(tx),
-            Buffer::new().format(alloc),
-            Buffer::new().format(fwd)
-        ),
-        Sent::NoDescriptor { in_flight } => push_named(out, "no descriptor", in_flight as u64),
+        Sent::NoCredit { tx, alloc, fwd } => push_no_credit(out, tx, alloc, fwd),
+        Sent::NoDescriptor { in_flight } => push_last(out, "no descriptor ", in_flight as u64),
     }
+}
+
+// The three numbers of which a send had no credit.
+fn push_no_credit(out: &mut String, tx: u32, alloc: u32, fwd: u32) -> Result<(), AllocError>
+    ensures { OnOk result (string_bytes out.new ≡ string_bytes out.old ++ send_text (NoCredit tx alloc fwd)) }
+{
+    push_number(out, "no credit ", tx as u64)?;
+    push_number(out, " ", alloc as u64)?;
+    push_last(out, " ", fwd as u64)
 }
 
 /// `recv C N`, with the bytes that were read.
@@ -136,7 +139,8 @@ pub fn push_recv(out: &mut String, answer: Received, bytes: &[u8]) -> Result<(),
 fn push_got(out: &mut String, n: usize, bytes: &[u8]) -> Result<(), AllocError>
     ensures { OnOk result (string_bytes out.new ≡ string_bytes out.old ++ (codes "got " ++ decimal n ++ codes " " ++ data_text bytes.now ++ codes "\n")) }
 {
-    write!(out, "got {} ", Buffer::new().format(n))?;
+    push_number(out, "got ", n as u64)?;
+    out.push_str(" ")?;
     push_data(out, bytes)?;
     out.push_str("\n")
 }
@@ -181,12 +185,8 @@ pub fn push_state(out: &mut String, state: ConnectionState) -> Result<(), AllocE
 pub fn push_poll(out: &mut String, polled: Polled) -> Result<(), AllocError>
     ensures { OnOk result (string_bytes out.new ≡ string_bytes out.old ++ poll_text polled) }
 {
-    write!(
-        out,
-        "polled {} {}",
-        Buffer::new().format(polled.took),
-        Buffer::new().format(polled.posted)
-    )?;
+    push_number(out, "polled ", polled.took as u64)?;
+    push_number(out, " ", polled.posted as u64)?;
     push_reset(out, polled.reset)
 }
 

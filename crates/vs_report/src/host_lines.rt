@@ -6,9 +6,8 @@ ghost use Rattle.vs_script.specs.Data.{content_of};
 ghost use Rattle.vs_script.specs.Outside.{HostAllow, HostClosed, HostEnd, HostFail, HostListen, HostUnlisten, HostWrite, host_view};
 ghost use Rattle.vs_report.specs.HostLines.{client_text, host_played, ok_text, stream_there_text, write_text};
 
-use itoa::Buffer;
+use crate::number::push_last;
 use std::alloc::AllocError;
-use std::fmt::Write;
 use vs_header::Kind;
 use vs_outside::{HostWritten, MemHost};
 use vs_script::{Data, HostLine};
@@ -118,7 +117,7 @@ pub fn push_ok(out: &mut String) -> Result<(), AllocError>
 fn push_client(out: &mut String, stream: u64) -> Result<(), AllocError>
     ensures { OnOk result (string_bytes out.new ≡ string_bytes out.old ++ client_text stream) }
 {
-    write!(out, "stream {}\n", Buffer::new().format(stream))
+    push_last(out, "stream ", stream)
 }
 
 // What a write answered.

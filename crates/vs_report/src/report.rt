@@ -5,10 +5,8 @@ ghost use Rattle.vs_report.specs.Bytes.{counted_text};
 ghost use Rattle.vs_report.specs.Report.{guest_open_text, device_open_text, stream_text, flow_bytes_text, labelled_text, counts_text};
 
 use crate::bytes::push_counted;
-use crate::number::push_named;
-use itoa::Buffer;
+use crate::number::{push_last, push_number};
 use std::alloc::AllocError;
-use std::fmt::Write;
 use vs_device_parts::answers::Counters;
 use vs_flow::Flow;
 use vs_outside::MemStream;
@@ -17,14 +15,14 @@ use vs_outside::MemStream;
 pub fn push_guest_open(out: &mut String, entries: usize) -> Result<(), AllocError>
     ensures { OnOk result (string_bytes out.new ≡ string_bytes out.old ++ guest_open_text entries) }
 {
-    write!(out, "guest open {}\n", Buffer::new().format(entries))
+    push_last(out, "guest open ", entries as u64)
 }
 
 /// How many entries the device's table has.
 pub fn push_device_open(out: &mut String, entries: usize) -> Result<(), AllocError>
     ensures { OnOk result (string_bytes out.new ≡ string_bytes out.old ++ device_open_text entries) }
 {
-    push_named(out, "device open", entries as u64)
+    push_last(out, "device open ", entries as u64)
 }
 
 /// A stream of the host: its number, its label's guest port and host port, what its program wrote behind a CONNECT line and the proxy took,
@@ -32,7 +30,8 @@ pub fn push_device_open(out: &mut String, entries: usize) -> Result<(), AllocErr
 pub fn push_stream(out: &mut String, number: u64, stream: &MemStream) -> Result<(), AllocError>
     ensures { OnOk result (string_bytes out.new ≡ string_bytes out.old ++ stream_text number stream.now) }
 {
-    write!(out, "stream {} ", Buffer::new().format(number))?;
+    push_number(out, "stream ", number)?;
+    out.push_str(" ")?;
     push_labelled(
         out,
         stream.label(),
@@ -65,12 +64,9 @@ fn push_flow_bytes(
 ) -> Result<(), AllocError>
     ensures { OnOk result (string_bytes out.new ≡ string_bytes out.old ++ flow_bytes_text flow wrote.now read.now) }
 {
-    write!(
-        out,
-        "{} {} wrote ",
-        Buffer::new().format(flow.guest),
-        Buffer::new().format(flow.host)
-    )?;
+    push_number(out, "", flow.guest as u64)?;
+    push_number(out, " ", flow.host as u64)?;
+    out.push_str(" wrote ")?;
     push_counted(out, wrote)?;
     push_read(out, read)
 }
@@ -93,14 +89,10 @@ pub fn push_counts(
 ) -> Result<(), AllocError>
     ensures { OnOk result (string_bytes out.new ≡ string_bytes out.old ++ counts_text counters broken) }
 {
-    write!(
-        out,
-        "dropped {} overrun {}",
-        Buffer::new().format(counters.dropped),
-        Buffer::new().format(counters.overrun)
-    )?;
+    push_number(out, "dropped ", counters.dropped)?;
+    push_number(out, " overrun ", counters.overrun)?;
     if let Some(broken) = broken {
-        write!(out, " broken {}", Buffer::new().format(broken))?;
+        push_number(out, " broken ", broken)?;
     }
-    write!(out, " faults {}\n", Buffer::new().format(counters.faults))
+    push_last(out, " faults ", counters.faults)
 }
