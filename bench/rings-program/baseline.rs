@@ -9,14 +9,18 @@ struct Page {
     used: usize,
 }
 
+/// An index, on a cache line of its own.
+#[repr(align(64))]
+struct Index(AtomicU16);
+
 /// One queue: descriptor words, available entries and index, used elements and index, and a slot for each page.
 struct Shared {
     size: usize,
     descriptors: Vec<AtomicU64>,
     available: Vec<AtomicU16>,
-    available_index: AtomicU16,
+    available_index: Index,
     used: Vec<AtomicU64>,
-    used_index: AtomicU16,
+    used_index: Index,
     slots: Vec<UnsafeCell<Option<Page>>>,
 }
 
@@ -26,6 +30,8 @@ struct Driver {
     shared: Arc<Shared>,
     free: Vec<u16>,
     offered: u16,
+    staged: u16,
+    batch: u16,
     taken: u16,
 }
 
@@ -43,11 +49,15 @@ impl Driver {
         unsafe { *self.shared.slots[slot as usize].get() = Some(page) };
         self.shared.available[place].store(slot, Ordering::Relaxed);
         self.offered = self.offered.wrapping_add(1);
-        self.shared.available_index.store(self.offered, Ordering::Release);
+        self.staged += 1;
+        if self.staged >= self.batch {
+            self.shared.available_index.0.store(self.offered, Ordering::Release);
+            self.staged = 0;
+        }
     }
 
     fn reap(&mut self) -> Option<Page> {
-        if self.shared.used_index.load(Ordering::Acquire) == self.taken {
+        if self.shared.used_index.0.load(Ordering::Acquire) == self.taken {
             return None;
         }
         let element = self.shared.used[self.taken as usize % self.shared.size].load(Ordering::Relaxed);
@@ -60,7 +70,7 @@ impl Driver {
 
 impl Device {
     fn take(&mut self) -> Option<(u16, Page)> {
-        if self.shared.available_index.load(Ordering::Acquire) == self.taken {
+        if self.shared.available_index.0.load(Ordering::Acquire) == self.taken {
             return None;
         }
         let slot = self.shared.available[self.taken as usize % self.shared.size].load(Ordering::Relaxed);
@@ -75,24 +85,26 @@ impl Device {
         self.shared.used[self.given as usize % self.shared.size].store(element, Ordering::Relaxed);
         unsafe { *self.shared.slots[slot as usize].get() = Some(page) };
         self.given = self.given.wrapping_add(1);
-        self.shared.used_index.store(self.given, Ordering::Release);
+        self.shared.used_index.0.store(self.given, Ordering::Release);
     }
 }
 
-fn opened(size: usize) -> (Driver, Device) {
+fn opened(size: usize, batch: u16) -> (Driver, Device) {
     let shared = Arc::new(Shared {
         size,
         descriptors: (0..size).map(|_| AtomicU64::new(0)).collect(),
         available: (0..size).map(|_| AtomicU16::new(0)).collect(),
-        available_index: AtomicU16::new(0),
+        available_index: Index(AtomicU16::new(0)),
         used: (0..size).map(|_| AtomicU64::new(0)).collect(),
-        used_index: AtomicU16::new(0),
+        used_index: Index(AtomicU16::new(0)),
         slots: (0..size).map(|_| UnsafeCell::new(None)).collect(),
     });
     let mut driver = Driver {
         shared: shared.clone(),
         free: (0..size as u16).rev().collect(),
         offered: 0,
+        staged: 0,
+        batch,
         taken: 0,
     };
     for _ in 0..size {
@@ -129,8 +141,8 @@ fn reap_one(driver: &mut Driver, number: u32) -> Option<bool> {
     Some(right)
 }
 
-fn one(size: usize, count: u32) -> (u32, u128) {
-    let (mut driver, mut device) = opened(size);
+fn one(size: usize, batch: u16, count: u32) -> (u32, u128) {
+    let (mut driver, mut device) = opened(size, batch);
     let start = Instant::now();
     let mut right = 0;
     for number in 0..count {
@@ -140,8 +152,8 @@ fn one(size: usize, count: u32) -> (u32, u128) {
     (right, start.elapsed().as_millis())
 }
 
-fn two(size: usize, count: u32) -> (u32, u128) {
-    let (mut driver, mut device) = opened(size);
+fn two(size: usize, batch: u16, count: u32) -> (u32, u128) {
+    let (mut driver, mut device) = opened(size, batch);
     let start = Instant::now();
     let right = std::thread::scope(|scope| {
         scope.spawn(move || {
@@ -172,15 +184,16 @@ fn two(size: usize, count: u32) -> (u32, u128) {
 /// The rows of one thread, and then those of two, unless the argument `one` is given.
 fn main() {
     let count = 1_000_000;
-    for size in [8, 256] {
-        let (right, took) = one(size, count);
-        println!("one {size} {right} {took}");
+    let rows = [(8, 1), (256, 1), (256, 16)];
+    for (size, batch) in rows {
+        let (right, took) = one(size, batch, count);
+        println!("one {size} {batch} {right} {took}");
     }
     if std::env::args().any(|word| word == "one") {
         return;
     }
-    for size in [8, 256] {
-        let (right, took) = two(size, count);
-        println!("two {size} {right} {took}");
+    for (size, batch) in rows {
+        let (right, took) = two(size, batch, count);
+        println!("two {size} {batch} {right} {took}");
     }
 }
