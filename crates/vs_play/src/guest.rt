@@ -1,6 +1,6 @@
 //! The lines on the guest's driver: what each does over the rings, with the one end that it leads to, and what it prints.
 
-ghost use Rattle.std.specs.Prelude.{◌≡◌, ℕ, IfOk, OnOk, length, string_bytes};
+ghost use Rattle.std.specs.Prelude.{◌≡◌, ◌≤◌, ℕ, IfOk, OnOk, length, string_bytes, take};
 ghost use Rattle.vs_contents.specs.CallTree.{Done};
 ghost use Rattle.vs_ring_list.specs.Ends.{Ends, empty_ends};
 ghost use Rattle.vs_driver_parts.specs.{Conversations.new_of, Conversations.poll_of, Connections.table_shown};
@@ -39,11 +39,12 @@ pub fn guest_entries(driver: &Driver) -> usize
     driver.table().count()
 }
 
-/// Plays a line on the driver; any other line does nothing. The only error is want of memory.
+/// Plays a line on the driver; any other line does nothing. What it receives goes by way of the buffer. The only error is want of memory.
 pub fn guest_line<R: BothEnds>(
     driver: &mut Driver,
     rings: &mut R,
     line: &PlayLine,
+    buffer: &mut Vec<u8>,
     text: &mut String,
 ) -> Result<(), AllocError>
     requires driven { IsDriven driver.old (R.ends rings.old) }
@@ -56,7 +57,7 @@ pub fn guest_line<R: BothEnds>(
         PlayLine::Unlisten { port } => unlisten(driver, *port, text),
         PlayLine::Accept { port } => accept(driver, *port, text),
         PlayLine::Send { id, content } => send(driver, rings, *id, content, text),
-        PlayLine::Recv { id, len } => recv(driver, *id, *len, text),
+        PlayLine::Recv { id, len } => recv(driver, buffer, *id, *len, text),
         PlayLine::Shutdown { id, bits } => shutdown(driver, *id, *bits, text),
         PlayLine::Close { id } => close(driver, *id, text),
         PlayLine::State { id } => state(driver, *id, text),
@@ -163,28 +164,52 @@ fn send_bytes<R: BothEnds>(
     push_send(text, answer)
 }
 
-// `recv C N`
-fn recv(driver: &mut Driver, id: ConnId, len: u32, text: &mut String) -> Result<(), AllocError>
+// `recv C N`, by way of a buffer that grows where it is shorter and is never cleared.
+fn recv(
+    driver: &mut Driver,
+    buffer: &mut Vec<u8>,
+    id: ConnId,
+    len: u32,
+    text: &mut String,
+) -> Result<(), AllocError>
     ensures { (e : Ends) → IsDriven driver.old e → OnOk result (Replies (call.Recv id len) driver.old driver.new e e (string_bytes text.old) (string_bytes text.new)) }
 {
-    let (answer, bytes) = received(*text.allocator(), driver, id, len as usize)?;
-    push_recv(text, answer, &bytes)
+    let len = len as usize;
+    make_long(buffer, len)?;
+    recv_into(driver, id, &mut buffer[..len], text)
 }
 
-// Receives at most so many bytes of a connection, and gives them. The only error is want of memory, and then nothing changes.
-fn received(
-    alloc: Global,
+// Makes a buffer at least so long. The only error is want of memory.
+fn make_long(buffer: &mut Vec<u8>, len: usize) -> Result<(), AllocError>
+    ensures { OnOk result (len ≤ length buffer.new.items) }
+{
+    if buffer.len() < len {
+        *buffer = vec![in *buffer.allocator(); 0; len]?;
+    }
+    Ok(())
+}
+
+// The same, by way of a buffer as long as what is asked for.
+fn recv_into(
     driver: &mut Driver,
     id: ConnId,
-    len: usize,
-) -> Result<(Received, Vec<u8>), AllocError>
-    ensures made { IfOk result (λ r. makes_call (call.Recv id len) driver.old ≡ Done (driver.new, (r.0, r.1.items))) }
-    ensures driven { (e : Ends) → IsDriven driver.old e → IsDriven driver.new e }
+    buffer: &mut [u8],
+    text: &mut String,
+) -> Result<(), AllocError>
+    ensures { (e : Ends) → IsDriven driver.old e → OnOk result (Replies (call.Recv id (length buffer.old)) driver.old driver.new e e (string_bytes text.old) (string_bytes text.new)) }
 {
-    let mut out = vec![in alloc; 0; len]?;
-    let answer = driver.recv(id, &mut out);
-    out.truncate(answer.count());
-    Ok((answer, out))
+    let (answer, count) = received(driver, id, buffer);
+    push_recv(text, answer, &buffer[..count])
+}
+
+// Receives as many bytes of a connection as the buffer holds, and tells how many stand in front of it.
+fn received(driver: &mut Driver, id: ConnId, buffer: &mut [u8]) -> (Received, usize)
+    ensures made { makes_call (call.Recv id (length buffer.old)) driver.old ≡ Done (driver.new, (result.0, take result.1 buffer.new)) }
+    ensures driven { (e : Ends) → IsDriven driver.old e → IsDriven driver.new e }
+    ensures within { result.1 ≤ length buffer.new }
+{
+    let answer = driver.recv(id, buffer);
+    (answer, answer.count().min(buffer.len()))
 }
 
 // `shutdown C B`

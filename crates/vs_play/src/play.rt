@@ -26,6 +26,8 @@ pub struct Play<R: BothEnds> {
     proxy: Proxy,
     host: MemHost,
     clock: StepClock,
+    // What a line receives goes by way of it.
+    buffer: Vec<u8>,
 }
 
 impl<R: BothEnds> Model for Play<R> {
@@ -46,13 +48,13 @@ impl<R: BothEnds + Drop> Play<R> {
         let driver = guest::new(alloc, &mut rings)?;
         let proxy = device::new(alloc)?;
         let host = device::new_host(alloc)?;
-        Ok(Play::at_start(rings, driver, proxy, host))
+        Ok(Play::at_start(alloc, rings, driver, proxy, host))
     }
 }
 
 impl<R: BothEnds> Play<R> {
     // The play of these parts, at the moment 0.
-    fn at_start(rings: R, driver: Driver, proxy: Proxy, host: MemHost) -> Play<R>
+    fn at_start(alloc: Global, rings: R, driver: Driver, proxy: Proxy, host: MemHost) -> Play<R>
         ensures { result ≡ record { driver = driver; proxy = proxy; rings = R.ends rings; host = host.contents; moment = 0 } }
     {
         let clock = StepClock::new();
@@ -62,6 +64,7 @@ impl<R: BothEnds> Play<R> {
             proxy,
             host,
             clock,
+            buffer: Vec::new(alloc),
         }
     }
 
@@ -92,7 +95,13 @@ impl<R: BothEnds> Play<R> {
     {
         match line {
             PlayLine::Outside(line) => self.outside_line(line, text),
-            _ => guest_line(&mut self.driver, &mut self.rings, line, text),
+            _ => guest_line(
+                &mut self.driver,
+                &mut self.rings,
+                line,
+                &mut self.buffer,
+                text,
+            ),
         }
     }
 

@@ -6,5 +6,5 @@ use Rattle.vs_play.proofs.guest.received.Goals as goal
 
 pub returns-clause-driven : goal.returns-clause-driven
 returns-clause-driven c = λ e. driven_stays c.args.driver.now c.recv-answer.new.self e
-    (subst (λ s. SamePages c.args.driver.now s) (sym c.recv-answer.ensures.state) (recv_stays c.args.id (length c.deref_mut.result.now) c.args.driver.now))
+    (subst (λ s. SamePages c.args.driver.now s) (sym c.recv-answer.ensures.state) (recv_stays c.args.id (length c.args.buffer.now) c.args.driver.now))
     c.recv-answer.ensures.honest
