@@ -1,3 +1,4 @@
 pub mod Fifo
 pub mod MessageFields
 pub mod Messages
+pub mod Ring

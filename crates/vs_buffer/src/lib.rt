@@ -2,11 +2,12 @@
 //! yet (the receive buffer of Virtio 1.2, section 5.10.6.3, whose size is `buf_alloc`); and such a queue that knows where messages end.
 #![tactic(auto)]
 
-ghost use Rattle.std.specs.Prelude.{◌≡◌, ◌+◌, ◌-◌, ◌≤◌, ◌==◌, [], ◌++◌, IfOk, drop, length, min, take};
+ghost use Rattle.std.specs.Prelude.{◌≡◌, ◌+◌, ◌-◌, ◌≤◌, ◌⊎◌, ◌==◌, [], ◌++◌, IfOk, drop, if◌then◌else◌, length, min, nat_le, take};
+ghost use Rattle.vs_buffer.specs.Ring.{IsRing, ring_bytes};
+ghost use Rattle.std.specs.Vec.{vec_capacity};
 
 pub mod messages;
 
-use circular_buffer::HeapCircularBuffer;
 pub use messages::{Mark, MessageFifo};
 use std::alloc::{AllocError, Global};
 use std::marker::Model;
@@ -14,15 +15,66 @@ use std::marker::Model;
 /// A queue of bytes that holds at most as many as it was made for. All its memory is taken when it is made.
 #[derive(Drop)]
 pub struct ByteFifo {
-    ring: HeapCircularBuffer<u8>,
+    // The bytes lie in a ring of `capacity` places, from `start` on. Places that no byte was in yet are not there.
+    ring: Vec<u8>,
+    start: usize,
+    len: usize,
+    capacity: usize,
 }
 
 impl Model for ByteFifo {
     ghost use Rattle.vs_buffer.specs.Fifo.{Fifo};
+    ghost use Rattle.vs_buffer.specs.Ring.{IsRing, ring_bytes};
+    ghost use Rattle.std.specs.Vec.{vec_capacity};
 
     ghost Value = { Fifo };
 
-    ghost view = { λ f. record { bytes = f.ring.items; capacity = f.ring.capacity } };
+    ghost view = { λ f. record { bytes = ring_bytes f.ring.items f.start f.len; capacity = f.capacity } };
+
+    ghost invariant = { λ f. IsRing f.ring.items f.start f.len f.capacity (vec_capacity f.ring) };
+}
+
+// Writes bytes into a ring from a place on, over those that are there, or behind the last.
+fn write_at(ring: &mut Vec<u8>, place: usize, bytes: &[u8])
+    requires room { place + length bytes.now ≤ vec_capacity ring.old }
+    requires behind { place ≤ length ring.old.items }
+    requires whole { (place + length bytes.now ≤ length ring.old.items) ⊎ (place ≡ length ring.old.items) }
+    ensures items { ring.new.items ≡ take place ring.old.items ++ bytes.now ++ drop (place + length bytes.now) ring.old.items }
+    ensures capacity { vec_capacity ring.old ≤ vec_capacity ring.new }
+{
+    if place == ring.len() {
+        ring.extend_from_slice(bytes).unwrap();
+    } else {
+        ring[place..place + bytes.len()].copy_from_slice(bytes);
+    }
+}
+
+// A place from the beginning on, for one that may lie behind a ring's last place.
+fn round(place: usize, places: usize) -> usize
+    ensures { result ≡ (if nat_le place places then place else place - places) }
+{
+    if place <= places {
+        place
+    } else {
+        place - places
+    }
+}
+
+// Puts bytes behind those of a ring, so many that they lie in one piece.
+fn put_piece(ring: &mut Vec<u8>, start: usize, len: usize, capacity: usize, bytes: &[u8])
+    requires ring { IsRing ring.old.items start len capacity (vec_capacity ring.old) }
+    requires fits { len + length bytes.now ≤ capacity }
+    requires one_piece { (start + len + length bytes.now ≤ capacity) ⊎ (capacity ≤ start + len) }
+    ensures ring { IsRing ring.new.items start (len + length bytes.now) capacity (vec_capacity ring.new) }
+    ensures bytes { ring_bytes ring.new.items start (len + length bytes.now) ≡ ring_bytes ring.old.items start len ++ bytes.now }
+{
+    let behind = start + len;
+    let place = if behind < capacity {
+        behind
+    } else {
+        behind - capacity
+    };
+    write_at(ring, place, bytes);
 }
 
 impl ByteFifo {
@@ -30,8 +82,13 @@ impl ByteFifo {
     pub fn new(alloc: Global, n: usize) -> Result<ByteFifo, AllocError>
         ensures { IfOk result (λ f. f ≡ record { bytes = []; capacity = n }) }
     {
-        let ring = HeapCircularBuffer::with_capacity(alloc, n)?;
-        Ok(ByteFifo { ring })
+        let ring = Vec::with_capacity(alloc, n)?;
+        Ok(ByteFifo {
+            ring,
+            start: 0,
+            len: 0,
+            capacity: n,
+        })
     }
 
     /// Appends bytes, for which there has to be room.
@@ -39,21 +96,24 @@ impl ByteFifo {
         requires { length self.old.bytes + length bytes.now ≤ self.old.capacity }
         ensures { self.new ≡ record self.old { bytes = self.old.bytes ++ bytes.now } }
     {
-        self.ring.fill_from_slice(bytes);
-    }
-
-    /// Copies the oldest bytes to the front of `out`, as many as it holds, and returns how many. The rest of `out` stays.
-    pub fn copy_front(&self, out: &mut [u8]) -> usize
-        ensures count { result ≡ min (length out.old) (length self.now.bytes) }
-        ensures copied { out.new ≡ take result self.now.bytes ++ drop result out.old }
-    {
-        let (front, back) = self.ring.as_slices();
-        let from_front = front.len().min(out.len());
-        let from_back = back.len().min(out.len() - from_front);
-        let count = from_front + from_back;
-        out[..from_front].copy_from_slice(&front[..from_front]);
-        out[from_front..count].copy_from_slice(&back[..from_back]);
-        count
+        let first = bytes
+            .len()
+            .min(self.capacity.saturating_sub(self.start + self.len));
+        put_piece(
+            &mut self.ring,
+            self.start,
+            self.len,
+            self.capacity,
+            &bytes[..first],
+        );
+        put_piece(
+            &mut self.ring,
+            self.start,
+            self.len + first,
+            self.capacity,
+            &bytes[first..],
+        );
+        self.len += bytes.len();
     }
 
     /// Drops the oldest `n` bytes. At least as many have to be there.
@@ -61,7 +121,21 @@ impl ByteFifo {
         requires { n ≤ length self.old.bytes }
         ensures { self.new ≡ record self.old { bytes = drop n self.old.bytes } }
     {
-        self.ring.truncate_front(self.ring.len() - n);
+        self.start = round(self.start + n, self.ring.len());
+        self.len -= n;
+    }
+
+    /// Copies the oldest bytes to the front of `out`, as many as it holds, and returns how many. The rest of `out` stays.
+    pub fn copy_front(&self, out: &mut [u8]) -> usize
+        ensures count { result ≡ min (length out.old) (length self.now.bytes) }
+        ensures copied { out.new ≡ take result self.now.bytes ++ drop result out.old }
+    {
+        let count = out.len().min(self.len);
+        let front = count.min(self.ring.len() - self.start);
+        let back = count - front;
+        out[..front].copy_from_slice(&self.ring[self.start..self.start + front]);
+        out[front..front + back].copy_from_slice(&self.ring[..back]);
+        front + back
     }
 
     /// Moves the oldest bytes to the front of `out`, as many as it holds, and returns how many. The rest of `out` stays.
@@ -70,7 +144,9 @@ impl ByteFifo {
         ensures moved { out.new ≡ take result self.old.bytes ++ drop result out.old }
         ensures left { self.new ≡ record self.old { bytes = drop result self.old.bytes } }
     {
-        self.ring.read_into(out)
+        let count = self.copy_front(out);
+        self.drop_front(count);
+        count
     }
 
     /// How many bytes there are.
@@ -78,14 +154,14 @@ impl ByteFifo {
         ensures exact { result ≡ length self.now.bytes }
         ensures within { result ≤ self.now.capacity }
     {
-        self.ring.len()
+        self.len
     }
 
     /// Whether there is no byte.
     pub fn is_empty(&self) -> bool
         ensures { result ≡ (length self.now.bytes == 0) }
     {
-        self.ring.is_empty()
+        self.len == 0
     }
 
     /// How many more bytes fit.
@@ -93,13 +169,13 @@ impl ByteFifo {
         ensures exact { result ≡ self.now.capacity - length self.now.bytes }
         ensures within { length self.now.bytes + result ≡ self.now.capacity }
     {
-        self.ring.capacity() - self.ring.len()
+        self.capacity - self.len
     }
 
     /// Drops all bytes.
     pub fn clear(&mut self)
         ensures { self.new ≡ record self.old { bytes = [] } }
     {
-        self.ring.clear();
+        self.drop_front(self.len);
     }
 }
