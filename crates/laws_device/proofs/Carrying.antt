@@ -1,39 +1,43 @@
 -- What a walk over the device's conversations carries besides: what the host's streams took and gave.
 use Rattle.std.proofs.Common.{◌≡◌, ℕ, ◌+◌, ◌≤◌, Bool, true, false, cond, List, [], ◌∷◌, Option, None, IfSome, ◌⊎◌, inl, inr, sym, subst}
-use Rattle.std.proofs.Common.{arith}
+use Rattle.std.proofs.Common.{arith, is_some, ap, ◌∙◌}
 use Rattle.laws_history.specs.{Again.count, Packets.is_request, declared.packet.Packet.Packet, History.Answerer, History.Asker, History.Got}
 use Rattle.laws_history.specs.History.{History, Put, Side, gots, puts}
 use Rattle.vs_flow.specs.{Flow.same_flow, Table.Table}
-use Rattle.vs_page.specs.declared.log.LogEntry.{LogEntry, TheVariants.GotPacket, TheVariants.PutPacket}
-use Rattle.vs_page.specs.{Fair.asked_by, Log.Device, Log.Log, Log.flow_got, Log.flow_put, Log.side_of, Log.whole_of}
+use Rattle.vs_page.specs.{declared.log.LogEntry.LogEntry, declared.log.LogEntry.TheVariants.GotPacket}
+use Rattle.vs_page.specs.{declared.log.LogEntry.TheVariants.PutPacket, Fair.asked_by, Log.Device, Log.Log, Log.flow_got, Log.flow_put}
+use Rattle.vs_page.specs.{Log.side_of, Log.whole_of, Open.is_dropped}
 use Rattle.std.specs.Option.{ForSome}
 use Rattle.vs_contents.specs.Contents.{Exposes}
 use Rattle.vs_outside.specs.Host.{HostContents, after_close}
 use Rattle.vs_proxy_parts.specs.State.{Handshake}
-use Rattle.vs_ring_port.specs.EndLog.{EndLog}
+use Rattle.vs_ring_port.specs.{EndLog.EndLog, Chains.Held}
 use Rattle.vs_device_parts.specs.{Calls.HostMoves, Calls.Situation, Calls.DeviceTree, Playing.IsRxChain, Playing.Runs}
 use Rattle.vs_device_parts.specs.State.{DeviceConnection, DeviceState}
 use Rattle.laws_device_streams.proofs.Tables.{some_after, some_from}
 use Rattle.laws_device_bytes.specs.Streamed.{IsStreamed}
 use Rattle.laws_device_bytes.proofs.HostCalls.{closed_host}
-use Rattle.laws_device.specs.{Honest.AgreesWith, Honest.IsWith, Honest.unwritten, Streams.AreStreamedWith, Streams.IsPlain}
-use Rattle.laws_device.proofs.{Ringing.Telling, Ringing.Tells, Ringing.host_moves, Keeping.Keeps, Keeping.keeps_end}
+use Rattle.laws_tables.proofs.Fair.{got_one}
+use Rattle.laws_device.proofs.{Chains.Among, Chains.alone, Chains.alone_so, Seats.AgreesBy, Seats.Carried, Ringing.Telling, Ringing.Tells}
+use Rattle.laws_device.proofs.{Ringing.host_moves, Keeping.Keeps, Keeping.keeps_end}
+use Rattle.laws_device.specs.{Honest.IsWith, Streams.AreStreamedWith, Streams.IsPlain}
 
 abbrev pub Fact : Type 1
 Fact = Option HostContents → Log → Type 0
 
--- The streams of a table, where `ok` holds.
-abbrev pub StreamedOver : Type 0 → List Handshake → ℕ → ℕ → Table DeviceConnection → Fact
-StreamedOver ok lines first port table host log = ok → IsPlain first log → ForSome host (λ h. IsStreamed h log port table lines)
+-- The streams of a table, where they are carried.
+abbrev pub StreamedOver : Carried → List Handshake → ℕ → ℕ → Table DeviceConnection → Fact
+StreamedOver carry lines first port table host log = carry.ok → carry.plain first log → ForSome host (λ h. IsStreamed h log port table lines)
 
-abbrev pub IsToldBy : Fact → ℕ → ℕ → DeviceState → Telling
-IsToldBy fact first port s honest host l = (s.failed ≡ None → l.held ≡ unwritten s.chain) × (honest ≡ true → AgreesWith first port s l × fact host l.entries)
+abbrev pub IsToldBy : Carried → Fact → ℕ → ℕ → DeviceState → Telling
+IsToldBy carry fact first port s honest host l =
+    (s.failed ≡ None → Among carry.others s.chain l.held) × (honest ≡ true → AgreesBy carry first port s l × fact host l.entries)
 
-abbrev pub IsHeldBy : Fact → ℕ → ℕ → DeviceState → Situation → Type 0
-IsHeldBy fact first port s c = IfSome s.chain IsRxChain × Tells (IsToldBy fact first port s) c
+abbrev pub IsHeldBy : Carried → Fact → ℕ → ℕ → DeviceState → Situation → Type 0
+IsHeldBy carry fact first port s c = IfSome s.chain IsRxChain × Tells (IsToldBy carry fact first port s) c
 
-abbrev pub With : Type 0 → List Handshake → ℕ → ℕ → DeviceState → Situation → Type 0
-With ok lines first port s c = IsHeldBy (StreamedOver ok lines first port s.table) first port s c
+abbrev pub With : Carried → List Handshake → ℕ → ℕ → DeviceState → Situation → Type 0
+With carry lines first port s c = IsHeldBy carry (StreamedOver carry lines first port s.table) first port s c
 
 -- A flow was used no more often before.
 put_rises : (side : Side) (p : Packet) (w : History) (b : Bool)
@@ -72,56 +76,88 @@ plain_before first (GotPacket p) log plain = record {
 plain_before first _ log plain = record { once = plain.once; heard = plain.heard }
 
 -- A step on streams, without a call on the host and with one.
-module _ (ok : Type 0) (first : ℕ) (hands lines : List Handshake) (port next : ℕ) (t u : Table DeviceConnection) (log new : Log) (once : IsPlain first new → IsPlain first log) where
-  pub streams_go : ((h : HostContents) → IsPlain first new → IsStreamed h log port t hands → IsStreamed h new next u lines) → (o : Option HostContents)
-      → StreamedOver ok hands first port t o log → StreamedOver ok lines first next u o new
+module _ (carry : Carried) (first : ℕ) (hands lines : List Handshake) (port next : ℕ) (t u : Table DeviceConnection) (log new : Log) (once : carry.plain first new → carry.plain first log) where
+  pub streams_go : ((h : HostContents) → carry.plain first new → IsStreamed h log port t hands → IsStreamed h new next u lines) → (o : Option HostContents)
+      → StreamedOver carry hands first port t o log → StreamedOver carry lines first next u o new
   streams_go step o was = λ is few.
       some_from o (λ h. IsStreamed h log port t hands) (λ h. IsStreamed h new next u lines) (λ h x. step h few x) (was is (once few))
 
-  pub streams_call : (A : HostContents → Type 0) (f : HostContents → HostContents) → ((h : HostContents) → A h → IsPlain first new → IsStreamed h log port t hands
-      → IsStreamed (f h) new next u lines) → (o n : Option HostContents) → Exposes o n A f → StreamedOver ok hands first port t o log → StreamedOver ok lines first next u n new
+  pub streams_call : (A : HostContents → Type 0) (f : HostContents → HostContents) → ((h : HostContents) → A h → carry.plain first new → IsStreamed h log port t hands
+      → IsStreamed (f h) new next u lines) → (o n : Option HostContents) → Exposes o n A f → StreamedOver carry hands first port t o log → StreamedOver carry lines first next u n new
   streams_call A f step o n made was = λ is few.
       some_after o n A f (λ h. IsStreamed h log port t hands) (λ h. IsStreamed h new next u lines) made (λ h answers x. step h answers few x) (was is (once few))
 
-pub put_goes : (ok : Type 0) (first : ℕ) (lines : List Handshake) (port : ℕ) (t u : Table DeviceConnection) (log : Log) (p : Packet)
+pub put_goes : (carry : Carried) (first : ℕ) (lines : List Handshake) (port : ℕ) (t u : Table DeviceConnection) (log : Log) (p : Packet)
     → ((h : HostContents) → IsStreamed h log port t lines → IsStreamed h (PutPacket p ∷ log) port u lines) → (o : Option HostContents)
-    → StreamedOver ok lines first port t o log → StreamedOver ok lines first port u o (PutPacket p ∷ log)
-put_goes ok first lines port t u log p step =
-    streams_go ok first lines lines port port t u log (PutPacket p ∷ log) (plain_before first (PutPacket p) log) (λ h few x. step h x)
+    → StreamedOver carry lines first port t o log → StreamedOver carry lines first port u o (PutPacket p ∷ log)
+put_goes carry first lines port t u log p step =
+    streams_go carry first lines lines port port t u log (PutPacket p ∷ log) (carry.before first (PutPacket p) log) (λ h few x. step h x)
 
--- What is known at first, and what follows.
+-- What is known at first of a whole call, and what follows.
+abbrev pub whole : Type 0 → Carried
+whole ok = record {
+  ok = ok;
+  others = λ held. held ≡ [];
+  holds = λ w. Unit {0};
+  step = λ step w may fits was. tt;
+  plain = IsPlain;
+  before = plain_before;
+  once = λ first w was few. few.once;
+  idle = λ first p w was m fair few dropped e has given.
+      let own = got_one Device first p e w.part w.log m.flows has (fair (flow_got Device p)) in
+      few.heard.0 (ap (λ (cid : ℕ). is_dropped Device cid p.header) (sym m.flows.cid) ∙ dropped) (ap is_some own.kind_is);
+}
+
 module _ (ok : Type 0) (lines : List Handshake) (first port : ℕ) (s : DeviceState) (c : Situation) where
-  pub held_with : IsWith first port s c.ring → (ok → AreStreamedWith first port lines s.table c) → With ok lines first port s c
+  pub held_with : IsWith first port s c.ring → (ok → AreStreamedWith first port lines s.table c) → With (whole ok) lines first port s c
   held_with holds streams = (
     holds.0,
-    λ l is. let was = holds.1 l is in (was.0, λ honest. (was.1 honest, λ good few. streams good honest l is few)),
+    λ l is. let was = holds.1 l is in (
+      λ still. subst (λ (held : List Held). Among (whole ok).others s.chain held) (sym (was.0 still)) (alone_so s.chain),
+      λ honest. let p = was.1 honest in (
+        record { fits = p.fits; none_overrun = p.none_overrun; matches = p.matches; fair = p.fair; seated = tt },
+        λ good few. streams good honest l is few,
+      ),
+    ),
   )
 
-  pub with_ring : With ok lines first port s c → IsWith first port s c.ring
-  with_ring holds = (holds.0, λ l is. let was = holds.1 l is in (was.0, λ honest. (was.1 honest).0))
+  pub with_ring : With (whole ok) lines first port s c → IsWith first port s c.ring
+  with_ring holds = (
+    holds.0,
+    λ l is. let was = holds.1 l is in (
+      λ still. alone s.chain l.held (was.0 still),
+      λ honest. let p = (was.1 honest).0 in record { fits = p.fits; none_overrun = p.none_overrun; matches = p.matches; fair = p.fair },
+    ),
+  )
 
-  pub with_streams : With ok lines first port s c → ok → AreStreamedWith first port lines s.table c
+  pub with_streams : With (whole ok) lines first port s c → ok → AreStreamedWith first port lines s.table c
   with_streams holds good honest l is few = ((holds.1 l is).1 honest).1 good few
 
--- Nothing is carried.
-pub plain_with : (first port : ℕ) (s : DeviceState) (c : Situation) → IsWith first port s c.ring → With ⊥ [] first port s c
+-- Of the ring alone, and of the host too.
+abbrev pub ring_only : Carried
+ring_only = whole ⊥
+
+abbrev pub ring_and_host : Carried
+ring_and_host = whole (Unit {0})
+
+pub plain_with : (first port : ℕ) (s : DeviceState) (c : Situation) → IsWith first port s c.ring → With ring_only [] first port s c
 plain_with first port s c holds = held_with ⊥ [] first port s c holds (λ no. absurd no)
 
 -- What a whole conversation leaves.
 pub streamed_end : {A : Type 0} (first port : ℕ) (lines : List Handshake) (state_of : A → DeviceState) (s : DeviceState) (tree : DeviceTree A)
     (a b : Situation) (x : A) → IsWith first port s a.ring → AreStreamedWith first port lines s.table a
-    → (With (Unit {0}) lines first port s a → Keeps (λ y d. With (Unit {0}) lines first port (state_of y) d) tree a) → Runs tree a x b
+    → (With ring_and_host lines first port s a → Keeps (λ y d. With ring_and_host lines first port (state_of y) d) tree a) → Runs tree a x b
     → AreStreamedWith first port lines (state_of x).table b
 streamed_end first port lines state_of s tree a b x holds streams keeps runs =
     with_streams (Unit {0}) lines first port (state_of x) b
-    (keeps_end (λ y d. With (Unit {0}) lines first port (state_of y) d) tree a b x (keeps (held_with (Unit {0}) lines first port s a holds (λ ok. streams))) runs) tt
+    (keeps_end (λ y d. With ring_and_host lines first port (state_of y) d) tree a b x (keeps (held_with (Unit {0}) lines first port s a holds (λ ok. streams))) runs) tt
 
 pub ring_end : {A : Type 0} (first port : ℕ) (state_of : A → DeviceState) (s : DeviceState) (tree : DeviceTree A) (a b : Situation) (x : A)
-    → IsWith first port s a.ring → (With ⊥ [] first port s a → Keeps (λ y d. With ⊥ [] first port (state_of y) d) tree a) → Runs tree a x b
+    → IsWith first port s a.ring → (With ring_only [] first port s a → Keeps (λ y d. With ring_only [] first port (state_of y) d) tree a) → Runs tree a x b
     → IsWith first port (state_of x) b.ring
 ring_end first port state_of s tree a b x holds keeps runs =
     with_ring ⊥ [] first port (state_of x) b
-    (keeps_end (λ y d. With ⊥ [] first port (state_of y) d) tree a b x (keeps (plain_with first port s a holds)) runs)
+    (keeps_end (λ y d. With ring_only [] first port (state_of y) d) tree a b x (keeps (plain_with first port s a holds)) runs)
 
 -- A stream is closed, unless it was.
 abbrev pub Closes : DeviceConnection → Situation → Situation → Type 0
@@ -133,18 +169,18 @@ pub closed_tells : (P : Telling) (v : DeviceConnection) (c d : Situation)
 closed_tells P v c d then (inl same) tells = subst (λ (x : Situation). Tells P x) (sym same) tells
 closed_tells P v c d then (inr made) tells = host_moves false (λ h. Unit {0}) (after_close v.stream) c d made P P then tells
 
-pub closed_over : (ok : Type 0) (first : ℕ) (lines : List Handshake) (port : ℕ) (t : Table DeviceConnection) (log : Log) (stream : ℕ) (o n : Option HostContents)
-    → Exposes o n (λ h. Unit {0}) (after_close stream) → StreamedOver ok lines first port t o log → StreamedOver ok lines first port t n log
-closed_over ok first lines port t log stream =
-    streams_call ok first lines lines port port t t log log (λ few. few) (λ h. Unit {0}) (after_close stream)
+pub closed_over : (carry : Carried) (first : ℕ) (lines : List Handshake) (port : ℕ) (t : Table DeviceConnection) (log : Log) (stream : ℕ) (o n : Option HostContents)
+    → Exposes o n (λ h. Unit {0}) (after_close stream) → StreamedOver carry lines first port t o log → StreamedOver carry lines first port t n log
+closed_over carry first lines port t log stream =
+    streams_call carry first lines lines port port t t log log (λ few. few) (λ h. Unit {0}) (after_close stream)
     (λ h any few x. closed_host stream h log port t lines x)
 
-pub closed_with : (ok : Type 0) (lines : List Handshake) (first port : ℕ) (t : Table DeviceConnection) (s : DeviceState) (v : DeviceConnection) (c d : Situation)
-    → Closes v c d → IsHeldBy (StreamedOver ok lines first port t) first port s c → IsHeldBy (StreamedOver ok lines first port t) first port s d
-closed_with ok lines first port t s v c d closes holds = (
+pub closed_with : (carry : Carried) (lines : List Handshake) (first port : ℕ) (t : Table DeviceConnection) (s : DeviceState) (v : DeviceConnection) (c d : Situation)
+    → Closes v c d → IsHeldBy carry (StreamedOver carry lines first port t) first port s c → IsHeldBy carry (StreamedOver carry lines first port t) first port s d
+closed_with carry lines first port t s v c d closes holds = (
   holds.0,
-  closed_tells (IsToldBy (StreamedOver ok lines first port t) first port s) v c d (λ h o n l made was. (
+  closed_tells (IsToldBy carry (StreamedOver carry lines first port t) first port s) v c d (λ h o n l made was. (
     was.0,
-    λ honest. let p = was.1 honest in (p.0, closed_over ok first lines port t l.entries v.stream o n made p.1),
+    λ honest. let p = was.1 honest in (p.0, closed_over carry first lines port t l.entries v.stream o n made p.1),
   )) closes holds.1,
 )

@@ -7,26 +7,30 @@ use Rattle.laws_history.specs.History.{Side, gots, puts, History}
 use Rattle.vs_flow.specs.{Flow.same_flow, Table.Table, declared.flow.Flow.Flow}
 use Rattle.vs_page.specs.Log.{Device, Log, side_of}
 use Rattle.laws_tables.specs.{Ends.Ends, Ends.FlowEnd, Ends.ends_of, Ends.is_new, Ends.replaced, Heard.heard_of, Matches.Matches}
+use Rattle.laws_tables.specs.Both.{Aborts, Decides, Decision, Forwards, MayDecide, Seat, Shuts, WantsCredit, decided}
 use Rattle.laws_tables.specs.Steps.{with_end}
+use Rattle.laws_device.proofs.{Seats.Carried, Seats.at_log, Seats.seat, Tabling.IsFitConnection, Tabling.begun_fits}
+use Rattle.laws_device.proofs.{Tabling.connection_ends, Tabling.connection_fits, Tabling.entry_fits, Tabling.has_end, Fits.fits_forwarded}
+use Rattle.laws_device.proofs.Fits.{fits_shut}
 use Rattle.laws_tables.proofs.Keeps.{changes}
 use Rattle.vs_replies.specs.declared.Reply.{Reply}
 use Rattle.vs_device_parts.specs.{State.DeviceConnection, State.DeviceEntry, State.DeviceState, Streams.to_write, Connections.after_shut}
 use Rattle.vs_device_parts.specs.Connections.{after_written, cut_off, with_connection}
 use Rattle.laws_device.specs.Honest.{HoldsBytes, IsFit, IsFitState, ends_of_state, ends_with}
-use Rattle.laws_device.proofs.Tabling.{IsFitConnection, begun_fits, connection_ends, connection_fits, entry_fits, has_end}
-use Rattle.laws_device.proofs.Fits.{fits_forwarded, fits_shut}
 
 -- What a step does that puts and gets nothing.
-pub record ChangesTo (port cid overrun : ℕ) (table : Table DeviceConnection) (replies : List Reply) (cid' overrun' : ℕ)
+pub record ChangesTo (carry : Carried) (port cid overrun : ℕ) (table : Table DeviceConnection) (replies : List Reply) (cid' overrun' : ℕ)
     (table' : Table DeviceConnection)
     (replies' : List Reply) : Type 0 where
   pub matches : (first : ℕ) (log : Log) → Matches Device first (ends_with port cid table replies) log
       → Matches Device first (ends_with port cid' table' replies') log
   pub fits : IsFit cid' table' replies'
   pub overrun_is : overrun' ≡ overrun
+  pub goes : (log : Log) → carry.holds (record { part = ends_with port cid table replies; log = log })
+      → carry.holds (record { part = ends_with port cid' table' replies'; log = log })
 
-abbrev pub Changes : ℕ → DeviceState → DeviceState → Type 0
-Changes port s t = ChangesTo port s.cid s.overrun s.table s.replies t.cid t.overrun t.table t.replies
+abbrev pub Changes : Carried → ℕ → DeviceState → DeviceState → Type 0
+Changes carry port s t = ChangesTo carry port s.cid s.overrun s.table s.replies t.cid t.overrun t.table t.replies
 
 -- Whatever follows what the end before it followed.
 abbrev pub FollowsAs : ConnectionEnd → ConnectionEnd → Type 0
@@ -63,27 +67,30 @@ same_replaced f e (x ∷ xs) is = by (same_flow f x.flow) refl is (same_replaced
         ∙ ap (λ (zs : List FlowEnd). x ∷ zs) (none_replaced f e xs tail))
     by false same one rest = rw same (ap (λ (zs : List FlowEnd). x ∷ zs) (rest one))
 
-module _ (port : ℕ) (s : DeviceState) (fits : IsFitState s) where
-  pub same : Changes port s s
-  same = record { matches = λ first log m. m; fits = fits; overrun_is = refl }
+module _ (carry : Carried) (port : ℕ) (s : DeviceState) (fits : IsFitState s) where
+  pub same : Changes carry port s s
+  same = record { matches = λ first log m. m; fits = fits; overrun_is = refl; goes = λ log was. was }
 
   module _ (e : DeviceEntry) (there : Contains s.table.entries e) where
     bytes : HoldsBytes e.value.end.credit (length e.value.pending)
     bytes = (entry_fits s fits e there).bytes
 
-    decides : (c : DeviceConnection) → is_new e.value.end ≡ false → c.end.kind ≡ e.value.end.kind → IsFitConnection c → FollowsAs e.value.end c.end
-        → Changes port s (with_connection e.slot c s)
-    decides c begun kind held follows = record {
+    decides : (c : DeviceConnection) (what : Decision) → c.end ≡ decided e.value.end what → MayDecide e.value.end what → is_new e.value.end ≡ false
+        → c.end.kind ≡ e.value.end.kind → IsFitConnection c → FollowsAs e.value.end c.end → Changes carry port s (with_connection e.slot c s)
+    decides c what is may begun kind held follows = record {
       matches = λ first log m.
           subst (λ (x : Ends). Matches Device first x log) (sym (connection_ends s fits e there port c))
           (changes Device first e.flow e.value.end c.end (ends_of_state port s) log m (has_end s fits e there port) begun kind
           (follows (side_of Device e.flow) (heard_of Device first e.flow log)));
       fits = connection_fits s fits e.slot c held (kind ∙ (entry_fits s fits e there).kind);
       overrun_is = refl;
+      goes = λ log was.
+          subst (λ (w : Seat). carry.holds w) (at_log log _ _ (ap (λ (x : ConnectionEnd). with_end e.flow x (ends_of_state port s)) (sym is) ∙ sym (connection_ends s fits e there port c)))
+          (carry.step (Decides e.flow e.value.end what) (seat port s log) (has_end s fits e there port, begun, may) (λ all. all) was);
     }
 
     -- The same end.
-    pub unseen : (c : DeviceConnection) → c.end ≡ e.value.end → IsFitConnection c → Changes port s (with_connection e.slot c s)
+    pub unseen : (c : DeviceConnection) → c.end ≡ e.value.end → IsFitConnection c → Changes carry port s (with_connection e.slot c s)
     unseen c is held =
         let part : Ends = ends_of_state port s in
         let still : with_end e.flow c.end part ≡ part =
@@ -95,12 +102,13 @@ module _ (port : ℕ) (s : DeviceState) (fits : IsFitState s) where
           fits = connection_fits s fits e.slot c held
               (ap (λ (x : ConnectionEnd). x.kind) is ∙ (entry_fits s fits e there).kind);
           overrun_is = refl;
+          goes = λ log was. subst (λ (x : Ends). carry.holds (record { part = x; log = log })) (sym (connection_ends s fits e there port c ∙ still)) was;
         }
 
-    pub wants : is_new e.value.end ≡ false → Changes port s (with_connection e.slot (record e.value { end = wanting_credit e.value.end }) s)
+    pub wants : is_new e.value.end ≡ false → Changes carry port s (with_connection e.slot (record e.value { end = wanting_credit e.value.end }) s)
     wants begun =
         let c : DeviceConnection = record e.value { end = wanting_credit e.value.end } in
-        decides c begun refl (begun_fits c (record {
+        decides c WantsCredit refl tt begun refl (begun_fits c (record {
           unread = bytes.unread;
           within = bytes.within;
           alloc = bytes.alloc;
@@ -109,8 +117,8 @@ module _ (port : ℕ) (s : DeviceState) (fits : IsFitState s) where
         }) begun)
         (λ side h follows. ask_follows _ _ _ e.value.end follows)
 
-    pub cuts : is_new e.value.end ≡ false → Changes port s (with_connection e.slot (cut_off e.value) s)
-    cuts begun = decides (cut_off e.value) begun refl
+    pub cuts : is_new e.value.end ≡ false → Changes carry port s (with_connection e.slot (cut_off e.value) s)
+    cuts begun = decides (cut_off e.value) Aborts refl tt begun refl
         (begun_fits (cut_off e.value) (record {
           unread = omega arith;
           within = bytes.within;
@@ -120,10 +128,10 @@ module _ (port : ℕ) (s : DeviceState) (fits : IsFitState s) where
         }) refl)
         (λ side h follows. abort_follows _ _ _ e.value.end follows)
 
-    pub shuts : (bits now : ℕ) → is_new e.value.end ≡ false → Changes port s (with_connection e.slot (after_shut bits now e.value) s)
+    pub shuts : (bits now : ℕ) → is_new e.value.end ≡ false → Changes carry port s (with_connection e.slot (after_shut bits now e.value) s)
     shuts bits now begun =
         let c : DeviceConnection = after_shut bits now e.value in
-        decides c begun refl (begun_fits c (subst (λ (u : ℕ). HoldsBytes c.end.credit u) (kept_by (with_shut e.value.end bits).own.receive)
+        decides c (Shuts bits) refl tt begun refl (begun_fits c (subst (λ (u : ℕ). HoldsBytes c.end.credit u) (kept_by (with_shut e.value.end bits).own.receive)
         (fits_shut e.value.end bits (length e.value.pending) bytes)) (shut_old e.value.end bits begun))
         (λ side h follows. shut_follows _ _ _ e.value.end bits follows)
       where
@@ -132,7 +140,7 @@ module _ (port : ℕ) (s : DeviceState) (fits : IsFitState s) where
         kept_by false = refl
 
     -- The stream took n of the bytes that were to be written.
-    pub writes : (n : ℕ) → n ≤ length (to_write e.value) → is_new e.value.end ≡ false → Changes port s
+    pub writes : (n : ℕ) → n ≤ length (to_write e.value) → is_new e.value.end ≡ false → Changes carry port s
         (with_connection e.slot (after_written n e.value) s)
     writes n less begun =
         let c : DeviceConnection = after_written n e.value in
@@ -142,7 +150,7 @@ module _ (port : ℕ) (s : DeviceState) (fits : IsFitState s) where
         let few : payload ≤ length e.value.pending = omega (arith, less, len, both) in
         let left : length e.value.pending - payload ≡ length (drop payload e.value.pending) = omega
         (arith, length-drop payload e.value.pending) in
-        decides c begun refl
+        decides c (Forwards payload) refl (omega (arith, few, bytes.unread)) begun refl
         (begun_fits c (subst (λ (u : ℕ). HoldsBytes c.end.credit u) left
         (fits_forwarded e.value.end.credit payload (length e.value.pending) bytes few))
         (forward_old e.value.end payload begun))

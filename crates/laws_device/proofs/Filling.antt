@@ -5,28 +5,28 @@ use Rattle.std.proofs.lemmas.Grind.{common_steps}
 use Rattle.vs_contents.specs.CallTree.{Done, bind, for_each, while_up_to}
 use Rattle.vs_conn.specs.End.{CanSend, ConnectionEnd, owes_of, paid_of, state_may_send, wanting_credit, with_payload_sent}
 use Rattle.vs_conn.specs.{Headers.owed_header, Headers.payload_header, declared.end.Owed.Owed, declared.end.State.State}
-use Rattle.vs_conn.specs.declared.end.{Stop.TheVariants.ShutDown, TheConstants.OWED_MAX}
+use Rattle.vs_conn.specs.{declared.end.Stop.TheVariants.ShutDown, declared.end.TheConstants.OWED_MAX}
 use Rattle.vs_credit.specs.Credit.{free_of}
 use Rattle.vs_flow.specs.Table.{entry_under, slots, Table, with_value}
 use Rattle.vs_header.specs.declared.Header.{Header}
 use Rattle.vs_outside.specs.{declared.host_net.StreamRead.StreamRead, Host.HostContents, Host.after_read, Host.called}
 use Rattle.vs_replies.specs.declared.Reply.{Reply}
-use Rattle.vs_ring_port.specs.declared.{device_ring.Chain.Chain, failure.Failure.Failure}
+use Rattle.vs_ring_port.specs.{declared.device_ring.Chain.Chain, declared.failure.Failure.Failure}
 use Rattle.laws_tables.specs.{Ends.is_new, Steps.payload_on}
 use Rattle.laws_tables.proofs.Slots.{found_by}
-use Rattle.vs_device_parts.specs.Calls.{DeviceTree, Allows, IsReadOf, ReadStream, Situation}
-use Rattle.vs_device_parts.specs.Connections.{after_leaving, after_shut, cut_off, route_to_guest, stream_closed, with_connection}
-use Rattle.vs_device_parts.specs.{Connections.with_fault, Playing.IsRxChain, Receiving.Filling, Receiving.after_paying}
-use Rattle.vs_device_parts.specs.Receiving.{fill_rx_of, filled_of, hold, may_read, put_on, put_owed, put_packet, put_payload, put_reply}
-use Rattle.vs_device_parts.specs.Receiving.{put_reply_of, read_answered, read_room, read_stream, read_with_chain, reply_header, round_from}
-use Rattle.vs_device_parts.specs.{Receiving.serve_slot, State.DeviceConnection, State.DeviceEntry, State.DeviceState}
+use Rattle.vs_device_parts.specs.{Calls.DeviceTree, Calls.IsReadOf, Calls.ReadStream, Calls.Situation, Connections.after_leaving}
+use Rattle.vs_device_parts.specs.Connections.{after_shut, cut_off, route_to_guest, stream_closed, with_connection, with_fault}
+use Rattle.vs_device_parts.specs.{Playing.IsRxChain, Receiving.Filling, Receiving.after_paying, Receiving.fill_rx_of, Receiving.filled_of}
+use Rattle.vs_device_parts.specs.Receiving.{hold, may_read, put_on, put_owed, put_packet, put_payload, put_reply, put_reply_of}
+use Rattle.vs_device_parts.specs.Receiving.{read_answered, read_room, read_stream, read_with_chain, reply_header, round_from, serve_slot}
+use Rattle.vs_device_parts.specs.State.{DeviceConnection, DeviceEntry, DeviceState}
 use Rattle.laws_device.specs.Honest.{IsFitState}
-use Rattle.laws_device.proofs.{Changing.cuts, Changing.shuts, Changing.wants, Changing.same, Keeping.Goes, Keeping.Keeps}
-use Rattle.laws_device.proofs.{Keeping.keeps_bind, Keeping.keeps_each, Keeping.keeps_then, Keeping.keeps_while, Putting.Puts}
+use Rattle.laws_device.proofs.{Seats.Carried, Changing.cuts, Changing.shuts, Changing.wants, Changing.same, Keeping.Goes, Keeping.Keeps}
+use Rattle.laws_device.proofs.{Keeping.Lets, Keeping.keeps_bind, Keeping.keeps_each, Keeping.keeps_then, Keeping.keeps_while, Putting.Puts}
 use Rattle.laws_device.proofs.{Putting.owed_puts, Putting.reply_puts, Putting.rst_puts, Putting.send_puts, Steps.Filled, Steps.Open}
 use Rattle.laws_device.proofs.Steps.{changed, closing_keeps, goes_on, hold_keeps, open_filled, called_with}
 use Rattle.laws_device.proofs.{Writing.writes_first, Writing.written_keeps, Carrying.Closes, Carrying.Fact, Carrying.IsHeldBy}
-use Rattle.laws_device.proofs.Carrying.{IsToldBy, StreamedOver, With, closed_with, plain_before, put_goes, streams_call}
+use Rattle.laws_device.proofs.Carrying.{IsToldBy, StreamedOver, With, closed_with, put_goes, streams_call}
 use Rattle.laws_device.proofs.Ringing.{host_moves}
 use Rattle.laws_device_bytes.proofs.Changing.{called_host, cuts_streams, ends_streams, leaves_streams, put_empty, reads_streams}
 use Rattle.laws_device_bytes.proofs.{Changing.shuts_streams, Gives.pays_gives}
@@ -61,18 +61,18 @@ can_send e n may fits = may_send_on e e.state n may fits
 pub under_there : (s : DeviceState) (slot : ℕ) (e : DeviceEntry) → entry_under s.table slot ≡ Some e → Contains s.table.entries e
 under_there s slot e under = (found_by (λ (x : DeviceEntry). x.slot == slot) s.table.entries e under).0
 
-module _ (ok : Type 0) (lines : List Handshake) (first port : ℕ) where
+module _ (carry : Carried) (lines : List Handshake) (first port : ℕ) where
   abbrev pub Ready : Filling → Situation → Type 0
-  Ready = Open ok lines first port
+  Ready = Open carry lines first port
 
   abbrev pub Over : Filling → Situation → Type 0
-  Over = Filled ok lines first port
+  Over = Filled carry lines first port
 
   abbrev Streamed : Table DeviceConnection → Fact
-  Streamed t = StreamedOver ok lines first port t
+  Streamed t = StreamedOver carry lines first port t
 
   abbrev Now : DeviceState → Situation → Type 0
-  Now = With ok lines first port
+  Now = With carry lines first port
 
   -- Later the host has closed a stream, or nothing happened.
   abbrev Later : Situation → Situation → Type 0
@@ -80,11 +80,11 @@ module _ (ok : Type 0) (lines : List Handshake) (first port : ℕ) where
 
   later_with : (s : DeviceState) (c d : Situation) → Later c d → Now s c → Now s d
   later_with s c d (inl same) holds = subst (λ (x : Situation). Now s x) (sym same) holds
-  later_with s c d (inr (v, closes)) holds = closed_with ok lines first port s.table s v c d closes holds
+  later_with s c d (inr (v, closes)) holds = closed_with carry lines first port s.table s v c d closes holds
 
   -- A packet without payload, put where a chain is or becomes held. The rest is with the host.
   put_packet_keeps : (h : Header) (f : DeviceState → DeviceTree DeviceState) (r : Filling) (t : DeviceState)
-      → (IsFitState r.state → Puts port r.state h [] t)
+      → (IsFitState r.state → Puts carry port r.state h [] t)
       → (IsFitState r.state → (c : HostContents) (log : Log) → IsStreamed c log port r.state.table lines → IsStreamed c log port t.table lines)
       → t.chain ≡ None → t.failed ≡ None
       → ((R : DeviceState → Situation → Type 0) (c : Situation) → ((d : Situation) → Later c d → R t d) → Keeps R (f (record r.state { chain = None })) c)
@@ -94,15 +94,15 @@ module _ (ok : Type 0) (lines : List Handshake) (first port : ℕ) where
         | None ↦ Done q
         | Some chain ↦ bind (put_on chain h [] q) (λ p. bind (f p.state) (λ s. Done (record p { state = s })))
       ] in
-      hold_keeps ok lines first port Over rest r
+      hold_keeps carry lines first port Over rest r
       (λ chain d holds.
       let q : Filling = record r { state = record r.state { chain = Some chain } } in
       let p : Filling = record q { state = record r.state { chain = None }; put = q.put + 1 } in
       let finish : DeviceState → DeviceTree Filling = λ s. Done (record p { state = s }) in
       keeps_bind Over (put_on chain h [] q) (λ x. bind (f x.state) (λ s. Done (record x { state = s }))) d
-      (written_keeps first port r.state (Streamed r.state.table) (λ x e. Keeps Over (bind (f x.state) (λ s. Done (record x { state = s }))) e)
+      (written_keeps carry first port r.state (Streamed r.state.table) (λ x e. Keeps Over (bind (f x.state) (λ s. Done (record x { state = s }))) e)
       (Done p) t h [] puts (Streamed t.table) with_empty chain holds.0.0
-      (omega (arith, holds.0.1)) none d (writes_first first port (record r.state { chain = Some chain }) (Streamed r.state.table) chain d refl ready.1 holds.1)
+      (omega (arith, holds.0.1)) none d (writes_first carry first port (record r.state { chain = Some chain }) (Streamed r.state.table) chain d refl ready.1 holds.1)
       (λ e told. keeps_bind Over (f (record r.state { chain = None })) finish e
       (goes (λ s x. Keeps Over (finish s) x) e (λ x later.
       (later_with t e x later (subst (λ (o : Option Chain). IfSome o IsRxChain) (sym none) tt, told), λ going. still))))))
@@ -111,7 +111,7 @@ module _ (ok : Type 0) (lines : List Handshake) (first port : ℕ) where
     where
       with_empty : IsFitState r.state → (o : Option HostContents) (log : Log) → Streamed r.state.table o log
           → Streamed t.table o (PutPacket (record { header = h; payload = [] }) ∷ log)
-      with_empty fits o log x = put_goes ok first lines port r.state.table t.table log (record { header = h; payload = [] })
+      with_empty fits o log x = put_goes carry first lines port r.state.table t.table log (record { header = h; payload = [] })
           (λ c y. put_empty c log port t.table lines (record { header = h; payload = [] }) refl (carries fits c log y)) o x
 
       ended : (q : Filling) (d : Situation) → q.state.chain ≡ None → q.over ≡ true → Now q.state d
@@ -129,23 +129,23 @@ module _ (ok : Type 0) (lines : List Handshake) (first port : ℕ) where
           by (Some chain) is = absurd cc
 
   one_put : (q : Filling) (c : Situation) → Over q c → Goes Ready Over (q, not q.over) c
-  one_put q c filled = goes_on ok lines first port q c filled
+  one_put q c filled = goes_on carry lines first port q c filled
 
   -- The oldest reply.
   reply_keeps : (rs : List Reply) (r : Filling) (c : Situation) → r.state.replies ≡ rs → Ready r c → Keeps (Goes Ready Over)
       (put_reply_of rs r) c
-  reply_keeps [] r c is ready = open_filled ok lines first port r c ready
+  reply_keeps [] r c is ready = open_filled carry lines first port r c ready
   reply_keeps (reply ∷ rest) r c is ready =
       let h : Header = reply_header reply r.state in
       let f : DeviceState → DeviceTree DeviceState = λ s. Done (record s { replies = rest }) in
       let again : Filling → DeviceTree (Filling × Bool) = λ q. Done (q, not q.over) in
       keeps_then Over (Goes Ready Over) (put_packet h f r) again c
       (put_packet_keeps h f r (record r.state { chain = None; replies = rest })
-      (λ fits. reply_puts port r.state fits reply rest is) (λ fits h log x. x) refl ready.1
+      (λ fits. reply_puts carry port r.state fits reply rest is) (λ fits h log x. x) refl ready.1
       (λ R d holds. holds d (inl refl)) c ready)
       one_put
 
-  put_reply_keeps : (r : Filling) (c : Situation) → Ready r c → Keeps (Goes Ready Over) (put_reply r) c
+  pub put_reply_keeps : (r : Filling) (c : Situation) → Ready r c → Keeps (Goes Ready Over) (put_reply r) c
   put_reply_keeps r c ready = reply_keeps r.state.replies r c refl ready
 
   -- What a connection owes.
@@ -163,7 +163,7 @@ module _ (ok : Type 0) (lines : List Handshake) (first port : ℕ) where
           asked_at =
               Some r.state.now;
         }) spent) { last_put = Some e.slot })
-        (λ fits. owed_puts port r.state fits e there owed.Request owes
+        (λ fits. owed_puts carry port r.state fits e there owed.Request owes
         (record e.value { end = paid_of e.value.end owed.Request; asked_at = Some r.state.now }) refl refl refl)
         (λ fits h log x. ends_streams h log port r.state.table lines x fits.sound e there
         (record e.value { end = paid_of e.value.end owed.Request; asked_at = Some r.state.now }) refl refl refl refl
@@ -173,21 +173,21 @@ module _ (ok : Type 0) (lines : List Handshake) (first port : ℕ) where
         let gone : DeviceState = record spent { last_put = Some e.slot } in
         put_packet_keeps _ (after_paying owed.Rst e) r
         (after_leaving e.slot (with_connection e.slot (stream_closed e.value) gone))
-        (λ fits. rst_puts port r.state fits e there owed.Rst owes refl (stream_closed e.value))
+        (λ fits. rst_puts carry port r.state fits e there owed.Rst owes refl (stream_closed e.value))
         (λ fits h log x. leaves_streams h log port r.state.table lines x fits.sound e (stream_closed e.value) there)
         refl ready.1
-        (λ R d holds. closing_keeps ok lines first port R (λ t. Done (after_leaving e.slot t)) e stream_closed gone d
+        (λ R d holds. closing_keeps carry lines first port R (λ t. Done (after_leaving e.slot t)) e stream_closed gone d
         (λ x closes. holds x (inr (e.value, closes)))) c ready
     owed_by what owes c ready =
         put_packet_keeps _ (after_paying what e) r
         (record (with_connection e.slot (record e.value { end = paid_of e.value.end what }) spent) { last_put = Some e.slot })
-        (λ fits. owed_puts port r.state fits e there what owes
+        (λ fits. owed_puts carry port r.state fits e there what owes
         (record e.value { end = paid_of e.value.end what }) refl refl refl)
         (λ fits h log x. ends_streams h log port r.state.table lines x fits.sound e there (record e.value { end = paid_of e.value.end what }) refl refl refl refl
         (pays_gives e.value.end what owes) (paid_asked e.value.end what))
         refl ready.1 (λ R d holds. holds d (inl refl)) c ready
 
-  put_owed_keeps : (slot : ℕ) (r : Filling) (c : Situation) → Ready r c → Keeps (Goes Ready Over) (put_owed slot r) c
+  pub put_owed_keeps : (slot : ℕ) (r : Filling) (c : Situation) → Ready r c → Keeps (Goes Ready Over) (put_owed slot r) c
   put_owed_keeps slot r c ready = by (entry_under r.state.table slot) refl
     where
       owing : (e : DeviceEntry) → Contains r.state.table.entries e → (o : Option Owed) → owes_of e.value.end ≡ o → Keeps (Goes Ready Over)
@@ -197,7 +197,7 @@ module _ (ok : Type 0) (lines : List Handshake) (first port : ℕ) where
                 bind (put_packet (owed_header e.value.end (route_to_guest r.state.cid e.flow) what) (after_paying what e) r)
                 (λ q. Done (q, not q.over))
           ]) c
-      owing e there None owes = open_filled ok lines first port r c ready
+      owing e there None owes = open_filled carry lines first port r c ready
       owing e there (Some what) owes =
           keeps_then Over (Goes Ready Over) (put_packet (owed_header e.value.end (route_to_guest r.state.cid e.flow) what)
           (after_paying what e) r)
@@ -212,7 +212,7 @@ module _ (ok : Type 0) (lines : List Handshake) (first port : ℕ) where
               (λ q. Done (q, not q.over))
         ]
       ]) c
-      by None under = open_filled ok lines first port r c ready
+      by None under = open_filled carry lines first port r c ready
       by (Some e) under = owing e (under_there r.state slot e under) (owes_of e.value.end) refl
 
   -- What a connection reads of its stream.
@@ -234,7 +234,7 @@ module _ (ok : Type 0) (lines : List Handshake) (first port : ℕ) where
           Streamed (with_value r.state.table e.slot (sent payload)) host (PutPacket (payload_on Device r.state.cid e.flow e.value.end payload) ∷ log)
 
       payload_keeps : (payload : List ℕ) → length payload ≤ read_room (free_of e.value.end.credit) chain → (c : Situation)
-          → IsHeldBy (Read payload) first port (record r.state { chain = Some chain }) c → Keeps Over (put_payload chain e payload chained) c
+          → IsHeldBy carry (Read payload) first port (record r.state { chain = Some chain }) c → Keeps Over (put_payload chain e payload chained) c
       payload_keeps payload short c holds =
           let h : Header = payload_header e.value.end (route_to_guest r.state.cid e.flow) (length payload) in
           let t : DeviceState = record (with_connection e.slot (sent payload) (record r.state { chain = None })) { last_put = Some e.slot } in
@@ -248,12 +248,12 @@ module _ (ok : Type 0) (lines : List Handshake) (first port : ℕ) where
           }) in
           let long : IsRxChain chain = holds.0 in
           keeps_bind Over (put_on chain h payload chained) after c
-          (written_keeps first port r.state (Read payload) (λ x d. Keeps Over (after x) d) (Done p) t h payload
-          (λ fits. send_puts port r.state fits e there payload
+          (written_keeps carry first port r.state (Read payload) (λ x d. Keeps Over (after x) d) (Done p) t h payload
+          (λ fits. send_puts carry port r.state fits e there payload
           (can_send e.value.end (length payload) may (omega (arith, short))) (omega (arith, short)) old)
           (Streamed t.table) (λ fits o log x. x)
           chain holds.0.0 (omega (arith, short, holds.0.1)) refl c
-          (writes_first first port (record r.state { chain = Some chain }) (Read payload) chain c refl going holds.1)
+          (writes_first carry first port (record r.state { chain = Some chain }) (Read payload) chain c refl going holds.1)
           (λ d told. ((tt, told), λ still. going)))
 
       abbrev with_it : DeviceState
@@ -262,18 +262,18 @@ module _ (ok : Type 0) (lines : List Handshake) (first port : ℕ) where
       abbrev room : ℕ
       room = read_room (free_of e.value.end.credit) chain
 
-      answered_keeps : (answer : StreamRead) (payload : List ℕ) (c d : Situation) → Allows (ReadStream e.value.stream room) (answer, payload) c d
+      answered_keeps : (answer : StreamRead) (payload : List ℕ) (c d : Situation) → Lets (ReadStream e.value.stream room) (answer, payload) c d
           → Now with_it c → Keeps Over (read_answered chain e answer payload chained) d
       answered_keeps (read.Got n) payload c d made holds = payload_keeps payload made.1 d (
         holds.0,
         host_moves false (IsReadOf e.value.stream room (read.Got n, payload)) (after_read e.value.stream (read.Got n)) c d made.0
-            (IsToldBy (Streamed r.state.table) first port with_it) (IsToldBy (Read payload) first port with_it) (λ hon o k l exposes was. (
+            (IsToldBy carry (Streamed r.state.table) first port with_it) (IsToldBy carry (Read payload) first port with_it) (λ hon o k l exposes was. (
               was.0,
               λ honest. let p = was.1 honest in (
                 p.0,
-                streams_call ok first lines lines port port r.state.table (with_value r.state.table e.slot (sent payload)) l.entries
+                streams_call carry first lines lines port port r.state.table (with_value r.state.table e.slot (sent payload)) l.entries
                     (PutPacket (payload_on Device r.state.cid e.flow e.value.end payload) ∷ l.entries)
-                    (plain_before first (PutPacket (payload_on Device r.state.cid e.flow e.value.end payload)) l.entries)
+                    (carry.before first (PutPacket (payload_on Device r.state.cid e.flow e.value.end payload)) l.entries)
                     (IsReadOf e.value.stream room (read.Got n, payload)) (after_read e.value.stream (read.Got n)) (λ h is few x.
                     subst (λ (bytes : List ℕ). IsStreamed (after_read e.value.stream (read.Got n) h)
                     (PutPacket (payload_on Device r.state.cid e.flow e.value.end bytes) ∷ l.entries) port (with_value r.state.table e.slot (sent bytes)) lines)
@@ -282,23 +282,23 @@ module _ (ok : Type 0) (lines : List Handshake) (first port : ℕ) where
             )) holds.1,
       )
       answered_keeps read.Again payload c d made holds = (
-        called_with ok lines first port with_it with_it refl refl (λ fits. same port with_it fits) false
+        called_with carry lines first port with_it with_it refl refl (λ fits. same carry port with_it fits) false
             (IsReadOf e.value.stream room (read.Again, payload)) called
             (λ fits h log is x. called_host h log port r.state.table lines x) c d made.0 holds,
         λ still. going,
       )
       answered_keeps read.End payload c d made holds = (
-        called_with ok lines first port with_it (with_connection e.slot (after_shut 2 with_it.now e.value) with_it) refl refl
-            (λ fits. shuts port with_it fits e there 2 with_it.now old) false (IsReadOf e.value.stream room (read.End, payload)) called
+        called_with carry lines first port with_it (with_connection e.slot (after_shut 2 with_it.now e.value) with_it) refl refl
+            (λ fits. shuts carry port with_it fits e there 2 with_it.now old) false (IsReadOf e.value.stream room (read.End, payload)) called
             (λ fits h log is x. called_host h log port (with_value r.state.table e.slot (after_shut 2 with_it.now e.value)) lines
             (shuts_streams h log port r.state.table lines x fits.sound e 2 with_it.now there)) c d made.0 holds,
         λ still. going,
       )
       answered_keeps read.Failed payload c d made holds =
           let t : DeviceState = with_connection e.slot (cut_off e.value) (with_fault with_it) in
-          closing_keeps ok lines first port Over (λ t. Done (record chained { state = t })) e cut_off (with_fault with_it) d (λ x closes. (
-            closed_with ok lines first port t.table t e.value d x closes
-                (called_with ok lines first port with_it t refl refl (λ fits. cuts port with_it fits e there old) true
+          closing_keeps carry lines first port Over (λ t. Done (record chained { state = t })) e cut_off (with_fault with_it) d (λ x closes. (
+            closed_with carry lines first port t.table t e.value d x closes
+                (called_with carry lines first port with_it t refl refl (λ fits. cuts carry port with_it fits e there old) true
                 (IsReadOf e.value.stream room (read.Failed, payload)) called
                 (λ fits h log is y. called_host h log port t.table lines (cuts_streams h log port r.state.table lines y fits.sound e there)) c d made.0 holds),
             λ still. going,
@@ -322,13 +322,28 @@ module _ (ok : Type 0) (lines : List Handshake) (first port : ℕ) where
         (Done (record r { state = with_connection e.slot (record e.value { end = wanting_credit e.value.end }) r.state }))
         (bind (hold r) (read_with_chain e))) c
     read_by true c ready = (
-      changed ok lines first port r.state (with_connection e.slot (record e.value { end = wanting_credit e.value.end }) r.state) refl refl
-          (λ fits. wants port r.state fits e there old) (λ fits h log x. ends_streams h log port r.state.table lines x fits.sound e there
+      changed carry lines first port r.state (with_connection e.slot (record e.value { end = wanting_credit e.value.end }) r.state) refl refl
+          (λ fits. wants carry port r.state fits e there old) (λ fits h log x. ends_streams h log port r.state.table lines x fits.sound e there
           (record e.value { end = wanting_credit e.value.end }) refl refl refl refl (λ on. on) (λ on. on)) c ready.0,
       λ going. ready.1,
     )
     read_by false c ready =
-        hold_keeps ok lines first port Over (read_with_chain e) r (λ chain d holds. chain_keeps chain ready.1 ready.2 d holds) none_keeps c ready
+        hold_keeps carry lines first port Over (read_with_chain e) r (λ chain d holds. chain_keeps chain ready.1 ready.2 d holds) none_keeps c ready
+
+    -- The single step reads where a chain is held.
+    held_keeps : (c : Situation) → Ready r c → Keeps Over (read_with_chain e r) c
+    held_keeps c ready = by r.state.chain refl
+      where
+        by : (o : Option Chain) → r.state.chain ≡ o → Keeps Over (read_with_chain e (record r { state = record r.state { chain = o } })) c
+        by None is = (subst (λ (o : Option Chain). Now (record r.state { chain = o }) c) is ready.0, λ going. ready.1)
+        by (Some chain) is =
+            chain_keeps chain ready.1 ready.2 c (subst (λ (o : Option Chain). Now (record r.state { chain = o }) c) is ready.0)
+
+    pub step_keeps : (b : Bool) (c : Situation) → Ready r c
+        → Keeps Now (cond b (Done (with_connection e.slot (record e.value { end = wanting_credit e.value.end }) r.state))
+        (bind (read_with_chain e r) (λ q. Done q.state))) c
+    step_keeps true c ready = (read_by true c ready).0
+    step_keeps false c ready = keeps_then Over Now (read_with_chain e r) (λ q. Done q.state) c (held_keeps c ready) (λ q d kept. kept.0)
 
   read_keeps : (e : DeviceEntry) (r : Filling) → Contains r.state.table.entries e → (c : Situation) → Ready r c → Keeps Over
       (read_stream e r) c
@@ -337,7 +352,7 @@ module _ (ok : Type 0) (lines : List Handshake) (first port : ℕ) where
       by : (b : Bool) → may_read e.value.end e.value.end.state ≡ b → Keeps Over (cond b (cond (free_of e.value.end.credit == 0)
           (Done (record r { state = with_connection e.slot (record e.value { end = wanting_credit e.value.end }) r.state }))
           (bind (hold r) (read_with_chain e))) (Done r)) c
-      by false may = open_filled ok lines first port r c ready
+      by false may = open_filled carry lines first port r c ready
       by true may = read_by e r there may (free_of e.value.end.credit == 0) c ready
 
   -- A slot of the round.
@@ -347,7 +362,7 @@ module _ (ok : Type 0) (lines : List Handshake) (first port : ℕ) where
     where
       by : (b : Bool) → q.over ≡ b → Keeps Over (cond b (Done q) (while_up_to OWED_MAX (put_owed slot) q)) c
       by true is = filled
-      by false is = keeps_while Ready Over (open_filled ok lines first port) (put_owed slot) (put_owed_keeps slot) OWED_MAX q c
+      by false is = keeps_while Ready Over (open_filled carry lines first port) (put_owed slot) (put_owed_keeps slot) OWED_MAX q c
           (filled.0, filled.1 is, is)
 
   abbrev reading : Option DeviceEntry → Filling → DeviceTree Filling
@@ -398,7 +413,7 @@ module _ (ok : Type 0) (lines : List Handshake) (first port : ℕ) where
           keeps_then Over FillEnds (while_up_to (length s.replies) put_reply (record { state = s; put = 0; read = 0; over = false })) (λ r.
           bind (if r.over then Done r else for_each serve_slot (round_from r.state.last_put (slots r.state.table)) r)
           (λ q. Done (filled_of q))) c
-          (keeps_while Ready Over (open_filled ok lines first port) put_reply put_reply_keeps (length s.replies)
+          (keeps_while Ready Over (open_filled carry lines first port) put_reply put_reply_keeps (length s.replies)
           (record { state = s; put = 0; read = 0; over = false }) c (holds, going, refl))
           (λ r d filled. keeps_then Over FillEnds (if r.over then Done r else for_each serve_slot
           (round_from r.state.last_put (slots r.state.table)) r)

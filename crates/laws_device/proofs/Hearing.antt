@@ -1,7 +1,7 @@
 -- What the device keeps as it takes a packet, whose page stands in the log: each verdict, and each end of a REQUEST.
 use Rattle.std.proofs.{lemmas.Bool.Decides.nat_tests, lemmas.Grind.common_steps, Common.◌≡◌, Common.ℕ, Common.◌+◌, Common.◌≤◌, Common.◌==◌}
 use Rattle.std.proofs.Common.{◌&&◌, Bool, true, false, cond, List, [], ◌∷◌, ◌++◌, length, take, drop, Contains, Option, Some, None, refl}
-use Rattle.std.proofs.Common.{sym, ap, subst, ◌∙◌, arith, length-append, length-take, get_or, is_some}
+use Rattle.std.proofs.Common.{sym, ap, subst, ◌∙◌, arith, length-append, length-take, get_or}
 use Rattle.std.proofs.lemmas.List.{get_or_default}
 use Rattle.vs_contents.specs.CallTree.{Done, Ask, bind}
 use Rattle.vs_conn.specs.{declared.end.Verdict.Verdict, declared.end.Why.Why, End.ConnectionEnd, End.after_op, End.end_after, End.is_reset}
@@ -16,22 +16,22 @@ use Rattle.vs_outside.specs.Host.{called}
 use Rattle.vs_page.specs.{Fair.IsFairLog, Held.FitsWire, Held.IsWhole, Held.packet_held, Log.Device, Log.Log, Log.flow_to_host}
 use Rattle.vs_page.specs.{Open.is_dropped, declared.log.LogEntry.TheVariants.GotPacket}
 use Rattle.vs_replies.specs.Owed.{reply_to}
-use Rattle.vs_ring_port.specs.{Chains.Held, Chains.bytes_in, EndLog.EndLog, declared.device_ring.Chain.Chain}
+use Rattle.vs_ring_port.specs.{Chains.bytes_in, EndLog.EndLog, declared.device_ring.Chain.Chain}
 use Rattle.laws_tables.specs.{Ends.is_new, Steps.is_overrun, Steps.HasEnd}
-use Rattle.laws_tables.proofs.{Slots.found_by, Fair.got_one}
-use Rattle.vs_device_parts.specs.{Calls.DeviceTree, Calls.Dial, Calls.Allows, Calls.HostMoves, Calls.Situation, State.DeviceConnection}
-use Rattle.vs_device_parts.specs.{State.DeviceEntry, State.DeviceState, Connections.after_leaving, Connections.stream_closed}
-use Rattle.vs_device_parts.specs.Connections.{with_connection, with_dialed, with_fault, with_reply}
-use Rattle.vs_device_parts.specs.Transmitting.{dial_answered, heard, on_known, on_packet, on_unknown, refused, try_request, unknown_why}
+use Rattle.laws_tables.proofs.Slots.{found_by}
+use Rattle.vs_device_parts.specs.{Calls.DeviceTree, Calls.Dial, Calls.HostMoves, Calls.Situation, State.DeviceConnection, State.DeviceEntry}
+use Rattle.vs_device_parts.specs.{State.DeviceState, Connections.after_leaving, Connections.stream_closed, Connections.with_connection}
+use Rattle.vs_device_parts.specs.{Connections.with_dialed, Connections.with_fault, Connections.with_reply, Transmitting.dial_answered}
+use Rattle.vs_device_parts.specs.Transmitting.{heard, on_known, on_packet, on_unknown, refused, try_request, unknown_why}
 use Rattle.vs_device_parts.specs.Streams.{leaving}
 use Rattle.vs_wrap.specs.Wrap.{counted}
-use Rattle.laws_device.specs.{Honest.AgreesWith, Honest.HoldsBytes, Honest.IsLeft, Honest.unwritten, Honest.ends_of_state, Streams.IsPlain}
-use Rattle.laws_device.proofs.{Fits.delivered, Fits.fewer, Fits.fits_after, Keeping.Keeps, Keeping.keeps_bind, Ringing.HoldsFirst}
-use Rattle.laws_device.proofs.Ringing.{Tells, moves, tells_weaker, host_moves, Telling, bytes_held}
-use Rattle.laws_device.proofs.{Steps.closing_keeps, Taking.drops_it, Taking.has_its_room, Taking.ignores_it, Taking.leaves_with}
-use Rattle.laws_device.proofs.{Taking.opens, Taking.replies_to, Taking.stays_with, Tabling.IsFitConnection, Tabling.begun_fits}
-use Rattle.laws_device.proofs.{Tabling.entry_fits, Tabling.has_end, Carrying.Fact, Carrying.StreamedOver, Carrying.closed_over}
-use Rattle.laws_device.proofs.Carrying.{closed_tells, plain_before, streams_call, streams_go}
+use Rattle.laws_device.proofs.{Chains.Behind, Seats.AgreesBy, Seats.Carried, Seats.LeftBy, Seats.seat, Fits.delivered, Fits.fewer}
+use Rattle.laws_device.proofs.{Fits.fits_after, Keeping.Keeps, Keeping.Lets, Keeping.keeps_bind, Ringing.Tells, Ringing.moves}
+use Rattle.laws_device.proofs.{Ringing.tells_weaker, Ringing.host_moves, Ringing.Telling, Ringing.bytes_held, Steps.closing_keeps}
+use Rattle.laws_device.proofs.Taking.{drops_it, has_its_room, ignores_it, leaves_with, opens, replies_to, stays_with}
+use Rattle.laws_device.proofs.{Tabling.IsFitConnection, Tabling.begun_fits, Tabling.entry_fits, Tabling.has_end, Carrying.Fact}
+use Rattle.laws_device.proofs.Carrying.{StreamedOver, closed_over, closed_tells, streams_call, streams_go}
+use Rattle.laws_device.specs.Honest.{HoldsBytes, ends_of_state}
 use Rattle.laws_device_bytes.proofs.Changing.{accepts_streams, called_host, delivered_rw, delivers_streams, dialed_id, empty_streams}
 use Rattle.laws_device_bytes.proofs.Changing.{failed_host, got_nothing, hears_streams, leaves_streams, passes_streams, payload_in}
 use Rattle.laws_device_bytes.proofs.{Changing.request_empty, Changing.reset_empty, Changing.unknown_streams, Streamed.join_of}
@@ -43,6 +43,7 @@ use Rattle.laws_bytes.proofs.Logs.{put_after_got}
 use Rattle.laws_bytes.specs.Drains.{has_passed}
 use Rattle.vs_uds.specs.OkLine.{ok_text}
 use Rattle.std.specs.List.{All}
+use Rattle.laws_tables.specs.Both.{Takes, after as seat_after}
 use Rattle.vs_conn.specs.declared.end.Verdict.TheVariants as verdict
 use Rattle.vs_conn.specs.declared.end.Why.TheVariants as why
 use Rattle.vs_outside.specs.declared.host_net.Dialed.TheVariants as dialed
@@ -58,15 +59,15 @@ rst_leaves e h = grind (arith, common_steps)
 pub still_new : (e : ConnectionEnd) (h : Header) → is_new (end_after e h) ≡ true → is_new e ≡ true
 still_new e h = grind (arith, common_steps)
 
-accept_old : (e : ConnectionEnd) (h : Header) → verdict_of e h ≡ verdict.Accept → is_new (end_after e h) ≡ false
+pub accept_old : (e : ConnectionEnd) (h : Header) → verdict_of e h ≡ verdict.Accept → is_new (end_after e h) ≡ false
 accept_old e h is = ap (λ (v : Verdict). is_new (after_op (op_named h.op) e h v)) is
 
-deliver_old : (e : ConnectionEnd) (h : Header) → verdict_of e h ≡ verdict.Deliver → is_new (end_after e h) ≡ false
+pub deliver_old : (e : ConnectionEnd) (h : Header) → verdict_of e h ≡ verdict.Deliver → is_new (end_after e h) ≡ false
 deliver_old e h is = grind (arith, common_steps, is)
 
-module _ (ok : Type 0) (lines : List Handshake) (first port : ℕ) (s : DeviceState) (chain : Chain) (h : Header) (wire : FitsWire h) where
+module _ (carry : Carried) (lines : List Handshake) (first port : ℕ) (s : DeviceState) (chain : Chain) (h : Header) (wire : FitsWire h) where
   abbrev Streamed : Table DeviceConnection → Fact
-  Streamed t = StreamedOver ok lines first port t
+  Streamed t = StreamedOver carry lines first port t
 
   -- The packet with this header came, and its payload is this.
   abbrev pub packet : List ℕ → Packet
@@ -77,50 +78,49 @@ module _ (ok : Type 0) (lines : List Handshake) (first port : ℕ) (s : DeviceSt
     pub payload : List ℕ
     pub log : Log
     pub entries_are : l.entries ≡ GotPacket (record { header = h; payload = payload }) ∷ log
-    pub was : IsLeft first port s.cid s.overrun s.table s.replies log
+    pub was : LeftBy carry first port s.cid s.overrun s.table s.replies log
     pub fair : IsFairLog Device (GotPacket (record { header = h; payload = payload }) ∷ log)
     pub streams : Streamed s.table host log
     pub whole : IsWhole (packet payload)
     pub held : packet_held page ≡ Some (packet payload)
 
   abbrev pub Came : Telling
-  Came honest host l = (page : List ℕ) × HoldsFirst chain page (unwritten s.chain) l × (honest ≡ true → IsCome page host l)
+  Came honest host l = (page : List ℕ) × Behind carry.others chain page s.chain l.held × (honest ≡ true → IsCome page host l)
 
   -- The device t took the packet.
   abbrev pub After : DeviceState → Telling
   After t honest host l =
-      (page : List ℕ) × HoldsFirst chain page (unwritten t.chain) l × (honest ≡ true → AgreesWith first port t l × Streamed t.table host l.entries)
+      (page : List ℕ) × Behind carry.others chain page t.chain l.held × (honest ≡ true → AgreesBy carry first port t l × Streamed t.table host l.entries)
 
   abbrev pub Heard : DeviceState × Verdict → Situation → Type 0
   Heard x c = (x.0.failed ≡ s.failed) × (x.0.chain ≡ s.chain) × Tells (After x.0) c
 
   abbrev Hears : DeviceState → Type 0
-  Hears t = (payload : List ℕ) (log : Log) → IsLeft first port s.cid s.overrun s.table s.replies log → IsFairLog Device (GotPacket (packet payload) ∷ log)
-      → IsLeft first port t.cid t.overrun t.table t.replies (GotPacket (packet payload) ∷ log)
+  Hears t = (payload : List ℕ) (log : Log) → LeftBy carry first port s.cid s.overrun s.table s.replies log → IsFairLog Device (GotPacket (packet payload) ∷ log)
+      → LeftBy carry first port t.cid t.overrun t.table t.replies (GotPacket (packet payload) ∷ log)
 
   -- What comes to the streams, of which one may be made or closed.
   abbrev Streams : (HostContents → HostContents) → DeviceState → Type 0
-  Streams f t = (payload : List ℕ) (log : Log) → IsLeft first port s.cid s.overrun s.table s.replies log → IsFairLog Device (GotPacket (packet payload) ∷ log)
-      → IsWhole (packet payload) → IsPlain first (GotPacket (packet payload) ∷ log) → (c : HostContents) → IsStreamed c log port s.table lines
+  Streams f t = (payload : List ℕ) (log : Log) → LeftBy carry first port s.cid s.overrun s.table s.replies log → IsFairLog Device (GotPacket (packet payload) ∷ log)
+      → IsWhole (packet payload) → carry.plain first (GotPacket (packet payload) ∷ log) → (c : HostContents) → IsStreamed c log port s.table lines
       → IsStreamed (f c) (GotPacket (packet payload) ∷ log) port t.table lines
 
   agrees_by : (t : DeviceState) (page : List ℕ) (o n : Option HostContents) (l : EndLog) → Hears t → (come : IsCome page o l)
-      → (Streamed s.table o come.log → Streamed t.table n (GotPacket (packet come.payload) ∷ come.log)) → AgreesWith first port t l × Streamed t.table n l.entries
+      → (Streamed s.table o come.log → Streamed t.table n (GotPacket (packet come.payload) ∷ come.log)) → AgreesBy carry first port t l × Streamed t.table n l.entries
   agrees_by t page o n l step come streams = (
-    subst (λ (log : Log). IsLeft first port t.cid t.overrun t.table t.replies log) (sym come.entries_are)
+    subst (λ (log : Log). LeftBy carry first port t.cid t.overrun t.table t.replies log) (sym come.entries_are)
         (step come.payload come.log come.was come.fair),
     subst (λ (log : Log). Streamed t.table n log) (sym come.entries_are) (streams come.streams),
   )
 
   stays_so : (t : DeviceState) (page : List ℕ) (o : Option HostContents) (l : EndLog) → Streams (λ c. c) t → (come : IsCome page o l)
       → Streamed s.table o come.log → Streamed t.table o (GotPacket (packet come.payload) ∷ come.log)
-  stays_so t page o l streams come = streams_go ok first lines lines port port s.table t.table come.log (GotPacket (packet come.payload) ∷ come.log)
-      (plain_before first (GotPacket (packet come.payload)) come.log) (λ c few x. streams come.payload come.log come.was come.fair come.whole few c x) o
+  stays_so t page o l streams come = streams_go carry first lines lines port port s.table t.table come.log (GotPacket (packet come.payload) ∷ come.log)
+      (carry.before first (GotPacket (packet come.payload)) come.log) (λ c few x. streams come.payload come.log come.was come.fair come.whole few c x) o
 
-  behind : (t : DeviceState) (page : List ℕ) (l : EndLog) → t.chain ≡ s.chain → HoldsFirst chain page (unwritten s.chain) l
-      → HoldsFirst chain page (unwritten t.chain) l
-  behind t page l chain_is held =
-      held ∙ ap (λ (o : Option Chain). let x : Held = record { chain = chain; bytes = page } in x ∷ unwritten o) (sym chain_is)
+  behind : (t : DeviceState) (page : List ℕ) (l : EndLog) → t.chain ≡ s.chain → Behind carry.others chain page s.chain l.held
+      → Behind carry.others chain page t.chain l.held
+  behind t page l chain_is held = subst (λ (o : Option Chain). Behind carry.others chain page o l.held) (sym chain_is) held
 
   quiet : (t : DeviceState) (v : Verdict) (c : Situation) → t.failed ≡ s.failed → t.chain ≡ s.chain → Hears t → Streams (λ c. c) t → Tells Came c
       → Heard (t, v) c
@@ -137,8 +137,8 @@ module _ (ok : Type 0) (lines : List Handshake) (first port : ℕ) (s : DeviceSt
   -- With a call on the host.
   calls : (t : DeviceState) (v : Verdict) (c d : Situation) (faults : Bool) (A : HostContents → Type 0) (f : HostContents → HostContents)
       → t.failed ≡ s.failed → t.chain ≡ s.chain → Hears t
-      → ((payload : List ℕ) (log : Log) → IsLeft first port s.cid s.overrun s.table s.replies log → IsFairLog Device (GotPacket (packet payload) ∷ log)
-      → IsWhole (packet payload) → IsPlain first (GotPacket (packet payload) ∷ log) → (h : HostContents) → A h → IsStreamed h log port s.table lines
+      → ((payload : List ℕ) (log : Log) → LeftBy carry first port s.cid s.overrun s.table s.replies log → IsFairLog Device (GotPacket (packet payload) ∷ log)
+      → IsWhole (packet payload) → carry.plain first (GotPacket (packet payload) ∷ log) → (h : HostContents) → A h → IsStreamed h log port s.table lines
       → IsStreamed (f h) (GotPacket (packet payload) ∷ log) port t.table lines)
       → HostMoves faults A f c d → Tells Came c → Heard (t, v) d
   calls t v c d faults A f failed chain_is step streams made tells = (
@@ -148,23 +148,22 @@ module _ (ok : Type 0) (lines : List Handshake) (first port : ℕ) (s : DeviceSt
       came.0,
       behind t came.0 l chain_is came.1,
       λ honest. let come = came.2 honest in agrees_by t came.0 o n l step come
-          (streams_call ok first lines lines port port s.table t.table come.log (GotPacket (packet come.payload) ∷ come.log)
-          (plain_before first (GotPacket (packet come.payload)) come.log) A f
+          (streams_call carry first lines lines port port s.table t.table come.log (GotPacket (packet come.payload) ∷ come.log)
+          (carry.before first (GotPacket (packet come.payload)) come.log) A f
           (λ h answers few x. streams come.payload come.log come.was come.fair come.whole few h answers x) o n exposes),
     )) tells,
   )
 
   -- No connection that gives its stream payload misses some of a packet that is dropped.
-  idle : (payload : List ℕ) (log : Log) → IsLeft first port s.cid s.overrun s.table s.replies log → IsFairLog Device (GotPacket (packet payload) ∷ log)
-      → IsPlain first (GotPacket (packet payload) ∷ log) → is_dropped Device s.cid h ≡ true
+  idle : (payload : List ℕ) (log : Log) → LeftBy carry first port s.cid s.overrun s.table s.replies log → IsFairLog Device (GotPacket (packet payload) ∷ log)
+      → carry.plain first (GotPacket (packet payload) ∷ log) → is_dropped Device s.cid h ≡ true
       → All (λ e. e.flow ≡ flow_to_host h → gives e.value.end ≡ true → payload ≡ []) s.table.entries
   idle payload log was fair plain dropped i d within flow given =
       let e : DeviceEntry = get_or s.table.entries i d in
       let there : Contains s.table.entries e = (i, within, sym (get_or_default s.table.entries i d e within)) in
       let has : HasEnd (flow_to_host h) e.value.end (ends_of_state port s) =
       subst (λ (f : Flow). HasEnd f e.value.end (ends_of_state port s)) flow (has_end s was.fits e there port) in
-      let own = got_one Device first (packet payload) e.value.end (ends_of_state port s) log was.matches.flows has (fair (flow_to_host h)) in
-      plain.heard.0 (ap (λ (cid : ℕ). is_dropped Device cid h) (sym was.matches.flows.cid) ∙ dropped) (ap is_some own.kind_is)
+      carry.idle first (packet payload) (seat port s log) was.seated was.matches fair plain dropped e.value.end has given
 
   module _ (kept : is_dropped Device s.cid h ≡ false) where
     -- A packet of a connection of the table.
@@ -172,7 +171,7 @@ module _ (ok : Type 0) (lines : List Handshake) (first port : ℕ) (s : DeviceSt
       goes_on : (v : Verdict) → verdict_of e.value.end h ≡ v → peer_resets v h ≡ false → (is_reset h && is_of e.value.end.kind h) ≡ false
       goes_on v is other = sym (rst_leaves e.value.end h) ∙ ap (λ (w : Verdict). peer_resets w h) is ∙ other
 
-      module _ (payload : List ℕ) (log : Log) (was : IsLeft first port s.cid s.overrun s.table s.replies log)
+      module _ (payload : List ℕ) (log : Log) (was : LeftBy carry first port s.cid s.overrun s.table s.replies log)
           (fair : IsFairLog Device (GotPacket (packet payload) ∷ log)) where
         after : (v : Verdict) → verdict_of e.value.end h ≡ v
             → HoldsBytes (end_after e.value.end h).credit (length e.value.pending + delivered v h.len)
@@ -190,38 +189,38 @@ module _ (ok : Type 0) (lines : List Handshake) (first port : ℕ) (s : DeviceSt
         }
 
         hears : (v : Verdict) → verdict_of e.value.end h ≡ v → peer_resets v h ≡ false
-            → IsLeft first port s.cid s.overrun (with_connection e.slot (heard h e.value) s).table s.replies
+            → LeftBy carry first port s.cid s.overrun (with_connection e.slot (heard h e.value) s).table s.replies
             (GotPacket (packet payload) ∷ log)
-        hears v is other = stays_with first port s (packet payload) log was fair wire kept e there flow (heard h e.value) refl heard_fits
+        hears v is other = stays_with carry first port s (packet payload) log was fair wire kept e there flow (heard h e.value) refl heard_fits
             (goes_on v is other)
 
         accepts : (line : List ℕ) → verdict_of e.value.end h ≡ verdict.Accept
-            → IsLeft first port s.cid s.overrun (with_connection e.slot (record (heard h e.value) { ok_line = line }) s).table s.replies
+            → LeftBy carry first port s.cid s.overrun (with_connection e.slot (record (heard h e.value) { ok_line = line }) s).table s.replies
             (GotPacket (packet payload) ∷ log)
         accepts line is =
             let c : DeviceConnection = record (heard h e.value) { ok_line = line } in
-            stays_with first port s (packet payload) log was fair wire kept e there flow c refl
+            stays_with carry first port s (packet payload) log was fair wire kept e there flow c refl
             (begun_fits c none_new (accept_old e.value.end h is)) (goes_on verdict.Accept is refl)
 
         delivers : (bytes : List ℕ) → length bytes ≤ h.len → verdict_of e.value.end h ≡ verdict.Deliver
-            → IsLeft first port s.cid s.overrun (with_connection e.slot
+            → LeftBy carry first port s.cid s.overrun (with_connection e.slot
             (record (heard h e.value) { pending = e.value.pending ++ bytes }) s).table s.replies (GotPacket (packet payload) ∷ log)
         delivers bytes short is =
             let c : DeviceConnection = record (heard h e.value) { pending = e.value.pending ++ bytes } in
-            stays_with first port s (packet payload) log was fair wire kept e there flow c refl
+            stays_with carry first port s (packet payload) log was fair wire kept e there flow c refl
             (begun_fits c (fewer _ _ _ (after verdict.Deliver is) (omega (arith, short, length-append e.value.pending bytes)))
             (deliver_old e.value.end h is))
             (goes_on verdict.Deliver is refl)
 
         leaves : verdict_of e.value.end h ≡ verdict.Peer → is_reset h ≡ true
-            → IsLeft first port s.cid s.overrun (after_leaving e.slot
+            → LeftBy carry first port s.cid s.overrun (after_leaving e.slot
             (with_connection e.slot (stream_closed (heard h e.value)) s)).table s.replies (GotPacket (packet payload) ∷ log)
-        leaves is reset = leaves_with first port s (packet payload) log was fair wire kept e there flow (stream_closed (heard h e.value))
+        leaves is reset = leaves_with carry first port s (packet payload) log was fair wire kept e there flow (stream_closed (heard h e.value))
             (sym (rst_leaves e.value.end h) ∙ ap (λ (w : Verdict). peer_resets w h) is ∙ reset)
 
         overruns : (w : Why) → verdict_of e.value.end h ≡ verdict.Rst w → is_overrun (verdict.Rst w) ≡ true → ⊥
         overruns w is over =
-            let room = has_its_room first port s (packet payload) log was fair wire kept e there flow in
+            let room = has_its_room carry first port s (packet payload) log was fair wire kept e there flow in
             let no : true ≡ false = sym over ∙ sym (ap is_overrun is) ∙ room in
             cc
 
@@ -245,7 +244,7 @@ module _ (ok : Type 0) (lines : List Handshake) (first port : ℕ) (s : DeviceSt
             let gone : DeviceState = after_leaving e.slot (with_connection e.slot (stream_closed (heard h e.value)) s) in
             let next : DeviceState → DeviceTree DeviceState = λ t. Done (after_leaving e.slot t) in
             keeps_bind Heard (leaving x s) (λ t. Done (t, verdict.Peer)) c
-            (closing_keeps ok lines first port (λ t d. Heard (t, verdict.Peer) d) next x stream_closed s c (λ d closes.
+            (closing_keeps carry lines first port (λ t d. Heard (t, verdict.Peer) d) next x stream_closed s c (λ d closes.
             let all = quiet gone verdict.Peer c refl refl (λ payload log was fair. leaves payload log was fair is reset)
             (λ payload log was fair whole few c y. leaves_streams c (GotPacket (packet payload) ∷ log) port s.table lines
             (empty_streams c log port s.table lines y was.fits.sound (packet payload) whole (reset_empty e.value.end.kind (packet payload)
@@ -255,7 +254,7 @@ module _ (ok : Type 0) (lines : List Handshake) (first port : ℕ) (s : DeviceSt
               closed_tells (After gone) x.value c d (λ hon o n l exposes was. (
                 was.0,
                 was.1,
-                λ honest. let p = was.2 honest in (p.0, closed_over ok first lines port gone.table l.entries x.value.stream o n exposes p.1),
+                λ honest. let p = was.2 honest in (p.0, closed_over carry first lines port gone.table l.entries x.value.stream o n exposes p.1),
               )) closes all.2,
             )))
 
@@ -274,13 +273,13 @@ module _ (ok : Type 0) (lines : List Handshake) (first port : ℕ) (s : DeviceSt
         accepted line written is = quiet (with_connection e.slot (record (heard h e.value) { ok_line = line }) s) verdict.Accept c refl refl
             (λ payload log was fair. accepts payload log was fair line is) (λ payload log was fair whole few c y.
             accepts_streams c log port s.table lines y was.fits.sound (packet payload) whole e there flow fair
-            (once_history Device e.flow log (was.fair e.flow) ((plain_before first (GotPacket (packet payload)) log few).once e.flow))
+            (once_history Device e.flow log (was.fair e.flow) (carry.once first (seat port s log) was.seated (carry.before first (GotPacket (packet payload)) log few) e.flow))
             (join_of (look c) c.labelled log port s.table lines y e there).client line written is) tells
 
         by_verdict : (v : Verdict) → verdict_of e.value.end h ≡ v → Keeps Heard (with_verdict v (on_known v chain h e s)) c
         by_verdict verdict.Accept is = accepted _ refl is
         by_verdict verdict.Deliver is = (
-          tt,
+          λ (front : HEADER_LEN ≡ 0). cc,
           λ bytes d made. (
             refl,
             refl,
@@ -292,13 +291,13 @@ module _ (ok : Type 0) (lines : List Handshake) (first port : ℕ) (s : DeviceSt
                   λ honest.
                       let come = came.2 honest in
                       let read : bytes ≡ take h.len (drop HEADER_LEN came.0) =
-                      asked ∙ ap (λ (page : List ℕ). take h.len (drop HEADER_LEN page)) (bytes_held chain came.0 (unwritten s.chain) l came.1) in
+                      asked ∙ ap (λ (page : List ℕ). take h.len (drop HEADER_LEN page)) (bytes_held chain came.0 came.1.0 l came.1.1) in
                       let few = length-take h.len (drop HEADER_LEN (bytes_in chain l.held)) in
                       let same : length bytes ≡ length (take h.len (drop HEADER_LEN (bytes_in chain l.held))) = ap length asked in
                       agrees_by (with_connection e.slot (record (heard h e.value) { pending = e.value.pending ++ bytes }) s) came.0 o o l
                       (λ payload log was fair. delivers payload log was fair bytes (omega (arith, few, same)) is) come
-                      (streams_go ok first lines lines port port s.table (with_value s.table e.slot (record (heard h e.value) { pending = e.value.pending ++ bytes }))
-                      come.log (GotPacket (packet come.payload) ∷ come.log) (plain_before first (GotPacket (packet come.payload)) come.log) (λ c some x.
+                      (streams_go carry first lines lines port port s.table (with_value s.table e.slot (record (heard h e.value) { pending = e.value.pending ++ bytes }))
+                      come.log (GotPacket (packet come.payload) ∷ come.log) (carry.before first (GotPacket (packet come.payload)) come.log) (λ c some x.
                       delivers_streams c come.log port s.table lines x come.was.fits.sound (packet come.payload) come.whole e there flow bytes
                       (read ∙ payload_in came.0 (packet come.payload) come.held (delivered_rw e.value.end (packet come.payload) is)) is) o),
                 )) tells,
@@ -322,7 +321,7 @@ module _ (ok : Type 0) (lines : List Handshake) (first port : ℕ) (s : DeviceSt
           × (t.table ≡ s.table)
           × (t.replies ≡ s.replies ++ reply_to (flow_to_host h) h ∷ []) → is_reset h ≡ false → Heard (t, v) c
       replied t v (failed, chain_is, cid, overrun, table, replies) plain = quiet t v c failed chain_is (λ payload log was fair.
-          rw (cid, overrun, table, replies) (replies_to first port s (packet payload) log was fair wire kept none plain))
+          rw (cid, overrun, table, replies) (replies_to carry first port s (packet payload) log was fair wire kept none plain))
           (λ payload log was fair whole few c x. rw table (passes payload log was fair whole few c x)) tells
 
       -- The REQUEST is the first packet of its flow.
@@ -332,24 +331,26 @@ module _ (ok : Type 0) (lines : List Handshake) (first port : ℕ) (s : DeviceSt
           → ((g : HostContents) (log : Log) → IsStreamed g log port s.table lines → IsStreamed (f g) log port s.table lines) → Heard (t, verdict.Rst why.NotLive) d
       dials path a d f t faults (failed, chain_is, cid, overrun, table, replies) plain made carries =
           calls t (verdict.Rst why.NotLive) c d faults (IsDialed path a) f failed chain_is (λ payload log was fair.
-          rw (cid, overrun, table, replies) (replies_to first port s (packet payload) log was fair wire kept none plain))
+          rw (cid, overrun, table, replies) (replies_to carry first port s (packet payload) log was fair wire kept none plain))
           (λ payload log was fair whole few g is x. rw table (carries g (GotPacket (packet payload) ∷ log) (passes payload log was fair whole few g x))) made tells
 
-      quiet_flow : (payload : List ℕ) (log : Log) → IsFairLog Device (GotPacket (packet payload) ∷ log) → IsPlain first (GotPacket (packet payload) ∷ log)
-          → is_request (packet payload) ≡ true → has_passed Device (flow_to_host h) log ≡ false
-      quiet_flow payload log fair few request =
-          none_passed Device (flow_to_host h) log (asked_first Device (packet payload) log fair (few.once (flow_to_host h)) request)
+      quiet_flow : (payload : List ℕ) (log : Log) → carry.holds (seat port s log) → IsFairLog Device (GotPacket (packet payload) ∷ log)
+          → carry.plain first (GotPacket (packet payload) ∷ log) → is_request (packet payload) ≡ true → has_passed Device (flow_to_host h) log ≡ false
+      quiet_flow payload log seated fair few request =
+          let few = carry.once first (seat_after Device (Takes (packet payload) false) (seat port s log))
+          (carry.step (Takes (packet payload) false) (seat port s log) tt (λ all. all) seated) few (flow_to_host h) in
+          none_passed Device (flow_to_host h) log (asked_first Device (packet payload) log fair few request)
 
-      dial_by : (path : List ℕ) (a : Dialed) (d : Situation) → Allows (Dial path (flow_to_host h)) a c d → is_assigned h.dst_port ≡ false → is_reset h ≡ false
+      dial_by : (path : List ℕ) (a : Dialed) (d : Situation) → Lets (Dial path (flow_to_host h)) a c d → is_assigned h.dst_port ≡ false → is_reset h ≡ false
           → is_request (packet []) ≡ true → h.kind ≡ 1 → has_place s.table ≡ true → Heard (dial_answered h a s) d
       dial_by path (dialed.Stream stream) d made outside plain request kind place =
           calls (with_dialed (flow_to_host h) h stream s) verdict.Accept c d false (IsDialed path (dialed.Stream stream))
           (after_dial (flow_to_host h) (dialed.Stream stream)) refl refl
-          (λ payload log was fair. opens first port s (packet payload) log was fair wire kept none stream request kind place)
+          (λ payload log was fair. opens carry first port s (packet payload) log was fair wire kept none stream request kind place)
           (λ payload log was fair whole few g is x.
           subst (λ (n : ℕ). IsStreamed (after_dial (flow_to_host h) (dialed.Stream n) g) (GotPacket (packet payload) ∷ log) port
           (with_dialed (flow_to_host h) h n s).table lines) (sym (dialed_id path stream g (sym is)))
-          (dial_host g log (GotPacket (packet payload) ∷ log) port s.table lines x (flow_to_host h) h outside (quiet_flow payload log fair few request)
+          (dial_host g log (GotPacket (packet payload) ∷ log) port s.table lines x (flow_to_host h) h outside (quiet_flow payload log was.seated fair few request)
           (got_passes Device (packet payload) log (flow_to_host h) refl) (λ f. sym (put_after_got Device (packet payload) log f))
           (got_nothing (packet payload) log (whole.none (request_empty (packet payload) request))) (passed_after_got Device (packet payload) log))) made tells
       dial_by path dialed.Refused d made outside plain request kind place = dials path dialed.Refused d called (with_reply (reply_to (flow_to_host h) h) s) false
@@ -381,7 +382,7 @@ module _ (ok : Type 0) (lines : List Handshake) (first port : ℕ) (s : DeviceSt
       unknown : (b : Bool) → is_reset h ≡ b → Keeps Heard (cond b (Done (s, verdict.Ignore))
           (cond (is_of Stream h && (h.op == 1)) (try_request h s)
           (Done (with_reply (reply_to (flow_to_host h) h) s, verdict.Rst (unknown_why h))))) c
-      unknown true is = quiet s verdict.Ignore c refl refl (λ payload log was fair. ignores_it first port s
+      unknown true is = quiet s verdict.Ignore c refl refl (λ payload log was fair. ignores_it carry first port s
           (packet payload) log was fair wire kept none is) passes tells
       unknown false is = requested (is_of Stream h && (h.op == 1)) refl is
 
@@ -405,6 +406,6 @@ module _ (ok : Type 0) (lines : List Handshake) (first port : ℕ) (s : DeviceSt
             | Some e ↦ bind (on_known (verdict_of e.value.end h) chain h e s) (λ t. Done (t, verdict_of e.value.end h))
           ])) c
       by true is = quiet (record s { dropped = counted s.dropped }) verdict.Ignore c refl refl
-          (λ payload log was fair. drops_it first port s (packet payload) log was fair wire is) (λ payload log was fair whole few g x.
+          (λ payload log was fair. drops_it carry first port s (packet payload) log was fair wire is) (λ payload log was fair whole few g x.
           passes_streams g log port s.table lines x was.fits.sound (packet payload) whole (idle payload log was fair few is)) tells
       by false is = by_entry is (entry_of s.table (flow_to_host h)) refl c tells

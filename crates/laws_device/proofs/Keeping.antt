@@ -1,28 +1,36 @@
 -- What a conversation keeps of its ring: what holds at each of its ends, where each of its calls on the ring may be made.
-use Rattle.std.proofs.Common.{ℕ, zero, suc, ◌<◌, Bool, true, false, List, [], ◌∷◌, Contains, subst}
+use Rattle.std.proofs.Common.{◌≡◌, ℕ, zero, suc, ◌<◌, ◌^◌, Bool, true, false, List, [], ◌∷◌, Contains, subst}
 use Rattle.std.specs.Option.{ForSome}
 use Rattle.vs_contents.specs.CallTree.{Done, Ask, bind, for_each, while_up_to}
 use Rattle.vs_ring_port.specs.{Chains.chains_of, Contents.RingContents, Contents.DeviceCall, Contents.Take, Contents.Read, Contents.Write}
 use Rattle.vs_ring_port.specs.{Contents.Return, Contents.Given, Contents.PublishCid, DeviceCalls.CanReturn, DeviceCalls.LeavesNoGap}
-use Rattle.vs_ring_port.specs.declared.device_ring.Chain.{Chain}
-use Rattle.vs_device_parts.specs.Calls.{Call, Answer, Ring, Accept, Dial, Label, ReadStream, WriteStream, ShutWrite, CloseStream}
-use Rattle.vs_device_parts.specs.{Calls.DeviceTree, Calls.Situation, Calls.Allows, Playing.Runs}
+use Rattle.vs_ring_port.specs.{declared.device_ring.Chain.Chain, Contents.DeviceAnswer, DeviceCalls.DeviceAllows}
+use Rattle.vs_ring_port.specs.declared.queue.Queue.TheVariants.{Tx}
+use Rattle.vs_header.specs.{Packet.header_of, declared.TheConstants.HEADER_LEN}
+use Rattle.laws_device.specs.Honest.{is_held}
+use Rattle.vs_page.specs.Held.{FitsWire}
+use Rattle.vs_page.proofs.Holding.{header_fits}
+use Rattle.vs_device_parts.specs.Calls.{IsFitAnswer, Call, Answer, Ring, Accept, Dial, Label, ReadStream, WriteStream, ShutWrite}
+use Rattle.vs_device_parts.specs.{Calls.CloseStream, Calls.DeviceTree, Calls.Situation, Calls.Allows, Playing.Runs}
 use Rattle.laws_device_streams.specs.Split.{CanPut, MayPut}
 
 -- The chain is among those that are held.
 abbrev pub HoldsChain : Chain → RingContents → Type 0
 HoldsChain chain c = ForSome c.log (λ l. Contains (chains_of l.held) chain)
 
--- What the ring asks of a call, and what the call leaves of it. A chain that is returned is held.
+-- What the ring asks of a call, and what the call leaves of it. A chain that is returned is held, and none of tx is written. At its front a
+-- chain of tx is read that is held, by a header.
 abbrev pub Can : Call → RingContents → Type 0
-Can (Ring (Write chain place bytes)) c = LeavesNoGap chain place c
+Can (Ring (Read chain place count)) c = place ≡ 0 → (count ≡ HEADER_LEN) × (chain.queue ≡ Tx) × ForSome c.log (λ l. is_held chain l.held ≡ true)
+Can (Ring (Write chain place bytes)) c = LeavesNoGap chain place c × (chain.queue ≡ Tx → ⊥)
 Can (Ring (Return chain len)) c = (0 < len → CanReturn chain len c) × HoldsChain chain c
+Can (Ring (PublishCid cid)) c = cid < 2 ^ 64
 Can _ c = Unit {0}
 
 can_ring : (call : DeviceCall) (s : Situation) → Can (Ring call) s.ring → CanPut (Ring call) s
 can_ring (Take queue) s can = tt
 can_ring (Read chain place count) s can = tt
-can_ring (Write chain place bytes) s can = can
+can_ring (Write chain place bytes) s can = can.0
 can_ring (Return chain len) s can = can.0
 can_ring (Given queue) s can = tt
 can_ring (PublishCid cid) s can = tt
@@ -37,21 +45,48 @@ can_make (WriteStream stream bytes) s can = tt
 can_make (ShutWrite stream) s can = tt
 can_make (CloseStream stream) s can = tt
 
+-- What answers a call may get: of what is read at the front of a chain only that a header fits is asked.
+abbrev pub FitsAs : (call : DeviceCall) → DeviceAnswer call → Type 0
+FitsAs (Read chain place count) bytes = place ≡ 0 → FitsWire (header_of bytes)
+FitsAs call a = IsFitAnswer call a
+
+abbrev pub Lets : (call : Call) → Answer call → Situation → Situation → Type 0
+Lets (Ring call) a s t = DeviceAllows call a s.ring t.ring × (t.host ≡ s.host) × (t.faults ≡ s.faults) × FitsAs call a
+Lets call a s t = Allows call a s t
+
+fits_as : (call : DeviceCall) (a : DeviceAnswer call) → IsFitAnswer call a → FitsAs call a
+fits_as (Read chain place count) bytes fits = λ front. header_fits bytes fits
+fits_as (Take queue) a fits = fits
+fits_as (Write chain place bytes) a fits = fits
+fits_as (Return chain len) a fits = fits
+fits_as (Given queue) a fits = fits
+fits_as (PublishCid cid) a fits = fits
+
+pub lets : (call : Call) (a : Answer call) (s t : Situation) → Allows call a s t → Lets call a s t
+lets (Ring call) a s t allowed = (allowed.0, allowed.1, allowed.2, fits_as call a allowed.3)
+lets Accept a s t allowed = allowed
+lets (Dial path flow) a s t allowed = allowed
+lets (Label stream flow) a s t allowed = allowed
+lets (ReadStream stream n) a s t allowed = allowed
+lets (WriteStream stream bytes) a s t allowed = allowed
+lets (ShutWrite stream) a s t allowed = allowed
+lets (CloseStream stream) a s t allowed = allowed
+
 abbrev pub Keeps : {A : Type 0} → (A → Situation → Type 0) → DeviceTree A → Situation → Type 0
 Keeps Q (Done x) s = Q x s
-Keeps Q (Ask call next) s = Can call s.ring × ((a : Answer call) (t : Situation) → Allows call a s t → Keeps Q (next a) t)
+Keeps Q (Ask call next) s = Can call s.ring × ((a : Answer call) (t : Situation) → Lets call a s t → Keeps Q (next a) t)
 
 module _ {A : Type 0} (Q : A → Situation → Type 0) where
   pub keeps_put : (t : DeviceTree A) (s : Situation) → Keeps Q t s → MayPut t s
   keeps_put (Done x) s keeps = tt
-  keeps_put (Ask call next) s keeps = (can_make call s keeps.0, λ a d allowed. keeps_put (next a) d (keeps.1 a d allowed))
+  keeps_put (Ask call next) s keeps = (can_make call s keeps.0, λ a d allowed. keeps_put (next a) d (keeps.1 a d (lets call a s d allowed)))
 
   pub keeps_end : (t : DeviceTree A) (s d : Situation) (x : A) → Keeps Q t s → Runs t s x d → Q x d
   keeps_end (Done y) s d x keeps runs =
       let P : A → Type 0 = λ z. Q z s in
       let R : Situation → Type 0 = λ e. Q x e in
       subst R runs.1 (subst P runs.0 keeps)
-  keeps_end (Ask call next) s d x keeps runs = keeps_end (next runs.0) runs.1 d x (keeps.1 runs.0 runs.1 runs.2) runs.3
+  keeps_end (Ask call next) s d x keeps runs = keeps_end (next runs.0) runs.1 d x (keeps.1 runs.0 runs.1 (lets call runs.0 s runs.1 runs.2)) runs.3
 
   pub keeps_weaker : (R : A → Situation → Type 0) → ((x : A) (d : Situation) → Q x d → R x d) → (t : DeviceTree A) (c : Situation)
       → Keeps Q t c → Keeps R t c

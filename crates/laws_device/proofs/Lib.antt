@@ -1,8 +1,10 @@
 pub mod Keeping
+pub mod Seats
 pub mod Shown
 pub mod Fits
 pub mod Bytes
 pub mod Tabling
+pub mod Chains
 pub mod Changing
 pub mod Putting
 pub mod Ringing
@@ -14,4 +16,5 @@ pub mod Taking
 pub mod Hearing
 pub mod Transmitting
 pub mod Turning
+pub mod Stepping
 pub mod Packets

@@ -16,8 +16,8 @@ use Rattle.vs_ring_port.specs.declared.queue.Queue.TheVariants.{Event, Rx, Tx}
 use Rattle.vs_device_parts.specs.{Calls.Allows, Calls.Ring, Calls.Situation, Playing.Runs, Receiving.event_on, Receiving.written}
 use Rattle.vs_device_parts.specs.State.{DeviceState}
 use Rattle.laws_device.specs.Packets.{HasAdded, HasTaken, HoldsLast, IsWholeAs, packet_with}
-use Rattle.laws_device.proofs.Ringing.{both_written, bytes_held, one_written, returned_entries, returned_held, written_held}
-use Rattle.laws_device.proofs.Transmitting.{some_test}
+use Rattle.laws_device.proofs.{Chains.both_written, Chains.first_written, Ringing.bytes_held, Ringing.returned_entries}
+use Rattle.laws_device.proofs.{Ringing.returned_held, Ringing.written_held, Transmitting.some_test}
 use Rattle.vs_ring_port.specs.declared.device_ring.Next.TheVariants as next
 
 -- What a call does to the log, between the logs before and after it.
@@ -93,7 +93,7 @@ puts_one chain others h [] a b rx whole first (x, c, one, (y, d, two, (done, end
     let one_is = writes chain others [] (header_bytes h) 0 a c first one in
     let bytes : List ℕ = overwritten [] 0 (header_bytes h) in
     let two_is = returns chain others rx h [] whole bytes HEADER_LEN c d
-    (one_written (header_bytes h) HEADER_LEN refl ∙ sym (append-nil (header_bytes h)))
+    (first_written [] (header_bytes h) HEADER_LEN refl ∙ sym (append-nil (header_bytes h)))
     (told chain others bytes a.ring.log c.ring.log one_is) two in
     subst (λ (s : Situation). Relates a.ring.log s.ring.log (HasAdded (PutPacket (packet_with h [])) others)) end
     (last chain others rx h [] whole bytes a.ring.log c.ring.log d.ring.log one_is two_is)
@@ -104,7 +104,7 @@ puts_one chain others h (z ∷ zs) a b rx whole first (x, c, one, (y, d, two, (w
     let two_is = writes chain others bytes (z ∷ zs) HEADER_LEN c d (told chain others bytes a.ring.log c.ring.log one_is) two in
     let both_is = again chain others bytes all a.ring.log c.ring.log d.ring.log one_is two_is in
     let three_is = returns chain others rx h (z ∷ zs) whole all (HEADER_LEN + length (z ∷ zs)) d e
-    (both_written (header_bytes h) (z ∷ zs) HEADER_LEN refl)
+    (both_written bytes (header_bytes h) (z ∷ zs) HEADER_LEN (first_written [] (header_bytes h) HEADER_LEN refl) refl)
     (told chain others all c.ring.log d.ring.log two_is) three in
     subst (λ (s : Situation). Relates a.ring.log s.ring.log (HasAdded (PutPacket (packet_with h (z ∷ zs))) others)) end
     (last chain others rx h (z ∷ zs) whole all a.ring.log d.ring.log e.ring.log both_is three_is)

@@ -1,6 +1,6 @@
 -- The steps at which the device puts a packet: payload is sent, what is owed is paid, a reply is given.
-use Rattle.std.proofs.lemmas.List.{append-nil}
-use Rattle.std.proofs.Common.{◌≡◌, ℕ, suc, ◌<◌, ◌^◌, false, List, [], ◌∷◌, ◌++◌, length, Contains, Some, refl, sym, ap, subst, ◌∙◌, arith}
+use Rattle.std.proofs.{lemmas.List.append-nil, Common.◌≡◌, Common.ℕ, Common.suc, Common.◌<◌, Common.◌^◌, Common.false, Common.List}
+use Rattle.std.proofs.Common.{[], ◌∷◌, ◌++◌, length, Contains, Some, refl, sym, ap, subst, ◌∙◌, arith}
 use Rattle.std.specs.List.{All}
 use Rattle.vs_conn.specs.{Headers.owed_flags, Headers.owed_header, Headers.owed_op, Headers.payload_header, declared.end.Owed.Owed}
 use Rattle.vs_conn.specs.{End.CanSend, End.ConnectionEnd, End.owes_of, End.paid_of, End.with_payload_sent, Follows.FitsMessage}
@@ -12,19 +12,20 @@ use Rattle.vs_page.specs.{Fair.IsFairLog, Held.FitsWire, Held.packet_held, Log.D
 use Rattle.vs_page.specs.declared.log.LogEntry.TheVariants.{PutPacket}
 use Rattle.vs_replies.specs.declared.Reply.{Reply}
 use Rattle.laws_tables.specs.{Ends.Ends, Ends.is_new, Matches.Matches, Steps.owed_on, Steps.paid, Steps.payload_on, Steps.with_end}
+use Rattle.laws_tables.specs.Both.{Pays, Replies, Seat, Sends}
 use Rattle.laws_tables.proofs.Keeps.{owed_old, pays, pays_fair, replies, replies_fair, sends, sends_fair}
 use Rattle.laws_tables.proofs.OwedFlags.{owed_flags_fit}
+use Rattle.laws_device.proofs.{Seats.Carried, Seats.at_log, Seats.seat, Bytes.header_fits, Bytes.reset_fits, Fits.fits_paid, Fits.fits_sent}
+use Rattle.laws_device.proofs.Tabling.{begun_fits, connection_ends, connection_fits, entry_fits, has_end, left_ends, left_fits}
 use Rattle.vs_device_parts.specs.{Connections.route_to_guest, Connections.with_connection, Receiving.reply_header, State.DeviceConnection}
 use Rattle.vs_device_parts.specs.State.{DeviceEntry, DeviceState}
 use Rattle.laws_device.specs.Honest.{HoldsBytes, IsFit, IsFitEntry, IsFitReply, IsFitState, ends_of_state, ends_with}
 use Rattle.vs_page.proofs.Packets.{held_alone, held_payload}
-use Rattle.laws_device.proofs.{Bytes.header_fits, Bytes.reset_fits, Fits.fits_paid, Fits.fits_sent, Tabling.begun_fits}
-use Rattle.laws_device.proofs.Tabling.{connection_ends, connection_fits, entry_fits, has_end, left_ends, left_fits}
 use Rattle.vs_conn.specs.declared.end.Owed.TheVariants as owed
 use Rattle.vs_header.specs.declared.Op.TheVariants as op
 
 -- What a step does that puts the packet with this header and payload.
-pub record PutsTo (port : ℕ) (h : Header) (payload : List ℕ) (cid overrun : ℕ) (table : Table DeviceConnection) (replies : List Reply)
+pub record PutsTo (carry : Carried) (port : ℕ) (h : Header) (payload : List ℕ) (cid overrun : ℕ) (table : Table DeviceConnection) (replies : List Reply)
     (cid' overrun' : ℕ) (table' : Table DeviceConnection) (replies' : List Reply) : Type 0 where
   pub held : packet_held (header_bytes h ++ payload) ≡ (let p : Packet = record { header = h; payload = payload } in Some p)
   pub fits : IsFit cid' table' replies'
@@ -33,18 +34,20 @@ pub record PutsTo (port : ℕ) (h : Header) (payload : List ℕ) (cid overrun : 
       → Matches Device first (ends_with port cid' table' replies') (PutPacket (record { header = h; payload = payload }) ∷ log)
   pub fair : (first : ℕ) (log : Log) → Matches Device first (ends_with port cid table replies) log → IsFairLog Device log
       → IsFairLog Device (PutPacket (record { header = h; payload = payload }) ∷ log)
+  pub goes : (log : Log) → carry.holds (record { part = ends_with port cid table replies; log = log })
+      → carry.holds (record { part = ends_with port cid' table' replies'; log = PutPacket (record { header = h; payload = payload }) ∷ log })
 
-abbrev pub Puts : ℕ → DeviceState → Header → List ℕ → DeviceState → Type 0
-Puts port s h payload t = PutsTo port h payload s.cid s.overrun s.table s.replies t.cid t.overrun t.table t.replies
+abbrev pub Puts : Carried → ℕ → DeviceState → Header → List ℕ → DeviceState → Type 0
+Puts carry port s h payload t = PutsTo carry port h payload s.cid s.overrun s.table s.replies t.cid t.overrun t.table t.replies
 
 held_empty : (h : Header) → FitsWire h → h.len ≡ 0 → packet_held (header_bytes h ++ []) ≡
     (let p : Packet = record { header = h; payload = [] } in Some p)
 held_empty h wire none = ap packet_held (append-nil (header_bytes h)) ∙ held_alone h wire none
 
-module _ (port : ℕ) (s : DeviceState) (fits : IsFitState s) where
+module _ (carry : Carried) (port : ℕ) (s : DeviceState) (fits : IsFitState s) where
   -- The oldest reply.
   pub reply_puts : (reply : Reply) (rest : List Reply) → s.replies ≡ reply ∷ rest
-      → Puts port s (reply_header reply s) [] (record s { replies = rest })
+      → Puts carry port s (reply_header reply s) [] (record s { replies = rest })
   reply_puts reply rest is =
       let owed : All IsFitReply (reply ∷ rest) = subst (λ (rs : List Reply). All IsFitReply rs) is fits.owed in
       let wire = reset_fits s.cid reply.flow reply.kind fits.cid_fits (owed 0 reply (omega arith)) in
@@ -60,6 +63,7 @@ module _ (port : ℕ) (s : DeviceState) (fits : IsFitState s) where
         overrun_is = refl;
         matches = λ first log m. replies Device first s.cid reply rest (ends_of_state port s) log m is;
         fair = λ first log m fair. replies_fair Device first s.cid reply rest (ends_of_state port s) log m fair is;
+        goes = λ log was. carry.step (Replies reply rest) (seat port s log) is (λ all. (wire, all)) was;
       }
 
   module _ (e : DeviceEntry) (there : Contains s.table.entries e) where
@@ -68,7 +72,7 @@ module _ (port : ℕ) (s : DeviceState) (fits : IsFitState s) where
 
     -- Payload.
     pub send_puts : (payload : List ℕ) → CanSend e.value.end (length payload) → length payload < 2 ^ 32 → is_new e.value.end ≡ false
-        → Puts port s (payload_header e.value.end (route_to_guest s.cid e.flow) (length payload)) payload
+        → Puts carry port s (payload_header e.value.end (route_to_guest s.cid e.flow) (length payload)) payload
         (with_connection e.slot (record e.value { end = with_payload_sent e.value.end (length payload) }) s)
     send_puts payload can small begun =
         let end : ConnectionEnd = e.value.end in
@@ -91,6 +95,9 @@ module _ (port : ℕ) (s : DeviceState) (fits : IsFitState s) where
               (fits_message log));
           fair = λ first log m fair. sends_fair Device first s.cid e.flow end payload (ends_of_state port s) log m fair
               (has_end s fits e there port) can (fits_message log);
+          goes = λ log was.
+              subst (λ (w : Seat). carry.holds w) (at_log (PutPacket (payload_on Device s.cid e.flow end payload) ∷ log) _ _ (sym (connection_ends s fits e there port now)))
+              (carry.step (Sends e.flow end payload) (seat port s log) (has_end s fits e there port, can, fits_message log) (λ all. (wire, all)) was);
         }
 
     -- What is owed.
@@ -105,7 +112,7 @@ module _ (port : ℕ) (s : DeviceState) (fits : IsFitState s) where
 
       pays_to : (t : DeviceState) → IsFitState t → t.overrun ≡ s.overrun → paid e.flow e.value.end what
           (ends_of_state port s) ≡ ends_of_state port t
-          → Puts port s (owed_header e.value.end (route_to_guest s.cid e.flow) what) [] t
+          → Puts carry port s (owed_header e.value.end (route_to_guest s.cid e.flow) what) [] t
       pays_to t fit over is = record {
         held = held_empty (owed_header e.value.end (route_to_guest s.cid e.flow) what) wire refl;
         fits = fit;
@@ -115,12 +122,15 @@ module _ (port : ℕ) (s : DeviceState) (fits : IsFitState s) where
             (pays Device first s.cid e.flow e.value.end what (ends_of_state port s) log m (has_end s fits e there port) owes);
         fair = λ first log m fair. pays_fair Device first s.cid e.flow e.value.end what (ends_of_state port s) log m fair
             (has_end s fits e there port) owes;
+        goes = λ log was.
+            subst (λ (w : Seat). carry.holds w) (at_log (PutPacket (owed_on Device s.cid e.flow e.value.end what) ∷ log) _ _ is)
+            (carry.step (Pays e.flow e.value.end what) (seat port s log) (has_end s fits e there port, owes) (λ all. (wire, all)) was);
       }
 
       -- The connection stays.
       pub owed_puts : (c : DeviceConnection) → c.end ≡ paid_of e.value.end what → c.pending ≡ e.value.pending
           → paid e.flow e.value.end what (ends_of_state port s) ≡ with_end e.flow (paid_of e.value.end what) (ends_of_state port s)
-          → Puts port s (owed_header e.value.end (route_to_guest s.cid e.flow) what) [] (with_connection e.slot c s)
+          → Puts carry port s (owed_header e.value.end (route_to_guest s.cid e.flow) what) [] (with_connection e.slot c s)
       owed_puts c is pending stays =
           pays_to (with_connection e.slot c s)
           (connection_fits s fits e.slot c (begun_fits c
@@ -135,7 +145,7 @@ module _ (port : ℕ) (s : DeviceState) (fits : IsFitState s) where
 
       -- It leaves.
       pub rst_puts : what ≡ owed.Rst → (c : DeviceConnection)
-          → Puts port s (owed_header e.value.end (route_to_guest s.cid e.flow) what) []
+          → Puts carry port s (owed_header e.value.end (route_to_guest s.cid e.flow) what) []
           (record s { table = without (with_value s.table e.slot c) e.slot })
       rst_puts rst c = pays_to (record s { table = without (with_value s.table e.slot c) e.slot }) (left_fits s fits e there c) refl
           (ap (λ (w : Owed). paid e.flow e.value.end w (ends_of_state port s)) rst ∙ sym (left_ends s fits e there port c))

@@ -1,17 +1,17 @@
 -- What a call on a ring that tells its log keeps.
-use Rattle.std.proofs.Common.{◌≡◌, ℕ, ◌+◌, ◌≤◌, Bool, true, cond, List, [], ◌∷◌, ◌++◌, Contains, length, take, drop, Option, Some, None}
-use Rattle.std.proofs.Common.{refl, sym, ap, subst, ◌∙◌, arith, length-append}
-use Rattle.std.proofs.lemmas.{Bool.Decides.nat_tests, List.take_at}
+use Rattle.std.proofs.Common.{◌≡◌, ℕ, ◌+◌, ◌≤◌, Bool, true, cond, List, ◌∷◌, ◌++◌, Contains, length, take, drop, Option, Some, None, refl}
+use Rattle.std.proofs.{Common.sym, Common.ap, Common.subst, Common.◌∙◌, Common.arith, Common.length-append, lemmas.Bool.Decides.nat_tests}
 use Rattle.std.specs.Option.{ForSome}
 use Rattle.vs_contents.specs.Contents.{Exposes}
 use Rattle.vs_outside.specs.Host.{HostContents}
 use Rattle.vs_device_parts.specs.Calls.{HostMoves, Situation}
+use Rattle.laws_device.specs.Honest.{is_held}
 use Rattle.vs_page.specs.{Fair.IsFairLog, Log.Device, Overwriting.overwritten}
 use Rattle.vs_ring_port.specs.Chains.{Held, bytes_in, chains_of, same_chain, same_queue, with_bytes, without_held}
 use Rattle.vs_ring_port.specs.{Contents.RingContents, Contents.DeviceCall, Contents.DeviceAnswer, DeviceCalls.DeviceMoves, EndLog.EndLog}
 use Rattle.vs_ring_port.specs.{EndLog.entries_returned, EndLog.log_returned, EndLog.log_written, Lists.Rings}
-use Rattle.vs_ring_port.specs.declared.{device_ring.Chain.Chain, queue.Queue.Queue, queue.Queue.TheVariants.Rx, queue.Queue.TheVariants.Tx}
-use Rattle.vs_ring_port.specs.declared.queue.Queue.TheVariants.{Event}
+use Rattle.vs_ring_port.specs.{declared.device_ring.Chain.Chain, declared.queue.Queue.Queue, declared.queue.Queue.TheVariants.Rx}
+use Rattle.vs_ring_port.specs.declared.queue.Queue.TheVariants.{Tx, Event}
 
 -- P holds of the log that a ring tells; it depends on whether the ring is honest, and on what the host exposes.
 abbrev pub Telling : Type 1
@@ -65,6 +65,9 @@ pub first_there : (chain : Chain) (bytes : List ℕ) (others : List Held) (l : E
 first_there chain bytes others l is =
     subst (λ (held : List Held). Contains (chains_of held) chain) (sym is) (0, omega arith, refl)
 
+pub first_is_held : (chain : Chain) (bytes : List ℕ) (others : List Held) (l : EndLog) → HoldsFirst chain bytes others l → is_held chain l.held ≡ true
+first_is_held chain bytes others l is = ap (is_held chain) is ∙ ap (λ (b : Bool). cond b true (is_held chain others)) (same_self chain)
+
 pub first_bytes : (chain : Chain) (bytes : List ℕ) (others : List Held) → bytes_in chain
     (record { chain = chain; bytes = bytes } ∷ others) ≡ bytes
 first_bytes chain bytes others = ap (λ (b : Bool). cond b bytes (bytes_in chain others)) (same_self chain)
@@ -96,17 +99,6 @@ pub returned_entries : (chain : Chain) (queue : Queue) (bytes : List ℕ) (len :
 returned_entries chain queue bytes len others l is held =
     ap (λ (q : Queue). entries_returned q (take len (bytes_in chain l.held)) l.entries) is
     ∙ ap (λ (b : List ℕ). entries_returned queue (take len b) l.entries) (bytes_held chain bytes others l held)
-
--- What was written is there.
-pub one_written : (new : List ℕ) (n : ℕ) → length new ≡ n → take n (overwritten [] 0 new) ≡ new
-one_written new n len = take_at new (drop (0 + length new) []) n len
-
-pub both_written : (new more : List ℕ) (n : ℕ) → length new ≡ n → take (n + length more)
-    (overwritten (overwritten [] 0 new) n more) ≡ new ++ more
-both_written new more n len =
-    let rest = drop (n + length more) (overwritten [] 0 new) in
-    ap (λ (xs : List ℕ). take (n + length more) (xs ++ more ++ rest)) (one_written new n len)
-    ∙ take_at (new ++ more) rest (n + length more) (length-append new more ∙ ap (λ (k : ℕ). k + length more) len)
 
 pub overwritten_long : (old new : List ℕ) (n : ℕ) → length (take n old) ≡ n → n + length new ≤ length (overwritten old n new)
 overwritten_long old new n first =

@@ -1,16 +1,16 @@
 -- Steps of the device between its calls on the ring, and the chain that it takes for a packet.
-use Rattle.std.proofs.Common.{◌≡◌, ℕ, Bool, true, false, not, cond, List, [], ◌∷◌, Option, Some, None, refl, sym, ap, subst, ◌∙◌, IfSome}
-use Rattle.std.proofs.Common.{inl, inr}
+use Rattle.std.proofs.Common.{◌≡◌, ℕ, Bool, true, false, not, cond, List, [], Option, Some, None, refl, sym, subst, ◌∙◌, IfSome, inl, inr}
 use Rattle.vs_contents.specs.CallTree.{Done, Ask, bind}
-use Rattle.vs_ring_port.specs.{Chains.Held, Contents.Take, DeviceCalls.IsTakenAs, EndLog.EndLog, EndLog.log_taken}
-use Rattle.vs_ring_port.specs.declared.{device_ring.Chain.Chain, device_ring.Next.Next, queue.Queue.TheVariants.Rx}
-use Rattle.vs_device_parts.specs.Calls.{CloseStream, DeviceTree, Allows, HostMoves, Ring, Situation}
+use Rattle.vs_ring_port.specs.{Contents.Take, DeviceCalls.IsTakenAs, EndLog.EndLog, EndLog.log_taken, declared.device_ring.Chain.Chain}
+use Rattle.vs_ring_port.specs.{declared.device_ring.Next.Next, declared.queue.Queue.TheVariants.Rx}
+use Rattle.vs_device_parts.specs.Calls.{CloseStream, DeviceTree, HostMoves, Ring, Situation}
 use Rattle.vs_device_parts.specs.{Connections.with_connection, Playing.IsRxChain, State.DeviceConnection, State.DeviceEntry}
 use Rattle.vs_device_parts.specs.{State.DeviceState, Streams.closing, Transmitting.failing, Receiving.Filling, Receiving.hold}
 use Rattle.vs_device_parts.specs.Receiving.{holding}
-use Rattle.laws_device.specs.Honest.{IsFitState, unwritten}
-use Rattle.laws_device.proofs.{Changing.Changes, Keeping.Goes, Keeping.Keeps, Ringing.moves, Ringing.host_moves, Ringing.tells_weaker}
-use Rattle.laws_device.proofs.Carrying.{Closes, Fact, IsToldBy, StreamedOver, With, streams_call, streams_go}
+use Rattle.laws_device.specs.Honest.{IsFitState}
+use Rattle.laws_device.proofs.{Chains.Among, Chains.is_unwritten, Chains.taken_holds, Seats.Carried, Changing.Changes, Keeping.Goes}
+use Rattle.laws_device.proofs.{Keeping.Keeps, Keeping.Lets, Ringing.moves, Ringing.host_moves, Ringing.tells_weaker, Carrying.Closes}
+use Rattle.laws_device.proofs.Carrying.{Fact, IsToldBy, StreamedOver, With, streams_call, streams_go}
 use Rattle.vs_proxy_parts.specs.State.{Handshake}
 use Rattle.vs_outside.specs.Host.{HostContents}
 use Rattle.laws_device_bytes.specs.Streamed.{IsStreamed}
@@ -18,45 +18,46 @@ use Rattle.vs_page.specs.Log.{Log}
 use Rattle.vs_flow.specs.Table.{Table}
 use Rattle.vs_ring_port.specs.declared.device_ring.Next.TheVariants as next
 
-module _ (ok : Type 0) (lines : List Handshake) (first port : ℕ) where
+module _ (carry : Carried) (lines : List Handshake) (first port : ℕ) where
   abbrev Streamed : Table DeviceConnection → Fact
-  Streamed t = StreamedOver ok lines first port t
+  Streamed t = StreamedOver carry lines first port t
 
   pub told_changed : (s t : DeviceState) (F G : Fact) (hon : Bool) (o n : Option HostContents) (l : EndLog) → t.chain ≡ s.chain → t.failed ≡ s.failed
-      → (IsFitState s → Changes port s t) → (IsFitState s → F o l.entries → G n l.entries) → IsToldBy F first port s hon o l → IsToldBy G first port t hon n l
+      → (IsFitState s → Changes carry port s t) → (IsFitState s → F o l.entries → G n l.entries) → IsToldBy carry F first port s hon o l → IsToldBy carry G first port t hon n l
   told_changed s t F G hon o n l chain failed step carries was = (
-    λ going. was.0 (sym failed ∙ going) ∙ sym (ap unwritten chain),
+    λ going. subst (λ (x : Option Chain). Among carry.others x l.held) (sym chain) (was.0 (sym failed ∙ going)),
     λ honest. let p = was.1 honest in let k = step p.0.fits in (
       record {
         fits = k.fits;
         none_overrun = k.overrun_is ∙ p.0.none_overrun;
         matches = k.matches first l.entries p.0.matches;
         fair = p.0.fair;
+        seated = k.goes l.entries p.0.seated;
       },
       carries p.0.fits p.1,
     ),
   )
 
   -- A step that puts and gets nothing, without a call on the host and with one.
-  pub changed : (s t : DeviceState) → t.chain ≡ s.chain → t.failed ≡ s.failed → (IsFitState s → Changes port s t)
+  pub changed : (s t : DeviceState) → t.chain ≡ s.chain → t.failed ≡ s.failed → (IsFitState s → Changes carry port s t)
       → (IsFitState s → (h : HostContents) (log : Log) → IsStreamed h log port s.table lines → IsStreamed h log port t.table lines) → (c : Situation)
-      → With ok lines first port s c → With ok lines first port t c
+      → With carry lines first port s c → With carry lines first port t c
   changed s t chain failed step carries c holds = (
     subst (λ (o : Option Chain). IfSome o IsRxChain) (sym chain) holds.0,
-    tells_weaker (IsToldBy (Streamed s.table) first port s) (IsToldBy (Streamed t.table) first port t) (λ hon o l was.
+    tells_weaker (IsToldBy carry (Streamed s.table) first port s) (IsToldBy carry (Streamed t.table) first port t) (λ hon o l was.
         told_changed s t (Streamed s.table) (Streamed t.table) hon o o l chain failed step (λ fits x.
-        streams_go ok first lines lines port port s.table t.table l.entries l.entries (λ few. few) (λ h few y. carries fits h l.entries y) o x) was) c holds.1,
+        streams_go carry first lines lines port port s.table t.table l.entries l.entries (λ few. few) (λ h few y. carries fits h l.entries y) o x) was) c holds.1,
   )
 
-  pub called_with : (s t : DeviceState) → t.chain ≡ s.chain → t.failed ≡ s.failed → (IsFitState s → Changes port s t) → (failed : Bool)
+  pub called_with : (s t : DeviceState) → t.chain ≡ s.chain → t.failed ≡ s.failed → (IsFitState s → Changes carry port s t) → (failed : Bool)
       (A : HostContents → Type 0) (f : HostContents → HostContents)
       → (IsFitState s → (h : HostContents) (log : Log) → A h → IsStreamed h log port s.table lines → IsStreamed (f h) log port t.table lines) → (c d : Situation)
-      → HostMoves failed A f c d → With ok lines first port s c → With ok lines first port t d
+      → HostMoves failed A f c d → With carry lines first port s c → With carry lines first port t d
   called_with s t chain failed step faults A f carries c d made holds = (
     subst (λ (o : Option Chain). IfSome o IsRxChain) (sym chain) holds.0,
-    host_moves faults A f c d made (IsToldBy (Streamed s.table) first port s) (IsToldBy (Streamed t.table) first port t) (λ hon o n l exposes was.
+    host_moves faults A f c d made (IsToldBy carry (Streamed s.table) first port s) (IsToldBy carry (Streamed t.table) first port t) (λ hon o n l exposes was.
         told_changed s t (Streamed s.table) (Streamed t.table) hon o n l chain failed step (λ fits x.
-        streams_call ok first lines lines port port s.table t.table l.entries l.entries (λ few. few) A f (λ h answers few y. carries fits h l.entries answers y) o n exposes x) was)
+        streams_call carry first lines lines port port s.table t.table l.entries l.entries (λ few. few) A f (λ h answers few y. carries fits h l.entries answers y) o n exposes x) was)
         holds.1,
   )
 
@@ -73,10 +74,10 @@ module _ (ok : Type 0) (lines : List Handshake) (first port : ℕ) where
 
   -- A stage that goes on, and one that may be over.
   abbrev pub Open : Filling → Situation → Type 0
-  Open r c = With ok lines first port r.state c × (r.state.failed ≡ None) × (r.over ≡ false)
+  Open r c = With carry lines first port r.state c × (r.state.failed ≡ None) × (r.over ≡ false)
 
   abbrev pub Filled : Filling → Situation → Type 0
-  Filled r c = With ok lines first port r.state c × (r.over ≡ false → r.state.failed ≡ None)
+  Filled r c = With carry lines first port r.state c × (r.over ≡ false → r.state.failed ≡ None)
 
   pub open_filled : (r : Filling) (c : Situation) → Open r c → Filled r c
   open_filled r c ready = (ready.0, λ going. ready.1)
@@ -92,58 +93,57 @@ module _ (ok : Type 0) (lines : List Handshake) (first port : ℕ) where
   abbrev with_chain : Option Chain → Filling → Filling
   with_chain o r = record r { state = record r.state { chain = o } }
 
-  took : (s : DeviceState) (answer : Next) (c d : Situation) → s.chain ≡ None → s.failed ≡ None → Allows (Ring (Take Rx)) answer c d → With ok lines first port s c → (r : Filling) → r.state ≡ s → With ok lines first port
+  took : (s : DeviceState) (answer : Next) (c d : Situation) → s.chain ≡ None → s.failed ≡ None → Lets (Ring (Take Rx)) answer c d → With carry lines first port s c → (r : Filling) → r.state ≡ s → With carry lines first port
       (holding answer r).state d
   took s (next.Chain chain) c d none going made holds r is =
-      let P : DeviceState → Type 0 = λ x. With ok lines first port (record x { chain = Some chain }) d in
+      let P : DeviceState → Type 0 = λ x. With carry lines first port (record x { chain = Some chain }) d in
       subst P (sym is) (
         (made.3.queue_is, made.3.long),
-        moves _ _ _ _ _ (log_taken Rx (next.Chain chain) made.0.0) c d made.0.1 made.1 (IsToldBy (Streamed s.table) first port s)
-            (IsToldBy (Streamed s.table) first port (record s { chain = Some chain }))
+        moves _ _ _ _ _ (log_taken Rx (next.Chain chain) made.0.0) c d made.0.1 made.1 (IsToldBy carry (Streamed s.table) first port s)
+            (IsToldBy carry (Streamed s.table) first port (record s { chain = Some chain }))
             (λ h o l asked was fair. taken_by made.0.0 h o l asked.0 was) holds.1,
       )
     where
-      taken_by : (page : Option (List ℕ)) (h : Bool) (o : Option HostContents) (l : EndLog) → IsTakenAs Rx (next.Chain chain) page → IsToldBy (Streamed s.table) first port s h o l
-          → IsToldBy (Streamed s.table) first port (record s { chain = Some chain }) h o (log_taken Rx (next.Chain chain) page l)
+      taken_by : (page : Option (List ℕ)) (h : Bool) (o : Option HostContents) (l : EndLog) → IsTakenAs Rx (next.Chain chain) page → IsToldBy carry (Streamed s.table) first port s h o l
+          → IsToldBy carry (Streamed s.table) first port (record s { chain = Some chain }) h o (log_taken Rx (next.Chain chain) page l)
       taken_by None h o l asked was = absurd asked
       taken_by (Some page) h o l asked was = (
-        λ still. ap (λ (held : List Held). let x : Held = record { chain = chain; bytes = [] } in x ∷ held)
-            (was.0 going ∙ ap unwritten none),
-        λ honest. let p = (was.1 honest).0 in (record { fits = p.fits; none_overrun = p.none_overrun; matches = p.matches; fair = p.fair }, (was.1 honest).1),
+        λ still. taken_holds chain [] is_unwritten carry.others l.held refl (subst (λ (x : Option Chain). Among carry.others x l.held) none (was.0 going)),
+        was.1,
       )
   took s next.None c d none going made holds r is =
-      let P : DeviceState → Type 0 = λ x. With ok lines first port x d in
+      let P : DeviceState → Type 0 = λ x. With carry lines first port x d in
       subst P (sym is) (
         holds.0,
-        moves _ _ _ _ _ (log_taken Rx next.None made.0.0) c d made.0.1 made.1 (IsToldBy (Streamed s.table) first port s) (IsToldBy (Streamed s.table) first port s)
+        moves _ _ _ _ _ (log_taken Rx next.None made.0.0) c d made.0.1 made.1 (IsToldBy carry (Streamed s.table) first port s) (IsToldBy carry (Streamed s.table) first port s)
             (λ h o l asked was fair. was) holds.1,
       )
   took s (next.Failed failure) c d none going made holds r is =
-      let P : DeviceState → Type 0 = λ x. With ok lines first port (failing failure x) d in
+      let P : DeviceState → Type 0 = λ x. With carry lines first port (failing failure x) d in
       subst P (sym is) (
         holds.0,
-        moves _ _ _ _ _ (log_taken Rx (next.Failed failure) made.0.0) c d made.0.1 made.1 (IsToldBy (Streamed s.table) first port s)
-            (IsToldBy (Streamed s.table) first port (failing failure s))
+        moves _ _ _ _ _ (log_taken Rx (next.Failed failure) made.0.0) c d made.0.1 made.1 (IsToldBy carry (Streamed s.table) first port s)
+            (IsToldBy carry (Streamed s.table) first port (failing failure s))
             (λ h o l asked was fair. (λ still. was.0 going, was.1)) holds.1,
       )
 
   module _ {A : Type 0} (Q : A → Situation → Type 0) (f : Filling → DeviceTree A) (r : Filling)
-      (some : (chain : Chain) (d : Situation) → With ok lines first port (record r.state { chain = Some chain }) d
+      (some : (chain : Chain) (d : Situation) → With carry lines first port (record r.state { chain = Some chain }) d
       → Keeps Q (f (record r { state = record r.state { chain = Some chain } })) d)
-      (none : (q : Filling) (d : Situation) → q.state.chain ≡ None → q.over ≡ true → With ok lines first port q.state d → Keeps Q (f q) d) where
-    answered : (answer : Next) (d : Situation) (is : r.state.chain ≡ None) → With ok lines first port (holding answer r).state d
+      (none : (q : Filling) (d : Situation) → q.state.chain ≡ None → q.over ≡ true → With carry lines first port q.state d → Keeps Q (f q) d) where
+    answered : (answer : Next) (d : Situation) (is : r.state.chain ≡ None) → With carry lines first port (holding answer r).state d
         → Keeps Q (f (holding answer (with_chain None r))) d
     answered (next.Chain chain) d is holds = some chain d holds
     answered next.None d is holds =
         none (record (with_chain None r) { over = true }) d refl refl
-        (subst (λ (o : Option Chain). With ok lines first port (record r.state { chain = o }) d) is holds)
+        (subst (λ (o : Option Chain). With carry lines first port (record r.state { chain = o }) d) is holds)
     answered (next.Failed failure) d is holds =
         none (record (with_chain None r) { state = failing failure (record r.state { chain = None }); over = true }) d refl refl
-        (subst (λ (o : Option Chain). With ok lines first port (failing failure (record r.state { chain = o })) d) is holds)
+        (subst (λ (o : Option Chain). With carry lines first port (failing failure (record r.state { chain = o })) d) is holds)
 
     pub hold_keeps : (c : Situation) → Open r c → Keeps Q (bind (hold r) f) c
     hold_keeps c ready = by r.state.chain refl
       where
         by : (o : Option Chain) → r.state.chain ≡ o → Keeps Q (bind (hold (with_chain o r)) f) c
-        by (Some chain) is = some chain c (subst (λ (o : Option Chain). With ok lines first port (record r.state { chain = o }) c) is ready.0)
+        by (Some chain) is = some chain c (subst (λ (o : Option Chain). With carry lines first port (record r.state { chain = o }) c) is ready.0)
         by None is = (tt, λ answer d made. answered answer d is (took r.state answer c d is ready.1 made ready.0 r refl))

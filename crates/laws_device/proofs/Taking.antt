@@ -1,6 +1,6 @@
 -- A packet that is got: the device's connections are those that the log with it leaves.
 use Rattle.std.proofs.Common.{◌≡◌, ℕ, ◌&&◌, Bool, true, false, cond, List, [], ◌∷◌, Contains, None, refl, sym, ap, subst, ◌∙◌, arith}
-use Rattle.std.proofs.lemmas.List.Elements.{All-push}
+use Rattle.std.proofs.{lemmas.List.Elements.All-push, lemmas.Bool.Decides.nat_tests, lemmas.Grind.common_steps}
 use Rattle.vs_conn.specs.{End.ConnectionEnd, End.answering, End.end_after, End.is_reset, End.is_of, End.verdict_of, Follows.IsTaken}
 use Rattle.vs_conn.proofs.Frames.{got_kind}
 use Rattle.laws_history.specs.{Packets.is_request, Packets.is_rst, declared.packet.Packet.Packet}
@@ -10,16 +10,19 @@ use Rattle.vs_flow.proofs.Tables.{accepted}
 use Rattle.vs_page.specs.{Fair.IsFairLog, Held.FitsWire, Log.Device, Log.Log, Log.flow_to_host, Log.side_of, Open.is_dropped}
 use Rattle.vs_page.specs.declared.log.LogEntry.TheVariants.{GotPacket}
 use Rattle.vs_replies.specs.Owed.{reply_to}
-use Rattle.laws_tables.specs.{Ends.Ends, Ends.FlowEnd, Heard.IsInOrder, Heard.heard_of, Matches.Matches}
-use Rattle.laws_tables.specs.Steps.{HasEnd, HasNone, forgotten, is_kept, is_overrun, left, taken, with_clean, with_end}
-use Rattle.laws_tables.proofs.{Fair.got_in_order, Fair.got_is_taken, Slots.added_slot, Slots.no_entry}
-use Rattle.laws_tables.proofs.Keeps.{accepts, drops, forgets, has_room, ignores, refuses, takes}
+use Rattle.laws_tables.specs.{Ends.Ends, Ends.FlowEnd, Heard.IsInOrder, Heard.heard_of, Matches.Matches, Steps.HasEnd, Steps.HasNone}
+use Rattle.laws_tables.specs.Steps.{forgotten, is_kept, is_overrun, left, taken, with_clean, with_end}
+use Rattle.laws_tables.specs.Both.{Forgets, Seat, Takes, after, after_packet, after_taking, answered}
+use Rattle.laws_tables.specs.Ends.{answer_kind, ends_of}
+use Rattle.laws_tables.proofs.{Fair.got_in_order, Fair.got_is_taken, Slots.added_slot, Slots.no_entry, Keeps.accepts, Keeps.drops}
+use Rattle.laws_tables.proofs.Keeps.{forgets, has_room, ignores, refuses, takes}
 use Rattle.vs_device_parts.specs.Connections.{new_connection, with_connection, with_dialed, with_reply}
 use Rattle.vs_device_parts.specs.State.{DeviceConnection, DeviceEntry, DeviceState}
-use Rattle.laws_device.specs.Honest.{IsFitFlow, IsFitReply, IsLeft, ends_of_state, end_in}
-use Rattle.laws_device.proofs.Tabling.{IsFitConnection, begun_fits, connection_ends, connection_fits, has_end, left_ends, left_fits}
-use Rattle.laws_device.proofs.Tabling.{entry_fits, opening_fits}
+use Rattle.laws_device.specs.Honest.{IsFitFlow, IsFitReply, ends_of_state, end_in}
+use Rattle.laws_device.proofs.{Seats.Carried, Seats.LeftBy, Seats.at_log, Seats.seat, Tabling.IsFitConnection, Tabling.begun_fits}
+use Rattle.laws_device.proofs.Tabling.{connection_ends, connection_fits, has_end, left_ends, left_fits, entry_fits, opening_fits}
 use Rattle.vs_header.specs.declared.Kind.TheVariants.{Stream}
+use Rattle.laws_tables.specs.Steps.{accepted as accepted_as}
 
 -- What an RST leaves of an end that keeps no flow.
 pub forgotten_taken : (f : Flow) (after : ConnectionEnd) (part : Ends) → part.clean ≡ [] → (b kept : Bool)
@@ -28,16 +31,29 @@ forgotten_taken f after part none true true = ap (λ (fs : List Flow). let x : E
 forgotten_taken f after part none true false = ap (λ (fs : List Flow). let x : Ends = record (left f part) { clean = fs } in x) (sym none)
 forgotten_taken f after part none false kept = ap (λ (fs : List Flow). let x : Ends = record (with_end f after part) { clean = fs } in x) (sym none)
 
-module _ (first port : ℕ) (s : DeviceState) (p : Packet) (log : Log) (was : IsLeft first port s.cid s.overrun s.table s.replies log)
+module _ (carry : Carried) (first port : ℕ) (s : DeviceState) (p : Packet) (log : Log) (was : LeftBy carry first port s.cid s.overrun s.table s.replies log)
     (fair : IsFairLog Device (GotPacket p ∷ log)) (wire : FitsWire p.header) where
   abbrev pub Goes : DeviceState → Type 0
-  Goes t = IsLeft first port t.cid t.overrun t.table t.replies (GotPacket p ∷ log)
+  Goes t = LeftBy carry first port t.cid t.overrun t.table t.replies (GotPacket p ∷ log)
 
   order : IsInOrder (side_of Device (flow_to_host p.header)) (heard_of Device first (flow_to_host p.header) log) p
   order = got_in_order Device first p log (fair (flow_to_host p.header))
 
   comes : IsTaken p
   comes = got_is_taken Device p log (fair (flow_to_host p.header))
+
+  abbrev part : Ends
+  part = ends_of_state port s
+
+  abbrev flow_is : Flow
+  flow_is = flow_to_host p.header
+
+  -- It is a step of the seat, which keeps no flow to be used again.
+  goes_to : (t : DeviceState) (answer : Bool) → forgotten (after_taking Device p answer part) ≡ ends_of_state port t
+      → carry.holds (seat port t (GotPacket p ∷ log))
+  goes_to t answer is = subst (λ (w : Seat). carry.holds w) (at_log (GotPacket p ∷ log) _ _ is)
+      (carry.step Forgets (after Device (Takes p answer) (seat port s log)) tt (λ all. all)
+      (carry.step (Takes p answer) (seat port s log) tt (λ all. all) was.seated))
 
   -- A packet whose source isn't the guest, or whose destination isn't the host.
   pub drops_it : is_dropped Device s.cid p.header ≡ true → Goes s
@@ -46,9 +62,17 @@ module _ (first port : ℕ) (s : DeviceState) (p : Packet) (log : Log) (was : Is
     none_overrun = was.none_overrun;
     matches = drops Device first p (ends_of_state port s) log was.matches dropped (λ request. order);
     fair = fair;
+    seated = goes_to s false (ap (λ (b : Bool). forgotten (cond b part (after_packet Device (ends_of flow_is part.entries) p flow_is false part))) dropped);
   }
 
   module _ (kept : is_dropped Device s.cid p.header ≡ false) where
+    -- What it does by the ends of its flow.
+    taken_as : (ends : List ConnectionEnd) (answer : Bool) → ends_of flow_is part.entries ≡ ends
+        → forgotten (after_taking Device p answer part) ≡ forgotten (after_packet Device ends p flow_is answer part)
+    taken_as ends answer is =
+        ap (λ (b : Bool). forgotten (cond b part (after_packet Device (ends_of flow_is part.entries) p flow_is answer part))) kept
+        ∙ ap (λ (es : List ConnectionEnd). forgotten (after_packet Device es p flow_is answer part)) is
+
     -- A packet of a connection of the table.
     module _ (e : DeviceEntry) (there : Contains s.table.entries e) (flow : flow_to_host p.header ≡ e.flow) where
       has : HasEnd (flow_to_host p.header) e.value.end (ends_of_state port s)
@@ -67,31 +91,40 @@ module _ (first port : ℕ) (s : DeviceState) (p : Packet) (log : Log) (was : Is
           (subst (λ (f : Flow). Matches Device first (taken Device f e.value.end p (ends_of_state port s)) (GotPacket p ∷ log)) flow
           (takes Device first p e.value.end (ends_of_state port s) log was.matches kept has order comes)))
 
+      taken_is : forgotten (after_taking Device p false part) ≡ cond (is_rst p && is_of e.value.end.kind p.header) (left e.flow part)
+          (with_end e.flow (end_after e.value.end p.header) part)
+      taken_is =
+          taken_as (e.value.end ∷ []) false has ∙ ap (λ (f : Flow). forgotten (taken Device f e.value.end p part)) flow
+          ∙ forgotten_taken e.flow (end_after e.value.end p.header) part refl (is_rst p && is_of e.value.end.kind p.header) (is_kept Device e.flow e.value.end p)
+
       pub stays_with : (c : DeviceConnection) → c.end ≡ end_after e.value.end p.header → IsFitConnection c
           → (is_reset p.header && is_of e.value.end.kind p.header) ≡ false → Goes (with_connection e.slot c s)
-      stays_with c is held goes_on = record {
-        fits = connection_fits s was.fits e.slot c held
-            (ap (λ (x : ConnectionEnd). x.kind) is ∙ got_kind e.value.end p.header ∙ (entry_fits s was.fits e there).kind);
-        none_overrun = was.none_overrun;
-        matches = subst (λ (part : Ends). Matches Device first part (GotPacket p ∷ log))
-            (ap (λ (b : Bool). cond b (left e.flow (ends_of_state port s))
-            (with_end e.flow (end_after e.value.end p.header) (ends_of_state port s))) goes_on
-            ∙ ap (λ (x : ConnectionEnd). with_end e.flow x (ends_of_state port s)) (sym is) ∙ sym
-            (connection_ends s was.fits e there port c)) now;
-        fair = fair;
-      }
+      stays_with c is held goes_on =
+          let stays_is : cond (is_rst p && is_of e.value.end.kind p.header) (left e.flow part) (with_end e.flow (end_after e.value.end p.header) part)
+          ≡ ends_of_state port (with_connection e.slot c s) =
+          ap (λ (b : Bool). cond b (left e.flow part) (with_end e.flow (end_after e.value.end p.header) part)) goes_on
+          ∙ ap (λ (x : ConnectionEnd). with_end e.flow x part) (sym is) ∙ sym (connection_ends s was.fits e there port c) in record {
+            fits = connection_fits s was.fits e.slot c held
+                (ap (λ (x : ConnectionEnd). x.kind) is ∙ got_kind e.value.end p.header ∙ (entry_fits s was.fits e there).kind);
+            none_overrun = was.none_overrun;
+            matches = subst (λ (part : Ends). Matches Device first part (GotPacket p ∷ log)) stays_is now;
+            fair = fair;
+            seated = goes_to (with_connection e.slot c s) false (taken_is ∙ stays_is);
+          }
 
       pub leaves_with : (c : DeviceConnection) → (is_reset p.header && is_of e.value.end.kind p.header) ≡ true
           → Goes (record s { table = without (with_value s.table e.slot c) e.slot })
-      leaves_with c over = record {
-        fits = left_fits s was.fits e there c;
-        none_overrun = was.none_overrun;
-        matches = subst (λ (part : Ends). Matches Device first part (GotPacket p ∷ log))
-            (ap (λ (b : Bool). cond b (left e.flow (ends_of_state port s))
-            (with_end e.flow (end_after e.value.end p.header) (ends_of_state port s))) over
-            ∙ sym (left_ends s was.fits e there port c)) now;
-        fair = fair;
-      }
+      leaves_with c over =
+          let left_is : cond (is_rst p && is_of e.value.end.kind p.header) (left e.flow part) (with_end e.flow (end_after e.value.end p.header) part)
+          ≡ ends_of_state port (record s { table = without (with_value s.table e.slot c) e.slot }) =
+          ap (λ (b : Bool). cond b (left e.flow part) (with_end e.flow (end_after e.value.end p.header) part)) over
+          ∙ sym (left_ends s was.fits e there port c) in record {
+            fits = left_fits s was.fits e there c;
+            none_overrun = was.none_overrun;
+            matches = subst (λ (part : Ends). Matches Device first part (GotPacket p ∷ log)) left_is now;
+            fair = fair;
+            seated = goes_to (record s { table = without (with_value s.table e.slot c) e.slot }) false (taken_is ∙ left_is);
+          }
 
     -- A packet of another flow.
     module _ (none : entry_of s.table (flow_to_host p.header) ≡ None) where
@@ -116,7 +149,16 @@ module _ (first port : ℕ) (s : DeviceState) (p : Packet) (log : Log) (was : Is
                 (sym (added_slot end_in s.table f c)))
                 (accepts Device first Stream p (ends_of_state port s) log was.matches kept no_end order comes request kind);
             fair = fair;
+            seated = goes_to (with_dialed f p.header stream s) true
+                (taken_as [] true no_end
+                ∙ ap (λ (b : Bool). forgotten (cond b part (answered (is_request p) true p f part))) (not_both request)
+                ∙ ap (λ (b : Bool). forgotten (answered b true p f part)) request
+                ∙ ap (λ (n : ℕ). forgotten (accepted_as f (answer_kind n) p.header part)) kind
+                ∙ ap (λ (es : List FlowEnd). let x : Ends = record part { entries = es } in x) (sym (added_slot end_in s.table f c)));
           }
+        where
+          not_both : is_request p ≡ true → is_rst p ≡ false
+          not_both is = grind (arith, nat_tests, common_steps, is)
 
       pub replies_to : is_rst p ≡ false → Goes (with_reply (reply_to (flow_to_host p.header) p.header) s)
       replies_to plain = record {
@@ -129,7 +171,14 @@ module _ (first port : ℕ) (s : DeviceState) (p : Packet) (log : Log) (was : Is
         none_overrun = was.none_overrun;
         matches = refuses Device first p (ends_of_state port s) log was.matches kept no_end plain order;
         fair = fair;
+        seated = goes_to (with_reply (reply_to flow_is p.header) s) false
+            (taken_as [] false no_end ∙ ap (λ (b : Bool). forgotten (cond b part (answered (is_request p) false p flow_is part))) plain
+            ∙ answered_none (is_request p));
       }
+        where
+          answered_none : (b : Bool) → forgotten (answered b false p flow_is part) ≡ ends_of_state port (with_reply (reply_to flow_is p.header) s)
+          answered_none true = refl
+          answered_none false = refl
 
       pub ignores_it : is_rst p ≡ true → Goes s
       ignores_it rst = record {
@@ -137,4 +186,5 @@ module _ (first port : ℕ) (s : DeviceState) (p : Packet) (log : Log) (was : Is
         none_overrun = was.none_overrun;
         matches = ignores Device first p (ends_of_state port s) log was.matches kept no_end rst order;
         fair = fair;
+        seated = goes_to s false (taken_as [] false no_end ∙ ap (λ (b : Bool). forgotten (cond b part (answered (is_request p) false p flow_is part))) rst);
       }

@@ -10,19 +10,19 @@ use Rattle.vs_header.specs.declared.Op.TheVariants.{Rw}
 use Rattle.laws_history.specs.{Packets.size, declared.packet.Packet.Packet}
 use Rattle.vs_page.specs.{Fair.IsFairLog, Held.FitsWire, Held.packet_held, Held.packet_with, Held.payload_held, Held.IsWhole, Log.Device}
 use Rattle.vs_page.specs.{Log.Log, Log.flow_got, declared.log.LogEntry.TheVariants.GotPacket}
-use Rattle.vs_page.proofs.Holding.{header_fits, packet_whole}
+use Rattle.vs_page.proofs.Holding.{packet_whole}
 use Rattle.vs_ring_port.specs.{Chains.Held, Contents.Read, Contents.Return, Contents.Take, EndLog.EndLog, EndLog.log_returned}
 use Rattle.vs_ring_port.specs.{EndLog.log_taken, EndLog.with_packet, declared.device_ring.Chain.Chain, declared.device_ring.Next.Next}
 use Rattle.vs_ring_port.specs.{declared.failure.Failure.Failure, declared.queue.Queue.TheVariants.Tx, DeviceCalls.IsTakenAs}
 use Rattle.laws_tables.proofs.Fair.{got_formed}
-use Rattle.vs_device_parts.specs.{declared.answers.Taken.Taken, Calls.Ring, Calls.Allows, Calls.Situation, Playing.IsRxChain}
-use Rattle.vs_device_parts.specs.{State.DeviceState, Transmitting.failing, Transmitting.on_header, Transmitting.on_next}
-use Rattle.vs_device_parts.specs.Transmitting.{on_packet, take_tx_of}
+use Rattle.vs_device_parts.specs.{declared.answers.Taken.Taken, Calls.Ring, Calls.Situation, Playing.IsRxChain, State.DeviceState}
+use Rattle.vs_device_parts.specs.Transmitting.{failing, on_next, on_packet, take_tx_of}
+use Rattle.vs_device_parts.specs.Calls.{DeviceTree}
 use Rattle.vs_limits.specs.declared.TheConstants.{DEVICE_REPLIES}
-use Rattle.laws_device.specs.Honest.{IsLeft, unwritten}
-use Rattle.laws_device.proofs.Ringing.{HoldsFirst, Tells, bytes_held, first_there, moves, returned_entries, returned_held, tells_weaker}
-use Rattle.laws_device.proofs.{Ringing.Telling, Hearing.After, Hearing.Came, Hearing.Heard, Hearing.IsCome, Hearing.packet_keeps}
-use Rattle.laws_device.proofs.{Keeping.Keeps, Keeping.keeps_then, Carrying.Fact, Carrying.IsToldBy, Carrying.StreamedOver, Carrying.With}
+use Rattle.laws_device.proofs.{Chains.Among, Chains.Behind, Seats.Carried, Seats.LeftBy, Ringing.Tells, Ringing.bytes_held}
+use Rattle.laws_device.proofs.Ringing.{first_is_held, first_there, moves, returned_entries, returned_held, tells_weaker, Telling}
+use Rattle.laws_device.proofs.{Hearing.After, Hearing.Came, Hearing.Heard, Hearing.IsCome, Hearing.packet_keeps, Keeping.Keeps}
+use Rattle.laws_device.proofs.{Keeping.Lets, Keeping.keeps_then, Carrying.Fact, Carrying.IsToldBy, Carrying.StreamedOver, Carrying.With}
 use Rattle.vs_outside.specs.Host.{HostContents}
 use Rattle.vs_proxy_parts.specs.State.{Handshake}
 use Rattle.vs_ring_port.specs.declared.device_ring.Next.TheVariants as next
@@ -63,41 +63,41 @@ held_there page long fits none =
     none_by h rest (nat_le HEADER_LEN (length page)) (h.op == op_number Rw) (nat_le h.len (length rest))
     (grind (arith, nat_tests, long)) (grind (arith, nat_tests, within)) none
 
-module _ (ok : Type 0) (lines : List Handshake) (first port : ℕ) (s : DeviceState) where
+module _ (carry : Carried) (lines : List Handshake) (first port : ℕ) (s : DeviceState) where
   abbrev Streamed : Fact
-  Streamed = StreamedOver ok lines first port s.table
+  Streamed = StreamedOver carry lines first port s.table
 
   abbrev Now : DeviceState → Situation → Type 0
-  Now = With ok lines first port
+  Now = With carry lines first port
 
   abbrev TakeEnds : DeviceState × Taken → Situation → Type 0
   TakeEnds x c = Now x.0 c
 
   module _ (chain : Chain) (long : HEADER_LEN ≤ chain.readable) (queue : chain.queue ≡ Tx) where
     -- The page that was taken stands in the log, where it holds a packet.
-    record IsTaken (page : List ℕ) (host : Option HostContents) (l : EndLog) : Type 0 where
-      log : Log
-      entries_are : l.entries ≡ with_packet (λ p. GotPacket p) (packet_held page) log
-      was : IsLeft first port s.cid s.overrun s.table s.replies log
-      fair : IsFairLog Device (with_packet (λ p. GotPacket p) (packet_held page) log)
-      streams : Streamed host log
+    pub record IsTaken (page : List ℕ) (host : Option HostContents) (l : EndLog) : Type 0 where
+      pub log : Log
+      pub entries_are : l.entries ≡ with_packet (λ p. GotPacket p) (packet_held page) log
+      pub was : LeftBy carry first port s.cid s.overrun s.table s.replies log
+      pub fair : IsFairLog Device (with_packet (λ p. GotPacket p) (packet_held page) log)
+      pub streams : Streamed host log
 
-    abbrev Took : Telling
-    Took honest host l = (page : List ℕ) × HoldsFirst chain page (unwritten s.chain) l × (chain.readable ≡ length page) ×
+    abbrev pub Took : Telling
+    Took honest host l = (page : List ℕ) × Behind carry.others chain page s.chain l.held × (chain.readable ≡ length page) ×
         (honest ≡ true → IsTaken page host l)
 
     -- Its header was read.
     abbrev HasRead : Header → Telling
     HasRead h honest host l =
-        (page : List ℕ) × HoldsFirst chain page (unwritten s.chain) l × (chain.readable ≡ length page) ×
+        (page : List ℕ) × Behind carry.others chain page s.chain l.held × (chain.readable ≡ length page) ×
         (h ≡ header_of (take HEADER_LEN page))
         × (honest ≡ true → IsTaken page host l)
 
     -- Its len is above what follows the header: then it is no packet.
     short_by : (host : Option HostContents) (h : Header) (page : List ℕ) (log : Log) (o : Option Packet) → packet_held page ≡ o → chain.readable ≡ length page
         → h ≡ header_of (take HEADER_LEN page) → nat_lt (chain.readable - HEADER_LEN) h.len ≡ true
-        → IsLeft first port s.cid s.overrun s.table s.replies log × Streamed host log → IsFairLog Device (with_packet (λ p. GotPacket p) o log)
-        → IsLeft first port s.cid s.overrun s.table s.replies (with_packet (λ p. GotPacket p) o log) × Streamed host (with_packet (λ p. GotPacket p) o log)
+        → LeftBy carry first port s.cid s.overrun s.table s.replies log × Streamed host log → IsFairLog Device (with_packet (λ p. GotPacket p) o log)
+        → LeftBy carry first port s.cid s.overrun s.table s.replies (with_packet (λ p. GotPacket p) o log) × Streamed host (with_packet (λ p. GotPacket p) o log)
     short_by host h page log None held readable head short was fair = was
     short_by host h page log (Some p) held readable head short was fair =
         let formed = got_formed Device p log (fair (flow_got Device p)) in
@@ -110,11 +110,11 @@ module _ (ok : Type 0) (lines : List Handshake) (first port : ℕ) (s : DeviceSt
         → Tells (HasRead h) c → Now (failing f s) c
     short_ends h f c short rx tells = (
       rx,
-      tells_weaker (HasRead h) (IsToldBy Streamed first port (failing f s)) (λ hon o l read. (
+      tells_weaker (HasRead h) (IsToldBy carry Streamed first port (failing f s)) (λ hon o l read. (
         λ still. absurd cc,
         λ honest.
             let k = read.4 honest in
-            subst (λ (log : Log). IsLeft first port s.cid s.overrun s.table s.replies log × Streamed o log) (sym k.entries_are)
+            subst (λ (log : Log). LeftBy carry first port s.cid s.overrun s.table s.replies log × Streamed o log) (sym k.entries_are)
             (short_by o h read.0 k.log (packet_held read.0) refl read.2 read.3 short (k.was, k.streams) k.fair),
       )) c tells,
     )
@@ -124,8 +124,8 @@ module _ (ok : Type 0) (lines : List Handshake) (first port : ℕ) (s : DeviceSt
         → chain.readable ≡ length page
         → h ≡ header_of (take HEADER_LEN page) → nat_lt (chain.readable - HEADER_LEN) h.len ≡ false
         → l.entries ≡ with_packet (λ p. GotPacket p) o log
-        → IsLeft first port s.cid s.overrun s.table s.replies log → IsFairLog Device (with_packet (λ p. GotPacket p) o log) → Streamed host log
-        → IsCome ok lines first port s chain h wire page host l
+        → LeftBy carry first port s.cid s.overrun s.table s.replies log → IsFairLog Device (with_packet (λ p. GotPacket p) o log) → Streamed host log
+        → IsCome carry lines first port s chain h wire page host l
     come_by host h page l wire log None held readable head fits entries was fair streams =
         let len : (header_of (take HEADER_LEN page)).len ≡ h.len = ap (λ (x : Header). x.len) (sym head) in
         let within : h.len ≤ chain.readable - HEADER_LEN = grind (arith, nat_tests, fits) in
@@ -146,94 +146,105 @@ module _ (ok : Type 0) (lines : List Handshake) (first port : ℕ) (s : DeviceSt
 
     come_tells : (h : Header) (wire : FitsWire h) (c : Situation) → nat_lt (chain.readable - HEADER_LEN) h.len ≡ false → Tells
         (HasRead h) c
-        → Tells (Came ok lines first port s chain h wire) c
-    come_tells h wire c fits tells = tells_weaker (HasRead h) (Came ok lines first port s chain h wire) (λ hon o l read. (
+        → Tells (Came carry lines first port s chain h wire) c
+    come_tells h wire c fits tells = tells_weaker (HasRead h) (Came carry lines first port s chain h wire) (λ hon o l read. (
       read.0,
       read.1,
       λ honest. let k = read.4 honest in
           come_by o h read.0 l wire k.log (packet_held read.0) refl read.2 read.3 fits k.entries_are k.was k.fair k.streams,
     )) c tells
 
+    -- The packet is heard, and the conversation goes on.
+    module _ {A : Type 0} (Q : A → Situation → Type 0) (short : Failure → DeviceTree A) (next : DeviceState × Verdict → DeviceTree A)
+        (shorts : (f : Failure) (d : Situation) → Now (failing f s) d → Keeps Q (short f) d)
+        (heard : (h : Header) (wire : FitsWire h) (x : DeviceState × Verdict) (d : Situation) → Heard carry lines first port s chain h wire x d → Keeps Q (next x) d) where
+      header_keeps : (h : Header) (wire : FitsWire h) → IfSome s.chain IsRxChain → (c : Situation) → Tells (HasRead h) c
+          → Keeps Q (cond (nat_lt (chain.readable - HEADER_LEN) h.len) (short (failure.PayloadShort h.len (chain.readable - HEADER_LEN))) (bind (on_packet chain h s) next)) c
+      header_keeps h wire rx c tells = by (nat_lt (chain.readable - HEADER_LEN) h.len) refl
+        where
+          by : (b : Bool) → nat_lt (chain.readable - HEADER_LEN) h.len ≡ b
+              → Keeps Q (cond b (short (failure.PayloadShort h.len (chain.readable - HEADER_LEN))) (bind (on_packet chain h s) next)) c
+          by true less = let f = failure.PayloadShort h.len (chain.readable - HEADER_LEN) in shorts f c (short_ends h f c less rx tells)
+          by false fits = keeps_then (Heard carry lines first port s chain h wire) Q (on_packet chain h s) next c
+              (packet_keeps carry lines first port s chain h wire c (come_tells h wire c fits tells)) (heard h wire)
+
+      pub read_keeps : IfSome s.chain IsRxChain → (c : Situation) → Tells Took c
+          → Keeps Q (Ask (Ring (Read chain 0 HEADER_LEN)) (λ bytes. let h : Header = header_of bytes in
+          cond (nat_lt (chain.readable - HEADER_LEN) h.len) (short (failure.PayloadShort h.len (chain.readable - HEADER_LEN))) (bind (on_packet chain h s) next))) c
+      read_keeps rx c tells = (
+        λ front. (refl, queue, λ l is. first_is_held chain (tells l is).0 (tells l is).1.0 l (tells l is).1.1),
+        λ bytes d made. header_keeps (header_of bytes) (made.3 refl) rx d
+            (moves _ _ _ _ _ (λ l. l) c d made.0 made.1 Took (HasRead (header_of bytes)) (λ hon o l asked took fair. (
+              took.0,
+              took.1,
+              took.2,
+              ap header_of (asked ∙ ap (take HEADER_LEN) (bytes_held chain took.0 took.1.0 l took.1.1)),
+              took.3,
+            )) tells),
+      )
+
     -- The chain is returned.
-    returns : (h : Header) (wire : FitsWire h) → IfSome s.chain IsRxChain → s.failed ≡ None → (x : DeviceState × Verdict) (c : Situation)
-        → Heard ok lines first port s chain h wire x c → Keeps TakeEnds (Ask (Ring (Return chain 0)) (λ _. Done (x.0, taken.Packet x.1))) c
-    returns h wire rx going x c (failed, chain_is, tells) = (
-      (λ less. absurd (omega (arith, less)), λ l is. let was = tells l is in first_there chain was.0 (unwritten x.0.chain) l was.1),
+    returns : (h : Header) (wire : FitsWire h) → IfSome s.chain IsRxChain → (x : DeviceState × Verdict) (c : Situation)
+        → Heard carry lines first port s chain h wire x c → Keeps TakeEnds (Ask (Ring (Return chain 0)) (λ _. Done (x.0, taken.Packet x.1))) c
+    returns h wire rx x c (failed, chain_is, tells) = (
+      (λ less. absurd (omega (arith, less)), λ l is. let was = tells l is in first_there chain was.0 was.1.0 l was.1.1),
       λ a d made. (
         subst (λ (o : Option Chain). IfSome o IsRxChain) (sym chain_is) rx,
-        moves _ _ _ _ _ (log_returned chain 0) c d made.0.1 made.1 (After ok lines first port s chain h wire x.0)
-            (IsToldBy (StreamedOver ok lines first port x.0.table) first port x.0)
+        moves _ _ _ _ _ (log_returned chain 0) c d made.0.1 made.1 (After carry lines first port s chain h wire x.0)
+            (IsToldBy carry (StreamedOver carry lines first port x.0.table) first port x.0)
             (λ hon o l asked was fair. (
-              λ still. returned_held chain was.0 0 (unwritten x.0.chain) l was.1,
-              λ honest. subst (λ (log : Log). IsLeft first port x.0.cid x.0.overrun x.0.table x.0.replies log × StreamedOver ok lines first port x.0.table o log)
-                  (sym (returned_entries chain Tx was.0 0 (unwritten x.0.chain) l queue was.1)) (was.2 honest),
+              λ still. subst (λ (held : List Held). Among carry.others x.0.chain held) (sym (returned_held chain was.0 0 was.1.0 l was.1.1)) was.1.2,
+              λ honest. subst (λ (log : Log). LeftBy carry first port x.0.cid x.0.overrun x.0.table x.0.replies log × StreamedOver carry lines first port x.0.table o log)
+                  (sym (returned_entries chain Tx was.0 0 was.1.0 l queue was.1.1)) (was.2 honest),
             )) tells,
       ),
     )
 
-    header_keeps : (h : Header) (wire : FitsWire h) → IfSome s.chain IsRxChain → s.failed ≡ None → (c : Situation) → Tells (HasRead h) c
-        → Keeps TakeEnds (on_header chain h s) c
-    header_keeps h wire rx going c tells = by (nat_lt (chain.readable - HEADER_LEN) h.len) refl
+  -- A chain of tx is taken.
+  module _ {A : Type 0} (Q : A → Situation → Type 0) (tree : Next → DeviceTree A)
+      (some : (chain : Chain) (long : HEADER_LEN ≤ chain.readable) (queue : chain.queue ≡ Tx) (d : Situation) → IfSome s.chain IsRxChain
+      → Tells (Took chain long queue) d → Keeps Q (tree (next.Chain chain)) d)
+      (none : (d : Situation) → Now s d → Keeps Q (tree next.None) d) (fails : (f : Failure) (d : Situation) → Now (failing f s) d → Keeps Q (tree (next.Failed f)) d) where
+    next_keeps : (answer : Next) (c d : Situation) → s.failed ≡ None → Lets (Ring (Take Tx)) answer c d → Now s c → Keeps Q (tree answer) d
+    next_keeps (next.Chain chain) c d going made holds =
+        some chain made.3.long made.3.queue_is d holds.0
+        (moves _ _ _ _ _ (log_taken Tx (next.Chain chain) made.0.0) c d made.0.1 made.1 (IsToldBy carry Streamed first port s) (Took chain made.3.long made.3.queue_is)
+        (λ hon o l asked was fair. by made.0.0 hon o l asked.0 was fair) holds.1)
       where
-        by : (b : Bool) → nat_lt (chain.readable - HEADER_LEN) h.len ≡ b → Keeps TakeEnds (cond b
-            (let f = failure.PayloadShort h.len (chain.readable - HEADER_LEN) in Done (failing f s, taken.Failed f))
-            (bind (on_packet chain h s) (λ r. Ask (Ring (Return chain 0)) (λ _. Done (r.0, taken.Packet r.1))))) c
-        by true short = short_ends h (failure.PayloadShort h.len (chain.readable - HEADER_LEN)) c short rx tells
-        by false fits =
-            keeps_then (Heard ok lines first port s chain h wire) TakeEnds (on_packet chain h s)
-            (λ r. Ask (Ring (Return chain 0)) (λ _. Done (r.0, taken.Packet r.1))) c
-            (packet_keeps ok lines first port s chain h wire c (come_tells h wire c fits tells)) (returns h wire rx going)
-
-    read_keeps : IfSome s.chain IsRxChain → s.failed ≡ None → (c : Situation) → Tells Took c
-        → Keeps TakeEnds (Ask (Ring (Read chain 0 HEADER_LEN)) (λ bytes. on_header chain (header_of bytes) s)) c
-    read_keeps rx going c tells = (
-      tt,
-      λ bytes d made. header_keeps (header_of bytes) (header_fits bytes made.3) rx going d
-          (moves _ _ _ _ _ (λ l. l) c d made.0 made.1 Took (HasRead (header_of bytes)) (λ hon o l asked took fair. (
-            took.0,
-            took.1,
-            took.2,
-            ap header_of (asked ∙ ap (take HEADER_LEN) (bytes_held chain took.0 (unwritten s.chain) l took.1)),
-            took.3,
-          )) tells),
+        by : (page : Option (List ℕ)) (hon : Bool) (o : Option HostContents) (l : EndLog) → IsTakenAs Tx (next.Chain chain) page
+            → IsToldBy carry Streamed first port s hon o l
+            → (hon ≡ true → IsFairLog Device (log_taken Tx (next.Chain chain) page l).entries)
+            → Took chain made.3.long made.3.queue_is hon o (log_taken Tx (next.Chain chain) page l)
+        by None hon o l asked was fair = absurd asked
+        by (Some page) hon o l asked was fair = (
+          page,
+          (l.held, refl, was.0 going),
+          asked.1,
+          λ honest. let p = was.1 honest in record { log = l.entries; entries_are = refl; was = p.0; fair = fair honest; streams = p.1 },
+        )
+    next_keeps next.None c d going made holds = none d (
+      holds.0,
+      moves _ _ _ _ _ (log_taken Tx next.None made.0.0) c d made.0.1 made.1 (IsToldBy carry Streamed first port s) (IsToldBy carry Streamed first port s)
+          (λ hon o l asked was fair. was) holds.1,
+    )
+    next_keeps (next.Failed f) c d going made holds = fails f d (
+      holds.0,
+      moves _ _ _ _ _ (log_taken Tx (next.Failed f) made.0.0) c d made.0.1 made.1 (IsToldBy carry Streamed first port s) (IsToldBy carry Streamed first port (failing f s))
+          (λ hon o l asked was fair. (λ still. was.0 going, was.1)) holds.1,
     )
 
-  next_keeps : (answer : Next) (c d : Situation) → s.failed ≡ None → Allows (Ring (Take Tx)) answer c d → Now s c → Keeps TakeEnds (on_next answer s) d
-  next_keeps (next.Chain chain) c d going made holds =
-      read_keeps chain made.3.long made.3.queue_is holds.0 going d
-      (moves _ _ _ _ _ (log_taken Tx (next.Chain chain) made.0.0) c d made.0.1 made.1 (IsToldBy Streamed first port s) (Took chain made.3.long made.3.queue_is)
-      (λ hon o l asked was fair. by made.0.0 hon o l asked.0 was fair) holds.1)
-    where
-      by : (page : Option (List ℕ)) (hon : Bool) (o : Option HostContents) (l : EndLog) → IsTakenAs Tx (next.Chain chain) page
-          → IsToldBy Streamed first port s hon o l
-          → (hon ≡ true → IsFairLog Device (log_taken Tx (next.Chain chain) page l).entries)
-          → Took chain made.3.long made.3.queue_is hon o (log_taken Tx (next.Chain chain) page l)
-      by None hon o l asked was fair = absurd asked
-      by (Some page) hon o l asked was fair = (
-        page,
-        ap (λ (held : List Held). let x : Held = record { chain = chain; bytes = page } in x ∷ held) (was.0 going),
-        asked.1,
-        λ honest. let p = was.1 honest in record { log = l.entries; entries_are = refl; was = p.0; fair = fair honest; streams = p.1 },
-      )
-  next_keeps next.None c d going made holds = (
-    holds.0,
-    moves _ _ _ _ _ (log_taken Tx next.None made.0.0) c d made.0.1 made.1 (IsToldBy Streamed first port s) (IsToldBy Streamed first port s)
-        (λ hon o l asked was fair. was) holds.1,
-  )
-  next_keeps (next.Failed f) c d going made holds = (
-    holds.0,
-    moves _ _ _ _ _ (log_taken Tx (next.Failed f) made.0.0) c d made.0.1 made.1 (IsToldBy Streamed first port s) (IsToldBy Streamed first port (failing f s))
-        (λ hon o l asked was fair. (λ still. was.0 going, was.1)) holds.1,
-  )
+    -- Unless so many replies are owed.
+    pub tx_keeps : (over : DeviceTree A) → ((d : Situation) → Now s d → Keeps Q over d) → (c : Situation) → s.failed ≡ None → Now s c
+        → Keeps Q (cond (nat_le DEVICE_REPLIES (length s.replies)) over (Ask (Ring (Take Tx)) tree)) c
+    tx_keeps over ends c going holds = by (nat_le DEVICE_REPLIES (length s.replies))
+      where
+        by : (b : Bool) → Keeps Q (cond b over (Ask (Ring (Take Tx)) tree)) c
+        by true = ends c holds
+        by false = (tt, λ answer d made. next_keeps answer c d going made holds)
 
   pub take_keeps : (c : Situation) → Now s c → Keeps TakeEnds (take_tx_of s) c
   take_keeps c holds = by s.failed refl
     where
-      full : (b : Bool) → s.failed ≡ None
-          → Keeps TakeEnds (cond b (Done (s, taken.RepliesFull DEVICE_REPLIES)) (Ask (Ring (Take Tx)) (λ answer. on_next answer s))) c
-      full true going = holds
-      full false going = (tt, λ answer d made. next_keeps answer c d going made holds)
-
       by : (o : Option Failure) → s.failed ≡ o → Keeps TakeEnds (elim o [
         | Some f ↦ Done (s, taken.Failed f)
         | None ↦
@@ -241,4 +252,7 @@ module _ (ok : Type 0) (lines : List Handshake) (first port : ℕ) (s : DeviceSt
             else Ask (Ring (Take Tx)) (λ answer. on_next answer s)
       ]) c
       by (Some f) failed = holds
-      by None going = full (nat_le DEVICE_REPLIES (length s.replies)) going
+      by None going = tx_keeps TakeEnds (λ answer. on_next answer s) (λ chain long queue d rx tells.
+          read_keeps chain long queue TakeEnds (λ f. Done (failing f s, taken.Failed f)) (λ r. Ask (Ring (Return chain 0)) (λ _. Done (r.0, taken.Packet r.1)))
+          (λ f e kept. kept) (λ h wire x e heard. returns chain long queue h wire rx x e heard) rx d tells)
+          (λ d kept. kept) (λ f d kept. kept) (Done (s, taken.RepliesFull DEVICE_REPLIES)) (λ d kept. kept) c going holds

@@ -1,39 +1,42 @@
 -- What the owed event, a reset, a tick, a round of writing and an opening keep.
 use Rattle.std.proofs.Common.{◌≡◌, ℕ, ◌+◌, ◌<◌, ◌≤◌, ◌^◌, ◌==◌, ◌&&◌, ◌||◌, Bool, true, false, cond, if◌then◌else◌, List, [], ◌∷◌, ◌++◌}
-use Rattle.std.proofs.Common.{length, take, Contains, Option, Some, None, Result, Ok, Err, refl, sym, ap, subst, ◌∙◌, arith, IfSome, nat_le}
-use Rattle.std.proofs.{Common.◌⊎◌, Common.inl, Common.inr, Common.length-append, Common.length-take, lemmas.Bool.Decides.nat_tests}
+use Rattle.std.proofs.Common.{length, take, Contains, Option, Some, None, Result, Ok, Err, refl, sym, ap, subst, ◌∙◌, arith, nat_le, ◌⊎◌}
+use Rattle.std.proofs.{Common.inl, Common.inr, Common.length-append, Common.length-take, lemmas.Bool.Decides.nat_tests}
 use Rattle.byteorder.specs.Endian.{little_bytes}
 use Rattle.vs_contents.specs.{CallTree.Done, CallTree.Ask, CallTree.bind, CallTree.for_each, Contents.Exposes}
 use Rattle.vs_conn.specs.End.{asked}
 use Rattle.vs_flow.specs.Table.{IsTable, Table, emptied, entry_under, refusal, slots, with_value}
-use Rattle.vs_flow.specs.declared.{flow.Flow.Flow, table.TableFault.TableFault}
+use Rattle.vs_flow.specs.{declared.flow.Flow.Flow, declared.table.TableFault.TableFault}
 use Rattle.vs_flow.proofs.Tables.{accepted}
 use Rattle.vs_limits.specs.declared.TheConstants.{BUF_ALLOC}
 use Rattle.vs_outside.specs.{declared.host_net.StreamWrite.StreamWrite, Host.HostContents, Host.IsWritten, Host.after_failed}
 use Rattle.vs_outside.specs.Host.{after_label, after_shut_write, after_write, called}
-use Rattle.vs_page.specs.{Log.Device, Log.Log, Overwriting.overwritten, declared.log.LogEntry.TheVariants.Mark}
-use Rattle.vs_page.specs.declared.log.LogEntry.TheVariants.{PutEvent}
+use Rattle.vs_page.specs.{Log.Device, Log.Log, declared.log.LogEntry.TheVariants.Mark, declared.log.LogEntry.TheVariants.PutEvent}
+use Rattle.vs_page.specs.Held.{event_held}
 use Rattle.vs_ring_port.specs.{Chains.Held, Chains.bytes_in, Contents.RingContents, Contents.PublishCid, Contents.Return, Contents.Take}
-use Rattle.vs_ring_port.specs.{EndLog.EndLog, EndLog.log_reset, EndLog.log_returned, EndLog.log_taken, declared.device_ring.Chain.Chain}
-use Rattle.vs_ring_port.specs.declared.{device_ring.Next.Next, failure.Failure.Failure, queue.Queue.Queue}
-use Rattle.vs_ring_port.specs.{DeviceCalls.IsTakenAs, DeviceCalls.IsWholePacket, declared.queue.Queue.TheVariants.Event}
-use Rattle.laws_tables.specs.{Ends.Ends, Ends.FlowEnd, Ends.is_new, Matches.Matches, Steps.IsNextFlow, Steps.asking}
+use Rattle.vs_ring_port.specs.{Contents.Write, EndLog.EndLog, EndLog.log_reset, EndLog.log_returned, EndLog.log_taken}
+use Rattle.vs_ring_port.specs.{declared.device_ring.Chain.Chain, declared.device_ring.Next.Next, declared.failure.Failure.Failure}
+use Rattle.vs_ring_port.specs.{declared.queue.Queue.Queue, DeviceCalls.IsTakenAs, DeviceCalls.IsWholePacket}
+use Rattle.vs_ring_port.specs.{declared.queue.Queue.TheVariants.Event, EndLog.entries_returned, EndLog.with_event}
+use Rattle.vs_ring_port.specs.declared.queue.Queue.TheVariants.{Tx}
+use Rattle.laws_tables.specs.{Ends.Ends, Ends.FlowEnd, Ends.is_new, Matches.Matches, Steps.IsNextFlow, Steps.asking, Both.Asks}
+use Rattle.laws_tables.specs.Both.{MakesReset, PutsEvent, Seat}
 use Rattle.laws_tables.proofs.{Keeps.asks, Keeps.makes_reset, Keeps.puts_event, Keeps.start_matches, Slots.added_slot, Slots.found_by}
-use Rattle.vs_device_parts.specs.{Playing.IsRxChain, Receiving.event_on, Receiving.pay_event_of, State.DeviceConnection, State.DeviceEntry}
-use Rattle.vs_device_parts.specs.{State.DeviceState, Transmitting.failing, Calls.CloseStream, Calls.DeviceTree, Calls.Label, Calls.Ring}
-use Rattle.vs_device_parts.specs.{Calls.ShutWrite, Calls.WriteStream, Calls.Allows, Calls.Situation, Connections.after_shut}
-use Rattle.vs_device_parts.specs.Connections.{after_written, cut_off, is_timed_out, new_connection, stream_closed, with_client}
-use Rattle.vs_device_parts.specs.{Connections.with_connection, Connections.with_fault, Streams.Writing, Streams.closing}
-use Rattle.vs_device_parts.specs.Streams.{is_written_out, pump_of, pump_slot, shut_write, tick_of, tick_slot, to_write, write_answered}
-use Rattle.vs_device_parts.specs.{Streams.write_pending, Turns.after_reset, Turns.close_slot, Turns.new_device, Turns.open_of}
-use Rattle.vs_device_parts.specs.Turns.{reset_of}
-use Rattle.laws_device.specs.Honest.{IsFitFlow, IsFitState, IsFresh, IsLeft, IsWith, end_in, ends_of_state, port_after, unwritten}
+use Rattle.vs_device_parts.specs.{Receiving.event_on, Receiving.pay_event_of, State.DeviceConnection, State.DeviceEntry, State.DeviceState}
+use Rattle.vs_device_parts.specs.{Transmitting.failing, Calls.CloseStream, Calls.DeviceTree, Calls.Label, Calls.Ring, Calls.ShutWrite}
+use Rattle.vs_device_parts.specs.{Calls.WriteStream, Calls.Situation, Connections.after_shut, Connections.after_written}
+use Rattle.vs_device_parts.specs.Connections.{cut_off, is_timed_out, new_connection, stream_closed, with_client, with_connection}
+use Rattle.vs_device_parts.specs.{Connections.with_fault, Streams.Writing, Streams.closing, Streams.is_written_out, Streams.pump_of}
+use Rattle.vs_device_parts.specs.Streams.{pump_slot, shut_write, tick_of, tick_slot, to_write, write_answered, write_pending}
+use Rattle.vs_device_parts.specs.Turns.{after_reset, close_slot, new_device, open_of, reset_of}
+use Rattle.laws_device.specs.Honest.{IsFitFlow, IsFitState, IsFresh, IsLeft, IsWith, end_in, ends_of_state, port_after}
+use Rattle.laws_device.proofs.{Chains.Among, Chains.first_written, Chains.held_there, Chains.is_unwritten, Chains.taken_holds, Keeping.Lets}
+use Rattle.laws_device.proofs.{Seats.Carried, Seats.LeftBy, Seats.at_log, Seats.seat, Carrying.ring_only, Writing.write_keeps}
 use Rattle.laws_device.proofs.{Changing.cuts, Changing.shuts, Changing.unseen, Changing.writes, Changing.same, Filling.under_there}
 use Rattle.laws_device.proofs.{Keeping.Keeps, Keeping.keeps_each, Keeping.keeps_then, Steps.changed, Steps.closing_keeps, Steps.called_with}
 use Rattle.laws_device.proofs.{Steps.told_changed, Tabling.IsFitConnection, Tabling.entry_fits, Tabling.opening_fits, Writing.Writes}
-use Rattle.laws_device.proofs.{Writing.write_keeps, Ringing.Tells, Ringing.bytes_held, Ringing.first_there, Ringing.moves}
-use Rattle.laws_device.proofs.{Ringing.returned_entries, Ringing.returned_held, Ringing.tells_weaker, Ringing.host_moves, Carrying.Fact}
-use Rattle.laws_device.proofs.Carrying.{IsHeldBy, IsToldBy, StreamedOver, With, closed_with, plain_before, streams_go, plain_with}
+use Rattle.laws_device.proofs.{Ringing.Tells, Ringing.moves, Ringing.tells_weaker, Ringing.host_moves, Carrying.Fact, Carrying.IsHeldBy}
+use Rattle.laws_device.proofs.Carrying.{IsToldBy, StreamedOver, With, closed_with, streams_go, plain_with}
 use Rattle.vs_header.specs.declared.Kind.TheVariants.{Stream}
 use Rattle.laws_device_bytes.proofs.Changing.{called_host, cuts_streams, emptied_streams, ends_streams, event_streams, failed_host}
 use Rattle.laws_device_bytes.proofs.Changing.{mark_streams, shut_write_host, shuts_streams, writes_streams}
@@ -42,7 +45,7 @@ use Rattle.vs_outside.specs.declared.host_net.StreamWrite.TheVariants as write
 use Rattle.vs_ring_port.specs.declared.device_ring.Next.TheVariants as next
 
 -- A connection that waits since a moment has begun, and so has one that has something to write.
-late_old : (e : DeviceEntry) (s : DeviceState) → IsFitState s → Contains s.table.entries e → is_timed_out s.now e.value ≡ true
+pub late_old : (e : DeviceEntry) (s : DeviceState) → IsFitState s → Contains s.table.entries e → is_timed_out s.now e.value ≡ true
     → is_new e.value.end ≡ false
 late_old e s fits there late = by (is_new e.value.end) refl
   where
@@ -59,7 +62,7 @@ late_old e s fits there late = by (is_new e.value.end) refl
         none_late true is = cc
         none_late false is = cc
 
-writes_old : (e : DeviceEntry) (s : DeviceState) → IsFitState s → Contains s.table.entries e → (length (to_write e.value) == 0) ≡ false
+pub writes_old : (e : DeviceEntry) (s : DeviceState) → IsFitState s → Contains s.table.entries e → (length (to_write e.value) == 0) ≡ false
     → is_new e.value.end ≡ false
 writes_old e s fits there some = by (is_new e.value.end) refl
   where
@@ -128,84 +131,90 @@ closing_done : (e : DeviceEntry) (f : DeviceConnection → DeviceConnection) (s 
     (λ t. Done t) ≡ closing e f s
 closing_done e f s = closing_by e.value.closed e.value.stream (with_connection e.slot (f e.value) s)
 
-module _ (ok : Type 0) (lines : List Handshake) (first port : ℕ) where
+module _ (carry : Carried) (lines : List Handshake) (first port : ℕ) where
   abbrev Now : DeviceState → Situation → Type 0
-  Now = With ok lines first port
+  Now = With carry lines first port
 
   abbrev Streamed : Table DeviceConnection → Fact
-  Streamed t = StreamedOver ok lines first port t
+  Streamed t = StreamedOver carry lines first port t
 
-  -- The event that is owed.
+  -- The event that is owed: it is written into a chain, which is returned.
+  module _ (s : DeviceState) {A : Type 0} (Q : A → Situation → Type 0) (next : DeviceTree A) (chain : Chain) (queue : chain.queue ≡ Event) (room : 4 ≤ chain.writable) where
+    abbrev Rest : List Held → Type 0
+    Rest held = s.failed ≡ None → Among carry.others s.chain held
+
+    abbrev Bytes : List ℕ → Type 0
+    Bytes bytes = take 4 bytes ≡ little_bytes 4 0
+
+    event_long : (bytes : List ℕ) → Bytes bytes → 4 ≤ length bytes
+    event_long bytes is = let few = length-take 4 bytes in let four : length (take 4 bytes) ≡ 4 = ap length is in omega (arith, few, four)
+
+    event_returned : (c : Situation) → Tells (Writes carry first port s (Streamed s.table) chain Bytes Rest) c
+        → ((d : Situation) → Tells (IsToldBy carry (Streamed s.table) first port s) d → Keeps Q next d) → Keeps Q (Ask (Ring (Return chain 4)) (λ _. next)) c
+    event_returned c tells goes = (
+      (
+        λ some. record {
+          room = room;
+          written = λ l is. event_long (bytes_in chain l.held) (tells l is).0.1;
+          whole = λ honest l is.
+              subst (λ (q : Queue). IsWholePacket q (take 4 (bytes_in chain l.held)) l) (sym queue) (ap length (tells l is).0.1);
+        },
+        λ l is. held_there chain l.held (tells l is).0.0,
+      ),
+      λ a d made. goes d (moves _ _ _ _ _ (log_returned chain 4) c d made.0.1 made.1 (Writes carry first port s (Streamed s.table) chain Bytes Rest) (IsToldBy carry (Streamed s.table) first port s)
+          (λ hon o l asked was fair. (
+            was.0.2,
+            λ honest.
+                let p = (was.1 honest).0 in
+                subst (λ (log : Log). LeftBy carry first port s.cid s.overrun s.table s.replies log × Streamed s.table o log)
+                (sym (ap (λ (q : Queue). entries_returned q (take 4 (bytes_in chain l.held)) l.entries) queue
+                ∙ ap (λ (bytes : List ℕ). with_event (λ id. PutEvent id) (event_held bytes) l.entries) was.0.1)) (
+                  record {
+                    fits = p.fits;
+                    none_overrun = p.none_overrun;
+                    matches = puts_event Device first 0 (ends_of_state port s) l.entries p.matches;
+                    fair = p.fair;
+                    seated = carry.step (PutsEvent 0) (seat port s l.entries) refl (λ all. all) p.seated;
+                  },
+                  streams_go carry first lines lines port port s.table s.table l.entries (PutEvent 0 ∷ l.entries) (carry.before first (PutEvent 0) l.entries)
+                      (λ h few x. event_streams h l.entries 0 port s.table lines x) o (was.1 honest).1,
+                ),
+          )) tells),
+    )
+
+    pub event_put : (B : List ℕ → Type 0) (c : Situation) → Tells (Writes carry first port s (Streamed s.table) chain B Rest) c
+        → ((d : Situation) → Tells (IsToldBy carry (Streamed s.table) first port s) d → Keeps Q next d)
+        → Keeps Q (Ask (Ring (Write chain 0 (little_bytes 4 0))) (λ _. Ask (Ring (Return chain 4)) (λ _. next))) c
+    event_put B c tells goes =
+        write_keeps carry first port s (Streamed s.table) Q (Ask (Ring (Return chain 4)) (λ _. next)) chain B Bytes Rest (little_bytes 4 0) 0 c
+        (λ tx. let both : Event ≡ Tx = sym queue ∙ tx in cc) (λ bytes b. omega arith) (λ bytes b. first_written bytes (little_bytes 4 0) 4 refl) tells
+        (λ d now. event_returned d now goes)
+
   module _ (s : DeviceState) where
     abbrev PayEnds : DeviceState × Result Bool Failure → Situation → Type 0
     PayEnds x c = Now x.0 c
 
-    abbrev event : List ℕ
-    event = overwritten [] 0 (little_bytes 4 0)
-
-    event_returned : (chain : Chain) → chain.queue ≡ Event → 4 ≤ chain.writable → IfSome s.chain IsRxChain → (c : Situation)
-        → Tells (Writes first port s (Streamed s.table) chain event (unwritten s.chain)) c
-        → Keeps PayEnds (Ask (Ring (Return chain 4)) (λ _. Done (record s { event_owed = false }, Ok true))) c
-    event_returned chain queue room rx c tells = (
-      (
-        λ some. record {
-          room = room;
-          written = λ l is. subst (λ (b : List ℕ). 4 ≤ length b) (sym (bytes_held chain event (unwritten s.chain) l (tells l is).0))
-              (omega arith);
-          whole = λ honest l is.
-              subst (λ (q : Queue). IsWholePacket q (take 4 (bytes_in chain l.held)) l) (sym queue)
-              (subst (λ (b : List ℕ). length (take 4 b) ≡ 4) (sym (bytes_held chain event (unwritten s.chain) l (tells l is).0)) refl);
-        },
-        λ l is. first_there chain event (unwritten s.chain) l (tells l is).0,
-      ),
-      λ a d made. (
-        rx,
-        moves _ _ _ _ _ (log_returned chain 4) c d made.0.1 made.1 (Writes first port s (Streamed s.table) chain event (unwritten s.chain)) (IsToldBy (Streamed s.table) first port s)
-            (λ hon o l asked was fair. (
-              λ still. returned_held chain event 4 (unwritten s.chain) l was.0,
-              λ honest.
-                  let p = (was.1 honest).0 in
-                  subst (λ (log : Log). IsLeft first port s.cid s.overrun s.table s.replies log × Streamed s.table o log)
-                  (sym (returned_entries chain Event event 4 (unwritten s.chain) l queue was.0)) (
-                    record {
-                      fits = p.fits;
-                      none_overrun = p.none_overrun;
-                      matches = puts_event Device first 0 (ends_of_state port s) l.entries p.matches;
-                      fair = p.fair;
-                    },
-                    streams_go ok first lines lines port port s.table s.table l.entries (PutEvent 0 ∷ l.entries) (plain_before first (PutEvent 0) l.entries)
-                        (λ h few x. event_streams h l.entries 0 port s.table lines x) o (was.1 honest).1,
-                  ),
-            )) tells,
-      ),
-    )
-
-    event_keeps : (answer : Next) (c d : Situation) → s.failed ≡ None → Allows (Ring (Take Event)) answer c d → Now s c → Keeps PayEnds (event_on answer s) d
+    event_keeps : (answer : Next) (c d : Situation) → s.failed ≡ None → Lets (Ring (Take Event)) answer c d → Now s c → Keeps PayEnds (event_on answer s) d
     event_keeps (next.Chain chain) c d going made holds =
-        write_keeps first port s (Streamed s.table) PayEnds (Ask (Ring (Return chain 4)) (λ _. Done (record s { event_owed = false }, Ok true))) chain []
-        (little_bytes 4 0) 0
-        (unwritten s.chain) d (omega arith)
-        (moves _ _ _ _ _ (log_taken Event (next.Chain chain) made.0.0) c d made.0.1 made.1 (IsToldBy (Streamed s.table) first port s)
-        (Writes first port s (Streamed s.table) chain [] (unwritten s.chain))
-        (λ hon o l asked was fair. by made.0.0 hon o l asked.0 was) holds.1)
-        (λ e now. event_returned chain made.3.queue_is made.3.long holds.0 e now)
+        event_put s PayEnds (Done (record s { event_owed = false }, Ok true)) chain made.3.queue_is made.3.long is_unwritten d
+        (moves _ _ _ _ _ (log_taken Event (next.Chain chain) made.0.0) c d made.0.1 made.1 (IsToldBy carry (Streamed s.table) first port s)
+        (Writes carry first port s (Streamed s.table) chain is_unwritten (λ held. s.failed ≡ None → Among carry.others s.chain held))
+        (λ hon o l asked was fair. by made.0.0 hon o l asked.0 was) holds.1) (λ e told. (holds.0, told))
       where
         by : (page : Option (List ℕ)) (hon : Bool) (o : Option HostContents) (l : EndLog) → IsTakenAs Event (next.Chain chain) page
-            → IsToldBy (Streamed s.table) first port s hon o l
-            → Writes first port s (Streamed s.table) chain [] (unwritten s.chain) hon o (log_taken Event (next.Chain chain) page l)
+            → IsToldBy carry (Streamed s.table) first port s hon o l
+            → Writes carry first port s (Streamed s.table) chain is_unwritten (λ held. s.failed ≡ None → Among carry.others s.chain held) hon o (log_taken Event (next.Chain chain) page l)
         by None hon o l asked was = absurd asked
-        by (Some page) hon o l asked was = (
-          ap (λ (held : List Held). let x : Held = record { chain = chain; bytes = [] } in x ∷ held) (was.0 going),
-          was.1,
-        )
+        by (Some page) hon o l asked was =
+            (taken_holds chain [] is_unwritten (λ held. s.failed ≡ None → Among carry.others s.chain held) l.held refl was.0, was.1)
     event_keeps next.None c d going made holds = (
       holds.0,
-      moves _ _ _ _ _ (log_taken Event next.None made.0.0) c d made.0.1 made.1 (IsToldBy (Streamed s.table) first port s) (IsToldBy (Streamed s.table) first port s)
+      moves _ _ _ _ _ (log_taken Event next.None made.0.0) c d made.0.1 made.1 (IsToldBy carry (Streamed s.table) first port s) (IsToldBy carry (Streamed s.table) first port s)
           (λ hon o l asked was fair. was) holds.1,
     )
     event_keeps (next.Failed f) c d going made holds = (
       holds.0,
-      moves _ _ _ _ _ (log_taken Event (next.Failed f) made.0.0) c d made.0.1 made.1 (IsToldBy (Streamed s.table) first port s) (IsToldBy (Streamed s.table) first port (failing f s))
+      moves _ _ _ _ _ (log_taken Event (next.Failed f) made.0.0) c d made.0.1 made.1 (IsToldBy carry (Streamed s.table) first port s) (IsToldBy carry (Streamed s.table) first port (failing f s))
           (λ hon o l asked was fair. (λ still. was.0 going, was.1)) holds.1,
     )
 
@@ -225,17 +234,17 @@ module _ (ok : Type 0) (lines : List Handshake) (first port : ℕ) where
         by None going = owed s.event_owed going
 
   -- Timeouts.
-  tick_slot_keeps : (slot : ℕ) (s : DeviceState) (c : Situation) → Now s c → Keeps Now (tick_slot slot s) c
+  pub tick_slot_keeps : (slot : ℕ) (s : DeviceState) (c : Situation) → Now s c → Keeps Now (tick_slot slot s) c
   tick_slot_keeps slot s c holds = by (entry_under s.table slot) refl
     where
       late : (e : DeviceEntry) → Contains s.table.entries e → (b : Bool) → is_timed_out s.now e.value ≡ b
           → Keeps Now (cond b (closing e cut_off s) (Done s)) c
       late e there false is = holds
       late e there true is = subst (λ (t : DeviceTree DeviceState). Keeps Now t c) (closing_done e cut_off s)
-          (closing_keeps ok lines first port Now (λ t. Done t) e cut_off s c (λ d closes.
+          (closing_keeps carry lines first port Now (λ t. Done t) e cut_off s c (λ d closes.
           let t : DeviceState = with_connection e.slot (cut_off e.value) s in
-          closed_with ok lines first port t.table t e.value c d closes (changed ok lines first port s t refl refl
-          (λ fits. cuts port s fits e there (late_old e s fits there is)) (λ fits h log x. cuts_streams h log port s.table lines x fits.sound e there) c holds)))
+          closed_with carry lines first port t.table t e.value c d closes (changed carry lines first port s t refl refl
+          (λ fits. cuts carry port s fits e there (late_old e s fits there is)) (λ fits h log x. cuts_streams h log port s.table lines x fits.sound e there) c holds)))
 
       by : (o : Option DeviceEntry) → entry_under s.table slot ≡ o
           → Keeps Now (elim o [ None ↦ Done s | Some e ↦ if is_timed_out s.now e.value then closing e cut_off s else Done s ]) c
@@ -252,34 +261,34 @@ module _ (ok : Type 0) (lines : List Handshake) (first port : ℕ) where
   module _ (e : DeviceEntry) (w : Writing) (there : Contains w.state.table.entries e)
       (some : (length (to_write e.value) == 0) ≡ false) where
     abbrev WritesIt : StreamWrite → Situation → Situation → Type 0
-    WritesIt answer c d = Allows (WriteStream e.value.stream (to_write e.value)) answer c d
+    WritesIt answer c d = Lets (WriteStream e.value.stream (to_write e.value)) answer c d
 
     begun : IsFitState w.state → is_new e.value.end ≡ false
     begun fits = writes_old e w.state fits there some
 
     answered_keeps : (answer : StreamWrite) (c d : Situation) → WritesIt answer c d → WritingWith w c → Keeps WritingWith (write_answered e answer w) d
     answered_keeps (write.Took n) c d made holds =
-        called_with ok lines first port w.state (with_connection e.slot (after_written n e.value) w.state) refl refl
-        (λ fits. writes port w.state fits e there n made.1 (begun fits)) false (IsWritten e.value.stream (length (to_write e.value)) (write.Took n))
+        called_with carry lines first port w.state (with_connection e.slot (after_written n e.value) w.state) refl refl
+        (λ fits. writes carry port w.state fits e there n made.1 (begun fits)) false (IsWritten e.value.stream (length (to_write e.value)) (write.Took n))
         (after_write e.value.stream (to_write e.value) (write.Took n))
         (λ fits h log is x. writes_streams h log port w.state.table lines x fits.sound e there n made.1) c d made.0 holds
     answered_keeps write.Again c d made holds =
-        called_with ok lines first port w.state w.state refl refl (λ fits. same port w.state fits) false
+        called_with carry lines first port w.state w.state refl refl (λ fits. same carry port w.state fits) false
         (IsWritten e.value.stream (length (to_write e.value)) write.Again) called (λ fits h log is x. called_host h log port w.state.table lines x) c d made.0 holds
     answered_keeps write.Closed c d made holds =
         let t : DeviceState = with_connection e.slot (after_shut 1 w.state.now e.value) w.state in
-        called_with ok lines first port w.state t refl refl (λ fits. shuts port w.state fits e there 1 w.state.now (begun fits)) false
+        called_with carry lines first port w.state t refl refl (λ fits. shuts carry port w.state fits e there 1 w.state.now (begun fits)) false
         (IsWritten e.value.stream (length (to_write e.value)) write.Closed) called (λ fits h log is x. called_host h log port t.table lines
         (shuts_streams h log port w.state.table lines x fits.sound e 1 w.state.now there)) c d made.0 holds
     answered_keeps write.Failed c d made holds =
         let t : DeviceState = with_connection e.slot (cut_off e.value) (with_fault w.state) in
-        closing_keeps ok lines first port WritingWith (λ s. Done (record w { state = s })) e cut_off (with_fault w.state) d (λ x closes.
-        closed_with ok lines first port t.table t e.value d x closes
-        (called_with ok lines first port w.state t refl refl (λ fits. cuts port w.state fits e there (begun fits)) true
+        closing_keeps carry lines first port WritingWith (λ s. Done (record w { state = s })) e cut_off (with_fault w.state) d (λ x closes.
+        closed_with carry lines first port t.table t e.value d x closes
+        (called_with carry lines first port w.state t refl refl (λ fits. cuts carry port w.state fits e there (begun fits)) true
         (IsWritten e.value.stream (length (to_write e.value)) write.Failed) after_failed
         (λ fits h log is y. failed_host h log port t.table lines (cuts_streams h log port w.state.table lines y fits.sound e there)) c d made.0 holds))
 
-  write_keeps_all : (e : DeviceEntry) (w : Writing) → Contains w.state.table.entries e → (c : Situation) → WritingWith w c
+  pub write_keeps_all : (e : DeviceEntry) (w : Writing) → Contains w.state.table.entries e → (c : Situation) → WritingWith w c
       → Keeps WritingWith (write_pending e w) c
   write_keeps_all e w there c holds = by (length (to_write e.value) == 0) refl
     where
@@ -288,17 +297,17 @@ module _ (ok : Type 0) (lines : List Handshake) (first port : ℕ) where
       by true is = holds
       by false is = (tt, λ answer d made. answered_keeps e w there is answer c d made holds)
 
-  shut_keeps : (slot : ℕ) (w : Writing) (c : Situation) → WritingWith w c → Keeps WritingWith (shut_write slot w) c
+  pub shut_keeps : (slot : ℕ) (w : Writing) (c : Situation) → WritingWith w c → Keeps WritingWith (shut_write slot w) c
   shut_keeps slot w c holds = by (entry_under w.state.table slot) refl
     where
       shut : (e : DeviceEntry) → Contains w.state.table.entries e → (e.slot == slot) ≡ true → (d : Situation)
-          → Allows (ShutWrite e.value.stream) tt c d → WritingWith (record w { state = with_connection slot (record e.value { write_shut = true }) w.state }) d
+          → Lets (ShutWrite e.value.stream) tt c d → WritingWith (record w { state = with_connection slot (record e.value { write_shut = true }) w.state }) d
       shut e there at d made =
           let v : DeviceConnection = record e.value { write_shut = true } in
           let same : e.slot ≡ slot = grind (arith, nat_tests, at) in
           subst (λ (n : ℕ). Now (with_connection n v w.state) d) same
-          (called_with ok lines first port w.state (with_connection e.slot v w.state) refl refl
-          (λ fits. unseen port w.state fits e there v refl (shut_fits e w.state fits there)) false (λ h. Unit {0}) (after_shut_write e.value.stream)
+          (called_with carry lines first port w.state (with_connection e.slot v w.state) refl refl
+          (λ fits. unseen carry port w.state fits e there v refl (shut_fits e w.state fits there)) false (λ h. Unit {0}) (after_shut_write e.value.stream)
           (λ fits h log any x. shut_write_host e.value.stream h log port (with_value w.state.table e.slot v) lines
           (ends_streams h log port w.state.table lines x fits.sound e there v refl refl refl refl (λ on. on) (λ on. on))) c d made holds)
 
@@ -341,7 +350,7 @@ module _ (ok : Type 0) (lines : List Handshake) (first port : ℕ) where
 
   -- A reset. Of the streams is said what is left of them with no connection.
   abbrev pub Emptied : DeviceState → Situation → Type 0
-  Emptied s c = IsHeldBy (Streamed (emptied s.table)) first port s c
+  Emptied s c = IsHeldBy carry (Streamed (emptied s.table)) first port s c
 
   close_keeps : (slot : ℕ) (s : DeviceState) (c : Situation) → Emptied s c → Keeps Emptied (close_slot slot s) c
   close_keeps slot s c holds = by (entry_under s.table slot) refl
@@ -353,19 +362,19 @@ module _ (ok : Type 0) (lines : List Handshake) (first port : ℕ) where
           let there = under_there s slot e under in
           let t : DeviceState = with_connection e.slot (stream_closed e.value) s in
           subst (λ (t : DeviceTree DeviceState). Keeps Emptied t c) (closing_done e stream_closed s)
-          (closing_keeps ok lines first port Emptied (λ t. Done t) e stream_closed s c (λ d closes.
-          closed_with ok lines first port (emptied t.table) t e.value c d closes (
+          (closing_keeps carry lines first port Emptied (λ t. Done t) e stream_closed s c (λ d closes.
+          closed_with carry lines first port (emptied t.table) t e.value c d closes (
             holds.0,
-            tells_weaker (IsToldBy (Streamed (emptied s.table)) first port s) (IsToldBy (Streamed (emptied t.table)) first port t) (λ hon o l was.
-                told_changed ok lines first port s t (Streamed (emptied s.table)) (Streamed (emptied t.table)) hon o o l refl refl
-                (λ fits. unseen port s fits e there (stream_closed e.value) refl (closed_fits e s fits there)) (λ fits x.
-                streams_go ok first lines lines port port (emptied s.table) (emptied t.table) l.entries l.entries (λ few. few) (λ h few y.
+            tells_weaker (IsToldBy carry (Streamed (emptied s.table)) first port s) (IsToldBy carry (Streamed (emptied t.table)) first port t) (λ hon o l was.
+                told_changed carry lines first port s t (Streamed (emptied s.table)) (Streamed (emptied t.table)) hon o o l refl refl
+                (λ fits. unseen carry port s fits e there (stream_closed e.value) refl (closed_fits e s fits there)) (λ fits x.
+                streams_go carry first lines lines port port (emptied s.table) (emptied t.table) l.entries l.entries (λ few. few) (λ h few y.
                 emptied_streams h l.entries port (emptied s.table) (emptied t.table) lines refl y) o x) was) c holds.1,
           )))
 
   module _ (cid : ℕ) (cid_fits : cid < 2 ^ 64) where
-    emptied_with : (t : DeviceState) (hon : Bool) (o : Option HostContents) (l : EndLog) → IsToldBy (Streamed (emptied t.table)) first port t hon o l
-        → IsToldBy (Streamed (emptied t.table)) first port (after_reset cid t) hon o (log_reset cid l)
+    emptied_with : (t : DeviceState) (hon : Bool) (o : Option HostContents) (l : EndLog) → IsToldBy carry (Streamed (emptied t.table)) first port t hon o l
+        → IsToldBy carry (Streamed (emptied t.table)) first port (after_reset cid t) hon o (log_reset cid l)
     emptied_with t hon o l was = (
       was.0,
       λ honest. let p = (was.1 honest).0 in (
@@ -379,8 +388,9 @@ module _ (ok : Type 0) (lines : List Handshake) (first port : ℕ) where
           none_overrun = p.none_overrun;
           matches = makes_reset Device first cid (ends_of_state port t) l.entries p.matches;
           fair = p.fair;
+          seated = carry.step (MakesReset cid) (seat port t l.entries) refl (λ all. all) p.seated;
         },
-        streams_go ok first lines lines port port (emptied t.table) (emptied t.table) l.entries (Mark cid ∷ l.entries) (plain_before first (Mark cid) l.entries)
+        streams_go carry first lines lines port port (emptied t.table) (emptied t.table) l.entries (Mark cid ∷ l.entries) (carry.before first (Mark cid) l.entries)
             (λ h few x. mark_streams h l.entries cid port (emptied t.table) lines x) o (was.1 honest).1,
       ),
     )
@@ -391,11 +401,11 @@ module _ (ok : Type 0) (lines : List Handshake) (first port : ℕ) where
     publishes : (t : DeviceState) (c : Situation) → Emptied t c → Keeps ResetEnds
         (Ask (Ring (PublishCid cid)) (λ _. Done (after_reset cid t, Ok tt))) c
     publishes t c holds = (
-      tt,
+      cid_fits,
       λ a d made. (
         holds.0,
-        moves _ _ _ _ _ (log_reset cid) c d made.0 made.1 (IsToldBy (Streamed (emptied t.table)) first port t)
-            (IsToldBy (Streamed (emptied t.table)) first port (after_reset cid t)) (λ hon o l asked was fair. emptied_with t hon o l was) holds.1,
+        moves _ _ _ _ _ (log_reset cid) c d made.0 made.1 (IsToldBy carry (Streamed (emptied t.table)) first port t)
+            (IsToldBy carry (Streamed (emptied t.table)) first port (after_reset cid t)) (λ hon o l asked was fair. emptied_with t hon o l was) holds.1,
       ),
     )
 
@@ -405,11 +415,11 @@ module _ (ok : Type 0) (lines : List Handshake) (first port : ℕ) where
         first_emptied : Emptied s c
         first_emptied = (
           holds.0,
-          tells_weaker (IsToldBy (Streamed s.table) first port s) (IsToldBy (Streamed (emptied s.table)) first port s) (λ hon o l was. (
+          tells_weaker (IsToldBy carry (Streamed s.table) first port s) (IsToldBy carry (Streamed (emptied s.table)) first port s) (λ hon o l was. (
             was.0,
             λ honest. let p = was.1 honest in (
               p.0,
-              streams_go ok first lines lines port port s.table (emptied s.table) l.entries l.entries (λ few. few) (λ h few x.
+              streams_go carry first lines lines port port s.table (emptied s.table) l.entries l.entries (λ few. few) (λ h few x.
                   emptied_streams h l.entries port s.table (emptied s.table) lines refl x) o p.1,
             ),
           )) c holds.1,
@@ -432,66 +442,68 @@ module _ (ok : Type 0) (lines : List Handshake) (first port : ℕ) where
     given (inl later) = grind (arith, nat_tests, later)
     given (inr kept) = absurd cc
 
+    later : (port ≤ flow.host) ⊎ (false ≡ true) → port ≤ flow.host
+    later (inl less) = less
+    later (inr kept) = absurd cc
+
     -- What is known before, and what the label leaves of it.
     module _ (F : Fact)
         (labels : (o n : Option HostContents) (log : Log) → Exposes o n (λ h. Unit {0}) (after_label stream flow) → F o log
-        → StreamedOver ok lines first (flow.host + 1) (with_client flow stream s).table n log)
-        (refused : (o : Option HostContents) (log : Log) → F o log → Streamed s.table o log) where
+        → StreamedOver carry lines first (flow.host + 1) (with_client flow stream s).table n log) where
       opened_with : refusal s.table flow ≡ None → (hon : Bool) (o n : Option HostContents) (l : EndLog) → Exposes o n (λ h. Unit {0}) (after_label stream flow)
-          → IsToldBy F first port s hon o l
-          → IsToldBy (StreamedOver ok lines first (flow.host + 1) (with_client flow stream s).table) first (flow.host + 1) (with_client flow stream s) hon n l
+          → IsToldBy carry F first port s hon o l
+          → IsToldBy carry (StreamedOver carry lines first (flow.host + 1) (with_client flow stream s).table) first (flow.host + 1) (with_client flow stream s) hon n l
       opened_with free hon o n l exposes was = (
         was.0,
         λ honest.
             let p = (was.1 honest).0 in
-            let c : DeviceConnection = new_connection (asked Stream BUF_ALLOC) stream true in (
+            let c : DeviceConnection = new_connection (asked Stream BUF_ALLOC) stream true in
+            let part_is =
+            ap (λ (n : ℕ). let part : Ends = record (asking Device flow Stream (ends_of_state port s)) { next_port = n } in part) (given next.port)
+            ∙ ap (λ (es : List FlowEnd). let part : Ends = record (ends_of_state (flow.host + 1) s) { entries = es } in part)
+            (sym (added_slot end_in s.table flow c)) in (
               record {
                 fits = opening_fits s p.fits flow c (accepted s.table flow free) ports (record {
                   bytes = record { unread = omega arith; within = omega arith; alloc = omega arith; rx = omega arith; fwd = omega arith };
                   new = λ new. record { by_client = refl; ok_line = refl; pending = refl; asked_at = refl; shut_at = refl };
                 }) refl;
                 none_overrun = p.none_overrun;
-                matches = subst (λ (part : Ends). Matches Device first part l.entries)
-                    (ap (λ (n : ℕ). let part : Ends = record (asking Device flow Stream (ends_of_state port s)) { next_port = n } in part) (given next.port)
-                    ∙ ap (λ (es : List FlowEnd). let part : Ends = record (ends_of_state (flow.host + 1) s) { entries = es } in part)
-                    (sym (added_slot end_in s.table flow c)))
+                matches = subst (λ (part : Ends). Matches Device first part l.entries) part_is
                     (asks first flow Stream (ends_of_state port s) l.entries p.matches next);
                 fair = p.fair;
+                seated = subst (λ (w : Seat). carry.holds w) (at_log l.entries _ _ part_is)
+                    (carry.step (Asks flow Stream) (seat port s l.entries) (next, later next.port) (λ all. all) p.seated);
               },
               labels o n l.entries exposes (was.1 honest).1,
             ),
       )
 
-      abbrev OpenEnds : DeviceState × Result ℕ TableFault → Situation → Type 0
-      OpenEnds x c = With ok lines first (port_after flow port x.1) x.0 c
-
-      pub open_keeps : (c : Situation) → IsHeldBy F first port s c → Keeps OpenEnds (open_of flow stream s) c
-      open_keeps c holds = by (refusal s.table flow) refl
+      pub open_keeps : (Q : DeviceState × Result ℕ TableFault → Situation → Type 0)
+          → ((fault : TableFault) (d : Situation) → refusal s.table flow ≡ Some fault → IsHeldBy carry F first port s d → Q (s, Err fault) d)
+          → ((d : Situation) → With carry lines first (flow.host + 1) (with_client flow stream s) d → Q (with_client flow stream s, Ok s.table.given) d)
+          → (c : Situation) → IsHeldBy carry F first port s c → Keeps Q (open_of flow stream s) c
+      open_keeps Q full opens c holds = by (refusal s.table flow) refl
         where
-          by : (o : Option TableFault) → refusal s.table flow ≡ o → Keeps OpenEnds (elim o [
+          by : (o : Option TableFault) → refusal s.table flow ≡ o → Keeps Q (elim o [
             | Some fault ↦ Done (s, Err fault)
             | None ↦ Ask (Label stream flow) (λ _. Done (with_client flow stream s, Ok s.table.given))
           ]) c
-          by (Some fault) full = (
-            holds.0,
-            tells_weaker (IsToldBy F first port s) (IsToldBy (Streamed s.table) first port s)
-                (λ hon o l was. (was.0, λ honest. ((was.1 honest).0, refused o l.entries (was.1 honest).1))) c holds.1,
-          )
+          by (Some fault) is = full fault c is holds
           by None free = (
             tt,
-            λ a d made. (
+            λ a d made. opens d (
               holds.0,
-              host_moves false (λ h. Unit {0}) (after_label stream flow) c d made (IsToldBy F first port s)
-                  (IsToldBy (StreamedOver ok lines first (flow.host + 1) (with_client flow stream s).table) first (flow.host + 1) (with_client flow stream s))
+              host_moves false (λ h. Unit {0}) (after_label stream flow) c d made (IsToldBy carry F first port s)
+                  (IsToldBy carry (StreamedOver carry lines first (flow.host + 1) (with_client flow stream s).table) first (flow.host + 1) (with_client flow stream s))
                   (opened_with free) holds.1,
             ),
           )
 
 pub opens_plain : (first port : ℕ) (flow : Flow) (stream : ℕ) (s : DeviceState) → IsNextFlow Device flow (ends_of_state port s) → IsFitFlow flow
-    → (c : Situation) → IsWith first port s c.ring → Keeps (λ x d. With ⊥ [] first (port_after flow port x.1) x.0 d) (open_of flow stream s) c
+    → (c : Situation) → IsWith first port s c.ring → Keeps (λ x d. With ring_only [] first (port_after flow port x.1) x.0 d) (open_of flow stream s) c
 opens_plain first port flow stream s next ports c holds =
-    open_keeps ⊥ [] first port flow stream s next ports (StreamedOver ⊥ [] first port s.table) (λ o n log made x no. absurd no) (λ o log x. x) c
-    (plain_with first port s c holds)
+    open_keeps ring_only [] first port flow stream s next ports (StreamedOver ring_only [] first port s.table) (λ o n log made x no. absurd no)
+    (λ x d. With ring_only [] first (port_after flow port x.1) x.0 d) (λ fault d is kept. kept) (λ d kept. kept) c (plain_with first port s c holds)
 
 -- A new device.
 pub new_with : (port cid : ℕ) (base : List ℕ) (c : RingContents) → cid < 2 ^ 64 → IsFresh c → IsWith cid port (new_device cid base) c

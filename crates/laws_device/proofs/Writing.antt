@@ -1,126 +1,144 @@
 -- A packet, or an event, is written into a chain and returned with it.
 use Rattle.std.proofs.Common.{◌≡◌, ℕ, ◌+◌, ◌≤◌, Bool, true, List, [], ◌∷◌, ◌++◌, length, take, Option, Some, None, refl, sym, ap, subst}
-use Rattle.std.proofs.{Common.◌∙◌, Common.arith, Common.IsSomeAnd, lemmas.List.append-nil}
+use Rattle.std.proofs.{Common.◌∙◌, Common.arith, Common.IsSomeAnd, lemmas.List.append-nil, lemmas.List.length-take}
 use Rattle.vs_contents.specs.CallTree.{Ask, bind}
 use Rattle.vs_header.specs.{Packet.header_bytes, declared.Header.Header, declared.TheConstants.HEADER_LEN}
 use Rattle.laws_history.specs.{Packets.packet_bytes, declared.packet.Packet.Packet}
 use Rattle.vs_page.specs.{Fair.IsFairLog, Held.packet_held, Log.Device, Log.Log, Overwriting.overwritten}
 use Rattle.vs_page.specs.declared.log.LogEntry.TheVariants.{PutPacket}
-use Rattle.vs_ring_port.specs.{Chains.Held, Chains.bytes_in, Contents.Return, Contents.Write, DeviceCalls.CanReturn}
-use Rattle.vs_ring_port.specs.{DeviceCalls.IsWholePacket, DriverCalls.HoldsPacket, EndLog.EndLog, EndLog.entries_returned}
-use Rattle.vs_ring_port.specs.{EndLog.log_returned, EndLog.log_written, EndLog.with_packet, declared.device_ring.Chain.Chain}
-use Rattle.vs_ring_port.specs.declared.queue.Queue.{Queue, TheVariants.Rx}
+use Rattle.vs_ring_port.specs.{Chains.Held, Chains.bytes_in, Contents.Return, Contents.Write, DeviceCalls.IsWholePacket}
+use Rattle.vs_ring_port.specs.{DriverCalls.HoldsPacket, EndLog.EndLog, EndLog.entries_returned, EndLog.log_returned, EndLog.log_written}
+use Rattle.vs_ring_port.specs.{EndLog.with_packet, declared.device_ring.Chain.Chain, declared.queue.Queue.Queue}
+use Rattle.vs_ring_port.specs.{declared.queue.Queue.TheVariants.Rx, Chains.without_held, declared.queue.Queue.TheVariants.Tx}
 use Rattle.laws_tables.specs.Matches.{Matches}
 use Rattle.vs_device_parts.specs.{Calls.DeviceTree, Calls.Ring, Calls.Situation, Receiving.written, State.DeviceState}
-use Rattle.laws_device.specs.Honest.{AgreesWith, IsFitState, ends_of_state, unwritten}
-use Rattle.laws_device.proofs.{Keeping.Keeps, Putting.Puts, Ringing.HoldsFirst, Ringing.Tells, Ringing.both_written, Ringing.bytes_held}
-use Rattle.laws_device.proofs.Ringing.{first_there, moves, one_written, overwritten_long, returned_entries, returned_held, written_held}
-use Rattle.laws_device.proofs.{Ringing.Telling, Carrying.Fact, Carrying.IsToldBy}
+use Rattle.laws_device.specs.Honest.{IsFitState, ends_of_state}
+use Rattle.laws_device.proofs.{Keeping.Keeps, Putting.Puts, Ringing.Tells, Ringing.moves, Ringing.overwritten_long, Seats.AgreesBy}
+use Rattle.laws_device.proofs.{Seats.Carried, Seats.seat, Chains.Among, Chains.Holds, Chains.both_written, Chains.first_written}
+use Rattle.laws_device.proofs.{Chains.held_there, Chains.holds_written, Chains.is_unwritten, Ringing.Telling, Carrying.Fact}
+use Rattle.laws_device.proofs.Carrying.{IsToldBy}
 use Rattle.vs_outside.specs.Host.{HostContents}
 
-module _ (first port : ℕ) (s : DeviceState) (F : Fact) where
-  -- These bytes are written into the chain that was taken last.
-  abbrev pub Writes : Chain → List ℕ → List Held → Telling
-  Writes chain bytes others honest host l = HoldsFirst chain bytes others l × (honest ≡ true → AgreesWith first port s l × F host l.entries)
+-- It begins with this header.
+abbrev IsHeaded : Header → List ℕ → Type 0
+IsHeaded h bytes = take HEADER_LEN bytes ≡ header_bytes h
 
-  pub write_keeps : {A : Type 0} (Q : A → Situation → Type 0) (next : DeviceTree A) (chain : Chain) (bytes new : List ℕ) (place : ℕ)
-      (others : List Held)
-      (c : Situation) → place ≤ length bytes → Tells (Writes chain bytes others) c
-      → ((d : Situation) → Tells (Writes chain (overwritten bytes place new) others) d → Keeps Q next d)
-      → Keeps Q (Ask (Ring (Write chain place new)) (λ _. next)) c
-  write_keeps Q next chain bytes new place others c within tells then = (
-    λ l is. subst (λ (b : List ℕ). place ≤ length b) (sym (bytes_held chain bytes others l (tells l is).0)) within,
-    λ a d made. then d (moves _ _ _ _ _ (log_written chain place new) c d made.0 made.1 (Writes chain bytes others)
-        (Writes chain (overwritten bytes place new) others)
-        (λ h o l asked was fair. (written_held chain bytes new place others l was.0, was.1)) tells),
+long : (h : Header) (bytes : List ℕ) → IsHeaded h bytes → HEADER_LEN ≤ length bytes
+long h bytes is =
+    let few = length-take HEADER_LEN bytes in
+    let all : length (take HEADER_LEN bytes) ≡ HEADER_LEN = ap length is in omega (arith, few, all)
+
+module _ (carry : Carried) (first port : ℕ) (s : DeviceState) (F : Fact) where
+  -- Into a chain that is held something was written.
+  abbrev pub Writes : Chain → (List ℕ → Type 0) → (List Held → Type 0) → Telling
+  Writes chain B P honest host l = Holds chain B P l.held × (honest ≡ true → AgreesBy carry first port s l × F host l.entries)
+
+  pub write_keeps : {A : Type 0} (Q : A → Situation → Type 0) (next : DeviceTree A) (chain : Chain) (B C : List ℕ → Type 0) (P : List Held → Type 0)
+      (new : List ℕ) (place : ℕ) (c : Situation) → (chain.queue ≡ Tx → ⊥) → ((bytes : List ℕ) → B bytes → place ≤ length bytes)
+      → ((bytes : List ℕ) → B bytes → C (overwritten bytes place new)) → Tells (Writes chain B P) c
+      → ((d : Situation) → Tells (Writes chain C P) d → Keeps Q next d) → Keeps Q (Ask (Ring (Write chain place new)) (λ _. next)) c
+  write_keeps Q next chain B C P new place c other within step tells then = (
+    (λ l is. within (bytes_in chain l.held) (tells l is).0.1, other),
+    λ a d made. then d (moves _ _ _ _ _ (log_written chain place new) c d made.0 made.1 (Writes chain B P) (Writes chain C P)
+        (λ h o l asked was fair. (holds_written chain B C P place new l.held step was.0, was.1)) tells),
   )
 
   -- A packet is returned, with the step on the device that puts it.
-  module _ (t : DeviceState) (h : Header) (payload : List ℕ) (puts : IsFitState s → Puts port s h payload t) (chain : Chain)
+  module _ (t : DeviceState) (h : Header) (payload : List ℕ) (puts : IsFitState s → Puts carry port s h payload t) (chain : Chain)
       (rx : chain.queue ≡ Rx)
       (G : Fact) (carries : IsFitState s → (o : Option HostContents) (log : Log) → F o log → G o (PutPacket (record { header = h; payload = payload }) ∷ log))
-      (bytes : List ℕ) (len : ℕ) (page_is : take len bytes ≡ header_bytes h ++ payload) where
-    entries_are : (l : EndLog) (p : AgreesWith first port s l) → entries_returned Rx (take len bytes) l.entries ≡ PutPacket
-        (record { header = h; payload = payload }) ∷ l.entries
-    entries_are l p =
-        ap (λ (b : List ℕ). with_packet (λ q. PutPacket q) (packet_held b) l.entries) page_is
+      (len : ℕ) (B : List ℕ → Type 0) (page_is : (bytes : List ℕ) → B bytes → take len bytes ≡ header_bytes h ++ payload)
+      (enough : (bytes : List ℕ) → B bytes → len ≤ length bytes) where
+    entries_are : (l : EndLog) → AgreesBy carry first port s l → (bytes : List ℕ) → B bytes
+        → entries_returned Rx (take len bytes) l.entries ≡ PutPacket (record { header = h; payload = payload }) ∷ l.entries
+    entries_are l p bytes b =
+        ap (λ (b : List ℕ). with_packet (λ q. PutPacket q) (packet_held b) l.entries) (page_is bytes b)
         ∙ ap (λ (o : Option Packet). with_packet (λ q. PutPacket q) o l.entries) (puts p.fits).held
 
-    whole : (l : EndLog) → AgreesWith first port s l → IsWholePacket Rx (take len bytes) l
-    whole l p =
+    whole : (l : EndLog) → AgreesBy carry first port s l → (bytes : List ℕ) → B bytes → IsWholePacket Rx (take len bytes) l
+    whole l p bytes b =
         let step = puts p.fits in (
-          subst HoldsPacket (sym page_is) (subst (λ (o : Option Packet). IsSomeAnd o (λ q. header_bytes h ++ payload ≡ packet_bytes q))
+          subst HoldsPacket (sym (page_is bytes b)) (subst (λ (o : Option Packet). IsSomeAnd o (λ q. header_bytes h ++ payload ≡ packet_bytes q))
               (sym step.held) refl),
-          subst (λ (log : Log). IsFairLog Device log) (sym (entries_are l p)) (step.fair first l.entries p.matches p.fair),
+          subst (λ (log : Log). IsFairLog Device log) (sym (entries_are l p bytes b)) (step.fair first l.entries p.matches p.fair),
         )
 
-    can_return : (c : Situation) → len ≤ chain.writable → len ≤ length bytes → Tells (Writes chain bytes []) c → CanReturn chain len c.ring
-    can_return c room long tells = record {
-      room = room;
-      written = λ l is. subst (λ (b : List ℕ). len ≤ length b) (sym (bytes_held chain bytes [] l (tells l is).0)) long;
-      whole = λ honest l is.
-          let was = tells l is in
-          subst (λ (q : Queue). IsWholePacket q (take len (bytes_in chain l.held)) l) (sym rx)
-          (subst (λ (b : List ℕ). IsWholePacket Rx (take len b) l) (sym (bytes_held chain bytes [] l was.0)) (whole l (was.1 honest).0));
-    }
-
-    returned : (none : t.chain ≡ None) (hon : Bool) (o : Option HostContents) (l : EndLog) → Writes chain bytes [] hon o l
-        → IsToldBy G first port t hon o (log_returned chain len l)
+    returned : (none : t.chain ≡ None) (hon : Bool) (o : Option HostContents) (l : EndLog) → Writes chain B carry.others hon o l
+        → IsToldBy carry G first port t hon o (log_returned chain len l)
     returned none hon o l was = (
-      λ going. returned_held chain bytes len [] l was.0 ∙ sym (ap unwritten none),
+      λ going. subst (λ (x : Option Chain). Among carry.others x (without_held chain l.held)) (sym none) was.0.2,
       λ honest.
           let p = (was.1 honest).0 in
           let step = puts p.fits in
           let now : (log_returned chain len l).entries ≡ PutPacket (record { header = h; payload = payload }) ∷ l.entries =
-          returned_entries chain Rx bytes len [] l rx was.0 ∙ entries_are l p in (
+          ap (λ (q : Queue). entries_returned q (take len (bytes_in chain l.held)) l.entries) rx ∙ entries_are l p (bytes_in chain l.held) was.0.1 in (
             record {
               fits = step.fits;
               none_overrun = step.overrun_is ∙ p.none_overrun;
               matches = subst (λ (log : Log). Matches Device first (ends_of_state port t) log) (sym now)
                   (step.matches first l.entries p.matches);
               fair = subst (λ (log : Log). IsFairLog Device log) (sym now) (step.fair first l.entries p.matches p.fair);
+              seated = subst (λ (log : Log). carry.holds (seat port t log)) (sym now) (step.goes l.entries p.seated);
             },
             subst (λ (log : Log). G o log) (sym now) (carries p.fits o l.entries (was.1 honest).1),
           ),
     )
 
-    pub return_keeps : {A : Type 0} (Q : A → Situation → Type 0) (next : DeviceTree A) (c : Situation) → len ≤ chain.writable
-        → len ≤ length bytes
-        → t.chain ≡ None → Tells (Writes chain bytes []) c → ((d : Situation) → Tells (IsToldBy G first port t) d → Keeps Q next d)
+    pub return_keeps : {A : Type 0} (Q : A → Situation → Type 0) (next : DeviceTree A) (c : Situation) → len ≤ chain.writable → t.chain ≡ None
+        → Tells (Writes chain B carry.others) c → ((d : Situation) → Tells (IsToldBy carry G first port t) d → Keeps Q next d)
         → Keeps Q (Ask (Ring (Return chain len)) (λ _. next)) c
-    return_keeps Q next c room long none tells then = (
-      (λ some. can_return c room long tells, λ l is. first_there chain bytes [] l (tells l is).0),
-      λ a d made. then d (moves _ _ _ _ _ (log_returned chain len) c d made.0.1 made.1 (Writes chain bytes []) (IsToldBy G first port t)
+    return_keeps Q next c room none tells then = (
+      (
+        λ some. record {
+          room = room;
+          written = λ l is. enough (bytes_in chain l.held) (tells l is).0.1;
+          whole = λ honest l is.
+              let was = tells l is in
+              subst (λ (q : Queue). IsWholePacket q (take len (bytes_in chain l.held)) l) (sym rx) (whole l (was.1 honest).0 (bytes_in chain l.held) was.0.1);
+        },
+        λ l is. held_there chain l.held (tells l is).0.0,
+      ),
+      λ a d made. then d (moves _ _ _ _ _ (log_returned chain len) c d made.0.1 made.1 (Writes chain B carry.others) (IsToldBy carry G first port t)
           (λ hon o l asked was fair. returned none hon o l was) tells),
     )
 
   -- The whole packet.
   pub written_keeps : {A : Type 0} (Q : A → Situation → Type 0) (next : DeviceTree A) (t : DeviceState) (h : Header) (payload : List ℕ)
-      → (IsFitState s → Puts port s h payload t) → (G : Fact)
+      → (IsFitState s → Puts carry port s h payload t) → (G : Fact)
       → (IsFitState s → (o : Option HostContents) (log : Log) → F o log → G o (PutPacket (record { header = h; payload = payload }) ∷ log)) → (chain : Chain) → chain.queue ≡ Rx → HEADER_LEN + length payload ≤ chain.writable
       → t.chain ≡ None
-      → (c : Situation) → Tells (Writes chain [] []) c → ((d : Situation) → Tells (IsToldBy G first port t) d → Keeps Q next d)
+      → (c : Situation) → Tells (Writes chain is_unwritten carry.others) c → ((d : Situation) → Tells (IsToldBy carry G first port t) d → Keeps Q next d)
       → Keeps Q (bind (written chain h payload) (λ _. next)) c
-  written_keeps Q next t h [] puts G carries chain rx room none c tells then =
-      write_keeps Q (Ask (Ring (Return chain HEADER_LEN)) (λ _. next)) chain [] (header_bytes h) 0 [] c (omega arith) tells (λ d now.
-      return_keeps t h [] puts chain rx G carries (overwritten [] 0 (header_bytes h)) HEADER_LEN
-      (one_written (header_bytes h) HEADER_LEN refl ∙ sym (append-nil (header_bytes h))) Q next d (omega (arith, room))
-      (omega arith) none now then)
-  written_keeps Q next t h (x ∷ xs) puts G carries chain rx room none c tells then =
-      let one : List ℕ = overwritten [] 0 (header_bytes h) in
-      write_keeps Q (Ask (Ring (Write chain HEADER_LEN (x ∷ xs)))
-      (λ _. Ask (Ring (Return chain (HEADER_LEN + length (x ∷ xs)))) (λ _. next)))
-      chain [] (header_bytes h) 0 [] c (omega arith) tells (λ d now.
-      write_keeps Q (Ask (Ring (Return chain (HEADER_LEN + length (x ∷ xs)))) (λ _. next)) chain one (x ∷ xs) HEADER_LEN [] d
-      (omega arith) now (λ e after.
-      return_keeps t h (x ∷ xs) puts chain rx G carries (overwritten one HEADER_LEN (x ∷ xs)) (HEADER_LEN + length (x ∷ xs))
-      (both_written (header_bytes h) (x ∷ xs) HEADER_LEN refl) Q next e room (long (header_bytes h) refl) none after then))
+  written_keeps Q next t h payload puts G carries chain rx room none c tells then = by payload puts carries room
     where
-      long : (front : List ℕ) → length front ≡ HEADER_LEN → HEADER_LEN + length (x ∷ xs) ≤ length
-          (overwritten (overwritten [] 0 front) HEADER_LEN (x ∷ xs))
-      long front is = overwritten_long (overwritten [] 0 front) (x ∷ xs) HEADER_LEN (ap length (one_written front HEADER_LEN is) ∙ is)
+      other : chain.queue ≡ Tx → ⊥
+      other tx = let both : Rx ≡ Tx = sym rx ∙ tx in cc
+
+      by : (payload : List ℕ) → (IsFitState s → Puts carry port s h payload t)
+          → (IsFitState s → (o : Option HostContents) (log : Log) → F o log → G o (PutPacket (record { header = h; payload = payload }) ∷ log))
+          → HEADER_LEN + length payload ≤ chain.writable → Keeps Q (bind (written chain h payload) (λ _. next)) c
+      by [] puts carries room =
+          write_keeps Q (Ask (Ring (Return chain HEADER_LEN)) (λ _. next)) chain is_unwritten (IsHeaded h) carry.others (header_bytes h) 0 c other
+          (λ bytes b. omega arith) (λ bytes b. first_written bytes (header_bytes h) HEADER_LEN refl) tells (λ d now.
+          return_keeps t h [] puts chain rx G carries HEADER_LEN (IsHeaded h) (λ bytes b. b ∙ sym (append-nil (header_bytes h))) (long h) Q next d
+          (omega (arith, room)) none now then)
+      by (x ∷ xs) puts carries room =
+          let page : List ℕ = header_bytes h ++ x ∷ xs in
+          let all : ℕ = HEADER_LEN + length (x ∷ xs) in
+          let IsWritten : List ℕ → Type 0 = λ bytes. (take all bytes ≡ page) × (all ≤ length bytes) in
+          write_keeps Q (Ask (Ring (Write chain HEADER_LEN (x ∷ xs))) (λ _. Ask (Ring (Return chain all)) (λ _. next))) chain is_unwritten (IsHeaded h) carry.others
+          (header_bytes h) 0 c other (λ bytes b. omega arith) (λ bytes b. first_written bytes (header_bytes h) HEADER_LEN refl) tells (λ d now.
+          write_keeps Q (Ask (Ring (Return chain all)) (λ _. next)) chain (IsHeaded h) IsWritten carry.others (x ∷ xs) HEADER_LEN d other (long h)
+          (λ bytes b. (
+            both_written bytes (header_bytes h) (x ∷ xs) HEADER_LEN b refl,
+            overwritten_long bytes (x ∷ xs) HEADER_LEN (ap length b),
+          )) now (λ e after.
+          return_keeps t h (x ∷ xs) puts chain rx G carries all IsWritten (λ bytes b. b.0) (λ bytes b. b.1) Q next e room none after then))
 
 -- What the device holds before a packet is put.
-pub writes_first : (first port : ℕ) (s : DeviceState) (F : Fact) (chain : Chain) (c : Situation) → s.chain ≡ Some chain → s.failed ≡ None
-    → Tells (IsToldBy F first port s) c → Tells (Writes first port s F chain [] []) c
-writes_first first port s F chain c is going tells = λ l told. let was = tells l told in (was.0 going ∙ ap unwritten is, was.1)
+pub writes_first : (carry : Carried) (first port : ℕ) (s : DeviceState) (F : Fact) (chain : Chain) (c : Situation) → s.chain ≡ Some chain → s.failed ≡ None
+    → Tells (IsToldBy carry F first port s) c → Tells (Writes carry first port s F chain is_unwritten carry.others) c
+writes_first carry first port s F chain c is going tells = λ l told. let was = tells l told in (
+  subst (λ (x : Option Chain). Among carry.others x l.held) is (was.0 going),
+  was.1,
+)

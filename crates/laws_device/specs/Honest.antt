@@ -1,6 +1,6 @@
 -- Where a ring tells the device's log: the chains that the device holds, and over an honest ring its connections and the log.
 use Rattle.std.specs.{List.All, Option.ForSome, Prelude.◌≡◌, Prelude.ℕ, Prelude.◌+◌, Prelude.◌<◌, Prelude.◌≤◌, Prelude.◌^◌, Prelude.◌||◌}
-use Rattle.std.specs.Prelude.{Bool, false, true, List, [], ◌∷◌, length, Option, Some, None, Result, Ok, Err, IfSome}
+use Rattle.std.specs.Prelude.{Bool, false, true, if◌then◌else◌, List, [], ◌∷◌, length, Option, Some, None, Result, Ok, Err, IfSome}
 use Rattle.vs_conn.specs.{End.ConnectionEnd, declared.end.State.State}
 use Rattle.vs_header.specs.declared.Kind.TheVariants.{Stream}
 use Rattle.vs_credit.specs.{Credit.unread_of, declared.Credit.Credit}
@@ -9,7 +9,7 @@ use Rattle.laws_history.specs.{History.Asker, Packets.is_rst, declared.packet.Pa
 use Rattle.vs_limits.specs.declared.TheConstants.{BUF_ALLOC}
 use Rattle.vs_page.specs.{Fair.IsFairLog, Log.Device, Log.Log, Log.side_of, Open.is_open}
 use Rattle.vs_replies.specs.declared.Reply.{Reply}
-use Rattle.vs_ring_port.specs.{Chains.Held, Contents.RingContents, EndLog.EndLog, declared.device_ring.Chain.Chain}
+use Rattle.vs_ring_port.specs.{Chains.Held, Chains.same_chain, Contents.RingContents, EndLog.EndLog, declared.device_ring.Chain.Chain}
 use Rattle.laws_tables.specs.{Ends.Ends, Ends.entries_of, Ends.is_among, Ends.is_new, Ends.new_flows, Ends.replied, Matches.Matches}
 use Rattle.vs_device_parts.specs.{Playing.IsRxChain, State.DeviceConnection, State.DeviceEntry, State.DeviceState}
 
@@ -83,6 +83,11 @@ pub record IsLeft (first port cid overrun : ℕ) (table : Table DeviceConnection
 
 abbrev pub AgreesWith : ℕ → ℕ → DeviceState → EndLog → Type 0
 AgreesWith first port s l = IsLeft first port s.cid s.overrun s.table s.replies l.entries
+
+-- A chain is held.
+abbrev pub is_held : Chain → List Held → Bool
+is_held chain [] = false
+is_held chain (h ∷ held) = if same_chain chain h.chain then true else is_held chain held
 
 -- The chain that the device holds between its calls: nothing is written into it.
 abbrev pub unwritten : Option Chain → List Held

@@ -5,7 +5,7 @@ use Rattle.vs_device_parts.specs.{Calls.Allows, Calls.Situation, Playing.CanMake
 use Rattle.laws_device_streams.specs.{Split.CanReach, Streams.FindsStreams}
 use Rattle.laws_device_streams.proofs.{Conditions.may_where, Conditions.quiet_can, Keeping.keeps_may, Opening.new_has}
 use Rattle.laws_device.specs.Honest.{IsFresh}
-use Rattle.laws_device.proofs.Keeping.{keeps_end, keeps_put}
+use Rattle.laws_device.proofs.{Carrying.ring_and_host, Carrying.ring_only, Keeping.keeps_end, Keeping.keeps_put}
 use Rattle.vs_proxy_parts.specs.{Handshakes.streams_of, State.ProxyState, Turns.new_proxy, Turns.proxy_reset_of, Turns.turn_of}
 use Rattle.vs_proxy_parts.specs.declared.answers.Turn.{Turn}
 use Rattle.laws_proxy_streams.proofs.{Lists.none_open, Turning.keeps_proxy_reset, Turning.keeps_turn}
@@ -33,7 +33,7 @@ new_streamed cid base a fresh none honest l is plain h there =
 pub turn_may : (first size now : ℕ) (s : ProxyState) (a : Situation) → IsInOrder first s a → MayRun (turn_of size now s) a
 turn_may first size now s a is =
     may_where (turn_of size now s) a (keeps_may CanReach Allows _ (turn_of size now s) a (keeps_turn size now s a is.streams))
-    (keeps_put _ (turn_of size now s) a (turn_keeps ⊥ first size now s a (plain_proxied first s a is.ring)))
+    (keeps_put _ (turn_of size now s) a (turn_keeps ring_only first size now s a (plain_proxied first s a is.ring)))
 
 pub reset_may : (first cid : ℕ) (s : ProxyState) (a : Situation) → IsInOrder first s a → MayRun (proxy_reset_of cid s) a
 reset_may first cid s a is =
@@ -47,12 +47,12 @@ module _ (s : ProxyState) (a b : Situation) where
   pub turn_honest : (size now : ℕ) (x : ProxyState × Turn) → Runs (turn_of size now s) a x b → (first : ℕ) → IsProxyWith first s a.ring
       → IsProxyWith first x.0 b.ring
   turn_honest size now x runs first holds =
-      proxied_ring ⊥ first x.0 b (keeps_end _ (turn_of size now s) a b x (turn_keeps ⊥ first size now s a (plain_proxied first s a holds)) runs)
+      proxied_ring ⊥ first x.0 b (keeps_end _ (turn_of size now s) a b x (turn_keeps ring_only first size now s a (plain_proxied first s a holds)) runs)
 
   pub turn_streamed : (size now : ℕ) (x : ProxyState × Turn) → Runs (turn_of size now s) a x b → (first : ℕ) → IsProxyWith first s a.ring
       → IsProxyStreamed first s a → IsProxyStreamed first x.0 b
   turn_streamed size now x runs first holds streams = proxied_streams first x.0 b
-      (keeps_end _ (turn_of size now s) a b x (turn_keeps (Unit {0}) first size now s a (streamed_proxied first s a holds streams)) runs)
+      (keeps_end _ (turn_of size now s) a b x (turn_keeps ring_and_host first size now s a (streamed_proxied first s a holds streams)) runs)
 
   pub reset_streams : (cid : ℕ) (x : ProxyState × Result (Unit {0}) Failure) → Runs (proxy_reset_of cid s) a x b
       → FindsStreams (streams_of s) s.device a → FindsStreams (streams_of x.0) x.0.device b
@@ -63,9 +63,9 @@ module _ (s : ProxyState) (a b : Situation) where
       → (first : ℕ) → IsProxyWith first s a.ring → IsProxyWith first x.0 b.ring
   reset_honest cid x fits runs first holds =
       proxied_ring ⊥ first x.0 b
-      (keeps_end _ (proxy_reset_of cid s) a b x (proxy_reset_keeps ⊥ first cid s a fits (plain_proxied first s a holds)) runs)
+      (keeps_end _ (proxy_reset_of cid s) a b x (proxy_reset_keeps ring_only first cid s a fits (plain_proxied first s a holds)) runs)
 
   pub reset_streamed : (cid : ℕ) (x : ProxyState × Result (Unit {0}) Failure) → cid < 2 ^ 64 → Runs (proxy_reset_of cid s) a x b
       → (first : ℕ) → IsProxyWith first s a.ring → IsProxyStreamed first s a → IsProxyStreamed first x.0 b
   reset_streamed cid x fits runs first holds streams = proxied_streams first x.0 b
-      (keeps_end _ (proxy_reset_of cid s) a b x (proxy_reset_keeps (Unit {0}) first cid s a fits (streamed_proxied first s a holds streams)) runs)
+      (keeps_end _ (proxy_reset_of cid s) a b x (proxy_reset_keeps ring_and_host first cid s a fits (streamed_proxied first s a holds streams)) runs)

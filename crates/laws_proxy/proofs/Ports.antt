@@ -1,63 +1,40 @@
--- The host ports that are assigned, and the guest ports of CONNECT lines.
-use Rattle.std.proofs.Common.{ℕ, ◌≤◌, refl, arith, List}
-use Rattle.vs_device_parts.specs.{State.DeviceState, State.DeviceConnection, Calls.Situation}
-use Rattle.laws_device.proofs.{Ringing.tells_weaker, Carrying.IsToldBy, Carrying.StreamedOver, Carrying.With, Carrying.streams_go}
-use Rattle.vs_proxy_parts.specs.State.{Handshake}
-use Rattle.laws_device_bytes.specs.Streamed.{IsStreamed}
-use Rattle.vs_outside.specs.Host.{HostContents}
-use Rattle.vs_page.specs.Log.{Log}
-use Rattle.vs_flow.specs.Table.{Table}
+-- Where a connection may be opened the table takes it: its host port is the next one, which was never given.
+use Rattle.std.proofs.Common.{◌≡◌, ℕ, ◌≤◌, nat_le, true, [], ◌∷◌, Option, Some, None, refl, sym, ap, ◌∙◌, arith}
+use Rattle.std.proofs.{lemmas.Bool.Decides.nat_tests, lemmas.Bool.and_parts}
+use Rattle.vs_flow.specs.{Flow.host_flow, Flow.is_assigned, Flow.same_flow, Table.IsTable, Table.Table, Table.entry_of, Table.has_place}
+use Rattle.vs_flow.specs.{Table.refusal, declared.flow.Flow.Flow}
+use Rattle.vs_flow.proofs.Entries.{same_flow_true}
+use Rattle.vs_limits.specs.declared.TheConstants.{ASSIGNED_FIRST, ASSIGNED_LAST}
+use Rattle.vs_page.specs.Log.{Device, side_by}
+use Rattle.vs_ring_port.specs.EndLog.{EndLog}
+use Rattle.laws_tables.specs.Ends.{ends_of, entries_of}
+use Rattle.laws_tables.proofs.Slots.{found_by, one_end}
+use Rattle.vs_device_parts.specs.State.{DeviceConnection, DeviceEntry}
+use Rattle.laws_device.specs.Honest.{end_in}
+use Rattle.laws_device.proofs.Seats.{AgreesBy, Carried}
+use Rattle.vs_proxy_parts.specs.{Handshakes.may_open, State.ProxyState}
 
--- A later port may be the next one.
-later_streams : (h : HostContents) (log : Log) (port next : ℕ) (t : Table DeviceConnection) (lines : List Handshake) → port ≤ next → IsStreamed h log port t lines
-    → IsStreamed h log next t lines
-later_streams h log port next t lines less x = record {
-  joined = x.joined;
-  labels = λ id s f there label. let y = x.labels id s f there label in record {
-    listed = y.listed;
-    client = y.client;
-    whole = y.whole;
-    took = y.took;
-    gave = y.gave;
-    ported = λ own. let before = y.ported own in omega (arith, before, less);
-    passed = y.passed;
-  };
-  unique = x.unique;
-  none = x.none;
-  waiting = x.waiting;
-  lines = x.lines;
-}
+-- A flow without an end has no entry.
+absent : (t : Table DeviceConnection) (f : Flow) → IsTable t → ends_of f (entries_of end_in t) ≡ [] → entry_of t f ≡ None
+absent t f sound none = by (entry_of t f) refl
+  where
+    by : (o : Option DeviceEntry) → entry_of t f ≡ o → o ≡ None
+    by None is = refl
+    by (Some e) is =
+        let found = found_by (λ (x : DeviceEntry). same_flow f x.flow) t.entries e is in
+        let one = one_end end_in t e sound found.0 in
+        let same = same_flow_true f e.flow found.1 in
+        let two : [] ≡ end_in e.value ∷ [] = sym none ∙ ap (λ (g : Flow). ends_of g (entries_of end_in t)) same ∙ one in
+        absurd cc
 
-pub later : (ok : Type 0) (lines : List Handshake) (first port next : ℕ) (s : DeviceState) (c : Situation) → port ≤ next → With ok lines first port s c
-    → With ok lines first next s c
-later ok lines first port next s c less holds = (
-  holds.0,
-  tells_weaker (IsToldBy (StreamedOver ok lines first port s.table) first port s) (IsToldBy (StreamedOver ok lines first next s.table) first next s) (λ hon o l was. (
-    was.0,
-    λ honest. let p = (was.1 honest).0 in (
-      record {
-        fits = p.fits;
-        none_overrun = p.none_overrun;
-        matches = record {
-          flows = record {
-            on = p.matches.flows.on;
-            unused = λ f asker above.
-                let u = p.matches.flows.unused f asker (omega (arith, less, above)) in record { silent = u.silent; no_end = u.no_end; not_kept = refl };
-            kept = λ f among. absurd cc;
-            once = tt;
-            cid = p.matches.flows.cid;
-          };
-          fairly = λ fair. let left = p.matches.fairly fair in record {
-            within = left.within;
-            kept = λ f among. absurd cc;
-            ready = left.ready;
-            replies = left.replies;
-          };
-        };
-        fair = p.fair;
-      },
-      streams_go ok first lines lines port next s.table s.table l.entries l.entries (λ few. few) (λ h few x. later_streams h l.entries port next s.table lines less x) o
-          (was.1 honest).1,
-    ),
-  )) c holds.1,
-)
+pub last_port : (s : ProxyState) → may_open s ≡ true → s.next_port ≤ ASSIGNED_LAST
+last_port s may = let less = (and_parts (has_place s.device.table) (nat_le s.next_port ASSIGNED_LAST) may).1 in grind (arith, nat_tests, less)
+
+pub not_refused : (carry : Carried) (first : ℕ) (s : ProxyState) (l : EndLog) (guest : ℕ) → AgreesBy carry first s.next_port s.device l → ASSIGNED_FIRST ≤ s.next_port
+    → may_open s ≡ true → refusal s.device.table (host_flow guest s.next_port) ≡ None
+not_refused carry first s l guest p above may =
+    let f : Flow = host_flow guest s.next_port in
+    let last = last_port s may in
+    let inside : is_assigned s.next_port ≡ true = grind (arith, nat_tests, above, last) in
+    let unused = p.matches.flows.unused f (ap (side_by Device) inside) (omega arith) in
+    rw (absent s.device.table f p.fits.sound unused.no_end, (and_parts (has_place s.device.table) (nat_le s.next_port ASSIGNED_LAST) may).0) refl

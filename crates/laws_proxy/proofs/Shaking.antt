@@ -1,10 +1,9 @@
 -- Handshakes make no call on the ring. A whole line opens a connection under the next host port.
-use Rattle.std.proofs.Common.{inl, ◌≡◌, ℕ, ◌+◌, ◌<◌, ◌≤◌, ◌^◌, ◌&&◌, nat_le, nat_lt, Bool, true, false, cond, if◌then◌else◌, List, ◌++◌}
-use Rattle.std.proofs.Common.{length, Option, Some, None, Result, Ok, Err, refl, sym, ap, subst, arith, ◌≢◌, ◌==◌, ◌∙◌, ◌∷◌, []}
+use Rattle.std.proofs.Common.{inl, ◌≡◌, ℕ, ◌+◌, ◌<◌, ◌≤◌, ◌^◌, nat_lt, Bool, true, false, cond, if◌then◌else◌, List, ◌++◌, length, Option}
+use Rattle.std.proofs.Common.{Some, None, refl, sym, ap, subst, arith, ◌≢◌, ◌==◌, ◌∙◌, ◌∷◌, []}
 use Rattle.std.proofs.lemmas.Bool.Decides.{nat_tests}
 use Rattle.vs_contents.specs.CallTree.{Done, Ask, bind, for_each}
-use Rattle.vs_flow.specs.{Flow.host_flow, Flow.is_assigned, Table.has_place, Table.Table, declared.flow.Flow.Flow}
-use Rattle.vs_flow.specs.declared.table.TableFault.{TableFault}
+use Rattle.vs_flow.specs.{Flow.host_flow, Flow.is_assigned, Table.Table, declared.flow.Flow.Flow}
 use Rattle.vs_limits.specs.declared.TheConstants.{ASSIGNED_LAST, HANDSHAKES, ASSIGNED_FIRST}
 use Rattle.vs_outside.specs.{declared.host_net.Accepted.Accepted, declared.host_net.StreamRead.StreamRead, Host.HostContents}
 use Rattle.vs_outside.specs.Host.{accept_answer, after_accept, after_close, after_label, after_read, called}
@@ -13,16 +12,15 @@ use Rattle.vs_page.specs.Log.{Device, side_by, Log}
 use Rattle.vs_uds.specs.{ConnectLine.connect_step, declared.connect.TheConstants.CONNECT_MAX, declared.scan.Step.Step}
 use Rattle.vs_device_parts.specs.Calls.{Accept, DeviceTree, ReadStream, Allows, HostMoves, IsReadOf, Situation}
 use Rattle.vs_device_parts.specs.{Connections.is_late, Connections.with_client, State.DeviceState, State.DeviceConnection, Turns.open_of}
-use Rattle.laws_device.specs.{Honest.port_after, Streams.IsPlain}
 use Rattle.laws_device.proofs.{Keeping.Goes, Keeping.Keeps, Keeping.keeps_each, Keeping.keeps_then, Keeping.keeps_while, Turning.open_keeps}
 use Rattle.laws_device.proofs.Carrying.{Fact, IsHeldBy, IsToldBy, StreamedOver, With, closed_over, streams_call, streams_go}
-use Rattle.laws_device.proofs.Ringing.{host_moves, tells_weaker}
+use Rattle.laws_device.proofs.{Ringing.host_moves, Ringing.tells_weaker, Seats.Carried}
 use Rattle.vs_proxy_parts.specs.Handshakes.{accept_answered, accept_one, byte_read, dropping, handshake_on, host_fault, line_decided}
 use Rattle.vs_proxy_parts.specs.Handshakes.{may_open, opening, read_byte, read_line, shake_hands, streams_of, tick_handshake}
 use Rattle.vs_proxy_parts.specs.Handshakes.{tick_handshakes, with_line, without_handshake, without_stream}
 use Rattle.vs_proxy_parts.specs.State.{Handshake, Turning, with_device}
 use Rattle.vs_uds.proofs.Decided.{port_fits}
-use Rattle.laws_proxy.proofs.Ports.{later}
+use Rattle.laws_proxy.proofs.Ports.{last_port, not_refused}
 use Rattle.laws_device_bytes.specs.Streamed.{IsStreamed, has_line, look, reading}
 use Rattle.laws_device_streams.proofs.Tables.{some_after, some_from}
 use Rattle.laws_device_bytes.proofs.{Changing.called_host, Changing.goes_on, HostCalls.accepted_host, Hands.ends_by, Hands.no_line}
@@ -42,30 +40,30 @@ pub record IsLineOn (hands : List Handshake) (port : ℕ) (table : Table DeviceC
   pub more : connect_step line ≡ step.More → IsStreamed c log port table hands
   pub ended : (guest : ℕ) → connect_step line ≡ step.Port guest → (has_line line ≡ true) × (after_line line ≡ [])
 
-module _ (ok : Type 0) (first : ℕ) where
+module _ (carry : Carried) (first : ℕ) where
   abbrev pub Turns : Turning → Situation → Type 0
-  Turns t c = (ASSIGNED_FIRST ≤ t.state.next_port) × With ok t.state.handshakes first t.state.next_port t.state.device c
+  Turns t c = (ASSIGNED_FIRST ≤ t.state.next_port) × With carry t.state.handshakes first t.state.next_port t.state.device c
 
   abbrev pub Goes-on : Turning × Bool → Situation → Type 0
   Goes-on = Goes Turns Turns
 
   abbrev Streamed : List Handshake → Turning → Fact
-  Streamed hands t = StreamedOver ok hands first t.state.next_port t.state.device.table
+  Streamed hands t = StreamedOver carry hands first t.state.next_port t.state.device.table
 
   -- A call on the host that changes lines.
   calls : (hands : List Handshake) (t : Turning) (failed : Bool) (A : HostContents → Type 0) (f : HostContents → HostContents)
       → ((h : HostContents) (log : Log) → A h → IsStreamed h log t.state.next_port t.state.device.table t.state.handshakes
       → IsStreamed (f h) log t.state.next_port t.state.device.table hands) → (c d : Situation) → HostMoves failed A f c d → Turns t c
-      → With ok hands first t.state.next_port t.state.device d
+      → With carry hands first t.state.next_port t.state.device d
   calls hands t failed A f step c d made holds =
       let s : DeviceState = t.state.device in
       let port : ℕ = t.state.next_port in (
         holds.1.0,
-        host_moves failed A f c d made (IsToldBy (Streamed t.state.handshakes t) first port s) (IsToldBy (Streamed hands t) first port s) (λ hon o n l exposes was. (
+        host_moves failed A f c d made (IsToldBy carry (Streamed t.state.handshakes t) first port s) (IsToldBy carry (Streamed hands t) first port s) (λ hon o n l exposes was. (
           was.0,
           λ honest. let p = was.1 honest in (
             p.0,
-            streams_call ok first t.state.handshakes hands port port s.table s.table l.entries l.entries (λ few. few) A f
+            streams_call carry first t.state.handshakes hands port port s.table s.table l.entries l.entries (λ few. few) A f
                 (λ h answers few x. step h l.entries answers x) o n exposes p.1,
           ),
         )) holds.1.1,
@@ -73,7 +71,7 @@ module _ (ok : Type 0) (first : ℕ) where
 
   -- A handshake ends.
   closes : (stream : ℕ) (t : Turning) (F : Fact) → ((o : Option HostContents) (log : Log) → F o log → Streamed (without_stream stream t.state.handshakes) t o log)
-      → (c : Situation) → ASSIGNED_FIRST ≤ t.state.next_port → IsHeldBy F first t.state.next_port t.state.device c → Keeps Turns (dropping stream t) c
+      → (c : Situation) → ASSIGNED_FIRST ≤ t.state.next_port → IsHeldBy carry F first t.state.next_port t.state.device c → Keeps Turns (dropping stream t) c
   closes stream t F less c above holds =
       let s : DeviceState = t.state.device in
       let port : ℕ = t.state.next_port in
@@ -83,9 +81,9 @@ module _ (ok : Type 0) (first : ℕ) where
           above,
           (
             holds.0,
-            host_moves false (λ h. Unit {0}) (after_close stream) c d made (IsToldBy F first port s) (IsToldBy (Streamed hands t) first port s) (λ hon o n l exposes was. (
+            host_moves false (λ h. Unit {0}) (after_close stream) c d made (IsToldBy carry F first port s) (IsToldBy carry (Streamed hands t) first port s) (λ hon o n l exposes was. (
               was.0,
-              λ honest. let p = was.1 honest in (p.0, closed_over ok first hands port s.table l.entries stream o n exposes (less o l.entries p.1)),
+              λ honest. let p = was.1 honest in (p.0, closed_over carry first hands port s.table l.entries stream o n exposes (less o l.entries p.1)),
             )) holds.1,
           ),
         ),
@@ -95,11 +93,11 @@ module _ (ok : Type 0) (first : ℕ) where
   drops stream t c holds =
       let s : DeviceState = t.state.device in
       closes stream t (Streamed t.state.handshakes t) (λ o log x.
-      streams_go ok first t.state.handshakes (without_stream stream t.state.handshakes) t.state.next_port t.state.next_port s.table s.table log log (λ few. few)
+      streams_go carry first t.state.handshakes (without_stream stream t.state.handshakes) t.state.next_port t.state.next_port s.table s.table log log (λ few. few)
       (λ h few y. without_host h log t.state.next_port s.table t.state.handshakes stream y) o x) c holds.0 holds.1
 
   -- Timeouts.
-  ticks : (stream : ℕ) (t : Turning) (c : Situation) → Turns t c → Keeps Turns (tick_handshake stream t) c
+  pub ticks : (stream : ℕ) (t : Turning) (c : Situation) → Turns t c → Keeps Turns (tick_handshake stream t) c
   ticks stream t c holds = by (handshake_on stream t.state)
     where
       late : (b : Bool) → Keeps Turns (cond b (dropping stream t) (Done t)) c
@@ -117,7 +115,7 @@ module _ (ok : Type 0) (first : ℕ) where
   tick_all t c holds = keeps_each Turns tick_handshake ticks (streams_of t.state) t c holds
 
   -- A client is accepted.
-  accepts : (t : Turning) (c : Situation) → Turns t c → Keeps Turns (accept_one t) c
+  pub accepts : (t : Turning) (c : Situation) → Turns t c → Keeps Turns (accept_one t) c
   accepts t c holds = by (nat_lt (length t.state.handshakes) HANDSHAKES)
     where
       port : ℕ
@@ -145,47 +143,45 @@ module _ (ok : Type 0) (first : ℕ) where
       by true = (tt, λ a d made. answered a d made)
       by false = holds
 
-  -- A connection opens.
-  last_port : (a b : Bool) (port : ℕ) → nat_le port ASSIGNED_LAST ≡ b → (a && b) ≡ true → port ≤ ASSIGNED_LAST
-  last_port true true port is both = grind (arith, nat_tests, is)
-  last_port true false port is both = absurd cc
-  last_port false b port is both = absurd cc
-
   -- A byte of a line.
   module _ (stream : ℕ) (t : Turning) (line : List ℕ) where
     abbrev hands : List Handshake
     hands = without_stream stream t.state.handshakes
 
     abbrev pub LineOn : Fact
-    LineOn o log = ok → IsPlain first log → ForSome o (IsLineOn t.state.handshakes t.state.next_port t.state.device.table stream line log)
+    LineOn o log = carry.ok → carry.plain first log → ForSome o (IsLineOn t.state.handshakes t.state.next_port t.state.device.table stream line log)
 
     over : (o : Option HostContents) (log : Log) → LineOn o log → Streamed hands t o log
     over o log x = λ is plain.
         some_from o (IsLineOn t.state.handshakes t.state.next_port t.state.device.table stream line log)
         (λ h. IsStreamed h log t.state.next_port t.state.device.table hands) (λ h y. y.over) (x is plain)
 
-    module _ (c : Situation) (above : ASSIGNED_FIRST ≤ t.state.next_port) (holds : IsHeldBy LineOn first t.state.next_port t.state.device c) where
+    module _ (c : Situation) (above : ASSIGNED_FIRST ≤ t.state.next_port) (holds : IsHeldBy carry LineOn first t.state.next_port t.state.device c) where
       opens : (guest : ℕ) → guest < 2 ^ 32 → connect_step line ≡ step.Port guest → may_open t.state ≡ true → Keeps Turns (opening stream guest t) c
       opens guest fits decided may =
           let flow : Flow = host_flow guest t.state.next_port in
           let last : t.state.next_port ≤ ASSIGNED_LAST =
-          last_port (has_place t.state.device.table) (nat_le t.state.next_port ASSIGNED_LAST) t.state.next_port refl may in
+          last_port t.state may in
           let inside : is_assigned t.state.next_port ≡ true = grind (arith, nat_tests, above, last) in
-          keeps_then (λ x d. With ok hands first (port_after flow t.state.next_port x.1) x.0 d) Turns (open_of flow stream t.state.device)
+          keeps_then (λ x d. With carry hands first (t.state.next_port + 1) x.0 d) Turns (open_of flow stream t.state.device)
           (λ r. Done (record t { state = record (with_device r.0 (without_handshake stream t.state)) { next_port = t.state.next_port + 1 } })) c
-          (open_keeps ok hands first t.state.next_port flow stream t.state.device (record { asker = ap (side_by Device) inside; port = inl (omega arith) })
+          (open_keeps carry hands first t.state.next_port flow stream t.state.device (record { asker = ap (side_by Device) inside; port = inl (omega arith) })
           (record { guest = fits; host = omega (arith, last); peer = omega arith }) LineOn
           (λ o n log exposes x is plain. some_after o n (λ h. Unit {0}) (after_label stream flow)
           (IsLineOn t.state.handshakes t.state.next_port t.state.device.table stream line log)
           (λ h. IsStreamed h log (t.state.next_port + 1) (with_client flow stream t.state.device).table hands) exposes (λ h any y.
           label_host h log t.state.next_port t.state.device.table hands y.over stream guest line y.here y.away (y.ended guest decided).0 (y.ended guest decided).1 inside)
-          (x is plain)) over c holds)
-          (λ r d kept. (omega (arith, above), opened flow t.state.next_port r.0 r.1 d refl kept))
-        where
-          opened : (flow : Flow) (port : ℕ) (s : DeviceState) (r : Result ℕ TableFault) (d : Situation) → flow.host ≡ port
-              → With ok hands first (port_after flow port r) s d → With ok hands first (port + 1) s d
-          opened flow port s (Ok slot) d same holds = subst (λ (n : ℕ). With ok hands first (n + 1) s d) same holds
-          opened flow port s (Err fault) d same holds = later ok hands first port (port + 1) s d (omega arith) holds
+          (x is plain)) (λ x d. With carry hands first (t.state.next_port + 1) x.0 d)
+          (λ fault d full told. (
+            told.0,
+            tells_weaker (IsToldBy carry LineOn first t.state.next_port t.state.device) (IsToldBy carry (StreamedOver carry hands first (t.state.next_port + 1) t.state.device.table)
+                first (t.state.next_port + 1) t.state.device) (λ hon o l was. (
+                  was.0,
+                  λ honest. let none = not_refused carry first t.state l guest (was.1 honest).0 above may in
+                      let no : None ≡ Some fault = sym none ∙ full in absurd cc,
+                )) d told.1,
+          )) (λ d kept. kept) c holds)
+          (λ r d kept. (omega (arith, above), kept))
 
       ends : (tree : DeviceTree Turning) → Keeps Turns tree c → Keeps Goes-on (bind tree (λ u. Done (u, false))) c
       ends tree keeps = keeps_then Turns Goes-on tree (λ u. Done (u, false)) c keeps (λ u d kept. kept)
@@ -195,7 +191,7 @@ module _ (ok : Type 0) (first : ℕ) where
         above,
         (
           holds.0,
-          tells_weaker (IsToldBy LineOn first t.state.next_port t.state.device) (IsToldBy (Streamed t.state.handshakes t) first t.state.next_port t.state.device)
+          tells_weaker (IsToldBy carry LineOn first t.state.next_port t.state.device) (IsToldBy carry (Streamed t.state.handshakes t) first t.state.next_port t.state.device)
               (λ hon o l was. (
                 was.0,
                 λ honest. let p = was.1 honest in (
@@ -225,7 +221,7 @@ module _ (ok : Type 0) (first : ℕ) where
         decides h.stream u line d holds.0 (
           holds.1.0,
           host_moves false (IsReadOf h.stream 1 (read.Got n, bytes)) (after_read h.stream (read.Got n)) c d made.0
-              (IsToldBy (Streamed t.state.handshakes t) first t.state.next_port t.state.device) (IsToldBy (LineOn h.stream u line) first t.state.next_port t.state.device)
+              (IsToldBy carry (Streamed t.state.handshakes t) first t.state.next_port t.state.device) (IsToldBy carry (LineOn h.stream u line) first t.state.next_port t.state.device)
               (λ hon o k l exposes was. (
                 was.0,
                 λ honest. let p = was.1 honest in (
@@ -279,7 +275,7 @@ module _ (ok : Type 0) (first : ℕ) where
               (λ g log answers x. called_host g log t.state.next_port t.state.device.table t.state.handshakes x) c d made.0 holds,
         )) (λ u e kept. kept)
 
-  reads_byte : (stream : ℕ) (t : Turning) (c : Situation) → Turns t c → Keeps Goes-on (read_byte stream t) c
+  pub reads_byte : (stream : ℕ) (t : Turning) (c : Situation) → Turns t c → Keeps Goes-on (read_byte stream t) c
   reads_byte stream t c holds = by (handshake_on stream t.state) refl
     where
       by : (o : Option Handshake) → handshake_on stream t.state ≡ o → Keeps Goes-on (elim o [

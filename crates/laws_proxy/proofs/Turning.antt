@@ -11,7 +11,8 @@ use Rattle.laws_device.proofs.Turning.{new_with, pay_keeps, pump_keeps, reset_ke
 use Rattle.laws_device.proofs.{Filling.fill_keeps, Keeping.Goes, Keeping.Keeps, Keeping.keeps_each, Keeping.keeps_then, Keeping.keeps_while}
 use Rattle.laws_device.proofs.{Transmitting.take_keeps, Carrying.Fact, Carrying.IsToldBy, Carrying.StreamedOver, Carrying.With}
 use Rattle.laws_device.proofs.Carrying.{closed_over, held_with, streams_go, with_ring, with_streams}
-use Rattle.laws_device.proofs.Ringing.{host_moves, tells_weaker}
+use Rattle.laws_device.proofs.{Ringing.host_moves, Ringing.tells_weaker, Seats.Carried, Carrying.whole, Carrying.ring_and_host}
+use Rattle.laws_device.proofs.Carrying.{ring_only}
 use Rattle.vs_proxy_parts.specs.{State.ProxyState, State.Turning, State.start, State.with_device, declared.answers.Turn.Turn}
 use Rattle.vs_proxy_parts.specs.Turns.{close_handshake, device_after, event_stage, fill_stage, filled, new_proxy, proxy_reset_of}
 use Rattle.vs_proxy_parts.specs.Turns.{pump_stage, reset_with, take_one, take_stage, tick_stage, took_packet, turn_of, unless_failed}
@@ -24,16 +25,16 @@ use Rattle.laws_device_bytes.proofs.Opens.{no_lines}
 pub new_proxy_with : (cid : ℕ) (base : List ℕ) (c : RingContents) → cid < 2 ^ 64 → IsFresh c → IsProxyWith cid (new_proxy cid base) c
 new_proxy_with cid base c fits fresh = (omega arith, new_with ASSIGNED_FIRST cid base c fits fresh)
 
-module _ (ok : Type 0) (first : ℕ) where
+module _ (carry : Carried) (first : ℕ) where
   abbrev Now : Turning → Situation → Type 0
-  Now = Turns ok first
+  Now = Turns carry first
 
   -- The proxy's device.
   abbrev Held : Turning → DeviceState → Situation → Type 0
-  Held t s c = With ok t.state.handshakes first t.state.next_port s c
+  Held t s c = With carry t.state.handshakes first t.state.next_port s c
 
   abbrev pub Proxied : ProxyState → Situation → Type 0
-  Proxied s c = (ASSIGNED_FIRST ≤ s.next_port) × With ok s.handshakes first s.next_port s.device c
+  Proxied s c = (ASSIGNED_FIRST ≤ s.next_port) × With carry s.handshakes first s.next_port s.device c
 
   unless : (stage : Turning → DeviceTree Turning) → ((t : Turning) (c : Situation) → Now t c → Keeps Now (stage t) c) → (t : Turning)
       (c : Situation)
@@ -47,13 +48,13 @@ module _ (ok : Type 0) (first : ℕ) where
   ticks : (now : ℕ) (t : Turning) (c : Situation) → Now t c → Keeps Now (tick_stage now t) c
   ticks now t c holds =
       keeps_then (Held t) Now (tick_of now t.state.device) (λ d. tick_handshakes (device_after d t)) c
-      (tick_keeps ok t.state.handshakes first t.state.next_port now t.state.device c holds.1)
-      (λ s d kept. tick_all ok first (device_after s t) d (holds.0, kept))
+      (tick_keeps carry t.state.handshakes first t.state.next_port now t.state.device c holds.1)
+      (λ s d kept. tick_all carry first (device_after s t) d (holds.0, kept))
 
   pays : (t : Turning) (c : Situation) → Now t c → Keeps Now (event_stage t) c
   pays t c holds =
       keeps_then (λ x d. Held t x.0 d) Now (pay_event_of t.state.device) (λ r. Done (device_after r.0 t)) c
-      (pay_keeps ok t.state.handshakes first t.state.next_port t.state.device c holds.1) (λ x d kept. (holds.0, kept))
+      (pay_keeps carry t.state.handshakes first t.state.next_port t.state.device c holds.1) (λ x d kept. (holds.0, kept))
 
   takes : (t : Turning) (c : Situation) → Now t c → Keeps (Goes Now Now) (take_one t) c
   takes t c holds =
@@ -62,7 +63,7 @@ module _ (ok : Type 0) (first : ℕ) where
         | true ↦ Done (record (device_after r.0 t) { took = t.took + 1 }, true)
         | false ↦ Done (device_after r.0 t, false)
       ]) c
-      (take_keeps ok t.state.handshakes first t.state.next_port t.state.device c holds.1) (λ x d kept. by x.0 d (took_packet x.1) kept)
+      (take_keeps carry t.state.handshakes first t.state.next_port t.state.device c holds.1) (λ x d kept. by x.0 d (took_packet x.1) kept)
     where
       by : (s : DeviceState) (d : Situation) (b : Bool) → Held t s d → Keeps (Goes Now Now) (elim b [
         | true ↦ Done (record (device_after s t) { took = t.took + 1 }, true)
@@ -78,13 +79,13 @@ module _ (ok : Type 0) (first : ℕ) where
   pumps t c holds =
       keeps_then (λ w d. Held t w.state d) Now (pump_of t.state.device)
       (λ w. Done (record (device_after w.state t) { wrote = t.wrote + w.wrote })) c
-      (pump_keeps ok t.state.handshakes first t.state.next_port t.state.device c holds.1) (λ w d kept. (holds.0, kept))
+      (pump_keeps carry t.state.handshakes first t.state.next_port t.state.device c holds.1) (λ w d kept. (holds.0, kept))
 
   fills : (t : Turning) (c : Situation) → Now t c → Keeps Now (fill_stage t) c
   fills t c holds =
       keeps_then (λ x d. Held t x.0 d) Now (fill_rx_of t.state.device)
       (λ r. Done (filled r.1 (device_after r.0 t))) c
-      (fill_keeps ok t.state.handshakes first t.state.next_port t.state.device c holds.1) (λ x d kept. by x.0 d x.1 kept)
+      (fill_keeps carry t.state.handshakes first t.state.next_port t.state.device c holds.1) (λ x d kept. by x.0 d x.1 kept)
     where
       by : (s : DeviceState) (d : Situation) (r : Result Filled Failure) → Held t s d → Now
           (filled r (device_after s t)) d
@@ -100,7 +101,7 @@ module _ (ok : Type 0) (first : ℕ) where
       (λ t d kept.
       keeps_then Now TurnEnds (unless_failed event_stage t) _ d (unless event_stage pays t d kept) (λ t d kept.
       keeps_then Now TurnEnds (unless_failed (take_stage size) t) _ d (unless (take_stage size) (takes_all size) t d kept) (λ t d kept.
-      keeps_then Now TurnEnds (unless_failed shake_hands t) _ d (unless shake_hands (shakes ok first) t d kept) (λ t d kept.
+      keeps_then Now TurnEnds (unless_failed shake_hands t) _ d (unless shake_hands (shakes carry first) t d kept) (λ t d kept.
       keeps_then Now TurnEnds (unless_failed pump_stage t) _ d (unless pump_stage pumps t d kept) (λ t d kept.
       keeps_then Now TurnEnds (unless_failed fill_stage t) _ d (unless fill_stage fills t d kept) (λ t d kept. kept))))))
 
@@ -115,16 +116,16 @@ module _ (ok : Type 0) (first : ℕ) where
 
     closes : (stream : ℕ) (s : ProxyState) (c : Situation) → Reset s c → Keeps Reset (close_handshake stream s) c
     closes stream s c holds =
-        let F : Fact = StreamedOver ok s.handshakes first s.next_port device.table in (
+        let F : Fact = StreamedOver carry s.handshakes first s.next_port device.table in (
           tt,
           λ a d made. (
             holds.0,
             (
               holds.1.0,
-              host_moves false (λ h. Unit {0}) (after_close stream) c d made (IsToldBy F first s.next_port device) (IsToldBy F first s.next_port device)
+              host_moves false (λ h. Unit {0}) (after_close stream) c d made (IsToldBy carry F first s.next_port device) (IsToldBy carry F first s.next_port device)
                   (λ hon o n l exposes was. (
                     was.0,
-                    λ honest. let p = was.1 honest in (p.0, closed_over ok first s.handshakes s.next_port device.table l.entries stream o n exposes p.1),
+                    λ honest. let p = was.1 honest in (p.0, closed_over carry first s.handshakes s.next_port device.table l.entries stream o n exposes p.1),
                   )) holds.1.1,
             ),
           ),
@@ -140,12 +141,12 @@ module _ (ok : Type 0) (first : ℕ) where
           kept.0,
           (
             kept.1.0,
-            tells_weaker (IsToldBy (StreamedOver ok t.handshakes first t.next_port device.table) first t.next_port device)
-                (IsToldBy (StreamedOver ok [] first t.next_port device.table) first t.next_port device) (λ hon o l was. (
+            tells_weaker (IsToldBy carry (StreamedOver carry t.handshakes first t.next_port device.table) first t.next_port device)
+                (IsToldBy carry (StreamedOver carry [] first t.next_port device.table) first t.next_port device) (λ hon o l was. (
                   was.0,
                   λ honest. let p = was.1 honest in (
                     p.0,
-                    streams_go ok first t.handshakes [] t.next_port t.next_port device.table device.table l.entries l.entries (λ few. few)
+                    streams_go carry first t.handshakes [] t.next_port t.next_port device.table device.table l.entries l.entries (λ few. few)
                         (λ h few y. no_lines h l.entries t.next_port device.table t.handshakes y) o p.1,
                   ),
                 )) d kept.1.1,
@@ -155,19 +156,19 @@ module _ (ok : Type 0) (first : ℕ) where
   pub proxy_reset_keeps : (cid : ℕ) (s : ProxyState) (c : Situation) → cid < 2 ^ 64 → Proxied s c → Keeps ResetEnds
       (proxy_reset_of cid s) c
   proxy_reset_keeps cid s c fits holds =
-      keeps_then (λ x d. With ok s.handshakes first s.next_port x.0 d) ResetEnds (reset_of cid s.device) (λ r. reset_with r s) c
-      (reset_keeps ok s.handshakes first s.next_port cid fits s.device c holds.1) (λ x d kept. closes_all x.0 x.1 s d (holds.0, kept))
+      keeps_then (λ x d. With carry s.handshakes first s.next_port x.0 d) ResetEnds (reset_of cid s.device) (λ r. reset_with r s) c
+      (reset_keeps carry s.handshakes first s.next_port cid fits s.device c holds.1) (λ x d kept. closes_all x.0 x.1 s d (holds.0, kept))
 
 -- Nothing of the streams is carried.
-pub plain_proxied : (first : ℕ) (s : ProxyState) (c : Situation) → IsProxyWith first s c.ring → Proxied ⊥ first s c
+pub plain_proxied : (first : ℕ) (s : ProxyState) (c : Situation) → IsProxyWith first s c.ring → Proxied ring_only first s c
 plain_proxied first s c holds = (holds.0, held_with ⊥ s.handshakes first s.next_port s.device c holds.1 (λ no. absurd no))
 
-pub proxied_ring : (ok : Type 0) (first : ℕ) (s : ProxyState) (c : Situation) → Proxied ok first s c → IsProxyWith first s c.ring
+pub proxied_ring : (ok : Type 0) (first : ℕ) (s : ProxyState) (c : Situation) → Proxied (whole ok) first s c → IsProxyWith first s c.ring
 proxied_ring ok first s c holds = (holds.0, with_ring ok s.handshakes first s.next_port s.device c holds.1)
 
 -- They are.
-pub streamed_proxied : (first : ℕ) (s : ProxyState) (c : Situation) → IsProxyWith first s c.ring → IsProxyStreamed first s c → Proxied (Unit {0}) first s c
+pub streamed_proxied : (first : ℕ) (s : ProxyState) (c : Situation) → IsProxyWith first s c.ring → IsProxyStreamed first s c → Proxied ring_and_host first s c
 streamed_proxied first s c holds streams = (holds.0, held_with (Unit {0}) s.handshakes first s.next_port s.device c holds.1 (λ ok. streams))
 
-pub proxied_streams : (first : ℕ) (s : ProxyState) (c : Situation) → Proxied (Unit {0}) first s c → IsProxyStreamed first s c
+pub proxied_streams : (first : ℕ) (s : ProxyState) (c : Situation) → Proxied ring_and_host first s c → IsProxyStreamed first s c
 proxied_streams first s c holds = with_streams (Unit {0}) s.handshakes first s.next_port s.device c holds.1 tt

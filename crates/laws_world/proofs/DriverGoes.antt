@@ -1,7 +1,8 @@
 -- What the driver's conversations come to: steps of its seat, headers that fit, the account, and the payload that was put.
 use Rattle.std.proofs.Common.{◌≡◌, ℕ, ◌≤◌, ◌==◌, ◌&&◌, inl, inr, Bool, true, false, cond, List, [], ◌++◌, take, Option, Some, None}
 use Rattle.std.proofs.Common.{Contains, is_some, refl, sym, ap, subst, ◌∙◌, arith}
-use Rattle.std.proofs.lemmas.{Bool.Decides.nat_tests, List.Elements.All-contains, Option.get_or_from_slice_get, Option.slice_get_within}
+use Rattle.std.proofs.{lemmas.Bool.Decides.nat_tests, lemmas.List.Elements.All-contains, lemmas.Option.get_or_from_slice_get}
+use Rattle.std.proofs.lemmas.Option.{slice_get_within}
 use Rattle.vs_contents.specs.CallTree.{Done, played}
 use Rattle.vs_flow.specs.{Connection.Connection, Connection.first_of, Flow.same_flow, declared.flow.Flow.Flow}
 use Rattle.vs_flow.proofs.{Entries.found_passes, Lookups.find_place}
@@ -23,7 +24,8 @@ use Rattle.laws_driver_bytes.specs.Sent.{took}
 use Rattle.laws_driver_bytes.proofs.Making.{CarriesCall, account_after, at_first, call_goes, call_received, call_sent, further_as}
 use Rattle.laws_driver_bytes.proofs.{Making.further_journal, Making.port_fits, Making.sent_with, Polling.IsFurther, Polling.poll_carries}
 use Rattle.laws_driver_bytes.proofs.Sending.{poll_puts, puts_as}
-use Rattle.laws_world.proofs.{Journals.Agrees, Journals.AllAgree, Journals.agree_on, Journals.either_none, Wire.PutsFit}
+use Rattle.laws_device.proofs.Seats.{PutsFit}
+use Rattle.laws_world.proofs.Journals.{Agrees, AllAgree, agree_on, either_none}
 use Rattle.vs_driver_parts.specs.declared.answers.Sent.TheVariants as answers
 
 module _ (first : ℕ) (old : Seat) where

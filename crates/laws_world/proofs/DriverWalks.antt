@@ -13,13 +13,15 @@ use Rattle.vs_ring_port.specs.{Contents.RingContents, EndLog.EndLog, EndLog.all_
 use Rattle.vs_ring_port.specs.EndLog.{log_loaded, log_published, log_reaped, log_staged, pages_at, with_event, with_packet}
 use Rattle.vs_ring_port.specs.DriverCalls.{DriverAnswer, DriverCall, DriverMoves, HoldsPacket, LoadCid, MayPublish, Publish, Reap, Stage}
 use Rattle.vs_ring_port.specs.{DriverCalls.driver_answer, Lists.Rings, Lists.after_publish, Lists.after_reap, Lists.next_back}
-use Rattle.vs_ring_port.specs.declared.queue.Queue.{Queue, TheVariants.Event, TheVariants.Rx, TheVariants.Tx}
+use Rattle.vs_ring_port.specs.{declared.queue.Queue.Queue, declared.queue.Queue.TheVariants.Event, declared.queue.Queue.TheVariants.Rx}
+use Rattle.vs_ring_port.specs.declared.queue.Queue.TheVariants.{Tx}
 use Rattle.vs_ring_list.specs.Ends.{driver_contents}
 use Rattle.vs_driver_parts.specs.{Conversations.DriverTree, Playing.BringsFit, Playing.CanMake, Playing.FitsPorts, Playing.IsFitPage}
 use Rattle.vs_driver_parts.specs.Playing.{RingAllows}
 use Rattle.laws_driver.proofs.Keeping.{Keeps}
 use Rattle.laws_world.specs.{Laws.AreQueued, Pages.AllHold, Pages.AllPacked, Pages.PageHolds, Pages.TxHolds}
-use Rattle.laws_world.proofs.{Played.device_got, Queues.driver_keeps, Wire.PutsFit, Wire.next_fits}
+use Rattle.laws_device.proofs.Seats.{PutsFit}
+use Rattle.laws_world.proofs.{Played.device_got, Queues.driver_keeps, Wire.next_fits}
 
 -- Pages that hold packets, put in a fair log, hold them with as many bytes as their headers tell.
 put_formed : (side : Side) (h : History) (p : Packet) (b : Bool) → is_request p ≡ b → AllowsNow side h (Put p) → IsFormed p
@@ -52,6 +54,10 @@ hold_all (page ∷ pages) log fair packed =
 hold_both : (xs ys : List (List ℕ)) → AllHold xs → AllHold ys → AllHold (xs ++ ys)
 hold_both [] ys first rest = rest
 hold_both (x ∷ xs) ys first rest = (first.0, hold_both xs ys first.1 rest)
+
+packed_both : (xs ys : List (List ℕ)) → AllPacked xs → AllPacked ys → AllPacked (xs ++ ys)
+packed_both [] ys first rest = rest
+packed_both (x ∷ xs) ys first rest = (first.0, packed_both xs ys first.1 rest)
 
 one_more : (xs : List (List ℕ)) (page : List ℕ) → AllPacked xs → HoldsPacket page → AllPacked (xs ++ page ∷ [])
 one_more [] page first last = (last, tt)
@@ -123,7 +129,7 @@ module _ (device : EndLog) (there : IsFairLog Device device.entries) (fit : Puts
       → let r = driver_answer call s in RingAllows call r.0 (shown s) (shown r.1) × Ties r.1
   one (Stage queue page) s ties can = (
     moved (Stage queue page) tt (λ w. Unit {0}) (λ w. w) (λ l. Unit {0}) (log_staged queue page) s tt tt ties.fair,
-    record { queued = ties.queued; fair = ties.fair; cid = ties.cid; pages = (ties.pages.0, staged queue (can refl s.1 refl)) },
+    record { queued = ties.queued; fair = ties.fair; cid = ties.cid; pages = (ties.pages.0, staged queue (can refl s.1 refl), ties.pages.2) },
   )
     where
       staged : (queue : Queue) → (queue ≡ Tx → HoldsPacket page) → AllPacked (log_staged queue page s.1).staged.tx
@@ -144,8 +150,15 @@ module _ (device : EndLog) (there : IsFairLog Device device.entries) (fit : Puts
           IsFairLog Driver r.1.entries × TxHolds r.0 r.1 × (r.0.cid < 2 ^ 64)
       published Rx may = (ties.fair, ties.pages, ties.cid)
       published Event may = (ties.fair, ties.pages, ties.cid)
-      published Tx may =
-          (may, (hold_both s.0.tx.given s.1.staged.tx ties.pages.0 (hold_all s.1.staged.tx s.1.entries may ties.pages.1), tt), ties.cid)
+      published Tx may = (
+        may,
+        (
+          hold_both s.0.tx.given s.1.staged.tx ties.pages.0 (hold_all s.1.staged.tx s.1.entries may ties.pages.1),
+          tt,
+          packed_both s.0.tx.given s.1.staged.tx ties.pages.2 ties.pages.1,
+        ),
+        ties.cid,
+      )
   one (Reap queue) s ties can =
       let page = next_back queue s.0 in
       let q = driver_keeps (Reap queue) s.0 s.1 device.entries ties.queued in

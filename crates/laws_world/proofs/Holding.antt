@@ -8,7 +8,7 @@ use Rattle.vs_ring_port.specs.declared.device_ring.Chain.{Chain}
 use Rattle.vs_ring_list.proofs.Held.{same_chain_is}
 use Rattle.vs_device_parts.specs.Calls.{Call, Answer, Ring, Accept, Dial, Label, ReadStream, WriteStream, ShutWrite, CloseStream, Situation}
 use Rattle.vs_device_parts.specs.{Calls.DeviceTree, Calls.Allows, Playing.CanMake, Playing.MayRun}
-use Rattle.laws_device.proofs.Keeping.{Can, HoldsChain, Keeps}
+use Rattle.laws_device.proofs.Keeping.{Can, HoldsChain, Keeps, lets}
 
 abbrev pub IsHeldFor : Call → RingContents → Type 0
 IsHeldFor (Ring (Return chain len)) c = HoldsChain chain c
@@ -41,7 +41,7 @@ can_held (CloseStream stream) c can = tt
 
 pub kept_held : {A : Type 0} (Q : A → Situation → Type 0) (tree : DeviceTree A) (s : Situation) → Keeps Q tree s → MayHold tree s
 kept_held Q (Done x) s keeps = tt
-kept_held Q (Ask call next) s keeps = (can_held call s.ring keeps.0, λ a t allowed. kept_held Q (next a) t (keeps.1 a t allowed))
+kept_held Q (Ask call next) s keeps = (can_held call s.ring keeps.0, λ a t allowed. kept_held Q (next a) t (keeps.1 a t (lets call a s t allowed)))
 
 -- A call that returns no chain with nothing.
 abbrev pub ReturnsSome : Call → Type 0

@@ -1,6 +1,5 @@
 pub mod Queues
 pub mod Played
-pub mod Fits
 pub mod Runs
 pub mod Once
 pub mod Entries
@@ -8,16 +7,8 @@ pub mod Wire
 pub mod Journals
 pub mod DriverWalks
 pub mod DriverGoes
-pub mod DeviceSide
-pub mod DeviceTakes
-pub mod Chains
-pub mod DeviceEvents
-pub mod DeviceTurns
-pub mod DevicePuts
-pub mod DeviceStreams
-pub mod DeviceReads
-pub mod ProxySide
-pub mod ProxyResets
+pub mod DeviceWalks
+pub mod DeviceGoes
 pub mod Rings
 pub mod Sound
 pub mod Opening

@@ -20,8 +20,9 @@ use Rattle.laws_driver.specs.{Honest.IsFitState, Honest.slots_of, Resets.MarksRe
 use Rattle.laws_driver.proofs.Calls.{made_fits}
 use Rattle.laws_driver_bytes.specs.Received.{AreReceived, no_account}
 use Rattle.laws_driver_bytes.proofs.Connecting.{none_received}
+use Rattle.laws_device.proofs.Seats.{PutsFit}
 use Rattle.laws_world.proofs.{Once.AreOnce, Once.start_once, Played.opening_queued, Runs.and_then, Sound.Goes, Sound.IsWell}
-use Rattle.laws_world.proofs.{Sound.goes_still, Sound.happens_goes, Wire.PutsFit}
+use Rattle.laws_world.proofs.Sound.{goes_still, happens_goes}
 use Rattle.laws_device_bytes.proofs.Changing.{no_streams}
 use Rattle.laws_tables.specs.Both as both
 use Rattle.laws_world.specs.Events as events
@@ -145,8 +146,9 @@ module _ (n : ℕ) (host : HostContents) where
     };
     driver_puts = subst PutsFit (sym log_empty) tt;
     device_puts = tt;
-    pages = (subst AllHold (sym new.given) tt, subst AllPacked (sym new.staged) tt);
-    chain = tt;
+    pages = (subst AllHold (sym new.given) tt, subst AllPacked (sym new.staged) tt, subst AllPacked (sym new.given) tt);
+    chain = (tt, λ still. tt);
+    heads = tt;
     known = subst (λ (c : ℕ). c < 2 ^ 64) (sym new.cid) (omega arith);
     broken = ap (λ (s : DriverState). s.broken) new.state;
     marks = subst MarksResets (sym log_empty) tt;

@@ -6,38 +6,15 @@ use Rattle.vs_page.specs.{Log.Log, Log.HasGotAll, Log.events_put, Held.packet_he
 use Rattle.vs_ring_port.specs.{DriverCalls.driver_answer, EndLog.EndLog, Lists.Rings}
 use Rattle.vs_driver_parts.specs.Conversations.{DriverTree, new_of}
 use Rattle.vs_limits.specs.declared.TheConstants.{FIRST_PORT}
-use Rattle.vs_device_parts.specs.Calls.{DeviceTree, Call, Ring, Accept, Dial, Label, ReadStream, WriteStream, ShutWrite, CloseStream}
 use Rattle.vs_ring_list.specs.Ends.{Ends, empty_ends}
-use Rattle.laws_world.specs.{Answers.Around, Answers.answer_around, Laws.AreQueued, Laws.IsQueued, World.World, World.device_plays}
-use Rattle.laws_world.specs.World.{opening}
-use Rattle.laws_world.proofs.Queues.{driver_keeps, device_keeps}
+use Rattle.laws_world.specs.{Laws.AreQueued, Laws.IsQueued, World.opening}
+use Rattle.laws_world.proofs.Queues.{driver_keeps}
 
 driver_played : {A : Type 0} (tree : DriverTree A) (lists : Rings) (log : EndLog) (device : Log) → AreQueued lists log.entries device
     → let r = (played driver_answer tree (lists, log)).1 in AreQueued r.0 r.1.entries device
 driver_played (Done x) lists log device q = q
 driver_played (Ask call k) lists log device q =
     let r = driver_answer call (lists, log) in driver_played (k r.0) r.1.0 r.1.1 device (driver_keeps call lists log device q)
-
-around_keeps : (call : Call) (driver : Log) (s : Around) → AreQueued s.lists driver s.log.entries
-    → let r = (answer_around call s).1 in AreQueued r.lists driver r.log.entries
-around_keeps (Ring call) driver s q = device_keeps call s.lists driver s.log q
-around_keeps Accept driver s q = q
-around_keeps (Dial path flow) driver s q = q
-around_keeps (Label stream flow) driver s q = q
-around_keeps (ReadStream stream n) driver s q = q
-around_keeps (WriteStream stream bytes) driver s q = q
-around_keeps (ShutWrite stream) driver s q = q
-around_keeps (CloseStream stream) driver s q = q
-
-device_played : {A : Type 0} (tree : DeviceTree A) (driver : Log) (s : Around) → AreQueued s.lists driver s.log.entries
-    → let r = (played answer_around tree s).1 in AreQueued r.lists driver r.log.entries
-device_played (Done x) driver s q = q
-device_played (Ask call k) driver s q =
-    let r = answer_around call s in device_played (k r.0) driver r.1 (around_keeps call driver s q)
-
-pub device_plays_keeps : {A : Type 0} (tree : DeviceTree A) (w : World) → IsQueued w.rings → IsQueued (device_plays tree w).1.rings
-device_plays_keeps tree w q =
-    device_played tree w.rings.driver.entries (record { lists = w.rings.lists; log = w.rings.device; host = w.host }) q
 
 pub opening_queued : (n : ℕ) (host : HostContents) → IsQueued (opening n host).rings
 opening_queued n host =

@@ -1,12 +1,14 @@
 -- Small steps of the two ends, one after another.
-use Rattle.std.proofs.Common.{◌≡◌, Bool, List, [], ◌∷◌, ◌++◌, refl, sym, ap, subst, ◌∙◌, ℕ, append_assoc}
-use Rattle.laws_history.specs.declared.packet.Packet.{Packet}
-use Rattle.vs_page.specs.Log.{Driver, HasGotAll, Role, packets_got, events_got}
-use Rattle.laws_tables.specs.Both.{Asks, Both, Forgets, Happening, IsSound, MayHappen, MayRun, Opens, Seat, Step, Takes, TakesEvent, after}
-use Rattle.laws_tables.specs.Both.{happens, run}
+use Rattle.std.proofs.Common.{◌≡◌, List, [], ◌∷◌, ◌++◌, refl, sym, ap, subst, ◌∙◌, ℕ, append_assoc}
+use Rattle.vs_page.specs.Log.{Device, Driver, HasGotAll, Log, Role, packets_got, events_got}
+use Rattle.vs_page.specs.{declared.log.LogEntry.LogEntry, declared.log.LogEntry.TheVariants.GotEvent}
+use Rattle.vs_page.specs.declared.log.LogEntry.TheVariants.{GotPacket}
+use Rattle.laws_tables.specs.Both.{Asks, Both, Happening, IsSound, MayHappen, MayRun, Opens, Seat, Step, Takes, TakesEvent, after, happens}
+use Rattle.laws_tables.specs.Both.{run}
 use Rattle.laws_tables.proofs.Both.{run_keeps}
 use Rattle.laws_driver.proofs.Going.{Goes, MayDo, MayDoAll, done}
 use Rattle.laws_world.specs.Sides.{AsksAnew, Runs, RunsAnew}
+use Rattle.laws_device.proofs.Seats.{MayDo as DeviceMayDo}
 
 may_append : (xs ys : List Happening) (b : Both) → MayRun xs b → MayRun ys (run xs b) → MayRun (xs ++ ys) b
 may_append [] ys b first then_ = then_
@@ -26,16 +28,6 @@ stays b c is = record { steps = []; may = tt; anew = tt; ends = is }
 pub one_step : (role : Role) (step : Step) (b c : Both) → MayHappen role step b → AsksAnew role step b → happens role step b ≡ c → Runs b c
 one_step role step b c may anew is = record { steps = record { role = role; step = step } ∷ []; may = (may, tt); anew = (anew, tt); ends = is }
 
--- A packet is taken, and its flow isn't kept.
-pub takes_step : (role : Role) (p : Packet) (answer : Bool) (b c : Both) → MayHappen role (Takes p answer) b
-    → happens role Forgets (happens role (Takes p answer) b) ≡ c → Runs b c
-takes_step role p answer b c may is = record {
-  steps = record { role = role; step = Takes p answer } ∷ record { role = role; step = Forgets } ∷ [];
-  may = (may, (tt, tt));
-  anew = (tt, (tt, tt));
-  ends = is;
-}
-
 pub and_then : (b c d : Both) → Runs b c → Runs c d → Runs b d
 and_then b c d x y = record {
   steps = x.steps ++ y.steps;
@@ -47,21 +39,36 @@ and_then b c d x y = record {
 pub keeps_sound : (first : ℕ) (b c : Both) → Runs b c → IsSound first b → IsSound first c
 keeps_sound first b c r s = subst (λ e. IsSound first e) r.ends (run_keeps first r.steps b s r.may)
 
+-- What an end got before was put by the other too.
+pub log_before : (other : Log) (entry : LogEntry) (log : Log) → HasGotAll (entry ∷ log) other → HasGotAll log other
+log_before other (GotPacket p) log got = record {
+  packets = (got.packets.0 ++ p ∷ [], got.packets.1 ∙ sym (append_assoc got.packets.0 (p ∷ []) (packets_got log)));
+  events = got.events;
+}
+log_before other (GotEvent id) log got = record {
+  packets = got.packets;
+  events = (got.events.0 ++ id ∷ [], got.events.1 ∙ sym (append_assoc got.events.0 (id ∷ []) (events_got log)));
+}
+log_before other entry log got = record { packets = got.packets; events = got.events }
+
+pub got_before : (role : Role) (other : Log) (step : Step) (w : Seat) → HasGotAll (after role step w).log other → HasGotAll w.log other
+got_before role other (Takes p answer) w got = log_before other (GotPacket p) w.log got
+got_before role other (TakesEvent id) w got = log_before other (GotEvent id) w.log got
+got_before role other step w got = record { packets = got.packets; events = got.events }
+
+-- A step of the device's, where it got just what the driver put first.
+pub device_runs : (driver : Seat) (step : Step) (w : Seat) → DeviceMayDo step w → HasGotAll (after Device step w).log driver.log
+    → Runs (record { driver = driver; device = w }) (record { driver = driver; device = after Device step w })
+device_runs driver (Takes p answer) w may got = one_step Device (Takes p answer) _ _ got.packets tt refl
+device_runs driver (Opens f kind) w may got = one_step Device (Opens f kind) _ _ may.0 may.1 refl
+device_runs driver (Asks f kind) w may got = one_step Device (Asks f kind) _ _ (refl, may.0) may.1 refl
+device_runs driver (TakesEvent id) w may got = let no = may.0 in absurd cc
+device_runs driver step w may got = one_step Device step _ _ may tt refl
+
 -- Steps of the driver's, where it got just what the device put first.
 module _ (device : Seat) where
   abbrev pub beside_device : Seat → Both
   beside_device w = record { driver = w; device = device }
-
-  got_before : (step : Step) (w : Seat) → HasGotAll (after Driver step w).log device.log → HasGotAll w.log device.log
-  got_before (Takes p answer) w got = record {
-    packets = (got.packets.0 ++ p ∷ [], got.packets.1 ∙ sym (append_assoc got.packets.0 (p ∷ []) (packets_got w.log)));
-    events = got.events;
-  }
-  got_before (TakesEvent id) w got = record {
-    packets = got.packets;
-    events = (got.events.0 ++ id ∷ [], got.events.1 ∙ sym (append_assoc got.events.0 (id ∷ []) (events_got w.log)));
-  }
-  got_before step w got = record { packets = got.packets; events = got.events }
 
   one_runs : (step : Step) (w : Seat) → MayDo step w → HasGotAll (after Driver step w).log device.log
       → Runs (beside_device w) (beside_device (after Driver step w))
@@ -75,7 +82,7 @@ module _ (device : Seat) where
       → Runs (beside_device v) (beside_device (done steps v))
   all_run v [] may got = stays _ _ refl
   all_run v (step ∷ older) may got =
-      and_then _ _ _ (all_run v older may.0 (got_before step (done older v) got)) (one_runs step (done older v) may.1 got)
+      and_then _ _ _ (all_run v older may.0 (got_before Driver device.log step (done older v) got)) (one_runs step (done older v) may.1 got)
 
   pub goes_run : (v w : Seat) → Goes v w → HasGotAll w.log device.log → Runs (beside_device v) (beside_device w)
   goes_run v w goes got =

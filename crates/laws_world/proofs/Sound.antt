@@ -1,23 +1,24 @@
 -- Each event is some of the steps of the two ends.
-use Rattle.std.proofs.{lemmas.Bool.Decides.nat_tests, lemmas.List.Elements.Contains-get_or, lemmas.Bool.and_parts, Common.◌≡◌, Common.ℕ}
-use Rattle.std.proofs.Common.{◌^◌, ◌<◌, ◌≤◌, ◌&&◌, nat_le, Bool, true, false, List, [], ◌∷◌, ◌++◌, refl, sym, ap, subst, ◌∙◌, arith}
-use Rattle.std.proofs.Common.{append_assoc, get_or, Some}
-use Rattle.vs_contents.specs.CallTree.{played}
+use Rattle.std.proofs.{lemmas.Bool.Decides.nat_tests, lemmas.Bool.and_parts, Common.◌≡◌, Common.ℕ, Common.◌^◌, Common.◌<◌, Common.◌≤◌}
+use Rattle.std.proofs.Common.{◌&&◌, nat_le, Bool, true, false, List, [], ◌∷◌, ◌++◌, refl, sym, ap, subst, ◌∙◌, arith, append_assoc, Some}
+use Rattle.std.proofs.{Common.IfSome, Common.None, Common.Option, Common.is_some, Common.cond, lemmas.List.append-nil}
+use Rattle.vs_contents.specs.CallTree.{played, Done}
 use Rattle.laws_history.specs.declared.packet.Packet.{Packet}
 use Rattle.vs_outside.specs.{Host.HostContents, Host.with_stream, declared.mem_stream.HostWritten.HostWritten, HostProgram.after_fail}
 use Rattle.vs_outside.specs.HostProgram.{after_host_write, after_listen, after_unlisten, allowed, closed, ended, host_write_answer}
 use Rattle.vs_outside.specs.HostProgram.{with_bytes}
-use Rattle.vs_page.specs.{Open.is_dropped, Held.held_in, Held.packet_held, Log.packets_put, Log.packets_got, Log.Device, Log.IsNextPacket}
-use Rattle.vs_page.specs.{Log.Log, Log.flow_got, Log.Driver, Fair.IsFairLog, Fair.number_of, Fair.payload_put}
+use Rattle.vs_page.specs.{Held.held_in, Held.packet_held, Log.packets_put, Log.packets_got, Log.Device, Log.Log, Log.Driver, Fair.IsFairLog}
+use Rattle.vs_page.specs.{Fair.number_of, Fair.payload_put, Log.HasGotAll, Log.events_put}
 use Rattle.vs_ring_port.specs.{DriverCalls.driver_answer, declared.queue.Queue.Queue, Contents.RingContents, EndLog.EndLog, EndLog.Pages}
-use Rattle.vs_ring_port.specs.{EndLog.all_put, Lists.Rings}
-use Rattle.laws_tables.specs.{Both.IsSound, Both.Both, Both.Seat, Ends.ends_of, Ends.entries_of, Ends.Ends}
+use Rattle.vs_ring_port.specs.{EndLog.all_put, Lists.Rings, Chains.Held, declared.device_ring.Chain.Chain}
+use Rattle.laws_tables.specs.{Both.IsSound, Both.Seat, Ends.Ends}
 use Rattle.vs_driver_parts.specs.{Conversations.DriverTree, Conversations.publish_of, State.DriverState, Steps.takes_page}
 use Rattle.vs_driver_parts.specs.{Steps.stages_reply, Steps.stages_owed, Held.HeldSlots}
 use Rattle.vs_device_parts.specs.{Calls.DeviceTree, State.DeviceState, State.DeviceConnection, Streams.tick_slot, Steps.takes_chain}
 use Rattle.vs_device_parts.specs.Steps.{returns, puts_event, puts_reply, puts_owed, puts_payload, writes, shuts_write}
+use Rattle.vs_device_parts.specs.{Calls.Situation, Playing.IsRxChain, Playing.situation}
 use Rattle.vs_proxy_parts.specs.{State.ProxyState, State.Turning, State.start, State.with_device, State.Handshake, Turns.proxy_reset_of}
-use Rattle.vs_proxy_parts.specs.Handshakes.{accept_one, tick_handshake}
+use Rattle.vs_proxy_parts.specs.Handshakes.{accept_one, tick_handshake, read_byte}
 use Rattle.laws_world.specs.{Answers.answer_around, Laws.IsQueued, Pages.TxHolds, Events.Event, Events.GuestCalls, Events.GuestTakes}
 use Rattle.laws_world.specs.Events.{GuestReplies, GuestPays, GuestPublishes, DeviceTakes, DeviceReturns, DevicePutsEvent, DeviceReplies}
 use Rattle.laws_world.specs.Events.{DeviceReads, DevicePays, DeviceWrites, DeviceShutsWrite, ProxyAccepts, ProxyReads, Moment, TimesOut}
@@ -28,41 +29,38 @@ use Rattle.laws_world.specs.{Events.where_possible, Events.works_on, Sides.Runs,
 use Rattle.laws_world.specs.World.{around, device_plays, driver_plays, first_cid}
 use Rattle.laws_driver_bytes.specs.Calls.{Journal, is_right, sent_on, makes_call, GuestCall, ReplyTo, account_of, with_call}
 use Rattle.laws_driver_bytes.specs.Received.{Account, AreReceived}
-use Rattle.laws_world.proofs.{Chains.HoldsRx, DeviceSide.DeviceHolds, DriverGoes.Left, DriverGoes.Walks, DriverGoes.call_left}
-use Rattle.laws_world.proofs.{DriverGoes.call_walks, DriverGoes.poll_left, DriverGoes.poll_walks, DriverWalks.Ties, DriverWalks.first_fair}
-use Rattle.laws_world.proofs.{DriverWalks.shown, DriverWalks.walk, Journals.AllAgree, Played.device_plays_keeps, Played.driver_got}
-use Rattle.laws_world.proofs.{Queues.pages_put, Rings.device_leaves_given, Runs.goes_run, Runs.keeps_sound, Runs.stays, Once.AreOnce}
-use Rattle.laws_world.proofs.{Once.keeps_once, Once.number_of_once, Wire.PutsFit}
+use Rattle.laws_world.proofs.{DeviceGoes.carried, DeviceGoes.cids_kept, DeviceWalks.AllHeads, DriverGoes.Left, DriverGoes.Walks}
+use Rattle.laws_world.proofs.{DriverGoes.call_left, DriverGoes.call_walks, DriverGoes.poll_left, DriverGoes.poll_walks, DriverWalks.Ties}
+use Rattle.laws_world.proofs.{DriverWalks.first_fair, DriverWalks.shown, DriverWalks.walk, Journals.AllAgree, Played.driver_got}
+use Rattle.laws_world.proofs.{Queues.pages_put, Runs.goes_run, Runs.keeps_sound, Runs.stays, Once.AreOnce, Once.keeps_once}
+use Rattle.laws_world.proofs.{Once.number_of_once, Wire.fit_rest}
 use Rattle.vs_flow.specs.{declared.flow.Flow.Flow, Table.Table, Connection.Connection, Connection.first_of}
-use Rattle.laws_device_bytes.proofs.{Changing.StreamedIf, Cids.dropped_empty, HostCalls.client_host, HostCalls.same_host, Hosts.unseen}
-use Rattle.std.specs.List.{All}
-use Rattle.vs_limits.specs.declared.TheConstants.{GUEST_CID_MIN, GUEST_CID_MAX}
-use Rattle.laws_tables.proofs.{Both.next_is_fair, Fair.got_formed, Slots.one_end, Voices.AreVoiced, Voices.voices_run}
+use Rattle.laws_device_bytes.proofs.{Changing.StreamedIf, HostCalls.client_host, HostCalls.same_host, Hosts.unseen}
+use Rattle.vs_limits.specs.declared.TheConstants.{GUEST_CID_MIN, GUEST_CID_MAX, ASSIGNED_FIRST}
+use Rattle.laws_tables.proofs.Voices.{AreVoiced}
 use Rattle.laws_driver.specs.{Honest.IsFitState, Honest.ends_of_state, Honest.slots_of, Resets.MarksResets, Staged.IsLeft}
 use Rattle.laws_driver.proofs.{Carrying.Carries, Carrying.Fact, Carrying.Holds, Carrying.IsTiedBy, Carrying.RestsWith, Keeping.Keeps}
 use Rattle.laws_driver.proofs.{Keeping.keeps_weaker, Staging.Rests, Staging.rests_tied, Stepping.Works, Stepping.owed_with}
 use Rattle.laws_driver.proofs.Stepping.{publish_with, reply_with, takes_with}
 use Rattle.laws_driver_bytes.proofs.{Making.account_after, Making.at_first, Making.made_with, Making.sent_with, Polling.IsFurther}
 use Rattle.laws_driver_bytes.proofs.Sending.{puts_as}
-use Rattle.laws_device_bytes.specs.Streamed.{IsStreamed, gives}
+use Rattle.laws_device_bytes.specs.Streamed.{IsStreamed}
 use Rattle.vs_ring_list.proofs.Held.{same_queue_is}
+use Rattle.std.specs.Option.{ForSome}
+use Rattle.laws_device.proofs.{Carrying.IsToldBy, Carrying.StreamedOver, Carrying.With, Chains.Among, Seats.AllFit, Seats.Carried}
+use Rattle.laws_device.proofs.{Seats.PutsFit, Keeping.keeps_then, Turning.tick_slot_keeps}
+use Rattle.laws_proxy.proofs.{Shaking.Goes-on, Shaking.Turns, Shaking.accepts, Shaking.reads_byte, Shaking.ticks, Turning.Proxied}
+use Rattle.laws_proxy.proofs.Turning.{proxy_reset_keeps}
+use Rattle.vs_ring_list.specs.Ends.{Ends as RingEnds, device_contents}
+use Rattle.laws_device.specs.Honest.{is_held, IsFitState as IsFitDevice}
+use Rattle.laws_device.proofs.Keeping.{Keeps as DeviceKeeps, keeps_weaker as device_weaker}
+use Rattle.laws_world.proofs.DeviceWalks.{walk as device_walk}
 use Rattle.laws_driver.proofs.Staging.{Ties as DriverTies}
 use Rattle.laws_driver.proofs.Going.{stays as seat_stays}
+use Rattle.laws_device.proofs.Stepping as device_steps
 use Rattle.vs_ring_port.specs.declared.queue.Queue.TheVariants as q
-use Rattle.laws_world.proofs.DevicePuts as device_puts
-use Rattle.laws_world.proofs.DeviceReads as device_reads
-use Rattle.laws_world.proofs.DeviceSide as device_side
-use Rattle.laws_world.proofs.DeviceStreams as device_streams
-use Rattle.laws_world.proofs.DeviceTurns as device_turns
-use Rattle.laws_world.proofs.DeviceEvents as device_events
-use Rattle.laws_world.proofs.ProxyResets as proxy_resets
-use Rattle.laws_world.proofs.ProxySide as proxy_side
 use Rattle.vs_header.specs.declared.Kind.TheVariants as kind
 use Rattle.vs_outside.specs.declared.mem_stream.HostWritten.TheVariants as written
-
--- The CIDs of packets stay as the two ends go on.
-cids_kept : (first : ℕ) (b c : Both) → Runs b c → IsSound first b → AreVoiced first b → AreVoiced first c
-cids_kept first b c r s cids = subst (AreVoiced first) r.ends (voices_run first r.steps b s r.may cids)
 
 -- The host's program writes.
 host_written : (id : ℕ) (bytes : List ℕ) (answer : HostWritten) (c : HostContents) (log : Log) (port : ℕ) (t : Table DeviceConnection) (hands : List Handshake)
@@ -71,6 +69,11 @@ host_written id bytes written.Ok c log port t hands x = same_host c (with_stream
     (unseen id (with_bytes bytes) c (λ st. refl)) refl x
 host_written id bytes written.Ended c log port t hands x = x
 host_written id bytes written.NoStream c log port t hands x = x
+
+-- What is true of the device between any two events.
+pub record DeviceHolds (next : ℕ) (s : DeviceState) : Type 0 where
+  pub fits : IsFitDevice s
+  pub port : ASSIGNED_FIRST ≤ next
 
 -- What is true of the world after any list of events.
 pub record IsWell (fresh : Type 0) (w : World) : Type 0 where
@@ -81,7 +84,10 @@ pub record IsWell (fresh : Type 0) (w : World) : Type 0 where
   pub driver_puts : PutsFit (log_with_staged w.rings.driver)
   pub device_puts : PutsFit w.rings.device.entries
   pub pages : TxHolds w.rings.lists w.rings.driver
-  pub chain : HoldsRx w.proxy.device.chain w.rings.device.held
+  -- The receive chain that the device holds is one that it took, and nothing is written into it.
+  pub chain : IfSome w.proxy.device.chain IsRxChain
+      × (w.proxy.device.failed ≡ None → Among (λ others. Unit {0}) w.proxy.device.chain w.rings.device.held)
+  pub heads : AllHeads w.rings.device.held
   pub known : w.rings.lists.cid < 2 ^ 64
   pub broken : w.driver.broken ≡ 0
   pub marks : MarksResets (log_with_staged w.rings.driver)
@@ -185,6 +191,7 @@ module _ (fresh : Type 0) (w : World) (well : IsWell fresh w) where
           device_puts = well.device_puts;
           pages = ends.1.pages;
           chain = well.chain;
+          heads = well.heads;
           known = ends.1.cid;
           broken = now.0.1.none_refused;
           marks = now.0.1.marks;
@@ -263,86 +270,151 @@ module _ (fresh : Type 0) (w : World) (well : IsWell fresh w) where
       (call_left first_cid guest well.opened w.journal w.driver guest.log well.received well.agrees well.sent few rings call)
 
 -- The device plays one, and so does the proxy.
-abbrev DeviceLeft : {A : Type 0} → Type 0 → (tree : DeviceTree A) (state_of : A → ProxyState) → World → Type 0
-DeviceLeft fresh tree state_of w =
-    let r = played answer_around tree (around w) in
-    device_side.Kept (both_of w).driver w.proxy.next_port w.proxy.device w.rings.device.entries (state_of r.0).next_port (state_of r.0).device r.1.log.entries
-    × HoldsRx (state_of r.0).device.chain r.1.log.held × (r.1.lists.cid < 2 ^ 64)
-    × StreamedIf fresh r.1.host r.1.log.entries (state_of r.0).next_port (state_of r.0).device.table (state_of r.0).handshakes
+module _ (fresh : Type 0) (w : World) (well : IsWell fresh w) where
+  abbrev pub carry : Carried
+  carry = carried fresh (both_of w) well.sound well.once well.cids
 
-device_goes : {A : Type 0} (fresh : Type 0) (tree : DeviceTree A) (state_of : A → ProxyState) (w : World) → IsWell fresh w → DeviceLeft fresh tree state_of w
-    → Goes fresh w (record (device_plays tree w).1 { proxy = state_of (device_plays tree w).0 })
-device_goes fresh tree state_of w well (kept, chain, known, streams) = record {
-  well = record {
-    queued = device_plays_keeps tree w well.queued;
-    sound = keeps_sound first_cid _ _ kept.runs well.sound;
-    driver = well.driver;
-    device = kept.holds;
-    driver_puts = well.driver_puts;
-    device_puts = kept.puts;
-    pages = (device_leaves_given tree (around w) well.pages.0, well.pages.1);
-    chain = chain;
-    known = known;
-    broken = well.broken;
-    marks = well.marks;
-    opened = well.opened;
-    received = well.received;
-    agrees = well.agrees;
-    sent = well.sent;
-    overrun = kept.overrun ∙ well.overrun;
-    cids = cids_kept first_cid _ _ kept.runs well.sound well.cids;
-    once = keeps_once first_cid _ _ kept.runs well.sound well.once;
-    streams = streams;
-  };
-  runs = kept.runs;
-}
+  driver_fair : IsFairLog Driver w.rings.driver.entries
+  driver_fair = first_fair w.rings.driver.staged.tx w.rings.driver.entries (well.sound.fair Driver)
+
+  driver_fit : PutsFit w.rings.driver.entries
+  driver_fit = fit_rest (held_in packet_held w.rings.driver.staged.tx) (packets_put w.rings.driver.entries)
+      (subst AllFit (pages_put w.rings.driver.staged.tx w.rings.driver.entries).put well.driver_puts)
+
+  -- What the device finds, where n calls of the host failed so far.
+  abbrev pub around_it : ℕ → Situation
+  around_it n = situation (device_contents w.rings) (Some w.host) n
+
+  one_told : {A : Type 0} {x y : A} → Some x ≡ Some y → x ≡ y
+  one_told is = cc
+
+  pub proxied : (n : ℕ) → Proxied carry first_cid w.proxy (around_it n)
+  proxied n = (
+    well.device.port,
+    (
+      well.chain.0,
+      λ l is. subst (IsToldBy carry (StreamedOver carry w.proxy.handshakes first_cid w.proxy.next_port w.proxy.device.table) first_cid w.proxy.next_port w.proxy.device true (Some w.host))
+          (one_told is) (
+            well.chain.1,
+            λ honest. (
+              record {
+                fits = well.device.fits;
+                none_overrun = well.overrun;
+                matches = well.sound.matches Device;
+                fair = well.sound.fair Device;
+                seated = (well.device_puts, λ got. stays _ _ refl);
+              },
+              λ ok plain h there. subst (λ (c : HostContents). IsStreamed c w.rings.device.entries w.proxy.next_port w.proxy.device.table w.proxy.handshakes)
+                  (one_told there) (well.streams ok),
+            ),
+          ),
+    ),
+  )
+
+  -- What the device got is what the driver put first, with the packets that are staged.
+  got_staged : (rings : RingEnds) → IsQueued rings → HasGotAll rings.device.entries (log_with_staged rings.driver)
+  got_staged rings q = record {
+    packets = (
+      held_in packet_held rings.driver.staged.tx ++ held_in packet_held rings.lists.tx.given,
+      (pages_put rings.driver.staged.tx rings.driver.entries).put
+          ∙ ap (λ (ps : List Packet). held_in packet_held rings.driver.staged.tx ++ ps) q.tx
+          ∙ sym (append_assoc (held_in packet_held rings.driver.staged.tx) (held_in packet_held rings.lists.tx.given) (packets_got rings.device.entries)),
+    );
+    events = (
+      events_put (log_with_staged rings.driver),
+      sym (append-nil (events_put (log_with_staged rings.driver))) ∙ ap (λ (ids : List ℕ). events_put (log_with_staged rings.driver) ++ ids) (sym q.no_event),
+    );
+  }
+
+  device_goes : {A : Type 0} (tree : DeviceTree A) (state_of : A → ProxyState) → DeviceKeeps (λ x d. Proxied carry first_cid (state_of x) d) tree (around_it 0)
+      → Goes fresh w (record (device_plays tree w).1 { proxy = state_of (device_plays tree w).0 })
+  device_goes tree state_of keeps =
+      let r = played answer_around tree (around w) in
+      let ends = device_walk w.rings driver_fair driver_fit (λ x d. Proxied carry first_cid (state_of x) d) tree (around w) 0 (record {
+        queued = well.queued;
+        fair = well.sound.fair Device;
+        cid = well.known;
+        given = (well.pages.0, well.pages.2);
+        heads = well.heads;
+      }) keeps in
+      let told = ends.1.1.1 r.1.log refl in
+      let now = told.1 refl in
+      let got = got_staged (record { lists = r.1.lists; driver = w.rings.driver; device = r.1.log }) ends.2.queued in
+      let runs = now.0.seated.1 got in
+      record {
+        well = record {
+          queued = ends.2.queued;
+          sound = keeps_sound first_cid _ _ runs well.sound;
+          driver = well.driver;
+          device = record { fits = now.0.fits; port = ends.1.0 };
+          driver_puts = well.driver_puts;
+          device_puts = now.0.seated.0;
+          pages = (ends.2.given.0, well.pages.1, ends.2.given.1);
+          chain = (ends.1.1.0, told.0);
+          heads = ends.2.heads;
+          known = ends.2.cid;
+          broken = well.broken;
+          marks = well.marks;
+          opened = well.opened;
+          received = well.received;
+          agrees = well.agrees;
+          sent = well.sent;
+          overrun = now.0.none_overrun;
+          cids = cids_kept first_cid _ _ runs well.sound well.cids;
+          once = keeps_once first_cid _ _ runs well.sound well.once;
+          streams = λ ok. now.1 ok got r.1.host refl;
+        };
+        runs = runs;
+      }
+
+  pub all : (held : List Held) → Unit {0}
+  all held = tt
+
+  abbrev pub device_with : DeviceState → Situation → Type 0
+  device_with = With carry w.proxy.handshakes first_cid w.proxy.next_port
+
+  device_step_goes : (step : DeviceState → DeviceTree DeviceState) → DeviceKeeps device_with (step w.proxy.device) (around_it 0) → Goes fresh w (device_step step w)
+  device_step_goes step keeps = device_goes (step w.proxy.device) (λ s. with_device s w.proxy)
+      (device_weaker device_with (λ x d. Proxied carry first_cid (with_device x w.proxy) d) (λ x d kept. (well.device.port, kept)) (step w.proxy.device) (around_it 0) keeps)
+
+  proxy_step_goes : (step : Turning → DeviceTree Turning) → DeviceKeeps (Turns carry first_cid) (step (start w.proxy)) (around_it 0) → Goes fresh w (proxy_step step w)
+  proxy_step_goes step keeps = device_goes (step (start w.proxy)) (λ t. t.state) keeps
 
 possible : (fresh : Type 0) (b : Bool) (step : World → World) (w : World) → IsWell fresh w → (b ≡ true → Goes fresh w (step w)) → Goes fresh w (where_possible b step w)
 possible fresh true step w well goes = goes refl
 possible fresh false step w well goes = goes_still fresh w well
 
-unfailed : (fresh : Type 0) (b : Bool) (step : World → World) (w : World) → has_failed w ≡ b → IsWell fresh w → Goes fresh w (step w) → Goes fresh w (unless_failed step w)
-unfailed fresh true step w is well goes = rw is (goes_still fresh w well)
-unfailed fresh false step w is well goes = rw is goes
+pub none_failed : {A : Type 0} (o : Option A) → is_some o ≡ false → o ≡ None
+none_failed None is = refl
+none_failed (Some x) is = absurd cc
+
+unfailed : (fresh : Type 0) (step : World → World) (w : World) → IsWell fresh w → (w.proxy.device.failed ≡ None → Goes fresh w (step w))
+    → Goes fresh w (unless_failed step w)
+unfailed fresh step w well goes = by (has_failed w) refl
+  where
+    by : (b : Bool) → has_failed w ≡ b → Goes fresh w (cond b w (step w))
+    by true is = goes_still fresh w well
+    by false is = goes (none_failed w.proxy.device.failed is)
 
 module _ (fresh : Type 0) (w : World) (well : IsWell fresh w) where
-  device_step_goes : (step : DeviceState → DeviceTree DeviceState)
-      → device_events.KeptBy (both_of w).driver first_cid w.proxy.next_port w.proxy.device w.rings.device.entries well.sound well.device well.device_puts fresh w.proxy.handshakes
-      (step w.proxy.device) (around w) → Goes fresh w (device_step step w)
-  device_step_goes step k = device_goes fresh (step w.proxy.device) (λ s. with_device s w.proxy) w well (k.kept, k.chain, k.known, k.streams)
+  abbrev here : Situation
+  here = around_it fresh w well 0
 
-  proxy_step_goes : (step : Turning → DeviceTree Turning)
-      → proxy_side.KeptBy (both_of w).driver first_cid w.proxy (around w) well.sound well.device well.device_puts well.chain well.known fresh (step (start w.proxy))
-      → Goes fresh w (proxy_step step w)
-  proxy_step_goes step k = device_goes fresh (step (start w.proxy)) (λ t. t.state) w well (k.kept, k.chain, k.cid, k.streams)
+  abbrev kept : Carried
+  kept = carry fresh w well
 
-  -- What the device may take of the transmit queue.
-  tx_tied : packets_put (log_with_staged w.rings.driver)
-      ≡ (held_in packet_held w.rings.driver.staged.tx ++ held_in packet_held w.rings.lists.tx.given) ++ packets_got w.rings.device.entries
-  tx_tied =
-      (pages_put w.rings.driver.staged.tx w.rings.driver.entries).put
-      ∙ ap (λ (ps : List Packet). held_in packet_held w.rings.driver.staged.tx ++ ps) well.queued.tx
-      ∙ sym (append_assoc (held_in packet_held w.rings.driver.staged.tx) (held_in packet_held w.rings.lists.tx.given) (packets_got w.rings.device.entries))
+  held_now : device_with fresh w well w.proxy.device here
+  held_now = (proxied fresh w well 0).1
 
-  -- A packet with payload isn't dropped where its connection takes payload.
-  undropped : (p : Packet) → IsNextPacket w.rings.device.entries (both_of w).driver.log p → is_dropped Device w.proxy.device.cid p.header ≡ true
-      → All (λ e. e.flow ≡ flow_got Device p → gives e.value.end ≡ true → p.payload ≡ []) w.proxy.device.table.entries
-  undropped p next dropped = λ i d within on given.
-      let e = get_or w.proxy.device.table.entries i d in
-      let there = Contains-get_or w.proxy.device.table.entries i d within in
-      let fair = next_is_fair Device first_cid p (both_of w) well.sound next in
-      dropped_empty first_cid (both_of w) well.sound well.cids p next dropped (λ other. (got_formed Device p w.rings.device.entries (fair (flow_got Device p))).payload other) e.value.end
-      (subst (λ (f : Flow). ends_of f (entries_of (λ (c : DeviceConnection). c.end) w.proxy.device.table) ≡ e.value.end ∷ []) on
-      (one_end (λ (c : DeviceConnection). c.end) w.proxy.device.table e well.device.fits.sound there)) given
+  device_goes_on : (step : DeviceState → DeviceTree DeviceState) → (w.proxy.device.failed ≡ None → DeviceKeeps (device_with fresh w well) (step w.proxy.device) here)
+      → Goes fresh w (unless_failed (device_step step) w)
+  device_goes_on step keeps = unfailed fresh (device_step step) w well (λ going. device_step_goes fresh w well step (keeps going))
 
-  device_takes_goes : (queue : Queue) → Goes fresh w (device_step (takes_chain queue) w)
-  device_takes_goes q.Rx = device_step_goes (takes_chain q.Rx)
-      (device_turns.takes_rx (both_of w).driver first_cid w.proxy.next_port w.proxy.device (around w) well.sound well.device well.device_puts well.chain well.known fresh w.proxy.handshakes well.streams)
-  device_takes_goes q.Event = device_step_goes (takes_chain q.Event)
-      (device_turns.takes_event (both_of w).driver first_cid w.proxy.next_port w.proxy.device (around w) well.sound well.device well.device_puts well.chain well.known fresh w.proxy.handshakes well.streams)
-  device_takes_goes q.Tx = device_step_goes (takes_chain q.Tx)
-      (device_turns.takes_tx (both_of w).driver first_cid w.proxy.next_port w.proxy.device (around w) well.sound well.device well.device_puts well.chain well.known fresh w.proxy.handshakes well.streams
-      (held_in packet_held w.rings.driver.staged.tx) tx_tied well.driver_puts well.pages.0 undropped well.once)
+  proxy_goes_on : (step : Turning → DeviceTree Turning) → DeviceKeeps (Turns kept first_cid) (step (start w.proxy)) here → Goes fresh w (unless_failed (proxy_step step) w)
+  proxy_goes_on step keeps = unfailed fresh (proxy_step step) w well (λ going. proxy_step_goes fresh w well step keeps)
+
+  pub held_there : (chain : Chain) → is_held chain w.rings.device.held ≡ true → ForSome (Some w.rings.device) (λ l. is_held chain l.held ≡ true)
+  held_there chain is l there = subst (λ (k : EndLog). is_held chain k.held ≡ true) (one_told fresh w well there) is
 
   -- The moment and the host change.
   outside_goes : (now : ℕ) (host : HostContents)
@@ -353,11 +425,12 @@ module _ (fresh : Type 0) (w : World) (well : IsWell fresh w) where
       queued = well.queued;
       sound = well.sound;
       driver = well.driver;
-      device = well.device;
+      device = record { fits = well.device.fits; port = well.device.port };
       driver_puts = well.driver_puts;
       device_puts = well.device_puts;
       pages = well.pages;
       chain = well.chain;
+      heads = well.heads;
       known = well.known;
       broken = well.broken;
       marks = well.marks;
@@ -393,40 +466,41 @@ module _ (fresh : Type 0) (w : World) (well : IsWell fresh w) where
       possible fresh (works_on q.Tx w.rings.driver.staged) (driver_step (stages_owed slot)) w well (λ may. pays_goes fresh w well slot)
   happens_goes (GuestPublishes queue) =
       possible fresh (works_on queue w.rings.driver.staged) (driver_step (publish_of queue)) w well (publishes_goes fresh w well queue)
-  happens_goes (DeviceTakes queue) = unfailed fresh (has_failed w) (device_step (takes_chain queue)) w refl well (device_takes_goes queue)
-  happens_goes (DeviceReturns chain) =
-      possible fresh (holds q.Tx chain w) (device_step (returns chain)) w well (λ may. device_step_goes (returns chain)
-      (device_turns.returns_tx (both_of w).driver first_cid w.proxy.next_port w.proxy.device (around w) well.sound well.device well.device_puts well.chain well.known fresh w.proxy.handshakes well.streams
-      chain (sym (same_queue_is q.Tx chain.queue (and_parts _ _ may).0))))
-  happens_goes (DevicePutsEvent chain) =
-      possible fresh (holds_event chain w) (device_step (puts_event chain)) w well (λ may. device_step_goes (puts_event chain)
-      (device_turns.puts_event_keeps (both_of w).driver first_cid w.proxy.next_port w.proxy.device (around w) well.sound well.device well.device_puts well.chain
-      well.known fresh w.proxy.handshakes well.streams chain
-      (sym (same_queue_is q.Event chain.queue (and_parts _ _ (and_parts (holds q.Event chain w) _ may).0).0))
-      (and_parts _ _ (and_parts (holds q.Event chain w) _ may).0).1))
-  happens_goes DeviceReplies = unfailed fresh (has_failed w) (device_step puts_reply) w refl well (device_step_goes puts_reply
-      (device_puts.puts_reply_keeps (both_of w).driver first_cid w.proxy.next_port w.proxy.device (around w) well.sound well.device well.device_puts well.chain well.known fresh w.proxy.handshakes well.streams))
-  happens_goes (DeviceReads slot) = unfailed fresh (has_failed w) (device_step (puts_payload slot)) w refl well (device_step_goes (puts_payload slot)
-      (device_reads.puts_payload_keeps (both_of w).driver first_cid w.proxy.next_port w.proxy.device (around w) well.sound well.device well.device_puts well.chain well.known fresh w.proxy.handshakes well.streams slot))
-  happens_goes (DevicePays slot) = unfailed fresh (has_failed w) (device_step (puts_owed slot)) w refl well (device_step_goes (puts_owed slot)
-      (device_puts.puts_owed_keeps (both_of w).driver first_cid w.proxy.next_port w.proxy.device (around w) well.sound well.device well.device_puts well.chain well.known fresh w.proxy.handshakes well.streams slot))
-  happens_goes (DeviceWrites slot) = unfailed fresh (has_failed w) (device_step (writes slot)) w refl well (device_step_goes (writes slot)
-      (device_streams.writes_keeps (both_of w).driver first_cid w.proxy.next_port w.proxy.device (around w) well.sound well.device well.device_puts well.chain well.known fresh w.proxy.handshakes well.streams slot))
-  happens_goes (DeviceShutsWrite slot) = unfailed fresh (has_failed w) (device_step (shuts_write slot)) w refl well (device_step_goes (shuts_write slot)
-      (device_streams.shuts_write_keeps (both_of w).driver first_cid w.proxy.next_port w.proxy.device (around w) well.sound well.device well.device_puts well.chain well.known fresh w.proxy.handshakes well.streams slot))
-  happens_goes ProxyAccepts = unfailed fresh (has_failed w) (proxy_step accept_one) w refl well (proxy_step_goes accept_one
-      (proxy_side.accept_keeps (both_of w).driver first_cid w.proxy (around w) well.sound well.device well.device_puts well.chain well.known fresh well.streams))
-  happens_goes (ProxyReads stream) = unfailed fresh (has_failed w) (proxy_step (line_read stream)) w refl well (proxy_step_goes (line_read stream)
-      (proxy_side.line_read_keeps (both_of w).driver first_cid w.proxy (around w) well.sound well.device well.device_puts well.chain well.known fresh well.streams stream))
+  happens_goes (DeviceTakes queue) = device_goes_on (takes_chain queue) (λ going.
+      device_steps.takes_keeps kept (all fresh w well) w.proxy.handshakes first_cid w.proxy.next_port w.proxy.device here going held_now queue)
+  happens_goes (DeviceReturns chain) = possible fresh (holds q.Tx chain w) (device_step (returns chain)) w well (λ may.
+      let parts = and_parts _ _ may in
+      device_step_goes fresh w well (returns chain) (device_steps.returns_keeps kept (all fresh w well) w.proxy.handshakes first_cid w.proxy.next_port w.proxy.device here held_now
+      chain (sym (same_queue_is q.Tx chain.queue parts.0)) (held_there chain parts.1)))
+  happens_goes (DevicePutsEvent chain) = possible fresh (holds_event chain w) (device_step (puts_event chain)) w well (λ may.
+      let room = and_parts (holds q.Event chain w) (nat_le 4 chain.writable) may in
+      let parts = and_parts _ _ room.0 in
+      device_step_goes fresh w well (puts_event chain) (device_steps.puts_event_keeps kept (all fresh w well) w.proxy.handshakes first_cid w.proxy.next_port w.proxy.device here held_now
+      chain (sym (same_queue_is q.Event chain.queue parts.0)) (grind (arith, nat_tests, room.1)) (held_there chain parts.1)))
+  happens_goes DeviceReplies = device_goes_on puts_reply (λ going.
+      device_steps.puts_reply_keeps kept (all fresh w well) w.proxy.handshakes first_cid w.proxy.next_port w.proxy.device here going held_now)
+  happens_goes (DeviceReads slot) = device_goes_on (puts_payload slot) (λ going.
+      device_steps.puts_payload_keeps kept (all fresh w well) w.proxy.handshakes first_cid w.proxy.next_port w.proxy.device here going held_now slot)
+  happens_goes (DevicePays slot) = device_goes_on (puts_owed slot) (λ going.
+      device_steps.puts_owed_keeps kept (all fresh w well) w.proxy.handshakes first_cid w.proxy.next_port w.proxy.device here going held_now slot)
+  happens_goes (DeviceWrites slot) = device_goes_on (writes slot) (λ going.
+      device_steps.writes_keeps kept (all fresh w well) w.proxy.handshakes first_cid w.proxy.next_port w.proxy.device here held_now slot)
+  happens_goes (DeviceShutsWrite slot) = device_goes_on (shuts_write slot) (λ going.
+      device_steps.shuts_keeps kept (all fresh w well) w.proxy.handshakes first_cid w.proxy.next_port w.proxy.device here held_now slot)
+  happens_goes ProxyAccepts = proxy_goes_on accept_one (accepts kept first_cid (start w.proxy) here (proxied fresh w well 0))
+  happens_goes (ProxyReads stream) = proxy_goes_on (line_read stream)
+      (keeps_then (Goes-on kept first_cid) (Turns kept first_cid) (read_byte stream (start w.proxy)) (λ r. Done r.0) here
+      (reads_byte kept first_cid stream (start w.proxy) here (proxied fresh w well 0)) line_kept)
+    where
+      line_kept : (r : Turning × Bool) (d : Situation) → Goes-on kept first_cid r d → Turns kept first_cid r.0 d
+      line_kept (t, true) d turns = turns
+      line_kept (t, false) d turns = turns
   happens_goes (Moment now) = outside_goes now w.host well.streams
-  happens_goes (TimesOut slot) = unfailed fresh (has_failed w) (device_step (tick_slot slot)) w refl well (device_step_goes (tick_slot slot)
-      (device_streams.tick_keeps (both_of w).driver first_cid w.proxy.next_port w.proxy.device (around w) well.sound well.device well.device_puts well.chain well.known fresh w.proxy.handshakes well.streams slot))
-  happens_goes (HandshakeTimesOut stream) = unfailed fresh (has_failed w) (proxy_step (tick_handshake stream)) w refl well (proxy_step_goes (tick_handshake stream)
-      (proxy_side.handshake_keeps (both_of w).driver first_cid w.proxy (around w) well.sound well.device well.device_puts well.chain well.known fresh well.streams stream))
+  happens_goes (TimesOut slot) = device_goes_on (tick_slot slot) (λ going.
+      tick_slot_keeps kept w.proxy.handshakes first_cid w.proxy.next_port slot w.proxy.device here held_now)
+  happens_goes (HandshakeTimesOut stream) = proxy_goes_on (tick_handshake stream) (ticks kept first_cid stream (start w.proxy) here (proxied fresh w well 0))
   happens_goes (Reset cid) = possible fresh (is_guest_cid cid) (reset_made cid) w well (λ may.
-      let k = proxy_resets.reset_keeps (both_of w).driver first_cid w.proxy (around w) well.sound well.device well.device_puts well.chain well.known fresh well.streams cid
-      (guest_cid_fits cid may) in
-      device_goes fresh (proxy_reset_of cid w.proxy) (λ r. r.0) w well (k.kept, k.chain, k.cid, k.streams))
+      device_goes fresh w well (proxy_reset_of cid w.proxy) (λ r. r.0) (proxy_reset_keeps kept first_cid cid w.proxy here (guest_cid_fits cid may) (proxied fresh w well 0)))
   happens_goes (HostListens port) = host_goes _ (λ ok. same_host w.host (after_listen port kind.Stream w.host) _ _ _ _ (λ j. refl) refl (well.streams ok))
   happens_goes (HostUnlistens port) = host_goes _ (λ ok. same_host w.host (after_unlisten port kind.Stream w.host) _ _ _ _ (λ j. refl) refl (well.streams ok))
   happens_goes ClientConnects = host_goes _ (λ ok. client_host w.host _ _ _ _ (well.streams ok))

@@ -23,8 +23,9 @@ use Rattle.vs_device_parts.specs.Transmitting.{on_known, on_next, on_packet, on_
 use Rattle.vs_limits.specs.declared.TheConstants.{DEVICE_REPLIES}
 use Rattle.vs_proxy_parts.specs.{Turns.device_after, Turns.event_stage, Turns.take_one, Turns.take_stage, Turns.took_packet, State.Turning}
 use Rattle.vs_proxy_parts.specs.State.{with_device}
-use Rattle.laws_world.specs.{Answers.Around, Answers.answer_around, Pages.is_held, Steps.Leads, World.World, World.around}
-use Rattle.laws_world.specs.Events.{DevicePutsEvent, DeviceReturns, DeviceTakes, device_step, holds, holds_event}
+use Rattle.laws_device.specs.Honest.{is_held}
+use Rattle.laws_world.specs.{Answers.Around, Answers.answer_around, Steps.Leads, World.World, World.around, Events.DevicePutsEvent}
+use Rattle.laws_world.specs.Events.{DeviceReturns, DeviceTakes, device_step, holds, holds_event}
 use Rattle.laws_world.proofs.DeviceLeads.{Does, device_bind, device_event, does_nothing, does_then, leads_bind, plays, with_proxy}
 use Rattle.laws_world.proofs.GuestLines.{leads_none, leads_one, leads_then, possible_is}
 use Rattle.laws_world.proofs.TickStage.{TurnDoes, turning_at}

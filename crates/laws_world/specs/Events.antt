@@ -11,7 +11,8 @@ use Rattle.vs_device_parts.specs.{Calls.DeviceTree, State.DeviceState, Streams.t
 use Rattle.vs_device_parts.specs.Steps.{puts_event, puts_reply, puts_owed, puts_payload, writes, shuts_write}
 use Rattle.vs_proxy_parts.specs.{State.Turning, State.start, State.with_device, Turns.proxy_reset_of, Handshakes.tick_handshake}
 use Rattle.vs_proxy_parts.specs.Handshakes.{accept_one, read_byte}
-use Rattle.laws_world.specs.{Pages.is_held, World.World, World.driver_plays, World.device_plays}
+use Rattle.laws_device.specs.Honest.{is_held}
+use Rattle.laws_world.specs.{World.World, World.driver_plays, World.device_plays}
 use Rattle.laws_driver_bytes.specs.Calls.{GuestCall, ReplyTo, is_right, makes_call, with_call}
 use Rattle.vs_header.specs.declared.Kind.TheVariants as kind
 use Rattle.vs_ring_port.specs.declared.queue.Queue.TheVariants as q

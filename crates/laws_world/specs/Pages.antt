@@ -1,10 +1,9 @@
--- What the pages of the transmit queue hold, and which chains the device holds.
-use Rattle.std.specs.Prelude.{◌≡◌, ◌≤◌, ◌+◌, ℕ, Bool, true, false, if◌then◌else◌, List, [], ◌∷◌, length, Some}
+-- What the pages of the transmit queue hold.
+use Rattle.std.specs.Prelude.{◌≡◌, ◌≤◌, ◌+◌, ℕ, List, [], ◌∷◌, length, Some}
 use Rattle.vs_header.specs.declared.TheConstants.{HEADER_LEN}
 use Rattle.laws_history.specs.declared.packet.Packet.{Packet}
 use Rattle.vs_page.specs.Held.{packet_held}
-use Rattle.vs_ring_port.specs.{Chains.Held, Chains.same_chain, DriverCalls.HoldsPacket, EndLog.EndLog, Lists.Rings}
-use Rattle.vs_ring_port.specs.declared.device_ring.Chain.{Chain}
+use Rattle.vs_ring_port.specs.{DriverCalls.HoldsPacket, EndLog.EndLog, Lists.Rings}
 
 -- A page holds a packet, with as many bytes as its header tells.
 pub record PageHolds (page : List ℕ) : Type 0 where
@@ -16,15 +15,10 @@ abbrev pub AllHold : List (List ℕ) → Type 0
 AllHold [] = Unit {0}
 AllHold (page ∷ pages) = PageHolds page × AllHold pages
 
--- Of those given each does, and of those staged each holds a packet and nothing more.
+-- Of those given each does, and of those given and those staged each holds a packet and nothing more.
 abbrev pub AllPacked : List (List ℕ) → Type 0
 AllPacked [] = Unit {0}
 AllPacked (page ∷ pages) = HoldsPacket page × AllPacked pages
 
 abbrev pub TxHolds : Rings → EndLog → Type 0
-TxHolds lists log = AllHold lists.tx.given × AllPacked log.staged.tx
-
--- A chain is held.
-abbrev pub is_held : Chain → List Held → Bool
-is_held chain [] = false
-is_held chain (h ∷ held) = if same_chain chain h.chain then true else is_held chain held
+TxHolds lists log = AllHold lists.tx.given × AllPacked log.staged.tx × AllPacked lists.tx.given

@@ -1,4 +1,5 @@
 use Rattle.vs_device_parts.specs.{Streams.pump_of, Streams.tick_of, Turns.open_of}
+use Rattle.laws_device.proofs.{Carrying.ring_only}
 use Rattle.laws_device.proofs.{Keeping.keeps_end, Turning.opens_plain, Turning.pump_keeps, Turning.tick_keeps, Carrying.with_ring}
 use Rattle.laws_device.proofs.Carrying.{ring_end}
 use Rattle.std.proofs.Common.{[]}
@@ -6,10 +7,10 @@ use Rattle.laws_device.specs.Honest.{port_after}
 use Rattle.laws_device.proofs.laws.law_of_other_calls.Goals as goal
 
 pub returns-clause-tick : goal.returns-clause-tick
-returns-clause-tick c = λ first port now s t a b holds runs. ring_end first port (λ x. x) s (tick_of now s) a b t holds (tick_keeps ⊥ [] first port now s a) runs
+returns-clause-tick c = λ first port now s t a b holds runs. ring_end first port (λ x. x) s (tick_of now s) a b t holds (tick_keeps ring_only [] first port now s a) runs
 
 pub returns-clause-pump_out : goal.returns-clause-pump_out
-returns-clause-pump_out c = λ first port s a b w holds runs. ring_end first port (λ w. w.state) s (pump_of s) a b w holds (pump_keeps ⊥ [] first port s a) runs
+returns-clause-pump_out c = λ first port s a b w holds runs. ring_end first port (λ w. w.state) s (pump_of s) a b w holds (pump_keeps ring_only [] first port s a) runs
 
 pub returns-clause-opened : goal.returns-clause-opened
 returns-clause-opened c = λ first port stream flow s a b x next ports holds runs.

@@ -1,0 +1,60 @@
+-- The device's steps as those of its seat, and what a walk over its conversations carries.
+use Rattle.std.proofs.Common.{◌≡◌, ℕ, ◌≤◌, true, List, [], ◌∷◌, ap}
+use Rattle.vs_conn.specs.End.{ConnectionEnd}
+use Rattle.vs_flow.specs.{declared.flow.Flow.Flow, Table.Table}
+use Rattle.vs_page.specs.{Fair.number_of, Log.flow_got, Open.is_dropped, declared.log.LogEntry.LogEntry}
+use Rattle.vs_page.specs.{declared.log.LogEntry.TheVariants.GotPacket, Fair.IsFairLog, Held.FitsWire, Log.Device, Log.Log, Log.packets_put}
+use Rattle.laws_tables.specs.{Steps.HasEnd, Both.Asks, Both.MayHappen, Both.Opens, Both.Seat, Both.Step, Both.Takes, Both.after, Ends.Ends}
+use Rattle.laws_tables.specs.{Heard.own_port, Matches.Matches, Steps.IsNextFlow}
+use Rattle.laws_device_bytes.specs.Streamed.{gives}
+use Rattle.laws_history.specs.declared.packet.Packet.{Packet}
+use Rattle.vs_ring_port.specs.{Chains.Held, EndLog.EndLog}
+use Rattle.vs_replies.specs.declared.Reply.{Reply}
+use Rattle.vs_device_parts.specs.State.{DeviceConnection, DeviceState}
+use Rattle.laws_device.specs.Honest.{IsFit, ends_of_state, ends_with}
+
+abbrev pub seat : ℕ → DeviceState → Log → Seat
+seat port s log = record { part = ends_of_state port s; log = log }
+
+pub at_log : (log : Log) (old new : Ends) → old ≡ new → (let w : Seat = record { part = old; log = log } in w) ≡ record { part = new; log = log }
+at_log log old new = ap (λ (part : Ends). let w : Seat = record { part = part; log = log } in w)
+
+-- A step that may happen there, whatever the other end did. No flow is asked for whose port was given before.
+abbrev pub MayDo : Step → Seat → Type 0
+MayDo (Opens f kind) w = IsNextFlow Device f w.part × (w.part.next_port ≤ own_port Device f)
+MayDo (Asks f kind) w = IsNextFlow Device f w.part × (w.part.next_port ≤ own_port Device f)
+MayDo (Takes p answer) w = Unit {0}
+MayDo step w = MayHappen Device step (record { driver = w; device = w })
+
+-- The headers of all packets that were put fit the wire.
+abbrev pub AllFit : List Packet → Type 0
+AllFit [] = Unit {0}
+AllFit (p ∷ ps) = FitsWire p.header × AllFit ps
+
+abbrev pub PutsFit : Log → Type 0
+PutsFit log = AllFit (packets_put log)
+
+-- What is carried: whether the host's streams are told of, which other chains may be held, and a fact of the seat that each step keeps. Where the
+-- log is plain, which each one before it then was, no flow was used twice, and no payload was dropped that a stream is to be given.
+pub record Carried : Type 1 where
+  pub ok : Type 0
+  pub others : List Held → Type 0
+  pub holds : Seat → Type 0
+  pub step : (step : Step) (w : Seat) → MayDo step w → (PutsFit w.log → PutsFit (after Device step w).log) → holds w → holds (after Device step w)
+  pub plain : ℕ → Log → Type 0
+  pub before : (first : ℕ) (entry : LogEntry) (log : Log) → plain first (entry ∷ log) → plain first log
+  pub once : (first : ℕ) (w : Seat) → holds w → plain first w.log → (f : Flow) → number_of Device f w.log ≤ 1
+  pub idle : (first : ℕ) (p : Packet) (w : Seat) → holds w → Matches Device first w.part w.log → IsFairLog Device (GotPacket p ∷ w.log)
+      → plain first (GotPacket p ∷ w.log) → is_dropped Device w.part.cid p.header ≡ true → (e : ConnectionEnd) → HasEnd (flow_got Device p) e w.part
+      → gives e ≡ true → p.payload ≡ []
+
+-- The device agrees with its log, as `AgreesWith` says, and its seat is carried.
+pub record LeftBy (carry : Carried) (first port cid overrun : ℕ) (table : Table DeviceConnection) (replies : List Reply) (entries : Log) : Type 0 where
+  pub fits : IsFit cid table replies
+  pub none_overrun : overrun ≡ 0
+  pub matches : Matches Device first (ends_with port cid table replies) entries
+  pub fair : IsFairLog Device entries
+  pub seated : carry.holds (record { part = ends_with port cid table replies; log = entries })
+
+abbrev pub AgreesBy : Carried → ℕ → ℕ → DeviceState → EndLog → Type 0
+AgreesBy carry first port s l = LeftBy carry first port s.cid s.overrun s.table s.replies l.entries

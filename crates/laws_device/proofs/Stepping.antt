@@ -1,0 +1,176 @@
+-- What the single steps keep, beside whatever other chains are held.
+use Rattle.std.proofs.Common.{◌≡◌, ℕ, ◌≤◌, ◌==◌, Bool, true, false, cond, List, [], take, Contains, Option, Some, None, refl, sym, ap}
+use Rattle.std.proofs.Common.{subst, ◌∙◌, arith, IfSome}
+use Rattle.std.specs.Option.{ForSome}
+use Rattle.byteorder.specs.Endian.{little_bytes}
+use Rattle.vs_contents.specs.CallTree.{Done, Ask, bind}
+use Rattle.vs_conn.specs.{End.wanting_credit, declared.end.Verdict.Verdict}
+use Rattle.vs_credit.specs.Credit.{free_of}
+use Rattle.vs_flow.specs.Table.{entry_under}
+use Rattle.vs_header.specs.declared.Header.{Header}
+use Rattle.vs_outside.specs.Host.{HostContents}
+use Rattle.vs_page.specs.{Held.FitsWire, Log.Log}
+use Rattle.vs_ring_port.specs.{Chains.Held, Chains.bytes_in, Chains.same_queue, Contents.Return, Contents.Take, Contents.Write}
+use Rattle.vs_ring_port.specs.{DeviceCalls.IsTakenAs, EndLog.EndLog, EndLog.entries_returned, EndLog.log_returned, EndLog.log_taken}
+use Rattle.vs_ring_port.specs.{declared.device_ring.Chain.Chain, declared.device_ring.Next.Next, declared.queue.Queue.Queue}
+use Rattle.vs_ring_port.specs.declared.queue.Queue.TheVariants.{Event, Rx, Tx}
+use Rattle.vs_device_parts.specs.{Calls.DeviceTree, Calls.Ring, Calls.Situation, Connections.with_connection, Playing.IsRxChain}
+use Rattle.vs_device_parts.specs.Receiving.{Filling, may_read, put_owed, put_reply, read_with_chain}
+use Rattle.vs_device_parts.specs.{State.DeviceEntry, State.DeviceState, Steps.chain_came, Steps.filling, Steps.puts_event, Steps.puts_owed}
+use Rattle.vs_device_parts.specs.Steps.{puts_payload, puts_reply, reads, returns, shuts_write, takes_chain, writes, writes_on, writing}
+use Rattle.vs_device_parts.specs.{Streams.shut_write, Streams.write_pending, Transmitting.failing}
+use Rattle.laws_device.specs.Honest.{is_held}
+use Rattle.laws_device.proofs.{Chains.Among, Chains.among_more, Chains.among_without, Chains.held_there, Carrying.IsToldBy}
+use Rattle.laws_device.proofs.{Carrying.StreamedOver, Carrying.With, Filling.Over, Filling.Ready, Filling.put_owed_keeps}
+use Rattle.laws_device.proofs.{Filling.put_reply_keeps, Filling.step_keeps, Filling.under_there, Hearing.After, Hearing.Heard, Keeping.Goes}
+use Rattle.laws_device.proofs.{Keeping.Keeps, Keeping.Lets, Keeping.keeps_then, Ringing.moves, Ringing.tells_weaker, Seats.Carried}
+use Rattle.laws_device.proofs.{Seats.LeftBy, Steps.hold_keeps, Transmitting.read_keeps, Transmitting.tx_keeps, Turning.event_put}
+use Rattle.laws_device.proofs.Turning.{shut_keeps, write_keeps_all}
+use Rattle.vs_proxy_parts.specs.State.{Handshake}
+use Rattle.vs_ring_port.specs.declared.device_ring.Next.TheVariants as next
+
+module _ (carry : Carried) (all : (held : List Held) → carry.others held) (lines : List Handshake) (first port : ℕ) where
+  abbrev Now : DeviceState → Situation → Type 0
+  Now = With carry lines first port
+
+  abbrev Told : DeviceState → Bool → Option HostContents → EndLog → Type 0
+  Told s = IsToldBy carry (StreamedOver carry lines first port s.table) first port s
+
+  -- The chain is held.
+  abbrev IsThere : Chain → Situation → Type 0
+  IsThere chain c = ForSome c.ring.log (λ l. is_held chain l.held ≡ true)
+
+  other : (chain : Chain) (q : Queue) → chain.queue ≡ q → same_queue q Rx ≡ false → same_queue chain.queue Rx ≡ false
+  other chain q is differ = ap (λ (x : Queue). same_queue x Rx) is ∙ differ
+
+  -- It takes a page.
+  module _ (s : DeviceState) (c : Situation) (going : s.failed ≡ None) (holds : Now s c) where
+    event_taken : (answer : Next) (d : Situation) → Lets (Ring (Take Event)) answer c d → Now s d
+    event_taken (next.Chain chain) d made = (
+      holds.0,
+      moves _ _ _ _ _ (log_taken Event (next.Chain chain) made.0.0) c d made.0.1 made.1 (Told s) (Told s)
+          (λ hon o l asked was fair. by made.0.0 hon o l asked.0 was) holds.1,
+    )
+      where
+        by : (page : Option (List ℕ)) (hon : Bool) (o : Option HostContents) (l : EndLog) → IsTakenAs Event (next.Chain chain) page → Told s hon o l
+            → Told s hon o (log_taken Event (next.Chain chain) page l)
+        by None hon o l asked was = absurd asked
+        by (Some page) hon o l asked was =
+            (λ still. among_more carry.others all chain (other chain Event made.3.queue_is refl) s.chain [] l.held holds.0 (was.0 still), was.1)
+    event_taken next.None d made = (
+      holds.0,
+      moves _ _ _ _ _ (log_taken Event next.None made.0.0) c d made.0.1 made.1 (Told s) (Told s) (λ hon o l asked was fair. was) holds.1,
+    )
+    event_taken (next.Failed f) d made = (
+      holds.0,
+      moves _ _ _ _ _ (log_taken Event (next.Failed f) made.0.0) c d made.0.1 made.1 (Told s) (Told s) (λ hon o l asked was fair. was) holds.1,
+    )
+
+    heard_now : (chain : Chain) → chain.queue ≡ Tx → (h : Header) (wire : FitsWire h) (x : DeviceState × Verdict) (d : Situation)
+        → Heard carry lines first port s chain h wire x d → Now x.0 d
+    heard_now chain queue h wire x d (failed, chain_is, tells) =
+        let rx : IfSome x.0.chain IsRxChain = subst (λ (o : Option Chain). IfSome o IsRxChain) (sym chain_is) holds.0 in (
+          rx,
+          tells_weaker (After carry lines first port s chain h wire x.0) (Told x.0) (λ hon o l was. (
+            λ still. subst (λ (held : List Held). Among carry.others x.0.chain held) (sym was.1.1)
+                (among_more carry.others all chain (other chain Tx queue refl) x.0.chain was.0 was.1.0 rx was.1.2),
+            was.2,
+          )) d tells,
+        )
+
+    pub takes_keeps : (queue : Queue) → Keeps Now (takes_chain queue s) c
+    takes_keeps Rx = hold_keeps carry lines first port Now (λ r. Done r.state) (filling s) (λ chain d kept. kept) (λ q d none over kept. kept) c
+        (holds, going, refl)
+    takes_keeps Event = by s.event_owed
+      where
+        by : (b : Bool) → Keeps Now (cond b (Ask (Ring (Take Event)) (λ answer. Done s)) (Done s)) c
+        by true = (tt, λ answer d made. event_taken answer d made)
+        by false = holds
+    takes_keeps Tx = tx_keeps carry lines first port s Now (λ answer. chain_came answer s) (λ chain long queue d rx tells.
+        read_keeps carry lines first port s chain long queue Now (λ f. Done (failing f s)) (λ r. Done r.0) (λ f e kept. kept)
+        (λ h wire x e heard. heard_now chain queue h wire x e heard) rx d tells) (λ d kept. kept) (λ f d kept. kept) (Done s) (λ d kept. kept) c going holds
+
+    -- Into the chain that it holds it puts the oldest reply, what a connection owes, or payload.
+    ready : Ready carry lines first port (filling s) c
+    ready = (holds, going, refl)
+
+    put_now : (q : Filling × Bool) (d : Situation) → Goes (Ready carry lines first port) (Over carry lines first port) q d → Now q.0.state d
+    put_now (r, true) d kept = kept.0
+    put_now (r, false) d kept = kept.0
+
+    put_keeps : (step : Filling → DeviceTree (Filling × Bool))
+        → Keeps (Goes (Ready carry lines first port) (Over carry lines first port)) (step (filling s)) c
+        → Keeps Now (elim s.chain as (λ _. DeviceTree DeviceState) [ None ↦ Done s | Some chain ↦ bind (step (filling s)) (λ q. Done q.0.state) ]) c
+    put_keeps step keeps = by s.chain
+      where
+        by : (o : Option Chain)
+            → Keeps Now (elim o as (λ _. DeviceTree DeviceState) [ None ↦ Done s | Some chain ↦ bind (step (filling s)) (λ q. Done q.0.state) ]) c
+        by None = holds
+        by (Some chain) = keeps_then (Goes (Ready carry lines first port) (Over carry lines first port)) Now (step (filling s)) (λ q. Done q.0.state) c keeps put_now
+
+    pub puts_reply_keeps : Keeps Now (puts_reply s) c
+    puts_reply_keeps = put_keeps put_reply (put_reply_keeps carry lines first port (filling s) c ready)
+
+    pub puts_owed_keeps : (slot : ℕ) → Keeps Now (puts_owed slot s) c
+    puts_owed_keeps slot = put_keeps (put_owed slot) (put_owed_keeps carry lines first port slot (filling s) c ready)
+
+    pub puts_payload_keeps : (slot : ℕ) → Keeps Now (puts_payload slot s) c
+    puts_payload_keeps slot = by (entry_under s.table slot) refl
+      where
+        live : (e : DeviceEntry) → Contains s.table.entries e → (b : Bool) → may_read e.value.end e.value.end.state ≡ b
+            → Keeps Now (cond b (cond (free_of e.value.end.credit == 0)
+            (Done (with_connection e.slot (record e.value { end = wanting_credit e.value.end }) s))
+            (bind (read_with_chain e (filling s)) (λ r. Done r.state))) (Done s)) c
+        live e there false may = holds
+        live e there true may = step_keeps carry lines first port e (filling s) there may (free_of e.value.end.credit == 0) c ready
+
+        by : (o : Option DeviceEntry) → entry_under s.table slot ≡ o
+            → Keeps Now (elim o as (λ _. DeviceTree DeviceState) [ None ↦ Done s | Some e ↦ reads e s ]) c
+        by None under = holds
+        by (Some e) under = live e (under_there s slot e under) (may_read e.value.end e.value.end.state) refl
+
+  module _ (s : DeviceState) (c : Situation) (holds : Now s c) where
+    -- It returns a transmit page, and puts the owed event.
+    pub returns_keeps : (chain : Chain) → chain.queue ≡ Tx → IsThere chain c → Keeps Now (returns chain s) c
+    returns_keeps chain queue there = (
+      (λ less. absurd (omega (arith, less)), λ l is. held_there chain l.held (there l is)),
+      λ a d made. (
+        holds.0,
+        moves _ _ _ _ _ (log_returned chain 0) c d made.0.1 made.1 (Told s) (Told s) (λ hon o l asked was fair. (
+          λ still. among_without carry.others all chain (other chain Tx queue refl) s.chain l.held holds.0 (was.0 still),
+          λ honest. subst (λ (log : Log). LeftBy carry first port s.cid s.overrun s.table s.replies log × StreamedOver carry lines first port s.table o log)
+              (sym (ap (λ (q : Queue). entries_returned q (take 0 (bytes_in chain l.held)) l.entries) queue)) (was.1 honest),
+        )) holds.1,
+      ),
+    )
+
+    pub puts_event_keeps : (chain : Chain) → chain.queue ≡ Event → 4 ≤ chain.writable → IsThere chain c → Keeps Now (puts_event chain s) c
+    puts_event_keeps chain queue room there = by s.event_owed
+      where
+        by : (b : Bool) → Keeps Now (cond b (Ask (Ring (Write chain 0 (little_bytes 4 0))) (λ _. Ask (Ring (Return chain 4)) (λ _. Done (record s { event_owed = false }))))
+            (Done s)) c
+        by false = holds
+        by true = event_put carry lines first port s Now (Done (record s { event_owed = false })) chain queue room (λ bytes. Unit {0}) c
+            (λ l is. let was = holds.1 l is in (
+              (there l is, tt, λ still. among_without carry.others all chain (other chain Event queue refl) s.chain l.held holds.0 (was.0 still)),
+              was.1,
+            )) (λ d told. (holds.0, told))
+
+    -- It writes to a connection's stream, and shuts the side that it writes to.
+    pub writes_keeps : (slot : ℕ) → Keeps Now (writes slot s) c
+    writes_keeps slot = by (entry_under s.table slot) refl
+      where
+        standing : (e : DeviceEntry) → Contains s.table.entries e → (b : Bool) → Keeps Now (cond b (Done s) (bind (write_pending e (writing s)) (λ w. Done w.state))) c
+        standing e there true = holds
+        standing e there false =
+            keeps_then (λ w d. Now w.state d) Now (write_pending e (writing s)) (λ w. Done w.state) c
+            (write_keeps_all carry lines first port e (writing s) there c holds) (λ w d kept. kept)
+
+        by : (o : Option DeviceEntry) → entry_under s.table slot ≡ o
+            → Keeps Now (elim o as (λ _. DeviceTree DeviceState) [ None ↦ Done s | Some e ↦ writes_on e s ]) c
+        by None under = holds
+        by (Some e) under = standing e (under_there s slot e under) e.value.closed
+
+    pub shuts_keeps : (slot : ℕ) → Keeps Now (shuts_write slot s) c
+    shuts_keeps slot = keeps_then (λ w d. Now w.state d) Now (shut_write slot (writing s)) (λ w. Done w.state) c
+        (shut_keeps carry lines first port slot (writing s) c holds) (λ w d kept. kept)

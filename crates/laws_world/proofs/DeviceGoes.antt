@@ -1,0 +1,41 @@
+-- What the device's conversations come to: steps of the two ends, where the device got just what the driver put first, and headers that fit.
+use Rattle.std.proofs.Common.{ℕ, subst}
+use Rattle.vs_page.specs.{Log.Device, Log.HasGotAll, Log.flow_got, declared.log.LogEntry.TheVariants.GotPacket}
+use Rattle.laws_tables.specs.Both.{Both, IsSound, Seat}
+use Rattle.laws_tables.proofs.{Fair.got_formed, Voices.AreVoiced, Voices.voices_run}
+use Rattle.laws_device.proofs.Seats.{Carried, PutsFit}
+use Rattle.laws_device_bytes.proofs.Cids.{dropped_empty}
+use Rattle.laws_world.specs.{Sides.Runs, World.first_cid}
+use Rattle.laws_world.proofs.{Once.AreOnce, Once.keeps_once, Once.number_of_once, Runs.and_then, Runs.device_runs, Runs.got_before}
+use Rattle.laws_world.proofs.Runs.{keeps_sound, log_before}
+
+-- The CIDs of packets stay as the two ends go on.
+pub cids_kept : (first : ℕ) (b c : Both) → Runs b c → IsSound first b → AreVoiced first b → AreVoiced first c
+cids_kept first b c r s cids = subst (AreVoiced first) r.ends (voices_run first r.steps b s r.may cids)
+
+module _ (fresh : Type 0) (b : Both) (sound : IsSound first_cid b) (once : AreOnce b) (cids : AreVoiced first_cid b) where
+  abbrev beside : Seat → Both
+  beside w = record { driver = b.driver; device = w }
+
+  abbrev Walks : Seat → Type 0
+  Walks w = PutsFit w.log × (HasGotAll w.log b.driver.log → Runs b (beside w))
+
+  abbrev pub carried : Carried
+  carried = record {
+    ok = fresh;
+    others = λ held. Unit {0};
+    holds = Walks;
+    step = λ step w may fits was. (
+      fits was.0,
+      λ got. and_then b (beside w) _ (was.1 (got_before Device b.driver.log step w got)) (device_runs b.driver step w may got),
+    );
+    plain = λ first log. HasGotAll log b.driver.log;
+    before = λ first entry log got. log_before b.driver.log entry log got;
+    once = λ first w was got.
+        let runs = was.1 got in
+        number_of_once Device first_cid (beside w) (keeps_sound first_cid b (beside w) runs sound) (keeps_once first_cid b (beside w) runs sound once);
+    idle = λ first p w was m fair got dropped e has given.
+        let runs = was.1 (log_before b.driver.log (GotPacket p) w.log got) in
+        dropped_empty first_cid (beside w) (keeps_sound first_cid b (beside w) runs sound) (cids_kept first_cid b (beside w) runs sound cids) p got.packets
+        dropped (λ other. (got_formed Device p w.log (fair (flow_got Device p))).payload other) e has given;
+  }

@@ -1,0 +1,334 @@
+-- The device's conversations over list rings that are tied to the driver's log, and over a host in memory: whatever such a conversation keeps,
+-- it keeps here.
+use Rattle.std.proofs.Common.{◌≡◌, ℕ, zero, suc, ◌+◌, ◌<◌, ◌≤◌, ◌^◌, Bool, true, false, cond, List, [], ◌∷◌, length, take, drop, Option}
+use Rattle.std.proofs.Common.{Some, None, refl, sym, ap, subst, ◌∙◌, arith}
+use Rattle.vs_contents.specs.CallTree.{Ask, Done, played}
+use Rattle.vs_header.specs.{Packet.header_of, declared.TheConstants.HEADER_LEN}
+use Rattle.laws_history.specs.declared.packet.Packet.{Packet}
+use Rattle.vs_outside.specs.Host.{HostContents, IsDialed, IsWritten, accept_answer, accept_failed, after_accept, after_close, after_dial}
+use Rattle.vs_outside.specs.Host.{after_label, after_read, after_shut_write, after_write, dial_answer, dial_failed, fails_now, read_answer}
+use Rattle.vs_outside.specs.{Host.read_failed, Faults.CountsFault, Faults.one_more, Host.stream_at, Host.write_answer, Host.write_failed}
+use Rattle.vs_outside.specs.{declared.host_net.Dialed.Dialed, declared.host_net.StreamRead.StreamRead}
+use Rattle.vs_outside.specs.declared.host_net.StreamWrite.{StreamWrite}
+use Rattle.vs_page.specs.{Fair.IsFairLog, Held.FitsWire, Held.event_held, Held.held_in, Held.packet_held, Log.Device, Log.Driver}
+use Rattle.vs_page.specs.declared.log.LogEntry.TheVariants.{GotPacket, PutEvent, PutPacket}
+use Rattle.vs_page.specs.Log.{IsNextPacket}
+use Rattle.vs_page.proofs.Entries.{next_fair}
+use Rattle.vs_ring_port.specs.Chains.{Held, bytes_in, same_chain, with_bytes, without_held}
+use Rattle.vs_ring_port.specs.Contents.{DeviceAnswer, DeviceCall, Given, PublishCid, Read, Return, RingContents, Take, Write}
+use Rattle.vs_ring_port.specs.DeviceCalls.{DeviceMoves, IsTakenAs, IsTakenWhole, IsWholePacket}
+use Rattle.vs_ring_port.specs.EndLog.{EndLog, entries_returned, log_reset, log_returned, log_taken, log_written, with_event, with_packet}
+use Rattle.vs_ring_port.specs.{Chains.held_of, Lists.Rings, Lists.after_return, Lists.after_take, Lists.next_at, Lists.next_given}
+use Rattle.vs_ring_port.specs.{Lists.queue_of, declared.device_ring.Chain.Chain, declared.queue.Queue.Queue}
+use Rattle.vs_ring_port.specs.declared.queue.Queue.TheVariants.{Event, Rx, Tx}
+use Rattle.vs_ring_list.specs.Ends.{Ends, device_contents}
+use Rattle.vs_ring_list.proofs.Held.{same_chain_is}
+use Rattle.vs_device_parts.specs.Calls.{Accept, Call, CloseStream, DeviceTree, Dial, HostMoves, IsFitAnswer, IsReadOf, Label, ReadStream}
+use Rattle.vs_device_parts.specs.{Calls.Ring, Calls.ShutWrite, Calls.Situation, Calls.TakesWithin, Calls.WriteStream, Playing.situation}
+use Rattle.laws_device.specs.Honest.{is_held}
+use Rattle.laws_device.proofs.{Keeping.Can, Keeping.Keeps, Keeping.Lets, Seats.PutsFit, Transmitting.header_is}
+use Rattle.laws_device_bytes.proofs.Short.{bytes_short, read_short, write_short}
+use Rattle.laws_world.specs.{Answers.Around, Answers.answer_around, Answers.bytes_with, Laws.AreQueued, Pages.PageHolds}
+use Rattle.laws_world.proofs.{Played.driver_got, Queues.device_keeps, Rings.AreGiven, Rings.given_left, Wire.next_fits}
+use Rattle.vs_outside.specs.declared.host_net.Dialed.TheVariants as dialed
+use Rattle.vs_outside.specs.declared.host_net.StreamRead.TheVariants as read
+use Rattle.vs_outside.specs.declared.host_net.StreamWrite.TheVariants as write
+
+-- The page of each chain of tx that is held begins with a header that fits.
+abbrev pub AllHeads : List Held → Type 0
+AllHeads [] = Unit {0}
+AllHeads (h ∷ held) = (h.chain.queue ≡ Tx → FitsWire (header_of (take HEADER_LEN h.bytes))) × AllHeads held
+
+heads_at : (chain : Chain) (held : List Held) → AllHeads held → chain.queue ≡ Tx → is_held chain held ≡ true
+    → FitsWire (header_of (take HEADER_LEN (bytes_in chain held)))
+heads_at chain [] heads tx is = absurd cc
+heads_at chain (h ∷ held) heads tx is = by (same_chain chain h.chain) refl is (heads_at chain held heads.1 tx)
+  where
+    by : (b : Bool) → same_chain chain h.chain ≡ b → cond b true (is_held chain held) ≡ true
+        → (is_held chain held ≡ true → FitsWire (header_of (take HEADER_LEN (bytes_in chain held))))
+        → FitsWire (header_of (take HEADER_LEN (cond b h.bytes (bytes_in chain held))))
+    by true same is rest = heads.0 (ap (λ (c : Chain). c.queue) (sym (same_chain_is chain h.chain same)) ∙ tx)
+    by false same is rest = rest is
+
+heads_written : (chain : Chain) (bytes : List ℕ) (held : List Held) → (chain.queue ≡ Tx → ⊥) → AllHeads held → AllHeads (with_bytes chain bytes held)
+heads_written chain bytes [] other heads = tt
+heads_written chain bytes (h ∷ held) other heads = by (same_chain chain h.chain) refl (heads_written chain bytes held other heads.1)
+  where
+    by : (b : Bool) → same_chain chain h.chain ≡ b → AllHeads (with_bytes chain bytes held)
+        → AllHeads (cond b (record h { bytes = bytes } ∷ held) (h ∷ with_bytes chain bytes held))
+    by true same rest = (λ tx. absurd (other (ap (λ (c : Chain). c.queue) (same_chain_is chain h.chain same) ∙ tx)), heads.1)
+    by false same rest = (heads.0, rest)
+
+heads_without : (chain : Chain) (held : List Held) → AllHeads held → AllHeads (without_held chain held)
+heads_without chain [] heads = tt
+heads_without chain (h ∷ held) heads = by (same_chain chain h.chain) (heads_without chain held heads.1)
+  where
+    by : (b : Bool) → AllHeads (without_held chain held) → AllHeads (cond b held (h ∷ without_held chain held))
+    by true rest = heads.1
+    by false rest = (heads.0, rest)
+
+none_taken : (bytes : List ℕ) → take 0 bytes ≡ []
+none_taken [] = refl
+none_taken (b ∷ bytes) = refl
+
+-- What is returned leaves the log fair.
+returned_fair : (queue : Queue) (len : ℕ) (bytes : List ℕ) (log : EndLog) → IsFairLog Device log.entries → (0 < len → IsWholePacket queue (take len bytes) log)
+    → IsFairLog Device (entries_returned queue (take len bytes) log.entries)
+returned_fair Tx len bytes log fair whole = fair
+returned_fair Event len bytes log fair whole = by (event_held (take len bytes))
+  where
+    by : (o : Option ℕ) → IsFairLog Device (with_event (λ id. PutEvent id) o log.entries)
+    by None = fair
+    by (Some id) = fair
+returned_fair Rx zero bytes log fair whole =
+    subst (λ (page : List ℕ). IsFairLog Device (with_packet (λ p. PutPacket p) (packet_held page) log.entries)) (sym (none_taken bytes)) fair
+returned_fair Rx (suc n) bytes log fair whole = (whole (omega arith)).1
+
+same_cid : (q : Queue) (page : List ℕ) (lists : Rings) → (after_return q page lists).cid ≡ lists.cid
+same_cid Rx page lists = refl
+same_cid Tx page lists = refl
+same_cid Event page lists = refl
+
+-- One fault more, where a call failed.
+abbrev count : Bool → ℕ → ℕ
+count failed n = cond failed (one_more n) n
+
+counts : (failed : Bool) (n : ℕ) → CountsFault failed n (count failed n)
+counts true n = refl
+counts false n = refl
+
+dials : (path : List ℕ) (h : HostContents) (a : Dialed) → dial_answer path h ≡ a → IsDialed path a h
+dials path h dialed.Failed is = tt
+dials path h dialed.Refused is = sym is
+dials path h (dialed.Stream id) is = sym is
+
+reads : (stream n : ℕ) (h : HostContents) (a : StreamRead) → read_answer stream n h ≡ a → IsReadOf stream n (a, bytes_with stream a h) h × (length (bytes_with stream a h) ≤ n)
+reads stream n h (read.Got k) is =
+    let short = read_short n k (fails_now h) (stream_at stream h) is in
+    let few = bytes_short k (stream_at stream h) in
+    ((sym is, refl), omega (arith, short, few))
+reads stream n h read.Again is = ((sym is, refl), omega arith)
+reads stream n h read.End is = ((sym is, refl), omega arith)
+reads stream n h read.Failed is = ((sym is, refl), omega arith)
+
+writes : (stream n : ℕ) (h : HostContents) (a : StreamWrite) → write_answer stream n h ≡ a → IsWritten stream n a h × TakesWithin n a
+writes stream n h (write.Took k) is = (sym is, write_short n k (fails_now h) (stream_at stream h) is)
+writes stream n h write.Again is = (sym is, tt)
+writes stream n h write.Closed is = (sym is, tt)
+writes stream n h write.Failed is = (tt, tt)
+
+module _ (base : Ends) (there : IsFairLog Driver base.driver.entries) (fit : PutsFit base.driver.entries) where
+  abbrev ring : Around → RingContents
+  ring s = device_contents (record base { lists = s.lists; device = s.log })
+
+  abbrev pub exposed : Around → ℕ → Situation
+  exposed s n = situation (ring s) (Some s.host) n
+
+  pub record Ties (s : Around) : Type 0 where
+    pub queued : AreQueued s.lists base.driver.entries s.log.entries
+    pub fair : IsFairLog Device s.log.entries
+    pub cid : s.lists.cid < 2 ^ 64
+    pub given : AreGiven s.lists.tx.given
+    pub heads : AllHeads s.log.held
+
+  moved : (call : DeviceCall) (a : DeviceAnswer call) (P : Rings → Type 0) (f : Rings → Rings) (Q : EndLog → Type 0) (g : EndLog → EndLog) (s : Around)
+      → P s.lists → Q s.log → IsFairLog Device (g s.log).entries
+      → DeviceMoves call a P f Q g (ring s) (ring (record s { lists = f s.lists; log = g s.log }))
+  moved call a P f Q g s p q fair = record {
+    lists = (p, refl);
+    log = (q, refl);
+    other = refl;
+    plain = refl;
+    known = refl;
+    honest = refl;
+    fair = λ on l is. let same : g s.log ≡ l = cc in subst (λ (k : EndLog). IsFairLog Device k.entries) same fair;
+  }
+
+  -- A page that is taken.
+  module _ (s : Around) (ties : Ties s) where
+    -- A packet that comes is the next that the driver put.
+    came : (page : List ℕ) → PageHolds page → (lists : Rings) → AreQueued lists base.driver.entries (with_packet (λ p. GotPacket p) (packet_held page) s.log.entries)
+        → IsFairLog Device (with_packet (λ p. GotPacket p) (packet_held page) s.log.entries) × FitsWire (header_of (take HEADER_LEN page))
+    came page one lists q =
+        let p = one.packet in
+        let got = driver_got (record { lists = s.lists; driver = base.driver; device = s.log }) ties.queued in
+        let now = subst (λ (o : Option Packet). AreQueued lists base.driver.entries (with_packet (λ p. GotPacket p) o s.log.entries)) one.held q in
+        let next : IsNextPacket s.log.entries base.driver.entries p = (held_in packet_held lists.tx.given, now.tx) in (
+          subst (λ (o : Option Packet). IsFairLog Device (with_packet (λ p. GotPacket p) o s.log.entries)) (sym one.held)
+              (next_fair Device s.log.entries base.driver.entries p ties.fair there got next),
+          subst FitsWire (header_is page p one.held) (next_fits s.log.entries base.driver.entries p next fit),
+        )
+
+    abbrev place : Queue → ℕ
+    place queue = (queue_of queue s.lists).place
+
+    record Took (queue : Queue) (o : Option (List ℕ)) : Type 0 where
+      page_is : IsTakenAs queue (next_at queue (place queue) o) o
+      whole : IsTakenWhole queue (next_at queue (place queue) o) o
+      fits : IsFitAnswer (Take queue) (next_at queue (place queue) o)
+      fair : IsFairLog Device (log_taken queue (next_at queue (place queue) o) o s.log).entries
+      heads : AllHeads (log_taken queue (next_at queue (place queue) o) o s.log).held
+
+    took : (queue : Queue) (o : Option (List ℕ)) → next_given queue s.lists ≡ o
+        → AreQueued (after_take queue s.lists) base.driver.entries (log_taken queue (next_at queue (place queue) o) o s.log).entries → Took queue o
+    took Rx None is q = record { page_is = refl; whole = tt; fits = tt; fair = ties.fair; heads = ties.heads }
+    took Tx None is q = record { page_is = refl; whole = tt; fits = tt; fair = ties.fair; heads = ties.heads }
+    took Event None is q = record { page_is = refl; whole = tt; fits = tt; fair = ties.fair; heads = ties.heads }
+    took Rx (Some page) is q = record {
+      page_is = (refl, refl);
+      whole = tt;
+      fits = record { queue_is = refl; long = omega arith };
+      fair = ties.fair;
+      heads = (λ (tx : Rx ≡ Tx). cc, ties.heads);
+    }
+    took Event (Some page) is q = record {
+      page_is = (refl, refl);
+      whole = tt;
+      fits = record { queue_is = refl; long = omega arith };
+      fair = ties.fair;
+      heads = (λ (tx : Event ≡ Tx). cc, ties.heads);
+    }
+    took Tx (Some page) is q = by s.lists.tx.given is ties.given
+      where
+        by : (given : List (List ℕ)) → (let o = next_given Tx (record s.lists { tx = record s.lists.tx { given = given } }) in o) ≡ Some page → AreGiven given → Took Tx (Some page)
+        by [] is given = absurd cc
+        by (first ∷ pages) is given =
+            let same : first ≡ page = cc in
+            let one : PageHolds page = subst PageHolds same given.0.0 in
+            let long = one.long in
+            let now = came page one (after_take Tx s.lists) q in record {
+              page_is = (refl, refl);
+              whole = subst (λ (p : List ℕ). IsTakenWhole Tx (next_at Tx (place Tx) (Some p)) (Some p)) same given.1.0;
+              fits = record { queue_is = refl; long = omega (arith, long) };
+              fair = now.0;
+              heads = (λ tx. now.1, ties.heads);
+            }
+
+  -- Each call on the ring gets an answer that a ring may give.
+  one : (call : DeviceCall) (s : Around) (n : ℕ) → Ties s → Can (Ring call) (ring s)
+      → let r = answer_around (Ring call) s in Lets (Ring call) r.0 (exposed s n) (exposed r.1 n) × Ties r.1
+  one (Take queue) s n ties can =
+      let o = next_given queue s.lists in
+      let next = next_at queue (queue_of queue s.lists).place o in
+      let q = device_keeps (Take queue) s.lists base.driver.entries s.log ties.queued in
+      let t = took s ties queue o refl q in (
+        (
+          (
+            o,
+            moved (Take queue) next (λ w. (o ≡ next_given queue w) × (next ≡ next_at queue (queue_of queue w).place o)) (after_take queue)
+                (λ l. IsTakenAs queue next o × (true ≡ true → IsTakenWhole queue next o)) (log_taken queue next o) s (refl, refl) (t.page_is, λ honest. t.whole) t.fair,
+          ),
+          refl,
+          refl,
+          t.fits,
+        ),
+        record { queued = q; fair = t.fair; cid = taken_cid queue; given = given_left (Take queue) s.lists s.log ties.given; heads = t.heads },
+      )
+    where
+      taken_cid : (queue : Queue) → (after_take queue s.lists).cid < 2 ^ 64
+      taken_cid Rx = ties.cid
+      taken_cid Tx = ties.cid
+      taken_cid Event = ties.cid
+  one (Read chain place count) s n ties can =
+      let bytes = take count (drop place (bytes_in chain s.log.held)) in (
+        (
+          moved (Read chain place count) bytes (λ w. Unit {0}) (λ w. w) (λ l. bytes ≡ take count (drop place (bytes_in chain l.held))) (λ l. l) s tt refl ties.fair,
+          refl,
+          refl,
+          fits,
+        ),
+        record { queued = ties.queued; fair = ties.fair; cid = ties.cid; given = ties.given; heads = ties.heads },
+      )
+    where
+      fits : place ≡ 0 → FitsWire (header_of (take count (drop place (bytes_in chain s.log.held))))
+      fits front =
+          let may = can front in
+          subst (λ (k : ℕ). FitsWire (header_of (take count (drop k (bytes_in chain s.log.held))))) (sym front)
+          (subst (λ (k : ℕ). FitsWire (header_of (take k (bytes_in chain s.log.held)))) (sym may.0)
+          (heads_at chain s.log.held ties.heads may.1 (may.2 s.log refl)))
+  one (Write chain place bytes) s n ties can = (
+    (moved (Write chain place bytes) tt (λ w. Unit {0}) (λ w. w) (λ l. Unit {0}) (log_written chain place bytes) s tt tt ties.fair, refl, refl, tt),
+    record { queued = ties.queued; fair = ties.fair; cid = ties.cid; given = ties.given; heads = heads_written chain _ s.log.held can.1 ties.heads },
+  )
+  one (Return chain len) s n ties can =
+      let bytes = bytes_in chain s.log.held in
+      let fair = returned_fair chain.queue len bytes s.log ties.fair (λ some. (can.0 some).whole refl s.log refl) in (
+        (
+          (
+            bytes,
+            moved (Return chain len) tt (λ w. Unit {0}) (after_return chain.queue (take len bytes)) (λ l. bytes ≡ bytes_in chain l.held)
+                (log_returned chain len) s tt refl fair,
+          ),
+          refl,
+          refl,
+          tt,
+        ),
+        record {
+          queued = device_keeps (Return chain len) s.lists base.driver.entries s.log ties.queued;
+          fair = fair;
+          cid = subst (λ (k : ℕ). k < 2 ^ 64) (sym (same_cid chain.queue (take len bytes) s.lists)) ties.cid;
+          given = given_left (Return chain len) s.lists s.log ties.given;
+          heads = heads_without chain s.log.held ties.heads;
+        },
+      )
+  one (Given queue) s n ties can =
+      let held = held_of queue s.log.held in (
+        (
+          (
+            held,
+            moved (Given queue) _ (λ w. length (queue_of queue s.lists).given + held ≡ length (queue_of queue w).given + held) (λ w. w)
+                (λ l. held ≡ held_of queue l.held) (λ l. l) s refl refl ties.fair,
+          ),
+          refl,
+          refl,
+          tt,
+        ),
+        record { queued = ties.queued; fair = ties.fair; cid = ties.cid; given = ties.given; heads = ties.heads },
+      )
+  one (PublishCid cid) s n ties can = (
+    (moved (PublishCid cid) tt (λ w. Unit {0}) (λ w. record w { cid = cid }) (λ l. Unit {0}) (log_reset cid) s tt tt ties.fair, refl, refl, tt),
+    record {
+      queued = device_keeps (PublishCid cid) s.lists base.driver.entries s.log ties.queued;
+      fair = ties.fair;
+      cid = can;
+      given = ties.given;
+      heads = ties.heads;
+    },
+  )
+
+  -- A call on the host leaves the rings.
+  hosted : (failed : Bool) (P : HostContents → Type 0) (f : HostContents → HostContents) (s : Around) (n : ℕ) → P s.host
+      → HostMoves failed P f (exposed s n) (exposed (record s { host = f s.host }) (count failed n))
+  hosted failed P f s n p = record { ring = refl; faults = counts failed n; host = (p, refl) }
+
+  ties_over : (s : Around) (host : HostContents) → Ties s → Ties (record s { host = host })
+  ties_over s host ties = record { queued = ties.queued; fair = ties.fair; cid = ties.cid; given = ties.given; heads = ties.heads }
+
+  each : (call : Call) (s : Around) (n : ℕ) → Ties s → Can call (ring s)
+      → let r = answer_around call s in (m : ℕ) × Lets call r.0 (exposed s n) (exposed r.1 m) × Ties r.1
+  each (Ring call) s n ties can = let now = one call s n ties can in (n, now.0, now.1)
+  each Accept s n ties can =
+      let a = accept_answer s.host in
+      (_, hosted (accept_failed a) (λ c. a ≡ accept_answer c) (after_accept a) s n refl, ties_over s _ ties)
+  each (Dial path flow) s n ties can =
+      let a = dial_answer path s.host in
+      (_, hosted (dial_failed a) (IsDialed path a) (after_dial flow a) s n (dials path s.host a refl), ties_over s _ ties)
+  each (Label stream flow) s n ties can = (_, hosted false (λ c. Unit {0}) (after_label stream flow) s n tt, ties_over s _ ties)
+  each (ReadStream stream k) s n ties can =
+      let a = read_answer stream k s.host in
+      let is = reads stream k s.host a refl in
+      (_, (hosted (read_failed a) (IsReadOf stream k (a, bytes_with stream a s.host)) (after_read stream a) s n is.0, is.1), ties_over s _ ties)
+  each (WriteStream stream bytes) s n ties can =
+      let a = write_answer stream (length bytes) s.host in
+      let is = writes stream (length bytes) s.host a refl in
+      (_, (hosted (write_failed a) (IsWritten stream (length bytes) a) (after_write stream bytes a) s n is.0, is.1), ties_over s _ ties)
+  each (ShutWrite stream) s n ties can = (_, hosted false (λ c. Unit {0}) (after_shut_write stream) s n tt, ties_over s _ ties)
+  each (CloseStream stream) s n ties can = (_, hosted false (λ c. Unit {0}) (after_close stream) s n tt, ties_over s _ ties)
+
+  pub walk : {A : Type 0} (Q : A → Situation → Type 0) (tree : DeviceTree A) (s : Around) (n : ℕ) → Ties s → Keeps Q tree (exposed s n)
+      → let r = played answer_around tree s in (m : ℕ) × Q r.0 (exposed r.1 m) × Ties r.1
+  walk Q (Done x) s n ties keeps = (n, keeps, ties)
+  walk Q (Ask call next) s n ties keeps =
+      let r = answer_around call s in
+      let now = each call s n ties keeps.0 in
+      walk Q (next r.0) r.1 now.0 now.2 (keeps.1 r.0 (exposed r.1 now.0) now.1)
