@@ -12,9 +12,10 @@ use Rattle.vs_device_parts.specs.{Calls.DeviceTree, Playing.IsAmong, State.Devic
 use Rattle.laws_device_streams.specs.Streams.{HasStreams}
 use Rattle.vs_proxy_parts.specs.{Handshakes.read_byte, Handshakes.streams_of, State.ProxyState, State.Turning, State.start}
 use Rattle.vs_proxy_parts.specs.{State.with_device, Turns.proxy_reset_of}
+use Rattle.laws_device.specs.Honest.{is_held}
 use Rattle.laws_world.specs.Events.{Event, Moment, device_step, happens, has_failed, host_step, line_read, proxy_step, reset_made, run}
 use Rattle.laws_world.specs.{Events.is_guest_cid, Events.unless_failed, Events.where_possible, Over.device_after, Over.proxy_after}
-use Rattle.laws_world.specs.{Over.reset_after, Pages.is_held, Pipes.IsFresh, World.World, World.opening}
+use Rattle.laws_world.specs.{Over.reset_after, Pipes.IsFresh, World.World, World.opening}
 use Rattle.laws_world.proofs.{Opening.run_well, Sound.IsWell, Flown.LeavesDriver, OverBoth.IsPlayed, StayOpen.StayOpen, StayOpen.still_has}
 use Rattle.vs_core.specs.Ready.{Happens, IsReached, IsReady, IsServedAtWork, WorldState, shown, with_journal}
 use Rattle.vs_core.proofs.{Happening.happened, Happening.where_is, Stepped.driven_still, Stepped.line_after, Stepped.reset_played}

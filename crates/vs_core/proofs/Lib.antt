@@ -4,8 +4,6 @@ pub mod Driven
 pub mod Happening
 pub mod Opened
 pub mod Reaches
-pub mod Written
-pub mod Puts
 pub mod May
 pub mod DeviceHappening
 pub mod MayNow

@@ -1,12 +1,12 @@
 -- Each single step of the device and of the proxy may be made in a world that events lead to.
-use Rattle.std.proofs.Common.{◌≡◌, ℕ, nat_le, true, Option, Some, unwrap_or, refl, ap, subst, arith, sym}
+use Rattle.std.proofs.Common.{◌≡◌, ℕ, nat_le, true, Option, None, Some, unwrap_or, ap, subst, arith, sym}
 use Rattle.std.proofs.lemmas.Bool.{Decides.nat_tests, and_parts}
 use Rattle.vs_outside.specs.Host.{HostContents}
-use Rattle.vs_ring_port.specs.{Chains.chains_of, Chains.same_queue, declared.device_ring.Chain.Chain, declared.queue.Queue.Queue}
+use Rattle.vs_ring_port.specs.{Chains.same_queue, declared.device_ring.Chain.Chain, declared.queue.Queue.Queue}
 use Rattle.vs_ring_port.specs.declared.queue.Queue.TheVariants.{Event}
 use Rattle.vs_ring_list.specs.Ends.{device_contents}
 use Rattle.vs_ring_list.proofs.Held.{same_queue_is}
-use Rattle.vs_device_parts.specs.{Calls.Situation, Calls.Allows, Playing.CanMake, Playing.IsAmong, Playing.MayRun, Playing.situation}
+use Rattle.vs_device_parts.specs.{Calls.Situation, Calls.Allows, Playing.CanMake, Playing.MayRun, Playing.situation}
 use Rattle.vs_device_parts.specs.Steps.{puts_event, puts_owed, puts_payload, puts_reply, shuts_write, takes_chain, writes}
 use Rattle.vs_device_parts.specs.Streams.{tick_slot}
 use Rattle.laws_device_streams.specs.{Split.CanReach, Streams.HasStreams}
@@ -14,10 +14,12 @@ use Rattle.laws_device_streams.proofs.{Conditions.may_where, Conditions.quiet_ca
 use Rattle.laws_device_streams.proofs.Stepping.{puts_owed_keeps, puts_payload_keeps, puts_reply_keeps}
 use Rattle.vs_proxy_parts.specs.{Handshakes.read_byte, Handshakes.streams_of, Handshakes.tick_handshake, State.start, Turns.proxy_reset_of}
 use Rattle.laws_proxy_streams.proofs.{Shaking.FindsAll, Shaking.keeps_read_byte, Shaking.keeps_tick_handshake, Turning.keeps_proxy_reset}
-use Rattle.laws_world.specs.{Events.holds, Pages.is_held, Sides.both_of, World.World, World.first_cid}
-use Rattle.laws_world.proofs.Sound.{IsWell}
-use Rattle.vs_core.proofs.{Puts.puts_event_may, Puts.puts_owed_may, Puts.puts_payload_may, Puts.puts_reply_may, Reaches.shuts_may}
-use Rattle.vs_core.proofs.Reaches.{takes_may, times_out_may, writes_may}
+use Rattle.laws_device.specs.Honest.{is_held}
+use Rattle.laws_device.proofs.{Carrying.With, Keeping.keeps_put}
+use Rattle.laws_world.specs.{Events.holds, World.World, World.first_cid}
+use Rattle.laws_world.proofs.Sound.{IsWell, all, carry, held_there, proxied}
+use Rattle.vs_core.proofs.Reaches.{shuts_may, takes_may, times_out_may, writes_may}
+use Rattle.laws_device.proofs.Stepping as steps
 
 -- What the device finds in the world, where n calls of the host failed so far.
 abbrev pub here : World → ℕ → Situation
@@ -54,34 +56,39 @@ module _ (w : World) (n : ℕ) (has : HasStreams (streams_of w.proxy) w.proxy.de
       (keeps_proxy_reset CanMake quiet_can cid w.proxy (here w n) finds)
 
   -- What puts a page asks of the ring too.
-  pub may_event : (chain : Chain) → holds Event chain w ≡ true → nat_le 4 chain.writable ≡ true
-      → MayRun (puts_event chain w.proxy.device) (here w n)
-  may_event chain is room =
-      let queue = sym (same_queue_is Event chain.queue (and_parts (same_queue Event chain.queue) (is_held chain w.rings.device.held) is).0) in
-      let held = (and_parts (same_queue Event chain.queue) (is_held chain w.rings.device.held) is).1 in
-      may_where (puts_event chain w.proxy.device) (here w n)
-      (keeps_may CanReach Allows _ (puts_event chain w.proxy.device) (here w n)
-      (puts_event_keeps (streams_of w.proxy) chain w.proxy.device (here w n) finds))
-      (puts_event_may w.proxy.device w.rings.device (here w n) refl chain queue held (grind (arith, nat_tests, room)))
+  module _ (fresh : Type 0) (well : IsWell fresh w) where
+    abbrev held : With (carry fresh w well) w.proxy.handshakes first_cid w.proxy.next_port w.proxy.device (here w n)
+    held = (proxied fresh w well n).1
 
-  module _ (fresh : Type 0) (well : IsWell fresh w) (among : IsAmong (chains_of w.rings.device.held) w.proxy.device) where
-    pub may_reply : MayRun (puts_reply w.proxy.device) (here w n)
-    may_reply = may_where (puts_reply w.proxy.device) (here w n)
-        (keeps_may CanReach Allows _ (puts_reply w.proxy.device) (here w n)
-        (puts_reply_keeps (streams_of w.proxy) w.proxy.device (here w n) finds))
-        (puts_reply_may (both_of w).driver first_cid w.proxy.next_port w.proxy.device w.rings.device well.sound well.device
-        well.device_puts well.chain among (here w n) refl)
+    pub may_event : (chain : Chain) → holds Event chain w ≡ true → nat_le 4 chain.writable ≡ true
+        → MayRun (puts_event chain w.proxy.device) (here w n)
+    may_event chain is room =
+        let parts = and_parts (same_queue Event chain.queue) (is_held chain w.rings.device.held) is in
+        may_where (puts_event chain w.proxy.device) (here w n)
+        (keeps_may CanReach Allows _ (puts_event chain w.proxy.device) (here w n)
+        (puts_event_keeps (streams_of w.proxy) chain w.proxy.device (here w n) finds))
+        (keeps_put _ (puts_event chain w.proxy.device) (here w n)
+        (steps.puts_event_keeps (carry fresh w well) (all fresh w well) w.proxy.handshakes first_cid w.proxy.next_port w.proxy.device (here w n) held
+        chain (sym (same_queue_is Event chain.queue parts.0)) (grind (arith, nat_tests, room)) (held_there fresh w well chain parts.1)))
 
-    pub may_read : (slot : ℕ) → MayRun (puts_payload slot w.proxy.device) (here w n)
-    may_read slot = may_where (puts_payload slot w.proxy.device) (here w n)
-        (keeps_may CanReach Allows _ (puts_payload slot w.proxy.device) (here w n)
-        (puts_payload_keeps (streams_of w.proxy) slot w.proxy.device (here w n) finds))
-        (puts_payload_may (both_of w).driver first_cid w.proxy.next_port w.proxy.device w.rings.device well.sound well.device
-        well.device_puts well.chain among (here w n) refl slot)
+    module _ (going : w.proxy.device.failed ≡ None) where
+      pub may_reply : MayRun (puts_reply w.proxy.device) (here w n)
+      may_reply = may_where (puts_reply w.proxy.device) (here w n)
+          (keeps_may CanReach Allows _ (puts_reply w.proxy.device) (here w n)
+          (puts_reply_keeps (streams_of w.proxy) w.proxy.device (here w n) finds))
+          (keeps_put _ (puts_reply w.proxy.device) (here w n)
+          (steps.puts_reply_keeps (carry fresh w well) (all fresh w well) w.proxy.handshakes first_cid w.proxy.next_port w.proxy.device (here w n) going held))
 
-    pub may_pay : (slot : ℕ) → MayRun (puts_owed slot w.proxy.device) (here w n)
-    may_pay slot = may_where (puts_owed slot w.proxy.device) (here w n)
-        (keeps_may CanReach Allows _ (puts_owed slot w.proxy.device) (here w n)
-        (puts_owed_keeps (streams_of w.proxy) slot w.proxy.device (here w n) finds))
-        (puts_owed_may (both_of w).driver first_cid w.proxy.next_port w.proxy.device w.rings.device well.sound well.device
-        well.device_puts well.chain among (here w n) refl slot)
+      pub may_read : (slot : ℕ) → MayRun (puts_payload slot w.proxy.device) (here w n)
+      may_read slot = may_where (puts_payload slot w.proxy.device) (here w n)
+          (keeps_may CanReach Allows _ (puts_payload slot w.proxy.device) (here w n)
+          (puts_payload_keeps (streams_of w.proxy) slot w.proxy.device (here w n) finds))
+          (keeps_put _ (puts_payload slot w.proxy.device) (here w n)
+          (steps.puts_payload_keeps (carry fresh w well) (all fresh w well) w.proxy.handshakes first_cid w.proxy.next_port w.proxy.device (here w n) going held slot))
+
+      pub may_pay : (slot : ℕ) → MayRun (puts_owed slot w.proxy.device) (here w n)
+      may_pay slot = may_where (puts_owed slot w.proxy.device) (here w n)
+          (keeps_may CanReach Allows _ (puts_owed slot w.proxy.device) (here w n)
+          (puts_owed_keeps (streams_of w.proxy) slot w.proxy.device (here w n) finds))
+          (keeps_put _ (puts_owed slot w.proxy.device) (here w n)
+          (steps.puts_owed_keeps (carry fresh w well) (all fresh w well) w.proxy.handshakes first_cid w.proxy.next_port w.proxy.device (here w n) going held slot))

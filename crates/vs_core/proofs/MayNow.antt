@@ -1,5 +1,5 @@
 -- Each step of the device and of the proxy may be made in a world that is ready.
-use Rattle.std.proofs.Common.{◌≡◌, ℕ, ◌&&◌, nat_le, true, Some}
+use Rattle.std.proofs.Common.{◌≡◌, ℕ, ◌&&◌, nat_le, false, true, None, Some, is_some}
 use Rattle.vs_ring_port.specs.{Chains.same_queue, declared.device_ring.Chain.Chain, declared.queue.Queue.Queue}
 use Rattle.vs_ring_port.specs.declared.queue.Queue.TheVariants.{Event}
 use Rattle.vs_ring_list.specs.Ends.{device_contents}
@@ -7,8 +7,10 @@ use Rattle.vs_device_parts.specs.{Calls.DeviceTree, Playing.MayRun, Playing.situ
 use Rattle.vs_device_parts.specs.Steps.{puts_payload, puts_reply, shuts_write, takes_chain, writes}
 use Rattle.vs_device_parts.specs.Streams.{tick_slot}
 use Rattle.vs_proxy_parts.specs.{Handshakes.read_byte, Handshakes.tick_handshake, State.ProxyState, State.start, Turns.proxy_reset_of}
-use Rattle.laws_world.specs.{Pages.is_held, World.World}
-use Rattle.laws_world.proofs.Sound.{IsWell}
+use Rattle.laws_device.specs.Honest.{is_held}
+use Rattle.laws_world.specs.{World.World}
+use Rattle.vs_device_parts.specs.State.{DeviceState}
+use Rattle.laws_world.proofs.Sound.{IsWell, none_failed}
 use Rattle.vs_core.specs.Ready.{IsReady, IsServedAtWork, WorldState}
 use Rattle.vs_core.proofs.{DeviceHappening.of_reached, May.here, May.may_event, May.may_line, May.may_pay, May.may_read, May.may_reply}
 use Rattle.vs_core.proofs.May.{may_reset, may_shut, may_take, may_tick, may_tick_line, may_write}
@@ -51,15 +53,21 @@ module _ (s : WorldState) (n : ℕ) (ready : IsReady s) where
       of_reached (λ (x : WorldState). IsServedAtWork x.proxy x.rings x.host
       → (same_queue Event chain.queue && is_held chain x.rings.device.held) ≡ true
       → MayNow (λ p. puts_event chain p.device) x n) s ready.reached
-      (λ fresh w well served is. may_event w n served.streams chain is room) ready.served held
+      (λ fresh w well served is. may_event w n served.streams fresh well chain is room) ready.served held
 
-  pub reply_now : MayNow (λ p. puts_reply p.device) s n
-  reply_now = now_may (λ p. puts_reply p.device) s n ready (λ fresh w well served. may_reply w n served.streams fresh well served.chain)
+  -- What the device puts, where it hasn't failed.
+  puts_now : (tree : DeviceState → DeviceTree DeviceState)
+      → ((fresh : Type 0) (w : World) → IsWell fresh w → IsServedAtWork w.proxy w.rings w.host → w.proxy.device.failed ≡ None
+      → MayRun (tree w.proxy.device) (here w n)) → is_some s.proxy.device.failed ≡ false → MayNow (λ p. tree p.device) s n
+  puts_now tree all going =
+      of_reached (λ (x : WorldState). IsServedAtWork x.proxy x.rings x.host → is_some x.proxy.device.failed ≡ false → MayNow (λ p. tree p.device) x n) s ready.reached
+      (λ fresh w well served still. all fresh w well served (none_failed w.proxy.device.failed still)) ready.served going
 
-  pub read_now : (slot : ℕ) → MayNow (λ p. puts_payload slot p.device) s n
-  read_now slot = now_may (λ p. puts_payload slot p.device) s n ready
-      (λ fresh w well served. may_read w n served.streams fresh well served.chain slot)
+  pub reply_now : is_some s.proxy.device.failed ≡ false → MayNow (λ p. puts_reply p.device) s n
+  reply_now = puts_now puts_reply (λ fresh w well served going. may_reply w n served.streams fresh well going)
 
-  pub pay_now : (slot : ℕ) → MayNow (λ p. puts_owed slot p.device) s n
-  pay_now slot = now_may (λ p. puts_owed slot p.device) s n ready
-      (λ fresh w well served. may_pay w n served.streams fresh well served.chain slot)
+  pub read_now : (slot : ℕ) → is_some s.proxy.device.failed ≡ false → MayNow (λ p. puts_payload slot p.device) s n
+  read_now slot = puts_now (puts_payload slot) (λ fresh w well served going. may_read w n served.streams fresh well going slot)
+
+  pub pay_now : (slot : ℕ) → is_some s.proxy.device.failed ≡ false → MayNow (λ p. puts_owed slot p.device) s n
+  pay_now slot = puts_now (puts_owed slot) (λ fresh w well served going. may_pay w n served.streams fresh well going slot)

@@ -6,7 +6,8 @@ ghost use Rattle.vs_ring_port.specs.Chains.{same_queue};
 ghost use Rattle.vs_ring_port.specs.declared.queue.Queue.TheVariants as q;
 ghost use Rattle.laws_world.specs.Events.{DevicePays, DevicePutsEvent, DeviceReads, DeviceReplies, DeviceReturns, DeviceShutsWrite};
 ghost use Rattle.laws_world.specs.Events.{DeviceTakes, DeviceWrites, HandshakeTimesOut, Moment, ProxyAccepts, ProxyReads, Reset, TimesOut};
-ghost use Rattle.laws_world.specs.{Events.is_guest_cid, Pages.is_held};
+ghost use Rattle.laws_device.specs.Honest.{is_held};
+ghost use Rattle.laws_world.specs.Events.{is_guest_cid};
 ghost use Rattle.vs_core.specs.Ready.{Happens, IsReady};
 
 use crate::world::World;

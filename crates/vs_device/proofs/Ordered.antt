@@ -16,7 +16,7 @@ use Rattle.laws_device_streams.proofs.{Opening.keeps_reset, Receiving.keeps_fill
 use Rattle.laws_device.specs.{Honest.IsFitFlow, Honest.IsWith, Honest.ends_of_state, Honest.port_after, Streams.AreStreamedWith}
 use Rattle.laws_device.proofs.{Filling.fill_keeps, Keeping.keeps_end, Transmitting.take_keeps, Turning.pay_keeps, Turning.pump_keeps}
 use Rattle.laws_device.proofs.{Turning.reset_keeps, Turning.tick_keeps, Turning.opens_plain, Carrying.ring_end, Carrying.with_ring}
-use Rattle.laws_device.proofs.Carrying.{streamed_end}
+use Rattle.laws_device.proofs.Carrying.{ring_and_host, ring_only, streamed_end}
 use Rattle.vs_proxy_parts.specs.State.{Handshake}
 use Rattle.laws_device_streams.proofs.Keeping.{keeps_end as streams_end}
 
@@ -28,11 +28,11 @@ module _ (s : DeviceState) (a b : Situation) where
 
   pub take_honest : (x : DeviceState × Taken) → Runs (take_tx_of s) a x b → (first port : ℕ) → IsWith first port s a.ring
       → IsWith first port x.0 b.ring
-  take_honest x runs first port holds = ring_end first port (λ x. x.0) s (take_tx_of s) a b x holds (take_keeps ⊥ [] first port s a) runs
+  take_honest x runs first port holds = ring_end first port (λ x. x.0) s (take_tx_of s) a b x holds (take_keeps ring_only [] first port s a) runs
 
   pub pay_honest : (x : DeviceState × Result Bool Failure) → Runs (pay_event_of s) a x b → (first port : ℕ) → IsWith first port s a.ring
       → IsWith first port x.0 b.ring
-  pay_honest x runs first port holds = ring_end first port (λ x. x.0) s (pay_event_of s) a b x holds (pay_keeps ⊥ [] first port s a) runs
+  pay_honest x runs first port holds = ring_end first port (λ x. x.0) s (pay_event_of s) a b x holds (pay_keeps ring_only [] first port s a) runs
 
   pub fill_streams : (x : DeviceState × Result Filled Failure) → Runs (fill_rx_of s) a x b → (others : List ℕ) → FindsStreams others s a
       → FindsStreams others x.0 b
@@ -40,7 +40,7 @@ module _ (s : DeviceState) (a b : Situation) where
 
   pub fill_honest : (x : DeviceState × Result Filled Failure) → Runs (fill_rx_of s) a x b → (first port : ℕ) → IsWith first port s a.ring
       → IsWith first port x.0 b.ring
-  fill_honest x runs first port holds = ring_end first port (λ x. x.0) s (fill_rx_of s) a b x holds (fill_keeps ⊥ [] first port s a) runs
+  fill_honest x runs first port holds = ring_end first port (λ x. x.0) s (fill_rx_of s) a b x holds (fill_keeps ring_only [] first port s a) runs
 
   pub tick_streams : (now : ℕ) (t : DeviceState) → Runs (tick_of now s) a t b → (others : List ℕ) → FindsStreams others s a
       → FindsStreams others t b
@@ -49,14 +49,14 @@ module _ (s : DeviceState) (a b : Situation) where
 
   pub tick_honest : (now : ℕ) (t : DeviceState) → Runs (tick_of now s) a t b → (first port : ℕ) → IsWith first port s a.ring
       → IsWith first port t b.ring
-  tick_honest now t runs first port holds = ring_end first port (λ x. x) s (tick_of now s) a b t holds (tick_keeps ⊥ [] first port now s a) runs
+  tick_honest now t runs first port holds = ring_end first port (λ x. x) s (tick_of now s) a b t holds (tick_keeps ring_only [] first port now s a) runs
 
   pub pump_streams : (w : Writing) → Runs (pump_of s) a w b → (others : List ℕ) → FindsStreams others s a → FindsStreams others w.state b
   pump_streams w runs others has = streams_end CanMake Allows _ (pump_of s) a b w (keeps_pump CanMake quiet_can others s a has) runs
 
   pub pump_honest : (w : Writing) → Runs (pump_of s) a w b → (first port : ℕ) → IsWith first port s a.ring
       → IsWith first port w.state b.ring
-  pump_honest w runs first port holds = ring_end first port (λ w. w.state) s (pump_of s) a b w holds (pump_keeps ⊥ [] first port s a) runs
+  pump_honest w runs first port holds = ring_end first port (λ w. w.state) s (pump_of s) a b w holds (pump_keeps ring_only [] first port s a) runs
 
   pub reset_streams : (cid : ℕ) (x : DeviceState × Result (Unit {0}) Failure) → Runs (reset_of cid s) a x b → (others : List ℕ)
       → FindsStreams others s a → FindsStreams others x.0 b
@@ -66,13 +66,13 @@ module _ (s : DeviceState) (a b : Situation) where
   pub reset_honest : (cid : ℕ) (x : DeviceState × Result (Unit {0}) Failure) → cid < 2 ^ 64 → Runs (reset_of cid s) a x b
       → (first port : ℕ) → IsWith first port s a.ring → IsWith first port x.0 b.ring
   reset_honest cid x fits runs first port holds =
-      ring_end first port (λ x. x.0) s (reset_of cid s) a b x holds (reset_keeps ⊥ [] first port cid fits s a) runs
+      ring_end first port (λ x. x.0) s (reset_of cid s) a b x holds (reset_keeps ring_only [] first port cid fits s a) runs
 
   pub reset_streamed : (cid : ℕ) (x : DeviceState × Result (Unit {0}) Failure) → cid < 2 ^ 64 → Runs (reset_of cid s) a x b
       → (first port : ℕ) (lines : List Handshake) → IsWith first port s a.ring → AreStreamedWith first port lines s.table a
       → AreStreamedWith first port lines x.0.table b
   reset_streamed cid x fits runs first port lines holds streams =
-      streamed_end first port lines (λ x. x.0) s (reset_of cid s) a b x holds streams (reset_keeps (Unit {0}) lines first port cid fits s a) runs
+      streamed_end first port lines (λ x. x.0) s (reset_of cid s) a b x holds streams (reset_keeps ring_and_host lines first port cid fits s a) runs
 
   pub open_streams : (flow : Flow) (stream : ℕ) (x : DeviceState × Result ℕ TableFault) → Runs (open_of flow stream s) a x b
       → (others : List ℕ) → FindsStreams others s a → FindsFree stream others s a → FindsStreams others x.0 b

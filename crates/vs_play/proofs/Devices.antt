@@ -11,6 +11,7 @@ use Rattle.vs_device_parts.specs.{Calls.Situation, Playing.IsItsRing, Playing.Ru
 use Rattle.laws_device_streams.proofs.Opening.{new_has}
 use Rattle.vs_proxy_parts.specs.{State.ProxyState, Turns.new_proxy, Turns.proxy_reset_of, Turns.turn_of, declared.answers.Turn.Turn}
 use Rattle.laws_proxy_streams.proofs.Lists.{none_open}
+use Rattle.laws_device.proofs.Carrying.{ring_only}
 use Rattle.laws_proxy.proofs.Turning.{new_proxy_with, proxy_reset_keeps, turn_keeps, plain_proxied}
 use Rattle.laws_proxy.proofs.Ordered.{reset_honest, reset_streams, turn_honest, turn_streams}
 use Rattle.laws_world.specs.World.{first_cid}
@@ -39,7 +40,7 @@ pub turn_played : (size now : ℕ) (s : ProxyState) (v w : Ends) (h g : HostCont
     → IsPlayed (turn_of size now s) v h x w g
 turn_played size now s v w h g n m x served runs =
     over _ (turn_of size now s) v w h g n m x
-    (turn_keeps ⊥ first_cid size now s (situation (device_contents v) (Some h) n)
+    (turn_keeps ring_only first_cid size now s (situation (device_contents v) (Some h) n)
     (plain_proxied first_cid s (situation (device_contents v) (Some h) n) served.order.ring)) runs
 
 pub reset_played : (cid : ℕ) (s : ProxyState) (v w : Ends) (h g : HostContents) (n m : ℕ) (x : ProxyState × Result (Unit {0}) Failure)
@@ -47,7 +48,7 @@ pub reset_played : (cid : ℕ) (s : ProxyState) (v w : Ends) (h g : HostContents
     → Runs (proxy_reset_of cid s) (situation (device_contents v) (Some h) n) x (situation (device_contents w) (Some g) m)
     → IsPlayed (proxy_reset_of cid s) v h x w g
 reset_played cid s v w h g n m x fits served runs =
-    over _ (proxy_reset_of cid s) v w h g n m x (proxy_reset_keeps ⊥ first_cid cid s (situation (device_contents v) (Some h) n) fits
+    over _ (proxy_reset_of cid s) v w h g n m x (proxy_reset_keeps ring_only first_cid cid s (situation (device_contents v) (Some h) n) fits
     (plain_proxied first_cid s (situation (device_contents v) (Some h) n) served.order.ring)) runs
 
 module _ (s : ProxyState) (v w : Ends) (h g : HostContents) (n m : ℕ) (served : IsServed s v h) where

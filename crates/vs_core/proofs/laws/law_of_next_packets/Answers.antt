@@ -14,7 +14,7 @@ returns-clause-driver c = λ n host es p e next has.
     let w = run es (opening n host) in
     let well = run_well n host es in
     driver_accepts first_cid p e (both_of w) well.sound next has
-    (host_of end_in (λ c. 0) w.driver.table (flow_got Driver p) e (λ i d within. (well.driver.entries i d within).peer) has)
+    (host_of end_in w.driver.table (flow_got Driver p) e (λ i d within. (well.driver.entries i d within).peer) has)
 
 pub returns-clause-device : goal.returns-clause-device
 returns-clause-device c = λ n host es p e. let r = and_then _ _ _ (stays _ _ (opening_is n host)) (reached n host es).runs in

@@ -2,7 +2,8 @@ use Rattle.std.proofs.Common.{◌≡◌, ◌&&◌, nat_le, true, List, Some, ref
 use Rattle.std.proofs.lemmas.{Bool.Decides.nat_tests, Result.on_ok_weaker, Bool.and_parts}
 use Rattle.vs_ring_port.specs.{Chains.Held, Chains.same_queue, declared.device_ring.Chain.Chain, declared.queue.Queue.TheVariants.Event}
 use Rattle.vs_device_parts.specs.Steps.{puts_event}
-use Rattle.laws_world.specs.{Events.DevicePutsEvent, Pages.is_held}
+use Rattle.laws_device.specs.Honest.{is_held}
+use Rattle.laws_world.specs.{Events.DevicePutsEvent}
 use Rattle.laws_world.proofs.OverBoth.{IsPlayed}
 use Rattle.vs_core.specs.Ready.{IsReady}
 use Rattle.vs_core.proofs.DeviceHappening.{chain_did, held_of_queue, of_queue, same_held}
