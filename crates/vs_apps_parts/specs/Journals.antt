@@ -85,6 +85,11 @@ entry_called k c = record { app = k; deed = deed.Called c }
 abbrev pub entry_waited : ℕ → ℕ → WaitsFor → Entry
 entry_waited k times why = record { app = k; deed = deed.Waited times why }
 
+-- A call that told to wait is noted by nothing, each other one by an entry.
+abbrev pub called_noted : ℕ → Called → Option WaitsFor → List Entry → List Entry
+called_noted k c None es = es ++ entry_called k c ∷ []
+called_noted k c (Some why) es = es
+
 -- The times of the wait that an app has at a place, if it has one there.
 abbrev pub times_in : ℕ → Entry → Option ℕ
 times_in k e = if e.app == k then elim e.deed [ deed.Called c ↦ None | deed.Waited times why ↦ Some times ] else None

@@ -1,8 +1,10 @@
 //! The journal of a run: the calls that its apps made, with what they answered, and their waits.
 
-ghost use Rattle.std.specs.Prelude.{◌≡◌, ◌<◌, IfSome, vec_capacity, vec_len};
-ghost use Rattle.vs_apps_parts.specs.Journals.{times_at, wait_noted, wait_place};
+ghost use Rattle.std.specs.Prelude.{◌≡◌, ◌+◌, ◌<◌, ◌≤◌, IfSome, List, ℕ, vec_capacity, vec_len};
+ghost use Rattle.vs_apps_parts.specs.{Journals.called_noted, Journals.made_of, Journals.times_at, Journals.wait_noted, Journals.wait_place};
+ghost use Rattle.vs_apps_parts.specs.{Scripts.RunScript, Told.told_of, Told.wait_of};
 
+use crate::told::Told;
 use vs_driver_parts::answers::{
     Accepted, Closed, ConnId, ConnectError, ConnectionState, ListenError, Received, Sent, Shut,
 };
@@ -147,4 +149,24 @@ pub fn note_wait(entries: &mut Vec<Entry>, last: Option<usize>, app: usize, why:
         deed: Deed::Waited { times: 1, why },
     });
     entries.len() - 1
+}
+
+/// Notes a call with its reply, unless it told to wait. Answers what it told.
+pub fn note_called(entries: &mut Vec<Entry>, app: usize, called: Called) -> Told
+    requires { vec_len entries.old < vec_capacity entries.old }
+    ensures told { (script : RunScript) (bytes : List ℕ) → result ≡ told_of (made_of script bytes app called) }
+    ensures noted { entries.new.items ≡ called_noted app called (wait_of result) entries.old.items }
+    ensures room { (vec_capacity entries.new ≡ vec_capacity entries.old) × (vec_len entries.new ≤ vec_len entries.old + 1) }
+{
+    let told = called.told();
+    match told.wait() {
+        None => {
+            entries.push_reserved(Entry {
+                app,
+                deed: Deed::Called(called),
+            });
+            told
+        }
+        Some(_why) => told,
+    }
 }
