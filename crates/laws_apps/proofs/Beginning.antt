@@ -3,18 +3,15 @@ use Rattle.std.proofs.Common.{◌≡◌, ℕ, ◌≤◌, List, [], length, refl,
 use Rattle.std.specs.Prelude.{slice_index_or}
 use Rattle.vs_limits.specs.declared.TheConstants.{LAST_PORT}
 use Rattle.laws_history.specs.History.{Side, Asker, Answerer}
-use Rattle.vs_page.specs.Fair.{instance_from, payload_of}
-use Rattle.vs_page.specs.Log.{Driver, side_of}
+use Rattle.vs_page.specs.{Fair.instance_from, Fair.payload_of, Log.Driver, Log.side_of}
 use Rattle.vs_ring_port.specs.Contents.{RingContents}
 use Rattle.vs_driver_parts.specs.{Conversations.new_of, Playing.Plays, State.DriverState}
 use Rattle.laws_driver.specs.Honest.{IsFresh}
 use Rattle.laws_driver.proofs.{Calls.new_honest, Calls.new_keeps, Carrying.Fact, Keeping.keeps_end, Staging.Rests}
 use Rattle.laws_driver_bytes.specs.Received.{AreReceived, no_account}
 use Rattle.laws_driver_bytes.proofs.Connecting.{none_received}
-use Rattle.vs_apps_parts.specs.Scripts.{IsPlayed, RunScript, acts_of}
-use Rattle.vs_apps_parts.specs.declared.progress.AppState.{AppState}
-use Rattle.laws_apps.specs.Accounts.{IsAccounted, IsSent}
-use Rattle.laws_apps.specs.Runs.{IsRunOf, no_app}
+use Rattle.vs_apps_parts.specs.{Scripts.IsPlayed, Scripts.RunScript, Scripts.acts_of, declared.progress.AppState.AppState}
+use Rattle.laws_apps.specs.{Accounts.IsAccounted, Accounts.IsSent, Runs.IsRunOf, Runs.no_app}
 
 none_put : (side : Side) (k : ℕ) → payload_of (instance_from side k []) ≡ []
 none_put Asker k = refl

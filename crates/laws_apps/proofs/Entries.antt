@@ -1,16 +1,15 @@
 -- What an entry more, a wait more and bytes more do to what a journal tells.
-use Rattle.std.proofs.Common.{◌≡◌, ℕ, zero, suc, ◌+◌, ◌≤◌, ◌==◌, Bool, true, false, cond, List, [], ◌∷◌, ◌++◌, length, take, drop, Option, Some, None}
-use Rattle.std.proofs.Common.{refl, sym, ap, ◌∙◌, append_assoc, append-nil, slice_set, arith}
+use Rattle.std.proofs.Common.{◌≡◌, ℕ, zero, suc, ◌+◌, ◌≤◌, ◌==◌, Bool, true, false, cond, List, [], ◌∷◌, ◌++◌, length, take, drop, Option}
+use Rattle.std.proofs.Common.{Some, None, refl, sym, ap, ◌∙◌, append_assoc, append-nil, slice_set, arith}
 use Rattle.std.proofs.lemmas.List.{take-append-le, drop-append-le, length-drop}
-use Rattle.std.specs.Prelude.{slice_get}
-use Rattle.vs_driver_parts.specs.{Connections.got_count}
+use Rattle.std.specs.{Prelude.slice_get, Option.unwrap_or}
+use Rattle.vs_driver_parts.specs.Connections.{got_count}
 use Rattle.laws_driver_bytes.specs.Calls.{Journal, Made}
 use Rattle.laws_driver_bytes.specs.Calls as call
-use Rattle.vs_apps_parts.specs.Journals.{AllStandIn, StandsIn, calls_of, calls_of_app, ends_at, entry_called, entry_waited, gathered, made_as, made_by}
-use Rattle.vs_apps_parts.specs.Journals.{made_by_app, made_of, one_more, times_at, times_in, wait_noted, waited_before}
-use Rattle.std.specs.Option.{unwrap_or}
-use Rattle.vs_apps_parts.specs.Scripts.{RunScript, slice_of}
-use Rattle.vs_apps_parts.specs.declared.journal.{Called.Called, Deed.Deed, Entry.Entry, WaitsFor.WaitsFor}
+use Rattle.vs_apps_parts.specs.Journals.{AllStandIn, StandsIn, calls_of, calls_of_app, ends_at, entry_called, entry_waited, gathered}
+use Rattle.vs_apps_parts.specs.Journals.{made_as, made_by, made_by_app, made_of, one_more, times_at, times_in, wait_noted, waited_before}
+use Rattle.vs_apps_parts.specs.{Scripts.RunScript, Scripts.slice_of, declared.journal.Called.Called, declared.journal.Deed.Deed}
+use Rattle.vs_apps_parts.specs.declared.journal.{Entry.Entry, WaitsFor.WaitsFor}
 use Rattle.vs_apps_parts.specs.declared.journal.Called.TheVariants as called
 use Rattle.vs_apps_parts.specs.declared.journal.Deed.TheVariants as deed
 

@@ -1,25 +1,27 @@
 -- A step of an app keeps what is true of a run.
-use Rattle.std.proofs.Common.{◌≡◌, ◌≢◌, ℕ, ◌<◌, ◌≤◌, ◌==◌, Bool, true, false, cond, List, [], ◌∷◌, ◌++◌, length, Option, Some, None, refl, sym, ap, subst}
-use Rattle.std.proofs.Common.{◌∙◌, arith, slice_set, get_or-set_other, get_or-set_same, length-set, length-append}
+use Rattle.std.proofs.Common.{◌≡◌, ◌≢◌, ℕ, ◌<◌, ◌≤◌, ◌==◌, Bool, true, false, cond, List, [], ◌∷◌, ◌++◌, length, Option, Some, None, refl}
+use Rattle.std.proofs.Common.{sym, ap, subst, ◌∙◌, arith, slice_set, get_or-set_other, get_or-set_same, length-set, length-append}
 use Rattle.std.proofs.lemmas.Bool.{eqb-true, eq-eqb}
 use Rattle.std.specs.Prelude.{slice_index_or}
 use Rattle.vs_driver_parts.specs.{State.DriverState, declared.answers.Polled.Polled}
 use Rattle.laws_driver.proofs.Calls.{poll_honest}
 use Rattle.laws_driver_bytes.specs.Calls.{Journal, Made, ReplyTo, bytes_received, with_call}
 use Rattle.vs_apps_parts.specs.Journals.{AllStandIn, calls_of, calls_of_app, entry_called, last_wait, made_as, made_by, made_by_app}
-use Rattle.vs_apps_parts.specs.Journals.{wait_noted, wait_place}
-use Rattle.vs_apps_parts.specs.Scripts.{IsPlayed, RunScript, acts_of, told_in, with_noted}
-use Rattle.vs_apps_parts.specs.Told.{step_wait, told_of, wait_of}
-use Rattle.vs_apps_parts.specs.declared.{journal.Entry.Entry, journal.WaitsFor.WaitsFor, progress.AppState.AppState, progress.Progress.Progress}
-use Rattle.vs_apps_parts.specs.declared.{progress.Stepped.Stepped, told.Told.Told}
+use Rattle.vs_apps_parts.specs.{Journals.wait_noted, Journals.wait_place, Scripts.IsPlayed, Scripts.RunScript, Scripts.acts_of}
+use Rattle.vs_apps_parts.specs.{Scripts.told_in, Scripts.with_noted, Told.step_wait, Told.told_of, Told.wait_of}
+use Rattle.vs_apps_parts.specs.declared.{journal.Entry.Entry, journal.WaitsFor.WaitsFor, progress.AppState.AppState}
+use Rattle.vs_apps_parts.specs.declared.{progress.Progress.Progress, progress.Stepped.Stepped, told.Told.Told}
 use Rattle.vs_apps_parts.specs.declared.progress.Stepped.TheVariants as stepped
 use Rattle.vs_apps_parts.specs.declared.told.Told.TheVariants as says
-use Rattle.laws_apps.specs.Accounts.{IsAccounted}
-use Rattle.laws_apps.specs.Runs.{IsKept, IsRunOf, MakesCall, MakesCalls, Moves, NotesCall, PollsTo, Run, Steps, Waits, app_at}
-use Rattle.laws_apps.specs.Runs.{journal_of, journal_of_app, moved_state, no_app}
+use Rattle.laws_apps.specs.{Accounts.IsAccounted, Runs.IsKept, Runs.IsRunOf, Runs.MakesCall, Runs.MakesCalls, Runs.Moves, Runs.NotesCall}
+use Rattle.laws_apps.specs.Runs.{PollsTo, Run, Steps, Waits, app_at, journal_of, journal_of_app, moved_state, no_app}
 use Rattle.laws_apps.proofs.Waiting.{called_waits, moved_waits, wait_waits, waited_waits, waits_noted}
 use Rattle.laws_apps.proofs.{Calling.call_accounted, Calling.call_honest, Calling.poll_accounted, Noting.call_noted, Noting.same_accounted}
 use Rattle.laws_apps.proofs.Entries.{SameCalls, app_calls_stay, called_stand, calls_stay, gathered_snoc, more_stand, wait_same}
+
+either : {A : Type 0} (b : Bool) (x : A) → x ≡ cond b x x
+either true x = refl
+either false x = refl
 
 -- A call that is made and noted.
 module _ (script : RunScript) (k : ℕ) (m : Made) (old new : Run) (stand : AllStandIn (length old.bytes) old.entries) where
@@ -71,14 +73,10 @@ module _ (script : RunScript) (k : ℕ) (m : Made) (old new : Run) (stand : AllS
   waits_by o b was told =
       sym (ap (λ (x : Option WaitsFor). cond b (elim x as (λ _. Option ℕ) [ None ↦ None | Some why ↦ was ]) was) told)
 
-  waits_either : (b : Bool) (was : Option ℕ) → was ≡ cond b was was
-  waits_either true was = refl
-  waits_either false was = refl
-
   waits_call : (j : ℕ) (o : Option WaitsFor) → wait_of (told_of m) ≡ o → NotesCall script k m o old new
       → last_wait j new.entries ≡ cond (k == j) (waits_noted (m ∷ []) (last_wait j old.entries)) (last_wait j old.entries)
   waits_call j (Some why) told notes =
-      ap (λ (es : List Entry). last_wait j es) notes.0 ∙ waits_either (k == j) (last_wait j old.entries)
+      ap (λ (es : List Entry). last_wait j es) notes.0 ∙ either (k == j) (last_wait j old.entries)
       ∙ waits_by (Some why) (k == j) (last_wait j old.entries) told
   waits_call j None told notes =
       ap (λ (es : List Entry). last_wait j es) notes.3 ∙ called_waits j k old.entries notes.0 ∙ waits_by None (k == j) (last_wait j old.entries) told
@@ -117,10 +115,6 @@ module _ (first : ℕ) (script : RunScript) (k : ℕ) where
     pub journals : (j : ℕ) → journal_of_app j script new ≡ cond (k == j) (with_noted made (journal_of_app j script old)) (journal_of_app j script old)
     pub waits : (j : ℕ) → last_wait j new.entries ≡ cond (k == j) (waits_noted made (last_wait j old.entries)) (last_wait j old.entries)
 
-  either : (b : Bool) (journal : Journal) → journal ≡ cond b journal journal
-  either true journal = refl
-  either false journal = refl
-
   join : (b : Bool) (m : Made) (ms : List Made) (mid old : Journal) → mid ≡ cond b (with_noted (m ∷ []) old) old
       → cond b (with_noted ms mid) mid ≡ cond b (with_noted (m ∷ ms) old) old
   join true m ms mid old is = ap (λ (js : Journal). with_noted ms js) is
@@ -131,16 +125,12 @@ module _ (first : ℕ) (script : RunScript) (k : ℕ) where
   join_waits true m ms mid old is = ap (λ (o : Option ℕ). waits_noted ms o) is
   join_waits false m ms mid old is = is
 
-  either_waits : (b : Bool) (was : Option ℕ) → was ≡ cond b was was
-  either_waits true was = refl
-  either_waits false was = refl
-
   calls_leave : (made : List Made) (old new : Run) → MakesCalls script k made old new → IsKept first script old → Leaves made old new
   calls_leave [] old new makes kept = subst (λ (r : Run). Leaves [] old r) (sym makes) (record {
     kept = kept;
     apps = refl;
     journals = λ j. either (k == j) (journal_of_app j script old);
-    waits = λ j. either_waits (k == j) (last_wait j old.entries);
+    waits = λ j. either (k == j) (last_wait j old.entries);
   })
   calls_leave (m ∷ ms) old new makes kept =
       let rest = calls_leave ms makes.0 new makes.2 (call_keeps m old makes.0 makes.1 kept) in

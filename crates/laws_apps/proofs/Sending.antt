@@ -8,13 +8,13 @@ use Rattle.vs_flow.proofs.Entries.{found_passes}
 use Rattle.vs_page.specs.{Fair.current, Log.Driver, Log.Log}
 use Rattle.vs_ring_port.specs.Contents.{RingContents}
 use Rattle.vs_driver_parts.specs.{declared.answers.Sent.Sent, Conversations.DriverTree, Conversations.not_sent, Conversations.send_on}
-use Rattle.vs_driver_parts.specs.{Playing.Plays, State.DriverEntry, State.DriverState, State.entry_known_as, State.gone_known_as, State.is_known_as}
+use Rattle.vs_driver_parts.specs.{Playing.Plays, State.DriverEntry, State.DriverState, State.entry_known_as, State.gone_known_as}
+use Rattle.vs_driver_parts.specs.State.{is_known_as}
 use Rattle.vs_driver_parts.specs.declared.answers.Sent.TheVariants as sent
 use Rattle.laws_tables.proofs.Slots.{found_by}
 use Rattle.laws_driver.specs.Honest.{slots_of}
-use Rattle.laws_driver_bytes.specs.{Calls.GuestCall, Calls.Journal, Calls.ReplyTo, Calls.Send, Calls.bytes_sent, Calls.id_named}
-use Rattle.laws_driver_bytes.specs.{Calls.sent_of, Calls.whole_call, Received.Account, Received.AreReceived, Received.ReceivesOn}
-use Rattle.laws_driver_bytes.specs.Sent.{is_same, only_on, took}
+use Rattle.laws_driver_bytes.specs.Calls.{GuestCall, Journal, ReplyTo, Send, bytes_sent, id_named, sent_of, whole_call}
+use Rattle.laws_driver_bytes.specs.{Received.Account, Received.AreReceived, Received.ReceivesOn, Sent.is_same, Sent.only_on, Sent.took}
 use Rattle.laws_apps.specs.Accounts.{AreSenders, IsSender, sent_there, sent_to}
 
 pub only_none : (at c : Connection) (bytes : List ℕ) → bytes ≡ [] → only_on at bytes c ≡ []

@@ -3,15 +3,15 @@ use Rattle.std.specs.Prelude.{◌≡◌, ◌≤◌, ℕ, ◌<◌, ◌||◌, nat_
 use Rattle.std.specs.Prelude.{slice_get, slice_index_or, slice_set}
 use Rattle.vs_script.specs.App.{Act}
 use Rattle.vs_ring_port.specs.Contents.{RingContents}
-use Rattle.vs_driver_parts.specs.{Connections.flow_of, Conversations.poll_of, Playing.Plays, State.DriverState, declared.answers.Polled.Polled}
+use Rattle.vs_driver_parts.specs.{Connections.flow_of, Conversations.poll_of, Playing.Plays, State.DriverState}
+use Rattle.vs_driver_parts.specs.declared.answers.Polled.{Polled}
 use Rattle.laws_driver.specs.Honest.{IsHonestWith}
 use Rattle.laws_driver_bytes.specs.Calls.{Journal, Made, bytes_received, is_right, whole_call}
-use Rattle.vs_apps_parts.specs.Journals.{AllStandIn, calls_of, calls_of_app, ends_at, entry_called, last_wait, made_as, made_of}
-use Rattle.vs_apps_parts.specs.Journals.{wait_noted, wait_place}
-use Rattle.vs_apps_parts.specs.Scripts.{IsPlayed, RunScript, acts_of, after_step, begun, calls_in, calls_next, told_in}
-use Rattle.vs_apps_parts.specs.Told.{step_wait, told_of, wait_of}
-use Rattle.vs_apps_parts.specs.declared.journal.{Called.Called, Entry.Entry, WaitsFor.WaitsFor}
-use Rattle.vs_apps_parts.specs.declared.progress.{AppState.AppState, Stepped.Stepped}
+use Rattle.vs_apps_parts.specs.Journals.{AllStandIn, calls_of, calls_of_app, ends_at, entry_called, last_wait, made_as, made_of, wait_noted}
+use Rattle.vs_apps_parts.specs.{Journals.wait_place, Scripts.IsPlayed, Scripts.RunScript, Scripts.acts_of, Scripts.after_step}
+use Rattle.vs_apps_parts.specs.{Scripts.begun, Scripts.calls_in, Scripts.calls_next, Scripts.told_in, Told.step_wait, Told.told_of}
+use Rattle.vs_apps_parts.specs.{Told.wait_of, declared.journal.Called.Called, declared.journal.Entry.Entry}
+use Rattle.vs_apps_parts.specs.declared.{journal.WaitsFor.WaitsFor, progress.AppState.AppState, progress.Stepped.Stepped}
 use Rattle.vs_apps_parts.specs.declared.progress.Stepped.TheVariants as stepped
 use Rattle.vs_apps_parts.specs.declared.journal.Called.TheVariants as called
 use Rattle.vs_driver_parts.specs.declared.answers.Accepted.TheVariants as accepted

@@ -9,10 +9,9 @@ ghost use Rattle.vs_driver_parts.specs.declared.answers.Polled.{Polled};
 ghost use Rattle.laws_driver.specs.Honest.{IsFresh, IsHonestWith};
 ghost use Rattle.laws_driver_bytes.specs.Calls.{GuestCall, Journal, ReplyTo, account_of, is_right, whole_call, with_call};
 ghost use Rattle.laws_driver_bytes.specs.Received.{AreReceived};
-ghost use Rattle.vs_apps_parts.specs.Journals.{made_as, sent_as};
-ghost use Rattle.vs_apps_parts.specs.{Scripts.RunScript, Scripts.with_noted, declared.progress.AppState.AppState, declared.progress.Stepped.Stepped};
-ghost use Rattle.laws_apps.specs.Accounts.{IsAccounted, IsSent};
-ghost use Rattle.laws_apps.specs.Runs.{IsRunOf, PollsTo, Run, Steps, no_app};
+ghost use Rattle.vs_apps_parts.specs.{Journals.made_as, Journals.sent_as, Scripts.RunScript, Scripts.with_noted};
+ghost use Rattle.vs_apps_parts.specs.declared.progress.{AppState.AppState, Stepped.Stepped};
+ghost use Rattle.laws_apps.specs.{Accounts.IsAccounted, Accounts.IsSent, Runs.IsRunOf, Runs.PollsTo, Runs.Run, Runs.Steps, Runs.no_app};
 ghost use Rattle.vs_limits.specs.declared.TheConstants.{LAST_PORT};
 
 /// A call that was made, and a poll, keep the journal's account right: what was sent on each connection is the payload that the log put, and

@@ -1,13 +1,12 @@
 -- The script of a run, and how apps go along it.
-use Rattle.std.specs.Prelude.{◌≡◌, ℕ, ◌+◌, ◌-◌, min, nat_le, nat_lt, ◌&&◌, ◌||◌, Bool, true, false, if◌then◌else◌, List, [], ◌∷◌, ◌++◌}
-use Rattle.std.specs.{Option.unwrap_or, Prelude.map, Prelude.take, Prelude.drop, Prelude.slice_get, Prelude.slice_index_or}
-use Rattle.std.specs.Prelude.{Some, None}
-use Rattle.vs_script.specs.{Data.Content, Data.bytes_of, Data.size_of, declared.app.App.App}
-use Rattle.vs_script.specs.App.{Act, app_view, Connect, Listen, Accept, Send, Recv, Drain, Exchange, Shutdown, Close}
+use Rattle.std.specs.Prelude.{◌≡◌, ℕ, ◌+◌, ◌-◌, min, nat_le, nat_lt, ◌&&◌, ◌||◌, Bool, true, false, if◌then◌else◌, List, [], ◌∷◌, ◌++◌, map}
+use Rattle.std.specs.{Prelude.take, Prelude.drop, Prelude.slice_get, Prelude.slice_index_or, Prelude.Some, Prelude.None, Option.unwrap_or}
+use Rattle.vs_script.specs.{Data.Content, Data.bytes_of, Data.size_of, declared.app.App.App, App.Act, App.app_view, App.Connect, App.Listen}
+use Rattle.vs_script.specs.App.{Accept, Send, Recv, Drain, Exchange, Shutdown, Close}
 use Rattle.laws_driver_bytes.specs.Calls.{GuestCall, Journal, Made}
 use Rattle.laws_driver_bytes.specs.Calls as call
-use Rattle.vs_apps_parts.specs.Told.{is_any_end, step_wait, told_of, wait_of}
-use Rattle.vs_apps_parts.specs.declared.{progress.Progress.Progress, progress.TheConstants.SLICE, told.Told.Told}
+use Rattle.vs_apps_parts.specs.{Told.is_any_end, Told.step_wait, Told.told_of, Told.wait_of, declared.progress.Progress.Progress}
+use Rattle.vs_apps_parts.specs.declared.{progress.TheConstants.SLICE, told.Told.Told}
 use Rattle.vs_apps_parts.specs.declared.told.Told.TheVariants as told
 
 -- What each app is to do.

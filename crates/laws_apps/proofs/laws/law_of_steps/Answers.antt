@@ -1,5 +1,4 @@
-use Rattle.laws_apps.proofs.Beginning.{begins_run}
-use Rattle.laws_apps.proofs.Keeping.{polls_keep, steps_keep}
+use Rattle.laws_apps.proofs.{Beginning.begins_run, Keeping.polls_keep, Keeping.steps_keep}
 use Rattle.laws_apps.proofs.laws.law_of_steps.Goals as goal
 
 pub returns-clause-steps : goal.returns-clause-steps
