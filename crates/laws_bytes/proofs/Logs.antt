@@ -26,10 +26,6 @@ shorter xs ys zs (rest, is) = (ys ++ rest, is ∙ append_assoc xs ys rest)
 pub prefix_then : (xs ys zs : List ℕ) → IsPrefixOf xs ys → IsPrefixOf ys zs → IsPrefixOf xs zs
 prefix_then xs ys zs (a, p) (b, q) = (a ++ b, q ∙ ap (λ (l : List ℕ). l ++ b) p ∙ append_assoc xs a b)
 
-pub prefix_of_none : (xs : List ℕ) → IsPrefixOf xs [] → xs ≡ []
-prefix_of_none [] (rest, is) = refl
-prefix_of_none (x ∷ xs) (rest, is) = absurd cc
-
 -- On one flow alone.
 abbrev pub only_on : Flow → List ℕ → Flow → List ℕ
 only_on f bytes g = cond (same_flow g f) bytes []
@@ -91,11 +87,6 @@ passed_got_by false p h is = is
 
 pub passed_after_got : (role : Role) (p : Packet) (log : Log) (f : Flow) → has_passed role f log ≡ true → has_passed role f (GotPacket p ∷ log) ≡ true
 passed_after_got role p log f is = passed_got_by (same_flow f (flow_got role p)) p (whole_of role f log) is
-
-pub put_passes : (role : Role) (p : Packet) (log : Log) (f : Flow) → flow_put role p ≡ f → has_passed role f (PutPacket p ∷ log) ≡ true
-put_passes role p log f is =
-    ap (λ (b : Bool). not (is_empty (cond b (Put p ∷ whole_of role f log) (whole_of role f log))))
-    (ap (λ (g : Flow). same_flow f g) is ∙ same_self f)
 
 pub got_passes : (role : Role) (p : Packet) (log : Log) (f : Flow) → flow_got role p ≡ f → has_passed role f (GotPacket p ∷ log) ≡ true
 got_passes role p log f is =

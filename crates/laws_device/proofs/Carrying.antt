@@ -11,16 +11,15 @@ use Rattle.std.specs.Option.{ForSome}
 use Rattle.vs_contents.specs.Contents.{Exposes}
 use Rattle.vs_outside.specs.Host.{HostContents, after_close}
 use Rattle.vs_proxy_parts.specs.State.{Handshake}
-use Rattle.vs_ring_port.specs.{EndLog.EndLog, Chains.Held}
+use Rattle.vs_ring_port.specs.{Chains.Held}
 use Rattle.vs_device_parts.specs.{Calls.HostMoves, Calls.Situation, Calls.DeviceTree, Playing.IsRxChain, Playing.Runs}
 use Rattle.vs_device_parts.specs.State.{DeviceConnection, DeviceState}
 use Rattle.laws_device_streams.proofs.Tables.{some_after, some_from}
 use Rattle.laws_device_bytes.specs.Streamed.{IsStreamed}
-use Rattle.laws_device_bytes.proofs.HostCalls.{closed_host}
 use Rattle.laws_tables.proofs.Fair.{got_one}
 use Rattle.laws_device.proofs.{Chains.Among, Chains.alone, Chains.alone_so, Seats.AgreesBy, Seats.Carried, Ringing.Telling, Ringing.Tells}
-use Rattle.laws_device.proofs.{Ringing.host_moves, Keeping.Keeps, Keeping.keeps_end}
-use Rattle.laws_device.specs.{Honest.IsWith, Streams.AreStreamedWith, Streams.IsPlain}
+use Rattle.laws_device.proofs.{Ringing.host_moves, Ringing.tells_weaker, Keeping.Keeps, Keeping.keeps_end}
+use Rattle.laws_device.specs.{Honest.IsFitState, Honest.IsWith, Streams.AreStreamedWith, Streams.IsPlain}
 
 abbrev pub Fact : Type 1
 Fact = Option HostContents → Log → Type 0
@@ -159,28 +158,41 @@ ring_end first port state_of s tree a b x holds keeps runs =
     with_ring ⊥ [] first port (state_of x) b
     (keeps_end (λ y d. With ring_only [] first port (state_of y) d) tree a b x (keeps (plain_with first port s a holds)) runs)
 
--- A stream is closed, unless it was.
+-- The stream of a connection is closed, unless it was.
 abbrev pub Closes : DeviceConnection → Situation → Situation → Type 0
-Closes v c d = (d ≡ c) ⊎ HostMoves false (λ h. Unit {0}) (after_close v.stream) c d
+Closes v c d = ((v.closed ≡ true) × (d ≡ c)) ⊎ ((v.closed ≡ false) × HostMoves false (λ h. Unit {0}) (after_close v.stream) c d)
 
-pub closed_tells : (P : Telling) (v : DeviceConnection) (c d : Situation)
-    → ((h : Bool) (o n : Option HostContents) (l : EndLog) → Exposes o n (λ h. Unit {0}) (after_close v.stream) → P h o l → P h n l)
-    → Closes v c d → Tells P c → Tells P d
-closed_tells P v c d then (inl same) tells = subst (λ (x : Situation). Tells P x) (sym same) tells
-closed_tells P v c d then (inr made) tells = host_moves false (λ h. Unit {0}) (after_close v.stream) c d made P P then tells
+-- What is known of a host then.
+module _ (carry : Carried) (first port : ℕ) (s : DeviceState) (v : DeviceConnection) (c d : Situation) where
+  pub closed_held : (F G : Fact) → (v.closed ≡ true → IsFitState s → (o : Option HostContents) (log : Log) → F o log → G o log)
+      → (v.closed ≡ false → IsFitState s → (o n : Option HostContents) (log : Log) → Exposes o n (λ h. Unit {0}) (after_close v.stream)
+      → F o log → G n log)
+      → Closes v c d → IsHeldBy carry F first port s c → IsHeldBy carry G first port s d
+  closed_held F G was now (inl (shut, same)) holds = (
+    holds.0,
+    subst (λ (x : Situation). Tells (IsToldBy carry G first port s) x) (sym same)
+        (tells_weaker (IsToldBy carry F first port s) (IsToldBy carry G first port s) (λ h o l told. (
+          told.0,
+          λ honest. let p = told.1 honest in (p.0, was shut p.0.fits o l.entries p.1),
+        )) c holds.1),
+  )
+  closed_held F G was now (inr (still, made)) holds = (
+    holds.0,
+    host_moves false (λ h. Unit {0}) (after_close v.stream) c d made (IsToldBy carry F first port s) (IsToldBy carry G first port s)
+        (λ h o n l exposes told. (
+          told.0,
+          λ honest. let p = told.1 honest in (p.0, now still p.0.fits o n l.entries exposes p.1),
+        )) holds.1,
+  )
 
-pub closed_over : (carry : Carried) (first : ℕ) (lines : List Handshake) (port : ℕ) (t : Table DeviceConnection) (log : Log) (stream : ℕ) (o n : Option HostContents)
-    → Exposes o n (λ h. Unit {0}) (after_close stream) → StreamedOver carry lines first port t o log → StreamedOver carry lines first port t n log
-closed_over carry first lines port t log stream =
-    streams_call carry first lines lines port port t t log log (λ few. few) (λ h. Unit {0}) (after_close stream)
-    (λ h any few x. closed_host stream h log port t lines x)
-
-pub closed_with : (carry : Carried) (lines : List Handshake) (first port : ℕ) (t : Table DeviceConnection) (s : DeviceState) (v : DeviceConnection) (c d : Situation)
-    → Closes v c d → IsHeldBy carry (StreamedOver carry lines first port t) first port s c → IsHeldBy carry (StreamedOver carry lines first port t) first port s d
-closed_with carry lines first port t s v c d closes holds = (
-  holds.0,
-  closed_tells (IsToldBy carry (StreamedOver carry lines first port t) first port s) v c d (λ h o n l made was. (
-    was.0,
-    λ honest. let p = was.1 honest in (p.0, closed_over carry first lines port t l.entries v.stream o n made p.1),
-  )) closes holds.1,
-)
+  pub closed_with : (lines : List Handshake) (t u : Table DeviceConnection)
+      → (v.closed ≡ true → IsFitState s → (h : HostContents) (log : Log) → IsStreamed h log port t lines → IsStreamed h log port u lines)
+      → (IsFitState s → (h : HostContents) (log : Log) → IsStreamed h log port t lines
+      → IsStreamed (after_close v.stream h) log port u lines)
+      → Closes v c d → IsHeldBy carry (StreamedOver carry lines first port t) first port s c
+      → IsHeldBy carry (StreamedOver carry lines first port u) first port s d
+  closed_with lines t u was now = closed_held (StreamedOver carry lines first port t) (StreamedOver carry lines first port u)
+      (λ shut fits o log. streams_go carry first lines lines port port t u log log (λ few. few) (λ h few x. was shut fits h log x) o)
+      (λ still fits o n log exposes. streams_call carry first lines lines port port t u log log (λ few. few) (λ h. Unit {0})
+      (after_close v.stream)
+      (λ h any few x. now fits h log x) o n exposes)

@@ -124,10 +124,6 @@ module _ (H : List Held → Type 0) (all : (held : List Held) → H held) (d : C
   among_more None bytes held rx among = all _
   among_more (Some c) bytes held rx (there, empty, others) = let no = apart c d rx.0 other in rw no (there, empty, all _)
 
-  pub among_written : (o : Option Chain) (bytes : List ℕ) (held : List Held) → IfSome o IsRxChain → Among H o held → Among H o (with_bytes d bytes held)
-  among_written None bytes held rx among = all _
-  among_written (Some c) bytes held rx (there, empty, others) = let kept = kept_written c d rx.0 other bytes held in (kept.0 ∙ there, kept.1 ∙ empty, all _)
-
   pub among_without : (o : Option Chain) (held : List Held) → IfSome o IsRxChain → Among H o held → Among H o (without_held d held)
   among_without None held rx among = all _
   among_without (Some c) held rx (there, empty, others) = let kept = kept_without c d rx.0 other held in (kept.0 ∙ there, kept.1 ∙ empty, all _)

@@ -1,15 +1,15 @@
 -- What filling the receive queue keeps, part by part.
 use Rattle.std.proofs.Common.{◌≡◌, ℕ, ◌+◌, ◌≤◌, ◌==◌, ◌&&◌, ◌||◌, not, Bool, true, false, cond, if◌then◌else◌, List, [], ◌∷◌, length}
-use Rattle.std.proofs.Common.{Contains, Option, Some, None, Result, Ok, Err, refl, sym, subst, ◌∙◌, arith, IfSome, IsOkAnd, inl, inr, ◌⊎◌}
+use Rattle.std.proofs.Common.{Contains, Option, Some, None, Result, Ok, Err, refl, sym, subst, ◌∙◌, arith, IfSome, IsOkAnd}
 use Rattle.std.proofs.lemmas.Grind.{common_steps}
 use Rattle.vs_contents.specs.CallTree.{Done, bind, for_each, while_up_to}
 use Rattle.vs_conn.specs.End.{CanSend, ConnectionEnd, owes_of, paid_of, state_may_send, wanting_credit, with_payload_sent}
 use Rattle.vs_conn.specs.{Headers.owed_header, Headers.payload_header, declared.end.Owed.Owed, declared.end.State.State}
 use Rattle.vs_conn.specs.{declared.end.Stop.TheVariants.ShutDown, declared.end.TheConstants.OWED_MAX}
 use Rattle.vs_credit.specs.Credit.{free_of}
-use Rattle.vs_flow.specs.Table.{entry_under, slots, Table, with_value}
+use Rattle.vs_flow.specs.Table.{IsTable, entry_under, slots, Table, with_value}
 use Rattle.vs_header.specs.declared.Header.{Header}
-use Rattle.vs_outside.specs.{declared.host_net.StreamRead.StreamRead, Host.HostContents, Host.after_read, Host.called}
+use Rattle.vs_outside.specs.{declared.host_net.StreamRead.StreamRead, Host.HostContents, Host.after_close, Host.after_read, Host.called}
 use Rattle.vs_replies.specs.declared.Reply.{Reply}
 use Rattle.vs_ring_port.specs.{declared.device_ring.Chain.Chain, declared.failure.Failure.Failure}
 use Rattle.laws_tables.specs.{Ends.is_new, Steps.payload_on}
@@ -24,11 +24,11 @@ use Rattle.laws_device.specs.Honest.{IsFitState}
 use Rattle.laws_device.proofs.{Seats.Carried, Changing.cuts, Changing.shuts, Changing.wants, Changing.same, Keeping.Goes, Keeping.Keeps}
 use Rattle.laws_device.proofs.{Keeping.Lets, Keeping.keeps_bind, Keeping.keeps_each, Keeping.keeps_then, Keeping.keeps_while, Putting.Puts}
 use Rattle.laws_device.proofs.{Putting.owed_puts, Putting.reply_puts, Putting.rst_puts, Putting.send_puts, Steps.Filled, Steps.Open}
-use Rattle.laws_device.proofs.Steps.{changed, closing_keeps, goes_on, hold_keeps, open_filled, called_with}
-use Rattle.laws_device.proofs.{Writing.writes_first, Writing.written_keeps, Carrying.Closes, Carrying.Fact, Carrying.IsHeldBy}
-use Rattle.laws_device.proofs.Carrying.{IsToldBy, StreamedOver, With, closed_with, put_goes, streams_call}
+use Rattle.laws_device.proofs.Steps.{changed, closing_keeps, cut_with, goes_on, hold_keeps, open_filled, called_with}
+use Rattle.laws_device.proofs.{Writing.writes_first, Writing.written_keeps, Carrying.Fact, Carrying.IsHeldBy, Carrying.IsToldBy}
+use Rattle.laws_device.proofs.Carrying.{StreamedOver, With, closed_held, put_goes, streams_call, streams_go}
 use Rattle.laws_device.proofs.Ringing.{host_moves}
-use Rattle.laws_device_bytes.proofs.Changing.{called_host, cuts_streams, ends_streams, leaves_streams, put_empty, reads_streams}
+use Rattle.laws_device_bytes.proofs.Changing.{called_host, closes_streams, ends_streams, leaves_streams, put_empty, reads_streams}
 use Rattle.laws_device_bytes.proofs.{Changing.shuts_streams, Gives.pays_gives}
 use Rattle.vs_proxy_parts.specs.State.{Handshake}
 use Rattle.laws_device_bytes.specs.Streamed.{IsStreamed}
@@ -74,22 +74,16 @@ module _ (carry : Carried) (lines : List Handshake) (first port : ℕ) where
   abbrev Now : DeviceState → Situation → Type 0
   Now = With carry lines first port
 
-  -- Later the host has closed a stream, or nothing happened.
-  abbrev Later : Situation → Situation → Type 0
-  Later c d = (d ≡ c) ⊎ ((v : DeviceConnection) × Closes v c d)
-
-  later_with : (s : DeviceState) (c d : Situation) → Later c d → Now s c → Now s d
-  later_with s c d (inl same) holds = subst (λ (x : Situation). Now s x) (sym same) holds
-  later_with s c d (inr (v, closes)) holds = closed_with carry lines first port s.table s v c d closes holds
-
-  -- A packet without payload, put where a chain is or becomes held. The rest is with the host.
-  put_packet_keeps : (h : Header) (f : DeviceState → DeviceTree DeviceState) (r : Filling) (t : DeviceState)
+  -- A packet without payload, put where a chain is or becomes held: what is known of the host then. The rest is with the host.
+  put_packet_keeps : (h : Header) (f : DeviceState → DeviceTree DeviceState) (r : Filling) (t : DeviceState) (F : Fact)
       → (IsFitState r.state → Puts carry port r.state h [] t)
-      → (IsFitState r.state → (c : HostContents) (log : Log) → IsStreamed c log port r.state.table lines → IsStreamed c log port t.table lines)
+      → (IsFitState r.state → (o : Option HostContents) (log : Log) → Streamed r.state.table o log
+      → F o (PutPacket (record { header = h; payload = [] }) ∷ log))
       → t.chain ≡ None → t.failed ≡ None
-      → ((R : DeviceState → Situation → Type 0) (c : Situation) → ((d : Situation) → Later c d → R t d) → Keeps R (f (record r.state { chain = None })) c)
+      → ((R : DeviceState → Situation → Type 0) (c : Situation) → IsHeldBy carry F first port t c → ((d : Situation) → Now t d → R t d)
+      → Keeps R (f (record r.state { chain = None })) c)
       → (c : Situation) → Ready r c → Keeps Over (put_packet h f r) c
-  put_packet_keeps h f r t puts carries none still goes c ready =
+  put_packet_keeps h f r t F puts carries none still goes c ready =
       let rest : Filling → DeviceTree Filling = λ q. elim q.state.chain [
         | None ↦ Done q
         | Some chain ↦ bind (put_on chain h [] q) (λ p. bind (f p.state) (λ s. Done (record p { state = s })))
@@ -101,19 +95,14 @@ module _ (carry : Carried) (lines : List Handshake) (first port : ℕ) where
       let finish : DeviceState → DeviceTree Filling = λ s. Done (record p { state = s }) in
       keeps_bind Over (put_on chain h [] q) (λ x. bind (f x.state) (λ s. Done (record x { state = s }))) d
       (written_keeps carry first port r.state (Streamed r.state.table) (λ x e. Keeps Over (bind (f x.state) (λ s. Done (record x { state = s }))) e)
-      (Done p) t h [] puts (Streamed t.table) with_empty chain holds.0.0
+      (Done p) t h [] puts F carries chain holds.0.0
       (omega (arith, holds.0.1)) none d (writes_first carry first port (record r.state { chain = Some chain }) (Streamed r.state.table) chain d refl ready.1 holds.1)
       (λ e told. keeps_bind Over (f (record r.state { chain = None })) finish e
-      (goes (λ s x. Keeps Over (finish s) x) e (λ x later.
-      (later_with t e x later (subst (λ (o : Option Chain). IfSome o IsRxChain) (sym none) tt, told), λ going. still))))))
+      (goes (λ s x. Keeps Over (finish s) x) e (subst (λ (o : Option Chain). IfSome o IsRxChain) (sym none) tt, told)
+      (λ x held. (held, λ going. still))))))
       (λ q d none over holds. ended q d none over holds)
       c ready
     where
-      with_empty : IsFitState r.state → (o : Option HostContents) (log : Log) → Streamed r.state.table o log
-          → Streamed t.table o (PutPacket (record { header = h; payload = [] }) ∷ log)
-      with_empty fits o log x = put_goes carry first lines port r.state.table t.table log (record { header = h; payload = [] })
-          (λ c y. put_empty c log port t.table lines (record { header = h; payload = [] }) refl (carries fits c log y)) o x
-
       ended : (q : Filling) (d : Situation) → q.state.chain ≡ None → q.over ≡ true → Now q.state d
           → Keeps Over (elim q.state.chain [
             | None ↦ Done q
@@ -128,6 +117,14 @@ module _ (carry : Carried) (lines : List Handshake) (first port : ℕ) where
           by None is = (holds, λ going. let both : true ≡ false = sym over ∙ going in absurd cc)
           by (Some chain) is = absurd cc
 
+  -- The same, where the streams are as the table says then, and no call on the host follows.
+  empty_put : (h : Header) (s t : DeviceState) → (IsFitState s → (c : HostContents) (log : Log) → IsStreamed c log port s.table lines
+      → IsStreamed c log port t.table lines)
+      → IsFitState s → (o : Option HostContents) (log : Log) → Streamed s.table o log
+      → Streamed t.table o (PutPacket (record { header = h; payload = [] }) ∷ log)
+  empty_put h s t carries fits o log x = put_goes carry first lines port s.table t.table log (record { header = h; payload = [] })
+      (λ c y. put_empty c log port t.table lines (record { header = h; payload = [] }) refl (carries fits c log y)) o x
+
   one_put : (q : Filling) (c : Situation) → Over q c → Goes Ready Over (q, not q.over) c
   one_put q c filled = goes_on carry lines first port q c filled
 
@@ -140,9 +137,9 @@ module _ (carry : Carried) (lines : List Handshake) (first port : ℕ) where
       let f : DeviceState → DeviceTree DeviceState = λ s. Done (record s { replies = rest }) in
       let again : Filling → DeviceTree (Filling × Bool) = λ q. Done (q, not q.over) in
       keeps_then Over (Goes Ready Over) (put_packet h f r) again c
-      (put_packet_keeps h f r (record r.state { chain = None; replies = rest })
-      (λ fits. reply_puts carry port r.state fits reply rest is) (λ fits h log x. x) refl ready.1
-      (λ R d holds. holds d (inl refl)) c ready)
+      (put_packet_keeps h f r (record r.state { chain = None; replies = rest }) (Streamed r.state.table)
+      (λ fits. reply_puts carry port r.state fits reply rest is) (empty_put h r.state r.state (λ fits c log x. x)) refl ready.1
+      (λ R d held holds. holds d held) c ready)
       one_put
 
   pub put_reply_keeps : (r : Filling) (c : Situation) → Ready r c → Keeps (Goes Ready Over) (put_reply r) c
@@ -154,38 +151,47 @@ module _ (carry : Carried) (lines : List Handshake) (first port : ℕ) where
     abbrev spent : DeviceState
     spent = record r.state { chain = None }
 
+    -- The connection, which stays.
+    stays_by : (what : Owed) (v : DeviceConnection) → owes_of e.value.end ≡ Some what
+        → v ≡ record e.value { end = paid_of e.value.end what; asked_at = v.asked_at }
+        → (IsFitState r.state → (c : HostContents) (log : Log) → IsStreamed c log port r.state.table lines
+        → IsStreamed c log port (with_value r.state.table e.slot v) lines)
+    stays_by what v owes is fits h log x = subst (λ (w : DeviceConnection). IsStreamed h log port (with_value r.state.table e.slot w) lines)
+        (sym is)
+        (ends_streams h log port r.state.table lines x fits.sound e there (record
+        e.value { end = paid_of e.value.end what; asked_at = v.asked_at })
+        refl refl refl refl refl (pays_gives e.value.end what owes) (paid_asked e.value.end what))
+
     owed_by : (what : Owed) → owes_of e.value.end ≡ Some what → (c : Situation) → Ready r c
         → Keeps Over (put_packet (owed_header e.value.end (route_to_guest r.state.cid e.flow) what) (after_paying what e) r) c
     owed_by owed.Request owes c ready =
-        put_packet_keeps _ (after_paying owed.Request e) r
-        (record (with_connection e.slot (record e.value {
-          end = paid_of e.value.end owed.Request;
-          asked_at =
-              Some r.state.now;
-        }) spent) { last_put = Some e.slot })
-        (λ fits. owed_puts carry port r.state fits e there owed.Request owes
-        (record e.value { end = paid_of e.value.end owed.Request; asked_at = Some r.state.now }) refl refl refl)
-        (λ fits h log x. ends_streams h log port r.state.table lines x fits.sound e there
-        (record e.value { end = paid_of e.value.end owed.Request; asked_at = Some r.state.now }) refl refl refl refl
-        (pays_gives e.value.end owed.Request owes) (paid_asked e.value.end owed.Request))
-        refl ready.1 (λ R d holds. holds d (inl refl)) c ready
+        let v : DeviceConnection = record e.value { end = paid_of e.value.end owed.Request; asked_at = Some r.state.now } in
+        let t : DeviceState = record (with_connection e.slot v spent) { last_put = Some e.slot } in
+        put_packet_keeps _ (after_paying owed.Request e) r t (Streamed t.table)
+        (λ fits. owed_puts carry port r.state fits e there owed.Request owes v refl refl refl)
+        (empty_put _ r.state t (stays_by owed.Request v owes refl)) refl ready.1 (λ R d held holds. holds d held) c ready
     owed_by owed.Rst owes c ready =
         let gone : DeviceState = record spent { last_put = Some e.slot } in
-        put_packet_keeps _ (after_paying owed.Rst e) r
-        (after_leaving e.slot (with_connection e.slot (stream_closed e.value) gone))
+        let t : DeviceState = after_leaving e.slot (with_connection e.slot (stream_closed e.value) gone) in
+        let F : Fact = λ o log. IsTable r.state.table × Streamed r.state.table o log in
+        put_packet_keeps _ (after_paying owed.Rst e) r t F
         (λ fits. rst_puts carry port r.state fits e there owed.Rst owes refl (stream_closed e.value))
-        (λ fits h log x. leaves_streams h log port r.state.table lines x fits.sound e (stream_closed e.value) there)
+        (λ fits o log x. (fits.sound, empty_put _ r.state r.state (λ fits c log x. x) fits o log x))
         refl ready.1
-        (λ R d holds. closing_keeps carry lines first port R (λ t. Done (after_leaving e.slot t)) e stream_closed gone d
-        (λ x closes. holds x (inr (e.value, closes)))) c ready
+        (λ R d held holds. closing_keeps carry lines first port R (λ t. Done (after_leaving e.slot t)) e stream_closed gone d
+        (λ x closes. holds x (closed_held carry first port t e.value d x F (Streamed t.table)
+        (λ shut fits o log y. streams_go carry first lines lines port port r.state.table t.table log log (λ few. few)
+        (λ h few z. leaves_streams h log port r.state.table lines z y.0 e there shut (stream_closed e.value)) o y.1)
+        (λ still fits o n log exposes y. streams_call carry first lines lines port port r.state.table t.table log log (λ few. few)
+        (λ h. Unit {0}) (after_close e.value.stream) (λ h any few z. closes_streams h log port r.state.table lines z y.0 e there
+        (stream_closed e.value)) o n exposes y.1)
+        closes held))) c ready
     owed_by what owes c ready =
-        put_packet_keeps _ (after_paying what e) r
-        (record (with_connection e.slot (record e.value { end = paid_of e.value.end what }) spent) { last_put = Some e.slot })
-        (λ fits. owed_puts carry port r.state fits e there what owes
-        (record e.value { end = paid_of e.value.end what }) refl refl refl)
-        (λ fits h log x. ends_streams h log port r.state.table lines x fits.sound e there (record e.value { end = paid_of e.value.end what }) refl refl refl refl
-        (pays_gives e.value.end what owes) (paid_asked e.value.end what))
-        refl ready.1 (λ R d holds. holds d (inl refl)) c ready
+        let v : DeviceConnection = record e.value { end = paid_of e.value.end what } in
+        let t : DeviceState = record (with_connection e.slot v spent) { last_put = Some e.slot } in
+        put_packet_keeps _ (after_paying what e) r t (Streamed t.table)
+        (λ fits. owed_puts carry port r.state fits e there what owes v refl refl refl)
+        (empty_put _ r.state t (stays_by what v owes refl)) refl ready.1 (λ R d held holds. holds d held) c ready
 
   pub put_owed_keeps : (slot : ℕ) (r : Filling) (c : Situation) → Ready r c → Keeps (Goes Ready Over) (put_owed slot r) c
   put_owed_keeps slot r c ready = by (entry_under r.state.table slot) refl
@@ -295,12 +301,12 @@ module _ (carry : Carried) (lines : List Handshake) (first port : ℕ) where
         λ still. going,
       )
       answered_keeps read.Failed payload c d made holds =
-          let t : DeviceState = with_connection e.slot (cut_off e.value) (with_fault with_it) in
           closing_keeps carry lines first port Over (λ t. Done (record chained { state = t })) e cut_off (with_fault with_it) d (λ x closes. (
-            closed_with carry lines first port t.table t e.value d x closes
-                (called_with carry lines first port with_it t refl refl (λ fits. cuts carry port with_it fits e there old) true
+            cut_with carry lines first port e with_it (with_connection e.slot (cut_off e.value) (with_fault with_it)) there refl refl
+                (λ fits. cuts carry port with_it fits e there old) d x closes
+                (called_with carry lines first port with_it with_it refl refl (λ fits. same carry port with_it fits) true
                 (IsReadOf e.value.stream room (read.Failed, payload)) called
-                (λ fits h log is y. called_host h log port t.table lines (cuts_streams h log port r.state.table lines y fits.sound e there)) c d made.0 holds),
+                (λ fits h log is y. called_host h log port r.state.table lines y) c d made.0 holds),
             λ still. going,
           ))
 
@@ -324,7 +330,7 @@ module _ (carry : Carried) (lines : List Handshake) (first port : ℕ) where
     read_by true c ready = (
       changed carry lines first port r.state (with_connection e.slot (record e.value { end = wanting_credit e.value.end }) r.state) refl refl
           (λ fits. wants carry port r.state fits e there old) (λ fits h log x. ends_streams h log port r.state.table lines x fits.sound e there
-          (record e.value { end = wanting_credit e.value.end }) refl refl refl refl (λ on. on) (λ on. on)) c ready.0,
+          (record e.value { end = wanting_credit e.value.end }) refl refl refl refl refl (λ on. on) (λ on. on)) c ready.0,
       λ going. ready.1,
     )
     read_by false c ready =

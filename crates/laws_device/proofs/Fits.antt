@@ -1,6 +1,6 @@
 -- A connection's pending bytes are unread ones of its end, whatever the end does.
 use Rattle.std.proofs.{lemmas.Bool.Decides.nat_tests, lemmas.Grind.common_steps}
-use Rattle.std.proofs.Common.{◌≡◌, ℕ, ◌+◌, ◌-◌, ◌%◌, ◌^◌, ◌<◌, ◌≤◌, Bool, true, false, cond, Option, Some, refl, sym, subst, arith}
+use Rattle.std.proofs.Common.{◌≡◌, ℕ, ◌+◌, ◌-◌, ◌%◌, ◌^◌, ◌<◌, ◌≤◌, Bool, true, false, cond, Option, Some, None, refl, sym, subst, arith}
 use Rattle.vs_conn.specs.{declared.end.Owed.Owed, declared.end.Verdict.Verdict}
 use Rattle.vs_conn.proofs.Frames.{paid_credit}
 use Rattle.vs_conn.specs.End.{ConnectionEnd, after_message, after_op, end_after, paid_of, verdict_of, with_heard_packet, with_shut}
@@ -98,10 +98,13 @@ discards : (rx fwd n u : ℕ) → rx < 2 ^ 32 → fwd < 2 ^ 32 → u ≤ (rx + 2
 discards rx fwd n u r f un = omega (arith, r, f, un)
 
 fits_message : (o : Option Op) (e : ConnectionEnd) (h : Header) (u : ℕ) → HoldsBytes e.credit u → HoldsBytes (after_message o e h).credit u
-fits_message (Some op.Shutdown) e h u fits = heard_same e h u fits
-fits_message (Some op.CreditUpdate) e h u fits = heard_same e h u fits
-fits_message (Some op.CreditRequest) e h u fits = heard_same e h u fits
-fits_message _ e h u fits = fits
+fits_message (Some op.Invalid) e h u fits = fits
+fits_message (Some op.Request) e h u fits = fits
+fits_message (Some op.Response) e h u fits = fits
+fits_message (Some op.Rst) e h u fits = fits
+fits_message (Some op.Rw) e h u fits = fits
+fits_message None e h u fits = fits
+fits_message _ e h u fits = heard_same e h u fits
 
 -- A payload that is delivered fits its room.
 delivers_room : (e : ConnectionEnd) (h : Header) → verdict_of e h ≡ verdict.Deliver → h.len ≤ room_of e.credit

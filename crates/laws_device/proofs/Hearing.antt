@@ -1,7 +1,7 @@
 -- What the device keeps as it takes a packet, whose page stands in the log: each verdict, and each end of a REQUEST.
 use Rattle.std.proofs.{lemmas.Bool.Decides.nat_tests, lemmas.Grind.common_steps, Common.◌≡◌, Common.ℕ, Common.◌+◌, Common.◌≤◌, Common.◌==◌}
 use Rattle.std.proofs.Common.{◌&&◌, Bool, true, false, cond, List, [], ◌∷◌, ◌++◌, length, take, drop, Contains, Option, Some, None, refl}
-use Rattle.std.proofs.Common.{sym, ap, subst, ◌∙◌, arith, length-append, length-take, get_or}
+use Rattle.std.proofs.Common.{sym, ap, subst, ◌∙◌, arith, length-append, length-take, get_or, inl, inr}
 use Rattle.std.proofs.lemmas.List.{get_or_default}
 use Rattle.vs_contents.specs.CallTree.{Done, Ask, bind}
 use Rattle.vs_conn.specs.{declared.end.Verdict.Verdict, declared.end.Why.Why, End.ConnectionEnd, End.after_op, End.end_after, End.is_reset}
@@ -12,7 +12,7 @@ use Rattle.vs_flow.proofs.Entries.{same_flow_true}
 use Rattle.vs_header.specs.{Op.op_named, declared.Header.Header, declared.TheConstants.HEADER_LEN, declared.Kind.TheVariants.Stream}
 use Rattle.laws_history.specs.{Packets.is_request, declared.packet.Packet.Packet}
 use Rattle.vs_outside.specs.{declared.host_net.Dialed.Dialed, Host.HostContents, Host.IsDialed, Host.after_dial, Host.after_failed}
-use Rattle.vs_outside.specs.Host.{called}
+use Rattle.vs_outside.specs.Host.{after_close, called}
 use Rattle.vs_page.specs.{Fair.IsFairLog, Held.FitsWire, Held.IsWhole, Held.packet_held, Log.Device, Log.Log, Log.flow_to_host}
 use Rattle.vs_page.specs.{Open.is_dropped, declared.log.LogEntry.TheVariants.GotPacket}
 use Rattle.vs_replies.specs.Owed.{reply_to}
@@ -30,10 +30,11 @@ use Rattle.laws_device.proofs.{Fits.fits_after, Keeping.Keeps, Keeping.Lets, Kee
 use Rattle.laws_device.proofs.{Ringing.tells_weaker, Ringing.host_moves, Ringing.Telling, Ringing.bytes_held, Steps.closing_keeps}
 use Rattle.laws_device.proofs.Taking.{drops_it, has_its_room, ignores_it, leaves_with, opens, replies_to, stays_with}
 use Rattle.laws_device.proofs.{Tabling.IsFitConnection, Tabling.begun_fits, Tabling.entry_fits, Tabling.has_end, Carrying.Fact}
-use Rattle.laws_device.proofs.Carrying.{StreamedOver, closed_over, closed_tells, streams_call, streams_go}
+use Rattle.laws_device.proofs.Carrying.{Closes, StreamedOver, streams_call, streams_go}
 use Rattle.laws_device.specs.Honest.{HoldsBytes, ends_of_state}
-use Rattle.laws_device_bytes.proofs.Changing.{accepts_streams, called_host, delivered_rw, delivers_streams, dialed_id, empty_streams}
-use Rattle.laws_device_bytes.proofs.Changing.{failed_host, got_nothing, hears_streams, leaves_streams, passes_streams, payload_in}
+use Rattle.laws_device_bytes.proofs.Changing.{accepts_streams, called_host, closes_streams, delivered_rw, delivers_streams, dialed_id}
+use Rattle.laws_device_bytes.proofs.Changing.{empty_streams, failed_host, got_nothing, hears_streams, leaves_streams, passes_streams}
+use Rattle.laws_device_bytes.proofs.Changing.{payload_in}
 use Rattle.laws_device_bytes.proofs.{Changing.request_empty, Changing.reset_empty, Changing.unknown_streams, Streamed.join_of}
 use Rattle.laws_device_bytes.proofs.Opens.{dial_host}
 use Rattle.vs_proxy_parts.specs.State.{Handshake}
@@ -243,20 +244,26 @@ module _ (carry : Carried) (lines : List Handshake) (first port : ℕ) (s : Devi
             let x : DeviceEntry = record e { value = heard h e.value } in
             let gone : DeviceState = after_leaving e.slot (with_connection e.slot (stream_closed (heard h e.value)) s) in
             let next : DeviceState → DeviceTree DeviceState = λ t. Done (after_leaving e.slot t) in
+            let empty = reset_empty e.value.end.kind in
+            let leaving_now = λ (payload : List ℕ) (log : Log) (was : LeftBy carry first port s.cid s.overrun s.table s.replies log)
+            (fair : IsFairLog Device (GotPacket (packet payload) ∷ log)). leaves payload log was fair is reset in
+            let heard_streams = λ (payload : List ℕ) (log : Log) (was : LeftBy carry first port s.cid s.overrun s.table s.replies log)
+            (whole : IsWhole (packet payload)) (g : HostContents) (y : IsStreamed g log port s.table lines).
+            empty_streams g log port s.table lines y was.fits.sound (packet payload) whole (empty (packet payload)
+            (sym (rst_leaves e.value.end h) ∙ ap (λ (w : Verdict). peer_resets w h) is ∙ reset)) in
+            let by : (d : Situation) → Closes x.value c d → Heard (gone, verdict.Peer) d = λ d closes. elim closes as
+            (λ z. Heard (gone, verdict.Peer) d) [
+              | inl shut ↦
+                  subst (λ (z : Situation). Heard (gone, verdict.Peer) z) (sym shut.1) (quiet gone verdict.Peer c refl refl leaving_now
+                  (λ payload log was fair whole few g y. leaves_streams g (GotPacket (packet payload) ∷ log) port s.table lines
+                  (heard_streams payload log was whole g y) was.fits.sound e there shut.0 (stream_closed (heard h e.value))) tells)
+              | inr made ↦
+                  calls gone verdict.Peer c d false (λ g. Unit {0}) (after_close e.value.stream) refl refl leaving_now
+                  (λ payload log was fair whole few g any y. closes_streams g (GotPacket (packet payload) ∷ log) port s.table lines
+                  (heard_streams payload log was whole g y) was.fits.sound e there (stream_closed (heard h e.value))) made.1 tells
+            ] in
             keeps_bind Heard (leaving x s) (λ t. Done (t, verdict.Peer)) c
-            (closing_keeps carry lines first port (λ t d. Heard (t, verdict.Peer) d) next x stream_closed s c (λ d closes.
-            let all = quiet gone verdict.Peer c refl refl (λ payload log was fair. leaves payload log was fair is reset)
-            (λ payload log was fair whole few c y. leaves_streams c (GotPacket (packet payload) ∷ log) port s.table lines
-            (empty_streams c log port s.table lines y was.fits.sound (packet payload) whole (reset_empty e.value.end.kind (packet payload)
-            (sym (rst_leaves e.value.end h) ∙ ap (λ (w : Verdict). peer_resets w h) is ∙ reset))) was.fits.sound e (stream_closed (heard h e.value)) there) tells in (
-              refl,
-              refl,
-              closed_tells (After gone) x.value c d (λ hon o n l exposes was. (
-                was.0,
-                was.1,
-                λ honest. let p = was.2 honest in (p.0, closed_over carry first lines port gone.table l.entries x.value.stream o n exposes p.1),
-              )) closes all.2,
-            )))
+            (closing_keeps carry lines first port (λ t d. Heard (t, verdict.Peer) d) next x stream_closed s c by)
 
         refuses : (w : Why) → verdict_of e.value.end h ≡ verdict.Rst w → Keeps Heard
             (with_verdict (verdict.Rst w) (on_known (verdict.Rst w) chain h e s)) c
@@ -350,7 +357,8 @@ module _ (carry : Carried) (lines : List Handshake) (first port : ℕ) (s : Devi
           (λ payload log was fair whole few g is x.
           subst (λ (n : ℕ). IsStreamed (after_dial (flow_to_host h) (dialed.Stream n) g) (GotPacket (packet payload) ∷ log) port
           (with_dialed (flow_to_host h) h n s).table lines) (sym (dialed_id path stream g (sym is)))
-          (dial_host g log (GotPacket (packet payload) ∷ log) port s.table lines x (flow_to_host h) h outside (quiet_flow payload log was.seated fair few request)
+          (dial_host g log (GotPacket (packet payload) ∷ log) port s.table lines x was.fits.sound (flow_to_host h) h outside
+          (quiet_flow payload log was.seated fair few request)
           (got_passes Device (packet payload) log (flow_to_host h) refl) (λ f. sym (put_after_got Device (packet payload) log f))
           (got_nothing (packet payload) log (whole.none (request_empty (packet payload) request))) (passed_after_got Device (packet payload) log))) made tells
       dial_by path dialed.Refused d made outside plain request kind place = dials path dialed.Refused d called (with_reply (reply_to (flow_to_host h) h) s) false

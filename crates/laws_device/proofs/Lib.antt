@@ -18,3 +18,4 @@ pub mod Transmitting
 pub mod Turning
 pub mod Stepping
 pub mod Packets
+pub mod Waiting

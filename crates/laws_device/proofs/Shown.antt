@@ -19,7 +19,7 @@ use Rattle.vs_device_parts.specs.{State.DeviceEntry, State.DeviceState, Turns.ta
 use Rattle.laws_device.specs.Honest.{Advertises, AgreesWith, IsClients, IsLeftOpen, ends_of_state, flows_shown}
 use Rattle.laws_device.proofs.Tabling.{entry_fits, has_end}
 
-same_flows : (es : List DeviceEntry)
+pub same_flows : (es : List DeviceEntry)
     → flows_shown (map (λ e. (e.flow, e.value.end.state)) es) ≡ flows_of
     (map (λ e. let x : FlowEnd = record { flow = e.flow; end = e.value.end } in x) es)
 same_flows [] = refl

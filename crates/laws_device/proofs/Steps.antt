@@ -1,21 +1,24 @@
 -- Steps of the device between its calls on the ring, and the chain that it takes for a packet.
-use Rattle.std.proofs.Common.{◌≡◌, ℕ, Bool, true, false, not, cond, List, [], Option, Some, None, refl, sym, subst, ◌∙◌, IfSome, inl, inr}
+use Rattle.std.proofs.Common.{◌≡◌, ℕ, Bool, true, false, not, cond, List, [], Contains, Option, Some, None, refl, sym, subst, ◌∙◌, IfSome}
+use Rattle.std.proofs.Common.{inl, inr}
 use Rattle.vs_contents.specs.CallTree.{Done, Ask, bind}
 use Rattle.vs_ring_port.specs.{Contents.Take, DeviceCalls.IsTakenAs, EndLog.EndLog, EndLog.log_taken, declared.device_ring.Chain.Chain}
 use Rattle.vs_ring_port.specs.{declared.device_ring.Next.Next, declared.queue.Queue.TheVariants.Rx}
 use Rattle.vs_device_parts.specs.Calls.{CloseStream, DeviceTree, HostMoves, Ring, Situation}
-use Rattle.vs_device_parts.specs.{Connections.with_connection, Playing.IsRxChain, State.DeviceConnection, State.DeviceEntry}
+use Rattle.vs_device_parts.specs.{Connections.cut_off, Connections.with_connection, Playing.IsRxChain, State.DeviceConnection}
+use Rattle.vs_device_parts.specs.State.{DeviceEntry}
 use Rattle.vs_device_parts.specs.{State.DeviceState, Streams.closing, Transmitting.failing, Receiving.Filling, Receiving.hold}
 use Rattle.vs_device_parts.specs.Receiving.{holding}
 use Rattle.laws_device.specs.Honest.{IsFitState}
 use Rattle.laws_device.proofs.{Chains.Among, Chains.is_unwritten, Chains.taken_holds, Seats.Carried, Changing.Changes, Keeping.Goes}
 use Rattle.laws_device.proofs.{Keeping.Keeps, Keeping.Lets, Ringing.moves, Ringing.host_moves, Ringing.tells_weaker, Carrying.Closes}
-use Rattle.laws_device.proofs.Carrying.{Fact, IsToldBy, StreamedOver, With, streams_call, streams_go}
+use Rattle.laws_device.proofs.Carrying.{Fact, IsHeldBy, IsToldBy, StreamedOver, With, closed_with, streams_call, streams_go}
+use Rattle.laws_device_bytes.proofs.{Changing.cuts_streams, HostCalls.cut_host}
 use Rattle.vs_proxy_parts.specs.State.{Handshake}
 use Rattle.vs_outside.specs.Host.{HostContents}
 use Rattle.laws_device_bytes.specs.Streamed.{IsStreamed}
 use Rattle.vs_page.specs.Log.{Log}
-use Rattle.vs_flow.specs.Table.{Table}
+use Rattle.vs_flow.specs.Table.{Table, with_value}
 use Rattle.vs_ring_port.specs.declared.device_ring.Next.TheVariants as next
 
 module _ (carry : Carried) (lines : List Handshake) (first port : ℕ) where
@@ -65,12 +68,32 @@ module _ (carry : Carried) (lines : List Handshake) (first port : ℕ) where
   pub closing_keeps : {A : Type 0} (Q : A → Situation → Type 0) (next : DeviceState → DeviceTree A) (e : DeviceEntry)
       (f : DeviceConnection → DeviceConnection) (s : DeviceState) (c : Situation)
       → ((d : Situation) → Closes e.value c d → Keeps Q (next (with_connection e.slot (f e.value) s)) d) → Keeps Q (bind (closing e f s) next) c
-  closing_keeps Q next e f s c keeps = by e.value.closed
+  closing_keeps Q next e f s c keeps = by e.value.closed refl
     where
-      by : (b : Bool) → Keeps Q (bind (cond b (Done (with_connection e.slot (f e.value) s))
+      by : (b : Bool) → e.value.closed ≡ b → Keeps Q (bind (cond b (Done (with_connection e.slot (f e.value) s))
           (Ask (CloseStream e.value.stream) (λ _. Done (with_connection e.slot (f e.value) s)))) next) c
-      by true = keeps c (inl refl)
-      by false = (tt, λ a d made. keeps d (inr made))
+      by true is = keeps c (inl (is, refl))
+      by false is = (tt, λ a d made. keeps d (inr (is, made)))
+
+  -- The seat alone changes.
+  pub seat_changed : (s t : DeviceState) (F : Fact) → t.chain ≡ s.chain → t.failed ≡ s.failed → (IsFitState s → Changes carry port s t)
+      → (c : Situation)
+      → IsHeldBy carry F first port s c → IsHeldBy carry F first port t c
+  seat_changed s t F chain failed step c holds = (
+    subst (λ (o : Option Chain). IfSome o IsRxChain) (sym chain) holds.0,
+    tells_weaker (IsToldBy carry F first port s) (IsToldBy carry F first port t) (λ hon o l was.
+        told_changed s t F F hon o o l chain failed step (λ fits x. x) was) c holds.1,
+  )
+
+  -- A connection is over, and its stream closes.
+  pub cut_with : (e : DeviceEntry) (s t : DeviceState) → Contains s.table.entries e → t.chain ≡ s.chain → t.failed ≡ s.failed
+      → (IsFitState s → Changes carry port s t) → (c d : Situation) → Closes e.value c d → With carry lines first port s c
+      → IsHeldBy carry (Streamed (with_value s.table e.slot (cut_off e.value))) first port t d
+  cut_with e s t there chain failed step c d closes holds =
+      let u : Table DeviceConnection = with_value s.table e.slot (cut_off e.value) in
+      seat_changed s t (Streamed u) chain failed step d (closed_with carry first port s e.value c d lines s.table u
+      (λ shut fits h log x. cuts_streams h log port s.table lines x fits.sound e there shut)
+      (λ fits h log x. cut_host h log port s.table lines x fits.sound e there) closes holds)
 
   -- A stage that goes on, and one that may be over.
   abbrev pub Open : Filling → Situation → Type 0

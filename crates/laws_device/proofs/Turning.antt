@@ -10,7 +10,7 @@ use Rattle.vs_flow.specs.{declared.flow.Flow.Flow, declared.table.TableFault.Tab
 use Rattle.vs_flow.proofs.Tables.{accepted}
 use Rattle.vs_limits.specs.declared.TheConstants.{BUF_ALLOC}
 use Rattle.vs_outside.specs.{declared.host_net.StreamWrite.StreamWrite, Host.HostContents, Host.IsWritten, Host.after_failed}
-use Rattle.vs_outside.specs.Host.{after_label, after_shut_write, after_write, called}
+use Rattle.vs_outside.specs.Host.{after_close, after_label, after_shut_write, after_write, called}
 use Rattle.vs_page.specs.{Log.Device, Log.Log, declared.log.LogEntry.TheVariants.Mark, declared.log.LogEntry.TheVariants.PutEvent}
 use Rattle.vs_page.specs.Held.{event_held}
 use Rattle.vs_ring_port.specs.{Chains.Held, Chains.bytes_in, Contents.RingContents, Contents.PublishCid, Contents.Return, Contents.Take}
@@ -33,13 +33,18 @@ use Rattle.laws_device.specs.Honest.{IsFitFlow, IsFitState, IsFresh, IsLeft, IsW
 use Rattle.laws_device.proofs.{Chains.Among, Chains.first_written, Chains.held_there, Chains.is_unwritten, Chains.taken_holds, Keeping.Lets}
 use Rattle.laws_device.proofs.{Seats.Carried, Seats.LeftBy, Seats.at_log, Seats.seat, Carrying.ring_only, Writing.write_keeps}
 use Rattle.laws_device.proofs.{Changing.cuts, Changing.shuts, Changing.unseen, Changing.writes, Changing.same, Filling.under_there}
-use Rattle.laws_device.proofs.{Keeping.Keeps, Keeping.keeps_each, Keeping.keeps_then, Steps.changed, Steps.closing_keeps, Steps.called_with}
-use Rattle.laws_device.proofs.{Steps.told_changed, Tabling.IsFitConnection, Tabling.entry_fits, Tabling.opening_fits, Writing.Writes}
+use Rattle.laws_device.proofs.{Keeping.Keeps, Keeping.keeps_each, Keeping.keeps_then, Steps.closing_keeps, Steps.called_with}
+use Rattle.laws_device.proofs.{Steps.cut_with, Steps.seat_changed, Tabling.IsFitConnection, Tabling.entry_fits, Tabling.opening_fits}
+use Rattle.laws_device.proofs.Writing.{Writes}
 use Rattle.laws_device.proofs.{Ringing.Tells, Ringing.moves, Ringing.tells_weaker, Ringing.host_moves, Carrying.Fact, Carrying.IsHeldBy}
-use Rattle.laws_device.proofs.Carrying.{IsToldBy, StreamedOver, With, closed_with, streams_go, plain_with}
+use Rattle.laws_device.proofs.Carrying.{IsToldBy, StreamedOver, With, closed_held, streams_go, plain_with}
 use Rattle.vs_header.specs.declared.Kind.TheVariants.{Stream}
-use Rattle.laws_device_bytes.proofs.Changing.{called_host, cuts_streams, emptied_streams, ends_streams, event_streams, failed_host}
-use Rattle.laws_device_bytes.proofs.Changing.{mark_streams, shut_write_host, shuts_streams, writes_streams}
+use Rattle.laws_device_bytes.proofs.Changing.{called_host, ends_streams, event_streams, failed_host, mark_streams, shut_write_host}
+use Rattle.laws_device_bytes.proofs.Changing.{shuts_streams, writes_streams}
+use Rattle.laws_device_bytes.proofs.Closing.{IsClosing, closing_done as all_closed, closing_from, closing_now, closing_passes, closing_was}
+use Rattle.laws_device_bytes.specs.Streamed.{IsStreamed}
+use Rattle.laws_device_streams.proofs.Tables.{some_after, some_from}
+use Rattle.std.specs.Option.{ForSome}
 use Rattle.vs_proxy_parts.specs.State.{Handshake}
 use Rattle.vs_outside.specs.declared.host_net.StreamWrite.TheVariants as write
 use Rattle.vs_ring_port.specs.declared.device_ring.Next.TheVariants as next
@@ -242,9 +247,8 @@ module _ (carry : Carried) (lines : List Handshake) (first port : ℕ) where
       late e there false is = holds
       late e there true is = subst (λ (t : DeviceTree DeviceState). Keeps Now t c) (closing_done e cut_off s)
           (closing_keeps carry lines first port Now (λ t. Done t) e cut_off s c (λ d closes.
-          let t : DeviceState = with_connection e.slot (cut_off e.value) s in
-          closed_with carry lines first port t.table t e.value c d closes (changed carry lines first port s t refl refl
-          (λ fits. cuts carry port s fits e there (late_old e s fits there is)) (λ fits h log x. cuts_streams h log port s.table lines x fits.sound e there) c holds)))
+          cut_with carry lines first port e s (with_connection e.slot (cut_off e.value) s) there refl refl
+          (λ fits. cuts carry port s fits e there (late_old e s fits there is)) c d closes holds))
 
       by : (o : Option DeviceEntry) → entry_under s.table slot ≡ o
           → Keeps Now (elim o [ None ↦ Done s | Some e ↦ if is_timed_out s.now e.value then closing e cut_off s else Done s ]) c
@@ -281,12 +285,12 @@ module _ (carry : Carried) (lines : List Handshake) (first port : ℕ) where
         (IsWritten e.value.stream (length (to_write e.value)) write.Closed) called (λ fits h log is x. called_host h log port t.table lines
         (shuts_streams h log port w.state.table lines x fits.sound e 1 w.state.now there)) c d made.0 holds
     answered_keeps write.Failed c d made holds =
-        let t : DeviceState = with_connection e.slot (cut_off e.value) (with_fault w.state) in
         closing_keeps carry lines first port WritingWith (λ s. Done (record w { state = s })) e cut_off (with_fault w.state) d (λ x closes.
-        closed_with carry lines first port t.table t e.value d x closes
-        (called_with carry lines first port w.state t refl refl (λ fits. cuts carry port w.state fits e there (begun fits)) true
+        cut_with carry lines first port e w.state (with_connection e.slot (cut_off e.value) (with_fault w.state)) there refl refl
+        (λ fits. cuts carry port w.state fits e there (begun fits)) d x closes
+        (called_with carry lines first port w.state w.state refl refl (λ fits. same carry port w.state fits) true
         (IsWritten e.value.stream (length (to_write e.value)) write.Failed) after_failed
-        (λ fits h log is y. failed_host h log port t.table lines (cuts_streams h log port w.state.table lines y fits.sound e there)) c d made.0 holds))
+        (λ fits h log is y. failed_host h log port w.state.table lines y) c d made.0 holds))
 
   pub write_keeps_all : (e : DeviceEntry) (w : Writing) → Contains w.state.table.entries e → (c : Situation) → WritingWith w c
       → Keeps WritingWith (write_pending e w) c
@@ -309,7 +313,8 @@ module _ (carry : Carried) (lines : List Handshake) (first port : ℕ) where
           (called_with carry lines first port w.state (with_connection e.slot v w.state) refl refl
           (λ fits. unseen carry port w.state fits e there v refl (shut_fits e w.state fits there)) false (λ h. Unit {0}) (after_shut_write e.value.stream)
           (λ fits h log any x. shut_write_host e.value.stream h log port (with_value w.state.table e.slot v) lines
-          (ends_streams h log port w.state.table lines x fits.sound e there v refl refl refl refl (λ on. on) (λ on. on))) c d made holds)
+          (ends_streams h log port w.state.table lines x fits.sound e there v refl refl refl refl refl (λ on. on) (λ on. on))) c d made
+          holds)
 
       done : (e : DeviceEntry) → Contains w.state.table.entries e → (e.slot == slot) ≡ true → (b : Bool)
           → Keeps WritingWith (cond b (Ask (ShutWrite e.value.stream) (λ _.
@@ -348,32 +353,58 @@ module _ (carry : Carried) (lines : List Handshake) (first port : ℕ) where
   pub pump_keeps : (s : DeviceState) (c : Situation) → Now s c → Keeps WritingWith (pump_of s) c
   pump_keeps s c holds = keeps_each WritingWith pump_slot pump_slot_keeps (slots s.table) (record { state = s; wrote = 0 }) c holds
 
-  -- A reset. Of the streams is said what is left of them with no connection.
-  abbrev pub Emptied : DeviceState → Situation → Type 0
-  Emptied s c = IsHeldBy carry (Streamed (emptied s.table)) first port s c
+  -- A reset. Of the streams is said what is left of them once those of the connections under these slots are closed.
+  abbrev Closing : List ℕ → Table DeviceConnection → Fact
+  Closing rest t host log = carry.ok → carry.plain first log → ForSome host (λ h. IsClosing rest t h log port lines)
 
-  close_keeps : (slot : ℕ) (s : DeviceState) (c : Situation) → Emptied s c → Keeps Emptied (close_slot slot s) c
-  close_keeps slot s c holds = by (entry_under s.table slot) refl
+  abbrev ClosingWith : List ℕ → DeviceState → Situation → Type 0
+  ClosingWith rest s c = IsHeldBy carry (Closing rest s.table) first port s c
+
+  close_keeps : (slot : ℕ) (rest : List ℕ) (s : DeviceState) (c : Situation) → ClosingWith (slot ∷ rest) s c
+      → Keeps (ClosingWith rest) (close_slot slot s) c
+  close_keeps slot rest s c holds = by (entry_under s.table slot) refl
     where
-      by : (o : Option DeviceEntry) → entry_under s.table slot ≡ o → Keeps Emptied
+      by : (o : Option DeviceEntry) → entry_under s.table slot ≡ o → Keeps (ClosingWith rest)
           (elim o [ None ↦ Done s | Some e ↦ closing e stream_closed s ]) c
-      by None under = holds
+      by None under = (
+        holds.0,
+        tells_weaker (IsToldBy carry (Closing (slot ∷ rest) s.table) first port s) (IsToldBy carry (Closing rest s.table) first port s)
+            (λ hon o l was. (
+              was.0,
+              λ honest. let p = was.1 honest in (
+                p.0,
+                λ ok few. some_from o (λ h. IsClosing (slot ∷ rest) s.table h l.entries port lines)
+                    (λ h. IsClosing rest s.table h l.entries port lines)
+                    (λ h x. closing_passes h l.entries port s.table lines slot rest x under) (p.1 ok few),
+              ),
+            )) c holds.1,
+      )
       by (Some e) under =
           let there = under_there s slot e under in
           let t : DeviceState = with_connection e.slot (stream_closed e.value) s in
-          subst (λ (t : DeviceTree DeviceState). Keeps Emptied t c) (closing_done e stream_closed s)
-          (closing_keeps carry lines first port Emptied (λ t. Done t) e stream_closed s c (λ d closes.
-          closed_with carry lines first port (emptied t.table) t e.value c d closes (
-            holds.0,
-            tells_weaker (IsToldBy carry (Streamed (emptied s.table)) first port s) (IsToldBy carry (Streamed (emptied t.table)) first port t) (λ hon o l was.
-                told_changed carry lines first port s t (Streamed (emptied s.table)) (Streamed (emptied t.table)) hon o o l refl refl
-                (λ fits. unseen carry port s fits e there (stream_closed e.value) refl (closed_fits e s fits there)) (λ fits x.
-                streams_go carry first lines lines port port (emptied s.table) (emptied t.table) l.entries l.entries (λ few. few) (λ h few y.
-                emptied_streams h l.entries port (emptied s.table) (emptied t.table) lines refl y) o x) was) c holds.1,
-          )))
+          let G : Fact = Closing rest t.table in
+          subst (λ (t : DeviceTree DeviceState). Keeps (ClosingWith rest) t c) (closing_done e stream_closed s)
+          (closing_keeps carry lines first port (ClosingWith rest) (λ t. Done t) e stream_closed s c (λ d closes.
+          seat_changed carry lines first port s t G refl refl
+          (λ fits. unseen carry port s fits e there (stream_closed e.value) refl (closed_fits e s fits there)) d
+          (closed_held carry first port s e.value c d (Closing (slot ∷ rest) s.table) G
+          (λ shut fits o log x ok few. some_from o (λ h. IsClosing (slot ∷ rest) s.table h log port lines)
+          (λ h. IsClosing rest t.table h log port lines)
+          (λ h y. closing_was h log port s.table lines slot rest y e under shut) (x ok few))
+          (λ still fits o n log exposes x ok few. some_after o n (λ h. Unit {0}) (after_close e.value.stream)
+          (λ h. IsClosing (slot ∷ rest) s.table h log port lines) (λ h. IsClosing rest t.table h log port lines) exposes
+          (λ h any y. closing_now h log port s.table lines slot rest y e under still) (x ok few)) closes holds)))
+
+  close_all : (rest : List ℕ) (s : DeviceState) (c : Situation) → ClosingWith rest s c
+      → Keeps (ClosingWith []) (for_each close_slot rest s) c
+  close_all [] s c holds = holds
+  close_all (slot ∷ rest) s c holds =
+      keeps_then (ClosingWith rest) (ClosingWith []) (close_slot slot s) (for_each close_slot rest) c (close_keeps slot rest s c holds)
+      (close_all rest)
 
   module _ (cid : ℕ) (cid_fits : cid < 2 ^ 64) where
-    emptied_with : (t : DeviceState) (hon : Bool) (o : Option HostContents) (l : EndLog) → IsToldBy carry (Streamed (emptied t.table)) first port t hon o l
+    emptied_with : (t : DeviceState) (hon : Bool) (o : Option HostContents) (l : EndLog)
+        → IsToldBy carry (Closing [] t.table) first port t hon o l
         → IsToldBy carry (Streamed (emptied t.table)) first port (after_reset cid t) hon o (log_reset cid l)
     emptied_with t hon o l was = (
       was.0,
@@ -391,20 +422,23 @@ module _ (carry : Carried) (lines : List Handshake) (first port : ℕ) where
           seated = carry.step (MakesReset cid) (seat port t l.entries) refl (λ all. all) p.seated;
         },
         streams_go carry first lines lines port port (emptied t.table) (emptied t.table) l.entries (Mark cid ∷ l.entries) (carry.before first (Mark cid) l.entries)
-            (λ h few x. mark_streams h l.entries cid port (emptied t.table) lines x) o (was.1 honest).1,
+            (λ h few x. mark_streams h l.entries cid port (emptied t.table) lines x) o
+            (λ ok few. some_from o (λ h. IsClosing [] t.table h l.entries port lines)
+            (λ h. IsStreamed h l.entries port (emptied t.table) lines)
+            (λ h x. all_closed h l.entries port t.table lines x) ((was.1 honest).1 ok few)),
       ),
     )
 
     abbrev ResetEnds : DeviceState × Result (Unit {0}) Failure → Situation → Type 0
     ResetEnds x c = Now x.0 c
 
-    publishes : (t : DeviceState) (c : Situation) → Emptied t c → Keeps ResetEnds
+    publishes : (t : DeviceState) (c : Situation) → ClosingWith [] t c → Keeps ResetEnds
         (Ask (Ring (PublishCid cid)) (λ _. Done (after_reset cid t, Ok tt))) c
     publishes t c holds = (
       cid_fits,
       λ a d made. (
         holds.0,
-        moves _ _ _ _ _ (log_reset cid) c d made.0 made.1 (IsToldBy carry (Streamed (emptied t.table)) first port t)
+        moves _ _ _ _ _ (log_reset cid) c d made.0 made.1 (IsToldBy carry (Closing [] t.table) first port t)
             (IsToldBy carry (Streamed (emptied t.table)) first port (after_reset cid t)) (λ hon o l asked was fair. emptied_with t hon o l was) holds.1,
       ),
     )
@@ -412,17 +446,19 @@ module _ (carry : Carried) (lines : List Handshake) (first port : ℕ) where
     pub reset_keeps : (s : DeviceState) (c : Situation) → Now s c → Keeps ResetEnds (reset_of cid s) c
     reset_keeps s c holds = by s.failed
       where
-        first_emptied : Emptied s c
-        first_emptied = (
+        first_closing : ClosingWith (slots s.table) s c
+        first_closing = (
           holds.0,
-          tells_weaker (IsToldBy carry (Streamed s.table) first port s) (IsToldBy carry (Streamed (emptied s.table)) first port s) (λ hon o l was. (
-            was.0,
-            λ honest. let p = was.1 honest in (
-              p.0,
-              streams_go carry first lines lines port port s.table (emptied s.table) l.entries l.entries (λ few. few) (λ h few x.
-                  emptied_streams h l.entries port s.table (emptied s.table) lines refl x) o p.1,
-            ),
-          )) c holds.1,
+          tells_weaker (IsToldBy carry (Streamed s.table) first port s) (IsToldBy carry (Closing (slots s.table) s.table) first port s)
+              (λ hon o l was. (
+                was.0,
+                λ honest. let p = was.1 honest in (
+                  p.0,
+                  λ ok few. some_from o (λ h. IsStreamed h l.entries port s.table lines)
+                      (λ h. IsClosing (slots s.table) s.table h l.entries port lines)
+                      (λ h x. closing_from h l.entries port s.table lines x) (p.1 ok few),
+                ),
+              )) c holds.1,
         )
 
         by : (o : Option Failure) → Keeps ResetEnds (elim o [
@@ -431,9 +467,9 @@ module _ (carry : Carried) (lines : List Handshake) (first port : ℕ) where
         ]) c
         by (Some f) = holds
         by None =
-            keeps_then Emptied ResetEnds (for_each close_slot (slots s.table) s)
+            keeps_then (ClosingWith []) ResetEnds (for_each close_slot (slots s.table) s)
             (λ t. Ask (Ring (PublishCid cid)) (λ _. Done (after_reset cid t, Ok tt))) c
-            (keeps_each Emptied close_slot close_keeps (slots s.table) s c first_emptied) publishes
+            (close_all (slots s.table) s c first_closing) publishes
 
   -- A client's connection.
   module _ (flow : Flow) (stream : ℕ) (s : DeviceState) (next : IsNextFlow Device flow (ends_of_state port s))
@@ -448,7 +484,7 @@ module _ (carry : Carried) (lines : List Handshake) (first port : ℕ) where
 
     -- What is known before, and what the label leaves of it.
     module _ (F : Fact)
-        (labels : (o n : Option HostContents) (log : Log) → Exposes o n (λ h. Unit {0}) (after_label stream flow) → F o log
+        (labels : IsFitState s → (o n : Option HostContents) (log : Log) → Exposes o n (λ h. Unit {0}) (after_label stream flow) → F o log
         → StreamedOver carry lines first (flow.host + 1) (with_client flow stream s).table n log) where
       opened_with : refusal s.table flow ≡ None → (hon : Bool) (o n : Option HostContents) (l : EndLog) → Exposes o n (λ h. Unit {0}) (after_label stream flow)
           → IsToldBy carry F first port s hon o l
@@ -474,7 +510,7 @@ module _ (carry : Carried) (lines : List Handshake) (first port : ℕ) where
                 seated = subst (λ (w : Seat). carry.holds w) (at_log l.entries _ _ part_is)
                     (carry.step (Asks flow Stream) (seat port s l.entries) (next, later next.port) (λ all. all) p.seated);
               },
-              labels o n l.entries exposes (was.1 honest).1,
+              labels p.fits o n l.entries exposes (was.1 honest).1,
             ),
       )
 
@@ -502,7 +538,8 @@ module _ (carry : Carried) (lines : List Handshake) (first port : ℕ) where
 pub opens_plain : (first port : ℕ) (flow : Flow) (stream : ℕ) (s : DeviceState) → IsNextFlow Device flow (ends_of_state port s) → IsFitFlow flow
     → (c : Situation) → IsWith first port s c.ring → Keeps (λ x d. With ring_only [] first (port_after flow port x.1) x.0 d) (open_of flow stream s) c
 opens_plain first port flow stream s next ports c holds =
-    open_keeps ring_only [] first port flow stream s next ports (StreamedOver ring_only [] first port s.table) (λ o n log made x no. absurd no)
+    open_keeps ring_only [] first port flow stream s next ports (StreamedOver ring_only [] first port s.table)
+    (λ fits o n log made x no. absurd no)
     (λ x d. With ring_only [] first (port_after flow port x.1) x.0 d) (λ fault d is kept. kept) (λ d kept. kept) c (plain_with first port s c holds)
 
 -- A new device.

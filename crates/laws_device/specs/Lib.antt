@@ -1,3 +1,4 @@
 pub mod Honest
 pub mod Packets
 pub mod Streams
+pub mod Worked

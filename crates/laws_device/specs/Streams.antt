@@ -1,10 +1,15 @@
 -- The host's streams, where an honest ring tells the log.
-use Rattle.std.specs.{Prelude.◌≡◌, Prelude.ℕ, Prelude.◌≤◌, Prelude.true, Prelude.List, Prelude.[], Prelude.◌∷◌, Option.ForSome}
-use Rattle.vs_flow.specs.{Table.Table, declared.flow.Flow.Flow}
-use Rattle.vs_page.specs.{Fair.number_of, Log.Device, Log.Log, Log.flow_got, Open.cid_of, Open.is_dropped, Open.is_left_open}
+use Rattle.std.specs.{List.list_any, Option.ForSome, Option.option_map_or}
+use Rattle.std.specs.Prelude.{◌≡◌, ℕ, ◌≤◌, ◌==◌, ◌&&◌, ◌||◌, Bool, true, false, List, [], ◌∷◌}
+use Rattle.vs_flow.specs.{Flow.same_flow, Table.Table, declared.flow.Flow.Flow}
+use Rattle.vs_outside.specs.{Host.HostContents, Host.Stream, declared.host_net.StreamState.StreamState}
+use Rattle.vs_outside.specs.declared.host_net.StreamState.TheVariants.{Open}
+use Rattle.vs_page.specs.{Fair.number_of, Log.Device, Log.Log, Log.flow_got, Open.cid_of, Open.is_dropped, Open.is_left_open, Open.is_open}
 use Rattle.vs_page.specs.declared.log.LogEntry.TheVariants.{GotPacket}
 use Rattle.vs_proxy_parts.specs.State.{Handshake}
-use Rattle.vs_device_parts.specs.{Calls.Situation, State.DeviceConnection}
+use Rattle.vs_device_parts.specs.{Calls.Situation, State.DeviceConnection, State.DeviceState, Turns.table_shown}
+use Rattle.laws_tables.specs.Ends.{is_among, replied}
+use Rattle.laws_device.specs.Honest.{flows_shown}
 use Rattle.laws_device_bytes.specs.Streamed.{IsStreamed}
 
 -- No packet with payload of an open connection was dropped.
@@ -24,3 +29,27 @@ pub record IsPlain (first : ℕ) (log : Log) : Type 0 where
 abbrev pub AreStreamedWith : ℕ → ℕ → List Handshake → Table DeviceConnection → Situation → Type 0
 AreStreamedWith first port lines table a =
     a.ring.honest ≡ true → ForSome a.ring.log (λ l. IsPlain first l.entries → ForSome a.host (λ h. IsStreamed h l.entries port table lines))
+
+-- A stream of the host has this flow as its label, and the proxy hasn't closed it.
+abbrev pub is_open_in : StreamState → Bool
+is_open_in Open = true
+is_open_in _ = false
+
+abbrev pub is_open_on : Flow → Stream → Bool
+is_open_on f s = is_open_in s.state && option_map_or (same_flow f) s.label false
+
+abbrev pub has_open_stream : Flow → HostContents → Bool
+has_open_stream f c = list_any (is_open_on f) c.streams
+
+-- A client's connection whose REQUEST isn't put: it has its stream, and the log began no connection on its flow.
+abbrev pub is_waiting_for_request : Flow → HostContents → Log → Bool
+is_waiting_for_request f c log = has_open_stream f c && (number_of Device f log == 0)
+
+-- The device's table has the flows that the log left open, and those of the host's open streams.
+abbrev pub IsTabledBy : ℕ → DeviceState → HostContents → Log → Type 0
+IsTabledBy first s c log = (f : Flow) → is_among f (flows_shown (table_shown s))
+    ≡ (is_open Device first f log (is_among f (replied s.replies)) || has_open_stream f c)
+
+abbrev pub IsTabledWith : ℕ → DeviceState → Situation → Type 0
+IsTabledWith first s a =
+    a.ring.honest ≡ true → ForSome a.ring.log (λ l. IsPlain first l.entries → ForSome a.host (λ h. IsTabledBy first s h l.entries))

@@ -1,6 +1,6 @@
 //! Laws of the device over a ring that tells its log.
 
-ghost use Rattle.std.specs.Prelude.{◌≡◌, ◌<◌, ◌≤◌, ◌^◌, ℕ, Bool, true, List, [], Some, Result, Contains, length, take, drop};
+ghost use Rattle.std.specs.Prelude.{◌≡◌, ◌<◌, ◌≤◌, ◌^◌, ℕ, Bool, true, false, List, [], Some, Result, Contains, length, take, drop};
 ghost use Rattle.std.specs.{List.All, Option.ForSome};
 ghost use Rattle.vs_contents.specs.Contents.{Relates};
 ghost use Rattle.vs_flow.specs.declared.{flow.Flow.Flow, table.TableFault.TableFault};
@@ -22,7 +22,9 @@ ghost use Rattle.vs_device_parts.specs.declared.answers.Taken.{Taken};
 ghost use Rattle.laws_device_streams.specs.Streams.{FindsStreams};
 ghost use Rattle.laws_device.specs.Honest.{Advertises, AgreesWith, IsClients, IsFitFlow, IsFresh, IsLeftOpen, IsWith, ends_of_state};
 ghost use Rattle.laws_device.specs.{Honest.port_after, Packets.HasAdded, Packets.HasTaken, Packets.HoldsLast, Packets.IsWholeAs};
-ghost use Rattle.laws_device.specs.{Packets.packet_with, Streams.AreStreamedWith};
+ghost use Rattle.laws_device.specs.{Packets.packet_with, Streams.AreStreamedWith, Streams.IsTabledWith};
+ghost use Rattle.laws_device.specs.{Streams.is_waiting_for_request, Worked.asked_log, Worked.client_flow, Worked.client_host};
+ghost use Rattle.vs_outside.specs.declared.host_net.StreamState.TheVariants as stream;
 ghost use Rattle.vs_proxy_parts.specs.State.{Handshake};
 
 /// Over a ring that tells its log the device holds the one chain that it keeps for the next packet, and after each call it does again.
@@ -82,6 +84,23 @@ pub fn law_of_streamed()
         → AreStreamedWith first port lines s.table a → Runs (tick_of now s) a t b → AreStreamedWith first port lines t.table b }
     ensures pump_out { (first port : ℕ) (lines : List Handshake) (s : DeviceState) (a b : Situation) (w : Writing) → IsWith first port s a.ring
         → AreStreamedWith first port lines s.table a → Runs (pump_of s) a w b → AreStreamedWith first port lines w.state.table b }
+{}
+
+/// Over such a ring and such a host the device's table has exactly the flows that the log left open and those of the host's open streams:
+/// those
+/// that have a flow as their label, until the device closes them.
+pub fn law_of_open_streams()
+    ensures table { (first port : ℕ) (lines : List Handshake) (s : DeviceState) (a : Situation) → IsWith first port s a.ring
+        → AreStreamedWith first port lines s.table a → IsTabledWith first s a }
+{}
+
+/// A client's connection waits for its REQUEST to be put: it does while its stream is open and no REQUEST was put, and not once one was, or
+/// the
+/// proxy closed the stream.
+pub fn worked_waiting()
+    ensures waits { is_waiting_for_request client_flow (client_host stream.Open) [] ≡ true }
+    ensures asked { is_waiting_for_request client_flow (client_host stream.Open) asked_log ≡ false }
+    ensures closed { is_waiting_for_request client_flow (client_host stream.Closed) [] ≡ false }
 {}
 
 /// The device's table has exactly the flows that the log left open, and those whose REQUEST isn't put, which come from clients of the

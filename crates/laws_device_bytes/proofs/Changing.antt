@@ -11,22 +11,23 @@ use Rattle.vs_conn.specs.declared.end.Verdict.{Verdict}
 use Rattle.vs_conn.proofs.Frames.{got_asked}
 use Rattle.vs_device_parts.specs.{State.DeviceConnection, State.DeviceEntry, Transmitting.heard, Streams.to_write, Connections.after_shut}
 use Rattle.vs_device_parts.specs.Connections.{after_written, cut_off}
-use Rattle.vs_flow.proofs.Entries.{none_found}
+use Rattle.vs_flow.proofs.{Entries.none_found, Tables.with_value_sound}
+use Rattle.laws_device_bytes.proofs.Tabled.{value_contained}
 use Rattle.laws_history.specs.{Packets.has, Packets.is_request, Packets.is_response, Packets.is_rw, declared.packet.Packet.Packet}
 use Rattle.laws_history.specs.History.{Answerer, Asker, Got, History, IsFair, Side, gots, puts, MayPut, peer}
 use Rattle.laws_history.specs.Again.{AllowsNow}
 use Rattle.laws_tables.specs.Steps.{payload_on}
 use Rattle.laws_bytes.specs.Drains.{Drains, got_on, put_on}
 use Rattle.laws_device_bytes.specs.Streamed.{IsJoined, IsStreamed, gives, line_for, look, seen, Seen}
-use Rattle.laws_device_bytes.proofs.{HostCalls.read_host, HostCalls.write_host, HostCalls.same_host, Hosts.unseen, Gives.drop_both}
-use Rattle.laws_device_bytes.proofs.Gives.{first_of, forwards_asked, forwards_gives, accepted_other, accepts_asked, accepts_response}
-use Rattle.laws_device_bytes.proofs.Gives.{answered_host, comes_behind, delivered_other, delivers_gives, gives_delivered, goes_host}
-use Rattle.laws_device_bytes.proofs.Gives.{hears_gives, kept_empty, response_empty, shut_gives, shuts_asked, unanswered_got}
+use Rattle.laws_device_bytes.proofs.{HostCalls.read_host, HostCalls.write_host, HostCalls.cut_host, HostCalls.same_host, Hosts.unseen}
+use Rattle.laws_device_bytes.proofs.Gives.{drop_both, first_of, forwards_asked, forwards_gives, accepted_other, accepts_asked}
+use Rattle.laws_device_bytes.proofs.Gives.{accepts_response, answered_host, comes_behind, delivered_other, delivers_gives, gives_delivered}
+use Rattle.laws_device_bytes.proofs.Gives.{goes_host, hears_gives, kept_empty, response_empty, shut_gives, shuts_asked, unanswered_got}
 use Rattle.laws_device_bytes.proofs.Streamed.{join_of, left_streamed, passed_streamed, same_streamed}
 use Rattle.laws_bytes.proofs.Logs.{got_after_got, got_after_put, none_on_any, only_on, passed_after_got, passed_after_put, put_after_got}
 use Rattle.laws_bytes.proofs.{Logs.put_after_put, Steps.comes_out, Steps.Goes, Steps.drops, Steps.stays_still, Changes.without_changed}
-use Rattle.vs_outside.specs.Host.{after_failed, after_read, after_shut_write, after_write, called, dial_answer, fails_now, is_listened}
-use Rattle.vs_outside.specs.Host.{next_bytes, HostContents, with_shut_write_call, Stream}
+use Rattle.vs_outside.specs.Host.{after_close, after_failed, after_read, after_shut_write, after_write, called, dial_answer, fails_now}
+use Rattle.vs_outside.specs.Host.{is_listened, next_bytes, HostContents, with_shut_write_call, Stream}
 use Rattle.vs_outside.proofs.Frames.{stream_at-after_failed}
 use Rattle.vs_page.specs.{Fair.IsFairLog, Fair.payload_of, Fair.IsFairOn, Held.IsWhole, Held.packet_held, Held.packet_with}
 use Rattle.vs_page.specs.{Held.payload_held, Log.Device, Log.Log, Log.flow_got, Log.flow_put, Log.history_of, Log.side_of, Log.whole_of}
@@ -117,27 +118,33 @@ put_empty c log port t hands p none x = same_streamed (look c) (look c) c.labell
 module _ (c : HostContents) (log : Log) (port : ℕ) (t : Table DeviceConnection) (hands : List Handshake) (x : IsStreamed c log port t hands) (sound : IsTable t) where
   -- A connection decides something.
   pub decides_streams : (e : DeviceEntry) → Contains t.entries e → (k : DeviceConnection) → k.stream ≡ e.value.stream → k.by_client ≡ e.value.by_client
-      → Goes (gives e.value.end) (gives k.end) (e.value.ok_line ++ e.value.pending) (k.ok_line ++ k.pending) [] []
+      → k.closed ≡ e.value.closed → Goes (gives e.value.end) (gives k.end) (e.value.ok_line ++ e.value.pending)
+      (k.ok_line ++ k.pending) [] []
       → (k.end.state ≡ state.Asked → e.value.end.state ≡ state.Asked) → (e.value.ok_line ≡ [] → k.ok_line ≡ []) → (e.value.pending ≡ [] → k.pending ≡ [])
       → IsStreamed c log port (with_value t e.slot k) hands
-  decides_streams e is k stream client goes asks ok pending =
-      goes_host c log log port t hands x sound e is k stream client [] (λ f. refl) (λ f. sym (none_on_any e.flow f (got_on Device f log))) (λ f on. on)
+  decides_streams e is k stream client closed goes asks ok pending =
+      goes_host c log log port t hands x sound e is k stream client closed [] (λ f. refl)
+      (λ f. sym (none_on_any e.flow f (got_on Device f log))) (λ f on. on)
       goes (λ on. (asks on, ok, pending))
 
-  pub cuts_streams : (e : DeviceEntry) → Contains t.entries e → IsStreamed c log port (with_value t e.slot (cut_off e.value)) hands
-  cuts_streams e is = decides_streams e is (cut_off e.value) refl refl (drops (gives e.value.end) (e.value.ok_line ++ e.value.pending) [])
+  pub cuts_streams : (e : DeviceEntry) → Contains t.entries e → e.value.closed ≡ true
+      → IsStreamed c log port (with_value t e.slot (cut_off e.value)) hands
+  cuts_streams e is shut = decides_streams e is (cut_off e.value) refl refl (sym shut)
+      (drops (gives e.value.end) (e.value.ok_line ++ e.value.pending) [])
       (λ on. absurd cc) (λ none. refl) (λ none. refl)
 
   pub shuts_streams : (e : DeviceEntry) (bits now : ℕ) → Contains t.entries e → IsStreamed c log port (with_value t e.slot (after_shut bits now e.value)) hands
-  shuts_streams e bits now is = decides_streams e is (after_shut bits now e.value) refl refl (shut_gives e.value.end bits e.value.ok_line e.value.pending)
+  shuts_streams e bits now is = decides_streams e is (after_shut bits now e.value) refl refl refl
+      (shut_gives e.value.end bits e.value.ok_line e.value.pending)
       (shuts_asked e.value.end bits) (kept_empty (with_shut e.value.end bits).own.receive e.value.ok_line)
       (kept_empty (with_shut e.value.end bits).own.receive e.value.pending)
 
   -- Its end alone changes.
   pub ends_streams : (e : DeviceEntry) → Contains t.entries e → (k : DeviceConnection) → k.stream ≡ e.value.stream → k.by_client ≡ e.value.by_client
-      → (k.ok_line ≡ e.value.ok_line) → k.pending ≡ e.value.pending → (gives k.end ≡ true → gives e.value.end ≡ true)
+      → k.closed ≡ e.value.closed → (k.ok_line ≡ e.value.ok_line) → k.pending ≡ e.value.pending
+      → (gives k.end ≡ true → gives e.value.end ≡ true)
       → (k.end.state ≡ state.Asked → e.value.end.state ≡ state.Asked) → IsStreamed c log port (with_value t e.slot k) hands
-  ends_streams e is k stream client ok pending less asks = decides_streams e is k stream client
+  ends_streams e is k stream client closed ok pending less asks = decides_streams e is k stream client closed
       (subst (λ (line : List ℕ). Goes (gives e.value.end) (gives k.end) (e.value.ok_line ++ e.value.pending) (line ++ k.pending) [] []) (sym ok)
       (subst (λ (bytes : List ℕ). Goes (gives e.value.end) (gives k.end) (e.value.ok_line ++ e.value.pending) (e.value.ok_line ++ bytes) [] []) (sym pending)
       (stays_still (gives e.value.end) (gives k.end) (e.value.ok_line ++ e.value.pending) [] less (λ on. refl)))) asks (λ none. ok ∙ none) (λ none. pending ∙ none)
@@ -153,7 +160,8 @@ module _ (c : HostContents) (log : Log) (port : ℕ) (t : Table DeviceConnection
 
       pub hears_streams : (v : Verdict) → verdict_of e.value.end p.header ≡ v → (v ≡ verdict.Accept → ⊥) → (v ≡ verdict.Deliver → ⊥)
           → IsStreamed c (GotPacket p ∷ log) port (with_value t e.slot (heard p.header e.value)) hands
-      hears_streams v now other undelivered = goes_host c log (GotPacket p ∷ log) port t hands x sound e is (heard p.header e.value) refl refl p.payload put_same
+      hears_streams v now other undelivered = goes_host c log (GotPacket p ∷ log) port t hands x sound e is
+          (heard p.header e.value) refl refl refl p.payload put_same
           got_here (passed_after_got Device p log)
           (stays_still (gives e.value.end) (gives (end_after e.value.end p.header)) (e.value.ok_line ++ e.value.pending) p.payload
           (hears_gives e.value.end p.header v now other) (λ on. whole.none (gives_delivered e.value.end p v now undelivered on)))
@@ -162,7 +170,8 @@ module _ (c : HostContents) (log : Log) (port : ℕ) (t : Table DeviceConnection
       pub delivers_streams : (payload : List ℕ) → payload ≡ p.payload → verdict_of e.value.end p.header ≡ verdict.Deliver
           → IsStreamed c (GotPacket p ∷ log) port (with_value t e.slot (record (heard p.header e.value) { pending = e.value.pending ++ payload })) hands
       delivers_streams payload same now = goes_host c log (GotPacket p ∷ log) port t hands x sound e is
-          (record (heard p.header e.value) { pending = e.value.pending ++ payload }) refl refl p.payload put_same got_here (passed_after_got Device p log)
+          (record (heard p.header e.value) { pending = e.value.pending ++ payload }) refl refl refl p.payload put_same got_here
+          (passed_after_got Device p log)
           (subst (λ (bytes : List ℕ). Goes (gives e.value.end) (gives (end_after e.value.end p.header)) (e.value.ok_line ++ e.value.pending)
           (e.value.ok_line ++ (e.value.pending ++ bytes)) [] p.payload) (sym same)
           (comes_behind (gives e.value.end) (gives (end_after e.value.end p.header)) e.value.ok_line e.value.pending p.payload
@@ -175,7 +184,8 @@ module _ (c : HostContents) (log : Log) (port : ℕ) (t : Table DeviceConnection
           → line ≡ cond e.value.by_client (ok_text e.flow.host) [] → verdict_of e.value.end p.header ≡ verdict.Accept
           → IsStreamed c (GotPacket p ∷ log) port (with_value t e.slot (record (heard p.header e.value) { ok_line = line })) hands
       accepts_streams fair first client line written now =
-          answered_host c log (GotPacket p ∷ log) port t hands x sound e is (record (heard p.header e.value) { ok_line = line }) refl refl p.payload put_same got_here
+          answered_host c log (GotPacket p ∷ log) port t hands x sound e is (record (heard p.header e.value) { ok_line = line }) refl refl
+          refl p.payload put_same got_here
           (passed_after_got Device p log) (accepts_asked e.value.end p.header now)
           (ap (λ (h : History). payload_of (gots h)) (sym first) ∙ nothing (side_of Device e.flow) (history_of Device e.flow log) (accepts_response e.value.end p now) older fair_here)
           (whole.none (response_empty p (accepts_response e.value.end p now))) (written ∙ ap (λ (b : Bool). cond b (ok_text e.flow.host) []) client) refl
@@ -218,10 +228,21 @@ module _ (c : HostContents) (log : Log) (port : ℕ) (t : Table DeviceConnection
     pub empty_streams : is_rw p ≡ false → IsStreamed c (GotPacket p ∷ log) port t hands
     empty_streams other = passes_streams (λ i e within on given. whole.none other)
 
-  -- A connection leaves, after another change of it.
-  pub leaves_streams : (e : DeviceEntry) (k : DeviceConnection) → Contains t.entries e → IsStreamed c log port (without (with_value t e.slot k) e.slot) hands
-  leaves_streams e k is = subst (λ (u : Table DeviceConnection). IsStreamed c log port u hands) (sym (without_changed t e.slot k))
-      (left_streamed (look c) c.labelled log port t hands x sound e is)
+  -- A connection leaves, whose stream is closed or closes.
+  pub leaves_streams : (e : DeviceEntry) → Contains t.entries e → e.value.closed ≡ true → (k : DeviceConnection)
+      → IsStreamed c log port (without (with_value t e.slot k) e.slot) hands
+  leaves_streams e is shut k = subst (λ (u : Table DeviceConnection). IsStreamed c log port u hands) (sym (without_changed t e.slot k))
+      (left_streamed (look c) c.labelled log port t hands x sound e is shut)
+
+  pub closes_streams : (e : DeviceEntry) → Contains t.entries e → (k : DeviceConnection)
+      → IsStreamed (after_close e.value.stream c) log port (without (with_value t e.slot k) e.slot) hands
+  closes_streams e is k =
+      let cut : DeviceConnection = cut_off e.value in
+      subst (λ (u : Table DeviceConnection). IsStreamed (after_close e.value.stream c) log port u hands)
+      (without_changed t e.slot cut ∙ sym (without_changed t e.slot k))
+      (left_streamed (look (after_close e.value.stream c)) c.labelled log port (with_value t e.slot cut) hands
+      (cut_host c log port t hands x sound e is)
+      (with_value_sound t e.slot cut sound) (record e { value = cut }) (value_contained t sound e is cut) refl)
 
   -- Bytes of its stream are read and put; its stream is given bytes.
   pub reads_streams : (e : DeviceEntry) (is : Contains t.entries e) (n cid : ℕ) → let bytes = next_bytes e.value.stream n c in
@@ -231,7 +252,8 @@ module _ (c : HostContents) (log : Log) (port : ℕ) (t : Table DeviceConnection
       let bytes = next_bytes e.value.stream n c in
       let p = payload_on Device cid e.flow e.value.end bytes in
       let j = join_of (look c) c.labelled log port t hands x e is in
-      read_host c log (PutPacket p ∷ log) port t hands x sound e is (record e.value { end = with_payload_sent e.value.end (length bytes) }) refl refl n bytes refl
+      read_host c log (PutPacket p ∷ log) port t hands x sound e is (record e.value { end = with_payload_sent e.value.end (length bytes) })
+      refl refl refl n bytes refl
       (put_after_put Device p log) (λ f. sym (got_after_put Device p log f)) (passed_after_put Device p log) j.drains j.asked
 
   pub writes_streams : (e : DeviceEntry) → Contains t.entries e → (n : ℕ) → n ≤ length (to_write e.value)
@@ -242,7 +264,7 @@ module _ (c : HostContents) (log : Log) (port : ℕ) (t : Table DeviceConnection
       let k = after_written n e.value in
       let out = comes_out (gives e.value.end) (gives k.end) all n (forwards_gives e.value.end (n - length e.value.ok_line)) j.stream.given
       (line_for e.flow ++ got_on Device e.flow log) j.drains in
-      write_host c log log port t hands x sound e is k refl refl n (to_write e.value)
+      write_host c log log port t hands x sound e is k refl refl refl n (to_write e.value)
       (subst (λ (bytes : List ℕ). Drains (gives k.end) (j.stream.given ++ bytes) (k.ok_line ++ k.pending) (line_for e.flow ++ got_on Device e.flow log)) (sym (first_of n all less))
       (subst (λ (bytes : List ℕ). Drains (gives k.end) (j.stream.given ++ take n all) bytes (line_for e.flow ++ got_on Device e.flow log))
       (drop_both n e.value.ok_line e.value.pending)
@@ -250,14 +272,17 @@ module _ (c : HostContents) (log : Log) (port : ℕ) (t : Table DeviceConnection
       (append-nil (line_for e.flow ++ got_on Device e.flow log)) out)))
       (λ on. nothing e n j.stream.given (j.asked (forwards_asked e.value.end (n - length e.value.ok_line) on)))
     where
-      nothing : (e : DeviceEntry) (n : ℕ) (given : List ℕ) → (given ≡ []) × (e.value.ok_line ≡ []) × (e.value.pending ≡ [])
+      nothing : (e : DeviceEntry) (n : ℕ) (given : List ℕ) → (given ≡ []) × (e.value.ok_line ≡ []) × (e.value.pending ≡ []) ×
+          (e.value.closed ≡ false)
           → (given ++ take n (to_write e.value) ≡ []) × (drop n e.value.ok_line ≡ []) × (drop (n - length e.value.ok_line) e.value.pending ≡ [])
-      nothing e n given (a, b, d) = (
+          × (e.value.closed ≡ false)
+      nothing e n given (a, b, d, still) = (
         ap (λ (bytes : List ℕ). bytes ++ take n (to_write e.value)) a
             ∙ ap (λ (bytes : List ℕ). take n (take 4096 (bytes ++ e.value.pending))) b ∙ ap (λ (bytes : List ℕ). take n (take 4096 bytes)) d
             ∙ ap (take n) (take-nil 4096) ∙ take-nil n,
         ap (drop n) b ∙ drop-nil n,
         ap (drop (n - length e.value.ok_line)) d ∙ drop-nil (n - length e.value.ok_line),
+        still,
       )
 
 -- Calls on the host that change no bytes.
@@ -281,18 +306,6 @@ pub mark_streams : (c : HostContents) (log : Log) (cid port : ℕ) (t : Table De
 mark_streams c log cid port t hands x = same_streamed (look c) (look c) c.labelled log (Mark cid ∷ log) port (λ j. refl) (λ f. refl) (λ f. refl)
     (λ f on. on) t hands x
 
--- No connection is left.
-pub emptied_streams : (c : HostContents) (log : Log) (port : ℕ) (t u : Table DeviceConnection) (hands : List Handshake) → u.entries ≡ []
-    → IsStreamed c log port t hands → IsStreamed c log port u hands
-emptied_streams c log port t u hands empty x = record {
-  joined = subst (λ (es : List DeviceEntry). All (IsJoined (look c) log) es) (sym empty) (λ i e within. absurd (omega (arith, within)));
-  labels = x.labels;
-  unique = x.unique;
-  none = x.none;
-  waiting = x.waiting;
-  lines = x.lines;
-}
-
 -- A line goes on, where it isn't decided.
 pub goes_on : (line : List ℕ) → connect_step line ≡ step.More → is_decided CONNECT_MAX line ≡ false
 goes_on line is = by (is_decided 32 line) (connect_port line) is
@@ -306,14 +319,17 @@ goes_on line is = by (is_decided 32 line) (connect_port line) is
 pub no_streams : (c : HostContents) (port : ℕ) (t : Table DeviceConnection) → t.entries ≡ [] → c.streams ≡ [] → IsStreamed c [] port t []
 no_streams c port t empty fresh = record {
   joined = subst (λ (es : List DeviceEntry). All (IsJoined (look c) []) es) (sym empty) (λ i e within. absurd (omega (arith, within)));
-  labels = λ id s f there label. absurd (none id s there);
-  unique = λ i j s u f a b p q. absurd (none i s a);
-  none = λ f without. refl;
-  waiting = λ id s there waits. absurd (none id s there);
-  lines = record {
-    read = λ i h within. absurd (omega (arith, within));
-    undecided = λ i h within. absurd (omega (arith, within));
-    apart = λ i j h less within. absurd (omega (arith, within));
+  tabled = λ id s f there label. absurd (none id s there);
+  streams = record {
+    labels = λ id s f there label. absurd (none id s there);
+    unique = λ i j s u f a b p q. absurd (none i s a);
+    none = λ f without. refl;
+    waiting = λ id s there waits. absurd (none id s there);
+    lines = record {
+      read = λ i h within. absurd (omega (arith, within));
+      undecided = λ i h within. absurd (omega (arith, within));
+      apart = λ i j h less within. absurd (omega (arith, within));
+    };
   };
 }
   where

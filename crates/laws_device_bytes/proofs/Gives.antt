@@ -85,7 +85,8 @@ unanswered_got (Got p ∷ h) fair none = by (is_rw p) refl (unanswered_got h fai
 -- A connection changes as a packet comes, or as it decides something.
 module _ (c : HostContents) (log new : Log) (port : ℕ) (t : Table DeviceConnection) (hands : List Handshake) (x : IsStreamed c log port t hands)
     (sound : IsTable t) (e : DeviceEntry) (is : Contains t.entries e) (k : DeviceConnection) (stream : k.stream ≡ e.value.stream)
-    (client : k.by_client ≡ e.value.by_client) (came : List ℕ) (put : (f : Flow) → put_on Device f log ≡ put_on Device f new)
+    (client : k.by_client ≡ e.value.by_client) (closed : k.closed ≡ e.value.closed) (came : List ℕ) (put : (f : Flow)
+    → put_on Device f log ≡ put_on Device f new)
     (got : (f : Flow) → got_on Device f new ≡ got_on Device f log ++ only_on e.flow came f)
     (passed : (f : Flow) → has_passed Device f log ≡ true → has_passed Device f new ≡ true) where
   abbrev join : IsJoined (look c) log e
@@ -98,11 +99,12 @@ module _ (c : HostContents) (log new : Log) (port : ℕ) (t : Table DeviceConnec
       → (k.end.state ≡ state.Asked
       → (e.value.end.state ≡ state.Asked) × (e.value.ok_line ≡ [] → k.ok_line ≡ []) × (e.value.pending ≡ [] → k.pending ≡ []))
       → IsStreamed c new port (with_value t e.slot k) hands
-  goes_host goes asks = changed_streamed (look c) (look c) c.labelled log new port t hands x sound e is k stream client came (λ id. refl) put got passed
+  goes_host goes asks = changed_streamed (look c) (look c) c.labelled log new port t hands x sound e is k stream client closed came
+      (λ id. refl) put got passed
       (subst (λ (out : List ℕ). Drains (gives k.end) out (whole k) (line_for e.flow ++ got_on Device e.flow new)) (append-nil join.stream.given)
       (subst (λ (all : List ℕ). Drains (gives k.end) (join.stream.given ++ []) (whole k) all) all_came
       (goes join.stream.given (line_for e.flow ++ got_on Device e.flow log) join.drains)))
-      (λ on. let now = asks on in let a = join.asked now.0 in (a.0, now.1 a.1, now.2 a.2))
+      (λ on. let now = asks on in let a = join.asked now.0 in (a.0, now.1 a.1, now.2 a.2, closed ∙ a.3))
     where
       all_came : (line_for e.flow ++ got_on Device e.flow log) ++ came ≡ line_for e.flow ++ got_on Device e.flow new
       all_came = append_assoc (line_for e.flow) (got_on Device e.flow log) came
@@ -118,7 +120,8 @@ module _ (c : HostContents) (log new : Log) (port : ℕ) (t : Table DeviceConnec
       let all : join.stream.given ++ whole k ≡ line_for e.flow ++ got_on Device e.flow new =
       ap (λ (bytes : List ℕ). bytes ++ whole k) a.0 ∙ ap (λ (bytes : List ℕ). bytes ++ k.pending) line
       ∙ ap (λ (bytes : List ℕ). line_for e.flow ++ bytes) (pending ∙ a.2 ∙ sym got_none) in
-      changed_streamed (look c) (look c) c.labelled log new port t hands x sound e is k stream client came (λ id. refl) put got passed
+      changed_streamed (look c) (look c) c.labelled log new port t hands x sound e is k stream client closed came
+      (λ id. refl) put got passed
       (record { front = all_of (join.stream.given ++ whole k) (line_for e.flow ++ got_on Device e.flow new) all; whole = λ on. all })
       (λ on. absurd (other on))
 

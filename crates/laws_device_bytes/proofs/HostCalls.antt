@@ -1,13 +1,16 @@
 -- What the host's streams took and gave, through the calls of the proxy and of the host's programs.
 use Rattle.std.proofs.Common.{◌≡◌, ◌≢◌, ℕ, zero, suc, ◌-◌, ◌==◌, Bool, true, false, cond, List, [], ◌∷◌, ◌++◌, take, get_or, slice_get}
 use Rattle.std.proofs.Common.{Contains, Option, Some, None, refl, sym, ap, subst, ◌∙◌, arith}
-use Rattle.std.proofs.lemmas.{Bool.Decides.nat_tests, List.append-nil, List.Elements.All-push, List.Quantifiers.all_pairs_push}
+use Rattle.std.proofs.{Common.◌⊎◌, Common.inl, Common.inr, lemmas.Bool.Decides.nat_tests, lemmas.List.append-nil}
+use Rattle.std.proofs.lemmas.List.Elements.{All-push}
+use Rattle.std.proofs.lemmas.List.{Elements.All-weaker, Quantifiers.all_pairs_push}
+use Rattle.std.specs.List.{All}
 use Rattle.std.specs.Option.{option_map, option_map_or}
 use Rattle.vs_outside.specs.{HostBytes.after_line, Host.HostContents, Host.Stream, Host.accept_answer, Host.after_accept, Host.after_close}
 use Rattle.vs_outside.specs.Host.{after_read, after_write, called, give_bytes, next_bytes, stream_at, take_bytes, waits}
 use Rattle.vs_outside.specs.HostProgram.{after_client, client_stream}
 use Rattle.vs_conn.specs.declared.end.State.TheVariants.{Asked}
-use Rattle.vs_device_parts.specs.State.{DeviceConnection, DeviceEntry}
+use Rattle.vs_device_parts.specs.{Connections.cut_off, State.DeviceConnection, State.DeviceEntry}
 use Rattle.vs_flow.specs.{Table.IsTable, Table.Table, Table.with_value, declared.flow.Flow.Flow}
 use Rattle.vs_outside.specs.declared.host_net.Accepted.TheVariants as accepted
 use Rattle.vs_outside.specs.declared.host_net.StreamRead.TheVariants as read
@@ -18,9 +21,9 @@ use Rattle.vs_page.specs.Log.{Device, Log}
 use Rattle.vs_proxy_parts.specs.State.{Handshake}
 use Rattle.vs_uds.specs.{Reading.is_decided, declared.connect.TheConstants.CONNECT_MAX}
 use Rattle.laws_bytes.specs.Drains.{Drains, got_on, has_passed, put_on}
-use Rattle.laws_device_bytes.specs.Streamed.{AreStreamed, IsJoined, IsStreamed, Seen, client_waits, gives, has_line, line_for, look}
-use Rattle.laws_device_bytes.specs.Streamed.{reading, seen, taken_of}
-use Rattle.laws_bytes.proofs.Logs.{none_on_any, only_on}
+use Rattle.laws_device_bytes.specs.Streamed.{AreLabelled, AreStreamed, IsJoined, IsLabelled, IsStreamed, Seen, client_waits, gives}
+use Rattle.laws_device_bytes.specs.Streamed.{has_line, line_for, look, reading, seen, taken_of}
+use Rattle.laws_bytes.proofs.{Logs.none_on_any, Logs.only_on, Steps.drops}
 use Rattle.laws_device_bytes.proofs.{Hosts.changed_seen, Hosts.others_seen, Hosts.there, Hosts.unseen_none, Lines.after_longer}
 use Rattle.laws_device_bytes.proofs.Streamed.{join_of, moved_streamed, same_streamed, unlabelled_streamed}
 
@@ -34,70 +37,172 @@ same_host c d log port t hands same labelled x =
 pub some_seen : (s t : Seen) → ◌≡◌ {A = Option Seen} (Some s) (Some t) → s ≡ t
 some_seen s t is = cc
 
--- CLOSE: a client that waits does so no more.
-closed_by : (st : Stream) → waits st.state ≡ false → seen (record st { state = state.Closed }) ≡ seen st
-closed_by st is = ap (λ (w : Bool). let s : Seen = record { label = st.label; by_client = st.by_client; waiting = w; taken = st.taken; given = st.given } in s) (sym is)
+-- CLOSE: what is seen of a stream that is closed. No line of those that are read is of it.
+abbrev shut : Seen → Seen
+shut s = record s { waiting = false; closed = true }
 
-module _ (id : ℕ) (c : HostContents) (log : Log) (port : ℕ) (t : Table DeviceConnection) (hands : List Handshake) (x : IsStreamed c log port t hands) where
-  abbrev shut : HostContents
-  shut = after_close id c
+module _ (id : ℕ) (c : HostContents) where
+  abbrev pub shut_host : HostContents
+  shut_host = after_close id c
 
-  there_or_not : (o : Option Stream) → stream_at id c ≡ o → IsStreamed shut log port t hands
-  there_or_not None none = same_host c shut log port t hands (unseen_none id (λ s. record s { state = state.Closed }) c none) refl x
-  there_or_not (Some st) at = by (waits st.state) refl
+  -- A stream of then is one of before, or that one.
+  record WasSeen (j : ℕ) (u : Seen) : Type 0 where
+    pub before : Seen
+    pub there : look c j ≡ Some before
+    pub how : ((u ≡ before) × (j ≢ id)) ⊎ (u ≡ shut before)
+
+  was_seen : (j : ℕ) (u : Seen) → look shut_host j ≡ Some u → WasSeen j u
+  was_seen j u now = by (j == id) refl
     where
-      by : (b : Bool) → waits st.state ≡ b → IsStreamed shut log port t hands
-      by false stays = same_host c shut log port t hands (λ j. one j (j == id) refl) refl x
-        where
-          one : (j : ℕ) (b : Bool) → (j == id) ≡ b → look c j ≡ look shut j
-          one j true is =
-              let place : j ≡ id = grind (arith, nat_tests, is) in
-              ap (look c) place ∙ ap (option_map seen) at ∙ ap (λ (s : Seen). Some s) (sym (closed_by st stays))
-              ∙ sym (changed_seen id (λ s. record s { state = state.Closed }) c st at) ∙ ap (look shut) (sym place)
-          one j false other = others_seen id (λ s. record s { state = state.Closed }) c j (grind (arith, nat_tests, other))
-      by true waited =
-          let was : seen st ≡ client_waits = x.waiting id (seen st) (ap (option_map seen) at) waited in
-          unlabelled_streamed (look c) (look shut) c.labelled log port t hands hands x (λ j u seen_now. back j u was seen_now (j == id) refl)
-          (λ j u f seen_then on. sym (others_seen id (λ s. record s { state = state.Closed }) c j (λ same. labelled_apart u f was on (ap (look c) (sym same) ∙ seen_then))) ∙ seen_then)
-          (record {
-            read = λ i h within. sym (others_seen id (λ s. record s { state = state.Closed }) c (get_or hands i h).stream
-                (λ same. read_apart (get_or hands i h) was (ap (look c) (sym same) ∙ x.lines.read i h within))) ∙ x.lines.read i h within;
-            undecided = x.lines.undecided;
-            apart = x.lines.apart;
-          })
-        where
-          now_closed : look shut id ≡ Some (seen (record st { state = state.Closed }))
-          now_closed = changed_seen id (λ s. record s { state = state.Closed }) c st at
+      here : j ≡ id → (o : Option Stream) → stream_at id c ≡ o → WasSeen j u
+      here place None none =
+          let gone : look c id ≡ None = ap (option_map seen) none in
+          let both : None ≡ Some u = sym gone ∙ ap (look c) (sym place) ∙ unseen_none id (λ s. record s { state = state.Closed }) c none j
+          ∙ now in
+          absurd cc
+      here place (Some st) at = record {
+        before = seen st;
+        there = ap (look c) place ∙ ap (option_map seen) at;
+        how = inr (some_seen u (shut (seen st)) (sym now ∙ ap (look shut_host) place
+            ∙ changed_seen id (λ s. record s { state = state.Closed }) c st at));
+      }
 
-          labelled_apart : (u : Seen) (f : Flow) → seen st ≡ client_waits → u.label ≡ Some f → look c id ≡ Some u → ⊥
-          labelled_apart u f was on seen_then =
-              let one : seen st ≡ u = some_seen (seen st) u (sym (ap (option_map seen) at) ∙ seen_then) in
-              let label : None ≡ Some f = sym (ap (λ (s : Seen). s.label) was) ∙ ap (λ (s : Seen). s.label) one ∙ on in
-              absurd cc
+      by : (b : Bool) → (j == id) ≡ b → WasSeen j u
+      by true is = here (grind (arith, nat_tests, is)) (stream_at id c) refl
+      by false is =
+          let apart : j ≢ id = grind (arith, nat_tests, is) in
+          record { before = u; there = others_seen id (λ s. record s { state = state.Closed }) c j apart ∙ now; how = inl (refl, apart) }
 
-          read_apart : (h : Handshake) → seen st ≡ client_waits → look c id ≡ Some (reading h.line) → ⊥
-          read_apart h was seen_then =
-              let one : seen st ≡ reading h.line = some_seen (seen st) (reading h.line) (sym (ap (option_map seen) at) ∙ seen_then) in
-              let both : true ≡ false = sym (ap (λ (s : Seen). s.waiting) was) ∙ ap (λ (s : Seen). s.waiting) one in
-              absurd cc
+  -- And a stream of before is one of then, with its label.
+  is_seen : (j : ℕ) (b : Seen) (f : Flow) → look c j ≡ Some b → b.label ≡ Some f
+      → (u : Seen) × (look shut_host j ≡ Some u) × (u.label ≡ Some f)
+  is_seen j b f was label = by (j == id) refl
+    where
+      by : (d : Bool) → (j == id) ≡ d → (u : Seen) × (look shut_host j ≡ Some u) × (u.label ≡ Some f)
+      by true is =
+          let place : j ≡ id = grind (arith, nat_tests, is) in
+          let st = there id c b (ap (look c) (sym place) ∙ was) in (
+            shut (seen st.stream),
+            ap (look shut_host) place ∙ changed_seen id (λ s. record s { state = state.Closed }) c st.stream st.at,
+            ap (λ (s : Seen). s.label) st.is ∙ label,
+          )
+      by false is = (b, sym (others_seen id (λ s. record s { state = state.Closed }) c j (grind (arith, nat_tests, is))) ∙ was, label)
 
-          back : (j : ℕ) (u : Seen) → seen st ≡ client_waits → look shut j ≡ Some u → (b : Bool) → (j == id) ≡ b
-              → (b : Bool) × (b ≡ true → look c j ≡ Some u) × (b ≡ false → (u.label ≡ None) × (u.waiting ≡ true → u ≡ client_waits))
-          back j u was seen_now true is =
-              let place : j ≡ id = grind (arith, nat_tests, is) in
-              let one : seen (record st { state = state.Closed }) ≡ u =
-              some_seen (seen (record st { state = state.Closed })) u (sym now_closed ∙ ap (look shut) (sym place) ∙ seen_now) in (
-                false,
-                (λ no. absurd cc),
-                λ ok. (
-                  sym (ap (λ (s : Seen). s.label) one) ∙ ap (λ (s : Seen). s.label) was,
-                  λ waits. let both : false ≡ true = ap (λ (s : Seen). s.waiting) one ∙ waits in absurd cc,
-                ),
-              )
-          back j u was seen_now false other = (true, (λ ok. others_seen id (λ s. record s { state = state.Closed }) c j (grind (arith, nat_tests, other)) ∙ seen_now), λ no. absurd cc)
+  pub open_before : (j : ℕ) (u : Seen) → look shut_host j ≡ Some u → u.closed ≡ false → (look c j ≡ Some u) × (j ≢ id)
+  open_before j u now still = by (was_seen j u now).before (was_seen j u now).there (was_seen j u now).how
+    where
+      by : (b : Seen) → look c j ≡ Some b → ((u ≡ b) × (j ≢ id)) ⊎ (u ≡ shut b) → (look c j ≡ Some u) × (j ≢ id)
+      by b was (inl (same, apart)) = (was ∙ ap (λ (s : Seen). Some s) (sym same), apart)
+      by b was (inr closed) = let both : true ≡ false = sym (ap (λ (s : Seen). s.closed) closed) ∙ still in absurd cc
 
-  pub closed_host : IsStreamed shut log port t hands
-  closed_host = there_or_not (stream_at id c) refl
+  module _ (log : Log) (port : ℕ) (hands : List Handshake) (x : AreLabelled (look c) c.labelled log port hands)
+      (away : All (λ h. h.stream ≢ id) hands) where
+    labels_by : (j : ℕ) (u b : Seen) (f : Flow) → look c j ≡ Some b → ((u ≡ b) × (j ≢ id)) ⊎ (u ≡ shut b) → u.label ≡ Some f
+        → (IsLabelled j u f c.labelled log port) × (b.label ≡ Some f)
+    labels_by j u b f was (inl (same, apart)) label =
+        let before : b.label ≡ Some f = ap (λ (s : Seen). s.label) (sym same) ∙ label in
+        (subst (λ (s : Seen). IsLabelled j s f c.labelled log port) (sym same) (x.labels j b f was before), before)
+    labels_by j u b f was (inr closed) label =
+        let before : b.label ≡ Some f = ap (λ (s : Seen). s.label) (sym closed) ∙ label in
+        let old = x.labels j b f was before in (
+          subst (λ (s : Seen). IsLabelled j s f c.labelled log port) (sym closed) (record {
+            listed = old.listed;
+            client = old.client;
+            whole = old.whole;
+            took = old.took;
+            gave = old.gave;
+            ported = old.ported;
+            passed = old.passed;
+          }),
+          before,
+        )
+
+    waits_by : (j : ℕ) (u b : Seen) → look c j ≡ Some b → ((u ≡ b) × (j ≢ id)) ⊎ (u ≡ shut b) → u.waiting ≡ true → u ≡ client_waits
+    waits_by j u b was (inl (same, apart)) waits = same ∙ x.waiting j b was (ap (λ (s : Seen). s.waiting) (sym same) ∙ waits)
+    waits_by j u b was (inr closed) waits = let both : false ≡ true = sym (ap (λ (s : Seen). s.waiting) closed) ∙ waits in absurd cc
+
+    pub shut_labels : AreLabelled (look shut_host) c.labelled log port hands
+    shut_labels = record {
+      labels = λ j u f now label. let w = was_seen j u now in (labels_by j u w.before f w.there w.how label).0;
+      unique = λ i j u v f now also label other.
+          let a = was_seen i u now in
+          let b = was_seen j v also in
+          x.unique i j a.before b.before f a.there b.there (labels_by i u a.before f a.there a.how label).1
+          (labels_by j v b.before f b.there b.how other).1;
+      none = λ f without. x.none f (λ j b was label. let u = is_seen j b f was label in without j u.0 u.1 u.2);
+      waiting = λ j u now waits. let w = was_seen j u now in waits_by j u w.before w.there w.how waits;
+      lines = record {
+        read = λ i h within. sym (others_seen id (λ s. record s { state = state.Closed }) c (get_or hands i h).stream (away i h within))
+            ∙ x.lines.read i h within;
+        undecided = x.lines.undecided;
+        apart = x.lines.apart;
+      };
+    }
+
+-- The stream closes of no connection.
+pub closed_host : (id : ℕ) (c : HostContents) (log : Log) (port : ℕ) (t : Table DeviceConnection) (hands : List Handshake)
+    → IsStreamed c log port t hands
+    → ((s : Seen) → look c id ≡ Some s → s.label ≡ None) → All (λ h. h.stream ≢ id) hands → IsStreamed (after_close id c) log port t hands
+closed_host id c log port t hands x free away = record {
+  joined = All-weaker (IsJoined (look c) log) (IsJoined (look (shut_host id c)) log) (λ e j. record {
+    stream = j.stream;
+    there = sym (others_seen id (λ s. record s { state = state.Closed }) c e.value.stream (apart e j)) ∙ j.there;
+    label = j.label;
+    client = j.client;
+    closed = j.closed;
+    drains = j.drains;
+    asked = j.asked;
+  }) t.entries x.joined;
+  tabled = λ j u f now label still. x.tabled j u f (open_before id c j u now still).0 label still;
+  streams = shut_labels id c log port hands x.streams away;
+}
+  where
+    apart : (e : DeviceEntry) → IsJoined (look c) log e → e.value.stream ≢ id
+    apart e j same =
+        let both : Some e.flow ≡ None = sym j.label ∙ free j.stream (ap (look c) (sym same) ∙ j.there) in absurd cc
+
+-- Bytes behind a whole line.
+taken_more : (s : Seen) (more given : List ℕ) (closed : Bool) → (s.by_client ≡ true → has_line s.taken ≡ true)
+    → taken_of (record s { taken = s.taken ++ more; given = given; closed = closed }) ≡ taken_of s ++ more
+taken_more s more given closed whole = by s.by_client whole
+  where
+    by : (b : Bool) → (b ≡ true → has_line s.taken ≡ true)
+        → cond b (after_line (s.taken ++ more)) (s.taken ++ more) ≡ cond b (after_line s.taken) s.taken ++ more
+    by true is = after_longer s.taken more (is refl)
+    by false is = refl
+
+-- The stream closes of a connection, which is over.
+module _ (c : HostContents) (log : Log) (port : ℕ) (t : Table DeviceConnection) (hands : List Handshake) (x : IsStreamed c log port t hands)
+    (sound : IsTable t) (e : DeviceEntry) (is : Contains t.entries e) where
+  abbrev cut : IsJoined (look c) log e
+  cut = join_of (look c) c.labelled log port t hands x e is
+
+  busy : (b : Bool) → cut.stream.waiting ≡ b → b ≡ false
+  busy false waits = refl
+  busy true waits =
+      let one = x.streams.waiting e.value.stream cut.stream cut.there waits in
+      let both : Some e.flow ≡ None = sym cut.label ∙ ap (λ (s : Seen). s.label) one in absurd cc
+
+  pub cut_host : IsStreamed (after_close e.value.stream c) log port (with_value t e.slot (cut_off e.value)) hands
+  cut_host =
+      let s = cut.stream in
+      let st = there e.value.stream c s cut.there in
+      let d = after_close e.value.stream c in
+      let is_now : look d e.value.stream ≡ Some (record s { taken = s.taken ++ []; given = s.given ++ []; closed = true }) =
+      changed_seen e.value.stream (λ y. record y { state = state.Closed }) c st.stream st.at
+      ∙ ap (λ (y : Seen). Some (shut y)) st.is
+      ∙ ap (λ (b : Bool). let r : Seen = record s { waiting = b; closed = true } in Some r) (sym (busy s.waiting refl))
+      ∙ ap (λ (b : List ℕ). let r : Seen = record s { taken = b; closed = true } in Some r) (sym (append-nil s.taken))
+      ∙ ap (λ (b : List ℕ). let r : Seen = record s { taken = s.taken ++ []; given = b; closed = true } in Some r)
+      (sym (append-nil s.given)) in
+      let gone = drops (gives e.value.end) (e.value.ok_line ++ e.value.pending) [] s.given
+      (line_for e.flow ++ got_on Device e.flow log) cut.drains in
+      moved_streamed (look c) (look d) c.labelled log log port t hands x sound e is [] [] [] (cut_off e.value) refl refl is_now
+      (λ j other. others_seen e.value.stream (λ y. record y { state = state.Closed }) c j other)
+      (λ f. sym (none_on_any e.flow f (put_on Device f log)))
+      (λ f. sym (none_on_any e.flow f (got_on Device f log))) (λ f on. on)
+      (subst (λ (all : List ℕ). Drains false (s.given ++ []) [] all) (append-nil (line_for e.flow ++ got_on Device e.flow log)) gone)
+      (λ on. absurd cc) (taken_more s [] (s.given ++ []) true (x.streams.labels e.value.stream s e.flow cut.there cut.label).whole)
 
 -- A client connects.
 get_push : (xs : List Stream) (y : Stream) (k : ℕ) (u : Stream) → slice_get (xs ++ y ∷ []) k ≡ Some u
@@ -150,9 +255,10 @@ client_host c log port t hands x =
     (λ j u is. let b = more_back client_stream c j u is in (b.0, b.1, λ new. (ap (λ (s : Seen). s.label) (b.2 new).0, λ waits. (b.2 new).0)))
     (λ j u f is on. more_kept client_stream c j u is)
     (record {
-      read = λ i h within. more_kept client_stream c (get_or hands i h).stream (reading (get_or hands i h).line) (x.lines.read i h within);
-      undecided = x.lines.undecided;
-      apart = x.lines.apart;
+      read = λ i h within. more_kept client_stream c (get_or hands i h).stream (reading (get_or hands i h).line)
+          (x.streams.lines.read i h within);
+      undecided = x.streams.lines.undecided;
+      apart = x.streams.lines.apart;
     })
 
 -- ACCEPT: the client's line begins.
@@ -164,19 +270,23 @@ accepted_host id now c log port t hands answer x =
     let st = a.0 in
     let d = after_accept (accepted.Stream id) c in
     let waited : waits st.state ≡ true = ap waits a.2 in
-    let was : seen st ≡ client_waits = x.waiting id (seen st) (ap (option_map seen) a.1) waited in
-    let is_now : look d id ≡ Some (reading []) = ap (option_map seen) a.3 ∙ ap (λ (s : Seen). let r : Seen = record s { waiting = false } in Some r) was in
+    let was : seen st ≡ client_waits = x.streams.waiting id (seen st) (ap (option_map seen) a.1) waited in
+    let is_now : look d id ≡ Some (reading []) = ap (option_map seen) a.3 ∙ ap
+    (λ (s : Seen). let r : Seen = record s { waiting = false; closed = false } in Some r) was in
     let others : (j : ℕ) → j ≢ id → look c j ≡ look d j = λ j other. others_seen id (λ s. record s { state = state.Open }) (called c) j other in
     unlabelled_streamed (look c) (look d) c.labelled log port t hands (hands ++ record { stream = id; accepted_at = now; line = [] } ∷ []) x
     (λ j u is. back st was is_now others j u is (j == id) refl)
     (λ j u f is on. sym (others j (λ same. labelled_apart st was a.1 u f on (ap (look c) (sym same) ∙ is))) ∙ is)
     (record {
       read = All-push (λ (h : Handshake). look d h.stream ≡ Some (reading h.line)) hands (record { stream = id; accepted_at = now; line = [] })
-          (λ i h within. sym (others (get_or hands i h).stream (λ same. read_apart st was a.1 (get_or hands i h) (ap (look c) (sym same) ∙ x.lines.read i h within)))
-          ∙ x.lines.read i h within) is_now;
-      undecided = All-push (λ (h : Handshake). is_decided CONNECT_MAX h.line ≡ false) hands (record { stream = id; accepted_at = now; line = [] }) x.lines.undecided refl;
-      apart = all_pairs_push (λ (g : Handshake) (h : Handshake). g.stream ≢ h.stream) hands (record { stream = id; accepted_at = now; line = [] }) x.lines.apart
-          (λ k h within same. read_apart st was a.1 (get_or hands k h) (ap (look c) (sym same) ∙ x.lines.read k h within));
+          (λ i h within. sym (others (get_or hands i h).stream (λ same. read_apart st was a.1 (get_or hands i h) (ap (look c) (sym same)
+          ∙ x.streams.lines.read i h within)))
+          ∙ x.streams.lines.read i h within) is_now;
+      undecided = All-push (λ (h : Handshake). is_decided CONNECT_MAX h.line ≡ false) hands
+          (record { stream = id; accepted_at = now; line = [] }) x.streams.lines.undecided refl;
+      apart = all_pairs_push (λ (g : Handshake) (h : Handshake). g.stream ≢ h.stream) hands
+          (record { stream = id; accepted_at = now; line = [] }) x.streams.lines.apart
+          (λ k h within same. read_apart st was a.1 (get_or hands k h) (ap (look c) (sym same) ∙ x.streams.lines.read k h within));
     })
   where
     labelled_apart : (st : Stream) → seen st ≡ client_waits → stream_at id c ≡ Some st → (u : Seen) (f : Flow) → u.label ≡ Some f → look c id ≡ Some u → ⊥
@@ -207,35 +317,32 @@ accepted_host id now c log port t hands answer x =
         )
     back st was is_now others j u is false other = (true, (λ ok. others j (grind (arith, nat_tests, other)) ∙ is), λ no. absurd cc)
 
--- Bytes behind a whole line.
-taken_more : (s : Seen) (more given : List ℕ) → (s.by_client ≡ true → has_line s.taken ≡ true)
-    → taken_of (record s { taken = s.taken ++ more; given = given }) ≡ taken_of s ++ more
-taken_more s more given whole = by s.by_client whole
-  where
-    by : (b : Bool) → (b ≡ true → has_line s.taken ≡ true)
-        → cond b (after_line (s.taken ++ more)) (s.taken ++ more) ≡ cond b (after_line s.taken) s.taken ++ more
-    by true is = after_longer s.taken more (is refl)
-    by false is = refl
-
 -- READ and WRITE of a connection's stream.
 module _ (c : HostContents) (log new : Log) (port : ℕ) (t : Table DeviceConnection) (hands : List Handshake) (x : IsStreamed c log port t hands)
     (sound : IsTable t) (e : DeviceEntry) (is : Contains t.entries e) (k : DeviceConnection) (stream : k.stream ≡ e.value.stream)
-    (client : k.by_client ≡ e.value.by_client) where
+    (client : k.by_client ≡ e.value.by_client) (closed : k.closed ≡ e.value.closed) where
   abbrev pub joined : IsJoined (look c) log e
   joined = join_of (look c) c.labelled log port t hands x e is
 
   whole_line : joined.stream.by_client ≡ true → has_line joined.stream.taken ≡ true
-  whole_line client = (x.labels e.value.stream joined.stream e.flow joined.there joined.label).whole client
+  whole_line client = (x.streams.labels e.value.stream joined.stream e.flow joined.there joined.label).whole client
 
   abbrev with_bytes : List ℕ → List ℕ → Seen
-  with_bytes more gave = record joined.stream { taken = joined.stream.taken ++ more; given = joined.stream.given ++ gave }
+  with_bytes more gave = record joined.stream {
+    taken = joined.stream.taken ++ more;
+    given = joined.stream.given ++ gave;
+    closed = k.closed;
+  }
+
+  same_closed : joined.stream.closed ≡ k.closed
+  same_closed = joined.closed ∙ sym closed
 
   pub read_host : (n : ℕ) (bytes : List ℕ) → bytes ≡ next_bytes e.value.stream n c
       → ((f : Flow) → put_on Device f new ≡ put_on Device f log ++ only_on e.flow bytes f)
       → ((f : Flow) → got_on Device f log ≡ got_on Device f new)
       → ((f : Flow) → has_passed Device f log ≡ true → has_passed Device f new ≡ true)
       → Drains (gives k.end) joined.stream.given (k.ok_line ++ k.pending) (line_for e.flow ++ got_on Device e.flow log)
-      → (k.end.state ≡ Asked → (joined.stream.given ≡ []) × (k.ok_line ≡ []) × (k.pending ≡ []))
+      → (k.end.state ≡ Asked → (joined.stream.given ≡ []) × (k.ok_line ≡ []) × (k.pending ≡ []) × (k.closed ≡ false))
       → IsStreamed (after_read e.value.stream (read.Got n) c) new port (with_value t e.slot k) hands
   read_host n bytes next put got passed drains asked =
       let s = joined.stream in
@@ -246,17 +353,19 @@ module _ (c : HostContents) (log new : Log) (port : ℕ) (t : Table DeviceConnec
       changed_seen e.value.stream (take_bytes n) (called c) st.stream st.at
       ∙ ap (λ (y : Seen). let r : Seen = record y { taken = y.taken ++ take n st.stream.untaken } in Some r) st.is
       ∙ ap (λ (b : List ℕ). let r : Seen = record s { taken = s.taken ++ b } in Some r) (sym took)
-      ∙ ap (λ (b : List ℕ). let r : Seen = record s { taken = s.taken ++ bytes; given = b } in Some r) (sym (append-nil s.given)) in
+      ∙ ap (λ (b : List ℕ). let r : Seen = record s { taken = s.taken ++ bytes; given = b } in Some r) (sym (append-nil s.given))
+      ∙ ap (λ (b : Bool). let r : Seen = record s { taken = s.taken ++ bytes; given = s.given ++ []; closed = b } in Some r) same_closed in
       moved_streamed (look c) (look d) c.labelled log new port t hands x sound e is bytes [] [] k stream client is_now
       (λ j other. others_seen e.value.stream (take_bytes n) (called c) j other) put (λ f. sym (got f) ∙ sym (none_on_any e.flow f (got_on Device f log))) passed
       (subst (λ (b : List ℕ). Drains (gives k.end) b (k.ok_line ++ k.pending) (line_for e.flow ++ got_on Device e.flow new)) (sym (append-nil s.given))
       (subst (λ (b : List ℕ). Drains (gives k.end) s.given (k.ok_line ++ k.pending) (line_for e.flow ++ b)) (got e.flow) drains))
-      (λ on. subst (λ (b : List ℕ). (b ≡ []) × (k.ok_line ≡ []) × (k.pending ≡ [])) (sym (append-nil s.given)) (asked on))
-      (taken_more s bytes (s.given ++ []) whole_line)
+      (λ on. subst (λ (b : List ℕ). (b ≡ []) × (k.ok_line ≡ []) × (k.pending ≡ []) × (k.closed ≡ false)) (sym (append-nil s.given))
+      (asked on))
+      (taken_more s bytes (s.given ++ []) k.closed whole_line)
 
   pub write_host : (n : ℕ) (bytes : List ℕ)
       → Drains (gives k.end) (joined.stream.given ++ take n bytes) (k.ok_line ++ k.pending) (line_for e.flow ++ got_on Device e.flow log)
-      → (k.end.state ≡ Asked → (joined.stream.given ++ take n bytes ≡ []) × (k.ok_line ≡ []) × (k.pending ≡ []))
+      → (k.end.state ≡ Asked → (joined.stream.given ++ take n bytes ≡ []) × (k.ok_line ≡ []) × (k.pending ≡ []) × (k.closed ≡ false))
       → IsStreamed (after_write e.value.stream bytes (write.Took n) c) log port (with_value t e.slot k) hands
   write_host n bytes drains asked =
       let s = joined.stream in
@@ -265,8 +374,10 @@ module _ (c : HostContents) (log new : Log) (port : ℕ) (t : Table DeviceConnec
       let is_now : look d e.value.stream ≡ Some (with_bytes [] (take n bytes)) =
       changed_seen e.value.stream (give_bytes n bytes) (called c) st.stream st.at
       ∙ ap (λ (y : Seen). let r : Seen = record y { given = y.given ++ take n bytes } in Some r) st.is
-      ∙ ap (λ (b : List ℕ). let r : Seen = record s { taken = b; given = s.given ++ take n bytes } in Some r) (sym (append-nil s.taken)) in
+      ∙ ap (λ (b : List ℕ). let r : Seen = record s { taken = b; given = s.given ++ take n bytes } in Some r) (sym (append-nil s.taken))
+      ∙ ap (λ (b : Bool). let r : Seen = record s { taken = s.taken ++ []; given = s.given ++ take n bytes; closed = b } in Some r)
+      same_closed in
       moved_streamed (look c) (look d) c.labelled log log port t hands x sound e is [] (take n bytes) [] k stream client is_now
       (λ j other. others_seen e.value.stream (give_bytes n bytes) (called c) j other) (λ f. sym (none_on_any e.flow f (put_on Device f log)))
       (λ f. sym (none_on_any e.flow f (got_on Device f log))) (λ f on. on) drains asked
-      (taken_more s [] (s.given ++ take n bytes) whole_line)
+      (taken_more s [] (s.given ++ take n bytes) k.closed whole_line)

@@ -1,4 +1,5 @@
 pub mod Lines
+pub mod Tabled
 pub mod Streamed
 pub mod Hosts
 pub mod HostCalls
@@ -8,3 +9,4 @@ pub mod Gives
 pub mod Cids
 pub mod Short
 pub mod Changing
+pub mod Closing

@@ -6,19 +6,20 @@ use Rattle.std.proofs.lemmas.Option.{get_or_from_slice_get, slice_get_within}
 use Rattle.std.specs.{List.All, List.find, Option.option_map, Option.option_map_or}
 use Rattle.vs_conn.specs.End.{answering, asked}
 use Rattle.vs_device_parts.specs.{Connections.new_connection, State.DeviceConnection}
-use Rattle.vs_flow.specs.{Flow.host_flow, Flow.is_assigned, Table.Table, Table.with_entry, declared.flow.Flow.Flow}
+use Rattle.vs_flow.specs.{Flow.host_flow, Flow.is_assigned, Table.IsTable, Table.Table, Table.with_entry, declared.flow.Flow.Flow}
 use Rattle.vs_flow.proofs.{Entries.found_passes, Lookups.find_place}
 use Rattle.vs_header.specs.declared.Header.{Header}
 use Rattle.vs_limits.specs.declared.TheConstants.{BUF_ALLOC}
-use Rattle.vs_outside.specs.Host.{HostContents, Stream, after_dial, after_label, after_read, called, dialed_stream, fails_now, has_label}
-use Rattle.vs_outside.specs.Host.{next_bytes, read_answer, read_of, stream_at, take_bytes, with_label_call}
+use Rattle.vs_outside.specs.Host.{HostContents, Stream, after_close, after_dial, after_label, after_read, called, dialed_stream, fails_now}
+use Rattle.vs_outside.specs.Host.{has_label, next_bytes, read_answer, read_of, stream_at, take_bytes, with_label_call}
 use Rattle.vs_outside.specs.HostBytes.{after_line}
 use Rattle.vs_page.specs.Log.{Device, Log}
 use Rattle.vs_proxy_parts.specs.{Handshakes.with_line, Handshakes.without_stream, State.Handshake}
 use Rattle.vs_uds.specs.{OkLine.ok_text, Reading.is_decided, declared.connect.TheConstants.CONNECT_MAX}
 use Rattle.laws_device_bytes.specs.Streamed.{AreLines, AreStreamed, IsStreamed, Seen, client_waits, has_line, line_for, look, reading, seen}
 use Rattle.laws_bytes.specs.Drains.{got_on, has_passed, put_on}
-use Rattle.laws_device_bytes.proofs.{Hosts.changed_seen, Hosts.others_seen, Hosts.there, HostCalls.more_kept, HostCalls.some_seen}
+use Rattle.laws_device_bytes.proofs.{Hosts.changed_seen, Hosts.others_seen, Hosts.there, HostCalls.closed_host, HostCalls.more_kept}
+use Rattle.laws_device_bytes.proofs.HostCalls.{some_seen}
 use Rattle.laws_bytes.proofs.Logs.{none_got, none_put}
 use Rattle.laws_device_bytes.proofs.Streamed.{opened_streamed, unlabelled_streamed}
 use Rattle.laws_device_bytes.proofs.Hands.{with_all, with_apart, without_all, without_none, without_pairs}
@@ -81,31 +82,45 @@ without_lines at id hands x = record {
   apart = without_pairs (λ (g : Handshake) (h : Handshake). g.stream ≢ h.stream) id hands x.apart;
 }
 
-pub without_host : (c : HostContents) (log : Log) (port : ℕ) (t : Table DeviceConnection) (hands : List Handshake) (id : ℕ)
-    → IsStreamed c log port t hands → IsStreamed c log port t (without_stream id hands)
-without_host c log port t hands id x = record {
+-- Other lines are read.
+other_lines : (c : HostContents) (log : Log) (port : ℕ) (t : Table DeviceConnection) (hands lines : List Handshake)
+    → IsStreamed c log port t hands
+    → AreLines (look c) lines → IsStreamed c log port t lines
+other_lines c log port t hands lines x reads = record {
   joined = x.joined;
-  labels = x.labels;
-  unique = x.unique;
-  none = x.none;
-  waiting = x.waiting;
-  lines = without_lines (look c) id hands x.lines;
-}
-
-pub no_lines : (c : HostContents) (log : Log) (port : ℕ) (t : Table DeviceConnection) (hands : List Handshake)
-    → IsStreamed c log port t hands → IsStreamed c log port t []
-no_lines c log port t hands x = record {
-  joined = x.joined;
-  labels = x.labels;
-  unique = x.unique;
-  none = x.none;
-  waiting = x.waiting;
-  lines = record {
-    read = λ i h within. absurd (omega (arith, within));
-    undecided = λ i h within. absurd (omega (arith, within));
-    apart = λ i j h less within. absurd (omega (arith, within));
+  tabled = x.tabled;
+  streams = record {
+    labels = x.streams.labels;
+    unique = x.streams.unique;
+    none = x.streams.none;
+    waiting = x.streams.waiting;
+    lines = reads;
   };
 }
+
+pub without_host : (c : HostContents) (log : Log) (port : ℕ) (t : Table DeviceConnection) (hands : List Handshake) (id : ℕ)
+    → IsStreamed c log port t hands → IsStreamed c log port t (without_stream id hands)
+without_host c log port t hands id x = other_lines c log port t hands (without_stream id hands) x
+    (without_lines (look c) id hands x.streams.lines)
+
+-- It ends, and its stream is closed.
+pub dropped_host : (c : HostContents) (log : Log) (port : ℕ) (t : Table DeviceConnection) (hands : List Handshake) (id : ℕ) (h : Handshake)
+    → IsStreamed c log port t hands → IsHand (look c) id h → IsStreamed (after_close id c) log port t (without_stream id hands)
+dropped_host c log port t hands id h x hand =
+    closed_host id c log port t (without_stream id hands) (without_host c log port t hands id x)
+    (λ s seen_now. ap (λ (y : Seen). y.label) (sym (some_seen (reading h.line) s (sym hand.there ∙ seen_now))))
+    (without_none id hands x.streams.lines.apart)
+
+pub first_dropped : (c : HostContents) (log : Log) (port : ℕ) (t : Table DeviceConnection) (h : Handshake) (hands : List Handshake)
+    → IsStreamed c log port t (h ∷ hands) → IsStreamed (after_close h.stream c) log port t hands
+first_dropped c log port t h hands x =
+    let here : (h.stream == h.stream) ≡ true = grind arith in
+    subst (λ (b : Bool). IsStreamed (after_close h.stream c) log port t (cond b hands (h ∷ without_stream h.stream hands))) here
+    (dropped_host c log port t (h ∷ hands) h.stream h x (record {
+      stream = refl;
+      there = x.streams.lines.read 0 h (omega arith);
+      undecided = x.streams.lines.undecided 0 h (omega arith);
+    }))
 
 -- A byte more of a line.
 module _ (c : HostContents) (log : Log) (port : ℕ) (t : Table DeviceConnection) (hands : List Handshake) (x : IsStreamed c log port t hands)
@@ -153,28 +168,28 @@ module _ (c : HostContents) (log : Log) (port : ℕ) (t : Table DeviceConnection
   line_more open_line = unlabelled_streamed (look c) (look read_on) c.labelled log port t hands (with_line id (h.line ++ bytes) hands) x
       (λ j u is. back j u is (j == id) refl) kept (record {
         read = with_all (λ (g : Handshake). look c g.stream ≡ Some (reading g.line)) (λ (g : Handshake). look read_on g.stream ≡ Some (reading g.line))
-            id (h.line ++ bytes) hands x.lines.apart x.lines.read (λ g same old. ap (look read_on) same ∙ line_now)
+            id (h.line ++ bytes) hands x.streams.lines.apart x.streams.lines.read (λ g same old. ap (look read_on) same ∙ line_now)
             (λ g other old. sym (others_now g.stream other) ∙ old);
         undecided = with_all (λ (g : Handshake). is_decided CONNECT_MAX g.line ≡ false) (λ (g : Handshake). is_decided CONNECT_MAX g.line ≡ false)
-            id (h.line ++ bytes) hands x.lines.apart x.lines.undecided (λ g same old. open_line) (λ g other old. old);
-        apart = with_apart id (h.line ++ bytes) hands x.lines.apart;
+            id (h.line ++ bytes) hands x.streams.lines.apart x.streams.lines.undecided (λ g same old. open_line) (λ g other old. old);
+        apart = with_apart id (h.line ++ bytes) hands x.streams.lines.apart;
       })
 
   pub line_over : IsStreamed read_on log port t (without_stream id hands)
   line_over = unlabelled_streamed (look c) (look read_on) c.labelled log port t hands (without_stream id hands) x
       (λ j u is. back j u is (j == id) refl) kept (record {
         read = λ i g within.
-            let away = without_none id hands x.lines.apart i g within in
-            let old = without_all (λ (k : Handshake). look c k.stream ≡ Some (reading k.line)) id hands x.lines.read i g within in
+            let away = without_none id hands x.streams.lines.apart i g within in
+            let old = without_all (λ (k : Handshake). look c k.stream ≡ Some (reading k.line)) id hands x.streams.lines.read i g within in
             sym (others_now (get_or (without_stream id hands) i g).stream away) ∙ old;
-        undecided = without_all (λ (k : Handshake). is_decided CONNECT_MAX k.line ≡ false) id hands x.lines.undecided;
-        apart = without_pairs (λ (g : Handshake) (k : Handshake). g.stream ≢ k.stream) id hands x.lines.apart;
+        undecided = without_all (λ (k : Handshake). is_decided CONNECT_MAX k.line ≡ false) id hands x.streams.lines.undecided;
+        apart = without_pairs (λ (g : Handshake) (k : Handshake). g.stream ≢ k.stream) id hands x.streams.lines.apart;
       })
 
 -- LABEL: a whole line opens a connection.
 module _ (c : HostContents) (log : Log) (port : ℕ) (t : Table DeviceConnection) (lines : List Handshake) (x : IsStreamed c log port t lines)
     (id guest : ℕ) (line : List ℕ) (here : look c id ≡ Some (reading line)) (away : All (λ h. h.stream ≢ id) lines)
-    (whole : has_line line ≡ true) (none_behind : after_line line ≡ []) (inside : is_assigned port ≡ true) where
+    (whole : has_line line ≡ true) (none_behind : after_line line ≡ []) (inside : is_assigned port ≡ true) (sound : IsTable t) where
   abbrev f : Flow
   f = host_flow guest port
 
@@ -197,16 +212,17 @@ module _ (c : HostContents) (log : Log) (port : ℕ) (t : Table DeviceConnection
       ap (λ (o : Option Stream). option_map_or (λ (y : Stream). is_some y.label) o false) s.at ∙ ap (λ (o : Option Flow). is_some o) label
 
   fresh_label : (j : ℕ) (u : Seen) → look c j ≡ Some u → u.label ≢ Some f
-  fresh_label j u is on = let old = x.labels j u f is on in absurd (omega (arith, old.ported inside))
+  fresh_label j u is on = let old = x.streams.labels j u f is on in absurd (omega (arith, old.ported inside))
 
   pub label_host : IsStreamed labelled_now log (port + 1) (with_entry t f (new_connection (asked kind.Stream BUF_ALLOC) id true)) lines
   label_host =
-      let none : put_on Device f log ≡ [] = x.none f fresh_label in
+      let none : put_on Device f log ≡ [] = x.streams.none f fresh_label in
       subst (λ (ids : List ℕ). AreStreamed (look labelled_now) ids log (port + 1) (with_entry t f (new_connection (asked kind.Stream BUF_ALLOC) id true)) lines)
       (sym (ap (λ (b : Bool). cond b c.labelled (c.labelled ++ id ∷ [])) no_label))
       (opened_streamed (look c) (look labelled_now) c.labelled log log port (port + 1) t lines lines x id (record (reading line) { label = Some f }) f
       (new_connection (asked kind.Stream BUF_ALLOC) id true) label_seen refl refl others_labelled
-      (λ b is. ap (λ (s : Seen). s.label) (sym (some_seen (reading line) b (sym here ∙ is)))) (omega arith) (λ g. refl) (λ g. refl) (λ g is. is) fresh_label refl
+      (λ b is. ap (λ (s : Seen). s.label) (sym (some_seen (reading line) b (sym here ∙ is)))) (omega arith) (λ g. refl) (λ g. refl)
+      (λ g is. is) fresh_label sound refl refl
       (record {
         listed = Contains-push c.labelled id;
         client = sym inside;
@@ -221,13 +237,14 @@ module _ (c : HostContents) (log : Log) (port : ℕ) (t : Table DeviceConnection
         there = label_seen;
         label = refl;
         client = sym inside;
+        closed = refl;
         drains = record { front = (line_for f ++ got_on Device f log, refl); whole = λ is. absurd cc };
-        asked = λ is. (refl, refl, refl);
+        asked = λ is. (refl, refl, refl, refl);
       })
       (record {
-        read = λ i h within. sym (others_labelled (get_or lines i h).stream (away i h within)) ∙ x.lines.read i h within;
-        undecided = x.lines.undecided;
-        apart = x.lines.apart;
+        read = λ i h within. sym (others_labelled (get_or lines i h).stream (away i h within)) ∙ x.streams.lines.read i h within;
+        undecided = x.streams.lines.undecided;
+        apart = x.streams.lines.apart;
       }))
 
 -- DIAL: a connection opens with a new stream.
@@ -246,7 +263,8 @@ get_other (x ∷ xs) y zero other = refl
 get_other (x ∷ xs) y (suc k) other = get_other xs y k (λ same. other (ap suc same))
 
 module _ (c : HostContents) (log new : Log) (port : ℕ) (t : Table DeviceConnection) (hands : List Handshake) (x : IsStreamed c log port t hands)
-    (f : Flow) (h : Header) (outside : is_assigned f.host ≡ false) (quiet : has_passed Device f log ≡ false) (passes : has_passed Device f new ≡ true)
+    (sound : IsTable t) (f : Flow) (h : Header) (outside : is_assigned f.host ≡ false) (quiet : has_passed Device f log ≡ false)
+    (passes : has_passed Device f new ≡ true)
     (put : (g : Flow) → put_on Device g log ≡ put_on Device g new) (got : (g : Flow) → got_on Device g log ≡ got_on Device g new)
     (passed : (g : Flow) → has_passed Device g log ≡ true → has_passed Device g new ≡ true) where
   abbrev new_stream : Stream
@@ -284,7 +302,7 @@ module _ (c : HostContents) (log new : Log) (port : ℕ) (t : Table DeviceConnec
 
   fresh_dial : (j : ℕ) (u : Seen) → look c j ≡ Some u → u.label ≢ Some f
   fresh_dial j u is on =
-      let old = x.labels j u f is on in
+      let old = x.streams.labels j u f is on in
       let both : true ≡ false = sym (old.passed outside) ∙ quiet in
       absurd cc
 
@@ -297,7 +315,8 @@ module _ (c : HostContents) (log new : Log) (port : ℕ) (t : Table DeviceConnec
       let none_got_on : got_on Device f new ≡ [] = sym (got f) ∙ none_got Device f log quiet in
       let all : line_for f ++ got_on Device f new ≡ [] = ap (λ (bytes : List ℕ). bytes ++ got_on Device f new) no_first_line ∙ none_got_on in
       opened_streamed (look c) (look dialed_now) c.labelled log new port port t hands hands x (length c.streams + 1) (seen (dialed_stream f c.prepared)) f
-      (new_connection (answering kind.Stream BUF_ALLOC h) (length c.streams + 1) false) dialed_seen refl refl others_dialed nothing_before (omega arith) put got passed fresh_dial refl
+      (new_connection (answering kind.Stream BUF_ALLOC h) (length c.streams + 1) false) dialed_seen refl refl others_dialed nothing_before
+      (omega arith) put got passed fresh_dial sound refl refl
       (record {
         listed = Contains-push c.labelled (length c.streams + 1);
         client = sym outside;
@@ -312,11 +331,13 @@ module _ (c : HostContents) (log new : Log) (port : ℕ) (t : Table DeviceConnec
         there = dialed_seen;
         label = refl;
         client = sym outside;
+        closed = refl;
         drains = record { front = (line_for f ++ got_on Device f new, refl); whole = λ is. sym all };
         asked = λ is. absurd cc;
       })
       (record {
-        read = λ i g within. more_kept (dialed_stream f c.prepared) c (get_or hands i g).stream (reading (get_or hands i g).line) (x.lines.read i g within);
-        undecided = x.lines.undecided;
-        apart = x.lines.apart;
+        read = λ i g within. more_kept (dialed_stream f c.prepared) c (get_or hands i g).stream (reading (get_or hands i g).line)
+            (x.streams.lines.read i g within);
+        undecided = x.streams.lines.undecided;
+        apart = x.streams.lines.apart;
       })

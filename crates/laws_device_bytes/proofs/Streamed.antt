@@ -12,8 +12,10 @@ use Rattle.vs_flow.proofs.Entries.{same_flow_true}
 use Rattle.vs_page.specs.{Fair.IsPrefixOf, Log.Device, Log.Log}
 use Rattle.vs_proxy_parts.specs.State.{Handshake}
 use Rattle.laws_bytes.specs.Drains.{Drains, got_on, has_passed, put_on}
-use Rattle.laws_device_bytes.specs.Streamed.{AreLines, AreStreamed, IsJoined, IsLabelled, Seen, client_waits, gives, line_for, reading}
-use Rattle.laws_device_bytes.specs.Streamed.{taken_of}
+use Rattle.laws_device_bytes.specs.Streamed.{AreLabelled, AreLines, AreStreamed, IsJoined, IsLabelled, Seen, client_waits, gives, line_for}
+use Rattle.laws_device_bytes.specs.Streamed.{reading, taken_of}
+use Rattle.laws_device_bytes.proofs.Tabled.{stream_comes, stream_kept, stream_now, stream_other, stream_stays}
+use Rattle.laws_device_streams.specs.Streams.{stream_under}
 use Rattle.laws_bytes.proofs.{Changes.changed, Changes.others_left, Logs.longer, Logs.none_on_any, Logs.not_on, Logs.only_on, Logs.shorter}
 use Rattle.laws_bytes.proofs.Logs.{there_on}
 use Rattle.laws_device_bytes.proofs.Lines.{line_longer}
@@ -37,6 +39,7 @@ module _ (at now : ℕ → Option Seen) (labelled : List ℕ) (log new : Log) (p
     there = sym (same e.value.stream) ∙ x.there;
     label = x.label;
     client = x.client;
+    closed = x.closed;
     drains = subst (λ (bytes : List ℕ). Drains (gives e.value.end) x.stream.given (e.value.ok_line ++ e.value.pending) (line_for e.flow ++ bytes))
         (got e.flow) x.drains;
     asked = x.asked;
@@ -64,11 +67,14 @@ module _ (at now : ℕ → Option Seen) (labelled : List ℕ) (log new : Log) (p
       → AreStreamed now labelled new port t lines
   same_streamed t lines x = record {
     joined = All-weaker (IsJoined at log) (IsJoined now new) same_joined t.entries x.joined;
-    labels = λ id s f there label. same_labelled id s f (x.labels id s f (same id ∙ there) label);
-    unique = λ i j s u f a b. x.unique i j s u f (same i ∙ a) (same j ∙ b);
-    none = λ f without. sym (put f) ∙ x.none f (λ id s there. without id s (sym (same id) ∙ there));
-    waiting = λ id s there. x.waiting id s (same id ∙ there);
-    lines = same_lines lines x.lines;
+    tabled = λ id s f there label. x.tabled id s f (same id ∙ there) label;
+    streams = record {
+      labels = λ id s f there label. same_labelled id s f (x.streams.labels id s f (same id ∙ there) label);
+      unique = λ i j s u f a b. x.streams.unique i j s u f (same i ∙ a) (same j ∙ b);
+      none = λ f without. sym (put f) ∙ x.streams.none f (λ id s there. without id s (sym (same id) ∙ there));
+      waiting = λ id s there. x.streams.waiting id s (same id ∙ there);
+      lines = same_lines lines x.streams.lines;
+    };
   }
 
 -- The stream of a connection.
@@ -82,26 +88,27 @@ module _ (at now : ℕ → Option Seen) (labelled : List ℕ) (log new : Log) (p
   abbrev pub join : IsJoined at log e
   join = join_of at labelled log port t lines x e is
 
-  abbrev pub after : Seen
-  after = record join.stream { taken = join.stream.taken ++ more; given = join.stream.given ++ gave }
+  abbrev pub after : Bool → Seen
+  after closed = record join.stream { taken = join.stream.taken ++ more; given = join.stream.given ++ gave; closed = closed }
 
   old_label : IsLabelled e.value.stream join.stream e.flow labelled log port
-  old_label = x.labels e.value.stream join.stream e.flow join.there join.label
+  old_label = x.streams.labels e.value.stream join.stream e.flow join.there join.label
 
   module _ (c : DeviceConnection) (stream : c.stream ≡ e.value.stream) (client : c.by_client ≡ e.value.by_client)
-      (there : now e.value.stream ≡ Some after) (others : (id : ℕ) → id ≢ e.value.stream → at id ≡ now id)
+      (there : now e.value.stream ≡ Some (after c.closed)) (others : (id : ℕ) → id ≢ e.value.stream → at id ≡ now id)
       (put : (f : Flow) → put_on Device f new ≡ put_on Device f log ++ only_on e.flow more f)
       (got : (f : Flow) → got_on Device f new ≡ got_on Device f log ++ only_on e.flow came f)
       (passed : (f : Flow) → has_passed Device f log ≡ true → has_passed Device f new ≡ true)
       (drains : Drains (gives c.end) (join.stream.given ++ gave) (c.ok_line ++ c.pending) (line_for e.flow ++ got_on Device e.flow new))
-      (asked : c.end.state ≡ Asked → (join.stream.given ++ gave ≡ []) × (c.ok_line ≡ []) × (c.pending ≡ []))
-      (reads : taken_of after ≡ taken_of join.stream ++ more) where
+      (asked : c.end.state ≡ Asked → (join.stream.given ++ gave ≡ []) × (c.ok_line ≡ []) × (c.pending ≡ []) × (c.closed ≡ false))
+      (reads : taken_of (after c.closed) ≡ taken_of join.stream ++ more) where
     new_join : IsJoined now new (record e { value = c })
     new_join = record {
-      stream = after;
+      stream = after c.closed;
       there = ap now stream ∙ there;
       label = join.label;
       client = client ∙ join.client;
+      closed = refl;
       drains = drains;
       asked = asked;
     }
@@ -124,12 +131,13 @@ module _ (at now : ℕ → Option Seen) (labelled : List ℕ) (log new : Log) (p
       there = sym (others y.value.stream (other_stream y.value.stream j.stream y.flow j.there j.label other)) ∙ j.there;
       label = j.label;
       client = j.client;
+      closed = j.closed;
       drains = subst (λ (bytes : List ℕ). Drains (gives y.value.end) j.stream.given (y.value.ok_line ++ y.value.pending) (line_for y.flow ++ bytes))
           (got_other y.flow other) j.drains;
       asked = j.asked;
     }
 
-    here_labelled : IsLabelled e.value.stream after e.flow labelled new port
+    here_labelled : IsLabelled e.value.stream (after c.closed) e.flow labelled new port
     here_labelled = record {
       listed = old_label.listed;
       client = old_label.client;
@@ -145,7 +153,7 @@ module _ (at now : ℕ → Option Seen) (labelled : List ℕ) (log new : Log) (p
         → (before : Seen) × (at id ≡ Some before) × (before.label ≡ s.label) × (before.waiting ≡ s.waiting)
     was id s seen true same =
         let id_is : id ≡ e.value.stream = grind (arith, nat_tests, same) in
-        let one : after ≡ s = one_seen now e.value.stream after s there (ap now (sym id_is) ∙ seen) in
+        let one : after c.closed ≡ s = one_seen now e.value.stream (after c.closed) s there (ap now (sym id_is) ∙ seen) in
         (join.stream, ap at id_is ∙ join.there, ap (λ (y : Seen). y.label) one, ap (λ (y : Seen). y.waiting) one)
     was id s seen false other = (s, others id (grind (arith, nat_tests, other)) ∙ seen, refl, refl)
 
@@ -153,16 +161,17 @@ module _ (at now : ℕ → Option Seen) (labelled : List ℕ) (log new : Log) (p
         → IsLabelled id s f labelled new port
     labels_at id s f seen label true same =
         let id_is : id ≡ e.value.stream = grind (arith, nat_tests, same) in
-        let one : after ≡ s = one_seen now e.value.stream after s there (ap now (sym id_is) ∙ seen) in
+        let one : after c.closed ≡ s = one_seen now e.value.stream (after c.closed) s there (ap now (sym id_is) ∙ seen) in
         let flow : e.flow ≡ f = some_inj e.flow f (sym join.label ∙ ap (λ (y : Seen). y.label) one ∙ label) in
         subst (λ (g : Flow). IsLabelled id s g labelled new port) flow
         (subst (λ (y : Seen). IsLabelled id y e.flow labelled new port) one
-        (subst (λ (i : ℕ). IsLabelled i after e.flow labelled new port) (sym id_is) here_labelled))
+        (subst (λ (i : ℕ). IsLabelled i (after c.closed) e.flow labelled new port) (sym id_is) here_labelled))
     labels_at id s f seen label false other =
         let apart : id ≢ e.value.stream = grind (arith, nat_tests, other) in
         let before : at id ≡ Some s = others id apart ∙ seen in
-        let old = x.labels id s f before label in
-        let off : f ≢ e.flow = λ flow. apart (x.unique id e.value.stream s join.stream f before join.there label (join.label ∙ ap (λ (g : Flow). Some g) (sym flow))) in
+        let old = x.streams.labels id s f before label in
+        let off : f ≢ e.flow = λ flow. apart (x.streams.unique id e.value.stream s join.stream f before join.there label (join.label
+        ∙ ap (λ (g : Flow). Some g) (sym flow))) in
         record {
           listed = old.listed;
           client = old.client;
@@ -178,51 +187,74 @@ module _ (at now : ℕ → Option Seen) (labelled : List ℕ) (log new : Log) (p
         let one : reading h.line ≡ join.stream = one_seen at e.value.stream (reading h.line) join.stream (ap at (sym same) ∙ seen) join.there in
         not_none join.stream e.flow join.label (ap (λ (y : Seen). y.label) (sym one))
 
-    pub moved_streamed : AreStreamed now labelled new port (with_value t e.slot c) lines
-    moved_streamed = record {
-      joined = changed t sound e is (IsJoined at log) (IsJoined now new) c x.joined new_join other_joined;
+    waits_at : (id : ℕ) (s : Seen) → now id ≡ Some s → s.waiting ≡ true → (b : Bool) → (id == e.value.stream) ≡ b → s ≡ client_waits
+    waits_at id s seen waits true same =
+        let id_is : id ≡ e.value.stream = grind (arith, nat_tests, same) in
+        let one : after c.closed ≡ s = one_seen now e.value.stream (after c.closed) s there (ap now (sym id_is) ∙ seen) in
+        let was_client = x.streams.waiting e.value.stream join.stream join.there (ap (λ (y : Seen). y.waiting) one ∙ waits) in
+        absurd (not_none join.stream e.flow join.label (ap (λ (y : Seen). y.label) was_client))
+    waits_at id s seen waits false other = x.streams.waiting id s (others id (grind (arith, nat_tests, other)) ∙ seen) waits
+
+    moved_labels : AreLabelled now labelled new port lines
+    moved_labels = record {
       labels = λ id s f seen label. labels_at id s f seen label (id == e.value.stream) refl;
       unique = λ i j s u f a b p q.
           let k = was i s a (i == e.value.stream) refl in
           let l = was j u b (j == e.value.stream) refl in
-          x.unique i j k.0 l.0 f k.1 l.1 (k.2 ∙ p) (l.2 ∙ q);
+          x.streams.unique i j k.0 l.0 f k.1 l.1 (k.2 ∙ p) (l.2 ∙ q);
       none = λ f without.
-          let off : f ≢ e.flow = λ flow. without e.value.stream after there (join.label ∙ ap (λ (g : Flow). Some g) (sym flow)) in
-          sym (put_other f off) ∙ x.none f (λ id s seen label.
+          let off : f ≢ e.flow = λ flow. without e.value.stream (after c.closed) there (join.label
+          ∙ ap (λ (g : Flow). Some g) (sym flow)) in
+          sym (put_other f off) ∙ x.streams.none f (λ id s seen label.
           let apart : id ≢ e.value.stream = other_stream id s f seen label off in
           without id s (sym (others id apart) ∙ seen) label);
-      waiting = λ id s seen waits.
-          let k = was id s seen (id == e.value.stream) refl in
-          waits_at id s seen waits (id == e.value.stream) refl;
+      waiting = λ id s seen waits. waits_at id s seen waits (id == e.value.stream) refl;
       lines = record {
         read = λ i h within.
             let y = get_or lines i h in
-            sym (others y.stream (line_apart y (x.lines.read i h within))) ∙ x.lines.read i h within;
-        undecided = x.lines.undecided;
-        apart = x.lines.apart;
+            sym (others y.stream (line_apart y (x.streams.lines.read i h within))) ∙ x.streams.lines.read i h within;
+        undecided = x.streams.lines.undecided;
+        apart = x.streams.lines.apart;
       };
     }
-      where
-        waits_at : (id : ℕ) (s : Seen) → now id ≡ Some s → s.waiting ≡ true → (b : Bool) → (id == e.value.stream) ≡ b → s ≡ client_waits
-        waits_at id s seen waits true same =
-            let id_is : id ≡ e.value.stream = grind (arith, nat_tests, same) in
-            let one : after ≡ s = one_seen now e.value.stream after s there (ap now (sym id_is) ∙ seen) in
-            let was_client = x.waiting e.value.stream join.stream join.there (ap (λ (y : Seen). y.waiting) one ∙ waits) in
-            absurd (not_none join.stream e.flow join.label (ap (λ (y : Seen). y.label) was_client))
-        waits_at id s seen waits false other = x.waiting id s (others id (grind (arith, nat_tests, other)) ∙ seen) waits
 
--- A connection leaves.
+    pub moved_streamed : AreStreamed now labelled new port (with_value t e.slot c) lines
+    moved_streamed = record {
+      joined = changed t sound e is (IsJoined at log) (IsJoined now new) c x.joined new_join other_joined;
+      tabled = λ id s f seen label still. tabled_at id s f seen label still (id == e.value.stream) refl;
+      streams = moved_labels;
+    }
+      where
+        tabled_at : (id : ℕ) (s : Seen) (f : Flow) → now id ≡ Some s → s.label ≡ Some f → s.closed ≡ false → (b : Bool)
+            → (id == e.value.stream) ≡ b
+            → (slot : ℕ) × (stream_under (with_value t e.slot c) slot ≡ Some id)
+        tabled_at id s f seen label still true same =
+            let id_is : id ≡ e.value.stream = grind (arith, nat_tests, same) in
+            let one : after c.closed ≡ s = one_seen now e.value.stream (after c.closed) s there (ap now (sym id_is) ∙ seen) in
+            (e.slot, stream_now t sound e is c (ap (λ (y : Seen). y.closed) one ∙ still) ∙ ap (λ (i : ℕ). Some i) (stream ∙ sym id_is))
+        tabled_at id s f seen label still false other =
+            let apart : id ≢ e.value.stream = grind (arith, nat_tests, other) in
+            let old = x.tabled id s f (others id apart ∙ seen) label still in
+            (old.0, stream_other t sound e is c old.0 id old.1 apart)
+
+-- A connection leaves whose stream is closed.
 pub left_streamed : (at : ℕ → Option Seen) (labelled : List ℕ) (log : Log) (port : ℕ) (t : Table DeviceConnection) (lines : List Handshake)
-    → AreStreamed at labelled log port t lines → IsTable t → (e : DeviceEntry) → Contains t.entries e
+    → AreStreamed at labelled log port t lines → IsTable t → (e : DeviceEntry) → Contains t.entries e → e.value.closed ≡ true
     → AreStreamed at labelled log port (without t e.slot) lines
-left_streamed at labelled log port t lines x sound e is = record {
+left_streamed at labelled log port t lines x sound e is shut = record {
   joined = others_left t sound e is (IsJoined at log) (IsJoined at log) x.joined (λ y other j. j);
-  labels = x.labels;
-  unique = x.unique;
-  none = x.none;
-  waiting = x.waiting;
-  lines = x.lines;
+  tabled = λ id s f there label still.
+      let old = x.tabled id s f there label still in
+      (old.0, stream_stays t sound e is old.0 id old.1 (apart id s there still));
+  streams = x.streams;
 }
+  where
+    apart : (id : ℕ) (s : Seen) → at id ≡ Some s → s.closed ≡ false → id ≢ e.value.stream
+    apart id s there still same =
+        let j = join_of at labelled log port t lines x e is in
+        let one : s ≡ j.stream = one_seen at e.value.stream s j.stream (ap at (sym same) ∙ there) j.there in
+        let both : false ≡ true = sym still ∙ ap (λ (y : Seen). y.closed) one ∙ j.closed ∙ shut in
+        absurd cc
 
 -- Bytes come in on a flow that none of its connections is given.
 pub passed_streamed : (at : ℕ → Option Seen) (labelled : List ℕ) (log new : Log) (port : ℕ) (t : Table DeviceConnection) (lines : List Handshake)
@@ -234,21 +266,24 @@ pub passed_streamed : (at : ℕ → Option Seen) (labelled : List ℕ) (log new 
     → AreStreamed at labelled new port t lines
 passed_streamed at labelled log new port t lines x on came put got passed idle = record {
   joined = λ i e within. joins (get_or t.entries i e) (idle i e within) (x.joined i e within);
-  labels = λ id s f seen label.
-      let old = x.labels id s f seen label in
-      record {
-        listed = old.listed;
-        client = old.client;
-        whole = old.whole;
-        took = sym (put f) ∙ old.took;
-        gave = comes s.given f old.gave;
-        ported = old.ported;
-        passed = λ is. passed f (old.passed is);
-      };
-  unique = x.unique;
-  none = λ f without. sym (put f) ∙ x.none f without;
-  waiting = x.waiting;
-  lines = x.lines;
+  tabled = x.tabled;
+  streams = record {
+    labels = λ id s f seen label.
+        let old = x.streams.labels id s f seen label in
+        record {
+          listed = old.listed;
+          client = old.client;
+          whole = old.whole;
+          took = sym (put f) ∙ old.took;
+          gave = comes s.given f old.gave;
+          ported = old.ported;
+          passed = λ is. passed f (old.passed is);
+        };
+    unique = x.streams.unique;
+    none = λ f without. sym (put f) ∙ x.streams.none f without;
+    waiting = x.streams.waiting;
+    lines = x.streams.lines;
+  };
 }
   where
     same_after : (f : Flow) → line_for f ++ got_on Device f new ≡ (line_for f ++ got_on Device f log) ++ only_on on came f
@@ -264,6 +299,7 @@ passed_streamed at labelled log new port t lines x on came put got passed idle =
       there = j.there;
       label = j.label;
       client = j.client;
+      closed = j.closed;
       drains = record {
         front = comes (j.stream.given ++ (e.value.ok_line ++ e.value.pending)) e.flow j.drains.front;
         whole = λ is. j.drains.whole is ∙ sym (same_after e.flow ∙ ap (λ (bytes : List ℕ). (line_for e.flow ++ got_on Device e.flow log) ++ bytes)
@@ -279,7 +315,7 @@ passed_streamed at labelled log new port t lines x on came put got passed idle =
 -- The same, where the connection's bytes go through it one after another.
 module _ (at now : ℕ → Option Seen) (labelled : List ℕ) (log new : Log) (port : ℕ) (t : Table DeviceConnection) (lines : List Handshake)
     (x : AreStreamed at labelled log port t lines) (sound : IsTable t) (e : DeviceEntry) (is : Contains t.entries e) (c : DeviceConnection)
-    (stream : c.stream ≡ e.value.stream) (client : c.by_client ≡ e.value.by_client) where
+    (stream : c.stream ≡ e.value.stream) (client : c.by_client ≡ e.value.by_client) (closed : c.closed ≡ e.value.closed) where
   abbrev pub joined_here : IsJoined at log e
   joined_here = join_of at labelled log port t lines x e is
 
@@ -288,21 +324,29 @@ module _ (at now : ℕ → Option Seen) (labelled : List ℕ) (log new : Log) (p
       → ((f : Flow) → got_on Device f new ≡ got_on Device f log ++ only_on e.flow came f)
       → ((f : Flow) → has_passed Device f log ≡ true → has_passed Device f new ≡ true)
       → Drains (gives c.end) joined_here.stream.given (c.ok_line ++ c.pending) (line_for e.flow ++ got_on Device e.flow new)
-      → (c.end.state ≡ Asked → (joined_here.stream.given ≡ []) × (c.ok_line ≡ []) × (c.pending ≡ []))
+      → (c.end.state ≡ Asked → (joined_here.stream.given ≡ []) × (c.ok_line ≡ []) × (c.pending ≡ []) × (c.closed ≡ false))
       → AreStreamed now labelled new port (with_value t e.slot c) lines
   changed_streamed came same put got passed drains asked =
       let s = joined_here.stream in
-      let unchanged : record s { taken = s.taken ++ []; given = s.given ++ [] } ≡ s = same_seen s in
+      let unchanged : record s { taken = s.taken ++ []; given = s.given ++ []; closed = c.closed } ≡ s =
+      same_seen s c.closed (closed ∙ sym joined_here.closed) in
       moved_streamed at now labelled log new port t lines x sound e is [] [] came c stream client
       (sym (same e.value.stream) ∙ joined_here.there ∙ ap (λ (y : Seen). Some y) (sym unchanged)) (λ id other. same id)
       (λ f. sym (put f) ∙ sym (none_on_any e.flow f (put_on Device f log))) got passed
       (subst (λ (bytes : List ℕ). Drains (gives c.end) bytes (c.ok_line ++ c.pending) (line_for e.flow ++ got_on Device e.flow new)) (sym (append-nil s.given)) drains)
-      (λ is. subst (λ (bytes : List ℕ). (bytes ≡ []) × (c.ok_line ≡ []) × (c.pending ≡ [])) (sym (append-nil s.given)) (asked is))
+      (λ is. subst (λ (bytes : List ℕ). (bytes ≡ []) × (c.ok_line ≡ []) × (c.pending ≡ []) × (c.closed ≡ false)) (sym (append-nil s.given))
+      (asked is))
       (ap taken_of unchanged ∙ sym (append-nil (taken_of s)))
     where
-      same_seen : (s : Seen) → record s { taken = s.taken ++ []; given = s.given ++ [] } ≡ s
-      same_seen s = ap (λ (bytes : List ℕ). let y : Seen = record s { taken = bytes; given = s.given ++ [] } in y) (append-nil s.taken)
-          ∙ ap (λ (bytes : List ℕ). let y : Seen = record s { given = bytes } in y) (append-nil s.given)
+      same_seen : (s : Seen) (closed : Bool) → closed ≡ s.closed → record s {
+        taken = s.taken ++ [];
+        given = s.given ++ [];
+        closed = closed;
+      } ≡ s
+      same_seen s closed is = ap (λ (bytes : List ℕ). let y : Seen = record s { taken = bytes; given = s.given ++ []; closed = closed } in
+          y) (append-nil s.taken)
+          ∙ ap (λ (bytes : List ℕ). let y : Seen = record s { given = bytes; closed = closed } in y) (append-nil s.given)
+          ∙ ap (λ (b : Bool). let y : Seen = record s { closed = b } in y) is
 
 -- A stream opens for a connection.
 module _ (at now : ℕ → Option Seen) (labelled : List ℕ) (log new : Log) (port next : ℕ) (t : Table DeviceConnection) (hands lines : List Handshake)
@@ -316,7 +360,7 @@ module _ (at now : ℕ → Option Seen) (labelled : List ℕ) (log new : Log) (p
 
   still_labelled : (j : ℕ) (u : Seen) (g : Flow) → at j ≡ Some u → u.label ≡ Some g → IsLabelled j u g (labelled ++ id ∷ []) new next
   still_labelled j u g seen on =
-      let old = x.labels j u g seen on in
+      let old = x.streams.labels j u g seen on in
       record {
         listed = Contains-append_left labelled (id ∷ []) j old.listed;
         client = old.client;
@@ -333,6 +377,7 @@ module _ (at now : ℕ → Option Seen) (labelled : List ℕ) (log new : Log) (p
     there = sym (others e.value.stream (not_here e.value.stream j.stream e.flow j.there j.label)) ∙ j.there;
     label = j.label;
     client = j.client;
+    closed = j.closed;
     drains = subst (λ (bytes : List ℕ). Drains (gives e.value.end) j.stream.given (e.value.ok_line ++ e.value.pending) (line_for e.flow ++ bytes))
         (got e.flow) j.drains;
     asked = j.asked;
@@ -344,18 +389,30 @@ module _ (at now : ℕ → Option Seen) (labelled : List ℕ) (log new : Log) (p
   it_is : (j : ℕ) (u : Seen) → now j ≡ Some u → (j == id) ≡ true → s ≡ u
   it_is j u seen same = let place : j ≡ id = grind (arith, nat_tests, same) in one_seen now id s u there (ap now (sym place) ∙ seen)
 
-  pub opened_streamed : c.stream ≡ id → IsLabelled id s f (labelled ++ id ∷ []) new next → IsJoined now new (next_entry t f c) → AreLines now lines
+  pub opened_streamed : IsTable t → c.stream ≡ id → c.closed ≡ false → IsLabelled id s f (labelled ++ id ∷ []) new next
+      → IsJoined now new (next_entry t f c) → AreLines now lines
       → AreStreamed now (labelled ++ id ∷ []) new next (with_entry t f c) lines
-  opened_streamed stream here joins reads = record {
+  opened_streamed sound stream still here joins reads = record {
     joined = All-push (IsJoined now new) t.entries (next_entry t f c) (All-weaker (IsJoined at log) (IsJoined now new) still_joined t.entries x.joined) joins;
-    labels = λ j u g seen on. labels_by j u g seen on (j == id) refl;
-    unique = λ i j u v g a b p q. unique_by i j u v g a b p q (i == id) (j == id) refl refl;
-    none = λ g without. sym (put g) ∙ x.none g (λ j u seen on.
-        without j u (sym (others j (not_here j u g seen on)) ∙ seen) on);
-    waiting = λ j u seen waits. waiting_by j u seen waits (j == id) refl;
-    lines = reads;
+    tabled = λ j u g seen on open_now. tabled_by j u g seen on open_now (j == id) refl;
+    streams = record {
+      labels = λ j u g seen on. labels_by j u g seen on (j == id) refl;
+      unique = λ i j u v g a b p q. unique_by i j u v g a b p q (i == id) (j == id) refl refl;
+      none = λ g without. sym (put g) ∙ x.streams.none g (λ j u seen on.
+          without j u (sym (others j (not_here j u g seen on)) ∙ seen) on);
+      waiting = λ j u seen waits. waiting_by j u seen waits (j == id) refl;
+      lines = reads;
+    };
   }
     where
+      tabled_by : (j : ℕ) (u : Seen) (g : Flow) → now j ≡ Some u → u.label ≡ Some g → u.closed ≡ false → (b : Bool) → (j == id) ≡ b
+          → (slot : ℕ) × (stream_under (with_entry t f c) slot ≡ Some j)
+      tabled_by j u g seen on open_now true same =
+          let place : j ≡ id = grind (arith, nat_tests, same) in
+          (t.given, stream_comes t f c sound still ∙ ap (λ (i : ℕ). Some i) (stream ∙ sym place))
+      tabled_by j u g seen on open_now false other =
+          let old = x.tabled j u g (was_there j u seen other) on open_now in (old.0, stream_kept t f c old.0 j old.1)
+
       labels_by : (j : ℕ) (u : Seen) (g : Flow) → now j ≡ Some u → u.label ≡ Some g → (b : Bool) → (j == id) ≡ b
           → IsLabelled j u g (labelled ++ id ∷ []) new next
       labels_by j u g seen on true same =
@@ -370,7 +427,7 @@ module _ (at now : ℕ → Option Seen) (labelled : List ℕ) (log new : Log) (p
       waiting_by : (j : ℕ) (u : Seen) → now j ≡ Some u → u.waiting ≡ true → (b : Bool) → (j == id) ≡ b → u ≡ client_waits
       waiting_by j u seen waits true same =
           let both : false ≡ true = sym busy ∙ ap (λ (y : Seen). y.waiting) (it_is j u seen same) ∙ waits in absurd cc
-      waiting_by j u seen waits false other = x.waiting j u (was_there j u seen other) waits
+      waiting_by j u seen waits false other = x.streams.waiting j u (was_there j u seen other) waits
 
       flow_of_new : (j : ℕ) (u : Seen) (g : Flow) → now j ≡ Some u → u.label ≡ Some g → (j == id) ≡ true → f ≡ g
       flow_of_new j u g seen on same = some_inj f g (sym label ∙ ap (λ (y : Seen). y.label) (it_is j u seen same) ∙ on)
@@ -384,7 +441,7 @@ module _ (at now : ℕ → Option Seen) (labelled : List ℕ) (log new : Log) (p
       unique_by i j u v g a b p q false true r t =
           let flow = flow_of_new j v g b q t in
           absurd (fresh i u (was_there i u a r) (p ∙ ap (λ (h : Flow). Some h) (sym flow)))
-      unique_by i j u v g a b p q false false r t = x.unique i j u v g (was_there i u a r) (was_there j v b t) p q
+      unique_by i j u v g a b p q false false r t = x.streams.unique i j u v g (was_there i u a r) (was_there j v b t) p q
 
 -- Streams without a label change, or come: none of them waits for anything but to be accepted.
 module _ (at now : ℕ → Option Seen) (labelled : List ℕ) (log : Log) (port : ℕ) (t : Table DeviceConnection) (hands lines : List Handshake)
@@ -405,17 +462,21 @@ module _ (at now : ℕ → Option Seen) (labelled : List ℕ) (log : Log) (port 
       there = kept e.value.stream j.stream e.flow j.there j.label;
       label = j.label;
       client = j.client;
+      closed = j.closed;
       drains = j.drains;
       asked = j.asked;
     }) t.entries x.joined;
-    labels = λ j u f seen on. x.labels j u f (labelled_before j u f seen on) on;
-    unique = λ i j u v f a b p q. x.unique i j u v f (labelled_before i u f a p) (labelled_before j v f b q) p q;
-    none = λ f without. x.none f (λ j u seen on. without j u (kept j u f seen on) on);
-    waiting = λ j u seen waits. by j u waits (back j u seen).0 (back j u seen).1 (back j u seen).2;
-    lines = reads;
+    tabled = λ j u f seen on. x.tabled j u f (labelled_before j u f seen on) on;
+    streams = record {
+      labels = λ j u f seen on. x.streams.labels j u f (labelled_before j u f seen on) on;
+      unique = λ i j u v f a b p q. x.streams.unique i j u v f (labelled_before i u f a p) (labelled_before j v f b q) p q;
+      none = λ f without. x.streams.none f (λ j u seen on. without j u (kept j u f seen on) on);
+      waiting = λ j u seen waits. by j u waits (back j u seen).0 (back j u seen).1 (back j u seen).2;
+      lines = reads;
+    };
   }
     where
       by : (j : ℕ) (u : Seen) → u.waiting ≡ true → (b : Bool) → (b ≡ true → at j ≡ Some u)
           → (b ≡ false → (u.label ≡ None) × (u.waiting ≡ true → u ≡ client_waits)) → u ≡ client_waits
-      by j u waits true is other = x.waiting j u (is refl) waits
+      by j u waits true is other = x.streams.waiting j u (is refl) waits
       by j u waits false is other = (other refl).1 waits

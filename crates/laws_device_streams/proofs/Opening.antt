@@ -11,13 +11,14 @@ use Rattle.vs_limits.specs.declared.TheConstants.{BUF_ALLOC}
 use Rattle.vs_outside.specs.Host.{HostContents, IsOpen, after_close, after_label}
 use Rattle.vs_outside.proofs.Frames.{open-after_label, others-after_label}
 use Rattle.vs_ring_port.specs.{Contents.PublishCid, declared.failure.Failure.Failure}
-use Rattle.vs_device_parts.specs.{State.DeviceConnection, State.DeviceEntry, State.DeviceState, Streams.closing}
-use Rattle.vs_device_parts.specs.Calls.{Call, Label, Ring, Situation, DeviceTree, Allows}
+use Rattle.vs_device_parts.specs.{State.DeviceConnection, State.DeviceState, Streams.closing}
+use Rattle.vs_device_parts.specs.Calls.{Call, CloseStream, Label, Ring, Situation, DeviceTree, Allows}
 use Rattle.vs_device_parts.specs.Connections.{new_connection, stream_closed, with_client}
 use Rattle.vs_device_parts.specs.Turns.{after_reset, close_slot, new_device, open_of, reset_of}
 use Rattle.laws_device_streams.specs.Streams.{AreOpen, FindsFree, FindsStreams, HasStreams, IsFree, JoinsStreams}
 use Rattle.laws_device_streams.specs.Split.{CanReach, is_quiet}
-use Rattle.laws_device_streams.proofs.{Closing.keeps_closing, Keeping.Keeps, Keeping.keeps_each, Keeping.keeps_then, Writing.all_stay}
+use Rattle.laws_device_walk.proofs.Keeping.{keeps_if, keeps_some}
+use Rattle.laws_device_streams.proofs.{Keeping.Keeps, Keeping.asking, Keeping.keeps_each, Keeping.keeps_then, Writing.all_stay}
 use Rattle.laws_device_streams.proofs.Tables.{IsEntry, closed_at, entry_by_slot, fewer, has_added, some_after, some_from, stream_by_entry}
 use Rattle.laws_device_streams.proofs.Tables.{stream_changed, stream_closed_under, value_by_entry}
 
@@ -93,28 +94,24 @@ module _ (Can : Call → Situation → Type 0) (reaches : (call : Call) (s : Sit
   Joins s c = ForSome c.host (JoinsStreams others s.table)
 
   keeps_close_slot : (slot : ℕ) (s : DeviceState) (c : Situation) → Joins s c → Keeps Can Allows Joins (close_slot slot s) c
-  keeps_close_slot slot s c joins = by (entry_under s.table slot) refl
-    where
-      closes : (e : DeviceEntry) → IsEntry s.table e → Keeps Can Allows Joins (closing e stream_closed s) c
-      closes e found =
-          let u : Table DeviceConnection = with_value s.table e.slot (stream_closed e.value) in
-          keeps_closing Can reaches Joins e stream_closed s c
-          (λ still. some_from c.host (JoinsStreams others s.table) (IsOpen e.value.stream)
-          (λ h joins. joins.all_open e.slot e.value.stream (stream_by_entry s.table e found still)) joins)
-          (λ was. some_from c.host (JoinsStreams others s.table) (JoinsStreams others u)
-          (λ h joins. fewer others s.table h u (with_value_sound s.table e.slot (stream_closed e.value) joins.table)
-          (λ j id at. sym (stream_changed s.table e.slot j e.value (stream_closed e.value) (value_by_entry s.table e found) (rw was refl))
-          ∙ at) joins) joins)
-          (λ still d allowed. some_after c.host d.host _ (after_close e.value.stream) (JoinsStreams others s.table)
-          (JoinsStreams others u) allowed.host
-          (λ h any joins. closed_at others s.table h u e.slot e.value.stream
-          (with_value_sound s.table e.slot (stream_closed e.value) joins.table)
-          (stream_by_entry s.table e found still) (λ j. stream_closed_under s.table e.slot j (stream_closed e.value) refl) joins) joins)
-
-      by : (o : Option DeviceEntry) → entry_under s.table slot ≡ o
-          → Keeps Can Allows Joins (elim o [ None ↦ Done s | Some e ↦ closing e stream_closed s ]) c
-      by None found = joins
-      by (Some e) found = closes e (entry_by_slot s.table slot e found)
+  keeps_close_slot slot s c joins =
+      keeps_some (asking Can Allows) Joins (entry_under s.table slot) (Done s) (λ e. closing e stream_closed s) c (λ none. joins)
+      (λ e under.
+      let found : IsEntry s.table e = entry_by_slot s.table slot e under in
+      let u : Table DeviceConnection = with_value s.table e.slot (stream_closed e.value) in
+      keeps_if (asking Can Allows) Joins e.value.closed _ _ c
+      (λ was. some_from c.host (JoinsStreams others s.table) (JoinsStreams others u)
+      (λ h joins. fewer others s.table h u (with_value_sound s.table e.slot (stream_closed e.value) joins.table)
+      (λ j id at. sym (stream_changed s.table e.slot j e.value (stream_closed e.value) (value_by_entry s.table e found) (rw was refl))
+      ∙ at) joins) joins) (λ still. (
+        reaches (CloseStream e.value.stream) c refl (some_from c.host (JoinsStreams others s.table) (IsOpen e.value.stream)
+            (λ h joins. joins.all_open e.slot e.value.stream (stream_by_entry s.table e found still)) joins),
+        λ a d allowed. some_after c.host d.host _ (after_close e.value.stream) (JoinsStreams others s.table)
+            (JoinsStreams others u) allowed.host
+            (λ h any joins. closed_at others s.table h u e.slot e.value.stream
+            (with_value_sound s.table e.slot (stream_closed e.value) joins.table)
+            (stream_by_entry s.table e found still) (λ j. stream_closed_under s.table e.slot j (stream_closed e.value) refl) joins) joins,
+      )))
 
   pub keeps_reset : (cid : ℕ) (s : DeviceState) (c : Situation) → FindsStreams others s c
       → Keeps Can Allows (λ x d. FindsStreams others x.0 d) (reset_of cid s) c

@@ -1,7 +1,7 @@
 -- Where a stage ends for want of a page: the last load showed none that isn't taken.
-use Rattle.std.proofs.Common.{◌≡◌, ◌≢◌, ◌≤◌, ◌+◌, ◌-◌, ◌==◌, ℕ, zero, suc, nat_lt, nat_le, Bool, true, false, not, cond, List, [], ◌∷◌}
-use Rattle.std.proofs.Common.{length, Option, Some, None, Result, Err, refl, sym, ap, subst, ◌∙◌, arith}
-use Rattle.vs_conn.specs.{End.owes_of, End.wanting_credit, Headers.owed_header, Headers.payload_header, declared.end.Owed.Owed}
+use Rattle.std.proofs.Common.{◌≡◌, ◌≢◌, ◌+◌, ◌-◌, ◌==◌, ℕ, zero, suc, nat_lt, nat_le, Bool, true, false, not, cond, List, [], ◌∷◌, length}
+use Rattle.std.proofs.Common.{Option, Some, None, Result, Err, refl, sym, ap, subst, ◌∙◌}
+use Rattle.vs_conn.specs.{End.owes_of, Headers.owed_header, Headers.payload_header, declared.end.Owed.Owed}
 use Rattle.vs_conn.specs.declared.end.TheConstants.{OWED_MAX}
 use Rattle.vs_conn.specs.declared.end.Owed.TheVariants as owed
 use Rattle.vs_contents.specs.{CallTree.Ask, CallTree.Done, CallTree.bind, CallTree.for_each, CallTree.while_up_to, Contents.Relates}
@@ -14,24 +14,24 @@ use Rattle.vs_replies.specs.declared.Reply.{Reply}
 use Rattle.vs_ring_port.specs.Contents.{DeviceAnswer, DeviceCall, Return, RingContents, Take, Write}
 use Rattle.vs_ring_port.specs.Known.{Known, StopsAt}
 use Rattle.vs_ring_port.specs.declared.{device_ring.Chain.Chain, device_ring.Next.Next, failure.Failure.Failure, queue.Queue.Queue}
-use Rattle.vs_ring_port.specs.declared.queue.Queue.TheVariants.{Event, Rx, Tx}
+use Rattle.vs_ring_port.specs.declared.queue.Queue.TheVariants.{Rx, Tx}
 use Rattle.vs_ring_port.specs.declared.device_ring.Next.TheVariants as next
-use Rattle.vs_ring_port.specs.declared.failure.Failure.TheVariants as failure
 use Rattle.vs_ring_port.proofs.{Knowing.device_keeps, Stopping.NotFewer, Stopping.at_first, Stopping.grown_by, Stopping.stops_by}
 use Rattle.vs_limits.specs.declared.TheConstants.{DEVICE_REPLIES}
-use Rattle.vs_device_parts.specs.{declared.answers.Filled.Filled, declared.answers.Taken.Taken, Calls.Allows, Calls.Call, Calls.CloseStream}
-use Rattle.vs_device_parts.specs.{Calls.DeviceTree, Calls.ReadStream, Calls.Ring, Calls.Situation, Connections.cut_off}
-use Rattle.vs_device_parts.specs.Connections.{route_to_guest, stream_closed, with_connection, with_fault}
+use Rattle.vs_device_parts.specs.{declared.answers.Filled.Filled, declared.answers.Taken.Taken, Calls.Allows, Calls.Call, Calls.DeviceTree}
+use Rattle.vs_device_parts.specs.{Calls.ReadStream, Calls.Ring, Calls.Situation, Connections.cut_off}
+use Rattle.vs_device_parts.specs.Connections.{route_to_guest, stream_closed, with_fault}
 use Rattle.vs_device_parts.specs.Receiving.{Filling, after_paying, fill_rx_of, filled_of, hold, holding, may_read, put_on, put_owed}
 use Rattle.vs_device_parts.specs.Receiving.{put_packet, put_reply, put_reply_of, read_answered, read_room, read_stream, read_with_chain}
 use Rattle.vs_device_parts.specs.Receiving.{reply_header, round_from, serve_slot, written}
 use Rattle.vs_device_parts.specs.{State.DeviceConnection, State.DeviceEntry, State.DeviceState, Steps.filling, Streams.closing}
-use Rattle.vs_device_parts.specs.{Streams.leaving, Transmitting.failing, Transmitting.on_header, Transmitting.on_next}
-use Rattle.vs_device_parts.specs.{Transmitting.on_packet, Transmitting.take_tx_of, Playing.Runs}
+use Rattle.vs_device_parts.specs.{Streams.leaving, Transmitting.on_header, Transmitting.on_next, Transmitting.on_packet}
+use Rattle.vs_device_parts.specs.{Transmitting.take_tx_of, Playing.Runs}
 use Rattle.vs_device_parts.specs.declared.answers.Taken.TheVariants as taken
 use Rattle.laws_device_streams.specs.Waiting.{filling_of}
 use Rattle.vs_contents.proofs.Leads.{leads_bind, leads_split}
-use Rattle.laws_device_streams.proofs.Keeping.{Keeps, keeps_each, keeps_end, keeps_then}
+use Rattle.laws_device_walk.proofs.Keeping.{keeps_if, keeps_some}
+use Rattle.laws_device_streams.proofs.Keeping.{Keeps, asking, keeps_each, keeps_end, keeps_then}
 
 -- Each call may be made here.
 abbrev pub CanAny : Call → Situation → Type 0
@@ -207,14 +207,9 @@ module _ (a : Option Known) where
   -- The host's calls leave the ring.
   keeps_closing : (rs : List Reply) (e : DeviceEntry) (f : DeviceConnection → DeviceConnection) (s : DeviceState) (c : Situation) → Leaves rs s c
       → Keeps CanAny Allows (Leaves rs) (closing e f s) c
-  keeps_closing rs e f s c left = by e.value.closed
-    where
-      done : DeviceTree DeviceState
-      done = Done (with_connection e.slot (f e.value) s)
-
-      by : (b : Bool) → Keeps CanAny Allows (Leaves rs) (cond b done (Ask (CloseStream e.value.stream) (λ _. done))) c
-      by true = left
-      by false = (tt, λ x d allowed. (grown_same Rx a c d allowed.ring left.0, left.1))
+  keeps_closing rs e f s c left =
+      keeps_if (asking CanAny Allows) (Leaves rs) e.value.closed _ _ c (λ closed. left)
+      (λ still. (tt, λ x d allowed. (grown_same Rx a c d allowed.ring left.0, left.1)))
 
   keeps_leaving : (rs : List Reply) (e : DeviceEntry) (s : DeviceState) (c : Situation) → Leaves rs s c
       → Keeps CanAny Allows (Leaves rs) (leaving e s) c
@@ -227,33 +222,22 @@ module _ (a : Option Known) where
       → Keeps CanAny Allows (Leaves rs) (after_paying what e s) c
   keeps_after_paying rs owed.Rst e s c left = keeps_leaving rs e (record s { last_put = Some e.slot }) c left
   keeps_after_paying rs owed.Request e s c left = left
-  keeps_after_paying rs owed.Response e s c left = left
-  keeps_after_paying rs owed.CreditUpdate e s c left = left
-  keeps_after_paying rs owed.CreditRequest e s c left = left
-  keeps_after_paying rs (owed.Shutdown bits) e s c left = left
+  keeps_after_paying rs what e s c left = left
 
   keeps_put_owed : (rs : List Reply) (slot : ℕ) (r : Filling) (c : Situation) → Goes rs r c → Keeps CanAny Allows (Steps rs rs) (put_owed slot r) c
-  keeps_put_owed rs slot r c goes = by (entry_under r.state.table slot)
+  keeps_put_owed rs slot r c goes =
+      keeps_some (asking CanAny Allows) (Steps rs rs) (entry_under r.state.table slot) (Done (r, false))
+      (λ e. elim (owes_of e.value.end) [ None ↦ Done (r, false) | Some what ↦ puts e what ]) c (λ none. goes.1) (λ e found.
+      keeps_some (asking CanAny Allows) (Steps rs rs) (owes_of e.value.end) (Done (r, false)) (puts e) c (λ none. goes.1) (λ what owes.
+      keeps_then CanAny Allows (Steps rs rs) (Ends rs) (put_packet (owed_header e.value.end (route_to_guest r.state.cid e.flow) what)
+      (after_paying what e) r) (λ q. Done (q, not q.over)) c
+      (keeps_put_packet rs rs (owed_header e.value.end (route_to_guest r.state.cid e.flow) what) (after_paying what e)
+      (λ s d left. keeps_after_paying rs what e s d left) r c goes)
+      (λ q d ends. step_of rs rs q d ends)))
     where
       puts : DeviceEntry → Owed → DeviceTree (Filling × Bool)
       puts e what = bind (put_packet (owed_header e.value.end (route_to_guest r.state.cid e.flow) what) (after_paying what e) r)
           (λ q. Done (q, not q.over))
-
-      owing : (e : DeviceEntry) (o : Option Owed) → Keeps CanAny Allows (Steps rs rs) (elim o [ None ↦ Done (r, false) | Some what ↦ puts e what ]) c
-      owing e None = goes.1
-      owing e (Some what) =
-          keeps_then CanAny Allows (Steps rs rs) (Ends rs) (put_packet (owed_header e.value.end (route_to_guest r.state.cid e.flow) what)
-          (after_paying what e) r) (λ q. Done (q, not q.over)) c
-          (keeps_put_packet rs rs (owed_header e.value.end (route_to_guest r.state.cid e.flow) what) (after_paying what e)
-          (λ s d left. keeps_after_paying rs what e s d left) r c goes)
-          (λ q d ends. step_of rs rs q d ends)
-
-      by : (o : Option DeviceEntry) → Keeps CanAny Allows (Steps rs rs) (elim o [
-        | None ↦ Done (r, false)
-        | Some e ↦ elim (owes_of e.value.end) [ None ↦ Done (r, false) | Some what ↦ puts e what ]
-      ]) c
-      by None = goes.1
-      by (Some e) = owing e (owes_of e.value.end)
 
   owed_keep : (rs : List Reply) (slot n : ℕ) (r : Filling) (c : Situation) → Goes rs r c
       → Keeps CanAny Allows (Ends rs) (while_up_to n (put_owed slot) r) c
@@ -296,40 +280,21 @@ module _ (a : Option Known) where
 
   keeps_read_stream : (rs : List Reply) (e : DeviceEntry) (r : Filling) (c : Situation) → Goes rs r c
       → Keeps CanAny Allows (Ends rs) (read_stream e r) c
-  keeps_read_stream rs e r c goes = by (may_read e.value.end e.value.end.state) (free_of e.value.end.credit == 0)
-    where
-      wants : DeviceTree Filling
-      wants = Done (record r { state = with_connection e.slot (record e.value { end = wanting_credit e.value.end }) r.state })
-
-      by : (b d : Bool) → Keeps CanAny Allows (Ends rs) (cond b (cond d wants (bind (hold r) (read_with_chain e))) (Done r)) c
-      by false d = goes.1
-      by true true = goes.1
-      by true false = keeps_then CanAny Allows (Ends rs) (Held rs) (hold r) (read_with_chain e) c (keeps_hold rs r c goes)
-          (λ q d held. keeps_read_with_chain rs e q d held)
+  keeps_read_stream rs e r c goes =
+      keeps_if (asking CanAny Allows) (Ends rs) (may_read e.value.end e.value.end.state) _ _ c (λ may.
+      keeps_if (asking CanAny Allows) (Ends rs) (free_of e.value.end.credit == 0) _ _ c (λ none. goes.1) (λ some.
+      keeps_then CanAny Allows (Ends rs) (Held rs) (hold r) (read_with_chain e) c (keeps_hold rs r c goes)
+      (λ q d held. keeps_read_with_chain rs e q d held))) (λ not_now. goes.1)
 
   -- The round.
   keeps_serve_slot : (rs : List Reply) (slot : ℕ) (r : Filling) (c : Situation) → Ends rs r c
       → Keeps CanAny Allows (Ends rs) (serve_slot slot r) c
-  keeps_serve_slot rs slot r c ends = by r.over refl
-    where
-      reads : Goes rs r c → (o : Option DeviceEntry) → Keeps CanAny Allows (Ends rs) (elim o [ None ↦ Done r | Some e ↦ read_stream e r ]) c
-      reads goes None = ends
-      reads goes (Some e) = keeps_read_stream rs e r c goes
-
-      pays : (q : Filling) (d : Situation) → Ends rs q d → (b : Bool) → q.over ≡ b
-          → Keeps CanAny Allows (Ends rs) (cond b (Done q) (while_up_to OWED_MAX (put_owed slot) q)) d
-      pays q d kept true over = kept
-      pays q d kept false on = owed_keep rs slot OWED_MAX q d (on, kept)
-
-      rest : Filling → DeviceTree Filling
-      rest q = cond q.over (Done q) (while_up_to OWED_MAX (put_owed slot) q)
-
-      by : (b : Bool) → r.over ≡ b → Keeps CanAny Allows (Ends rs)
-          (cond b (Done r) (bind (elim (entry_under r.state.table slot) [ None ↦ Done r | Some e ↦ read_stream e r ]) rest)) c
-      by true over = ends
-      by false on =
-          keeps_then CanAny Allows (Ends rs) (Ends rs) (elim (entry_under r.state.table slot) [ None ↦ Done r | Some e ↦ read_stream e r ]) rest c
-          (reads (on, ends) (entry_under r.state.table slot)) (λ q d kept. pays q d kept q.over refl)
+  keeps_serve_slot rs slot r c ends =
+      keeps_if (asking CanAny Allows) (Ends rs) r.over _ _ c (λ over. ends) (λ on.
+      keeps_then CanAny Allows (Ends rs) (Ends rs) (elim (entry_under r.state.table slot) [ None ↦ Done r | Some e ↦ read_stream e r ]) _ c
+      (keeps_some (asking CanAny Allows) (Ends rs) (entry_under r.state.table slot) (Done r) (λ e. read_stream e r) c (λ none. ends)
+      (λ e found. keeps_read_stream rs e r c (on, ends))) (λ q d kept.
+      keeps_if (asking CanAny Allows) (Ends rs) q.over _ _ d (λ over. kept) (λ still. owed_keep rs slot OWED_MAX q d (still, kept))))
 
 -- The stage from its start.
 module _ (s : DeviceState) (c : Situation) where
@@ -340,16 +305,12 @@ module _ (s : DeviceState) (c : Situation) where
   keeps_filling =
       keeps_then CanAny Allows (Ends First []) (Ends First []) (while_up_to (length s.replies) put_reply (filling s)) rounds c
       (replies_keep First s.replies (filling s) c (going First s.replies (filling s) c refl (at_first Rx First) refl))
-      (λ r d ends. round r d ends r.over)
+      (λ r d ends. keeps_if (asking CanAny Allows) (Ends First []) r.over _ _ d (λ over. ends) (λ on.
+      keeps_each CanAny Allows (Ends First []) serve_slot (λ slot q e kept. keeps_serve_slot First [] slot q e kept)
+      (round_from r.state.last_put (slots r.state.table)) r d ends))
     where
       rounds : Filling → DeviceTree Filling
       rounds r = cond r.over (Done r) (for_each serve_slot (round_from r.state.last_put (slots r.state.table)) r)
-
-      round : (r : Filling) (d : Situation) → Ends First [] r d → (b : Bool)
-          → Keeps CanAny Allows (Ends First []) (cond b (Done r) (for_each serve_slot (round_from r.state.last_put (slots r.state.table)) r)) d
-      round r d ends true = ends
-      round r d ends false = keeps_each CanAny Allows (Ends First []) serve_slot (λ slot q e kept. keeps_serve_slot First [] slot q e kept)
-          (round_from r.state.last_put (slots r.state.table)) r d ends
 
 pub over_stops : (s : DeviceState) (c d : Situation) (q : Filling) → Runs (filling_of s) c q d → q.over ≡ true → q.state.failed ≡ None
     → Stops Rx c.ring.known d
@@ -415,33 +376,24 @@ module _ (s : DeviceState) (c : Situation) where
   Takes x d = x.1 ≡ taken.None → Stops Tx c.ring.known d
 
   heads : (chain : Chain) (h : Header) (d : Situation) → Keeps CanAny Allows Takes (on_header chain h s) d
-  heads chain h d = by (nat_lt (chain.readable - HEADER_LEN) h.len)
-    where
-      by : (b : Bool) → Keeps CanAny Allows Takes
-          (cond b (let f = failure.PayloadShort h.len (chain.readable - HEADER_LEN) in Done (failing f s, taken.Failed f))
-          (bind (on_packet chain h s) (λ r. Ask (Ring (Return chain 0)) (λ _. Done (r.0, taken.Packet r.1))))) d
-      by true = λ none. absurd cc
-      by false =
-          keeps_then CanAny Allows Takes (λ r e. Unit {0}) (on_packet chain h s)
-          (λ r. Ask (Ring (Return chain 0)) (λ _. Done (r.0, taken.Packet r.1))) d
-          (keeps_any (on_packet chain h s) d) (λ r e any. (tt, λ y i allowed none. absurd cc))
+  heads chain h d =
+      keeps_if (asking CanAny Allows) Takes (nat_lt (chain.readable - HEADER_LEN) h.len) _ _ d (λ short none. absurd cc) (λ whole.
+      keeps_then CanAny Allows Takes (λ r e. Unit {0}) (on_packet chain h s) _ d (keeps_any (on_packet chain h s) d)
+      (λ r e any. (tt, λ y i allowed none. absurd cc)))
 
   nexts : (answer : Next) (d : Situation) → Allows (Ring (Take Tx)) answer c d → Keeps CanAny Allows Takes (on_next answer s) d
   nexts (next.Chain chain) d allowed = (tt, λ bytes e also. heads chain (header_of bytes) e)
   nexts next.None d allowed = λ none. stops_ring Tx c.ring.known c d allowed (at_first Tx c.ring.known)
   nexts (next.Failed f) d allowed = λ none. absurd cc
 
-  full : (b : Bool) → Keeps CanAny Allows Takes
-      (cond b (Done (s, taken.RepliesFull DEVICE_REPLIES)) (Ask (Ring (Take Tx)) (λ answer. on_next answer s))) c
-  full true = λ none. absurd cc
-  full false = (tt, λ answer d allowed. nexts answer d allowed)
-
   failed_by : (o : Option Failure) → Keeps CanAny Allows Takes (elim o [
     | Some f ↦ Done (s, taken.Failed f)
     | None ↦ cond (nat_le DEVICE_REPLIES (length s.replies)) (Done (s, taken.RepliesFull DEVICE_REPLIES)) (Ask (Ring (Take Tx)) (λ answer. on_next answer s))
   ]) c
   failed_by (Some f) = λ none. absurd cc
-  failed_by None = full (nat_le DEVICE_REPLIES (length s.replies))
+  failed_by None =
+      keeps_if (asking CanAny Allows) Takes (nat_le DEVICE_REPLIES (length s.replies)) _ _ c (λ full none. absurd cc)
+      (λ room. (tt, λ answer d allowed. nexts answer d allowed))
 
   pub take_stops : (d : Situation) (x : DeviceState × Taken) → Runs (take_tx_of s) c x d → Takes x d
   take_stops d x runs = keeps_end CanAny Allows Takes (take_tx_of s) c d x (failed_by s.failed) runs

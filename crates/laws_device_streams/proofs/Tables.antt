@@ -4,9 +4,9 @@ use Rattle.std.proofs.{Common.subst, Common.◌∙◌, Common.arith, lemmas.Bool
 use Rattle.std.specs.Option.{ForSome, option_map, option_and_then, option_or}
 use Rattle.vs_conn.specs.declared.end.State.TheVariants.{Ended}
 use Rattle.vs_contents.specs.Contents.{Exposes}
-use Rattle.vs_flow.specs.Table.{Table, IsTable, entry_of, entry_under, value_under, next_entry, with_entry, with_value, without, revalued}
+use Rattle.vs_flow.specs.Table.{Table, IsTable, entry_under, value_under, next_entry, with_entry, with_value, without, revalued}
 use Rattle.vs_flow.specs.declared.flow.Flow.{Flow}
-use Rattle.vs_flow.proofs.Lookups.{entry_under-with_entry, entry_under-with_value, entry_under-without, entry_of_found}
+use Rattle.vs_flow.proofs.Lookups.{entry_under-with_entry, entry_under-with_value, entry_under-without}
 use Rattle.vs_flow.proofs.Tables.{with_value_sound, without_sound}
 use Rattle.vs_outside.specs.Host.{HostContents, IsOpen, after_close}
 use Rattle.vs_outside.proofs.Frames.{others-after_close, stays_open}
@@ -20,9 +20,6 @@ IsEntry t e = entry_under t e.slot ≡ Some e
 
 pub entry_by_slot : (t : Table DeviceConnection) (slot : ℕ) (e : DeviceEntry) → entry_under t slot ≡ Some e → IsEntry t e
 entry_by_slot t slot e found = let P : ℕ → Type 0 = λ n. entry_under t n ≡ Some e in subst P (sym (has_slot t slot e found)) found
-
-pub entry_by_flow : (t : Table DeviceConnection) (flow : Flow) (e : DeviceEntry) → IsTable t → entry_of t flow ≡ Some e → IsEntry t e
-entry_by_flow t flow e sound found = (entry_of_found t flow e sound found).under
 
 abbrev pub value_in : Option DeviceEntry → Option DeviceConnection
 value_in o = option_map (λ e. e.value) o

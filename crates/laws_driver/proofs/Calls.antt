@@ -1,6 +1,6 @@
 -- What each call of the driver keeps over an honest ring.
-use Rattle.std.proofs.Common.{◌≡◌, ℕ, ◌+◌, ◌<◌, ◌≤◌, ◌^◌, ◌==◌, Bool, true, false, cond, min, List, [], ◌∷◌, length, take, Option, Some, None}
-use Rattle.std.proofs.Common.{Result, Ok, Err, refl, sym, ap, subst, ◌∙◌, arith, length-take}
+use Rattle.std.proofs.Common.{◌≡◌, ℕ, ◌+◌, ◌<◌, ◌≤◌, ◌^◌, ◌==◌, Bool, true, false, cond, min, List, [], ◌∷◌, length, take, Option, Some}
+use Rattle.std.proofs.Common.{None, Result, Ok, Err, refl, sym, ap, subst, ◌∙◌, arith, length-take}
 use Rattle.std.specs.Prelude.{IsOkAnd}
 use Rattle.vs_contents.specs.CallTree.{Done, Ask, bind}
 use Rattle.vs_conn.specs.{End.CanSend, End.may_send_of, End.wanting_credit, End.with_payload_sent, declared.end.Stop.Stop}
@@ -14,10 +14,11 @@ use Rattle.vs_ring_port.specs.declared.queue.Queue.TheVariants.{Rx, Tx, Event}
 use Rattle.laws_tables.specs.{Matches.Matches, Steps.payload_on, Steps.request_on}
 use Rattle.laws_tables.proofs.Keeps.{start_matches}
 use Rattle.vs_driver_parts.specs.declared.answers.{ConnectError.ConnectError, Polled.Polled, Sent.Sent}
-use Rattle.vs_driver_parts.specs.{Connections.connect_refusal, Connections.connected, Connections.next_flow, Playing.MayPublishAll, Playing.Plays}
-use Rattle.vs_driver_parts.specs.Conversations.{DriverTree, connect_of, connect_with_page, has_page, load_cid, new_of, new_state, no_credit, not_sent}
-use Rattle.vs_driver_parts.specs.Conversations.{one_more_in_flight, payload_bytes, payload_of, poll_of, post_all, post_events, post_one}
-use Rattle.vs_driver_parts.specs.Conversations.{post_packet, posts, publish_of, reap_all, request_bytes, send_of, send_stopped}
+use Rattle.vs_driver_parts.specs.{Connections.connect_refusal, Connections.connected, Connections.next_flow, Playing.MayPublishAll}
+use Rattle.vs_driver_parts.specs.{Playing.Plays}
+use Rattle.vs_driver_parts.specs.Conversations.{DriverTree, connect_of, connect_with_page, has_page, load_cid, new_of, new_state, no_credit}
+use Rattle.vs_driver_parts.specs.Conversations.{not_sent, one_more_in_flight, payload_bytes, payload_of, poll_of, post_all, post_events}
+use Rattle.vs_driver_parts.specs.Conversations.{post_one, post_packet, posts, publish_of, reap_all, request_bytes, send_of, send_stopped}
 use Rattle.vs_driver_parts.specs.{Conversations.send_with_page, Conversations.stage_of, State.DriverEntry}
 use Rattle.vs_driver_parts.specs.State.{DriverState, entry_known_as}
 use Rattle.vs_limits.specs.declared.TheConstants.{LAST_PORT}

@@ -12,7 +12,8 @@ use Rattle.laws_tables.specs.{Ends.Ends, Matches.Matches, Steps.owed_on, Steps.r
 use Rattle.vs_driver_parts.specs.{Conversations.after_paying, Held.HeldSlots, Playing.FitsPorts, Receiving.after_reset, Receiving.on_packet}
 use Rattle.vs_driver_parts.specs.State.{DriverEntry, DriverState}
 use Rattle.laws_driver.specs.{Honest.IsFitState, Honest.ends_of_state, Honest.slots_of, Staged.IsTied}
-use Rattle.laws_driver.proofs.{Ringing.IsAtRest, Ringing.Puts, Ringing.publishes, Ringing.put_last, Ringing.stages, Ringing.tied, Tabling.Stands}
+use Rattle.laws_driver.proofs.{Ringing.IsAtRest, Ringing.Puts, Ringing.publishes, Ringing.put_last, Ringing.stages, Ringing.tied}
+use Rattle.laws_driver.proofs.{Tabling.Stands}
 
 abbrev pub Fact : Type 1
 Fact = Ends → HeldSlots → Log → Type 0
@@ -79,7 +80,8 @@ pub record Carries (first : ℕ) (fact : Fact) : Type 0 where
       IsFitState s → Stands s e → owes_of e.value.end ≡ Some what → Matches Driver first (ends_of_state s) log
       → IsFairLog Driver log → IsFairLog Driver (PutPacket p ∷ log) → Holds fact s log → Holds fact (after_paying what e s) (PutPacket p ∷ log)
   pub reply : (r : Reply) (rest : List Reply) (s : DriverState) (log : Log) → let p = reply_on Driver s.cid r in
-      IsFitState s → s.replies ≡ r ∷ rest → Holds fact s log → Holds fact (record s { replies = rest }) (PutPacket p ∷ log)
+      IsFitState s → s.replies ≡ r ∷ rest → Matches Driver first (ends_of_state s) log → IsFairLog Driver (PutPacket p ∷ log) → Holds fact s log
+      → Holds fact (record s { replies = rest }) (PutPacket p ∷ log)
   pub got : (p : Packet) (s : DriverState) (log : Log) → IsFitState s → FitsPorts p.header → IsWhole p
       → Matches Driver first (ends_of_state s) log → IsFairLog Driver log → IsFairLog Driver (GotPacket p ∷ log) → Holds fact s log
       → Holds fact (on_packet p s) (GotPacket p ∷ log)
@@ -90,7 +92,7 @@ pub record Carries (first : ℕ) (fact : Fact) : Type 0 where
 pub carries_nothing : (first : ℕ) → Carries first nothing
 carries_nothing first = record {
   owed = λ what e s log fits stands owes m was fair held. tt;
-  reply = λ r rest s log fits is held. tt;
+  reply = λ r rest s log fits is m fair held. tt;
   got = λ p s log fits ports whole m was fair held. tt;
   event = λ id s log held. tt;
   reset = λ cid s log less fits held. tt;

@@ -100,9 +100,7 @@ shut_changes bits s e fits stands =
 
 shut_by : (st : State) (bits : ℕ) (s : DriverState) (e : DriverEntry) → IsFitState s → Stands s e → Changes s (shut_in st bits e s)
 shut_by state.Live bits s e fits stands = shut_changes bits s e fits stands
-shut_by state.Asked bits s e fits stands = same s fits
-shut_by state.Answering bits s e fits stands = same s fits
-shut_by state.Ended bits s e fits stands = same s fits
+shut_by _ bits s e fits stands = same s fits
 
 pub shutdown_changes : (id bits : ℕ) (s : DriverState) → IsFitState s → Changes s (after_shutdown id bits s)
 shutdown_changes id bits s fits = by (entry_known_as id s) refl
@@ -114,34 +112,23 @@ shutdown_changes id bits s fits = by (entry_known_as id s) refl
 -- close.
 closing_follows : (st : State) (c : DriverConnection) → FollowsAs c.end (after_closing st c).end
 closing_follows state.Live c = λ side h follows. shut_follows _ _ _ c.end 3 follows
-closing_follows state.Asked c = λ side h follows. abort_follows _ _ _ c.end follows
-closing_follows state.Answering c = λ side h follows. abort_follows _ _ _ c.end follows
-closing_follows state.Ended c = λ side h follows. abort_follows _ _ _ c.end follows
+closing_follows _ c = λ side h follows. abort_follows _ _ _ c.end follows
 
 abbrev closing : State → Decision
 closing state.Live = Shuts 3
-closing state.Asked = Aborts
-closing state.Answering = Aborts
-closing state.Ended = Aborts
+closing _ = Aborts
 
-closing_is : (st : State) (c : DriverConnection) → ((after_closing st c).end ≡ decided c.end (closing st)) × MayDecide c.end (closing st)
-closing_is state.Live c = (refl, tt)
-closing_is state.Asked c = (refl, tt)
-closing_is state.Answering c = (refl, tt)
-closing_is state.Ended c = (refl, tt)
-
-closing_kind : (st : State) (c : DriverConnection) → (after_closing st c).end.kind ≡ c.end.kind
-closing_kind state.Live c = refl
-closing_kind state.Asked c = refl
-closing_kind state.Answering c = refl
-closing_kind state.Ended c = refl
+closing_is : (st : State) (c : DriverConnection)
+    → ((after_closing st c).end ≡ decided c.end (closing st)) × MayDecide c.end (closing st) × ((after_closing st c).end.kind ≡ c.end.kind)
+closing_is state.Live c = (refl, tt, refl)
+closing_is _ c = (refl, tt, refl)
 
 entry_closed_changes : (s : DriverState) (e : DriverEntry) → IsFitState s → Stands s e → Changes s (entry_closed e s)
 entry_closed_changes s e fits stands =
     let held = (entry_fits s e fits stands).buffer in
     let is = closing_is e.value.end.state e.value in
     let c = connection_changes s e (after_closing e.value.end.state e.value) (closing e.value.end.state) fits stands (closing_fits e.value.end.state e.value held)
-    (closing_kind e.value.end.state e.value) (closing_follows e.value.end.state e.value) is.0 is.1 in
+    is.2 (closing_follows e.value.end.state e.value) is.0 is.1 in
     record { matches = c.matches; fits = c.fits; broken = c.broken; goes = c.goes }
 
 gone_closed_by : (o : Option GoneConnection) (id : ℕ) (s : DriverState) → IsFitState s → Changes s (elim o [

@@ -1,6 +1,6 @@
 -- The buffer of a connection holds what its end counts as unread, whatever the end does.
 use Rattle.std.proofs.Common.{◌≡◌, ℕ, ◌+◌, ◌-◌, ◌<◌, ◌≤◌, ◌^◌, Bool, true, false, cond, min, List, [], ◌++◌, length, drop, Option, Some}
-use Rattle.std.proofs.Common.{refl, sym, ap, subst, ◌∙◌, arith, length-append, length-drop, eq-eqb}
+use Rattle.std.proofs.Common.{None, refl, sym, ap, subst, ◌∙◌, arith, length-append, length-drop, eq-eqb}
 use Rattle.vs_wrap.specs.Wrap.{difference32, sum32}
 use Rattle.vs_credit.specs.{Credit.room_of, Credit.with_taken, Credit.with_forwarded, Credit.with_heard, declared.Credit.Credit}
 use Rattle.vs_limits.specs.declared.TheConstants.{BUF_ALLOC}
@@ -102,10 +102,13 @@ holds_none c bytes room = record {
 
 -- What a packet does.
 message_fits : (o : Option Op) (e : ConnectionEnd) (h : Header) (bytes : List ℕ) → Holds e.credit bytes → Holds (after_message o e h).credit bytes
-message_fits (Some op.Shutdown) e h bytes room = holds_same e.credit _ bytes room refl refl refl
-message_fits (Some op.CreditUpdate) e h bytes room = holds_same e.credit _ bytes room refl refl refl
-message_fits (Some op.CreditRequest) e h bytes room = holds_same e.credit _ bytes room refl refl refl
-message_fits _ e h bytes room = room
+message_fits (Some op.Invalid) e h bytes room = room
+message_fits (Some op.Request) e h bytes room = room
+message_fits (Some op.Response) e h bytes room = room
+message_fits (Some op.Rst) e h bytes room = room
+message_fits (Some op.Rw) e h bytes room = room
+message_fits None e h bytes room = room
+message_fits _ e h bytes room = holds_same e.credit _ bytes room refl refl refl
 
 packet_fits_by : (v : Verdict) (p : Packet) (c : DriverConnection) → verdict_of c.end p.header ≡ v → IsWhole p → IsHeldBy c
     → Holds (after_op (op_named p.header.op) c.end p.header v).credit (after_packet v p c).unread
@@ -117,10 +120,9 @@ packet_fits_by verdict.Deliver p c is whole room =
 packet_fits_by verdict.Discard p c is whole room =
     let heard = holds_same c.end.credit (with_heard c.end.credit p.header.buf_alloc p.header.fwd_cnt) c.unread room refl refl refl in
     holds_both (with_heard c.end.credit p.header.buf_alloc p.header.fwd_cnt) c.unread p.header.len heard
-packet_fits_by verdict.Accept p c is whole room = holds_same c.end.credit _ c.unread room refl refl refl
 packet_fits_by verdict.Peer p c is whole room = message_fits (op_named p.header.op) c.end p.header c.unread room
-packet_fits_by (verdict.Rst why) p c is whole room = holds_same c.end.credit _ c.unread room refl refl refl
 packet_fits_by verdict.Ignore p c is whole room = room
+packet_fits_by _ p c is whole room = holds_same c.end.credit _ c.unread room refl refl refl
 
 after_by : (p : Packet) (c : DriverConnection) (bytes : List ℕ) (v : Verdict) → verdict_of c.end p.header ≡ v
     → Holds (after_op (op_named p.header.op) c.end p.header v).credit bytes → Holds (end_after c.end p.header).credit bytes
@@ -131,11 +133,7 @@ packet_fits p c whole room = by (verdict_of c.end p.header) refl
   where
     by : (v : Verdict) → verdict_of c.end p.header ≡ v → IsHeldBy (after_packet v p c)
     by verdict.Deliver is = after_by p c (c.unread ++ p.payload) verdict.Deliver is (packet_fits_by verdict.Deliver p c is whole room)
-    by verdict.Accept is = after_by p c c.unread verdict.Accept is (packet_fits_by verdict.Accept p c is whole room)
-    by verdict.Discard is = after_by p c c.unread verdict.Discard is (packet_fits_by verdict.Discard p c is whole room)
-    by verdict.Peer is = after_by p c c.unread verdict.Peer is (packet_fits_by verdict.Peer p c is whole room)
-    by (verdict.Rst why) is = after_by p c c.unread (verdict.Rst why) is (packet_fits_by (verdict.Rst why) p c is whole room)
-    by verdict.Ignore is = after_by p c c.unread verdict.Ignore is (packet_fits_by verdict.Ignore p c is whole room)
+    by v is = after_by p c c.unread v is (packet_fits_by v p c is whole room)
 
 -- What the driver's own steps do.
 pub paid_fits : (what : Owed) (c : DriverConnection) → IsHeldBy c → IsHeldBy (paid_connection what c)
@@ -157,6 +155,4 @@ shut_fits bits c room = shut_fits_by (joined c.end.own (shut_of bits)).receive c
 
 pub closing_fits : (s : State) (c : DriverConnection) → IsHeldBy c → IsHeldBy (after_closing s c)
 closing_fits state.Live c room = shut_fits 3 c room
-closing_fits state.Asked c room = room
-closing_fits state.Answering c room = room
-closing_fits state.Ended c room = room
+closing_fits _ c room = room

@@ -30,7 +30,7 @@ use Rattle.laws_driver.specs.{Honest.IsFitState, Honest.ends_of_state, Staged.Is
 use Rattle.laws_driver.proofs.{Putting.owed_puts, Putting.reply_puts, Resetting.resets, Tabling.Stands, Taking.gets_packet, Keeping.Keeps}
 use Rattle.laws_driver.proofs.{Keeping.keeps_bind, Keeping.keeps_each, Keeping.keeps_weaker, Keeping.keeps_while, Staging.Rests}
 use Rattle.laws_driver.proofs.Staging.{SameBut, Ties, publish_other, publish_tx, reap_keeps, rests_tied, stage_other, stage_tx}
-use Rattle.laws_driver.proofs.Ringing.{IsAtRest, Tells, moves}
+use Rattle.laws_driver.proofs.Ringing.{Tells, moves}
 use Rattle.laws_driver.proofs.Carrying.{Carries, Fact, Holds, RestsWith}
 
 pub not_tx_rx : Rx ≡ Tx → ⊥
@@ -40,30 +40,21 @@ pub not_tx_event : Event ≡ Tx → ⊥
 not_tx_event is = absurd cc
 
 -- A page with a packet comes back.
-gets_by : (first : ℕ) (s : DriverState) (page : List ℕ) (o : Option Packet) (entries : Log) → packet_held page ≡ o → IsFitState s
-    → BringsFit page → IsLeft first s.broken (ends_of_state s) [] entries → IsFairLog Driver (with_packet (λ p. GotPacket p) o entries)
-    → let t : DriverState = elim o [ None ↦ s | Some p ↦ on_packet p s ] in
-    IsFitState t × IsLeft first t.broken (ends_of_state t) [] (with_packet (λ p. GotPacket p) o entries)
-gets_by first s page None entries is fits ports left fair = (fits, left)
-gets_by first s page (Some p) entries is fits ports left fair =
-    let g = gets_packet first p s entries fits (ports p is) (packet_whole page p is).0 left.matches fair in
-    (g.fits, record { none_refused = g.broken ∙ left.none_refused; matches = g.matches; fair = fair; marks = left.marks })
-
-gets_page : (first : ℕ) (s : DriverState) (page : List ℕ) (l : EndLog) → BringsFit page → IsAtRest first s l → IsFairLog Driver (log_reaped Rx (Some page) l).entries
-    → IsAtRest first (on_page page s) (log_reaped Rx (Some page) l)
-gets_page first s page l ports rest fair =
-    let g = gets_by first s page (packet_held page) l.entries refl rest.0 ports rest.1 fair in
-    (g.0, g.1, rest.2)
-
 gets_with : (first : ℕ) (fact : Fact) → Carries first fact → (s : DriverState) (page : List ℕ) (l : EndLog) → BringsFit page
     → RestsWith first fact s l → IsFairLog Driver (log_reaped Rx (Some page) l).entries → RestsWith first fact (on_page page s) (log_reaped Rx (Some page) l)
-gets_with first fact steps s page l ports rest fair = (gets_page first s page l ports rest.0 fair, by (packet_held page) refl fair)
+gets_with first fact steps s page l ports rest fair = by (packet_held page) refl fair
   where
     by : (o : Option Packet) → packet_held page ≡ o → IsFairLog Driver (with_packet (λ p. GotPacket p) o l.entries)
-        → let t : DriverState = elim o [ None ↦ s | Some p ↦ on_packet p s ] in Holds fact t (with_packet (λ p. GotPacket p) o l.entries)
-    by None is fair = rest.1
+        → let t : DriverState = elim o [ None ↦ s | Some p ↦ on_packet p s ] in
+        let log = with_packet (λ p. GotPacket p) o l.entries in
+        (IsFitState t × IsLeft first t.broken (ends_of_state t) [] log × (l.staged.tx ≡ [])) × Holds fact t log
+    by None is fair = rest
     by (Some p) is fair =
-        steps.got p s l.entries rest.0.0 (ports p is) (packet_whole page p is).0 rest.0.1.matches rest.0.1.fair fair rest.1
+        let left = rest.0.1 in
+        let g = gets_packet first p s l.entries rest.0.0 (ports p is) (packet_whole page p is).0 left.matches fair in (
+          (g.fits, record { none_refused = g.broken ∙ left.none_refused; matches = g.matches; fair = fair; marks = left.marks }, rest.0.2),
+          steps.got p s l.entries rest.0.0 (ports p is) (packet_whole page p is).0 left.matches left.fair fair rest.1,
+        )
 
 -- An event comes back. Where it tells a reset, its Mark is still to come.
 abbrev LeftBehind : Bool → ℕ → DriverState → Log → Type 0
@@ -207,7 +198,7 @@ module _ (first : ℕ) (fact : Fact) (steps : Carries first fact) where
           (stage_tx first fact (reply_on Driver r.state.cid reply) r.state (record r.state { replies = rest }) (header_bytes (reply_header r.state.cid reply)) c
           (λ l tie. record {
             puts = reply_puts reply rest r.state tie.0 is;
-            carries = λ log m was fair held. steps.reply reply rest r.state log tie.0 is held;
+            carries = λ log m was fair held. steps.reply reply rest r.state log tie.0 is m fair held;
           }) ties)
       by false = ties
 

@@ -1,7 +1,7 @@
 -- The steps at which the driver puts a packet: a connection of its own is asked for, payload is sent, what is owed is paid.
-use Rattle.std.proofs.lemmas.{Bool.Decides.nat_tests, List.append-nil, List.Elements.All-head, List.Elements.All-tail}
-use Rattle.std.proofs.Common.{◌≡◌, ℕ, ◌+◌, ◌<◌, ◌≤◌, ◌^◌, nat_lt, nat_le, Bool, true, false, cond, List, [], ◌∷◌, length, Some, None, refl}
-use Rattle.std.proofs.Common.{inl, sym, ap, subst, ◌∙◌, arith, ◌||◌}
+use Rattle.std.proofs.lemmas.{Bool.Decides.nat_tests, Grind.common_steps, List.append-nil, List.Elements.All-head, List.Elements.All-tail}
+use Rattle.std.proofs.Common.{◌≡◌, ℕ, ◌+◌, ◌<◌, ◌≤◌, ◌^◌, Bool, false, List, [], ◌∷◌, length, Some, None, refl, inl, sym, ap, subst, ◌∙◌}
+use Rattle.std.proofs.Common.{arith}
 use Rattle.std.specs.List.{All}
 use Rattle.vs_conn.specs.{Headers.owed_flags, Headers.owed_header, Headers.owed_op, Headers.payload_header, declared.end.Owed.Owed}
 use Rattle.vs_conn.specs.{End.CanSend, End.ConnectionEnd, End.asked, End.owes_of, End.paid_of, End.with_payload_sent, Follows.FitsMessage}
@@ -18,18 +18,18 @@ use Rattle.laws_tables.specs.{Ends.Ends, Ends.FlowEnd, Matches.Matches, Steps.Is
 use Rattle.laws_tables.specs.Steps.{payload_on, reply_on, request_on, with_end}
 use Rattle.laws_tables.proofs.{Slots.added_slot, Steps.port_next, OwedFlags.owed_flags_fit, Keeps.opens, Keeps.opens_fair, Keeps.pays}
 use Rattle.laws_tables.proofs.Keeps.{pays_fair, replies, replies_fair, sends, sends_fair}
-use Rattle.vs_driver_parts.specs.Connections.{connect_refusal, connected, is_full, next_flow, paid_connection, route_to_host}
+use Rattle.vs_driver_parts.specs.Connections.{connect_refusal, connected, next_flow, paid_connection, route_to_host}
 use Rattle.vs_driver_parts.specs.{Connections.with_connection, Conversations.after_paying, Conversations.owed_bytes}
 use Rattle.vs_driver_parts.specs.Conversations.{payload_bytes, reply_header, request_bytes}
-use Rattle.vs_driver_parts.specs.{declared.answers.ConnectError.ConnectError, State.DriverConnection, State.DriverEntry, State.DriverState}
+use Rattle.vs_driver_parts.specs.{State.DriverConnection, State.DriverEntry, State.DriverState}
 use Rattle.vs_driver_parts.specs.State.{slots_held}
 use Rattle.laws_driver.specs.Honest.{IsFitFlow, IsFitReply, IsFitState, end_in, ends_of_state}
 use Rattle.vs_page.proofs.Packets.{held_alone, held_payload}
-use Rattle.laws_driver.proofs.{Bytes.header_fits, Bytes.reset_fits, Fits.IsHeldBy, Fits.paid_fits, Fits.sent_fits, Going.at_log, Ringing.Puts}
-use Rattle.laws_driver.proofs.Tabling.{Stands, connection_ends, connection_fits, entry_fits, has_end, leaves, opening_fits}
+use Rattle.laws_driver.proofs.{Bytes.header_fits, Bytes.reset_fits, Fits.IsHeldBy, Fits.paid_fits, Fits.sent_fits, Going.at_log}
+use Rattle.laws_driver.proofs.{Ringing.Puts}
+use Rattle.laws_driver.proofs.Tabling.{Stands, connection_ends, connection_fits, entry_fits, has_end, leaves, opening_fits, replies_fit}
 use Rattle.vs_conn.specs.declared.end.Owed.TheVariants as owed
 use Rattle.vs_header.specs.declared.Op.TheVariants as op
-use Rattle.vs_driver_parts.specs.declared.answers.ConnectError.TheVariants as refused
 use Rattle.vs_driver_parts.specs.Connections as connections
 use Rattle.laws_tables.specs.Both as seats
 
@@ -87,16 +87,7 @@ reply_puts reply rest s fits is =
     record {
       held = held_alone (reply_header s.cid reply) wire refl;
       bytes = sym (append-nil (header_bytes (reply_header s.cid reply)));
-      fits = record {
-        cid_fits = fits.cid_fits;
-        port_left = fits.port_left;
-        sound = fits.sound;
-        places = fits.places;
-        given = fits.given;
-        entries = fits.entries;
-        ports = fits.ports;
-        owed = All-tail IsFitReply reply rest owed;
-      };
+      fits = replies_fit s.cid rest s fits fits.cid_fits (All-tail IsFitReply reply rest owed);
       broken = refl;
       matches = λ first log m. replies Driver first s.cid reply rest (ends_of_state s) log m is;
       fair = λ first log m fair. replies_fair Driver first s.cid reply rest (ends_of_state s) log m fair is;
@@ -142,23 +133,13 @@ pub record MayConnect (host : ℕ) (s : DriverState) : Type 0 where
   pub port : s.next_port ≤ LAST_PORT
   pub id : s.next_id ≤ LAST_ID
 
-may_by : (host : ℕ) (s : DriverState) (a b c d : Bool) (x y z : ConnectError) → is_assigned host ≡ a → nat_le DRIVER_CONNECTIONS (slots_held s) ≡ b → nat_lt LAST_PORT s.next_port ≡ c
-    → nat_lt LAST_ID s.next_id ≡ d → cond a (Some x) (cond b (Some y) (cond (c || d) (Some z) None)) ≡ None → MayConnect host s
-may_by host s true b c d x y z av bv cv dv is = absurd cc
-may_by host s false true c d x y z av bv cv dv is = absurd cc
-may_by host s false false true d x y z av bv cv dv is = absurd cc
-may_by host s false false false true x y z av bv cv dv is = absurd cc
-may_by host s false false false false x y z av bv cv dv is = record {
-  own = av;
-  place = grind (arith, nat_tests, bv);
-  port = grind (arith, nat_tests, cv);
-  id = grind (arith, nat_tests, dv);
-}
-
 pub may_connect : (host : ℕ) (s : DriverState) → connect_refusal host s ≡ None → MayConnect host s
-may_connect host s is =
-    may_by host s (is_assigned host) (is_full s) (nat_lt LAST_PORT s.next_port) (nat_lt LAST_ID s.next_id) (refused.BadPort host) (refused.Full DRIVER_CONNECTIONS)
-    (refused.PortsSpent s.last_port s.last_id) refl refl refl refl is
+may_connect host s is = record {
+  own = grind (arith, nat_tests, common_steps, is);
+  place = grind (arith, nat_tests, common_steps, is);
+  port = grind (arith, nat_tests, common_steps, is);
+  id = grind (arith, nat_tests, common_steps, is);
+}
 
 new_flow : (host : ℕ) (s : DriverState) → IsFitState s → is_assigned host ≡ false → entry_of s.table (next_flow host s) ≡ None
 new_flow host s fits own = find_none _ s.table.entries (λ i d lt. let below = fits.ports i d lt in grind (arith, nat_tests, below, own))

@@ -11,7 +11,7 @@ use Rattle.vs_driver_parts.specs.{State.DriverEntry, State.DriverState, Connecti
 use Rattle.vs_driver_parts.specs.Receiving.{after_reset, all_left, reset_reply, with_reply}
 use Rattle.vs_driver_parts.proofs.Packets.{first_under, others_left}
 use Rattle.laws_driver.specs.Honest.{IsFitState, ends_of_state}
-use Rattle.laws_driver.proofs.{Tabling.Stands, Tabling.entry_fits, Tabling.leaves, Taking.with_reply_fits}
+use Rattle.laws_driver.proofs.{Tabling.Stands, Tabling.entry_fits, Tabling.leaves, Tabling.replies_fit, Taking.with_reply_fits}
 
 -- An entry as it counts among the ends.
 abbrev pub out : DriverEntry → FlowEnd
@@ -23,7 +23,7 @@ record AllLeft (es : List DriverEntry) (s t : DriverState) : Type 0 where
   fits : IsFitState t
   broken : t.broken ≡ s.broken
 
-first_contained : (e : DriverEntry) (es xs : List DriverEntry) → xs ≡ e ∷ es → Contains xs e
+pub first_contained : (e : DriverEntry) (es xs : List DriverEntry) → xs ≡ e ∷ es → Contains xs e
 first_contained e es xs is = subst (λ (ys : List DriverEntry). Contains ys e) (sym is) (0, omega arith, refl)
 
 all_leave : (es : List DriverEntry) (s : DriverState) → s.table.entries ≡ es → IsFitState s → AllLeft es s (all_left es s)
@@ -63,16 +63,7 @@ pub record Resets (cid : ℕ) (s t : DriverState) : Type 0 where
   pub ends : ends_of_state t ≡ reset cid (ends_of_state s)
 
 pub with_cid : (cid : ℕ) (s : DriverState) → cid < 2 ^ 64 → IsFitState s → IsFitState (record s { cid = cid })
-with_cid cid s less fits = record {
-  cid_fits = less;
-  port_left = fits.port_left;
-  sound = fits.sound;
-  places = fits.places;
-  given = fits.given;
-  entries = fits.entries;
-  ports = fits.ports;
-  owed = fits.owed;
-}
+with_cid cid s less fits = replies_fit cid s.replies s fits less fits.owed
 
 pub resets : (cid : ℕ) (s : DriverState) → cid < 2 ^ 64 → IsFitState s → Resets cid s (after_reset cid s)
 resets cid s less fits =

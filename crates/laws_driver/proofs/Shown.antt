@@ -18,7 +18,7 @@ same_flows (e ∷ es) = ap (λ (fs : List Flow). e.flow ∷ fs) (same_flows es)
 pub left_open : (first : ℕ) (s : DriverState) (l : EndLog) → AgreesWith first s l → IsLeftOpen first (table_shown s) s.replies l
 left_open first s l agrees f = ap (is_among f) (same_flows s.table.entries) ∙ driver_open first (ends_of_state s) l.entries f agrees.matches.flows
 
-ring_allows : (call : DriverCall) (a : DriverAnswer call) (c d : RingContents) → RingAllows call a c d → DriverAllows call a c d
+pub ring_allows : (call : DriverCall) (a : DriverAnswer call) (c d : RingContents) → RingAllows call a c d → DriverAllows call a c d
 ring_allows (Stage queue page) a c d allowed = allowed
 ring_allows (Publish queue) a c d allowed = allowed
 ring_allows (Reap queue) a c d allowed = allowed.1

@@ -8,7 +8,8 @@ use Rattle.vs_ring_port.specs.EndLog.{log_published, log_reaped, log_staged}
 use Rattle.vs_driver_parts.specs.{State.DriverState, Playing.RingAllows, Conversations.one_more_in_flight, Conversations.post_packet}
 use Rattle.vs_driver_parts.specs.Conversations.{publish_of, reap_all, reap_one, reaped, stage_of, stage_packet}
 use Rattle.laws_driver.proofs.Ringing.{IsAtRest, Tells, can_publish, can_publish_other, moves, tells_weaker, can_stage, can_stage_other}
-use Rattle.laws_driver.proofs.Carrying.{Fact, IsTiedBy, PutsWith, RestsWith, published_other, published_rest, reaped_same, rest_tied, staged_other}
+use Rattle.laws_driver.proofs.Carrying.{Fact, IsTiedBy, PutsWith, RestsWith, published_other, published_rest, reaped_same, rest_tied}
+use Rattle.laws_driver.proofs.Carrying.{staged_other}
 use Rattle.laws_driver.proofs.{Carrying.staged_with, Keeping.Keeps, Keeping.keeps_while}
 use Rattle.laws_driver.specs.Staged.{IsTied}
 

@@ -4,7 +4,7 @@ use Rattle.std.proofs.Common.{Some, None, refl, sym, subst, arith}
 use Rattle.std.proofs.lemmas.Bool.{eqb-true, leb-true, ltb-true}
 use Rattle.vs_contents.specs.{CallTree.Ask, CallTree.Done, CallTree.bind, CallTree.while_up_to, Contents.Relates}
 use Rattle.vs_limits.specs.declared.TheConstants.{DRIVER_REPLIES_FULL}
-use Rattle.vs_ring_port.specs.{Contents.RingContents, declared.queue.TheConstants.STAGED_MAX, DriverCalls.DriverAllows}
+use Rattle.vs_ring_port.specs.{Contents.RingContents, declared.queue.TheConstants.STAGED_MAX}
 use Rattle.vs_ring_port.specs.DriverCalls.{DriverAnswer, DriverCall, DriverLearns, LoadCid, Publish, Reap, Stage}
 use Rattle.vs_ring_port.specs.Known.{Known, StopsAt, after_stores}
 use Rattle.vs_ring_port.specs.declared.queue.Queue.{Queue, TheVariants.Event, TheVariants.Rx, TheVariants.Tx}
@@ -13,6 +13,7 @@ use Rattle.vs_driver_parts.specs.{Playing.Plays, Playing.RingAllows, Receiving.a
 use Rattle.vs_driver_parts.specs.Conversations.{DriverTree, Round, event_reaped, goes_on_with, packet_reaped, published, reap_all, reap_one}
 use Rattle.vs_driver_parts.specs.Conversations.{reaped, staged_again, start, take_all, take_event, take_packet, all_taken}
 use Rattle.vs_driver_parts.specs.State.{DriverState}
+use Rattle.laws_driver.proofs.Shown.{ring_allows}
 
 -- What holds at each end of a conversation.
 abbrev Keeps : {A : Type 0} → (A → RingContents → Type 0) → DriverTree A → RingContents → Type 0
@@ -47,12 +48,6 @@ stored_by queue (Some k) (Some l) None R is first stored = stored
 stored_by queue (Some k) (Some l) (Some m) R is first stored =
     let e = is l m stored in subst (λ (z : Known). StopsAt queue k z) (sym e.1) (after_stored e.0 queue k l first)
 
-driver_allows : (call : DriverCall) (a : DriverAnswer call) (c d : RingContents) → RingAllows call a c d → DriverAllows call a c d
-driver_allows (Stage queue page) a c d allowed = allowed
-driver_allows (Publish queue) a c d allowed = allowed
-driver_allows (Reap queue) page c d allowed = allowed.1
-driver_allows LoadCid cid c d allowed = allowed.1
-
 module _ (queue : Queue) (a : Option Known) where
   abbrev Grown : RingContents → Type 0
   Grown d = Relates a d.known (NotFewer queue)
@@ -63,7 +58,7 @@ module _ (queue : Queue) (a : Option Known) where
   grown_call : (call : DriverCall) (answer : DriverAnswer call) (c d : RingContents) → RingAllows call answer c d → Grown c → Grown d
   grown_call call answer c d allowed grown =
       grown_by queue a c.known d.known grown
-      (driver_keeps (Ask call (λ z. Done z)) answer c d (answer, d, driver_allows call answer c d allowed, (refl, refl)))
+      (driver_keeps (Ask call (λ z. Done z)) answer c d (answer, d, ring_allows call answer c d allowed, (refl, refl)))
 
   stops_none : (c d : RingContents) → RingAllows (Reap queue) None c d → Grown c → Stops d
   stops_none c d allowed grown = stops_by (List ℕ) queue a c.known d.known grown allowed.1.known
@@ -108,6 +103,14 @@ module _ (queue : Queue) (a : Option Known) where
     ends_published r c ends = λ u d allowed.
         (grown_call (Publish queue) u c d allowed ends.0, λ fewer few. stops_published c d allowed (ends.1 fewer few))
 
+    -- The whole stage, which ends by publishing what it staged.
+    stage : (step : Round → DriverTree (Round × Bool))
+        → ((m : ℕ) (r : Round) (c : RingContents) → Grown c → r.count + suc m ≡ n → Keeps (Steps m) (step r) c)
+        → (s : DriverState) (c d : RingContents) (r : Round) → Grown c → s.size ≡ n → Plays (take_all queue step s) c r d → Ends r d
+    stage step each s c d r grown size =
+        keeps_end Ends (take_all queue step s) c d r
+        (keeps_then Ends Ends (all_taken step s) (published queue) c (loop step each s.size (start s) c grown (omega (arith, size))) ends_published)
+
 -- PACKETS
 module _ (s : DriverState) (c : RingContents) where
   packet_step : (m : ℕ) (r : Round) (d : RingContents) → Grown Rx c.known d → r.count + suc m ≡ s.size
@@ -126,17 +129,10 @@ module _ (s : DriverState) (c : RingContents) where
       by true full = (grown, λ fewer few. absurd (omega (arith, few, leb-true DRIVER_REPLIES_FULL (length r.state.replies) full)))
       by false full = λ page e allowed. found page e allowed
 
-  keeps_packets : Keeps (Ends Rx c.known s.size DRIVER_REPLIES_FULL) (take_all Rx take_packet s) c
-  keeps_packets =
-      keeps_then (Ends Rx c.known s.size DRIVER_REPLIES_FULL) (Ends Rx c.known s.size DRIVER_REPLIES_FULL) (all_taken take_packet s)
-      (published Rx) c
-      (loop Rx c.known s.size DRIVER_REPLIES_FULL take_packet packet_step s.size (start s) c (at_first Rx c.known) (omega arith))
-      (ends_published Rx c.known s.size DRIVER_REPLIES_FULL)
-
 pub packets_stop : (s : DriverState) (c d : RingContents) (r : Round) → Plays (take_all Rx take_packet s) c r d → r.count < s.size
     → length r.state.replies < DRIVER_REPLIES_FULL → Relates c.known d.known (StopsAt Rx)
 packets_stop s c d r plays =
-    (keeps_end (Ends Rx c.known s.size DRIVER_REPLIES_FULL) (take_all Rx take_packet s) c d r (keeps_packets s c) plays).1
+    (stage Rx c.known s.size DRIVER_REPLIES_FULL take_packet (packet_step s c) s c d r (at_first Rx c.known) refl plays).1
 
 -- EVENTS
 module _ (s : DriverState) (c : RingContents) where
@@ -171,17 +167,10 @@ module _ (s : DriverState) (c : RingContents) where
       by true full = (grown, λ fewer few. absurd (omega (arith, few, ltb-true DRIVER_REPLIES_FULL (length r.state.replies) full)))
       by false full = λ page e allowed. found page e allowed
 
-  keeps_events : Keeps (Ends Event c.known s.size limit) (take_all Event take_event s) c
-  keeps_events =
-      keeps_then (Ends Event c.known s.size limit) (Ends Event c.known s.size limit) (all_taken take_event s) (published Event) c
-      (loop Event c.known s.size limit take_event event_step s.size (start s) c (at_first Event c.known) (omega arith))
-      (ends_published Event c.known s.size limit)
-
 pub events_stop : (s : DriverState) (c d : RingContents) (r : Round) → Plays (take_all Event take_event s) c r d → r.count < s.size
     → length r.state.replies ≤ DRIVER_REPLIES_FULL → Relates c.known d.known (StopsAt Event)
 events_stop s c d r plays fewer few =
-    (keeps_end (Ends Event c.known s.size (DRIVER_REPLIES_FULL + 1)) (take_all Event take_event s) c d r (keeps_events s c) plays).1
-    fewer (omega (arith, few))
+    (stage Event c.known s.size (DRIVER_REPLIES_FULL + 1) take_event (event_step s c) s c d r (at_first Event c.known) refl plays).1 fewer (omega (arith, few))
 
 -- TRANSMIT PAGES
 module _ (a : Option Known) where

@@ -1,19 +1,20 @@
 -- What steps on the table do to the driver's numbers, and to its connections as ends.
-use Rattle.std.proofs.Common.{◌≡◌, ℕ, ◌+◌, ◌<◌, ◌≤◌, ◌==◌, Bool, true, false, cond, not, List, [], ◌∷◌, ◌++◌, get_or, Some, refl, ap, ◌∙◌}
-use Rattle.std.proofs.Common.{arith}
+use Rattle.std.proofs.Common.{◌≡◌, ℕ, ◌+◌, ◌<◌, ◌≤◌, ◌^◌, ◌==◌, Bool, true, false, cond, not, List, [], ◌∷◌, ◌++◌, get_or, refl, ap, ◌∙◌}
+use Rattle.std.proofs.Common.{Some, arith}
 use Rattle.std.proofs.lemmas.List.Elements.{All-map, All-push, All-filter}
-use Rattle.std.specs.Prelude.{Contains}
+use Rattle.std.specs.{List.All, Prelude.Contains}
 use Rattle.vs_header.specs.declared.Kind.TheVariants.{Stream}
 use Rattle.vs_flow.specs.{Flow.is_assigned, Table.Table, Table.entry_under, Table.with_entry, Table.without, Table.next_entry}
 use Rattle.vs_flow.specs.{Table.revalued, declared.flow.Flow.Flow}
 use Rattle.vs_limits.specs.declared.TheConstants.{HOST_CID, LAST_PORT}
+use Rattle.vs_replies.specs.declared.Reply.{Reply}
 use Rattle.vs_flow.proofs.Tables.{revalued-flow, with_value_sound, without_sound, with_entry_sound, IsAccepted}
 use Rattle.laws_tables.specs.{Ends.Ends, Ends.FlowEnd, Ends.entries_of, Steps.HasEnd, Steps.with_end, Steps.left}
 use Rattle.laws_tables.proofs.Slots.{changed_slot, one_end, removed_slot}
 use Rattle.vs_driver_parts.specs.State.{DriverConnection, DriverEntry, DriverState, GoneConnection}
 use Rattle.vs_driver_parts.specs.Connections.{with_connection, after_leaving, waits_no_more, is_let_go, gone_as}
 use Rattle.vs_driver_parts.proofs.Ids.{entry_has}
-use Rattle.laws_driver.specs.Honest.{IsFit, IsFitEntry, IsFitFlow, IsFitState, end_in, ends_of_state}
+use Rattle.laws_driver.specs.Honest.{IsFit, IsFitEntry, IsFitFlow, IsFitReply, IsFitState, end_in, ends_of_state}
 use Rattle.laws_driver.proofs.Fits.{IsHeldBy}
 
 -- An entry that stands in the table.
@@ -52,6 +53,19 @@ pub connection_ends : (s : DriverState) (e : DriverEntry) (c : DriverConnection)
     → ends_of_state (with_connection e.slot c s) ≡ with_end e.flow c.end (ends_of_state s)
 connection_ends s e c fits stands =
     ap (λ (es : List FlowEnd). let part : Ends = record (ends_of_state s) { entries = es } in part) (changed_slot end_in s.table e c fits.sound stands.contains)
+
+-- Another CID, and other replies.
+pub replies_fit : (cid : ℕ) (rs : List Reply) (s : DriverState) → IsFitState s → cid < 2 ^ 64 → All IsFitReply rs → IsFitState (record s { cid = cid; replies = rs })
+replies_fit cid rs s fits less owed = record {
+  cid_fits = less;
+  port_left = fits.port_left;
+  sound = fits.sound;
+  places = fits.places;
+  given = fits.given;
+  entries = fits.entries;
+  ports = fits.ports;
+  owed = owed;
+}
 
 -- It leaves the table.
 left_by : (b : Bool) (s : DriverState) (e : DriverEntry) (t : Table DriverConnection) (gone : List GoneConnection)

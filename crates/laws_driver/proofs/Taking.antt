@@ -1,30 +1,31 @@
 -- A packet that is got: the driver's connections are those that the log with it leaves, and a fair one is never refused.
 use Rattle.std.proofs.lemmas.{Bool.Decides.nat_tests, Grind.common_steps, List.Elements.All-push, Bool.and_parts, Bool.eqb-true}
-use Rattle.std.proofs.Common.{◌≡◌, ℕ, ◌<◌, ◌≤◌, ◌&&◌, nat_le, Bool, true, false, cond, not, List, [], ◌∷◌, Option, Some, None, refl, sym}
-use Rattle.std.proofs.Common.{ap, subst, ◌∙◌, arith, rules}
+use Rattle.std.proofs.Common.{◌≡◌, ℕ, ◌<◌, ◌≤◌, ◌&&◌, Bool, true, false, cond, List, [], ◌∷◌, ◌++◌, Option, Some, None, refl, sym, ap}
+use Rattle.std.proofs.Common.{subst, ◌∙◌, arith, rules}
 use Rattle.vs_conn.specs.End.{ConnectionEnd, answering, end_after, is_of, is_refused, is_reset, verdict_of}
 use Rattle.vs_conn.specs.declared.end.Verdict.{Verdict}
 use Rattle.vs_conn.proofs.Frames.{got_kind}
 use Rattle.vs_header.specs.declared.{Header.Header, Kind.Kind, Kind.TheVariants.Stream}
 use Rattle.laws_history.specs.{Packets.is_rst, declared.packet.Packet.Packet}
 use Rattle.vs_limits.specs.declared.TheConstants.{BUF_ALLOC, HOST_CID, LAST_ID, DRIVER_CONNECTIONS}
-use Rattle.vs_flow.specs.{Flow.is_assigned, Flow.is_host, Flow.same_flow, Table.entry_of, declared.flow.Flow.Flow}
+use Rattle.vs_flow.specs.{Flow.is_assigned, Flow.same_flow, Table.entry_of, declared.flow.Flow.Flow}
 use Rattle.vs_flow.proofs.Tables.{IsAccepted}
 use Rattle.vs_page.specs.{Fair.IsFairLog, Held.IsWhole, Log.Driver, Log.Log, Log.flow_got, Log.flow_to_guest, Log.side_of, Open.is_dropped}
 use Rattle.vs_page.specs.declared.log.LogEntry.TheVariants.{GotPacket}
 use Rattle.vs_page.proofs.Flows.{same_is}
 use Rattle.vs_replies.specs.{Owed.reply_to, declared.Reply.Reply}
-use Rattle.laws_tables.specs.{Both.after_taking, Both.answered, Ends.Ends, Ends.FlowEnd, Ends.answer_kind, Ends.ends_of, Heard.IsInOrder, Heard.heard_of, Matches.Matches, Steps.HasEnd, Steps.HasNone}
+use Rattle.laws_tables.specs.{Both.after_taking, Both.answered, Ends.Ends, Ends.FlowEnd, Ends.answer_kind, Ends.ends_of, Heard.IsInOrder}
+use Rattle.laws_tables.specs.{Heard.heard_of, Matches.Matches, Steps.HasEnd, Steps.HasNone}
 use Rattle.laws_tables.specs.Steps.{accepted, forgotten, is_kept, is_message, left, taken, with_clean, with_end}
 use Rattle.laws_tables.proofs.{Keeps.accepts, Keeps.drops, Keeps.forgets, Keeps.ignores, Keeps.refuses, Keeps.takes, Fair.got_in_order}
 use Rattle.laws_tables.proofs.{Fair.got_is_taken, Fair.got_not_refused, Fair.heard_all, Slots.added_slot, Slots.found_by, Slots.no_entry}
 use Rattle.vs_driver_parts.specs.{Playing.FitsPorts, State.DriverConnection, State.DriverEntry, State.DriverState, State.slots_held}
-use Rattle.vs_driver_parts.specs.Connections.{after_leaving, is_full, with_connection, with_request}
+use Rattle.vs_driver_parts.specs.Connections.{after_leaving, with_connection, with_request}
 use Rattle.vs_driver_parts.specs.Receiving.{after_packet, after_verdict, is_request, may_open, on_heard, on_known, on_packet, on_unknown}
-use Rattle.vs_driver_parts.specs.{Receiving.with_reply, Listening.has_place}
+use Rattle.vs_driver_parts.specs.Receiving.{with_reply}
 use Rattle.vs_driver_parts.proofs.{Ids.found_under, Packets.packet_known, Packets.packet_unknown}
 use Rattle.laws_driver.specs.Honest.{IsFitFlow, IsFitReply, IsFitState, end_in, ends_of_state}
-use Rattle.laws_driver.proofs.Tabling.{Stands, connection_ends, connection_fits, entry_fits, has_end, leaves, opening_fits}
+use Rattle.laws_driver.proofs.Tabling.{Stands, connection_ends, connection_fits, entry_fits, has_end, leaves, opening_fits, replies_fit}
 use Rattle.laws_driver.proofs.Fits.{IsHeldBy, packet_fits}
 use Rattle.vs_conn.specs.declared.end.Verdict.TheVariants as verdict
 use Rattle.laws_history.specs.Packets as packets
@@ -67,22 +68,12 @@ module _ (p : Packet) (e : DriverEntry) (s : DriverState) (fits : IsFitState s) 
       → (ends_of_state (after_verdict v p e s) ≡ cond (is_message v && is_reset p.header) (left e.flow (ends_of_state s))
       (with_end e.flow (end_after e.value.end p.header) (ends_of_state s))) × IsFitState (after_verdict v p e s) × ((after_verdict v p e s).broken ≡ s.broken)
   takes_by (verdict.Rst why) is kept whole held = absurd cc
-  takes_by verdict.Peer is kept whole held = peer_by (is_reset p.header) (after_packet verdict.Peer p e.value) refl (fitted verdict.Peer is whole held)
-    where
-      fitted : (v : Verdict) → verdict_of e.value.end p.header ≡ v → IsWhole p → IsHeldBy e.value → IsHeldBy (after_packet v p e.value)
-      fitted v is whole held = subst (λ (w : Verdict). IsHeldBy (after_packet w p e.value)) is (packet_fits p e.value whole held)
-  takes_by verdict.Accept is kept whole held =
-      let held_after : IsHeldBy (after_packet verdict.Accept p e.value) = subst (λ (w : Verdict). IsHeldBy (after_packet w p e.value)) is (packet_fits p e.value whole held) in
-      let l = stays (after_packet verdict.Accept p e.value) refl held_after in (l.0, l.1, refl)
-  takes_by verdict.Deliver is kept whole held =
-      let held_after : IsHeldBy (after_packet verdict.Deliver p e.value) = subst (λ (w : Verdict). IsHeldBy (after_packet w p e.value)) is (packet_fits p e.value whole held) in
-      let l = stays (after_packet verdict.Deliver p e.value) refl held_after in (l.0, l.1, refl)
-  takes_by verdict.Discard is kept whole held =
-      let held_after : IsHeldBy (after_packet verdict.Discard p e.value) = subst (λ (w : Verdict). IsHeldBy (after_packet w p e.value)) is (packet_fits p e.value whole held) in
-      let l = stays (after_packet verdict.Discard p e.value) refl held_after in (l.0, l.1, refl)
-  takes_by verdict.Ignore is kept whole held =
-      let held_after : IsHeldBy (after_packet verdict.Ignore p e.value) = subst (λ (w : Verdict). IsHeldBy (after_packet w p e.value)) is (packet_fits p e.value whole held) in
-      let l = stays (after_packet verdict.Ignore p e.value) refl held_after in (l.0, l.1, refl)
+  takes_by verdict.Peer is kept whole held =
+      peer_by (is_reset p.header) (after_packet verdict.Peer p e.value) refl
+      (subst (λ (w : Verdict). IsHeldBy (after_packet w p e.value)) is (packet_fits p e.value whole held))
+  takes_by v is kept whole held =
+      let l = stays (after_packet v p e.value) refl (subst (λ (w : Verdict). IsHeldBy (after_packet w p e.value)) is (packet_fits p e.value whole held)) in
+      (l.0, l.1, refl)
 
   -- A connection leaves at an RST of its type, exactly; and the driver keeps no flow.
   leaves_by : (v : Verdict) → (is_message v && is_reset p.header) ≡ (is_rst p && is_of e.value.end.kind p.header)
@@ -128,16 +119,7 @@ known first p e s log fits stands same whole kept_in m fair =
 
 -- A packet of an unknown flow.
 pub with_reply_fits : (s : DriverState) (r : Reply) → IsFitState s → IsFitFlow r.flow → IsFitState (with_reply r s)
-with_reply_fits s r fits ports = record {
-  cid_fits = fits.cid_fits;
-  port_left = fits.port_left;
-  sound = fits.sound;
-  places = fits.places;
-  given = fits.given;
-  entries = fits.entries;
-  ports = fits.ports;
-  owed = All-push IsFitReply s.replies r fits.owed ports;
-}
+with_reply_fits s r fits ports = replies_fit s.cid (s.replies ++ r ∷ []) s fits fits.cid_fits (All-push IsFitReply s.replies r fits.owed ports)
 
 record MayOpen (f : Flow) (s : DriverState) : Type 0 where
   peer : f.peer ≡ HOST_CID
@@ -145,15 +127,13 @@ record MayOpen (f : Flow) (s : DriverState) : Type 0 where
   place : slots_held s < DRIVER_CONNECTIONS
   id : s.next_id ≤ LAST_ID
 
-open_by : (f : Flow) (s : DriverState) (h a b c d : Bool) → is_host f ≡ h → is_assigned f.host ≡ a → nat_le DRIVER_CONNECTIONS (slots_held s) ≡ c
-    → nat_le s.next_id LAST_ID ≡ d → ((((h && a) && b) && not c) && d) ≡ true → MayOpen f s
-open_by f s true true true false true hv av cv dv is =
-    record { peer = eqb-true f.peer HOST_CID hv; assigned = av; place = grind (arith, nat_tests, cv); id = grind (arith, nat_tests, dv) }
-open_by f s false a b c d hv av cv dv is = absurd cc
-open_by f s true false b c d hv av cv dv is = absurd cc
-open_by f s true true false c d hv av cv dv is = absurd cc
-open_by f s true true true true d hv av cv dv is = absurd cc
-open_by f s true true true false false hv av cv dv is = absurd cc
+may_open_as : (f : Flow) (s : DriverState) → may_open f s ≡ true → MayOpen f s
+may_open_as f s is = record {
+  peer = grind (arith, nat_tests, common_steps, is);
+  assigned = grind (arith, nat_tests, common_steps, is);
+  place = grind (arith, nat_tests, common_steps, is);
+  id = grind (arith, nat_tests, common_steps, is);
+}
 
 answering_held : (h : Header) (id : ℕ) → IsHeldBy (record { id = id; end = answering Stream BUF_ALLOC h; unread = []; unanswered = true; closed = false })
 answering_held h id = record { unread = refl; fits = omega arith; space = omega arith; least = omega arith; alloc = omega arith; rx_cnt = omega arith; fwd_cnt = omega arith }
@@ -199,7 +179,7 @@ module _ (first : ℕ) (p : Packet) (s : DriverState) (log : Log) (fits : IsFitS
   was_accepted : is_request p.header ≡ true → may_open (flow_to_guest p.header) s ≡ true → Gets first p s log (with_request (flow_to_guest p.header) p.header s)
   was_accepted asks may =
       let f : Flow = flow_to_guest p.header in
-      let room = open_by f s (is_host f) (is_assigned f.host) (has_place f.guest s.listeners) (is_full s) (nat_le s.next_id LAST_ID) refl refl refl refl may in
+      let room = may_open_as f s may in
       let c : DriverConnection = record { id = s.next_id; end = answering Stream BUF_ALLOC p.header; unread = []; unanswered = true; closed = false } in
       let free : IsAccepted s.table f = record { absent = none; place = omega (arith, room.place, fits.places); slot = omega (arith, fits.given, room.id) } in
       let asks_for = and_parts (is_of Stream p.header) (packets.is_request p) asks in

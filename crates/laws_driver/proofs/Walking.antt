@@ -20,7 +20,7 @@ module _ (first : ℕ) (w : Seat) where
   pub poll_goes : Carries first (goes_from w)
   poll_goes = record {
     owed = λ what e s log fits stands owes m was fair goes. puts_goes _ s _ _ log (owed_puts what e s fits stands owes) goes;
-    reply = λ r rest s log fits is goes. puts_goes _ s _ (record s { replies = rest }) log (reply_puts r rest s fits is) goes;
+    reply = λ r rest s log fits is m fair goes. puts_goes _ s _ (record s { replies = rest }) log (reply_puts r rest s fits is) goes;
     got = λ p s log fits ports whole m was fair goes.
         let g = gets_packet first p s log fits ports whole m fair in
         goes_on w _ _ Forgets tt (at_log _ _ _ (sym g.ends)) (goes_on w (seat s log) _ (Takes p g.answer) tt refl goes);

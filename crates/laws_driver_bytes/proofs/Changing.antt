@@ -23,7 +23,7 @@ use Rattle.laws_driver.specs.Honest.{IsFitState, slots_of}
 use Rattle.laws_driver.proofs.{Calls.CarriesSend, Changing.close_changes}
 use Rattle.laws_driver_bytes.specs.Received.{Account, AreReceived, ReceivedOn}
 use Rattle.laws_driver_bytes.proofs.{Adding.asked_after, Adding.asked_still, Adding.got_over_put, Reading.given_none}
-use Rattle.laws_driver_bytes.proofs.Receiving.{changed_received}
+use Rattle.laws_driver_bytes.proofs.Receiving.{changed_received, in_slots}
 use Rattle.vs_conn.specs.declared.end.State.TheVariants as state
 
 -- The number of a flow's present connection stays at all packets but REQUESTs.
@@ -62,9 +62,7 @@ module _ (a : Account) (log : Log) (s : DriverState) (x : AreReceived a log (slo
   -- shutdown.
   shut_by : (st : State) (bits : ℕ) (e : DriverEntry) → IsTable s.table → Contains s.table.entries e → AreReceived a log (slots_of (shut_in st bits e s))
   shut_by state.Live bits e sound there = alters e (after_shut bits e.value) sound there refl (shut_goes e.value.end bits e.value.unread)
-  shut_by state.Asked bits e sound there = x
-  shut_by state.Answering bits e sound there = x
-  shut_by state.Ended bits e sound there = x
+  shut_by _ bits e sound there = x
 
   pub shutdown_received : (id bits : ℕ) → IsTable s.table → AreReceived a log (slots_of (after_shutdown id bits s))
   shutdown_received id bits sound = by (entry_known_as id s) refl
@@ -78,9 +76,7 @@ module _ (a : Account) (log : Log) (s : DriverState) (x : AreReceived a log (slo
   closes : (st : State) (e : DriverEntry) → IsTable s.table → Contains s.table.entries e
       → AreReceived a log (with_connection_in e.slot (after_closing st e.value) (slots_of s))
   closes state.Live e sound there = alters e (after_closing state.Live e.value) sound there refl (shut_goes e.value.end 3 e.value.unread)
-  closes state.Asked e sound there = alters e (after_closing state.Asked e.value) sound there refl (ended_goes (receives e.value.end) e.value.unread)
-  closes state.Answering e sound there = alters e (after_closing state.Answering e.value) sound there refl (ended_goes (receives e.value.end) e.value.unread)
-  closes state.Ended e sound there = alters e (after_closing state.Ended e.value) sound there refl (ended_goes (receives e.value.end) e.value.unread)
+  closes st e sound there = alters e (after_closing st e.value) sound there refl (ended_goes (receives e.value.end) e.value.unread)
 
   gone_received : (o : Option GoneConnection) (id : ℕ) → AreReceived a log (slots_of (elim o as (λ _. DriverState) [
     | None ↦ s
@@ -89,15 +85,8 @@ module _ (a : Account) (log : Log) (s : DriverState) (x : AreReceived a log (slo
   gone_received None id = x
   gone_received (Some g) id =
       let stays : GoneConnection → Bool = λ h. not (h.id == id) in
-      record {
-        numbers = numbers_gone_without a.first_id s.next_port s.next_id s.table s.gone x.numbers stays;
-        front = x.front;
-        held = x.held;
-        left = All-filter stays (ReceivedOn a log) s.gone x.left;
-        passed = x.passed;
-        once = x.once;
-        fresh = x.fresh;
-      }
+      in_slots a log (slots_of s) _ x refl (numbers_gone_without a.first_id s.next_port s.next_id s.table s.gone x.numbers stays) x.held
+      (All-filter stays (ReceivedOn a log) s.gone x.left)
 
   pub close_received : (id : ℕ) → IsTable s.table → AreReceived a log (slots_of (after_close id s))
   close_received id sound = by (entry_known_as id s) refl

@@ -19,21 +19,13 @@ use Rattle.laws_driver.specs.Honest.{IsFitState, slots_of}
 use Rattle.laws_driver.proofs.{Calls.CarriesConnect, Putting.may_connect}
 use Rattle.laws_driver_bytes.specs.Received.{Account, AreReceived, no_account, with_opened}
 use Rattle.laws_driver_bytes.proofs.{Adding.got_over_put, Logging.opened_goes_on, Logging.opened_received, Polling.Further}
-use Rattle.laws_driver_bytes.proofs.Polling.{IsFurther, goes_then}
+use Rattle.laws_driver_bytes.proofs.{Polling.IsFurther, Polling.goes_then, Receiving.in_slots}
 use Rattle.vs_conn.specs.declared.end.Owed.TheVariants as owed
 
 -- The numbers given last don't count.
 with_last : (a : Account) (log : Log) (slots : HeldSlots) (port id : ℕ) → AreReceived a log slots
     → AreReceived a log (record slots { last_port = port; last_id = id })
-with_last a log slots port id x = record {
-  numbers = x.numbers;
-  front = x.front;
-  held = x.held;
-  left = x.left;
-  passed = x.passed;
-  once = x.once;
-  fresh = x.fresh;
-}
+with_last a log slots port id x = in_slots a log slots (record slots { last_port = port; last_id = id }) x refl x.numbers x.held x.left
 
 number_rises : (side : Side) (put got : List Packet) (p : Packet) → side ≡ Asker → is_request p ≡ true
     → asked_by side (p ∷ put) got ≡ asked_by side put got + 1

@@ -4,9 +4,10 @@ use Rattle.vs_flow.specs.Connection.{Connection}
 use Rattle.vs_ring_port.specs.Contents.{RingContents}
 use Rattle.vs_driver_parts.specs.{Conversations.DriverTree, Playing.Plays, State.DriverState}
 use Rattle.laws_driver.specs.Honest.{IsHonestWith}
-use Rattle.laws_driver.proofs.{Carrying.Fact, Keeping.Keeps, Keeping.keeps_end, Ringing.at_rest, Staging.Rests}
+use Rattle.laws_driver.proofs.{Carrying.Fact, Keeping.Keeps, Keeping.keeps_end, Staging.Rests}
 use Rattle.laws_driver_bytes.specs.Calls.{GuestCall, IsJournaledWith, Journal, ReplyTo, account_of, sent_of, with_call}
 use Rattle.laws_driver_bytes.specs.{Received.Account, Received.IsReceivedWith, Sent.PutsJust}
+use Rattle.laws_driver_bytes.proofs.Ending.{further_from}
 use Rattle.laws_driver_bytes.proofs.{Growing.honest_stays, Making.CarriesCall, Making.account_after, Making.at_first, Making.call_received}
 use Rattle.laws_driver_bytes.proofs.{Making.call_sent, Making.further_journal, Making.sent_with, Polling.Further, Sending.begins}
 
@@ -26,7 +27,7 @@ module _ (first : ℕ) (call : GuestCall) (tree : DriverTree (DriverState × Rep
 
       kept : Rests first (Further (account_after call x.1 a)) x.0 d
       kept = keeps_end _ tree c d x (carried (Further a) (λ reply. Further (account_after call reply a)) (call_received first call a)
-          (λ on l is. (at_rest first s l (honest on l is), (a, record { first_id = refl; opened = λ id some. refl; received = λ id. refl }, account on l is)))) plays
+          (further_from first a s c honest account)) plays
 
   pub sent_just : PutsJust (sent_of call x.1 s) c d
   sent_just = λ on l is m told k.

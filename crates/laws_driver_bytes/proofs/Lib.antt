@@ -11,3 +11,4 @@ pub mod Polling
 pub mod Connecting
 pub mod Making
 pub mod Journaling
+pub mod SamePages

@@ -16,7 +16,7 @@ use Rattle.vs_driver_parts.proofs.Numbers.{numbers_left, numbers_with_entry, num
 use Rattle.laws_bytes.specs.Drains.{Drains, receives}
 use Rattle.laws_bytes.proofs.{Changes.others_left, Changes.under_slot, Logs.all_of, Logs.nothing_more, Logs.prefix_then}
 use Rattle.laws_driver_bytes.specs.Received.{Account, AreReceived, GoesOn, ReceivedOn, ReceivesOn, with_opened}
-use Rattle.laws_driver_bytes.proofs.Receiving.{apart_by, number_same}
+use Rattle.laws_driver_bytes.proofs.Receiving.{apart_by, in_slots, number_same}
 
 -- What more entries leave: the payload of each connection grows, and so do the numbers; on the flows of the table nothing is new.
 pub record Leaves (log new : Log) (e : DriverEntry) : Type 0 where
@@ -90,15 +90,10 @@ passes_by a p log slots apart x =
 module _ (a : Account) (log : Log) (slots : HeldSlots) (x : AreReceived a log slots) (sound : IsTable slots.table) (e : DriverEntry)
     (there : Contains slots.table.entries e) where
   without_received : AreReceived a log (record slots { table = without slots.table e.slot })
-  without_received = record {
-    numbers = numbers_without a.first_id slots.next_port slots.next_id slots.table slots.gone x.numbers e.slot;
-    front = x.front;
-    held = others_left slots.table sound e there (ReceivesOn a log) (ReceivesOn a log) x.held (λ y other z. z);
-    left = x.left;
-    passed = x.passed;
-    once = x.once;
-    fresh = x.fresh;
-  }
+  without_received =
+      in_slots a log slots (record slots { table = without slots.table e.slot }) x refl
+      (numbers_without a.first_id slots.next_port slots.next_id slots.table slots.gone x.numbers e.slot)
+      (others_left slots.table sound e there (ReceivesOn a log) (ReceivesOn a log) x.held (λ y other z. z)) x.left
 
   left_received : (g : GoneConnection) → g.id ≡ e.value.id → g.flow ≡ e.flow → g.unread ≡ e.value.unread
       → AreReceived a log (record slots { table = without slots.table e.slot; gone = slots.gone ++ g ∷ [] })
@@ -106,21 +101,15 @@ module _ (a : Account) (log : Log) (slots : HeldSlots) (x : AreReceived a log sl
       let y = without_received in
       let old = All-contains (ReceivesOn a log) slots.table.entries e x.held there in
       let opened : a.opened g.id ≡ current Driver e.flow log = ap a.opened same ∙ old.present in
-      record {
-        numbers = numbers_left a.first_id slots.next_port slots.next_id slots.table slots.gone x.numbers e g sound (under_slot slots.table sound e there) same;
-        front = x.front;
-        held = y.held;
-        left = All-push (ReceivedOn a log) slots.gone g x.left (record {
-          flow = ap (λ (c : Connection). c.flow) opened ∙ sym flow;
-          some = subst (λ (c : Connection). 1 ≤ c.number) (sym opened) old.some;
-          front = subst (λ (c : Connection). IsPrefixOf (a.received g.id ++ g.unread) (payload_got Driver c log)) (sym opened)
-              (subst (λ (id : ℕ). IsPrefixOf (a.received id ++ g.unread) (payload_got Driver (current Driver e.flow log) log)) (sym same)
-              (subst (λ (bytes : List ℕ). IsPrefixOf (a.received e.value.id ++ bytes) (payload_got Driver (current Driver e.flow log) log)) (sym unread) old.drains.front));
-        });
-        passed = x.passed;
-        once = x.once;
-        fresh = x.fresh;
-      }
+      in_slots a log slots (record slots { table = without slots.table e.slot; gone = slots.gone ++ g ∷ [] }) x refl
+      (numbers_left a.first_id slots.next_port slots.next_id slots.table slots.gone x.numbers e g sound (under_slot slots.table sound e there) same) y.held
+      (All-push (ReceivedOn a log) slots.gone g x.left (record {
+        flow = ap (λ (c : Connection). c.flow) opened ∙ sym flow;
+        some = subst (λ (c : Connection). 1 ≤ c.number) (sym opened) old.some;
+        front = subst (λ (c : Connection). IsPrefixOf (a.received g.id ++ g.unread) (payload_got Driver c log)) (sym opened)
+            (subst (λ (id : ℕ). IsPrefixOf (a.received id ++ g.unread) (payload_got Driver (current Driver e.flow log) log)) (sym same)
+            (subst (λ (bytes : List ℕ). IsPrefixOf (a.received e.value.id ++ bytes) (payload_got Driver (current Driver e.flow log) log)) (sym unread) old.drains.front));
+      }))
 
   pub leaves_received : (let_go : Bool) (g : GoneConnection) → g.id ≡ e.value.id → g.flow ≡ e.flow → g.unread ≡ e.value.unread
       → AreReceived a log (record slots { table = without slots.table e.slot; gone = cond let_go slots.gone (slots.gone ++ g ∷ []) })

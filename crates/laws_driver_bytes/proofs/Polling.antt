@@ -28,7 +28,7 @@ use Rattle.laws_bytes.specs.Drains.{receives}
 use Rattle.laws_bytes.proofs.Steps.{Goes, comes_in, delivers_to, hears_less, only_delivered, pays_less, stays_still}
 use Rattle.laws_driver.specs.Honest.{IsFitState, ends_of_state, slots_of}
 use Rattle.laws_driver.proofs.{Carrying.Carries, Carrying.Fact, Tabling.Stands, Tabling.entry_fits, Tabling.has_end, Tabling.leaves}
-use Rattle.laws_driver.proofs.{Resetting.with_cid, Taking.with_reply_fits}
+use Rattle.laws_driver.proofs.{Resetting.first_contained, Resetting.with_cid, Taking.with_reply_fits}
 use Rattle.laws_driver_bytes.specs.{Received.Account, Received.AreReceived, Received.GoesOn, Received.with_opened, Sent.only_on}
 use Rattle.vs_header.specs.declared.Kind.TheVariants.{Stream}
 use Rattle.laws_driver_bytes.proofs.{Adding.got_adds, Adding.got_over_put, Changing.number_got, Changing.number_put}
@@ -69,23 +69,11 @@ pays_received owed.Request a e s log fits stands owes old x =
 pays_received owed.Rst a e s log fits stands owes old x =
     leaving_received a (PutPacket (owed_on Driver s.cid e.flow e.value.end owed.Rst) ∷ log) s e e.value fits.sound stands.contains refl refl
     (puts_received a (owed_on Driver s.cid e.flow e.value.end owed.Rst) log (slots_of s) refl x)
-pays_received owed.Response a e s log fits stands owes old x =
-    puts_and_alters a log s x (owed_on Driver s.cid e.flow e.value.end owed.Response) e (paid_connection owed.Response e.value) refl fits.sound stands.contains refl
-    (stays_still (receives e.value.end) (receives (paid_of e.value.end owed.Response)) e.value.unread [] (pays_less e.value.end owed.Response owes) (λ on. refl))
-pays_received owed.CreditUpdate a e s log fits stands owes old x =
-    puts_and_alters a log s x (owed_on Driver s.cid e.flow e.value.end owed.CreditUpdate) e (paid_connection owed.CreditUpdate e.value) refl fits.sound stands.contains refl
-    (stays_still (receives e.value.end) (receives (paid_of e.value.end owed.CreditUpdate)) e.value.unread [] (pays_less e.value.end owed.CreditUpdate owes) (λ on. refl))
-pays_received owed.CreditRequest a e s log fits stands owes old x =
-    puts_and_alters a log s x (owed_on Driver s.cid e.flow e.value.end owed.CreditRequest) e (paid_connection owed.CreditRequest e.value) refl fits.sound stands.contains refl
-    (stays_still (receives e.value.end) (receives (paid_of e.value.end owed.CreditRequest)) e.value.unread [] (pays_less e.value.end owed.CreditRequest owes) (λ on. refl))
-pays_received (owed.Shutdown bits) a e s log fits stands owes old x =
-    puts_and_alters a log s x (owed_on Driver s.cid e.flow e.value.end (owed.Shutdown bits)) e (paid_connection (owed.Shutdown bits) e.value) refl fits.sound stands.contains refl
-    (stays_still (receives e.value.end) (receives (paid_of e.value.end (owed.Shutdown bits))) e.value.unread [] (pays_less e.value.end (owed.Shutdown bits) owes) (λ on. refl))
+pays_received what a e s log fits stands owes old x =
+    puts_and_alters a log s x (owed_on Driver s.cid e.flow e.value.end what) e (paid_connection what e.value) refl fits.sound stands.contains refl
+    (stays_still (receives e.value.end) (receives (paid_of e.value.end what)) e.value.unread [] (pays_less e.value.end what owes) (λ on. refl))
 
 -- A transport reset: all leave.
-first_contained : (e : DriverEntry) (es xs : List DriverEntry) → xs ≡ e ∷ es → Contains xs e
-first_contained e es xs is = subst (λ (ys : List DriverEntry). Contains ys e) (sym is) (0, omega arith, refl)
-
 all_leave : (a : Account) (log : Log) (es : List DriverEntry) (s : DriverState) → s.table.entries ≡ es → IsFitState s → AreReceived a log (slots_of s)
     → AreReceived a log (slots_of (all_left es s))
 all_leave a log [] s is fits x = x
@@ -143,15 +131,10 @@ module _ (first : ℕ) (a : Account) (p : Packet) (e : DriverEntry) (s : DriverS
   by_verdict : (v : Verdict) → verdict_of e.value.end p.header ≡ v → is_refused v ≡ false → AreReceived a (GotPacket p ∷ log) (slots_of (after_verdict v p e s))
   by_verdict (verdict.Rst why) is taken = absurd cc
   by_verdict verdict.Peer is taken = peers (is_reset p.header) is refl
-  by_verdict verdict.Accept is taken =
-      hears (after_packet verdict.Accept p e.value) refl (unmoved verdict.Accept is refl (λ (q : verdict.Accept ≡ verdict.Deliver). cc))
   by_verdict verdict.Deliver is taken =
       hears (after_packet verdict.Deliver p e.value) refl
       (comes_in (receives e.value.end) (receives (end_after e.value.end p.header)) e.value.unread p.payload (delivers_to e.value.end p.header is))
-  by_verdict verdict.Discard is taken =
-      hears (after_packet verdict.Discard p e.value) refl (unmoved verdict.Discard is refl (λ (q : verdict.Discard ≡ verdict.Deliver). cc))
-  by_verdict verdict.Ignore is taken =
-      hears (after_packet verdict.Ignore p e.value) refl (unmoved verdict.Ignore is refl (λ (q : verdict.Ignore ≡ verdict.Deliver). cc))
+  by_verdict v is taken = hears (after_packet v p e.value) refl (unmoved v is taken (λ (q : v ≡ verdict.Deliver). cc))
 
   pub known_received : AreReceived a (GotPacket p ∷ log) (slots_of (on_known p e s))
   known_received = by_verdict (verdict_of e.value.end p.header) refl kept
@@ -270,7 +253,7 @@ poll_carries first a = record {
   owed = λ what e s log fits stands owes m was fair x.
       let old = driver_begun first (ends_of_state s) log e.flow e.value.end m.flows (has_end s e fits stands) in
       (x.0, x.1, pays_received what x.0 e s log fits stands owes old x.2);
-  reply = λ r rest s log fits is x. (x.0, x.1, puts_received x.0 (reply_on Driver s.cid r) log (slots_of s) refl x.2);
+  reply = λ r rest s log fits is m fair x. (x.0, x.1, puts_received x.0 (reply_on Driver s.cid r) log (slots_of s) refl x.2);
   got = λ p s log fits ports whole m was fair x. heard_received first a p s log fits whole m was fair x;
   event = λ id s log x. (x.0, x.1, same_received x.0 log (GotEvent id ∷ log) (slots_of s) (λ c. refl) (λ f. refl) x.2);
   reset = λ cid s log less fits x. (

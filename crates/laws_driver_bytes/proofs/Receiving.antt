@@ -1,16 +1,33 @@
 -- What an application received, through each change of a connection.
-use Rattle.std.proofs.Common.{◌≡◌, ◌≢◌, ℕ, ◌+◌, ◌<◌, ◌≤◌, ◌==◌, ◌&&◌, Bool, true, false, cond, List, [], ◌++◌, length, get_or, Contains}
+use Rattle.std.proofs.Common.{◌≡◌, ◌≢◌, ℕ, ◌<◌, ◌≤◌, ◌==◌, ◌&&◌, Bool, true, false, cond, List, [], ◌++◌, length, get_or, Contains}
 use Rattle.std.proofs.{Common.refl, Common.sym, Common.ap, Common.subst, Common.◌∙◌, Common.arith, Common.append-nil, Math.Path.fun_ext}
 use Rattle.std.proofs.lemmas.{Bool.Decides.nat_tests, List.Elements.All-contains}
+use Rattle.std.specs.List.{All}
 use Rattle.vs_flow.specs.{Connection.Connection, Table.IsTable, declared.flow.Flow.Flow}
 use Rattle.vs_flow.proofs.Entries.{same_flow_false}
 use Rattle.vs_page.proofs.Flows.{same_self}
 use Rattle.vs_page.specs.{Fair.IsPrefixOf, Fair.current, Fair.number_of, Fair.payload_got, Log.Driver, Log.Log}
-use Rattle.vs_driver_parts.specs.{Held.HeldSlots, Held.with_connection_in, State.DriverConnection, State.DriverEntry, State.GoneConnection}
-use Rattle.vs_driver_parts.proofs.{Ids.HasId, Ids.value_of, Numbers.numbers_with_value}
+use Rattle.vs_driver_parts.specs.{Held.HeldSlots, Held.with_connection_in, SlotFields.AreNumbered, State.DriverConnection}
+use Rattle.vs_driver_parts.specs.{State.DriverEntry}
+use Rattle.vs_driver_parts.specs.State.{GoneConnection}
+use Rattle.vs_driver_parts.proofs.{Ids.HasId, Ids.value_of, Numbers.id_there, Numbers.numbers_with_value}
 use Rattle.laws_bytes.specs.Drains.{Drains, receives}
 use Rattle.laws_bytes.proofs.{Changes.changed, Changes.under_slot, Logs.longer, Logs.shorter, Steps.Goes}
 use Rattle.laws_driver_bytes.specs.{Received.Account, Received.AreReceived, Received.ReceivedOn, Received.ReceivesOn, Sent.only_on}
+
+-- Other slots, of which the next one has the same id.
+pub in_slots : (a : Account) (log : Log) (slots new : HeldSlots) → AreReceived a log slots → new.next_id ≡ slots.next_id
+    → AreNumbered a.first_id new.next_port new.next_id new.table new.gone → All (ReceivesOn a log) new.table.entries → All (ReceivedOn a log) new.gone
+    → AreReceived a log new
+in_slots a log slots new x next numbers held left = record {
+  numbers = numbers;
+  front = x.front;
+  held = held;
+  left = left;
+  passed = x.passed;
+  once = x.once;
+  fresh = λ id less. x.fresh id (omega (arith, less, next));
+}
 
 -- The same bytes, said otherwise.
 pub same_account : (a : Account) (q : ℕ → List ℕ) (log : Log) (slots : HeldSlots) → ((id : ℕ) → a.received id ≡ q id) → AreReceived a log slots
@@ -109,8 +126,8 @@ module _ (a : Account) (q : ℕ → List ℕ) (log new : Log) (e : DriverEntry) 
     changed_received c same goes =
         let now = here c same goes was in
         record {
-          numbers = numbers_with_value a.first_id slots.next_port slots.next_id slots.table slots.gone x.numbers e.slot e.value c
-              (value_of slots.table e.slot e (under_slot slots.table sound e there)) same;
+          numbers = numbers_with_value a.first_id slots.next_port slots.next_id slots.table slots.gone x.numbers e.slot c
+              (id_there slots.table e.slot e.value c (value_of slots.table e.slot e (under_slot slots.table sound e there)) same);
           front = λ id. front_by now id (id == e.value.id) refl;
           held = changed slots.table sound e there (ReceivesOn a log) (ReceivesOn b new) c x.held now
               (λ y other on. on_other y other (other_id y other on) on);

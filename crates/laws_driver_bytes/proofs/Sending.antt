@@ -43,7 +43,7 @@ more_none log now c is = is ∙ sym (append-nil (payload_put Driver c log))
 pub poll_puts : (first : ℕ) (log : Log) → Carries first (puts_as log)
 poll_puts first log = record {
   owed = λ what e s now fits stands owes m was fair held c. put_none Driver now _ c refl ∙ held c;
-  reply = λ r rest s now fits is held c. put_none Driver now _ c refl ∙ held c;
+  reply = λ r rest s now fits is m fair held c. put_none Driver now _ c refl ∙ held c;
   got = λ p s now fits ports whole m was fair held c. put_over_got Driver p now c ∙ held c;
   event = λ id s now held. held;
   reset = λ cid s now less fits held. held;

@@ -13,6 +13,7 @@ use Rattle.vs_driver_parts.specs.{Listening.accept_of, Listening.after_accept, S
 use Rattle.vs_page.specs.Log.{Log}
 use Rattle.vs_ring_port.specs.Contents.{RingContents}
 use Rattle.laws_driver.specs.Honest.{slots_of}
+use Rattle.vs_driver_parts.specs.declared.answers.Accepted.TheVariants as accepted
 use Rattle.laws_driver_bytes.specs.{Received.Account, Received.AreReceived, Received.bytes_got, Sent.sent_by, Sent.took}
 
 -- A call on the driver, a poll aside. A receive is into a buffer of so many bytes.
@@ -81,6 +82,15 @@ flow_named (Shutdown id bits) s = flow_of id s
 flow_named (Close id) s = flow_of id s
 flow_named (LookAt id) s = flow_of id s
 flow_named _ s = None
+
+-- The flow of the connection that a connect opened or an accept gave, by the driver after it.
+abbrev pub flow_opened : Result ℕ ConnectError → DriverState → Option Flow
+flow_opened (Ok id) s = flow_of id s
+flow_opened (Err why) s = None
+
+abbrev pub flow_accepted : Accepted → DriverState → Option Flow
+flow_accepted (accepted.Conn id) s = flow_of id s
+flow_accepted answer s = None
 
 -- A call that was made, with its reply, and the connection that it named.
 pub record Made : Type 0 where

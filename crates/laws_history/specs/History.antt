@@ -5,7 +5,8 @@ use Rattle.vs_header.specs.declared.Op.TheVariants.{Invalid, Request, Response, 
 use Rattle.laws_history.specs.declared.packet.Packet.{Packet}
 use Rattle.vs_limits.specs.declared.TheConstants.{BUF_ALLOC, BUF_ALLOC_MAX, MESSAGE_MAX}
 use Rattle.laws_history.specs.Packets.{asked_kind, has_both, tells, is_clean_rst, is_piece, is_request, is_response, is_rst, is_rw}
-use Rattle.laws_history.specs.Packets.{message_of, shuts_receive, shuts_send, has, size, bytes, forwarded_by, told_alloc, allowance, IsFormed}
+use Rattle.laws_history.specs.Packets.{message_of, shuts_receive, shuts_send, has, size, bytes, forwarded_by, told_alloc, allowance}
+use Rattle.laws_history.specs.Packets.{IsFormed}
 
 -- An end put a packet, or got one.
 pub data Entry : Type 0 where

@@ -29,9 +29,7 @@ use Rattle.vs_script.specs.Hostile.{Hostile, Write, WriteDesc, Give, Index, Pack
 use Rattle.vs_script.specs.Outside.{Client, Host, HostAllow, HostClosed, HostEnd, HostFail, HostListen, HostUnlisten, HostWrite, OfHost}
 use Rattle.vs_script.specs.{Outside.Outside, Outside.Reset, Outside.Tick, Data.bytes_of}
 use Rattle.vs_outside.specs.declared.mem_stream.HostWritten.TheVariants as written
-use Rattle.vs_script.specs.Hostile.{Memory as SetMemory}
-use Rattle.vs_script.specs.Hostile.{Rings as SetRings}
-use Rattle.vs_script.specs.Hostile.{Around as OfOutside}
+use Rattle.vs_script.specs.Hostile.{Memory as SetMemory, Rings as SetRings, Around as OfOutside}
 use Rattle.vs_script.specs.Outside.{Turn as TakeTurn}
 
 -- The calls made so far account for what the proxy holds, and show what the host holds.

@@ -15,9 +15,7 @@ use Rattle.vs_script.specs.Hostile.{Hostile, Write, WriteDesc, Give, Index, Pack
 use Rattle.vs_script.specs.Outside.{Client, OfHost, Outside, Reset, Tick}
 use Rattle.laws_hostile.specs.{Isolated.AreLinesJudged, Isolated.IsLineJudged, Recorded.calls_of, Recorded.made_in, Recorded.recorded}
 use Rattle.laws_hostile.proofs.{Lines.Holds, Lines.line_holds, Steps.played_makes, Steps.played_same}
-use Rattle.vs_script.specs.Hostile.{Memory as SetMemory}
-use Rattle.vs_script.specs.Hostile.{Rings as SetRings}
-use Rattle.vs_script.specs.Hostile.{Around as OfOutside}
+use Rattle.vs_script.specs.Hostile.{Memory as SetMemory, Rings as SetRings, Around as OfOutside}
 use Rattle.vs_script.specs.Outside.{Turn as TakeTurn}
 
 -- What a conversation was played to, its calls led to.

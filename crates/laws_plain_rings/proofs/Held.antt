@@ -2,8 +2,7 @@
 use Rattle.std.proofs.Common.{◌≡◌, ℕ, zero, suc, ◌+◌, ◌*◌, ◌<◌, ◌≤◌, Bool, true, false, cond, not, ◌&&◌, ◌==◌, List, [], ◌∷◌, length, map}
 use Rattle.std.proofs.Common.{get_or, Some, Contains, refl, sym, ap, ◌∙◌, subst, arith}
 use Rattle.std.specs.Prelude.{count_by}
-use Rattle.std.proofs.lemmas.Bool.{false≢true}
-use Rattle.std.proofs.lemmas.List.Sums.{sum_by-cons}
+use Rattle.std.proofs.lemmas.{Bool.false≢true, List.Sums.sum_by-cons}
 use Rattle.vs_ring_list.proofs.Held.{same_chain_is, same_chain_refl, same_queue_is, same_queue_refl}
 use Rattle.vs_ring_port.specs.Chains.{Held, bytes_in, held_of, same_chain, same_queue, with_bytes, without_held}
 use Rattle.vs_ring_port.specs.declared.{device_ring.Chain.Chain, queue.Queue.Queue}
@@ -11,18 +10,61 @@ use Rattle.vs_ring_plain.specs.{Device.HeldChain, Device.hold_of, Device.without
 use Rattle.laws_plain_rings.specs.{Queue.times, Shown.Shown, Tie.AreHeldAs, Tie.IsHeldAs, Tie.heads_of}
 use Rattle.laws_plain_rings.proofs.{Counting.here, Counting.times-cons, Counting.times-self, Queues.turned}
 
+-- the first chain that is held, or a later one
+hold_first : (c : Chain) (h : HeldChain) (held : List HeldChain) (hold : HeldChain) → hold_of c (h ∷ held) ≡ Some hold
+    → same_chain c h.chain ≡ true → h ≡ hold
+hold_first c h held hold is e = let some : Some h ≡ Some hold = subst (λ b. cond b (Some h) (hold_of c held) ≡ Some hold) e is in cc
+
+hold_later : (c : Chain) (h : HeldChain) (held : List HeldChain) (hold : HeldChain) → hold_of c (h ∷ held) ≡ Some hold
+    → same_chain c h.chain ≡ false → hold_of c held ≡ Some hold
+hold_later c h held hold is e = subst (λ b. cond b (Some h) (hold_of c held) ≡ Some hold) e is
+
 -- the first descriptor of a chain stands among those of its queue
 pub heads_here : (h : HeldChain) (held : List HeldChain) → heads_of h.chain.queue (h ∷ held) ≡ h.head ∷ heads_of h.chain.queue held
 heads_here h held = rw (same_queue_refl h.chain.queue) refl
 
-pub heads_at : (q : Queue) (h : HeldChain) (held : List HeldChain) (j : ℕ)
+-- what is counted of the heads one by one
+module _ (f : List ℕ → ℕ) (f-cons : (x : ℕ) (xs : List ℕ) → f (x ∷ xs) ≡ f (x ∷ []) + f xs) where
+  heads_sum : (q : Queue) (h : HeldChain) (held : List HeldChain)
+      → f (heads_of q (h ∷ held)) ≡ cond (same_queue q h.chain.queue) (f (h.head ∷ [])) 0 + f (heads_of q held)
+  heads_sum q h held = by (same_queue q h.chain.queue)
+    where
+      by : (b : Bool) → f (cond b (h.head ∷ heads_of q held) (heads_of q held)) ≡ cond b (f (h.head ∷ [])) 0 + f (heads_of q held)
+      by true = f-cons h.head (heads_of q held)
+      by false = omega arith
+
+  -- the others of its queue are those without it
+  heads_less : (c : Chain) (held : List HeldChain) (hold : HeldChain) → hold_of c held ≡ Some hold
+      → f (heads_of c.queue held) ≡ f (hold.head ∷ []) + f (heads_of c.queue (without_hold c held))
+  heads_less c [] hold is = absurd cc
+  heads_less c (h ∷ held) hold is = by (λ e. heads_less c held hold e) (same_chain c h.chain) refl
+    where
+      by : (hold_of c held ≡ Some hold → f (heads_of c.queue held) ≡ f (hold.head ∷ []) + f (heads_of c.queue (without_hold c held)))
+          → (b : Bool) → same_chain c h.chain ≡ b → f (heads_of c.queue (h ∷ held))
+          ≡ f (hold.head ∷ []) + f (heads_of c.queue (cond b held (h ∷ without_hold c held)))
+      by more true e =
+          let same : same_queue c.queue h.chain.queue ≡ true =
+          ap (λ (k : Chain). same_queue c.queue k.queue) (sym (same_chain_is c h.chain e)) ∙ same_queue_refl c.queue in
+          heads_sum c.queue h held ∙ ap (λ b. cond b (f (h.head ∷ [])) 0 + f (heads_of c.queue held)) same
+          ∙ ap (λ (x : HeldChain). f (x.head ∷ []) + f (heads_of c.queue held)) (hold_first c h held hold is e)
+      by more false e =
+          omega (arith, heads_sum c.queue h held, heads_sum c.queue h (without_hold c held), more (hold_later c h held hold is e))
+
+heads_at : (q : Queue) (h : HeldChain) (held : List HeldChain) (j : ℕ)
     → times j (heads_of q (h ∷ held)) ≡ cond (same_queue q h.chain.queue) (times j (h.head ∷ [])) 0 + times j (heads_of q held)
-heads_at q h held j = by (same_queue q h.chain.queue)
-  where
-    by : (b : Bool) → times j (cond b (h.head ∷ heads_of q held) (heads_of q held)) ≡ cond b (times j (h.head ∷ [])) 0 + times j
-        (heads_of q held)
-    by true = omega (arith, times-cons j h.head (heads_of q held))
-    by false = omega arith
+heads_at q h held j = heads_sum (times j) (times-cons j) q h held
+
+pub heads_length : (q : Queue) (h : HeldChain) (held : List HeldChain)
+    → length (heads_of q (h ∷ held)) ≡ cond (same_queue q h.chain.queue) 1 0 + length (heads_of q held)
+heads_length q h held = heads_sum length (λ x xs. omega arith) q h held
+
+pub heads_without : (c : Chain) (held : List HeldChain) (hold : HeldChain) → hold_of c held ≡ Some hold → (j : ℕ)
+    → times j (heads_of c.queue held) ≡ times j (hold.head ∷ []) + times j (heads_of c.queue (without_hold c held))
+heads_without c held hold is j = heads_less (times j) (times-cons j) c held hold is
+
+pub fewer_heads : (c : Chain) (held : List HeldChain) (hold : HeldChain) → hold_of c held ≡ Some hold
+    → length (heads_of c.queue held) ≡ 1 + length (heads_of c.queue (without_hold c held))
+fewer_heads c held hold is = heads_less length (λ x xs. omega arith) c held hold is
 
 heads_some : (q : Queue) (h : HeldChain) (held : List HeldChain) (j : ℕ) → 0 < times j (heads_of q held)
     → 0 < times j (heads_of q (h ∷ held))
@@ -31,29 +73,37 @@ heads_some q h held j some = omega (arith, some, heads_at q h held j)
 heads_first : (h : HeldChain) (held : List HeldChain) → 0 < times h.head (heads_of h.chain.queue (h ∷ held))
 heads_first h held = subst (λ (xs : List ℕ). 0 < times h.head xs) (sym (heads_here h held)) (here h.head (heads_of h.chain.queue held))
 
--- where their pages are what they were, so are the chains
-module _ (at : Queue → ℕ) where
+-- where the pages begin at the same addresses and are what they were, so are the chains
+module _ (at to : Queue → ℕ) (same_start : (q : Queue) → to q ≡ at q) where
   held_one : (s new : Queue → Shown) (h : HeldChain) (g : Held)
-      → ((c : ℕ) → c ≤ 4096 → (new h.chain.queue).page h.head c ≡ (s h.chain.queue).page h.head c) → IsHeldAs at s h g → IsHeldAs at new h g
+      → ((c : ℕ) → c ≤ 4096 → (new h.chain.queue).page h.head c ≡ (s h.chain.queue).page h.head c) → IsHeldAs at s h g → IsHeldAs to new h g
   held_one s new h g same one = record {
     chain = one.chain;
-    pieces = one.pieces;
+    pieces = one.pieces
+        ∙ ap (λ (a : ℕ). let x : Piece = record { addr = a + 4096 * h.head; len = h.chain.readable + h.chain.writable } in x ∷ []) (sym
+        (same_start h.chain.queue));
     bytes = same (length g.bytes) one.fits ∙ one.bytes;
     fits = one.fits;
     room = one.room;
     readable = one.readable;
   }
 
+  pub held_moved : (s new : Queue → Shown) (held : List HeldChain) (gs : List Held)
+      → ((q : Queue) (id : ℕ) → 0 < times id (heads_of q held) → (c : ℕ) → c ≤ 4096 → (new q).page id c ≡ (s q).page id c)
+      → AreHeldAs at s held gs → AreHeldAs to new held gs
+  held_moved s new [] [] same all = tt
+  held_moved s new [] (g ∷ gs) same all = absurd all
+  held_moved s new (h ∷ held) [] same all = absurd all
+  held_moved s new (h ∷ held) (g ∷ gs) same (one, all) = (
+    held_one s new h g (same h.chain.queue h.head (heads_first h held)) one,
+    held_moved s new held gs (λ q id some. same q id (heads_some q h held id some)) all,
+  )
+
+module _ (at : Queue → ℕ) where
   pub held_kept : (s new : Queue → Shown) (held : List HeldChain) (gs : List Held)
       → ((q : Queue) (id : ℕ) → 0 < times id (heads_of q held) → (c : ℕ) → c ≤ 4096 → (new q).page id c ≡ (s q).page id c)
       → AreHeldAs at s held gs → AreHeldAs at new held gs
-  held_kept s new [] [] same all = tt
-  held_kept s new [] (g ∷ gs) same all = absurd all
-  held_kept s new (h ∷ held) [] same all = absurd all
-  held_kept s new (h ∷ held) (g ∷ gs) same (one, all) = (
-    held_one s new h g (same h.chain.queue h.head (heads_first h held)) one,
-    held_kept s new held gs (λ q id some. same q id (heads_some q h held id some)) all,
-  )
+  held_kept = held_moved at at (λ q. refl)
 
   -- a chain that is held
   pub record Found (s : Queue → Shown) (c : Chain) (held : List HeldChain) (gs : List Held) : Type 0 where
@@ -116,84 +166,6 @@ module _ (at : Queue → ℕ) where
           → AreHeldAs at s (cond b held (h ∷ without_hold c held)) (cond b gs (g ∷ without_held c gs))
       by more true = all
       by more false = (one, more)
-
--- where the pages begin at the same addresses, so they do
-pub held_from : (from to : Queue → ℕ) (s : Queue → Shown) (held : List HeldChain) (gs : List Held) → ((q : Queue) → to q ≡ from q)
-    → AreHeldAs from s held gs → AreHeldAs to s held gs
-held_from from to s [] [] same all = tt
-held_from from to s [] (g ∷ gs) same all = absurd all
-held_from from to s (h ∷ held) [] same all = absurd all
-held_from from to s (h ∷ held) (g ∷ gs) same (one, all) = (
-  record {
-    chain = one.chain;
-    pieces = one.pieces
-        ∙ ap (λ (a : ℕ). let x : Piece = record { addr = a + 4096 * h.head; len = h.chain.readable + h.chain.writable } in x ∷ []) (sym
-        (same h.chain.queue));
-    bytes = one.bytes;
-    fits = one.fits;
-    room = one.room;
-    readable = one.readable;
-  },
-  held_from from to s held gs same all,
-)
-
--- the others of its queue are those without it
-pub heads_without : (c : Chain) (held : List HeldChain) (hold : HeldChain) → hold_of c held ≡ Some hold → (j : ℕ)
-    → times j (heads_of c.queue held) ≡ times j (hold.head ∷ []) + times j (heads_of c.queue (without_hold c held))
-heads_without c [] hold is j = absurd cc
-heads_without c (h ∷ held) hold is j = by (λ e. heads_without c held hold e j) (same_chain c h.chain) refl
-  where
-    first : same_chain c h.chain ≡ true → h ≡ hold
-    first e = let some : Some h ≡ Some hold = subst (λ b. cond b (Some h) (hold_of c held) ≡ Some hold) e is in cc
-
-    rest : same_chain c h.chain ≡ false → hold_of c held ≡ Some hold
-    rest e = subst (λ b. cond b (Some h) (hold_of c held) ≡ Some hold) e is
-
-    by : (hold_of c held ≡ Some hold → times j (heads_of c.queue held) ≡ times j (hold.head ∷ []) + times j (heads_of c.queue
-        (without_hold c held)))
-        → (b : Bool) → same_chain c h.chain ≡ b → times j (heads_of c.queue (h ∷ held))
-        ≡ times j (hold.head ∷ []) + times j (heads_of c.queue (cond b held (h ∷ without_hold c held)))
-    by more true e =
-        let same : same_queue c.queue h.chain.queue ≡ true =
-        ap (λ (k : Chain). same_queue c.queue k.queue) (sym (same_chain_is c h.chain e)) ∙ same_queue_refl c.queue in
-        heads_at c.queue h held j ∙ ap (λ b. cond b (times j (h.head ∷ [])) 0 + times j (heads_of c.queue held)) same
-        ∙ ap (λ (x : HeldChain). times j (x.head ∷ []) + times j (heads_of c.queue held)) (first e)
-    by more false e = omega (
-      arith,
-      heads_at c.queue h held j,
-      heads_at c.queue h (without_hold c held) j,
-      more (rest e),
-    )
-
-pub heads_length : (q : Queue) (h : HeldChain) (held : List HeldChain)
-    → length (heads_of q (h ∷ held)) ≡ cond (same_queue q h.chain.queue) 1 0 + length (heads_of q held)
-heads_length q h held = by (same_queue q h.chain.queue)
-  where
-    by : (b : Bool) → length (cond b (h.head ∷ heads_of q held) (heads_of q held)) ≡ cond b 1 0 + length (heads_of q held)
-    by true = omega arith
-    by false = omega arith
-
-pub fewer_heads : (c : Chain) (held : List HeldChain) (hold : HeldChain) → hold_of c held ≡ Some hold
-    → length (heads_of c.queue held) ≡ 1 + length (heads_of c.queue (without_hold c held))
-fewer_heads c [] hold is = absurd cc
-fewer_heads c (h ∷ held) hold is = by (λ e. fewer_heads c held hold e) (same_chain c h.chain) refl
-  where
-    rest : same_chain c h.chain ≡ false → hold_of c held ≡ Some hold
-    rest e = subst (λ b. cond b (Some h) (hold_of c held) ≡ Some hold) e is
-
-    by : (hold_of c held ≡ Some hold → length (heads_of c.queue held) ≡ 1 + length (heads_of c.queue (without_hold c held)))
-        → (b : Bool) → same_chain c h.chain ≡ b
-        → length (heads_of c.queue (h ∷ held)) ≡ 1 + length (heads_of c.queue (cond b held (h ∷ without_hold c held)))
-    by more true e =
-        let same : same_queue c.queue h.chain.queue ≡ true =
-        ap (λ (k : Chain). same_queue c.queue k.queue) (sym (same_chain_is c h.chain e)) ∙ same_queue_refl c.queue in
-        heads_length c.queue h held ∙ ap (λ b. cond b 1 0 + length (heads_of c.queue held)) same
-    by more false e = omega (
-      arith,
-      heads_length c.queue h held,
-      heads_length c.queue h (without_hold c held),
-      more (rest e),
-    )
 
 -- those of the other queues stay
 pub heads_beside : (c : Chain) (held : List HeldChain) (q : Queue) → same_queue c.queue q ≡ false
@@ -266,11 +238,20 @@ module _ (at : Queue → ℕ) where
           → (k : ℕ) → k ≤ 4096
           → (new q).page id k ≡ (s q).page id k
 
-      first : same_chain c h.chain ≡ true → h ≡ hold
-      first e = let some : Some h ≡ Some hold = subst (λ b. cond b (Some h) (hold_of c held) ≡ Some hold) e is in cc
-
-      rest : same_chain c h.chain ≡ false → hold_of c held ≡ Some hold
-      rest e = subst (λ b. cond b (Some h) (hold_of c held) ≡ Some hold) e is
+      -- no other chain of the queue has its head
+      alone : (b : Bool) → same_chain c h.chain ≡ b → (q : Queue) (id : ℕ)
+          → 0 < times id (heads_of q (cond b held (h ∷ without_hold c held))) → same_queue q c.queue ≡ true → id ≡ hold.head → ⊥
+      alone b e q id some queue head =
+          let mine = subst (λ x. times hold.head (heads_of c.queue (h ∷ held)) ≡ times hold.head (hold.head ∷ []) + times hold.head
+          (heads_of c.queue (cond x held (h ∷ without_hold c held)))) e (heads_without c (h ∷ held) hold is hold.head) in
+          omega (
+            arith,
+            once hold.head,
+            mine,
+            times-self hold.head,
+            subst (λ (r : Queue). 0 < times hold.head (heads_of r (cond b held (h ∷ without_hold c held)))) (same_queue_is q c.queue queue)
+                (subst (λ (x : ℕ). 0 < times x (heads_of q (cond b held (h ∷ without_hold c held)))) head some),
+          )
 
       by : (hold_of c held ≡ Some hold → ((id : ℕ) → times id (heads_of c.queue held) ≤ 1) → Same held
           → AreHeldAs at new held (with_bytes c bytes gs))
@@ -281,41 +262,17 @@ module _ (at : Queue → ℕ) where
             record {
               chain = one.chain;
               pieces = one.pieces;
-              bytes = ap (λ (x : HeldChain). (new h.chain.queue).page x.head (length bytes)) (first e)
+              bytes = ap (λ (x : HeldChain). (new h.chain.queue).page x.head (length bytes)) (hold_first c h held hold is e)
                   ∙ ap (λ (k : Chain). (new k.queue).page hold.head (length bytes)) chain ∙ written;
               fits = fits;
               room = one.room;
               readable = subst (λ (k : Chain). k.readable ≤ length bytes) (sym chain) long;
             },
-            held_kept at s new held gs (λ q id some. same q id (λ queue head. twice q id queue head some) (heads_some q h held id
-                some)) all,
+            held_kept at s new held gs (λ q id some. same q id (alone true e q id some) (heads_some q h held id some)) all,
           )
-        where
-          twice : (q : Queue) (id : ℕ) → same_queue q c.queue ≡ true → id ≡ hold.head → 0 < times id (heads_of q held) → ⊥
-          twice q id queue head some =
-              let q_is = same_queue_is q c.queue queue in
-              let chain = same_chain_is c h.chain e in
-              let test : same_queue c.queue h.chain.queue ≡ true = ap (λ (k : Chain). same_queue c.queue k.queue) (sym chain)
-              ∙ same_queue_refl c.queue in
-              let at_c : times id (heads_of c.queue (h ∷ held)) ≡ times id (h.head ∷ []) + times id (heads_of c.queue held) =
-              heads_at c.queue h held id ∙ ap (λ b. cond b (times id (h.head ∷ [])) 0 + times id (heads_of c.queue held)) test in
-              let mine : times id (h.head ∷ []) ≡ 1 =
-              ap (λ (x : HeldChain). times id (x.head ∷ [])) (first e) ∙ ap (λ x. times x (hold.head ∷ [])) head ∙ times-self hold.head in
-              omega (arith, once id, at_c, mine, subst (λ (r : Queue). 0 < times id (heads_of r held)) q_is some)
       by more false e = (
-        held_one at s new h g (same h.chain.queue h.head not_mine (heads_first h held)) one,
-        more (rest e) (λ id. omega (arith, once id, heads_at c.queue h held id)) (λ q id other some. same q id other (heads_some q h
-            held id some)),
+        held_one at at (λ q. refl) s new h g (same h.chain.queue h.head
+            (alone false e h.chain.queue h.head (heads_first h (without_hold c held))) (heads_first h held)) one,
+        more (hold_later c h held hold is e) (λ id. omega (arith, once id, heads_at c.queue h held id))
+            (λ q id other some. same q id other (heads_some q h held id some)),
       )
-        where
-          not_mine : same_queue h.chain.queue c.queue ≡ true → h.head ≡ hold.head → ⊥
-          not_mine queue head =
-              let q_is = same_queue_is h.chain.queue c.queue queue in
-              let test : same_queue c.queue h.chain.queue ≡ true = ap (λ (r : Queue). same_queue c.queue r) q_is
-              ∙ same_queue_refl c.queue in
-              let at_c : times hold.head (heads_of c.queue (h ∷ held)) ≡ times hold.head (h.head ∷ []) + times hold.head (heads_of
-              c.queue held) =
-              heads_at c.queue h held hold.head ∙ ap (λ b. cond b (times hold.head (h.head ∷ [])) 0 + times hold.head (heads_of c.queue
-              held)) test in
-              let mine : times hold.head (h.head ∷ []) ≡ 1 = ap (λ x. times hold.head (x ∷ [])) head ∙ times-self hold.head in
-              omega (arith, once hold.head, at_c, mine, heads_without c held hold (rest e) hold.head, times-self hold.head)

@@ -44,30 +44,36 @@ device_moved call a P f Q g w c d shows m =
     (lists.0, log.0, record { lists = lists.1; log = log.1; other = m.other ∙ shows.other })
 
 -- the ends that the driver's lists and log are of, and the device's
+abbrev by_driver : EndLog → Rings × EndLog → Ends
+by_driver other s = record { lists = s.0; driver = s.1; device = other }
+
+abbrev by_device : EndLog → Rings × EndLog → Ends
+by_device other s = record { lists = s.0; driver = other; device = s.1 }
+
 abbrev pub SeenByDriver : EndLog → Rings × EndLog → RingContents → Type 0
-SeenByDriver other s c = ShowsDriver (record { lists = s.0; driver = s.1; device = other }) c
+SeenByDriver other s c = ShowsDriver (by_driver other s) c
 
 abbrev pub SeenByDevice : EndLog → Rings × EndLog → RingContents → Type 0
-SeenByDevice other s c = ShowsDevice (record { lists = s.0; driver = other; device = s.1 }) c
+SeenByDevice other s c = ShowsDevice (by_device other s) c
 
 pub driver_call : (other : EndLog) (call : DriverCall) (a : DriverAnswer call) (s : Rings × EndLog) (c d : RingContents)
     → SeenByDriver other s c → DriverAllows call a c d → ((driver_answer call s).0 ≡ a) × SeenByDriver other (driver_answer call s).1 d
 driver_call other (Stage queue page) a s c d seen m =
-    let r = driver_moved (Stage queue page) a _ _ _ _ (record { lists = s.0; driver = s.1; device = other }) c d seen m in (refl, r.2)
+    let r = driver_moved (Stage queue page) a _ _ _ _ (by_driver other s) c d seen m in (refl, r.2)
 driver_call other (Publish queue) a s c d seen (pages, m) =
-    let r = driver_moved (Publish queue) a _ _ _ _ (record { lists = s.0; driver = s.1; device = other }) c d seen m in
+    let r = driver_moved (Publish queue) a _ _ _ _ (by_driver other s) c d seen m in
     (refl, subst (λ (ps : List (List ℕ)). SeenByDriver other (after_publish queue ps s.0, (driver_answer (Publish queue) s).1.1) d) r.1 r.2)
 driver_call other (Reap queue) page s c d seen m =
-    let r = driver_moved (Reap queue) page _ _ _ _ (record { lists = s.0; driver = s.1; device = other }) c d seen m in
+    let r = driver_moved (Reap queue) page _ _ _ _ (by_driver other s) c d seen m in
     (sym r.0, subst (λ (o : Option (List ℕ)). SeenByDriver other ((driver_answer (Reap queue) s).1.0, log_reaped queue o s.1) d) r.0 r.2)
 driver_call other LoadCid cid s c d seen m =
-    let r = driver_moved LoadCid cid _ _ _ _ (record { lists = s.0; driver = s.1; device = other }) c d seen m in
+    let r = driver_moved LoadCid cid _ _ _ _ (by_driver other s) c d seen m in
     (sym r.0, subst (λ (n : ℕ). SeenByDriver other (s.0, log_loaded n s.1) d) r.0 r.2)
 
 pub device_call : (other : EndLog) (call : DeviceCall) (a : DeviceAnswer call) (s : Rings × EndLog) (c d : RingContents)
     → SeenByDevice other s c → DeviceAllows call a c d → ((device_answer call s).0 ≡ a) × SeenByDevice other (device_answer call s).1 d
 device_call other (Take queue) a s c d seen (page, m) =
-    let r = device_moved (Take queue) a _ _ _ _ (record { lists = s.0; driver = other; device = s.1 }) c d seen m in
+    let r = device_moved (Take queue) a _ _ _ _ (by_device other s) c d seen m in
     let place : ℕ = (queue_of queue s.0).place in
     let answer : next_at queue place (oldest (queue_of queue s.0).given) ≡ a = ap (next_at queue place) (sym r.0.0) ∙ sym r.0.1 in (
       answer,
@@ -79,35 +85,22 @@ device_call other (Take queue) a s c d seen (page, m) =
           (subst (λ (o : Option (List ℕ)). SeenByDevice other ((device_answer (Take queue) s).1.0, log_taken queue a o s.1) d) r.0.0 r.2),
     )
 device_call other (Read chain place count) a s c d seen m =
-    let r = device_moved (Read chain place count) a (λ x. Unit {0}) (λ x. x) _ (λ l. l) (record {
-      lists = s.0;
-      driver = other;
-      device =
-          s.1;
-    }) c d seen m in
+    let r = device_moved (Read chain place count) a (λ x. Unit {0}) (λ x. x) _ (λ l. l) (by_device other s) c d seen m in
     (sym r.1, r.2)
 device_call other (Write chain place bytes) a s c d seen m =
-    let r = device_moved (Write chain place bytes) a (λ x. Unit {0}) (λ x. x) (λ l. Unit {0}) _ (record {
-      lists = s.0;
-      driver = other;
-      device = s.1;
-    }) c d seen m in
+    let r = device_moved (Write chain place bytes) a (λ x. Unit {0}) (λ x. x) (λ l. Unit {0}) _ (by_device other s) c d seen m in
     (refl, r.2)
 device_call other (Return chain len) a s c d seen (bytes, m) =
-    let r = device_moved (Return chain len) a (λ x. Unit {0}) _ _ _ (record { lists = s.0; driver = other; device = s.1 }) c d seen m in (
+    let r = device_moved (Return chain len) a (λ x. Unit {0}) _ _ _ (by_device other s) c d seen m in (
       refl,
-      subst (λ (bs : List ℕ). SeenByDevice other (
-        after_return chain.queue (take len bs) s.0,
-        (device_answer (Return chain len)
-            s).1.1,
-      ) d) r.1 r.2,
+      subst (λ (bs : List ℕ). SeenByDevice other (after_return chain.queue (take len bs) s.0, (device_answer (Return chain len) s).1.1) d)
+          r.1 r.2,
     )
 device_call other (Given queue) a s c d seen (held, m) =
-    let r = device_moved (Given queue) a _ (λ x. x) _ (λ l. l) (record { lists = s.0; driver = other; device = s.1 }) c d seen m in
+    let r = device_moved (Given queue) a _ (λ x. x) _ (λ l. l) (by_device other s) c d seen m in
     (ap (λ n. length (queue_of queue s.0).given + n) (sym r.1) ∙ sym r.0, r.2)
 device_call other (PublishCid cid) a s c d seen m =
-    let r = device_moved (PublishCid cid) a (λ x. Unit {0}) _ (λ l. Unit {0}) _ (record { lists = s.0; driver = other; device = s.1 })
-    c d seen m in
+    let r = device_moved (PublishCid cid) a (λ x. Unit {0}) _ (λ l. Unit {0}) _ (by_device other s) c d seen m in
     (refl, r.2)
 
 module _ {A : Type 0} where

@@ -1,22 +1,22 @@
 -- The staged pages of a queue are published, and the guest's CID is loaded.
-use Rattle.std.proofs.Common.{◌≡◌, ℕ, ◌+◌, ◌%◌, ◌^◌, ◌≤◌, Bool, true, false, cond, [], ◌∷◌, ◌++◌, length, refl, sym, ap, ◌∙◌, subst, arith}
+use Rattle.std.proofs.Common.{◌≡◌, ℕ, ◌+◌, ◌%◌, ◌^◌, Bool, true, false, cond, [], ◌∷◌, ◌++◌, refl, sym, ap, ◌∙◌, subst, arith}
 use Rattle.std.specs.Prelude.{◌==◌}
 use Rattle.std.proofs.lemmas.Bool.Decides.{nat_tests}
 use Rattle.byteorder.specs.Endian.{little_bytes, little_number}
 use Rattle.vs_guest_mem.specs.Memory.{Memory, after_write}
 use Rattle.vs_header.proofs.RoundTrip.{little_number-little_bytes}
 use Rattle.vs_page.specs.{Fair.IsFairLog, Log.Driver}
-use Rattle.vs_ring_port.specs.{Chains.same_queue, DriverCalls.LoadCid, DriverCalls.Publish, EndLog.entries_published, EndLog.pages_at}
-use Rattle.vs_ring_port.specs.{Lists.Lists, Lists.queue_of, declared.queue.Queue.Queue}
+use Rattle.vs_ring_port.specs.{DriverCalls.LoadCid, DriverCalls.Publish, EndLog.entries_published, EndLog.pages_at, Lists.Lists}
+use Rattle.vs_ring_port.specs.{Lists.queue_of, declared.queue.Queue.Queue}
 use Rattle.vs_ring_list.specs.Ends.{Ends}
 use Rattle.vs_ring_list.proofs.Ties.{tied-load, tied-publish}
 use Rattle.vs_ring_plain.specs.Device.{turns_at}
 use Rattle.vs_plain_driver.specs.Queue.{DriverQueueState, published_memory, published_queue}
 use Rattle.laws_plain_rings.specs.{Calls.after_driver, Parts.PartsState, Parts.driver_at, Parts.published_parts, Shown.shown, Tie.AreTied}
-use Rattle.laws_plain_rings.specs.Tie.{areas_of, heads_of, shown_of, start_of}
-use Rattle.laws_plain_rings.proofs.{Assemble.driver_form, Assemble.driver_form_is, Assemble.driver_step, Frames.length_written}
-use Rattle.laws_plain_rings.proofs.{Frames.written, QueueSteps.tie_published, Spots.AvailIdx, Spots.Untouched, Spots.high, Spots.low}
-use Rattle.laws_plain_rings.proofs.Spots.{untouched_none, untouched_other, untouched_own}
+use Rattle.laws_plain_rings.specs.Tie.{areas_of, shown_of, start_of}
+use Rattle.laws_plain_rings.proofs.{Assemble.driver_form_is, Assemble.step, Assemble.held_after, Assemble.parts_form}
+use Rattle.laws_plain_rings.proofs.{QueueSteps.tie_published, Spots.AvailIdx, Spots.Wrote, Spots.wrote, Spots.read_back}
+use Rattle.laws_plain_rings.proofs.Spots.{quietly_wrote, quietly_now}
 
 module _ (p : PartsState) (w : Ends) (tied : AreTied p w) where
   module _ (queue : Queue) (fair : IsFairLog Driver (entries_published queue (pages_at queue w.driver.staged) w.driver.entries)) where
@@ -38,28 +38,14 @@ module _ (p : PartsState) (w : Ends) (tied : AreTied p w) where
     abbrev stored : Memory
     stored = after_write m I (little_bytes 2 index)
 
-    low_I : m.base ≤ I
-    low_I = low n (areas_of p) (start_of p) m tied.laid queue AvailIdx tt I (little_bytes 2 index) (omega arith) (omega arith)
-
-    high_I : I + 2 ≤ m.base + length m.bytes
-    high_I = high n (areas_of p) (start_of p) m tied.laid queue AvailIdx tt I (little_bytes 2 index) (omega arith) (omega arith)
-
     -- what the memory is then
     record IsPublished (new : Memory) : Type 0 where
-      still : new.changes ≡ []
-      base : new.base ≡ m.base
-      size : length new.bytes ≡ length m.bytes
-      own : Untouched n (AvailIdx ∷ []) (shown_of p queue) (shown (areas_of p queue) (start_of p queue) new)
-      other : (r : Queue) → same_queue queue r ≡ false → Untouched n [] (shown_of p r) (shown (areas_of p r) (start_of p r) new)
+      written : Wrote n (areas_of p) (start_of p) queue (AvailIdx ∷ []) m new
       avail : (shown (areas_of p queue) (start_of p queue) new).avail ≡ index
 
     is_published : (b : Bool) → (q.staged == 0) ≡ b → IsPublished (cond b m stored)
     is_published true none = record {
-      still = tied.still;
-      base = refl;
-      size = refl;
-      own = untouched_none n (AvailIdx ∷ []) (shown_of p queue);
-      other = λ r other. untouched_none n [] (shown_of p r);
+      written = quietly_wrote tied.laid queue (AvailIdx ∷ []) (quietly_now m tied.still);
       avail = same_index;
     }
       where
@@ -69,36 +55,27 @@ module _ (p : PartsState) (w : Ends) (tied : AreTied p w) where
             let zero_staged : q.staged ≡ 0 = grind (arith, nat_tests, none) in
             omega (arith, t.avail, t.published, zero_staged)
     is_published false some = record {
-      still = tied.still;
-      base = refl;
-      size = length_written m I (little_bytes 2 index) low_I high_I;
-      own = untouched_own n (areas_of p) (start_of p) m tied.laid queue AvailIdx tt I (little_bytes 2 index) (omega arith) (omega arith);
-      other = λ r other. untouched_other n (areas_of p) (start_of p) m tied.laid queue AvailIdx tt I (little_bytes 2 index) (omega
-          arith) (omega arith) r other;
-      avail = ap (little_number 2) (written m I (little_bytes 2 index) low_I high_I) ∙ little_number-little_bytes 2 index (omega arith);
+      written = wrote tied.laid queue AvailIdx tt I (little_bytes 2 index) (omega arith) (omega arith) tied.still;
+      avail = ap (little_number 2) (read_back tied.laid queue AvailIdx tt I (little_bytes 2 index) (omega arith) (omega arith))
+          ∙ little_number-little_bytes 2 index (omega arith);
     }
 
-    step : (new : Memory) → IsPublished new → AreTied (driver_form queue (published_queue q) new p) (after_driver (Publish queue) w)
-    step new is =
+    published : (new : Memory) → IsPublished new → AreTied (parts_form queue (published_queue q) new (turns_at queue p.device.turns)
+        p.device.held p) (after_driver (Publish queue) w)
+    published new is =
         let x = tied.queues queue in
         let staged = pages_at queue w.driver.staged in
         let l : Lists = record (queue_of queue w.lists) { given = (queue_of queue w.lists).given ++ staged } in
-        driver_step p w tied queue (published_queue q) new [] l (entries_published queue staged w.driver.entries) refl refl is.still
-        is.base is.size (
-          x.0,
-          x.1,
-          tie_published queue n (start_of p queue) tied.laid.nonzero tied.laid.limit tied.laid.divides (shown_of p queue) q
-              (turns_at queue p.device.turns) (heads_of queue p.device.held) staged (queue_of queue w.lists) x.0 x.1 x.2
-              (shown (areas_of p queue) (start_of p queue) new) is.own is.avail,
-        )
-        is.other
-        (λ j some c few. is.own.page j c (x.2.pages j (omega (arith, some))).0 few (tt, tt))
+        step p w tied queue (published_queue q) new (turns_at queue p.device.turns) p.device.held [] l
+        (entries_published queue staged w.driver.entries) w.device.entries w.device.held refl refl is.written
+        (x.0, x.1, tie_published x.2 tied.laid.nonzero tied.laid.divides _ is.written.own is.avail) (λ r other. refl)
+        (held_after p w tied queue _ new is.written (λ j some. (tt, tt)))
         (tied-publish queue staged w.lists w.driver.entries w.device.entries tied.logs fair)
 
     pub tied_published : AreTied (published_parts queue p) (after_driver (Publish queue) w)
     tied_published =
         subst (λ (x : PartsState). AreTied x (after_driver (Publish queue) w)) (sym (driver_form_is queue (published_queue q) _ p))
-        (step (published_memory (areas_of p queue) q m) (is_published (q.staged == 0) refl))
+        (published (published_memory (areas_of p queue) q m) (is_published (q.staged == 0) refl))
 
   pub tied_loaded : AreTied p (after_driver LoadCid w)
   tied_loaded = record {

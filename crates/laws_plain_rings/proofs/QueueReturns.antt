@@ -12,11 +12,10 @@ use Rattle.laws_plain_rings.proofs.{Modulo.mod_small, Modulo.wraps, QueueSteps.b
 use Rattle.laws_plain_rings.proofs.{Rows.back_index, Rows.back_kept, Rows.back_push, Rows.out_index, Rows.out_kept, Spots.Elem}
 use Rattle.laws_plain_rings.proofs.Spots.{UsedIdx, Untouched}
 
-module _ (queue : Queue) (n at : ℕ) (nonzero : 0 < n) (limit : n ≤ 32768) (divides : 2 ^ 16 % n
-    ≡ 0) (s : Shown) (q : DriverQueueState) (t : Turns)
-    (heads : List ℕ) (staged : List (List ℕ)) (l : Lists) where
+module _ {queue : Queue} {n at : ℕ} (nonzero : 0 < n) (divides : 2 ^ 16 % n ≡ 0) {s : Shown} {q : DriverQueueState} {t : Turns}
+    {heads : List ℕ} {staged : List (List ℕ)} {l : Lists} where
   -- the page that was returned first is reaped
-  module _ (page : List ℕ) (pages : List (List ℕ)) (id : ℕ) (ids out : List ℕ) (back_is : l.back ≡ page ∷ pages)
+  module _ {page : List ℕ} {pages : List (List ℕ)} {id : ℕ} {ids out : List ℕ} (back_is : l.back ≡ page ∷ pages)
       (tie : IsQueueTied queue n at s q t heads staged l out (id ∷ ids)) where
     abbrev pub reaped_then : DriverQueueState
     reaped_then = record q { pages = set q.pages id None; free = q.free ++ id ∷ []; reaped = (q.reaped + 1) % 2 ^ 16 }
@@ -33,14 +32,7 @@ module _ (queue : Queue) (n at : ℕ) (nonzero : 0 < n) (limit : n ≤ 32768) (d
         (before.0, (before.1.0, get_or-set_other q.pages id j None None other ∙ before.1.1))
       where
         other : j ≡ id → ⊥
-        other same = omega (
-          arith,
-          some,
-          none_else,
-          ap (λ (x : ℕ). times x out) same,
-          ap (λ (x : ℕ). times x heads) same,
-          ap (λ (x : ℕ). times x ids) same,
-        )
+        other same = omega (arith, some, none_else, ap (λ (x : ℕ). times x out + times x heads + times x ids) same)
 
     pub id_has : (id < n) × HasPage q.pages id
     id_has = tie.pages id (omega (arith, times-cons id id ids, times-self id))
@@ -73,7 +65,7 @@ module _ (queue : Queue) (n at : ℕ) (nonzero : 0 < n) (limit : n ≤ 32768) (d
             by (suc k) more = tie.free j (omega (arith, more))
 
   -- the page that was given first is taken
-  module _ (page : List ℕ) (pages : List (List ℕ)) (id : ℕ) (ids back : List ℕ) (given_is : l.given ≡ page ∷ pages)
+  module _ {page : List ℕ} {pages : List (List ℕ)} {id : ℕ} {ids back : List ℕ} (given_is : l.given ≡ page ∷ pages)
       (tie : IsQueueTied queue n at s q t heads staged l (id ∷ ids) back) where
     pub given_row : AreOut queue n at s t.taken (page ∷ (pages ++ staged)) (id ∷ ids)
     given_row = subst (λ (ps : List (List ℕ)). AreOut queue n at s t.taken (ps ++ staged) (id ∷ ids)) given_is tie.given_out
@@ -104,25 +96,16 @@ module _ (queue : Queue) (n at : ℕ) (nonzero : 0 < n) (limit : n ≤ 32768) (d
     }
       where
         twice : (t.taken % n) % n ≡ t.taken % n
-        twice = below (t.taken % n) (mod_below t.taken n nonzero)
-          where
-            below : (x : ℕ) → x < n → x % n ≡ x
-            below x less = mod_small x n less
+        twice = mod_small (t.taken % n) n (mod_below t.taken n nonzero)
 
         next_place : (l.place + 1) % n ≡ (t.taken + 1) % 2 ^ 16 % n
         next_place =
             ap (λ x. (x + 1) % n) tie.place ∙ further n (t.taken % n) t.taken 1 twice ∙ sym (wraps n (t.taken + 1) divides)
 
   -- a chain is returned
-  module _ (page : List ℕ) (id : ℕ) (less_heads out back : List ℕ) (tie : IsQueueTied queue n at s q t heads staged l out back)
+  module _ (page : List ℕ) {id : ℕ} {less_heads out back : List ℕ} (tie : IsQueueTied queue n at s q t heads staged l out back)
       (counted : (j : ℕ) → times j heads ≡ times j (id ∷ []) + times j less_heads) (one_less : length heads ≡ 1 + length less_heads) where
-    abbrev pub returns_at : ℕ
-    returns_at = t.used % n
-
-    returns_behind : returns_at ≡ (q.reaped + length l.back) % n
-    returns_behind = ap (λ x. x % n) tie.returned ∙ wraps n (q.reaped + length l.back) divides
-
-    pub tie_returned : (new : Shown) → Untouched n (Elem returns_at ∷ UsedIdx ∷ []) s new → new.elem returns_at
+    pub tie_returned : (new : Shown) → Untouched n (Elem (t.used % n) ∷ UsedIdx ∷ []) s new → new.elem (t.used % n)
         ≡ record { id = id; len = length page }
         → new.used ≡ (t.used + 1) % 2 ^ 16 → new.page id (length page) ≡ page → length page ≤ 4096
         → IsQueueTied queue n at new q (record t { used = (t.used + 1) % 2 ^ 16 }) less_heads staged (record l {
@@ -157,6 +140,9 @@ module _ (queue : Queue) (n at : ℕ) (nonzero : 0 < n) (limit : n ≤ 32768) (d
       words = λ w. u.word w (tt, (tt, tt)) ∙ tie.words w;
     }
       where
+        returns_behind : t.used % n ≡ (q.reaped + length l.back) % n
+        returns_behind = ap (λ x. x % n) tie.returned ∙ wraps n (q.reaped + length l.back) divides
+
         same_at : (j : ℕ) → 0 < times j out + times j back → IsSameAt s new j
         same_at j some =
             let below = (tie.pages j (omega (arith, some))).0 in record {
@@ -168,7 +154,7 @@ module _ (queue : Queue) (n at : ℕ) (nonzero : 0 < n) (limit : n ≤ 32768) (d
         elems i less = u.elem _ (mod_below _ n nonzero) (
           (λ same.
               apart n (q.reaped + i) (q.reaped + length l.back) (omega (arith, less))
-              (omega (arith, tie.all, one_less, back_count queue n at nonzero limit divides s q t heads staged l out back tie))
+              (omega (arith, tie.all, one_less, back_count tie))
               (sym same ∙ returns_behind)),
           (tt, tt),
         )

@@ -1,7 +1,20 @@
 -- One of the three queues, and the others.
-use Rattle.std.proofs.Common.{◌≡◌, false, refl}
+use Rattle.std.proofs.Common.{◌≡◌, false, refl, true≢false}
 use Rattle.vs_ring_port.specs.{Chains.same_queue, declared.queue.Queue.Queue, declared.queue.Queue.TheVariants.Rx}
 use Rattle.vs_ring_port.specs.declared.queue.Queue.TheVariants.{Tx, Event}
+
+-- what is so of each two queues that differ
+pub of_pairs : (P : Queue → Queue → Type 0) → P Rx Tx → P Rx Event → P Tx Rx → P Tx Event → P Event Rx → P Event Tx
+    → (q r : Queue) → same_queue q r ≡ false → P q r
+of_pairs P rt re tr te er et Rx Rx other = absurd (true≢false other)
+of_pairs P rt re tr te er et Rx Tx other = rt
+of_pairs P rt re tr te er et Rx Event other = re
+of_pairs P rt re tr te er et Tx Rx other = tr
+of_pairs P rt re tr te er et Tx Tx other = absurd (true≢false other)
+of_pairs P rt re tr te er et Tx Event other = te
+of_pairs P rt re tr te er et Event Rx other = er
+of_pairs P rt re tr te er et Event Tx other = et
+of_pairs P rt re tr te er et Event Event other = absurd (true≢false other)
 
 -- what is so of one queue and of each other is so of all
 pub of_each : (P : Queue → Type 0) (queue : Queue) → P queue → ((q : Queue) → same_queue queue q ≡ false → P q) → (q : Queue) → P q
@@ -16,12 +29,4 @@ of_each P Event here others Tx = others Tx refl
 of_each P Event here others Event = here
 
 pub turned : (q r : Queue) → same_queue q r ≡ false → same_queue r q ≡ false
-turned Rx Rx other = other
-turned Rx Tx other = refl
-turned Rx Event other = refl
-turned Tx Rx other = refl
-turned Tx Tx other = other
-turned Tx Event other = refl
-turned Event Rx other = refl
-turned Event Tx other = refl
-turned Event Event other = other
+turned = of_pairs (λ q r. same_queue r q ≡ false) refl refl refl refl refl refl

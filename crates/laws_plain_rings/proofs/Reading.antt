@@ -14,16 +14,13 @@ use Rattle.vs_ring_plain.specs.{Accesses.over, Device.DeviceState, Device.answer
 use Rattle.vs_ring_plain.specs.{Device.turns_at, Device.with_memory, Pieces.reading, Pieces.spans, Pieces.writing}
 use Rattle.vs_ring_plain.specs.declared.piece.Piece.{Piece}
 use Rattle.vs_ring_plain.proofs.Moving.{is_zero, read_step, skipped, unwritten, used}
-use Rattle.laws_plain_rings.specs.{Calls.after_device, Parts.PartsState, Parts.driver_at, Queue.times, Shown.Shown, Shown.shown}
-use Rattle.laws_plain_rings.specs.Tie.{AreHeldAs, AreTied, IsLaid, areas_of, heads_of, shown_of, start_of}
-use Rattle.laws_plain_rings.proofs.{Assemble.device_ends, Assemble.device_form, Assemble.device_step, Frames.length_written, Held.Found}
-use Rattle.laws_plain_rings.proofs.{Held.found, Held.held_written, Parts.read_part, Parts.written_part, QueueSteps.tie_written}
-use Rattle.laws_plain_rings.proofs.{Queues.of_each, Quiet.IsQuietly, Quiet.quiet_step, Quiet.quietly_accessed, Quiet.seen, Spots.PageOf}
-use Rattle.laws_plain_rings.proofs.Spots.{Untouched, high, laid_same, low, untouched_other, untouched_own}
-
-empty_list : (xs : List ℕ) → length xs ≡ 0 → xs ≡ []
-empty_list [] none = refl
-empty_list (x ∷ xs) none = absurd (omega (arith, none))
+use Rattle.laws_plain_rings.specs.{Calls.after_device, Parts.PartsState, Parts.driver_at, Queue.times, Shown.shown, Tie.AreHeldAs}
+use Rattle.laws_plain_rings.specs.Tie.{AreTied, areas_of, heads_of, shown_of, start_of}
+use Rattle.laws_plain_rings.proofs.{Held.Found, Held.found, Held.held_written, Parts.read_part, Parts.written_part, QueueSteps.tie_written}
+use Rattle.laws_plain_rings.proofs.{Queues.of_each, Quiet.quiet_step, Quiet.quietly_accessed, Spots.PageOf, Spots.high, Spots.low}
+use Rattle.laws_plain_rings.proofs.{Spots.Wrote, Spots.wrote, Spots.wrote_then, Spots.quietly_wrote, Spots.IsQuietly, Assemble.step}
+use Rattle.laws_plain_rings.proofs.Assemble.{parts_form, ends_form}
+use Rattle.std.proofs.lemmas.List.{nil_from_length}
 
 -- a part of one piece
 read_one : (p : Piece) (place count : ℕ) (m : Memory) → place + count ≤ p.len
@@ -48,7 +45,7 @@ write_one p place bytes m within = by (used p place (length bytes) == 0) refl
         → over (writing (cond b [] (record { addr = p.addr + skipped p place; len = used p place (length bytes) } ∷ [])) bytes) m
         ≡ (tt, after_write (accessed m (length bytes)) (p.addr + place) bytes)
     by true none =
-        let empty : bytes ≡ [] = empty_list bytes (sym much ∙ is_zero (used p place (length bytes)) none) in
+        let empty : bytes ≡ [] = nil_from_length bytes (sym much ∙ is_zero (used p place (length bytes)) none) in
         rw empty (ap (λ (x : Memory). (tt, x)) (sym (unwritten m (p.addr + place))))
     by false some =
         ap₂ (λ (f u : ℕ). (tt, after_write (accessed m (length (take u bytes))) (p.addr + f) (take u bytes))) from much
@@ -94,7 +91,7 @@ module _ (p : PartsState) (w : Ends) (tied : AreTied p w) (c : Chain) (has : Con
   below = ((tied.queues c.queue).2.pages f.hold.head (omega (arith, f.counted))).0
 
   low_P : m.base ≤ P
-  low_P = low n (areas_of p) (start_of p) m tied.laid c.queue (PageOf f.hold.head) below P [] (omega arith) (omega arith)
+  low_P = low tied.laid c.queue (PageOf f.hold.head) below P [] (omega arith) (omega arith)
 
   -- bytes are read
   module _ (place count : ℕ) (within : place + count ≤ c.readable) where
@@ -106,10 +103,8 @@ module _ (p : PartsState) (w : Ends) (tied : AreTied p w) (c : Chain) (has : Con
 
     over_is : over (reading (spans (pieces_of (hold_of c d.held)) place count) []) m ≡ (bytes_at accesses (P + place) count, accesses)
     over_is =
-        ap (λ (ps : List Piece). over (reading (spans ps place count) []) m) pieces_is ∙ read_one piece place count m (omega (
-          arith,
-          within,
-        ))
+        ap (λ (ps : List Piece). over (reading (spans ps place count) []) m) pieces_is
+        ∙ read_one piece place count m (omega (arith, within))
 
     value_is : bytes_at accesses (P + place) count ≡ take count (drop place (bytes_in c w.device.held))
     value_is =
@@ -142,8 +137,8 @@ module _ (p : PartsState) (w : Ends) (tied : AreTied p w) (c : Chain) (has : Con
     quiet_before : IsQuietly m before
     quiet_before = quietly_accessed m (length bytes) tied.still
 
-    laid_before : IsLaid n (areas_of p) (start_of p) before
-    laid_before = laid_same n (areas_of p) (start_of p) m before quiet_before.base (ap length quiet_before.bytes) tied.laid
+    w0 : Wrote n (areas_of p) (start_of p) c.queue [] m before
+    w0 = quietly_wrote tied.laid c.queue [] quiet_before
 
     write_over : over (writing (spans (pieces_of (hold_of c d.held)) place (length bytes)) bytes) m ≡ (tt, after)
     write_over =
@@ -159,26 +154,11 @@ module _ (p : PartsState) (w : Ends) (tied : AreTied p w) (c : Chain) (has : Con
     to : P + place + length bytes ≤ P + 4096
     to = omega (arith, within, fits_room)
 
-    own : Untouched n (PageOf f.hold.head ∷ []) (shown_of p c.queue) (shown (areas_of p c.queue) (start_of p c.queue) after)
-    own =
-        subst (λ (x : Shown). Untouched n (PageOf f.hold.head ∷ []) x (shown (areas_of p c.queue) (start_of p c.queue) after))
-        (seen p w tied before quiet_before c.queue)
-        (untouched_own n (areas_of p) (start_of p) before laid_before c.queue (PageOf f.hold.head) below (P + place) bytes (omega arith) to)
-
-    other : (r : Queue) → same_queue c.queue r ≡ false → Untouched n [] (shown_of p r) (shown (areas_of p r) (start_of p r) after)
-    other r apart =
-        subst (λ (x : Shown). Untouched n [] x (shown (areas_of p r) (start_of p r) after)) (seen p w tied before quiet_before r)
-        (untouched_other n (areas_of p) (start_of p) before laid_before c.queue (PageOf f.hold.head) below (P + place) bytes (omega
-        arith) to r apart)
-
-    low_w : before.base ≤ P + place
-    low_w = low n (areas_of p) (start_of p) before laid_before c.queue (PageOf f.hold.head) below (P + place) bytes (omega arith) to
+    all : Wrote n (areas_of p) (start_of p) c.queue (PageOf f.hold.head ∷ []) m after
+    all = wrote_then w0 (wrote w0.laid c.queue (PageOf f.hold.head) below (P + place) bytes (omega arith) to w0.still)
 
     high_w : P + place + length bytes ≤ before.base + length before.bytes
-    high_w = high n (areas_of p) (start_of p) before laid_before c.queue (PageOf f.hold.head) below (P + place) bytes (omega arith) to
-
-    size_w : length after.bytes ≡ length m.bytes
-    size_w = length_written before (P + place) bytes low_w high_w ∙ ap length quiet_before.bytes
+    high_w = high w0.laid c.queue (PageOf f.hold.head) below (P + place) bytes (omega arith) to
 
     old_there : f.entry.bytes ≡ bytes_at before P (length f.entry.bytes)
     old_there =
@@ -192,14 +172,8 @@ module _ (p : PartsState) (w : Ends) (tied : AreTied p w) (c : Chain) (has : Con
 
     long : length written_bytes ≡ place + length bytes + (length f.entry.bytes - (place + length bytes))
     long =
-        length-append (take place f.entry.bytes ++ bytes) (drop (place + length bytes) f.entry.bytes)
-        ∙ omega (
-          arith,
-          length-append (take place f.entry.bytes) bytes,
-          length-take-le place f.entry.bytes gap,
-          length-drop (place +
-              length bytes) f.entry.bytes,
-        )
+        let b : List ℕ = f.entry.bytes in length-append (take place b ++ bytes) (drop (place + length bytes) b)
+        ∙ omega (arith, length-append (take place b) bytes, length-take-le place b gap, length-drop (place + length bytes) b)
 
     held_then : AreHeldAs (start_of p) (λ r. shown (areas_of p r) (start_of p r) after) d.held (with_bytes c written_bytes w.device.held)
     held_then =
@@ -209,37 +183,31 @@ module _ (p : PartsState) (w : Ends) (tied : AreTied p w) (c : Chain) (has : Con
         → id ≡ f.hold.head → ⊥)
         → 0 < times id (heads_of q d.held) → (k : ℕ) → k ≤ 4096
         → (shown (areas_of p q) (start_of p q) after).page id k ≡ (shown_of p q).page id k) c.queue
-        (λ id not_it some k few. own.page id k ((tied.queues c.queue).2.pages id (omega (arith, some))).0 few
+        (λ id not_it some k few. all.own.page id k ((tied.queues c.queue).2.pages id (omega (arith, some))).0 few
         ((λ same. not_it (same_queue_refl c.queue) (sym same)), tt))
-        (λ q apart id not_it some k few. (other q apart).page id k ((tied.queues q).2.pages id (omega (arith, some))).0 few tt))
+        (λ q apart id not_it some k few. (all.other q apart).page id k ((tied.queues q).2.pages id (omega (arith, some))).0 few tt))
         page_is (omega (arith, long, f.lies.fits, within, fits_room)) (omega (arith, long, fits_read))
 
-    same_parts : (q : Queue) → device_form q after (turns_at q d.turns) d.held p ≡ record p { device = with_memory d after }
-    same_parts Rx = refl
-    same_parts Tx = refl
-    same_parts Event = refl
-
-    same_ends : (q : Queue) → device_ends q (queue_of q w.lists) w.device.entries (with_bytes c (overwritten (bytes_in c w.device.held)
-        place bytes) w.device.held) w
-        ≡ after_device (Write c place bytes) w
+    same_ends : (q : Queue) → ends_form q (pages_at q w.driver.staged) (queue_of q w.lists) w.driver.entries w.device.entries
+        (with_bytes c (overwritten (bytes_in c w.device.held) place bytes) w.device.held) w ≡ after_device (Write c place bytes) w
     same_ends Rx = refl
     same_ends Tx = refl
     same_ends Event = refl
 
-    step : AreTied (device_form c.queue after (turns_at c.queue d.turns) d.held p)
-        (device_ends c.queue (queue_of c.queue w.lists) w.device.entries (with_bytes c written_bytes w.device.held) w)
-    step =
+    same_parts : (q : Queue) → parts_form q (driver_at q p) after (turns_at q d.turns) d.held p ≡ record p { device = with_memory d after }
+    same_parts Rx = refl
+    same_parts Tx = refl
+    same_parts Event = refl
+
+    stepped : AreTied (parts_form c.queue (driver_at c.queue p) after (turns_at c.queue d.turns) d.held p)
+        (ends_form c.queue (pages_at c.queue w.driver.staged) (queue_of c.queue w.lists) w.driver.entries w.device.entries
+        (with_bytes c written_bytes w.device.held) w)
+    stepped =
         let x = tied.queues c.queue in
-        device_step p w tied c.queue after (turns_at c.queue d.turns) d.held (queue_of c.queue w.lists) w.device.entries
-        (with_bytes c written_bytes w.device.held) quiet_before.still quiet_before.base size_w (
-          x.0,
-          x.1,
-          tie_written c.queue n (start_of p c.queue) tied.laid.nonzero tied.laid.limit tied.laid.divides (shown_of p c.queue)
-              (driver_at c.queue p)
-              (turns_at c.queue d.turns) (heads_of c.queue d.held) (pages_at c.queue w.driver.staged) (queue_of c.queue w.lists) x.0 x.1 x.2
-              (shown (areas_of p c.queue) (start_of p c.queue) after) f.hold.head f.counted own,
-        )
-        other (λ r apart. refl) held_then (same_logs c.queue)
+        step p w tied c.queue (driver_at c.queue p) after (turns_at c.queue d.turns) d.held (pages_at c.queue w.driver.staged)
+        (queue_of c.queue w.lists) w.driver.entries w.device.entries (with_bytes c written_bytes w.device.held) refl refl all
+        (x.0, x.1, tie_written x.2 tied.laid.nonzero tied.laid.divides _ f.hold.head f.counted all.own) (λ r apart. refl) held_then
+        (same_logs c.queue)
       where
         same_logs : (q : Queue) → IsTied (with_queue q (queue_of q w.lists) w.lists) w.driver.entries w.device.entries
         same_logs Rx = tied.logs
@@ -251,7 +219,8 @@ module _ (p : PartsState) (w : Ends) (tied : AreTied p w) (c : Chain) (has : Con
         subst (λ (x : Memory). AreTied (record p { device = with_memory d x }) (after_device (Write c place bytes) w))
         (sym (ap (λ (x : Unit {0} × Memory). x.1) write_over))
         (subst (λ (x : PartsState). AreTied x (after_device (Write c place bytes) w)) (same_parts c.queue)
-        (subst (λ (x : Ends). AreTied (device_form c.queue after (turns_at c.queue d.turns) d.held p) x) (same_ends c.queue)
-        (subst (λ (xs : List ℕ). AreTied (device_form c.queue after (turns_at c.queue d.turns) d.held p)
-        (device_ends c.queue (queue_of c.queue w.lists) w.device.entries (with_bytes c (overwritten xs place bytes) w.device.held) w))
-        (sym f.bytes_is) step)))
+        (subst (λ (x : Ends). AreTied (parts_form c.queue (driver_at c.queue p) after (turns_at c.queue d.turns) d.held p) x)
+        (same_ends c.queue)
+        (subst (λ (xs : List ℕ). AreTied (parts_form c.queue (driver_at c.queue p) after (turns_at c.queue d.turns) d.held p)
+        (ends_form c.queue (pages_at c.queue w.driver.staged) (queue_of c.queue w.lists) w.driver.entries w.device.entries
+        (with_bytes c (overwritten xs place bytes) w.device.held) w)) (sym f.bytes_is) stepped)))

@@ -5,18 +5,19 @@ use Rattle.std.proofs.lemmas.Bool.Decides.{nat_tests}
 use Rattle.std.specs.Prelude.{◌-◌, ◌≤◌, ◌==◌, ◌||◌, min, nat_le, nat_lt, set, slice_index_or}
 use Rattle.vs_guest_mem.specs.Memory.{Memory, bytes_at}
 use Rattle.vs_layout.specs.{Entry.used_elem_of, Layout.used_elem, declared.entry.UsedElem.UsedElem}
-use Rattle.vs_ring_port.specs.{DriverCalls.Reap, EndLog.entries_reaped, EndLog.pages_at}
-use Rattle.vs_ring_port.specs.{Lists.Lists, Lists.all_but_oldest, Lists.next_back, Lists.oldest, Lists.queue_of, declared.queue.Queue.Queue}
+use Rattle.vs_ring_port.specs.{DriverCalls.Reap, EndLog.entries_reaped, EndLog.pages_at, Lists.Lists, Lists.all_but_oldest, Lists.next_back}
+use Rattle.vs_ring_port.specs.{Lists.oldest, Lists.queue_of, Lists.with_queue, declared.queue.Queue.Queue}
 use Rattle.vs_ring_port.specs.declared.queue.Queue.TheVariants.{Rx, Tx, Event}
 use Rattle.vs_ring_list.specs.Ends.{Ends}
 use Rattle.vs_ring_list.proofs.Ties.{tied-reap}
 use Rattle.vs_ring_plain.specs.{Chain.ahead, Device.turns_at}
 use Rattle.vs_plain_driver.specs.Queue.{DriverQueueState, flight_in, next_elem, numbered, page_back, reaped_page, reaped_queue, used_ahead}
-use Rattle.laws_plain_rings.specs.{Calls.after_driver, Queue.HasPage, Queue.IsBack, Queue.IsQueueTied, Shown.Shown}
-use Rattle.laws_plain_rings.specs.Parts.{PartsState, driver_at, reaped_parts, used_in, with_driver}
-use Rattle.laws_plain_rings.specs.Tie.{AreTied, areas_of, heads_of, shown_of, start_of}
-use Rattle.laws_plain_rings.proofs.{QueueReturns.id_has, QueueReturns.row, QueueReturns.tie_reaped, QueueSteps.out_count, Rows.back_length}
-use Rattle.laws_plain_rings.proofs.{Spots.untouched_none, Taking.chosen, Assemble.driver_form, Assemble.driver_step, Assemble.ends_form}
+use Rattle.laws_plain_rings.specs.{Calls.after_driver, Queue.HasPage, Queue.IsBack, Queue.IsQueueTied, Shown.Shown, Parts.PartsState}
+use Rattle.laws_plain_rings.specs.{Parts.driver_at, Parts.reaped_parts, Parts.used_in, Parts.with_driver, Tie.AreTied, Tie.areas_of}
+use Rattle.laws_plain_rings.specs.Tie.{heads_of, shown_of, start_of}
+use Rattle.laws_plain_rings.proofs.{QueueReturns.id_has, QueueReturns.row, QueueReturns.tie_reaped, QueueSteps.out_count}
+use Rattle.laws_plain_rings.proofs.{QueueSteps.back_count, Taking.chosen, Assemble.ends_form, Assemble.step, Assemble.parts_form}
+use Rattle.laws_plain_rings.proofs.{Assemble.driver_form_is, Spots.quietly_wrote, Spots.quietly_now}
 
 first_of : {A : Type 0} (b : Bool) (x y : A) → b ≡ true → cond b x y ≡ x
 first_of b x y on = rw on refl
@@ -61,31 +62,16 @@ module _ (p : PartsState) (w : Ends) (tied : AreTied p w) (queue : Queue) where
         same Tx = refl
         same Event = refl
 
+    abbrev with_back : Queue → List (List ℕ) → Ends
+    with_back r back = record w { lists = with_queue r (record (queue_of r w.lists) { back = back }) w.lists }
+
     none_ends : after_driver (Reap queue) w ≡ w
     none_ends = same queue none
       where
         same : (r : Queue) → (queue_of r w.lists).back ≡ [] → after_driver (Reap r) w ≡ w
-        same Rx e = subst (λ (b : List (List ℕ)). let v : Ends = record w {
-          lists = record w.lists {
-            rx = record w.lists.rx {
-              back = b;
-            };
-          };
-        } in after_driver (Reap Rx) v ≡ v) (sym e) refl
-        same Tx e = subst (λ (b : List (List ℕ)). let v : Ends = record w {
-          lists = record w.lists {
-            tx = record w.lists.tx {
-              back = b;
-            };
-          };
-        } in after_driver (Reap Tx) v ≡ v) (sym e) refl
-        same Event e = subst (λ (b : List (List ℕ)). let v : Ends = record w {
-          lists = record w.lists {
-            event = record w.lists.event {
-              back = b;
-            };
-          };
-        } in after_driver (Reap Event) v ≡ v) (sym e) refl
+        same Rx e = subst (λ (b : List (List ℕ)). after_driver (Reap Rx) (with_back Rx b) ≡ with_back Rx b) (sym e) refl
+        same Tx e = subst (λ (b : List (List ℕ)). after_driver (Reap Tx) (with_back Tx b) ≡ with_back Tx b) (sym e) refl
+        same Event e = subst (λ (b : List (List ℕ)). after_driver (Reap Event) (with_back Event b) ≡ with_back Event b) (sym e) refl
 
   -- the page that was returned first
   module _ (page : List ℕ) (pages : List (List ℕ)) (back_is : l.back ≡ page ∷ pages) (id : ℕ) (ids out : List ℕ)
@@ -93,30 +79,16 @@ module _ (p : PartsState) (w : Ends) (tied : AreTied p w) (queue : Queue) where
       w.driver.staged) l
       out (id ∷ ids)) where
     has : (id < n) × HasPage q.pages id
-    has = id_has queue n (start_of p queue) tied.laid.nonzero tied.laid.limit tied.laid.divides s q (turns_at queue p.device.turns)
-        (heads_of queue p.device.held) (pages_at queue w.driver.staged) l page pages id ids out back_is tie
+    has = id_has tied.laid.nonzero tied.laid.divides back_is tie
 
     first : IsBack s (q.reaped % n) page id
-    first = (row queue n (start_of p queue) tied.laid.nonzero tied.laid.limit tied.laid.divides s q (turns_at queue p.device.turns)
-        (heads_of queue p.device.held) (pages_at queue w.driver.staged) l page pages id ids out back_is tie).0
-
-    counts : length out ≡ length l.given + length (pages_at queue w.driver.staged)
-    counts = out_count queue n (start_of p queue) tied.laid.nonzero tied.laid.limit tied.laid.divides s q (turns_at queue p.device.turns)
-        (heads_of queue p.device.held) (pages_at queue w.driver.staged) l out (id ∷ ids) tie
+    first = (row tied.laid.nonzero tied.laid.divides back_is tie).0
 
     next_is : next_elem (areas_of p queue) q m ≡ record { id = id; len = length page }
     next_is = ap (λ (k : ℕ). used_elem_of (bytes_at m (used_elem (areas_of p queue) (q.reaped % k)).at 8)) (tied.sizes queue) ∙ first.elem
 
     more : ahead s.used q.reaped ≡ length l.back
-    more = omega (
-      arith,
-      tie.used,
-      tie.returned,
-      tie.small,
-      tie.all,
-      tied.laid.limit,
-      back_length n s q.reaped l.back (id ∷ ids) tie.back_is,
-    )
+    more = omega (arith, tie.used, tie.returned, tie.small, tie.all, tied.laid.limit, back_count tie)
 
     index_moved : (used_ahead (areas_of p queue) q m == 0) ≡ false
     index_moved = grind (arith, nat_tests, more, ap length back_is)
@@ -125,15 +97,7 @@ module _ (p : PartsState) (w : Ends) (tied : AreTied p w) (queue : Queue) where
     not_too_far = grind (arith, nat_tests, less)
       where
         less : ahead s.used q.reaped ≤ flight_in q - q.staged
-        less = omega (
-          arith,
-          more,
-          tied.sizes queue,
-          tie.all,
-          tie.staged_count,
-          counts,
-          back_length n s q.reaped l.back (id ∷ ids) tie.back_is,
-        )
+        less = omega (arith, more, tied.sizes queue, tie.all, tie.staged_count, out_count tie, back_count tie)
 
     within : nat_le q.n id ≡ false
     within = grind (arith, nat_tests, has.0, tied.sizes queue)
@@ -157,37 +121,32 @@ module _ (p : PartsState) (w : Ends) (tied : AreTied p w) (queue : Queue) where
     abbrev then : DriverQueueState
     then = record q { pages = set q.pages id None; free = q.free ++ id ∷ []; reaped = (q.reaped + 1) % 2 ^ 16 }
 
-    parts_is : reaped_parts queue p ≡ driver_form queue then m p
-    parts_is = ap (λ (o : Option (ℕ × List ℕ)). with_driver queue (reaped_queue q o) p) used_some ∙ form queue then
-      where
-        form : (r : Queue) (x : DriverQueueState) → with_driver r x p ≡ driver_form r x p.device.memory p
-        form Rx x = refl
-        form Tx x = refl
-        form Event x = refl
+    new_is : reaped_parts queue p ≡ parts_form queue then m (turns_at queue p.device.turns) p.device.held p
+    new_is = ap (λ (o : Option (ℕ × List ℕ)). with_driver queue (reaped_queue q o) p) used_some ∙ driver_form_is queue then m p
 
     ends_is : (r : Queue) → after_driver (Reap r) w
         ≡ ends_form r (pages_at r w.driver.staged) (record (queue_of r w.lists) { back = all_but_oldest (queue_of r w.lists).back })
-        (entries_reaped r (next_back r w.lists) w.driver.entries) w
+        (entries_reaped r (next_back r w.lists) w.driver.entries) w.device.entries w.device.held w
     ends_is Rx = refl
     ends_is Tx = refl
     ends_is Event = refl
 
     some_tied : AreTied (reaped_parts queue p) (after_driver (Reap queue) w)
     some_tied =
-        subst (λ (x : PartsState). AreTied x (after_driver (Reap queue) w)) (sym parts_is)
-        (subst (λ (x : Ends). AreTied (driver_form queue then m p) x) (sym (ends_is queue))
-        (driver_step p w tied queue then m (pages_at queue w.driver.staged) (record l { back = all_but_oldest l.back })
-        (entries_reaped queue (next_back queue w.lists) w.driver.entries) refl refl tied.still refl refl (
+        let wrote = quietly_wrote tied.laid queue [] (quietly_now m tied.still) in
+        subst (λ (x : PartsState). AreTied x (after_driver (Reap queue) w)) (sym new_is)
+        (subst (λ (x : Ends). AreTied (parts_form queue then m (turns_at queue p.device.turns) p.device.held p) x) (sym (ends_is queue))
+        (step p w tied queue then m (turns_at queue p.device.turns) p.device.held (pages_at queue w.driver.staged)
+        (record l { back = all_but_oldest l.back }) (entries_reaped queue (next_back queue w.lists) w.driver.entries) w.device.entries
+        w.device.held refl refl wrote (
           out,
           ids,
           subst (λ (b : List (List ℕ)). IsQueueTied queue n (start_of p queue) s then (turns_at queue p.device.turns) (heads_of queue
               p.device.held)
               (pages_at queue w.driver.staged) (record l { back = b }) out ids) (ap all_but_oldest (sym back_is))
-              (tie_reaped queue n (start_of p queue) tied.laid.nonzero tied.laid.limit tied.laid.divides s q (turns_at queue p.device.turns)
-              (heads_of queue p.device.held) (pages_at queue w.driver.staged) l page pages id ids out back_is tie),
+              (tie_reaped tied.laid.nonzero tied.laid.divides back_is tie),
         )
-        (λ r other. untouched_none n [] (shown_of p r)) (λ j some c few. refl)
-        (tied-reap w.lists w.driver.entries w.device.entries tied.logs queue)))
+        (λ r other. refl) tied.held (tied-reap w.lists w.driver.entries w.device.entries tied.logs queue)))
 
   -- the page is the one that was returned first, or none where none was
   pub record Reaps : Type 0 where
@@ -205,7 +164,7 @@ module _ (p : PartsState) (w : Ends) (tied : AreTied p w) (queue : Queue) where
         tied_then = subst (λ (x : PartsState). AreTied x (after_driver (Reap queue) w)) (sym (none_parts none))
             (subst (λ (x : Ends). AreTied p x) (sym (none_ends none)) tied);
       }
-      by (page ∷ pages) back_is [] out tie = absurd (omega (arith, back_length n s q.reaped l.back [] tie.back_is, ap length back_is))
+      by (page ∷ pages) back_is [] out tie = absurd (omega (arith, back_count tie, ap length back_is))
       by (page ∷ pages) back_is (id ∷ ids) out tie = record {
         page = page_is page pages back_is id ids out tie ∙ ap oldest (sym back_is);
         tied_then = some_tied page pages back_is id ids out tie;

@@ -7,7 +7,7 @@ use Rattle.vs_ring_list.specs.Ends.{Ends}
 use Rattle.vs_plain_driver.specs.Queue.{DriverQueueState}
 use Rattle.laws_plain_rings.specs.{Calls.after_device, Parts.PartsState, Parts.driver_at, Tie.AreTied, Tie.IsTiedAt, Tie.areas_of}
 use Rattle.laws_plain_rings.specs.Tie.{shown_of, start_in, start_of}
-use Rattle.laws_plain_rings.proofs.{Assemble.laid_from, Held.held_from, Held.held_kept}
+use Rattle.laws_plain_rings.proofs.{Spots.laid_same, Held.held_moved}
 
 module _ (p : PartsState) (w : Ends) (tied : AreTied p w) (cid : ℕ) where
   abbrev new : PartsState
@@ -29,15 +29,14 @@ module _ (p : PartsState) (w : Ends) (tied : AreTied p w) (cid : ℕ) where
   pub tied_reset : AreTied new (after_device (PublishCid cid) w)
   tied_reset = record {
     still = tied.still;
-    laid = laid_from p.device.size (areas_of p) (start_of p) (start_of new) p.device.memory starts tied.laid;
+    laid = laid_same p.device.size (areas_of p) (start_of p) (start_of new) p.device.memory p.device.memory starts refl refl tied.laid;
     there = λ r. ap (λ (x : DriverQueueState). x.pages_at) (same_driver r) ∙ tied.there r ∙ ap (λ (a : ℕ). Some a) (sym (starts r));
     sizes = λ r. ap (λ (x : DriverQueueState). x.n) (same_driver r) ∙ tied.sizes r;
     size = tied.size;
     cid = refl;
     queues = queues;
-    held = held_from (start_of p) (start_of new) (shown_of new) p.device.held w.device.held starts
-        (held_kept (start_of p) (shown_of p) (shown_of new) p.device.held w.device.held
-        (λ r id some c few. ap (λ (a : ℕ). bytes_at p.device.memory (a + 4096 * id) c) (starts r)) tied.held);
+    held = held_moved (start_of p) (start_of new) starts (shown_of p) (shown_of new) p.device.held w.device.held
+        (λ r id some c few. ap (λ (a : ℕ). bytes_at p.device.memory (a + 4096 * id) c) (starts r)) tied.held;
     logs = record {
       driver_fair = tied.logs.driver_fair;
       device_fair = tied.logs.device_fair;

@@ -1,16 +1,17 @@
 -- The pieces of a queue's memory that are written as a whole, and what a write into one of them leaves alone.
-use Rattle.std.proofs.Common.{inl, inr, ◌≡◌, ◌⊎◌, ℕ, ◌+◌, ◌*◌, ◌<◌, ◌≤◌, true, false, List, [], ◌∷◌, length, refl, sym, ap, ap₂, ◌∙◌, arith}
-use Rattle.std.specs.Prelude.{nat_le as leb, ⊤}
+use Rattle.std.proofs.Common.{inl, inr, ◌≡◌, ◌⊎◌, ℕ, ◌+◌, ◌*◌, ◌<◌, ◌≤◌, true, false, List, [], ◌∷◌, ◌++◌, length, refl, sym, ap, ap₂, ◌∙◌}
+use Rattle.std.proofs.Common.{arith}
 use Rattle.std.proofs.Math.Nat.{mul-add, mul-le-mul_left}
 use Rattle.std.proofs.lemmas.Bool.Decides.{leb_tells}
 use Rattle.byteorder.specs.Endian.{little_number}
-use Rattle.vs_guest_mem.specs.Memory.{Memory, after_write, bytes_at}
+use Rattle.vs_guest_mem.specs.Memory.{Memory, after_access, after_write, bytes_at}
 use Rattle.vs_layout.specs.{Entry.desc_of, Entry.used_elem_of, declared.place.Areas.Areas}
-use Rattle.vs_ring_plain.proofs.Still.{quiet}
+use Rattle.vs_ring_plain.proofs.Still.{quiet, still_after, still_bytes}
 use Rattle.vs_ring_port.specs.{Chains.same_queue, declared.queue.Queue.Queue}
 use Rattle.laws_plain_rings.specs.{Tie.IsAreaLaid, Tie.IsLaid, Shown.AvailEvent, Shown.AvailFlags, Shown.Shown, Shown.UsedEvent}
 use Rattle.laws_plain_rings.specs.Shown.{UsedFlags, Word, shown, word_in}
-use Rattle.laws_plain_rings.proofs.Frames.{inner, kept}
+use Rattle.laws_plain_rings.proofs.Frames.{inner, kept, length_written, written}
+use Rattle.std.specs.Prelude.{nat_le as leb, ⊤}
 
 pub data Spot : Type 0 where
   Describing : ℕ → Spot
@@ -70,6 +71,10 @@ Differs _ _ = ⊤
 abbrev pub DiffersAll : List Spot → Spot → Type 0
 DiffersAll [] y = ⊤
 DiffersAll (x ∷ xs) y = Differs x y × DiffersAll xs y
+
+abbrev IsInside : ℕ → Areas → ℕ → Spot → Type 0
+IsInside n a at x = ((a.desc ≤ spot_at a at x) × (spot_at a at x + spot_len x ≤ a.end)) ⊎ ((at ≤ spot_at a at x)
+    × (spot_at a at x + spot_len x ≤ at + 4096 * n))
 
 less_from : {j k : ℕ} → k ≤ j → (k ≡ j → ⊥) → k < j
 less_from {j} {k} under other = by (leb_tells j k)
@@ -189,23 +194,17 @@ module _ (n : ℕ) (a : Areas) (at : ℕ) (laid : IsAreaLaid n a) (behind : a.en
   apart (PageOf j) (WordOf k w) is_x is_y other = turned (word_apart k w (PageOf j) is_y is_x tt)
 
   -- it lies in the areas or among the pages
-  pub within : (x : Spot) → IsSpot n x
-      → ((a.desc ≤ spot_at a at x) × (spot_at a at x + spot_len x ≤ a.end)) ⊎ ((at ≤ spot_at a at x)
-      × (spot_at a at x + spot_len x ≤ at + 4096 * n))
+  pub within : (x : Spot) → IsSpot n x → IsInside n a at x
   within (Describing k) is_x = inl (omega (arith, laid.avail, laid.used, laid.end), omega (arith, laid.avail, laid.used, laid.end, is_x))
   within AvailIdx is_x = inl (omega (arith, laid.avail, laid.used, laid.end), omega (arith, laid.avail, laid.used, laid.end))
   within (Entry k) is_x = inl (omega (arith, laid.avail, laid.used, laid.end), omega (arith, laid.avail, laid.used, laid.end, is_x))
   within UsedIdx is_x = inl (omega (arith, laid.avail, laid.used, laid.end), omega (arith, laid.avail, laid.used, laid.end))
   within (Elem k) is_x = inl (omega (arith, laid.avail, laid.used, laid.end), omega (arith, laid.avail, laid.used, laid.end, is_x))
   within (PageOf k) is_x = inr (omega arith, omega (arith, is_x))
-  within (WordOf k AvailFlags) is_x =
-      inl (omega (arith, laid.avail, laid.used, laid.end), omega (arith, laid.avail, laid.used, laid.end, is_x))
-  within (WordOf k UsedEvent) is_x =
-      inl (omega (arith, laid.avail, laid.used, laid.end), omega (arith, laid.avail, laid.used, laid.end, is_x))
-  within (WordOf k UsedFlags) is_x =
-      inl (omega (arith, laid.avail, laid.used, laid.end), omega (arith, laid.avail, laid.used, laid.end, is_x))
-  within (WordOf k AvailEvent) is_x =
-      inl (omega (arith, laid.avail, laid.used, laid.end), omega (arith, laid.avail, laid.used, laid.end, is_x))
+  within (WordOf k AvailFlags) is_x = inl (omega (arith, laid.avail), omega (arith, laid.used, laid.end))
+  within (WordOf k UsedEvent) is_x = inl (omega (arith, laid.avail), omega (arith, laid.used, laid.end, is_x))
+  within (WordOf k UsedFlags) is_x = inl (omega (arith, laid.avail, laid.used), omega (arith, laid.end))
+  within (WordOf k AvailEvent) is_x = inl (omega (arith, laid.avail, laid.used), omega (arith, laid.end, is_x))
 
 -- What stands in every other spot of a queue of n places is what stood there.
 pub record Untouched (n : ℕ) (xs : List Spot) (s new : Shown) : Type 0 where
@@ -217,31 +216,25 @@ pub record Untouched (n : ℕ) (xs : List Spot) (s new : Shown) : Type 0 where
   pub page : (k c : ℕ) → k < n → c ≤ 4096 → DiffersAll xs (PageOf k) → new.page k c ≡ s.page k c
   pub word : (w : Word) → DiffersAll xs (WordOf n w) → new.word n w ≡ s.word n w
 
-pub untouched_then : (n : ℕ) (x : Spot) (xs : List Spot) (s middle new : Shown) → Untouched n (x ∷ []) s middle → Untouched n xs middle new
-    → Untouched n (x ∷ xs) s new
-untouched_then n x xs s middle new one more = record {
-  desc = λ k is other. more.desc k is other.1 ∙ one.desc k is (other.0, tt);
-  avail = λ other. more.avail other.1 ∙ one.avail (other.0, tt);
-  entry = λ k is other. more.entry k is other.1 ∙ one.entry k is (other.0, tt);
-  used = λ other. more.used other.1 ∙ one.used (other.0, tt);
-  elem = λ k is other. more.elem k is other.1 ∙ one.elem k is (other.0, tt);
-  page = λ k c is few other. more.page k c is few other.1 ∙ one.page k c is few (other.0, tt);
-  word = λ w other. more.word w other.1 ∙ one.word w (other.0, tt);
+differs_both : (xs ys : List Spot) (y : Spot) → DiffersAll (xs ++ ys) y → DiffersAll xs y × DiffersAll ys y
+differs_both [] ys y other = (tt, other)
+differs_both (x ∷ xs) ys y (first, other) = let both = differs_both xs ys y other in ((first, both.0), both.1)
+
+-- one after the other
+untouched_then : (n : ℕ) (xs ys : List Spot) (s middle new : Shown) → Untouched n xs s middle → Untouched n ys middle new
+    → Untouched n (xs ++ ys) s new
+untouched_then n xs ys s middle new one more = record {
+  desc = λ k is other. let o = differs_both xs ys (Describing k) other in more.desc k is o.1 ∙ one.desc k is o.0;
+  avail = λ other. let o = differs_both xs ys AvailIdx other in more.avail o.1 ∙ one.avail o.0;
+  entry = λ k is other. let o = differs_both xs ys (Entry k) other in more.entry k is o.1 ∙ one.entry k is o.0;
+  used = λ other. let o = differs_both xs ys UsedIdx other in more.used o.1 ∙ one.used o.0;
+  elem = λ k is other. let o = differs_both xs ys (Elem k) other in more.elem k is o.1 ∙ one.elem k is o.0;
+  page = λ k c is few other. let o = differs_both xs ys (PageOf k) other in more.page k c is few o.1 ∙ one.page k c is few o.0;
+  word = λ w other. let o = differs_both xs ys (WordOf n w) other in more.word w o.1 ∙ one.word w o.0;
 }
 
-pub untouched_both : (n : ℕ) (s middle new : Shown) → Untouched n [] s middle → Untouched n [] middle new → Untouched n [] s new
-untouched_both n s middle new one more = record {
-  desc = λ k is other. more.desc k is tt ∙ one.desc k is tt;
-  avail = λ other. more.avail tt ∙ one.avail tt;
-  entry = λ k is other. more.entry k is tt ∙ one.entry k is tt;
-  used = λ other. more.used tt ∙ one.used tt;
-  elem = λ k is other. more.elem k is tt ∙ one.elem k is tt;
-  page = λ k c is few other. more.page k c is few tt ∙ one.page k c is few tt;
-  word = λ w other. more.word w tt ∙ one.word w tt;
-}
-
-pub untouched_same : (n : ℕ) (s new : Shown) → new ≡ s → Untouched n [] s new
-untouched_same n s new same = record {
+untouched_same : (n : ℕ) (xs : List Spot) (s new : Shown) → new ≡ s → Untouched n xs s new
+untouched_same n xs s new same = record {
   desc = λ k is other. ap (λ (x : Shown). x.desc k) same;
   avail = λ other. ap (λ (x : Shown). x.avail) same;
   entry = λ k is other. ap (λ (x : Shown). x.entry k) same;
@@ -256,25 +249,73 @@ pub seen_same : (a : Areas) (at : ℕ) (m new : Memory) → new.base ≡ m.base 
 seen_same a at m new base bytes =
     ap₂ (λ (b : ℕ) (xs : List ℕ). shown a at (quiet b xs 0)) base bytes
 
--- a write of bytes into a spot of one queue
-module _ (n : ℕ) (areas : Queue → Areas) (at : Queue → ℕ) (m : Memory) (laid : IsLaid n areas at m) where
-  from_spot : (q : Queue) (x : Spot) → IsSpot n x → m.base ≤ spot_at (areas q) (at q) x
-  from_spot q x is_x = by (within n (areas q) (at q) (laid.each q) (laid.behind q q) x is_x)
-    where
-      by : (((areas q).desc ≤ spot_at (areas q) (at q) x) × (spot_at (areas q) (at q) x + spot_len x ≤ (areas q).end))
-          ⊎ ((at q ≤ spot_at (areas q) (at q) x) × (spot_at (areas q) (at q) x + spot_len x ≤ at q + 4096 * n))
-          → m.base ≤ spot_at (areas q) (at q) x
-      by (inl (from, to)) = omega (arith, laid.low q, from)
-      by (inr (from, to)) = let e = laid.each q in omega (arith, laid.low q, laid.behind q q, e.avail, e.used, e.end, from)
+-- where the areas and pages begin where they began, they lie as they lay
+pub laid_same : (n : ℕ) (areas : Queue → Areas) (from to : Queue → ℕ) (m new : Memory) → ((q : Queue) → to q ≡ from q)
+    → new.base ≡ m.base → length new.bytes ≡ length m.bytes → IsLaid n areas from m → IsLaid n areas to new
+laid_same n areas from to m new same base size laid = record {
+  nonzero = laid.nonzero;
+  limit = laid.limit;
+  divides = laid.divides;
+  fits = omega (arith, base, size, laid.fits);
+  each = laid.each;
+  low = λ q. omega (arith, base, laid.low q);
+  behind = λ q r. omega (arith, laid.behind q r, same r);
+  high = λ q. omega (arith, base, size, laid.high q, same q);
+  areas_apart = laid.areas_apart;
+  pages_apart = λ q r other. rw (same q, same r) (laid.pages_apart q r other);
+}
 
-  to_spot : (q : Queue) (x : Spot) → IsSpot n x → spot_at (areas q) (at q) x + spot_len x ≤ m.base + length m.bytes
-  to_spot q x is_x = by (within n (areas q) (at q) (laid.each q) (laid.behind q q) x is_x)
+-- A memory to which no change is to come, in which of one queue these spots alone were written.
+pub record Wrote (n : ℕ) (areas : Queue → Areas) (at : Queue → ℕ) (q : Queue) (xs : List Spot) (m new : Memory) : Type 0 where
+  pub still : new.changes ≡ []
+  pub laid : IsLaid n areas at new
+  pub own : Untouched n xs (shown (areas q) (at q) m) (shown (areas q) (at q) new)
+  pub other : (r : Queue) → same_queue q r ≡ false → Untouched n [] (shown (areas r) (at r) m) (shown (areas r) (at r) new)
+
+pub wrote_then : {n : ℕ} {areas : Queue → Areas} {at : Queue → ℕ} {q : Queue} {xs ys : List Spot} {m middle new : Memory}
+    → Wrote n areas at q xs m middle → Wrote n areas at q ys middle new → Wrote n areas at q (xs ++ ys) m new
+wrote_then {n} {xs = xs} {ys = ys} one more = record {
+  still = more.still;
+  laid = more.laid;
+  own = untouched_then n xs ys _ _ _ one.own more.own;
+  other = λ r apart. untouched_then n [] [] _ _ _ (one.other r apart) (more.other r apart);
+}
+
+-- a memory with the same bytes to which no change is to come
+pub record IsQuietly (m new : Memory) : Type 0 where
+  pub still : new.changes ≡ []
+  pub base : new.base ≡ m.base
+  pub bytes : new.bytes ≡ m.bytes
+
+pub quietly_now : (m : Memory) → m.changes ≡ [] → IsQuietly m m
+quietly_now m still = record { still = still; base = refl; bytes = refl }
+
+pub quietly_after : (m new : Memory) → IsQuietly m new → IsQuietly m (after_access new)
+quietly_after m new q = record { still = still_after new q.still; base = q.base; bytes = still_bytes new q.still ∙ q.bytes }
+
+pub quietly_wrote : {n : ℕ} {areas : Queue → Areas} {at : Queue → ℕ} {m new : Memory} → IsLaid n areas at m → (q : Queue) (xs : List Spot)
+    → IsQuietly m new → Wrote n areas at q xs m new
+quietly_wrote {n} {areas} {at} {m} {new} laid q xs quietly = record {
+  still = quietly.still;
+  laid = laid_same n areas at at m new (λ q. refl) quietly.base (ap length quietly.bytes) laid;
+  own = same q xs;
+  other = λ r apart. same r [];
+}
+  where
+    same : (r : Queue) (xs : List Spot) → Untouched n xs (shown (areas r) (at r) m) (shown (areas r) (at r) new)
+    same r xs = untouched_same n xs _ _ (seen_same (areas r) (at r) m new quietly.base quietly.bytes)
+
+-- a write of bytes into a spot of one queue
+module _ {n : ℕ} {areas : Queue → Areas} {at : Queue → ℕ} {m : Memory} (laid : IsLaid n areas at m) where
+  in_memory : (q : Queue) (x : Spot) → IsSpot n x
+      → (m.base ≤ spot_at (areas q) (at q) x) × (spot_at (areas q) (at q) x + spot_len x ≤ m.base + length m.bytes)
+  in_memory q x is_x = by (within n (areas q) (at q) (laid.each q) (laid.behind q q) x is_x)
     where
-      by : (((areas q).desc ≤ spot_at (areas q) (at q) x) × (spot_at (areas q) (at q) x + spot_len x ≤ (areas q).end))
-          ⊎ ((at q ≤ spot_at (areas q) (at q) x) × (spot_at (areas q) (at q) x + spot_len x ≤ at q + 4096 * n))
-          → spot_at (areas q) (at q) x + spot_len x ≤ m.base + length m.bytes
-      by (inl (from, to)) = omega (arith, laid.high q, laid.behind q q, to)
-      by (inr (from, to)) = omega (arith, laid.high q, to)
+      by : IsInside n (areas q) (at q) x
+          → (m.base ≤ spot_at (areas q) (at q) x) × (spot_at (areas q) (at q) x + spot_len x ≤ m.base + length m.bytes)
+      by (inl (from, to)) = (omega (arith, laid.low q, from), omega (arith, laid.high q, laid.behind q q, to))
+      by (inr (from, to)) = let e = laid.each q in
+          (omega (arith, laid.low q, laid.behind q q, e.avail, e.used, e.end, from), omega (arith, laid.high q, to))
 
   -- spots of two queues are apart
   across : (q r : Queue) → same_queue q r ≡ false → (x y : Spot) → IsSpot n x → IsSpot n y
@@ -293,22 +334,15 @@ module _ (n : ℕ) (areas : Queue → Areas) (at : Queue → ℕ) (m : Memory) (
       Goal : Type 0
       Goal = (X + spot_len x ≤ Y) ⊎ (Y + spot_len y ≤ X)
 
-      by_areas : (X + spot_len x ≤ (areas q).end) → ((areas q).desc ≤ X) → (Y + spot_len y ≤ (areas r).end) → ((areas r).desc ≤ Y)
-          → ((areas q).end ≤ (areas r).desc) ⊎ ((areas r).end ≤ (areas q).desc) → Goal
-      by_areas to_x from_x to_y from_y (inl before) = inl (omega (arith, to_x, before, from_y))
-      by_areas to_x from_x to_y from_y (inr after) = inr (omega (arith, to_y, after, from_x))
+      beside : {f t g u : ℕ} → f ≤ X → X + spot_len x ≤ t → g ≤ Y → Y + spot_len y ≤ u → (t ≤ g) ⊎ (u ≤ f) → Goal
+      beside from_x to_x from_y to_y (inl before) = inl (omega (arith, to_x, before, from_y))
+      beside from_x to_x from_y to_y (inr after) = inr (omega (arith, to_y, after, from_x))
 
-      by_pages : (X + spot_len x ≤ at q + 4096 * n) → (at q ≤ X) → (Y + spot_len y ≤ at r + 4096 * n) → (at r ≤ Y)
-          → (at q + 4096 * n ≤ at r) ⊎ (at r + 4096 * n ≤ at q) → Goal
-      by_pages to_x from_x to_y from_y (inl before) = inl (omega (arith, to_x, before, from_y))
-      by_pages to_x from_x to_y from_y (inr after) = inr (omega (arith, to_y, after, from_x))
-
-      by : (((areas q).desc ≤ X) × (X + spot_len x ≤ (areas q).end)) ⊎ ((at q ≤ X) × (X + spot_len x ≤ at q + 4096 * n))
-          → (((areas r).desc ≤ Y) × (Y + spot_len y ≤ (areas r).end)) ⊎ ((at r ≤ Y) × (Y + spot_len y ≤ at r + 4096 * n)) → Goal
-      by (inl (from_x, to_x)) (inl (from_y, to_y)) = by_areas to_x from_x to_y from_y (laid.areas_apart q r other)
-      by (inl (from_x, to_x)) (inr (from_y, to_y)) = inl (omega (arith, to_x, laid.behind q r, from_y))
-      by (inr (from_x, to_x)) (inl (from_y, to_y)) = inr (omega (arith, to_y, laid.behind r q, from_x))
-      by (inr (from_x, to_x)) (inr (from_y, to_y)) = by_pages to_x from_x to_y from_y (laid.pages_apart q r other)
+      by : IsInside n (areas q) (at q) x → IsInside n (areas r) (at r) y → Goal
+      by (inl (from_x, to_x)) (inl (from_y, to_y)) = beside from_x to_x from_y to_y (laid.areas_apart q r other)
+      by (inl (from_x, to_x)) (inr (from_y, to_y)) = beside from_x to_x from_y to_y (inl (laid.behind q r))
+      by (inr (from_x, to_x)) (inl (from_y, to_y)) = beside from_x to_x from_y to_y (inr (laid.behind r q))
+      by (inr (from_x, to_x)) (inr (from_y, to_y)) = beside from_x to_x from_y to_y (laid.pages_apart q r other)
 
   module _ (q : Queue) (x : Spot) (is_x : IsSpot n x) (addr : ℕ) (bytes : List ℕ) (from : spot_at (areas q) (at q) x ≤ addr)
       (to : addr + length bytes ≤ spot_at (areas q) (at q) x + spot_len x) where
@@ -316,10 +350,10 @@ module _ (n : ℕ) (areas : Queue → Areas) (at : Queue → ℕ) (m : Memory) (
     new = after_write m addr bytes
 
     pub low : m.base ≤ addr
-    low = omega (arith, from_spot q x is_x, from)
+    low = omega (arith, (in_memory q x is_x).0, from)
 
     pub high : addr + length bytes ≤ m.base + length m.bytes
-    high = omega (arith, to_spot q x is_x, to)
+    high = omega (arith, (in_memory q x is_x).1, to)
 
     -- what is read in a spot that is apart
     unread : (r : Queue) (y : Spot) → IsSpot n y → (b k : ℕ) → spot_at (areas r) (at r) y ≤ b
@@ -328,7 +362,7 @@ module _ (n : ℕ) (areas : Queue → Areas) (at : Queue → ℕ) (m : Memory) (
         (areas q) (at q) x)
         → bytes_at new b k ≡ bytes_at m b k
     unread r y is_y b k from_b to_b beside =
-        kept m addr bytes b k low high (omega (arith, from_spot r y is_y, from_b))
+        kept m addr bytes b k low high (omega (arith, (in_memory r y is_y).0, from_b))
         (turned (inner (spot_at (areas q) (at q) x) (spot_len x) (spot_at (areas r) (at r) y) (spot_len y) addr (length bytes) b k
         beside from to from_b to_b))
       where
@@ -342,7 +376,7 @@ module _ (n : ℕ) (areas : Queue → Areas) (at : Queue → ℕ) (m : Memory) (
     own y is_y other b k from_b to_b =
         unread q y is_y b k from_b to_b (apart n (areas q) (at q) (laid.each q) (laid.behind q q) x y is_x is_y other)
 
-    pub untouched_own : Untouched n (x ∷ []) (shown (areas q) (at q) m) (shown (areas q) (at q) new)
+    untouched_own : Untouched n (x ∷ []) (shown (areas q) (at q) m) (shown (areas q) (at q) new)
     untouched_own = record {
       desc = λ k is other. ap desc_of (own (Describing k) is other.0 _ 16 (omega arith) (omega arith));
       avail = λ other. ap (little_number 2) (own AvailIdx tt other.0 _ 2 (omega arith) (omega arith));
@@ -353,7 +387,7 @@ module _ (n : ℕ) (areas : Queue → Areas) (at : Queue → ℕ) (m : Memory) (
       word = λ w other. ap (little_number 2) (own (WordOf n w) refl other.0 _ 2 (omega arith) (omega arith));
     }
 
-    pub untouched_other : (r : Queue) → same_queue q r ≡ false → Untouched n [] (shown (areas r) (at r) m) (shown (areas r) (at r) new)
+    untouched_other : (r : Queue) → same_queue q r ≡ false → Untouched n [] (shown (areas r) (at r) m) (shown (areas r) (at r) new)
     untouched_other r other = record {
       desc = λ k is _. ap desc_of (unread r (Describing k) is _ 16 (omega arith) (omega arith) (across q r other x (Describing k) is_x is));
       avail = λ _. ap (little_number 2) (unread r AvailIdx tt _ 2 (omega arith) (omega arith) (across q r other x AvailIdx is_x tt));
@@ -365,29 +399,13 @@ module _ (n : ℕ) (areas : Queue → Areas) (at : Queue → ℕ) (m : Memory) (
           w) is_x refl));
     }
 
--- the pieces lie where they lay
-pub laid_same : (n : ℕ) (areas : Queue → Areas) (at : Queue → ℕ) (m new : Memory) → new.base ≡ m.base → length new.bytes ≡ length m.bytes
-    → IsLaid n areas at m → IsLaid n areas at new
-laid_same n areas at m new base size laid = record {
-  nonzero = laid.nonzero;
-  limit = laid.limit;
-  divides = laid.divides;
-  fits = omega (arith, base, size, laid.fits);
-  each = laid.each;
-  low = λ q. omega (arith, base, laid.low q);
-  behind = laid.behind;
-  high = λ q. omega (arith, base, size, laid.high q);
-  areas_apart = laid.areas_apart;
-  pages_apart = laid.pages_apart;
-}
+    pub wrote : m.changes ≡ [] → Wrote n areas at q (x ∷ []) m new
+    wrote still = record {
+      still = still;
+      laid = laid_same n areas at at m new (λ q. refl) refl (length_written m addr bytes low high) laid;
+      own = untouched_own;
+      other = untouched_other;
+    }
 
-pub untouched_none : (n : ℕ) (xs : List Spot) (s : Shown) → Untouched n xs s s
-untouched_none n xs s = record {
-  desc = λ k is other. refl;
-  avail = λ other. refl;
-  entry = λ k is other. refl;
-  used = λ other. refl;
-  elem = λ k is other. refl;
-  page = λ k c is few other. refl;
-  word = λ w other. refl;
-}
+    pub read_back : bytes_at new addr (length bytes) ≡ bytes
+    read_back = written m addr bytes low high

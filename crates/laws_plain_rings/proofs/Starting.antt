@@ -2,61 +2,40 @@
 use Rattle.std.proofs.Common.{true≢false, inl, inr, ◌⊎◌, ◌≡◌, ℕ, zero, suc, ◌+◌, ◌-◌, ◌*◌, ◌%◌, ◌^◌, ◌<◌, ◌≤◌, Bool, true, false, cond}
 use Rattle.std.proofs.Common.{List, [], ◌∷◌, length, Option, None, Some, refl, sym, ap, ◌∙◌, subst, arith}
 use Rattle.std.specs.{List.range_with_len, Prelude.◌==◌, Prelude.◌&&◌, Prelude.is_some, Prelude.nat_le}
-use Rattle.std.proofs.lemmas.Bool.Decides.{eqb_tells, nat_tests}
-use Rattle.std.proofs.lemmas.List.{length-replicate}
+use Rattle.std.proofs.lemmas.{Bool.Decides.nat_tests, List.length-replicate, List.nil_from_length}
 use Rattle.std.proofs.lemmas.List.FromFn.{length-range_with_len}
 use Rattle.byteorder.specs.Endian.{little_number}
-use Rattle.vs_guest_mem.specs.Memory.{Change, Memory, after_write, bytes_at}
+use Rattle.vs_guest_mem.specs.Memory.{Memory, after_write, bytes_at}
 use Rattle.vs_layout.specs.{Layout.queue_areas_of, declared.place.Areas.Areas, declared.placement.QueueAreas.QueueAreas}
 use Rattle.vs_ring_port.specs.{Chains.same_queue, declared.queue.Queue.Queue, declared.queue.Queue.TheVariants.Rx}
 use Rattle.vs_ring_port.specs.declared.queue.Queue.TheVariants.{Tx, Event}
 use Rattle.vs_ring_list.specs.Ends.{empty_ends}
 use Rattle.vs_ring_plain.specs.Device.{areas_at, cleared_used, new_device}
 use Rattle.vs_plain_driver.specs.Queue.{cleared_avail}
-use Rattle.laws_plain_rings.specs.Parts.{PartsState, driver_at, new_parts, new_queue, pages_behind, pages_start}
+use Rattle.laws_plain_rings.specs.Parts.{PartsState, driver_at, new_parts, new_queue, pages_behind, pages_start, cleared}
 use Rattle.laws_plain_rings.specs.{Queue.IsQueueTied, Queue.times, Shown.AvailEvent, Shown.AvailFlags, Shown.Shown, Shown.UsedEvent}
 use Rattle.laws_plain_rings.specs.{Shown.UsedFlags, Shown.Word, Shown.shown, Tie.AreTied, Tie.IsAreaLaid, Tie.IsLaid, Tie.IsTiedAt}
 use Rattle.laws_plain_rings.specs.{Tie.IsTiedTo, Tie.start_of, Exposed.first_ends}
-use Rattle.laws_plain_rings.proofs.{Assemble.laid_from, Counting.times-cons, Counting.times-other, Counting.times-self}
-use Rattle.laws_plain_rings.proofs.{Frames.length_written, Frames.written, Modulo.mod_small}
-use Rattle.laws_plain_rings.proofs.Spots.{AvailIdx, Differs, DiffersAll, IsSpot, Spot, Untouched, UsedIdx, WordOf, high, laid_same, low}
-use Rattle.laws_plain_rings.proofs.Spots.{own, spot_at, spot_len, untouched_both, untouched_other, untouched_own, untouched_then}
+use Rattle.laws_plain_rings.proofs.{Modulo.mod_small, Spots.AvailIdx}
+use Rattle.laws_plain_rings.proofs.Spots.{Differs, DiffersAll, IsSpot, Spot, Untouched, UsedIdx, WordOf, laid_same, own, spot_at, spot_len}
+use Rattle.laws_plain_rings.proofs.{Spots.Wrote, Spots.wrote, Spots.wrote_then, Spots.read_back, Queues.of_each, Queues.of_pairs}
 
 -- the numbers below n, each once
 no_less : (j a k : ℕ) → j < a → times j (range_with_len a k) ≡ 0
 no_less j a zero less = refl
-no_less j a (suc k) less =
-    let other : times j (a ∷ []) ≡ 0 = times-other j a (λ same. omega (arith, less, same)) in
-    omega (arith, times-cons j a (range_with_len (a + 1) k), other, no_less j (a + 1) k (omega (arith, less)))
+no_less j a (suc k) less = grind (arith, nat_tests, less, no_less j (a + 1) k (omega (arith, less)))
 
 once_each : (j a k : ℕ) → times j (range_with_len a k) ≤ 1
 once_each j a zero = omega arith
-once_each j a (suc k) = by (once_each j (a + 1) k) (eqb_tells j a)
-  where
-    by : times j (range_with_len (a + 1) k) ≤ 1 → (((j == a) ≡ true) × (j ≡ a)) ⊎ (((j == a) ≡ false) × (j ≡ a → ⊥))
-        → times j (a ∷ range_with_len (a + 1) k) ≤ 1
-    by rest (inl (test, same)) =
-        let none = no_less j (a + 1) k (omega (arith, same)) in
-        let one : times j (a ∷ []) ≡ 1 = ap (λ x. times x (a ∷ [])) same ∙ times-self a in
-        omega (arith, times-cons j a (range_with_len (a + 1) k), none, one)
-    by rest (inr (test, differs)) =
-        let none : times j (a ∷ []) ≡ 0 = times-other j a (λ same. differs (sym same)) in
-        omega (arith, times-cons j a (range_with_len (a + 1) k), none, rest)
+once_each j a (suc k) = grind (arith, nat_tests, once_each j (a + 1) k, no_less j (a + 1) k)
 
 under_all : (j a k : ℕ) → 0 < times j (range_with_len a k) → j < a + k
 under_all j a zero some = absurd (omega (arith, some))
-under_all j a (suc k) some = by (λ more. under_all j (a + 1) k more) (eqb_tells j a)
-  where
-    by : (0 < times j (range_with_len (a + 1) k) → j < a + 1 + k) → (((j == a) ≡ true) × (j ≡ a)) ⊎ (((j == a) ≡ false) × (j ≡ a → ⊥))
-        → j < a + suc k
-    by rest (inl (test, same)) = omega (arith, same)
-    by rest (inr (test, differs)) =
-        let none : times j (a ∷ []) ≡ 0 = times-other j a (λ same. differs (sym same)) in
-        omega (arith, rest (omega (arith, some, none, times-cons j a (range_with_len (a + 1) k))))
+under_all j a (suc k) some = grind (arith, nat_tests, some, under_all j (a + 1) k)
 
 -- three words of a queue are set to 0
-module _ (n : ℕ) (areas : Queue → Areas) (at : Queue → ℕ) (m : Memory) (laid : IsLaid n areas at m) (q : Queue) (x y z : Spot)
-    (is_x : IsSpot n x) (is_y : IsSpot n y) (is_z : IsSpot n z) (two_x : spot_len x ≡ 2) (two_y : spot_len y ≡ 2)
+module _ {n : ℕ} {areas : Queue → Areas} {at : Queue → ℕ} {m : Memory} (laid : IsLaid n areas at m) (still : m.changes ≡ []) (q : Queue)
+    (x y z : Spot) (is_x : IsSpot n x) (is_y : IsSpot n y) (is_z : IsSpot n z) (two_x : spot_len x ≡ 2) (two_y : spot_len y ≡ 2)
     (two_z : spot_len z ≡ 2) where
   abbrev zeros : List ℕ
   zeros = 0 ∷ 0 ∷ []
@@ -79,89 +58,44 @@ module _ (n : ℕ) (areas : Queue → Areas) (at : Queue → ℕ) (m : Memory) (
   abbrev m3 : Memory
   m3 = after_write m2 Z zeros
 
-  low_X : m.base ≤ X
-  low_X = low n areas at m laid q x is_x X zeros (omega arith) (omega (arith, two_x))
+  w1 : Wrote n areas at q (x ∷ []) m m1
+  w1 = wrote laid q x is_x X zeros (omega arith) (omega (arith, two_x)) still
 
-  high_X : X + 2 ≤ m.base + length m.bytes
-  high_X = high n areas at m laid q x is_x X zeros (omega arith) (omega (arith, two_x))
+  w2 : Wrote n areas at q (y ∷ []) m1 m2
+  w2 = wrote w1.laid q y is_y Y zeros (omega arith) (omega (arith, two_y)) still
 
-  size1 : length m1.bytes ≡ length m.bytes
-  size1 = length_written m X zeros low_X high_X
+  three : Wrote n areas at q (x ∷ y ∷ z ∷ []) m m3
+  three = wrote_then w1 (wrote_then w2 (wrote w2.laid q z is_z Z zeros (omega arith) (omega (arith, two_z)) still))
 
-  laid1 : IsLaid n areas at m1
-  laid1 = laid_same n areas at m m1 refl size1 laid
-
-  low_Y : m1.base ≤ Y
-  low_Y = low n areas at m1 laid1 q y is_y Y zeros (omega arith) (omega (arith, two_y))
-
-  high_Y : Y + 2 ≤ m1.base + length m1.bytes
-  high_Y = high n areas at m1 laid1 q y is_y Y zeros (omega arith) (omega (arith, two_y))
-
-  size2 : length m2.bytes ≡ length m1.bytes
-  size2 = length_written m1 Y zeros low_Y high_Y
-
-  laid2 : IsLaid n areas at m2
-  laid2 = laid_same n areas at m1 m2 refl size2 laid1
-
-  low_Z : m2.base ≤ Z
-  low_Z = low n areas at m2 laid2 q z is_z Z zeros (omega arith) (omega (arith, two_z))
-
-  high_Z : Z + 2 ≤ m2.base + length m2.bytes
-  high_Z = high n areas at m2 laid2 q z is_z Z zeros (omega arith) (omega (arith, two_z))
-
-  three_laid : IsLaid n areas at m3
-  three_laid = laid_same n areas at m2 m3 refl (length_written m2 Z zeros low_Z high_Z) laid2
-
-  three_own : Untouched n (x ∷ y ∷ z ∷ []) (shown (areas q) (at q) m) (shown (areas q) (at q) m3)
-  three_own =
-      untouched_then n x (y ∷ z ∷ []) _ _ _ (untouched_own n areas at m laid q x is_x X zeros (omega arith) (omega (arith, two_x)))
-      (untouched_then n y (z ∷ []) _ _ _ (untouched_own n areas at m1 laid1 q y is_y Y zeros (omega arith) (omega (arith, two_y)))
-      (untouched_own n areas at m2 laid2 q z is_z Z zeros (omega arith) (omega (arith, two_z))))
-
-  three_other : (r : Queue) → same_queue q r ≡ false → Untouched n [] (shown (areas r) (at r) m) (shown (areas r) (at r) m3)
-  three_other r other =
-      untouched_both n _ _ _ (untouched_other n areas at m laid q x is_x X zeros (omega arith) (omega (arith, two_x)) r other)
-      (untouched_both n _ _ _ (untouched_other n areas at m1 laid1 q y is_y Y zeros (omega arith) (omega (arith, two_y)) r other)
-      (untouched_other n areas at m2 laid2 q z is_z Z zeros (omega arith) (omega (arith, two_z)) r other))
-
-  zero_Z : bytes_at m3 Z 2 ≡ zeros
-  zero_Z = written m2 Z zeros low_Z high_Z
-
-  zero_Y : Differs z y → bytes_at m3 Y 2 ≡ zeros
-  zero_Y other =
-      own n areas at m2 laid2 q z is_z Z zeros (omega arith) (omega (arith, two_z)) y is_y other Y 2 (omega arith) (omega (arith, two_y))
-      ∙ written m1 Y zeros low_Y high_Y
-
-  zero_X : Differs z x → Differs y x → bytes_at m3 X 2 ≡ zeros
-  zero_X other before =
-      own n areas at m2 laid2 q z is_z Z zeros (omega arith) (omega (arith, two_z)) x is_x other X 2 (omega arith) (omega (arith, two_x))
-      ∙ own n areas at m1 laid1 q y is_y Y zeros (omega arith) (omega (arith, two_y)) x is_x before X 2 (omega arith) (omega (arith, two_x))
-      ∙ written m X zeros low_X high_X
+  all_zero : Differs y x → Differs z x → Differs z y
+      → (bytes_at m3 X 2 ≡ zeros) × (bytes_at m3 Y 2 ≡ zeros) × (bytes_at m3 Z 2 ≡ zeros)
+  all_zero y_x z_x z_y = (
+    own w2.laid q z is_z Z zeros (omega arith) (omega (arith, two_z)) x is_x z_x X 2 (omega arith) (omega (arith, two_x))
+        ∙ own w1.laid q y is_y Y zeros (omega arith) (omega (arith, two_y)) x is_x y_x X 2 (omega arith) (omega (arith, two_x))
+        ∙ read_back laid q x is_x X zeros (omega arith) (omega (arith, two_x)),
+    own w2.laid q z is_z Z zeros (omega arith) (omega (arith, two_z)) y is_y z_y Y 2 (omega arith) (omega (arith, two_y))
+        ∙ read_back w1.laid q y is_y Y zeros (omega arith) (omega (arith, two_y)),
+    read_back w2.laid q z is_z Z zeros (omega arith) (omega (arith, two_z)),
+  )
 
 -- what the driver wrote, and what the device wrote
-record IsAvailClear (n : ℕ) (s : Shown) : Type 0 where
-  pub flags : s.word n AvailFlags ≡ 0
-  pub index : s.avail ≡ 0
-  pub event : s.word n UsedEvent ≡ 0
+record IsClear (n : ℕ) (s : Shown) (v w : Word) (index : ℕ) : Type 0 where
+  pub flags : s.word n v ≡ 0
+  pub index_is : index ≡ 0
+  pub event : s.word n w ≡ 0
 
-record IsUsedClear (n : ℕ) (s : Shown) : Type 0 where
-  pub flags : s.word n UsedFlags ≡ 0
-  pub index : s.used ≡ 0
-  pub event : s.word n AvailEvent ≡ 0
+abbrev IsAvailClear : ℕ → Shown → Type 0
+IsAvailClear n s = IsClear n s AvailFlags UsedEvent s.avail
 
-avail_kept : (n : ℕ) (xs : List Spot) (s new : Shown) → Untouched n xs s new → DiffersAll xs (WordOf n AvailFlags) → DiffersAll xs AvailIdx
-    → DiffersAll xs (WordOf n UsedEvent) → IsAvailClear n s → IsAvailClear n new
-avail_kept n xs s new u flags index event clear = record {
-  flags = u.word AvailFlags flags ∙ clear.flags;
-  index = u.avail index ∙ clear.index;
-  event = u.word UsedEvent event ∙ clear.event;
-}
+abbrev IsUsedClear : ℕ → Shown → Type 0
+IsUsedClear n s = IsClear n s UsedFlags AvailEvent s.used
 
-used_kept : (n : ℕ) (s new : Shown) → Untouched n [] s new → IsUsedClear n s → IsUsedClear n new
-used_kept n s new u clear = record {
-  flags = u.word UsedFlags tt ∙ clear.flags;
-  index = u.used tt ∙ clear.index;
-  event = u.word AvailEvent tt ∙ clear.event;
+stays : {n : ℕ} {xs : List Spot} {s new : Shown} (v w : Word) {old index : ℕ} → Untouched n xs s new → DiffersAll xs (WordOf n v)
+    → index ≡ old → DiffersAll xs (WordOf n w) → IsClear n s v w old → IsClear n new v w index
+stays v w u flags same event clear = record {
+  flags = u.word v flags ∙ clear.flags;
+  index_is = same ∙ clear.index_is;
+  event = u.word w event ∙ clear.event;
 }
 
 all_words : (n : ℕ) (s : Shown) → IsAvailClear n s → IsUsedClear n s → (w : Word) → s.word n w ≡ 0
@@ -170,69 +104,48 @@ all_words n s avail used UsedEvent = avail.event
 all_words n s avail used UsedFlags = used.flags
 all_words n s avail used AvailEvent = used.event
 
-module _ (n : ℕ) (areas : Queue → Areas) (at : Queue → ℕ) (m : Memory) (laid : IsLaid n areas at m) (q : Queue) where
-  abbrev flags_a : Spot
-  flags_a = WordOf n AvailFlags
-
-  abbrev event_a : Spot
-  event_a = WordOf n UsedEvent
-
-  abbrev flags_u : Spot
-  flags_u = WordOf n UsedFlags
-
-  abbrev event_u : Spot
-  event_u = WordOf n AvailEvent
-
+module _ {n : ℕ} {areas : Queue → Areas} {at : Queue → ℕ} {m : Memory} (laid : IsLaid n areas at m) (still : m.changes ≡ [])
+    (q : Queue) where
   abbrev avail_after : Memory
   avail_after = cleared_avail (areas q) n m
 
   abbrev used_after : Memory
   used_after = cleared_used (areas q) n m
 
-  avail_laid : IsLaid n areas at avail_after
-  avail_laid = three_laid n areas at m laid q flags_a AvailIdx event_a refl tt refl refl refl refl
+  abbrev see : Queue → Memory → Shown
+  see r x = shown (areas r) (at r) x
 
-  avail_other : (r : Queue) → same_queue q r ≡ false → Untouched n [] (shown (areas r) (at r) m) (shown (areas r) (at r) avail_after)
-  avail_other = three_other n areas at m laid q flags_a AvailIdx event_a refl tt refl refl refl refl
+  avail_wrote : Wrote n areas at q (WordOf n AvailFlags ∷ AvailIdx ∷ WordOf n UsedEvent ∷ []) m avail_after
+  avail_wrote = three laid still q (WordOf n AvailFlags) AvailIdx (WordOf n UsedEvent) refl tt refl refl refl refl
 
-  avail_clear : IsAvailClear n (shown (areas q) (at q) avail_after)
-  avail_clear = record {
-    flags = ap (little_number 2) (zero_X n areas at m laid q flags_a AvailIdx event_a refl tt refl refl refl refl tt tt);
-    index = ap (little_number 2) (zero_Y n areas at m laid q flags_a AvailIdx event_a refl tt refl refl refl refl tt);
-    event = ap (little_number 2) (zero_Z n areas at m laid q flags_a AvailIdx event_a refl tt refl refl refl refl);
-  }
+  used_wrote : Wrote n areas at q (WordOf n UsedFlags ∷ UsedIdx ∷ WordOf n AvailEvent ∷ []) m used_after
+  used_wrote = three laid still q (WordOf n UsedFlags) UsedIdx (WordOf n AvailEvent) refl tt refl refl refl refl
 
-  used_laid : IsLaid n areas at used_after
-  used_laid = three_laid n areas at m laid q flags_u UsedIdx event_u refl tt refl refl refl refl
+  avail_clear : IsAvailClear n (see q avail_after)
+  avail_clear =
+      let z = all_zero laid still q (WordOf n AvailFlags) AvailIdx (WordOf n UsedEvent) refl tt refl refl refl refl tt tt tt in
+      record { flags = ap (little_number 2) z.0; index_is = ap (little_number 2) z.1; event = ap (little_number 2) z.2 }
 
-  used_other : (r : Queue) → same_queue q r ≡ false → Untouched n [] (shown (areas r) (at r) m) (shown (areas r) (at r) used_after)
-  used_other = three_other n areas at m laid q flags_u UsedIdx event_u refl tt refl refl refl refl
-
-  used_clear : IsUsedClear n (shown (areas q) (at q) used_after)
-  used_clear = record {
-    flags = ap (little_number 2) (zero_X n areas at m laid q flags_u UsedIdx event_u refl tt refl refl refl refl tt tt);
-    index = ap (little_number 2) (zero_Y n areas at m laid q flags_u UsedIdx event_u refl tt refl refl refl refl tt);
-    event = ap (little_number 2) (zero_Z n areas at m laid q flags_u UsedIdx event_u refl tt refl refl refl refl);
-  }
+  used_clear : IsUsedClear n (see q used_after)
+  used_clear =
+      let z = all_zero laid still q (WordOf n UsedFlags) UsedIdx (WordOf n AvailEvent) refl tt refl refl refl refl tt tt tt in
+      record { flags = ap (little_number 2) z.0; index_is = ap (little_number 2) z.1; event = ap (little_number 2) z.2 }
 
   -- each leaves the other ring, and other queues, alone
-  avail_beside : (r : Queue) → same_queue q r ≡ false → IsAvailClear n (shown (areas r) (at r) m)
-      → IsAvailClear n (shown (areas r) (at r) avail_after)
-  avail_beside r other clear = avail_kept n [] _ _ (avail_other r other) tt tt tt clear
+  avail_each : (r : Queue) → (same_queue q r ≡ false → IsAvailClear n (see r m)) → IsAvailClear n (see r avail_after)
+  avail_each = of_each (λ r. (same_queue q r ≡ false → IsAvailClear n (see r m)) → IsAvailClear n (see r avail_after)) q
+      (λ _. avail_clear)
+      (λ r other before. let u = avail_wrote.other r other in stays AvailFlags UsedEvent u tt (u.avail tt) tt (before other))
 
-  used_across : IsAvailClear n (shown (areas q) (at q) m) → IsAvailClear n (shown (areas q) (at q) used_after)
-  used_across clear =
-      avail_kept n (flags_u ∷ UsedIdx ∷ event_u ∷ []) _ _
-      (three_own n areas at m laid q flags_u UsedIdx event_u refl tt refl refl refl refl)
-      (tt, (tt, (tt, tt))) (tt, (tt, (tt, tt))) (tt, (tt, (tt, tt))) clear
+  used_each : (r : Queue) → (same_queue q r ≡ false → IsUsedClear n (see r m)) → IsUsedClear n (see r used_after)
+  used_each = of_each (λ r. (same_queue q r ≡ false → IsUsedClear n (see r m)) → IsUsedClear n (see r used_after)) q (λ _. used_clear)
+      (λ r other before. let u = used_wrote.other r other in stays UsedFlags AvailEvent u tt (u.used tt) tt (before other))
 
-  avail_past : (r : Queue) → same_queue q r ≡ false → IsAvailClear n (shown (areas r) (at r) m)
-      → IsAvailClear n (shown (areas r) (at r) used_after)
-  avail_past r other clear = avail_kept n [] _ _ (used_other r other) tt tt tt clear
-
-  used_past : (r : Queue) → same_queue q r ≡ false → IsUsedClear n (shown (areas r) (at r) m)
-      → IsUsedClear n (shown (areas r) (at r) used_after)
-  used_past r other clear = used_kept n _ _ (used_other r other) clear
+  avail_stays : (r : Queue) → IsAvailClear n (see r m) → IsAvailClear n (see r used_after)
+  avail_stays = of_each (λ r. IsAvailClear n (see r m) → IsAvailClear n (see r used_after)) q
+      (λ clear. stays AvailFlags UsedEvent used_wrote.own (tt, (tt, (tt, tt))) (used_wrote.own.avail (tt, (tt, (tt, tt))))
+      (tt, (tt, (tt, tt))) clear)
+      (λ r other clear. let u = used_wrote.other r other in stays AvailFlags UsedEvent u tt (u.avail tt) tt clear)
 
 -- one queue with no page in flight
 empty_tie : (queue : Queue) (n at : ℕ) (s : Shown) → 0 < n → IsAvailClear n s → IsUsedClear n s
@@ -249,10 +162,10 @@ empty_tie queue n at s nonzero avail used = record {
   free = λ id some. omega (arith, under_all id 0 n some);
   pages = λ id some. absurd (omega (arith, some));
   staged_count = refl;
-  avail = avail.index;
+  avail = avail.index_is;
   published = refl;
   taken = refl;
-  used = used.index;
+  used = used.index_is;
   returned = refl;
   small = omega arith;
   place = sym (mod_small 0 n nonzero);
@@ -341,86 +254,40 @@ module _ (m : Memory) (base n at : ℕ) (indirect : Bool) (nonzero : 0 < n) (lim
       high_each Event = omega (arith, below_top)
 
       apart_areas : (q r : Queue) → same_queue q r ≡ false → ((areas q).end ≤ (areas r).desc) ⊎ ((areas r).end ≤ (areas q).desc)
-      apart_areas Rx Rx other = absurd (true≢false other)
-      apart_areas Rx Tx other = inl (omega arith)
-      apart_areas Rx Event other = inl (omega arith)
-      apart_areas Tx Rx other = inr (omega arith)
-      apart_areas Tx Tx other = absurd (true≢false other)
-      apart_areas Tx Event other = inl (omega arith)
-      apart_areas Event Rx other = inr (omega arith)
-      apart_areas Event Tx other = inr (omega arith)
-      apart_areas Event Event other = absurd (true≢false other)
+      apart_areas = of_pairs (λ q r. ((areas q).end ≤ (areas r).desc) ⊎ ((areas r).end ≤ (areas q).desc)) (inl (omega arith))
+          (inl (omega arith)) (inr (omega arith)) (inl (omega arith)) (inr (omega arith)) (inr (omega arith))
 
       apart_pages : (q r : Queue) → same_queue q r ≡ false → (start q + 4096 * n ≤ start r) ⊎ (start r + 4096 * n ≤ start q)
-      apart_pages Rx Rx other = absurd (true≢false other)
-      apart_pages Rx Tx other = inl (omega arith)
-      apart_pages Rx Event other = inl (omega arith)
-      apart_pages Tx Rx other = inr (omega arith)
-      apart_pages Tx Tx other = absurd (true≢false other)
-      apart_pages Tx Event other = inl (omega arith)
-      apart_pages Event Rx other = inr (omega arith)
-      apart_pages Event Tx other = inr (omega arith)
-      apart_pages Event Event other = absurd (true≢false other)
-
-  abbrev given_rx : Memory
-  given_rx = cleared_avail all.rx n m
-
-  abbrev given_tx : Memory
-  given_tx = cleared_avail all.tx n given_rx
-
-  abbrev given_all : Memory
-  given_all = cleared_avail all.event n given_tx
-
-  abbrev after_rx : Memory
-  after_rx = cleared_used all.rx n given_all
-
-  abbrev after_tx : Memory
-  after_tx = cleared_used all.tx n after_rx
+      apart_pages = of_pairs (λ q r. (start q + 4096 * n ≤ start r) ⊎ (start r + 4096 * n ≤ start q)) (inl (omega arith))
+          (inl (omega arith)) (inr (omega arith)) (inl (omega arith)) (inr (omega arith)) (inr (omega arith))
 
   abbrev after_all : Memory
-  after_all = cleared_used all.event n after_tx
+  after_all = cleared all n m
 
-  laid_given_rx : IsLaid n areas start given_rx
-  laid_given_rx = avail_laid n areas start m laid Rx
+  record IsCleared : Type 0 where
+    laid : IsLaid n areas start after_all
+    avail : (q : Queue) → IsAvailClear n (shown (areas q) (start q) after_all)
+    used : (q : Queue) → IsUsedClear n (shown (areas q) (start q) after_all)
 
-  laid_given_tx : IsLaid n areas start given_tx
-  laid_given_tx = avail_laid n areas start given_rx laid_given_rx Tx
-
-  laid_given : IsLaid n areas start given_all
-  laid_given = avail_laid n areas start given_tx laid_given_tx Event
-
-  laid_rx : IsLaid n areas start after_rx
-  laid_rx = used_laid n areas start given_all laid_given Rx
-
-  laid_tx : IsLaid n areas start after_tx
-  laid_tx = used_laid n areas start after_rx laid_rx Tx
-
-  laid_all : IsLaid n areas start after_all
-  laid_all = used_laid n areas start after_tx laid_tx Event
-
-  avail : (q : Queue) → IsAvailClear n (shown (areas q) (start q) after_all)
-  avail Rx =
-      avail_past n areas start after_tx laid_tx Event Rx refl
-      (avail_past n areas start after_rx laid_rx Tx Rx refl
-      (used_across n areas start given_all laid_given Rx
-      (avail_beside n areas start given_tx laid_given_tx Event Rx refl
-      (avail_beside n areas start given_rx laid_given_rx Tx Rx refl (avail_clear n areas start m laid Rx)))))
-  avail Tx =
-      avail_past n areas start after_tx laid_tx Event Tx refl
-      (used_across n areas start after_rx laid_rx Tx
-      (avail_past n areas start given_all laid_given Rx Tx refl
-      (avail_beside n areas start given_tx laid_given_tx Event Tx refl (avail_clear n areas start given_rx laid_given_rx Tx))))
-  avail Event =
-      used_across n areas start after_tx laid_tx Event
-      (avail_past n areas start after_rx laid_rx Tx Event refl
-      (avail_past n areas start given_all laid_given Rx Event refl (avail_clear n areas start given_tx laid_given_tx Event)))
-
-  used : (q : Queue) → IsUsedClear n (shown (areas q) (start q) after_all)
-  used Rx =
-      used_past n areas start after_tx laid_tx Event Rx refl
-      (used_past n areas start after_rx laid_rx Tx Rx refl (used_clear n areas start given_all laid_given Rx))
-  used Tx = used_past n areas start after_tx laid_tx Event Tx refl (used_clear n areas start after_rx laid_rx Tx)
-  used Event = used_clear n areas start after_tx laid_tx Event
+  clear : IsCleared
+  clear =
+      let a1 = avail_wrote laid still Rx in
+      let a2 = avail_wrote a1.laid still Tx in
+      let a3 = avail_wrote a2.laid still Event in
+      let u1 = used_wrote a3.laid still Rx in
+      let u2 = used_wrote u1.laid still Tx in record {
+        laid = (used_wrote u2.laid still Event).laid;
+        avail = λ q. avail_stays u2.laid still Event q (avail_stays u1.laid still Tx q (avail_stays a3.laid still Rx q
+            (avail_each a2.laid still Event q (λ e. avail_each a1.laid still Tx q (λ t. avail_each laid still Rx q (λ r.
+            absurd (none q r t e)))))));
+        used = λ q. used_each u2.laid still Event q (λ e. used_each u1.laid still Tx q (λ t. used_each a3.laid still Rx q (λ r.
+            absurd (none q r t e))));
+      }
+    where
+      none : (q : Queue) → same_queue Rx q ≡ false → same_queue Tx q ≡ false → same_queue Event q ≡ false → ⊥
+      none Rx r t e = true≢false r
+      none Tx r t e = true≢false t
+      none Event r t e = true≢false e
 
   abbrev made : PartsState
   made = record {
@@ -448,7 +315,7 @@ module _ (m : Memory) (base n at : ℕ) (indirect : Bool) (nonzero : 0 < n) (lim
   made_tied : AreTied made (empty_ends n)
   made_tied = record {
     still = still;
-    laid = laid_from n areas start (start_of made) after_all same_start laid_all;
+    laid = laid_same n areas start (start_of made) after_all after_all same_start refl refl clear.laid;
     there = there;
     sizes = sizes;
     size = refl;
@@ -469,24 +336,14 @@ module _ (m : Memory) (base n at : ℕ) (indirect : Bool) (nonzero : 0 < n) (lim
       sizes Event = refl
 
       queues : (q : Queue) → IsTiedAt made (empty_ends n) q
-      queues Rx = ([], [], empty_tie Rx n at (shown all.rx at after_all) nonzero (avail Rx) (used Rx))
-      queues Tx = ([], [], empty_tie Tx n (at + 4096 * n) (shown all.tx (at + 4096 * n) after_all) nonzero (avail Tx) (used Tx))
-      queues Event = (
-        [],
-        [],
-        empty_tie Event n (at + 2 * (4096 * n)) (shown all.event (at + 2 * (4096 * n)) after_all) nonzero (avail
-            Event) (used Event),
-      )
+      queues Rx = ([], [], empty_tie Rx n at (shown all.rx at after_all) nonzero (clear.avail Rx) (clear.used Rx))
+      queues Tx = ([], [], empty_tie Tx n (at + 4096 * n) (shown all.tx (at + 4096 * n) after_all) nonzero (clear.avail Tx) (clear.used Tx))
+      queues Event =
+          let start = at + 2 * (4096 * n) in
+          ([], [], empty_tie Event n start (shown all.event start after_all) nonzero (clear.avail Event) (clear.used Event))
 
   pub new_tied : AreTied (new_parts m base n indirect 3) (empty_ends n)
   new_tied = subst (λ (p : PartsState). AreTied p (empty_ends n)) (sym made_is) made_tied
-
-no_changes : (changes : List Change) → (length changes == 0) ≡ true → changes ≡ []
-no_changes [] e = refl
-no_changes (x ∷ changes) e = absurd (false_is_not_true e)
-  where
-    false_is_not_true : (length (x ∷ changes) == 0) ≡ true → ⊥
-    false_is_not_true e = grind (arith, nat_tests, e)
 
 -- they are tied where they alone change the memory
 pub told_new : (m : Memory) (base n : ℕ) (indirect : Bool) → 0 < n → n ≤ 32768 → m.base + length m.bytes < 2 ^ 64 → m.base ≤ base
@@ -501,4 +358,5 @@ told_new m base n indirect nonzero limit fits from =
     by true still None pages c divides = tt
     by true still (Some at) pages false divides = tt
     by true still (Some at) pages true divides =
-        new_tied m base n at indirect nonzero limit (grind (arith, nat_tests, divides)) (no_changes m.changes still) fits from pages
+        new_tied m base n at indirect nonzero limit (grind (arith, nat_tests, divides))
+        (nil_from_length m.changes (grind (arith, nat_tests, still))) fits from pages

@@ -8,41 +8,32 @@ use Rattle.vs_layout.specs.declared.entry.Desc.{Desc}
 use Rattle.vs_ring_port.specs.{Chains.Held, Chains.same_queue, Contents.Take, DeviceCalls.IsTakenWhole, DriverCalls.HoldsPacket}
 use Rattle.vs_ring_port.specs.declared.{device_ring.Chain.Chain, device_ring.Next.Next, queue.Queue.Queue}
 use Rattle.vs_ring_port.specs.{EndLog.entries_taken, EndLog.pages_at, Lists.Lists, Lists.chain_with, Lists.next_at, Lists.next_given}
-use Rattle.vs_ring_port.specs.{Lists.queue_of, Lists.to_read, declared.queue.Queue.TheVariants.Rx, declared.queue.Queue.TheVariants.Tx}
-use Rattle.vs_ring_port.specs.declared.queue.Queue.TheVariants.{Event}
+use Rattle.vs_ring_port.specs.{Lists.queue_of, Lists.to_read, Lists.with_queue, declared.queue.Queue.TheVariants.Rx}
+use Rattle.vs_ring_port.specs.declared.queue.Queue.TheVariants.{Tx, Event}
 use Rattle.vs_ring_list.specs.Ends.{Ends}
 use Rattle.vs_ring_list.proofs.Ties.{tied-take}
 use Rattle.vs_ring_plain.specs.{Still.IsGiven, declared.piece.Piece.Piece, declared.turns.Turns.Turns, Chain.Taken, Chain.ahead, Chain.has}
 use Rattle.vs_ring_plain.specs.{Chain.piece_of, Chain.too_small, Chain.total_len, Chain.wrong_way, Device.DeviceState, Device.HeldChain}
-use Rattle.vs_ring_plain.specs.Device.{answer_found, answer_taken, answer_to, chain_at, is_busy, ring_at, turns_at, with_memory}
+use Rattle.vs_ring_plain.specs.Device.{answer_found, answer_taken, answer_to, chain_at, is_busy, ring_at, turns_at, with_memory, with_turns}
 use Rattle.vs_ring_plain.proofs.Still.{none_still, taken_still}
 use Rattle.vs_plain_driver.specs.Queue.{desc_for}
 use Rattle.laws_plain_rings.specs.{Calls.after_device, Parts.PartsState, Parts.driver_at, Queue.IsOut, Queue.IsQueueTied, Shown.Shown}
 use Rattle.laws_plain_rings.specs.{Shown.shown, Tie.AreTied, Tie.IsHeldAs, Tie.areas_of, Tie.heads_of, Tie.shown_of, Tie.start_of}
 use Rattle.laws_plain_rings.proofs.{QueueReturns.given_row, QueueReturns.id_held, QueueReturns.tie_taken, QueueSteps.out_count}
-use Rattle.laws_plain_rings.proofs.{Queues.turned, Held.all_whole, Held.count_heads, Held.heads_here, Spots.untouched_same, Quiet.IsQuietly}
-use Rattle.laws_plain_rings.proofs.Quiet.{held_seen, quiet_step, quietly_after, quietly_now, seen}
-use Rattle.laws_plain_rings.proofs.Assemble.{device_ends, device_form, device_step}
+use Rattle.laws_plain_rings.proofs.{QueueSteps.tie_same, Queues.turned, Held.all_whole, Held.count_heads, Held.heads_here, Quiet.quiet_step}
+use Rattle.laws_plain_rings.proofs.{Quiet.seen, Spots.Wrote, Spots.quietly_wrote, Spots.quietly_now, Spots.quietly_after, Spots.IsQuietly}
+use Rattle.laws_plain_rings.proofs.Assemble.{step, held_after, parts_form, ends_form, device_form_is}
 use Rattle.vs_ring_port.specs.declared.device_ring.Next.TheVariants as next
 
 pub chosen : {A : Type 0} (b : Bool) (x y : A) → b ≡ false → cond b x y ≡ y
 chosen b x y off = rw off refl
 
 -- the descriptor of a page breaks no rule
-direct : (q : Queue) (at len : ℕ) → has (desc_for q at len) 4 ≡ false
-direct Rx at len = refl
-direct Tx at len = refl
-direct Event at len = refl
-
-last : (q : Queue) (at len : ℕ) → has (desc_for q at len) 1 ≡ false
-last Rx at len = refl
-last Tx at len = refl
-last Event at len = refl
-
-way : (q : Queue) (id at len : ℕ) → (wrong_way q id (desc_for q at len)).0 ≡ false
-way Rx id at len = refl
-way Tx id at len = refl
-way Event id at len = refl
+rules : (q : Queue) (id at len : ℕ) → (has (desc_for q at len) 4 ≡ false) × (has (desc_for q at len) 1 ≡ false)
+    × ((wrong_way q id (desc_for q at len)).0 ≡ false)
+rules Rx id at len = (refl, refl, refl)
+rules Tx id at len = (refl, refl, refl)
+rules Event id at len = (refl, refl, refl)
 
 long : (q : Queue) (at : ℕ) (page : List ℕ) → (q ≡ Tx → 44 ≤ length page) → (too_small q (total_len (piece_of (desc_for q at (length
     page)) ∷ []))).0 ≡ false
@@ -70,28 +61,18 @@ piece_is Rx place at page = refl
 piece_is Tx place at page = ap (λ (k : ℕ). let x : Piece = record { addr = at; len = k } in x) (omega arith)
 piece_is Event place at page = refl
 
-room : (q : Queue) (place at : ℕ) (page : List ℕ) → length page ≤ 4096
-    → let c = chain_at q place (piece_of (desc_for q at (length page)) ∷ []) in c.readable + c.writable ≤ 4096
-room Rx place at page fits = omega arith
-room Tx place at page fits = omega (arith, fits)
-room Event place at page fits = omega arith
-
-readable : (q : Queue) (place at : ℕ) (page : List ℕ)
-    → (chain_at q place (piece_of (desc_for q at (length page)) ∷ [])).readable ≤ length (to_read q page)
-readable Rx place at page = omega arith
-readable Tx place at page = omega arith
-readable Event place at page = omega arith
+fits_chain : (q : Queue) (place at : ℕ) (page : List ℕ) → length page ≤ 4096
+    → let c = chain_at q place (piece_of (desc_for q at (length page)) ∷ []) in
+    (c.readable + c.writable ≤ 4096) × (c.readable ≤ length (to_read q page)) × (length (to_read q page) ≤ 4096)
+fits_chain Rx place at page fits = (omega arith, omega arith, omega arith)
+fits_chain Tx place at page fits = (omega (arith, fits), omega arith, fits)
+fits_chain Event place at page fits = (omega arith, omega arith, omega arith)
 
 taken_whole : (q : Queue) (place : ℕ) (page : List ℕ) → (q ≡ Tx → HoldsPacket page)
     → IsTakenWhole q (next_at q place (Some page)) (Some page)
 taken_whole Rx place page holds = tt
 taken_whole Tx place page holds = holds refl
 taken_whole Event place page holds = tt
-
-read_fits : (q : Queue) (page : List ℕ) → length page ≤ 4096 → length (to_read q page) ≤ 4096
-read_fits Rx page fits = omega arith
-read_fits Tx page fits = fits
-read_fits Event page fits = omega arith
 
 read_bytes : (q : Queue) (s : Shown) (id : ℕ) (page : List ℕ) → s.page id (length page) ≡ page → s.page id 0 ≡ []
     → s.page id (length (to_read q page)) ≡ to_read q page
@@ -133,31 +114,16 @@ module _ (p : PartsState) (w : Ends) (tied : AreTied p w) (queue : Queue) where
 
   -- none was given
   module _ (none : l.given ≡ []) where
+    abbrev with_given : Queue → List (List ℕ) → Ends
+    with_given r given = record w { lists = with_queue r (record (queue_of r w.lists) { given = given }) w.lists }
+
     none_ends : after_device (Take queue) w ≡ w
     none_ends = same queue none
       where
         same : (r : Queue) → (queue_of r w.lists).given ≡ [] → after_device (Take r) w ≡ w
-        same Rx e = subst (λ (b : List (List ℕ)). let v : Ends = record w {
-          lists = record w.lists {
-            rx = record w.lists.rx {
-              given = b;
-            };
-          };
-        } in after_device (Take Rx) v ≡ v) (sym e) refl
-        same Tx e = subst (λ (b : List (List ℕ)). let v : Ends = record w {
-          lists = record w.lists {
-            tx = record w.lists.tx {
-              given = b;
-            };
-          };
-        } in after_device (Take Tx) v ≡ v) (sym e) refl
-        same Event e = subst (λ (b : List (List ℕ)). let v : Ends = record w {
-          lists = record w.lists {
-            event = record w.lists.event {
-              given = b;
-            };
-          };
-        } in after_device (Take Event) v ≡ v) (sym e) refl
+        same Rx e = subst (λ (b : List (List ℕ)). after_device (Take Rx) (with_given Rx b) ≡ with_given Rx b) (sym e) refl
+        same Tx e = subst (λ (b : List (List ℕ)). after_device (Take Tx) (with_given Tx b) ≡ with_given Tx b) (sym e) refl
+        same Event e = subst (λ (b : List (List ℕ)). after_device (Take Event) (with_given Event b) ≡ with_given Event b) (sym e) refl
 
     none_next : next_at queue l.place (next_given queue w.lists) ≡ next.None
     none_next = rw none refl
@@ -193,19 +159,13 @@ module _ (p : PartsState) (w : Ends) (tied : AreTied p w) (queue : Queue) where
       e = desc_for queue P (length page)
 
       first : IsOut queue (start_of p queue) s (t.taken % n) page id
-      first = (given_row queue n (start_of p queue) tied.laid.nonzero tied.laid.limit tied.laid.divides s (driver_at queue p) t
-          (heads_of queue d.held)
-          (pages_at queue w.driver.staged) l page pages id ids back given_is tie).0
+      first = (given_row tied.laid.nonzero tied.laid.divides given_is tie).0
 
       below : id < n
-      below = (id_held queue n (start_of p queue) tied.laid.nonzero tied.laid.limit tied.laid.divides s (driver_at queue p) t (heads_of
-          queue d.held)
-          (pages_at queue w.driver.staged) l page pages id ids back given_is tie).0
+      below = (id_held tied.laid.nonzero tied.laid.divides given_is tie).0
 
       counts : length (id ∷ ids) ≡ length l.given + length (pages_at queue w.driver.staged)
-      counts = out_count queue n (start_of p queue) tied.laid.nonzero tied.laid.limit tied.laid.divides s (driver_at queue p) t
-          (heads_of queue d.held)
-          (pages_at queue w.driver.staged) l (id ∷ ids) back tie
+      counts = out_count tie
 
       idle : is_busy queue n d.held ≡ false
       idle = busy_by false (grind (arith, nat_tests, less))
@@ -223,9 +183,9 @@ module _ (p : PartsState) (w : Ends) (tied : AreTied p w) (queue : Queue) where
         entry = first.entry;
         within = below;
         desc = first.desc;
-        direct = direct queue P (length page);
-        last = last queue P (length page);
-        way = way queue id P (length page);
+        direct = (rules queue id P (length page)).0;
+        last = (rules queue id P (length page)).1;
+        way = (rules queue id P (length page)).2;
         inside = inside queue d.memory.base (length d.memory.bytes) P (length page) low_P high_P first.fits;
         long = long queue P page first.header;
       }
@@ -243,6 +203,9 @@ module _ (p : PartsState) (w : Ends) (tied : AreTied p w) (queue : Queue) where
       quietly : IsQuietly d.memory after
       quietly = quietly_after d.memory _ (quietly_after d.memory _ (quietly_after d.memory d.memory (quietly_now d.memory tied.still)))
 
+      unchanged : Wrote n (areas_of p) (start_of p) queue [] d.memory after
+      unchanged = quietly_wrote tied.laid queue [] quietly
+
       abbrev hold : HeldChain
       hold = record { chain = chain_at queue (t.taken % n) (piece_of e ∷ []); head = id; pieces = piece_of e ∷ [] }
 
@@ -252,7 +215,10 @@ module _ (p : PartsState) (w : Ends) (tied : AreTied p w) (queue : Queue) where
       abbrev then_turns : Turns
       then_turns = record t { taken = (t.taken + 1) % 2 ^ 16 }
 
-      answer_is : answer_to (Take queue) d ≡ (next.Chain hold.chain, (device_form queue after then_turns (hold ∷ d.held) p).device)
+      abbrev then_device : DeviceState
+      then_device = record d { memory = after; turns = with_turns queue then_turns d.turns; held = hold ∷ d.held }
+
+      answer_is : answer_to (Take queue) d ≡ (next.Chain hold.chain, then_device)
       answer_is =
           chosen (is_busy queue n d.held) (next.None, d) (answer_found queue d) idle
           ∙ ap (λ (x : Taken × Memory). answer_taken queue x.0 (with_memory d x.1)) (taken_still (ring_at queue d) t.taken id e
@@ -262,7 +228,8 @@ module _ (p : PartsState) (w : Ends) (tied : AreTied p w) (queue : Queue) where
       hold_chain = chain_is queue (t.taken % n) P page ∙ ap (λ (k : ℕ). chain_with queue k page) (sym tie.place)
 
       ends_is : (r : Queue) → (queue_of r w.lists).given ≡ page ∷ pages → after_device (Take r) w
-          ≡ device_ends r (record (queue_of r w.lists) { given = pages; place = ((queue_of r w.lists).place + 1) % w.lists.size })
+          ≡ ends_form r (pages_at r w.driver.staged)
+          (record (queue_of r w.lists) { given = pages; place = ((queue_of r w.lists).place + 1) % w.lists.size }) w.driver.entries
           (entries_taken r page w.device.entries)
           (record { chain = chain_with r (queue_of r w.lists).place page; bytes = to_read r page } ∷ w.device.held) w
       ends_is Rx e = rw e refl
@@ -275,38 +242,37 @@ module _ (p : PartsState) (w : Ends) (tied : AreTied p w) (queue : Queue) where
         pieces = ap (λ (x : Piece). x ∷ []) (piece_is queue (t.taken % n) P page);
         bytes = ap (λ (x : Shown). x.page id (length (to_read queue page))) (seen p w tied after quietly queue)
             ∙ read_bytes queue s id page first.bytes refl;
-        fits = read_fits queue page first.fits;
-        room = room queue (t.taken % n) P page first.fits;
-        readable = readable queue (t.taken % n) P page;
+        fits = (fits_chain queue (t.taken % n) P page first.fits).2;
+        room = (fits_chain queue (t.taken % n) P page first.fits).0;
+        readable = (fits_chain queue (t.taken % n) P page first.fits).1;
       }
 
       heads_beside : (r : Queue) → same_queue queue r ≡ false → heads_of r (hold ∷ d.held) ≡ heads_of r d.held
       heads_beside r other = chosen (same_queue r queue) (id ∷ heads_of r d.held) (heads_of r d.held) (turned queue r other)
 
+      abbrev then_lists : ℕ → Lists
+      then_lists k = record l { given = pages; place = (l.place + 1) % k }
+
+      tie_then : IsQueueTied queue n (start_of p queue) (shown (areas_of p queue) (start_of p queue) after) (driver_at queue p) then_turns
+          (heads_of queue (hold ∷ d.held)) (pages_at queue w.driver.staged) (then_lists w.lists.size) ids back
+      tie_then =
+          tie_same (subst (λ (hs : List ℕ). IsQueueTied queue n (start_of p queue) s (driver_at queue p) then_turns hs
+          (pages_at queue w.driver.staged) (then_lists w.lists.size) ids back) (sym (heads_here hold d.held))
+          (subst (λ (k : ℕ). IsQueueTied queue n (start_of p queue) s (driver_at queue p) then_turns (id ∷ heads_of queue d.held)
+          (pages_at queue w.driver.staged) (then_lists k) ids back) (sym tied.size)
+          (tie_taken tied.laid.nonzero tied.laid.divides given_is tie))) tied.laid.nonzero tied.laid.divides _ unchanged.own
+
       some_tied : AreTied (record p { device = (answer_to (Take queue) d).1 }) (after_device (Take queue) w)
       some_tied =
           subst (λ (x : Next × DeviceState). AreTied (record p { device = x.1 }) (after_device (Take queue) w)) (sym answer_is)
-          (subst (λ (x : Ends). AreTied (device_form queue after then_turns (hold ∷ d.held) p) x) (sym (ends_is queue given_is))
-          (device_step p w tied queue after then_turns (hold ∷ d.held) (record l { given = pages; place = (l.place + 1) % w.lists.size })
-          (entries_taken queue page w.device.entries) (held_entry ∷ w.device.held) quietly.still quietly.base (ap length quietly.bytes) (
-            ids,
-            back,
-            subst (λ (x : Shown). IsQueueTied queue n (start_of p queue) x (driver_at queue p) then_turns (heads_of queue (hold ∷ d.held))
-                (pages_at queue w.driver.staged) (record l { given = pages; place = (l.place + 1) % w.lists.size }) ids back)
-                (sym (seen p w tied after quietly queue))
-                (subst (λ (hs : List ℕ). IsQueueTied queue n (start_of p queue) s (driver_at queue p) then_turns hs
-                (pages_at queue w.driver.staged) (record l { given = pages; place = (l.place + 1) % w.lists.size }) ids back)
-                (sym (heads_here hold d.held))
-                (subst (λ (k : ℕ). IsQueueTied queue n (start_of p queue) s (driver_at queue p) then_turns (id ∷ heads_of queue d.held)
-                (pages_at queue w.driver.staged) (record l { given = pages; place = (l.place + 1) % k }) ids back)
-                (sym tied.size)
-                (tie_taken queue n (start_of p queue) tied.laid.nonzero tied.laid.limit tied.laid.divides s (driver_at queue p) t
-                (heads_of queue d.held)
-                (pages_at queue w.driver.staged) l page pages id ids back given_is tie))),
-          )
-          (λ r other. untouched_same n (shown_of p r) _ (seen p w tied after quietly r)) heads_beside
-          (one_held, held_seen p w tied after quietly)
-          (tied-take w.lists w.driver.entries w.device.entries tied.logs queue page pages ((l.place + 1) % w.lists.size) given_is)))
+          (subst (λ (x : PartsState). AreTied x (after_device (Take queue) w))
+          (sym (device_form_is queue after then_turns (hold ∷ d.held) p))
+          (subst (λ (x : Ends). AreTied (parts_form queue (driver_at queue p) after then_turns (hold ∷ d.held) p) x)
+          (sym (ends_is queue given_is))
+          (step p w tied queue (driver_at queue p) after then_turns (hold ∷ d.held) (pages_at queue w.driver.staged)
+          (then_lists w.lists.size) w.driver.entries (entries_taken queue page w.device.entries) (held_entry ∷ w.device.held) refl refl
+          unchanged (ids, back, tie_then) heads_beside (one_held, held_after p w tied queue [] after unchanged (λ j some. tt))
+          (tied-take w.lists w.driver.entries w.device.entries tied.logs queue page pages ((l.place + 1) % w.lists.size) given_is))))
 
       some_taken : Takes
       some_taken = record {
@@ -321,11 +287,5 @@ module _ (p : PartsState) (w : Ends) (tied : AreTied p w) (queue : Queue) where
       by : (given : List (List ℕ)) → l.given ≡ given → (out back : List ℕ) → IsQueueTied queue n (start_of p queue) s (driver_at queue p) t
           (heads_of queue d.held) (pages_at queue w.driver.staged) l out back → Takes
       by [] none out back tie = none_taken none
-      by (page ∷ pages) given_is [] back tie =
-          absurd (omega (
-            arith,
-            ap length given_is,
-            out_count queue n (start_of p queue) tied.laid.nonzero tied.laid.limit tied.laid.divides s
-                (driver_at queue p) t (heads_of queue d.held) (pages_at queue w.driver.staged) l [] back tie,
-          ))
+      by (page ∷ pages) given_is [] back tie = absurd (omega (arith, ap length given_is, out_count tie))
       by (page ∷ pages) given_is (id ∷ ids) back tie = some_taken page pages given_is id ids back tie

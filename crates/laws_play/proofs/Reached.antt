@@ -2,13 +2,13 @@
 use Rattle.vs_flow.specs.{Connection.first_of, declared.flow.Flow.Flow}
 use Rattle.std.proofs.lemmas.{List.length-map, Bool.and_parts, List.Elements.All-map, List.Elements.Contains-get_or}
 use Rattle.std.proofs.{lemmas.List.Kept.AllPairs-cons, Common.[], Common.ap, Common.Bool, Common.false, Common.get_or, Common.length}
-use Rattle.std.proofs.Common.{List, not, refl, subst, suc, sym, true, ℕ, ◌&&◌, ◌++◌, ◌∷◌, ◌≡◌, ◌≢◌, ◌∙◌, arith}
+use Rattle.std.proofs.Common.{List, not, refl, subst, suc, sym, true, ℕ, ◌&&◌, ◌||◌, ◌++◌, ◌∷◌, ◌≡◌, ◌≢◌, ◌∙◌, arith}
 use Rattle.std.specs.List.{AllPairs}
 use Rattle.laws_history.specs.History.{History, IsFair, MayPut, Put, Side, gots, puts}
 use Rattle.laws_history.specs.declared.packet.Packet.{Packet}
-use Rattle.laws_tables.specs.{Ends.FlowEnd, Ends.begun_flows, Ends.flows_of, Ends.is_among, Ends.replied, Matches.Matches}
+use Rattle.laws_tables.specs.{Ends.FlowEnd, Ends.flows_of, Ends.is_among, Ends.replied, Matches.Matches}
 use Rattle.laws_tables.specs.Matches.{MatchesFlows}
-use Rattle.laws_tables.proofs.{Fair.fair_now, Tables.all_open, Tables.driver_open, Tables.table_distinct, Tables.table_open}
+use Rattle.laws_tables.proofs.{Fair.fair_now, Tables.driver_open, Tables.table_distinct}
 use Rattle.vs_page.specs.{Fair.IsFairLog, Fair.IsPrefixOf, Fair.payload_got, Fair.payload_put, Log.Device, Log.Driver, Log.HasGotAll}
 use Rattle.vs_page.specs.{Log.Log, Log.Role, Log.side_of, Open.WasOpened, Open.is_left_open, Open.is_open}
 use Rattle.vs_page.proofs.Opened.{was_opened}
@@ -20,7 +20,9 @@ use Rattle.laws_driver_bytes.specs.Calls.{received_on, sent_on}
 use Rattle.laws_world.proofs.{Bytes.read_own, Bytes.wrote_own, Sound.IsWell, Carried.given_is, Carried.gone_of, Carried.one_stream}
 use Rattle.laws_world.proofs.Carried.{pending_of, received_is, sent_is, to_device, to_driver, to_guest, to_host, unread_of, wrote_is}
 use Rattle.laws_play.specs.Headline.{Carries, HasOwnStreams, HoldsOpen, HoldsTheRest, IsQueued, KeepsCredit, PutsWithinCredit, device_flows}
-use Rattle.laws_play.specs.Headline.{device_log, driver_log, guest_flows}
+use Rattle.laws_world.proofs.Waiting.{at_device, streams_among}
+use Rattle.laws_play.specs.Headline.{device_log, device_replies, driver_log, guest_flows}
+use Rattle.laws_device.specs.Streams.{is_waiting_for_request}
 use Rattle.vs_ring_port.specs.EndLog.{all_put as with_pages}
 
 -- No transmit page is staged.
@@ -115,9 +117,9 @@ module _ {fresh : Type 0} (w : World) (well : IsWell fresh w) (yes : fresh) (res
       (replied (driver_ends w.driver).replies))
   open_at_guest f = driver_open first_cid (driver_ends w.driver) (driver_log w) f driver_matches
 
-  begun_at_device : (f : Flow) → is_among f (begun_flows (device_ends w.proxy).entries)
-      ≡ is_open Device first_cid f (device_log w) (is_among f (replied (device_ends w.proxy).replies))
-  begun_at_device f = table_open Device first_cid (device_ends w.proxy) (device_log w) f device_matches
+  left_of : (a b : Bool) → (a || b) ≡ true → b ≡ false → a ≡ true
+  left_of true b is none = refl
+  left_of false b is none = let both : true ≡ false = sym is ∙ none in absurd cc
 
   pub holds_open : HoldsOpen w
   holds_open = record {
@@ -129,10 +131,13 @@ module _ {fresh : Type 0} (w : World) (well : IsWell fresh w) (yes : fresh) (res
     device = record {
       distinct = flows_apart (device_ends w.proxy).entries (table_distinct Device first_cid (device_ends w.proxy)
           (device_log w) device_matches);
-      these = λ f. all_open Device first_cid (device_ends w.proxy) (device_log w) f device_matches;
+      these = at_device w well yes;
     };
+    streams = streams_among w well yes;
     guest_since = λ f there. opened_by Driver first_cid f (driver_log w) _ (sym (open_at_guest f) ∙ there);
-    device_since = λ f there. opened_by Device first_cid f (device_log w) _ (sym (begun_at_device f) ∙ there);
+    device_since = λ f there begun. opened_by Device first_cid f (device_log w) (is_among f (device_replies w))
+        (left_of (is_open Device first_cid f (device_log w) (is_among f (device_replies w))) (is_waiting_for_request f w.host (device_log w))
+        (sym (at_device w well yes f) ∙ there) begun);
     marks = at_rest MarksResets well.marks;
   }
 

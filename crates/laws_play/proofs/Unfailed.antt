@@ -21,9 +21,9 @@ use Rattle.laws_world.specs.{Answers.Around, Answers.answer_around, Events.is_at
 use Rattle.laws_world.specs.Plays.{Line, Guest, Poll, TurnAt, ResetTo, Client, HostListen, HostUnlisten, HostWrite, HostAllow, HostEnd}
 use Rattle.laws_world.specs.Plays.{HostClosed, HostFail, AreRight, after, line, reset_line, turn_line}
 use Rattle.laws_world.specs.World.{World, around}
-use Rattle.laws_world.proofs.{FillStage.fill_stage_does, Opening.run_goes, PumpStage.pump_stage_does}
-use Rattle.laws_world.proofs.{ScriptLines.line_leads, ScriptLines.line_rests, Sound.IsWell}
-use Rattle.laws_world.proofs.{TickStage.shake_does, TickStage.tick_stage_does, TickStage.turning_at, ResetTables.all_ends}
+use Rattle.laws_world.proofs.{FillStage.fill_stage_does, Opening.run_goes, PumpStage.pump_stage_does, ScriptLines.line_leads}
+use Rattle.laws_world.proofs.{ScriptLines.line_rests, Sound.IsWell, TickStage.shake_does, TickStage.tick_stage_does, TickStage.turning_at}
+use Rattle.laws_world.proofs.{ResetTables.all_ends}
 use Rattle.laws_world.proofs.DeviceLeads.{Does, EndsFine, device_bind, ends_played, plays, with_proxy}
 use Rattle.laws_world.proofs.TakeStage.{counts, event_stage_does, take_goes, take_stage_leads}
 use Rattle.laws_device.proofs.{Transmitting.header_is, Ringing.same_self}

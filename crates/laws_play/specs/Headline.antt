@@ -10,7 +10,8 @@ use Rattle.vs_page.specs.{Log.Device, Log.Driver, Log.HasGotAll, Log.Log, Log.Ro
 use Rattle.vs_page.specs.Fair.{IsFairLog, IsPrefixOf, payload_got, payload_put}
 use Rattle.vs_driver_parts.specs.State.{DriverEntry}
 use Rattle.vs_device_parts.specs.{State.DeviceEntry, Turns.counters_of}
-use Rattle.laws_tables.specs.Ends.{begun_flows, flows_of, is_among, new_flows, replied}
+use Rattle.laws_device.specs.Streams.{has_open_stream, is_waiting_for_request}
+use Rattle.laws_tables.specs.Ends.{flows_of, is_among, replied}
 use Rattle.vs_outside.specs.{HostBytes.host_read, HostBytes.host_wrote, HostBytes.read_after_ok, HostBytes.wrote_after_connect, Host.Stream}
 use Rattle.vs_outside.specs.Host.{stream_at}
 use Rattle.laws_bytes.specs.Drains.{Drains, receives}
@@ -114,14 +115,16 @@ pub record AreJust (test : Flow → Bool) (flows : List Flow) : Type 0 where
   pub these : (f : Flow) → is_among f flows ≡ test f
 
 -- Each table holds just the connections that its end's log left open. The device's has those of the host's clients too whose REQUEST isn't
--- put yet.
+-- put yet: those flows that an open stream has as its label and on which the log began no connection.
 pub record HoldsOpen (w : World) : Type 0 where
   pub guest : AreJust (λ f. is_open Driver first_cid f (driver_log w) (is_among f (guest_replies w))) (guest_flows w)
   pub device : AreJust (λ f. is_open Device first_cid f (device_log w) (is_among f (device_replies w))
-      || is_among f (new_flows (device_ends w.proxy).entries)) (device_flows w)
+      || is_waiting_for_request f w.host (device_log w)) (device_flows w)
+  -- No stream with a label stays open without a connection.
+  pub streams : (f : Flow) → has_open_stream f w.host ≡ true → is_among f (device_flows w) ≡ true
   -- None is from before a transport reset: each was opened by an entry of the log after which stands no reset, and no RST of its flow.
   pub guest_since : (f : Flow) → is_among f (guest_flows w) ≡ true → WasOpened Driver first_cid f (driver_log w)
-  pub device_since : (f : Flow) → is_among f (begun_flows (device_ends w.proxy).entries) ≡ true
+  pub device_since : (f : Flow) → is_among f (device_flows w) ≡ true → is_waiting_for_request f w.host (device_log w) ≡ false
       → WasOpened Device first_cid f (device_log w)
   -- The guest's log has a reset right behind each event that told of one, and no other.
   pub marks : MarksResets (driver_log w)

@@ -2,7 +2,7 @@
 use Rattle.std.proofs.Common.{inl, ◌≡◌, ℕ, ◌+◌, ◌<◌, ◌≤◌, ◌^◌, nat_lt, Bool, true, false, cond, if◌then◌else◌, List, ◌++◌, length, Option}
 use Rattle.std.proofs.Common.{Some, None, refl, sym, ap, subst, arith, ◌≢◌, ◌==◌, ◌∙◌, ◌∷◌, []}
 use Rattle.std.proofs.lemmas.Bool.Decides.{nat_tests}
-use Rattle.vs_contents.specs.CallTree.{Done, Ask, bind, for_each}
+use Rattle.vs_contents.specs.{CallTree.Done, CallTree.Ask, CallTree.bind, CallTree.for_each, Contents.Exposes}
 use Rattle.vs_flow.specs.{Flow.host_flow, Flow.is_assigned, Table.Table, declared.flow.Flow.Flow}
 use Rattle.vs_limits.specs.declared.TheConstants.{ASSIGNED_LAST, HANDSHAKES, ASSIGNED_FIRST}
 use Rattle.vs_outside.specs.{declared.host_net.Accepted.Accepted, declared.host_net.StreamRead.StreamRead, Host.HostContents}
@@ -13,7 +13,7 @@ use Rattle.vs_uds.specs.{ConnectLine.connect_step, declared.connect.TheConstants
 use Rattle.vs_device_parts.specs.Calls.{Accept, DeviceTree, ReadStream, Allows, HostMoves, IsReadOf, Situation}
 use Rattle.vs_device_parts.specs.{Connections.is_late, Connections.with_client, State.DeviceState, State.DeviceConnection, Turns.open_of}
 use Rattle.laws_device.proofs.{Keeping.Goes, Keeping.Keeps, Keeping.keeps_each, Keeping.keeps_then, Keeping.keeps_while, Turning.open_keeps}
-use Rattle.laws_device.proofs.Carrying.{Fact, IsHeldBy, IsToldBy, StreamedOver, With, closed_over, streams_call, streams_go}
+use Rattle.laws_device.proofs.Carrying.{Fact, IsHeldBy, IsToldBy, StreamedOver, With, streams_call}
 use Rattle.laws_device.proofs.{Ringing.host_moves, Ringing.tells_weaker, Seats.Carried}
 use Rattle.vs_proxy_parts.specs.Handshakes.{accept_answered, accept_one, byte_read, dropping, handshake_on, host_fault, line_decided}
 use Rattle.vs_proxy_parts.specs.Handshakes.{may_open, opening, read_byte, read_line, shake_hands, streams_of, tick_handshake}
@@ -21,11 +21,12 @@ use Rattle.vs_proxy_parts.specs.Handshakes.{tick_handshakes, with_line, without_
 use Rattle.vs_proxy_parts.specs.State.{Handshake, Turning, with_device}
 use Rattle.vs_uds.proofs.Decided.{port_fits}
 use Rattle.laws_proxy.proofs.Ports.{last_port, not_refused}
-use Rattle.laws_device_bytes.specs.Streamed.{IsStreamed, has_line, look, reading}
+use Rattle.laws_device_bytes.specs.Streamed.{IsStreamed, Seen, has_line, look, reading}
 use Rattle.laws_device_streams.proofs.Tables.{some_after, some_from}
-use Rattle.laws_device_bytes.proofs.{Changing.called_host, Changing.goes_on, HostCalls.accepted_host, Hands.ends_by, Hands.no_line}
-use Rattle.laws_device_bytes.proofs.{Hands.without_after, Hands.without_none, Opens.hand_of, Opens.label_host, Opens.line_more}
-use Rattle.laws_device_bytes.proofs.{Opens.line_now, Opens.line_over, Opens.one_byte, Opens.without_host, Lines.line_ends, Lines.line_whole}
+use Rattle.laws_device_bytes.proofs.{Changing.called_host, Changing.goes_on, HostCalls.accepted_host, HostCalls.closed_host}
+use Rattle.laws_device_bytes.proofs.{HostCalls.some_seen, Hands.ends_by, Hands.no_line, Hands.without_after, Hands.without_none}
+use Rattle.laws_device_bytes.proofs.{Opens.hand_of, Opens.label_host, Opens.line_more, Opens.line_now, Opens.line_over, Opens.one_byte}
+use Rattle.laws_device_bytes.proofs.{Opens.dropped_host, Lines.line_ends, Lines.line_whole}
 use Rattle.std.specs.{List.All, Option.ForSome}
 use Rattle.vs_flow.proofs.Entries.{found_passes}
 use Rattle.vs_outside.specs.declared.host_net.Accepted.TheVariants as accepted
@@ -69,10 +70,12 @@ module _ (carry : Carried) (first : ℕ) where
         )) holds.1.1,
       )
 
-  -- A handshake ends.
-  closes : (stream : ℕ) (t : Turning) (F : Fact) → ((o : Option HostContents) (log : Log) → F o log → Streamed (without_stream stream t.state.handshakes) t o log)
+  -- A handshake ends, and its stream is closed.
+  closes : (stream : ℕ) (t : Turning) (F : Fact) → ((o n : Option HostContents) (log : Log)
+      → Exposes o n (λ h. Unit {0}) (after_close stream) → F o log
+      → Streamed (without_stream stream t.state.handshakes) t n log)
       → (c : Situation) → ASSIGNED_FIRST ≤ t.state.next_port → IsHeldBy carry F first t.state.next_port t.state.device c → Keeps Turns (dropping stream t) c
-  closes stream t F less c above holds =
+  closes stream t F closed c above holds =
       let s : DeviceState = t.state.device in
       let port : ℕ = t.state.next_port in
       let hands : List Handshake = without_stream stream t.state.handshakes in (
@@ -83,33 +86,38 @@ module _ (carry : Carried) (first : ℕ) where
             holds.0,
             host_moves false (λ h. Unit {0}) (after_close stream) c d made (IsToldBy carry F first port s) (IsToldBy carry (Streamed hands t) first port s) (λ hon o n l exposes was. (
               was.0,
-              λ honest. let p = was.1 honest in (p.0, closed_over carry first hands port s.table l.entries stream o n exposes (less o l.entries p.1)),
+              λ honest. let p = was.1 honest in (p.0, closed o n l.entries exposes p.1),
             )) holds.1,
           ),
         ),
       )
 
-  drops : (stream : ℕ) (t : Turning) (c : Situation) → Turns t c → Keeps Turns (dropping stream t) c
-  drops stream t c holds =
-      let s : DeviceState = t.state.device in
-      closes stream t (Streamed t.state.handshakes t) (λ o log x.
-      streams_go carry first t.state.handshakes (without_stream stream t.state.handshakes) t.state.next_port t.state.next_port s.table s.table log log (λ few. few)
-      (λ h few y. without_host h log t.state.next_port s.table t.state.handshakes stream y) o x) c holds.0 holds.1
+  drops : (h : Handshake) (t : Turning) (stream : ℕ) → handshake_on stream t.state ≡ Some h → (c : Situation) → Turns t c
+      → Keeps Turns (dropping stream t) c
+  drops h t stream is c holds =
+      let port : ℕ = t.state.next_port in
+      let table : Table DeviceConnection = t.state.device.table in
+      let hands : List Handshake = t.state.handshakes in
+      closes stream t (Streamed hands t) (λ o n log exposes.
+      streams_call carry first hands (without_stream stream hands) port port table table log log (λ few. few) (λ g. Unit {0})
+      (after_close stream)
+      (λ g any few y. dropped_host g log port table hands stream h y (hand_of (look g) stream hands h y.streams.lines is)) o n exposes) c
+      holds.0 holds.1
 
   -- Timeouts.
   pub ticks : (stream : ℕ) (t : Turning) (c : Situation) → Turns t c → Keeps Turns (tick_handshake stream t) c
-  ticks stream t c holds = by (handshake_on stream t.state)
+  ticks stream t c holds = by (handshake_on stream t.state) refl
     where
-      late : (b : Bool) → Keeps Turns (cond b (dropping stream t) (Done t)) c
-      late true = drops stream t c holds
-      late false = holds
+      late : (h : Handshake) → handshake_on stream t.state ≡ Some h → (b : Bool) → Keeps Turns (cond b (dropping stream t) (Done t)) c
+      late h is true = drops h t stream is c holds
+      late h is false = holds
 
-      by : (o : Option Handshake) → Keeps Turns (elim o [
+      by : (o : Option Handshake) → handshake_on stream t.state ≡ o → Keeps Turns (elim o [
         | None ↦ Done t
         | Some h ↦ if is_late t.state.device.now (Some h.accepted_at) then dropping stream t else Done t
       ]) c
-      by None = holds
-      by (Some h) = late (is_late t.state.device.now (Some h.accepted_at))
+      by None is = holds
+      by (Some h) is = late h is (is_late t.state.device.now (Some h.accepted_at))
 
   pub tick_all : (t : Turning) (c : Situation) → Turns t c → Keeps Turns (tick_handshakes t) c
   tick_all t c holds = keeps_each Turns tick_handshake ticks (streams_of t.state) t c holds
@@ -151,10 +159,14 @@ module _ (carry : Carried) (first : ℕ) where
     abbrev pub LineOn : Fact
     LineOn o log = carry.ok → carry.plain first log → ForSome o (IsLineOn t.state.handshakes t.state.next_port t.state.device.table stream line log)
 
-    over : (o : Option HostContents) (log : Log) → LineOn o log → Streamed hands t o log
-    over o log x = λ is plain.
-        some_from o (IsLineOn t.state.handshakes t.state.next_port t.state.device.table stream line log)
-        (λ h. IsStreamed h log t.state.next_port t.state.device.table hands) (λ h y. y.over) (x is plain)
+    over : (o n : Option HostContents) (log : Log) → Exposes o n (λ h. Unit {0}) (after_close stream) → LineOn o log
+        → Streamed hands t n log
+    over o n log exposes x = λ is plain.
+        some_after o n (λ h. Unit {0}) (after_close stream) (IsLineOn t.state.handshakes t.state.next_port t.state.device.table stream line
+        log)
+        (λ h. IsStreamed h log t.state.next_port t.state.device.table hands) exposes
+        (λ h any y. closed_host stream h log t.state.next_port t.state.device.table hands y.over
+        (λ s there. ap (λ (u : Seen). u.label) (sym (some_seen (reading line) s (sym y.here ∙ there)))) y.away) (x is plain)
 
     module _ (c : Situation) (above : ASSIGNED_FIRST ≤ t.state.next_port) (holds : IsHeldBy carry LineOn first t.state.next_port t.state.device c) where
       opens : (guest : ℕ) → guest < 2 ^ 32 → connect_step line ≡ step.Port guest → may_open t.state ≡ true → Keeps Turns (opening stream guest t) c
@@ -167,10 +179,11 @@ module _ (carry : Carried) (first : ℕ) where
           (λ r. Done (record t { state = record (with_device r.0 (without_handshake stream t.state)) { next_port = t.state.next_port + 1 } })) c
           (open_keeps carry hands first t.state.next_port flow stream t.state.device (record { asker = ap (side_by Device) inside; port = inl (omega arith) })
           (record { guest = fits; host = omega (arith, last); peer = omega arith }) LineOn
-          (λ o n log exposes x is plain. some_after o n (λ h. Unit {0}) (after_label stream flow)
+          (λ fits o n log exposes x is plain. some_after o n (λ h. Unit {0}) (after_label stream flow)
           (IsLineOn t.state.handshakes t.state.next_port t.state.device.table stream line log)
           (λ h. IsStreamed h log (t.state.next_port + 1) (with_client flow stream t.state.device).table hands) exposes (λ h any y.
-          label_host h log t.state.next_port t.state.device.table hands y.over stream guest line y.here y.away (y.ended guest decided).0 (y.ended guest decided).1 inside)
+          label_host h log t.state.next_port t.state.device.table hands y.over stream guest line y.here y.away (y.ended guest decided).0
+          (y.ended guest decided).1 inside fits.sound)
           (x is plain)) (λ x d. With carry hands first (t.state.next_port + 1) x.0 d)
           (λ fault d full told. (
             told.0,
@@ -239,7 +252,7 @@ module _ (carry : Carried) (first : ℕ) where
             → IsLineOn (with_line h.stream (h.line ++ bytes) t.state.handshakes) t.state.next_port t.state.device.table h.stream (h.line ++ bytes) log
             (after_read h.stream (read.Got n) g)
         came n bytes g log answers x =
-            let hand = hand_of (look g) h.stream t.state.handshakes h x.lines is in
+            let hand = hand_of (look g) h.stream t.state.handshakes h x.streams.lines is in
             let same : without_stream h.stream (with_line h.stream (h.line ++ bytes) t.state.handshakes) ≡ without_stream h.stream t.state.handshakes =
             without_after h.stream (h.line ++ bytes) t.state.handshakes in
             record {
@@ -247,7 +260,7 @@ module _ (carry : Carried) (first : ℕ) where
                   (line_over g log t.state.next_port t.state.device.table t.state.handshakes x h.stream n h hand bytes answers.1);
               here = line_now g log t.state.next_port t.state.device.table t.state.handshakes x h.stream n h hand bytes answers.1;
               away = subst (λ (hands : List Handshake). All (λ (g : Handshake). g.stream ≢ h.stream) hands) (sym same)
-                  (without_none h.stream t.state.handshakes x.lines.apart);
+                  (without_none h.stream t.state.handshakes x.streams.lines.apart);
               more = λ more. line_more g log t.state.next_port t.state.device.table t.state.handshakes x h.stream n h hand bytes answers.1
                   (goes_on (h.line ++ bytes) more);
               ended = λ port decided.
@@ -263,13 +276,13 @@ module _ (carry : Carried) (first : ℕ) where
           (λ g log answers x. called_host g log t.state.next_port t.state.device.table t.state.handshakes x) c d made.0 holds,
     )
     reads read.End bytes made = keeps_then Turns Goes-on (dropping h.stream t) (λ u. Done (u, false)) d
-        (drops h.stream t d (
+        (drops h t h.stream is d (
           holds.0,
           calls t.state.handshakes t false (IsReadOf h.stream 1 (read.End, bytes)) called
               (λ g log answers x. called_host g log t.state.next_port t.state.device.table t.state.handshakes x) c d made.0 holds,
         )) (λ u e kept. kept)
     reads read.Failed bytes made = keeps_then Turns Goes-on (dropping h.stream (host_fault t)) (λ u. Done (u, false)) d
-        (drops h.stream (host_fault t) d (
+        (drops h (host_fault t) h.stream is d (
           holds.0,
           calls t.state.handshakes t true (IsReadOf h.stream 1 (read.Failed, bytes)) called
               (λ g log answers x. called_host g log t.state.next_port t.state.device.table t.state.handshakes x) c d made.0 holds,

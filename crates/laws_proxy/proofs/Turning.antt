@@ -1,5 +1,5 @@
 -- A turn, stage by stage, and a reset.
-use Rattle.std.proofs.Common.{ℕ, ◌+◌, ◌<◌, ◌^◌, Bool, true, false, List, [], Option, Some, None, Result, Ok, Err, arith, ◌≤◌}
+use Rattle.std.proofs.Common.{ℕ, ◌+◌, ◌<◌, ◌^◌, Bool, true, false, List, [], ◌∷◌, map, Option, Some, None, Result, Ok, Err, arith, ◌≤◌}
 use Rattle.vs_contents.specs.CallTree.{Done, for_each}
 use Rattle.vs_limits.specs.declared.TheConstants.{ASSIGNED_FIRST}
 use Rattle.vs_ring_port.specs.{Contents.RingContents, declared.failure.Failure.Failure}
@@ -8,19 +8,19 @@ use Rattle.vs_device_parts.specs.{Receiving.pay_event_of, State.DeviceState, Str
 use Rattle.vs_device_parts.specs.Turns.{reset_of}
 use Rattle.laws_device.specs.Honest.{IsFresh}
 use Rattle.laws_device.proofs.Turning.{new_with, pay_keeps, pump_keeps, reset_keeps, tick_keeps}
-use Rattle.laws_device.proofs.{Filling.fill_keeps, Keeping.Goes, Keeping.Keeps, Keeping.keeps_each, Keeping.keeps_then, Keeping.keeps_while}
+use Rattle.laws_device.proofs.{Filling.fill_keeps, Keeping.Goes, Keeping.Keeps, Keeping.keeps_then, Keeping.keeps_while}
 use Rattle.laws_device.proofs.{Transmitting.take_keeps, Carrying.Fact, Carrying.IsToldBy, Carrying.StreamedOver, Carrying.With}
-use Rattle.laws_device.proofs.Carrying.{closed_over, held_with, streams_go, with_ring, with_streams}
-use Rattle.laws_device.proofs.{Ringing.host_moves, Ringing.tells_weaker, Seats.Carried, Carrying.whole, Carrying.ring_and_host}
-use Rattle.laws_device.proofs.Carrying.{ring_only}
-use Rattle.vs_proxy_parts.specs.{State.ProxyState, State.Turning, State.start, State.with_device, declared.answers.Turn.Turn}
+use Rattle.laws_device.proofs.Carrying.{held_with, streams_call, with_ring, with_streams, ring_only}
+use Rattle.laws_device.proofs.{Ringing.host_moves, Seats.Carried, Carrying.whole, Carrying.ring_and_host}
+use Rattle.vs_proxy_parts.specs.{State.Handshake, State.ProxyState, State.Turning, State.start, State.with_device}
+use Rattle.vs_proxy_parts.specs.declared.answers.Turn.{Turn}
 use Rattle.vs_proxy_parts.specs.Turns.{close_handshake, device_after, event_stage, fill_stage, filled, new_proxy, proxy_reset_of}
 use Rattle.vs_proxy_parts.specs.Turns.{pump_stage, reset_with, take_one, take_stage, tick_stage, took_packet, turn_of, unless_failed}
 use Rattle.vs_proxy_parts.specs.Handshakes.{shake_hands, streams_of, tick_handshakes}
 use Rattle.laws_proxy.specs.Honest.{IsProxyWith, IsProxyStreamed}
 use Rattle.laws_proxy.proofs.Shaking.{Turns, shakes, tick_all}
 use Rattle.vs_outside.specs.Host.{after_close}
-use Rattle.laws_device_bytes.proofs.Opens.{no_lines}
+use Rattle.laws_device_bytes.proofs.Opens.{first_dropped}
 
 pub new_proxy_with : (cid : ℕ) (base : List ℕ) (c : RingContents) → cid < 2 ^ 64 → IsFresh c → IsProxyWith cid (new_proxy cid base) c
 new_proxy_with cid base c fits fresh = (omega arith, new_with ASSIGNED_FIRST cid base c fits fresh)
@@ -110,48 +110,48 @@ module _ (carry : Carried) (first : ℕ) where
   ResetEnds x c = Proxied x.0 c
 
   module _ (device : DeviceState) where
-    -- The device after it, beside what the proxy holds.
-    abbrev Reset : ProxyState → Situation → Type 0
-    Reset s c = Proxied (with_device device s) c
+    -- The device after it, beside the handshakes whose streams are still to be closed.
+    abbrev ResetOn : List Handshake → ProxyState → Situation → Type 0
+    ResetOn hands s c = (ASSIGNED_FIRST ≤ s.next_port) × With carry hands first s.next_port device c
 
-    closes : (stream : ℕ) (s : ProxyState) (c : Situation) → Reset s c → Keeps Reset (close_handshake stream s) c
-    closes stream s c holds =
-        let F : Fact = StreamedOver carry s.handshakes first s.next_port device.table in (
+    closes : (h : Handshake) (hands : List Handshake) (s : ProxyState) (c : Situation) → ResetOn (h ∷ hands) s c
+        → Keeps (ResetOn hands) (close_handshake h.stream s) c
+    closes h hands s c holds =
+        let port : ℕ = s.next_port in
+        let F : List Handshake → Fact = λ hs. StreamedOver carry hs first port device.table in (
           tt,
           λ a d made. (
             holds.0,
             (
               holds.1.0,
-              host_moves false (λ h. Unit {0}) (after_close stream) c d made (IsToldBy carry F first s.next_port device) (IsToldBy carry F first s.next_port device)
+              host_moves false (λ g. Unit {0}) (after_close h.stream) c d made (IsToldBy carry (F (h ∷ hands)) first port device)
+                  (IsToldBy carry (F hands) first port device)
                   (λ hon o n l exposes was. (
                     was.0,
-                    λ honest. let p = was.1 honest in (p.0, closed_over carry first s.handshakes s.next_port device.table l.entries stream o n exposes p.1),
+                    λ honest. let p = was.1 honest in (
+                      p.0,
+                      streams_call carry first (h ∷ hands) hands port port device.table device.table l.entries l.entries (λ few. few)
+                          (λ g. Unit {0}) (after_close h.stream)
+                          (λ g any few x. first_dropped g l.entries port device.table h hands x) o n exposes p.1,
+                    ),
                   )) holds.1.1,
             ),
           ),
         )
 
-    closes_all : (r : Result (Unit {0}) Failure) (s : ProxyState) (c : Situation) → Reset s c → Keeps ResetEnds
+    closes_each : (hands : List Handshake) (s : ProxyState) (c : Situation) → ResetOn hands s c
+        → Keeps (ResetOn []) (for_each close_handshake (map (λ h. h.stream) hands) s) c
+    closes_each [] s c holds = holds
+    closes_each (h ∷ hands) s c holds =
+        keeps_then (ResetOn hands) (ResetOn []) (close_handshake h.stream s) (for_each close_handshake (map (λ h. h.stream) hands)) c
+        (closes h hands s c holds) (closes_each hands)
+
+    closes_all : (r : Result (Unit {0}) Failure) (s : ProxyState) (c : Situation) → ResetOn s.handshakes s c → Keeps ResetEnds
         (reset_with (device, r) s) c
     closes_all (Err f) s c holds = holds
     closes_all (Ok x) s c holds =
-        keeps_then Reset ResetEnds (for_each close_handshake (streams_of s) s)
-        (λ t. Done (record (with_device device t) { handshakes = [] }, Ok tt)) c
-        (keeps_each Reset close_handshake closes (streams_of s) s c holds) (λ t d kept. (
-          kept.0,
-          (
-            kept.1.0,
-            tells_weaker (IsToldBy carry (StreamedOver carry t.handshakes first t.next_port device.table) first t.next_port device)
-                (IsToldBy carry (StreamedOver carry [] first t.next_port device.table) first t.next_port device) (λ hon o l was. (
-                  was.0,
-                  λ honest. let p = was.1 honest in (
-                    p.0,
-                    streams_go carry first t.handshakes [] t.next_port t.next_port device.table device.table l.entries l.entries (λ few. few)
-                        (λ h few y. no_lines h l.entries t.next_port device.table t.handshakes y) o p.1,
-                  ),
-                )) d kept.1.1,
-          ),
-        ))
+        keeps_then (ResetOn []) ResetEnds (for_each close_handshake (streams_of s) s)
+        (λ t. Done (record (with_device device t) { handshakes = [] }, Ok tt)) c (closes_each s.handshakes s c holds) (λ t d kept. kept)
 
   pub proxy_reset_keeps : (cid : ℕ) (s : ProxyState) (c : Situation) → cid < 2 ^ 64 → Proxied s c → Keeps ResetEnds
       (proxy_reset_of cid s) c

@@ -4,7 +4,7 @@ ghost use Rattle.std.specs.{Option.ForSome, Prelude.◌≡◌, Prelude.◌<◌, 
 ghost use Rattle.vs_ring_port.specs.{Contents.RingContents, declared.failure.Failure.Failure};
 ghost use Rattle.vs_device_parts.specs.{Calls.Situation, Playing.MayRun, Playing.Runs};
 ghost use Rattle.laws_device_streams.specs.Streams.{FindsStreams};
-ghost use Rattle.laws_device.specs.Honest.{IsFresh};
+ghost use Rattle.laws_device.specs.{Honest.IsFresh, Streams.IsTabledWith};
 ghost use Rattle.vs_proxy_parts.specs.{Handshakes.streams_of, State.ProxyState, Turns.new_proxy, Turns.proxy_reset_of, Turns.turn_of};
 ghost use Rattle.vs_proxy_parts.specs.declared.answers.Turn.{Turn};
 ghost use Rattle.laws_proxy.specs.{Honest.IsProxyStreamed, Honest.IsProxyWith, Order.IsInOrder};
@@ -25,7 +25,9 @@ pub fn law_of_turns()
 /// Over an honest ring that tells its log and a host that exposes its streams a turn and a reset keep what these took and gave in step with the log,
 /// where the guest uses no flow twice and sends payload under its own CID: the payload put on a connection is what was taken of its stream, behind
 /// the CONNECT line where there is one; a stream was given a prefix of its OK line and the payload got, and what is pending is what is between. Of a
-/// client whose line is being read just this line was taken (Virtio 1.2, section 5.10.6).
+/// client whose line is being read just this line was taken. The table has exactly the flows that the log left open and those of the host's
+/// open
+/// streams (Virtio 1.2, section 5.10.6).
 pub fn law_of_streamed()
     ensures new { (cid : ℕ) (base : List ℕ) (a : Situation) → IsFresh a.ring → ForSome a.host (λ h. h.streams ≡ [])
         → IsProxyStreamed cid (new_proxy cid base) a }
@@ -33,6 +35,8 @@ pub fn law_of_streamed()
         → IsProxyStreamed first s a → Runs (turn_of size now s) a x b → IsProxyStreamed first x.0 b }
     ensures reset { (first cid : ℕ) (s : ProxyState) (a b : Situation) (x : ProxyState × Result (Unit {0}) Failure) → cid < 2 ^ 64
         → IsProxyWith first s a.ring → IsProxyStreamed first s a → Runs (proxy_reset_of cid s) a x b → IsProxyStreamed first x.0 b }
+    ensures table { (first : ℕ) (s : ProxyState) (a : Situation) → IsProxyWith first s a.ring → IsProxyStreamed first s a
+        → IsTabledWith first s.device a }
 {}
 
 /// A new proxy is in order, with rings on which nothing passed. One that is in order may make a turn and a reset, over any ring that tells its

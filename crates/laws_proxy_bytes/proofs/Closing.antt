@@ -1,28 +1,25 @@
 -- Connections whose end changes, streams that are closed, connections that leave.
-use Rattle.std.proofs.Common.{◌≡◌, ℕ, ◌==◌, Bool, true, false, cond, List, ◌∷◌, Contains, Option, Some, None, refl, sym, subst, ◌∙◌}
+use Rattle.laws_device_walk.specs.Seen.{Seen}
+use Rattle.laws_device_walk.proofs.Serving.{Closes, IsIn}
+use Rattle.laws_device_walk.proofs.Serving as walked
+use Rattle.vs_ring_port.specs.declared.device_ring.Chain.{Chain}
+use Rattle.laws_proxy_bytes.proofs.Keeping.{asking}
+use Rattle.std.proofs.Common.{◌≡◌, ℕ, true, List, ◌∷◌, Contains, Option, refl, sym, subst, ◌∙◌}
 use Rattle.std.proofs.lemmas.List.Elements.{All-contains}
-use Rattle.vs_contents.specs.CallTree.{Done, Ask}
-use Rattle.vs_flow.specs.{Table.Table, Table.entry_of, Table.entry_under, Table.slots, Table.with_value, Table.without, Flow.same_flow}
+use Rattle.vs_flow.specs.{Table.Table, Table.with_value, Table.without}
 use Rattle.vs_flow.specs.declared.flow.Flow.{Flow}
-use Rattle.laws_tables.proofs.Slots.{found_by}
-use Rattle.vs_device_parts.specs.{Calls.CloseStream, Connections.after_leaving, Connections.cut_off, Connections.is_timed_out}
-use Rattle.vs_device_parts.specs.{Connections.stream_closed, Connections.with_connection, State.DeviceConnection, State.DeviceEntry}
-use Rattle.vs_device_parts.specs.{State.DeviceState, Streams.closing, Streams.leaving, Streams.tick_of, Streams.tick_slot}
+use Rattle.vs_device_parts.specs.{Calls.CloseStream, Connections.after_leaving, Connections.cut_off, Connections.stream_closed}
+use Rattle.vs_device_parts.specs.{Connections.with_connection, State.DeviceConnection, State.DeviceEntry, State.DeviceState}
+use Rattle.vs_device_parts.specs.{Streams.tick_of}
 use Rattle.vs_conn.specs.End.{aborted}
 use Rattle.vs_proxy_parts.specs.State.{Handshake}
 use Rattle.laws_bytes.proofs.Changes.{changed, others_left, without_changed}
 use Rattle.laws_proxy_bytes.specs.{Made.Account, Made.Made, Made.account_of, Made.made, Made.payload_put, Made.payload_taken, Made.shut}
 use Rattle.laws_proxy_bytes.specs.Tied.{Agree, AgreesWith, IsLawful, IsOver, IsTied, IsTiedTo}
 use Rattle.laws_proxy_bytes.proofs.{Accounts.Changes, Accounts.changes, Accounts.changing, Accounts.stays, Entries.given_of}
-use Rattle.laws_proxy_bytes.proofs.{Entries.given_shut, Entries.join_of, Entries.left, Entries.moved, Keeping.Keeps, Keeping.keeps_each}
-use Rattle.laws_proxy_bytes.proofs.{Keeping.keeps_then, Ties.closed_before, Ties.closes}
+use Rattle.laws_proxy_bytes.proofs.{Entries.given_shut, Entries.join_of, Entries.left, Entries.moved, Keeping.Keeps, Ties.closed_before}
+use Rattle.laws_proxy_bytes.proofs.{Ties.closes as closes_tie}
 use Rattle.vs_conn.specs.declared.end.State.TheVariants as state
-
-pub there_under : (t : Table DeviceConnection) (slot : ℕ) (e : DeviceEntry) → entry_under t slot ≡ Some e → Contains t.entries e
-there_under t slot e found = (found_by (λ (x : DeviceEntry). x.slot == slot) t.entries e found).0
-
-pub there_of : (t : Table DeviceConnection) (flow : Flow) (e : DeviceEntry) → entry_of t flow ≡ Some e → Contains t.entries e
-there_of t flow e found = (found_by (λ (x : DeviceEntry). same_flow flow x.flow) t.entries e found).0
 
 -- A connection and its stream's account change, or the connection leaves.
 module _ (at now : ℕ → Option Account) (put taken : Flow → List ℕ) (t : Table DeviceConnection) (hands : List Handshake)
@@ -61,75 +58,59 @@ module _ (at : ℕ → Option Account) (put taken : Flow → List ℕ) (t : Tabl
 abbrev pub Has : List Handshake → DeviceState → List Made → Type 0
 Has hands s calls = AgreesWith calls s.table hands
 
+abbrev pub D : List Handshake → Option Chain → Seen → List Made → Type 0
+D hands page s calls = AgreesWith calls s.table hands
+
 module _ (hands : List Handshake) where
-  -- A connection is over, and its stream is closed.
-  module _ (s : DeviceState) (calls : List Made) (x : Has hands s calls) (e : DeviceEntry) (is : Contains s.table.entries e) where
+  module _ (e : DeviceEntry) (s : DeviceState) (calls : List Made) (is : IsIn s.table e) (x : Has hands s calls) where
     abbrev tie : IsTied (account_of calls) e
-    tie = join (account_of calls) (payload_put calls) (payload_taken calls) s.table hands x e is
+    tie = join (account_of calls) (payload_put calls) (payload_taken calls) s.table hands x e is.among
 
+    -- A connection is over, and its stream is closed.
     closed_tie : IsTiedTo (shut tie.0) (record e { value = cut_off e.value })
-    closed_tie = closes tie.0 e (record e.value { end = aborted e.value.end }) tie.2 refl (λ on. absurd cc)
+    closed_tie = closes_tie tie.0 e (record e.value { end = aborted e.value.end }) tie.2 refl (λ on. absurd cc)
 
-    pub keeps_cut_off : Keeps (Has hands) (closing e cut_off s) calls
-    keeps_cut_off = by e.value.closed refl
-      where
-        by : (b : Bool) → e.value.closed ≡ b
-            → Keeps (Has hands) (cond b (Done (with_connection e.slot (cut_off e.value) s))
-            (Ask (CloseStream e.value.stream) (λ _. Done (with_connection e.slot (cut_off e.value) s)))) calls
-        by true was =
-            agree_same (account_of calls) (payload_put calls) (payload_taken calls) s.table hands x e is (cut_off e.value) refl
-            (subst (λ (a : Account). IsTiedTo a (record e { value = cut_off e.value })) (closed_before tie.0 e tie.2 was) closed_tie)
-            (λ on. refl)
-        by false still = λ a fit.
-            agree_moved (account_of calls) (account_of (made (CloseStream e.value.stream) a ∷ calls)) (payload_put calls)
-            (payload_taken calls) s.table hands x e is (shut tie.0)
-            (changes shut e.value.stream (account_of calls) tie.0 tie.1) (cut_off e.value) refl closed_tie (λ on. refl)
+    was_cut : e.value.closed ≡ true → Has hands (with_connection e.slot (cut_off e.value) s) calls
+    was_cut was =
+        agree_same (account_of calls) (payload_put calls) (payload_taken calls) s.table hands x e is.among (cut_off e.value) refl
+        (subst (λ (a : Account). IsTiedTo a (record e { value = cut_off e.value })) (closed_before tie.0 e tie.2 was) closed_tie)
+        (λ on. refl)
+
+    cuts : (a : Unit {0}) → Has hands (with_connection e.slot (cut_off e.value) s) (made (CloseStream e.value.stream) a ∷ calls)
+    cuts a =
+        agree_moved (account_of calls) (account_of (made (CloseStream e.value.stream) a ∷ calls)) (payload_put calls) (payload_taken calls)
+        s.table hands x e is.among (shut tie.0) (changes shut e.value.stream (account_of calls) tie.0 tie.1)
+        (cut_off e.value) refl closed_tie
+        (λ on. refl)
 
     -- It leaves the table, whatever it heard before.
-    pub keeps_leaving : (v : DeviceConnection) → v.closed ≡ e.value.closed → v.stream ≡ e.value.stream
-        → Keeps (Has hands) (leaving (record e { value = v }) s) calls
-    keeps_leaving v closed_as stream_as =
-        keeps_then (Has hands) Left (closing (record e { value = v }) stream_closed s) (λ t. Done (after_leaving e.slot t)) calls
-        (by v.closed refl) (λ t later is. is)
-      where
-        Left : DeviceState → List Made → Type 0
-        Left t later = Has hands (after_leaving e.slot t) later
+    module _ (v : DeviceConnection) (closed_as : v.closed ≡ e.value.closed) (stream_as : v.stream ≡ e.value.stream) where
+      gone : (later : List Made) → AgreesWith later (without s.table e.slot) hands
+          → AgreesWith later (without (with_value s.table e.slot (stream_closed v)) e.slot) hands
+      gone later kept = subst (λ (t : Table DeviceConnection). AgreesWith later t hands)
+          (sym (without_changed s.table e.slot (stream_closed v))) kept
 
-        gone : (later : List Made) → AgreesWith later (without s.table e.slot) hands
-            → AgreesWith later (without (with_value s.table e.slot (stream_closed v)) e.slot) hands
-        gone later kept = subst (λ (t : Table DeviceConnection). AgreesWith later t hands)
-            (sym (without_changed s.table e.slot (stream_closed v))) kept
+      was_left : v.closed ≡ true → Has hands (after_leaving e.slot (with_connection e.slot (stream_closed v) s)) calls
+      was_left was = gone calls
+          (agree_left (account_of calls) (account_of calls) (payload_put calls) (payload_taken calls) s.table hands x e is.among tie.0
+          (stays (account_of calls) e.value.stream tie.0 tie.1) (tie.2.closed ∙ sym closed_as ∙ was) (given_of tie.0 e tie.2))
 
-        by : (b : Bool) → v.closed ≡ b
-            → Keeps Left (cond b (Done (with_connection e.slot (stream_closed v) s))
-            (Ask (CloseStream v.stream) (λ _. Done (with_connection e.slot (stream_closed v) s)))) calls
-        by true was = gone calls
-            (agree_left (account_of calls) (account_of calls) (payload_put calls) (payload_taken calls) s.table hands x e is tie.0
-            (stays (account_of calls) e.value.stream tie.0 tie.1)
-            (tie.2.closed ∙ sym closed_as ∙ was) (given_of tie.0 e tie.2))
-        by false still = λ a fit. gone (made (CloseStream v.stream) a ∷ calls)
-            (agree_left (account_of calls) (account_of (made (CloseStream v.stream) a ∷ calls)) (payload_put calls)
-            (payload_taken calls) s.table hands x e is (shut tie.0)
-            (subst (λ (n : ℕ). Changes (account_of calls) (changing shut n (account_of calls)) e.value.stream (shut tie.0)) (sym stream_as)
-            (changes shut e.value.stream (account_of calls) tie.0 tie.1))
-            refl (given_shut tie.0.label tie.0 (given_of tie.0 e tie.2)))
+      leaves : (a : Unit {0})
+          → Has hands (after_leaving e.slot (with_connection e.slot (stream_closed v) s)) (made (CloseStream v.stream) a ∷ calls)
+      leaves a = gone (made (CloseStream v.stream) a ∷ calls)
+          (agree_left (account_of calls) (account_of (made (CloseStream v.stream) a ∷ calls)) (payload_put calls) (payload_taken calls)
+          s.table hands x e is.among (shut tie.0)
+          (subst (λ (n : ℕ). Changes (account_of calls) (changing shut n (account_of calls)) e.value.stream (shut tie.0)) (sym stream_as)
+          (changes shut e.value.stream (account_of calls) tie.0 tie.1))
+          refl (given_shut tie.0.label tie.0 (given_of tie.0 e tie.2)))
 
-  -- Timeouts.
-  keeps_tick_slot : (slot : ℕ) (s : DeviceState) (calls : List Made) → Has hands s calls → Keeps (Has hands) (tick_slot slot s) calls
-  keeps_tick_slot slot s calls x = by (entry_under s.table slot) refl
-    where
-      late : (e : DeviceEntry) → entry_under s.table slot ≡ Some e → (b : Bool) → Keeps (Has hands)
-          (cond b (closing e cut_off s) (Done s)) calls
-      late e found true = keeps_cut_off s calls x e (there_under s.table slot e found)
-      late e found false = x
-
-      by : (o : Option DeviceEntry) → entry_under s.table slot ≡ o
-          → Keeps (Has hands) (elim o [
-            | None ↦ Done s
-            | Some e ↦ cond (is_timed_out s.now e.value) (closing e cut_off s) (Done s)
-          ]) calls
-      by None none = x
-      by (Some e) found = late e found (is_timed_out s.now e.value)
+  pub closes : Closes asking (D hands)
+  closes = record {
+    cuts = λ e s calls is x still. λ a fit. cuts e s calls is x a;
+    was_cut = λ e s calls is x closed. was_cut e s calls is x closed;
+    leaves = λ page e v s calls is closed stream x still. λ a fit. leaves e s calls is x v closed stream a;
+    was_left = λ page e v s calls is closed stream x was. was_left e s calls is x v closed stream was;
+  }
 
   pub keeps_tick : (now : ℕ) (s : DeviceState) (calls : List Made) → Has hands s calls → Keeps (Has hands) (tick_of now s) calls
-  keeps_tick now s calls x = keeps_each (Has hands) tick_slot keeps_tick_slot (slots s.table) (record s { now = now }) calls x
+  keeps_tick now s calls x = walked.keeps_tick asking (D hands) closes now s calls x

@@ -15,23 +15,22 @@ use Rattle.vs_replies.specs.Owed.{reply_to}
 use Rattle.vs_ring_port.specs.{Contents.Read, Contents.Return, Contents.Take, declared.device_ring.Chain.Chain}
 use Rattle.vs_ring_port.specs.{declared.device_ring.Next.Next, declared.failure.Failure.Failure, declared.queue.Queue.TheVariants.Tx}
 use Rattle.vs_uds.specs.Path.{path_of}
-use Rattle.vs_wrap.specs.Wrap.{counted}
 use Rattle.vs_device_parts.specs.{Calls.CloseStream, Calls.Dial, Calls.DeviceTree, Calls.Ring, State.DeviceEntry, State.DeviceState}
 use Rattle.vs_device_parts.specs.{Streams.closing, Streams.leaving, Taking.asks_for_stream, declared.answers.Taken.Taken}
 use Rattle.vs_device_parts.specs.Connections.{after_leaving, stream_closed, with_connection, with_reply}
-use Rattle.vs_device_parts.specs.Transmitting.{dial_answered, failing, heard, on_header, on_known, on_next, on_packet, on_unknown, refused}
+use Rattle.vs_device_parts.specs.Transmitting.{dial_answered, heard, on_header, on_known, on_next, on_packet, on_unknown, refused}
 use Rattle.vs_device_parts.specs.Transmitting.{take_tx_of, try_request, unknown_why}
 use Rattle.vs_limits.specs.declared.TheConstants.{DEVICE_REPLIES}
 use Rattle.laws_proxy_bytes.specs.Judged.{AreUnmoved, AtLength, AtTake, Before, IsAnswered, IsDialedAs, IsDone, IsJudged, IsTried}
 use Rattle.laws_proxy_bytes.specs.Judged.{IsUnknown, OwesReset, delivered_in, read_of}
 use Rattle.laws_proxy_bytes.specs.Made.{Account, Made, Makes, MayGet, account_of, made, new_account, shut}
-use Rattle.laws_proxy_bytes.proofs.Keeping.{Keeps, keeps_end, keeps_then}
+use Rattle.laws_proxy_bytes.proofs.Keeping.{Keeps, asking, keeps_end}
+use Rattle.laws_device_walk.proofs.Keeping.{keeps_if, keeps_some, keeps_then}
 use Rattle.vs_conn.specs.declared.end.Owed.TheVariants as owed
 use Rattle.vs_conn.specs.declared.end.Verdict.TheVariants as verdict
 use Rattle.vs_conn.specs.declared.end.Why.TheVariants as why
 use Rattle.vs_outside.specs.declared.host_net.Dialed.TheVariants as dialed
 use Rattle.vs_ring_port.specs.declared.device_ring.Next.TheVariants as next
-use Rattle.vs_ring_port.specs.declared.failure.Failure.TheVariants as failure
 use Rattle.vs_device_parts.specs.declared.answers.Taken.TheVariants as taken
 
 -- An end that refuses a packet owes RST.
@@ -145,7 +144,7 @@ module _ (chain : Chain) (h : Header) (s : DeviceState) (calls : List Made) (kep
         message : (b : Bool) → is_reset h ≡ b → Keeps (λ t later. Now verdict.Peer t later)
             (cond b (leaving (record e { value = heard h e.value }) s) (Done (with_connection e.slot (heard h e.value) s))) calls
         message true is =
-            keeps_then (λ t later. Now verdict.Peer t later)
+            keeps_then asking (λ t later. Now verdict.Peer t later)
             (λ t later. Now verdict.Peer (after_leaving e.slot t) later)
             (closing (record e { value = heard h e.value }) stream_closed s) (λ t. Done (after_leaving e.slot t)) calls
             (closed_by is e.value.closed refl) (λ t later is. is)
@@ -238,53 +237,35 @@ module _ (chain : Chain) (h : Header) (s : DeviceState) (calls : List Made) (kep
       not_tried is = reply_answer why.NotLive _ [] refl (is_tried _ _ [] is) refl refl (λ id. refl)
 
       request_answers : Keeps Here (try_request h s) calls
-      request_answers = by (is_assigned h.dst_port) (has_place s.table) refl refl
-        where
-          asks_host : DeviceTree (DeviceState × Verdict)
-          asks_host = Ask (Dial (path_of s.base h.dst_port) (flow_to_host h)) (λ answer. Done (dial_answered h answer s))
-
-          by : (b p : Bool) → is_assigned h.dst_port ≡ b → has_place s.table ≡ p
-              → Keeps Here (cond b (Done (refused h s)) (cond p asks_host (Done (refused h s)))) calls
-          by true p mine place = not_tried (record {
+      request_answers =
+          keeps_if asking Here (is_assigned h.dst_port) _ _ calls (λ mine. not_tried (record {
             assigned = λ on. ((refl, refl), refl);
             full = λ no. ((refl, refl), refl);
             dialed = λ off on. absurd (no_bool (is_assigned h.dst_port) mine off);
-          })
-          by false false free full = not_tried (record {
+          })) (λ free. keeps_if asking Here (has_place s.table) _ _ calls (λ place answer fit. dial_answer_is free place answer fit)
+          (λ full. not_tried (record {
             assigned = λ on. ((refl, refl), refl);
             full = λ no. ((refl, refl), refl);
             dialed = λ off on. absurd (no_bool (has_place s.table) on full);
-          })
-          by false true free place = λ answer fit. dial_answer_is free place answer fit
+          })))
 
     unknown_answers : Keeps Here (on_unknown h s) calls
-    unknown_answers = by (is_reset h) (asks_for_stream h) refl refl
-      where
-        by : (b d : Bool) → is_reset h ≡ b → asks_for_stream h ≡ d → Keeps Here (cond b (Done (s, verdict.Ignore))
-            (cond d (try_request h s) (Done (with_reply (reply_to (flow_to_host h) h) s, verdict.Rst (unknown_why h))))) calls
-        by true d reset asks =
-            unknown_answer verdict.Ignore s [] refl (record {
-              reset = λ on. (refl, refl, refl);
-              request = λ on. absurd (apart h reset on);
-              other = λ off no. absurd (no_bool (is_reset h) reset off);
-            }) (λ w is. absurd cc) (λ id. refl)
-        by false true off asks = request_answers asks
-        by false false off other = reply_answer (unknown_why h) _ [] refl (record {
+    unknown_answers =
+        keeps_if asking Here (is_reset h) _ _ calls (λ reset. unknown_answer verdict.Ignore s [] refl (record {
+          reset = λ on. (refl, refl, refl);
+          request = λ on. absurd (apart h reset on);
+          other = λ off no. absurd (no_bool (is_reset h) reset off);
+        }) (λ w is. absurd cc) (λ id. refl))
+        (λ off. keeps_if asking Here (asks_for_stream h) _ _ calls request_answers
+        (λ other. reply_answer (unknown_why h) _ [] refl (record {
           reset = λ on. absurd (no_bool (is_reset h) on off);
           request = λ on. absurd (no_bool (asks_for_stream h) on other);
           other = λ off no. ((refl, refl), refl);
-        }) refl refl (λ id. refl)
+        }) refl refl (λ id. refl)))
 
 packet_answers : (chain : Chain) (h : Header) (s : DeviceState) (calls : List Made) → Keeps (Answers chain h s calls) (on_packet chain h s) calls
-packet_answers chain h s calls = by (is_dropped Device s.cid h) refl (entry_of s.table (flow_to_host h)) refl
-  where
-    known : DeviceEntry → DeviceTree (DeviceState × Verdict)
-    known e = let v = verdict_of e.value.end h in bind (on_known v chain h e s) (λ t. Done (t, v))
-
-    by : (b : Bool) → is_dropped Device s.cid h ≡ b → (o : Option DeviceEntry) → entry_of s.table (flow_to_host h) ≡ o
-        → Keeps (Answers chain h s calls) (cond b (Done (record s { dropped = counted s.dropped }, verdict.Ignore))
-        (elim o [ None ↦ on_unknown h s | Some e ↦ known e ])) calls
-    by true on o found = (
+packet_answers chain h s calls =
+    keeps_if asking (Answers chain h s calls) (is_dropped Device s.cid h) _ _ calls (λ on. (
       [],
       refl,
       record {
@@ -295,12 +276,12 @@ packet_answers chain h s calls = by (is_dropped Device s.cid h) refl (entry_of s
         refused = λ u is. absurd cc;
         delivered = λ no id. refl;
       },
-    )
-    by false off None found = unknown_answers chain h s calls off found
-    by false off (Some e) found =
-        keeps_then (Answers chain h s calls) (λ t later. Answers chain h s calls (t, verdict_of e.value.end h) later) (on_known (verdict_of e.value.end h) chain h e s)
-        (λ t. Done (t, verdict_of e.value.end h)) calls (known_answers chain h s calls off e found (verdict_of e.value.end h) refl)
-        (λ t later kept. kept)
+    )) (λ off. keeps_some asking (Answers chain h s calls) (entry_of s.table (flow_to_host h)) (on_unknown h s)
+    (λ e. let v = verdict_of e.value.end h in bind (on_known v chain h e s) (λ t. Done (t, v))) calls
+    (unknown_answers chain h s calls off) (λ e found.
+    keeps_then asking (Answers chain h s calls) (λ t later. Answers chain h s calls (t, verdict_of e.value.end h) later)
+    (on_known (verdict_of e.value.end h) chain h e s) _ calls (known_answers chain h s calls off e found (verdict_of e.value.end h) refl)
+    (λ t later kept. kept)))
 
 -- No stream sees that a packet was taken, and its header read, and its chain returned.
 since : (chain : Chain) (h : Header) (v : Verdict) (s t : DeviceState) (done calls first mid later : List Made) → AreUnmoved calls first
@@ -319,34 +300,21 @@ Judges s calls x later = IsJudged x.1 s x.0 calls later
 
 header_judged : (chain : Chain) (head : List ℕ) (s : DeviceState) (calls : List Made)
     → Keeps (Judges s calls) (on_header chain (header_of head) s) (read_of chain head calls)
-header_judged chain head s calls = by (nat_lt (chain.readable - HEADER_LEN) (header_of head).len) refl
-  where
-    h : Header
-    h = header_of head
-
-    fails : Failure
-    fails = failure.PayloadShort h.len (chain.readable - HEADER_LEN)
-
-    returned : DeviceState × Verdict → DeviceTree (DeviceState × Taken)
-    returned r = Ask (Ring (Return chain 0)) (λ a. Done (r.0, taken.Packet r.1))
-
-    by : (b : Bool) → nat_lt (chain.readable - HEADER_LEN) h.len ≡ b
-        → Keeps (Judges s calls) (cond b (Done (failing fails s, taken.Failed fails)) (bind (on_packet chain h s) returned))
-        (read_of chain head calls)
-    by true is = (refl, AtLength chain head (grind (arith, nat_tests, is)) refl refl)
-    by false is =
-        keeps_then (Judges s calls)
-        (Answers chain h s (read_of chain head calls)) (on_packet chain h s) returned (read_of chain head calls)
-        (packet_answers chain h s (read_of chain head calls))
-        (λ r later kept. λ a fit. record {
-          chain = chain;
-          head = head;
-          done = kept.0;
-          steps = ap (λ (cs : List Made). made (Ring (Return chain 0)) tt ∷ cs) kept.1;
-          whole = grind (arith, nat_tests, is);
-          answered = since chain h r.1 s r.0 kept.0 calls (read_of chain head calls) later (made (Ring (Return chain 0)) a ∷ later)
-              (λ id. refl) kept.2 (λ id. refl);
-        })
+header_judged chain head s calls =
+    let h : Header = header_of head in
+    let first : List Made = read_of chain head calls in
+    keeps_if asking (Judges s calls) (nat_lt (chain.readable - HEADER_LEN) h.len) _ _ first
+    (λ is. (refl, AtLength chain head (grind (arith, nat_tests, is)) refl refl)) (λ is.
+    keeps_then asking (Judges s calls) (Answers chain h s first) (on_packet chain h s)
+    (λ r. Ask (Ring (Return chain 0)) (λ a. Done (r.0, taken.Packet r.1))) first (packet_answers chain h s first)
+    (λ r later kept a fit. record {
+      chain = chain;
+      head = head;
+      done = kept.0;
+      steps = ap (λ (cs : List Made). made (Ring (Return chain 0)) tt ∷ cs) kept.1;
+      whole = grind (arith, nat_tests, is);
+      answered = since chain h r.1 s r.0 kept.0 calls first later (made (Ring (Return chain 0)) a ∷ later) (λ id. refl) kept.2 (λ id. refl);
+    }))
 
 next_judged : (answer : Next) (s : DeviceState) (calls : List Made) → Keeps (Judges s calls) (on_next answer s)
     (made (Ring (Take Tx)) answer ∷ calls)

@@ -1,4 +1,6 @@
 -- A client's connection, and a transport reset.
+use Rattle.laws_device_walk.proofs.Keeping.{keeps_each, keeps_if, keeps_some, keeps_then}
+use Rattle.laws_proxy_bytes.proofs.Keeping.{asking}
 use Rattle.std.proofs.Common.{◌≡◌, ◌≢◌, ℕ, ◌≤◌, ◌==◌, Bool, true, false, cond, List, [], ◌∷◌, Option, Some, None, Result, Ok, Err, refl}
 use Rattle.std.proofs.{Common.sym, Common.ap, Common.subst, Common.◌∙◌, Common.arith, lemmas.List.Elements.All-push}
 use Rattle.std.specs.{List.All, List.AllPairs, Option.option_map}
@@ -10,16 +12,16 @@ use Rattle.vs_limits.specs.declared.TheConstants.{ASSIGNED_LAST, BUF_ALLOC}
 use Rattle.vs_flow.proofs.Tables.{accepted, with_value_sound}
 use Rattle.vs_ring_port.specs.{Contents.PublishCid, declared.failure.Failure.Failure}
 use Rattle.vs_device_parts.specs.{State.DeviceConnection, State.DeviceEntry, State.DeviceState, Streams.closing, Connections.new_connection}
-use Rattle.vs_device_parts.specs.{Connections.stream_closed, Connections.with_client, Connections.with_connection, Calls.CloseStream}
-use Rattle.vs_device_parts.specs.{Calls.DeviceTree, Calls.Label, Calls.Ring, Turns.after_reset, Turns.close_slot, Turns.open_of}
+use Rattle.vs_device_parts.specs.{Connections.stream_closed, Connections.with_client, Calls.DeviceTree, Calls.Label, Calls.Ring}
+use Rattle.vs_device_parts.specs.{Turns.after_reset, Turns.close_slot, Turns.open_of}
 use Rattle.vs_device_parts.specs.Turns.{reset_of}
 use Rattle.vs_proxy_parts.specs.State.{Handshake}
 use Rattle.laws_proxy_bytes.specs.Made.{Account, Made, account_of, labelled, made, payload_put, payload_taken, shut}
 use Rattle.laws_proxy_bytes.specs.Tied.{Agree, IsLawful, IsOver, IsTied, IsTiedTo, IsWhole, reading_account}
 use Rattle.vs_uds.specs.{Reading.is_decided, declared.connect.TheConstants.CONNECT_MAX}
 use Rattle.laws_proxy_bytes.proofs.{Accounts.Changes, Accounts.changes, Accounts.changing, Accounts.stays, Closing.Has, Entries.added}
-use Rattle.laws_proxy_bytes.proofs.{Entries.given_shut, Entries.hands_changed, Entries.one_account, Keeping.Keeps, Keeping.keeps_each}
-use Rattle.laws_proxy_bytes.proofs.Keeping.{keeps_then, keeps_weaker}
+use Rattle.laws_proxy_bytes.proofs.{Entries.given_shut, Entries.hands_changed, Entries.one_account, Keeping.Keeps}
+use Rattle.laws_proxy_bytes.proofs.Keeping.{keeps_weaker}
 use Rattle.laws_device_streams.proofs.Opening.{empty_sound}
 use Rattle.vs_header.specs.declared.Kind.TheVariants.{Stream}
 
@@ -56,41 +58,42 @@ pub waits_unlabelled : (at : ℕ → Option Account) (stream : ℕ) (line : List
     → at stream ≡ Some a → a.label ≡ None
 waits_unlabelled at stream line waits a is = ap (λ (b : Account). b.label) (one_account at stream a (reading_account line) is waits)
 
-pub keeps_open : (hands after : List Handshake) (flow : Flow) (stream : ℕ) (line : List ℕ) (s : DeviceState) (calls : List Made)
-    → flow.host ≤ ASSIGNED_LAST → IsWhole line → account_of calls stream ≡ Some (reading_account line)
-    → All (λ h. is_decided CONNECT_MAX h.line ≡ false) after → All (λ h. account_of calls h.stream ≡ Some (reading_account h.line)) after
-    → All (λ h. h.stream ≢ stream) after → AllPairs (λ g h. g.stream ≢ h.stream) after → Has hands s calls
-    → Keeps (λ x later. Has after x.0 later) (open_of flow stream s) calls
-keeps_open hands after flow stream line s calls last whole waits undecided waiting others apart x = by (refusal s.table flow) refl
-  where
-    asks : DeviceTree (DeviceState × Result ℕ TableFault)
-    asks = Ask (Label stream flow) (λ a. Done (with_client flow stream s, Ok s.table.given))
+module _ (hands after : List Handshake) (flow : Flow) (stream : ℕ) (line : List ℕ) (s : DeviceState) (calls : List Made)
+    (whole : IsWhole line) (waits : account_of calls stream ≡ Some (reading_account line))
+    (undecided : All (λ h. is_decided CONNECT_MAX h.line ≡ false) after)
+    (waiting : All (λ h. account_of calls h.stream ≡ Some (reading_account h.line)) after) (others : All (λ h. h.stream ≢ stream) after)
+    (apart : AllPairs (λ g h. g.stream ≢ h.stream) after) (x : Has hands s calls) where
+  pub opens : refusal s.table flow ≡ None → (answer : Unit {0})
+      → Has after (with_client flow stream s) (made (Label stream flow) answer ∷ calls)
+  opens none answer =
+      let c : DeviceConnection = new_connection (asked Stream BUF_ALLOC) stream true in
+      let now : ℕ → Option Account = account_of (made (Label stream flow) answer ∷ calls) in
+      let ch : Changes (account_of calls) now stream (labelled flow (reading_account line)) =
+      changes (labelled flow) stream (account_of calls) (reading_account line) waits in record {
+        tied = added (account_of calls) now s.table hands x.tied stream (labelled flow (reading_account line)) ch
+            (waits_unlabelled (account_of calls) stream line waits) flow c refl (accepted s.table flow none)
+            (client_tie s.table flow stream line whole) after undecided
+            (λ i d within. ch.others _ (others i d within) ∙ waiting i d within) apart;
+        over = All-push IsOver s.table.entries (next_entry s.table flow c) x.over (λ closed. absurd cc);
+        carried = x.carried;
+      }
 
-    opens : refusal s.table flow ≡ None → (answer : Unit {0}) → Has after (with_client flow stream s)
-        (made (Label stream flow) answer ∷ calls)
-    opens none answer =
-        let c : DeviceConnection = new_connection (asked Stream BUF_ALLOC) stream true in
-        let now : ℕ → Option Account = account_of (made (Label stream flow) answer ∷ calls) in
-        let ch : Changes (account_of calls) now stream (labelled flow (reading_account line)) =
-        changes (labelled flow) stream (account_of calls) (reading_account line) waits in record {
-          tied = added (account_of calls) now s.table hands x.tied stream (labelled flow (reading_account line)) ch
-              (waits_unlabelled (account_of calls) stream line waits) flow c refl (accepted s.table flow none)
-              (client_tie s.table flow stream line whole) after undecided
-              (λ i d within. ch.others _ (others i d within) ∙ waiting i d within) apart;
-          over = All-push IsOver s.table.entries (next_entry s.table flow c) x.over (λ closed. absurd cc);
-          carried = x.carried;
-        }
+  pub keeps_open : flow.host ≤ ASSIGNED_LAST → Keeps (λ y later. Has after y.0 later) (open_of flow stream s) calls
+  keeps_open last = by (refusal s.table flow) refl
+    where
+      asks : DeviceTree (DeviceState × Result ℕ TableFault)
+      asks = Ask (Label stream flow) (λ a. Done (with_client flow stream s, Ok s.table.given))
 
-    by : (o : Option TableFault) → refusal s.table flow ≡ o → Keeps (λ x later. Has after x.0 later)
-        (elim o [ Some fault ↦ Done (s, Err fault) | None ↦ asks ]) calls
-    by (Some fault) is = record {
-      tied = hands_changed (account_of calls) (account_of calls) s.table hands x.tied stream (reading_account line)
-          (stays (account_of calls) stream (reading_account line) waits)
-          (waits_unlabelled (account_of calls) stream line waits) after refl refl refl undecided waiting apart;
-      over = x.over;
-      carried = x.carried;
-    }
-    by None is = ((line, waits, whole), last, λ answer fit. opens is answer)
+      by : (o : Option TableFault) → refusal s.table flow ≡ o
+          → Keeps (λ y later. Has after y.0 later) (elim o [ Some fault ↦ Done (s, Err fault) | None ↦ asks ]) calls
+      by (Some fault) is = record {
+        tied = hands_changed (account_of calls) (account_of calls) s.table hands x.tied stream (reading_account line)
+            (stays (account_of calls) stream (reading_account line) waits)
+            (waits_unlabelled (account_of calls) stream line waits) after refl refl refl undecided waiting apart;
+        over = x.over;
+        carried = x.carried;
+      }
+      by None is = ((line, waits, whole), last, λ answer fit. opens is answer)
 
 -- While connections are closed for a reset, what the streams were given stays.
 pub record AreClosing (at : ℕ → Option Account) (put taken : Flow → List ℕ) (t : Table DeviceConnection) : Type 0 where
@@ -121,25 +124,11 @@ abbrev Closing : DeviceState → List Made → Type 0
 Closing s calls = AreClosing (account_of calls) (payload_put calls) (payload_taken calls) s.table
 
 keeps_close_slot : (slot : ℕ) (s : DeviceState) (calls : List Made) → Closing s calls → Keeps Closing (close_slot slot s) calls
-keeps_close_slot slot s calls x = by (entry_under s.table slot)
-  where
-    closes : (e : DeviceEntry) (b : Bool) → Keeps Closing (cond b (Done (with_connection e.slot (stream_closed e.value) s))
-        (Ask (CloseStream e.value.stream) (λ _. Done (with_connection e.slot (stream_closed e.value) s)))) calls
-    closes e true = record {
-      table = with_value_sound s.table e.slot
-          (stream_closed e.value) x.table;
-      lawful = x.lawful;
-      carried = x.carried;
-    }
-    closes e false = λ a fit. record {
-      table = with_value_sound s.table e.slot (stream_closed e.value) x.table;
-      lawful = closed_given (account_of calls) e.value.stream x.lawful;
-      carried = x.carried;
-    }
-
-    by : (o : Option DeviceEntry) → Keeps Closing (elim o [ None ↦ Done s | Some e ↦ closing e stream_closed s ]) calls
-    by None = x
-    by (Some e) = closes e e.value.closed
+keeps_close_slot slot s calls x =
+    keeps_some asking Closing (entry_under s.table slot) (Done s) (λ e. closing e stream_closed s) calls (λ none. x) (λ e found.
+    let table = with_value_sound s.table e.slot (stream_closed e.value) x.table in
+    keeps_if asking Closing e.value.closed _ _ calls (λ closed. record { table = table; lawful = x.lawful; carried = x.carried })
+    (λ still a fit. record { table = table; lawful = closed_given (account_of calls) e.value.stream x.lawful; carried = x.carried }))
 
 -- After a reset no connection is left, and each stream that there was is at its end.
 pub record AreReset (at : ℕ → Option Account) (put taken : Flow → List ℕ) (t : Table DeviceConnection) : Type 0 where
@@ -223,8 +212,8 @@ keeps_reset hands cid s calls x = by s.failed
         (elim o [ Some f ↦ Done (s, Err f) | None ↦ bind (for_each close_slot (slots s.table) s) ends ]) calls
     by (Some f) = x
     by None =
-        keeps_then (ResetEnds hands) Closing (for_each close_slot (slots s.table) s) ends calls
-        (keeps_each Closing close_slot keeps_close_slot (slots s.table) s calls
+        keeps_then asking (ResetEnds hands) Closing (for_each close_slot (slots s.table) s) ends calls
+        (keeps_each asking Closing close_slot keeps_close_slot (slots s.table) s calls
         (record { table = x.tied.table; lawful = x.tied.lawful; carried = x.carried }))
         (λ t later kept. λ answer fit. emptied_now t later kept answer)
 

@@ -1,7 +1,7 @@
--- What the calls of a conversation come to in a device's counts, and which calls it leaves out.
-use Rattle.std.proofs.Common.{◌≡◌, ℕ, ◌<◌, ◌^◌, zero, suc, Bool, true, false, cond, List, [], ◌∷◌, refl, sym, ap, subst, ◌∙◌, arith}
+-- What the calls of a conversation come to in a device's counts, and that some take no chain of tx.
+use Rattle.std.proofs.Common.{◌≡◌, ℕ, ◌<◌, ◌^◌, Bool, true, false, cond, List, refl, sym, ap, subst, ◌∙◌, arith}
 use Rattle.std.proofs.lemmas.Bool.Decides.{nat_tests}
-use Rattle.vs_contents.specs.CallTree.{Done, Ask, bind, for_each, while_up_to, Leads}
+use Rattle.vs_contents.specs.CallTree.{Done, Ask, Leads}
 use Rattle.vs_outside.specs.{Faults.CountsFault, Host.accept_failed, Host.dial_failed, Host.read_failed, Host.write_failed}
 use Rattle.vs_ring_port.specs.Contents.{Given, PublishCid, Read, Return, Take, Write}
 use Rattle.vs_ring_port.specs.declared.{device_ring.Chain.Chain, queue.Queue.TheVariants.Event, queue.Queue.TheVariants.Rx}
@@ -9,49 +9,26 @@ use Rattle.vs_ring_port.specs.declared.queue.Queue.TheVariants.{Tx}
 use Rattle.vs_wrap.specs.Wrap.{counted}
 use Rattle.vs_device_parts.specs.Calls.{Accept, Allows, Answer, Call, CloseStream, DeviceTree, Dial, Label, ReadStream, Ring, ShutWrite}
 use Rattle.vs_device_parts.specs.Calls.{Situation, WriteStream}
+use Rattle.laws_device_walk.proofs.Keeping.{Asking, Keeps}
 use Rattle.laws_proxy_bytes.specs.{Counts.CountsFaults, Counts.DeviceCounts, Counts.count_made, Counts.counts_of, Made.Made, Made.Makes}
 use Rattle.laws_proxy_bytes.specs.Packets.{chains_taken, taken_by}
 
--- From these counts on, at each end the calls made came to what the end shows; and none of those left out is made.
-abbrev pub Walks : {A : Type 0} → (Call → Bool) → (A → DeviceCounts) → DeviceTree A → DeviceCounts → Type 0
-Walks left_out f (Done x) n = f x ≡ n
-Walks left_out f (Ask call next) n = (left_out call ≡ false) × ((a : Answer call) → Walks left_out f (next a) (count_made call a n))
+-- Calls that come to these counts; where chains of tx are left out, none is taken.
+abbrev pub leaves_out : Bool → Call → Bool
+leaves_out b (Ring (Take Tx)) = b
+leaves_out b call = false
 
--- Put together.
-module _ (left_out : Call → Bool) where
-  pub walk_bind : {A B : Type 0} (f : A → DeviceCounts) (g : B → DeviceCounts) (p : DeviceTree A) (q : A → DeviceTree B) (n : DeviceCounts) → Walks left_out f p n
-      → ((x : A) → Walks left_out g (q x) (f x)) → Walks left_out g (bind p q) n
-  walk_bind f g (Done x) q n walks then = subst (λ (m : DeviceCounts). Walks left_out g (q x) m) walks (then x)
-  walk_bind f g (Ask call next) q n walks then = (walks.0, λ a. walk_bind f g (next a) q (count_made call a n) (walks.1 a) then)
+abbrev pub counting : Bool → Asking DeviceCounts
+counting b = record {
+  asks = λ call n P. (leaves_out b call ≡ false) × ((a : Answer call) → P a (count_made call a n));
+  weaker = λ call n P R then asks. (asks.0, λ a. then a (count_made call a n) (asks.1 a));
+}
 
-  pub walk_each : {A X : Type 0} (f : A → DeviceCounts) (each : X → A → DeviceTree A) → ((i : X) (x : A) → Walks left_out f (each i x) (f x)) → (is : List X)
-      (x : A) → Walks left_out f (for_each each is x) (f x)
-  walk_each f each walks [] x = refl
-  walk_each f each walks (i ∷ is) x = walk_bind f f (each i x) (for_each each is) (f x) (walks i x) (λ y. walk_each f each walks is y)
+-- From these counts on, at each end the calls made came to what the end shows.
+abbrev pub Walks : {A : Type 0} → Bool → (A → DeviceCounts) → DeviceTree A → DeviceCounts → Type 0
+Walks b f tree n = Keeps (counting b) (λ x m. f x ≡ m) tree n
 
-  pub walk_while : {A : Type 0} (f : A → DeviceCounts) (each : A → DeviceTree (A × Bool)) → ((x : A) → Walks left_out (λ r. f r.0) (each x) (f x)) → (n : ℕ)
-      (x : A) → Walks left_out f (while_up_to n each x) (f x)
-  walk_while f each walks zero x = refl
-  walk_while {A} f each walks (suc n) x =
-      walk_bind (λ r. f r.0) f (each x) (λ r. elim r.1 [ true ↦ while_up_to n each r.0 | false ↦ Done r.0 ]) (f x) (walks x)
-      (λ r. by (λ y. walk_while f each walks n y) r.0 r.1)
-    where
-      by : ((y : A) → Walks left_out f (while_up_to n each y) (f y)) → (y : A) (b : Bool)
-          → Walks left_out f (elim b [ true ↦ while_up_to n each y | false ↦ Done y ]) (f y)
-      by rest y true = rest y
-      by rest y false = refl
-
-  pub walk_if : {A : Type 0} (f : A → DeviceCounts) (b : Bool) (p q : DeviceTree A) (n : DeviceCounts) → Walks left_out f p n → Walks left_out f q n
-      → Walks left_out f (cond b p q) n
-  walk_if f true p q n one other = one
-  walk_if f false p q n one other = other
-
--- A quiet conversation takes no chain of tx.
-abbrev pub quiet : Call → Bool
-quiet (Ring (Take Tx)) = true
-quiet call = false
-
-none_taken : (call : Call) (a : Answer call) (chains : List Chain) → quiet call ≡ false → taken_by call a chains ≡ chains
+none_taken : (call : Call) (a : Answer call) (chains : List Chain) → leaves_out true call ≡ false → taken_by call a chains ≡ chains
 none_taken (Ring (Take Tx)) a chains left = absurd cc
 none_taken (Ring (Take Rx)) a chains left = refl
 none_taken (Ring (Take Event)) a chains left = refl
@@ -69,22 +46,14 @@ none_taken (ShutWrite stream) a chains left = refl
 none_taken (CloseStream stream) a chains left = refl
 
 pub none_in : {A : Type 0} (f : A → DeviceCounts) (tree : DeviceTree A) (calls later : List Made) (x : A) (n : DeviceCounts)
-    → Walks quiet f tree n → Leads Makes tree calls x later → chains_taken later ≡ chains_taken calls
+    → Walks true f tree n → Leads Makes tree calls x later → chains_taken later ≡ chains_taken calls
 none_in f (Done y) calls later x n walks leads = ap chains_taken (sym leads.1)
 none_in f (Ask call next) calls later x n walks leads =
     none_in f (next leads.0) leads.1 later x (count_made call leads.0 n) (walks.1 leads.0) leads.3
     ∙ ap chains_taken leads.2.1 ∙ none_taken call leads.0 (chains_taken calls) walks.0
 
--- Any conversation.
-abbrev pub any : Call → Bool
-any call = false
-
-pub any_of : {A : Type 0} (f : A → DeviceCounts) (tree : DeviceTree A) (n : DeviceCounts) → Walks quiet f tree n → Walks any f tree n
-any_of f (Done y) n walks = walks
-any_of f (Ask call next) n walks = (refl, λ a. any_of f (next a) (count_made call a n) (walks.1 a))
-
 pub counts_made : {A : Type 0} (f : A → DeviceCounts) (tree : DeviceTree A) (calls later : List Made) (x : A) (n first : DeviceCounts)
-    → Walks any f tree n → n ≡ counts_of first calls → Leads Makes tree calls x later → f x ≡ counts_of first later
+    → Walks false f tree n → n ≡ counts_of first calls → Leads Makes tree calls x later → f x ≡ counts_of first later
 counts_made f (Done y) calls later x n first walks same leads =
     ap f (sym leads.0) ∙ walks ∙ same ∙ ap (counts_of first) leads.1
 counts_made f (Ask call next) calls later x n first walks same leads =
@@ -128,7 +97,7 @@ alike (ShutWrite stream) a x y n same allowed = stays_alike n.faults x.faults y.
 alike (CloseStream stream) a x y n same allowed = stays_alike n.faults x.faults y.faults same allowed.faults
 
 pub faults_alike : {A : Type 0} (f : A → DeviceCounts) (tree : DeviceTree A) (a b : Situation) (x : A) (n : DeviceCounts)
-    → CountsFaults n.faults a.faults → Walks any f tree n → Leads Allows tree a x b → CountsFaults (f x).faults b.faults
+    → CountsFaults n.faults a.faults → Walks false f tree n → Leads Allows tree a x b → CountsFaults (f x).faults b.faults
 faults_alike f (Done y) a b x n same walks leads =
     let is : (f x).faults ≡ n.faults = ap (λ z. (f z).faults) (sym leads.0) ∙ ap (λ (m : DeviceCounts). m.faults) walks in
     let P : ℕ → Type 0 = λ m. CountsFaults m b.faults in

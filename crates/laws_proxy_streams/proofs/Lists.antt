@@ -5,8 +5,7 @@ use Rattle.std.proofs.lemmas.List.Elements.{Contains-push_cases}
 use Rattle.std.specs.List.{find}
 use Rattle.vs_outside.specs.Host.{HostContents}
 use Rattle.laws_device_streams.specs.Streams.{AreApart, AreOpen}
-use Rattle.vs_proxy_parts.specs.{Handshakes.handshake_on, Handshakes.with_line, Handshakes.without_stream, State.Handshake}
-use Rattle.vs_proxy_parts.specs.State.{ProxyState}
+use Rattle.vs_proxy_parts.specs.{Handshakes.with_line, Handshakes.without_stream, State.Handshake}
 
 abbrev pub ids : List Handshake → List ℕ
 ids hs = map (λ h. h.stream) hs
@@ -91,7 +90,7 @@ pub record IsOn (stream : ℕ) (hs : List Handshake) (h : Handshake) : Type 0 wh
   pub stream_is : h.stream ≡ stream
   pub among : Contains (ids hs) stream
 
-found_on : (stream : ℕ) (hs : List Handshake) (h : Handshake) → find (λ x. x.stream == stream) hs ≡ Some h → IsOn stream hs h
+pub found_on : (stream : ℕ) (hs : List Handshake) (h : Handshake) → find (λ x. x.stream == stream) hs ≡ Some h → IsOn stream hs h
 found_on stream [] h found = absurd (cc)
 found_on stream (x ∷ hs) h found = by (λ later. found_on stream hs h later) (x.stream == stream) refl found
   where
@@ -105,9 +104,6 @@ found_on stream (x ∷ hs) h found = by (λ later. found_on stream hs h later) (
           among = subst (Contains (ids (x ∷ hs))) same (at_first x.stream (ids hs));
         }
     by rest false is found = let on = rest found in record { stream_is = on.stream_is; among = further x.stream (ids hs) stream on.among }
-
-pub on_stream : (stream : ℕ) (s : ProxyState) (h : Handshake) → handshake_on stream s ≡ Some h → IsOn stream s.handshakes h
-on_stream stream s h found = found_on stream s.handshakes h found
 
 pub none_open : (h : HostContents) → AreOpen [] h
 none_open h = record { all_open = λ id among. let lt = among.1 in absurd (omega (arith, lt)); apart = tt }

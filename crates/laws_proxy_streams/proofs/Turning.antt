@@ -1,108 +1,29 @@
--- A turn, stage by stage, and a reset.
-use Rattle.std.proofs.Common.{◌≡◌, ℕ, ◌+◌, Bool, true, false, List, [], ◌∷◌, Option, Some, None, Result, Ok, Err, refl}
+-- A turn and a reset.
+use Rattle.laws_device_walk.proofs.Turning as walked
+use Rattle.laws_device_streams.proofs.{Closing.closes, Keeping.asking, Receiving.fills, Transmitting.takes, Writing.writes}
+use Rattle.laws_proxy_streams.proofs.{Lists.ids, Shaking.D, Shaking.shakes}
+use Rattle.std.proofs.Common.{◌≡◌, ℕ, true, List, [], ◌∷◌, Some, Result, Ok, Err, refl}
 use Rattle.std.specs.Option.{ForSome}
 use Rattle.vs_contents.specs.CallTree.{Done, for_each}
 use Rattle.vs_flow.specs.Table.{Table}
 use Rattle.vs_outside.specs.Host.{IsOpen, after_close}
 use Rattle.vs_ring_port.specs.declared.failure.Failure.{Failure}
-use Rattle.vs_device_parts.specs.{declared.answers.Filled.Filled, declared.answers.Taken.Taken, Calls.Call, Calls.CloseStream}
-use Rattle.vs_device_parts.specs.{Calls.Situation, Calls.DeviceTree, Calls.Allows, Receiving.fill_rx_of, Receiving.pay_event_of}
-use Rattle.vs_device_parts.specs.{State.DeviceConnection, State.DeviceState, Streams.pump_of, Streams.tick_of, Transmitting.take_tx_of}
+use Rattle.vs_device_parts.specs.{Calls.Call, Calls.CloseStream, Calls.Situation, Calls.Allows, State.DeviceConnection, State.DeviceState}
 use Rattle.vs_device_parts.specs.Turns.{reset_of}
 use Rattle.laws_device_streams.specs.{Split.CanReach, Split.is_quiet, Streams.FindsStreams, Streams.HasStreams}
-use Rattle.laws_device_streams.proofs.{Closing.keeps_tick, Keeping.Keeps, Keeping.keeps_then, Keeping.keeps_while, Opening.keeps_reset}
-use Rattle.laws_device_streams.proofs.{Receiving.keeps_fill_rx, Receiving.keeps_pay_event, Tables.some_after, Tables.some_from}
-use Rattle.laws_device_streams.proofs.{Transmitting.keeps_take_tx, Writing.keeps_pump, Stepping.reach}
-use Rattle.vs_proxy_parts.specs.{Handshakes.shake_hands, Handshakes.streams_of, Handshakes.tick_handshakes, State.ProxyState, State.Turning}
-use Rattle.vs_proxy_parts.specs.{State.start, State.with_device, Turns.close_handshake, Turns.device_after, Turns.event_stage}
-use Rattle.vs_proxy_parts.specs.Turns.{fill_stage, filled, proxy_reset_of, pump_stage, reset_with, take_one, take_stage, tick_stage}
-use Rattle.vs_proxy_parts.specs.{Turns.took_packet, Turns.turn_of, Turns.unless_failed, declared.answers.Turn.Turn}
-use Rattle.laws_proxy_streams.proofs.{Hosts.has_dropped, Lists.at_first, Lists.further, Shaking.FindsAll, Shaking.Turns, Shaking.TurnsFirst}
-use Rattle.laws_proxy_streams.proofs.Shaking.{keeps_shake_hands, keeps_tick_handshakes}
-
-keeps_unless : (stage : Turning → DeviceTree Turning) (t : Turning) (c : Situation) → (Turns t c → Keeps CanReach Allows Turns (stage t) c)
-    → Turns t c → Keeps CanReach Allows Turns (unless_failed stage t) c
-keeps_unless stage t c then has = by t.state.device.failed
-  where
-    by : (o : Option Failure) → Keeps CanReach Allows Turns (elim o [ Some f ↦ Done t | None ↦ stage t ]) c
-    by (Some f) = has
-    by None = then has
-
-module _ (t : Turning) (c : Situation) (has : Turns t c) where
-  others : List ℕ
-  others = streams_of t.state
-
-  pub keeps_tick_stage : (now : ℕ) → Keeps CanReach Allows Turns (tick_stage now t) c
-  unfolding others
-  keeps_tick_stage now =
-      keeps_then CanReach Allows Turns (FindsStreams others) (tick_of now t.state.device) (λ d. tick_handshakes (device_after d t)) c
-      (keeps_tick CanReach reach others now t.state.device c has)
-      (λ d e kept. keeps_tick_handshakes CanReach reach (device_after d t) e kept)
-
-  pub keeps_event_stage : Keeps CanReach Allows Turns (event_stage t) c
-  unfolding others
-  keeps_event_stage =
-      keeps_then CanReach Allows Turns (λ r d. FindsStreams others r.0 d) (pay_event_of t.state.device) (λ r. Done (device_after r.0 t)) c
-      (keeps_pay_event others t.state.device c has) (λ r d kept. kept)
-
-  pub keeps_pump_stage : Keeps CanReach Allows Turns (pump_stage t) c
-  unfolding others
-  keeps_pump_stage =
-      keeps_then CanReach Allows Turns (λ w d. FindsStreams others w.state d) (pump_of t.state.device)
-      (λ w. Done (record (device_after w.state t) { wrote = t.wrote + w.wrote })) c
-      (keeps_pump CanReach reach others t.state.device c has) (λ w d kept. kept)
-
-  pub keeps_fill_stage : Keeps CanReach Allows Turns (fill_stage t) c
-  unfolding others
-  keeps_fill_stage =
-      keeps_then CanReach Allows Turns (λ r d. FindsStreams others r.0 d) (fill_rx_of t.state.device)
-      (λ r. Done (filled r.1 (device_after r.0 t))) c
-      (keeps_fill_rx others t.state.device c has) (λ r d kept. by r.0 d r.1 kept)
-    where
-      by : (s : DeviceState) (d : Situation) (r : Result Filled Failure) → FindsStreams (streams_of t.state) s d
-          → Turns (filled r (device_after s t)) d
-      by s d (Ok f) kept = kept
-      by s d (Err f) kept = kept
-
-  keeps_take_one : Keeps CanReach Allows TurnsFirst (take_one t) c
-  unfolding others
-  keeps_take_one =
-      keeps_then CanReach Allows TurnsFirst (λ r d. FindsStreams others r.0 d) (take_tx_of t.state.device) ends c
-      (keeps_take_tx CanReach reach others t.state.device c has) (λ r d kept. by r.0 d (took_packet r.1) kept)
-    where
-      ends : DeviceState × Taken → DeviceTree (Turning × Bool)
-      ends r = elim (took_packet r.1) [
-        | true ↦ Done (record (device_after r.0 t) { took = t.took + 1 }, true)
-        | false ↦ Done
-            (device_after r.0 t, false)
-      ]
-
-      by : (s : DeviceState) (d : Situation) (b : Bool) → FindsStreams (streams_of t.state) s d → Keeps CanReach Allows TurnsFirst
-          (elim b [ true ↦ Done (record (device_after s t) { took = t.took + 1 }, true) | false ↦ Done (device_after s t, false) ]) d
-      by s d true kept = kept
-      by s d false kept = kept
-
-keeps_take_stage : (size : ℕ) (t : Turning) (c : Situation) → Turns t c → Keeps CanReach Allows Turns (take_stage size t) c
-keeps_take_stage size t c has = keeps_while CanReach Allows Turns take_one (λ u d kept. keeps_take_one u d kept) size t c has
+use Rattle.laws_device_streams.proofs.{Keeping.Keeps, Keeping.keeps_then, Opening.keeps_reset, Tables.some_after, Tables.some_from}
+use Rattle.laws_device_streams.proofs.{Stepping.reach}
+use Rattle.vs_proxy_parts.specs.{Handshakes.streams_of, State.ProxyState, State.with_device, Turns.close_handshake}
+use Rattle.vs_proxy_parts.specs.Turns.{proxy_reset_of, reset_with}
+use Rattle.vs_proxy_parts.specs.{Turns.turn_of, declared.answers.Turn.Turn}
+use Rattle.laws_proxy_streams.proofs.{Hosts.has_dropped, Lists.at_first, Lists.further, Shaking.FindsAll}
 
 pub keeps_turn : (size now : ℕ) (s : ProxyState) (c : Situation) → FindsAll s c
-    → Keeps CanReach Allows (λ x d. FindsAll x.0 d) (turn_of size now s) c
-keeps_turn size now s c has =
-    keeps_then CanReach Allows Q Turns (unless_failed (tick_stage now) (start s)) _ c
-    (keeps_unless (tick_stage now) (start s) c (λ has. keeps_tick_stage (start s) c has now) has) (λ t d kept.
-    keeps_then CanReach Allows Q Turns (unless_failed event_stage t) _ d
-    (keeps_unless event_stage t d (λ has. keeps_event_stage t d has) kept) (λ t d kept.
-    keeps_then CanReach Allows Q Turns (unless_failed (take_stage size) t) _ d
-    (keeps_unless (take_stage size) t d (λ has. keeps_take_stage size t d has) kept) (λ t d kept.
-    keeps_then CanReach Allows Q Turns (unless_failed shake_hands t) _ d
-    (keeps_unless shake_hands t d (λ has. keeps_shake_hands CanReach reach t d has) kept) (λ t d kept.
-    keeps_then CanReach Allows Q Turns (unless_failed pump_stage t) _ d
-    (keeps_unless pump_stage t d (λ has. keeps_pump_stage t d has) kept) (λ t d kept.
-    keeps_then CanReach Allows Q Turns (unless_failed fill_stage t) _ d
-    (keeps_unless fill_stage t d (λ has. keeps_fill_stage t d has) kept) (λ t d kept. kept))))))
-  where
-    Q : ProxyState × Turn → Situation → Type 0
-    Q x d = FindsAll x.0 d
+    → Keeps CanReach Allows (λ (x : ProxyState × Turn) d. FindsAll x.0 d) (turn_of size now s) c
+keeps_turn =
+    walked.keeps_turn (asking CanReach Allows) D (shakes CanReach reach) (λ hands. closes CanReach reach (ids hands))
+    (λ hands chain h t c. D hands (Some chain) t c) (λ hands. takes CanReach reach (ids hands)) (λ hands. writes CanReach reach (ids hands))
+    (λ hands. fills (ids hands))
 
 -- RESET
 module _ (Can : Call → Situation → Type 0) (reaches : (call : Call) (s : Situation) → is_quiet call ≡ true → CanReach call s

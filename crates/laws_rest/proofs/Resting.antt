@@ -1,6 +1,6 @@
 -- Both ends at rest, flow by flow.
-use Rattle.std.proofs.Common.{◌≡◌, ℕ, ◌<◌, ◌≤◌, ◌^◌, ◌%◌, Bool, true, false, ◌||◌, if◌then◌else◌, List, [], ◌∷◌, Option, Some, None}
-use Rattle.std.proofs.Common.{refl, sym, ap, ◌∙◌, subst, arith}
+use Rattle.std.proofs.Common.{◌≡◌, ℕ, ◌<◌, ◌≤◌, ◌^◌, ◌%◌, Bool, true, false, ◌||◌, if◌then◌else◌, List, [], ◌∷◌, Option, Some, None, refl}
+use Rattle.std.proofs.Common.{sym, ap, ◌∙◌, subst, arith}
 use Rattle.std.proofs.lemmas.{Grind.common_steps, List.Elements.All-head, List.Elements.All-tail}
 use Rattle.std.specs.List.{All}
 use Rattle.vs_wrap.specs.Wrap.{difference32}
@@ -215,9 +215,6 @@ least_put side (Got p ∷ h) fair some none = least_put side h fair.1 some none
 least_put side (Put p ∷ h) fair some none =
     newest_least side (puts h) (gots h) p fair.0 none
     (λ more. least_put side h fair.1 more (first_no (is_rst p) (has is_rst (puts h)) none).1)
-
-response_some : (ps : List Packet) → has is_response ps ≡ true → is_none ps ≡ false
-response_some = grind (arith, common_steps)
 
 begun_some : (side : Side) (put got : List Packet) (e other : ConnectionEnd) → Follows side put got e → Follows (peer side) got put other
     → e.state ≡ Live → other.state ≡ Live → (is_none put ≡ false) × (is_none got ≡ false)

@@ -31,9 +31,7 @@ none_left : (rx : ℕ) → rx < 2 ^ 32 → (rx + 2 ^ 32 - rx) % 2 ^ 32 ≡ 0
 none_left rx r = omega (arith, r)
 
 message_unread : (o : Option Op) (e : ConnectionEnd) (h : Header) → unread_of (after_message o e h).credit ≡ unread_of e.credit
-message_unread (Some op.Shutdown) e h = refl
-message_unread (Some op.CreditUpdate) e h = refl
-message_unread (Some op.CreditRequest) e h = refl
+message_unread (Some op.Invalid) e h = refl
 message_unread _ e h = refl
 
 delivers_room : (e : ConnectionEnd) (h : Header) → verdict_of e h ≡ verdict.Deliver → h.len ≤ room_of e.credit

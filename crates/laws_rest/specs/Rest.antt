@@ -1,6 +1,6 @@
 -- Driver and device at rest, as plain data: each got all that the other put, and nothing is owed.
 use Rattle.std.specs.Prelude.{◌≡◌, ℕ, ◌<◌, ◌≤◌, ◌^◌, Bool, true, false, [], ◌∷◌, None}
-use Rattle.std.specs.List.{All}
+use Rattle.std.specs.{List.All, Option.ForSome}
 use Rattle.vs_wrap.specs.Wrap.{difference32}
 use Rattle.vs_conn.specs.{End.ConnectionEnd, End.owes_of, Shut.is_both, declared.end.State.TheVariants.Live}
 use Rattle.vs_conn.specs.declared.end.TheConstants.{UPDATE_AT}
@@ -8,6 +8,7 @@ use Rattle.vs_flow.specs.declared.flow.Flow.{Flow}
 use Rattle.vs_limits.specs.declared.TheConstants.{BUF_ALLOC, HOST_CID}
 use Rattle.vs_page.specs.{Fair.IsFairLog, Log.Device, Log.Log, Log.Role, Log.other_role, Log.packets_got, Log.packets_put, Open.cid_of}
 use Rattle.vs_page.specs.{Open.is_dropped, declared.log.LogEntry.TheVariants.Mark, declared.log.LogEntry.TheVariants.PutPacket}
+use Rattle.vs_ring_port.specs.Contents.{RingContents}
 use Rattle.laws_tables.specs.{Both.Both, Both.at, Ends.Ends, Ends.flows_of, Ends.is_among, Matches.Matches}
 
 -- No transport reset stands in a log.
@@ -22,6 +23,13 @@ abbrev pub AreRouted : ℕ → Log → Type 0
 AreRouted first [] = Unit {0}
 AreRouted first (PutPacket p ∷ log) = (is_dropped Device (cid_of first log) p.header ≡ false) × AreRouted first log
 AreRouted first (_ ∷ log) = AreRouted first log
+
+-- So are the packets that the driver put, as long as all that it got come from the host; and the same where an honest ring tells the log.
+abbrev pub IsRoutedLog : ℕ → Log → Type 0
+IsRoutedLog first log = All (λ p. p.header.src_cid ≡ HOST_CID) (packets_got log) → AreRouted first log
+
+abbrev pub IsRoutedWith : ℕ → RingContents → Type 0
+IsRoutedWith first c = c.honest ≡ true → ForSome c.log (λ l. IsRoutedLog first l.entries)
 
 -- An end owes nothing: no connection of its own does, and no reply is owed.
 pub record OwesNothing (part : Ends) : Type 0 where

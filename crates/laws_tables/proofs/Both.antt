@@ -1,5 +1,6 @@
 -- Each step at either seat keeps both sound.
-use Rattle.std.proofs.Common.{◌≡◌, ℕ, Bool, true, false, if◌then◌else◌, List, [], ◌∷◌, refl, sym, ap, ◌∙◌}
+use Rattle.std.proofs.lemmas.Grind.{common_steps}
+use Rattle.std.proofs.Common.{arith, ◌≡◌, ℕ, Bool, true, false, if◌then◌else◌, List, [], ◌∷◌, refl, sym, ap, ◌∙◌}
 use Rattle.vs_conn.specs.{End.ConnectionEnd, End.is_refused, End.verdict_of, Follows.Follows, Follows.IsTaken}
 use Rattle.vs_conn.proofs.Steps.{abort_follows, ask_follows, forward_follows, grow_follows, shut_follows}
 use Rattle.laws_history.specs.{History.Side, History.gots, History.puts, Packets.IsFormed, Packets.is_request, Packets.is_rst}
@@ -75,11 +76,7 @@ decided_follows side put got e WantsCredit may follows = ask_follows side put go
 decided_follows side put got e (Grows alloc) may follows = grow_follows side put got e alloc follows may.0 may.1 may.2
 
 pub decided_kind : (e : ConnectionEnd) (what : Decision) → (decided e what).kind ≡ e.kind
-decided_kind e (Forwards n) = refl
-decided_kind e (Shuts bits) = refl
-decided_kind e Aborts = refl
-decided_kind e WantsCredit = refl
-decided_kind e (Grows alloc) = refl
+decided_kind = grind (arith, common_steps)
 
 -- A packet that is taken, where the log is fair with it.
 answer_keeps : (role : Role) (first : ℕ) (p : Packet) (answer : Bool) (part : Ends) (log : Log) (asks : Bool)

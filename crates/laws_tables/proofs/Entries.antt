@@ -1,6 +1,5 @@
 -- What each change of the entries does to a flow's ends.
 use Rattle.std.proofs.Common.{◌≡◌, nat_le, length, Bool, true, false, ◌||◌, if◌then◌else◌, List, [], ◌∷◌, ◌++◌, refl, sym, ap, ◌∙◌, arith}
-use Rattle.std.proofs.Common.{◌⊎◌, inl, inr}
 use Rattle.std.proofs.lemmas.Grind.{common_steps}
 use Rattle.vs_conn.specs.End.{ConnectionEnd}
 use Rattle.vs_flow.specs.{Flow.is_host, Flow.same_flow, declared.flow.Flow.Flow}
@@ -90,10 +89,6 @@ pub rest_among : (f : Flow) (fs : List Flow) → is_among f (rest_of fs) ≡ tru
 rest_among f [] is = is
 rest_among f (g ∷ gs) is = grind (arith, common_steps, is)
 
-or_cases : (a b : Bool) → (a || b) ≡ true → (a ≡ true) ⊎ (b ≡ true)
-or_cases true b is = inl refl
-or_cases false b is = inr is
-
 keeping_by : (f g : Flow) (fs : List Flow) (b : Bool) → is_among g ((if b then rest_of fs else fs) ++ f ∷ []) ≡ true
     → same_flow g f ≡ false → is_among g fs ≡ true
 keeping_by f g fs true is other = rest_among g fs (sym (among_other f g (rest_of fs) other) ∙ is)
@@ -126,15 +121,10 @@ without_distinct f [] d = tt
 without_distinct f (g ∷ gs) d = without_by f g gs (same_flow f g) d.0 (without_distinct f gs d.1)
 
 same_back : (f g : Flow) → same_flow f g ≡ false → same_flow g f ≡ false
-same_back f g other = by (same_flow g f) refl
-  where
-    by : (b : Bool) → same_flow g f ≡ b → b ≡ false
-    by true is = let both : true ≡ false = sym (same_self f) ∙ ap (same_flow f) (sym (same_is g f is)) ∙ other in absurd cc
-    by false is = refl
+same_back = grind (arith, common_steps)
 
 or_parts : (a b : Bool) → (a || b) ≡ false → (a ≡ false) × (b ≡ false)
-or_parts true b none = absurd cc
-or_parts false b none = (refl, none)
+or_parts = grind (arith, common_steps)
 
 last_distinct : (f : Flow) (fs : List Flow) → is_among f fs ≡ false → AreDistinct fs → AreDistinct (fs ++ f ∷ [])
 last_distinct f [] none d = (refl, tt)
@@ -143,8 +133,7 @@ last_distinct f (g ∷ gs) none d =
     (among_other f g gs (same_back f g two.0) ∙ d.0, last_distinct f gs two.1 d.1)
 
 rest_distinct : (fs : List Flow) → AreDistinct fs → AreDistinct (rest_of fs)
-rest_distinct [] d = tt
-rest_distinct (g ∷ gs) d = d.1
+rest_distinct = grind (arith, common_steps)
 
 keeping_from : (f : Flow) (fs : List Flow) (b : Bool) → is_among f fs ≡ false → AreDistinct fs
     → AreDistinct ((if b then rest_of fs else fs) ++ f ∷ [])

@@ -1,21 +1,13 @@
 -- Packets come in order where no flow is used again.
-use Rattle.std.proofs.Common.{◌≡◌, Bool, true, false, ◌||◌, if◌then◌else◌, [], ◌∷◌, refl, sym, ◌∙◌}
+use Rattle.std.proofs.lemmas.Grind.{common_steps}
+use Rattle.std.proofs.Common.{arith, ◌≡◌, Bool, true, false, ◌||◌, if◌then◌else◌, [], ◌∷◌, refl, sym, ◌∙◌}
 use Rattle.laws_history.specs.{Packets.has, Packets.is_clean_rst, Packets.is_request, declared.packet.Packet.Packet, Again.present}
 use Rattle.laws_history.specs.History.{Answerer, Asker, Entry, Got, History, Put, Side, gots}
 use Rattle.laws_tables.specs.Heard.{AsksOnce, IsOrdered, StopsAtMark, is_awaiting, is_empty}
 
 -- What passed on the present connection is a part of all that passed, and not nothing.
 some_present : (entry : Entry) (w : History) → is_empty (present (entry ∷ w)) ≡ false
-some_present (Put p) w = by (is_request p)
-  where
-    by : (b : Bool) → is_empty (if b then Put p ∷ [] else Put p ∷ present w) ≡ false
-    by true = refl
-    by false = refl
-some_present (Got p) w = by (is_request p)
-  where
-    by : (b : Bool) → is_empty (if b then Got p ∷ [] else Got p ∷ present w) ≡ false
-    by true = refl
-    by false = refl
+some_present = grind (arith, common_steps)
 
 no_mark : (w : History) → has is_clean_rst (gots w) ≡ false → has is_clean_rst (gots (present w)) ≡ false
 no_mark [] none = refl
@@ -38,12 +30,10 @@ awaiting : (h : History) → is_empty h ≡ false → has is_clean_rst (gots h) 
 awaiting h some none = rw some (rw none refl)
 
 first_put : (side : Side) (p : Packet) → AsksOnce side (Put p ∷ []) → is_request p ≡ true
-first_put Asker p once = once
-first_put Answerer p once = absurd once
+first_put = grind (arith, common_steps)
 
 first_got : (side : Side) (p : Packet) → AsksOnce side (Got p ∷ []) → (side ≡ Answerer)
-first_got Answerer p once = refl
-first_got Asker p once = absurd once
+first_got = grind (arith, common_steps)
 
 pub once_ordered : (side : Side) (w : History) → AsksOnce side w → StopsAtMark side w → IsOrdered side w
 once_ordered side [] once stops = tt

@@ -1,8 +1,9 @@
 -- Replies that are owed may be put, over a log with one more packet.
-use Rattle.std.proofs.Common.{◌≡◌, ℕ, Bool, true, false, ◌||◌, if◌then◌else◌, ◌⊎◌, inl, inr, List, [], ◌∷◌, ◌++◌, refl, sym, ap, ◌∙◌, subst}
+use Rattle.std.proofs.lemmas.Grind.{common_steps}
+use Rattle.std.proofs.Common.{arith, ◌≡◌, ℕ, Bool, true, false, if◌then◌else◌, List, [], ◌∷◌, ◌++◌, refl, sym, subst}
 use Rattle.vs_flow.specs.{Flow.same_flow, declared.flow.Flow.Flow}
 use Rattle.vs_header.specs.Kind.{kind_number}
-use Rattle.laws_history.specs.{declared.packet.Packet.Packet, Again.AllowsNow, Again.IsClean}
+use Rattle.laws_history.specs.{declared.packet.Packet.Packet, Again.AllowsNow}
 use Rattle.laws_history.specs.History.{Answerer, Asker, Got, History, Put, Side, gots, is_begun, of_asker, puts}
 use Rattle.laws_history.specs.Packets.{asked_kind, has, is_clean_rst, is_request}
 use Rattle.vs_page.specs.{declared.log.LogEntry.TheVariants.GotPacket, declared.log.LogEntry.TheVariants.PutPacket, Fair.IsFairLog}
@@ -10,36 +11,22 @@ use Rattle.vs_page.specs.Log.{Log, Role, and_then, flow_got, flow_put, history_o
 use Rattle.vs_page.proofs.{Entries.fair_got_on, Flows.same_is, Phases.kind_stays}
 use Rattle.laws_tables.specs.{Ends.is_among, Ends.replied, Matches.AllOwed, Matches.IsOwed}
 use Rattle.vs_replies.specs.declared.Reply.{Reply}
-use Rattle.laws_tables.proofs.{Frame.same_of, Steps.then_got, Steps.then_put}
+use Rattle.laws_tables.proofs.{Frame.same_of}
 
 -- Replies that may be put, over a log with one more packet.
 reply_among : (r : Reply) (rs : List Reply) (f : Flow) → same_flow r.flow f ≡ true → is_among f (replied (r ∷ rs)) ≡ true
 reply_among r rs f is = let e = same_is r.flow f is in rw (same_of f r.flow e) refl
 
 rest_among : (r : Reply) (rs : List Reply) (f : Flow) → is_among f (replied rs) ≡ true → is_among f (replied (r ∷ rs)) ≡ true
-rest_among r rs f is = by (same_flow f r.flow)
-  where
-    by : (b : Bool) → (b || is_among f (replied rs)) ≡ true
-    by true = refl
-    by false = is
+rest_among = grind (arith, common_steps)
 
 begun_put : (side : Side) (h : History) (p : Packet) → is_begun side (puts h) (gots h) ≡ true
     → is_begun side (puts (Put p ∷ h)) (gots (Put p ∷ h)) ≡ true
-begun_put Asker h p is = by (is_request p)
-  where
-    by : (b : Bool) → (b || has is_request (puts h)) ≡ true
-    by true = refl
-    by false = is
-begun_put Answerer h p is = is
+begun_put = grind (arith, common_steps)
 
 pub begun_got : (side : Side) (h : History) (p : Packet) → is_begun side (puts h) (gots h) ≡ true
     → is_begun side (puts (Got p ∷ h)) (gots (Got p ∷ h)) ≡ true
-begun_got Asker h p is = is
-begun_got Answerer h p is = by (is_request p)
-  where
-    by : (b : Bool) → (b || has is_request (gots h)) ≡ true
-    by true = refl
-    by false = is
+begun_got = grind (arith, common_steps)
 
 kind_put_stays : (side : Side) (h : History) (p : Packet) → is_request p ≡ false
     → asked_kind (of_asker side (puts (Put p ∷ h)) (gots (Put p ∷ h))) ≡ asked_kind (of_asker side (puts h) (gots h))
@@ -63,45 +50,20 @@ due_of role log r o = record { begun = o.begun; kind_is = o.kind; quiet = o.quie
 
 pub owed_of : (role : Role) (log : Log) (r : Reply) → IsDue (side_of role r.flow) (history_of role r.flow log) (kind_number r.kind)
     → IsOwed role log r
-owed_of role log r d = record { begun = d.begun; kind = d.kind_is; quiet = d.quiet }
+owed_of = grind (arith, common_steps)
 
 due_put : (side : Side) (h : History) (p : Packet) (kind : ℕ) (b : Bool) → (b ≡ true → (is_request p ≡ false) × (is_clean_rst p ≡ false))
     → IsDue side h kind → IsDue side (if b then and_then (Put p) h else h) kind
-due_put side h p kind true plain d =
-    let two = plain refl in
-    subst (λ x. IsDue side x kind) (sym (then_put p h two.0)) (record {
-      begun = begun_put side h p d.begun;
-      kind_is = d.kind_is ∙ sym (kind_put_stays side h p two.0);
-      quiet = rw two.1 d.quiet;
-    })
-due_put side h p kind false plain d = d
-
-begun_none : (side : Side) (h : History) → is_begun side (puts h) (gots h) ≡ true → (gots h ≡ []) × (puts h ≡ []) → ⊥
-begun_none Asker h is none = let both : false ≡ true = sym (ap (has is_request) none.1) ∙ is in absurd cc
-begun_none Answerer h is none = let both : false ≡ true = sym (ap (has is_request) none.0) ∙ is in absurd cc
+due_put = grind (arith, begun_put, kind_put_stays, common_steps)
 
 -- A REQUEST doesn't come while a reply is owed.
-due_no_request : (side : Side) (h : History) (p : Packet) (kind : ℕ) → AllowsNow side h (Got p) → IsDue side h kind → is_request p ≡ true
-    → ⊥
-due_no_request side h p kind may d is = by (may.opens is).0
-  where
-    by : ((gots h ≡ []) × (puts h ≡ [])) ⊎ IsClean (gots h) (puts h) → ⊥
-    by (inl none) = begun_none side h d.begun none
-    by (inr clean) = let both : false ≡ true = sym d.quiet ∙ clean.marked in absurd cc
-
 due_got_by : (side : Side) (h : History) (p : Packet) (kind : ℕ) (asks : Bool) → is_request p ≡ asks → AllowsNow side h (Got p)
     → IsDue side h kind → IsDue side (and_then (Got p) h) kind
-due_got_by side h p kind true is may d = absurd (due_no_request side h p kind may d is)
-due_got_by side h p kind false is may d = subst (λ x. IsDue side x kind) (sym (then_got p h is)) (record {
-  begun = begun_got side h p d.begun;
-  kind_is = d.kind_is ∙ sym (kind_got_stays side h p is);
-  quiet = d.quiet;
-})
+due_got_by = grind (arith, common_steps)
 
 due_got : (side : Side) (h : History) (p : Packet) (kind : ℕ) (b : Bool) → (b ≡ true → AllowsNow side h (Got p))
     → IsDue side h kind → IsDue side (if b then and_then (Got p) h else h) kind
-due_got side h p kind true may d = due_got_by side h p kind (is_request p) refl (may refl) d
-due_got side h p kind false may d = d
+due_got = grind (arith, due_got_by, common_steps)
 
 pub all_put : (role : Role) (f : Flow) (p : Packet) (log : Log) (rs : List Reply) → flow_put role p ≡ f
     → (is_among f (replied rs) ≡ true → (is_request p ≡ false) × (is_clean_rst p ≡ false)) → AllOwed role log rs
@@ -135,6 +97,7 @@ all_same role log newer (r ∷ rs) same all = (
   all_same role log newer rs same all.1,
 )
 
-pub all_append : (role : Role) (log : Log) (rs more : List Reply) → AllOwed role log rs → AllOwed role log more → AllOwed role log (rs ++ more)
+pub all_append : (role : Role) (log : Log) (rs more : List Reply) → AllOwed role log rs → AllOwed role log more
+    → AllOwed role log (rs ++ more)
 all_append role log [] more all them = them
 all_append role log (r ∷ rs) more all them = (all.0, all_append role log rs more all.1 them)

@@ -1,5 +1,6 @@
 -- Nothing of a flow is under way that is kept to be used again: neither ring holds a packet of it, and the other end owes it none.
-use Rattle.std.proofs.Common.{◌≡◌, ℕ, ◌-◌, Bool, true, false, ◌||◌, List, [], ◌∷◌, ◌++◌, refl, sym, ap, ◌∙◌, subst}
+use Rattle.std.proofs.lemmas.Grind.{common_steps}
+use Rattle.std.proofs.Common.{arith, ◌≡◌, ℕ, ◌-◌, Bool, true, false, ◌||◌, List, [], ◌∷◌, ◌++◌, refl, sym, ap, ◌∙◌, subst}
 use Rattle.vs_conn.specs.End.{ConnectionEnd}
 use Rattle.vs_flow.specs.{Flow.is_assigned, Flow.same_flow, declared.flow.Flow.Flow}
 use Rattle.laws_history.specs.{Packets.has, Packets.is_clean_rst, Packets.is_request, declared.packet.Packet.Packet}
@@ -9,8 +10,8 @@ use Rattle.laws_history.proofs.{Present.is_present, Quiet.IsQuiet, Quiet.quiet}
 use Rattle.vs_page.specs.{Fair.asked_by, Log.Log, Log.Role, Log.flow_got, Log.history_of, Log.other_role, Log.side_of, Log.whole_of}
 use Rattle.vs_page.proofs.{Entries.got_on, Entries.on_flow, Entries.present_is, Flows.opposite_by, Flows.other_twice, Flows.same_is}
 use Rattle.vs_page.proofs.Phases.{phase_clean}
-use Rattle.laws_tables.specs.{Ends.Ends, Ends.ends_of, Ends.is_among, Ends.is_new, Ends.replied, Heard.heard_of}
-use Rattle.laws_tables.specs.{Matches.AllOwed, Matches.Matches, Quiet.IsQuietOn, Steps.HasEnd, Both.Both, Both.IsSound, Both.at}
+use Rattle.laws_tables.specs.{Ends.Ends, Ends.ends_of, Ends.is_among, Ends.is_new, Ends.replied, Heard.heard_of, Matches.AllOwed}
+use Rattle.laws_tables.specs.{Matches.Matches, Quiet.IsQuietOn, Steps.HasEnd, Both.Both, Both.IsSound, Both.at}
 use Rattle.vs_replies.specs.declared.Reply.{Reply}
 use Rattle.laws_tables.proofs.{Both.tie_back, Fair.heard_puts, Keeps.no_mark, Tables.end_begun, Tables.end_new, Tables.only_end}
 
@@ -36,8 +37,7 @@ reply_quiet role log f (r ∷ rs) among all = by (same_flow f r.flow) refl among
     by false same among rest = rest among
 
 not_true : (b : Bool) → (b ≡ true → ⊥) → b ≡ false
-not_true true never = absurd (never refl)
-not_true false never = refl
+not_true = grind (arith, common_steps)
 
 none_of : (es : List ConnectionEnd) → ((e : ConnectionEnd) (more : List ConnectionEnd) → es ≡ e ∷ more → ⊥) → es ≡ []
 none_of [] never = refl
@@ -48,9 +48,7 @@ answers role f asker = opposite_by role (is_assigned f.host) ∙ ap peer asker
 
 numbers_by : (side other : Side) (w v : History) → side ≡ Asker → other ≡ Answerer → puts w ≡ gots v
     → asked_by side (puts w) (gots w) ≡ asked_by other (puts v) (gots v)
-numbers_by Asker Answerer w v a b went = ap (count is_request) went
-numbers_by Answerer other w v a b went = absurd cc
-numbers_by Asker Asker w v a b went = absurd cc
+numbers_by = grind (arith, common_steps)
 
 -- An end that put a marked RST has neither connection nor reply there.
 no_end_there : (role : Role) (first : ℕ) (part : Ends) (log : Log) (f : Flow) → Matches role first part log → side_of role f ≡ Answerer

@@ -6,11 +6,11 @@ use Rattle.std.specs.List.{AllPairs}
 use Rattle.vs_conn.specs.{End.ConnectionEnd, Follows.Follows}
 use Rattle.vs_flow.specs.{Flow.same_flow, declared.flow.Flow.Flow}
 use Rattle.laws_history.specs.History.{History, Side, puts, gots}
-use Rattle.vs_page.specs.{Log.Log, Log.Role, Log.Driver, Log.Device, Log.side_of, declared.log.LogEntry.TheVariants.Mark}
-use Rattle.vs_page.specs.Open.{Clean, Open, Over, Phase, Unused, is_open, left_kind, open_kind, phase_of, phase_reset}
-use Rattle.laws_tables.specs.{Heard.heard_of, Matches.IsBefore, Matches.IsLeftOn, Matches.MatchesFlows, Steps.HasEnd, Steps.HasNone}
+use Rattle.vs_page.specs.{Log.Log, Log.Role, Log.Driver, Log.side_of, declared.log.LogEntry.TheVariants.Mark}
+use Rattle.vs_page.specs.Open.{Phase, is_open, left_kind, open_kind, phase_of, phase_reset}
+use Rattle.laws_tables.specs.{Heard.heard_of, Matches.IsLeftOn, Matches.MatchesFlows, Steps.HasEnd, Steps.HasNone}
 use Rattle.laws_tables.specs.Ends.{Ends, FlowEnd, begun_flows, ends_of, flows_of, is_among, is_new, new_flows, replied}
-use Rattle.laws_tables.proofs.OnFlow.{IsFirst, asking_is_new, at_most_one, end_asks, end_follows, follows_old}
+use Rattle.laws_tables.proofs.OnFlow.{IsFirst, at_most_one, owed_stale, end_asks, end_follows}
 use Rattle.vs_page.proofs.Flows.{same_self}
 
 abbrev any_begun : List ConnectionEnd → Bool
@@ -21,18 +21,9 @@ begun_among : (f : Flow) (xs : List FlowEnd) → is_among f (begun_flows xs) ≡
 begun_among f [] = refl
 begun_among f (x ∷ xs) = let rest = begun_among f xs in grind (arith, common_steps)
 
-before_begun : (role : Role) (side : Side) (h : History) (ends : List ConnectionEnd) → IsBefore role side h ends → any_begun ends ≡ false
-before_begun Driver side h ends before = rw before refl
-before_begun Device side h [] before = refl
-before_begun Device side h (e ∷ more) before = let new = asking_is_new side e before.1 in let none = before.0 in rw none (rw new refl)
-
 left_begun : (role : Role) (side : Side) (h : History) (kind : Option ℕ) (reply_owed : Bool) (ends : List ConnectionEnd)
     → IsLeftOn role side h kind reply_owed ends → any_begun ends ≡ (is_some kind && not reply_owed)
-left_begun role side h (Some kind) false ends left =
-    let begun = follows_old side h left.0 left.2 in let one = left.1 in rw one (rw begun refl)
-left_begun role side h None false ends left = before_begun role side h ends left
-left_begun role side h (Some kind) true ends left = rw left.0 refl
-left_begun role side h None true ends left = rw left.0 refl
+left_begun = grind (arith, common_steps)
 
 -- The flows of the connections that have begun are those that are open.
 pub table_open : (role : Role) (first : ℕ) (part : Ends) (log : Log) (f : Flow) → MatchesFlows role first part log
@@ -56,8 +47,8 @@ driver_begun first part log f e m has =
       driver_begun_on side h (Some k) false ends left one true new =
           let a = end_asks Driver side h (Some k) false ends e left one new in let bad = a.kind_is in absurd cc
       driver_begun_on side h None false ends left one true new = let both : [] ≡ e ∷ [] = sym left ∙ one in absurd cc
-      driver_begun_on side h (Some k) true ends left one true new = let both : [] ≡ e ∷ [] = sym left.0 ∙ one in absurd cc
-      driver_begun_on side h None true ends left one true new = let both : [] ≡ e ∷ [] = sym left.0 ∙ one in absurd cc
+      driver_begun_on side h kind true ends left one true new =
+          let both : [] ≡ e ∷ [] = sym (owed_stale Driver side h kind ends left).0 ∙ one in absurd cc
 
 pub end_begun : (role : Role) (first : ℕ) (part : Ends) (log : Log) (f : Flow) (e : ConnectionEnd) → MatchesFlows role first part log
     → HasEnd f e part
@@ -119,10 +110,7 @@ none_among [] none = refl
 none_among (f ∷ fs) none = let own = same_self f in let n = none f in absurd (grind (arith, common_steps))
 
 pub reset_closed : (ph : Phase) → open_kind (phase_reset ph) ≡ None
-reset_closed Unused = refl
-reset_closed (Open k) = refl
-reset_closed Over = refl
-reset_closed Clean = refl
+reset_closed = grind (arith, common_steps)
 
 pub reset_empty : (role : Role) (first cid : ℕ) (part : Ends) (log : Log) → MatchesFlows role first part (Mark cid ∷ log)
     → begun_flows part.entries ≡ []

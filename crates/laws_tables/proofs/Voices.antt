@@ -1,23 +1,22 @@
 -- The CIDs of the packets of a flow: the driver puts all but RSTs from one CID, so that the device drops all of them or none.
-use Rattle.std.proofs.Common.{rules, ◌≡◌, ℕ, ◌==◌, Bool, true, false, ◌&&◌, ◌||◌, not, if◌then◌else◌, is_some, List, [], ◌∷◌, ◌++◌, Option}
-use Rattle.std.proofs.Common.{Some, refl, sym, ap, ◌∙◌, subst, arith}
-use Rattle.std.proofs.lemmas.Grind.{common_steps}
+use Rattle.std.proofs.Common.{rules, ◌≡◌, ℕ, ◌==◌, Bool, true, false, ◌&&◌, not, if◌then◌else◌, is_some, List, [], ◌∷◌, ◌++◌, Option, Some}
+use Rattle.std.proofs.Common.{refl, sym, ap, ◌∙◌, subst, arith}
+use Rattle.std.proofs.lemmas.{Grind.common_steps, Bool.Decides.nat_tests}
+use Rattle.laws_tables.proofs.{Frame.own_or_other, Keeps.asker_peer, Keeps.kind_by}
 use Rattle.vs_conn.specs.{End.ConnectionEnd, End.is_of, End.is_refused, End.paid_of, End.verdict_of, Follows.Follows}
 use Rattle.vs_conn.specs.declared.end.Owed.{Owed}
 use Rattle.vs_conn.proofs.Getting.{get_taken}
 use Rattle.vs_flow.specs.{Flow.same_flow, declared.flow.Flow.Flow}
 use Rattle.vs_limits.specs.declared.TheConstants.{HOST_CID}
-use Rattle.vs_header.specs.{Kind.kind_number, declared.Header.Header, declared.Kind.Kind, declared.Kind.TheVariants.Stream}
-use Rattle.vs_header.specs.declared.Kind.TheVariants.{Seqpacket}
+use Rattle.vs_header.specs.{Kind.kind_number, declared.Header.Header}
 use Rattle.laws_history.specs.{Again.present, Packets.asked_kind, Packets.has, Packets.is_clean_rst, Packets.is_request, Packets.is_rst}
-use Rattle.laws_history.specs.History.{Answerer, Asker, Got, History, Put, Side, gots, of_asker, peer, puts}
+use Rattle.laws_history.specs.History.{Got, History, Put, gots, peer, puts}
 use Rattle.laws_history.specs.declared.packet.Packet.{Packet}
-use Rattle.laws_history.proofs.Ties.{Later}
 use Rattle.vs_page.specs.{Fair.IsFairOn, declared.log.LogEntry.TheVariants.GotPacket, declared.log.LogEntry.TheVariants.PutPacket}
 use Rattle.vs_page.specs.Log.{Driver, Device, IsNextPacket, Log, Role, and_then, flow_got, flow_put, history_of, side_of, whole_of}
-use Rattle.vs_page.specs.Open.{Clean, Open, Over, Phase, Unused, cid_of, ended_by, is_clean_end, is_dropped, is_left_open, left_kind}
-use Rattle.vs_page.specs.Open.{open_kind, phase_got, phase_heard, phase_of, phase_put, phase_reset}
-use Rattle.vs_page.proofs.{Entries.got_on, Entries.on_flow, Entries.present_is, Flows.same_is, Flows.same_self}
+use Rattle.vs_page.specs.Open.{Phase, cid_of, is_clean_end, is_dropped, is_left_open, left_kind, open_kind, phase_got, phase_heard}
+use Rattle.vs_page.specs.Open.{phase_of, phase_put, phase_reset}
+use Rattle.vs_page.proofs.{Entries.got_on, Entries.on_flow, Entries.present_is, Flows.same_self}
 use Rattle.laws_tables.specs.{Ends.Ends, Ends.ends_of, Heard.IsInOrder, Heard.heard_of, Heard.hears, Heard.is_fresh, Matches.MatchesFlows}
 use Rattle.laws_tables.specs.Both.{Asks, Both, Decides, Happening, IsSound, MakesReset, MayHappen, MayRun, Opens, Pays, PutsEvent, Replies}
 use Rattle.laws_tables.specs.Both.{Seat, Sends, Step, Takes, TakesEvent, TakesReset, after_packet, answered, decided, happens, Forgets, run}
@@ -52,28 +51,20 @@ one_older peer [] ps one = one
 one_older peer (q ∷ rest) ps one = one_older peer rest ps one.1
 
 pub no_mark : (p : Packet) (ps : List Packet) → has is_clean_rst (p ∷ ps) ≡ false → (is_clean_rst p ≡ false) × (has is_clean_rst ps ≡ false)
-no_mark p ps none = by (is_clean_rst p) none
-  where
-    by : (b : Bool) → (b || has is_clean_rst ps) ≡ false → (b ≡ false) × (has is_clean_rst ps ≡ false)
-    by true none = absurd cc
-    by false none = (refl, none)
+no_mark = grind (arith, common_steps)
 
 -- So do all packets of the present connection.
 speak_got : (peer cid : ℕ) (w : History) (p : Packet) (asks : Bool) → is_request p ≡ asks
     → SpeakSince peer cid (p ∷ gots w) → has is_clean_rst (gots (if asks then Got p ∷ [] else Got p ∷ present w)) ≡ false
     → (SpeakSince peer cid (gots w) → has is_clean_rst (gots (present w)) ≡ false → AllSpeak peer cid (gots (present w)))
     → AllSpeak peer cid (gots (if asks then Got p ∷ [] else Got p ∷ present w))
-speak_got peer cid w p true is speak none rest = ((speak (no_mark p [] none).0).0, tt)
-speak_got peer cid w p false is speak none rest =
-    let two = no_mark p (gots (present w)) none in
-    let here = speak two.0 in (here.0, rest (here.1 is) two.1)
+speak_got = grind (arith, common_steps)
 
 speak_put : (peer cid : ℕ) (w : History) (p : Packet) (asks : Bool)
     → (has is_clean_rst (gots (present w)) ≡ false → AllSpeak peer cid (gots (present w)))
     → has is_clean_rst (gots (if asks then Put p ∷ [] else Put p ∷ present w)) ≡ false
     → AllSpeak peer cid (gots (if asks then Put p ∷ [] else Put p ∷ present w))
-speak_put peer cid w p true rest none = tt
-speak_put peer cid w p false rest none = rest none
+speak_put = grind (arith, common_steps)
 
 pub speak_present : (peer cid : ℕ) (w : History) → SpeakSince peer cid (gots w) → has is_clean_rst (gots (present w)) ≡ false
     → AllSpeak peer cid (gots (present w))
@@ -117,51 +108,33 @@ puts_got role g p log = by (same_flow g (flow_got role p))
     by true = refl
     by false = refl
 
-voices_put : (f g : Flow) (p : Packet) (part : Ends) (log : Log) (b : Bool) → same_flow g f ≡ b → flow_put Driver p ≡ f
-    → Speaks f.peer part.cid p
-    → (is_rst p ≡ false → is_request p ≡ false → SpeakSince f.peer part.cid (puts (whole_of Driver f log)))
-    → ((x : Flow) → IsOneVoice x.peer (puts (whole_of Driver x log))) → IsOneVoice g.peer (puts (whole_of Driver g (PutPacket p ∷ log)))
-voices_put f g p part log true same is speaks before voices =
-    subst (λ x. IsOneVoice x.peer (puts (whole_of Driver x (PutPacket p ∷ log)))) (sym (same_is g f same))
-    (subst (λ h. IsOneVoice f.peer (puts h)) (sym (whole_put Driver f p log is)) ((λ other. (part.cid, speaks, before other)), voices f))
-voices_put f g p part log false same is speaks before voices =
-    subst (λ h. IsOneVoice g.peer (puts h)) (sym (whole_put_other Driver f g p log is same)) (voices g)
-
-spoken_put : (f g : Flow) (p : Packet) (part new : Ends) (log : Log) (e : ConnectionEnd) (b : Bool) → same_flow g f ≡ b
-    → flow_put Driver p ≡ f
-    → Speaks f.peer part.cid p → ((x : ConnectionEnd) → HasEnd f x new → is_request p ≡ false
-    → SpeakSince f.peer part.cid (puts (whole_of Driver f log)))
-    → (same_flow g f ≡ false → ends_of g new.entries ≡ ends_of g part.entries)
-    → ((x : Flow) (y : ConnectionEnd) → HasEnd x y part → SpeakSince x.peer part.cid (puts (whole_of Driver x log)))
-    → HasEnd g e new → SpeakSince g.peer part.cid (puts (whole_of Driver g (PutPacket p ∷ log)))
-spoken_put f g p part new log e true same is speaks had others spoken has =
-    let one = same_is g f same in
-    subst (λ x. SpeakSince x.peer part.cid (puts (whole_of Driver x (PutPacket p ∷ log)))) (sym one)
-    (subst (λ h. SpeakSince f.peer part.cid (puts h)) (sym (whole_put Driver f p log is))
-    (λ plain. (speaks, had e (subst (λ x. HasEnd x e new) one has))))
-spoken_put f g p part new log e false same is speaks had others spoken has =
-    subst (λ h. SpeakSince g.peer part.cid (puts h)) (sym (whole_put_other Driver f g p log is same)) (spoken g e (sym (others same) ∙ has))
-
 voiced_put : (f : Flow) (p : Packet) (part new : Ends) (log : Log) → flow_put Driver p ≡ f → Speaks f.peer part.cid p → new.cid ≡ part.cid
     → (is_rst p ≡ false → is_request p ≡ false → SpeakSince f.peer part.cid (puts (whole_of Driver f log)))
     → ((x : ConnectionEnd) → HasEnd f x new → is_request p ≡ false → SpeakSince f.peer part.cid (puts (whole_of Driver f log)))
     → ((g : Flow) → same_flow g f ≡ false → ends_of g new.entries ≡ ends_of g part.entries)
     → IsVoiced (record { part = part; log = log }) → IsVoiced (record { part = new; log = PutPacket p ∷ log })
-voiced_put f p part new log is speaks cid before had others v = record {
-  voices = λ g. voices_put f g p part log (same_flow g f) refl is speaks before v.voices;
-  spoken = λ g e has. subst (λ x. SpeakSince g.peer x (puts (whole_of Driver g (PutPacket p ∷ log)))) (sym cid)
-      (spoken_put f g p part new log e (same_flow g f) refl is speaks had (others g) v.spoken has);
-}
+voiced_put f p part new log is speaks cid before had others v =
+    let own = sym (whole_put Driver f p log is) in
+    let other : (g : Flow) → same_flow g f ≡ false → whole_of Driver g log ≡ whole_of Driver g (PutPacket p ∷ log) =
+    λ g apart. sym (whole_put_other Driver f g p log is apart) in
+    record {
+      voices = λ g. own_or_other (λ x. IsOneVoice x.peer (puts (whole_of Driver x (PutPacket p ∷ log)))) f g
+          (subst (λ h. IsOneVoice f.peer (puts h)) own ((λ plain. (part.cid, speaks, before plain)), v.voices f))
+          (λ apart. subst (λ h. IsOneVoice g.peer (puts h)) (other g apart) (v.voices g));
+      spoken = λ g e has. subst (λ c. SpeakSince g.peer c (puts (whole_of Driver g (PutPacket p ∷ log)))) (sym cid)
+          (own_or_other (λ x. HasEnd x e new → SpeakSince x.peer part.cid (puts (whole_of Driver x (PutPacket p ∷ log)))) f g
+          (λ now. subst (λ h. SpeakSince f.peer part.cid (puts h)) own (λ plain. (speaks, had e now)))
+          (λ apart now. subst (λ h. SpeakSince g.peer part.cid (puts h)) (other g apart) (v.spoken g e (sym (others g apart) ∙ now))) has);
+    }
 
-spoken_got : (f g : Flow) (part new : Ends) (log : Log) (e : ConnectionEnd) (b : Bool) → same_flow g f ≡ b
+spoken_got : (f g : Flow) (part new : Ends) (log : Log) (e : ConnectionEnd)
     → ((x : ConnectionEnd) → HasEnd f x new → SpeakSince f.peer part.cid (puts (whole_of Driver f log)))
     → (same_flow g f ≡ false → ends_of g new.entries ≡ ends_of g part.entries)
     → ((x : Flow) (y : ConnectionEnd) → HasEnd x y part → SpeakSince x.peer part.cid (puts (whole_of Driver x log)))
     → HasEnd g e new → SpeakSince g.peer part.cid (puts (whole_of Driver g log))
-spoken_got f g part new log e true same had others spoken has =
-    let one = same_is g f same in
-    subst (λ x. SpeakSince x.peer part.cid (puts (whole_of Driver x log))) (sym one) (had e (subst (λ x. HasEnd x e new) one has))
-spoken_got f g part new log e false same had others spoken has = spoken g e (sym (others same) ∙ has)
+spoken_got f g part new log e had others spoken =
+    own_or_other (λ x. HasEnd x e new → SpeakSince x.peer part.cid (puts (whole_of Driver x log))) f g (had e)
+    (λ apart has. spoken g e (sym (others apart) ∙ has))
 
 voiced_got : (f : Flow) (p : Packet) (part new : Ends) (log : Log) → new.cid ≡ part.cid
     → ((x : ConnectionEnd) → HasEnd f x new → SpeakSince f.peer part.cid (puts (whole_of Driver f log)))
@@ -170,8 +143,7 @@ voiced_got : (f : Flow) (p : Packet) (part new : Ends) (log : Log) → new.cid �
 voiced_got f p part new log cid had others v = record {
   voices = λ g. subst (IsOneVoice g.peer) (sym (puts_got Driver g p log)) (v.voices g);
   spoken = λ g e has. subst (λ x. SpeakSince g.peer x (puts (whole_of Driver g (GotPacket p ∷ log)))) (sym cid)
-      (subst (SpeakSince g.peer part.cid) (sym (puts_got Driver g p log))
-      (spoken_got f g part new log e (same_flow g f) refl had (others g) v.spoken has));
+      (subst (SpeakSince g.peer part.cid) (sym (puts_got Driver g p log)) (spoken_got f g part new log e had (others g) v.spoken has));
 }
 
 -- Where a REQUEST may come, nothing of the present connection was put, or it is over by a marked RST.
@@ -205,9 +177,7 @@ taken_other f g now part keeps false other = replaced_other f g now part.entries
 
 taken_cid : (f : Flow) (now : ConnectionEnd) (part : Ends) (keeps b : Bool)
     → (if b then with_clean keeps f (left f part) else with_end f now part).cid ≡ part.cid
-taken_cid f now part true true = refl
-taken_cid f now part false true = refl
-taken_cid f now part keeps false = refl
+taken_cid = grind (arith, common_steps)
 
 answered_other : (f g : Flow) (p : Packet) (answer : Bool) (part : Ends) (asks : Bool) → same_flow g f ≡ false
     → ends_of g (answered asks answer p f part).entries ≡ ends_of g part.entries
@@ -228,10 +198,7 @@ packet_other (e ∷ more) f g p answer part other =
 
 answered_cid : (f : Flow) (p : Packet) (answer : Bool) (part : Ends) (rst asks : Bool)
     → (if rst then part else answered asks answer p f part).cid ≡ part.cid
-answered_cid f p answer part true asks = refl
-answered_cid f p true part false true = refl
-answered_cid f p false part false true = refl
-answered_cid f p answer part false false = refl
+answered_cid = grind (arith, common_steps)
 
 packet_cid : (ends : List ConnectionEnd) (f : Flow) (p : Packet) (answer : Bool) (part : Ends)
     → (after_packet Driver ends p f answer part).cid ≡ part.cid
@@ -239,15 +206,9 @@ packet_cid [] f p answer part = answered_cid f p answer part (is_rst p) (is_requ
 packet_cid (e ∷ more) f p answer part = taken_cid f _ part (is_kept Driver f e p) (is_rst p && is_of e.kind p.header)
 
 -- A packet that gives a flow its connection is a REQUEST.
-answered_asks : (f : Flow) (p : Packet) (answer : Bool) (part : Ends) (e : ConnectionEnd) (asks : Bool) → is_request p ≡ asks
-    → ends_of f part.entries ≡ [] → HasEnd f e (answered asks answer p f part) → is_request p ≡ true
-answered_asks f p answer part e true is none has = is
-answered_asks f p answer part e false is none has = let both : [] ≡ e ∷ [] = sym none ∙ has in absurd cc
-
 unknown_asks : (f : Flow) (p : Packet) (answer : Bool) (part : Ends) (e : ConnectionEnd) (rst : Bool) → ends_of f part.entries ≡ []
     → HasEnd f e (if rst then part else answered (is_request p) answer p f part) → is_request p ≡ true
-unknown_asks f p answer part e true none has = let both : [] ≡ e ∷ [] = sym none ∙ has in absurd cc
-unknown_asks f p answer part e false none has = answered_asks f p answer part e (is_request p) refl none has
+unknown_asks = grind (arith, common_steps)
 
 packet_had : (first : ℕ) (ends : List ConnectionEnd) (p : Packet) (answer : Bool) (part : Ends) (log : Log) (e : ConnectionEnd)
     → let f = flow_got Driver p in
@@ -276,47 +237,18 @@ keep_put : (c : ℕ) (p : Packet) (h k : History) (ph : Phase) (same asks : Bool
     → (is_some (open_kind ph) ≡ true → gots k ≡ keep c (gots h))
     → is_some (open_kind (if same then phase_put p ph else ph)) ≡ true
     → gots (if same then and_then (Put p) k else k) ≡ keep c (gots (if same then and_then (Put p) h else h))
-keep_put c p h k ph true true is before opens = rw is refl
-keep_put c p h k ph true false is before opens = rw is (before (put_was p ph is opens))
-  where
-    put_was : (p : Packet) (ph : Phase) → is_request p ≡ false → is_some (open_kind (phase_put p ph)) ≡ true → is_some (open_kind ph) ≡ true
-    put_was p ph is opens = by (is_rst p) (rw is at opens)
-      where
-        by : (b : Bool) → is_some (open_kind (if b then Over else ph)) ≡ true → is_some (open_kind ph) ≡ true
-        by true opens = absurd cc
-        by false opens = opens
-keep_put c p h k ph false asks is before opens = before opens
+keep_put = grind (arith, common_steps)
 
 got_was : (clean : Bool) (p : Packet) (ph : Phase) → is_request p ≡ false → is_some (open_kind (phase_got clean p ph)) ≡ true
     → is_some (open_kind ph) ≡ true
-got_was clean p ph is opens = by (is_rst p) (rw is at opens)
-  where
-    ended : (b : Bool) (p : Packet) (ph : Phase) → is_some (open_kind (ended_by b p ph)) ≡ true → is_some (open_kind ph) ≡ true
-    ended b p Unused opens = opens
-    ended b p (Open kind) opens = refl
-    ended b p Over opens = opens
-    ended b p Clean opens = opens
-
-    by : (b : Bool) → is_some (open_kind (if b then ended_by clean p ph else ph)) ≡ true → is_some (open_kind ph) ≡ true
-    by true opens = ended clean p ph opens
-    by false opens = opens
-
-keep_one : (c : ℕ) (p : Packet) (ps qs : List Packet) (b : Bool) → is_dropped Device c p.header ≡ b → qs ≡ keep c ps
-    → (if b then qs else p ∷ qs) ≡ keep c (p ∷ ps)
-keep_one c p ps qs true dropped same = rw dropped same
-keep_one c p ps qs false dropped same = rw dropped (ap (λ (xs : List Packet). p ∷ xs) same)
+got_was = grind (arith, common_steps)
 
 keep_got : (c : ℕ) (p : Packet) (h k : History) (ph : Phase) (clean same dropped asks : Bool) → is_dropped Device c p.header ≡ dropped
     → is_request p ≡ asks
     → (is_some (open_kind ph) ≡ true → gots k ≡ keep c (gots h))
     → is_some (open_kind (if same then phase_heard dropped clean p ph else ph)) ≡ true
     → gots (if same then hears dropped p k else k) ≡ keep c (gots (if same then and_then (Got p) h else h))
-keep_got c p h k ph clean true true true drops is before opens = rw is (keep_one c p [] [] true drops refl)
-keep_got c p h k ph clean true false true drops is before opens = rw is (keep_one c p [] [] false drops refl)
-keep_got c p h k ph clean true true false drops is before opens = rw is (keep_one c p (gots h) (gots k) true drops (before opens))
-keep_got c p h k ph clean true false false drops is before opens =
-    rw is (keep_one c p (gots h) (gots k) false drops (before (got_was clean p ph is opens)))
-keep_got c p h k ph clean false dropped asks drops is before opens = before opens
+keep_got = grind (arith, got_was, common_steps)
 
 keeps_put : (first : ℕ) (p : Packet) (log : Log) → IsKeeping first log → IsKeeping first (PutPacket p ∷ log)
 keeps_put first p log before g opens =
@@ -330,10 +262,7 @@ keeps_got first p log before g opens =
     (is_dropped Device (cid_of first log) p.header) (is_request p) refl refl (before g) opens
 
 reset_none : (ph : Phase) → is_some (open_kind (phase_reset ph)) ≡ true → ⊥
-reset_none Unused opens = absurd cc
-reset_none (Open kind) opens = absurd cc
-reset_none Over opens = absurd cc
-reset_none Clean opens = absurd cc
+reset_none = grind (arith, common_steps)
 
 -- Both.
 pub record AreVoiced (first : ℕ) (b : Both) : Type 0 where
@@ -366,7 +295,6 @@ driver_step first (Replies r rest) b s may v =
 driver_step first (Decides f e what) b s may v = record {
   voices = v.voices;
   spoken = λ g x has. spoken_got f g b.driver.part (with_end f (decided e what) b.driver.part) b.driver.log x
-      (same_flow g f) refl
       (λ y now. v.spoken f e may.0) (λ other. replaced_other f g (decided e what) b.driver.part.entries other) v.spoken has;
 }
 driver_step first Forgets b s may v = record { voices = v.voices; spoken = v.spoken }
@@ -399,17 +327,13 @@ driver_step first (TakesReset cid) b s may v = record { voices = v.voices; spoke
 device_step : (first : ℕ) (step : Step) (b : Both) → MayHappen Device step b → IsKeeping first b.device.log
     → IsKeeping first (happens Device step b).device.log
 device_step first (Opens f kind) b may k = keeps_put first (request_on Device b.device.part.cid f kind) b.device.log k
-device_step first (Asks f kind) b may k = k
 device_step first (Sends f e payload) b may k = keeps_put first (payload_on Device b.device.part.cid f e payload) b.device.log k
 device_step first (Pays f e what) b may k = keeps_put first (owed_on Device b.device.part.cid f e what) b.device.log k
 device_step first (Replies r rest) b may k = keeps_put first (reply_on Device b.device.part.cid r) b.device.log k
-device_step first (Decides f e what) b may k = k
-device_step first Forgets b may k = k
 device_step first (Takes p answer) b may k = keeps_got first p b.device.log k
-device_step first (PutsEvent id) b may k = k
-device_step first (TakesEvent id) b may k = k
 device_step first (MakesReset cid) b may k = λ g opens. absurd (reset_none (phase_of Device first g b.device.log) opens)
 device_step first (TakesReset cid) b may k = λ g opens. absurd (reset_none (phase_of Device first g b.device.log) opens)
+device_step first _ b may k = k
 
 voices_step : (role : Role) (first : ℕ) (step : Step) (b : Both) → IsSound first b → MayHappen role step b → AreVoiced first b
     → AreVoiced first (happens role step b)
@@ -424,31 +348,14 @@ voices_run first (x ∷ xs) b s may v =
     (voices_step x.role first x.step b s may.0 v)
 
 pub voices_start : (first guest_port host_port : ℕ) → AreVoiced first (start first guest_port host_port)
-voices_start first guest_port host_port = record {
-  driver = record { voices = λ f. tt; spoken = λ f e has. tt };
-  device = λ f opens. refl;
-}
+voices_start = grind (arith, common_steps)
 
 -- An RST of the connection's type is never refused.
 rst_taken : (e : ConnectionEnd) (p : Packet) → is_rst p ≡ true → is_of e.kind p.header ≡ true → is_refused (verdict_of e p.header) ≡ false
 rst_taken = search rules
 
--- The type that was heard is the connection's.
-kind_by : (side : Side) (h k : History) (e : ConnectionEnd) → Follows side (puts k) (gots k) e → puts k ≡ puts h → Later (gots k) (gots h)
-    → kind_number e.kind ≡ asked_kind (of_asker side (puts h) (gots h))
-kind_by Asker h k e f same l = f.kind ∙ ap asked_kind same
-kind_by Answerer h k e f same l = f.kind ∙ l.kind_same f.begun
-
-asker_of : (side : Side) (h : History) → of_asker (peer side) (gots h) (puts h) ≡ of_asker side (puts h) (gots h)
-asker_of Asker h = refl
-asker_of Answerer h = refl
-
 of_kind : (e : ConnectionEnd) (h : Header) → h.kind ≡ kind_number e.kind → is_of e.kind h ≡ true
-of_kind e h is = rw is (by e.kind)
-  where
-    by : (k : Kind) → (kind_number k == kind_number k) ≡ true
-    by Stream = refl
-    by Seqpacket = refl
+of_kind = grind (arith, nat_tests, common_steps)
 
 open_some : (k : Option ℕ) (n : ℕ) → k ≡ Some n → is_some k ≡ true
 open_some k n is = rw is refl
@@ -468,7 +375,7 @@ taken_by first p e b true is s k one fair has_it heard =
     let two = own_got_fair Device p log fair in
     let kind = kind_by (side_of Device f) h (heard_of Device first f log) e own.follows (heard_puts Device first f log)
     (heard_less Device first f log two.0) in
-    rst_taken e p is (of_kind e p.header ((two.1.goes_on other).kind other ∙ ap asked_kind (asker_of (side_of Device f) h) ∙ sym kind))
+    rst_taken e p is (of_kind e p.header ((two.1.goes_on other).kind other ∙ ap asked_kind (asker_peer (side_of Device f) h) ∙ sym kind))
 taken_by first p e b false is s k one fair has_it heard =
     let f = flow_got Device p in
     let log = b.device.log in

@@ -59,7 +59,7 @@ module _ (c : HostContents) (log : Log) (port : ℕ) (t : Table DeviceConnection
 
   no_stream : filter (is_labelled f c) c.labelled ≡ [] → (id : ℕ) (s : Seen) → look c id ≡ Some s → s.label ≢ Some f
   no_stream none id s at on =
-      let l = x.labels id s f at on in
+      let l = x.streams.labels id s f at on in
       let st = there id c s at in
       let label : st.stream.label ≡ Some f = ap (λ (y : Seen). y.label) st.is ∙ on in
       none_passes c.labelled id none l.listed
@@ -80,12 +80,12 @@ module _ (c : HostContents) (log : Log) (port : ℕ) (t : Table DeviceConnection
   -- The first of the streams with the label.
   first_one : (ids : List ℕ) → filter (is_labelled f c) c.labelled ≡ ids
       → (put_on Device f log ≡ wrote (slice_get ids 0)) × IsPrefixOf (read (slice_get ids 0)) (got_on Device f log)
-  first_one [] is = (x.none f (no_stream is), (got_on Device f log, refl))
+  first_one [] is = (x.streams.none f (no_stream is), (got_on Device f log, refl))
   first_one (id ∷ ids) is =
       let passes : is_labelled f c id ≡ true = first_passes (filter (is_labelled f c) c.labelled) id ids is (filter_passes (is_labelled f c) c.labelled) in
       let st = passes_by (stream_at id c) passes in
       let at : look c id ≡ Some (seen st.0) = ap (option_map seen) st.1 in
-      let l = x.labels id (seen st.0) f at st.2 in (
+      let l = x.streams.labels id (seen st.0) f at st.2 in (
         l.took ∙ ap (λ (o : Option Stream). option_map_or wrote_after_connect o []) (sym st.1),
         subst (λ (o : Option Stream). IsPrefixOf (option_map_or read_after_ok o []) (got_on Device f log)) (sym st.1)
             (read_front st.0 st.0.by_client refl l.client l.gave),
@@ -115,7 +115,8 @@ module _ (c : HostContents) (log : Log) (port : ℕ) (t : Table DeviceConnection
     first_at [] is = absurd (no_stream is id (seen s) (ap (option_map seen) at) label)
     first_at (other ∷ ids) is =
         let st = passes_by (stream_at other c) (first_passes (filter (is_labelled f c) c.labelled) other ids is (filter_passes (is_labelled f c) c.labelled)) in
-        let same : other ≡ id = x.unique other id (seen st.0) (seen s) f (ap (option_map seen) st.1) (ap (option_map seen) at) st.2 label in
+        let same : other ≡ id = x.streams.unique other id (seen st.0) (seen s) f (ap (option_map seen) st.1)
+        (ap (option_map seen) at) st.2 label in
         ap (λ (i : ℕ). stream_at i c) same ∙ at
 
     pub wrote_own : wrote_after_connect s ≡ host_wrote (first_of f) c

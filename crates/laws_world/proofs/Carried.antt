@@ -119,7 +119,7 @@ module _ {fresh : Type 0} (w : World) (well : IsWell fresh w) where
     pub one_stream : (f : Flow) (i j : ℕ) (s t : Stream) → stream_at i w.host ≡ Some s → stream_at j w.host ≡ Some t → s.label ≡ Some f → t.label ≡ Some f
         → i ≡ j
     one_stream f i j s t here there label other =
-        (well.streams new).unique i j (seen s) (seen t) f (ap (option_map seen) here) (ap (option_map seen) there) label other
+        (well.streams new).streams.unique i j (seen s) (seen t) f (ap (option_map seen) here) (ap (option_map seen) there) label other
 
     pub pending_of : (e : DeviceEntry) → Contains w.proxy.device.table.entries e
         → (s : Stream) × (stream_at e.value.stream w.host ≡ Some s) × (s.label ≡ Some e.flow)

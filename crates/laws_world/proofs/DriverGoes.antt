@@ -44,11 +44,11 @@ module _ (first : ℕ) (old : Seat) where
           received.owed what e s log fits stands owes m was fair x.2,
           sent.owed what e s log fits stands owes m was fair x.3,
         );
-        reply = λ r rest s log fits is x. (
-          goes.reply r rest s log fits is x.0,
+        reply = λ r rest s log fits is m fair x. (
+          goes.reply r rest s log fits is m fair x.0,
           ((reply_puts r rest s fits is).wire, x.1),
-          received.reply r rest s log fits is x.2,
-          sent.reply r rest s log fits is x.3,
+          received.reply r rest s log fits is m fair x.2,
+          sent.reply r rest s log fits is m fair x.3,
         );
         got = λ p s log fits ports whole m was fair x. (
           goes.got p s log fits ports whole m was fair x.0,

@@ -1,6 +1,6 @@
 -- The driver's conversations over list rings that are tied to the device's log: whatever such a conversation keeps, it keeps here.
-use Rattle.std.proofs.Common.{◌≡◌, ℕ, ◌+◌, ◌<◌, ◌^◌, List, [], ◌∷◌, ◌++◌, length, Option, Some, None, refl, sym, ap, subst, ◌∙◌, arith}
-use Rattle.std.proofs.Common.{true, Bool, false}
+use Rattle.std.proofs.Common.{◌≡◌, ℕ, ◌<◌, ◌^◌, List, [], ◌∷◌, ◌++◌, length, Option, Some, None, refl, sym, ap, subst, ◌∙◌, arith, true}
+use Rattle.std.proofs.Common.{Bool, false}
 use Rattle.std.specs.Prelude.{IsSomeAnd}
 use Rattle.vs_contents.specs.CallTree.{Ask, Done, played}
 use Rattle.laws_history.specs.{Packets.IsFormed, Packets.is_request, Packets.packet_bytes, declared.packet.Packet.Packet, History.History}

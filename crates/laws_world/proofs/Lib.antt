@@ -28,8 +28,8 @@ pub mod ScriptLines
 pub mod ResetTables
 pub mod DeviceCalls
 pub mod Holding
+pub mod Waiting
 pub mod OverLists
 pub mod Flown
 pub mod OverBoth
 pub mod StayOpen
-pub mod SamePages

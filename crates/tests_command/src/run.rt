@@ -1,24 +1,23 @@
 //! Words, statuses, and sources and sinks that fail.
 
-use crate::running::{ends, played, run};
+use crate::running::{COUNTED, HOSTILE_COUNTED, ends, played, run};
 use std::alloc::{AllocError, AllocGlobal};
 use std::sync::Wait;
 use std::test::Fail;
 use vs_outside::{MemSink, MemSource, PeerHost, PreparedStream};
 
-const NONE: &str = "guest open 0\ndevice open 0\ndropped 0 overrun 0 broken 0 faults 0\n";
+const NONE: &str = "guest open 0\ndevice open 0\n";
 
 const HELLO: &str = "host listen 52\nconnect 52\nturn\npoll\nsend 1 68656c6c6f\nturn\nrecv 1 10\n";
 
 const HELLO_PRINTED: &str =
     "ok\nconn 1 on 1024 52\nturned 1 1 0 0 1 0\npolled 1 0 0\ntook 5\nturned 1 0 0 5 0 0\nempty\n\
-     guest open 1\ndevice open 1\nstream 1 1024 52 wrote 0 - read 5 68656c6c6f\n\
-     dropped 0 overrun 0 broken 0 faults 0\n";
+     guest open 1\ndevice open 1\nstream 1 1024 52 wrote 0 - read 5 68656c6c6f\n";
 
 const HOSTILE: &str = "memory 4096 65536\nrings 8\nindex tx 9\nturn\nturn\n";
 
 const HOSTILE_PRINTED: &str = "ok\nok\nok\nfailed AvailJump 0 9\nfailed AvailJump 0 9\n\
-                               device open 0\ndropped 0 overrun 0 faults 0\n";
+                               device open 0\n";
 
 /// How many of the first calls of the sink, each failed by itself, end the play of hello with status 4 and less than its whole answer.
 fn failed_writes<R: AllocGlobal + Wait>(rt: &R, calls: u64) -> Result<u64, AllocError> {
@@ -37,7 +36,7 @@ fn failed_writes<R: AllocGlobal + Wait>(rt: &R, calls: u64) -> Result<u64, Alloc
 fn failed_reads<R: AllocGlobal + Wait>(rt: &R, calls: u64) -> Result<u64, AllocError> {
     let mut failed = 0u64;
     for n in 1..calls {
-        if ends(rt, "vsock play", HELLO, 16, (n, 0), 3, "read fault\n")? {
+        if ends(rt, "vsock play", HELLO, 16, (n, 0), 3, ("read fault\n", ""))? {
             failed = failed.saturating_add(1);
         }
     }
@@ -47,7 +46,7 @@ fn failed_reads<R: AllocGlobal + Wait>(rt: &R, calls: u64) -> Result<u64, AllocE
 /// Whether each of these command lines is none.
 fn are_usage<R: AllocGlobal + Wait>(rt: &R, lines: &[&str]) -> Result<bool, AllocError> {
     for line in lines {
-        if !ends(rt, line, HELLO, 100, (0, 0), 1, "usage\n")? {
+        if !ends(rt, line, HELLO, 100, (0, 0), 1, ("usage\n", ""))? {
             return Ok(false);
         }
     }
@@ -57,10 +56,10 @@ fn are_usage<R: AllocGlobal + Wait>(rt: &R, lines: &[&str]) -> Result<bool, Allo
 /// Whether each of these plays ends with its status and prints its text.
 fn are_answered<R: AllocGlobal + Wait>(
     rt: &R,
-    plays: &[(&str, &str, u8, &str)],
+    plays: &[(&str, &str, u8, &str, &str)],
 ) -> Result<bool, AllocError> {
-    for (line, script, status, printed) in plays {
-        if !ends(rt, line, script, 100, (0, 0), *status, printed)? {
+    for (line, script, status, printed, last) in plays {
+        if !ends(rt, line, script, 100, (0, 0), *status, (printed, last))? {
             return Ok(false);
         }
     }
@@ -85,31 +84,46 @@ fn client<R: AllocGlobal + Wait>(rt: &R, line: &str) -> Result<(u8, MemSink), Al
 
 #[test]
 fn short_plays_print_their_answers(rt: HostRuntime) -> Result<(), Fail> {
-    let plays: [(&str, &str, u8, &str); 9] = [
-        ("vsock play", HELLO, 0, HELLO_PRINTED),
-        ("vsock play --rings list --queue=8", HELLO, 0, HELLO_PRINTED),
-        ("vsock play --", "", 0, NONE),
-        ("vsock hostile", HOSTILE, 7, HOSTILE_PRINTED),
-        ("vsock play", "send 1 6\n", 2, "line 1 BadHex\n"),
+    let plays: [(&str, &str, u8, &str, &str); 9] = [
+        ("vsock play", HELLO, 0, HELLO_PRINTED, COUNTED),
+        (
+            "vsock play --rings list --queue=8",
+            HELLO,
+            0,
+            HELLO_PRINTED,
+            COUNTED,
+        ),
+        ("vsock play --", "", 0, NONE, COUNTED),
+        (
+            "vsock hostile",
+            HOSTILE,
+            7,
+            HOSTILE_PRINTED,
+            HOSTILE_COUNTED,
+        ),
+        ("vsock play", "send 1 6\n", 2, "line 1 BadHex\n", ""),
         (
             "vsock play",
             "# none\n\n   \npoll x\n",
             2,
             "line 4 BadWord\n",
+            "",
         ),
-        ("vsock hostile", "turn\n", 2, "line 1 BadWord\n"),
+        ("vsock hostile", "turn\n", 2, "line 1 BadWord\n", ""),
         (
             "vsock play",
             "connect 53\nturn\npoll\nrecv 1 1\nstate 1",
             0,
             "conn 1 on 1024 53\nturned 1 1 0 0 0 0\npolled 1 0 0\nreset\ngone\n\
-             guest open 0\ndevice open 0\ndropped 0 overrun 0 broken 0 faults 0\n",
+             guest open 0\ndevice open 0\n",
+            COUNTED,
         ),
         (
             "vsock peer --base v.sock --port 70",
             "yo",
             8,
             "peer refused\n",
+            "",
         ),
     ];
     assert!(rt; are_answered(&rt, &plays)?);
@@ -151,7 +165,17 @@ fn words_that_are_no_command_print_usage(rt: HostRuntime) -> Result<(), Fail> {
 
 #[test]
 fn pieces_of_one_byte_print_the_same(rt: HostRuntime) -> Result<(), Fail> {
-    assert!(rt; ends(&rt, "vsock play", HELLO, 1, (0, 0), 0, HELLO_PRINTED)?);
+    assert!(rt;
+        ends(
+            &rt,
+            "vsock play",
+            HELLO,
+            1,
+            (0, 0),
+            0,
+            (HELLO_PRINTED, COUNTED)
+        )?
+    );
     Ok(())
 }
 

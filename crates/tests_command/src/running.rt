@@ -7,6 +7,12 @@ use std::sync::Wait;
 use vs_outside::{FreeGate, MemSink, MemSource, PeerHost, StepClock};
 use vs_run::vsock_main;
 
+/// The last line of a report where nothing was counted.
+pub const COUNTED: &str = "dropped 0 overrun 0 broken 0 faults 0\n";
+
+/// The same of a run without a driver.
+pub const HOSTILE_COUNTED: &str = "dropped 0 overrun 0 faults 0\n";
+
 /// The words of a command line, the program's name first.
 fn words_of(alloc: Global, line: &str) -> Result<Vec<String>, AllocError> {
     let mut words = Vec::new(alloc);
@@ -51,7 +57,7 @@ pub fn played<R: AllocGlobal + Wait>(
     Ok((status, sink))
 }
 
-/// Whether such a run ends with this status and prints this.
+/// Whether such a run ends with this status and prints this, in two pieces.
 pub fn ends<R: AllocGlobal + Wait>(
     rt: &R,
     line: &str,
@@ -59,23 +65,27 @@ pub fn ends<R: AllocGlobal + Wait>(
     piece: usize,
     fails: (u64, u64),
     status: u8,
-    printed: &str,
+    printed: (&str, &str),
 ) -> Result<bool, AllocError>
     requires piece { 1 ≤ piece }
 {
     let (ended, sink) = played(rt, line, script, piece, fails)?;
-    Ok(ended == status && sink.bytes() == printed.as_bytes())
+    Ok(
+        ended == status
+            && sink.bytes().strip_suffix(printed.1.as_bytes()) == Some(printed.0.as_bytes()),
+    )
 }
 
-/// Whether each of these scripts, played by each of these command lines, ends with status 0 and prints its text.
+/// Whether each of these scripts, played by each of these command lines, ends with status 0 and prints its text and then that last line.
 pub fn are_printed<R: AllocGlobal + Wait>(
     rt: &R,
     lines: &[&str],
     plays: &[(&str, &str)],
+    last: &str,
 ) -> Result<bool, AllocError> {
     for line in lines {
         for (script, printed) in plays {
-            if !ends(rt, line, script, 100, (0, 0), 0, printed)? {
+            if !ends(rt, line, script, 100, (0, 0), 0, (printed, last))? {
                 return Ok(false);
             }
         }

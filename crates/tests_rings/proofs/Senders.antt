@@ -1,5 +1,5 @@
 -- The packets that the tests pass may be put.
-use Rattle.std.proofs.Common.{rules, ◌≡◌, ℕ, [], ◌∷◌, inl, refl, sym, arith}
+use Rattle.std.proofs.Common.{◌≡◌, ℕ, [], ◌∷◌, inl, refl, sym, arith}
 use Rattle.vs_header.specs.{Op.op_number, declared.Op.TheVariants.Request, declared.Op.TheVariants.Rst}
 use Rattle.vs_limits.specs.declared.TheConstants.{BUF_ALLOC}
 use Rattle.vs_page.specs.{Fair.IsFairLog, Log.Driver, Log.Log, declared.log.LogEntry.TheVariants.PutPacket}

@@ -3,26 +3,34 @@
 #![tactic(auto)]
 
 ghost use Rattle.std.specs.Prelude.{◌≡◌, ◌+◌, ◌-◌, ◌≤◌, ◌==◌, [], ◌++◌, IfOk, drop, length, min, take};
+ghost use Rattle.std.specs.Vec.{vec_capacity};
 
 pub mod messages;
 
-use circular_buffer::HeapCircularBuffer;
 pub use messages::{Mark, MessageFifo};
 use std::alloc::{AllocError, Global};
 use std::marker::Model;
 
-/// A queue of bytes that holds at most as many as it was made for. All its memory is taken when it is made.
+/// A queue of bytes that holds at most as many as it was made for. All its memory is taken when it is made: twice the bytes that it holds,
+/// so that each byte is moved at most once.
 #[derive(Drop)]
 pub struct ByteFifo {
-    ring: HeapCircularBuffer<u8>,
+    // The bytes lie in one piece, behind `start` ones that were dropped. They move to the front where no more fit behind them.
+    bytes: Vec<u8>,
+    start: usize,
+    capacity: usize,
 }
 
 impl Model for ByteFifo {
-    ghost use Rattle.vs_buffer.specs.Fifo.{Fifo};
+    ghost use Rattle.std.specs.Prelude.{drop};
+    ghost use Rattle.std.specs.Vec.{vec_capacity};
+    ghost use Rattle.vs_buffer.specs.Fifo.{Fifo, IsSound};
 
     ghost Value = { Fifo };
 
-    ghost view = { λ f. record { bytes = f.ring.items; capacity = f.ring.capacity } };
+    ghost view = { λ f. record { bytes = drop f.start f.bytes.items; capacity = f.capacity } };
+
+    ghost invariant = { λ f. IsSound f.bytes.items f.start f.capacity (vec_capacity f.bytes) };
 }
 
 impl ByteFifo {
@@ -30,8 +38,13 @@ impl ByteFifo {
     pub fn new(alloc: Global, n: usize) -> Result<ByteFifo, AllocError>
         ensures { IfOk result (λ f. f ≡ record { bytes = []; capacity = n }) }
     {
-        let ring = HeapCircularBuffer::with_capacity(alloc, n)?;
-        Ok(ByteFifo { ring })
+        let places = n.checked_mul(2).ok_or(AllocError)?;
+        let bytes = Vec::with_capacity(alloc, places)?;
+        Ok(ByteFifo {
+            bytes,
+            start: 0,
+            capacity: n,
+        })
     }
 
     /// Appends bytes, for which there has to be room.
@@ -39,7 +52,18 @@ impl ByteFifo {
         requires { length self.old.bytes + length bytes.now ≤ self.old.capacity }
         ensures { self.new ≡ record self.old { bytes = self.old.bytes ++ bytes.now } }
     {
-        self.ring.fill_from_slice(bytes);
+        if self.bytes.capacity() - self.bytes.len() < bytes.len() {
+            move_to_front(&mut self.bytes, self.start);
+            self.start = 0;
+        }
+        self.bytes.extend_from_slice(bytes).unwrap();
+    }
+
+    /// All bytes, the oldest first.
+    pub fn as_slice(&self) -> &[u8]
+        ensures { result.now ≡ self.now.bytes }
+    {
+        &self.bytes[self.start..]
     }
 
     /// Copies the oldest bytes to the front of `out`, as many as it holds, and returns how many. The rest of `out` stays.
@@ -47,12 +71,8 @@ impl ByteFifo {
         ensures count { result ≡ min (length out.old) (length self.now.bytes) }
         ensures copied { out.new ≡ take result self.now.bytes ++ drop result out.old }
     {
-        let (front, back) = self.ring.as_slices();
-        let from_front = front.len().min(out.len());
-        let from_back = back.len().min(out.len() - from_front);
-        let count = from_front + from_back;
-        out[..from_front].copy_from_slice(&front[..from_front]);
-        out[from_front..count].copy_from_slice(&back[..from_back]);
+        let count = out.len().min(self.len());
+        out[..count].copy_from_slice(&self.as_slice()[..count]);
         count
     }
 
@@ -61,7 +81,10 @@ impl ByteFifo {
         requires { n ≤ length self.old.bytes }
         ensures { self.new ≡ record self.old { bytes = drop n self.old.bytes } }
     {
-        self.ring.truncate_front(self.ring.len() - n);
+        self.start += n;
+        if self.start == self.bytes.len() {
+            self.clear();
+        }
     }
 
     /// Moves the oldest bytes to the front of `out`, as many as it holds, and returns how many. The rest of `out` stays.
@@ -70,7 +93,9 @@ impl ByteFifo {
         ensures moved { out.new ≡ take result self.old.bytes ++ drop result out.old }
         ensures left { self.new ≡ record self.old { bytes = drop result self.old.bytes } }
     {
-        self.ring.read_into(out)
+        let count = self.copy_front(out);
+        self.drop_front(count);
+        count
     }
 
     /// How many bytes there are.
@@ -78,14 +103,14 @@ impl ByteFifo {
         ensures exact { result ≡ length self.now.bytes }
         ensures within { result ≤ self.now.capacity }
     {
-        self.ring.len()
+        self.bytes.len() - self.start
     }
 
     /// Whether there is no byte.
     pub fn is_empty(&self) -> bool
         ensures { result ≡ (length self.now.bytes == 0) }
     {
-        self.ring.is_empty()
+        self.len() == 0
     }
 
     /// How many more bytes fit.
@@ -93,13 +118,25 @@ impl ByteFifo {
         ensures exact { result ≡ self.now.capacity - length self.now.bytes }
         ensures within { length self.now.bytes + result ≡ self.now.capacity }
     {
-        self.ring.capacity() - self.ring.len()
+        self.capacity - self.len()
     }
 
     /// Drops all bytes.
     pub fn clear(&mut self)
         ensures { self.new ≡ record self.old { bytes = [] } }
     {
-        self.ring.clear();
+        self.bytes.clear();
+        self.start = 0;
     }
+}
+
+// Drops the first `start` bytes, and moves those behind them to the front.
+fn move_to_front(bytes: &mut Vec<u8>, start: usize)
+    requires { start ≤ length bytes.old.items }
+    ensures items { bytes.new.items ≡ drop start bytes.old.items }
+    ensures capacity { vec_capacity bytes.new ≡ vec_capacity bytes.old }
+{
+    let left = bytes.len() - start;
+    bytes.copy_within(start.., 0);
+    bytes.truncate(left);
 }

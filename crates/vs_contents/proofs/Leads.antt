@@ -3,14 +3,6 @@ use Rattle.std.proofs.Common.{◌≡◌, refl, sym, subst}
 use Rattle.vs_contents.specs.CallTree.{CallTree, Done, Ask, bind, Leads}
 
 module _ {Call : Type 0} {Answer : Call → Type 0} {S A : Type 0} (Allows : (call : Call) → Answer call → S → S → Type 0) where
-  -- the end: nothing is asked, and nothing changes
-  pub leads_done : (x : A) (s : S) → Leads {A = A} Allows (Done x) s x s
-  leads_done x s = (refl, refl)
-
-  -- one call, whose answer is allowed, and then the rest
-  pub leads_ask : (call : Call) (k : Answer call → CallTree Call Answer A) (a : Answer call) (s m t : S) (x : A) → Allows call a s m → Leads Allows (k a) m x t → Leads Allows (Ask call k) s x t
-  leads_ask call k a s m t x answered rest = (a, m, answered, rest)
-
   -- another tree that is the same
   pub leads_of : (p q : CallTree Call Answer A) (s t : S) (x : A) → q ≡ p → Leads Allows p s x t → Leads Allows q s x t
   leads_of p q s t x same h = let P : CallTree Call Answer A → Type 0 = λ r. Leads Allows r s x t in subst P (sym same) h

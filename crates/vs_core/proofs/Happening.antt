@@ -25,7 +25,6 @@ use Rattle.vs_core.specs.{Views.Steps, Views.Tells, Views.TellsWhere, declared.e
 use Rattle.vs_ring_port.specs.declared.queue.Queue.TheVariants as q
 use Rattle.laws_driver_bytes.specs.Calls as call
 use Rattle.laws_world.specs.Events as event
-use Rattle.vs_core.specs.declared.event.Reply.TheVariants as reply
 
 -- What happens doesn't look at the journal.
 abbrev plain : World → World
@@ -218,15 +217,6 @@ module _ (c : GuestCall) (old : WorldState) (ready : IsReady old) where
       → Tells c answer told → Steps (event.GuestCalls c) old (with_driver old s old.rings) told
   calls_in s answer told rest right made same honest tells =
       calls s answer told rest right made (driven_stays old.driver s same honest old.rings rest ready.driven) tells
-
-  pub no_call : is_at_rest old.rings.driver.staged ≡ false → Steps (event.GuestCalls c) old old reply.None
-  no_call rest =
-      let may : possible ≡ false = rw rest refl in
-      record {
-        happened =
-            nothing_happened (event.GuestCalls c) old (sym (ap shown (where_not possible (λ v. (call_made c v).0) (with_journal [] old) may))) ready;
-        answer = subst (λ b. TellsWhere b c (call_made c (with_journal [] old)).1 reply.None) (sym may) refl;
-      }
 
 -- What a listen made, and an unlisten.
 abbrev listened : ℕ → DriverState → Result (Unit {0}) ListenError → DriverTree (DriverState × Result (Unit {0}) ListenError)

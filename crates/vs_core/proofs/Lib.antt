@@ -3,7 +3,6 @@ pub mod Stepped
 pub mod Driven
 pub mod Happening
 pub mod Opened
-pub mod Reaches
 pub mod May
 pub mod DeviceHappening
 pub mod MayNow

@@ -11,6 +11,7 @@ use Rattle.vs_device_parts.specs.Steps.{puts_event, puts_owed, puts_payload, put
 use Rattle.vs_device_parts.specs.Streams.{tick_slot}
 use Rattle.laws_device_streams.specs.{Split.CanReach, Streams.HasStreams}
 use Rattle.laws_device_streams.proofs.{Conditions.may_where, Conditions.quiet_can, Keeping.keeps_may, Stepping.puts_event_keeps}
+use Rattle.laws_device_streams.proofs.{Closing.keeps_tick_slot, Stepping.shuts_at, Stepping.takes_at, Stepping.writes_at}
 use Rattle.laws_device_streams.proofs.Stepping.{puts_owed_keeps, puts_payload_keeps, puts_reply_keeps}
 use Rattle.vs_proxy_parts.specs.{Handshakes.read_byte, Handshakes.streams_of, Handshakes.tick_handshake, State.start, Turns.proxy_reset_of}
 use Rattle.laws_proxy_streams.proofs.{Shaking.FindsAll, Shaking.keeps_read_byte, Shaking.keeps_tick_handshake, Turning.keeps_proxy_reset}
@@ -18,7 +19,6 @@ use Rattle.laws_device.specs.Honest.{is_held}
 use Rattle.laws_device.proofs.{Carrying.With, Keeping.keeps_put}
 use Rattle.laws_world.specs.{Events.holds, World.World, World.first_cid}
 use Rattle.laws_world.proofs.Sound.{IsWell, all, carry, held_there, proxied}
-use Rattle.vs_core.proofs.Reaches.{shuts_may, takes_may, times_out_may, writes_may}
 use Rattle.laws_device.proofs.Stepping as steps
 
 -- What the device finds in the world, where n calls of the host failed so far.
@@ -32,16 +32,20 @@ module _ (w : World) (n : ℕ) (has : HasStreams (streams_of w.proxy) w.proxy.de
       subst (HasStreams (streams_of w.proxy) w.proxy.device.table) same has
 
   pub may_take : (queue : Queue) → MayRun (takes_chain queue w.proxy.device) (here w n)
-  may_take queue = takes_may (streams_of w.proxy) queue w.proxy.device (here w n) finds
+  may_take queue = keeps_may CanMake Allows _ (takes_chain queue w.proxy.device) (here w n)
+      (takes_at CanMake quiet_can (streams_of w.proxy) queue w.proxy.device (here w n) finds)
 
   pub may_write : (slot : ℕ) → MayRun (writes slot w.proxy.device) (here w n)
-  may_write slot = writes_may (streams_of w.proxy) slot w.proxy.device (here w n) finds
+  may_write slot = keeps_may CanMake Allows _ (writes slot w.proxy.device) (here w n)
+      (writes_at CanMake quiet_can (streams_of w.proxy) slot w.proxy.device (here w n) finds)
 
   pub may_shut : (slot : ℕ) → MayRun (shuts_write slot w.proxy.device) (here w n)
-  may_shut slot = shuts_may (streams_of w.proxy) slot w.proxy.device (here w n) finds
+  may_shut slot = keeps_may CanMake Allows _ (shuts_write slot w.proxy.device) (here w n)
+      (shuts_at CanMake quiet_can (streams_of w.proxy) slot w.proxy.device (here w n) finds)
 
   pub may_tick : (slot : ℕ) → MayRun (tick_slot slot w.proxy.device) (here w n)
-  may_tick slot = times_out_may (streams_of w.proxy) slot w.proxy.device (here w n) finds
+  may_tick slot = keeps_may CanMake Allows _ (tick_slot slot w.proxy.device) (here w n)
+      (keeps_tick_slot CanMake quiet_can (streams_of w.proxy) slot w.proxy.device (here w n) finds)
 
   pub may_line : (stream : ℕ) → MayRun (read_byte stream (start w.proxy)) (here w n)
   may_line stream = keeps_may CanMake Allows _ (read_byte stream (start w.proxy)) (here w n)

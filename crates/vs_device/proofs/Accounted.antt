@@ -53,5 +53,6 @@ module _ (s : DeviceState) (a b : Situation) where
       → StayAccounted (open_of flow stream s) calls x x.0.table hands b.host
   open_accounted flow stream x runs calls hands was asking =
       stay_accounted (λ y. y.0.table) (λ y. hands) (open_of flow stream s) calls a b x s.table hands
-      (keeps_open hands hands flow stream asking.line s calls asking.port asking.whole asking.waits was.accounts.tied.undecided
-      was.accounts.tied.waiting asking.apart was.accounts.tied.apart was.accounts) was runs
+      (keeps_open hands hands flow stream asking.line s calls asking.whole asking.waits was.accounts.tied.undecided
+      was.accounts.tied.waiting
+      asking.apart was.accounts.tied.apart was.accounts asking.port) was runs

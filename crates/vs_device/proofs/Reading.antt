@@ -1,6 +1,8 @@
 -- What reading a stream comes to, for the packet that it puts.
 use Rattle.std.specs.{Prelude.if◌then◌else◌, Prelude.◌==◌, Option.IfSome}
-use Rattle.std.proofs.Common.{◌≡◌, ℕ, ◌+◌, ◌≤◌, arith, Bool, true, false, cond, List, length, Option, Some, None, refl, sym, ap, subst, ◌∙◌}
+use Rattle.std.proofs.lemmas.List.{length-take-le}
+use Rattle.std.proofs.Common.{◌≡◌, ℕ, ◌+◌, ◌≤◌, arith, Bool, true, false, cond, List, length, take, Option, Some, None, refl, sym, ap}
+use Rattle.std.proofs.Common.{subst, ◌∙◌}
 use Rattle.vs_contents.specs.CallTree.{Done, Ask, bind, while_up_to}
 use Rattle.vs_contents.proofs.{Leads.leads_of, Leads.leads_bind, Conditions.may_first, Conditions.may_rest, Conditions.may_of}
 use Rattle.vs_conn.specs.{End.ConnectionEnd, End.with_payload_sent, End.wanting_credit, Headers.payload_header}
@@ -9,13 +11,15 @@ use Rattle.vs_conn.specs.declared.end.State.TheVariants as state
 use Rattle.vs_header.specs.declared.{TheConstants.HEADER_LEN, Header.Header}
 use Rattle.vs_page.specs.declared.page.TheConstants.{PAYLOAD_MAX}
 use Rattle.vs_credit.specs.Credit.{free_of}
-use Rattle.vs_flow.specs.Table.{entry_under}
+use Rattle.vs_flow.specs.Table.{Table, entry_under, value_under}
 use Rattle.vs_outside.specs.declared.host_net.StreamRead.{StreamRead}
 use Rattle.vs_ring_port.specs.declared.device_ring.Chain.{Chain}
 use Rattle.vs_device_parts.specs.{Calls.DeviceTree, Calls.Situation, Calls.Allows, Calls.ReadStream, Connections.with_connection}
 use Rattle.vs_device_parts.specs.{Connections.route_to_guest, Filling.read_slot, Playing.CanMake, Playing.MayRun, Playing.Runs}
 use Rattle.vs_device_parts.specs.Receiving.{Filling, hold, written, put_on, put_owed, put_payload, may_read, read_room, read_answered}
-use Rattle.vs_device_parts.specs.{Receiving.read_with_chain, Receiving.read_stream, Receiving.serve_slot, State.DeviceEntry}
+use Rattle.vs_device_parts.specs.{Receiving.read_with_chain, Receiving.read_stream, Receiving.serve_slot, State.DeviceConnection}
+use Rattle.vs_device_parts.specs.{State.DeviceEntry}
+use Rattle.vs_device_parts.proofs.Under.{value_is}
 use Rattle.vs_device_parts.specs.{State.DeviceState, Steps.filling, Steps.puts_payload, Steps.reads, Steps.to_read}
 
 -- payload is put
@@ -185,21 +189,29 @@ if_some {X = X} o x P is holds = let Q : Option X → Type 0 = λ p. IfSome p P 
 pub at_some : {X : Type 0} (o : Option X) (x : X) (P : X → Type 0) → o ≡ Some x → IfSome o P → P x
 at_some {X = X} o x P is holds = let Q : Option X → Type 0 = λ p. IfSome p P in subst Q is holds
 
--- the same read, where its stream and its room are told in another way
-pub same_read : (a : StreamRead × List ℕ) (id stream n most : ℕ) (x y : Situation) → id ≡ stream → n ≡ most → Allows (ReadStream id n) a x y → Allows (ReadStream stream most) a x y
-same_read a id stream n most x y is much allowed =
-    let P : ℕ → Type 0 = λ i. Allows (ReadStream i n) a x y in
-    let Q : ℕ → Type 0 = λ k. Allows (ReadStream stream k) a x y in
-    subst Q much (subst P is allowed)
+-- the read that was made, as that of the connection in the slot
+pub record IsRead (chain : Chain) (stream most : ℕ) (e : DeviceEntry) : Type 0 where
+  pub stream_is : stream ≡ e.value.stream
+  pub room_is : most ≡ read_room (free_of e.value.end.credit) chain
 
--- the bytes that a read gave have room in the chain, and credit
-pub record Fits (e : ConnectionEnd) (chain : Chain) (n : ℕ) : Type 0 where
-  pub within : HEADER_LEN + n ≤ chain.writable
-  pub credit : n ≤ free_of e.credit
-  pub most : n ≤ PAYLOAD_MAX
+pub is_read : (t : Table DeviceConnection) (slot : ℕ) (c : DeviceConnection) (chain : Chain) (stream free most : ℕ) (e : DeviceEntry) → Some c ≡ value_under t slot
+    → entry_under t slot ≡ Some e → stream ≡ c.stream → free ≡ free_of c.end.credit → most ≡ read_room free chain → IsRead chain stream most e
+is_read t slot c chain stream free most e there found id credit much =
+    let same : e.value ≡ c = value_is t slot e c found (sym there) in record {
+      stream_is = id ∙ ap (λ (x : DeviceConnection). x.stream) (sym same);
+      room_is = much ∙ ap (λ (n : ℕ). read_room n chain) (credit ∙ ap (λ (x : DeviceConnection). free_of x.end.credit) (sym same));
+    }
 
-pub fits : (e : ConnectionEnd) (chain : Chain) (n : ℕ) → HEADER_LEN + 1 ≤ chain.writable → n ≤ read_room (free_of e.credit) chain → Fits e chain n
-fits e chain n long le = record { within = omega (arith, long, le); credit = omega (arith, le); most = omega (arith, le) }
+-- the bytes that it gave have room in the chain, and credit
+pub record Fits (e : ConnectionEnd) (chain : Chain) (bytes : List ℕ) : Type 0 where
+  pub within : HEADER_LEN + length bytes ≤ chain.writable
+  pub credit : length bytes ≤ free_of e.credit
+
+pub fits : (e : ConnectionEnd) (chain : Chain) (n free most : ℕ) (out : List ℕ) → HEADER_LEN + 1 ≤ chain.writable → free ≡ free_of e.credit
+    → most ≡ read_room free chain → n ≤ most → PAYLOAD_MAX ≤ length out → Fits e chain (take n out)
+fits e chain n free most out long credit much le big =
+    let len : length (take n out) ≡ n = length-take-le n out (omega (arith, much, le, big)) in
+    record { within = omega (arith, long, much, le, len); credit = omega (arith, credit, much, le, len) }
 
 pub same_entry : (o : Option DeviceEntry) (e f : DeviceEntry) → o ≡ Some e → o ≡ Some f → e ≡ f
 same_entry o e f is also = let both : Some e ≡ Some f = sym is ∙ also in cc

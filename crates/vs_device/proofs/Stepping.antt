@@ -145,9 +145,6 @@ event_by s b is = ap (λ (c : Bool). let tree : DeviceTree DeviceState = cond c 
 pub event_stepped : (s : DeviceState) (answer : Next) (x y : Situation) → s.event_owed ≡ true → Allows (Ring (Take Event)) answer x y → Runs (takes_chain Event s) x s y
 event_stepped s answer x y owed allowed = leads_of Allows _ _ x y s (event_by s true owed) (answer, y, allowed, (refl, refl))
 
-pub no_event_stepped : (s : DeviceState) (x : Situation) → s.event_owed ≡ false → Runs (takes_chain Event s) x s x
-no_event_stepped s x none = leads_of Allows _ _ x x s (event_by s false none) (refl, refl)
-
 -- the owed event is put into a chain
 puts_by : (s : DeviceState) (chain : Chain) (b : Bool) → s.event_owed ≡ b
     → puts_event chain s ≡ cond b (Ask (Ring (Write chain 0 (little_bytes 4 0))) (λ _. Ask (Ring (Return chain 4)) (λ _. Done (record s { event_owed = false })))) (Done s)
@@ -169,9 +166,6 @@ module _ (s : DeviceState) (chain : Chain) (owed : s.event_owed ≡ true) (x : S
   event_put t y first =
       leads_of Allows _ _ x y t (puts_by s chain true owed)
       (leads_bind Allows (event_on (next.Chain chain) s) of_event x y y (t, Ok true) t first (refl, refl))
-
-pub no_event_put : (s : DeviceState) (chain : Chain) (x : Situation) → s.event_owed ≡ false → Runs (puts_event chain s) x s x
-no_event_put s chain x none = leads_of Allows _ _ x x s (puts_by s chain false none) (refl, refl)
 
 -- a reply, or what a connection owes, is put into the chain that is held
 held_by_some : (step : Filling → DeviceTree DeviceState) (s : DeviceState) (o : Option Chain) → is_some o ≡ true

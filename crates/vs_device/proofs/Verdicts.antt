@@ -1,40 +1,43 @@
 -- What the verdict on a packet of a connection comes to.
-use Rattle.std.proofs.Common.{◌≡◌, ℕ, true, false, cond, List, [], ◌++◌, refl, sym, ap, subst, ◌∙◌}
+use Rattle.std.proofs.Common.{◌≡◌, ℕ, true, Some, refl, sym, ap, subst, ◌∙◌}
 use Rattle.vs_contents.specs.CallTree.{Done, bind}
 use Rattle.vs_contents.proofs.{Leads.leads_of, Leads.leads_bind, Conditions.may_first, Conditions.may_of}
-use Rattle.vs_header.specs.declared.{Header.Header, TheConstants.HEADER_LEN}
+use Rattle.vs_header.specs.declared.{Header.Header}
 use Rattle.vs_conn.specs.{End.is_reset, End.verdict_of, declared.end.Verdict.Verdict, declared.end.Why.Why}
 use Rattle.vs_conn.specs.declared.end.Verdict.TheVariants as verdict
 use Rattle.vs_conn.specs.declared.end.Why.TheVariants as why
-use Rattle.vs_ring_port.specs.{declared.device_ring.Chain.Chain, Contents.Read}
-use Rattle.vs_uds.specs.OkLine.{ok_text}
-use Rattle.vs_device_parts.specs.{Calls.Situation, Calls.DeviceTree, Calls.Allows, Calls.Ring, State.DeviceEntry, State.DeviceState}
+use Rattle.vs_flow.specs.Table.{entry_under}
+use Rattle.vs_ring_port.specs.declared.device_ring.Chain.{Chain}
+use Rattle.vs_device_parts.specs.{Calls.Situation, Calls.DeviceTree, Calls.Allows, State.DeviceConnection, State.DeviceEntry}
+use Rattle.vs_device_parts.specs.State.{DeviceState}
+use Rattle.vs_device_parts.proofs.Under.{has_slot, under_changed, with_its}
 use Rattle.vs_device_parts.specs.{Connections.with_connection, Connections.stream_closed, Connections.after_leaving, Playing.CanMake}
 use Rattle.vs_device_parts.specs.{Playing.MayRun, Playing.MayClose, Playing.Runs, Streams.leaving, Streams.closing, Taking.after_refusal}
 use Rattle.vs_device_parts.specs.{Taking.known_packet, Transmitting.heard, Transmitting.on_known}
 use Rattle.vs_device.proofs.Leaving.{may_close}
 
+-- the connection in a slot, once its end heard a packet
+pub record IsHeard (s m : DeviceState) (slot : ℕ) (e : DeviceEntry) (v : DeviceConnection) : Type 0 where
+  pub at : e.slot ≡ slot
+  pub here : m ≡ with_connection e.slot v s
+  pub there : entry_under m.table slot ≡ Some (with_its e v)
+
+pub heard_in : (s m : DeviceState) (slot : ℕ) (e : DeviceEntry) (v : DeviceConnection) → entry_under s.table slot ≡ Some e
+    → m ≡ with_connection slot v s → IsHeard s m slot e v
+heard_in s m slot e v is was = record {
+  at = has_slot s.table slot e is;
+  here = was ∙ ap (λ (n : ℕ). with_connection n v s) (sym (has_slot s.table slot e is));
+  there = ap (λ (x : DeviceState). entry_under x.table slot) was ∙ under_changed s.table slot e v is;
+}
+
 module _ (chain : Chain) (h : Header) (e : DeviceEntry) (s t : DeviceState) where
   abbrev pub same_end : DeviceState
   same_end = with_connection e.slot (heard h e.value) s
-
-  pub accepted : (v : Verdict) (x : Situation) → v ≡ verdict.Accept
-      → t ≡ with_connection e.slot (record (heard h e.value) { ok_line = cond e.value.by_client (ok_text e.flow.host) [] }) s → Runs (on_known v chain h e s) x t x
-  accepted v x is end = let P : Verdict → Type 0 = λ u. Runs (on_known u chain h e s) x t x in subst P (sym is) (sym end, refl)
-
-  pub delivered : (v : Verdict) (bytes : List ℕ) (x y : Situation) → v ≡ verdict.Deliver → Allows (Ring (Read chain HEADER_LEN h.len)) bytes x y
-      → t ≡ with_connection e.slot (record (heard h e.value) { pending = e.value.pending ++ bytes }) s → Runs (on_known v chain h e s) x t y
-  delivered v bytes x y is allowed end = let P : Verdict → Type 0 = λ u. Runs (on_known u chain h e s) x t y in subst P (sym is) (bytes, y, allowed, (sym end, refl))
 
   pub over : (x y : Situation) → is_reset h ≡ true → Runs (leaving (record e { value = heard h e.value }) s) x t y → Runs (on_known verdict.Peer chain h e s) x t y
   over x y is runs =
       let same : on_known verdict.Peer chain h e s ≡ leaving (record e { value = heard h e.value }) s = rw is refl in
       leads_of Allows _ _ x y t same runs
-
-  pub stays : (x : Situation) → is_reset h ≡ false → t ≡ same_end → Runs (on_known verdict.Peer chain h e s) x t x
-  stays x is end =
-      let same : on_known verdict.Peer chain h e s ≡ Done same_end = rw is refl in
-      leads_of Allows _ _ x x t same (sym end, refl)
 
   pub refuses : (w : Why) (x : Situation) → t ≡ with_connection e.slot (heard h e.value) (after_refusal w s) → Runs (on_known (verdict.Rst w) chain h e s) x t x
   refuses (why.Overrun o) x end = (sym end, refl)
@@ -43,15 +46,6 @@ module _ (chain : Chain) (h : Header) (e : DeviceEntry) (s t : DeviceState) wher
   pub counted_refusal : (w : Why) (u : DeviceState) → u ≡ same_end → after_refusal w u ≡ with_connection e.slot (heard h e.value) (after_refusal w s)
   counted_refusal (why.Overrun o) u is = ap (after_refusal (why.Overrun o)) is
   counted_refusal w u is = is
-
-  pub by_verdict : (v w : Verdict) (x y : Situation) → v ≡ w → Runs (on_known w chain h e s) x t y → Runs (on_known v chain h e s) x t y
-  by_verdict v w x y is runs = let P : Verdict → Type 0 = λ u. Runs (on_known u chain h e s) x t y in subst P (sym is) runs
-
-  pub discards : (x : Situation) → t ≡ same_end → Runs (on_known verdict.Discard chain h e s) x t x
-  discards x end = (sym end, refl)
-
-  pub ignores : (x : Situation) → t ≡ same_end → Runs (on_known verdict.Ignore chain h e s) x t x
-  ignores x end = (sym end, refl)
 
   answered : Verdict → DeviceState → DeviceTree (DeviceState × Verdict)
   answered v u = Done (u, v)

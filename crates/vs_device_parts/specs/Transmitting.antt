@@ -1,5 +1,5 @@
 -- Packets that the device takes from the guest.
-use Rattle.std.specs.Prelude.{◌+◌, ◌-◌, ◌==◌, ◌&&◌, ◌||◌, not, nat_lt, nat_le, if◌then◌else◌, [], ◌++◌, length, Some, None}
+use Rattle.std.specs.Prelude.{◌-◌, ◌==◌, ◌&&◌, ◌||◌, not, nat_lt, nat_le, if◌then◌else◌, [], ◌++◌, length, Some, None}
 use Rattle.vs_contents.specs.CallTree.{Done, Ask, bind}
 use Rattle.vs_header.specs.{Op.op_number, Packet.header_of, declared.Header.Header, declared.TheConstants.HEADER_LEN}
 use Rattle.vs_header.specs.{declared.Kind.TheVariants.Stream, declared.Op.TheVariants.Request}
@@ -11,8 +11,8 @@ use Rattle.vs_replies.specs.Owed.{reply_to}
 use Rattle.vs_uds.specs.{OkLine.ok_text, Path.path_of}
 use Rattle.vs_ring_port.specs.{declared.device_ring.Chain.Chain, declared.device_ring.Next.Next, declared.failure.Failure.Failure}
 use Rattle.vs_ring_port.specs.{declared.queue.Queue.TheVariants.Tx, Contents.Take, Contents.Read, Contents.Return}
-use Rattle.vs_device_parts.specs.{declared.answers.Taken.Taken, Calls.DeviceTree, Calls.Ring, Calls.Dial}
-use Rattle.vs_device_parts.specs.{State.DeviceConnection, State.DeviceState, State.DeviceEntry, Streams.leaving}
+use Rattle.vs_device_parts.specs.{declared.answers.Taken.Taken, Calls.DeviceTree, Calls.Ring, Calls.Dial, State.DeviceConnection}
+use Rattle.vs_device_parts.specs.{State.DeviceState, State.DeviceEntry, Streams.leaving}
 use Rattle.vs_device_parts.specs.Connections.{with_connection, with_reply, with_fault, with_dialed}
 use Rattle.vs_limits.specs.declared.TheConstants.{DEVICE_REPLIES}
 use Rattle.vs_wrap.specs.Wrap.{counted}

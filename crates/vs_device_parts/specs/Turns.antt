@@ -5,8 +5,8 @@ use Rattle.vs_flow.specs.{Table.entry_under, Table.slots, Table.emptied, Table.r
 use Rattle.vs_flow.specs.declared.table.TableFault.{TableFault}
 use Rattle.vs_conn.specs.declared.end.State.{State}
 use Rattle.vs_ring_port.specs.{declared.failure.Failure.Failure, Contents.PublishCid}
-use Rattle.vs_device_parts.specs.{declared.answers.Counters.Counters, Calls.DeviceTree, Calls.Ring, Calls.Label}
-use Rattle.vs_device_parts.specs.{Connections.with_client, Connections.stream_closed, State.DeviceState, Streams.closing}
+use Rattle.vs_device_parts.specs.{declared.answers.Counters.Counters, Calls.DeviceTree, Calls.Ring, Calls.Label, Connections.with_client}
+use Rattle.vs_device_parts.specs.{Connections.stream_closed, State.DeviceState, Streams.closing}
 use Rattle.vs_limits.specs.declared.TheConstants.{DEVICE_CONNECTIONS}
 
 -- A device before its first call.

@@ -3,14 +3,15 @@ use Rattle.std.proofs.Common.{◌≡◌, ℕ, zero, suc, ◌+◌, ◌-◌, ◌�
 use Rattle.std.proofs.Common.{Result, Ok, Err, refl, ap, ◌∙◌, arith, length-take}
 use Rattle.std.proofs.lemmas.Bool.Decides.{nat_tests}
 use Rattle.vs_contents.specs.CallTree.{Done, Ask, bind, while_up_to}
-use Rattle.vs_contents.proofs.Leads.{AllEnds, ends_bind, ends_weaker}
+use Rattle.vs_contents.proofs.Leads.{AllEnds, end_of, ends_bind, ends_weaker}
 use Rattle.vs_conn.specs.{End.may_send_of, End.wanting_credit, End.with_payload_sent, declared.end.Stop.Stop}
 use Rattle.vs_page.specs.declared.page.TheConstants.{PAYLOAD_MAX}
-use Rattle.vs_ring_port.specs.{declared.queue.Queue.TheVariants.Tx, DriverCalls.Reap}
+use Rattle.vs_ring_port.specs.{declared.queue.Queue.TheVariants.Tx, Contents.RingContents, DriverCalls.Reap}
 use Rattle.vs_driver_parts.specs.{declared.answers.Sent.Sent, State.DriverEntry, State.DriverState, State.entry_known_as}
 use Rattle.vs_driver_parts.specs.{Connections.with_end, Conversations.DriverTree, Conversations.has_page, Conversations.no_credit}
 use Rattle.vs_driver_parts.specs.Conversations.{not_sent, payload_bytes, payload_of, post_packet, reap_all, reap_one, reaped, send_of}
 use Rattle.vs_driver_parts.specs.Conversations.{send_on, send_stopped, send_with_credit, send_with_page}
+use Rattle.vs_driver_parts.specs.Playing.{Plays, RingAllows}
 use Rattle.vs_driver_parts.specs.declared.answers.Sent.TheVariants as sent
 use Rattle.vs_driver.specs.Outcomes.{KeepsAllButPages, Sends, SendsBy, SendsFront, SendsOn, SendsWith, sent_at_most}
 
@@ -82,5 +83,8 @@ by_entry : (o : Option DriverEntry) (id : ℕ) (bytes : List ℕ) (s : DriverSta
 by_entry None id bytes s within = (refl, refl)
 by_entry (Some e) id bytes s within = on_entry (may_send_of e.value.end) e bytes s within
 
-pub send_ends : (id : ℕ) (bytes : List ℕ) (s : DriverState) → s.in_flight ≤ s.size → AllEnds (λ x. Sends id bytes s x.0 x.1) (send_of id bytes s)
-send_ends id bytes s within = by_entry (entry_known_as id s) id bytes s within
+pub sends : (id : ℕ) (bytes : List ℕ) (s : DriverState) → s.in_flight ≤ s.size → (c d : RingContents) (t : DriverState) (answer : Sent)
+    → Plays (send_of id bytes s) c (t, answer) d → Sends id bytes s t answer
+sends id bytes s within c d t answer =
+    end_of (λ x. Sends id bytes s x.0 x.1) RingAllows (send_of id bytes s) c d (t, answer)
+    (by_entry (entry_known_as id s) id bytes s within)

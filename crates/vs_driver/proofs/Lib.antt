@@ -1,3 +1,4 @@
+pub mod Rest
 pub mod Reading
 pub mod RingPages
 pub mod Connecting

@@ -1,98 +1,85 @@
 -- What putting replies and what connections owe comes to.
-use Rattle.std.proofs.Common.{◌≡◌, ℕ, Bool, true, false, cond, List, [], ◌∷◌, length, drop, Option, Some, None, ◌+◌, ◌<◌, ◌≤◌, get_or}
-use Rattle.std.proofs.Common.{drop-cons, add-one, refl, sym, ap, subst, ◌∙◌}
+use Rattle.std.proofs.Common.{◌≡◌, ℕ, Bool, true, false, List, [], ◌∷◌, length, drop, Option, Some, None, ◌+◌, ◌<◌, ◌≤◌, get_or, drop-cons}
+use Rattle.std.proofs.Common.{add-one, refl, sym, ap, subst, ◌∙◌}
 use Rattle.std.specs.{List.slice_get, Option.IsSomeAnd}
 use Rattle.std.proofs.Math.ListN.{drop_of_length-le}
 use Rattle.vs_contents.specs.CallTree.{Done, bind, for_each}
 use Rattle.vs_contents.proofs.{Leads.leads_of, Leads.leads_bind, Conditions.may_first, Conditions.may_rest, Conditions.may_of}
-use Rattle.vs_header.specs.Packet.{header_bytes}
-use Rattle.vs_conn.specs.{End.owes_of, declared.end.Owed.Owed}
+use Rattle.vs_header.specs.{Packet.header_bytes, declared.Header.Header}
+use Rattle.vs_conn.specs.{End.owes_of, Headers.owed_header, declared.end.Owed.Owed}
 use Rattle.vs_conn.specs.declared.end.Owed.TheVariants as owed
 use Rattle.vs_flow.specs.Table.{entry_under}
 use Rattle.vs_replies.specs.declared.Reply.{Reply}
 use Rattle.vs_ring_port.specs.Contents.{RingContents}
 use Rattle.vs_driver_parts.specs.{State.DriverEntry, State.DriverState, Connections.with_connection, Connections.paid_connection}
-use Rattle.vs_driver_parts.specs.Conversations.{Round, stage_packet, one_put, has_page, put_reply, put_reply_of, reply_header, put_owed}
-use Rattle.vs_driver_parts.specs.Conversations.{owed_bytes, after_paying, is_rst, pay_slot}
+use Rattle.vs_driver_parts.specs.{Connections.route_to_host, declared.tally.Tally.Tally}
+use Rattle.vs_driver_parts.specs.Conversations.{DriverTree, Round, after_paying, has_page, is_rst, one_put, pay_slot, put_owed, put_reply}
+use Rattle.vs_driver_parts.specs.Conversations.{put_reply_of, reply_header, round_of, stage_packet}
 use Rattle.vs_driver_parts.specs.Playing.{CanMake, MayPublishAll, Plays, RingAllows}
+use Rattle.vs_driver.proofs.Rest.{left_as, may_next, then}
 
 pub paid_other : (what : Owed) (slot : ℕ) (e : DriverEntry) (s : DriverState) → is_rst what ≡ false → e.slot ≡ slot
     → with_connection slot (paid_connection what e.value) s ≡ after_paying what e s
 paid_other owed.Rst slot e s other at = absurd (cc)
 paid_other what slot e s other at = ap (λ (n : ℕ). with_connection n (paid_connection what e.value) s) (sym at)
 
-pub record HoldsOf {X : Type 0} (o : Option X) (P : X → Type 0) : Type 0 where
+record HoldsOf {X : Type 0} (o : Option X) (P : X → Type 0) : Type 0 where
   pub one : X
   pub is : o ≡ Some one
   pub holds : P one
 
-pub some_and : {X : Type 0} (o : Option X) (P : X → Type 0) → IsSomeAnd o P → HoldsOf o P
+some_and : {X : Type 0} (o : Option X) (P : X → Type 0) → IsSomeAnd o P → HoldsOf o P
 some_and (Some x) P h = record { one = x; is = refl; holds = h }
 some_and None P h = absurd h
 
 -- a packet is staged in a round
-module _ (r : Round) (bytes : List ℕ) (g : DriverState) where
-  pub staged_put : (s : DriverState) (c m : RingContents) → Plays (stage_packet bytes g) c s m
-      → Plays (bind (stage_packet bytes g) (one_put r)) c (record r { state = s; count = r.count + 1 }, true) m
-  staged_put s c m plays = leads_bind RingAllows (stage_packet bytes g) (one_put r) c m m s (record r { state = s; count = r.count + 1 }, true) plays (refl, refl)
+module _ (tree : DriverTree (Round × Bool)) (r : Round) (bytes : List ℕ) (g : DriverState) (is : tree ≡ bind (stage_packet bytes g) (one_put r)) where
+  pub may_put : (c : RingContents) → MayPublishAll tree c → MayPublishAll (stage_packet bytes g) c
+  may_put c = may_next (stage_packet bytes g) (one_put r) (left_as tree (bind (stage_packet bytes g) (one_put r)) c is)
 
-  pub may_staged_put : (c : RingContents) → MayPublishAll (bind (stage_packet bytes g) (one_put r)) c → MayPublishAll (stage_packet bytes g) c
-  may_staged_put c may = may_first CanMake RingAllows (stage_packet bytes g) (one_put r) c may
+  pub put : (s : DriverState) (c m : RingContents) → Plays (stage_packet bytes g) c s m
+      → Plays tree c (record r { state = s; count = r.count + 1 }, true) m
+  put s c m plays =
+      (then (stage_packet bytes g) (one_put r) (left_as tree (bind (stage_packet bytes g) (one_put r)) c is) s m plays).goes_on _ _
+      (refl, refl)
 
--- what a connection owes
-puts : (r : Round) (slot : ℕ) (e : DriverEntry) (what : Owed) → entry_under r.state.table slot ≡ Some e → owes_of e.value.end ≡ Some what → has_page r.state ≡ true
-    → put_owed slot r ≡ bind (stage_packet (owed_bytes what e r.state) (after_paying what e r.state)) (one_put r)
-puts r slot e what found owes free = rw (found, owes, free, put_owed) refl
+-- what a connection owes, with its header h, where it leaves g
+module _ (tally : Tally) (slot : ℕ) (what : Owed) (h : Header) (g s : DriverState) where
+  abbrev Owes : DriverState → Type 0
+  Owes d =
+      IsSomeAnd (entry_under d.table slot) (λ e. (owes_of e.value.end ≡ Some what) ×
+      (h ≡ owed_header e.value.end (route_to_host d.cid e.flow) what))
 
-pub owed_put : (r : Round) (slot : ℕ) (e : DriverEntry) (what : Owed) (bytes : List ℕ) (g s : DriverState) (c m : RingContents)
-    → entry_under r.state.table slot ≡ Some e → owes_of e.value.end ≡ Some what → has_page r.state ≡ true
-    → bytes ≡ owed_bytes what e r.state → g ≡ after_paying what e r.state → Plays (stage_packet bytes g) c s m
-    → Plays (put_owed slot r) c (record r { state = s; count = r.count + 1 }, true) m
-owed_put r slot e what bytes g s c m found owes free same state plays =
-    let P : List ℕ → Type 0 = λ b. Plays (stage_packet b g) c s m in
-    let Q : DriverState → Type 0 = λ x. Plays (stage_packet (owed_bytes what e r.state) x) c s m in
-    leads_of RingAllows _ _ c m (record r { state = s; count = r.count + 1 }, true) (puts r slot e what found owes free)
-    (staged_put r (owed_bytes what e r.state) (after_paying what e r.state) s c m (subst Q state (subst P same plays)))
+  owed_at : (e : DriverEntry) → entry_under s.table slot ≡ Some e → owes_of e.value.end ≡ Some what
+      → h ≡ owed_header e.value.end (route_to_host s.cid e.flow) what → has_page s ≡ true → g ≡ after_paying what e s
+      → put_owed slot (round_of s tally) ≡ bind (stage_packet (header_bytes h) g) (one_put (round_of s tally))
+  owed_at e found owes head free after = rw (found, owes, free, head, after, put_owed) refl
 
-pub may_put_owed : (r : Round) (slot : ℕ) (e : DriverEntry) (what : Owed) (bytes : List ℕ) (g : DriverState) (c : RingContents)
-    → entry_under r.state.table slot ≡ Some e → owes_of e.value.end ≡ Some what → has_page r.state ≡ true
-    → bytes ≡ owed_bytes what e r.state → g ≡ after_paying what e r.state → MayPublishAll (put_owed slot r) c → MayPublishAll (stage_packet bytes g) c
-may_put_owed r slot e what bytes g c found owes free same state may =
-    let P : List ℕ → Type 0 = λ b. MayPublishAll (stage_packet b g) c in
-    let Q : DriverState → Type 0 = λ x. MayPublishAll (stage_packet (owed_bytes what e r.state) x) c in
-    subst P (sym same) (subst Q (sym state) (may_staged_put r (owed_bytes what e r.state) (after_paying what e r.state) c
-    (may_of CanMake RingAllows _ _ c (puts r slot e what found owes free) may)))
+  pub owed_tree : (d : DriverState) → d ≡ s → Owes d → has_page s ≡ true
+      → ((e : DriverEntry) → entry_under s.table slot ≡ Some e → g ≡ after_paying what e s)
+      → put_owed slot (round_of s tally) ≡ bind (stage_packet (header_bytes h) g) (one_put (round_of s tally))
+  owed_tree d same owed free after =
+      let o = some_and (entry_under s.table slot) (λ (e : DriverEntry). (owes_of e.value.end ≡ Some what) ×
+      (h ≡ owed_header e.value.end (route_to_host s.cid e.flow) what)) (subst Owes same owed) in
+      owed_at o.one o.is o.holds.0 o.holds.1 free (after o.one o.is)
 
 -- the oldest owed reply
 head_of : (xs : List Reply) (x : Reply) → Some x ≡ slice_get xs 0 → xs ≡ x ∷ drop 1 xs
 head_of [] x is = absurd (cc)
 head_of (y ∷ ys) x is = let same : x ≡ y = cc in ap (λ (z : Reply). z ∷ ys) (sym same)
 
-replies_put : (r : Round) (reply : Reply) → Some reply ≡ slice_get r.state.replies 0 → has_page r.state ≡ true
-    → put_reply r ≡ bind (stage_packet (header_bytes (reply_header r.state.cid reply)) (record r.state { replies = drop 1 r.state.replies })) (one_put r)
-replies_put r reply first free =
-    let one : put_reply r ≡ put_reply_of (reply ∷ drop 1 r.state.replies) r = ap (λ (xs : List Reply). put_reply_of xs r) (head_of r.state.replies reply first) in
-    one ∙ ap (λ (b : Bool). cond b (bind (stage_packet (header_bytes (reply_header r.state.cid reply)) (record r.state { replies = drop 1 r.state.replies })) (one_put r)) (Done (r, false))) free
+module _ (tally : Tally) (reply : Reply) (h : Header) (g s : DriverState) where
+  abbrev Replies : DriverState → Type 0
+  Replies d = (Some reply ≡ slice_get d.replies 0) × (h ≡ reply_header d.cid reply) × (g ≡ record d { replies = drop 1 d.replies })
 
-pub reply_put : (r : Round) (reply : Reply) (bytes : List ℕ) (g s : DriverState) (c m : RingContents) → Some reply ≡ slice_get r.state.replies 0 → has_page r.state ≡ true
-    → bytes ≡ header_bytes (reply_header r.state.cid reply) → g ≡ record r.state { replies = drop 1 r.state.replies } → Plays (stage_packet bytes g) c s m
-    → Plays (put_reply r) c (record r { state = s; count = r.count + 1 }, true) m
-reply_put r reply bytes g s c m first free same state plays =
-    let h = header_bytes (reply_header r.state.cid reply) in
-    let P : List ℕ → Type 0 = λ b. Plays (stage_packet b g) c s m in
-    let Q : DriverState → Type 0 = λ x. Plays (stage_packet h x) c s m in
-    leads_of RingAllows _ _ c m (record r { state = s; count = r.count + 1 }, true) (replies_put r reply first free)
-    (staged_put r h (record r.state { replies = drop 1 r.state.replies }) s c m (subst Q state (subst P same plays)))
-
-pub may_put_reply : (r : Round) (reply : Reply) (bytes : List ℕ) (g : DriverState) (c : RingContents) → Some reply ≡ slice_get r.state.replies 0 → has_page r.state ≡ true
-    → bytes ≡ header_bytes (reply_header r.state.cid reply) → g ≡ record r.state { replies = drop 1 r.state.replies } → MayPublishAll (put_reply r) c
-    → MayPublishAll (stage_packet bytes g) c
-may_put_reply r reply bytes g c first free same state may =
-    let h = header_bytes (reply_header r.state.cid reply) in
-    let P : List ℕ → Type 0 = λ b. MayPublishAll (stage_packet b g) c in
-    let Q : DriverState → Type 0 = λ x. MayPublishAll (stage_packet h x) c in
-    subst P (sym same) (subst Q (sym state) (may_staged_put r h (record r.state { replies = drop 1 r.state.replies }) c
-    (may_of CanMake RingAllows _ _ c (replies_put r reply first free) may)))
+  pub reply_tree : (d : DriverState) → d ≡ s → Replies d → has_page s ≡ true
+      → put_reply (round_of s tally) ≡ bind (stage_packet (header_bytes h) g) (one_put (round_of s tally))
+  reply_tree d same replies free =
+      let r : Round = round_of s tally in
+      let here : Replies s = subst Replies same replies in
+      let one : put_reply r ≡ put_reply_of (reply ∷ drop 1 s.replies) r = ap (λ (xs : List Reply). put_reply_of xs r)
+      (head_of s.replies reply here.0) in
+      one ∙ rw (here.1, here.2, free) refl
 
 -- each slot in turn
 module _ (xs : List ℕ) (i d : ℕ) (x : Round) (lt : i < length xs) where

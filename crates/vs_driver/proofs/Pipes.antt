@@ -95,10 +95,9 @@ given_some bytes out =
 
 nothing_given : (s : State) (ended : Bool) (out : List ℕ) → bytes_given (cond ended got.End (nothing_read s)) out ≡ []
 nothing_given s true out = refl
-nothing_given state.Asked false out = refl
-nothing_given state.Answering false out = refl
 nothing_given state.Live false out = refl
 nothing_given state.Ended false out = refl
+nothing_given _ false out = refl
 
 given : (bytes out : List ℕ) (none : Received) → bytes_given none (bytes_read bytes out) ≡ []
     → bytes_given (read_of (length out) bytes none) (bytes_read bytes out) ++ drop (length out) bytes ≡ bytes
@@ -162,9 +161,7 @@ module _ (id : ℕ) (s : DriverState) (e : DriverEntry) (sound : IsTable s.table
     where
       by : (x : State) → KeepsOthers id s (shut_in x bits e s)
       by state.Live other apart = keeps_others (after_shut bits e.value) refl other apart
-      by state.Asked other apart = refl
-      by state.Answering other apart = refl
-      by state.Ended other apart = refl
+      by _ other apart = refl
 
   shut_unread : (bits : ℕ) → unread_of_id id (with_connection e.slot (after_shut bits e.value) s) ≡ (after_shut bits e.value).unread
   shut_unread bits = unread_after (after_shut bits e.value) refl refl
@@ -177,9 +174,7 @@ module _ (id : ℕ) (s : DriverState) (e : DriverEntry) (sound : IsTable s.table
 
       by : (x : State) → IfShut (shut_answer x) (unread_of_id id (shut_in x bits e s) ≡ [])
       by state.Live = shut_unread bits ∙ none
-      by state.Asked = tt
-      by state.Answering = tt
-      by state.Ended = tt
+      by _ = tt
 
   pub known_kept : (bits : ℕ) → receives id s ≡ true → (shut_of bits).receive ≡ false → unread_of_id id (after_shutdown id bits s) ≡ unread_of_id id s
   known_kept bits going still = rw (after_shutdown_known id s e known bits) (by e.value.end.state)
@@ -192,9 +187,7 @@ module _ (id : ℕ) (s : DriverState) (e : DriverEntry) (sound : IsTable s.table
 
       by : (x : State) → unread_of_id id (shut_in x bits e s) ≡ unread_of_id id s
       by state.Live = shut_unread bits ∙ (all ∙ sym (unread_known id s e known))
-      by state.Asked = refl
-      by state.Answering = refl
-      by state.Ended = refl
+      by _ = refl
 
   -- close
   pub known_close_others : KeepsOthers id s (after_close id s)
@@ -286,16 +279,12 @@ dropped_by id bits s t shut.Done answers leaves none = λ receive.
     let done : unread_of_id id (after_shutdown id bits s) ≡ [] =
     subst (λ (a : Shut). IfShut a (unread_of_id id (after_shutdown id bits s) ≡ [])) (sym answers) (none receive) in
     ap (unread_of_id id) leaves ∙ done
-dropped_by id bits s t shut.Unknown answers leaves none = tt
-dropped_by id bits s t shut.NotOpen answers leaves none = tt
-dropped_by id bits s t shut.Reset answers leaves none = tt
+dropped_by id bits s t _ answers leaves none = tt
 
 pub unchanged_by : (x : State) (bits : ℕ) (e : DriverEntry) (s t : DriverState) (answer : Shut) → answer ≡ shut_answer x → t ≡ shut_in x bits e s
     → UnlessShut answer (t ≡ s)
 unchanged_by state.Live bits e s t answer answers leaves = subst (λ (a : Shut). UnlessShut a (t ≡ s)) (sym answers) tt
-unchanged_by state.Asked bits e s t answer answers leaves = subst (λ (a : Shut). UnlessShut a (t ≡ s)) (sym answers) leaves
-unchanged_by state.Answering bits e s t answer answers leaves = subst (λ (a : Shut). UnlessShut a (t ≡ s)) (sym answers) leaves
-unchanged_by state.Ended bits e s t answer answers leaves = subst (λ (a : Shut). UnlessShut a (t ≡ s)) (sym answers) leaves
+unchanged_by _ bits e s t answer answers leaves = subst (λ (a : Shut). UnlessShut a (t ≡ s)) (sym answers) leaves
 
 -- send
 module _ (id : ℕ) (bytes : List ℕ) (s t : DriverState) (answer : Sent) (sound : IsTable s.table) where
@@ -322,11 +311,7 @@ module _ (id : ℕ) (bytes : List ℕ) (s t : DriverState) (answer : Sent) (soun
     others = λ other apart. ap (connection_of other) left.2;
     unread = ap (unread_of_id id) left.2;
   }
-  by_front sent.Unknown e n known left = absurd left
-  by_front sent.NotOpen e n known left = absurd left
-  by_front sent.Reset e n known left = absurd left
-  by_front sent.ShutDown e n known left = absurd left
-  by_front (sent.NoCredit a b c) e n known left = absurd left
+  by_front _ e n known left = absurd left
 
   by_credit : (empty none : Bool) (e : DriverEntry) (credit : ℕ) → entry_known_as id s ≡ Some e → SendsWith empty none e credit bytes s t answer → IsSent
   by_credit true none e credit known left = unchanged left.1

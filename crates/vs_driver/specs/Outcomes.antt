@@ -1,9 +1,12 @@
 -- What connect and send leave, for each answer.
-use Rattle.std.specs.Prelude.{◌≡◌, ℕ, ◌==◌, ◌≤◌, Bool, true, false, List, length, min, Option, Some, None, Result, Ok, Err}
-use Rattle.vs_conn.specs.{End.may_send_of, End.with_payload_sent, End.wanting_credit, declared.end.Stop.Stop}
+use Rattle.std.specs.Prelude.{◌≡◌, ℕ, ◌==◌, ◌≤◌, Bool, true, false, List, length, min, take, Option, Some, None, Result, Ok, Err}
+use Rattle.vs_contents.specs.CallTree.{Done, bind}
+use Rattle.vs_conn.specs.{End.CanSend, End.may_send_of, End.with_payload_sent, End.wanting_credit, declared.end.Stop.Stop}
+use Rattle.vs_flow.specs.Table.{entry_under}
 use Rattle.vs_driver_parts.specs.{declared.answers.ConnectError.ConnectError, declared.answers.Sent.Sent, State.DriverEntry}
 use Rattle.vs_driver_parts.specs.{State.DriverState, State.entry_known_as, Connections.connect_refusal, Connections.connected}
-use Rattle.vs_driver_parts.specs.{Connections.with_end, Conversations.no_credit, Conversations.not_sent, Conversations.send_stopped}
+use Rattle.vs_driver_parts.specs.{Connections.with_end, Conversations.DriverTree, Conversations.no_credit, Conversations.not_sent}
+use Rattle.vs_driver_parts.specs.Conversations.{reap_all, send_stopped, send_with_page}
 use Rattle.vs_driver_parts.specs.declared.answers.ConnectError.TheVariants as refused
 use Rattle.vs_page.specs.declared.page.TheConstants.{PAYLOAD_MAX}
 use Rattle.vs_driver_parts.specs.declared.answers.Sent.TheVariants as sent
@@ -57,3 +60,19 @@ SendsBy (Some e) id bytes old new answer = SendsOn (may_send_of e.value.end) e b
 -- What send answers and leaves, in the order of its checks.
 abbrev pub Sends : ℕ → List ℕ → DriverState → DriverState → Sent → Type 0
 Sends id bytes old new answer = SendsBy (entry_known_as id old) id bytes old new answer
+
+-- A send that comes to a page: so many bytes from the front go on the connection in this slot. This is left of the whole call, and of the
+-- call on the pages as they stand.
+pub record NeedsPage (bytes : List ℕ) (whole step : DriverTree (DriverState × Sent)) (old new : DriverState) (slot n : ℕ) : Type 0 where
+  pub entry : DriverEntry
+  pub found : entry_under old.table slot ≡ Some entry
+  pub credit : CanSend entry.value.end (length (take n bytes))
+  pub same : new ≡ old
+  pub whole_is : whole ≡ bind (reap_all old) (send_with_page entry (take n bytes))
+  pub step_is : step ≡ send_with_page entry (take n bytes) old
+
+-- What a send comes to before a page is looked for: it is over with an answer, or it needs a page.
+abbrev pub Readies : List ℕ → DriverTree (DriverState × Sent) → DriverTree (DriverState × Sent) → DriverState → DriverState
+    → Result (ℕ × ℕ) Sent → Type 0
+Readies bytes whole step old new (Err answer) = (whole ≡ Done (new, answer)) × (step ≡ Done (new, answer))
+Readies bytes whole step old new (Ok (slot, n)) = NeedsPage bytes whole step old new slot n

@@ -56,12 +56,7 @@ impl Driver {
         ensures { result ≡ next_accepted port self.now }
     {
         let waiting = self.listeners.waiting(port);
-        for id in waiting {
-            if self.is_answered(*id) {
-                return Some(*id);
-            }
-        }
-        None
+        waiting.iter().find(|id| self.is_answered(**id)).copied()
     }
 
     // Whether the RESPONSE of a connection was put.

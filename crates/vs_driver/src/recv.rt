@@ -1,10 +1,11 @@
 //! Reading what came in on a connection (Virtio 1.2, section 5.10.6.3).
 
-ghost use Rattle.std.specs.Prelude.{◌≡◌, ℕ, ◌++◌, ◌||◌, length, Some, None, if◌then◌else◌};
+ghost use Rattle.std.specs.{Option.option_map_or, Prelude.◌≡◌, Prelude.ℕ, Prelude.◌++◌, Prelude.◌||◌, Prelude.[], Prelude.length};
+ghost use Rattle.std.specs.Prelude.{Some, if◌then◌else◌};
 ghost use Rattle.vs_conn.specs.{End.ConnectionEnd, End.view_of, Shut.shut_of};
 ghost use Rattle.vs_flow.specs.Table.{entry_under};
 ghost use Rattle.vs_driver_parts.specs.declared.answers.Received.TheVariants as got;
-ghost use Rattle.vs_driver_parts.specs.State.{DriverEntry, GoneConnection, gone_known_as};
+ghost use Rattle.vs_driver_parts.specs.State.{DriverEntry, gone_known_as};
 ghost use Rattle.vs_driver_parts.specs.Connections.{recv_of, unread_of_id, after_recv, is_at_end, nothing_read, all_gone_after_read};
 ghost use Rattle.vs_driver_parts.specs.Connections.{gone_answer, entry_answer, entry_read, bytes_read};
 ghost use Rattle.vs_driver.specs.Pipes.{KeepsOthers, UnlessGot, bytes_given};
@@ -57,10 +58,8 @@ impl Driver {
     // Reads on the connection that is gone under an id, if there is one.
     fn recv_gone(&mut self, id: ConnId, out: &mut [u8]) -> Received
         ensures unchanged { UnlessGot result (self.new ≡ self.old) }
-        ensures unknown { gone_known_as id self.old ≡ None → result ≡ got.Unknown }
-        ensures same_out { gone_known_as id self.old ≡ None → out.new ≡ out.old }
-        ensures answer { (g : GoneConnection) → gone_known_as id self.old ≡ Some g → result ≡ gone_answer (length out.old) g }
-        ensures bytes { (g : GoneConnection) → gone_known_as id self.old ≡ Some g → out.new ≡ bytes_read g.unread out.old }
+        ensures answer { result ≡ option_map_or (λ g. gone_answer (length out.old) g) (gone_known_as id self.old) got.Unknown }
+        ensures bytes { out.new ≡ bytes_read (option_map_or (λ g. g.unread) (gone_known_as id self.old) []) out.old }
         ensures state { self.new ≡ record self.old { gone = all_gone_after_read id (length out.old) self.old.gone } }
     {
         let Some(gone) = self.slots.gone_as(id) else {

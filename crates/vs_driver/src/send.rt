@@ -5,10 +5,10 @@ ghost use Rattle.vs_conn.specs.End.{CanSend, may_send_of, wanting_credit};
 ghost use Rattle.vs_flow.specs.Table.{IsTable, entry_under};
 ghost use Rattle.vs_page.specs.declared.page.TheConstants.{PAYLOAD_MAX};
 ghost use Rattle.vs_driver_parts.specs.{State.DriverEntry, Connections.unread_of_id, Connections.with_end};
-ghost use Rattle.vs_driver_parts.specs.Conversations.{send_of, send_with_page, send_stopped, no_credit, not_sent};
-ghost use Rattle.vs_driver_parts.specs.Steps.{ready_on, ready_to_send, ready_with};
+ghost use Rattle.vs_driver_parts.specs.Conversations.{send_of, send_on, send_with_credit, send_with_page, send_stopped, no_credit, not_sent};
+ghost use Rattle.vs_driver_parts.specs.Steps.{sends, sends_on, sends_with_credit};
 ghost use Rattle.vs_driver_parts.specs.Playing.{IsRingOf, MayPublishAll, Plays, SamePages};
-ghost use Rattle.vs_driver.specs.{Outcomes.Sends, Pipes.KeepsOthers};
+ghost use Rattle.vs_driver.specs.{Outcomes.Readies, Outcomes.Sends, Pipes.KeepsOthers};
 ghost use Rattle.laws_driver.specs.Honest.{IsHonest, IsHonestWith};
 
 use crate::driver::Driver;
@@ -36,7 +36,7 @@ impl Driver {
         ensures others { KeepsOthers id self.old self.new }
         ensures honest { (first : ℕ) → IsHonestWith first self.old (R.contents ring.old) → IsHonestWith first self.new (R.contents ring.new) }
     {
-        match self.ready_to_send(id, bytes.len()) {
+        match self.ready_to_send(id, bytes) {
             Ok((slot, most)) => {
                 self.reap_all(ring);
                 self.send_with_page(ring, slot, &bytes[..most])
@@ -46,15 +46,15 @@ impl Driver {
     }
 
     /// What a send comes to before a page is looked for: how many bytes go on the connection in which slot, or an answer.
-    pub(crate) fn ready_to_send(&mut self, id: ConnId, len: usize) -> Result<(Slot, usize), Sent>
-        ensures ready { (self.new, result) ≡ ready_to_send id len self.old }
+    pub(crate) fn ready_to_send(&mut self, id: ConnId, bytes: &[u8]) -> Result<(Slot, usize), Sent>
+        ensures ready { Readies bytes.now (send_of id bytes.now self.old) (sends id bytes.now self.old) self.old self.new result }
         ensures sound { IsTable self.old.table }
         ensures in_flight { self.old.in_flight ≤ self.old.size }
-        ensures within { IfOk result (λ (_, most). (most ≤ len) × (most ≤ PAYLOAD_MAX)) }
+        ensures within { IfOk result (λ (_, most). (most ≤ length bytes.now) × (most ≤ PAYLOAD_MAX)) }
         ensures pages { SamePages self.old self.new }
     {
         match self.slots.known_as(id) {
-            Some(slot) => self.ready_in(slot, len),
+            Some(slot) => self.ready_in(slot, bytes),
             None => Err(self.not_sent(id)),
         }
     }
@@ -71,27 +71,28 @@ impl Driver {
     }
 
     // What a send on the connection in a slot comes to.
-    fn ready_in(&mut self, slot: Slot, len: usize) -> Result<(Slot, usize), Sent>
+    fn ready_in(&mut self, slot: Slot, bytes: &[u8]) -> Result<(Slot, usize), Sent>
         requires held { is_some (entry_under self.old.table slot) ≡ true }
-        ensures ready { (e : DriverEntry) → entry_under self.old.table slot ≡ Some e → (self.new, result) ≡ ready_on e len self.old }
-        ensures within { IfOk result (λ (_, most). (most ≤ len) × (most ≤ PAYLOAD_MAX)) }
+        ensures ready { (e : DriverEntry) → entry_under self.old.table slot ≡ Some e → Readies bytes.now (send_on e bytes.now self.old) (sends_on e bytes.now self.old) self.old self.new result }
+        ensures within { IfOk result (λ (_, most). (most ≤ length bytes.now) × (most ≤ PAYLOAD_MAX)) }
         ensures pages { SamePages self.old self.new }
     {
         match self.slots.may_send(slot) {
-            Some(Ok(credit)) => self.ready_with(slot, credit, len),
+            Some(Ok(credit)) => self.ready_with(slot, credit, bytes),
             Some(Err(why)) => Err(stopped(why)),
             None => unreachable!(),
         }
     }
 
     // What a send comes to on the connection in a slot, which has this much credit.
-    fn ready_with(&mut self, slot: Slot, credit: u32, len: usize) -> Result<(Slot, usize), Sent>
+    fn ready_with(&mut self, slot: Slot, credit: u32, bytes: &[u8]) -> Result<(Slot, usize), Sent>
         requires credit { (e : DriverEntry) → entry_under self.old.table slot ≡ Some e → may_send_of e.value.end ≡ Ok credit }
         requires held { is_some (entry_under self.old.table slot) ≡ true }
-        ensures ready { (e : DriverEntry) → entry_under self.old.table slot ≡ Some e → (self.new, result) ≡ ready_with e credit len self.old }
-        ensures within { IfOk result (λ (_, most). (most ≤ len) × (most ≤ PAYLOAD_MAX)) }
+        ensures ready { (e : DriverEntry) → entry_under self.old.table slot ≡ Some e → Readies bytes.now (send_with_credit e credit bytes.now self.old) (sends_with_credit e credit bytes.now self.old) self.old self.new result }
+        ensures within { IfOk result (λ (_, most). (most ≤ length bytes.now) × (most ≤ PAYLOAD_MAX)) }
         ensures pages { SamePages self.old self.new }
     {
+        let len = bytes.len();
         if len == 0 {
             return Err(Sent::Took(0));
         }

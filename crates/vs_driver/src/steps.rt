@@ -109,7 +109,7 @@ pub fn send<R: DriverRing>(driver: &mut Driver, ring: &mut R, id: ConnId, bytes:
     ensures same_size { R.size ring.new ≡ R.size ring.old }
     ensures honest { (first : ℕ) → IsHonestWith first driver.old (R.contents ring.old) → IsHonestWith first driver.new (R.contents ring.new) }
 {
-    match driver.ready_to_send(id, bytes.len()) {
+    match driver.ready_to_send(id, bytes) {
         Ok((slot, most)) => driver.send_with_page(ring, slot, &bytes[..most]),
         Err(answer) => answer,
     }

@@ -1,5 +1,5 @@
 -- What it takes that an end delivers a packet: an RW that fits its room.
-use Rattle.std.proofs.Common.{◌≡◌, ℕ, ◌≤◌, Bool, true, false, cond, Option, Some, refl, arith}
+use Rattle.std.proofs.Common.{◌≡◌, ℕ, ◌≤◌, Bool, true, false, cond, Option, Some, None, refl, arith}
 use Rattle.std.proofs.lemmas.Bool.Decides.{nat_tests}
 use Rattle.vs_conn.specs.{declared.end.State.State, declared.end.Verdict.Verdict, declared.end.Why.Why, End.ConnectionEnd, End.verdict_of}
 use Rattle.vs_conn.specs.End.{state_verdict, op_verdict, payload_verdict, response_verdict, live_verdict, is_of, is_reset}
@@ -20,15 +20,11 @@ fits e len is = grind (arith, nat_tests, is)
 
 by_live : (s : State) (v : Verdict) → live_verdict s v ≡ verdict.Deliver → v ≡ verdict.Deliver
 by_live state.Live v is = is
-by_live state.Asked v is = cc
-by_live state.Answering v is = cc
-by_live state.Ended v is = cc
+by_live _ v is = cc
 
 by_response : (s : State) → response_verdict s ≡ verdict.Deliver → ⊥
 by_response state.Asked is = cc
-by_response state.Answering is = cc
-by_response state.Live is = cc
-by_response state.Ended is = cc
+by_response _ is = cc
 
 by_peer : (s : State) → live_verdict s verdict.Peer ≡ verdict.Deliver → ⊥
 by_peer s is = let e = by_live s verdict.Peer is in cc
@@ -36,10 +32,11 @@ by_peer s is = let e = by_live s verdict.Peer is in cc
 by_op : (o : Option Op) (e : ConnectionEnd) (h : Header) → op_named h.op ≡ o → op_verdict o e h.len ≡ verdict.Deliver → IsDelivered e h
 by_op (Some op.Rw) e h named is = record { rw = named; room = fits e h.len (by_live e.state _ is) }
 by_op (Some op.Response) e h named is = absurd (by_response e.state is)
-by_op (Some op.Shutdown) e h named is = absurd (by_peer e.state is)
-by_op (Some op.CreditUpdate) e h named is = absurd (by_peer e.state is)
-by_op (Some op.CreditRequest) e h named is = absurd (by_peer e.state is)
-by_op _ e h named is = absurd (cc)
+by_op (Some op.Invalid) e h named is = absurd (cc)
+by_op (Some op.Request) e h named is = absurd (cc)
+by_op (Some op.Rst) e h named is = absurd (cc)
+by_op None e h named is = absurd (cc)
+by_op _ e h named is = absurd (by_peer e.state is)
 
 by_open : (stream reset : Bool) (why : Why) (e : ConnectionEnd) (h : Header)
     → cond stream (op_verdict (op_named h.op) e h.len) (cond reset verdict.Ignore (verdict.Rst why)) ≡ verdict.Deliver → IsDelivered e h
@@ -53,9 +50,7 @@ by_ended false is = cc
 
 by_state : (s : State) (e : ConnectionEnd) (h : Header) → state_verdict s e h ≡ verdict.Deliver → IsDelivered e h
 by_state state.Ended e h is = absurd (by_ended _ is)
-by_state state.Asked e h is = by_open (is_of e.kind h) (is_reset h) BadKind e h is
-by_state state.Answering e h is = by_open (is_of e.kind h) (is_reset h) BadKind e h is
-by_state state.Live e h is = by_open (is_of e.kind h) (is_reset h) BadKind e h is
+by_state _ e h is = by_open (is_of e.kind h) (is_reset h) BadKind e h is
 
 pub delivers : (e : ConnectionEnd) (h : Header) → verdict_of e h ≡ verdict.Deliver → IsDelivered e h
 delivers e h is = by_state e.state e h is

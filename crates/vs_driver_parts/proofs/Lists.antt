@@ -1,7 +1,6 @@
 -- Places in lists: code finds the one element with a property by its place, and writes there or removes it.
 use Rattle.std.proofs.Common.{◌≡◌, ◌≢◌, ℕ, zero, suc, ◌+◌, ◌<◌, ◌==◌, Bool, true, false, not, cond, List, [], ◌∷◌, length, map, get_or, set}
-use Rattle.std.proofs.Common.{ltb, drop, Option, Some, None, is_some, refl, sym, ap, ◌∙◌, arith, drop-cons, add-one, ◌≤◌}
-use Rattle.std.proofs.Math.ListN.{drop_of_length-le}
+use Rattle.std.proofs.Common.{ltb, drop, Option, Some, None, is_some, refl, sym, ap, ◌∙◌, arith, drop-cons, add-one}
 use Rattle.std.specs.List.{All, AllPairs, find, filter, remove, position, position_or_len, slice_get}
 use Rattle.std.proofs.lemmas.List.Folds.{find_at}
 use Rattle.std.proofs.lemmas.Option.{slice_get_read, slice_get_past, slice_get-get_or, slice_get_within, get_or_from_slice_get, cond_some}
@@ -132,15 +131,6 @@ module _ {X : Type 0} where
   found_slice p xs i h =
       let c = cond_some (ltb (position_or_len p xs) (length xs)) (position_or_len p xs) i h in
       find_at p xs ∙ ap (λ n. slice_get xs n) c.1
-
-  pub find_here : (p : X → Bool) (xs : List X) (i : ℕ) (d : X) → i < length xs → p (get_or xs i d) ≡ true → find p (drop i xs) ≡ Some (get_or xs i d)
-  find_here p xs i d lt passes = rw (drop-cons xs i d lt, passes) refl
-
-  pub find_later : (p : X → Bool) (xs : List X) (i : ℕ) (d : X) → i < length xs → p (get_or xs i d) ≡ false → find p (drop i xs) ≡ find p (drop (i + 1) xs)
-  find_later p xs i d lt fails = rw (drop-cons xs i d lt, fails) (ap (λ (n : ℕ). find p (drop n xs)) (sym (add-one i)))
-
-  pub find_ended : (p : X → Bool) (xs : List X) (i : ℕ) → length xs ≤ i → find p (drop i xs) ≡ None
-  find_ended p xs i ends = rw (drop_of_length-le xs ends) refl
 
   pub drop_next : (xs : List X) (i : ℕ) (x : X) → slice_get xs i ≡ Some x → drop i xs ≡ x ∷ drop (i + 1) xs
   drop_next xs i x at =

@@ -1,26 +1,33 @@
 -- The numbers of connections after each change of the slots.
 use Rattle.std.proofs.Common.{◌≡◌, ◌≢◌, ℕ, suc, take, drop, ◌+◌, ◌<◌, ◌≤◌, ◌==◌, Bool, true, false, not, List, [], ◌∷◌, ◌++◌, length}
-use Rattle.std.proofs.Common.{get_or, Some, refl, sym, ap, ◌∙◌, arith}
-use Rattle.std.specs.List.{All, filter, remove}
+use Rattle.std.proofs.Common.{get_or, Option, Some, None, refl, sym, ap, ◌∙◌, arith}
+use Rattle.std.specs.{List.All, List.filter, List.remove, Option.option_map_or}
 use Rattle.std.proofs.lemmas.Bool.Decides.{nat_tests}
 use Rattle.std.proofs.lemmas.List.Elements.{All-append, All-drop, All-map, All-push, All-take, All-filter, filter_passes}
 use Rattle.std.proofs.lemmas.List.{Kept.AllPairs-filter, Quantifiers.all_pairs_push, Quantifiers.all_pairs_remove}
 use Rattle.vs_flow.specs.{Flow.is_assigned, Table.Table, Table.IsTable, Table.entry_under, Table.value_under, Table.with_value}
 use Rattle.vs_flow.specs.{Table.with_entry, Table.without, Table.next_entry, Table.revalued, declared.flow.Flow.Flow}
-use Rattle.vs_flow.proofs.Tables.{revalued-slot, revalued-flow}
+use Rattle.vs_flow.proofs.{Entries.none_found, Tables.revalued-slot, Tables.revalued-flow}
 use Rattle.vs_driver_parts.specs.{State.DriverConnection, State.DriverEntry, State.GoneConnection, SlotFields.AreNumbered}
-use Rattle.vs_driver_parts.proofs.Ids.{HasId, under, entry_has}
+use Rattle.vs_driver_parts.proofs.{Ids.HasId, Ids.under, Ids.entry_has, Known.unmapped}
 
 All_remove : {X : Type 0} (P : X → Type 0) (xs : List X) (i : ℕ) → All P xs → All P (remove xs i)
 All_remove P xs i all = All-append P (take i xs) (drop (suc i) xs) (All-take P i xs all) (All-drop P (suc i) xs all)
 
 -- a value of the same id leaves each entry's id
-same_id : (slot : ℕ) (d : DriverConnection) (first : ℕ) (e : DriverEntry) → HasId first e → d.id ≡ first + slot → (revalued slot d e).value.id ≡ e.value.id
-same_id slot d first e has is = by (e.slot == slot) refl
+same_id : (slot : ℕ) (d : DriverConnection) (e : DriverEntry) → ((e.slot == slot) ≡ true → d.id ≡ e.value.id) → (revalued slot d e).value.id ≡ e.value.id
+same_id slot d e is = by (e.slot == slot) refl
   where
     by : (b : Bool) → (e.slot == slot) ≡ b → (revalued slot d e).value.id ≡ e.value.id
-    by true at = let same : e.slot ≡ slot = grind (arith, nat_tests, at) in rw at (omega (arith, has, is, same))
+    by true at = rw at (is at)
     by false at = rw at refl
+
+-- the id of the connection in a slot, if there is one; else this one
+abbrev pub id_in : Table DriverConnection → ℕ → ℕ → ℕ
+id_in t slot id = option_map_or (λ c. c.id) (value_under t slot) id
+
+pub id_there : (t : Table DriverConnection) (slot : ℕ) (c d : DriverConnection) → value_under t slot ≡ Some c → d.id ≡ c.id → id_in t slot d.id ≡ d.id
+id_there t slot c d is id = ap (λ (o : Option DriverConnection). option_map_or (λ (v : DriverConnection). v.id) o d.id) is ∙ sym id
 
 module _ (first port next : ℕ) (t : Table DriverConnection) (gone : List GoneConnection) (kept : AreNumbered first port next t gone) where
   pub id_under : (slot : ℕ) (c : DriverConnection) → value_under t slot ≡ Some c → c.id ≡ first + slot
@@ -30,17 +37,29 @@ module _ (first port next : ℕ) (t : Table DriverConnection) (gone : List GoneC
       let id = ap (λ (x : DriverConnection). x.id) u.value in
       omega (arith, has, id, u.slot_is)
 
-  pub numbers_with_value : (slot : ℕ) (c d : DriverConnection) → value_under t slot ≡ Some c → d.id ≡ c.id
-      → AreNumbered first port next (with_value t slot d) gone
-  numbers_with_value slot c d is id =
-      let has : d.id ≡ first + slot = id ∙ id_under slot c is in
+  entry_id : (slot : ℕ) (d : DriverConnection) → id_in t slot d.id ≡ d.id → All (λ e. (e.slot == slot) ≡ true → d.id ≡ e.value.id) t.entries
+  entry_id slot d id k x lt at = by (value_under t slot) refl
+    where
+      has : (get_or t.entries k x).value.id ≡ first + slot
+      has = let own = kept.slots k x lt in grind (arith, nat_tests, own, at)
+
+      by : (o : Option DriverConnection) → value_under t slot ≡ o → d.id ≡ (get_or t.entries k x).value.id
+      by None none =
+          let none_there = unmapped (λ (e : DriverEntry). e.value) (entry_under t slot) (sym none) in
+          let fails = none_found (λ (e : DriverEntry). e.slot == slot) t.entries none_there k x lt in
+          let both : true ≡ false = sym at ∙ fails in absurd (cc)
+      by (Some c) is = sym id ∙ ap (λ (o : Option DriverConnection). option_map_or (λ (v : DriverConnection). v.id) o d.id) is ∙ id_under slot c is ∙ sym has
+
+  pub numbers_with_value : (slot : ℕ) (d : DriverConnection) → id_in t slot d.id ≡ d.id → AreNumbered first port next (with_value t slot d) gone
+  numbers_with_value slot d id =
+      let same : All (λ e. (revalued slot d e).value.id ≡ e.value.id) t.entries = λ k x lt. same_id slot d (get_or t.entries k x) (entry_id slot d id k x lt) in
       record {
         given = kept.given;
         slots = All-map (HasId first) (revalued slot d) t.entries (λ k x lt.
-            rw (same_id slot d first (get_or t.entries k x) (kept.slots k x lt) has, revalued-slot slot d (get_or t.entries k x)) (kept.slots k x lt));
+            rw (same k x lt, revalued-slot slot d (get_or t.entries k x)) (kept.slots k x lt));
         below = kept.below;
         apart = λ i g within. All-map (λ (e : DriverEntry). e.value.id ≢ (get_or gone i g).id) (revalued slot d) t.entries (λ k x lt.
-            rw (same_id slot d first (get_or t.entries k x) (kept.slots k x lt) has) (kept.apart i g within k x lt));
+            rw (same k x lt) (kept.apart i g within k x lt));
         distinct = kept.distinct;
         ports = All-map (λ (e : DriverEntry). is_assigned e.flow.host ≡ false → e.flow.guest < port) (revalued slot d) t.entries (λ k x lt.
             rw (revalued-flow slot d (get_or t.entries k x)) (kept.ports k x lt));

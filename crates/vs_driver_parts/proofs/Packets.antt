@@ -57,11 +57,7 @@ module _ (p : Packet) (e : DriverEntry) (s : DriverState) (slot : ℕ) (at : e.s
       let c : DriverConnection = after_packet (verdict.Rst why) p e.value in
       is ∙ (ap (λ (x : DriverState). leaves_list (with_its e c) (record x { broken = counted x.broken })) mid
       ∙ ap (λ (n : ℕ). leaves_list (with_its e c) (with_connection n c (record s { broken = counted s.broken }))) (sym at))
-  refused verdict.Accept m new true_is mid is = absurd (cc)
-  refused verdict.Deliver m new true_is mid is = absurd (cc)
-  refused verdict.Discard m new true_is mid is = absurd (cc)
-  refused verdict.Peer m new true_is mid is = absurd (cc)
-  refused verdict.Ignore m new true_is mid is = absurd (cc)
+  refused _ m new true_is mid is = absurd (cc)
 
   left : (c : DriverConnection) (m : DriverState) → m ≡ with_connection slot c s → after_leaving (with_its e c) m ≡ after_leaving (with_its e c) s
   left c m mid =
@@ -73,11 +69,7 @@ module _ (p : Packet) (e : DriverEntry) (s : DriverState) (slot : ℕ) (at : e.s
   over verdict.Peer m new true_is mid is =
       let c : DriverConnection = after_packet verdict.Peer p e.value in
       is ∙ (left c m mid ∙ ap (λ (b : Bool). cond b (after_leaving (with_its e c) s) (with_connection e.slot c s)) (sym true_is))
-  over (verdict.Rst why) m new true_is mid is = absurd (cc)
-  over verdict.Accept m new true_is mid is = absurd (cc)
-  over verdict.Deliver m new true_is mid is = absurd (cc)
-  over verdict.Discard m new true_is mid is = absurd (cc)
-  over verdict.Ignore m new true_is mid is = absurd (cc)
+  over _ m new true_is mid is = absurd (cc)
 
   pub stays : (v : Verdict) (m : DriverState) → is_refused v ≡ false → ends_connection v p.header ≡ false → m ≡ with_connection slot (after_packet v p e.value) s
       → m ≡ after_verdict v p e s
@@ -86,10 +78,7 @@ module _ (p : Packet) (e : DriverEntry) (s : DriverState) (slot : ℕ) (at : e.s
       let c : DriverConnection = after_packet verdict.Peer p e.value in
       mid ∙ (ap (λ (n : ℕ). with_connection n c s) (sym at)
       ∙ ap (λ (b : Bool). cond b (after_leaving (with_its e c) s) (with_connection e.slot c s)) (sym goes_on))
-  stays verdict.Accept m false_is goes_on mid = mid ∙ ap (λ (n : ℕ). with_connection n (after_packet verdict.Accept p e.value) s) (sym at)
-  stays verdict.Deliver m false_is goes_on mid = mid ∙ ap (λ (n : ℕ). with_connection n (after_packet verdict.Deliver p e.value) s) (sym at)
-  stays verdict.Discard m false_is goes_on mid = mid ∙ ap (λ (n : ℕ). with_connection n (after_packet verdict.Discard p e.value) s) (sym at)
-  stays verdict.Ignore m false_is goes_on mid = mid ∙ ap (λ (n : ℕ). with_connection n (after_packet verdict.Ignore p e.value) s) (sym at)
+  stays v m false_is goes_on mid = mid ∙ ap (λ (n : ℕ). with_connection n (after_packet v p e.value) s) (sym at)
 
 pub packet_known : (p : Packet) (s : DriverState) (e : DriverEntry) → entry_of s.table (flow_to_guest p.header) ≡ Some e → on_heard p s ≡ on_known p e s
 packet_known p s e found = rw (found, on_heard) refl

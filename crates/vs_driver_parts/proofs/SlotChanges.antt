@@ -9,16 +9,17 @@ use Rattle.vs_flow.specs.{Flow.host_flow, Flow.is_assigned, Flow.same_flow, decl
 use Rattle.vs_flow.specs.Table.{Table, IsTable, entry_of, entry_under, value_under, with_value, without, revalued}
 use Rattle.vs_flow.proofs.{Lookups.find_place, Lookups.entry_under-with_value, Tables.with_value_sound}
 use Rattle.vs_flow.proofs.Entries.{find_none, found_passes, same_flow_false}
-use Rattle.vs_driver_parts.specs.{Connections.gone_as, Connections.is_let_go, Held.HeldSlots, Held.left_in}
-use Rattle.vs_driver_parts.specs.{SlotFields.AreKept, SlotFields.AreNumbered, declared.slots.Slots.TheInside.Inside}
+use Rattle.vs_driver_parts.specs.{Connections.gone_as, Connections.is_let_go, Held.HeldSlots, Held.left_in, SlotFields.AreKept}
+use Rattle.vs_driver_parts.specs.{SlotFields.AreNumbered, declared.slots.Slots.TheInside.Inside}
 use Rattle.vs_driver_parts.specs.State.{DriverConnection, DriverEntry, GoneConnection, is_known_as}
-use Rattle.vs_driver_parts.proofs.{Lists.one_passes, Lists.removed_one, Numbers.id_under, Numbers.numbers_with_value}
+use Rattle.vs_driver_parts.proofs.{Lists.one_passes, Lists.removed_one, Numbers.id_in, Numbers.id_there, Numbers.id_under}
+use Rattle.vs_driver_parts.proofs.Numbers.{numbers_with_value}
 use Rattle.vs_driver_parts.proofs.Ids.{value_of, has_slot, under, known_by_slot, unless_closed, entry_has}
 
-pub kept_with_connection : (s : Inside) (slot : ℕ) (c d : DriverConnection) → AreKept s → value_under s.table slot ≡ Some c → d.id ≡ c.id
+pub kept_with_connection : (s : Inside) (slot : ℕ) (d : DriverConnection) → AreKept s → id_in s.table slot d.id ≡ d.id
     → AreKept (record s { table = with_value s.table slot d })
-kept_with_connection s slot c d kept is id = record {
-  numbers = numbers_with_value s.first_id s.next_port s.next_id s.table s.gone.items kept.numbers slot c d is id;
+kept_with_connection s slot d kept id = record {
+  numbers = numbers_with_value s.first_id s.next_port s.next_id s.table s.gone.items kept.numbers slot d id;
   last_port = kept.last_port;
   last_id = kept.last_id;
   table = with_value_sound s.table slot d kept.table;
@@ -34,7 +35,7 @@ pub knows_none : (s : Inside) (slot : ℕ) (c d : DriverConnection) → AreKept 
     → (find (is_known_as c.id) (with_value s.table slot d).entries ≡ None) × (find (λ g. g.id == c.id) s.gone.items ≡ None)
 knows_none s slot c d kept is id closed =
     let u = under s.table slot c is in
-    let new = numbers_with_value s.first_id s.next_port s.next_id s.table s.gone.items kept.numbers slot c d is id in
+    let new = numbers_with_value s.first_id s.next_port s.next_id s.table s.gone.items kept.numbers slot d (id_there s.table slot c d is id) in
     let sound = with_value_sound s.table slot d kept.table in
     let number = id_under s.first_id s.next_port s.next_id s.table s.gone.items kept.numbers slot c is in
     let changed : entry_under (with_value s.table slot d) slot ≡ Some (record u.entry { value = d }) =

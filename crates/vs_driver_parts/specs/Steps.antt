@@ -1,8 +1,7 @@
 -- The driver's steps: each moves one page at most, on the pages as they stand.
-use Rattle.std.specs.Prelude.{ℕ, ◌==◌, min, if◌then◌else◌, List, length, Some, None, Result, Ok, Err}
+use Rattle.std.specs.Prelude.{ℕ, ◌==◌, if◌then◌else◌, List, length, Some, None, Result, Ok, Err}
 use Rattle.vs_contents.specs.CallTree.{Done, bind}
 use Rattle.vs_conn.specs.End.{may_send_of, wanting_credit}
-use Rattle.vs_page.specs.declared.page.TheConstants.{PAYLOAD_MAX}
 use Rattle.vs_ring_port.specs.declared.queue.Queue.{Queue, TheVariants.Rx, TheVariants.Tx, TheVariants.Event}
 use Rattle.vs_driver_parts.specs.{declared.answers.ConnectError.ConnectError, declared.answers.Sent.Sent, State.DriverState}
 use Rattle.vs_driver_parts.specs.{State.DriverEntry, State.entry_known_as, Conversations.DriverTree, Conversations.start}
@@ -43,16 +42,3 @@ sends_on e bytes s = elim (may_send_of e.value.end) [
 
 abbrev pub sends : ℕ → List ℕ → DriverState → DriverTree (DriverState × Sent)
 sends id bytes s = elim (entry_known_as id s) [ None ↦ Done (s, not_sent id s) | Some e ↦ sends_on e bytes s ]
-
--- What a send comes to before a page is looked for: an answer, or how many bytes go on the connection in which slot.
-abbrev pub ready_with : DriverEntry → ℕ → ℕ → DriverState → DriverState × Result (ℕ × ℕ) Sent
-ready_with e credit len s =
-    if len == 0 then (s, Err (sent.Took 0))
-    else if credit == 0 then (with_end (wanting_credit e.value.end) e s, Err (no_credit e.value.end))
-    else (s, Ok (e.slot, min (min credit PAYLOAD_MAX) len))
-
-abbrev pub ready_on : DriverEntry → ℕ → DriverState → DriverState × Result (ℕ × ℕ) Sent
-ready_on e len s = elim (may_send_of e.value.end) [ Err why ↦ (s, Err (send_stopped why)) | Ok credit ↦ ready_with e credit len s ]
-
-abbrev pub ready_to_send : ℕ → ℕ → DriverState → DriverState × Result (ℕ × ℕ) Sent
-ready_to_send id len s = elim (entry_known_as id s) [ None ↦ (s, Err (not_sent id s)) | Some e ↦ ready_on e len s ]

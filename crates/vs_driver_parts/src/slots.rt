@@ -274,6 +274,71 @@ impl Slots {
         id
     }
 
+    /// The connection in a slot leaves the table. It is gone then, or its slot is free where it was closed or never answered.
+    pub fn leave(&mut self, slot: Slot)
+        ensures { (e : DriverEntry) → entry_under self.old.table slot ≡ Some e → self.new ≡ left_in e self.old }
+    {
+        let Some(flow) = self.table.flow_of(slot) else {
+            return;
+        };
+        let Some(connection) = self.table.remove(slot) else {
+            return;
+        };
+        let id = connection.id();
+        let let_go = connection.is_let_go();
+        let (end, mut unread) = connection.into_parts();
+        if let_go {
+            unread.clear();
+            self.spare.push_reserved(unread);
+            return;
+        }
+        self.gone.push_reserved(Gone::new(id, flow, end, unread));
+    }
+
+    /// Moves the first unread bytes of the connection that is gone under an id to the front of `out`, as many as it holds, and says how
+    /// many. The rest of `out` stays.
+    pub fn read_gone(&mut self, id: ConnId, out: &mut [u8]) -> usize
+        ensures count { (g : GoneConnection) → find (λ g. g.id == id) self.old.gone ≡ Some g → result ≡ min (length out.old) (length g.unread) }
+        ensures moved { (g : GoneConnection) → find (λ g. g.id == id) self.old.gone ≡ Some g → out.new ≡ take result g.unread ++ drop result out.old }
+        ensures left { self.new ≡ record self.old { gone = all_gone_after_read id (length out.old) self.old.gone } }
+        ensures empty { (g : GoneConnection) → find (λ g. g.id == id) self.old.gone ≡ Some g → g.unread ≡ [] → self.new ≡ self.old }
+    {
+        match place_of(&self.gone, id) {
+            Some(place) => {
+                let gone = &mut self.gone[place];
+                gone.read(out)
+            }
+            None => 0,
+        }
+    }
+
+    /// Lets go of the connection that is gone under an id, and gives its flow. `None` comes where none is.
+    pub fn close_gone(&mut self, id: ConnId) -> Option<Flow>
+        ensures flow { result ≡ option_map (λ g. g.flow) (find (λ g. g.id == id) self.old.gone) }
+        ensures left { self.new ≡ record self.old { gone = without_gone id self.old.gone } }
+        ensures none { IfNone result (self.new ≡ self.old) }
+    {
+        match place_of(&self.gone, id) {
+            Some(place) => Some(self.release(place)),
+            None => None,
+        }
+    }
+
+    // Lets go of the connection that is gone and stands at a place, and gives its flow.
+    fn release(&mut self, place: usize) -> Flow
+        requires { place < length self.old.gone }
+        ensures flow { Some result ≡ option_map (λ g. g.flow) (slice_get self.old.gone place) }
+        ensures left { self.new ≡ record self.old { gone = remove self.old.gone place } }
+    {
+        let gone = self.gone.remove(place);
+        let flow = gone.flow();
+        self.spare.push_reserved(gone.into_spare());
+        flow
+    }
+}
+
+#[tactic(auto, using(crate::proofs::SlotChanges::kept_with_connection, crate::proofs::SameIds::packet_id, crate::proofs::SameIds::paid_id, crate::proofs::SameIds::closing_id))]
+impl Slots {
     /// Takes a packet of the connection in a slot, and says what its end says to it.
     pub fn on_packet(&mut self, slot: Slot, header: &Header, payload: &[u8]) -> Verdict
         requires whole { let p : Packet = record { header = header.now; payload = payload.now } in IsWhole p }
@@ -353,68 +418,6 @@ impl Slots {
             return;
         };
         connection.close();
-    }
-
-    /// The connection in a slot leaves the table. It is gone then, or its slot is free where it was closed or never answered.
-    pub fn leave(&mut self, slot: Slot)
-        ensures { (e : DriverEntry) → entry_under self.old.table slot ≡ Some e → self.new ≡ left_in e self.old }
-    {
-        let Some(flow) = self.table.flow_of(slot) else {
-            return;
-        };
-        let Some(connection) = self.table.remove(slot) else {
-            return;
-        };
-        let id = connection.id();
-        let let_go = connection.is_let_go();
-        let (end, mut unread) = connection.into_parts();
-        if let_go {
-            unread.clear();
-            self.spare.push_reserved(unread);
-            return;
-        }
-        self.gone.push_reserved(Gone::new(id, flow, end, unread));
-    }
-
-    /// Moves the first unread bytes of the connection that is gone under an id to the front of `out`, as many as it holds, and says how
-    /// many. The rest of `out` stays.
-    pub fn read_gone(&mut self, id: ConnId, out: &mut [u8]) -> usize
-        ensures count { (g : GoneConnection) → find (λ g. g.id == id) self.old.gone ≡ Some g → result ≡ min (length out.old) (length g.unread) }
-        ensures moved { (g : GoneConnection) → find (λ g. g.id == id) self.old.gone ≡ Some g → out.new ≡ take result g.unread ++ drop result out.old }
-        ensures left { self.new ≡ record self.old { gone = all_gone_after_read id (length out.old) self.old.gone } }
-        ensures empty { (g : GoneConnection) → find (λ g. g.id == id) self.old.gone ≡ Some g → g.unread ≡ [] → self.new ≡ self.old }
-    {
-        match place_of(&self.gone, id) {
-            Some(place) => {
-                let gone = &mut self.gone[place];
-                gone.read(out)
-            }
-            None => 0,
-        }
-    }
-
-    /// Lets go of the connection that is gone under an id, and gives its flow. `None` comes where none is.
-    pub fn close_gone(&mut self, id: ConnId) -> Option<Flow>
-        ensures flow { result ≡ option_map (λ g. g.flow) (find (λ g. g.id == id) self.old.gone) }
-        ensures left { self.new ≡ record self.old { gone = without_gone id self.old.gone } }
-        ensures none { IfNone result (self.new ≡ self.old) }
-    {
-        match place_of(&self.gone, id) {
-            Some(place) => Some(self.release(place)),
-            None => None,
-        }
-    }
-
-    // Lets go of the connection that is gone and stands at a place, and gives its flow.
-    fn release(&mut self, place: usize) -> Flow
-        requires { place < length self.old.gone }
-        ensures flow { Some result ≡ option_map (λ g. g.flow) (slice_get self.old.gone place) }
-        ensures left { self.new ≡ record self.old { gone = remove self.old.gone place } }
-    {
-        let gone = self.gone.remove(place);
-        let flow = gone.flow();
-        self.spare.push_reserved(gone.into_spare());
-        flow
     }
 }
 

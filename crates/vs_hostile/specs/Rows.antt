@@ -1,6 +1,6 @@
 -- Worked examples: scripts of hostile guests, and what each prints.
 use Rattle.std.specs.Prelude.{ℕ, zero, suc, ◌+◌, List, [], ◌∷◌, ◌++◌, codes}
-use Rattle.vs_report.specs.Answers.{Answer}
+use Rattle.vs_report.specs.{Answers.Answer, Report.only_dropped}
 
 -- The available index jumps, and the device stays failed.
 abbrev pub available_index_jumps : List ℕ
@@ -11,7 +11,7 @@ abbrev pub available_index_jumps_answer : Answer
 available_index_jumps_answer = record {
   lines =
       codes "ok\n" ∷ codes "ok\n" ∷ codes "ok\n" ∷ codes "failed AvailJump 0 9\n" ∷ codes "failed AvailJump 0 9\n" ∷
-      codes "device open 0\n" ∷ codes "dropped 0 overrun 0 faults 0\n" ∷ [];
+      codes "device open 0\n" ∷ only_dropped 0 ∷ [];
   status = 7;
 }
 
@@ -24,7 +24,7 @@ abbrev pub address_out_of_memory_answer : Answer
 address_out_of_memory_answer = record {
   lines =
       codes "ok\n" ∷ codes "ok\n" ∷ codes "ok\n" ∷ codes "ok\n" ∷ codes "ok\n" ∷ codes "failed AddrRange 69600 44\n" ∷
-      codes "device open 0\n" ∷ codes "dropped 0 overrun 0 faults 0\n" ∷ [];
+      codes "device open 0\n" ∷ only_dropped 0 ∷ [];
   status = 7;
 }
 
@@ -42,7 +42,7 @@ oks (suc n) = codes "ok\n" ∷ oks n
 abbrev pub failing : ℕ → List ℕ → Answer
 failing n failure = record {
   lines =
-      oks (n + 2) ++ (codes "failed " ++ failure ++ codes "\n") ∷ codes "device open 0\n" ∷ codes "dropped 0 overrun 0 faults 0\n" ∷ [];
+      oks (n + 2) ++ (codes "failed " ++ failure ++ codes "\n") ∷ codes "device open 0\n" ∷ only_dropped 0 ∷ [];
   status = 7;
 }
 
@@ -63,7 +63,7 @@ abbrev pub length_changed_answer : Answer
 length_changed_answer = record {
   lines =
       oks 10 ++ (codes "turned 1 1 0 0 1 0\n" ∷ (oks 5 ++ (codes "turned 1 0 0 1 0 0\n" ∷ codes "device open 1\n" ∷
-      codes "stream 1 1024 52 wrote 0 - read 1 78\n" ∷ codes "dropped 0 overrun 0 faults 0\n" ∷ [])));
+      codes "stream 1 1024 52 wrote 0 - read 1 78\n" ∷ only_dropped 0 ∷ [])));
   status = 0;
 }
 
@@ -82,7 +82,7 @@ wrong_flows_answer = record {
   lines =
       oks 23 ++ (codes "turned 4 3 0 0 1 0\n" ∷
       codes "bytes 0200000000000000030000000000000034000000d00700000000000001000300000000000000000000000000\n" ∷
-      codes "device open 1\n" ∷ codes "stream 1 1024 52 wrote 0 - read 0 -\n" ∷ codes "dropped 1 overrun 0 faults 0\n" ∷ []);
+      codes "device open 1\n" ∷ codes "stream 1 1024 52 wrote 0 - read 0 -\n" ∷ only_dropped 1 ∷ []);
   status = 0;
 }
 
@@ -99,7 +99,7 @@ abbrev pub pending_bytes_answer : Answer
 pending_bytes_answer = record {
   lines =
       oks 12 ++ (codes "turned 1 1 0 0 1 0\n" ∷ (oks 7 ++ (codes "turned 2 1 0 2 0 1\n" ∷ codes "device open 0\n" ∷
-      codes "stream 1 1024 52 wrote 0 - read 2 6869\n" ∷ codes "dropped 0 overrun 0 faults 0\n" ∷ [])));
+      codes "stream 1 1024 52 wrote 0 - read 2 6869\n" ∷ only_dropped 0 ∷ [])));
   status = 0;
 }
 
@@ -111,6 +111,6 @@ abbrev pub failure_stays_answer : Answer
 failure_stays_answer = record {
   lines =
       oks 3 ++ (codes "failed AvailJump 0 9\n" ∷ codes "ok\n" ∷ codes "failed AvailJump 0 9\n" ∷ codes "failed AvailJump 0 9\n" ∷
-      codes "failed AvailJump 0 9\n" ∷ codes "device open 0\n" ∷ codes "dropped 0 overrun 0 faults 0\n" ∷ []);
+      codes "failed AvailJump 0 9\n" ∷ codes "device open 0\n" ∷ only_dropped 0 ∷ []);
   status = 7;
 }

@@ -11,9 +11,7 @@ use Rattle.vs_proxy_parts.specs.{State.ProxyState, Turns.new_proxy, Turns.turn_o
 use Rattle.vs_report.specs.HostLines.{host_played}
 use Rattle.vs_script.specs.{Hostile.Hostile, Hostile.Look, Outside.Outside, Outside.Reset, Outside.Tick, Outside.Client, Outside.OfHost}
 use Rattle.vs_hostile.specs.{Answers.answer_around, Guest.guest_writes, Guest.looked, Rings.rings_of}
-use Rattle.vs_script.specs.Hostile.{Memory as SetMemory}
-use Rattle.vs_script.specs.Hostile.{Rings as SetRings}
-use Rattle.vs_script.specs.Hostile.{Around as OfOutside}
+use Rattle.vs_script.specs.Hostile.{Memory as SetMemory, Rings as SetRings, Around as OfOutside}
 use Rattle.vs_script.specs.Outside.{Turn as TakeTurn}
 
 -- The guest's memory as far as the script has set it up: nothing, where it lies, or the rings in it.

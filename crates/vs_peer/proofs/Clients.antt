@@ -1,14 +1,13 @@
 -- A client's stream, from its dial on.
-use Rattle.std.proofs.Common.{◌≡◌, ◌≢◌, ℕ, zero, suc, ◌+◌, ◌-◌, Bool, true, false, cond, eqb, ◌||◌, List, [], ◌∷◌, ◌++◌, length, Option}
-use Rattle.std.proofs.Common.{Some, None, refl, sym, ap, subst, ◌∙◌, arith}
+use Rattle.std.proofs.Common.{◌≡◌, ◌≢◌, ℕ, zero, suc, Bool, true, false, cond, ◌||◌, List, [], ◌∷◌, ◌++◌, length, Option, Some, None, refl}
+use Rattle.std.proofs.Common.{sym, ap, subst, ◌∙◌}
 use Rattle.std.specs.{Prelude.slice_get, Prelude.IsSomeAnd, Option.ForSome}
-use Rattle.std.proofs.lemmas.Bool.Decides.{nat_tests}
 use Rattle.vs_contents.specs.Contents.{Relates}
 use Rattle.vs_flow.specs.declared.flow.Flow.{Flow}
-use Rattle.vs_outside.specs.Host.{Stream, HostContents, stream_at, IsOpen, fails_now, is_listened, dialed_stream, after_dial, IsDialed}
+use Rattle.vs_outside.specs.Host.{Stream, HostContents, stream_at, after_dial}
 use Rattle.vs_outside.specs.declared.host_net.Dialed.TheVariants as dialed
-use Rattle.vs_outside.proofs.Frames.{open-dialed, open_of, stream_at-after_failed}
-use Rattle.vs_peer.specs.{Passing.Moves, Passing.SameStreams, Client.HasClient, Client.IsUnheard, Client.client_flow}
+use Rattle.vs_outside.proofs.Frames.{stream_at-after_failed}
+use Rattle.vs_peer.specs.{Passing.Moves, Passing.SameStreams, Client.HasClient}
 
 -- A relation that follows from another.
 pub relates_map : (R S : HostContents → HostContents → Type 0) (a b : Option HostContents) → ((x y : HostContents) → R x y → S x y) →
@@ -67,12 +66,6 @@ client_now base port id g k w P a b h now =
     let there : stream_at id b ≡ Some h.stream = ap (λ n. stream_at n b) h.newest ∙ h.client.there in
     subst (λ o. IsSomeAnd o P) there now
 
--- DIAL
-stream_id : (b l : Bool) (n id : ℕ) → dialed.Stream id ≡ cond b dialed.Failed (cond l (dialed.Stream n) dialed.Refused) → id ≡ n
-stream_id true l n id h = cc
-stream_id false true n id h = cc
-stream_id false false n id h = cc
-
 heard : (b l : Bool) (n id : ℕ) → dialed.Stream id ≡ cond b dialed.Failed (cond l (dialed.Stream n) dialed.Refused) → l ≡ true
 heard true l n id h = cc
 heard false true n id h = refl
@@ -88,44 +81,6 @@ append_other [] y zero h = absurd (h refl)
 append_other [] y (suc k) h = refl
 append_other (x ∷ xs) y zero h = refl
 append_other (x ∷ xs) y (suc k) h = append_other xs y k (λ e. h (ap suc e))
-
-dial_others : (flow : Flow) (c : HostContents) (other : ℕ) (b : Bool) → eqb other 0 ≡ b → other ≢ length c.streams + 1 →
-    cond b None (slice_get (c.streams ++ dialed_stream flow c.prepared ∷ []) (other - 1)) ≡ cond b None (slice_get c.streams (other - 1))
-dial_others flow c other true p apart = refl
-dial_others flow c other false p apart =
-    let away : other - 1 ≢ length c.streams = λ e. apart (grind (arith, nat_tests, p, e)) in append_other c.streams
-    (dialed_stream flow c.prepared) (other - 1) away
-
-pub dialed_client : (base : List ℕ) (port id : ℕ) (c : HostContents) → IsDialed base (dialed.Stream id) c →
-    HasClient base port id [] [] false c (after_dial (client_flow port) (dialed.Stream id) c)
-dialed_client base port id c h =
-    let is : id ≡ length c.streams + 1 = stream_id (fails_now c) (is_listened base c) (length c.streams + 1) id h in
-    let after = after_dial (client_flow port) (dialed.Stream id) c in
-    let there : stream_at id after ≡ Some (dialed_stream (client_flow port) c.prepared) = (open-dialed (client_flow port) id c is).1 in
-    record {
-      stream = dialed_stream (client_flow port) c.prepared;
-      newest = is;
-      client = record {
-        listened = heard (fails_now c) (is_listened base c) (length c.streams + 1) id h;
-        there = ap (λ n. stream_at n after) (sym is) ∙ there;
-        label = refl;
-        given = refl;
-        taken = refl;
-        others = λ other apart. dial_others (client_flow port) c other (eqb other 0) refl apart;
-      };
-      shut = refl;
-    }
-
-pub dialed_open : (port id : ℕ) (path : List ℕ) (c : HostContents) → IsDialed path (dialed.Stream id) c →
-    IsOpen id (after_dial (client_flow port) (dialed.Stream id) c)
-dialed_open port id path c h =
-    let is : id ≡ length c.streams + 1 = stream_id (fails_now c) (is_listened path c) (length c.streams + 1) id h in
-    open_of id (after_dial (client_flow port) (dialed.Stream id) c) (dialed_stream (client_flow port) c.prepared) (open-dialed
-    (client_flow port) id c is).1 refl
-
-pub dial_unheard : (flow : Flow) (path : List ℕ) (c : HostContents) → IsDialed path dialed.Refused c →
-    IsUnheard path c (after_dial flow dialed.Refused c)
-dial_unheard flow path c h = (unheard (fails_now c) (is_listened path c) (length c.streams + 1) h, λ other. refl)
 
 pub dial_failed : (flow : Flow) (c : HostContents) → SameStreams c (after_dial flow dialed.Failed c)
 dial_failed flow c other = stream_at-after_failed other c

@@ -1,11 +1,9 @@
 -- The last line, behind what was written before.
 use Rattle.std.proofs.Common.{◌≡◌, inl, inr, ℕ, true, List, ◌++◌, Option, Result, Err, refl, subst, ◌∙◌}
 use Rattle.vs_outside.specs.{Faults.CountsFault, Host.HostContents}
-use Rattle.vs_peer.specs.{Conversing.Converses, Ends.EndsAs, Ends.EndsUnread, Ends.HostFails, Ends.Lent, Ends.Meets, Ends.NoMemory}
-use Rattle.vs_peer.specs.{Ends.PeerEnds, Ends.SourceFails, Ends.Waits, Failing.host_failed, Failing.sink_failed, Failing.source_failed}
-use Rattle.vs_peer.specs.{Pieces.Emits, Text.host_fault_text, Text.waited_text, Waiting.Paused, Waiting.pauses_of, declared.stop.Stop.Stop}
-use Rattle.vs_peer.specs.declared.source.ReadError.{ReadError}
-use Rattle.vs_peer.specs.declared.source.ReadError.TheVariants as read_error
+use Rattle.vs_peer.specs.{Conversing.Converses, Ends.EndsAs, Ends.HostFails, Ends.Meets, Ends.Waits, Failing.host_failed}
+use Rattle.vs_peer.specs.{Failing.sink_failed, Pieces.Emits, Text.host_fault_text, Text.waited_text, Waiting.Paused, Waiting.pauses_of}
+use Rattle.vs_peer.specs.{declared.stop.Stop.Stop}
 use Rattle.vs_peer.specs.declared.stop.Stop.TheVariants as stop
 use Rattle.vs_peer.proofs.Pieces.{emits_append, emits_then_some}
 
@@ -67,10 +65,3 @@ module _ (base : List ℕ) (port : ℕ) (source : List ℕ) (idle : ℕ) (host h
       let P : Stop → Type 0 = λ x. Known (Err x) in
       let k : Known (Err stop.Host) = subst P is (known, host_faults, sink_faults) in
       fails_on k.0 k.1 k.2 h
-
-pub unread_ends : (base : List ℕ) (port idle : ℕ) (old new : Lent) (result : ℕ) (e : ReadError) →
-    CountsFault (source_failed {A = List ℕ} (Err e)) old.source_faults new.source_faults → new.host ≡ old.host →
-    new.host_faults ≡ old.host_faults →
-    EndsUnread old.out new.out old.sink_faults new.sink_faults e result → PeerEnds base port idle old new result
-unread_ends base port idle old new result read_error.Fault counts host faults h = SourceFails counts host faults h
-unread_ends base port idle old new result read_error.OutOfMemory counts host faults h = NoMemory counts host faults h

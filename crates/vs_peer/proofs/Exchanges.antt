@@ -1,9 +1,9 @@
 -- Steps of an exchange, one after another.
-use Rattle.std.proofs.Common.{◌≡◌, inl, inr, ℕ, Bool, true, false, ◌||◌, List, [], ◌++◌, take, Option, Some, None, Result, Ok, Err, refl}
-use Rattle.std.proofs.Common.{sym, subst, ◌∙◌, append-nil, arith}
-use Rattle.std.specs.{Prelude.IsSomeAnd, Option.ForSome}
+use Rattle.std.proofs.Common.{◌≡◌, inl, inr, ℕ, Bool, true, false, ◌||◌, List, [], ◌++◌, take, Option, Some, None, Ok, Err, refl, sym}
+use Rattle.std.proofs.Common.{subst, ◌∙◌, append-nil, arith}
+use Rattle.std.specs.{Prelude.IsSomeAnd}
 use Rattle.vs_contents.specs.Contents.{Relates}
-use Rattle.vs_outside.specs.{Host.Stream, Host.HostContents, Host.IsOpen, Host.stream_at, Faults.CountsFault}
+use Rattle.vs_outside.specs.{Host.Stream, Host.HostContents, Host.stream_at, Faults.CountsFault}
 use Rattle.vs_peer.specs.{Failing.sink_failed, Passing.Moves, Passing.Now, Passing.ReadsAgain, Passing.ReadsEnd, Passing.WritesAgain}
 use Rattle.vs_peer.specs.{Passing.SameStreams, Pieces.Emits, Receiving.Receives, Sending.IsSending, Sending.IsStill, Sending.GoesOn}
 use Rattle.vs_peer.specs.{Sending.Sends, Sending.between, Sending.is_shut, Sending.shuts, Exchanging.Exchanges, Exchanging.Exchanged}
@@ -13,7 +13,7 @@ use Rattle.vs_peer.specs.declared.exchange.Progress.TheVariants as progress
 use Rattle.vs_peer.specs.declared.receive.Came.TheVariants as came
 use Rattle.vs_peer.specs.declared.send.Side.TheVariants as side
 use Rattle.vs_peer.specs.declared.stop.Stop.TheVariants as stop
-use Rattle.vs_peer.proofs.{Pieces.emits_none, Pieces.emits_append, Pieces.emits_then_some, Sends.joined_between, Streams.moves_closed}
+use Rattle.vs_peer.proofs.{Pieces.emits_none, Pieces.emits_append, Pieces.emits_then_some, Sends.joined_between}
 use Rattle.vs_peer.proofs.Streams.{moves_not, relates_as, relates_not, relates_then}
 
 -- A call that changes no stream passes nothing.
@@ -73,23 +73,6 @@ module _ (id : ℕ) (bytes : List ℕ) (s t : Sending) (host mid after : Option 
   step_goes b came.Bytes h r = (record { taken = r.0; passes = sent_and r.0 r.1; gets = r.2 }, tt)
   step_goes b came.Nothing h r = (no_bytes r.0 r.2, nothing_came b h r.0 r.1)
   step_goes b came.End h r = (no_bytes r.0 r.2, end_came t.side b refl h r.0 r.1)
-
-  -- what was closed stays closed
-  receives_moves : (result : Result Came Stop) → Receives id mid after out out' result →
-      (taken : List ℕ) × Relates mid after (Moves id [] taken false)
-  receives_moves (Ok came.Bytes) r = (r.0, r.1)
-  receives_moves (Ok came.Nothing) r = ([], relates_same id mid after r.0)
-  receives_moves (Ok came.End) r = ([], relates_same id mid after r.0)
-  receives_moves (Err stop.Sink) r = (r.0, r.1)
-  receives_moves (Err stop.Host) r = ([], relates_same id mid after r.0)
-  receives_moves (Err stop.Waited) r = absurd r
-  receives_moves (Err stop.Refused) r = absurd r
-
-  pub still_sending : (result : Result Came Stop) → Receives id mid after out out' result → ForSome mid (IsOpen id) →
-      IsSending id bytes t mid → IsSending id bytes t after
-  still_sending result r was i =
-      let m = receives_moves result r in
-      record { within = i.within; whole = i.whole; cut = i.cut; closed = λ e. moves_closed id [] m.0 false mid after m.1 was (i.closed e) }
 
 -- the write failed
 pub write_fails : (id : ℕ) (bytes : List ℕ) (s t : Sending) (host mid : Option HostContents) (out : Option (List ℕ)) (e : Stop) →

@@ -5,8 +5,8 @@ use Rattle.vs_contents.specs.Contents.{Relates}
 use Rattle.vs_outside.specs.Host.{Stream, HostContents, stream_at}
 use Rattle.vs_uds.specs.ConnectLine.{connect_text}
 use Rattle.vs_peer.specs.Asking.{Answers, AnswersBad, AnswersPort, AnswersSome, Asks, AsksSome}
-use Rattle.vs_peer.specs.Client.{Asked, Asking, Closed, Dials, Ended, HasClient, IsAnswered, IsAsked, IsAsking, IsRefused}
-use Rattle.vs_peer.specs.Client.{IsUnanswered, IsUnheard, IsUnopened, Misheard, Opens, Unasked, Undialed, Unheard, Untold}
+use Rattle.vs_peer.specs.Client.{Asked, Asking, Closed, Dials, Ended, HasClient, IsAnswered, IsAsked, IsAsking, IsRefused, IsUnanswered}
+use Rattle.vs_peer.specs.Client.{IsUnheard, IsUnopened, Misheard, Opens, Unasked, Undialed, Unheard, Untold}
 use Rattle.vs_peer.specs.Passing.{IsClosed, Moves, Now, ReadsAgain, ReadsEnd, WritesAgain, SameStreams}
 use Rattle.vs_peer.specs.declared.stop.Stop.{Stop}
 use Rattle.vs_peer.specs.declared.stop.Stop.TheVariants as stop

@@ -20,13 +20,6 @@ emits_more (Some held) mid new xs at n e h =
     one.1 ∙ ap (λ ys. Some ys) (append_assoc held (take at xs) (take n (take (length xs - at) (drop at xs)))
     ∙ ap (λ ys. held ++ ys) (ap (λ ys. take at xs ++ take n ys) (take_rest xs at) ∙ sym (take-add at n xs)))
 
--- what was given when a call failed
-pub emits_some : (old mid new : Option (List ℕ)) (xs : List ℕ) (at : ℕ) → at < length xs → Emits old mid (take at xs) →
-    Exposes mid new (λ held. ⊤) (λ held. held) → EmitsSome old new xs
-emits_some None mid new xs at lt e h = subst (λ m. Exposes m new (λ held. ⊤) (λ held. held) → new ≡ None) (sym e) (λ k. k) h
-emits_some (Some held) mid new xs at lt e h =
-    let one = subst (λ m. Exposes m new (λ held. ⊤) (λ held. held)) e h in (at, lt, one.1)
-
 pub emits_none : (old : Option (List ℕ)) → Emits old old []
 emits_none None = refl
 emits_none (Some held) = ap (λ ys. Some ys) (sym (append-nil held))

@@ -9,7 +9,7 @@ use Rattle.vs_outside.specs.Host.{Stream, HostContents, stream_at, KeepsOthers, 
 use Rattle.vs_outside.specs.Host.{write_answer, after_read, after_write, after_shut_write, take_bytes, give_bytes, ReadsFrom, next_bytes}
 use Rattle.vs_outside.specs.Host.{IsRead, IsWritten, with_shut_write_call}
 use Rattle.vs_outside.proofs.Frames.{stream_at-with_stream, keeps_others, stream_at-after_failed, open_of}
-use Rattle.vs_peer.specs.Passing.{IsMoved, Moves, Now, IsClosed, WritesAgain, ReadsAgain, ReadsEnd, SameStreams, ReadPasses, WritePasses}
+use Rattle.vs_peer.specs.Passing.{IsMoved, Moves, IsClosed, WritesAgain, ReadsAgain, ReadsEnd, SameStreams, ReadPasses, WritePasses}
 use Rattle.vs_outside.specs.declared.host_net.StreamState.TheVariants as state
 use Rattle.vs_outside.specs.declared.host_net.StreamRead.TheVariants as read
 use Rattle.vs_outside.specs.declared.host_net.StreamWrite.TheVariants as write
@@ -121,16 +121,6 @@ moves_open id g k w (Some a) (Some b) m was c is =
 found : {P : Stream → Type 0} (o : Option Stream) → IsSomeAnd o P → (s : Stream) × (o ≡ Some s) × P s
 found None h = absurd h
 found (Some s) h = (s, refl, h)
-
-pub moves_closed : (id : ℕ) (g k : List ℕ) (w : Bool) (a b : Option HostContents) → Relates a b (Moves id g k w) →
-    ForSome a (IsOpen id) → Now id IsClosed a → Now id IsClosed b
-moves_closed id g k w None b m was closed c is = cc
-moves_closed id g k w (Some a) None m was closed c is = cc
-moves_closed id g k w (Some a) (Some b) m was closed c is =
-    let s = found {P = IsClosed} (stream_at id a) (closed a refl) in
-    let t = m.stream s.0 s.1 in
-    let same : b ≡ c = cc in
-    subst (λ x. IsSomeAnd (stream_at id x) IsClosed) same (rw t.1 (t.2.closed ∙ s.2))
 
 -- A write, a read, a shutting of the write side.
 changed : (id : ℕ) (g k : List ℕ) (w : Bool) (f : Stream → Stream) (c d : HostContents) →

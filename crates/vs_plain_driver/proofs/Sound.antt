@@ -1,5 +1,5 @@
 -- Each call keeps the driver's end of a queue sound.
-use Rattle.std.proofs.Common.{ℕ, ◌<◌, ◌≤◌, Option, None, length, replicate, arith}
+use Rattle.std.proofs.Common.{ℕ, ◌<◌, ◌≤◌, Option, None, replicate, arith}
 use Rattle.std.proofs.lemmas.List.{length-replicate}
 use Rattle.std.specs.List.{range_with_len}
 use Rattle.std.proofs.lemmas.List.FromFn.{get_or-range_with_len, length-range_with_len}

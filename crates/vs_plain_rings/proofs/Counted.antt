@@ -1,5 +1,5 @@
 -- What both ends count is what the lists say.
-use Rattle.std.proofs.Common.{◌≡◌, ℕ, ◌+◌, ◌-◌, cond, List, [], ◌∷◌, length, length-append, map, refl, sym, ap₂, ◌∙◌, arith}
+use Rattle.std.proofs.Common.{◌≡◌, ℕ, ◌+◌, cond, List, [], ◌∷◌, length, length-append, map, refl, sym, ap₂, ◌∙◌, arith}
 use Rattle.vs_ring_port.specs.{Chains.Held, Chains.chains_of, Chains.held_of, Chains.same_queue, Counts.Counts, EndLog.pages_at}
 use Rattle.vs_ring_port.specs.{Lists.queue_of, declared.device_ring.Chain.Chain, declared.queue.Queue.Queue}
 use Rattle.vs_ring_port.specs.declared.queue.Queue.TheVariants.{Rx, Tx, Event}

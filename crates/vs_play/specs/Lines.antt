@@ -1,29 +1,17 @@
 -- The lines of a play: what each does to the world, and what it prints.
-use Rattle.std.specs.Prelude.{ℕ, ◌+◌, min, List, Option, None, Result, Ok, Err}
-use Rattle.vs_flow.specs.declared.flow.Flow.{Flow}
-use Rattle.vs_driver_parts.specs.{Connections.flow_of, State.DriverState, declared.answers.Accepted.Accepted}
-use Rattle.vs_driver_parts.specs.declared.answers.ConnectError.{ConnectError}
+use Rattle.std.specs.Prelude.{ℕ, ◌+◌, min, List}
+use Rattle.vs_driver_parts.specs.State.{DriverState}
 use Rattle.vs_script.specs.{Data.bytes_of, Outside.Outside, Outside.Host, Play.Event}
 use Rattle.laws_world.specs.{Plays.Line, Plays.Said, Plays.line, World.World}
-use Rattle.laws_driver_bytes.specs.Calls.{GuestCall, ReplyTo}
+use Rattle.laws_driver_bytes.specs.Calls.{GuestCall, ReplyTo, flow_accepted, flow_opened}
 use Rattle.vs_report.specs.GuestLines.{connect_text, listen_text, unlisten_text, accept_text, send_text, recv_text, shutdown_text}
 use Rattle.vs_report.specs.{GuestLines.close_text, GuestLines.state_text, GuestLines.poll_text, DeviceLines.turn_text}
 use Rattle.vs_report.specs.{DeviceLines.reset_text, HostLines.ok_text, HostLines.client_text, HostLines.write_text}
 use Rattle.vs_report.specs.HostLines.{stream_there_text}
-use Rattle.vs_driver_parts.specs.declared.answers.Accepted.TheVariants as accepted
 use Rattle.vs_script.specs.Outside as outside
 use Rattle.vs_script.specs.Play as script
 use Rattle.laws_driver_bytes.specs.Calls as call
 use Rattle.laws_world.specs.Plays as world
-
--- The flow of a connection that was opened or accepted.
-abbrev pub flow_opened : Result ℕ ConnectError → DriverState → Option Flow
-flow_opened (Ok id) s = flow_of id s
-flow_opened (Err e) s = None
-
-abbrev pub flow_accepted : Accepted → DriverState → Option Flow
-flow_accepted (accepted.Conn id) s = flow_of id s
-flow_accepted _ s = None
 
 -- What a call of the guest's prints, by its reply and the driver after it.
 abbrev pub reply_text : (c : GuestCall) → ReplyTo c → DriverState → List ℕ

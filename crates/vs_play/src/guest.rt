@@ -9,8 +9,8 @@ ghost use Rattle.vs_report.specs.GuestLines.{poll_text};
 ghost use Rattle.vs_script.specs.{Data.bytes_of, Data.content_of, Play.play_view};
 ghost use Rattle.laws_driver_bytes.specs.Calls as call;
 ghost use Rattle.laws_world.specs.Over.{over_lists};
-ghost use Rattle.laws_driver_bytes.specs.Calls.{makes_call};
-ghost use Rattle.vs_play.specs.{Lines.flow_opened, Lines.flow_accepted, Ready.IsBits, Ready.IsDriven, Ready.IsPlayable};
+ghost use Rattle.laws_driver_bytes.specs.Calls.{flow_accepted, flow_opened, makes_call};
+ghost use Rattle.vs_play.specs.{Ready.IsBits, Ready.IsDriven, Ready.IsPlayable};
 ghost use Rattle.vs_play.specs.Told.{Answers, Drives, Replies};
 
 use std::alloc::{AllocError, Global};

@@ -1,21 +1,19 @@
 -- How many connections may come and leave in the device's calls.
-use Rattle.std.specs.Prelude.{if◌then◌else◌, Result, Ok, Err}
 use Rattle.std.proofs.Common.{◌≡◌, ℕ, zero, suc, ◌+◌, ◌≤◌, Bool, true, false, cond, List, [], ◌∷◌, length, ◌==◌, Option, Some, None, refl}
 use Rattle.std.proofs.Common.{arith}
-use Rattle.vs_contents.specs.CallTree.{Done, Ask, bind, for_each, while_up_to}
+use Rattle.vs_contents.specs.CallTree.{Done, bind, for_each, while_up_to}
 use Rattle.vs_contents.proofs.Leads.{AllEnds, ends_bind, ends_weaker}
-use Rattle.vs_flow.specs.{Table.entry_under, Table.slots, Table.refusal, declared.flow.Flow.Flow, declared.table.TableFault.TableFault}
+use Rattle.vs_flow.specs.{Table.entry_under, Table.slots, Table.refusal, declared.flow.Flow.Flow}
 use Rattle.vs_outside.specs.declared.host_net.StreamWrite.{StreamWrite}
 use Rattle.vs_outside.specs.declared.host_net.StreamWrite.TheVariants as write
-use Rattle.vs_ring_port.specs.declared.{device_ring.Next.Next, failure.Failure.Failure, queue.Queue.TheVariants.Event}
-use Rattle.vs_ring_port.specs.Contents.{Take}
+use Rattle.vs_ring_port.specs.declared.{device_ring.Next.Next}
 use Rattle.vs_ring_port.specs.declared.device_ring.Next.TheVariants as next
 use Rattle.vs_wrap.specs.Wrap.{counted}
-use Rattle.vs_device_parts.specs.Calls.{DeviceTree, Ring, Label, CloseStream, WriteStream, ShutWrite}
+use Rattle.vs_device_parts.specs.Calls.{DeviceTree}
 use Rattle.vs_device_parts.specs.{State.DeviceConnection, State.DeviceState, State.DeviceEntry, Streams.closing, Streams.leaving}
 use Rattle.vs_device_parts.specs.Streams.{tick_slot, tick_of, Writing, pump_of, pump_slot, write_answered, write_pending, shut_write}
 use Rattle.vs_device_parts.specs.{Streams.to_write, Streams.is_written_out, Connections.is_timed_out, Connections.cut_off}
-use Rattle.vs_device_parts.specs.Connections.{stream_closed, with_connection, with_fault, after_leaving, with_client}
+use Rattle.vs_device_parts.specs.Connections.{stream_closed, with_fault, after_leaving}
 use Rattle.vs_device_parts.specs.{Receiving.event_on, Receiving.pay_event_of, Turns.open_of}
 use Rattle.vs_proxy_parts.specs.Turning.{CountsFew}
 
@@ -34,6 +32,17 @@ few_more a b x y s t la lb f = record { opened = omega (arith, f.opened, la); cl
 -- what holds of each end of a conversation
 abbrev pub Ends : {A : Type 0} → (A → Type 0) → DeviceTree A → Type 0
 Ends P tree = AllEnds P tree
+
+-- what is tested first
+module _ {A : Type 0} (P : A → Type 0) where
+  pub ends_if : (b : Bool) (then_ else_ : DeviceTree A) → Ends P then_ → Ends P else_ → Ends P (cond b then_ else_)
+  ends_if true then_ else_ first second = first
+  ends_if false then_ else_ first second = second
+
+  pub ends_option : {X : Type 0} (o : Option X) (n : DeviceTree A) (s : X → DeviceTree A) → Ends P n → ((x : X) → Ends P (s x))
+      → Ends P (elim o as (λ _. DeviceTree A) [ None ↦ n | Some x ↦ s x ])
+  ends_option None n s at_none at_some = at_none
+  ends_option (Some x) n s at_none at_some = at_some x
 
 -- steps that keep a relation
 module _ {A : Type 0} (R : A → A → Type 0) (same : (x : A) → R x x) (after : (x y z : A) → R x y → R y z → R x z) where
@@ -62,14 +71,7 @@ then_few : (s t u : DeviceState) → CountsFew 0 0 s t → CountsFew 0 0 t u →
 then_few s t u f g = few_then 0 0 0 0 s t u f g
 
 pub closing_few : (e : DeviceEntry) (f : DeviceConnection → DeviceConnection) (s : DeviceState) → Ends (CountsFew 0 0 s) (closing e f s)
-closing_few e f s = by e.value.closed
-  where
-    end : DeviceState
-    end = with_connection e.slot (f e.value) s
-
-    by : (b : Bool) → Ends (CountsFew 0 0 s) (cond b (Done end) (Ask (CloseStream e.value.stream) (λ _. Done end)))
-    by true = none_came s end refl refl
-    by false = λ a. none_came s end refl refl
+closing_few e f s = ends_if _ e.value.closed _ _ (none_came s _ refl refl) (λ a. none_came s _ refl refl)
 
 -- one leaves
 pub leaving_few : (e : DeviceEntry) (s : DeviceState) → Ends (CountsFew 0 1 s) (leaving e s)
@@ -78,15 +80,9 @@ leaving_few e s = keeps_bind (CountsFew 0 0) same_few then_few (CountsFew 0 1 s)
 
 -- timeouts
 tick_slot_few : (slot : ℕ) (s : DeviceState) → Ends (CountsFew 0 0 s) (tick_slot slot s)
-tick_slot_few slot s = by (entry_under s.table slot)
-  where
-    late : (e : DeviceEntry) (b : Bool) → Ends (CountsFew 0 0 s) (cond b (closing e cut_off s) (Done s))
-    late e true = closing_few e cut_off s
-    late e false = same_few s
-
-    by : (o : Option DeviceEntry) → Ends (CountsFew 0 0 s) (elim o as (λ _. DeviceTree DeviceState) [ None ↦ Done s | Some e ↦ if is_timed_out s.now e.value then closing e cut_off s else Done s ])
-    by None = same_few s
-    by (Some e) = late e (is_timed_out s.now e.value)
+tick_slot_few slot s =
+    ends_option _ (entry_under s.table slot) _ _ (same_few s)
+    (λ e. ends_if _ (is_timed_out s.now e.value) _ _ (closing_few e cut_off s) (same_few s))
 
 pub tick_few : (now : ℕ) (s : DeviceState) → Ends (CountsFew 0 0 s) (tick_of now s)
 tick_few now s = ends_weaker (CountsFew 0 0 (record s { now = now })) (CountsFew 0 0 s) (λ t f. record { opened = f.opened; closed = f.closed }) (tick_of now s)
@@ -110,71 +106,33 @@ answered_few e write.Failed w = ends_bind (Wrote w) (closing e cut_off (with_fau
     (ends_weaker (CountsFew 0 0 (with_fault w.state)) (CountsFew 0 0 w.state) (λ t f. record { opened = f.opened; closed = f.closed }) (closing e cut_off (with_fault w.state)) (closing_few e cut_off (with_fault w.state)))
 
 pending_few : (e : DeviceEntry) (w : Writing) → Ends (Wrote w) (write_pending e w)
-pending_few e w = by (length (to_write e.value) == 0)
-  where
-    by : (b : Bool) → Ends (Wrote w) (cond b (Done w) (Ask (WriteStream e.value.stream (to_write e.value)) (λ answer. write_answered e answer w)))
-    by true = same_wrote w
-    by false = λ a. answered_few e a w
+pending_few e w = ends_if _ (length (to_write e.value) == 0) _ _ (same_wrote w) (λ a. answered_few e a w)
 
 shut_few : (slot : ℕ) (w : Writing) → Ends (Wrote w) (shut_write slot w)
-shut_few slot w = by (entry_under w.state.table slot)
-  where
-    end : DeviceEntry → Writing
-    end e = record w { state = with_connection slot (record e.value { write_shut = true }) w.state }
-
-    out : (e : DeviceEntry) (b : Bool) → Ends (Wrote w) (cond b (Ask (ShutWrite e.value.stream) (λ _. Done (end e))) (Done w))
-    out e true = λ a. none_came w.state (end e).state refl refl
-    out e false = same_wrote w
-
-    by : (o : Option DeviceEntry) → Ends (Wrote w) (elim o as (λ _. DeviceTree Writing) [
-      | None ↦ Done w
-      | Some e ↦ if is_written_out e.value then Ask (ShutWrite e.value.stream) (λ _. Done (record w { state = with_connection slot (record e.value { write_shut = true }) w.state })) else Done w
-    ])
-    by None = same_wrote w
-    by (Some e) = out e (is_written_out e.value)
+shut_few slot w =
+    ends_option _ (entry_under w.state.table slot) _ _ (same_wrote w)
+    (λ e. ends_if _ (is_written_out e.value) _ _ (λ a. none_came w.state _ refl refl) (same_wrote w))
 
 pump_slot_few : (slot : ℕ) (w : Writing) → Ends (Wrote w) (pump_slot slot w)
-pump_slot_few slot w = by (entry_under w.state.table slot)
-  where
-    open_one : (e : DeviceEntry) (b : Bool) → Ends (Wrote w) (cond b (Done w) (bind (write_pending e w) (shut_write slot)))
-    open_one e true = same_wrote w
-    open_one e false = keeps_bind Wrote same_wrote then_wrote (Wrote w) (write_pending e w) (shut_write slot) w (pending_few e w)
-        (λ x r. ends_weaker (Wrote x) (Wrote w) (λ y q. then_wrote w x y r q) (shut_write slot x) (shut_few slot x))
-
-    by : (o : Option DeviceEntry) → Ends (Wrote w) (elim o as (λ _. DeviceTree Writing) [ None ↦ Done w | Some e ↦ if e.value.closed then Done w else bind (write_pending e w) (shut_write slot) ])
-    by None = same_wrote w
-    by (Some e) = open_one e e.value.closed
+pump_slot_few slot w =
+    ends_option _ (entry_under w.state.table slot) _ _ (same_wrote w) (λ e. ends_if _ e.value.closed _ _ (same_wrote w)
+    (keeps_bind Wrote same_wrote then_wrote (Wrote w) (write_pending e w) (shut_write slot) w (pending_few e w)
+    (λ x r. ends_weaker (Wrote x) (Wrote w) (λ y q. then_wrote w x y r q) (shut_write slot x) (shut_few slot x))))
 
 pub pump_few : (s : DeviceState) → Ends (λ w. CountsFew 0 0 s w.state) (pump_of s)
 pump_few s = keeps_each Wrote same_wrote then_wrote pump_slot pump_slot_few (slots s.table) (record { state = s; wrote = 0 })
 
 -- the owed event
+paid_few : (s : DeviceState) (a : Next) → Ends (λ r. CountsFew 0 0 s r.0) (event_on a s)
+paid_few s (next.Chain chain) = λ a b. none_came s _ refl refl
+paid_few s next.None = same_few s
+paid_few s (next.Failed f) = none_came s _ refl refl
+
 pub event_few : (s : DeviceState) → Ends (λ r. CountsFew 0 0 s r.0) (pay_event_of s)
-event_few s = by s.failed
-  where
-    on : (a : Next) → Ends (λ r. CountsFew 0 0 s r.0) (event_on a s)
-    on (next.Chain chain) = λ a b. none_came s _ refl refl
-    on next.None = same_few s
-    on (next.Failed f) = none_came s _ refl refl
-
-    owed : (b : Bool) → Ends (λ r. CountsFew 0 0 s r.0) (cond b (Ask (Ring (Take Event)) (λ answer. event_on answer s)) (Done (s, Ok false)))
-    owed true = on
-    owed false = same_few s
-
-    by : (o : Option Failure) → Ends (λ r. CountsFew 0 0 s r.0) (elim o as (λ _. DeviceTree (DeviceState × Result Bool Failure)) [
-      | Some f ↦ Done (s, Err f)
-      | None ↦ if s.event_owed then Ask (Ring (Take Event)) (λ answer. event_on answer s) else Done (s, Ok false)
-    ])
-    by (Some f) = same_few s
-    by None = owed s.event_owed
+event_few s = ends_option _ s.failed _ _ (ends_if _ s.event_owed _ _ (paid_few s) (same_few s)) (λ f. same_few s)
 
 -- a client's connection
 pub open_few : (flow : Flow) (stream : ℕ) (s : DeviceState) → Ends (λ r. CountsFew 1 0 s r.0) (open_of flow stream s)
-open_few flow stream s = by (refusal s.table flow)
-  where
-    by : (o : Option TableFault) → Ends (λ r. CountsFew 1 0 s r.0) (elim o as (λ _. DeviceTree (DeviceState × Result ℕ TableFault)) [
-      | Some fault ↦ Done (s, Err fault)
-      | None ↦ Ask (Label stream flow) (λ _. Done (with_client flow stream s, Ok s.table.given))
-    ])
-    by (Some fault) = few_more 0 0 1 0 s s (omega arith) (omega arith) (same_few s)
-    by None = λ a. record { opened = one_more s.opened; closed = omega arith }
+open_few flow stream s =
+    ends_option _ (refusal s.table flow) _ _ (λ a. record { opened = one_more s.opened; closed = omega arith })
+    (λ fault. few_more 0 0 1 0 s s (omega arith) (omega arith) (same_few s))

@@ -1,9 +1,9 @@
 -- How many connections may leave while packets are put: each leaves with its RST.
 use Rattle.std.specs.Prelude.{if◌then◌else◌, not, Result, Ok, Err}
-use Rattle.std.proofs.Common.{◌≡◌, ℕ, ◌+◌, ◌≤◌, ◌==◌, Bool, true, false, cond, List, [], ◌∷◌, length, Option, Some, None, refl, arith}
-use Rattle.vs_contents.specs.CallTree.{Done, Ask, bind, for_each, while_up_to}
+use Rattle.std.proofs.Common.{◌≡◌, ℕ, ◌+◌, ◌≤◌, ◌==◌, false, List, [], ◌∷◌, length, Option, Some, None, refl, arith}
+use Rattle.vs_contents.specs.CallTree.{Done, bind, for_each, while_up_to}
 use Rattle.vs_contents.proofs.Leads.{ends_bind, ends_weaker}
-use Rattle.vs_conn.specs.{End.owes_of, End.wanting_credit, End.with_payload_sent, Headers.owed_header, Headers.payload_header}
+use Rattle.vs_conn.specs.{End.owes_of, End.with_payload_sent, Headers.owed_header, Headers.payload_header}
 use Rattle.vs_conn.specs.declared.end.{Owed.Owed, TheConstants.OWED_MAX}
 use Rattle.vs_conn.specs.declared.end.Owed.TheVariants as owed
 use Rattle.vs_credit.specs.Credit.{free_of}
@@ -12,17 +12,17 @@ use Rattle.vs_header.specs.declared.Header.{Header}
 use Rattle.vs_outside.specs.declared.host_net.StreamRead.{StreamRead}
 use Rattle.vs_outside.specs.declared.host_net.StreamRead.TheVariants as read
 use Rattle.vs_replies.specs.declared.Reply.{Reply}
-use Rattle.vs_ring_port.specs.{Contents.Take, declared.device_ring.Chain.Chain, declared.device_ring.Next.Next}
-use Rattle.vs_ring_port.specs.declared.{failure.Failure.Failure, queue.Queue.TheVariants.Rx}
+use Rattle.vs_ring_port.specs.{declared.device_ring.Chain.Chain, declared.device_ring.Next.Next}
+use Rattle.vs_ring_port.specs.declared.{failure.Failure.Failure}
 use Rattle.vs_ring_port.specs.declared.device_ring.Next.TheVariants as next
-use Rattle.vs_device_parts.specs.{declared.answers.Filled.Filled, Calls.DeviceTree, Calls.Ring, Calls.ReadStream}
+use Rattle.vs_device_parts.specs.{declared.answers.Filled.Filled, Calls.DeviceTree}
 use Rattle.vs_device_parts.specs.Connections.{with_connection, with_fault, route_to_guest, cut_off}
 use Rattle.vs_device_parts.specs.{State.DeviceEntry, State.DeviceState, Streams.closing, Receiving.Filling, Receiving.after_paying}
 use Rattle.vs_device_parts.specs.Receiving.{fill_rx_of, filled_of, hold, holding, may_read, put_on, put_owed, put_packet, put_payload}
-use Rattle.vs_device_parts.specs.Receiving.{put_reply, put_reply_of, read_answered, read_room, read_stream, read_with_chain, reply_header}
-use Rattle.vs_device_parts.specs.Receiving.{round_from, serve_slot}
+use Rattle.vs_device_parts.specs.Receiving.{put_reply, put_reply_of, read_answered, read_stream, read_with_chain, reply_header, round_from}
+use Rattle.vs_device_parts.specs.Receiving.{serve_slot}
 use Rattle.vs_proxy_parts.specs.Turning.{CountsFew}
-use Rattle.vs_proxy.proofs.Counting.{Ends, closing_few, keeps_bind, keeps_each, keeps_while, leaving_few}
+use Rattle.vs_proxy.proofs.Counting.{Ends, closing_few, ends_if, ends_option, keeps_bind, keeps_each, keeps_while, leaving_few}
 
 -- no more left than packets were put
 record Puts (r q : Filling) : Type 0 where
@@ -45,23 +45,20 @@ record PutsOne (r q : Filling) : Type 0 where
   pub put : q.put ≡ r.put + 1
 
 hold_few : (r : Filling) → Ends (Puts r) (hold r)
-hold_few r = by r.state.chain
+hold_few r = ends_option _ r.state.chain _ _ on (λ chain. same r)
   where
     on : (a : Next) → Puts r (holding a r)
     on (next.Chain chain) = as_before r _ refl refl refl
     on next.None = as_before r _ refl refl refl
     on (next.Failed f) = as_before r _ refl refl refl
 
-    by : (o : Option Chain) → Ends (Puts r) (elim o as (λ _. DeviceTree Filling) [ Some chain ↦ Done r | None ↦ Ask (Ring (Take Rx)) (λ answer. Done (holding answer r)) ])
-    by (Some chain) = same r
-    by None = on
-
 put_on_few : (chain : Chain) (h : Header) (payload : List ℕ) (r : Filling) → Ends (PutsOne r) (put_on chain h payload r)
 put_on_few chain h [] r = λ a b. record { opened = omega arith; closed = omega arith; put = refl }
 put_on_few chain h (x ∷ xs) r = λ a b c. record { opened = omega arith; closed = omega arith; put = refl }
 
 put_packet_few : (h : Header) (f : DeviceState → DeviceTree DeviceState) → ((s : DeviceState) → Ends (CountsFew 0 1 s) (f s)) → (r : Filling) → Ends (Puts r) (put_packet h f r)
-put_packet_few h f leaves r = keeps_bind Puts same followed (Puts r) (hold r) next_of r (hold_few r) (λ q held. by q held q.state.chain)
+put_packet_few h f leaves r = keeps_bind Puts same followed (Puts r) (hold r) next_of r (hold_few r) (λ q held. ends_option _ q.state.chain _ _ held
+    (λ chain. ends_bind (Puts r) (put_on chain h [] q) ends_in (ends_weaker (PutsOne q) (λ p. Ends (Puts r) (ends_in p)) (λ p one. puts q p held one) (put_on chain h [] q) (put_on_few chain h [] q))))
   where
     ends_in : Filling → DeviceTree Filling
     ends_in p = bind (f p.state) (λ s. Done (record p { state = s }))
@@ -75,10 +72,6 @@ put_packet_few h f leaves r = keeps_bind Puts same followed (Puts r) (hold r) ne
           opened = omega (arith, held.opened, one.opened, l.opened);
           closed = omega (arith, held.closed, one.closed, one.put, l.closed);
         }) (f p.state) (leaves p.state))
-
-    by : (q : Filling) → Puts r q → (o : Option Chain) → Ends (Puts r) (elim o as (λ _. DeviceTree Filling) [ None ↦ Done q | Some chain ↦ bind (put_on chain h [] q) ends_in ])
-    by q held None = held
-    by q held (Some chain) = ends_bind (Puts r) (put_on chain h [] q) ends_in (ends_weaker (PutsOne q) (λ p. Ends (Puts r) (ends_in p)) (λ p one. puts q p held one) (put_on chain h [] q) (put_on_few chain h [] q))
 
 put_reply_few : (r : Filling) → Ends (λ x. Puts r x.0) (put_reply r)
 put_reply_few r = by r.state.replies
@@ -94,28 +87,10 @@ paying_few owed.Request e s = record { opened = omega arith; closed = omega arit
 paying_few what e s = record { opened = omega arith; closed = omega arith }
 
 put_owed_few : (slot : ℕ) (r : Filling) → Ends (λ x. Puts r x.0) (put_owed slot r)
-put_owed_few slot r = by (entry_under r.state.table slot)
-  where
-    puts : DeviceEntry → Owed → DeviceTree Filling
-    puts e what = put_packet (owed_header e.value.end (route_to_guest r.state.cid e.flow) what) (after_paying what e) r
-
-    owes : (e : DeviceEntry) (o : Option Owed) → Ends (λ x. Puts r x.0) (elim o as (λ _. DeviceTree (Filling × Bool)) [
-      | None ↦ Done (r, false)
-      | Some what ↦ bind (put_packet (owed_header e.value.end (route_to_guest r.state.cid e.flow) what) (after_paying what e) r) (λ q. Done (q, not q.over))
-    ])
-    owes e None = same r
-    owes e (Some what) = ends_bind (λ x. Puts r x.0) (puts e what) (λ q. Done (q, not q.over))
-        (put_packet_few (owed_header e.value.end (route_to_guest r.state.cid e.flow) what) (after_paying what e) (paying_few what e) r)
-
-    by : (o : Option DeviceEntry) → Ends (λ x. Puts r x.0) (elim o as (λ _. DeviceTree (Filling × Bool)) [
-      | None ↦ Done (r, false)
-      | Some e ↦ elim (owes_of e.value.end) [
-        | None ↦ Done (r, false)
-        | Some what ↦ bind (put_packet (owed_header e.value.end (route_to_guest r.state.cid e.flow) what) (after_paying what e) r) (λ q. Done (q, not q.over))
-      ]
-    ])
-    by None = same r
-    by (Some e) = owes e (owes_of e.value.end)
+put_owed_few slot r =
+    ends_option _ (entry_under r.state.table slot) _ _ (same r) (λ e. ends_option _ (owes_of e.value.end) _ _ (same r)
+    (λ what. ends_bind (λ x. Puts r x.0) (put_packet (owed_header e.value.end (route_to_guest r.state.cid e.flow) what) (after_paying what e) r) (λ q. Done (q, not q.over))
+    (put_packet_few (owed_header e.value.end (route_to_guest r.state.cid e.flow) what) (after_paying what e) (paying_few what e) r)))
 
 -- what a connection reads of its stream
 payload_few : (chain : Chain) (e : DeviceEntry) (payload : List ℕ) (r : Filling) → Ends (Puts r) (put_payload chain e payload r)
@@ -141,48 +116,21 @@ answered_few chain e read.Failed payload r = ends_bind (Puts r) (closing e cut_o
     (closing e cut_off (with_fault r.state)) (closing_few e cut_off (with_fault r.state)))
 
 with_chain_few : (e : DeviceEntry) (r : Filling) → Ends (Puts r) (read_with_chain e r)
-with_chain_few e r = by r.state.chain
-  where
-    by : (o : Option Chain) → Ends (Puts r) (elim o as (λ _. DeviceTree Filling) [
-      | None ↦ Done r
-      | Some chain ↦ Ask (ReadStream e.value.stream (read_room (free_of e.value.end.credit) chain)) (λ answer. read_answered chain e answer.0 answer.1 r)
-    ])
-    by None = same r
-    by (Some chain) = λ a. answered_few chain e a.0 a.1 r
+with_chain_few e r = ends_option _ r.state.chain _ _ (same r) (λ chain a. answered_few chain e a.0 a.1 r)
 
 read_few : (e : DeviceEntry) (r : Filling) → Ends (Puts r) (read_stream e r)
-read_few e r = by (may_read e.value.end e.value.end.state) (free_of e.value.end.credit == 0)
-  where
-    wants : Filling
-    wants = record r { state = with_connection e.slot (record e.value { end = wanting_credit e.value.end }) r.state }
-
-    by : (a b : Bool) → Ends (Puts r) (cond a (cond b (Done wants) (bind (hold r) (read_with_chain e))) (Done r))
-    by true true = as_before r wants refl refl refl
-    by true false = keeps_bind Puts same followed (Puts r) (hold r) (read_with_chain e) r (hold_few r)
-        (λ q held. ends_weaker (Puts q) (Puts r) (λ p f. followed r q p held f) (read_with_chain e q) (with_chain_few e q))
-    by false b = same r
+read_few e r =
+    ends_if _ (may_read e.value.end e.value.end.state) _ _ (ends_if _ (free_of e.value.end.credit == 0) _ _ (as_before r _ refl refl refl)
+    (keeps_bind Puts same followed (Puts r) (hold r) (read_with_chain e) r (hold_few r)
+    (λ q held. ends_weaker (Puts q) (Puts r) (λ p f. followed r q p held f) (read_with_chain e q) (with_chain_few e q)))) (same r)
 
 -- a connection's turn, and all of them
 serve_few : (slot : ℕ) (r : Filling) → Ends (Puts r) (serve_slot slot r)
-serve_few slot r = by r.over (entry_under r.state.table slot)
-  where
-    pays : Filling → DeviceTree Filling
-    pays q = if q.over then Done q else while_up_to OWED_MAX (put_owed slot) q
-
-    first : Option DeviceEntry → DeviceTree Filling
-    first o = elim o [ None ↦ Done r | Some e ↦ read_stream e r ]
-
-    first_few : (o : Option DeviceEntry) → Ends (Puts r) (first o)
-    first_few None = same r
-    first_few (Some e) = read_few e r
-
-    pays_few : (q : Filling) → (b : Bool) → Ends (Puts q) (cond b (Done q) (while_up_to OWED_MAX (put_owed slot) q))
-    pays_few q true = same q
-    pays_few q false = keeps_while Puts same followed (put_owed slot) (put_owed_few slot) OWED_MAX q
-
-    by : (b : Bool) (o : Option DeviceEntry) → Ends (Puts r) (cond b (Done r) (bind (first o) pays))
-    by true o = same r
-    by false o = keeps_bind Puts same followed (Puts r) (first o) pays r (first_few o) (λ q f. ends_weaker (Puts q) (Puts r) (λ p g. followed r q p f g) (pays q) (pays_few q q.over))
+serve_few slot r =
+    let pays : Filling → DeviceTree Filling = λ q. if q.over then Done q else while_up_to OWED_MAX (put_owed slot) q in
+    let first : DeviceTree Filling = elim (entry_under r.state.table slot) [ None ↦ Done r | Some e ↦ read_stream e r ] in
+    ends_if _ r.over _ _ (same r) (keeps_bind Puts same followed (Puts r) first pays r (ends_option _ (entry_under r.state.table slot) _ _ (same r) (λ e. read_few e r))
+    (λ q f. ends_weaker (Puts q) (Puts r) (λ p g. followed r q p f g) (pays q) (ends_if _ q.over _ _ (same q) (keeps_while Puts same followed (put_owed slot) (put_owed_few slot) OWED_MAX q))))
 
 -- The call: where the ring doesn't fail, at most as many left as packets were put.
 abbrev pub FewFilled : DeviceState → DeviceState × Result Filled Failure → Type 0
@@ -190,7 +138,7 @@ FewFilled s (t, Ok f) = CountsFew 0 f.put s t
 FewFilled s (t, Err f) = Unit {0}
 
 pub fill_few : (s : DeviceState) → Ends (FewFilled s) (fill_rx_of s)
-fill_few s = by s.failed
+fill_few s = ends_option _ s.failed _ _ goes_on (λ f. tt)
   where
     start : Filling
     start = record { state = s; put = 0; read = 0; over = false }
@@ -202,17 +150,12 @@ fill_few s = by s.failed
     serves : Filling → DeviceTree Filling
     serves r = if r.over then Done r else for_each serve_slot (round_from r.state.last_put (slots r.state.table)) r
 
-    serves_few : (r : Filling) (b : Bool) → Ends (Puts r) (cond b (Done r) (for_each serve_slot (round_from r.state.last_put (slots r.state.table)) r))
-    serves_few r true = same r
-    serves_few r false = keeps_each Puts same followed serve_slot serve_few (round_from r.state.last_put (slots r.state.table)) r
+    serves_few : (r : Filling) → Ends (Puts r) (serves r)
+    serves_few r = ends_if _ r.over _ _ (same r) (keeps_each Puts same followed serve_slot serve_few (round_from r.state.last_put (slots r.state.table)) r)
 
     rest : Filling → DeviceTree (DeviceState × Result Filled Failure)
     rest r = bind (serves r) (λ q. Done (filled_of q))
 
-    by : (o : Option Failure) → Ends (FewFilled s) (elim o as (λ _. DeviceTree (DeviceState × Result Filled Failure)) [
-      | Some f ↦ Done (s, Err f)
-      | None ↦ bind (while_up_to (length s.replies) put_reply start) rest
-    ])
-    by (Some f) = tt
-    by None = keeps_bind Puts same followed (FewFilled s) (while_up_to (length s.replies) put_reply start) rest start (keeps_while Puts same followed put_reply put_reply_few (length s.replies) start)
-        (λ r f. keeps_bind Puts same followed (FewFilled s) (serves r) (λ q. Done (filled_of q)) r (serves_few r r.over) (λ q g. end q (followed start r q f g) q.state.failed))
+    goes_on : Ends (FewFilled s) (bind (while_up_to (length s.replies) put_reply start) rest)
+    goes_on = keeps_bind Puts same followed (FewFilled s) (while_up_to (length s.replies) put_reply start) rest start (keeps_while Puts same followed put_reply put_reply_few (length s.replies) start)
+        (λ r f. keeps_bind Puts same followed (FewFilled s) (serves r) (λ q. Done (filled_of q)) r (serves_few r) (λ q g. end q (followed start r q f g) q.state.failed))

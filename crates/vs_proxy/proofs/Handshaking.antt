@@ -2,16 +2,16 @@
 use Rattle.std.specs.{Prelude.if◌then◌else◌, Prelude.nat_lt, Prelude.Result, List.find}
 use Rattle.std.proofs.Common.{◌≡◌, ℕ, ◌+◌, ◌==◌, Bool, true, false, cond, List, [], ◌∷◌, ◌++◌, length, Some, refl, sym, ap, ◌∙◌}
 use Rattle.std.proofs.lemmas.Bool.{eqb-true}
-use Rattle.vs_contents.specs.CallTree.{Done, Ask, bind, for_each}
-use Rattle.vs_contents.proofs.{Leads.leads_of, Leads.leads_bind, Conditions.may_first, Conditions.may_rest, Conditions.may_of}
+use Rattle.vs_contents.specs.CallTree.{Done, Ask, bind}
+use Rattle.vs_contents.proofs.{Leads.leads_of, Leads.leads_bind, Conditions.may_first, Conditions.may_of}
 use Rattle.vs_outside.specs.{declared.host_net.Accepted.Accepted, declared.host_net.StreamRead.StreamRead}
 use Rattle.vs_uds.specs.{ConnectLine.connect_step, declared.scan.Step.Step}
 use Rattle.vs_flow.specs.{Flow.host_flow, declared.table.TableFault.TableFault}
 use Rattle.vs_device_parts.specs.{Playing.CanMake, Playing.MayRun, Playing.Runs, State.DeviceState, Turns.open_of}
 use Rattle.vs_device_parts.specs.Calls.{DeviceTree, Situation, Allows, Accept, ReadStream, CloseStream}
 use Rattle.vs_proxy_parts.specs.Handshakes.{accept_answered, accept_one, byte_read, dropping, handshake_on, line_decided, may_open}
-use Rattle.vs_proxy_parts.specs.Handshakes.{read_byte, read_line, shake_hands, streams_of, with_line, without_handshake, without_stream}
-use Rattle.vs_proxy_parts.specs.Turning.{closing_client, connecting, opening_client, read_lines, without_it}
+use Rattle.vs_proxy_parts.specs.Handshakes.{read_byte, with_line, without_handshake, without_stream}
+use Rattle.vs_proxy_parts.specs.Turning.{closing_client, connecting, opening_client, without_it}
 use Rattle.vs_proxy_parts.specs.State.{Handshake, Turning, with_device}
 use Rattle.vs_limits.specs.declared.TheConstants.{HANDSHAKES}
 use Rattle.vs_outside.specs.declared.host_net.StreamRead.TheVariants as read
@@ -126,13 +126,3 @@ module _ (stream port : ℕ) (t : Turning) where
   pub let_in : (r : DeviceState × Result ℕ TableFault) (u : Turning) (c m : Situation) → may_open t.state ≡ true → Runs opens c r m → u ≡ opened_by r → Runs (connecting stream port t) c u m
   let_in r u c m test runs end =
       leads_of Allows _ _ c m u (ap connect_on test) (leads_bind Allows opens (λ x. Done (opened_by x)) c m m r u runs (sym end, refl))
-
--- all handshakes
-abbrev lines_read : Turning → DeviceTree Turning
-lines_read u = for_each read_line (streams_of u.state) u
-
-pub may_lines : (t u : Turning) (c m : Situation) → MayRun (shake_hands t) c → Runs (accept_one t) c u m → MayRun (read_lines u) m
-may_lines t u c m may runs = may_rest CanMake Allows (accept_one t) lines_read c m u may runs
-
-pub shook : (t u v : Turning) (c m n : Situation) → Runs (accept_one t) c u m → Runs (read_lines u) m v n → Runs (shake_hands t) c v n
-shook t u v c m n first rest = leads_bind Allows (accept_one t) lines_read c m n u v first rest

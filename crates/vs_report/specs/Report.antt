@@ -42,6 +42,13 @@ counts_text c broken =
     codes "dropped " ++ decimal c.dropped ++ codes " overrun " ++ decimal c.overrun ++ broken_text broken ++ codes " faults " ++ decimal c.faults
     ++ codes "\n"
 
+-- Such lines where nothing was counted, in a play, and where there is no driver and so many packets were dropped.
+abbrev pub nothing_counted : List ℕ
+nothing_counted = codes "dropped 0 overrun 0 broken 0 faults 0\n"
+
+abbrev pub only_dropped : ℕ → List ℕ
+only_dropped n = codes "dropped " ++ decimal n ++ codes " overrun 0 faults 0\n"
+
 -- The report of a play, by how many entries the tables have, what was counted, and the host's streams.
 abbrev pub report : Totals → List Stream → List (List ℕ)
 report t streams =

@@ -1,6 +1,6 @@
 -- From what a command did to what each of its clauses says.
 use Rattle.std.proofs.Common.{◌≡◌, ◌⊎◌, inl, inr, ◌∙◌, ◌<◌, ◌-◌, ◌^◌, arith, ℕ, Bool, cond, true, false, nat_le, List, [], ◌∷◌, length}
-use Rattle.std.proofs.Common.{take, Option, Some, None, Result, Ok, Err, refl, sym, ap, subst}
+use Rattle.std.proofs.Common.{Option, Some, None, Result, Ok, Err, refl, sym, ap, subst}
 use Rattle.std.proofs.lemmas.{Bool.Decides.nat_tests, List.length-take}
 use Rattle.vs_hostile.specs.Answer.{answer_to as hostile_answer, hostile_of, status_of}
 use Rattle.vs_outside.specs.Faults.{CountsFault}

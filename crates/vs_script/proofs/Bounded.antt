@@ -3,10 +3,10 @@ use Rattle.std.proofs.Common.{◌≡◌, ◌≤◌, ◌&&◌, if◌then◌else�
 use Rattle.std.proofs.Common.{Some, None, Result, Ok, Err, codes, bytes_eq, refl, subst, arith}
 use Rattle.std.proofs.lemmas.Bool.Decides.{nat_tests}
 use Rattle.vs_limits.specs.declared.TheConstants.{GUEST_CID_MIN, GUEST_CID_MAX}
-use Rattle.vs_script.specs.{Bounds.AreBounded, Bounds.IsBounded, Text.is_empty, Text.words_of}
-use Rattle.vs_script.specs.{Outside.Outside, Outside.host_line, Outside.outside_line, Play.Event, Play.named_line, Play.play_line}
-use Rattle.vs_script.specs.{declared.fault.Refused.Refused, declared.fault.Why.Why, declared.fault.Why.TheVariants.BadNumber}
-use Rattle.vs_script.specs.{declared.outside.TheConstants.MAX_FILL, declared.words.TheConstants.MAX_BITS}
+use Rattle.vs_script.specs.{Bounds.AreBounded, Bounds.IsBounded, Text.is_empty, Text.words_of, Outside.Outside, Outside.host_line}
+use Rattle.vs_script.specs.{Outside.outside_line, Play.Event, Play.named_line, Play.play_line, declared.fault.Refused.Refused}
+use Rattle.vs_script.specs.{declared.fault.Why.Why, declared.fault.Why.TheVariants.BadNumber, declared.outside.TheConstants.MAX_FILL}
+use Rattle.vs_script.specs.{declared.words.TheConstants.MAX_BITS}
 use Rattle.vs_script.specs.Field.{Read, after, held, ending, word, is_numeral, number_in, number, port, id, content, only, named}
 use Rattle.vs_script.specs.Script.{Saying, Plays, Runs, Attacks, chained, pushed, add_event, add_run, add_hostile, add_words, add_lines}
 use Rattle.vs_script.specs.Script.{lines_from, add_line, unless_refused, parse_of}

@@ -1,6 +1,6 @@
 use Rattle.vs_device_parts.specs.{Streams.pump_of, Streams.tick_of, Turns.open_of}
-use Rattle.laws_device.proofs.{Carrying.ring_only}
-use Rattle.laws_device.proofs.{Keeping.keeps_end, Turning.opens_plain, Turning.pump_keeps, Turning.tick_keeps, Carrying.with_ring}
+use Rattle.laws_device.proofs.{Carrying.ring_only, Keeping.keeps_end, Turning.opens_plain, Turning.pump_keeps, Turning.tick_keeps}
+use Rattle.laws_device.proofs.{Carrying.with_ring}
 use Rattle.laws_device.proofs.Carrying.{ring_end}
 use Rattle.std.proofs.Common.{[]}
 use Rattle.laws_device.specs.Honest.{port_after}

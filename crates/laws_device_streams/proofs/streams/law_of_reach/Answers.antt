@@ -1,5 +1,5 @@
-use Rattle.vs_device_parts.specs.{Calls.Allows, Playing.CanMake, Receiving.fill_rx_of, Receiving.pay_event_of}
-use Rattle.vs_device_parts.specs.{Streams.pump_of, Streams.tick_of, Transmitting.take_tx_of, Turns.open_of, Turns.reset_of}
+use Rattle.vs_device_parts.specs.{Calls.Allows, Playing.CanMake, Receiving.fill_rx_of, Receiving.pay_event_of, Streams.pump_of}
+use Rattle.vs_device_parts.specs.{Streams.tick_of, Transmitting.take_tx_of, Turns.open_of, Turns.reset_of}
 use Rattle.laws_device_streams.specs.Split.{CanReach}
 use Rattle.laws_device_streams.proofs.{Closing.keeps_tick, Conditions.may_where, Conditions.quiet_can, Keeping.keeps_may}
 use Rattle.laws_device_streams.proofs.Opening.{both_found, keeps_open, keeps_reset}

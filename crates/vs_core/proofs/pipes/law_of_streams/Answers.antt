@@ -21,6 +21,7 @@ returns-clause-pending c = λ n host es e fresh there. pending_of (run es (openi
 pub returns-clause-lines : goal.returns-clause-lines
 returns-clause-lines c = λ n host es h fresh there.
     let w = run es (opening n host) in
-    let read = All-contains (λ (g : Handshake). look w.host g.stream ≡ Some (reading g.line)) w.proxy.handshakes h ((run_well n host es).streams fresh).lines.read there in
+    let read = All-contains (λ (g : Handshake). look w.host g.stream ≡ Some (reading g.line)) w.proxy.handshakes h
+    ((run_well n host es).streams fresh).streams.lines.read there in
     let st = is_there h.stream w.host (reading h.line) read in
     (st.stream, st.at, ap (λ (s : Seen). s.label) st.is, ap (λ (s : Seen). s.taken) st.is)

@@ -1,5 +1,5 @@
 use Rattle.std.proofs.Common.{subst}
-use Rattle.vs_device_parts.specs.{Filling.filling_of, Playing.Runs, Playing.situation, Receiving.Filling, Receiving.hold, Steps.takes_chain}
+use Rattle.vs_device_parts.specs.{Filling.filling_of, Playing.Runs, Playing.situation, Receiving.Filling, Receiving.hold}
 use Rattle.vs_device_parts.specs.declared.fill.Fill.{Fill}
 use Rattle.vs_device.proofs.{Stepping.hold_stepped, Ordered.ring_step_streams}
 use Rattle.laws_device_streams.proofs.Stepping.{takes_keeps}
@@ -16,5 +16,4 @@ returns-clause-calls g c = λ host faults.
 
 pub returns-clause-streams : goal.returns-clause-streams
 returns-clause-streams g c = λ others host.
-    ring_step_streams (takes_chain Rx c.args.device.now) others c.args.device.now c.hold.new.self (g.R.DeviceRing.contents c.args.ring.now) (g.R.DeviceRing.contents c.hold.new.ring) host
-    (takes_keeps others Rx c.args.device.now) (returns-clause-calls g c)
+    ring_step_streams _ others c.args.device.now _ _ _ host (takes_keeps others Rx c.args.device.now) (returns-clause-calls g c)

@@ -1,6 +1,6 @@
 use Rattle.std.proofs.Common.{◌≡◌, true, false, is_some, sym, ap, subst, ◌∙◌}
 use Rattle.vs_device_parts.specs.{Filling.filling_of, Playing.MayRun, Playing.Runs, Playing.situation, Receiving.Filling}
-use Rattle.vs_device_parts.specs.{Receiving.put_owed, State.DeviceState, Steps.puts_owed, declared.fill.Fill.Fill}
+use Rattle.vs_device_parts.specs.{Receiving.put_owed, State.DeviceState, declared.fill.Fill.Fill}
 use Rattle.vs_device.proofs.{Stepping.may_put_owed, Stepping.no_owed_stepped, Stepping.owed_stepped, Ordered.step_streams}
 use Rattle.laws_device_streams.proofs.Stepping.{puts_owed_keeps}
 use Rattle.vs_device.proofs.steps.put_owed.Goals as goal
@@ -30,12 +30,8 @@ returns-else-is_some-clause-calls g c =
 
 pub returns-then-is_some-clause-streams : goal.returns-then-is_some-clause-streams
 returns-then-is_some-clause-streams g c = λ others.
-    step_streams (puts_owed c.args.slot c.args.device.now) others c.args.device.now c.put_owed.new.self (situation (g.R.DeviceRing.contents c.args.ring.now) (g.H.HostNet.contents c.args.host.now) (g.H.HostNet.faults c.args.host.now))
-    (situation (g.R.DeviceRing.contents c.put_owed.new.ring) (g.H.HostNet.contents c.put_owed.new.host) (g.H.HostNet.faults c.put_owed.new.host))
-    (puts_owed_keeps others c.args.slot c.args.device.now (situation (g.R.DeviceRing.contents c.args.ring.now) (g.H.HostNet.contents c.args.host.now) (g.H.HostNet.faults c.args.host.now))) (returns-then-is_some-clause-calls g c)
+    step_streams _ others c.args.device.now _ _ _ (puts_owed_keeps others c.args.slot c.args.device.now _) (returns-then-is_some-clause-calls g c)
 
 pub returns-else-is_some-clause-streams : goal.returns-else-is_some-clause-streams
 returns-else-is_some-clause-streams g c = λ others.
-    step_streams (puts_owed c.args.slot c.args.device.now) others c.args.device.now c.args.device.now (situation (g.R.DeviceRing.contents c.args.ring.now) (g.H.HostNet.contents c.args.host.now) (g.H.HostNet.faults c.args.host.now))
-    (situation (g.R.DeviceRing.contents c.args.ring.now) (g.H.HostNet.contents c.args.host.now) (g.H.HostNet.faults c.args.host.now))
-    (puts_owed_keeps others c.args.slot c.args.device.now (situation (g.R.DeviceRing.contents c.args.ring.now) (g.H.HostNet.contents c.args.host.now) (g.H.HostNet.faults c.args.host.now))) (returns-else-is_some-clause-calls g c)
+    step_streams _ others c.args.device.now _ _ _ (puts_owed_keeps others c.args.slot c.args.device.now _) (returns-else-is_some-clause-calls g c)

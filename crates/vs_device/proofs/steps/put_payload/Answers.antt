@@ -5,7 +5,7 @@ use Rattle.vs_credit.specs.Credit.{free_of}
 use Rattle.vs_flow.specs.Table.{entry_under, value_under}
 use Rattle.vs_device_parts.specs.{Calls.Allows, Filling.filling_of, Playing.MayRun, Playing.Runs, Playing.situation, Receiving.Filling}
 use Rattle.vs_device_parts.specs.{Receiving.may_read, Receiving.read_with_chain, State.DeviceConnection, State.DeviceEntry}
-use Rattle.vs_device_parts.specs.{State.DeviceState, Steps.puts_payload, declared.fill.Fill.Fill}
+use Rattle.vs_device_parts.specs.{State.DeviceState, declared.fill.Fill.Fill}
 use Rattle.vs_device_parts.proofs.Under.{value_of}
 use Rattle.vs_device.proofs.{Among.same_among, Reading.IsToRead, Reading.if_some, Reading.may_step_read, Reading.read_stepped}
 use Rattle.vs_device.proofs.{Reading.reads_stream, Reading.same_entry, Reading.step_not_read, Ordered.step_streams}
@@ -72,12 +72,8 @@ returns-else-is_to_read-clause-calls g c =
 
 pub returns-then-is_to_read-clause-streams : goal.returns-then-is_to_read-clause-streams
 returns-then-is_to_read-clause-streams g c = λ others.
-    step_streams (puts_payload c.args.slot c.args.device.now) others c.args.device.now c.read_with_chain.new.self (situation (g.R.DeviceRing.contents c.args.ring.now) (g.H.HostNet.contents c.args.host.now) (g.H.HostNet.faults c.args.host.now))
-    (situation (g.R.DeviceRing.contents c.read_with_chain.new.ring) (g.H.HostNet.contents c.read_with_chain.new.host) (g.H.HostNet.faults c.read_with_chain.new.host))
-    (puts_payload_keeps others c.args.slot c.args.device.now (situation (g.R.DeviceRing.contents c.args.ring.now) (g.H.HostNet.contents c.args.host.now) (g.H.HostNet.faults c.args.host.now))) (returns-then-is_to_read-clause-calls g c)
+    step_streams _ others c.args.device.now _ _ _ (puts_payload_keeps others c.args.slot c.args.device.now _) (returns-then-is_to_read-clause-calls g c)
 
 pub returns-else-is_to_read-clause-streams : goal.returns-else-is_to_read-clause-streams
 returns-else-is_to_read-clause-streams g c = λ others.
-    step_streams (puts_payload c.args.slot c.args.device.now) others c.args.device.now c.is_to_read.new.self (situation (g.R.DeviceRing.contents c.args.ring.now) (g.H.HostNet.contents c.args.host.now) (g.H.HostNet.faults c.args.host.now))
-    (situation (g.R.DeviceRing.contents c.args.ring.now) (g.H.HostNet.contents c.args.host.now) (g.H.HostNet.faults c.args.host.now))
-    (puts_payload_keeps others c.args.slot c.args.device.now (situation (g.R.DeviceRing.contents c.args.ring.now) (g.H.HostNet.contents c.args.host.now) (g.H.HostNet.faults c.args.host.now))) (returns-else-is_to_read-clause-calls g c)
+    step_streams _ others c.args.device.now _ _ _ (puts_payload_keeps others c.args.slot c.args.device.now _) (returns-else-is_to_read-clause-calls g c)

@@ -1,6 +1,6 @@
 use Rattle.std.proofs.Common.{◌≡◌, true, false, is_some, sym, ap, subst, ◌∙◌}
 use Rattle.vs_device_parts.specs.{Filling.filling_of, Playing.MayRun, Playing.Runs, Playing.situation, Receiving.Filling}
-use Rattle.vs_device_parts.specs.{Receiving.put_reply, State.DeviceState, Steps.puts_reply, declared.fill.Fill.Fill}
+use Rattle.vs_device_parts.specs.{Receiving.put_reply, State.DeviceState, declared.fill.Fill.Fill}
 use Rattle.vs_device.proofs.{Stepping.may_put_reply, Stepping.no_reply_stepped, Stepping.reply_stepped, Ordered.ring_step_streams}
 use Rattle.laws_device_streams.proofs.Stepping.{puts_reply_keeps}
 use Rattle.vs_device.proofs.steps.put_reply.Goals as goal
@@ -32,10 +32,8 @@ returns-else-is_some-clause-calls g c = λ host faults.
 
 pub returns-then-is_some-clause-streams : goal.returns-then-is_some-clause-streams
 returns-then-is_some-clause-streams g c = λ others host.
-    ring_step_streams (puts_reply c.args.device.now) others c.args.device.now c.put_reply.new.self (g.R.DeviceRing.contents c.args.ring.now) (g.R.DeviceRing.contents c.put_reply.new.ring) host
-    (puts_reply_keeps others c.args.device.now) (returns-then-is_some-clause-calls g c)
+    ring_step_streams _ others c.args.device.now _ _ _ host (puts_reply_keeps others c.args.device.now) (returns-then-is_some-clause-calls g c)
 
 pub returns-else-is_some-clause-streams : goal.returns-else-is_some-clause-streams
 returns-else-is_some-clause-streams g c = λ others host.
-    ring_step_streams (puts_reply c.args.device.now) others c.args.device.now c.args.device.now (g.R.DeviceRing.contents c.args.ring.now) (g.R.DeviceRing.contents c.args.ring.now) host
-    (puts_reply_keeps others c.args.device.now) (returns-else-is_some-clause-calls g c)
+    ring_step_streams _ others c.args.device.now _ _ _ host (puts_reply_keeps others c.args.device.now) (returns-else-is_some-clause-calls g c)

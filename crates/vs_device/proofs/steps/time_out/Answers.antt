@@ -4,6 +4,4 @@ use Rattle.vs_device.proofs.Ordered.{host_step_streams}
 use Rattle.vs_device.proofs.steps.time_out.Goals as goal
 
 pub returns-clause-streams : goal.returns-clause-streams
-returns-clause-streams g c = λ others.
-    host_step_streams (tick_slot c.args.slot c.args.device.now) others c.args.device.now c.tick_slot.new.self (g.H.HostNet.contents c.args.host.now) (g.H.HostNet.contents c.tick_slot.new.host)
-    (g.H.HostNet.faults c.args.host.now) (g.H.HostNet.faults c.tick_slot.new.host) (times_out_keeps others c.args.slot c.args.device.now) (c.tick_slot.ensures.calls)
+returns-clause-streams g c = λ others. host_step_streams _ others c.args.device.now _ _ _ _ _ (times_out_keeps others c.args.slot c.args.device.now) (c.tick_slot.ensures.calls)

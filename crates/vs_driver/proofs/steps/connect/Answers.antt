@@ -8,14 +8,14 @@ pub connect_with_page-requires-clause-may : goal.connect_with_page-requires-clau
 connect_with_page-requires-clause-may g c =
     let port : c.args.host_port < 2 ^ 32 = search rules in
     let none : connect_refusal c.args.host_port c.args.driver.now ≡ None = search rules in
-    may_step_connect c.args.driver.now c.args.host_port (g.R.DriverRing.contents c.args.ring.now) none
+    may_step_connect c.args.driver.now c.args.host_port none (g.R.DriverRing.contents c.args.ring.now)
     (keeps_may _ (connects c.args.host_port c.args.driver.now) (g.R.DriverRing.contents c.args.ring.now) (connects_keeps c.requires.honest.0 c.args.host_port c.args.driver.now (g.R.DriverRing.contents c.args.ring.now) port c.requires.honest.1))
 
 pub returns-in-None-clause-calls : goal.returns-in-None-clause-calls
 returns-in-None-clause-calls g c =
     let none : connect_refusal c.args.host_port c.args.driver.now ≡ None = search rules in
-    connect_stepped c.args.driver.now c.args.host_port (g.R.DriverRing.contents c.args.ring.now) (g.R.DriverRing.contents c.connect_with_page.new.ring)
-    (c.connect_with_page.new.self, c.connect_with_page.result) none c.connect_with_page.ensures.calls
+    connect_stepped c.args.driver.now c.args.host_port none _ _ (c.connect_with_page.new.self, c.connect_with_page.result)
+    c.connect_with_page.ensures.calls
 
 pub returns-in-None-clause-honest : goal.returns-in-None-clause-honest
 returns-in-None-clause-honest g c = λ first honest.

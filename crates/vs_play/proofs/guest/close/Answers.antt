@@ -1,5 +1,5 @@
 use Rattle.std.proofs.{Common.refl, lemmas.Result.on_ok_weaker}
-use Rattle.laws_world.proofs.SamePages.{close_stays}
+use Rattle.laws_driver_bytes.proofs.SamePages.{close_stays}
 use Rattle.vs_play.proofs.Driven.{replies_as}
 use Rattle.laws_driver_bytes.specs.Calls as call
 use Rattle.vs_play.proofs.guest.close.Goals as goal

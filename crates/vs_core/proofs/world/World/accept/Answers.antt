@@ -2,7 +2,7 @@ use Rattle.std.proofs.Common.{◌≡◌, true, refl, sym, ap₂, subst}
 use Rattle.vs_contents.specs.CallTree.{Done}
 use Rattle.vs_driver_parts.specs.Playing.{SamePages}
 use Rattle.laws_world.specs.Events.{is_at_rest}
-use Rattle.laws_world.proofs.SamePages.{accept_stays}
+use Rattle.laws_driver_bytes.proofs.SamePages.{accept_stays}
 use Rattle.vs_core.specs.Ready.{IsReady, WorldState}
 use Rattle.vs_core.proofs.Happening.{calls_in}
 use Rattle.laws_driver_bytes.specs.Calls as call

@@ -1,6 +1,6 @@
 use Rattle.std.proofs.Common.{◌≡◌, true, refl, sym, subst}
 use Rattle.laws_world.specs.Events.{is_at_rest}
-use Rattle.laws_world.proofs.SamePages.{listen_stays}
+use Rattle.laws_driver_bytes.proofs.SamePages.{listen_stays}
 use Rattle.vs_core.specs.Ready.{IsReady, WorldState}
 use Rattle.vs_core.proofs.Happening.{calls_in, listen_made}
 use Rattle.laws_driver_bytes.specs.Calls as call

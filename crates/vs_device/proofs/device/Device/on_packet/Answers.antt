@@ -1,63 +1,41 @@
-use Rattle.std.proofs.Common.{◌≡◌, ℕ, false, Some, sym, ap, subst, ◌∙◌}
-use Rattle.vs_flow.specs.{Table.entry_of, Table.entry_under, declared.flow.Flow.Flow}
-use Rattle.vs_header.specs.declared.Header.{Header}
+use Rattle.std.proofs.Common.{◌≡◌, ℕ, Some, sym, ap, subst, ◌∙◌}
+use Rattle.vs_flow.specs.Table.{entry_of, entry_under}
 use Rattle.vs_page.specs.Log.{flow_to_host}
-use Rattle.vs_device_parts.specs.{State.DeviceEntry, State.DeviceState, Playing.MayRun, Playing.situation, Taking.known_packet}
-use Rattle.vs_device_parts.specs.Taking.{is_not_for_host}
+use Rattle.vs_flow.specs.declared.flow.Flow.{Flow}
+use Rattle.vs_device_parts.specs.{Playing.MayRun, Playing.situation, State.DeviceEntry, State.DeviceState, Taking.known_packet}
 use Rattle.vs_flow.proofs.Lookups.{entry_of_found}
-use Rattle.vs_device_parts.proofs.Under.{mapped}
-use Rattle.vs_device.proofs.Takings.{may_be_known, was_known}
+use Rattle.vs_device_parts.proofs.Under.{IsMapped, mapped}
+use Rattle.vs_device.proofs.{Takings.may_be_known, Takings.was_known, Reading.same_entry}
+use Rattle.vs_device.proofs.device.Device.on_packet.Goals.{In-Some}
 use Rattle.vs_device.proofs.device.Device.on_packet.Goals as goal
 
+-- the connection that was found, by its slot and by its flow
+module _ (g : _) (c : In-Some g) where
+  one : IsMapped (λ (x : DeviceEntry). x.slot) (entry_of c.self.inside.slots c.flow_to_host-flow.result) c.in-Some.slot
+  one = mapped _ _ _ c.in-Some.ensures.slot
+
+  found : entry_under c.args.self.now.table c.in-Some.slot ≡ Some one.from
+  found =
+      ap (λ (t : DeviceState). entry_under t.table c.in-Some.slot) (sym c.self.view_is) ∙ (ap (λ (n : ℕ). entry_under c.self.inside.slots n) (sym one.gives)
+      ∙ (entry_of_found c.self.inside.slots c.flow_to_host-flow.result one.from c.in-Some.ensures.sound one.some).under)
+
+  there : entry_of c.args.self.now.table (flow_to_host c.args.header.now) ≡ Some one.from
+  there =
+      ap (λ (t : DeviceState). entry_of t.table (flow_to_host c.args.header.now)) (sym c.self.view_is)
+      ∙ (ap (λ (f : Flow). entry_of c.self.inside.slots f) (sym c.flow_to_host-flow.ensures) ∙ one.some)
+
 pub on_known-requires-clause-there : goal.on_known-requires-clause-there
-on_known-requires-clause-there g c =
-    let d = c.self.inside in
-    let s : DeviceState = c.args.self.now in
-    let h : Header = c.args.header.now in
-    let flow : Flow = c.flow_to_host-flow.result in
-    let m = mapped (λ (x : DeviceEntry). x.slot) (entry_of d.slots flow) c.in-Some.slot c.in-Some.ensures.slot in
-    let e : DeviceEntry = m.from in
-    let of_flow = entry_of_found d.slots flow e c.in-Some.ensures.sound m.some in
-    let found : entry_under s.table c.in-Some.slot ≡ Some e =
-    ap (λ (t : DeviceState). entry_under t.table c.in-Some.slot) (sym c.self.view_is) ∙ (ap (λ (n : ℕ). entry_under d.slots n) (sym m.gives) ∙ of_flow.under) in
-    let there : entry_of s.table (flow_to_host h) ≡ Some e =
-    ap (λ (t : DeviceState). entry_of t.table (flow_to_host h)) (sym c.self.view_is) ∙ (ap (λ (f : Flow). entry_of d.slots f) (sym c.flow_to_host-flow.ensures) ∙ m.some) in
-    (e, found)
+on_known-requires-clause-there g c = let k = (goal.at.on_known-requires-clause-there g c).In-Some in ((one g k).from, found g k)
 
 pub on_known-requires-clause-may : goal.on_known-requires-clause-may
 on_known-requires-clause-may g c = λ f is.
-    let d = c.self.inside in
-    let s : DeviceState = c.args.self.now in
-    let h : Header = c.args.header.now in
-    let flow : Flow = c.flow_to_host-flow.result in
-    let m = mapped (λ (x : DeviceEntry). x.slot) (entry_of d.slots flow) c.in-Some.slot c.in-Some.ensures.slot in
-    let e : DeviceEntry = m.from in
-    let of_flow = entry_of_found d.slots flow e c.in-Some.ensures.sound m.some in
-    let found : entry_under s.table c.in-Some.slot ≡ Some e =
-    ap (λ (t : DeviceState). entry_under t.table c.in-Some.slot) (sym c.self.view_is) ∙ (ap (λ (n : ℕ). entry_under d.slots n) (sym m.gives) ∙ of_flow.under) in
-    let there : entry_of s.table (flow_to_host h) ≡ Some e =
-    ap (λ (t : DeviceState). entry_of t.table (flow_to_host h)) (sym c.self.view_is) ∙ (ap (λ (f : Flow). entry_of d.slots f) (sym c.flow_to_host-flow.ensures) ∙ m.some) in
-    let ours : is_not_for_host s.cid h ≡ false = sym c.if-is_dropped.ensures in
+    let k = (goal.at.on_known-requires-clause-may g c).In-Some in
     let x = situation (g.R.DeviceRing.contents c.args.ring.now) (g.H.HostNet.contents c.args.host.now) (g.H.HostNet.faults c.args.host.now) in
-    let same : Some e ≡ Some f = sym found ∙ is in
-    let both : e ≡ f = cc in
-    let P : DeviceEntry → Type 0 = λ k. MayRun (known_packet c.args.chain.now h k s) x in
-    subst P both (may_be_known c.args.chain.now h s ours e x there c.requires.may)
+    subst (λ (e : DeviceEntry). MayRun (known_packet c.args.chain.now c.args.header.now e c.args.self.now) x) (same_entry _ (one g k).from f (found g k) is)
+    (may_be_known c.args.chain.now c.args.header.now c.args.self.now (sym c.if-is_dropped.ensures) (one g k).from x (there g k) c.requires.may)
 
 pub returns-in-Some-clause-calls : goal.returns-in-Some-clause-calls
 returns-in-Some-clause-calls g c =
-    let d = c.self.inside in
-    let s : DeviceState = c.args.self.now in
-    let h : Header = c.args.header.now in
-    let flow : Flow = c.flow_to_host-flow.result in
-    let m = mapped (λ (x : DeviceEntry). x.slot) (entry_of d.slots flow) c.in-Some.slot c.in-Some.ensures.slot in
-    let e : DeviceEntry = m.from in
-    let of_flow = entry_of_found d.slots flow e c.in-Some.ensures.sound m.some in
-    let found : entry_under s.table c.in-Some.slot ≡ Some e =
-    ap (λ (t : DeviceState). entry_under t.table c.in-Some.slot) (sym c.self.view_is) ∙ (ap (λ (n : ℕ). entry_under d.slots n) (sym m.gives) ∙ of_flow.under) in
-    let there : entry_of s.table (flow_to_host h) ≡ Some e =
-    ap (λ (t : DeviceState). entry_of t.table (flow_to_host h)) (sym c.self.view_is) ∙ (ap (λ (f : Flow). entry_of d.slots f) (sym c.flow_to_host-flow.ensures) ∙ m.some) in
-    let ours : is_not_for_host s.cid h ≡ false = sym c.if-is_dropped.ensures in
-    let x = situation (g.R.DeviceRing.contents c.args.ring.now) (g.H.HostNet.contents c.args.host.now) (g.H.HostNet.faults c.args.host.now) in
-    let y = situation (g.R.DeviceRing.contents c.on_known.new.ring) (g.H.HostNet.contents c.on_known.new.host) (g.H.HostNet.faults c.on_known.new.host) in
-    was_known c.args.chain.now h s ours e (c.on_known.new.self, c.on_known.result) x y there (c.on_known.ensures.calls e found)
+    let k = (goal.at.returns-in-Some-clause-calls g c).In-Some in
+    was_known c.args.chain.now c.args.header.now c.args.self.now (sym c.if-is_dropped.ensures) (one g k).from _ _ _ (there g k)
+    (c.on_known.ensures.calls (one g k).from (found g k))

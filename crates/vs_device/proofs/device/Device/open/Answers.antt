@@ -1,6 +1,6 @@
-use Rattle.std.proofs.Common.{◌≡◌, None, Ok, rules}
+use Rattle.std.proofs.Common.{◌≡◌, None, rules}
 use Rattle.vs_flow.specs.Table.{refusal}
-use Rattle.vs_device_parts.specs.{Connections.with_client, Playing.situation, State.DeviceState}
+use Rattle.vs_device_parts.specs.{Connections.with_client, State.DeviceState}
 use Rattle.vs_device.specs.contracts.device.Device.{the_view}
 use Rattle.vs_device.proofs.{Resetting.opened, Ordered.open_honest, Ordered.open_streams, Accounted.open_accounted}
 use Rattle.vs_device.proofs.device.Device.open.Goals as goal
@@ -16,27 +16,12 @@ returns-clause-calls g c = λ ring.
     opened c.args.flow c.args.stream s accepted t c.open_client-slot.result _ _ (c.label.ensures ring) end at
 
 pub returns-clause-streams : goal.returns-clause-streams
-returns-clause-streams g c =
-    let ring = c.requires.may.0 in
-    let d = c.self.inside in
-    let t : DeviceState = the_view (record d { slots = c.open_client-slot.new.self; opened = c.saturating_add-self-inside.result }) in
-    open_streams c.args.self.now (situation ring (g.H.HostNet.contents c.args.host.now) (g.H.HostNet.faults c.args.host.now))
-    (situation ring (g.H.HostNet.contents c.label.new.host) (g.H.HostNet.faults c.label.new.host)) c.args.flow c.args.stream
-    (t, Ok c.open_client-slot.result) (returns-clause-calls g c ring)
+returns-clause-streams g c = open_streams c.args.self.now _ _ c.args.flow c.args.stream _ (returns-clause-calls g c c.requires.may.0)
 
 pub returns-clause-honest : goal.returns-clause-honest
 returns-clause-honest g c = λ first port ring.
-    let d = c.self.inside in
-    let t : DeviceState = the_view (record d { slots = c.open_client-slot.new.self; opened = c.saturating_add-self-inside.result }) in
-    open_honest c.args.self.now (situation ring (g.H.HostNet.contents c.args.host.now) (g.H.HostNet.faults c.args.host.now))
-    (situation ring (g.H.HostNet.contents c.label.new.host) (g.H.HostNet.faults c.label.new.host)) c.args.flow c.args.stream
-    (t, Ok c.open_client-slot.result) (record { guest = search rules; host = search rules; peer = search rules }) (returns-clause-calls g c ring) first port
+    open_honest c.args.self.now _ _ c.args.flow c.args.stream _ (record { guest = search rules; host = search rules; peer = search rules })
+    (returns-clause-calls g c ring) first port
 
 pub returns-clause-bytes : goal.returns-clause-bytes
-returns-clause-bytes g c =
-    let ring = c.requires.may.0 in
-    let d = c.self.inside in
-    let t : DeviceState = the_view (record d { slots = c.open_client-slot.new.self; opened = c.saturating_add-self-inside.result }) in
-    open_accounted c.args.self.now (situation ring (g.H.HostNet.contents c.args.host.now) (g.H.HostNet.faults c.args.host.now))
-    (situation ring (g.H.HostNet.contents c.label.new.host) (g.H.HostNet.faults c.label.new.host)) c.args.flow c.args.stream
-    (t, Ok c.open_client-slot.result) (returns-clause-calls g c ring)
+returns-clause-bytes g c = open_accounted c.args.self.now _ _ c.args.flow c.args.stream _ (returns-clause-calls g c c.requires.may.0)

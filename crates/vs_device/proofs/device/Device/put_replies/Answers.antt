@@ -1,35 +1,30 @@
 use Rattle.std.proofs.Common.{refl, ◌∙◌, arith}
 use Rattle.vs_contents.proofs.Loops.{while_more, while_stop, while_end, may_step, may_more}
-use Rattle.vs_device_parts.specs.{Calls.Allows, Filling.filling_of, Playing.CanMake, Playing.situation}
-use Rattle.vs_device_parts.specs.Receiving.{Filling, put_reply}
+use Rattle.vs_device_parts.specs.{Filling.filling_of, Receiving.Filling, Receiving.put_reply}
 use Rattle.vs_device.proofs.Among.{among, ring_of}
 use Rattle.vs_device.proofs.device.Device.put_replies.Goals as goal
 
 pub put_reply-requires-clause-may : goal.put_reply-requires-clause-may
 put_reply-requires-clause-may g c =
     let may = c.loop.invariant.may in
-    (may.0, may.1, may_step Allows put_reply CanMake c.len-most.result c.loop.counter (filling_of c.loop.self c.loop.fill) _ c.loop-test.true may.2)
+    (may.0, may.1, may_step _ put_reply _ c.len-most.result c.loop.counter (filling_of c.loop.self c.loop.fill) _ c.loop-test.true may.2)
 
 pub returns-then-not-put_reply-clause-calls : goal.returns-then-not-put_reply-clause-calls
 returns-then-not-put_reply-clause-calls g c = λ host faults.
-    c.loop.invariant.goes_on host faults _ _ (while_stop Allows put_reply c.len-most.result c.loop.counter (filling_of c.loop.self c.loop.fill)
-    (filling_of c.put_reply.new.self c.put_reply.new.fill) _ _ c.loop-test.true (c.if-not-put_reply.ensures.calls host faults))
+    c.loop.invariant.goes_on host faults _ _ (while_stop _ put_reply c.len-most.result c.loop.counter
+    (filling_of c.loop.self c.loop.fill) _ _ _ c.loop-test.true (c.if-not-put_reply.ensures.calls host faults))
 
 pub loop-preserved : goal.loop-preserved
 loop-preserved g c =
     let before : Filling = filling_of c.loop.self c.loop.fill in
-    let after : Filling = filling_of c.put_reply.new.self c.put_reply.new.fill in
-    let from = g.R.DeviceRing.contents c.loop.ring in
-    let to = g.R.DeviceRing.contents c.put_reply.new.ring in
     let may = c.loop.invariant.may in
     record {
-      goes_on = λ host faults x t rest. c.loop.invariant.goes_on host faults x t (while_more Allows put_reply c.len-most.result c.loop.counter before after x
-          (situation from host faults) (situation to host faults) t c.loop-test.true (c.if-not-put_reply.ensures.calls host faults) rest);
+      goes_on = λ host faults x t rest. c.loop.invariant.goes_on host faults x t (while_more _ put_reply c.len-most.result c.loop.counter before _ _ _ _ _
+          c.loop-test.true (c.if-not-put_reply.ensures.calls host faults) rest);
       may = (
         may.0,
         may.1,
-        may_more Allows put_reply CanMake c.len-most.result c.loop.counter before after (situation from may.0 may.1) (situation to may.0 may.1)
-            c.loop-test.true may.2 (c.if-not-put_reply.ensures.calls may.0 may.1),
+        may_more _ put_reply _ c.len-most.result c.loop.counter before _ _ _ c.loop-test.true may.2 (c.if-not-put_reply.ensures.calls may.0 may.1),
       );
       ring = ring_of _ _ _ _ c.loop.invariant.ring c.if-not-put_reply.ensures.beside c.if-not-put_reply.ensures.ring;
       going = c.if-not-put_reply.ensures.over refl;
@@ -40,9 +35,8 @@ loop-preserved g c =
 
 pub returns-clause-calls : goal.returns-clause-calls
 returns-clause-calls g c = λ host faults.
-    let r : Filling = filling_of c.loop.self c.loop.fill in
-    let from = situation (g.R.DeviceRing.contents c.loop.ring) host faults in
-    c.loop.invariant.goes_on host faults r from (while_end Allows put_reply c.len-most.result c.loop.counter r from c.loop-test.false)
+    c.loop.invariant.goes_on host faults _ _
+    (while_end _ put_reply c.len-most.result c.loop.counter (filling_of c.loop.self c.loop.fill) _ c.loop-test.false)
 
 pub put_reply-requires-clause-ring : goal.put_reply-requires-clause-ring
 put_reply-requires-clause-ring g c = among _ _ c.loop.invariant.ring

@@ -1,61 +1,30 @@
-use Rattle.std.proofs.Common.{◌≡◌, None, Ok, ap, ◌∙◌, rules, arith}
-use Rattle.vs_device_parts.specs.{Playing.situation, State.DeviceState}
+use Rattle.std.proofs.Common.{◌≡◌, None, ap, ◌∙◌, rules, arith}
+use Rattle.vs_device_parts.specs.State.{DeviceState}
 use Rattle.vs_device.proofs.{Among.same_ring, Resetting.may_close_all, Resetting.was_reset, Ordered.reset_honest, Ordered.reset_streamed}
 use Rattle.vs_device.proofs.{Ordered.reset_streams, Accounted.reset_accounted}
 use Rattle.vs_device.proofs.device.Device.reset.Goals as goal
 
 pub close_all-requires : goal.close_all-requires
 close_all-requires g c =
-    let s : DeviceState = c.args.self.now in
-    let sound : s.failed ≡ None = rw (← c.self.view_is) (search rules) in
-    let ring = g.R.DeviceRing.contents c.args.ring.now in
-    record { may = (ring, may_close_all c.args.cid s sound (situation ring (g.H.HostNet.contents c.args.host.now) (g.H.HostNet.faults c.args.host.now)) c.requires.may) }
+    let sound : c.args.self.now.failed ≡ None = rw (← c.self.view_is) (search rules) in
+    record { may = (_, may_close_all c.args.cid c.args.self.now sound _ c.requires.may) }
 
 pub returns-clause-calls : goal.returns-clause-calls
 returns-clause-calls g c =
-    let s : DeviceState = c.args.self.now in
-    let sound : s.failed ≡ None = rw (← c.self.view_is) (search rules) in
-    let ring = g.R.DeviceRing.contents c.args.ring.now in
-    let host = g.H.HostNet.contents c.close_all.new.host in
-    let faults = g.H.HostNet.faults c.close_all.new.host in
-    let x = situation ring (g.H.HostNet.contents c.args.host.now) (g.H.HostNet.faults c.args.host.now) in
-    let y = situation ring host faults in
-    let z = situation (g.R.DeviceRing.contents c.publish_cid.new.ring) host faults in
-    was_reset c.args.cid s sound c.close_all.new.self c.forget.new.self x y z (c.close_all.ensures.calls ring) (c.publish_cid.ensures.calls host faults) c.forget.ensures
+    let sound : c.args.self.now.failed ≡ None = rw (← c.self.view_is) (search rules) in
+    was_reset c.args.cid c.args.self.now sound _ _ _ _ _ (c.close_all.ensures.calls _) (c.publish_cid.ensures.calls _ _) c.forget.ensures
 
 pub returns-clause-streams : goal.returns-clause-streams
-returns-clause-streams g c =
-    reset_streams c.args.self.now
-    (situation (g.R.DeviceRing.contents c.args.ring.now) (g.H.HostNet.contents c.args.host.now) (g.H.HostNet.faults c.args.host.now))
-    (situation (g.R.DeviceRing.contents c.publish_cid.new.ring) (g.H.HostNet.contents c.close_all.new.host) (g.H.HostNet.faults c.close_all.new.host))
-    c.args.cid (c.forget.new.self, Ok tt)
-    (returns-clause-calls g c)
+returns-clause-streams g c = reset_streams c.args.self.now _ _ c.args.cid _ (returns-clause-calls g c)
 
 pub returns-clause-honest : goal.returns-clause-honest
-returns-clause-honest g c =
-    let low = c.requires.cid.1 in
-    reset_honest c.args.self.now
-    (situation (g.R.DeviceRing.contents c.args.ring.now) (g.H.HostNet.contents c.args.host.now) (g.H.HostNet.faults c.args.host.now))
-    (situation (g.R.DeviceRing.contents c.publish_cid.new.ring) (g.H.HostNet.contents c.close_all.new.host) (g.H.HostNet.faults c.close_all.new.host))
-    c.args.cid (c.forget.new.self, Ok tt) (omega (arith, low))
-    (returns-clause-calls g c)
+returns-clause-honest g c = let low = c.requires.cid.1 in reset_honest c.args.self.now _ _ c.args.cid _ (omega (arith, low)) (returns-clause-calls g c)
 
 pub returns-clause-streamed : goal.returns-clause-streamed
-returns-clause-streamed g c =
-    let low = c.requires.cid.1 in
-    reset_streamed c.args.self.now
-    (situation (g.R.DeviceRing.contents c.args.ring.now) (g.H.HostNet.contents c.args.host.now) (g.H.HostNet.faults c.args.host.now))
-    (situation (g.R.DeviceRing.contents c.publish_cid.new.ring) (g.H.HostNet.contents c.close_all.new.host) (g.H.HostNet.faults c.close_all.new.host))
-    c.args.cid (c.forget.new.self, Ok tt) (omega (arith, low))
-    (returns-clause-calls g c)
+returns-clause-streamed g c = let low = c.requires.cid.1 in reset_streamed c.args.self.now _ _ c.args.cid _ (omega (arith, low)) (returns-clause-calls g c)
 
 pub returns-clause-bytes : goal.returns-clause-bytes
-returns-clause-bytes g c =
-    reset_accounted c.args.self.now
-    (situation (g.R.DeviceRing.contents c.args.ring.now) (g.H.HostNet.contents c.args.host.now) (g.H.HostNet.faults c.args.host.now))
-    (situation (g.R.DeviceRing.contents c.publish_cid.new.ring) (g.H.HostNet.contents c.close_all.new.host) (g.H.HostNet.faults c.close_all.new.host))
-    c.args.cid (c.forget.new.self, Ok tt)
-    (returns-clause-calls g c)
+returns-clause-bytes g c = reset_accounted c.args.self.now _ _ c.args.cid _ (returns-clause-calls g c)
 
 pub returns-clause-held : goal.returns-clause-held
 returns-clause-held g c = c.publish_cid.ensures.held

@@ -1,21 +1,18 @@
-use Rattle.std.proofs.Common.{◌≡◌, ℕ, List, ◌<◌, ◌≤◌, length, sym, ap, subst, ◌∙◌, rules, arith}
-use Rattle.vs_contents.specs.CallTree.{for_each}
+use Rattle.std.proofs.Common.{◌≡◌, ℕ, List, ◌<◌, ◌≤◌, length, ap, ◌∙◌, rules, arith}
 use Rattle.vs_flow.specs.Table.{slots}
-use Rattle.vs_device_parts.specs.{Filling.filling_of, Playing.MayRun, Playing.Runs, Playing.situation}
+use Rattle.vs_device_parts.specs.Filling.{filling_of}
 use Rattle.vs_device_parts.specs.{Receiving.Filling, Receiving.serve_slot, Receiving.round_from, State.DeviceState}
 use Rattle.vs_device_parts.proofs.Each.{each_more, may_each_step, may_each_more, each_end}
 use Rattle.vs_device.proofs.device.Device.serve_all.Goals as goal
 
 pub loop-slot-init : goal.loop-slot-init
 loop-slot-init g c =
-    let r : Filling = filling_of c.args.self.now c.args.fill.now in
-    let from = situation (g.R.DeviceRing.contents c.args.ring.now) (g.H.HostNet.contents c.args.host.now) (g.H.HostNet.faults c.args.host.now) in
     let is : c.as_slice-slot-items.result.now ≡ round_from c.args.self.now.last_put (slots c.args.self.now.table) =
     c.as_slice-slot-items.ensures.value ∙ (c.round_from-round.ensures.round ∙ (ap (λ (xs : List ℕ). round_from c.self.inside.last_put xs) (c.as_slice.ensures.value ∙ c.all-slots.ensures.all)
     ∙ ap (λ (s : DeviceState). round_from s.last_put (slots s.table)) c.self.view_is)) in
     record {
-      goes_on = λ x t rest. let P : List ℕ → Type 0 = λ xs. Runs (for_each serve_slot xs r) from x t in subst P is rest;
-      may = let P : List ℕ → Type 0 = λ xs. MayRun (for_each serve_slot xs r) from in subst P (sym is) c.requires.may;
+      goes_on = λ x t rest. rw is at rest;
+      may = rw is c.requires.may;
       ring = c.requires.ring;
       small = omega arith;
       read = omega (arith, c.requires.none);
@@ -25,11 +22,8 @@ loop-slot-init g c =
 pub serve_slot-requires-clause-may : goal.serve_slot-requires-clause-may
 serve_slot-requires-clause-may g c =
     let xs = c.as_slice-slot-items.result.now in
-    let i = c.loop-slot.slot-index in
-    let within : i < length xs = search rules in
-    let r : Filling = filling_of c.loop-slot.self c.loop-slot.fill in
-    let from = situation (g.R.DeviceRing.contents c.loop-slot.ring) (g.H.HostNet.contents c.loop-slot.host) (g.H.HostNet.faults c.loop-slot.host) in
-    may_each_step serve_slot xs i 0 r within from c.loop-slot.invariant.may
+    let within : c.loop-slot.slot-index < length xs = search rules in
+    may_each_step serve_slot xs c.loop-slot.slot-index 0 (filling_of c.loop-slot.self c.loop-slot.fill) within _ c.loop-slot.invariant.may
 
 pub loop-slot-preserved : goal.loop-slot-preserved
 loop-slot-preserved g c =
@@ -37,12 +31,9 @@ loop-slot-preserved g c =
     let i = c.loop-slot.slot-index in
     let within : i < length xs = search rules in
     let r : Filling = filling_of c.loop-slot.self c.loop-slot.fill in
-    let from = situation (g.R.DeviceRing.contents c.loop-slot.ring) (g.H.HostNet.contents c.loop-slot.host) (g.H.HostNet.faults c.loop-slot.host) in
-    let after : Filling = filling_of c.serve_slot.new.self c.serve_slot.new.fill in
-    let to = situation (g.R.DeviceRing.contents c.serve_slot.new.ring) (g.H.HostNet.contents c.serve_slot.new.host) (g.H.HostNet.faults c.serve_slot.new.host) in
     record {
-      goes_on = λ x t rest. c.loop-slot.invariant.goes_on x t (each_more serve_slot xs i 0 r within after x from to t c.serve_slot.ensures.calls rest);
-      may = may_each_more serve_slot xs i 0 r within after from to c.loop-slot.invariant.may c.serve_slot.ensures.calls;
+      goes_on = λ x t rest. c.loop-slot.invariant.goes_on x t (each_more serve_slot xs i 0 r within _ _ _ _ _ c.serve_slot.ensures.calls rest);
+      may = may_each_more serve_slot xs i 0 r within _ _ _ c.loop-slot.invariant.may c.serve_slot.ensures.calls;
       ring = c.serve_slot.ensures.ring;
       small = omega (arith, c.loop-slot.invariant.small, c.serve_slot.ensures.count);
       read = omega (arith, c.loop-slot.invariant.read, c.serve_slot.ensures.read);
@@ -52,8 +43,5 @@ loop-slot-preserved g c =
 pub returns-clause-calls : goal.returns-clause-calls
 returns-clause-calls g c =
     let xs = c.as_slice-slot-items.result.now in
-    let i = c.loop-slot.slot-index in
-    let r : Filling = filling_of c.loop-slot.self c.loop-slot.fill in
-    let from = situation (g.R.DeviceRing.contents c.loop-slot.ring) (g.H.HostNet.contents c.loop-slot.host) (g.H.HostNet.faults c.loop-slot.host) in
-    let ends : length xs ≤ i = search rules in
-    c.loop-slot.invariant.goes_on r from (each_end serve_slot xs i r from ends)
+    let ends : length xs ≤ c.loop-slot.slot-index = search rules in
+    c.loop-slot.invariant.goes_on _ _ (each_end serve_slot xs c.loop-slot.slot-index (filling_of c.loop-slot.self c.loop-slot.fill) _ ends)

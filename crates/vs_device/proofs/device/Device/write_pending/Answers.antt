@@ -1,51 +1,34 @@
-use Rattle.std.proofs.Common.{◌≡◌, ◌≢◌, ℕ, List, length, Some, sym, ap, subst, ◌∙◌, rules, take}
-use Rattle.vs_flow.specs.Table.{entry_under, value_under}
-use Rattle.vs_ring_port.specs.Contents.{RingContents}
-use Rattle.vs_device_parts.specs.{Calls.Situation, Calls.Allows, Calls.WriteStream, State.DeviceConnection, State.DeviceState}
-use Rattle.vs_device_parts.specs.{Playing.situation, Streams.Writing, Streams.to_write, Written.writing}
+use Rattle.std.proofs.Common.{◌≡◌, ◌≢◌, length, Some, sym, ap, ◌∙◌, rules}
+use Rattle.vs_flow.specs.Table.{entry_under}
+use Rattle.vs_device_parts.specs.{Calls.WriteStream, State.DeviceConnection, State.DeviceEntry, Playing.AllowsOnHost, Streams.to_write}
+use Rattle.vs_device_parts.specs.{Written.writing}
 use Rattle.vs_device.proofs.Pumping.{may_be_answered, wrote}
 use Rattle.vs_device_parts.proofs.Under.{value_is}
+use Rattle.vs_device.proofs.device.Device.write_pending.Goals.{After-write-answer}
 use Rattle.vs_device.proofs.device.Device.write_pending.Goals as goal
+
+-- what was written is what was pending on the connection in the slot
+module _ (g : _) (c : After-write-answer g) where
+  value : (e : DeviceEntry) → entry_under c.args.self.now.table c.args.slot ≡ Some e → e.value ≡ c.in-Some.connection.now
+  value e is = value_is c.self.inside.slots c.args.slot e _ (rw (← c.self.view_is) at is) (search rules)
+
+  some : (e : DeviceEntry) → entry_under c.args.self.now.table c.args.slot ≡ Some e → length (to_write e.value) ≢ 0
+  some e is = λ none. c.if-len-eq0.false (c.copy_to_write-len.ensures.count
+      ∙ (ap (λ (v : DeviceConnection). length (to_write v)) (sym (value e is)) ∙ none))
+
+  written : (e : DeviceEntry) → entry_under c.args.self.now.table c.args.slot ≡ Some e
+      → AllowsOnHost (WriteStream e.value.stream (to_write e.value)) c.write-answer.result (g.H.HostNet.contents c.args.host.now)
+      (g.H.HostNet.faults c.args.host.now) (g.H.HostNet.contents c.write-answer.new.host) (g.H.HostNet.faults c.write-answer.new.host)
+  written e is =
+      rw (value e is, ← c.stream.ensures, ← c.copy_to_write-len.ensures.copied) c.write-answer.ensures.calls
 
 pub write_answered-requires-clause-may : goal.write_answered-requires-clause-may
 write_answered-requires-clause-may g c = λ e is.
+    let k = (goal.at.write_answered-requires-clause-may g c).After-write-answer in
     let may = c.requires.may e is in
-    let ring : RingContents = may.0 in
-    let d = c.self.inside in
-    let s : DeviceState = c.args.self.now in
-    let w : Writing = writing s c.args.wrote.now in
-    let there : value_under d.slots c.args.slot ≡ Some c.in-Some.connection.now = search rules in
-    let found : entry_under d.slots c.args.slot ≡ Some e = rw (← c.self.view_is) at is in
-    let value : e.value ≡ c.in-Some.connection.now = value_is d.slots c.args.slot e c.in-Some.connection.now found there in
-    let some : length (to_write e.value) ≢ 0 =
-    λ none. c.if-len-eq0.false (c.copy_to_write-len.ensures.count ∙ (ap (λ (v : DeviceConnection). length (to_write v)) (sym value) ∙ none)) in
-    let bytes : List ℕ = take c.copy_to_write-len.result c.copy_to_write-len.new.out in
-    let same : bytes ≡ to_write e.value = c.copy_to_write-len.ensures.copied ∙ ap (λ (v : DeviceConnection). to_write v) (sym value) in
-    let id : c.stream.result ≡ e.value.stream = c.stream.ensures ∙ ap (λ (v : DeviceConnection). v.stream) (sym value) in
-    let x : Situation = situation ring (g.H.HostNet.contents c.args.host.now) (g.H.HostNet.faults c.args.host.now) in
-    let y : Situation = situation ring (g.H.HostNet.contents c.write-answer.new.host) (g.H.HostNet.faults c.write-answer.new.host) in
-    let P : List ℕ → Type 0 = λ b. Allows (WriteStream c.stream.result b) c.write-answer.result x y in
-    let Q : ℕ → Type 0 = λ n. Allows (WriteStream n (to_write e.value)) c.write-answer.result x y in
-    let allowed : Allows (WriteStream e.value.stream (to_write e.value)) c.write-answer.result x y = subst Q id (subst P same (c.write-answer.ensures.calls ring)) in
-    (ring, may_be_answered e w some c.write-answer.result x y may.1 allowed)
+    (may.0, may_be_answered e (writing c.args.self.now c.args.wrote.now) (some g k e is) _ _ _ may.1 (written g k e is may.0))
 
 pub returns-clause-calls : goal.returns-clause-calls
 returns-clause-calls g c = λ e is ring.
-    let d = c.self.inside in
-    let s : DeviceState = c.args.self.now in
-    let w : Writing = writing s c.args.wrote.now in
-    let there : value_under d.slots c.args.slot ≡ Some c.in-Some.connection.now = search rules in
-    let found : entry_under d.slots c.args.slot ≡ Some e = rw (← c.self.view_is) at is in
-    let value : e.value ≡ c.in-Some.connection.now = value_is d.slots c.args.slot e c.in-Some.connection.now found there in
-    let some : length (to_write e.value) ≢ 0 =
-    λ none. c.if-len-eq0.false (c.copy_to_write-len.ensures.count ∙ (ap (λ (v : DeviceConnection). length (to_write v)) (sym value) ∙ none)) in
-    let bytes : List ℕ = take c.copy_to_write-len.result c.copy_to_write-len.new.out in
-    let same : bytes ≡ to_write e.value = c.copy_to_write-len.ensures.copied ∙ ap (λ (v : DeviceConnection). to_write v) (sym value) in
-    let id : c.stream.result ≡ e.value.stream = c.stream.ensures ∙ ap (λ (v : DeviceConnection). v.stream) (sym value) in
-    let x : Situation = situation ring (g.H.HostNet.contents c.args.host.now) (g.H.HostNet.faults c.args.host.now) in
-    let y : Situation = situation ring (g.H.HostNet.contents c.write-answer.new.host) (g.H.HostNet.faults c.write-answer.new.host) in
-    let P : List ℕ → Type 0 = λ b. Allows (WriteStream c.stream.result b) c.write-answer.result x y in
-    let Q : ℕ → Type 0 = λ n. Allows (WriteStream n (to_write e.value)) c.write-answer.result x y in
-    let allowed : Allows (WriteStream e.value.stream (to_write e.value)) c.write-answer.result x y = subst Q id (subst P same (c.write-answer.ensures.calls ring)) in
-    let z : Situation = situation ring (g.H.HostNet.contents c.write_answered.new.host) (g.H.HostNet.faults c.write_answered.new.host) in
-    wrote e w some c.write-answer.result x y z (writing c.write_answered.new.self c.write_answered.new.wrote) allowed (c.write_answered.ensures.calls e is ring)
+    let k = (goal.at.returns-clause-calls g c).After-write-answer in
+    wrote e (writing c.args.self.now c.args.wrote.now) (some g k e is) _ _ _ _ _ (written g k e is ring) (c.write_answered.ensures.calls e is ring)

@@ -2,7 +2,8 @@ use Rattle.std.proofs.Common.{◌≡◌, None, is_some, sym, ap, ◌∙◌, rule
 use Rattle.vs_driver_parts.specs.{State.DriverEntry, State.DriverState, State.entry_known_as, Connections.after_close, Connections.state_of}
 use Rattle.vs_driver.specs.contracts.driver.Driver.{the_view}
 use Rattle.vs_driver_parts.proofs.Known.{KnownAt, known_at, close_known, after_close_known, unmapped}
-use Rattle.vs_driver.proofs.{Kept.close_kept, Pipes.gone_close_others, Pipes.gone_close_unknown, Pipes.known_close_others, Pipes.others_by}
+use Rattle.laws_driver.proofs.Changing.{close_changes}
+use Rattle.vs_driver.proofs.{Kept.kept, Pipes.gone_close_others, Pipes.gone_close_unknown, Pipes.known_close_others, Pipes.others_by}
 use Rattle.vs_flow.specs.Table.{IsTable}
 use Rattle.vs_driver.proofs.driver.Driver.close.Goals as goal
 
@@ -29,7 +30,8 @@ returns-in-Some-clause-unknown c =
     c.close_in.ensures.unknown k.entry k.found k.id_is
 
 pub returns-in-Some-clause-honest : goal.returns-in-Some-clause-honest
-returns-in-Some-clause-honest c = λ first r honest. close_kept first c.args.self.now _ r honest c.args.id (returns-in-Some-clause-state c)
+returns-in-Some-clause-honest c =
+    λ first r honest. kept first _ _ _ r (close_changes c.args.id c.args.self.now) (returns-in-Some-clause-state c) honest
 
 pub returns-in-None-clause-others : goal.returns-in-None-clause-others
 returns-in-None-clause-others c =
@@ -49,4 +51,4 @@ pub returns-in-None-clause-honest : goal.returns-in-None-clause-honest
 returns-in-None-clause-honest c = λ first r honest.
     let t : DriverState = c.close_gone.new.self in
     let is : t ≡ after_close c.args.id c.args.self.now = search rules in
-    close_kept first c.args.self.now t r honest c.args.id is
+    kept first _ t _ r (close_changes c.args.id c.args.self.now) is honest

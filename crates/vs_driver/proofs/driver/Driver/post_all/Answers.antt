@@ -1,22 +1,24 @@
 use Rattle.std.proofs.Common.{ℕ, sym, ap, ◌∙◌}
-use Rattle.vs_contents.proofs.{Leads.leads_bind, Conditions.may_first, Conditions.may_rest}
-use Rattle.vs_driver_parts.specs.{State.DriverState, Playing.CanMake, Playing.RingAllows, Conversations.publish_of, Conversations.posts}
+use Rattle.vs_driver_parts.specs.{State.DriverState, Conversations.post_all, Conversations.posts, Conversations.publish_of}
+use Rattle.vs_driver.proofs.Rest.{all_left, may_next, then}
 use Rattle.vs_driver.proofs.driver.Driver.post_all.Goals as goal
 
 pub stage_all-requires-clause-may : goal.stage_all-requires-clause-may
 stage_all-requires-clause-may g c =
-    may_first CanMake RingAllows (posts c.args.queue c.args.self.now) (publish_of c.args.queue) (g.R.DriverRing.contents c.args.ring.now) c.requires.may
+    may_next (posts c.args.queue c.args.self.now) (publish_of c.args.queue) (all_left (post_all c.args.queue c.args.self.now) _)
+    c.requires.may
 
 pub publish_staged-requires-clause-may : goal.publish_staged-requires-clause-may
 publish_staged-requires-clause-may g c =
-    may_rest CanMake RingAllows (posts c.args.queue c.args.self.now) (publish_of c.args.queue) (g.R.DriverRing.contents c.args.ring.now)
-    (g.R.DriverRing.contents c.stage_all.new.ring) c.stage_all.new.self c.requires.may c.stage_all.ensures.calls
+    (then (posts c.args.queue c.args.self.now) (publish_of c.args.queue) (all_left (post_all c.args.queue c.args.self.now) _)
+    c.stage_all.new.self _ c.stage_all.ensures.calls).may
+    c.requires.may
 
 pub returns-clause-calls : goal.returns-clause-calls
 returns-clause-calls g c =
-    leads_bind RingAllows (posts c.args.queue c.args.self.now) (publish_of c.args.queue) (g.R.DriverRing.contents c.args.ring.now)
-    (g.R.DriverRing.contents c.stage_all.new.ring) (g.R.DriverRing.contents c.publish_staged.new.ring) c.stage_all.new.self c.publish_staged.new.self
-    c.stage_all.ensures.calls c.publish_staged.ensures.calls
+    (then (posts c.args.queue c.args.self.now) (publish_of c.args.queue) (all_left (post_all c.args.queue c.args.self.now) _)
+    c.stage_all.new.self _ c.stage_all.ensures.calls).goes_on
+    _ _ c.publish_staged.ensures.calls
 
 pub returns-clause-state : goal.returns-clause-state
 returns-clause-state g c =

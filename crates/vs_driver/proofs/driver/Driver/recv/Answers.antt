@@ -4,7 +4,8 @@ use Rattle.vs_driver_parts.specs.Connections.{bytes_read, after_recv, recv_of, u
 use Rattle.vs_driver.specs.contracts.driver.Driver.{the_view}
 use Rattle.vs_flow.specs.Table.{IsTable}
 use Rattle.vs_driver_parts.proofs.Known.{KnownAt, known_at, recv_known, unread_known, after_recv_known, unmapped}
-use Rattle.vs_driver.proofs.Kept.{recv_kept}
+use Rattle.laws_driver.proofs.Changing.{recv_changes}
+use Rattle.vs_driver.proofs.Kept.{kept}
 use Rattle.vs_driver.proofs.Pipes.{others_by, pipe_by, known_recv_others, known_recv_pipe, gone_recv_others, gone_recv_pipe}
 use Rattle.vs_driver.proofs.driver.Driver.recv.Goals as goal
 
@@ -39,7 +40,8 @@ returns-in-Some-clause-others c =
     others_by c.args.id s c.recv_in.new.self _ (returns-in-Some-clause-state c) (known_recv_others c.args.id s k.entry sound k.known (length c.args.out.now))
 
 pub returns-in-Some-clause-honest : goal.returns-in-Some-clause-honest
-returns-in-Some-clause-honest c = λ first r honest. recv_kept first c.args.self.now _ r honest c.args.id (length c.args.out.now) (returns-in-Some-clause-state c)
+returns-in-Some-clause-honest c = λ first r honest.
+    kept first _ _ _ r (recv_changes c.args.id (length c.args.out.now) c.args.self.now) (returns-in-Some-clause-state c) honest
 
 pub returns-in-None-clause-pipe : goal.returns-in-None-clause-pipe
 returns-in-None-clause-pipe c =
@@ -62,4 +64,4 @@ pub returns-in-None-clause-honest : goal.returns-in-None-clause-honest
 returns-in-None-clause-honest c = λ first r honest.
     let t : DriverState = c.recv_gone.new.self in
     let is : t ≡ after_recv c.args.id (length c.args.out.now) c.args.self.now = search rules in
-    recv_kept first c.args.self.now t r honest c.args.id (length c.args.out.now) is
+    kept first _ t _ r (recv_changes c.args.id (length c.args.out.now) c.args.self.now) is honest

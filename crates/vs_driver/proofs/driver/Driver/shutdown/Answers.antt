@@ -1,7 +1,8 @@
 use Rattle.std.proofs.Common.{sym, ap, ◌∙◌}
 use Rattle.vs_driver.specs.contracts.driver.Driver.{the_view}
 use Rattle.vs_driver_parts.proofs.Known.{KnownAt, known_at, shutdown_known, after_shutdown_known}
-use Rattle.vs_driver.proofs.Kept.{shutdown_kept}
+use Rattle.laws_driver.proofs.Changing.{shutdown_changes}
+use Rattle.vs_driver.proofs.Kept.{kept}
 use Rattle.vs_driver.proofs.Pipes.{dropped_by, known_dropped, known_kept, known_shutdown_others, others_by, unchanged_by}
 use Rattle.vs_driver_parts.specs.{Connections.unread_of_id, State.DriverState}
 use Rattle.vs_flow.specs.Table.{IsTable}
@@ -46,4 +47,5 @@ returns-in-Some-clause-kept c = λ going still.
     ap (unread_of_id c.args.id) (returns-in-Some-clause-state c) ∙ known_kept c.args.id s k.entry sound k.known c.args.bits going still
 
 pub returns-in-Some-clause-honest : goal.returns-in-Some-clause-honest
-returns-in-Some-clause-honest c = λ first r honest. shutdown_kept first c.args.self.now _ r honest c.args.id c.args.bits (returns-in-Some-clause-state c)
+returns-in-Some-clause-honest c = λ first r honest.
+    kept first c.args.self.now _ _ r (shutdown_changes c.args.id c.args.bits c.args.self.now) (returns-in-Some-clause-state c) honest

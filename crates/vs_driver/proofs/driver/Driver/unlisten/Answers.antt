@@ -2,7 +2,8 @@ use Rattle.std.proofs.Common.{◌≡◌, ℕ, List, length, drop, get_or, ◌<�
 use Rattle.vs_driver_parts.specs.State.{DriverState, Listener}
 use Rattle.vs_driver_parts.specs.Connections.{waiting_on, all_closed, after_close, without_listener}
 use Rattle.vs_driver.specs.contracts.driver.Driver.{the_view}
-use Rattle.vs_driver.proofs.{Reading.closed_next, Reading.closed_ended, Kept.unlisten_kept}
+use Rattle.laws_driver.proofs.Changing.{unlisten_changes}
+use Rattle.vs_driver.proofs.{Kept.kept, Reading.closed_next, Reading.closed_ended}
 use Rattle.vs_driver.proofs.driver.Driver.unlisten.Goals as goal
 
 pub loop-id-preserved : goal.loop-id-preserved
@@ -33,4 +34,5 @@ returns-clause-state c =
     ∙ ap (λ (x : DriverState). record x { listeners = without_listener c.args.port x.listeners }) (c.self-2.view_is ∙ all)
 
 pub returns-clause-honest : goal.returns-clause-honest
-returns-clause-honest c = λ first r honest. unlisten_kept first c.args.self.now _ r honest c.args.port (returns-clause-state c)
+returns-clause-honest c =
+    λ first r honest. kept first c.args.self.now _ _ r (unlisten_changes c.args.port c.args.self.now) (returns-clause-state c) honest

@@ -1,14 +1,8 @@
 use Rattle.std.proofs.Common.{◌≡◌, ℕ, Some, sym, ap, subst, ◌∙◌, rules}
 use Rattle.vs_flow.specs.Table.{value_under, with_value}
 use Rattle.vs_driver_parts.specs.{State.DriverConnection, Held.HeldSlots, Held.KnowsNone, contracts.slots.Slots.the_view}
-use Rattle.vs_driver_parts.proofs.{SameIds.closing_id, SameIds.closing_closed, SlotChanges.kept_with_connection, SlotChanges.knows_none}
+use Rattle.vs_driver_parts.proofs.{SameIds.closing_id, SameIds.closing_closed, SlotChanges.knows_none}
 use Rattle.vs_driver_parts.proofs.slots.Slots.close.Goals as goal
-
-pub invariant_of-self-2 : goal.invariant_of-self-2
-invariant_of-self-2 c =
-    let is : value_under c.self.inside.table c.args.slot ≡ Some c.in-Some.connection.now = search rules in
-    kept_with_connection c.self.inside c.args.slot c.in-Some.connection.now c.close.new.self c.self.invariant is
-    (ap (λ (x : DriverConnection). x.id) c.close.ensures ∙ closing_id c.in-Some.connection.now.end.state c.in-Some.connection.now)
 
 pub returns-clause-unknown : goal.returns-clause-unknown
 returns-clause-unknown c = λ x found.

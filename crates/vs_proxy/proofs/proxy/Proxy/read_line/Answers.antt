@@ -1,6 +1,5 @@
 use Rattle.std.proofs.Common.{ap, ◌∙◌, arith}
 use Rattle.vs_contents.proofs.Loops.{while_more, while_stop, while_end, may_step, may_more}
-use Rattle.vs_device_parts.specs.{Calls.Allows, Playing.CanMake, Playing.situation}
 use Rattle.vs_proxy_parts.specs.{Handshakes.read_byte, State.Turning, Turning.turning_of, declared.tally.Tally.Tally}
 use Rattle.vs_proxy.proofs.Counting.{few_more, few_then}
 use Rattle.vs_proxy.proofs.proxy.Proxy.read_line.Goals as goal
@@ -8,12 +7,12 @@ use Rattle.vs_proxy.proofs.proxy.Proxy.read_line.Goals as goal
 pub read_byte-requires-clause-may : goal.read_byte-requires-clause-may
 read_byte-requires-clause-may g c =
     let may = c.loop.invariant.may in
-    (may.0, may_step Allows (read_byte c.args.stream) CanMake 32 c.loop.counter (turning_of c.loop.self c.loop.tally) _ c.loop-test.true may.1)
+    (may.0, may_step _ (read_byte c.args.stream) _ 32 c.loop.counter (turning_of c.loop.self c.loop.tally) _ c.loop-test.true may.1)
 
 pub returns-then-not-read_byte-clause-calls : goal.returns-then-not-read_byte-clause-calls
 returns-then-not-read_byte-clause-calls g c = λ ring.
-    c.loop.invariant.goes_on ring _ _ (while_stop Allows (read_byte c.args.stream) 32 c.loop.counter (turning_of c.loop.self c.loop.tally) (turning_of c.read_byte.new.self c.read_byte.new.tally)
-    _ _ c.loop-test.true (c.if-not-read_byte.ensures.calls ring))
+    c.loop.invariant.goes_on ring _ _ (while_stop _ (read_byte c.args.stream) 32 c.loop.counter (turning_of c.loop.self c.loop.tally) _ _ _
+    c.loop-test.true (c.if-not-read_byte.ensures.calls ring))
 
 pub returns-then-not-read_byte-clause-opened : goal.returns-then-not-read_byte-clause-opened
 returns-then-not-read_byte-clause-opened g c =
@@ -27,20 +26,11 @@ returns-then-not-read_byte-clause-others g c =
 pub loop-preserved : goal.loop-preserved
 loop-preserved g c =
     let before : Turning = turning_of c.loop.self c.loop.tally in
-    let after : Turning = turning_of c.read_byte.new.self c.read_byte.new.tally in
-    let host = g.H.HostNet.contents c.loop.host in
-    let faults = g.H.HostNet.faults c.loop.host in
-    let host' = g.H.HostNet.contents c.read_byte.new.host in
-    let faults' = g.H.HostNet.faults c.read_byte.new.host in
     let may = c.loop.invariant.may in
     record {
-      goes_on = λ ring x t rest. c.loop.invariant.goes_on ring x t (while_more Allows (read_byte c.args.stream) 32 c.loop.counter before after x
-          (situation ring host faults) (situation ring host' faults') t c.loop-test.true (c.if-not-read_byte.ensures.calls ring) rest);
-      may = (
-        may.0,
-        may_more Allows (read_byte c.args.stream) CanMake 32 c.loop.counter before after (situation may.0 host faults) (situation may.0 host' faults')
-            c.loop-test.true may.1 (c.if-not-read_byte.ensures.calls may.0),
-      );
+      goes_on = λ ring x t rest. c.loop.invariant.goes_on ring x t (while_more _ (read_byte c.args.stream) 32 c.loop.counter before _ _ _ _ _
+          c.loop-test.true (c.if-not-read_byte.ensures.calls ring) rest);
+      may = (may.0, may_more _ (read_byte c.args.stream) _ 32 c.loop.counter before _ _ _ c.loop-test.true may.1 (c.if-not-read_byte.ensures.calls may.0));
       within = omega (arith, c.loop-test.true);
       small = omega (arith, c.loop.invariant.small, c.if-not-read_byte.ensures.count);
       read = omega (arith, c.loop.invariant.read, c.if-not-read_byte.ensures.read);
@@ -52,9 +42,7 @@ loop-preserved g c =
 
 pub returns-clause-calls : goal.returns-clause-calls
 returns-clause-calls g c = λ ring.
-    let t : Turning = turning_of c.loop.self c.loop.tally in
-    let from = situation ring (g.H.HostNet.contents c.loop.host) (g.H.HostNet.faults c.loop.host) in
-    c.loop.invariant.goes_on ring t from (while_end Allows (read_byte c.args.stream) 32 c.loop.counter t from c.loop-test.false)
+    c.loop.invariant.goes_on ring _ _ (while_end _ (read_byte c.args.stream) 32 c.loop.counter (turning_of c.loop.self c.loop.tally) _ c.loop-test.false)
 
 pub returns-clause-opened : goal.returns-clause-opened
 returns-clause-opened g c = few_more _ 0 _ 0 _ _ (omega (arith, c.loop.invariant.within)) (omega arith) c.loop.invariant.opened

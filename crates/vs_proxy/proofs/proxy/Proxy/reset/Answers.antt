@@ -1,42 +1,27 @@
 use Rattle.std.proofs.Common.{arith}
-use Rattle.vs_device_parts.specs.Playing.{situation}
 use Rattle.laws_proxy.proofs.Ordered.{reset_honest, reset_may, reset_streamed, reset_streams}
 use Rattle.laws_proxy_bytes.proofs.{Packets.reset_counts, Packets.reset_faults, Packets.reset_takes_none, Turning.reset_accounted}
 use Rattle.vs_proxy.proofs.proxy.Proxy.reset.Goals as goal
 
 pub reset_all-requires-clause-may : goal.reset_all-requires-clause-may
-reset_all-requires-clause-may g c =
-    reset_may c.requires.order.0 c.args.cid c.args.self.now
-    (situation (g.R.DeviceRing.contents c.args.ring.now) (g.H.HostNet.contents c.args.host.now) (g.H.HostNet.faults c.args.host.now)) c.requires.order.1
+reset_all-requires-clause-may g c = reset_may c.requires.order.0 c.args.cid c.args.self.now _ c.requires.order.1
 
 pub returns-clause-ring : goal.returns-clause-ring
 returns-clause-ring g c = c.reset_all.ensures.ring c.requires.ring
 
 pub returns-clause-streams : goal.returns-clause-streams
-returns-clause-streams g c =
-    let x = situation (g.R.DeviceRing.contents c.args.ring.now) (g.H.HostNet.contents c.args.host.now) (g.H.HostNet.faults c.args.host.now) in
-    let z = situation (g.R.DeviceRing.contents c.reset_all.new.ring) (g.H.HostNet.contents c.reset_all.new.host) (g.H.HostNet.faults c.reset_all.new.host) in
-    reset_streams c.args.self.now x z c.args.cid (c.reset_all.new.self, c.reset_all.result) c.reset_all.ensures.calls
+returns-clause-streams g c = reset_streams c.args.self.now _ _ c.args.cid _ c.reset_all.ensures.calls
 
 pub returns-clause-honest : goal.returns-clause-honest
 returns-clause-honest g c =
-    let x = situation (g.R.DeviceRing.contents c.args.ring.now) (g.H.HostNet.contents c.args.host.now) (g.H.HostNet.faults c.args.host.now) in
-    let z = situation (g.R.DeviceRing.contents c.reset_all.new.ring) (g.H.HostNet.contents c.reset_all.new.host) (g.H.HostNet.faults c.reset_all.new.host) in
-    let low = c.requires.cid.1 in
-    reset_honest c.args.self.now x z c.args.cid (c.reset_all.new.self, c.reset_all.result) (omega (arith, low)) c.reset_all.ensures.calls
+    let low = c.requires.cid.1 in reset_honest c.args.self.now _ _ c.args.cid _ (omega (arith, low)) c.reset_all.ensures.calls
 
 pub returns-clause-streamed : goal.returns-clause-streamed
 returns-clause-streamed g c =
-    let x = situation (g.R.DeviceRing.contents c.args.ring.now) (g.H.HostNet.contents c.args.host.now) (g.H.HostNet.faults c.args.host.now) in
-    let z = situation (g.R.DeviceRing.contents c.reset_all.new.ring) (g.H.HostNet.contents c.reset_all.new.host) (g.H.HostNet.faults c.reset_all.new.host) in
-    let low = c.requires.cid.1 in
-    reset_streamed c.args.self.now x z c.args.cid (c.reset_all.new.self, c.reset_all.result) (omega (arith, low)) c.reset_all.ensures.calls
+    let low = c.requires.cid.1 in reset_streamed c.args.self.now _ _ c.args.cid _ (omega (arith, low)) c.reset_all.ensures.calls
 
 pub returns-clause-bytes : goal.returns-clause-bytes
-returns-clause-bytes g c =
-    let x = situation (g.R.DeviceRing.contents c.args.ring.now) (g.H.HostNet.contents c.args.host.now) (g.H.HostNet.faults c.args.host.now) in
-    let z = situation (g.R.DeviceRing.contents c.reset_all.new.ring) (g.H.HostNet.contents c.reset_all.new.host) (g.H.HostNet.faults c.reset_all.new.host) in
-    reset_accounted c.args.cid c.args.self.now x z (c.reset_all.new.self, c.reset_all.result) c.reset_all.ensures.calls
+returns-clause-bytes g c = reset_accounted c.args.cid c.args.self.now _ _ _ c.reset_all.ensures.calls
 
 pub returns-clause-none_taken : goal.returns-clause-none_taken
 returns-clause-none_taken g c calls later = reset_takes_none c.args.cid c.args.self.now calls later (c.reset_all.new.self, c.reset_all.result)
@@ -46,7 +31,4 @@ returns-clause-counts g c calls later leads first =
     reset_counts c.args.cid c.args.self.now calls later (c.reset_all.new.self, c.reset_all.result) first leads
 
 pub returns-clause-faults : goal.returns-clause-faults
-returns-clause-faults g c =
-    let x = situation (g.R.DeviceRing.contents c.args.ring.now) (g.H.HostNet.contents c.args.host.now) (g.H.HostNet.faults c.args.host.now) in
-    let z = situation (g.R.DeviceRing.contents c.reset_all.new.ring) (g.H.HostNet.contents c.reset_all.new.host) (g.H.HostNet.faults c.reset_all.new.host) in
-    reset_faults c.args.cid c.args.self.now x z (c.reset_all.new.self, c.reset_all.result) c.reset_all.ensures.calls
+returns-clause-faults g c = reset_faults c.args.cid c.args.self.now _ _ _ c.reset_all.ensures.calls

@@ -1,16 +1,15 @@
 use Rattle.std.proofs.Common.{ap, ◌∙◌, arith}
 use Rattle.vs_contents.proofs.Loops.{while_more, while_stop, while_end, may_step, may_more}
-use Rattle.vs_device_parts.specs.{Calls.Allows, Playing.CanMake, Playing.situation}
 use Rattle.vs_proxy_parts.specs.{State.Turning, Turning.turning_of, Turns.take_one, declared.tally.Tally.Tally}
 use Rattle.vs_proxy.proofs.Counting.{few_more, few_then}
 use Rattle.vs_proxy.proofs.proxy.Proxy.take_packets.Goals as goal
 
 pub take_one-requires-clause-may : goal.take_one-requires-clause-may
-take_one-requires-clause-may g c = may_step Allows take_one CanMake c.args.size c.loop.counter (turning_of c.loop.self c.loop.tally) _ c.loop-test.true c.loop.invariant.may
+take_one-requires-clause-may g c = may_step _ take_one _ c.args.size c.loop.counter (turning_of c.loop.self c.loop.tally) _ c.loop-test.true c.loop.invariant.may
 
 pub returns-then-not-take_one-clause-calls : goal.returns-then-not-take_one-clause-calls
 returns-then-not-take_one-clause-calls g c =
-    c.loop.invariant.goes_on _ _ (while_stop Allows take_one c.args.size c.loop.counter (turning_of c.loop.self c.loop.tally) (turning_of c.take_one.new.self c.take_one.new.tally) _ _
+    c.loop.invariant.goes_on _ _ (while_stop _ take_one c.args.size c.loop.counter (turning_of c.loop.self c.loop.tally) _ _ _
     c.loop-test.true c.if-not-take_one.ensures.calls)
 
 pub returns-then-not-take_one-clause-opened : goal.returns-then-not-take_one-clause-opened
@@ -24,12 +23,9 @@ returns-then-not-take_one-clause-others g c =
 pub loop-preserved : goal.loop-preserved
 loop-preserved g c =
     let before : Turning = turning_of c.loop.self c.loop.tally in
-    let after : Turning = turning_of c.take_one.new.self c.take_one.new.tally in
-    let from = situation (g.R.DeviceRing.contents c.loop.ring) (g.H.HostNet.contents c.loop.host) (g.H.HostNet.faults c.loop.host) in
-    let to = situation (g.R.DeviceRing.contents c.take_one.new.ring) (g.H.HostNet.contents c.take_one.new.host) (g.H.HostNet.faults c.take_one.new.host) in
     record {
-      goes_on = λ x t rest. c.loop.invariant.goes_on x t (while_more Allows take_one c.args.size c.loop.counter before after x from to t c.loop-test.true c.if-not-take_one.ensures.calls rest);
-      may = may_more Allows take_one CanMake c.args.size c.loop.counter before after from to c.loop-test.true c.loop.invariant.may c.if-not-take_one.ensures.calls;
+      goes_on = λ x t rest. c.loop.invariant.goes_on x t (while_more _ take_one c.args.size c.loop.counter before _ _ _ _ _ c.loop-test.true c.if-not-take_one.ensures.calls rest);
+      may = may_more _ take_one _ c.args.size c.loop.counter before _ _ _ c.loop-test.true c.loop.invariant.may c.if-not-take_one.ensures.calls;
       ring = c.if-not-take_one.ensures.ring;
       within = omega (arith, c.loop-test.true);
       small = omega (arith, c.loop.invariant.small, c.if-not-take_one.ensures.count);
@@ -39,9 +35,7 @@ loop-preserved g c =
 
 pub returns-clause-calls : goal.returns-clause-calls
 returns-clause-calls g c =
-    let t : Turning = turning_of c.loop.self c.loop.tally in
-    let from = situation (g.R.DeviceRing.contents c.loop.ring) (g.H.HostNet.contents c.loop.host) (g.H.HostNet.faults c.loop.host) in
-    c.loop.invariant.goes_on t from (while_end Allows take_one c.args.size c.loop.counter t from c.loop-test.false)
+    c.loop.invariant.goes_on _ _ (while_end _ take_one c.args.size c.loop.counter (turning_of c.loop.self c.loop.tally) _ c.loop-test.false)
 
 pub returns-clause-opened : goal.returns-clause-opened
 returns-clause-opened g c = few_more _ _ _ _ _ _ (omega (arith, c.loop.invariant.within)) (omega (arith, c.loop.invariant.within)) c.loop.invariant.opened

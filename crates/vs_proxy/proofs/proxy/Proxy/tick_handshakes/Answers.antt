@@ -1,6 +1,4 @@
-use Rattle.std.proofs.Common.{◌≡◌, ℕ, List, ◌<◌, ◌≤◌, length, refl, sym, ap, subst, ◌∙◌, rules, arith}
-use Rattle.vs_contents.specs.CallTree.{for_each}
-use Rattle.vs_device_parts.specs.Playing.{MayRun, Runs, situation}
+use Rattle.std.proofs.Common.{◌≡◌, ◌<◌, ◌≤◌, length, refl, ap, ◌∙◌, rules, arith}
 use Rattle.vs_device_parts.proofs.Each.{each_more, may_each_step, may_each_more, each_end}
 use Rattle.vs_proxy_parts.specs.{Handshakes.streams_of, Handshakes.tick_handshake, State.ProxyState, State.Turning, Turning.turning_of}
 use Rattle.vs_proxy_parts.specs.declared.tally.Tally.{Tally}
@@ -10,13 +8,10 @@ use Rattle.vs_proxy.proofs.proxy.Proxy.tick_handshakes.Goals as goal
 pub loop-stream-init : goal.loop-stream-init
 loop-stream-init g c =
     let s : ProxyState = c.args.self.now in
-    let t : Turning = turning_of s c.args.tally.now in
-    let host = g.H.HostNet.contents c.args.host.now in
-    let faults = g.H.HostNet.faults c.args.host.now in
     let is : c.as_slice-stream-items.result.now ≡ streams_of s = c.as_slice-stream-items.ensures.value ∙ (c.streams-streams.ensures ∙ ap streams_of c.self.view_is) in
     record {
-      goes_on = λ ring x m rest. let P : List ℕ → Type 0 = λ xs. Runs (for_each tick_handshake xs t) (situation ring host faults) x m in subst P is rest;
-      may = let P : List ℕ → Type 0 = λ xs. MayRun (for_each tick_handshake xs t) (situation c.requires.may.0 host faults) in (c.requires.may.0, subst P (sym is) c.requires.may.1);
+      goes_on = λ ring x m rest. rw is at rest;
+      may = (c.requires.may.0, rw is c.requires.may.1);
       small = omega (arith, c.requires.few);
       few = c.as_slice-stream-items.ensures.fits;
       others = refl;
@@ -29,9 +24,8 @@ tick_handshake-requires-clause-may g c =
     let xs = c.as_slice-stream-items.result.now in
     let i = c.loop-stream.stream-index in
     let within : i < length xs = search rules in
-    let t : Turning = turning_of c.loop-stream.self c.loop-stream.tally in
     let may = c.loop-stream.invariant.may in
-    (may.0, may_each_step tick_handshake xs i 0 t within _ may.1)
+    (may.0, may_each_step tick_handshake xs i 0 (turning_of c.loop-stream.self c.loop-stream.tally) within _ may.1)
 
 pub loop-stream-preserved : goal.loop-stream-preserved
 loop-stream-preserved g c =
@@ -39,16 +33,11 @@ loop-stream-preserved g c =
     let i = c.loop-stream.stream-index in
     let within : i < length xs = search rules in
     let t : Turning = turning_of c.loop-stream.self c.loop-stream.tally in
-    let u : Turning = turning_of c.tick_handshake.new.self c.tick_handshake.new.tally in
-    let host = g.H.HostNet.contents c.loop-stream.host in
-    let faults = g.H.HostNet.faults c.loop-stream.host in
-    let host' = g.H.HostNet.contents c.tick_handshake.new.host in
-    let faults' = g.H.HostNet.faults c.tick_handshake.new.host in
     let may = c.loop-stream.invariant.may in
     record {
       goes_on = λ ring x m rest. c.loop-stream.invariant.goes_on ring x m
-          (each_more tick_handshake xs i 0 t within u x (situation ring host faults) (situation ring host' faults') m (c.tick_handshake.ensures.calls ring) rest);
-      may = (may.0, may_each_more tick_handshake xs i 0 t within u (situation may.0 host faults) (situation may.0 host' faults') may.1 (c.tick_handshake.ensures.calls may.0));
+          (each_more tick_handshake xs i 0 t within _ _ _ _ _ (c.tick_handshake.ensures.calls ring) rest);
+      may = (may.0, may_each_more tick_handshake xs i 0 t within _ _ _ may.1 (c.tick_handshake.ensures.calls may.0));
       small = omega (arith, c.loop-stream.invariant.small, c.tick_handshake.ensures.count);
       few = c.loop-stream.invariant.few;
       others = c.tick_handshake.ensures.others ∙ ap (λ (x : Tally). record x { hands = c.tick_handshake.new.tally.hands }) c.loop-stream.invariant.others;
@@ -59,8 +48,6 @@ loop-stream-preserved g c =
 pub returns-clause-calls : goal.returns-clause-calls
 returns-clause-calls g c = λ ring.
     let xs = c.as_slice-stream-items.result.now in
-    let i = c.loop-stream.stream-index in
     let t : Turning = turning_of c.loop-stream.self c.loop-stream.tally in
-    let from = situation ring (g.H.HostNet.contents c.loop-stream.host) (g.H.HostNet.faults c.loop-stream.host) in
-    let ends : length xs ≤ i = search rules in
-    c.loop-stream.invariant.goes_on ring t from (each_end tick_handshake xs i t from ends)
+    let ends : length xs ≤ c.loop-stream.stream-index = search rules in
+    c.loop-stream.invariant.goes_on ring t _ (each_end tick_handshake xs c.loop-stream.stream-index t _ ends)

@@ -1,0 +1,86 @@
+-- Calls and polls keep the account.
+use Rattle.std.proofs.Common.{◌≡◌, ℕ, true, List, ◌++◌, Option, Some, None, refl, sym, ap, subst, ◌∙◌, append-nil}
+use Rattle.vs_ring_port.specs.{Contents.RingContents, EndLog.EndLog}
+use Rattle.vs_driver_parts.specs.{Conversations.DriverTree, Conversations.poll_of, Playing.Plays, State.DriverState}
+use Rattle.vs_driver_parts.specs.declared.answers.Polled.{Polled}
+use Rattle.laws_driver.specs.Honest.{IsHonestWith, slots_of}
+use Rattle.laws_driver.proofs.{Keeping.keeps_end, Ringing.agrees, Staging.Rests}
+use Rattle.laws_driver_bytes.specs.Calls.{GuestCall, Journal, ReplyTo, account_of, is_right, received_by, sent_of, whole_call, with_call}
+use Rattle.laws_driver_bytes.specs.{Received.AreReceived, Received.IsReceivedWith, Sent.TellsMore}
+use Rattle.laws_driver_bytes.proofs.{Ending.poll_ends, Growing.honest_stays, Growing.log_grows, Journaling.journaled, Journaling.sent_just}
+use Rattle.laws_driver_bytes.proofs.Making.{at_first, call_sent, further_as, sent_with, whole_with}
+use Rattle.laws_driver_bytes.proofs.Sending.{begins, poll_sent}
+use Rattle.laws_apps.specs.Accounts.{IsAccounted, sent_to}
+use Rattle.laws_apps.proofs.Sending.{call_says, same_sent, still_senders}
+
+same_some : {A : Type 0} (x y : A) → Some x ≡ Some y → x ≡ y
+same_some x y is = cc
+
+-- A log that is told after a conversation was told before it.
+pub told_before : {A : Type 0} (tree : DriverTree A) (c d : RingContents) (x : A) → Plays tree c x d → (m : EndLog) → d.log ≡ Some m
+    → (l : EndLog) × (c.log ≡ Some l)
+told_before tree c d x plays m is = by c.log refl (log_grows tree c d x plays)
+  where
+    by : (o : Option EndLog) → c.log ≡ o → TellsMore o d.log → (l : EndLog) × (c.log ≡ Some l)
+    by None log more = let e : None ≡ Some m = sym more ∙ is in absurd cc
+    by (Some l) log more = (l, log)
+
+-- What a log says that is told, it says as the ring tells it.
+abbrev As : (l : EndLog) (c : RingContents) → (EndLog → Type 0) → Type 0
+As l c P = c.honest ≡ true → (m : EndLog) → c.log ≡ Some m → P m
+
+as_told : (P : EndLog → Type 0) (l : EndLog) (c : RingContents) → c.log ≡ Some l → P l → As l c P
+as_told P l c told holds = λ on m is. subst P (same_some l m (sym told ∙ is)) holds
+
+module _ (first : ℕ) (call : GuestCall) (s : DriverState) (c d : RingContents) (x : DriverState × ReplyTo call) (right : is_right call ≡ true)
+    (honest : IsHonestWith first s c) (plays : Plays (whole_call call s) c x d) where
+  pub call_honest : IsHonestWith first x.0 d
+  call_honest = λ on m is.
+      let before = told_before (whole_call call s) c d x plays m is in
+      let l : EndLog = before.0 in
+      let kept : Rests first (sent_with first s l.entries call x.1) x.0 d =
+      keeps_end _ (whole_call call s) c d x (whole_with first s c call (at_first first s l.entries) (sent_with first s l.entries call) right
+      (call_sent first s l.entries call) (begins first (at_first first s l.entries) s c l before.1 (refl, refl) honest)) plays in
+      agrees first x.0 m (kept on m is).0
+
+  pub call_accounted : (first_id : ℕ) (journal : Journal) → IsAccounted first_id journal s c → IsAccounted first_id (with_call call s x.1 journal) x.0 d
+  call_accounted first_id journal accounted = λ on m is.
+      let before = told_before (whole_call call s) c d x plays m is in
+      let l : EndLog = before.0 in
+      let on_then : c.honest ≡ true = sym (honest_stays (whole_call call s) c d x plays) ∙ on in
+      let was = accounted on_then l before.1 in
+      let account : IsReceivedWith (account_of first_id was.0 journal) s c =
+      as_told (λ (k : EndLog). AreReceived (account_of first_id was.0 journal) k.entries (slots_of s)) l c before.1 was.1 in
+      let now = journaled first call (whole_call call s) s c d x (λ before after. whole_with first s c call before after right) honest plays first_id was.0 journal
+      account on m is in
+      let says = call_says s c d (account_of first_id was.0 journal) l.entries was.1 now.0 now.1 call x plays in
+      let puts = sent_just first call (whole_call call s) s c d x (λ before after. whole_with first s c call before after right) honest plays on_then l before.1 m is in (
+        now.0,
+        now.2,
+        record {
+          senders = (says.0, still_senders was.0 now.0 now.1 journal was.2.senders);
+          puts = λ k. puts k
+              ∙ ap (λ (xs : List ℕ). xs ++ sent_of call x.1 s l.entries k) (was.2.puts k ∙ same_sent was.0 now.0 now.1 k journal was.2.senders)
+              ∙ ap (λ (xs : List ℕ). sent_to now.0 k journal ++ xs) (says.1 k);
+        },
+      )
+
+module _ (first first_id : ℕ) (journal : Journal) (s : DriverState) (c d : RingContents) (x : DriverState × Polled)
+    (honest : IsHonestWith first s c) (accounted : IsAccounted first_id journal s c) (plays : Plays (poll_of s) c x d) where
+  pub poll_accounted : IsAccounted first_id journal x.0 d
+  poll_accounted = λ on m is.
+      let before = told_before (poll_of s) c d x plays m is in
+      let l : EndLog = before.0 in
+      let on_then : c.honest ≡ true = sym (honest_stays (poll_of s) c d x plays) ∙ on in
+      let was = accounted on_then l before.1 in
+      let account : IsReceivedWith (account_of first_id was.0 journal) s c =
+      as_told (λ (k : EndLog). AreReceived (account_of first_id was.0 journal) k.entries (slots_of s)) l c before.1 was.1 in
+      let now = poll_ends first (account_of first_id was.0 journal) s c d x honest account plays on m is in
+      let puts = poll_sent first s c d x honest plays on_then l before.1 m is in (
+        now.0.opened,
+        further_as (account_of first_id was.0 journal) now.0 (λ id. received_by id journal) m.entries (slots_of x.0) now.1 (λ id. refl) now.2,
+        record {
+          senders = still_senders was.0 now.0.opened now.1.opened journal was.2.senders;
+          puts = λ k. puts k ∙ append-nil _ ∙ was.2.puts k ∙ same_sent was.0 now.0.opened now.1.opened k journal was.2.senders;
+        },
+      )

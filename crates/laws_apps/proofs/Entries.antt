@@ -1,0 +1,148 @@
+-- What an entry more, a wait more and bytes more do to what a journal tells.
+use Rattle.std.proofs.Common.{◌≡◌, ℕ, zero, suc, ◌+◌, ◌≤◌, ◌==◌, Bool, true, false, cond, List, [], ◌∷◌, ◌++◌, length, take, drop, Option}
+use Rattle.std.proofs.Common.{Some, None, refl, sym, ap, ◌∙◌, append_assoc, append-nil, slice_set, arith}
+use Rattle.std.proofs.lemmas.List.{take-append-le, drop-append-le, length-drop}
+use Rattle.std.specs.{Prelude.slice_get, Option.unwrap_or}
+use Rattle.vs_driver_parts.specs.Connections.{got_count}
+use Rattle.laws_driver_bytes.specs.Calls.{Journal, Made}
+use Rattle.laws_driver_bytes.specs.Calls as call
+use Rattle.vs_apps_parts.specs.Journals.{AllStandIn, StandsIn, calls_of, calls_of_app, ends_at, entry_called, entry_waited, gathered}
+use Rattle.vs_apps_parts.specs.Journals.{made_as, made_by, made_by_app, made_of, one_more, times_at, times_in, wait_noted, waited_before}
+use Rattle.vs_apps_parts.specs.{Scripts.RunScript, Scripts.slice_of, declared.journal.Called.Called, declared.journal.Deed.Deed}
+use Rattle.vs_apps_parts.specs.declared.journal.{Entry.Entry, WaitsFor.WaitsFor}
+use Rattle.vs_apps_parts.specs.declared.journal.Called.TheVariants as called
+use Rattle.vs_apps_parts.specs.declared.journal.Deed.TheVariants as deed
+
+pub gathered_snoc : (made : Entry → Journal) (es : List Entry) (e : Entry) → gathered made (es ++ e ∷ []) ≡ made e ++ gathered made es
+gathered_snoc made [] e = sym (append-nil (made e))
+gathered_snoc made (x ∷ es) e = ap (λ (js : Journal). js ++ made x) (gathered_snoc made es e) ∙ append_assoc (made e) (gathered made es) (made x)
+
+pub gathered_same : (n : ℕ) (a b : Entry → Journal) → ((e : Entry) → StandsIn n e → a e ≡ b e) → (es : List Entry) → AllStandIn n es
+    → gathered a es ≡ gathered b es
+gathered_same n a b same [] stand = refl
+gathered_same n a b same (e ∷ es) stand =
+    ap (λ (js : Journal). js ++ a e) (gathered_same n a b same es stand.1) ∙ ap (λ (js : Journal). gathered b es ++ js) (same e stand.0)
+
+pub gathered_set : (made : Entry → Journal) (es : List Entry) (place : ℕ) (e new : Entry) → slice_get es place ≡ Some e → made new ≡ made e
+    → gathered made (slice_set es place new) ≡ gathered made es
+gathered_set made [] place e new at same = refl
+gathered_set made (x ∷ es) zero e new at same =
+    let is : x ≡ e = cc in ap (λ (js : Journal). gathered made es ++ js) (same ∙ ap made (sym is))
+gathered_set made (x ∷ es) (suc place) e new at same = ap (λ (js : Journal). js ++ made x) (gathered_set made es place e new at same)
+
+-- Bytes behind those that are there leave the older ones where they stand.
+slice_stays : (from n : ℕ) (bytes more : List ℕ) → from + n ≤ length bytes → slice_of from n (bytes ++ more) ≡ slice_of from n bytes
+slice_stays from n bytes more within =
+    ap (λ (xs : List ℕ). take n xs) (drop-append-le from bytes more (omega (arith, within)))
+    ∙ take-append-le n (drop from bytes) more (omega (arith, within, length-drop from bytes))
+
+made_stays : (script : RunScript) (bytes more : List ℕ) (k : ℕ) (c : Called) → ends_at c ≤ length bytes
+    → made_of script (bytes ++ more) k c ≡ made_of script bytes k c
+made_stays script bytes more k (called.Recv id len from answer) within =
+    ap (λ (xs : List ℕ). made_as (call.Recv id len) (answer, xs)) (slice_stays from (got_count answer) bytes more within)
+made_stays script bytes more k c within = refl
+
+entry_stays : (script : RunScript) (bytes more : List ℕ) (e : Entry) → StandsIn (length bytes) e
+    → made_by script (bytes ++ more) e ≡ made_by script bytes e
+entry_stays script bytes more e stands = by e.deed stands
+  where
+    by : (d : Deed) → elim d as (λ _. Type 0) [ deed.Called c ↦ ends_at c ≤ length bytes | deed.Waited times why ↦ Unit {0} ]
+        → elim d as (λ _. Journal) [ deed.Called c ↦ made_of script (bytes ++ more) e.app c ∷ [] | deed.Waited times why ↦ [] ]
+        ≡ elim d as (λ _. Journal) [ deed.Called c ↦ made_of script bytes e.app c ∷ [] | deed.Waited times why ↦ [] ]
+    by (deed.Called c) stands = ap (λ (m : Made). m ∷ []) (made_stays script bytes more e.app c stands)
+    by (deed.Waited times why) stands = refl
+
+pub calls_stay : (script : RunScript) (bytes more : List ℕ) (es : List Entry) → AllStandIn (length bytes) es
+    → calls_of script (bytes ++ more) es ≡ calls_of script bytes es
+calls_stay script bytes more es stand =
+    gathered_same (length bytes) (made_by script (bytes ++ more)) (made_by script bytes) (entry_stays script bytes more) es stand
+
+pub app_calls_stay : (k : ℕ) (script : RunScript) (bytes more : List ℕ) (es : List Entry) → AllStandIn (length bytes) es
+    → calls_of_app k script (bytes ++ more) es ≡ calls_of_app k script bytes es
+app_calls_stay k script bytes more es stand =
+    gathered_same (length bytes) (made_by_app k script (bytes ++ more)) (made_by_app k script bytes)
+    (λ e stands. ap (λ (js : Journal). cond (e.app == k) js []) (entry_stays script bytes more e stands)) es stand
+
+-- A wait tells of no call.
+module _ (script : RunScript) (bytes : List ℕ) (k times : ℕ) (e : Entry) (is : times_in k e ≡ Some times) where
+  wait_made : made_by script bytes e ≡ []
+  wait_made = by (e.app == k) e.deed is
+    where
+      by : (b : Bool) (d : Deed)
+          → cond b (elim d as (λ _. Option ℕ) [ deed.Called c ↦ None | deed.Waited times why ↦ Some times ]) None ≡ Some times
+          → elim d as (λ _. Journal) [ deed.Called c ↦ made_of script bytes e.app c ∷ [] | deed.Waited times why ↦ [] ] ≡ []
+      by true (deed.Called c) is = absurd cc
+      by true (deed.Waited n why) is = refl
+      by false d is = absurd cc
+
+none_still : (b : Bool) (js : Journal) → js ≡ [] → cond b js [] ≡ []
+none_still true js none = none
+none_still false js none = refl
+
+-- What each app's wait leaves: all calls, and what stands in the journal's bytes.
+pub record SameCalls (script : RunScript) (bytes : List ℕ) (old new : List Entry) : Type 0 where
+  pub calls : calls_of script bytes new ≡ calls_of script bytes old
+  pub app : (j : ℕ) → calls_of_app j script bytes new ≡ calls_of_app j script bytes old
+  pub stands : (n : ℕ) → AllStandIn n old → AllStandIn n new
+
+stand_snoc : (n : ℕ) (es : List Entry) (e : Entry) → AllStandIn n es → StandsIn n e → AllStandIn n (es ++ e ∷ [])
+stand_snoc n [] e are is = (is, tt)
+stand_snoc n (x ∷ es) e are is = (are.0, stand_snoc n es e are.1 is)
+
+stand_set : (n k times : ℕ) (why : WaitsFor) (es : List Entry) (place : ℕ) → AllStandIn n es → AllStandIn n (slice_set es place (entry_waited k times why))
+stand_set n k times why [] place are = tt
+stand_set n k times why (x ∷ es) zero are = (tt, are.1)
+stand_set n k times why (x ∷ es) (suc place) are = (are.0, stand_set n k times why es place are.1)
+
+pub called_stand : (n : ℕ) (es : List Entry) (k : ℕ) (c : Called) → AllStandIn n es → ends_at c ≤ n → AllStandIn n (es ++ entry_called k c ∷ [])
+called_stand n es k c are within = stand_snoc n es (entry_called k c) are within
+
+pub more_stand : (n m : ℕ) → n ≤ m → (es : List Entry) → AllStandIn n es → AllStandIn m es
+more_stand n m less [] are = tt
+more_stand n m less (e ∷ es) are = (by e.deed are.0, more_stand n m less es are.1)
+  where
+    by : (d : Deed) → elim d as (λ _. Type 0) [ deed.Called c ↦ ends_at c ≤ n | deed.Waited times why ↦ Unit {0} ]
+        → elim d as (λ _. Type 0) [ deed.Called c ↦ ends_at c ≤ m | deed.Waited times why ↦ Unit {0} ]
+    by (deed.Called c) stands = omega (arith, stands, less)
+    by (deed.Waited times why) stands = tt
+
+pub wait_same : (script : RunScript) (bytes : List ℕ) (k : ℕ) (why : WaitsFor) (last : Option ℕ) (es : List Entry)
+    → SameCalls script bytes es (wait_noted k why last es)
+wait_same script bytes k why last es = by (waited_before k last es) refl
+  where
+    added : SameCalls script bytes es (es ++ entry_waited k 1 why ∷ [])
+    added = record {
+      calls = gathered_snoc (made_by script bytes) es (entry_waited k 1 why);
+      app = λ j. gathered_snoc (made_by_app j script bytes) es (entry_waited k 1 why)
+          ∙ ap (λ (js : Journal). js ++ calls_of_app j script bytes es) (none_still (k == j) [] refl);
+      stands = λ n are. stand_snoc n es (entry_waited k 1 why) are tt;
+    }
+
+    changed : (place times : ℕ) (e : Entry) → slice_get es place ≡ Some e → times_in k e ≡ Some times
+        → SameCalls script bytes es (slice_set es place (entry_waited k (one_more times) why))
+    changed place times e at is = record {
+      calls = gathered_set (made_by script bytes) es place e (entry_waited k (one_more times) why) at (sym (wait_made script bytes k times e is));
+      app = λ j. gathered_set (made_by_app j script bytes) es place e (entry_waited k (one_more times) why) at
+          (none_still (k == j) [] refl ∙ sym (none_still (e.app == j) (made_by script bytes e) (wait_made script bytes k times e is)));
+      stands = λ n are. stand_set n k (one_more times) why es place are;
+    }
+
+    at_place : (place times : ℕ) → times_at k place es ≡ Some times → SameCalls script bytes es (slice_set es place (entry_waited k (one_more times) why))
+    at_place place times is = here (slice_get es place) refl is
+      where
+        here : (o : Option Entry) → slice_get es place ≡ o → elim o as (λ _. Option ℕ) [ None ↦ None | Some e ↦ times_in k e ] ≡ Some times
+            → SameCalls script bytes es (slice_set es place (entry_waited k (one_more times) why))
+        here None at is = absurd cc
+        here (Some e) at is = changed place times e at is
+
+    placed : (l : Option ℕ) (times : ℕ) → waited_before k l es ≡ Some times
+        → SameCalls script bytes es (slice_set es (unwrap_or l 0) (entry_waited k (one_more times) why))
+    placed None times is = absurd cc
+    placed (Some place) times is = at_place place times is
+
+    by : (o : Option ℕ) → waited_before k last es ≡ o → SameCalls script bytes es (elim o as (λ _. List Entry) [
+      | None ↦ es ++ entry_waited k 1 why ∷ []
+      | Some times ↦ slice_set es (unwrap_or last 0) (entry_waited k (one_more times) why)
+    ])
+    by None is = added
+    by (Some times) is = placed last times is

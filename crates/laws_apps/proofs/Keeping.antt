@@ -1,0 +1,296 @@
+-- A step of an app keeps what is true of a run.
+use Rattle.std.proofs.Common.{◌≡◌, ◌≢◌, ℕ, ◌<◌, ◌≤◌, ◌==◌, Bool, true, false, cond, List, [], ◌∷◌, ◌++◌, length, Option, Some, None, refl}
+use Rattle.std.proofs.Common.{sym, ap, subst, ◌∙◌, arith, slice_set, get_or-set_other, get_or-set_same, length-set, length-append}
+use Rattle.std.proofs.lemmas.Bool.{eqb-true, eq-eqb}
+use Rattle.std.specs.Prelude.{slice_index_or}
+use Rattle.vs_driver_parts.specs.{State.DriverState, declared.answers.Polled.Polled}
+use Rattle.laws_driver.proofs.Calls.{poll_honest}
+use Rattle.laws_driver_bytes.specs.Calls.{Journal, Made, ReplyTo, bytes_received, with_call}
+use Rattle.vs_apps_parts.specs.Journals.{AllStandIn, calls_of, calls_of_app, entry_called, last_wait, made_as, made_by, made_by_app}
+use Rattle.vs_apps_parts.specs.{Journals.wait_noted, Journals.wait_place, Scripts.IsPlayed, Scripts.RunScript, Scripts.acts_of}
+use Rattle.vs_apps_parts.specs.{Scripts.told_in, Scripts.with_noted, Told.step_wait, Told.told_of, Told.wait_of}
+use Rattle.vs_apps_parts.specs.declared.{journal.Entry.Entry, journal.WaitsFor.WaitsFor, progress.AppState.AppState}
+use Rattle.vs_apps_parts.specs.declared.{progress.Progress.Progress, progress.Stepped.Stepped, told.Told.Told}
+use Rattle.vs_apps_parts.specs.declared.progress.Stepped.TheVariants as stepped
+use Rattle.vs_apps_parts.specs.declared.told.Told.TheVariants as says
+use Rattle.laws_apps.specs.{Accounts.IsAccounted, Runs.IsKept, Runs.IsRunOf, Runs.MakesCall, Runs.MakesCalls, Runs.Moves, Runs.NotesCall}
+use Rattle.laws_apps.specs.Runs.{PollsTo, Run, Steps, Waits, app_at, journal_of, journal_of_app, moved_state, no_app}
+use Rattle.laws_apps.proofs.Waiting.{called_waits, moved_waits, wait_waits, waited_waits, waits_noted}
+use Rattle.laws_apps.proofs.{Calling.call_accounted, Calling.call_honest, Calling.poll_accounted, Noting.call_noted, Noting.same_accounted}
+use Rattle.laws_apps.proofs.Entries.{SameCalls, app_calls_stay, called_stand, calls_stay, gathered_snoc, more_stand, wait_same}
+
+either : {A : Type 0} (b : Bool) (x : A) → x ≡ cond b x x
+either true x = refl
+either false x = refl
+
+-- A call that is made and noted.
+module _ (script : RunScript) (k : ℕ) (m : Made) (old new : Run) (stand : AllStandIn (length old.bytes) old.entries) where
+  abbrev noted : Journal → Journal
+  noted journal = with_noted (m ∷ []) journal
+
+  noted_by : (o : Option WaitsFor) (journal : Journal) → wait_of (told_of m) ≡ o
+      → noted journal ≡ elim o as (λ _. Journal) [ None ↦ m ∷ journal | Some why ↦ journal ]
+  noted_by o journal told =
+      ap (λ (x : Option WaitsFor). elim x as (λ _. Journal) [ None ↦ m ∷ journal | Some why ↦ journal ]) told
+
+  calls_after : (o : Option WaitsFor) → wait_of (told_of m) ≡ o → NotesCall script k m o old new
+      → noted (journal_of script old) ≡ journal_of script new
+  calls_after (Some why) told notes =
+      noted_by (Some why) (journal_of script old) told
+      ∙ sym (ap (λ (es : List Entry). calls_of script new.bytes es) notes.0 ∙ ap (λ (bs : List ℕ). calls_of script bs old.entries) notes.1)
+  calls_after None told notes =
+      noted_by None (journal_of script old) told
+      ∙ sym (ap (λ (es : List Entry). calls_of script new.bytes es) notes.3
+      ∙ gathered_snoc (made_by script new.bytes) old.entries (entry_called k notes.0)
+      ∙ ap (λ (x : Made). x ∷ calls_of script new.bytes old.entries) notes.1
+      ∙ ap (λ (js : Journal). m ∷ js) (ap (λ (bs : List ℕ). calls_of script bs old.entries) notes.4
+      ∙ calls_stay script old.bytes (bytes_received m.call m.reply) old.entries stand))
+
+  one_app : (b : Bool) (journal : Journal) → wait_of (told_of m) ≡ None → cond b (m ∷ []) [] ++ journal ≡ cond b (noted journal) journal
+  one_app true journal told = sym (noted_by None journal told)
+  one_app false journal told = refl
+
+  no_app_more : (b : Bool) (journal : Journal) (why : WaitsFor) → wait_of (told_of m) ≡ Some why → journal ≡ cond b (noted journal) journal
+  no_app_more true journal why told = sym (noted_by (Some why) journal told)
+  no_app_more false journal why told = refl
+
+  app_after : (j : ℕ) (o : Option WaitsFor) → wait_of (told_of m) ≡ o → NotesCall script k m o old new
+      → journal_of_app j script new ≡ cond (k == j) (noted (journal_of_app j script old)) (journal_of_app j script old)
+  app_after j (Some why) told notes =
+      ap (λ (es : List Entry). calls_of_app j script new.bytes es) notes.0
+      ∙ ap (λ (bs : List ℕ). calls_of_app j script bs old.entries) notes.1 ∙ no_app_more (k == j) (journal_of_app j script old) why told
+  app_after j None told notes =
+      ap (λ (es : List Entry). calls_of_app j script new.bytes es) notes.3
+      ∙ gathered_snoc (made_by_app j script new.bytes) old.entries (entry_called k notes.0)
+      ∙ ap (λ (x : Made). cond (k == j) (x ∷ []) [] ++ calls_of_app j script new.bytes old.entries) notes.1
+      ∙ ap (λ (js : Journal). cond (k == j) (m ∷ []) [] ++ js) (ap (λ (bs : List ℕ). calls_of_app j script bs old.entries) notes.4
+      ∙ app_calls_stay j script old.bytes (bytes_received m.call m.reply) old.entries stand)
+      ∙ one_app (k == j) (journal_of_app j script old) told
+
+  -- Where each app waits.
+  waits_by : (o : Option WaitsFor) (b : Bool) (was : Option ℕ) → wait_of (told_of m) ≡ o
+      → cond b (elim o as (λ _. Option ℕ) [ None ↦ None | Some why ↦ was ]) was ≡ cond b (waits_noted (m ∷ []) was) was
+  waits_by o b was told =
+      sym (ap (λ (x : Option WaitsFor). cond b (elim x as (λ _. Option ℕ) [ None ↦ None | Some why ↦ was ]) was) told)
+
+  waits_call : (j : ℕ) (o : Option WaitsFor) → wait_of (told_of m) ≡ o → NotesCall script k m o old new
+      → last_wait j new.entries ≡ cond (k == j) (waits_noted (m ∷ []) (last_wait j old.entries)) (last_wait j old.entries)
+  waits_call j (Some why) told notes =
+      ap (λ (es : List Entry). last_wait j es) notes.0 ∙ either (k == j) (last_wait j old.entries)
+      ∙ waits_by (Some why) (k == j) (last_wait j old.entries) told
+  waits_call j None told notes =
+      ap (λ (es : List Entry). last_wait j es) notes.3 ∙ called_waits j k old.entries notes.0 ∙ waits_by None (k == j) (last_wait j old.entries) told
+
+  stand_after : (o : Option WaitsFor) → NotesCall script k m o old new → AllStandIn (length new.bytes) new.entries
+  stand_after (Some why) notes =
+      subst (λ (es : List Entry). AllStandIn (length new.bytes) es) (sym notes.0)
+      (subst (λ (bs : List ℕ). AllStandIn (length bs) old.entries) (sym notes.1) stand)
+  stand_after None notes =
+      let more : List ℕ = bytes_received m.call m.reply in
+      let less : length old.bytes ≤ length new.bytes =
+      omega (arith, ap (λ (bs : List ℕ). length bs) notes.4, length-append old.bytes more) in
+      subst (λ (es : List Entry). AllStandIn (length new.bytes) es) (sym notes.3)
+      (called_stand (length new.bytes) old.entries k notes.0 (more_stand (length old.bytes) (length new.bytes) less old.entries stand) notes.2)
+
+module _ (first : ℕ) (script : RunScript) (k : ℕ) where
+  call_keeps : (m : Made) (old new : Run) → MakesCall script k m old new → IsKept first script old → IsKept first script new
+  call_keeps m old new makes kept =
+      let x : DriverState × ReplyTo m.call = (new.driver, m.reply) in
+      let all : Journal = journal_of script old in
+      let given = call_accounted first m.call old.driver old.ring new.ring x makes.right kept.honest makes.plays 1 all kept.accounted in
+      let noted = same_accounted 1 (with_call m.call old.driver m.reply all) (with_noted (made_as m.call m.reply ∷ []) all) new.driver new.ring
+      (call_noted old.driver all m.call old.ring new.ring x makes.plays) given in
+      record {
+        honest = call_honest first m.call old.driver old.ring new.ring x makes.right kept.honest makes.plays;
+        accounted = subst (λ (js : Journal). IsAccounted 1 js new.driver new.ring)
+            (ap (λ (y : Made). with_noted (y ∷ []) all) (sym makes.plain)
+            ∙ calls_after script k m old new kept.stands (wait_of (told_of m)) refl makes.notes) noted;
+        stands = stand_after script k m old new kept.stands (wait_of (told_of m)) makes.notes;
+      }
+
+  -- What calls one after another leave.
+  record Leaves (made : List Made) (old new : Run) : Type 0 where
+    pub kept : IsKept first script new
+    pub apps : new.apps ≡ old.apps
+    pub journals : (j : ℕ) → journal_of_app j script new ≡ cond (k == j) (with_noted made (journal_of_app j script old)) (journal_of_app j script old)
+    pub waits : (j : ℕ) → last_wait j new.entries ≡ cond (k == j) (waits_noted made (last_wait j old.entries)) (last_wait j old.entries)
+
+  join : (b : Bool) (m : Made) (ms : List Made) (mid old : Journal) → mid ≡ cond b (with_noted (m ∷ []) old) old
+      → cond b (with_noted ms mid) mid ≡ cond b (with_noted (m ∷ ms) old) old
+  join true m ms mid old is = ap (λ (js : Journal). with_noted ms js) is
+  join false m ms mid old is = is
+
+  join_waits : (b : Bool) (m : Made) (ms : List Made) (mid old : Option ℕ) → mid ≡ cond b (waits_noted (m ∷ []) old) old
+      → cond b (waits_noted ms mid) mid ≡ cond b (waits_noted (m ∷ ms) old) old
+  join_waits true m ms mid old is = ap (λ (o : Option ℕ). waits_noted ms o) is
+  join_waits false m ms mid old is = is
+
+  calls_leave : (made : List Made) (old new : Run) → MakesCalls script k made old new → IsKept first script old → Leaves made old new
+  calls_leave [] old new makes kept = subst (λ (r : Run). Leaves [] old r) (sym makes) (record {
+    kept = kept;
+    apps = refl;
+    journals = λ j. either (k == j) (journal_of_app j script old);
+    waits = λ j. either (k == j) (last_wait j old.entries);
+  })
+  calls_leave (m ∷ ms) old new makes kept =
+      let rest = calls_leave ms makes.0 new makes.2 (call_keeps m old makes.0 makes.1 kept) in
+      record {
+        kept = rest.kept;
+        apps = rest.apps ∙ makes.1.apps;
+        journals = λ j. rest.journals j ∙ join (k == j) m ms (journal_of_app j script makes.0) (journal_of_app j script old)
+            (app_after script k m old makes.0 kept.stands j (wait_of (told_of m)) refl makes.1.notes);
+        waits = λ j. rest.waits j ∙ join_waits (k == j) m ms (last_wait j makes.0.entries) (last_wait j old.entries)
+            (waits_call script k m old makes.0 kept.stands j (wait_of (told_of m)) refl makes.1.notes);
+      }
+
+-- The app that made the step, and the others.
+not_same : (k j : ℕ) → (k == j) ≡ false → j ≢ k
+not_same k j is same = let e = eq-eqb k j (sym same) in absurd cc
+
+state_after : (k j : ℕ) (b : Bool) (xs : List AppState) (x : AppState) → (k == j) ≡ b → k < length xs
+    → slice_index_or (slice_set xs k x) j no_app ≡ cond b x (slice_index_or xs j no_app)
+state_after k j true xs x is less =
+    ap (λ (n : ℕ). slice_index_or (slice_set xs k x) n no_app) (sym (eqb-true k j is)) ∙ get_or-set_same xs k x no_app less
+state_after k j false xs x is less = get_or-set_other xs k j x no_app (not_same k j is)
+
+-- Steps that waited are noted by no call.
+wait_by : (m : Made) (t : Told) → told_of m ≡ t → (ms : List Made) (why : WaitsFor) (journal : Journal)
+    → step_wait (t ∷ told_in ms) ≡ Some why → (step_wait (told_in ms) ≡ Some why → with_noted ms journal ≡ journal)
+    → with_noted (m ∷ ms) journal ≡ journal
+wait_by m (says.Waits w) is [] why journal waits rest =
+    ap (λ (t : Told). elim (wait_of t) as (λ _. Journal) [ None ↦ m ∷ journal | Some v ↦ journal ]) is
+wait_by m (says.Waits w) is (n ∷ ms) why journal waits rest =
+    ap (λ (t : Told). with_noted (n ∷ ms) (elim (wait_of t) as (λ _. Journal) [ None ↦ m ∷ journal | Some v ↦ journal ])) is ∙ rest waits
+wait_by m (says.Asked id) is ms why journal waits rest = absurd cc
+wait_by m (says.Given id) is ms why journal waits rest = absurd cc
+wait_by m (says.Took n) is ms why journal waits rest = absurd cc
+wait_by m (says.Got n) is ms why journal waits rest = absurd cc
+wait_by m says.Ends is ms why journal waits rest = absurd cc
+
+all_wait : (made : List Made) (why : WaitsFor) → step_wait (told_in made) ≡ Some why → (journal : Journal) → with_noted made journal ≡ journal
+all_wait [] why waits journal = refl
+all_wait (m ∷ ms) why waits journal = wait_by m (told_of m) refl ms why journal waits (λ more. all_wait ms why more journal)
+
+module _ (first : ℕ) (script : RunScript) (k : ℕ) (mid new : Run) (less : k < length script) (run : IsRunOf first script mid) where
+  abbrev Played : ℕ → Journal → Progress → Type 0
+  Played j journal p = IsPlayed (acts_of j script) journal p
+
+  as_many : (over : Run) (state : AppState) → over.apps ≡ mid.apps → length (slice_set over.apps k state) ≡ length script
+  as_many over state same = length-set over.apps k state ∙ ap (λ (xs : List AppState). length xs) same ∙ run.apps
+
+  app_is : (over : Run) (state : AppState) (j : ℕ) → over.apps ≡ mid.apps
+      → slice_index_or (slice_set over.apps k state) j no_app ≡ cond (k == j) state (app_at j mid)
+  app_is over state j same =
+      ap (λ (xs : List AppState). slice_index_or (slice_set xs k state) j no_app) same
+      ∙ state_after k j (k == j) mid.apps state refl (subst (λ (n : ℕ). k < n) (sym run.apps) less)
+
+  moves_keep : Moves script k mid new → IsRunOf first script new
+  moves_keep m = subst (λ (r : Run). IsRunOf first script r) (sym m.moves) (record {
+    apps = as_many over state left.apps;
+    kept = record { honest = left.kept.honest; accounted = left.kept.accounted; stands = left.kept.stands };
+    follows = λ j below. subst (λ (x : AppState). Played j (journal_of_app j script over) x.progress) (sym (app_is over state j left.apps))
+        (subst (λ (js : Journal). Played j js (cond (k == j) state (app_at j mid)).progress) (sym (left.journals j)) (goes j (k == j) refl below));
+    waits = λ j below. ap (λ (x : AppState). x.waiting) (app_is over state j left.apps) ∙ waits_now j (k == j) refl below ∙ sym (left.waits j);
+  })
+    where
+      over : Run
+      over = m.calls.over
+
+      state : AppState
+      state = moved_state m.calls.act m.calls.made (app_at k mid)
+
+      left : Leaves first script k m.calls.made mid m.calls.over
+      left = calls_leave first script k m.calls.made mid m.calls.over m.calls.makes run.kept
+
+      here : Played k (with_noted m.calls.made (journal_of_app k script mid)) (moved_state m.calls.act m.calls.made (app_at k mid)).progress
+      here =
+          let was = run.follows k less in (
+            m.calls.made ∷ was.0,
+            ((app_at k mid).progress, m.calls.act, was.1, m.calls.next, (m.calls.calls, refl)),
+            ap (λ (js : Journal). with_noted m.calls.made js) was.2,
+          )
+
+      goes : (j : ℕ) (b : Bool) → (k == j) ≡ b → j < length script
+          → Played j (cond b (with_noted m.calls.made (journal_of_app j script mid)) (journal_of_app j script mid))
+          (cond b (moved_state m.calls.act m.calls.made (app_at k mid)) (app_at j mid)).progress
+      goes j true is below =
+          subst (λ (n : ℕ). Played n (with_noted m.calls.made (journal_of_app n script mid)) (moved_state m.calls.act m.calls.made (app_at k mid)).progress)
+          (eqb-true k j is) here
+      goes j false is below = run.follows j below
+
+      waits_now : (j : ℕ) (b : Bool) → (k == j) ≡ b → j < length script
+          → (cond b (moved_state m.calls.act m.calls.made (app_at k mid)) (app_at j mid)).waiting
+          ≡ cond b (waits_noted m.calls.made (last_wait j mid.entries)) (last_wait j mid.entries)
+      waits_now j true is below =
+          sym (moved_waits (app_at k mid).waiting m.calls.made m.no_wait) ∙ ap (waits_noted m.calls.made) (run.waits k less)
+          ∙ ap (λ (n : ℕ). waits_noted m.calls.made (last_wait n mid.entries)) (eqb-true k j is)
+      waits_now j false is below = run.waits j below
+
+  waits_keep : (why : WaitsFor) → Waits script k why mid new → IsRunOf first script new
+  waits_keep why w = subst (λ (r : Run). IsRunOf first script r) (sym w.notes) (record {
+    apps = as_many over state left.apps;
+    kept = record {
+      honest = left.kept.honest;
+      accounted = subst (λ (js : Journal). IsAccounted 1 js over.driver over.ring) (sym same.calls) left.kept.accounted;
+      stands = same.stands (length over.bytes) left.kept.stands;
+    };
+    follows = λ j below. subst (λ (js : Journal). Played j js (slice_index_or (slice_set over.apps k state) j no_app).progress)
+        (sym (same.app j ∙ left.journals j ∙ stays (k == j) (journal_of_app j script mid)))
+        (subst (λ (x : AppState). Played j (journal_of_app j script mid) x.progress) (sym (app_is over state j left.apps)) (goes j (k == j) refl below));
+    waits = λ j below. ap (λ (x : AppState). x.waiting) (app_is over state j left.apps) ∙ waits_now j (k == j) refl below
+        ∙ sym (wait_waits j k why was.waiting over.entries (run.waits k less ∙ sym (left.waits k ∙ waits_stay (k == k) (last_wait k mid.entries))));
+  })
+    where
+      over : Run
+      over = w.calls.over
+
+      was : AppState
+      was = app_at k mid
+
+      state : AppState
+      state = record (app_at k mid) { waiting = Some (wait_place k (app_at k mid).waiting w.calls.over.entries) }
+
+      left : Leaves first script k w.calls.made mid w.calls.over
+      left = calls_leave first script k w.calls.made mid w.calls.over w.calls.makes run.kept
+
+      same : SameCalls script w.calls.over.bytes w.calls.over.entries (wait_noted k why (app_at k mid).waiting w.calls.over.entries)
+      same = wait_same script w.calls.over.bytes k why (app_at k mid).waiting w.calls.over.entries
+
+      stays : (b : Bool) (journal : Journal) → cond b (with_noted w.calls.made journal) journal ≡ journal
+      stays true journal = all_wait w.calls.made why w.waits journal
+      stays false journal = refl
+
+      waits_stay : (b : Bool) (o : Option ℕ) → cond b (waits_noted w.calls.made o) o ≡ o
+      waits_stay true o = waited_waits o w.calls.made why w.waits
+      waits_stay false o = refl
+
+      goes : (j : ℕ) (b : Bool) → (k == j) ≡ b → j < length script
+          → Played j (journal_of_app j script mid) (cond b state (app_at j mid)).progress
+      goes j true is below = subst (λ (n : ℕ). Played n (journal_of_app n script mid) (app_at k mid).progress) (eqb-true k j is) (run.follows k less)
+      goes j false is below = run.follows j below
+
+      waits_now : (j : ℕ) (b : Bool) → (k == j) ≡ b → j < length script
+          → (cond b state (app_at j mid)).waiting
+          ≡ cond b (Some (wait_place k (app_at k mid).waiting w.calls.over.entries)) (last_wait j w.calls.over.entries)
+      waits_now j true is below = refl
+      waits_now j false is below = run.waits j below ∙ sym (left.waits j ∙ waits_stay (k == j) (last_wait j mid.entries))
+
+module _ (first : ℕ) (script : RunScript) (old : Run) (run : IsRunOf first script old) where
+  pub polls_keep : (polled : Polled) (mid : Run) → PollsTo polled old mid → IsRunOf first script mid
+  polls_keep polled mid polls = subst (λ (r : Run). IsRunOf first script r) (sym polls.rest) (record {
+    apps = run.apps;
+    kept = record {
+      honest = poll_honest first old.driver old.ring mid.ring (mid.driver, polled) run.kept.honest polls.polls;
+      accounted = poll_accounted first 1 (journal_of script old) old.driver old.ring mid.ring (mid.driver, polled) run.kept.honest run.kept.accounted polls.polls;
+      stands = run.kept.stands;
+    };
+    follows = run.follows;
+    waits = run.waits;
+  })
+
+  pub steps_keep : (k : ℕ) → k < length script → (s : Stepped) (moved : Bool) (new : Run) → Steps script k s moved old new → IsRunOf first script new
+  steps_keep k less stepped.OutOfMemory moved new steps = subst (λ (r : Run). IsRunOf first script r) (sym steps.1) run
+  steps_keep k less stepped.Moved moved new steps = moves_keep first script k steps.1 new less (polls_keep steps.0 steps.1 steps.2) steps.4
+  steps_keep k less (stepped.Waiting why) moved new steps = waits_keep first script k steps.1 new less (polls_keep steps.0 steps.1 steps.2) why steps.4
+  steps_keep k less stepped.Done moved new steps =
+      subst (λ (r : Run). IsRunOf first script r) (sym steps.4.1) (polls_keep steps.0 steps.1 steps.2)

@@ -1,0 +1,12 @@
+pub mod Sending
+pub mod Calling
+pub mod Noting
+pub mod Naming
+pub mod Entries
+pub mod Waiting
+pub mod Keeping
+pub mod Beginning
+pub mod Making
+pub mod Receives
+pub mod Slices
+pub mod Stepping

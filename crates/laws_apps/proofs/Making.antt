@@ -1,0 +1,74 @@
+-- What a call leaves that is made and noted.
+use Rattle.std.proofs.Common.{◌≡◌, ℕ, ◌≤◌, ◌<◌, ◌^◌, arith, true, List, [], ◌++◌, length, Option, Some, None, Result, Ok, Err, refl, sym}
+use Rattle.std.proofs.Common.{ap, ◌∙◌, append-nil}
+use Rattle.std.specs.Prelude.{OnOk, OnErr}
+use Rattle.std.proofs.lemmas.Bool.Decides.{nat_tests}
+use Rattle.vs_ring_port.specs.Contents.{RingContents}
+use Rattle.vs_driver_parts.specs.{Connections.after_close, Connections.after_shutdown, Connections.close_of, Connections.shutdown_of}
+use Rattle.vs_driver_parts.specs.{Connections.state_of, Listening.accept_of, Listening.after_accept, Listening.listen_of}
+use Rattle.vs_driver_parts.specs.{Listening.listening, Playing.Plays, State.DriverState}
+use Rattle.vs_driver_parts.specs.declared.answers.{Accepted.Accepted, Closed.Closed, ConnectionState.ConnectionState}
+use Rattle.vs_driver_parts.specs.declared.answers.{ListenError.ListenError, Shut.Shut}
+use Rattle.laws_driver_bytes.specs.Calls as call
+use Rattle.laws_driver_bytes.specs.Calls.{GuestCall, ReplyTo, bytes_received, is_right, whole_call}
+use Rattle.vs_apps_parts.specs.{Journals.called_noted, Journals.ends_at, Journals.made_as, Journals.made_of, Scripts.RunScript}
+use Rattle.vs_apps_parts.specs.{Told.told_by, Told.wait_of, declared.journal.Called.Called, declared.journal.Entry.Entry}
+use Rattle.vs_apps_parts.specs.{declared.journal.WaitsFor.WaitsFor}
+use Rattle.vs_apps_parts.specs.declared.{progress.AppState.AppState, told.Told.Told}
+use Rattle.laws_apps.specs.Runs.{HasFlow, NotesCall}
+use Rattle.laws_apps.specs.Calls.{CallsAs, run_with}
+
+module _ (script : RunScript) (k : ℕ) (made_call : GuestCall) (reply : ReplyTo made_call) (entry : Called) (t : DriverState) (old new : List Entry) (bytes : List ℕ)
+    (made : made_of script bytes k entry ≡ made_as made_call reply) (within : ends_at entry ≤ length bytes) (flow : HasFlow entry t)
+    (none : bytes_received made_call reply ≡ []) where
+  notes : (s : DriverState) (c d : RingContents) (apps : List AppState) (o : Option WaitsFor) → new ≡ called_noted k entry o old
+      → NotesCall script k (made_as made_call reply) o (run_with s c apps old bytes) (run_with t d apps new bytes)
+  notes s c d apps None is = (entry, made, within, is, sym (ap (λ (xs : List ℕ). bytes ++ xs) none ∙ append-nil bytes), flow)
+  notes s c d apps (Some why) is = (is, refl)
+
+  -- A call that received no byte.
+  pub calls_as : (s : DriverState) (c d : RingContents) (apps : List AppState) (told : Told) → is_right made_call ≡ true
+      → Plays (whole_call made_call s) c (t, reply) d → told ≡ told_by made_call reply → new ≡ called_noted k entry (wait_of told) old
+      → CallsAs script k made_call told (run_with s c apps old bytes) (run_with t d apps new bytes)
+  calls_as s c d apps told right plays says noted = (
+    reply,
+    says,
+    record {
+      right = right;
+      plain = refl;
+      plays = plays;
+      apps = refl;
+      notes = notes s c d apps (wait_of (told_by made_call reply)) (noted ∙ ap (λ (x : Told). called_noted k entry (wait_of x) old) says);
+    },
+  )
+
+-- Calls that need no ring.
+abbrev Same : (A B : Type 0) → A × B → A × B → Type 0
+Same A B p q = p ≡ q
+
+both_same : {A B : Type 0} {a x : A} {b y : B} → a ≡ x → b ≡ y → Same A B (a, b) (x, y)
+both_same one two = λ i. (one i, two i)
+
+pub listen_plays : (port : ℕ) (s t : DriverState) (r : Result (Unit {0}) ListenError) (c : RingContents) → r ≡ listen_of port s
+    → OnOk r (t ≡ listening port s) → OnErr r (t ≡ s) → Plays (whole_call (call.Listen port) s) c (t, r) c
+listen_plays port s t (Ok u) c is ok err = (rw (← is, ok) refl, refl)
+listen_plays port s t (Err why) c is ok err = (rw (← is, err) refl, refl)
+
+pub accept_plays : (port : ℕ) (s t : DriverState) (r : Accepted) (c : RingContents) → r ≡ accept_of port s → t ≡ after_accept port s
+    → Plays (whole_call (call.Accept port) s) c (t, r) c
+accept_plays port s t r c is state = (both_same (sym state) (sym is), refl)
+
+pub shutdown_plays : (id bits : ℕ) (s t : DriverState) (r : Shut) (c : RingContents) → r ≡ shutdown_of id s → t ≡ after_shutdown id bits s
+    → Plays (whole_call (call.Shutdown id bits) s) c (t, r) c
+shutdown_plays id bits s t r c is state = (both_same (sym state) (sym is), refl)
+
+pub close_plays : (id : ℕ) (s t : DriverState) (r : Closed) (c : RingContents) → r ≡ close_of id s → t ≡ after_close id s
+    → Plays (whole_call (call.Close id) s) c (t, r) c
+close_plays id s t r c is state = (both_same (sym state) (sym is), refl)
+
+pub look_plays : (id : ℕ) (s : DriverState) (r : ConnectionState) (c : RingContents) → r ≡ state_of id s
+    → Plays (whole_call (call.LookAt id) s) c (s, r) c
+look_plays id s r c is = (both_same refl (sym is), refl)
+
+pub port_right : (port : ℕ) → port < 2 ^ 32 → is_right (call.Connect port) ≡ true
+port_right port less = grind (arith, nat_tests, less)

@@ -1,0 +1,55 @@
+-- What was sent on a connection is what was sent on its id, since no two ids have one connection.
+use Rattle.std.proofs.Common.{◌≡◌, inl, inr, ℕ, ◌≤◌, ◌==◌, ◌&&◌, Bool, true, false, cond, List, [], ◌∷◌, ◌++◌, Option, Some, None, refl}
+use Rattle.std.proofs.{Common.sym, Common.ap, Common.◌∙◌, lemmas.Bool.eqb-true, lemmas.Bool.eq-eqb}
+use Rattle.vs_flow.specs.{Connection.Connection, Flow.same_flow}
+use Rattle.vs_page.specs.Log.{Log}
+use Rattle.vs_page.proofs.Flows.{same_is, same_self}
+use Rattle.vs_driver_parts.specs.Held.{HeldSlots}
+use Rattle.laws_driver_bytes.specs.{Calls.Journal, Calls.bytes_sent, Calls.names, Received.Account, Received.AreReceived, Sent.is_same}
+use Rattle.laws_driver_bytes.specs.Sent.{only_on}
+use Rattle.vs_apps_parts.specs.Journals.{sent_as}
+use Rattle.laws_apps.specs.Accounts.{AreSenders, IsSender, sent_there, sent_to}
+use Rattle.laws_apps.proofs.Sending.{only_none}
+
+whole_same : (c d : Connection) → is_same c d ≡ true → c ≡ d
+whole_same c d is = by (same_flow c.flow d.flow) refl (c.number == d.number) refl is
+  where
+    by : (a : Bool) → same_flow c.flow d.flow ≡ a → (b : Bool) → (c.number == d.number) ≡ b → (a && b) ≡ true → c ≡ d
+    by true flows true numbers both = λ i. record { flow = same_is c.flow d.flow flows i; number = eqb-true c.number d.number numbers i }
+    by true flows false numbers both = absurd cc
+    by false flows b numbers both = absurd cc
+
+self_same : (c : Connection) → is_same c c ≡ true
+self_same c = ap (λ (b : Bool). b && (c.number == c.number)) (same_self c.flow) ∙ eq-eqb c.number c.number refl
+
+none_either : (b : Bool) (bytes : List ℕ) → bytes ≡ [] → cond b bytes [] ≡ []
+none_either true bytes none = none
+none_either false bytes none = refl
+
+module _ (a : Account) (log : Log) (slots : HeldSlots) (account : AreReceived a log slots) (id : ℕ) (some : 1 ≤ (a.opened id).number) where
+  on_id : (other : ℕ) (bytes : List ℕ) → IsSender a.opened (Some other) bytes → only_on (a.opened other) bytes (a.opened id) ≡ cond (id == other) bytes []
+  on_id other bytes (inl none) = only_none (a.opened other) (a.opened id) bytes none ∙ sym (none_either (id == other) bytes none)
+  on_id other bytes (inr has) = by (id == other) refl
+    where
+      apart : (b : Bool) → is_same (a.opened id) (a.opened other) ≡ b → (id == other) ≡ false → cond b bytes [] ≡ []
+      apart true is differ =
+          let same : id ≡ other = account.once id other some (whole_same (a.opened id) (a.opened other) is) in
+          let e : true ≡ false = sym (eq-eqb id other same) ∙ differ in absurd cc
+      apart false is differ = refl
+
+      by : (b : Bool) → (id == other) ≡ b → only_on (a.opened other) bytes (a.opened id) ≡ cond b bytes []
+      by true same =
+          ap (λ (n : ℕ). only_on (a.opened n) bytes (a.opened id)) (sym (eqb-true id other same))
+          ∙ ap (λ (b : Bool). cond b bytes []) (self_same (a.opened id))
+      by false differ = apart (is_same (a.opened id) (a.opened other)) refl differ
+
+  named : (o : Option ℕ) (bytes : List ℕ) → IsSender a.opened o bytes → sent_there a.opened (a.opened id) o bytes ≡ cond (names id o) bytes []
+  named None bytes sender = refl
+  named (Some other) bytes sender = on_id other bytes sender
+
+  pub sent_by_id : (journal : Journal) → AreSenders a.opened journal → sent_to a.opened (a.opened id) journal ≡ sent_as id journal
+  sent_by_id [] are = refl
+  sent_by_id (m ∷ older) are =
+      let bytes = bytes_sent m.call m.reply in
+      ap (λ (xs : List ℕ). xs ++ sent_there a.opened (a.opened id) m.id bytes) (sent_by_id older are.1)
+      ∙ ap (λ (xs : List ℕ). sent_as id older ++ xs) (named m.id bytes are.0)

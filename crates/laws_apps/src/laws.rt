@@ -1,0 +1,49 @@
+//! Laws on the journal of a run.
+
+ghost use Rattle.std.specs.Prelude.{◌≡◌, ◌<◌, ◌≤◌, ℕ, Bool, true, List, [], ◌∷◌, length, slice_index_or};
+ghost use Rattle.vs_flow.specs.Connection.{Connection};
+ghost use Rattle.vs_page.specs.{Fair.payload_put, Log.Driver, Log.Log};
+ghost use Rattle.vs_ring_port.specs.Contents.{RingContents};
+ghost use Rattle.vs_driver_parts.specs.{Conversations.new_of, Conversations.poll_of, Held.HeldSlots, Playing.Plays, State.DriverState};
+ghost use Rattle.vs_driver_parts.specs.declared.answers.Polled.{Polled};
+ghost use Rattle.laws_driver.specs.Honest.{IsFresh, IsHonestWith};
+ghost use Rattle.laws_driver_bytes.specs.Calls.{GuestCall, Journal, ReplyTo, account_of, is_right, whole_call, with_call};
+ghost use Rattle.laws_driver_bytes.specs.Received.{AreReceived};
+ghost use Rattle.vs_apps_parts.specs.{Journals.made_as, Journals.sent_as, Scripts.RunScript, Scripts.with_noted};
+ghost use Rattle.vs_apps_parts.specs.declared.progress.{AppState.AppState, Stepped.Stepped};
+ghost use Rattle.laws_apps.specs.{Accounts.IsAccounted, Accounts.IsSent, Runs.IsRunOf, Runs.PollsTo, Runs.Run, Runs.Steps, Runs.no_app};
+ghost use Rattle.vs_limits.specs.declared.TheConstants.{LAST_PORT};
+
+/// A call that was made, and a poll, keep the journal's account right: what was sent on each connection is the payload that the log put, and
+/// what was received on it, with the bytes that are unread behind, the payload that was delivered (Virtio 1.2, section 5.10.6.3).
+pub fn law_of_accounts()
+    ensures call { (first first_id : ℕ) (journal : Journal) (call : GuestCall) (s : DriverState) (c d : RingContents)
+        (x : DriverState × ReplyTo call) → is_right call ≡ true → IsHonestWith first s c → IsAccounted first_id journal s c
+        → Plays (whole_call call s) c x d → IsAccounted first_id (with_call call s x.1 journal) x.0 d }
+    ensures poll { (first first_id : ℕ) (journal : Journal) (s : DriverState) (c d : RingContents) (x : DriverState × Polled)
+        → IsHonestWith first s c → IsAccounted first_id journal s c → Plays (poll_of s) c x d → IsAccounted first_id journal x.0 d }
+    ensures honest { (first : ℕ) (call : GuestCall) (s : DriverState) (c d : RingContents)
+        (x : DriverState × ReplyTo call) → is_right call ≡ true → IsHonestWith first s c → Plays (whole_call call s) c x d
+        → IsHonestWith first x.0 d }
+    // A call that only told to wait needs no entry.
+    ensures noted { (first_id : ℕ) (journal : Journal) (call : GuestCall) (s : DriverState) (c d : RingContents)
+        (x : DriverState × ReplyTo call) → Plays (whole_call call s) c x d → IsAccounted first_id (with_call call s x.1 journal) x.0 d
+        → IsAccounted first_id (with_noted (made_as call x.1 ∷ []) journal) x.0 d }
+    // By ids: what was sent on an id is the payload put on its connection.
+    ensures ids { (first_id id : ℕ) (opened : ℕ → Connection) (journal : Journal) (log : Log) (slots : HeldSlots)
+        → AreReceived (account_of first_id opened journal) log slots → IsSent opened journal log → 1 ≤ (opened id).number
+        → payload_put Driver (opened id) log ≡ sent_as id journal }
+{}
+
+/// A step of an app keeps what is true of a run: the calls of each app are, in order, its instructions, and the journal's account is right.
+pub fn law_of_steps()
+    ensures steps { (first k : ℕ) (script : RunScript) (s : Stepped) (moved : Bool) (old new : Run) → k < length script
+        → IsRunOf first script old → Steps script k s moved old new → IsRunOf first script new }
+    // The first run of all: a driver just made, no entry, and each app at its first instruction.
+    ensures begins { (size port : ℕ) (c d : RingContents) (s : DriverState) (script : RunScript) (apps : List AppState) → port ≤ LAST_PORT
+        → IsFresh c → Plays (new_of size port 1) c s d → length apps ≡ length script
+        → ((k : ℕ) → slice_index_or apps k no_app ≡ no_app)
+        → IsRunOf s.cid script (record { driver = s; ring = d; apps = apps; entries = []; bytes = [] }) }
+    ensures polls { (first : ℕ) (script : RunScript) (polled : Polled) (old new : Run) → IsRunOf first script old → PollsTo polled old new
+        → IsRunOf first script new }
+{}

@@ -1,0 +1,189 @@
+-- The device's table by the log and by the host's streams.
+use Rattle.std.proofs.Common.{◌≡◌, ℕ, zero, suc, ◌+◌, ◌-◌, ◌<◌, ◌==◌, ◌&&◌, ◌||◌, Bool, true, false, cond, List, [], ◌∷◌, length, map}
+use Rattle.std.proofs.Common.{Contains, slice_get, slice_index_or, Option, Some, None, refl, sym, ap, subst, ◌∙◌, arith}
+use Rattle.std.proofs.lemmas.{Bool.Decides.nat_tests, Bool.and_parts, List.Elements.All-contains}
+use Rattle.std.specs.{List.list_any, Option.option_map, Option.option_map_or}
+use Rattle.vs_conn.specs.{End.ConnectionEnd, declared.end.State.State, declared.end.State.TheVariants.Asked}
+use Rattle.vs_device_parts.specs.{Calls.Situation, State.DeviceConnection, State.DeviceEntry, State.DeviceState}
+use Rattle.vs_flow.specs.{Flow.same_flow, Table.Table, declared.flow.Flow.Flow}
+use Rattle.vs_flow.proofs.Entries.{same_flow_true}
+use Rattle.vs_outside.specs.Host.{HostContents, Stream, stream_at, waits}
+use Rattle.vs_outside.specs.declared.host_net.StreamState.{StreamState}
+use Rattle.vs_page.specs.Log.{Log}
+use Rattle.vs_page.proofs.Flows.{same_self}
+use Rattle.vs_proxy_parts.specs.State.{Handshake}
+use Rattle.laws_tables.specs.Ends.{FlowEnd, flows_of, is_among, is_new, is_new_in, new_flows}
+use Rattle.laws_tables.proofs.Slots.{found_by}
+use Rattle.laws_device_bytes.specs.Streamed.{IsJoined, IsStreamed, Seen, client_waits, is_closed, look, seen}
+use Rattle.laws_device_bytes.proofs.{Closing.is_under, Closing.named, HostCalls.some_seen, Hosts.there}
+use Rattle.laws_device.specs.{Honest.IsWith, Streams.AreStreamedWith, Streams.IsTabledWith, Streams.has_open_stream, Streams.is_open_in}
+use Rattle.laws_device.specs.Streams.{is_open_on}
+use Rattle.laws_device.proofs.Shown.{left_open, same_flows}
+use Rattle.vs_outside.specs.declared.host_net.StreamState.TheVariants as state
+
+-- A test that an element passes, and one that passes.
+module _ {X : Type 0} (test : X → Bool) where
+  any_has : (xs : List X) (k : ℕ) (x : X) → slice_get xs k ≡ Some x → test x ≡ true → list_any test xs ≡ true
+  any_has [] k x at is = absurd cc
+  any_has (y ∷ ys) zero x at is =
+      let same : y ≡ x = cc in ap (λ (b : Bool). b || list_any test ys) (ap test same ∙ is)
+  any_has (y ∷ ys) (suc k) x at is = by (test y) (any_has ys k x at is)
+    where
+      by : (b : Bool) → list_any test ys ≡ true → (b || list_any test ys) ≡ true
+      by true rest = refl
+      by false rest = rest
+
+  record IsOne (xs : List X) : Type 0 where
+    pub place : ℕ
+    pub element : X
+    pub at : slice_get xs place ≡ Some element
+    pub passes : test element ≡ true
+
+  one_of : (xs : List X) → list_any test xs ≡ true → IsOne xs
+  one_of [] is = absurd cc
+  one_of (x ∷ xs) is = by (test x) refl is (one_of xs)
+    where
+      by : (b : Bool) → test x ≡ b → (b || list_any test xs) ≡ true → (list_any test xs ≡ true → IsOne xs) → IsOne (x ∷ xs)
+      by true passes is rest = record { place = 0; element = x; at = refl; passes = passes }
+      by false fails is rest = let r = rest is in record { place = suc r.place; element = r.element; at = r.at; passes = r.passes }
+
+-- The flows of a table, and of the connections whose REQUEST isn't put.
+abbrev out : DeviceEntry → FlowEnd
+out e = record { flow = e.flow; end = e.value.end }
+
+among_entry : (es : List DeviceEntry) (e : DeviceEntry) (k : ℕ) → k < length es → slice_index_or es k e ≡ e
+    → is_among e.flow (flows_of (map out es)) ≡ true
+among_entry [] e k less at = absurd (omega (arith, less))
+among_entry (y ∷ ys) e zero less at =
+    ap (λ (b : Bool). b || is_among e.flow (flows_of (map out ys))) (ap (λ (d : DeviceEntry). same_flow e.flow d.flow) at
+    ∙ same_self e.flow)
+among_entry (y ∷ ys) e (suc k) less at = by (same_flow e.flow y.flow) (among_entry ys e k (omega (arith, less)) at)
+  where
+    by : (b : Bool) → is_among e.flow (flows_of (map out ys)) ≡ true → (b || is_among e.flow (flows_of (map out ys))) ≡ true
+    by true rest = refl
+    by false rest = rest
+
+pub record IsNewOn (es : List DeviceEntry) (f : Flow) : Type 0 where
+  pub entry : DeviceEntry
+  pub there : Contains es entry
+  pub flow : entry.flow ≡ f
+  pub new : is_new entry.value.end ≡ true
+
+pub new_on : (f : Flow) (es : List DeviceEntry) → is_among f (new_flows (map out es)) ≡ true → IsNewOn es f
+new_on f [] is = absurd cc
+new_on f (e ∷ es) is = by (is_new e.value.end) refl is (λ more. later (new_on f es more))
+  where
+    later : IsNewOn es f → IsNewOn (e ∷ es) f
+    later n = let less = n.there.1 in record {
+      entry = n.entry;
+      there = (suc n.there.0, omega (arith, less), n.there.2);
+      flow = n.flow;
+      new = n.new;
+    }
+
+    first : (b : Bool) → same_flow f e.flow ≡ b → is_new e.value.end ≡ true → (b || is_among f (new_flows (map out es))) ≡ true
+        → (is_among f (new_flows (map out es)) ≡ true → IsNewOn (e ∷ es) f) → IsNewOn (e ∷ es) f
+    first true same new is rest = record { entry = e; there = (0, omega arith, refl); flow = sym (same_flow_true f e.flow same); new = new }
+    first false other new is rest = rest is
+
+    by : (b : Bool) → is_new e.value.end ≡ b → is_among f (cond b (e.flow ∷ new_flows (map out es)) (new_flows (map out es))) ≡ true
+        → (is_among f (new_flows (map out es)) ≡ true → IsNewOn (e ∷ es) f) → IsNewOn (e ∷ es) f
+    by true new is rest = first (same_flow f e.flow) refl new is rest
+    by false old is rest = rest is
+
+new_asks : (e : ConnectionEnd) → is_new e ≡ true → e.state ≡ Asked
+new_asks e is = by e.state e.request_put is
+  where
+    by : (s : State) (b : Bool) → is_new_in s b ≡ true → s ≡ Asked
+    by Asked b is = refl
+    by _ b is = absurd cc
+
+opens_by : (s : StreamState) → waits s ≡ false → is_closed s ≡ false → is_open_in s ≡ true
+opens_by state.Waiting a b = absurd cc
+opens_by state.Open a b = refl
+opens_by state.Closed a b = absurd cc
+
+still_by : (s : StreamState) → is_open_in s ≡ true → is_closed s ≡ false
+still_by state.Waiting is = absurd cc
+still_by state.Open is = refl
+still_by state.Closed is = absurd cc
+
+-- Where a flow is in the table, as its log leaves it open or it is new, and each flow of these has what those of the table have.
+pub tied_by : (among opened new waits : Bool) → among ≡ (opened || new) → (new ≡ true → waits ≡ true) → (waits ≡ true → among ≡ true)
+    → among ≡ (opened || waits)
+tied_by among true new waits is up down = is
+tied_by among false true waits is up down = is ∙ sym (up refl)
+tied_by among false false true is up down = down refl
+tied_by among false false false is up down = is
+
+module _ (c : HostContents) (log : Log) (port : ℕ) (t : Table DeviceConnection) (hands : List Handshake)
+    (x : IsStreamed c log port t hands) where
+  -- The stream of a connection whose REQUEST isn't put is open.
+  pub new_open : (e : DeviceEntry) → Contains t.entries e → is_new e.value.end ≡ true → has_open_stream e.flow c ≡ true
+  new_open e is new =
+      let j = All-contains (IsJoined (look c) log) t.entries e x.joined is in
+      let st = there e.value.stream c j.stream j.there in
+      let still : is_closed st.stream.state ≡ false = ap (λ (s : Seen). s.closed) st.is ∙ j.closed
+      ∙ (j.asked (new_asks e.value.end new)).3 in
+      let label : st.stream.label ≡ Some e.flow = ap (λ (s : Seen). s.label) st.is ∙ j.label in
+      let busy = waits_not e.value.stream st.stream st.at e.flow label (waits st.stream.state) refl in
+      let passes : is_open_on e.flow st.stream ≡ true =
+      ap (λ (b : Bool). b && option_map_or (same_flow e.flow) st.stream.label false) (opens_by st.stream.state busy still)
+      ∙ ap (λ (o : Option Flow). option_map_or (same_flow e.flow) o false) label ∙ same_self e.flow in
+      any_has (is_open_on e.flow) c.streams (e.value.stream - 1) st.stream (placed (e.value.stream == 0) e.value.stream st.stream st.at)
+      passes
+    where
+      waits_not : (id : ℕ) (st : Stream) → stream_at id c ≡ Some st → (f : Flow) → st.label ≡ Some f → (b : Bool) → waits st.state ≡ b
+          → waits st.state ≡ false
+      waits_not id st at f label false is = is
+      waits_not id st at f label true is =
+          let client : seen st ≡ client_waits = x.streams.waiting id (seen st) (ap (option_map seen) at) is in
+          let both : None ≡ Some f = sym (ap (λ (s : Seen). s.label) client) ∙ label in
+          absurd cc
+
+      placed : (b : Bool) (id : ℕ) (st : Stream) → cond b None (slice_get c.streams (id - 1)) ≡ Some st
+          → slice_get c.streams (id - 1) ≡ Some st
+      placed true id st at = absurd cc
+      placed false id st at = at
+
+  -- An open stream with a label is that of a connection.
+  pub open_among : (f : Flow) → has_open_stream f c ≡ true → is_among f (flows_of (map out t.entries)) ≡ true
+  open_among f is =
+      let one = one_of (is_open_on f) c.streams is in
+      let parts = and_parts (is_open_in one.element.state) (option_map_or (same_flow f) one.element.label false) one.passes in
+      let label = labelled one.element.label parts.1 in
+      let at : look c (one.place + 1) ≡ Some (seen one.element) = placed one.place one.element one.at in
+      let slot = x.tabled (one.place + 1) (seen one.element) f at label (still_by one.element.state parts.0) in
+      let u = is_under t slot.0 (one.place + 1) slot.1 in
+      let e = u.entry in
+      let within = (found_by (λ (y : DeviceEntry). y.slot == slot.0) t.entries e u.under).0 in
+      let j = All-contains (IsJoined (look c) log) t.entries e x.joined within in
+      let same : seen one.element ≡ j.stream = some_seen (seen one.element) j.stream
+      (sym at ∙ ap (look c) (sym (named e (one.place + 1) u.stream).1) ∙ j.there) in
+      let flow : Some e.flow ≡ Some f = sym j.label ∙ ap (λ (s : Seen). s.label) (sym same) ∙ label in
+      let own : e.flow ≡ f = cc in
+      subst (λ (g : Flow). is_among g (flows_of (map out t.entries)) ≡ true) own (among_entry t.entries e within.0 within.1 within.2)
+    where
+      labelled : (o : Option Flow) → option_map_or (same_flow f) o false ≡ true → o ≡ Some f
+      labelled None is = absurd cc
+      labelled (Some g) is = ap (λ (h : Flow). Some h) (sym (same_flow_true f g is))
+
+      placed : (k : ℕ) (st : Stream) → slice_get c.streams k ≡ Some st → look c (k + 1) ≡ Some (seen st)
+      placed k st at =
+          let some : (k + 1 == 0) ≡ false = grind (arith, nat_tests) in
+          let back : k + 1 - 1 ≡ k = omega arith in
+          ap (λ (b : Bool). option_map seen (cond b None (slice_get c.streams (k + 1 - 1)))) some
+          ∙ ap (λ (i : ℕ). option_map seen (slice_get c.streams i)) back ∙ ap (option_map seen) at
+
+  -- One whose REQUEST isn't put has an open stream.
+  pub new_streams : (f : Flow) → is_among f (new_flows (map out t.entries)) ≡ true → has_open_stream f c ≡ true
+  new_streams f is = let n = new_on f t.entries is in subst (λ (g : Flow). has_open_stream g c ≡ true) n.flow
+      (new_open n.entry n.there n.new)
+
+-- By a ring that tells its log and a host that exposes its streams.
+pub tabled_with : (first port : ℕ) (lines : List Handshake) (s : DeviceState) (a : Situation) → IsWith first port s a.ring
+    → AreStreamedWith first port lines s.table a → IsTabledWith first s a
+tabled_with first port lines s a holds streams honest l is few h there f =
+    let x = streams honest l is few h there in
+    tied_by _ _ _ _ (left_open first port s l ((holds.1 l is).1 honest) f) (new_streams h l.entries port s.table lines x f)
+    (λ opened. ap (is_among f) (same_flows s.table.entries) ∙ open_among h l.entries port s.table lines x f opened)

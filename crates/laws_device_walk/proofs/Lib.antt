@@ -1,0 +1,4 @@
+pub mod Keeping
+pub mod Serving
+pub mod Taking
+pub mod Turning

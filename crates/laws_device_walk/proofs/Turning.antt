@@ -1,0 +1,231 @@
+-- Handshakes and turns.
+use Rattle.std.proofs.Common.{◌≡◌, ℕ, ◌+◌, ◌==◌, nat_lt, Bool, true, false, cond, List, [], ◌∷◌, ◌++◌, length, find, Option, Some, None}
+use Rattle.std.proofs.Common.{Result}
+use Rattle.std.proofs.{Common.Ok, Common.Err, Common.refl, Common.sym, Common.subst, Common.arith, lemmas.Bool.Decides.nat_tests}
+use Rattle.vs_contents.specs.CallTree.{Done, Ask}
+use Rattle.vs_flow.specs.{Flow.host_flow, Table.refusal, declared.flow.Flow.Flow}
+use Rattle.vs_flow.proofs.Entries.{found_passes}
+use Rattle.vs_limits.specs.declared.TheConstants.{HANDSHAKES}
+use Rattle.vs_outside.specs.declared.host_net.{Accepted.Accepted, StreamRead.StreamRead}
+use Rattle.vs_outside.specs.declared.host_net.Accepted.TheVariants as accepted
+use Rattle.vs_outside.specs.declared.host_net.StreamRead.TheVariants as read
+use Rattle.vs_header.specs.declared.Header.{Header}
+use Rattle.vs_ring_port.specs.declared.{device_ring.Chain.Chain, failure.Failure.Failure}
+use Rattle.vs_uds.specs.{ConnectLine.connect_step, declared.connect.TheConstants.CONNECT_MAX, declared.scan.Step.Step}
+use Rattle.vs_uds.specs.declared.scan.Step.TheVariants as step
+use Rattle.vs_device_parts.specs.{declared.answers.Filled.Filled, Calls.Accept, Calls.CloseStream, Calls.DeviceTree, Calls.Label}
+use Rattle.vs_device_parts.specs.{Calls.ReadStream, Connections.is_late, Connections.with_client, Connections.with_fault}
+use Rattle.vs_device_parts.specs.{Receiving.fill_rx_of, Receiving.pay_event_of, State.DeviceState, Streams.pump_of, Streams.tick_of}
+use Rattle.vs_device_parts.specs.{Transmitting.take_tx_of, Turns.open_of}
+use Rattle.vs_proxy_parts.specs.Handshakes.{accept_answered, accept_one, byte_read, dropping, handshake_on, host_fault, line_decided}
+use Rattle.vs_proxy_parts.specs.Handshakes.{may_open, opening, read_byte, read_line, shake_hands, streams_of, tick_handshake}
+use Rattle.vs_proxy_parts.specs.Handshakes.{tick_handshakes, with_line}
+use Rattle.vs_proxy_parts.specs.{Handshakes.without_stream, State.Handshake, State.ProxyState, State.Turning, State.start}
+use Rattle.vs_proxy_parts.specs.Turns.{device_after, event_stage, fill_stage, filled, pump_stage, take_one, take_stage, tick_stage}
+use Rattle.vs_proxy_parts.specs.Turns.{took_packet, turn_of, unless_failed}
+use Rattle.laws_device_walk.specs.Seen.{Seen, seen}
+use Rattle.laws_device_walk.proofs.Keeping.{Asking, Keeps, keeps_each, keeps_if, keeps_some, keeps_then, keeps_while}
+use Rattle.laws_device_walk.proofs.Serving.{Closes, Fills, Writes, keeps_fill_rx, keeps_pay_event, keeps_pump, keeps_tick}
+use Rattle.laws_device_walk.proofs.Taking.{Takes, keeps_take_tx}
+
+module _ {S : Type 0} (K : Asking S) (D : List Handshake → Option Chain → Seen → S → Type 0) where
+  -- What holds of a device and of handshakes between their calls.
+  abbrev pub At : List Handshake → DeviceState → S → Type 0
+  At hands s c = D hands None (seen s) c
+
+  -- The handshake on a stream.
+  abbrev pub IsOn : Handshake → List Handshake → Type 0
+  IsOn h hands = find (λ k. k.stream == h.stream) hands ≡ Some h
+
+  -- A line has another byte: it goes on, or its handshake ends, without a connection or with one.
+  pub record AfterLine (h : Handshake) (line : List ℕ) (hands : List Handshake) (s : DeviceState) (d : S) : Type 0 where
+    pub more : connect_step line ≡ step.More → At (with_line h.stream line hands) s d
+    pub ends : K.asks (CloseStream h.stream) d (λ a e. At (without_stream h.stream (with_line h.stream line hands)) s e)
+    pub refused : At (without_stream h.stream (with_line h.stream line hands)) s d
+    pub opens : (port : ℕ) (p : ProxyState) → connect_step line ≡ step.Port port → may_open p ≡ true
+        → refusal s.table (host_flow port p.next_port) ≡ None → K.asks (Label h.stream (host_flow port p.next_port)) d
+        (λ a e. At (without_stream h.stream (with_line h.stream line hands)) (with_client (host_flow port p.next_port) h.stream s) e)
+
+  abbrev pub AfterByte : Handshake → List Handshake → DeviceState → StreamRead → List ℕ → S → Type 0
+  AfterByte h hands s (read.Got n) bytes d = AfterLine h (h.line ++ bytes) hands s d
+  AfterByte h hands s read.Again bytes d = At hands s d
+  AfterByte h hands s read.End bytes d = At hands s d
+  AfterByte h hands s read.Failed bytes d = At hands (with_fault s) d
+
+  abbrev pub AfterAccept : List Handshake → DeviceState → Accepted → S → Type 0
+  AfterAccept hands s (accepted.Stream id) d = At (hands ++ record { stream = id; accepted_at = s.now; line = [] } ∷ []) s d
+  AfterAccept hands s accepted.None d = At hands s d
+  AfterAccept hands s accepted.Failed d = At hands (with_fault s) d
+
+  pub record Shakes : Type 0 where
+    pub drops : (h : Handshake) (hands : List Handshake) (s : DeviceState) (c : S) → IsOn h hands → At hands s c
+        → K.asks (CloseStream h.stream) c (λ a d. At (without_stream h.stream hands) s d)
+    pub accepts : (hands : List Handshake) (s : DeviceState) (c : S) → At hands s c → K.asks Accept c (λ a d. AfterAccept hands s a d)
+    pub reads : (h : Handshake) (hands : List Handshake) (s : DeviceState) (c : S) → IsOn h hands → At hands s c
+        → K.asks (ReadStream h.stream 1) c (λ a d. AfterByte h hands s a.0 a.1 d)
+
+  abbrev pub Turns : Turning → S → Type 0
+  Turns t c = At t.state.handshakes t.state.device c
+
+  abbrev pub TurnsFirst : Turning × Bool → S → Type 0
+  TurnsFirst x c = Turns x.0 c
+
+  -- HANDSHAKES
+  module _ (shakes : Shakes) where
+    stream_is : (stream : ℕ) (t : Turning) (h : Handshake) → handshake_on stream t.state ≡ Some h → h.stream ≡ stream
+    stream_is stream t h found = let passes = found_passes (λ (k : Handshake). k.stream == stream) t.state.handshakes h found in grind
+        (arith, nat_tests, passes)
+
+    is_on : (stream : ℕ) (t : Turning) (h : Handshake) → handshake_on stream t.state ≡ Some h → IsOn h t.state.handshakes
+    is_on stream t h found = subst (λ (n : ℕ). handshake_on n t.state ≡ Some h) (sym (stream_is stream t h found)) found
+
+    keeps_dropping : (h : Handshake) (t : Turning) (c : S) → IsOn h t.state.handshakes → Turns t c → Keeps K Turns (dropping h.stream t) c
+    keeps_dropping h t c on at = shakes.drops h t.state.handshakes t.state.device c on at
+
+    pub keeps_tick_handshake : (stream : ℕ) (t : Turning) (c : S) → Turns t c → Keeps K Turns (tick_handshake stream t) c
+    keeps_tick_handshake stream t c at =
+        keeps_some K Turns (handshake_on stream t.state) (Done t) (λ h. if_late h) c (λ none. at) (λ h found.
+        keeps_if K Turns (is_late t.state.device.now (Some h.accepted_at)) _ _ c (λ late.
+        subst (λ (n : ℕ). Keeps K Turns (dropping n t) c) (stream_is stream t h found) (keeps_dropping h t c (is_on stream t h found) at))
+        (λ no. at))
+      where
+        if_late : Handshake → DeviceTree Turning
+        if_late h = cond (is_late t.state.device.now (Some h.accepted_at)) (dropping stream t) (Done t)
+
+    pub keeps_tick_handshakes : (t : Turning) (c : S) → Turns t c → Keeps K Turns (tick_handshakes t) c
+    keeps_tick_handshakes t c at = keeps_each K Turns tick_handshake keeps_tick_handshake (streams_of t.state) t c at
+
+    -- A client is accepted.
+    accepted_by : (t : Turning) (a : Accepted) (d : S) → AfterAccept t.state.handshakes t.state.device a d → Turns (accept_answered a t) d
+    accepted_by t (accepted.Stream id) d after = after
+    accepted_by t accepted.None d after = after
+    accepted_by t accepted.Failed d after = after
+
+    pub keeps_accept_one : (t : Turning) (c : S) → Turns t c → Keeps K Turns (accept_one t) c
+    keeps_accept_one t c at =
+        keeps_if K Turns (nat_lt (length t.state.handshakes) HANDSHAKES) _ _ c (λ room.
+        K.weaker Accept c (λ a d. AfterAccept t.state.handshakes t.state.device a d) (λ a d. Turns (accept_answered a t) d) (accepted_by t)
+        (shakes.accepts t.state.handshakes t.state.device c at)) (λ full. at)
+
+    -- A byte of a line is read.
+    module _ (h : Handshake) (t : Turning) where
+      keeps_line_decided : (n : ℕ) (line : List ℕ) (c : S) → AfterLine h line t.state.handshakes t.state.device c → (w : Step)
+          → connect_step line ≡ w
+          → Keeps K TurnsFirst (line_decided h.stream w
+          (record t { state = record t.state { handshakes = with_line h.stream line t.state.handshakes }; read = t.read + n })) c
+      keeps_line_decided n line c after step.More is = after.more is
+      keeps_line_decided n line c after step.Bad is = after.ends
+      keeps_line_decided n line c after (step.Port port) is =
+          keeps_then K TurnsFirst Turns (cond (may_open u.state) (opening h.stream port u) (dropping h.stream u)) (λ v. Done (v, false)) c
+          (keeps_if K Turns (may_open u.state) _ _ c (λ may.
+          keeps_then K Turns (λ r d. At (without_stream h.stream u.state.handshakes) r.0 d) (open_of flow h.stream t.state.device) _ c
+          (keeps_some K (λ r d. At (without_stream h.stream u.state.handshakes) r.0 d) (refusal t.state.device.table flow)
+          (Ask (Label h.stream flow) (λ a. Done (with_client flow h.stream t.state.device, Ok t.state.device.table.given)))
+          (λ fault. Done (t.state.device, Err fault)) c (λ none. after.opens port u.state is may none) (λ fault some. after.refused))
+          (λ r d kept. kept)) (λ no. after.ends)) (λ v d kept. kept)
+        where
+          u : Turning
+          u = record t { state = record t.state { handshakes = with_line h.stream line t.state.handshakes }; read = t.read + n }
+
+          flow : Flow
+          flow = host_flow port t.state.next_port
+
+      keeps_byte_read : (a : StreamRead) (bytes : List ℕ) (c : S) → IsOn h t.state.handshakes
+          → AfterByte h t.state.handshakes t.state.device a bytes c → Keeps K TurnsFirst (byte_read h a bytes t) c
+      keeps_byte_read (read.Got n) bytes c on after = keeps_line_decided n (h.line ++ bytes) c after (connect_step (h.line ++ bytes)) refl
+      keeps_byte_read read.Again bytes c on after = after
+      keeps_byte_read read.End bytes c on after = keeps_dropping h t c on after
+      keeps_byte_read read.Failed bytes c on after = keeps_dropping h (host_fault t) c on after
+
+    pub keeps_read_byte : (stream : ℕ) (t : Turning) (c : S) → Turns t c → Keeps K TurnsFirst (read_byte stream t) c
+    keeps_read_byte stream t c at =
+        keeps_some K TurnsFirst (handshake_on stream t.state) (Done (t, false)) (λ h. asks h stream) c (λ none. at) (λ h found.
+        let on = is_on stream t h found in
+        subst (λ (n : ℕ). Keeps K TurnsFirst (asks h n) c) (stream_is stream t h found)
+        (K.weaker (ReadStream h.stream 1) c (λ a d. AfterByte h t.state.handshakes t.state.device a.0 a.1 d)
+        (λ a d. Keeps K TurnsFirst (byte_read h a.0 a.1 t) d) (λ a d after. keeps_byte_read h t a.0 a.1 d on after)
+        (shakes.reads h t.state.handshakes t.state.device c on at)))
+      where
+        asks : Handshake → ℕ → DeviceTree (Turning × Bool)
+        asks h id = Ask (ReadStream id 1) (λ a. byte_read h a.0 a.1 t)
+
+    pub keeps_shake_hands : (t : Turning) (c : S) → Turns t c → Keeps K Turns (shake_hands t) c
+    keeps_shake_hands t c at =
+        keeps_then K Turns Turns (accept_one t) _ c (keeps_accept_one t c at) (λ u d kept. keeps_each K Turns read_line (λ stream v e had.
+        keeps_while K Turns (read_byte stream) (keeps_read_byte stream) CONNECT_MAX v e had) (streams_of u.state) u d kept)
+
+  -- A TURN
+  pub keeps_unless : (stage : Turning → DeviceTree Turning) → ((t : Turning) (c : S) → Turns t c → Keeps K Turns (stage t) c)
+      → (t : Turning) (c : S)
+      → Turns t c → Keeps K Turns (unless_failed stage t) c
+  keeps_unless stage keeps t c at = by t.state.device.failed
+    where
+      by : (o : Option Failure) → Keeps K Turns (elim o [ Some f ↦ Done t | None ↦ stage t ]) c
+      by (Some f) = at
+      by None = keeps t c at
+
+  module _ (shakes : Shakes) (closes : (hands : List Handshake) → Closes K (D hands)) where
+    pub keeps_tick_stage : (now : ℕ) (t : Turning) (c : S) → Turns t c → Keeps K Turns (tick_stage now t) c
+    keeps_tick_stage now t c at =
+        keeps_then K Turns (At t.state.handshakes) (tick_of now t.state.device) (λ s. tick_handshakes (device_after s t)) c
+        (keeps_tick K (D t.state.handshakes) (closes t.state.handshakes) now t.state.device c at)
+        (λ s d kept. keeps_tick_handshakes shakes (device_after s t) d kept)
+
+    pub keeps_pump_stage : ((hands : List Handshake) → Writes K (D hands)) → (t : Turning) (c : S) → Turns t c
+        → Keeps K Turns (pump_stage t) c
+    keeps_pump_stage writes t c at =
+        keeps_then K Turns (λ w d. At t.state.handshakes w.state d) (pump_of t.state.device) _ c
+        (keeps_pump K (D t.state.handshakes) (closes t.state.handshakes) (writes t.state.handshakes) t.state.device c at) (λ w d kept. kept)
+
+    module _ (fills : (hands : List Handshake) → Fills K (D hands)) where
+      pub keeps_event_stage : (t : Turning) (c : S) → Turns t c → Keeps K Turns (event_stage t) c
+      keeps_event_stage t c at =
+          keeps_then K Turns (λ r d. At t.state.handshakes r.0 d) (pay_event_of t.state.device) _ c
+          (keeps_pay_event K (D t.state.handshakes) (closes t.state.handshakes) (fills t.state.handshakes) t.state.device c at)
+          (λ r d kept. kept)
+
+      pub keeps_fill_stage : (t : Turning) (c : S) → Turns t c → Keeps K Turns (fill_stage t) c
+      keeps_fill_stage t c at =
+          keeps_then K Turns (λ r d. At t.state.handshakes r.0 d) (fill_rx_of t.state.device) _ c
+          (keeps_fill_rx K (D t.state.handshakes) (closes t.state.handshakes) (fills t.state.handshakes) t.state.device c at)
+          (λ r d kept. by r.0 r.1 d kept)
+        where
+          by : (s : DeviceState) (r : Result Filled Failure) (d : S) → At t.state.handshakes s d → Turns (filled r (device_after s t)) d
+          by s (Ok f) d kept = kept
+          by s (Err f) d kept = kept
+
+    -- What holds at a turn's end.
+    abbrev pub Ends : {A : Type 0} → ProxyState × A → S → Type 0
+    Ends x c = At x.0.handshakes x.0.device c
+
+    module _ (U : List Handshake → Chain → Header → Seen → S → Type 0)
+        (takes : (hands : List Handshake) → Takes K (D hands) (U hands)) where
+      keeps_take_one : (t : Turning) (c : S) → Turns t c → Keeps K TurnsFirst (take_one t) c
+      keeps_take_one t c at =
+          keeps_then K TurnsFirst (λ r d. At t.state.handshakes r.0 d) (take_tx_of t.state.device) _ c
+          (keeps_take_tx K (D t.state.handshakes) (U t.state.handshakes) (closes t.state.handshakes)
+          (takes t.state.handshakes) t.state.device c at)
+          (λ r d kept. by r.0 (took_packet r.1) d kept)
+        where
+          by : (s : DeviceState) (b : Bool) (d : S) → At t.state.handshakes s d → Keeps K TurnsFirst (elim b [
+            | true ↦ Done (record (device_after s t) { took = t.took + 1 }, true)
+            | false ↦ Done (device_after s t, false)
+          ]) d
+          by s true d kept = kept
+          by s false d kept = kept
+
+      pub keeps_take_stage : (size : ℕ) (t : Turning) (c : S) → Turns t c → Keeps K Turns (take_stage size t) c
+      keeps_take_stage size t c at = keeps_while K Turns take_one keeps_take_one size t c at
+
+      pub keeps_turn : ((hands : List Handshake) → Writes K (D hands)) → ((hands : List Handshake) → Fills K (D hands))
+          → (size now : ℕ) (s : ProxyState) (c : S) → At s.handshakes s.device c → Keeps K Ends (turn_of size now s) c
+      keeps_turn writes fills size now s c at =
+          keeps_then K Ends Turns (unless_failed (tick_stage now) (start s)) _ c
+          (keeps_unless (tick_stage now) (keeps_tick_stage now) (start s) c at) (λ t c at.
+          keeps_then K Ends Turns (unless_failed event_stage t) _ c (keeps_unless event_stage (keeps_event_stage fills) t c at) (λ t c at.
+          keeps_then K Ends Turns (unless_failed (take_stage size) t) _ c (keeps_unless (take_stage size) (keeps_take_stage size) t c at)
+          (λ t c at.
+          keeps_then K Ends Turns (unless_failed shake_hands t) _ c (keeps_unless shake_hands (keeps_shake_hands shakes) t c at) (λ t c at.
+          keeps_then K Ends Turns (unless_failed pump_stage t) _ c (keeps_unless pump_stage (keeps_pump_stage writes) t c at) (λ t c at.
+          keeps_then K Ends Turns (unless_failed fill_stage t) _ c (keeps_unless fill_stage (keeps_fill_stage fills) t c at)
+          (λ t c at. at))))))

@@ -1,0 +1,134 @@
+-- Where the driver's packets go, carried along its calls.
+use Rattle.std.proofs.Common.{◌≡◌, ◌==◌, ◌&&◌, ◌≤◌, ◌<◌, ◌^◌, ℕ, Bool, true, false, not, List, [], ◌∷◌, take, Result, refl, ap, ◌∙◌}
+use Rattle.std.proofs.{Common.arith, lemmas.Grind.common_steps, lemmas.List.Elements.All-head, lemmas.List.Elements.All-tail}
+use Rattle.std.specs.List.{All}
+use Rattle.vs_header.specs.declared.{Header.Header, Kind.TheVariants.Stream}
+use Rattle.vs_flow.specs.{Flow.same_flow, declared.flow.Flow.Flow}
+use Rattle.laws_history.specs.{declared.packet.Packet.Packet, History.Answerer, History.Asker, History.History, History.Side}
+use Rattle.laws_history.specs.History.{gots, is_begun, puts}
+use Rattle.vs_limits.specs.declared.TheConstants.{HOST_CID, LAST_PORT}
+use Rattle.vs_page.specs.{Log.Device, Log.Driver, Log.Log, Log.flow_got, Log.flow_put, Log.history_of, Log.packets_got, Log.side_of}
+use Rattle.vs_page.specs.{Open.cid_of, Open.is_dropped}
+use Rattle.vs_page.specs.declared.log.LogEntry.TheVariants.{GotEvent, GotPacket, Mark, PutEvent, PutPacket}
+use Rattle.vs_page.proofs.{Entries.one_put, Flows.same_is}
+use Rattle.vs_ring_port.specs.Contents.{RingContents}
+use Rattle.laws_tables.specs.{Heard.is_empty, Steps.owed_on, Steps.payload_on, Steps.reply_on, Steps.request_on}
+use Rattle.vs_driver_parts.specs.{Connections.next_flow, Conversations.DriverTree, Conversations.connect_of, Conversations.new_of}
+use Rattle.vs_driver_parts.specs.{Conversations.poll_of, Conversations.send_of, Playing.Plays, State.DriverState}
+use Rattle.vs_driver_parts.specs.declared.answers.{ConnectError.ConnectError, Polled.Polled, Sent.Sent}
+use Rattle.laws_driver.specs.Honest.{IsFresh, IsHonestWith}
+use Rattle.laws_driver.proofs.Calls.{CarriesConnect, CarriesSend, connect_keeps, new_keeps, rests_of, send_keeps}
+use Rattle.laws_driver.proofs.{Carrying.Carries, Carrying.Fact, Keeping.Keeps, Keeping.keeps_end, Polling.poll_keeps, Staging.Rests}
+use Rattle.laws_driver.proofs.Tabling.{entry_fits}
+use Rattle.laws_rest.specs.Rest.{AreRouted, IsRoutedLog, IsRoutedWith}
+
+abbrev ComesFromHost : Packet → Type 0
+ComesFromHost p = p.header.src_cid ≡ HOST_CID
+
+abbrev Routed : ℕ → Fact
+Routed first part slots log = IsRoutedLog first log
+
+-- A packet with the guest's CID that goes to the host.
+not_dropped : (c cid : ℕ) (h : Header) → h.src_cid ≡ cid → cid ≡ c → h.dst_cid ≡ HOST_CID → is_dropped Device c h ≡ false
+not_dropped c cid h from is to = rw from (rw is (rw to (own c)))
+  where
+    own : (n : ℕ) → not ((n == n) && true) ≡ false
+    own n = grind (arith, common_steps)
+
+goes_to_host : (c : ℕ) (h : Header) → is_dropped Device c h ≡ false → h.dst_cid ≡ HOST_CID
+goes_to_host c h kept = grind (arith, common_steps)
+
+-- A flow on which anything passed is one with the host.
+host_by : (first : ℕ) (f : Flow) (log : Log) → All ComesFromHost (packets_got log) → AreRouted first log
+    → is_empty (history_of Driver f log) ≡ false → f.peer ≡ HOST_CID
+host_by first f [] from routed some = absurd cc
+host_by first f (PutPacket p ∷ log) from routed some = by (same_flow f (flow_put Driver p)) refl (host_by first f log from routed.1)
+  where
+    by : (b : Bool) → same_flow f (flow_put Driver p) ≡ b → (is_empty (history_of Driver f log) ≡ false → f.peer ≡ HOST_CID)
+        → f.peer ≡ HOST_CID
+    by true same rest = ap (λ (g : Flow). g.peer) (same_is f (flow_put Driver p) same) ∙ goes_to_host (cid_of first log) p.header routed.0
+    by false other rest = rest (rw other at some)
+host_by first f (GotPacket p ∷ log) from routed some =
+    by (same_flow f (flow_got Driver p)) refl (host_by first f log (All-tail ComesFromHost p (packets_got log) from) routed)
+  where
+    by : (b : Bool) → same_flow f (flow_got Driver p) ≡ b → (is_empty (history_of Driver f log) ≡ false → f.peer ≡ HOST_CID)
+        → f.peer ≡ HOST_CID
+    by true same rest = ap (λ (g : Flow). g.peer) (same_is f (flow_got Driver p) same) ∙ All-head ComesFromHost p (packets_got log) from
+    by false other rest = rest (rw other at some)
+host_by first f (PutEvent id ∷ log) from routed some = host_by first f log from routed some
+host_by first f (GotEvent id ∷ log) from routed some = host_by first f log from routed some
+host_by first f (Mark cid ∷ log) from routed some = host_by first f log from routed some
+
+begun_some : (side : Side) (h : History) → is_begun side (puts h) (gots h) ≡ true → is_empty h ≡ false
+begun_some Asker [] begun = absurd cc
+begun_some Answerer [] begun = absurd cc
+begun_some side (entry ∷ h) begun = refl
+
+-- Of each call.
+poll_routes : (first : ℕ) → Carries first (Routed first)
+poll_routes first = record {
+  owed = λ what e s log fits stands owes m was fair routed from.
+      let p = owed_on Driver s.cid e.flow e.value.end what in
+      (not_dropped (cid_of first log) s.cid p.header refl m.flows.cid (entry_fits s e fits stands).peer, routed from);
+  reply = λ r rest s log fits is m fair routed from.
+      let p = reply_on Driver s.cid r in
+      let begun = ((((one_put Driver log p).0 fair).1).goes_on refl).begun refl in
+      let host = host_by first r.flow log from (routed from) (begun_some (side_of Driver r.flow) (history_of Driver r.flow log) begun) in
+      (not_dropped (cid_of first log) s.cid p.header refl m.flows.cid host, routed from);
+  got = λ p s log fits ports whole m was fair routed from. routed (All-tail ComesFromHost p (packets_got log) from);
+  event = λ id s log routed. routed;
+  reset = λ cid s log less fits routed. routed;
+}
+
+connect_routes : (first host : ℕ) → CarriesConnect first host (Routed first) (λ answer. Routed first)
+connect_routes first host = record {
+  refused = λ why s log routed. routed;
+  opens = λ s log fits free m was fair routed from.
+      let p = request_on Driver s.cid (next_flow host s) Stream in
+      (not_dropped (cid_of first log) s.cid p.header refl m.flows.cid refl, routed from);
+}
+
+send_routes : (first id : ℕ) (bytes : List ℕ) → CarriesSend first id bytes (Routed first) (λ answer. Routed first)
+send_routes first id bytes = record {
+  stopped = λ why s log routed. routed;
+  unknown = λ s log none routed. routed;
+  empty = λ s log routed. routed;
+  full = λ n s log routed. routed;
+  wants = λ e s log fits stands m routed. routed;
+  sends = λ e n s log fits stands known can few m was fair routed from.
+      let p = payload_on Driver s.cid e.flow e.value.end (take n bytes) in
+      (not_dropped (cid_of first log) s.cid p.header refl m.flows.cid (entry_fits s e fits stands).peer, routed from);
+}
+
+module _ (first : ℕ) (s : DriverState) (c d : RingContents) (honest : IsHonestWith first s c) (routed : IsRoutedWith first c) where
+  starts : Rests first (Routed first) s c
+  starts on l is = ((rests_of first s c honest on l is).0, routed on l is)
+
+  ends : {X : Type 0} (tree : DriverTree (DriverState × X)) (x : DriverState × X) → Keeps (λ y e. Rests first (Routed first) y.0 e) tree c
+      → Plays tree c x d
+      → IsRoutedWith first d
+  ends tree x keeps plays on l is = let kept : Rests first (Routed first) x.0 d = keeps_end _ tree c d x keeps plays in (kept on l is).1
+
+  pub connect_routed : (host : ℕ) (x : DriverState × Result ℕ ConnectError) → host < 2 ^ 32 → Plays (connect_of host s) c x d
+      → IsRoutedWith first d
+  connect_routed host x port =
+      ends (connect_of host s) x (connect_keeps first host (Routed first) (λ answer. Routed first)
+      (connect_routes first host) s c port starts)
+
+  pub send_routed : (id : ℕ) (bytes : List ℕ) (x : DriverState × Sent) → Plays (send_of id bytes s) c x d → IsRoutedWith first d
+  send_routed id bytes x =
+      ends (send_of id bytes s) x (send_keeps first id bytes (Routed first) (λ answer. Routed first)
+      (send_routes first id bytes) s c starts)
+
+  pub poll_routed : (x : DriverState × Polled) → Plays (poll_of s) c x d → IsRoutedWith first d
+  poll_routed x = ends (poll_of s) x (poll_keeps first (Routed first) (poll_routes first) s c starts)
+
+pub new_routed : (size port id : ℕ) (c d : RingContents) (s : DriverState) → port ≤ LAST_PORT → IsFresh c
+    → Plays (new_of size port id) c s d
+    → IsRoutedWith s.cid d
+new_routed size port id c d s fits fresh plays on l is =
+    let fact : Fact = λ part slots log. (first : ℕ) → IsRoutedLog first log in
+    let kept : Rests s.cid fact s d =
+    keeps_end (λ t e. Rests t.cid fact t e) (new_of size port id) c d s
+    (new_keeps size port id fits fact (λ cid first from. tt) c fresh) plays in
+    (kept on l is).1 s.cid

@@ -1,0 +1,17 @@
+use Rattle.std.proofs.Common.{arith, refl}
+use Rattle.laws_driver_bytes.specs.Calls as call
+use Rattle.laws_driver_bytes.proofs.SamePages.{listen_stays}
+use Rattle.vs_driver.proofs.RingPages.{ring_same}
+use Rattle.vs_apps_parts.specs.declared.journal.Called.TheVariants as called
+use Rattle.laws_apps.proofs.Making.{calls_as, listen_plays}
+use Rattle.vs_apps.proofs.calls.listen.Goals as goal
+
+pub returns-clause-ring : goal.returns-clause-ring
+returns-clause-ring c = λ n flown staged. ring_same n flown staged _ _
+    (listen_stays c.args.port _ _ c.listen-answer.result c.listen-answer.ensures.listens c.listen-answer.ensures.unchanged)
+
+pub returns-clause-calls : goal.returns-clause-calls
+returns-clause-calls c = λ script ring apps bytes. calls_as script c.args.app (call.Listen c.args.port) c.listen-answer.result
+    (called.Listen c.args.port c.listen-answer.result) c.listen-answer.new.self _ _ bytes refl (omega arith) tt refl _ ring ring apps _ refl
+    (listen_plays c.args.port _ _ _ ring c.listen-answer.ensures.answer c.listen-answer.ensures.listens c.listen-answer.ensures.unchanged)
+    (c.note_called.ensures.told script bytes) c.note_called.ensures.noted

@@ -1,0 +1,150 @@
+//! The guests of a run, which a lock keeps: their type names the rings and the script.
+
+ghost use Rattle.std.specs.Prelude.{◌≡◌, ◌<◌, ℕ, [], IfOk, length};
+ghost use Rattle.vs_apps_parts.specs.Scripts.{AreRight, script_of};
+ghost use Rattle.vs_ring_shared.specs.{Countings.met_between, Meetings.AreOneTable, Meetings.after_hearing, Meetings.what_it_did};
+ghost use Rattle.vs_ring_shared.specs.Sights.{empty_sight, flight_of};
+ghost use Rattle.laws_apps.specs.Runs.{IsRunOf, PollsTo, Steps};
+ghost use Rattle.vs_apps.specs.Guests.{run_in};
+
+use crate::steps::step;
+use std::alloc::{AllocError, Global};
+use std::marker::{Brand, Model};
+use vs_apps_parts::journal::Journal;
+use vs_apps_parts::progress::{AppState, Progress, Stepped};
+use vs_driver::{Driver, Polled};
+use vs_ring_port::{DriverRing, Queue};
+use vs_ring_shared::{DeviceEnd, DriverEnd, Met, RingName, meet, note};
+use vs_script::App;
+
+/// Which run it is: its rings, and its script. Each call of a program picks them.
+pub trait RunName: RingName {
+    ghost use Rattle.vs_apps_parts.specs.Scripts.{RunScript};
+
+    /// The script, as plain data.
+    ghost script: { RunScript };
+}
+
+impl RunName for Brand {
+    ghost use Rattle.std.specs.Prelude.{[]};
+
+    ghost script = { [] };
+}
+
+/// The driver and its end of the rings, the apps, and the journal. They are a run of the script that the type names.
+#[derive(Drop)]
+pub struct Guests<N: RunName> {
+    driver: Driver,
+    end: DriverEnd<N>,
+    script: Vec<App>,
+    apps: Vec<AppState>,
+    journal: Journal,
+}
+
+impl<N: RunName> Model for Guests<N> {
+    ghost use Rattle.std.specs.Prelude.{◌≡◌};
+    ghost use Rattle.vs_apps_parts.specs.Scripts.{script_of};
+    ghost use Rattle.vs_apps.specs.Guests.{AreGuests, GuestsState, guests_with};
+
+    ghost Value = { GuestsState };
+
+    ghost view = { λ g. guests_with g.driver g.end g.apps.items g.journal };
+
+    ghost invariant = { λ g. (script_of g.script.items ≡ N.script) × AreGuests N.script (guests_with g.driver g.end g.apps.items g.journal) };
+}
+
+/// What the type says of guests, where `first` was the guest's CID when their driver was made. The calls of each app are, in order, its
+/// instructions. What the journal says was sent on a connection is the payload that the log put there; and what it says was received, with
+/// the bytes that are unread behind, is the payload that was delivered.
+pub fn laws_of_guests<N: RunName>(guests: &Guests<N>)
+    ensures { (first : ℕ) × IsRunOf first N.script (run_in guests.now) }
+{
+    let _apps = guests.apps.len();
+}
+
+impl<N: RunName> Guests<N> {
+    /// Guests that did nothing yet, over an end of rings in which nothing was put.
+    ///
+    /// The only error is want of memory.
+    pub fn new(alloc: Global, script: Vec<App>, end: DriverEnd<N>) -> Result<Guests<N>, AllocError>
+        requires script { script_of script.items ≡ N.script }
+        requires right { AreRight N.script }
+        requires fresh { end ≡ empty_sight N.ring end.size }
+        ensures entries { IfOk result (λ guests. guests.entries ≡ []) }
+        ensures bytes { IfOk result (λ guests. guests.bytes ≡ []) }
+    {
+        let mut end = end;
+        let driver = Driver::new(alloc, &mut end)?;
+        let begun = AppState {
+            progress: Progress::begun(),
+            waiting: None,
+        };
+        let apps = vec![in alloc; begun; script.len()]?;
+        Ok(Guests {
+            driver,
+            end,
+            script,
+            apps,
+            journal: Journal {
+                entries: Vec::new(alloc),
+                bytes: Vec::new(alloc),
+            },
+        })
+    }
+
+    /// How many apps there are.
+    pub fn count(&self) -> usize
+        ensures { result ≡ length N.script }
+    {
+        self.script.len()
+    }
+
+    /// A step of app `k`, counted from 0: a poll, and then the calls of the instruction that the app is at. It answers too whether the poll took
+    /// or put anything. Nothing is done where memory is wanted.
+    pub fn step(&mut self, k: usize) -> (Stepped, bool)
+        requires { k < length N.script }
+        ensures { Steps N.script k result.0 result.1 (run_in self.old) (run_in self.new) }
+    {
+        step(
+            &mut self.driver,
+            &mut self.end,
+            &mut self.apps,
+            &mut self.journal,
+            &self.script,
+            k,
+        )
+    }
+
+    /// A poll of the driver.
+    pub fn poll(&mut self) -> Polled
+        ensures { PollsTo result (run_in self.old) (run_in self.new) }
+    {
+        self.driver.poll(&mut self.end)
+    }
+
+    /// Pages of the transmit queue that didn't come back.
+    pub fn in_flight(&self) -> u16
+        ensures { result ≡ (flight_of self.now.end).tx }
+    {
+        self.end.in_flight(Queue::Tx)
+    }
+
+    /// Tells the driver's end and the device's what the other did so far.
+    pub fn note(&mut self, device: &mut DeviceEnd<N>)
+        ensures driver { self.new ≡ record self.old { end = after_hearing (what_it_did device.old.sight) self.old.end } }
+        ensures device { device.new ≡ record device.old { sight = after_hearing (what_it_did self.old.end) device.old.sight } }
+        ensures fits { AreOneTable self.old.end device.old.sight }
+    {
+        note(&mut self.end, device);
+    }
+
+    /// The same, with how many packets and events each end put and got, modulo 2^64.
+    pub fn meet(&mut self, device: &mut DeviceEnd<N>) -> Met
+        ensures driver { self.new ≡ record self.old { end = after_hearing (what_it_did device.old.sight) self.old.end } }
+        ensures device { device.new ≡ record device.old { sight = after_hearing (what_it_did self.old.end) device.old.sight } }
+        ensures fits { AreOneTable self.old.end device.old.sight }
+        ensures numbers { result ≡ met_between self.old.end.log device.old.sight.log }
+    {
+        meet(&mut self.end, device)
+    }
+}

@@ -1,0 +1,269 @@
+//! The apps of a run, each on a thread of its own, beside a device on the caller's.
+
+ghost use Rattle.std.specs.Prelude.{◌≡◌, ◌<◌, ◌≤◌, ℕ, IfOk, length, vec_len};
+ghost use Rattle.laws_apps.specs.Runs.{IsRunOf};
+ghost use Rattle.vs_apps.specs.Guests.{run_in};
+
+use crate::guests::{Guests, RunName, laws_of_guests};
+use std::alloc::Global;
+use std::sync::atomic::{AtomicU64, Ordering};
+use std::sync::{Mutex, Wait};
+use std::thread;
+use std::thread::Threads;
+use vs_apps_parts::progress::Stepped;
+use vs_outside::Gate;
+
+/// Want of memory.
+#[derive(Clone, Copy, Drop)]
+pub struct OutOfMemory;
+
+/// A device that is turned beside the apps.
+pub trait Turning {
+    /// A turn. It answers whether anything moved.
+    fn turn(&mut self) -> bool;
+}
+
+// How an app goes on: how many steps it made, how many of these waited in a row, and whether it has ended.
+#[derive(Clone, Copy)]
+struct Pace {
+    steps: u64,
+    waits: u32,
+    ended: bool,
+}
+
+// Before the first step.
+const STANDING: Pace = Pace {
+    steps: 0,
+    waits: 0,
+    ended: false,
+};
+
+// A step under the lock.
+fn step_locked<W: Wait, N: RunName, G: Gate>(
+    rt: &W,
+    lock: &Mutex<Guests<N>>,
+    k: usize,
+    gate: &G,
+) -> Stepped
+    requires { k < length N.script }
+{
+    let mut guests = lock.lock(rt);
+    gate.holding(k);
+    guests.step(k).0
+}
+
+// A step of an app, which ends where it is done, or waited so many steps in a row.
+fn go_on<W: Wait, N: RunName, G: Gate>(
+    rt: &W,
+    lock: &Mutex<Guests<N>>,
+    k: usize,
+    pace: &mut Pace,
+    idle: u32,
+    gate: &mut G,
+) -> Result<(), OutOfMemory>
+    requires { k < length N.script }
+{
+    pace.steps = pace.steps.saturating_add(1);
+    gate.before(k, pace.steps);
+    match step_locked(rt, lock, k, gate) {
+        Stepped::Moved => pace.waits = 0,
+        Stepped::Done => pace.ended = true,
+        Stepped::OutOfMemory => return Err(OutOfMemory),
+        Stepped::Waiting(_) => {
+            pace.waits = pace.waits.saturating_add(1);
+            pace.ended = pace.waits >= idle;
+            gate.pause();
+        }
+    }
+    Ok(())
+}
+
+/// The steps of an app, each under the lock, until the app is done or waited `idle` steps in a row. `before`, `holding` and `pause` of the gate
+/// are called at each step.
+///
+/// The only error is want of memory.
+pub fn worker<W: Wait, N: RunName, G: Gate>(
+    rt: &W,
+    lock: &Mutex<Guests<N>>,
+    k: usize,
+    idle: u32,
+    gate: &mut G,
+) -> Result<(), OutOfMemory>
+    requires { k < length N.script }
+{
+    let mut pace = STANDING;
+    for _ in rt.forever() {
+        go_on(rt, lock, k, &mut pace, idle, gate)?;
+        if pace.ended {
+            return Ok(());
+        }
+    }
+    unreachable!()
+}
+
+// An app of which no thread could be started is the caller's own.
+#[derive(Clone, Copy)]
+struct Own {
+    mine: bool,
+    pace: Pace,
+}
+
+// A step of each app that is the caller's own and hasn't ended.
+fn step_all_own<W: Wait, N: RunName, G: Gate>(
+    rt: &W,
+    lock: &Mutex<Guests<N>>,
+    own: &mut Vec<Own>,
+    idle: u32,
+    gate: &mut G,
+) -> Result<(), OutOfMemory>
+    requires { vec_len own.old ≤ length N.script }
+    ensures { vec_len own.new ≡ vec_len own.old }
+{
+    for k in 0..own.len() {
+        if own[k].mine && !own[k].pace.ended {
+            go_on(rt, lock, k, &mut own[k].pace, idle, gate)?;
+        }
+    }
+    Ok(())
+}
+
+// How many of the caller's own apps have ended.
+fn own_ended(own: &[Own]) -> u64 {
+    let mut ended = 0u64;
+    for app in own {
+        if app.mine && app.pace.ended {
+            ended = ended.saturating_add(1);
+        }
+    }
+    ended
+}
+
+// What the threads share beside the guests: how many workers have ended, and whether one wanted memory.
+#[derive(Drop)]
+struct Shared {
+    ended: AtomicU64,
+    wants: AtomicU64,
+}
+
+// Turns until all apps have ended, with a step of each of the caller's own apps between turns.
+fn turn_all<W: Wait, N: RunName, D: Turning, G: Gate>(
+    rt: &W,
+    lock: &Mutex<Guests<N>>,
+    shared: &Shared,
+    own: &mut Vec<Own>,
+    device: &mut D,
+    idle: u32,
+    gate: &mut G,
+) -> Result<(), OutOfMemory>
+    requires { vec_len own.old ≤ length N.script }
+{
+    let mut turns = 0u64;
+    for _ in rt.forever() {
+        let moved = device.turn();
+        turns = turns.saturating_add(1);
+        gate.turned(turns);
+        step_all_own(rt, lock, own, idle, gate)?;
+        let ended = own_ended(own.as_slice()).saturating_add(shared.ended.load(Ordering::SeqCst));
+        if ended >= own.len() as u64 {
+            return Ok(());
+        }
+        if !moved {
+            gate.pause();
+        }
+    }
+    unreachable!()
+}
+
+// A worker, which tells that it has ended, and whether it wanted memory.
+fn work<W: Wait, N: RunName, G: Gate>(
+    rt: &W,
+    lock: &Mutex<Guests<N>>,
+    shared: &Shared,
+    k: usize,
+    idle: u32,
+    gate: &mut G,
+)
+    requires { k < length N.script }
+{
+    if worker(rt, lock, k, idle, gate).is_err() {
+        shared.wants.store(1, Ordering::SeqCst);
+    }
+    shared.ended.fetch_add(1, Ordering::SeqCst);
+}
+
+// The threads of the apps, each with a gate, and the device beside them.
+fn work_all<'x, W: Threads + Wait + Sync, N: RunName + Send, D: Turning, G: Gate + Send + Drop>(
+    rt: &'x W,
+    lock: &'x Mutex<Guests<N>>,
+    shared: &'x Shared,
+    own: &mut Vec<Own>,
+    device: &mut D,
+    idle: u32,
+    gates: &mut Vec<G>,
+    gate: &mut G,
+)
+    requires { vec_len own.old ≤ length N.script }
+{
+    thread::scope(
+        thread::scope_env(),
+        rt,
+        |scope|
+            requires { vec_len own.now ≤ length N.script }
+        {
+            for k in 0..own.len() {
+                let Some(mut own_gate) = gates.pop() else {
+                    own[k].mine = true;
+                    continue;
+                };
+                let started = scope.spawn(
+                    move ||
+                        requires { k < length N.script }
+                    { work(rt, lock, shared, k, idle, &mut own_gate) },
+                );
+                if started.is_err() {
+                    own[k].mine = true;
+                }
+            }
+            if turn_all(rt, lock, shared, own, device, idle, gate).is_err() {
+                shared.wants.store(1, Ordering::SeqCst);
+            }
+        },
+    );
+}
+
+/// Runs all apps, each on a thread of its own, beside the device, which the caller's thread turns until all apps have ended: an app ends where
+/// it is done or waited `idle` steps in a row. Each thread takes a gate off `gates`; an app that has none, or of which no thread could be
+/// started, is stepped by the caller between turns. The guests come out of their lock with all that their type says.
+///
+/// The only error is want of memory.
+pub fn run_all<W: Threads + Wait + Sync, N: RunName + Send, D: Turning, G: Gate + Send + Drop>(
+    rt: &W,
+    alloc: Global,
+    guests: Guests<N>,
+    device: &mut D,
+    idle: u32,
+    gates: &mut Vec<G>,
+    gate: &mut G,
+) -> Result<Guests<N>, OutOfMemory>
+    ensures { IfOk result (λ guests. (first : ℕ) × IsRunOf first N.script (run_in guests)) }
+{
+    let count = guests.count();
+    let Ok(mut own) = vec![in alloc; Own {
+        mine: false,
+        pace: STANDING
+    }; count] else {
+        return Err(OutOfMemory);
+    };
+    let lock = Mutex::new(guests);
+    let shared = Shared {
+        ended: AtomicU64::new(0),
+        wants: AtomicU64::new(0),
+    };
+    work_all(rt, &lock, &shared, &mut own, device, idle, gates, gate);
+    if shared.wants.load(Ordering::SeqCst) != 0 {
+        return Err(OutOfMemory);
+    }
+    let guests = lock.into_inner();
+    laws_of_guests(&guests);
+    Ok(guests)
+}

@@ -1,0 +1,4 @@
+pub mod Told
+pub mod Scripts
+pub mod Journals
+pub mod Examples
