@@ -7,14 +7,14 @@ use Rattle.vs_conn.specs.{End.ConnectionEnd, declared.end.State.State, declared.
 use Rattle.vs_device_parts.specs.{Calls.Situation, State.DeviceConnection, State.DeviceEntry, State.DeviceState}
 use Rattle.vs_flow.specs.{Flow.same_flow, Table.Table, declared.flow.Flow.Flow}
 use Rattle.vs_flow.proofs.Entries.{same_flow_true}
-use Rattle.vs_outside.specs.Host.{HostContents, Stream, stream_at, waits}
+use Rattle.vs_outside.specs.{Host.HostContents, Host.Stream, Host.stream_at, Host.waits, HostProgram.closes}
 use Rattle.vs_outside.specs.declared.host_net.StreamState.{StreamState}
 use Rattle.vs_page.specs.Log.{Log}
 use Rattle.vs_page.proofs.Flows.{same_self}
 use Rattle.vs_proxy_parts.specs.State.{Handshake}
 use Rattle.laws_tables.specs.Ends.{FlowEnd, flows_of, is_among, is_new, is_new_in, new_flows}
 use Rattle.laws_tables.proofs.Slots.{found_by}
-use Rattle.laws_device_bytes.specs.Streamed.{IsJoined, IsStreamed, Seen, client_waits, is_closed, look, seen}
+use Rattle.laws_device_bytes.specs.Streamed.{IsJoined, IsStreamed, Seen, client_waits, look, seen}
 use Rattle.laws_device_bytes.proofs.{Closing.is_under, Closing.named, HostCalls.some_seen, Hosts.there}
 use Rattle.laws_device.specs.{Honest.IsWith, Streams.AreStreamedWith, Streams.IsTabledWith, Streams.has_open_stream, Streams.is_open_in}
 use Rattle.laws_device.specs.Streams.{is_open_on}
@@ -98,12 +98,12 @@ new_asks e is = by e.state e.request_put is
     by Asked b is = refl
     by _ b is = absurd cc
 
-opens_by : (s : StreamState) → waits s ≡ false → is_closed s ≡ false → is_open_in s ≡ true
+opens_by : (s : StreamState) → waits s ≡ false → closes s ≡ false → is_open_in s ≡ true
 opens_by state.Waiting a b = absurd cc
 opens_by state.Open a b = refl
 opens_by state.Closed a b = absurd cc
 
-still_by : (s : StreamState) → is_open_in s ≡ true → is_closed s ≡ false
+still_by : (s : StreamState) → is_open_in s ≡ true → closes s ≡ false
 still_by state.Waiting is = absurd cc
 still_by state.Open is = refl
 still_by state.Closed is = absurd cc
@@ -123,7 +123,7 @@ module _ (c : HostContents) (log : Log) (port : ℕ) (t : Table DeviceConnection
   new_open e is new =
       let j = All-contains (IsJoined (look c) log) t.entries e x.joined is in
       let st = there e.value.stream c j.stream j.there in
-      let still : is_closed st.stream.state ≡ false = ap (λ (s : Seen). s.closed) st.is ∙ j.closed
+      let still : closes st.stream.state ≡ false = ap (λ (s : Seen). s.closed) st.is ∙ j.closed
       ∙ (j.asked (new_asks e.value.end new)).3 in
       let label : st.stream.label ≡ Some e.flow = ap (λ (s : Seen). s.label) st.is ∙ j.label in
       let busy = waits_not e.value.stream st.stream st.at e.flow label (waits st.stream.state) refl in

@@ -5,22 +5,15 @@ use Rattle.vs_conn.specs.{End.ConnectionEnd, declared.end.State.State, declared.
 use Rattle.vs_conn.specs.declared.end.State.TheVariants.{Asked, Live}
 use Rattle.vs_device_parts.specs.State.{DeviceConnection, DeviceEntry}
 use Rattle.vs_flow.specs.{Flow.is_assigned, Table.Table, declared.flow.Flow.Flow}
-use Rattle.vs_outside.specs.{Host.HostContents, Host.Stream, Host.stream_at, Host.waits, HostBytes.after_line}
-use Rattle.vs_outside.specs.declared.host_net.{StreamState.StreamState, StreamState.TheVariants.Closed}
+use Rattle.vs_outside.specs.{Host.HostContents, Host.Stream, Host.stream_at, Host.waits, HostBytes.after_line, HostProgram.is_closed}
 use Rattle.laws_device_streams.specs.Streams.{stream_under}
 use Rattle.vs_uds.specs.{declared.scan.TheConstants.LF, OkLine.ok_text, Reading.is_decided, declared.connect.TheConstants.CONNECT_MAX}
 use Rattle.vs_page.specs.{Fair.IsPrefixOf, Log.Device, Log.Log}
 use Rattle.vs_proxy_parts.specs.State.{Handshake}
 use Rattle.laws_bytes.specs.Drains.{Drains, got_on, has_passed, put_on}
 
--- Whether the proxy closed a stream.
-abbrev pub is_closed : StreamState → Bool
-is_closed Closed = true
-is_closed _ = false
-
 -- What counts of a stream: its label, who made it, whether it waits to be accepted, whether the proxy closed it, and the bytes that the
--- proxy
--- took of it and gave it.
+-- proxy took of it and gave it.
 pub record Seen : Type 0 where
   pub label : Option Flow
   pub by_client : Bool
@@ -34,7 +27,7 @@ seen s = record {
   label = s.label;
   by_client = s.by_client;
   waiting = waits s.state;
-  closed = is_closed s.state;
+  closed = is_closed s;
   taken = s.taken;
   given = s.given;
 }
