@@ -1,11 +1,12 @@
 -- Slots whose keys lead to entries: what is found by a slot and by a place, and what insertions, removals and writes leave.
 use Rattle.std.proofs.lemmas.{Bool.Decides.nat_tests, List.Edits.length-remove, List.Elements.All-cons, List.Elements.All-map}
-use Rattle.std.proofs.lemmas.List.{Folds.map_fixed, append_assoc, Kept.AllPairs-cons, Kept.AllPairs-filter, Sums.sum_by-set}
-use Rattle.std.proofs.{lemmas.List.Filters.length-filter_both, lemmas.Option.slice_get_within, Math.ListN.get_or-append}
-use Rattle.std.proofs.Common.{◌≡◌, ◌≢◌, ℕ, zero, suc, ◌+◌, ◌<◌, ◌≤◌, Bool, true, false, not, cond, ◌==◌, List, [], ◌∷◌, ◌++◌, length, map}
-use Rattle.std.proofs.Common.{get_or, Option, Some, None, is_some, refl, ap, sym, subst, ◌∙◌, arith, length-append, nat_eq}
+use Rattle.std.proofs.lemmas.List.{Folds.map_fixed, append_assoc, Kept.AllPairs-cons, Sums.sum_by-set}
+use Rattle.std.proofs.{lemmas.Option.slice_get_within, lemmas.Option.slice_get_cases, lemmas.Option.slice_get_read, Math.ListN.get_or-append}
+use Rattle.std.proofs.Common.{◌≡◌, ◌≢◌, ℕ, zero, suc, ◌+◌, ◌<◌, ◌≤◌, Bool, false, not, cond, ◌==◌, List, [], ◌∷◌, ◌++◌, length, map}
+use Rattle.std.proofs.Common.{get_or, Option, Some, None, is_some, inl, inr, refl, ap, sym, subst, ◌∙◌, arith, length-append}
 use Rattle.std.proofs.Math.Seq.{get_or-append_seam}
-use Rattle.std.specs.{List.All, List.AllPairs, List.AllWithin, List.find, List.filter, List.remove, List.slice_get, Map.lookup}
+use Rattle.std.specs.List.{All, AllPairs, AllWithin, find, filter, position, position_or_len, remove, slice_get}
+use Rattle.std.specs.Map.{lookup}
 use Rattle.std.specs.Option.{option_and_then}
 use Rattle.indexmap.specs.IndexMap.{insert_entry}
 use Rattle.indexmap.proofs.MapLemmas.{absent_from_lookup, insert_entry-absent}
@@ -13,7 +14,7 @@ use Rattle.slab.specs.Slab.{ContainsKey, Slab, Updates, get, slab_len, with_valu
 use Rattle.slab.proofs.SlabLemmas.{ContainsKey-within, Updates-with_value}
 use Rattle.vs_flow.specs.{declared.flow.Flow.Flow, declared.table.Entry.Entry, Flow.same_flow, Entries.entries_of, Entries.slots_by_flow}
 use Rattle.vs_flow.specs.{Entries.AreLedTo, Table.IsRising, Table.revalued}
-use Rattle.vs_flow.proofs.{Entries.above_head, Entries.remove_at, Entries.rising_tail, Entries.same_flow_false, Lookups.find_place}
+use Rattle.vs_flow.proofs.Entries.{All_at, above_head, find_position, found_passes, position_within, remove_at, rising_tail, same_flow_false}
 use Rattle.vs_flow.proofs.Lookups.{others_differ, tail_distinct}
 
 module _ {T : Type 0} (under : ℕ → Option (Entry T)) where
@@ -22,14 +23,6 @@ module _ {T : Type 0} (under : ℕ → Option (Entry T)) where
   led_is [] (e ∷ es) l = absurd l
   led_is (k ∷ keys) [] l = absurd l
   led_is (k ∷ keys) (e ∷ es) l = rw l.0.0 (ap (λ xs. e ∷ xs) (led_is keys es l.1))
-
-  -- by a slot
-  pub led_find : (slot : ℕ) (keys : List (ℕ × ℕ)) (es : List (Entry T)) → AreLedTo under keys es
-      → option_and_then under (lookup (nat_eq slot) keys) ≡ find (λ e. e.slot == slot) es
-  led_find slot [] [] l = refl
-  led_find slot [] (e ∷ es) l = absurd l
-  led_find slot (k ∷ keys) [] l = absurd l
-  led_find slot (k ∷ keys) (e ∷ es) l = let rest = led_find slot keys es l.1 in grind (arith, nat_tests, l.0.0, l.0.1, rest)
 
   -- by a place
   pub led_at : (place : ℕ) (keys : List (ℕ × ℕ)) (es : List (Entry T)) → AreLedTo under keys es
@@ -40,17 +33,23 @@ module _ {T : Type 0} (under : ℕ → Option (Entry T)) where
   led_at zero (k ∷ keys) (e ∷ es) l = l.0.0
   led_at (suc place) (k ∷ keys) (e ∷ es) l = led_at place keys es l.1
 
-  pub led_slots : (keys : List (ℕ × ℕ)) (es : List (Entry T)) → AreLedTo under keys es → map (λ k. k.0) keys ≡ map (λ e. e.slot) es
-  led_slots [] [] l = refl
-  led_slots [] (e ∷ es) l = absurd l
-  led_slots (k ∷ keys) [] l = absurd l
-  led_slots (k ∷ keys) (e ∷ es) l = λ i. sym l.0.1 i ∷ led_slots keys es l.1 i
-
   pub led_long : (keys : List (ℕ × ℕ)) (es : List (Entry T)) → AreLedTo under keys es → length keys ≡ length es
   led_long [] [] l = refl
   led_long [] (e ∷ es) l = absurd l
   led_long (k ∷ keys) [] l = absurd l
   led_long (k ∷ keys) (e ∷ es) l = ap suc (led_long keys es l.1)
+
+  -- a search by slot
+  pub led_position : (slot : ℕ) (keys : List (ℕ × ℕ)) (es : List (Entry T)) → AreLedTo under keys es
+      → position (λ k. k.0 == slot) keys ≡ position (λ e. e.slot == slot) es
+  led_position slot keys es l = rw (led_long keys es l, first keys es l) refl
+    where
+      first : (ks : List (ℕ × ℕ)) (ds : List (Entry T)) → AreLedTo under ks ds
+          → position_or_len (λ k. k.0 == slot) ks ≡ position_or_len (λ e. e.slot == slot) ds
+      first [] [] l = refl
+      first [] (d ∷ ds) l = absurd l
+      first (k ∷ ks) [] l = absurd l
+      first (k ∷ ks) (d ∷ ds) l = let rest = first ks ds l.1 in grind (arith, nat_tests, l.0.1, rest)
 
   pub slots_rise : (keys : List (ℕ × ℕ)) (es : List (Entry T)) → AreLedTo under keys es → IsRising es → AllPairs (λ j k. j.0 < k.0) keys
   slots_rise [] [] l rising = λ i j d lt within. absurd (omega (arith, within))
@@ -109,19 +108,6 @@ module _ {T : Type 0} (under : ℕ → Option (Entry T)) where
     led_after same (k ∷ keys) (e ∷ es) l = ((same k.1 e l.0.0, l.0.1), led_after same keys es l.1)
 
     module _ (slot : ℕ) (others : (key : ℕ) (e : Entry T) → under key ≡ Some e → e.slot ≢ slot → after key ≡ Some e) where
-      pub led_without : (keys : List (ℕ × ℕ)) (es : List (Entry T)) → AreLedTo under keys es
-          → AreLedTo after (filter (λ k. not (k.0 == slot)) keys) (filter (λ e. not (e.slot == slot)) es)
-      led_without [] [] l = tt
-      led_without [] (e ∷ es) l = absurd l
-      led_without (k ∷ keys) [] l = absurd l
-      led_without (k ∷ keys) (e ∷ es) l = rw (ap (λ n. n == slot) l.0.1) (by (k.0 == slot) refl (led_without keys es l.1))
-        where
-          by : (b : Bool) → (k.0 == slot) ≡ b → AreLedTo after (filter (λ k. not (k.0 == slot)) keys) (filter (λ e. not (e.slot == slot)) es)
-              → AreLedTo after (cond (not b) (k ∷ filter (λ k. not (k.0 == slot)) keys) (filter (λ k. not (k.0 == slot)) keys))
-              (cond (not b) (e ∷ filter (λ e. not (e.slot == slot)) es) (filter (λ e. not (e.slot == slot)) es))
-          by true is rest = rest
-          by false is rest = ((others k.1 e l.0.0 (grind (arith, nat_tests, is, l.0.1)), l.0.1), rest)
-
       -- where no entry has the slot
       pub led_apart : (keys : List (ℕ × ℕ)) (es : List (Entry T)) → All (λ e. slot < e.slot) es → AreLedTo under keys es → AreLedTo after keys es
       led_apart [] [] above l = tt
@@ -132,52 +118,53 @@ module _ {T : Type 0} (under : ℕ → Option (Entry T)) where
         led_apart keys es (λ i d lt. above (suc i) d (omega arith)) l.1,
       )
 
+      -- where the entry that has it goes
+      pub led_without : (place : ℕ) (x : Entry T) (keys : List (ℕ × ℕ)) (es : List (Entry T)) → AreLedTo under keys es → IsRising es
+          → slice_get es place ≡ Some x → x.slot ≡ slot → AreLedTo after (remove keys place) (remove es place)
+      led_without place x [] [] l rising there is = absurd (cc)
+      led_without place x [] (e ∷ es) l rising there is = absurd l
+      led_without place x (k ∷ keys) [] l rising there is = absurd l
+      led_without zero x (k ∷ keys) (e ∷ es) l rising there is =
+          let one : e ≡ x = cc in
+          led_apart keys es (subst (λ n. All (λ d. n < d.slot) es) (ap (λ (d : Entry T). d.slot) one ∙ is) (above_head e es rising)) l.1
+      led_without (suc place) x (k ∷ keys) (e ∷ es) l rising there is =
+          let above : e.slot < x.slot = All_at (λ d. e.slot < d.slot) es place x (above_head e es rising) there in
+          ((others k.1 e l.0.0 (omega (arith, above, is)), l.0.1), led_without place x keys es l.1 (rising_tail e es rising) there is)
+
 -- the keys that lead to a slab's entries
 module _ {T : Type 0} (slab : Slab (Entry T)) where
-  -- the entry under a slot's key
-  pub record IsKeyOf (es : List (Entry T)) (slot key : ℕ) (x : Entry T) : Type 0 where
-    pub at : get slab key ≡ Some x
+  -- the key and the entry at the place of a slot
+  pub record IsKeyOf (keys : List (ℕ × ℕ)) (es : List (Entry T)) (slot place : ℕ) (k : ℕ × ℕ) (x : Entry T) : Type 0 where
+    pub key_at : slice_get keys place ≡ Some k
+    pub there : slice_get es place ≡ Some x
+    pub at : get slab k.1 ≡ Some x
     pub slot_is : x.slot ≡ slot
     pub found : find (λ e. e.slot == slot) es ≡ Some x
 
-  pub key_found : (slot key : ℕ) (keys : List (ℕ × ℕ)) (es : List (Entry T)) → AreLedTo (get slab) keys es
-      → lookup (nat_eq slot) keys ≡ Some key → (x : Entry T) × IsKeyOf es slot key x
-  key_found slot key keys es led is =
-      let x = there keys es led is in
-      (x.0, record { at = x.1; slot_is = x.2; found = sym (led_find (get slab) slot keys es led) ∙ ap (option_and_then (get slab)) is ∙ x.1 })
-    where
-      there : (ks : List (ℕ × ℕ)) (ds : List (Entry T)) → AreLedTo (get slab) ks ds → lookup (nat_eq slot) ks ≡ Some key
-          → (x : Entry T) × (get slab key ≡ Some x) × (x.slot ≡ slot)
-      there [] [] l is = absurd (cc)
-      there [] (d ∷ ds) l is = absurd l
-      there (k ∷ ks) [] l is = absurd l
-      there (k ∷ ks) (d ∷ ds) l is = by (nat_eq slot k.0) refl is (there ks ds l.1)
-        where
-          by : (b : Bool) → nat_eq slot k.0 ≡ b → cond b (Some k.1) (lookup (nat_eq slot) ks) ≡ Some key
-              → (lookup (nat_eq slot) ks ≡ Some key → (x : Entry T) × (get slab key ≡ Some x) × (x.slot ≡ slot))
-              → (x : Entry T) × (get slab key ≡ Some x) × (x.slot ≡ slot)
-          by true same is later =
-              let key_is : k.1 ≡ key = cc in
-              (d, ap (get slab) (sym key_is) ∙ l.0.0, grind (arith, nat_tests, same, l.0.1))
-          by false same is later = later is
+  pub key_found : (slot place : ℕ) (k : ℕ × ℕ) (keys : List (ℕ × ℕ)) (es : List (Entry T)) → AreLedTo (get slab) keys es
+      → position (λ e. e.slot == slot) es ≡ Some place → k ≡ get_or keys place k → (x : Entry T) × IsKeyOf keys es slot place k x
+  key_found slot place k keys es led is here =
+      let has : Entry T → Bool = λ e. e.slot == slot in
+      let within : place < length keys = omega (arith, led_long (get slab) keys es led, position_within has es place is) in
+      let key_at : slice_get keys place ≡ Some k = slice_get_read keys (length keys) place k refl within here in
+      let same : get slab k.1 ≡ slice_get es place =
+      ap (option_and_then (λ j. get slab j.1)) (sym key_at) ∙ led_at (get slab) place keys es led in
+      let first : find has es ≡ slice_get es place = sym (find_position has es) ∙ ap (option_and_then (slice_get es)) is in
+      elim (slice_get_cases es place).1 [
+        | inl h ↦
+            let found = first ∙ h.2 in
+            let passes = found_passes has es h.0 found in
+            (h.0, record { key_at = key_at; there = h.2; at = same ∙ h.2; slot_is = grind (arith, nat_tests, passes); found = found })
+        | inr h ↦ absurd (omega (arith, h.0, position_within has es place is))
+      ]
 
-  pub key_of : (slot key : ℕ) (x : Entry T) (keys : List (ℕ × ℕ)) (es : List (Entry T)) → AreLedTo (get slab) keys es
-      → lookup (nat_eq slot) keys ≡ Some key → get slab key ≡ Some x → IsKeyOf es slot key x
-  key_of slot key x keys es led is at =
-      let found = key_found slot key keys es led is in
+  pub key_of : (slot place : ℕ) (k : ℕ × ℕ) (x : Entry T) (keys : List (ℕ × ℕ)) (es : List (Entry T)) → AreLedTo (get slab) keys es
+      → position (λ e. e.slot == slot) es ≡ Some place → k ≡ get_or keys place k → get slab k.1 ≡ Some x
+      → IsKeyOf keys es slot place k x
+  key_of slot place k x keys es led is here at =
+      let found = key_found slot place k keys es led is here in
       let one : Some found.0 ≡ Some x = sym found.1.at ∙ at in
-      subst (IsKeyOf es slot key) (let same : found.0 ≡ x = cc in same) found.1
-
-  -- a slot above all that are held has no key
-  pub new_slot : (slot : ℕ) (keys : List (ℕ × ℕ)) (es : List (Entry T)) → AreLedTo (get slab) keys es → All (λ e. e.slot < slot) es
-      → lookup (nat_eq slot) keys ≡ None
-  new_slot slot [] [] led below = refl
-  new_slot slot [] (e ∷ es) led below = absurd led
-  new_slot slot (k ∷ keys) [] led below = absurd led
-  new_slot slot (k ∷ keys) (e ∷ es) led below =
-      let here = below 0 e (omega arith) in
-      let rest = new_slot slot keys es led.1 (λ i d lt. below (suc i) d (omega arith)) in
-      grind (arith, nat_tests, here, led.0.1, rest)
+      subst (IsKeyOf keys es slot place k) (let same : found.0 ≡ x = cc in same) found.1
 
 module _ {T : Type 0} (old new : Slab (Entry T)) where
   -- of an entry that is added
@@ -206,73 +193,56 @@ module _ {T : Type 0} (old new : Slab (Entry T)) where
     pub left : entries_of (get new) rest ≡ filter (λ e. not (e.slot == slot)) es
     pub one_less : length rest + 1 ≡ length es
 
-  pub led_removed : (keys : List (ℕ × ℕ)) (es : List (Entry T)) (slot key : ℕ) (x : Entry T) (rest : List (ℕ × ℕ))
-      → AreLedTo (get old) keys es → IsRising es → lookup (nat_eq slot) keys ≡ Some key → get old key ≡ Some x → Updates old new key None
-      → rest ≡ filter (λ k. not (k.0 == slot)) keys → IsWithout es slot rest
-  led_removed keys es slot key x rest led rising found at updates stay =
-      let is = key_of old slot key x keys es led found at in
-      let others = filter (λ (e : Entry T). not (e.slot == slot)) es in
-      let all : AreLedTo (get new) (filter (λ k. not (k.0 == slot)) keys) others =
-      subst (λ n. AreLedTo (get new) (filter (λ k. not (k.0 == n)) keys) (filter (λ e. not (e.slot == n)) es)) is.slot_is
-      (led_without (get old) (get new) x.slot (others_stay key x None at updates) keys es led) in
-      let still : AreLedTo (get new) rest others = subst (λ ks. AreLedTo (get new) ks others) (sym stay) all in
-      let left = led_is (get new) rest others still in
-      let place = find_place (λ (e : Entry T). e.slot == slot) es x is.found in
-      let out : remove es place.0 ≡ others =
-      subst (λ n. remove es place.0 ≡ filter (λ e. not (e.slot == n)) es) is.slot_is (remove_at es place.0 x rising place.1) in
+  pub led_removed : (keys : List (ℕ × ℕ)) (es : List (Entry T)) (slot place : ℕ) (k : ℕ × ℕ) (x : Entry T)
+      → AreLedTo (get old) keys es → IsRising es → IsKeyOf old keys es slot place k x → Updates old new k.1 None → IsWithout es slot (remove keys place)
+  led_removed keys es slot place k x led rising is updates =
+      let still = led_without (get old) (get new) x.slot (others_stay k.1 x None is.at updates) place x keys es led rising is.there refl in
+      let left = led_is (get new) (remove keys place) (remove es place) still in
       record {
-        led = subst (AreLedTo (get new) rest) (sym left) still;
-        left = left;
+        led = subst (AreLedTo (get new) (remove keys place)) (sym left) still;
+        left = left ∙ subst (λ n. remove es place ≡ filter (λ e. not (e.slot == n)) es) is.slot_is (remove_at es place x rising is.there);
         one_less = omega (
           arith,
-          led_long (get new) rest others still,
-          ap length out,
-          length-remove es place.0 (slice_get_within es place.0 x place.1),
+          led_long (get new) (remove keys place) (remove es place) still,
+          length-remove es place (slice_get_within es place x is.there),
         );
       }
 
   -- of an entry whose value is written
-  written : (keys : List (ℕ × ℕ)) (es : List (Entry T)) (key : ℕ) (x : Entry T) (w : T) → AreLedTo (get old) keys es → IsRising es
-      → lookup (nat_eq x.slot) keys ≡ Some key → get old key ≡ Some x → Updates old new key (Some (record x { value = w }))
-      → AreLedTo (get new) keys (map (revalued x.slot w) es)
-  written [] [] key x w led rising found at updates = tt
-  written [] (e ∷ es) key x w led rising found at updates = absurd led
-  written (k ∷ keys) [] key x w led rising found at updates = absurd led
-  written (k ∷ keys) (e ∷ es) key x w led rising found at updates =
-      by (x.slot == k.0) refl found (λ there. written keys es key x w led.1 (rising_tail e es rising) there at updates)
-    where
-      by : (b : Bool) → (x.slot == k.0) ≡ b → cond b (Some k.1) (lookup (nat_eq x.slot) keys) ≡ Some key
-          → (lookup (nat_eq x.slot) keys ≡ Some key → AreLedTo (get new) keys (map (revalued x.slot w) es))
-          → AreLedTo (get new) (k ∷ keys) (map (revalued x.slot w) (e ∷ es))
-      by true is here later =
-          let slot : e.slot ≡ x.slot = grind (arith, nat_tests, is, led.0.1) in
-          let same : k.1 ≡ key = cc in
-          let found : Some e ≡ Some x = sym led.0.0 ∙ ap (get old) same ∙ at in
-          let one : e ≡ x = cc in
-          let above = above_head e es rising in
-          let rest : map (revalued x.slot w) es ≡ es =
-          map_fixed (revalued x.slot w) es (λ i d lt. let far = above i d lt in grind (arith, nat_tests, far, slot)) in
-          rw rest (
-            (ap (get new) same ∙ updates.changed ∙ grind (arith, nat_tests, one, slot), grind (arith, nat_tests, led.0.1, slot)),
-            led_apart (get old) (get new) x.slot (others_stay key x (Some (record x { value = w })) at updates) keys es
-                (λ i d lt. let far = above i d lt in omega (arith, far, slot)) led.1,
-          )
-      by false is there later =
-          let apart : e.slot ≢ x.slot = grind (arith, nat_tests, is, led.0.1) in (
-            (
-              others_stay key x (Some (record x { value = w })) at updates k.1 e led.0.0 apart ∙ grind (arith, nat_tests, apart),
-              grind (arith, nat_tests, apart, led.0.1),
-            ),
-            later there,
-          )
+  written : (place : ℕ) (k : ℕ × ℕ) (x : Entry T) (w : T) (keys : List (ℕ × ℕ)) (es : List (Entry T)) → AreLedTo (get old) keys es
+      → IsRising es → slice_get keys place ≡ Some k → slice_get es place ≡ Some x → get old k.1 ≡ Some x
+      → Updates old new k.1 (Some (record x { value = w })) → AreLedTo (get new) keys (map (revalued x.slot w) es)
+  written place k x w [] [] led rising key_at there at updates = tt
+  written place k x w [] (e ∷ es) led rising key_at there at updates = absurd led
+  written place k x w (j ∷ keys) [] led rising key_at there at updates = absurd led
+  written zero k x w (j ∷ keys) (e ∷ es) led rising key_at there at updates =
+      let same : j ≡ k = cc in
+      let one : e ≡ x = cc in
+      let slot : e.slot ≡ x.slot = ap (λ (d : Entry T). d.slot) one in
+      let above = above_head e es rising in
+      let rest : map (revalued x.slot w) es ≡ es =
+      map_fixed (revalued x.slot w) es (λ i d lt. let far = above i d lt in grind (arith, nat_tests, far, slot)) in
+      rw rest (
+        (ap (λ (i : ℕ × ℕ). get new i.1) same ∙ updates.changed ∙ grind (arith, nat_tests, one, slot), grind (arith, nat_tests, led.0.1, slot)),
+        led_apart (get old) (get new) x.slot (others_stay k.1 x (Some (record x { value = w })) at updates) keys es
+            (λ i d lt. let far = above i d lt in omega (arith, far, slot)) led.1,
+      )
+  written (suc place) k x w (j ∷ keys) (e ∷ es) led rising key_at there at updates =
+      let above : e.slot < x.slot = All_at (λ d. e.slot < d.slot) es place x (above_head e es rising) there in
+      let apart : e.slot ≢ x.slot = omega (arith, above) in (
+        (
+          others_stay k.1 x (Some (record x { value = w })) at updates j.1 e led.0.0 apart ∙ grind (arith, nat_tests, apart),
+          grind (arith, nat_tests, apart, led.0.1),
+        ),
+        written place k x w keys es led.1 (rising_tail e es rising) key_at there at updates,
+      )
 
-  pub led_written : (keys : List (ℕ × ℕ)) (es : List (Entry T)) (slot key : ℕ) (x : Entry T) (w : T) → AreLedTo (get old) keys es
-      → IsRising es → lookup (nat_eq slot) keys ≡ Some key → get old key ≡ Some x → Updates old new key (Some (record x { value = w }))
+  pub led_written : (keys : List (ℕ × ℕ)) (es : List (Entry T)) (slot place : ℕ) (k : ℕ × ℕ) (x : Entry T) (w : T)
+      → AreLedTo (get old) keys es → IsRising es → IsKeyOf old keys es slot place k x → Updates old new k.1 (Some (record x { value = w }))
       → AreLedTo (get new) keys (map (revalued slot w) es)
-  led_written keys es slot key x w led rising found at updates =
-      let is = key_of old slot key x keys es led found at in
+  led_written keys es slot place k x w led rising is updates =
       subst (λ n. AreLedTo (get new) keys (map (revalued n w) es)) is.slot_is
-      (written keys es key x w led rising (subst (λ n. lookup (nat_eq n) keys ≡ Some key) (sym is.slot_is) found) at updates)
+      (written place k x w keys es led rising is.key_at is.there is.at updates)
 
 module _ {T : Type 0} where
   -- the entry under a slot's key, to write a value to
@@ -282,19 +252,21 @@ module _ {T : Type 0} where
     pub left : (w : T) → entries_of (get (with_value slab key (record x { value = w }))) keys ≡ map (revalued slot w) es
     pub count : (w : T) → slab_len (with_value slab key (record x { value = w })) ≡ slab_len slab
 
-  pub writable : (slab : Slab (Entry T)) (keys : List (ℕ × ℕ)) (es : List (Entry T)) (slot key : ℕ) (x : Entry T) → AreLedTo (get slab) keys es
-      → IsRising es → lookup (nat_eq slot) keys ≡ Some key → get slab key ≡ Some x → IsWritable slab keys es slot key x
-  writable slab keys es slot key x led rising is at =
-      let there : ContainsKey slab key = rw at refl in
-      let led_then : (w : T) → AreLedTo (get (with_value slab key (record x { value = w }))) keys (map (revalued slot w) es) =
-      λ w. led_written slab (with_value slab key (record x { value = w })) keys es slot key x w led rising is at
-      (Updates-with_value slab key (record x { value = w }) there) in
+  pub writable : (slab : Slab (Entry T)) (keys : List (ℕ × ℕ)) (es : List (Entry T)) (slot place : ℕ) (k : ℕ × ℕ) (x : Entry T)
+      → AreLedTo (get slab) keys es → IsRising es → position (λ e. e.slot == slot) es ≡ Some place → k ≡ get_or keys place k
+      → get slab k.1 ≡ Some x → IsWritable slab keys es slot k.1 x
+  writable slab keys es slot place k x led rising first here at =
+      let is = key_of slab slot place k x keys es led first here at in
+      let there : ContainsKey slab k.1 = rw at refl in
+      let led_then : (w : T) → AreLedTo (get (with_value slab k.1 (record x { value = w }))) keys (map (revalued slot w) es) =
+      λ w. led_written slab (with_value slab k.1 (record x { value = w })) keys es slot place k x w led rising is
+      (Updates-with_value slab k.1 (record x { value = w }) there) in
       record {
-        found = (key_of slab slot key x keys es led is at).found;
+        found = is.found;
         led = led_then;
         left = λ w. led_is _ keys _ (led_then w);
-        count = λ w. let sums = sum_by-set (λ (o : Option (Entry T)). cond (is_some o) 1 0) slab.slots key (Some (record x { value = w })) None
-            (ContainsKey-within slab key there) in
+        count = λ w. let sums = sum_by-set (λ (o : Option (Entry T)). cond (is_some o) 1 0) slab.slots k.1 (Some (record x { value = w })) None
+            (ContainsKey-within slab k.1 there) in
             omega (arith, sums, ap {B = ℕ} (λ (o : Option (Entry T)). cond (is_some o) 1 0) at);
       }
 
@@ -327,30 +299,6 @@ module _ {K V : Type 0} (eq : K → K → Bool) where
         long = omega (arith, ap length put, length-append done ((k, v) ∷ []));
         seam = ap (λ xs. xs ++ rest) put ∙ append_assoc done ((k, v) ∷ []) rest ∙ seam;
       }
-
--- a slot that stays comes first among those that stay
-kept_next : (slot held key : ℕ) (left rest : List (ℕ × ℕ)) → left ≡ (held, key) ∷ rest → held ≢ slot
-    → filter (λ k. not (k.0 == slot)) left ≡ (held, key) ∷ filter (λ k. not (k.0 == slot)) rest
-kept_next slot held key left rest is differs = rw is (grind (arith, nat_tests, differs))
-
--- rising slots are apart
-slots_apart : (keys : List (ℕ × ℕ)) → AllPairs (λ j k. j.0 < k.0) keys → AllPairs (λ a b. nat_eq b.0 a.0 ≡ false) keys
-slots_apart keys rising i j d lt within = let r = rising i j d lt within in grind (arith, nat_tests, r)
-
--- a slot that is among those that stay, and comes next
-pub next_kept : (slot held key : ℕ) (done left rest keys : List (ℕ × ℕ)) → AllPairs (λ j k. j.0 < k.0) keys → left ≡ (held, key) ∷ rest
-    → held ≢ slot → done ++ filter (λ k. not (k.0 == slot)) left ≡ filter (λ k. not (k.0 == slot)) keys
-    → IsNextPair nat_eq done (filter (λ k. not (k.0 == slot)) rest) (filter (λ k. not (k.0 == slot)) keys) held key
-next_kept slot held key done left rest keys rising is differs seam =
-    let stays : ℕ × ℕ → Bool = λ k. not (k.0 == slot) in
-    next_pair nat_eq done (filter stays rest) (filter stays keys) held key
-    (sym (ap (λ xs. done ++ xs) (kept_next slot held key left rest is differs)) ∙ seam)
-    (slots_apart _ (AllPairs-filter (λ (j k : ℕ × ℕ). j.0 < k.0) stays keys rising))
-
-pub fewer_stay : (slot : ℕ) (keys : List (ℕ × ℕ)) → length (filter (λ k. not (k.0 == slot)) keys) ≤ length keys
-fewer_stay slot keys =
-    let stays : ℕ × ℕ → Bool = λ k. not (k.0 == slot) in
-    omega (arith, length-filter_both stays (λ k. not (stays k)) (λ _. refl) keys)
 
 module _ {T : Type 0} where
   -- flows of which no two are alike are apart

@@ -7,4 +7,5 @@ use Rattle.vs_flow.proofs.table.FlowTable.len.Goals as goal
 pub returns-clause-len : goal.returns-clause-len
 returns-clause-len g c =
     let t = c.self.inside in
-    rw (← c.self.view_is) (c.len.ensures.len ∙ led_long (get t.entries) t.keys.entries (table_of t).entries c.self.invariant.led)
+    let long = led_long (get t.entries) t.keys.items (table_of t).entries c.self.invariant.led in
+    rw (← c.self.view_is) (c.len.ensures ∙ t.keys.ok.0 ∙ long)

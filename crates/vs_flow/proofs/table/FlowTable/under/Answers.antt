@@ -1,18 +1,15 @@
-use Rattle.std.proofs.Common.{ap, ◌∙◌}
-use Rattle.std.specs.Option.{option_and_then, option_copied}
-use Rattle.slab.specs.Slab.{get}
-use Rattle.vs_flow.specs.TableFields.{table_of}
-use Rattle.vs_flow.proofs.Keys.{led_find}
+use Rattle.std.proofs.Common.{ap, ◌==◌, ◌∙◌}
+use Rattle.std.specs.{List.slice_get, Option.option_and_then, Option.option_copied}
+use Rattle.vs_flow.proofs.Entries.{find_position}
 use Rattle.vs_flow.proofs.table.FlowTable.under.Goals as goal
 
-pub returns-in_err-key-clause-entry : goal.returns-in_err-key-clause-entry
-returns-in_err-key-clause-entry g c =
-    let t = c.self.inside in
-    rw (← c.self.view_is) (ap option_copied c.from_residual.ensures ∙ ap (option_and_then (get t.entries)) c.in_err-key.ensures.value
-    ∙ led_find (get t.entries) c.args.slot t.keys.entries (table_of t).entries c.self.invariant.led)
+pub returns-in_err-place-clause-entry : goal.returns-in_err-place-clause-entry
+returns-in_err-place-clause-entry g c =
+    let es = c.args.self.now.entries in
+    ap option_copied c.from_residual.ensures ∙ ap (option_and_then (slice_get es)) c.in_err-place.ensures.place
+    ∙ find_position (λ e. e.slot == c.args.slot) es
 
 pub returns-clause-entry : goal.returns-clause-entry
 returns-clause-entry g c =
-    let t = c.self.inside in
-    rw (← c.self.view_is) (c.get-2.ensures ∙ ap (option_and_then (get t.entries)) c.in_ok-key.ensures.value
-    ∙ led_find (get t.entries) c.args.slot t.keys.entries (table_of t).entries c.self.invariant.led)
+    let es = c.args.self.now.entries in
+    c.at.ensures.entry ∙ ap (option_and_then (slice_get es)) c.in_ok-place.ensures.place ∙ find_position (λ e. e.slot == c.args.slot) es
