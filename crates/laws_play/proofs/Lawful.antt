@@ -1,5 +1,7 @@
 -- What holds of each play.
-use Rattle.std.proofs.Common.{◌≡◌, ℕ, true, List, [], ◌∷◌, ◌++◌, None, Some, refl, sym, ap, subst, ◌∙◌, map, Ok}
+use Rattle.std.proofs.Common.{◌≡◌, ◌≢◌, ℕ, suc, ◌==◌, Bool, true, false, cond, List, [], ◌∷◌, ◌++◌, None, Some, Result, Ok, refl, sym, ap, subst}
+use Rattle.std.proofs.Common.{◌∙◌, map, arith}
+use Rattle.std.proofs.lemmas.{Bool.Decides.nat_tests, List.Elements.All-head, List.Elements.All-tail}
 use Rattle.vs_flow.specs.{Connection.first_of, declared.flow.Flow.Flow}
 use Rattle.laws_history.specs.{History.puts, Packets.has, Packets.shuts_send}
 use Rattle.vs_driver_parts.specs.State.{DriverEntry}
@@ -8,22 +10,28 @@ use Rattle.laws_tables.specs.{Both.Both, Both.at, Steps.HasEnd}
 use Rattle.laws_tables.proofs.Slots.{one_end}
 use Rattle.vs_outside.specs.{HostBytes.host_wrote, Host.HostContents, HostProgram.new_host, HostProgram.plain}
 use Rattle.laws_bytes.specs.Drains.{put_on}
-use Rattle.std.specs.List.{Contains}
+use Rattle.std.specs.List.{All, Contains}
+use Rattle.vs_driver_parts.specs.{Connections.flow_of, declared.answers.Accepted.Accepted, declared.answers.ConnectError.ConnectError}
 use Rattle.vs_page.specs.Log.{Device, Driver, Log, Role, history_of}
 use Rattle.vs_script.specs.{Play.Event, Script.Plays, Script.parse_of, Bounds.AreBounded}
 use Rattle.vs_report.specs.Report.{counts_text, device_open_text, guest_open_text, stream_texts}
 use Rattle.laws_world.specs.{Events.is_at_rest, Events.is_guest_cid, Events.reset_made, Laws.IsEmptied, Pipes.IsFresh, Sides.both_of}
 use Rattle.laws_world.specs.{Sides.device_ends, Sides.driver_ends, Steps.Leads, World.World, World.first_cid}
-use Rattle.laws_driver_bytes.specs.Calls.{sent_on}
+use Rattle.laws_driver_bytes.specs.Calls.{flow_accepted, flow_opened, sent_on}
+use Rattle.laws_world.specs.Names.{times_closed}
+use Rattle.laws_world.proofs.NamesStay.{WasTold, accept_told, connect_told, leads_told, told_flow}
+use Rattle.vs_report.specs.GuestLines.{accept_text, connect_text, connection_text}
 use Rattle.laws_world.proofs.{Bytes.wrote_is_put, CallRests.opening_rests, GuestLines.possible_is, Opening.opening_well, Opening.run_goes}
 use Rattle.laws_world.proofs.{ResetTables.device_emptied, ScriptLines.script_leads, ScriptLines.script_rests, Sound.Goes, Sound.IsWell}
 use Rattle.laws_world.proofs.Carried.{sent_all, sent_stays, wrote_stays}
-use Rattle.vs_play.specs.{Answer.base_path, Answer.opened_play, Answer.texts_of, Answer.world_after, Lines.PlayWorld}
-use Rattle.laws_play.specs.Headline.{IsLawful, StaysShut, world_of}
+use Rattle.vs_play.specs.{Answer.base_path, Answer.opened_play, Answer.texts_of, Answer.world_after, Lines.PlayWorld, Lines.event_played}
+use Rattle.laws_play.specs.Headline.{IsLawful, IsNamedIn, StaysShut, world_of}
+use Rattle.laws_play.specs.Said.{accept_answer, connect_answer}
 use Rattle.laws_play.proofs.{Shutting.IsShut, Shutting.is_shut, Shutting.run_shut, Unfailed.script_fine, PlayLines.after_both}
-use Rattle.laws_play.proofs.PlayLines.{cid_right, front_bounded, lines_of, lines_receive, lines_right, lines_send, rest_bounded, world_is}
+use Rattle.laws_play.proofs.PlayLines.{around_journal, cid_right, front_bounded, lines_of, lines_receive, lines_right, lines_send, rest_bounded, world_is}
 use Rattle.laws_play.proofs.Reached.{carries, holds_open, holds_rest, keeps_credit, log_is, many_device, many_guest, own_streams, queued}
 use Rattle.vs_script.proofs.Bounded.{all_bounded}
+use Rattle.vs_driver_parts.specs.declared.answers.Accepted.TheVariants as accepted
 use Rattle.vs_script.specs.Outside as outside
 use Rattle.vs_script.specs.Play as script
 use Rattle.vs_script.specs.declared.script.Command.TheVariants as command
@@ -95,6 +103,57 @@ module _ (w v : World) (f : Flow) (well : IsWell Fresh w) (goes : Goes Fresh w v
     stream_ended = device_decided;
   }
 
+-- How often the guest closes an id stays, where no line does.
+line_closes : (id : ℕ) (e : Event) (p : PlayWorld) → e ≢ script.Close id → times_closed id (event_played e p).0.world.journal
+    ≡ times_closed id p.world.journal
+line_closes id (script.Close other) p apart = by (other == id) refl
+  where
+    by : (b : Bool) → (other == id) ≡ b → cond b (suc (times_closed id p.world.journal)) (times_closed id p.world.journal)
+        ≡ times_closed id p.world.journal
+    by true is = let same : other ≡ id = grind (arith, nat_tests, is) in absurd (apart (ap script.Close same))
+    by false is = refl
+line_closes id (script.Around line) p apart = ap (times_closed id) (around_journal line p)
+line_closes id (script.Connect port) p apart = refl
+line_closes id (script.Listen port) p apart = refl
+line_closes id (script.Unlisten port) p apart = refl
+line_closes id (script.Accept port) p apart = refl
+line_closes id (script.Send other content) p apart = refl
+line_closes id (script.Recv other len) p apart = refl
+line_closes id (script.Shutdown other bits) p apart = refl
+line_closes id (script.State other) p apart = refl
+line_closes id script.Poll p apart = refl
+
+lines_close : (id : ℕ) (es : List Event) (p : PlayWorld) → All (λ e. e ≢ script.Close id) es
+    → times_closed id (world_after es p).world.journal ≡ times_closed id p.world.journal
+lines_close id [] p apart = refl
+lines_close id (e ∷ es) p apart =
+    lines_close id es (event_played e p).0 (All-tail (λ (x : Event). x ≢ script.Close id) e es apart)
+    ∙ line_closes id e p (All-head (λ (x : Event). x ≢ script.Close id) e es apart)
+
+-- An id that a line told.
+module _ (e : Event) (p : PlayWorld) (rest : is_at_rest p.world.rings.driver.staged ≡ true) (well : IsWell Fresh p.world) (id : ℕ) (more : List Event)
+    (bounded : AreBounded (e ∷ more)) (apart : All (λ x. x ≢ script.Close id) more) where
+  next : PlayWorld
+  next = (event_played e p).0
+
+  next_well : IsWell Fresh next.world
+  next_well = (lines_go (e ∷ []) p rest (bounded.0, tt) well).well
+
+  next_rest : is_at_rest next.world.rings.driver.staged ≡ true
+  next_rest = lines_rest (e ∷ []) p rest
+
+  still_named : (f : Flow) × WasTold id f next.world.driver → (text : List ℕ) → text ≡ connection_text id (flow_of id next.world.driver)
+      → IsNamedIn (world_after (e ∷ more) p).world id text
+  still_named (f, told) text is =
+      let goes = lines_go more next next_rest bounded.1 next_well in
+      let leads = lines_lead more next next_rest bounded.1 in
+      (
+        f,
+        is ∙ ap (connection_text id) (told_flow id f next.world next_well told).0,
+        told_flow id f (world_after more next).world goes.well
+            (leads_told id f next.world (world_after more next).world next_well leads (lines_close id more next apart) told),
+      )
+
 -- The report, with other names for its numbers.
 says_so : (texts streams : List (List ℕ)) (g g' d d' b : ℕ) (c : Counters) → g ≡ g' → d ≡ d' → c.overrun ≡ 0 → b ≡ 0
     → texts ++ (guest_open_text g ∷ device_open_text d ∷ (streams ++ counts_text c (Some b) ∷ []))
@@ -133,6 +192,36 @@ module _ (n : ℕ) where
       (subst (λ (v : World). IsEmptied v.proxy) (possible_is (is_guest_cid cid) (reset_made cid) p.world right)
       (device_emptied cid p.world right fine))
 
+  -- A line that told an id.
+  named_after : (before more : List Event) (e : Event) (id : ℕ) → AreBounded (before ++ e ∷ more) → All (λ x. x ≢ script.Close id) more
+      → let p = world_after before (opened_play n) in
+      (IsWell Fresh p.world → (f : Flow) × WasTold id f (event_played e p).0.world.driver)
+      → (event_played e p).1 ≡ connection_text id (flow_of id (event_played e p).0.world.driver)
+      → IsNamedIn (world_of n (before ++ e ∷ more)) id (event_played e p).1
+  named_after before more e id bounded apart told is =
+      let p = world_after before (opened_play n) in
+      let well = world_well before (front_bounded before (e ∷ more) bounded) in
+      subst (λ (q : PlayWorld). IsNamedIn q.world id (event_played e p).1) (sym (after_both before (e ∷ more) (opened_play n)))
+      (still_named e p (world_rests before) well id more (rest_bounded before (e ∷ more) bounded) apart (told well) (event_played e p).1 is)
+
+  connect_named : (before more : List Event) (port id : ℕ) → AreBounded (before ++ script.Connect port ∷ more)
+      → let p = world_after before (opened_play n) in
+      connect_answer port p ≡ Ok id → All (λ x. x ≢ script.Close id) more
+      → IsNamedIn (world_of n (before ++ script.Connect port ∷ more)) id (event_played (script.Connect port) p).1
+  connect_named before more port id bounded is apart =
+      let p = world_after before (opened_play n) in
+      named_after before more (script.Connect port) id bounded apart (λ well. connect_told p.world well port id is)
+      (ap (λ (r : Result ℕ ConnectError). connect_text r (flow_opened r (event_played (script.Connect port) p).0.world.driver)) is)
+
+  accept_named : (before more : List Event) (port id : ℕ) → AreBounded (before ++ script.Accept port ∷ more)
+      → let p = world_after before (opened_play n) in
+      accept_answer port p ≡ accepted.Conn id → All (λ x. x ≢ script.Close id) more
+      → IsNamedIn (world_of n (before ++ script.Accept port ∷ more)) id (event_played (script.Accept port) p).1
+  accept_named before more port id bounded is apart =
+      let p = world_after before (opened_play n) in
+      named_after before more (script.Accept port) id bounded apart (λ well. accept_told p.world well port id is)
+      (ap (λ (r : Accepted). accept_text r (flow_accepted r (event_played (script.Accept port) p).0.world.driver)) is)
+
   pub each_play : (lines : List Event) → AreBounded lines → IsLawful n lines
   each_play lines bounded =
       let w = world_of n lines in
@@ -148,6 +237,16 @@ module _ (n : ℕ) where
           received = λ f. lines_receive lines (opened_play n) f;
           send_printed = λ before after id content is. refl;
           recv_printed = λ before after id len is. refl;
+        };
+        names = record {
+          connected = λ before more port id is. subst (λ (es : List Event). let p = world_after before (opened_play n) in
+              connect_answer port p ≡ Ok id → All (λ x. x ≢ script.Close id) more
+              → IsNamedIn (world_of n es) id (event_played (script.Connect port) p).1) (sym is)
+              (connect_named before more port id (subst AreBounded is bounded));
+          accepted = λ before more port id is. subst (λ (es : List Event). let p = world_after before (opened_play n) in
+              accept_answer port p ≡ accepted.Conn id → All (λ x. x ≢ script.Close id) more
+              → IsNamedIn (world_of n es) id (event_played (script.Accept port) p).1) (sym is)
+              (accept_named before more port id (subst AreBounded is bounded));
         };
         shut = λ before more f is.
             subst (λ (es : List Event). StaysShut f (world_of n before) (world_of n es)) (sym is)

@@ -131,7 +131,7 @@ rest_bounded [] more b = b
 rest_bounded (e ∷ es) more b = rest_bounded es more b.1
 
 -- What each line sends and receives.
-around_journal : (line : Outside) (p : PlayWorld) → (event_played (script.Around line) p).0.world.journal ≡ p.world.journal
+pub around_journal : (line : Outside) (p : PlayWorld) → (event_played (script.Around line) p).0.world.journal ≡ p.world.journal
 around_journal outside.Turn p = refl
 around_journal (outside.Reset cid) p = refl
 around_journal (outside.Tick ms) p = refl

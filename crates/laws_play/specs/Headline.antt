@@ -1,7 +1,7 @@
 -- What holds of each play: bytes arrive in order and on their own connection alone, the tables hold just the connections left open, and
 -- nobody exceeds the credit that the peer gave (Virtio 1.2, section 5.10.6).
 use Rattle.std.specs.Prelude.{◌≡◌, ◌≢◌, ℕ, ◌+◌, ◌≤◌, ◌||◌, Bool, true, false, List, [], ◌∷◌, ◌++◌, length, Some, None, All, AllPairs}
-use Rattle.std.specs.Prelude.{Contains}
+use Rattle.std.specs.Prelude.{Contains, Ok}
 use Rattle.vs_flow.specs.{declared.flow.Flow.Flow, Connection.first_of}
 use Rattle.vs_limits.specs.declared.TheConstants.{BUF_ALLOC}
 use Rattle.laws_history.specs.{History.History, History.Put, History.gots, History.puts, Packets.allowance, Packets.bytes, Packets.has}
@@ -18,12 +18,13 @@ use Rattle.laws_bytes.specs.Drains.{Drains, receives}
 use Rattle.laws_device_bytes.specs.Streamed.{gives, line_for}
 use Rattle.vs_script.specs.{Data.Content, Play.Event}
 use Rattle.vs_report.specs.{Report.counts_text, Report.device_open_text, Report.guest_open_text, Report.stream_texts, GuestLines.recv_text}
-use Rattle.vs_report.specs.GuestLines.{send_text}
-use Rattle.laws_world.specs.{Laws.IsEmptied, Sides.device_ends, Sides.driver_ends, Steps.Leads, World.World, World.first_cid}
+use Rattle.vs_report.specs.GuestLines.{opened_text, send_text}
+use Rattle.laws_world.specs.{Laws.IsEmptied, Names.HasFlow, Sides.device_ends, Sides.driver_ends, Steps.Leads, World.World, World.first_cid}
 use Rattle.laws_driver.specs.Resets.{MarksResets}
 use Rattle.laws_driver_bytes.specs.Calls.{received_on, sent_on}
 use Rattle.vs_play.specs.{Answer.opened_play, Answer.printed, Answer.texts_of, Answer.world_after, Lines.event_played}
-use Rattle.laws_play.specs.Said.{received_in, recv_answer, recv_bytes, send_answer, sent_in}
+use Rattle.laws_play.specs.Said.{accept_answer, connect_answer, received_in, recv_answer, recv_bytes, send_answer, sent_in}
+use Rattle.vs_driver_parts.specs.declared.answers.Accepted.TheVariants as accepted
 use Rattle.vs_script.specs.Outside as outside
 use Rattle.vs_script.specs.Play as script
 
@@ -97,6 +98,22 @@ pub record IsAsPrinted (n : ℕ) (lines : List Event) : Type 0 where
   pub recv_printed : (before after : List Event) (id len : ℕ) → lines ≡ before ++ script.Recv id len ∷ after
       → let p = world_after before (opened_play n) in
       (event_played (script.Recv id len) p).1 ≡ recv_text (recv_answer id len p) (recv_bytes id len p)
+
+-- A line told an id: what it printed names a flow, which is the id's in this world, and no other id's.
+abbrev pub IsNamedIn : World → ℕ → List ℕ → Type 0
+IsNamedIn w id text = (f : Flow) × (text ≡ opened_text id f) × HasFlow id f w.driver
+
+-- What a connect printed that gave an id, and an accept that gave one, stays true until a line closes the id: also where its connection is
+-- reset, by the peer or by the transport.
+pub record KeepsNames (n : ℕ) (lines : List Event) : Type 0 where
+  pub connected : (before after : List Event) (port id : ℕ) → lines ≡ before ++ script.Connect port ∷ after
+      → let p = world_after before (opened_play n) in
+      connect_answer port p ≡ Ok id → All (λ e. e ≢ script.Close id) after
+      → IsNamedIn (world_of n lines) id (event_played (script.Connect port) p).1
+  pub accepted : (before after : List Event) (port id : ℕ) → lines ≡ before ++ script.Accept port ∷ after
+      → let p = world_after before (opened_play n) in
+      accept_answer port p ≡ accepted.Conn id → All (λ e. e ≢ script.Close id) after
+      → IsNamedIn (world_of n lines) id (event_played (script.Accept port) p).1
 
 -- Shutting is for good: where an end decided before that it sends no more, or told so, what its writer wrote is what it was then. The guest
 -- decides so by a shutdown, and the device once its stream ended.
@@ -172,6 +189,7 @@ pub record IsLawful (n : ℕ) (lines : List Event) : Type 0 where
   pub rest : HoldsTheRest (world_of n lines)
   pub streams : HasOwnStreams (world_of n lines)
   pub answers : IsAsPrinted n lines
+  pub names : KeepsNames n lines
   pub shut : (before after : List Event) (f : Flow) → lines ≡ before ++ after → StaysShut f (world_of n before) (world_of n lines)
   pub tables : HoldsOpen (world_of n lines)
   pub reset : EmptiesDevice n lines

@@ -1,10 +1,11 @@
--- Worked examples: what the laws say of two scripts, computed.
-use Rattle.std.specs.Prelude.{ℕ, Bool, true, false, List, [], map, codes, Result, Ok}
+-- Worked examples: what the laws say of scripts, computed.
+use Rattle.std.specs.Prelude.{ℕ, Bool, true, false, List, [], map, codes, Option, Result, Ok}
 use Rattle.vs_limits.specs.declared.TheConstants.{ASSIGNED_FIRST}
 use Rattle.vs_flow.specs.{declared.flow.Flow.Flow, Connection.first_of, Flow.host_flow}
 use Rattle.vs_outside.specs.HostBytes.{host_read, host_wrote}
 use Rattle.vs_page.specs.{Fair.payload_got, Fair.payload_put, Log.Device, Log.Driver, Open.is_open}
 use Rattle.laws_tables.specs.Ends.{is_among}
+use Rattle.vs_driver_parts.specs.Connections.{flow_of}
 use Rattle.vs_script.specs.{Play.Event, Script.Saying, Script.Plays, Script.parse_of, declared.fault.Refused.Refused}
 use Rattle.laws_world.specs.World.{World, first_cid}
 use Rattle.vs_play.specs.Answer.{opened_play}
@@ -88,3 +89,16 @@ first_told = record {
 
 abbrev pub flows_after : List ℕ → List Flow × List Flow
 flows_after text = let w = world_of 64 (lines_in text) in (guest_flows w, device_flows w)
+
+-- The flows of the first two ids. An id that was closed has none, and the next connect gets another id and another flow.
+abbrev pub first_names : List ℕ → Option Flow × Option Flow
+first_names text = let s = (world_of 64 (lines_in text)).driver in (flow_of 1 s, flow_of 2 s)
+
+abbrev pub one_connect : List ℕ
+one_connect = codes "connect 52\npoll\n"
+
+abbrev pub closed_between : List ℕ
+closed_between = codes "connect 52\nclose 1\nconnect 52\n"
+
+abbrev pub second_flow : Flow
+second_flow = host_flow 1025 52

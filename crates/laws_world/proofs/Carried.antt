@@ -48,7 +48,7 @@ module _ {fresh : Type 0} (w : World) (well : IsWell fresh w) where
       let most = once Driver (well.opened id).flow in
       first_is (well.opened id) some (omega (arith, past, most))
 
-  one_id : (i j : ℕ) → 1 ≤ (well.opened i).number → 1 ≤ (well.opened j).number → (well.opened i).flow ≡ (well.opened j).flow → i ≡ j
+  pub one_id : (i j : ℕ) → 1 ≤ (well.opened i).number → 1 ≤ (well.opened j).number → (well.opened i).flow ≡ (well.opened j).flow → i ≡ j
   one_id i j some also same = well.received.once i j some (is_first i some ∙ ap (λ (g : Flow). first_of g) same ∙ sym (is_first j also))
 
   named : (id : ℕ) (f : Flow) → (well.opened id).flow ≡ f → 1 ≤ (well.opened id).number

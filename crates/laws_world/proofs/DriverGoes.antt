@@ -115,11 +115,13 @@ module _ (first : ℕ) (old : Seat) where
       call_sent first s base call t log fits m x.3,
     )
 
--- What is left with a journal.
-pub record Left (old : Seat) (journal : Journal) (part : Ends) (slots : HeldSlots) (log : Log) : Type 0 where
+-- What is left with a journal, where ids had been given to these connections.
+pub record Left (old : Seat) (was : ℕ → Connection) (journal : Journal) (part : Ends) (slots : HeldSlots) (log : Log) : Type 0 where
   pub goes : Goes old (record { part = part; log = log })
   pub fits : PutsFit log
   pub opened : ℕ → Connection
+  -- Ids keep their connections.
+  pub on : (id : ℕ) → 1 ≤ (was id).number → opened id ≡ was id
   pub received : AreReceived (account_of 1 opened journal) log slots
   pub agrees : AllAgree opened journal
   pub sent : (f : Flow) → sent_on f journal ≡ payload_put Driver (first_of f) log
@@ -130,11 +132,13 @@ module _ (first : ℕ) (old : Seat) (opened : ℕ → Connection) (journal : Jou
   abbrev account : Account
   account = account_of 1 opened journal
 
-  pub poll_left : (part : Ends) (slots : HeldSlots) (log : Log) → Walks first old account (puts_as base) part slots log → Left old journal part slots log
+  pub poll_left : (part : Ends) (slots : HeldSlots) (log : Log) → Walks first old account (puts_as base) part slots log
+      → Left old opened journal part slots log
   poll_left part slots log x = record {
     goes = x.0;
     fits = x.1;
     opened = x.2.0.opened;
+    on = x.2.1.opened;
     received = further_as account x.2.0 _ log slots x.2.1 (λ id. refl) x.2.2;
     agrees = agree_on opened x.2.0.opened x.2.1.opened journal agrees;
     sent = λ f. sent f ∙ sym (x.3 (first_of f));
@@ -224,11 +228,12 @@ module _ (first : ℕ) (old : Seat) (opened : ℕ → Connection) (journal : Jou
 
     pub call_left : (call : GuestCall) (part : Ends) (slots : HeldSlots) (log : Log)
         → Walks first old (account_after call (reply_of call) account) (sent_with first s base call (reply_of call)) part slots log
-        → Left old (with_call call s (reply_of call) journal) part slots log
+        → Left old opened (with_call call s (reply_of call) journal) part slots log
     call_left call part slots log x = let now = further_journal 1 opened journal call s (reply_of call) slots log x.2 in record {
       goes = x.0;
       fits = x.1;
       opened = now.0;
+      on = now.1;
       received = now.2;
       agrees = agree_on opened now.0 now.1 (with_call call s (reply_of call) journal) (reply_agrees call, agrees);
       sent = λ f.

@@ -33,3 +33,9 @@ pub mod OverLists
 pub mod Flown
 pub mod OverBoth
 pub mod StayOpen
+pub mod Listeners
+pub mod Waiters
+pub mod Names
+pub mod DriverEnds
+pub mod WaitEnds
+pub mod NamesStay

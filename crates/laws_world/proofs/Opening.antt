@@ -22,6 +22,7 @@ use Rattle.laws_driver_bytes.specs.Received.{AreReceived, no_account}
 use Rattle.laws_driver_bytes.proofs.Connecting.{none_received}
 use Rattle.laws_device.proofs.Seats.{PutsFit}
 use Rattle.laws_world.proofs.{Once.AreOnce, Once.start_once, Played.opening_queued, Runs.and_then, Sound.Goes, Sound.IsWell}
+use Rattle.laws_world.proofs.{Listeners.AllWait, Listeners.IsOfPort}
 use Rattle.laws_world.proofs.Sound.{goes_still, happens_goes}
 use Rattle.laws_device_bytes.proofs.Changing.{no_streams}
 use Rattle.laws_tables.specs.Both as both
@@ -160,6 +161,7 @@ module _ (n : ℕ) (host : HostContents) where
     received = subst (λ (log : Log). AreReceived (no_account 1) log (slots_of (opening n host).driver)) (sym log_empty)
         (subst (λ (s : DriverState). AreReceived (no_account 1) [] (slots_of s)) (sym new.state) (none_received n FIRST_PORT 1));
     agrees = tt;
+    waiting = subst (λ (s : DriverState). AllWait (IsOfPort (no_account 1).opened) s.listeners) (sym new.state) tt;
     sent = λ f. ap (payload_put Driver (first_of f)) (sym log_empty);
   }
 

@@ -33,7 +33,8 @@ use Rattle.laws_world.proofs.{DeviceGoes.carried, DeviceGoes.cids_kept, DeviceWa
 use Rattle.laws_world.proofs.{DriverGoes.call_left, DriverGoes.call_walks, DriverGoes.poll_left, DriverGoes.poll_walks, DriverWalks.Ties}
 use Rattle.laws_world.proofs.{DriverWalks.first_fair, DriverWalks.shown, DriverWalks.walk, Journals.AllAgree, Played.driver_got}
 use Rattle.laws_world.proofs.{Queues.pages_put, Runs.goes_run, Runs.keeps_sound, Runs.stays, Once.AreOnce, Once.keeps_once}
-use Rattle.laws_world.proofs.{Once.number_of_once, Wire.fit_rest}
+use Rattle.laws_world.proofs.{Once.number_of_once, Wire.fit_rest, Listeners.AllWait, Listeners.IsOfPort, Waiters.now_waiting, WaitEnds.WaitsAfter}
+use Rattle.laws_world.proofs.WaitEnds.{call_waits, pays_waits, publishes_waits, replies_waits, takes_waits}
 use Rattle.vs_flow.specs.{declared.flow.Flow.Flow, Table.Table, Connection.Connection, Connection.first_of}
 use Rattle.laws_device_bytes.proofs.{Changing.StreamedIf, HostCalls.client_host, HostCalls.same_host, Hosts.unseen}
 use Rattle.vs_limits.specs.declared.TheConstants.{GUEST_CID_MIN, GUEST_CID_MAX, ASSIGNED_FIRST}
@@ -95,6 +96,8 @@ pub record IsWell (fresh : Type 0) (w : World) : Type 0 where
   pub opened : ℕ → Connection
   pub received : AreReceived (account_of 1 opened w.journal) (log_with_staged w.rings.driver) (slots_of w.driver)
   pub agrees : AllAgree opened w.journal
+  -- Who waits on a port is of that port.
+  pub waiting : AllWait (IsOfPort opened) w.driver.listeners
   pub sent : (f : Flow) → sent_on f w.journal ≡ payload_put Driver (first_of f) (log_with_staged w.rings.driver)
   pub overrun : w.proxy.device.overrun ≡ 0
   pub cids : AreVoiced first_cid (both_of w)
@@ -168,9 +171,10 @@ module _ (fresh : Type 0) (w : World) (well : IsWell fresh w) where
 
   driver_goes : {A : Type 0} (tree : DriverTree A) (state_of : A → DriverState) (fact : A → Fact) (journal : Journal)
       → Keeps (λ x d. DriverTies first_cid (fact x) (state_of x) d) tree (exposed rings)
-      → ((part : Ends) (slots : HeldSlots) (log : Log) → fact (played driver_answer tree rings).0 part slots log → Left guest journal part slots log)
+      → ((part : Ends) (slots : HeldSlots) (log : Log) → fact (played driver_answer tree rings).0 part slots log → Left guest well.opened journal part slots log)
+      → WaitsAfter (IsOfPort well.opened) w.driver (state_of (played driver_answer tree rings).0)
       → Goes fresh w (record (driver_plays tree w).1 { driver = state_of (driver_plays tree w).0; journal = journal })
-  driver_goes tree state_of fact journal keeps left =
+  driver_goes tree state_of fact journal keeps left waits =
       let r = played driver_answer tree rings in
       let ends = walk w.rings.device device_fits well.device_puts (λ x d. DriverTies first_cid (fact x) (state_of x) d) tree rings tie keeps in
       let now = ends.0 refl r.1.1 refl in
@@ -198,6 +202,7 @@ module _ (fresh : Type 0) (w : World) (well : IsWell fresh w) where
           opened = after.opened;
           received = after.received;
           agrees = after.agrees;
+          waiting = now_waiting well.opened after.opened journal _ (state_of r.0) w.driver.next_id after.on after.received waits;
           sent = after.sent;
           overrun = well.overrun;
           cids = cids_kept first_cid _ _ runs well.sound well.cids;
@@ -226,10 +231,13 @@ module _ (fresh : Type 0) (w : World) (well : IsWell fresh w) where
   steps : Carries first_cid step_fact
   steps = poll_walks first_cid guest account guest.log
 
+  abbrev AllWaitAfter : DriverState → Type 0
+  AllWaitAfter t = WaitsAfter (IsOfPort well.opened) w.driver t
+
   step_goes : (step : DriverState → DriverTree DriverState) → Keeps (DriverTies first_cid step_fact) (step w.driver) (exposed rings)
-      → Goes fresh w (driver_step step w)
-  step_goes step keeps = driver_goes (step w.driver) (λ s. s) (λ s. step_fact) w.journal keeps
-      (poll_left first_cid guest well.opened w.journal w.driver guest.log well.received well.agrees well.sent few)
+      → AllWaitAfter (played driver_answer (step w.driver) rings).0 → Goes fresh w (driver_step step w)
+  step_goes step keeps waits = driver_goes (step w.driver) (λ s. s) (λ s. step_fact) w.journal keeps
+      (poll_left first_cid guest well.opened w.journal w.driver guest.log well.received well.agrees well.sent few) waits
 
   works_at : (queue : Queue) → works_on queue w.rings.driver.staged ≡ true → Works queue first_cid step_fact w.driver (exposed rings)
   works_at q.Tx may = ties_at step_fact at_step
@@ -245,17 +253,21 @@ module _ (fresh : Type 0) (w : World) (well : IsWell fresh w) where
   takes_goes queue may = step_goes (takes_page queue)
       (keeps_weaker (Works queue first_cid step_fact) (DriverTies first_cid step_fact) (works_ties queue) (takes_page queue w.driver) (exposed rings)
       (takes_with first_cid step_fact steps queue w.driver (exposed rings) (works_at queue may)))
+      (takes_waits (IsOfPort well.opened) w.driver well.waiting rings queue)
 
   publishes_goes : (queue : Queue) → works_on queue w.rings.driver.staged ≡ true → Goes fresh w (driver_step (publish_of queue) w)
   publishes_goes queue may = step_goes (publish_of queue)
       (keeps_weaker (Rests first_cid step_fact) (DriverTies first_cid step_fact) (rests_tied first_cid step_fact) (publish_of queue w.driver) (exposed rings)
       (publish_with first_cid step_fact steps queue w.driver (exposed rings) (works_at queue may)))
+      (publishes_waits (IsOfPort well.opened) w.driver well.waiting rings queue)
 
   replies_goes : Goes fresh w (driver_step stages_reply w)
   replies_goes = step_goes stages_reply (reply_with first_cid step_fact steps w.driver (exposed rings) (ties_at step_fact at_step))
+      (replies_waits (IsOfPort well.opened) w.driver well.waiting rings)
 
   pays_goes : (slot : ℕ) → Goes fresh w (driver_step (stages_owed slot) w)
   pays_goes slot = step_goes (stages_owed slot) (owed_with first_cid step_fact steps slot w.driver (exposed rings) (ties_at step_fact at_step))
+      (pays_waits (IsOfPort well.opened) w.driver well.waiting rings slot)
 
   -- A call of the guest's.
   calls_goes : (call : GuestCall) → is_right call ≡ true → w.rings.driver.staged.tx ≡ [] → Goes fresh w (call_made call w).0
@@ -268,6 +280,7 @@ module _ (fresh : Type 0) (w : World) (well : IsWell fresh w) where
       (made_with first_cid w.driver (exposed rings) call before after right (call_walks first_cid guest account w.driver guest.log call right)
       (rests_at before none (seat_stays guest guest refl, well.driver_puts, further, (refl, refl)))))
       (call_left first_cid guest well.opened w.journal w.driver guest.log well.received well.agrees well.sent few rings call)
+      (call_waits (IsOfPort well.opened) w.driver well.waiting rings call)
 
 -- The device plays one, and so does the proxy.
 module _ (fresh : Type 0) (w : World) (well : IsWell fresh w) where
@@ -358,6 +371,7 @@ module _ (fresh : Type 0) (w : World) (well : IsWell fresh w) where
           opened = well.opened;
           received = well.received;
           agrees = well.agrees;
+          waiting = well.waiting;
           sent = well.sent;
           overrun = now.0.none_overrun;
           cids = cids_kept first_cid _ _ runs well.sound well.cids;
@@ -437,6 +451,7 @@ module _ (fresh : Type 0) (w : World) (well : IsWell fresh w) where
       opened = well.opened;
       received = well.received;
       agrees = well.agrees;
+      waiting = well.waiting;
       sent = well.sent;
       overrun = well.overrun;
       cids = well.cids;

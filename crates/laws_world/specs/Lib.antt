@@ -8,3 +8,4 @@ pub mod Pages
 pub mod Pipes
 pub mod Steps
 pub mod Over
+pub mod Names

@@ -19,3 +19,11 @@ returns-clause-resets c = refl
 pub returns-clause-reset_tables : goal.returns-clause-reset_tables
 unfolding digits encode_with
 returns-clause-reset_tables c = refl
+
+pub returns-clause-named : goal.returns-clause-named
+unfolding digits encode_with
+returns-clause-named c = refl
+
+pub returns-clause-named_again : goal.returns-clause-named_again
+unfolding digits encode_with
+returns-clause-named_again c = refl
