@@ -1,4 +1,4 @@
--- Worked examples: what the laws say of two scripts, computed.
+-- Worked examples: what the laws say of three scripts, computed.
 use Rattle.std.specs.Prelude.{ℕ, Bool, true, false, List, [], map, codes, Result, Ok}
 use Rattle.vs_limits.specs.declared.TheConstants.{ASSIGNED_FIRST}
 use Rattle.vs_flow.specs.{declared.flow.Flow.Flow, Connection.first_of, Flow.host_flow}
@@ -6,9 +6,10 @@ use Rattle.vs_outside.specs.HostBytes.{host_read, host_wrote}
 use Rattle.vs_page.specs.{Fair.payload_got, Fair.payload_put, Log.Device, Log.Driver, Open.is_open}
 use Rattle.laws_tables.specs.Ends.{is_among}
 use Rattle.vs_script.specs.{Play.Event, Script.Saying, Script.Plays, Script.parse_of, declared.fault.Refused.Refused}
-use Rattle.laws_world.specs.World.{World, first_cid}
+use Rattle.laws_world.specs.{Counts.dropped_in, World.World, World.first_cid}
 use Rattle.vs_play.specs.Answer.{opened_play}
 use Rattle.laws_play.specs.Headline.{device_flows, device_log, driver_log, guest_flows, guest_replies, world_of}
+use Rattle.laws_play.specs.Recorded.{fails_in}
 use Rattle.laws_play.specs.Said.{received_in, sent_in}
 use Rattle.vs_script.specs.declared.script.Command.TheVariants as command
 
@@ -88,3 +89,22 @@ first_told = record {
 
 abbrev pub flows_after : List ℕ → List Flow × List Flow
 flows_after text = let w = world_of 64 (lines_in text) in (guest_flows w, device_flows w)
+
+-- A REQUEST is still on its way at a transport reset, and then has another CID than the guest's. A call of the host fails.
+abbrev pub late_request : List ℕ
+late_request = codes "connect 52\nreset 9\nhost fail 1\nturn\n"
+
+-- Packets that the device counted as dropped, and those that its log says; faults that it counted, and lines that told of them.
+pub record Counted : Type 0 where
+  pub dropped : ℕ
+  pub dropped_by_log : ℕ
+  pub faults : ℕ
+  pub told_to_fail : ℕ
+
+abbrev pub counted_on : List ℕ → Counted
+counted_on text = let lines = lines_in text in let w = world_of 64 lines in record {
+  dropped = w.proxy.device.dropped;
+  dropped_by_log = dropped_in first_cid (device_log w);
+  faults = w.proxy.device.faults;
+  told_to_fail = fails_in lines;
+}

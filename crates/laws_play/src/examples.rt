@@ -2,12 +2,15 @@
 
 ghost use Rattle.std.specs.Prelude.{◌≡◌, [], ◌∷◌};
 ghost use Rattle.vs_play.specs.Examples.{client, resets};
-ghost use Rattle.laws_play.specs.Worked.{client_flow, client_told, first_flow, first_told, flows_after, last_flow, told_on};
+ghost use Rattle.laws_play.specs.Worked.{client_flow, client_told, counted_on, first_flow, first_told, flows_after, last_flow};
+ghost use Rattle.laws_play.specs.Worked.{late_request, told_on};
 
 /// A client of the host that talks with the guest, and a transport reset: the bytes of connections both ways, and the flows of both tables.
+/// A packet that is late for a reset is dropped, and a call of the host fails: each is counted once.
 pub fn worked_examples()
     ensures client { told_on client client_flow ≡ client_told }
     ensures client_tables { flows_after client ≡ (client_flow ∷ [], client_flow ∷ []) }
     ensures resets { told_on resets first_flow ≡ first_told }
     ensures reset_tables { flows_after resets ≡ (last_flow ∷ [], last_flow ∷ []) }
+    ensures counted { counted_on late_request ≡ record { dropped = 1; dropped_by_log = 1; faults = 1; told_to_fail = 1 } }
 {}
