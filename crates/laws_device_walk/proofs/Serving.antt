@@ -30,6 +30,7 @@ use Rattle.vs_device_parts.specs.Receiving.{read_stream, read_with_chain, reply_
 use Rattle.vs_device_parts.specs.State.{DeviceConnection, DeviceEntry, DeviceState}
 use Rattle.vs_device_parts.specs.Streams.{Writing, closing, is_written_out, leaving, pump_of, pump_slot, shut_write, tick_of, tick_slot}
 use Rattle.vs_device_parts.specs.Streams.{to_write, write_answered, write_pending}
+use Rattle.vs_device_parts.specs.Transmitting.{failing}
 use Rattle.laws_device_walk.specs.Seen.{Seen, seen}
 use Rattle.laws_device_walk.proofs.Keeping.{Asking, Keeps, keeps_each, keeps_if, keeps_some, keeps_then, keeps_while}
 
@@ -85,13 +86,15 @@ module _ {S : Type 0} (K : Asking S) (D : Option Chain → Seen → S → Type 0
   -- PAGES OF RX AND THE EVENT
   abbrev pub AfterTake : DeviceState → Next → S → Type 0
   AfterTake s (next.Chain chain) d = At (record s { chain = Some chain }) d
-  AfterTake s n d = At s d
+  AfterTake s next.None d = At s d
+  AfterTake s (next.Failed f) d = At (failing f s) d
 
   abbrev pub AfterEvent : DeviceState → Next → S → Type 0
   AfterEvent s (next.Chain chain) d =
       K.asks (Ring (Write chain 0 (little_bytes 4 0))) d (λ a e. K.asks (Ring (Return chain 4)) e
       (λ b f. At (record s { event_owed = false }) f))
-  AfterEvent s n d = At s d
+  AfterEvent s next.None d = At s d
+  AfterEvent s (next.Failed f) d = At (failing f s) d
 
   abbrev pub AfterRead : DeviceEntry → Chain → DeviceState → StreamRead → List ℕ → S → Type 0
   AfterRead e chain s (read.Got n) payload d =

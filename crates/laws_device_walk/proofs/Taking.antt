@@ -15,11 +15,13 @@ use Rattle.vs_ring_port.specs.{Contents.Read, Contents.Return, Contents.Take, de
 use Rattle.vs_ring_port.specs.{declared.device_ring.Next.Next}
 use Rattle.vs_ring_port.specs.declared.{failure.Failure.Failure, queue.Queue.TheVariants.Tx}
 use Rattle.vs_ring_port.specs.declared.device_ring.Next.TheVariants as next
+use Rattle.vs_ring_port.specs.declared.failure.Failure.TheVariants as failure
 use Rattle.vs_uds.specs.{OkLine.ok_text, Path.path_of}
 use Rattle.vs_wrap.specs.Wrap.{counted}
 use Rattle.vs_device_parts.specs.{Calls.Dial, Calls.Ring, Connections.with_connection, Connections.with_dialed, Connections.with_fault}
 use Rattle.vs_device_parts.specs.{State.DeviceEntry, State.DeviceState}
-use Rattle.vs_device_parts.specs.Transmitting.{dial_answered, heard, on_header, on_known, on_next, on_packet, on_unknown, take_tx_of}
+use Rattle.vs_device_parts.specs.Transmitting.{dial_answered, failing, heard, on_header, on_known, on_next, on_packet, on_unknown}
+use Rattle.vs_device_parts.specs.Transmitting.{take_tx_of}
 use Rattle.vs_device_parts.specs.declared.answers.Taken.TheVariants as taken
 use Rattle.laws_device_walk.specs.Seen.{Seen, seen}
 use Rattle.laws_device_walk.proofs.Keeping.{Asking, Keeps, keeps_if, keeps_some, keeps_then}
@@ -29,14 +31,16 @@ module _ {S : Type 0} (K : Asking S) (D : Option Chain → Seen → S → Type 0
     (U : Chain → Header → Seen → S → Type 0) where
   -- A header was read: of a packet that the chain has less of, of one that is dropped, or of another.
   pub record AfterHeader (chain : Chain) (h : Header) (s : DeviceState) (d : S) : Type 0 where
-    pub short : nat_lt (chain.readable - HEADER_LEN) h.len ≡ true → D None (seen s) d
+    pub short : nat_lt (chain.readable - HEADER_LEN) h.len ≡ true
+        → D None (seen (failing (failure.PayloadShort h.len (chain.readable - HEADER_LEN)) s)) d
     pub drops : nat_lt (chain.readable - HEADER_LEN) h.len ≡ false → is_dropped Device s.cid h ≡ true
         → D (Some chain) (seen (record s { dropped = counted s.dropped })) d
     pub comes : nat_lt (chain.readable - HEADER_LEN) h.len ≡ false → is_dropped Device s.cid h ≡ false → U chain h (seen s) d
 
   abbrev pub AfterTake : DeviceState → Next → S → Type 0
   AfterTake s (next.Chain chain) d = K.asks (Ring (Read chain 0 HEADER_LEN)) d (λ bytes e. AfterHeader chain (header_of bytes) s e)
-  AfterTake s n d = D None (seen s) d
+  AfterTake s next.None d = D None (seen s) d
+  AfterTake s (next.Failed f) d = D None (seen (failing f s)) d
 
   abbrev pub AfterDial : Chain → Header → DeviceState → Dialed → S → Type 0
   AfterDial chain h s (dialed.Stream id) d = D (Some chain) (seen (with_dialed (flow_to_host h) h id s)) d

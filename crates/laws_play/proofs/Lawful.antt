@@ -27,7 +27,10 @@ use Rattle.laws_world.proofs.Carried.{sent_all, sent_stays, wrote_stays}
 use Rattle.vs_play.specs.{Answer.base_path, Answer.opened_play, Answer.texts_of, Answer.world_after, Lines.PlayWorld, Lines.event_played}
 use Rattle.laws_play.specs.Headline.{IsLawful, IsNamedIn, StaysShut, world_of}
 use Rattle.laws_play.specs.Said.{accept_answer, connect_answer}
-use Rattle.laws_play.proofs.{Shutting.IsShut, Shutting.is_shut, Shutting.run_shut, Unfailed.script_fine, PlayLines.after_both}
+use Rattle.laws_play.proofs.{Counting.lines_count, Counting.lines_within, PlayLines.after_both, Shutting.IsShut, Shutting.is_shut, Shutting.run_shut}
+use Rattle.laws_proxy_bytes.specs.Counts.{counts_shown}
+use Rattle.laws_world.specs.Counts.{IsCounted}
+use Rattle.laws_world.proofs.Counting.{reached_counted}
 use Rattle.laws_play.proofs.PlayLines.{around_journal, cid_right, front_bounded, lines_of, lines_receive, lines_right, lines_send, rest_bounded, world_is}
 use Rattle.laws_play.proofs.Reached.{carries, holds_open, holds_rest, keeps_credit, log_is, many_device, many_guest, own_streams, queued}
 use Rattle.vs_script.proofs.Bounded.{all_bounded}
@@ -61,11 +64,6 @@ lines_go : (es : List Event) (p : PlayWorld) → is_at_rest p.world.rings.driver
     → Goes Fresh p.world (world_after es p).world
 lines_go es p rest bounded well =
     let leads = lines_lead es p rest bounded in subst (Goes Fresh p.world) leads.1 (run_goes Fresh leads.0 p.world well)
-
-lines_fine : (es : List Event) (p : PlayWorld) → is_at_rest p.world.rings.driver.staged ≡ true → AreBounded es → IsWell Fresh p.world
-    → p.world.proxy.device.failed ≡ None → (world_after es p).world.proxy.device.failed ≡ None
-lines_fine es p rest bounded well fine = subst (λ (w : World). w.proxy.device.failed ≡ None) (sym (world_is es p))
-    (script_fine Fresh (lines_of es p) p.world rest well (lines_right es p bounded) fine)
 
 module _ (w v : World) (f : Flow) (well : IsWell Fresh w) (goes : Goes Fresh w v) where
   -- What an end put stays from its decision on that it sends no more.
@@ -170,8 +168,9 @@ module _ (n : ℕ) where
   world_well : (es : List Event) → AreBounded es → IsWell Fresh (world_of n es)
   world_well es bounded = (lines_go es (opened_play n) at_rest bounded (opening_well n play_host)).well
 
-  world_fine : (es : List Event) → AreBounded es → (world_of n es).proxy.device.failed ≡ None
-  world_fine es bounded = lines_fine es (opened_play n) at_rest bounded (opening_well n play_host) refl
+  world_counted : (es : List Event) → AreBounded es → IsCounted (world_of n es)
+  world_counted es bounded =
+      let leads = lines_lead es (opened_play n) at_rest bounded in subst IsCounted leads.1 (reached_counted n play_host leads.0)
 
   shut_both : (es more : List Event) (f : Flow) → AreBounded (es ++ more) → StaysShut f (world_of n es) (world_of n (es ++ more))
   shut_both es more f bounded =
@@ -187,10 +186,10 @@ module _ (n : ℕ) where
       let p = world_after es (opened_play n) in
       let b = (rest_bounded es (script.Around (outside.Reset cid) ∷ more) bounded).0 in
       let right = cid_right cid b.0 b.1 in
-      let fine = world_fine es (front_bounded es (script.Around (outside.Reset cid) ∷ more) bounded) in
+      let counted = world_counted es (front_bounded es (script.Around (outside.Reset cid) ∷ more) bounded) in
       subst (λ (q : PlayWorld). IsEmptied q.world.proxy) (sym (after_both es (script.Around (outside.Reset cid) ∷ []) (opened_play n)))
       (subst (λ (v : World). IsEmptied v.proxy) (possible_is (is_guest_cid cid) (reset_made cid) p.world right)
-      (device_emptied cid p.world right fine))
+      (device_emptied cid p.world right counted.unfailed))
 
   -- A line that told an id.
   named_after : (before more : List Event) (e : Event) (id : ℕ) → AreBounded (before ++ e ∷ more) → All (λ x. x ≢ script.Close id) more
@@ -227,6 +226,7 @@ module _ (n : ℕ) where
       let w = world_of n lines in
       let well = world_well lines bounded in
       let rest = world_rests lines in
+      let counted = world_counted lines bounded in
       record {
         events = lines_lead lines (opened_play n) at_rest bounded;
         bytes = λ f. carries w well fresh rest f;
@@ -253,7 +253,10 @@ module _ (n : ℕ) where
             (shut_both before more f (subst AreBounded is bounded));
         tables = holds_open w well fresh rest;
         reset = λ before more cid is. emptied_after before more cid (subst AreBounded is bounded);
-        unfailed = world_fine lines bounded;
+        unfailed = counted.unfailed;
+        dropped = counted.dropped;
+        counts = lines_count (counts_shown (opened_play n).world.proxy.device) lines (opened_play n) [] refl;
+        faults = (let told = lines_within lines (opened_play n) 0 (omega arith) in omega (arith, told));
         credit = keeps_credit w well fresh rest;
         queues = queued w well fresh rest;
         report =

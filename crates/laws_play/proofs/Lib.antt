@@ -1,5 +1,5 @@
 pub mod PlayLines
-pub mod Unfailed
+pub mod Counting
 pub mod Shutting
 pub mod Reached
 pub mod Lawful

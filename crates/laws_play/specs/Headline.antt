@@ -1,6 +1,6 @@
 -- What holds of each play: bytes arrive in order and on their own connection alone, the tables hold just the connections left open, and
 -- nobody exceeds the credit that the peer gave (Virtio 1.2, section 5.10.6).
-use Rattle.std.specs.Prelude.{◌≡◌, ◌≢◌, ℕ, ◌+◌, ◌≤◌, ◌||◌, Bool, true, false, List, [], ◌∷◌, ◌++◌, length, Some, None, All, AllPairs}
+use Rattle.std.specs.Prelude.{◌≡◌, ◌≢◌, ℕ, ◌+◌, ◌-◌, ◌^◌, ◌≤◌, min, ◌||◌, Bool, true, false, List, [], ◌∷◌, ◌++◌, length, Some, None, All, AllPairs}
 use Rattle.std.specs.Prelude.{Contains, Ok}
 use Rattle.vs_flow.specs.{declared.flow.Flow.Flow, Connection.first_of}
 use Rattle.vs_limits.specs.declared.TheConstants.{BUF_ALLOC}
@@ -19,11 +19,14 @@ use Rattle.laws_device_bytes.specs.Streamed.{gives, line_for}
 use Rattle.vs_script.specs.{Data.Content, Play.Event}
 use Rattle.vs_report.specs.{Report.counts_text, Report.device_open_text, Report.guest_open_text, Report.stream_texts, GuestLines.recv_text}
 use Rattle.vs_report.specs.GuestLines.{opened_text, send_text}
-use Rattle.laws_world.specs.{Laws.IsEmptied, Names.HasFlow, Sides.device_ends, Sides.driver_ends, Steps.Leads, World.World, World.first_cid}
+use Rattle.laws_proxy_bytes.specs.Counts.{counts_of, counts_shown}
+use Rattle.laws_world.specs.{Counts.dropped_in, Laws.IsEmptied, Names.HasFlow, Sides.device_ends, Sides.driver_ends, Steps.Leads, World.World}
+use Rattle.laws_world.specs.World.{first_cid}
 use Rattle.laws_driver.specs.Resets.{MarksResets}
 use Rattle.laws_driver_bytes.specs.Calls.{received_on, sent_on}
 use Rattle.vs_play.specs.{Answer.opened_play, Answer.printed, Answer.texts_of, Answer.world_after, Lines.event_played}
-use Rattle.laws_play.specs.Said.{accept_answer, connect_answer, received_in, recv_answer, recv_bytes, send_answer, sent_in}
+use Rattle.laws_play.specs.{Recorded.calls_of, Recorded.fails_in, Said.accept_answer, Said.connect_answer, Said.received_in, Said.recv_answer}
+use Rattle.laws_play.specs.Said.{recv_bytes, send_answer, sent_in}
 use Rattle.vs_driver_parts.specs.declared.answers.Accepted.TheVariants as accepted
 use Rattle.vs_script.specs.Outside as outside
 use Rattle.vs_script.specs.Play as script
@@ -195,6 +198,14 @@ pub record IsLawful (n : ℕ) (lines : List Event) : Type 0 where
   pub reset : EmptiesDevice n lines
   -- The device's ring never failed.
   pub unfailed : (world_of n lines).proxy.device.failed ≡ None
+  -- The device counted just the packets of its log that it drops, each by the guest's CID of then. (The count stands still at the last
+  -- number of 64 bits.)
+  pub dropped : (world_of n lines).proxy.device.dropped ≡ min (dropped_in first_cid (device_log (world_of n lines))) (2 ^ 64 - 1)
+  -- Packets dropped and faults are counted as the calls made say: so many headers from a wrong CID were read, so many calls failed.
+  pub counts : counts_shown (world_of n lines).proxy.device
+      ≡ counts_of (counts_shown (opened_play n).world.proxy.device) (calls_of lines (opened_play n) [])
+  -- No more calls failed than lines told the host to fail.
+  pub faults : (world_of n lines).proxy.device.faults ≤ fails_in lines
   pub credit : KeepsCredit (world_of n lines)
   pub queues : IsQueued (world_of n lines)
   pub report : Reports n lines

@@ -1,3 +1,4 @@
 pub mod Said
+pub mod Recorded
 pub mod Headline
 pub mod Worked

@@ -7,9 +7,10 @@ use Rattle.vs_page.specs.{Fair.payload_got, Fair.payload_put, Log.Device, Log.Dr
 use Rattle.laws_tables.specs.Ends.{is_among}
 use Rattle.vs_driver_parts.specs.Connections.{flow_of}
 use Rattle.vs_script.specs.{Play.Event, Script.Saying, Script.Plays, Script.parse_of, declared.fault.Refused.Refused}
-use Rattle.laws_world.specs.World.{World, first_cid}
+use Rattle.laws_world.specs.{Counts.dropped_in, World.World, World.first_cid}
 use Rattle.vs_play.specs.Answer.{opened_play}
 use Rattle.laws_play.specs.Headline.{device_flows, device_log, driver_log, guest_flows, guest_replies, world_of}
+use Rattle.laws_play.specs.Recorded.{fails_in}
 use Rattle.laws_play.specs.Said.{received_in, sent_in}
 use Rattle.vs_script.specs.declared.script.Command.TheVariants as command
 
@@ -102,3 +103,22 @@ closed_between = codes "connect 52\nclose 1\nconnect 52\n"
 
 abbrev pub second_flow : Flow
 second_flow = host_flow 1025 52
+
+-- A REQUEST is still on its way at a transport reset, and then has another CID than the guest's. A call of the host fails.
+abbrev pub late_request : List ℕ
+late_request = codes "connect 52\nreset 9\nhost fail 1\nturn\n"
+
+-- Packets that the device counted as dropped, and those that its log says; faults that it counted, and lines that told of them.
+pub record Counted : Type 0 where
+  pub dropped : ℕ
+  pub dropped_by_log : ℕ
+  pub faults : ℕ
+  pub told_to_fail : ℕ
+
+abbrev pub counted_on : List ℕ → Counted
+counted_on text = let lines = lines_in text in let w = world_of 64 lines in record {
+  dropped = w.proxy.device.dropped;
+  dropped_by_log = dropped_in first_cid (device_log w);
+  faults = w.proxy.device.faults;
+  told_to_fail = fails_in lines;
+}

@@ -12,6 +12,9 @@ pub mod DeviceGoes
 pub mod Rings
 pub mod Sound
 pub mod Opening
+pub mod Resetting
+pub mod Counting
+pub mod Failing
 pub mod Bytes
 pub mod Growing
 pub mod Carried

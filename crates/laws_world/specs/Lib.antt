@@ -3,6 +3,7 @@ pub mod World
 pub mod Events
 pub mod Plays
 pub mod Laws
+pub mod Counts
 pub mod Sides
 pub mod Pages
 pub mod Pipes

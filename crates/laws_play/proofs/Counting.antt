@@ -1,0 +1,115 @@
+-- What the calls of a play come to in the device's counts.
+use Rattle.std.proofs.Common.{◌≡◌, ℕ, ◌+◌, ◌≤◌, Bool, cond, List, [], ◌∷◌, ◌++◌, length, refl, sym, ap, subst, ◌∙◌, Result, arith, length-append}
+use Rattle.vs_contents.specs.CallTree.{Ask, Done, played}
+use Rattle.vs_ring_port.specs.declared.failure.Failure.{Failure}
+use Rattle.vs_device_parts.specs.Calls.{Call, DeviceTree}
+use Rattle.vs_proxy_parts.specs.{State.ProxyState, Turns.proxy_reset_of, Turns.turn_of, declared.answers.Turn.Turn}
+use Rattle.laws_proxy_bytes.specs.{Counts.DeviceCounts, Counts.count_made, Counts.counts_of, Counts.counts_shown, Made.Made, Made.made}
+use Rattle.laws_proxy_bytes.proofs.{Quiet.counts_reset, Quiet.counts_turn, Walks.Walks}
+use Rattle.vs_script.specs.{Outside.Outside, Play.Event}
+use Rattle.laws_world.specs.{Answers.Around, Answers.answer_around, World.World, World.around}
+use Rattle.vs_play.specs.{Answer.world_after, Lines.PlayWorld, Lines.event_played}
+use Rattle.laws_world.proofs.Failing.{FailsWithin, reset_fails, turn_fails}
+use Rattle.laws_play.specs.Recorded.{Recorded, calls_of, fails_in, line_fails, made_in, outside_made, recorded, recording}
+use Rattle.vs_outside.specs.{Host.HostContents, HostProgram.after_host_write, HostProgram.host_write_answer}
+use Rattle.vs_outside.specs.declared.mem_stream.HostWritten.{HostWritten}
+use Rattle.vs_outside.specs.declared.mem_stream.HostWritten.TheVariants as written
+use Rattle.vs_script.specs.Data.{bytes_of}
+use Rattle.vs_script.specs.Outside as outside
+use Rattle.vs_script.specs.Play as script
+
+-- A conversation, from counts that the calls made so far come to.
+played_counts : {A : Type 0} (f : A → DeviceCounts) (tree : DeviceTree A) (a : Around) (calls : List Made) (n first : DeviceCounts)
+    → Walks false f tree n → n ≡ counts_of first calls
+    → f (played answer_around tree a).0 ≡ counts_of first (played recording tree (record { around = a; calls = calls })).1.calls
+played_counts f (Done x) a calls n first walks is = walks ∙ is
+played_counts f (Ask call next) a calls n first walks is =
+    let r = answer_around call a in
+    played_counts f (next r.0) r.1 (made call r.0 ∷ calls) (count_made call r.0 n) first (walks.1 r.0) (ap (count_made call r.0) is)
+
+module _ (first : DeviceCounts) where
+  abbrev CountedBy : PlayWorld → List Made → Type 0
+  CountedBy p calls = counts_shown p.world.proxy.device ≡ counts_of first calls
+
+  outside_counts : (line : Outside) (p : PlayWorld) (calls : List Made) → CountedBy p calls
+      → CountedBy (event_played (script.Around line) p).0 (outside_made line p calls)
+  outside_counts outside.Turn p calls is =
+      let tree = turn_of p.world.rings.lists.size p.moment p.world.proxy in
+      played_counts (λ (x : ProxyState × Turn). counts_shown x.0.device) tree (around p.world) calls (counts_shown p.world.proxy.device) first
+      (counts_turn p.world.rings.lists.size p.moment p.world.proxy) is
+  outside_counts (outside.Reset cid) p calls is =
+      played_counts (λ (x : ProxyState × Result (Unit {0}) Failure). counts_shown x.0.device) (proxy_reset_of cid p.world.proxy) (around p.world)
+      calls (counts_shown p.world.proxy.device) first (counts_reset false cid p.world.proxy) is
+  outside_counts (outside.Tick ms) p calls is = is
+  outside_counts outside.Client p calls is = is
+  outside_counts (outside.OfHost host) p calls is = by host
+    where
+      by : (host : outside.Host) → CountedBy (event_played (script.Around (outside.OfHost host)) p).0 calls
+      by (outside.HostListen port) = is
+      by (outside.HostUnlisten port) = is
+      by (outside.HostWrite stream content) = is
+      by (outside.HostAllow stream n) = is
+      by (outside.HostEnd stream) = is
+      by (outside.HostClosed stream) = is
+      by (outside.HostFail n) = is
+
+  line_counts : (e : Event) (p : PlayWorld) (calls : List Made) → CountedBy p calls → CountedBy (event_played e p).0 (made_in e p calls)
+  line_counts (script.Connect port) p calls is = is
+  line_counts (script.Listen port) p calls is = is
+  line_counts (script.Unlisten port) p calls is = is
+  line_counts (script.Accept port) p calls is = is
+  line_counts (script.Send id content) p calls is = is
+  line_counts (script.Recv id len) p calls is = is
+  line_counts (script.Shutdown id bits) p calls is = is
+  line_counts (script.Close id) p calls is = is
+  line_counts (script.State id) p calls is = is
+  line_counts script.Poll p calls is = is
+  line_counts (script.Around line) p calls is = outside_counts line p calls is
+
+  pub lines_count : (es : List Event) (p : PlayWorld) (calls : List Made) → CountedBy p calls → CountedBy (world_after es p) (calls_of es p calls)
+  lines_count [] p calls is = is
+  lines_count (e ∷ es) p calls is = lines_count es (event_played e p).0 (made_in e p calls) (line_counts e p calls is)
+
+-- Faults counted, and calls of the host that are to fail: no more than lines told of.
+written_same : (stream : ℕ) (bytes : List ℕ) (answer : HostWritten) (h : HostContents)
+    → (after_host_write stream bytes answer h).to_fail ≡ h.to_fail
+written_same stream bytes written.Ok h = refl
+written_same stream bytes written.Ended h = refl
+written_same stream bytes written.NoStream h = refl
+
+abbrev After : ℕ → Event → PlayWorld → Type 0
+After m e p = FailsWithin (cond (line_fails e) 1 0 + m) (event_played e p).0.world
+
+host_within : (m : ℕ) (host : outside.Host) (p : PlayWorld) → FailsWithin m p.world → After m (script.Around (outside.OfHost host)) p
+host_within m (outside.HostListen port) p at = at
+host_within m (outside.HostUnlisten port) p at = at
+host_within m (outside.HostWrite stream content) p at =
+    subst (λ (calls : List ℕ). p.world.proxy.device.faults + length calls ≤ m)
+    (sym (written_same stream (bytes_of content) (host_write_answer stream p.world.host) p.world.host)) at
+host_within m (outside.HostAllow stream n) p at = at
+host_within m (outside.HostEnd stream) p at = at
+host_within m (outside.HostClosed stream) p at = at
+host_within m (outside.HostFail n) p at =
+    let longer = length-append p.world.host.to_fail (n ∷ []) in omega (arith, at, longer)
+
+line_within : (m : ℕ) (e : Event) (p : PlayWorld) → FailsWithin m p.world → After m e p
+line_within m (script.Connect port) p at = at
+line_within m (script.Listen port) p at = at
+line_within m (script.Unlisten port) p at = at
+line_within m (script.Accept port) p at = at
+line_within m (script.Send id content) p at = at
+line_within m (script.Recv id len) p at = at
+line_within m (script.Shutdown id bits) p at = at
+line_within m (script.Close id) p at = at
+line_within m (script.State id) p at = at
+line_within m script.Poll p at = at
+line_within m (script.Around outside.Turn) p at = turn_fails m p.moment p.world at
+line_within m (script.Around (outside.Reset cid)) p at = reset_fails m cid p.world at
+line_within m (script.Around (outside.Tick ms)) p at = at
+line_within m (script.Around outside.Client) p at = at
+line_within m (script.Around (outside.OfHost host)) p at = host_within m host p at
+
+pub lines_within : (es : List Event) (p : PlayWorld) (m : ℕ) → FailsWithin m p.world → FailsWithin (fails_in es + m) (world_after es p).world
+lines_within [] p m at = at
+lines_within (e ∷ es) p m at =
+    let rest = lines_within es (event_played e p).0 (cond (line_fails e) 1 0 + m) (line_within m e p at) in omega (arith, rest)
