@@ -144,8 +144,7 @@ module _ (e : Event) (p : PlayWorld) (rest : is_at_rest p.world.rings.driver.sta
       → IsNamedIn (world_after (e ∷ more) p).world id text
   still_named (f, told) text is =
       let goes = lines_go more next next_rest bounded.1 next_well in
-      let leads = lines_lead more next next_rest bounded.1 in
-      (
+      let leads = lines_lead more next next_rest bounded.1 in (
         f,
         is ∙ ap (connection_text id) (told_flow id f next.world next_well told).0,
         told_flow id f (world_after more next).world goes.well
