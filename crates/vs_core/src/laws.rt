@@ -1,7 +1,7 @@
 //! Laws of the world, over every list of events.
 
 ghost use Rattle.vs_flow.specs.{Connection.Connection, Connection.first_of, declared.flow.Flow.Flow};
-ghost use Rattle.std.specs.Prelude.{◌≡◌, ℕ, ◌≤◌, ◌||◌, false, true, List, [], ◌∷◌, length, All};
+ghost use Rattle.std.specs.Prelude.{◌≡◌, ℕ, ◌-◌, ◌^◌, ◌≤◌, ◌||◌, min, false, true, List, [], ◌∷◌, length, All, None};
 ghost use Rattle.vs_limits.specs.declared.TheConstants.{BUF_ALLOC, FIRST_PORT, ASSIGNED_FIRST};
 ghost use Rattle.vs_conn.specs.End.{ConnectionEnd, is_refused, verdict_of};
 ghost use Rattle.laws_history.specs.declared.packet.Packet.{Packet};
@@ -11,7 +11,7 @@ ghost use Rattle.vs_outside.specs.Host.{HostContents};
 ghost use Rattle.vs_page.specs.{Fair.IsFairLog, Fair.IsPrefixOf, Fair.payload_got, Fair.payload_put, Log.Device, Log.Driver, Log.HasGotAll};
 ghost use Rattle.vs_page.specs.{Log.IsNextPacket, Log.Log, Log.flow_got, Open.is_dropped, Open.is_open};
 ghost use Rattle.vs_page.specs.declared.log.LogEntry.TheVariants.{Mark};
-ghost use Rattle.laws_world.specs.{Events.Event, Events.happens, Events.is_at_rest};
+ghost use Rattle.laws_world.specs.{Counts.dropped_in, Events.Event, Events.happens, Events.is_at_rest};
 ghost use Rattle.laws_driver_bytes.specs.Calls.{GuestCall, is_right, sent_on};
 ghost use Rattle.laws_world.specs.{Events.is_guest_cid, Events.run, Laws.IsQueued, Plays.guest_line, Plays.poll_line, Plays.reset_line};
 ghost use Rattle.laws_world.specs.{Steps.Leads, Sides.Runs, Sides.both_of, World.World, World.first_cid, World.opening};
@@ -89,6 +89,14 @@ pub fn law_of_credit()
         All (λ e. length e.value.unread ≤ BUF_ALLOC) (run es (opening n host)).driver.table.entries }
     ensures pending { (n : ℕ) (host : HostContents) (es : List Event) →
         All (λ e. length e.value.pending ≤ BUF_ALLOC) (run es (opening n host)).proxy.device.table.entries }
+{}
+
+/// After any list of events the device counted just the packets of its log that it drops, each by the guest's CID of then, and its ring
+/// never failed. The count stands still at the last number of 64 bits.
+pub fn law_of_counts()
+    ensures dropped { (n : ℕ) (host : HostContents) (es : List Event) → let w = run es (opening n host) in
+        w.proxy.device.dropped ≡ min (dropped_in first_cid w.rings.device.entries) (2 ^ 64 - 1) }
+    ensures unfailed { (n : ℕ) (host : HostContents) (es : List Event) → (run es (opening n host)).proxy.device.failed ≡ None }
 {}
 
 /// After any list of events the payload that the driver put on a connection is just what its sends took, in order. So the payload that
