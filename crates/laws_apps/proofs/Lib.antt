@@ -10,3 +10,4 @@ pub mod Making
 pub mod Receives
 pub mod Slices
 pub mod Stepping
+pub mod Parsing

@@ -1,6 +1,6 @@
 //! Laws on the journal of a run.
 
-ghost use Rattle.std.specs.Prelude.{◌≡◌, ◌<◌, ◌≤◌, ℕ, Bool, true, List, [], ◌∷◌, length, slice_index_or};
+ghost use Rattle.std.specs.Prelude.{◌≡◌, ◌<◌, ◌≤◌, ℕ, Bool, true, List, [], ◌∷◌, Ok, length, slice_index_or};
 ghost use Rattle.vs_flow.specs.Connection.{Connection};
 ghost use Rattle.vs_page.specs.{Fair.payload_put, Log.Driver, Log.Log};
 ghost use Rattle.vs_ring_port.specs.Contents.{RingContents};
@@ -9,7 +9,8 @@ ghost use Rattle.vs_driver_parts.specs.declared.answers.Polled.{Polled};
 ghost use Rattle.laws_driver.specs.Honest.{IsFresh, IsHonestWith};
 ghost use Rattle.laws_driver_bytes.specs.Calls.{GuestCall, Journal, ReplyTo, account_of, is_right, whole_call, with_call};
 ghost use Rattle.laws_driver_bytes.specs.Received.{AreReceived};
-ghost use Rattle.vs_apps_parts.specs.{Journals.made_as, Journals.sent_as, Scripts.RunScript, Scripts.with_noted};
+ghost use Rattle.vs_script.specs.{Script.Runs, Script.parse_of, declared.script.Command.TheVariants.Run as ForRun};
+ghost use Rattle.vs_apps_parts.specs.{Journals.made_as, Journals.sent_as, Scripts.AreRight, Scripts.RunScript, Scripts.with_noted};
 ghost use Rattle.vs_apps_parts.specs.declared.progress.{AppState.AppState, Stepped.Stepped};
 ghost use Rattle.laws_apps.specs.{Accounts.IsAccounted, Accounts.IsSent, Runs.IsRunOf, Runs.PollsTo, Runs.Run, Runs.Steps, Runs.no_app};
 ghost use Rattle.vs_limits.specs.declared.TheConstants.{LAST_PORT};
@@ -46,4 +47,9 @@ pub fn law_of_steps()
         → IsRunOf s.cid script (record { driver = s; ring = d; apps = apps; entries = []; bytes = [] }) }
     ensures polls { (first : ℕ) (script : RunScript) (polled : Polled) (old new : Run) → IsRunOf first script old → PollsTo polled old new
         → IsRunOf first script new }
+{}
+
+/// The apps of each script that is read for a run are right: the bits of each shutdown are 1 to 3.
+pub fn law_of_scripts()
+    ensures { (text : List ℕ) (script : RunScript) → parse_of ForRun text ≡ Ok (Runs script) → AreRight script }
 {}
