@@ -97,8 +97,10 @@ abbrev pub whole : Type 0 → Carried
 whole ok = record {
   ok = ok;
   others = λ held. held ≡ [];
+  asks = λ f. Unit {0};
+  of_host = λ f host. tt;
   holds = λ w. Unit {0};
-  step = λ step w may fits was. tt;
+  step = λ step w may asked fits was. tt;
   plain = IsPlain;
   before = plain_before;
   once = λ first w was few. few.once;

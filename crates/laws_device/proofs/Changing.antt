@@ -86,7 +86,7 @@ module _ (carry : Carried) (port : ℕ) (s : DeviceState) (fits : IsFitState s) 
       overrun_is = refl;
       goes = λ log was.
           subst (λ (w : Seat). carry.holds w) (at_log log _ _ (ap (λ (x : ConnectionEnd). with_end e.flow x (ends_of_state port s)) (sym is) ∙ sym (connection_ends s fits e there port c)))
-          (carry.step (Decides e.flow e.value.end what) (seat port s log) (has_end s fits e there port, begun, may) (λ all. all) was);
+          (carry.step (Decides e.flow e.value.end what) (seat port s log) (has_end s fits e there port, begun, may) tt (λ all. all) was);
     }
 
     -- The same end.

@@ -345,7 +345,7 @@ module _ (carry : Carried) (lines : List Handshake) (first port : ℕ) (s : Devi
           → carry.plain first (GotPacket (packet payload) ∷ log) → is_request (packet payload) ≡ true → has_passed Device (flow_to_host h) log ≡ false
       quiet_flow payload log seated fair few request =
           let few = carry.once first (seat_after Device (Takes (packet payload) false) (seat port s log))
-          (carry.step (Takes (packet payload) false) (seat port s log) tt (λ all. all) seated) few (flow_to_host h) in
+          (carry.step (Takes (packet payload) false) (seat port s log) tt tt (λ all. all) seated) few (flow_to_host h) in
           none_passed Device (flow_to_host h) log (asked_first Device (packet payload) log fair few request)
 
       dial_by : (path : List ℕ) (a : Dialed) (d : Situation) → Lets (Dial path (flow_to_host h)) a c d → is_assigned h.dst_port ≡ false → is_reset h ≡ false

@@ -63,7 +63,7 @@ module _ (carry : Carried) (port : ℕ) (s : DeviceState) (fits : IsFitState s) 
         overrun_is = refl;
         matches = λ first log m. replies Device first s.cid reply rest (ends_of_state port s) log m is;
         fair = λ first log m fair. replies_fair Device first s.cid reply rest (ends_of_state port s) log m fair is;
-        goes = λ log was. carry.step (Replies reply rest) (seat port s log) is (λ all. (wire, all)) was;
+        goes = λ log was. carry.step (Replies reply rest) (seat port s log) is tt (λ all. (wire, all)) was;
       }
 
   module _ (e : DeviceEntry) (there : Contains s.table.entries e) where
@@ -97,7 +97,7 @@ module _ (carry : Carried) (port : ℕ) (s : DeviceState) (fits : IsFitState s) 
               (has_end s fits e there port) can (fits_message log);
           goes = λ log was.
               subst (λ (w : Seat). carry.holds w) (at_log (PutPacket (payload_on Device s.cid e.flow end payload) ∷ log) _ _ (sym (connection_ends s fits e there port now)))
-              (carry.step (Sends e.flow end payload) (seat port s log) (has_end s fits e there port, can, fits_message log) (λ all. (wire, all)) was);
+              (carry.step (Sends e.flow end payload) (seat port s log) (has_end s fits e there port, can, fits_message log) tt (λ all. (wire, all)) was);
         }
 
     -- What is owed.
@@ -124,7 +124,7 @@ module _ (carry : Carried) (port : ℕ) (s : DeviceState) (fits : IsFitState s) 
             (has_end s fits e there port) owes;
         goes = λ log was.
             subst (λ (w : Seat). carry.holds w) (at_log (PutPacket (owed_on Device s.cid e.flow e.value.end what) ∷ log) _ _ is)
-            (carry.step (Pays e.flow e.value.end what) (seat port s log) (has_end s fits e there port, owes) (λ all. (wire, all)) was);
+            (carry.step (Pays e.flow e.value.end what) (seat port s log) (has_end s fits e there port, owes) tt (λ all. (wire, all)) was);
       }
 
       -- The connection stays.

@@ -2,6 +2,7 @@
 use Rattle.std.proofs.Common.{◌≡◌, ℕ, ◌≤◌, true, List, [], ◌∷◌, ap}
 use Rattle.vs_conn.specs.End.{ConnectionEnd}
 use Rattle.vs_flow.specs.{declared.flow.Flow.Flow, Table.Table}
+use Rattle.vs_limits.specs.declared.TheConstants.{HOST_CID}
 use Rattle.vs_page.specs.{Fair.number_of, Log.flow_got, Open.is_dropped, declared.log.LogEntry.LogEntry}
 use Rattle.vs_page.specs.{declared.log.LogEntry.TheVariants.GotPacket, Fair.IsFairLog, Held.FitsWire, Log.Device, Log.Log, Log.packets_put}
 use Rattle.laws_tables.specs.{Steps.HasEnd, Both.Asks, Both.MayHappen, Both.Opens, Both.Seat, Both.Step, Both.Takes, Both.after, Ends.Ends}
@@ -26,6 +27,12 @@ MayDo (Asks f kind) w = IsNextFlow Device f w.part × (w.part.next_port ≤ own_
 MayDo (Takes p answer) w = Unit {0}
 MayDo step w = MayHappen Device step (record { driver = w; device = w })
 
+-- The flow that a step asks for is such a one.
+abbrev pub IsAsked : (Flow → Type 0) → Step → Type 0
+IsAsked asks (Opens f kind) = asks f
+IsAsked asks (Asks f kind) = asks f
+IsAsked asks step = Unit {0}
+
 -- The headers of all packets that were put fit the wire.
 abbrev pub AllFit : List Packet → Type 0
 AllFit [] = Unit {0}
@@ -34,13 +41,16 @@ AllFit (p ∷ ps) = FitsWire p.header × AllFit ps
 abbrev pub PutsFit : Log → Type 0
 PutsFit log = AllFit (packets_put log)
 
--- What is carried: whether the host's streams are told of, which other chains may be held, and a fact of the seat that each step keeps. Where the
+-- What is carried: whether the host's streams are told of, which other chains may be held, which flows the device may ask for, those with the
+-- host among them, and a fact of the seat that each step keeps. Where the
 -- log is plain, which each one before it then was, no flow was used twice, and no payload was dropped that a stream is to be given.
 pub record Carried : Type 1 where
   pub ok : Type 0
   pub others : List Held → Type 0
+  pub asks : Flow → Type 0
+  pub of_host : (f : Flow) → f.peer ≡ HOST_CID → asks f
   pub holds : Seat → Type 0
-  pub step : (step : Step) (w : Seat) → MayDo step w → (PutsFit w.log → PutsFit (after Device step w).log) → holds w → holds (after Device step w)
+  pub step : (step : Step) (w : Seat) → MayDo step w → IsAsked asks step → (PutsFit w.log → PutsFit (after Device step w).log) → holds w → holds (after Device step w)
   pub plain : ℕ → Log → Type 0
   pub before : (first : ℕ) (entry : LogEntry) (log : Log) → plain first (entry ∷ log) → plain first log
   pub once : (first : ℕ) (w : Seat) → holds w → plain first w.log → (f : Flow) → number_of Device f w.log ≤ 1

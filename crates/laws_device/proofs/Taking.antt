@@ -52,8 +52,8 @@ module _ (carry : Carried) (first port : ℕ) (s : DeviceState) (p : Packet) (lo
   goes_to : (t : DeviceState) (answer : Bool) → forgotten (after_taking Device p answer part) ≡ ends_of_state port t
       → carry.holds (seat port t (GotPacket p ∷ log))
   goes_to t answer is = subst (λ (w : Seat). carry.holds w) (at_log (GotPacket p ∷ log) _ _ is)
-      (carry.step Forgets (after Device (Takes p answer) (seat port s log)) tt (λ all. all)
-      (carry.step (Takes p answer) (seat port s log) tt (λ all. all) was.seated))
+      (carry.step Forgets (after Device (Takes p answer) (seat port s log)) tt tt (λ all. all)
+      (carry.step (Takes p answer) (seat port s log) tt tt (λ all. all) was.seated))
 
   -- A packet whose source isn't the guest, or whose destination isn't the host.
   pub drops_it : is_dropped Device s.cid p.header ≡ true → Goes s

@@ -179,7 +179,7 @@ module _ (carry : Carried) (lines : List Handshake) (first port : ℕ) where
                     none_overrun = p.none_overrun;
                     matches = puts_event Device first 0 (ends_of_state port s) l.entries p.matches;
                     fair = p.fair;
-                    seated = carry.step (PutsEvent 0) (seat port s l.entries) refl (λ all. all) p.seated;
+                    seated = carry.step (PutsEvent 0) (seat port s l.entries) refl tt (λ all. all) p.seated;
                   },
                   streams_go carry first lines lines port port s.table s.table l.entries (PutEvent 0 ∷ l.entries) (carry.before first (PutEvent 0) l.entries)
                       (λ h few x. event_streams h l.entries 0 port s.table lines x) o (was.1 honest).1,
@@ -419,7 +419,7 @@ module _ (carry : Carried) (lines : List Handshake) (first port : ℕ) where
           none_overrun = p.none_overrun;
           matches = makes_reset Device first cid (ends_of_state port t) l.entries p.matches;
           fair = p.fair;
-          seated = carry.step (MakesReset cid) (seat port t l.entries) refl (λ all. all) p.seated;
+          seated = carry.step (MakesReset cid) (seat port t l.entries) refl tt (λ all. all) p.seated;
         },
         streams_go carry first lines lines port port (emptied t.table) (emptied t.table) l.entries (Mark cid ∷ l.entries) (carry.before first (Mark cid) l.entries)
             (λ h few x. mark_streams h l.entries cid port (emptied t.table) lines x) o
@@ -473,7 +473,7 @@ module _ (carry : Carried) (lines : List Handshake) (first port : ℕ) where
 
   -- A client's connection.
   module _ (flow : Flow) (stream : ℕ) (s : DeviceState) (next : IsNextFlow Device flow (ends_of_state port s))
-      (ports : IsFitFlow flow) where
+      (ports : IsFitFlow flow) (wanted : carry.asks flow) where
     given : (port ≤ flow.host) ⊎ (false ≡ true) → cond (nat_le port flow.host) (flow.host + 1) port ≡ flow.host + 1
     given (inl later) = grind (arith, nat_tests, later)
     given (inr kept) = absurd cc
@@ -508,7 +508,7 @@ module _ (carry : Carried) (lines : List Handshake) (first port : ℕ) where
                     (asks first flow Stream (ends_of_state port s) l.entries p.matches next);
                 fair = p.fair;
                 seated = subst (λ (w : Seat). carry.holds w) (at_log l.entries _ _ part_is)
-                    (carry.step (Asks flow Stream) (seat port s l.entries) (next, later next.port) (λ all. all) p.seated);
+                    (carry.step (Asks flow Stream) (seat port s l.entries) (next, later next.port) wanted (λ all. all) p.seated);
               },
               labels p.fits o n l.entries exposes (was.1 honest).1,
             ),
@@ -538,7 +538,7 @@ module _ (carry : Carried) (lines : List Handshake) (first port : ℕ) where
 pub opens_plain : (first port : ℕ) (flow : Flow) (stream : ℕ) (s : DeviceState) → IsNextFlow Device flow (ends_of_state port s) → IsFitFlow flow
     → (c : Situation) → IsWith first port s c.ring → Keeps (λ x d. With ring_only [] first (port_after flow port x.1) x.0 d) (open_of flow stream s) c
 opens_plain first port flow stream s next ports c holds =
-    open_keeps ring_only [] first port flow stream s next ports (StreamedOver ring_only [] first port s.table)
+    open_keeps ring_only [] first port flow stream s next ports tt (StreamedOver ring_only [] first port s.table)
     (λ fits o n log made x no. absurd no)
     (λ x d. With ring_only [] first (port_after flow port x.1) x.0 d) (λ fault d is kept. kept) (λ d kept. kept) c (plain_with first port s c holds)
 

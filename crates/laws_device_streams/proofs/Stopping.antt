@@ -59,11 +59,11 @@ module _ (queue : Queue) (a : Option Known) where
   stops_ring : (c d : Situation) → Allows (Ring (Take queue)) next.None c d → Grown c → Stops d
   stops_ring c d allowed grown = stops_by Chain queue a c.ring.known d.ring.known grown allowed.0.1.known
 
--- FILLING: where it is over for want of a chain, the last load showed none; where it isn't over, these replies are owed.
+-- FILLING: where it is over for want of a chain, the last load showed none, and none is held; where it isn't over, these replies are owed.
 module _ (a : Option Known) where
   abbrev pub Ends : List Reply → Filling → Situation → Type 0
   Ends rs q d =
-      Grown Rx a d × (q.over ≡ true → q.state.failed ≡ None → Stops Rx a d) × (q.over ≡ false → q.state.replies ≡ rs)
+      Grown Rx a d × (q.over ≡ true → q.state.failed ≡ None → Stops Rx a d × (q.state.chain ≡ None)) × (q.over ≡ false → q.state.replies ≡ rs)
 
   abbrev pub Goes : List Reply → Filling → Situation → Type 0
   Goes rs q d = (q.over ≡ false) × Ends rs q d
@@ -105,7 +105,7 @@ module _ (a : Option Known) where
   held_by next.None rs r c d none allowed goes =
       let q = holding next.None r in
       let grown = grown_ring Rx a (Take Rx) next.None c d allowed goes.1.0 in
-      subst (HeldWith rs q d) (sym none) (refl, (grown, (λ over failed. stops_ring Rx a c d allowed goes.1.0), λ on. absurd cc))
+      subst (HeldWith rs q d) (sym none) (refl, (grown, (λ over failed. (stops_ring Rx a c d allowed goes.1.0, none)), λ on. absurd cc))
   held_by (next.Failed f) rs r c d none allowed goes =
       let q = holding (next.Failed f) r in
       let grown = grown_ring Rx a (Take Rx) (next.Failed f) c d allowed goes.1.0 in
@@ -153,7 +153,7 @@ module _ (a : Option Known) where
   keeps_put_on rs chain h payload r c goes =
       keeps_then CanAny Allows (Goes rs) (λ u d. Grown Rx a d) (written chain h payload)
       (λ _. Done (record r { state = record r.state { chain = None }; put = r.put + 1 })) c (keeps_written chain h payload c goes.1.0)
-      (λ u d grown. going rs r d goes.0 grown (goes.1.2 goes.0))
+      (λ u d grown. going rs (record r { state = record r.state { chain = None }; put = r.put + 1 }) d goes.0 grown (goes.1.2 goes.0))
 
   -- Calls on the host in between, after which these replies are owed.
   abbrev pub Leaves : List Reply → DeviceState → Situation → Type 0
@@ -312,9 +312,13 @@ module _ (s : DeviceState) (c : Situation) where
       rounds : Filling → DeviceTree Filling
       rounds r = cond r.over (Done r) (for_each serve_slot (round_from r.state.last_put (slots r.state.table)) r)
 
+pub over_lacks : (s : DeviceState) (c d : Situation) (q : Filling) → Runs (filling_of s) c q d → q.over ≡ true → q.state.failed ≡ None
+    → Stops Rx c.ring.known d × (q.state.chain ≡ None)
+over_lacks s c d q runs = (keeps_end CanAny Allows (Ends c.ring.known []) (filling_of s) c d q (keeps_filling s c) runs).1
+
 pub over_stops : (s : DeviceState) (c d : Situation) (q : Filling) → Runs (filling_of s) c q d → q.over ≡ true → q.state.failed ≡ None
     → Stops Rx c.ring.known d
-over_stops s c d q runs = (keeps_end CanAny Allows (Ends c.ring.known []) (filling_of s) c d q (keeps_filling s c) runs).1
+over_stops s c d q runs over sound = (over_lacks s c d q runs over sound).0
 
 -- A run of the whole call is one of the stage, and its answer is what that comes to.
 abbrev IsStage : DeviceState → Situation → DeviceState × Result Filled Failure → Situation → Type 0
@@ -356,7 +360,7 @@ module _ (s : DeviceState) (c d : Situation) (x : DeviceState × Result Filled F
       same = ap (λ (y : DeviceState × Result Filled Failure). y.0) is
 
       by : (b : Bool) → q.over ≡ b → Ends c.ring.known [] q d → Stops Rx c.ring.known d
-      by true over ends = ends.1 over (sym (ap (λ (t : DeviceState). t.failed) same) ∙ sound)
+      by true over ends = (ends.1 over (sym (ap (λ (t : DeviceState). t.failed) same) ∙ sound)).0
       by false on ends = absurd (some_owed (ap (λ (t : DeviceState). t.replies) same ∙ ends.2 on))
 
   left_by : (o : Option Failure) → s.failed ≡ o → Runs (elim o [ Some f ↦ Done (s, Err f) | None ↦ bind replies_of ends_with ]) c x d

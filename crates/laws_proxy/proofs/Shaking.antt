@@ -178,7 +178,7 @@ module _ (carry : Carried) (first : ℕ) where
           keeps_then (λ x d. With carry hands first (t.state.next_port + 1) x.0 d) Turns (open_of flow stream t.state.device)
           (λ r. Done (record t { state = record (with_device r.0 (without_handshake stream t.state)) { next_port = t.state.next_port + 1 } })) c
           (open_keeps carry hands first t.state.next_port flow stream t.state.device (record { asker = ap (side_by Device) inside; port = inl (omega arith) })
-          (record { guest = fits; host = omega (arith, last); peer = omega arith }) LineOn
+          (record { guest = fits; host = omega (arith, last); peer = omega arith }) (carry.of_host flow refl) LineOn
           (λ fits o n log exposes x is plain. some_after o n (λ h. Unit {0}) (after_label stream flow)
           (IsLineOn t.state.handshakes t.state.next_port t.state.device.table stream line log)
           (λ h. IsStreamed h log (t.state.next_port + 1) (with_client flow stream t.state.device).table hands) exposes (λ h any y.

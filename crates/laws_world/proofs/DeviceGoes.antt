@@ -24,8 +24,10 @@ module _ (fresh : Type 0) (b : Both) (sound : IsSound first_cid b) (once : AreOn
   carried = record {
     ok = fresh;
     others = λ held. Unit {0};
+    asks = λ f. Unit {0};
+    of_host = λ f host. tt;
     holds = Walks;
-    step = λ step w may fits was. (
+    step = λ step w may asked fits was. (
       fits was.0,
       λ got. and_then b (beside w) _ (was.1 (got_before Device b.driver.log step w got)) (device_runs b.driver step w may got),
     );
