@@ -8,6 +8,7 @@ use Rattle.vs_ring_port.specs.Contents.{RingContents}
 use Rattle.vs_driver_parts.specs.{Conversations.new_of, Playing.Plays, State.DriverState}
 use Rattle.laws_driver.specs.Honest.{IsFresh}
 use Rattle.laws_driver.proofs.{Calls.new_honest, Calls.new_keeps, Carrying.Fact, Keeping.keeps_end, Staging.Rests}
+use Rattle.laws_rest.proofs.Routes.{new_routed}
 use Rattle.laws_driver_bytes.specs.Received.{AreReceived, no_account}
 use Rattle.laws_driver_bytes.proofs.Connecting.{none_received}
 use Rattle.vs_apps_parts.specs.{Scripts.IsPlayed, Scripts.RunScript, Scripts.acts_of, declared.progress.AppState.AppState}
@@ -37,6 +38,7 @@ begins_run size port c d s script apps fits fresh plays as_many begun = record {
   apps = as_many;
   kept = record {
     honest = new_honest size port 1 c d s fits fresh plays;
+    routed = new_routed size port 1 c d s fits fresh plays;
     accounted = new_accounted size port 1 c d s fits fresh plays;
     stands = tt;
   };

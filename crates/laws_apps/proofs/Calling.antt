@@ -1,5 +1,6 @@
 -- Calls and polls keep the account.
-use Rattle.std.proofs.Common.{◌≡◌, ℕ, true, List, ◌++◌, Option, Some, None, refl, sym, ap, subst, ◌∙◌, append-nil}
+use Rattle.std.proofs.Common.{◌≡◌, ◌<◌, ◌^◌, ℕ, nat_lt, true, arith, List, ◌++◌, Option, Some, None, refl, sym, ap, subst, ◌∙◌, append-nil}
+use Rattle.std.proofs.lemmas.Bool.Decides.{nat_tests}
 use Rattle.vs_ring_port.specs.{Contents.RingContents, EndLog.EndLog}
 use Rattle.vs_driver_parts.specs.{Conversations.DriverTree, Conversations.poll_of, Playing.Plays, State.DriverState}
 use Rattle.vs_driver_parts.specs.declared.answers.Polled.{Polled}
@@ -10,6 +11,9 @@ use Rattle.laws_driver_bytes.specs.{Received.AreReceived, Received.IsReceivedWit
 use Rattle.laws_driver_bytes.proofs.{Ending.poll_ends, Growing.honest_stays, Growing.log_grows, Journaling.journaled, Journaling.sent_just}
 use Rattle.laws_driver_bytes.proofs.Making.{at_first, call_sent, further_as, sent_with, whole_with}
 use Rattle.laws_driver_bytes.proofs.Sending.{begins, poll_sent}
+use Rattle.laws_driver_bytes.specs.Calls as call
+use Rattle.laws_rest.specs.Rest.{IsRoutedWith}
+use Rattle.laws_rest.proofs.Routes.{connect_routed, send_routed}
 use Rattle.laws_apps.specs.Accounts.{IsAccounted, sent_to}
 use Rattle.laws_apps.proofs.Sending.{call_says, same_sent, still_senders}
 
@@ -64,6 +68,17 @@ module _ (first : ℕ) (call : GuestCall) (s : DriverState) (c d : RingContents)
               ∙ ap (λ (xs : List ℕ). sent_to now.0 k journal ++ xs) (says.1 k);
         },
       )
+
+-- Its packets go where they belong.
+port_fits : (port : ℕ) → nat_lt port (2 ^ 32) ≡ true → port < 2 ^ 32
+port_fits port is = grind (arith, nat_tests, is)
+
+pub call_routed : (first : ℕ) (call : GuestCall) (s : DriverState) (c d : RingContents) (x : DriverState × ReplyTo call) → is_right call ≡ true
+    → IsHonestWith first s c → IsRoutedWith first c → Plays (whole_call call s) c x d → IsRoutedWith first d
+call_routed first (call.Connect port) s c d x right honest routed plays =
+    connect_routed first s c d honest routed port x (port_fits port right) plays
+call_routed first (call.Send id bytes) s c d x right honest routed plays = send_routed first s c d honest routed id bytes x plays
+call_routed first call s c d x right honest routed plays = subst (λ (r : RingContents). IsRoutedWith first r) plays.1 routed
 
 module _ (first first_id : ℕ) (journal : Journal) (s : DriverState) (c d : RingContents) (x : DriverState × Polled)
     (honest : IsHonestWith first s c) (accounted : IsAccounted first_id journal s c) (plays : Plays (poll_of s) c x d) where

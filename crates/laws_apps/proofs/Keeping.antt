@@ -5,6 +5,7 @@ use Rattle.std.proofs.lemmas.Bool.{eqb-true, eq-eqb}
 use Rattle.std.specs.Prelude.{slice_index_or}
 use Rattle.vs_driver_parts.specs.{State.DriverState, declared.answers.Polled.Polled}
 use Rattle.laws_driver.proofs.Calls.{poll_honest}
+use Rattle.laws_rest.proofs.Routes.{poll_routed}
 use Rattle.laws_driver_bytes.specs.Calls.{Journal, Made, ReplyTo, bytes_received, with_call}
 use Rattle.vs_apps_parts.specs.Journals.{AllStandIn, calls_of, calls_of_app, entry_called, last_wait, made_as, made_by, made_by_app}
 use Rattle.vs_apps_parts.specs.{Journals.wait_noted, Journals.wait_place, Scripts.IsPlayed, Scripts.RunScript, Scripts.acts_of}
@@ -16,7 +17,7 @@ use Rattle.vs_apps_parts.specs.declared.told.Told.TheVariants as says
 use Rattle.laws_apps.specs.{Accounts.IsAccounted, Runs.IsKept, Runs.IsRunOf, Runs.MakesCall, Runs.MakesCalls, Runs.Moves, Runs.NotesCall}
 use Rattle.laws_apps.specs.Runs.{PollsTo, Run, Steps, Waits, app_at, journal_of, journal_of_app, moved_state, no_app}
 use Rattle.laws_apps.proofs.Waiting.{called_waits, moved_waits, wait_waits, waited_waits, waits_noted}
-use Rattle.laws_apps.proofs.{Calling.call_accounted, Calling.call_honest, Calling.poll_accounted, Noting.call_noted, Noting.same_accounted}
+use Rattle.laws_apps.proofs.{Calling.call_accounted, Calling.call_honest, Calling.call_routed, Calling.poll_accounted, Noting.call_noted, Noting.same_accounted}
 use Rattle.laws_apps.proofs.Entries.{SameCalls, app_calls_stay, called_stand, calls_stay, gathered_snoc, more_stand, wait_same}
 
 either : {A : Type 0} (b : Bool) (x : A) → x ≡ cond b x x
@@ -101,6 +102,7 @@ module _ (first : ℕ) (script : RunScript) (k : ℕ) where
       let noted = same_accounted 1 (with_call m.call old.driver m.reply all) (with_noted (made_as m.call m.reply ∷ []) all) new.driver new.ring
       (call_noted old.driver all m.call old.ring new.ring x makes.plays) given in
       record {
+        routed = call_routed first m.call old.driver old.ring new.ring x makes.right kept.honest kept.routed makes.plays;
         honest = call_honest first m.call old.driver old.ring new.ring x makes.right kept.honest makes.plays;
         accounted = subst (λ (js : Journal). IsAccounted 1 js new.driver new.ring)
             (ap (λ (y : Made). with_noted (y ∷ []) all) (sym makes.plain)
@@ -187,7 +189,7 @@ module _ (first : ℕ) (script : RunScript) (k : ℕ) (mid new : Run) (less : k 
   moves_keep : Moves script k mid new → IsRunOf first script new
   moves_keep m = subst (λ (r : Run). IsRunOf first script r) (sym m.moves) (record {
     apps = as_many over state left.apps;
-    kept = record { honest = left.kept.honest; accounted = left.kept.accounted; stands = left.kept.stands };
+    kept = record { honest = left.kept.honest; routed = left.kept.routed; accounted = left.kept.accounted; stands = left.kept.stands };
     follows = λ j below. subst (λ (x : AppState). Played j (journal_of_app j script over) x.progress) (sym (app_is over state j left.apps))
         (subst (λ (js : Journal). Played j js (cond (k == j) state (app_at j mid)).progress) (sym (left.journals j)) (goes j (k == j) refl below));
     waits = λ j below. ap (λ (x : AppState). x.waiting) (app_is over state j left.apps) ∙ waits_now j (k == j) refl below ∙ sym (left.waits j);
@@ -231,6 +233,7 @@ module _ (first : ℕ) (script : RunScript) (k : ℕ) (mid new : Run) (less : k 
     apps = as_many over state left.apps;
     kept = record {
       honest = left.kept.honest;
+      routed = left.kept.routed;
       accounted = subst (λ (js : Journal). IsAccounted 1 js over.driver over.ring) (sym same.calls) left.kept.accounted;
       stands = same.stands (length over.bytes) left.kept.stands;
     };
@@ -280,6 +283,7 @@ module _ (first : ℕ) (script : RunScript) (old : Run) (run : IsRunOf first scr
   polls_keep polled mid polls = subst (λ (r : Run). IsRunOf first script r) (sym polls.rest) (record {
     apps = run.apps;
     kept = record {
+      routed = poll_routed first old.driver old.ring mid.ring run.kept.honest run.kept.routed (mid.driver, polled) polls.polls;
       honest = poll_honest first old.driver old.ring mid.ring (mid.driver, polled) run.kept.honest polls.polls;
       accounted = poll_accounted first 1 (journal_of script old) old.driver old.ring mid.ring (mid.driver, polled) run.kept.honest run.kept.accounted polls.polls;
       stands = run.kept.stands;

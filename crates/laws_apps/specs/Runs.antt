@@ -14,6 +14,7 @@ use Rattle.vs_apps_parts.specs.{Told.wait_of, Told.waits_on, declared.journal.Ca
 use Rattle.vs_apps_parts.specs.declared.{journal.WaitsFor.WaitsFor, progress.AppState.AppState, progress.Stepped.Stepped}
 use Rattle.vs_apps_parts.specs.declared.progress.Stepped.TheVariants as stepped
 use Rattle.vs_apps_parts.specs.declared.journal.Called.TheVariants as called
+use Rattle.laws_rest.specs.Rest.{IsRoutedWith}
 use Rattle.laws_apps.specs.Accounts.{IsAccounted}
 
 pub record Run : Type 0 where
@@ -35,10 +36,11 @@ journal_of script run = calls_of script run.bytes run.entries
 abbrev pub journal_of_app : ℕ → RunScript → Run → Journal
 journal_of_app k script run = calls_of_app k script run.bytes run.entries
 
--- Where an honest ring tells the log: the driver is the one that the log left, where this was the guest's CID at first; and the journal's
--- account is right, from the id 1 on.
+-- Where an honest ring tells the log: the driver is the one that the log left, where this was the guest's CID at first; its packets go where
+-- they belong, as long as all that it got come from the host; and the journal's account is right, from the id 1 on.
 pub record IsKept (first : ℕ) (script : RunScript) (run : Run) : Type 0 where
   pub honest : IsHonestWith first run.driver run.ring
+  pub routed : IsRoutedWith first run.ring
   pub accounted : IsAccounted 1 (journal_of script run) run.driver run.ring
   pub stands : AllStandIn (length run.bytes) run.entries
 

@@ -1,0 +1,6 @@
+pub mod Hosting
+pub mod Hosted
+pub mod Taking
+pub mod Quieting
+pub mod Steady
+pub mod Resting

@@ -1,0 +1,141 @@
+-- A turn that put nothing.
+use Rattle.std.proofs.Common.{◌≡◌, ◌+◌, ◌-◌, ◌≤◌, ◌⊎◌, inl, inr, ℕ, Bool, true, false, Option, Some, None, Ok, Err, refl, sym, ap, subst, ◌∙◌, arith}
+use Rattle.std.proofs.lemmas.Option.{same_Some}
+use Rattle.std.specs.Option.{ForSome}
+use Rattle.vs_contents.specs.{CallTree.Ask, CallTree.Done, CallTree.bind, Contents.Relates}
+use Rattle.vs_contents.proofs.Leads.{leads_split}
+use Rattle.vs_flow.specs.Table.{IsTable}
+use Rattle.vs_ring_port.specs.{Contents.RingContents, Known.Known, Known.StopsAt, declared.failure.Failure.Failure}
+use Rattle.vs_ring_port.specs.declared.queue.Queue.TheVariants.{Rx}
+use Rattle.vs_device_parts.specs.{Calls.Allows, Calls.DeviceTree, Calls.Situation, Playing.Runs, Receiving.Filling, Receiving.fill_rx_of}
+use Rattle.vs_device_parts.specs.{Receiving.filled_of, State.DeviceState}
+use Rattle.laws_device_streams.specs.Waiting.{filling_of}
+use Rattle.laws_device_streams.proofs.Stopping.{is_stage, over_lacks}
+use Rattle.laws_device.specs.Honest.{ends_of_state}
+use Rattle.laws_rest.specs.Rest.{OwesNothing}
+use Rattle.laws_rest.proofs.Stages.{stage_owes_none}
+use Rattle.vs_proxy_parts.specs.State.{ProxyState, Turning, start}
+use Rattle.vs_proxy_parts.specs.Turns.{device_after, event_stage, fill_stage, filled, pump_stage, take_stage, tick_stage, turn_of, turned}
+use Rattle.vs_proxy_parts.specs.{Handshakes.shake_hands, Turns.unless_failed, declared.answers.Turn.Turn, declared.answers.Turned.Turned}
+use Rattle.vs_proxy_parts.specs.declared.answers.Turn.TheVariants as turn
+use Rattle.laws_settled.specs.Settled.{LacksPages}
+
+-- The last stage of a turn.
+record LastStage (s : ProxyState) (b : Situation) (x : ProxyState × Turn) : Type 0 where
+  pub before : Turning
+  pub middle : Situation
+  pub last : Turning
+  pub runs : Runs (unless_failed fill_stage before) middle last b
+  pub state : last.state ≡ x.0
+  pub answer : turned s last ≡ x.1
+
+last_stage : (size now : ℕ) (s : ProxyState) (a b : Situation) (x : ProxyState × Turn) → Runs (turn_of size now s) a x b → LastStage s b x
+last_stage size now s a b x runs =
+    let one = leads_split Allows (unless_failed (tick_stage now) (start s)) _ a b x runs in
+    let two = leads_split Allows (unless_failed event_stage one.end) _ one.middle b x one.rest in
+    let three = leads_split Allows (unless_failed (take_stage size) two.end) _ two.middle b x two.rest in
+    let four = leads_split Allows (unless_failed shake_hands three.end) _ three.middle b x three.rest in
+    let five = leads_split Allows (unless_failed pump_stage four.end) _ four.middle b x four.rest in
+    let six = leads_split Allows (unless_failed fill_stage five.end) _ five.middle b x five.rest in
+    record {
+      before = five.end;
+      middle = five.middle;
+      last = six.end;
+      runs = subst (λ (c : Situation). Runs (unless_failed fill_stage five.end) five.middle six.end c) six.rest.1 six.first;
+      state = ap (λ (y : ProxyState × Turn). y.0) six.rest.0;
+      answer = ap (λ (y : ProxyState × Turn). y.1) six.rest.0;
+    }
+
+-- What it filled, and what the turn says of it.
+abbrev Fills : Turning → Situation → Turning → Situation → Type 0
+Fills t m l b = (q : Filling) × Runs (filling_of t.state.device) m q b × (l.state.device ≡ q.state) × (l.put ≡ t.put + q.put)
+
+after_fill : (q : Filling) (t : Turning) (o : Option Failure) → q.state.failed ≡ o
+    → let l = filled (elim o [ Some f ↦ Err f | None ↦ Ok (record { put = q.put; read = q.read }) ]) (device_after q.state t) in
+    l.state.device.failed ≡ None → (l.state.device ≡ q.state) × (l.put ≡ t.put + q.put)
+after_fill q t (Some f) is none = absurd (let both : Some f ≡ None = sym is ∙ none in cc)
+after_fill q t None is none = (refl, refl)
+
+fills_by : (t l : Turning) (m b : Situation) (o : Option Failure) → t.state.device.failed ≡ o
+    → Runs (elim o [ Some f ↦ Done t | None ↦ fill_stage t ]) m l b → l.state.device.failed ≡ None → Fills t m l b
+fills_by t l m b (Some f) is runs none =
+    absurd (let both : Some f ≡ None = sym is ∙ ap (λ (u : Turning). u.state.device.failed) runs.0 ∙ none in cc)
+fills_by t l m b None is runs none =
+    let split = leads_split Allows (fill_rx_of t.state.device) (λ r. Done (filled r.1 (device_after r.0 t))) m b l runs in
+    let r = split.end in
+    let stage = is_stage t.state.device m split.middle r split.first is in
+    let q = stage.0 in
+    let l_is : filled (filled_of q).1 (device_after q.state t) ≡ l =
+    ap (λ (y : DeviceState × _). filled y.1 (device_after y.0 t)) (sym stage.2) ∙ split.rest.0 in
+    let after = after_fill q t q.state.failed refl (ap (λ (u : Turning). u.state.device.failed) l_is ∙ none) in (
+      q,
+      subst (λ (c : Situation). Runs (filling_of t.state.device) m q c) split.rest.1 stage.1,
+      ap (λ (u : Turning). u.state.device) (sym l_is) ∙ after.0,
+      ap (λ (u : Turning). u.put) (sym l_is) ∙ after.1,
+    )
+
+says_by : (s : ProxyState) (l : Turning) (t : Turned) (o : Option Failure) → (elim o as (λ _. Turn) [
+  | Some f ↦ turn.Failed f
+  | None ↦ turn.Turned (record {
+    took = l.took;
+    put = l.put;
+    read = l.read;
+    wrote = l.wrote;
+    opened = l.state.device.opened - s.device.opened;
+    closed = l.state.device.closed - s.device.closed;
+    hands = l.hands;
+  })
+]) ≡ turn.Turned t → (o ≡ None) × (l.put ≡ t.put)
+says_by s l t (Some f) answer = absurd cc
+says_by s l t None answer = (
+  refl,
+  (let same : (let u : Turned = record {
+    took = l.took;
+    put = l.put;
+    read = l.read;
+    wrote = l.wrote;
+    opened = l.state.device.opened - s.device.opened;
+    closed = l.state.device.closed - s.device.closed;
+    hands = l.hands;
+  } in u) ≡ t = cc in ap (λ (u : Turned). u.put) same),
+)
+
+says : (s : ProxyState) (l : Turning) (t : Turned) → turned s l ≡ turn.Turned t → (l.state.device.failed ≡ None) × (l.put ≡ t.put)
+says s l t answer = says_by s l t l.state.device.failed answer
+
+told_taken : (o p : Option Known) → Relates o p (StopsAt Rx) → ForSome p (λ k. k.rx.told ≤ k.rx.taken)
+told_taken None p stops = λ k is. absurd cc
+told_taken (Some j) None stops = absurd stops
+told_taken (Some j) (Some i) stops = λ k is. subst (λ (x : Known). x.rx.told ≤ x.rx.taken) (same_Some i k is) stops.all_told
+
+module _ (port size now : ℕ) (s : ProxyState) (a b : Situation) (x : ProxyState × Turn) (t : Turned) (runs : Runs (turn_of size now s) a x b)
+    (answer : x.1 ≡ turn.Turned t) (none : t.put ≡ 0) (table : IsTable x.0.device.table) where
+  abbrev Quiet : DeviceState → Type 0
+  Quiet d = OwesNothing (ends_of_state port d) ⊎ LacksPages d b.ring
+
+  by_stage : (stage : LastStage s b x) → Quiet x.0.device
+  by_stage stage =
+      let told = says s stage.last t (stage.answer ∙ answer) in
+      let fills = fills_by stage.before stage.last stage.middle b stage.before.state.device.failed refl stage.runs told.0 in
+      let q : Filling = fills.0 in
+      let device : x.0.device ≡ q.state = ap (λ (p : ProxyState). p.device) (sym stage.state) ∙ fills.2 in
+      let zero : q.put ≡ 0 = omega (arith, fills.3, told.1, none) in
+      let sound : IsTable q.state.table = subst (λ (d : DeviceState). IsTable d.table) device table in
+      subst Quiet (sym device) (by q fills.1 zero sound (ap (λ (d : DeviceState). d.failed) (sym fills.2) ∙ told.0) q.over refl)
+    where
+      by : (q : Filling) → Runs (filling_of stage.before.state.device) stage.middle q b → q.put ≡ 0 → IsTable q.state.table → q.state.failed ≡ None
+          → (o : Bool) → q.over ≡ o → Quiet q.state
+      by q fill zero sound going true over =
+          let lacks = over_lacks stage.before.state.device stage.middle b q fill over going in
+          inr (record { chain = lacks.1; taken = told_taken stage.middle.ring.known b.ring.known lacks.0 })
+      by q fill zero sound going false over = inl (stage_owes_none port stage.before.state.device stage.middle b q fill zero over sound)
+
+  pub turn_owes_none : Quiet x.0.device
+  turn_owes_none = by_stage (last_stage size now s a b x runs)
+
+-- It left the ring sound.
+pub turn_sound : (size now : ℕ) (s : ProxyState) (a b : Situation) (x : ProxyState × Turn) (t : Turned) → Runs (turn_of size now s) a x b
+    → x.1 ≡ turn.Turned t → x.0.device.failed ≡ None
+turn_sound size now s a b x t runs answer =
+    let stage = last_stage size now s a b x runs in
+    ap (λ (p : ProxyState). p.device.failed) (sym stage.state) ∙ (says s stage.last t (stage.answer ∙ answer)).0

@@ -1,0 +1,89 @@
+-- A proxy that is steady stays so, and what its ring's end knows of the other one's only grows.
+use Rattle.std.proofs.Common.{◌≡◌, ◌<◌, ◌^◌, ℕ, List, [], Option, Some, None, true, refl, sym, ap, subst, ◌∙◌, arith}
+use Rattle.std.proofs.lemmas.Option.{same_Some}
+use Rattle.vs_contents.specs.{CallTree.Ask, CallTree.Done, Contents.Relates}
+use Rattle.vs_limits.specs.declared.TheConstants.{FIRST_CID}
+use Rattle.vs_ring_port.specs.{Contents.DeviceAnswer, Contents.DeviceCall, Contents.RingContents, EndLog.EndLog, Known.IsLater, Known.Known}
+use Rattle.vs_ring_port.specs.declared.queue.Queue.TheVariants.{Rx}
+use Rattle.vs_ring_port.proofs.Knowing.{device_keeps}
+use Rattle.vs_device_parts.specs.Calls.{Accept, Allows, Answer, Call, CloseStream, DeviceTree, Dial, Label, ReadStream, Ring, ShutWrite}
+use Rattle.vs_device_parts.specs.{Calls.Situation, Calls.WriteStream, Playing.Runs}
+use Rattle.laws_rest.specs.Calm.{resets_in}
+use Rattle.laws_rest.proofs.Calm.{calm_turns}
+use Rattle.vs_page.specs.Log.{Log}
+use Rattle.vs_proxy_parts.specs.{State.ProxyState, Turns.new_proxy, Turns.turn_of, declared.answers.Turn.Turn}
+use Rattle.laws_proxy.proofs.Ordered.{new_in_order, turn_honest, turn_streams}
+use Rattle.laws_settled.specs.{Hosts.IsHosts, Settled.IsSteady}
+use Rattle.laws_settled.proofs.Hosted.{turn_hosts}
+use Rattle.laws_device.specs.Honest.{ends_of_state}
+
+pub new_steady : (base : List ℕ) (a : Situation) (l : EndLog) → a.ring.log ≡ Some l → l.entries ≡ [] → l.held ≡ [] → IsSteady (new_proxy FIRST_CID base) a
+new_steady base a l told silent none = record {
+  order = new_in_order FIRST_CID base a (omega arith) (λ m is.
+      let same = same_Some l m (sym told ∙ is) in
+      (ap (λ (x : EndLog). x.entries) (sym same) ∙ silent, ap (λ (x : EndLog). x.held) (sym same) ∙ none));
+  no_reset = ap resets_in told ∙ ap (λ (log : Log). resets_in (Some (record l { entries = log }))) silent;
+  no_event = (refl, tt);
+  hosts = λ honest m is.
+      let same = same_Some l m (sym told ∙ is) in
+      subst (λ (log : Log). IsHosts (ends_of_state (new_proxy FIRST_CID base).next_port (new_proxy FIRST_CID base).device) log)
+      (sym (ap (λ (x : EndLog). x.entries) (sym same) ∙ silent))
+      (record { entries = tt; replies = tt; puts = λ i d within. absurd (omega (arith, within)) });
+}
+
+pub turn_steady : (size now : ℕ) (s : ProxyState) (a b : Situation) (x : ProxyState × Turn) → IsSteady s a → Runs (turn_of size now s) a x b
+    → IsSteady x.0 b
+turn_steady size now s a b x steady runs =
+    let calm = calm_turns size now s a b x steady.no_event runs in
+    record {
+      order = record {
+        streams = turn_streams s a b size now x runs steady.order.streams;
+        ring = turn_honest s a b size now x runs FIRST_CID steady.order.ring;
+      };
+      no_reset = calm.1 ∙ steady.no_reset;
+      no_event = calm.0;
+      hosts = turn_hosts FIRST_CID size now s a b x steady.order.ring steady.hosts runs;
+    }
+
+-- What the device was told of stays.
+abbrev pub ToldAsMuch : Known → Known → Type 0
+ToldAsMuch k i = i.rx.told ≡ k.rx.told
+
+as_much : (o p : Option Known) → p ≡ o → Relates o p ToldAsMuch
+as_much None p same = same
+as_much (Some k) None same = absurd cc
+as_much (Some k) (Some i) same = let is : i ≡ k = cc in ap (λ (j : Known). j.rx.told) is
+
+as_much_then : (o p q : Option Known) → Relates o p ToldAsMuch → Relates p q ToldAsMuch → Relates o q ToldAsMuch
+as_much_then None None q first rest = rest
+as_much_then None (Some i) q first rest = absurd cc
+as_much_then (Some k) None q first rest = absurd first
+as_much_then (Some k) (Some i) None first rest = absurd rest
+as_much_then (Some k) (Some i) (Some l) first rest = rest ∙ first
+
+by_ring : (call : DeviceCall) (a : DeviceAnswer call) (c d : Situation) → Allows (Ring call) a c d → Relates c.ring.known d.ring.known ToldAsMuch
+by_ring call a c d allowed =
+    later c.ring.known d.ring.known (device_keeps (Ask call (λ z. Done z)) a c.ring d.ring (a, d.ring, allowed.0, (refl, refl)))
+  where
+    later : (o p : Option Known) → Relates o p IsLater → Relates o p ToldAsMuch
+    later None p is = is
+    later (Some k) None is = absurd is
+    later (Some k) (Some i) is = is.told Rx
+
+by_host : (c d : Situation) → d.ring ≡ c.ring → Relates c.ring.known d.ring.known ToldAsMuch
+by_host c d same = as_much c.ring.known d.ring.known (ap (λ (r : RingContents). r.known) same)
+
+by_call : (call : Call) (a : Answer call) (c d : Situation) → Allows call a c d → Relates c.ring.known d.ring.known ToldAsMuch
+by_call (Ring call) a c d allowed = by_ring call a c d allowed
+by_call Accept a c d allowed = by_host c d allowed.ring
+by_call (Dial path flow) a c d allowed = by_host c d allowed.ring
+by_call (Label stream flow) a c d allowed = by_host c d allowed.ring
+by_call (ReadStream stream n) a c d allowed = by_host c d allowed.0.ring
+by_call (WriteStream stream bytes) a c d allowed = by_host c d allowed.0.ring
+by_call (ShutWrite stream) a c d allowed = by_host c d allowed.ring
+by_call (CloseStream stream) a c d allowed = by_host c d allowed.ring
+
+pub told_runs : {A : Type 0} (tree : DeviceTree A) (c d : Situation) (x : A) → Runs tree c x d → Relates c.ring.known d.ring.known ToldAsMuch
+told_runs (Done y) c d x runs = as_much c.ring.known d.ring.known (ap (λ (z : Situation). z.ring.known) (sym runs.1))
+told_runs (Ask call go) c d x runs =
+    as_much_then c.ring.known runs.1.ring.known d.ring.known (by_call call runs.0 c runs.1 runs.2) (told_runs (go runs.0) runs.1 d x runs.3)
