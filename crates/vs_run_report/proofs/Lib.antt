@@ -1,2 +1,3 @@
 pub mod Summing
 pub mod Lines
+pub mod Waiting

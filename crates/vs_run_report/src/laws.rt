@@ -1,10 +1,20 @@
-//! Worked reports of runs, and worked lines of loads.
+//! What an app may wait for; worked reports of runs, and worked lines of loads.
 
-ghost use Rattle.std.specs.Prelude.{◌≡◌, [], ◌∷◌, codes};
-ghost use Rattle.vs_script.specs.{App.Close, App.Connect, App.Exchange, Data.Fill};
+ghost use Rattle.std.specs.Prelude.{◌≡◌, true, List, [], ◌∷◌, Some, codes};
+ghost use Rattle.vs_script.specs.{App.Act, App.Close, App.Connect, App.Exchange, Data.Fill};
+ghost use Rattle.laws_driver_bytes.specs.Calls.{Made};
+ghost use Rattle.vs_apps_parts.specs.{Scripts.calls_in, Scripts.calls_next, Scripts.told_in, Told.step_wait};
+ghost use Rattle.vs_apps_parts.specs.declared.{journal.WaitsFor.WaitsFor, progress.Progress.Progress};
+ghost use Rattle.vs_run_report.specs.Right.{may_wait};
 ghost use Rattle.vs_run_report.specs.Examples.{hello_printed, hello_says, hello_status, served_printed, served_says};
 ghost use Rattle.vs_run_report.specs.Examples.{silent_printed, silent_says, silent_status};
 ghost use Rattle.vs_run_report.specs.Load.{all_matched, load_script, matches};
+
+/// A step that waits does so for what its instruction may wait for.
+pub fn law_of_waits()
+    ensures { (act : Act) (p : Progress) (made : List Made) (why : WaitsFor) → calls_in made ≡ calls_next act p
+        → step_wait (told_in made) ≡ Some why → may_wait act why ≡ true }
+{}
 
 /// Reports of runs: an app that is done, one that waits, and two of which a client of the host connects to the second.
 pub fn worked_reports()
