@@ -1,8 +1,10 @@
 -- Worked runs and loads: what the definitions compute for them.
-use Rattle.std.specs.Prelude.{ℕ, List, [], ◌∷◌, codes, Option, None, Some, Ok}
-use Rattle.vs_flow.specs.Flow.{host_flow}
+use Rattle.std.specs.Prelude.{ℕ, false, List, [], ◌∷◌, codes, Option, None, Some, Ok}
+use Rattle.vs_flow.specs.{Connection.Connection, Flow.host_flow}
+use Rattle.vs_outside.specs.Host.{HostContents, Stream}
+use Rattle.vs_outside.specs.declared.host_net.StreamState.TheVariants as state
 use Rattle.vs_script.specs.{App.Accept, App.Close, App.Connect, App.Listen, App.Recv, App.Send, Data.Given}
-use Rattle.vs_apps_parts.specs.{Journals.entry_called, Journals.entry_waited, Scripts.RunScript, Scripts.begun}
+use Rattle.vs_apps_parts.specs.{Examples.at_next, Journals.entry_called, Journals.entry_waited, Scripts.RunScript}
 use Rattle.vs_apps_parts.specs.declared.{journal.Entry.Entry, progress.AppState.AppState}
 use Rattle.vs_apps_parts.specs.declared.journal.Called.TheVariants as called
 use Rattle.vs_apps_parts.specs.declared.journal.WaitsFor.TheVariants as waits
@@ -12,11 +14,11 @@ use Rattle.vs_driver_parts.specs.declared.answers.ConnectionState.TheVariants as
 use Rattle.vs_driver_parts.specs.declared.answers.Received.TheVariants as got
 use Rattle.vs_driver_parts.specs.declared.answers.Sent.TheVariants as sent
 use Rattle.vs_report.specs.declared.giving.Totals.{Totals}
-use Rattle.vs_run_report.specs.{Report.run_texts, Report.run_status}
+use Rattle.vs_run_report.specs.{Report.run_status, Report.run_texts, Right.IsRightReport}
 
--- How far an app is, and where its last entry is a wait.
+-- How far an app is whose connection is 1, and where its last entry is a wait.
 abbrev pub app_at : ℕ → Option ℕ → AppState
-app_at at waiting = record { progress = record begun { at = at }; waiting = waiting }
+app_at at waiting = record { progress = at_next at; waiting = waiting }
 
 -- Both tables have so many entries, and nothing was counted.
 abbrev pub both_open : ℕ → Totals
@@ -35,6 +37,39 @@ abbrev pub hello_printed : List (List ℕ)
 hello_printed =
     codes "app 1 done\n" ∷ codes "conn 1024 52 sent 5 received 0 -\n" ∷ codes "guest open 0\n" ∷ codes "device open 0\n"
     ∷ codes "dropped 0 overrun 0 broken 0 faults 0\n" ∷ []
+
+-- Its host, whose program read four of the five bytes so far; and the connections of ids, by their numbers.
+abbrev pub hello_stream : Stream
+hello_stream = record {
+  label = Some (host_flow 1024 52);
+  by_client = false;
+  state = state.Open;
+  taken = [];
+  untaken = [];
+  ended = false;
+  given = codes "hell";
+  room = Some 0;
+  echoes = false;
+  host_closed = false;
+  write_shut = false;
+}
+
+abbrev pub hello_host : HostContents
+hello_host = record {
+  base = codes "v.sock";
+  streams = hello_stream ∷ [];
+  labelled = 1 ∷ [];
+  listening = codes "v.sock_52" ∷ [];
+  prepared = record { untaken = []; ended = false; room = None; echoes = false; host_closed = false };
+  to_fail = [];
+  starts_to_fail = [];
+  starved = false;
+  label_calls = 1;
+  shut_write_calls = 0;
+}
+
+abbrev pub first_opened : ℕ → Connection
+first_opened id = record { flow = host_flow 1024 52; number = id }
 
 -- One that waits for a byte which never comes, and gives up after 3 steps.
 abbrev pub silent : RunScript
@@ -80,3 +115,6 @@ silent_status = run_status silent (app_at 1 (Some 2) ∷ []) silent_entries
 
 abbrev pub hello_status : ℕ
 hello_status = run_status hello (app_at 3 None ∷ []) hello_entries
+
+abbrev pub hello_is_right : Type 0
+hello_is_right = IsRightReport hello (app_at 3 None ∷ []) hello_entries [] (both_open 0) first_opened hello_host 0 0

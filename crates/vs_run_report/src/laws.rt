@@ -6,7 +6,7 @@ ghost use Rattle.laws_driver_bytes.specs.Calls.{Made};
 ghost use Rattle.vs_apps_parts.specs.{Scripts.calls_in, Scripts.calls_next, Scripts.told_in, Told.step_wait};
 ghost use Rattle.vs_apps_parts.specs.declared.{journal.WaitsFor.WaitsFor, progress.Progress.Progress};
 ghost use Rattle.vs_run_report.specs.Right.{may_wait};
-ghost use Rattle.vs_run_report.specs.Examples.{hello_printed, hello_says, hello_status, served_printed, served_says};
+ghost use Rattle.vs_run_report.specs.Examples.{hello_is_right, hello_printed, hello_says, hello_status, served_printed, served_says};
 ghost use Rattle.vs_run_report.specs.Examples.{silent_printed, silent_says, silent_status};
 ghost use Rattle.vs_run_report.specs.Load.{all_matched, load_script, matches};
 
@@ -23,6 +23,7 @@ pub fn worked_reports()
     ensures accepts { served_says ≡ served_printed }
     ensures status { hello_status ≡ 0 }
     ensures status_of_waits { silent_status ≡ 5 }
+    ensures right { hello_is_right }
 {}
 
 /// Loads.
