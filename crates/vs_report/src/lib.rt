@@ -8,5 +8,5 @@ pub mod device_lines;
 pub mod giving;
 pub mod guest_lines;
 pub mod host_lines;
-mod number;
+pub mod number;
 pub mod report;

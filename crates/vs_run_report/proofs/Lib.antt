@@ -1,0 +1,4 @@
+pub mod Summing
+pub mod Lines
+pub mod Waiting
+pub mod Worked

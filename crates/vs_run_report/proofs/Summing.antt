@@ -1,0 +1,107 @@
+-- What the entries of a journal add to what was sent and received on a connection.
+use Rattle.std.proofs.Common.{◌≡◌, ℕ, ◌+◌, ◌-◌, ◌==◌, ◌^◌, min, if◌then◌else◌, Bool, true, false, List, [], ◌∷◌, ◌++◌, length, take, drop}
+use Rattle.std.proofs.Common.{refl, sym, ap, ◌∙◌, arith, append_assoc, append-nil}
+use Rattle.std.proofs.lemmas.List.{length-append, length-drop, length-take}
+use Rattle.std.proofs.lemmas.List.FromFn.{length-map-range_with_len}
+use Rattle.vs_script.specs.Data.{Content, Fill, Given, bytes_of, filled, size_of}
+use Rattle.laws_driver_bytes.specs.{Calls.Journal, Calls.bytes_received, Calls.bytes_sent, Calls.names, Calls.received_by, Sent.took}
+use Rattle.vs_apps_parts.specs.{Journals.calls_of, Journals.data_at, Journals.gathered, Journals.made_by, Journals.made_of, Journals.sent_as}
+use Rattle.vs_apps_parts.specs.{Scripts.RunScript, Scripts.acts_of, Scripts.slice_of}
+use Rattle.vs_apps_parts.specs.declared.journal.{Called.Called, Deed.Deed, Entry.Entry}
+use Rattle.vs_apps_parts.specs.declared.journal.Called.TheVariants as called
+use Rattle.vs_apps_parts.specs.declared.journal.Deed.TheVariants as deed
+use Rattle.vs_driver_parts.specs.declared.answers.Sent.{Sent}
+use Rattle.vs_driver_parts.specs.declared.answers.Sent.TheVariants as sent
+use Rattle.vs_run_report.specs.{Connections.capped, Sums.given_by, Sums.given_in, Sums.sent_by, Sums.sent_number, Sums.took_number}
+
+pub size_is : (c : Content) → size_of c ≡ length (bytes_of c)
+size_is (Given bytes) = refl
+size_is (Fill n start) = sym (length-map-range_with_len (λ i. filled start i) 0 n)
+
+-- One call.
+took_length : (bytes : List ℕ) (n : ℕ) → length bytes ≡ n → (answer : Sent) → length (took bytes answer) ≡ took_number n answer
+took_length bytes n is (sent.Took m) = length-take m bytes ∙ ap (λ (k : ℕ). min m k) is
+took_length bytes n is sent.Unknown = refl
+took_length bytes n is sent.NotOpen = refl
+took_length bytes n is sent.Reset = refl
+took_length bytes n is sent.ShutDown = refl
+took_length bytes n is (sent.NoCredit tx alloc fwd) = refl
+took_length bytes n is (sent.NoDescriptor in_flight) = refl
+
+slice_length : (from len : ℕ) (whole : List ℕ) → length (slice_of from len whole) ≡ min len (length whole - from)
+slice_length from len whole = length-take len (drop from whole) ∙ ap (λ (k : ℕ). min len k) (length-drop from whole)
+
+none_either : (b : Bool) (bytes : List ℕ) → bytes ≡ [] → (if b then bytes else []) ≡ []
+none_either true bytes none = none
+none_either false bytes none = refl
+
+module _ (id : ℕ) (script : RunScript) (bytes : List ℕ) (app : ℕ) where
+  if_sent : (b : Bool) (from len : ℕ) (whole : List ℕ) (answer : Sent)
+      → length (if b then took (slice_of from len whole) answer else []) ≡ (if b then took_number (min len (length whole - from)) answer else 0)
+  if_sent true from len whole answer = took_length (slice_of from len whole) _ (slice_length from len whole) answer
+  if_sent false from len whole answer = refl
+
+  sent_called : (c : Called) → length (let m = made_of script bytes app c in if names id m.id then bytes_sent m.call m.reply else [])
+      ≡ sent_number id script app c
+  sent_called (called.Connect port answer flow) = refl
+  sent_called (called.Listen port answer) = refl
+  sent_called (called.Accept port answer flow) = refl
+  sent_called (called.Send other at from len answer) = if_sent (id == other) from len (data_at at (acts_of app script)) answer
+  sent_called (called.Recv other len from answer) = ap (λ (xs : List ℕ). length xs) (none_either (id == other) [] refl)
+  sent_called (called.Shutdown other bits answer) = ap (λ (xs : List ℕ). length xs) (none_either (id == other) [] refl)
+  sent_called (called.Close other answer) = ap (λ (xs : List ℕ). length xs) (none_either (id == other) [] refl)
+  sent_called (called.LookAt other answer) = ap (λ (xs : List ℕ). length xs) (none_either (id == other) [] refl)
+
+  given_called : (c : Called) → (let m = made_of script bytes app c in if names id m.id then bytes_received m.call m.reply else [])
+      ≡ given_in id bytes c
+  given_called (called.Connect port answer flow) = refl
+  given_called (called.Listen port answer) = refl
+  given_called (called.Accept port answer flow) = refl
+  given_called (called.Send other at from len answer) = none_either (id == other) [] refl
+  given_called (called.Recv other len from answer) = refl
+  given_called (called.Shutdown other bits answer) = none_either (id == other) [] refl
+  given_called (called.Close other answer) = none_either (id == other) [] refl
+  given_called (called.LookAt other answer) = none_either (id == other) [] refl
+
+  sent_with : (older : Journal) (d : Deed)
+      → length (sent_as id (made_by script bytes (record { app = app; deed = d }) ++ older))
+      ≡ length (sent_as id older) + sent_by id script (record { app = app; deed = d })
+  sent_with older (deed.Called c) =
+      length-append (sent_as id older) (let m = made_of script bytes app c in if names id m.id then bytes_sent m.call m.reply else [])
+      ∙ ap (λ (n : ℕ). length (sent_as id older) + n) (sent_called c)
+  sent_with older (deed.Waited times why) = omega arith
+
+  given_with : (older : Journal) (d : Deed)
+      → received_by id (made_by script bytes (record { app = app; deed = d }) ++ older)
+      ≡ received_by id older ++ given_by id bytes (record { app = app; deed = d })
+  given_with older (deed.Called c) = ap (λ (xs : List ℕ). received_by id older ++ xs) (given_called c)
+  given_with older (deed.Waited times why) = sym (append-nil (received_by id older))
+
+-- One entry more.
+gathered_more : (made : Entry → Journal) (es : List Entry) (e : Entry) → gathered made (es ++ e ∷ []) ≡ made e ++ gathered made es
+gathered_more made [] e = sym (append-nil (made e))
+gathered_more made (x ∷ es) e =
+    ap (λ (j : Journal). j ++ made x) (gathered_more made es e) ∙ append_assoc (made e) (gathered made es) (made x)
+
+calls_next : (script : RunScript) (bytes : List ℕ) (es : List Entry) (i : ℕ) (e : Entry) → take (i + 1) es ≡ take i es ++ e ∷ []
+    → calls_of script bytes (take (i + 1) es) ≡ made_by script bytes e ++ calls_of script bytes (take i es)
+calls_next script bytes es i e at = ap (calls_of script bytes) at ∙ gathered_more (made_by script bytes) (take i es) e
+
+capped_more : (n m : ℕ) → min (min n (2 ^ 64 - 1) + m) (2 ^ 64 - 1) ≡ min (n + m) (2 ^ 64 - 1)
+capped_more n m = omega arith
+
+module _ (id : ℕ) (script : RunScript) (bytes : List ℕ) (es : List Entry) (i : ℕ) (e : Entry) (at : take (i + 1) es ≡ take i es ++ e ∷ []) where
+  pub sent_next : (n m sum : ℕ) → n ≡ capped (length (sent_as id (calls_of script bytes (take i es)))) → m ≡ sent_by id script e
+      → sum ≡ min (n + m) (2 ^ 64 - 1) → sum ≡ capped (length (sent_as id (calls_of script bytes (take (i + 1) es))))
+  sent_next n m sum before more is =
+      let older = calls_of script bytes (take i es) in
+      is ∙ ap (λ (k : ℕ). min (k + m) (2 ^ 64 - 1)) before ∙ ap (λ (k : ℕ). min (capped (length (sent_as id older)) + k) (2 ^ 64 - 1)) more
+      ∙ capped_more (length (sent_as id older)) (sent_by id script e)
+      ∙ ap capped (sym (ap (λ (j : Journal). length (sent_as id j)) (calls_next script bytes es i e at) ∙ sent_with id script bytes e.app older e.deed))
+
+  pub given_next : (old piece new : List ℕ) → old ≡ received_by id (calls_of script bytes (take i es)) → piece ≡ given_by id bytes e
+      → new ≡ old ++ piece → new ≡ received_by id (calls_of script bytes (take (i + 1) es))
+  given_next old piece new before more is =
+      let older = calls_of script bytes (take i es) in
+      is ∙ ap (λ (xs : List ℕ). xs ++ piece) before ∙ ap (λ (xs : List ℕ). received_by id older ++ xs) more
+      ∙ sym (ap (received_by id) (calls_next script bytes es i e at) ∙ given_with id script bytes e.app older e.deed)

@@ -1,0 +1,77 @@
+-- A right report of a run: what it says of each app and of each connection is what was done.
+use Rattle.std.specs.Prelude.{◌≡◌, ℕ, ◌-◌, ◌<◌, ◌≤◌, ◌||◌, Bool, true, false, List, length, slice_get, Some}
+use Rattle.std.specs.List.{All}
+use Rattle.vs_flow.specs.Connection.{Connection}
+use Rattle.vs_page.specs.Fair.{IsPrefixOf}
+use Rattle.vs_outside.specs.{Host.HostContents, HostBytes.host_read, HostBytes.host_wrote}
+use Rattle.vs_script.specs.App.{Act, Connect, Accept, Send, Recv, Drain, Exchange}
+use Rattle.laws_driver_bytes.specs.Calls.{Journal, received_by}
+use Rattle.vs_apps_parts.specs.{Journals.calls_of, Journals.calls_of_app, Journals.sent_as, Scripts.IsPlayed, Scripts.RunScript, Scripts.acts_of}
+use Rattle.vs_apps_parts.specs.declared.{journal.Entry.Entry, journal.WaitsFor.WaitsFor, progress.AppState.AppState}
+use Rattle.vs_apps_parts.specs.declared.journal.WaitsFor.TheVariants as waits
+use Rattle.vs_report.specs.declared.giving.Totals.{Totals}
+use Rattle.vs_run_report.specs.{Connections.opened_all, Endings.state_at, Report.ended_at}
+use Rattle.vs_run_report.specs.declared.{connection.Opened.Opened, ending.Ending.Ending}
+use Rattle.vs_run_report.specs.declared.ending.Ending.TheVariants as ending
+
+-- What each instruction may wait for.
+abbrev pub waits_to_connect : WaitsFor → Bool
+waits_to_connect waits.Full = true
+waits_to_connect (waits.NoDescriptor in_flight) = true
+waits_to_connect waits.NotOpen = true
+waits_to_connect why = false
+
+abbrev pub waits_to_accept : WaitsFor → Bool
+waits_to_accept waits.NoneWaiting = true
+waits_to_accept why = false
+
+abbrev pub waits_to_send : WaitsFor → Bool
+waits_to_send (waits.NoCredit tx alloc fwd) = true
+waits_to_send (waits.NoDescriptor in_flight) = true
+waits_to_send waits.NotOpen = true
+waits_to_send why = false
+
+abbrev pub waits_to_receive : WaitsFor → Bool
+waits_to_receive waits.Empty = true
+waits_to_receive waits.NotOpen = true
+waits_to_receive why = false
+
+abbrev pub may_wait : Act → WaitsFor → Bool
+may_wait (Connect port) why = waits_to_connect why
+may_wait (Accept port) why = waits_to_accept why
+may_wait (Send c) why = waits_to_send why
+may_wait (Recv n) why = waits_to_receive why
+may_wait Drain why = waits_to_receive why
+may_wait (Exchange c) why = waits_to_send why || waits_to_receive why
+may_wait act why = false
+
+-- An app is done; or it waits for what the instruction at which it waits may wait for.
+abbrev pub IsRightEnding : List Act → Ending → Type 0
+IsRightEnding acts ending.Done = Unit {0}
+IsRightEnding acts (ending.Waited why at) = (act : Act) × (slice_get acts (at - 1) ≡ Some act) × (may_wait act why ≡ true)
+IsRightEnding acts (ending.GoesOn at) = ⊥
+
+-- A connection that an app opened, where ids were given to these connections. What its host program read is a prefix of what was sent on it, and
+-- what was received on it is a prefix of what that program wrote. Their numbers stand in its line.
+pub record IsRightConnection (opened : ℕ → Connection) (journal : Journal) (h : HostContents) (o : Opened) : Type 0 where
+  pub some : 1 ≤ (opened o.id).number
+  pub flow : (opened o.id).flow ≡ o.flow
+  pub to_host : IsPrefixOf (host_read (opened o.id) h) (sent_as o.id journal)
+  pub to_guest : IsPrefixOf (received_by o.id journal) (host_wrote (opened o.id) h)
+
+-- The last line: nothing was dropped, no payload went beyond its room, no connection of the guest was broken; and a fault was counted only where
+-- more calls of the host failed than before.
+pub record HasNoLoss (before after : ℕ) (t : Totals) : Type 0 where
+  pub dropped : t.counters.dropped ≡ 0
+  pub overrun : t.counters.overrun ≡ 0
+  pub broken : t.broken ≡ 0
+  pub faults : 1 ≤ t.counters.faults → before < after
+
+-- The report that is made of these: the calls of each app are, in order, its instructions, and so on. No two ids have one connection.
+pub record IsRightReport (script : RunScript) (apps : List AppState) (entries : List Entry) (bytes : List ℕ) (t : Totals)
+    (opened : ℕ → Connection) (h : HostContents) (before after : ℕ) : Type 0 where
+  pub played : (k : ℕ) → k < length script → IsPlayed (acts_of k script) (calls_of_app k script bytes entries) (state_at k apps).progress
+  pub ended : (k : ℕ) → k < length script → IsRightEnding (acts_of k script) (ended_at script apps entries k)
+  pub once : (i j : ℕ) → 1 ≤ (opened i).number → opened i ≡ opened j → i ≡ j
+  pub connections : All (IsRightConnection opened (calls_of script bytes entries) h) (opened_all (length script) entries)
+  pub totals : HasNoLoss before after t

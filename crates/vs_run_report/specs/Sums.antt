@@ -1,0 +1,29 @@
+-- What one entry of a journal adds to what was sent and received on a connection, as numbers and places.
+use Rattle.std.specs.Prelude.{ℕ, ◌-◌, ◌==◌, min, if◌then◌else◌, List, [], length}
+use Rattle.vs_apps_parts.specs.{Journals.data_at, Scripts.RunScript, Scripts.acts_of, Scripts.slice_of}
+use Rattle.vs_apps_parts.specs.declared.journal.{Called.Called, Entry.Entry}
+use Rattle.vs_apps_parts.specs.declared.journal.Called.TheVariants as called
+use Rattle.vs_apps_parts.specs.declared.journal.Deed.TheVariants as deed
+use Rattle.vs_driver_parts.specs.{Connections.got_count, declared.answers.Sent.Sent}
+use Rattle.vs_driver_parts.specs.declared.answers.Sent.TheVariants as sent
+
+-- How many bytes a send of so many took.
+abbrev pub took_number : ℕ → Sent → ℕ
+took_number len (sent.Took n) = min n len
+took_number len answer = 0
+
+abbrev pub sent_number : ℕ → RunScript → ℕ → Called → ℕ
+sent_number id script app (called.Send other at from len answer) =
+    if id == other then took_number (min len (length (data_at at (acts_of app script)) - from)) answer else 0
+sent_number id script app c = 0
+
+abbrev pub sent_by : ℕ → RunScript → Entry → ℕ
+sent_by id script e = elim e.deed [ deed.Called c ↦ sent_number id script e.app c | deed.Waited times why ↦ 0 ]
+
+-- The bytes that a receive gave.
+abbrev pub given_in : ℕ → List ℕ → Called → List ℕ
+given_in id bytes (called.Recv other len from answer) = if id == other then slice_of from (got_count answer) bytes else []
+given_in id bytes c = []
+
+abbrev pub given_by : ℕ → List ℕ → Entry → List ℕ
+given_by id bytes e = elim e.deed [ deed.Called c ↦ given_in id bytes c | deed.Waited times why ↦ [] ]
