@@ -2,3 +2,4 @@ pub mod Summing
 pub mod Lines
 pub mod Waiting
 pub mod Worked
+pub mod Noted

@@ -1,11 +1,13 @@
 //! What an app may wait for; worked reports of runs, and worked lines of loads.
 
-ghost use Rattle.std.specs.Prelude.{◌≡◌, true, List, [], ◌∷◌, Some, codes};
+ghost use Rattle.std.specs.Prelude.{◌≡◌, ◌<◌, ◌+◌, ◌==◌, ℕ, true, false, List, [], ◌∷◌, Option, Some, codes, slice_get};
 ghost use Rattle.vs_script.specs.{App.Act, App.Close, App.Connect, App.Exchange, Data.Fill};
 ghost use Rattle.laws_driver_bytes.specs.Calls.{Made};
 ghost use Rattle.vs_apps_parts.specs.{Scripts.calls_in, Scripts.calls_next, Scripts.told_in, Told.step_wait};
-ghost use Rattle.vs_apps_parts.specs.declared.{journal.WaitsFor.WaitsFor, progress.Progress.Progress};
-ghost use Rattle.vs_run_report.specs.Right.{may_wait};
+ghost use Rattle.vs_apps_parts.specs.{Journals.wait_noted, Journals.wait_place};
+ghost use Rattle.vs_apps_parts.specs.declared.{journal.Entry.Entry, journal.WaitsFor.WaitsFor, progress.AppState.AppState};
+ghost use Rattle.vs_apps_parts.specs.declared.progress.Progress.{Progress};
+ghost use Rattle.vs_run_report.specs.{Endings.ending_of, Right.may_wait, declared.ending.Ending.TheVariants.Waited};
 ghost use Rattle.vs_run_report.specs.Examples.{hello_is_right, hello_printed, hello_says, hello_status, served_printed, served_says};
 ghost use Rattle.vs_run_report.specs.Examples.{silent_printed, silent_says, silent_status};
 ghost use Rattle.vs_run_report.specs.Load.{all_matched, load_script, matches};
@@ -14,6 +16,17 @@ ghost use Rattle.vs_run_report.specs.Load.{all_matched, load_script, matches};
 pub fn law_of_waits()
     ensures { (act : Act) (p : Progress) (made : List Made) (why : WaitsFor) → calls_in made ≡ calls_next act p
         → step_wait (told_in made) ≡ Some why → may_wait act why ≡ true }
+{}
+
+/// An app that isn't done, and whose wait is noted, ended so: it waits for that, at the instruction that it is at. A noted wait of another app
+/// changes nothing of how an app ended.
+pub fn law_of_noted_waits()
+    ensures waits { (count k : ℕ) (why : WaitsFor) (state : AppState) (entries : List Entry) → state.progress.at < count
+        → ending_of count (record state { waiting = Some (wait_place k state.waiting entries) }) (wait_noted k why state.waiting entries)
+        ≡ Waited why (state.progress.at + 1) }
+    ensures others { (count k place : ℕ) (why : WaitsFor) (last : Option ℕ) (state : AppState) (entries : List Entry) (e : Entry)
+        → state.waiting ≡ Some place → slice_get entries place ≡ Some e → (e.app == k) ≡ false
+        → ending_of count state (wait_noted k why last entries) ≡ ending_of count state entries }
 {}
 
 /// Reports of runs: an app that is done, one that waits, and two of which a client of the host connects to the second.
