@@ -1,5 +1,5 @@
 -- What holds of each play.
-use Rattle.std.proofs.Common.{◌≡◌, ℕ, true, List, [], ◌∷◌, ◌++◌, None, Some, refl, sym, ap, subst, ◌∙◌, map, Ok}
+use Rattle.std.proofs.Common.{◌≡◌, ℕ, true, List, [], ◌∷◌, ◌++◌, Some, refl, sym, ap, subst, ◌∙◌, map, Ok, arith}
 use Rattle.vs_flow.specs.{Connection.first_of, declared.flow.Flow.Flow}
 use Rattle.laws_history.specs.{History.puts, Packets.has, Packets.shuts_send}
 use Rattle.vs_driver_parts.specs.State.{DriverEntry}
@@ -20,7 +20,8 @@ use Rattle.laws_world.proofs.{ResetTables.device_emptied, ScriptLines.script_lea
 use Rattle.laws_world.proofs.Carried.{sent_all, sent_stays, wrote_stays}
 use Rattle.vs_play.specs.{Answer.base_path, Answer.opened_play, Answer.texts_of, Answer.world_after, Lines.PlayWorld}
 use Rattle.laws_play.specs.Headline.{IsLawful, StaysShut, world_of}
-use Rattle.laws_play.proofs.{Counting.lines_count, Counting.lines_within, PlayLines.after_both, Shutting.IsShut, Shutting.is_shut, Shutting.run_shut}
+use Rattle.laws_play.proofs.{Counting.lines_count, Counting.lines_within, PlayLines.after_both, Shutting.IsShut, Shutting.is_shut}
+use Rattle.laws_play.proofs.Shutting.{run_shut}
 use Rattle.laws_proxy_bytes.specs.Counts.{counts_shown}
 use Rattle.laws_world.specs.Counts.{IsCounted}
 use Rattle.laws_world.proofs.Counting.{reached_counted}
