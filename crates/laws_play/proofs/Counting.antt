@@ -1,16 +1,17 @@
 -- What the calls of a play come to in the device's counts.
-use Rattle.std.proofs.Common.{◌≡◌, ℕ, ◌+◌, ◌≤◌, Bool, cond, List, [], ◌∷◌, ◌++◌, length, refl, sym, ap, subst, ◌∙◌, Result, arith, length-append}
+use Rattle.std.proofs.Common.{◌≡◌, ℕ, ◌+◌, ◌≤◌, Bool, true, false, cond, List, [], ◌∷◌, length, refl, sym, ap, subst, ◌∙◌, Result, arith}
+use Rattle.std.proofs.Common.{length-append}
 use Rattle.vs_contents.specs.CallTree.{Ask, Done, played}
 use Rattle.vs_ring_port.specs.declared.failure.Failure.{Failure}
-use Rattle.vs_device_parts.specs.Calls.{Call, DeviceTree}
+use Rattle.vs_device_parts.specs.Calls.{DeviceTree}
 use Rattle.vs_proxy_parts.specs.{State.ProxyState, Turns.proxy_reset_of, Turns.turn_of, declared.answers.Turn.Turn}
 use Rattle.laws_proxy_bytes.specs.{Counts.DeviceCounts, Counts.count_made, Counts.counts_of, Counts.counts_shown, Made.Made, Made.made}
 use Rattle.laws_proxy_bytes.proofs.{Quiet.counts_reset, Quiet.counts_turn, Walks.Walks}
 use Rattle.vs_script.specs.{Outside.Outside, Play.Event}
-use Rattle.laws_world.specs.{Answers.Around, Answers.answer_around, World.World, World.around}
+use Rattle.laws_world.specs.{Answers.Around, Answers.answer_around, World.around}
 use Rattle.vs_play.specs.{Answer.world_after, Lines.PlayWorld, Lines.event_played}
 use Rattle.laws_world.proofs.Failing.{FailsWithin, reset_fails, turn_fails}
-use Rattle.laws_play.specs.Recorded.{Recorded, calls_of, fails_in, line_fails, made_in, outside_made, recorded, recording}
+use Rattle.laws_play.specs.Recorded.{calls_of, fails_in, line_fails, made_in, outside_made, recording}
 use Rattle.vs_outside.specs.{Host.HostContents, HostProgram.after_host_write, HostProgram.host_write_answer}
 use Rattle.vs_outside.specs.declared.mem_stream.HostWritten.{HostWritten}
 use Rattle.vs_outside.specs.declared.mem_stream.HostWritten.TheVariants as written
@@ -35,11 +36,12 @@ module _ (first : DeviceCounts) where
       → CountedBy (event_played (script.Around line) p).0 (outside_made line p calls)
   outside_counts outside.Turn p calls is =
       let tree = turn_of p.world.rings.lists.size p.moment p.world.proxy in
-      played_counts (λ (x : ProxyState × Turn). counts_shown x.0.device) tree (around p.world) calls (counts_shown p.world.proxy.device) first
+      played_counts (λ (x : ProxyState × Turn). counts_shown x.0.device) tree (around p.world) calls
+      (counts_shown p.world.proxy.device) first
       (counts_turn p.world.rings.lists.size p.moment p.world.proxy) is
   outside_counts (outside.Reset cid) p calls is =
-      played_counts (λ (x : ProxyState × Result (Unit {0}) Failure). counts_shown x.0.device) (proxy_reset_of cid p.world.proxy) (around p.world)
-      calls (counts_shown p.world.proxy.device) first (counts_reset false cid p.world.proxy) is
+      played_counts (λ (x : ProxyState × Result (Unit {0}) Failure). counts_shown x.0.device) (proxy_reset_of cid p.world.proxy)
+      (around p.world) calls (counts_shown p.world.proxy.device) first (counts_reset false cid p.world.proxy) is
   outside_counts (outside.Tick ms) p calls is = is
   outside_counts outside.Client p calls is = is
   outside_counts (outside.OfHost host) p calls is = by host
@@ -66,7 +68,8 @@ module _ (first : DeviceCounts) where
   line_counts script.Poll p calls is = is
   line_counts (script.Around line) p calls is = outside_counts line p calls is
 
-  pub lines_count : (es : List Event) (p : PlayWorld) (calls : List Made) → CountedBy p calls → CountedBy (world_after es p) (calls_of es p calls)
+  pub lines_count : (es : List Event) (p : PlayWorld) (calls : List Made) → CountedBy p calls
+      → CountedBy (world_after es p) (calls_of es p calls)
   lines_count [] p calls is = is
   lines_count (e ∷ es) p calls is = lines_count es (event_played e p).0 (made_in e p calls) (line_counts e p calls is)
 
@@ -78,7 +81,7 @@ written_same stream bytes written.Ended h = refl
 written_same stream bytes written.NoStream h = refl
 
 abbrev After : ℕ → Event → PlayWorld → Type 0
-After m e p = FailsWithin (cond (line_fails e) 1 0 + m) (event_played e p).0.world
+After m e p = FailsWithin (cond (line_fails e) (m + 1) m) (event_played e p).0.world
 
 host_within : (m : ℕ) (host : outside.Host) (p : PlayWorld) → FailsWithin m p.world → After m (script.Around (outside.OfHost host)) p
 host_within m (outside.HostListen port) p at = at
@@ -109,7 +112,12 @@ line_within m (script.Around (outside.Tick ms)) p at = at
 line_within m (script.Around outside.Client) p at = at
 line_within m (script.Around (outside.OfHost host)) p at = host_within m host p at
 
-pub lines_within : (es : List Event) (p : PlayWorld) (m : ℕ) → FailsWithin m p.world → FailsWithin (fails_in es + m) (world_after es p).world
-lines_within [] p m at = at
+told : (b : Bool) (n m x : ℕ) → x ≤ n + cond b (m + 1) m → x ≤ cond b 1 0 + n + m
+told true n m x less = omega (arith, less)
+told false n m x less = omega (arith, less)
+
+pub lines_within : (es : List Event) (p : PlayWorld) (m : ℕ) → FailsWithin m p.world
+    → FailsWithin (fails_in es + m) (world_after es p).world
+lines_within [] p m at = omega (arith, at)
 lines_within (e ∷ es) p m at =
-    let rest = lines_within es (event_played e p).0 (cond (line_fails e) 1 0 + m) (line_within m e p at) in omega (arith, rest)
+    told (line_fails e) (fails_in es) m _ (lines_within es (event_played e p).0 (cond (line_fails e) (m + 1) m) (line_within m e p at))

@@ -27,7 +27,8 @@ use Rattle.laws_world.proofs.Carried.{sent_all, sent_stays, wrote_stays}
 use Rattle.vs_play.specs.{Answer.base_path, Answer.opened_play, Answer.texts_of, Answer.world_after, Lines.PlayWorld, Lines.event_played}
 use Rattle.laws_play.specs.Headline.{IsLawful, IsNamedIn, StaysShut, world_of}
 use Rattle.laws_play.specs.Said.{accept_answer, connect_answer}
-use Rattle.laws_play.proofs.{Counting.lines_count, Counting.lines_within, PlayLines.after_both, Shutting.IsShut, Shutting.is_shut, Shutting.run_shut}
+use Rattle.laws_play.proofs.{Counting.lines_count, Counting.lines_within, PlayLines.after_both, Shutting.IsShut, Shutting.is_shut}
+use Rattle.laws_play.proofs.Shutting.{run_shut}
 use Rattle.laws_proxy_bytes.specs.Counts.{counts_shown}
 use Rattle.laws_world.specs.Counts.{IsCounted}
 use Rattle.laws_world.proofs.Counting.{reached_counted}

@@ -1,7 +1,7 @@
 -- What holds of each play: bytes arrive in order and on their own connection alone, the tables hold just the connections left open, and
 -- nobody exceeds the credit that the peer gave (Virtio 1.2, section 5.10.6).
-use Rattle.std.specs.Prelude.{◌≡◌, ◌≢◌, ℕ, ◌+◌, ◌-◌, ◌^◌, ◌≤◌, min, ◌||◌, Bool, true, false, List, [], ◌∷◌, ◌++◌, length, Some, None, All, AllPairs}
-use Rattle.std.specs.Prelude.{Contains, Ok}
+use Rattle.std.specs.Prelude.{◌≡◌, ◌≢◌, ℕ, ◌+◌, ◌-◌, ◌^◌, ◌≤◌, min, ◌||◌, Bool, true, false, List, [], ◌∷◌, ◌++◌, length, Some, None, All}
+use Rattle.std.specs.Prelude.{AllPairs, Contains, Ok}
 use Rattle.vs_flow.specs.{declared.flow.Flow.Flow, Connection.first_of}
 use Rattle.vs_limits.specs.declared.TheConstants.{BUF_ALLOC}
 use Rattle.laws_history.specs.{History.History, History.Put, History.gots, History.puts, Packets.allowance, Packets.bytes, Packets.has}

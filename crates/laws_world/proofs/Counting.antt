@@ -1,11 +1,12 @@
 -- Whatever happens, the device counts just the packets that it drops, and its ring doesn't fail.
-use Rattle.std.proofs.Common.{◌≡◌, ℕ, ◌+◌, ◌-◌, ◌^◌, ◌==◌, ◌&&◌, min, nat_le, nat_lt, Bool, true, false, cond, List, [], ◌∷◌, length, take, drop, Option}
-use Rattle.std.proofs.Common.{Some, None, Result, Ok, Err, refl, sym, ap, subst, ◌∙◌, arith}
+use Rattle.std.proofs.Common.{◌≡◌, ℕ, ◌+◌, ◌-◌, ◌^◌, ◌==◌, ◌&&◌, min, nat_le, nat_lt, Bool, true, false, cond, List, [], ◌∷◌, length, take}
+use Rattle.std.proofs.Common.{Option}
+use Rattle.std.proofs.Common.{Some, None, refl, sym, ap, subst, ◌∙◌, arith}
 use Rattle.std.proofs.{lemmas.Bool.Decides.nat_tests, lemmas.Bool.false≢true}
-use Rattle.vs_contents.specs.CallTree.{Ask, Done, bind, for_each, played}
+use Rattle.vs_contents.specs.CallTree.{Done, bind}
 use Rattle.vs_conn.specs.Headers.{payload_header}
 use Rattle.vs_credit.specs.Credit.{free_of}
-use Rattle.vs_flow.specs.Table.{entry_under, slots}
+use Rattle.vs_flow.specs.Table.{entry_under}
 use Rattle.byteorder.specs.Endian.{little_bytes}
 use Rattle.vs_header.specs.{Packet.header_bytes, Packet.header_of, declared.Header.Header, declared.TheConstants.HEADER_LEN}
 use Rattle.laws_history.specs.declared.packet.Packet.{Packet}
@@ -18,27 +19,29 @@ use Rattle.vs_outside.specs.declared.host_net.StreamRead.TheVariants as read
 use Rattle.vs_outside.specs.declared.host_net.StreamWrite.TheVariants as write
 use Rattle.vs_page.specs.{Held.event_held, Held.packet_held, Log.Device, Log.Log, Open.cid_of, Open.is_dropped}
 use Rattle.vs_page.specs.declared.log.LogEntry.TheVariants.{GotPacket, PutEvent, PutPacket}
-use Rattle.vs_ring_port.specs.{Chains.bytes_in, Chains.same_chain, Contents.PublishCid, Contents.Read, Contents.Return, Contents.Take, Contents.Write}
+use Rattle.vs_ring_port.specs.{Chains.bytes_in, Chains.same_chain, Contents.PublishCid, Contents.Read, Contents.Return, Contents.Take}
+use Rattle.vs_ring_port.specs.Contents.{Write}
 use Rattle.vs_ring_port.specs.EndLog.{entries_returned, log_taken, with_event, with_packet}
 use Rattle.vs_ring_port.specs.Lists.{Rings, after_return, after_take, chain_with, next_at, next_given}
 use Rattle.vs_ring_port.specs.declared.{device_ring.Chain.Chain, device_ring.Next.Next, failure.Failure.Failure, queue.Queue.Queue}
 use Rattle.vs_ring_port.specs.declared.device_ring.Next.TheVariants as next
 use Rattle.vs_ring_port.specs.declared.queue.Queue.TheVariants.{Event, Rx, Tx}
 use Rattle.vs_wrap.specs.Wrap.{counted}
-use Rattle.vs_device_parts.specs.Calls.{Call, Answer, DeviceTree, Ring, Accept}
+use Rattle.vs_device_parts.specs.Calls.{DeviceTree, Ring}
 use Rattle.vs_device_parts.specs.{Connections.route_to_guest, Receiving.Filling, Receiving.hold, State.DeviceEntry, State.DeviceState}
 use Rattle.vs_device_parts.specs.Receiving.{may_read, put_owed, put_reply, read_with_chain, written}
-use Rattle.vs_device_parts.specs.Steps.{chain_came, filling, header_came, puts_event, puts_owed, puts_payload, puts_reply, reads, returns}
+use Rattle.vs_device_parts.specs.Steps.{chain_came, filling, puts_event, puts_owed, puts_payload, puts_reply, reads, returns}
 use Rattle.vs_device_parts.specs.Steps.{shuts_write, takes_chain, with_chain, writes, writes_on, writing}
-use Rattle.vs_device_parts.specs.{Streams.closing, Streams.shut_write, Streams.tick_slot, Streams.write_pending, Transmitting.on_packet}
+use Rattle.vs_device_parts.specs.{Streams.shut_write, Streams.tick_slot, Streams.write_pending, Transmitting.on_packet}
 use Rattle.vs_device_parts.specs.Turns.{after_reset}
-use Rattle.vs_proxy_parts.specs.Handshakes.{accept_one, read_byte, streams_of, tick_handshake}
+use Rattle.vs_proxy_parts.specs.Handshakes.{accept_one, read_byte, tick_handshake}
 use Rattle.vs_proxy_parts.specs.{State.Handshake, State.ProxyState, State.Turning, State.start, State.with_device}
 use Rattle.vs_proxy_parts.specs.Turns.{proxy_reset_of}
 use Rattle.laws_device_walk.specs.Seen.{Seen, seen}
-use Rattle.laws_device_walk.proofs.Keeping.{Asking, Keeps, keeps_each, keeps_if, keeps_some, keeps_then}
+use Rattle.laws_device_walk.proofs.Keeping.{Keeps, keeps_if, keeps_some, keeps_then}
 use Rattle.laws_device_walk.proofs.Serving.{AfterEvent, AfterRead, AfterWrite, Closes, Fills, Writes, by_slot, keeps_hold, keeps_put_owed}
-use Rattle.laws_device_walk.proofs.Serving.{keeps_put_reply_of, keeps_read_with_chain, keeps_shut_write, keeps_tick_slot, keeps_write_pending}
+use Rattle.laws_device_walk.proofs.Serving.{keeps_put_reply_of, keeps_read_with_chain, keeps_shut_write, keeps_tick_slot}
+use Rattle.laws_device_walk.proofs.Serving.{keeps_write_pending}
 use Rattle.laws_device_walk.proofs.Taking.{AfterDial, Takes, keeps_on_packet}
 use Rattle.laws_device_walk.proofs.Serving as serving
 use Rattle.laws_device_walk.proofs.Taking as taking
@@ -52,7 +55,8 @@ use Rattle.laws_world.specs.Events as events
 use Rattle.laws_driver_bytes.specs.Calls.{Journal, is_right, makes_call}
 use Rattle.vs_driver_parts.specs.{Conversations.DriverTree, Conversations.publish_of, State.DriverState, Steps.stages_owed}
 use Rattle.vs_driver_parts.specs.{Steps.stages_reply, Steps.takes_page}
-use Rattle.laws_world.proofs.{Opening.opening_well, Resetting.keeps_played, Resetting.keeps_reset, Resetting.playing, Rings.AreGiven, Sound.IsWell, Sound.happens_goes}
+use Rattle.laws_world.proofs.{Opening.opening_well, Resetting.keeps_played, Resetting.keeps_reset, Resetting.playing, Rings.AreGiven}
+use Rattle.laws_world.proofs.{Sound.IsWell, Sound.happens_goes}
 
 -- Between calls, and while a page of tx is held that was judged.
 record Counts (cid dropped : ℕ) (failed : Option Failure) (log : Log) (given : List (List ℕ)) : Type 0 where
@@ -127,6 +131,9 @@ module _ (hands : List Handshake) (s : DeviceState) (a : Around) where
   abbrev with_given : List (List ℕ) → Around
   with_given given = record a { lists = record a.lists { tx = record a.lists.tx { given = given } } }
 
+  abbrev with_got : Option Packet → Log
+  with_got o = with_packet (λ p. GotPacket p) o a.log.entries
+
   module _ (page : List ℕ) (pages : List (List ℕ)) (one : PageHolds page) where
     abbrev c : Chain
     c = chain_with Tx a.lists.tx.place page
@@ -144,10 +151,9 @@ module _ (hands : List Handshake) (s : DeviceState) (a : Around) where
         (let long = one.long in grind (arith, nat_tests, long))
 
     judged : (b : Bool) → Counts s.cid s.dropped s.failed a.log.entries (page ∷ pages) → is_dropped Device s.cid h ≡ b
-        → Counts s.cid (cond b (counted s.dropped) s.dropped) s.failed (with_packet (λ p. GotPacket p) (packet_held page) a.log.entries) pages
+        → Counts s.cid (cond b (counted s.dropped) s.dropped) s.failed (with_got (packet_held page)) pages
     judged b at is =
-        subst (λ (o : Option Packet). Counts s.cid (cond b (counted s.dropped) s.dropped) s.failed (with_packet (λ p. GotPacket p) o a.log.entries) pages)
-        (sym one.held)
+        subst (λ (o : Option Packet). Counts s.cid (cond b (counted s.dropped) s.dropped) s.failed (with_got o) pages) (sym one.held)
         (got s.cid s.dropped s.failed a.log.entries (page ∷ pages) pages one.packet b at (at.pages.0.1, at.pages.1.1)
         (ap (λ (x : Header). is_dropped Device s.cid x) header_same ∙ is))
 
@@ -184,7 +190,8 @@ module _ (hands : List Handshake) where
     was_left = λ page e v s a is closed stream at gone. at;
   }
 
-  wrote : (e : DeviceEntry) (s : DeviceState) (x : StreamWrite) (a : Around) → D hands None (seen s) a → AfterWrite playing (D hands) e s x a
+  wrote : (e : DeviceEntry) (s : DeviceState) (x : StreamWrite) (a : Around) → D hands None (seen s) a
+      → AfterWrite playing (D hands) e s x a
   wrote e s (write.Took n) a at = at
   wrote e s write.Again a at = at
   wrote e s write.Closed a at = at
@@ -228,7 +235,8 @@ module _ (hands : List Handshake) where
     hears = λ chain h e s a v found is other at. at;
   }
 
-accepts : (hands : List Handshake) (s : DeviceState) (x : Accepted) (a : Around) → D hands None (seen s) a → AfterAccept playing D hands s x a
+accepts : (hands : List Handshake) (s : DeviceState) (x : Accepted) (a : Around) → D hands None (seen s) a
+    → AfterAccept playing D hands s x a
 accepts hands s (accepted.Stream id) a at = at
 accepts hands s accepted.None a at = at
 accepts hands s accepted.Failed a at = at
@@ -255,7 +263,8 @@ module _ (hands : List Handshake) where
   abbrev Counting : (DeviceState → DeviceTree DeviceState) → Type 0
   Counting step = (s : DeviceState) (a : Around) → Has s a → Keeps playing Has (step s) a
 
-  came : (s : DeviceState) (n : Next) (a : Around) → taking.AfterTake playing (D hands) (U hands) s n a → Keeps playing Has (chain_came n s) a
+  came : (s : DeviceState) (n : Next) (a : Around) → taking.AfterTake playing (D hands) (U hands) s n a
+      → Keeps playing Has (chain_came n s) a
   came s (next.Chain chain) a after =
       let r = answer_around (Ring (Read chain 0 HEADER_LEN)) a in
       keeps_if playing Has (nat_lt (chain.readable - HEADER_LEN) (header_of r.0).len) _ _ r.1 after.short (λ whole.
@@ -372,7 +381,8 @@ module _ {fresh : Type 0} (w : World) (well : IsWell fresh w) (was : IsCounted w
   hosts_counted : (now : ℕ) (host : HostContents) → IsCounted (at_moment now (record w { host = host }))
   hosts_counted now host = record { dropped = was.dropped; unfailed = was.unfailed }
 
-  unless_device : (step : DeviceState → DeviceTree DeviceState) → Counting w.proxy.handshakes step → IsCounted (unless_failed (device_step step) w)
+  unless_device : (step : DeviceState → DeviceTree DeviceState) → Counting w.proxy.handshakes step
+      → IsCounted (unless_failed (device_step step) w)
   unless_device step counts = unless_counted (device_step step) w was (device_counted step counts)
 
   unless_proxy : (step : Turning → DeviceTree Turning)

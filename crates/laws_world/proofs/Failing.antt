@@ -1,12 +1,14 @@
 -- Over list rings and a host in memory each call that failed is one that was to fail: a fault counted is one fewer to come.
-use Rattle.std.proofs.Common.{◌≡◌, ℕ, ◌+◌, ◌-◌, ◌≤◌, ◌^◌, ◌==◌, ◌||◌, min, nat_lt, Bool, true, false, cond, List, [], ◌∷◌, length, map, filter}
-use Rattle.std.proofs.Common.{Option, Some, None, refl, sym, ap, subst, ◌∙◌, arith}
+use Rattle.std.proofs.Common.{◌≡◌, ℕ, ◌+◌, ◌-◌, ◌≤◌, ◌==◌, ◌||◌, min, nat_lt, Bool, true, false, cond, List, [], ◌∷◌, length, map, filter}
+use Rattle.std.proofs.Common.{Option, Some, None, refl, sym, subst, arith}
 use Rattle.std.proofs.lemmas.Bool.Decides.{nat_tests}
 use Rattle.std.specs.Option.{option_map_or}
 use Rattle.vs_header.specs.declared.Header.{Header}
 use Rattle.vs_outside.specs.Faults.{counted_down, fails_next}
-use Rattle.vs_outside.specs.Host.{HostContents, Stream, accept_answer, after_accept, after_dial, after_failed, after_read, after_write, called}
-use Rattle.vs_outside.specs.Host.{dial_answer, fails_now, is_listened, oldest_client, read_answer, read_of, stream_at, taken_of, write_answer}
+use Rattle.vs_outside.specs.Host.{HostContents, Stream, accept_answer, after_accept, after_dial, after_failed, after_read, after_write}
+use Rattle.vs_outside.specs.Host.{called}
+use Rattle.vs_outside.specs.Host.{dial_answer, fails_now, is_listened, oldest_client, read_answer, read_of, stream_at, taken_of}
+use Rattle.vs_outside.specs.Host.{write_answer}
 use Rattle.vs_outside.specs.Host.{write_of}
 use Rattle.vs_outside.specs.declared.host_net.{Accepted.Accepted, Dialed.Dialed, StreamRead.StreamRead, StreamWrite.StreamWrite}
 use Rattle.vs_outside.specs.declared.host_net.Accepted.TheVariants as accepted
@@ -17,10 +19,9 @@ use Rattle.vs_ring_port.specs.declared.{device_ring.Chain.Chain, device_ring.Nex
 use Rattle.vs_ring_port.specs.declared.device_ring.Next.TheVariants as next
 use Rattle.vs_flow.specs.declared.flow.Flow.{Flow}
 use Rattle.vs_wrap.specs.Wrap.{counted}
-use Rattle.vs_device_parts.specs.{Receiving.written, State.DeviceEntry, State.DeviceState}
+use Rattle.vs_device_parts.specs.{State.DeviceEntry, State.DeviceState}
 use Rattle.vs_proxy_parts.specs.{State.Handshake, State.ProxyState, Turns.proxy_reset_of, Turns.turn_of, declared.answers.Turn.Turn}
 use Rattle.laws_device_walk.specs.Seen.{Seen, seen}
-use Rattle.laws_device_walk.proofs.Keeping.{Keeps}
 use Rattle.laws_device_walk.proofs.Serving.{AfterEvent, AfterRead, AfterWrite, Closes, Fills, Writes}
 use Rattle.laws_device_walk.proofs.Taking.{AfterDial, Takes}
 use Rattle.laws_device_walk.proofs.Serving as serving
@@ -143,7 +144,8 @@ module _ (m : ℕ) where
     wrote e s stream bytes write.Again a at is = went s.faults a.host at
     wrote e s stream bytes write.Closed a at is = went s.faults a.host at
     wrote e s stream bytes write.Failed a at is =
-        subst (Within (counted s.faults)) (sym (after_failed_is a.host)) (fails s.faults a.host at (write_to_fail stream (length bytes) a.host is))
+        subst (Within (counted s.faults)) (sym (after_failed_is a.host))
+        (fails s.faults a.host at (write_to_fail stream (length bytes) a.host is))
 
     writings : Writes playing (D hands)
     writings = record { writes = λ e s a is still at. wrote e s _ _ _ a at refl; shuts = λ e s a is out at. at }
@@ -228,10 +230,12 @@ module _ (m : ℕ) where
 
   pub turn_fails : (now : ℕ) (w : World) → FailsWithin w → FailsWithin (turn_line now w).0
   turn_fails now w at =
-      keeps_played (λ (x : ProxyState × Turn) b. Within x.0.device.faults b.host.to_fail) (turn_of w.rings.lists.size now w.proxy) (around w)
+      keeps_played (λ (x : ProxyState × Turn) b. Within x.0.device.faults b.host.to_fail)
+      (turn_of w.rings.lists.size now w.proxy) (around w)
       (keeps_turn playing D shakes closes U takings writings fills w.rings.lists.size now w.proxy (around w) at)
 
   pub reset_fails : (cid : ℕ) (w : World) → FailsWithin w → FailsWithin (reset_line cid w).0
   reset_fails cid w at =
       keeps_played _ (proxy_reset_of cid w.proxy) (around w)
-      (keeps_reset cid (λ s a. Within s.faults a.host.to_fail) (λ e s a at. at) (λ e s a at. at) (λ s a at. at) (λ stream s a at. at) w.proxy (around w) at)
+      (keeps_reset cid (λ s a. Within s.faults a.host.to_fail) (λ e s a at. at) (λ e s a at. at) (λ s a at. at) (λ stream s a at. at)
+      w.proxy (around w) at)

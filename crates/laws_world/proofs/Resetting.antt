@@ -1,5 +1,5 @@
 -- What a transport reset keeps over list rings and a host in memory.
-use Rattle.std.proofs.Common.{◌≡◌, ℕ, true, false, Option, Some, None, Result, Ok, Err}
+use Rattle.std.proofs.Common.{ℕ, Option, Some, None, Result, Ok, Err}
 use Rattle.vs_contents.specs.CallTree.{Ask, Done, bind, for_each, played}
 use Rattle.vs_flow.specs.Table.{entry_under, slots}
 use Rattle.vs_ring_port.specs.{Contents.PublishCid, declared.failure.Failure.Failure}

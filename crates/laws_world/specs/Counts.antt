@@ -1,5 +1,5 @@
 -- What the device counts of packets that it drops, and that its ring never fails.
-use Rattle.std.specs.Prelude.{◌≡◌, ℕ, ◌+◌, ◌-◌, ◌^◌, min, if◌then◌else◌, List, [], ◌∷◌, None}
+use Rattle.std.specs.Prelude.{◌≡◌, ℕ, ◌+◌, ◌-◌, ◌^◌, min, if◌then◌else◌, [], ◌∷◌, None}
 use Rattle.vs_page.specs.{Log.Device, Log.Log, Open.cid_of, Open.is_dropped, declared.log.LogEntry.TheVariants.GotPacket}
 use Rattle.laws_world.specs.World.{World, first_cid}
 
