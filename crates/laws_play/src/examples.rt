@@ -2,8 +2,8 @@
 
 ghost use Rattle.std.specs.Prelude.{◌≡◌, [], ◌∷◌, None, Some};
 ghost use Rattle.vs_play.specs.Examples.{client, resets};
-ghost use Rattle.laws_play.specs.Worked.{client_flow, client_told, closed_between, first_flow, first_names, first_told, flows_after, last_flow};
-ghost use Rattle.laws_play.specs.Worked.{one_connect, second_flow, told_on};
+ghost use Rattle.laws_play.specs.Worked.{client_flow, client_told, closed_between, first_flow, first_names, first_told, flows_after};
+ghost use Rattle.laws_play.specs.Worked.{last_flow, one_connect, second_flow, told_on};
 
 /// A client of the host that talks with the guest, and a transport reset: the bytes of connections both ways, and the flows of both tables.
 /// Ids and their flows, before and after a close.
