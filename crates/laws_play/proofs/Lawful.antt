@@ -19,6 +19,7 @@ use Rattle.laws_world.specs.{Events.is_at_rest, Events.is_guest_cid, Events.rese
 use Rattle.laws_world.specs.{Sides.device_ends, Sides.driver_ends, Steps.Leads, World.World, World.first_cid}
 use Rattle.laws_driver_bytes.specs.Calls.{flow_accepted, flow_opened, sent_on}
 use Rattle.laws_world.specs.Names.{times_closed}
+use Rattle.laws_world.proofs.ClosedStay.{WasClosed, close_closed, closed_flow, leads_closed}
 use Rattle.laws_world.proofs.NamesStay.{WasTold, accept_told, connect_told, leads_told, told_flow}
 use Rattle.vs_report.specs.GuestLines.{accept_text, connect_text, connection_text}
 use Rattle.laws_world.proofs.{Bytes.wrote_is_put, CallRests.opening_rests, GuestLines.possible_is, Opening.opening_well, Opening.run_goes}
@@ -26,7 +27,7 @@ use Rattle.laws_world.proofs.{ResetTables.device_emptied, ScriptLines.script_lea
 use Rattle.laws_world.proofs.Carried.{sent_all, sent_stays, wrote_stays}
 use Rattle.vs_play.specs.{Answer.base_path, Answer.opened_play, Answer.texts_of, Answer.world_after, Lines.PlayWorld, Lines.event_played}
 use Rattle.laws_play.specs.Headline.{IsLawful, IsNamedIn, StaysShut, world_of}
-use Rattle.laws_play.specs.Said.{accept_answer, connect_answer}
+use Rattle.laws_play.specs.Said.{accept_answer, close_answer, connect_answer}
 use Rattle.laws_play.proofs.{Counting.lines_count, Counting.lines_within, PlayLines.after_both, Shutting.IsShut, Shutting.is_shut}
 use Rattle.laws_play.proofs.Shutting.{run_shut}
 use Rattle.laws_proxy_bytes.specs.Counts.{counts_shown}
@@ -36,6 +37,7 @@ use Rattle.laws_play.proofs.PlayLines.{around_journal, cid_right, front_bounded,
 use Rattle.laws_play.proofs.Reached.{carries, holds_open, holds_rest, keeps_credit, log_is, many_device, many_guest, own_streams, queued}
 use Rattle.vs_script.proofs.Bounded.{all_bounded}
 use Rattle.vs_driver_parts.specs.declared.answers.Accepted.TheVariants as accepted
+use Rattle.vs_driver_parts.specs.declared.answers.Closed.TheVariants as closed
 use Rattle.vs_script.specs.Outside as outside
 use Rattle.vs_script.specs.Play as script
 use Rattle.vs_script.specs.declared.script.Command.TheVariants as command
@@ -129,10 +131,10 @@ lines_close id (e ∷ es) p apart =
     lines_close id es (event_played e p).0 (All-tail (λ (x : Event). x ≢ script.Close id) e es apart)
     ∙ line_closes id e p (All-head (λ (x : Event). x ≢ script.Close id) e es apart)
 
--- An id that a line told.
-module _ (e : Event) (p : PlayWorld) (rest : is_at_rest p.world.rings.driver.staged ≡ true) (well : IsWell Fresh p.world) (id : ℕ) (more : List Event)
-    (bounded : AreBounded (e ∷ more)) (apart : All (λ x. x ≢ script.Close id) more) where
-  next : PlayWorld
+-- An id that a line told, or closed.
+module _ (e : Event) (p : PlayWorld) (rest : is_at_rest p.world.rings.driver.staged ≡ true) (well : IsWell Fresh p.world) (id : ℕ)
+    (more : List Event) (bounded : AreBounded (e ∷ more)) where
+  abbrev next : PlayWorld
   next = (event_played e p).0
 
   next_well : IsWell Fresh next.world
@@ -141,16 +143,22 @@ module _ (e : Event) (p : PlayWorld) (rest : is_at_rest p.world.rings.driver.sta
   next_rest : is_at_rest next.world.rings.driver.staged ≡ true
   next_rest = lines_rest (e ∷ []) p rest
 
-  still_named : (f : Flow) × WasTold id f next.world.driver → (text : List ℕ) → text ≡ connection_text id (flow_of id next.world.driver)
-      → IsNamedIn (world_after (e ∷ more) p).world id text
-  still_named (f, told) text is =
-      let goes = lines_go more next next_rest bounded.1 next_well in
-      let leads = lines_lead more next next_rest bounded.1 in (
+  more_lead : Leads next.world (world_after more next).world
+  more_lead = lines_lead more next next_rest bounded.1
+
+  still_named : All (λ x. x ≢ script.Close id) more → (f : Flow) × WasTold id f next.world.driver → (text : List ℕ)
+      → text ≡ connection_text id (flow_of id next.world.driver) → IsNamedIn (world_after (e ∷ more) p).world id text
+  still_named apart (f, told) text is =
+      let goes = lines_go more next next_rest bounded.1 next_well in (
         f,
         is ∙ ap (connection_text id) (told_flow id f next.world next_well told).0,
         told_flow id f (world_after more next).world goes.well
-            (leads_told id f next.world (world_after more next).world next_well leads (lines_close id more next apart) told),
+            (leads_told id f next.world (world_after more next).world next_well more_lead (lines_close id more next apart) told),
       )
+
+  still_closed : WasClosed id next.world.driver → flow_of id (world_after (e ∷ more) p).world.driver ≡ None
+  still_closed over = closed_flow id (world_after more next).world.driver
+      (leads_closed id next.world (world_after more next).world next_well more_lead over)
 
 -- The report, with other names for its numbers.
 says_so : (texts streams : List (List ℕ)) (g g' d d' b : ℕ) (c : Counters) → g ≡ g' → d ≡ d' → c.overrun ≡ 0 → b ≡ 0
@@ -221,6 +229,16 @@ module _ (n : ℕ) where
       named_after before more (script.Accept port) id bounded apart (λ well. accept_told p.world well port id is)
       (ap (λ (r : Accepted). accept_text r (flow_accepted r (event_played (script.Accept port) p).0.world.driver)) is)
 
+  close_named : (before more : List Event) (id : ℕ) → AreBounded (before ++ script.Close id ∷ more)
+      → close_answer id (world_after before (opened_play n)) ≡ closed.Done
+      → flow_of id (world_of n (before ++ script.Close id ∷ more)).driver ≡ None
+  close_named before more id bounded is =
+      let p = world_after before (opened_play n) in
+      let well = world_well before (front_bounded before (script.Close id ∷ more) bounded) in
+      subst (λ (q : PlayWorld). flow_of id q.world.driver ≡ None) (sym (after_both before (script.Close id ∷ more) (opened_play n)))
+      (still_closed (script.Close id) p (world_rests before) well id more (rest_bounded before (script.Close id ∷ more) bounded)
+      (close_closed id p.world well is))
+
   pub each_play : (lines : List Event) → AreBounded lines → IsLawful n lines
   each_play lines bounded =
       let w = world_of n lines in
@@ -247,6 +265,8 @@ module _ (n : ℕ) where
               accept_answer port p ≡ accepted.Conn id → All (λ x. x ≢ script.Close id) more
               → IsNamedIn (world_of n es) id (event_played (script.Accept port) p).1) (sym is)
               (accept_named before more port id (subst AreBounded is bounded));
+          closed = λ before more id is. subst (λ (es : List Event). close_answer id (world_after before (opened_play n)) ≡ closed.Done
+              → flow_of id (world_of n es).driver ≡ None) (sym is) (close_named before more id (subst AreBounded is bounded));
         };
         shut = λ before more f is.
             subst (λ (es : List Event). StaysShut f (world_of n before) (world_of n es)) (sym is)

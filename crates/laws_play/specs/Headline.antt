@@ -8,7 +8,7 @@ use Rattle.laws_history.specs.{History.History, History.Put, History.gots, Histo
 use Rattle.laws_history.specs.{Packets.is_rst, Packets.shuts_send, Packets.size, declared.packet.Packet.Packet}
 use Rattle.vs_page.specs.{Log.Device, Log.Driver, Log.HasGotAll, Log.Log, Log.Role, Log.history_of, Open.WasOpened, Open.is_open}
 use Rattle.vs_page.specs.Fair.{IsFairLog, IsPrefixOf, payload_got, payload_put}
-use Rattle.vs_driver_parts.specs.State.{DriverEntry}
+use Rattle.vs_driver_parts.specs.{Connections.flow_of, State.DriverEntry}
 use Rattle.vs_device_parts.specs.{State.DeviceEntry, Turns.counters_of}
 use Rattle.laws_device.specs.Streams.{has_open_stream, is_waiting_for_request}
 use Rattle.laws_tables.specs.Ends.{flows_of, is_among, replied}
@@ -25,9 +25,10 @@ use Rattle.laws_world.specs.World.{first_cid}
 use Rattle.laws_driver.specs.Resets.{MarksResets}
 use Rattle.laws_driver_bytes.specs.Calls.{received_on, sent_on}
 use Rattle.vs_play.specs.{Answer.opened_play, Answer.printed, Answer.texts_of, Answer.world_after, Lines.event_played}
-use Rattle.laws_play.specs.{Recorded.calls_of, Recorded.fails_in, Said.accept_answer, Said.connect_answer, Said.received_in, Said.recv_answer}
-use Rattle.laws_play.specs.Said.{recv_bytes, send_answer, sent_in}
+use Rattle.laws_play.specs.{Recorded.calls_of, Recorded.fails_in, Said.accept_answer, Said.close_answer, Said.connect_answer, Said.received_in}
+use Rattle.laws_play.specs.Said.{recv_answer, recv_bytes, send_answer, sent_in}
 use Rattle.vs_driver_parts.specs.declared.answers.Accepted.TheVariants as accepted
+use Rattle.vs_driver_parts.specs.declared.answers.Closed.TheVariants as closed
 use Rattle.vs_script.specs.Outside as outside
 use Rattle.vs_script.specs.Play as script
 
@@ -117,6 +118,9 @@ pub record KeepsNames (n : ℕ) (lines : List Event) : Type 0 where
       → let p = world_after before (opened_play n) in
       accept_answer port p ≡ accepted.Conn id → All (λ e. e ≢ script.Close id) after
       → IsNamedIn (world_of n lines) id (event_played (script.Accept port) p).1
+  -- From a close that knew the id on it has no flow.
+  pub closed : (before after : List Event) (id : ℕ) → lines ≡ before ++ script.Close id ∷ after
+      → close_answer id (world_after before (opened_play n)) ≡ closed.Done → flow_of id (world_of n lines).driver ≡ None
 
 -- Shutting is for good: where an end decided before that it sends no more, or told so, what its writer wrote is what it was then. The guest
 -- decides so by a shutdown, and the device once its stream ended.

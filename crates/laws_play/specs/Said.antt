@@ -2,20 +2,24 @@
 use Rattle.std.specs.Prelude.{ℕ, if◌then◌else◌, List, [], ◌∷◌, ◌++◌, Result}
 use Rattle.vs_flow.specs.declared.flow.Flow.{Flow}
 use Rattle.vs_driver_parts.specs.{Connections.flow_of, Connections.recv_of, Connections.unread_of_id, Conversations.connect_of}
-use Rattle.vs_driver_parts.specs.{Conversations.send_of, Listening.accept_of}
-use Rattle.vs_driver_parts.specs.declared.answers.{Accepted.Accepted, ConnectError.ConnectError, Received.Received, Sent.Sent}
+use Rattle.vs_driver_parts.specs.{Connections.close_of, Conversations.send_of, Listening.accept_of}
+use Rattle.vs_driver_parts.specs.declared.answers.{Accepted.Accepted, Closed.Closed, ConnectError.ConnectError, Received.Received}
+use Rattle.vs_driver_parts.specs.declared.answers.Sent.{Sent}
 use Rattle.vs_script.specs.{Data.Content, Data.bytes_of, Play.Event}
 use Rattle.laws_world.specs.World.{driver_plays}
 use Rattle.laws_driver_bytes.specs.{Calls.is_on, Sent.took, Received.bytes_got}
 use Rattle.vs_play.specs.Lines.{PlayWorld, event_played}
 use Rattle.vs_script.specs.Play as script
 
--- The answers of `connect PORT` and `accept PORT`.
+-- The answers of `connect PORT`, `accept PORT` and `close C`.
 abbrev pub connect_answer : ℕ → PlayWorld → Result ℕ ConnectError
 connect_answer port p = (driver_plays (connect_of port p.world.driver) p.world).0.1
 
 abbrev pub accept_answer : ℕ → PlayWorld → Accepted
 accept_answer port p = accept_of port p.world.driver
+
+abbrev pub close_answer : ℕ → PlayWorld → Closed
+close_answer id p = close_of id p.world.driver
 
 -- The answer of `send C DATA`.
 abbrev pub send_answer : ℕ → Content → PlayWorld → Sent

@@ -5,7 +5,7 @@ use Rattle.vs_flow.specs.{declared.flow.Flow.Flow, Connection.first_of, Flow.hos
 use Rattle.vs_outside.specs.HostBytes.{host_read, host_wrote}
 use Rattle.vs_page.specs.{Fair.payload_got, Fair.payload_put, Log.Device, Log.Driver, Open.is_open}
 use Rattle.laws_tables.specs.Ends.{is_among}
-use Rattle.vs_driver_parts.specs.Connections.{flow_of}
+use Rattle.vs_driver_parts.specs.{Connections.flow_of, Connections.state_of, declared.answers.ConnectionState.ConnectionState}
 use Rattle.vs_script.specs.{Play.Event, Script.Saying, Script.Plays, Script.parse_of, declared.fault.Refused.Refused}
 use Rattle.laws_world.specs.{Counts.dropped_in, World.World, World.first_cid}
 use Rattle.vs_play.specs.Answer.{opened_play}
@@ -91,12 +91,13 @@ first_told = record {
 abbrev pub flows_after : List ℕ → List Flow × List Flow
 flows_after text = let w = world_of 64 (lines_in text) in (guest_flows w, device_flows w)
 
--- The flows of the first two ids. An id that was closed has none, and the next connect gets another id and another flow.
-abbrev pub first_names : List ℕ → Option Flow × Option Flow
-first_names text = let s = (world_of 64 (lines_in text)).driver in (flow_of 1 s, flow_of 2 s)
+-- The flows of the first two ids, and what the first one's connection is. One that the host refused is gone, and its id keeps its flow. An id
+-- that was closed has none, and the next connect gets another id and another flow.
+abbrev pub first_names : List ℕ → Option Flow × Option Flow × ConnectionState
+first_names text = let s = (world_of 64 (lines_in text)).driver in (flow_of 1 s, flow_of 2 s, state_of 1 s)
 
-abbrev pub one_connect : List ℕ
-one_connect = codes "connect 52\npoll\n"
+abbrev pub refused : List ℕ
+refused = codes "connect 52\nturn\npoll\n"
 
 abbrev pub closed_between : List ℕ
 closed_between = codes "connect 52\nclose 1\nconnect 52\n"

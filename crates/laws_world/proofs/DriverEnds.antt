@@ -1,11 +1,11 @@
 -- What each of the driver's conversations leaves of its connections and of who waits: whatever answers its ring gives.
 use Rattle.std.proofs.Common.{◌≡◌, ℕ, zero, suc, ◌+◌, ◌==◌, nat_le, nat_lt, Bool, true, false, cond, List, [], ◌∷◌, length, Option, Some, None}
-use Rattle.std.proofs.Common.{Result, Ok, Err, refl, sym, subst}
+use Rattle.std.proofs.Common.{Result, Ok, Err, refl}
 use Rattle.vs_contents.specs.CallTree.{Ask, Done, bind, played, while_up_to}
 use Rattle.vs_contents.proofs.Leads.{AllEnds, ends_bind, ends_weaker}
 use Rattle.vs_conn.specs.{End.ConnectionEnd, End.may_send_of, End.owes_of, End.wanting_credit, End.with_payload_sent, declared.end.Owed.Owed}
 use Rattle.vs_conn.specs.declared.end.Stop.{Stop}
-use Rattle.vs_flow.specs.Table.{Table, entry_under}
+use Rattle.vs_flow.specs.Table.{entry_under}
 use Rattle.vs_limits.specs.declared.TheConstants.{DRIVER_REPLIES_FULL}
 use Rattle.laws_history.specs.declared.packet.Packet.{Packet}
 use Rattle.vs_header.specs.Packet.{header_bytes}
@@ -21,7 +21,7 @@ use Rattle.vs_driver_parts.specs.Conversations.{not_sent, one_put, owed_bytes, p
 use Rattle.vs_driver_parts.specs.Conversations.{put_reply_of, reap_all, reap_one, reaped, reply_header, request_bytes, send_stopped, send_with_page, stage_of}
 use Rattle.vs_driver_parts.specs.Conversations.{stage_packet, staged_again, start, take_event, take_packet}
 use Rattle.vs_driver_parts.specs.Receiving.{after_reset, is_reset_event, on_packet, on_page}
-use Rattle.vs_driver_parts.specs.State.{DriverConnection, DriverEntry, DriverState, GoneConnection, Listener, entry_known_as}
+use Rattle.vs_driver_parts.specs.State.{DriverEntry, DriverState, GoneConnection, Listener, entry_known_as}
 use Rattle.vs_driver_parts.specs.Steps.{connects, sends, sends_on, sends_with_credit, stages_owed, stages_reply, takes_page}
 use Rattle.vs_driver_parts.specs.declared.answers.ConnectError.TheVariants as refused
 use Rattle.vs_driver_parts.specs.declared.answers.Sent.TheVariants as sent

@@ -1,11 +1,11 @@
 -- Who waits on the ports that are listened on, through each change of the driver's lists.
-use Rattle.std.proofs.Common.{◌≡◌, ◌≢◌, ℕ, ◌≤◌, ◌==◌, ◌⊎◌, inl, inr, Bool, true, false, not, cond, List, [], ◌∷◌, ◌++◌, filter, find, Option, Some, None}
-use Rattle.std.proofs.Common.{Contains, is_some, refl, sym, ap, subst, ◌∙◌, arith}
+use Rattle.std.proofs.Common.{◌≡◌, ◌≢◌, ℕ, ◌≤◌, ◌==◌, Bool, true, false, not, cond, List, [], ◌∷◌, ◌++◌, filter, find, Option, Some, None}
+use Rattle.std.proofs.Common.{refl, sym, ap, subst, ◌∙◌, arith}
 use Rattle.std.proofs.lemmas.Bool.Decides.{nat_tests}
 use Rattle.std.specs.Option.{option_map_or}
-use Rattle.vs_flow.specs.{Connection.Connection, declared.flow.Flow.Flow}
-use Rattle.vs_driver_parts.specs.Listening.{accept_of, after_accept, is_answered, listener_on, listening, next_accepted, with_port, with_waiting, without_id}
-use Rattle.vs_driver_parts.specs.{State.DriverEntry, State.DriverState, State.Listener, Connections.without_listener, Connections.waiting_on}
+use Rattle.vs_flow.specs.{Connection.Connection}
+use Rattle.vs_driver_parts.specs.Listening.{listener_on, with_port, with_waiting, without_id}
+use Rattle.vs_driver_parts.specs.{State.DriverState, State.Listener, Connections.without_listener, Connections.waiting_on}
 
 -- This holds of each id of a list; and, with the port, of each that waits on one.
 abbrev pub AllIds : (ℕ → Type 0) → List ℕ → Type 0

@@ -1,37 +1,23 @@
--- The connection that an application has an id of, through each change of the driver's connections.
-use Rattle.std.proofs.Common.{◌≡◌, ◌≢◌, ℕ, zero, suc, ◌<◌, ◌≤◌, ◌==◌, ◌&&◌, ◌||◌, nat_le, ◌⊎◌, inl, inr, Bool, true, false, not, cond, List, [], ◌∷◌, ◌++◌}
-use Rattle.std.proofs.Common.{length, map, drop, filter, find, get_or, Contains, Option, Some, None, is_some, refl, sym, ap, subst, ◌∙◌, arith}
+-- The connection that the guest has an id of, through each step of the driver; and its flow.
+use Rattle.std.proofs.Common.{◌≡◌, ◌≢◌, ℕ, zero, suc, ◌<◌, ◌≤◌, ◌==◌, ◌||◌, nat_le, ◌⊎◌, inl, inr, Bool, true, false, not, cond, List, [], ◌∷◌}
+use Rattle.std.proofs.Common.{◌++◌, length, map, drop, filter, find, get_or, Contains, Option, Some, None, refl, sym, ap, subst, ◌∙◌, arith}
 use Rattle.std.proofs.lemmas.Bool.Decides.{nat_tests}
 use Rattle.std.proofs.lemmas.List.Elements.{All-contains, Contains-append_left, Contains-push}
-use Rattle.std.proofs.lemmas.Option.{get_or_from_slice_get, slice_get-get_or, slice_get_within}
-use Rattle.std.specs.List.{slice_get}
-use Rattle.vs_conn.specs.{End.ConnectionEnd, declared.end.Owed.Owed, declared.end.State.State, declared.end.Verdict.Verdict}
-use Rattle.vs_flow.specs.{Connection.Connection, Table.IsRising, Table.IsTable, Table.Table, Table.entry_of, Table.entry_under, Table.revalued}
-use Rattle.vs_flow.specs.{Table.without, declared.flow.Flow.Flow}
-use Rattle.vs_flow.proofs.{Entries.found_at, Entries.found_passes, Entries.none_found, Lookups.find_place, Tables.without_sound}
-use Rattle.laws_history.specs.declared.packet.Packet.{Packet}
-use Rattle.vs_page.specs.Log.{Driver, Log, flow_to_guest}
-use Rattle.vs_page.specs.Open.{is_dropped}
+use Rattle.std.proofs.lemmas.Option.{get_or_from_slice_get, slice_get_within}
+use Rattle.vs_conn.specs.End.{ConnectionEnd}
+use Rattle.vs_flow.specs.{Connection.Connection, Table.IsTable, Table.entry_under, Table.revalued, declared.flow.Flow.Flow}
+use Rattle.vs_flow.proofs.{Entries.found_passes, Entries.none_found, Lookups.find_place}
+use Rattle.vs_page.specs.Log.{Log}
 use Rattle.vs_driver_parts.specs.State.{DriverConnection, DriverEntry, DriverState, GoneConnection, entry_known_as, gone_known_as, is_known_as}
-use Rattle.vs_driver_parts.specs.Connections.{after_close, after_closing, after_leaving, after_read, after_recv, after_shut, after_shutdown}
-use Rattle.vs_driver_parts.specs.Connections.{after_unlisten, all_closed, all_gone_after_read, connected, entry_closed, entry_read, flow_of, gone_after_read}
-use Rattle.vs_driver_parts.specs.Connections.{gone_as, gone_closed, is_let_go, leaves_list, next_flow, paid_connection, shut_in, waiting_on, waits_no_more}
-use Rattle.vs_driver_parts.specs.Connections.{with_connection, with_end, with_opened, with_request, without_gone}
-use Rattle.vs_driver_parts.specs.{Conversations.after_paying, Listening.with_waiting, Listening.without_id}
-use Rattle.vs_driver_parts.specs.Receiving.{after_packet, after_reset, after_verdict, all_left, ends_connection, is_request, may_open, on_heard, on_known}
-use Rattle.vs_driver_parts.specs.Receiving.{on_packet, on_unknown, reset_reply, with_reply}
-use Rattle.vs_conn.specs.End.{is_reset}
-use Rattle.vs_replies.specs.Owed.{reply_to}
-use Rattle.vs_wrap.specs.Wrap.{counted}
-use Rattle.vs_driver_parts.proofs.{Ids.found_under, Known.flow_gone, Known.flow_known, Packets.first_under, Packets.others_left, SameIds.packet_id}
+use Rattle.vs_driver_parts.specs.Connections.{after_close, after_closing, after_leaving, after_unlisten, all_closed, all_gone_after_read}
+use Rattle.vs_driver_parts.specs.Connections.{entry_closed, flow_of, gone_after_read, gone_as, gone_closed, is_let_go, waiting_on, with_connection}
+use Rattle.vs_driver_parts.specs.{Connections.with_opened, Connections.without_gone, Listening.with_waiting, Listening.without_id}
+use Rattle.vs_driver_parts.proofs.{Ids.found_under, Known.flow_gone, Known.flow_known}
 use Rattle.laws_tables.proofs.Slots.{found_by}
 use Rattle.laws_driver.specs.Honest.{IsFitState, slots_of}
 use Rattle.laws_driver.proofs.Changing.{close_changes}
 use Rattle.laws_driver_bytes.specs.Received.{Account, AreReceived, ReceivedOn, ReceivesOn}
-use Rattle.laws_world.proofs.Listeners.{AllIds}
-use Rattle.vs_conn.specs.declared.end.Owed.TheVariants as owed
-use Rattle.vs_conn.specs.declared.end.State.TheVariants as state
-use Rattle.vs_conn.specs.declared.end.Verdict.TheVariants as verdict
+use Rattle.laws_world.proofs.{Keeping.IsKept, Keeping.StaysSame, Keeping.TableFact, Keeping.same_entry, Listeners.AllIds}
 
 -- Elements of a list that is changed.
 module _ {X : Type 0} where
@@ -84,20 +70,6 @@ found_gone test gone g is =
     let place = find_place test gone g is in
     ((place.0, slice_get_within gone place.0 g place.1, get_or_from_slice_get gone place.0 g g place.1), found_passes test gone g is)
 
--- An entry's slot is its own.
-same_entry : (t : Table DriverConnection) (x e : DriverEntry) → IsTable t → Contains t.entries x → entry_under t e.slot ≡ Some e → (x.slot == e.slot) ≡ true
-    → x ≡ e
-same_entry t x e sound there under is =
-    let at : x.slot ≡ e.slot = grind (arith, nat_tests, is) in
-    let found : entry_under t x.slot ≡ Some x =
-    found_at t.entries there.0 x sound.rising (slice_get-get_or t.entries there.0 x there.1 ∙ ap (λ (y : DriverEntry). Some y) there.2) in
-    let both : Some x ≡ Some e = sym found ∙ ap (λ (n : ℕ). entry_under t n) at ∙ under in
-    cc
-
-packet_same : (v : Verdict) (p : Packet) (c : DriverConnection) → ((after_packet v p c).closed ≡ c.closed) × ((after_packet v p c).unanswered ≡ c.unanswered)
-packet_same verdict.Deliver p c = (refl, refl)
-packet_same _ p c = (refl, refl)
-
 module _ (id : ℕ) (f : Flow) where
   -- A connection of the table has the id, and this flow. It isn't closed, and none that owes its RESPONSE.
   pub record IsNamed (e : DriverEntry) : Type 0 where
@@ -116,20 +88,15 @@ module _ (id : ℕ) (f : Flow) where
   abbrev pub HasName : DriverState → Type 0
   HasName s = HasNameIn s.table.entries s.gone
 
-  -- A connection that changes.
-  abbrev StaysNamed : DriverEntry → DriverConnection → Type 0
-  StaysNamed e c = IsNamed e → IsNamed (record e { value = c })
-
-  stays_as : (e : DriverEntry) (c : DriverConnection) → c.id ≡ e.value.id → c.closed ≡ e.value.closed → (e.value.unanswered ≡ false → c.unanswered ≡ false)
-      → StaysNamed e c
-  stays_as e c same unclosed answered n = record {
-    id_is = same ∙ n.id_is;
+  stays_named : (e : DriverEntry) (c : DriverConnection) → StaysSame e.value c → IsNamed e → IsNamed (record e { value = c })
+  stays_named e c same n = record {
+    id_is = same.id_is ∙ n.id_is;
     flow_is = n.flow_is;
-    unclosed = unclosed ∙ n.unclosed;
-    answered = answered n.answered;
+    unclosed = same.closed_is ∙ n.unclosed;
+    answered = same.answered n.answered;
   }
 
-  value_names : (s : DriverState) (e : DriverEntry) (c : DriverConnection) → IsTable s.table → entry_under s.table e.slot ≡ Some e → StaysNamed e c → HasName s
+  value_names : (s : DriverState) (e : DriverEntry) (c : DriverConnection) → IsTable s.table → entry_under s.table e.slot ≡ Some e → (IsNamed e → IsNamed (record e { value = c })) → HasName s
       → HasName (with_connection e.slot c s)
   value_names s e c sound under stays (inr gone) = inr gone
   value_names s e c sound under stays (inl (x, there, named)) = by (x.slot == e.slot) refl (contains_map (revalued e.slot c) s.table.entries x there)
@@ -142,7 +109,7 @@ module _ (id : ℕ) (f : Flow) where
           inl (record x { value = c }, now, subst (λ (y : DriverEntry). IsNamed (record y { value = c })) (sym same) (stays (subst IsNamed same named)))
 
   -- One that leaves the table.
-  leave_names : (s : DriverState) (e : DriverEntry) (c : DriverConnection) → IsTable s.table → entry_under s.table e.slot ≡ Some e → StaysNamed e c → HasName s
+  leave_names : (s : DriverState) (e : DriverEntry) (c : DriverConnection) → IsTable s.table → entry_under s.table e.slot ≡ Some e → (IsNamed e → IsNamed (record e { value = c })) → HasName s
       → HasName (after_leaving (record e { value = c }) s)
   leave_names s e c sound under stays (inr (g, there, named)) = inr (g, kept (is_let_go c), named)
     where
@@ -169,117 +136,29 @@ module _ (id : ℕ) (f : Flow) where
   open_names s g end unanswered (inr gone) = inr gone
   open_names s g end unanswered (inl (x, there, named)) = inl (x, Contains-append_left s.table.entries _ x there, named)
 
-  list_names : (b : Bool) (e : DriverEntry) (s : DriverState) → HasName s → HasName (cond b (waits_no_more e s) s)
-  list_names true e s has = has
-  list_names false e s has = has
+  gone_by : (n : ℕ) (b : Bool) (g : GoneConnection) → IsGoneAs g → IsGoneAs (cond b (record g { unread = drop n g.unread }) g)
+  gone_by n true g named = named
+  gone_by n false g named = named
 
-  pub connect_names : (host : ℕ) (s : DriverState) → HasName s → HasName (connected host s)
-  connect_names host s has = open_names s (next_flow host s) _ false has
+  read_names : (other n : ℕ) (s : DriverState) → HasName s → HasNameIn s.table.entries (all_gone_after_read other n s.gone)
+  read_names other n s (inl here) = inl here
+  read_names other n s (inr (g, there, named)) = inr (
+    gone_after_read other n g,
+    subst (λ (gs : List GoneConnection). Contains gs (gone_after_read other n g)) (sym (read_map other n s.gone))
+        (contains_map (gone_after_read other n) s.gone g there),
+    gone_by n (g.id == other) g named,
+  )
 
-  pub end_names : (end : ConnectionEnd) (e : DriverEntry) (s : DriverState) → IsTable s.table → entry_under s.table e.slot ≡ Some e → HasName s
-      → HasName (with_end end e s)
-  end_names end e s sound under has = value_names s e (record e.value { end = end }) sound under (stays_as e _ refl refl (λ is. is)) has
+  abbrev pub Named : TableFact
+  Named next entries gone = HasNameIn entries gone
 
-  -- What a connection owes is put.
-  pub pay_names : (what : Owed) (e : DriverEntry) (s : DriverState) → IsTable s.table → entry_under s.table e.slot ≡ Some e → HasName s
-      → HasName (after_paying what e s)
-  pay_names owed.Rst e s sound under has = leave_names s e e.value sound under (λ n. n) has
-  pay_names owed.Response e s sound under has =
-      value_names s e (paid_connection owed.Response e.value) sound under (stays_as e _ refl refl (λ is. refl)) has
-  pay_names what e s sound under has = value_names s e (paid_connection what e.value) sound under (stays_as e _ refl refl (λ is. is)) has
-
-  -- A packet is got.
-  module _ (p : Packet) (s : DriverState) (sound : IsTable s.table) (has : HasName s) where
-    known_names : (e : DriverEntry) → entry_under s.table e.slot ≡ Some e → (v : Verdict) → HasName (after_verdict v p e s)
-    known_names e under (verdict.Rst why) =
-        let t : DriverState = record s { broken = counted s.broken } in
-        list_names e.value.unanswered e (with_connection e.slot (after_packet (verdict.Rst why) p e.value) t)
-        (value_names t e (after_packet (verdict.Rst why) p e.value) sound under (stays_as e _ refl refl (λ is. is)) has)
-    known_names e under v = by (ends_connection v p.header)
-      where
-        stays : StaysNamed e (after_packet v p e.value)
-        stays = let same = packet_same v p e.value in stays_as e (after_packet v p e.value) (packet_id v p e.value) same.0 (λ is. same.1 ∙ is)
-
-        by : (b : Bool) → HasName (cond b (after_leaving (record e { value = after_packet v p e.value }) s) (with_connection e.slot (after_packet v p e.value) s))
-        by true = leave_names s e (after_packet v p e.value) sound under stays has
-        by false = value_names s e (after_packet v p e.value) sound under stays has
-
-    unknown_names : HasName (on_unknown p s)
-    unknown_names = by (is_reset p.header) (is_request p.header && may_open (flow_to_guest p.header) s)
-      where
-        by : (r q : Bool) → HasName (cond r s (cond q (with_request (flow_to_guest p.header) p.header s)
-            (with_reply (reply_to (flow_to_guest p.header) p.header) s)))
-        by true q = has
-        by false true = open_names s (flow_to_guest p.header) _ true has
-        by false false = has
-
-    pub packet_names : HasName (on_packet p s)
-    packet_names = by (is_dropped Driver s.cid p.header)
-      where
-        heard : (o : Option DriverEntry) → entry_of s.table (flow_to_guest p.header) ≡ o
-            → HasName (elim o as (λ _. DriverState) [ None ↦ on_unknown p s | Some e ↦ on_known p e s ])
-        heard None is = unknown_names
-        heard (Some e) is = known_names e (found_under _ s.table e sound is) _
-
-        by : (b : Bool) → HasName (cond b s (on_heard p s))
-        by true = has
-        by false = heard (entry_of s.table (flow_to_guest p.header)) refl
-
-  -- A transport reset: all leave.
-  all_left_names : (es : List DriverEntry) (s : DriverState) → s.table.entries ≡ es → IsTable s.table → HasName s → HasName (all_left es s)
-  all_left_names [] s is sound has = has
-  all_left_names (e ∷ es) s is sound has =
-      let P : List DriverEntry → Type 0 = λ xs. IsRising xs in
-      let rising : P (e ∷ es) = subst P is sound.rising in
-      let under = first_under s.table e sound (ap (λ (xs : List DriverEntry). slice_get xs 0) is) in
-      all_left_names es (with_reply (reset_reply e) (after_leaving e s))
-      (ap (λ (xs : List DriverEntry). filter (λ x. not (x.slot == e.slot)) xs) is ∙ others_left e es rising)
-      (without_sound s.table e.slot sound) (leave_names s e e.value sound under (λ n. n) has)
-
-  pub reset_names : (cid : ℕ) (s : DriverState) → IsTable s.table → HasName s → HasName (after_reset cid s)
-  reset_names cid s sound has = all_left_names s.table.entries (record s { cid = cid }) refl sound has
-
-  -- recv and shutdown.
-  known_under : (other : ℕ) (s : DriverState) (e : DriverEntry) → IsTable s.table → entry_known_as other s ≡ Some e → entry_under s.table e.slot ≡ Some e
-  known_under other s e sound is = found_under (is_known_as other) s.table e sound is
-
-  pub recv_names : (other n : ℕ) (s : DriverState) → IsTable s.table → HasName s → HasName (after_recv other n s)
-  recv_names other n s sound has = by (entry_known_as other s) refl
-    where
-      read : (b : Bool) (e : DriverEntry) → entry_under s.table e.slot ≡ Some e → HasName (cond b s (with_connection e.slot (after_read n e.value) s))
-      read true e under = has
-      read false e under = value_names s e (after_read n e.value) sound under (stays_as e _ refl refl (λ is. is)) has
-
-      gone_by : (b : Bool) (g : GoneConnection) → IsGoneAs g → IsGoneAs (cond b (record g { unread = drop n g.unread }) g)
-      gone_by true g named = named
-      gone_by false g named = named
-
-      gone_read : HasName s → HasNameIn s.table.entries (all_gone_after_read other n s.gone)
-      gone_read (inl here) = inl here
-      gone_read (inr (g, there, named)) =
-          inr (
-            gone_after_read other n g,
-            subst (λ (gs : List GoneConnection). Contains gs (gone_after_read other n g)) (sym (read_map other n s.gone))
-                (contains_map (gone_after_read other n) s.gone g there),
-            gone_by (g.id == other) g named,
-          )
-
-      by : (o : Option DriverEntry) → entry_known_as other s ≡ o
-          → HasName (elim o as (λ _. DriverState) [ Some e ↦ entry_read n e s | None ↦ record s { gone = all_gone_after_read other n s.gone } ])
-      by None is = gone_read has
-      by (Some e) is = read (length e.value.unread == 0) e (known_under other s e sound is)
-
-  pub shutdown_names : (other bits : ℕ) (s : DriverState) → IsTable s.table → HasName s → HasName (after_shutdown other bits s)
-  shutdown_names other bits s sound has = by (entry_known_as other s) refl
-    where
-      shut : (st : State) (e : DriverEntry) → entry_under s.table e.slot ≡ Some e → HasName (shut_in st bits e s)
-      shut state.Live e under = value_names s e (after_shut bits e.value) sound under (stays_as e _ refl refl (λ is. is)) has
-      shut _ e under = has
-
-      by : (o : Option DriverEntry) → entry_known_as other s ≡ o
-          → HasName (elim o as (λ _. DriverState) [ Some e ↦ shut_in e.value.end.state bits e s | None ↦ s ])
-      by None is = has
-      by (Some e) is = shut e.value.end.state e (known_under other s e sound is)
+  pub names_kept : IsKept Named
+  names_kept = record {
+    changes = λ s e c sound under same has. value_names s e c sound under (stays_named e c same) has;
+    leaves = λ s e c sound under same has. leave_names s e c sound under (stays_named e c same) has;
+    opens = open_names;
+    reads = read_names;
+  }
 
   -- close, of another id.
   module _ (other : ℕ) (apart : other ≢ id) (s : DriverState) where
@@ -303,7 +182,7 @@ module _ (id : ℕ) (f : Flow) where
         by (Some e) is =
             let passes = found_passes (is_known_as other) s.table.entries e is in
             let at : e.value.id ≡ other = grind (arith, nat_tests, passes) in
-            value_names s e (after_closing e.value.end.state e.value) sound (known_under other s e sound is)
+            value_names s e (after_closing e.value.end.state e.value) sound (found_under (is_known_as other) s.table e sound is)
             (λ n. absurd (apart (sym at ∙ n.id_is))) has
 
   -- unlisten, where the id doesn't wait.

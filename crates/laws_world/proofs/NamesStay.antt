@@ -1,15 +1,15 @@
 -- An id that the guest was told keeps its flow until it closes the id, over every list of events.
-use Rattle.std.proofs.Common.{◌≡◌, ◌≢◌, ℕ, suc, ◌+◌, ◌<◌, ◌≤◌, ◌==◌, ◌&&◌, ◌⊎◌, inl, inr, not, nat_le, Bool, true, false, cond, List, [], ◌∷◌, ◌++◌, length, find}
-use Rattle.std.proofs.Common.{Contains, Option, Some, None, Result, Ok, Err, is_some, refl, sym, ap, subst, ◌∙◌, arith}
+use Rattle.std.proofs.Common.{◌≡◌, ◌≢◌, ℕ, suc, ◌<◌, ◌≤◌, ◌==◌, ◌&&◌, inl, inr, not, Bool, true, false, cond, find}
+use Rattle.std.proofs.Common.{Option, Some, None, Result, Ok, Err, is_some, refl, sym, ap, subst, ◌∙◌, arith}
 use Rattle.std.proofs.lemmas.Bool.Decides.{nat_tests}
 use Rattle.std.proofs.lemmas.List.Elements.{Contains-push}
 use Rattle.vs_contents.specs.CallTree.{played}
 use Rattle.vs_ring_port.specs.{DriverCalls.driver_answer, EndLog.EndLog, Lists.Rings, declared.queue.Queue.Queue}
 use Rattle.vs_ring_port.specs.declared.queue.Queue.TheVariants.{Rx, Tx, Event as EventQueue}
-use Rattle.vs_flow.specs.{Connection.Connection, Connection.first_of, declared.flow.Flow.Flow}
+use Rattle.vs_flow.specs.{declared.flow.Flow.Flow}
 use Rattle.vs_flow.proofs.Entries.{found_passes}
-use Rattle.vs_driver_parts.specs.Connections.{after_unlisten, connected, flow_of, next_flow, waiting_on}
-use Rattle.vs_driver_parts.specs.{Conversations.DriverTree, Conversations.connect_of, Conversations.publish_of, Steps.stages_owed, Steps.stages_reply}
+use Rattle.vs_driver_parts.specs.Connections.{after_unlisten, connected, next_flow}
+use Rattle.vs_driver_parts.specs.{Conversations.connect_of, Conversations.publish_of, Steps.stages_owed, Steps.stages_reply}
 use Rattle.vs_driver_parts.specs.{Steps.takes_page, State.DriverEntry, State.DriverState, State.GoneConnection, State.Listener, State.entry_known_as}
 use Rattle.vs_driver_parts.specs.State.{gone_known_as, is_known_as}
 use Rattle.vs_driver_parts.specs.Listening.{accept_of, after_accept, is_answered, listen_of, listener_on, listening, next_accepted, with_waiting, without_id}
@@ -17,22 +17,21 @@ use Rattle.vs_driver_parts.specs.Receiving.{on_packet}
 use Rattle.vs_driver_parts.specs.declared.answers.{Accepted.Accepted, ConnectError.ConnectError, ListenError.ListenError}
 use Rattle.vs_driver_parts.proofs.Ids.{found_under}
 use Rattle.laws_tables.proofs.Slots.{found_by}
-use Rattle.laws_driver.specs.Honest.{IsFitState, slots_of}
-use Rattle.laws_driver_bytes.specs.Calls.{Accept, Close, Connect, GuestCall, Journal, Listen, LookAt, Recv, Send, Shutdown, Unlisten, account_of, makes_call}
-use Rattle.laws_world.specs.Events.{Event, GuestCalls, GuestTakes, GuestReplies, GuestPays, GuestPublishes, DeviceTakes, DeviceReturns, DevicePutsEvent}
-use Rattle.laws_world.specs.Events.{DeviceReplies, DeviceReads, DevicePays, DeviceWrites, DeviceShutsWrite, ProxyAccepts, ProxyReads, TimesOut}
-use Rattle.laws_world.specs.Events.{HandshakeTimesOut, Reset, call_made, driver_step, happens, has_failed, run, where_possible, works_on, is_at_rest}
-use Rattle.laws_world.specs.Events.{holds, holds_event, is_guest_cid, reset_made}
+use Rattle.laws_driver.specs.Honest.{IsFitState}
+use Rattle.laws_driver_bytes.specs.Calls.{Accept, Close, Connect, GuestCall, Listen, LookAt, Recv, Send, Shutdown, Unlisten, account_of, makes_call}
+use Rattle.laws_world.specs.Events.{call_made}
 use Rattle.laws_world.specs.Names.{HasFlow, is_close, times_closed}
-use Rattle.laws_world.specs.{Sides.both_of, Sides.log_with_staged, Steps.Leads, World.World, World.driver_plays}
-use Rattle.laws_world.proofs.DriverEnds.{EndsIn, Sees, Sight, connect_ends, connects_ends, ends_driver, event_ends, owed_ends, publish_ends, reply_ends, rx_ends}
+use Rattle.laws_world.specs.{Sides.log_with_staged, Steps.Leads, World.World, World.driver_plays}
+use Rattle.laws_world.proofs.DriverEnds.{Sees, Sight, connect_ends, connects_ends, ends_driver, event_ends, owed_ends, publish_ends, reply_ends, rx_ends}
 use Rattle.laws_world.proofs.DriverEnds.{send_ends, tx_ends}
 use Rattle.laws_world.proofs.Listeners.{AllWait, IsOfPort, IsOther, accepted_other, ids_found, wait_found, wait_less, wait_weaker, waiting_all}
-use Rattle.laws_world.proofs.Names.{HasName, HasNameIn, IsNamed, close_names, connect_names, end_names, flow_opened, id_given, name_flow}
-use Rattle.laws_world.proofs.Names.{packet_names, pay_names, recv_names, reset_names, shutdown_names, unlisten_names, found_gone}
-use Rattle.laws_world.proofs.Waiters.{IsNewAt, OrNew, accept_waits, close_waits, listen_waits, packet_waits, pay_waits, recv_waits, reset_waits, shutdown_waits}
+use Rattle.laws_world.proofs.Keeping.{connect_kept, end_kept, packet_kept, pay_kept, recv_kept, reset_kept, shutdown_kept}
+use Rattle.laws_world.proofs.Names.{HasName, HasNameIn, Named, close_names, flow_opened, found_gone, id_given, name_flow, names_kept}
+use Rattle.laws_world.proofs.Names.{unlisten_names}
+use Rattle.laws_world.proofs.EventWalks.{Walks, run_walks}
+use Rattle.laws_world.proofs.Waiters.{OrNew, close_waits, listen_waits, packet_waits, pay_waits, recv_waits, reset_waits, shutdown_waits}
 use Rattle.laws_world.proofs.Waiters.{unlisten_waits}
-use Rattle.laws_world.proofs.{Carried.one_id, Opening.run_goes, Sound.IsWell, Sound.happens_goes}
+use Rattle.laws_world.proofs.{Carried.one_id, Sound.IsWell}
 use Rattle.vs_driver_parts.specs.declared.answers.Accepted.TheVariants as accepted
 
 at_most : (b : Bool) (n : ℕ) → n ≤ cond b (suc n) n
@@ -63,16 +62,16 @@ module _ (id : ℕ) (f : Flow) where
     takes_told : (queue : Queue) → WasTold (played driver_answer (takes_page queue s) r).0
     takes_told Tx = ends_driver WasTold (takes_page Tx s) r (tx_ends IsTold s told)
     takes_told Rx = ends_driver WasTold (takes_page Rx s) r
-        (rx_ends IsTold s told (λ p. heard s.next_id refl (on_packet p s) (packet_names id f p s fits.sound told.0) (packet_waits (IsOther id) p s told.1)))
+        (rx_ends IsTold s told (λ p. heard s.next_id refl (on_packet p s) (packet_kept (Named id f) (names_kept id f) p s fits.sound told.0) (packet_waits (IsOther id) p s told.1)))
     takes_told EventQueue = ends_driver WasTold (takes_page EventQueue s) r
-        (event_ends IsTold s told (λ cid. (reset_names id f cid s fits.sound told.0, reset_waits (IsOther id) cid s told.1)))
+        (event_ends IsTold s told (λ cid. (reset_kept (Named id f) (names_kept id f) cid s fits.sound told.0, reset_waits (IsOther id) cid s told.1)))
 
     replies_told : WasTold (played driver_answer (stages_reply s) r).0
     replies_told = ends_driver WasTold (stages_reply s) r (reply_ends IsTold s told)
 
     pays_told : (slot : ℕ) → WasTold (played driver_answer (stages_owed slot s) r).0
     pays_told slot = ends_driver WasTold (stages_owed slot s) r (owed_ends IsTold slot s told
-        (λ what e is. (pay_names id f what e s fits.sound (found_under _ s.table e fits.sound is) told.0, pay_waits (IsOther id) what e s told.1)))
+        (λ what e is. (pay_kept (Named id f) (names_kept id f) what e s fits.sound (found_under _ s.table e fits.sound is) told.0, pay_waits (IsOther id) what e s told.1)))
 
     publishes_told : (queue : Queue) → WasTold (played driver_answer (publish_of queue s) r).0
     publishes_told queue = ends_driver WasTold (publish_of queue s) r (publish_ends IsTold queue s told)
@@ -80,9 +79,9 @@ module _ (id : ℕ) (f : Flow) where
     -- The guest's calls, but for a close of the id.
     call_told : (call : GuestCall) → is_close id call ≡ false → WasTold (played driver_answer (makes_call call s) r).0.0
     call_told (Connect port) other = ends_driver (λ x. WasTold x.0) (makes_call (Connect port) s) r
-        (connects_ends IsTold (λ r. IsTold) (λ why t see. see) (λ host t see. (connect_names id f host t see.0, see.1)) port s told)
+        (connects_ends IsTold (λ r. IsTold) (λ why t see. see) (λ host t see. (connect_kept (Named id f) (names_kept id f) host t see.0, see.1)) port s told)
     call_told (Send to bytes) other = ends_driver (λ x. WasTold x.0) (makes_call (Send to bytes) s) r
-        (send_ends IsTold to bytes s told (λ end e is. (end_names id f end e s fits.sound (found_under (is_known_as to) s.table e fits.sound is) told.0, told.1)))
+        (send_ends IsTold to bytes s told (λ end e is. (end_kept (Named id f) (names_kept id f) end e s fits.sound (found_under (is_known_as to) s.table e fits.sound is) told.0, told.1)))
     call_told (Listen port) other = by (listen_of port s)
       where
         by : (o : Result (Unit {0}) ListenError) → WasTold (elim o as (λ _. DriverState) [ Ok x ↦ listening port s | Err why ↦ s ])
@@ -98,8 +97,8 @@ module _ (id : ℕ) (f : Flow) where
         by : (o : Option ℕ) → WasTold (elim o as (λ _. DriverState) [ None ↦ s | Some x ↦ record s { listeners = with_waiting port (without_id x) s.listeners } ])
         by None = told
         by (Some x) = (told.0, wait_less (IsOther id) port x s.listeners told.1)
-    call_told (Recv from n) other = (recv_names id f from n s fits.sound told.0, recv_waits (IsOther id) from n s told.1)
-    call_told (Shutdown at bits) other = (shutdown_names id f at bits s fits.sound told.0, shutdown_waits (IsOther id) at bits s told.1)
+    call_told (Recv from n) other = (recv_kept (Named id f) (names_kept id f) from n s fits.sound told.0, recv_waits (IsOther id) from n s told.1)
+    call_told (Shutdown at bits) other = (shutdown_kept (Named id f) (names_kept id f) at bits s fits.sound told.0, shutdown_waits (IsOther id) at bits s told.1)
     call_told (Close at) other =
         (close_names id f at (λ (same : at ≡ id). grind (arith, nat_tests, other, same)) s fits.sound told.0, close_waits (IsOther id) at s told.1)
     call_told (LookAt at) other = told
@@ -109,16 +108,10 @@ module _ (id : ℕ) (f : Flow) where
     pub closed : times_closed id w.journal ≤ times_closed id v.journal
     pub stays : times_closed id v.journal ≡ times_closed id w.journal → WasTold w.driver → WasTold v.driver
 
-  still : (w : World) → StaysTold w w
-  still w = record { closed = omega arith; stays = λ same told. told }
-
-  either : (b : Bool) (w v : World) → StaysTold w v → StaysTold w (cond b v w)
-  either true w v on = on
-  either false w v on = still w
-
-  unless : (b : Bool) (w v : World) → StaysTold w v → StaysTold w (cond b w v)
-  unless true w v on = still w
-  unless false w v on = on
+  as_before : (w v : World) → v.driver ≡ w.driver → v.journal ≡ w.journal → StaysTold w v
+  as_before w v driver journal =
+      let times = ap (times_closed id) journal in
+      record { closed = omega (arith, times); stays = λ same told. subst WasTold (sym driver) told }
 
   and_then : (u v w : World) → StaysTold u v → StaysTold v w → StaysTold u w
   and_then u v w one two =
@@ -136,10 +129,6 @@ module _ (id : ℕ) (f : Flow) where
     abbrev here : Rings × EndLog
     here = (w.rings.lists, w.rings.driver)
 
-    step_told : (step : DriverState → DriverTree DriverState) → (WasTold w.driver → WasTold (played driver_answer (step w.driver) here).0)
-        → StaysTold w (driver_step step w)
-    step_told step keeps = record { closed = omega arith; stays = λ same told. keeps told }
-
     call_stays : (call : GuestCall) → StaysTold w (call_made call w).0
     call_stays call = record {
       closed = at_most (is_close id call) (times_closed id w.journal);
@@ -147,40 +136,20 @@ module _ (id : ℕ) (f : Flow) where
           call_told w.driver well.driver (given_id told) told here call (not_more (is_close id call) (times_closed id w.journal) same);
     }
 
-    pub happens_told : (e : Event) → StaysTold w (happens e w)
-    happens_told (GuestCalls call) = either _ w (call_made call w).0 (call_stays call)
-    happens_told (GuestTakes queue) = either (works_on queue w.rings.driver.staged) w (driver_step (takes_page queue) w)
-        (step_told (takes_page queue) (λ told. takes_told w.driver well.driver (given_id told) told here queue))
-    happens_told GuestReplies = either (works_on Tx w.rings.driver.staged) w (driver_step stages_reply w)
-        (step_told stages_reply (λ told. replies_told w.driver well.driver (given_id told) told here))
-    happens_told (GuestPays slot) = either (works_on Tx w.rings.driver.staged) w (driver_step (stages_owed slot) w)
-        (step_told (stages_owed slot) (λ told. pays_told w.driver well.driver (given_id told) told here slot))
-    happens_told (GuestPublishes queue) = either (works_on queue w.rings.driver.staged) w (driver_step (publish_of queue) w)
-        (step_told (publish_of queue) (λ told. publishes_told w.driver well.driver (given_id told) told here queue))
-    happens_told (DeviceTakes queue) = unless (has_failed w) w _ (record { closed = omega arith; stays = λ same told. told })
-    happens_told (DeviceReturns chain) = either (holds Tx chain w) w _ (record { closed = omega arith; stays = λ same told. told })
-    happens_told (DevicePutsEvent chain) = either (holds_event chain w) w _ (record { closed = omega arith; stays = λ same told. told })
-    happens_told DeviceReplies = unless (has_failed w) w _ (record { closed = omega arith; stays = λ same told. told })
-    happens_told (DeviceReads slot) = unless (has_failed w) w _ (record { closed = omega arith; stays = λ same told. told })
-    happens_told (DevicePays slot) = unless (has_failed w) w _ (record { closed = omega arith; stays = λ same told. told })
-    happens_told (DeviceWrites slot) = unless (has_failed w) w _ (record { closed = omega arith; stays = λ same told. told })
-    happens_told (DeviceShutsWrite slot) = unless (has_failed w) w _ (record { closed = omega arith; stays = λ same told. told })
-    happens_told ProxyAccepts = unless (has_failed w) w _ (record { closed = omega arith; stays = λ same told. told })
-    happens_told (ProxyReads stream) = unless (has_failed w) w _ (record { closed = omega arith; stays = λ same told. told })
-    happens_told (TimesOut slot) = unless (has_failed w) w _ (record { closed = omega arith; stays = λ same told. told })
-    happens_told (HandshakeTimesOut stream) = unless (has_failed w) w _ (record { closed = omega arith; stays = λ same told. told })
-    happens_told (Reset cid) = either (is_guest_cid cid) w (reset_made cid w) (record { closed = omega arith; stays = λ same told. told })
-    happens_told e = record { closed = omega arith; stays = λ same told. told }
-
-  pub run_told : {fresh : Type 0} (es : List Event) (w : World) → IsWell fresh w → StaysTold w (run es w)
-  run_told [] w well = still w
-  run_told {fresh = fresh} (e ∷ es) w well =
-      and_then w (happens e w) (run es (happens e w)) (happens_told w well e) (run_told {fresh = fresh} es (happens e w) (happens_goes fresh w well e).well)
+    walks_told : Walks StaysTold as_before w
+    walks_told = record {
+      takes = λ queue. record { closed = omega arith; stays = λ same told. takes_told w.driver well.driver (given_id told) told here queue };
+      replies = record { closed = omega arith; stays = λ same told. replies_told w.driver well.driver (given_id told) told here };
+      pays = λ slot. record { closed = omega arith; stays = λ same told. pays_told w.driver well.driver (given_id told) told here slot };
+      publishes = λ queue. record { closed = omega arith; stays = λ same told. publishes_told w.driver well.driver (given_id told) told here queue };
+      calls = call_stays;
+    }
 
   -- So over all that leads from one world to another.
   pub leads_told : {fresh : Type 0} (w v : World) → IsWell fresh w → Leads w v → times_closed id v.journal ≡ times_closed id w.journal → WasTold w.driver
       → WasTold v.driver
-  leads_told w v well leads = (subst (StaysTold w) leads.1 (run_told leads.0 w well)).stays
+  leads_told {fresh = fresh} w v well leads =
+      (subst (StaysTold w) leads.1 (run_walks StaysTold as_before fresh and_then (λ u well. walks_told u well) leads.0 w well)).stays
 
   -- And that is the flow that the driver tells, and tells of no other id.
   pub told_flow : {fresh : Type 0} (w : World) → IsWell fresh w → WasTold w.driver → HasFlow id f w.driver

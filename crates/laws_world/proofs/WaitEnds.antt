@@ -1,15 +1,14 @@
 -- Who waits after each step of the driver and each call of the guest's.
-use Rattle.std.proofs.Common.{◌≡◌, ℕ, Bool, true, false, cond, List, Option, Some, Result, Ok, Err, is_some}
+use Rattle.std.proofs.Common.{ℕ, Bool, true, false, Result, Ok, Err, is_some}
 use Rattle.vs_contents.specs.CallTree.{played}
-use Rattle.vs_contents.proofs.Leads.{AllEnds, ends_weaker}
-use Rattle.vs_ring_port.specs.{DriverCalls.DriverAnswer, DriverCalls.DriverCall, EndLog.EndLog, Lists.Rings, declared.queue.Queue.Queue}
+use Rattle.vs_ring_port.specs.{EndLog.EndLog, Lists.Rings, declared.queue.Queue.Queue}
 use Rattle.vs_ring_port.specs.declared.queue.Queue.TheVariants.{Rx, Tx, Event}
 use Rattle.vs_ring_port.specs.DriverCalls.{driver_answer}
 use Rattle.vs_driver_parts.specs.{Conversations.after_paying, Receiving.after_reset, Conversations.publish_of, State.DriverState, Steps.stages_owed, Steps.stages_reply, Steps.takes_page}
 use Rattle.vs_driver_parts.specs.{Connections.after_unlisten, Listening.listen_of, Listening.listener_on, Listening.listening}
 use Rattle.vs_driver_parts.specs.declared.answers.ListenError.{ListenError}
 use Rattle.laws_driver_bytes.specs.Calls.{Accept, Close, Connect, GuestCall, Listen, LookAt, Recv, Send, Shutdown, Unlisten, makes_call}
-use Rattle.laws_world.proofs.DriverEnds.{EndsIn, Sight, connects_ends, ends_driver, event_ends, owed_ends, publish_ends, reply_ends, rx_ends, send_ends, tx_ends}
+use Rattle.laws_world.proofs.DriverEnds.{Sight, connects_ends, ends_driver, event_ends, owed_ends, publish_ends, reply_ends, rx_ends, send_ends, tx_ends}
 use Rattle.laws_world.proofs.Listeners.{AllWait}
 use Rattle.laws_world.proofs.Waiters.{OrNew, accept_waits, as_before, close_waits, listen_waits, packet_waits, pay_waits, recv_waits, reset_waits}
 use Rattle.laws_world.proofs.Waiters.{shutdown_waits, unlisten_waits}

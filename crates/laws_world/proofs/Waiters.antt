@@ -1,15 +1,15 @@
 -- Who waits after each change of the driver: those who waited, and a connection that opens at a REQUEST.
-use Rattle.std.proofs.Common.{◌≡◌, ◌≢◌, ℕ, ◌+◌, ◌<◌, ◌≤◌, ◌==◌, ◌&&◌, ◌⊎◌, inl, inr, Bool, true, false, cond, List, [], ◌∷◌, ◌++◌, length, find, Option}
-use Rattle.std.proofs.Common.{Contains, Some, None, refl, sym, ap, subst, ◌∙◌, arith}
+use Rattle.std.proofs.Common.{◌≡◌, ℕ, ◌≤◌, ◌==◌, ◌&&◌, ◌⊎◌, inl, inr, Bool, true, false, cond, List, [], ◌∷◌, length, Option}
+use Rattle.std.proofs.Common.{Contains, Some, None, refl, sym, ap, subst, ◌∙◌}
 use Rattle.std.proofs.lemmas.List.Elements.{All-contains, Contains-push}
 use Rattle.vs_conn.specs.{End.is_reset, declared.end.Owed.Owed, declared.end.State.State, declared.end.Verdict.Verdict}
-use Rattle.vs_flow.specs.{Connection.Connection, Table.entry_of, declared.flow.Flow.Flow}
+use Rattle.vs_flow.specs.{Connection.Connection, Table.entry_of}
 use Rattle.laws_history.specs.declared.packet.Packet.{Packet}
 use Rattle.vs_page.specs.{Log.Driver, Log.Log, Log.flow_to_guest, Open.is_dropped}
 use Rattle.vs_replies.specs.Owed.{reply_to}
 use Rattle.vs_driver_parts.specs.State.{DriverEntry, DriverState, GoneConnection, entry_known_as, gone_known_as}
 use Rattle.vs_driver_parts.specs.Connections.{after_close, after_leaving, after_read, after_recv, after_shutdown, after_unlisten, all_closed, all_gone_after_read}
-use Rattle.vs_driver_parts.specs.Connections.{entry_closed, entry_read, gone_closed, leaves_list, shut_in, waiting_on, waits_no_more, with_connection, with_request}
+use Rattle.vs_driver_parts.specs.Connections.{entry_closed, entry_read, gone_closed, shut_in, waiting_on, waits_no_more, with_connection, with_request}
 use Rattle.vs_driver_parts.specs.Connections.{without_gone}
 use Rattle.vs_driver_parts.specs.{Conversations.after_paying, Listening.after_accept, Listening.listening, Listening.next_accepted, Listening.with_waiting}
 use Rattle.vs_driver_parts.specs.Listening.{without_id}

@@ -1,5 +1,5 @@
 -- Ids and their flows: what the driver tells of an id, and how often its guest closed it.
-use Rattle.std.specs.Prelude.{◌≡◌, ℕ, suc, ◌==◌, Bool, true, false, if◌then◌else◌, List, [], ◌∷◌, Some}
+use Rattle.std.specs.Prelude.{◌≡◌, ℕ, suc, ◌==◌, Bool, false, if◌then◌else◌, [], ◌∷◌, Some}
 use Rattle.vs_flow.specs.declared.flow.Flow.{Flow}
 use Rattle.vs_driver_parts.specs.{Connections.flow_of, State.DriverState}
 use Rattle.laws_driver_bytes.specs.Calls.{Close, GuestCall, Journal}
