@@ -27,7 +27,8 @@ holds_if P false x y a b = b
 holds_ending : {X : Type 0} (P : X → Type 0) (x : X) (words : List (List ℕ)) → P x → Holds P (ending x words)
 holds_ending P x words h = holds_if P (is_empty words) (Ok x) _ h tt
 
-holds_named : {X Y : Type 0} (Q : X → Type 0) (P : Y → Type 0) (f : X → Y) (r : Result X Why) → Holds Q r → ((x : X) → Q x → P (f x)) → Holds P (named f r)
+holds_named : {X Y : Type 0} (Q : X → Type 0) (P : Y → Type 0) (f : X → Y) (r : Result X Why) → Holds Q r → ((x : X) → Q x → P (f x))
+    → Holds P (named f r)
 holds_named Q P f (Ok x) h each = each x h
 holds_named Q P f (Err why) h each = tt
 
@@ -49,7 +50,8 @@ bits_of : (b : Bool) (n : ℕ) (words : List (List ℕ))
 bits_of true n words = bits_within n (nat_le 1 n && nat_le n MAX_BITS) refl words
 bits_of false n words = tt
 
-bits_read : (r : Read (List ℕ)) → Holds IsRight (named Shutdown (after (after r (λ w rest. held BadNumber (number_in 1 MAX_BITS w) rest)) ending))
+bits_read : (r : Read (List ℕ))
+    → Holds IsRight (named Shutdown (after (after r (λ w rest. held BadNumber (number_in 1 MAX_BITS w) rest)) ending))
 bits_read (Ok found) = bits_of (is_numeral found.0) (digits_value 10 found.0) found.1
 bits_read (Err why) = tt
 

@@ -1,11 +1,13 @@
 -- How the lines of a report add up.
-use Rattle.std.proofs.Common.{◌≡◌, ℕ, zero, suc, ◌+◌, if◌then◌else◌, Bool, true, false, List, [], ◌∷◌, ◌++◌, map, Result, Ok, Err, OnOk, refl}
+use Rattle.std.proofs.Common.{◌≡◌, ℕ, zero, suc, ◌+◌, if◌then◌else◌, Bool, true, false, List, [], ◌∷◌, ◌++◌, map, Result, Ok, Err, OnOk}
+use Rattle.std.proofs.Common.{refl}
 use Rattle.std.proofs.Common.{sym, ap, ◌∙◌, arith, append_assoc, append-nil}
 use Rattle.std.specs.List.{flat_map, range_with_len}
 use Rattle.std.proofs.lemmas.List.{flat_map_more, map-append}
 use Rattle.vs_report.specs.Gives.{joined}
 use Rattle.vs_report.proofs.LinesGiven.{joined_append}
-use Rattle.vs_run_report.specs.{Endings.is_done, Report.status_after, Report.status_of, declared.ending.Ending.Ending, declared.report.TheConstants.WAITED}
+use Rattle.vs_run_report.specs.{Endings.is_done, Report.status_after, Report.status_of, declared.ending.Ending.Ending}
+use Rattle.vs_run_report.specs.{declared.report.TheConstants.WAITED}
 
 -- numbers from a on, and the next one
 range_from : (a n : ℕ) → range_with_len a (n + 1) ≡ range_with_len a n ++ (a + n) ∷ []
@@ -43,7 +45,8 @@ module _ (old mid new : List ℕ) where
       ∙ ap (λ (ks : List X). old ++ joined (map t (flat_map g ks))) (sym all)
 
 -- The same of functions that may want memory: three lines, and three parts.
-pub ok_lines : {E : Type 0} (r : Result (Unit {0}) E) (old mid low new a b c : List ℕ) → mid ≡ old ++ a → low ≡ mid ++ b → OnOk r (new ≡ low ++ c)
+pub ok_lines : {E : Type 0} (r : Result (Unit {0}) E) (old mid low new a b c : List ℕ) → mid ≡ old ++ a → low ≡ mid ++ b
+    → OnOk r (new ≡ low ++ c)
     → OnOk r (new ≡ old ++ joined (a ∷ b ∷ c ∷ []))
 ok_lines (Err e) old mid low new a b c first second is = tt
 ok_lines (Ok u) old mid low new a b c first second is =

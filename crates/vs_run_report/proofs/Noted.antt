@@ -1,5 +1,6 @@
 -- What a noted wait says of how apps end.
-use Rattle.std.proofs.Common.{◌≡◌, ◌<◌, ℕ, zero, suc, ◌+◌, ◌==◌, nat_lt, Bool, true, false, cond, List, [], ◌∷◌, ◌++◌, length, Option, Some, None}
+use Rattle.std.proofs.Common.{◌≡◌, ◌<◌, ℕ, zero, suc, ◌+◌, ◌==◌, nat_lt, Bool, true, false, cond, List, [], ◌∷◌, ◌++◌, length, Option}
+use Rattle.std.proofs.Common.{Some, None}
 use Rattle.std.proofs.{Common.refl, Common.sym, Common.ap, Common.◌∙◌, Common.arith, Common.slice_set, lemmas.Bool.Decides.nat_tests}
 use Rattle.std.specs.{Option.unwrap_or, Prelude.slice_get}
 use Rattle.vs_apps_parts.specs.Journals.{entry_waited, one_more, times_at, times_in, wait_noted, wait_place, waited_before}
@@ -58,7 +59,8 @@ waited_there k times (Some place) es is = waited_at k place times es is
 abbrev why_of : Option Entry → Option WaitsFor
 why_of o = elim o as (λ _. Option WaitsFor) [ None ↦ None | Some e ↦ why_in e ]
 
-noted : (k : ℕ) (why : WaitsFor) (last : Option ℕ) (es : List Entry) → why_at (Some (wait_place k last es)) (wait_noted k why last es) ≡ Some why
+noted : (k : ℕ) (why : WaitsFor) (last : Option ℕ) (es : List Entry)
+    → why_at (Some (wait_place k last es)) (wait_noted k why last es) ≡ Some why
 noted k why last es = by (waited_before k last es) refl
   where
     by : (o : Option ℕ) → waited_before k last es ≡ o
@@ -72,7 +74,8 @@ noted k why last es = by (waited_before k last es) refl
         let there = waited_there k times last es is in
         ap why_of (at_set es (unwrap_or last 0) (entry_waited k (one_more times) why) there.0 there.1)
 
-pub kept : (k place : ℕ) (why : WaitsFor) (last : Option ℕ) (es : List Entry) (e : Entry) → slice_get es place ≡ Some e → (e.app == k) ≡ false
+pub kept : (k place : ℕ) (why : WaitsFor) (last : Option ℕ) (es : List Entry) (e : Entry) → slice_get es place ≡ Some e
+    → (e.app == k) ≡ false
     → slice_get (wait_noted k why last es) place ≡ Some e
 kept k place why last es e at other = by (waited_before k last es) refl
   where
@@ -99,7 +102,8 @@ waits_so count k why state es less = by (nat_lt state.progress.at count) refl
     by true is = ap (ending_at (state.progress.at + 1)) (noted k why state.waiting es)
     by false is = absurd (grind (arith, nat_tests))
 
-pub waits_on : (count k place : ℕ) (why : WaitsFor) (last : Option ℕ) (state : AppState) (es : List Entry) (e : Entry) → state.waiting ≡ Some place
+pub waits_on : (count k place : ℕ) (why : WaitsFor) (last : Option ℕ) (state : AppState) (es : List Entry) (e : Entry)
+    → state.waiting ≡ Some place
     → slice_get es place ≡ Some e → (e.app == k) ≡ false → ending_of count state (wait_noted k why last es) ≡ ending_of count state es
 waits_on count k place why last state es e is at other =
     ap (λ (o : Option WaitsFor). cond (nat_lt state.progress.at count) (ending_at (state.progress.at + 1) o) ending.Done)

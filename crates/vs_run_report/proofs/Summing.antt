@@ -5,7 +5,8 @@ use Rattle.std.proofs.lemmas.List.{length-append, length-drop, length-take}
 use Rattle.std.proofs.lemmas.List.FromFn.{length-map-range_with_len}
 use Rattle.vs_script.specs.Data.{Content, Fill, Given, bytes_of, filled, size_of}
 use Rattle.laws_driver_bytes.specs.{Calls.Journal, Calls.bytes_received, Calls.bytes_sent, Calls.names, Calls.received_by, Sent.took}
-use Rattle.vs_apps_parts.specs.{Journals.calls_of, Journals.data_at, Journals.gathered, Journals.made_by, Journals.made_of, Journals.sent_as}
+use Rattle.vs_apps_parts.specs.{Journals.calls_of, Journals.data_at, Journals.gathered, Journals.made_by, Journals.made_of}
+use Rattle.vs_apps_parts.specs.{Journals.sent_as}
 use Rattle.vs_apps_parts.specs.{Scripts.RunScript, Scripts.acts_of, Scripts.slice_of}
 use Rattle.vs_apps_parts.specs.declared.journal.{Called.Called, Deed.Deed, Entry.Entry}
 use Rattle.vs_apps_parts.specs.declared.journal.Called.TheVariants as called

@@ -1,5 +1,6 @@
 -- A step that waits does so for what its instruction may wait for.
-use Rattle.std.proofs.Common.{◌≡◌, ◌||◌, ℕ, nat_lt, if◌then◌else◌, Bool, true, false, List, [], ◌∷◌, ◌++◌, length, Option, Some, None, Result}
+use Rattle.std.proofs.Common.{◌≡◌, ◌||◌, ℕ, nat_lt, if◌then◌else◌, Bool, true, false, List, [], ◌∷◌, ◌++◌, length, Option, Some, None}
+use Rattle.std.proofs.Common.{Result}
 use Rattle.std.proofs.Common.{Ok, Err, refl, ap, subst, arith}
 use Rattle.vs_script.specs.{App.Act, Data.Content, Data.size_of}
 use Rattle.vs_script.specs.App as act
@@ -170,6 +171,7 @@ step_waits (act.Exchange c) p ms is = exchanges (nat_lt p.sent (size_of c)) (nat
 step_waits (act.Shutdown bits) p ms is = one_waits (may_wait (act.Shutdown bits)) (call.Shutdown (id_of p) bits) (λ why e. e) ms is
 step_waits act.Close p ms is = one_waits (may_wait act.Close) (call.Close (id_of p)) (λ why e. e) ms is
 
-pub waits_right : (a : Act) (p : Progress) (ms : List Made) (why : WaitsFor) → calls_in ms ≡ calls_next a p → step_wait (told_in ms) ≡ Some why
+pub waits_right : (a : Act) (p : Progress) (ms : List Made) (why : WaitsFor) → calls_in ms ≡ calls_next a p
+    → step_wait (told_in ms) ≡ Some why
     → may_wait a why ≡ true
 waits_right a p ms why is waits = subst (WaitsAs (may_wait a)) waits (step_waits a p ms is)

@@ -9,7 +9,8 @@ use Rattle.vs_apps_parts.specs.{Journals.calls_of, Journals.calls_of_app, Script
 use Rattle.vs_run_report.specs.{Endings.state_at, Report.ended_at, Right.IsRightConnection, Right.IsRightEnding}
 use Rattle.vs_run_report.specs.Examples.{app_at, first_opened, hello, hello_entries, hello_host, hello_is_right}
 
-greets : (k : ℕ) → k < length hello → IsPlayed (acts_of k hello) (calls_of_app k hello [] hello_entries) (state_at k (app_at 3 None ∷ [])).progress
+greets : (k : ℕ) → k < length hello
+    → IsPlayed (acts_of k hello) (calls_of_app k hello [] hello_entries) (state_at k (app_at 3 None ∷ [])).progress
 greets (suc k) less = absurd (omega (arith, less))
 greets zero less = (
   closed_it ∷ sent_hello ∷ opened ∷ asked ∷ [],

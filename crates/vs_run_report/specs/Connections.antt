@@ -1,5 +1,6 @@
 -- The connections of a run's apps, as they are printed.
-use Rattle.std.specs.Prelude.{ℕ, ◌-◌, ◌==◌, ◌^◌, min, if◌then◌else◌, List, [], ◌∷◌, ◌++◌, length, codes, decimal, Option, Some, None, Result, Ok, Err}
+use Rattle.std.specs.Prelude.{ℕ, ◌-◌, ◌==◌, ◌^◌, min, if◌then◌else◌, List, [], ◌∷◌, ◌++◌, length, codes, decimal, Option, Some, None}
+use Rattle.std.specs.Prelude.{Result, Ok, Err}
 use Rattle.std.specs.List.{flat_map, range_with_len}
 use Rattle.vs_flow.specs.declared.flow.Flow.{Flow}
 use Rattle.laws_driver_bytes.specs.Calls.{Journal, received_by}

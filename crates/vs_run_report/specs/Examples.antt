@@ -22,7 +22,12 @@ app_at at waiting = record { progress = at_next at; waiting = waiting }
 
 -- Both tables have so many entries, and nothing was counted.
 abbrev pub both_open : ℕ → Totals
-both_open n = record { guest_open = n; device_open = n; counters = record { dropped = 0; overrun = 0; faults = 0; opened = 1; closed = 0 }; broken = 0 }
+both_open n = record {
+  guest_open = n;
+  device_open = n;
+  counters = record { dropped = 0; overrun = 0; faults = 0; opened = 1; closed = 0 };
+  broken = 0;
+}
 
 -- An app that says hello to host port 52.
 abbrev pub hello : RunScript
@@ -31,7 +36,8 @@ hello = (Connect 52 ∷ Send (Given (codes "hello")) ∷ Close ∷ []) ∷ []
 abbrev pub hello_entries : List Entry
 hello_entries =
     entry_called 0 (called.Connect 52 (Ok 1) (Some (host_flow 1024 52))) ∷ entry_waited 0 1 waits.NotOpen
-    ∷ entry_called 0 (called.LookAt 1 seen.Live) ∷ entry_called 0 (called.Send 1 1 0 5 (sent.Took 5)) ∷ entry_called 0 (called.Close 1 closed.Done) ∷ []
+    ∷ entry_called 0 (called.LookAt 1 seen.Live) ∷ entry_called 0 (called.Send 1 1 0 5 (sent.Took 5))
+    ∷ entry_called 0 (called.Close 1 closed.Done) ∷ []
 
 abbrev pub hello_printed : List (List ℕ)
 hello_printed =
@@ -77,7 +83,8 @@ silent = (Connect 52 ∷ Recv 1 ∷ []) ∷ []
 
 abbrev pub silent_entries : List Entry
 silent_entries =
-    entry_called 0 (called.Connect 52 (Ok 1) (Some (host_flow 1024 52))) ∷ entry_called 0 (called.LookAt 1 seen.Live) ∷ entry_waited 0 4 waits.Empty ∷ []
+    entry_called 0 (called.Connect 52 (Ok 1) (Some (host_flow 1024 52))) ∷ entry_called 0 (called.LookAt 1 seen.Live)
+    ∷ entry_waited 0 4 waits.Empty ∷ []
 
 abbrev pub silent_printed : List (List ℕ)
 silent_printed =
@@ -92,8 +99,8 @@ abbrev pub served_entries : List Entry
 served_entries =
     entry_called 1 (called.Listen 70 (Ok tt)) ∷ entry_waited 1 9 waits.NoneWaiting
     ∷ entry_called 1 (called.Accept 70 (accepted.Conn 1) (Some (record { guest = 70; host = 1073741824; peer = 2 })))
-    ∷ entry_called 1 (called.Recv 1 2 0 (got.Got 1)) ∷ entry_called 1 (called.Recv 1 1 1 (got.Got 1)) ∷ entry_called 1 (called.Send 1 3 0 2 (sent.Took 2))
-    ∷ entry_called 1 (called.Close 1 closed.Done) ∷ []
+    ∷ entry_called 1 (called.Recv 1 2 0 (got.Got 1)) ∷ entry_called 1 (called.Recv 1 1 1 (got.Got 1))
+    ∷ entry_called 1 (called.Send 1 3 0 2 (sent.Took 2)) ∷ entry_called 1 (called.Close 1 closed.Done) ∷ []
 
 abbrev pub served_printed : List (List ℕ)
 served_printed =

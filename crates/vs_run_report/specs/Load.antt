@@ -20,7 +20,8 @@ matches (byte ∷ bytes) (other ∷ others) = (if byte == other then 1 else 0) +
 
 -- conns N bytes N matched N: the apps, the bytes that they sent in all, and the places where the byte that came back is the one sent
 abbrev pub load_text : (conns bytes matched : ℕ) → List ℕ
-load_text conns bytes matched = codes "conns " ++ decimal conns ++ codes " bytes " ++ decimal bytes ++ codes " matched " ++ decimal matched ++ codes "\n"
+load_text conns bytes matched =
+    codes "conns " ++ decimal conns ++ codes " bytes " ++ decimal bytes ++ codes " matched " ++ decimal matched ++ codes "\n"
 
 -- That of a load whose bytes all came back.
 abbrev pub all_matched : (conns bytes : ℕ) → List ℕ

@@ -6,7 +6,8 @@ use Rattle.vs_page.specs.Fair.{IsPrefixOf}
 use Rattle.vs_outside.specs.{Host.HostContents, HostBytes.host_read, HostBytes.host_wrote}
 use Rattle.vs_script.specs.App.{Act, Connect, Accept, Send, Recv, Drain, Exchange}
 use Rattle.laws_driver_bytes.specs.Calls.{Journal, received_by}
-use Rattle.vs_apps_parts.specs.{Journals.calls_of, Journals.calls_of_app, Journals.sent_as, Scripts.IsPlayed, Scripts.RunScript, Scripts.acts_of}
+use Rattle.vs_apps_parts.specs.{Journals.calls_of, Journals.calls_of_app, Journals.sent_as, Scripts.IsPlayed, Scripts.RunScript}
+use Rattle.vs_apps_parts.specs.{Scripts.acts_of}
 use Rattle.vs_apps_parts.specs.declared.{journal.Entry.Entry, journal.WaitsFor.WaitsFor, progress.AppState.AppState}
 use Rattle.vs_apps_parts.specs.declared.journal.WaitsFor.TheVariants as waits
 use Rattle.vs_report.specs.declared.giving.Totals.{Totals}
@@ -51,16 +52,16 @@ IsRightEnding acts ending.Done = Unit {0}
 IsRightEnding acts (ending.Waited why at) = (act : Act) × (slice_get acts (at - 1) ≡ Some act) × (may_wait act why ≡ true)
 IsRightEnding acts (ending.GoesOn at) = ⊥
 
--- A connection that an app opened, where ids were given to these connections. What its host program read is a prefix of what was sent on it, and
--- what was received on it is a prefix of what that program wrote. Their numbers stand in its line.
+-- A connection that an app opened, where ids were given to these connections. What its host program read is a prefix of what was sent on it,
+-- and what was received on it is a prefix of what that program wrote. Their numbers stand in its line.
 pub record IsRightConnection (opened : ℕ → Connection) (journal : Journal) (h : HostContents) (o : Opened) : Type 0 where
   pub some : 1 ≤ (opened o.id).number
   pub flow : (opened o.id).flow ≡ o.flow
   pub to_host : IsPrefixOf (host_read (opened o.id) h) (sent_as o.id journal)
   pub to_guest : IsPrefixOf (received_by o.id journal) (host_wrote (opened o.id) h)
 
--- The last line: nothing was dropped, no payload went beyond its room, no connection of the guest was broken; and a fault was counted only where
--- more calls of the host failed than before.
+-- The last line: nothing was dropped, no payload went beyond its room, no connection of the guest was broken; and a fault was counted only
+-- where more calls of the host failed than before.
 pub record HasNoLoss (before after : ℕ) (t : Totals) : Type 0 where
   pub dropped : t.counters.dropped ≡ 0
   pub overrun : t.counters.overrun ≡ 0

@@ -18,8 +18,8 @@ pub fn law_of_waits()
         → step_wait (told_in made) ≡ Some why → may_wait act why ≡ true }
 {}
 
-/// An app that isn't done, and whose wait is noted, ended so: it waits for that, at the instruction that it is at. A noted wait of another app
-/// changes nothing of how an app ended.
+/// An app that isn't done, and whose wait is noted, ended so: it waits for that, at the instruction that it is at. A noted wait of another
+/// app changes nothing of how an app ended.
 pub fn law_of_noted_waits()
     ensures waits { (count k : ℕ) (why : WaitsFor) (state : AppState) (entries : List Entry) → state.progress.at < count
         → ending_of count (record state { waiting = Some (wait_place k state.waiting entries) }) (wait_noted k why state.waiting entries)

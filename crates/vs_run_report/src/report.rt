@@ -123,8 +123,8 @@ fn push_totals(out: &mut String, totals: &Totals) -> Result<(), AllocError>
     push_counts(out, totals.counters, Some(totals.broken))
 }
 
-/// The report of a run, where an app gives up after `idle` steps in a row that waited: a line for each app and for each connection of each app,
-/// how many entries the tables have, and what was counted. The buffer is for the bytes of one connection at a time.
+/// The report of a run, where an app gives up after `idle` steps in a row that waited: a line for each app and for each connection of each
+/// app, how many entries the tables have, and what was counted. The buffer is for the bytes of one connection at a time.
 pub fn push_run(
     out: &mut String,
     buffer: &mut Vec<u8>,
