@@ -1,19 +1,26 @@
 -- What keeps guests a run of their script.
-use Rattle.std.proofs.Common.{◌≡◌, ◌<◌, ℕ, zero, suc, Bool, List, [], length, get_or, refl, sym, ap, subst, ◌∙◌, arith}
-use Rattle.std.proofs.lemmas.{List.length-map, List.length-replicate, Option.same_Some}
+use Rattle.std.proofs.Common.{◌≡◌, ◌<◌, ℕ, zero, suc, Bool, List, [], ◌∷◌, ◌++◌, length, get_or, refl, sym, ap, subst, ◌∙◌, arith}
+use Rattle.std.proofs.{Common.Option, Common.Some, Common.None}
+use Rattle.std.proofs.lemmas.{Grind.common_steps, List.length-map, List.length-replicate, Option.same_Some}
 use Rattle.std.specs.Prelude.{replicate}
-use Rattle.vs_limits.specs.declared.TheConstants.{FIRST_PORT}
+use Rattle.vs_limits.specs.declared.TheConstants.{FIRST_CID, FIRST_PORT}
+use Rattle.vs_contents.specs.Contents.{Relates}
+use Rattle.vs_contents.proofs.Leads.{leads_split}
+use Rattle.vs_page.specs.{Log.Log, Open.cid_of}
 use Rattle.vs_script.specs.{App.app_view, declared.app.App.App}
-use Rattle.vs_driver_parts.specs.{Conversations.new_of, Playing.IsRingOf, Playing.Plays, State.DriverState, declared.answers.Polled.Polled}
+use Rattle.vs_ring_port.specs.{Contents.RingContents, Known.IsOlder, Known.Known, Known.LoadsCid}
+use Rattle.vs_ring_port.specs.declared.queue.Queue.TheVariants.{Event, Rx}
+use Rattle.vs_driver_parts.specs.Conversations.{load_cid, new_of, new_state, post_all, post_events}
+use Rattle.vs_driver_parts.specs.{Playing.IsRingOf, Playing.Plays, Playing.RingAllows, State.DriverState, declared.answers.Polled.Polled}
 use Rattle.vs_ring_rule.specs.declared.view.Past.{Past}
-use Rattle.vs_ring_shared.specs.{Meetings.after_hearing, Sights.Sight, Sights.driver_contents, Sights.driver_log, Sights.empty_sight}
+use Rattle.vs_ring_shared.specs.{Meetings.after_hearing, Sights.Sight, Sights.driver_contents, Sights.driver_log, Sights.empty_sight, Sights.known_of}
 use Rattle.vs_ring_shared.specs.Sights.{flight_of, staged_of}
 use Rattle.vs_ring_port.specs.EndLog.{EndLog}
 use Rattle.atomic_table.specs.Seated.{TableId}
 use Rattle.laws_driver.specs.Honest.{IsFresh}
 use Rattle.vs_apps_parts.specs.{Scripts.AreRight, Scripts.RunScript, Scripts.script_of}
 use Rattle.vs_apps_parts.specs.declared.progress.{AppState.AppState, Stepped.Stepped}
-use Rattle.laws_apps.specs.Runs.{PollsTo, Steps, no_app}
+use Rattle.laws_apps.specs.Runs.{IsRunOf, PollsTo, Steps, no_app}
 use Rattle.laws_apps.proofs.Beginning.{begins_run}
 use Rattle.laws_apps.proofs.Keeping.{polls_keep, steps_keep}
 use Rattle.vs_apps.specs.Guests.{AreGuests, GuestsState, run_in}
@@ -27,32 +34,29 @@ module _ (script : RunScript) (g : GuestsState) (are : AreGuests script g) where
   guests_step k s moved h less ring steps = record {
     right = are.right;
     ring = ring;
-    run = (are.run.0, steps_keep are.run.0 script (run_in g) are.run.1 k less s moved (run_in h) steps);
+    run = steps_keep FIRST_CID script (run_in g) are.run k less s moved (run_in h) steps;
   }
 
   pub guests_poll : (polled : Polled) (h : GuestsState) → OwnRing h → PollsTo polled (run_in g) (run_in h) → AreGuests script h
   guests_poll polled h ring polls = record {
     right = are.right;
     ring = ring;
-    run = (are.run.0, polls_keep are.run.0 script (run_in g) are.run.1 polled (run_in h) polls);
+    run = polls_keep FIRST_CID script (run_in g) are.run polled (run_in h) polls;
   }
 
   -- What an end is told of the other changes nothing that it did.
   pub guests_hear : (past : Past) → AreGuests script (record g { end = after_hearing past g.end })
   guests_hear past =
-      let run = are.run.1 in
+      let run = are.run in
       record {
         right = are.right;
         ring = record { size = are.ring.size; flight = are.ring.flight; staged = are.ring.staged; none = are.ring.none };
-        run = (
-          are.run.0,
-          record {
-            apps = run.apps;
-            kept = record { honest = run.kept.honest; accounted = run.kept.accounted; stands = run.kept.stands };
-            follows = run.follows;
-            waits = run.waits;
-          },
-        );
+        run = record {
+          apps = run.apps;
+          kept = record { honest = run.kept.honest; routed = run.kept.routed; accounted = run.kept.accounted; stands = run.kept.stands };
+          follows = run.follows;
+          waits = run.waits;
+        };
       }
 
 -- As many apps as the script has.
@@ -74,16 +78,40 @@ all_begun n k apps state are is =
     same (suc n) zero = refl
     same (suc n) (suc k) = same n k
 
+-- A new driver has the CID that it loaded.
+cid_loaded : (o : Option Known) (k : Known) (cid : ℕ) → Relates o (Some k) (λ j i. LoadsCid cid j i) → cid ≡ cid_of FIRST_CID k.loaded
+cid_loaded None k cid told = absurd cc
+cid_loaded (Some j) k cid told = told.newest ∙ ap (λ (i : Known). cid_of FIRST_CID i.loaded) (sym told.is)
+
+new_loads : (size port id : ℕ) (c : RingContents) (e : Sight) (s : DriverState) → Plays (new_of size port id) c s (driver_contents e)
+    → s.cid ≡ cid_of FIRST_CID e.loaded
+new_loads size port id c e s plays =
+    let first = leads_split RingAllows (post_all Rx (new_state size port id 0)) post_events c (driver_contents e) s plays in
+    let last = leads_split RingAllows (post_all Event first.end) load_cid first.middle (driver_contents e) s first.rest in
+    let loads = last.rest in
+    ap (λ (t : DriverState). t.cid) (sym loads.3.0)
+    ∙ cid_loaded last.middle.known (known_of e) loads.0
+    (subst (λ (r : RingContents). Relates last.middle.known r.known (λ j i. LoadsCid loads.0 j i)) loads.3.1 loads.2.1.known)
+
+none_older : (log more : Log) → [] ≡ more ++ log → log ≡ []
+none_older [] more is = refl
+none_older (x ∷ log) [] is = absurd cc
+none_older (x ∷ log) (y ∷ more) is = absurd cc
+
+pub first_loaded : (size port id : ℕ) (c : RingContents) (e : Sight) (s : DriverState) (log : Log) → Plays (new_of size port id) c s (driver_contents e)
+    → IsOlder e.loaded log → log ≡ [] → s.cid ≡ FIRST_CID
+first_loaded size port id c e s log plays older none =
+    let is = subst (λ (l : Log). IsOlder e.loaded l) none older in
+    new_loads size port id c e s plays ∙ ap (cid_of FIRST_CID) (none_older e.loaded is.0 is.1)
+
 pub new_guests : (script : RunScript) (size n : ℕ) (d e : Sight) (driver : DriverState) (apps : List AppState) (state : AppState) → AreRight script
-    → IsFresh (driver_contents d) → Plays (new_of size FIRST_PORT 1) (driver_contents d) driver (driver_contents e)
+    → driver.cid ≡ FIRST_CID → IsFresh (driver_contents d) → Plays (new_of size FIRST_PORT 1) (driver_contents d) driver (driver_contents e)
     → IsRingOf e.size (flight_of e) (staged_of e) driver → n ≡ length script → apps ≡ replicate n state → state ≡ no_app
     → AreGuests script (record { driver = driver; end = e; apps = apps; entries = []; bytes = [] })
-new_guests script size n d e driver apps state right fresh plays ring many are is = record {
+new_guests script size n d e driver apps state right cid fresh plays ring many are is = record {
   right = right;
   ring = ring;
-  run = (
-    driver.cid,
-    begins_run size FIRST_PORT (driver_contents d) (driver_contents e) driver script apps (omega arith) fresh plays
-        (ap (λ (xs : List AppState). length xs) are ∙ length-replicate n state ∙ many) (λ k. all_begun n k apps state are is),
-  );
+  run = subst (λ (first : ℕ). IsRunOf first script (run_in (record { driver = driver; end = e; apps = apps; entries = []; bytes = [] }))) cid
+      (begins_run size FIRST_PORT (driver_contents d) (driver_contents e) driver script apps (omega arith) fresh plays
+      (ap (λ (xs : List AppState). length xs) are ∙ length-replicate n state ∙ many) (λ k. all_begun n k apps state are is));
 }

@@ -1,5 +1,6 @@
 -- The guests of a run: the driver and its end of shared rings, the apps and the journal.
 use Rattle.std.specs.Prelude.{ℕ, List}
+use Rattle.vs_limits.specs.declared.TheConstants.{FIRST_CID}
 use Rattle.vs_driver_parts.specs.{Playing.IsRingOf, State.DriverState}
 use Rattle.vs_ring_shared.specs.Sights.{Sight, driver_contents, flight_of, staged_of}
 use Rattle.vs_apps_parts.specs.{Scripts.AreRight, Scripts.RunScript, declared.journal.Entry.Entry, declared.journal.Journal.Journal}
@@ -20,8 +21,8 @@ guests_with driver end apps journal = record { driver = driver; end = end; apps 
 abbrev pub run_in : GuestsState → Run
 run_in g = run_with g.driver (driver_contents g.end) g.apps g.entries g.bytes
 
--- The ring is the driver's, and all together are a run of a right script, where some CID was the guest's at first.
+-- The ring is the driver's, and all together are a run of a right script, where the first CID of shared rings was the guest's at first.
 pub record AreGuests (script : RunScript) (g : GuestsState) : Type 0 where
   pub right : AreRight script
   pub ring : IsRingOf g.end.size (flight_of g.end) (staged_of g.end) g.driver
-  pub run : (first : ℕ) × IsRunOf first script (run_in g)
+  pub run : IsRunOf FIRST_CID script (run_in g)

@@ -1,9 +1,13 @@
 //! The guests of a run, which a lock keeps: their type names the rings and the script.
 
-ghost use Rattle.std.specs.Prelude.{◌≡◌, ◌<◌, ℕ, [], IfOk, length};
+ghost use Rattle.std.specs.Prelude.{◌≡◌, ◌<◌, ◌≤◌, [], IfOk, length};
+ghost use Rattle.vs_limits.specs.declared.TheConstants.{FIRST_CID};
+ghost use Rattle.vs_ring_port.specs.declared.queue.Queue.{Queue};
+ghost use Rattle.vs_driver_parts.specs.Playing.{IsRingOf};
 ghost use Rattle.vs_apps_parts.specs.Scripts.{AreRight, script_of};
+ghost use Rattle.vs_ring_rule.specs.declared.view.Past.{Past};
 ghost use Rattle.vs_ring_shared.specs.{Countings.met_between, Meetings.AreOneTable, Meetings.after_hearing, Meetings.what_it_did};
-ghost use Rattle.vs_ring_shared.specs.Sights.{empty_sight, flight_of};
+ghost use Rattle.vs_ring_shared.specs.Sights.{empty_sight, flight_of, sight_in, staged_of};
 ghost use Rattle.laws_apps.specs.Runs.{IsRunOf, PollsTo, Steps};
 ghost use Rattle.vs_apps.specs.Guests.{run_in};
 
@@ -14,7 +18,7 @@ use vs_apps_parts::journal::Journal;
 use vs_apps_parts::progress::{AppState, Progress, Stepped};
 use vs_driver::{Driver, Polled};
 use vs_ring_port::{DriverRing, Queue};
-use vs_ring_shared::{DeviceEnd, DriverEnd, Met, RingName, meet, note};
+use vs_ring_shared::{DeviceEnd, DriverEnd, Met, RingName, laws_of_driver_end, meet, note};
 use vs_script::App;
 
 /// Which run it is: its rings, and its script. Each call of a program picks them.
@@ -53,28 +57,42 @@ impl<N: RunName> Model for Guests<N> {
     ghost invariant = { λ g. (script_of g.script.items ≡ N.script) × AreGuests N.script (guests_with g.driver g.end g.apps.items g.journal) };
 }
 
-/// What the type says of guests, where `first` was the guest's CID when their driver was made. The calls of each app are, in order, its
+/// What the type says of guests: their driver was made under the first CID of shared rings. The calls of each app are, in order, its
 /// instructions. What the journal says was sent on a connection is the payload that the log put there; and what it says was received, with
-/// the bytes that are unread behind, is the payload that was delivered.
+/// the bytes that are unread behind, is the payload that was delivered. All receive and event pages are in flight.
 pub fn laws_of_guests<N: RunName>(guests: &Guests<N>)
-    ensures { (first : ℕ) × IsRunOf first N.script (run_in guests.now) }
+    ensures run { IsRunOf FIRST_CID N.script (run_in guests.now) }
+    ensures right { AreRight N.script }
+    ensures ring { let g = guests.now in IsRingOf g.end.size (flight_of g.end) (staged_of g.end) g.driver }
+    ensures size { 0 < guests.now.end.size }
+    ensures taken { (queue : Queue) → let q = sight_in queue guests.now.end in length q.got ≤ length q.put }
 {
     let _apps = guests.apps.len();
+    laws_of_driver_end(&guests.end);
 }
 
 impl<N: RunName> Guests<N> {
-    /// Guests that did nothing yet, over an end of rings in which nothing was put.
+    /// Guests that did nothing yet, over an end of rings in which nothing was put. The device's end, in whose log nothing stands, is told what
+    /// the driver did.
     ///
     /// The only error is want of memory.
-    pub fn new(alloc: Global, script: Vec<App>, end: DriverEnd<N>) -> Result<Guests<N>, AllocError>
+    pub fn new(
+        alloc: Global,
+        script: Vec<App>,
+        end: DriverEnd<N>,
+        device: &mut DeviceEnd<N>,
+    ) -> Result<Guests<N>, AllocError>
         requires script { script_of script.items ≡ N.script }
         requires right { AreRight N.script }
         requires fresh { end ≡ empty_sight N.ring end.size }
+        requires silent { device.old.sight.log ≡ [] }
+        ensures told { (past : Past) × (device.new ≡ record device.old { sight = after_hearing past device.old.sight }) }
         ensures entries { IfOk result (λ guests. guests.entries ≡ []) }
         ensures bytes { IfOk result (λ guests. guests.bytes ≡ []) }
     {
         let mut end = end;
         let driver = Driver::new(alloc, &mut end)?;
+        note(&mut end, device);
         let begun = AppState {
             progress: Progress::begun(),
             waiting: None,
@@ -90,6 +108,28 @@ impl<N: RunName> Guests<N> {
                 bytes: Vec::new(alloc),
             },
         })
+    }
+
+    /// The driver.
+    pub fn driver(&self) -> &Driver
+        ensures { result.now ≡ self.now.driver }
+    {
+        &self.driver
+    }
+
+    /// The apps, each as far as it is.
+    pub fn apps(&self) -> &[AppState]
+        ensures { result.now ≡ self.now.apps }
+    {
+        self.apps.as_slice()
+    }
+
+    /// The journal.
+    pub fn journal(&self) -> &Journal
+        ensures entries { result.now.entries.items ≡ self.now.entries }
+        ensures bytes { result.now.bytes.items ≡ self.now.bytes }
+    {
+        &self.journal
     }
 
     /// How many apps there are.

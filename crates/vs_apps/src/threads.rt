@@ -1,6 +1,7 @@
 //! The apps of a run, each on a thread of its own, beside a device on the caller's.
 
 ghost use Rattle.std.specs.Prelude.{◌≡◌, ◌<◌, ◌≤◌, ℕ, IfOk, length, vec_len};
+ghost use Rattle.vs_limits.specs.declared.TheConstants.{FIRST_CID};
 ghost use Rattle.laws_apps.specs.Runs.{IsRunOf};
 ghost use Rattle.vs_apps.specs.Guests.{run_in};
 
@@ -245,7 +246,7 @@ pub fn run_all<W: Threads + Wait + Sync, N: RunName + Send, D: Turning, G: Gate 
     gates: &mut Vec<G>,
     gate: &mut G,
 ) -> Result<Guests<N>, OutOfMemory>
-    ensures { IfOk result (λ guests. (first : ℕ) × IsRunOf first N.script (run_in guests)) }
+    ensures { IfOk result (λ guests. IsRunOf FIRST_CID N.script (run_in guests)) }
 {
     let count = guests.count();
     let Ok(mut own) = vec![in alloc; Own {

@@ -1,13 +1,17 @@
-use Rattle.std.proofs.Common.{◌≡◌, ℕ, List, [], length, sym, ap, subst, ◌∙◌, arith, rules, None}
+use Rattle.std.proofs.Common.{◌≡◌, ℕ, List, [], length, sym, ap, subst, ◌∙◌, arith, refl, rules, None}
 use Rattle.std.proofs.lemmas.List.{length-map}
+use Rattle.vs_limits.specs.declared.TheConstants.{FIRST_CID, FIRST_PORT}
 use Rattle.vs_script.specs.App.{app_view}
-use Rattle.vs_ring_shared.specs.Sights.{Sight, driver_contents}
+use Rattle.vs_ring_shared.specs.{Meetings.after_hearing, Meetings.what_it_did, Sights.Sight, Sights.driver_contents}
 use Rattle.laws_driver.specs.Honest.{IsFresh}
 use Rattle.vs_apps_parts.specs.{Scripts.RunScript, declared.journal.Entry.Entry}
 use Rattle.vs_apps_parts.specs.declared.progress.{AppState.AppState, Progress.Progress}
-use Rattle.vs_apps.specs.Guests.{AreGuests}
-use Rattle.vs_apps.proofs.Guarding.{fresh_end, new_guests}
+use Rattle.vs_apps.specs.Guests.{AreGuests, GuestsState}
+use Rattle.vs_apps.proofs.Guarding.{first_loaded, fresh_end, guests_hear, new_guests}
 use Rattle.vs_apps.proofs.guests.Guests.new.Goals as goal
+
+pub returns-in_err-driver-clause-told : goal.returns-in_err-driver-clause-told
+returns-in_err-driver-clause-told g c = (c.args.device.now.sight.heard, refl)
 
 pub invariant_of-result : goal.invariant_of-result
 invariant_of-result g c =
@@ -17,14 +21,23 @@ invariant_of-result g c =
     let many : c.len.result ≡ length script = omega (arith, long, c.len.ensures) in
     let fresh : IsFresh (driver_contents c.args.end) =
     subst (λ (s : Sight). IsFresh (driver_contents s)) (sym c.requires.fresh) (fresh_end g.N.RingName.ring c.args.end.size) in
-    let all = new_guests script c.args.end.size c.len.result c.args.end c.new.new.ring c.in_ok-driver.driver c.in_ok-apps.apps.items
-    (record { progress = c.begun.result; waiting = None }) c.requires.right fresh c.in_ok-driver.ensures.calls c.in_ok-driver.ensures.ring many
+    let driver = c.in_ok-driver.driver in
+    let apps = c.in_ok-apps.apps.items in
+    let cid : driver.cid ≡ FIRST_CID =
+    first_loaded c.args.end.size FIRST_PORT 1 (driver_contents c.args.end) c.new.new.ring driver c.args.device.now.sight.log
+    c.in_ok-driver.ensures.calls c.note.ensures.fits.saw_cid c.requires.silent in
+    let all = new_guests script c.args.end.size c.len.result c.args.end c.new.new.ring driver apps
+    (record { progress = c.begun.result; waiting = None }) c.requires.right cid fresh c.in_ok-driver.ensures.calls c.in_ok-driver.ensures.ring many
     (c.in_ok-apps.ensures.items_if_clones_equal (λ y is. first_of (search (rules, is), cc)))
     (ap (λ (p : Progress). let s : AppState = record { progress = p; waiting = None } in s) c.begun.ensures) in
-    let with_entries : AreGuests script (record { driver = c.in_ok-driver.driver; end = c.new.new.ring; apps = c.in_ok-apps.apps.items; entries = c.new-2.result.items; bytes = [] }) =
-    subst (λ (es : List Entry). AreGuests script (record { driver = c.in_ok-driver.driver; end = c.new.new.ring; apps = c.in_ok-apps.apps.items; entries = es; bytes = [] }))
-    (sym c.new-2.ensures.items) all in (
+    let heard : AreGuests script (record { driver = driver; end = c.note.new.driver; apps = apps; entries = []; bytes = [] }) =
+    subst (λ (s : Sight). AreGuests script (record { driver = driver; end = s; apps = apps; entries = []; bytes = [] })) (sym c.note.ensures.driver)
+    (guests_hear script (record { driver = driver; end = c.new.new.ring; apps = apps; entries = []; bytes = [] }) all
+    (what_it_did c.args.device.now.sight)) in
+    let with_entries : AreGuests script (record { driver = driver; end = c.note.new.driver; apps = apps; entries = c.new-2.result.items; bytes = [] }) =
+    subst (λ (es : List Entry). AreGuests script (record { driver = driver; end = c.note.new.driver; apps = apps; entries = es; bytes = [] }))
+    (sym c.new-2.ensures.items) heard in (
       c.requires.script,
-      subst (λ (bs : List ℕ). AreGuests script (record { driver = c.in_ok-driver.driver; end = c.new.new.ring; apps = c.in_ok-apps.apps.items; entries = c.new-2.result.items; bytes = bs }))
+      subst (λ (bs : List ℕ). AreGuests script (record { driver = driver; end = c.note.new.driver; apps = apps; entries = c.new-2.result.items; bytes = bs }))
           (sym c.new-3.ensures.items) with_entries,
     )

@@ -2,6 +2,7 @@ use Rattle.std.proofs.Common.{◌≡◌, length, arith, sym, subst}
 use Rattle.std.proofs.lemmas.Grind.{common_steps}
 use Rattle.vs_apps_parts.specs.Scripts.{AreRight, RunScript}
 use Rattle.laws_apps.specs.Runs.{Steps}
+use Rattle.vs_limits.specs.declared.TheConstants.{FIRST_CID}
 use Rattle.vs_apps.specs.Guests.{guests_with, run_in}
 use Rattle.vs_apps.proofs.Guarding.{guests_step, script_long}
 use Rattle.vs_apps.proofs.guests.Guests.step.Goals as goal
@@ -12,11 +13,11 @@ step-requires-clause-right g c = subst AreRight (sym c.self.invariant.0) c.self.
 pub step-requires-clause-apps : goal.step-requires-clause-apps
 step-requires-clause-apps g c =
     let many : length c.self.inside.apps.items ≡ length c.self.inside.script.items =
-    script_long g.N.RunName.script c.self.inside.apps.items c.self.inside.script.items c.self.invariant.0 c.self.invariant.1.run.1.apps in
+    script_long g.N.RunName.script c.self.inside.apps.items c.self.inside.script.items c.self.invariant.0 c.self.invariant.1.run.apps in
     first_of (omega arith, grind (arith, common_steps, many))
 
 pub step-requires-clause-honest : goal.step-requires-clause-honest
-step-requires-clause-honest g c = (c.self.invariant.1.run.0, c.self.invariant.1.run.1.kept.honest)
+step-requires-clause-honest g c = (FIRST_CID, c.self.invariant.1.run.kept.honest)
 
 pub invariant_of-self : goal.invariant_of-self
 invariant_of-self g c =
