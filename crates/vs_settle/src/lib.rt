@@ -1,5 +1,5 @@
 //! The end of a run of apps: rounds until nothing moves.
 #![tactic(auto)]
 
-mod rounds;
+pub mod rounds;
 pub mod settling;

@@ -83,8 +83,8 @@ fn step_all<N: RunName>(guests: &mut Guests<N>) -> Result<bool, OutOfMemory>
     Ok(moved)
 }
 
-// A turn. Answers whether it moved anything.
-fn turn<N: RunName, H: HostNet>(
+/// A turn. Answers whether it moved anything.
+pub fn turn<N: RunName, H: HostNet>(
     proxy: &mut Proxy,
     ring: &mut DeviceEnd<N>,
     host: &mut H,
