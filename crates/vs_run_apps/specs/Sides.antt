@@ -1,0 +1,24 @@
+-- The device of a run: the proxy, its end of the rings, and what the host exposes.
+use Rattle.std.specs.Prelude.{◌≡◌, ℕ, [], Option}
+use Rattle.vs_outside.specs.Host.{HostContents}
+use Rattle.vs_ring_port.specs.Chains.{chains_of}
+use Rattle.vs_ring_shared.specs.Sights.{DeviceSight, device_contents}
+use Rattle.vs_device_parts.specs.Playing.{IsItsRing, situation}
+use Rattle.vs_proxy_parts.specs.State.{ProxyState}
+use Rattle.laws_settled.specs.Settled.{IsSteady}
+
+pub record SideState : Type 0 where
+  pub proxy : ProxyState
+  pub ring : DeviceSight
+  pub contents : Option HostContents
+  pub faults : ℕ
+
+-- The ring is the proxy's, and the proxy is steady with its ring and its host: so it may be turned.
+pub record IsReady (s : SideState) : Type 0 where
+  pub ring : IsItsRing (chains_of s.ring.held) s.proxy.device
+  pub steady : IsSteady s.proxy (situation (device_contents s.ring) s.contents s.faults)
+
+-- Nothing passed on the device's end.
+pub record IsSilent (ring : DeviceSight) : Type 0 where
+  pub log : ring.sight.log ≡ []
+  pub held : ring.held ≡ []
