@@ -26,7 +26,7 @@ use Rattle.laws_device_walk.proofs.Serving.{AfterRead, AfterWrite, Closes, Fills
 use Rattle.laws_device_walk.proofs.Taking.{AfterDial, Takes}
 use Rattle.laws_device_walk.proofs.Serving as serving
 use Rattle.laws_device_walk.proofs.Taking as taking
-use Rattle.laws_device_walk.proofs.Turning.{AfterAccept, AfterByte, Shakes, keeps_turn}
+use Rattle.laws_device_walk.proofs.Turning.{AfterAccept, AfterByte, Between, Shakes, keeps_turn}
 use Rattle.laws_rest.specs.{Calm.OwesNoEvent, Calm.resets_in, Rest.has_no_mark}
 
 -- Such a call, and a chain that fits its queue.
@@ -216,24 +216,24 @@ module _ (hands : List Handshake) where
     hears = λ chain h e s c v found is other at. at;
   }
 
-accepted_by : (hands : List Handshake) (s : DeviceState) (a : Accepted) → Owes s → AfterAccept calls D hands s a tt
-accepted_by hands s (accepted.Stream id) at = at
-accepted_by hands s accepted.None at = at
-accepted_by hands s accepted.Failed at = at
+accepted_by : (hands : List Handshake) (port : ℕ) (s : DeviceState) (a : Accepted) → Owes s → AfterAccept calls (Between D) hands port s a tt
+accepted_by hands port s (accepted.Stream id) at = at
+accepted_by hands port s accepted.None at = at
+accepted_by hands port s accepted.Failed at = at
 
-byte_read : (h : Handshake) (hands : List Handshake) (s : DeviceState) (a : StreamRead) (bytes : List ℕ) → Owes s
-    → AfterByte calls D h hands s a bytes tt
-byte_read h hands s (read.Got n) bytes at =
-    record { more = λ is. at; ends = (tt, λ a fit. at); refused = at; opens = λ port p is may none. (tt, λ a fit. at) }
-byte_read h hands s read.Again bytes at = at
-byte_read h hands s read.End bytes at = at
-byte_read h hands s read.Failed bytes at = at
+byte_read : (h : Handshake) (hands : List Handshake) (port : ℕ) (s : DeviceState) (a : StreamRead) (bytes : List ℕ) → Owes s
+    → AfterByte calls (Between D) h hands port s a bytes tt
+byte_read h hands port s (read.Got n) bytes at =
+    record { more = λ is. at; ends = (tt, λ a fit. at); refused = λ guest fault may is. at; opens = λ guest is may none. (tt, λ a fit. at) }
+byte_read h hands port s read.Again bytes at = at
+byte_read h hands port s read.End bytes at = at
+byte_read h hands port s read.Failed bytes at = at
 
-shakes : Shakes calls D
+shakes : Shakes calls (Between D)
 shakes = record {
-  drops = λ h hands s c on at. (tt, λ a fit. at);
-  accepts = λ hands s c at. (tt, λ a fit. accepted_by hands s a at);
-  reads = λ h hands s c on at. (tt, λ a fit. byte_read h hands s a.0 a.1 at);
+  drops = λ h hands port s c on at. (tt, λ a fit. at);
+  accepts = λ hands port s c at. (tt, λ a fit. accepted_by hands port s a at);
+  reads = λ h hands port s c on at. (tt, λ a fit. byte_read h hands port s a.0 a.1 at);
 }
 
 pub calm_turns : (size now : ℕ) (s : ProxyState) (a b : Situation) (x : ProxyState × Turn) → OwesNoEvent s.device → Runs (turn_of size now s) a x b

@@ -26,7 +26,7 @@ use Rattle.laws_device_walk.proofs.Serving.{AfterEvent, AfterRead, AfterWrite, C
 use Rattle.laws_device_walk.proofs.Taking.{AfterDial, Takes}
 use Rattle.laws_device_walk.proofs.Serving as serving
 use Rattle.laws_device_walk.proofs.Taking as taking
-use Rattle.laws_device_walk.proofs.Turning.{AfterAccept, AfterByte, Shakes, keeps_turn}
+use Rattle.laws_device_walk.proofs.Turning.{AfterAccept, AfterByte, Between, Shakes, keeps_turn}
 use Rattle.laws_world.specs.{Answers.Around, Plays.reset_line, Plays.turn_line, World.World, World.around}
 use Rattle.laws_world.proofs.Resetting.{keeps_played, keeps_reset, playing}
 
@@ -202,26 +202,26 @@ module _ (m : ℕ) where
       hears = λ chain h e s a v found is other at. at;
     }
 
-  accepts : (hands : List Handshake) (s : DeviceState) (x : Accepted) (a : Around) → D hands None (seen s) a → accept_answer a.host ≡ x
-      → AfterAccept playing D hands s x (on (after_accept x a.host) a)
-  accepts hands s (accepted.Stream id) a at is = went s.faults a.host at
-  accepts hands s accepted.None a at is = went s.faults a.host at
-  accepts hands s accepted.Failed a at is = fails s.faults a.host at (accept_to_fail a.host is)
+  accepts : (hands : List Handshake) (port : ℕ) (s : DeviceState) (x : Accepted) (a : Around) → D hands None (seen s) a → accept_answer a.host ≡ x
+      → AfterAccept playing (Between D) hands port s x (on (after_accept x a.host) a)
+  accepts hands port s (accepted.Stream id) a at is = went s.faults a.host at
+  accepts hands port s accepted.None a at is = went s.faults a.host at
+  accepts hands port s accepted.Failed a at is = fails s.faults a.host at (accept_to_fail a.host is)
 
-  bytes_read : (h : Handshake) (hands : List Handshake) (s : DeviceState) (x : StreamRead) (bytes : List ℕ) (a : Around)
+  bytes_read : (h : Handshake) (hands : List Handshake) (port : ℕ) (s : DeviceState) (x : StreamRead) (bytes : List ℕ) (a : Around)
       → D hands None (seen s) a → read_answer h.stream 1 a.host ≡ x
-      → AfterByte playing D h hands s x bytes (on (after_read h.stream x a.host) a)
-  bytes_read h hands s (read.Got n) bytes a at is =
-      let now = went s.faults a.host at in record { more = λ is. now; ends = now; refused = now; opens = λ port p is may none. now }
-  bytes_read h hands s read.Again bytes a at is = went s.faults a.host at
-  bytes_read h hands s read.End bytes a at is = went s.faults a.host at
-  bytes_read h hands s read.Failed bytes a at is = fails s.faults a.host at (read_to_fail h.stream 1 a.host is)
+      → AfterByte playing (Between D) h hands port s x bytes (on (after_read h.stream x a.host) a)
+  bytes_read h hands port s (read.Got n) bytes a at is =
+      let now = went s.faults a.host at in record { more = λ is. now; ends = now; refused = λ guest fault may is. now; opens = λ guest is may none. now }
+  bytes_read h hands port s read.Again bytes a at is = went s.faults a.host at
+  bytes_read h hands port s read.End bytes a at is = went s.faults a.host at
+  bytes_read h hands port s read.Failed bytes a at is = fails s.faults a.host at (read_to_fail h.stream 1 a.host is)
 
-  shakes : Shakes playing D
+  shakes : Shakes playing (Between D)
   shakes = record {
-    drops = λ h hands s a on at. at;
-    accepts = λ hands s a at. accepts hands s _ a at refl;
-    reads = λ h hands s a on at. bytes_read h hands s _ _ a at refl;
+    drops = λ h hands port s a on at. at;
+    accepts = λ hands port s a at. accepts hands port s _ a at refl;
+    reads = λ h hands port s a on at. bytes_read h hands port s _ _ a at refl;
   }
 
   -- A turn and a transport reset.
