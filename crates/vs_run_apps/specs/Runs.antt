@@ -1,7 +1,7 @@
 -- What a run of apps ends in.
-use Rattle.std.specs.Prelude.{◌≡◌, ℕ, true, Option}
+use Rattle.std.specs.Prelude.{◌≡◌, ℕ, true}
 use Rattle.vs_limits.specs.declared.TheConstants.{FIRST_CID}
-use Rattle.vs_outside.specs.{Faults.CountsFault, Host.HostContents}
+use Rattle.vs_outside.specs.Faults.{CountsFault}
 use Rattle.vs_ring_shared.specs.{Countings.met_between, declared.counters.Met.Met}
 use Rattle.vs_apps_parts.specs.Scripts.{RunScript}
 use Rattle.laws_apps.specs.Runs.{IsRunOf}
@@ -24,7 +24,3 @@ pub record HasRun (script : RunScript) (g : GuestsState) (s : SideState) (met : 
 abbrev pub Refuses : RunError → ℕ → ℕ → Type 0
 Refuses error.NotStarted old new = CountsFault true old new
 Refuses error.OutOfMemory old new = Unit {0}
-
--- Such a run ended, with a host that exposes this and of which so many calls failed.
-abbrev pub Ends : RunScript → Option HostContents → ℕ → Met → Type 0
-Ends script contents faults met = (g : GuestsState) × (s : SideState) × (s.contents ≡ contents) × (s.faults ≡ faults) × HasRun script g s met

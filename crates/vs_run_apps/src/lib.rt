@@ -4,4 +4,3 @@
 pub mod beginning;
 pub mod device_side;
 pub mod running;
-pub mod whole;
