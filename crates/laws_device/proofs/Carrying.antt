@@ -11,7 +11,7 @@ use Rattle.std.specs.Option.{ForSome}
 use Rattle.vs_contents.specs.Contents.{Exposes}
 use Rattle.vs_outside.specs.Host.{HostContents, after_close}
 use Rattle.vs_proxy_parts.specs.State.{Handshake}
-use Rattle.vs_ring_port.specs.{Chains.Held}
+use Rattle.vs_ring_port.specs.{Chains.Held, EndLog.EndLog}
 use Rattle.vs_device_parts.specs.{Calls.HostMoves, Calls.Situation, Calls.DeviceTree, Playing.IsRxChain, Playing.Runs}
 use Rattle.vs_device_parts.specs.State.{DeviceConnection, DeviceState}
 use Rattle.laws_device_streams.proofs.Tables.{some_after, some_from}
@@ -160,6 +160,29 @@ ring_end first port state_of s tree a b x holds keeps runs =
     with_ring ⊥ [] first port (state_of x) b
     (keeps_end (λ y d. With ring_only [] first port (state_of y) d) tree a b x (keeps (plain_with first port s a holds)) runs)
 
+-- What is known of the host alone changes, without a call on it and with one.
+module _ (carry : Carried) (first port : ℕ) (s : DeviceState) (F G : Fact) where
+  pub fact_goes : ((o : Option HostContents) (l : EndLog) → AgreesBy carry first port s l → F o l.entries → G o l.entries) → (c : Situation)
+      → IsHeldBy carry F first port s c → IsHeldBy carry G first port s c
+  fact_goes step c holds = (
+    holds.0,
+    tells_weaker (IsToldBy carry F first port s) (IsToldBy carry G first port s) (λ hon o l was. (
+      was.0,
+      λ honest. let p = was.1 honest in (p.0, step o l p.0 p.1),
+    )) c holds.1,
+  )
+
+  pub fact_called : (failed : Bool) (A : HostContents → Type 0) (f : HostContents → HostContents) → ((o n : Option HostContents) (l : EndLog)
+      → Exposes o n A f → AgreesBy carry first port s l → F o l.entries → G n l.entries) → (c d : Situation) → HostMoves failed A f c d
+      → IsHeldBy carry F first port s c → IsHeldBy carry G first port s d
+  fact_called failed A f step c d made holds = (
+    holds.0,
+    host_moves failed A f c d made (IsToldBy carry F first port s) (IsToldBy carry G first port s) (λ hon o n l exposes was. (
+      was.0,
+      λ honest. let p = was.1 honest in (p.0, step o n l exposes p.0 p.1),
+    )) holds.1,
+  )
+
 -- The stream of a connection is closed, unless it was.
 abbrev pub Closes : DeviceConnection → Situation → Situation → Type 0
 Closes v c d = ((v.closed ≡ true) × (d ≡ c)) ⊎ ((v.closed ≡ false) × HostMoves false (λ h. Unit {0}) (after_close v.stream) c d)
@@ -170,22 +193,12 @@ module _ (carry : Carried) (first port : ℕ) (s : DeviceState) (v : DeviceConne
       → (v.closed ≡ false → IsFitState s → (o n : Option HostContents) (log : Log) → Exposes o n (λ h. Unit {0}) (after_close v.stream)
       → F o log → G n log)
       → Closes v c d → IsHeldBy carry F first port s c → IsHeldBy carry G first port s d
-  closed_held F G was now (inl (shut, same)) holds = (
-    holds.0,
-    subst (λ (x : Situation). Tells (IsToldBy carry G first port s) x) (sym same)
-        (tells_weaker (IsToldBy carry F first port s) (IsToldBy carry G first port s) (λ h o l told. (
-          told.0,
-          λ honest. let p = told.1 honest in (p.0, was shut p.0.fits o l.entries p.1),
-        )) c holds.1),
-  )
-  closed_held F G was now (inr (still, made)) holds = (
-    holds.0,
-    host_moves false (λ h. Unit {0}) (after_close v.stream) c d made (IsToldBy carry F first port s) (IsToldBy carry G first port s)
-        (λ h o n l exposes told. (
-          told.0,
-          λ honest. let p = told.1 honest in (p.0, now still p.0.fits o n l.entries exposes p.1),
-        )) holds.1,
-  )
+  closed_held F G was now (inl (shut, same)) holds =
+      subst (λ (x : Situation). IsHeldBy carry G first port s x) (sym same)
+      (fact_goes carry first port s F G (λ o l p. was shut p.fits o l.entries) c holds)
+  closed_held F G was now (inr (still, made)) holds =
+      fact_called carry first port s F G false (λ h. Unit {0}) (after_close v.stream) (λ o n l exposes p.
+      now still p.fits o n l.entries exposes) c d made holds
 
   pub closed_with : (lines : List Handshake) (t u : Table DeviceConnection)
       → (v.closed ≡ true → IsFitState s → (h : HostContents) (log : Log) → IsStreamed h log port t lines → IsStreamed h log port u lines)

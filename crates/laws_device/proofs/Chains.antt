@@ -34,8 +34,7 @@ same_is Rx Tx is = absurd cc
 same_is Rx Event is = absurd cc
 same_is Tx Rx is = absurd cc
 same_is Tx Event is = absurd cc
-same_is Event Rx is = absurd cc
-same_is Event Tx is = absurd cc
+same_is Event _ is = absurd cc
 
 chain_is : (a b : Chain) → same_chain a b ≡ true → a ≡ b
 chain_is a b is =
@@ -89,8 +88,7 @@ apart c d rx other = by c.queue d.queue rx other
     by Rx Rx is differ = absurd cc
     by Rx Tx is differ = refl
     by Rx Event is differ = refl
-    by Tx y is differ = absurd cc
-    by Event y is differ = absurd cc
+    by _ y is differ = absurd cc
 
 -- One chain of another queue more, written into, or less.
 module _ (c d : Chain) (rx : c.queue ≡ Rx) (other : same_queue d.queue Rx ≡ false) where

@@ -2,7 +2,7 @@
 use Rattle.std.proofs.Common.{◌≡◌, ℕ, ◌+◌, ◌≤◌, ◌==◌, ◌&&◌, ◌||◌, not, Bool, true, false, cond, if◌then◌else◌, List, [], ◌∷◌, length}
 use Rattle.std.proofs.Common.{Contains, Option, Some, None, Result, Ok, Err, refl, sym, subst, ◌∙◌, arith, IfSome, IsOkAnd}
 use Rattle.std.proofs.lemmas.Grind.{common_steps}
-use Rattle.vs_contents.specs.CallTree.{Done, bind, for_each, while_up_to}
+use Rattle.vs_contents.specs.CallTree.{Ask, Done, bind, for_each, while_up_to}
 use Rattle.vs_conn.specs.End.{CanSend, ConnectionEnd, owes_of, paid_of, state_may_send, wanting_credit, with_payload_sent}
 use Rattle.vs_conn.specs.{Headers.owed_header, Headers.payload_header, declared.end.Owed.Owed, declared.end.State.State}
 use Rattle.vs_conn.specs.{declared.end.Stop.TheVariants.ShutDown, declared.end.TheConstants.OWED_MAX}
@@ -14,7 +14,7 @@ use Rattle.vs_replies.specs.declared.Reply.{Reply}
 use Rattle.vs_ring_port.specs.{declared.device_ring.Chain.Chain, declared.failure.Failure.Failure}
 use Rattle.laws_tables.specs.{Ends.is_new, Steps.payload_on}
 use Rattle.laws_tables.proofs.Slots.{found_by}
-use Rattle.vs_device_parts.specs.{Calls.DeviceTree, Calls.IsReadOf, Calls.ReadStream, Calls.Situation, Connections.after_leaving}
+use Rattle.vs_device_parts.specs.{Calls.DeviceTree, Calls.IsReadOf, Calls.ReadStream, Calls.Situation, Connections.after_leaving, Streams.closing}
 use Rattle.vs_device_parts.specs.Connections.{after_shut, cut_off, route_to_guest, stream_closed, with_connection, with_fault}
 use Rattle.vs_device_parts.specs.{Playing.IsRxChain, Receiving.Filling, Receiving.after_paying, Receiving.fill_rx_of, Receiving.filled_of}
 use Rattle.vs_device_parts.specs.Receiving.{hold, may_read, put_on, put_owed, put_packet, put_payload, put_reply, put_reply_of}
@@ -22,11 +22,12 @@ use Rattle.vs_device_parts.specs.Receiving.{read_answered, read_room, read_strea
 use Rattle.vs_device_parts.specs.State.{DeviceConnection, DeviceEntry, DeviceState}
 use Rattle.laws_device.specs.Honest.{IsFitState}
 use Rattle.laws_device.proofs.{Seats.Carried, Changing.cuts, Changing.shuts, Changing.wants, Changing.same, Keeping.Goes, Keeping.Keeps}
-use Rattle.laws_device.proofs.{Keeping.Lets, Keeping.keeps_bind, Keeping.keeps_each, Keeping.keeps_then, Keeping.keeps_while, Putting.Puts}
+use Rattle.laws_device_walk.proofs.Keeping.{keeps_if, keeps_some}
+use Rattle.laws_device.proofs.{Keeping.asking, Keeping.Lets, Keeping.keeps_bind, Keeping.keeps_each, Keeping.keeps_then, Keeping.keeps_while, Putting.Puts}
 use Rattle.laws_device.proofs.{Putting.owed_puts, Putting.reply_puts, Putting.rst_puts, Putting.send_puts, Steps.Filled, Steps.Open}
 use Rattle.laws_device.proofs.Steps.{changed, closing_keeps, cut_with, goes_on, hold_keeps, open_filled, called_with}
 use Rattle.laws_device.proofs.{Writing.writes_first, Writing.written_keeps, Carrying.Fact, Carrying.IsHeldBy, Carrying.IsToldBy}
-use Rattle.laws_device.proofs.Carrying.{StreamedOver, With, closed_held, put_goes, streams_call, streams_go}
+use Rattle.laws_device.proofs.Carrying.{StreamedOver, With, closed_held, fact_called, put_goes, streams_call, streams_go}
 use Rattle.laws_device.proofs.Ringing.{host_moves}
 use Rattle.laws_device_bytes.proofs.Changing.{called_host, closes_streams, ends_streams, leaves_streams, put_empty, reads_streams}
 use Rattle.laws_device_bytes.proofs.{Changing.shuts_streams, Gives.pays_gives}
@@ -49,11 +50,8 @@ may_send_on e state.Live n may fits = live e.own.send e.peer.receive may
     live : (a b : Bool) → (not b && not a) ≡ true → IsOkAnd (cond (a || b) (Err ShutDown) (Ok (free_of e.credit))) (λ free. n ≤ free)
     live false false is = fits
     live true false is = absurd cc
-    live true true is = absurd cc
-    live false true is = absurd cc
-may_send_on e state.Asked n may fits = absurd cc
-may_send_on e state.Answering n may fits = absurd cc
-may_send_on e state.Ended n may fits = absurd cc
+    live _ true is = absurd cc
+may_send_on e _ n may fits = absurd cc
 
 pub can_send : (e : ConnectionEnd) (n : ℕ) → may_read e e.state ≡ true → n ≤ free_of e.credit → CanSend e n
 can_send e n may fits = may_send_on e e.state n may fits
@@ -100,22 +98,10 @@ module _ (carry : Carried) (lines : List Handshake) (first port : ℕ) where
       (λ e told. keeps_bind Over (f (record r.state { chain = None })) finish e
       (goes (λ s x. Keeps Over (finish s) x) e (subst (λ (o : Option Chain). IfSome o IsRxChain) (sym none) tt, told)
       (λ x held. (held, λ going. still))))))
-      (λ q d none over holds. ended q d none over holds)
-      c ready
-    where
-      ended : (q : Filling) (d : Situation) → q.state.chain ≡ None → q.over ≡ true → Now q.state d
-          → Keeps Over (elim q.state.chain [
-            | None ↦ Done q
-            | Some chain ↦ bind (put_on chain h [] q) (λ p. bind (f p.state) (λ s. Done (record p { state = s })))
-          ]) d
-      ended q d none over holds = by q.state.chain none
-        where
-          by : (o : Option Chain) → o ≡ None → Keeps Over (elim o [
-            | None ↦ Done q
-            | Some chain ↦ bind (put_on chain h [] q) (λ p. bind (f p.state) (λ s. Done (record p { state = s })))
-          ]) d
-          by None is = (holds, λ going. let both : true ≡ false = sym over ∙ going in absurd cc)
-          by (Some chain) is = absurd cc
+      (λ q d none over holds. keeps_some asking Over q.state.chain (Done q)
+      (λ chain. bind (put_on chain h [] q) (λ p. bind (f p.state) (λ s. Done (record p { state = s })))) d
+      (λ gone. (holds, λ going. let both : true ≡ false = sym over ∙ going in absurd cc))
+      (λ chain some. let both : None ≡ Some chain = sym none ∙ some in absurd cc)) c ready
 
   -- The same, where the streams are as the table says then, and no call on the host follows.
   empty_put : (h : Header) (s t : DeviceState) → (IsFitState s → (c : HostContents) (log : Log) → IsStreamed c log port s.table lines
@@ -178,14 +164,15 @@ module _ (carry : Carried) (lines : List Handshake) (first port : ℕ) where
         (λ fits. rst_puts carry port r.state fits e there owed.Rst owes refl (stream_closed e.value))
         (λ fits o log x. (fits.sound, empty_put _ r.state r.state (λ fits c log x. x) fits o log x))
         refl ready.1
-        (λ R d held holds. closing_keeps carry lines first port R (λ t. Done (after_leaving e.slot t)) e stream_closed gone d
+        (λ R d held holds. keeps_bind R (closing e stream_closed gone) (λ t. Done (after_leaving e.slot t)) d
+        (closing_keeps (λ u. R (after_leaving e.slot u)) e stream_closed gone d
         (λ x closes. holds x (closed_held carry first port t e.value d x F (Streamed t.table)
         (λ shut fits o log y. streams_go carry first lines lines port port r.state.table t.table log log (λ few. few)
         (λ h few z. leaves_streams h log port r.state.table lines z y.0 e there shut (stream_closed e.value)) o y.1)
         (λ still fits o n log exposes y. streams_call carry first lines lines port port r.state.table t.table log log (λ few. few)
         (λ h. Unit {0}) (after_close e.value.stream) (λ h any few z. closes_streams h log port r.state.table lines z y.0 e there
         (stream_closed e.value)) o n exposes y.1)
-        closes held))) c ready
+        closes held)))) c ready
     owed_by what owes c ready =
         let v : DeviceConnection = record e.value { end = paid_of e.value.end what } in
         let t : DeviceState = record (with_connection e.slot v spent) { last_put = Some e.slot } in
@@ -194,32 +181,19 @@ module _ (carry : Carried) (lines : List Handshake) (first port : ℕ) where
         (empty_put _ r.state t (stays_by what v owes refl)) refl ready.1 (λ R d held holds. holds d held) c ready
 
   pub put_owed_keeps : (slot : ℕ) (r : Filling) (c : Situation) → Ready r c → Keeps (Goes Ready Over) (put_owed slot r) c
-  put_owed_keeps slot r c ready = by (entry_under r.state.table slot) refl
+  put_owed_keeps slot r c ready =
+      keeps_some asking (Goes Ready Over) (entry_under r.state.table slot) (Done (r, false))
+      (λ e. elim (owes_of e.value.end) [ None ↦ Done (r, false) | Some what ↦ puts e what ]) c (λ none. filled) (λ e under.
+      keeps_some asking (Goes Ready Over) (owes_of e.value.end) (Done (r, false)) (puts e) c (λ none. filled) (λ what owes.
+      keeps_then Over (Goes Ready Over) (put_packet (owed_header e.value.end (route_to_guest r.state.cid e.flow) what) (after_paying what e) r)
+      (λ q. Done (q, not q.over)) c (owed_by e r (under_there r.state slot e under) what owes c ready) one_put))
     where
-      owing : (e : DeviceEntry) → Contains r.state.table.entries e → (o : Option Owed) → owes_of e.value.end ≡ o → Keeps (Goes Ready Over)
-          (elim o [
-            | None ↦ Done (r, false)
-            | Some what ↦
-                bind (put_packet (owed_header e.value.end (route_to_guest r.state.cid e.flow) what) (after_paying what e) r)
-                (λ q. Done (q, not q.over))
-          ]) c
-      owing e there None owes = open_filled carry lines first port r c ready
-      owing e there (Some what) owes =
-          keeps_then Over (Goes Ready Over) (put_packet (owed_header e.value.end (route_to_guest r.state.cid e.flow) what)
-          (after_paying what e) r)
-          (λ q. Done (q, not q.over)) c (owed_by e r there what owes c ready) one_put
+      filled : Over r c
+      filled = open_filled carry lines first port r c ready
 
-      by : (o : Option DeviceEntry) → entry_under r.state.table slot ≡ o → Keeps (Goes Ready Over) (elim o [
-        | None ↦ Done (r, false)
-        | Some e ↦ elim (owes_of e.value.end) [
-          | None ↦ Done (r, false)
-          | Some what ↦
-              bind (put_packet (owed_header e.value.end (route_to_guest r.state.cid e.flow) what) (after_paying what e) r)
-              (λ q. Done (q, not q.over))
-        ]
-      ]) c
-      by None under = open_filled carry lines first port r c ready
-      by (Some e) under = owing e (under_there r.state slot e under) (owes_of e.value.end) refl
+      puts : DeviceEntry → Owed → DeviceTree (Filling × Bool)
+      puts e what = bind (put_packet (owed_header e.value.end (route_to_guest r.state.cid e.flow) what) (after_paying what e) r)
+          (λ q. Done (q, not q.over))
 
   -- What a connection reads of its stream.
   module _ (e : DeviceEntry) (r : Filling) (there : Contains r.state.table.entries e)
@@ -270,23 +244,16 @@ module _ (carry : Carried) (lines : List Handshake) (first port : ℕ) where
 
       answered_keeps : (answer : StreamRead) (payload : List ℕ) (c d : Situation) → Lets (ReadStream e.value.stream room) (answer, payload) c d
           → Now with_it c → Keeps Over (read_answered chain e answer payload chained) d
-      answered_keeps (read.Got n) payload c d made holds = payload_keeps payload made.1 d (
-        holds.0,
-        host_moves false (IsReadOf e.value.stream room (read.Got n, payload)) (after_read e.value.stream (read.Got n)) c d made.0
-            (IsToldBy carry (Streamed r.state.table) first port with_it) (IsToldBy carry (Read payload) first port with_it) (λ hon o k l exposes was. (
-              was.0,
-              λ honest. let p = was.1 honest in (
-                p.0,
-                streams_call carry first lines lines port port r.state.table (with_value r.state.table e.slot (sent payload)) l.entries
-                    (PutPacket (payload_on Device r.state.cid e.flow e.value.end payload) ∷ l.entries)
-                    (carry.before first (PutPacket (payload_on Device r.state.cid e.flow e.value.end payload)) l.entries)
-                    (IsReadOf e.value.stream room (read.Got n, payload)) (after_read e.value.stream (read.Got n)) (λ h is few x.
-                    subst (λ (bytes : List ℕ). IsStreamed (after_read e.value.stream (read.Got n) h)
-                    (PutPacket (payload_on Device r.state.cid e.flow e.value.end bytes) ∷ l.entries) port (with_value r.state.table e.slot (sent bytes)) lines)
-                    (sym is.1) (reads_streams h l.entries port r.state.table lines x p.0.fits.sound e there n r.state.cid)) o k exposes p.1,
-              ),
-            )) holds.1,
-      )
+      answered_keeps (read.Got n) payload c d made holds = payload_keeps payload made.1 d
+          (fact_called carry first port with_it (Streamed r.state.table) (Read payload) false (IsReadOf e.value.stream room (read.Got n, payload))
+          (after_read e.value.stream (read.Got n)) (λ o k l exposes p.
+          streams_call carry first lines lines port port r.state.table (with_value r.state.table e.slot (sent payload)) l.entries
+          (PutPacket (payload_on Device r.state.cid e.flow e.value.end payload) ∷ l.entries)
+          (carry.before first (PutPacket (payload_on Device r.state.cid e.flow e.value.end payload)) l.entries)
+          (IsReadOf e.value.stream room (read.Got n, payload)) (after_read e.value.stream (read.Got n)) (λ h is few x.
+          subst (λ (bytes : List ℕ). IsStreamed (after_read e.value.stream (read.Got n) h)
+          (PutPacket (payload_on Device r.state.cid e.flow e.value.end bytes) ∷ l.entries) port (with_value r.state.table e.slot (sent bytes)) lines)
+          (sym is.1) (reads_streams h l.entries port r.state.table lines x p.fits.sound e there n r.state.cid)) o k exposes) c d made.0 holds)
       answered_keeps read.Again payload c d made holds = (
         called_with carry lines first port with_it with_it refl refl (λ fits. same carry port with_it fits) false
             (IsReadOf e.value.stream room (read.Again, payload)) called
@@ -301,28 +268,26 @@ module _ (carry : Carried) (lines : List Handshake) (first port : ℕ) where
         λ still. going,
       )
       answered_keeps read.Failed payload c d made holds =
-          closing_keeps carry lines first port Over (λ t. Done (record chained { state = t })) e cut_off (with_fault with_it) d (λ x closes. (
+          keeps_bind Over (closing e cut_off (with_fault with_it)) (λ t. Done (record chained { state = t })) d
+          (closing_keeps (λ t x. Over (record chained { state = t }) x) e cut_off (with_fault with_it) d (λ x closes. (
             cut_with carry lines first port e with_it (with_connection e.slot (cut_off e.value) (with_fault with_it)) there refl refl
                 (λ fits. cuts carry port with_it fits e there old) d x closes
                 (called_with carry lines first port with_it with_it refl refl (λ fits. same carry port with_it fits) true
                 (IsReadOf e.value.stream room (read.Failed, payload)) called
                 (λ fits h log is y. called_host h log port r.state.table lines y) c d made.0 holds),
             λ still. going,
-          ))
+          )))
 
       chain_keeps : (c : Situation) → Now (record r.state { chain = Some chain }) c → Keeps Over (read_with_chain e chained) c
       chain_keeps c holds = (tt, λ a d made. answered_keeps a.0 a.1 c d made holds)
 
     none_keeps : (q : Filling) (d : Situation) → q.state.chain ≡ None → q.over ≡ true → Now q.state d → Keeps Over
         (read_with_chain e q) d
-    none_keeps q d none over holds = by q.state.chain none
-      where
-        by : (o : Option Chain) → o ≡ None → Keeps Over (read_with_chain e (record q { state = record q.state { chain = o } })) d
-        by None is = (
-          subst (λ (o : Option Chain). Now (record q.state { chain = o }) d) none holds,
-          λ going. let both : true ≡ false = sym over ∙ going in absurd cc,
-        )
-        by (Some chain) is = absurd cc
+    none_keeps q d none over holds =
+        keeps_some asking Over q.state.chain (Done q) (λ chain. Ask (ReadStream e.value.stream (read_room (free_of e.value.end.credit) chain))
+        (λ answer. read_answered chain e answer.0 answer.1 q)) d
+        (λ gone. (holds, λ going. let both : true ≡ false = sym over ∙ going in absurd cc))
+        (λ chain some. let both : None ≡ Some chain = sym none ∙ some in absurd cc)
 
     read_by : (b : Bool) (c : Situation) → Ready r c → Keeps Over (cond b
         (Done (record r { state = with_connection e.slot (record e.value { end = wanting_credit e.value.end }) r.state }))
@@ -353,74 +318,44 @@ module _ (carry : Carried) (lines : List Handshake) (first port : ℕ) where
 
   read_keeps : (e : DeviceEntry) (r : Filling) → Contains r.state.table.entries e → (c : Situation) → Ready r c → Keeps Over
       (read_stream e r) c
-  read_keeps e r there c ready = by (may_read e.value.end e.value.end.state) refl
-    where
-      by : (b : Bool) → may_read e.value.end e.value.end.state ≡ b → Keeps Over (cond b (cond (free_of e.value.end.credit == 0)
-          (Done (record r { state = with_connection e.slot (record e.value { end = wanting_credit e.value.end }) r.state }))
-          (bind (hold r) (read_with_chain e))) (Done r)) c
-      by false may = open_filled carry lines first port r c ready
-      by true may = read_by e r there may (free_of e.value.end.credit == 0) c ready
+  read_keeps e r there c ready =
+      keeps_if asking Over (may_read e.value.end e.value.end.state) _ _ c
+      (λ may. read_by e r there may (free_of e.value.end.credit == 0) c ready) (λ no. open_filled carry lines first port r c ready)
 
   -- A slot of the round.
   owes_keeps : (slot : ℕ) (q : Filling) (c : Situation) → Over q c
       → Keeps Over (if q.over then Done q else while_up_to OWED_MAX (put_owed slot) q) c
-  owes_keeps slot q c filled = by q.over refl
-    where
-      by : (b : Bool) → q.over ≡ b → Keeps Over (cond b (Done q) (while_up_to OWED_MAX (put_owed slot) q)) c
-      by true is = filled
-      by false is = keeps_while Ready Over (open_filled carry lines first port) (put_owed slot) (put_owed_keeps slot) OWED_MAX q c
-          (filled.0, filled.1 is, is)
-
-  abbrev reading : Option DeviceEntry → Filling → DeviceTree Filling
-  reading o r = elim o [ None ↦ Done r | Some e ↦ read_stream e r ]
+  owes_keeps slot q c filled =
+      keeps_if asking Over q.over _ _ c (λ over. filled) (λ on. keeps_while Ready Over (open_filled carry lines first port) (put_owed slot)
+      (put_owed_keeps slot) OWED_MAX q c (filled.0, filled.1 on, on))
 
   serve_keeps : (slot : ℕ) (r : Filling) (c : Situation) → Over r c → Keeps Over (serve_slot slot r) c
-  serve_keeps slot r c filled = by r.over refl
-    where
-      reads : r.over ≡ false → (o : Option DeviceEntry) → entry_under r.state.table slot ≡ o → Keeps Over (reading o r) c
-      reads is None under = filled
-      reads is (Some e) under = read_keeps e r (under_there r.state slot e under) c (filled.0, filled.1 is, is)
-
-      by : (b : Bool) → r.over ≡ b → Keeps Over (cond b (Done r) (bind (reading (entry_under r.state.table slot) r) (λ q.
-          if q.over then Done q else while_up_to OWED_MAX (put_owed slot) q))) c
-      by true is = filled
-      by false is =
-          keeps_then Over Over (reading (entry_under r.state.table slot) r)
-          (λ q. if q.over then Done q else while_up_to OWED_MAX (put_owed slot) q) c
-          (reads is (entry_under r.state.table slot) refl) (owes_keeps slot)
+  serve_keeps slot r c filled =
+      keeps_if asking Over r.over _ _ c (λ over. filled) (λ on.
+      keeps_then Over Over (elim (entry_under r.state.table slot) [ None ↦ Done r | Some e ↦ read_stream e r ]) _ c
+      (keeps_some asking Over (entry_under r.state.table slot) (Done r) (λ e. read_stream e r) c (λ none. filled)
+      (λ e under. read_keeps e r (under_there r.state slot e under) c (filled.0, filled.1 on, on))) (owes_keeps slot))
 
   -- The whole call.
   abbrev FillEnds : DeviceState × Result FilledAnswer Failure → Situation → Type 0
   FillEnds x c = Now x.0 c
 
-  rest_keeps : (r : Filling) (c : Situation) → Over r c
-      → Keeps Over (if r.over then Done r else for_each serve_slot (round_from r.state.last_put (slots r.state.table)) r) c
-  rest_keeps r c filled = by r.over
-    where
-      by : (b : Bool) → Keeps Over (cond b (Done r) (for_each serve_slot (round_from r.state.last_put (slots r.state.table)) r)) c
-      by true = filled
-      by false = keeps_each Over serve_slot serve_keeps (round_from r.state.last_put (slots r.state.table)) r c filled
-
   pub fill_keeps : (s : DeviceState) (c : Situation) → Now s c → Keeps FillEnds (fill_rx_of s) c
   fill_keeps s c holds = by s.failed refl
     where
-      start : Filling
-      start = record { state = s; put = 0; read = 0; over = false }
+      replies : DeviceTree Filling
+      replies = while_up_to (length s.replies) put_reply (record { state = s; put = 0; read = 0; over = false })
+
+      rounds : Filling → DeviceTree Filling
+      rounds r = if r.over then Done r else for_each serve_slot (round_from r.state.last_put (slots r.state.table)) r
 
       by : (o : Option Failure) → s.failed ≡ o → Keeps FillEnds (elim o [
         | Some f ↦ Done (s, Err f)
-        | None ↦
-            bind (while_up_to (length s.replies) put_reply (record { state = s; put = 0; read = 0; over = false })) (λ r.
-            bind (if r.over then Done r else for_each serve_slot (round_from r.state.last_put (slots r.state.table)) r)
-            (λ q. Done (filled_of q)))
+        | None ↦ bind replies (λ r. bind (rounds r) (λ q. Done (filled_of q)))
       ]) c
       by (Some f) failed = holds
       by None going =
-          keeps_then Over FillEnds (while_up_to (length s.replies) put_reply (record { state = s; put = 0; read = 0; over = false })) (λ r.
-          bind (if r.over then Done r else for_each serve_slot (round_from r.state.last_put (slots r.state.table)) r)
-          (λ q. Done (filled_of q))) c
-          (keeps_while Ready Over (open_filled carry lines first port) put_reply put_reply_keeps (length s.replies)
-          (record { state = s; put = 0; read = 0; over = false }) c (holds, going, refl))
-          (λ r d filled. keeps_then Over FillEnds (if r.over then Done r else for_each serve_slot
-          (round_from r.state.last_put (slots r.state.table)) r)
-          (λ q. Done (filled_of q)) d (rest_keeps r d filled) (λ q e over. over.0))
+          keeps_then Over FillEnds replies _ c
+          (keeps_while Ready Over (open_filled carry lines first port) put_reply put_reply_keeps (length s.replies) _ c (holds, going, refl))
+          (λ r d filled. keeps_then Over FillEnds (rounds r) _ d (keeps_if asking Over r.over _ _ d (λ over. filled) (λ on.
+          keeps_each Over serve_slot serve_keeps (round_from r.state.last_put (slots r.state.table)) r d filled)) (λ q e over. over.0))

@@ -123,8 +123,7 @@ fits_op verdict.Discard e h u is fits = rw (plus_zero u) (record {
   within = discards_within e.credit.rx_cnt e.credit.fwd_cnt h.len e.credit.alloc fits.rx fits.fwd fits.within;
 })
 fits_op verdict.Peer e h u is fits = rw (plus_zero u) (fits_message (op_named h.op) e h u fits)
-fits_op (verdict.Rst why) e h u is fits = rw (plus_zero u) fits
-fits_op verdict.Ignore e h u is fits = rw (plus_zero u) fits
+fits_op _ e h u is fits = rw (plus_zero u) fits
 
 pub fits_after : (e : ConnectionEnd) (h : Header) (u : ℕ) → HoldsBytes e.credit u
     → HoldsBytes (end_after e h).credit (u + delivered (verdict_of e h) h.len)

@@ -23,10 +23,11 @@ use Rattle.vs_device_parts.specs.{Calls.DeviceTree, Calls.Dial, Calls.HostMoves,
 use Rattle.vs_device_parts.specs.{State.DeviceState, Connections.after_leaving, Connections.stream_closed, Connections.with_connection}
 use Rattle.vs_device_parts.specs.{Connections.with_dialed, Connections.with_fault, Connections.with_reply, Transmitting.dial_answered}
 use Rattle.vs_device_parts.specs.Transmitting.{heard, on_known, on_packet, on_unknown, refused, try_request, unknown_why}
-use Rattle.vs_device_parts.specs.Streams.{leaving}
+use Rattle.vs_device_parts.specs.Streams.{closing, leaving}
 use Rattle.vs_wrap.specs.Wrap.{counted}
 use Rattle.laws_device.proofs.{Chains.Behind, Seats.AgreesBy, Seats.Carried, Seats.LeftBy, Seats.seat, Fits.delivered, Fits.fewer}
-use Rattle.laws_device.proofs.{Fits.fits_after, Keeping.Keeps, Keeping.Lets, Keeping.keeps_bind, Ringing.Tells, Ringing.moves}
+use Rattle.laws_device_walk.proofs.Keeping.{keeps_if, keeps_some}
+use Rattle.laws_device.proofs.{Fits.fits_after, Keeping.Keeps, Keeping.asking, Keeping.Lets, Keeping.keeps_bind, Ringing.Tells, Ringing.moves}
 use Rattle.laws_device.proofs.{Ringing.tells_weaker, Ringing.host_moves, Ringing.Telling, Ringing.bytes_held, Steps.closing_keeps}
 use Rattle.laws_device.proofs.Taking.{drops_it, has_its_room, ignores_it, leaves_with, opens, replies_to, stays_with}
 use Rattle.laws_device.proofs.{Tabling.IsFitConnection, Tabling.begun_fits, Tabling.entry_fits, Tabling.has_end, Carrying.Fact}
@@ -262,8 +263,8 @@ module _ (carry : Carried) (lines : List Handshake) (first port : ℕ) (s : Devi
                   (λ payload log was fair whole few g any y. closes_streams g (GotPacket (packet payload) ∷ log) port s.table lines
                   (heard_streams payload log was whole g y) was.fits.sound e there (stream_closed (heard h e.value))) made.1 tells
             ] in
-            keeps_bind Heard (leaving x s) (λ t. Done (t, verdict.Peer)) c
-            (closing_keeps carry lines first port (λ t d. Heard (t, verdict.Peer) d) next x stream_closed s c by)
+            keeps_bind Heard (leaving x s) (λ t. Done (t, verdict.Peer)) c (keeps_bind (λ t d. Heard (t, verdict.Peer) d)
+            (closing x stream_closed s) next c (closing_keeps (λ t. Heard (after_leaving e.slot t, verdict.Peer)) x stream_closed s c by))
 
         refuses : (w : Why) → verdict_of e.value.end h ≡ verdict.Rst w → Keeps Heard
             (with_verdict (verdict.Rst w) (on_known (verdict.Rst w) chain h e s)) c
@@ -369,51 +370,29 @@ module _ (carry : Carried) (lines : List Handshake) (first port : ℕ) (s : Devi
       refused_keeps : is_reset h ≡ false → Heard (refused h s) c
       refused_keeps plain = replied (with_reply (reply_to (flow_to_host h) h) s) (verdict.Rst why.NotLive) (refl, refl, refl, refl, refl, refl) plain
 
-      tried : (path : List ℕ) (b x : Bool) → is_assigned h.dst_port ≡ b → has_place s.table ≡ x → is_reset h ≡ false → is_request (packet []) ≡ true → h.kind ≡ 1
-          → Keeps Heard (cond b (Done (refused h s)) (cond x (Ask (Dial path (flow_to_host h)) (λ answer. Done (dial_answered h answer s)))
-          (Done (refused h s)))) c
-      tried path true x outside place plain request kind = refused_keeps plain
-      tried path false true outside place plain request kind = (tt, λ a d made. dial_by path a d made outside plain request kind place)
-      tried path false false outside place plain request kind = refused_keeps plain
-
       asked_by : (is_of Stream h && (h.op == 1)) ≡ true → is_request (packet []) ≡ true
       asked_by is = grind (arith, nat_tests, common_steps, is)
 
       of_stream : (is_of Stream h && (h.op == 1)) ≡ true → h.kind ≡ 1
       of_stream is = grind (arith, nat_tests, common_steps, is)
 
-      requested : (b : Bool) → (is_of Stream h && (h.op == 1)) ≡ b → is_reset h ≡ false
-          → Keeps Heard (cond b (try_request h s) (Done (with_reply (reply_to (flow_to_host h) h) s, verdict.Rst (unknown_why h)))) c
-      requested true is plain = tried _ (is_assigned h.dst_port) (has_place s.table) refl refl plain (asked_by is) (of_stream is)
-      requested false is plain = replied (with_reply (reply_to (flow_to_host h) h) s) (verdict.Rst (unknown_why h)) (refl, refl, refl, refl, refl, refl) plain
-
-      unknown : (b : Bool) → is_reset h ≡ b → Keeps Heard (cond b (Done (s, verdict.Ignore))
-          (cond (is_of Stream h && (h.op == 1)) (try_request h s)
-          (Done (with_reply (reply_to (flow_to_host h) h) s, verdict.Rst (unknown_why h))))) c
-      unknown true is = quiet s verdict.Ignore c refl refl (λ payload log was fair. ignores_it carry first port s
-          (packet payload) log was fair wire kept none is) passes tells
-      unknown false is = requested (is_of Stream h && (h.op == 1)) refl is
-
-    -- By the entry of its flow.
-    by_entry : (o : Option DeviceEntry) → entry_of s.table (flow_to_host h) ≡ o → (c : Situation) → Tells Came c → Keeps Heard (elim o [
-      | None ↦ on_unknown h s
-      | Some e ↦ bind (on_known (verdict_of e.value.end h) chain h e s) (λ t. Done (t, verdict_of e.value.end h))
-    ]) c
-    by_entry None is c tells = unknown is c tells (is_reset h) refl
-    by_entry (Some e) is c tells =
-        let found = found_by (λ (x : DeviceEntry). same_flow (flow_to_host h) x.flow) s.table.entries e is in
-        by_verdict e found.0 (same_flow_true (flow_to_host h) e.flow found.1) c tells (verdict_of e.value.end h) refl
+      unknown : Keeps Heard (on_unknown h s) c
+      unknown =
+          keeps_if asking Heard (is_reset h) _ _ c (λ is. quiet s verdict.Ignore c refl refl (λ payload log was fair. ignores_it carry first port s
+          (packet payload) log was fair wire kept none is) passes tells) (λ plain.
+          keeps_if asking Heard (is_of Stream h && (h.op == 1)) _ _ c (λ asks.
+          keeps_if asking Heard (is_assigned h.dst_port) _ _ c (λ mine. refused_keeps plain) (λ outside.
+          keeps_if asking Heard (has_place s.table) _ _ c
+          (λ place. (tt, λ a d made. dial_by _ a d made outside plain (asked_by asks) (of_stream asks) place)) (λ full. refused_keeps plain)))
+          (λ other. replied (with_reply (reply_to (flow_to_host h) h) s) (verdict.Rst (unknown_why h)) (refl, refl, refl, refl, refl, refl) plain))
 
   pub packet_keeps : (c : Situation) → Tells Came c → Keeps Heard (on_packet chain h s) c
-  packet_keeps c tells = by (is_dropped Device s.cid h) refl
-    where
-      by : (b : Bool) → is_dropped Device s.cid h ≡ b → Keeps Heard
-          (cond b (Done (record s { dropped = counted s.dropped }, verdict.Ignore))
-          (elim (entry_of s.table (flow_to_host h)) [
-            | None ↦ on_unknown h s
-            | Some e ↦ bind (on_known (verdict_of e.value.end h) chain h e s) (λ t. Done (t, verdict_of e.value.end h))
-          ])) c
-      by true is = quiet (record s { dropped = counted s.dropped }) verdict.Ignore c refl refl
-          (λ payload log was fair. drops_it carry first port s (packet payload) log was fair wire is) (λ payload log was fair whole few g x.
-          passes_streams g log port s.table lines x was.fits.sound (packet payload) whole (idle payload log was fair few is)) tells
-      by false is = by_entry is (entry_of s.table (flow_to_host h)) refl c tells
+  packet_keeps c tells =
+      keeps_if asking Heard (is_dropped Device s.cid h) _ _ c (λ is. quiet (record s { dropped = counted s.dropped }) verdict.Ignore c refl refl
+      (λ payload log was fair. drops_it carry first port s (packet payload) log was fair wire is) (λ payload log was fair whole few g x.
+      passes_streams g log port s.table lines x was.fits.sound (packet payload) whole (idle payload log was fair few is)) tells) (λ kept.
+      keeps_some asking Heard (entry_of s.table (flow_to_host h)) (on_unknown h s)
+      (λ e. bind (on_known (verdict_of e.value.end h) chain h e s) (λ t. Done (t, verdict_of e.value.end h))) c
+      (λ none. unknown kept none c tells) (λ e is.
+      let found = found_by (λ (x : DeviceEntry). same_flow (flow_to_host h) x.flow) s.table.entries e is in
+      by_verdict kept e found.0 (same_flow_true (flow_to_host h) e.flow found.1) c tells (verdict_of e.value.end h) refl))

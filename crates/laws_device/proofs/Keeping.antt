@@ -13,6 +13,9 @@ use Rattle.vs_page.proofs.Holding.{header_fits}
 use Rattle.vs_device_parts.specs.Calls.{IsFitAnswer, Call, Answer, Ring, Accept, Dial, Label, ReadStream, WriteStream, ShutWrite}
 use Rattle.vs_device_parts.specs.{Calls.CloseStream, Calls.DeviceTree, Calls.Situation, Calls.Allows, Playing.Runs}
 use Rattle.laws_device_streams.specs.Split.{CanPut, MayPut}
+use Rattle.laws_device_streams.proofs.Keeping.{asking as asked}
+use Rattle.laws_device_walk.proofs.Keeping.{Asking}
+use Rattle.laws_device_walk.proofs.Keeping as walked
 
 -- The chain is among those that are held.
 abbrev pub HoldsChain : Chain → RingContents → Type 0
@@ -28,22 +31,13 @@ Can (Ring (PublishCid cid)) c = cid < 2 ^ 64
 Can _ c = Unit {0}
 
 can_ring : (call : DeviceCall) (s : Situation) → Can (Ring call) s.ring → CanPut (Ring call) s
-can_ring (Take queue) s can = tt
-can_ring (Read chain place count) s can = tt
 can_ring (Write chain place bytes) s can = can.0
 can_ring (Return chain len) s can = can.0
-can_ring (Given queue) s can = tt
-can_ring (PublishCid cid) s can = tt
+can_ring _ s can = tt
 
 can_make : (call : Call) (s : Situation) → Can call s.ring → CanPut call s
 can_make (Ring call) s can = can_ring call s can
-can_make Accept s can = tt
-can_make (Dial path flow) s can = tt
-can_make (Label stream flow) s can = tt
-can_make (ReadStream stream n) s can = tt
-can_make (WriteStream stream bytes) s can = tt
-can_make (ShutWrite stream) s can = tt
-can_make (CloseStream stream) s can = tt
+can_make _ s can = tt
 
 -- What answers a call may get: of what is read at the front of a chain only that a header fits is asked.
 abbrev pub FitsAs : (call : DeviceCall) → DeviceAnswer call → Type 0
@@ -56,25 +50,17 @@ Lets call a s t = Allows call a s t
 
 fits_as : (call : DeviceCall) (a : DeviceAnswer call) → IsFitAnswer call a → FitsAs call a
 fits_as (Read chain place count) bytes fits = λ front. header_fits bytes fits
-fits_as (Take queue) a fits = fits
-fits_as (Write chain place bytes) a fits = fits
-fits_as (Return chain len) a fits = fits
-fits_as (Given queue) a fits = fits
-fits_as (PublishCid cid) a fits = fits
+fits_as _ a fits = fits
 
 pub lets : (call : Call) (a : Answer call) (s t : Situation) → Allows call a s t → Lets call a s t
 lets (Ring call) a s t allowed = (allowed.0, allowed.1, allowed.2, fits_as call a allowed.3)
-lets Accept a s t allowed = allowed
-lets (Dial path flow) a s t allowed = allowed
-lets (Label stream flow) a s t allowed = allowed
-lets (ReadStream stream n) a s t allowed = allowed
-lets (WriteStream stream bytes) a s t allowed = allowed
-lets (ShutWrite stream) a s t allowed = allowed
-lets (CloseStream stream) a s t allowed = allowed
+lets _ a s t allowed = allowed
+
+abbrev pub asking : Asking Situation
+asking = asked (λ call s. Can call s.ring) Lets
 
 abbrev pub Keeps : {A : Type 0} → (A → Situation → Type 0) → DeviceTree A → Situation → Type 0
-Keeps Q (Done x) s = Q x s
-Keeps Q (Ask call next) s = Can call s.ring × ((a : Answer call) (t : Situation) → Lets call a s t → Keeps Q (next a) t)
+Keeps Q tree c = walked.Keeps asking Q tree c
 
 module _ {A : Type 0} (Q : A → Situation → Type 0) where
   pub keeps_put : (t : DeviceTree A) (s : Situation) → Keeps Q t s → MayPut t s
@@ -95,14 +81,13 @@ module _ {A : Type 0} (Q : A → Situation → Type 0) where
 
   pub keeps_bind : {B : Type 0} (t : DeviceTree B) (f : B → DeviceTree A) (c : Situation) → Keeps (λ x d. Keeps Q (f x) d) t c
       → Keeps Q (bind t f) c
-  keeps_bind (Done x) f c keeps = keeps
-  keeps_bind (Ask call next) f c keeps = (keeps.0, λ a d allowed. keeps_bind (next a) f d (keeps.1 a d allowed))
+  keeps_bind t f c keeps = walked.keeps_then asking Q (λ x d. Keeps Q (f x) d) t f c keeps (λ x d kept. kept)
 
 -- One conversation, and then what follows each of its ends.
 pub keeps_then : {A B : Type 0} (P : B → Situation → Type 0) (Q : A → Situation → Type 0) (t : DeviceTree B) (f : B → DeviceTree A)
     (c : Situation)
     → Keeps P t c → ((x : B) (d : Situation) → P x d → Keeps Q (f x) d) → Keeps Q (bind t f) c
-keeps_then P Q t f c first then = keeps_bind Q t f c (keeps_weaker P (λ x d. Keeps Q (f x) d) then t c first)
+keeps_then P Q = walked.keeps_then asking Q P
 
 -- A step that says whether it goes on: where it does P holds, else E.
 abbrev pub Goes : {A : Type 0} → (A → Situation → Type 0) → (A → Situation → Type 0) → A × Bool → Situation → Type 0
@@ -123,9 +108,7 @@ module _ {A : Type 0} (P E : A → Situation → Type 0) (ends : (x : A) (c : Si
       let rest : (y : A) (d : Situation) → P y d → Keeps E (while_up_to n step y) d = λ y d kept. keeps_while step each n y d kept in
       keeps_then (Goes P E) E (step x) go c (each x c holds) (by_last n step rest)
 
-module _ {A : Type 0} (P : A → Situation → Type 0) where
-  pub keeps_each : {X : Type 0} (step : X → A → DeviceTree A) → ((i : X) (x : A) (c : Situation) → P x c → Keeps P (step i x) c)
-      → (is : List X) (x : A) (c : Situation) → P x c → Keeps P (for_each step is x) c
-  keeps_each step each [] x c holds = holds
-  keeps_each step each (i ∷ is) x c holds =
-      keeps_then P P (step i x) (for_each step is) c (each i x c holds) (λ y d kept. keeps_each step each is y d kept)
+pub keeps_each : {A X : Type 0} (P : A → Situation → Type 0) (step : X → A → DeviceTree A)
+    → ((i : X) (x : A) (c : Situation) → P x c → Keeps P (step i x) c)
+    → (is : List X) (x : A) (c : Situation) → P x c → Keeps P (for_each step is x) c
+keeps_each P = walked.keeps_each asking P

@@ -52,8 +52,7 @@ same_self c = let q = by c.queue in grind (arith, nat_tests, q)
   where
     by : (q : Queue) → same_queue q q ≡ true
     by Rx = refl
-    by Tx = refl
-    by Event = refl
+    by _ = refl
 
 -- The chain that was taken last, its bytes so far, and those held before.
 abbrev pub HoldsFirst : Chain → List ℕ → List Held → EndLog → Type 0

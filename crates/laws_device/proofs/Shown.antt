@@ -77,9 +77,7 @@ all_advertise (PutPacket p ∷ log) fair =
     let both = (one_put Device log p).0 fair in
     All-cons Advertises p (packets_put log) (λ other. advertises log p both.0 both.1 other) (all_advertise log both.0)
 all_advertise (GotPacket p ∷ log) fair = all_advertise log ((one_got Device log p).0 fair).0
-all_advertise (PutEvent id ∷ log) fair = all_advertise log fair
-all_advertise (GotEvent id ∷ log) fair = all_advertise log fair
-all_advertise (Mark cid ∷ log) fair = all_advertise log fair
+all_advertise (_ ∷ log) fair = all_advertise log fair
 
 pub new_clients : (first port : ℕ) (s : DeviceState) (l : EndLog) (e : DeviceEntry) → AgreesWith first port s l → Contains s.table.entries e
     → is_new e.value.end ≡ true → IsClients e

@@ -23,7 +23,9 @@ use Rattle.laws_device.specs.Honest.{is_held}
 use Rattle.laws_device.proofs.{Chains.Among, Chains.among_more, Chains.among_without, Chains.held_there, Carrying.IsToldBy}
 use Rattle.laws_device.proofs.{Carrying.StreamedOver, Carrying.With, Filling.Over, Filling.Ready, Filling.put_owed_keeps}
 use Rattle.laws_device.proofs.{Filling.put_reply_keeps, Filling.step_keeps, Filling.under_there, Hearing.After, Hearing.Heard, Keeping.Goes}
-use Rattle.laws_device.proofs.{Keeping.Keeps, Keeping.Lets, Keeping.keeps_then, Ringing.moves, Ringing.tells_weaker, Seats.Carried}
+use Rattle.laws_device_walk.proofs.Keeping.{keeps_if, keeps_some}
+use Rattle.laws_device.proofs.Steps.{none_came}
+use Rattle.laws_device.proofs.{Keeping.Keeps, Keeping.asking, Keeping.Lets, Keeping.keeps_then, Ringing.moves, Ringing.tells_weaker, Seats.Carried}
 use Rattle.laws_device.proofs.{Seats.LeftBy, Steps.hold_keeps, Transmitting.read_keeps, Transmitting.tx_keeps, Turning.event_put}
 use Rattle.laws_device.proofs.Turning.{shut_keeps, write_keeps_all}
 use Rattle.vs_proxy_parts.specs.State.{Handshake}
@@ -57,10 +59,7 @@ module _ (carry : Carried) (all : (held : List Held) → carry.others held) (lin
         by None hon o l asked was = absurd asked
         by (Some page) hon o l asked was =
             (λ still. among_more carry.others all chain (other chain Event made.3.queue_is refl) s.chain [] l.held holds.0 (was.0 still), was.1)
-    event_taken next.None d made = (
-      holds.0,
-      moves _ _ _ _ _ (log_taken Event next.None made.0.0) c d made.0.1 made.1 (Told s) (Told s) (λ hon o l asked was fair. was) holds.1,
-    )
+    event_taken next.None d made = none_came carry lines first port Event s c d made holds
     event_taken (next.Failed f) d made = (
       holds.0,
       moves _ _ _ _ _ (log_taken Event (next.Failed f) made.0.0) c d made.0.1 made.1 (Told s) (Told s) (λ hon o l asked was fair. was) holds.1,
@@ -81,11 +80,7 @@ module _ (carry : Carried) (all : (held : List Held) → carry.others held) (lin
     pub takes_keeps : (queue : Queue) → Keeps Now (takes_chain queue s) c
     takes_keeps Rx = hold_keeps carry lines first port Now (λ r. Done r.state) (filling s) (λ chain d kept. kept) (λ q d none over kept. kept) c
         (holds, going, refl)
-    takes_keeps Event = by s.event_owed
-      where
-        by : (b : Bool) → Keeps Now (cond b (Ask (Ring (Take Event)) (λ answer. Done s)) (Done s)) c
-        by true = (tt, λ answer d made. event_taken answer d made)
-        by false = holds
+    takes_keeps Event = keeps_if asking Now s.event_owed _ _ c (λ owed. (tt, λ answer d made. event_taken answer d made)) (λ no. holds)
     takes_keeps Tx = tx_keeps carry lines first port s Now (λ answer. chain_came answer s) (λ chain long queue d rx tells.
         read_keeps carry lines first port s chain long queue Now (λ f. Done (failing f s)) (λ r. Done r.0) (λ f e kept. kept)
         (λ h wire x e heard. heard_now chain queue h wire x e heard) rx d tells) (λ d kept. kept) (λ f d kept. kept) (Done s) (λ d kept. kept) c going holds
@@ -101,12 +96,9 @@ module _ (carry : Carried) (all : (held : List Held) → carry.others held) (lin
     put_keeps : (step : Filling → DeviceTree (Filling × Bool))
         → Keeps (Goes (Ready carry lines first port) (Over carry lines first port)) (step (filling s)) c
         → Keeps Now (elim s.chain as (λ _. DeviceTree DeviceState) [ None ↦ Done s | Some chain ↦ bind (step (filling s)) (λ q. Done q.0.state) ]) c
-    put_keeps step keeps = by s.chain
-      where
-        by : (o : Option Chain)
-            → Keeps Now (elim o as (λ _. DeviceTree DeviceState) [ None ↦ Done s | Some chain ↦ bind (step (filling s)) (λ q. Done q.0.state) ]) c
-        by None = holds
-        by (Some chain) = keeps_then (Goes (Ready carry lines first port) (Over carry lines first port)) Now (step (filling s)) (λ q. Done q.0.state) c keeps put_now
+    put_keeps step keeps =
+        keeps_some asking Now s.chain (Done s) (λ chain. bind (step (filling s)) (λ q. Done q.0.state)) c (λ none. holds) (λ chain held.
+        keeps_then (Goes (Ready carry lines first port) (Over carry lines first port)) Now (step (filling s)) (λ q. Done q.0.state) c keeps put_now)
 
     pub puts_reply_keeps : Keeps Now (puts_reply s) c
     puts_reply_keeps = put_keeps put_reply (put_reply_keeps carry lines first port (filling s) c ready)
@@ -115,19 +107,11 @@ module _ (carry : Carried) (all : (held : List Held) → carry.others held) (lin
     puts_owed_keeps slot = put_keeps (put_owed slot) (put_owed_keeps carry lines first port slot (filling s) c ready)
 
     pub puts_payload_keeps : (slot : ℕ) → Keeps Now (puts_payload slot s) c
-    puts_payload_keeps slot = by (entry_under s.table slot) refl
-      where
-        live : (e : DeviceEntry) → Contains s.table.entries e → (b : Bool) → may_read e.value.end e.value.end.state ≡ b
-            → Keeps Now (cond b (cond (free_of e.value.end.credit == 0)
-            (Done (with_connection e.slot (record e.value { end = wanting_credit e.value.end }) s))
-            (bind (read_with_chain e (filling s)) (λ r. Done r.state))) (Done s)) c
-        live e there false may = holds
-        live e there true may = step_keeps carry lines first port e (filling s) there may (free_of e.value.end.credit == 0) c ready
-
-        by : (o : Option DeviceEntry) → entry_under s.table slot ≡ o
-            → Keeps Now (elim o as (λ _. DeviceTree DeviceState) [ None ↦ Done s | Some e ↦ reads e s ]) c
-        by None under = holds
-        by (Some e) under = live e (under_there s slot e under) (may_read e.value.end e.value.end.state) refl
+    puts_payload_keeps slot =
+        keeps_some asking Now (entry_under s.table slot) (Done s) (λ e. reads e s) c (λ none. holds) (λ e under.
+        keeps_if asking Now (may_read e.value.end e.value.end.state) _ _ c (λ may.
+        step_keeps carry lines first port e (filling s) (under_there s slot e under) may (free_of e.value.end.credit == 0) c ready)
+        (λ no. holds))
 
   module _ (s : DeviceState) (c : Situation) (holds : Now s c) where
     -- It returns a transmit page, and puts the owed event.
@@ -145,31 +129,21 @@ module _ (carry : Carried) (all : (held : List Held) → carry.others held) (lin
     )
 
     pub puts_event_keeps : (chain : Chain) → chain.queue ≡ Event → 4 ≤ chain.writable → IsThere chain c → Keeps Now (puts_event chain s) c
-    puts_event_keeps chain queue room there = by s.event_owed
-      where
-        by : (b : Bool) → Keeps Now (cond b (Ask (Ring (Write chain 0 (little_bytes 4 0))) (λ _. Ask (Ring (Return chain 4)) (λ _. Done (record s { event_owed = false }))))
-            (Done s)) c
-        by false = holds
-        by true = event_put carry lines first port s Now (Done (record s { event_owed = false })) chain queue room (λ bytes. Unit {0}) c
-            (λ l is. let was = holds.1 l is in (
-              (there l is, tt, λ still. among_without carry.others all chain (other chain Event queue refl) s.chain l.held holds.0 (was.0 still)),
-              was.1,
-            )) (λ d told. (holds.0, told))
+    puts_event_keeps chain queue room there =
+        keeps_if asking Now s.event_owed _ _ c (λ owed.
+        event_put carry lines first port s Now (Done (record s { event_owed = false })) chain queue room (λ bytes. Unit {0}) c
+        (λ l is. let was = holds.1 l is in (
+          (there l is, tt, λ still. among_without carry.others all chain (other chain Event queue refl) s.chain l.held holds.0 (was.0 still)),
+          was.1,
+        )) (λ d told. (holds.0, told))) (λ no. holds)
 
     -- It writes to a connection's stream, and shuts the side that it writes to.
     pub writes_keeps : (slot : ℕ) → Keeps Now (writes slot s) c
-    writes_keeps slot = by (entry_under s.table slot) refl
-      where
-        standing : (e : DeviceEntry) → Contains s.table.entries e → (b : Bool) → Keeps Now (cond b (Done s) (bind (write_pending e (writing s)) (λ w. Done w.state))) c
-        standing e there true = holds
-        standing e there false =
-            keeps_then (λ w d. Now w.state d) Now (write_pending e (writing s)) (λ w. Done w.state) c
-            (write_keeps_all carry lines first port e (writing s) there c holds) (λ w d kept. kept)
-
-        by : (o : Option DeviceEntry) → entry_under s.table slot ≡ o
-            → Keeps Now (elim o as (λ _. DeviceTree DeviceState) [ None ↦ Done s | Some e ↦ writes_on e s ]) c
-        by None under = holds
-        by (Some e) under = standing e (under_there s slot e under) e.value.closed
+    writes_keeps slot =
+        keeps_some asking Now (entry_under s.table slot) (Done s) (λ e. writes_on e s) c (λ none. holds) (λ e under.
+        keeps_if asking Now e.value.closed _ _ c (λ closed. holds) (λ still.
+        keeps_then (λ w d. Now w.state d) Now (write_pending e (writing s)) (λ w. Done w.state) c
+        (write_keeps_all carry lines first port e (writing s) (under_there s slot e under) c holds) (λ w d kept. kept)))
 
     pub shuts_keeps : (slot : ℕ) → Keeps Now (shuts_write slot s) c
     shuts_keeps slot = keeps_then (λ w d. Now w.state d) Now (shut_write slot (writing s)) (λ w. Done w.state) c

@@ -11,7 +11,9 @@ use Rattle.vs_device_parts.specs.{State.DeviceState, Streams.closing, Transmitti
 use Rattle.vs_device_parts.specs.Receiving.{holding}
 use Rattle.laws_device.specs.Honest.{IsFitState}
 use Rattle.laws_device.proofs.{Chains.Among, Chains.is_unwritten, Chains.taken_holds, Seats.Carried, Changing.Changes, Keeping.Goes}
-use Rattle.laws_device.proofs.{Keeping.Keeps, Keeping.Lets, Ringing.moves, Ringing.host_moves, Ringing.tells_weaker, Carrying.Closes}
+use Rattle.laws_device_walk.proofs.Keeping.{keeps_if}
+use Rattle.vs_ring_port.specs.declared.{failure.Failure.Failure, queue.Queue.Queue}
+use Rattle.laws_device.proofs.{Keeping.Keeps, Keeping.asking, Keeping.Lets, Ringing.moves, Ringing.host_moves, Ringing.tells_weaker, Carrying.Closes}
 use Rattle.laws_device.proofs.Carrying.{Fact, IsHeldBy, IsToldBy, StreamedOver, With, closed_with, streams_call, streams_go}
 use Rattle.laws_device_bytes.proofs.{Changing.cuts_streams, HostCalls.cut_host}
 use Rattle.vs_proxy_parts.specs.State.{Handshake}
@@ -20,6 +22,13 @@ use Rattle.laws_device_bytes.specs.Streamed.{IsStreamed}
 use Rattle.vs_page.specs.Log.{Log}
 use Rattle.vs_flow.specs.Table.{Table, with_value}
 use Rattle.vs_ring_port.specs.declared.device_ring.Next.TheVariants as next
+
+-- The host closes a stream, and the ring stays.
+pub closing_keeps : (Q : DeviceState → Situation → Type 0) (e : DeviceEntry) (f : DeviceConnection → DeviceConnection) (s : DeviceState)
+    (c : Situation)
+    → ((d : Situation) → Closes e.value c d → Q (with_connection e.slot (f e.value) s) d) → Keeps Q (closing e f s) c
+closing_keeps Q e f s c keeps =
+    keeps_if asking Q e.value.closed _ _ c (λ shut. keeps c (inl (shut, refl))) (λ still. (tt, λ a d made. keeps d (inr (still, made))))
 
 module _ (carry : Carried) (lines : List Handshake) (first port : ℕ) where
   abbrev Streamed : Table DeviceConnection → Fact
@@ -64,16 +73,22 @@ module _ (carry : Carried) (lines : List Handshake) (first port : ℕ) where
         holds.1,
   )
 
-  -- The host closes a stream, and the ring stays.
-  pub closing_keeps : {A : Type 0} (Q : A → Situation → Type 0) (next : DeviceState → DeviceTree A) (e : DeviceEntry)
-      (f : DeviceConnection → DeviceConnection) (s : DeviceState) (c : Situation)
-      → ((d : Situation) → Closes e.value c d → Keeps Q (next (with_connection e.slot (f e.value) s)) d) → Keeps Q (bind (closing e f s) next) c
-  closing_keeps Q next e f s c keeps = by e.value.closed refl
-    where
-      by : (b : Bool) → e.value.closed ≡ b → Keeps Q (bind (cond b (Done (with_connection e.slot (f e.value) s))
-          (Ask (CloseStream e.value.stream) (λ _. Done (with_connection e.slot (f e.value) s)))) next) c
-      by true is = keeps c (inl (is, refl))
-      by false is = (tt, λ a d made. keeps d (inr (is, made)))
+  -- No page is there, or the ring fails.
+  pub none_came : (queue : Queue) (s : DeviceState) (c d : Situation) → Lets (Ring (Take queue)) next.None c d
+      → With carry lines first port s c → With carry lines first port s d
+  none_came queue s c d made holds = (
+    holds.0,
+    moves _ _ _ _ _ (log_taken queue next.None made.0.0) c d made.0.1 made.1 (IsToldBy carry (Streamed s.table) first port s)
+        (IsToldBy carry (Streamed s.table) first port s) (λ hon o l asked was fair. was) holds.1,
+  )
+
+  pub it_failed : (queue : Queue) (f : Failure) (s : DeviceState) (c d : Situation) → s.failed ≡ None
+      → Lets (Ring (Take queue)) (next.Failed f) c d → With carry lines first port s c → With carry lines first port (failing f s) d
+  it_failed queue f s c d going made holds = (
+    holds.0,
+    moves _ _ _ _ _ (log_taken queue (next.Failed f) made.0.0) c d made.0.1 made.1 (IsToldBy carry (Streamed s.table) first port s)
+        (IsToldBy carry (Streamed s.table) first port (failing f s)) (λ hon o l asked was fair. (λ still. was.0 going, was.1)) holds.1,
+  )
 
   -- The seat alone changes.
   pub seat_changed : (s t : DeviceState) (F : Fact) → t.chain ≡ s.chain → t.failed ≡ s.failed → (IsFitState s → Changes carry port s t)
@@ -135,20 +150,9 @@ module _ (carry : Carried) (lines : List Handshake) (first port : ℕ) where
         was.1,
       )
   took s next.None c d none going made holds r is =
-      let P : DeviceState → Type 0 = λ x. With carry lines first port x d in
-      subst P (sym is) (
-        holds.0,
-        moves _ _ _ _ _ (log_taken Rx next.None made.0.0) c d made.0.1 made.1 (IsToldBy carry (Streamed s.table) first port s) (IsToldBy carry (Streamed s.table) first port s)
-            (λ h o l asked was fair. was) holds.1,
-      )
-  took s (next.Failed failure) c d none going made holds r is =
-      let P : DeviceState → Type 0 = λ x. With carry lines first port (failing failure x) d in
-      subst P (sym is) (
-        holds.0,
-        moves _ _ _ _ _ (log_taken Rx (next.Failed failure) made.0.0) c d made.0.1 made.1 (IsToldBy carry (Streamed s.table) first port s)
-            (IsToldBy carry (Streamed s.table) first port (failing failure s))
-            (λ h o l asked was fair. (λ still. was.0 going, was.1)) holds.1,
-      )
+      subst (λ (x : DeviceState). With carry lines first port x d) (sym is) (none_came Rx s c d made holds)
+  took s (next.Failed f) c d none going made holds r is =
+      subst (λ (x : DeviceState). With carry lines first port (failing f x) d) (sym is) (it_failed Rx f s c d going made holds)
 
   module _ {A : Type 0} (Q : A → Situation → Type 0) (f : Filling → DeviceTree A) (r : Filling)
       (some : (chain : Chain) (d : Situation) → With carry lines first port (record r.state { chain = Some chain }) d

@@ -22,7 +22,9 @@ use Rattle.vs_limits.specs.declared.TheConstants.{DEVICE_REPLIES}
 use Rattle.laws_device.proofs.{Chains.Among, Chains.Behind, Seats.Carried, Seats.LeftBy, Ringing.Tells, Ringing.bytes_held}
 use Rattle.laws_device.proofs.Ringing.{first_is_held, first_there, moves, returned_entries, returned_held, tells_weaker, Telling}
 use Rattle.laws_device.proofs.{Hearing.After, Hearing.Came, Hearing.Heard, Hearing.IsCome, Hearing.packet_keeps, Keeping.Keeps}
-use Rattle.laws_device.proofs.{Keeping.Lets, Keeping.keeps_then, Carrying.Fact, Carrying.IsToldBy, Carrying.StreamedOver, Carrying.With}
+use Rattle.laws_device_walk.proofs.Keeping.{keeps_if}
+use Rattle.laws_device.proofs.Steps.{it_failed, none_came}
+use Rattle.laws_device.proofs.{Keeping.asking, Keeping.Lets, Keeping.keeps_then, Carrying.Fact, Carrying.IsToldBy, Carrying.StreamedOver, Carrying.With}
 use Rattle.vs_outside.specs.Host.{HostContents}
 use Rattle.vs_proxy_parts.specs.State.{Handshake}
 use Rattle.vs_ring_port.specs.declared.device_ring.Next.TheVariants as next
@@ -160,13 +162,11 @@ module _ (carry : Carried) (lines : List Handshake) (first port : ℕ) (s : Devi
         (heard : (h : Header) (wire : FitsWire h) (x : DeviceState × Verdict) (d : Situation) → Heard carry lines first port s chain h wire x d → Keeps Q (next x) d) where
       header_keeps : (h : Header) (wire : FitsWire h) → IfSome s.chain IsRxChain → (c : Situation) → Tells (HasRead h) c
           → Keeps Q (cond (nat_lt (chain.readable - HEADER_LEN) h.len) (short (failure.PayloadShort h.len (chain.readable - HEADER_LEN))) (bind (on_packet chain h s) next)) c
-      header_keeps h wire rx c tells = by (nat_lt (chain.readable - HEADER_LEN) h.len) refl
-        where
-          by : (b : Bool) → nat_lt (chain.readable - HEADER_LEN) h.len ≡ b
-              → Keeps Q (cond b (short (failure.PayloadShort h.len (chain.readable - HEADER_LEN))) (bind (on_packet chain h s) next)) c
-          by true less = let f = failure.PayloadShort h.len (chain.readable - HEADER_LEN) in shorts f c (short_ends h f c less rx tells)
-          by false fits = keeps_then (Heard carry lines first port s chain h wire) Q (on_packet chain h s) next c
-              (packet_keeps carry lines first port s chain h wire c (come_tells h wire c fits tells)) (heard h wire)
+      header_keeps h wire rx c tells =
+          keeps_if asking Q (nat_lt (chain.readable - HEADER_LEN) h.len) _ _ c
+          (λ less. let f = failure.PayloadShort h.len (chain.readable - HEADER_LEN) in shorts f c (short_ends h f c less rx tells))
+          (λ fits. keeps_then (Heard carry lines first port s chain h wire) Q (on_packet chain h s) next c
+          (packet_keeps carry lines first port s chain h wire c (come_tells h wire c fits tells)) (heard h wire))
 
       pub read_keeps : IfSome s.chain IsRxChain → (c : Situation) → Tells Took c
           → Keeps Q (Ask (Ring (Read chain 0 HEADER_LEN)) (λ bytes. let h : Header = header_of bytes in
@@ -222,25 +222,15 @@ module _ (carry : Carried) (lines : List Handshake) (first port : ℕ) (s : Devi
           asked.1,
           λ honest. let p = was.1 honest in record { log = l.entries; entries_are = refl; was = p.0; fair = fair honest; streams = p.1 },
         )
-    next_keeps next.None c d going made holds = none d (
-      holds.0,
-      moves _ _ _ _ _ (log_taken Tx next.None made.0.0) c d made.0.1 made.1 (IsToldBy carry Streamed first port s) (IsToldBy carry Streamed first port s)
-          (λ hon o l asked was fair. was) holds.1,
-    )
-    next_keeps (next.Failed f) c d going made holds = fails f d (
-      holds.0,
-      moves _ _ _ _ _ (log_taken Tx (next.Failed f) made.0.0) c d made.0.1 made.1 (IsToldBy carry Streamed first port s) (IsToldBy carry Streamed first port (failing f s))
-          (λ hon o l asked was fair. (λ still. was.0 going, was.1)) holds.1,
-    )
+    next_keeps next.None c d going made holds = none d (none_came carry lines first port Tx s c d made holds)
+    next_keeps (next.Failed f) c d going made holds = fails f d (it_failed carry lines first port Tx f s c d going made holds)
 
     -- Unless so many replies are owed.
     pub tx_keeps : (over : DeviceTree A) → ((d : Situation) → Now s d → Keeps Q over d) → (c : Situation) → s.failed ≡ None → Now s c
         → Keeps Q (cond (nat_le DEVICE_REPLIES (length s.replies)) over (Ask (Ring (Take Tx)) tree)) c
-    tx_keeps over ends c going holds = by (nat_le DEVICE_REPLIES (length s.replies))
-      where
-        by : (b : Bool) → Keeps Q (cond b over (Ask (Ring (Take Tx)) tree)) c
-        by true = ends c holds
-        by false = (tt, λ answer d made. next_keeps answer c d going made holds)
+    tx_keeps over ends c going holds =
+        keeps_if asking Q (nat_le DEVICE_REPLIES (length s.replies)) over (Ask (Ring (Take Tx)) tree) c (λ full. ends c holds)
+        (λ room. (tt, λ answer d made. next_keeps answer c d going made holds))
 
   pub take_keeps : (c : Situation) → Now s c → Keeps TakeEnds (take_tx_of s) c
   take_keeps c holds = by s.failed refl

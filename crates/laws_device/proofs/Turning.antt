@@ -33,11 +33,13 @@ use Rattle.laws_device.specs.Honest.{IsFitFlow, IsFitState, IsFresh, IsLeft, IsW
 use Rattle.laws_device.proofs.{Chains.Among, Chains.first_written, Chains.held_there, Chains.is_unwritten, Chains.taken_holds, Keeping.Lets}
 use Rattle.laws_device.proofs.{Seats.Carried, Seats.LeftBy, Seats.at_log, Seats.seat, Carrying.ring_only, Writing.write_keeps}
 use Rattle.laws_device.proofs.{Changing.cuts, Changing.shuts, Changing.unseen, Changing.writes, Changing.same, Filling.under_there}
-use Rattle.laws_device.proofs.{Keeping.Keeps, Keeping.keeps_each, Keeping.keeps_then, Steps.closing_keeps, Steps.called_with}
+use Rattle.laws_device_walk.proofs.Keeping.{keeps_if, keeps_some}
+use Rattle.laws_device.proofs.{Keeping.Keeps, Keeping.asking as asked_of, Keeping.keeps_each, Keeping.keeps_then, Steps.closing_keeps, Steps.called_with}
+use Rattle.laws_device.proofs.Steps.{it_failed, none_came}
 use Rattle.laws_device.proofs.{Steps.cut_with, Steps.seat_changed, Tabling.IsFitConnection, Tabling.entry_fits, Tabling.opening_fits}
 use Rattle.laws_device.proofs.Writing.{Writes}
 use Rattle.laws_device.proofs.{Ringing.Tells, Ringing.moves, Ringing.tells_weaker, Ringing.host_moves, Carrying.Fact, Carrying.IsHeldBy}
-use Rattle.laws_device.proofs.Carrying.{IsToldBy, StreamedOver, With, closed_held, streams_go, plain_with}
+use Rattle.laws_device.proofs.Carrying.{fact_goes, IsToldBy, StreamedOver, With, closed_held, streams_go, plain_with}
 use Rattle.vs_header.specs.declared.Kind.TheVariants.{Stream}
 use Rattle.laws_device_bytes.proofs.Changing.{called_host, ends_streams, event_streams, failed_host, mark_streams, shut_write_host}
 use Rattle.laws_device_bytes.proofs.Changing.{shuts_streams, writes_streams}
@@ -126,16 +128,6 @@ empty_table t sound = record {
   slots_left = sound.slots_left;
 }
 
-closing_by : (b : Bool) (stream : ℕ) (t : DeviceState) → bind (cond b (Done t) (Ask (CloseStream stream) (λ _. Done t)))
-    (λ (x : DeviceState). Done x)
-    ≡ (let tree : DeviceTree DeviceState = cond b (Done t) (Ask (CloseStream stream) (λ _. Done t)) in tree)
-closing_by true stream t = refl
-closing_by false stream t = refl
-
-closing_done : (e : DeviceEntry) (f : DeviceConnection → DeviceConnection) (s : DeviceState) → bind (closing e f s)
-    (λ t. Done t) ≡ closing e f s
-closing_done e f s = closing_by e.value.closed e.value.stream (with_connection e.slot (f e.value) s)
-
 module _ (carry : Carried) (lines : List Handshake) (first port : ℕ) where
   abbrev Now : DeviceState → Situation → Type 0
   Now = With carry lines first port
@@ -212,48 +204,31 @@ module _ (carry : Carried) (lines : List Handshake) (first port : ℕ) where
         by None hon o l asked was = absurd asked
         by (Some page) hon o l asked was =
             (taken_holds chain [] is_unwritten (λ held. s.failed ≡ None → Among carry.others s.chain held) l.held refl was.0, was.1)
-    event_keeps next.None c d going made holds = (
-      holds.0,
-      moves _ _ _ _ _ (log_taken Event next.None made.0.0) c d made.0.1 made.1 (IsToldBy carry (Streamed s.table) first port s) (IsToldBy carry (Streamed s.table) first port s)
-          (λ hon o l asked was fair. was) holds.1,
-    )
-    event_keeps (next.Failed f) c d going made holds = (
-      holds.0,
-      moves _ _ _ _ _ (log_taken Event (next.Failed f) made.0.0) c d made.0.1 made.1 (IsToldBy carry (Streamed s.table) first port s) (IsToldBy carry (Streamed s.table) first port (failing f s))
-          (λ hon o l asked was fair. (λ still. was.0 going, was.1)) holds.1,
-    )
+    event_keeps next.None c d going made holds = none_came carry lines first port Event s c d made holds
+    event_keeps (next.Failed f) c d going made holds = it_failed carry lines first port Event f s c d going made holds
 
     pub pay_keeps : (c : Situation) → Now s c → Keeps PayEnds (pay_event_of s) c
     pay_keeps c holds = by s.failed refl
       where
-        owed : (b : Bool) → s.failed ≡ None → Keeps PayEnds (cond b (Ask (Ring (Take Event)) (λ answer. event_on answer s))
-            (Done (s, Ok false))) c
-        owed true going = (tt, λ answer d made. event_keeps answer c d going made holds)
-        owed false going = holds
-
         by : (o : Option Failure) → s.failed ≡ o → Keeps PayEnds (elim o [
           | Some f ↦ Done (s, Err f)
           | None ↦ if s.event_owed then Ask (Ring (Take Event)) (λ answer. event_on answer s) else Done (s, Ok false)
         ]) c
         by (Some f) failed = holds
-        by None going = owed s.event_owed going
+        by None going = keeps_if asked_of PayEnds s.event_owed _ _ c (λ owed. (tt, λ answer d made. event_keeps answer c d going made holds))
+            (λ no. holds)
 
   -- Timeouts.
   pub tick_slot_keeps : (slot : ℕ) (s : DeviceState) (c : Situation) → Now s c → Keeps Now (tick_slot slot s) c
-  tick_slot_keeps slot s c holds = by (entry_under s.table slot) refl
+  tick_slot_keeps slot s c holds =
+      keeps_some asked_of Now (entry_under s.table slot) (Done s) (λ e. if_late e) c (λ none. holds) (λ e under.
+      let there = under_there s slot e under in
+      keeps_if asked_of Now (is_timed_out s.now e.value) _ _ c (λ late. closing_keeps Now e cut_off s c (λ d closes.
+      cut_with carry lines first port e s (with_connection e.slot (cut_off e.value) s) there refl refl
+      (λ fits. cuts carry port s fits e there (late_old e s fits there late)) c d closes holds)) (λ no. holds))
     where
-      late : (e : DeviceEntry) → Contains s.table.entries e → (b : Bool) → is_timed_out s.now e.value ≡ b
-          → Keeps Now (cond b (closing e cut_off s) (Done s)) c
-      late e there false is = holds
-      late e there true is = subst (λ (t : DeviceTree DeviceState). Keeps Now t c) (closing_done e cut_off s)
-          (closing_keeps carry lines first port Now (λ t. Done t) e cut_off s c (λ d closes.
-          cut_with carry lines first port e s (with_connection e.slot (cut_off e.value) s) there refl refl
-          (λ fits. cuts carry port s fits e there (late_old e s fits there is)) c d closes holds))
-
-      by : (o : Option DeviceEntry) → entry_under s.table slot ≡ o
-          → Keeps Now (elim o [ None ↦ Done s | Some e ↦ if is_timed_out s.now e.value then closing e cut_off s else Done s ]) c
-      by None under = holds
-      by (Some e) under = late e (under_there s slot e under) (is_timed_out s.now e.value) refl
+      if_late : DeviceEntry → DeviceTree DeviceState
+      if_late e = if is_timed_out s.now e.value then closing e cut_off s else Done s
 
   pub tick_keeps : (now : ℕ) (s : DeviceState) (c : Situation) → Now s c → Keeps Now (tick_of now s) c
   tick_keeps now s c holds = keeps_each Now tick_slot tick_slot_keeps (slots s.table) (record s { now = now }) c holds
@@ -285,24 +260,25 @@ module _ (carry : Carried) (lines : List Handshake) (first port : ℕ) where
         (IsWritten e.value.stream (length (to_write e.value)) write.Closed) called (λ fits h log is x. called_host h log port t.table lines
         (shuts_streams h log port w.state.table lines x fits.sound e 1 w.state.now there)) c d made.0 holds
     answered_keeps write.Failed c d made holds =
-        closing_keeps carry lines first port WritingWith (λ s. Done (record w { state = s })) e cut_off (with_fault w.state) d (λ x closes.
+        keeps_then Now WritingWith (closing e cut_off (with_fault w.state)) (λ s. Done (record w { state = s })) d
+        (closing_keeps Now e cut_off (with_fault w.state) d (λ x closes.
         cut_with carry lines first port e w.state (with_connection e.slot (cut_off e.value) (with_fault w.state)) there refl refl
         (λ fits. cuts carry port w.state fits e there (begun fits)) d x closes
         (called_with carry lines first port w.state w.state refl refl (λ fits. same carry port w.state fits) true
         (IsWritten e.value.stream (length (to_write e.value)) write.Failed) after_failed
-        (λ fits h log is y. failed_host h log port w.state.table lines y) c d made.0 holds))
+        (λ fits h log is y. failed_host h log port w.state.table lines y) c d made.0 holds))) (λ s x kept. kept)
 
   pub write_keeps_all : (e : DeviceEntry) (w : Writing) → Contains w.state.table.entries e → (c : Situation) → WritingWith w c
       → Keeps WritingWith (write_pending e w) c
-  write_keeps_all e w there c holds = by (length (to_write e.value) == 0) refl
-    where
-      by : (b : Bool) → (length (to_write e.value) == 0) ≡ b → Keeps WritingWith (cond b (Done w)
-          (Ask (WriteStream e.value.stream (to_write e.value)) (λ answer. write_answered e answer w))) c
-      by true is = holds
-      by false is = (tt, λ answer d made. answered_keeps e w there is answer c d made holds)
+  write_keeps_all e w there c holds =
+      keeps_if asked_of WritingWith (length (to_write e.value) == 0) _ _ c (λ none. holds)
+      (λ some. (tt, λ answer d made. answered_keeps e w there some answer c d made holds))
 
   pub shut_keeps : (slot : ℕ) (w : Writing) (c : Situation) → WritingWith w c → Keeps WritingWith (shut_write slot w) c
-  shut_keeps slot w c holds = by (entry_under w.state.table slot) refl
+  shut_keeps slot w c holds =
+      keeps_some asked_of WritingWith (entry_under w.state.table slot) (Done w) (λ e. if_out e) c (λ none. holds) (λ e under.
+      let found = found_by (λ (x : DeviceEntry). x.slot == slot) w.state.table.entries e under in
+      keeps_if asked_of WritingWith (is_written_out e.value) _ _ c (λ out. (tt, λ a d made. shut e found.0 found.1 d made)) (λ no. holds))
     where
       shut : (e : DeviceEntry) → Contains w.state.table.entries e → (e.slot == slot) ≡ true → (d : Situation)
           → Lets (ShutWrite e.value.stream) tt c d → WritingWith (record w { state = with_connection slot (record e.value { write_shut = true }) w.state }) d
@@ -316,39 +292,19 @@ module _ (carry : Carried) (lines : List Handshake) (first port : ℕ) where
           (ends_streams h log port w.state.table lines x fits.sound e there v refl refl refl refl refl (λ on. on) (λ on. on))) c d made
           holds)
 
-      done : (e : DeviceEntry) → Contains w.state.table.entries e → (e.slot == slot) ≡ true → (b : Bool)
-          → Keeps WritingWith (cond b (Ask (ShutWrite e.value.stream) (λ _.
-          Done (record w { state = with_connection slot (record e.value { write_shut = true }) w.state }))) (Done w)) c
-      done e there at false = holds
-      done e there at true = (tt, λ a d made. shut e there at d made)
-
-      by : (o : Option DeviceEntry) → entry_under w.state.table slot ≡ o → Keeps WritingWith (elim o [
-        | None ↦ Done w
-        | Some e ↦
-            if is_written_out e.value then Ask (ShutWrite e.value.stream) (λ _.
-            Done (record w { state = with_connection slot (record e.value { write_shut = true }) w.state }))
-            else Done w
-      ]) c
-      by None under = holds
-      by (Some e) under =
-          let found = found_by (λ (x : DeviceEntry). x.slot == slot) w.state.table.entries e under in
-          done e found.0 found.1 (is_written_out e.value)
+      if_out : DeviceEntry → DeviceTree Writing
+      if_out e =
+          if is_written_out e.value then Ask (ShutWrite e.value.stream) (λ _.
+          Done (record w { state = with_connection slot (record e.value { write_shut = true }) w.state }))
+          else Done w
 
   pump_slot_keeps : (slot : ℕ) (w : Writing) (c : Situation) → WritingWith w c → Keeps WritingWith (pump_slot slot w) c
-  pump_slot_keeps slot w c holds = by (entry_under w.state.table slot) refl
-    where
-      standing : (e : DeviceEntry) → Contains w.state.table.entries e → (b : Bool)
-          → Keeps WritingWith (cond b (Done w) (bind (write_pending e w) (shut_write slot))) c
-      standing e there true = holds
-      standing e there false =
-          keeps_then WritingWith WritingWith (write_pending e w) (shut_write slot) c (write_keeps_all e w there c holds) (shut_keeps slot)
-
-      by : (o : Option DeviceEntry) → entry_under w.state.table slot ≡ o → Keeps WritingWith (elim o [
-        | None ↦ Done w
-        | Some e ↦ if e.value.closed then Done w else bind (write_pending e w) (shut_write slot)
-      ]) c
-      by None under = holds
-      by (Some e) under = standing e (under_there w.state slot e under) e.value.closed
+  pump_slot_keeps slot w c holds =
+      keeps_some asked_of WritingWith (entry_under w.state.table slot) (Done w)
+      (λ e. if e.value.closed then Done w else bind (write_pending e w) (shut_write slot)) c (λ none. holds) (λ e under.
+      keeps_if asked_of WritingWith e.value.closed _ _ c (λ closed. holds) (λ still.
+      keeps_then WritingWith WritingWith (write_pending e w) (shut_write slot) c
+      (write_keeps_all e w (under_there w.state slot e under) c holds) (shut_keeps slot)))
 
   pub pump_keeps : (s : DeviceState) (c : Situation) → Now s c → Keeps WritingWith (pump_of s) c
   pump_keeps s c holds = keeps_each WritingWith pump_slot pump_slot_keeps (slots s.table) (record { state = s; wrote = 0 }) c holds
@@ -362,38 +318,27 @@ module _ (carry : Carried) (lines : List Handshake) (first port : ℕ) where
 
   close_keeps : (slot : ℕ) (rest : List ℕ) (s : DeviceState) (c : Situation) → ClosingWith (slot ∷ rest) s c
       → Keeps (ClosingWith rest) (close_slot slot s) c
-  close_keeps slot rest s c holds = by (entry_under s.table slot) refl
+  close_keeps slot rest s c holds =
+      keeps_some asked_of (ClosingWith rest) (entry_under s.table slot) (Done s) (λ e. closing e stream_closed s) c passes (λ e under.
+      let t : DeviceState = with_connection e.slot (stream_closed e.value) s in
+      let G : Fact = Closing rest t.table in
+      closing_keeps (ClosingWith rest) e stream_closed s c (λ d closes.
+      seat_changed carry lines first port s t G refl refl
+      (λ fits. unseen carry port s fits e (under_there s slot e under) (stream_closed e.value) refl
+      (closed_fits e s fits (under_there s slot e under))) d
+      (closed_held carry first port s e.value c d (Closing (slot ∷ rest) s.table) G
+      (λ shut fits o log x ok few. some_from o (λ h. IsClosing (slot ∷ rest) s.table h log port lines)
+      (λ h. IsClosing rest t.table h log port lines)
+      (λ h y. closing_was h log port s.table lines slot rest y e under shut) (x ok few))
+      (λ still fits o n log exposes x ok few. some_after o n (λ h. Unit {0}) (after_close e.value.stream)
+      (λ h. IsClosing (slot ∷ rest) s.table h log port lines) (λ h. IsClosing rest t.table h log port lines) exposes
+      (λ h any y. closing_now h log port s.table lines slot rest y e under still) (x ok few)) closes holds)))
     where
-      by : (o : Option DeviceEntry) → entry_under s.table slot ≡ o → Keeps (ClosingWith rest)
-          (elim o [ None ↦ Done s | Some e ↦ closing e stream_closed s ]) c
-      by None under = (
-        holds.0,
-        tells_weaker (IsToldBy carry (Closing (slot ∷ rest) s.table) first port s) (IsToldBy carry (Closing rest s.table) first port s)
-            (λ hon o l was. (
-              was.0,
-              λ honest. let p = was.1 honest in (
-                p.0,
-                λ ok few. some_from o (λ h. IsClosing (slot ∷ rest) s.table h l.entries port lines)
-                    (λ h. IsClosing rest s.table h l.entries port lines)
-                    (λ h x. closing_passes h l.entries port s.table lines slot rest x under) (p.1 ok few),
-              ),
-            )) c holds.1,
-      )
-      by (Some e) under =
-          let there = under_there s slot e under in
-          let t : DeviceState = with_connection e.slot (stream_closed e.value) s in
-          let G : Fact = Closing rest t.table in
-          subst (λ (t : DeviceTree DeviceState). Keeps (ClosingWith rest) t c) (closing_done e stream_closed s)
-          (closing_keeps carry lines first port (ClosingWith rest) (λ t. Done t) e stream_closed s c (λ d closes.
-          seat_changed carry lines first port s t G refl refl
-          (λ fits. unseen carry port s fits e there (stream_closed e.value) refl (closed_fits e s fits there)) d
-          (closed_held carry first port s e.value c d (Closing (slot ∷ rest) s.table) G
-          (λ shut fits o log x ok few. some_from o (λ h. IsClosing (slot ∷ rest) s.table h log port lines)
-          (λ h. IsClosing rest t.table h log port lines)
-          (λ h y. closing_was h log port s.table lines slot rest y e under shut) (x ok few))
-          (λ still fits o n log exposes x ok few. some_after o n (λ h. Unit {0}) (after_close e.value.stream)
-          (λ h. IsClosing (slot ∷ rest) s.table h log port lines) (λ h. IsClosing rest t.table h log port lines) exposes
-          (λ h any y. closing_now h log port s.table lines slot rest y e under still) (x ok few)) closes holds)))
+      passes : entry_under s.table slot ≡ None → ClosingWith rest s c
+      passes under =
+          fact_goes carry first port s (Closing (slot ∷ rest) s.table) (Closing rest s.table) (λ o l p x ok few.
+          some_from o (λ h. IsClosing (slot ∷ rest) s.table h l.entries port lines) (λ h. IsClosing rest s.table h l.entries port lines)
+          (λ h y. closing_passes h l.entries port s.table lines slot rest y under) (x ok few)) c holds
 
   close_all : (rest : List ℕ) (s : DeviceState) (c : Situation) → ClosingWith rest s c
       → Keeps (ClosingWith []) (for_each close_slot rest s) c
@@ -447,19 +392,10 @@ module _ (carry : Carried) (lines : List Handshake) (first port : ℕ) where
     reset_keeps s c holds = by s.failed
       where
         first_closing : ClosingWith (slots s.table) s c
-        first_closing = (
-          holds.0,
-          tells_weaker (IsToldBy carry (Streamed s.table) first port s) (IsToldBy carry (Closing (slots s.table) s.table) first port s)
-              (λ hon o l was. (
-                was.0,
-                λ honest. let p = was.1 honest in (
-                  p.0,
-                  λ ok few. some_from o (λ h. IsStreamed h l.entries port s.table lines)
-                      (λ h. IsClosing (slots s.table) s.table h l.entries port lines)
-                      (λ h x. closing_from h l.entries port s.table lines x) (p.1 ok few),
-                ),
-              )) c holds.1,
-        )
+        first_closing =
+            fact_goes carry first port s (Streamed s.table) (Closing (slots s.table) s.table) (λ o l p x ok few.
+            some_from o (λ h. IsStreamed h l.entries port s.table lines) (λ h. IsClosing (slots s.table) s.table h l.entries port lines)
+            (λ h y. closing_from h l.entries port s.table lines y) (x ok few)) c holds
 
         by : (o : Option Failure) → Keeps ResetEnds (elim o [
           | Some f ↦ Done (s, Err f)
@@ -514,33 +450,27 @@ module _ (carry : Carried) (lines : List Handshake) (first port : ℕ) where
             ),
       )
 
-      pub open_keeps : (Q : DeviceState × Result ℕ TableFault → Situation → Type 0)
-          → ((fault : TableFault) (d : Situation) → refusal s.table flow ≡ Some fault → IsHeldBy carry F first port s d → Q (s, Err fault) d)
-          → ((d : Situation) → With carry lines first (flow.host + 1) (with_client flow stream s) d → Q (with_client flow stream s, Ok s.table.given) d)
-          → (c : Situation) → IsHeldBy carry F first port s c → Keeps Q (open_of flow stream s) c
-      open_keeps Q full opens c holds = by (refusal s.table flow) refl
-        where
-          by : (o : Option TableFault) → refusal s.table flow ≡ o → Keeps Q (elim o [
-            | Some fault ↦ Done (s, Err fault)
-            | None ↦ Ask (Label stream flow) (λ _. Done (with_client flow stream s, Ok s.table.given))
-          ]) c
-          by (Some fault) is = full fault c is holds
-          by None free = (
-            tt,
-            λ a d made. opens d (
-              holds.0,
-              host_moves false (λ h. Unit {0}) (after_label stream flow) c d made (IsToldBy carry F first port s)
-                  (IsToldBy carry (StreamedOver carry lines first (flow.host + 1) (with_client flow stream s).table) first (flow.host + 1) (with_client flow stream s))
-                  (opened_with free) holds.1,
-            ),
-          )
+      pub label_keeps : (c : Situation) → refusal s.table flow ≡ None → IsHeldBy carry F first port s c
+          → asked_of.asks (Label stream flow) c (λ a d. With carry lines first (flow.host + 1) (with_client flow stream s) d)
+      label_keeps c free holds = (
+        tt,
+        λ a d made. (
+          holds.0,
+          host_moves false (λ h. Unit {0}) (after_label stream flow) c d made (IsToldBy carry F first port s)
+              (IsToldBy carry (StreamedOver carry lines first (flow.host + 1) (with_client flow stream s).table) first (flow.host + 1) (with_client flow stream s))
+              (opened_with free) holds.1,
+        ),
+      )
 
 pub opens_plain : (first port : ℕ) (flow : Flow) (stream : ℕ) (s : DeviceState) → IsNextFlow Device flow (ends_of_state port s) → IsFitFlow flow
     → (c : Situation) → IsWith first port s c.ring → Keeps (λ x d. With ring_only [] first (port_after flow port x.1) x.0 d) (open_of flow stream s) c
 opens_plain first port flow stream s next ports c holds =
-    open_keeps ring_only [] first port flow stream s next ports tt (StreamedOver ring_only [] first port s.table)
-    (λ fits o n log made x no. absurd no)
-    (λ x d. With ring_only [] first (port_after flow port x.1) x.0 d) (λ fault d is kept. kept) (λ d kept. kept) c (plain_with first port s c holds)
+    keeps_some asked_of (λ x d. With ring_only [] first (port_after flow port x.1) x.0 d) (refusal s.table flow) _ _ c
+    (λ free. label_keeps ring_only [] first port flow stream s next ports tt (StreamedOver ring_only [] first port s.table)
+    (λ fits o n log made x no. absurd no) c free held) (λ fault full. held)
+  where
+    held : With ring_only [] first port s c
+    held = plain_with first port s c holds
 
 -- A new device.
 pub new_with : (port cid : ℕ) (base : List ℕ) (c : RingContents) → cid < 2 ^ 64 → IsFresh c → IsWith cid port (new_device cid base) c

@@ -85,17 +85,6 @@ with_all P Q id line (h ∷ hs) apart all here other = by (h.stream == id) refl
     by false is rest zero d within = other h (grind (arith, nat_tests, is)) (all 0 d (omega arith))
     by false is rest (suc i) d within = rest i d (omega (arith, within))
 
-with_streams : (id : ℕ) (line : List ℕ) (hs : List Handshake) (P : ℕ → Type 0) → All (λ h. P h.stream) hs → All (λ h. P h.stream) (with_line id line hs)
-with_streams id line [] P all = all
-with_streams id line (h ∷ hs) P all = by (h.stream == id) (with_streams id line hs P (all_tail (λ (k : Handshake). P k.stream) h hs all))
-  where
-    by : (b : Bool) → All (λ (k : Handshake). P k.stream) (with_line id line hs)
-        → All (λ (k : Handshake). P k.stream) (cond b (record h { line = line } ∷ hs) (h ∷ with_line id line hs))
-    by true rest zero d within = all 0 d (omega arith)
-    by true rest (suc i) d within = all (suc i) d (omega (arith, within))
-    by false rest zero d within = all 0 d (omega arith)
-    by false rest (suc i) d within = rest i d (omega (arith, within))
-
 pub with_apart : (id : ℕ) (line : List ℕ) (hs : List Handshake) → AllPairs (λ g h. g.stream ≢ h.stream) hs
     → AllPairs (λ g h. g.stream ≢ h.stream) (with_line id line hs)
 with_apart id line [] apart = apart
@@ -110,7 +99,8 @@ with_apart id line (h ∷ hs) apart = by (h.stream == id) (with_apart id line hs
         (pairs_head (λ (g : Handshake) (k : Handshake). g.stream ≢ k.stream) h hs apart)
         (pairs_tail (λ (g : Handshake) (k : Handshake). g.stream ≢ k.stream) h hs apart)
     by false rest = pairs_cons (λ (g : Handshake) (k : Handshake). g.stream ≢ k.stream) h (with_line id line hs)
-        (with_streams id line hs (λ n. h.stream ≢ n) (pairs_head (λ (g : Handshake) (k : Handshake). g.stream ≢ k.stream) h hs apart)) rest
+        (with_all (λ (k : Handshake). h.stream ≢ k.stream) (λ (k : Handshake). h.stream ≢ k.stream) id line hs (pairs_tail R h hs apart)
+        (pairs_head (λ (g : Handshake) (k : Handshake). g.stream ≢ k.stream) h hs apart) (λ k here old. old) (λ k other old. old)) rest
 
 -- A byte that ends a line is LF, and its first.
 either_false : (a b : Bool) → (a || b) ≡ false → a ≡ false

@@ -1,6 +1,6 @@
 -- What the host's streams took and gave, through the calls of the proxy and of the host's programs.
 use Rattle.std.proofs.Common.{◌≡◌, ◌≢◌, ℕ, zero, suc, ◌-◌, ◌==◌, Bool, true, false, cond, List, [], ◌∷◌, ◌++◌, take, get_or, slice_get}
-use Rattle.std.proofs.Common.{Contains, Option, Some, None, refl, sym, ap, subst, ◌∙◌, arith}
+use Rattle.std.proofs.Common.{◌+◌, length, Contains, Option, Some, None, refl, sym, ap, subst, ◌∙◌, arith}
 use Rattle.std.proofs.{Common.◌⊎◌, Common.inl, Common.inr, lemmas.Bool.Decides.nat_tests, lemmas.List.append-nil}
 use Rattle.std.proofs.lemmas.List.Elements.{All-push}
 use Rattle.std.proofs.lemmas.List.{Elements.All-weaker, Quantifiers.all_pairs_push}
@@ -24,8 +24,9 @@ use Rattle.laws_bytes.specs.Drains.{Drains, got_on, has_passed, put_on}
 use Rattle.laws_device_bytes.specs.Streamed.{AreLabelled, AreStreamed, IsJoined, IsLabelled, IsStreamed, Seen, client_waits, gives}
 use Rattle.laws_device_bytes.specs.Streamed.{has_line, line_for, look, reading, seen, taken_of}
 use Rattle.laws_bytes.proofs.{Logs.none_on_any, Logs.only_on, Steps.drops}
-use Rattle.laws_device_bytes.proofs.{Hosts.changed_seen, Hosts.others_seen, Hosts.there, Hosts.unseen_none, Lines.after_longer}
-use Rattle.laws_device_bytes.proofs.Streamed.{join_of, moved_streamed, same_streamed, unlabelled_streamed}
+use Rattle.laws_device_bytes.proofs.{Hosts.changed_seen, Hosts.new_there, Hosts.none_there, Hosts.others_seen, Hosts.others_there, Hosts.there}
+use Rattle.laws_device_bytes.proofs.{Hosts.unseen_none, Lines.after_longer, Streamed.is_or_not}
+use Rattle.laws_device_bytes.proofs.Streamed.{join_moves, join_of, moved_streamed, one_streamed, same_streamed, unlabelled_streamed}
 
 -- Another host, whose streams look the same.
 pub same_host : (c d : HostContents) (log : Log) (port : ℕ) (t : Table DeviceConnection) (hands : List Handshake) → ((j : ℕ) → look c j ≡ look d j)
@@ -52,7 +53,8 @@ module _ (id : ℕ) (c : HostContents) where
     pub how : ((u ≡ before) × (j ≢ id)) ⊎ (u ≡ shut before)
 
   was_seen : (j : ℕ) (u : Seen) → look shut_host j ≡ Some u → WasSeen j u
-  was_seen j u now = by (j == id) refl
+  was_seen j u now = is_or_not j id (WasSeen j u) (λ place. here place (stream_at id c) refl) (λ apart.
+      record { before = u; there = others_seen id (λ s. record s { state = state.Closed }) c j apart ∙ now; how = inl (refl, apart) })
     where
       here : j ≡ id → (o : Option Stream) → stream_at id c ≡ o → WasSeen j u
       here place None none =
@@ -67,26 +69,15 @@ module _ (id : ℕ) (c : HostContents) where
             ∙ changed_seen id (λ s. record s { state = state.Closed }) c st at));
       }
 
-      by : (b : Bool) → (j == id) ≡ b → WasSeen j u
-      by true is = here (grind (arith, nat_tests, is)) (stream_at id c) refl
-      by false is =
-          let apart : j ≢ id = grind (arith, nat_tests, is) in
-          record { before = u; there = others_seen id (λ s. record s { state = state.Closed }) c j apart ∙ now; how = inl (refl, apart) }
-
   -- And a stream of before is one of then, with its label.
   is_seen : (j : ℕ) (b : Seen) (f : Flow) → look c j ≡ Some b → b.label ≡ Some f
       → (u : Seen) × (look shut_host j ≡ Some u) × (u.label ≡ Some f)
-  is_seen j b f was label = by (j == id) refl
-    where
-      by : (d : Bool) → (j == id) ≡ d → (u : Seen) × (look shut_host j ≡ Some u) × (u.label ≡ Some f)
-      by true is =
-          let place : j ≡ id = grind (arith, nat_tests, is) in
-          let st = there id c b (ap (look c) (sym place) ∙ was) in (
-            shut (seen st.stream),
-            ap (look shut_host) place ∙ changed_seen id (λ s. record s { state = state.Closed }) c st.stream st.at,
-            ap (λ (s : Seen). s.label) st.is ∙ label,
-          )
-      by false is = (b, sym (others_seen id (λ s. record s { state = state.Closed }) c j (grind (arith, nat_tests, is))) ∙ was, label)
+  is_seen j b f was label = is_or_not j id ((u : Seen) × (look shut_host j ≡ Some u) × (u.label ≡ Some f)) (λ place.
+      let st = there id c b (ap (look c) (sym place) ∙ was) in (
+        shut (seen st.stream),
+        ap (look shut_host) place ∙ changed_seen id (λ s. record s { state = state.Closed }) c st.stream st.at,
+        ap (λ (s : Seen). s.label) st.is ∙ label,
+      )) (λ apart. (b, sym (others_seen id (λ s. record s { state = state.Closed }) c j apart) ∙ was, label))
 
   pub open_before : (j : ℕ) (u : Seen) → look shut_host j ≡ Some u → u.closed ≡ false → (look c j ≡ Some u) × (j ≢ id)
   open_before j u now still = by (was_seen j u now).before (was_seen j u now).there (was_seen j u now).how
@@ -144,15 +135,8 @@ pub closed_host : (id : ℕ) (c : HostContents) (log : Log) (port : ℕ) (t : Ta
     → IsStreamed c log port t hands
     → ((s : Seen) → look c id ≡ Some s → s.label ≡ None) → All (λ h. h.stream ≢ id) hands → IsStreamed (after_close id c) log port t hands
 closed_host id c log port t hands x free away = record {
-  joined = All-weaker (IsJoined (look c) log) (IsJoined (look (shut_host id c)) log) (λ e j. record {
-    stream = j.stream;
-    there = sym (others_seen id (λ s. record s { state = state.Closed }) c e.value.stream (apart e j)) ∙ j.there;
-    label = j.label;
-    client = j.client;
-    closed = j.closed;
-    drains = j.drains;
-    asked = j.asked;
-  }) t.entries x.joined;
+  joined = All-weaker (IsJoined (look c) log) (IsJoined (look (shut_host id c)) log) (λ e j. join_moves (look c) (look (shut_host id c)) log log e j
+      (sym (others_seen id (λ s. record s { state = state.Closed }) c e.value.stream (apart e j)) ∙ j.there) refl) t.entries x.joined;
   tabled = λ j u f now label still. x.tabled j u f (open_before id c j u now still).0 label still;
   streams = shut_labels id c log port hands x.streams away;
 }
@@ -205,48 +189,23 @@ module _ (c : HostContents) (log : Log) (port : ℕ) (t : Table DeviceConnection
       (λ on. absurd cc) (taken_more s [] (s.given ++ []) true (x.streams.labels e.value.stream s e.flow cut.there cut.label).whole)
 
 -- A client connects.
-get_push : (xs : List Stream) (y : Stream) (k : ℕ) (u : Stream) → slice_get (xs ++ y ∷ []) k ≡ Some u
-    → (b : Bool) × (b ≡ true → slice_get xs k ≡ Some u) × (b ≡ false → (u ≡ y) × (slice_get xs k ≡ None))
-get_push [] y zero u is = (false, (λ no. absurd cc), λ ok. (cc, refl))
-get_push [] y (suc k) u is = absurd cc
-get_push (x ∷ xs) y zero u is = (true, (λ ok. is), λ no. absurd cc)
-get_push (x ∷ xs) y (suc k) u is = get_push xs y k u is
-
-kept_push : (xs : List Stream) (y : Stream) (k : ℕ) (u : Stream) → slice_get xs k ≡ Some u → slice_get (xs ++ y ∷ []) k ≡ Some u
-kept_push [] y k u is = absurd cc
-kept_push (x ∷ xs) y zero u is = is
-kept_push (x ∷ xs) y (suc k) u is = kept_push xs y k u is
-
 -- One stream more: which it is, and that the others stay.
 pub more_back : (y : Stream) (c : HostContents) (j : ℕ) (u : Seen) → look (record c { streams = c.streams ++ y ∷ [] }) j ≡ Some u
     → (b : Bool) × (b ≡ true → look c j ≡ Some u) × (b ≡ false → (u ≡ seen y) × (look c j ≡ None))
-more_back y c j u is = by (j == 0) refl (there j (record c { streams = c.streams ++ y ∷ [] }) u is).stream
-    (there j (record c { streams = c.streams ++ y ∷ [] }) u is).at (there j (record c { streams = c.streams ++ y ∷ [] }) u is).is
-  where
-    by : (b : Bool) → (j == 0) ≡ b → (st : Stream) → cond (j == 0) None (slice_get (c.streams ++ y ∷ []) (j - 1)) ≡ Some st → seen st ≡ u
-        → (b : Bool) × (b ≡ true → look c j ≡ Some u) × (b ≡ false → (u ≡ seen y) × (look c j ≡ None))
-    by true zero_id st at one = let gone : None ≡ Some st = ap (λ (d : Bool). cond d None (slice_get (c.streams ++ y ∷ []) (j - 1))) (sym zero_id) ∙ at in absurd cc
-    by false other st at one =
-        let placed : slice_get (c.streams ++ y ∷ []) (j - 1) ≡ Some st = ap (λ (d : Bool). cond d None (slice_get (c.streams ++ y ∷ []) (j - 1))) (sym other) ∙ at in
-        let g = get_push c.streams y (j - 1) st placed in (
-          g.0,
-          (λ old. ap (λ (d : Bool). option_map seen (cond d None (slice_get c.streams (j - 1)))) other ∙ ap (option_map seen) (g.1 old) ∙ ap (λ (s : Seen). Some s) one),
-          λ new. (
-            sym one ∙ ap seen (g.2 new).0,
-            ap (λ (d : Bool). option_map seen (cond d None (slice_get c.streams (j - 1)))) other ∙ ap (option_map seen) (g.2 new).1,
-          ),
-        )
+more_back y c j u is =
+    is_or_not j (length c.streams + 1) ((b : Bool) × (b ≡ true → look c j ≡ Some u) × (b ≡ false → (u ≡ seen y) × (look c j ≡ None))) (λ place. (
+      false,
+      (λ no. absurd cc),
+      λ ok. (
+        some_seen u (seen y) (sym is ∙ ap (look (record c { streams = c.streams ++ y ∷ [] })) place ∙ ap (option_map seen) (new_there y c)),
+        ap (look c) place ∙ ap (option_map seen) (none_there y c),
+      ),
+    )) (λ other. (true, (λ ok. ap (option_map seen) (sym (others_there y c j other)) ∙ is), λ no. absurd cc))
 
 pub more_kept : (y : Stream) (c : HostContents) (j : ℕ) (u : Seen) → look c j ≡ Some u → look (record c { streams = c.streams ++ y ∷ [] }) j ≡ Some u
-more_kept y c j u is = by (j == 0) refl (there j c u is).stream (there j c u is).at (there j c u is).is
-  where
-    by : (b : Bool) → (j == 0) ≡ b → (st : Stream) → cond (j == 0) None (slice_get c.streams (j - 1)) ≡ Some st → seen st ≡ u
-        → look (record c { streams = c.streams ++ y ∷ [] }) j ≡ Some u
-    by true zero_id st at one = let gone : None ≡ Some st = ap (λ (d : Bool). cond d None (slice_get c.streams (j - 1))) (sym zero_id) ∙ at in absurd cc
-    by false other st at one =
-        let placed : slice_get c.streams (j - 1) ≡ Some st = ap (λ (d : Bool). cond d None (slice_get c.streams (j - 1))) (sym other) ∙ at in
-        ap (λ (d : Bool). option_map seen (cond d None (slice_get (c.streams ++ y ∷ []) (j - 1)))) other
-        ∙ ap (option_map seen) (kept_push c.streams y (j - 1) st placed) ∙ ap (λ (s : Seen). Some s) one
+more_kept y c j u is =
+    ap (option_map seen) (others_there y c j (λ place.
+    let both : None ≡ Some u = sym (ap (look c) place ∙ ap (option_map seen) (none_there y c)) ∙ is in absurd cc)) ∙ is
 
 pub client_host : (c : HostContents) (log : Log) (port : ℕ) (t : Table DeviceConnection) (hands : List Handshake) → IsStreamed c log port t hands
     → IsStreamed (after_client c) log port t hands
@@ -274,9 +233,8 @@ accepted_host id now c log port t hands answer x =
     let is_now : look d id ≡ Some (reading []) = ap (option_map seen) a.3 ∙ ap
     (λ (s : Seen). let r : Seen = record s { waiting = false; closed = false } in Some r) was in
     let others : (j : ℕ) → j ≢ id → look c j ≡ look d j = λ j other. others_seen id (λ s. record s { state = state.Open }) (called c) j other in
-    unlabelled_streamed (look c) (look d) c.labelled log port t hands (hands ++ record { stream = id; accepted_at = now; line = [] } ∷ []) x
-    (λ j u is. back st was is_now others j u is (j == id) refl)
-    (λ j u f is on. sym (others j (λ same. labelled_apart st was a.1 u f on (ap (look c) (sym same) ∙ is))) ∙ is)
+    one_streamed (look c) (look d) c.labelled log port t hands (hands ++ record { stream = id; accepted_at = now; line = [] } ∷ []) x id (reading []) is_now
+    refl refl (λ b is. ap (λ (s : Seen). s.label) (sym (some_seen (seen st) b (sym (ap (option_map seen) a.1) ∙ is)) ∙ was)) others
     (record {
       read = All-push (λ (h : Handshake). look d h.stream ≡ Some (reading h.line)) hands (record { stream = id; accepted_at = now; line = [] })
           (λ i h within. sym (others (get_or hands i h).stream (λ same. read_apart st was a.1 (get_or hands i h) (ap (look c) (sym same)
@@ -289,33 +247,11 @@ accepted_host id now c log port t hands answer x =
           (λ k h within same. read_apart st was a.1 (get_or hands k h) (ap (look c) (sym same) ∙ x.streams.lines.read k h within));
     })
   where
-    labelled_apart : (st : Stream) → seen st ≡ client_waits → stream_at id c ≡ Some st → (u : Seen) (f : Flow) → u.label ≡ Some f → look c id ≡ Some u → ⊥
-    labelled_apart st was at u f on is =
-        let one : seen st ≡ u = some_seen (seen st) u (sym (ap (option_map seen) at) ∙ is) in
-        let label : None ≡ Some f = sym (ap (λ (s : Seen). s.label) was) ∙ ap (λ (s : Seen). s.label) one ∙ on in
-        absurd cc
-
     read_apart : (st : Stream) → seen st ≡ client_waits → stream_at id c ≡ Some st → (h : Handshake) → look c id ≡ Some (reading h.line) → ⊥
     read_apart st was at h is =
         let one : seen st ≡ reading h.line = some_seen (seen st) (reading h.line) (sym (ap (option_map seen) at) ∙ is) in
         let both : true ≡ false = sym (ap (λ (s : Seen). s.waiting) was) ∙ ap (λ (s : Seen). s.waiting) one in
         absurd cc
-
-    back : (st : Stream) → seen st ≡ client_waits → look (after_accept (accepted.Stream id) c) id ≡ Some (reading [])
-        → ((j : ℕ) → j ≢ id → look c j ≡ look (after_accept (accepted.Stream id) c) j)
-        → (j : ℕ) (u : Seen) → look (after_accept (accepted.Stream id) c) j ≡ Some u → (b : Bool) → (j == id) ≡ b
-        → (b : Bool) × (b ≡ true → look c j ≡ Some u) × (b ≡ false → (u.label ≡ None) × (u.waiting ≡ true → u ≡ client_waits))
-    back st was is_now others j u is true same =
-        let place : j ≡ id = grind (arith, nat_tests, same) in
-        let one : reading [] ≡ u = some_seen (reading []) u (sym is_now ∙ ap (look (after_accept (accepted.Stream id) c)) (sym place) ∙ is) in (
-          false,
-          (λ no. absurd cc),
-          λ ok. (
-            sym (ap (λ (s : Seen). s.label) one),
-            λ waits. let both : false ≡ true = ap (λ (s : Seen). s.waiting) one ∙ waits in absurd cc,
-          ),
-        )
-    back st was is_now others j u is false other = (true, (λ ok. others j (grind (arith, nat_tests, other)) ∙ is), λ no. absurd cc)
 
 -- READ and WRITE of a connection's stream.
 module _ (c : HostContents) (log new : Log) (port : ℕ) (t : Table DeviceConnection) (hands : List Handshake) (x : IsStreamed c log port t hands)

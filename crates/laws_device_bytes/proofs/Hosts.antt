@@ -1,5 +1,6 @@
 -- What each call of the proxy and each program changes of a host's streams, as they are seen.
-use Rattle.std.proofs.Common.{◌≡◌, ◌≢◌, ℕ, ◌-◌, ◌==◌, Bool, true, false, List, slice_set, Option, Some, None, refl, sym, ap, ◌∙◌, arith}
+use Rattle.std.proofs.Common.{◌≡◌, ◌≢◌, ℕ, zero, suc, ◌+◌, ◌-◌, ◌==◌, Bool, true, false, cond, List, [], ◌∷◌, ◌++◌, length, slice_get, slice_set}
+use Rattle.std.proofs.Common.{Option, Some, None, refl, sym, ap, ◌∙◌, arith}
 use Rattle.std.specs.Option.{option_map, option_map_or}
 use Rattle.std.proofs.lemmas.Bool.Decides.{nat_tests}
 use Rattle.vs_outside.specs.Host.{HostContents, Stream, stream_at, with_stream}
@@ -49,3 +50,40 @@ pub unseen_none : (id : ℕ) (f : Stream → Stream) (c : HostContents) → stre
 unseen_none id f c none j =
     ap (λ (xs : List Stream). look (record c { streams = xs }) j)
     (sym (ap (λ (o : Option Stream). option_map_or (λ s. slice_set c.streams (id - 1) (f s)) o c.streams) none))
+
+-- One stream more: it stands at the end, where none was, and the others stay.
+get_end : (xs : List Stream) (y : Stream) → slice_get (xs ++ y ∷ []) (length xs) ≡ Some y
+get_end [] y = refl
+get_end (x ∷ xs) y = get_end xs y
+
+get_past : (xs : List Stream) → slice_get xs (length xs) ≡ None
+get_past [] = refl
+get_past (x ∷ xs) = get_past xs
+
+get_other : (xs : List Stream) (y : Stream) (k : ℕ) → k ≢ length xs → slice_get (xs ++ y ∷ []) k ≡ slice_get xs k
+get_other [] y zero other = absurd (other refl)
+get_other [] y (suc k) other = refl
+get_other (x ∷ xs) y zero other = refl
+get_other (x ∷ xs) y (suc k) other = get_other xs y k (λ same. other (ap suc same))
+
+module _ (y : Stream) (c : HostContents) where
+  pub others_there : (id : ℕ) → id ≢ length c.streams + 1 → stream_at id (record c { streams = c.streams ++ y ∷ [] }) ≡ stream_at id c
+  others_there id other = by (id == 0) refl
+    where
+      by : (b : Bool) → (id == 0) ≡ b → cond b None (slice_get (c.streams ++ y ∷ []) (id - 1)) ≡ cond b None (slice_get c.streams (id - 1))
+      by true is = refl
+      by false is =
+          let some : id ≢ 0 = grind (arith, nat_tests, is) in
+          get_other c.streams y (id - 1) (λ same. other (omega (arith, some, same)))
+
+  new_place : (length c.streams + 1 == 0) ≡ false
+  new_place = grind (arith, nat_tests)
+
+  back : length c.streams + 1 - 1 ≡ length c.streams
+  back = omega arith
+
+  pub new_there : stream_at (length c.streams + 1) (record c { streams = c.streams ++ y ∷ [] }) ≡ Some y
+  new_there = rw (new_place, back) (get_end c.streams y)
+
+  pub none_there : stream_at (length c.streams + 1) c ≡ None
+  none_there = rw (new_place, back) (get_past c.streams)

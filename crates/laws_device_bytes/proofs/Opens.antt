@@ -18,10 +18,11 @@ use Rattle.vs_proxy_parts.specs.{Handshakes.with_line, Handshakes.without_stream
 use Rattle.vs_uds.specs.{OkLine.ok_text, Reading.is_decided, declared.connect.TheConstants.CONNECT_MAX}
 use Rattle.laws_device_bytes.specs.Streamed.{AreLines, AreStreamed, IsStreamed, Seen, client_waits, has_line, line_for, look, reading, seen}
 use Rattle.laws_bytes.specs.Drains.{got_on, has_passed, put_on}
-use Rattle.laws_device_bytes.proofs.{Hosts.changed_seen, Hosts.others_seen, Hosts.there, HostCalls.closed_host, HostCalls.more_kept}
+use Rattle.laws_device_bytes.proofs.{Hosts.changed_seen, Hosts.new_there, Hosts.none_there, Hosts.others_seen, Hosts.others_there, Hosts.there}
+use Rattle.laws_device_bytes.proofs.HostCalls.{closed_host, more_kept}
 use Rattle.laws_device_bytes.proofs.HostCalls.{some_seen}
 use Rattle.laws_bytes.proofs.Logs.{none_got, none_put}
-use Rattle.laws_device_bytes.proofs.Streamed.{opened_streamed, unlabelled_streamed}
+use Rattle.laws_device_bytes.proofs.Streamed.{one_streamed, opened_streamed}
 use Rattle.laws_device_bytes.proofs.Hands.{with_all, with_apart, without_all, without_none, without_pairs}
 use Rattle.vs_header.specs.declared.Kind.TheVariants as kind
 use Rattle.vs_outside.specs.declared.host_net.Dialed.TheVariants as dialed
@@ -139,52 +140,29 @@ module _ (c : HostContents) (log : Log) (port : ℕ) (t : Table DeviceConnection
   others_now : (j : ℕ) → j ≢ id → look c j ≡ look read_on j
   others_now j other = others_seen id (take_bytes n) (called c) j other
 
-  abbrev Back : (j : ℕ) (u : Seen) → Type 0
-  Back j u = (b : Bool) × (b ≡ true → look c j ≡ Some u) × (b ≡ false → (u.label ≡ None) × (u.waiting ≡ true → u ≡ client_waits))
-
-  back : (j : ℕ) (u : Seen) → look read_on j ≡ Some u → (b : Bool) → (j == id) ≡ b → Back j u
-  back j u is true same =
-      let place : j ≡ id = grind (arith, nat_tests, same) in
-      let one : reading (h.line ++ bytes) ≡ u = some_seen (reading (h.line ++ bytes)) u (sym line_now ∙ ap (look read_on) (sym place) ∙ is) in (
-        false,
-        (λ no. absurd cc),
-        λ ok. (
-          sym (ap (λ (s : Seen). s.label) one),
-          λ waits. let both : false ≡ true = ap (λ (s : Seen). s.waiting) one ∙ waits in absurd cc,
-        ),
-      )
-  back j u is false other = (true, (λ ok. others_now j (grind (arith, nat_tests, other)) ∙ is), λ no. absurd cc)
-
-  kept : (j : ℕ) (u : Seen) (f : Flow) → look c j ≡ Some u → u.label ≡ Some f → look read_on j ≡ Some u
-  kept j u f is on = sym (others_now j (λ same. labelled_apart u f on (ap (look c) (sym same) ∙ is))) ∙ is
-    where
-      labelled_apart : (u : Seen) (f : Flow) → u.label ≡ Some f → look c id ≡ Some u → ⊥
-      labelled_apart u f on is =
-          let one : reading h.line ≡ u = some_seen (reading h.line) u (sym hand.there ∙ is) in
-          let label : None ≡ Some f = ap (λ (s : Seen). s.label) one ∙ on in
-          absurd cc
+  goes_with : (lines : List Handshake) → AreLines (look read_on) lines → IsStreamed read_on log port t lines
+  goes_with lines = one_streamed (look c) (look read_on) c.labelled log port t hands lines x id (reading (h.line ++ bytes)) line_now refl refl
+      (λ b is. ap (λ (s : Seen). s.label) (sym (some_seen (reading h.line) b (sym hand.there ∙ is)))) others_now
 
   pub line_more : is_decided CONNECT_MAX (h.line ++ bytes) ≡ false → IsStreamed read_on log port t (with_line id (h.line ++ bytes) hands)
-  line_more open_line = unlabelled_streamed (look c) (look read_on) c.labelled log port t hands (with_line id (h.line ++ bytes) hands) x
-      (λ j u is. back j u is (j == id) refl) kept (record {
-        read = with_all (λ (g : Handshake). look c g.stream ≡ Some (reading g.line)) (λ (g : Handshake). look read_on g.stream ≡ Some (reading g.line))
-            id (h.line ++ bytes) hands x.streams.lines.apart x.streams.lines.read (λ g same old. ap (look read_on) same ∙ line_now)
-            (λ g other old. sym (others_now g.stream other) ∙ old);
-        undecided = with_all (λ (g : Handshake). is_decided CONNECT_MAX g.line ≡ false) (λ (g : Handshake). is_decided CONNECT_MAX g.line ≡ false)
-            id (h.line ++ bytes) hands x.streams.lines.apart x.streams.lines.undecided (λ g same old. open_line) (λ g other old. old);
-        apart = with_apart id (h.line ++ bytes) hands x.streams.lines.apart;
-      })
+  line_more open_line = goes_with (with_line id (h.line ++ bytes) hands) (record {
+    read = with_all (λ (g : Handshake). look c g.stream ≡ Some (reading g.line)) (λ (g : Handshake). look read_on g.stream ≡ Some (reading g.line))
+        id (h.line ++ bytes) hands x.streams.lines.apart x.streams.lines.read (λ g same old. ap (look read_on) same ∙ line_now)
+        (λ g other old. sym (others_now g.stream other) ∙ old);
+    undecided = with_all (λ (g : Handshake). is_decided CONNECT_MAX g.line ≡ false) (λ (g : Handshake). is_decided CONNECT_MAX g.line ≡ false)
+        id (h.line ++ bytes) hands x.streams.lines.apart x.streams.lines.undecided (λ g same old. open_line) (λ g other old. old);
+    apart = with_apart id (h.line ++ bytes) hands x.streams.lines.apart;
+  })
 
   pub line_over : IsStreamed read_on log port t (without_stream id hands)
-  line_over = unlabelled_streamed (look c) (look read_on) c.labelled log port t hands (without_stream id hands) x
-      (λ j u is. back j u is (j == id) refl) kept (record {
-        read = λ i g within.
-            let away = without_none id hands x.streams.lines.apart i g within in
-            let old = without_all (λ (k : Handshake). look c k.stream ≡ Some (reading k.line)) id hands x.streams.lines.read i g within in
-            sym (others_now (get_or (without_stream id hands) i g).stream away) ∙ old;
-        undecided = without_all (λ (k : Handshake). is_decided CONNECT_MAX k.line ≡ false) id hands x.streams.lines.undecided;
-        apart = without_pairs (λ (g : Handshake) (k : Handshake). g.stream ≢ k.stream) id hands x.streams.lines.apart;
-      })
+  line_over = goes_with (without_stream id hands) (record {
+    read = λ i g within.
+        let away = without_none id hands x.streams.lines.apart i g within in
+        let old = without_all (λ (k : Handshake). look c k.stream ≡ Some (reading k.line)) id hands x.streams.lines.read i g within in
+        sym (others_now (get_or (without_stream id hands) i g).stream away) ∙ old;
+    undecided = without_all (λ (k : Handshake). is_decided CONNECT_MAX k.line ≡ false) id hands x.streams.lines.undecided;
+    apart = without_pairs (λ (g : Handshake) (k : Handshake). g.stream ≢ k.stream) id hands x.streams.lines.apart;
+  })
 
 -- LABEL: a whole line opens a connection.
 module _ (c : HostContents) (log : Log) (port : ℕ) (t : Table DeviceConnection) (lines : List Handshake) (x : IsStreamed c log port t lines)
@@ -248,20 +226,6 @@ module _ (c : HostContents) (log : Log) (port : ℕ) (t : Table DeviceConnection
       }))
 
 -- DIAL: a connection opens with a new stream.
-pub get_end : (xs : List Stream) (y : Stream) → slice_get (xs ++ y ∷ []) (length xs) ≡ Some y
-get_end [] y = refl
-get_end (x ∷ xs) y = get_end xs y
-
-pub get_past : (xs : List Stream) → slice_get xs (length xs) ≡ None
-get_past [] = refl
-get_past (x ∷ xs) = get_past xs
-
-pub get_other : (xs : List Stream) (y : Stream) (k : ℕ) → k ≢ length xs → slice_get (xs ++ y ∷ []) k ≡ slice_get xs k
-get_other [] y zero other = absurd (other refl)
-get_other [] y (suc k) other = refl
-get_other (x ∷ xs) y zero other = refl
-get_other (x ∷ xs) y (suc k) other = get_other xs y k (λ same. other (ap suc same))
-
 module _ (c : HostContents) (log new : Log) (port : ℕ) (t : Table DeviceConnection) (hands : List Handshake) (x : IsStreamed c log port t hands)
     (sound : IsTable t) (f : Flow) (h : Header) (outside : is_assigned f.host ≡ false) (quiet : has_passed Device f log ≡ false)
     (passes : has_passed Device f new ≡ true)
@@ -273,32 +237,14 @@ module _ (c : HostContents) (log new : Log) (port : ℕ) (t : Table DeviceConnec
   abbrev dialed_now : HostContents
   dialed_now = after_dial f (dialed.Stream (length c.streams + 1)) c
 
-  at_end : (k : ℕ) → (k + 1 == 0) ≡ false
-  at_end k = grind (arith, nat_tests)
-
   dialed_seen : look dialed_now (length c.streams + 1) ≡ Some (seen (dialed_stream f c.prepared))
-  dialed_seen =
-      let back : length c.streams + 1 - 1 ≡ length c.streams = omega arith in
-      ap (λ (b : Bool). option_map seen (cond b None (slice_get (c.streams ++ new_stream ∷ []) (length c.streams + 1 - 1)))) (at_end (length c.streams))
-      ∙ ap (λ (k : ℕ). option_map seen (slice_get (c.streams ++ new_stream ∷ []) k)) back ∙ ap (option_map seen) (get_end c.streams new_stream)
+  dialed_seen = ap (option_map seen) (new_there new_stream c)
 
   others_dialed : (j : ℕ) → j ≢ length c.streams + 1 → look c j ≡ look dialed_now j
-  others_dialed j other = by (j == 0) refl
-    where
-      by : (b : Bool) → (j == 0) ≡ b → option_map seen (cond (j == 0) None (slice_get c.streams (j - 1)))
-          ≡ option_map seen (cond (j == 0) None (slice_get (c.streams ++ new_stream ∷ []) (j - 1)))
-      by true is = rw is refl
-      by false is =
-          let apart : j - 1 ≢ length c.streams = λ same. other (grind (arith, nat_tests, same, is)) in
-          rw is (ap (option_map seen) (sym (get_other c.streams new_stream (j - 1) apart)))
+  others_dialed j other = ap (option_map seen) (sym (others_there new_stream c j other))
 
   nothing_before : (b : Seen) → look c (length c.streams + 1) ≡ Some b → b.label ≡ None
-  nothing_before b is =
-      let back : length c.streams + 1 - 1 ≡ length c.streams = omega arith in
-      let none : look c (length c.streams + 1) ≡ None =
-      ap (λ (d : Bool). option_map seen (cond d None (slice_get c.streams (length c.streams + 1 - 1)))) (at_end (length c.streams))
-      ∙ ap (λ (k : ℕ). option_map seen (slice_get c.streams k)) back ∙ ap (option_map seen) (get_past c.streams) in
-      let both : None ≡ Some b = sym none ∙ is in absurd cc
+  nothing_before b is = let both : None ≡ Some b = sym (ap (option_map seen) (none_there new_stream c)) ∙ is in absurd cc
 
   fresh_dial : (j : ℕ) (u : Seen) → look c j ≡ Some u → u.label ≢ Some f
   fresh_dial j u is on =

@@ -29,34 +29,53 @@ one_seen at id s t is other = some_inj s t (sym is ∙ other)
 not_none : (s : Seen) (f : Flow) → s.label ≡ Some f → s.label ≡ None → ⊥
 not_none s f is none = let both : Some f ≡ None = sym is ∙ none in absurd cc
 
+-- One place or another.
+pub is_or_not : (i j : ℕ) (P : Type 0) → (i ≡ j → P) → (i ≢ j → P) → P
+is_or_not i j P here other = by (i == j) refl
+  where
+    by : (b : Bool) → (i == j) ≡ b → P
+    by true same = here (grind (arith, nat_tests, same))
+    by false apart = other (grind (arith, nat_tests, apart))
+
+-- A connection whose stream looks the same, and a stream with a label: on their flow no more was got, or put.
+pub join_moves : (at now : ℕ → Option Seen) (log new : Log) (e : DeviceEntry) (j : IsJoined at log e) → now e.value.stream ≡ Some j.stream
+    → got_on Device e.flow log ≡ got_on Device e.flow new → IsJoined now new e
+join_moves at now log new e j there got = record {
+  stream = j.stream;
+  there = there;
+  label = j.label;
+  client = j.client;
+  closed = j.closed;
+  drains = subst (λ (bytes : List ℕ). Drains (gives e.value.end) j.stream.given (e.value.ok_line ++ e.value.pending) (line_for e.flow ++ bytes))
+      got j.drains;
+  asked = j.asked;
+}
+
+label_moves : (id : ℕ) (s : Seen) (f : Flow) (labelled more : List ℕ) (log new : Log) (port next : ℕ) → IsLabelled id s f labelled log port
+    → Contains more id → put_on Device f log ≡ put_on Device f new → IsPrefixOf s.given (line_for f ++ got_on Device f new) → port ≤ next
+    → (has_passed Device f log ≡ true → has_passed Device f new ≡ true) → IsLabelled id s f more new next
+label_moves id s f labelled more log new port next x listed put gave less passed = record {
+  listed = listed;
+  client = x.client;
+  whole = x.whole;
+  took = sym put ∙ x.took;
+  gave = gave;
+  ported = λ is. omega (arith, x.ported is, less);
+  passed = λ is. passed (x.passed is);
+}
+
 -- The same bytes of each stream and flow.
 module _ (at now : ℕ → Option Seen) (labelled : List ℕ) (log new : Log) (port : ℕ) (same : (id : ℕ) → at id ≡ now id)
     (put : (f : Flow) → put_on Device f log ≡ put_on Device f new) (got : (f : Flow) → got_on Device f log ≡ got_on Device f new)
     (passed : (f : Flow) → has_passed Device f log ≡ true → has_passed Device f new ≡ true) where
   same_joined : (e : DeviceEntry) → IsJoined at log e → IsJoined now new e
-  same_joined e x = record {
-    stream = x.stream;
-    there = sym (same e.value.stream) ∙ x.there;
-    label = x.label;
-    client = x.client;
-    closed = x.closed;
-    drains = subst (λ (bytes : List ℕ). Drains (gives e.value.end) x.stream.given (e.value.ok_line ++ e.value.pending) (line_for e.flow ++ bytes))
-        (got e.flow) x.drains;
-    asked = x.asked;
-  }
+  same_joined e x = join_moves at now log new e x (sym (same e.value.stream) ∙ x.there) (got e.flow)
 
-  pub same_labelled : (id : ℕ) (s : Seen) (f : Flow) → IsLabelled id s f labelled log port → IsLabelled id s f labelled new port
-  same_labelled id s f x = record {
-    listed = x.listed;
-    client = x.client;
-    whole = x.whole;
-    took = sym (put f) ∙ x.took;
-    gave = subst (λ (bytes : List ℕ). IsPrefixOf s.given (line_for f ++ bytes)) (got f) x.gave;
-    ported = x.ported;
-    passed = λ is. passed f (x.passed is);
-  }
+  same_labelled : (id : ℕ) (s : Seen) (f : Flow) → IsLabelled id s f labelled log port → IsLabelled id s f labelled new port
+  same_labelled id s f x = label_moves id s f labelled labelled log new port port x x.listed (put f)
+      (subst (λ (bytes : List ℕ). IsPrefixOf s.given (line_for f ++ bytes)) (got f) x.gave) (omega arith) (passed f)
 
-  pub same_lines : (lines : List Handshake) → AreLines at lines → AreLines now lines
+  same_lines : (lines : List Handshake) → AreLines at lines → AreLines now lines
   same_lines lines x = record {
     read = λ i h within. sym (same (get_or lines i h).stream) ∙ x.read i h within;
     undecided = x.undecided;
@@ -126,16 +145,8 @@ module _ (at now : ℕ → Option Seen) (labelled : List ℕ) (log new : Log) (p
         other (some_inj f e.flow (sym label ∙ ap (λ (y : Seen). y.label) one ∙ join.label))
 
     other_joined : (y : DeviceEntry) → y.flow ≢ e.flow → IsJoined at log y → IsJoined now new y
-    other_joined y other j = record {
-      stream = j.stream;
-      there = sym (others y.value.stream (other_stream y.value.stream j.stream y.flow j.there j.label other)) ∙ j.there;
-      label = j.label;
-      client = j.client;
-      closed = j.closed;
-      drains = subst (λ (bytes : List ℕ). Drains (gives y.value.end) j.stream.given (y.value.ok_line ++ y.value.pending) (line_for y.flow ++ bytes))
-          (got_other y.flow other) j.drains;
-      asked = j.asked;
-    }
+    other_joined y other j = join_moves at now log new y j
+        (sym (others y.value.stream (other_stream y.value.stream j.stream y.flow j.there j.label other)) ∙ j.there) (got_other y.flow other)
 
     here_labelled : IsLabelled e.value.stream (after c.closed) e.flow labelled new port
     here_labelled = record {
@@ -148,67 +159,52 @@ module _ (at now : ℕ → Option Seen) (labelled : List ℕ) (log new : Log) (p
       passed = λ is. passed e.flow (old_label.passed is);
     }
 
-    -- What a stream was before.
-    was : (id : ℕ) (s : Seen) → now id ≡ Some s → (b : Bool) → (id == e.value.stream) ≡ b
-        → (before : Seen) × (at id ≡ Some before) × (before.label ≡ s.label) × (before.waiting ≡ s.waiting)
-    was id s seen true same =
-        let id_is : id ≡ e.value.stream = grind (arith, nat_tests, same) in
-        let one : after c.closed ≡ s = one_seen now e.value.stream (after c.closed) s there (ap now (sym id_is) ∙ seen) in
-        (join.stream, ap at id_is ∙ join.there, ap (λ (y : Seen). y.label) one, ap (λ (y : Seen). y.waiting) one)
-    was id s seen false other = (s, others id (grind (arith, nat_tests, other)) ∙ seen, refl, refl)
+    here : (id : ℕ) (s : Seen) → now id ≡ Some s → id ≡ e.value.stream → after c.closed ≡ s
+    here id s seen id_is = one_seen now e.value.stream (after c.closed) s there (ap now (sym id_is) ∙ seen)
 
-    labels_at : (id : ℕ) (s : Seen) (f : Flow) → now id ≡ Some s → s.label ≡ Some f → (b : Bool) → (id == e.value.stream) ≡ b
-        → IsLabelled id s f labelled new port
-    labels_at id s f seen label true same =
-        let id_is : id ≡ e.value.stream = grind (arith, nat_tests, same) in
-        let one : after c.closed ≡ s = one_seen now e.value.stream (after c.closed) s there (ap now (sym id_is) ∙ seen) in
+    -- What a stream was before.
+    was : (id : ℕ) (s : Seen) → now id ≡ Some s → (before : Seen) × (at id ≡ Some before) × (before.label ≡ s.label)
+    was id s seen = is_or_not id e.value.stream ((before : Seen) × (at id ≡ Some before) × (before.label ≡ s.label))
+        (λ id_is. (join.stream, ap at id_is ∙ join.there, ap (λ (y : Seen). y.label) (here id s seen id_is)))
+        (λ other. (s, others id other ∙ seen, refl))
+
+    labels_at : (id : ℕ) (s : Seen) (f : Flow) → now id ≡ Some s → s.label ≡ Some f → IsLabelled id s f labelled new port
+    labels_at id s f seen label = is_or_not id e.value.stream (IsLabelled id s f labelled new port) (λ id_is.
+        let one = here id s seen id_is in
         let flow : e.flow ≡ f = some_inj e.flow f (sym join.label ∙ ap (λ (y : Seen). y.label) one ∙ label) in
         subst (λ (g : Flow). IsLabelled id s g labelled new port) flow
         (subst (λ (y : Seen). IsLabelled id y e.flow labelled new port) one
-        (subst (λ (i : ℕ). IsLabelled i (after c.closed) e.flow labelled new port) (sym id_is) here_labelled))
-    labels_at id s f seen label false other =
-        let apart : id ≢ e.value.stream = grind (arith, nat_tests, other) in
+        (subst (λ (i : ℕ). IsLabelled i (after c.closed) e.flow labelled new port) (sym id_is) here_labelled))) (λ apart.
         let before : at id ≡ Some s = others id apart ∙ seen in
         let old = x.streams.labels id s f before label in
         let off : f ≢ e.flow = λ flow. apart (x.streams.unique id e.value.stream s join.stream f before join.there label (join.label
         ∙ ap (λ (g : Flow). Some g) (sym flow))) in
-        record {
-          listed = old.listed;
-          client = old.client;
-          whole = old.whole;
-          took = sym (put_other f off) ∙ old.took;
-          gave = subst (λ (bytes : List ℕ). IsPrefixOf s.given (line_for f ++ bytes)) (got_other f off) old.gave;
-          ported = old.ported;
-          passed = λ is. passed f (old.passed is);
-        }
+        label_moves id s f labelled labelled log new port port old old.listed (put_other f off)
+        (subst (λ (bytes : List ℕ). IsPrefixOf s.given (line_for f ++ bytes)) (got_other f off) old.gave) (omega arith) (passed f))
 
     line_apart : (h : Handshake) → at h.stream ≡ Some (reading h.line) → h.stream ≢ e.value.stream
     line_apart h seen same =
         let one : reading h.line ≡ join.stream = one_seen at e.value.stream (reading h.line) join.stream (ap at (sym same) ∙ seen) join.there in
         not_none join.stream e.flow join.label (ap (λ (y : Seen). y.label) (sym one))
 
-    waits_at : (id : ℕ) (s : Seen) → now id ≡ Some s → s.waiting ≡ true → (b : Bool) → (id == e.value.stream) ≡ b → s ≡ client_waits
-    waits_at id s seen waits true same =
-        let id_is : id ≡ e.value.stream = grind (arith, nat_tests, same) in
-        let one : after c.closed ≡ s = one_seen now e.value.stream (after c.closed) s there (ap now (sym id_is) ∙ seen) in
-        let was_client = x.streams.waiting e.value.stream join.stream join.there (ap (λ (y : Seen). y.waiting) one ∙ waits) in
-        absurd (not_none join.stream e.flow join.label (ap (λ (y : Seen). y.label) was_client))
-    waits_at id s seen waits false other = x.streams.waiting id s (others id (grind (arith, nat_tests, other)) ∙ seen) waits
+    waits_at : (id : ℕ) (s : Seen) → now id ≡ Some s → s.waiting ≡ true → s ≡ client_waits
+    waits_at id s seen waits = is_or_not id e.value.stream (s ≡ client_waits) (λ id_is.
+        let was_client = x.streams.waiting e.value.stream join.stream join.there (ap (λ (y : Seen). y.waiting) (here id s seen id_is) ∙ waits) in
+        absurd (not_none join.stream e.flow join.label (ap (λ (y : Seen). y.label) was_client)))
+        (λ other. x.streams.waiting id s (others id other ∙ seen) waits)
 
     moved_labels : AreLabelled now labelled new port lines
     moved_labels = record {
-      labels = λ id s f seen label. labels_at id s f seen label (id == e.value.stream) refl;
+      labels = labels_at;
       unique = λ i j s u f a b p q.
-          let k = was i s a (i == e.value.stream) refl in
-          let l = was j u b (j == e.value.stream) refl in
-          x.streams.unique i j k.0 l.0 f k.1 l.1 (k.2 ∙ p) (l.2 ∙ q);
+          let k = was i s a in let l = was j u b in x.streams.unique i j k.0 l.0 f k.1 l.1 (k.2 ∙ p) (l.2 ∙ q);
       none = λ f without.
           let off : f ≢ e.flow = λ flow. without e.value.stream (after c.closed) there (join.label
           ∙ ap (λ (g : Flow). Some g) (sym flow)) in
           sym (put_other f off) ∙ x.streams.none f (λ id s seen label.
           let apart : id ≢ e.value.stream = other_stream id s f seen label off in
           without id s (sym (others id apart) ∙ seen) label);
-      waiting = λ id s seen waits. waits_at id s seen waits (id == e.value.stream) refl;
+      waiting = waits_at;
       lines = record {
         read = λ i h within.
             let y = get_or lines i h in
@@ -221,21 +217,14 @@ module _ (at now : ℕ → Option Seen) (labelled : List ℕ) (log new : Log) (p
     pub moved_streamed : AreStreamed now labelled new port (with_value t e.slot c) lines
     moved_streamed = record {
       joined = changed t sound e is (IsJoined at log) (IsJoined now new) c x.joined new_join other_joined;
-      tabled = λ id s f seen label still. tabled_at id s f seen label still (id == e.value.stream) refl;
+      tabled = λ id s f seen label still.
+          is_or_not id e.value.stream ((slot : ℕ) × (stream_under (with_value t e.slot c) slot ≡ Some id)) (λ id_is. (
+            e.slot,
+            stream_now t sound e is c (ap (λ (y : Seen). y.closed) (here id s seen id_is) ∙ still) ∙ ap (λ (i : ℕ). Some i) (stream ∙ sym id_is),
+          )) (λ apart.
+          let old = x.tabled id s f (others id apart ∙ seen) label still in (old.0, stream_other t sound e is c old.0 id old.1 apart));
       streams = moved_labels;
     }
-      where
-        tabled_at : (id : ℕ) (s : Seen) (f : Flow) → now id ≡ Some s → s.label ≡ Some f → s.closed ≡ false → (b : Bool)
-            → (id == e.value.stream) ≡ b
-            → (slot : ℕ) × (stream_under (with_value t e.slot c) slot ≡ Some id)
-        tabled_at id s f seen label still true same =
-            let id_is : id ≡ e.value.stream = grind (arith, nat_tests, same) in
-            let one : after c.closed ≡ s = one_seen now e.value.stream (after c.closed) s there (ap now (sym id_is) ∙ seen) in
-            (e.slot, stream_now t sound e is c (ap (λ (y : Seen). y.closed) one ∙ still) ∙ ap (λ (i : ℕ). Some i) (stream ∙ sym id_is))
-        tabled_at id s f seen label still false other =
-            let apart : id ≢ e.value.stream = grind (arith, nat_tests, other) in
-            let old = x.tabled id s f (others id apart ∙ seen) label still in
-            (old.0, stream_other t sound e is c old.0 id old.1 apart)
 
 -- A connection leaves whose stream is closed.
 pub left_streamed : (at : ℕ → Option Seen) (labelled : List ℕ) (log : Log) (port : ℕ) (t : Table DeviceConnection) (lines : List Handshake)
@@ -270,15 +259,7 @@ passed_streamed at labelled log new port t lines x on came put got passed idle =
   streams = record {
     labels = λ id s f seen label.
         let old = x.streams.labels id s f seen label in
-        record {
-          listed = old.listed;
-          client = old.client;
-          whole = old.whole;
-          took = sym (put f) ∙ old.took;
-          gave = comes s.given f old.gave;
-          ported = old.ported;
-          passed = λ is. passed f (old.passed is);
-        };
+        label_moves id s f labelled labelled log new port port old old.listed (put f) (comes s.given f old.gave) (omega arith) (passed f);
     unique = x.streams.unique;
     none = λ f without. sym (put f) ∙ x.streams.none f without;
     waiting = x.streams.waiting;
@@ -361,92 +342,59 @@ module _ (at now : ℕ → Option Seen) (labelled : List ℕ) (log new : Log) (p
   still_labelled : (j : ℕ) (u : Seen) (g : Flow) → at j ≡ Some u → u.label ≡ Some g → IsLabelled j u g (labelled ++ id ∷ []) new next
   still_labelled j u g seen on =
       let old = x.streams.labels j u g seen on in
-      record {
-        listed = Contains-append_left labelled (id ∷ []) j old.listed;
-        client = old.client;
-        whole = old.whole;
-        took = sym (put g) ∙ old.took;
-        gave = subst (λ (bytes : List ℕ). IsPrefixOf u.given (line_for g ++ bytes)) (got g) old.gave;
-        ported = λ is. omega (arith, old.ported is, more);
-        passed = λ is. passed g (old.passed is);
-      }
+      label_moves j u g labelled (labelled ++ id ∷ []) log new port next old (Contains-append_left labelled (id ∷ []) j old.listed) (put g)
+      (subst (λ (bytes : List ℕ). IsPrefixOf u.given (line_for g ++ bytes)) (got g) old.gave) more (passed g)
 
   still_joined : (e : DeviceEntry) → IsJoined at log e → IsJoined now new e
-  still_joined e j = record {
-    stream = j.stream;
-    there = sym (others e.value.stream (not_here e.value.stream j.stream e.flow j.there j.label)) ∙ j.there;
-    label = j.label;
-    client = j.client;
-    closed = j.closed;
-    drains = subst (λ (bytes : List ℕ). Drains (gives e.value.end) j.stream.given (e.value.ok_line ++ e.value.pending) (line_for e.flow ++ bytes))
-        (got e.flow) j.drains;
-    asked = j.asked;
-  }
+  still_joined e j = join_moves at now log new e j
+      (sym (others e.value.stream (not_here e.value.stream j.stream e.flow j.there j.label)) ∙ j.there) (got e.flow)
 
-  was_there : (j : ℕ) (u : Seen) → now j ≡ Some u → (j == id) ≡ false → at j ≡ Some u
-  was_there j u seen other = others j (grind (arith, nat_tests, other)) ∙ seen
+  it_is : (j : ℕ) (u : Seen) → now j ≡ Some u → j ≡ id → s ≡ u
+  it_is j u seen place = one_seen now id s u there (ap now (sym place) ∙ seen)
 
-  it_is : (j : ℕ) (u : Seen) → now j ≡ Some u → (j == id) ≡ true → s ≡ u
-  it_is j u seen same = let place : j ≡ id = grind (arith, nat_tests, same) in one_seen now id s u there (ap now (sym place) ∙ seen)
+  flow_of_new : (j : ℕ) (u : Seen) (g : Flow) → now j ≡ Some u → u.label ≡ Some g → j ≡ id → f ≡ g
+  flow_of_new j u g seen on place = some_inj f g (sym label ∙ ap (λ (y : Seen). y.label) (it_is j u seen place) ∙ on)
+
+  -- Not both have the label.
+  new_alone : (i j : ℕ) (u v : Seen) (g : Flow) → now i ≡ Some u → now j ≡ Some v → u.label ≡ Some g → v.label ≡ Some g → i ≡ id → j ≢ id → ⊥
+  new_alone i j u v g a b p q place other =
+      fresh j v (others j other ∙ b) (q ∙ ap (λ (h : Flow). Some h) (sym (flow_of_new i u g a p place)))
 
   pub opened_streamed : IsTable t → c.stream ≡ id → c.closed ≡ false → IsLabelled id s f (labelled ++ id ∷ []) new next
       → IsJoined now new (next_entry t f c) → AreLines now lines
       → AreStreamed now (labelled ++ id ∷ []) new next (with_entry t f c) lines
   opened_streamed sound stream still here joins reads = record {
     joined = All-push (IsJoined now new) t.entries (next_entry t f c) (All-weaker (IsJoined at log) (IsJoined now new) still_joined t.entries x.joined) joins;
-    tabled = λ j u g seen on open_now. tabled_by j u g seen on open_now (j == id) refl;
+    tabled = λ j u g seen on open_now. is_or_not j id ((slot : ℕ) × (stream_under (with_entry t f c) slot ≡ Some j))
+        (λ place. (t.given, stream_comes t f c sound still ∙ ap (λ (i : ℕ). Some i) (stream ∙ sym place)))
+        (λ other. let old = x.tabled j u g (others j other ∙ seen) on open_now in (old.0, stream_kept t f c old.0 j old.1));
     streams = record {
-      labels = λ j u g seen on. labels_by j u g seen on (j == id) refl;
-      unique = λ i j u v g a b p q. unique_by i j u v g a b p q (i == id) (j == id) refl refl;
+      labels = λ j u g seen on. is_or_not j id (IsLabelled j u g (labelled ++ id ∷ []) new next) (λ place.
+          subst (λ (k : ℕ). IsLabelled k u g (labelled ++ id ∷ []) new next) (sym place)
+          (subst (λ (y : Seen). IsLabelled id y g (labelled ++ id ∷ []) new next) (it_is j u seen place)
+          (subst (λ (h : Flow). IsLabelled id s h (labelled ++ id ∷ []) new next) (flow_of_new j u g seen on place) here)))
+          (λ other. still_labelled j u g (others j other ∙ seen) on);
+      unique = λ i j u v g a b p q. is_or_not i id (i ≡ j)
+          (λ one. is_or_not j id (i ≡ j) (λ also. one ∙ sym also) (λ other. absurd (new_alone i j u v g a b p q one other)))
+          (λ apart. is_or_not j id (i ≡ j) (λ one. absurd (new_alone j i v u g b a q p one apart))
+          (λ other. x.streams.unique i j u v g (others i apart ∙ a) (others j other ∙ b) p q));
       none = λ g without. sym (put g) ∙ x.streams.none g (λ j u seen on.
           without j u (sym (others j (not_here j u g seen on)) ∙ seen) on);
-      waiting = λ j u seen waits. waiting_by j u seen waits (j == id) refl;
+      waiting = λ j u seen waits. is_or_not j id (u ≡ client_waits) (λ place.
+          let both : false ≡ true = sym busy ∙ ap (λ (y : Seen). y.waiting) (it_is j u seen place) ∙ waits in absurd cc)
+          (λ other. x.streams.waiting j u (others j other ∙ seen) waits);
       lines = reads;
     };
   }
-    where
-      tabled_by : (j : ℕ) (u : Seen) (g : Flow) → now j ≡ Some u → u.label ≡ Some g → u.closed ≡ false → (b : Bool) → (j == id) ≡ b
-          → (slot : ℕ) × (stream_under (with_entry t f c) slot ≡ Some j)
-      tabled_by j u g seen on open_now true same =
-          let place : j ≡ id = grind (arith, nat_tests, same) in
-          (t.given, stream_comes t f c sound still ∙ ap (λ (i : ℕ). Some i) (stream ∙ sym place))
-      tabled_by j u g seen on open_now false other =
-          let old = x.tabled j u g (was_there j u seen other) on open_now in (old.0, stream_kept t f c old.0 j old.1)
 
-      labels_by : (j : ℕ) (u : Seen) (g : Flow) → now j ≡ Some u → u.label ≡ Some g → (b : Bool) → (j == id) ≡ b
-          → IsLabelled j u g (labelled ++ id ∷ []) new next
-      labels_by j u g seen on true same =
-          let place : j ≡ id = grind (arith, nat_tests, same) in
-          let one = it_is j u seen same in
-          let flow : f ≡ g = some_inj f g (sym label ∙ ap (λ (y : Seen). y.label) one ∙ on) in
-          subst (λ (k : ℕ). IsLabelled k u g (labelled ++ id ∷ []) new next) (sym place)
-          (subst (λ (y : Seen). IsLabelled id y g (labelled ++ id ∷ []) new next) one
-          (subst (λ (h : Flow). IsLabelled id s h (labelled ++ id ∷ []) new next) flow here))
-      labels_by j u g seen on false other = still_labelled j u g (was_there j u seen other) on
-
-      waiting_by : (j : ℕ) (u : Seen) → now j ≡ Some u → u.waiting ≡ true → (b : Bool) → (j == id) ≡ b → u ≡ client_waits
-      waiting_by j u seen waits true same =
-          let both : false ≡ true = sym busy ∙ ap (λ (y : Seen). y.waiting) (it_is j u seen same) ∙ waits in absurd cc
-      waiting_by j u seen waits false other = x.streams.waiting j u (was_there j u seen other) waits
-
-      flow_of_new : (j : ℕ) (u : Seen) (g : Flow) → now j ≡ Some u → u.label ≡ Some g → (j == id) ≡ true → f ≡ g
-      flow_of_new j u g seen on same = some_inj f g (sym label ∙ ap (λ (y : Seen). y.label) (it_is j u seen same) ∙ on)
-
-      unique_by : (i j : ℕ) (u v : Seen) (g : Flow) → now i ≡ Some u → now j ≡ Some v → u.label ≡ Some g → v.label ≡ Some g → (b d : Bool)
-          → (i == id) ≡ b → (j == id) ≡ d → i ≡ j
-      unique_by i j u v g a b p q true true r t = grind (arith, nat_tests, r, t)
-      unique_by i j u v g a b p q true false r t =
-          let flow = flow_of_new i u g a p r in
-          absurd (fresh j v (was_there j v b t) (q ∙ ap (λ (h : Flow). Some h) (sym flow)))
-      unique_by i j u v g a b p q false true r t =
-          let flow = flow_of_new j v g b q t in
-          absurd (fresh i u (was_there i u a r) (p ∙ ap (λ (h : Flow). Some h) (sym flow)))
-      unique_by i j u v g a b p q false false r t = x.streams.unique i j u v g (was_there i u a r) (was_there j v b t) p q
+-- A stream was there before, or has no label and waits for nothing but to be accepted.
+abbrev IsBack : (ℕ → Option Seen) → ℕ → Seen → Type 0
+IsBack at j u = (b : Bool) × (b ≡ true → at j ≡ Some u) × (b ≡ false → (u.label ≡ None) × (u.waiting ≡ true → u ≡ client_waits))
 
 -- Streams without a label change, or come: none of them waits for anything but to be accepted.
 module _ (at now : ℕ → Option Seen) (labelled : List ℕ) (log : Log) (port : ℕ) (t : Table DeviceConnection) (hands lines : List Handshake)
     (x : AreStreamed at labelled log port t hands)
-    (back : (j : ℕ) (u : Seen) → now j ≡ Some u → ((b : Bool) × (b ≡ true → at j ≡ Some u) × (b ≡ false → (u.label ≡ None) × (u.waiting ≡ true → u ≡ client_waits))))
+    (back : (j : ℕ) (u : Seen) → now j ≡ Some u → IsBack at j u)
     (kept : (j : ℕ) (u : Seen) (f : Flow) → at j ≡ Some u → u.label ≡ Some f → now j ≡ Some u) where
   labelled_before : (j : ℕ) (u : Seen) (f : Flow) → now j ≡ Some u → u.label ≡ Some f → at j ≡ Some u
   labelled_before j u f seen on = by (back j u seen).0 (back j u seen).1 (back j u seen).2
@@ -457,15 +405,8 @@ module _ (at now : ℕ → Option Seen) (labelled : List ℕ) (log : Log) (port 
 
   pub unlabelled_streamed : AreLines now lines → AreStreamed now labelled log port t lines
   unlabelled_streamed reads = record {
-    joined = All-weaker (IsJoined at log) (IsJoined now log) (λ e j. record {
-      stream = j.stream;
-      there = kept e.value.stream j.stream e.flow j.there j.label;
-      label = j.label;
-      client = j.client;
-      closed = j.closed;
-      drains = j.drains;
-      asked = j.asked;
-    }) t.entries x.joined;
+    joined = All-weaker (IsJoined at log) (IsJoined now log)
+        (λ e j. join_moves at now log log e j (kept e.value.stream j.stream e.flow j.there j.label) refl) t.entries x.joined;
     tabled = λ j u f seen on. x.tabled j u f (labelled_before j u f seen on) on;
     streams = record {
       labels = λ j u f seen on. x.streams.labels j u f (labelled_before j u f seen on) on;
@@ -480,3 +421,20 @@ module _ (at now : ℕ → Option Seen) (labelled : List ℕ) (log : Log) (port 
           → (b ≡ false → (u.label ≡ None) × (u.waiting ≡ true → u ≡ client_waits)) → u ≡ client_waits
       by j u waits true is other = x.streams.waiting j u (is refl) waits
       by j u waits false is other = (other refl).1 waits
+
+-- One of them changes, and others stay: none of it is of a connection.
+pub one_streamed : (at now : ℕ → Option Seen) (labelled : List ℕ) (log : Log) (port : ℕ) (t : Table DeviceConnection) (hands lines : List Handshake)
+    → AreStreamed at labelled log port t hands → (id : ℕ) (u : Seen) → now id ≡ Some u → u.label ≡ None → u.waiting ≡ false
+    → ((b : Seen) → at id ≡ Some b → b.label ≡ None) → ((j : ℕ) → j ≢ id → at j ≡ now j) → AreLines now lines
+    → AreStreamed now labelled log port t lines
+one_streamed at now labelled log port t hands lines x id u there free busy was others = unlabelled_streamed at now labelled log port t hands lines x
+    (λ j v seen. is_or_not j id (IsBack at j v) (λ place.
+    let one = one_seen now id u v there (ap now (sym place) ∙ seen) in (
+      false,
+      (λ no. absurd cc),
+      λ ok. (
+        sym (ap (λ (s : Seen). s.label) one) ∙ free,
+        λ waits. let both : false ≡ true = sym busy ∙ ap (λ (s : Seen). s.waiting) one ∙ waits in absurd cc,
+      ),
+    )) (λ other. (true, (λ ok. others j other ∙ seen), λ no. absurd cc)))
+    (λ j v f seen on. sym (others j (λ same. not_none v f on (was v (ap at (sym same) ∙ seen)))) ∙ seen)

@@ -8,35 +8,21 @@ use Rattle.laws_device_streams.proofs.Keeping.{may_both}
 
 -- a call that puts nothing asks nothing of the ring
 pub quiet_can : (call : Call) (s : Situation) → is_quiet call ≡ true → CanReach call s → CanMake call s
-quiet_can (Ring (Take queue)) s quiet can = tt
-quiet_can (Ring (Read chain place count)) s quiet can = tt
 quiet_can (Ring (Write chain place bytes)) s quiet can = absurd (cc)
 quiet_can (Ring (Return chain len)) s quiet can = λ some. absurd
     (let none : (len == 0) ≡ true = quiet in grind (arith, nat_tests, none, some))
-quiet_can (Ring (Given queue)) s quiet can = tt
-quiet_can (Ring (PublishCid cid)) s quiet can = tt
+quiet_can (Ring call) s quiet can = tt
 quiet_can Accept s quiet can = tt
 quiet_can (Dial path flow) s quiet can = tt
-quiet_can (Label stream flow) s quiet can = can
-quiet_can (ReadStream stream n) s quiet can = can
-quiet_can (WriteStream stream bytes) s quiet can = can
-quiet_can (ShutWrite stream) s quiet can = can
-quiet_can (CloseStream stream) s quiet can = can
+quiet_can _ s quiet can = can
 
 both_can : (call : Call) (s : Situation) → CanReach call s → CanPut call s → CanMake call s
-both_can (Ring (Take queue)) s reach put = tt
-both_can (Ring (Read chain place count)) s reach put = tt
 both_can (Ring (Write chain place bytes)) s reach put = put
 both_can (Ring (Return chain len)) s reach put = put
-both_can (Ring (Given queue)) s reach put = tt
-both_can (Ring (PublishCid cid)) s reach put = tt
+both_can (Ring call) s reach put = tt
 both_can Accept s reach put = tt
 both_can (Dial path flow) s reach put = tt
-both_can (Label stream flow) s reach put = reach
-both_can (ReadStream stream n) s reach put = reach
-both_can (WriteStream stream bytes) s reach put = reach
-both_can (ShutWrite stream) s reach put = reach
-both_can (CloseStream stream) s reach put = reach
+both_can _ s reach put = reach
 
 pub may_where : {A : Type 0} (tree : DeviceTree A) (c : Situation) → MayReach tree c → MayPut tree c → MayRun tree c
 may_where tree c reach put = may_both Allows CanReach CanPut CanMake both_can tree c reach put

@@ -23,6 +23,4 @@ forwarded_over e n over = settled_over e.state e.peer (with_forwarded e.credit n
 -- it reads no stream
 pub reads_not : (e : ConnectionEnd) (s : State) → may_read e s ≡ true → s ≡ Ended → ⊥
 reads_not e Live reads over = absurd (cc)
-reads_not e Asked reads over = absurd (cc)
-reads_not e Answering reads over = absurd (cc)
-reads_not e Ended reads over = absurd (cc)
+reads_not e _ reads over = absurd (cc)

@@ -49,8 +49,7 @@ module _ (others : List ℕ) where
 
   held : (s : DeviceState) (n : Next) (d : Situation) → FindsStreams others s d → walked.AfterTake K (D others) s n d
   held s (next.Chain chain) d has = has
-  held s next.None d has = has
-  held s (next.Failed f) d has = has
+  held s _ d has = has
 
   paid : (s : DeviceState) (n : Next) (d : Situation) → FindsStreams others s d → AfterEvent K (D others) s n d
   paid s (next.Chain chain) d has = (
@@ -61,8 +60,7 @@ module _ (others : List ℕ) where
           (stays others s.table d e allowed.1 has),
     ),
   )
-  paid s next.None d has = has
-  paid s (next.Failed f) d has = has
+  paid s _ d has = has
 
   module _ (e : DeviceEntry) (s : DeviceState) (is : IsIn s.table e) where
     have_read : (chain : Chain) (answer : StreamRead) (payload : List ℕ) (d : Situation) → FindsStreams others s d

@@ -43,13 +43,11 @@ module _ (Can : Call → Situation → Type 0) (reaches : (call : Call) (s : Sit
         keeps_then Can Allows Finds (λ r d. Finds r.0 d) (on_packet chain (header_of bytes) s) (λ r. Done r.0) d
         (keeps_on_packet Can reaches others chain (header_of bytes) s d kept) (λ r e had. had)),
   )
-  came_at next.None s c has = has
-  came_at (next.Failed f) s c has = has
+  came_at _ s c has = has
 
   held_at : (answer : Next) (s : DeviceState) (d : Situation) → Finds s d → Finds (holding answer (filling s)).state d
   held_at (next.Chain chain) s d has = has
-  held_at next.None s d has = has
-  held_at (next.Failed f) s d has = has
+  held_at _ s d has = has
 
   pub takes_at : (queue : Queue) (s : DeviceState) (c : Situation) → Finds s c → Keeps Can Allows Finds (takes_chain queue s) c
   takes_at Tx s c has =

@@ -221,8 +221,7 @@ module _ (a : Option Known) where
   keeps_after_paying : (rs : List Reply) (what : Owed) (e : DeviceEntry) (s : DeviceState) (c : Situation) → Leaves rs s c
       → Keeps CanAny Allows (Leaves rs) (after_paying what e s) c
   keeps_after_paying rs owed.Rst e s c left = keeps_leaving rs e (record s { last_put = Some e.slot }) c left
-  keeps_after_paying rs owed.Request e s c left = left
-  keeps_after_paying rs what e s c left = left
+  keeps_after_paying rs _ e s c left = left
 
   keeps_put_owed : (rs : List Reply) (slot : ℕ) (r : Filling) (c : Situation) → Goes rs r c → Keeps CanAny Allows (Steps rs rs) (put_owed slot r) c
   keeps_put_owed rs slot r c goes =
@@ -255,12 +254,11 @@ module _ (a : Option Known) where
       (put_on chain (payload_header e.value.end (route_to_guest r.state.cid e.flow) (length payload)) payload r) _ c
       (keeps_put_on rs chain (payload_header e.value.end (route_to_guest r.state.cid e.flow) (length payload)) payload r c goes)
       (λ p d went. went.1)
-  keeps_read_answered rs chain e read.Again payload r c goes = goes.1
-  keeps_read_answered rs chain e read.End payload r c goes = goes.1
   keeps_read_answered rs chain e read.Failed payload r c goes =
       keeps_then CanAny Allows (Ends rs) (Leaves rs) (closing e cut_off (with_fault r.state)) (λ s. Done (record r { state = s })) c
       (keeps_closing rs e cut_off (with_fault r.state) c (goes.1.0, goes.1.2 goes.0))
       (λ s d left. (going rs (record r { state = s }) d goes.0 left.0 left.1).1)
+  keeps_read_answered rs chain e _ payload r c goes = goes.1
 
   keeps_read_with_chain : (rs : List Reply) (e : DeviceEntry) (r : Filling) (c : Situation) → Held rs r c
       → Keeps CanAny Allows (Ends rs) (read_with_chain e r) c

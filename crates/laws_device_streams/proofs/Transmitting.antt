@@ -112,8 +112,7 @@ module _ (Can : Call → Situation → Type 0) (reaches : (call : Call) (s : Sit
       comes = λ whole is. kept;
     },
   )
-  taken_by s next.None d has = has
-  taken_by s (next.Failed f) d has = has
+  taken_by s _ d has = has
 
   pub takes : Takes K (D others) U
   takes = record {

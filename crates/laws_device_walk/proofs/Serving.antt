@@ -152,12 +152,10 @@ module _ {S : Type 0} (K : Asking S) (D : Option Chain → Seen → S → Type 0
 
       keeps_write_answered : (e : DeviceEntry) (w : Writing) (a : StreamWrite) (c : S) → IsIn w.state.table e → AfterWrite e w.state a c
           → Keeps K Wrote (write_answered e a w) c
-      keeps_write_answered e w (write.Took n) c is at = at
-      keeps_write_answered e w write.Again c is at = at
-      keeps_write_answered e w write.Closed c is at = at
       keeps_write_answered e w write.Failed c is at =
           keeps_then K Wrote At (closing e cut_off (with_fault w.state)) (λ s. Done (record w { state = s })) c
           (keeps_cut_off e (with_fault w.state) c is at) (λ s d kept. kept)
+      keeps_write_answered e w _ c is at = at
 
       pub keeps_write_pending : (e : DeviceEntry) (w : Writing) (c : S) → IsIn w.state.table e → e.value.closed ≡ false → Wrote w c
           → Keeps K Wrote (write_pending e w) c
@@ -197,8 +195,7 @@ module _ {S : Type 0} (K : Asking S) (D : Option Chain → Seen → S → Type 0
 
       keeps_event_on : (n : Next) (s : DeviceState) (c : S) → AfterEvent s n c → Keeps K First (event_on n s) c
       keeps_event_on (next.Chain chain) s c after = after
-      keeps_event_on next.None s c after = after
-      keeps_event_on (next.Failed f) s c after = after
+      keeps_event_on _ s c after = after
 
       pub keeps_pay_event : (s : DeviceState) (c : S) → At s c → Keeps K First (pay_event_of s) c
       keeps_pay_event s c at = by s.failed
@@ -227,8 +224,7 @@ module _ {S : Type 0} (K : Asking S) (D : Option Chain → Seen → S → Type 0
 
       held_by : (r : Filling) (n : Next) (d : S) → AfterTake r.state n d → Held r (holding n r) d
       held_by r (next.Chain chain) d after = (after, refl)
-      held_by r next.None d after = (after, refl)
-      held_by r (next.Failed f) d after = (after, refl)
+      held_by r _ d after = (after, refl)
 
       pub keeps_hold : (r : Filling) (c : S) → Filled r c → Keeps K (Held r) (hold r) c
       keeps_hold r c at = by r.state.chain refl
@@ -324,11 +320,10 @@ module _ {S : Type 0} (K : Asking S) (D : Option Chain → Seen → S → Type 0
         keeps_read_answered : (chain : Chain) (a : StreamRead) (payload : List ℕ) (r : Filling) (c : S) → IsIn r.state.table e
             → AfterRead e chain r.state a payload c → Keeps K Filled (read_answered chain e a payload r) c
         keeps_read_answered chain (read.Got n) payload r c is after = keeps_put_payload chain payload r c n after
-        keeps_read_answered chain read.Again payload r c is after = after
-        keeps_read_answered chain read.End payload r c is after = after
         keeps_read_answered chain read.Failed payload r c is after =
             keeps_then K Filled At (closing e cut_off (with_fault r.state)) (λ s. Done (record r { state = s })) c
             (keeps_cut_off e (with_fault r.state) c is after) (λ s d kept. kept)
+        keeps_read_answered chain _ payload r c is after = after
 
         pub keeps_read_with_chain : (r : Filling) (c : S) → IsIn r.state.table e → may_read e.value.end e.value.end.state ≡ true
             → Filled r c

@@ -78,8 +78,7 @@ module _ {S : Type 0} (K : Asking S) (D : Option Chain → Seen → S → Type 0
     dialed_by : (chain : Chain) (h : Header) (s : DeviceState) (a : Dialed) (d : S) → AfterDial chain h s a d
         → Heard chain (dial_answered h a s) d
     dialed_by chain h s (dialed.Stream id) d after = after
-    dialed_by chain h s dialed.Refused d after = after
-    dialed_by chain h s dialed.Failed d after = after
+    dialed_by chain h s _ d after = after
 
     keeps_on_unknown : (chain : Chain) (h : Header) (s : DeviceState) (c : S) → entry_of s.table (flow_to_host h) ≡ None
         → U chain h (seen s) c
@@ -133,8 +132,7 @@ module _ {S : Type 0} (K : Asking S) (D : Option Chain → Seen → S → Type 0
         K.weaker (Ring (Read chain 0 HEADER_LEN)) c (λ bytes d. AfterHeader chain (header_of bytes) s d)
         (λ bytes d. Keeps K First (on_header chain (header_of bytes) s) d)
         (λ bytes d came. keeps_on_header chain (header_of bytes) s d came) after
-    keeps_on_next next.None s c after = after
-    keeps_on_next (next.Failed f) s c after = after
+    keeps_on_next _ s c after = after
 
     pub keeps_take_tx : (s : DeviceState) (c : S) → D None (seen s) c → Keeps K First (take_tx_of s) c
     keeps_take_tx s c at = by s.failed

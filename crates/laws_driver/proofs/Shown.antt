@@ -21,8 +21,7 @@ left_open first s l agrees f = ap (is_among f) (same_flows s.table.entries) ∙ 
 pub ring_allows : (call : DriverCall) (a : DriverAnswer call) (c d : RingContents) → RingAllows call a c d → DriverAllows call a c d
 ring_allows (Stage queue page) a c d allowed = allowed
 ring_allows (Publish queue) a c d allowed = allowed
-ring_allows (Reap queue) a c d allowed = allowed.1
-ring_allows LoadCid a c d allowed = allowed.1
+ring_allows _ a c d allowed = allowed.1
 
 pub any_ring : {A : Type 0} (tree : DriverTree A) (c d : RingContents) (x : A) → Plays tree c x d → Leads DriverAllows tree c x d
 any_ring (Done y) c d x plays = plays
@@ -30,9 +29,7 @@ any_ring (Ask call next) c d x plays = (plays.0, plays.1, ring_allows call plays
 
 one_other : (call : DriverCall) (a : DriverAnswer call) (c d : RingContents) → RingAllows call a c d → d.other ≡ c.other
 one_other (Stage queue page) a c d allowed = allowed.other
-one_other (Publish queue) a c d allowed = allowed.1.other
-one_other (Reap queue) a c d allowed = allowed.1.other
-one_other LoadCid a c d allowed = allowed.1.other
+one_other _ a c d allowed = allowed.1.other
 
 pub other_stays : {A : Type 0} (tree : DriverTree A) (c d : RingContents) (x : A) → Plays tree c x d → d.other ≡ c.other
 other_stays (Done y) c d x plays = ap (λ (r : RingContents). r.other) (sym plays.1)

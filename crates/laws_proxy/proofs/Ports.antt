@@ -9,10 +9,10 @@ use Rattle.vs_page.specs.Log.{Device, side_by}
 use Rattle.vs_ring_port.specs.EndLog.{EndLog}
 use Rattle.laws_tables.specs.Ends.{ends_of, entries_of}
 use Rattle.laws_tables.proofs.Slots.{found_by, one_end}
-use Rattle.vs_device_parts.specs.State.{DeviceConnection, DeviceEntry}
+use Rattle.vs_device_parts.specs.State.{DeviceConnection, DeviceEntry, DeviceState}
 use Rattle.laws_device.specs.Honest.{end_in}
 use Rattle.laws_device.proofs.Seats.{AgreesBy, Carried}
-use Rattle.vs_proxy_parts.specs.{Handshakes.may_open, State.ProxyState}
+use Rattle.laws_device_walk.proofs.Turning.{may_assign}
 
 -- A flow without an end has no entry.
 absent : (t : Table DeviceConnection) (f : Flow) → IsTable t → ends_of f (entries_of end_in t) ≡ [] → entry_of t f ≡ None
@@ -27,14 +27,14 @@ absent t f sound none = by (entry_of t f) refl
         let two : [] ≡ end_in e.value ∷ [] = sym none ∙ ap (λ (g : Flow). ends_of g (entries_of end_in t)) same ∙ one in
         absurd cc
 
-pub last_port : (s : ProxyState) → may_open s ≡ true → s.next_port ≤ ASSIGNED_LAST
-last_port s may = let less = (and_parts (has_place s.device.table) (nat_le s.next_port ASSIGNED_LAST) may).1 in grind (arith, nat_tests, less)
+pub last_port : (port : ℕ) (s : DeviceState) → may_assign port s ≡ true → port ≤ ASSIGNED_LAST
+last_port port s may = let less = (and_parts (has_place s.table) (nat_le port ASSIGNED_LAST) may).1 in grind (arith, nat_tests, less)
 
-pub not_refused : (carry : Carried) (first : ℕ) (s : ProxyState) (l : EndLog) (guest : ℕ) → AgreesBy carry first s.next_port s.device l → ASSIGNED_FIRST ≤ s.next_port
-    → may_open s ≡ true → refusal s.device.table (host_flow guest s.next_port) ≡ None
-not_refused carry first s l guest p above may =
-    let f : Flow = host_flow guest s.next_port in
-    let last = last_port s may in
-    let inside : is_assigned s.next_port ≡ true = grind (arith, nat_tests, above, last) in
+pub not_refused : (carry : Carried) (first port : ℕ) (s : DeviceState) (l : EndLog) (guest : ℕ) → AgreesBy carry first port s l → ASSIGNED_FIRST ≤ port
+    → may_assign port s ≡ true → refusal s.table (host_flow guest port) ≡ None
+not_refused carry first port s l guest p above may =
+    let f : Flow = host_flow guest port in
+    let last = last_port port s may in
+    let inside : is_assigned port ≡ true = grind (arith, nat_tests, above, last) in
     let unused = p.matches.flows.unused f (ap (side_by Device) inside) (omega arith) in
-    rw (absent s.device.table f p.fits.sound unused.no_end, (and_parts (has_place s.device.table) (nat_le s.next_port ASSIGNED_LAST) may).0) refl
+    rw (absent s.table f p.fits.sound unused.no_end, (and_parts (has_place s.table) (nat_le port ASSIGNED_LAST) may).0) refl

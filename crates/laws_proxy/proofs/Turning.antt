@@ -10,7 +10,7 @@ use Rattle.laws_device.specs.Honest.{IsFresh}
 use Rattle.laws_device.proofs.Turning.{new_with, pay_keeps, pump_keeps, reset_keeps, tick_keeps}
 use Rattle.laws_device.proofs.{Filling.fill_keeps, Keeping.Goes, Keeping.Keeps, Keeping.keeps_then, Keeping.keeps_while}
 use Rattle.laws_device.proofs.{Transmitting.take_keeps, Carrying.Fact, Carrying.IsToldBy, Carrying.StreamedOver, Carrying.With}
-use Rattle.laws_device.proofs.Carrying.{held_with, streams_call, with_ring, with_streams, ring_only}
+use Rattle.laws_device.proofs.Carrying.{fact_called, held_with, streams_call, with_ring, with_streams, ring_only}
 use Rattle.laws_device.proofs.{Ringing.host_moves, Seats.Carried, Carrying.whole, Carrying.ring_and_host}
 use Rattle.vs_proxy_parts.specs.{State.Handshake, State.ProxyState, State.Turning, State.start, State.with_device}
 use Rattle.vs_proxy_parts.specs.declared.answers.Turn.{Turn}
@@ -18,7 +18,9 @@ use Rattle.vs_proxy_parts.specs.Turns.{close_handshake, device_after, event_stag
 use Rattle.vs_proxy_parts.specs.Turns.{pump_stage, reset_with, take_one, take_stage, tick_stage, took_packet, turn_of, unless_failed}
 use Rattle.vs_proxy_parts.specs.Handshakes.{shake_hands, streams_of, tick_handshakes}
 use Rattle.laws_proxy.specs.Honest.{IsProxyWith, IsProxyStreamed}
-use Rattle.laws_proxy.proofs.Shaking.{Turns, shakes, tick_all}
+use Rattle.laws_proxy.proofs.Shaking.{At, shaking}
+use Rattle.laws_device_walk.proofs.Turning.{KeptBy, keeps_turn_by}
+use Rattle.laws_device.proofs.Keeping.{asking, keeps_each, keeps_weaker}
 use Rattle.vs_outside.specs.Host.{after_close}
 use Rattle.laws_device_bytes.proofs.Opens.{first_dropped}
 
@@ -26,84 +28,27 @@ pub new_proxy_with : (cid : ℕ) (base : List ℕ) (c : RingContents) → cid < 
 new_proxy_with cid base c fits fresh = (omega arith, new_with ASSIGNED_FIRST cid base c fits fresh)
 
 module _ (carry : Carried) (first : ℕ) where
-  abbrev Now : Turning → Situation → Type 0
-  Now = Turns carry first
-
-  -- The proxy's device.
-  abbrev Held : Turning → DeviceState → Situation → Type 0
-  Held t s c = With carry t.state.handshakes first t.state.next_port s c
-
   abbrev pub Proxied : ProxyState → Situation → Type 0
   Proxied s c = (ASSIGNED_FIRST ≤ s.next_port) × With carry s.handshakes first s.next_port s.device c
 
-  unless : (stage : Turning → DeviceTree Turning) → ((t : Turning) (c : Situation) → Now t c → Keeps Now (stage t) c) → (t : Turning)
-      (c : Situation)
-      → Now t c → Keeps Now (unless_failed stage t) c
-  unless stage each t c holds = by t.state.device.failed
-    where
-      by : (o : Option Failure) → Keeps Now (elim o [ Some f ↦ Done t | None ↦ stage t ]) c
-      by (Some f) = holds
-      by None = each t c holds
-
-  ticks : (now : ℕ) (t : Turning) (c : Situation) → Now t c → Keeps Now (tick_stage now t) c
-  ticks now t c holds =
-      keeps_then (Held t) Now (tick_of now t.state.device) (λ d. tick_handshakes (device_after d t)) c
-      (tick_keeps carry t.state.handshakes first t.state.next_port now t.state.device c holds.1)
-      (λ s d kept. tick_all carry first (device_after s t) d (holds.0, kept))
-
-  pays : (t : Turning) (c : Situation) → Now t c → Keeps Now (event_stage t) c
-  pays t c holds =
-      keeps_then (λ x d. Held t x.0 d) Now (pay_event_of t.state.device) (λ r. Done (device_after r.0 t)) c
-      (pay_keeps carry t.state.handshakes first t.state.next_port t.state.device c holds.1) (λ x d kept. (holds.0, kept))
-
-  takes : (t : Turning) (c : Situation) → Now t c → Keeps (Goes Now Now) (take_one t) c
-  takes t c holds =
-      keeps_then (λ x d. Held t x.0 d) (Goes Now Now) (take_tx_of t.state.device) (λ r.
-      elim (took_packet r.1) [
-        | true ↦ Done (record (device_after r.0 t) { took = t.took + 1 }, true)
-        | false ↦ Done (device_after r.0 t, false)
-      ]) c
-      (take_keeps carry t.state.handshakes first t.state.next_port t.state.device c holds.1) (λ x d kept. by x.0 d (took_packet x.1) kept)
-    where
-      by : (s : DeviceState) (d : Situation) (b : Bool) → Held t s d → Keeps (Goes Now Now) (elim b [
-        | true ↦ Done (record (device_after s t) { took = t.took + 1 }, true)
-        | false ↦ Done (device_after s t, false)
-      ]) d
-      by s d true kept = (holds.0, kept)
-      by s d false kept = (holds.0, kept)
-
-  takes_all : (size : ℕ) (t : Turning) (c : Situation) → Now t c → Keeps Now (take_stage size t) c
-  takes_all size t c holds = keeps_while Now Now (λ x d kept. kept) take_one takes size t c holds
-
-  pumps : (t : Turning) (c : Situation) → Now t c → Keeps Now (pump_stage t) c
-  pumps t c holds =
-      keeps_then (λ w d. Held t w.state d) Now (pump_of t.state.device)
-      (λ w. Done (record (device_after w.state t) { wrote = t.wrote + w.wrote })) c
-      (pump_keeps carry t.state.handshakes first t.state.next_port t.state.device c holds.1) (λ w d kept. (holds.0, kept))
-
-  fills : (t : Turning) (c : Situation) → Now t c → Keeps Now (fill_stage t) c
-  fills t c holds =
-      keeps_then (λ x d. Held t x.0 d) Now (fill_rx_of t.state.device)
-      (λ r. Done (filled r.1 (device_after r.0 t))) c
-      (fill_keeps carry t.state.handshakes first t.state.next_port t.state.device c holds.1) (λ x d kept. by x.0 d x.1 kept)
-    where
-      by : (s : DeviceState) (d : Situation) (r : Result Filled Failure) → Held t s d → Now
-          (filled r (device_after s t)) d
-      by s d (Ok f) kept = (holds.0, kept)
-      by s d (Err f) kept = (holds.0, kept)
+  kept : {A : Type 0} (call : DeviceState → DeviceTree A) (state_of : A → DeviceState)
+      → ((hands : List Handshake) (port : ℕ) (s : DeviceState) (c : Situation) → With carry hands first port s c
+      → Keeps (λ x d. With carry hands first port (state_of x) d) (call s) c) → KeptBy asking (At carry first) call state_of
+  kept call state_of keeps hands port s c holds =
+      keeps_weaker (λ x d. With carry hands first port (state_of x) d) (λ x d. At carry first hands port (state_of x) d)
+      (λ x d also. (holds.0, also)) (call s) c (keeps hands port s c holds.1)
 
   abbrev TurnEnds : ProxyState × Turn → Situation → Type 0
   TurnEnds x c = Proxied x.0 c
 
   pub turn_keeps : (size now : ℕ) (s : ProxyState) (c : Situation) → Proxied s c → Keeps TurnEnds (turn_of size now s) c
-  turn_keeps size now s c holds =
-      keeps_then Now TurnEnds (unless_failed (tick_stage now) (start s)) _ c (unless (tick_stage now) (ticks now) (start s) c holds)
-      (λ t d kept.
-      keeps_then Now TurnEnds (unless_failed event_stage t) _ d (unless event_stage pays t d kept) (λ t d kept.
-      keeps_then Now TurnEnds (unless_failed (take_stage size) t) _ d (unless (take_stage size) (takes_all size) t d kept) (λ t d kept.
-      keeps_then Now TurnEnds (unless_failed shake_hands t) _ d (unless shake_hands (shakes carry first) t d kept) (λ t d kept.
-      keeps_then Now TurnEnds (unless_failed pump_stage t) _ d (unless pump_stage pumps t d kept) (λ t d kept.
-      keeps_then Now TurnEnds (unless_failed fill_stage t) _ d (unless fill_stage fills t d kept) (λ t d kept. kept))))))
+  turn_keeps size now =
+      keeps_turn_by asking (At carry first) (shaking carry first) size now
+      (kept (tick_of now) (λ s. s) (λ hands port. tick_keeps carry hands first port now))
+      (kept pay_event_of (λ r. r.0) (λ hands port. pay_keeps carry hands first port))
+      (kept take_tx_of (λ r. r.0) (λ hands port. take_keeps carry hands first port))
+      (kept pump_of (λ w. w.state) (λ hands port. pump_keeps carry hands first port))
+      (kept fill_rx_of (λ r. r.0) (λ hands port. fill_keeps carry hands first port))
 
   -- A reset.
   abbrev ResetEnds : ProxyState × Result (Unit {0}) Failure → Situation → Type 0
@@ -122,20 +67,9 @@ module _ (carry : Carried) (first : ℕ) where
           tt,
           λ a d made. (
             holds.0,
-            (
-              holds.1.0,
-              host_moves false (λ g. Unit {0}) (after_close h.stream) c d made (IsToldBy carry (F (h ∷ hands)) first port device)
-                  (IsToldBy carry (F hands) first port device)
-                  (λ hon o n l exposes was. (
-                    was.0,
-                    λ honest. let p = was.1 honest in (
-                      p.0,
-                      streams_call carry first (h ∷ hands) hands port port device.table device.table l.entries l.entries (λ few. few)
-                          (λ g. Unit {0}) (after_close h.stream)
-                          (λ g any few x. first_dropped g l.entries port device.table h hands x) o n exposes p.1,
-                    ),
-                  )) holds.1.1,
-            ),
+            fact_called carry first port device (F (h ∷ hands)) (F hands) false (λ g. Unit {0}) (after_close h.stream) (λ o n l exposes p.
+                streams_call carry first (h ∷ hands) hands port port device.table device.table l.entries l.entries (λ few. few)
+                (λ g. Unit {0}) (after_close h.stream) (λ g any few x. first_dropped g l.entries port device.table h hands x) o n exposes) c d made holds.1,
           ),
         )
 

@@ -13,6 +13,7 @@ use Rattle.vs_page.specs.Fair.{IsPrefixOf}
 use Rattle.vs_device_parts.specs.State.{DeviceConnection, DeviceEntry}
 use Rattle.vs_proxy_parts.specs.State.{Handshake}
 use Rattle.laws_bytes.proofs.{Changes.changed, Changes.others_left, Changes.under_slot, Logs.shorter}
+use Rattle.laws_device_bytes.proofs.Streamed.{is_or_not}
 use Rattle.laws_proxy_bytes.specs.{Made.Account, Made.is_on, Made.shut, Made.took, Made.with_taken, Tied.AreTied, Tied.IsLawful}
 use Rattle.laws_proxy_bytes.specs.Tied.{IsTied, IsTiedTo, ok_line_of, reading_account, stream_of}
 use Rattle.vs_uds.specs.{Reading.is_decided, declared.connect.TheConstants.CONNECT_MAX}
@@ -74,29 +75,18 @@ module _ (at now : ℕ → Option Account) (t : Table DeviceConnection) (hands :
       ∙ was in absurd cc) was) hands x.waiting
 
   given_kept : IsLawful new.label new → (id : ℕ) (a : Account) → now id ≡ Some a → IsLawful a.label a
-  given_kept here id a is = by (id == stream) refl
-    where
-      by : (b : Bool) → (id == stream) ≡ b → IsLawful a.label a
-      by true same =
-          let place : id ≡ stream = grind (arith, nat_tests, same) in
-          subst (λ (y : Account). IsLawful y.label y) (one_account now stream new a ch.here (ap now (sym place) ∙ is)) here
-      by false other = x.lawful id a (sym (ch.others id (grind (arith, nat_tests, other))) ∙ is)
+  given_kept here id a is = is_or_not id stream (IsLawful a.label a)
+      (λ place. subst (λ (y : Account). IsLawful y.label y) (one_account now stream new a ch.here (ap now (sym place) ∙ is)) here)
+      (λ other. x.lawful id a (sym (ch.others id other) ∙ is))
 
   -- A stream with a label that isn't closed serves its flow, this one and the others.
   serves_kept : (u : Table DeviceConnection) → ((f : Flow) → new.label ≡ Some f → new.closed ≡ false → stream_of u f ≡ Some stream)
       → ((id : ℕ) (f : Flow) → id ≢ stream → stream_of t f ≡ Some id → stream_of u f ≡ Some id)
       → (id : ℕ) (a : Account) (f : Flow) → now id ≡ Some a → a.label ≡ Some f → a.closed ≡ false → stream_of u f ≡ Some id
-  serves_kept u here others id a f is label still = by (id == stream) refl
-    where
-      by : (b : Bool) → (id == stream) ≡ b → stream_of u f ≡ Some id
-      by true same =
-          let place : id ≡ stream = grind (arith, nat_tests, same) in
-          let one : new ≡ a = one_account now stream new a ch.here (ap now (sym place) ∙ is) in
-          here f (ap (λ (y : Account). y.label) one ∙ label) (ap (λ (y : Account). y.closed) one ∙ still) ∙ ap (λ (n : ℕ). Some n)
-          (sym place)
-      by false other =
-          let apart : id ≢ stream = grind (arith, nat_tests, other) in
-          others id f apart (x.serves id a f (sym (ch.others id apart) ∙ is) label still)
+  serves_kept u here others id a f is label still = is_or_not id stream (stream_of u f ≡ Some id) (λ place.
+      let one : new ≡ a = one_account now stream new a ch.here (ap now (sym place) ∙ is) in
+      here f (ap (λ (y : Account). y.label) one ∙ label) (ap (λ (y : Account). y.closed) one ∙ still) ∙ ap (λ (n : ℕ). Some n) (sym place))
+      (λ apart. others id f apart (x.serves id a f (sym (ch.others id apart) ∙ is) label still))
 
   -- A stream without a label changes: handshakes come, go on or end.
   module _ (unlabelled : (a : Account) → at stream ≡ Some a → a.label ≡ None) where

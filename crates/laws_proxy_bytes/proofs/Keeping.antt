@@ -21,22 +21,14 @@ Asks call calls P = P
 pub asked_for : (call : Call) (calls : List Made) (P : Type 0) → Asks call calls P → P
 asked_for (Label stream flow) calls P asks = asks.2
 asked_for (WriteStream stream bytes) calls P asks = asks.1
-asked_for (Ring call) calls P asks = asks
-asked_for Accept calls P asks = asks
-asked_for (Dial path flow) calls P asks = asks
 asked_for (ReadStream stream n) calls P asks = asks.1
-asked_for (ShutWrite stream) calls P asks = asks
-asked_for (CloseStream stream) calls P asks = asks
+asked_for _ calls P asks = asks
 
 pub asks_weaker : (call : Call) (calls : List Made) (P R : Type 0) → (P → R) → Asks call calls P → Asks call calls R
 asks_weaker (Label stream flow) calls P R then asks = (asks.0, asks.1, then asks.2)
 asks_weaker (WriteStream stream bytes) calls P R then asks = (asks.0, then asks.1)
-asks_weaker (Ring call) calls P R then asks = then asks
-asks_weaker Accept calls P R then asks = then asks
-asks_weaker (Dial path flow) calls P R then asks = then asks
 asks_weaker (ReadStream stream n) calls P R then asks = (asks.0, then asks.1)
-asks_weaker (ShutWrite stream) calls P R then asks = then asks
-asks_weaker (CloseStream stream) calls P R then asks = then asks
+asks_weaker _ calls P R then asks = then asks
 
 abbrev pub asking : Asking (List Made)
 asking = record {

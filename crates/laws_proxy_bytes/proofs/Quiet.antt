@@ -25,11 +25,12 @@ use Rattle.vs_proxy_parts.specs.Turns.{turn_of}
 use Rattle.vs_proxy_parts.specs.{Turns.unless_failed, declared.answers.Turn.Turn}
 use Rattle.laws_device_walk.specs.Seen.{Seen, seen}
 use Rattle.laws_device_walk.proofs.Keeping.{Keeps, keeps_each, keeps_if, keeps_some, keeps_then}
-use Rattle.laws_device_walk.proofs.Serving.{AfterEvent, AfterRead, AfterWrite, Closes, Fills, Writes}
+use Rattle.laws_device_walk.proofs.Serving.{AfterEvent, AfterRead, AfterWrite, Closes, Fills, Writes, keeps_fill_rx, keeps_pay_event, keeps_pump}
+use Rattle.laws_device_walk.proofs.Serving.{keeps_tick}
 use Rattle.laws_device_walk.proofs.Taking.{AfterDial, Takes}
 use Rattle.laws_device_walk.proofs.Serving as serving
 use Rattle.laws_device_walk.proofs.Taking as taking
-use Rattle.laws_device_walk.proofs.Turning.{AfterAccept, AfterByte, Shakes, Turns, keeps_event_stage, keeps_fill_stage, keeps_pump_stage}
+use Rattle.laws_device_walk.proofs.Turning.{AfterAccept, AfterByte, Between, Shakes, Turns, keeps_event_stage, keeps_fill_stage, keeps_pump_stage}
 use Rattle.laws_device_walk.proofs.Turning.{keeps_shake_hands, keeps_tick_stage, keeps_turn, keeps_unless}
 use Rattle.laws_proxy_bytes.specs.Counts.{DeviceCounts, count_made, counts_shown}
 use Rattle.laws_proxy_bytes.specs.Packets.{after_packets, before_packets}
@@ -58,9 +59,7 @@ module _ (b : Bool) where
     wrote : (e : DeviceEntry) (s : DeviceState) (a : StreamWrite)
         → AfterWrite (counting b) (D hands) e s a (count_made (WriteStream e.value.stream (to_write e.value)) a (counts_shown s))
     wrote e s (write.Took n) = refl
-    wrote e s write.Again = refl
-    wrote e s write.Closed = refl
-    wrote e s write.Failed = refl
+    wrote e s _ = refl
 
     writes : Writes (counting b) (D hands)
     writes = record {
@@ -76,21 +75,17 @@ module _ (b : Bool) where
 
     paid : (s : DeviceState) (a : Next) (n : DeviceCounts) → D hands None (seen s) n → AfterEvent (counting b) (D hands) s a n
     paid s (next.Chain chain) n at = (refl, λ a. (refl, λ c. at))
-    paid s next.None n at = at
-    paid s (next.Failed f) n at = at
+    paid s _ n at = at
 
     held : (s : DeviceState) (a : Next) (n : DeviceCounts) → D hands None (seen s) n → serving.AfterTake (counting b) (D hands) s a n
     held s (next.Chain chain) n at = at
-    held s next.None n at = at
-    held s (next.Failed f) n at = at
+    held s _ n at = at
 
     have_read : (e : DeviceEntry) (chain : Chain) (s : DeviceState) (stream room : ℕ) (a : StreamRead) (payload : List ℕ)
         → AfterRead (counting b) (D hands) e chain s a payload (count_made (ReadStream stream room) (a, payload) (counts_shown s))
     have_read e chain s stream room (read.Got n) [] = (refl, λ a. (refl, λ c. refl))
     have_read e chain s stream room (read.Got n) (x ∷ payload) = (refl, λ a. (refl, λ c. (refl, λ d. refl)))
-    have_read e chain s stream room read.Again payload = refl
-    have_read e chain s stream room read.End payload = refl
-    have_read e chain s stream room read.Failed payload = refl
+    have_read e chain s stream room _ payload = refl
 
     fills : Fills (counting b) (D hands)
     fills = record {
@@ -109,58 +104,55 @@ module _ (b : Bool) where
       pays = λ e what asked s n is owes at. at;
     }
 
-  accepted_by : (hands : List Handshake) (s : DeviceState) (a : Accepted)
-      → AfterAccept (counting b) D hands s a (count_made Accept a (counts_shown s))
-  accepted_by hands s (accepted.Stream id) = refl
-  accepted_by hands s accepted.None = refl
-  accepted_by hands s accepted.Failed = refl
+  accepted_by : (hands : List Handshake) (port : ℕ) (s : DeviceState) (a : Accepted)
+      → AfterAccept (counting b) (Between D) hands port s a (count_made Accept a (counts_shown s))
+  accepted_by hands port s (accepted.Stream id) = refl
+  accepted_by hands port s _ = refl
 
-  byte_read : (h : Handshake) (hands : List Handshake) (s : DeviceState) (a : StreamRead) (bytes : List ℕ)
-      → AfterByte (counting b) D h hands s a bytes (count_made (ReadStream h.stream 1) (a, bytes) (counts_shown s))
-  byte_read h hands s (read.Got n) bytes =
-      record { more = λ is. refl; ends = (refl, λ a. refl); refused = refl; opens = λ port p is may none. (refl, λ a. refl) }
-  byte_read h hands s read.Again bytes = refl
-  byte_read h hands s read.End bytes = refl
-  byte_read h hands s read.Failed bytes = refl
+  byte_read : (h : Handshake) (hands : List Handshake) (port : ℕ) (s : DeviceState) (a : StreamRead) (bytes : List ℕ)
+      → AfterByte (counting b) (Between D) h hands port s a bytes (count_made (ReadStream h.stream 1) (a, bytes) (counts_shown s))
+  byte_read h hands port s (read.Got n) bytes =
+      record { more = λ is. refl; ends = (refl, λ a. refl); refused = λ guest fault may is. refl; opens = λ guest is may none. (refl, λ a. refl) }
+  byte_read h hands port s _ bytes = refl
 
-  shakes : Shakes (counting b) D
+  shakes : Shakes (counting b) (Between D)
   shakes = record {
-    drops = λ h hands s n on at. (refl, λ a. at);
-    accepts = λ hands s n at. (
+    drops = λ h hands port s n on at. (refl, λ a. at);
+    accepts = λ hands port s n at. (
       refl,
       λ a.
-          let P : DeviceCounts → Type 0 = λ m. AfterAccept (counting b) D hands s a (count_made Accept a m) in subst P at
-          (accepted_by hands s a),
+          let P : DeviceCounts → Type 0 = λ m. AfterAccept (counting b) (Between D) hands port s a (count_made Accept a m) in subst P at
+          (accepted_by hands port s a),
     );
-    reads = λ h hands s n on at. (
+    reads = λ h hands port s n on at. (
       refl,
       λ a.
-          let P : DeviceCounts → Type 0 = λ m. AfterByte (counting b) D h hands s a.0 a.1 (count_made (ReadStream h.stream 1) a m) in
-          subst P at (byte_read h hands s a.0 a.1),
+          let P : DeviceCounts → Type 0 = λ m. AfterByte (counting b) (Between D) h hands port s a.0 a.1 (count_made (ReadStream h.stream 1) a m) in
+          subst P at (byte_read h hands port s a.0 a.1),
     );
   }
 
   abbrev of_turning : Turning → DeviceCounts → Type 0
-  of_turning = Turns (counting b) D
+  of_turning = Turns (counting b) (Between D)
 
   -- The stages before and after packets are taken.
   pub counts_before : (now : ℕ) (s : ProxyState) → Walks b (λ t. counts_shown t.state.device) (before_packets now s) (counts_shown s.device)
   counts_before now s =
       keeps_then (counting b) of_turning of_turning (unless_failed (tick_stage now) (start s)) (unless_failed event_stage)
       (counts_shown s.device)
-      (keeps_unless (counting b) D (tick_stage now) (keeps_tick_stage (counting b) D shakes closes now) (start s)
+      (keeps_unless (counting b) (Between D) (tick_stage now) (keeps_tick_stage (counting b) (Between D) shakes now (λ hands port. keeps_tick (counting b) (D hands) (closes hands) now)) (start s)
       (counts_shown s.device) refl)
-      (keeps_unless (counting b) D event_stage (keeps_event_stage (counting b) D shakes closes fills))
+      (keeps_unless (counting b) (Between D) event_stage (keeps_event_stage (counting b) (Between D) (λ hands port. keeps_pay_event (counting b) (D hands) (closes hands) (fills hands))))
 
   pub counts_after : (s : ProxyState) (t : Turning)
       → Walks b (λ (x : ProxyState × Turn). counts_shown x.0.device) (after_packets s t) (counts_shown t.state.device)
   counts_after s t =
       keeps_then (counting b) Q of_turning (unless_failed shake_hands t) _ (counts_shown t.state.device)
-      (keeps_unless (counting b) D shake_hands (keeps_shake_hands (counting b) D shakes) t (counts_shown t.state.device) refl) (λ t n at.
+      (keeps_unless (counting b) (Between D) shake_hands (keeps_shake_hands (counting b) (Between D) shakes) t (counts_shown t.state.device) refl) (λ t n at.
       keeps_then (counting b) Q of_turning (unless_failed pump_stage t) _ n
-      (keeps_unless (counting b) D pump_stage (keeps_pump_stage (counting b) D shakes closes writes) t n at) (λ t n at.
+      (keeps_unless (counting b) (Between D) pump_stage (keeps_pump_stage (counting b) (Between D) (λ hands port. keeps_pump (counting b) (D hands) (closes hands) (writes hands))) t n at) (λ t n at.
       keeps_then (counting b) Q of_turning (unless_failed fill_stage t) _ n
-      (keeps_unless (counting b) D fill_stage (keeps_fill_stage (counting b) D shakes closes fills) t n at) (λ t n at. at)))
+      (keeps_unless (counting b) (Between D) fill_stage (keeps_fill_stage (counting b) (Between D) (λ hands port. keeps_fill_rx (counting b) (D hands) (closes hands) (fills hands))) t n at) (λ t n at. at)))
     where
       Q : ProxyState × Turn → DeviceCounts → Type 0
       Q x n = counts_shown x.0.device ≡ n
@@ -222,15 +214,13 @@ module _ (hands : List Handshake) where
           comes = λ whole is. dropped_as s false (not short && lost) (ap (λ (d : Bool). not d && lost) whole ∙ is);
         },
   )
-  taken_by s next.None = refl
-  taken_by s (next.Failed f) = refl
+  taken_by s _ = refl
 
   dials : (chain : Chain) (h : Header) (s : DeviceState) (a : Dialed)
       → AfterDial (counting false) (D hands) (U hands) chain h s a
       (count_made (Dial (path_of s.base h.dst_port) (flow_to_host h)) a (counts_shown s))
   dials chain h s (dialed.Stream id) = refl
-  dials chain h s dialed.Refused = refl
-  dials chain h s dialed.Failed = refl
+  dials chain h s _ = refl
 
   takes : Takes (counting false) (D hands) (U hands)
   takes = record {

@@ -64,13 +64,11 @@ module _ (hands : List Handshake) where
 
   held : (s : DeviceState) (n : Next) (calls : List Made) → Has hands s calls → walked.AfterTake asking (D hands) s n calls
   held s (next.Chain chain) calls x = x
-  held s next.None calls x = x
-  held s (next.Failed f) calls x = x
+  held s _ calls x = x
 
   paid : (s : DeviceState) (n : Next) (calls : List Made) → Has hands s calls → AfterEvent asking (D hands) s n calls
   paid s (next.Chain chain) calls x = λ a fit. λ b fit. x
-  paid s next.None calls x = x
-  paid s (next.Failed f) calls x = x
+  paid s _ calls x = x
 
   module _ (e : DeviceEntry) (s : DeviceState) (calls : List Made) (is : IsIn s.table e) (x : Has hands s calls) where
     abbrev own_header : List ℕ → Header

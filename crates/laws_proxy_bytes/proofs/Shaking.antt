@@ -1,9 +1,9 @@
 -- Handshakes: their clients' streams are given nothing before they have a connection.
 use Rattle.vs_device_parts.specs.Calls.{Label}
 use Rattle.vs_device_parts.specs.{State.DeviceState, Connections.with_client}
-use Rattle.laws_device_walk.proofs.Turning.{AfterAccept, AfterByte, AfterLine, IsOn, Shakes}
+use Rattle.laws_device_walk.proofs.Turning.{AfterAccept, AfterByte, AfterLine, Between, IsOn, Shakes, may_assign}
 use Rattle.laws_proxy_bytes.proofs.{Closing.D, Keeping.asking, Opening.opens}
-use Rattle.std.proofs.lemmas.{List.Elements.All-push, List.Quantifiers.all_pairs_push, Bool.Decides.nat_tests}
+use Rattle.std.proofs.lemmas.{Bool.and_parts, List.Elements.All-push, List.Quantifiers.all_pairs_push, Bool.Decides.nat_tests}
 use Rattle.std.proofs.Common.{◌≡◌, ◌≢◌, ℕ, subst, get_or, ◌≤◌, ◌&&◌, nat_le, ◌==◌, Bool, true, false, cond, List, [], ◌∷◌, ◌++◌, length}
 use Rattle.std.proofs.Common.{Option, Some, None, refl, sym, ap, ◌∙◌, arith}
 use Rattle.std.proofs.lemmas.List.{append-nil}
@@ -28,13 +28,8 @@ use Rattle.vs_outside.specs.declared.host_net.StreamRead.TheVariants as read
 use Rattle.vs_uds.specs.declared.scan.Step.TheVariants as step
 
 -- A connection opens under a port that is assigned.
-last_port : (s : ProxyState) → may_open s ≡ true → s.next_port ≤ ASSIGNED_LAST
-last_port s may = by (has_place s.device.table) (nat_le s.next_port ASSIGNED_LAST) refl may
-  where
-    by : (a b : Bool) → nat_le s.next_port ASSIGNED_LAST ≡ b → (a && b) ≡ true → s.next_port ≤ ASSIGNED_LAST
-    by true true is both = grind (arith, nat_tests, is)
-    by true false is both = absurd cc
-    by false b is both = absurd cc
+last_port : (port : ℕ) (s : DeviceState) → may_assign port s ≡ true → port ≤ ASSIGNED_LAST
+last_port port s may = let less = (and_parts (has_place s.table) (nat_le port ASSIGNED_LAST) may).1 in grind (arith, nat_tests, less)
 
 -- A byte more makes a line whole by its LF, where the line has none before. A line that isn't decided goes on.
 whole_line : (line bytes : List ℕ) (port : ℕ) → is_decided CONNECT_MAX line ≡ false → length bytes ≤ 1
@@ -61,7 +56,7 @@ record WaitsOn (h : Handshake) (calls : List Made) : Type 0 where
   waits : account_of calls h.stream ≡ Some (reading_account h.line)
   undecided : is_decided CONNECT_MAX h.line ≡ false
 
-waits_on : (h : Handshake) (hands : List Handshake) (s : DeviceState) (calls : List Made) → IsOn asking D h hands → Has hands s calls
+waits_on : (h : Handshake) (hands : List Handshake) (s : DeviceState) (calls : List Made) → IsOn h hands → Has hands s calls
     → WaitsOn h calls
 waits_on h hands s calls found x =
     let at = find_place (λ (y : Handshake). y.stream == h.stream) hands h found in record {
@@ -101,10 +96,10 @@ dropped stream rest s calls line waits others x a =
     }
 
 -- A client is accepted.
-accepted_by : (answer : Accepted) (hands : List Handshake) (s : DeviceState) (calls : List Made) → Has hands s calls
+accepted_by : (answer : Accepted) (hands : List Handshake) (port : ℕ) (s : DeviceState) (calls : List Made) → Has hands s calls
     → MayGet Accept answer calls
-    → AfterAccept asking D hands s answer (made Accept answer ∷ calls)
-accepted_by (accepted.Stream stream) hands s calls x fit =
+    → AfterAccept asking (Between D) hands port s answer (made Accept answer ∷ calls)
+accepted_by (accepted.Stream stream) hands port s calls x fit =
     let h : Handshake = record { stream = stream; accepted_at = s.now; line = [] } in
     let now : ℕ → Option Account = account_of (made Accept (accepted.Stream stream) ∷ calls) in
     let ch : Changes (account_of calls) now stream (new_account None true) = comes (new_account None true) stream (account_of calls) in
@@ -121,11 +116,10 @@ accepted_by (accepted.Stream stream) hands s calls x fit =
       over = x.over;
       carried = x.carried;
     }
-accepted_by accepted.None hands s calls x fit = x
-accepted_by accepted.Failed hands s calls x fit = x
+accepted_by _ hands port s calls x fit = x
 
 -- A byte of a line is read.
-module _ (h : Handshake) (hands : List Handshake) (s : DeviceState) (calls : List Made) (on : IsOn asking D h hands)
+module _ (h : Handshake) (hands : List Handshake) (s : DeviceState) (calls : List Made) (on : IsOn h hands)
     (x : Has hands s calls) where
   abbrev rest : List Handshake
   rest = without_stream h.stream hands
@@ -136,7 +130,7 @@ module _ (h : Handshake) (hands : List Handshake) (s : DeviceState) (calls : Lis
   abbrev waits : account_of calls h.stream ≡ Some (reading_account h.line)
   waits = (waits_on h hands s calls on x).waits
 
-  module _ (n : ℕ) (bytes : List ℕ) (one : length bytes ≤ 1) where
+  module _ (port n : ℕ) (bytes : List ℕ) (one : length bytes ≤ 1) where
     abbrev line : List ℕ
     line = h.line ++ bytes
 
@@ -177,17 +171,17 @@ module _ (h : Handshake) (hands : List Handshake) (s : DeviceState) (calls : Lis
       carried = still_carried;
     }
 
-    line_read : AfterLine asking D h line hands s later
+    line_read : AfterLine asking (Between D) h line hands port s later
     line_read = record {
       more = more_now;
       ends = λ a fit. subst (λ (hs : List Handshake). Has hs s (made (CloseStream h.stream) a ∷ later)) (sym same)
           (dropped h.stream rest s later line now_waits others rest_now a);
-      refused = subst (λ (hs : List Handshake). Has hs s later) (sym same) rest_now;
-      opens = λ port p is may none.
-          let flow : Flow = host_flow port p.next_port in
-          let whole : IsWhole line = whole_line h.line bytes port (waits_on h hands s calls on x).undecided one is in (
+      refused = λ guest fault may is. subst (λ (hs : List Handshake). Has hs s later) (sym same) rest_now;
+      opens = λ guest is may none.
+          let flow : Flow = host_flow guest port in
+          let whole : IsWhole line = whole_line h.line bytes guest (waits_on h hands s calls on x).undecided one is in (
             (line, now_waits, whole),
-            last_port p may,
+            last_port port s may,
             λ a fit. subst (λ (hs : List Handshake). Has hs (with_client flow h.stream s) (made (Label h.stream flow) a ∷ later)) (sym same)
                 (opens rest rest flow h.stream line s later whole now_waits rest_now.tied.undecided rest_now.tied.waiting others
                 rest_now.tied.apart rest_now none a),
@@ -197,19 +191,17 @@ module _ (h : Handshake) (hands : List Handshake) (s : DeviceState) (calls : Lis
         same : without_stream h.stream (with_line h.stream line hands) ≡ rest
         same = without_after h.stream line hands
 
-  byte_came : (answer : StreamRead) (bytes : List ℕ) → MayGet (ReadStream h.stream 1) (answer, bytes) calls
-      → AfterByte asking D h hands s answer bytes (made (ReadStream h.stream 1) (answer, bytes) ∷ calls)
-  byte_came (read.Got n) bytes fit = line_read n bytes fit
-  byte_came read.Again bytes fit = x
-  byte_came read.End bytes fit = x
-  byte_came read.Failed bytes fit = x
+  byte_came : (answer : StreamRead) (port : ℕ) (bytes : List ℕ) → MayGet (ReadStream h.stream 1) (answer, bytes) calls
+      → AfterByte asking (Between D) h hands port s answer bytes (made (ReadStream h.stream 1) (answer, bytes) ∷ calls)
+  byte_came (read.Got n) port bytes fit = line_read port n bytes fit
+  byte_came _ port bytes fit = x
 
   drops_it : (a : Unit {0}) → Has rest s (made (CloseStream h.stream) a ∷ calls)
   drops_it a = dropped h.stream rest s calls h.line waits others (rest_agrees h.stream hands s calls x) a
 
-pub shakes : Shakes asking D
+pub shakes : Shakes asking (Between D)
 shakes = record {
-  drops = λ h hands s calls on x. λ a fit. drops_it h hands s calls on x a;
-  accepts = λ hands s calls x. λ a fit. accepted_by a hands s calls x fit;
-  reads = λ h hands s calls on x. ((_, waits h hands s calls on x), λ a fit. byte_came h hands s calls on x a.0 a.1 fit);
+  drops = λ h hands port s calls on x. λ a fit. drops_it h hands s calls on x a;
+  accepts = λ hands port s calls x. λ a fit. accepted_by a hands port s calls x fit;
+  reads = λ h hands port s calls on x. ((_, waits h hands s calls on x), λ a fit. byte_came h hands s calls on x a.0 port a.1 fit);
 }

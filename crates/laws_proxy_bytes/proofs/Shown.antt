@@ -10,7 +10,7 @@ use Rattle.vs_outside.proofs.Frames.{keeps_others, stream_at-with_stream}
 use Rattle.vs_page.specs.Log.{flow_to_host}
 use Rattle.laws_proxy_bytes.specs.{Tied.IsLine, Tied.IsRead, Made.Account, Made.delivering, Made.is_on, Made.with_delivery}
 use Rattle.laws_proxy_bytes.specs.Told.{Shows, ShowsAt, ShowsIn}
-use Rattle.laws_device_bytes.proofs.Opens.{get_end, get_other, get_past}
+use Rattle.laws_device_bytes.proofs.{Hosts.new_there, Hosts.none_there as past_end, Hosts.others_there, Streamed.is_or_not}
 
 -- What is read of a stream stays lawful where nothing of it changes.
 pub read_same : (o : Option Flow) (a b : Account) → b.by_client ≡ a.by_client → b.line ≡ a.line → b.taken ≡ a.taken → IsRead o a
@@ -30,7 +30,11 @@ module _ (stream : ℕ) (f : Stream → Stream) (c : HostContents) (at now : ℕ
     (others : (id : ℕ) → id ≢ stream → now id ≡ at id) (none : stream_at stream c ≡ None → at stream ≡ None → now stream ≡ None)
     (here : (st : Stream) → stream_at stream c ≡ Some st → ShowsIn st (at stream) → ShowsIn (f st) (now stream)) where
   pub change_shows : Shows now (with_stream stream f c)
-  change_shows id = by (id == stream) refl
+  change_shows id = is_or_not stream id (ShowsAt (stream_at id (with_stream stream f c)) (now id)) (λ place.
+      subst (λ (n : ℕ). ShowsAt (stream_at n (with_stream stream f c)) (now n)) place (there (stream_at stream c) refl (shows stream))) (λ other.
+      let apart : id ≢ stream = λ same. other (sym same) in
+      subst (λ (a : Option Account). ShowsAt (stream_at id (with_stream stream f c)) a) (sym (others id apart))
+      (subst (λ (o : Option Stream). ShowsAt o (at id)) (sym (keeps_others stream f c id apart)) (shows id)))
     where
       there : (o : Option Stream) → stream_at stream c ≡ o → ShowsAt o (at stream) → ShowsAt (stream_at stream (with_stream stream f c))
           (now stream)
@@ -38,16 +42,6 @@ module _ (stream : ℕ) (f : Stream → Stream) (c : HostContents) (at now : ℕ
           (none is at_none)
       there (Some st) is in_it = subst (λ (o : Option Stream). ShowsAt o (now stream)) (sym (stream_at-with_stream stream f c st is))
           (here st is in_it)
-
-      by : (b : Bool) → (id == stream) ≡ b → ShowsAt (stream_at id (with_stream stream f c)) (now id)
-      by true is =
-          let place : stream ≡ id = grind (arith, nat_tests, is) in
-          subst (λ (n : ℕ). ShowsAt (stream_at n (with_stream stream f c)) (now n)) place
-          (there (stream_at stream c) refl (shows stream))
-      by false is =
-          let apart : id ≢ stream = grind (arith, nat_tests, is) in
-          subst (λ (a : Option Account). ShowsAt (stream_at id (with_stream stream f c)) a) (sym (others id apart))
-          (subst (λ (o : Option Stream). ShowsAt o (at id)) (sym (keeps_others stream f c id apart)) (shows id))
 
 -- A change that no account sees.
 pub unseen_shows : (stream : ℕ) (f : Stream → Stream) (c : HostContents) (at : ℕ → Option Account) → Shows at c
@@ -108,39 +102,16 @@ delivers_same (Some h) n payload a = by (n == h.len)
     by true = delivery_same (flow_to_host h) payload a
     by false = record { client = refl; label = refl; given = refl; line = refl; taken = refl }
 
-module _ (y : Stream) (c : HostContents) where
-  pub others_there : (id : ℕ) → id ≢ length c.streams + 1 → stream_at id (record c { streams = c.streams ++ y ∷ [] }) ≡ stream_at id c
-  others_there id other = by (id == 0) refl
-    where
-      by : (b : Bool) → (id == 0) ≡ b → cond b None (slice_get (c.streams ++ y ∷ []) (id - 1)) ≡ cond b None (slice_get c.streams (id - 1))
-      by true is = refl
-      by false is =
-          let some : id ≢ 0 = grind (arith, nat_tests, is) in
-          get_other c.streams y (id - 1) (λ same. other (omega (arith, some, same)))
-
-  new_place : (length c.streams + 1 == 0) ≡ false
-  new_place = grind (arith, nat_tests)
-
-  back : length c.streams + 1 - 1 ≡ length c.streams
-  back = omega arith
-
-  pub new_there : stream_at (length c.streams + 1) (record c { streams = c.streams ++ y ∷ [] }) ≡ Some y
-  new_there = rw (new_place, back) (get_end c.streams y)
-
-  pub none_there : stream_at (length c.streams + 1) c ≡ None
-  none_there = rw (new_place, back) (get_past c.streams)
+pub none_there : (y : Stream) (c : HostContents) → stream_at (length c.streams + 1) c ≡ None
+none_there y c = past_end y c
 
 -- A new stream, and its account, where it has one.
 pub new_shows : (y : Stream) (c : HostContents) (at now : ℕ → Option Account) → Shows at c → ShowsIn y (now (length c.streams + 1))
     → ((id : ℕ) → id ≢ length c.streams + 1 → now id ≡ at id) → Shows now (record c { streams = c.streams ++ y ∷ [] })
-new_shows y c at now shows here others id = by (id == length c.streams + 1) refl
-  where
-    by : (b : Bool) → (id == length c.streams + 1) ≡ b → ShowsAt (stream_at id (record c { streams = c.streams ++ y ∷ [] })) (now id)
-    by true is =
-        let place : length c.streams + 1 ≡ id = grind (arith, nat_tests, is) in
-        subst (λ (n : ℕ). ShowsAt (stream_at n (record c { streams = c.streams ++ y ∷ [] })) (now n)) place
-        (subst (λ (o : Option Stream). ShowsAt o (now (length c.streams + 1))) (sym (new_there y c)) here)
-    by false is =
-        let apart : id ≢ length c.streams + 1 = grind (arith, nat_tests, is) in
-        subst (λ (a : Option Account). ShowsAt (stream_at id (record c { streams = c.streams ++ y ∷ [] })) a) (sym (others id apart))
-        (subst (λ (o : Option Stream). ShowsAt o (at id)) (sym (others_there y c id apart)) (shows id))
+new_shows y c at now shows here others id =
+    is_or_not (length c.streams + 1) id (ShowsAt (stream_at id (record c { streams = c.streams ++ y ∷ [] })) (now id)) (λ place.
+    subst (λ (n : ℕ). ShowsAt (stream_at n (record c { streams = c.streams ++ y ∷ [] })) (now n)) place
+    (subst (λ (o : Option Stream). ShowsAt o (now (length c.streams + 1))) (sym (new_there y c)) here)) (λ other.
+    let apart : id ≢ length c.streams + 1 = λ same. other (sym same) in
+    subst (λ (a : Option Account). ShowsAt (stream_at id (record c { streams = c.streams ++ y ∷ [] })) a) (sym (others id apart))
+    (subst (λ (o : Option Stream). ShowsAt o (at id)) (sym (others_there y c id apart)) (shows id)))

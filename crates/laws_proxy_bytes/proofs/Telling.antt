@@ -158,9 +158,7 @@ module _ (c : HostContents) (calls : List Made) (shows : Shows (account_of calls
             (subst (λ (b : List ℕ). ShowsIn (take_bytes k st) (Some (with_taken b x))) got
             (took_shows x.label k (take k st.untaken) st x refl refl (subst (ShowsIn st) known in_it)))),
       )
-  read_shows stream n read.Again bytes is few known = (tt, shows)
-  read_shows stream n read.End bytes is few known = (tt, shows)
-  read_shows stream n read.Failed bytes is few known = (tt, shows)
+  read_shows stream n _ bytes is few known = (tt, shows)
 
   pub write_shows : (stream : ℕ) (bytes : List ℕ) (a : StreamWrite) → TakesWithin (length bytes) a
       → (x : Account) × (account_of calls stream ≡ Some x) → Shown (WriteStream stream bytes) a (after_write stream bytes a c)
@@ -183,9 +181,8 @@ module _ (c : HostContents) (calls : List Made) (shows : Shows (account_of calls
               read_same x.label x (with_given (take n bytes) x) refl refl refl s.6,
             )),
       )
-  write_shows stream bytes write.Again is known = (tt, shows)
-  write_shows stream bytes write.Closed is known = (tt, shows)
   write_shows stream bytes write.Failed is known = (tt, failed_shows c (account_of calls) shows)
+  write_shows stream bytes _ is known = (tt, shows)
 
   pub shut_shows : (stream : ℕ) → Shows (account_of calls) (after_shut_write stream c)
   shut_shows stream =
@@ -214,7 +211,6 @@ module _ (c : HostContents) (calls : List Made) (shows : Shows (account_of calls
 -- Calls on the ring are nothing to the host.
 pub ring_shows : (call : DeviceCall) (a : DeviceAnswer call) (c : HostContents) (calls : List Made) → Shows (account_of calls) c
     → MayGet (Ring call) a calls × Shows (account_of (made (Ring call) a ∷ calls)) c
-ring_shows (Take queue) a c calls shows = (tt, shows)
 ring_shows (Read chain place n) payload c calls shows = (tt, λ id. by id (place == HEADER_LEN))
   where
     by : (id : ℕ) (b : Bool)
@@ -223,14 +219,12 @@ ring_shows (Read chain place n) payload c calls shows = (tt, λ id. by id (place
         same_seen (delivering (header_in calls) n payload) (delivers_same (header_in calls) n payload) (stream_at id c)
         (account_of calls id) (shows id)
     by id false = shows id
-ring_shows (Write chain place bytes) a c calls shows = (tt, shows)
-ring_shows (Return chain len) a c calls shows = (tt, shows)
-ring_shows (Given queue) a c calls shows = (tt, shows)
 ring_shows (PublishCid cid) a c calls shows = (
   tt,
   λ id. same_seen shut (λ a. record { client = refl; label = refl; given = refl; line = refl; taken = refl }) (stream_at id c)
       (account_of calls id) (shows id),
 )
+ring_shows _ a c calls shows = (tt, shows)
 
 -- A call on a host that exposes its contents.
 exposed : (o n : Option HostContents) (P : HostContents → Type 0) (f : HostContents → HostContents) (h : HostContents) → o ≡ Some h
@@ -244,33 +238,34 @@ pub record After (call : Call) (a : Answer call) (calls : List Made) (new : Situ
   pub is : new.host ≡ Some host
   pub shows : Shows (account_of (made call a ∷ calls)) host
 
+after_told : (call : Call) (a : Answer call) (old new : Situation) (h : HostContents) (calls : List Made) (P : HostContents → Type 0)
+    (f : HostContents → HostContents) → old.host ≡ Some h → Exposes old.host new.host P f
+    → (P h → MayGet call a calls × Shows (account_of (made call a ∷ calls)) (f h)) → After call a calls new
+after_told call a old new h calls P f is made shown =
+    let e = exposed old.host new.host P f h is made in let s = shown e.0 in record { may = s.0; host = f h; is = e.1; shows = s.1 }
+
 step_told : (call : Call) (a : Answer call) (old new : Situation) (h : HostContents) (calls : List Made) (P : Type 0) → Asks call calls P
     → old.host ≡ Some h → Shows (account_of calls) h → Allows call a old new → After call a calls new
 step_told (Ring call) a old new h calls P asks is shows allowed =
     let s = ring_shows call a h calls shows in record { may = s.0; host = h; is = allowed.1 ∙ is; shows = s.1 }
 step_told Accept a old new h calls P asks is shows allowed =
-    let e = exposed old.host new.host (λ c. a ≡ accept_answer c) (after_accept a) h is allowed.host in
-    let s = accept_shows h calls shows a (sym e.0) in record { may = s.0; host = after_accept a h; is = e.1; shows = s.1 }
+    after_told Accept a old new h calls (λ c. a ≡ accept_answer c) (after_accept a) is allowed.host (λ e. accept_shows h calls shows a (sym e))
 step_told (Dial path flow) a old new h calls P asks is shows allowed =
-    let e = exposed old.host new.host (IsDialed path a) (after_dial flow a) h is allowed.host in
-    let s = dial_shows h calls shows path flow a e.0 in record { may = s.0; host = after_dial flow a h; is = e.1; shows = s.1 }
+    after_told (Dial path flow) a old new h calls (IsDialed path a) (after_dial flow a) is allowed.host (dial_shows h calls shows path flow a)
 step_told (Label stream flow) a old new h calls P asks is shows allowed =
-    let e = exposed old.host new.host (λ c. Unit {0}) (after_label stream flow) h is allowed.host in
-    let s = label_shows h calls shows stream flow a asks.1 asks.0 in record { may = s.0; host = after_label stream flow h; is = e.1; shows = s.1 }
+    after_told (Label stream flow) a old new h calls (λ c. Unit {0}) (after_label stream flow) is allowed.host
+    (λ e. label_shows h calls shows stream flow a asks.1 asks.0)
 step_told (ReadStream stream n) a old new h calls P asks is shows allowed =
-    let e = exposed old.host new.host (IsReadOf stream n a) (after_read stream a.0) h is allowed.0.host in
-    let s = read_shows h calls shows stream n a.0 a.1 e.0 allowed.1 asks.0 in
-    record { may = s.0; host = after_read stream a.0 h; is = e.1; shows = s.1 }
+    after_told (ReadStream stream n) a old new h calls (IsReadOf stream n a) (after_read stream a.0) is allowed.0.host
+    (λ e. read_shows h calls shows stream n a.0 a.1 e allowed.1 asks.0)
 step_told (WriteStream stream bytes) a old new h calls P asks is shows allowed =
-    let e = exposed old.host new.host (IsWritten stream (length bytes) a) (after_write stream bytes a) h is allowed.0.host in
-    let s = write_shows h calls shows stream bytes a allowed.1 asks.0 in
-    record { may = s.0; host = after_write stream bytes a h; is = e.1; shows = s.1 }
+    after_told (WriteStream stream bytes) a old new h calls (IsWritten stream (length bytes) a) (after_write stream bytes a) is allowed.0.host
+    (λ e. write_shows h calls shows stream bytes a allowed.1 asks.0)
 step_told (ShutWrite stream) a old new h calls P asks is shows allowed =
-    let e = exposed old.host new.host (λ c. Unit {0}) (after_shut_write stream) h is allowed.host in
-    record { may = tt; host = after_shut_write stream h; is = e.1; shows = shut_shows h calls shows stream }
+    after_told (ShutWrite stream) a old new h calls (λ c. Unit {0}) (after_shut_write stream) is allowed.host
+    (λ e. (tt, shut_shows h calls shows stream))
 step_told (CloseStream stream) a old new h calls P asks is shows allowed =
-    let e = exposed old.host new.host (λ c. Unit {0}) (after_close stream) h is allowed.host in
-    let s = close_shows h calls shows stream a in record { may = s.0; host = after_close stream h; is = e.1; shows = s.1 }
+    after_told (CloseStream stream) a old new h calls (λ c. Unit {0}) (after_close stream) is allowed.host (λ e. close_shows h calls shows stream a)
 
 -- A whole conversation.
 leads_told : {A : Type 0} (t : A → Table DeviceConnection) (hands : A → List Handshake) (tree : DeviceTree A) (calls : List Made)

@@ -86,8 +86,7 @@ module _ (hands : List Handshake) where
         over = All-push IsOver s.table.entries (next_entry s.table flow c) x.over (λ closed. absurd cc);
         carried = x.carried;
       }
-  dialed_by chain h dialed.Refused s calls path place none x fit = x
-  dialed_by chain h dialed.Failed s calls path place none x fit = x
+  dialed_by chain h _ s calls path place none x fit = x
 
   -- A packet of a connection.
   module _ (chain : Chain) (h : Header) (e : DeviceEntry) (s : DeviceState) (calls : List Made) (header : header_in calls ≡ Some h)
@@ -168,8 +167,7 @@ module _ (hands : List Handshake) where
 
   taken_by : (s : DeviceState) (n : Next) (calls : List Made) → Has hands s calls → walked.AfterTake asking (D hands) U s n calls
   taken_by s (next.Chain chain) calls x = λ bytes fit. record { short = λ is. x; drops = λ whole is. x; comes = λ whole is. (x, refl) }
-  taken_by s next.None calls x = x
-  taken_by s (next.Failed f) calls x = x
+  taken_by s _ calls x = x
 
   pub takes : Takes asking (D hands) U
   takes = record {

@@ -30,20 +30,7 @@ Walks b f tree n = Keeps (counting b) (λ x m. f x ≡ m) tree n
 
 none_taken : (call : Call) (a : Answer call) (chains : List Chain) → leaves_out true call ≡ false → taken_by call a chains ≡ chains
 none_taken (Ring (Take Tx)) a chains left = absurd cc
-none_taken (Ring (Take Rx)) a chains left = refl
-none_taken (Ring (Take Event)) a chains left = refl
-none_taken (Ring (Read chain place n)) a chains left = refl
-none_taken (Ring (Write chain place bytes)) a chains left = refl
-none_taken (Ring (Return chain n)) a chains left = refl
-none_taken (Ring (Given queue)) a chains left = refl
-none_taken (Ring (PublishCid cid)) a chains left = refl
-none_taken Accept a chains left = refl
-none_taken (Dial path flow) a chains left = refl
-none_taken (Label stream flow) a chains left = refl
-none_taken (ReadStream stream n) a chains left = refl
-none_taken (WriteStream stream bytes) a chains left = refl
-none_taken (ShutWrite stream) a chains left = refl
-none_taken (CloseStream stream) a chains left = refl
+none_taken _ a chains left = refl
 
 pub none_in : {A : Type 0} (f : A → DeviceCounts) (tree : DeviceTree A) (calls later : List Made) (x : A) (n : DeviceCounts)
     → Walks true f tree n → Leads Makes tree calls x later → chains_taken later ≡ chains_taken calls
@@ -83,18 +70,12 @@ stays_alike n old new same is = subst (λ (m : ℕ). CountsFaults n m) (sym is) 
 alike : (call : Call) (a : Answer call) (x y : Situation) (n : DeviceCounts) → CountsFaults n.faults x.faults → Allows call a x y
     → CountsFaults (count_made call a n).faults y.faults
 alike (Ring (Take queue)) a x y n same allowed = stays_alike n.faults x.faults y.faults same allowed.2
-alike (Ring (Read chain place count)) a x y n same allowed = stays_alike n.faults x.faults y.faults same allowed.2
-alike (Ring (Write chain place bytes)) a x y n same allowed = stays_alike n.faults x.faults y.faults same allowed.2
-alike (Ring (Return chain count)) a x y n same allowed = stays_alike n.faults x.faults y.faults same allowed.2
-alike (Ring (Given queue)) a x y n same allowed = stays_alike n.faults x.faults y.faults same allowed.2
-alike (Ring (PublishCid cid)) a x y n same allowed = stays_alike n.faults x.faults y.faults same allowed.2
+alike (Ring call) a x y n same allowed = stays_alike n.faults x.faults y.faults same allowed.2
 alike Accept a x y n same allowed = alike_by (accept_failed a) n.faults x.faults y.faults same allowed.faults
 alike (Dial path flow) a x y n same allowed = alike_by (dial_failed a) n.faults x.faults y.faults same allowed.faults
-alike (Label stream flow) a x y n same allowed = stays_alike n.faults x.faults y.faults same allowed.faults
 alike (ReadStream stream count) a x y n same allowed = alike_by (read_failed a.0) n.faults x.faults y.faults same allowed.0.faults
 alike (WriteStream stream bytes) a x y n same allowed = alike_by (write_failed a) n.faults x.faults y.faults same allowed.0.faults
-alike (ShutWrite stream) a x y n same allowed = stays_alike n.faults x.faults y.faults same allowed.faults
-alike (CloseStream stream) a x y n same allowed = stays_alike n.faults x.faults y.faults same allowed.faults
+alike _ a x y n same allowed = stays_alike n.faults x.faults y.faults same allowed.faults
 
 pub faults_alike : {A : Type 0} (f : A → DeviceCounts) (tree : DeviceTree A) (a b : Situation) (x : A) (n : DeviceCounts)
     → CountsFaults n.faults a.faults → Walks false f tree n → Leads Allows tree a x b → CountsFaults (f x).faults b.faults

@@ -1,7 +1,7 @@
 -- Handshakes: each call names a stream that is open.
 use Rattle.laws_device_walk.specs.Seen.{Seen}
 use Rattle.laws_device_walk.proofs.Keeping.{Asking}
-use Rattle.laws_device_walk.proofs.Turning.{AfterAccept, AfterByte, AfterLine, Shakes}
+use Rattle.laws_device_walk.proofs.Turning.{AfterAccept, AfterByte, AfterLine, Between, Shakes}
 use Rattle.laws_device_walk.proofs.Turning as walked
 use Rattle.std.proofs.Common.{Result, Ok, Err}
 use Rattle.vs_flow.specs.{Table.refusal, declared.table.TableFault.TableFault}
@@ -80,30 +80,30 @@ module _ (Can : Call → Situation → Type 0) (reaches : (call : Call) (s : Sit
         )) has))
 
   -- a client is accepted
-  accepted_by : (answer : Accepted) (hs : List Handshake) (s : DeviceState) (c d : Situation) → FindsStreams (ids hs) s c
+  accepted_by : (answer : Accepted) (hs : List Handshake) (port : ℕ) (s : DeviceState) (c d : Situation) → FindsStreams (ids hs) s c
       → Allows Accept answer c d
-      → AfterAccept K D hs s answer d
-  accepted_by (accepted.Stream stream) hs s c d has allowed =
+      → AfterAccept K (Between D) hs port s answer d
+  accepted_by (accepted.Stream stream) hs port s c d has allowed =
       let h : Handshake = record { stream = stream; accepted_at = s.now; line = [] } in
       subst (λ is. ForSome d.host (HasStreams is s.table)) (sym (ids-push hs h))
       (some_after c.host d.host (λ k. accepted.Stream stream ≡ accept_answer k) (after_accept (accepted.Stream stream))
       (HasStreams (ids hs) s.table) (HasStreams (ids hs ++ stream ∷ []) s.table) allowed.host
       (λ k is has. has_accepted (ids hs) s.table k has stream (sym is)) has)
-  accepted_by accepted.None hs s c d has allowed =
+  accepted_by accepted.None hs port s c d has allowed =
       some_after c.host d.host _ (after_accept accepted.None) (HasStreams (ids hs) s.table) (HasStreams (ids hs) s.table) allowed.host
       (λ k is has. has_moved (ids hs) s.table k has (after_accept accepted.None k) (λ id still. still)) has
-  accepted_by accepted.Failed hs s c d has allowed =
+  accepted_by accepted.Failed hs port s c d has allowed =
       some_after c.host d.host _ (after_accept accepted.Failed) (HasStreams (ids hs) s.table) (HasStreams (ids hs) s.table) allowed.host
       (λ k is has. has_moved (ids hs) s.table k has (after_accept accepted.Failed k) (λ id still. still)) has
 
   -- a byte of a line is read
-  module _ (h : Handshake) (hs : List Handshake) (s : DeviceState) (there : Contains (ids hs) h.stream) where
-    line_read : (line : List ℕ) (d : Situation) → FindsStreams (ids hs) s d → AfterLine K D h line hs s d
+  module _ (h : Handshake) (hs : List Handshake) (port : ℕ) (s : DeviceState) (there : Contains (ids hs) h.stream) where
+    line_read : (line : List ℕ) (d : Situation) → FindsStreams (ids hs) s d → AfterLine K (Between D) h line hs port s d
     line_read line d has = record {
       more = λ is. still;
       ends = dropped h.stream (with_line h.stream line hs) s d among still;
-      refused = refused h.stream (with_line h.stream line hs) s d among still;
-      opens = λ port p is may none. opens h.stream (with_line h.stream line hs) s d among still (host_flow port p.next_port) none;
+      refused = λ guest fault may is. refused h.stream (with_line h.stream line hs) s d among still;
+      opens = λ guest is may none. opens h.stream (with_line h.stream line hs) s d among still (host_flow guest port) none;
     }
       where
         same : ids hs ≡ ids (with_line h.stream line hs)
@@ -115,13 +115,11 @@ module _ (Can : Call → Situation → Type 0) (reaches : (call : Call) (s : Sit
         still : FindsStreams (ids (with_line h.stream line hs)) s d
         still = subst (λ is. ForSome d.host (HasStreams is s.table)) same has
 
-    byte_came : (answer : StreamRead) (bytes : List ℕ) (d : Situation) → FindsStreams (ids hs) s d → AfterByte K D h hs s answer bytes d
+    byte_came : (answer : StreamRead) (bytes : List ℕ) (d : Situation) → FindsStreams (ids hs) s d → AfterByte K (Between D) h hs port s answer bytes d
     byte_came (read.Got n) bytes d has = line_read (h.line ++ bytes) d has
-    byte_came read.Again bytes d has = has
-    byte_came read.End bytes d has = has
-    byte_came read.Failed bytes d has = has
+    byte_came _ bytes d has = has
 
-    reads : (c : Situation) → FindsStreams (ids hs) s c → K.asks (ReadStream h.stream 1) c (λ a d. AfterByte K D h hs s a.0 a.1 d)
+    reads : (c : Situation) → FindsStreams (ids hs) s c → K.asks (ReadStream h.stream 1) c (λ a d. AfterByte K (Between D) h hs port s a.0 a.1 d)
     reads c has = (
       reaches (ReadStream h.stream 1) c refl
           (some_from c.host (HasStreams (ids hs) s.table) (IsOpen h.stream) (λ k has. has.joins.others_open h.stream there) has),
@@ -131,18 +129,18 @@ module _ (Can : Call → Situation → Type 0) (reaches : (call : Call) (s : Sit
           (others-after_read h.stream a.0 k) (open-after_read h.stream a.0 k))) has),
     )
 
-  pub shakes : Shakes K D
+  pub shakes : Shakes K (Between D)
   shakes = record {
-    drops = λ h hs s c on has. dropped h.stream hs s c (found_on h.stream hs h on).among has;
-    accepts = λ hs s c has. (reaches Accept c refl tt, λ a d allowed. accepted_by a hs s c d has allowed);
-    reads = λ h hs s c on has. reads h hs s (found_on h.stream hs h on).among c has;
+    drops = λ h hs port s c on has. dropped h.stream hs s c (found_on h.stream hs h on).among has;
+    accepts = λ hs port s c has. (reaches Accept c refl tt, λ a d allowed. accepted_by a hs port s c d has allowed);
+    reads = λ h hs port s c on has. reads h hs port s (found_on h.stream hs h on).among c has;
   }
 
   pub keeps_tick_handshake : (stream : ℕ) (t : Turning) (c : Situation) → Turns t c → Keeps Can Allows Turns (tick_handshake stream t) c
-  keeps_tick_handshake = walked.keeps_tick_handshake K D shakes
+  keeps_tick_handshake = walked.keeps_tick_handshake K (Between D) shakes
 
   pub keeps_accept_one : (t : Turning) (c : Situation) → Turns t c → Keeps Can Allows Turns (accept_one t) c
-  keeps_accept_one = walked.keeps_accept_one K D shakes
+  keeps_accept_one = walked.keeps_accept_one K (Between D) shakes
 
   pub keeps_read_byte : (stream : ℕ) (t : Turning) (c : Situation) → Turns t c → Keeps Can Allows TurnsFirst (read_byte stream t) c
-  keeps_read_byte = walked.keeps_read_byte K D shakes
+  keeps_read_byte = walked.keeps_read_byte K (Between D) shakes

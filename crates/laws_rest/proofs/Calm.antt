@@ -26,7 +26,7 @@ use Rattle.laws_device_walk.proofs.Serving.{AfterRead, AfterWrite, Closes, Fills
 use Rattle.laws_device_walk.proofs.Taking.{AfterDial, Takes}
 use Rattle.laws_device_walk.proofs.Serving as serving
 use Rattle.laws_device_walk.proofs.Taking as taking
-use Rattle.laws_device_walk.proofs.Turning.{AfterAccept, AfterByte, Shakes, keeps_turn}
+use Rattle.laws_device_walk.proofs.Turning.{AfterAccept, AfterByte, Between, Shakes, keeps_turn}
 use Rattle.laws_rest.specs.{Calm.OwesNoEvent, Calm.resets_in, Rest.has_no_mark}
 
 -- Such a call, and a chain that fits its queue.
@@ -62,10 +62,8 @@ Same l m = (has_no_mark m.entries ≡ has_no_mark l.entries) × (events_put m.en
 taken_same : (queue : Queue) (a : Next) (page : Option (List ℕ)) (l : EndLog) → Same l (log_taken queue a page l)
 taken_same Tx (next.Chain chain) (Some page) l = packet_same true (packet_held page) l.entries
 taken_same Rx (next.Chain chain) (Some page) l = (refl, refl)
-taken_same Event (next.Chain chain) (Some page) l = (refl, refl)
-taken_same queue (next.Chain chain) None l = (refl, refl)
-taken_same queue next.None page l = (refl, refl)
-taken_same queue (next.Failed f) page l = (refl, refl)
+taken_same _ (next.Chain chain) (Some page) l = (refl, refl)
+taken_same queue _ page l = (refl, refl)
 
 returned_same : (queue : Queue) (page : List ℕ) (log : Log) → queue ≢ Event → let new = entries_returned queue page log in
     (has_no_mark new ≡ has_no_mark log) × (events_put new ≡ events_put log)
@@ -98,13 +96,9 @@ other_same c d same = ap (λ r. resets_in r.log) same
 
 call_same : (call : Call) (a : Answer call) (s t : Situation) → IsCalm call → Allows call a s t → resets_in t.ring.log ≡ resets_in s.ring.log
 call_same (Ring call) a s t calm allowed = ring_same call a s t calm allowed
-call_same Accept a s t calm allowed = other_same s.ring t.ring allowed.ring
-call_same (Dial path flow) a s t calm allowed = other_same s.ring t.ring allowed.ring
-call_same (Label stream flow) a s t calm allowed = other_same s.ring t.ring allowed.ring
 call_same (ReadStream stream n) a s t calm allowed = other_same s.ring t.ring allowed.0.ring
 call_same (WriteStream stream bytes) a s t calm allowed = other_same s.ring t.ring allowed.0.ring
-call_same (ShutWrite stream) a s t calm allowed = other_same s.ring t.ring allowed.ring
-call_same (CloseStream stream) a s t calm allowed = other_same s.ring t.ring allowed.ring
+call_same _ a s t calm allowed = other_same s.ring t.ring allowed.ring
 
 fits_next : (queue : Queue) (o : Option Chain) → IfSome o (λ chain. IsFitChain queue chain) → IfSome o (λ chain. chain.queue ≡ queue)
 fits_next queue None fit = fit
@@ -112,18 +106,7 @@ fits_next queue (Some chain) fit = fit.queue_is
 
 fits : (call : Call) (a : Answer call) (s t : Situation) → Allows call a s t → Fits call a
 fits (Ring (Take queue)) a s t allowed = fits_next queue (chain_of a) allowed.3
-fits (Ring (Read chain place n)) a s t allowed = tt
-fits (Ring (Write chain place bytes)) a s t allowed = tt
-fits (Ring (Return chain len)) a s t allowed = tt
-fits (Ring (Given queue)) a s t allowed = tt
-fits (Ring (PublishCid cid)) a s t allowed = tt
-fits Accept a s t allowed = tt
-fits (Dial path flow) a s t allowed = tt
-fits (Label stream flow) a s t allowed = tt
-fits (ReadStream stream n) a s t allowed = tt
-fits (WriteStream stream bytes) a s t allowed = tt
-fits (ShutWrite stream) a s t allowed = tt
-fits (CloseStream stream) a s t allowed = tt
+fits _ a s t allowed = tt
 
 calm_runs : {A : Type 0} (Q : A → Type 0) (tree : DeviceTree A) (s t : Situation) (x : A) → Calm Q tree → Runs tree s x t
     → Q x × (resets_in t.ring.log ≡ resets_in s.ring.log)
@@ -162,25 +145,20 @@ module _ (hands : List Handshake) where
 
   wrote : (e : DeviceEntry) (s : DeviceState) (a : StreamWrite) → Owes s → AfterWrite calls (D hands) e s a tt
   wrote e s (write.Took n) at = at
-  wrote e s write.Again at = at
-  wrote e s write.Closed at = at
-  wrote e s write.Failed at = at
+  wrote e s _ at = at
 
   writes : Writes calls (D hands)
   writes = record { writes = λ e s c is still at. (tt, λ a fit. wrote e s a at); shuts = λ e s c is out at. (tt, λ a fit. at) }
 
   held : (s : DeviceState) (n : Next) → IfSome (chain_of n) (λ chain. chain.queue ≡ Rx) → Owes s → serving.AfterTake calls (D hands) s n tt
   held s (next.Chain chain) fit at = ((at.0.0, fit), tt)
-  held s next.None fit at = at
-  held s (next.Failed f) fit at = at
+  held s _ fit at = at
 
   have_read : (e : DeviceEntry) (chain : Chain) (s : DeviceState) (a : StreamRead) (payload : List ℕ) → chain.queue ≢ Event → Owes s
       → AfterRead calls (D hands) e chain s a payload tt
   have_read e chain s (read.Got n) [] other at = (tt, λ a fit. (other, λ b any. ((at.0.0, tt), tt)))
   have_read e chain s (read.Got n) (x ∷ payload) other at = (tt, λ a fit. (tt, λ b any. (other, λ d more. ((at.0.0, tt), tt))))
-  have_read e chain s read.Again payload other at = at
-  have_read e chain s read.End payload other at = at
-  have_read e chain s read.Failed payload other at = at
+  have_read e chain s _ payload other at = at
 
   fills : Fills calls (D hands)
   fills = record {
@@ -196,14 +174,12 @@ module _ (hands : List Handshake) where
       → taking.AfterTake calls (D hands) (U hands) s n tt
   taken_by s (next.Chain chain) fit at =
       (tt, λ bytes any. record { short = λ no. at; drops = λ whole no. (at.0, fit); comes = λ whole kept. (at.0, fit) })
-  taken_by s next.None fit at = at
-  taken_by s (next.Failed f) fit at = at
+  taken_by s _ fit at = at
 
   dials : (chain : Chain) (h : Header) (s : DeviceState) (a : Dialed) → OwesNoEvent s × (chain.queue ≡ Tx)
       → AfterDial calls (D hands) (U hands) chain h s a tt
   dials chain h s (dialed.Stream id) at = at
-  dials chain h s dialed.Refused at = at
-  dials chain h s dialed.Failed at = at
+  dials chain h s _ at = at
 
   takes : Takes calls (D hands) (U hands)
   takes = record {
@@ -216,24 +192,21 @@ module _ (hands : List Handshake) where
     hears = λ chain h e s c v found is other at. at;
   }
 
-accepted_by : (hands : List Handshake) (s : DeviceState) (a : Accepted) → Owes s → AfterAccept calls D hands s a tt
-accepted_by hands s (accepted.Stream id) at = at
-accepted_by hands s accepted.None at = at
-accepted_by hands s accepted.Failed at = at
+accepted_by : (hands : List Handshake) (port : ℕ) (s : DeviceState) (a : Accepted) → Owes s → AfterAccept calls (Between D) hands port s a tt
+accepted_by hands port s (accepted.Stream id) at = at
+accepted_by hands port s _ at = at
 
-byte_read : (h : Handshake) (hands : List Handshake) (s : DeviceState) (a : StreamRead) (bytes : List ℕ) → Owes s
-    → AfterByte calls D h hands s a bytes tt
-byte_read h hands s (read.Got n) bytes at =
-    record { more = λ is. at; ends = (tt, λ a fit. at); refused = at; opens = λ port p is may none. (tt, λ a fit. at) }
-byte_read h hands s read.Again bytes at = at
-byte_read h hands s read.End bytes at = at
-byte_read h hands s read.Failed bytes at = at
+byte_read : (h : Handshake) (hands : List Handshake) (port : ℕ) (s : DeviceState) (a : StreamRead) (bytes : List ℕ) → Owes s
+    → AfterByte calls (Between D) h hands port s a bytes tt
+byte_read h hands port s (read.Got n) bytes at =
+    record { more = λ is. at; ends = (tt, λ a fit. at); refused = λ guest fault may is. at; opens = λ guest is may none. (tt, λ a fit. at) }
+byte_read h hands port s _ bytes at = at
 
-shakes : Shakes calls D
+shakes : Shakes calls (Between D)
 shakes = record {
-  drops = λ h hands s c on at. (tt, λ a fit. at);
-  accepts = λ hands s c at. (tt, λ a fit. accepted_by hands s a at);
-  reads = λ h hands s c on at. (tt, λ a fit. byte_read h hands s a.0 a.1 at);
+  drops = λ h hands port s c on at. (tt, λ a fit. at);
+  accepts = λ hands port s c at. (tt, λ a fit. accepted_by hands port s a at);
+  reads = λ h hands port s c on at. (tt, λ a fit. byte_read h hands port s a.0 a.1 at);
 }
 
 pub calm_turns : (size now : ℕ) (s : ProxyState) (a b : Situation) (x : ProxyState × Turn) → OwesNoEvent s.device → Runs (turn_of size now s) a x b

@@ -55,9 +55,7 @@ host_by first f (GotPacket p ∷ log) from routed some =
         → f.peer ≡ HOST_CID
     by true same rest = ap (λ (g : Flow). g.peer) (same_is f (flow_got Driver p) same) ∙ All-head ComesFromHost p (packets_got log) from
     by false other rest = rest (rw other at some)
-host_by first f (PutEvent id ∷ log) from routed some = host_by first f log from routed some
-host_by first f (GotEvent id ∷ log) from routed some = host_by first f log from routed some
-host_by first f (Mark cid ∷ log) from routed some = host_by first f log from routed some
+host_by first f (_ ∷ log) from routed some = host_by first f log from routed some
 
 begun_some : (side : Side) (h : History) → is_begun side (puts h) (gots h) ≡ true → is_empty h ≡ false
 begun_some Asker [] begun = absurd cc

@@ -91,20 +91,14 @@ host_kept f p cid same host = let from : p.header.src_cid ≡ HOST_CID = sym (ap
 
 pub driver_kept : (first : ℕ) (f : Flow) (log : Log) → f.peer ≡ HOST_CID → AreKept Driver first f log
 driver_kept first f [] host = tt
-driver_kept first f (PutPacket p ∷ log) host = driver_kept first f log host
 driver_kept first f (GotPacket p ∷ log) host =
     (λ same. host_kept f p (cid_of first log) (same_is f (flow_got Driver p) same) host, driver_kept first f log host)
-driver_kept first f (PutEvent id ∷ log) host = driver_kept first f log host
-driver_kept first f (GotEvent id ∷ log) host = driver_kept first f log host
-driver_kept first f (Mark cid ∷ log) host = driver_kept first f log host
+driver_kept first f (_ ∷ log) host = driver_kept first f log host
 
 cid_first : (first : ℕ) (log : Log) → has_no_mark log ≡ true → cid_of first log ≡ first
 cid_first first [] marks = refl
-cid_first first (PutPacket p ∷ log) marks = cid_first first log marks
-cid_first first (GotPacket p ∷ log) marks = cid_first first log marks
-cid_first first (PutEvent id ∷ log) marks = cid_first first log marks
-cid_first first (GotEvent id ∷ log) marks = cid_first first log marks
 cid_first first (Mark cid ∷ log) marks = absurd cc
+cid_first first (_ ∷ log) marks = cid_first first log marks
 
 abbrev IsKept : ℕ → Packet → Type 0
 IsKept cid p = is_dropped Device cid p.header ≡ false
@@ -113,21 +107,17 @@ routed : (first : ℕ) (log : Log) → has_no_mark log ≡ true → AreRouted fi
 routed first [] marks are = All-nil (IsKept first)
 routed first (PutPacket p ∷ log) marks are =
     All-cons (IsKept first) p (packets_put log) (subst (λ c. IsKept c p) (cid_first first log marks) are.0) (routed first log marks are.1)
-routed first (GotPacket p ∷ log) marks are = routed first log marks are
-routed first (PutEvent id ∷ log) marks are = routed first log marks are
-routed first (GotEvent id ∷ log) marks are = routed first log marks are
 routed first (Mark cid ∷ log) marks are = absurd cc
+routed first (_ ∷ log) marks are = routed first log marks are
 
 came : (first : ℕ) (f : Flow) (log : Log) → has_no_mark log ≡ true → All (IsKept first) (packets_got log) → AreKept Device first f log
 came first f [] marks all = tt
-came first f (PutPacket p ∷ log) marks all = came first f log marks all
 came first f (GotPacket p ∷ log) marks all = (
   λ same. subst (λ c. IsKept c p) (sym (cid_first first log marks)) (All-head (IsKept first) p (packets_got log) all),
   came first f log marks (All-tail (IsKept first) p (packets_got log) all),
 )
-came first f (PutEvent id ∷ log) marks all = came first f log marks all
-came first f (GotEvent id ∷ log) marks all = came first f log marks all
 came first f (Mark cid ∷ log) marks all = absurd cc
+came first f (_ ∷ log) marks all = came first f log marks all
 
 pub device_kept : (first : ℕ) (f : Flow) (driver device : Log) → has_no_mark driver ≡ true → has_no_mark device ≡ true
     → AreRouted first driver → packets_put driver ≡ packets_got device → AreKept Device first f device
@@ -171,9 +161,8 @@ open_stands role first f (PutPacket p ∷ log) fair kept marks =
 open_stands role first f (GotPacket p ∷ log) fair kept marks =
     let two = fair_got_on role f p log (same_flow f (flow_got role p)) refl fair in
     got_at role first f p log (same_flow f (flow_got role p)) refl kept.0 two.1 (open_stands role first f log two.0 kept.1 marks)
-open_stands role first f (PutEvent id ∷ log) fair kept marks = open_stands role first f log fair kept marks
-open_stands role first f (GotEvent id ∷ log) fair kept marks = open_stands role first f log fair kept marks
 open_stands role first f (Mark cid ∷ log) fair kept marks = absurd cc
+open_stands role first f (_ ∷ log) fair kept marks = open_stands role first f log fair kept marks
 
 -- What one got on a flow is what the other put; so what one got on the flow's present connection is what the other put there, and
 -- the other way round.

@@ -47,8 +47,7 @@ op_unread verdict.Deliver e h u is fits =
     takes e.credit.rx_cnt e.credit.fwd_cnt h.len e.credit.alloc fits.rx fits.fwd fits.alloc (delivers_room e h is) fits.within
 op_unread verdict.Discard e h u is fits = no_more _ (unread_of e.credit) (discards e.credit.rx_cnt e.credit.fwd_cnt h.len fits.rx fits.fwd)
 op_unread verdict.Peer e h u is fits = no_more _ (unread_of e.credit) (message_unread (op_named h.op) e h)
-op_unread (verdict.Rst why) e h u is fits = no_more _ (unread_of e.credit) refl
-op_unread verdict.Ignore e h u is fits = no_more _ (unread_of e.credit) refl
+op_unread _ e h u is fits = no_more _ (unread_of e.credit) refl
 
 pub hears : (c : DeviceConnection) (h : Header) (payload : List ℕ) → HoldsBytes c.end.credit (length c.pending)
     → length payload ≡ delivered (verdict_of c.end h) h.len → IsExact c

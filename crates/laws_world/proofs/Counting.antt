@@ -45,7 +45,7 @@ use Rattle.laws_device_walk.proofs.Serving.{keeps_write_pending}
 use Rattle.laws_device_walk.proofs.Taking.{AfterDial, Takes, keeps_on_packet}
 use Rattle.laws_device_walk.proofs.Serving as serving
 use Rattle.laws_device_walk.proofs.Taking as taking
-use Rattle.laws_device_walk.proofs.Turning.{AfterAccept, AfterByte, Shakes, keeps_accept_one, keeps_read_byte, keeps_tick_handshake}
+use Rattle.laws_device_walk.proofs.Turning.{AfterAccept, AfterByte, Between, Shakes, keeps_accept_one, keeps_read_byte, keeps_tick_handshake}
 use Rattle.laws_device.proofs.{Transmitting.header_is, Ringing.same_self}
 use Rattle.laws_world.specs.{Answers.Around, Answers.answer_around, Counts.IsCounted, Counts.dropped_in, Pages.PageHolds, World.World}
 use Rattle.laws_world.specs.World.{around, device_plays, driver_plays, first_cid, opening}
@@ -193,9 +193,7 @@ module _ (hands : List Handshake) where
   wrote : (e : DeviceEntry) (s : DeviceState) (x : StreamWrite) (a : Around) → D hands None (seen s) a
       → AfterWrite playing (D hands) e s x a
   wrote e s (write.Took n) a at = at
-  wrote e s write.Again a at = at
-  wrote e s write.Closed a at = at
-  wrote e s write.Failed a at = at
+  wrote e s _ a at = at
 
   writings : Writes playing (D hands)
   writings = record { writes = λ e s a is still at. wrote e s _ _ at; shuts = λ e s a is out at. at }
@@ -204,9 +202,7 @@ module _ (hands : List Handshake) where
       → AfterRead playing (D hands) e chain s x payload a
   have_read e chain s (read.Got n) payload a at =
       written_counts s.cid s.dropped s.failed chain (payload_header e.value.end (route_to_guest s.cid e.flow) (length payload)) payload a at
-  have_read e chain s read.Again payload a at = at
-  have_read e chain s read.End payload a at = at
-  have_read e chain s read.Failed payload a at = at
+  have_read e chain s _ payload a at = at
 
   fills : Fills playing (D hands)
   fills = record {
@@ -221,8 +217,7 @@ module _ (hands : List Handshake) where
   dials : (chain : Chain) (h : Header) (s : DeviceState) (x : Dialed) (a : Around) → D hands None (seen s) a
       → AfterDial playing (D hands) (U hands) chain h s x a
   dials chain h s (dialed.Stream id) a at = at
-  dials chain h s dialed.Refused a at = at
-  dials chain h s dialed.Failed a at = at
+  dials chain h s _ a at = at
 
   takings : Takes playing (D hands) (U hands)
   takings = record {
@@ -235,24 +230,21 @@ module _ (hands : List Handshake) where
     hears = λ chain h e s a v found is other at. at;
   }
 
-accepts : (hands : List Handshake) (s : DeviceState) (x : Accepted) (a : Around) → D hands None (seen s) a
-    → AfterAccept playing D hands s x a
-accepts hands s (accepted.Stream id) a at = at
-accepts hands s accepted.None a at = at
-accepts hands s accepted.Failed a at = at
+accepts : (hands : List Handshake) (port : ℕ) (s : DeviceState) (x : Accepted) (a : Around) → D hands None (seen s) a
+    → AfterAccept playing (Between D) hands port s x a
+accepts hands port s (accepted.Stream id) a at = at
+accepts hands port s _ a at = at
 
-bytes_read : (h : Handshake) (hands : List Handshake) (s : DeviceState) (x : StreamRead) (bytes : List ℕ) (a : Around)
-    → D hands None (seen s) a → AfterByte playing D h hands s x bytes a
-bytes_read h hands s (read.Got n) bytes a at = record { more = λ is. at; ends = at; refused = at; opens = λ port p is may none. at }
-bytes_read h hands s read.Again bytes a at = at
-bytes_read h hands s read.End bytes a at = at
-bytes_read h hands s read.Failed bytes a at = at
+bytes_read : (h : Handshake) (hands : List Handshake) (port : ℕ) (s : DeviceState) (x : StreamRead) (bytes : List ℕ) (a : Around)
+    → D hands None (seen s) a → AfterByte playing (Between D) h hands port s x bytes a
+bytes_read h hands port s (read.Got n) bytes a at = record { more = λ is. at; ends = at; refused = λ guest fault may is. at; opens = λ guest is may none. at }
+bytes_read h hands port s _ bytes a at = at
 
-shakes : Shakes playing D
+shakes : Shakes playing (Between D)
 shakes = record {
-  drops = λ h hands s a on at. at;
-  accepts = λ hands s a at. accepts hands s _ _ at;
-  reads = λ h hands s a on at. bytes_read h hands s _ _ _ at;
+  drops = λ h hands port s a on at. at;
+  accepts = λ hands port s a at. accepts hands port s _ _ at;
+  reads = λ h hands port s a on at. bytes_read h hands port s _ _ _ at;
 }
 
 -- THE STEPS OF DEVICE AND PROXY
@@ -271,8 +263,7 @@ module _ (hands : List Handshake) where
       keeps_then playing Has (λ x b. Has x.0 b) (on_packet chain (header_of r.0) s) (λ x. Done x.0) r.1
       (keeps_on_packet playing (D hands) (U hands) (closes hands) (takings hands) chain (header_of r.0) s r.1 (after.drops whole)
       (after.comes whole)) (λ x b kept. kept))
-  came s next.None a after = after
-  came s (next.Failed f) a after = after
+  came s _ a after = after
 
   takes_counts : (queue : Queue) → Counting (takes_chain queue)
   takes_counts Tx s a at = keeps_if playing Has (nat_le DEVICE_REPLIES (length s.replies)) _ _ a (λ full. at)
@@ -396,7 +387,7 @@ module _ {fresh : Type 0} (w : World) (well : IsWell fresh w) (was : IsCounted w
   line_counts stream t a at =
       keeps_then playing (λ (u : Turning) b. Has u.state.handshakes u.state.device b)
       (λ (r : Turning × Bool) b. Has r.0.state.handshakes r.0.state.device b) (read_byte stream t) (λ r. Done r.0) a
-      (keeps_read_byte playing D shakes stream t a at) (λ r b kept. kept)
+      (keeps_read_byte playing (Between D) shakes stream t a at) (λ r b kept. kept)
 
   pub happens_counted : (e : events.Event) → IsCounted (happens e w)
   happens_counted (events.GuestCalls call) =
@@ -416,11 +407,11 @@ module _ {fresh : Type 0} (w : World) (well : IsWell fresh w) (was : IsCounted w
   happens_counted (events.DevicePays slot) = unless_device (puts_owed slot) (puts_owed_counts w.proxy.handshakes slot)
   happens_counted (events.DeviceWrites slot) = unless_device (writes slot) (writes_counts w.proxy.handshakes slot)
   happens_counted (events.DeviceShutsWrite slot) = unless_device (shuts_write slot) (shuts_counts w.proxy.handshakes slot)
-  happens_counted events.ProxyAccepts = unless_proxy accept_one (keeps_accept_one playing D shakes)
+  happens_counted events.ProxyAccepts = unless_proxy accept_one (keeps_accept_one playing (Between D) shakes)
   happens_counted (events.ProxyReads stream) = unless_proxy (line_read stream) (line_counts stream)
   happens_counted (events.Moment now) = hosts_counted now w.host
   happens_counted (events.TimesOut slot) = unless_device (tick_slot slot) (ticks_counts w.proxy.handshakes slot)
-  happens_counted (events.HandshakeTimesOut stream) = unless_proxy (tick_handshake stream) (keeps_tick_handshake playing D shakes stream)
+  happens_counted (events.HandshakeTimesOut stream) = unless_proxy (tick_handshake stream) (keeps_tick_handshake playing (Between D) shakes stream)
   happens_counted (events.Reset cid) = where_counted (is_guest_cid cid) (reset_made cid) w was
       (tree_counted (proxy_reset_of cid w.proxy) (λ r. r.0)
       (keeps_reset cid (Has w.proxy.handshakes) (λ e s a at. at) (λ e s a at. at) reset_at (λ stream s a at. at) w.proxy (around w) now_at))

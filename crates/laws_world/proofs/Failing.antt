@@ -26,7 +26,7 @@ use Rattle.laws_device_walk.proofs.Serving.{AfterEvent, AfterRead, AfterWrite, C
 use Rattle.laws_device_walk.proofs.Taking.{AfterDial, Takes}
 use Rattle.laws_device_walk.proofs.Serving as serving
 use Rattle.laws_device_walk.proofs.Taking as taking
-use Rattle.laws_device_walk.proofs.Turning.{AfterAccept, AfterByte, Shakes, keeps_turn}
+use Rattle.laws_device_walk.proofs.Turning.{AfterAccept, AfterByte, Between, Shakes, keeps_turn}
 use Rattle.laws_world.specs.{Answers.Around, Plays.reset_line, Plays.turn_line, World.World, World.around}
 use Rattle.laws_world.proofs.Resetting.{keeps_played, keeps_reset, playing}
 
@@ -140,12 +140,10 @@ module _ (m : ℕ) where
 
     wrote : (e : DeviceEntry) (s : DeviceState) (stream : ℕ) (bytes : List ℕ) (x : StreamWrite) (a : Around) → D hands None (seen s) a
         → write_answer stream (length bytes) a.host ≡ x → AfterWrite playing (D hands) e s x (on (after_write stream bytes x a.host) a)
-    wrote e s stream bytes (write.Took n) a at is = went s.faults a.host at
-    wrote e s stream bytes write.Again a at is = went s.faults a.host at
-    wrote e s stream bytes write.Closed a at is = went s.faults a.host at
     wrote e s stream bytes write.Failed a at is =
         subst (Within (counted s.faults)) (sym (after_failed_is a.host))
         (fails s.faults a.host at (write_to_fail stream (length bytes) a.host is))
+    wrote e s stream bytes _ a at is = went s.faults a.host at
 
     writings : Writes playing (D hands)
     writings = record { writes = λ e s a is still at. wrote e s _ _ _ a at refl; shuts = λ e s a is out at. at }
@@ -155,19 +153,16 @@ module _ (m : ℕ) where
         → AfterRead playing (D hands) e chain s x payload (on (after_read stream x a.host) a)
     have_read e chain s stream room (read.Got n) [] a at is = went s.faults a.host at
     have_read e chain s stream room (read.Got n) (x ∷ payload) a at is = went s.faults a.host at
-    have_read e chain s stream room read.Again payload a at is = went s.faults a.host at
-    have_read e chain s stream room read.End payload a at is = went s.faults a.host at
     have_read e chain s stream room read.Failed payload a at is = fails s.faults a.host at (read_to_fail stream room a.host is)
+    have_read e chain s stream room _ payload a at is = went s.faults a.host at
 
     held : (s : DeviceState) (n : Next) (a : Around) → D hands None (seen s) a → serving.AfterTake playing (D hands) s n a
     held s (next.Chain chain) a at = at
-    held s next.None a at = at
-    held s (next.Failed f) a at = at
+    held s _ a at = at
 
     paid : (s : DeviceState) (n : Next) (a : Around) → D hands None (seen s) a → AfterEvent playing (D hands) s n a
     paid s (next.Chain chain) a at = at
-    paid s next.None a at = at
-    paid s (next.Failed f) a at = at
+    paid s _ a at = at
 
     fills : Fills playing (D hands)
     fills = record {
@@ -181,15 +176,13 @@ module _ (m : ℕ) where
 
     taken : (s : DeviceState) (n : Next) (a : Around) → D hands None (seen s) a → taking.AfterTake playing (D hands) (U hands) s n a
     taken s (next.Chain chain) a at = record { short = λ is. at; drops = λ whole is. at; comes = λ whole is. at }
-    taken s next.None a at = at
-    taken s (next.Failed f) a at = at
+    taken s _ a at = at
 
     dials : (chain : Chain) (h : Header) (s : DeviceState) (path : List ℕ) (flow : Flow) (x : Dialed) (a : Around) → D hands None (seen s) a
         → dial_answer path a.host ≡ x → AfterDial playing (D hands) (U hands) chain h s x (on (after_dial flow x a.host) a)
-    dials chain h s path flow (dialed.Stream id) a at is = went s.faults a.host at
-    dials chain h s path flow dialed.Refused a at is = went s.faults a.host at
     dials chain h s path flow dialed.Failed a at is =
         subst (Within (counted s.faults)) (sym (after_failed_is a.host)) (fails s.faults a.host at (dial_to_fail path a.host is))
+    dials chain h s path flow _ a at is = went s.faults a.host at
 
     takings : Takes playing (D hands) (U hands)
     takings = record {
@@ -202,26 +195,24 @@ module _ (m : ℕ) where
       hears = λ chain h e s a v found is other at. at;
     }
 
-  accepts : (hands : List Handshake) (s : DeviceState) (x : Accepted) (a : Around) → D hands None (seen s) a → accept_answer a.host ≡ x
-      → AfterAccept playing D hands s x (on (after_accept x a.host) a)
-  accepts hands s (accepted.Stream id) a at is = went s.faults a.host at
-  accepts hands s accepted.None a at is = went s.faults a.host at
-  accepts hands s accepted.Failed a at is = fails s.faults a.host at (accept_to_fail a.host is)
+  accepts : (hands : List Handshake) (port : ℕ) (s : DeviceState) (x : Accepted) (a : Around) → D hands None (seen s) a → accept_answer a.host ≡ x
+      → AfterAccept playing (Between D) hands port s x (on (after_accept x a.host) a)
+  accepts hands port s accepted.Failed a at is = fails s.faults a.host at (accept_to_fail a.host is)
+  accepts hands port s _ a at is = went s.faults a.host at
 
-  bytes_read : (h : Handshake) (hands : List Handshake) (s : DeviceState) (x : StreamRead) (bytes : List ℕ) (a : Around)
+  bytes_read : (h : Handshake) (hands : List Handshake) (port : ℕ) (s : DeviceState) (x : StreamRead) (bytes : List ℕ) (a : Around)
       → D hands None (seen s) a → read_answer h.stream 1 a.host ≡ x
-      → AfterByte playing D h hands s x bytes (on (after_read h.stream x a.host) a)
-  bytes_read h hands s (read.Got n) bytes a at is =
-      let now = went s.faults a.host at in record { more = λ is. now; ends = now; refused = now; opens = λ port p is may none. now }
-  bytes_read h hands s read.Again bytes a at is = went s.faults a.host at
-  bytes_read h hands s read.End bytes a at is = went s.faults a.host at
-  bytes_read h hands s read.Failed bytes a at is = fails s.faults a.host at (read_to_fail h.stream 1 a.host is)
+      → AfterByte playing (Between D) h hands port s x bytes (on (after_read h.stream x a.host) a)
+  bytes_read h hands port s (read.Got n) bytes a at is =
+      let now = went s.faults a.host at in record { more = λ is. now; ends = now; refused = λ guest fault may is. now; opens = λ guest is may none. now }
+  bytes_read h hands port s read.Failed bytes a at is = fails s.faults a.host at (read_to_fail h.stream 1 a.host is)
+  bytes_read h hands port s _ bytes a at is = went s.faults a.host at
 
-  shakes : Shakes playing D
+  shakes : Shakes playing (Between D)
   shakes = record {
-    drops = λ h hands s a on at. at;
-    accepts = λ hands s a at. accepts hands s _ a at refl;
-    reads = λ h hands s a on at. bytes_read h hands s _ _ a at refl;
+    drops = λ h hands port s a on at. at;
+    accepts = λ hands port s a at. accepts hands port s _ a at refl;
+    reads = λ h hands port s a on at. bytes_read h hands port s _ _ a at refl;
   }
 
   -- A turn and a transport reset.
