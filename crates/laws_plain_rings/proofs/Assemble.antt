@@ -3,8 +3,7 @@ use Rattle.std.proofs.Common.{◌≡◌, ℕ, ◌+◌, ◌*◌, ◌<◌, ◌≤�
 use Rattle.vs_guest_mem.specs.Memory.{Memory, bytes_at}
 use Rattle.vs_page.specs.Log.{Log}
 use Rattle.vs_ring_port.specs.{Chains.Held, Chains.same_queue, EndLog.pages_at, EndLog.with_pages, Lists.Lists, Lists.queue_of}
-use Rattle.vs_ring_port.specs.{Lists.with_queue, declared.queue.Queue.Queue, declared.queue.Queue.TheVariants.Rx}
-use Rattle.vs_ring_port.specs.declared.queue.Queue.TheVariants.{Tx, Event}
+use Rattle.vs_ring_port.specs.{Lists.with_queue, declared.queue.Queue.Queue}
 use Rattle.vs_ring_list.specs.{Ends.Ends, Sound.IsTied}
 use Rattle.vs_ring_plain.specs.{Device.HeldChain, Device.turns_at, Device.with_turns, declared.turns.Turns.Turns}
 use Rattle.vs_plain_driver.specs.Queue.{DriverQueueState}
@@ -61,16 +60,12 @@ ends_form queue staged l sent got held w =
 -- one of them alone changed
 pub driver_form_is : (queue : Queue) (q : DriverQueueState) (m : Memory) (p : PartsState)
     → with_driver queue q (with_parts_memory m p) ≡ parts_form queue q m (turns_at queue p.device.turns) p.device.held p
-driver_form_is Rx q m p = refl
-driver_form_is Tx q m p = refl
-driver_form_is Event q m p = refl
+driver_form_is queue q m p = search arith
 
 pub device_form_is : (queue : Queue) (m : Memory) (t : Turns) (held : List HeldChain) (p : PartsState)
     → record p { device = record p.device { memory = m; turns = with_turns queue t p.device.turns; held = held } }
     ≡ parts_form queue (driver_at queue p) m t held p
-device_form_is Rx m t held p = refl
-device_form_is Tx m t held p = refl
-device_form_is Event m t held p = refl
+device_form_is queue m t held p = search arith
 
 module _ (p : PartsState) (w : Ends) (tied : AreTied p w) (queue : Queue) where
   -- chains that are held lie where they lay
@@ -118,9 +113,7 @@ module _ (p : PartsState) (w : Ends) (tied : AreTied p w) (queue : Queue) where
               s = shown (areas_of p r) (start_in q.pages_at) m;
               heads = heads_of r held;
             }
-        here Rx = refl
-        here Tx = refl
-        here Event = refl
+        here queue = search arith
 
     parts_beside : (r : Queue) → same_queue queue r ≡ false → parts_at new then r ≡ kept r
     parts_beside r other =
@@ -128,9 +121,7 @@ module _ (p : PartsState) (w : Ends) (tied : AreTied p w) (queue : Queue) where
         queue r other
 
     lists_stay : (r : Queue) → ((with_queue r l w.lists).size ≡ w.lists.size) × ((with_queue r l w.lists).cid ≡ w.lists.cid)
-    lists_stay Rx = (refl, refl)
-    lists_stay Tx = (refl, refl)
-    lists_stay Event = (refl, refl)
+    lists_stay r = search arith
 
     -- both ends are tied after it
     pub step : {xs : List Spot} → q.n ≡ (driver_at queue p).n → q.pages_at ≡ (driver_at queue p).pages_at

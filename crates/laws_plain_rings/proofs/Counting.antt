@@ -1,14 +1,10 @@
 -- How often numbers stand in lists.
-use Rattle.std.proofs.Common.{◌≡◌, ◌⊎◌, inl, inr, false, ℕ, ◌+◌, ◌<◌, true, List, [], ◌∷◌, ◌++◌, refl, sym, arith}
-use Rattle.std.specs.Prelude.{◌==◌}
-use Rattle.std.proofs.lemmas.Bool.Decides.{eqb_tells, nat_tests}
+use Rattle.std.proofs.Common.{◌≡◌, ℕ, ◌+◌, ◌<◌, List, [], ◌∷◌, ◌++◌, arith}
+use Rattle.std.proofs.lemmas.Bool.Decides.{nat_tests}
 use Rattle.laws_plain_rings.specs.Queue.{times}
 
-eq_self : (n : ℕ) → (n == n) ≡ true
-eq_self n = grind (arith, nat_tests)
-
 pub times-self : (id : ℕ) → times id (id ∷ []) ≡ 1
-times-self id = rw (eq_self id) refl
+times-self id = grind (arith, nat_tests)
 
 pub times-cons : (id x : ℕ) (xs : List ℕ) → times id (x ∷ xs) ≡ times id (x ∷ []) + times id xs
 times-cons id x xs = omega arith
@@ -27,8 +23,4 @@ pub there : (id x : ℕ) (xs : List ℕ) → 0 < times id xs → 0 < times id (x
 there id x xs some = omega (arith, times-cons id x xs, some)
 
 pub times-other : (j id : ℕ) → (id ≡ j → ⊥) → times j (id ∷ []) ≡ 0
-times-other j id other = by (eqb_tells j id)
-  where
-    by : (((j == id) ≡ true) × (j ≡ id)) ⊎ (((j == id) ≡ false) × (j ≡ id → ⊥)) → times j (id ∷ []) ≡ 0
-    by (inl (test, same)) = absurd (other (sym same))
-    by (inr (test, differs)) = rw test refl
+times-other j id other = grind (arith, nat_tests)

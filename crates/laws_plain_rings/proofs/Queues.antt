@@ -1,5 +1,6 @@
 -- One of the three queues, and the others.
-use Rattle.std.proofs.Common.{◌≡◌, false, refl, true≢false}
+use Rattle.std.proofs.Common.{◌≡◌, false, refl, true≢false, arith}
+use Rattle.std.proofs.lemmas.Grind.{common_steps}
 use Rattle.vs_ring_port.specs.{Chains.same_queue, declared.queue.Queue.Queue, declared.queue.Queue.TheVariants.Rx}
 use Rattle.vs_ring_port.specs.declared.queue.Queue.TheVariants.{Tx, Event}
 
@@ -29,4 +30,4 @@ of_each P Event here others Tx = others Tx refl
 of_each P Event here others Event = here
 
 pub turned : (q r : Queue) → same_queue q r ≡ false → same_queue r q ≡ false
-turned = of_pairs (λ q r. same_queue r q ≡ false) refl refl refl refl refl refl
+turned q r other = grind (arith, common_steps)

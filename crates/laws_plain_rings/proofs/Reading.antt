@@ -190,14 +190,10 @@ module _ (p : PartsState) (w : Ends) (tied : AreTied p w) (c : Chain) (has : Con
 
     same_ends : (q : Queue) → ends_form q (pages_at q w.driver.staged) (queue_of q w.lists) w.driver.entries w.device.entries
         (with_bytes c (overwritten (bytes_in c w.device.held) place bytes) w.device.held) w ≡ after_device (Write c place bytes) w
-    same_ends Rx = refl
-    same_ends Tx = refl
-    same_ends Event = refl
+    same_ends queue = search arith
 
     same_parts : (q : Queue) → parts_form q (driver_at q p) after (turns_at q d.turns) d.held p ≡ record p { device = with_memory d after }
-    same_parts Rx = refl
-    same_parts Tx = refl
-    same_parts Event = refl
+    same_parts queue = search arith
 
     stepped : AreTied (parts_form c.queue (driver_at c.queue p) after (turns_at c.queue d.turns) d.held p)
         (ends_form c.queue (pages_at c.queue w.driver.staged) (queue_of c.queue w.lists) w.driver.entries w.device.entries

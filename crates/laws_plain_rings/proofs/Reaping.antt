@@ -58,9 +58,7 @@ module _ (p : PartsState) (w : Ends) (tied : AreTied p w) (queue : Queue) where
     none_parts = ap (λ (o : Option (ℕ × List ℕ)). with_driver queue (reaped_queue q o) p) none_used ∙ same queue
       where
         same : (r : Queue) → with_driver r (driver_at r p) p ≡ p
-        same Rx = refl
-        same Tx = refl
-        same Event = refl
+        same queue = search arith
 
     abbrev with_back : Queue → List (List ℕ) → Ends
     with_back r back = record w { lists = with_queue r (record (queue_of r w.lists) { back = back }) w.lists }
@@ -127,9 +125,7 @@ module _ (p : PartsState) (w : Ends) (tied : AreTied p w) (queue : Queue) where
     ends_is : (r : Queue) → after_driver (Reap r) w
         ≡ ends_form r (pages_at r w.driver.staged) (record (queue_of r w.lists) { back = all_but_oldest (queue_of r w.lists).back })
         (entries_reaped r (next_back r w.lists) w.driver.entries) w.device.entries w.device.held w
-    ends_is Rx = refl
-    ends_is Tx = refl
-    ends_is Event = refl
+    ends_is queue = search arith
 
     some_tied : AreTied (reaped_parts queue p) (after_driver (Reap queue) w)
     some_tied =

@@ -1,5 +1,5 @@
 -- The guest's CID is published.
-use Rattle.std.proofs.Common.{◌≡◌, ℕ, ◌+◌, ◌*◌, refl, sym, ap, ◌∙◌, Some}
+use Rattle.std.proofs.Common.{◌≡◌, ℕ, ◌+◌, ◌*◌, refl, sym, ap, ◌∙◌, Some, arith}
 use Rattle.vs_guest_mem.specs.Memory.{bytes_at}
 use Rattle.vs_ring_port.specs.{Contents.PublishCid, declared.queue.Queue.Queue, declared.queue.Queue.TheVariants.Rx}
 use Rattle.vs_ring_port.specs.declared.queue.Queue.TheVariants.{Tx, Event}
@@ -14,9 +14,7 @@ module _ (p : PartsState) (w : Ends) (tied : AreTied p w) (cid : ℕ) where
   new = record p { cid = cid }
 
   same_driver : (r : Queue) → driver_at r new ≡ driver_at r p
-  same_driver Rx = refl
-  same_driver Tx = refl
-  same_driver Event = refl
+  same_driver queue = search arith
 
   starts : (r : Queue) → start_of new r ≡ start_of p r
   starts r = ap (λ (x : DriverQueueState). start_in x.pages_at) (same_driver r)

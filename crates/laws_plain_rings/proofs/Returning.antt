@@ -10,8 +10,7 @@ use Rattle.vs_layout.specs.{Entry.used_elem_bytes, Entry.used_elem_of, declared.
 use Rattle.vs_page.specs.{Fair.IsFairLog, Log.Device}
 use Rattle.vs_ring_port.specs.{Chains.bytes_in, Chains.held_of, Chains.without_held, Contents.Given, Contents.Return}
 use Rattle.vs_ring_port.specs.{EndLog.entries_returned, EndLog.pages_at, Lists.Lists, Lists.queue_of, Lists.after_return}
-use Rattle.vs_ring_port.specs.declared.{device_ring.Chain.Chain, queue.Queue.Queue, queue.Queue.TheVariants.Rx, queue.Queue.TheVariants.Tx}
-use Rattle.vs_ring_port.specs.declared.queue.Queue.TheVariants.{Event}
+use Rattle.vs_ring_port.specs.declared.{device_ring.Chain.Chain, queue.Queue.Queue}
 use Rattle.vs_ring_list.specs.Ends.{Ends}
 use Rattle.vs_ring_list.proofs.Ties.{tied-return}
 use Rattle.vs_ring_plain.specs.{Chain.ahead, Device.DeviceState, Device.HeldChain, Device.answer_to, Device.chains_held, Device.head_of}
@@ -163,9 +162,7 @@ module _ (p : PartsState) (w : Ends) (tied : AreTied p w) where
           lists = after_return r page w.lists;
           device = record w.device { entries = entries_returned r page w.device.entries; held = without_held c w.device.held };
         }
-    ends_is Rx = refl
-    ends_is Tx = refl
-    ends_is Event = refl
+    ends_is queue = search arith
 
     pub tied_returned : AreTied (record p { device = (answer_to (Return c len) d).1 }) (after_device (Return c len) w)
     tied_returned =

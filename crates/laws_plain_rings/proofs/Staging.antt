@@ -127,14 +127,10 @@ module _ (p : PartsState) (w : Ends) (tied : AreTied p w) (queue : Queue) (page 
 
   ends_is : (r : Queue) → after_driver (Stage r page) w ≡ ends_form r (pages_at r w.driver.staged ++ page ∷ []) (queue_of r w.lists)
       w.driver.entries w.device.entries w.device.held w
-  ends_is Rx = refl
-  ends_is Tx = refl
-  ends_is Event = refl
+  ends_is queue = search arith
 
   same_lists : (r : Queue) → with_queue r (queue_of r w.lists) w.lists ≡ w.lists
-  same_lists Rx = refl
-  same_lists Tx = refl
-  same_lists Event = refl
+  same_lists queue = search arith
 
   pub tied_staged : AreTied (staged_parts queue page p) (after_driver (Stage queue page) w)
   tied_staged =

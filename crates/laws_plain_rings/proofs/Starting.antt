@@ -1,9 +1,9 @@
 -- Both ends before the first call.
-use Rattle.std.proofs.Common.{true≢false, inl, inr, ◌⊎◌, ◌≡◌, ℕ, zero, suc, ◌+◌, ◌-◌, ◌*◌, ◌%◌, ◌^◌, ◌<◌, ◌≤◌, Bool, true, false, cond}
+use Rattle.std.proofs.Common.{◌⊎◌, ◌≡◌, ℕ, zero, suc, ◌+◌, ◌-◌, ◌*◌, ◌%◌, ◌^◌, ◌<◌, ◌≤◌, Bool, true, false, cond}
 use Rattle.std.proofs.Common.{List, [], ◌∷◌, length, Option, None, Some, refl, sym, ap, ◌∙◌, subst, arith}
 use Rattle.std.specs.{List.range_with_len, Prelude.◌==◌, Prelude.◌&&◌, Prelude.is_some, Prelude.nat_le}
 use Rattle.std.proofs.lemmas.{Bool.Decides.nat_tests, List.length-replicate, List.nil_from_length}
-use Rattle.std.proofs.lemmas.List.FromFn.{length-range_with_len}
+use Rattle.std.proofs.lemmas.{Grind.common_steps, List.FromFn.length-range_with_len}
 use Rattle.byteorder.specs.Endian.{little_number}
 use Rattle.vs_guest_mem.specs.Memory.{Memory, after_write, bytes_at}
 use Rattle.vs_layout.specs.{Layout.queue_areas_of, declared.place.Areas.Areas, declared.placement.QueueAreas.QueueAreas}
@@ -12,13 +12,13 @@ use Rattle.vs_ring_port.specs.declared.queue.Queue.TheVariants.{Tx, Event}
 use Rattle.vs_ring_list.specs.Ends.{empty_ends}
 use Rattle.vs_ring_plain.specs.Device.{areas_at, cleared_used, new_device}
 use Rattle.vs_plain_driver.specs.Queue.{cleared_avail}
-use Rattle.laws_plain_rings.specs.Parts.{PartsState, driver_at, new_parts, new_queue, pages_behind, pages_start, cleared}
+use Rattle.laws_plain_rings.specs.Parts.{PartsState, driver_at, new_parts, new_queue, pages_start, cleared}
 use Rattle.laws_plain_rings.specs.{Queue.IsQueueTied, Queue.times, Shown.AvailEvent, Shown.AvailFlags, Shown.Shown, Shown.UsedEvent}
 use Rattle.laws_plain_rings.specs.{Shown.UsedFlags, Shown.Word, Shown.shown, Tie.AreTied, Tie.IsAreaLaid, Tie.IsLaid, Tie.IsTiedAt}
 use Rattle.laws_plain_rings.specs.{Tie.IsTiedTo, Tie.start_of, Exposed.first_ends}
 use Rattle.laws_plain_rings.proofs.{Modulo.mod_small, Spots.AvailIdx}
 use Rattle.laws_plain_rings.proofs.Spots.{Differs, DiffersAll, IsSpot, Spot, Untouched, UsedIdx, WordOf, laid_same, own, spot_at, spot_len}
-use Rattle.laws_plain_rings.proofs.{Spots.Wrote, Spots.wrote, Spots.wrote_then, Spots.read_back, Queues.of_each, Queues.of_pairs}
+use Rattle.laws_plain_rings.proofs.{Spots.Wrote, Spots.wrote, Spots.wrote_then, Spots.read_back, Queues.of_each}
 
 -- the numbers below n, each once
 no_less : (j a k : ℕ) → j < a → times j (range_with_len a k) ≡ 0
@@ -99,10 +99,7 @@ stays v w u flags same event clear = record {
 }
 
 all_words : (n : ℕ) (s : Shown) → IsAvailClear n s → IsUsedClear n s → (w : Word) → s.word n w ≡ 0
-all_words n s avail used AvailFlags = avail.flags
-all_words n s avail used UsedEvent = avail.event
-all_words n s avail used UsedFlags = used.flags
-all_words n s avail used AvailEvent = used.event
+all_words n s avail used w = grind (arith, common_steps, avail.flags, avail.event, used.flags, used.event)
 
 module _ {n : ℕ} {areas : Queue → Areas} {at : Queue → ℕ} {m : Memory} (laid : IsLaid n areas at m) (still : m.changes ≡ [])
     (q : Queue) where
@@ -212,9 +209,7 @@ module _ (m : Memory) (base n at : ℕ) (indirect : Bool) (nonzero : 0 < n) (lim
   below_top = (pages_there m all.event.end n at pages).1
 
   each_laid : (q : Queue) → IsAreaLaid n (areas q)
-  each_laid Rx = record { avail = omega arith; used = omega arith; end = omega arith }
-  each_laid Tx = record { avail = omega arith; used = omega arith; end = omega arith }
-  each_laid Event = record { avail = omega arith; used = omega arith; end = omega arith }
+  each_laid q = grind (arith, common_steps)
 
   laid : IsLaid n areas start m
   laid = record {
@@ -231,35 +226,25 @@ module _ (m : Memory) (base n at : ℕ) (indirect : Bool) (nonzero : 0 < n) (lim
   }
     where
       low_each : (q : Queue) → m.base ≤ (areas q).desc
-      low_each Rx = omega (arith, from)
-      low_each Tx = omega (arith, from)
-      low_each Event = omega (arith, from)
+      low_each q = grind (arith, common_steps)
 
       ends : (q : Queue) → (areas q).end ≤ at
-      ends Rx = omega (arith, behind_all)
-      ends Tx = omega (arith, behind_all)
-      ends Event = behind_all
+      ends q = grind (arith, common_steps, behind_all)
 
       starts : (q : Queue) → at ≤ start q
-      starts Rx = omega arith
-      starts Tx = omega arith
-      starts Event = omega arith
+      starts q = grind (arith, common_steps)
 
       behind : (q r : Queue) → (areas q).end ≤ start r
       behind q r = omega (arith, ends q, starts r)
 
       high_each : (q : Queue) → start q + 4096 * n ≤ m.base + length m.bytes
-      high_each Rx = omega (arith, below_top)
-      high_each Tx = omega (arith, below_top)
-      high_each Event = omega (arith, below_top)
+      high_each q = grind (arith, common_steps, below_top)
 
       apart_areas : (q r : Queue) → same_queue q r ≡ false → ((areas q).end ≤ (areas r).desc) ⊎ ((areas r).end ≤ (areas q).desc)
-      apart_areas = of_pairs (λ q r. ((areas q).end ≤ (areas r).desc) ⊎ ((areas r).end ≤ (areas q).desc)) (inl (omega arith))
-          (inl (omega arith)) (inr (omega arith)) (inl (omega arith)) (inr (omega arith)) (inr (omega arith))
+      apart_areas q r other = grind (arith, common_steps)
 
       apart_pages : (q r : Queue) → same_queue q r ≡ false → (start q + 4096 * n ≤ start r) ⊎ (start r + 4096 * n ≤ start q)
-      apart_pages = of_pairs (λ q r. (start q + 4096 * n ≤ start r) ⊎ (start r + 4096 * n ≤ start q)) (inl (omega arith))
-          (inl (omega arith)) (inr (omega arith)) (inl (omega arith)) (inr (omega arith)) (inr (omega arith))
+      apart_pages q r other = grind (arith, common_steps)
 
   abbrev after_all : Memory
   after_all = cleared all n m
@@ -285,9 +270,7 @@ module _ (m : Memory) (base n at : ℕ) (indirect : Bool) (nonzero : 0 < n) (lim
       }
     where
       none : (q : Queue) → same_queue Rx q ≡ false → same_queue Tx q ≡ false → same_queue Event q ≡ false → ⊥
-      none Rx r t e = true≢false r
-      none Tx r t e = true≢false t
-      none Event r t e = true≢false e
+      none q r t e = grind (arith, common_steps)
 
   abbrev made : PartsState
   made = record {
@@ -299,18 +282,10 @@ module _ (m : Memory) (base n at : ℕ) (indirect : Bool) (nonzero : 0 < n) (lim
   }
 
   made_is : new_parts m base n indirect 3 ≡ made
-  made_is = ap (λ (o : Option ℕ). let p : PartsState = record {
-    device = new_device after_all n all indirect;
-    rx = new_queue n o;
-    tx = new_queue n (pages_behind o (4096 * n));
-    event = new_queue n (pages_behind o (2 * (4096 * n)));
-    cid = 3;
-  } in p) pages
+  made_is = rw pages refl
 
   same_start : (q : Queue) → start_of made q ≡ start q
-  same_start Rx = refl
-  same_start Tx = refl
-  same_start Event = refl
+  same_start queue = search arith
 
   made_tied : AreTied made (empty_ends n)
   made_tied = record {
@@ -326,14 +301,10 @@ module _ (m : Memory) (base n at : ℕ) (indirect : Bool) (nonzero : 0 < n) (lim
   }
     where
       there : (q : Queue) → (driver_at q made).pages_at ≡ Some (start_of made q)
-      there Rx = refl
-      there Tx = refl
-      there Event = refl
+      there queue = search arith
 
       sizes : (q : Queue) → (driver_at q made).n ≡ n
-      sizes Rx = refl
-      sizes Tx = refl
-      sizes Event = refl
+      sizes queue = search arith
 
       queues : (q : Queue) → IsTiedAt made (empty_ends n) q
       queues Rx = ([], [], empty_tie Rx n at (shown all.rx at after_all) nonzero (clear.avail Rx) (clear.used Rx))

@@ -1,7 +1,7 @@
 -- The next chain is taken, or none.
 use Rattle.std.proofs.Common.{◌≡◌, ℕ, ◌+◌, ◌*◌, ◌%◌, ◌^◌, ◌<◌, ◌≤◌, Bool, true, false, cond, ◌||◌, List, [], ◌∷◌, length, refl, sym, ap}
 use Rattle.std.proofs.Common.{Some, ap₂, ◌∙◌, subst, arith}
-use Rattle.std.proofs.lemmas.Bool.Decides.{nat_tests}
+use Rattle.std.proofs.lemmas.{Bool.Decides.nat_tests, Grind.common_steps}
 use Rattle.std.specs.Prelude.{nat_le, nat_lt}
 use Rattle.vs_guest_mem.specs.Memory.{Memory, after_access, is_within}
 use Rattle.vs_layout.specs.declared.entry.Desc.{Desc}
@@ -31,9 +31,7 @@ chosen b x y off = rw off refl
 -- the descriptor of a page breaks no rule
 rules : (q : Queue) (id at len : ℕ) → (has (desc_for q at len) 4 ≡ false) × (has (desc_for q at len) 1 ≡ false)
     × ((wrong_way q id (desc_for q at len)).0 ≡ false)
-rules Rx id at len = (refl, refl, refl)
-rules Tx id at len = (refl, refl, refl)
-rules Event id at len = (refl, refl, refl)
+rules q id at len = search arith
 
 long : (q : Queue) (at : ℕ) (page : List ℕ) → (q ≡ Tx → 44 ≤ length page) → (too_small q (total_len (piece_of (desc_for q at (length
     page)) ∷ []))).0 ≡ false
@@ -43,9 +41,7 @@ long Event at page header = refl
 
 inside : (q : Queue) (base size at len : ℕ) → base ≤ at → at + 4096 ≤ base + size → len ≤ 4096
     → let d = desc_for q at len in is_within base size d.addr d.len ≡ true
-inside Rx base size at len from to few = grind (arith, nat_tests, from, to)
-inside Tx base size at len from to few = grind (arith, nat_tests, from, to, few)
-inside Event base size at len from to few = grind (arith, nat_tests, from, to)
+inside q base size at len from to few = grind (arith, nat_tests, common_steps)
 
 -- the chain of a page, and its one piece
 chain_is : (q : Queue) (place at : ℕ) (page : List ℕ) → chain_at q place (piece_of (desc_for q at (length page)) ∷ [])
@@ -64,21 +60,15 @@ piece_is Event place at page = refl
 fits_chain : (q : Queue) (place at : ℕ) (page : List ℕ) → length page ≤ 4096
     → let c = chain_at q place (piece_of (desc_for q at (length page)) ∷ []) in
     (c.readable + c.writable ≤ 4096) × (c.readable ≤ length (to_read q page)) × (length (to_read q page) ≤ 4096)
-fits_chain Rx place at page fits = (omega arith, omega arith, omega arith)
-fits_chain Tx place at page fits = (omega (arith, fits), omega arith, fits)
-fits_chain Event place at page fits = (omega arith, omega arith, omega arith)
+fits_chain q place at page fits = grind (arith, common_steps)
 
 taken_whole : (q : Queue) (place : ℕ) (page : List ℕ) → (q ≡ Tx → HoldsPacket page)
     → IsTakenWhole q (next_at q place (Some page)) (Some page)
-taken_whole Rx place page holds = tt
-taken_whole Tx place page holds = holds refl
-taken_whole Event place page holds = tt
+taken_whole q place page holds = search (arith, holds)
 
 read_bytes : (q : Queue) (s : Shown) (id : ℕ) (page : List ℕ) → s.page id (length page) ≡ page → s.page id 0 ≡ []
     → s.page id (length (to_read q page)) ≡ to_read q page
-read_bytes Rx s id page bytes none = none
-read_bytes Tx s id page bytes none = bytes
-read_bytes Event s id page bytes none = none
+read_bytes q s id page bytes none = grind (arith, common_steps)
 
 module _ (p : PartsState) (w : Ends) (tied : AreTied p w) (queue : Queue) where
   abbrev d : DeviceState
@@ -109,8 +99,7 @@ module _ (p : PartsState) (w : Ends) (tied : AreTied p w) (queue : Queue) where
       ∙ or_false (nat_le n (length (heads_of queue d.held))) ∙ test
     where
       or_false : (x : Bool) → (x || nat_lt 0 0) ≡ x
-      or_false true = refl
-      or_false false = refl
+      or_false x = grind (arith, common_steps)
 
   -- none was given
   module _ (none : l.given ≡ []) where

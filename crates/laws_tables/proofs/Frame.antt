@@ -2,19 +2,17 @@
 use Rattle.std.proofs.Common.{◌≡◌, ℕ, ◌≤◌, Bool, true, false, if◌then◌else◌, Option, List, [], ◌∷◌, refl, sym, ap, ◌∙◌, subst, arith}
 use Rattle.std.proofs.lemmas.Grind.{common_steps}
 use Rattle.vs_conn.specs.End.{ConnectionEnd}
-use Rattle.vs_flow.specs.declared.flow.Flow.{Flow}
-use Rattle.laws_history.specs.{History.History, History.Put, History.Got, History.Side, History.Asker, History.puts, Packets.is_request}
-use Rattle.laws_history.specs.declared.packet.Packet.{Packet}
-use Rattle.vs_page.specs.{Log.Log, Log.Role, Log.and_then, Log.flow_put, Log.flow_got, Log.history_of, Log.side_of, Frame.is_about}
+use Rattle.vs_flow.specs.{declared.flow.Flow.Flow, Flow.same_flow}
+use Rattle.laws_history.specs.History.{History, Put, Got, Side, Asker, puts}
+use Rattle.laws_history.specs.{Packets.is_request, declared.packet.Packet.Packet}
+use Rattle.vs_page.specs.Log.{Log, Role, and_then, flow_put, flow_got, history_of, side_of}
 use Rattle.vs_page.specs.Open.{Phase, cid_of, is_clean_end, is_dropped, kind_got, kind_put, left_kind, open_kind, phase_heard, phase_of}
 use Rattle.vs_page.specs.declared.log.LogEntry.TheVariants.{PutPacket, GotPacket}
-use Rattle.vs_page.specs.declared.log.LogEntry.{LogEntry}
+use Rattle.vs_page.{specs.Frame.is_about, specs.declared.log.LogEntry.LogEntry, proofs.Flows.same_self, proofs.Flows.same_is}
 use Rattle.laws_tables.specs.Ends.{Ends, FlowEnd, ends_of, is_among, replied}
-use Rattle.vs_replies.specs.declared.Reply.{Reply}
-use Rattle.vs_flow.specs.Flow.{same_flow}
 use Rattle.laws_tables.specs.Heard.{heard_of, hears, is_awaiting, own_port}
 use Rattle.laws_tables.specs.Matches.{IsKept, IsLeftOn, IsUnused, MatchesFlows, MatchesOn}
-use Rattle.vs_page.proofs.Flows.{same_self, same_is}
+use Rattle.vs_replies.specs.declared.Reply.{Reply}
 
 pub same_of : (f g : Flow) → g ≡ f → same_flow f g ≡ true
 same_of f g is = rw is (same_self f)

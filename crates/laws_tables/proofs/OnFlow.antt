@@ -3,12 +3,10 @@ use Rattle.std.proofs.Common.{rules, ◌≡◌, ℕ, Bool, true, false, Option, 
 use Rattle.std.proofs.lemmas.Grind.{common_steps}
 use Rattle.vs_conn.specs.{End.ConnectionEnd, End.asked, Follows.Follows}
 use Rattle.vs_header.specs.{Kind.kind_number, declared.Kind.Kind}
-use Rattle.laws_history.specs.{History.History}
-use Rattle.laws_history.specs.History.{Entry, Side, Asker, gots, puts}
+use Rattle.laws_history.specs.History.{History, Entry, Side, Asker, gots, puts}
 use Rattle.vs_limits.specs.declared.TheConstants.{BUF_ALLOC}
 use Rattle.vs_page.specs.Log.{Role, Device}
-use Rattle.laws_tables.specs.{Ends.is_new, Heard.is_awaiting, Heard.is_fresh, Matches.IsAsking}
-use Rattle.laws_tables.specs.Matches.{IsLeftOn}
+use Rattle.laws_tables.specs.{Ends.is_new, Heard.is_awaiting, Heard.is_fresh, Matches.IsAsking, Matches.IsLeftOn}
 
 pub follows_old : (side : Side) (h : History) (e : ConnectionEnd) → Follows side (puts h) (gots h) e → is_new e ≡ false
 follows_old = search rules

@@ -2,29 +2,28 @@
 use Rattle.std.proofs.Common.{rules, ◌≡◌, ℕ, ◌==◌, Bool, true, false, ◌&&◌, not, if◌then◌else◌, is_some, List, [], ◌∷◌, ◌++◌, Option, Some}
 use Rattle.std.proofs.Common.{refl, sym, ap, ◌∙◌, subst, arith}
 use Rattle.std.proofs.lemmas.{Grind.common_steps, Bool.Decides.nat_tests}
-use Rattle.laws_tables.proofs.{Frame.own_or_other, Keeps.asker_peer, Keeps.kind_by}
-use Rattle.vs_conn.specs.{End.ConnectionEnd, End.is_of, End.is_refused, End.paid_of, End.verdict_of, Follows.Follows}
-use Rattle.vs_conn.specs.declared.end.Owed.{Owed}
-use Rattle.vs_conn.proofs.Getting.{get_taken}
+use Rattle.laws_tables.specs.Both.{Asks, Both, Decides, Happening, IsSound, MakesReset, MayHappen, MayRun, Opens, Pays, PutsEvent, Replies}
+use Rattle.laws_tables.specs.Both.{Seat, Sends, Step, Takes, TakesEvent, TakesReset, after_packet, answered, decided, happens, Forgets, run}
+use Rattle.laws_tables.specs.Heard.{IsInOrder, heard_of, hears, is_fresh}
+use Rattle.laws_tables.specs.Steps.{HasEnd, is_kept, left, owed_on, paid, payload_on, reply_on, request_on, with_clean, with_end}
+use Rattle.laws_tables.proofs.Entries.{added_other, replaced_other, without_other}
+use Rattle.laws_tables.proofs.Both.{next_is_fair, run_keeps, start_sound, step_keeps}
+use Rattle.laws_tables.proofs.Fair.{fair_now, fair_order, got_fair, got_goes_on, got_one, heard_less, heard_puts, own_got_fair}
+use Rattle.laws_tables.specs.{Ends.Ends, Ends.ends_of, Matches.MatchesFlows, Both.start}
+use Rattle.laws_tables.proofs.{Frame.own_or_other, Frame.same_of, Keeps.asker_peer, Keeps.kind_by, Steps.cid_heard, Tables.only_end}
+use Rattle.vs_conn.specs.End.{ConnectionEnd, is_of, is_refused, paid_of, verdict_of}
+use Rattle.vs_conn.{specs.Follows.Follows, specs.declared.end.Owed.Owed, proofs.Getting.get_taken}
 use Rattle.vs_flow.specs.{Flow.same_flow, declared.flow.Flow.Flow}
 use Rattle.vs_limits.specs.declared.TheConstants.{HOST_CID}
 use Rattle.vs_header.specs.{Kind.kind_number, declared.Header.Header}
-use Rattle.laws_history.specs.{Again.present, Packets.asked_kind, Packets.has, Packets.is_clean_rst, Packets.is_request, Packets.is_rst}
+use Rattle.laws_history.specs.Packets.{asked_kind, has, is_clean_rst, is_request, is_rst}
 use Rattle.laws_history.specs.History.{Got, History, Put, gots, peer, puts}
-use Rattle.laws_history.specs.declared.packet.Packet.{Packet}
-use Rattle.vs_page.specs.{Fair.IsFairOn, declared.log.LogEntry.TheVariants.GotPacket, declared.log.LogEntry.TheVariants.PutPacket}
-use Rattle.vs_page.specs.Log.{Driver, Device, IsNextPacket, Log, Role, and_then, flow_got, flow_put, history_of, side_of, whole_of}
+use Rattle.laws_history.specs.{Again.present, declared.packet.Packet.Packet}
 use Rattle.vs_page.specs.Open.{Phase, cid_of, is_clean_end, is_dropped, is_left_open, left_kind, open_kind, phase_got, phase_heard}
-use Rattle.vs_page.specs.Open.{phase_of, phase_put, phase_reset}
+use Rattle.vs_page.specs.declared.log.LogEntry.TheVariants.{GotPacket, PutPacket}
+use Rattle.vs_page.specs.Log.{Driver, Device, IsNextPacket, Log, Role, and_then, flow_got, flow_put, history_of, side_of, whole_of}
+use Rattle.vs_page.specs.{Fair.IsFairOn, Open.phase_of, Open.phase_put, Open.phase_reset}
 use Rattle.vs_page.proofs.{Entries.got_on, Entries.on_flow, Entries.present_is, Flows.same_self}
-use Rattle.laws_tables.specs.{Ends.Ends, Ends.ends_of, Heard.IsInOrder, Heard.heard_of, Heard.hears, Heard.is_fresh, Matches.MatchesFlows}
-use Rattle.laws_tables.specs.Both.{Asks, Both, Decides, Happening, IsSound, MakesReset, MayHappen, MayRun, Opens, Pays, PutsEvent, Replies}
-use Rattle.laws_tables.specs.Both.{Seat, Sends, Step, Takes, TakesEvent, TakesReset, after_packet, answered, decided, happens, Forgets, run}
-use Rattle.laws_tables.specs.{Both.start, Steps.HasEnd, Steps.is_kept, Steps.left, Steps.owed_on, Steps.paid, Steps.payload_on}
-use Rattle.laws_tables.specs.Steps.{reply_on, request_on, with_clean, with_end}
-use Rattle.laws_tables.proofs.{Entries.added_other, Entries.replaced_other, Entries.without_other, Frame.same_of, Steps.cid_heard}
-use Rattle.laws_tables.proofs.{Both.next_is_fair, Both.run_keeps, Both.start_sound, Both.step_keeps, Tables.only_end, Fair.fair_now}
-use Rattle.laws_tables.proofs.Fair.{fair_order, got_fair, got_goes_on, got_one, heard_less, heard_puts, own_got_fair}
 use Rattle.vs_conn.specs.declared.end.Owed.TheVariants as owed
 
 -- The device drops a packet on a flow with this peer exactly where the guest's CID isn't this, or the peer isn't the host.
@@ -102,11 +101,7 @@ whole_put_other role f g p log is other =
     let not_own : same_flow g (flow_put role p) ≡ false = subst (λ x. same_flow g x ≡ false) (sym is) other in rw not_own refl
 
 puts_got : (role : Role) (g : Flow) (p : Packet) (log : Log) → puts (whole_of role g (GotPacket p ∷ log)) ≡ puts (whole_of role g log)
-puts_got role g p log = by (same_flow g (flow_got role p))
-  where
-    by : (b : Bool) → puts (if b then Got p ∷ whole_of role g log else whole_of role g log) ≡ puts (whole_of role g log)
-    by true = refl
-    by false = refl
+puts_got = grind (arith, common_steps)
 
 voiced_put : (f : Flow) (p : Packet) (part new : Ends) (log : Log) → flow_put Driver p ≡ f → Speaks f.peer part.cid p → new.cid ≡ part.cid
     → (is_rst p ≡ false → is_request p ≡ false → SpeakSince f.peer part.cid (puts (whole_of Driver f log)))
@@ -149,16 +144,8 @@ voiced_got f p part new log cid had others v = record {
 -- Where a REQUEST may come, nothing of the present connection was put, or it is over by a marked RST.
 fresh_speak : (peer cid : ℕ) (w : History) → is_fresh (present w) ≡ true → SpeakSince peer cid (puts w)
 fresh_speak peer cid [] fresh = tt
-fresh_speak peer cid (Put p ∷ w) fresh = by (is_request p) fresh
-  where
-    by : (b : Bool) → is_fresh (if b then Put p ∷ [] else Put p ∷ present w) ≡ true → SpeakSince peer cid (p ∷ puts w)
-    by true over plain = let both : false ≡ true = sym plain ∙ over in absurd cc
-    by false over plain = let both : false ≡ true = sym plain ∙ over in absurd cc
-fresh_speak peer cid (Got p ∷ w) fresh = by (is_request p) fresh
-  where
-    by : (b : Bool) → is_fresh (if b then Got p ∷ [] else Got p ∷ present w) ≡ true → SpeakSince peer cid (puts w)
-    by true over = absurd cc
-    by false over = absurd cc
+fresh_speak peer cid (Put p ∷ w) fresh = grind (arith, common_steps, fresh)
+fresh_speak peer cid (Got p ∷ w) fresh = grind (arith, common_steps, fresh)
 
 -- What steps do to the CID and to other flows.
 paid_other : (f g : Flow) (e : ConnectionEnd) (what : Owed) (part : Ends) → same_flow g f ≡ false
@@ -171,9 +158,7 @@ paid_cid = grind (arith, common_steps)
 
 taken_other : (f g : Flow) (now : ConnectionEnd) (part : Ends) (keeps b : Bool) → same_flow g f ≡ false
     → ends_of g (if b then with_clean keeps f (left f part) else with_end f now part).entries ≡ ends_of g part.entries
-taken_other f g now part true true other = without_other f g part.entries other
-taken_other f g now part false true other = without_other f g part.entries other
-taken_other f g now part keeps false other = replaced_other f g now part.entries other
+taken_other = grind (arith, without_other, replaced_other, common_steps)
 
 taken_cid : (f : Flow) (now : ConnectionEnd) (part : Ends) (keeps b : Bool)
     → (if b then with_clean keeps f (left f part) else with_end f now part).cid ≡ part.cid
@@ -181,14 +166,11 @@ taken_cid = grind (arith, common_steps)
 
 answered_other : (f g : Flow) (p : Packet) (answer : Bool) (part : Ends) (asks : Bool) → same_flow g f ≡ false
     → ends_of g (answered asks answer p f part).entries ≡ ends_of g part.entries
-answered_other f g p true part true other = added_other f g _ part.entries other
-answered_other f g p false part true other = refl
-answered_other f g p answer part false other = refl
+answered_other = grind (arith, added_other, common_steps)
 
 unknown_other : (f g : Flow) (p : Packet) (answer : Bool) (part : Ends) (rst : Bool) → same_flow g f ≡ false
     → ends_of g (if rst then part else answered (is_request p) answer p f part).entries ≡ ends_of g part.entries
-unknown_other f g p answer part true other = refl
-unknown_other f g p answer part false other = answered_other f g p answer part (is_request p) other
+unknown_other = grind (arith, answered_other, common_steps)
 
 packet_other : (ends : List ConnectionEnd) (f g : Flow) (p : Packet) (answer : Bool) (part : Ends) → same_flow g f ≡ false
     → ends_of g (after_packet Driver ends p f answer part).entries ≡ ends_of g part.entries

@@ -1,5 +1,4 @@
-use Rattle.laws_tables.specs.Both.{run, start}
-use Rattle.laws_tables.proofs.{Both.run_keeps, Both.start_sound, Quiet.quiet_on}
+use Rattle.laws_tables.{specs.Both.run, specs.Both.start, proofs.Both.run_keeps, proofs.Both.start_sound, proofs.Quiet.quiet_on}
 use Rattle.laws_tables.proofs.laws.law_of_kept_flows.Goals as goal
 
 pub returns-clause-quiet : goal.returns-clause-quiet
