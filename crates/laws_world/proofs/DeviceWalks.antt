@@ -86,8 +86,7 @@ returned_fair Rx (suc n) bytes log fair whole = (whole (omega arith)).1
 
 same_cid : (q : Queue) (page : List ℕ) (lists : Rings) → (after_return q page lists).cid ≡ lists.cid
 same_cid Rx page lists = refl
-same_cid Tx page lists = refl
-same_cid Event page lists = refl
+same_cid x page lists = refl
 
 -- One fault more, where a call failed.
 abbrev count : Bool → ℕ → ℕ
@@ -107,9 +106,7 @@ reads stream n h (read.Got k) is =
     let short = read_short n k (fails_now h) (stream_at stream h) is in
     let few = bytes_short k (stream_at stream h) in
     ((sym is, refl), omega (arith, short, few))
-reads stream n h read.Again is = ((sym is, refl), omega arith)
-reads stream n h read.End is = ((sym is, refl), omega arith)
-reads stream n h read.Failed is = ((sym is, refl), omega arith)
+reads stream n h x is = ((sym is, refl), omega arith)
 
 writes : (stream n : ℕ) (h : HostContents) (a : StreamWrite) → write_answer stream n h ≡ a → IsWritten stream n a h × TakesWithin n a
 writes stream n h (write.Took k) is = (sym is, write_short n k (fails_now h) (stream_at stream h) is)
@@ -227,8 +224,7 @@ module _ (base : Ends) (there : IsFairLog Driver base.driver.entries) (fit : Put
     where
       taken_cid : (queue : Queue) → (after_take queue s.lists).cid < 2 ^ 64
       taken_cid Rx = ties.cid
-      taken_cid Tx = ties.cid
-      taken_cid Event = ties.cid
+      taken_cid x = ties.cid
   one (Read chain place count) s n ties can =
       let bytes = take count (drop place (bytes_in chain s.log.held)) in (
         (

@@ -39,10 +39,8 @@ allowed (Reap queue) a old new h = h.1
 allowed LoadCid a old new h = h.1
 
 middle : (call : DriverCall) (a : DriverAnswer call) (v : Ends) (m : RingContents) → DriverAllows call a (driver_contents v) m → IsMiddle v m
-middle (Stage queue page) a v m h = moved _ _ _ _ _ _ v m h
 middle (Publish queue) a v m h = moved _ _ _ _ _ _ v m h.1
-middle (Reap queue) a v m h = moved _ _ _ _ _ _ v m h
-middle LoadCid a v m h = moved _ _ _ _ _ _ v m h
+middle x a v m h = moved _ _ _ _ _ _ v m h
 
 -- The end of a conversation from there, and what list rings expose then.
 record IsEnd {A : Type 0} (v : Ends) (r : A × (Rings × EndLog)) (x : A) (t : RingContents) : Type 0 where
