@@ -1,6 +1,6 @@
 -- What holds of each play.
-use Rattle.std.proofs.Common.{◌≡◌, ◌≢◌, ℕ, suc, ◌<◌, ◌^◌, ◌==◌, inl, inr, Bool, true, false, cond, List, [], ◌∷◌, ◌++◌, None, Some, Result, Ok, refl, sym, ap, subst}
-use Rattle.std.proofs.Common.{◌∙◌, map, arith}
+use Rattle.std.proofs.Common.{◌≡◌, ◌≢◌, ℕ, suc, ◌<◌, ◌^◌, ◌==◌, Bool, true, false, cond, List, [], ◌∷◌, ◌++◌, None, Some, Result, Ok, refl, sym, ap}
+use Rattle.std.proofs.Common.{subst, ◌∙◌, map, arith}
 use Rattle.std.proofs.lemmas.{Bool.Decides.nat_tests, List.Elements.All-head, List.Elements.All-tail}
 use Rattle.vs_flow.specs.{Connection.first_of, declared.flow.Flow.Flow}
 use Rattle.laws_history.specs.{History.puts, Packets.has, Packets.shuts_send}
@@ -20,7 +20,7 @@ use Rattle.laws_world.specs.{Sides.device_ends, Sides.driver_ends, Steps.Leads, 
 use Rattle.laws_driver_bytes.specs.Calls.{flow_accepted, flow_opened, sent_on}
 use Rattle.laws_world.specs.Names.{times_closed}
 use Rattle.laws_world.proofs.Names.{IsOver, closed_unknown}
-use Rattle.laws_world.proofs.NamesStay.{IsTold, accept_told, connect_told, stands_flow, told_flow, told_stands, unknown_stands}
+use Rattle.laws_world.proofs.NamesStay.{IsTold, accept_told, connect_told, still_over, still_told}
 use Rattle.vs_report.specs.GuestLines.{accept_text, connect_text, connection_text}
 use Rattle.laws_world.proofs.{Bytes.wrote_is_put, CallRests.opening_rests, GuestLines.possible_is, Opening.opening_well, Opening.run_goes}
 use Rattle.laws_world.proofs.{ResetTables.device_emptied, ScriptLines.script_leads, ScriptLines.script_rests, Sound.Goes, Sound.IsWell}
@@ -34,7 +34,8 @@ use Rattle.laws_play.proofs.Shutting.{run_shut}
 use Rattle.laws_proxy_bytes.specs.Counts.{counts_shown}
 use Rattle.laws_world.specs.Counts.{IsCounted}
 use Rattle.laws_world.proofs.Counting.{reached_counted}
-use Rattle.laws_play.proofs.PlayLines.{around_journal, cid_right, front_bounded, lines_of, lines_receive, lines_right, lines_send, rest_bounded, world_is}
+use Rattle.laws_play.proofs.PlayLines.{around_journal, cid_right, front_bounded, lines_of, lines_receive, lines_right, lines_send, rest_bounded}
+use Rattle.laws_play.proofs.PlayLines.{world_is}
 use Rattle.laws_play.proofs.Reached.{carries, holds_open, holds_rest, keeps_credit, log_is, many_device, many_guest, own_streams, queued}
 use Rattle.vs_script.proofs.Bounded.{all_bounded}
 use Rattle.vs_driver_parts.specs.declared.answers.Accepted.TheVariants as accepted
@@ -142,15 +143,11 @@ module _ (e : Event) (p : PlayWorld) (rest : is_at_rest p.world.rings.driver.sta
   still_named : All (λ x. x ≢ script.Close id) more → IsTold id next.world.driver → (text : List ℕ)
       → text ≡ connection_text id (flow_of id next.world.driver) → IsNamedIn (world_after (e ∷ more) p).world id text
   still_named apart told text is =
-      let x = told_stands next.world next_well id told in (
-        x.0,
-        is ∙ ap (connection_text id) (stands_flow next.world next_well id (Some x.0) x.1),
-        told_flow (world_after more next).world more_go.well id x.0 (more_go.named.stays id (Some x.0) (inr (lines_close id more next apart)) x.1),
-      )
+      let x = still_told next.world (world_after more next).world next_well more_go id (lines_close id more next apart) told in
+      (x.0, is ∙ ap (connection_text id) x.1, x.2)
 
   still_closed : IsOver id next.world.driver → flow_of id (world_after (e ∷ more) p).world.driver ≡ None
-  still_closed over = stands_flow (world_after more next).world more_go.well id None
-      (more_go.named.stays id None (inl refl) (unknown_stands next.world next_well id over.0 over.1))
+  still_closed over = still_over next.world (world_after more next).world next_well more_go id over
 
 -- The report, with other names for its numbers.
 says_so : (texts streams : List (List ℕ)) (g g' d d' b : ℕ) (c : Counters) → g ≡ g' → d ≡ d' → c.overrun ≡ 0 → b ≡ 0

@@ -8,23 +8,24 @@ use Rattle.vs_ring_port.specs.DriverCalls.{driver_answer}
 use Rattle.vs_flow.specs.{Table.next_entry, declared.flow.Flow.Flow}
 use Rattle.vs_flow.proofs.Entries.{find_none, found_passes}
 use Rattle.vs_conn.specs.End.{ConnectionEnd, asked, paid_of}
-use Rattle.vs_conn.specs.declared.end.Owed.TheVariants as owed
 use Rattle.vs_header.specs.declared.Kind.TheVariants.{Stream}
 use Rattle.vs_limits.specs.declared.TheConstants.{BUF_ALLOC}
-use Rattle.vs_driver_parts.specs.{Connections.connected, Connections.flow_of, Connections.next_flow, Connections.with_opened, Conversations.connect_of}
+use Rattle.vs_driver_parts.specs.{Connections.connected, Connections.flow_of, Connections.next_flow, Connections.with_opened}
+use Rattle.vs_driver_parts.specs.{Conversations.connect_of}
 use Rattle.vs_driver_parts.specs.State.{DriverEntry, DriverState, Listener, gone_known_as, is_known_as}
 use Rattle.vs_driver_parts.specs.Listening.{accept_of, after_accept, is_answered, listener_on, next_accepted, with_waiting, without_id}
 use Rattle.vs_driver_parts.specs.declared.answers.{Accepted.Accepted, ConnectError.ConnectError}
-use Rattle.vs_driver_parts.specs.declared.answers.Accepted.TheVariants as accepted
 use Rattle.vs_driver_parts.proofs.Ids.{HasId}
 use Rattle.laws_driver.proofs.{Calls.connect_keeps, Carrying.Fact}
 use Rattle.laws_driver_bytes.specs.Calls.{account_of}
-use Rattle.laws_world.specs.Names.{HasFlow}
+use Rattle.laws_world.specs.Names.{HasFlow, times_closed}
 use Rattle.laws_world.specs.{Sides.log_with_staged, World.World, World.first_cid}
 use Rattle.laws_world.proofs.Keeping.{Sees}
 use Rattle.laws_world.proofs.Listeners.{AllWait, IsOfPort, IsOther, accepted_other, ids_found, wait_found, wait_weaker}
-use Rattle.laws_world.proofs.Names.{Stands, WaitsApart, answered_seen, flow_opened, flow_seen, seen, shown}
-use Rattle.laws_world.proofs.{Carried.one_id, Sound.IsWell, Sound.rests_on}
+use Rattle.laws_world.proofs.Names.{IsOver, Stands, WaitsApart, answered_seen, flow_opened, flow_seen, seen, shown}
+use Rattle.laws_world.proofs.{Carried.one_id, Sound.Goes, Sound.IsWell, Sound.rests_on}
+use Rattle.vs_conn.specs.declared.end.Owed.TheVariants as owed
+use Rattle.vs_driver_parts.specs.declared.answers.Accepted.TheVariants as accepted
 
 -- The guest was told an id that was given: its connection is answered, and waits on no port.
 pub record IsTold (id : ℕ) (s : DriverState) : Type 0 where
@@ -36,7 +37,7 @@ module _ {fresh : Type 0} (w : World) (well : IsWell fresh w) (id : ℕ) where
   abbrev s : DriverState
   s = w.driver
 
-  pub told_stands : IsTold id s → (f : Flow) × Sees (Stands id (Some f)) s
+  told_stands : IsTold id s → (f : Flow) × Sees (Stands id (Some f)) s
   told_stands told =
       let x = answered_seen s.next_port id s well.driver.sound well.received.numbers told.answered in
       (
@@ -44,18 +45,18 @@ module _ {fresh : Type 0} (w : World) (well : IsWell fresh w) (id : ℕ) where
         record { given = told.given; next_is = well.received.numbers.given; ids = well.received.numbers.slots; is = x.1; waits = inr told.waits },
       )
 
-  pub unknown_stands : id < s.next_id → seen id s.table s.gone ≡ None → Sees (Stands id None) s
+  unknown_stands : id < s.next_id → seen id s.table s.gone ≡ None → Sees (Stands id None) s
   unknown_stands given is = record { given = given; next_is = well.received.numbers.given; ids = well.received.numbers.slots; is = is; waits = inl refl }
 
   -- The flow that the driver tells, and tells of no other id.
-  pub stands_flow : (o : Option Flow) → Sees (Stands id o) s → flow_of id s ≡ o
+  stands_flow : (o : Option Flow) → Sees (Stands id o) s → flow_of id s ≡ o
   stands_flow o x = flow_seen s.next_port id s well.driver.sound well.received.numbers ∙ ap (option_map (λ (y : Bool × Flow). y.1)) x.is ∙ by o
     where
       by : (o : Option Flow) → option_map (λ (y : Bool × Flow). y.1) (shown o) ≡ o
       by None = refl
       by (Some f) = refl
 
-  pub told_flow : (f : Flow) → Sees (Stands id (Some f)) s → HasFlow id f s
+  told_flow : (f : Flow) → Sees (Stands id (Some f)) s → HasFlow id f s
   told_flow f x =
       let a = account_of 1 well.opened w.journal in
       let log = log_with_staged w.rings.driver in
@@ -64,6 +65,17 @@ module _ {fresh : Type 0} (w : World) (well : IsWell fresh w) (id : ℕ) where
         flow,
         λ other is. let theirs = flow_opened a log s well.received other f is in one_id w well other id theirs.1 mine.1 (theirs.0 ∙ sym mine.0),
       )
+
+-- So it is in each world that this one leads to: where the id isn't closed, and where it was.
+module _ {fresh : Type 0} (w v : World) (well : IsWell fresh w) (goes : Goes fresh w v) (id : ℕ) where
+  pub still_told : times_closed id v.journal ≡ times_closed id w.journal → IsTold id w.driver
+      → (f : Flow) × (flow_of id w.driver ≡ Some f) × HasFlow id f v.driver
+  still_told same told =
+      let x = told_stands w well id told in
+      (x.0, stands_flow w well id (Some x.0) x.1, told_flow v goes.well id x.0 (goes.named.stays id (Some x.0) (inr same) x.1))
+
+  pub still_over : IsOver id w.driver → flow_of id v.driver ≡ None
+  still_over over = stands_flow v goes.well id None (goes.named.stays id None (inl refl) (unknown_stands w well id over.0 over.1))
 
 -- The connection that opened last is answered, where the guest asked for it.
 last_answered : (s : DriverState) (f : Flow) (end : ConnectionEnd) → s.next_id ≡ 1 + s.table.given → All (HasId 1) s.table.entries
