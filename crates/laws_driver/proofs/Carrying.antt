@@ -7,7 +7,7 @@ use Rattle.vs_page.specs.{Fair.IsFairLog, Held.IsWhole, Log.Driver, Log.Log, dec
 use Rattle.vs_page.specs.declared.log.LogEntry.TheVariants.{GotPacket, Mark, PutPacket}
 use Rattle.vs_replies.specs.declared.Reply.{Reply}
 use Rattle.vs_ring_port.specs.{EndLog.EndLog, EndLog.all_put, EndLog.log_published, EndLog.log_reaped, EndLog.log_staged}
-use Rattle.vs_ring_port.specs.declared.queue.Queue.{Queue, TheVariants.Event, TheVariants.Rx, TheVariants.Tx}
+use Rattle.vs_ring_port.specs.declared.queue.Queue.{Queue, TheVariants.Tx}
 use Rattle.laws_tables.specs.{Ends.Ends, Matches.Matches, Steps.owed_on, Steps.reply_on}
 use Rattle.vs_driver_parts.specs.{Conversations.after_paying, Playing.FitsPorts, Receiving.after_reset, Receiving.on_packet}
 use Rattle.vs_driver_parts.specs.State.{DriverEntry, DriverState}
@@ -49,15 +49,13 @@ module _ (first : ℕ) (fact : Fact) where
 
   pub published_other : (queue : Queue) → (queue ≡ Tx → ⊥) → (s : DriverState) (l : EndLog) → RestsWith first fact s l
       → RestsWith first fact s (log_published queue l)
-  published_other Rx other s l rest = rest
-  published_other Event other s l rest = rest
   published_other Tx other s l rest = absurd (other refl)
+  published_other x other s l rest = rest
 
   pub staged_other : (queue : Queue) (page : List ℕ) → (queue ≡ Tx → ⊥) → (s : DriverState) (l : EndLog) → RestsWith first fact s l
       → RestsWith first fact s (log_staged queue page l)
-  staged_other Rx page other s l rest = rest
-  staged_other Event page other s l rest = rest
   staged_other Tx page other s l rest = absurd (other refl)
+  staged_other x page other s l rest = rest
 
   pub reaped_same : (s : DriverState) (page : Option (List ℕ)) (l : EndLog) → RestsWith first fact s l
       → RestsWith first fact s (log_reaped Tx page l)

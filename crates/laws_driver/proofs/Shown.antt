@@ -2,8 +2,8 @@
 use Rattle.std.proofs.Common.{◌≡◌, ℕ, List, [], ◌∷◌, map, refl, sym, ap, ◌∙◌}
 use Rattle.vs_contents.specs.CallTree.{Done, Ask, Leads}
 use Rattle.vs_flow.specs.declared.flow.Flow.{Flow}
-use Rattle.vs_ring_port.specs.{Contents.RingContents, DriverCalls.DriverCall, DriverCalls.DriverAnswer, DriverCalls.Stage}
-use Rattle.vs_ring_port.specs.{DriverCalls.Publish, DriverCalls.Reap, DriverCalls.LoadCid, DriverCalls.DriverAllows, EndLog.EndLog}
+use Rattle.vs_ring_port.specs.{Contents.RingContents, DriverCalls.DriverCall, DriverCalls.DriverAnswer, DriverCalls.Stage, DriverCalls.Reap}
+use Rattle.vs_ring_port.specs.{DriverCalls.LoadCid, DriverCalls.DriverAllows, EndLog.EndLog}
 use Rattle.laws_tables.specs.Ends.{FlowEnd, flows_of, is_among}
 use Rattle.laws_tables.proofs.Tables.{driver_open}
 use Rattle.vs_driver_parts.specs.{State.DriverEntry, State.DriverState, Connections.table_shown, Conversations.DriverTree, Playing.Plays}
@@ -19,10 +19,9 @@ pub left_open : (first : ℕ) (s : DriverState) (l : EndLog) → AgreesWith firs
 left_open first s l agrees f = ap (is_among f) (same_flows s.table.entries) ∙ driver_open first (ends_of_state s) l.entries f agrees.matches.flows
 
 pub ring_allows : (call : DriverCall) (a : DriverAnswer call) (c d : RingContents) → RingAllows call a c d → DriverAllows call a c d
-ring_allows (Stage queue page) a c d allowed = allowed
-ring_allows (Publish queue) a c d allowed = allowed
 ring_allows (Reap queue) a c d allowed = allowed.1
 ring_allows LoadCid a c d allowed = allowed.1
+ring_allows x a c d allowed = allowed
 
 pub any_ring : {A : Type 0} (tree : DriverTree A) (c d : RingContents) (x : A) → Plays tree c x d → Leads DriverAllows tree c x d
 any_ring (Done y) c d x plays = plays
@@ -30,9 +29,7 @@ any_ring (Ask call next) c d x plays = (plays.0, plays.1, ring_allows call plays
 
 one_other : (call : DriverCall) (a : DriverAnswer call) (c d : RingContents) → RingAllows call a c d → d.other ≡ c.other
 one_other (Stage queue page) a c d allowed = allowed.other
-one_other (Publish queue) a c d allowed = allowed.1.other
-one_other (Reap queue) a c d allowed = allowed.1.other
-one_other LoadCid a c d allowed = allowed.1.other
+one_other x a c d allowed = allowed.1.other
 
 pub other_stays : {A : Type 0} (tree : DriverTree A) (c d : RingContents) (x : A) → Plays tree c x d → d.other ≡ c.other
 other_stays (Done y) c d x plays = ap (λ (r : RingContents). r.other) (sym plays.1)

@@ -59,13 +59,11 @@ module _ (first : ℕ) (fact : Fact) (steps : Carries first fact) where
 module _ (first : ℕ) where
   working_of : (queue : Queue) (s : DriverState) (c : RingContents) → Works queue first nothing s c → IsWorkingWith queue first s c
   working_of Tx s c ties = tells_weaker (IsTiedBy first nothing s) (IsTied first s) (λ l tie. tie.0) c ties
-  working_of Rx s c rests = honest_of first nothing s c rests
-  working_of Event s c rests = honest_of first nothing s c rests
+  working_of x s c rests = honest_of first nothing s c rests
 
   works_of : (queue : Queue) (s : DriverState) (c : RingContents) → IsWorkingWith queue first s c → Works queue first nothing s c
   works_of Tx s c ties = tells_weaker (IsTied first s) (IsTiedBy first nothing s) (λ l tie. (tie, tt)) c ties
-  works_of Rx s c honest = rests_of first s c honest
-  works_of Event s c honest = rests_of first s c honest
+  works_of x s c honest = rests_of first s c honest
 
   pub takes_keeps : (queue : Queue) (s : DriverState) (c : RingContents) → IsWorkingWith queue first s c
       → Keeps (IsWorkingWith queue first) (takes_page queue s) c

@@ -35,8 +35,7 @@ keeps_then P Q (Ask call go) f c keeps rest = λ a d allowed. keeps_then P Q (go
 -- a publication leaves what was seen
 after_stored : (n : ℕ) (queue : Queue) (k l : Known) → StopsAt queue k l → StopsAt queue k (after_stores n queue l)
 after_stored n Rx k l stops = record { loaded = stops.loaded; none_left = stops.none_left; all_told = stops.all_told }
-after_stored n Tx k l stops = record { loaded = stops.loaded; none_left = stops.none_left; all_told = stops.all_told }
-after_stored n Event k l stops = record { loaded = stops.loaded; none_left = stops.none_left; all_told = stops.all_told }
+after_stored n x k l stops = record { loaded = stops.loaded; none_left = stops.none_left; all_told = stops.all_told }
 
 stored_by : (queue : Queue) (a b c : Option Known) (R : Known → Known → Type 0)
     → ((l m : Known) → R l m → (n : ℕ) × (m ≡ after_stores n queue l))

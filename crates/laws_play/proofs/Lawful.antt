@@ -1,5 +1,5 @@
 -- What holds of each play.
-use Rattle.std.proofs.Common.{◌≡◌, ◌≢◌, ℕ, suc, ◌<◌, ◌^◌, ◌==◌, Bool, true, false, cond, List, [], ◌∷◌, ◌++◌, None, Some, Result, Ok, refl, sym, ap}
+use Rattle.std.proofs.Common.{◌≡◌, ◌≢◌, ℕ, suc, ◌<◌, ◌≤◌, ◌^◌, ◌==◌, Bool, true, false, cond, List, [], ◌∷◌, ◌++◌, None, Some, Result, Ok, refl, sym, ap}
 use Rattle.std.proofs.Common.{subst, ◌∙◌, map, arith}
 use Rattle.std.proofs.lemmas.{Bool.Decides.nat_tests, List.Elements.All-head, List.Elements.All-tail}
 use Rattle.vs_flow.specs.{Connection.first_of, declared.flow.Flow.Flow}
@@ -206,9 +206,10 @@ module _ (n : ℕ) where
       → IsNamedIn (world_of n (before ++ script.Connect port ∷ more)) id (event_played (script.Connect port) p).1
   connect_named before more port id bounded is apart =
       let p = world_after before (opened_play n) in
-      let below = (rest_bounded before (script.Connect port ∷ more) bounded).0 in
+      let below : port ≤ 4294967295 = (rest_bounded before (script.Connect port ∷ more) bounded).0 in
       let port_fits : port < 2 ^ 32 = omega (arith, below) in
-      named_after before more (script.Connect port) id bounded apart (λ well. connect_told p.world well (tx_at_rest p.world.rings.driver.staged (world_rests before)) port id port_fits is)
+      named_after before more (script.Connect port) id bounded apart
+      (λ well. connect_told p.world well (tx_at_rest p.world.rings.driver.staged (world_rests before)) port id port_fits is)
       (ap (λ (r : Result ℕ ConnectError). connect_text r (flow_opened r (event_played (script.Connect port) p).0.world.driver)) is)
 
   accept_named : (before more : List Event) (port id : ℕ) → AreBounded (before ++ script.Accept port ∷ more)

@@ -279,7 +279,8 @@ module _ (id : ℕ) (o : Option Flow) where
       → Is s.next_id s.table gone s.listeners
   gone_stands s gone then_ x = record { given = x.given; next_is = x.next_is; ids = x.ids; is = then_ x.is; waits = x.waits }
 
-  read_seen : (other n : ℕ) (y : Option (Bool × Flow)) (gone : List GoneConnection) → seen_in (gone_in id (all_gone_after_read other n gone)) y ≡ seen_in (gone_in id gone) y
+  read_seen : (other n : ℕ) (y : Option (Bool × Flow)) (gone : List GoneConnection)
+      → seen_in (gone_in id (all_gone_after_read other n gone)) y ≡ seen_in (gone_in id gone) y
   read_seen other n y [] = refl
   read_seen other n y (g ∷ gs) = by (g.id == other) (read_seen other n y gs)
     where
@@ -288,7 +289,8 @@ module _ (id : ℕ) (o : Option Flow) where
       here true h flow rest = ap (λ (f : Flow). Some (true, f)) flow
       here false h flow rest = rest
 
-      by : (b : Bool) → seen_in (gone_in id (all_gone_after_read other n gs)) y ≡ seen_in (gone_in id gs) y → let h : GoneConnection = cond b (record g { unread = drop n g.unread }) g in
+      by : (b : Bool) → seen_in (gone_in id (all_gone_after_read other n gs)) y ≡ seen_in (gone_in id gs) y
+          → let h : GoneConnection = cond b (record g { unread = drop n g.unread }) g in
           seen_in (cond (h.id == id) (Some h) (gone_in id (all_gone_after_read other n gs))) y ≡ seen_in (cond (g.id == id) (Some g) (gone_in id gs)) y
       by true rest = here (g.id == id) (record g { unread = drop n g.unread }) refl rest
       by false rest = here (g.id == id) g refl rest
@@ -429,7 +431,8 @@ module _ (port : ℕ) (id : ℕ) (s : DriverState) (sound : IsTable s.table) (nu
   pub flow_seen : flow_of id s ≡ option_map (λ (x : Bool × Flow). x.1) (seen id s.table s.gone)
   flow_seen = by (entry_known_as id s) (gone_known_as id s) ∙ sym (ap (option_map (λ (x : Bool × Flow). x.1)) seen_is)
     where
-      by : (y : Option DriverEntry) (g : Option GoneConnection) → elim y as (λ _. Option Flow) [ None ↦ option_map (λ (h : GoneConnection). h.flow) g | Some e ↦ Some e.flow ]
+      by : (y : Option DriverEntry) (g : Option GoneConnection)
+          → elim y as (λ _. Option Flow) [ None ↦ option_map (λ (h : GoneConnection). h.flow) g | Some e ↦ Some e.flow ]
           ≡ option_map (λ (x : Bool × Flow). x.1) (known_of y g)
       by (Some e) g = refl
       by None None = refl
@@ -498,7 +501,10 @@ module _ (a : Account) (log : Log) (s : DriverState) (x : AreReceived a log (slo
           let on = All-contains (ReceivedOn a log) s.gone g x.left found.0 in
           let passes = found.1 in
           let at : g.id ≡ id = grind (arith, nat_tests, passes) in
-          inr (flow_gone id s unknown g is ∙ ap (λ (f : Flow). Some f) (sym on.flow ∙ ap (λ (k : ℕ). (a.opened k).flow) at), subst (λ (k : ℕ). 1 ≤ (a.opened k).number) at on.some)
+          inr (
+            flow_gone id s unknown g is ∙ ap (λ (f : Flow). Some f) (sym on.flow ∙ ap (λ (k : ℕ). (a.opened k).flow) at),
+            subst (λ (k : ℕ). 1 ≤ (a.opened k).number) at on.some,
+          )
 
       by : (o : Option DriverEntry) → entry_known_as id s ≡ o
           → ((entry_known_as id s ≡ None) × (gone_known_as id s ≡ None)) ⊎ ((flow_of id s ≡ Some (a.opened id).flow) × (1 ≤ (a.opened id).number))
