@@ -98,8 +98,7 @@ counts false n = refl
 
 dials : (path : List ℕ) (h : HostContents) (a : Dialed) → dial_answer path h ≡ a → IsDialed path a h
 dials path h dialed.Failed is = tt
-dials path h dialed.Refused is = sym is
-dials path h (dialed.Stream id) is = sym is
+dials path h x is = sym is
 
 reads : (stream n : ℕ) (h : HostContents) (a : StreamRead) → read_answer stream n h ≡ a → IsReadOf stream n (a, bytes_with stream a h) h × (length (bytes_with stream a h) ≤ n)
 reads stream n h (read.Got k) is =
@@ -110,9 +109,8 @@ reads stream n h x is = ((sym is, refl), omega arith)
 
 writes : (stream n : ℕ) (h : HostContents) (a : StreamWrite) → write_answer stream n h ≡ a → IsWritten stream n a h × TakesWithin n a
 writes stream n h (write.Took k) is = (sym is, write_short n k (fails_now h) (stream_at stream h) is)
-writes stream n h write.Again is = (sym is, tt)
-writes stream n h write.Closed is = (sym is, tt)
 writes stream n h write.Failed is = (tt, tt)
+writes stream n h x is = (sym is, tt)
 
 module _ (base : Ends) (there : IsFairLog Driver base.driver.entries) (fit : PutsFit base.driver.entries) where
   abbrev ring : Around → RingContents

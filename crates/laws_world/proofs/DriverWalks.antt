@@ -132,9 +132,8 @@ module _ (device : EndLog) (there : IsFairLog Device device.entries) (fit : Puts
   )
     where
       staged : (queue : Queue) → (queue ≡ Tx → HoldsPacket page) → AllPacked (log_staged queue page s.1).staged.tx
-      staged Rx holds = ties.pages.1
-      staged Event holds = ties.pages.1
       staged Tx holds = one_more s.1.staged.tx page ties.pages.1 (holds refl)
+      staged x holds = ties.pages.1
   one (Publish queue) s ties can =
       let p = published queue (can refl s.1 refl) in (
         (

@@ -107,9 +107,8 @@ accept_fed (accepted.Stream id) h e = e
 accept_fed x h e = e
 
 dial_fed : (flow : Flow) (a : Dialed) (h : HostContents) → (after_dial flow a h).starved ≡ false → h.starved ≡ false
-dial_fed flow (dialed.Stream id) h e = e
-dial_fed flow dialed.Refused h e = e
 dial_fed flow dialed.Failed h e = fed_failed h e
+dial_fed flow x h e = e
 
 dial_answered : (path : List ℕ) (flow : Flow) (a : Dialed) (v : Ends) (h : HostContents) → IsDialed path a h → (after_dial flow a h).starved ≡ false
     → answer_around (Dial path flow) (beside v h) ≡ (a, beside v (after_dial flow a h))

@@ -128,9 +128,8 @@ reaps Event lists log device q = reaps_event lists.event.back lists log.entries 
 
 publishes : (queue : Queue) (lists : Rings) (log : EndLog) (device : Log) → AreQueued lists log.entries device
     → let r = (driver_answer (Publish queue) (lists, log)).1 in AreQueued r.0 r.1.entries device
-publishes Rx lists log device q = record { tx = q.tx; rx = q.rx; event = q.event; no_event = q.no_event }
 publishes Tx lists log device q = publishes_tx log.staged.tx lists log.entries device q
-publishes Event lists log device q = record { tx = q.tx; rx = q.rx; event = q.event; no_event = q.no_event }
+publishes x lists log device q = record { tx = q.tx; rx = q.rx; event = q.event; no_event = q.no_event }
 
 pub driver_keeps : (call : DriverCall) (lists : Rings) (log : EndLog) (device : Log) → AreQueued lists log.entries device
     → let r = (driver_answer call (lists, log)).1 in AreQueued r.0 r.1.entries device

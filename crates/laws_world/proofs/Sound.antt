@@ -256,8 +256,7 @@ module _ (fresh : Type 0) (w : World) (well : IsWell fresh w) where
 
   works_ties : (queue : Queue) (s : DriverState) (c : RingContents) → Works queue first_cid step_fact s c → DriverTies first_cid step_fact s c
   works_ties q.Tx s c works = works
-  works_ties q.Rx s c works = rests_tied first_cid step_fact s c works
-  works_ties q.Event s c works = rests_tied first_cid step_fact s c works
+  works_ties x s c works = rests_tied first_cid step_fact s c works
 
   takes_goes : (queue : Queue) → works_on queue w.rings.driver.staged ≡ true → Goes fresh w (driver_step (takes_page queue) w)
   takes_goes queue may = step_goes (takes_page queue)
