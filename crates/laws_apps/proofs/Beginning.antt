@@ -6,7 +6,7 @@ use Rattle.laws_history.specs.History.{Side, Asker, Answerer}
 use Rattle.vs_page.specs.{Fair.instance_from, Fair.payload_of, Log.Driver, Log.side_of}
 use Rattle.vs_ring_port.specs.Contents.{RingContents}
 use Rattle.vs_driver_parts.specs.{Conversations.new_of, Playing.Plays, State.DriverState}
-use Rattle.laws_driver.specs.Honest.{IsFresh}
+use Rattle.laws_driver.specs.Honest.{IsFresh, slots_of}
 use Rattle.laws_driver.proofs.{Calls.new_honest, Calls.new_keeps, Carrying.Fact, Keeping.keeps_end, Staging.Rests}
 use Rattle.laws_rest.proofs.Routes.{new_routed}
 use Rattle.laws_driver_bytes.specs.Received.{AreReceived, no_account}
@@ -19,7 +19,7 @@ none_put Asker k = refl
 none_put Answerer k = refl
 
 abbrev starts : ℕ → Fact
-starts id part slots log = AreReceived (no_account id) log slots × IsSent (no_account id).opened [] log
+starts id part s log = AreReceived (no_account id) log (slots_of s) × IsSent (no_account id).opened [] log
 
 pub new_accounted : (size port id : ℕ) (c d : RingContents) (s : DriverState) → port ≤ LAST_PORT → IsFresh c → Plays (new_of size port id) c s d
     → IsAccounted id [] s d

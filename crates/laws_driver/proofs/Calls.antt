@@ -280,14 +280,12 @@ module _ (size port id : ℕ) (port_fits : port ≤ LAST_PORT) where
   IsMade s c = (s ≡ record made { staged = s.staged }) × Tells Fresh c
 
   fresh_staged : (queue : Queue) → (queue ≡ Tx → ⊥) → (l : EndLog) → Fresh l → Fresh (log_staged queue [] l)
-  fresh_staged Rx other l fresh = fresh
-  fresh_staged Event other l fresh = fresh
   fresh_staged Tx other l fresh = absurd (other refl)
+  fresh_staged x other l fresh = fresh
 
   fresh_published : (queue : Queue) → (queue ≡ Tx → ⊥) → (l : EndLog) → Fresh l → Fresh (log_published queue l)
-  fresh_published Rx other l fresh = fresh
-  fresh_published Event other l fresh = fresh
   fresh_published Tx other l fresh = absurd (other refl)
+  fresh_published x other l fresh = fresh
 
   module _ (queue : Queue) (other : queue ≡ Tx → ⊥) where
     publish_made : (s : DriverState) (c : RingContents) → IsMade s c → Keeps IsMade (publish_of queue s) c

@@ -1,5 +1,5 @@
--- What a walk over the driver's conversations carries besides: a fact of the driver's connections, of its slots and of its log, with the
--- packets that are staged.
+-- What a walk over the driver's conversations carries besides: a fact of the driver, apart from pages of its own in flight, and of its log,
+-- with the packets that are staged.
 use Rattle.std.proofs.Common.{◌≡◌, ℕ, ◌<◌, ◌^◌, List, ◌∷◌, Option, Some, None, refl, sym, subst}
 use Rattle.vs_conn.specs.{End.owes_of, declared.end.Owed.Owed}
 use Rattle.laws_history.specs.declared.packet.Packet.{Packet}
@@ -7,23 +7,23 @@ use Rattle.vs_page.specs.{Fair.IsFairLog, Held.IsWhole, Log.Driver, Log.Log, dec
 use Rattle.vs_page.specs.declared.log.LogEntry.TheVariants.{GotPacket, Mark, PutPacket}
 use Rattle.vs_replies.specs.declared.Reply.{Reply}
 use Rattle.vs_ring_port.specs.{EndLog.EndLog, EndLog.all_put, EndLog.log_published, EndLog.log_reaped, EndLog.log_staged}
-use Rattle.vs_ring_port.specs.declared.queue.Queue.{Queue, TheVariants.Event, TheVariants.Rx, TheVariants.Tx}
+use Rattle.vs_ring_port.specs.declared.queue.Queue.{Queue, TheVariants.Tx}
 use Rattle.laws_tables.specs.{Ends.Ends, Matches.Matches, Steps.owed_on, Steps.reply_on}
-use Rattle.vs_driver_parts.specs.{Conversations.after_paying, Held.HeldSlots, Playing.FitsPorts, Receiving.after_reset, Receiving.on_packet}
+use Rattle.vs_driver_parts.specs.{Conversations.after_paying, Playing.FitsPorts, Receiving.after_reset, Receiving.on_packet}
 use Rattle.vs_driver_parts.specs.State.{DriverEntry, DriverState}
-use Rattle.laws_driver.specs.{Honest.IsFitState, Honest.ends_of_state, Honest.slots_of, Staged.IsTied}
+use Rattle.laws_driver.specs.{Honest.IsFitState, Honest.ends_of_state, Staged.IsTied}
 use Rattle.laws_driver.proofs.{Ringing.IsAtRest, Ringing.Puts, Ringing.publishes, Ringing.put_last, Ringing.stages, Ringing.tied}
 use Rattle.laws_driver.proofs.{Tabling.Stands}
 
 abbrev pub Fact : Type 1
-Fact = Ends → HeldSlots → Log → Type 0
+Fact = Ends → DriverState → Log → Type 0
 
 abbrev pub Holds : Fact → DriverState → Log → Type 0
-Holds fact s log = fact (ends_of_state s) (slots_of s) log
+Holds fact s log = fact (ends_of_state s) (record s { in_flight = 0; staged = 0 }) log
 
 -- Nothing is carried.
 abbrev pub nothing : Fact
-nothing part slots log = Unit {0}
+nothing part s log = Unit {0}
 
 -- It holds of the driver and its log, where no packet is staged, and where some may be.
 abbrev pub RestsWith : ℕ → Fact → DriverState → EndLog → Type 0
@@ -49,15 +49,13 @@ module _ (first : ℕ) (fact : Fact) where
 
   pub published_other : (queue : Queue) → (queue ≡ Tx → ⊥) → (s : DriverState) (l : EndLog) → RestsWith first fact s l
       → RestsWith first fact s (log_published queue l)
-  published_other Rx other s l rest = rest
-  published_other Event other s l rest = rest
   published_other Tx other s l rest = absurd (other refl)
+  published_other x other s l rest = rest
 
   pub staged_other : (queue : Queue) (page : List ℕ) → (queue ≡ Tx → ⊥) → (s : DriverState) (l : EndLog) → RestsWith first fact s l
       → RestsWith first fact s (log_staged queue page l)
-  staged_other Rx page other s l rest = rest
-  staged_other Event page other s l rest = rest
   staged_other Tx page other s l rest = absurd (other refl)
+  staged_other x page other s l rest = rest
 
   pub reaped_same : (s : DriverState) (page : Option (List ℕ)) (l : EndLog) → RestsWith first fact s l
       → RestsWith first fact s (log_reaped Tx page l)

@@ -6,7 +6,7 @@ use Rattle.laws_history.specs.{declared.packet.Packet.Packet, Packets.packet_byt
 use Rattle.vs_page.specs.{Fair.IsFairLog, Held.FitsWire, Held.packet_held, Log.Driver, Log.Log, declared.log.LogEntry.TheVariants.PutPacket}
 use Rattle.vs_ring_port.specs.{EndLog.EndLog, EndLog.all_put, EndLog.log_published, EndLog.log_staged, EndLog.with_packet, Lists.Rings}
 use Rattle.vs_ring_port.specs.DriverCalls.{CanPublish, CanStage, DriverAnswer, DriverCall, DriverMoves, HoldsPacket}
-use Rattle.vs_ring_port.specs.declared.queue.Queue.{Queue, TheVariants.Rx, TheVariants.Tx, TheVariants.Event}
+use Rattle.vs_ring_port.specs.declared.queue.Queue.{Queue, TheVariants.Tx}
 use Rattle.vs_ring_port.specs.Contents.{RingContents}
 use Rattle.laws_tables.specs.{Both.Step, Both.after, Matches.Matches}
 use Rattle.vs_driver_parts.specs.State.{DriverState}
@@ -61,9 +61,8 @@ moves call a L f R g c d made P Q then tells = λ honest l is. by c.log refl mad
         subst Q same (then before (tells (sym made.honest ∙ honest) before log) fair)
 
 pub can_publish_other : (queue : Queue) (c : RingContents) → (queue ≡ Tx → ⊥) → CanPublish queue c
-can_publish_other Rx c other = λ honest l is. tt
-can_publish_other Event c other = λ honest l is. tt
 can_publish_other Tx c other = absurd (other refl)
+can_publish_other x c other = λ honest l is. tt
 
 -- Staged packets may be published, and nothing is staged then.
 pub publishes : (first : ℕ) (s : DriverState) (l : EndLog) → IsTied first s l → IsAtRest first s (log_published Tx l)

@@ -125,7 +125,7 @@ accept_slots port s = by (next_accepted port s)
 
 -- send.
 pub send_receives : (first id : ℕ) (bytes : List ℕ) (a : Account)
-    → CarriesSend first id bytes (λ part slots log. AreReceived a log slots) (λ answer part slots log. AreReceived a log slots)
+    → CarriesSend first id bytes (λ part t log. AreReceived a log (slots_of t)) (λ answer part t log. AreReceived a log (slots_of t))
 send_receives first id bytes a = record {
   stopped = λ why s log x. x;
   unknown = λ s log none x. x;

@@ -9,11 +9,11 @@ use Rattle.laws_driver.proofs.{Polling.poll_keeps, Calls.connect_keeps, Calls.ne
 use Rattle.laws_driver.proofs.{Ringing.at_rest, Staging.Rests}
 use Rattle.laws_driver_bytes.proofs.{Connecting.connect_carries, Connecting.none_received, Polling.Further, Polling.poll_carries}
 use Rattle.laws_driver_bytes.proofs.Changing.{send_receives}
-use Rattle.laws_driver.specs.Honest.{IsFresh, IsHonestWith}
+use Rattle.laws_driver.specs.Honest.{IsFresh, IsHonestWith, slots_of}
 use Rattle.laws_driver_bytes.specs.Received.{Account, AreReceived, GoesOnWith, IsReceivedWith, no_account}
 
 abbrev pub received_by : Account → Fact
-received_by a part slots log = AreReceived a log slots
+received_by a part s log = AreReceived a log (slots_of s)
 
 pub further_from : (first : ℕ) (a : Account) (s : DriverState) (c : RingContents) → IsHonestWith first s c → IsReceivedWith a s c → Rests first (Further a) s c
 further_from first a s c honest account = λ on l is.

@@ -14,9 +14,7 @@ use Rattle.laws_driver_bytes.specs.Sent.{IsLater, TellsMore}
 
 one_honest : (call : DriverCall) (a : DriverAnswer call) (c d : RingContents) → RingAllows call a c d → d.honest ≡ c.honest
 one_honest (Stage queue page) a c d allowed = allowed.honest
-one_honest (Publish queue) a c d allowed = allowed.1.honest
-one_honest (Reap queue) a c d allowed = allowed.1.honest
-one_honest LoadCid a c d allowed = allowed.1.honest
+one_honest x a c d allowed = allowed.1.honest
 
 pub honest_stays : {A : Type 0} (tree : DriverTree A) (c d : RingContents) (x : A) → Plays tree c x d → d.honest ≡ c.honest
 honest_stays (Done y) c d x plays = ap (λ (r : RingContents). r.honest) (sym plays.1)

@@ -144,7 +144,7 @@ abbrev pub IsFurther : Account → HeldSlots → Log → Type 0
 IsFurther a slots log = (b : Account) × GoesOn a b × AreReceived b log slots
 
 abbrev pub Further : Account → Fact
-Further a part slots log = IsFurther a slots log
+Further a part s log = IsFurther a (slots_of s) log
 
 pub goes_then : (a b c : Account) → GoesOn a b → GoesOn b c → GoesOn a c
 goes_then a b c one two = record {

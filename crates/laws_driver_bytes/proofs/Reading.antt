@@ -26,9 +26,7 @@ use Rattle.vs_driver_parts.specs.declared.answers.Received.TheVariants as got
 
 none_given : (s : State) → (xs : List ℕ) → bytes_got (nothing_read s) xs ≡ []
 none_given state.Asked xs = refl
-none_given state.Answering xs = refl
-none_given state.Live xs = refl
-none_given state.Ended xs = refl
+none_given y xs = refl
 
 bytes_of : (n : ℕ) (unread : List ℕ) (none : Received) → ((xs : List ℕ) → bytes_got none xs ≡ []) → bytes_got (read_of n unread none) unread ≡ take n unread
 bytes_of n [] none nothing = nothing [] ∙ sym (take-nil n)

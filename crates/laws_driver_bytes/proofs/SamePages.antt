@@ -40,9 +40,7 @@ recv_stays id n s = by (entry_known_as id s)
 
 shut_stays : (st : State) (bits : ℕ) (e : DriverEntry) (s : DriverState) → SamePages s (shut_in st bits e s)
 shut_stays state.Asked bits e s = (refl, refl, refl)
-shut_stays state.Answering bits e s = (refl, refl, refl)
-shut_stays state.Live bits e s = (refl, refl, refl)
-shut_stays state.Ended bits e s = (refl, refl, refl)
+shut_stays x bits e s = (refl, refl, refl)
 
 pub shutdown_stays : (id bits : ℕ) (s : DriverState) → SamePages s (after_shutdown id bits s)
 shutdown_stays id bits s = by (entry_known_as id s)

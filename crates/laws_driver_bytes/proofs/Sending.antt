@@ -66,8 +66,7 @@ front_of (suc m) (x ∷ xs) = ap (λ (ys : List ℕ). x ∷ ys) (front_of m xs)
 
 stop_none : (bytes : List ℕ) (why : Stop) → took bytes (send_stopped why) ≡ []
 stop_none bytes stop.NotOpen = refl
-stop_none bytes stop.Reset = refl
-stop_none bytes stop.ShutDown = refl
+stop_none bytes x = refl
 
 module _ (first id : ℕ) (bytes : List ℕ) (s : DriverState) (log : Log) where
   -- Nothing happened so far.

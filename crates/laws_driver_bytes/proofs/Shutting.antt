@@ -4,16 +4,14 @@ use Rattle.vs_contents.specs.CallTree.{Ask, Done}
 use Rattle.vs_page.specs.{Fair.IsFairLog, Fair.payload_put, Log.Driver, Log.Log}
 use Rattle.vs_page.proofs.Shut.{shut_put}
 use Rattle.vs_ring_port.specs.{Contents.IsSound, Contents.RingContents, EndLog.EndLog}
-use Rattle.vs_ring_port.specs.DriverCalls.{DriverAnswer, DriverCall, LoadCid, Publish, Reap, Stage}
+use Rattle.vs_ring_port.specs.DriverCalls.{DriverAnswer, DriverCall, Stage}
 use Rattle.vs_driver_parts.specs.{Conversations.DriverTree, Playing.Plays, Playing.RingAllows}
 use Rattle.laws_driver_bytes.specs.Sent.{IsLater, StaysShut, TellsMore}
 use Rattle.laws_driver_bytes.proofs.Growing.{honest_stays, log_grows}
 
 one_sound : (call : DriverCall) (a : DriverAnswer call) (c d : RingContents) → RingAllows call a c d → IsSound Driver d
 one_sound (Stage queue page) a c d allowed = allowed.fair
-one_sound (Publish queue) a c d allowed = allowed.1.fair
-one_sound (Reap queue) a c d allowed = allowed.1.fair
-one_sound LoadCid a c d allowed = allowed.1.fair
+one_sound x a c d allowed = allowed.1.fair
 
 -- The log of an honest ring stays fair.
 pub sound_stays : {A : Type 0} (tree : DriverTree A) (c d : RingContents) (x : A) → IsSound Driver c → Plays tree c x d → IsSound Driver d

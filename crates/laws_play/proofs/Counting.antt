@@ -48,25 +48,11 @@ module _ (first : DeviceCounts) where
     where
       by : (host : outside.Host) → CountedBy (event_played (script.Around (outside.OfHost host)) p).0 calls
       by (outside.HostListen port) = is
-      by (outside.HostUnlisten port) = is
-      by (outside.HostWrite stream content) = is
-      by (outside.HostAllow stream n) = is
-      by (outside.HostEnd stream) = is
-      by (outside.HostClosed stream) = is
-      by (outside.HostFail n) = is
+      by x = is
 
   line_counts : (e : Event) (p : PlayWorld) (calls : List Made) → CountedBy p calls → CountedBy (event_played e p).0 (made_in e p calls)
-  line_counts (script.Connect port) p calls is = is
-  line_counts (script.Listen port) p calls is = is
-  line_counts (script.Unlisten port) p calls is = is
-  line_counts (script.Accept port) p calls is = is
-  line_counts (script.Send id content) p calls is = is
-  line_counts (script.Recv id len) p calls is = is
-  line_counts (script.Shutdown id bits) p calls is = is
-  line_counts (script.Close id) p calls is = is
-  line_counts (script.State id) p calls is = is
-  line_counts script.Poll p calls is = is
   line_counts (script.Around line) p calls is = outside_counts line p calls is
+  line_counts x p calls is = is
 
   pub lines_count : (es : List Event) (p : PlayWorld) (calls : List Made) → CountedBy p calls
       → CountedBy (world_after es p) (calls_of es p calls)
@@ -77,8 +63,7 @@ module _ (first : DeviceCounts) where
 written_same : (stream : ℕ) (bytes : List ℕ) (answer : HostWritten) (h : HostContents)
     → (after_host_write stream bytes answer h).to_fail ≡ h.to_fail
 written_same stream bytes written.Ok h = refl
-written_same stream bytes written.Ended h = refl
-written_same stream bytes written.NoStream h = refl
+written_same stream bytes x h = refl
 
 abbrev After : ℕ → Event → PlayWorld → Type 0
 After m e p = FailsWithin (cond (line_fails e) (m + 1) m) (event_played e p).0.world
@@ -96,21 +81,10 @@ host_within m (outside.HostFail n) p at =
     let longer = length-append p.world.host.to_fail (n ∷ []) in omega (arith, at, longer)
 
 line_within : (m : ℕ) (e : Event) (p : PlayWorld) → FailsWithin m p.world → After m e p
-line_within m (script.Connect port) p at = at
-line_within m (script.Listen port) p at = at
-line_within m (script.Unlisten port) p at = at
-line_within m (script.Accept port) p at = at
-line_within m (script.Send id content) p at = at
-line_within m (script.Recv id len) p at = at
-line_within m (script.Shutdown id bits) p at = at
-line_within m (script.Close id) p at = at
-line_within m (script.State id) p at = at
-line_within m script.Poll p at = at
 line_within m (script.Around outside.Turn) p at = turn_fails m p.moment p.world at
 line_within m (script.Around (outside.Reset cid)) p at = reset_fails m cid p.world at
-line_within m (script.Around (outside.Tick ms)) p at = at
-line_within m (script.Around outside.Client) p at = at
 line_within m (script.Around (outside.OfHost host)) p at = host_within m host p at
+line_within m x p at = at
 
 told : (b : Bool) (n m x : ℕ) → x ≤ n + cond b (m + 1) m → x ≤ cond b 1 0 + n + m
 told true n m x less = omega (arith, less)

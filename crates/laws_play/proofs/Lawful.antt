@@ -1,6 +1,6 @@
 -- What holds of each play.
-use Rattle.std.proofs.Common.{◌≡◌, ◌≢◌, ℕ, suc, ◌==◌, Bool, true, false, cond, List, [], ◌∷◌, ◌++◌, None, Some, Result, Ok, refl, sym, ap, subst}
-use Rattle.std.proofs.Common.{◌∙◌, map, arith}
+use Rattle.std.proofs.Common.{◌≡◌, ◌≢◌, ℕ, suc, ◌<◌, ◌≤◌, ◌^◌, ◌==◌, Bool, true, false, cond, List, [], ◌∷◌, ◌++◌, None, Some, Result, Ok, refl, sym, ap}
+use Rattle.std.proofs.Common.{subst, ◌∙◌, map, arith}
 use Rattle.std.proofs.lemmas.{Bool.Decides.nat_tests, List.Elements.All-head, List.Elements.All-tail}
 use Rattle.vs_flow.specs.{Connection.first_of, declared.flow.Flow.Flow}
 use Rattle.laws_history.specs.{History.puts, Packets.has, Packets.shuts_send}
@@ -19,11 +19,12 @@ use Rattle.laws_world.specs.{Events.is_at_rest, Events.is_guest_cid, Events.rese
 use Rattle.laws_world.specs.{Sides.device_ends, Sides.driver_ends, Steps.Leads, World.World, World.first_cid}
 use Rattle.laws_driver_bytes.specs.Calls.{flow_accepted, flow_opened, sent_on}
 use Rattle.laws_world.specs.Names.{times_closed}
-use Rattle.laws_world.proofs.ClosedStay.{WasClosed, close_closed, closed_flow, leads_closed}
-use Rattle.laws_world.proofs.NamesStay.{WasTold, accept_told, connect_told, leads_told, told_flow}
+use Rattle.laws_world.proofs.Names.{IsOver, closed_unknown}
+use Rattle.laws_world.proofs.NamesStay.{IsTold, accept_told, connect_told, still_over, still_told}
 use Rattle.vs_report.specs.GuestLines.{accept_text, connect_text, connection_text}
 use Rattle.laws_world.proofs.{Bytes.wrote_is_put, CallRests.opening_rests, GuestLines.possible_is, Opening.opening_well, Opening.run_goes}
 use Rattle.laws_world.proofs.{ResetTables.device_emptied, ScriptLines.script_leads, ScriptLines.script_rests, Sound.Goes, Sound.IsWell}
+use Rattle.laws_world.proofs.Sound.{tx_at_rest}
 use Rattle.laws_world.proofs.Carried.{sent_all, sent_stays, wrote_stays}
 use Rattle.vs_play.specs.{Answer.base_path, Answer.opened_play, Answer.texts_of, Answer.world_after, Lines.PlayWorld, Lines.event_played}
 use Rattle.laws_play.specs.Headline.{IsLawful, IsNamedIn, StaysShut, world_of}
@@ -33,7 +34,8 @@ use Rattle.laws_play.proofs.Shutting.{run_shut}
 use Rattle.laws_proxy_bytes.specs.Counts.{counts_shown}
 use Rattle.laws_world.specs.Counts.{IsCounted}
 use Rattle.laws_world.proofs.Counting.{reached_counted}
-use Rattle.laws_play.proofs.PlayLines.{around_journal, cid_right, front_bounded, lines_of, lines_receive, lines_right, lines_send, rest_bounded, world_is}
+use Rattle.laws_play.proofs.PlayLines.{around_journal, cid_right, front_bounded, lines_of, lines_receive, lines_right, lines_send, rest_bounded}
+use Rattle.laws_play.proofs.PlayLines.{world_is}
 use Rattle.laws_play.proofs.Reached.{carries, holds_open, holds_rest, keeps_credit, log_is, many_device, many_guest, own_streams, queued}
 use Rattle.vs_script.proofs.Bounded.{all_bounded}
 use Rattle.vs_driver_parts.specs.declared.answers.Accepted.TheVariants as accepted
@@ -114,15 +116,7 @@ line_closes id (script.Close other) p apart = by (other == id) refl
     by true is = let same : other ≡ id = grind (arith, nat_tests, is) in absurd (apart (ap script.Close same))
     by false is = refl
 line_closes id (script.Around line) p apart = ap (times_closed id) (around_journal line p)
-line_closes id (script.Connect port) p apart = refl
-line_closes id (script.Listen port) p apart = refl
-line_closes id (script.Unlisten port) p apart = refl
-line_closes id (script.Accept port) p apart = refl
-line_closes id (script.Send other content) p apart = refl
-line_closes id (script.Recv other len) p apart = refl
-line_closes id (script.Shutdown other bits) p apart = refl
-line_closes id (script.State other) p apart = refl
-line_closes id script.Poll p apart = refl
+line_closes id x p apart = refl
 
 lines_close : (id : ℕ) (es : List Event) (p : PlayWorld) → All (λ e. e ≢ script.Close id) es
     → times_closed id (world_after es p).world.journal ≡ times_closed id p.world.journal
@@ -143,22 +137,17 @@ module _ (e : Event) (p : PlayWorld) (rest : is_at_rest p.world.rings.driver.sta
   next_rest : is_at_rest next.world.rings.driver.staged ≡ true
   next_rest = lines_rest (e ∷ []) p rest
 
-  more_lead : Leads next.world (world_after more next).world
-  more_lead = lines_lead more next next_rest bounded.1
+  more_go : Goes Fresh next.world (world_after more next).world
+  more_go = lines_go more next next_rest bounded.1 next_well
 
-  still_named : All (λ x. x ≢ script.Close id) more → (f : Flow) × WasTold id f next.world.driver → (text : List ℕ)
+  still_named : All (λ x. x ≢ script.Close id) more → IsTold id next.world.driver → (text : List ℕ)
       → text ≡ connection_text id (flow_of id next.world.driver) → IsNamedIn (world_after (e ∷ more) p).world id text
-  still_named apart (f, told) text is =
-      let goes = lines_go more next next_rest bounded.1 next_well in (
-        f,
-        is ∙ ap (connection_text id) (told_flow id f next.world next_well told).0,
-        told_flow id f (world_after more next).world goes.well
-            (leads_told id f next.world (world_after more next).world next_well more_lead (lines_close id more next apart) told),
-      )
+  still_named apart told text is =
+      let x = still_told next.world (world_after more next).world next_well more_go id (lines_close id more next apart) told in
+      (x.0, is ∙ ap (connection_text id) x.1, x.2)
 
-  still_closed : WasClosed id next.world.driver → flow_of id (world_after (e ∷ more) p).world.driver ≡ None
-  still_closed over = closed_flow id (world_after more next).world.driver
-      (leads_closed id next.world (world_after more next).world next_well more_lead over)
+  still_closed : IsOver id next.world.driver → flow_of id (world_after (e ∷ more) p).world.driver ≡ None
+  still_closed over = still_over next.world (world_after more next).world next_well more_go id over
 
 -- The report, with other names for its numbers.
 says_so : (texts streams : List (List ℕ)) (g g' d d' b : ℕ) (c : Counters) → g ≡ g' → d ≡ d' → c.overrun ≡ 0 → b ≡ 0
@@ -202,7 +191,7 @@ module _ (n : ℕ) where
   -- A line that told an id.
   named_after : (before more : List Event) (e : Event) (id : ℕ) → AreBounded (before ++ e ∷ more) → All (λ x. x ≢ script.Close id) more
       → let p = world_after before (opened_play n) in
-      (IsWell Fresh p.world → (f : Flow) × WasTold id f (event_played e p).0.world.driver)
+      (IsWell Fresh p.world → IsTold id (event_played e p).0.world.driver)
       → (event_played e p).1 ≡ connection_text id (flow_of id (event_played e p).0.world.driver)
       → IsNamedIn (world_of n (before ++ e ∷ more)) id (event_played e p).1
   named_after before more e id bounded apart told is =
@@ -217,7 +206,10 @@ module _ (n : ℕ) where
       → IsNamedIn (world_of n (before ++ script.Connect port ∷ more)) id (event_played (script.Connect port) p).1
   connect_named before more port id bounded is apart =
       let p = world_after before (opened_play n) in
-      named_after before more (script.Connect port) id bounded apart (λ well. connect_told p.world well port id is)
+      let below : port ≤ 4294967295 = (rest_bounded before (script.Connect port ∷ more) bounded).0 in
+      let port_fits : port < 2 ^ 32 = omega (arith, below) in
+      named_after before more (script.Connect port) id bounded apart
+      (λ well. connect_told p.world well (tx_at_rest p.world.rings.driver.staged (world_rests before)) port id port_fits is)
       (ap (λ (r : Result ℕ ConnectError). connect_text r (flow_opened r (event_played (script.Connect port) p).0.world.driver)) is)
 
   accept_named : (before more : List Event) (port id : ℕ) → AreBounded (before ++ script.Accept port ∷ more)
@@ -226,7 +218,7 @@ module _ (n : ℕ) where
       → IsNamedIn (world_of n (before ++ script.Accept port ∷ more)) id (event_played (script.Accept port) p).1
   accept_named before more port id bounded is apart =
       let p = world_after before (opened_play n) in
-      named_after before more (script.Accept port) id bounded apart (λ well. accept_told p.world well port id is)
+      named_after before more (script.Accept port) id bounded apart (λ well. accept_told id port p.world.driver well.waiting is)
       (ap (λ (r : Accepted). accept_text r (flow_accepted r (event_played (script.Accept port) p).0.world.driver)) is)
 
   close_named : (before more : List Event) (id : ℕ) → AreBounded (before ++ script.Close id ∷ more)
@@ -235,9 +227,10 @@ module _ (n : ℕ) where
   close_named before more id bounded is =
       let p = world_after before (opened_play n) in
       let well = world_well before (front_bounded before (script.Close id ∷ more) bounded) in
+      let over = closed_unknown p.world.driver.next_port id p.world.driver well.driver.sound well.received.numbers is in
       subst (λ (q : PlayWorld). flow_of id q.world.driver ≡ None) (sym (after_both before (script.Close id ∷ more) (opened_play n)))
       (still_closed (script.Close id) p (world_rests before) well id more (rest_bounded before (script.Close id ∷ more) bounded)
-      (close_closed id p.world well is))
+      over)
 
   pub each_play : (lines : List Event) → AreBounded lines → IsLawful n lines
   each_play lines bounded =

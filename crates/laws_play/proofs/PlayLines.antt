@@ -47,23 +47,11 @@ after_append (x ∷ xs) ys w = after_append xs ys (world.line x w).0
 
 around_is : (line : Outside) (p : PlayWorld) → (event_played (script.Around line) p).0.world ≡ after (lines_around line p.moment) p.world
 around_is outside.Turn p = refl
-around_is (outside.Reset cid) p = refl
-around_is (outside.Tick ms) p = refl
-around_is outside.Client p = refl
-around_is (outside.OfHost host) p = refl
+around_is x p = refl
 
 event_is : (e : Event) (p : PlayWorld) → (event_played e p).0.world ≡ after (lines_at e p.moment) p.world
-event_is (script.Connect port) p = refl
-event_is (script.Listen port) p = refl
-event_is (script.Unlisten port) p = refl
-event_is (script.Accept port) p = refl
-event_is (script.Send id content) p = refl
-event_is (script.Recv id len) p = refl
-event_is (script.Shutdown id bits) p = refl
-event_is (script.Close id) p = refl
-event_is (script.State id) p = refl
-event_is script.Poll p = refl
 event_is (script.Around line) p = around_is line p
+event_is x p = refl
 
 -- The world after a script's lines.
 pub world_is : (es : List Event) (p : PlayWorld) → (world_after es p).world ≡ after (lines_of es p) p.world
@@ -82,12 +70,7 @@ cid_right cid low high = grind (arith, nat_tests)
 
 host_right : (host : Host) → is_given_right (host_line host) ≡ true
 host_right (outside.HostListen port) = refl
-host_right (outside.HostUnlisten port) = refl
-host_right (outside.HostWrite stream content) = refl
-host_right (outside.HostAllow stream n) = refl
-host_right (outside.HostEnd stream) = refl
-host_right (outside.HostClosed stream) = refl
-host_right (outside.HostFail n) = refl
+host_right x = refl
 
 around_right : (line : Outside) (now : ℕ) → IsBounded (script.Around line) → AreRight (lines_around line now)
 around_right outside.Turn now b = (refl, tt)
@@ -98,16 +81,8 @@ around_right (outside.OfHost host) now b = (host_right host, tt)
 
 event_right : (e : Event) (now : ℕ) → IsBounded e → AreRight (lines_at e now)
 event_right (script.Connect port) now b = (port_right port b, tt)
-event_right (script.Listen port) now b = (refl, tt)
-event_right (script.Unlisten port) now b = (refl, tt)
-event_right (script.Accept port) now b = (refl, tt)
-event_right (script.Send id content) now b = (refl, tt)
-event_right (script.Recv id len) now b = (refl, tt)
-event_right (script.Shutdown id bits) now b = (refl, tt)
-event_right (script.Close id) now b = (refl, tt)
-event_right (script.State id) now b = (refl, tt)
-event_right script.Poll now b = (refl, tt)
 event_right (script.Around line) now b = around_right line now b
+event_right x now b = (refl, tt)
 
 right_append : (xs ys : List Line) → AreRight xs → AreRight ys → AreRight (xs ++ ys)
 right_append [] ys a b = b
@@ -140,12 +115,7 @@ around_journal (outside.OfHost host) p = by host
   where
     by : (host : Host) → (event_played (script.Around (outside.OfHost host)) p).0.world.journal ≡ p.world.journal
     by (outside.HostListen port) = refl
-    by (outside.HostUnlisten port) = refl
-    by (outside.HostWrite stream content) = refl
-    by (outside.HostAllow stream n) = refl
-    by (outside.HostEnd stream) = refl
-    by (outside.HostClosed stream) = refl
-    by (outside.HostFail n) = refl
+    by x = refl
 
 -- A call that moves no bytes, on the flow or not.
 none_moved : (bytes : List ℕ) (b : Bool) → bytes ++ cond b [] [] ≡ bytes ++ []
@@ -154,31 +124,25 @@ none_moved bytes b = ap (λ (more : List ℕ). bytes ++ more) (either_none b [] 
 event_sends : (e : Event) (p : PlayWorld) (f : Flow) → sent_on f (event_played e p).0.world.journal
     ≡ sent_on f p.world.journal ++ sent_by f e p
 event_sends (script.Connect port) p f = none_moved (sent_on f p.world.journal) (is_on f (flow_named (call.Connect port) p.world.driver))
-event_sends (script.Listen port) p f = refl
-event_sends (script.Unlisten port) p f = refl
-event_sends (script.Accept port) p f = refl
-event_sends (script.Send id content) p f = refl
 event_sends (script.Recv id len) p f = none_moved (sent_on f p.world.journal) (is_on f (flow_of id p.world.driver))
 event_sends (script.Shutdown id bits) p f = none_moved (sent_on f p.world.journal) (is_on f (flow_of id p.world.driver))
 event_sends (script.Close id) p f = none_moved (sent_on f p.world.journal) (is_on f (flow_of id p.world.driver))
 event_sends (script.State id) p f = none_moved (sent_on f p.world.journal) (is_on f (flow_of id p.world.driver))
 event_sends script.Poll p f = nothing_more (sent_on f p.world.journal)
 event_sends (script.Around line) p f = ap (sent_on f) (around_journal line p) ∙ nothing_more (sent_on f p.world.journal)
+event_sends x p f = refl
 
 event_receives : (e : Event) (p : PlayWorld) (f : Flow)
     → received_on f (event_played e p).0.world.journal ≡ received_on f p.world.journal ++ received_by f e p
 event_receives (script.Connect port) p f = none_moved (received_on f p.world.journal) (is_on f (flow_named
     (call.Connect port) p.world.driver))
-event_receives (script.Listen port) p f = refl
-event_receives (script.Unlisten port) p f = refl
-event_receives (script.Accept port) p f = refl
 event_receives (script.Send id content) p f = none_moved (received_on f p.world.journal) (is_on f (flow_of id p.world.driver))
-event_receives (script.Recv id len) p f = refl
 event_receives (script.Shutdown id bits) p f = none_moved (received_on f p.world.journal) (is_on f (flow_of id p.world.driver))
 event_receives (script.Close id) p f = none_moved (received_on f p.world.journal) (is_on f (flow_of id p.world.driver))
 event_receives (script.State id) p f = none_moved (received_on f p.world.journal) (is_on f (flow_of id p.world.driver))
 event_receives script.Poll p f = nothing_more (received_on f p.world.journal)
 event_receives (script.Around line) p f = ap (received_on f) (around_journal line p) ∙ nothing_more (received_on f p.world.journal)
+event_receives x p f = refl
 
 pub lines_send : (es : List Event) (p : PlayWorld) (f : Flow)
     → sent_on f (world_after es p).world.journal ≡ sent_on f p.world.journal ++ sent_in f es p

@@ -10,9 +10,8 @@ use Rattle.laws_history.specs.{Again.present, Packets.is_request, Packets.is_rst
 use Rattle.laws_history.specs.History.{History, Put, Side, Asker, Answerer, gots, is_begun, puts}
 use Rattle.vs_limits.specs.declared.TheConstants.{BUF_ALLOC}
 use Rattle.laws_tables.specs.{Ends.Ends, Ends.answer_kind, Ends.ends_of, Ends.is_new, Ends.replaced, Ends.without_flow, Heard.is_empty}
-use Rattle.laws_tables.specs.Both.{Both, Decides, Decision, Forwards, Shuts, Aborts, WantsCredit, Grows, Happening, IsSound, MayHappen}
-use Rattle.laws_tables.specs.Both.{MayRun, Step, Opens, Asks, Forgets, Sends, Pays, Replies, Takes, PutsEvent, TakesEvent, MakesReset}
-use Rattle.laws_tables.specs.Both.{TakesReset, after, after_packet, answered, at, decided, happens, run}
+use Rattle.laws_tables.specs.Both.{Both, Decides, Decision, Shuts, Happening, IsSound, MayHappen, MayRun, Step, Opens, Asks, Sends, Pays, Replies}
+use Rattle.laws_tables.specs.Both.{Takes, MakesReset, TakesReset, after, after_packet, answered, at, decided, happens, run}
 use Rattle.laws_tables.specs.Steps.{HasEnd, accepted, asking, is_kept, left, opened, with_clean, with_end, owed_on, paid, payload_on}
 use Rattle.laws_tables.specs.{Steps.reply_on, Steps.request_on, Matches.MatchesFlows}
 use Rattle.laws_tables.proofs.{Both.step_keeps, Fair.heard_none, Tables.end_begun, Tables.end_new, Tables.only_end, Entries.added_other}
@@ -22,8 +21,8 @@ use Rattle.laws_world.specs.Sides.{AsksAnew, RunsAnew}
 use Rattle.laws_bytes.proofs.Firsts.{silent_whole}
 use Rattle.laws_world.proofs.{Once.AreOnce, Once.asked_once, Once.keeps_once, Runs.one_step}
 use Rattle.vs_page.specs.{Fair.payload_of, Log.Device, Log.Driver, Log.Log, Log.Role, Log.flow_got, Log.flow_put, Log.side_of, Log.whole_of}
-use Rattle.vs_page.specs.{Open.is_dropped, declared.log.LogEntry.LogEntry, declared.log.LogEntry.TheVariants.GotEvent}
-use Rattle.vs_page.specs.declared.log.LogEntry.TheVariants.{GotPacket, Mark, PutEvent, PutPacket}
+use Rattle.vs_page.specs.{Open.is_dropped, declared.log.LogEntry.LogEntry}
+use Rattle.vs_page.specs.declared.log.LogEntry.TheVariants.{GotPacket, PutPacket}
 use Rattle.laws_bytes.specs.Drains.{put_on}
 use Rattle.vs_conn.specs.declared.end.Owed.TheVariants as owed
 use Rattle.vs_conn.specs.declared.end.State.TheVariants as state
@@ -46,9 +45,7 @@ cannot_live false c n k is can = absurd cc
 
 cannot : (s : State) (e : ConnectionEnd) (n : ℕ) → e.own.send ≡ true → IsOkAnd (state_may_send s e) (λ free. n ≤ free) → ⊥
 cannot state.Live e n is can = cannot_live e.own.send e.peer.receive n _ is can
-cannot state.Ended e n is can = can
-cannot state.Asked e n is can = can
-cannot state.Answering e n is can = can
+cannot y e n is can = can
 
 -- What an end decided it keeps.
 or_first : (a b : Bool) → a ≡ true → (a || b) ≡ true
@@ -56,11 +53,8 @@ or_first true b is = refl
 or_first false b is = absurd cc
 
 decided_shut : (e : ConnectionEnd) (d : Decision) → e.own.send ≡ true → (decided e d).own.send ≡ true
-decided_shut e (Forwards n) is = is
 decided_shut e (Shuts bits) is = or_first e.own.send _ is
-decided_shut e Aborts is = is
-decided_shut e WantsCredit is = is
-decided_shut e (Grows alloc) is = is
+decided_shut e y is = is
 
 -- What an entry of the log adds.
 more_passed : (role : Role) (f : Flow) (entry : LogEntry) (log : Log) → is_empty (whole_of role f log) ≡ false
@@ -75,9 +69,7 @@ more_passed role f (GotPacket p) log some = by (same_flow f (flow_got role p))
     by : (b : Bool) → is_empty (cond b (Got p ∷ whole_of role f log) (whole_of role f log)) ≡ false
     by true = refl
     by false = some
-more_passed role f (PutEvent id) log some = some
-more_passed role f (GotEvent id) log some = some
-more_passed role f (Mark cid) log some = some
+more_passed role f y log some = some
 
 put_none : (role : Role) (f : Flow) (p : Packet) (log : Log) → p.payload ≡ [] → put_on role f (PutPacket p ∷ log) ≡ put_on role f log
 put_none role f p log none = by (same_flow f (flow_put role p))
@@ -274,11 +266,9 @@ step_shut role first f (Takes p answer) b s once may anew x = let w = at role b 
   };
   put = put_got role f p w.log;
 }
-step_shut role first f Forgets b s once may anew x = record { is = record { passed = x.passed; shut = x.shut }; put = refl }
-step_shut role first f (PutsEvent id) b s once may anew x = record { is = record { passed = x.passed; shut = x.shut }; put = refl }
-step_shut role first f (TakesEvent id) b s once may anew x = record { is = record { passed = x.passed; shut = x.shut }; put = refl }
 step_shut role first f (MakesReset cid) b s once may anew x = record { is = record { passed = x.passed; shut = λ e has. absurd cc }; put = refl }
 step_shut role first f (TakesReset cid) b s once may anew x = record { is = record { passed = x.passed; shut = λ e has. absurd cc }; put = refl }
+step_shut role first f y b s once may anew x = record { is = record { passed = x.passed; shut = x.shut }; put = refl }
 
 -- A step at either seat.
 happening_shut : (role other : Role) (first : ℕ) (f : Flow) (step : Step) (b : Both) → IsSound first b → AreOnce b → MayHappen other step b

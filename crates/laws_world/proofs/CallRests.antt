@@ -14,7 +14,7 @@ use Rattle.vs_driver_parts.specs.Conversations.{payload_bytes, payload_of, post_
 use Rattle.vs_driver_parts.specs.Conversations.{reap_all, request_bytes, send_on, send_stopped, send_with_credit, send_with_page}
 use Rattle.vs_limits.specs.declared.TheConstants.{FIRST_PORT}
 use Rattle.laws_world.specs.{Events.is_at_rest, Events.works_on, Plays.guest_line, World.World, World.opening}
-use Rattle.laws_driver_bytes.specs.Calls.{GuestCall, Connect, Listen, Unlisten, Accept, Send, Recv, Shutdown, Close, LookAt}
+use Rattle.laws_driver_bytes.specs.Calls.{GuestCall, Connect, Send}
 use Rattle.laws_world.proofs.{GuestLines.played_bind, GuestLines.reaps_all, Polls.published_rests, Polls.rest_works}
 use Rattle.vs_ring_port.specs.declared.queue.Queue.TheVariants as q
 use Rattle.vs_driver_parts.specs.declared.answers.ConnectError.TheVariants as connect_refused
@@ -91,26 +91,18 @@ module _ (w : World) (rest : is_at_rest w.rings.driver.staged ≡ true) where
   pub call_rests : (call : GuestCall) → is_at_rest (guest_line call w).0.rings.driver.staged ≡ true
   call_rests (Connect port) = connecting port (connect_refusal port w.driver)
   call_rests (Send id bytes) = sending id bytes (entry_known_as id w.driver)
-  call_rests (Listen port) = rest
-  call_rests (Unlisten port) = rest
-  call_rests (Accept port) = rest
-  call_rests (Recv id n) = rest
-  call_rests (Shutdown id bits) = rest
-  call_rests (Close id) = rest
-  call_rests (LookAt id) = rest
+  call_rests x = rest
 
 -- A driver just made published all that it staged.
 stages : (queue : Queue) (page : List ℕ) (r : Rings × EndLog) → works_on queue r.1.staged ≡ true
     → works_on queue (driver_answer (Stage queue page) r).1.1.staged ≡ true
 stages q.Rx page r works = works
-stages q.Tx page r works = works
-stages q.Event page r works = works
+stages x page r works = works
 
 publishes : (queue : Queue) (r : Rings × EndLog) → works_on queue r.1.staged ≡ true
     → works_on queue (driver_answer (Publish queue) r).1.1.staged ≡ true
 publishes q.Rx r works = works
-publishes q.Tx r works = works
-publishes q.Event r works = works
+publishes x r works = works
 
 posts_work : (queue : Queue) (n : ℕ) (s : DriverState) (r : Rings × EndLog) → works_on queue r.1.staged ≡ true
     → works_on queue (played driver_answer (while_up_to n (post_one queue) s) r).1.1.staged ≡ true

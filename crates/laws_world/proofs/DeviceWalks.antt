@@ -86,8 +86,7 @@ returned_fair Rx (suc n) bytes log fair whole = (whole (omega arith)).1
 
 same_cid : (q : Queue) (page : List ℕ) (lists : Rings) → (after_return q page lists).cid ≡ lists.cid
 same_cid Rx page lists = refl
-same_cid Tx page lists = refl
-same_cid Event page lists = refl
+same_cid x page lists = refl
 
 -- One fault more, where a call failed.
 abbrev count : Bool → ℕ → ℕ
@@ -99,23 +98,19 @@ counts false n = refl
 
 dials : (path : List ℕ) (h : HostContents) (a : Dialed) → dial_answer path h ≡ a → IsDialed path a h
 dials path h dialed.Failed is = tt
-dials path h dialed.Refused is = sym is
-dials path h (dialed.Stream id) is = sym is
+dials path h x is = sym is
 
 reads : (stream n : ℕ) (h : HostContents) (a : StreamRead) → read_answer stream n h ≡ a → IsReadOf stream n (a, bytes_with stream a h) h × (length (bytes_with stream a h) ≤ n)
 reads stream n h (read.Got k) is =
     let short = read_short n k (fails_now h) (stream_at stream h) is in
     let few = bytes_short k (stream_at stream h) in
     ((sym is, refl), omega (arith, short, few))
-reads stream n h read.Again is = ((sym is, refl), omega arith)
-reads stream n h read.End is = ((sym is, refl), omega arith)
-reads stream n h read.Failed is = ((sym is, refl), omega arith)
+reads stream n h x is = ((sym is, refl), omega arith)
 
 writes : (stream n : ℕ) (h : HostContents) (a : StreamWrite) → write_answer stream n h ≡ a → IsWritten stream n a h × TakesWithin n a
 writes stream n h (write.Took k) is = (sym is, write_short n k (fails_now h) (stream_at stream h) is)
-writes stream n h write.Again is = (sym is, tt)
-writes stream n h write.Closed is = (sym is, tt)
 writes stream n h write.Failed is = (tt, tt)
+writes stream n h x is = (sym is, tt)
 
 module _ (base : Ends) (there : IsFairLog Driver base.driver.entries) (fit : PutsFit base.driver.entries) where
   abbrev ring : Around → RingContents
@@ -227,8 +222,7 @@ module _ (base : Ends) (there : IsFairLog Driver base.driver.entries) (fit : Put
     where
       taken_cid : (queue : Queue) → (after_take queue s.lists).cid < 2 ^ 64
       taken_cid Rx = ties.cid
-      taken_cid Tx = ties.cid
-      taken_cid Event = ties.cid
+      taken_cid x = ties.cid
   one (Read chain place count) s n ties can =
       let bytes = take count (drop place (bytes_in chain s.log.held)) in (
         (

@@ -1,128 +1,144 @@
 -- What the driver's conversations come to: steps of its seat, headers that fit, the account, and the payload that was put.
-use Rattle.std.proofs.Common.{◌≡◌, ℕ, ◌≤◌, ◌==◌, ◌&&◌, inl, inr, Bool, true, false, cond, List, [], ◌++◌, take, Option, Some, None}
-use Rattle.std.proofs.Common.{Contains, is_some, refl, sym, ap, subst, ◌∙◌, arith}
-use Rattle.std.proofs.{lemmas.Bool.Decides.nat_tests, lemmas.List.Elements.All-contains, lemmas.Option.get_or_from_slice_get}
-use Rattle.std.proofs.lemmas.Option.{slice_get_within}
+use Rattle.std.proofs.Common.{◌≡◌, ℕ, ◌≤◌, ◌==◌, ◌&&◌, ◌⊎◌, inl, inr, Bool, true, false, cond, List, [], ◌++◌, take, Option, Some, None}
+use Rattle.std.proofs.Common.{Contains, is_some, refl, sym, ap, ◌∙◌, arith}
+use Rattle.std.proofs.lemmas.{Bool.Decides.nat_tests, List.Elements.All-contains}
 use Rattle.vs_contents.specs.CallTree.{Done, played}
 use Rattle.vs_flow.specs.{Connection.Connection, Connection.first_of, Flow.same_flow, declared.flow.Flow.Flow}
-use Rattle.vs_flow.proofs.{Entries.found_passes, Lookups.find_place}
 use Rattle.vs_page.specs.{Fair.current, Fair.number_of, Fair.payload_put, Log.Driver, Log.Log}
 use Rattle.vs_ring_port.specs.{DriverCalls.driver_answer, EndLog.EndLog, Lists.Rings}
 use Rattle.laws_tables.specs.{Both.Seat, Ends.Ends}
 use Rattle.laws_tables.proofs.Slots.{found_by}
 use Rattle.vs_driver_parts.specs.{Conversations.DriverTree, Conversations.not_sent, Connections.flow_of, Connections.recv_of}
-use Rattle.vs_driver_parts.specs.{Held.HeldSlots, State.DriverEntry, State.DriverState, State.GoneConnection, State.entry_known_as}
+use Rattle.vs_driver_parts.specs.{State.DriverEntry, State.DriverState, State.entry_known_as}
 use Rattle.vs_driver_parts.specs.{State.gone_known_as, State.is_known_as, Steps.sends_on, declared.answers.Sent.Sent}
-use Rattle.vs_driver_parts.proofs.Known.{flow_gone, flow_known}
+use Rattle.vs_driver_parts.proofs.Known.{flow_known}
 use Rattle.laws_driver.specs.Honest.{slots_of}
 use Rattle.laws_driver.proofs.{Carrying.Carries, Carrying.Fact, Going.Goes, Putting.connect_puts, Putting.owed_puts, Putting.reply_puts}
 use Rattle.laws_driver.proofs.{Putting.send_puts, Walking.poll_goes}
-use Rattle.laws_driver_bytes.specs.Calls.{Connect, GuestCall, Journal, Recv, ReplyTo, Send, account_of, bytes_sent, flow_named, id_named}
+use Rattle.laws_driver_bytes.specs.Calls.{Connect, GuestCall, Journal, LookAt, Recv, ReplyTo, Send, account_of, bytes_sent, flow_named, id_named}
 use Rattle.laws_driver_bytes.specs.Calls.{is_on, is_right, makes_call, sent_of, sent_on, with_call}
-use Rattle.laws_driver_bytes.specs.{Received.Account, Received.AreReceived, Received.ReceivedOn, Received.ReceivesOn, Sent.only_on}
+use Rattle.laws_driver_bytes.specs.{Received.Account, Received.AreReceived, Received.ReceivesOn, Sent.only_on}
 use Rattle.laws_driver_bytes.specs.Sent.{took}
 use Rattle.laws_driver_bytes.proofs.Making.{CarriesCall, account_after, at_first, call_goes, call_received, call_sent, further_as}
 use Rattle.laws_driver_bytes.proofs.{Making.further_journal, Making.port_fits, Making.sent_with, Polling.IsFurther, Polling.poll_carries}
 use Rattle.laws_driver_bytes.proofs.Sending.{poll_puts, puts_as}
 use Rattle.laws_device.proofs.Seats.{PutsFit}
 use Rattle.laws_world.proofs.Journals.{Agrees, AllAgree, agree_on, either_none}
+use Rattle.laws_world.proofs.Keeping.{Sees, call_kept, poll_kept}
+use Rattle.laws_world.proofs.Names.{Names, NamesFrom, NamesMay, StaysNamed, WaitsApart, call_named, flows, named_from, names_kept, names_may, step_named}
 use Rattle.vs_driver_parts.specs.declared.answers.Sent.TheVariants as answers
 
 module _ (first : ℕ) (old : Seat) where
-  abbrev pub Walks : Account → Fact → Fact
-  Walks a sent part slots log = Goes old (record { part = part; log = log }) × PutsFit log × IsFurther a slots log × sent part slots log
+  abbrev pub Walks : Account → Fact → Fact → Fact
+  Walks a names sent part s log = Goes old (record { part = part; log = log }) × PutsFit log × IsFurther a (slots_of s) log × names part s log × sent part s log
 
-  pub poll_walks : (a : Account) (base : Log) → Carries first (Walks a (puts_as base))
-  poll_walks a base =
+  pub poll_walks : (a : Account) (s : DriverState) (base : Log) → Carries first (Walks a (named_from s (LookAt 0)) (puts_as base))
+  poll_walks a start base =
       let goes = poll_goes first old in
       let received = poll_carries first a in
+      let names = poll_kept Names NamesMay names_kept (NamesFrom start (LookAt 0)) first in
       let sent = poll_puts first base in
       record {
         owed = λ what e s log fits stands owes m was fair x. (
           goes.owed what e s log fits stands owes m was fair x.0,
           ((owed_puts what e s fits stands owes).wire, x.1),
           received.owed what e s log fits stands owes m was fair x.2,
-          sent.owed what e s log fits stands owes m was fair x.3,
+          names.owed what e s log fits stands owes m was fair x.3,
+          sent.owed what e s log fits stands owes m was fair x.4,
         );
         reply = λ r rest s log fits is m fair x. (
           goes.reply r rest s log fits is m fair x.0,
           ((reply_puts r rest s fits is).wire, x.1),
           received.reply r rest s log fits is m fair x.2,
-          sent.reply r rest s log fits is m fair x.3,
+          names.reply r rest s log fits is m fair x.3,
+          sent.reply r rest s log fits is m fair x.4,
         );
         got = λ p s log fits ports whole m was fair x. (
           goes.got p s log fits ports whole m was fair x.0,
           x.1,
           received.got p s log fits ports whole m was fair x.2,
-          sent.got p s log fits ports whole m was fair x.3,
+          names.got p s log fits ports whole m was fair x.3,
+          sent.got p s log fits ports whole m was fair x.4,
         );
-        event = λ id s log x. (goes.event id s log x.0, x.1, received.event id s log x.2, sent.event id s log x.3);
+        event = λ id s log x. (goes.event id s log x.0, x.1, received.event id s log x.2, names.event id s log x.3, sent.event id s log x.4);
         reset = λ cid s log less fits x. (
           goes.reset cid s log less fits x.0,
           x.1,
           received.reset cid s log less fits x.2,
-          sent.reset cid s log less fits x.3,
+          names.reset cid s log less fits x.3,
+          sent.reset cid s log less fits x.4,
         );
       }
 
   module _ (a : Account) (s : DriverState) (base : Log) where
-    abbrev Before : Fact
-    Before = Walks a (at_first first s base)
+    abbrev pub Before : GuestCall → Fact
+    Before call = Walks a (named_from s call) (at_first first s base)
 
-    abbrev After : (call : GuestCall) → ReplyTo call → Fact
-    After call reply = Walks (account_after call reply a) (sent_with first s base call reply)
+    abbrev pub After : (call : GuestCall) → ReplyTo call → Fact
+    After call reply = Walks (account_after call reply a) (named_from s call) (sent_with first s base call reply)
 
-    pub call_walks : (call : GuestCall) → is_right call ≡ true → CarriesCall first call Before (After call)
+    names_call : (call : GuestCall) → CarriesCall first call (named_from s call) (λ reply. named_from s call)
+    names_call call = call_kept Names NamesMay names_kept (NamesFrom s call) first call (names_may s call)
+
+    pub call_walks : (call : GuestCall) → is_right call ≡ true → CarriesCall first call (Before call) (After call)
     call_walks (Connect port) right =
         let goes = call_goes first old (Connect port) right in
         let received = call_received first (Connect port) a in
+        let names = names_call (Connect port) in
         let sent = call_sent first s base (Connect port) in
         record {
-          refused = λ why t log x. (goes.refused why t log x.0, x.1, received.refused why t log x.2, sent.refused why t log x.3);
+          refused = λ why t log x. (goes.refused why t log x.0, x.1, received.refused why t log x.2, names.refused why t log x.3, sent.refused why t log x.4);
           opens = λ t log fits free m was fair x. (
             goes.opens t log fits free m was fair x.0,
             ((connect_puts port t (port_fits port right) fits free).wire, x.1),
             received.opens t log fits free m was fair x.2,
-            sent.opens t log fits free m was fair x.3,
+            names.opens t log fits free m was fair x.3,
+            sent.opens t log fits free m was fair x.4,
           );
         }
     call_walks (Send id bytes) right =
         let goes = call_goes first old (Send id bytes) right in
         let received = call_received first (Send id bytes) a in
+        let names = names_call (Send id bytes) in
         let sent = call_sent first s base (Send id bytes) in
         record {
-          stopped = λ why t log x. (goes.stopped why t log x.0, x.1, received.stopped why t log x.2, sent.stopped why t log x.3);
-          unknown = λ t log none x. (goes.unknown t log none x.0, x.1, received.unknown t log none x.2, sent.unknown t log none x.3);
-          empty = λ t log x. (goes.empty t log x.0, x.1, received.empty t log x.2, sent.empty t log x.3);
-          full = λ n t log x. (goes.full n t log x.0, x.1, received.full n t log x.2, sent.full n t log x.3);
+          stopped = λ why t log x. (goes.stopped why t log x.0, x.1, received.stopped why t log x.2, names.stopped why t log x.3, sent.stopped why t log x.4);
+          unknown = λ t log none x. (goes.unknown t log none x.0, x.1, received.unknown t log none x.2, names.unknown t log none x.3, sent.unknown t log none x.4);
+          empty = λ t log x. (goes.empty t log x.0, x.1, received.empty t log x.2, names.empty t log x.3, sent.empty t log x.4);
+          full = λ n t log x. (goes.full n t log x.0, x.1, received.full n t log x.2, names.full n t log x.3, sent.full n t log x.4);
           wants = λ e t log fits stands m x. (
             goes.wants e t log fits stands m x.0,
             x.1,
             received.wants e t log fits stands m x.2,
-            sent.wants e t log fits stands m x.3,
+            names.wants e t log fits stands m x.3,
+            sent.wants e t log fits stands m x.4,
           );
           sends = λ e n t log fits stands known can few m was fair x. (
             goes.sends e n t log fits stands known can few m was fair x.0,
             ((send_puts e (take n bytes) t fits stands can few).wire, x.1),
             received.sends e n t log fits stands known can few m was fair x.2,
-            sent.sends e n t log fits stands known can few m was fair x.3,
+            names.sends e n t log fits stands known can few m was fair x.3,
+            sent.sends e n t log fits stands known can few m was fair x.4,
           );
         }
     call_walks call right = λ t log fits m x. (
       call_goes first old call right t log fits m x.0,
       x.1,
       call_received first call a t log fits m x.2,
-      call_sent first s base call t log fits m x.3,
+      names_call call t log fits m x.3,
+      call_sent first s base call t log fits m x.4,
     )
 
--- What is left with a journal, where ids had been given to these connections.
-pub record Left (old : Seat) (was : ℕ → Connection) (journal : Journal) (part : Ends) (slots : HeldSlots) (log : Log) : Type 0 where
+-- What is left with a journal, of this driver and its journal, where ids had been given to these connections.
+pub record Left (old : Seat) (was : ℕ → Connection) (from : DriverState) (before journal : Journal) (part : Ends) (s : DriverState) (log : Log) : Type 0 where
   pub goes : Goes old (record { part = part; log = log })
   pub fits : PutsFit log
   pub opened : ℕ → Connection
   -- Ids keep their connections.
   pub on : (id : ℕ) → 1 ≤ (was id).number → opened id ≡ was id
-  pub received : AreReceived (account_of 1 opened journal) log slots
+  pub received : AreReceived (account_of 1 opened journal) log (slots_of s)
+  pub waiting : Sees WaitsApart s
+  pub named : StaysNamed from before s journal
   pub agrees : AllAgree opened journal
   pub sent : (f : Flow) → sent_on f journal ≡ payload_put Driver (first_of f) log
 
@@ -132,16 +148,18 @@ module _ (first : ℕ) (old : Seat) (opened : ℕ → Connection) (journal : Jou
   abbrev account : Account
   account = account_of 1 opened journal
 
-  pub poll_left : (part : Ends) (slots : HeldSlots) (log : Log) → Walks first old account (puts_as base) part slots log
-      → Left old opened journal part slots log
-  poll_left part slots log x = record {
+  pub poll_left : (part : Ends) (t : DriverState) (log : Log) → Walks first old account (named_from s (LookAt 0)) (puts_as base) part t log
+      → Left old opened s journal journal part t log
+  poll_left part t log x = record {
     goes = x.0;
     fits = x.1;
     opened = x.2.0.opened;
     on = x.2.1.opened;
-    received = further_as account x.2.0 _ log slots x.2.1 (λ id. refl) x.2.2;
+    received = further_as account x.2.0 _ log (slots_of t) x.2.1 (λ id. refl) x.2.2;
+    waiting = x.3 None tt;
+    named = step_named s journal part t log x.3;
     agrees = agree_on opened x.2.0.opened x.2.1.opened journal agrees;
-    sent = λ f. sent f ∙ sym (x.3 (first_of f));
+    sent = λ f. sent f ∙ sym (x.4 (first_of f));
   }
 
   -- A call that was made.
@@ -151,38 +169,12 @@ module _ (first : ℕ) (old : Seat) (opened : ℕ → Connection) (journal : Jou
 
     -- A receive gives bytes of the connection that it names.
     received_of : (id n : ℕ) → Agrees opened (record { call = Recv id n; id = Some id; flow = flow_of id s; reply = reply_of (Recv id n) })
-    received_of id n = by (entry_known_as id s) refl
+    received_of id n = by (flows account base s was id)
       where
-        gone_by : (o : Option GoneConnection) → entry_known_as id s ≡ None → gone_known_as id s ≡ o
+        by : ((entry_known_as id s ≡ None) × (gone_known_as id s ≡ None)) ⊎ ((flow_of id s ≡ Some (opened id).flow) × (1 ≤ (opened id).number))
             → Agrees opened (record { call = Recv id n; id = Some id; flow = flow_of id s; reply = reply_of (Recv id n) })
-        gone_by None unknown none = inl (rw (unknown, none, recv_of) refl)
-        gone_by (Some g) unknown found =
-            let named = found_passes (λ (h : GoneConnection). h.id == id) s.gone g found in
-            let at : g.id ≡ id = grind (arith, nat_tests, named) in
-            let place = find_place (λ (h : GoneConnection). h.id == id) s.gone g found in
-            let on = All-contains (ReceivedOn account base) s.gone g was.left
-            (place.0, slice_get_within s.gone place.0 g place.1, get_or_from_slice_get s.gone place.0 g g place.1) in
-            inr (
-              id,
-              refl,
-              flow_gone id s unknown g found ∙ ap (λ (f : Flow). Some f) (sym on.flow ∙ ap (λ (k : ℕ). (opened k).flow) at),
-              subst (λ (k : ℕ). 1 ≤ (opened k).number) at on.some,
-            )
-
-        by : (o : Option DriverEntry) → entry_known_as id s ≡ o
-            → Agrees opened (record { call = Recv id n; id = Some id; flow = flow_of id s; reply = reply_of (Recv id n) })
-        by None unknown = gone_by (gone_known_as id s) unknown refl
-        by (Some e) known =
-            let passes = found_passes (is_known_as id) s.table.entries e known in
-            let at : e.value.id ≡ id = grind (arith, nat_tests, passes) in
-            let on = All-contains (ReceivesOn account base) s.table.entries e was.held (found_by (is_known_as id) s.table.entries e known).0 in
-            let now : opened id ≡ current Driver e.flow base = ap opened (sym at) ∙ on.present in
-            inr (
-              id,
-              refl,
-              flow_known id s e known ∙ ap (λ (c : Connection). Some c.flow) (sym now),
-              subst (λ (c : Connection). 1 ≤ c.number) (sym now) on.some,
-            )
+        by (inl none) = inl (rw (none.0, none.1, recv_of) refl)
+        by (inr on) = inr (id, refl, on.0, on.1)
 
     reply_agrees : (call : GuestCall) → Agrees opened (record { call = call; id = id_named call s; flow = flow_named call s; reply = reply_of call })
     reply_agrees (Recv id n) = received_of id n
@@ -226,17 +218,18 @@ module _ (first : ℕ) (old : Seat) (opened : ℕ → Connection) (journal : Jou
     call_by_flow (Send id bytes) f = sent_by_flow f id bytes
     call_by_flow call f = either_none (is_on f (flow_named call s)) [] refl
 
-    pub call_left : (call : GuestCall) (part : Ends) (slots : HeldSlots) (log : Log)
-        → Walks first old (account_after call (reply_of call) account) (sent_with first s base call (reply_of call)) part slots log
-        → Left old opened (with_call call s (reply_of call) journal) part slots log
-    call_left call part slots log x = let now = further_journal 1 opened journal call s (reply_of call) slots log x.2 in record {
+    pub call_left : (call : GuestCall) (part : Ends) (t : DriverState) (log : Log) → After first old account s base call (reply_of call) part t log
+        → Left old opened s journal (with_call call s (reply_of call) journal) part t log
+    call_left call part t log x = let now = further_journal 1 opened journal call s (reply_of call) (slots_of t) log x.2 in record {
       goes = x.0;
       fits = x.1;
       opened = now.0;
       on = now.1;
       received = now.2;
+      waiting = x.3 None tt;
+      named = call_named call (reply_of call) s journal part t log x.3;
       agrees = agree_on opened now.0 now.1 (with_call call s (reply_of call) journal) (reply_agrees call, agrees);
       sent = λ f.
           ap (λ (xs : List ℕ). xs ++ cond (is_on f (flow_named call s)) (bytes_sent call (reply_of call)) []) (sent f)
-          ∙ ap (λ (xs : List ℕ). payload_put Driver (first_of f) base ++ xs) (call_by_flow call f) ∙ sym (x.3 (first_of f));
+          ∙ ap (λ (xs : List ℕ). payload_put Driver (first_of f) base ++ xs) (call_by_flow call f) ∙ sym (x.4 (first_of f));
     }

@@ -121,8 +121,7 @@ module _ (device : EndLog) (there : IsFairLog Device device.entries) (fit : Puts
 
   tied : (queue : Queue) (s : Rings × EndLog) → Ties s → TxHolds (after_reap queue s.0) s.1 × ((after_reap queue s.0).cid < 2 ^ 64)
   tied Rx s ties = (ties.pages, ties.cid)
-  tied Tx s ties = (ties.pages, ties.cid)
-  tied Event s ties = (ties.pages, ties.cid)
+  tied x s ties = (ties.pages, ties.cid)
 
   -- Each call gets an answer that a ring may give.
   one : (call : DriverCall) (s : Rings × EndLog) → Ties s → CanMake call (shown s)
@@ -133,9 +132,8 @@ module _ (device : EndLog) (there : IsFairLog Device device.entries) (fit : Puts
   )
     where
       staged : (queue : Queue) → (queue ≡ Tx → HoldsPacket page) → AllPacked (log_staged queue page s.1).staged.tx
-      staged Rx holds = ties.pages.1
-      staged Event holds = ties.pages.1
       staged Tx holds = one_more s.1.staged.tx page ties.pages.1 (holds refl)
+      staged x holds = ties.pages.1
   one (Publish queue) s ties can =
       let p = published queue (can refl s.1 refl) in (
         (

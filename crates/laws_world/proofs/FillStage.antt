@@ -222,9 +222,8 @@ module _ (w : World) (fine : w.proxy.device.failed ≡ None) (e : DeviceEntry) w
         → (let r = played answer_around (read_answered c e answer payload (record x { state = holding_in w c })) b in
         Does (held_world w c a) (with_device r.0.state w.proxy) r.1)
     answered_from (read.Got n) payload b leads = payload_from n payload b leads
-    answered_from read.Again payload b leads = record { leads = leads; fine = fine }
-    answered_from read.End payload b leads = record { leads = leads; fine = fine }
     answered_from read.Failed payload b leads = closing_from b e.value.closed leads
+    answered_from y payload b leads = record { leads = leads; fine = fine }
 
   reads_from : (x : Filling)
       → ((c : Chain) (a : Around) → let r = played answer_around (bind (read_with_chain e (filling (holding_in w c)))

@@ -38,8 +38,7 @@ after call v = let r = device_answer call (v.lists, v.device) in record v { list
 
 none_taken : (queue : Queue) (v : Ends) → (queue_of queue v.lists).given ≡ [] → flight_of (taken queue v) ≡ flight_of v
 none_taken Rx v e = rw e refl
-none_taken Tx v e = rw e refl
-none_taken Event v e = rw e refl
+none_taken x v e = rw e refl
 
 take_leaves : (queue : Queue) (v : Ends) (given : List (List ℕ)) → (queue_of queue v.lists).given ≡ given → flight_of (taken queue v) ≡ flight_of v
 take_leaves queue v [] e = none_taken queue v e
@@ -47,13 +46,11 @@ take_leaves queue v (page ∷ pages) e = flight_of-taken queue page pages v e
 
 size_taken : (queue : Queue) (v : Ends) → (taken queue v).lists.size ≡ v.lists.size
 size_taken Rx v = refl
-size_taken Tx v = refl
-size_taken Event v = refl
+size_taken x v = refl
 
 size_returned : (queue : Queue) (page : List ℕ) (w : Rings) → (after_return queue page w).size ≡ w.size
 size_returned Rx page w = refl
-size_returned Tx page w = refl
-size_returned Event page w = refl
+size_returned x page w = refl
 
 leaves : (call : DeviceCall) (v : Ends) → IsHeldFor (Ring call) (device_contents v) → LeavesDriver v (after call v)
 leaves (Take queue) v can = record {

@@ -2,8 +2,8 @@
 use Rattle.std.proofs.Common.{◌≡◌, List, [], ◌∷◌, ◌++◌, refl, ap, subst, ◌∙◌, ℕ}
 use Rattle.vs_page.specs.declared.log.LogEntry.TheVariants.{GotEvent, GotPacket, Mark, PutEvent, PutPacket}
 use Rattle.vs_page.specs.Log.{Device, Driver, Log, Role}
-use Rattle.laws_tables.specs.Both.{Asks, Both, Decides, Forgets, Happening, MakesReset, Opens, Pays, PutsEvent, Replies, Sends, Step, Takes}
-use Rattle.laws_tables.specs.Both.{TakesEvent, TakesReset, at, happens, log_after, run}
+use Rattle.laws_tables.specs.Both.{Both, Happening, MakesReset, Opens, Pays, PutsEvent, Replies, Sends, Step, Takes, TakesEvent, TakesReset, at}
+use Rattle.laws_tables.specs.Both.{happens, log_after, run}
 use Rattle.laws_tables.specs.Steps.{owed_on, payload_on, reply_on, request_on}
 use Rattle.laws_world.specs.Sides.{Runs}
 
@@ -13,17 +13,15 @@ Grows older log = (newer : Log) × (log ≡ newer ++ older)
 
 step_grows : (role : Role) (cid : ℕ) (step : Step) (log : Log) → Grows log (log_after role cid step log)
 step_grows role cid (Opens f kind) log = (PutPacket (request_on role cid f kind) ∷ [], refl)
-step_grows role cid (Asks f kind) log = ([], refl)
 step_grows role cid (Sends f e payload) log = (PutPacket (payload_on role cid f e payload) ∷ [], refl)
 step_grows role cid (Pays f e what) log = (PutPacket (owed_on role cid f e what) ∷ [], refl)
 step_grows role cid (Replies r rest) log = (PutPacket (reply_on role cid r) ∷ [], refl)
-step_grows role cid (Decides f e what) log = ([], refl)
-step_grows role cid Forgets log = ([], refl)
 step_grows role cid (Takes p answer) log = (GotPacket p ∷ [], refl)
 step_grows role cid (PutsEvent id) log = (PutEvent id ∷ [], refl)
 step_grows role cid (TakesEvent id) log = (GotEvent id ∷ [], refl)
 step_grows role cid (MakesReset new) log = (Mark new ∷ [], refl)
 step_grows role cid (TakesReset new) log = (Mark new ∷ [], refl)
+step_grows role cid x log = ([], refl)
 
 one_grows : (side role : Role) (step : Step) (b : Both) → Grows (at side b).log (at side (happens role step b)).log
 one_grows Driver Driver step b = step_grows Driver b.driver.part.cid step b.driver.log

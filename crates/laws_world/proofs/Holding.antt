@@ -6,7 +6,7 @@ use Rattle.vs_ring_port.specs.Chains.{Held, bytes_in, chains_of, same_chain}
 use Rattle.vs_ring_port.specs.Contents.{RingContents, DeviceCall, Take, Read, Write, Return, Given, PublishCid}
 use Rattle.vs_ring_port.specs.declared.device_ring.Chain.{Chain}
 use Rattle.vs_ring_list.proofs.Held.{same_chain_is}
-use Rattle.vs_device_parts.specs.Calls.{Call, Answer, Ring, Accept, Dial, Label, ReadStream, WriteStream, ShutWrite, CloseStream, Situation}
+use Rattle.vs_device_parts.specs.Calls.{Call, Answer, Ring, Situation}
 use Rattle.vs_device_parts.specs.{Calls.DeviceTree, Calls.Allows, Playing.CanMake, Playing.MayRun}
 use Rattle.laws_device.proofs.Keeping.{Can, HoldsChain, Keeps, lets}
 
@@ -22,22 +22,12 @@ MayHold tree s = MayPlay CanHold Allows tree s
 
 -- Of a call that keeps the log of its ring.
 ring_held : (call : DeviceCall) (c : RingContents) → Can (Ring call) c → IsHeldFor (Ring call) c
-ring_held (Take queue) c can = tt
-ring_held (Read chain place count) c can = tt
-ring_held (Write chain place bytes) c can = tt
 ring_held (Return chain len) c can = can.1
-ring_held (Given queue) c can = tt
-ring_held (PublishCid cid) c can = tt
+ring_held x c can = tt
 
 can_held : (call : Call) (c : RingContents) → Can call c → IsHeldFor call c
 can_held (Ring call) c can = ring_held call c can
-can_held Accept c can = tt
-can_held (Dial path flow) c can = tt
-can_held (Label stream flow) c can = tt
-can_held (ReadStream stream n) c can = tt
-can_held (WriteStream stream bytes) c can = tt
-can_held (ShutWrite stream) c can = tt
-can_held (CloseStream stream) c can = tt
+can_held x c can = tt
 
 pub kept_held : {A : Type 0} (Q : A → Situation → Type 0) (tree : DeviceTree A) (s : Situation) → Keeps Q tree s → MayHold tree s
 kept_held Q (Done x) s keeps = tt
@@ -74,13 +64,7 @@ ring_made (PublishCid cid) s some can = tt
 
 made_held : (call : Call) (s : Situation) → ReturnsSome call → CanMake call s → CanHold call s
 made_held (Ring call) s some can = ring_made call s some can
-made_held Accept s some can = tt
-made_held (Dial path flow) s some can = tt
-made_held (Label stream flow) s some can = tt
-made_held (ReadStream stream n) s some can = tt
-made_held (WriteStream stream bytes) s some can = tt
-made_held (ShutWrite stream) s some can = tt
-made_held (CloseStream stream) s some can = tt
+made_held x s some can = tt
 
 pub some_held : {A : Type 0} (tree : DeviceTree A) (s : Situation) → AllReturnSome tree → MayRun tree s → MayHold tree s
 some_held (Done x) s some may = tt

@@ -1,46 +1,47 @@
--- A fact of the driver's connections through each of its steps: it is kept where a connection changes, one leaves the table and one opens.
-use Rattle.std.proofs.Common.{◌≡◌, ℕ, ◌==◌, ◌&&◌, Bool, true, false, not, cond, List, [], ◌∷◌, length, filter, Contains, Option, Some, None, refl, sym}
-use Rattle.std.proofs.Common.{ap, subst, ◌∙◌, arith}
-use Rattle.std.proofs.lemmas.{Bool.Decides.nat_tests, Option.slice_get-get_or}
+-- A fact of the driver's connections and of who waits, through each of the driver's steps and each call of the guest's: it is kept where small
+-- changes keep it.
+use Rattle.std.proofs.Common.{◌≡◌, ℕ, ◌==◌, ◌&&◌, Bool, true, false, not, cond, List, [], ◌∷◌, ◌++◌, length, filter, Option, Some, None, is_some}
+use Rattle.std.proofs.Common.{Result, Ok, Err, refl, ap, subst, ◌∙◌}
 use Rattle.std.specs.List.{slice_get}
 use Rattle.vs_conn.specs.{End.ConnectionEnd, End.is_reset, declared.end.Owed.Owed, declared.end.State.State, declared.end.Verdict.Verdict}
-use Rattle.vs_flow.specs.{Table.IsRising, Table.IsTable, Table.Table, Table.entry_of, Table.entry_under, declared.flow.Flow.Flow}
-use Rattle.vs_flow.proofs.{Entries.found_at, Tables.without_sound}
+use Rattle.vs_flow.specs.{Table.IsRising, Table.IsTable, Table.Table, Table.entry_of, Table.entry_under, Table.without, declared.flow.Flow.Flow}
+use Rattle.vs_flow.proofs.Tables.{without_sound}
+use Rattle.vs_header.specs.declared.Header.{Header}
 use Rattle.laws_history.specs.declared.packet.Packet.{Packet}
 use Rattle.vs_page.specs.{Log.Driver, Log.flow_to_guest, Open.is_dropped}
-use Rattle.vs_driver_parts.specs.State.{DriverConnection, DriverEntry, DriverState, GoneConnection, entry_known_as, is_known_as}
-use Rattle.vs_driver_parts.specs.Connections.{after_leaving, after_read, after_recv, after_shut, after_shutdown, all_gone_after_read, connected}
-use Rattle.vs_driver_parts.specs.Connections.{entry_read, next_flow, paid_connection, shut_in, waits_no_more, with_connection, with_end}
-use Rattle.vs_driver_parts.specs.{Connections.with_opened, Connections.with_request, Conversations.after_paying}
-use Rattle.vs_driver_parts.specs.Receiving.{after_packet, after_reset, after_verdict, all_left, ends_connection, is_request, may_open}
-use Rattle.vs_driver_parts.specs.Receiving.{on_heard, on_known, on_packet, on_unknown, reset_reply, with_reply}
+use Rattle.vs_driver_parts.specs.State.{DriverConnection, DriverEntry, DriverState, GoneConnection, Listener, entry_known_as, gone_known_as}
+use Rattle.vs_driver_parts.specs.State.{is_known_as}
+use Rattle.vs_driver_parts.specs.Connections.{after_close, after_closing, after_leaving, after_read, after_recv, after_shut, after_shutdown}
+use Rattle.vs_driver_parts.specs.Connections.{after_unlisten, all_closed, all_gone_after_read, entry_closed, entry_read, gone_as, gone_closed}
+use Rattle.vs_driver_parts.specs.Connections.{is_let_go, next_flow, paid_connection, shut_in, waiting_on, waits_no_more, with_connection, with_end}
+use Rattle.vs_driver_parts.specs.Connections.{with_opened}
+use Rattle.vs_driver_parts.specs.{Connections.with_request, Connections.without_gone, Connections.without_listener, Conversations.after_paying}
+use Rattle.vs_driver_parts.specs.Listening.{listen_of, listener_on, listening, next_accepted, with_port, with_waiting, without_id}
+use Rattle.vs_driver_parts.specs.declared.answers.ListenError.{ListenError}
+use Rattle.vs_driver_parts.specs.Receiving.{after_packet, after_verdict, all_left, ends_connection, is_request, may_open, on_heard, on_known}
+use Rattle.vs_driver_parts.specs.Receiving.{on_packet, on_unknown, reset_reply, with_reply}
 use Rattle.vs_replies.specs.Owed.{reply_to}
 use Rattle.vs_wrap.specs.Wrap.{counted}
 use Rattle.vs_driver_parts.proofs.{Ids.found_under, Packets.first_under, Packets.others_left, SameIds.packet_id}
+use Rattle.laws_driver.specs.Honest.{IsFitState}
+use Rattle.laws_driver.proofs.{Carrying.Carries, Carrying.Fact, Changing.close_changes}
+use Rattle.laws_driver_bytes.specs.Calls.{Accept, Close, Connect, GuestCall, Listen, LookAt, Recv, Send, Shutdown, Unlisten}
+use Rattle.laws_driver_bytes.proofs.Making.{CarriesCall}
+use Rattle.laws_world.proofs.Listeners.{AllIds}
 use Rattle.vs_conn.specs.declared.end.Owed.TheVariants as owed
 use Rattle.vs_conn.specs.declared.end.State.TheVariants as state
 use Rattle.vs_conn.specs.declared.end.Verdict.TheVariants as verdict
-
--- An entry's slot is its own.
-pub same_entry : (t : Table DriverConnection) (x e : DriverEntry) → IsTable t → Contains t.entries x → entry_under t e.slot ≡ Some e → (x.slot == e.slot) ≡ true
-    → x ≡ e
-same_entry t x e sound there under is =
-    let at : x.slot ≡ e.slot = grind (arith, nat_tests, is) in
-    let found : entry_under t x.slot ≡ Some x =
-    found_at t.entries there.0 x sound.rising (slice_get-get_or t.entries there.0 x there.1 ∙ ap (λ (y : DriverEntry). Some y) there.2) in
-    let both : Some x ≡ Some e = sym found ∙ ap (λ (n : ℕ). entry_under t n) at ∙ under in
-    cc
 
 packet_same : (v : Verdict) (p : Packet) (c : DriverConnection) → ((after_packet v p c).closed ≡ c.closed) × ((after_packet v p c).unanswered ≡ c.unanswered)
 packet_same verdict.Deliver p c = (refl, refl)
 packet_same _ p c = (refl, refl)
 
--- A fact of the next id, of the connections of the table and of those that are gone.
-abbrev pub TableFact : Type 1
-TableFact = ℕ → List DriverEntry → List GoneConnection → Type 0
+-- A fact of the next id, of the table, of the connections that are gone and of who waits.
+abbrev pub Sight : Type 1
+Sight = ℕ → Table DriverConnection → List GoneConnection → List Listener → Type 0
 
-abbrev pub SaysOf : TableFact → DriverState → Type 0
-SaysOf P s = P s.next_id s.table.entries s.gone
+abbrev pub Sees : Sight → DriverState → Type 0
+Sees P s = P s.next_id s.table s.gone s.listeners
 
 -- A connection keeps its id, is closed where it was, and is answered where it was.
 pub record StaysSame (c d : DriverConnection) : Type 0 where
@@ -48,49 +49,69 @@ pub record StaysSame (c d : DriverConnection) : Type 0 where
   pub closed_is : d.closed ≡ c.closed
   pub answered : c.unanswered ≡ false → d.unanswered ≡ false
 
-pub record IsKept (P : TableFact) : Type 0 where
-  -- A connection of the table changes, and leaves it.
-  pub changes : (s : DriverState) (e : DriverEntry) (c : DriverConnection) → IsTable s.table → entry_under s.table e.slot ≡ Some e → StaysSame e.value c
-      → SaysOf P s → SaysOf P (with_connection e.slot c s)
-  pub leaves : (s : DriverState) (e : DriverEntry) (c : DriverConnection) → IsTable s.table → entry_under s.table e.slot ≡ Some e → StaysSame e.value c
-      → SaysOf P s → SaysOf P (after_leaving (record e { value = c }) s)
-  -- One opens.
-  pub opens : (s : DriverState) (f : Flow) (end : ConnectionEnd) (unanswered : Bool) → SaysOf P s → SaysOf P (with_opened f end unanswered s)
-  -- Bytes are read of one that is gone.
-  pub reads : (id n : ℕ) (s : DriverState) → SaysOf P s → P s.next_id s.table.entries (all_gone_after_read id n s.gone)
+abbrev pub gone_with : DriverEntry → List GoneConnection → List GoneConnection
+gone_with e gone = cond (is_let_go e.value) gone (gone ++ gone_as e ∷ [])
 
-module _ (P : TableFact) (kept : IsKept P) where
-  list_kept : (b : Bool) (e : DriverEntry) (s : DriverState) → SaysOf P s → SaysOf P (cond b (waits_no_more e s) s)
-  list_kept true e s holds = holds
+-- The small changes keep it, where ids are closed that may be.
+pub record IsKept (May : ℕ → Type 0) (P : Sight) : Type 0 where
+  -- A connection of the table changes, and leaves it.
+  pub changes : (s : DriverState) (e : DriverEntry) (c : DriverConnection) → entry_under s.table e.slot ≡ Some e → StaysSame e.value c
+      → Sees P s → Sees P (with_connection e.slot c s)
+  pub leaves : (s : DriverState) (e : DriverEntry) (c : DriverConnection) → entry_under s.table e.slot ≡ Some e → StaysSame e.value c
+      → Sees P s → P s.next_id (without s.table e.slot) (gone_with (record e { value = c }) s.gone) s.listeners
+  -- One opens, asked for by the guest, and by the host.
+  pub opens : (s : DriverState) (f : Flow) (end : ConnectionEnd) → Sees P s → Sees P (with_opened f end false s)
+  pub asks : (s : DriverState) (f : Flow) (h : Header) → Sees P s → Sees P (with_request f h s)
+  -- Bytes are read of one that is gone.
+  pub reads : (id n : ℕ) (s : DriverState) → Sees P s → P s.next_id s.table (all_gone_after_read id n s.gone) s.listeners
+  -- An id waits no more; a port is listened on, and no more.
+  pub less : (port id : ℕ) (s : DriverState) → Sees P s → P s.next_id s.table s.gone (with_waiting port (without_id id) s.listeners)
+  pub listens : (port : ℕ) (s : DriverState) → Sees P s → P s.next_id s.table s.gone (with_port port s.listeners)
+  pub unlistens : (port : ℕ) (s : DriverState) → Sees P s → P s.next_id s.table s.gone (without_listener port s.listeners)
+  -- An id is closed, of the table and of one that is gone. Those that wait may be.
+  pub closes : (id : ℕ) → May id → (s : DriverState) (e : DriverEntry) → IsTable s.table → entry_known_as id s ≡ Some e → Sees P s
+      → Sees P (with_connection e.slot (after_closing e.value.end.state e.value) s)
+  pub forgets : (id : ℕ) → May id → (s : DriverState) → Sees P s → P s.next_id s.table (without_gone id s.gone) s.listeners
+  pub waiting : (port : ℕ) (s : DriverState) → Sees P s → AllIds May (waiting_on port s)
+
+module _ {May : ℕ → Type 0} (P : Sight) (kept : IsKept May P) where
+  list_kept : (b : Bool) (e : DriverEntry) (s : DriverState) → Sees P s → Sees P (cond b (waits_no_more e s) s)
+  list_kept true e s holds = kept.less e.flow.guest e.value.id s holds
   list_kept false e s holds = holds
+
+  leave_kept : (s : DriverState) (e : DriverEntry) (c : DriverConnection) → entry_under s.table e.slot ≡ Some e → StaysSame e.value c → Sees P s
+      → Sees P (after_leaving (record e { value = c }) s)
+  leave_kept s e c under same holds = by c.unanswered
+    where
+      left : DriverState
+      left = record s { table = without s.table e.slot; gone = gone_with (record e { value = c }) s.gone }
+
+      by : (b : Bool) → Sees P (record (cond b (waits_no_more (record e { value = c }) s) s) { table = left.table; gone = left.gone })
+      by true = kept.less e.flow.guest c.id left (kept.leaves s e c under same holds)
+      by false = kept.leaves s e c under same holds
 
   as_it_was : (c : DriverConnection) → StaysSame c c
   as_it_was c = record { id_is = refl; closed_is = refl; answered = λ is. is }
 
-  pub connect_kept : (host : ℕ) (s : DriverState) → SaysOf P s → SaysOf P (connected host s)
-  connect_kept host s holds = kept.opens s (next_flow host s) _ false holds
-
-  pub end_kept : (end : ConnectionEnd) (e : DriverEntry) (s : DriverState) → IsTable s.table → entry_under s.table e.slot ≡ Some e → SaysOf P s
-      → SaysOf P (with_end end e s)
-  end_kept end e s sound under holds =
-      kept.changes s e (record e.value { end = end }) sound under (record { id_is = refl; closed_is = refl; answered = λ is. is }) holds
+  end_kept : (end : ConnectionEnd) (e : DriverEntry) (s : DriverState) → entry_under s.table e.slot ≡ Some e → Sees P s → Sees P (with_end end e s)
+  end_kept end e s under holds =
+      kept.changes s e (record e.value { end = end }) under (record { id_is = refl; closed_is = refl; answered = λ is. is }) holds
 
   -- What a connection owes is put.
-  pub pay_kept : (what : Owed) (e : DriverEntry) (s : DriverState) → IsTable s.table → entry_under s.table e.slot ≡ Some e → SaysOf P s
-      → SaysOf P (after_paying what e s)
-  pay_kept owed.Rst e s sound under holds = kept.leaves s e e.value sound under (as_it_was e.value) holds
-  pay_kept owed.Response e s sound under holds =
-      kept.changes s e (paid_connection owed.Response e.value) sound under (record { id_is = refl; closed_is = refl; answered = λ is. refl }) holds
-  pay_kept what e s sound under holds =
-      kept.changes s e (paid_connection what e.value) sound under (record { id_is = refl; closed_is = refl; answered = λ is. is }) holds
+  pay_kept : (what : Owed) (e : DriverEntry) (s : DriverState) → entry_under s.table e.slot ≡ Some e → Sees P s → Sees P (after_paying what e s)
+  pay_kept owed.Rst e s under holds = leave_kept s e e.value under (as_it_was e.value) holds
+  pay_kept owed.Response e s under holds =
+      kept.changes s e (paid_connection owed.Response e.value) under (record { id_is = refl; closed_is = refl; answered = λ is. refl }) holds
+  pay_kept what e s under holds =
+      kept.changes s e (paid_connection what e.value) under (record { id_is = refl; closed_is = refl; answered = λ is. is }) holds
 
   -- A packet is got.
-  module _ (p : Packet) (s : DriverState) (sound : IsTable s.table) (holds : SaysOf P s) where
-    known_kept : (e : DriverEntry) → entry_under s.table e.slot ≡ Some e → (v : Verdict) → SaysOf P (after_verdict v p e s)
+  module _ (p : Packet) (s : DriverState) (sound : IsTable s.table) (holds : Sees P s) where
+    known_kept : (e : DriverEntry) → entry_under s.table e.slot ≡ Some e → (v : Verdict) → Sees P (after_verdict v p e s)
     known_kept e under (verdict.Rst why) =
         let t : DriverState = record s { broken = counted s.broken } in
         list_kept e.value.unanswered e (with_connection e.slot (after_packet (verdict.Rst why) p e.value) t)
-        (kept.changes t e (after_packet (verdict.Rst why) p e.value) sound under (record { id_is = refl; closed_is = refl; answered = λ is. is }) holds)
+        (kept.changes t e (after_packet (verdict.Rst why) p e.value) under (record { id_is = refl; closed_is = refl; answered = λ is. is }) holds)
     known_kept e under v = by (ends_connection v p.header)
       where
         same : StaysSame e.value (after_packet v p e.value)
@@ -99,33 +120,33 @@ module _ (P : TableFact) (kept : IsKept P) where
             record { id_is = packet_id v p e.value; closed_is = others.0; answered = λ is. others.1 ∙ is }
 
         by : (b : Bool)
-            → SaysOf P (cond b (after_leaving (record e { value = after_packet v p e.value }) s) (with_connection e.slot (after_packet v p e.value) s))
-        by true = kept.leaves s e (after_packet v p e.value) sound under same holds
-        by false = kept.changes s e (after_packet v p e.value) sound under same holds
+            → Sees P (cond b (after_leaving (record e { value = after_packet v p e.value }) s) (with_connection e.slot (after_packet v p e.value) s))
+        by true = leave_kept s e (after_packet v p e.value) under same holds
+        by false = kept.changes s e (after_packet v p e.value) under same holds
 
-    unknown_kept : SaysOf P (on_unknown p s)
+    unknown_kept : Sees P (on_unknown p s)
     unknown_kept = by (is_reset p.header) (is_request p.header && may_open (flow_to_guest p.header) s)
       where
-        by : (r q : Bool) → SaysOf P (cond r s (cond q (with_request (flow_to_guest p.header) p.header s)
+        by : (r q : Bool) → Sees P (cond r s (cond q (with_request (flow_to_guest p.header) p.header s)
             (with_reply (reply_to (flow_to_guest p.header) p.header) s)))
         by true q = holds
-        by false true = kept.opens s (flow_to_guest p.header) _ true holds
+        by false true = kept.asks s (flow_to_guest p.header) p.header holds
         by false false = holds
 
-    pub packet_kept : SaysOf P (on_packet p s)
+    packet_kept : Sees P (on_packet p s)
     packet_kept = by (is_dropped Driver s.cid p.header)
       where
         heard : (o : Option DriverEntry) → entry_of s.table (flow_to_guest p.header) ≡ o
-            → SaysOf P (elim o as (λ _. DriverState) [ None ↦ on_unknown p s | Some e ↦ on_known p e s ])
+            → Sees P (elim o as (λ _. DriverState) [ None ↦ on_unknown p s | Some e ↦ on_known p e s ])
         heard None is = unknown_kept
         heard (Some e) is = known_kept e (found_under _ s.table e sound is) _
 
-        by : (b : Bool) → SaysOf P (cond b s (on_heard p s))
+        by : (b : Bool) → Sees P (cond b s (on_heard p s))
         by true = holds
         by false = heard (entry_of s.table (flow_to_guest p.header)) refl
 
   -- A transport reset: all leave.
-  all_left_kept : (es : List DriverEntry) (s : DriverState) → s.table.entries ≡ es → IsTable s.table → SaysOf P s → SaysOf P (all_left es s)
+  all_left_kept : (es : List DriverEntry) (s : DriverState) → s.table.entries ≡ es → IsTable s.table → Sees P s → Sees P (all_left es s)
   all_left_kept [] s is sound holds = holds
   all_left_kept (e ∷ es) s is sound holds =
       let R : List DriverEntry → Type 0 = λ xs. IsRising xs in
@@ -133,34 +154,107 @@ module _ (P : TableFact) (kept : IsKept P) where
       let under = first_under s.table e sound (ap (λ (xs : List DriverEntry). slice_get xs 0) is) in
       all_left_kept es (with_reply (reset_reply e) (after_leaving e s))
       (ap (λ (xs : List DriverEntry). filter (λ x. not (x.slot == e.slot)) xs) is ∙ others_left e es rising)
-      (without_sound s.table e.slot sound) (kept.leaves s e e.value sound under (as_it_was e.value) holds)
+      (without_sound s.table e.slot sound) (leave_kept s e e.value under (as_it_was e.value) holds)
 
-  pub reset_kept : (cid : ℕ) (s : DriverState) → IsTable s.table → SaysOf P s → SaysOf P (after_reset cid s)
-  reset_kept cid s sound holds = all_left_kept s.table.entries (record s { cid = cid }) refl sound holds
-
-  -- recv and shutdown.
-  pub recv_kept : (id n : ℕ) (s : DriverState) → IsTable s.table → SaysOf P s → SaysOf P (after_recv id n s)
+  -- recv, shutdown, close and unlisten.
+  recv_kept : (id n : ℕ) (s : DriverState) → IsTable s.table → Sees P s → Sees P (after_recv id n s)
   recv_kept id n s sound holds = by (entry_known_as id s) refl
     where
-      read : (b : Bool) (e : DriverEntry) → entry_under s.table e.slot ≡ Some e → SaysOf P (cond b s (with_connection e.slot (after_read n e.value) s))
+      read : (b : Bool) (e : DriverEntry) → entry_under s.table e.slot ≡ Some e → Sees P (cond b s (with_connection e.slot (after_read n e.value) s))
       read true e under = holds
       read false e under =
-          kept.changes s e (after_read n e.value) sound under (record { id_is = refl; closed_is = refl; answered = λ is. is }) holds
+          kept.changes s e (after_read n e.value) under (record { id_is = refl; closed_is = refl; answered = λ is. is }) holds
 
       by : (o : Option DriverEntry) → entry_known_as id s ≡ o
-          → SaysOf P (elim o as (λ _. DriverState) [ Some e ↦ entry_read n e s | None ↦ record s { gone = all_gone_after_read id n s.gone } ])
+          → Sees P (elim o as (λ _. DriverState) [ Some e ↦ entry_read n e s | None ↦ record s { gone = all_gone_after_read id n s.gone } ])
       by None is = kept.reads id n s holds
       by (Some e) is = read (length e.value.unread == 0) e (found_under (is_known_as id) s.table e sound is)
 
-  pub shutdown_kept : (id bits : ℕ) (s : DriverState) → IsTable s.table → SaysOf P s → SaysOf P (after_shutdown id bits s)
+  shutdown_kept : (id bits : ℕ) (s : DriverState) → IsTable s.table → Sees P s → Sees P (after_shutdown id bits s)
   shutdown_kept id bits s sound holds = by (entry_known_as id s) refl
     where
-      shut : (st : State) (e : DriverEntry) → entry_under s.table e.slot ≡ Some e → SaysOf P (shut_in st bits e s)
+      shut : (st : State) (e : DriverEntry) → entry_under s.table e.slot ≡ Some e → Sees P (shut_in st bits e s)
       shut state.Live e under =
-          kept.changes s e (after_shut bits e.value) sound under (record { id_is = refl; closed_is = refl; answered = λ is. is }) holds
+          kept.changes s e (after_shut bits e.value) under (record { id_is = refl; closed_is = refl; answered = λ is. is }) holds
       shut _ e under = holds
 
       by : (o : Option DriverEntry) → entry_known_as id s ≡ o
-          → SaysOf P (elim o as (λ _. DriverState) [ Some e ↦ shut_in e.value.end.state bits e s | None ↦ s ])
+          → Sees P (elim o as (λ _. DriverState) [ Some e ↦ shut_in e.value.end.state bits e s | None ↦ s ])
       by None is = holds
       by (Some e) is = shut e.value.end.state e (found_under (is_known_as id) s.table e sound is)
+
+  close_kept : (id : ℕ) → May id → (s : DriverState) → IsTable s.table → Sees P s → Sees P (after_close id s)
+  close_kept id may s sound holds = by (entry_known_as id s) refl
+    where
+      gone_by : (o : Option GoneConnection) → Sees P (elim o as (λ _. DriverState) [
+        | None ↦ s
+        | Some g ↦ record s { gone = without_gone id s.gone; listeners = with_waiting g.flow.guest (without_id id) s.listeners }
+      ])
+      gone_by None = holds
+      gone_by (Some g) = kept.less g.flow.guest id (record s { gone = without_gone id s.gone }) (kept.forgets id may s holds)
+
+      by : (o : Option DriverEntry) → entry_known_as id s ≡ o → Sees P (elim o as (λ _. DriverState) [ Some e ↦ entry_closed e s | None ↦ gone_closed id s ])
+      by None is = gone_by (gone_known_as id s)
+      by (Some e) is =
+          kept.less e.flow.guest e.value.id (with_connection e.slot (after_closing e.value.end.state e.value) s) (kept.closes id may s e sound is holds)
+
+  closes_kept : (ids : List ℕ) → AllIds May ids → (s : DriverState) → IsFitState s → Sees P s → Sees P (all_closed ids s)
+  closes_kept [] may s fits holds = holds
+  closes_kept (id ∷ ids) may s fits holds =
+      closes_kept ids may.1 (after_close id s) (close_changes id s fits).fits (close_kept id may.0 s fits.sound holds)
+
+  unlisten_kept : (b : Bool) (port : ℕ) (s : DriverState) → IsFitState s → Sees P s
+      → Sees P (elim b as (λ _. DriverState) [ true ↦ after_unlisten port s | false ↦ s ])
+  unlisten_kept true port s fits holds = kept.unlistens port (all_closed (waiting_on port s) s) (closes_kept (waiting_on port s) (kept.waiting port s holds) s fits holds)
+  unlisten_kept false port s fits holds = holds
+
+  listen_kept : (o : Result (Unit {0}) ListenError) (port : ℕ) (s : DriverState) → Sees P s
+      → Sees P (elim o as (λ _. DriverState) [ Ok x ↦ listening port s | Err why ↦ s ])
+  listen_kept (Ok x) port s holds = kept.listens port s holds
+  listen_kept (Err why) port s holds = holds
+
+  accept_kept : (o : Option ℕ) (port : ℕ) (s : DriverState) → Sees P s
+      → Sees P (elim o as (λ _. DriverState) [ None ↦ s | Some id ↦ record s { listeners = with_waiting port (without_id id) s.listeners } ])
+  accept_kept None port s holds = holds
+  accept_kept (Some id) port s holds = kept.less port id s holds
+
+-- The id that a call closes may be closed.
+abbrev pub MayMake : (ℕ → Type 0) → GuestCall → Type 0
+MayMake May (Close id) = May id
+MayMake May _ = Unit {0}
+
+-- Facts of which each holds where it held at first.
+module _ {I : Type 0} (P : I → Sight) (May : I → ℕ → Type 0) (kept : (i : I) → IsKept (May i) (P i)) (start : I → Type 0) where
+  abbrev pub AllKept : Fact
+  AllKept part s log = (i : I) → start i → Sees (P i) s
+
+  pub poll_kept : (first : ℕ) → Carries first AllKept
+  poll_kept first = record {
+    owed = λ what e s log fits stands owes m was fair held i x. pay_kept (P i) (kept i) what e s stands.under (held i x);
+    reply = λ r rest s log fits is m fair held. held;
+    got = λ p s log fits ports whole m was fair held i x. packet_kept (P i) (kept i) p s fits.sound (held i x);
+    event = λ id s log held. held;
+    reset = λ cid s log less fits held i x. all_left_kept (P i) (kept i) s.table.entries (record s { cid = cid }) refl fits.sound (held i x);
+  }
+
+  pub call_kept : (first : ℕ) (call : GuestCall) → ((i : I) → start i → MayMake (May i) call) → CarriesCall first call AllKept (λ reply. AllKept)
+  call_kept first (Connect port) may = record {
+    refused = λ why s log held. held;
+    opens = λ s log fits free m was fair held i x. (kept i).opens s (next_flow port s) _ (held i x);
+  }
+  call_kept first (Send id bytes) may = record {
+    stopped = λ why s log held. held;
+    unknown = λ s log none held. held;
+    empty = λ s log held. held;
+    full = λ n s log held. held;
+    wants = λ e s log fits stands m held i x. end_kept (P i) (kept i) _ e s stands.under (held i x);
+    sends = λ e n s log fits stands known can few m was fair held i x. end_kept (P i) (kept i) _ e s stands.under (held i x);
+  }
+  call_kept first (Listen port) may = λ s log fits m held i x. listen_kept (P i) (kept i) (listen_of port s) port s (held i x)
+  call_kept first (Unlisten port) may = λ s log fits m held i x.
+      unlisten_kept (P i) (kept i) (is_some (listener_on port s.listeners)) port s fits (held i x)
+  call_kept first (Accept port) may = λ s log fits m held i x. accept_kept (P i) (kept i) (next_accepted port s) port s (held i x)
+  call_kept first (Recv id n) may = λ s log fits m held i x. recv_kept (P i) (kept i) id n s fits.sound (held i x)
+  call_kept first (Shutdown id bits) may = λ s log fits m held i x. shutdown_kept (P i) (kept i) id bits s fits.sound (held i x)
+  call_kept first (Close id) may = λ s log fits m held i x. close_kept (P i) (kept i) id (may i x) s fits.sound (held i x)
+  call_kept first (LookAt id) may = λ s log fits m held. held

@@ -37,12 +37,6 @@ pub mod Flown
 pub mod OverBoth
 pub mod StayOpen
 pub mod Listeners
-pub mod Waiters
 pub mod Keeping
 pub mod Names
-pub mod Closed
-pub mod DriverEnds
-pub mod WaitEnds
-pub mod EventWalks
 pub mod NamesStay
-pub mod ClosedStay

@@ -1,9 +1,8 @@
 -- Who waits on the ports that are listened on, through each change of the driver's lists.
-use Rattle.std.proofs.Common.{◌≡◌, ◌≢◌, ℕ, ◌≤◌, ◌==◌, Bool, true, false, not, cond, List, [], ◌∷◌, ◌++◌, filter, find, Option, Some, None}
+use Rattle.std.proofs.Common.{◌≡◌, ◌≢◌, ℕ, ◌<◌, ◌==◌, Bool, true, false, not, cond, List, [], ◌∷◌, ◌++◌, filter, find, Option, Some, None}
 use Rattle.std.proofs.Common.{refl, sym, ap, subst, ◌∙◌, arith}
 use Rattle.std.proofs.lemmas.Bool.Decides.{nat_tests}
 use Rattle.std.specs.Option.{option_map_or}
-use Rattle.vs_flow.specs.{Connection.Connection}
 use Rattle.vs_driver_parts.specs.Listening.{listener_on, with_port, with_waiting, without_id}
 use Rattle.vs_driver_parts.specs.{State.DriverState, State.Listener, Connections.without_listener, Connections.waiting_on}
 
@@ -16,13 +15,17 @@ abbrev pub AllWait : (ℕ → ℕ → Type 0) → List Listener → Type 0
 AllWait P [] = Unit {0}
 AllWait P (l ∷ ls) = AllIds (P l.port) l.waiting × AllWait P ls
 
--- A connection of the port has the id.
-abbrev pub IsOfPort : (ℕ → Connection) → ℕ → ℕ → Type 0
-IsOfPort opened port id = (1 ≤ (opened id).number) × ((opened id).flow.guest ≡ port)
+-- The id was given, where the next one is this, and to a connection of the port.
+abbrev pub IsOfPort : ℕ → (ℕ → ℕ) → ℕ → ℕ → Type 0
+IsOfPort next port_of port id = (id < next) × (port_of id ≡ port)
 
 -- Nobody waits with this id.
 abbrev pub IsOther : ℕ → ℕ → ℕ → Type 0
 IsOther id port other = other ≢ id
+
+pub any_ids : (P : ℕ → Type 0) → ((id : ℕ) → P id) → (ids : List ℕ) → AllIds P ids
+any_ids P each [] = tt
+any_ids P each (id ∷ ids) = (each id, any_ids P each ids)
 
 module _ (P Q : ℕ → Type 0) (then_ : (id : ℕ) → P id → Q id) where
   pub ids_weaker : (ids : List ℕ) → AllIds P ids → AllIds Q ids
@@ -118,12 +121,12 @@ none_left id (x ∷ ids) = by (x == id) refl (none_left id ids)
     by true is rest = rest
     by false is rest = ((λ (at : x ≡ id). grind (arith, nat_tests, is, at)), rest)
 
-module _ (opened : ℕ → Connection) (port id : ℕ) (of : IsOfPort opened port id) where
-  others : (at : ℕ) → at ≢ port → (ids : List ℕ) → AllIds (IsOfPort opened at) ids → AllIds (λ other. other ≢ id) ids
+module _ (next : ℕ) (port_of : ℕ → ℕ) (port id : ℕ) (of : port_of id ≡ port) where
+  others : (at : ℕ) → at ≢ port → (ids : List ℕ) → AllIds (IsOfPort next port_of at) ids → AllIds (λ other. other ≢ id) ids
   others at apart [] all = tt
-  others at apart (x ∷ ids) all = ((λ (same : x ≡ id). apart (sym all.0.1 ∙ ap (λ (k : ℕ). (opened k).flow.guest) same ∙ of.1)), others at apart ids all.1)
+  others at apart (x ∷ ids) all = ((λ (same : x ≡ id). apart (sym all.0.1 ∙ ap port_of same ∙ of)), others at apart ids all.1)
 
-  pub accepted_other : (ls : List Listener) → AllWait (IsOfPort opened) ls → AllWait (IsOther id) (with_waiting port (without_id id) ls)
+  pub accepted_other : (ls : List Listener) → AllWait (IsOfPort next port_of) ls → AllWait (IsOther id) (with_waiting port (without_id id) ls)
   accepted_other [] all = tt
   accepted_other (l ∷ ls) all = by (l.port == port) refl (accepted_other ls all.1)
     where

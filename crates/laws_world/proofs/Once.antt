@@ -12,11 +12,11 @@ use Rattle.vs_page.specs.{Fair.asked_by, Fair.number_of, Open.is_dropped, Log.De
 use Rattle.vs_page.specs.Log.{flow_got, flow_put, other_role, side_of, whole_of}
 use Rattle.vs_page.specs.declared.log.LogEntry.TheVariants.{GotPacket, PutPacket}
 use Rattle.vs_page.proofs.{Entries.got_on, Entries.on_flow, Flows.opposite_by, Flows.same_is, Flows.same_self}
-use Rattle.laws_tables.specs.{Heard.own_port, Matches.MatchesFlows, Both.Aborts, Both.Asks, Both.Both, Both.Decides, Both.Decision}
-use Rattle.laws_tables.specs.Both.{Forgets, Forwards, Grows, Happening, IsSound, MakesReset, MayHappen, MayRun, Opens, Pays, PutsEvent}
-use Rattle.laws_tables.specs.Both.{Replies, Seat, Sends, Shuts, Step, Takes, TakesEvent, TakesReset, WantsCredit, after, after_packet}
-use Rattle.laws_tables.specs.{Both.answered, Both.at, Both.decided, Both.happens, Both.run, Both.start, Ends.Ends, Ends.FlowEnd}
-use Rattle.laws_tables.specs.{Ends.answer_kind, Ends.ends_of, Ends.is_new, Ends.replaced, Ends.without_flow, Steps.asking, Steps.is_kept}
+use Rattle.laws_tables.specs.{Heard.own_port, Matches.MatchesFlows, Both.Asks, Both.Both, Both.Decides, Both.Decision}
+use Rattle.laws_tables.specs.Both.{Forgets, Forwards, Happening, IsSound, MakesReset, MayHappen, MayRun, Opens, Pays, PutsEvent, Replies, Seat, Sends}
+use Rattle.laws_tables.specs.Both.{Step, Takes, TakesEvent, TakesReset, after, after_packet}
+use Rattle.laws_tables.specs.{Both.answered, Both.at, Both.decided, Both.happens, Both.run, Both.start, Ends.Ends, Ends.FlowEnd, Ends.answer_kind}
+use Rattle.laws_tables.specs.{Ends.ends_of, Ends.is_new, Ends.replaced, Ends.without_flow, Steps.asking, Steps.is_kept}
 use Rattle.laws_tables.specs.Steps.{left, opened, owed_on, payload_on, port_after, reply_on, request_on, with_clean, with_connection}
 use Rattle.laws_tables.specs.Steps.{with_end}
 use Rattle.laws_tables.proofs.{Both.next_is_fair, Both.step_keeps, Fair.own_got_fair, Steps.owed_flow, Steps.request_flow, Tables.only_end}
@@ -111,10 +111,7 @@ owes_new = grind (arith, common_steps)
 
 decided_old : (e : ConnectionEnd) (what : Decision) → is_new e ≡ false → is_new (decided e what) ≡ false
 decided_old e (Forwards n) old = grind (arith, common_steps, old)
-decided_old e (Shuts bits) old = grind (arith, common_steps, old)
-decided_old e Aborts old = grind (arith, common_steps, old)
-decided_old e WantsCredit old = grind (arith, common_steps, old)
-decided_old e (Grows alloc) old = grind (arith, common_steps, old)
+decided_old e x old = grind (arith, common_steps, old)
 
 -- It is new only where it was.
 was_new : (old now : Bool) → (old ≡ false → now ≡ false) → now ≡ true → old ≡ true

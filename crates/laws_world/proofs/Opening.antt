@@ -22,7 +22,7 @@ use Rattle.laws_driver_bytes.specs.Received.{AreReceived, no_account}
 use Rattle.laws_driver_bytes.proofs.Connecting.{none_received}
 use Rattle.laws_device.proofs.Seats.{PutsFit}
 use Rattle.laws_world.proofs.{Once.AreOnce, Once.start_once, Played.opening_queued, Runs.and_then, Sound.Goes, Sound.IsWell}
-use Rattle.laws_world.proofs.{Listeners.AllWait, Listeners.IsOfPort}
+use Rattle.laws_world.proofs.{Listeners.AllWait, Listeners.IsOfPort, Names.named_then}
 use Rattle.laws_world.proofs.Sound.{goes_still, happens_goes}
 use Rattle.laws_device_bytes.proofs.Changing.{no_streams}
 use Rattle.laws_tables.specs.Both as both
@@ -161,7 +161,7 @@ module _ (n : ℕ) (host : HostContents) where
     received = subst (λ (log : Log). AreReceived (no_account 1) log (slots_of (opening n host).driver)) (sym log_empty)
         (subst (λ (s : DriverState). AreReceived (no_account 1) [] (slots_of s)) (sym new.state) (none_received n FIRST_PORT 1));
     agrees = tt;
-    waiting = subst (λ (s : DriverState). AllWait (IsOfPort (no_account 1).opened) s.listeners) (sym new.state) tt;
+    waiting = ((λ id. 0), subst (λ (s : DriverState). AllWait (IsOfPort s.next_id (λ id. 0)) s.listeners) (sym new.state) tt);
     sent = λ f. ap (payload_put Driver (first_of f)) (sym log_empty);
   }
 
@@ -171,7 +171,7 @@ run_goes fresh [] w well = goes_still fresh w well
 run_goes fresh (e ∷ es) w well =
     let one = happens_goes fresh w well e in
     let rest = run_goes fresh es (happens e w) one.well in
-    record { well = rest.well; runs = and_then _ _ _ one.runs rest.runs }
+    record { well = rest.well; runs = and_then _ _ _ one.runs rest.runs; named = named_then _ _ _ _ _ _ one.named rest.named }
 
 pub reached : (n : ℕ) (host : HostContents) (es : List events.Event) → Goes (IsFresh host) (opening n host) (run es (opening n host))
 reached n host es = run_goes (IsFresh host) es (opening n host) (opening_well n host)

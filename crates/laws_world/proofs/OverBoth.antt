@@ -9,7 +9,7 @@ use Rattle.vs_outside.specs.Host.{HostContents, after_accept, after_dial, after_
 use Rattle.vs_outside.specs.Host.{after_close, after_failed, called, fails_now, is_listened, IsDialed, IsWritten, stream_at, write_of}
 use Rattle.vs_outside.specs.declared.host_net.StreamWrite.{StreamWrite}
 use Rattle.vs_ring_port.specs.{DeviceCalls.DeviceAllows, DeviceCalls.DeviceMoves, EndLog.EndLog, Lists.Rings, Contents.RingContents}
-use Rattle.vs_ring_port.specs.Contents.{DeviceCall, DeviceAnswer, Take, Read, Write, Return, Given, PublishCid}
+use Rattle.vs_ring_port.specs.Contents.{DeviceCall, DeviceAnswer, Read, Write, PublishCid}
 use Rattle.vs_ring_list.specs.Ends.{Ends, device_contents}
 use Rattle.vs_ring_list.proofs.Determined.{device_determined}
 use Rattle.vs_device_parts.specs.Calls.{Call, Answer, Ring, Accept, Dial, Label, ReadStream, WriteStream, ShutWrite, CloseStream, Situation}
@@ -45,12 +45,10 @@ goes call a P f Q g v m d =
     }
 
 middle : (call : DeviceCall) (a : DeviceAnswer call) (v : Ends) (m : RingContents) → DeviceAllows call a (device_contents v) m → IsMiddle v m
-middle (Take queue) a v m h = goes _ _ _ _ _ _ v m h.1
 middle (Read chain place count) a v m h = goes _ _ _ _ _ _ v m h
 middle (Write chain place bytes) a v m h = goes _ _ _ _ _ _ v m h
-middle (Return chain len) a v m h = goes _ _ _ _ _ _ v m h.1
-middle (Given queue) a v m h = goes _ _ _ _ _ _ v m h.1
 middle (PublishCid cid) a v m h = goes _ _ _ _ _ _ v m h
+middle x a v m h = goes _ _ _ _ _ _ v m h.1
 
 -- A call with its answer: what rings and host are after it. A host that isn't starved after it wasn't before, and then the answer is the one
 -- that both give.
@@ -106,13 +104,11 @@ fails h fed = by (fails_now h) fed
 
 accept_fed : (a : Accepted) (h : HostContents) → (after_accept a h).starved ≡ false → h.starved ≡ false
 accept_fed (accepted.Stream id) h e = e
-accept_fed accepted.None h e = e
-accept_fed accepted.Failed h e = e
+accept_fed x h e = e
 
 dial_fed : (flow : Flow) (a : Dialed) (h : HostContents) → (after_dial flow a h).starved ≡ false → h.starved ≡ false
-dial_fed flow (dialed.Stream id) h e = e
-dial_fed flow dialed.Refused h e = e
 dial_fed flow dialed.Failed h e = fed_failed h e
+dial_fed flow x h e = e
 
 dial_answered : (path : List ℕ) (flow : Flow) (a : Dialed) (v : Ends) (h : HostContents) → IsDialed path a h → (after_dial flow a h).starved ≡ false
     → answer_around (Dial path flow) (beside v h) ≡ (a, beside v (after_dial flow a h))
@@ -124,9 +120,7 @@ dial_answered path flow dialed.Failed v h is e =
 
 read_fed : (stream : ℕ) (a : StreamRead) (h : HostContents) → (after_read stream a h).starved ≡ false → h.starved ≡ false
 read_fed stream (read.Got n) h e = e
-read_fed stream read.Again h e = e
-read_fed stream read.End h e = e
-read_fed stream read.Failed h e = e
+read_fed stream x h e = e
 
 abbrev read_result : ℕ → Ends → HostContents → StreamRead → (StreamRead × List ℕ) × Around
 read_result stream v h b = ((b, bytes_with stream b h), beside v (after_read stream b h))
@@ -143,10 +137,8 @@ read_answered stream n read.End bytes v h is = ap (read_result stream v h) (sym 
 read_answered stream n read.Failed bytes v h is = ap (read_result stream v h) (sym is.0) ∙ ap (read_with stream v h read.Failed) (sym is.1)
 
 write_fed : (stream : ℕ) (bytes : List ℕ) (a : StreamWrite) (h : HostContents) → (after_write stream bytes a h).starved ≡ false → h.starved ≡ false
-write_fed stream bytes (write.Took n) h e = e
-write_fed stream bytes write.Again h e = e
-write_fed stream bytes write.Closed h e = e
 write_fed stream bytes write.Failed h e = fed_failed h e
+write_fed stream bytes x h e = e
 
 abbrev write_result : ℕ → List ℕ → Ends → HostContents → StreamWrite → StreamWrite × Around
 write_result stream bytes v h b = (b, beside v (after_write stream bytes b h))

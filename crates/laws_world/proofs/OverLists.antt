@@ -2,10 +2,11 @@
 use Rattle.std.proofs.Common.{◌≡◌, Some, None, unwrap_or, refl, sym, ap, ap₂, subst, ◌∙◌}
 use Rattle.vs_contents.specs.CallTree.{Done, Ask, Leads, played}
 use Rattle.vs_ring_port.specs.{Contents.RingContents, EndLog.EndLog, Lists.Rings, DriverCalls.DriverCall, DriverCalls.DriverAnswer}
-use Rattle.vs_ring_port.specs.DriverCalls.{Stage, Publish, Reap, LoadCid, DriverAllows, DriverMoves, driver_answer}
+use Rattle.vs_ring_port.specs.DriverCalls.{Publish, DriverAllows, DriverMoves, driver_answer}
 use Rattle.vs_ring_list.specs.Ends.{Ends, driver_contents}
 use Rattle.vs_ring_list.proofs.Determined.{driver_determined}
 use Rattle.vs_driver_parts.specs.{Conversations.DriverTree, Playing.RingAllows, Playing.Plays}
+use Rattle.laws_driver.proofs.Shown.{ring_allows}
 use Rattle.laws_world.specs.Over.{over_lists}
 
 -- What list rings expose after a call of the driver's.
@@ -32,17 +33,9 @@ moved call a P f Q g v m d =
       device = refl;
     }
 
-allowed : (call : DriverCall) (a : DriverAnswer call) (old new : RingContents) → RingAllows call a old new → DriverAllows call a old new
-allowed (Stage queue page) a old new h = h
-allowed (Publish queue) a old new h = h
-allowed (Reap queue) a old new h = h.1
-allowed LoadCid a old new h = h.1
-
 middle : (call : DriverCall) (a : DriverAnswer call) (v : Ends) (m : RingContents) → DriverAllows call a (driver_contents v) m → IsMiddle v m
-middle (Stage queue page) a v m h = moved _ _ _ _ _ _ v m h
 middle (Publish queue) a v m h = moved _ _ _ _ _ _ v m h.1
-middle (Reap queue) a v m h = moved _ _ _ _ _ _ v m h
-middle LoadCid a v m h = moved _ _ _ _ _ _ v m h
+middle x a v m h = moved _ _ _ _ _ _ v m h
 
 -- The end of a conversation from there, and what list rings expose then.
 record IsEnd {A : Type 0} (v : Ends) (r : A × (Rings × EndLog)) (x : A) (t : RingContents) : Type 0 where
@@ -53,7 +46,7 @@ ends_at : {A : Type 0} (tree : DriverTree A) (v : Ends) (x : A) (t : RingContent
     → IsEnd v (played driver_answer tree (v.lists, v.driver)) x t
 ends_at (Done y) v x t h = record { answer = h.0; contents = sym h.1 }
 ends_at {A} (Ask call k) v x t h =
-    let allows = allowed call h.0 (driver_contents v) h.1 h.2 in
+    let allows = ring_allows call h.0 (driver_contents v) h.1 h.2 in
     let m = middle call h.0 v h.1 allows in
     let next = subst (λ c. DriverAllows call h.0 (driver_contents v) c) m.is allows in
     let determined = driver_determined call h.0 v m.ends next in

@@ -94,8 +94,7 @@ Alike queue w count reset step = AlikeFrom queue w count reset (w.rings.lists, w
 still_works : (queue : Queue) (pages : List (List ℕ)) (staged : Pages) → works_on queue staged ≡ true
     → works_on queue (with_pages queue pages staged) ≡ true
 still_works q.Rx pages staged works = works
-still_works q.Tx pages staged works = works
-still_works q.Event pages staged works = works
+still_works x pages staged works = works
 
 staged_alike : (w : World) (count : ℕ) (reset : Bool) → works_on q.Tx w.rings.driver.staged ≡ true → (bytes : List ℕ) (t : DriverState)
     → Alike q.Tx w count reset (λ r. bind (stage_packet bytes t) (one_put r))

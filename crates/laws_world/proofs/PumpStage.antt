@@ -47,10 +47,8 @@ module _ (w : World) (x : Writing) (fine : w.proxy.device.failed ≡ None) where
       → (let y = played answer_around (bind (write_answered e answer (writing w.proxy.device))
       (λ z. Done z.state)) a in Leads w (with_proxy (with_device y.0 w.proxy) y.1 w))
       → (let r = played answer_around (write_answered e answer (writing_at w x)) a in Does w (with_device r.0.state w.proxy) r.1)
-  answered_from e (write.Took n) a leads = record { leads = leads; fine = fine }
-  answered_from e write.Again a leads = record { leads = leads; fine = fine }
-  answered_from e write.Closed a leads = record { leads = leads; fine = fine }
   answered_from e write.Failed a leads = closing_from e a e.value.closed leads
+  answered_from e y a leads = record { leads = leads; fine = fine }
 
   pending_from : (e : DeviceEntry) → FromEvent (write_pending e)
   pending_from e = by (length (to_write e.value) == 0)

@@ -4,9 +4,9 @@ use Rattle.laws_history.specs.declared.packet.Packet.{Packet}
 use Rattle.vs_page.specs.{Held.packet_held, Held.event_held, Held.held_in, Held.listed, Log.Log, Log.packets_put, Log.packets_got}
 use Rattle.vs_page.specs.{Log.events_put, Log.events_got, declared.log.LogEntry.TheVariants.PutPacket}
 use Rattle.vs_page.specs.declared.log.LogEntry.TheVariants.{GotPacket, PutEvent, GotEvent}
-use Rattle.vs_ring_port.specs.{Chains.bytes_in, Contents.DeviceCall, Contents.Take, Contents.Read, Contents.Write, Contents.Return}
-use Rattle.vs_ring_port.specs.{Contents.Given, Contents.PublishCid, DeviceCalls.device_answer, DriverCalls.DriverCall, DriverCalls.Stage}
-use Rattle.vs_ring_port.specs.{DriverCalls.Publish, DriverCalls.Reap, DriverCalls.LoadCid, DriverCalls.driver_answer, EndLog.EndLog}
+use Rattle.vs_ring_port.specs.{Chains.bytes_in, Contents.DeviceCall, Contents.Take, Contents.Return, Contents.PublishCid, DeviceCalls.device_answer}
+use Rattle.vs_ring_port.specs.{DriverCalls.DriverCall, DriverCalls.Stage, DriverCalls.Publish, DriverCalls.Reap, DriverCalls.LoadCid}
+use Rattle.vs_ring_port.specs.{DriverCalls.driver_answer, EndLog.EndLog}
 use Rattle.vs_ring_port.specs.EndLog.{all_put, with_packet, with_event, entries_marked, entries_returned, entries_reaped, log_taken}
 use Rattle.vs_ring_port.specs.Lists.{Rings, oldest, all_but_oldest, after_return, next_at, place_after}
 use Rattle.vs_ring_port.specs.declared.queue.Queue.{Queue, TheVariants.Rx, TheVariants.Tx, TheVariants.Event}
@@ -128,9 +128,8 @@ reaps Event lists log device q = reaps_event lists.event.back lists log.entries 
 
 publishes : (queue : Queue) (lists : Rings) (log : EndLog) (device : Log) → AreQueued lists log.entries device
     → let r = (driver_answer (Publish queue) (lists, log)).1 in AreQueued r.0 r.1.entries device
-publishes Rx lists log device q = record { tx = q.tx; rx = q.rx; event = q.event; no_event = q.no_event }
 publishes Tx lists log device q = publishes_tx log.staged.tx lists log.entries device q
-publishes Event lists log device q = record { tx = q.tx; rx = q.rx; event = q.event; no_event = q.no_event }
+publishes x lists log device q = record { tx = q.tx; rx = q.rx; event = q.event; no_event = q.no_event }
 
 pub driver_keeps : (call : DriverCall) (lists : Rings) (log : EndLog) (device : Log) → AreQueued lists log.entries device
     → let r = (driver_answer call (lists, log)).1 in AreQueued r.0 r.1.entries device
@@ -206,8 +205,6 @@ returned Event page lists driver device q =
 pub device_keeps : (call : DeviceCall) (lists : Rings) (driver : Log) (log : EndLog) → AreQueued lists driver log.entries
     → let r = (device_answer call (lists, log)).1 in AreQueued r.0 driver r.1.entries
 device_keeps (Take queue) lists driver log q = takes queue lists driver log q
-device_keeps (Read chain place count) lists driver log q = q
-device_keeps (Write chain place bytes) lists driver log q = q
 device_keeps (Return chain len) lists driver log q = returned chain.queue (take len (bytes_in chain log.held)) lists driver log.entries q
-device_keeps (Given queue) lists driver log q = q
 device_keeps (PublishCid cid) lists driver log q = record { tx = q.tx; rx = q.rx; event = q.event; no_event = q.no_event }
+device_keeps x lists driver log q = q

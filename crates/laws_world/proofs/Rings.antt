@@ -1,9 +1,8 @@
 -- What the device leaves of the pages that are given on tx.
 use Rattle.std.proofs.Common.{ℕ, List, [], ◌∷◌}
-use Rattle.vs_ring_port.specs.Contents.{DeviceCall, Take, Read, Write, Return, Given, PublishCid}
+use Rattle.vs_ring_port.specs.Contents.{DeviceCall, Take, Return}
 use Rattle.vs_ring_port.specs.{DeviceCalls.device_answer, EndLog.EndLog, Lists.Rings, Lists.all_but_oldest, Lists.after_return}
 use Rattle.vs_ring_port.specs.{declared.queue.Queue.Queue, declared.queue.Queue.TheVariants.Rx, declared.queue.Queue.TheVariants.Tx}
-use Rattle.vs_ring_port.specs.declared.queue.Queue.TheVariants.{Event}
 use Rattle.laws_world.specs.Pages.{AllHold, AllPacked}
 
 -- Each holds a packet, and nothing more.
@@ -16,15 +15,9 @@ oldest_left (page ∷ pages) all = (all.0.1, all.1.1)
 
 returned : (q : Queue) (page : List ℕ) (lists : Rings) → AreGiven lists.tx.given → AreGiven (after_return q page lists).tx.given
 returned Rx page lists all = all
-returned Tx page lists all = all
-returned Event page lists all = all
+returned x page lists all = all
 
 pub given_left : (call : DeviceCall) (lists : Rings) (log : EndLog) → AreGiven lists.tx.given → AreGiven (device_answer call (lists, log)).1.0.tx.given
-given_left (Take Rx) lists log all = all
 given_left (Take Tx) lists log all = oldest_left lists.tx.given all
-given_left (Take Event) lists log all = all
-given_left (Read chain place count) lists log all = all
-given_left (Write chain place bytes) lists log all = all
 given_left (Return chain len) lists log all = returned chain.queue _ lists all
-given_left (Given queue) lists log all = all
-given_left (PublishCid cid) lists log all = all
+given_left x lists log all = all

@@ -29,30 +29,11 @@ line_leads (HostFail n) w rest may = leads_one (HostFails n) w _ refl
 pub line_rests : (l : Line) (w : World) → is_at_rest w.rings.driver.staged ≡ true → is_at_rest (line l w).0.rings.driver.staged ≡ true
 line_rests (Guest call) w rest = call_rests w rest call
 line_rests Poll w rest = (poll_does w rest).rest
-line_rests (TurnAt now) w rest = rest
-line_rests (ResetTo cid) w rest = rest
-line_rests Client w rest = rest
-line_rests (HostListen port) w rest = rest
-line_rests (HostUnlisten port) w rest = rest
-line_rests (HostWrite stream bytes) w rest = rest
-line_rests (HostAllow stream n) w rest = rest
-line_rests (HostEnd stream) w rest = rest
-line_rests (HostClosed stream) w rest = rest
-line_rests (HostFail n) w rest = rest
+line_rests x w rest = rest
 
 pub line_sends : (l : Line) (w : World) (f : Flow) → sent_on f (line l w).0.journal ≡ sent_on f w.journal ++ sent_by f l w
 line_sends (Guest call) w f = refl
-line_sends Poll w f = sym (append-nil (sent_on f w.journal))
-line_sends (TurnAt now) w f = sym (append-nil (sent_on f w.journal))
-line_sends (ResetTo cid) w f = sym (append-nil (sent_on f w.journal))
-line_sends Client w f = sym (append-nil (sent_on f w.journal))
-line_sends (HostListen port) w f = sym (append-nil (sent_on f w.journal))
-line_sends (HostUnlisten port) w f = sym (append-nil (sent_on f w.journal))
-line_sends (HostWrite stream bytes) w f = sym (append-nil (sent_on f w.journal))
-line_sends (HostAllow stream n) w f = sym (append-nil (sent_on f w.journal))
-line_sends (HostEnd stream) w f = sym (append-nil (sent_on f w.journal))
-line_sends (HostClosed stream) w f = sym (append-nil (sent_on f w.journal))
-line_sends (HostFail n) w f = sym (append-nil (sent_on f w.journal))
+line_sends x w f = sym (append-nil (sent_on f w.journal))
 
 pub script_leads : (ls : List Line) (w : World) → is_at_rest w.rings.driver.staged ≡ true → AreRight ls → Leads w (after ls w)
 script_leads [] w rest may = leads_none w w refl

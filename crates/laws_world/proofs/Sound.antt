@@ -13,7 +13,7 @@ use Rattle.vs_ring_port.specs.{DriverCalls.driver_answer, declared.queue.Queue.Q
 use Rattle.vs_ring_port.specs.{EndLog.all_put, Lists.Rings, Chains.Held, declared.device_ring.Chain.Chain}
 use Rattle.laws_tables.specs.{Both.IsSound, Both.Seat, Ends.Ends}
 use Rattle.vs_driver_parts.specs.{Conversations.DriverTree, Conversations.publish_of, State.DriverState, Steps.takes_page}
-use Rattle.vs_driver_parts.specs.{Steps.stages_reply, Steps.stages_owed, Held.HeldSlots}
+use Rattle.vs_driver_parts.specs.{Steps.stages_reply, Steps.stages_owed}
 use Rattle.vs_device_parts.specs.{Calls.DeviceTree, State.DeviceState, State.DeviceConnection, Streams.tick_slot, Steps.takes_chain}
 use Rattle.vs_device_parts.specs.Steps.{returns, puts_event, puts_reply, puts_owed, puts_payload, writes, shuts_write}
 use Rattle.vs_device_parts.specs.{Calls.Situation, Playing.IsRxChain, Playing.situation}
@@ -27,14 +27,13 @@ use Rattle.laws_world.specs.Events.{HostCloses, HostFails, at_moment, call_made,
 use Rattle.laws_world.specs.Events.{holds_event, is_at_rest, is_guest_cid, line_read, none_staged, proxy_step, reset_made, unless_failed}
 use Rattle.laws_world.specs.{Events.where_possible, Events.works_on, Sides.Runs, Sides.both_of, Sides.log_with_staged, World.World}
 use Rattle.laws_world.specs.World.{around, device_plays, driver_plays, first_cid}
-use Rattle.laws_driver_bytes.specs.Calls.{Journal, is_right, sent_on, makes_call, GuestCall, ReplyTo, account_of, with_call}
+use Rattle.laws_driver_bytes.specs.Calls.{Journal, LookAt, is_right, sent_on, makes_call, GuestCall, ReplyTo, account_of, with_call}
 use Rattle.laws_driver_bytes.specs.Received.{Account, AreReceived}
-use Rattle.laws_world.proofs.{DeviceGoes.carried, DeviceGoes.cids_kept, DeviceWalks.AllHeads, DriverGoes.Left, DriverGoes.Walks}
-use Rattle.laws_world.proofs.{DriverGoes.call_left, DriverGoes.call_walks, DriverGoes.poll_left, DriverGoes.poll_walks, DriverWalks.Ties}
+use Rattle.laws_world.proofs.{DeviceGoes.carried, DeviceGoes.cids_kept, DeviceWalks.AllHeads, DriverGoes.After, DriverGoes.Before}
+use Rattle.laws_world.proofs.{DriverGoes.Left, DriverGoes.Walks, DriverGoes.call_left, DriverGoes.call_walks, DriverGoes.poll_left, DriverGoes.poll_walks, DriverWalks.Ties}
 use Rattle.laws_world.proofs.{DriverWalks.first_fair, DriverWalks.shown, DriverWalks.walk, Journals.AllAgree, Played.driver_got}
 use Rattle.laws_world.proofs.{Queues.pages_put, Runs.goes_run, Runs.keeps_sound, Runs.stays, Once.AreOnce, Once.keeps_once}
-use Rattle.laws_world.proofs.{Once.number_of_once, Wire.fit_rest, Listeners.AllWait, Listeners.IsOfPort, Waiters.now_waiting, WaitEnds.WaitsAfter}
-use Rattle.laws_world.proofs.WaitEnds.{call_waits, pays_waits, publishes_waits, replies_waits, takes_waits}
+use Rattle.laws_world.proofs.{Once.number_of_once, Wire.fit_rest, Keeping.Sees, Names.StaysNamed, Names.WaitsApart, Names.named_from, Names.named_still}
 use Rattle.vs_flow.specs.{declared.flow.Flow.Flow, Table.Table, Connection.Connection, Connection.first_of}
 use Rattle.laws_device_bytes.proofs.{Changing.StreamedIf, HostCalls.client_host, HostCalls.same_host, Hosts.unseen}
 use Rattle.vs_limits.specs.declared.TheConstants.{GUEST_CID_MIN, GUEST_CID_MAX, ASSIGNED_FIRST}
@@ -43,7 +42,7 @@ use Rattle.laws_driver.specs.{Honest.IsFitState, Honest.ends_of_state, Honest.sl
 use Rattle.laws_driver.proofs.{Carrying.Carries, Carrying.Fact, Carrying.Holds, Carrying.IsTiedBy, Carrying.RestsWith, Keeping.Keeps}
 use Rattle.laws_driver.proofs.{Keeping.keeps_weaker, Staging.Rests, Staging.rests_tied, Stepping.Works, Stepping.owed_with}
 use Rattle.laws_driver.proofs.Stepping.{publish_with, reply_with, takes_with}
-use Rattle.laws_driver_bytes.proofs.{Making.account_after, Making.at_first, Making.made_with, Making.sent_with, Polling.IsFurther}
+use Rattle.laws_driver_bytes.proofs.{Making.made_with, Polling.IsFurther}
 use Rattle.laws_driver_bytes.proofs.Sending.{puts_as}
 use Rattle.laws_device_bytes.specs.Streamed.{IsStreamed}
 use Rattle.vs_ring_list.proofs.Held.{same_queue_is}
@@ -96,8 +95,8 @@ pub record IsWell (fresh : Type 0) (w : World) : Type 0 where
   pub opened : ℕ → Connection
   pub received : AreReceived (account_of 1 opened w.journal) (log_with_staged w.rings.driver) (slots_of w.driver)
   pub agrees : AllAgree opened w.journal
-  -- Who waits on a port is of that port.
-  pub waiting : AllWait (IsOfPort opened) w.driver.listeners
+  -- Each id waits on one port.
+  pub waiting : Sees WaitsApart w.driver
   pub sent : (f : Flow) → sent_on f w.journal ≡ payload_put Driver (first_of f) (log_with_staged w.rings.driver)
   pub overrun : w.proxy.device.overrun ≡ 0
   pub cids : AreVoiced first_cid (both_of w)
@@ -109,16 +108,17 @@ pub record IsWell (fresh : Type 0) (w : World) : Type 0 where
 pub record Goes (fresh : Type 0) (w v : World) : Type 0 where
   pub well : IsWell fresh v
   pub runs : Runs (both_of w) (both_of v)
+  pub named : StaysNamed w.driver w.journal v.driver v.journal
 
 pub goes_still : (fresh : Type 0) (w : World) → IsWell fresh w → Goes fresh w w
-goes_still fresh w well = record { well = well; runs = stays _ _ refl }
+goes_still fresh w well = record { well = well; runs = stays _ _ refl; named = named_still w.driver w.journal }
 
 -- Nothing is staged.
 pub nothing_staged : (pages : List (List ℕ)) → none_staged pages ≡ true → pages ≡ []
 nothing_staged [] is = refl
 nothing_staged (page ∷ pages) is = absurd cc
 
-tx_at_rest : (staged : Pages) → is_at_rest staged ≡ true → staged.tx ≡ []
+pub tx_at_rest : (staged : Pages) → is_at_rest staged ≡ true → staged.tx ≡ []
 tx_at_rest staged is = by staged.tx (none_staged staged.rx) (none_staged staged.event) is
   where
     by : (pages : List (List ℕ)) (a c : Bool) → (a && none_staged pages && c) ≡ true → pages ≡ []
@@ -134,7 +134,7 @@ module _ (fresh : Type 0) (w : World) (well : IsWell fresh w) where
   abbrev rings : Rings × EndLog
   rings = (w.rings.lists, w.rings.driver)
 
-  device_fits : IsFairLog Device w.rings.device.entries
+  pub device_fits : IsFairLog Device w.rings.device.entries
   device_fits = well.sound.fair Device
 
   abbrev exposed : Rings × EndLog → RingContents
@@ -171,10 +171,10 @@ module _ (fresh : Type 0) (w : World) (well : IsWell fresh w) where
 
   driver_goes : {A : Type 0} (tree : DriverTree A) (state_of : A → DriverState) (fact : A → Fact) (journal : Journal)
       → Keeps (λ x d. DriverTies first_cid (fact x) (state_of x) d) tree (exposed rings)
-      → ((part : Ends) (slots : HeldSlots) (log : Log) → fact (played driver_answer tree rings).0 part slots log → Left guest well.opened journal part slots log)
-      → WaitsAfter (IsOfPort well.opened) w.driver (state_of (played driver_answer tree rings).0)
+      → ((part : Ends) (s : DriverState) (log : Log) → fact (played driver_answer tree rings).0 part s log
+      → Left guest well.opened w.driver w.journal journal part s log)
       → Goes fresh w (record (driver_plays tree w).1 { driver = state_of (driver_plays tree w).0; journal = journal })
-  driver_goes tree state_of fact journal keeps left waits =
+  driver_goes tree state_of fact journal keeps left =
       let r = played driver_answer tree rings in
       let ends = walk w.rings.device device_fits well.device_puts (λ x d. DriverTies first_cid (fact x) (state_of x) d) tree rings tie keeps in
       let now = ends.0 refl r.1.1 refl in
@@ -202,7 +202,7 @@ module _ (fresh : Type 0) (w : World) (well : IsWell fresh w) where
           opened = after.opened;
           received = after.received;
           agrees = after.agrees;
-          waiting = now_waiting well.opened after.opened journal _ (state_of r.0) w.driver.next_id after.on after.received waits;
+          waiting = after.waiting;
           sent = after.sent;
           overrun = well.overrun;
           cids = cids_kept first_cid _ _ runs well.sound well.cids;
@@ -210,7 +210,16 @@ module _ (fresh : Type 0) (w : World) (well : IsWell fresh w) where
           streams = well.streams;
         };
         runs = runs;
+        named = record { closed = after.named.closed; stays = after.named.stays };
       }
+
+  -- What a conversation carries from a driver of which no packet is staged.
+  pub rests_on : {A : Type 0} (tree : DriverTree A) (state_of : A → DriverState) (before : Fact) (after : A → Fact) → w.rings.driver.staged.tx ≡ []
+      → Holds before w.driver (log_with_staged w.rings.driver)
+      → (Rests first_cid before w.driver (exposed rings) → Keeps (λ x d. Rests first_cid (after x) (state_of x) d) tree (exposed rings))
+      → let r = played driver_answer tree rings in Holds (after r.0) (state_of r.0) r.1.1.entries
+  rests_on tree state_of before after none held keeps =
+      ((walk w.rings.device device_fits well.device_puts (λ x d. Rests first_cid (after x) (state_of x) d) tree rings tie (keeps (rests_at before none held))).0 refl _ refl).1
 
   abbrev account : Account
   account = account_of 1 well.opened w.journal
@@ -223,21 +232,22 @@ module _ (fresh : Type 0) (w : World) (well : IsWell fresh w) where
 
   -- A step that makes no call of the guest's.
   abbrev step_fact : Fact
-  step_fact = Walks first_cid guest account (puts_as guest.log)
+  step_fact = Walks first_cid guest account (named_from w.driver (LookAt 0)) (puts_as guest.log)
+
+  from_here : (call : GuestCall) → Holds (named_from w.driver call) w.driver guest.log
+  from_here call None from = well.waiting
+  from_here call (Some x) from = from.0
 
   at_step : Holds step_fact w.driver guest.log
-  at_step = (seat_stays guest guest refl, well.driver_puts, further, λ c. refl)
+  at_step = (seat_stays guest guest refl, well.driver_puts, further, from_here (LookAt 0), λ c. refl)
 
   steps : Carries first_cid step_fact
-  steps = poll_walks first_cid guest account guest.log
-
-  abbrev AllWaitAfter : DriverState → Type 0
-  AllWaitAfter t = WaitsAfter (IsOfPort well.opened) w.driver t
+  steps = poll_walks first_cid guest account w.driver guest.log
 
   step_goes : (step : DriverState → DriverTree DriverState) → Keeps (DriverTies first_cid step_fact) (step w.driver) (exposed rings)
-      → AllWaitAfter (played driver_answer (step w.driver) rings).0 → Goes fresh w (driver_step step w)
-  step_goes step keeps waits = driver_goes (step w.driver) (λ s. s) (λ s. step_fact) w.journal keeps
-      (poll_left first_cid guest well.opened w.journal w.driver guest.log well.received well.agrees well.sent few) waits
+      → Goes fresh w (driver_step step w)
+  step_goes step keeps = driver_goes (step w.driver) (λ s. s) (λ s. step_fact) w.journal keeps
+      (poll_left first_cid guest well.opened w.journal w.driver guest.log well.received well.agrees well.sent few)
 
   works_at : (queue : Queue) → works_on queue w.rings.driver.staged ≡ true → Works queue first_cid step_fact w.driver (exposed rings)
   works_at q.Tx may = ties_at step_fact at_step
@@ -246,41 +256,35 @@ module _ (fresh : Type 0) (w : World) (well : IsWell fresh w) where
 
   works_ties : (queue : Queue) (s : DriverState) (c : RingContents) → Works queue first_cid step_fact s c → DriverTies first_cid step_fact s c
   works_ties q.Tx s c works = works
-  works_ties q.Rx s c works = rests_tied first_cid step_fact s c works
-  works_ties q.Event s c works = rests_tied first_cid step_fact s c works
+  works_ties x s c works = rests_tied first_cid step_fact s c works
 
   takes_goes : (queue : Queue) → works_on queue w.rings.driver.staged ≡ true → Goes fresh w (driver_step (takes_page queue) w)
   takes_goes queue may = step_goes (takes_page queue)
       (keeps_weaker (Works queue first_cid step_fact) (DriverTies first_cid step_fact) (works_ties queue) (takes_page queue w.driver) (exposed rings)
       (takes_with first_cid step_fact steps queue w.driver (exposed rings) (works_at queue may)))
-      (takes_waits (IsOfPort well.opened) w.driver well.waiting rings queue)
 
   publishes_goes : (queue : Queue) → works_on queue w.rings.driver.staged ≡ true → Goes fresh w (driver_step (publish_of queue) w)
   publishes_goes queue may = step_goes (publish_of queue)
       (keeps_weaker (Rests first_cid step_fact) (DriverTies first_cid step_fact) (rests_tied first_cid step_fact) (publish_of queue w.driver) (exposed rings)
       (publish_with first_cid step_fact steps queue w.driver (exposed rings) (works_at queue may)))
-      (publishes_waits (IsOfPort well.opened) w.driver well.waiting rings queue)
 
   replies_goes : Goes fresh w (driver_step stages_reply w)
   replies_goes = step_goes stages_reply (reply_with first_cid step_fact steps w.driver (exposed rings) (ties_at step_fact at_step))
-      (replies_waits (IsOfPort well.opened) w.driver well.waiting rings)
 
   pays_goes : (slot : ℕ) → Goes fresh w (driver_step (stages_owed slot) w)
   pays_goes slot = step_goes (stages_owed slot) (owed_with first_cid step_fact steps slot w.driver (exposed rings) (ties_at step_fact at_step))
-      (pays_waits (IsOfPort well.opened) w.driver well.waiting rings slot)
 
   -- A call of the guest's.
   calls_goes : (call : GuestCall) → is_right call ≡ true → w.rings.driver.staged.tx ≡ [] → Goes fresh w (call_made call w).0
   calls_goes call right none =
-      let before : Fact = Walks first_cid guest account (at_first first_cid w.driver guest.log) in
-      let after : ReplyTo call → Fact = λ reply. Walks first_cid guest (account_after call reply account) (sent_with first_cid w.driver guest.log call reply) in
+      let before : Fact = Before first_cid guest account w.driver guest.log call in
+      let after : ReplyTo call → Fact = After first_cid guest account w.driver guest.log call in
       driver_goes (makes_call call w.driver) (λ x. x.0) (λ x. after x.1) (with_call call w.driver (call_made call w).1 w.journal)
       (keeps_weaker (λ x d. Rests first_cid (after x.1) x.0 d) (λ x d. DriverTies first_cid (after x.1) x.0 d) (λ x d rests. rests_tied first_cid (after x.1) x.0 d rests)
       (makes_call call w.driver) (exposed rings)
       (made_with first_cid w.driver (exposed rings) call before after right (call_walks first_cid guest account w.driver guest.log call right)
-      (rests_at before none (seat_stays guest guest refl, well.driver_puts, further, (refl, refl)))))
+      (rests_at before none (seat_stays guest guest refl, well.driver_puts, further, from_here call, (refl, refl)))))
       (call_left first_cid guest well.opened w.journal w.driver guest.log well.received well.agrees well.sent few rings call)
-      (call_waits (IsOfPort well.opened) w.driver well.waiting rings call)
 
 -- The device plays one, and so does the proxy.
 module _ (fresh : Type 0) (w : World) (well : IsWell fresh w) where
@@ -379,6 +383,7 @@ module _ (fresh : Type 0) (w : World) (well : IsWell fresh w) where
           streams = λ ok. now.1 ok got r.1.host refl;
         };
         runs = runs;
+        named = named_still w.driver w.journal;
       }
 
   pub all : (held : List Held) → Unit {0}
@@ -459,6 +464,7 @@ module _ (fresh : Type 0) (w : World) (well : IsWell fresh w) where
       streams = streams;
     };
     runs = stays _ _ refl;
+    named = named_still w.driver w.journal;
   }
 
   host_goes : (host : HostContents)

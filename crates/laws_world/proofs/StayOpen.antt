@@ -51,5 +51,4 @@ client_stays h id still =
 
 pub host_write_stays : (id : ℕ) (bytes : List ℕ) (answer : HostWritten) (h : HostContents) → StayOpen h (after_host_write id bytes answer h)
 host_write_stays id bytes written.Ok h = stream_stays id (with_bytes bytes) h (λ s. refl)
-host_write_stays id bytes written.Ended h = λ other still. still
-host_write_stays id bytes written.NoStream h = λ other still. still
+host_write_stays id bytes x h = λ other still. still

@@ -14,11 +14,11 @@ use Rattle.vs_ring_port.specs.{Chains.bytes_in, Contents.Given, Contents.Publish
 use Rattle.vs_ring_port.specs.Contents.{Write}
 use Rattle.vs_uds.specs.Path.{path_of}
 use Rattle.vs_wrap.specs.Wrap.{counted}
-use Rattle.vs_device_parts.specs.{Receiving.pay_event_of, State.DeviceEntry, State.DeviceState, Streams.leaving}
-use Rattle.vs_device_parts.specs.{declared.answers.Taken.Taken, Steps.chain_came, Steps.puts_event, Steps.returns, Steps.takes_chain}
-use Rattle.vs_device_parts.specs.Calls.{Accept, Answer, Call, CloseStream, DeviceTree, Dial, Label, ReadStream, Ring, ShutWrite}
-use Rattle.vs_device_parts.specs.{Calls.WriteStream, Connections.after_leaving, Connections.stream_closed, Connections.with_connection}
-use Rattle.vs_device_parts.specs.{Connections.with_reply, Transmitting.dial_answered, Transmitting.failing, Transmitting.heard}
+use Rattle.vs_device_parts.specs.{Receiving.pay_event_of, State.DeviceEntry, State.DeviceState, Streams.leaving, declared.answers.Taken.Taken}
+use Rattle.vs_device_parts.specs.{Steps.chain_came, Steps.puts_event, Steps.returns, Steps.takes_chain}
+use Rattle.vs_device_parts.specs.Calls.{Answer, Call, CloseStream, DeviceTree, Dial, Ring}
+use Rattle.vs_device_parts.specs.{Connections.after_leaving, Connections.stream_closed, Connections.with_connection, Connections.with_reply}
+use Rattle.vs_device_parts.specs.{Transmitting.dial_answered, Transmitting.failing, Transmitting.heard}
 use Rattle.vs_device_parts.specs.Transmitting.{on_known, on_next, on_packet, on_unknown, refused, try_request, unknown_why}
 use Rattle.vs_limits.specs.declared.TheConstants.{DEVICE_REPLIES}
 use Rattle.vs_proxy_parts.specs.{Turns.device_after, Turns.event_stage, Turns.take_one, Turns.take_stage, Turns.took_packet, State.Turning}
@@ -61,18 +61,11 @@ off_played P (Ask call k) a off =
   where
     same : (call : Call) → MovesNone call → (a : Around) → (answer_around call a).1.log ≡ a.log
     same (Ring (Take queue)) none a = absurd none
-    same (Ring (Read chain place n)) none a = refl
     same (Ring (Write chain place bytes)) none a = absurd none
     same (Ring (Return chain len)) none a = absurd none
     same (Ring (Given queue)) none a = absurd none
     same (Ring (PublishCid cid)) none a = absurd none
-    same Accept none a = refl
-    same (Dial path flow) none a = refl
-    same (Label stream flow) none a = refl
-    same (ReadStream stream n) none a = refl
-    same (WriteStream stream bytes) none a = refl
-    same (ShutWrite stream) none a = refl
-    same (CloseStream stream) none a = refl
+    same x none a = refl
 
 -- What the device does with a packet is such a conversation, after which the ring didn't fail.
 abbrev Fine : DeviceTree (DeviceState × Verdict) → Type 0
@@ -92,18 +85,15 @@ module _ (chain : Chain) (h : Header) (s : DeviceState) (fine : s.failed ≡ Non
       by false = (tt, λ _. fine)
 
   known_off : (e : DeviceEntry) (v : Verdict) → Fine (bind (on_known v chain h e s) (λ t. Done (t, v)))
-  known_off e verdict.Accept = fine
   known_off e verdict.Deliver = (tt, λ payload. fine)
-  known_off e verdict.Discard = fine
-  known_off e verdict.Ignore = fine
   known_off e verdict.Peer = peer_off e (is_reset h)
   known_off e (verdict.Rst (why.Overrun o)) = fine
   known_off e (verdict.Rst _) = fine
+  known_off e x = fine
 
   dial_off : (d : Dialed) → (dial_answered h d s).0.failed ≡ None
   dial_off (dialed.Stream stream) = fine
-  dial_off dialed.Refused = fine
-  dial_off dialed.Failed = fine
+  dial_off x = fine
 
   tries_off : (a b : Bool) → Fine (cond a (Done (refused h s)) (cond b
       (Ask (Dial (path_of s.base h.dst_port) (flow_to_host h)) (λ answer. Done (dial_answered h answer s))) (Done (refused h s))))

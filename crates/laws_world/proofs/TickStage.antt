@@ -130,8 +130,7 @@ module _ (w : World) (t : Turning) (fine : w.proxy.device.failed ≡ None) where
           (turning_at w t)).state in
           (p ≡ q) × (q.device.failed ≡ None))
       answered (accepted.Stream stream) = (refl, fine)
-      answered accepted.None = (refl, fine)
-      answered accepted.Failed = (refl, fine)
+      answered x = (refl, fine)
 
       by : (b : Bool) → Alike w t (λ u. cond b (Ask Accept (λ answer. Done (accept_answered answer u))) (Done u))
       by true = let one = answered (accept_answer w.host) in
@@ -183,9 +182,7 @@ module _ (w : World) (t : Turning) (fine : w.proxy.device.failed ≡ None) where
       answered : (h : Handshake) (x : StreamRead) (bytes : List ℕ) (a : Around) → ByteAlike a (byte_read h x bytes)
       answered h (read.Got n) bytes a =
           decides_alike (with_line h.stream (h.line ++ bytes) w.proxy.handshakes) n h.stream a (connect_step (h.line ++ bytes))
-      answered h read.Again bytes a = record { same = refl; fine = fine }
-      answered h read.End bytes a = record { same = refl; fine = fine }
-      answered h read.Failed bytes a = record { same = refl; fine = fine }
+      answered h x bytes a = record { same = refl; fine = fine }
 
       by : (o : Option Handshake) → ByteAlike (around w) (λ u. elim o as (λ _. DeviceTree (Turning × Bool)) [
         | None ↦ Done (u, false)
