@@ -129,11 +129,7 @@ got_rises = grind (arith, common_steps)
 less_got : (side : Side) (h k : History) (p : Packet) (same dropped asks : Bool) → is_request p ≡ asks
     → (same ≡ true → AllowsNow side h (Got p)) → Later (gots k) (gots h)
     → Later (gots (if same then hears dropped p k else k)) (gots (if same then and_then (Got p) h else h))
-less_got side h k p true true true is may l = rw is (less_none (p ∷ []))
-less_got side h k p true true false is may l = rw is (less_more (gots k) (gots h) p is (got_rises side h p ((may refl).goes_on is)) l)
-less_got side h k p true false true is may l = rw is (less_same (p ∷ []))
-less_got side h k p true false false is may l = rw is (less_both (gots k) (gots h) p is l)
-less_got side h k p false dropped asks is may l = l
+less_got = grind (arith, less_none, less_more, less_same, less_both, got_rises, common_steps)
 
 less_put : (h k : History) (p : Packet) (same asks : Bool) → is_request p ≡ asks → Later (gots k) (gots h)
     → Later (gots (if same then and_then (Put p) k else k)) (gots (if same then and_then (Put p) h else h))

@@ -184,8 +184,7 @@ answered_cid = grind (arith, common_steps)
 
 packet_cid : (ends : List ConnectionEnd) (f : Flow) (p : Packet) (answer : Bool) (part : Ends)
     → (after_packet Driver ends p f answer part).cid ≡ part.cid
-packet_cid [] f p answer part = answered_cid f p answer part (is_rst p) (is_request p)
-packet_cid (e ∷ more) f p answer part = taken_cid f _ part (is_kept Driver f e p) (is_rst p && is_of e.kind p.header)
+packet_cid = grind (arith, common_steps)
 
 -- A packet that gives a flow its connection is a REQUEST.
 unknown_asks : (f : Flow) (p : Packet) (answer : Bool) (part : Ends) (e : ConnectionEnd) (rst : Bool) → ends_of f part.entries ≡ []
