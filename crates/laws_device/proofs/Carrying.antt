@@ -1,25 +1,24 @@
 -- What a walk over the device's conversations carries besides: what the host's streams took and gave.
 use Rattle.std.proofs.Common.{◌≡◌, ℕ, ◌+◌, ◌≤◌, Bool, true, false, cond, List, [], ◌∷◌, Option, None, IfSome, ◌⊎◌, inl, inr, sym, subst}
-use Rattle.std.proofs.Common.{arith, is_some, ap, ◌∙◌}
-use Rattle.laws_history.specs.{Again.count, Packets.is_request, declared.packet.Packet.Packet, History.Answerer, History.Asker, History.Got}
-use Rattle.laws_history.specs.History.{History, Put, Side, gots, puts}
+use Rattle.std.{proofs.Common.arith, proofs.Common.is_some, proofs.Common.ap, proofs.Common.◌∙◌, specs.Option.ForSome}
+use Rattle.laws_history.specs.History.{Answerer, Asker, Got, History, Put, Side, gots, puts}
+use Rattle.laws_history.specs.{Again.count, Packets.is_request, declared.packet.Packet.Packet}
 use Rattle.vs_flow.specs.{Flow.same_flow, Table.Table}
-use Rattle.vs_page.specs.{declared.log.LogEntry.LogEntry, declared.log.LogEntry.TheVariants.GotPacket}
-use Rattle.vs_page.specs.{declared.log.LogEntry.TheVariants.PutPacket, Fair.asked_by, Log.Device, Log.Log, Log.flow_got, Log.flow_put}
-use Rattle.vs_page.specs.{Log.side_of, Log.whole_of, Open.is_dropped}
-use Rattle.std.specs.Option.{ForSome}
+use Rattle.vs_page.specs.declared.log.LogEntry.TheVariants.{GotPacket, PutPacket}
+use Rattle.vs_page.specs.Log.{Device, Log, flow_got, flow_put, side_of, whole_of}
+use Rattle.vs_page.specs.{declared.log.LogEntry.LogEntry, Fair.asked_by, Open.is_dropped}
 use Rattle.vs_contents.specs.Contents.{Exposes}
 use Rattle.vs_outside.specs.Host.{HostContents, after_close}
 use Rattle.vs_proxy_parts.specs.State.{Handshake}
 use Rattle.vs_ring_port.specs.{Chains.Held, EndLog.EndLog}
-use Rattle.vs_device_parts.specs.{Calls.HostMoves, Calls.Situation, Calls.DeviceTree, Playing.IsRxChain, Playing.Runs}
-use Rattle.vs_device_parts.specs.State.{DeviceConnection, DeviceState}
+use Rattle.vs_device_parts.specs.Calls.{HostMoves, Situation, DeviceTree}
+use Rattle.vs_device_parts.specs.{Playing.IsRxChain, Playing.Runs, State.DeviceConnection, State.DeviceState}
 use Rattle.laws_device_streams.proofs.Tables.{some_after, some_from}
 use Rattle.laws_device_bytes.specs.Streamed.{IsStreamed}
 use Rattle.laws_tables.proofs.Fair.{got_one}
-use Rattle.laws_device.proofs.{Chains.Among, Chains.alone, Chains.alone_so, Seats.AgreesBy, Seats.Carried, Ringing.Telling, Ringing.Tells}
-use Rattle.laws_device.proofs.{Ringing.host_moves, Ringing.tells_weaker, Keeping.Keeps, Keeping.keeps_end}
+use Rattle.laws_device.proofs.Ringing.{Telling, Tells, host_moves, tells_weaker}
 use Rattle.laws_device.specs.{Honest.IsFitState, Honest.IsWith, Streams.AreStreamedWith, Streams.IsPlain}
+use Rattle.laws_device.proofs.{Chains.Among, Chains.alone, Chains.alone_so, Seats.AgreesBy, Seats.Carried, Keeping.Keeps, Keeping.keeps_end}
 
 abbrev pub Fact : Type 1
 Fact = Option HostContents → Log → Type 0

@@ -4,37 +4,33 @@ use Rattle.std.proofs.Common.{Contains, Option, Some, None, Result, Ok, Err, ref
 use Rattle.std.proofs.lemmas.Grind.{common_steps}
 use Rattle.vs_contents.specs.CallTree.{Ask, Done, bind, for_each, while_up_to}
 use Rattle.vs_conn.specs.End.{CanSend, ConnectionEnd, owes_of, paid_of, state_may_send, wanting_credit, with_payload_sent}
-use Rattle.vs_conn.specs.{Headers.owed_header, Headers.payload_header, declared.end.Owed.Owed, declared.end.State.State}
-use Rattle.vs_conn.specs.{declared.end.Stop.TheVariants.ShutDown, declared.end.TheConstants.OWED_MAX}
+use Rattle.vs_conn.{specs.Headers.owed_header, specs.Headers.payload_header, specs.declared.end.Owed.Owed, specs.declared.end.State.State}
+use Rattle.vs_conn.{specs.declared.end.Stop.TheVariants.ShutDown, specs.declared.end.TheConstants.OWED_MAX, proofs.Frames.paid_asked}
 use Rattle.vs_credit.specs.Credit.{free_of}
 use Rattle.vs_flow.specs.Table.{IsTable, entry_under, slots, Table, with_value}
 use Rattle.vs_header.specs.declared.Header.{Header}
 use Rattle.vs_outside.specs.{declared.host_net.StreamRead.StreamRead, Host.HostContents, Host.after_close, Host.after_read, Host.called}
 use Rattle.vs_replies.specs.declared.Reply.{Reply}
-use Rattle.vs_ring_port.specs.{declared.device_ring.Chain.Chain, declared.failure.Failure.Failure}
-use Rattle.laws_tables.specs.{Ends.is_new, Steps.payload_on}
-use Rattle.laws_tables.proofs.Slots.{found_by}
-use Rattle.vs_device_parts.specs.{Calls.DeviceTree, Calls.IsReadOf, Calls.ReadStream, Calls.Situation, Connections.after_leaving, Streams.closing}
-use Rattle.vs_device_parts.specs.Connections.{after_shut, cut_off, route_to_guest, stream_closed, with_connection, with_fault}
-use Rattle.vs_device_parts.specs.{Playing.IsRxChain, Receiving.Filling, Receiving.after_paying, Receiving.fill_rx_of, Receiving.filled_of}
-use Rattle.vs_device_parts.specs.Receiving.{hold, may_read, put_on, put_owed, put_packet, put_payload, put_reply, put_reply_of}
-use Rattle.vs_device_parts.specs.Receiving.{read_answered, read_room, read_stream, read_with_chain, reply_header, round_from, serve_slot}
-use Rattle.vs_device_parts.specs.State.{DeviceConnection, DeviceEntry, DeviceState}
+use Rattle.vs_ring_port.specs.declared.{device_ring.Chain.Chain, failure.Failure.Failure}
+use Rattle.laws_tables.{specs.Ends.is_new, specs.Steps.payload_on, proofs.Slots.found_by}
+use Rattle.vs_device_parts.specs.Connections.{after_leaving, after_shut, cut_off, route_to_guest, stream_closed, with_connection}
+use Rattle.vs_device_parts.specs.Receiving.{Filling, after_paying, fill_rx_of, filled_of, hold, may_read, put_on, put_owed, put_packet}
+use Rattle.vs_device_parts.specs.Receiving.{put_payload, put_reply, put_reply_of, read_answered, read_room, read_stream, read_with_chain}
+use Rattle.vs_device_parts.specs.Receiving.{reply_header, round_from, serve_slot}
+use Rattle.vs_device_parts.specs.{Calls.DeviceTree, Calls.IsReadOf, Calls.ReadStream, Calls.Situation, Connections.with_fault}
+use Rattle.vs_device_parts.specs.{Streams.closing, Playing.IsRxChain, State.DeviceConnection, State.DeviceEntry, State.DeviceState}
+use Rattle.laws_device.proofs.Carrying.{Fact, IsHeldBy, IsToldBy, StreamedOver, With, closed_held, fact_called, put_goes, streams_call}
 use Rattle.laws_device.specs.Honest.{IsFitState}
-use Rattle.laws_device.proofs.{Seats.Carried, Changing.cuts, Changing.shuts, Changing.wants, Changing.same, Keeping.Goes, Keeping.Keeps}
+use Rattle.laws_device.proofs.Changing.{cuts, shuts, wants, same}
+use Rattle.laws_device.proofs.Keeping.{Goes, Keeps, asking, Lets, keeps_bind, keeps_each, keeps_then, keeps_while}
+use Rattle.laws_device.proofs.Putting.{Puts, owed_puts, reply_puts, rst_puts, send_puts}
+use Rattle.laws_device.proofs.Steps.{Filled, Open, changed, closing_keeps, cut_with, goes_on, hold_keeps, open_filled, called_with}
+use Rattle.laws_device.proofs.{Seats.Carried, Writing.writes_first, Writing.written_keeps, Carrying.streams_go, Ringing.host_moves}
 use Rattle.laws_device_walk.proofs.Keeping.{keeps_if, keeps_some}
-use Rattle.laws_device.proofs.{Keeping.asking, Keeping.Lets, Keeping.keeps_bind, Keeping.keeps_each, Keeping.keeps_then, Keeping.keeps_while, Putting.Puts}
-use Rattle.laws_device.proofs.{Putting.owed_puts, Putting.reply_puts, Putting.rst_puts, Putting.send_puts, Steps.Filled, Steps.Open}
-use Rattle.laws_device.proofs.Steps.{changed, closing_keeps, cut_with, goes_on, hold_keeps, open_filled, called_with}
-use Rattle.laws_device.proofs.{Writing.writes_first, Writing.written_keeps, Carrying.Fact, Carrying.IsHeldBy, Carrying.IsToldBy}
-use Rattle.laws_device.proofs.Carrying.{StreamedOver, With, closed_held, fact_called, put_goes, streams_call, streams_go}
-use Rattle.laws_device.proofs.Ringing.{host_moves}
 use Rattle.laws_device_bytes.proofs.Changing.{called_host, closes_streams, ends_streams, leaves_streams, put_empty, reads_streams}
-use Rattle.laws_device_bytes.proofs.{Changing.shuts_streams, Gives.pays_gives}
+use Rattle.laws_device_bytes.{proofs.Changing.shuts_streams, proofs.Gives.pays_gives, specs.Streamed.IsStreamed}
 use Rattle.vs_proxy_parts.specs.State.{Handshake}
-use Rattle.laws_device_bytes.specs.Streamed.{IsStreamed}
 use Rattle.vs_page.specs.{Log.Log, Log.Device, declared.log.LogEntry.TheVariants.PutPacket}
-use Rattle.vs_conn.proofs.Frames.{paid_asked}
 use Rattle.vs_conn.specs.declared.end.Owed.TheVariants as owed
 use Rattle.vs_conn.specs.declared.end.State.TheVariants as state
 use Rattle.vs_outside.specs.declared.host_net.StreamRead.TheVariants as read

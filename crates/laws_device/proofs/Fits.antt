@@ -1,9 +1,8 @@
 -- A connection's pending bytes are unread ones of its end, whatever the end does.
-use Rattle.std.proofs.{lemmas.Bool.Decides.nat_tests, lemmas.Grind.common_steps}
 use Rattle.std.proofs.Common.{◌≡◌, ℕ, ◌+◌, ◌-◌, ◌%◌, ◌^◌, ◌<◌, ◌≤◌, Bool, true, false, cond, Option, Some, None, refl, sym, subst, arith}
-use Rattle.vs_conn.specs.{declared.end.Owed.Owed, declared.end.Verdict.Verdict}
-use Rattle.vs_conn.proofs.Frames.{paid_credit}
+use Rattle.std.proofs.lemmas.{Bool.Decides.nat_tests, Grind.common_steps}
 use Rattle.vs_conn.specs.End.{ConnectionEnd, after_message, after_op, end_after, paid_of, verdict_of, with_heard_packet, with_shut}
+use Rattle.vs_conn.{specs.declared.end.Owed.Owed, specs.declared.end.Verdict.Verdict, proofs.Frames.paid_credit}
 use Rattle.vs_credit.specs.{Credit.room_of, Credit.with_forwarded, Credit.with_sent, Credit.with_taken, declared.Credit.Credit}
 use Rattle.vs_header.specs.{Op.op_named, declared.Header.Header, declared.Op.Op}
 use Rattle.vs_limits.specs.declared.TheConstants.{BUF_ALLOC}

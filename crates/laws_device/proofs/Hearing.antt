@@ -1,50 +1,43 @@
 -- What the device keeps as it takes a packet, whose page stands in the log: each verdict, and each end of a REQUEST.
-use Rattle.std.proofs.{lemmas.Bool.Decides.nat_tests, lemmas.Grind.common_steps, Common.◌≡◌, Common.ℕ, Common.◌+◌, Common.◌≤◌, Common.◌==◌}
-use Rattle.std.proofs.Common.{◌&&◌, Bool, true, false, cond, List, [], ◌∷◌, ◌++◌, length, take, drop, Contains, Option, Some, None, refl}
-use Rattle.std.proofs.Common.{sym, ap, subst, ◌∙◌, arith, length-append, length-take, get_or, inl, inr}
-use Rattle.std.proofs.lemmas.List.{get_or_default}
+use Rattle.std.proofs.Common.{◌≡◌, ℕ, ◌+◌, ◌≤◌, ◌==◌, ◌&&◌, Bool, true, false, cond, List, [], ◌∷◌, ◌++◌, length, take, drop, Contains}
+use Rattle.std.proofs.Common.{Option, Some, None, refl, sym, ap, subst, ◌∙◌, arith, length-append, length-take, get_or, inl, inr}
+use Rattle.std.{proofs.lemmas.Bool.Decides.nat_tests, proofs.lemmas.Grind.common_steps, proofs.lemmas.List.get_or_default, specs.List.All}
 use Rattle.vs_contents.specs.CallTree.{Done, Ask, bind}
-use Rattle.vs_conn.specs.{declared.end.Verdict.Verdict, declared.end.Why.Why, End.ConnectionEnd, End.after_op, End.end_after, End.is_reset}
-use Rattle.vs_conn.specs.End.{is_of, verdict_of}
-use Rattle.vs_flow.specs.{Flow.is_assigned, Flow.same_flow, Table.entry_of, Table.has_place, Table.with_value, Table.Table}
-use Rattle.vs_flow.specs.declared.flow.Flow.{Flow}
-use Rattle.vs_flow.proofs.Entries.{same_flow_true}
+use Rattle.vs_conn.specs.End.{ConnectionEnd, after_op, end_after, is_reset, is_of, verdict_of}
+use Rattle.vs_conn.specs.declared.end.{Verdict.Verdict, Why.Why}
+use Rattle.vs_flow.specs.Table.{entry_of, has_place, with_value, Table}
+use Rattle.vs_flow.{specs.Flow.is_assigned, specs.Flow.same_flow, specs.declared.flow.Flow.Flow, proofs.Entries.same_flow_true}
 use Rattle.vs_header.specs.{Op.op_named, declared.Header.Header, declared.TheConstants.HEADER_LEN, declared.Kind.TheVariants.Stream}
 use Rattle.laws_history.specs.{Packets.is_request, declared.packet.Packet.Packet}
-use Rattle.vs_outside.specs.{declared.host_net.Dialed.Dialed, Host.HostContents, Host.IsDialed, Host.after_dial, Host.after_failed}
-use Rattle.vs_outside.specs.Host.{after_close, called}
+use Rattle.vs_outside.specs.declared.host_net.Dialed.{Dialed}
+use Rattle.vs_outside.specs.Host.{HostContents, IsDialed, after_dial, after_failed, after_close, called}
 use Rattle.vs_page.specs.{Fair.IsFairLog, Held.FitsWire, Held.IsWhole, Held.packet_held, Log.Device, Log.Log, Log.flow_to_host}
 use Rattle.vs_page.specs.{Open.is_dropped, declared.log.LogEntry.TheVariants.GotPacket}
 use Rattle.vs_replies.specs.Owed.{reply_to}
 use Rattle.vs_ring_port.specs.{Chains.bytes_in, EndLog.EndLog, declared.device_ring.Chain.Chain}
-use Rattle.laws_tables.specs.{Ends.is_new, Steps.is_overrun, Steps.HasEnd}
-use Rattle.laws_tables.proofs.Slots.{found_by}
-use Rattle.vs_device_parts.specs.{Calls.DeviceTree, Calls.Dial, Calls.HostMoves, Calls.Situation, State.DeviceConnection, State.DeviceEntry}
-use Rattle.vs_device_parts.specs.{State.DeviceState, Connections.after_leaving, Connections.stream_closed, Connections.with_connection}
-use Rattle.vs_device_parts.specs.{Connections.with_dialed, Connections.with_fault, Connections.with_reply, Transmitting.dial_answered}
-use Rattle.vs_device_parts.specs.Transmitting.{heard, on_known, on_packet, on_unknown, refused, try_request, unknown_why}
-use Rattle.vs_device_parts.specs.Streams.{closing, leaving}
+use Rattle.laws_tables.{specs.Ends.is_new, specs.Steps.is_overrun, specs.Steps.HasEnd, proofs.Slots.found_by}
+use Rattle.vs_device_parts.specs.Calls.{DeviceTree, Dial, HostMoves, Situation}
+use Rattle.vs_device_parts.specs.Connections.{after_leaving, stream_closed, with_connection, with_dialed, with_fault, with_reply}
+use Rattle.vs_device_parts.specs.Transmitting.{dial_answered, heard, on_known, on_packet, on_unknown, refused, try_request, unknown_why}
+use Rattle.vs_device_parts.specs.{State.DeviceConnection, State.DeviceEntry, State.DeviceState, Streams.closing, Streams.leaving}
 use Rattle.vs_wrap.specs.Wrap.{counted}
-use Rattle.laws_device.proofs.{Chains.Behind, Seats.AgreesBy, Seats.Carried, Seats.LeftBy, Seats.seat, Fits.delivered, Fits.fewer}
-use Rattle.laws_device_walk.proofs.Keeping.{keeps_if, keeps_some}
-use Rattle.laws_device.proofs.{Fits.fits_after, Keeping.Keeps, Keeping.asking, Keeping.Lets, Keeping.keeps_bind, Ringing.Tells, Ringing.moves}
-use Rattle.laws_device.proofs.{Ringing.tells_weaker, Ringing.host_moves, Ringing.Telling, Ringing.bytes_held, Steps.closing_keeps}
+use Rattle.laws_device.proofs.Ringing.{Tells, moves, tells_weaker, host_moves, Telling, bytes_held}
 use Rattle.laws_device.proofs.Taking.{drops_it, has_its_room, ignores_it, leaves_with, opens, replies_to, stays_with}
-use Rattle.laws_device.proofs.{Tabling.IsFitConnection, Tabling.begun_fits, Tabling.entry_fits, Tabling.has_end, Carrying.Fact}
-use Rattle.laws_device.proofs.Carrying.{Closes, StreamedOver, streams_call, streams_go}
+use Rattle.laws_device.proofs.Tabling.{IsFitConnection, begun_fits, entry_fits, has_end}
+use Rattle.laws_device.proofs.Carrying.{Fact, Closes, StreamedOver, streams_call, streams_go}
 use Rattle.laws_device.specs.Honest.{HoldsBytes, ends_of_state}
+use Rattle.laws_device.proofs.{Chains.Behind, Seats.AgreesBy, Seats.Carried, Seats.LeftBy, Seats.seat, Fits.delivered, Fits.fewer}
+use Rattle.laws_device.proofs.{Fits.fits_after, Keeping.Keeps, Keeping.asking, Keeping.Lets, Keeping.keeps_bind, Steps.closing_keeps}
+use Rattle.laws_device_walk.proofs.Keeping.{keeps_if, keeps_some}
 use Rattle.laws_device_bytes.proofs.Changing.{accepts_streams, called_host, closes_streams, delivered_rw, delivers_streams, dialed_id}
 use Rattle.laws_device_bytes.proofs.Changing.{empty_streams, failed_host, got_nothing, hears_streams, leaves_streams, passes_streams}
-use Rattle.laws_device_bytes.proofs.Changing.{payload_in}
-use Rattle.laws_device_bytes.proofs.{Changing.request_empty, Changing.reset_empty, Changing.unknown_streams, Streamed.join_of}
-use Rattle.laws_device_bytes.proofs.Opens.{dial_host}
-use Rattle.vs_proxy_parts.specs.State.{Handshake}
+use Rattle.laws_device_bytes.proofs.Changing.{payload_in, request_empty, reset_empty, unknown_streams}
 use Rattle.laws_device_bytes.specs.Streamed.{IsStreamed, gives, look}
-use Rattle.laws_bytes.proofs.{Firsts.asked_first, Firsts.once_history, Logs.got_passes, Logs.none_passed, Logs.passed_after_got}
-use Rattle.laws_bytes.proofs.Logs.{put_after_got}
-use Rattle.laws_bytes.specs.Drains.{has_passed}
+use Rattle.laws_device_bytes.proofs.{Streamed.join_of, Opens.dial_host}
+use Rattle.vs_proxy_parts.specs.State.{Handshake}
+use Rattle.laws_bytes.proofs.Logs.{got_passes, none_passed, passed_after_got, put_after_got}
+use Rattle.laws_bytes.{proofs.Firsts.asked_first, proofs.Firsts.once_history, specs.Drains.has_passed}
 use Rattle.vs_uds.specs.OkLine.{ok_text}
-use Rattle.std.specs.List.{All}
 use Rattle.laws_tables.specs.Both.{Takes, after as seat_after}
 use Rattle.vs_conn.specs.declared.end.Verdict.TheVariants as verdict
 use Rattle.vs_conn.specs.declared.end.Why.TheVariants as why

@@ -2,19 +2,17 @@
 use Rattle.std.proofs.Common.{◌≡◌, ℕ, zero, suc, ◌<◌, ◌^◌, Bool, true, false, List, [], ◌∷◌, Contains, subst}
 use Rattle.std.specs.Option.{ForSome}
 use Rattle.vs_contents.specs.CallTree.{Done, Ask, bind, for_each, while_up_to}
-use Rattle.vs_ring_port.specs.{Chains.chains_of, Contents.RingContents, Contents.DeviceCall, Contents.Take, Contents.Read, Contents.Write}
-use Rattle.vs_ring_port.specs.{Contents.Return, Contents.Given, Contents.PublishCid, DeviceCalls.CanReturn, DeviceCalls.LeavesNoGap}
-use Rattle.vs_ring_port.specs.{declared.device_ring.Chain.Chain, Contents.DeviceAnswer, DeviceCalls.DeviceAllows}
-use Rattle.vs_ring_port.specs.declared.queue.Queue.TheVariants.{Tx}
+use Rattle.vs_ring_port.specs.Contents.{RingContents, DeviceCall, Take, Read, Write, Return, Given, PublishCid, DeviceAnswer}
+use Rattle.vs_ring_port.specs.DeviceCalls.{CanReturn, LeavesNoGap, DeviceAllows}
+use Rattle.vs_ring_port.specs.{Chains.chains_of, declared.device_ring.Chain.Chain, declared.queue.Queue.TheVariants.Tx}
 use Rattle.vs_header.specs.{Packet.header_of, declared.TheConstants.HEADER_LEN}
 use Rattle.laws_device.specs.Honest.{is_held}
-use Rattle.vs_page.specs.Held.{FitsWire}
-use Rattle.vs_page.proofs.Holding.{header_fits}
+use Rattle.vs_page.{specs.Held.FitsWire, proofs.Holding.header_fits}
 use Rattle.vs_device_parts.specs.Calls.{IsFitAnswer, Call, Answer, Ring, Accept, Dial, Label, ReadStream, WriteStream, ShutWrite}
 use Rattle.vs_device_parts.specs.{Calls.CloseStream, Calls.DeviceTree, Calls.Situation, Calls.Allows, Playing.Runs}
 use Rattle.laws_device_streams.specs.Split.{CanPut, MayPut}
-use Rattle.laws_device_streams.proofs.Keeping.{asking as asked}
 use Rattle.laws_device_walk.proofs.Keeping.{Asking}
+use Rattle.laws_device_streams.proofs.Keeping.{asking as asked}
 use Rattle.laws_device_walk.proofs.Keeping as walked
 
 -- The chain is among those that are held.

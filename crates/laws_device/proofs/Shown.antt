@@ -1,17 +1,14 @@
 -- The table that is shown and what is pending, and the log.
-use Rattle.std.specs.List.{All}
 use Rattle.std.proofs.Common.{true, false, ◌≡◌, ℕ, ◌≤◌, Bool, not, ◌||◌, cond, List, [], ◌∷◌, map, length, Contains, refl, ap, subst, ◌∙◌}
-use Rattle.std.proofs.{Common.arith, lemmas.List.Elements.All-nil, lemmas.List.Elements.All-cons}
+use Rattle.std.{specs.List.All, proofs.Common.arith, proofs.lemmas.List.Elements.All-nil, proofs.lemmas.List.Elements.All-cons}
 use Rattle.vs_flow.specs.declared.flow.Flow.{Flow}
-use Rattle.laws_history.specs.{Again.AllowsNow, History.Got, History.History, History.IsFair, History.IsHonest, History.Put, History.Side}
-use Rattle.laws_history.specs.{History.gots, History.puts, Packets.has, Packets.is_request, Packets.is_rst, Packets.tells}
-use Rattle.laws_history.specs.{Packets.told_alloc, declared.packet.Packet.Packet}
+use Rattle.laws_history.specs.History.{Got, History, IsFair, IsHonest, Put, Side, gots, puts}
+use Rattle.laws_history.specs.Packets.{has, is_request, is_rst, tells, told_alloc}
+use Rattle.laws_history.{specs.Again.AllowsNow, specs.declared.packet.Packet.Packet, proofs.Present.fair_once}
 use Rattle.vs_limits.specs.declared.TheConstants.{BUF_ALLOC}
-use Rattle.laws_history.proofs.Present.{fair_once}
-use Rattle.vs_page.specs.Log.{Device, Log, flow_put, history_of, packets_put, side_of, whole_of}
 use Rattle.vs_page.specs.declared.log.LogEntry.TheVariants.{GotEvent, GotPacket, Mark, PutEvent, PutPacket}
-use Rattle.vs_page.specs.Fair.{IsFairLog}
 use Rattle.vs_page.proofs.Entries.{one_got, one_put, present_is}
+use Rattle.vs_page.specs.{Log.Device, Log.Log, Log.flow_put, Log.history_of, Log.packets_put, Log.side_of, Log.whole_of, Fair.IsFairLog}
 use Rattle.vs_ring_port.specs.EndLog.{EndLog}
 use Rattle.laws_tables.specs.Ends.{FlowEnd, flows_of, is_among, is_new}
 use Rattle.laws_tables.proofs.Tables.{all_open, end_new}

@@ -1,7 +1,6 @@
 -- What the single steps keep, beside whatever other chains are held.
 use Rattle.std.proofs.Common.{◌≡◌, ℕ, ◌≤◌, ◌==◌, Bool, true, false, cond, List, [], take, Contains, Option, Some, None, refl, sym, ap}
-use Rattle.std.proofs.Common.{subst, ◌∙◌, arith, IfSome}
-use Rattle.std.specs.Option.{ForSome}
+use Rattle.std.{proofs.Common.subst, proofs.Common.◌∙◌, proofs.Common.arith, proofs.Common.IfSome, specs.Option.ForSome}
 use Rattle.byteorder.specs.Endian.{little_bytes}
 use Rattle.vs_contents.specs.CallTree.{Done, Ask, bind}
 use Rattle.vs_conn.specs.{End.wanting_credit, declared.end.Verdict.Verdict}
@@ -10,24 +9,23 @@ use Rattle.vs_flow.specs.Table.{entry_under}
 use Rattle.vs_header.specs.declared.Header.{Header}
 use Rattle.vs_outside.specs.Host.{HostContents}
 use Rattle.vs_page.specs.{Held.FitsWire, Log.Log}
+use Rattle.vs_ring_port.specs.declared.queue.Queue.TheVariants.{Event, Rx, Tx}
 use Rattle.vs_ring_port.specs.{Chains.Held, Chains.bytes_in, Chains.same_queue, Contents.Return, Contents.Take, Contents.Write}
 use Rattle.vs_ring_port.specs.{DeviceCalls.IsTakenAs, EndLog.EndLog, EndLog.entries_returned, EndLog.log_returned, EndLog.log_taken}
 use Rattle.vs_ring_port.specs.{declared.device_ring.Chain.Chain, declared.device_ring.Next.Next, declared.queue.Queue.Queue}
-use Rattle.vs_ring_port.specs.declared.queue.Queue.TheVariants.{Event, Rx, Tx}
-use Rattle.vs_device_parts.specs.{Calls.DeviceTree, Calls.Ring, Calls.Situation, Connections.with_connection, Playing.IsRxChain}
+use Rattle.vs_device_parts.specs.Steps.{chain_came, filling, puts_event, puts_owed, puts_payload, puts_reply, reads, returns, shuts_write}
 use Rattle.vs_device_parts.specs.Receiving.{Filling, may_read, put_owed, put_reply, read_with_chain}
-use Rattle.vs_device_parts.specs.{State.DeviceEntry, State.DeviceState, Steps.chain_came, Steps.filling, Steps.puts_event, Steps.puts_owed}
-use Rattle.vs_device_parts.specs.Steps.{puts_payload, puts_reply, reads, returns, shuts_write, takes_chain, writes, writes_on, writing}
-use Rattle.vs_device_parts.specs.{Streams.shut_write, Streams.write_pending, Transmitting.failing}
+use Rattle.vs_device_parts.specs.Steps.{takes_chain, writes, writes_on, writing}
+use Rattle.vs_device_parts.specs.{Calls.DeviceTree, Calls.Ring, Calls.Situation, Connections.with_connection, Playing.IsRxChain}
+use Rattle.vs_device_parts.specs.{State.DeviceEntry, State.DeviceState, Streams.shut_write, Streams.write_pending, Transmitting.failing}
 use Rattle.laws_device.specs.Honest.{is_held}
-use Rattle.laws_device.proofs.{Chains.Among, Chains.among_more, Chains.among_without, Chains.held_there, Carrying.IsToldBy}
-use Rattle.laws_device.proofs.{Carrying.StreamedOver, Carrying.With, Filling.Over, Filling.Ready, Filling.put_owed_keeps}
-use Rattle.laws_device.proofs.{Filling.put_reply_keeps, Filling.step_keeps, Filling.under_there, Hearing.After, Hearing.Heard, Keeping.Goes}
+use Rattle.laws_device.proofs.Chains.{Among, among_more, among_without, held_there}
+use Rattle.laws_device.proofs.Filling.{Over, Ready, put_owed_keeps, put_reply_keeps, step_keeps, under_there}
+use Rattle.laws_device.proofs.Keeping.{Goes, Keeps, asking, Lets, keeps_then}
+use Rattle.laws_device.proofs.{Carrying.IsToldBy, Carrying.StreamedOver, Carrying.With, Hearing.After, Hearing.Heard, Steps.none_came}
+use Rattle.laws_device.proofs.{Steps.hold_keeps, Ringing.moves, Ringing.tells_weaker, Seats.Carried, Seats.LeftBy, Transmitting.read_keeps}
+use Rattle.laws_device.proofs.{Transmitting.tx_keeps, Turning.event_put, Turning.shut_keeps, Turning.write_keeps_all}
 use Rattle.laws_device_walk.proofs.Keeping.{keeps_if, keeps_some}
-use Rattle.laws_device.proofs.Steps.{none_came}
-use Rattle.laws_device.proofs.{Keeping.Keeps, Keeping.asking, Keeping.Lets, Keeping.keeps_then, Ringing.moves, Ringing.tells_weaker, Seats.Carried}
-use Rattle.laws_device.proofs.{Seats.LeftBy, Steps.hold_keeps, Transmitting.read_keeps, Transmitting.tx_keeps, Turning.event_put}
-use Rattle.laws_device.proofs.Turning.{shut_keeps, write_keeps_all}
 use Rattle.vs_proxy_parts.specs.State.{Handshake}
 use Rattle.vs_ring_port.specs.declared.device_ring.Next.TheVariants as next
 

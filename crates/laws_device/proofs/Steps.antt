@@ -2,23 +2,21 @@
 use Rattle.std.proofs.Common.{◌≡◌, ℕ, Bool, true, false, not, cond, List, [], Contains, Option, Some, None, refl, sym, subst, ◌∙◌, IfSome}
 use Rattle.std.proofs.Common.{inl, inr}
 use Rattle.vs_contents.specs.CallTree.{Done, Ask, bind}
-use Rattle.vs_ring_port.specs.{Contents.Take, DeviceCalls.IsTakenAs, EndLog.EndLog, EndLog.log_taken, declared.device_ring.Chain.Chain}
-use Rattle.vs_ring_port.specs.{declared.device_ring.Next.Next, declared.queue.Queue.TheVariants.Rx}
+use Rattle.vs_ring_port.specs.EndLog.{EndLog, log_taken}
+use Rattle.vs_ring_port.specs.{Contents.Take, DeviceCalls.IsTakenAs, declared.device_ring.Chain.Chain, declared.device_ring.Next.Next}
+use Rattle.vs_ring_port.specs.{declared.queue.Queue.TheVariants.Rx, declared.failure.Failure.Failure, declared.queue.Queue.Queue}
 use Rattle.vs_device_parts.specs.Calls.{CloseStream, DeviceTree, HostMoves, Ring, Situation}
+use Rattle.vs_device_parts.specs.Receiving.{Filling, hold, holding}
 use Rattle.vs_device_parts.specs.{Connections.cut_off, Connections.with_connection, Playing.IsRxChain, State.DeviceConnection}
-use Rattle.vs_device_parts.specs.State.{DeviceEntry}
-use Rattle.vs_device_parts.specs.{State.DeviceState, Streams.closing, Transmitting.failing, Receiving.Filling, Receiving.hold}
-use Rattle.vs_device_parts.specs.Receiving.{holding}
+use Rattle.vs_device_parts.specs.{State.DeviceEntry, State.DeviceState, Streams.closing, Transmitting.failing}
 use Rattle.laws_device.specs.Honest.{IsFitState}
+use Rattle.laws_device.proofs.Carrying.{Closes, Fact, IsHeldBy, IsToldBy, StreamedOver, With, closed_with, streams_call, streams_go}
 use Rattle.laws_device.proofs.{Chains.Among, Chains.is_unwritten, Chains.taken_holds, Seats.Carried, Changing.Changes, Keeping.Goes}
+use Rattle.laws_device.proofs.{Keeping.Keeps, Keeping.asking, Keeping.Lets, Ringing.moves, Ringing.host_moves, Ringing.tells_weaker}
 use Rattle.laws_device_walk.proofs.Keeping.{keeps_if}
-use Rattle.vs_ring_port.specs.declared.{failure.Failure.Failure, queue.Queue.Queue}
-use Rattle.laws_device.proofs.{Keeping.Keeps, Keeping.asking, Keeping.Lets, Ringing.moves, Ringing.host_moves, Ringing.tells_weaker, Carrying.Closes}
-use Rattle.laws_device.proofs.Carrying.{Fact, IsHeldBy, IsToldBy, StreamedOver, With, closed_with, streams_call, streams_go}
-use Rattle.laws_device_bytes.proofs.{Changing.cuts_streams, HostCalls.cut_host}
+use Rattle.laws_device_bytes.{proofs.Changing.cuts_streams, proofs.HostCalls.cut_host, specs.Streamed.IsStreamed}
 use Rattle.vs_proxy_parts.specs.State.{Handshake}
 use Rattle.vs_outside.specs.Host.{HostContents}
-use Rattle.laws_device_bytes.specs.Streamed.{IsStreamed}
 use Rattle.vs_page.specs.Log.{Log}
 use Rattle.vs_flow.specs.Table.{Table, with_value}
 use Rattle.vs_ring_port.specs.declared.device_ring.Next.TheVariants as next

@@ -1,30 +1,29 @@
 -- What taking a packet of the guest keeps.
 use Rattle.std.proofs.Common.{◌≡◌, ℕ, ◌-◌, ◌≤◌, ◌==◌, nat_le, nat_lt, Bool, true, false, cond, if◌then◌else◌, List, [], ◌∷◌, length, take}
 use Rattle.std.proofs.Common.{drop, Option, Some, None, refl, sym, ap, subst, ◌∙◌, arith, IfSome, length-drop}
-use Rattle.std.proofs.lemmas.Bool.Decides.{nat_tests}
-use Rattle.std.specs.Option.{option_map}
+use Rattle.std.{proofs.lemmas.Bool.Decides.nat_tests, specs.Option.option_map}
 use Rattle.vs_contents.specs.CallTree.{Done, Ask, bind}
 use Rattle.vs_conn.specs.declared.end.Verdict.{Verdict}
-use Rattle.vs_header.specs.{Op.op_number, Packet.header_of, declared.Header.Header, declared.TheConstants.HEADER_LEN}
 use Rattle.vs_header.specs.declared.Op.TheVariants.{Rw}
+use Rattle.vs_header.specs.{Op.op_number, Packet.header_of, declared.Header.Header, declared.TheConstants.HEADER_LEN}
 use Rattle.laws_history.specs.{Packets.size, declared.packet.Packet.Packet}
-use Rattle.vs_page.specs.{Fair.IsFairLog, Held.FitsWire, Held.packet_held, Held.packet_with, Held.payload_held, Held.IsWhole, Log.Device}
-use Rattle.vs_page.specs.{Log.Log, Log.flow_got, declared.log.LogEntry.TheVariants.GotPacket}
+use Rattle.vs_page.specs.Held.{FitsWire, packet_held, packet_with, payload_held, IsWhole}
 use Rattle.vs_page.proofs.Holding.{packet_whole}
+use Rattle.vs_page.specs.{Fair.IsFairLog, Log.Device, Log.Log, Log.flow_got, declared.log.LogEntry.TheVariants.GotPacket}
 use Rattle.vs_ring_port.specs.{Chains.Held, Contents.Read, Contents.Return, Contents.Take, EndLog.EndLog, EndLog.log_returned}
 use Rattle.vs_ring_port.specs.{EndLog.log_taken, EndLog.with_packet, declared.device_ring.Chain.Chain, declared.device_ring.Next.Next}
 use Rattle.vs_ring_port.specs.{declared.failure.Failure.Failure, declared.queue.Queue.TheVariants.Tx, DeviceCalls.IsTakenAs}
 use Rattle.laws_tables.proofs.Fair.{got_formed}
-use Rattle.vs_device_parts.specs.{declared.answers.Taken.Taken, Calls.Ring, Calls.Situation, Playing.IsRxChain, State.DeviceState}
+use Rattle.vs_device_parts.specs.Calls.{Ring, Situation, DeviceTree}
 use Rattle.vs_device_parts.specs.Transmitting.{failing, on_next, on_packet, take_tx_of}
-use Rattle.vs_device_parts.specs.Calls.{DeviceTree}
+use Rattle.vs_device_parts.specs.{declared.answers.Taken.Taken, Playing.IsRxChain, State.DeviceState}
 use Rattle.vs_limits.specs.declared.TheConstants.{DEVICE_REPLIES}
-use Rattle.laws_device.proofs.{Chains.Among, Chains.Behind, Seats.Carried, Seats.LeftBy, Ringing.Tells, Ringing.bytes_held}
-use Rattle.laws_device.proofs.Ringing.{first_is_held, first_there, moves, returned_entries, returned_held, tells_weaker, Telling}
-use Rattle.laws_device.proofs.{Hearing.After, Hearing.Came, Hearing.Heard, Hearing.IsCome, Hearing.packet_keeps, Keeping.Keeps}
+use Rattle.laws_device.proofs.Ringing.{Tells, bytes_held, first_is_held, first_there, moves, returned_entries, returned_held, tells_weaker}
+use Rattle.laws_device.proofs.Hearing.{After, Came, Heard, IsCome, packet_keeps}
+use Rattle.laws_device.proofs.Keeping.{Keeps, asking, Lets, keeps_then}
+use Rattle.laws_device.proofs.Carrying.{Fact, IsToldBy, StreamedOver, With}
+use Rattle.laws_device.proofs.{Chains.Among, Chains.Behind, Seats.Carried, Seats.LeftBy, Ringing.Telling, Steps.it_failed, Steps.none_came}
 use Rattle.laws_device_walk.proofs.Keeping.{keeps_if}
-use Rattle.laws_device.proofs.Steps.{it_failed, none_came}
-use Rattle.laws_device.proofs.{Keeping.asking, Keeping.Lets, Keeping.keeps_then, Carrying.Fact, Carrying.IsToldBy, Carrying.StreamedOver, Carrying.With}
 use Rattle.vs_outside.specs.Host.{HostContents}
 use Rattle.vs_proxy_parts.specs.State.{Handshake}
 use Rattle.vs_ring_port.specs.declared.device_ring.Next.TheVariants as next

@@ -1,53 +1,49 @@
 -- What the owed event, a reset, a tick, a round of writing and an opening keep.
 use Rattle.std.proofs.Common.{◌≡◌, ℕ, ◌+◌, ◌<◌, ◌≤◌, ◌^◌, ◌==◌, ◌&&◌, ◌||◌, Bool, true, false, cond, if◌then◌else◌, List, [], ◌∷◌, ◌++◌}
 use Rattle.std.proofs.Common.{length, take, Contains, Option, Some, None, Result, Ok, Err, refl, sym, ap, subst, ◌∙◌, arith, nat_le, ◌⊎◌}
-use Rattle.std.proofs.{Common.inl, Common.inr, Common.length-append, Common.length-take, lemmas.Bool.Decides.nat_tests}
+use Rattle.std.proofs.Common.{inl, inr, length-append, length-take}
+use Rattle.std.{proofs.lemmas.Bool.Decides.nat_tests, specs.Option.ForSome}
 use Rattle.byteorder.specs.Endian.{little_bytes}
 use Rattle.vs_contents.specs.{CallTree.Done, CallTree.Ask, CallTree.bind, CallTree.for_each, Contents.Exposes}
 use Rattle.vs_conn.specs.End.{asked}
 use Rattle.vs_flow.specs.Table.{IsTable, Table, emptied, entry_under, refusal, slots, with_value}
-use Rattle.vs_flow.specs.{declared.flow.Flow.Flow, declared.table.TableFault.TableFault}
-use Rattle.vs_flow.proofs.Tables.{accepted}
+use Rattle.vs_flow.{specs.declared.flow.Flow.Flow, specs.declared.table.TableFault.TableFault, proofs.Tables.accepted}
 use Rattle.vs_limits.specs.declared.TheConstants.{BUF_ALLOC}
-use Rattle.vs_outside.specs.{declared.host_net.StreamWrite.StreamWrite, Host.HostContents, Host.IsWritten, Host.after_failed}
-use Rattle.vs_outside.specs.Host.{after_close, after_label, after_shut_write, after_write, called}
-use Rattle.vs_page.specs.{Log.Device, Log.Log, declared.log.LogEntry.TheVariants.Mark, declared.log.LogEntry.TheVariants.PutEvent}
-use Rattle.vs_page.specs.Held.{event_held}
-use Rattle.vs_ring_port.specs.{Chains.Held, Chains.bytes_in, Contents.RingContents, Contents.PublishCid, Contents.Return, Contents.Take}
-use Rattle.vs_ring_port.specs.{Contents.Write, EndLog.EndLog, EndLog.log_reset, EndLog.log_returned, EndLog.log_taken}
-use Rattle.vs_ring_port.specs.{declared.device_ring.Chain.Chain, declared.device_ring.Next.Next, declared.failure.Failure.Failure}
-use Rattle.vs_ring_port.specs.{declared.queue.Queue.Queue, DeviceCalls.IsTakenAs, DeviceCalls.IsWholePacket}
-use Rattle.vs_ring_port.specs.{declared.queue.Queue.TheVariants.Event, EndLog.entries_returned, EndLog.with_event}
-use Rattle.vs_ring_port.specs.declared.queue.Queue.TheVariants.{Tx}
-use Rattle.laws_tables.specs.{Ends.Ends, Ends.FlowEnd, Ends.is_new, Matches.Matches, Steps.IsNextFlow, Steps.asking, Both.Asks}
-use Rattle.laws_tables.specs.Both.{MakesReset, PutsEvent, Seat}
+use Rattle.vs_outside.specs.declared.host_net.StreamWrite.{StreamWrite}
+use Rattle.vs_outside.specs.Host.{HostContents, IsWritten, after_failed, after_close, after_label, after_shut_write, after_write, called}
+use Rattle.vs_page.specs.declared.log.LogEntry.TheVariants.{Mark, PutEvent}
+use Rattle.vs_page.specs.{Log.Device, Log.Log, Held.event_held}
+use Rattle.vs_ring_port.specs.Contents.{RingContents, PublishCid, Return, Take, Write}
+use Rattle.vs_ring_port.specs.EndLog.{EndLog, log_reset, log_returned, log_taken, entries_returned, with_event}
+use Rattle.vs_ring_port.specs.{Chains.Held, Chains.bytes_in, declared.device_ring.Chain.Chain, declared.device_ring.Next.Next}
+use Rattle.vs_ring_port.specs.{declared.failure.Failure.Failure, declared.queue.Queue.Queue, DeviceCalls.IsTakenAs}
+use Rattle.vs_ring_port.specs.{DeviceCalls.IsWholePacket, declared.queue.Queue.TheVariants.Event, declared.queue.Queue.TheVariants.Tx}
+use Rattle.laws_tables.specs.Both.{Asks, MakesReset, PutsEvent, Seat}
+use Rattle.laws_tables.specs.{Ends.Ends, Ends.FlowEnd, Ends.is_new, Matches.Matches, Steps.IsNextFlow, Steps.asking}
 use Rattle.laws_tables.proofs.{Keeps.asks, Keeps.makes_reset, Keeps.puts_event, Keeps.start_matches, Slots.added_slot, Slots.found_by}
-use Rattle.vs_device_parts.specs.{Receiving.event_on, Receiving.pay_event_of, State.DeviceConnection, State.DeviceEntry, State.DeviceState}
-use Rattle.vs_device_parts.specs.{Transmitting.failing, Calls.CloseStream, Calls.DeviceTree, Calls.Label, Calls.Ring, Calls.ShutWrite}
-use Rattle.vs_device_parts.specs.{Calls.WriteStream, Calls.Situation, Connections.after_shut, Connections.after_written}
-use Rattle.vs_device_parts.specs.Connections.{cut_off, is_timed_out, new_connection, stream_closed, with_client, with_connection}
-use Rattle.vs_device_parts.specs.{Connections.with_fault, Streams.Writing, Streams.closing, Streams.is_written_out, Streams.pump_of}
-use Rattle.vs_device_parts.specs.Streams.{pump_slot, shut_write, tick_of, tick_slot, to_write, write_answered, write_pending}
+use Rattle.vs_device_parts.specs.Connections.{after_shut, after_written, cut_off, is_timed_out, new_connection, stream_closed, with_client}
+use Rattle.vs_device_parts.specs.Streams.{Writing, closing, is_written_out, pump_of, pump_slot, shut_write, tick_of, tick_slot, to_write}
+use Rattle.vs_device_parts.specs.Calls.{CloseStream, DeviceTree, Label, Ring, ShutWrite, WriteStream, Situation}
+use Rattle.vs_device_parts.specs.Connections.{with_connection, with_fault}
 use Rattle.vs_device_parts.specs.Turns.{after_reset, close_slot, new_device, open_of, reset_of}
+use Rattle.vs_device_parts.specs.{Receiving.event_on, Receiving.pay_event_of, State.DeviceConnection, State.DeviceEntry, State.DeviceState}
+use Rattle.vs_device_parts.specs.{Transmitting.failing, Streams.write_answered, Streams.write_pending}
+use Rattle.laws_device.proofs.Carrying.{ring_only, Fact, IsHeldBy, fact_goes, IsToldBy, StreamedOver, With, closed_held, streams_go}
 use Rattle.laws_device.specs.Honest.{IsFitFlow, IsFitState, IsFresh, IsLeft, IsWith, end_in, ends_of_state, port_after}
-use Rattle.laws_device.proofs.{Chains.Among, Chains.first_written, Chains.held_there, Chains.is_unwritten, Chains.taken_holds, Keeping.Lets}
-use Rattle.laws_device.proofs.{Seats.Carried, Seats.LeftBy, Seats.at_log, Seats.seat, Carrying.ring_only, Writing.write_keeps}
-use Rattle.laws_device.proofs.{Changing.cuts, Changing.shuts, Changing.unseen, Changing.writes, Changing.same, Filling.under_there}
+use Rattle.laws_device.proofs.Chains.{Among, first_written, held_there, is_unwritten, taken_holds}
+use Rattle.laws_device.proofs.Changing.{cuts, shuts, unseen, writes, same}
+use Rattle.laws_device.proofs.Ringing.{Tells, moves, tells_weaker, host_moves}
+use Rattle.laws_device.proofs.{Keeping.Lets, Seats.Carried, Seats.LeftBy, Seats.at_log, Seats.seat, Carrying.plain_with}
+use Rattle.laws_device.proofs.{Writing.write_keeps, Writing.Writes, Filling.under_there, Steps.it_failed, Steps.none_came, Steps.cut_with}
+use Rattle.laws_device.proofs.{Steps.seat_changed, Tabling.IsFitConnection, Tabling.entry_fits, Tabling.opening_fits}
 use Rattle.laws_device_walk.proofs.Keeping.{keeps_if, keeps_some}
-use Rattle.laws_device.proofs.{Keeping.Keeps, Keeping.asking as asked_of, Keeping.keeps_each, Keeping.keeps_then, Steps.closing_keeps, Steps.called_with}
-use Rattle.laws_device.proofs.Steps.{it_failed, none_came}
-use Rattle.laws_device.proofs.{Steps.cut_with, Steps.seat_changed, Tabling.IsFitConnection, Tabling.entry_fits, Tabling.opening_fits}
-use Rattle.laws_device.proofs.Writing.{Writes}
-use Rattle.laws_device.proofs.{Ringing.Tells, Ringing.moves, Ringing.tells_weaker, Ringing.host_moves, Carrying.Fact, Carrying.IsHeldBy}
-use Rattle.laws_device.proofs.Carrying.{fact_goes, IsToldBy, StreamedOver, With, closed_held, streams_go, plain_with}
 use Rattle.vs_header.specs.declared.Kind.TheVariants.{Stream}
 use Rattle.laws_device_bytes.proofs.Changing.{called_host, ends_streams, event_streams, failed_host, mark_streams, shut_write_host}
-use Rattle.laws_device_bytes.proofs.Changing.{shuts_streams, writes_streams}
-use Rattle.laws_device_bytes.proofs.Closing.{IsClosing, closing_done as all_closed, closing_from, closing_now, closing_passes, closing_was}
-use Rattle.laws_device_bytes.specs.Streamed.{IsStreamed}
+use Rattle.laws_device_bytes.{proofs.Changing.shuts_streams, proofs.Changing.writes_streams, specs.Streamed.IsStreamed}
 use Rattle.laws_device_streams.proofs.Tables.{some_after, some_from}
-use Rattle.std.specs.Option.{ForSome}
 use Rattle.vs_proxy_parts.specs.State.{Handshake}
+use Rattle.laws_device.proofs.{Keeping.Keeps, Keeping.asking as asked_of, Keeping.keeps_each, Keeping.keeps_then, Steps.closing_keeps, Steps.called_with}
+use Rattle.laws_device_bytes.proofs.Closing.{IsClosing, closing_done as all_closed, closing_from, closing_now, closing_passes, closing_was}
 use Rattle.vs_outside.specs.declared.host_net.StreamWrite.TheVariants as write
 use Rattle.vs_ring_port.specs.declared.device_ring.Next.TheVariants as next
 

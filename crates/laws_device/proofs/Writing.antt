@@ -4,19 +4,18 @@ use Rattle.std.proofs.{Common.◌∙◌, Common.arith, Common.IsSomeAnd, lemmas.
 use Rattle.vs_contents.specs.CallTree.{Ask, bind}
 use Rattle.vs_header.specs.{Packet.header_bytes, declared.Header.Header, declared.TheConstants.HEADER_LEN}
 use Rattle.laws_history.specs.{Packets.packet_bytes, declared.packet.Packet.Packet}
-use Rattle.vs_page.specs.{Fair.IsFairLog, Held.packet_held, Log.Device, Log.Log, Overwriting.overwritten}
-use Rattle.vs_page.specs.declared.log.LogEntry.TheVariants.{PutPacket}
-use Rattle.vs_ring_port.specs.{Chains.Held, Chains.bytes_in, Contents.Return, Contents.Write, DeviceCalls.IsWholePacket}
-use Rattle.vs_ring_port.specs.{DriverCalls.HoldsPacket, EndLog.EndLog, EndLog.entries_returned, EndLog.log_returned, EndLog.log_written}
-use Rattle.vs_ring_port.specs.{EndLog.with_packet, declared.device_ring.Chain.Chain, declared.queue.Queue.Queue}
-use Rattle.vs_ring_port.specs.{declared.queue.Queue.TheVariants.Rx, Chains.without_held, declared.queue.Queue.TheVariants.Tx}
+use Rattle.vs_page.specs.Log.{Device, Log}
+use Rattle.vs_page.specs.{Fair.IsFairLog, Held.packet_held, Overwriting.overwritten, declared.log.LogEntry.TheVariants.PutPacket}
+use Rattle.vs_ring_port.specs.EndLog.{EndLog, entries_returned, log_returned, log_written, with_packet}
+use Rattle.vs_ring_port.specs.{Chains.Held, Chains.bytes_in, Chains.without_held, Contents.Return, Contents.Write}
+use Rattle.vs_ring_port.specs.{DeviceCalls.IsWholePacket, DriverCalls.HoldsPacket, declared.device_ring.Chain.Chain}
+use Rattle.vs_ring_port.specs.{declared.queue.Queue.Queue, declared.queue.Queue.TheVariants.Rx, declared.queue.Queue.TheVariants.Tx}
 use Rattle.laws_tables.specs.Matches.{Matches}
 use Rattle.vs_device_parts.specs.{Calls.DeviceTree, Calls.Ring, Calls.Situation, Receiving.written, State.DeviceState}
 use Rattle.laws_device.specs.Honest.{IsFitState, ends_of_state}
-use Rattle.laws_device.proofs.{Keeping.Keeps, Putting.Puts, Ringing.Tells, Ringing.moves, Ringing.overwritten_long, Seats.AgreesBy}
-use Rattle.laws_device.proofs.{Seats.Carried, Seats.seat, Chains.Among, Chains.Holds, Chains.both_written, Chains.first_written}
-use Rattle.laws_device.proofs.{Chains.held_there, Chains.holds_written, Chains.is_unwritten, Ringing.Telling, Carrying.Fact}
-use Rattle.laws_device.proofs.Carrying.{IsToldBy}
+use Rattle.laws_device.proofs.Ringing.{Tells, moves, overwritten_long, Telling}
+use Rattle.laws_device.proofs.Chains.{Among, Holds, both_written, first_written, held_there, holds_written, is_unwritten}
+use Rattle.laws_device.proofs.{Keeping.Keeps, Putting.Puts, Seats.AgreesBy, Seats.Carried, Seats.seat, Carrying.Fact, Carrying.IsToldBy}
 use Rattle.vs_outside.specs.Host.{HostContents}
 
 -- It begins with this header.

@@ -1,12 +1,9 @@
 -- A reset: the streams of all connections are closed, one after another.
 use Rattle.std.proofs.Common.{◌≡◌, ◌≢◌, ℕ, zero, suc, ◌==◌, Bool, true, false, cond, List, [], ◌∷◌, map, get_or, Contains, Option, Some}
 use Rattle.std.proofs.Common.{None, refl, sym, ap, ◌∙◌, arith}
-use Rattle.std.proofs.lemmas.{Bool.Decides.nat_tests, List.Elements.All-contains}
-use Rattle.std.specs.List.{All, find}
-use Rattle.vs_device_parts.specs.{Connections.stream_closed, State.DeviceConnection, State.DeviceEntry}
-use Rattle.vs_device_parts.proofs.Under.{has_slot}
-use Rattle.vs_flow.specs.Table.{Table, emptied, entry_under, slots, with_value}
-use Rattle.vs_flow.specs.declared.flow.Flow.{Flow}
+use Rattle.std.{proofs.lemmas.Bool.Decides.nat_tests, proofs.lemmas.List.Elements.All-contains, specs.List.All, specs.List.find}
+use Rattle.vs_device_parts.{specs.Connections.stream_closed, specs.State.DeviceConnection, specs.State.DeviceEntry, proofs.Under.has_slot}
+use Rattle.vs_flow.specs.{Table.Table, Table.emptied, Table.entry_under, Table.slots, Table.with_value, declared.flow.Flow.Flow}
 use Rattle.vs_outside.specs.Host.{HostContents, after_close}
 use Rattle.vs_page.specs.Log.{Log}
 use Rattle.vs_proxy_parts.specs.State.{Handshake}
@@ -14,7 +11,7 @@ use Rattle.laws_tables.proofs.Slots.{found_by}
 use Rattle.laws_device_streams.specs.Streams.{joined_stream, stream_under}
 use Rattle.laws_device_streams.proofs.Tables.{joined_in, stream_closed_under, value_in}
 use Rattle.laws_device_bytes.specs.Streamed.{AreLabelled, IsJoined, IsStreamed, Seen, look, reading}
-use Rattle.laws_device_bytes.proofs.{HostCalls.open_before, HostCalls.shut_labels, HostCalls.some_seen}
+use Rattle.laws_device_bytes.proofs.HostCalls.{open_before, shut_labels, some_seen}
 
 -- A stream with a label that isn't closed is that of a connection under one of these slots. No line is of such a stream.
 pub record IsClosing (rest : List ℕ) (t : Table DeviceConnection) (c : HostContents) (log : Log) (port : ℕ)

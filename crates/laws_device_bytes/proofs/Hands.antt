@@ -1,14 +1,13 @@
 -- Lines that are read: a byte more, and a line that ends.
 use Rattle.std.proofs.Common.{◌≡◌, ◌≢◌, ℕ, zero, suc, ◌<◌, ◌==◌, nat_le, ◌||◌, Bool, true, false, cond, List, [], ◌∷◌, ◌++◌, length, get_or}
 use Rattle.std.proofs.Common.{Some, refl, sym, ap, ◌∙◌, arith, length-append, append_assoc, replicate}
-use Rattle.std.proofs.lemmas.{Bool.Decides.nat_tests, List.same_from_push}
 use Rattle.std.specs.List.{All, AllPairs, list_any}
+use Rattle.std.proofs.lemmas.{Bool.Decides.nat_tests, List.same_from_push}
 use Rattle.vs_proxy_parts.specs.{Handshakes.with_line, Handshakes.without_stream, State.Handshake}
-use Rattle.vs_uds.specs.{ConnectLine.connect_port, ConnectLine.connect_step, ConnectLine.connect_word, Reading.is_decided}
-use Rattle.vs_uds.specs.declared.connect.TheConstants.{CONNECT_MAX}
-use Rattle.vs_uds.specs.declared.scan.Step.TheVariants as step
-use Rattle.vs_uds.proofs.{ConnectLines.IsWordLine-word_port, Decided.decided}
+use Rattle.vs_uds.{specs.ConnectLine.connect_port, specs.ConnectLine.connect_step, specs.ConnectLine.connect_word, specs.Reading.is_decided}
+use Rattle.vs_uds.{specs.declared.connect.TheConstants.CONNECT_MAX, proofs.ConnectLines.IsWordLine-word_port, proofs.Decided.decided}
 use Rattle.laws_device_bytes.specs.Streamed.{has_line}
+use Rattle.vs_uds.specs.declared.scan.Step.TheVariants as step
 
 -- The lines without that of a stream.
 all_tail : (P : Handshake → Type 0) (h : Handshake) (hs : List Handshake) → All P (h ∷ hs) → All P hs

@@ -1,7 +1,6 @@
 -- What a host in memory answers to a read and to a write is no more than was asked for.
 use Rattle.std.proofs.Common.{◌≡◌, ℕ, ◌≤◌, ◌==◌, min, Bool, true, false, cond, [], length, take, Option, Some, None, subst, arith}
-use Rattle.std.proofs.lemmas.List.{length-take}
-use Rattle.std.specs.Option.{option_map_or}
+use Rattle.std.{proofs.lemmas.List.length-take, specs.Option.option_map_or}
 use Rattle.vs_outside.specs.Host.{Stream, read_of, taken_of, write_of}
 use Rattle.vs_outside.specs.declared.host_net.StreamRead.TheVariants as read
 use Rattle.vs_outside.specs.declared.host_net.StreamWrite.TheVariants as write

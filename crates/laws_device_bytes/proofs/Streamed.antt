@@ -1,24 +1,21 @@
 -- What the host's streams took and gave, through each change of them.
 use Rattle.std.proofs.Common.{◌≡◌, ◌≢◌, ℕ, ◌≤◌, ◌==◌, Bool, true, false, cond, List, [], ◌∷◌, ◌++◌, get_or, Contains, Option, Some, None}
 use Rattle.std.proofs.Common.{refl, sym, ap, subst, ◌∙◌, append_assoc, arith}
-use Rattle.std.proofs.lemmas.{Bool.Decides.nat_tests, List.append-nil, List.Elements.All-contains, List.Elements.All-push}
-use Rattle.std.proofs.lemmas.List.Elements.{All-weaker, Contains-append_left}
-use Rattle.std.specs.List.{All}
+use Rattle.std.proofs.lemmas.List.Elements.{All-contains, All-push, All-weaker, Contains-append_left}
+use Rattle.std.{proofs.lemmas.Bool.Decides.nat_tests, proofs.lemmas.List.append-nil, specs.List.All}
 use Rattle.vs_conn.specs.declared.end.State.TheVariants.{Asked}
 use Rattle.vs_device_parts.specs.State.{DeviceConnection, DeviceEntry}
-use Rattle.vs_flow.specs.{Flow.same_flow, Table.IsTable, Table.Table, Table.next_entry, Table.with_entry, Table.with_value, Table.without}
-use Rattle.vs_flow.specs.declared.flow.Flow.{Flow}
-use Rattle.vs_flow.proofs.Entries.{same_flow_true}
+use Rattle.vs_flow.specs.Table.{IsTable, Table, next_entry, with_entry, with_value, without}
+use Rattle.vs_flow.{specs.Flow.same_flow, specs.declared.flow.Flow.Flow, proofs.Entries.same_flow_true}
 use Rattle.vs_page.specs.{Fair.IsPrefixOf, Log.Device, Log.Log}
 use Rattle.vs_proxy_parts.specs.State.{Handshake}
 use Rattle.laws_bytes.specs.Drains.{Drains, got_on, has_passed, put_on}
+use Rattle.laws_bytes.proofs.Changes.{changed, others_left}
+use Rattle.laws_bytes.proofs.Logs.{longer, none_on_any, not_on, only_on, shorter, there_on}
 use Rattle.laws_device_bytes.specs.Streamed.{AreLabelled, AreLines, AreStreamed, IsJoined, IsLabelled, Seen, client_waits, gives, line_for}
-use Rattle.laws_device_bytes.specs.Streamed.{reading, taken_of}
 use Rattle.laws_device_bytes.proofs.Tabled.{stream_comes, stream_kept, stream_now, stream_other, stream_stays}
+use Rattle.laws_device_bytes.{specs.Streamed.reading, specs.Streamed.taken_of, proofs.Lines.line_longer}
 use Rattle.laws_device_streams.specs.Streams.{stream_under}
-use Rattle.laws_bytes.proofs.{Changes.changed, Changes.others_left, Logs.longer, Logs.none_on_any, Logs.not_on, Logs.only_on, Logs.shorter}
-use Rattle.laws_bytes.proofs.Logs.{there_on}
-use Rattle.laws_device_bytes.proofs.Lines.{line_longer}
 
 some_inj : {X : Type 0} (x y : X) → ◌≡◌ {A = Option X} (Some x) (Some y) → x ≡ y
 some_inj x y is = cc

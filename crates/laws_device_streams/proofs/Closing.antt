@@ -1,20 +1,17 @@
 -- Streams that are closed: by a timeout, by a packet that ends a connection, by a failed call, by a reset.
-use Rattle.laws_device_walk.specs.Seen.{Seen}
-use Rattle.laws_device_walk.proofs.Serving.{Closes, IsIn}
-use Rattle.laws_device_walk.proofs.Serving as walked
+use Rattle.laws_device_walk.{specs.Seen.Seen, proofs.Serving.Closes, proofs.Serving.IsIn}
 use Rattle.vs_ring_port.specs.declared.device_ring.Chain.{Chain}
-use Rattle.laws_device_streams.proofs.Keeping.{asking}
+use Rattle.laws_device_streams.proofs.Tables.{IsEntry, has_changed, has_closed, has_left, has_left_closing, some_after, some_from}
+use Rattle.laws_device_streams.specs.{Split.CanReach, Split.is_quiet, Streams.FindsStreams, Streams.HasStreams, Streams.joined_stream}
+use Rattle.laws_device_streams.proofs.{Keeping.asking, Keeping.Keeps, Tables.stream_by_entry}
 use Rattle.std.proofs.Common.{◌≡◌, ℕ, true, false, List, Option, None, refl, sym, subst, ◌∙◌}
 use Rattle.std.specs.Option.{ForSome}
 use Rattle.vs_flow.specs.Table.{Table, IsTable, with_value, without}
 use Rattle.vs_outside.specs.Host.{HostContents, IsOpen, after_close}
-use Rattle.vs_device_parts.specs.{Calls.Call, Calls.CloseStream, Calls.Situation, Calls.Allows, Connections.after_leaving}
-use Rattle.vs_device_parts.specs.Connections.{cut_off, stream_closed, with_connection}
-use Rattle.vs_device_parts.specs.{State.DeviceConnection, State.DeviceEntry, State.DeviceState}
-use Rattle.vs_device_parts.specs.Streams.{tick_of, tick_slot}
-use Rattle.laws_device_streams.specs.{Split.CanReach, Split.is_quiet, Streams.FindsStreams, Streams.HasStreams, Streams.joined_stream}
-use Rattle.laws_device_streams.proofs.{Keeping.Keeps, Tables.IsEntry}
-use Rattle.laws_device_streams.proofs.Tables.{has_changed, has_closed, has_left, has_left_closing, some_after, some_from, stream_by_entry}
+use Rattle.vs_device_parts.specs.Calls.{Call, CloseStream, Situation, Allows}
+use Rattle.vs_device_parts.specs.Connections.{after_leaving, cut_off, stream_closed, with_connection}
+use Rattle.vs_device_parts.specs.{State.DeviceConnection, State.DeviceEntry, State.DeviceState, Streams.tick_of, Streams.tick_slot}
+use Rattle.laws_device_walk.proofs.Serving as walked
 
 -- no call on the ring, and none on the host that fails, changes what is open
 pub stays : (others : List ℕ) (t : Table DeviceConnection) (c d : Situation) → d.host ≡ c.host → ForSome c.host (HasStreams others t)

@@ -1,29 +1,25 @@
 -- What each single step of the device keeps of the host's streams.
-use Rattle.laws_device_walk.proofs.Keeping.{keeps_if, keeps_some}
-use Rattle.laws_device_streams.proofs.Keeping.{asking}
-use Rattle.vs_ring_port.specs.Contents.{Read}
-use Rattle.vs_device_parts.specs.{Calls.DeviceTree, Receiving.Filling, Receiving.holding, Steps.with_chain}
-use Rattle.laws_device_walk.proofs.Serving.{by_slot}
+use Rattle.laws_device_walk.proofs.{Keeping.keeps_if, Keeping.keeps_some, Serving.by_slot}
+use Rattle.laws_device_streams.proofs.Keeping.{asking, Keeps, keeps_then}
+use Rattle.laws_device_streams.proofs.Receiving.{FillsFirst, Filled, keeps_put_owed, keeps_put_reply_of, keeps_read_with_chain}
+use Rattle.laws_device_streams.proofs.Writing.{finds_changed, keeps_shut_write, keeps_write_pending}
+use Rattle.laws_device_streams.specs.{Split.CanReach, Split.is_quiet, Streams.FindsStreams}
+use Rattle.laws_device_streams.proofs.{Closing.keeps_tick_slot, Closing.stays, Transmitting.keeps_on_packet}
+use Rattle.vs_ring_port.specs.Contents.{Read, Take}
+use Rattle.vs_ring_port.specs.declared.queue.Queue.TheVariants.{Rx, Tx, Event}
+use Rattle.vs_ring_port.specs.declared.{device_ring.Chain.Chain, device_ring.Next.Next, queue.Queue.Queue}
+use Rattle.vs_device_parts.specs.Steps.{with_chain, chain_came, filling, puts_event, puts_owed, puts_payload, puts_reply, reads}
+use Rattle.vs_device_parts.specs.Calls.{DeviceTree, Call, Ring, Situation, Allows}
+use Rattle.vs_device_parts.specs.Receiving.{Filling, holding, hold, may_read, put_owed, put_reply, read_with_chain}
+use Rattle.vs_device_parts.specs.Steps.{shuts_write, takes_chain, writes, writes_on, writing}
+use Rattle.vs_device_parts.specs.{State.DeviceState, Streams.shut_write, Streams.tick_slot, Streams.write_pending, Transmitting.on_packet}
 use Rattle.std.proofs.Common.{◌≡◌, ℕ, ◌-◌, ◌==◌, nat_lt, nat_le, Bool, true, List, length, Option, Some, None, refl}
 use Rattle.vs_contents.specs.CallTree.{Done, Ask, bind}
 use Rattle.vs_conn.specs.End.{wanting_credit}
 use Rattle.vs_credit.specs.Credit.{free_of}
 use Rattle.vs_flow.specs.Table.{entry_under}
 use Rattle.vs_header.specs.{Packet.header_of, declared.TheConstants.HEADER_LEN}
-use Rattle.vs_ring_port.specs.{Contents.Take, declared.device_ring.Chain.Chain}
-use Rattle.vs_ring_port.specs.declared.{device_ring.Next.Next, queue.Queue.Queue, queue.Queue.TheVariants.Rx, queue.Queue.TheVariants.Tx}
-use Rattle.vs_ring_port.specs.declared.queue.Queue.TheVariants.{Event}
-use Rattle.vs_device_parts.specs.{Calls.Call, Calls.Ring, Calls.Situation, Calls.Allows, State.DeviceState, Streams.shut_write}
-use Rattle.vs_device_parts.specs.{Streams.tick_slot, Streams.write_pending, Receiving.hold, Receiving.may_read, Receiving.put_owed}
-use Rattle.vs_device_parts.specs.{Receiving.put_reply, Receiving.read_with_chain, Steps.chain_came}
-use Rattle.vs_device_parts.specs.Steps.{filling, puts_event, puts_owed, puts_payload, puts_reply, reads, shuts_write, takes_chain, writes}
-use Rattle.vs_device_parts.specs.{Steps.writes_on, Steps.writing, Transmitting.on_packet}
 use Rattle.vs_limits.specs.declared.TheConstants.{DEVICE_REPLIES}
-use Rattle.laws_device_streams.specs.{Split.CanReach, Split.is_quiet, Streams.FindsStreams}
-use Rattle.laws_device_streams.proofs.{Closing.keeps_tick_slot, Closing.stays, Keeping.Keeps, Keeping.keeps_then}
-use Rattle.laws_device_streams.proofs.Receiving.{FillsFirst, Filled, keeps_put_owed, keeps_put_reply_of}
-use Rattle.laws_device_streams.proofs.{Receiving.keeps_read_with_chain, Transmitting.keeps_on_packet, Writing.finds_changed}
-use Rattle.laws_device_streams.proofs.Writing.{keeps_shut_write, keeps_write_pending}
 use Rattle.vs_ring_port.specs.declared.device_ring.Next.TheVariants as next
 
 pub reach : (call : Call) (s : Situation) → is_quiet call ≡ true → CanReach call s → CanReach call s

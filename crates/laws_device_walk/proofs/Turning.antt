@@ -1,33 +1,30 @@
 -- Handshakes and turns.
-use Rattle.std.proofs.Common.{◌≡◌, ℕ, ◌+◌, ◌==◌, ◌&&◌, nat_le, nat_lt, Bool, true, false, cond, List, [], ◌∷◌, ◌++◌, length, find, Option, Some, None}
-use Rattle.std.proofs.Common.{Result}
-use Rattle.std.proofs.{Common.Ok, Common.Err, Common.refl, Common.sym, Common.subst, Common.arith, lemmas.Bool.Decides.nat_tests}
+use Rattle.std.proofs.Common.{◌≡◌, ℕ, ◌+◌, ◌==◌, ◌&&◌, nat_le, nat_lt, Bool, true, false, cond, List, [], ◌∷◌, ◌++◌, length, find, Option}
+use Rattle.std.proofs.Common.{Some, None, Result, Ok, Err, refl, sym, subst, arith}
+use Rattle.std.proofs.lemmas.Bool.Decides.{nat_tests}
 use Rattle.vs_contents.specs.CallTree.{Done, Ask}
-use Rattle.vs_flow.specs.{Flow.host_flow, Table.has_place, Table.refusal, declared.flow.Flow.Flow}
-use Rattle.vs_flow.specs.declared.table.TableFault.{TableFault}
 use Rattle.vs_flow.proofs.Entries.{found_passes}
+use Rattle.vs_flow.specs.{Flow.host_flow, Table.has_place, Table.refusal, declared.flow.Flow.Flow, declared.table.TableFault.TableFault}
 use Rattle.vs_limits.specs.declared.TheConstants.{ASSIGNED_LAST, HANDSHAKES}
 use Rattle.vs_outside.specs.declared.host_net.{Accepted.Accepted, StreamRead.StreamRead}
-use Rattle.vs_outside.specs.declared.host_net.Accepted.TheVariants as accepted
-use Rattle.vs_outside.specs.declared.host_net.StreamRead.TheVariants as read
 use Rattle.vs_header.specs.declared.Header.{Header}
 use Rattle.vs_ring_port.specs.declared.{device_ring.Chain.Chain, failure.Failure.Failure}
 use Rattle.vs_uds.specs.{ConnectLine.connect_step, declared.connect.TheConstants.CONNECT_MAX, declared.scan.Step.Step}
-use Rattle.vs_uds.specs.declared.scan.Step.TheVariants as step
-use Rattle.vs_device_parts.specs.{declared.answers.Filled.Filled, Calls.Accept, Calls.CloseStream, Calls.DeviceTree, Calls.Label}
-use Rattle.vs_device_parts.specs.{Calls.ReadStream, Connections.is_late, Connections.with_client, Connections.with_fault}
-use Rattle.vs_device_parts.specs.{Receiving.fill_rx_of, Receiving.pay_event_of, State.DeviceState, Streams.pump_of, Streams.tick_of}
-use Rattle.vs_device_parts.specs.{Transmitting.take_tx_of, Turns.open_of}
+use Rattle.vs_device_parts.specs.Calls.{Accept, CloseStream, DeviceTree, Label, ReadStream}
+use Rattle.vs_device_parts.specs.Connections.{is_late, with_client, with_fault}
+use Rattle.vs_device_parts.specs.{declared.answers.Filled.Filled, Receiving.fill_rx_of, Receiving.pay_event_of, State.DeviceState}
+use Rattle.vs_device_parts.specs.{Streams.pump_of, Streams.tick_of, Transmitting.take_tx_of, Turns.open_of}
 use Rattle.vs_proxy_parts.specs.Handshakes.{accept_answered, accept_one, byte_read, dropping, handshake_on, host_fault, line_decided}
 use Rattle.vs_proxy_parts.specs.Handshakes.{may_open, opening, read_byte, read_line, shake_hands, streams_of, tick_handshake}
-use Rattle.vs_proxy_parts.specs.Handshakes.{tick_handshakes, with_line}
-use Rattle.vs_proxy_parts.specs.{Handshakes.without_stream, State.Handshake, State.ProxyState, State.Turning, State.start}
 use Rattle.vs_proxy_parts.specs.Turns.{device_after, event_stage, fill_stage, filled, pump_stage, take_one, take_stage, tick_stage}
-use Rattle.vs_proxy_parts.specs.Turns.{took_packet, turn_of, unless_failed}
-use Rattle.laws_device_walk.specs.Seen.{Seen, seen}
+use Rattle.vs_proxy_parts.specs.{Handshakes.tick_handshakes, Handshakes.with_line, Handshakes.without_stream, State.Handshake}
+use Rattle.vs_proxy_parts.specs.{State.ProxyState, State.Turning, State.start, Turns.took_packet, Turns.turn_of, Turns.unless_failed}
 use Rattle.laws_device_walk.proofs.Keeping.{Asking, Keeps, keeps_each, keeps_if, keeps_some, keeps_then, keeps_while}
 use Rattle.laws_device_walk.proofs.Serving.{Closes, Fills, Writes, keeps_fill_rx, keeps_pay_event, keeps_pump, keeps_tick}
-use Rattle.laws_device_walk.proofs.Taking.{Takes, keeps_take_tx}
+use Rattle.laws_device_walk.{specs.Seen.Seen, specs.Seen.seen, proofs.Taking.Takes, proofs.Taking.keeps_take_tx}
+use Rattle.vs_outside.specs.declared.host_net.Accepted.TheVariants as accepted
+use Rattle.vs_outside.specs.declared.host_net.StreamRead.TheVariants as read
+use Rattle.vs_uds.specs.declared.scan.Step.TheVariants as step
 
 -- A place of the table and a host port are left.
 abbrev pub may_assign : ℕ → DeviceState → Bool

@@ -6,31 +6,28 @@ use Rattle.vs_contents.specs.CallTree.{Done, Ask, bind}
 use Rattle.vs_conn.specs.{End.CanSend, End.may_send_of, End.wanting_credit, End.with_payload_sent, declared.end.Stop.Stop}
 use Rattle.vs_flow.specs.Table.{IsTable}
 use Rattle.vs_header.specs.declared.Kind.TheVariants.{Stream}
-use Rattle.vs_page.specs.{Fair.IsFairLog, Log.Driver, Log.Log, declared.log.LogEntry.TheVariants.PutPacket}
-use Rattle.vs_page.specs.declared.page.TheConstants.{PAYLOAD_MAX}
+use Rattle.vs_page.specs.Log.{Driver, Log}
+use Rattle.vs_page.specs.{Fair.IsFairLog, declared.log.LogEntry.TheVariants.PutPacket, declared.page.TheConstants.PAYLOAD_MAX}
+use Rattle.vs_ring_port.specs.declared.queue.Queue.TheVariants.{Rx, Tx, Event}
 use Rattle.vs_ring_port.specs.{declared.queue.Queue.Queue, declared.queue.TheConstants.STAGED_MAX, Contents.RingContents, EndLog.EndLog}
 use Rattle.vs_ring_port.specs.{EndLog.entries_marked, EndLog.log_loaded, EndLog.log_published, EndLog.log_staged, DriverCalls.Publish}
-use Rattle.vs_ring_port.specs.declared.queue.Queue.TheVariants.{Rx, Tx, Event}
-use Rattle.laws_tables.specs.{Matches.Matches, Steps.payload_on, Steps.request_on}
-use Rattle.laws_tables.proofs.Keeps.{start_matches}
-use Rattle.vs_driver_parts.specs.declared.answers.{ConnectError.ConnectError, Polled.Polled, Sent.Sent}
-use Rattle.vs_driver_parts.specs.{Connections.connect_refusal, Connections.connected, Connections.next_flow, Playing.MayPublishAll}
-use Rattle.vs_driver_parts.specs.{Playing.Plays}
+use Rattle.laws_tables.{specs.Matches.Matches, specs.Steps.payload_on, specs.Steps.request_on, proofs.Keeps.start_matches}
 use Rattle.vs_driver_parts.specs.Conversations.{DriverTree, connect_of, connect_with_page, has_page, load_cid, new_of, new_state, no_credit}
 use Rattle.vs_driver_parts.specs.Conversations.{not_sent, one_more_in_flight, payload_bytes, payload_of, poll_of, post_all, post_events}
 use Rattle.vs_driver_parts.specs.Conversations.{post_one, post_packet, posts, publish_of, reap_all, request_bytes, send_of, send_stopped}
-use Rattle.vs_driver_parts.specs.{Conversations.send_with_page, Conversations.stage_of, State.DriverEntry}
-use Rattle.vs_driver_parts.specs.State.{DriverState, entry_known_as}
+use Rattle.vs_driver_parts.specs.Connections.{connect_refusal, connected, next_flow}
+use Rattle.vs_driver_parts.specs.{declared.answers.ConnectError.ConnectError, declared.answers.Polled.Polled, declared.answers.Sent.Sent}
+use Rattle.vs_driver_parts.specs.{Playing.MayPublishAll, Playing.Plays, Conversations.send_with_page, Conversations.stage_of}
+use Rattle.vs_driver_parts.specs.{State.DriverEntry, State.DriverState, State.entry_known_as, Steps.connects, Steps.sends}
 use Rattle.vs_limits.specs.declared.TheConstants.{LAST_PORT}
-use Rattle.vs_driver_parts.specs.Steps.{connects, sends}
 use Rattle.laws_driver.specs.Honest.{AgreesWith, IsFitState, IsFresh, IsHonestWith, ends_of_state}
-use Rattle.laws_driver.specs.Staged.{IsLeft}
-use Rattle.laws_driver.proofs.{Putting.connect_puts, Putting.send_puts, Polling.not_tx_event, Polling.not_tx_rx, Polling.poll_keeps}
-use Rattle.laws_driver.proofs.{Tabling.Stands, Changing.Changes, Changing.stands_known, Changing.wanting_changes, Keeping.Keeps}
-use Rattle.laws_driver.proofs.Keeping.{keeps_bind, keeps_end, keeps_may, keeps_weaker, keeps_while}
+use Rattle.laws_driver.proofs.Polling.{not_tx_event, not_tx_rx, poll_keeps}
+use Rattle.laws_driver.proofs.Changing.{Changes, stands_known, wanting_changes}
+use Rattle.laws_driver.proofs.Keeping.{Keeps, keeps_bind, keeps_end, keeps_may, keeps_weaker, keeps_while}
 use Rattle.laws_driver.proofs.Ringing.{IsAtRest, Tells, agrees, at_rest, can_publish_other, moves, tells_weaker, can_stage_other}
 use Rattle.laws_driver.proofs.Carrying.{Fact, Holds, RestsWith, carries_nothing, nothing}
 use Rattle.laws_driver.proofs.Staging.{Rests, SameBut, post_tx, reap_keeps}
+use Rattle.laws_driver.{specs.Staged.IsLeft, proofs.Putting.connect_puts, proofs.Putting.send_puts, proofs.Tabling.Stands}
 use Rattle.vs_driver_parts.specs.declared.answers.ConnectError.TheVariants as refused
 use Rattle.vs_driver_parts.specs.declared.answers.Sent.TheVariants as sent
 use Rattle.vs_driver_parts.specs.Connections as connections

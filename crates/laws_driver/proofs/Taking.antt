@@ -1,28 +1,25 @@
 -- A packet that is got: the driver's connections are those that the log with it leaves, and a fair one is never refused.
-use Rattle.std.proofs.lemmas.{Bool.Decides.nat_tests, Grind.common_steps, List.Elements.All-push, Bool.and_parts, Bool.eqb-true}
 use Rattle.std.proofs.Common.{◌≡◌, ℕ, ◌<◌, ◌≤◌, ◌&&◌, Bool, true, false, cond, List, [], ◌∷◌, ◌++◌, Option, Some, None, refl, sym, ap}
 use Rattle.std.proofs.Common.{subst, ◌∙◌, arith, rules}
+use Rattle.std.proofs.lemmas.{Bool.Decides.nat_tests, Grind.common_steps, List.Elements.All-push, Bool.and_parts, Bool.eqb-true}
 use Rattle.vs_conn.specs.End.{ConnectionEnd, answering, end_after, is_of, is_refused, is_reset, verdict_of}
-use Rattle.vs_conn.specs.declared.end.Verdict.{Verdict}
-use Rattle.vs_conn.proofs.Frames.{got_kind}
+use Rattle.vs_conn.{specs.declared.end.Verdict.Verdict, proofs.Frames.got_kind}
 use Rattle.vs_header.specs.declared.{Header.Header, Kind.Kind, Kind.TheVariants.Stream}
 use Rattle.laws_history.specs.{Packets.is_rst, declared.packet.Packet.Packet}
 use Rattle.vs_limits.specs.declared.TheConstants.{BUF_ALLOC, HOST_CID, LAST_ID, DRIVER_CONNECTIONS}
-use Rattle.vs_flow.specs.{Flow.is_assigned, Flow.same_flow, Table.entry_of, declared.flow.Flow.Flow}
 use Rattle.vs_flow.proofs.Tables.{IsAccepted}
-use Rattle.vs_page.specs.{Fair.IsFairLog, Held.IsWhole, Log.Driver, Log.Log, Log.flow_got, Log.flow_to_guest, Log.side_of, Open.is_dropped}
-use Rattle.vs_page.specs.declared.log.LogEntry.TheVariants.{GotPacket}
-use Rattle.vs_page.proofs.Flows.{same_is}
+use Rattle.vs_flow.specs.{Flow.is_assigned, Flow.same_flow, Table.entry_of, declared.flow.Flow.Flow}
+use Rattle.vs_page.{specs.Fair.IsFairLog, specs.Held.IsWhole, specs.Log.Driver, specs.Log.Log, specs.Log.flow_got, specs.Log.flow_to_guest}
+use Rattle.vs_page.{specs.Log.side_of, specs.Open.is_dropped, specs.declared.log.LogEntry.TheVariants.GotPacket, proofs.Flows.same_is}
 use Rattle.vs_replies.specs.{Owed.reply_to, declared.Reply.Reply}
-use Rattle.laws_tables.specs.{Both.after_taking, Both.answered, Ends.Ends, Ends.FlowEnd, Ends.answer_kind, Ends.ends_of, Heard.IsInOrder}
-use Rattle.laws_tables.specs.{Heard.heard_of, Matches.Matches, Steps.HasEnd, Steps.HasNone}
-use Rattle.laws_tables.specs.Steps.{accepted, forgotten, is_kept, is_message, left, taken, with_clean, with_end}
+use Rattle.laws_tables.specs.Ends.{Ends, FlowEnd, answer_kind, ends_of}
+use Rattle.laws_tables.specs.Steps.{HasEnd, HasNone, accepted, forgotten, is_kept, is_message, left, taken, with_clean, with_end}
+use Rattle.laws_tables.specs.{Both.after_taking, Both.answered, Heard.IsInOrder, Heard.heard_of, Matches.Matches}
 use Rattle.laws_tables.proofs.{Keeps.accepts, Keeps.drops, Keeps.forgets, Keeps.ignores, Keeps.refuses, Keeps.takes, Fair.got_in_order}
 use Rattle.laws_tables.proofs.{Fair.got_is_taken, Fair.got_not_refused, Fair.heard_all, Slots.added_slot, Slots.found_by, Slots.no_entry}
-use Rattle.vs_driver_parts.specs.{Playing.FitsPorts, State.DriverConnection, State.DriverEntry, State.DriverState, State.slots_held}
-use Rattle.vs_driver_parts.specs.Connections.{after_leaving, with_connection, with_request}
 use Rattle.vs_driver_parts.specs.Receiving.{after_packet, after_verdict, is_request, may_open, on_heard, on_known, on_packet, on_unknown}
-use Rattle.vs_driver_parts.specs.Receiving.{with_reply}
+use Rattle.vs_driver_parts.specs.{Playing.FitsPorts, State.DriverConnection, State.DriverEntry, State.DriverState, State.slots_held}
+use Rattle.vs_driver_parts.specs.{Connections.after_leaving, Connections.with_connection, Connections.with_request, Receiving.with_reply}
 use Rattle.vs_driver_parts.proofs.{Ids.found_under, Packets.packet_known, Packets.packet_unknown}
 use Rattle.laws_driver.specs.Honest.{IsFitFlow, IsFitReply, IsFitState, end_in, ends_of_state}
 use Rattle.laws_driver.proofs.Tabling.{Stands, connection_ends, connection_fits, entry_fits, has_end, leaves, opening_fits, replies_fit}

@@ -3,27 +3,23 @@ use Rattle.std.proofs.Common.{◌≡◌, ℕ, ◌==◌, not, Bool, true, false, 
 use Rattle.std.proofs.{Common.Result, Common.Ok, Common.Err, Common.◌∙◌, lemmas.List.Elements.All-filter}
 use Rattle.vs_conn.specs.{End.with_payload_sent, End.wanting_credit, declared.end.State.State}
 use Rattle.vs_flow.specs.{Flow.same_flow, Table.IsTable, declared.flow.Flow.Flow}
-use Rattle.laws_history.specs.{declared.packet.Packet.Packet, Packets.is_request, History.Got, History.History, History.Put, History.Side}
-use Rattle.laws_history.specs.History.{gots, puts}
-use Rattle.vs_page.specs.{Fair.asked_by, Fair.number_of, Fair.payload_got, Log.Driver, Log.Log, Log.Role, Log.flow_got, Log.flow_put}
-use Rattle.vs_page.specs.{Log.side_of, Log.whole_of, declared.log.LogEntry.TheVariants.GotPacket}
-use Rattle.vs_page.specs.declared.log.LogEntry.TheVariants.{PutPacket}
+use Rattle.laws_history.specs.History.{Got, History, Put, Side, gots, puts}
+use Rattle.laws_history.specs.{declared.packet.Packet.Packet, Packets.is_request}
+use Rattle.vs_page.specs.Fair.{asked_by, number_of, payload_got}
+use Rattle.vs_page.specs.Log.{Driver, Log, Role, flow_got, flow_put, side_of, whole_of}
+use Rattle.vs_page.specs.declared.log.LogEntry.TheVariants.{GotPacket, PutPacket}
+use Rattle.vs_driver_parts.specs.State.{DriverConnection, DriverEntry, DriverState, GoneConnection, entry_known_as, gone_known_as}
+use Rattle.vs_driver_parts.specs.Connections.{after_close, after_closing, after_shut, after_shutdown, after_unlisten, all_closed}
 use Rattle.vs_driver_parts.specs.Listening.{after_accept, listening, next_accepted, with_waiting, without_id}
-use Rattle.vs_driver_parts.specs.{Held.with_connection_in, State.DriverConnection, State.DriverEntry, State.DriverState}
-use Rattle.vs_driver_parts.specs.State.{GoneConnection, entry_known_as, gone_known_as, is_known_as}
-use Rattle.vs_driver_parts.specs.{declared.answers.ListenError.ListenError, Connections.after_close, Connections.after_closing}
-use Rattle.vs_driver_parts.specs.Connections.{after_shut, after_shutdown, after_unlisten, all_closed, entry_closed, gone_closed, shut_in}
-use Rattle.vs_driver_parts.specs.Connections.{waiting_on, without_gone}
+use Rattle.vs_driver_parts.specs.Connections.{entry_closed, gone_closed, shut_in, waiting_on, without_gone}
 use Rattle.vs_driver_parts.proofs.Numbers.{numbers_gone_without}
-use Rattle.laws_tables.proofs.Slots.{found_by}
-use Rattle.laws_tables.specs.Steps.{payload_on}
-use Rattle.laws_bytes.specs.Drains.{receives}
-use Rattle.laws_bytes.proofs.Steps.{Goes, ended_goes, shut_goes, stays_still}
-use Rattle.laws_driver.specs.Honest.{IsFitState, slots_of}
-use Rattle.laws_driver.proofs.{Calls.CarriesSend, Changing.close_changes}
+use Rattle.vs_driver_parts.specs.{Held.with_connection_in, State.is_known_as, declared.answers.ListenError.ListenError}
+use Rattle.laws_tables.{proofs.Slots.found_by, specs.Steps.payload_on}
+use Rattle.laws_bytes.{specs.Drains.receives, proofs.Steps.Goes, proofs.Steps.ended_goes, proofs.Steps.shut_goes, proofs.Steps.stays_still}
+use Rattle.laws_driver.{specs.Honest.IsFitState, specs.Honest.slots_of, proofs.Calls.CarriesSend, proofs.Changing.close_changes}
 use Rattle.laws_driver_bytes.specs.Received.{Account, AreReceived, ReceivedOn}
-use Rattle.laws_driver_bytes.proofs.{Adding.asked_after, Adding.asked_still, Adding.got_over_put, Reading.given_none}
-use Rattle.laws_driver_bytes.proofs.Receiving.{changed_received, in_slots}
+use Rattle.laws_driver_bytes.proofs.Adding.{asked_after, asked_still, got_over_put}
+use Rattle.laws_driver_bytes.proofs.{Reading.given_none, Receiving.changed_received, Receiving.in_slots}
 use Rattle.vs_conn.specs.declared.end.State.TheVariants as state
 
 -- The number of a flow's present connection stays at all packets but REQUESTs.

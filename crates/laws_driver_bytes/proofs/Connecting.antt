@@ -2,24 +2,21 @@
 use Rattle.std.proofs.Common.{◌≡◌, ◌≢◌, ℕ, ◌+◌, ◌<◌, Bool, true, false, cond, None, List, [], ◌∷◌, refl, ap, ◌∙◌, arith}
 use Rattle.std.specs.List.{All}
 use Rattle.vs_conn.specs.End.{asked, paid_of}
-use Rattle.vs_flow.specs.{Connection.Connection, Flow.is_assigned, declared.flow.Flow.Flow}
-use Rattle.vs_flow.proofs.Entries.{same_flow_false}
+use Rattle.vs_flow.{specs.Connection.Connection, specs.Flow.is_assigned, specs.declared.flow.Flow.Flow, proofs.Entries.same_flow_false}
 use Rattle.vs_header.specs.declared.Kind.TheVariants.{Stream}
 use Rattle.vs_limits.specs.declared.TheConstants.{BUF_ALLOC}
-use Rattle.laws_history.specs.{declared.packet.Packet.Packet, Again.count, Packets.is_request, History.Answerer, History.Asker, History.Put}
-use Rattle.laws_history.specs.History.{Side, gots, puts}
-use Rattle.vs_page.specs.{Fair.IsFairLog, Fair.asked_by, Fair.current, Fair.number_of, Fair.payload_got, Fair.payload_of, Log.Driver}
-use Rattle.vs_page.specs.Log.{Log, and_then, history_of, side_by, side_of, whole_of}
-use Rattle.vs_page.specs.declared.log.LogEntry.TheVariants.{PutPacket}
-use Rattle.vs_page.proofs.{Flows.same_self, Present.present_got}
+use Rattle.laws_history.specs.History.{Answerer, Asker, Put, Side, gots, puts}
+use Rattle.laws_history.specs.{declared.packet.Packet.Packet, Again.count, Packets.is_request}
+use Rattle.vs_page.specs.Fair.{IsFairLog, asked_by, current, number_of, payload_got, payload_of}
+use Rattle.vs_page.specs.Log.{Driver, Log, and_then, history_of, side_by, side_of, whole_of}
+use Rattle.vs_page.{specs.declared.log.LogEntry.TheVariants.PutPacket, proofs.Flows.same_self, proofs.Present.present_got}
 use Rattle.laws_tables.specs.Steps.{request_on}
-use Rattle.vs_driver_parts.specs.{Connections.connect_refusal, Connections.connected, Connections.next_flow, Held.HeldSlots}
-use Rattle.vs_driver_parts.specs.{State.DriverConnection, State.DriverState, Conversations.new_state}
-use Rattle.laws_driver.specs.Honest.{IsFitState, slots_of}
-use Rattle.laws_driver.proofs.{Calls.CarriesConnect, Putting.may_connect}
+use Rattle.vs_driver_parts.specs.Connections.{connect_refusal, connected, next_flow}
+use Rattle.vs_driver_parts.specs.{Held.HeldSlots, State.DriverConnection, State.DriverState, Conversations.new_state}
+use Rattle.laws_driver.{specs.Honest.IsFitState, specs.Honest.slots_of, proofs.Calls.CarriesConnect, proofs.Putting.may_connect}
 use Rattle.laws_driver_bytes.specs.Received.{Account, AreReceived, no_account, with_opened}
-use Rattle.laws_driver_bytes.proofs.{Adding.got_over_put, Logging.opened_goes_on, Logging.opened_received, Polling.Further}
-use Rattle.laws_driver_bytes.proofs.{Polling.IsFurther, Polling.goes_then, Receiving.in_slots}
+use Rattle.laws_driver_bytes.proofs.Polling.{Further, IsFurther, goes_then}
+use Rattle.laws_driver_bytes.proofs.{Adding.got_over_put, Logging.opened_goes_on, Logging.opened_received, Receiving.in_slots}
 use Rattle.vs_conn.specs.declared.end.Owed.TheVariants as owed
 
 -- The numbers given last don't count.

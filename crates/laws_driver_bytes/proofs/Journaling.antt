@@ -6,10 +6,9 @@ use Rattle.vs_driver_parts.specs.{Conversations.DriverTree, Playing.Plays, State
 use Rattle.laws_driver.specs.Honest.{IsHonestWith}
 use Rattle.laws_driver.proofs.{Carrying.Fact, Keeping.Keeps, Keeping.keeps_end, Staging.Rests}
 use Rattle.laws_driver_bytes.specs.Calls.{GuestCall, IsJournaledWith, Journal, ReplyTo, account_of, sent_of, with_call}
+use Rattle.laws_driver_bytes.proofs.Making.{CarriesCall, account_after, at_first, call_received, call_sent, further_journal, sent_with}
 use Rattle.laws_driver_bytes.specs.{Received.Account, Received.IsReceivedWith, Sent.PutsJust}
-use Rattle.laws_driver_bytes.proofs.Ending.{further_from}
-use Rattle.laws_driver_bytes.proofs.{Growing.honest_stays, Making.CarriesCall, Making.account_after, Making.at_first, Making.call_received}
-use Rattle.laws_driver_bytes.proofs.{Making.call_sent, Making.further_journal, Making.sent_with, Polling.Further, Sending.begins}
+use Rattle.laws_driver_bytes.proofs.{Ending.further_from, Growing.honest_stays, Polling.Further, Sending.begins}
 
 -- A conversation that carries what the call carries.
 abbrev pub Carried : ℕ → (call : GuestCall) → DriverTree (DriverState × ReplyTo call) → DriverState → RingContents → Type 1

@@ -1,18 +1,17 @@
 -- The account where entries are added to the log, and where connections leave the table or open.
 use Rattle.std.proofs.Common.{◌≡◌, ◌≢◌, ℕ, ◌+◌, ◌<◌, ◌≤◌, ◌==◌, Bool, true, false, cond, List, [], ◌∷◌, ◌++◌, length, get_or, Contains}
-use Rattle.std.proofs.{Common.refl, Common.sym, Common.ap, Common.subst, Common.◌∙◌, Common.arith, lemmas.List.Elements.All-contains}
-use Rattle.std.proofs.lemmas.{List.Elements.All-push, Bool.Decides.nat_tests}
+use Rattle.std.proofs.Common.{refl, sym, ap, subst, ◌∙◌, arith}
 use Rattle.std.specs.List.{All}
-use Rattle.vs_flow.specs.{Connection.Connection, Flow.is_assigned, Flow.same_flow, Table.IsTable, Table.next_entry, Table.with_entry}
-use Rattle.vs_flow.specs.{Table.without, declared.flow.Flow.Flow}
-use Rattle.vs_flow.proofs.Entries.{same_flow_false}
-use Rattle.laws_history.specs.{declared.packet.Packet.Packet, Packets.is_request, Again.count, History.Answerer, History.Asker, History.Got}
-use Rattle.laws_history.specs.History.{History, Side, gots, puts}
-use Rattle.vs_page.specs.{Fair.IsPrefixOf, Fair.asked_by, Fair.current, Fair.number_of, Fair.payload_got, Log.Driver, Log.Log, Log.flow_got}
-use Rattle.vs_page.specs.{Log.side_of, Log.whole_of, declared.log.LogEntry.TheVariants.GotPacket}
+use Rattle.std.proofs.lemmas.{List.Elements.All-contains, List.Elements.All-push, Bool.Decides.nat_tests}
+use Rattle.vs_flow.{specs.Connection.Connection, specs.Flow.is_assigned, specs.Flow.same_flow, specs.Table.IsTable, specs.Table.next_entry}
+use Rattle.vs_flow.{specs.Table.with_entry, specs.Table.without, specs.declared.flow.Flow.Flow, proofs.Entries.same_flow_false}
+use Rattle.laws_history.specs.History.{Answerer, Asker, Got, History, Side, gots, puts}
+use Rattle.laws_history.specs.{declared.packet.Packet.Packet, Packets.is_request, Again.count}
+use Rattle.vs_page.specs.Fair.{IsPrefixOf, asked_by, current, number_of, payload_got}
+use Rattle.vs_page.specs.{Log.Driver, Log.Log, Log.flow_got, Log.side_of, Log.whole_of, declared.log.LogEntry.TheVariants.GotPacket}
 use Rattle.vs_page.proofs.{Flows.same_is, Flows.same_self, Flows.still, PayloadLogs.got_stays}
-use Rattle.vs_driver_parts.specs.{Held.HeldSlots, State.DriverConnection, State.DriverEntry, State.GoneConnection}
 use Rattle.vs_driver_parts.proofs.Numbers.{numbers_left, numbers_with_entry, numbers_without}
+use Rattle.vs_driver_parts.specs.{Held.HeldSlots, State.DriverConnection, State.DriverEntry, State.GoneConnection}
 use Rattle.laws_bytes.specs.Drains.{Drains, receives}
 use Rattle.laws_bytes.proofs.{Changes.others_left, Changes.under_slot, Logs.all_of, Logs.nothing_more, Logs.prefix_then}
 use Rattle.laws_driver_bytes.specs.Received.{Account, AreReceived, GoesOn, ReceivedOn, ReceivesOn, with_opened}

@@ -4,26 +4,23 @@ use Rattle.std.proofs.{Common.subst, Common.◌∙◌, Common.append-nil, Common
 use Rattle.vs_contents.specs.CallTree.{Ask, Done}
 use Rattle.vs_flow.specs.Connection.{Connection}
 use Rattle.vs_header.specs.declared.Kind.TheVariants.{Stream}
-use Rattle.vs_page.specs.{Fair.payload_put, Log.Driver, Log.Log}
-use Rattle.vs_page.proofs.PayloadLogs.{put_none}
+use Rattle.vs_page.{specs.Fair.payload_put, specs.Log.Driver, specs.Log.Log, proofs.PayloadLogs.put_none}
 use Rattle.vs_ring_port.specs.Contents.{RingContents}
 use Rattle.laws_tables.specs.{Both.Seat, Matches.Matches, Steps.request_on}
-use Rattle.vs_driver_parts.specs.{declared.answers.ListenError.ListenError, Connections.after_unlisten, Connections.close_of}
-use Rattle.vs_driver_parts.specs.Connections.{next_flow, recv_of, shutdown_of, state_of, unread_of_id}
-use Rattle.vs_driver_parts.specs.{Conversations.DriverTree, Listening.accept_of, Listening.listen_of, Listening.listener_on}
-use Rattle.vs_driver_parts.specs.{Listening.listening, Held.HeldSlots, State.DriverState}
+use Rattle.vs_driver_parts.specs.Connections.{after_unlisten, close_of, next_flow, recv_of, shutdown_of, state_of, unread_of_id}
+use Rattle.vs_driver_parts.specs.Listening.{accept_of, listen_of, listener_on, listening}
+use Rattle.vs_driver_parts.specs.{declared.answers.ListenError.ListenError, Conversations.DriverTree, Held.HeldSlots, State.DriverState}
+use Rattle.laws_driver.proofs.Changing.{Changes, accept_changes, close_changes, listen_changes, recv_changes, same, shutdown_changes}
 use Rattle.laws_driver.specs.Honest.{IsFitState, ends_of_state, slots_of}
 use Rattle.laws_driver.proofs.Calls.{CarriesConnect, CarriesSend, changed_rests, connect_keeps, send_keeps, connects_with, sends_with}
-use Rattle.laws_driver.proofs.{Carrying.Fact, Carrying.Holds, Changing.Changes, Changing.accept_changes, Changing.close_changes}
-use Rattle.laws_driver.proofs.Changing.{listen_changes, recv_changes, same, shutdown_changes, unlisten_changes}
-use Rattle.laws_driver.proofs.{Going.goes_then, Keeping.Keeps, Staging.Rests, Walking.connect_goes, Walking.goes_from, Walking.send_goes}
+use Rattle.laws_driver.proofs.Walking.{connect_goes, goes_from, send_goes}
+use Rattle.laws_driver.proofs.{Carrying.Fact, Carrying.Holds, Changing.unlisten_changes, Going.goes_then, Keeping.Keeps, Staging.Rests}
 use Rattle.laws_driver_bytes.specs.Calls.{GuestCall, ReplyTo, Connect, Listen, Unlisten, Accept, Send, Recv, Shutdown, Close, LookAt}
 use Rattle.laws_driver_bytes.specs.Calls.{Journal, account_of, id_named, is_right, makes_call, names, received_by, sent_of, whole_call}
-use Rattle.laws_driver_bytes.specs.{Calls.with_call, Received.Account, Received.AreReceived, Received.GoesOn, Received.bytes_got}
-use Rattle.laws_driver_bytes.specs.Received.{with_received}
 use Rattle.laws_driver_bytes.proofs.Changing.{accept_slots, listen_slots, close_received, send_receives, shutdown_received}
-use Rattle.laws_driver_bytes.proofs.{Changing.unlisten_received, Connecting.connect_carries, Polling.Further, Polling.IsFurther}
-use Rattle.laws_driver_bytes.proofs.Reading.{given_none, recv_received}
+use Rattle.laws_driver_bytes.specs.Received.{Account, AreReceived, GoesOn, bytes_got, with_received}
+use Rattle.laws_driver_bytes.{specs.Calls.with_call, proofs.Changing.unlisten_received, proofs.Connecting.connect_carries}
+use Rattle.laws_driver_bytes.{proofs.Polling.Further, proofs.Polling.IsFurther, proofs.Reading.given_none, proofs.Reading.recv_received}
 use Rattle.laws_driver_bytes.proofs.Sending as sending
 
 -- A conversation that makes no call on the ring.

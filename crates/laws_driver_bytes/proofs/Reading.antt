@@ -1,27 +1,26 @@
 -- A receive: the bytes that it gives are of the unread ones the first.
 use Rattle.std.proofs.Common.{◌≡◌, ◌≢◌, ℕ, zero, suc, ◌<◌, ◌==◌, nat_lt, min, Bool, true, false, cond, List, [], ◌∷◌, ◌++◌, length, take}
 use Rattle.std.proofs.Common.{drop, get_or, Option, Some, None, refl, sym, ap, subst, ◌∙◌, arith, append-nil, append_assoc}
-use Rattle.std.proofs.{Common.take-append-drop, lemmas.Bool.Decides.nat_tests, lemmas.List.get_or_default, lemmas.List.take_min}
-use Rattle.std.proofs.{lemmas.Option.get_or_from_slice_get, lemmas.Option.slice_get_within, Math.Seq.take-nil}
-use Rattle.std.specs.List.{All}
+use Rattle.std.proofs.lemmas.List.{get_or_default, take_min}
+use Rattle.std.proofs.lemmas.Option.{get_or_from_slice_get, slice_get_within}
+use Rattle.std.{proofs.Common.take-append-drop, proofs.lemmas.Bool.Decides.nat_tests, proofs.Math.Seq.take-nil, specs.List.All}
 use Rattle.vs_conn.specs.declared.end.State.{State}
-use Rattle.vs_conn.specs.declared.end.State.TheVariants as state
-use Rattle.vs_flow.specs.{Connection.Connection, Table.IsTable}
-use Rattle.vs_flow.proofs.{Entries.found_passes, Lookups.find_place}
+use Rattle.vs_flow.{specs.Connection.Connection, specs.Table.IsTable, proofs.Entries.found_passes, proofs.Lookups.find_place}
 use Rattle.vs_page.specs.{Fair.IsPrefixOf, Fair.current, Fair.payload_got, Log.Driver, Log.Log}
 use Rattle.laws_tables.proofs.Slots.{found_by}
-use Rattle.vs_driver_parts.specs.{declared.answers.Received.Received, Held.HeldSlots, SlotFields.AreNumbered, State.DriverEntry}
-use Rattle.vs_driver_parts.specs.State.{DriverState, GoneConnection, entry_known_as, gone_known_as, is_known_as}
 use Rattle.vs_driver_parts.specs.Connections.{after_read, after_recv, all_gone_after_read, entry_answer, entry_read, gone_answer, is_at_end}
+use Rattle.vs_driver_parts.specs.State.{DriverEntry, DriverState, GoneConnection, entry_known_as, gone_known_as, is_known_as}
 use Rattle.vs_driver_parts.specs.Connections.{nothing_read, read_of, recv_of, unread_of_id, with_connection}
-use Rattle.vs_driver_parts.proofs.{GoneChanges.read_none, Known.after_recv_gone, Known.after_recv_known, Known.recv_gone_some}
-use Rattle.vs_driver_parts.proofs.Known.{recv_known, unread_gone_some, unread_known}
+use Rattle.vs_driver_parts.proofs.GoneChanges.{read_none}
+use Rattle.vs_driver_parts.proofs.Known.{after_recv_gone, after_recv_known, recv_gone_some, recv_known, unread_gone_some, unread_known}
+use Rattle.vs_driver_parts.specs.{declared.answers.Received.Received, Held.HeldSlots, SlotFields.AreNumbered}
 use Rattle.laws_bytes.specs.Drains.{Drains, receives}
 use Rattle.laws_bytes.proofs.{Logs.nothing_more, Logs.shorter, Steps.comes_out, Steps.forwards_less}
 use Rattle.laws_driver.specs.Honest.{slots_of}
 use Rattle.laws_driver_bytes.specs.Received.{Account, AreReceived, ReceivedOn, after_receive, bytes_got, with_received}
 use Rattle.laws_driver_bytes.specs.Sent.{only_on}
 use Rattle.laws_driver_bytes.proofs.Receiving.{apart_by, changed_received, number_same, same_account}
+use Rattle.vs_conn.specs.declared.end.State.TheVariants as state
 use Rattle.vs_driver_parts.specs.declared.answers.Received.TheVariants as got
 
 none_given : (s : State) → (xs : List ℕ) → bytes_got (nothing_read s) xs ≡ []

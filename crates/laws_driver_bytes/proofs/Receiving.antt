@@ -1,15 +1,12 @@
 -- What an application received, through each change of a connection.
-use Rattle.std.proofs.Common.{◌≡◌, ◌≢◌, ℕ, ◌<◌, ◌≤◌, ◌==◌, ◌&&◌, Bool, true, false, cond, List, [], ◌++◌, length, get_or, Contains}
-use Rattle.std.proofs.{Common.refl, Common.sym, Common.ap, Common.subst, Common.◌∙◌, Common.arith, Common.append-nil, Math.Path.fun_ext}
-use Rattle.std.proofs.lemmas.{Bool.Decides.nat_tests, List.Elements.All-contains}
-use Rattle.std.specs.List.{All}
-use Rattle.vs_flow.specs.{Connection.Connection, Table.IsTable, declared.flow.Flow.Flow}
-use Rattle.vs_flow.proofs.Entries.{same_flow_false}
-use Rattle.vs_page.proofs.Flows.{same_self}
-use Rattle.vs_page.specs.{Fair.IsPrefixOf, Fair.current, Fair.number_of, Fair.payload_got, Log.Driver, Log.Log}
-use Rattle.vs_driver_parts.specs.{Held.HeldSlots, Held.with_connection_in, SlotFields.AreNumbered, State.DriverConnection}
-use Rattle.vs_driver_parts.specs.{State.DriverEntry}
-use Rattle.vs_driver_parts.specs.State.{GoneConnection}
+use Rattle.std.proofs.Common.{◌≡◌, ◌≢◌, ℕ, ◌<◌, ◌≤◌, ◌==◌, ◌&&◌, Bool, true, false, cond, List, [], ◌++◌, length, get_or, Contains, refl}
+use Rattle.std.proofs.Common.{sym, ap, subst, ◌∙◌, arith, append-nil}
+use Rattle.std.{proofs.Math.Path.fun_ext, proofs.lemmas.Bool.Decides.nat_tests, proofs.lemmas.List.Elements.All-contains, specs.List.All}
+use Rattle.vs_flow.{specs.Connection.Connection, specs.Table.IsTable, specs.declared.flow.Flow.Flow, proofs.Entries.same_flow_false}
+use Rattle.vs_page.specs.Fair.{IsPrefixOf, current, number_of, payload_got}
+use Rattle.vs_page.{proofs.Flows.same_self, specs.Log.Driver, specs.Log.Log}
+use Rattle.vs_driver_parts.specs.State.{DriverConnection, DriverEntry, GoneConnection}
+use Rattle.vs_driver_parts.specs.{Held.HeldSlots, Held.with_connection_in, SlotFields.AreNumbered}
 use Rattle.vs_driver_parts.proofs.{Ids.HasId, Ids.value_of, Numbers.id_there, Numbers.numbers_with_value}
 use Rattle.laws_bytes.specs.Drains.{Drains, receives}
 use Rattle.laws_bytes.proofs.{Changes.changed, Changes.under_slot, Logs.longer, Logs.shorter, Steps.Goes}

@@ -6,17 +6,16 @@ use Rattle.vs_contents.specs.CallTree.{Done}
 use Rattle.vs_conn.specs.{End.ConnectionEnd, End.state_may_send, declared.end.State.State, declared.end.Stop.Stop}
 use Rattle.vs_credit.specs.Credit.{free_of}
 use Rattle.vs_flow.specs.{Connection.Connection, Table.Table}
-use Rattle.vs_page.specs.{Fair.IsFairLog, Fair.current, Fair.payload_put, Log.Driver, Log.Log, declared.log.LogEntry.TheVariants.PutPacket}
 use Rattle.vs_page.proofs.PayloadLogs.{put_none}
+use Rattle.vs_page.specs.{Fair.IsFairLog, Fair.current, Fair.payload_put, Log.Driver, Log.Log, declared.log.LogEntry.TheVariants.PutPacket}
 use Rattle.vs_ring_port.specs.{Contents.RingContents, EndLog.EndLog}
 use Rattle.laws_tables.specs.Steps.{payload_on}
-use Rattle.vs_driver_parts.specs.{declared.answers.Polled.Polled, declared.answers.Sent.Sent, Conversations.DriverTree}
-use Rattle.vs_driver_parts.specs.Conversations.{no_credit, not_sent, poll_of, send_of, send_on, send_stopped, send_with_credit}
-use Rattle.vs_driver_parts.specs.{Playing.Plays, State.DriverEntry, State.DriverState, State.entry_known_as, State.DriverConnection}
-use Rattle.vs_driver_parts.specs.State.{gone_known_as, is_known_as}
+use Rattle.vs_driver_parts.specs.Conversations.{DriverTree, no_credit, not_sent, poll_of, send_of, send_on, send_stopped, send_with_credit}
+use Rattle.vs_driver_parts.specs.State.{DriverEntry, DriverState, entry_known_as, DriverConnection, gone_known_as, is_known_as}
+use Rattle.vs_driver_parts.specs.{declared.answers.Polled.Polled, declared.answers.Sent.Sent, Playing.Plays}
 use Rattle.laws_driver.specs.Honest.{IsHonestWith}
-use Rattle.laws_driver.proofs.{Calls.CarriesSend, Carrying.Carries, Carrying.Fact, Carrying.Holds, Keeping.keeps_end, Polling.poll_keeps}
-use Rattle.laws_driver.proofs.{Ringing.at_rest, Staging.Rests}
+use Rattle.laws_driver.proofs.Carrying.{Carries, Fact, Holds}
+use Rattle.laws_driver.proofs.{Calls.CarriesSend, Keeping.keeps_end, Polling.poll_keeps, Ringing.at_rest, Staging.Rests}
 use Rattle.laws_driver_bytes.specs.Sent.{PutsJust, none_on, only_on, sent_by, took}
 use Rattle.laws_driver_bytes.proofs.{Adding.put_adds, Adding.put_over_got, Growing.honest_stays}
 use Rattle.vs_conn.specs.declared.end.State.TheVariants as state

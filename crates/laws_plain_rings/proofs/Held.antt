@@ -1,8 +1,7 @@
 -- Chains that the device holds, with their bytes.
 use Rattle.std.proofs.Common.{◌≡◌, ℕ, zero, suc, ◌+◌, ◌*◌, ◌<◌, ◌≤◌, Bool, true, false, cond, not, ◌&&◌, ◌==◌, List, [], ◌∷◌, length, map}
 use Rattle.std.proofs.Common.{get_or, Some, Contains, refl, sym, ap, ◌∙◌, subst, arith}
-use Rattle.std.specs.Prelude.{count_by}
-use Rattle.std.proofs.lemmas.{Bool.false≢true, List.Sums.sum_by-cons}
+use Rattle.std.{specs.Prelude.count_by, proofs.lemmas.Bool.false≢true, proofs.lemmas.List.Sums.sum_by-cons}
 use Rattle.vs_ring_list.proofs.Held.{same_chain_is, same_chain_refl, same_queue_is, same_queue_refl}
 use Rattle.vs_ring_port.specs.Chains.{Held, bytes_in, held_of, same_chain, same_queue, with_bytes, without_held}
 use Rattle.vs_ring_port.specs.declared.{device_ring.Chain.Chain, queue.Queue.Queue}

@@ -1,26 +1,22 @@
 -- Bytes of a chain that is held are read, and written.
 use Rattle.std.proofs.Common.{◌≡◌, ℕ, ◌+◌, ◌-◌, ◌*◌, ◌<◌, ◌≤◌, Bool, true, false, cond, List, [], ◌∷◌, ◌++◌, length, take, drop, Contains}
 use Rattle.std.proofs.Common.{refl, sym, ap, ap₂, ◌∙◌, subst, arith, length-append, length-drop, length-take-le}
-use Rattle.std.specs.Prelude.{◌==◌}
-use Rattle.std.proofs.Math.Seq.{take-length}
+use Rattle.std.{specs.Prelude.◌==◌, proofs.Math.Seq.take-length, proofs.lemmas.List.nil_from_length}
 use Rattle.vs_guest_mem.specs.Memory.{Memory, accessed, after_write, bytes_at}
 use Rattle.vs_page.specs.Overwriting.{overwritten}
+use Rattle.vs_ring_port.specs.declared.queue.Queue.TheVariants.{Rx, Tx, Event}
 use Rattle.vs_ring_port.specs.{Chains.bytes_in, Chains.same_queue, Chains.with_bytes, Contents.Read, Contents.Write, EndLog.pages_at}
 use Rattle.vs_ring_port.specs.{Lists.queue_of, Lists.with_queue, declared.device_ring.Chain.Chain, declared.queue.Queue.Queue}
-use Rattle.vs_ring_port.specs.declared.queue.Queue.TheVariants.{Rx, Tx, Event}
-use Rattle.vs_ring_list.specs.{Ends.Ends, Sound.IsTied}
-use Rattle.vs_ring_list.proofs.Held.{same_queue_refl}
-use Rattle.vs_ring_plain.specs.{Accesses.over, Device.DeviceState, Device.answer_to, Device.chains_held, Device.hold_of, Device.pieces_of}
-use Rattle.vs_ring_plain.specs.{Device.turns_at, Device.with_memory, Pieces.reading, Pieces.spans, Pieces.writing}
-use Rattle.vs_ring_plain.specs.declared.piece.Piece.{Piece}
+use Rattle.vs_ring_list.{specs.Ends.Ends, specs.Sound.IsTied, proofs.Held.same_queue_refl}
+use Rattle.vs_ring_plain.specs.Device.{DeviceState, answer_to, chains_held, hold_of, pieces_of, turns_at, with_memory}
 use Rattle.vs_ring_plain.proofs.Moving.{is_zero, read_step, skipped, unwritten, used}
-use Rattle.laws_plain_rings.specs.{Calls.after_device, Parts.PartsState, Parts.driver_at, Queue.times, Shown.shown, Tie.AreHeldAs}
-use Rattle.laws_plain_rings.specs.Tie.{AreTied, areas_of, heads_of, shown_of, start_of}
+use Rattle.vs_ring_plain.specs.{Accesses.over, Pieces.reading, Pieces.spans, Pieces.writing, declared.piece.Piece.Piece}
+use Rattle.laws_plain_rings.specs.Tie.{AreHeldAs, AreTied, areas_of, heads_of, shown_of, start_of}
+use Rattle.laws_plain_rings.proofs.Spots.{PageOf, high, low, Wrote, wrote, wrote_then, quietly_wrote, IsQuietly}
+use Rattle.laws_plain_rings.proofs.Assemble.{step, parts_form, ends_form}
+use Rattle.laws_plain_rings.specs.{Calls.after_device, Parts.PartsState, Parts.driver_at, Queue.times, Shown.shown}
 use Rattle.laws_plain_rings.proofs.{Held.Found, Held.found, Held.held_written, Parts.read_part, Parts.written_part, QueueSteps.tie_written}
-use Rattle.laws_plain_rings.proofs.{Queues.of_each, Quiet.quiet_step, Quiet.quietly_accessed, Spots.PageOf, Spots.high, Spots.low}
-use Rattle.laws_plain_rings.proofs.{Spots.Wrote, Spots.wrote, Spots.wrote_then, Spots.quietly_wrote, Spots.IsQuietly, Assemble.step}
-use Rattle.laws_plain_rings.proofs.Assemble.{parts_form, ends_form}
-use Rattle.std.proofs.lemmas.List.{nil_from_length}
+use Rattle.laws_plain_rings.proofs.{Queues.of_each, Quiet.quiet_step, Quiet.quietly_accessed}
 
 -- a part of one piece
 read_one : (p : Piece) (place count : ℕ) (m : Memory) → place + count ≤ p.len

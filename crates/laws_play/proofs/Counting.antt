@@ -7,15 +7,14 @@ use Rattle.vs_device_parts.specs.Calls.{DeviceTree}
 use Rattle.vs_proxy_parts.specs.{State.ProxyState, Turns.proxy_reset_of, Turns.turn_of, declared.answers.Turn.Turn}
 use Rattle.laws_proxy_bytes.specs.{Counts.DeviceCounts, Counts.count_made, Counts.counts_of, Counts.counts_shown, Made.Made, Made.made}
 use Rattle.laws_proxy_bytes.proofs.{Quiet.counts_reset, Quiet.counts_turn, Walks.Walks}
-use Rattle.vs_script.specs.{Outside.Outside, Play.Event}
+use Rattle.vs_script.specs.{Outside.Outside, Play.Event, Data.bytes_of}
+use Rattle.laws_world.proofs.Failing.{FailsWithin, reset_fails, turn_fails}
 use Rattle.laws_world.specs.{Answers.Around, Answers.answer_around, World.around}
 use Rattle.vs_play.specs.{Answer.world_after, Lines.PlayWorld, Lines.event_played}
-use Rattle.laws_world.proofs.Failing.{FailsWithin, reset_fails, turn_fails}
 use Rattle.laws_play.specs.Recorded.{calls_of, fails_in, line_fails, made_in, outside_made, recording}
-use Rattle.vs_outside.specs.{Host.HostContents, HostProgram.after_host_write, HostProgram.host_write_answer}
-use Rattle.vs_outside.specs.declared.mem_stream.HostWritten.{HostWritten}
+use Rattle.vs_outside.specs.HostProgram.{after_host_write, host_write_answer}
+use Rattle.vs_outside.specs.{Host.HostContents, declared.mem_stream.HostWritten.HostWritten}
 use Rattle.vs_outside.specs.declared.mem_stream.HostWritten.TheVariants as written
-use Rattle.vs_script.specs.Data.{bytes_of}
 use Rattle.vs_script.specs.Outside as outside
 use Rattle.vs_script.specs.Play as script
 

@@ -1,29 +1,25 @@
 -- An end that decided to send no more on a connection puts no payload there.
 use Rattle.std.proofs.Common.{◌≡◌, ℕ, ◌≤◌, ◌&&◌, ◌||◌, Bool, true, false, cond, List, [], ◌∷◌, ◌++◌, length, IsOkAnd, Ok, Err, refl, sym}
 use Rattle.std.proofs.{Common.ap, Common.subst, Common.◌∙◌, lemmas.List.append-nil}
-use Rattle.vs_conn.specs.{declared.end.Owed.Owed, declared.end.State.State, End.ConnectionEnd, End.answering, End.asked, End.end_after}
-use Rattle.vs_conn.specs.End.{is_of, paid_of, state_may_send, with_payload_sent}
-use Rattle.vs_conn.proofs.Frames.{got_own}
-use Rattle.vs_flow.specs.{Flow.same_flow, declared.flow.Flow.Flow}
-use Rattle.vs_flow.proofs.Entries.{same_flow_true}
-use Rattle.laws_history.specs.{Again.present, Packets.is_request, Packets.is_rst, declared.packet.Packet.Packet, History.Got}
-use Rattle.laws_history.specs.History.{History, Put, Side, Asker, Answerer, gots, is_begun, puts}
+use Rattle.vs_conn.specs.End.{ConnectionEnd, answering, asked, end_after, is_of, paid_of, state_may_send, with_payload_sent}
+use Rattle.vs_conn.{specs.declared.end.Owed.Owed, specs.declared.end.State.State, proofs.Frames.got_own}
+use Rattle.vs_flow.{specs.Flow.same_flow, specs.declared.flow.Flow.Flow, proofs.Entries.same_flow_true}
+use Rattle.laws_history.specs.History.{Got, History, Put, Side, Asker, Answerer, gots, is_begun, puts}
+use Rattle.laws_history.specs.{Again.present, Packets.is_request, Packets.is_rst, declared.packet.Packet.Packet}
 use Rattle.vs_limits.specs.declared.TheConstants.{BUF_ALLOC}
-use Rattle.laws_tables.specs.{Ends.Ends, Ends.answer_kind, Ends.ends_of, Ends.is_new, Ends.replaced, Ends.without_flow, Heard.is_empty}
-use Rattle.laws_tables.specs.Both.{Both, Decides, Decision, Shuts, Happening, IsSound, MayHappen, MayRun, Step, Opens, Asks, Sends, Pays, Replies}
-use Rattle.laws_tables.specs.Both.{Takes, MakesReset, TakesReset, after, after_packet, answered, at, decided, happens, run}
+use Rattle.laws_tables.specs.Both.{Both, Decides, Decision, Shuts, Happening, IsSound, MayHappen, MayRun, Step, Opens, Asks, Sends, Pays}
 use Rattle.laws_tables.specs.Steps.{HasEnd, accepted, asking, is_kept, left, opened, with_clean, with_end, owed_on, paid, payload_on}
-use Rattle.laws_tables.specs.{Steps.reply_on, Steps.request_on, Matches.MatchesFlows}
-use Rattle.laws_tables.proofs.{Both.step_keeps, Fair.heard_none, Tables.end_begun, Tables.end_new, Tables.only_end, Entries.added_other}
-use Rattle.laws_tables.proofs.Entries.{replaced_other, replaced_same, without_other, without_same}
-use Rattle.vs_page.proofs.Entries.{present_is}
-use Rattle.laws_world.specs.Sides.{AsksAnew, RunsAnew}
-use Rattle.laws_bytes.proofs.Firsts.{silent_whole}
-use Rattle.laws_world.proofs.{Once.AreOnce, Once.asked_once, Once.keeps_once, Runs.one_step}
-use Rattle.vs_page.specs.{Fair.payload_of, Log.Device, Log.Driver, Log.Log, Log.Role, Log.flow_got, Log.flow_put, Log.side_of, Log.whole_of}
-use Rattle.vs_page.specs.{Open.is_dropped, declared.log.LogEntry.LogEntry}
+use Rattle.laws_tables.specs.Ends.{Ends, answer_kind, ends_of, is_new, replaced, without_flow}
+use Rattle.laws_tables.specs.Both.{Replies, Takes, MakesReset, TakesReset, after, after_packet, answered, at, decided, happens, run}
+use Rattle.laws_tables.proofs.Entries.{added_other, replaced_other, replaced_same, without_other, without_same}
+use Rattle.laws_tables.specs.{Heard.is_empty, Steps.reply_on, Steps.request_on, Matches.MatchesFlows}
+use Rattle.laws_tables.proofs.{Both.step_keeps, Fair.heard_none, Tables.end_begun, Tables.end_new, Tables.only_end}
+use Rattle.vs_page.specs.Log.{Device, Driver, Log, Role, flow_got, flow_put, side_of, whole_of}
 use Rattle.vs_page.specs.declared.log.LogEntry.TheVariants.{GotPacket, PutPacket}
-use Rattle.laws_bytes.specs.Drains.{put_on}
+use Rattle.vs_page.{proofs.Entries.present_is, specs.Fair.payload_of, specs.Open.is_dropped, specs.declared.log.LogEntry.LogEntry}
+use Rattle.laws_world.specs.Sides.{AsksAnew, RunsAnew}
+use Rattle.laws_world.proofs.{Once.AreOnce, Once.asked_once, Once.keeps_once, Runs.one_step}
+use Rattle.laws_bytes.{proofs.Firsts.silent_whole, specs.Drains.put_on}
 use Rattle.vs_conn.specs.declared.end.Owed.TheVariants as owed
 use Rattle.vs_conn.specs.declared.end.State.TheVariants as state
 use Rattle.vs_conn.specs.declared.end.Stop.TheVariants as stop

@@ -10,8 +10,7 @@ use Rattle.vs_script.specs.{Play.Event, Script.Saying, Script.Plays, Script.pars
 use Rattle.laws_world.specs.{Counts.dropped_in, World.World, World.first_cid}
 use Rattle.vs_play.specs.Answer.{opened_play}
 use Rattle.laws_play.specs.Headline.{device_flows, device_log, driver_log, guest_flows, guest_replies, world_of}
-use Rattle.laws_play.specs.Recorded.{fails_in}
-use Rattle.laws_play.specs.Said.{received_in, sent_in}
+use Rattle.laws_play.specs.{Recorded.fails_in, Said.received_in, Said.sent_in}
 use Rattle.vs_script.specs.declared.script.Command.TheVariants as command
 
 -- The lines that a text spells, where it is a script of a play.

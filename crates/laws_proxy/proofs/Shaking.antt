@@ -1,37 +1,34 @@
 -- Handshakes make no call on the ring. A whole line opens a connection under the next host port.
 use Rattle.std.proofs.Common.{inl, ◌≡◌, ℕ, ◌+◌, ◌<◌, ◌≤◌, ◌^◌, nat_lt, Bool, true, false, cond, if◌then◌else◌, List, ◌++◌, length, Option}
 use Rattle.std.proofs.Common.{Some, None, refl, sym, ap, subst, arith, ◌≢◌, ◌==◌, ◌∙◌, ◌∷◌, []}
-use Rattle.std.proofs.lemmas.Bool.Decides.{nat_tests}
+use Rattle.std.{proofs.lemmas.Bool.Decides.nat_tests, specs.List.All, specs.Option.ForSome}
 use Rattle.vs_contents.specs.{CallTree.Done, CallTree.Ask, CallTree.bind, CallTree.for_each, Contents.Exposes}
-use Rattle.vs_flow.specs.{Flow.host_flow, Flow.is_assigned, Table.refusal, declared.flow.Flow.Flow, declared.table.TableFault.TableFault}
-use Rattle.vs_flow.specs.Table.{Table}
+use Rattle.vs_flow.{specs.Flow.host_flow, specs.Flow.is_assigned, specs.Table.refusal, specs.Table.Table, specs.declared.flow.Flow.Flow}
+use Rattle.vs_flow.{specs.declared.table.TableFault.TableFault, proofs.Entries.found_passes}
 use Rattle.vs_limits.specs.declared.TheConstants.{ASSIGNED_LAST, HANDSHAKES, ASSIGNED_FIRST}
-use Rattle.vs_outside.specs.{declared.host_net.Accepted.Accepted, declared.host_net.StreamRead.StreamRead, Host.HostContents}
-use Rattle.vs_outside.specs.Host.{accept_answer, after_accept, after_close, after_label, after_read, called}
-use Rattle.vs_outside.specs.HostBytes.{after_line}
+use Rattle.vs_outside.specs.Host.{HostContents, accept_answer, after_accept, after_close, after_label, after_read, called}
+use Rattle.vs_outside.specs.{declared.host_net.Accepted.Accepted, declared.host_net.StreamRead.StreamRead, HostBytes.after_line}
 use Rattle.vs_page.specs.Log.{Device, side_by, Log}
+use Rattle.vs_uds.proofs.Decided.{port_fits}
 use Rattle.vs_uds.specs.{ConnectLine.connect_step, declared.connect.TheConstants.CONNECT_MAX, declared.scan.Step.Step}
 use Rattle.vs_device_parts.specs.Calls.{Accept, Allows, CloseStream, HostMoves, IsReadOf, Label, ReadStream, Situation}
+use Rattle.vs_device_parts.specs.{Connections.is_late, Connections.with_client, State.DeviceState, State.DeviceConnection, Turns.open_of}
 use Rattle.laws_device_walk.proofs.Turning.{AfterAccept, AfterByte, IsOn, Shakes, keeps_accept_one, keeps_read_byte, keeps_tick_handshake}
 use Rattle.laws_device_walk.proofs.Turning.{may_assign}
-use Rattle.vs_device_parts.specs.{Connections.is_late, Connections.with_client, State.DeviceState, State.DeviceConnection, Turns.open_of}
-use Rattle.laws_device.proofs.{Keeping.Goes, Keeping.Keeps, Keeping.asking, Keeping.keeps_weaker, Turning.label_keeps}
+use Rattle.laws_device.proofs.Keeping.{Goes, Keeps, asking, keeps_weaker}
 use Rattle.laws_device.proofs.Carrying.{Fact, fact_called, fact_goes, IsHeldBy, IsToldBy, StreamedOver, With, streams_call}
-use Rattle.laws_device.proofs.{Ringing.host_moves, Ringing.tells_weaker, Seats.Carried}
+use Rattle.laws_device.proofs.{Turning.label_keeps, Ringing.host_moves, Ringing.tells_weaker, Seats.Carried}
 use Rattle.vs_proxy_parts.specs.Handshakes.{accept_answered, accept_one, byte_read, dropping, handshake_on, host_fault, line_decided}
 use Rattle.vs_proxy_parts.specs.Handshakes.{may_open, opening, read_byte, read_line, shake_hands, streams_of, tick_handshake}
 use Rattle.vs_proxy_parts.specs.Handshakes.{tick_handshakes, with_line, without_handshake, without_stream}
 use Rattle.vs_proxy_parts.specs.State.{Handshake, Turning, with_device}
-use Rattle.vs_uds.proofs.Decided.{port_fits}
 use Rattle.laws_proxy.proofs.Ports.{last_port, not_refused}
 use Rattle.laws_device_bytes.specs.Streamed.{IsStreamed, Seen, has_line, look, reading}
+use Rattle.laws_device_bytes.proofs.HostCalls.{accepted_host, closed_host, some_seen}
+use Rattle.laws_device_bytes.proofs.Hands.{ends_by, no_line, without_after, without_none}
+use Rattle.laws_device_bytes.proofs.Opens.{hand_of, label_host, line_more, line_now, line_over, one_byte, dropped_host}
+use Rattle.laws_device_bytes.proofs.{Changing.called_host, Changing.goes_on, Lines.line_ends, Lines.line_whole}
 use Rattle.laws_device_streams.proofs.Tables.{some_after, some_from}
-use Rattle.laws_device_bytes.proofs.{Changing.called_host, Changing.goes_on, HostCalls.accepted_host, HostCalls.closed_host}
-use Rattle.laws_device_bytes.proofs.{HostCalls.some_seen, Hands.ends_by, Hands.no_line, Hands.without_after, Hands.without_none}
-use Rattle.laws_device_bytes.proofs.{Opens.hand_of, Opens.label_host, Opens.line_more, Opens.line_now, Opens.line_over, Opens.one_byte}
-use Rattle.laws_device_bytes.proofs.{Opens.dropped_host, Lines.line_ends, Lines.line_whole}
-use Rattle.std.specs.{List.All, Option.ForSome}
-use Rattle.vs_flow.proofs.Entries.{found_passes}
 use Rattle.vs_outside.specs.declared.host_net.Accepted.TheVariants as accepted
 use Rattle.vs_outside.specs.declared.host_net.StreamRead.TheVariants as read
 use Rattle.vs_uds.specs.declared.scan.Step.TheVariants as step

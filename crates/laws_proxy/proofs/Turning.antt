@@ -3,24 +3,20 @@ use Rattle.std.proofs.Common.{ℕ, ◌+◌, ◌<◌, ◌^◌, Bool, true, false,
 use Rattle.vs_contents.specs.CallTree.{Done, for_each}
 use Rattle.vs_limits.specs.declared.TheConstants.{ASSIGNED_FIRST}
 use Rattle.vs_ring_port.specs.{Contents.RingContents, declared.failure.Failure.Failure}
-use Rattle.vs_device_parts.specs.{declared.answers.Filled.Filled, Calls.DeviceTree, Calls.Situation, Receiving.fill_rx_of}
-use Rattle.vs_device_parts.specs.{Receiving.pay_event_of, State.DeviceState, Streams.pump_of, Streams.tick_of, Transmitting.take_tx_of}
-use Rattle.vs_device_parts.specs.Turns.{reset_of}
-use Rattle.laws_device.specs.Honest.{IsFresh}
+use Rattle.vs_device_parts.specs.Receiving.{fill_rx_of, pay_event_of}
+use Rattle.vs_device_parts.specs.{declared.answers.Filled.Filled, Calls.DeviceTree, Calls.Situation, State.DeviceState, Streams.pump_of}
+use Rattle.vs_device_parts.specs.{Streams.tick_of, Transmitting.take_tx_of, Turns.reset_of}
+use Rattle.laws_device.proofs.Carrying.{Fact, IsToldBy, StreamedOver, With, fact_called, held_with, streams_call, with_ring, with_streams}
 use Rattle.laws_device.proofs.Turning.{new_with, pay_keeps, pump_keeps, reset_keeps, tick_keeps}
-use Rattle.laws_device.proofs.{Filling.fill_keeps, Keeping.Goes, Keeping.Keeps, Keeping.keeps_then, Keeping.keeps_while}
-use Rattle.laws_device.proofs.{Transmitting.take_keeps, Carrying.Fact, Carrying.IsToldBy, Carrying.StreamedOver, Carrying.With}
-use Rattle.laws_device.proofs.Carrying.{fact_called, held_with, streams_call, with_ring, with_streams, ring_only}
-use Rattle.laws_device.proofs.{Ringing.host_moves, Seats.Carried, Carrying.whole, Carrying.ring_and_host}
-use Rattle.vs_proxy_parts.specs.{State.Handshake, State.ProxyState, State.Turning, State.start, State.with_device}
-use Rattle.vs_proxy_parts.specs.declared.answers.Turn.{Turn}
+use Rattle.laws_device.proofs.Keeping.{Goes, Keeps, keeps_then, keeps_while, asking, keeps_each, keeps_weaker}
+use Rattle.laws_device.{specs.Honest.IsFresh, proofs.Filling.fill_keeps, proofs.Transmitting.take_keeps, proofs.Carrying.ring_only}
+use Rattle.laws_device.{proofs.Carrying.whole, proofs.Carrying.ring_and_host, proofs.Ringing.host_moves, proofs.Seats.Carried}
 use Rattle.vs_proxy_parts.specs.Turns.{close_handshake, device_after, event_stage, fill_stage, filled, new_proxy, proxy_reset_of}
+use Rattle.vs_proxy_parts.specs.State.{Handshake, ProxyState, Turning, start, with_device}
 use Rattle.vs_proxy_parts.specs.Turns.{pump_stage, reset_with, take_one, take_stage, tick_stage, took_packet, turn_of, unless_failed}
-use Rattle.vs_proxy_parts.specs.Handshakes.{shake_hands, streams_of, tick_handshakes}
-use Rattle.laws_proxy.specs.Honest.{IsProxyWith, IsProxyStreamed}
-use Rattle.laws_proxy.proofs.Shaking.{At, shaking}
+use Rattle.vs_proxy_parts.specs.{declared.answers.Turn.Turn, Handshakes.shake_hands, Handshakes.streams_of, Handshakes.tick_handshakes}
+use Rattle.laws_proxy.{specs.Honest.IsProxyWith, specs.Honest.IsProxyStreamed, proofs.Shaking.At, proofs.Shaking.shaking}
 use Rattle.laws_device_walk.proofs.Turning.{KeptBy, keeps_turn_by}
-use Rattle.laws_device.proofs.Keeping.{asking, keeps_each, keeps_weaker}
 use Rattle.vs_outside.specs.Host.{after_close}
 use Rattle.laws_device_bytes.proofs.Opens.{first_dropped}
 

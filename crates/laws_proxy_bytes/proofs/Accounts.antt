@@ -1,9 +1,7 @@
 -- What a call says of the stream that it names, and of all others.
 use Rattle.std.proofs.Common.{◌≡◌, ◌≢◌, ℕ, ◌==◌, ◌&&◌, not, Bool, true, false, cond, List, ◌++◌, Option, Some, None, refl, sym, ap, ◌∙◌}
-use Rattle.std.proofs.{Common.arith, lemmas.Bool.Decides.nat_tests}
-use Rattle.std.specs.Option.{option_map, option_map_or}
-use Rattle.vs_flow.specs.{Flow.same_flow, declared.flow.Flow.Flow}
-use Rattle.vs_flow.proofs.Entries.{same_flow_true}
+use Rattle.std.{proofs.Common.arith, proofs.lemmas.Bool.Decides.nat_tests, specs.Option.option_map, specs.Option.option_map_or}
+use Rattle.vs_flow.{specs.Flow.same_flow, specs.declared.flow.Flow.Flow, proofs.Entries.same_flow_true}
 use Rattle.vs_page.proofs.Flows.{same_self}
 use Rattle.laws_proxy_bytes.specs.Made.{Account, with_delivery}
 

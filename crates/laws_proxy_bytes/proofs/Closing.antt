@@ -1,23 +1,19 @@
 -- Connections whose end changes, streams that are closed, connections that leave.
-use Rattle.laws_device_walk.specs.Seen.{Seen}
-use Rattle.laws_device_walk.proofs.Serving.{Closes, IsIn}
-use Rattle.laws_device_walk.proofs.Serving as walked
+use Rattle.laws_device_walk.{specs.Seen.Seen, proofs.Serving.Closes, proofs.Serving.IsIn}
 use Rattle.vs_ring_port.specs.declared.device_ring.Chain.{Chain}
-use Rattle.laws_proxy_bytes.proofs.Keeping.{asking}
+use Rattle.laws_proxy_bytes.specs.Made.{Account, Made, account_of, made, payload_put, payload_taken, shut}
+use Rattle.laws_proxy_bytes.specs.Tied.{Agree, AgreesWith, IsLawful, IsOver, IsTied, IsTiedTo}
+use Rattle.laws_proxy_bytes.proofs.{Keeping.asking, Keeping.Keeps, Accounts.Changes, Accounts.changes, Accounts.changing, Accounts.stays}
+use Rattle.laws_proxy_bytes.proofs.{Entries.given_of, Entries.given_shut, Entries.join_of, Entries.left, Entries.moved, Ties.closed_before}
 use Rattle.std.proofs.Common.{◌≡◌, ℕ, true, List, ◌∷◌, Contains, Option, refl, sym, subst, ◌∙◌}
 use Rattle.std.proofs.lemmas.List.Elements.{All-contains}
-use Rattle.vs_flow.specs.{Table.Table, Table.with_value, Table.without}
-use Rattle.vs_flow.specs.declared.flow.Flow.{Flow}
-use Rattle.vs_device_parts.specs.{Calls.CloseStream, Connections.after_leaving, Connections.cut_off, Connections.stream_closed}
-use Rattle.vs_device_parts.specs.{Connections.with_connection, State.DeviceConnection, State.DeviceEntry, State.DeviceState}
-use Rattle.vs_device_parts.specs.{Streams.tick_of}
+use Rattle.vs_flow.specs.{Table.Table, Table.with_value, Table.without, declared.flow.Flow.Flow}
+use Rattle.vs_device_parts.specs.Connections.{after_leaving, cut_off, stream_closed, with_connection}
+use Rattle.vs_device_parts.specs.{Calls.CloseStream, State.DeviceConnection, State.DeviceEntry, State.DeviceState, Streams.tick_of}
 use Rattle.vs_conn.specs.End.{aborted}
 use Rattle.vs_proxy_parts.specs.State.{Handshake}
 use Rattle.laws_bytes.proofs.Changes.{changed, others_left, without_changed}
-use Rattle.laws_proxy_bytes.specs.{Made.Account, Made.Made, Made.account_of, Made.made, Made.payload_put, Made.payload_taken, Made.shut}
-use Rattle.laws_proxy_bytes.specs.Tied.{Agree, AgreesWith, IsLawful, IsOver, IsTied, IsTiedTo}
-use Rattle.laws_proxy_bytes.proofs.{Accounts.Changes, Accounts.changes, Accounts.changing, Accounts.stays, Entries.given_of}
-use Rattle.laws_proxy_bytes.proofs.{Entries.given_shut, Entries.join_of, Entries.left, Entries.moved, Keeping.Keeps, Ties.closed_before}
+use Rattle.laws_device_walk.proofs.Serving as walked
 use Rattle.laws_proxy_bytes.proofs.{Ties.closes as closes_tie}
 use Rattle.vs_conn.specs.declared.end.State.TheVariants as state
 

@@ -1,23 +1,21 @@
 -- Connections and handshakes with the accounts of their streams, through each change of them.
 use Rattle.std.proofs.Common.{◌≡◌, ◌≢◌, ℕ, ◌==◌, ◌&&◌, not, Bool, true, false, cond, List, [], ◌++◌, Contains, Option, Some, None, refl}
-use Rattle.std.proofs.{Common.sym, Common.ap, Common.subst, Common.◌∙◌, Common.arith, lemmas.Bool.Decides.nat_tests}
-use Rattle.std.proofs.lemmas.List.Elements.{All-contains, All-push, All-weaker}
+use Rattle.std.proofs.Common.{sym, ap, subst, ◌∙◌, arith}
 use Rattle.std.specs.{List.All, List.AllPairs, Option.option_map, Option.option_map_or, Option.option_and_then, Option.option_or}
-use Rattle.vs_flow.specs.{Flow.same_flow, Table.IsTable, Table.Table, Table.entry_of, Table.entry_under, Table.next_entry, Table.revalued}
-use Rattle.vs_flow.specs.{Table.with_entry, Table.with_value, Table.without, declared.flow.Flow.Flow}
-use Rattle.vs_flow.proofs.{Entries.same_flow_true, Lookups.entry_of-with_entry, Lookups.entry_of-with_value, Lookups.entry_of-without}
-use Rattle.vs_flow.proofs.{Lookups.entry_of_found, Lookups.entry_under_found, Tables.IsAccepted, Tables.with_entry_sound}
-use Rattle.vs_flow.proofs.Tables.{with_value_sound, without_sound}
-use Rattle.vs_page.proofs.Flows.{same_self}
-use Rattle.vs_page.specs.Fair.{IsPrefixOf}
+use Rattle.std.proofs.lemmas.{Bool.Decides.nat_tests, List.Elements.All-contains, List.Elements.All-push, List.Elements.All-weaker}
+use Rattle.vs_flow.specs.Table.{IsTable, Table, entry_of, entry_under, next_entry, revalued, with_entry, with_value, without}
+use Rattle.vs_flow.proofs.Lookups.{entry_of-with_entry, entry_of-with_value, entry_of-without, entry_of_found, entry_under_found}
+use Rattle.vs_flow.proofs.Tables.{IsAccepted, with_entry_sound, with_value_sound, without_sound}
+use Rattle.vs_flow.{specs.Flow.same_flow, specs.declared.flow.Flow.Flow, proofs.Entries.same_flow_true}
+use Rattle.vs_page.{proofs.Flows.same_self, specs.Fair.IsPrefixOf}
 use Rattle.vs_device_parts.specs.State.{DeviceConnection, DeviceEntry}
 use Rattle.vs_proxy_parts.specs.State.{Handshake}
 use Rattle.laws_bytes.proofs.{Changes.changed, Changes.others_left, Changes.under_slot, Logs.shorter}
 use Rattle.laws_device_bytes.proofs.Streamed.{is_or_not}
-use Rattle.laws_proxy_bytes.specs.{Made.Account, Made.is_on, Made.shut, Made.took, Made.with_taken, Tied.AreTied, Tied.IsLawful}
-use Rattle.laws_proxy_bytes.specs.Tied.{IsTied, IsTiedTo, ok_line_of, reading_account, stream_of}
-use Rattle.vs_uds.specs.{Reading.is_decided, declared.connect.TheConstants.CONNECT_MAX}
+use Rattle.laws_proxy_bytes.specs.Made.{Account, is_on, shut, took, with_taken}
+use Rattle.laws_proxy_bytes.specs.Tied.{AreTied, IsLawful, IsTied, IsTiedTo, ok_line_of, reading_account, stream_of}
 use Rattle.laws_proxy_bytes.proofs.Accounts.{Changes, changing}
+use Rattle.vs_uds.specs.{Reading.is_decided, declared.connect.TheConstants.CONNECT_MAX}
 
 pub one_account : (at : ℕ → Option Account) (id : ℕ) (a b : Account) → at id ≡ Some a → at id ≡ Some b → a ≡ b
 one_account at id a b is other = let both : Some a ≡ Some b = sym is ∙ other in cc

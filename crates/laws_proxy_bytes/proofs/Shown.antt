@@ -1,15 +1,14 @@
 -- A host in memory, and the accounts of its streams, through each call of the proxy.
 use Rattle.std.proofs.Common.{◌≡◌, ◌≢◌, ℕ, ◌+◌, ◌-◌, ◌==◌, Bool, true, false, cond, List, [], ◌∷◌, ◌++◌, length, slice_get, slice_set}
 use Rattle.std.proofs.Common.{Option, Some, None, refl, sym, ap, subst, ◌∙◌, arith}
-use Rattle.std.specs.Option.{option_map, option_map_or}
-use Rattle.std.proofs.lemmas.Bool.Decides.{nat_tests}
+use Rattle.std.{specs.Option.option_map, specs.Option.option_map_or, proofs.lemmas.Bool.Decides.nat_tests}
 use Rattle.vs_flow.specs.declared.flow.Flow.{Flow}
 use Rattle.vs_header.specs.declared.Header.{Header}
 use Rattle.vs_outside.specs.Host.{HostContents, Stream, stream_at, with_stream}
 use Rattle.vs_outside.proofs.Frames.{keeps_others, stream_at-with_stream}
 use Rattle.vs_page.specs.Log.{flow_to_host}
-use Rattle.laws_proxy_bytes.specs.{Tied.IsLine, Tied.IsRead, Made.Account, Made.delivering, Made.is_on, Made.with_delivery}
-use Rattle.laws_proxy_bytes.specs.Told.{Shows, ShowsAt, ShowsIn}
+use Rattle.laws_proxy_bytes.specs.Made.{Account, delivering, is_on, with_delivery}
+use Rattle.laws_proxy_bytes.specs.{Tied.IsLine, Tied.IsRead, Told.Shows, Told.ShowsAt, Told.ShowsIn}
 use Rattle.laws_device_bytes.proofs.{Hosts.new_there, Hosts.none_there as past_end, Hosts.others_there, Streamed.is_or_not}
 
 -- What is read of a stream stays lawful where nothing of it changes.

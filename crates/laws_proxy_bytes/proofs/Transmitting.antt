@@ -1,40 +1,30 @@
 -- Packets of the guest: payload goes to the stream of its own flow.
-use Rattle.laws_proxy_bytes.specs.Tied.{AgreesWith}
-use Rattle.laws_device_walk.specs.Seen.{Seen}
-use Rattle.laws_device_walk.proofs.{Serving.by_flow, Taking.AfterDial, Taking.Takes}
-use Rattle.laws_device_walk.proofs.Taking as walked
-use Rattle.laws_proxy_bytes.proofs.{Closing.D, Closing.closes, Keeping.asking}
+use Rattle.laws_proxy_bytes.specs.Made.{Account, Made, MayGet, account_of, delivering, header_in, made, new_account, payload_put}
+use Rattle.laws_proxy_bytes.specs.Tied.{AgreesWith, Agree, IsOver, IsTied, IsTiedTo, ok_line_of, stream_of}
+use Rattle.laws_proxy_bytes.proofs.Closing.{D, closes, Has, agree_moved, agree_same, join, over_there}
+use Rattle.laws_proxy_bytes.specs.Made.{payload_taken, with_delivery}
+use Rattle.laws_proxy_bytes.proofs.Accounts.{Changes, comes, is_delivered, not_delivered, self_is}
+use Rattle.laws_proxy_bytes.proofs.Ties.{answers, delivers, end_changes}
+use Rattle.laws_proxy_bytes.proofs.{Keeping.asking, Keeping.Keeps, Entries.added, Entries.waiting_kept}
+use Rattle.laws_device_walk.{specs.Seen.Seen, proofs.Serving.by_flow, proofs.Taking.AfterDial, proofs.Taking.Takes}
 use Rattle.std.proofs.Common.{◌≡◌, ℕ, Bool, true, false, cond, List, [], ◌∷◌, ◌++◌, Contains, Option, Some, None, refl, sym, ap, subst, ◌∙◌}
-use Rattle.std.proofs.lemmas.List.Elements.{All-push}
-use Rattle.std.specs.Option.{option_map}
-use Rattle.vs_conn.specs.{End.answering, End.verdict_of, declared.end.State.State, declared.end.Verdict.Verdict}
-use Rattle.vs_conn.specs.declared.end.State.TheVariants.{Ended}
-use Rattle.vs_conn.proofs.Frames.{got_asked, got_over}
-use Rattle.vs_flow.specs.{Table.Table, Table.entry_of, Table.has_place, Table.next_entry, Table.with_value}
-use Rattle.vs_flow.specs.declared.flow.Flow.{Flow}
-use Rattle.vs_flow.proofs.{Entries.same_flow_true, Lookups.entry_of_found, Tables.accepted}
-use Rattle.vs_header.specs.{declared.Header.Header, declared.TheConstants.HEADER_LEN}
-use Rattle.vs_header.specs.declared.{Kind.TheVariants.Stream}
+use Rattle.std.{proofs.lemmas.List.Elements.All-push, specs.Option.option_map}
+use Rattle.vs_conn.{specs.End.answering, specs.End.verdict_of, specs.declared.end.State.State, specs.declared.end.Verdict.Verdict}
+use Rattle.vs_conn.{specs.declared.end.State.TheVariants.Ended, proofs.Frames.got_asked, proofs.Frames.got_over}
+use Rattle.vs_flow.specs.Table.{Table, entry_of, has_place, next_entry, with_value}
+use Rattle.vs_flow.{specs.declared.flow.Flow.Flow, proofs.Entries.same_flow_true, proofs.Lookups.entry_of_found, proofs.Tables.accepted}
+use Rattle.vs_header.specs.declared.{Header.Header, TheConstants.HEADER_LEN, Kind.TheVariants.Stream}
 use Rattle.vs_limits.specs.declared.TheConstants.{BUF_ALLOC}
 use Rattle.vs_outside.specs.declared.host_net.Dialed.{Dialed}
-use Rattle.vs_page.specs.{Log.flow_to_host}
-use Rattle.laws_device_bytes.specs.Streamed.{gives_in}
-use Rattle.laws_device_bytes.proofs.Gives.{delivers_gives, hears_gives}
-use Rattle.vs_ring_port.specs.{Contents.Read, Contents.Take, declared.device_ring.Chain.Chain}
-use Rattle.vs_ring_port.specs.declared.{device_ring.Next.Next, queue.Queue.TheVariants.Tx}
+use Rattle.vs_page.specs.Log.{flow_to_host}
+use Rattle.laws_device_bytes.{specs.Streamed.gives_in, proofs.Gives.delivers_gives, proofs.Gives.hears_gives}
+use Rattle.vs_ring_port.specs.Contents.{Read, Take}
+use Rattle.vs_ring_port.specs.declared.{device_ring.Chain.Chain, device_ring.Next.Next, queue.Queue.TheVariants.Tx}
 use Rattle.vs_uds.specs.Path.{path_of}
-use Rattle.vs_device_parts.specs.{State.DeviceConnection, State.DeviceEntry, State.DeviceState, Calls.Dial, Calls.Ring}
-use Rattle.vs_device_parts.specs.Transmitting.{heard, take_tx_of}
-use Rattle.vs_device_parts.specs.{Connections.new_connection}
-use Rattle.vs_device_parts.specs.Connections.{with_connection}
+use Rattle.vs_device_parts.specs.{State.DeviceConnection, State.DeviceEntry, State.DeviceState, Calls.Dial, Calls.Ring, Transmitting.heard}
+use Rattle.vs_device_parts.specs.{Transmitting.take_tx_of, Connections.new_connection, Connections.with_connection}
 use Rattle.vs_proxy_parts.specs.State.{Handshake}
-use Rattle.laws_proxy_bytes.specs.Made.{Account, Made, MayGet, account_of, delivering, header_in, made, new_account, payload_put}
-use Rattle.laws_proxy_bytes.specs.Made.{payload_taken}
-use Rattle.laws_proxy_bytes.specs.{Made.with_delivery, Tied.Agree, Tied.IsOver, Tied.IsTied, Tied.IsTiedTo, Tied.ok_line_of, Tied.stream_of}
-use Rattle.laws_proxy_bytes.proofs.{Entries.added, Entries.waiting_kept, Keeping.Keeps, Accounts.Changes, Accounts.comes}
-use Rattle.laws_proxy_bytes.proofs.{Accounts.is_delivered, Accounts.not_delivered, Accounts.self_is, Closing.Has}
-use Rattle.laws_proxy_bytes.proofs.Closing.{agree_moved, agree_same, join, over_there}
-use Rattle.laws_proxy_bytes.proofs.Ties.{answers, delivers, end_changes}
+use Rattle.laws_device_walk.proofs.Taking as walked
 use Rattle.vs_conn.specs.declared.end.Verdict.TheVariants as verdict
 use Rattle.vs_outside.specs.declared.host_net.Dialed.TheVariants as dialed
 use Rattle.vs_ring_port.specs.declared.device_ring.Next.TheVariants as next

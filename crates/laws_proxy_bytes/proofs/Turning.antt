@@ -1,20 +1,18 @@
 -- A turn and a reset.
 use Rattle.laws_device_walk.proofs.Keeping.{keeps_each, keeps_then}
-use Rattle.laws_device_walk.proofs.Turning as walked
-use Rattle.laws_proxy_bytes.proofs.{Closing.D, Closing.closes, Keeping.asking, Receiving.fills, Shaking.shakes, Transmitting.U}
-use Rattle.laws_proxy_bytes.proofs.{Transmitting.takes, Writing.writes}
+use Rattle.laws_proxy_bytes.specs.Made.{Made, account_of, payload_put, payload_taken}
+use Rattle.laws_proxy_bytes.proofs.Opening.{AreReset, ResetEnds, keeps_reset, new_agrees, reset_agrees, reset_closes}
+use Rattle.laws_proxy_bytes.specs.{Tied.AccountsFor, Told.AreAccounted, Told.Shows, Told.StayAccounted}
+use Rattle.laws_proxy_bytes.proofs.{Closing.D, Closing.closes, Keeping.asking, Keeping.Keeps, Receiving.fills, Shaking.shakes}
+use Rattle.laws_proxy_bytes.proofs.{Transmitting.U, Transmitting.takes, Writing.writes, Carrying.carries, Telling.stay_accounted}
 use Rattle.std.proofs.Common.{ℕ, List, [], Some, Result, Ok, Err, refl}
 use Rattle.vs_contents.specs.CallTree.{Done, for_each}
 use Rattle.vs_ring_port.specs.declared.failure.Failure.{Failure}
 use Rattle.vs_device_parts.specs.{Calls.Situation, Playing.Runs, State.DeviceState, Turns.reset_of}
 use Rattle.vs_outside.specs.Host.{HostContents}
-use Rattle.vs_proxy_parts.specs.{Handshakes.streams_of, State.ProxyState, State.with_device, Turns.close_handshake}
-use Rattle.vs_proxy_parts.specs.Turns.{proxy_reset_of, reset_with}
-use Rattle.vs_proxy_parts.specs.{Turns.turn_of, declared.answers.Turn.Turn}
-use Rattle.laws_proxy_bytes.specs.{Made.Made, Made.account_of, Made.payload_put, Made.payload_taken, Tied.AccountsFor, Told.AreAccounted}
-use Rattle.laws_proxy_bytes.specs.Told.{Shows, StayAccounted}
-use Rattle.laws_proxy_bytes.proofs.{Carrying.carries, Telling.stay_accounted, Keeping.Keeps, Opening.AreReset, Opening.ResetEnds}
-use Rattle.laws_proxy_bytes.proofs.Opening.{keeps_reset, new_agrees, reset_agrees, reset_closes}
+use Rattle.vs_proxy_parts.specs.Turns.{close_handshake, proxy_reset_of, reset_with, turn_of}
+use Rattle.vs_proxy_parts.specs.{Handshakes.streams_of, State.ProxyState, State.with_device, declared.answers.Turn.Turn}
+use Rattle.laws_device_walk.proofs.Turning as walked
 
 pub keeps_turn : (size now : ℕ) (s : ProxyState) (calls : List Made) → AccountsFor s calls
     → Keeps (λ (x : ProxyState × Turn) later. AccountsFor x.0 later) (turn_of size now s) calls

@@ -1,19 +1,17 @@
 -- What is written to the host's streams.
 use Rattle.laws_device_walk.proofs.Serving.{AfterWrite, IsIn, Writes}
-use Rattle.laws_device_walk.proofs.Serving as walked
-use Rattle.laws_proxy_bytes.proofs.{Closing.D, Closing.closes, Keeping.asking}
+use Rattle.laws_proxy_bytes.proofs.Closing.{D, closes, Has, agree_moved, agree_same, join}
+use Rattle.laws_proxy_bytes.specs.Made.{Made, MayGet, account_of, made, payload_put, payload_taken, with_given}
+use Rattle.laws_proxy_bytes.{proofs.Keeping.asking, specs.Tied.IsTied, proofs.Accounts.changes}
 use Rattle.std.proofs.Common.{◌≡◌, ◌-◌, true, List, ◌∷◌, refl, length, take}
 use Rattle.vs_conn.specs.declared.end.State.TheVariants.{Ended}
 use Rattle.vs_outside.specs.declared.host_net.StreamWrite.{StreamWrite}
-use Rattle.vs_outside.specs.declared.host_net.StreamWrite.TheVariants as write
 use Rattle.vs_device_parts.specs.{Calls.WriteStream, Connections.after_shut, Connections.after_written, Connections.with_connection}
-use Rattle.vs_device_parts.specs.{State.DeviceEntry, State.DeviceState, Streams.Writing, Streams.pump_of}
-use Rattle.vs_device_parts.specs.Streams.{to_write}
+use Rattle.vs_device_parts.specs.{State.DeviceEntry, State.DeviceState, Streams.Writing, Streams.pump_of, Streams.to_write}
 use Rattle.laws_device_streams.proofs.Ends.{forwarded_over, shut_over}
 use Rattle.vs_proxy_parts.specs.State.{Handshake}
-use Rattle.laws_proxy_bytes.specs.Made.{Made, MayGet, account_of, made, payload_put, payload_taken, with_given}
-use Rattle.laws_proxy_bytes.specs.Tied.{IsTied}
-use Rattle.laws_proxy_bytes.proofs.{Accounts.changes, Closing.Has, Closing.agree_moved, Closing.agree_same, Closing.join}
+use Rattle.laws_device_walk.proofs.Serving as walked
+use Rattle.vs_outside.specs.declared.host_net.StreamWrite.TheVariants as write
 use Rattle.laws_proxy_bytes.proofs.{Closing.over_there, Keeping.Keeps, Ties.end_changes, Ties.shuts, Ties.writes as writes_tie}
 
 module _ (hands : List Handshake) where

@@ -1,22 +1,21 @@
 -- A turn and a reset.
-use Rattle.laws_device_walk.proofs.Turning as walked
-use Rattle.laws_device_streams.proofs.{Closing.closes, Keeping.asking, Receiving.fills, Transmitting.takes, Writing.writes}
-use Rattle.laws_proxy_streams.proofs.{Lists.ids, Shaking.D, Shaking.shakes}
+use Rattle.laws_device_streams.proofs.Keeping.{asking, Keeps, keeps_then}
+use Rattle.laws_device_streams.specs.{Split.CanReach, Split.is_quiet, Streams.FindsStreams, Streams.HasStreams}
+use Rattle.laws_device_streams.proofs.{Closing.closes, Receiving.fills, Transmitting.takes, Writing.writes, Opening.keeps_reset}
+use Rattle.laws_device_streams.proofs.{Tables.some_after, Tables.some_from, Stepping.reach}
+use Rattle.laws_proxy_streams.proofs.Shaking.{D, shakes, FindsAll}
+use Rattle.laws_proxy_streams.proofs.{Lists.ids, Lists.at_first, Lists.further, Hosts.has_dropped}
 use Rattle.std.proofs.Common.{◌≡◌, ℕ, true, List, [], ◌∷◌, Some, Result, Ok, Err, refl}
 use Rattle.std.specs.Option.{ForSome}
 use Rattle.vs_contents.specs.CallTree.{Done, for_each}
 use Rattle.vs_flow.specs.Table.{Table}
 use Rattle.vs_outside.specs.Host.{IsOpen, after_close}
 use Rattle.vs_ring_port.specs.declared.failure.Failure.{Failure}
-use Rattle.vs_device_parts.specs.{Calls.Call, Calls.CloseStream, Calls.Situation, Calls.Allows, State.DeviceConnection, State.DeviceState}
-use Rattle.vs_device_parts.specs.Turns.{reset_of}
-use Rattle.laws_device_streams.specs.{Split.CanReach, Split.is_quiet, Streams.FindsStreams, Streams.HasStreams}
-use Rattle.laws_device_streams.proofs.{Keeping.Keeps, Keeping.keeps_then, Opening.keeps_reset, Tables.some_after, Tables.some_from}
-use Rattle.laws_device_streams.proofs.{Stepping.reach}
-use Rattle.vs_proxy_parts.specs.{Handshakes.streams_of, State.ProxyState, State.with_device, Turns.close_handshake}
-use Rattle.vs_proxy_parts.specs.Turns.{proxy_reset_of, reset_with}
-use Rattle.vs_proxy_parts.specs.{Turns.turn_of, declared.answers.Turn.Turn}
-use Rattle.laws_proxy_streams.proofs.{Hosts.has_dropped, Lists.at_first, Lists.further, Shaking.FindsAll}
+use Rattle.vs_device_parts.specs.Calls.{Call, CloseStream, Situation, Allows}
+use Rattle.vs_device_parts.specs.{State.DeviceConnection, State.DeviceState, Turns.reset_of}
+use Rattle.vs_proxy_parts.specs.Turns.{close_handshake, proxy_reset_of, reset_with, turn_of}
+use Rattle.vs_proxy_parts.specs.{Handshakes.streams_of, State.ProxyState, State.with_device, declared.answers.Turn.Turn}
+use Rattle.laws_device_walk.proofs.Turning as walked
 
 pub keeps_turn : (size now : ℕ) (s : ProxyState) (c : Situation) → FindsAll s c
     → Keeps CanReach Allows (λ (x : ProxyState × Turn) d. FindsAll x.0 d) (turn_of size now s) c

@@ -1,18 +1,16 @@
 -- What the host wrote and read of a flow, against the two logs.
-use Rattle.std.proofs.{lemmas.Bool.Decides.nat_tests, lemmas.List.Elements.filter_passes}
 use Rattle.std.proofs.Common.{◌≡◌, ◌≢◌, ℕ, zero, suc, get_or, ◌^◌, ◌<◌, Bool, true, false, cond, List, [], ◌∷◌, ◌++◌, length, codes}
 use Rattle.std.proofs.Common.{decimal, slice_get, Contains, Option, Some, None, refl, sym, ap, subst, ◌∙◌, arith}
 use Rattle.std.specs.{List.filter, Option.option_and_then, Option.option_map, Option.option_map_or}
-use Rattle.vs_flow.specs.{Connection.first_of, Flow.is_assigned, Flow.same_flow, Table.Table, declared.flow.Flow.Flow}
+use Rattle.std.proofs.lemmas.{Bool.Decides.nat_tests, List.Elements.filter_passes}
 use Rattle.vs_flow.proofs.Entries.{same_flow_true}
+use Rattle.vs_flow.specs.{Connection.first_of, Flow.is_assigned, Flow.same_flow, Table.Table, declared.flow.Flow.Flow}
 use Rattle.vs_device_parts.specs.State.{DeviceConnection}
 use Rattle.vs_outside.specs.HostBytes.{after_line, host_read, host_wrote, is_labelled, read_after_ok, wrote_after_connect}
 use Rattle.vs_outside.specs.Host.{HostContents, Stream, stream_at}
-use Rattle.vs_page.proofs.Flows.{same_self}
-use Rattle.vs_page.specs.{Fair.IsPrefixOf, Log.Device, Log.Log}
+use Rattle.vs_page.{proofs.Flows.same_self, specs.Fair.IsPrefixOf, specs.Log.Device, specs.Log.Log}
 use Rattle.vs_proxy_parts.specs.State.{Handshake}
-use Rattle.vs_uds.proofs.{Leading.has_lf-digits, Ports.WritesPort-decimal}
-use Rattle.vs_uds.specs.OkLine.{ok_text}
+use Rattle.vs_uds.{proofs.Leading.has_lf-digits, proofs.Ports.WritesPort-decimal, specs.OkLine.ok_text}
 use Rattle.laws_bytes.specs.Drains.{got_on, put_on}
 use Rattle.laws_device_bytes.specs.Streamed.{IsStreamed, Seen, has_line, line_for, look, seen}
 use Rattle.laws_device_bytes.proofs.{Hosts.there, Lines.after_front}

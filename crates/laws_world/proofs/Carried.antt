@@ -1,24 +1,23 @@
 -- What a world that is well says of the bytes of its connections. Packets that the driver staged count as put.
 use Rattle.std.proofs.Common.{◌≡◌, ℕ, ◌≤◌, ◌++◌, ◌⊎◌, inl, inr, true, List, [], Contains, Some, sym, ap, subst, ◌∙◌, arith}
-use Rattle.std.proofs.lemmas.List.Elements.{All-contains}
-use Rattle.std.specs.Option.{option_map}
+use Rattle.std.{proofs.lemmas.List.Elements.All-contains, specs.Option.option_map}
 use Rattle.vs_driver_parts.specs.State.{DriverEntry, GoneConnection}
 use Rattle.vs_device_parts.specs.State.{DeviceEntry}
 use Rattle.vs_flow.specs.{Connection.Connection, Connection.first_of, declared.flow.Flow.Flow}
 use Rattle.laws_history.specs.{History.puts, Packets.has, Packets.shuts_send}
 use Rattle.vs_outside.specs.{Host.Stream, Host.stream_at, HostBytes.host_read, HostBytes.host_wrote}
-use Rattle.vs_page.specs.{Fair.IsFairLog, Fair.IsPrefixOf, Fair.number_of, Fair.payload_got, Fair.payload_put, Log.Device, Log.Driver}
-use Rattle.vs_page.specs.Log.{Log, Role, history_of}
+use Rattle.vs_page.specs.Fair.{IsFairLog, IsPrefixOf, number_of, payload_got, payload_put}
+use Rattle.vs_page.specs.Log.{Device, Driver, Log, Role, history_of}
 use Rattle.vs_page.proofs.{PayloadLogs.prefix, Shut.shut_put}
 use Rattle.laws_tables.specs.Both.{at}
 use Rattle.laws_bytes.specs.Drains.{Drains, got_on, put_on, receives}
-use Rattle.laws_device_bytes.specs.Streamed.{IsJoined, Seen, gives, line_for, look, seen}
 use Rattle.laws_bytes.proofs.{Logs.prefix_then, Firsts.once_got, Firsts.once_put, Firsts.put_begun}
+use Rattle.laws_device_bytes.specs.Streamed.{IsJoined, Seen, gives, line_for, look, seen}
 use Rattle.laws_world.specs.{Sides.both_of, World.World, World.first_cid}
-use Rattle.laws_driver_bytes.specs.{Received.ReceivedOn, Received.ReceivesOn, Calls.account_of, Calls.received_by, Calls.received_on}
-use Rattle.laws_driver_bytes.specs.Calls.{sent_on}
 use Rattle.laws_world.proofs.{Once.number_of_once, Bytes.read_is_got, Bytes.wrote_is_put, Growing.Grows, Growing.runs_grow}
 use Rattle.laws_world.proofs.{Journals.by_flow, Journals.received_some, Sound.Goes, Sound.IsWell}
+use Rattle.laws_driver_bytes.specs.Received.{ReceivedOn, ReceivesOn}
+use Rattle.laws_driver_bytes.specs.Calls.{account_of, received_by, received_on, sent_on}
 use Rattle.laws_device_bytes.proofs.Hosts.{there as is_there}
 
 abbrev pub ToGuest : Flow → World → Type 0

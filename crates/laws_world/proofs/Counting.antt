@@ -1,8 +1,7 @@
 -- Whatever happens, the device counts just the packets that it drops, and its ring doesn't fail.
 use Rattle.std.proofs.Common.{◌≡◌, ℕ, ◌+◌, ◌-◌, ◌^◌, ◌==◌, ◌&&◌, min, nat_le, nat_lt, Bool, true, false, cond, List, [], ◌∷◌, length, take}
-use Rattle.std.proofs.Common.{Option}
-use Rattle.std.proofs.Common.{Some, None, refl, sym, ap, subst, ◌∙◌, arith}
-use Rattle.std.proofs.{lemmas.Bool.Decides.nat_tests, lemmas.Bool.false≢true}
+use Rattle.std.proofs.Common.{Option, Some, None, refl, sym, ap, subst, ◌∙◌, arith}
+use Rattle.std.proofs.lemmas.Bool.{Decides.nat_tests, false≢true}
 use Rattle.vs_contents.specs.CallTree.{Done, bind}
 use Rattle.vs_conn.specs.Headers.{payload_header}
 use Rattle.vs_credit.specs.Credit.{free_of}
@@ -13,50 +12,46 @@ use Rattle.laws_history.specs.declared.packet.Packet.{Packet}
 use Rattle.vs_limits.specs.declared.TheConstants.{DEVICE_REPLIES}
 use Rattle.vs_outside.specs.Host.{HostContents}
 use Rattle.vs_outside.specs.declared.host_net.{Accepted.Accepted, Dialed.Dialed, StreamRead.StreamRead, StreamWrite.StreamWrite}
+use Rattle.vs_page.specs.declared.log.LogEntry.TheVariants.{GotPacket, PutEvent, PutPacket}
+use Rattle.vs_page.specs.{Held.event_held, Held.packet_held, Log.Device, Log.Log, Open.cid_of, Open.is_dropped}
+use Rattle.vs_ring_port.specs.Chains.{bytes_in, same_chain}
+use Rattle.vs_ring_port.specs.Contents.{PublishCid, Read, Return, Take, Write}
+use Rattle.vs_ring_port.specs.EndLog.{entries_returned, log_taken, with_event, with_packet}
+use Rattle.vs_ring_port.specs.Lists.{Rings, after_return, after_take, chain_with, next_at, next_given}
+use Rattle.vs_ring_port.specs.declared.queue.Queue.TheVariants.{Event, Rx, Tx}
+use Rattle.vs_ring_port.specs.declared.{device_ring.Chain.Chain, device_ring.Next.Next, failure.Failure.Failure, queue.Queue.Queue}
+use Rattle.vs_wrap.specs.Wrap.{counted}
+use Rattle.vs_device_parts.specs.Steps.{chain_came, filling, puts_event, puts_owed, puts_payload, puts_reply, reads, returns, shuts_write}
+use Rattle.vs_device_parts.specs.Receiving.{Filling, hold, may_read, put_owed, put_reply, read_with_chain, written}
+use Rattle.vs_device_parts.specs.Steps.{takes_chain, with_chain, writes, writes_on, writing}
+use Rattle.vs_device_parts.specs.{Calls.DeviceTree, Calls.Ring, Connections.route_to_guest, State.DeviceEntry, State.DeviceState}
+use Rattle.vs_device_parts.specs.{Streams.shut_write, Streams.tick_slot, Streams.write_pending, Transmitting.on_packet, Turns.after_reset}
+use Rattle.vs_proxy_parts.specs.State.{Handshake, ProxyState, Turning, start, with_device}
+use Rattle.vs_proxy_parts.specs.{Handshakes.accept_one, Handshakes.read_byte, Handshakes.tick_handshake, Turns.proxy_reset_of}
+use Rattle.laws_device_walk.proofs.Serving.{AfterEvent, AfterRead, AfterWrite, Closes, Fills, Writes, by_slot, keeps_hold, keeps_put_owed}
+use Rattle.laws_device_walk.proofs.Serving.{keeps_put_reply_of, keeps_read_with_chain, keeps_shut_write, keeps_tick_slot}
+use Rattle.laws_device_walk.proofs.Turning.{AfterAccept, AfterByte, Between, Shakes, keeps_accept_one, keeps_read_byte}
+use Rattle.laws_device_walk.proofs.Keeping.{Keeps, keeps_if, keeps_some, keeps_then}
+use Rattle.laws_device_walk.proofs.Taking.{AfterDial, Takes, keeps_on_packet}
+use Rattle.laws_device_walk.{specs.Seen.Seen, specs.Seen.seen, proofs.Serving.keeps_write_pending, proofs.Turning.keeps_tick_handshake}
+use Rattle.laws_device.proofs.{Transmitting.header_is, Ringing.same_self}
+use Rattle.laws_world.specs.Events.{at_moment, call_made, device_step, driver_step, happens, has_failed, holds, holds_event, is_at_rest}
+use Rattle.laws_world.specs.World.{World, around, device_plays, driver_plays, first_cid, opening}
+use Rattle.laws_world.specs.Events.{is_guest_cid, line_read, proxy_step, reset_made, run, unless_failed, where_possible}
+use Rattle.laws_world.proofs.Resetting.{keeps_played, keeps_reset, playing}
+use Rattle.laws_world.specs.{Answers.Around, Answers.answer_around, Counts.IsCounted, Counts.dropped_in, Pages.PageHolds}
+use Rattle.laws_world.proofs.{Opening.opening_well, Rings.AreGiven, Sound.IsWell, Sound.happens_goes}
+use Rattle.laws_driver_bytes.specs.Calls.{Journal, is_right, makes_call}
+use Rattle.vs_driver_parts.specs.Conversations.{DriverTree, publish_of}
+use Rattle.vs_driver_parts.specs.{State.DriverState, Steps.stages_owed, Steps.stages_reply, Steps.takes_page}
 use Rattle.vs_outside.specs.declared.host_net.Accepted.TheVariants as accepted
 use Rattle.vs_outside.specs.declared.host_net.Dialed.TheVariants as dialed
 use Rattle.vs_outside.specs.declared.host_net.StreamRead.TheVariants as read
 use Rattle.vs_outside.specs.declared.host_net.StreamWrite.TheVariants as write
-use Rattle.vs_page.specs.{Held.event_held, Held.packet_held, Log.Device, Log.Log, Open.cid_of, Open.is_dropped}
-use Rattle.vs_page.specs.declared.log.LogEntry.TheVariants.{GotPacket, PutEvent, PutPacket}
-use Rattle.vs_ring_port.specs.{Chains.bytes_in, Chains.same_chain, Contents.PublishCid, Contents.Read, Contents.Return, Contents.Take}
-use Rattle.vs_ring_port.specs.Contents.{Write}
-use Rattle.vs_ring_port.specs.EndLog.{entries_returned, log_taken, with_event, with_packet}
-use Rattle.vs_ring_port.specs.Lists.{Rings, after_return, after_take, chain_with, next_at, next_given}
-use Rattle.vs_ring_port.specs.declared.{device_ring.Chain.Chain, device_ring.Next.Next, failure.Failure.Failure, queue.Queue.Queue}
 use Rattle.vs_ring_port.specs.declared.device_ring.Next.TheVariants as next
-use Rattle.vs_ring_port.specs.declared.queue.Queue.TheVariants.{Event, Rx, Tx}
-use Rattle.vs_wrap.specs.Wrap.{counted}
-use Rattle.vs_device_parts.specs.Calls.{DeviceTree, Ring}
-use Rattle.vs_device_parts.specs.{Connections.route_to_guest, Receiving.Filling, Receiving.hold, State.DeviceEntry, State.DeviceState}
-use Rattle.vs_device_parts.specs.Receiving.{may_read, put_owed, put_reply, read_with_chain, written}
-use Rattle.vs_device_parts.specs.Steps.{chain_came, filling, puts_event, puts_owed, puts_payload, puts_reply, reads, returns}
-use Rattle.vs_device_parts.specs.Steps.{shuts_write, takes_chain, with_chain, writes, writes_on, writing}
-use Rattle.vs_device_parts.specs.{Streams.shut_write, Streams.tick_slot, Streams.write_pending, Transmitting.on_packet}
-use Rattle.vs_device_parts.specs.Turns.{after_reset}
-use Rattle.vs_proxy_parts.specs.Handshakes.{accept_one, read_byte, tick_handshake}
-use Rattle.vs_proxy_parts.specs.{State.Handshake, State.ProxyState, State.Turning, State.start, State.with_device}
-use Rattle.vs_proxy_parts.specs.Turns.{proxy_reset_of}
-use Rattle.laws_device_walk.specs.Seen.{Seen, seen}
-use Rattle.laws_device_walk.proofs.Keeping.{Keeps, keeps_if, keeps_some, keeps_then}
-use Rattle.laws_device_walk.proofs.Serving.{AfterEvent, AfterRead, AfterWrite, Closes, Fills, Writes, by_slot, keeps_hold, keeps_put_owed}
-use Rattle.laws_device_walk.proofs.Serving.{keeps_put_reply_of, keeps_read_with_chain, keeps_shut_write, keeps_tick_slot}
-use Rattle.laws_device_walk.proofs.Serving.{keeps_write_pending}
-use Rattle.laws_device_walk.proofs.Taking.{AfterDial, Takes, keeps_on_packet}
 use Rattle.laws_device_walk.proofs.Serving as serving
 use Rattle.laws_device_walk.proofs.Taking as taking
-use Rattle.laws_device_walk.proofs.Turning.{AfterAccept, AfterByte, Between, Shakes, keeps_accept_one, keeps_read_byte, keeps_tick_handshake}
-use Rattle.laws_device.proofs.{Transmitting.header_is, Ringing.same_self}
-use Rattle.laws_world.specs.{Answers.Around, Answers.answer_around, Counts.IsCounted, Counts.dropped_in, Pages.PageHolds, World.World}
-use Rattle.laws_world.specs.World.{around, device_plays, driver_plays, first_cid, opening}
-use Rattle.laws_world.specs.Events.{at_moment, call_made, device_step, driver_step, happens, has_failed, holds, holds_event, is_at_rest}
-use Rattle.laws_world.specs.Events.{is_guest_cid, line_read, proxy_step, reset_made, run, unless_failed, where_possible}
 use Rattle.laws_world.specs.Events as events
-use Rattle.laws_driver_bytes.specs.Calls.{Journal, is_right, makes_call}
-use Rattle.vs_driver_parts.specs.{Conversations.DriverTree, Conversations.publish_of, State.DriverState, Steps.stages_owed}
-use Rattle.vs_driver_parts.specs.{Steps.stages_reply, Steps.takes_page}
-use Rattle.laws_world.proofs.{Opening.opening_well, Resetting.keeps_played, Resetting.keeps_reset, Resetting.playing, Rings.AreGiven}
-use Rattle.laws_world.proofs.{Sound.IsWell, Sound.happens_goes}
 
 -- Between calls, and while a page of tx is held that was judged.
 record Counts (cid dropped : ℕ) (failed : Option Failure) (log : Log) (given : List (List ℕ)) : Type 0 where

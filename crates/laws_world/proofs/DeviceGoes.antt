@@ -5,9 +5,8 @@ use Rattle.laws_tables.specs.Both.{Both, IsSound, Seat}
 use Rattle.laws_tables.proofs.{Fair.got_formed, Voices.AreVoiced, Voices.voices_run}
 use Rattle.laws_device.proofs.Seats.{Carried, PutsFit}
 use Rattle.laws_device_bytes.proofs.Cids.{dropped_empty}
-use Rattle.laws_world.specs.{Sides.Runs, World.first_cid}
-use Rattle.laws_world.proofs.{Once.AreOnce, Once.keeps_once, Once.number_of_once, Runs.and_then, Runs.device_runs, Runs.got_before}
-use Rattle.laws_world.proofs.Runs.{keeps_sound, log_before}
+use Rattle.laws_world.proofs.Runs.{and_then, device_runs, got_before, keeps_sound, log_before}
+use Rattle.laws_world.{specs.Sides.Runs, specs.World.first_cid, proofs.Once.AreOnce, proofs.Once.keeps_once, proofs.Once.number_of_once}
 
 -- The CIDs of packets stay as the two ends go on.
 pub cids_kept : (first : ℕ) (b c : Both) → Runs b c → IsSound first b → AreVoiced first b → AreVoiced first c

@@ -7,26 +7,24 @@ use Rattle.vs_header.specs.{Packet.header_of, declared.TheConstants.HEADER_LEN}
 use Rattle.laws_history.specs.declared.packet.Packet.{Packet}
 use Rattle.vs_outside.specs.Host.{HostContents, IsDialed, IsWritten, accept_answer, accept_failed, after_accept, after_close, after_dial}
 use Rattle.vs_outside.specs.Host.{after_label, after_read, after_shut_write, after_write, dial_answer, dial_failed, fails_now, read_answer}
-use Rattle.vs_outside.specs.{Host.read_failed, Faults.CountsFault, Faults.one_more, Host.stream_at, Host.write_answer, Host.write_failed}
-use Rattle.vs_outside.specs.{declared.host_net.Dialed.Dialed, declared.host_net.StreamRead.StreamRead}
-use Rattle.vs_outside.specs.declared.host_net.StreamWrite.{StreamWrite}
-use Rattle.vs_page.specs.{Fair.IsFairLog, Held.FitsWire, Held.event_held, Held.held_in, Held.packet_held, Log.Device, Log.Driver}
+use Rattle.vs_outside.specs.Host.{read_failed, stream_at, write_answer, write_failed}
+use Rattle.vs_outside.specs.Faults.{CountsFault, one_more}
+use Rattle.vs_outside.specs.declared.host_net.{Dialed.Dialed, StreamRead.StreamRead, StreamWrite.StreamWrite}
+use Rattle.vs_page.specs.Held.{FitsWire, event_held, held_in, packet_held}
 use Rattle.vs_page.specs.declared.log.LogEntry.TheVariants.{GotPacket, PutEvent, PutPacket}
-use Rattle.vs_page.specs.Log.{IsNextPacket}
-use Rattle.vs_page.proofs.Entries.{next_fair}
-use Rattle.vs_ring_port.specs.Chains.{Held, bytes_in, same_chain, with_bytes, without_held}
+use Rattle.vs_page.{specs.Fair.IsFairLog, specs.Log.Device, specs.Log.Driver, specs.Log.IsNextPacket, proofs.Entries.next_fair}
+use Rattle.vs_ring_port.specs.Chains.{Held, bytes_in, same_chain, with_bytes, without_held, held_of}
 use Rattle.vs_ring_port.specs.Contents.{DeviceAnswer, DeviceCall, Given, PublishCid, Read, Return, RingContents, Take, Write}
 use Rattle.vs_ring_port.specs.DeviceCalls.{DeviceMoves, IsTakenAs, IsTakenWhole, IsWholePacket}
 use Rattle.vs_ring_port.specs.EndLog.{EndLog, entries_returned, log_reset, log_returned, log_taken, log_written, with_event, with_packet}
-use Rattle.vs_ring_port.specs.{Chains.held_of, Lists.Rings, Lists.after_return, Lists.after_take, Lists.next_at, Lists.next_given}
-use Rattle.vs_ring_port.specs.{Lists.queue_of, declared.device_ring.Chain.Chain, declared.queue.Queue.Queue}
+use Rattle.vs_ring_port.specs.Lists.{Rings, after_return, after_take, next_at, next_given, queue_of}
 use Rattle.vs_ring_port.specs.declared.queue.Queue.TheVariants.{Event, Rx, Tx}
-use Rattle.vs_ring_list.specs.Ends.{Ends, device_contents}
-use Rattle.vs_ring_list.proofs.Held.{same_chain_is}
+use Rattle.vs_ring_port.specs.declared.{device_ring.Chain.Chain, queue.Queue.Queue}
+use Rattle.vs_ring_list.{specs.Ends.Ends, specs.Ends.device_contents, proofs.Held.same_chain_is}
 use Rattle.vs_device_parts.specs.Calls.{Accept, Call, CloseStream, DeviceTree, Dial, HostMoves, IsFitAnswer, IsReadOf, Label, ReadStream}
 use Rattle.vs_device_parts.specs.{Calls.Ring, Calls.ShutWrite, Calls.Situation, Calls.TakesWithin, Calls.WriteStream, Playing.situation}
-use Rattle.laws_device.specs.Honest.{is_held}
-use Rattle.laws_device.proofs.{Keeping.Can, Keeping.Keeps, Keeping.Lets, Seats.PutsFit, Transmitting.header_is}
+use Rattle.laws_device.proofs.Keeping.{Can, Keeps, Lets}
+use Rattle.laws_device.{specs.Honest.is_held, proofs.Seats.PutsFit, proofs.Transmitting.header_is}
 use Rattle.laws_device_bytes.proofs.Short.{bytes_short, read_short, write_short}
 use Rattle.laws_world.specs.{Answers.Around, Answers.answer_around, Answers.bytes_with, Laws.AreQueued, Pages.PageHolds}
 use Rattle.laws_world.proofs.{Played.driver_got, Queues.device_keeps, Rings.AreGiven, Rings.given_left, Wire.next_fits}

@@ -6,26 +6,22 @@ use Rattle.vs_contents.specs.CallTree.{Done, played}
 use Rattle.vs_flow.specs.{Connection.Connection, Connection.first_of, Flow.same_flow, declared.flow.Flow.Flow}
 use Rattle.vs_page.specs.{Fair.current, Fair.number_of, Fair.payload_put, Log.Driver, Log.Log}
 use Rattle.vs_ring_port.specs.{DriverCalls.driver_answer, EndLog.EndLog, Lists.Rings}
-use Rattle.laws_tables.specs.{Both.Seat, Ends.Ends}
-use Rattle.laws_tables.proofs.Slots.{found_by}
-use Rattle.vs_driver_parts.specs.{Conversations.DriverTree, Conversations.not_sent, Connections.flow_of, Connections.recv_of}
-use Rattle.vs_driver_parts.specs.{State.DriverEntry, State.DriverState, State.entry_known_as}
-use Rattle.vs_driver_parts.specs.{State.gone_known_as, State.is_known_as, Steps.sends_on, declared.answers.Sent.Sent}
-use Rattle.vs_driver_parts.proofs.Known.{flow_known}
-use Rattle.laws_driver.specs.Honest.{slots_of}
-use Rattle.laws_driver.proofs.{Carrying.Carries, Carrying.Fact, Going.Goes, Putting.connect_puts, Putting.owed_puts, Putting.reply_puts}
-use Rattle.laws_driver.proofs.{Putting.send_puts, Walking.poll_goes}
-use Rattle.laws_driver_bytes.specs.Calls.{Connect, GuestCall, Journal, LookAt, Recv, ReplyTo, Send, account_of, bytes_sent, flow_named, id_named}
-use Rattle.laws_driver_bytes.specs.Calls.{is_on, is_right, makes_call, sent_of, sent_on, with_call}
-use Rattle.laws_driver_bytes.specs.{Received.Account, Received.AreReceived, Received.ReceivesOn, Sent.only_on}
-use Rattle.laws_driver_bytes.specs.Sent.{took}
+use Rattle.laws_tables.{specs.Both.Seat, specs.Ends.Ends, proofs.Slots.found_by}
+use Rattle.vs_driver_parts.specs.State.{DriverEntry, DriverState, entry_known_as, gone_known_as, is_known_as}
+use Rattle.vs_driver_parts.{specs.Conversations.DriverTree, specs.Conversations.not_sent, specs.Connections.flow_of}
+use Rattle.vs_driver_parts.{specs.Connections.recv_of, specs.Steps.sends_on, specs.declared.answers.Sent.Sent, proofs.Known.flow_known}
+use Rattle.laws_driver.proofs.Putting.{connect_puts, owed_puts, reply_puts, send_puts}
+use Rattle.laws_driver.{specs.Honest.slots_of, proofs.Carrying.Carries, proofs.Carrying.Fact, proofs.Going.Goes, proofs.Walking.poll_goes}
+use Rattle.laws_driver_bytes.specs.Calls.{Connect, GuestCall, Journal, LookAt, Recv, ReplyTo, Send, account_of, bytes_sent, flow_named}
 use Rattle.laws_driver_bytes.proofs.Making.{CarriesCall, account_after, at_first, call_goes, call_received, call_sent, further_as}
-use Rattle.laws_driver_bytes.proofs.{Making.further_journal, Making.port_fits, Making.sent_with, Polling.IsFurther, Polling.poll_carries}
-use Rattle.laws_driver_bytes.proofs.Sending.{poll_puts, puts_as}
+use Rattle.laws_driver_bytes.specs.Calls.{id_named, is_on, is_right, makes_call, sent_of, sent_on, with_call}
+use Rattle.laws_driver_bytes.proofs.Making.{further_journal, port_fits, sent_with}
+use Rattle.laws_driver_bytes.specs.{Received.Account, Received.AreReceived, Received.ReceivesOn, Sent.only_on, Sent.took}
+use Rattle.laws_driver_bytes.proofs.{Polling.IsFurther, Polling.poll_carries, Sending.poll_puts, Sending.puts_as}
 use Rattle.laws_device.proofs.Seats.{PutsFit}
+use Rattle.laws_world.proofs.Names.{Names, NamesFrom, NamesMay, StaysNamed, WaitsApart, call_named, flows, named_from, names_kept}
 use Rattle.laws_world.proofs.Journals.{Agrees, AllAgree, agree_on, either_none}
-use Rattle.laws_world.proofs.Keeping.{Sees, call_kept, poll_kept}
-use Rattle.laws_world.proofs.Names.{Names, NamesFrom, NamesMay, StaysNamed, WaitsApart, call_named, flows, named_from, names_kept, names_may, step_named}
+use Rattle.laws_world.proofs.{Keeping.Sees, Keeping.call_kept, Keeping.poll_kept, Names.names_may, Names.step_named}
 use Rattle.vs_driver_parts.specs.declared.answers.Sent.TheVariants as answers
 
 module _ (first : ℕ) (old : Seat) where

@@ -1,34 +1,30 @@
 -- Over list rings and a host in memory each call that failed is one that was to fail: a fault counted is one fewer to come.
 use Rattle.std.proofs.Common.{◌≡◌, ℕ, ◌+◌, ◌-◌, ◌≤◌, ◌==◌, ◌||◌, min, nat_lt, Bool, true, false, cond, List, [], ◌∷◌, length, map, filter}
 use Rattle.std.proofs.Common.{Option, Some, None, refl, sym, subst, arith}
-use Rattle.std.proofs.lemmas.Bool.Decides.{nat_tests}
-use Rattle.std.specs.Option.{option_map_or}
+use Rattle.std.{proofs.lemmas.Bool.Decides.nat_tests, specs.Option.option_map_or}
 use Rattle.vs_header.specs.declared.Header.{Header}
-use Rattle.vs_outside.specs.Faults.{counted_down, fails_next}
 use Rattle.vs_outside.specs.Host.{HostContents, Stream, accept_answer, after_accept, after_dial, after_failed, after_read, after_write}
-use Rattle.vs_outside.specs.Host.{called}
-use Rattle.vs_outside.specs.Host.{dial_answer, fails_now, is_listened, oldest_client, read_answer, read_of, stream_at, taken_of}
-use Rattle.vs_outside.specs.Host.{write_answer}
-use Rattle.vs_outside.specs.Host.{write_of}
+use Rattle.vs_outside.specs.Host.{called, dial_answer, fails_now, is_listened, oldest_client, read_answer, read_of, stream_at, taken_of}
+use Rattle.vs_outside.specs.Faults.{counted_down, fails_next}
+use Rattle.vs_outside.specs.Host.{write_answer, write_of}
 use Rattle.vs_outside.specs.declared.host_net.{Accepted.Accepted, Dialed.Dialed, StreamRead.StreamRead, StreamWrite.StreamWrite}
+use Rattle.vs_ring_port.specs.declared.device_ring.{Chain.Chain, Next.Next}
+use Rattle.vs_flow.specs.declared.flow.Flow.{Flow}
+use Rattle.vs_wrap.specs.Wrap.{counted}
+use Rattle.vs_device_parts.specs.State.{DeviceEntry, DeviceState}
+use Rattle.vs_proxy_parts.specs.{State.Handshake, State.ProxyState, Turns.proxy_reset_of, Turns.turn_of, declared.answers.Turn.Turn}
+use Rattle.laws_device_walk.proofs.Serving.{AfterEvent, AfterRead, AfterWrite, Closes, Fills, Writes}
+use Rattle.laws_device_walk.proofs.Turning.{AfterAccept, AfterByte, Between, Shakes, keeps_turn}
+use Rattle.laws_device_walk.{specs.Seen.Seen, specs.Seen.seen, proofs.Taking.AfterDial, proofs.Taking.Takes}
+use Rattle.laws_world.proofs.Resetting.{keeps_played, keeps_reset, playing}
+use Rattle.laws_world.specs.{Answers.Around, Plays.reset_line, Plays.turn_line, World.World, World.around}
 use Rattle.vs_outside.specs.declared.host_net.Accepted.TheVariants as accepted
 use Rattle.vs_outside.specs.declared.host_net.Dialed.TheVariants as dialed
 use Rattle.vs_outside.specs.declared.host_net.StreamRead.TheVariants as read
 use Rattle.vs_outside.specs.declared.host_net.StreamWrite.TheVariants as write
-use Rattle.vs_ring_port.specs.declared.{device_ring.Chain.Chain, device_ring.Next.Next}
 use Rattle.vs_ring_port.specs.declared.device_ring.Next.TheVariants as next
-use Rattle.vs_flow.specs.declared.flow.Flow.{Flow}
-use Rattle.vs_wrap.specs.Wrap.{counted}
-use Rattle.vs_device_parts.specs.{State.DeviceEntry, State.DeviceState}
-use Rattle.vs_proxy_parts.specs.{State.Handshake, State.ProxyState, Turns.proxy_reset_of, Turns.turn_of, declared.answers.Turn.Turn}
-use Rattle.laws_device_walk.specs.Seen.{Seen, seen}
-use Rattle.laws_device_walk.proofs.Serving.{AfterEvent, AfterRead, AfterWrite, Closes, Fills, Writes}
-use Rattle.laws_device_walk.proofs.Taking.{AfterDial, Takes}
 use Rattle.laws_device_walk.proofs.Serving as serving
 use Rattle.laws_device_walk.proofs.Taking as taking
-use Rattle.laws_device_walk.proofs.Turning.{AfterAccept, AfterByte, Between, Shakes, keeps_turn}
-use Rattle.laws_world.specs.{Answers.Around, Plays.reset_line, Plays.turn_line, World.World, World.around}
-use Rattle.laws_world.proofs.Resetting.{keeps_played, keeps_reset, playing}
 
 -- One call more leaves one fewer that is to fail, where it failed.
 shorter : (calls : List ℕ) → length (counted_down calls) + cond (fails_next calls) 1 0 ≤ length calls

@@ -1,30 +1,27 @@
 -- A fact of the driver's connections and of who waits, through each of the driver's steps and each call of the guest's: it is kept where small
 -- changes keep it.
-use Rattle.std.proofs.Common.{◌≡◌, ℕ, ◌==◌, ◌&&◌, Bool, true, false, not, cond, List, [], ◌∷◌, ◌++◌, length, filter, Option, Some, None, is_some}
-use Rattle.std.proofs.Common.{Result, Ok, Err, refl, ap, subst, ◌∙◌}
+use Rattle.std.proofs.Common.{◌≡◌, ℕ, ◌==◌, ◌&&◌, Bool, true, false, not, cond, List, [], ◌∷◌, ◌++◌, length, filter, Option, Some, None}
+use Rattle.std.proofs.Common.{is_some, Result, Ok, Err, refl, ap, subst, ◌∙◌}
 use Rattle.std.specs.List.{slice_get}
 use Rattle.vs_conn.specs.{End.ConnectionEnd, End.is_reset, declared.end.Owed.Owed, declared.end.State.State, declared.end.Verdict.Verdict}
-use Rattle.vs_flow.specs.{Table.IsRising, Table.IsTable, Table.Table, Table.entry_of, Table.entry_under, Table.without, declared.flow.Flow.Flow}
-use Rattle.vs_flow.proofs.Tables.{without_sound}
+use Rattle.vs_flow.specs.Table.{IsRising, IsTable, Table, entry_of, entry_under, without}
+use Rattle.vs_flow.{specs.declared.flow.Flow.Flow, proofs.Tables.without_sound}
 use Rattle.vs_header.specs.declared.Header.{Header}
 use Rattle.laws_history.specs.declared.packet.Packet.{Packet}
 use Rattle.vs_page.specs.{Log.Driver, Log.flow_to_guest, Open.is_dropped}
 use Rattle.vs_driver_parts.specs.State.{DriverConnection, DriverEntry, DriverState, GoneConnection, Listener, entry_known_as, gone_known_as}
-use Rattle.vs_driver_parts.specs.State.{is_known_as}
 use Rattle.vs_driver_parts.specs.Connections.{after_close, after_closing, after_leaving, after_read, after_recv, after_shut, after_shutdown}
-use Rattle.vs_driver_parts.specs.Connections.{after_unlisten, all_closed, all_gone_after_read, entry_closed, entry_read, gone_as, gone_closed}
-use Rattle.vs_driver_parts.specs.Connections.{is_let_go, next_flow, paid_connection, shut_in, waiting_on, waits_no_more, with_connection, with_end}
-use Rattle.vs_driver_parts.specs.Connections.{with_opened}
-use Rattle.vs_driver_parts.specs.{Connections.with_request, Connections.without_gone, Connections.without_listener, Conversations.after_paying}
+use Rattle.vs_driver_parts.specs.Connections.{after_unlisten, all_closed, all_gone_after_read, entry_closed, entry_read, gone_as}
+use Rattle.vs_driver_parts.specs.Connections.{gone_closed, is_let_go, next_flow, paid_connection, shut_in, waiting_on, waits_no_more}
+use Rattle.vs_driver_parts.specs.Receiving.{after_packet, after_verdict, all_left, ends_connection, is_request, may_open, on_heard}
+use Rattle.vs_driver_parts.specs.Connections.{with_connection, with_end, with_opened, with_request, without_gone, without_listener}
 use Rattle.vs_driver_parts.specs.Listening.{listen_of, listener_on, listening, next_accepted, with_port, with_waiting, without_id}
-use Rattle.vs_driver_parts.specs.declared.answers.ListenError.{ListenError}
-use Rattle.vs_driver_parts.specs.Receiving.{after_packet, after_verdict, all_left, ends_connection, is_request, may_open, on_heard, on_known}
-use Rattle.vs_driver_parts.specs.Receiving.{on_packet, on_unknown, reset_reply, with_reply}
+use Rattle.vs_driver_parts.specs.Receiving.{on_known, on_packet, on_unknown, reset_reply, with_reply}
+use Rattle.vs_driver_parts.specs.{State.is_known_as, Conversations.after_paying, declared.answers.ListenError.ListenError}
+use Rattle.vs_driver_parts.proofs.{Ids.found_under, Packets.first_under, Packets.others_left, SameIds.packet_id}
 use Rattle.vs_replies.specs.Owed.{reply_to}
 use Rattle.vs_wrap.specs.Wrap.{counted}
-use Rattle.vs_driver_parts.proofs.{Ids.found_under, Packets.first_under, Packets.others_left, SameIds.packet_id}
-use Rattle.laws_driver.specs.Honest.{IsFitState}
-use Rattle.laws_driver.proofs.{Carrying.Carries, Carrying.Fact, Changing.close_changes}
+use Rattle.laws_driver.{specs.Honest.IsFitState, proofs.Carrying.Carries, proofs.Carrying.Fact, proofs.Changing.close_changes}
 use Rattle.laws_driver_bytes.specs.Calls.{Accept, Close, Connect, GuestCall, Listen, LookAt, Recv, Send, Shutdown, Unlisten}
 use Rattle.laws_driver_bytes.proofs.Making.{CarriesCall}
 use Rattle.laws_world.proofs.Listeners.{AllIds}

@@ -1,33 +1,31 @@
 -- What is known of an id, and who waits on ports, through each change of the driver.
-use Rattle.std.proofs.Common.{◌≡◌, ◌≢◌, ℕ, suc, ◌+◌, ◌-◌, ◌<◌, ◌≤◌, ◌==◌, ◌&&◌, ◌||◌, ◌⊎◌, inl, inr, Bool, true, false, not, cond, List, [], ◌∷◌}
-use Rattle.std.proofs.Common.{◌++◌, find, drop, is_some, Contains, get_or, Option, Some, None, refl, sym, ap, subst, ◌∙◌, arith}
+use Rattle.std.proofs.Common.{◌≡◌, ◌≢◌, ℕ, suc, ◌+◌, ◌-◌, ◌<◌, ◌≤◌, ◌==◌, ◌&&◌, ◌||◌, ◌⊎◌, inl, inr, Bool, true, false, not, cond, List, []}
+use Rattle.std.proofs.Common.{◌∷◌, ◌++◌, find, drop, is_some, Contains, get_or, Option, Some, None, refl, sym, ap, subst, ◌∙◌, arith}
+use Rattle.std.proofs.lemmas.List.Elements.{All-contains, All-filter, All-map, All-push, filter_passes}
 use Rattle.std.specs.{List.All, Option.option_map, Option.option_or}
 use Rattle.std.proofs.lemmas.{Bool.Decides.nat_tests, List.Folds.find-append, Option.get_or_from_slice_get, Option.slice_get_within}
-use Rattle.std.proofs.lemmas.List.Elements.{All-contains, All-filter, All-map, All-push, filter_passes}
-use Rattle.vs_flow.specs.{Table.IsTable, Table.Table, Table.entry_under, Table.next_entry, Table.revalued, Table.without, declared.flow.Flow.Flow}
-use Rattle.vs_flow.proofs.{Entries.find_none, Entries.found_passes, Entries.none_found, Lookups.entry_under-with_entry}
-use Rattle.vs_flow.proofs.Lookups.{entry_under-with_value, entry_under-without, find_place}
+use Rattle.vs_flow.specs.Table.{IsTable, Table, entry_under, next_entry, revalued, without}
+use Rattle.vs_flow.proofs.Entries.{find_none, found_passes, none_found}
+use Rattle.vs_flow.proofs.Lookups.{entry_under-with_entry, entry_under-with_value, entry_under-without, find_place}
+use Rattle.vs_flow.specs.{declared.flow.Flow.Flow, Connection.Connection}
 use Rattle.vs_driver_parts.specs.State.{DriverConnection, DriverEntry, DriverState, GoneConnection, Listener, entry_known_as, gone_known_as}
-use Rattle.vs_driver_parts.specs.State.{is_known_as}
-use Rattle.vs_driver_parts.specs.Connections.{after_close, after_closing, all_gone_after_read, close_of, entry_closed, flow_of, gone_as, gone_closed}
-use Rattle.vs_driver_parts.specs.Connections.{is_known, is_let_go, waiting_on, with_connection, with_opened, without_gone}
-use Rattle.vs_driver_parts.specs.{Listening.is_answered, Listening.with_waiting, Listening.without_id, SlotFields.AreNumbered}
-use Rattle.vs_driver_parts.proofs.Known.{flow_gone, flow_known}
-use Rattle.vs_flow.specs.Connection.{Connection}
-use Rattle.laws_driver.specs.Honest.{slots_of}
+use Rattle.vs_driver_parts.specs.Connections.{after_close, after_closing, all_gone_after_read, close_of, entry_closed, flow_of, gone_as}
+use Rattle.vs_driver_parts.specs.Connections.{gone_closed, is_known, is_let_go, waiting_on, with_connection, with_opened, without_gone}
+use Rattle.vs_driver_parts.specs.Listening.{is_answered, with_waiting, without_id}
+use Rattle.vs_driver_parts.proofs.Ids.{HasId, entry_has, found_under, has_slot}
+use Rattle.vs_driver_parts.specs.{State.is_known_as, SlotFields.AreNumbered}
+use Rattle.vs_driver_parts.proofs.{Known.flow_gone, Known.flow_known, SameIds.closing_closed, SameIds.closing_id}
+use Rattle.laws_driver.{specs.Honest.slots_of, proofs.Carrying.Fact}
 use Rattle.laws_driver_bytes.specs.Received.{Account, AreReceived, ReceivedOn, ReceivesOn}
+use Rattle.laws_driver_bytes.specs.Calls.{Close, GuestCall, Journal, LookAt, ReplyTo, with_call}
 use Rattle.vs_conn.specs.End.{ConnectionEnd, answering}
 use Rattle.vs_header.specs.declared.Kind.TheVariants.{Stream}
 use Rattle.vs_limits.specs.declared.TheConstants.{BUF_ALLOC}
-use Rattle.vs_driver_parts.proofs.{Ids.HasId, Ids.entry_has, Ids.found_under, Ids.has_slot, SameIds.closing_closed, SameIds.closing_id}
-use Rattle.laws_tables.proofs.Slots.{found_by}
-use Rattle.laws_tables.specs.Ends.{Ends}
+use Rattle.laws_tables.{proofs.Slots.found_by, specs.Ends.Ends}
 use Rattle.vs_page.specs.Log.{Log}
-use Rattle.laws_driver.proofs.Carrying.{Fact}
-use Rattle.laws_driver_bytes.specs.Calls.{Close, GuestCall, Journal, LookAt, ReplyTo, with_call}
+use Rattle.laws_world.proofs.Listeners.{AllIds, AllWait, IsOfPort, IsOther, any_ids, ids_weaker, wait_less, wait_listened, wait_more}
 use Rattle.laws_world.specs.Names.{is_close, times_closed}
-use Rattle.laws_world.proofs.Listeners.{AllIds, AllWait, IsOfPort, IsOther, any_ids, ids_weaker, wait_less, wait_listened, wait_more, wait_unlistened}
-use Rattle.laws_world.proofs.Listeners.{wait_weaker, waiting_all}
+use Rattle.laws_world.proofs.Listeners.{wait_unlistened, wait_weaker, waiting_all}
 use Rattle.laws_world.proofs.Keeping.{AllKept, IsKept, MayMake, Sees, Sight, StaysSame, gone_with}
 use Rattle.vs_driver_parts.specs.declared.answers.Closed.TheVariants as closed
 

@@ -1,27 +1,26 @@
 -- No flow is used twice: its asker puts one REQUEST at most.
-use Rattle.std.proofs.{lemmas.Grind.common_steps, lemmas.Bool.Decides.nat_tests, Common.◌≡◌, Common.ℕ, Common.◌+◌, Common.◌≤◌, Common.Bool}
-use Rattle.std.proofs.Common.{true, false, cond, ◌&&◌, ◌++◌, List, [], ◌∷◌, length, Some, refl, sym, ap, subst, ◌∙◌, arith}
+use Rattle.std.proofs.Common.{◌≡◌, ℕ, ◌+◌, ◌≤◌, Bool, true, false, cond, ◌&&◌, ◌++◌, List, [], ◌∷◌, length, Some, refl, sym, ap, subst, ◌∙◌}
+use Rattle.std.proofs.{lemmas.Grind.common_steps, lemmas.Bool.Decides.nat_tests, Common.arith}
 use Rattle.vs_conn.specs.End.{ConnectionEnd, answering, asked, end_after, is_of, owes_of, paid_of, with_payload_sent}
 use Rattle.vs_flow.specs.{Flow.is_assigned, Flow.same_flow, declared.flow.Flow.Flow}
 use Rattle.vs_header.specs.declared.Header.{Header}
-use Rattle.laws_history.specs.{Again.count, Packets.is_request, Packets.is_rst, declared.packet.Packet.Packet, History.Answerer}
-use Rattle.laws_history.specs.History.{Asker, Got, History, Put, Side, gots, peer, puts}
-use Rattle.vs_limits.specs.declared.TheConstants.{BUF_ALLOC}
+use Rattle.laws_history.specs.History.{Answerer, Asker, Got, History, Put, Side, gots, peer, puts}
 use Rattle.laws_history.proofs.Lists.{count_append}
-use Rattle.vs_page.specs.{Fair.asked_by, Fair.number_of, Open.is_dropped, Log.Device, Log.Driver, Log.IsNextPacket, Log.Log, Log.Role}
-use Rattle.vs_page.specs.Log.{flow_got, flow_put, other_role, side_of, whole_of}
+use Rattle.laws_history.specs.{Again.count, Packets.is_request, Packets.is_rst, declared.packet.Packet.Packet}
+use Rattle.vs_limits.specs.declared.TheConstants.{BUF_ALLOC}
+use Rattle.vs_page.specs.Log.{Device, Driver, IsNextPacket, Log, Role, flow_got, flow_put, other_role, side_of, whole_of}
 use Rattle.vs_page.specs.declared.log.LogEntry.TheVariants.{GotPacket, PutPacket}
+use Rattle.vs_page.specs.{Fair.asked_by, Fair.number_of, Open.is_dropped}
 use Rattle.vs_page.proofs.{Entries.got_on, Entries.on_flow, Flows.opposite_by, Flows.same_is, Flows.same_self}
-use Rattle.laws_tables.specs.{Heard.own_port, Matches.MatchesFlows, Both.Asks, Both.Both, Both.Decides, Both.Decision}
-use Rattle.laws_tables.specs.Both.{Forgets, Forwards, Happening, IsSound, MakesReset, MayHappen, MayRun, Opens, Pays, PutsEvent, Replies, Seat, Sends}
-use Rattle.laws_tables.specs.Both.{Step, Takes, TakesEvent, TakesReset, after, after_packet}
-use Rattle.laws_tables.specs.{Both.answered, Both.at, Both.decided, Both.happens, Both.run, Both.start, Ends.Ends, Ends.FlowEnd, Ends.answer_kind}
-use Rattle.laws_tables.specs.{Ends.ends_of, Ends.is_new, Ends.replaced, Ends.without_flow, Steps.asking, Steps.is_kept}
-use Rattle.laws_tables.specs.Steps.{left, opened, owed_on, payload_on, port_after, reply_on, request_on, with_clean, with_connection}
-use Rattle.laws_tables.specs.Steps.{with_end}
-use Rattle.laws_tables.proofs.{Both.next_is_fair, Both.step_keeps, Fair.own_got_fair, Steps.owed_flow, Steps.request_flow, Tables.only_end}
-use Rattle.laws_tables.proofs.{Keeps.paid_old, Entries.added_other, Entries.added_same, Entries.replaced_other, Entries.replaced_same}
-use Rattle.laws_tables.proofs.Entries.{without_other, without_same}
+use Rattle.laws_tables.specs.Both.{Asks, Both, Decides, Decision, Forgets, Forwards, Happening, IsSound, MakesReset, MayHappen, MayRun}
+use Rattle.laws_tables.specs.Both.{Opens, Pays, PutsEvent, Replies, Seat, Sends, Step, Takes, TakesEvent, TakesReset, after, after_packet}
+use Rattle.laws_tables.specs.Steps.{asking, is_kept, left, opened, owed_on, payload_on, port_after, reply_on, request_on, with_clean}
+use Rattle.laws_tables.specs.Both.{answered, at, decided, happens, run, start}
+use Rattle.laws_tables.specs.Ends.{Ends, FlowEnd, answer_kind, ends_of, is_new, replaced, without_flow}
+use Rattle.laws_tables.proofs.Steps.{owed_flow, request_flow}
+use Rattle.laws_tables.proofs.Entries.{added_other, added_same, replaced_other, replaced_same, without_other, without_same}
+use Rattle.laws_tables.specs.{Heard.own_port, Matches.MatchesFlows, Steps.with_connection, Steps.with_end}
+use Rattle.laws_tables.proofs.{Both.next_is_fair, Both.step_keeps, Fair.own_got_fair, Tables.only_end, Keeps.paid_old}
 use Rattle.laws_world.specs.Sides.{AsksAnew, Runs, RunsAnew}
 use Rattle.laws_bytes.proofs.Firsts.{asker_asks, none_begun}
 use Rattle.vs_conn.specs.declared.end.Owed.TheVariants as owed

@@ -6,24 +6,20 @@ use Rattle.vs_flow.specs.Connection.{first_of}
 use Rattle.vs_limits.specs.declared.TheConstants.{ASSIGNED_FIRST, FIRST_PORT}
 use Rattle.vs_outside.specs.Host.{HostContents}
 use Rattle.vs_page.specs.{Fair.payload_put, Log.Driver, Log.Log}
-use Rattle.laws_tables.proofs.{Voices.AreVoiced, Voices.voices_start, Both.start_sound}
+use Rattle.laws_tables.{proofs.Voices.AreVoiced, proofs.Voices.voices_start, proofs.Both.start_sound, specs.Both.Both}
 use Rattle.laws_world.specs.{Pipes.IsFresh, Pages.AllHold, Pages.AllPacked, Events.happens, Events.run, Sides.both_of, Sides.driver_ends}
 use Rattle.laws_world.specs.{Sides.log_with_staged, World.World, World.opening, World.first_cid}
-use Rattle.vs_ring_port.specs.{EndLog.EndLog, EndLog.all_put, EndLog.entries_marked, Lists.Rings, DriverCalls.driver_answer}
-use Rattle.vs_ring_port.specs.{DriverCalls.Stage, DriverCalls.Publish, declared.queue.Queue.TheVariants.Rx}
-use Rattle.vs_ring_port.specs.declared.queue.Queue.TheVariants.{Event}
+use Rattle.laws_world.proofs.{Once.AreOnce, Once.start_once, Played.opening_queued, Runs.and_then, Sound.Goes, Sound.IsWell}
+use Rattle.laws_world.proofs.{Sound.goes_still, Sound.happens_goes, Listeners.AllWait, Listeners.IsOfPort, Names.named_then}
+use Rattle.vs_ring_port.specs.DriverCalls.{driver_answer, Stage, Publish}
+use Rattle.vs_ring_port.specs.declared.queue.Queue.TheVariants.{Rx, Event}
+use Rattle.vs_ring_port.specs.{EndLog.EndLog, EndLog.all_put, EndLog.entries_marked, Lists.Rings}
 use Rattle.vs_ring_list.specs.Ends.{empty_ends}
-use Rattle.laws_tables.specs.Both.{Both}
 use Rattle.vs_driver_parts.specs.Conversations.{DriverTree, load_cid, new_of, new_state, post_events, post_one, posts, publish_of}
 use Rattle.vs_driver_parts.specs.State.{DriverState}
-use Rattle.laws_driver.specs.{Honest.IsFitState, Honest.slots_of, Resets.MarksResets}
-use Rattle.laws_driver.proofs.Calls.{made_fits}
-use Rattle.laws_driver_bytes.specs.Received.{AreReceived, no_account}
-use Rattle.laws_driver_bytes.proofs.Connecting.{none_received}
+use Rattle.laws_driver.{specs.Honest.IsFitState, specs.Honest.slots_of, specs.Resets.MarksResets, proofs.Calls.made_fits}
+use Rattle.laws_driver_bytes.{specs.Received.AreReceived, specs.Received.no_account, proofs.Connecting.none_received}
 use Rattle.laws_device.proofs.Seats.{PutsFit}
-use Rattle.laws_world.proofs.{Once.AreOnce, Once.start_once, Played.opening_queued, Runs.and_then, Sound.Goes, Sound.IsWell}
-use Rattle.laws_world.proofs.{Listeners.AllWait, Listeners.IsOfPort, Names.named_then}
-use Rattle.laws_world.proofs.Sound.{goes_still, happens_goes}
 use Rattle.laws_device_bytes.proofs.Changing.{no_streams}
 use Rattle.laws_tables.specs.Both as both
 use Rattle.laws_world.specs.Events as events

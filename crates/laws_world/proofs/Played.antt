@@ -7,8 +7,7 @@ use Rattle.vs_ring_port.specs.{DriverCalls.driver_answer, EndLog.EndLog, Lists.R
 use Rattle.vs_driver_parts.specs.Conversations.{DriverTree, new_of}
 use Rattle.vs_limits.specs.declared.TheConstants.{FIRST_PORT}
 use Rattle.vs_ring_list.specs.Ends.{Ends, empty_ends}
-use Rattle.laws_world.specs.{Laws.AreQueued, Laws.IsQueued, World.opening}
-use Rattle.laws_world.proofs.Queues.{driver_keeps}
+use Rattle.laws_world.{specs.Laws.AreQueued, specs.Laws.IsQueued, specs.World.opening, proofs.Queues.driver_keeps}
 
 driver_played : {A : Type 0} (tree : DriverTree A) (lists : Rings) (log : EndLog) (device : Log) → AreQueued lists log.entries device
     → let r = (played driver_answer tree (lists, log)).1 in AreQueued r.0 r.1.entries device

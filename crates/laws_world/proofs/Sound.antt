@@ -1,56 +1,53 @@
 -- Each event is some of the steps of the two ends.
-use Rattle.std.proofs.{lemmas.Bool.Decides.nat_tests, lemmas.Bool.and_parts, Common.◌≡◌, Common.ℕ, Common.◌^◌, Common.◌<◌, Common.◌≤◌}
-use Rattle.std.proofs.Common.{◌&&◌, nat_le, Bool, true, false, List, [], ◌∷◌, ◌++◌, refl, sym, ap, subst, ◌∙◌, arith, append_assoc, Some}
-use Rattle.std.proofs.{Common.IfSome, Common.None, Common.Option, Common.is_some, Common.cond, lemmas.List.append-nil}
+use Rattle.std.proofs.Common.{◌≡◌, ℕ, ◌^◌, ◌<◌, ◌≤◌, ◌&&◌, nat_le, Bool, true, false, List, [], ◌∷◌, ◌++◌, refl, sym, ap, subst, ◌∙◌, arith}
+use Rattle.std.proofs.Common.{append_assoc, Some, IfSome, None, Option, is_some, cond}
+use Rattle.std.{proofs.lemmas.Bool.Decides.nat_tests, proofs.lemmas.Bool.and_parts, proofs.lemmas.List.append-nil, specs.Option.ForSome}
 use Rattle.vs_contents.specs.CallTree.{played, Done}
 use Rattle.laws_history.specs.declared.packet.Packet.{Packet}
-use Rattle.vs_outside.specs.{Host.HostContents, Host.with_stream, declared.mem_stream.HostWritten.HostWritten, HostProgram.after_fail}
-use Rattle.vs_outside.specs.HostProgram.{after_host_write, after_listen, after_unlisten, allowed, closed, ended, host_write_answer}
-use Rattle.vs_outside.specs.HostProgram.{with_bytes}
-use Rattle.vs_page.specs.{Held.held_in, Held.packet_held, Log.packets_put, Log.packets_got, Log.Device, Log.Log, Log.Driver, Fair.IsFairLog}
-use Rattle.vs_page.specs.{Fair.number_of, Fair.payload_put, Log.HasGotAll, Log.events_put}
+use Rattle.vs_outside.specs.HostProgram.{after_fail, after_host_write, after_listen, after_unlisten, allowed, closed, ended}
+use Rattle.vs_outside.specs.HostProgram.{host_write_answer, with_bytes}
+use Rattle.vs_outside.specs.{Host.HostContents, Host.with_stream, declared.mem_stream.HostWritten.HostWritten}
+use Rattle.vs_page.specs.Log.{packets_put, packets_got, Device, Log, Driver, HasGotAll, events_put}
+use Rattle.vs_page.specs.{Held.held_in, Held.packet_held, Fair.IsFairLog, Fair.number_of, Fair.payload_put}
 use Rattle.vs_ring_port.specs.{DriverCalls.driver_answer, declared.queue.Queue.Queue, Contents.RingContents, EndLog.EndLog, EndLog.Pages}
 use Rattle.vs_ring_port.specs.{EndLog.all_put, Lists.Rings, Chains.Held, declared.device_ring.Chain.Chain}
-use Rattle.laws_tables.specs.{Both.IsSound, Both.Seat, Ends.Ends}
-use Rattle.vs_driver_parts.specs.{Conversations.DriverTree, Conversations.publish_of, State.DriverState, Steps.takes_page}
-use Rattle.vs_driver_parts.specs.{Steps.stages_reply, Steps.stages_owed}
-use Rattle.vs_device_parts.specs.{Calls.DeviceTree, State.DeviceState, State.DeviceConnection, Streams.tick_slot, Steps.takes_chain}
-use Rattle.vs_device_parts.specs.Steps.{returns, puts_event, puts_reply, puts_owed, puts_payload, writes, shuts_write}
-use Rattle.vs_device_parts.specs.{Calls.Situation, Playing.IsRxChain, Playing.situation}
-use Rattle.vs_proxy_parts.specs.{State.ProxyState, State.Turning, State.start, State.with_device, State.Handshake, Turns.proxy_reset_of}
-use Rattle.vs_proxy_parts.specs.Handshakes.{accept_one, tick_handshake, read_byte}
-use Rattle.laws_world.specs.{Answers.answer_around, Laws.IsQueued, Pages.TxHolds, Events.Event, Events.GuestCalls, Events.GuestTakes}
-use Rattle.laws_world.specs.Events.{GuestReplies, GuestPays, GuestPublishes, DeviceTakes, DeviceReturns, DevicePutsEvent, DeviceReplies}
-use Rattle.laws_world.specs.Events.{DeviceReads, DevicePays, DeviceWrites, DeviceShutsWrite, ProxyAccepts, ProxyReads, Moment, TimesOut}
-use Rattle.laws_world.specs.Events.{HandshakeTimesOut, Reset, HostListens, HostUnlistens, ClientConnects, HostWrites, HostTakes, HostEnds}
-use Rattle.laws_world.specs.Events.{HostCloses, HostFails, at_moment, call_made, device_step, driver_step, happens, has_failed, holds}
-use Rattle.laws_world.specs.Events.{holds_event, is_at_rest, is_guest_cid, line_read, none_staged, proxy_step, reset_made, unless_failed}
-use Rattle.laws_world.specs.{Events.where_possible, Events.works_on, Sides.Runs, Sides.both_of, Sides.log_with_staged, World.World}
-use Rattle.laws_world.specs.World.{around, device_plays, driver_plays, first_cid}
+use Rattle.laws_tables.{specs.Both.IsSound, specs.Both.Seat, specs.Ends.Ends, proofs.Voices.AreVoiced}
+use Rattle.vs_driver_parts.specs.Conversations.{DriverTree, publish_of}
+use Rattle.vs_driver_parts.specs.{State.DriverState, Steps.takes_page, Steps.stages_reply, Steps.stages_owed}
+use Rattle.vs_device_parts.specs.Steps.{takes_chain, returns, puts_event, puts_reply, puts_owed, puts_payload, writes, shuts_write}
+use Rattle.vs_device_parts.specs.Playing.{IsRxChain, situation}
+use Rattle.vs_device_parts.specs.{Calls.DeviceTree, Calls.Situation, State.DeviceState, State.DeviceConnection, Streams.tick_slot}
+use Rattle.vs_proxy_parts.specs.State.{ProxyState, Turning, start, with_device, Handshake}
+use Rattle.vs_proxy_parts.specs.{Turns.proxy_reset_of, Handshakes.accept_one, Handshakes.tick_handshake, Handshakes.read_byte}
+use Rattle.laws_world.specs.Events.{Event, GuestCalls, GuestTakes, GuestReplies, GuestPays, GuestPublishes, DeviceTakes, DeviceReturns}
+use Rattle.laws_world.specs.Events.{DevicePutsEvent, DeviceReplies, DeviceReads, DevicePays, DeviceWrites, DeviceShutsWrite, ProxyAccepts}
+use Rattle.laws_world.specs.Events.{ProxyReads, Moment, TimesOut, HandshakeTimesOut, Reset, HostListens, HostUnlistens, ClientConnects}
+use Rattle.laws_world.specs.Events.{HostWrites, HostTakes, HostEnds, HostCloses, HostFails, at_moment, call_made, device_step, driver_step}
+use Rattle.laws_world.specs.Events.{happens, has_failed, holds, holds_event, is_at_rest, is_guest_cid, line_read, none_staged, proxy_step}
+use Rattle.laws_world.specs.World.{World, around, device_plays, driver_plays, first_cid}
+use Rattle.laws_world.proofs.DriverGoes.{After, Before, Left, Walks, call_left, call_walks, poll_left, poll_walks}
+use Rattle.laws_world.specs.{Answers.answer_around, Laws.IsQueued, Pages.TxHolds, Events.reset_made, Events.unless_failed}
+use Rattle.laws_world.specs.{Events.where_possible, Events.works_on, Sides.Runs, Sides.both_of, Sides.log_with_staged}
+use Rattle.laws_world.proofs.{DeviceGoes.carried, DeviceGoes.cids_kept, DeviceWalks.AllHeads, DriverWalks.Ties, DriverWalks.first_fair}
+use Rattle.laws_world.proofs.{DriverWalks.shown, DriverWalks.walk, Journals.AllAgree, Played.driver_got, Queues.pages_put, Runs.goes_run}
+use Rattle.laws_world.proofs.{Runs.keeps_sound, Runs.stays, Once.AreOnce, Once.keeps_once, Once.number_of_once, Wire.fit_rest, Keeping.Sees}
+use Rattle.laws_world.proofs.{Names.StaysNamed, Names.WaitsApart, Names.named_from, Names.named_still}
 use Rattle.laws_driver_bytes.specs.Calls.{Journal, LookAt, is_right, sent_on, makes_call, GuestCall, ReplyTo, account_of, with_call}
 use Rattle.laws_driver_bytes.specs.Received.{Account, AreReceived}
-use Rattle.laws_world.proofs.{DeviceGoes.carried, DeviceGoes.cids_kept, DeviceWalks.AllHeads, DriverGoes.After, DriverGoes.Before}
-use Rattle.laws_world.proofs.{DriverGoes.Left, DriverGoes.Walks, DriverGoes.call_left, DriverGoes.call_walks, DriverGoes.poll_left, DriverGoes.poll_walks, DriverWalks.Ties}
-use Rattle.laws_world.proofs.{DriverWalks.first_fair, DriverWalks.shown, DriverWalks.walk, Journals.AllAgree, Played.driver_got}
-use Rattle.laws_world.proofs.{Queues.pages_put, Runs.goes_run, Runs.keeps_sound, Runs.stays, Once.AreOnce, Once.keeps_once}
-use Rattle.laws_world.proofs.{Once.number_of_once, Wire.fit_rest, Keeping.Sees, Names.StaysNamed, Names.WaitsApart, Names.named_from, Names.named_still}
+use Rattle.laws_driver_bytes.proofs.{Making.made_with, Polling.IsFurther, Sending.puts_as}
 use Rattle.vs_flow.specs.{declared.flow.Flow.Flow, Table.Table, Connection.Connection, Connection.first_of}
+use Rattle.laws_device_bytes.specs.Streamed.{IsStreamed}
 use Rattle.laws_device_bytes.proofs.{Changing.StreamedIf, HostCalls.client_host, HostCalls.same_host, Hosts.unseen}
 use Rattle.vs_limits.specs.declared.TheConstants.{GUEST_CID_MIN, GUEST_CID_MAX, ASSIGNED_FIRST}
-use Rattle.laws_tables.proofs.Voices.{AreVoiced}
+use Rattle.laws_driver.proofs.Carrying.{Carries, Fact, Holds, IsTiedBy, RestsWith}
+use Rattle.laws_driver.proofs.Stepping.{Works, owed_with, publish_with, reply_with, takes_with}
 use Rattle.laws_driver.specs.{Honest.IsFitState, Honest.ends_of_state, Honest.slots_of, Resets.MarksResets, Staged.IsLeft}
-use Rattle.laws_driver.proofs.{Carrying.Carries, Carrying.Fact, Carrying.Holds, Carrying.IsTiedBy, Carrying.RestsWith, Keeping.Keeps}
-use Rattle.laws_driver.proofs.{Keeping.keeps_weaker, Staging.Rests, Staging.rests_tied, Stepping.Works, Stepping.owed_with}
-use Rattle.laws_driver.proofs.Stepping.{publish_with, reply_with, takes_with}
-use Rattle.laws_driver_bytes.proofs.{Making.made_with, Polling.IsFurther}
-use Rattle.laws_driver_bytes.proofs.Sending.{puts_as}
-use Rattle.laws_device_bytes.specs.Streamed.{IsStreamed}
+use Rattle.laws_driver.proofs.{Keeping.Keeps, Keeping.keeps_weaker, Staging.Rests, Staging.rests_tied}
 use Rattle.vs_ring_list.proofs.Held.{same_queue_is}
-use Rattle.std.specs.Option.{ForSome}
-use Rattle.laws_device.proofs.{Carrying.IsToldBy, Carrying.StreamedOver, Carrying.With, Chains.Among, Seats.AllFit, Seats.Carried}
-use Rattle.laws_device.proofs.{Seats.PutsFit, Keeping.keeps_then, Turning.tick_slot_keeps}
-use Rattle.laws_proxy.proofs.{Shaking.Goes-on, Shaking.Turns, Shaking.accepts, Shaking.reads_byte, Shaking.ticks, Turning.Proxied}
-use Rattle.laws_proxy.proofs.Turning.{proxy_reset_keeps}
+use Rattle.laws_device.proofs.Carrying.{IsToldBy, StreamedOver, With}
+use Rattle.laws_device.proofs.{Chains.Among, Seats.AllFit, Seats.Carried, Seats.PutsFit, Keeping.keeps_then, Turning.tick_slot_keeps}
+use Rattle.laws_proxy.proofs.Shaking.{Goes-on, Turns, accepts, reads_byte, ticks}
+use Rattle.laws_proxy.proofs.Turning.{Proxied, proxy_reset_keeps}
 use Rattle.vs_ring_list.specs.Ends.{Ends as RingEnds, device_contents}
 use Rattle.laws_device.specs.Honest.{is_held, IsFitState as IsFitDevice}
 use Rattle.laws_device.proofs.Keeping.{Keeps as DeviceKeeps, keeps_weaker as device_weaker}

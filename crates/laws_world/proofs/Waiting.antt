@@ -6,12 +6,11 @@ use Rattle.vs_device_parts.specs.State.{DeviceEntry}
 use Rattle.vs_flow.specs.declared.flow.Flow.{Flow}
 use Rattle.laws_history.specs.History.{Asker, Side, gots, puts}
 use Rattle.vs_page.specs.{Fair.asked_by, Fair.number_of, Log.Device, Log.Log, Log.side_of, Log.whole_of, Open.is_open}
-use Rattle.laws_tables.specs.{Ends.flows_of, Ends.is_among, Ends.is_new, Ends.new_flows, Ends.replied, Steps.HasEnd}
-use Rattle.laws_tables.proofs.{Slots.one_end, Tables.all_open, Tables.end_new}
+use Rattle.laws_tables.specs.Ends.{flows_of, is_among, is_new, new_flows, replied}
+use Rattle.laws_tables.{specs.Steps.HasEnd, proofs.Slots.one_end, proofs.Tables.all_open, proofs.Tables.end_new}
 use Rattle.laws_device.specs.Streams.{has_open_stream, is_waiting_for_request}
 use Rattle.laws_device.proofs.Waiting.{new_on, new_open, open_among, tied_by}
-use Rattle.laws_world.specs.{Sides.device_ends, World.World, World.first_cid}
-use Rattle.laws_world.proofs.Sound.{IsWell}
+use Rattle.laws_world.{specs.Sides.device_ends, specs.World.World, specs.World.first_cid, proofs.Sound.IsWell}
 
 module _ {fresh : Type 0} (w : World) (well : IsWell fresh w) where
   abbrev log : Log

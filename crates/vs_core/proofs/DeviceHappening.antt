@@ -1,25 +1,24 @@
 -- What the device, the proxy and the host's programs do is an event of the world.
 use Rattle.std.proofs.Common.{◌≡◌, ℕ, suc, ◌+◌, ◌&&◌, Bool, true, false, cond, List, [], ◌∷◌, Option, Some, Result, is_some, Contains, refl}
-use Rattle.std.proofs.{Common.sym, Common.ap, Common.subst, Common.◌∙◌, Common.arith, lemmas.Iterator.Adapters.position_from-zero}
-use Rattle.std.proofs.lemmas.Bool.{and_parts}
+use Rattle.std.proofs.Common.{sym, ap, subst, ◌∙◌, arith}
 use Rattle.std.specs.{Option.ForSome, List.position, List.position_from}
+use Rattle.std.proofs.lemmas.{Iterator.Adapters.position_from-zero, Bool.and_parts}
 use Rattle.vs_outside.specs.Host.{HostContents}
-use Rattle.vs_ring_port.specs.{Chains.Held, Chains.chains_of, Chains.same_chain, Chains.same_queue, declared.device_ring.Chain.Chain}
-use Rattle.vs_ring_port.specs.declared.{failure.Failure.Failure, queue.Queue.Queue}
-use Rattle.vs_ring_list.specs.Ends.{Ends}
-use Rattle.vs_ring_list.proofs.Held.{same_chain_is, same_queue_is}
+use Rattle.vs_ring_port.specs.Chains.{Held, chains_of, same_chain, same_queue}
+use Rattle.vs_ring_port.specs.declared.{device_ring.Chain.Chain, failure.Failure.Failure, queue.Queue.Queue}
+use Rattle.vs_ring_list.{specs.Ends.Ends, proofs.Held.same_chain_is, proofs.Held.same_queue_is}
 use Rattle.vs_device_parts.specs.{Calls.DeviceTree, Playing.IsAmong, State.DeviceState}
 use Rattle.laws_device_streams.specs.Streams.{HasStreams}
-use Rattle.vs_proxy_parts.specs.{Handshakes.read_byte, Handshakes.streams_of, State.ProxyState, State.Turning, State.start}
-use Rattle.vs_proxy_parts.specs.{State.with_device, Turns.proxy_reset_of}
+use Rattle.vs_proxy_parts.specs.State.{ProxyState, Turning, start, with_device}
+use Rattle.vs_proxy_parts.specs.{Handshakes.read_byte, Handshakes.streams_of, Turns.proxy_reset_of}
 use Rattle.laws_device.specs.Honest.{is_held}
 use Rattle.laws_world.specs.Events.{Event, Moment, device_step, happens, has_failed, host_step, line_read, proxy_step, reset_made, run}
-use Rattle.laws_world.specs.{Events.is_guest_cid, Events.unless_failed, Events.where_possible, Over.device_after, Over.proxy_after}
-use Rattle.laws_world.specs.{Over.reset_after, Pipes.IsFresh, World.World, World.opening}
+use Rattle.laws_world.specs.Events.{is_guest_cid, unless_failed, where_possible}
+use Rattle.laws_world.specs.{Over.device_after, Over.proxy_after, Over.reset_after, Pipes.IsFresh, World.World, World.opening}
 use Rattle.laws_world.proofs.{Opening.run_well, Sound.IsWell, Flown.LeavesDriver, OverBoth.IsPlayed, StayOpen.StayOpen, StayOpen.still_has}
 use Rattle.vs_core.specs.Ready.{Happens, IsReached, IsReady, IsServedAtWork, WorldState, shown, with_journal}
-use Rattle.vs_core.proofs.{Happening.happened, Happening.where_is, Stepped.driven_still, Stepped.line_after, Stepped.reset_played}
-use Rattle.vs_core.proofs.Stepped.{step_after, step_serves, turn_after, turn_serves}
+use Rattle.vs_core.proofs.Happening.{happened, where_is}
+use Rattle.vs_core.proofs.Stepped.{driven_still, line_after, reset_played, step_after, step_serves, turn_after, turn_serves}
 
 -- The test of the rings says what the events' says.
 found_from : (chain : Chain) (held : List Held) (i : ℕ)

@@ -6,19 +6,18 @@ use Rattle.vs_contents.specs.CallTree.{Done}
 use Rattle.vs_outside.specs.Host.{HostContents}
 use Rattle.vs_ring_port.specs.{Chains.chains_of, Contents.RingContents, EndLog.EndLog, declared.queue.Queue.Queue}
 use Rattle.vs_ring_list.specs.Ends.{Ends, driver_contents, flight_of, staged_of}
+use Rattle.vs_driver_parts.specs.Playing.{IsAtWork, IsRingOf, Plays, SamePages}
 use Rattle.vs_driver_parts.specs.{Conversations.DriverTree, Conversations.publish_of, Connections.after_unlisten, Listening.listen_of}
-use Rattle.vs_driver_parts.specs.{Listening.listener_on, Listening.listening, Playing.IsAtWork, Playing.IsRingOf, Playing.Plays}
-use Rattle.vs_driver_parts.specs.{Playing.SamePages, State.DriverState, Steps.stages_owed, Steps.stages_reply, Steps.takes_page}
-use Rattle.vs_driver_parts.specs.declared.answers.{ListenError.ListenError, NotListening.NotListening}
+use Rattle.vs_driver_parts.specs.{Listening.listener_on, Listening.listening, State.DriverState, Steps.stages_owed, Steps.stages_reply}
+use Rattle.vs_driver_parts.specs.{Steps.takes_page, declared.answers.ListenError.ListenError, declared.answers.NotListening.NotListening}
 use Rattle.laws_driver.specs.{Honest.IsHonestWith, Staged.IsWorkingWith}
-use Rattle.vs_device_parts.specs.{Calls.DeviceTree, Playing.IsAmong, State.DeviceState, Steps.takes_chain, Steps.returns, Steps.puts_event}
-use Rattle.vs_device_parts.specs.{Steps.puts_reply, Steps.puts_owed, Steps.puts_payload, Steps.writes, Steps.shuts_write, Streams.tick_slot}
+use Rattle.vs_device_parts.specs.Steps.{takes_chain, returns, puts_event, puts_reply, puts_owed, puts_payload, writes, shuts_write}
+use Rattle.vs_device_parts.specs.{Calls.DeviceTree, Playing.IsAmong, State.DeviceState, Streams.tick_slot}
 use Rattle.vs_proxy_parts.specs.{Handshakes.accept_one, Handshakes.tick_handshake, State.ProxyState}
 use Rattle.laws_world.specs.Events.{Event, call_made, device_step, driver_step, happens, has_failed, holds, is_at_rest, is_guest_cid}
 use Rattle.laws_world.specs.Events.{line_read, proxy_step, reset_made, run, unless_failed, where_possible, works_on}
-use Rattle.laws_world.specs.{World.World, World.first_cid, World.opening, Over.over_lists}
+use Rattle.laws_world.{specs.World.World, specs.World.first_cid, specs.World.opening, specs.Over.over_lists, proofs.OverLists.over}
 use Rattle.laws_driver_bytes.specs.Calls.{GuestCall, ReplyTo, is_right, makes_call}
-use Rattle.laws_world.proofs.OverLists.{over}
 use Rattle.vs_core.proofs.Driven.{driven_stays, honest_rest, rested, stepped, works_with}
 use Rattle.vs_core.specs.Ready.{Happens, IsDrivenAtWork, IsReached, IsReady, IsServedAtWork, WorldState, shown, with_journal}
 use Rattle.vs_core.specs.{Views.Steps, Views.Tells, Views.TellsWhere, declared.event.Reply.Reply}

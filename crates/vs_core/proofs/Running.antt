@@ -2,9 +2,8 @@
 use Rattle.std.proofs.Common.{◌≡◌, ℕ, ◌+◌, ◌<◌, ◌≤◌, List, [], ◌∷◌, length, map, drop, get_or, sym, ap, ◌∙◌}
 use Rattle.std.proofs.{Math.ListN.drop_of_length-le, lemmas.List.drop_more, lemmas.List.drop-map, lemmas.List.length-map}
 use Rattle.laws_world.specs.{Events.Event, Events.happens, Events.run, World.World}
-use Rattle.vs_core.specs.{Ready.WorldState, Ready.shown, Ready.with_journal, Views.event_view}
+use Rattle.vs_core.{specs.Ready.WorldState, specs.Ready.shown, specs.Ready.with_journal, specs.Views.event_view, proofs.Happening.run_blind}
 use Rattle.vs_core.specs.declared.event.Event as program
-use Rattle.vs_core.proofs.Happening.{run_blind}
 
 abbrev pub events_of : List program.Event → List Event
 events_of events = map event_view events

@@ -3,14 +3,13 @@ use Rattle.std.proofs.Common.{◌≡◌, ℕ, ◌==◌, Bool, true, false, not, 
 use Rattle.std.specs.List.{filter}
 use Rattle.vs_contents.specs.CallTree.{Done, Ask, bind}
 use Rattle.vs_contents.proofs.{Leads.leads_of, Leads.leads_bind, Conditions.may_of}
-use Rattle.vs_flow.specs.Table.{Table, with_value, without, revalued}
-use Rattle.vs_flow.proofs.Tables.{revalued-slot}
+use Rattle.vs_flow.{specs.Table.Table, specs.Table.with_value, specs.Table.without, specs.Table.revalued, proofs.Tables.revalued-slot}
 use Rattle.vs_wrap.specs.Wrap.{counted}
 use Rattle.vs_device_parts.specs.Calls.{Situation, DeviceTree, Allows, CloseStream}
-use Rattle.vs_device_parts.specs.State.{DeviceConnection, DeviceEntry, DeviceState}
 use Rattle.vs_device_parts.specs.Connections.{with_connection, stream_closed, after_leaving}
-use Rattle.vs_device_parts.specs.{Playing.CanMake, Playing.MayRun, Playing.MayClose, Playing.Runs, Streams.closing, Streams.leaving}
+use Rattle.vs_device_parts.specs.Playing.{CanMake, MayRun, MayClose, Runs}
 use Rattle.vs_device_parts.proofs.Under.{with_value_twice}
+use Rattle.vs_device_parts.specs.{State.DeviceConnection, State.DeviceEntry, State.DeviceState, Streams.closing, Streams.leaving}
 
 -- a stream is closed, or was
 module _ (e : DeviceEntry) (f : DeviceConnection → DeviceConnection) (s : DeviceState) where

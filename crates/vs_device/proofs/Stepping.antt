@@ -1,24 +1,23 @@
 -- What single steps come to.
 use Rattle.std.proofs.Common.{◌≡◌, ℕ, zero, suc, ◌<◌, Bool, true, false, not, cond, List, [], ◌∷◌, length, nat_le, nat_lt, ◌-◌, get_or}
 use Rattle.std.proofs.Common.{Option, Some, None, is_some, Result, Ok, Err, Contains, refl, sym, ap, subst, ◌∙◌, arith}
-use Rattle.std.proofs.Math.Path.{fun_ext}
-use Rattle.std.specs.Option.{IfSome, option_map_or}
+use Rattle.std.{proofs.Math.Path.fun_ext, specs.Option.IfSome, specs.Option.option_map_or}
 use Rattle.byteorder.specs.Endian.{little_bytes}
 use Rattle.vs_contents.specs.CallTree.{Done, Ask, bind}
 use Rattle.vs_contents.proofs.{Leads.leads_of, Leads.leads_bind, Conditions.may_first, Conditions.may_of}
 use Rattle.vs_device.proofs.{Trees.bind_assoc, Takings.Heard}
 use Rattle.vs_flow.specs.Table.{entry_under}
 use Rattle.vs_header.specs.{Packet.header_of, declared.TheConstants.HEADER_LEN, declared.Header.Header}
-use Rattle.vs_ring_port.specs.{Contents.Read, Contents.Return, Contents.Take, Contents.Write, declared.device_ring.Chain.Chain}
-use Rattle.vs_ring_port.specs.{declared.device_ring.Next.Next, declared.queue.Queue.Queue, Chains.held_after, Chains.same_chain}
-use Rattle.vs_ring_port.specs.{Chains.same_queue, Chains.without, declared.queue.Queue.TheVariants.Rx, declared.queue.Queue.TheVariants.Tx}
-use Rattle.vs_ring_port.specs.declared.{queue.Queue.TheVariants.Event, failure.Failure.Failure}
-use Rattle.vs_device_parts.specs.{State.DeviceEntry, State.DeviceState, Streams.Writing, Streams.shut_write, Streams.write_pending}
+use Rattle.vs_ring_port.specs.Contents.{Read, Return, Take, Write}
+use Rattle.vs_ring_port.specs.Chains.{held_after, same_chain, same_queue, without}
+use Rattle.vs_ring_port.specs.declared.queue.Queue.TheVariants.{Rx, Tx, Event}
+use Rattle.vs_ring_port.specs.declared.{device_ring.Chain.Chain, device_ring.Next.Next, queue.Queue.Queue, failure.Failure.Failure}
 use Rattle.vs_device_parts.specs.Steps.{chain_came, filling, heard_chain, puts_event, puts_owed, puts_reply, shuts_write, takes_chain}
-use Rattle.vs_device_parts.specs.{Steps.writes, Steps.writes_on, Steps.writing, Calls.Allows, Calls.DeviceTree, Calls.Ring, Calls.Situation}
-use Rattle.vs_device_parts.specs.{Playing.CanMake, Playing.IsAmong, Playing.IsRxChain, Playing.MayRun, Playing.Runs, Receiving.Filling}
-use Rattle.vs_device_parts.specs.{Receiving.event_on, Receiving.hold, Receiving.put_owed, Receiving.put_reply, Transmitting.failing}
-use Rattle.vs_device_parts.specs.Transmitting.{on_packet}
+use Rattle.vs_device_parts.specs.Calls.{Allows, DeviceTree, Ring, Situation}
+use Rattle.vs_device_parts.specs.Playing.{CanMake, IsAmong, IsRxChain, MayRun, Runs}
+use Rattle.vs_device_parts.specs.Receiving.{Filling, event_on, hold, put_owed, put_reply}
+use Rattle.vs_device_parts.specs.{State.DeviceEntry, State.DeviceState, Streams.Writing, Streams.shut_write, Streams.write_pending}
+use Rattle.vs_device_parts.specs.{Steps.writes, Steps.writes_on, Steps.writing, Transmitting.failing, Transmitting.on_packet}
 use Rattle.vs_limits.specs.declared.TheConstants.{DEVICE_REPLIES}
 use Rattle.vs_ring_port.specs.declared.device_ring.Next.TheVariants as next
 use Rattle.vs_ring_port.specs.declared.failure.Failure.TheVariants as failure

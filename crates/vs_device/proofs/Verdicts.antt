@@ -2,19 +2,18 @@
 use Rattle.std.proofs.Common.{◌≡◌, ℕ, true, Some, refl, sym, ap, subst, ◌∙◌}
 use Rattle.vs_contents.specs.CallTree.{Done, bind}
 use Rattle.vs_contents.proofs.{Leads.leads_of, Leads.leads_bind, Conditions.may_first, Conditions.may_of}
-use Rattle.vs_header.specs.declared.{Header.Header}
+use Rattle.vs_header.specs.declared.Header.{Header}
 use Rattle.vs_conn.specs.{End.is_reset, End.verdict_of, declared.end.Verdict.Verdict, declared.end.Why.Why}
-use Rattle.vs_conn.specs.declared.end.Verdict.TheVariants as verdict
-use Rattle.vs_conn.specs.declared.end.Why.TheVariants as why
 use Rattle.vs_flow.specs.Table.{entry_under}
 use Rattle.vs_ring_port.specs.declared.device_ring.Chain.{Chain}
-use Rattle.vs_device_parts.specs.{Calls.Situation, Calls.DeviceTree, Calls.Allows, State.DeviceConnection, State.DeviceEntry}
-use Rattle.vs_device_parts.specs.State.{DeviceState}
 use Rattle.vs_device_parts.proofs.Under.{has_slot, under_changed, with_its}
-use Rattle.vs_device_parts.specs.{Connections.with_connection, Connections.stream_closed, Connections.after_leaving, Playing.CanMake}
-use Rattle.vs_device_parts.specs.{Playing.MayRun, Playing.MayClose, Playing.Runs, Streams.leaving, Streams.closing, Taking.after_refusal}
-use Rattle.vs_device_parts.specs.{Taking.known_packet, Transmitting.heard, Transmitting.on_known}
+use Rattle.vs_device_parts.specs.Connections.{with_connection, stream_closed, after_leaving}
+use Rattle.vs_device_parts.specs.{Calls.Situation, Calls.DeviceTree, Calls.Allows, State.DeviceConnection, State.DeviceEntry}
+use Rattle.vs_device_parts.specs.{State.DeviceState, Playing.CanMake, Playing.MayRun, Playing.MayClose, Playing.Runs, Streams.leaving}
+use Rattle.vs_device_parts.specs.{Streams.closing, Taking.after_refusal, Taking.known_packet, Transmitting.heard, Transmitting.on_known}
 use Rattle.vs_device.proofs.Leaving.{may_close}
+use Rattle.vs_conn.specs.declared.end.Verdict.TheVariants as verdict
+use Rattle.vs_conn.specs.declared.end.Why.TheVariants as why
 
 -- the connection in a slot, once its end heard a packet
 pub record IsHeard (s m : DeviceState) (slot : ℕ) (e : DeviceEntry) (v : DeviceConnection) : Type 0 where

@@ -1,7 +1,6 @@
 -- Bytes that a stream took lie among those that were to be written.
 use Rattle.std.proofs.Common.{◌≡◌, ℕ, ◌+◌, ◌≤◌, ◌++◌, length, Option, Some, None, refl, sym, ap, subst, arith, length-append}
-use Rattle.std.specs.Option.{IfSome, option_map}
-use Rattle.std.proofs.lemmas.List.{length-take}
+use Rattle.std.{specs.Option.IfSome, specs.Option.option_map, proofs.lemmas.List.length-take}
 use Rattle.vs_flow.specs.Table.{Table, entry_under, value_under}
 use Rattle.vs_device_parts.specs.{State.DeviceConnection, State.DeviceEntry, Streams.to_write}
 

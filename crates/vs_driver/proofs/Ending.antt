@@ -7,13 +7,12 @@ use Rattle.vs_contents.proofs.Leads.{AllEnds, end_of, ends_bind, ends_weaker}
 use Rattle.vs_conn.specs.{End.may_send_of, End.wanting_credit, End.with_payload_sent, declared.end.Stop.Stop}
 use Rattle.vs_page.specs.declared.page.TheConstants.{PAYLOAD_MAX}
 use Rattle.vs_ring_port.specs.{declared.queue.Queue.TheVariants.Tx, Contents.RingContents, DriverCalls.Reap}
-use Rattle.vs_driver_parts.specs.{declared.answers.Sent.Sent, State.DriverEntry, State.DriverState, State.entry_known_as}
-use Rattle.vs_driver_parts.specs.{Connections.with_end, Conversations.DriverTree, Conversations.has_page, Conversations.no_credit}
-use Rattle.vs_driver_parts.specs.Conversations.{not_sent, payload_bytes, payload_of, post_packet, reap_all, reap_one, reaped, send_of}
-use Rattle.vs_driver_parts.specs.Conversations.{send_on, send_stopped, send_with_credit, send_with_page}
-use Rattle.vs_driver_parts.specs.Playing.{Plays, RingAllows}
-use Rattle.vs_driver_parts.specs.declared.answers.Sent.TheVariants as sent
+use Rattle.vs_driver_parts.specs.Conversations.{DriverTree, has_page, no_credit, not_sent, payload_bytes, payload_of, post_packet, reap_all}
+use Rattle.vs_driver_parts.specs.State.{DriverEntry, DriverState, entry_known_as}
+use Rattle.vs_driver_parts.specs.Conversations.{reap_one, reaped, send_of, send_on, send_stopped, send_with_credit, send_with_page}
+use Rattle.vs_driver_parts.specs.{declared.answers.Sent.Sent, Connections.with_end, Playing.Plays, Playing.RingAllows}
 use Rattle.vs_driver.specs.Outcomes.{KeepsAllButPages, Sends, SendsBy, SendsFront, SendsOn, SendsWith, sent_at_most}
+use Rattle.vs_driver_parts.specs.declared.answers.Sent.TheVariants as sent
 
 module _ {A : Type 0} (P : A → Type 0) where
   by_last : (n : ℕ) (step : A → DriverTree (A × Bool)) → ((x : A) → P x → AllEnds P (while_up_to n step x)) → (r : A × Bool) → P r.0

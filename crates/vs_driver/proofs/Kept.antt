@@ -2,8 +2,7 @@
 use Rattle.std.proofs.Common.{◌≡◌, ℕ, sym, subst}
 use Rattle.vs_ring_port.specs.Contents.{RingContents}
 use Rattle.vs_driver_parts.specs.State.{DriverState}
-use Rattle.laws_driver.specs.Honest.{IsFitState, IsHonestWith}
-use Rattle.laws_driver.proofs.{Calls.still_honest, Changing.Changes}
+use Rattle.laws_driver.{specs.Honest.IsFitState, specs.Honest.IsHonestWith, proofs.Calls.still_honest, proofs.Changing.Changes}
 
 pub kept : (first : ℕ) (s t u : DriverState) (c : RingContents) → (IsFitState s → Changes s u) → t ≡ u → IsHonestWith first s c
     → IsHonestWith first t c

@@ -11,12 +11,11 @@ use Rattle.byteorder.specs.Endian.{little_bytes}
 use Rattle.vs_header.specs.Packet.{header_bytes}
 use Rattle.vs_layout.specs.{Entry.desc_bytes, Layout.avail_entry, Layout.avail_idx, Layout.desc_entry}
 use Rattle.vs_guest_mem.specs.Memory.{after_write, is_inside}
-use Rattle.vs_ring_plain.specs.Device.{DeviceState as Side, areas_at, chains_held, with_change, with_memory}
 use Rattle.vs_ring_port.specs.declared.device_ring.Chain.{Chain}
-use Rattle.vs_script.specs.Hostile as hostile
 use Rattle.vs_hostile.specs.{Guest.guest_writes, Guest.poked, Guest.poked_at, Ready.IsServing}
-use Rattle.vs_report.specs.HostLines.{host_played}
-use Rattle.vs_report.proofs.HostPrograms.{Opens, host_opens}
+use Rattle.vs_report.{specs.HostLines.host_played, proofs.HostPrograms.Opens, proofs.HostPrograms.host_opens}
+use Rattle.vs_ring_plain.specs.Device.{DeviceState as Side, areas_at, chains_held, with_change, with_memory}
+use Rattle.vs_script.specs.Hostile as hostile
 
 has_opened : (others : List ℕ) (t : Table DeviceConnection) (h k : HostContents) → Opens h k → HasStreams others t h → HasStreams others t k
 has_opened others t h k opens has = record {

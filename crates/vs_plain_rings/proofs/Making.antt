@@ -1,8 +1,6 @@
 -- Rings that are made are in order.
 use Rattle.std.proofs.Common.{◌≡◌, ℕ, ◌+◌, ◌*◌, ◌-◌, ◌%◌, ◌≤◌, Bool, true, false, cond, Option, Some, None, IfSome, length, refl, ap, ◌∙◌}
-use Rattle.std.proofs.Common.{sym, ap₂, arith}
-use Rattle.std.specs.Prelude.{nat_le}
-use Rattle.std.proofs.lemmas.Bool.Decides.{nat_tests}
+use Rattle.std.{proofs.Common.sym, proofs.Common.ap₂, proofs.Common.arith, specs.Prelude.nat_le, proofs.lemmas.Bool.Decides.nat_tests}
 use Rattle.vs_guest_mem.specs.Memory.{Memory}
 use Rattle.vs_plain_driver.specs.{Queue.DriverQueueState, Queue.cleared_avail, View.ArePagesIn}
 use Rattle.vs_layout.specs.{Layout.queue_areas_of, declared.placement.QueueAreas.QueueAreas}

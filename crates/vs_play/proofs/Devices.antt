@@ -14,10 +14,9 @@ use Rattle.laws_proxy_streams.proofs.Lists.{none_open}
 use Rattle.laws_device.proofs.Carrying.{ring_only}
 use Rattle.laws_proxy.proofs.Turning.{new_proxy_with, proxy_reset_keeps, turn_keeps, plain_proxied}
 use Rattle.laws_proxy.proofs.Ordered.{reset_honest, reset_streams, turn_honest, turn_streams}
-use Rattle.laws_world.specs.World.{first_cid}
+use Rattle.laws_world.{specs.World.first_cid, proofs.Flown.LeavesDriver, proofs.OverBoth.IsPlayed, proofs.OverBoth.over}
 use Rattle.vs_play.specs.{Answer.base_path, Ready.IsDriven, Ready.IsServed, Told.Serves}
 use Rattle.vs_report.specs.DeviceLines.{reset_text, turn_text}
-use Rattle.laws_world.proofs.{Flown.LeavesDriver, OverBoth.IsPlayed, OverBoth.over}
 
 -- The rings stay the driver's.
 pub driven_still : (v w : Ends) → LeavesDriver v w → (s : DriverState) → IsDriven s v → IsDriven s w

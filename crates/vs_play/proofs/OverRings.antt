@@ -10,8 +10,7 @@ use Rattle.vs_proxy_parts.specs.State.{ProxyState}
 use Rattle.laws_proxy.specs.Order.{IsInOrder}
 use Rattle.vs_both_ends.specs.Seen.{IsDeviceOf, IsDriverOf}
 use Rattle.vs_play.specs.{Ready.IsDriven, Told.Answers}
-use Rattle.laws_world.specs.Over.{over_lists}
-use Rattle.laws_world.proofs.OverLists.{over}
+use Rattle.laws_world.{specs.Over.over_lists, proofs.OverLists.over}
 
 module _ (e : Ends) (n : ℕ) (flown waiting : Counts) (c : RingContents) (shows : IsDriverOf e n flown waiting c) where
   pub ring_of : (s : DriverState) → IsDriven s e → IsRingOf n flown waiting s

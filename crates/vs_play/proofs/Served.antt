@@ -7,9 +7,8 @@ use Rattle.vs_device_parts.specs.Playing.{IsItsRing}
 use Rattle.laws_device_streams.specs.Streams.{HasStreams}
 use Rattle.vs_proxy_parts.specs.{Handshakes.streams_of, State.ProxyState}
 use Rattle.laws_proxy.specs.Honest.{IsProxyWith}
-use Rattle.laws_world.specs.World.{first_cid}
+use Rattle.laws_world.{specs.World.first_cid, proofs.StayOpen.StayOpen, proofs.StayOpen.still_has}
 use Rattle.vs_play.specs.Ready.{IsServed}
-use Rattle.laws_world.proofs.StayOpen.{StayOpen, still_has}
 
 -- What the driver does leaves the device's log.
 pub served_rings : (s : ProxyState) (e w : Ends) (h : HostContents) → w.device ≡ e.device → IsServed s e h → IsServed s w h

@@ -5,17 +5,15 @@ use Rattle.vs_contents.specs.CallTree.{Done, bind, for_each, while_up_to}
 use Rattle.vs_contents.proofs.Leads.{AllEnds, ends_bind, ends_weaker}
 use Rattle.vs_flow.specs.{Table.entry_under, Table.slots, Table.refusal, declared.flow.Flow.Flow}
 use Rattle.vs_outside.specs.declared.host_net.StreamWrite.{StreamWrite}
-use Rattle.vs_outside.specs.declared.host_net.StreamWrite.TheVariants as write
-use Rattle.vs_ring_port.specs.declared.{device_ring.Next.Next}
-use Rattle.vs_ring_port.specs.declared.device_ring.Next.TheVariants as next
+use Rattle.vs_ring_port.specs.declared.device_ring.Next.{Next}
 use Rattle.vs_wrap.specs.Wrap.{counted}
-use Rattle.vs_device_parts.specs.Calls.{DeviceTree}
-use Rattle.vs_device_parts.specs.{State.DeviceConnection, State.DeviceState, State.DeviceEntry, Streams.closing, Streams.leaving}
-use Rattle.vs_device_parts.specs.Streams.{tick_slot, tick_of, Writing, pump_of, pump_slot, write_answered, write_pending, shut_write}
-use Rattle.vs_device_parts.specs.{Streams.to_write, Streams.is_written_out, Connections.is_timed_out, Connections.cut_off}
-use Rattle.vs_device_parts.specs.Connections.{stream_closed, with_fault, after_leaving}
-use Rattle.vs_device_parts.specs.{Receiving.event_on, Receiving.pay_event_of, Turns.open_of}
+use Rattle.vs_device_parts.specs.Streams.{closing, leaving, tick_slot, tick_of, Writing, pump_of, pump_slot, write_answered, write_pending}
+use Rattle.vs_device_parts.specs.Connections.{is_timed_out, cut_off, stream_closed, with_fault, after_leaving}
+use Rattle.vs_device_parts.specs.{Calls.DeviceTree, State.DeviceConnection, State.DeviceState, State.DeviceEntry, Streams.shut_write}
+use Rattle.vs_device_parts.specs.{Streams.to_write, Streams.is_written_out, Receiving.event_on, Receiving.pay_event_of, Turns.open_of}
 use Rattle.vs_proxy_parts.specs.Turning.{CountsFew}
+use Rattle.vs_outside.specs.declared.host_net.StreamWrite.TheVariants as write
+use Rattle.vs_ring_port.specs.declared.device_ring.Next.TheVariants as next
 
 pub one_more : (n : ℕ) → counted n ≤ n + 1
 one_more n = omega arith

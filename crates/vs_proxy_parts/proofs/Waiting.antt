@@ -2,13 +2,11 @@
 use Rattle.std.proofs.Common.{◌≡◌, ℕ, zero, suc, ◌<◌, ◌==◌, Bool, true, false, cond, List, [], ◌∷◌, ◌++◌, length, get_or, set, ltb, Option}
 use Rattle.std.proofs.Common.{Some, None, refl, sym, ap, ◌∙◌, arith}
 use Rattle.std.specs.List.{All, find, remove, position, position_or_len}
-use Rattle.std.proofs.lemmas.List.{Folds.find_at, Quantifiers.position-Some}
-use Rattle.std.proofs.lemmas.Option.{slice_get_past}
-use Rattle.std.proofs.lemmas.Bool.Decides.{nat_tests}
-use Rattle.vs_uds.specs.{ConnectLine.connect_port, ConnectLine.connect_step, Reading.fed, Reading.is_decided, Reading.port_or_bad}
-use Rattle.vs_uds.specs.declared.connect.TheConstants.{CONNECT_MAX}
-use Rattle.vs_uds.specs.declared.scan.Step.TheVariants as step
+use Rattle.std.proofs.lemmas.{List.Folds.find_at, List.Quantifiers.position-Some, Option.slice_get_past, Bool.Decides.nat_tests}
+use Rattle.vs_uds.specs.Reading.{fed, is_decided, port_or_bad}
+use Rattle.vs_uds.specs.{ConnectLine.connect_port, ConnectLine.connect_step, declared.connect.TheConstants.CONNECT_MAX}
 use Rattle.vs_proxy_parts.specs.{State.Handshake, Handshakes.with_line, Handshakes.without_stream}
+use Rattle.vs_uds.specs.declared.scan.Step.TheVariants as step
 
 abbrev is_on : ℕ → Handshake → Bool
 is_on stream h = h.stream == stream

@@ -1,9 +1,7 @@
 use Rattle.vs_device_parts.specs.{Streams.pump_of, Streams.tick_of, Turns.open_of}
-use Rattle.laws_device.proofs.{Carrying.ring_only, Keeping.keeps_end, Turning.opens_plain, Turning.pump_keeps, Turning.tick_keeps}
-use Rattle.laws_device.proofs.{Carrying.with_ring}
-use Rattle.laws_device.proofs.Carrying.{ring_end}
+use Rattle.laws_device.{proofs.Carrying.ring_only, proofs.Carrying.with_ring, proofs.Carrying.ring_end, proofs.Keeping.keeps_end}
+use Rattle.laws_device.{proofs.Turning.opens_plain, proofs.Turning.pump_keeps, proofs.Turning.tick_keeps, specs.Honest.port_after}
 use Rattle.std.proofs.Common.{[]}
-use Rattle.laws_device.specs.Honest.{port_after}
 use Rattle.laws_device.proofs.laws.law_of_other_calls.Goals as goal
 
 pub returns-clause-tick : goal.returns-clause-tick

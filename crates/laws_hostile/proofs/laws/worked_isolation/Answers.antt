@@ -1,6 +1,5 @@
 -- They are computed.
-use Rattle.std.proofs.Common.{refl}
-use Rattle.std.specs.Fmt.{digits}
+use Rattle.std.{proofs.Common.refl, specs.Fmt.digits}
 use Rattle.laws_hostile.proofs.laws.worked_isolation.Goals as goal
 
 pub returns-clause-changed : goal.returns-clause-changed

@@ -1,6 +1,5 @@
 use Rattle.vs_device_parts.specs.{Calls.Allows, Playing.CanMake}
-use Rattle.laws_device_streams.specs.Split.{CanReach}
-use Rattle.laws_device_streams.proofs.{Conditions.may_where, Conditions.quiet_can, Keeping.keeps_may}
+use Rattle.laws_device_streams.{specs.Split.CanReach, proofs.Conditions.may_where, proofs.Conditions.quiet_can, proofs.Keeping.keeps_may}
 use Rattle.vs_proxy_parts.specs.Turns.{proxy_reset_of, turn_of}
 use Rattle.laws_proxy_streams.proofs.Turning.{keeps_proxy_reset, keeps_turn}
 use Rattle.laws_proxy_streams.proofs.streams.law_of_reach.Goals as goal

@@ -1,7 +1,6 @@
 use Rattle.std.proofs.Common.{[]}
 use Rattle.vs_device_parts.specs.{Calls.Allows, Playing.CanMake}
-use Rattle.laws_device_streams.specs.Split.{CanReach}
-use Rattle.laws_device_streams.proofs.{Conditions.quiet_can, Keeping.keeps_end, Opening.new_has}
+use Rattle.laws_device_streams.{specs.Split.CanReach, proofs.Conditions.quiet_can, proofs.Keeping.keeps_end, proofs.Opening.new_has}
 use Rattle.vs_proxy_parts.specs.Turns.{proxy_reset_of, turn_of}
 use Rattle.laws_proxy_streams.proofs.{Lists.none_open, Turning.keeps_proxy_reset, Turning.keeps_turn}
 use Rattle.laws_proxy_streams.proofs.streams.law_of_streams.Goals as goal

@@ -1,7 +1,6 @@
 use Rattle.std.specs.Prelude.{ℕ, List}
 use Rattle.vs_outside.specs.Host.{HostContents}
-use Rattle.vs_page.specs.Log.{Device, Driver}
-use Rattle.vs_page.proofs.PayloadLogs.{prefix}
+use Rattle.vs_page.{specs.Log.Device, specs.Log.Driver, proofs.PayloadLogs.prefix}
 use Rattle.laws_world.specs.{Events.Event, Events.run, Laws.IsQueued, World.opening}
 use Rattle.laws_world.proofs.{Opening.run_well, Played.device_got, Played.driver_got}
 use Rattle.vs_core.proofs.laws.law_of_queues.Goals as goal

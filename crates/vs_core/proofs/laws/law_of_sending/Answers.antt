@@ -1,8 +1,7 @@
 use Rattle.vs_flow.specs.Connection.{first_of}
 use Rattle.std.proofs.Common.{ℕ, List, subst}
 use Rattle.vs_page.specs.{Fair.IsPrefixOf, Fair.payload_got, Log.Device}
-use Rattle.laws_world.specs.{Events.run, World.opening}
-use Rattle.laws_world.proofs.{Carried.sent_is, Carried.to_device, Opening.run_well}
+use Rattle.laws_world.{specs.Events.run, specs.World.opening, proofs.Carried.sent_is, proofs.Carried.to_device, proofs.Opening.run_well}
 use Rattle.vs_core.proofs.laws.law_of_sending.Goals as goal
 
 pub returns-clause-put : goal.returns-clause-put

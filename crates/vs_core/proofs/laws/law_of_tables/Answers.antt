@@ -1,9 +1,7 @@
 use Rattle.std.proofs.Common.{subst}
-use Rattle.laws_tables.specs.Matches.{Matches}
-use Rattle.laws_tables.proofs.Tables.{all_open, driver_open, reset_empty}
+use Rattle.laws_tables.{specs.Matches.Matches, proofs.Tables.all_open, proofs.Tables.driver_open, proofs.Tables.reset_empty}
 use Rattle.vs_page.specs.Log.{Device, Driver, Log}
-use Rattle.laws_world.specs.{Events.run, Sides.both_of, World.first_cid, World.opening}
-use Rattle.laws_world.proofs.Opening.{run_well}
+use Rattle.laws_world.{specs.Events.run, specs.Sides.both_of, specs.World.first_cid, specs.World.opening, proofs.Opening.run_well}
 use Rattle.vs_core.proofs.laws.law_of_tables.Goals as goal
 
 pub returns-clause-driver : goal.returns-clause-driver

@@ -1,5 +1,4 @@
-use Rattle.laws_world.specs.{Events.run, World.opening}
-use Rattle.laws_world.proofs.{Carried.to_guest, Carried.to_host, Opening.run_well}
+use Rattle.laws_world.{specs.Events.run, specs.World.opening, proofs.Carried.to_guest, proofs.Carried.to_host, proofs.Opening.run_well}
 use Rattle.vs_core.proofs.pipes.law_of_prefixes.Goals as goal
 
 pub returns-clause-to_guest : goal.returns-clause-to_guest

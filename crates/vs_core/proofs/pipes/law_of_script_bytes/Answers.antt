@@ -1,7 +1,6 @@
 use Rattle.std.proofs.Common.{subst}
-use Rattle.laws_world.specs.{Events.run, World.World, World.opening}
-use Rattle.laws_world.proofs.{Carried.ToGuest, Carried.ToHost, Carried.to_guest, Carried.to_host, Opening.run_well}
-use Rattle.laws_world.proofs.ScriptLines.{opened_leads}
+use Rattle.laws_world.proofs.Carried.{ToGuest, ToHost, to_guest, to_host}
+use Rattle.laws_world.{specs.Events.run, specs.World.World, specs.World.opening, proofs.Opening.run_well, proofs.ScriptLines.opened_leads}
 use Rattle.vs_core.proofs.pipes.law_of_script_bytes.Goals as goal
 
 pub returns-clause-to_guest : goal.returns-clause-to_guest

@@ -1,6 +1,5 @@
 use Rattle.laws_world.specs.World.{opened_host, opening}
-use Rattle.vs_core.specs.Ready.{IsReady}
-use Rattle.vs_core.proofs.Running.{IsLed}
+use Rattle.vs_core.{specs.Ready.IsReady, proofs.Running.IsLed}
 use Rattle.vs_core.proofs.step.run.Given as goal
 
 -- The next event may happen, and those that are left lead to where all lead.

@@ -4,8 +4,7 @@ use Rattle.vs_ring_list.specs.Ends.{Ends, driver_contents, empty_ends, flight_of
 use Rattle.vs_driver_parts.specs.{Conversations.new_of, Playing.Plays, State.DriverState}
 use Rattle.vs_limits.specs.declared.TheConstants.{FIRST_PORT}
 use Rattle.laws_driver.specs.Honest.{IsFresh, IsHonestWith}
-use Rattle.laws_world.proofs.OverLists.{over}
-use Rattle.laws_world.specs.Over.{over_lists}
+use Rattle.laws_world.{proofs.OverLists.over, specs.Over.over_lists}
 use Rattle.vs_core.proofs.{Driven.rested, Opened.cid_of}
 use Rattle.vs_core.proofs.world.guest_end.Goals as goal
 

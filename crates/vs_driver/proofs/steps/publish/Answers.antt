@@ -1,6 +1,5 @@
 use Rattle.vs_driver_parts.specs.Conversations.{publish_of}
-use Rattle.laws_driver.specs.Honest.{IsHonestWith}
-use Rattle.laws_driver.proofs.{Keeping.keeps_end, Keeping.keeps_may, Stepping.publish_keeps}
+use Rattle.laws_driver.{specs.Honest.IsHonestWith, proofs.Keeping.keeps_end, proofs.Keeping.keeps_may, proofs.Stepping.publish_keeps}
 use Rattle.vs_driver.proofs.steps.publish.Goals as goal
 
 pub publish-requires-clause-may : goal.publish-requires-clause-may

@@ -2,8 +2,7 @@ use Rattle.std.proofs.Common.{refl}
 use Rattle.vs_contents.proofs.Leads.{leads_of}
 use Rattle.vs_driver_parts.specs.{Playing.RingAllows, Steps.sends}
 use Rattle.laws_driver.proofs.{Keeping.keeps_end, Keeping.keeps_may, Stepping.sends_keeps}
-use Rattle.vs_driver.proofs.RingPages.{ring_same}
-use Rattle.vs_driver.proofs.Sending.{credit_then, held_then, may_now, sent_now}
+use Rattle.vs_driver.proofs.{RingPages.ring_same, Sending.credit_then, Sending.held_then, Sending.may_now, Sending.sent_now}
 use Rattle.vs_driver.proofs.steps.send.Goals as goal
 
 pub send_with_page-requires-clause-ring : goal.send_with_page-requires-clause-ring

@@ -1,5 +1,4 @@
-use Rattle.vs_hostile.specs.Ready.{IsReady}
-use Rattle.vs_hostile.proofs.Attacks.{Ran, held_lines}
+use Rattle.vs_hostile.{specs.Ready.IsReady, proofs.Attacks.Ran, proofs.Attacks.held_lines}
 use Rattle.vs_hostile.proofs.run.give_lines.Given as goal
 
 -- The next line may be run, and what the lines before it print was given.

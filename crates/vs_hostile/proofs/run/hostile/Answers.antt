@@ -1,9 +1,8 @@
 use Rattle.std.proofs.Common.{Ok, Err, ap, ◌≡◌, map, arith}
 use Rattle.vs_hostile.proofs.Attacks.{attack_given, attack_less, attack_until}
-use Rattle.vs_report.proofs.LinesGiven.{nothing_behind}
-use Rattle.vs_report.specs.declared.giving.GiveError.TheVariants.{OutOfMemory}
-use Rattle.vs_script.specs.Script.{numbered_hostile}
 use Rattle.vs_hostile.specs.{Answer.given, Answer.lines_of, Answer.texts_of, Run.beginning}
+use Rattle.vs_report.{proofs.LinesGiven.nothing_behind, specs.declared.giving.GiveError.TheVariants.OutOfMemory}
+use Rattle.vs_script.specs.Script.{numbered_hostile}
 use Rattle.vs_hostile.proofs.run.hostile.Goals as goal
 
 pub returns-in_err-give_lines-clause-lines : goal.returns-in_err-give_lines-clause-lines

@@ -1,6 +1,5 @@
 -- All are computed.
-use Rattle.std.proofs.Common.{refl}
-use Rattle.std.specs.Fmt.{digits}
+use Rattle.std.{proofs.Common.refl, specs.Fmt.digits}
 use Rattle.hex.specs.Hex.{encode_with}
 use Rattle.vs_hostile.proofs.worked.worked_failures.Goals as goal
 

@@ -1,5 +1,4 @@
-use Rattle.std.proofs.Common.{◌≡◌, ◌≤◌, length}
-use Rattle.std.specs.{List.range_with_len, VecDeque.deque_capacity}
+use Rattle.std.{proofs.Common.◌≡◌, proofs.Common.◌≤◌, proofs.Common.length, specs.List.range_with_len, specs.VecDeque.deque_capacity}
 use Rattle.vs_plain_driver.proofs.driver_queue.all_numbers.Given as goal
 
 abbrev pub invariant-loop-number : goal.invariant-loop-number

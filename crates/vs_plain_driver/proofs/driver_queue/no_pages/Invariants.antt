@@ -1,5 +1,4 @@
-use Rattle.std.proofs.Common.{◌≡◌, ◌≤◌, None, replicate}
-use Rattle.std.specs.Vec.{vec_capacity}
+use Rattle.std.{proofs.Common.◌≡◌, proofs.Common.◌≤◌, proofs.Common.None, proofs.Common.replicate, specs.Vec.vec_capacity}
 use Rattle.vs_plain_driver.proofs.driver_queue.no_pages.Given as goal
 
 abbrev pub invariant-loop : goal.invariant-loop

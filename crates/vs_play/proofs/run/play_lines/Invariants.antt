@@ -1,5 +1,4 @@
-use Rattle.vs_play.specs.Ready.{IsReady}
-use Rattle.vs_play.proofs.LinesPlayed.{Played, events_of}
+use Rattle.vs_play.{specs.Ready.IsReady, proofs.LinesPlayed.Played, proofs.LinesPlayed.events_of}
 use Rattle.vs_play.proofs.run.play_lines.Given as goal
 
 -- The next line may be played, and what the lines before it print was given.

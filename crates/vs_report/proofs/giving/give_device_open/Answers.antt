@@ -1,6 +1,5 @@
 use Rattle.std.proofs.Common.{[], arith}
-use Rattle.vs_report.specs.Report.{device_open_text}
-use Rattle.vs_report.proofs.LinesGiven.{nothing_given}
+use Rattle.vs_report.{specs.Report.device_open_text, proofs.LinesGiven.nothing_given}
 use Rattle.vs_report.proofs.giving.give_device_open.Goals as goal
 
 pub returns-in_err-push_device_open : goal.returns-in_err-push_device_open

@@ -1,6 +1,5 @@
 use Rattle.std.proofs.Common.{[], arith}
-use Rattle.vs_report.specs.Report.{stream_text}
-use Rattle.vs_report.proofs.LinesGiven.{nothing_given}
+use Rattle.vs_report.{specs.Report.stream_text, proofs.LinesGiven.nothing_given}
 use Rattle.vs_report.proofs.giving.give_stream.Goals as goal
 
 pub returns-in_err-push_stream : goal.returns-in_err-push_stream

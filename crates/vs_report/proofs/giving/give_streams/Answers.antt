@@ -1,6 +1,5 @@
 use Rattle.std.proofs.Common.{Err, Ok, ◌+◌, [], ◌∷◌, ap, arith, subst}
-use Rattle.vs_report.specs.{Report.stream_text, Gives.GivesLines}
-use Rattle.vs_report.proofs.Reports.{stream_given, streams_until}
+use Rattle.vs_report.{specs.Report.stream_text, specs.Gives.GivesLines, proofs.Reports.stream_given, proofs.Reports.streams_until}
 use Rattle.vs_report.proofs.giving.give_streams.Goals as goal
 
 pub returns-in_err-give_stream : goal.returns-in_err-give_stream

@@ -1,5 +1,4 @@
-use Rattle.std.proofs.Common.{arith}
-use Rattle.std.proofs.lemmas.List.{drop_more}
+use Rattle.std.proofs.{Common.arith, lemmas.List.drop_more}
 use Rattle.vs_ring_plain.proofs.Moving.{writes_more}
 use Rattle.vs_ring_plain.proofs.access.write_pieces.Goals as goal
 

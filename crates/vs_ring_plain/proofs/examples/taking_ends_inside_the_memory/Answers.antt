@@ -1,7 +1,6 @@
 use Rattle.std.proofs.Common.{◌≡◌, ℕ, ◌+◌, suc, subst, arith, IsTrue}
 use Rattle.vs_guest_mem.specs.Memory.{is_within}
-use Rattle.vs_ring_plain.specs.{Accesses.MakesAtMost, Chain.taking}
-use Rattle.vs_ring_plain.proofs.Taking.{taking_bounded}
+use Rattle.vs_ring_plain.{specs.Accesses.MakesAtMost, specs.Chain.taking, proofs.Taking.taking_bounded}
 use Rattle.vs_ring_plain.proofs.examples.taking_ends_inside_the_memory.Goals as goal
 
 pub returns : goal.returns

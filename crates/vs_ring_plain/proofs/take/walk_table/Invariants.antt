@@ -1,5 +1,4 @@
-use Rattle.std.proofs.Common.{◌≡◌, ◌-◌, length}
-use Rattle.std.specs.Prelude.{vec_capacity}
+use Rattle.std.{proofs.Common.◌≡◌, proofs.Common.◌-◌, proofs.Common.length, specs.Prelude.vec_capacity}
 use Rattle.vs_ring_plain.proofs.Walk.{Comes, along_table}
 use Rattle.vs_ring_plain.proofs.take.walk_table.Given as goal
 

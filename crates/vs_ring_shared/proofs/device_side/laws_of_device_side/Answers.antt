@@ -1,7 +1,6 @@
 use Rattle.std.proofs.Common.{◌≡◌, ◌+◌, length, subst}
 use Rattle.vs_ring_port.specs.{Chains.held_of, declared.queue.Queue.Queue}
-use Rattle.vs_ring_shared.specs.Sights.{DeviceSight, sight_in}
-use Rattle.vs_ring_shared.proofs.DeviceCalls.{held_between}
+use Rattle.vs_ring_shared.{specs.Sights.DeviceSight, specs.Sights.sight_in, proofs.DeviceCalls.held_between}
 use Rattle.vs_ring_shared.proofs.device_side.laws_of_device_side.Goals as goal
 
 pub returns-clause-held : goal.returns-clause-held

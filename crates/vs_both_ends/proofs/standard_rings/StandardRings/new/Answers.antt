@@ -1,6 +1,5 @@
 use Rattle.std.proofs.Common.{ap}
-use Rattle.vs_both_ends.specs.View.{known}
-use Rattle.vs_both_ends.proofs.Known.{are_known, new_ends}
+use Rattle.vs_both_ends.{specs.View.known, proofs.Known.are_known, proofs.Known.new_ends}
 use Rattle.vs_both_ends.proofs.standard_rings.StandardRings.new.Goals as goal
 
 pub invariant_of-result : goal.invariant_of-result

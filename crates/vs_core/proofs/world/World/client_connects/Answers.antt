@@ -1,9 +1,7 @@
 use Rattle.std.proofs.Common.{ap, refl, sym, subst}
 use Rattle.vs_outside.specs.HostProgram.{after_client}
-use Rattle.laws_world.specs.Events.{ClientConnects}
-use Rattle.vs_core.specs.Ready.{IsReady}
-use Rattle.vs_core.proofs.DeviceHappening.{host_did}
-use Rattle.laws_world.proofs.StayOpen.{client_stays}
+use Rattle.laws_world.{specs.Events.ClientConnects, proofs.StayOpen.client_stays}
+use Rattle.vs_core.{specs.Ready.IsReady, proofs.DeviceHappening.host_did}
 use Rattle.vs_core.proofs.world.World.client_connects.Goals as goal
 
 pub returns : goal.returns

@@ -1,9 +1,7 @@
 use Rattle.std.proofs.Common.{ap, refl, sym, subst}
 use Rattle.vs_outside.specs.{Host.with_stream, HostProgram.allowed}
-use Rattle.laws_world.specs.Events.{HostTakes}
-use Rattle.vs_core.specs.Ready.{IsReady}
-use Rattle.vs_core.proofs.DeviceHappening.{host_did}
-use Rattle.laws_world.proofs.StayOpen.{stream_stays}
+use Rattle.laws_world.{specs.Events.HostTakes, proofs.StayOpen.stream_stays}
+use Rattle.vs_core.{specs.Ready.IsReady, proofs.DeviceHappening.host_did}
 use Rattle.vs_core.proofs.world.World.host_takes.Goals as goal
 
 pub returns : goal.returns

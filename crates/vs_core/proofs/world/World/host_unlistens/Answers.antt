@@ -1,8 +1,7 @@
 use Rattle.std.proofs.{Common.ap, Common.refl, Common.sym, Common.subst, lemmas.Result.on_ok_weaker}
 use Rattle.vs_outside.specs.HostProgram.{after_unlisten}
 use Rattle.laws_world.specs.Events.{HostUnlistens}
-use Rattle.vs_core.specs.Ready.{IsReady}
-use Rattle.vs_core.proofs.DeviceHappening.{host_did}
+use Rattle.vs_core.{specs.Ready.IsReady, proofs.DeviceHappening.host_did}
 use Rattle.vs_header.specs.declared.Kind.TheVariants as kind
 use Rattle.vs_core.proofs.world.World.host_unlistens.Goals as goal
 

@@ -1,9 +1,7 @@
 use Rattle.std.proofs.Common.{ap, refl, sym, subst, ◌∙◌}
 use Rattle.vs_outside.specs.HostProgram.{after_host_write, host_write_answer}
-use Rattle.laws_world.specs.Events.{HostWrites}
-use Rattle.vs_core.specs.Ready.{IsReady}
-use Rattle.vs_core.proofs.DeviceHappening.{host_did}
-use Rattle.laws_world.proofs.StayOpen.{host_write_stays}
+use Rattle.laws_world.{specs.Events.HostWrites, proofs.StayOpen.host_write_stays}
+use Rattle.vs_core.{specs.Ready.IsReady, proofs.DeviceHappening.host_did}
 use Rattle.vs_core.proofs.world.World.host_writes.Goals as goal
 
 pub returns : goal.returns

@@ -1,8 +1,7 @@
 use Rattle.std.proofs.Common.{◌≡◌, true, refl, sym, subst}
 use Rattle.laws_world.specs.Events.{is_at_rest}
 use Rattle.laws_driver_bytes.proofs.SamePages.{listen_stays}
-use Rattle.vs_core.specs.Ready.{IsReady, WorldState}
-use Rattle.vs_core.proofs.Happening.{calls_in, listen_made}
+use Rattle.vs_core.{specs.Ready.IsReady, specs.Ready.WorldState, proofs.Happening.calls_in, proofs.Happening.listen_made}
 use Rattle.laws_driver_bytes.specs.Calls as call
 use Rattle.vs_core.proofs.world.World.listen.Goals as goal
 

@@ -1,6 +1,5 @@
 use Rattle.std.proofs.Common.{sym, subst}
-use Rattle.vs_core.specs.Ready.{IsReady}
-use Rattle.vs_core.proofs.DeviceHappening.{moment_did}
+use Rattle.vs_core.{specs.Ready.IsReady, proofs.DeviceHappening.moment_did}
 use Rattle.vs_core.proofs.world.World.moment.Goals as goal
 
 pub returns : goal.returns

@@ -1,8 +1,7 @@
 use Rattle.std.proofs.Common.{◌≡◌, true, false, refl, rules}
 use Rattle.vs_conn.specs.End.{is_reset}
-use Rattle.vs_device_parts.specs.Transmitting.{heard}
+use Rattle.vs_device_parts.{specs.Transmitting.heard, proofs.Under.with_its}
 use Rattle.vs_device.proofs.{Leaving.leaving_twice, Verdicts.heard_in, Verdicts.over}
-use Rattle.vs_device_parts.proofs.Under.{with_its}
 use Rattle.vs_device.proofs.device.Device.after_message.Goals as goal
 
 pub returns-then-is_reset-clause-calls : goal.returns-then-is_reset-clause-calls

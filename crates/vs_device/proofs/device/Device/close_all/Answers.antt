@@ -1,6 +1,5 @@
 use Rattle.std.proofs.Common.{◌<◌, length, ◌∙◌, rules}
-use Rattle.vs_device_parts.specs.Turns.{close_slot}
-use Rattle.vs_device_parts.proofs.Each.{each_more, may_each_step, may_each_more}
+use Rattle.vs_device_parts.{specs.Turns.close_slot, proofs.Each.each_more, proofs.Each.may_each_step, proofs.Each.may_each_more}
 use Rattle.vs_device.proofs.device.Device.close_all.Goals as goal
 
 pub close_slot-requires : goal.close_slot-requires

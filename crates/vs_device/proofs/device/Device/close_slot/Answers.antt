@@ -1,8 +1,7 @@
 use Rattle.std.proofs.Common.{◌≡◌, true, Some, is_some, sym, ap, ◌∙◌, rules}
 use Rattle.vs_flow.specs.Table.{entry_under, value_under}
-use Rattle.vs_device_parts.specs.State.{DeviceState}
+use Rattle.vs_device_parts.{specs.State.DeviceState, proofs.Under.some_value}
 use Rattle.vs_device.proofs.Resetting.{closes}
-use Rattle.vs_device_parts.proofs.Under.{some_value}
 use Rattle.vs_device.proofs.device.Device.close_slot.Goals as goal
 
 pub returns-then-is_some-clause-calls : goal.returns-then-is_some-clause-calls

@@ -1,10 +1,8 @@
 use Rattle.std.proofs.Common.{◌≡◌, Some, refl, sym}
 use Rattle.vs_contents.proofs.Leads.{leads_to}
 use Rattle.vs_flow.specs.Table.{entry_under, with_value}
-use Rattle.vs_device_parts.specs.{Calls.Allows, Connections.cut_off}
-use Rattle.vs_device.specs.contracts.device.Device.{the_view}
-use Rattle.vs_device.proofs.Leaving.{changed}
-use Rattle.vs_device_parts.proofs.Under.{has_slot, value_of}
+use Rattle.vs_device_parts.{specs.Calls.Allows, specs.Connections.cut_off, proofs.Under.has_slot, proofs.Under.value_of}
+use Rattle.vs_device.{specs.contracts.device.Device.the_view, proofs.Leaving.changed}
 use Rattle.vs_device.proofs.device.Device.cut_off.Goals as goal
 
 pub returns-clause-calls : goal.returns-clause-calls

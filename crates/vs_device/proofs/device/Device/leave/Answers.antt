@@ -1,9 +1,7 @@
 use Rattle.std.proofs.Common.{◌≡◌, Some, rules}
 use Rattle.vs_flow.specs.Table.{entry_under}
-use Rattle.vs_device_parts.specs.{Connections.stream_closed, State.DeviceEntry}
-use Rattle.vs_device.specs.contracts.device.Device.{the_view}
-use Rattle.vs_device.proofs.Leaving.{leaves, left}
-use Rattle.vs_device_parts.proofs.Under.{has_slot}
+use Rattle.vs_device_parts.{specs.Connections.stream_closed, specs.State.DeviceEntry, proofs.Under.has_slot}
+use Rattle.vs_device.{specs.contracts.device.Device.the_view, proofs.Leaving.leaves, proofs.Leaving.left}
 use Rattle.vs_wrap.specs.Wrap.{counted}
 use Rattle.vs_device.proofs.device.Device.leave.Goals as goal
 

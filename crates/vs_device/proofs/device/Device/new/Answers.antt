@@ -1,13 +1,11 @@
 use Rattle.std.proofs.Common.{ℕ, ◌<◌, ◌^◌, List, [], Some, sym, ap, subst, arith}
 use Rattle.vs_flow.specs.Table.{Table}
-use Rattle.vs_replies.specs.{declared.Replies.Replies, declared.Reply.Reply}
+use Rattle.vs_replies.specs.declared.{Replies.Replies, Reply.Reply}
 use Rattle.vs_ring_port.specs.Contents.{RingContents}
 use Rattle.vs_device_parts.specs.{State.DeviceConnection, Turns.new_device}
-use Rattle.laws_device.specs.Honest.{IsWith}
-use Rattle.laws_device.proofs.Turning.{new_with}
+use Rattle.laws_device.{specs.Honest.IsWith, proofs.Turning.new_with}
 use Rattle.vs_limits.specs.declared.TheConstants.{DEVICE_CONNECTIONS}
-use Rattle.laws_proxy_bytes.specs.Told.{AreAccounted}
-use Rattle.laws_proxy_bytes.proofs.Turning.{new_accounted}
+use Rattle.laws_proxy_bytes.{specs.Told.AreAccounted, proofs.Turning.new_accounted}
 use Rattle.vs_device.proofs.device.Device.new.Goals as goal
 
 -- A new device, where its table and its replies are these.

@@ -1,12 +1,9 @@
 use Rattle.std.proofs.Common.{◌≡◌, ℕ, Some, sym, ap, subst, ◌∙◌}
-use Rattle.vs_flow.specs.Table.{entry_of, entry_under}
+use Rattle.vs_flow.{specs.Table.entry_of, specs.Table.entry_under, specs.declared.flow.Flow.Flow, proofs.Lookups.entry_of_found}
 use Rattle.vs_page.specs.Log.{flow_to_host}
-use Rattle.vs_flow.specs.declared.flow.Flow.{Flow}
-use Rattle.vs_device_parts.specs.{Playing.MayRun, Playing.situation, State.DeviceEntry, State.DeviceState, Taking.known_packet}
-use Rattle.vs_flow.proofs.Lookups.{entry_of_found}
 use Rattle.vs_device_parts.proofs.Under.{IsMapped, mapped}
-use Rattle.vs_device.proofs.{Takings.may_be_known, Takings.was_known, Reading.same_entry}
-use Rattle.vs_device.proofs.device.Device.on_packet.Goals.{In-Some}
+use Rattle.vs_device_parts.specs.{Playing.MayRun, Playing.situation, State.DeviceEntry, State.DeviceState, Taking.known_packet}
+use Rattle.vs_device.proofs.{Takings.may_be_known, Takings.was_known, Reading.same_entry, device.Device.on_packet.Goals.In-Some}
 use Rattle.vs_device.proofs.device.Device.on_packet.Goals as goal
 
 -- the connection that was found, by its slot and by its flow

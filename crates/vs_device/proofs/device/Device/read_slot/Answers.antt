@@ -3,13 +3,11 @@ use Rattle.std.proofs.lemmas.Bool.Decides.{nat_tests}
 use Rattle.vs_contents.proofs.Leads.{leads_of}
 use Rattle.vs_credit.specs.Credit.{free_of}
 use Rattle.vs_flow.specs.Table.{entry_under}
-use Rattle.vs_device_parts.specs.{Filling.filling_of, Playing.MayRun, Playing.RunsOnRing, Playing.situation, Receiving.Filling}
-use Rattle.vs_device_parts.specs.{Receiving.hold, Receiving.may_read, Receiving.read_with_chain, State.DeviceConnection, State.DeviceEntry}
-use Rattle.vs_device_parts.specs.State.{DeviceState}
-use Rattle.vs_device_parts.proofs.Under.{value_of}
-use Rattle.vs_device.proofs.Among.{among, ring_of, same_ring}
+use Rattle.vs_device_parts.specs.Receiving.{Filling, hold, may_read, read_with_chain}
+use Rattle.vs_device_parts.{specs.Filling.filling_of, specs.Playing.MayRun, specs.Playing.RunsOnRing, specs.Playing.situation}
+use Rattle.vs_device_parts.{specs.State.DeviceConnection, specs.State.DeviceEntry, specs.State.DeviceState, proofs.Under.value_of}
 use Rattle.vs_device.proofs.Reading.{IsToRead, if_some, may_read_then, not_read, read_then, reads_stream, same_entry}
-use Rattle.vs_device.proofs.device.Device.read_slot.Goals.{After-hold}
+use Rattle.vs_device.proofs.{Among.among, Among.ring_of, Among.same_ring, device.Device.read_slot.Goals.After-hold}
 use Rattle.vs_device.proofs.device.Device.read_slot.Goals as goal
 
 -- the connection whose stream is to be read, with the chain that is held then

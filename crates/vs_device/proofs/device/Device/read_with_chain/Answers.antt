@@ -3,17 +3,16 @@ use Rattle.vs_contents.proofs.{Leads.leads_bind, Conditions.may_first}
 use Rattle.vs_conn.specs.End.{CanSend}
 use Rattle.vs_flow.specs.Table.{entry_under, value_under}
 use Rattle.vs_header.specs.declared.TheConstants.{HEADER_LEN}
-use Rattle.vs_outside.specs.declared.host_net.StreamRead.TheVariants as read
 use Rattle.vs_ring_port.specs.declared.device_ring.Chain.{Chain}
 use Rattle.vs_wrap.specs.Wrap.{counted}
-use Rattle.vs_device_parts.specs.{Connections.with_fault, Connections.after_shut, Connections.cut_off, Filling.filling_of}
-use Rattle.vs_device_parts.specs.{Connections.with_connection, Playing.MayRun, Playing.RunsOnHost, Playing.situation, Receiving.Filling}
-use Rattle.vs_device_parts.specs.{Receiving.may_read, Receiving.put_payload, State.DeviceConnection, State.DeviceState, Streams.closing}
-use Rattle.vs_device.specs.contracts.device.Device.{the_view}
-use Rattle.vs_device.proofs.{Leaving.changed, Leaving.may_close, Reading.answered, Reading.may_ask, Reading.may_answered, Reading.if_some}
-use Rattle.vs_device.proofs.{Reading.at_some, Reading.fits, Reading.is_read, Among.held_one}
+use Rattle.vs_device_parts.specs.Connections.{with_fault, after_shut, cut_off, with_connection}
 use Rattle.vs_device_parts.proofs.Under.{has_slot, value_of, under}
+use Rattle.vs_device_parts.specs.{Filling.filling_of, Playing.MayRun, Playing.RunsOnHost, Playing.situation, Receiving.Filling}
+use Rattle.vs_device_parts.specs.{Receiving.may_read, Receiving.put_payload, State.DeviceConnection, State.DeviceState, Streams.closing}
+use Rattle.vs_device.proofs.Reading.{answered, may_ask, may_answered, if_some, at_some, fits, is_read}
+use Rattle.vs_device.{specs.contracts.device.Device.the_view, proofs.Leaving.changed, proofs.Leaving.may_close, proofs.Among.held_one}
 use Rattle.laws_device.proofs.Filling.{can_send}
+use Rattle.vs_outside.specs.declared.host_net.StreamRead.TheVariants as read
 use Rattle.vs_device.proofs.device.Device.read_with_chain.Goals as goal
 
 pub read_into-requires-clause-open : goal.read_into-requires-clause-open

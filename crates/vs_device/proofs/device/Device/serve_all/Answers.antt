@@ -1,8 +1,7 @@
 use Rattle.std.proofs.Common.{◌≡◌, ℕ, List, ◌<◌, ◌≤◌, length, ap, ◌∙◌, rules, arith}
 use Rattle.vs_flow.specs.Table.{slots}
-use Rattle.vs_device_parts.specs.Filling.{filling_of}
-use Rattle.vs_device_parts.specs.{Receiving.Filling, Receiving.serve_slot, Receiving.round_from, State.DeviceState}
 use Rattle.vs_device_parts.proofs.Each.{each_more, may_each_step, may_each_more, each_end}
+use Rattle.vs_device_parts.specs.{Filling.filling_of, Receiving.Filling, Receiving.serve_slot, Receiving.round_from, State.DeviceState}
 use Rattle.vs_device.proofs.device.Device.serve_all.Goals as goal
 
 pub loop-slot-init : goal.loop-slot-init

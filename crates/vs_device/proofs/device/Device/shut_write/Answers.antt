@@ -1,11 +1,10 @@
 use Rattle.std.proofs.Common.{◌≡◌, ℕ, true, sym, ap, subst, ◌∙◌, rules}
 use Rattle.vs_flow.specs.Table.{Table, with_value}
-use Rattle.vs_device_parts.specs.{Calls.Allows, Calls.ShutWrite, State.DeviceConnection, State.DeviceEntry, State.DeviceState}
-use Rattle.vs_device_parts.specs.{Connections.with_connection, Playing.Runs, Playing.situation, Streams.shut_write, Streams.is_written_out}
-use Rattle.vs_device_parts.specs.Written.{writing}
-use Rattle.vs_device.specs.contracts.device.Device.{the_view}
+use Rattle.vs_device_parts.specs.State.{DeviceConnection, DeviceEntry, DeviceState}
 use Rattle.vs_device_parts.proofs.Under.{under, value_of}
-use Rattle.vs_device.proofs.Pumping.{was_shut}
+use Rattle.vs_device_parts.specs.{Calls.Allows, Calls.ShutWrite, Connections.with_connection, Playing.Runs, Playing.situation}
+use Rattle.vs_device_parts.specs.{Streams.shut_write, Streams.is_written_out, Written.writing}
+use Rattle.vs_device.{specs.contracts.device.Device.the_view, proofs.Pumping.was_shut}
 use Rattle.vs_device.proofs.device.Device.shut_write.Goals as goal
 
 pub returns-clause-calls : goal.returns-clause-calls

@@ -1,7 +1,6 @@
 use Rattle.std.proofs.Common.{sym, subst}
 use Rattle.vs_device_parts.specs.{State.DeviceState, Turns.table_shown}
-use Rattle.laws_device.specs.Honest.{AgreesWith, IsLeftOpen}
-use Rattle.laws_device.proofs.Shown.{left_open}
+use Rattle.laws_device.{specs.Honest.AgreesWith, specs.Honest.IsLeftOpen, proofs.Shown.left_open}
 use Rattle.vs_device.specs.contracts.device.Device.{the_view}
 use Rattle.vs_device.proofs.device.Device.table.Goals as goal
 

@@ -1,6 +1,5 @@
 use Rattle.std.proofs.Common.{◌≡◌, ℕ, suc, List, ◌∷◌, ◌+◌, map, drop, Some, drop-cons, add-one, sym, ap, ◌∙◌, rules}
-use Rattle.std.specs.List.{slice_get}
-use Rattle.std.proofs.lemmas.Option.{slice_get_within, get_or_from_slice_get}
+use Rattle.std.{specs.List.slice_get, proofs.lemmas.Option.slice_get_within, proofs.lemmas.Option.get_or_from_slice_get}
 use Rattle.vs_conn.specs.declared.end.State.{State}
 use Rattle.vs_flow.specs.declared.flow.Flow.{Flow}
 use Rattle.vs_device_parts.specs.State.{DeviceEntry}

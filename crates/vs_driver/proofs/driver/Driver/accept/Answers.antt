@@ -1,8 +1,7 @@
 use Rattle.std.proofs.Common.{◌≡◌, rules}
 use Rattle.vs_driver_parts.specs.{State.DriverState, Listening.after_accept}
-use Rattle.vs_driver.specs.contracts.driver.Driver.{the_view}
+use Rattle.vs_driver.{specs.contracts.driver.Driver.the_view, proofs.Kept.kept}
 use Rattle.laws_driver.proofs.Changing.{accept_changes}
-use Rattle.vs_driver.proofs.Kept.{kept}
 use Rattle.vs_driver.proofs.driver.Driver.accept.Goals as goal
 
 pub returns-in-Some-clause-honest : goal.returns-in-Some-clause-honest

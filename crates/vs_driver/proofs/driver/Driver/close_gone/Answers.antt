@@ -1,8 +1,7 @@
 use Rattle.std.proofs.Common.{◌≡◌, None, sym, ap, subst, ◌∙◌}
-use Rattle.vs_driver_parts.specs.{State.DriverState, State.GoneConnection, State.gone_known_as, Held.HeldSlots, Connections.gone_closed}
-use Rattle.vs_driver.specs.contracts.driver.Driver.{the_view}
 use Rattle.vs_driver_parts.proofs.Known.{unmapped}
-use Rattle.vs_driver.proofs.Reading.{gone_closed_none}
+use Rattle.vs_driver_parts.specs.{State.DriverState, State.GoneConnection, State.gone_known_as, Held.HeldSlots, Connections.gone_closed}
+use Rattle.vs_driver.{specs.contracts.driver.Driver.the_view, proofs.Reading.gone_closed_none}
 use Rattle.vs_driver.proofs.driver.Driver.close_gone.Goals as goal
 
 pub returns-in-None-clause-state : goal.returns-in-None-clause-state

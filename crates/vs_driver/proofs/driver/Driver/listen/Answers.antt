@@ -1,8 +1,7 @@
 use Rattle.std.proofs.Common.{◌≡◌, rules}
 use Rattle.vs_driver_parts.specs.{State.DriverState, Listening.listening}
-use Rattle.vs_driver.specs.contracts.driver.Driver.{the_view}
+use Rattle.vs_driver.{specs.contracts.driver.Driver.the_view, proofs.Kept.kept}
 use Rattle.laws_driver.proofs.Changing.{listen_changes}
-use Rattle.vs_driver.proofs.Kept.{kept}
 use Rattle.vs_driver.proofs.driver.Driver.listen.Goals as goal
 
 pub returns-clause-honest : goal.returns-clause-honest

@@ -1,5 +1,4 @@
-use Rattle.std.proofs.Common.{ℕ, List, sym, subst}
-use Rattle.std.proofs.lemmas.List.{append-nil}
+use Rattle.std.proofs.{Common.ℕ, Common.List, Common.sym, Common.subst, lemmas.List.append-nil}
 use Rattle.vs_header.specs.Packet.{header_bytes}
 use Rattle.vs_driver_parts.specs.{Playing.MayPublishAll, Playing.Plays, Conversations.post_packet}
 use Rattle.vs_driver.proofs.driver.Driver.post_header.Goals as goal

@@ -2,8 +2,7 @@ use Rattle.std.proofs.Common.{◌≡◌, ℕ, List, ◌++◌, ap, subst}
 use Rattle.vs_header.specs.Packet.{header_bytes}
 use Rattle.vs_ring_port.specs.{declared.queue.Queue.TheVariants.Tx, DriverCalls.Stage}
 use Rattle.vs_driver_parts.specs.{PageCounts.PageCounts, Playing.RingAllows, Conversations.one_more_in_flight}
-use Rattle.vs_driver.specs.contracts.driver.Driver.{the_view}
-use Rattle.vs_driver.proofs.RingPages.{posted}
+use Rattle.vs_driver.{specs.contracts.driver.Driver.the_view, proofs.RingPages.posted}
 use Rattle.vs_driver.proofs.driver.Driver.post_packet.Goals as goal
 
 pub publish-requires : goal.publish-requires

@@ -1,7 +1,6 @@
 use Rattle.vs_ring_port.specs.{Contents.RingContents, declared.queue.Queue.TheVariants.Tx}
-use Rattle.vs_driver_parts.specs.{State.DriverState, Conversations.Round, Conversations.pay_all, Conversations.pay_and_publish}
-use Rattle.vs_driver_parts.specs.Conversations.{publish_and_pay, publish_of, published, put_all, put_replies, round_of}
-use Rattle.vs_driver_parts.specs.Playing.{Plays}
+use Rattle.vs_driver_parts.specs.Conversations.{Round, pay_all, pay_and_publish, publish_and_pay, publish_of, published, put_all}
+use Rattle.vs_driver_parts.specs.{State.DriverState, Conversations.put_replies, Conversations.round_of, Playing.Plays}
 use Rattle.vs_driver.proofs.{Rest.IsLeft, Rest.all_left, Rest.may_next, Rest.then, Taking.may_published, Taking.round_published}
 use Rattle.vs_driver.proofs.driver.Driver.put_all.Goals as goal
 

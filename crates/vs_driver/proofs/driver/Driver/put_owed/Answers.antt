@@ -1,8 +1,7 @@
 use Rattle.std.proofs.Common.{rules}
 use Rattle.vs_header.specs.Packet.{header_bytes}
 use Rattle.vs_driver_parts.specs.Conversations.{put_owed, round_of}
-use Rattle.vs_driver.specs.contracts.driver.Driver.{the_view}
-use Rattle.vs_driver.proofs.Paying.{may_put, owed_tree, put}
+use Rattle.vs_driver.{specs.contracts.driver.Driver.the_view, proofs.Paying.may_put, proofs.Paying.owed_tree, proofs.Paying.put}
 use Rattle.vs_driver.proofs.driver.Driver.put_owed.Goals as goal
 
 pub stage_packet-requires-clause-may : goal.stage_packet-requires-clause-may

@@ -2,8 +2,7 @@ use Rattle.std.proofs.Common.{ap, rules}
 use Rattle.vs_header.specs.Packet.{header_bytes}
 use Rattle.vs_replies.specs.Owed.{OwedReplies}
 use Rattle.vs_driver_parts.specs.{State.DriverState, Conversations.put_reply, Conversations.round_of}
-use Rattle.vs_driver.specs.contracts.driver.Driver.{the_view}
-use Rattle.vs_driver.proofs.Paying.{may_put, put, reply_tree}
+use Rattle.vs_driver.{specs.contracts.driver.Driver.the_view, proofs.Paying.may_put, proofs.Paying.put, proofs.Paying.reply_tree}
 use Rattle.vs_driver.proofs.driver.Driver.put_reply.Goals as goal
 
 pub stage_packet-requires-clause-may : goal.stage_packet-requires-clause-may

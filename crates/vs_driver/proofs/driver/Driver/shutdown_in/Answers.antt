@@ -1,10 +1,9 @@
 use Rattle.std.proofs.Common.{◌≡◌, Some, sym, ap, ◌∙◌, rules}
 use Rattle.vs_flow.specs.Table.{entry_under}
-use Rattle.vs_driver_parts.specs.{State.DriverConnection, State.DriverState, Held.HeldSlots}
-use Rattle.vs_driver.specs.contracts.driver.Driver.{the_view}
 use Rattle.vs_driver_parts.proofs.Ids.{value_of, has_slot}
+use Rattle.vs_driver_parts.specs.{State.DriverConnection, State.DriverState, Held.HeldSlots}
+use Rattle.vs_driver.{specs.contracts.driver.Driver.the_view, proofs.Reading.shut_in_live}
 use Rattle.vs_conn.specs.declared.end.State.TheVariants as state
-use Rattle.vs_driver.proofs.Reading.{shut_in_live}
 use Rattle.vs_driver.proofs.driver.Driver.shutdown_in.Goals as goal
 
 pub returns-in-Live-clause-state : goal.returns-in-Live-clause-state

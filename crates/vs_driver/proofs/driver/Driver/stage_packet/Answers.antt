@@ -1,9 +1,7 @@
-use Rattle.std.proofs.Common.{◌≡◌, ap, ◌∙◌}
-use Rattle.std.proofs.lemmas.List.{append-nil}
+use Rattle.std.proofs.{Common.◌≡◌, Common.ap, Common.◌∙◌, lemmas.List.append-nil}
 use Rattle.vs_header.specs.Packet.{header_bytes}
 use Rattle.vs_driver_parts.specs.{PageCounts.PageCounts, Conversations.one_more_in_flight}
-use Rattle.vs_driver.specs.contracts.driver.Driver.{the_view}
-use Rattle.vs_driver.proofs.RingPages.{may_stage, packet_staged}
+use Rattle.vs_driver.{specs.contracts.driver.Driver.the_view, proofs.RingPages.may_stage, proofs.RingPages.packet_staged}
 use Rattle.vs_driver.proofs.driver.Driver.stage_packet.Goals as goal
 
 pub stage_page-requires-clause-may : goal.stage_page-requires-clause-may

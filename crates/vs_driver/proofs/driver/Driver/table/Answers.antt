@@ -3,8 +3,7 @@ use Rattle.std.proofs.lemmas.List.{length-map}
 use Rattle.vs_conn.specs.declared.end.State.{State}
 use Rattle.vs_flow.specs.declared.flow.Flow.{Flow}
 use Rattle.vs_driver_parts.specs.{State.DriverEntry, State.DriverState, Connections.table_shown}
-use Rattle.laws_driver.specs.Honest.{AgreesWith, IsLeftOpen}
-use Rattle.laws_driver.proofs.Shown.{left_open}
+use Rattle.laws_driver.{specs.Honest.AgreesWith, specs.Honest.IsLeftOpen, proofs.Shown.left_open}
 use Rattle.vs_driver.specs.contracts.driver.Driver.{the_view}
 use Rattle.vs_driver.proofs.driver.Driver.table.Goals as goal
 

@@ -2,8 +2,7 @@ use Rattle.std.proofs.Common.{◌≡◌, List, ◌∷◌, ◌+◌, map, drop, So
 use Rattle.std.specs.List.{slice_get}
 use Rattle.vs_conn.specs.declared.end.State.{State}
 use Rattle.vs_flow.specs.declared.flow.Flow.{Flow}
-use Rattle.vs_driver_parts.specs.State.{DriverEntry}
-use Rattle.vs_driver_parts.proofs.Lists.{drop_next}
+use Rattle.vs_driver_parts.{specs.State.DriverEntry, proofs.Lists.drop_next}
 use Rattle.vs_driver.proofs.table.EntriesIterator.next.Goals as goal
 
 pub returns-clause-steps : goal.returns-clause-steps

@@ -1,7 +1,6 @@
 use Rattle.std.proofs.Common.{◌∙◌, ℕ, List, sym, ap, ap₂, subst, Contains}
 use Rattle.vs_ring_port.specs.{declared.device_ring.Chain.Chain, Chains.without}
-use Rattle.vs_embedding.specs.Ring.{RingState}
-use Rattle.vs_embedding.proofs.Held.{found_if_held, without_found}
+use Rattle.vs_embedding.{specs.Ring.RingState, proofs.Held.found_if_held, proofs.Held.without_found}
 use Rattle.vs_embedding.proofs.queues.MonitorRing.release.Goals as goal
 
 pub unwrap-place-requires : goal.unwrap-place-requires

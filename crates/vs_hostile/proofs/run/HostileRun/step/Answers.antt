@@ -1,7 +1,6 @@
 use Rattle.std.proofs.Common.{◌≡◌, ◌+◌, ℕ, List, [], ◌∷◌, drop, string_bytes, sym, ap, subst, ◌∙◌}
 use Rattle.vs_script.specs.{Hostile.hostile_view, declared.hostile.HostileLine.HostileLine, declared.script.Numbered.Numbered}
-use Rattle.vs_hostile.specs.{Ready.RunState, Ready.Steps, Run.HostileState}
-use Rattle.vs_hostile.proofs.Attacks.{held_lines, rest_from}
+use Rattle.vs_hostile.{specs.Ready.RunState, specs.Ready.Steps, specs.Run.HostileState, proofs.Attacks.held_lines, proofs.Attacks.rest_from}
 use Rattle.vs_hostile.proofs.run.HostileRun.step.Goals as goal
 
 pub returns : goal.returns

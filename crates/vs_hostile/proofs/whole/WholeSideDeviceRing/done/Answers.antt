@@ -1,5 +1,4 @@
-use Rattle.vs_hostile.specs.Whole.{whole_contents}
-use Rattle.vs_hostile.proofs.Seen.{allowed_return}
+use Rattle.vs_hostile.{specs.Whole.whole_contents, proofs.Seen.allowed_return}
 use Rattle.vs_hostile.proofs.whole.WholeSideDeviceRing.done.Goals as goal
 
 pub returns-clause-contents : goal.returns-clause-contents

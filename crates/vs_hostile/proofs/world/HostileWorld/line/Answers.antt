@@ -1,7 +1,6 @@
 use Rattle.std.proofs.Common.{ap}
 use Rattle.vs_script.specs.Hostile.{hostile_view}
-use Rattle.vs_hostile.specs.World.{guest_view}
-use Rattle.vs_hostile.proofs.Stepping.{on_ok, steps_second_at}
+use Rattle.vs_hostile.{specs.World.guest_view, proofs.Stepping.on_ok, proofs.Stepping.steps_second_at}
 use Rattle.vs_hostile.proofs.world.HostileWorld.line.Goals as goal
 
 pub returns-in_ok-self-inside-in-Memory : goal.returns-in_ok-self-inside-in-Memory

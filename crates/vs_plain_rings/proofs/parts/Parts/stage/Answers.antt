@@ -1,5 +1,4 @@
-use Rattle.vs_plain_rings.specs.View.{parts_in}
-use Rattle.vs_plain_rings.proofs.Order.{order_event, order_rx, order_tx}
+use Rattle.vs_plain_rings.{specs.View.parts_in, proofs.Order.order_event, proofs.Order.order_rx, proofs.Order.order_tx}
 use Rattle.vs_plain_rings.proofs.parts.Parts.stage.Goals as goal
 
 pub invariant_of-self : goal.invariant_of-self

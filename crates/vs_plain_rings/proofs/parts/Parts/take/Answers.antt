@@ -1,5 +1,4 @@
-use Rattle.vs_plain_rings.specs.View.{parts_in}
-use Rattle.vs_plain_rings.proofs.Order.{order_device}
+use Rattle.vs_plain_rings.{specs.View.parts_in, proofs.Order.order_device}
 use Rattle.vs_plain_rings.proofs.parts.Parts.take.Goals as goal
 
 pub invariant_of-self : goal.invariant_of-self

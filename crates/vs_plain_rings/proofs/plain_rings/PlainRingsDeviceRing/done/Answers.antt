@@ -1,7 +1,6 @@
 use Rattle.std.proofs.Common.{ap, ◌∙◌}
 use Rattle.vs_ring_port.specs.Chains.{without}
-use Rattle.vs_ring_plain.specs.Device.{chains_held}
-use Rattle.vs_ring_plain.proofs.Calls.{returns_by}
+use Rattle.vs_ring_plain.{specs.Device.chains_held, proofs.Calls.returns_by}
 use Rattle.laws_plain_rings.specs.Exposed.{BothEnds}
 use Rattle.vs_plain_rings.proofs.Rings.{allows_returned, tied_returned}
 use Rattle.vs_plain_rings.proofs.plain_rings.PlainRingsDeviceRing.done.Goals as goal

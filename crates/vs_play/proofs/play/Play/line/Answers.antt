@@ -1,7 +1,6 @@
 use Rattle.std.proofs.{Common.sym, Common.subst, lemmas.Result.on_ok_weaker}
 use Rattle.vs_script.specs.Play.{play_view}
-use Rattle.vs_play.specs.Ready.{IsReady}
-use Rattle.vs_play.proofs.Playing.{drives_play, no_outside}
+use Rattle.vs_play.{specs.Ready.IsReady, proofs.Playing.drives_play, proofs.Playing.no_outside}
 use Rattle.vs_play.proofs.play.Play.line.Goals as goal
 
 pub returns-in_default : goal.returns-in_default

@@ -1,7 +1,6 @@
 use Rattle.std.proofs.Common.{◌+◌, List, ap}
 use Rattle.vs_proxy_parts.specs.{State.Handshake, State.Turning, Turning.turning_of}
-use Rattle.vs_proxy.specs.contracts.proxy.Proxy.{the_view}
-use Rattle.vs_proxy.proofs.Handshaking.{drops}
+use Rattle.vs_proxy.{specs.contracts.proxy.Proxy.the_view, proofs.Handshaking.drops}
 use Rattle.vs_proxy.proofs.proxy.Proxy.drop_handshake.Goals as goal
 
 pub returns-clause-calls : goal.returns-clause-calls

@@ -1,6 +1,5 @@
 use Rattle.std.proofs.Common.{◌∙◌, ap}
-use Rattle.vs_ring_plain.specs.{Device.is_busy, PieceTable.HeldState}
-use Rattle.vs_ring_plain.proofs.HeldChains.{busy_is}
+use Rattle.vs_ring_plain.{specs.Device.is_busy, specs.PieceTable.HeldState, proofs.HeldChains.busy_is}
 use Rattle.vs_ring_plain.proofs.holds.HeldChains.is_busy.Goals as goal
 
 pub returns : goal.returns

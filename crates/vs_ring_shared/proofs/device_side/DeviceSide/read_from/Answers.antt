@@ -1,7 +1,6 @@
 use Rattle.std.proofs.Common.{sym, ap, arith, subst, length, Contains}
 use Rattle.vs_ring_port.specs.Chains.{chains_of}
-use Rattle.vs_ring_shared.specs.{Holdings.all_held, Sights.DeviceSight}
-use Rattle.vs_ring_shared.proofs.HeldSlots.{readable_in}
+use Rattle.vs_ring_shared.{specs.Holdings.all_held, specs.Sights.DeviceSight, proofs.HeldSlots.readable_in}
 use Rattle.vs_ring_shared.proofs.device_side.DeviceSide.read_from.Goals as goal
 
 pub overflow_add-part : goal.overflow_add-part

@@ -1,14 +1,13 @@
 use Rattle.std.proofs.Common.{◌≡◌, ℕ, ◌+◌, ◌%◌, ◌∷◌, length, ap, ◌∙◌, subst, sym}
-use Rattle.std.proofs.lemmas.Option.{IfSome_then}
-use Rattle.std.specs.Prelude.{IfSome}
+use Rattle.std.{proofs.lemmas.Option.IfSome_then, specs.Prelude.IfSome}
 use Rattle.vs_page.specs.Held.{listed, packet_held}
 use Rattle.vs_ring_port.specs.{EndLog.entries_taken, Lists.to_read, declared.queue.Queue.Queue}
 use Rattle.vs_ring_rule.specs.Rule.{queue_in}
-use Rattle.vs_ring_shared.specs.{Countings.CountsDevice, DeviceStates.DeviceTakesChain, Holdings.Holding, Holdings.all_held}
-use Rattle.vs_ring_shared.specs.{Holdings.packets_in_first, Sights.DeviceSight, Sights.TakesOne, Sights.sight_of, Sights.took_queue}
-use Rattle.vs_ring_shared.specs.declared.counters.DeviceCounters.{DeviceCounters}
-use Rattle.vs_ring_shared.proofs.{DeviceCalls.room_to_hold, DeviceCalls.seen_chain, DeviceCalls.takes_tx, DriverCalls.same_table}
-use Rattle.vs_ring_shared.proofs.Countings.{count_taken, counts_turn}
+use Rattle.vs_ring_shared.specs.Holdings.{Holding, all_held, packets_in_first}
+use Rattle.vs_ring_shared.specs.Sights.{DeviceSight, TakesOne, sight_of, took_queue}
+use Rattle.vs_ring_shared.proofs.DeviceCalls.{room_to_hold, seen_chain, takes_tx}
+use Rattle.vs_ring_shared.specs.{Countings.CountsDevice, DeviceStates.DeviceTakesChain, declared.counters.DeviceCounters.DeviceCounters}
+use Rattle.vs_ring_shared.proofs.{DriverCalls.same_table, Countings.count_taken, Countings.counts_turn}
 use Rattle.vs_ring_shared.proofs.device_side.DeviceSide.take_next.Goals as goal
 
 pub take_chain-requires-clause-room : goal.take_chain-requires-clause-room

@@ -1,7 +1,6 @@
 use Rattle.std.proofs.Common.{sym, subst}
 use Rattle.vs_ring_rule.specs.Rule.{Seated}
-use Rattle.vs_ring_shared.specs.Countings.{CountsDriver}
-use Rattle.vs_ring_shared.proofs.{Countings.count_marked, DriverCalls.loads_cid}
+use Rattle.vs_ring_shared.{specs.Countings.CountsDriver, proofs.Countings.count_marked, proofs.DriverCalls.loads_cid}
 use Rattle.vs_ring_shared.proofs.driver_side.DriverSide.load_cid.Goals as goal
 
 pub invariant_of-self : goal.invariant_of-self

@@ -1,8 +1,7 @@
 use Rattle.std.proofs.Common.{sym, ap, ◌∙◌, subst}
 use Rattle.vs_ring_list.proofs.Held.{chains_of-without_held}
 use Rattle.vs_ring_port.specs.{Chains.chains_of, Chains.without, Contents.Return, DeviceCalls.CanReturn, DeviceCalls.DeviceAllows}
-use Rattle.vs_ring_shared.specs.Sights.{DeviceSight, device_contents}
-use Rattle.vs_ring_shared.proofs.Exposed.{allows_return, may_return}
+use Rattle.vs_ring_shared.{specs.Sights.DeviceSight, specs.Sights.device_contents, proofs.Exposed.allows_return, proofs.Exposed.may_return}
 use Rattle.vs_ring_shared.proofs.ends.DeviceEndDeviceRing.done.Goals as goal
 
 pub give_back-requires-clause-fair : goal.give_back-requires-clause-fair

@@ -1,7 +1,6 @@
 use Rattle.std.proofs.Common.{subst}
 use Rattle.vs_ring_port.specs.{Contents.Given, DeviceCalls.DeviceAllows}
-use Rattle.vs_ring_shared.specs.Sights.{DeviceSight, device_contents}
-use Rattle.vs_ring_shared.proofs.Exposed.{allows_count}
+use Rattle.vs_ring_shared.{specs.Sights.DeviceSight, specs.Sights.device_contents, proofs.Exposed.allows_count}
 use Rattle.vs_ring_shared.proofs.ends.DeviceEndDeviceRing.given.Goals as goal
 
 pub returns-clause-contents : goal.returns-clause-contents

@@ -1,8 +1,7 @@
 use Rattle.std.proofs.Common.{◌≤◌, length, refl, sym, ap, ◌∙◌, subst}
 use Rattle.vs_ring_list.proofs.Held.{chains_of-with_bytes}
 use Rattle.vs_ring_port.specs.{Chains.bytes_in, Chains.chains_of, Contents.Write, DeviceCalls.DeviceAllows}
-use Rattle.vs_ring_shared.specs.Sights.{DeviceSight, device_contents, device_log}
-use Rattle.vs_ring_shared.proofs.Exposed.{allows_write}
+use Rattle.vs_ring_shared.{specs.Sights.DeviceSight, specs.Sights.device_contents, specs.Sights.device_log, proofs.Exposed.allows_write}
 use Rattle.vs_ring_shared.proofs.ends.DeviceEndDeviceRing.write.Goals as goal
 
 pub write_into-requires-clause-no_gap : goal.write_into-requires-clause-no_gap

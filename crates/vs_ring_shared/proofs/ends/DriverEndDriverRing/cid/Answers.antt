@@ -1,7 +1,6 @@
 use Rattle.std.proofs.Common.{subst}
 use Rattle.vs_ring_port.specs.DriverCalls.{DriverAllows, LoadCid}
-use Rattle.vs_ring_shared.specs.Sights.{Sight, driver_contents}
-use Rattle.vs_ring_shared.proofs.Exposed.{allows_load}
+use Rattle.vs_ring_shared.{specs.Sights.Sight, specs.Sights.driver_contents, proofs.Exposed.allows_load}
 use Rattle.vs_ring_shared.proofs.ends.DriverEndDriverRing.cid.Goals as goal
 
 pub returns-clause-contents : goal.returns-clause-contents

@@ -1,7 +1,6 @@
 use Rattle.std.proofs.Common.{sym, subst}
 use Rattle.vs_ring_port.specs.DriverCalls.{CanPublish, DriverAllows, Publish}
-use Rattle.vs_ring_shared.specs.Sights.{Sight, driver_contents}
-use Rattle.vs_ring_shared.proofs.Exposed.{allows_publish, may_publish}
+use Rattle.vs_ring_shared.{specs.Sights.Sight, specs.Sights.driver_contents, proofs.Exposed.allows_publish, proofs.Exposed.may_publish}
 use Rattle.vs_ring_shared.proofs.ends.DriverEndDriverRing.publish.Goals as goal
 
 pub publish_staged-requires : goal.publish_staged-requires

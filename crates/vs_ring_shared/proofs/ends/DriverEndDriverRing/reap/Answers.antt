@@ -1,7 +1,6 @@
 use Rattle.std.proofs.Common.{Some, None, subst}
 use Rattle.vs_ring_port.specs.DriverCalls.{DriverAllows, Reap}
-use Rattle.vs_ring_shared.specs.Sights.{Sight, driver_contents}
-use Rattle.vs_ring_shared.proofs.Exposed.{allows_back, allows_none_back}
+use Rattle.vs_ring_shared.{specs.Sights.Sight, specs.Sights.driver_contents, proofs.Exposed.allows_back, proofs.Exposed.allows_none_back}
 use Rattle.vs_ring_shared.proofs.ends.DriverEndDriverRing.reap.Goals as goal
 
 pub returns-in_default-clause-contents : goal.returns-in_default-clause-contents
