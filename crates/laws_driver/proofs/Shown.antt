@@ -18,9 +18,9 @@ pub left_open : (first : ℕ) (s : DriverState) (l : EndLog) → AgreesWith firs
 left_open first s l agrees f = ap (is_among f) (same_flows s.table.entries) ∙ driver_open first (ends_of_state s) l.entries f agrees.matches.flows
 
 pub ring_allows : (call : DriverCall) (a : DriverAnswer call) (c d : RingContents) → RingAllows call a c d → DriverAllows call a c d
-ring_allows (Stage queue page) a c d allowed = allowed
-ring_allows (Publish queue) a c d allowed = allowed
-ring_allows _ a c d allowed = allowed.1
+ring_allows (Reap queue) a c d allowed = allowed.1
+ring_allows LoadCid a c d allowed = allowed.1
+ring_allows x a c d allowed = allowed
 
 pub any_ring : {A : Type 0} (tree : DriverTree A) (c d : RingContents) (x : A) → Plays tree c x d → Leads DriverAllows tree c x d
 any_ring (Done y) c d x plays = plays
