@@ -1,7 +1,7 @@
 //! Gates that hold a call up until another thread went on.
 
 use std::sync::atomic::{AtomicU64, Ordering};
-use std::thread;
+use std::{hint, thread};
 use vs_outside::Gate;
 
 /// How often a gate looks before it gives up.
@@ -35,12 +35,16 @@ impl Told {
 
     // Waits until a word is at least this, and notes whether it came to that.
     fn wait_for(&self, word: &AtomicU64, least: u64) {
-        for _ in 0..LOOKS {
+        for look in 0..LOOKS {
             if word.load(Ordering::SeqCst) >= least {
                 self.came.store(1, Ordering::SeqCst);
                 return;
             }
-            thread::yield_now();
+            if look % 100 == 0 {
+                thread::yield_now();
+            } else {
+                hint::spin_loop();
+            }
         }
     }
 }

@@ -29,6 +29,7 @@ fn hello(alloc: Global) -> Result<App, AllocError>
 }
 
 /// So many such apps.
+#[tactic(auto, using(crate::proofs::Righted::one_more))]
 fn hellos(alloc: Global, apps: u32) -> Result<Vec<App>, AllocError>
     ensures { IfOk result (λ script. AreRight (script_of script.items)) }
 {

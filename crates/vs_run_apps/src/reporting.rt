@@ -32,7 +32,7 @@ fn device_entries(proxy: &Proxy) -> usize
 }
 
 // What the report counts.
-fn totals<N: RunName>(guests: &Guests<N>, proxy: &Proxy) -> Totals
+fn counted<N: RunName>(guests: &Guests<N>, proxy: &Proxy) -> Totals
     ensures { result ≡ totals_of guests.now proxy.now }
 {
     let driver = guests.driver();
@@ -53,7 +53,7 @@ fn report_of<N: RunName>(
 ) -> Result<String, AllocError>
     ensures { IfOk result (λ text. string_bytes text ≡ joined (texts_of idle N.script guests.now proxy.now)) }
 {
-    let totals = totals(guests, proxy);
+    let totals = counted(guests, proxy);
     let journal = guests.journal();
     report_text(
         alloc,
