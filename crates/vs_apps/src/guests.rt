@@ -132,6 +132,13 @@ impl<N: RunName> Guests<N> {
         &self.journal
     }
 
+    /// The script.
+    pub fn script(&self) -> &[App]
+        ensures { script_of result.now ≡ N.script }
+    {
+        self.script.as_slice()
+    }
+
     /// How many apps there are.
     pub fn count(&self) -> usize
         ensures { result ≡ length N.script }

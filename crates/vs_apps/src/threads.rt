@@ -20,8 +20,14 @@ pub struct OutOfMemory;
 
 /// A device that is turned beside the apps.
 pub trait Turning {
+    ghost use Rattle.std.specs.Prelude.{◌≡◌, ℕ};
+
+    /// The name of the borrow of what was lent to it.
+    ghost lent: { Self → ℕ };
+
     /// A turn. It answers whether anything moved.
-    fn turn(&mut self) -> bool;
+    fn turn(&mut self) -> bool
+        ensures lent { lent self.new ≡ lent self.old };
 }
 
 // How an app goes on: how many steps it made, how many of these waited in a row, and whether it has ended.
@@ -157,6 +163,7 @@ fn turn_all<W: Wait, N: RunName, D: Turning, G: Gate>(
     gate: &mut G,
 ) -> Result<(), OutOfMemory>
     requires { vec_len own.old ≤ length N.script }
+    ensures lent { D.lent device.new ≡ D.lent device.old }
 {
     let mut turns = 0u64;
     for _ in rt.forever() {
@@ -197,20 +204,26 @@ fn work_all<'x, W: Threads + Wait + Sync, N: RunName + Send, D: Turning, G: Gate
     rt: &'x W,
     lock: &'x Mutex<Guests<N>>,
     shared: &'x Shared,
-    own: &mut Vec<Own>,
+    own: Vec<Own>,
     device: &mut D,
     idle: u32,
-    gates: &mut Vec<G>,
-    gate: &mut G,
+    gates: Vec<G>,
+    gate: G,
 )
-    requires { vec_len own.old ≤ length N.script }
+    requires { vec_len own ≤ length N.script }
+    ensures lent { D.lent device.new ≡ D.lent device.old }
 {
-    thread::scope(
+    let _device = thread::scope(
         thread::scope_env(),
         rt,
-        |scope|
-            requires { vec_len own.now ≤ length N.script }
+        move |scope|
+            requires { vec_len own ≤ length N.script }
+            ensures same { result.ghost_name ≡ device.entry.ghost_name }
+            ensures lent { D.lent result.now ≡ D.lent device.entry.now }
         {
+            let mut own = own;
+            let mut gates = gates;
+            let mut gate = gate;
             for k in 0..own.len() {
                 let Some(mut own_gate) = gates.pop() else {
                     own[k].mine = true;
@@ -225,16 +238,18 @@ fn work_all<'x, W: Threads + Wait + Sync, N: RunName + Send, D: Turning, G: Gate
                     own[k].mine = true;
                 }
             }
-            if turn_all(rt, lock, shared, own, device, idle, gate).is_err() {
+            if turn_all(rt, lock, shared, &mut own, &mut *device, idle, &mut gate).is_err() {
                 shared.wants.store(1, Ordering::SeqCst);
             }
+            device
         },
     );
 }
 
 /// Runs all apps, each on a thread of its own, beside the device, which the caller's thread turns until all apps have ended: an app ends where
-/// it is done or waited `idle` steps in a row. Each thread takes a gate off `gates`; an app that has none, or of which no thread could be
-/// started, is stepped by the caller between turns. The guests come out of their lock with all that their type says.
+/// it is done or waited `idle` steps in a row. Each thread takes a gate off the end of `gates`; an app that has none, or of which no thread
+/// could be started, is stepped by the caller between turns, with the caller's gate. The guests come out of their lock with all that their
+/// type says, and the device with what was lent to it.
 ///
 /// The only error is want of memory.
 pub fn run_all<W: Threads + Wait + Sync, N: RunName + Send, D: Turning, G: Gate + Send + Drop>(
@@ -243,13 +258,14 @@ pub fn run_all<W: Threads + Wait + Sync, N: RunName + Send, D: Turning, G: Gate 
     guests: Guests<N>,
     device: &mut D,
     idle: u32,
-    gates: &mut Vec<G>,
-    gate: &mut G,
+    gates: Vec<G>,
+    gate: G,
 ) -> Result<Guests<N>, OutOfMemory>
-    ensures { IfOk result (λ guests. IsRunOf FIRST_CID N.script (run_in guests)) }
+    ensures run { IfOk result (λ guests. IsRunOf FIRST_CID N.script (run_in guests)) }
+    ensures lent { D.lent device.new ≡ D.lent device.old }
 {
     let count = guests.count();
-    let Ok(mut own) = vec![in alloc; Own {
+    let Ok(own) = vec![in alloc; Own {
         mine: false,
         pace: STANDING
     }; count] else {
@@ -260,7 +276,7 @@ pub fn run_all<W: Threads + Wait + Sync, N: RunName + Send, D: Turning, G: Gate 
         ended: AtomicU64::new(0),
         wants: AtomicU64::new(0),
     };
-    work_all(rt, &lock, &shared, &mut own, device, idle, gates, gate);
+    work_all(rt, &lock, &shared, own, device, idle, gates, gate);
     if shared.wants.load(Ordering::SeqCst) != 0 {
         return Err(OutOfMemory);
     }

@@ -1,4 +1,4 @@
--- The device of a run: the proxy, its end of the rings, and what the host exposes.
+-- The device of a run: the proxy, its end of the rings, what the host exposes, and the name of the borrow of that host.
 use Rattle.std.specs.Prelude.{◌≡◌, ℕ, [], Option}
 use Rattle.vs_outside.specs.Host.{HostContents}
 use Rattle.vs_ring_port.specs.Chains.{chains_of}
@@ -12,6 +12,10 @@ pub record SideState : Type 0 where
   pub ring : DeviceSight
   pub contents : Option HostContents
   pub faults : ℕ
+
+pub record Side : Type 0 where
+  pub state : SideState
+  pub lent : ℕ
 
 -- The ring is the proxy's, and the proxy is steady with its ring and its host: so it may be turned.
 pub record IsReady (s : SideState) : Type 0 where

@@ -7,12 +7,10 @@ ghost use Rattle.vs_ring_shared.specs.Sights.{DeviceSight};
 ghost use Rattle.vs_apps_parts.specs.Scripts.{AreRight, script_of};
 ghost use Rattle.vs_run_apps.specs.Sides.{IsReady, IsSilent};
 
-use crate::device_side::DeviceSide;
 use laws_settled::laws::law_of_steady_turns;
 use std::alloc::{AllocError, Global};
 use vs_apps::guests::{Guests, RunName};
 use vs_limits::FIRST_CID;
-use vs_outside::{Clock, HostNet};
 use vs_proxy::Proxy;
 use vs_ring_shared::{DeviceEnd, NewRings, named};
 use vs_script::App;
@@ -43,18 +41,4 @@ pub fn new_proxy(alloc: Global, base: &str) -> Result<Proxy, AllocError>
 {
     law_of_steady_turns();
     Proxy::new(alloc, FIRST_CID, base)
-}
-
-/// The device of a run that did nothing yet.
-pub fn new_side<N: RunName, H: HostNet, C: Clock>(
-    proxy: Proxy,
-    ring: DeviceEnd<N>,
-    host: H,
-    clock: C,
-) -> DeviceSide<N, H, C>
-    requires silent { IsSilent ring }
-    requires ready { (ring : DeviceSight) (contents : Option HostContents) (faults : ℕ) → IsSilent ring
-        → IsReady (record { proxy = proxy; ring = ring; contents = contents; faults = faults }) }
-{
-    DeviceSide::new(proxy, ring, host, clock)
 }

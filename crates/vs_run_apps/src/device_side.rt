@@ -1,7 +1,7 @@
 //! The device of a run, which is turned beside the apps.
 
 ghost use Rattle.std.specs.Prelude.{◌≡◌};
-ghost use Rattle.vs_run_apps.specs.Sides.{IsReady, SideState};
+ghost use Rattle.vs_run_apps.specs.Sides.{IsReady};
 
 use std::marker::Model;
 use vs_apps::guests::RunName;
@@ -11,30 +11,37 @@ use vs_proxy::Proxy;
 use vs_ring_shared::DeviceEnd;
 use vs_settle::rounds::turn;
 
-/// The proxy, its end of the rings, its host and its clock. It may be turned at any time.
-#[derive(Drop)]
-pub struct DeviceSide<N: RunName, H: HostNet, C: Clock> {
+/// The proxy and its end of the rings, with a host and a clock that were lent. It may be turned at any time.
+pub struct DeviceSide<'h, 'c, N: RunName, H: HostNet, C: Clock> {
     proxy: Proxy,
     ring: DeviceEnd<N>,
-    host: H,
-    clock: C,
+    host: &'h mut H,
+    clock: &'c mut C,
 }
 
-impl<N: RunName, H: HostNet, C: Clock> Model for DeviceSide<N, H, C> {
-    ghost use Rattle.vs_run_apps.specs.Sides.{IsReady, SideState};
+impl<'h, 'c, N: RunName, H: HostNet, C: Clock> Model for DeviceSide<'h, 'c, N, H, C> {
+    ghost use Rattle.vs_run_apps.specs.Sides.{IsReady, Side};
 
-    ghost Value = { SideState };
+    ghost Value = { Side };
 
-    ghost view = { λ d. record { proxy = d.proxy; ring = d.ring; contents = H.contents d.host; faults = H.faults d.host } };
+    ghost view = { λ d. record {
+      state = record { proxy = d.proxy; ring = d.ring; contents = H.contents d.host.now; faults = H.faults d.host.now };
+      lent = d.host.ghost_name;
+    } };
 
-    ghost invariant = { λ d. IsReady (record { proxy = d.proxy; ring = d.ring; contents = H.contents d.host; faults = H.faults d.host }) };
+    ghost invariant = { λ d. IsReady (record { proxy = d.proxy; ring = d.ring; contents = H.contents d.host.now; faults = H.faults d.host.now }) };
 }
 
-impl<N: RunName, H: HostNet, C: Clock> DeviceSide<N, H, C> {
+impl<'h, 'c, N: RunName, H: HostNet, C: Clock> DeviceSide<'h, 'c, N, H, C> {
     /// A device of these parts.
-    pub fn new(proxy: Proxy, ring: DeviceEnd<N>, host: H, clock: C) -> DeviceSide<N, H, C>
-        requires ready { IsReady (record { proxy = proxy; ring = ring; contents = H.contents host; faults = H.faults host }) }
-        ensures { result ≡ record { proxy = proxy; ring = ring; contents = H.contents host; faults = H.faults host } }
+    pub fn new(
+        proxy: Proxy,
+        ring: DeviceEnd<N>,
+        host: &'h mut H,
+        clock: &'c mut C,
+    ) -> DeviceSide<'h, 'c, N, H, C>
+        requires ready { IsReady (record { proxy = proxy; ring = ring; contents = H.contents host.old; faults = H.faults host.old }) }
+        ensures lent { result.lent ≡ host.entry.ghost_name }
     {
         DeviceSide {
             proxy,
@@ -44,10 +51,10 @@ impl<N: RunName, H: HostNet, C: Clock> DeviceSide<N, H, C> {
         }
     }
 
-    /// Its parts.
-    pub fn into_parts(self) -> (Proxy, DeviceEnd<N>, H, C)
-        ensures is { self ≡ record { proxy = result.0; ring = result.1; contents = H.contents result.2; faults = H.faults result.2 } }
-        ensures ready { IsReady self }
+    /// Its parts, with the host that was lent.
+    pub fn into_parts(self) -> (Proxy, DeviceEnd<N>, &'h mut H, &'c mut C)
+        ensures ready { IsReady (record { proxy = result.0; ring = result.1; contents = H.contents result.2.now; faults = H.faults result.2.now }) }
+        ensures lent { result.2.ghost_name ≡ self.entry.lent }
     {
         let DeviceSide {
             proxy,
@@ -59,9 +66,11 @@ impl<N: RunName, H: HostNet, C: Clock> DeviceSide<N, H, C> {
     }
 }
 
-impl<N: RunName, H: HostNet, C: Clock> Turning for DeviceSide<N, H, C> {
+impl<'h, 'c, N: RunName, H: HostNet, C: Clock> Turning for DeviceSide<'h, 'c, N, H, C> {
+    ghost lent = { λ d. d.lent };
+
     fn turn(&mut self) -> bool {
         let now = self.clock.now();
-        turn(&mut self.proxy, &mut self.ring, &mut self.host, now)
+        turn(&mut self.proxy, &mut self.ring, &mut *self.host, now)
     }
 }

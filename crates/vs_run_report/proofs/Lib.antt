@@ -3,3 +3,4 @@ pub mod Lines
 pub mod Waiting
 pub mod Worked
 pub mod Noted
+pub mod Cut

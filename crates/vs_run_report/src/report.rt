@@ -1,6 +1,6 @@
 //! The report of a run.
 
-ghost use Rattle.std.specs.Prelude.{◌≡◌, ◌++◌, ◌<◌, OnOk, length, string_bytes};
+ghost use Rattle.std.specs.Prelude.{◌≡◌, ◌++◌, ◌<◌, IfOk, OnOk, length, string_bytes};
 ghost use Rattle.vs_apps_parts.specs.Scripts.{acts_of, script_of};
 ghost use Rattle.vs_report.specs.Gives.{joined};
 ghost use Rattle.vs_run_report.specs.Report.{app_line, app_lines, connection_lines, ended_at, run_status, run_texts};
@@ -9,7 +9,7 @@ ghost use Rattle.vs_run_report.specs.Endings.{state_at};
 
 use crate::connection::push_connections_of;
 use crate::ending::{Ending, ending_of, push_app};
-use std::alloc::AllocError;
+use std::alloc::{AllocError, Global};
 use vs_apps_parts::journal::Entry;
 use vs_apps_parts::progress::{AppState, Progress};
 use vs_report::giving::Totals;
@@ -141,4 +141,32 @@ pub fn push_run(
     push_apps(out, idle, script, apps, entries)?;
     push_connections(out, buffer, script, entries, bytes)?;
     push_totals(out, totals)
+}
+
+/// The same as a text.
+pub fn report_text(
+    alloc: Global,
+    idle: u32,
+    script: &[App],
+    apps: &[AppState],
+    entries: &[Entry],
+    bytes: &[u8],
+    totals: &Totals,
+) -> Result<String, AllocError>
+    ensures { IfOk result (λ text. string_bytes text
+        ≡ joined (run_texts idle (script_of script.now) apps.now entries.now bytes.now totals.now)) }
+{
+    let mut text = String::new(alloc);
+    let mut buffer = Vec::new(alloc);
+    push_run(
+        &mut text,
+        &mut buffer,
+        idle,
+        script,
+        apps,
+        entries,
+        bytes,
+        totals,
+    )?;
+    Ok(text)
 }
