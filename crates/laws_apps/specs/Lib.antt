@@ -1,3 +1,4 @@
 pub mod Accounts
 pub mod Runs
 pub mod Calls
+pub mod Asked
