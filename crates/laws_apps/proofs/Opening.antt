@@ -1,6 +1,6 @@
 -- The flows that a journal's entries tell of the connections that they opened.
-use Rattle.std.proofs.Common.{◌≡◌, ℕ, zero, suc, ◌≤◌, ◌==◌, Bool, true, false, cond, List, [], ◌∷◌, ◌++◌, Option, Some, None, Result, Ok, Err}
-use Rattle.std.proofs.Common.{refl, sym, ap, subst, ◌∙◌, arith, slice_set}
+use Rattle.std.proofs.Common.{◌≡◌, ℕ, zero, suc, ◌≤◌, ◌==◌, Bool, List, [], ◌∷◌, ◌++◌, Option, Some, None, Result, Ok, Err}
+use Rattle.std.proofs.Common.{refl, sym, subst, arith, slice_set}
 use Rattle.std.proofs.lemmas.{Bool.Decides.nat_tests, List.Elements.All-contains, Option.get_or_from_slice_get, Option.slice_get_within}
 use Rattle.std.specs.Option.{option_map}
 use Rattle.vs_flow.specs.{Connection.Connection, declared.flow.Flow.Flow}
@@ -13,7 +13,7 @@ use Rattle.laws_tables.proofs.Slots.{found_by}
 use Rattle.laws_driver.specs.Honest.{slots_of}
 use Rattle.laws_driver_bytes.specs.Calls.{flow_accepted, flow_opened}
 use Rattle.laws_driver_bytes.specs.Received.{Account, AreReceived, ReceivedOn, ReceivesOn}
-use Rattle.vs_apps_parts.specs.Journals.{entry_called, entry_waited}
+use Rattle.vs_apps_parts.specs.Journals.{entry_waited}
 use Rattle.vs_apps_parts.specs.declared.journal.{Called.Called, Deed.Deed, Entry.Entry, WaitsFor.WaitsFor}
 use Rattle.vs_apps_parts.specs.declared.journal.Called.TheVariants as called
 use Rattle.vs_apps_parts.specs.declared.journal.Deed.TheVariants as deed
