@@ -1,6 +1,5 @@
 -- The bytes of a connection of a run that is at rest: what the apps sent and received, and what the host's programs read and wrote.
-use Rattle.std.proofs.Common.{◌≡◌, ℕ, ◌≤◌, Bool, true, false, List, [], ◌∷◌, ◌++◌, Some, refl, sym, ap, subst, ◌∙◌, arith}
-use Rattle.std.specs.{List.All}
+use Rattle.std.proofs.Common.{◌≡◌, ℕ, ◌≤◌, true, false, List, [], ◌∷◌, Some, refl, sym, ap, subst, ◌∙◌, arith}
 use Rattle.vs_flow.specs.{Connection.Connection, Connection.first_of, Flow.is_assigned, declared.flow.Flow.Flow}
 use Rattle.vs_limits.specs.declared.TheConstants.{FIRST_CID}
 use Rattle.laws_history.specs.{Again.count, Packets.is_request, declared.packet.Packet.Packet}
@@ -8,7 +7,6 @@ use Rattle.laws_history.specs.History.{Answerer, Asker, Side, gots, peer, puts}
 use Rattle.vs_outside.specs.{Host.HostContents, HostBytes.host_read, HostBytes.host_wrote}
 use Rattle.vs_page.specs.Fair.{IsPrefixOf, asked_by, instance_from, number_of, payload_got, payload_of, payload_put}
 use Rattle.vs_page.specs.Log.{Device, Driver, Log, Role, flow_got, other_role, packets_got, packets_put, side_of, whole_of}
-use Rattle.vs_page.specs.{Open.cid_of, Open.is_dropped}
 use Rattle.vs_page.specs.declared.log.LogEntry.TheVariants.{GotEvent, GotPacket, Mark, PutEvent, PutPacket}
 use Rattle.vs_page.proofs.{Entries.got_on, Flows.opposite_by, Flows.same_self}
 use Rattle.vs_driver_parts.specs.Held.{HeldSlots}

@@ -3,7 +3,6 @@ use Rattle.std.proofs.Common.{◌≡◌, ◌≢◌, ◌⊎◌, inl, inr, ℕ, ze
 use Rattle.std.proofs.Common.{length, Option, Some, None, refl, sym, ap, subst, ◌∙◌, arith, slice_get, slice_set, get_or-set_other, get_or-set_same}
 use Rattle.std.proofs.Common.{length-set}
 use Rattle.std.proofs.lemmas.{Bool.Decides.nat_tests, Bool.eq-eqb, Bool.eqb-true}
-use Rattle.std.specs.Prelude.{slice_index_or}
 use Rattle.vs_script.specs.App.{Act}
 use Rattle.vs_driver_parts.specs.declared.answers.Polled.{Polled}
 use Rattle.laws_driver_bytes.specs.Calls.{Made}
@@ -13,7 +12,7 @@ use Rattle.vs_apps_parts.specs.declared.{journal.Entry.Entry, journal.WaitsFor.W
 use Rattle.vs_apps_parts.specs.declared.{told.Told.Told}
 use Rattle.vs_apps_parts.specs.declared.progress.Stepped.TheVariants as stepped
 use Rattle.vs_apps_parts.specs.declared.told.Told.TheVariants as says
-use Rattle.laws_apps.specs.Rounds.{AllStand, Stands, StandsOnce}
+use Rattle.laws_apps.specs.Rounds.{AllStand, Stands}
 use Rattle.laws_apps.specs.Runs.{MakesCalls, NotesCall, PollsTo, Run, Steps, Waits, no_app}
 use Rattle.vs_run_report.specs.{Endings.ending_at, Endings.ending_of, Endings.state_at, Endings.why_at, Report.ended_at, Right.IsRightEnding}
 use Rattle.vs_run_report.specs.{Right.may_wait, declared.ending.Ending.Ending}

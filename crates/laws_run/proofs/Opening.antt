@@ -1,5 +1,5 @@
 -- All connections that apps opened have the flows that the entries tell.
-use Rattle.std.proofs.Common.{◌≡◌, ℕ, ◌≤◌, ◌==◌, Bool, true, false, cond, List, [], ◌∷◌, ◌++◌, Option, Some, None, Result, Ok, Err, ap, subst, sym}
+use Rattle.std.proofs.Common.{ℕ, ◌==◌, Bool, true, false, cond, List, [], ◌∷◌, Option, Some, None, Result, Ok, Err}
 use Rattle.std.proofs.lemmas.List.Elements.{All-append, All-cons, All-nil}
 use Rattle.std.specs.List.{All, flat_map, range_with_len}
 use Rattle.vs_flow.specs.{Connection.Connection, declared.flow.Flow.Flow}
@@ -8,7 +8,7 @@ use Rattle.vs_driver_parts.specs.declared.answers.Accepted.TheVariants as accept
 use Rattle.vs_apps_parts.specs.declared.journal.{Called.Called, Deed.Deed, Entry.Entry}
 use Rattle.vs_apps_parts.specs.declared.journal.Called.TheVariants as called
 use Rattle.vs_apps_parts.specs.declared.journal.Deed.TheVariants as deed
-use Rattle.laws_apps.specs.Accounts.{EntryTells, HasOne, IsAccepted, IsConnected, TellFlows, TellsFlow}
+use Rattle.laws_apps.specs.Accounts.{HasOne, IsAccepted, IsConnected, TellFlows, TellsFlow}
 use Rattle.vs_run_report.specs.Connections.{listed, opened_all, opened_as, opened_by, opened_by_accept, opened_by_connect, opened_in, opened_of}
 use Rattle.vs_run_report.specs.declared.connection.Opened.{Opened}
 
