@@ -1,11 +1,11 @@
 -- A driver and a device that settled, as plain data: what the last round tells of both ends.
-use Rattle.std.specs.Prelude.{◌≡◌, ◌≤◌, ◌<◌, ◌+◌, ◌⊎◌, ℕ, true, [], length, Option, Some, None}
+use Rattle.std.specs.Prelude.{◌≡◌, ◌≤◌, ◌<◌, ◌+◌, ◌⊎◌, ℕ, true, [], length, Some, None}
 use Rattle.std.specs.Option.{ForSome}
 use Rattle.vs_conn.specs.End.{ConnectionEnd}
 use Rattle.vs_flow.specs.declared.flow.Flow.{Flow}
 use Rattle.vs_limits.specs.declared.TheConstants.{FIRST_CID, HOST_CID}
 use Rattle.vs_page.specs.Log.{Role, events_put, other_role}
-use Rattle.vs_ring_port.specs.{Chains.held_of, Contents.RingContents, declared.queue.Queue.Queue, declared.queue.Queue.TheVariants.Rx}
+use Rattle.vs_ring_port.specs.{Chains.held_of, Contents.RingContents, declared.queue.Queue.Queue}
 use Rattle.vs_ring_shared.specs.{Meetings.AreOneTable, Sights.DeviceSight, Sights.Sight, Sights.device_log, Sights.driver_log}
 use Rattle.vs_ring_shared.specs.Sights.{flight_of, sight_in, staged_of}
 use Rattle.laws_tables.specs.{Both.Both, Both.at, Ends.flows_of, Ends.is_among, Steps.HasEnd}
