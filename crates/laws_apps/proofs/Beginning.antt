@@ -12,6 +12,7 @@ use Rattle.laws_rest.proofs.Routes.{new_routed}
 use Rattle.laws_driver_bytes.specs.Received.{AreReceived, no_account}
 use Rattle.laws_driver_bytes.proofs.Connecting.{none_received}
 use Rattle.vs_apps_parts.specs.{Scripts.IsPlayed, Scripts.RunScript, Scripts.acts_of, declared.progress.AppState.AppState}
+use Rattle.laws_apps.proofs.Asked.{new_asks}
 use Rattle.laws_apps.specs.{Accounts.IsAccounted, Accounts.IsSent, Runs.IsRunOf, Runs.no_app}
 
 none_put : (side : Side) (k : ℕ) → payload_of (instance_from side k []) ≡ []
@@ -22,8 +23,9 @@ abbrev starts : ℕ → Fact
 starts id part s log = AreReceived (no_account id) log (slots_of s) × IsSent (no_account id).opened [] log
 
 pub new_accounted : (size port id : ℕ) (c d : RingContents) (s : DriverState) → port ≤ LAST_PORT → IsFresh c → Plays (new_of size port id) c s d
-    → IsAccounted id [] s d
-new_accounted size port id c d s fits fresh plays = λ on l is. ((no_account id).opened, (kept on l is).1.0, (kept on l is).1.1)
+    → IsAccounted id [] [] s d
+new_accounted size port id c d s fits fresh plays = λ on l is.
+    ((no_account id).opened, record { received = (kept on l is).1.0; sent = (kept on l is).1.1; flows = tt })
   where
     kept : Rests s.cid (starts id) s d
     kept =
@@ -41,6 +43,7 @@ begins_run size port c d s script apps fits fresh plays as_many begun = record {
     routed = new_routed size port 1 c d s fits fresh plays;
     accounted = new_accounted size port 1 c d s fits fresh plays;
     stands = tt;
+    asks = new_asks size port 1 c d s fits fresh plays;
   };
   follows = λ k below. subst (λ (x : AppState). IsPlayed (acts_of k script) [] x.progress) (sym (begun k)) ([], refl, refl);
   waits = λ k below. ap (λ (x : AppState). x.waiting) (begun k);

@@ -1,5 +1,5 @@
 -- Calls and polls keep the account.
-use Rattle.std.proofs.Common.{◌≡◌, ◌<◌, ◌^◌, ℕ, nat_lt, true, arith, List, ◌++◌, Option, Some, None, refl, sym, ap, subst, ◌∙◌, append-nil}
+use Rattle.std.proofs.Common.{◌≡◌, ◌<◌, ◌^◌, ℕ, nat_lt, true, arith, List, [], ◌∷◌, ◌++◌, Option, Some, None, refl, sym, ap, subst, ◌∙◌, append-nil}
 use Rattle.std.proofs.lemmas.Bool.Decides.{nat_tests}
 use Rattle.vs_ring_port.specs.{Contents.RingContents, EndLog.EndLog}
 use Rattle.vs_driver_parts.specs.{Conversations.DriverTree, Conversations.poll_of, Playing.Plays, State.DriverState}
@@ -14,8 +14,10 @@ use Rattle.laws_driver_bytes.proofs.Sending.{begins, poll_sent}
 use Rattle.laws_driver_bytes.specs.Calls as call
 use Rattle.laws_rest.specs.Rest.{IsRoutedWith}
 use Rattle.laws_rest.proofs.Routes.{connect_routed, send_routed}
-use Rattle.laws_apps.specs.Accounts.{IsAccounted, sent_to}
-use Rattle.laws_apps.proofs.Sending.{call_says, same_sent, still_senders}
+use Rattle.vs_flow.specs.Connection.{Connection}
+use Rattle.vs_apps_parts.specs.{Journals.entry_called, declared.journal.Called.Called, declared.journal.Entry.Entry}
+use Rattle.laws_apps.specs.{Accounts.IsAccounted, Accounts.TellFlows, Accounts.sent_to, Runs.HasFlow}
+use Rattle.laws_apps.proofs.{Opening.called_has, Opening.flows_snoc, Opening.flows_stay, Sending.call_says, Sending.same_sent, Sending.still_senders}
 
 same_some : {A : Type 0} (x y : A) → Some x ≡ Some y → x ≡ y
 same_some x y is = cc
@@ -47,25 +49,29 @@ module _ (first : ℕ) (call : GuestCall) (s : DriverState) (c d : RingContents)
       (call_sent first s l.entries call) (begins first (at_first first s l.entries) s c l before.1 (refl, refl) honest)) plays in
       agrees first x.0 m (kept on m is).0
 
-  pub call_accounted : (first_id : ℕ) (journal : Journal) → IsAccounted first_id journal s c → IsAccounted first_id (with_call call s x.1 journal) x.0 d
-  call_accounted first_id journal accounted = λ on m is.
+  pub call_accounted : (first_id : ℕ) (journal : Journal) (entries : List Entry) → IsAccounted first_id journal entries s c
+      → IsAccounted first_id (with_call call s x.1 journal) entries x.0 d
+  call_accounted first_id journal entries accounted = λ on m is.
       let before = told_before (whole_call call s) c d x plays m is in
       let l : EndLog = before.0 in
       let on_then : c.honest ≡ true = sym (honest_stays (whole_call call s) c d x plays) ∙ on in
       let was = accounted on_then l before.1 in
       let account : IsReceivedWith (account_of first_id was.0 journal) s c =
-      as_told (λ (k : EndLog). AreReceived (account_of first_id was.0 journal) k.entries (slots_of s)) l c before.1 was.1 in
+      as_told (λ (k : EndLog). AreReceived (account_of first_id was.0 journal) k.entries (slots_of s)) l c before.1 was.1.received in
       let now = journaled first call (whole_call call s) s c d x (λ before after. whole_with first s c call before after right) honest plays first_id was.0 journal
       account on m is in
-      let says = call_says s c d (account_of first_id was.0 journal) l.entries was.1 now.0 now.1 call x plays in
+      let says = call_says s c d (account_of first_id was.0 journal) l.entries was.1.received now.0 now.1 call x plays in
       let puts = sent_just first call (whole_call call s) s c d x (λ before after. whole_with first s c call before after right) honest plays on_then l before.1 m is in (
         now.0,
-        now.2,
         record {
-          senders = (says.0, still_senders was.0 now.0 now.1 journal was.2.senders);
-          puts = λ k. puts k
-              ∙ ap (λ (xs : List ℕ). xs ++ sent_of call x.1 s l.entries k) (was.2.puts k ∙ same_sent was.0 now.0 now.1 k journal was.2.senders)
-              ∙ ap (λ (xs : List ℕ). sent_to now.0 k journal ++ xs) (says.1 k);
+          received = now.2;
+          sent = record {
+            senders = (says.0, still_senders was.0 now.0 now.1 journal was.1.sent.senders);
+            puts = λ k. puts k
+                ∙ ap (λ (xs : List ℕ). xs ++ sent_of call x.1 s l.entries k) (was.1.sent.puts k ∙ same_sent was.0 now.0 now.1 k journal was.1.sent.senders)
+                ∙ ap (λ (xs : List ℕ). sent_to now.0 k journal ++ xs) (says.1 k);
+          };
+          flows = flows_stay was.0 now.0 now.1 entries was.1.flows;
         },
       )
 
@@ -80,22 +86,47 @@ call_routed first (call.Connect port) s c d x right honest routed plays =
 call_routed first (call.Send id bytes) s c d x right honest routed plays = send_routed first s c d honest routed id bytes x plays
 call_routed first call s c d x right honest routed plays = subst (λ (r : RingContents). IsRoutedWith first r) plays.1 routed
 
-module _ (first first_id : ℕ) (journal : Journal) (s : DriverState) (c d : RingContents) (x : DriverState × Polled)
-    (honest : IsHonestWith first s c) (accounted : IsAccounted first_id journal s c) (plays : Plays (poll_of s) c x d) where
-  pub poll_accounted : IsAccounted first_id journal x.0 d
+module _ (first first_id : ℕ) (journal : Journal) (entries : List Entry) (s : DriverState) (c d : RingContents) (x : DriverState × Polled)
+    (honest : IsHonestWith first s c) (accounted : IsAccounted first_id journal entries s c) (plays : Plays (poll_of s) c x d) where
+  pub poll_accounted : IsAccounted first_id journal entries x.0 d
   poll_accounted = λ on m is.
       let before = told_before (poll_of s) c d x plays m is in
       let l : EndLog = before.0 in
       let on_then : c.honest ≡ true = sym (honest_stays (poll_of s) c d x plays) ∙ on in
       let was = accounted on_then l before.1 in
       let account : IsReceivedWith (account_of first_id was.0 journal) s c =
-      as_told (λ (k : EndLog). AreReceived (account_of first_id was.0 journal) k.entries (slots_of s)) l c before.1 was.1 in
+      as_told (λ (k : EndLog). AreReceived (account_of first_id was.0 journal) k.entries (slots_of s)) l c before.1 was.1.received in
       let now = poll_ends first (account_of first_id was.0 journal) s c d x honest account plays on m is in
       let puts = poll_sent first s c d x honest plays on_then l before.1 m is in (
         now.0.opened,
-        further_as (account_of first_id was.0 journal) now.0 (λ id. received_by id journal) m.entries (slots_of x.0) now.1 (λ id. refl) now.2,
         record {
-          senders = still_senders was.0 now.0.opened now.1.opened journal was.2.senders;
-          puts = λ k. puts k ∙ append-nil _ ∙ was.2.puts k ∙ same_sent was.0 now.0.opened now.1.opened k journal was.2.senders;
+          received = further_as (account_of first_id was.0 journal) now.0 (λ id. received_by id journal) m.entries (slots_of x.0) now.1 (λ id. refl) now.2;
+          sent = record {
+            senders = still_senders was.0 now.0.opened now.1.opened journal was.1.sent.senders;
+            puts = λ k. puts k ∙ append-nil _ ∙ was.1.sent.puts k ∙ same_sent was.0 now.0.opened now.1.opened k journal was.1.sent.senders;
+          };
+          flows = flows_stay was.0 now.0.opened now.1.opened entries was.1.flows;
         },
       )
+
+-- An entry more that has the flow of its connection.
+pub entry_accounted : (first_id k : ℕ) (journal : Journal) (entries : List Entry) (c : Called) (s : DriverState) (ring : RingContents) → HasFlow c s
+    → IsAccounted first_id journal entries s ring → IsAccounted first_id journal (entries ++ entry_called k c ∷ []) s ring
+entry_accounted first_id k journal entries c s ring has accounted = λ on l is.
+    let was = accounted on l is in (
+      was.0,
+      record {
+        received = was.1.received;
+        sent = was.1.sent;
+        flows = flows_snoc was.0 entries (entry_called k c) was.1.flows
+            (called_has (account_of first_id was.0 journal) l.entries s was.1.received c has);
+      },
+    )
+
+-- Other entries that tell no more.
+pub told_accounted : (first_id : ℕ) (journal : Journal) (old new : List Entry) (s : DriverState) (ring : RingContents)
+    → ((opened : ℕ → Connection) → TellFlows opened old → TellFlows opened new) → IsAccounted first_id journal old s ring
+    → IsAccounted first_id journal new s ring
+told_accounted first_id journal old new s ring tell accounted = λ on l is.
+    let was = accounted on l is in
+    (was.0, record { received = was.1.received; sent = was.1.sent; flows = tell was.0 was.1.flows })

@@ -10,6 +10,9 @@ use Rattle.vs_apps_parts.specs.Journals.{AllStandIn, StandsIn, calls_of, calls_o
 use Rattle.vs_apps_parts.specs.Journals.{made_as, made_by, made_by_app, made_of, one_more, times_at, times_in, wait_noted, waited_before}
 use Rattle.vs_apps_parts.specs.{Scripts.RunScript, Scripts.slice_of, declared.journal.Called.Called, declared.journal.Deed.Deed}
 use Rattle.vs_apps_parts.specs.declared.journal.{Entry.Entry, WaitsFor.WaitsFor}
+use Rattle.vs_flow.specs.Connection.{Connection}
+use Rattle.laws_apps.specs.Accounts.{TellFlows}
+use Rattle.laws_apps.proofs.Opening.{flows_set, flows_snoc}
 use Rattle.vs_apps_parts.specs.declared.journal.Called.TheVariants as called
 use Rattle.vs_apps_parts.specs.declared.journal.Deed.TheVariants as deed
 
@@ -79,11 +82,12 @@ none_still : (b : Bool) (js : Journal) → js ≡ [] → cond b js [] ≡ []
 none_still true js none = none
 none_still false js none = refl
 
--- What each app's wait leaves: all calls, and what stands in the journal's bytes.
+-- What each app's wait leaves: all calls, what stands in the journal's bytes, and the flows that are told.
 pub record SameCalls (script : RunScript) (bytes : List ℕ) (old new : List Entry) : Type 0 where
   pub calls : calls_of script bytes new ≡ calls_of script bytes old
   pub app : (j : ℕ) → calls_of_app j script bytes new ≡ calls_of_app j script bytes old
   pub stands : (n : ℕ) → AllStandIn n old → AllStandIn n new
+  pub flows : (opened : ℕ → Connection) → TellFlows opened old → TellFlows opened new
 
 stand_snoc : (n : ℕ) (es : List Entry) (e : Entry) → AllStandIn n es → StandsIn n e → AllStandIn n (es ++ e ∷ [])
 stand_snoc n [] e are is = (is, tt)
@@ -116,6 +120,7 @@ wait_same script bytes k why last es = by (waited_before k last es) refl
       app = λ j. gathered_snoc (made_by_app j script bytes) es (entry_waited k 1 why)
           ∙ ap (λ (js : Journal). js ++ calls_of_app j script bytes es) (none_still (k == j) [] refl);
       stands = λ n are. stand_snoc n es (entry_waited k 1 why) are tt;
+      flows = λ opened are. flows_snoc opened es (entry_waited k 1 why) are tt;
     }
 
     changed : (place times : ℕ) (e : Entry) → slice_get es place ≡ Some e → times_in k e ≡ Some times
@@ -125,6 +130,7 @@ wait_same script bytes k why last es = by (waited_before k last es) refl
       app = λ j. gathered_set (made_by_app j script bytes) es place e (entry_waited k (one_more times) why) at
           (none_still (k == j) [] refl ∙ sym (none_still (e.app == j) (made_by script bytes e) (wait_made script bytes k times e is)));
       stands = λ n are. stand_set n k (one_more times) why es place are;
+      flows = λ opened are. flows_set opened k (one_more times) why es place are;
     }
 
     at_place : (place times : ℕ) → times_at k place es ≡ Some times → SameCalls script bytes es (slice_set es place (entry_waited k (one_more times) why))

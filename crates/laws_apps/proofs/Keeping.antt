@@ -17,7 +17,8 @@ use Rattle.vs_apps_parts.specs.declared.told.Told.TheVariants as says
 use Rattle.laws_apps.specs.{Accounts.IsAccounted, Runs.IsKept, Runs.IsRunOf, Runs.MakesCall, Runs.MakesCalls, Runs.Moves, Runs.NotesCall}
 use Rattle.laws_apps.specs.Runs.{PollsTo, Run, Steps, Waits, app_at, journal_of, journal_of_app, moved_state, no_app}
 use Rattle.laws_apps.proofs.Waiting.{called_waits, moved_waits, wait_waits, waited_waits, waits_noted}
-use Rattle.laws_apps.proofs.{Calling.call_accounted, Calling.call_honest, Calling.call_routed, Calling.poll_accounted, Noting.call_noted, Noting.same_accounted}
+use Rattle.laws_apps.proofs.Calling.{call_accounted, call_honest, call_routed, entry_accounted, poll_accounted, told_accounted}
+use Rattle.laws_apps.proofs.{Asked.call_asks, Asked.poll_asks, Noting.call_noted, Noting.same_accounted}
 use Rattle.laws_apps.proofs.Entries.{SameCalls, app_calls_stay, called_stand, calls_stay, gathered_snoc, more_stand, wait_same}
 
 either : {A : Type 0} (b : Bool) (x : A) → x ≡ cond b x x
@@ -93,21 +94,33 @@ module _ (script : RunScript) (k : ℕ) (m : Made) (old new : Run) (stand : AllS
       subst (λ (es : List Entry). AllStandIn (length new.bytes) es) (sym notes.3)
       (called_stand (length new.bytes) old.entries k notes.0 (more_stand (length old.bytes) (length new.bytes) less old.entries stand) notes.2)
 
+-- The entries with which the account is right, once the call is noted.
+flows_after : (script : RunScript) (k : ℕ) (m : Made) (old new : Run) (journal : Journal) (o : Option WaitsFor) → NotesCall script k m o old new
+    → IsAccounted 1 journal old.entries new.driver new.ring → IsAccounted 1 journal new.entries new.driver new.ring
+flows_after script k m old new journal (Some why) notes accounted =
+    subst (λ (es : List Entry). IsAccounted 1 journal es new.driver new.ring) (sym notes.0) accounted
+flows_after script k m old new journal None notes accounted =
+    subst (λ (es : List Entry). IsAccounted 1 journal es new.driver new.ring) (sym notes.3)
+    (entry_accounted 1 k journal old.entries notes.0 new.driver new.ring notes.5 accounted)
+
 module _ (first : ℕ) (script : RunScript) (k : ℕ) where
   call_keeps : (m : Made) (old new : Run) → MakesCall script k m old new → IsKept first script old → IsKept first script new
   call_keeps m old new makes kept =
       let x : DriverState × ReplyTo m.call = (new.driver, m.reply) in
       let all : Journal = journal_of script old in
-      let given = call_accounted first m.call old.driver old.ring new.ring x makes.right kept.honest makes.plays 1 all kept.accounted in
-      let noted = same_accounted 1 (with_call m.call old.driver m.reply all) (with_noted (made_as m.call m.reply ∷ []) all) new.driver new.ring
+      let given = call_accounted first m.call old.driver old.ring new.ring x makes.right kept.honest makes.plays 1 all old.entries
+      kept.accounted in
+      let noted = same_accounted 1 (with_call m.call old.driver m.reply all) (with_noted (made_as m.call m.reply ∷ []) all) old.entries new.driver new.ring
       (call_noted old.driver all m.call old.ring new.ring x makes.plays) given in
       record {
         routed = call_routed first m.call old.driver old.ring new.ring x makes.right kept.honest kept.routed makes.plays;
         honest = call_honest first m.call old.driver old.ring new.ring x makes.right kept.honest makes.plays;
-        accounted = subst (λ (js : Journal). IsAccounted 1 js new.driver new.ring)
+        accounted = subst (λ (js : Journal). IsAccounted 1 js new.entries new.driver new.ring)
             (ap (λ (y : Made). with_noted (y ∷ []) all) (sym makes.plain)
-            ∙ calls_after script k m old new kept.stands (wait_of (told_of m)) refl makes.notes) noted;
+            ∙ calls_after script k m old new kept.stands (wait_of (told_of m)) refl makes.notes)
+            (flows_after script k m old new (with_noted (made_as m.call m.reply ∷ []) all) (wait_of (told_of m)) makes.notes noted);
         stands = stand_after script k m old new kept.stands (wait_of (told_of m)) makes.notes;
+        asks = call_asks first old.driver old.ring new.ring kept.honest kept.asks m.call x makes.right makes.plays;
       }
 
   -- What calls one after another leave.
@@ -189,7 +202,13 @@ module _ (first : ℕ) (script : RunScript) (k : ℕ) (mid new : Run) (less : k 
   moves_keep : Moves script k mid new → IsRunOf first script new
   moves_keep m = subst (λ (r : Run). IsRunOf first script r) (sym m.moves) (record {
     apps = as_many over state left.apps;
-    kept = record { honest = left.kept.honest; routed = left.kept.routed; accounted = left.kept.accounted; stands = left.kept.stands };
+    kept = record {
+      honest = left.kept.honest;
+      routed = left.kept.routed;
+      accounted = left.kept.accounted;
+      stands = left.kept.stands;
+      asks = left.kept.asks;
+    };
     follows = λ j below. subst (λ (x : AppState). Played j (journal_of_app j script over) x.progress) (sym (app_is over state j left.apps))
         (subst (λ (js : Journal). Played j js (cond (k == j) state (app_at j mid)).progress) (sym (left.journals j)) (goes j (k == j) refl below));
     waits = λ j below. ap (λ (x : AppState). x.waiting) (app_is over state j left.apps) ∙ waits_now j (k == j) refl below ∙ sym (left.waits j);
@@ -234,8 +253,11 @@ module _ (first : ℕ) (script : RunScript) (k : ℕ) (mid new : Run) (less : k 
     kept = record {
       honest = left.kept.honest;
       routed = left.kept.routed;
-      accounted = subst (λ (js : Journal). IsAccounted 1 js over.driver over.ring) (sym same.calls) left.kept.accounted;
+      accounted = subst (λ (js : Journal). IsAccounted 1 js (wait_noted k why (app_at k mid).waiting over.entries) over.driver over.ring) (sym same.calls)
+          (told_accounted 1 (journal_of script over) over.entries (wait_noted k why (app_at k mid).waiting over.entries) over.driver over.ring same.flows
+          left.kept.accounted);
       stands = same.stands (length over.bytes) left.kept.stands;
+      asks = left.kept.asks;
     };
     follows = λ j below. subst (λ (js : Journal). Played j js (slice_index_or (slice_set over.apps k state) j no_app).progress)
         (sym (same.app j ∙ left.journals j ∙ stays (k == j) (journal_of_app j script mid)))
@@ -285,8 +307,9 @@ module _ (first : ℕ) (script : RunScript) (old : Run) (run : IsRunOf first scr
     kept = record {
       routed = poll_routed first old.driver old.ring mid.ring run.kept.honest run.kept.routed (mid.driver, polled) polls.polls;
       honest = poll_honest first old.driver old.ring mid.ring (mid.driver, polled) run.kept.honest polls.polls;
-      accounted = poll_accounted first 1 (journal_of script old) old.driver old.ring mid.ring (mid.driver, polled) run.kept.honest run.kept.accounted polls.polls;
+      accounted = poll_accounted first 1 (journal_of script old) old.entries old.driver old.ring mid.ring (mid.driver, polled) run.kept.honest run.kept.accounted polls.polls;
       stands = run.kept.stands;
+      asks = poll_asks first old.driver old.ring mid.ring run.kept.honest run.kept.asks (mid.driver, polled) polls.polls;
     };
     follows = run.follows;
     waits = run.waits;

@@ -11,3 +11,5 @@ pub mod Receives
 pub mod Slices
 pub mod Stepping
 pub mod Parsing
+pub mod Opening
+pub mod Asked

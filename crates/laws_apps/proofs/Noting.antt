@@ -12,6 +12,7 @@ use Rattle.laws_driver_bytes.specs.Calls.{GuestCall, Journal, Made, ReplyTo, Rec
 use Rattle.laws_driver_bytes.specs.{Calls.whole_call, Calls.with_call, Received.AreReceived, Received.bytes_got}
 use Rattle.laws_driver_bytes.proofs.Reading.{given_none}
 use Rattle.vs_apps_parts.specs.{Journals.made_as, Scripts.with_noted, Told.told_of, Told.wait_of, declared.journal.WaitsFor.WaitsFor}
+use Rattle.vs_apps_parts.specs.declared.journal.Entry.{Entry}
 use Rattle.laws_apps.specs.Accounts.{AreSenders, IsAccounted, sent_to}
 use Rattle.laws_apps.proofs.Sending.{there_none}
 
@@ -28,14 +29,17 @@ then_same a b c one two = record {
   senders = λ opened are. two.senders opened (one.senders opened are);
 }
 
-pub same_accounted : (first_id : ℕ) (j k : Journal) (s : DriverState) (c : RingContents) → SaysSame j k → IsAccounted first_id j s c
-    → IsAccounted first_id k s c
-same_accounted first_id j k s c same accounted = λ on l is.
+pub same_accounted : (first_id : ℕ) (j k : Journal) (entries : List Entry) (s : DriverState) (c : RingContents) → SaysSame j k
+    → IsAccounted first_id j entries s c → IsAccounted first_id k entries s c
+same_accounted first_id j k entries s c same accounted = λ on l is.
     let was = accounted on l is in (
       was.0,
-      subst (λ (r : ℕ → List ℕ). AreReceived (record { first_id = first_id; opened = was.0; received = r }) l.entries (slots_of s)) (fun_ext same.received)
-          was.1,
-      record { senders = same.senders was.0 was.2.senders; puts = λ x. was.2.puts x ∙ same.sent was.0 x },
+      record {
+        received = subst (λ (r : ℕ → List ℕ). AreReceived (record { first_id = first_id; opened = was.0; received = r }) l.entries (slots_of s))
+            (fun_ext same.received) was.1.received;
+        sent = record { senders = same.senders was.0 was.1.sent.senders; puts = λ x. was.1.sent.puts x ∙ same.sent was.0 x };
+        flows = was.1.flows;
+      },
     )
 
 -- A call without bytes.

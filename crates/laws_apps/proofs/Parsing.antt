@@ -1,5 +1,5 @@
 -- The apps of each script that is read for a run are right.
-use Rattle.std.proofs.Common.{◌≡◌, ◌≤◌, ◌&&◌, if◌then◌else◌, ℕ, nat_le, nat_lt, Bool, true, false, List, [], ◌∷◌, ◌++◌, length, Option}
+use Rattle.std.proofs.Common.{◌≡◌, ◌&&◌, if◌then◌else◌, ℕ, nat_le, nat_lt, Bool, true, false, List, [], ◌∷◌, length}
 use Rattle.std.proofs.Common.{Some, None, Result, Ok, Err, codes, bytes_eq, refl, subst, arith}
 use Rattle.std.proofs.lemmas.Bool.Decides.{nat_tests}
 use Rattle.std.proofs.lemmas.List.Elements.{All-append, All-cons, All-head, All-nil, All-tail}
@@ -8,7 +8,7 @@ use Rattle.vs_script.specs.{App.Act, App.RunStep, App.Begin, App.Do, App.Connect
 use Rattle.vs_script.specs.{App.Exchange, App.Shutdown, App.Close, App.connection_instruction, App.instruction_line, App.run_line}
 use Rattle.vs_script.specs.{App.run_line_named, Text.is_empty, Text.words_of, declared.fault.Refused.Refused, declared.fault.Why.Why}
 use Rattle.vs_script.specs.{declared.fault.Why.TheVariants.BadNumber, declared.words.TheConstants.MAX_BITS}
-use Rattle.vs_script.specs.Field.{Read, after, bits, ending, held, is_numeral, named, number_in, only, within, word}
+use Rattle.vs_script.specs.Field.{Read, after, ending, held, is_numeral, named, number_in, within, word}
 use Rattle.vs_script.specs.Script.{Saying, Plays, Runs, Attacks, add_act, add_line, add_lines, add_run, add_step, add_words, chained}
 use Rattle.vs_script.specs.Script.{lines_from, parse_of, pushed, unless_refused}
 use Rattle.vs_script.specs.declared.script.TheConstants.{MAX_APPS, MAX_INSTRUCTIONS, MAX_LINE, MAX_SCRIPT}

@@ -1,3 +1,5 @@
 pub mod Accounts
 pub mod Runs
 pub mod Calls
+pub mod Asked
+pub mod Rounds

@@ -15,7 +15,7 @@ use Rattle.vs_apps_parts.specs.declared.{journal.WaitsFor.WaitsFor, progress.App
 use Rattle.vs_apps_parts.specs.declared.progress.Stepped.TheVariants as stepped
 use Rattle.vs_apps_parts.specs.declared.journal.Called.TheVariants as called
 use Rattle.laws_rest.specs.Rest.{IsRoutedWith}
-use Rattle.laws_apps.specs.Accounts.{IsAccounted}
+use Rattle.laws_apps.specs.{Accounts.IsAccounted, Asked.AsksOnceWith}
 
 pub record Run : Type 0 where
   pub driver : DriverState
@@ -37,12 +37,13 @@ abbrev pub journal_of_app : ℕ → RunScript → Run → Journal
 journal_of_app k script run = calls_of_app k script run.bytes run.entries
 
 -- Where an honest ring tells the log: the driver is the one that the log left, where this was the guest's CID at first; its packets go where
--- they belong, as long as all that it got come from the host; and the journal's account is right, from the id 1 on.
+-- they belong, as long as all that it got come from the host; the journal's account is right, from the id 1 on, and tells the flows of ids; and the driver asked once on each flow.
 pub record IsKept (first : ℕ) (script : RunScript) (run : Run) : Type 0 where
   pub honest : IsHonestWith first run.driver run.ring
   pub routed : IsRoutedWith first run.ring
-  pub accounted : IsAccounted 1 (journal_of script run) run.driver run.ring
+  pub accounted : IsAccounted 1 (journal_of script run) run.entries run.driver run.ring
   pub stands : AllStandIn (length run.bytes) run.entries
+  pub asks : AsksOnceWith run.driver run.ring
 
 -- A run of a script: the calls of each app are, in order, its instructions; and each app knows whether its last entry is a wait.
 pub record IsRunOf (first : ℕ) (script : RunScript) (run : Run) : Type 0 where

@@ -1,6 +1,6 @@
 //! Laws on the journal of a run.
 
-ghost use Rattle.std.specs.Prelude.{◌≡◌, ◌<◌, ◌≤◌, ℕ, Bool, true, List, [], ◌∷◌, Ok, length, slice_index_or};
+ghost use Rattle.std.specs.Prelude.{◌≡◌, ◌<◌, ◌≤◌, ℕ, Bool, true, List, [], ◌∷◌, ◌++◌, Ok, length, slice_index_or};
 ghost use Rattle.vs_flow.specs.Connection.{Connection};
 ghost use Rattle.vs_page.specs.{Fair.payload_put, Log.Driver, Log.Log};
 ghost use Rattle.vs_ring_port.specs.Contents.{RingContents};
@@ -10,26 +10,31 @@ ghost use Rattle.laws_driver.specs.Honest.{IsFresh, IsHonestWith};
 ghost use Rattle.laws_driver_bytes.specs.Calls.{GuestCall, Journal, ReplyTo, account_of, is_right, whole_call, with_call};
 ghost use Rattle.laws_driver_bytes.specs.Received.{AreReceived};
 ghost use Rattle.vs_script.specs.{Script.Runs, Script.parse_of, declared.script.Command.TheVariants.Run as ForRun};
-ghost use Rattle.vs_apps_parts.specs.{Journals.made_as, Journals.sent_as, Scripts.AreRight, Scripts.RunScript, Scripts.with_noted};
+ghost use Rattle.vs_apps_parts.specs.declared.journal.{Called.Called, Entry.Entry};
+ghost use Rattle.vs_apps_parts.specs.{Journals.entry_called, Journals.made_as, Journals.sent_as, Scripts.AreRight, Scripts.RunScript, Scripts.with_noted};
 ghost use Rattle.vs_apps_parts.specs.declared.progress.{AppState.AppState, Stepped.Stepped};
-ghost use Rattle.laws_apps.specs.{Accounts.IsAccounted, Accounts.IsSent, Runs.IsRunOf, Runs.PollsTo, Runs.Run, Runs.Steps, Runs.no_app};
+ghost use Rattle.laws_apps.specs.{Accounts.IsAccounted, Accounts.IsSent, Runs.HasFlow, Runs.IsRunOf, Runs.PollsTo, Runs.Run, Runs.Steps, Runs.no_app};
 ghost use Rattle.vs_limits.specs.declared.TheConstants.{LAST_PORT};
 
 /// A call that was made, and a poll, keep the journal's account right: what was sent on each connection is the payload that the log put, and
 /// what was received on it, with the bytes that are unread behind, the payload that was delivered (Virtio 1.2, section 5.10.6.3).
 pub fn law_of_accounts()
-    ensures call { (first first_id : ℕ) (journal : Journal) (call : GuestCall) (s : DriverState) (c d : RingContents)
-        (x : DriverState × ReplyTo call) → is_right call ≡ true → IsHonestWith first s c → IsAccounted first_id journal s c
-        → Plays (whole_call call s) c x d → IsAccounted first_id (with_call call s x.1 journal) x.0 d }
-    ensures poll { (first first_id : ℕ) (journal : Journal) (s : DriverState) (c d : RingContents) (x : DriverState × Polled)
-        → IsHonestWith first s c → IsAccounted first_id journal s c → Plays (poll_of s) c x d → IsAccounted first_id journal x.0 d }
+    ensures call { (first first_id : ℕ) (journal : Journal) (entries : List Entry) (call : GuestCall) (s : DriverState) (c d : RingContents)
+        (x : DriverState × ReplyTo call) → is_right call ≡ true → IsHonestWith first s c → IsAccounted first_id journal entries s c
+        → Plays (whole_call call s) c x d → IsAccounted first_id (with_call call s x.1 journal) entries x.0 d }
+    ensures poll { (first first_id : ℕ) (journal : Journal) (entries : List Entry) (s : DriverState) (c d : RingContents)
+        (x : DriverState × Polled) → IsHonestWith first s c → IsAccounted first_id journal entries s c → Plays (poll_of s) c x d
+        → IsAccounted first_id journal entries x.0 d }
     ensures honest { (first : ℕ) (call : GuestCall) (s : DriverState) (c d : RingContents)
         (x : DriverState × ReplyTo call) → is_right call ≡ true → IsHonestWith first s c → Plays (whole_call call s) c x d
         → IsHonestWith first x.0 d }
     // A call that only told to wait needs no entry.
-    ensures noted { (first_id : ℕ) (journal : Journal) (call : GuestCall) (s : DriverState) (c d : RingContents)
-        (x : DriverState × ReplyTo call) → Plays (whole_call call s) c x d → IsAccounted first_id (with_call call s x.1 journal) x.0 d
-        → IsAccounted first_id (with_noted (made_as call x.1 ∷ []) journal) x.0 d }
+    ensures noted { (first_id : ℕ) (journal : Journal) (entries : List Entry) (call : GuestCall) (s : DriverState) (c d : RingContents)
+        (x : DriverState × ReplyTo call) → Plays (whole_call call s) c x d → IsAccounted first_id (with_call call s x.1 journal) entries x.0 d
+        → IsAccounted first_id (with_noted (made_as call x.1 ∷ []) journal) entries x.0 d }
+    // An entry more that has the flow of its connection, by the driver as it is.
+    ensures entry { (first_id k : ℕ) (journal : Journal) (entries : List Entry) (called : Called) (s : DriverState) (c : RingContents)
+        → HasFlow called s → IsAccounted first_id journal entries s c → IsAccounted first_id journal (entries ++ entry_called k called ∷ []) s c }
     // By ids: what was sent on an id is the payload put on its connection.
     ensures ids { (first_id id : ℕ) (opened : ℕ → Connection) (journal : Journal) (log : Log) (slots : HeldSlots)
         → AreReceived (account_of first_id opened journal) log slots → IsSent opened journal log → 1 ≤ (opened id).number

@@ -1,11 +1,9 @@
 -- A turn, with the flows and packets of the device.
-use Rattle.std.proofs.Common.{◌≡◌, ℕ, List, [], ap, sym, subst}
-use Rattle.vs_flow.specs.declared.flow.Flow.{Flow}
-use Rattle.vs_limits.specs.declared.TheConstants.{HOST_CID}
+use Rattle.std.proofs.Common.{◌≡◌, ℕ, List, [], sym, subst}
 use Rattle.vs_ring_port.specs.Chains.{Held}
 use Rattle.vs_device_parts.specs.{Calls.Situation, Playing.Runs}
-use Rattle.laws_device.proofs.{Carrying.With, Chains.Among, Chains.alone_so, Keeping.keeps_end, Seats.Carried}
-use Rattle.vs_proxy_parts.specs.{State.Handshake, State.ProxyState, Turns.turn_of, declared.answers.Turn.Turn}
+use Rattle.laws_device.proofs.{Chains.Among, Chains.alone_so, Keeping.keeps_end, Seats.Carried}
+use Rattle.vs_proxy_parts.specs.{State.ProxyState, Turns.turn_of, declared.answers.Turn.Turn}
 use Rattle.laws_proxy.specs.Honest.{IsProxyWith}
 use Rattle.laws_proxy.proofs.Turning.{Proxied, turn_keeps}
 use Rattle.laws_settled.specs.Hosts.{IsHosts, IsHostsWith}

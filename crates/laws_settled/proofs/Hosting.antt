@@ -1,5 +1,5 @@
 -- Each step of the device keeps its flows and its packets with the host, where it asks for no other flow.
-use Rattle.std.proofs.Common.{◌≡◌, ◌==◌, ◌&&◌, ◌≤◌, not, ℕ, Bool, true, false, cond, List, [], ◌∷◌, ◌++◌, refl, sym, ap, subst, ◌∙◌, arith}
+use Rattle.std.proofs.Common.{◌≡◌, ◌&&◌, ℕ, Bool, true, false, cond, List, [], ◌∷◌, ◌++◌, refl, ap, subst, ◌∙◌, arith}
 use Rattle.std.proofs.lemmas.{Grind.common_steps, List.Elements.All-cons}
 use Rattle.std.specs.List.{All}
 use Rattle.vs_conn.specs.{End.ConnectionEnd, End.end_after, End.is_of, declared.end.Owed.Owed}
@@ -15,7 +15,7 @@ use Rattle.laws_tables.specs.Both.{TakesEvent, TakesReset, after, after_packet, 
 use Rattle.laws_tables.specs.Ends.{Ends, FlowEnd, answer_kind, ends_of, flows_of, replaced, replied, without_flow}
 use Rattle.laws_tables.specs.Steps.{is_kept, owed_on, paid, payload_on, reply_on, request_on, taken, with_clean}
 use Rattle.vs_conn.specs.declared.end.Owed.TheVariants as owed
-use Rattle.laws_device.proofs.Seats.{IsAsked, MayDo, PutsFit}
+use Rattle.laws_device.proofs.Seats.{IsAsked, MayDo}
 use Rattle.laws_settled.specs.Hosts.{AreWithHost, IsHosts}
 
 abbrev pub WithHost : Flow → Type 0

@@ -1,5 +1,6 @@
 pub mod Hosting
 pub mod Hosted
+pub mod Asked
 pub mod Taking
 pub mod Quieting
 pub mod Steady

@@ -1,6 +1,6 @@
 -- From what the last round tells to the ends at rest.
-use Rattle.std.proofs.Common.{◌≡◌, ◌≤◌, ◌<◌, ◌+◌, ◌-◌, ◌⊎◌, ◌||◌, inl, inr, ℕ, Bool, true, false, cond, List, [], ◌∷◌, ◌++◌, length, refl, sym, ap, subst, ◌∙◌, arith}
-use Rattle.std.proofs.lemmas.{Grind.common_steps, List.Elements.All-head, List.Elements.All-tail}
+use Rattle.std.proofs.Common.{◌≡◌, ◌≤◌, ◌+◌, ◌-◌, ◌⊎◌, ◌||◌, inl, inr, ℕ, Bool, true, false, List, [], ◌∷◌, ◌++◌, length, refl, sym, ap, subst, ◌∙◌, arith}
+use Rattle.std.proofs.lemmas.{List.Elements.All-head, List.Elements.All-tail}
 use Rattle.std.specs.{List.All, Prelude.map}
 use Rattle.vs_flow.specs.{Flow.same_flow, declared.flow.Flow.Flow}
 use Rattle.vs_limits.specs.declared.TheConstants.{FIRST_CID, HOST_CID}
@@ -10,11 +10,11 @@ use Rattle.vs_page.specs.Log.{events_put, other_role, packets_got, packets_put}
 use Rattle.vs_page.specs.declared.log.LogEntry.TheVariants.{GotEvent, GotPacket, Mark, PutEvent, PutPacket}
 use Rattle.vs_page.proofs.Flows.{same_is}
 use Rattle.vs_ring_port.specs.{Counts.Counts, declared.queue.Queue.TheVariants.Rx, declared.queue.Queue.TheVariants.Tx}
-use Rattle.vs_ring_shared.specs.Sights.{DeviceSight, Sight, flight_of, staged_of}
+use Rattle.vs_ring_shared.specs.Sights.{DeviceSight, Sight}
 use Rattle.laws_tables.specs.{Both.Both, Both.at, Ends.flows_of, Ends.is_among, Matches.Matches}
 use Rattle.vs_driver_parts.specs.State.{DriverEntry, DriverState}
 use Rattle.laws_driver.specs.{Honest.IsFitEntry, Resets.MarksResets}
-use Rattle.laws_rest.specs.{Pages.AllGiven, Pages.AreTied, Pages.NoneInFlight, Pages.Queued, Rest.IsAtRest, Rest.IsWithHost, Rest.OwesNothing}
+use Rattle.laws_rest.specs.{Pages.Queued, Rest.IsAtRest, Rest.IsWithHost, Rest.OwesNothing}
 use Rattle.laws_rest.specs.Rest.{has_no_mark}
 use Rattle.laws_rest.proofs.{Counting.same_numbers, Pages.all_back, Pages.all_there, Resting.paired, Resting.same_flows}
 use Rattle.vs_proxy_parts.specs.State.{ProxyState}

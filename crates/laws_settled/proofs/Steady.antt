@@ -1,8 +1,8 @@
 -- A proxy that is steady stays so, and what its ring's end knows of the other one's only grows.
-use Rattle.std.proofs.Common.{◌≡◌, ◌<◌, ◌^◌, ℕ, List, [], Option, Some, None, true, refl, sym, ap, subst, ◌∙◌, arith}
+use Rattle.std.proofs.Common.{◌≡◌, ℕ, List, [], Option, Some, None, refl, sym, ap, subst, ◌∙◌, arith}
 use Rattle.std.proofs.lemmas.Option.{same_Some}
 use Rattle.vs_contents.specs.{CallTree.Ask, CallTree.Done, Contents.Relates}
-use Rattle.vs_limits.specs.declared.TheConstants.{FIRST_CID}
+use Rattle.vs_limits.specs.declared.TheConstants.{ASSIGNED_FIRST, FIRST_CID}
 use Rattle.vs_ring_port.specs.{Contents.DeviceAnswer, Contents.DeviceCall, Contents.RingContents, EndLog.EndLog, Known.IsLater, Known.Known}
 use Rattle.vs_ring_port.specs.declared.queue.Queue.TheVariants.{Rx}
 use Rattle.vs_ring_port.proofs.Knowing.{device_keeps}
@@ -10,11 +10,13 @@ use Rattle.vs_device_parts.specs.Calls.{Accept, Allows, Answer, Call, CloseStrea
 use Rattle.vs_device_parts.specs.{Calls.Situation, Calls.WriteStream, Playing.Runs}
 use Rattle.laws_rest.specs.Calm.{resets_in}
 use Rattle.laws_rest.proofs.Calm.{calm_turns}
-use Rattle.vs_page.specs.Log.{Log}
+use Rattle.vs_page.specs.Log.{Device, Log}
 use Rattle.vs_proxy_parts.specs.{State.ProxyState, Turns.new_proxy, Turns.turn_of, declared.answers.Turn.Turn}
 use Rattle.laws_proxy.proofs.Ordered.{new_in_order, turn_honest, turn_streams}
 use Rattle.laws_settled.specs.{Hosts.IsHosts, Settled.IsSteady}
-use Rattle.laws_settled.proofs.Hosted.{turn_hosts}
+use Rattle.laws_settled.proofs.{Asked.turn_asks, Hosted.turn_hosts}
+use Rattle.laws_asked.specs.Asked.{AskOnce}
+use Rattle.laws_asked.proofs.Asking.{begins_once}
 use Rattle.laws_device.specs.Honest.{ends_of_state}
 
 pub new_steady : (base : List ℕ) (a : Situation) (l : EndLog) → a.ring.log ≡ Some l → l.entries ≡ [] → l.held ≡ [] → IsSteady (new_proxy FIRST_CID base) a
@@ -29,6 +31,10 @@ new_steady base a l told silent none = record {
       subst (λ (log : Log). IsHosts (ends_of_state (new_proxy FIRST_CID base).next_port (new_proxy FIRST_CID base).device) log)
       (sym (ap (λ (x : EndLog). x.entries) (sym same) ∙ silent))
       (record { entries = tt; replies = tt; puts = λ i d within. absurd (omega (arith, within)) });
+  asks = λ honest m is.
+      let same = same_Some l m (sym told ∙ is) in
+      subst (λ (log : Log). AskOnce Device (record { part = ends_of_state (new_proxy FIRST_CID base).next_port (new_proxy FIRST_CID base).device; log = log }))
+      (sym (ap (λ (x : EndLog). x.entries) (sym same) ∙ silent)) (begins_once Device FIRST_CID ASSIGNED_FIRST);
 }
 
 pub turn_steady : (size now : ℕ) (s : ProxyState) (a b : Situation) (x : ProxyState × Turn) → IsSteady s a → Runs (turn_of size now s) a x b
@@ -43,6 +49,7 @@ turn_steady size now s a b x steady runs =
       no_reset = calm.1 ∙ steady.no_reset;
       no_event = calm.0;
       hosts = turn_hosts FIRST_CID size now s a b x steady.order.ring steady.hosts runs;
+      asks = turn_asks FIRST_CID size now s a b x steady.order.ring steady.asks runs;
     }
 
 -- What the device was told of stays.

@@ -7,16 +7,16 @@ use Rattle.vs_flow.specs.Table.{entry_under, slots}
 use Rattle.vs_header.specs.Packet.{header_bytes}
 use Rattle.vs_limits.specs.declared.TheConstants.{DRIVER_REPLIES_FULL}
 use Rattle.vs_replies.specs.declared.Reply.{Reply}
-use Rattle.vs_ring_port.specs.{Contents.RingContents, DriverCalls.DriverAllows, DriverCalls.DriverAnswer, DriverCalls.DriverCall}
+use Rattle.vs_ring_port.specs.{Contents.RingContents, DriverCalls.DriverAnswer, DriverCalls.DriverCall}
 use Rattle.vs_ring_port.specs.DriverCalls.{DriverLearns, LoadCid, Publish, Reap, Stage}
 use Rattle.vs_ring_port.specs.{EndLog.EndLog, Known.Finds, Known.Known, Known.after_stores, Known.stores_for}
 use Rattle.vs_ring_port.specs.declared.queue.{Queue.Queue, TheConstants.STAGED_MAX}
 use Rattle.vs_ring_port.specs.declared.queue.Queue.TheVariants.{Event, Rx, Tx}
-use Rattle.vs_driver_parts.specs.Conversations.{DriverTree, Round, after_paying, after_stage, all_taken, event_reaped, event_taken, goes_on_with, has_page}
+use Rattle.vs_driver_parts.specs.Conversations.{DriverTree, Round, after_paying, all_taken, event_reaped, event_taken, goes_on_with, has_page}
 use Rattle.vs_driver_parts.specs.Conversations.{one_put, packet_reaped, pay_all, pay_and_publish, pay_slot, poll_of, poll_packets, poll_puts}
 use Rattle.vs_driver_parts.specs.Conversations.{poll_reaps, polled, publish_and_pay, published, put_all, put_owed, owed_bytes, put_owed_of, put_replies, reply_header}
-use Rattle.vs_driver_parts.specs.Conversations.{put_reply, put_reply_of, reap_all, reap_one, reaped, stage_of, stage_packet, staged_again}
-use Rattle.vs_driver_parts.specs.Conversations.{take_all, take_event, take_packet, publish_of}
+use Rattle.vs_driver_parts.specs.Conversations.{put_reply, put_reply_of, reap_all, reap_one, stage_of, stage_packet, staged_again}
+use Rattle.vs_driver_parts.specs.Conversations.{take_all, take_event, take_packet}
 use Rattle.vs_driver_parts.specs.{Playing.Plays, Playing.RingAllows, Receiving.is_reset_event, Receiving.on_page, State.DriverEntry, State.DriverState}
 use Rattle.vs_driver_parts.specs.declared.answers.Polled.{Polled}
 

@@ -1,11 +1,11 @@
 -- A driver and a device that settled, as plain data: what the last round tells of both ends.
-use Rattle.std.specs.Prelude.{◌≡◌, ◌≤◌, ◌<◌, ◌+◌, ◌⊎◌, ℕ, true, [], length, Option, Some, None}
+use Rattle.std.specs.Prelude.{◌≡◌, ◌≤◌, ◌<◌, ◌+◌, ◌⊎◌, ℕ, true, [], length, Some, None}
 use Rattle.std.specs.Option.{ForSome}
 use Rattle.vs_conn.specs.End.{ConnectionEnd}
 use Rattle.vs_flow.specs.declared.flow.Flow.{Flow}
 use Rattle.vs_limits.specs.declared.TheConstants.{FIRST_CID, HOST_CID}
 use Rattle.vs_page.specs.Log.{Role, events_put, other_role}
-use Rattle.vs_ring_port.specs.{Chains.held_of, Contents.RingContents, declared.queue.Queue.Queue, declared.queue.Queue.TheVariants.Rx}
+use Rattle.vs_ring_port.specs.{Chains.held_of, Contents.RingContents, declared.queue.Queue.Queue}
 use Rattle.vs_ring_shared.specs.{Meetings.AreOneTable, Sights.DeviceSight, Sights.Sight, Sights.device_log, Sights.driver_log}
 use Rattle.vs_ring_shared.specs.Sights.{flight_of, sight_in, staged_of}
 use Rattle.laws_tables.specs.{Both.Both, Both.at, Ends.flows_of, Ends.is_among, Steps.HasEnd}
@@ -18,19 +18,20 @@ use Rattle.laws_rest.specs.{Calm.OwesNoEvent, Calm.resets_in, Rest.ArePaired, Re
 use Rattle.laws_rest.specs.Rest.{OwesNothing, has_no_mark}
 use Rattle.vs_proxy_parts.specs.State.{ProxyState}
 use Rattle.laws_proxy.specs.Order.{IsInOrder}
-use Rattle.laws_settled.specs.Hosts.{IsHosts, IsHostsWith}
+use Rattle.laws_settled.specs.{Asked.AsksOnceWith, Hosts.IsHosts, Hosts.IsHostsWith}
 
 -- A device that stopped for want of a page: it holds none, and took all that it was told of.
 pub record LacksPages (s : DeviceState) (ring : RingContents) : Type 0 where
   pub chain : s.chain ≡ None
   pub taken : ForSome ring.known (λ k. k.rx.told ≤ k.rx.taken)
 
--- A proxy that is in order, whose guest keeps the CID of shared rings, and whose packets come from the host.
+-- A proxy that is in order, whose guest keeps the CID of shared rings, whose packets come from the host, and which asked once on each flow.
 pub record IsSteady (s : ProxyState) (a : Situation) : Type 0 where
   pub order : IsInOrder FIRST_CID s a
   pub no_reset : resets_in a.ring.log ≡ Some (true, [])
   pub no_event : OwesNoEvent s.device
   pub hosts : IsHostsWith s a.ring
+  pub asks : AsksOnceWith s a.ring
 
 -- Both ends, as the laws of rest see them.
 abbrev pub ends_at_rest : DriverState → Sight → ProxyState → DeviceSight → Both

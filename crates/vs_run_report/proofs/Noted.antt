@@ -1,7 +1,7 @@
 -- What a noted wait says of how apps end.
 use Rattle.std.proofs.Common.{◌≡◌, ◌<◌, ℕ, zero, suc, ◌+◌, ◌==◌, nat_lt, Bool, true, false, cond, List, [], ◌∷◌, ◌++◌, length, Option}
 use Rattle.std.proofs.Common.{Some, None}
-use Rattle.std.proofs.{Common.refl, Common.sym, Common.ap, Common.◌∙◌, Common.arith, Common.slice_set, lemmas.Bool.Decides.nat_tests}
+use Rattle.std.proofs.{Common.refl, Common.sym, Common.ap, Common.◌∙◌, Common.arith, Common.slice_set, lemmas.Bool.Decides.nat_tests, lemmas.Bool.eq-eqb}
 use Rattle.std.specs.{Option.unwrap_or, Prelude.slice_get}
 use Rattle.vs_apps_parts.specs.Journals.{entry_waited, one_more, times_at, times_in, wait_noted, wait_place, waited_before}
 use Rattle.vs_apps_parts.specs.declared.{journal.Entry.Entry, journal.WaitsFor.WaitsFor, progress.AppState.AppState}
@@ -73,6 +73,23 @@ noted k why last es = by (waited_before k last es) refl
     by (Some times) is =
         let there = waited_there k times last es is in
         ap why_of (at_set es (unwrap_or last 0) (entry_waited k (one_more times) why) there.0 there.1)
+
+-- The wait stands in an entry of the app.
+pub noted_there : (k : ℕ) (why : WaitsFor) (last : Option ℕ) (es : List Entry)
+    → (e : Entry) × (slice_get (wait_noted k why last es) (wait_place k last es) ≡ Some e) × ((e.app == k) ≡ true)
+noted_there k why last es = by (waited_before k last es) refl
+  where
+    by : (o : Option ℕ) → waited_before k last es ≡ o → (e : Entry)
+        × (slice_get (elim o as (λ _. List Entry) [
+          | None ↦ es ++ entry_waited k 1 why ∷ []
+          | Some times ↦ slice_set es (unwrap_or last 0) (entry_waited k (one_more times) why)
+        ]) (elim o as (λ _. ℕ) [ None ↦ length es | Some times ↦ unwrap_or last 0 ])
+        ≡ Some e)
+        × ((e.app == k) ≡ true)
+    by None is = (entry_waited k 1 why, at_end es (entry_waited k 1 why), eq-eqb k k refl)
+    by (Some times) is =
+        let there = waited_there k times last es is in
+        (entry_waited k (one_more times) why, at_set es (unwrap_or last 0) (entry_waited k (one_more times) why) there.0 there.1, eq-eqb k k refl)
 
 pub kept : (k place : ℕ) (why : WaitsFor) (last : Option ℕ) (es : List Entry) (e : Entry) → slice_get es place ≡ Some e
     → (e.app == k) ≡ false

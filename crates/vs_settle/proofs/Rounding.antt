@@ -29,7 +29,8 @@ use Rattle.laws_apps.specs.Runs.{IsRunOf, PollsTo, Run, Steps, poll_moved}
 use Rattle.laws_settled.specs.{Settled.AreOver, Settled.IsSettled, Settled.IsSteady, Settled.LacksPages}
 use Rattle.laws_settled.proofs.{Quieting.turn_owes_none, Quieting.turn_sound, Resting.settled, Steady.told_runs, Taking.poll_takes_none}
 use Rattle.vs_apps.specs.Guests.{GuestsState, run_in}
-use Rattle.vs_settle.specs.Rounds.{AllStand, IsCounted, IsSameEnd, LastRound, Stands, StandsOnce, no_turn, turn_moved}
+use Rattle.laws_apps.specs.Rounds.{AllStand, Stands, StandsOnce}
+use Rattle.vs_settle.specs.Rounds.{IsCounted, IsSameEnd, LastRound, no_turn, turn_moved}
 
 -- None of several.
 pub neither : (a b : Bool) → (a || b) ≡ false → (a ≡ false) × (b ≡ false)
@@ -89,6 +90,7 @@ steady_log s c d host faults log honest steady = record {
   no_reset = ap resets_in log ∙ steady.no_reset;
   no_event = steady.no_event;
   hosts = λ on l is. steady.hosts (sym honest ∙ on) l (sym log ∙ is);
+  asks = λ on l is. steady.asks (sym honest ∙ on) l (sym log ∙ is);
 }
 
 pub steady_hears : (s : ProxyState) (e d : DeviceSight) (past : Past) (host : Option HostContents) (faults : ℕ)

@@ -1,5 +1,5 @@
 -- The last round of a run that settles: each app's step, the device's turn and the driver's poll moved nothing.
-use Rattle.std.specs.Prelude.{◌≡◌, ◌≤◌, ◌+◌, ◌||◌, nat_lt, ℕ, zero, suc, Bool, true, false, length, Option}
+use Rattle.std.specs.Prelude.{◌≡◌, ◌≤◌, ◌+◌, ◌||◌, nat_lt, ℕ, Bool, true, false, length, Option}
 use Rattle.vs_outside.specs.Host.{HostContents}
 use Rattle.vs_ring_port.specs.{Chains.held_of, declared.queue.Queue.TheVariants.Rx}
 use Rattle.vs_ring_rule.specs.declared.view.Past.{Past}
@@ -9,24 +9,9 @@ use Rattle.vs_driver_parts.specs.declared.answers.Polled.{Polled}
 use Rattle.vs_device_parts.specs.Playing.{Runs, situation}
 use Rattle.vs_proxy_parts.specs.{State.ProxyState, Turns.turn_of, declared.answers.Turn.Turn, declared.answers.Turned.Turned}
 use Rattle.vs_proxy_parts.specs.declared.answers.Turn.TheVariants as turn
-use Rattle.vs_apps_parts.specs.{Scripts.RunScript, declared.progress.Stepped.Stepped}
-use Rattle.vs_apps_parts.specs.declared.progress.Stepped.TheVariants as stepped
-use Rattle.laws_apps.specs.Runs.{PollsTo, Run, Steps, poll_moved}
+use Rattle.vs_apps_parts.specs.Scripts.{RunScript}
+use Rattle.laws_apps.specs.{Rounds.AllStand, Runs.PollsTo, Runs.poll_moved}
 use Rattle.vs_apps.specs.Guests.{GuestsState, run_in}
-
--- A step that moved nothing: the app waits, or is done.
-abbrev pub Stands : Stepped → Type 0
-Stands (stepped.Waiting why) = Unit {0}
-Stands stepped.Done = Unit {0}
-Stands _ = ⊥
-
--- An app made such a step, of which the poll moved nothing too; and each of the first apps, so many, did, one after another.
-abbrev pub StandsOnce : RunScript → ℕ → Run → Run → Type 0
-StandsOnce script k old new = (s : Stepped) × Stands s × Steps script k s false old new
-
-abbrev pub AllStand : RunScript → ℕ → Run → Run → Type 0
-AllStand script zero old new = new ≡ old
-AllStand script (suc k) old new = (mid : Run) × AllStand script k old mid × StandsOnce script k mid new
 
 -- A turn that did nothing, and whether one did anything. A ring that failed did.
 abbrev pub no_turn : Turned

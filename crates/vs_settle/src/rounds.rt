@@ -9,7 +9,8 @@ ghost use Rattle.vs_proxy_parts.specs.declared.answers.Turn.TheVariants as turn;
 ghost use Rattle.laws_apps.specs.Runs.{poll_moved};
 ghost use Rattle.laws_settled.specs.Settled.{IsSteady};
 ghost use Rattle.vs_apps.specs.Guests.{run_in};
-ghost use Rattle.vs_settle.specs.Rounds.{AllStand, LastRound, Stands, StandsOnce, no_turn, turn_moved};
+ghost use Rattle.laws_apps.specs.Rounds.{AllStand, Stands, StandsOnce};
+ghost use Rattle.vs_settle.specs.Rounds.{LastRound, no_turn, turn_moved};
 
 use vs_apps::guests::{Guests, RunName, laws_of_guests};
 use vs_apps::threads::OutOfMemory;

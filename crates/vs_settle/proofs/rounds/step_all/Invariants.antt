@@ -1,6 +1,6 @@
 use Rattle.std.proofs.Common.{◌≡◌, false}
 use Rattle.vs_apps.specs.Guests.{run_in}
-use Rattle.vs_settle.specs.Rounds.{AllStand}
+use Rattle.laws_apps.specs.Rounds.{AllStand}
 use Rattle.vs_settle.proofs.rounds.step_all.Given as goal
 
 -- the apps so far

@@ -1,0 +1,106 @@
+-- The flows that a journal's entries tell of the connections that they opened.
+use Rattle.std.proofs.Common.{◌≡◌, ℕ, zero, suc, ◌≤◌, ◌==◌, Bool, List, [], ◌∷◌, ◌++◌, Option, Some, None, Result, Ok, Err}
+use Rattle.std.proofs.Common.{refl, sym, subst, arith, slice_set}
+use Rattle.std.proofs.lemmas.{Bool.Decides.nat_tests, List.Elements.All-contains, Option.get_or_from_slice_get, Option.slice_get_within}
+use Rattle.std.specs.Option.{option_map}
+use Rattle.vs_flow.specs.{Connection.Connection, declared.flow.Flow.Flow}
+use Rattle.vs_flow.proofs.{Entries.found_passes, Lookups.find_place}
+use Rattle.vs_page.specs.Log.{Log}
+use Rattle.vs_driver_parts.specs.State.{DriverEntry, DriverState, GoneConnection, entry_known_as, gone_known_as, is_known_as}
+use Rattle.vs_driver_parts.specs.{Connections.flow_of, declared.answers.Accepted.Accepted, declared.answers.ConnectError.ConnectError}
+use Rattle.vs_driver_parts.specs.declared.answers.Accepted.TheVariants as accepted
+use Rattle.laws_tables.proofs.Slots.{found_by}
+use Rattle.laws_driver.specs.Honest.{slots_of}
+use Rattle.laws_driver_bytes.specs.Calls.{flow_accepted, flow_opened}
+use Rattle.laws_driver_bytes.specs.Received.{Account, AreReceived, ReceivedOn, ReceivesOn}
+use Rattle.vs_apps_parts.specs.Journals.{entry_waited}
+use Rattle.vs_apps_parts.specs.declared.journal.{Called.Called, Deed.Deed, Entry.Entry, WaitsFor.WaitsFor}
+use Rattle.vs_apps_parts.specs.declared.journal.Called.TheVariants as called
+use Rattle.vs_apps_parts.specs.declared.journal.Deed.TheVariants as deed
+use Rattle.laws_apps.specs.{Accounts.EntryTells, Accounts.HasOne, Accounts.IsAccepted, Accounts.IsConnected, Accounts.TellFlows, Accounts.TellsFlow}
+use Rattle.laws_apps.specs.Runs.{HasFlow}
+
+-- Where ids that had connections keep them, all that was told of them stays so.
+module _ (a b : ℕ → Connection) (stay : (id : ℕ) → 1 ≤ (a id).number → b id ≡ a id) where
+  one_stays : (id : ℕ) (flow : Option Flow) → HasOne a id flow → HasOne b id flow
+  one_stays id None has = tt
+  one_stays id (Some f) has = subst (λ (k : Connection). (1 ≤ k.number) × (k.flow ≡ f)) (sym (stay id has.0)) has
+
+  connected_stays : (r : Result ℕ ConnectError) (flow : Option Flow) → IsConnected a r flow → IsConnected b r flow
+  connected_stays (Ok id) flow is = one_stays id flow is
+  connected_stays (Err why) flow is = tt
+
+  accepted_stays : (r : Accepted) (flow : Option Flow) → IsAccepted a r flow → IsAccepted b r flow
+  accepted_stays (accepted.Conn id) flow is = one_stays id flow is
+  accepted_stays r flow is = tt
+
+  told_stays : (c : Called) → TellsFlow a c → TellsFlow b c
+  told_stays (called.Connect port answer flow) is = connected_stays answer flow is
+  told_stays (called.Accept port answer flow) is = accepted_stays answer flow is
+  told_stays c is = tt
+
+  deed_stays : (d : Deed) → elim d as (λ _. Type 0) [ deed.Called c ↦ TellsFlow a c | deed.Waited times why ↦ Unit {0} ]
+      → elim d as (λ _. Type 0) [ deed.Called c ↦ TellsFlow b c | deed.Waited times why ↦ Unit {0} ]
+  deed_stays (deed.Called c) is = told_stays c is
+  deed_stays (deed.Waited times why) is = tt
+
+  pub flows_stay : (es : List Entry) → TellFlows a es → TellFlows b es
+  flows_stay [] are = tt
+  flows_stay (e ∷ es) are = (deed_stays e.deed are.0, flows_stay es are.1)
+
+-- An entry more, and a wait in place of another entry.
+module _ (opened : ℕ → Connection) where
+  pub flows_snoc : (es : List Entry) (e : Entry) → TellFlows opened es → EntryTells opened e → TellFlows opened (es ++ e ∷ [])
+  flows_snoc [] e are is = (is, tt)
+  flows_snoc (x ∷ es) e are is = (are.0, flows_snoc es e are.1 is)
+
+  pub flows_set : (k times : ℕ) (why : WaitsFor) (es : List Entry) (place : ℕ) → TellFlows opened es
+      → TellFlows opened (slice_set es place (entry_waited k times why))
+  flows_set k times why [] place are = tt
+  flows_set k times why (x ∷ es) zero are = (tt, are.1)
+  flows_set k times why (x ∷ es) (suc place) are = (are.0, flows_set k times why es place are.1)
+
+-- The flow by which the driver knows an id is that of the id's connection.
+module _ (a : Account) (log : Log) (s : DriverState) (account : AreReceived a log (slots_of s)) where
+  held_has : (id : ℕ) (e : DriverEntry) → entry_known_as id s ≡ Some e → HasOne a.opened id (Some e.flow)
+  held_has id e known =
+      let on = All-contains (ReceivesOn a log) s.table.entries e account.held (found_by (is_known_as id) s.table.entries e known).0 in
+      let named : e.value.id ≡ id = id_is in
+      subst (λ (i : ℕ). HasOne a.opened i (Some e.flow)) named
+      (subst (λ (k : Connection). (1 ≤ k.number) × (k.flow ≡ e.flow)) (sym on.present) (on.some, refl))
+    where
+      id_is : e.value.id ≡ id
+      id_is = let passes = found_passes (is_known_as id) s.table.entries e known in grind (arith, nat_tests, passes)
+
+  gone_has : (id : ℕ) (g : GoneConnection) → gone_known_as id s ≡ Some g → HasOne a.opened id (Some g.flow)
+  gone_has id g found =
+      let test : GoneConnection → Bool = λ h. h.id == id in
+      let place = find_place test s.gone g found in
+      let on = subst (ReceivedOn a log) (get_or_from_slice_get s.gone place.0 g g place.1)
+      (account.left place.0 g (slice_get_within s.gone place.0 g place.1)) in
+      subst (λ (i : ℕ). HasOne a.opened i (Some g.flow)) (grind (arith, nat_tests, (found_passes test s.gone g found))) (on.some, on.flow)
+
+  gone_by : (id : ℕ) (o : Option GoneConnection) → gone_known_as id s ≡ o → HasOne a.opened id (option_map (λ g. g.flow) o)
+  gone_by id None is = tt
+  gone_by id (Some g) is = gone_has id g is
+
+  flow_has : (id : ℕ) → HasOne a.opened id (flow_of id s)
+  flow_has id = by (entry_known_as id s) refl
+    where
+      by : (o : Option DriverEntry) → entry_known_as id s ≡ o
+          → HasOne a.opened id (elim o as (λ _. Option Flow) [ None ↦ option_map (λ g. g.flow) (gone_known_as id s) | Some e ↦ Some e.flow ])
+      by None is = gone_by id (gone_known_as id s) refl
+      by (Some e) is = held_has id e is
+
+  connected_has : (r : Result ℕ ConnectError) → IsConnected a.opened r (flow_opened r s)
+  connected_has (Ok id) = flow_has id
+  connected_has (Err why) = tt
+
+  accepted_has : (r : Accepted) → IsAccepted a.opened r (flow_accepted r s)
+  accepted_has (accepted.Conn id) = flow_has id
+  accepted_has r = tt
+
+  pub called_has : (c : Called) → HasFlow c s → TellsFlow a.opened c
+  called_has (called.Connect port answer flow) has = subst (IsConnected a.opened answer) (sym has) (connected_has answer)
+  called_has (called.Accept port answer flow) has = subst (IsAccepted a.opened answer) (sym has) (accepted_has answer)
+  called_has c has = tt

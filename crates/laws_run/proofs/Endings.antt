@@ -1,0 +1,262 @@
+-- In the last round each app found its instructions done, or noted that it waits; so it ended.
+use Rattle.std.proofs.Common.{◌≡◌, ◌≢◌, ◌⊎◌, inl, inr, ℕ, zero, suc, ◌+◌, ◌-◌, ◌<◌, ◌≤◌, ◌==◌, nat_lt, Bool, true, false, cond, List, [], ◌∷◌}
+use Rattle.std.proofs.Common.{length, Option, Some, None, refl, sym, ap, subst, ◌∙◌, arith, slice_get, slice_set, get_or-set_other, get_or-set_same}
+use Rattle.std.proofs.Common.{length-set}
+use Rattle.std.proofs.lemmas.{Bool.Decides.nat_tests, Bool.eq-eqb, Bool.eqb-true}
+use Rattle.vs_script.specs.App.{Act}
+use Rattle.vs_driver_parts.specs.declared.answers.Polled.{Polled}
+use Rattle.laws_driver_bytes.specs.Calls.{Made}
+use Rattle.vs_apps_parts.specs.Journals.{wait_noted, wait_place}
+use Rattle.vs_apps_parts.specs.{Scripts.RunScript, Scripts.acts_of, Scripts.told_in, Told.step_wait, Told.told_of, Told.wait_of}
+use Rattle.vs_apps_parts.specs.declared.{journal.Entry.Entry, journal.WaitsFor.WaitsFor, progress.AppState.AppState, progress.Stepped.Stepped}
+use Rattle.vs_apps_parts.specs.declared.{told.Told.Told}
+use Rattle.vs_apps_parts.specs.declared.progress.Stepped.TheVariants as stepped
+use Rattle.vs_apps_parts.specs.declared.told.Told.TheVariants as says
+use Rattle.laws_apps.specs.Rounds.{AllStand, Stands}
+use Rattle.laws_apps.specs.Runs.{MakesCalls, NotesCall, PollsTo, Run, Steps, Waits, no_app}
+use Rattle.vs_run_report.specs.{Endings.ending_at, Endings.ending_of, Endings.state_at, Endings.why_at, Report.ended_at, Right.IsRightEnding}
+use Rattle.vs_run_report.specs.{Right.may_wait, declared.ending.Ending.Ending}
+use Rattle.vs_run_report.specs.declared.ending.Ending.TheVariants as ending
+use Rattle.vs_run_report.proofs.{Noted.kept, Noted.noted_there, Noted.waits_on, Noted.waits_so, Waiting.waits_right}
+
+-- An app is done; or it ended right with a wait, which is noted in an entry of its own.
+abbrev IsDone : RunScript → ℕ → List AppState → Type 0
+IsDone script k apps = nat_lt (state_at k apps).progress.at (length (acts_of k script)) ≡ false
+
+record Rests (script : RunScript) (k : ℕ) (apps : List AppState) (entries : List Entry) : Type 0 where
+  pub right : IsRightEnding (acts_of k script) (ended_at script apps entries k)
+  pub place : ℕ
+  pub waiting : (state_at k apps).waiting ≡ Some place
+  pub entry : Entry
+  pub there : slice_get entries place ≡ Some entry
+  pub own : (entry.app == k) ≡ true
+
+abbrev Ends : RunScript → ℕ → List AppState → List Entry → Type 0
+Ends script k apps entries = IsDone script k apps ⊎ Rests script k apps entries
+
+ends_right : (script : RunScript) (k : ℕ) (apps : List AppState) (entries : List Entry) → Ends script k apps entries
+    → IsRightEnding (acts_of k script) (ended_at script apps entries k)
+ends_right script k apps entries (inl done) =
+    let state : AppState = state_at k apps in
+    subst (λ (b : Bool). IsRightEnding (acts_of k script) (cond b (ending_at (state.progress.at + 1) (why_at state.waiting entries)) ending.Done)) (sym done) tt
+ends_right script k apps entries (inr rests) = rests.right
+
+-- What a step that stands leaves.
+record Stood (script : RunScript) (k : ℕ) (apps : List AppState) (entries : List Entry) (apps' : List AppState) (entries' : List Entry) : Type 0 where
+  pub own : Ends script k apps' entries'
+  pub others : (j : ℕ) → (k == j) ≡ false → Ends script j apps entries → Ends script j apps' entries'
+
+past_end : {A : Type 0} (xs : List A) (n : ℕ) → slice_get xs n ≡ None → nat_lt n (length xs) ≡ false
+past_end [] n is = grind (arith, nat_tests)
+past_end (x ∷ xs) zero is = absurd cc
+past_end (x ∷ xs) (suc n) is = let rest = past_end xs n is in grind (arith, nat_tests, rest)
+
+within : {A : Type 0} (xs : List A) (n : ℕ) (x : A) → slice_get xs n ≡ Some x → n < length xs
+within [] n x is = absurd cc
+within (y ∷ ys) zero x is = omega arith
+within (y ∷ ys) (suc n) x is = let rest = within ys n x is in omega (arith, rest)
+
+done_stood : (script : RunScript) (k : ℕ) (apps : List AppState) (entries : List Entry)
+    → slice_get (acts_of k script) (state_at k apps).progress.at ≡ None → Stood script k apps entries apps entries
+done_stood script k apps entries none = record {
+  own = inl (past_end (acts_of k script) (state_at k apps).progress.at none);
+  others = λ j other ends. ends;
+}
+
+apart : (k j app : ℕ) → (k == j) ≡ false → (app == j) ≡ true → (app == k) ≡ false
+apart k j app other own = grind (arith, nat_tests, other, own)
+
+not_same : (k j : ℕ) → (k == j) ≡ false → j ≢ k
+not_same k j is same = let e = eq-eqb k j (sym same) in absurd cc
+
+module _ (script : RunScript) (k : ℕ) (why : WaitsFor) (act : Act) (apps : List AppState) (es : List Entry) (less : k < length apps)
+    (next : slice_get (acts_of k script) (state_at k apps).progress.at ≡ Some act) (may : may_wait act why ≡ true) where
+  abbrev noted : List Entry
+  noted = wait_noted k why (state_at k apps).waiting es
+
+  abbrev state : AppState
+  state = record (state_at k apps) { waiting = Some (wait_place k (state_at k apps).waiting es) }
+
+  abbrev stepped_apps : List AppState
+  stepped_apps = slice_set apps k state
+
+  own_state : state_at k stepped_apps ≡ state
+  own_state = get_or-set_same apps k state no_app less
+
+  other_state : (j : ℕ) → (k == j) ≡ false → state_at j stepped_apps ≡ state_at j apps
+  other_state j other = get_or-set_other apps k j state no_app (not_same k j other)
+
+  abbrev RightAt : ℕ → AppState → List Entry → Type 0
+  RightAt j x entries = IsRightEnding (acts_of j script) (ending_of (length (acts_of j script)) x entries)
+
+  own_right : RightAt k state noted
+  own_right =
+      let at : ℕ = (state_at k apps).progress.at in
+      let same : at + 1 - 1 ≡ at = omega arith in
+      subst (λ (e : Ending). IsRightEnding (acts_of k script) e)
+      (sym (waits_so (length (acts_of k script)) k why (state_at k apps) es (within (acts_of k script) at act next)))
+      (act, ap (λ (n : ℕ). slice_get (acts_of k script) n) same ∙ next, may)
+
+  own_ends : Ends script k stepped_apps noted
+  own_ends =
+      let there = noted_there k why (state_at k apps).waiting es in
+      inr (record {
+        right = subst (λ (x : AppState). RightAt k x noted) (sym own_state) own_right;
+        place = wait_place k (state_at k apps).waiting es;
+        waiting = ap (λ (x : AppState). x.waiting) own_state;
+        entry = there.0;
+        there = there.1;
+        own = there.2;
+      })
+
+  other_ends : (j : ℕ) → (k == j) ≡ false → Ends script j apps es → Ends script j stepped_apps noted
+  other_ends j other (inl done) =
+      inl (subst (λ (x : AppState). nat_lt x.progress.at (length (acts_of j script)) ≡ false) (sym (other_state j other)) done)
+  other_ends j other (inr rests) =
+      let foreign = apart k j rests.entry.app other rests.own in
+      inr (record {
+        right = subst (λ (x : AppState). RightAt j x noted) (sym (other_state j other))
+            (subst (λ (e : Ending). IsRightEnding (acts_of j script) e)
+            (sym (waits_on (length (acts_of j script)) k rests.place why (state_at k apps).waiting (state_at j apps) es rests.entry rests.waiting rests.there
+            foreign)) rests.right);
+        place = rests.place;
+        waiting = ap (λ (x : AppState). x.waiting) (other_state j other) ∙ rests.waiting;
+        entry = rests.entry;
+        there = kept k rests.place why (state_at k apps).waiting es rests.entry rests.there foreign;
+        own = rests.own;
+      })
+
+  waits_stood : Stood script k apps es stepped_apps noted
+  waits_stood = record { own = own_ends; others = other_ends }
+
+-- Calls that all told to wait change neither apps nor entries.
+record Same (old new : Run) : Type 0 where
+  pub apps : new.apps ≡ old.apps
+  pub entries : new.entries ≡ old.entries
+
+same_then : (a b c : Run) → Same a b → Same b c → Same a c
+same_then a b c one two = record { apps = two.apps ∙ one.apps; entries = two.entries ∙ one.entries }
+
+module _ (script : RunScript) (k : ℕ) where
+  one_waits : (m : Made) (t : Told) (why : WaitsFor) (old new : Run) → told_of m ≡ t → wait_of t ≡ Some why → NotesCall script k m (wait_of (told_of m)) old new
+      → new.entries ≡ old.entries
+  one_waits m t why old new is waits notes =
+      let noted : NotesCall script k m (Some why) old new =
+      subst (λ (o : Option WaitsFor). NotesCall script k m o old new) (ap (λ (x : Told). wait_of x) is ∙ waits) notes in
+      noted.0
+
+  first_waits : (t : Told) (ts : List Told) (why : WaitsFor) → step_wait (t ∷ ts) ≡ Some why → (w : WaitsFor) × (wait_of t ≡ Some w)
+  first_waits (says.Waits w) ts why waits = (w, refl)
+  first_waits (says.Asked id) ts why waits = absurd cc
+  first_waits (says.Given id) ts why waits = absurd cc
+  first_waits (says.Took n) ts why waits = absurd cc
+  first_waits (says.Got n) ts why waits = absurd cc
+  first_waits says.Ends ts why waits = absurd cc
+
+  rest_waits : (t u : Told) (ts : List Told) (why : WaitsFor) → step_wait (t ∷ u ∷ ts) ≡ Some why → step_wait (u ∷ ts) ≡ Some why
+  rest_waits (says.Waits w) u ts why waits = waits
+  rest_waits (says.Asked id) u ts why waits = absurd cc
+  rest_waits (says.Given id) u ts why waits = absurd cc
+  rest_waits (says.Took n) u ts why waits = absurd cc
+  rest_waits (says.Got n) u ts why waits = absurd cc
+  rest_waits says.Ends u ts why waits = absurd cc
+
+  calls_same : (made : List Made) (why : WaitsFor) (old new : Run) → step_wait (told_in made) ≡ Some why → MakesCalls script k made old new → Same old new
+  calls_same [] why old new waits makes = absurd cc
+  calls_same (m ∷ []) why old new waits makes =
+      let first = first_waits (told_of m) [] why waits in
+      same_then old makes.0 new
+      (record { apps = makes.1.apps; entries = one_waits m (told_of m) first.0 old makes.0 refl first.1 makes.1.notes })
+      (record { apps = ap (λ (r : Run). r.apps) makes.2; entries = ap (λ (r : Run). r.entries) makes.2 })
+  calls_same (m ∷ n ∷ ms) why old new waits makes =
+      let first = first_waits (told_of m) (told_in (n ∷ ms)) why waits in
+      same_then old makes.0 new
+      (record { apps = makes.1.apps; entries = one_waits m (told_of m) first.0 old makes.0 refl first.1 makes.1.notes })
+      (calls_same (n ∷ ms) why makes.0 new (rest_waits (told_of m) (told_of n) (told_in ms) why waits) makes.2)
+
+  calls_many : (made : List Made) (old new : Run) → MakesCalls script k made old new → new.apps ≡ old.apps
+  calls_many [] old new makes = ap (λ (r : Run). r.apps) makes
+  calls_many (m ∷ ms) old new makes = calls_many ms makes.0 new makes.2 ∙ makes.1.apps
+
+  -- A step that waits.
+  abbrev StoodAs : Run → Run → Type 0
+  StoodAs old new = Stood script k old.apps old.entries new.apps new.entries
+
+  waits_stand : (why : WaitsFor) (mid new : Run) → k < length mid.apps → Waits script k why mid new → StoodAs mid new
+  waits_stand why mid new less w =
+      let same = calls_same w.calls.made why mid w.calls.over w.waits w.calls.makes in
+      let may = waits_right w.calls.act (state_at k mid.apps).progress w.calls.made why w.calls.calls w.waits in
+      let state : List Entry → AppState = λ es. record (state_at k mid.apps) { waiting = Some (wait_place k (state_at k mid.apps).waiting es) } in
+      let stood = waits_stood script k why w.calls.act mid.apps mid.entries less w.calls.next may in
+      let apps : new.apps ≡ slice_set mid.apps k (state mid.entries) =
+      ap (λ (r : Run). r.apps) w.notes ∙ ap (λ (xs : List AppState). slice_set xs k (state w.calls.over.entries)) same.apps
+      ∙ ap (λ (es : List Entry). slice_set mid.apps k (state es)) same.entries in
+      let entries : new.entries ≡ wait_noted k why (state_at k mid.apps).waiting mid.entries =
+      ap (λ (r : Run). r.entries) w.notes ∙ ap (λ (es : List Entry). wait_noted k why (state_at k mid.apps).waiting es) same.entries in
+      subst (λ (xs : List AppState). Stood script k mid.apps mid.entries xs new.entries) (sym apps)
+      (subst (λ (es : List Entry). Stood script k mid.apps mid.entries (slice_set mid.apps k (state mid.entries)) es) (sym entries) stood)
+
+  waits_many : (why : WaitsFor) (mid new : Run) → Waits script k why mid new → length new.apps ≡ length mid.apps
+  waits_many why mid new w =
+      ap (λ (r : Run). length r.apps) w.notes ∙ length-set w.calls.over.apps k _
+      ∙ ap (λ (xs : List AppState). length xs) (calls_many w.calls.made mid w.calls.over w.calls.makes)
+
+  done_stands : (mid new : Run) → slice_get (acts_of k script) (state_at k mid.apps).progress.at ≡ None → new ≡ mid → StoodAs mid new
+  done_stands mid new none is = subst (λ (r : Run). StoodAs mid r) (sym is) (done_stood script k mid.apps mid.entries none)
+
+  polled_same : (polled : Polled) (old mid : Run) → PollsTo polled old mid → Same old mid
+  polled_same polled old mid polls = record { apps = ap (λ (r : Run). r.apps) polls.rest; entries = ap (λ (r : Run). r.entries) polls.rest }
+
+  stood_from : (old mid new : Run) → Same old mid → StoodAs mid new → StoodAs old new
+  stood_from old mid new same stood =
+      subst (λ (xs : List AppState). Stood script k xs old.entries new.apps new.entries) same.apps
+      (subst (λ (es : List Entry). Stood script k mid.apps es new.apps new.entries) same.entries stood)
+
+  many_from : (old mid new : Run) → Same old mid → length new.apps ≡ length mid.apps → length new.apps ≡ length old.apps
+  many_from old mid new same many = many ∙ ap (λ (xs : List AppState). length xs) same.apps
+
+  step_many : (s : Stepped) (old new : Run) → Stands s → Steps script k s false old new → length new.apps ≡ length old.apps
+  step_many (stepped.Waiting why) old new stands steps =
+      many_from old steps.1 new (polled_same steps.0 old steps.1 steps.2) (waits_many why steps.1 new steps.4)
+  step_many stepped.Done old new stands steps =
+      many_from old steps.1 new (polled_same steps.0 old steps.1 steps.2) (ap (λ (r : Run). length r.apps) steps.4.1)
+  step_many stepped.Moved old new stands steps = absurd stands
+  step_many stepped.OutOfMemory old new stands steps = absurd stands
+
+  step_stood : (s : Stepped) (old new : Run) → k < length old.apps → Stands s → Steps script k s false old new → StoodAs old new
+  step_stood (stepped.Waiting why) old new less stands steps =
+      let same = polled_same steps.0 old steps.1 steps.2 in
+      stood_from old steps.1 new same
+      (waits_stand why steps.1 new (subst (λ (xs : List AppState). k < length xs) (sym same.apps) less) steps.4)
+  step_stood stepped.Done old new less stands steps =
+      stood_from old steps.1 new (polled_same steps.0 old steps.1 steps.2) (done_stands steps.1 new steps.4.0 steps.4.1)
+  step_stood stepped.Moved old new less stands steps = absurd stands
+  step_stood stepped.OutOfMemory old new less stands steps = absurd stands
+
+-- The apps of the round, one after another.
+all_many : (script : RunScript) (n : ℕ) (old new : Run) → AllStand script n old new → length new.apps ≡ length old.apps
+all_many script zero old new all = ap (λ (r : Run). length r.apps) all
+all_many script (suc n) old new all =
+    step_many script n all.2.0 all.0 new all.2.1 all.2.2 ∙ all_many script n old all.0 all.1
+
+all_end : (script : RunScript) (n : ℕ) (old new : Run) → n ≤ length old.apps → AllStand script n old new → (k : ℕ) → k < n
+    → Ends script k new.apps new.entries
+all_end script zero old new most all k less = absurd (omega (arith, less))
+all_end script (suc n) old new most all k less = by (n == k) refl (all_end script n old all.0 (omega (arith, most)) all.1 k)
+  where
+    many : length all.0.apps ≡ length old.apps
+    many = all_many script n old all.0 all.1
+
+    stood : Stood script n all.0.apps all.0.entries new.apps new.entries
+    stood = step_stood script n all.2.0 all.0 new (omega (arith, many, most)) all.2.1 all.2.2
+
+    by : (b : Bool) → (n == k) ≡ b → (k < n → Ends script k all.0.apps all.0.entries) → Ends script k new.apps new.entries
+    by true is before = subst (λ (j : ℕ). Ends script j new.apps new.entries) (eqb-true n k is) stood.own
+    by false is before = stood.others k is (before (grind (arith, nat_tests, is, less)))
+
+-- All apps.
+pub all_right : (script : RunScript) (old new : Run) → length new.apps ≡ length script → AllStand script (length script) old new → (k : ℕ)
+    → k < length script → IsRightEnding (acts_of k script) (ended_at script new.apps new.entries k)
+all_right script old new as_many all k less =
+    let many = all_many script (length script) old new all in
+    ends_right script k new.apps new.entries (all_end script (length script) old new (omega (arith, many, as_many)) all k less)

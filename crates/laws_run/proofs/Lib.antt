@@ -1,0 +1,4 @@
+pub mod Endings
+pub mod Opening
+pub mod Bytes
+pub mod Reporting

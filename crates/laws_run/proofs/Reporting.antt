@@ -1,0 +1,81 @@
+-- From what a run ends in to a right report.
+use Rattle.std.proofs.Common.{◌≡◌, ℕ, ◌<◌, ◌≤◌, List, Some, length, refl, sym, ap, subst, ◌∙◌}
+use Rattle.std.specs.List.{All}
+use Rattle.vs_flow.specs.{Connection.Connection, declared.flow.Flow.Flow}
+use Rattle.vs_limits.specs.declared.TheConstants.{FIRST_CID}
+use Rattle.vs_outside.specs.Host.{HostContents}
+use Rattle.vs_page.specs.{Fair.number_of, Log.Device}
+use Rattle.vs_ring_shared.specs.Sights.{DeviceSight, Sight, device_contents, device_log, driver_contents, driver_log}
+use Rattle.vs_driver_parts.specs.State.{DriverState}
+use Rattle.vs_device_parts.specs.Playing.{situation}
+use Rattle.vs_proxy_parts.specs.State.{ProxyState}
+use Rattle.laws_driver.specs.Honest.{slots_of}
+use Rattle.laws_driver_bytes.specs.Calls.{Journal}
+use Rattle.laws_proxy.specs.Honest.{IsProxyStreamed}
+use Rattle.laws_settled.specs.Settled.{IsSettled, IsSteady}
+use Rattle.vs_apps_parts.specs.{Journals.calls_of, Scripts.RunScript, Scripts.acts_of}
+use Rattle.vs_apps_parts.specs.declared.{journal.Entry.Entry, progress.AppState.AppState}
+use Rattle.laws_apps.specs.{Accounts.IsAccount, Runs.IsRunOf, Runs.Run}
+use Rattle.laws_apps.specs.{Calls.run_with, Rounds.AllStand}
+use Rattle.vs_report.specs.declared.giving.Totals.{Totals}
+use Rattle.vs_run_report.specs.{Connections.opened_all, Report.ended_at, Right.IsRightConnection, Right.IsRightEnding, Right.IsRightReport}
+use Rattle.vs_run_report.specs.declared.connection.Opened.{Opened}
+use Rattle.laws_run.proofs.{Bytes.number_once, Bytes.to_guest, Bytes.to_host, Endings.all_right, Opening.all_opened}
+
+module _ (script : RunScript) (driver : DriverState) (end : Sight) (apps : List AppState) (entries : List Entry) (bytes : List ℕ) (p : ProxyState)
+    (e : DeviceSight) (h : HostContents) (faults : ℕ)
+    (run : IsRunOf FIRST_CID script (run_with driver (driver_contents end) apps entries bytes)) (settled : IsSettled driver end p e)
+    (steady : IsSteady p (situation (device_contents e) (Some h) faults)) where
+  pub none_lost : (driver.broken ≡ 0) × (p.device.overrun ≡ 0)
+  none_lost = (
+    (run.kept.honest refl (driver_log end) refl).none_refused,
+    ((steady.order.ring.1.1 (device_log e) refl).1 refl).none_overrun,
+  )
+
+  pub once : (f : Flow) → number_of Device f e.sight.log ≤ 1
+  once = number_once driver end p e settled (run.kept.asks refl (driver_log end) refl) (steady.asks refl (device_log e) refl)
+
+  -- Nothing after the last round changed an app or an entry.
+  module _ (old stood : Run) (all : AllStand script (length script) old stood) (same_apps : apps ≡ stood.apps) (same_entries : entries ≡ stood.entries)
+      (streams : IsProxyStreamed FIRST_CID p (situation (device_contents e) (Some h) faults)) where
+    ended : (k : ℕ) → k < length script → IsRightEnding (acts_of k script) (ended_at script apps entries k)
+    ended k less =
+        let as_many : length stood.apps ≡ length script = ap (λ (xs : List AppState). length xs) (sym same_apps) ∙ run.apps in
+        subst (λ (xs : List AppState). IsRightEnding (acts_of k script) (ended_at script xs entries k)) (sym same_apps)
+        (subst (λ (es : List Entry). IsRightEnding (acts_of k script) (ended_at script stood.apps es k)) (sym same_entries)
+        (all_right script old stood as_many all k less))
+
+    abbrev journal : Journal
+    journal = calls_of script bytes entries
+
+    abbrev Account : (ℕ → Connection) → Type 0
+    Account opened = IsAccount 1 opened journal entries end.log (slots_of driver)
+
+    right_one : (opened : ℕ → Connection) → Account opened → (o : Opened) → (1 ≤ (opened o.id).number) × ((opened o.id).flow ≡ o.flow)
+        → IsRightConnection opened journal h o
+    right_one opened account o has = record {
+      some = has.0;
+      flow = has.1;
+      to_host = to_host driver end p e settled once h faults streams 1 opened journal entries (slots_of driver) account o.id o.flow has;
+      to_guest = to_guest driver end p e settled once h faults streams 1 opened journal entries (slots_of driver) account o.id o.flow has;
+    }
+
+    right_all : (opened : ℕ → Connection) → Account opened → All (IsRightConnection opened journal h) (opened_all (length script) entries)
+    right_all opened account i d less =
+        right_one opened account _ (all_opened opened (length script) entries account.flows i d less)
+
+    pub right_report : (opened : ℕ → Connection) × ((t : Totals) (before after : ℕ) → t.broken ≡ driver.broken
+        → t.counters.overrun ≡ p.device.overrun → t.counters.dropped ≡ 0 → (1 ≤ t.counters.faults → before < after)
+        → IsRightReport script apps entries bytes t opened h before after)
+    right_report =
+        let told = run.kept.accounted refl (driver_log end) refl in
+        let account : Account told.0 = told.1 in (
+          told.0,
+          λ t before after broken overrun dropped counted. record {
+            played = run.follows;
+            ended = ended;
+            once = account.received.once;
+            connections = right_all told.0 account;
+            totals = record { dropped = dropped; overrun = overrun ∙ none_lost.1; broken = broken ∙ none_lost.0; faults = counted };
+          },
+        )

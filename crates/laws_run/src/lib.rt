@@ -1,0 +1,4 @@
+//! What a run of apps reports is right.
+#![tactic(auto)]
+
+pub mod laws;
