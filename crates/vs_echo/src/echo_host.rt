@@ -1,11 +1,11 @@
 //! A host in memory whose streams are echoes.
 
-ghost use Rattle.std.specs.Prelude.{◌≡◌, ◌+◌, [], IfOk, None, OnErr, Some, length, string_bytes};
+ghost use Rattle.std.specs.Prelude.{◌≡◌, ◌<◌, ◌+◌, ◌↔◌, [], IfOk, IsTrue, MatchOption, None, OnErr, Some, length, string_bytes};
 ghost use Rattle.std.specs.List.{All};
 ghost use Rattle.vs_header.specs.declared.Kind.TheVariants.{Stream};
 ghost use Rattle.vs_outside.specs.Faults.{CountsFault, one_more};
 ghost use Rattle.vs_outside.specs.Host.{IsOpen, IsRead, IsWritten, ReadsSome, TakesSome, after_close, after_label, after_read};
-ghost use Rattle.vs_outside.specs.Host.{after_shut_write, after_write, is_listened, oldest_client, read_failed, write_failed};
+ghost use Rattle.vs_outside.specs.Host.{after_shut_write, after_write, is_listened, oldest_client, read_failed, stream_at, write_failed};
 ghost use Rattle.vs_outside.specs.HostProgram.{adds_dialed, port_path, starves};
 ghost use Rattle.vs_echo.specs.Echo.{IsEcho, new_echo};
 
@@ -84,6 +84,27 @@ impl EchoHost {
         ensures { result.now ≡ self.now.contents.streams }
     {
         &self.streams
+    }
+
+    /// Whether the proxy was given the stream of that id, and hasn't closed it.
+    pub fn is_open(&self, id: u64) -> bool
+        ensures { IsTrue result ↔ IsOpen id self.now.contents }
+    {
+        match self.place(id) {
+            Some(place) => self.streams[place].is_open(),
+            None => false,
+        }
+    }
+
+    /// The place of the stream of that id among the streams.
+    fn place(&self, id: u64) -> Option<usize>
+        ensures { MatchOption result (stream_at id self.now.contents ≡ None)
+            (λ place. (id ≡ place + 1) × (place < length self.now.contents.streams)) }
+    {
+        if id == 0 || id > self.streams.len() as u64 {
+            return None;
+        }
+        Some(id as usize - 1)
     }
 
     /// Whether a dial or a write found no memory, and failed.

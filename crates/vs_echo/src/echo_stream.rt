@@ -1,9 +1,9 @@
 //! A stream whose program gives back what it is given.
 
-ghost use Rattle.std.specs.Prelude.{◌≡◌, IfOk, OnErr, Some, length, min, take, true};
+ghost use Rattle.std.specs.Prelude.{◌≡◌, IfOk, OnErr, Some, length, min, take, true, IsTrue, ◌↔◌};
 ghost use Rattle.vs_outside.specs.Host.{dialed_stream, read_of, write_of};
-ghost use Rattle.vs_outside.specs.HostProgram.{ReadsStream, is_closed, stream_after_write};
-ghost use Rattle.vs_outside.specs.declared.host_net.StreamState.TheVariants.{Closed};
+ghost use Rattle.vs_outside.specs.HostProgram.{ReadsStream, stream_after_write};
+ghost use Rattle.vs_outside.specs.declared.host_net.StreamState.TheVariants.{Closed, Open};
 ghost use Rattle.vs_echo.specs.Echo.{IsEcho, echoing};
 
 use std::alloc::{AllocError, Global};
@@ -72,11 +72,11 @@ impl EchoStream {
         self.label
     }
 
-    /// Whether the proxy closed it.
-    pub fn is_closed(&self) -> bool
-        ensures { result ≡ is_closed self.now }
+    /// Whether the proxy hasn't closed it.
+    pub fn is_open(&self) -> bool
+        ensures { IsTrue result ↔ (self.now.state ≡ Open) }
     {
-        self.closed
+        !self.closed
     }
 
     /// The bytes that were taken of the stream.
