@@ -6,6 +6,8 @@ mod buffer;
 #[cfg(test)]
 mod conn;
 #[cfg(test)]
+mod echo;
+#[cfg(test)]
 mod event;
 #[cfg(test)]
 mod flow;

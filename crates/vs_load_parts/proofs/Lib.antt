@@ -1,0 +1,3 @@
+pub mod Scripted
+pub mod Sending
+pub mod Tallies

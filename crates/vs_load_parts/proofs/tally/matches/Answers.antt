@@ -1,0 +1,9 @@
+use Rattle.std.proofs.Common.{arith}
+use Rattle.vs_run_report.specs.Load.{matches}
+use Rattle.vs_load_parts.proofs.Tallies.{match_all}
+use Rattle.vs_load_parts.proofs.tally.matches.Goals as goal
+
+pub returns : goal.returns
+returns c =
+    match_all c.args.sent.now c.args.received.now c.loop-i.i c.loop-i.count (matches c.args.sent.now c.args.received.now)
+    (omega (arith, c.loop-i-test.false, c.min-i-end.ensures)) c.loop-i.invariant.whole
