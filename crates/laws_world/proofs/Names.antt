@@ -449,7 +449,6 @@ module _ (port : ℕ) (id : ℕ) (s : DriverState) (sound : IsTable s.table) (nu
       by None (Some g) is = (g.flow, refl)
       by None None is = absurd cc
 
-
   -- A close that knew it leaves nothing known of it.
   pub closed_unknown : close_of id s ≡ closed.Done → IsOver id (after_close id s)
   closed_unknown is = by (entry_known_as id s) refl

@@ -35,8 +35,7 @@ module _ {fresh : Type 0} (w : World) (well : IsWell fresh w) (id : ℕ) where
 
   told_stands : IsTold id s → (f : Flow) × Sees (Stands id (Some f)) s
   told_stands told =
-      let x = answered_seen s.next_port id s well.driver.sound well.received.numbers told.answered in
-      (
+      let x = answered_seen s.next_port id s well.driver.sound well.received.numbers told.answered in (
         x.0,
         record { given = told.given; next_is = well.received.numbers.given; ids = well.received.numbers.slots; is = x.1; waits = inr told.waits },
       )

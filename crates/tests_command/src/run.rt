@@ -21,7 +21,10 @@ const HOSTILE_PRINTED: &str = "ok\nok\nok\nfailed AvailJump 0 9\nfailed AvailJum
                                device open 0\n";
 
 /// How many of the first calls of the sink, each failed by itself, end the play of hello with status 4 and before its last line is printed.
-fn failed_writes<R: AllocGlobal + Wait + Threads + Sync>(rt: &R, calls: u64) -> Result<u64, AllocError> {
+fn failed_writes<R: AllocGlobal + Wait + Threads + Sync>(
+    rt: &R,
+    calls: u64,
+) -> Result<u64, AllocError> {
     let mut failed = 0u64;
     for n in 1..calls {
         let (status, sink) = played(rt, "vsock play", HELLO, 100, (0, n))?;
@@ -33,7 +36,10 @@ fn failed_writes<R: AllocGlobal + Wait + Threads + Sync>(rt: &R, calls: u64) -> 
 }
 
 /// How many of the first calls of the source, each failed by itself, end the play of hello with status 3 and `read fault`.
-fn failed_reads<R: AllocGlobal + Wait + Threads + Sync>(rt: &R, calls: u64) -> Result<u64, AllocError> {
+fn failed_reads<R: AllocGlobal + Wait + Threads + Sync>(
+    rt: &R,
+    calls: u64,
+) -> Result<u64, AllocError> {
     let mut failed = 0u64;
     for n in 1..calls {
         if ends(rt, "vsock play", HELLO, 16, (n, 0), 3, ("read fault\n", ""))? {
@@ -44,7 +50,10 @@ fn failed_reads<R: AllocGlobal + Wait + Threads + Sync>(rt: &R, calls: u64) -> R
 }
 
 /// Whether each of these command lines is none.
-fn are_usage<R: AllocGlobal + Wait + Threads + Sync>(rt: &R, lines: &[&str]) -> Result<bool, AllocError> {
+fn are_usage<R: AllocGlobal + Wait + Threads + Sync>(
+    rt: &R,
+    lines: &[&str],
+) -> Result<bool, AllocError> {
     for line in lines {
         if !ends(rt, line, HELLO, 100, (0, 0), 1, ("usage\n", ""))? {
             return Ok(false);
@@ -67,7 +76,10 @@ fn are_answered<R: AllocGlobal + Wait + Threads + Sync>(
 }
 
 /// What a client prints, and its status, whose stream gives these bytes.
-fn client<R: AllocGlobal + Wait + Threads + Sync>(rt: &R, line: &str) -> Result<(u8, MemSink), AllocError> {
+fn client<R: AllocGlobal + Wait + Threads + Sync>(
+    rt: &R,
+    line: &str,
+) -> Result<(u8, MemSink), AllocError> {
     let alloc = rt.alloc();
     let mut source = MemSource::new(alloc, Vec::from_slice(alloc, b"yo")?, 1);
     let mut sink = MemSink::new(alloc, 1);

@@ -35,9 +35,7 @@ pub fn run<R: AllocGlobal + Wait + Threads + Sync>(
     let mut clock = StepClock::new();
     let mut gate = FreeGate::new();
     let gates = Vec::new(rt.alloc());
-    Ok(vsock_main(
-        rt, &words, source, host, &mut clock, &mut gate, gates, sink,
-    ))
+    Ok(vsock_main(rt, &words, source, host, &mut clock, &mut gate, gates, sink))
 }
 
 /// The status of a command line's run of a script, in pieces of that size, and what it prints. The nth call of the source fails, and of the

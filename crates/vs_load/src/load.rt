@@ -31,11 +31,7 @@ pub const LOAD_IDLE: u32 = 10_000;
 const LOAD_BASE: &str = "v.sock";
 
 // The line of a load that is over.
-fn line_of<N: RunName>(
-    alloc: Global,
-    conns: u32,
-    guests: &Guests<N>,
-) -> Result<String, AllocError>
+fn line_of<N: RunName>(alloc: Global, conns: u32, guests: &Guests<N>) -> Result<String, AllocError>
     ensures { IfOk result (λ line. string_bytes line ≡ load_line conns N.script guests.now.entries guests.now.bytes) }
 {
     let journal = guests.journal();

@@ -61,9 +61,7 @@ fn load_gated<W: Threads + Wait + Sync, C: Clock, G: Gate + Send + Drop, K: Sink
     requires queue { IsQueueSize queue }
     ensures { EndsLoad number conns bytes (K.contents out.old) (K.contents out.new) (K.faults out.old) (K.faults out.new) result }
 {
-    match load(
-        rt, alloc, number, conns, bytes, queue, clock, gates, gate,
-    ) {
+    match load(rt, alloc, number, conns, bytes, queue, clock, gates, gate) {
         Ok(line) => ended(out, line.as_bytes(), DONE),
         Err(_) => no_memory(out),
     }

@@ -48,7 +48,9 @@ pub fn run_script<
         (K.contents out.old) (K.contents out.new) (K.faults out.old) (K.faults out.new) result }
 {
     match read_source(alloc, script) {
-        Ok(bytes) => run_bytes(rt, alloc, base, queue, idle, &bytes, host, clock, gates, out),
+        Ok(bytes) => run_bytes(
+            rt, alloc, base, queue, idle, &bytes, host, clock, gates, out,
+        ),
         Err(error) => unread(out, error),
     }
 }
@@ -73,7 +75,9 @@ fn run_bytes<W: Threads + Wait + Sync, H: HostNet, C: Clock, G: Gate + Send + Dr
 {
     law_of_scripts();
     match parse(alloc, Command::Run, bytes) {
-        Ok(script) => run_parsed(rt, alloc, base, queue, idle, script, host, clock, gates, out),
+        Ok(script) => run_parsed(
+            rt, alloc, base, queue, idle, script, host, clock, gates, out,
+        ),
         Err(fault) => refused(alloc, fault, out),
     }
 }

@@ -191,12 +191,14 @@ fn run<
             out,
         ),
         Ok(Command::Hostile) => hostile_script(rt.alloc(), script, out),
-        Ok(Command::Load {
-            number,
-            conns,
-            bytes,
-            queue,
-        }) => load_apps(
+        Ok(
+            Command::Load {
+                number,
+                conns,
+                bytes,
+                queue,
+            },
+        ) => load_apps(
             rt,
             rt.alloc(),
             number,

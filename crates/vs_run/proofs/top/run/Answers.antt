@@ -32,7 +32,7 @@ returns-in-Ok-Hostile-clause-does g c =
 pub returns-in-Ok-Load-clause-does : goal.returns-in-Ok-Load-clause-does
 returns-in-Ok-Load-clause-does g c =
     let is : command_of (map string_bytes c.args.words.now)
-        ≡ Some (Load c.in-Ok-Load.number c.in-Ok-Load.conns c.in-Ok-Load.bytes c.in-Ok-Load.queue) =
+    ≡ Some (Load c.in-Ok-Load.number c.in-Ok-Load.conns c.in-Ok-Load.bytes c.in-Ok-Load.queue) =
     c.in-Ok-Load.ensures.command ∙ ap (λ x. Some (command_view x)) c.in-Ok-Load.field-0-is in
     subst (λ k. Does k
     (lent (g.S.Source.contents c.args.script.now) (g.H.HostNet.contents c.args.host.now) (g.K.Sink.contents c.args.out.now)
