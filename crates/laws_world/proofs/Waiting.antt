@@ -6,6 +6,7 @@ use Rattle.vs_device_parts.specs.State.{DeviceEntry}
 use Rattle.vs_flow.specs.declared.flow.Flow.{Flow}
 use Rattle.laws_history.specs.History.{Asker, Side, gots, puts}
 use Rattle.vs_page.specs.{Fair.asked_by, Fair.number_of, Log.Device, Log.Log, Log.side_of, Log.whole_of, Open.is_open}
+use Rattle.laws_asked.specs.Asked.{has_new}
 use Rattle.laws_tables.specs.Ends.{flows_of, is_among, is_new, new_flows, replied}
 use Rattle.laws_tables.{specs.Steps.HasEnd, proofs.Slots.one_end, proofs.Tables.all_open, proofs.Tables.end_new}
 use Rattle.laws_device.specs.Streams.{has_open_stream, is_waiting_for_request}
@@ -24,7 +25,7 @@ module _ {fresh : Type 0} (w : World) (well : IsWell fresh w) where
       let asker : side_of Device e.flow ≡ Asker =
       (end_new Device first_cid (device_ends w.proxy) log e.flow e.value.end (well.sound.matches Device).flows has new).asking.asker in
       subst (λ (side : Side). asked_by side (puts (whole_of Device e.flow log)) (gots (whole_of Device e.flow log)) ≡ 0) (sym asker)
-      ((well.once Device e.flow asker).new e.value.end has new)
+      ((well.once Device e.flow asker).new (ap has_new has ∙ ap (λ (b : Bool). b || false) new))
 
   module _ (yes : fresh) where
     new_waits : (f : Flow) → is_among f (new_flows (device_ends w.proxy).entries) ≡ true → is_waiting_for_request f w.host log ≡ true
