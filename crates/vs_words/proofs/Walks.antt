@@ -10,7 +10,8 @@ use Rattle.clap.specs.{Simple.App, Simple.entered, Simple.matches_of, Simple.nam
 use Rattle.clap.specs.Faults.{check_fault, defaults_fault, entered_fault, fault_of, level_fault, settle_fault, turn_fault, use_fault}
 use Rattle.clap.specs.Faults.{walk_fault}
 use Rattle.vs_words.specs.Options.{Given, given_by, have_names, is_empty, is_given, is_value, options_of}
-use Rattle.vs_words.proofs.Rules.{app_with, built_is, built_rule, given_row, is_known, rules, shape_with, use_again, use_new, used_new}
+use Rattle.vs_words.specs.Reading.{app_with}
+use Rattle.vs_words.proofs.Rules.{built_is, built_rule, given_row, is_known, rules, shape_with, use_again, use_new, used_new}
 use Rattle.vs_words.proofs.Steps.{Look, Plain, Dashes, Long, Short, dashes, look, chars_some, or_left, or_right, or_nil, or_assoc, held_at}
 use Rattle.vs_words.proofs.Steps.{walk_at, trailing_at, plain_idle, short_idle, short_waits, unknown_idle, unknown_waits, whole_fault}
 use Rattle.vs_words.proofs.Steps.{whole_walked, name_fault, name_walked, long_waits, value_fault, value_walked, end_fault, end_walked}
