@@ -53,7 +53,13 @@ module _ (script : RunScript) (g : GuestsState) (are : AreGuests script g) where
         ring = record { size = are.ring.size; flight = are.ring.flight; staged = are.ring.staged; none = are.ring.none };
         run = record {
           apps = run.apps;
-          kept = record { honest = run.kept.honest; routed = run.kept.routed; accounted = run.kept.accounted; stands = run.kept.stands };
+          kept = record {
+            honest = run.kept.honest;
+            routed = run.kept.routed;
+            accounted = run.kept.accounted;
+            stands = run.kept.stands;
+            asks = run.kept.asks;
+          };
           follows = run.follows;
           waits = run.waits;
         };
