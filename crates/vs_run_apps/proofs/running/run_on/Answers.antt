@@ -1,0 +1,10 @@
+use Rattle.std.proofs.Common.{rules, IfOk, subst}
+use Rattle.vs_run_apps.specs.Runs.{HasRun}
+use Rattle.vs_run_apps.proofs.running.run_on.Goals as goal
+
+pub returns-in-Ok : goal.returns-in-Ok
+returns-in-Ok g c = record {
+  ran = subst (λ host. IfOk c.settled.result (λ r. HasRun g.N.RunName.script r.guests
+      (record { proxy = r.proxy; ring = r.ring; contents = g.H.HostNet.contents host; faults = g.H.HostNet.faults host }) r.met))
+      (search rules) c.settled.ensures.ran;
+}
