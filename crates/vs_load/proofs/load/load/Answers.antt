@@ -4,7 +4,7 @@ use Rattle.vs_load.specs.Loads.{IsOver}
 use Rattle.vs_load.proofs.load.load.Goals as goal
 
 pub load_under-requires-clause-right : goal.load_under-requires-clause-right
-load_under-requires-clause-right g c = subst AreRight (sym c.in_ok-script.ensures.apps) c.law_of_loads.ensures
+load_under-requires-clause-right g c κs within = subst AreRight (sym c.in_ok-script.ensures.apps) c.law_of_loads.ensures
 
 pub returns : goal.returns
 returns g c =
