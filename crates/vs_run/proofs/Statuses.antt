@@ -170,9 +170,7 @@ cause (Some words.Hostile) old new r h =
     (hostile_status (Some words.Hostile) old new r) script_of.Hostile h.0
 cause (Some (words.Load number conns bytes queue)) old new r h =
     load_cause (Some (words.Load number conns bytes queue)) old new r number conns bytes h.0
-cause (Some (words.Peer base port idle)) old new r h = says_cause (Some (words.Load number conns bytes queue)) old new r h =
-    load_cause (Some (words.Load number conns bytes queue)) old new r number conns bytes h.0
-cause (Some (words.Peer base port idle)) old new r refl refl base port idle h.0
+cause (Some (words.Peer base port idle)) old new r h = says_cause (Some (words.Peer base port idle)) old new r refl refl base port idle h.0
 
 -- What the status says, and that there is no other.
 pub cause_at : (command : Option words.Command) (old new : Lent) (r n : ℕ) → Does command old new r → r ≡ n → At n command old new
