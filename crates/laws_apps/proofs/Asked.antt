@@ -4,8 +4,7 @@ use Rattle.vs_limits.specs.declared.TheConstants.{LAST_PORT}
 use Rattle.vs_page.specs.Log.{Driver}
 use Rattle.vs_ring_port.specs.{Contents.RingContents, EndLog.EndLog}
 use Rattle.laws_tables.specs.Both.{Asks, Decides, Opens, Pays, Seat, Sends, Step}
-use Rattle.vs_driver_parts.specs.{Conversations.new_of, Conversations.poll_of, Playing.Plays, State.DriverState}
-use Rattle.vs_driver_parts.specs.declared.answers.Polled.{Polled}
+use Rattle.vs_driver_parts.specs.{Conversations.{new_of, poll_of}, Playing.Plays, State.DriverState, declared.answers.Polled.Polled}
 use Rattle.laws_driver.specs.Honest.{IsFresh, IsHonestWith}
 use Rattle.laws_driver.proofs.{Calls.new_keeps, Carrying.Fact, Going.Goes, Going.MayDo, Going.MayDoAll, Going.done, Going.seat, Going.stays}
 use Rattle.laws_driver.proofs.{Keeping.keeps_end, Polling.poll_keeps, Staging.Rests, Walking.goes_from, Walking.poll_goes}

@@ -2,15 +2,13 @@
 use Rattle.std.proofs.Common.{◌≡◌, ◌<◌, ◌^◌, ℕ, nat_lt, true, arith, List, [], ◌∷◌, ◌++◌, Option, Some, None, refl, sym, ap, subst, ◌∙◌, append-nil}
 use Rattle.std.proofs.lemmas.Bool.Decides.{nat_tests}
 use Rattle.vs_ring_port.specs.{Contents.RingContents, EndLog.EndLog}
-use Rattle.vs_driver_parts.specs.{Conversations.DriverTree, Conversations.poll_of, Playing.Plays, State.DriverState}
-use Rattle.vs_driver_parts.specs.declared.answers.Polled.{Polled}
+use Rattle.vs_driver_parts.specs.{Conversations.{DriverTree, poll_of}, Playing.Plays, State.DriverState, declared.answers.Polled.Polled}
 use Rattle.laws_driver.specs.Honest.{IsHonestWith, slots_of}
 use Rattle.laws_driver.proofs.{Keeping.keeps_end, Ringing.agrees, Staging.Rests}
 use Rattle.laws_driver_bytes.specs.Calls.{GuestCall, Journal, ReplyTo, account_of, is_right, received_by, sent_of, whole_call, with_call}
 use Rattle.laws_driver_bytes.specs.{Received.AreReceived, Received.IsReceivedWith, Sent.TellsMore}
-use Rattle.laws_driver_bytes.proofs.{Ending.poll_ends, Growing.honest_stays, Growing.log_grows, Journaling.journaled, Journaling.sent_just}
-use Rattle.laws_driver_bytes.proofs.Making.{at_first, call_sent, further_as, sent_with, whole_with}
-use Rattle.laws_driver_bytes.proofs.Sending.{begins, poll_sent}
+use Rattle.laws_driver_bytes.proofs.{Ending.poll_ends, Growing.{honest_stays, log_grows}, Journaling.{journaled, sent_just}}
+use Rattle.laws_driver_bytes.proofs.{Making.{at_first, call_sent, further_as, sent_with, whole_with}, Sending.{begins, poll_sent}}
 use Rattle.laws_driver_bytes.specs.Calls as call
 use Rattle.laws_rest.specs.Rest.{IsRoutedWith}
 use Rattle.laws_rest.proofs.Routes.{connect_routed, send_routed}

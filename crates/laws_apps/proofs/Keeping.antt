@@ -8,10 +8,9 @@ use Rattle.laws_driver.proofs.Calls.{poll_honest}
 use Rattle.laws_rest.proofs.Routes.{poll_routed}
 use Rattle.laws_driver_bytes.specs.Calls.{Journal, Made, ReplyTo, bytes_received, with_call}
 use Rattle.vs_apps_parts.specs.Journals.{AllStandIn, calls_of, calls_of_app, entry_called, last_wait, made_as, made_by, made_by_app}
-use Rattle.vs_apps_parts.specs.{Journals.wait_noted, Journals.wait_place, Scripts.IsPlayed, Scripts.RunScript, Scripts.acts_of}
-use Rattle.vs_apps_parts.specs.{Scripts.told_in, Scripts.with_noted, Told.step_wait, Told.told_of, Told.wait_of}
-use Rattle.vs_apps_parts.specs.declared.{journal.Entry.Entry, journal.WaitsFor.WaitsFor, progress.AppState.AppState}
-use Rattle.vs_apps_parts.specs.declared.{progress.Progress.Progress, progress.Stepped.Stepped, told.Told.Told}
+use Rattle.vs_apps_parts.specs.{Journals.{wait_noted, wait_place}, Scripts.{IsPlayed, RunScript, acts_of, told_in, with_noted}}
+use Rattle.vs_apps_parts.specs.{Told.{step_wait, told_of, wait_of}, declared.{journal.Entry.Entry, journal.WaitsFor.WaitsFor}}
+use Rattle.vs_apps_parts.specs.declared.{progress.AppState.AppState, progress.Progress.Progress, progress.Stepped.Stepped, told.Told.Told}
 use Rattle.vs_apps_parts.specs.declared.progress.Stepped.TheVariants as stepped
 use Rattle.vs_apps_parts.specs.declared.told.Told.TheVariants as says
 use Rattle.laws_apps.specs.{Accounts.IsAccounted, Runs.IsKept, Runs.IsRunOf, Runs.MakesCall, Runs.MakesCalls, Runs.Moves, Runs.NotesCall}

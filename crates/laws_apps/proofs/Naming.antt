@@ -5,8 +5,7 @@ use Rattle.vs_flow.specs.{Connection.Connection, Flow.same_flow}
 use Rattle.vs_page.specs.Log.{Log}
 use Rattle.vs_page.proofs.Flows.{same_is, same_self}
 use Rattle.vs_driver_parts.specs.Held.{HeldSlots}
-use Rattle.laws_driver_bytes.specs.{Calls.Journal, Calls.bytes_sent, Calls.names, Received.Account, Received.AreReceived, Sent.is_same}
-use Rattle.laws_driver_bytes.specs.Sent.{only_on}
+use Rattle.laws_driver_bytes.specs.{Calls.{Journal, bytes_sent, names}, Received.{Account, AreReceived}, Sent.{is_same, only_on}}
 use Rattle.vs_apps_parts.specs.Journals.{sent_as}
 use Rattle.laws_apps.specs.Accounts.{AreSenders, IsSender, sent_there, sent_to}
 use Rattle.laws_apps.proofs.Sending.{only_none}

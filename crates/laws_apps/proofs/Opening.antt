@@ -11,14 +11,11 @@ use Rattle.vs_driver_parts.specs.{Connections.flow_of, declared.answers.Accepted
 use Rattle.vs_driver_parts.specs.declared.answers.Accepted.TheVariants as accepted
 use Rattle.laws_tables.proofs.Slots.{found_by}
 use Rattle.laws_driver.specs.Honest.{slots_of}
-use Rattle.laws_driver_bytes.specs.Calls.{flow_accepted, flow_opened}
-use Rattle.laws_driver_bytes.specs.Received.{Account, AreReceived, ReceivedOn, ReceivesOn}
-use Rattle.vs_apps_parts.specs.Journals.{entry_waited}
-use Rattle.vs_apps_parts.specs.declared.journal.{Called.Called, Deed.Deed, Entry.Entry, WaitsFor.WaitsFor}
+use Rattle.laws_driver_bytes.specs.{Calls.{flow_accepted, flow_opened}, Received.{Account, AreReceived, ReceivedOn, ReceivesOn}}
+use Rattle.vs_apps_parts.specs.{Journals.entry_waited, declared.journal.{Called.Called, Deed.Deed, Entry.Entry, WaitsFor.WaitsFor}}
 use Rattle.vs_apps_parts.specs.declared.journal.Called.TheVariants as called
 use Rattle.vs_apps_parts.specs.declared.journal.Deed.TheVariants as deed
-use Rattle.laws_apps.specs.{Accounts.EntryTells, Accounts.HasOne, Accounts.IsAccepted, Accounts.IsConnected, Accounts.TellFlows, Accounts.TellsFlow}
-use Rattle.laws_apps.specs.Runs.{HasFlow}
+use Rattle.laws_apps.specs.{Accounts.{EntryTells, HasOne, IsAccepted, IsConnected, TellFlows, TellsFlow}, Runs.HasFlow}
 
 -- Where ids that had connections keep them, all that was told of them stays so.
 module _ (a b : ℕ → Connection) (stay : (id : ℕ) → 1 ≤ (a id).number → b id ≡ a id) where

@@ -7,9 +7,8 @@ use Rattle.vs_flow.specs.Connection.{Connection}
 use Rattle.vs_flow.proofs.Entries.{found_passes}
 use Rattle.vs_page.specs.{Fair.current, Log.Driver, Log.Log}
 use Rattle.vs_ring_port.specs.Contents.{RingContents}
-use Rattle.vs_driver_parts.specs.{declared.answers.Sent.Sent, Conversations.DriverTree, Conversations.not_sent, Conversations.send_on}
-use Rattle.vs_driver_parts.specs.{Playing.Plays, State.DriverEntry, State.DriverState, State.entry_known_as, State.gone_known_as}
-use Rattle.vs_driver_parts.specs.State.{is_known_as}
+use Rattle.vs_driver_parts.specs.{declared.answers.Sent.Sent, Conversations.{DriverTree, not_sent, send_on}, Playing.Plays}
+use Rattle.vs_driver_parts.specs.State.{DriverEntry, DriverState, entry_known_as, gone_known_as, is_known_as}
 use Rattle.vs_driver_parts.specs.declared.answers.Sent.TheVariants as sent
 use Rattle.laws_tables.proofs.Slots.{found_by}
 use Rattle.laws_driver.specs.Honest.{slots_of}

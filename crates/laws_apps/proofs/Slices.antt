@@ -1,15 +1,13 @@
 -- The next slice of data, byte by byte.
 use Rattle.std.proofs.Common.{◌≡◌, ◌≤◌, ◌<◌, ◌+◌, ℕ, suc, List, [], ◌∷◌, ◌++◌, length, take, drop, get_or, refl, sym, ap, subst, ◌∙◌, arith}
-use Rattle.std.proofs.lemmas.List.{get_or-drop, length-drop, length-take-le, take_more_set}
-use Rattle.std.proofs.lemmas.List.FromFn.{get_or-map-range_with_len, length-map-range_with_len}
-use Rattle.std.proofs.Math.Seq.{take-suc}
+use Rattle.std.proofs.{lemmas.List.{get_or-drop, length-drop, length-take-le, take_more_set}, lemmas.List.FromFn.get_or-map-range_with_len}
+use Rattle.std.proofs.{lemmas.List.FromFn.length-map-range_with_len, Math.Seq.take-suc}
 use Rattle.std.specs.{Prelude.slice_set}
 use Rattle.vs_script.specs.Data.{Content, Fill, Given, byte_at, bytes_of, filled, size_of}
 use Rattle.laws_driver_bytes.specs.Calls as call
 use Rattle.vs_apps_parts.specs.Scripts.{RunScript, id_of, send_next, slice_left, slice_of}
 use Rattle.vs_apps_parts.specs.declared.{progress.Progress.Progress, told.Told.Told}
-use Rattle.laws_apps.specs.Runs.{Run}
-use Rattle.laws_apps.specs.Calls.{CallsAs}
+use Rattle.laws_apps.specs.{Runs.Run, Calls.CallsAs}
 
 size_is : (c : Content) → length (bytes_of c) ≡ size_of c
 size_is (Given bytes) = refl

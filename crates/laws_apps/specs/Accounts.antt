@@ -1,11 +1,9 @@
 -- What a journal says was sent and received, against what the driver's log put and got.
-use Rattle.std.specs.{Option.ForSome, Prelude.◌≡◌, Prelude.◌⊎◌, Prelude.ℕ, Prelude.◌≤◌, Prelude.◌++◌, Prelude.true, Prelude.List}
-use Rattle.std.specs.Prelude.{[], ◌∷◌, Option, Some, None, Result, Ok, Err}
+use Rattle.std.specs.{Option.ForSome, Prelude.{◌≡◌, ◌⊎◌, ℕ, ◌≤◌, ◌++◌, true, List, [], ◌∷◌, Option, Some, None, Result, Ok, Err}}
 use Rattle.vs_flow.specs.{Connection.Connection, declared.flow.Flow.Flow}
 use Rattle.vs_page.specs.{Fair.payload_put, Log.Driver, Log.Log}
 use Rattle.vs_ring_port.specs.Contents.{RingContents}
-use Rattle.vs_driver_parts.specs.{Held.HeldSlots, State.DriverState}
-use Rattle.vs_driver_parts.specs.declared.answers.{Accepted.Accepted, ConnectError.ConnectError}
+use Rattle.vs_driver_parts.specs.{Held.HeldSlots, State.DriverState, declared.answers.{Accepted.Accepted, ConnectError.ConnectError}}
 use Rattle.vs_driver_parts.specs.declared.answers.Accepted.TheVariants as accepted
 use Rattle.laws_driver.specs.Honest.{slots_of}
 use Rattle.laws_driver_bytes.specs.{Calls.Journal, Calls.account_of, Calls.bytes_sent, Received.AreReceived, Sent.only_on}

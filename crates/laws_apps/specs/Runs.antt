@@ -3,8 +3,7 @@ use Rattle.std.specs.Prelude.{◌≡◌, ◌≤◌, ℕ, ◌<◌, ◌||◌, nat_
 use Rattle.std.specs.Prelude.{slice_index_or, slice_set}
 use Rattle.vs_script.specs.App.{Act}
 use Rattle.vs_ring_port.specs.Contents.{RingContents}
-use Rattle.vs_driver_parts.specs.{Conversations.poll_of, Playing.Plays, State.DriverState}
-use Rattle.vs_driver_parts.specs.declared.answers.Polled.{Polled}
+use Rattle.vs_driver_parts.specs.{Conversations.poll_of, Playing.Plays, State.DriverState, declared.answers.Polled.Polled}
 use Rattle.laws_driver.specs.Honest.{IsHonestWith}
 use Rattle.laws_driver_bytes.specs.Calls.{Journal, Made, bytes_received, flow_accepted, flow_opened, is_right, whole_call}
 use Rattle.vs_apps_parts.specs.Journals.{AllStandIn, calls_of, calls_of_app, ends_at, entry_called, last_wait, made_as, made_of, wait_noted}

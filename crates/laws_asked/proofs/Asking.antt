@@ -12,9 +12,8 @@ use Rattle.vs_page.specs.declared.log.LogEntry.TheVariants.{GotPacket, PutPacket
 use Rattle.vs_page.proofs.Flows.{same_is, same_self}
 use Rattle.laws_tables.specs.Both.{Aborts, Asks, Decides, Decision, Forgets, Forwards, Grows, MakesReset, Opens, Pays, PutsEvent, Replies}
 use Rattle.laws_tables.specs.Both.{Seat, Sends, Shuts, Step, Takes, TakesEvent, TakesReset, WantsCredit, after, after_packet, answered}
-use Rattle.laws_tables.specs.{Both.decided, Both.new_seat, Heard.own_port}
-use Rattle.laws_tables.specs.Ends.{Ends, answer_kind, ends_of, is_new, replaced}
-use Rattle.laws_tables.specs.Steps.{asking, is_kept, left, opened, owed_on, payload_on, port_after, reply_on, request_on, with_clean}
+use Rattle.laws_tables.specs.{Both.{decided, new_seat}, Heard.own_port, Ends.{Ends, answer_kind, ends_of, is_new, replaced}, Steps.asking}
+use Rattle.laws_tables.specs.Steps.{is_kept, left, opened, owed_on, payload_on, port_after, reply_on, request_on, with_clean}
 use Rattle.laws_tables.specs.Steps.{with_connection, with_end}
 use Rattle.laws_tables.proofs.{Steps.owed_flow, Steps.request_flow, Keeps.paid_old, Entries.replaced_same}
 use Rattle.vs_conn.specs.declared.end.Owed.TheVariants as owed

@@ -1,9 +1,8 @@
 -- A table in which one entry changes, or leaves: what holds of each entry.
 use Rattle.std.proofs.Common.{◌≡◌, ◌≢◌, ℕ, ◌<◌, ◌==◌, nat_lt, Bool, true, false, not, List, [], ◌∷◌, length, filter, map, get_or, Contains}
-use Rattle.std.proofs.Common.{Some, refl, sym, ap, subst, ◌∙◌, arith}
-use Rattle.std.proofs.lemmas.List.Elements.{All-filter, All-map, filter_passes}
-use Rattle.std.specs.List.{All}
+use Rattle.std.proofs.{Common.{Some, refl, sym, ap, subst, ◌∙◌, arith}, lemmas.List.Elements.{All-filter, All-map, filter_passes}}
 use Rattle.std.proofs.lemmas.{Bool.Decides.nat_tests, List.get_or_default, Option.slice_get-get_or}
+use Rattle.std.specs.List.{All}
 use Rattle.vs_flow.specs.Table.{entry_under, IsTable, Table, revalued, with_value, without}
 use Rattle.vs_flow.{proofs.Entries.found_at, proofs.Tables.revalued-slot, specs.declared.table.Entry.Entry}
 

@@ -6,9 +6,8 @@ use Rattle.std.proofs.lemmas.Grind.{common_steps}
 use Rattle.laws_history.specs.{Again.IsFairAll, Again.count, Again.present, Packets.has, Packets.is_request, declared.packet.Packet.Packet}
 use Rattle.laws_history.specs.History.{Answerer, Asker, Got, History, IsFair, MayPut, Put, Side, gots, is_begun, peer, puts}
 use Rattle.laws_history.proofs.Present.{fair_once}
-use Rattle.vs_page.specs.Fair.{IsFairLog, IsFairOn, asked_by, number_of, payload_got, payload_of, payload_put}
-use Rattle.vs_page.specs.Log.{Log, Role, flow_got, history_of, side_of, whole_of}
-use Rattle.vs_page.specs.declared.log.LogEntry.TheVariants.{GotPacket}
+use Rattle.vs_page.specs.{Fair.{IsFairLog, IsFairOn, asked_by, number_of, payload_got, payload_of, payload_put}, Log.{Log, Role, flow_got}}
+use Rattle.vs_page.specs.{Log.{history_of, side_of, whole_of}, declared.log.LogEntry.TheVariants.GotPacket}
 use Rattle.laws_tables.specs.Heard.{heard_of}
 use Rattle.laws_tables.proofs.Fair.{fair_begun, fair_now, heard_puts, own_got_fair}
 

@@ -4,8 +4,7 @@ use Rattle.std.proofs.lemmas.List.{append-nil}
 use Rattle.vs_flow.{specs.Flow.same_flow, specs.declared.flow.Flow.Flow, proofs.Entries.same_flow_false}
 use Rattle.laws_history.specs.{History.Got, History.History, History.Put, History.gots, History.puts, declared.packet.Packet.Packet}
 use Rattle.laws_tables.specs.Heard.{is_empty}
-use Rattle.vs_page.specs.Log.{Log, Role, flow_got, flow_put, whole_of}
-use Rattle.vs_page.specs.declared.log.LogEntry.TheVariants.{GotPacket, PutPacket}
+use Rattle.vs_page.specs.{Log.{Log, Role, flow_got, flow_put, whole_of}, declared.log.LogEntry.TheVariants.{GotPacket, PutPacket}}
 use Rattle.vs_page.{proofs.Flows.same_self, specs.Fair.IsPrefixOf, specs.Fair.payload_of}
 use Rattle.laws_bytes.specs.Drains.{got_on, has_passed, put_on}
 

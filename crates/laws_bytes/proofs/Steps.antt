@@ -1,7 +1,6 @@
 -- What a connection's end does to the payload that it takes.
 use Rattle.std.proofs.Common.{◌≡◌, ℕ, Bool, true, false, List, [], ◌++◌, take, drop, cond, Some, refl, sym, ap, subst, ◌∙◌, append_assoc}
-use Rattle.std.proofs.{Common.arith, Common.take-append-drop, lemmas.Bool.Decides.nat_tests, lemmas.Grind.common_steps}
-use Rattle.std.proofs.lemmas.List.{append-nil}
+use Rattle.std.proofs.{Common.{arith, take-append-drop}, lemmas.Bool.Decides.nat_tests, lemmas.Grind.common_steps, lemmas.List.append-nil}
 use Rattle.vs_conn.specs.End.{ConnectionEnd, end_after, is_refused, owes_of, paid_of, verdict_of, with_payload_forwarded, with_shut}
 use Rattle.vs_conn.specs.declared.end.{Owed.Owed, Verdict.Verdict}
 use Rattle.vs_conn.specs.declared.end.Owed.TheVariants as owed

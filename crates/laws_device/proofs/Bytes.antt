@@ -1,7 +1,6 @@
 -- The headers of an end's packets fit their fields.
 use Rattle.std.proofs.Common.{ℕ, ◌<◌, ◌^◌, arith}
-use Rattle.vs_header.specs.Kind.{kind_number}
-use Rattle.vs_header.specs.declared.{Kind.Kind, Kind.TheVariants.Stream, Kind.TheVariants.Seqpacket, Op.Op}
+use Rattle.vs_header.specs.{Kind.kind_number, declared.{Kind.Kind, Kind.TheVariants.Stream, Kind.TheVariants.Seqpacket, Op.Op}}
 use Rattle.vs_flow.specs.declared.flow.Flow.{Flow}
 use Rattle.vs_page.{specs.Held.FitsWire, proofs.Packets.op_small}
 use Rattle.vs_conn.specs.{End.ConnectionEnd, Headers.header_from, Headers.reset_header}

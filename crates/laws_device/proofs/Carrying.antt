@@ -4,9 +4,8 @@ use Rattle.std.{proofs.Common.arith, proofs.Common.is_some, proofs.Common.ap, pr
 use Rattle.laws_history.specs.History.{Answerer, Asker, Got, History, Put, Side, gots, puts}
 use Rattle.laws_history.specs.{Again.count, Packets.is_request, declared.packet.Packet.Packet}
 use Rattle.vs_flow.specs.{Flow.same_flow, Table.Table}
-use Rattle.vs_page.specs.declared.log.LogEntry.TheVariants.{GotPacket, PutPacket}
-use Rattle.vs_page.specs.Log.{Device, Log, flow_got, flow_put, side_of, whole_of}
-use Rattle.vs_page.specs.{declared.log.LogEntry.LogEntry, Fair.asked_by, Open.is_dropped}
+use Rattle.vs_page.specs.{declared.log.LogEntry.TheVariants.{GotPacket, PutPacket}, Log.{Device, Log, flow_got, flow_put, side_of}}
+use Rattle.vs_page.specs.{Log.whole_of, declared.log.LogEntry.LogEntry, Fair.asked_by, Open.is_dropped}
 use Rattle.vs_contents.specs.Contents.{Exposes}
 use Rattle.vs_outside.specs.Host.{HostContents, after_close}
 use Rattle.vs_proxy_parts.specs.State.{Handshake}
@@ -17,8 +16,8 @@ use Rattle.laws_device_streams.proofs.Tables.{some_after, some_from}
 use Rattle.laws_device_bytes.specs.Streamed.{IsStreamed}
 use Rattle.laws_tables.proofs.Fair.{got_one}
 use Rattle.laws_device.proofs.Ringing.{Telling, Tells, host_moves, tells_weaker}
-use Rattle.laws_device.specs.{Honest.IsFitState, Honest.IsWith, Streams.AreStreamedWith, Streams.IsPlain}
 use Rattle.laws_device.proofs.{Chains.Among, Chains.alone, Chains.alone_so, Seats.AgreesBy, Seats.Carried, Keeping.Keeps, Keeping.keeps_end}
+use Rattle.laws_device.specs.{Honest.IsFitState, Honest.IsWith, Streams.AreStreamedWith, Streams.IsPlain}
 
 abbrev pub Fact : Type 1
 Fact = Option HostContents → Log → Type 0

@@ -4,8 +4,7 @@ use Rattle.std.proofs.Common.{Option, Some, None, refl, sym, ap, subst, ◌∙�
 use Rattle.std.proofs.lemmas.{Bool.Decides.nat_tests, Bool.and_parts, List.take_at}
 use Rattle.vs_page.specs.Overwriting.{overwritten}
 use Rattle.vs_ring_port.specs.Chains.{Held, bytes_in, chains_of, same_chain, same_queue, with_bytes, without_held}
-use Rattle.vs_ring_port.specs.declared.queue.Queue.TheVariants.{Rx, Tx, Event}
-use Rattle.vs_ring_port.specs.declared.{device_ring.Chain.Chain, queue.Queue.Queue}
+use Rattle.vs_ring_port.specs.{declared.queue.Queue.TheVariants.{Rx, Tx, Event}, declared.{device_ring.Chain.Chain, queue.Queue.Queue}}
 use Rattle.vs_device_parts.specs.Playing.{IsRxChain}
 use Rattle.laws_device.{specs.Honest.is_held, specs.Honest.unwritten, proofs.Ringing.same_self}
 

@@ -20,12 +20,11 @@ use Rattle.vs_device_parts.specs.Receiving.{reply_header, round_from, serve_slot
 use Rattle.vs_device_parts.specs.{Calls.DeviceTree, Calls.IsReadOf, Calls.ReadStream, Calls.Situation, Connections.with_fault}
 use Rattle.vs_device_parts.specs.{Streams.closing, Playing.IsRxChain, State.DeviceConnection, State.DeviceEntry, State.DeviceState}
 use Rattle.laws_device.proofs.Carrying.{Fact, IsHeldBy, IsToldBy, StreamedOver, With, closed_held, fact_called, put_goes, streams_call}
-use Rattle.laws_device.specs.Honest.{IsFitState}
-use Rattle.laws_device.proofs.Changing.{cuts, shuts, wants, same}
-use Rattle.laws_device.proofs.Keeping.{Goes, Keeps, asking, Lets, keeps_bind, keeps_each, keeps_then, keeps_while}
-use Rattle.laws_device.proofs.Putting.{Puts, owed_puts, reply_puts, rst_puts, send_puts}
+use Rattle.laws_device.proofs.{Carrying.streams_go, Changing.{cuts, shuts, wants, same}, Keeping.{Goes, Keeps, asking, Lets, keeps_bind}}
+use Rattle.laws_device.proofs.{Keeping.{keeps_each, keeps_then, keeps_while}, Putting.{Puts, owed_puts, reply_puts, rst_puts, send_puts}}
 use Rattle.laws_device.proofs.Steps.{Filled, Open, changed, closing_keeps, cut_with, goes_on, hold_keeps, open_filled, called_with}
-use Rattle.laws_device.proofs.{Seats.Carried, Writing.writes_first, Writing.written_keeps, Carrying.streams_go, Ringing.host_moves}
+use Rattle.laws_device.proofs.{Seats.Carried, Writing.{writes_first, written_keeps}, Ringing.host_moves}
+use Rattle.laws_device.specs.Honest.{IsFitState}
 use Rattle.laws_device_walk.proofs.Keeping.{keeps_if, keeps_some}
 use Rattle.laws_device_bytes.proofs.Changing.{called_host, closes_streams, ends_streams, leaves_streams, put_empty, reads_streams}
 use Rattle.laws_device_bytes.{proofs.Changing.shuts_streams, proofs.Gives.pays_gives, specs.Streamed.IsStreamed}

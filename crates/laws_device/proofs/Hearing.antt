@@ -3,14 +3,12 @@ use Rattle.std.proofs.Common.{◌≡◌, ℕ, ◌+◌, ◌≤◌, ◌==◌, ◌&
 use Rattle.std.proofs.Common.{Option, Some, None, refl, sym, ap, subst, ◌∙◌, arith, length-append, length-take, get_or, inl, inr}
 use Rattle.std.{proofs.lemmas.Bool.Decides.nat_tests, proofs.lemmas.Grind.common_steps, proofs.lemmas.List.get_or_default, specs.List.All}
 use Rattle.vs_contents.specs.CallTree.{Done, Ask, bind}
-use Rattle.vs_conn.specs.End.{ConnectionEnd, after_op, end_after, is_reset, is_of, verdict_of}
-use Rattle.vs_conn.specs.declared.end.{Verdict.Verdict, Why.Why}
+use Rattle.vs_conn.specs.{End.{ConnectionEnd, after_op, end_after, is_reset, is_of, verdict_of}, declared.end.{Verdict.Verdict, Why.Why}}
 use Rattle.vs_flow.specs.Table.{entry_of, has_place, with_value, Table}
 use Rattle.vs_flow.{specs.Flow.is_assigned, specs.Flow.same_flow, specs.declared.flow.Flow.Flow, proofs.Entries.same_flow_true}
 use Rattle.vs_header.specs.{Op.op_named, declared.Header.Header, declared.TheConstants.HEADER_LEN, declared.Kind.TheVariants.Stream}
 use Rattle.laws_history.specs.{Packets.is_request, declared.packet.Packet.Packet}
-use Rattle.vs_outside.specs.declared.host_net.Dialed.{Dialed}
-use Rattle.vs_outside.specs.Host.{HostContents, IsDialed, after_dial, after_failed, after_close, called}
+use Rattle.vs_outside.specs.{declared.host_net.Dialed.Dialed, Host.{HostContents, IsDialed, after_dial, after_failed, after_close, called}}
 use Rattle.vs_page.specs.{Fair.IsFairLog, Held.FitsWire, Held.IsWhole, Held.packet_held, Log.Device, Log.Log, Log.flow_to_host}
 use Rattle.vs_page.specs.{Open.is_dropped, declared.log.LogEntry.TheVariants.GotPacket}
 use Rattle.vs_replies.specs.Owed.{reply_to}
@@ -21,19 +19,17 @@ use Rattle.vs_device_parts.specs.Connections.{after_leaving, stream_closed, with
 use Rattle.vs_device_parts.specs.Transmitting.{dial_answered, heard, on_known, on_packet, on_unknown, refused, try_request, unknown_why}
 use Rattle.vs_device_parts.specs.{State.DeviceConnection, State.DeviceEntry, State.DeviceState, Streams.closing, Streams.leaving}
 use Rattle.vs_wrap.specs.Wrap.{counted}
-use Rattle.laws_device.proofs.Ringing.{Tells, moves, tells_weaker, host_moves, Telling, bytes_held}
-use Rattle.laws_device.proofs.Taking.{drops_it, has_its_room, ignores_it, leaves_with, opens, replies_to, stays_with}
-use Rattle.laws_device.proofs.Tabling.{IsFitConnection, begun_fits, entry_fits, has_end}
-use Rattle.laws_device.proofs.Carrying.{Fact, Closes, StreamedOver, streams_call, streams_go}
+use Rattle.laws_device.proofs.{Ringing.{Tells, moves, tells_weaker, host_moves, Telling, bytes_held}, Taking.{drops_it, has_its_room}}
+use Rattle.laws_device.proofs.{Taking.{ignores_it, leaves_with, opens, replies_to, stays_with}, Tabling.{IsFitConnection, begun_fits}}
+use Rattle.laws_device.proofs.{Tabling.{entry_fits, has_end}, Carrying.{Fact, Closes, StreamedOver, streams_call, streams_go}}
+use Rattle.laws_device.proofs.{Chains.Behind, Seats.{AgreesBy, Carried, LeftBy, seat}, Fits.{delivered, fewer, fits_after}, Keeping.Keeps}
+use Rattle.laws_device.proofs.{Keeping.{asking, Lets, keeps_bind}, Steps.closing_keeps}
 use Rattle.laws_device.specs.Honest.{HoldsBytes, ends_of_state}
-use Rattle.laws_device.proofs.{Chains.Behind, Seats.AgreesBy, Seats.Carried, Seats.LeftBy, Seats.seat, Fits.delivered, Fits.fewer}
-use Rattle.laws_device.proofs.{Fits.fits_after, Keeping.Keeps, Keeping.asking, Keeping.Lets, Keeping.keeps_bind, Steps.closing_keeps}
 use Rattle.laws_device_walk.proofs.Keeping.{keeps_if, keeps_some}
 use Rattle.laws_device_bytes.proofs.Changing.{accepts_streams, called_host, closes_streams, delivered_rw, delivers_streams, dialed_id}
 use Rattle.laws_device_bytes.proofs.Changing.{empty_streams, failed_host, got_nothing, hears_streams, leaves_streams, passes_streams}
-use Rattle.laws_device_bytes.proofs.Changing.{payload_in, request_empty, reset_empty, unknown_streams}
+use Rattle.laws_device_bytes.proofs.{Changing.{payload_in, request_empty, reset_empty, unknown_streams}, Streamed.join_of, Opens.dial_host}
 use Rattle.laws_device_bytes.specs.Streamed.{IsStreamed, gives, look}
-use Rattle.laws_device_bytes.proofs.{Streamed.join_of, Opens.dial_host}
 use Rattle.vs_proxy_parts.specs.State.{Handshake}
 use Rattle.laws_bytes.proofs.Logs.{got_passes, none_passed, passed_after_got, put_after_got}
 use Rattle.laws_bytes.{proofs.Firsts.asked_first, proofs.Firsts.once_history, specs.Drains.has_passed}

@@ -8,13 +8,11 @@ use Rattle.vs_header.specs.{Packet.header_bytes, Packet.header_of, declared.Head
 use Rattle.laws_history.specs.{Packets.is_rw, declared.packet.Packet.Packet}
 use Rattle.vs_page.specs.{Held.packet_held, Held.payload_held, Log.Log, Overwriting.overwritten, declared.log.LogEntry.TheVariants.PutEvent}
 use Rattle.vs_page.specs.declared.log.LogEntry.TheVariants.{PutPacket}
-use Rattle.vs_ring_port.specs.{Chains.Held, Chains.bytes_in, DeviceCalls.DeviceMoves, DeviceCalls.IsTakenAs, Lists.Rings}
-use Rattle.vs_ring_port.specs.{declared.device_ring.Chain.Chain, declared.failure.Failure.Failure, Contents.DeviceAnswer}
-use Rattle.vs_ring_port.specs.Contents.{DeviceCall, Read, Return, RingContents, Take, Write}
-use Rattle.vs_ring_port.specs.EndLog.{EndLog, log_returned, log_taken, log_written, with_packet}
+use Rattle.vs_ring_port.specs.{Chains.{Held, bytes_in}, DeviceCalls.{DeviceMoves, IsTakenAs}, Lists.Rings, declared.device_ring.Chain.Chain}
+use Rattle.vs_ring_port.specs.{declared.failure.Failure.Failure, Contents.{DeviceAnswer, DeviceCall, Read, Return, RingContents, Take}}
+use Rattle.vs_ring_port.specs.{Contents.Write, EndLog.{EndLog, log_returned, log_taken, log_written, with_packet}}
 use Rattle.vs_ring_port.specs.declared.queue.Queue.TheVariants.{Event, Rx, Tx}
-use Rattle.vs_device_parts.specs.{Calls.Allows, Calls.Ring, Calls.Situation, Playing.Runs, Receiving.event_on, Receiving.written}
-use Rattle.vs_device_parts.specs.State.{DeviceState}
+use Rattle.vs_device_parts.specs.{Calls.{Allows, Ring, Situation}, Playing.Runs, Receiving.{event_on, written}, State.DeviceState}
 use Rattle.laws_device.specs.Packets.{HasAdded, HasTaken, HoldsLast, IsWholeAs, packet_with}
 use Rattle.laws_device.proofs.{Chains.both_written, Chains.first_written, Ringing.bytes_held, Ringing.returned_entries}
 use Rattle.laws_device.proofs.{Ringing.returned_held, Ringing.written_held, Transmitting.some_test}

@@ -8,16 +8,15 @@ use Rattle.vs_header.specs.{Packet.header_bytes, declared.Header.Header}
 use Rattle.laws_history.specs.{History.puts, declared.packet.Packet.Packet}
 use Rattle.vs_flow.specs.Table.{Table, with_value, without}
 use Rattle.vs_page.specs.Log.{Device, Log, history_of}
-use Rattle.vs_page.proofs.Packets.{held_alone, held_payload}
 use Rattle.vs_page.specs.{Fair.IsFairLog, Held.FitsWire, Held.packet_held, declared.log.LogEntry.TheVariants.PutPacket}
+use Rattle.vs_page.proofs.Packets.{held_alone, held_payload}
 use Rattle.vs_replies.specs.declared.Reply.{Reply}
 use Rattle.laws_tables.specs.Steps.{owed_on, paid, payload_on, with_end}
-use Rattle.laws_tables.proofs.Keeps.{owed_old, pays, pays_fair, replies, replies_fair, sends, sends_fair}
-use Rattle.laws_tables.proofs.OwedFlags.{owed_flags_fit}
 use Rattle.laws_tables.specs.{Ends.Ends, Ends.is_new, Matches.Matches, Both.Pays, Both.Replies, Both.Seat, Both.Sends}
+use Rattle.laws_tables.proofs.{Keeps.{owed_old, pays, pays_fair, replies, replies_fair, sends, sends_fair}, OwedFlags.owed_flags_fit}
 use Rattle.laws_device.proofs.Tabling.{begun_fits, connection_ends, connection_fits, entry_fits, has_end, left_ends, left_fits}
-use Rattle.laws_device.specs.Honest.{HoldsBytes, IsFit, IsFitEntry, IsFitReply, IsFitState, ends_of_state, ends_with}
 use Rattle.laws_device.proofs.{Seats.Carried, Seats.at_log, Seats.seat, Bytes.header_fits, Bytes.reset_fits, Fits.fits_paid, Fits.fits_sent}
+use Rattle.laws_device.specs.Honest.{HoldsBytes, IsFit, IsFitEntry, IsFitReply, IsFitState, ends_of_state, ends_with}
 use Rattle.vs_device_parts.specs.State.{DeviceConnection, DeviceEntry, DeviceState}
 use Rattle.vs_device_parts.specs.{Connections.route_to_guest, Connections.with_connection, Receiving.reply_header}
 use Rattle.vs_conn.specs.declared.end.Owed.TheVariants as owed

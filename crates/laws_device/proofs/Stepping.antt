@@ -9,9 +9,8 @@ use Rattle.vs_flow.specs.Table.{entry_under}
 use Rattle.vs_header.specs.declared.Header.{Header}
 use Rattle.vs_outside.specs.Host.{HostContents}
 use Rattle.vs_page.specs.{Held.FitsWire, Log.Log}
-use Rattle.vs_ring_port.specs.declared.queue.Queue.TheVariants.{Event, Rx, Tx}
-use Rattle.vs_ring_port.specs.{Chains.Held, Chains.bytes_in, Chains.same_queue, Contents.Return, Contents.Take, Contents.Write}
-use Rattle.vs_ring_port.specs.{DeviceCalls.IsTakenAs, EndLog.EndLog, EndLog.entries_returned, EndLog.log_returned, EndLog.log_taken}
+use Rattle.vs_ring_port.specs.{declared.queue.Queue.TheVariants.{Event, Rx, Tx}, Chains.{Held, bytes_in, same_queue}, Contents.Return}
+use Rattle.vs_ring_port.specs.{Contents.{Take, Write}, DeviceCalls.IsTakenAs, EndLog.{EndLog, entries_returned, log_returned, log_taken}}
 use Rattle.vs_ring_port.specs.{declared.device_ring.Chain.Chain, declared.device_ring.Next.Next, declared.queue.Queue.Queue}
 use Rattle.vs_device_parts.specs.Steps.{chain_came, filling, puts_event, puts_owed, puts_payload, puts_reply, reads, returns, shuts_write}
 use Rattle.vs_device_parts.specs.Receiving.{Filling, may_read, put_owed, put_reply, read_with_chain}
@@ -19,12 +18,11 @@ use Rattle.vs_device_parts.specs.Steps.{takes_chain, writes, writes_on, writing}
 use Rattle.vs_device_parts.specs.{Calls.DeviceTree, Calls.Ring, Calls.Situation, Connections.with_connection, Playing.IsRxChain}
 use Rattle.vs_device_parts.specs.{State.DeviceEntry, State.DeviceState, Streams.shut_write, Streams.write_pending, Transmitting.failing}
 use Rattle.laws_device.specs.Honest.{is_held}
-use Rattle.laws_device.proofs.Chains.{Among, among_more, among_without, held_there}
-use Rattle.laws_device.proofs.Filling.{Over, Ready, put_owed_keeps, put_reply_keeps, step_keeps, under_there}
-use Rattle.laws_device.proofs.Keeping.{Goes, Keeps, asking, Lets, keeps_then}
-use Rattle.laws_device.proofs.{Carrying.IsToldBy, Carrying.StreamedOver, Carrying.With, Hearing.After, Hearing.Heard, Steps.none_came}
-use Rattle.laws_device.proofs.{Steps.hold_keeps, Ringing.moves, Ringing.tells_weaker, Seats.Carried, Seats.LeftBy, Transmitting.read_keeps}
-use Rattle.laws_device.proofs.{Transmitting.tx_keeps, Turning.event_put, Turning.shut_keeps, Turning.write_keeps_all}
+use Rattle.laws_device.proofs.{Chains.{Among, among_more, among_without, held_there}, Filling.{Over, Ready, put_owed_keeps}}
+use Rattle.laws_device.proofs.{Filling.{put_reply_keeps, step_keeps, under_there}, Keeping.{Goes, Keeps, asking, Lets, keeps_then}}
+use Rattle.laws_device.proofs.{Carrying.{IsToldBy, StreamedOver, With}, Hearing.{After, Heard}, Steps.{none_came, hold_keeps}}
+use Rattle.laws_device.proofs.{Ringing.{moves, tells_weaker}, Seats.{Carried, LeftBy}, Transmitting.{read_keeps, tx_keeps}}
+use Rattle.laws_device.proofs.Turning.{event_put, shut_keeps, write_keeps_all}
 use Rattle.laws_device_walk.proofs.Keeping.{keeps_if, keeps_some}
 use Rattle.vs_proxy_parts.specs.State.{Handshake}
 use Rattle.vs_ring_port.specs.declared.device_ring.Next.TheVariants as next

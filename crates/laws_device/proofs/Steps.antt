@@ -5,10 +5,9 @@ use Rattle.vs_contents.specs.CallTree.{Done, Ask, bind}
 use Rattle.vs_ring_port.specs.EndLog.{EndLog, log_taken}
 use Rattle.vs_ring_port.specs.{Contents.Take, DeviceCalls.IsTakenAs, declared.device_ring.Chain.Chain, declared.device_ring.Next.Next}
 use Rattle.vs_ring_port.specs.{declared.queue.Queue.TheVariants.Rx, declared.failure.Failure.Failure, declared.queue.Queue.Queue}
-use Rattle.vs_device_parts.specs.Calls.{CloseStream, DeviceTree, HostMoves, Ring, Situation}
-use Rattle.vs_device_parts.specs.Receiving.{Filling, hold, holding}
-use Rattle.vs_device_parts.specs.{Connections.cut_off, Connections.with_connection, Playing.IsRxChain, State.DeviceConnection}
-use Rattle.vs_device_parts.specs.{State.DeviceEntry, State.DeviceState, Streams.closing, Transmitting.failing}
+use Rattle.vs_device_parts.specs.{Calls.{CloseStream, DeviceTree, HostMoves, Ring, Situation}, Receiving.{Filling, hold, holding}}
+use Rattle.vs_device_parts.specs.{Connections.{cut_off, with_connection}, Playing.IsRxChain, State.{DeviceConnection, DeviceEntry}}
+use Rattle.vs_device_parts.specs.{State.DeviceState, Streams.closing, Transmitting.failing}
 use Rattle.laws_device.specs.Honest.{IsFitState}
 use Rattle.laws_device.proofs.Carrying.{Closes, Fact, IsHeldBy, IsToldBy, StreamedOver, With, closed_with, streams_call, streams_go}
 use Rattle.laws_device.proofs.{Chains.Among, Chains.is_unwritten, Chains.taken_holds, Seats.Carried, Changing.Changes, Keeping.Goes}

@@ -2,8 +2,7 @@
 use Rattle.std.proofs.Common.{◌≡◌, ℕ, ◌==◌, Bool, true, false, cond, not, List, get_or, length, Contains, sym, ap, subst, ◌∙◌}
 use Rattle.std.proofs.lemmas.List.Elements.{All-map, All-push, All-filter}
 use Rattle.vs_header.specs.declared.Kind.TheVariants.{Stream}
-use Rattle.vs_flow.specs.Table.{Table, with_value, without, with_entry, next_entry, revalued}
-use Rattle.vs_flow.specs.declared.flow.Flow.{Flow}
+use Rattle.vs_flow.specs.{Table.{Table, with_value, without, with_entry, next_entry, revalued}, declared.flow.Flow.Flow}
 use Rattle.vs_flow.proofs.Tables.{with_value_sound, without_sound, with_entry_sound, IsAccepted}
 use Rattle.laws_tables.specs.{Ends.Ends, Ends.FlowEnd, Ends.entries_of, Ends.is_new, Steps.HasEnd, Steps.with_end, Steps.left}
 use Rattle.laws_tables.proofs.Slots.{changed_slot, one_end, removed_slot}

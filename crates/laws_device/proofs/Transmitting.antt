@@ -8,21 +8,19 @@ use Rattle.vs_header.specs.declared.Op.TheVariants.{Rw}
 use Rattle.vs_header.specs.{Op.op_number, Packet.header_of, declared.Header.Header, declared.TheConstants.HEADER_LEN}
 use Rattle.laws_history.specs.{Packets.size, declared.packet.Packet.Packet}
 use Rattle.vs_page.specs.Held.{FitsWire, packet_held, packet_with, payload_held, IsWhole}
-use Rattle.vs_page.proofs.Holding.{packet_whole}
 use Rattle.vs_page.specs.{Fair.IsFairLog, Log.Device, Log.Log, Log.flow_got, declared.log.LogEntry.TheVariants.GotPacket}
+use Rattle.vs_page.proofs.Holding.{packet_whole}
 use Rattle.vs_ring_port.specs.{Chains.Held, Contents.Read, Contents.Return, Contents.Take, EndLog.EndLog, EndLog.log_returned}
 use Rattle.vs_ring_port.specs.{EndLog.log_taken, EndLog.with_packet, declared.device_ring.Chain.Chain, declared.device_ring.Next.Next}
 use Rattle.vs_ring_port.specs.{declared.failure.Failure.Failure, declared.queue.Queue.TheVariants.Tx, DeviceCalls.IsTakenAs}
 use Rattle.laws_tables.proofs.Fair.{got_formed}
-use Rattle.vs_device_parts.specs.Calls.{Ring, Situation, DeviceTree}
-use Rattle.vs_device_parts.specs.Transmitting.{failing, on_next, on_packet, take_tx_of}
+use Rattle.vs_device_parts.specs.{Calls.{Ring, Situation, DeviceTree}, Transmitting.{failing, on_next, on_packet, take_tx_of}}
 use Rattle.vs_device_parts.specs.{declared.answers.Taken.Taken, Playing.IsRxChain, State.DeviceState}
 use Rattle.vs_limits.specs.declared.TheConstants.{DEVICE_REPLIES}
 use Rattle.laws_device.proofs.Ringing.{Tells, bytes_held, first_is_held, first_there, moves, returned_entries, returned_held, tells_weaker}
-use Rattle.laws_device.proofs.Hearing.{After, Came, Heard, IsCome, packet_keeps}
-use Rattle.laws_device.proofs.Keeping.{Keeps, asking, Lets, keeps_then}
-use Rattle.laws_device.proofs.Carrying.{Fact, IsToldBy, StreamedOver, With}
-use Rattle.laws_device.proofs.{Chains.Among, Chains.Behind, Seats.Carried, Seats.LeftBy, Ringing.Telling, Steps.it_failed, Steps.none_came}
+use Rattle.laws_device.proofs.{Ringing.Telling, Hearing.{After, Came, Heard, IsCome, packet_keeps}, Keeping.{Keeps, asking, Lets}}
+use Rattle.laws_device.proofs.{Keeping.keeps_then, Carrying.{Fact, IsToldBy, StreamedOver, With}, Chains.{Among, Behind}, Seats.Carried}
+use Rattle.laws_device.proofs.{Seats.LeftBy, Steps.{it_failed, none_came}}
 use Rattle.laws_device_walk.proofs.Keeping.{keeps_if}
 use Rattle.vs_outside.specs.Host.{HostContents}
 use Rattle.vs_proxy_parts.specs.State.{Handshake}

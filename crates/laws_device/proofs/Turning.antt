@@ -11,31 +11,26 @@ use Rattle.vs_flow.{specs.declared.flow.Flow.Flow, specs.declared.table.TableFau
 use Rattle.vs_limits.specs.declared.TheConstants.{BUF_ALLOC}
 use Rattle.vs_outside.specs.declared.host_net.StreamWrite.{StreamWrite}
 use Rattle.vs_outside.specs.Host.{HostContents, IsWritten, after_failed, after_close, after_label, after_shut_write, after_write, called}
-use Rattle.vs_page.specs.declared.log.LogEntry.TheVariants.{Mark, PutEvent}
-use Rattle.vs_page.specs.{Log.Device, Log.Log, Held.event_held}
-use Rattle.vs_ring_port.specs.Contents.{RingContents, PublishCid, Return, Take, Write}
-use Rattle.vs_ring_port.specs.EndLog.{EndLog, log_reset, log_returned, log_taken, entries_returned, with_event}
-use Rattle.vs_ring_port.specs.{Chains.Held, Chains.bytes_in, declared.device_ring.Chain.Chain, declared.device_ring.Next.Next}
-use Rattle.vs_ring_port.specs.{declared.failure.Failure.Failure, declared.queue.Queue.Queue, DeviceCalls.IsTakenAs}
-use Rattle.vs_ring_port.specs.{DeviceCalls.IsWholePacket, declared.queue.Queue.TheVariants.Event, declared.queue.Queue.TheVariants.Tx}
+use Rattle.vs_page.specs.{declared.log.LogEntry.TheVariants.{Mark, PutEvent}, Log.{Device, Log}, Held.event_held}
+use Rattle.vs_ring_port.specs.{Contents.{RingContents, PublishCid, Return, Take, Write}, EndLog.{EndLog, log_reset, log_returned}}
+use Rattle.vs_ring_port.specs.{EndLog.{log_taken, entries_returned, with_event}, Chains.{Held, bytes_in}, declared.device_ring.Chain.Chain}
+use Rattle.vs_ring_port.specs.{declared.device_ring.Next.Next, declared.failure.Failure.Failure, declared.queue.Queue.Queue}
+use Rattle.vs_ring_port.specs.{DeviceCalls.{IsTakenAs, IsWholePacket}, declared.queue.Queue.TheVariants.{Event, Tx}}
 use Rattle.laws_tables.specs.Both.{Asks, MakesReset, PutsEvent, Seat}
 use Rattle.laws_tables.specs.{Ends.Ends, Ends.FlowEnd, Ends.is_new, Matches.Matches, Steps.IsNextFlow, Steps.asking}
 use Rattle.laws_tables.proofs.{Keeps.asks, Keeps.makes_reset, Keeps.puts_event, Keeps.start_matches, Slots.added_slot, Slots.found_by}
 use Rattle.vs_device_parts.specs.Connections.{after_shut, after_written, cut_off, is_timed_out, new_connection, stream_closed, with_client}
-use Rattle.vs_device_parts.specs.Streams.{Writing, closing, is_written_out, pump_of, pump_slot, shut_write, tick_of, tick_slot, to_write}
-use Rattle.vs_device_parts.specs.Calls.{CloseStream, DeviceTree, Label, Ring, ShutWrite, WriteStream, Situation}
-use Rattle.vs_device_parts.specs.Connections.{with_connection, with_fault}
-use Rattle.vs_device_parts.specs.Turns.{after_reset, close_slot, new_device, open_of, reset_of}
-use Rattle.vs_device_parts.specs.{Receiving.event_on, Receiving.pay_event_of, State.DeviceConnection, State.DeviceEntry, State.DeviceState}
-use Rattle.vs_device_parts.specs.{Transmitting.failing, Streams.write_answered, Streams.write_pending}
+use Rattle.vs_device_parts.specs.{Connections.{with_connection, with_fault}, Streams.{Writing, closing, is_written_out, pump_of, pump_slot}}
+use Rattle.vs_device_parts.specs.{Streams.{shut_write, tick_of, tick_slot, to_write, write_answered, write_pending}, Calls.CloseStream}
+use Rattle.vs_device_parts.specs.{Calls.{DeviceTree, Label, Ring, ShutWrite, WriteStream, Situation}, Turns.{after_reset, close_slot}}
+use Rattle.vs_device_parts.specs.{Turns.{new_device, open_of, reset_of}, Receiving.{event_on, pay_event_of}, State.DeviceConnection}
+use Rattle.vs_device_parts.specs.{State.{DeviceEntry, DeviceState}, Transmitting.failing}
 use Rattle.laws_device.proofs.Carrying.{ring_only, Fact, IsHeldBy, fact_goes, IsToldBy, StreamedOver, With, closed_held, streams_go}
+use Rattle.laws_device.proofs.{Carrying.plain_with, Chains.{Among, first_written, held_there, is_unwritten, taken_holds}, Changing.cuts}
+use Rattle.laws_device.proofs.{Changing.{shuts, unseen, writes, same}, Ringing.{Tells, moves, tells_weaker, host_moves}, Keeping.Lets}
+use Rattle.laws_device.proofs.{Seats.{Carried, LeftBy, at_log, seat}, Writing.{write_keeps, Writes}, Filling.under_there, Steps.it_failed}
+use Rattle.laws_device.proofs.{Steps.{none_came, cut_with, seat_changed}, Tabling.{IsFitConnection, entry_fits, opening_fits}}
 use Rattle.laws_device.specs.Honest.{IsFitFlow, IsFitState, IsFresh, IsLeft, IsWith, end_in, ends_of_state, port_after}
-use Rattle.laws_device.proofs.Chains.{Among, first_written, held_there, is_unwritten, taken_holds}
-use Rattle.laws_device.proofs.Changing.{cuts, shuts, unseen, writes, same}
-use Rattle.laws_device.proofs.Ringing.{Tells, moves, tells_weaker, host_moves}
-use Rattle.laws_device.proofs.{Keeping.Lets, Seats.Carried, Seats.LeftBy, Seats.at_log, Seats.seat, Carrying.plain_with}
-use Rattle.laws_device.proofs.{Writing.write_keeps, Writing.Writes, Filling.under_there, Steps.it_failed, Steps.none_came, Steps.cut_with}
-use Rattle.laws_device.proofs.{Steps.seat_changed, Tabling.IsFitConnection, Tabling.entry_fits, Tabling.opening_fits}
 use Rattle.laws_device_walk.proofs.Keeping.{keeps_if, keeps_some}
 use Rattle.vs_header.specs.declared.Kind.TheVariants.{Stream}
 use Rattle.laws_device_bytes.proofs.Changing.{called_host, ends_streams, event_streams, failed_host, mark_streams, shut_write_host}

@@ -1,13 +1,12 @@
 -- The device's table by the log and by the host's streams.
 use Rattle.std.proofs.Common.{◌≡◌, ℕ, zero, suc, ◌+◌, ◌-◌, ◌<◌, ◌==◌, ◌&&◌, ◌||◌, Bool, true, false, cond, List, [], ◌∷◌, length, map}
 use Rattle.std.proofs.Common.{Contains, slice_get, slice_index_or, Option, Some, None, refl, sym, ap, subst, ◌∙◌, arith}
-use Rattle.std.specs.{List.list_any, Option.option_map, Option.option_map_or}
 use Rattle.std.proofs.lemmas.{Bool.Decides.nat_tests, Bool.and_parts, List.Elements.All-contains}
+use Rattle.std.specs.{List.list_any, Option.option_map, Option.option_map_or}
 use Rattle.vs_conn.specs.{End.ConnectionEnd, declared.end.State.State, declared.end.State.TheVariants.Asked}
 use Rattle.vs_device_parts.specs.{Calls.Situation, State.DeviceConnection, State.DeviceEntry, State.DeviceState}
 use Rattle.vs_flow.{specs.Flow.same_flow, specs.Table.Table, specs.declared.flow.Flow.Flow, proofs.Entries.same_flow_true}
-use Rattle.vs_outside.specs.Host.{HostContents, Stream, stream_at, waits}
-use Rattle.vs_outside.specs.{HostProgram.closes, declared.host_net.StreamState.StreamState}
+use Rattle.vs_outside.specs.{Host.{HostContents, Stream, stream_at, waits}, HostProgram.closes, declared.host_net.StreamState.StreamState}
 use Rattle.vs_page.{specs.Log.Log, proofs.Flows.same_self}
 use Rattle.vs_proxy_parts.specs.State.{Handshake}
 use Rattle.laws_tables.specs.Ends.{FlowEnd, flows_of, is_among, is_new, is_new_in, new_flows}

@@ -6,10 +6,9 @@ use Rattle.vs_header.specs.{Packet.header_bytes, declared.Header.Header, declare
 use Rattle.laws_history.specs.{Packets.packet_bytes, declared.packet.Packet.Packet}
 use Rattle.vs_page.specs.Log.{Device, Log}
 use Rattle.vs_page.specs.{Fair.IsFairLog, Held.packet_held, Overwriting.overwritten, declared.log.LogEntry.TheVariants.PutPacket}
-use Rattle.vs_ring_port.specs.EndLog.{EndLog, entries_returned, log_returned, log_written, with_packet}
-use Rattle.vs_ring_port.specs.{Chains.Held, Chains.bytes_in, Chains.without_held, Contents.Return, Contents.Write}
-use Rattle.vs_ring_port.specs.{DeviceCalls.IsWholePacket, DriverCalls.HoldsPacket, declared.device_ring.Chain.Chain}
-use Rattle.vs_ring_port.specs.{declared.queue.Queue.Queue, declared.queue.Queue.TheVariants.Rx, declared.queue.Queue.TheVariants.Tx}
+use Rattle.vs_ring_port.specs.{EndLog.{EndLog, entries_returned, log_returned, log_written, with_packet}, Chains.{Held, bytes_in}}
+use Rattle.vs_ring_port.specs.{Chains.without_held, Contents.{Return, Write}, DeviceCalls.IsWholePacket, DriverCalls.HoldsPacket}
+use Rattle.vs_ring_port.specs.{declared.device_ring.Chain.Chain, declared.queue.Queue.Queue, declared.queue.Queue.TheVariants.{Rx, Tx}}
 use Rattle.laws_tables.specs.Matches.{Matches}
 use Rattle.vs_device_parts.specs.{Calls.DeviceTree, Calls.Ring, Calls.Situation, Receiving.written, State.DeviceState}
 use Rattle.laws_device.specs.Honest.{IsFitState, ends_of_state}

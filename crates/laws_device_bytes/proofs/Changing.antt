@@ -1,6 +1,5 @@
 -- What the host's streams took and gave, through the small changes of the device.
-use Rattle.vs_flow.specs.Table.{IsTable, Table, entry_of, with_value, without}
-use Rattle.vs_flow.specs.{Flow.is_assigned, Flow.same_flow, declared.flow.Flow.Flow}
+use Rattle.vs_flow.specs.{Table.{IsTable, Table, entry_of, with_value, without}, Flow.{is_assigned, same_flow}, declared.flow.Flow.Flow}
 use Rattle.vs_flow.proofs.{Entries.none_found, Tables.with_value_sound}
 use Rattle.std.proofs.Common.{◌≡◌, ℕ, ◌+◌, ◌-◌, ◌≤◌, ◌==◌, ◌&&◌, nat_le, Bool, true, false, cond, List, [], ◌∷◌, ◌++◌, length, take, drop}
 use Rattle.std.proofs.Common.{Contains, Option, Some, None, refl, sym, ap, subst, ◌∙◌, arith, slice_get}
@@ -12,24 +11,21 @@ use Rattle.vs_device_parts.specs.Connections.{after_shut, after_written, cut_off
 use Rattle.vs_device_parts.specs.{State.DeviceConnection, State.DeviceEntry, Transmitting.heard, Streams.to_write}
 use Rattle.laws_device_bytes.proofs.Gives.{drop_both, first_of, forwards_asked, forwards_gives, accepted_other, accepts_asked}
 use Rattle.laws_device_bytes.proofs.Gives.{accepts_response, answered_host, comes_behind, delivered_other, delivers_gives, gives_delivered}
-use Rattle.laws_device_bytes.specs.Streamed.{IsJoined, IsStreamed, gives, line_for, look, seen, Seen}
-use Rattle.laws_device_bytes.proofs.HostCalls.{read_host, write_host, cut_host, same_host}
 use Rattle.laws_device_bytes.proofs.Gives.{goes_host, hears_gives, kept_empty, response_empty, shut_gives, shuts_asked, unanswered_got}
-use Rattle.laws_device_bytes.proofs.Streamed.{join_of, left_streamed, passed_streamed, same_streamed}
-use Rattle.laws_device_bytes.proofs.{Tabled.value_contained, Hosts.unseen}
-use Rattle.laws_history.specs.Packets.{has, is_request, is_response, is_rw}
-use Rattle.laws_history.specs.History.{Answerer, Asker, Got, History, IsFair, Side, gots, puts, MayPut, peer}
-use Rattle.laws_history.specs.{declared.packet.Packet.Packet, Again.AllowsNow}
+use Rattle.laws_device_bytes.proofs.{HostCalls.{read_host, write_host, cut_host, same_host}, Streamed.{join_of, left_streamed}}
+use Rattle.laws_device_bytes.proofs.{Streamed.{passed_streamed, same_streamed}, Tabled.value_contained, Hosts.unseen}
+use Rattle.laws_device_bytes.specs.Streamed.{IsJoined, IsStreamed, gives, line_for, look, seen, Seen}
+use Rattle.laws_history.specs.{Packets.{has, is_request, is_response, is_rw}, History.{Answerer, Asker, Got, History, IsFair, Side, gots}}
+use Rattle.laws_history.specs.{History.{puts, MayPut, peer}, declared.packet.Packet.Packet, Again.AllowsNow}
 use Rattle.laws_tables.{specs.Steps.payload_on, proofs.Fair.fair_now, proofs.Fair.own_got_fair}
 use Rattle.laws_bytes.proofs.Logs.{got_after_got, got_after_put, none_on_any, only_on, passed_after_got, passed_after_put, put_after_got}
-use Rattle.laws_bytes.specs.Drains.{Drains, got_on, put_on}
 use Rattle.laws_bytes.proofs.{Logs.put_after_put, Steps.comes_out, Steps.Goes, Steps.drops, Steps.stays_still, Changes.without_changed}
+use Rattle.laws_bytes.specs.Drains.{Drains, got_on, put_on}
 use Rattle.vs_outside.specs.Host.{after_close, after_failed, after_read, after_shut_write, after_write, called, dial_answer, fails_now}
 use Rattle.vs_outside.specs.Host.{is_listened, next_bytes, HostContents, with_shut_write_call, Stream}
 use Rattle.vs_outside.proofs.Frames.{stream_at-after_failed}
-use Rattle.vs_page.specs.Held.{IsWhole, packet_held, packet_with, payload_held}
-use Rattle.vs_page.specs.Log.{Device, Log, flow_got, flow_put, history_of, side_of, whole_of}
-use Rattle.vs_page.specs.declared.log.LogEntry.TheVariants.{GotPacket, Mark, PutEvent, PutPacket}
+use Rattle.vs_page.specs.{Held.{IsWhole, packet_held, packet_with, payload_held}, Log.{Device, Log, flow_got, flow_put, history_of}}
+use Rattle.vs_page.specs.{Log.{side_of, whole_of}, declared.log.LogEntry.TheVariants.{GotPacket, Mark, PutEvent, PutPacket}}
 use Rattle.vs_page.{specs.Fair.IsFairLog, specs.Fair.payload_of, specs.Fair.IsFairOn, proofs.Flows.same_self}
 use Rattle.vs_header.specs.{Packet.header_of, declared.Header.Header, declared.Kind.Kind}
 use Rattle.vs_proxy_parts.specs.State.{Handshake}

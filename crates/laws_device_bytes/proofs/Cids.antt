@@ -4,9 +4,8 @@ use Rattle.std.proofs.Common.{Bool, true, false, not, is_some, List, [], ◌∷�
 use Rattle.vs_conn.specs.{End.ConnectionEnd, Follows.Follows, declared.end.State.TheVariants.Ended}
 use Rattle.vs_flow.specs.declared.flow.Flow.{Flow}
 use Rattle.vs_limits.specs.declared.TheConstants.{HOST_CID}
-use Rattle.laws_history.specs.{Again.present, History.Answerer, History.Asker, History.Got, History.History, History.Side, History.gots}
-use Rattle.laws_history.specs.{History.puts, Packets.has, Packets.is_clean_rst, Packets.is_request, Packets.is_rst, Packets.is_rw}
-use Rattle.laws_history.specs.declared.packet.Packet.{Packet}
+use Rattle.laws_history.specs.{Again.present, History.{Answerer, Asker, Got, History, Side, gots, puts}, Packets.{has, is_clean_rst}}
+use Rattle.laws_history.specs.{Packets.{is_request, is_rst, is_rw}, declared.packet.Packet.Packet}
 use Rattle.vs_page.specs.{Open.cid_of, Open.is_dropped, declared.log.LogEntry.TheVariants.GotPacket, Log.Device, Log.Driver}
 use Rattle.vs_page.specs.Log.{IsNextPacket, Log, flow_got, history_of, side_of, whole_of}
 use Rattle.vs_page.proofs.{Entries.got_on, Entries.on_flow, Entries.present_is, Flows.same_self}

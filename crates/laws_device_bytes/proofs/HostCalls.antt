@@ -2,11 +2,10 @@
 use Rattle.std.proofs.Common.{◌≡◌, ◌≢◌, ℕ, zero, suc, ◌-◌, ◌==◌, Bool, true, false, cond, List, [], ◌∷◌, ◌++◌, take, get_or, slice_get, ◌+◌}
 use Rattle.std.proofs.Common.{length, Contains, Option, Some, None, refl, sym, ap, subst, ◌∙◌, arith, ◌⊎◌, inl, inr}
 use Rattle.std.proofs.lemmas.Bool.Decides.{nat_tests}
-use Rattle.std.specs.{List.All, Option.option_map, Option.option_map_or}
 use Rattle.std.proofs.lemmas.List.{append-nil, Elements.All-push, Elements.All-weaker, Quantifiers.all_pairs_push}
+use Rattle.std.specs.{List.All, Option.option_map, Option.option_map_or}
 use Rattle.vs_outside.specs.Host.{HostContents, Stream, accept_answer, after_accept, after_close, after_read, after_write, called}
-use Rattle.vs_outside.specs.Host.{give_bytes, next_bytes, stream_at, take_bytes, waits}
-use Rattle.vs_outside.specs.HostProgram.{after_client, client_stream}
+use Rattle.vs_outside.specs.{Host.{give_bytes, next_bytes, stream_at, take_bytes, waits}, HostProgram.{after_client, client_stream}}
 use Rattle.vs_outside.{specs.HostBytes.after_line, proofs.Frames.accepts_waiting}
 use Rattle.vs_conn.specs.declared.end.State.TheVariants.{Asked}
 use Rattle.vs_device_parts.specs.{Connections.cut_off, State.DeviceConnection, State.DeviceEntry}
@@ -17,8 +16,8 @@ use Rattle.vs_uds.specs.{Reading.is_decided, declared.connect.TheConstants.CONNE
 use Rattle.laws_bytes.specs.Drains.{Drains, got_on, has_passed, put_on}
 use Rattle.laws_bytes.proofs.{Logs.none_on_any, Logs.only_on, Steps.drops}
 use Rattle.laws_device_bytes.specs.Streamed.{AreLabelled, AreStreamed, IsJoined, IsLabelled, IsStreamed, Seen, client_waits, gives}
-use Rattle.laws_device_bytes.proofs.Streamed.{is_or_not, join_moves, join_of, moved_streamed, one_streamed, same_streamed}
 use Rattle.laws_device_bytes.specs.Streamed.{has_line, line_for, look, reading, seen, taken_of}
+use Rattle.laws_device_bytes.proofs.Streamed.{is_or_not, join_moves, join_of, moved_streamed, one_streamed, same_streamed}
 use Rattle.laws_device_bytes.proofs.Hosts.{changed_seen, new_there, none_there, others_seen, others_there, there, unseen_none}
 use Rattle.laws_device_bytes.proofs.{Lines.after_longer, Streamed.unlabelled_streamed}
 use Rattle.vs_outside.specs.declared.host_net.Accepted.TheVariants as accepted

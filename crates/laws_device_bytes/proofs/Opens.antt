@@ -1,8 +1,8 @@
 -- What the host's streams took and gave, as a line is read and a connection opens.
 use Rattle.std.proofs.Common.{◌≡◌, ◌≢◌, ℕ, zero, suc, ◌+◌, ◌-◌, ◌==◌, min, Bool, true, false, cond, List, [], ◌∷◌, ◌++◌, length, take}
 use Rattle.std.proofs.Common.{get_or, slice_get, Option, Some, None, is_some, refl, sym, ap, subst, ◌∙◌, arith}
-use Rattle.std.specs.{List.All, List.find, Option.option_map, Option.option_map_or}
 use Rattle.std.proofs.lemmas.{Bool.Decides.nat_tests, List.Elements.Contains-push, Option.get_or_from_slice_get, Option.slice_get_within}
+use Rattle.std.specs.{List.All, List.find, Option.option_map, Option.option_map_or}
 use Rattle.vs_conn.specs.End.{answering, asked}
 use Rattle.vs_device_parts.specs.{Connections.new_connection, State.DeviceConnection}
 use Rattle.vs_flow.specs.{Flow.host_flow, Flow.is_assigned, Table.IsTable, Table.Table, Table.with_entry, declared.flow.Flow.Flow}
@@ -16,10 +16,9 @@ use Rattle.vs_page.specs.Log.{Device, Log}
 use Rattle.vs_proxy_parts.specs.{Handshakes.with_line, Handshakes.without_stream, State.Handshake}
 use Rattle.vs_uds.specs.{OkLine.ok_text, Reading.is_decided, declared.connect.TheConstants.CONNECT_MAX}
 use Rattle.laws_device_bytes.specs.Streamed.{AreLines, AreStreamed, IsStreamed, Seen, client_waits, has_line, line_for, look, reading, seen}
-use Rattle.laws_device_bytes.proofs.Hosts.{changed_seen, new_there, none_there, others_seen, others_there, there}
-use Rattle.laws_device_bytes.proofs.HostCalls.{closed_host, more_kept, some_seen}
-use Rattle.laws_device_bytes.proofs.Streamed.{one_streamed, opened_streamed}
-use Rattle.laws_device_bytes.proofs.Hands.{with_all, with_apart, without_all, without_none, without_pairs}
+use Rattle.laws_device_bytes.proofs.{Hosts.{changed_seen, new_there, none_there, others_seen, others_there, there}, HostCalls.closed_host}
+use Rattle.laws_device_bytes.proofs.{HostCalls.{more_kept, some_seen}, Streamed.{one_streamed, opened_streamed}, Hands.with_all}
+use Rattle.laws_device_bytes.proofs.Hands.{with_apart, without_all, without_none, without_pairs}
 use Rattle.laws_bytes.{specs.Drains.got_on, specs.Drains.has_passed, specs.Drains.put_on, proofs.Logs.none_got, proofs.Logs.none_put}
 use Rattle.vs_header.specs.declared.Kind.TheVariants as kind
 use Rattle.vs_outside.specs.declared.host_net.Dialed.TheVariants as dialed

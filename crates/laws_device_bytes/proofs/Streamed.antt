@@ -10,8 +10,7 @@ use Rattle.vs_flow.{specs.Flow.same_flow, specs.declared.flow.Flow.Flow, proofs.
 use Rattle.vs_page.specs.{Fair.IsPrefixOf, Log.Device, Log.Log}
 use Rattle.vs_proxy_parts.specs.State.{Handshake}
 use Rattle.laws_bytes.specs.Drains.{Drains, got_on, has_passed, put_on}
-use Rattle.laws_bytes.proofs.Changes.{changed, others_left}
-use Rattle.laws_bytes.proofs.Logs.{longer, none_on_any, not_on, only_on, shorter, there_on}
+use Rattle.laws_bytes.proofs.{Changes.{changed, others_left}, Logs.{longer, none_on_any, not_on, only_on, shorter, there_on}}
 use Rattle.laws_device_bytes.specs.Streamed.{AreLabelled, AreLines, AreStreamed, IsJoined, IsLabelled, Seen, client_waits, gives, line_for}
 use Rattle.laws_device_bytes.proofs.Tabled.{stream_comes, stream_kept, stream_now, stream_other, stream_stays}
 use Rattle.laws_device_bytes.{specs.Streamed.reading, specs.Streamed.taken_of, proofs.Lines.line_longer}

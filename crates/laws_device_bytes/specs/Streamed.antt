@@ -1,8 +1,7 @@
 -- What the host's streams took and gave, against the packets of their flows.
 use Rattle.std.specs.Prelude.{◌≡◌, ◌≢◌, ℕ, ◌<◌, ◌++◌, ◌==◌, not, Bool, true, false, if◌then◌else◌, List, [], Option, Some, None, AllPairs}
 use Rattle.std.specs.{Prelude.Contains, List.All, List.list_any, Option.option_map}
-use Rattle.vs_conn.specs.{End.ConnectionEnd, declared.end.State.State, declared.end.State.TheVariants.Answering}
-use Rattle.vs_conn.specs.declared.end.State.TheVariants.{Asked, Live}
+use Rattle.vs_conn.specs.{End.ConnectionEnd, declared.end.State.State, declared.end.State.TheVariants.{Answering, Asked, Live}}
 use Rattle.vs_device_parts.specs.State.{DeviceConnection, DeviceEntry}
 use Rattle.vs_flow.specs.{Flow.is_assigned, Table.Table, declared.flow.Flow.Flow}
 use Rattle.vs_outside.specs.{Host.HostContents, Host.Stream, Host.stream_at, Host.waits, HostBytes.after_line, HostProgram.is_closed}

@@ -11,10 +11,9 @@ use Rattle.vs_limits.specs.declared.TheConstants.{BUF_ALLOC}
 use Rattle.vs_outside.specs.Host.{HostContents, IsOpen, after_close, after_label}
 use Rattle.vs_outside.proofs.Frames.{open-after_label, others-after_label}
 use Rattle.vs_ring_port.specs.{Contents.PublishCid, declared.failure.Failure.Failure}
-use Rattle.vs_device_parts.specs.{State.DeviceConnection, State.DeviceState, Streams.closing}
-use Rattle.vs_device_parts.specs.Calls.{Call, CloseStream, Label, Ring, Situation, DeviceTree, Allows}
-use Rattle.vs_device_parts.specs.Connections.{new_connection, stream_closed, with_client}
-use Rattle.vs_device_parts.specs.Turns.{after_reset, close_slot, new_device, open_of, reset_of}
+use Rattle.vs_device_parts.specs.{State.{DeviceConnection, DeviceState}, Streams.closing, Calls.{Call, CloseStream, Label, Ring, Situation}}
+use Rattle.vs_device_parts.specs.{Calls.{DeviceTree, Allows}, Connections.{new_connection, stream_closed, with_client}, Turns.after_reset}
+use Rattle.vs_device_parts.specs.Turns.{close_slot, new_device, open_of, reset_of}
 use Rattle.laws_device_streams.specs.Streams.{AreOpen, FindsFree, FindsStreams, HasStreams, IsFree, JoinsStreams}
 use Rattle.laws_device_streams.specs.Split.{CanReach, is_quiet}
 use Rattle.laws_device_walk.proofs.Keeping.{keeps_if, keeps_some}

@@ -1,20 +1,17 @@
 -- What is written to the host's streams.
 use Rattle.laws_device_walk.proofs.Serving.{AfterWrite, IsIn, Writes}
-use Rattle.laws_device_streams.proofs.Closing.{D, closes, IsFound, stream_open}
-use Rattle.laws_device_streams.proofs.Tables.{has_changed, has_moved, some_after, some_from, value_by_entry}
+use Rattle.laws_device_streams.proofs.{Closing.{D, closes, IsFound, stream_open}, Tables.{has_changed, has_moved, some_after, some_from}}
+use Rattle.laws_device_streams.proofs.{Tables.value_by_entry, Keeping.{asking, Keeps}, Ends.{forwarded_over, shut_over}}
 use Rattle.laws_device_streams.specs.{Split.CanReach, Split.is_quiet, Streams.FindsStreams, Streams.HasStreams, Streams.joined_stream}
-use Rattle.laws_device_streams.proofs.{Keeping.asking, Keeping.Keeps, Ends.forwarded_over, Ends.shut_over}
-use Rattle.std.proofs.Common.{◌≡◌, ◌≢◌, ℕ, ◌==◌, Bool, true, false, List, refl, sym, subst, ◌∙◌, arith}
-use Rattle.std.proofs.lemmas.Bool.Decides.{nat_tests}
+use Rattle.std.proofs.{Common.{◌≡◌, ◌≢◌, ℕ, ◌==◌, Bool, true, false, List, refl, sym, subst, ◌∙◌, arith}, lemmas.Bool.Decides.nat_tests}
 use Rattle.vs_conn.specs.declared.end.State.TheVariants.{Ended}
 use Rattle.vs_flow.specs.Table.{with_value}
 use Rattle.vs_outside.specs.Host.{HostContents, IsOpen, KeepsOthers, after_shut_write, after_write}
 use Rattle.vs_outside.specs.declared.host_net.StreamWrite.{StreamWrite}
 use Rattle.vs_outside.proofs.Frames.{open-after_shut_write, open-after_write, others-after_shut_write, others-after_write, stays_open}
-use Rattle.vs_device_parts.specs.Calls.{Call, ShutWrite, Situation, WriteStream, Allows}
-use Rattle.vs_device_parts.specs.Connections.{after_shut, after_written, with_connection}
-use Rattle.vs_device_parts.specs.State.{DeviceConnection, DeviceEntry, DeviceState}
-use Rattle.vs_device_parts.specs.Streams.{Writing, is_written_out, pump_of, shut_write, to_write, write_pending}
+use Rattle.vs_device_parts.specs.{Calls.{Call, ShutWrite, Situation, WriteStream, Allows}, Connections.{after_shut, after_written}}
+use Rattle.vs_device_parts.specs.{Connections.with_connection, State.{DeviceConnection, DeviceEntry, DeviceState}, Streams.Writing}
+use Rattle.vs_device_parts.specs.Streams.{is_written_out, pump_of, shut_write, to_write, write_pending}
 use Rattle.laws_device_walk.proofs.Serving as walked
 use Rattle.vs_outside.specs.declared.host_net.StreamWrite.TheVariants as write
 

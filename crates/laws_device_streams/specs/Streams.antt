@@ -1,6 +1,5 @@
 -- The host's streams that a device's connections are joined to, beside those of others, as of handshakes.
-use Rattle.std.specs.Prelude.{◌≡◌, ℕ, true, if◌then◌else◌, List, [], ◌∷◌, Option, Some, None, Contains, option_and_then}
-use Rattle.std.specs.Option.{ForSome}
+use Rattle.std.specs.{Prelude.{◌≡◌, ℕ, true, if◌then◌else◌, List, [], ◌∷◌, Option, Some, None, Contains, option_and_then}, Option.ForSome}
 use Rattle.vs_conn.specs.declared.end.State.TheVariants.{Ended}
 use Rattle.vs_flow.specs.Table.{Table, IsTable, value_under}
 use Rattle.vs_outside.specs.Host.{HostContents, IsOpen}

@@ -12,8 +12,7 @@ use Rattle.laws_tables.proofs.Slots.{found_by}
 use Rattle.vs_header.specs.declared.Header.{Header}
 use Rattle.vs_outside.specs.declared.host_net.{StreamRead.StreamRead, StreamWrite.StreamWrite}
 use Rattle.vs_replies.specs.declared.Reply.{Reply}
-use Rattle.vs_ring_port.specs.Contents.{Return, Take, Write}
-use Rattle.vs_ring_port.specs.declared.queue.Queue.TheVariants.{Event, Rx}
+use Rattle.vs_ring_port.specs.{Contents.{Return, Take, Write}, declared.queue.Queue.TheVariants.{Event, Rx}}
 use Rattle.vs_ring_port.specs.declared.{device_ring.Chain.Chain, device_ring.Next.Next, failure.Failure.Failure}
 use Rattle.vs_device_parts.specs.Connections.{after_leaving, after_shut, after_written, cut_off, is_timed_out, route_to_guest}
 use Rattle.vs_device_parts.specs.Receiving.{Filling, after_paying, event_on, fill_rx_of, filled_of, hold, holding, may_read, pay_event_of}

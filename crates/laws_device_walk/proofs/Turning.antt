@@ -1,7 +1,6 @@
 -- Handshakes and turns.
 use Rattle.std.proofs.Common.{◌≡◌, ℕ, ◌+◌, ◌==◌, ◌&&◌, nat_le, nat_lt, Bool, true, false, cond, List, [], ◌∷◌, ◌++◌, length, find, Option}
-use Rattle.std.proofs.Common.{Some, None, Result, Ok, Err, refl, sym, subst, arith}
-use Rattle.std.proofs.lemmas.Bool.Decides.{nat_tests}
+use Rattle.std.proofs.{Common.{Some, None, Result, Ok, Err, refl, sym, subst, arith}, lemmas.Bool.Decides.nat_tests}
 use Rattle.vs_contents.specs.CallTree.{Done, Ask}
 use Rattle.vs_flow.proofs.Entries.{found_passes}
 use Rattle.vs_flow.specs.{Flow.host_flow, Table.has_place, Table.refusal, declared.flow.Flow.Flow, declared.table.TableFault.TableFault}
@@ -10,10 +9,9 @@ use Rattle.vs_outside.specs.declared.host_net.{Accepted.Accepted, StreamRead.Str
 use Rattle.vs_header.specs.declared.Header.{Header}
 use Rattle.vs_ring_port.specs.declared.{device_ring.Chain.Chain, failure.Failure.Failure}
 use Rattle.vs_uds.specs.{ConnectLine.connect_step, declared.connect.TheConstants.CONNECT_MAX, declared.scan.Step.Step}
-use Rattle.vs_device_parts.specs.Calls.{Accept, CloseStream, DeviceTree, Label, ReadStream}
-use Rattle.vs_device_parts.specs.Connections.{is_late, with_client, with_fault}
-use Rattle.vs_device_parts.specs.{declared.answers.Filled.Filled, Receiving.fill_rx_of, Receiving.pay_event_of, State.DeviceState}
-use Rattle.vs_device_parts.specs.{Streams.pump_of, Streams.tick_of, Transmitting.take_tx_of, Turns.open_of}
+use Rattle.vs_device_parts.specs.{Calls.{Accept, CloseStream, DeviceTree, Label, ReadStream}, Connections.{is_late, with_client}}
+use Rattle.vs_device_parts.specs.{Connections.with_fault, declared.answers.Filled.Filled, Receiving.{fill_rx_of, pay_event_of}}
+use Rattle.vs_device_parts.specs.{State.DeviceState, Streams.{pump_of, tick_of}, Transmitting.take_tx_of, Turns.open_of}
 use Rattle.vs_proxy_parts.specs.Handshakes.{accept_answered, accept_one, byte_read, dropping, handshake_on, host_fault, line_decided}
 use Rattle.vs_proxy_parts.specs.Handshakes.{may_open, opening, read_byte, read_line, shake_hands, streams_of, tick_handshake}
 use Rattle.vs_proxy_parts.specs.Turns.{device_after, event_stage, fill_stage, filled, pump_stage, take_one, take_stage, tick_stage}

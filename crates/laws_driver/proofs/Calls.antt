@@ -15,18 +15,15 @@ use Rattle.laws_tables.{specs.Matches.Matches, specs.Steps.payload_on, specs.Ste
 use Rattle.vs_driver_parts.specs.Conversations.{DriverTree, connect_of, connect_with_page, has_page, load_cid, new_of, new_state, no_credit}
 use Rattle.vs_driver_parts.specs.Conversations.{not_sent, one_more_in_flight, payload_bytes, payload_of, poll_of, post_all, post_events}
 use Rattle.vs_driver_parts.specs.Conversations.{post_one, post_packet, posts, publish_of, reap_all, request_bytes, send_of, send_stopped}
-use Rattle.vs_driver_parts.specs.Connections.{connect_refusal, connected, next_flow}
+use Rattle.vs_driver_parts.specs.{Conversations.{send_with_page, stage_of}, Connections.{connect_refusal, connected, next_flow}}
 use Rattle.vs_driver_parts.specs.{declared.answers.ConnectError.ConnectError, declared.answers.Polled.Polled, declared.answers.Sent.Sent}
-use Rattle.vs_driver_parts.specs.{Playing.MayPublishAll, Playing.Plays, Conversations.send_with_page, Conversations.stage_of}
-use Rattle.vs_driver_parts.specs.{State.DriverEntry, State.DriverState, State.entry_known_as, Steps.connects, Steps.sends}
+use Rattle.vs_driver_parts.specs.{Playing.{MayPublishAll, Plays}, State.{DriverEntry, DriverState, entry_known_as}, Steps.{connects, sends}}
 use Rattle.vs_limits.specs.declared.TheConstants.{LAST_PORT}
 use Rattle.laws_driver.specs.Honest.{AgreesWith, IsFitState, IsFresh, IsHonestWith, ends_of_state}
-use Rattle.laws_driver.proofs.Polling.{not_tx_event, not_tx_rx, poll_keeps}
-use Rattle.laws_driver.proofs.Changing.{Changes, stands_known, wanting_changes}
-use Rattle.laws_driver.proofs.Keeping.{Keeps, keeps_bind, keeps_end, keeps_may, keeps_weaker, keeps_while}
-use Rattle.laws_driver.proofs.Ringing.{IsAtRest, Tells, agrees, at_rest, can_publish_other, moves, tells_weaker, can_stage_other}
-use Rattle.laws_driver.proofs.Carrying.{Fact, Holds, RestsWith, carries_nothing, nothing}
-use Rattle.laws_driver.proofs.Staging.{Rests, SameBut, post_tx, reap_keeps}
+use Rattle.laws_driver.proofs.{Polling.{not_tx_event, not_tx_rx, poll_keeps}, Changing.{Changes, stands_known, wanting_changes}}
+use Rattle.laws_driver.proofs.{Keeping.{Keeps, keeps_bind, keeps_end, keeps_may, keeps_weaker, keeps_while}, Ringing.{IsAtRest, Tells}}
+use Rattle.laws_driver.proofs.{Ringing.{agrees, at_rest, can_publish_other, moves, tells_weaker, can_stage_other}, Carrying.{Fact, Holds}}
+use Rattle.laws_driver.proofs.{Carrying.{RestsWith, carries_nothing, nothing}, Staging.{Rests, SameBut, post_tx, reap_keeps}}
 use Rattle.laws_driver.{specs.Staged.IsLeft, proofs.Putting.connect_puts, proofs.Putting.send_puts, proofs.Tabling.Stands}
 use Rattle.vs_driver_parts.specs.declared.answers.ConnectError.TheVariants as refused
 use Rattle.vs_driver_parts.specs.declared.answers.Sent.TheVariants as sent

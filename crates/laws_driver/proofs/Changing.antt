@@ -16,9 +16,8 @@ use Rattle.vs_driver_parts.specs.Listening.{after_accept, listening, next_accept
 use Rattle.vs_driver_parts.specs.Connections.{shut_in, waiting_on, with_connection, without_gone}
 use Rattle.vs_driver_parts.{specs.State.is_known_as, proofs.Ids.found_under}
 use Rattle.laws_driver.specs.Honest.{IsFitState, ends_of_state}
-use Rattle.laws_driver.proofs.Going.{Goes, at_log, goes_then, one_step, seat, stays}
-use Rattle.laws_driver.proofs.Tabling.{Stands, connection_ends, connection_fits, entry_fits, has_end}
-use Rattle.laws_driver.proofs.Fits.{IsHeldBy, closing_fits, holds_same, read_fits, shut_fits}
+use Rattle.laws_driver.proofs.{Going.{Goes, at_log, goes_then, one_step, seat, stays}, Tabling.{Stands, connection_ends, connection_fits}}
+use Rattle.laws_driver.proofs.{Tabling.{entry_fits, has_end}, Fits.{IsHeldBy, closing_fits, holds_same, read_fits, shut_fits}}
 use Rattle.vs_conn.specs.declared.end.State.TheVariants as state
 use Rattle.vs_driver_parts.specs.Connections as connections
 

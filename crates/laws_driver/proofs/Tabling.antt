@@ -3,9 +3,8 @@ use Rattle.std.proofs.Common.{◌≡◌, ℕ, ◌+◌, ◌<◌, ◌≤◌, ◌^�
 use Rattle.std.proofs.lemmas.List.Elements.{All-map, All-push, All-filter}
 use Rattle.std.{proofs.Common.Some, proofs.Common.arith, specs.List.All, specs.Prelude.Contains}
 use Rattle.vs_header.specs.declared.Kind.TheVariants.{Stream}
-use Rattle.vs_flow.specs.Table.{Table, entry_under, with_entry, without, next_entry, revalued}
+use Rattle.vs_flow.specs.{Table.{Table, entry_under, with_entry, without, next_entry, revalued}, Flow.is_assigned, declared.flow.Flow.Flow}
 use Rattle.vs_flow.proofs.Tables.{revalued-flow, with_value_sound, without_sound, with_entry_sound, IsAccepted}
-use Rattle.vs_flow.specs.{Flow.is_assigned, declared.flow.Flow.Flow}
 use Rattle.vs_limits.specs.declared.TheConstants.{HOST_CID, LAST_PORT}
 use Rattle.vs_replies.specs.declared.Reply.{Reply}
 use Rattle.laws_tables.proofs.Slots.{changed_slot, one_end, removed_slot}

@@ -1,6 +1,5 @@
 -- Where an honest ring tells the driver's log: the driver's connections are those that the log left open, and the log is fair.
-use Rattle.std.specs.{List.All, Option.ForSome}
-use Rattle.std.specs.Prelude.{◌≡◌, ℕ, ◌+◌, ◌<◌, ◌≤◌, ◌^◌, false, true, List, [], ◌∷◌}
+use Rattle.std.specs.{List.All, Option.ForSome, Prelude.{◌≡◌, ℕ, ◌+◌, ◌<◌, ◌≤◌, ◌^◌, false, true, List, [], ◌∷◌}}
 use Rattle.vs_conn.specs.{End.ConnectionEnd, declared.end.State.State}
 use Rattle.vs_flow.specs.{Flow.is_assigned, Table.IsTable, Table.Table, declared.flow.Flow.Flow}
 use Rattle.vs_header.specs.declared.Kind.TheVariants.{Stream}

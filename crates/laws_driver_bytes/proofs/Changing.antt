@@ -3,17 +3,15 @@ use Rattle.std.proofs.Common.{◌≡◌, ℕ, ◌==◌, not, Bool, true, false, 
 use Rattle.std.proofs.{Common.Result, Common.Ok, Common.Err, Common.◌∙◌, lemmas.List.Elements.All-filter}
 use Rattle.vs_conn.specs.{End.with_payload_sent, End.wanting_credit, declared.end.State.State}
 use Rattle.vs_flow.specs.{Flow.same_flow, Table.IsTable, declared.flow.Flow.Flow}
-use Rattle.laws_history.specs.History.{Got, History, Put, Side, gots, puts}
-use Rattle.laws_history.specs.{declared.packet.Packet.Packet, Packets.is_request}
-use Rattle.vs_page.specs.Fair.{asked_by, number_of, payload_got}
-use Rattle.vs_page.specs.Log.{Driver, Log, Role, flow_got, flow_put, side_of, whole_of}
+use Rattle.laws_history.specs.{History.{Got, History, Put, Side, gots, puts}, declared.packet.Packet.Packet, Packets.is_request}
+use Rattle.vs_page.specs.{Fair.{asked_by, number_of, payload_got}, Log.{Driver, Log, Role, flow_got, flow_put, side_of, whole_of}}
 use Rattle.vs_page.specs.declared.log.LogEntry.TheVariants.{GotPacket, PutPacket}
 use Rattle.vs_driver_parts.specs.State.{DriverConnection, DriverEntry, DriverState, GoneConnection, entry_known_as, gone_known_as}
 use Rattle.vs_driver_parts.specs.Connections.{after_close, after_closing, after_shut, after_shutdown, after_unlisten, all_closed}
 use Rattle.vs_driver_parts.specs.Listening.{after_accept, listening, next_accepted, with_waiting, without_id}
 use Rattle.vs_driver_parts.specs.Connections.{entry_closed, gone_closed, shut_in, waiting_on, without_gone}
-use Rattle.vs_driver_parts.proofs.Numbers.{numbers_gone_without}
 use Rattle.vs_driver_parts.specs.{Held.with_connection_in, State.is_known_as, declared.answers.ListenError.ListenError}
+use Rattle.vs_driver_parts.proofs.Numbers.{numbers_gone_without}
 use Rattle.laws_tables.{proofs.Slots.found_by, specs.Steps.payload_on}
 use Rattle.laws_bytes.{specs.Drains.receives, proofs.Steps.Goes, proofs.Steps.ended_goes, proofs.Steps.shut_goes, proofs.Steps.stays_still}
 use Rattle.laws_driver.{specs.Honest.IsFitState, specs.Honest.slots_of, proofs.Calls.CarriesSend, proofs.Changing.close_changes}

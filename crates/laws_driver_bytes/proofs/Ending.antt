@@ -2,13 +2,11 @@
 use Rattle.std.proofs.Common.{ℕ, ◌<◌, ◌≤◌, ◌^◌, List, Result, refl}
 use Rattle.vs_limits.specs.declared.TheConstants.{LAST_PORT}
 use Rattle.vs_ring_port.specs.Contents.{RingContents}
-use Rattle.vs_driver_parts.specs.declared.answers.{ConnectError.ConnectError, Polled.Polled, Sent.Sent}
-use Rattle.vs_driver_parts.specs.Conversations.{connect_of, new_of, poll_of, send_of}
-use Rattle.vs_driver_parts.specs.{Playing.Plays, State.DriverState}
+use Rattle.vs_driver_parts.specs.{declared.answers.{ConnectError.ConnectError, Polled.Polled, Sent.Sent}, Conversations.connect_of}
+use Rattle.vs_driver_parts.specs.{Conversations.{new_of, poll_of, send_of}, Playing.Plays, State.DriverState}
 use Rattle.laws_driver.proofs.{Polling.poll_keeps, Calls.connect_keeps, Calls.new_keeps, Calls.send_keeps, Carrying.Fact, Keeping.keeps_end}
 use Rattle.laws_driver.proofs.{Ringing.at_rest, Staging.Rests}
-use Rattle.laws_driver_bytes.proofs.{Connecting.connect_carries, Connecting.none_received, Polling.Further, Polling.poll_carries}
-use Rattle.laws_driver_bytes.proofs.Changing.{send_receives}
+use Rattle.laws_driver_bytes.proofs.{Connecting.{connect_carries, none_received}, Polling.{Further, poll_carries}, Changing.send_receives}
 use Rattle.laws_driver.specs.Honest.{IsFresh, IsHonestWith, slots_of}
 use Rattle.laws_driver_bytes.specs.Received.{Account, AreReceived, GoesOnWith, IsReceivedWith, no_account}
 

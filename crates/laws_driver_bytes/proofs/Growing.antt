@@ -4,10 +4,9 @@ use Rattle.vs_contents.specs.{CallTree.Ask, CallTree.Done, Contents.Exposes}
 use Rattle.laws_history.specs.declared.packet.Packet.{Packet}
 use Rattle.vs_page.specs.{Held.event_held, Held.packet_held, Log.Log, declared.log.LogEntry.LogEntry}
 use Rattle.vs_page.specs.declared.log.LogEntry.TheVariants.{GotEvent, GotPacket, Mark, PutPacket}
-use Rattle.vs_ring_port.specs.{Contents.RingContents, DriverCalls.DriverAnswer, DriverCalls.DriverCall, DriverCalls.LoadCid}
-use Rattle.vs_ring_port.specs.{DriverCalls.Publish, DriverCalls.Reap, DriverCalls.Stage, EndLog.EndLog, EndLog.all_put}
-use Rattle.vs_ring_port.specs.EndLog.{entries_marked, entries_published, entries_reaped, log_loaded, log_published, log_reaped, log_staged}
-use Rattle.vs_ring_port.specs.{EndLog.pages_at, EndLog.with_event, EndLog.with_packet, declared.queue.Queue.Queue}
+use Rattle.vs_ring_port.specs.{Contents.RingContents, DriverCalls.{DriverAnswer, DriverCall, LoadCid, Publish, Reap, Stage}, EndLog.EndLog}
+use Rattle.vs_ring_port.specs.EndLog.{all_put, entries_marked, entries_published, entries_reaped, log_loaded, log_published, log_reaped}
+use Rattle.vs_ring_port.specs.{EndLog.{log_staged, pages_at, with_event, with_packet}, declared.queue.Queue.Queue}
 use Rattle.vs_ring_port.specs.declared.queue.Queue.TheVariants.{Event, Rx, Tx}
 use Rattle.vs_driver_parts.specs.{Conversations.DriverTree, Playing.Plays, Playing.RingAllows}
 use Rattle.laws_driver_bytes.specs.Sent.{IsLater, TellsMore}

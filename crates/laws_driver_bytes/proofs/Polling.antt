@@ -1,7 +1,6 @@
 -- A poll keeps the account, with the ids of the connections that it opens.
 use Rattle.std.proofs.Common.{◌≡◌, ◌≢◌, ℕ, ◌+◌, ◌<◌, ◌≤◌, ◌==◌, ◌&&◌, not, Bool, true, false, cond, List, [], ◌∷◌, ◌++◌, Contains, Option}
-use Rattle.std.proofs.Common.{Some, None, refl, sym, ap, subst, ◌∙◌, arith}
-use Rattle.std.proofs.lemmas.{Bool.Decides.nat_tests, Grind.common_steps}
+use Rattle.std.proofs.{Common.{Some, None, refl, sym, ap, subst, ◌∙◌, arith}, lemmas.{Bool.Decides.nat_tests, Grind.common_steps}}
 use Rattle.std.specs.List.{All, filter, slice_get}
 use Rattle.vs_conn.specs.End.{ConnectionEnd, answering, end_after, is_refused, is_reset, owes_of, paid_of, verdict_of}
 use Rattle.vs_conn.specs.declared.end.{Owed.Owed, Verdict.Verdict}
@@ -9,12 +8,10 @@ use Rattle.vs_flow.specs.{Connection.Connection, Flow.is_assigned, Flow.same_flo
 use Rattle.vs_flow.specs.{Table.without, declared.flow.Flow.Flow}
 use Rattle.vs_flow.proofs.Entries.{none_found, same_flow_false}
 use Rattle.vs_limits.specs.declared.TheConstants.{BUF_ALLOC, HOST_CID}
-use Rattle.laws_history.specs.{declared.packet.Packet.Packet, Packets.is_rw, Again.count, History.Answerer, History.Asker, History.Got}
-use Rattle.laws_history.specs.History.{Side, gots, puts}
-use Rattle.vs_page.specs.{Fair.IsFairLog, Fair.asked_by, Fair.current, Fair.number_of, Fair.payload_got, Fair.payload_of, Held.IsWhole}
-use Rattle.vs_page.specs.Log.{Driver, Log, and_then, flow_got, history_of, side_by, side_of, whole_of}
-use Rattle.vs_page.specs.{Open.is_dropped, declared.log.LogEntry.TheVariants.GotEvent, declared.log.LogEntry.TheVariants.GotPacket}
-use Rattle.vs_page.specs.declared.log.LogEntry.TheVariants.{Mark, PutPacket}
+use Rattle.laws_history.specs.{declared.packet.Packet.Packet, Packets.is_rw, Again.count, History.{Answerer, Asker, Got, Side, gots, puts}}
+use Rattle.vs_page.specs.{Fair.{IsFairLog, asked_by, current, number_of, payload_got, payload_of}, Held.IsWhole, Log.{Driver, Log}}
+use Rattle.vs_page.specs.{Log.{and_then, flow_got, history_of, side_by, side_of, whole_of}, Open.is_dropped}
+use Rattle.vs_page.specs.declared.log.LogEntry.TheVariants.{GotEvent, GotPacket, Mark, PutPacket}
 use Rattle.vs_page.proofs.{Flows.same_is, Flows.same_self, PayloadLogs.got_none, Present.present_got}
 use Rattle.vs_replies.specs.Owed.{reply_to}
 use Rattle.laws_tables.specs.{Ends.is_new, Matches.Matches, Steps.HasEnd, Steps.owed_on, Steps.reply_on}

@@ -1,8 +1,7 @@
 -- A receive: the bytes that it gives are of the unread ones the first.
 use Rattle.std.proofs.Common.{◌≡◌, ◌≢◌, ℕ, zero, suc, ◌<◌, ◌==◌, nat_lt, min, Bool, true, false, cond, List, [], ◌∷◌, ◌++◌, length, take}
 use Rattle.std.proofs.Common.{drop, get_or, Option, Some, None, refl, sym, ap, subst, ◌∙◌, arith, append-nil, append_assoc}
-use Rattle.std.proofs.lemmas.List.{get_or_default, take_min}
-use Rattle.std.proofs.lemmas.Option.{get_or_from_slice_get, slice_get_within}
+use Rattle.std.proofs.{lemmas.List.{get_or_default, take_min}, lemmas.Option.{get_or_from_slice_get, slice_get_within}}
 use Rattle.std.{proofs.Common.take-append-drop, proofs.lemmas.Bool.Decides.nat_tests, proofs.Math.Seq.take-nil, specs.List.All}
 use Rattle.vs_conn.specs.declared.end.State.{State}
 use Rattle.vs_flow.{specs.Connection.Connection, specs.Table.IsTable, proofs.Entries.found_passes, proofs.Lookups.find_place}
@@ -11,14 +10,13 @@ use Rattle.laws_tables.proofs.Slots.{found_by}
 use Rattle.vs_driver_parts.specs.Connections.{after_read, after_recv, all_gone_after_read, entry_answer, entry_read, gone_answer, is_at_end}
 use Rattle.vs_driver_parts.specs.State.{DriverEntry, DriverState, GoneConnection, entry_known_as, gone_known_as, is_known_as}
 use Rattle.vs_driver_parts.specs.Connections.{nothing_read, read_of, recv_of, unread_of_id, with_connection}
+use Rattle.vs_driver_parts.specs.{declared.answers.Received.Received, Held.HeldSlots, SlotFields.AreNumbered}
 use Rattle.vs_driver_parts.proofs.GoneChanges.{read_none}
 use Rattle.vs_driver_parts.proofs.Known.{after_recv_gone, after_recv_known, recv_gone_some, recv_known, unread_gone_some, unread_known}
-use Rattle.vs_driver_parts.specs.{declared.answers.Received.Received, Held.HeldSlots, SlotFields.AreNumbered}
 use Rattle.laws_bytes.specs.Drains.{Drains, receives}
 use Rattle.laws_bytes.proofs.{Logs.nothing_more, Logs.shorter, Steps.comes_out, Steps.forwards_less}
 use Rattle.laws_driver.specs.Honest.{slots_of}
-use Rattle.laws_driver_bytes.specs.Received.{Account, AreReceived, ReceivedOn, after_receive, bytes_got, with_received}
-use Rattle.laws_driver_bytes.specs.Sent.{only_on}
+use Rattle.laws_driver_bytes.specs.{Received.{Account, AreReceived, ReceivedOn, after_receive, bytes_got, with_received}, Sent.only_on}
 use Rattle.laws_driver_bytes.proofs.Receiving.{apart_by, changed_received, number_same, same_account}
 use Rattle.vs_conn.specs.declared.end.State.TheVariants as state
 use Rattle.vs_driver_parts.specs.declared.answers.Received.TheVariants as got

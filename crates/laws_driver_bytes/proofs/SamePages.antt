@@ -5,10 +5,9 @@ use Rattle.vs_conn.specs.declared.end.State.{State}
 use Rattle.vs_conn.specs.declared.end.State.TheVariants as state
 use Rattle.vs_driver_parts.specs.Connections.{after_recv, entry_read, after_read, with_connection, after_shutdown, shut_in, after_close}
 use Rattle.vs_driver_parts.specs.Connections.{entry_closed, gone_closed, without_gone, all_closed, waiting_on, after_unlisten}
-use Rattle.vs_driver_parts.specs.{Connections.all_gone_after_read, Listening.listening, Listening.after_accept, Listening.next_accepted}
-use Rattle.vs_driver_parts.specs.{Listening.with_waiting, Listening.without_id, Playing.SamePages, State.DriverState, State.DriverEntry}
-use Rattle.vs_driver_parts.specs.{State.GoneConnection, State.entry_known_as, State.gone_known_as, declared.answers.ListenError.ListenError}
-use Rattle.vs_driver_parts.specs.declared.answers.NotListening.{NotListening}
+use Rattle.vs_driver_parts.specs.{Connections.all_gone_after_read, Listening.{listening, after_accept, next_accepted, with_waiting}}
+use Rattle.vs_driver_parts.specs.{Listening.without_id, Playing.SamePages, State.{DriverState, DriverEntry, GoneConnection, entry_known_as}}
+use Rattle.vs_driver_parts.specs.{State.gone_known_as, declared.answers.ListenError.ListenError, declared.answers.NotListening.NotListening}
 
 -- The pages stay.
 stay : (s : DriverState) → SamePages s s

@@ -2,8 +2,7 @@
 use Rattle.std.proofs.Common.{◌≡◌, Option, Some, ap, subst, ◌∙◌}
 use Rattle.vs_contents.specs.CallTree.{Ask, Done}
 use Rattle.vs_page.{specs.Fair.IsFairLog, specs.Fair.payload_put, specs.Log.Driver, specs.Log.Log, proofs.Shut.shut_put}
-use Rattle.vs_ring_port.specs.DriverCalls.{DriverAnswer, DriverCall, Stage}
-use Rattle.vs_ring_port.specs.{Contents.IsSound, Contents.RingContents, EndLog.EndLog}
+use Rattle.vs_ring_port.specs.{DriverCalls.{DriverAnswer, DriverCall, Stage}, Contents.{IsSound, RingContents}, EndLog.EndLog}
 use Rattle.vs_driver_parts.specs.{Conversations.DriverTree, Playing.Plays, Playing.RingAllows}
 use Rattle.laws_driver_bytes.specs.Sent.{IsLater, StaysShut, TellsMore}
 use Rattle.laws_driver_bytes.proofs.Growing.{honest_stays, log_grows}

@@ -5,11 +5,10 @@ use Rattle.vs_contents.specs.CallTree.{Done}
 use Rattle.vs_flow.specs.{Connection.Connection, Flow.same_flow, declared.flow.Flow.Flow}
 use Rattle.vs_driver_parts.specs.declared.answers.{Accepted.Accepted, Closed.Closed, ConnectError.ConnectError}
 use Rattle.vs_driver_parts.specs.declared.answers.{ConnectionState.ConnectionState, ListenError.ListenError, Received.Received, Sent.Sent}
-use Rattle.vs_driver_parts.specs.{declared.answers.Shut.Shut, State.DriverState, Connections.recv_of, Connections.unread_of_id}
-use Rattle.vs_driver_parts.specs.Connections.{after_recv, shutdown_of, after_shutdown, close_of, after_close, after_unlisten, state_of}
-use Rattle.vs_driver_parts.specs.{Connections.flow_of, Connections.next_flow, Conversations.DriverTree, Conversations.connect_of}
-use Rattle.vs_driver_parts.specs.{Conversations.send_of, Listening.listener_on, Listening.listen_of, Listening.listening}
-use Rattle.vs_driver_parts.specs.{Listening.accept_of, Listening.after_accept, Steps.connects, Steps.sends}
+use Rattle.vs_driver_parts.specs.{declared.answers.Shut.Shut, State.DriverState, Connections.{recv_of, unread_of_id, after_recv}}
+use Rattle.vs_driver_parts.specs.Connections.{shutdown_of, after_shutdown, close_of, after_close, after_unlisten, state_of, flow_of}
+use Rattle.vs_driver_parts.specs.{Connections.next_flow, Conversations.{DriverTree, connect_of, send_of}, Listening.listener_on}
+use Rattle.vs_driver_parts.specs.{Listening.{listen_of, listening, accept_of, after_accept}, Steps.{connects, sends}}
 use Rattle.vs_page.specs.Log.{Log}
 use Rattle.vs_ring_port.specs.Contents.{RingContents}
 use Rattle.laws_driver.specs.Honest.{slots_of}

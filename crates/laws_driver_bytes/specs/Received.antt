@@ -1,6 +1,5 @@
 -- What an application received on the driver's connections, against the payload that was delivered to them.
-use Rattle.std.specs.{List.All, Option.ForSome, Prelude.◌≡◌, Prelude.ℕ, Prelude.◌≤◌, Prelude.◌==◌, Prelude.◌++◌}
-use Rattle.std.specs.Prelude.{true, if◌then◌else◌, List, [], take}
+use Rattle.std.specs.{List.All, Option.ForSome, Prelude.{◌≡◌, ℕ, ◌≤◌, ◌==◌, ◌++◌, true, if◌then◌else◌, List, [], take}}
 use Rattle.vs_flow.specs.{Connection.Connection, Flow.host_flow}
 use Rattle.vs_page.specs.{Fair.IsPrefixOf, Fair.current, Fair.number_of, Fair.payload_got, Log.Driver, Log.Log}
 use Rattle.vs_ring_port.specs.Contents.{RingContents}

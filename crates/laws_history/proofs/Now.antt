@@ -1,11 +1,9 @@
 -- The rules of several connections are rules on the present one.
 use Rattle.std.proofs.Common.{◌≡◌, cond, ℕ, zero, suc, ◌+◌, ◌-◌, ◌≤◌, Bool, true, false, List, [], ◌∷◌, refl, sym, ap, ◌∙◌, subst₂, arith}
-use Rattle.std.proofs.Common.{◌⊎◌, inl, inr}
-use Rattle.std.proofs.lemmas.Grind.{common_steps}
-use Rattle.laws_history.specs.{declared.packet.Packet.Packet, Packets.has, Packets.is_clean_rst, Packets.is_request, Packets.is_rst}
-use Rattle.laws_history.specs.History.{Answerer, Asker, Entry, Got, History, MayPut, Put, Side, gots, peer, puts}
-use Rattle.laws_history.specs.Again.{AllowsNext, AllowsNow, IsClean, IsFairAll, MayOpen, MayOpenNow, MayPutNext, MayPutNow, after, count}
-use Rattle.laws_history.specs.Again.{present, since_request}
+use Rattle.std.proofs.{Common.{◌⊎◌, inl, inr}, lemmas.Grind.common_steps}
+use Rattle.laws_history.specs.{declared.packet.Packet.Packet, Packets.{has, is_clean_rst, is_request, is_rst}, History.{Answerer, Asker}}
+use Rattle.laws_history.specs.{History.{Entry, Got, History, MayPut, Put, Side, gots, peer, puts}, Again.{AllowsNext, AllowsNow, IsClean}}
+use Rattle.laws_history.specs.Again.{IsFairAll, MayOpen, MayOpenNow, MayPutNext, MayPutNow, after, count, present, since_request}
 use Rattle.laws_history.proofs.{Lists.after_quiet, Lists.has_counts, FairPairs.answers_only, FairPairs.counts_answerer, FairPairs.since_has}
 use Rattle.laws_history.proofs.Present.{is_present, mirror, mirror_fair, mirror_gots, mirror_puts}
 

@@ -3,8 +3,7 @@ use Rattle.std.proofs.Common.{◌≡◌, ◌+◌, ◌-◌, ◌≤◌, Bool, true
 use Rattle.std.proofs.Common.{arith}
 use Rattle.laws_history.specs.History.{Answerer, Asker, Got, HasGot, History, IsNext, MayPut, Put, Side, gots, peer, puts}
 use Rattle.laws_history.specs.Again.{AllowsNext, IsFairAll, MayPutNext, after, count, now_got, now_put, since_request}
-use Rattle.laws_history.specs.declared.packet.Packet.{Packet}
-use Rattle.laws_history.specs.Packets.{allowance, bytes, is_clean_rst, is_request, is_rst, size}
+use Rattle.laws_history.specs.{declared.packet.Packet.Packet, Packets.{allowance, bytes, is_clean_rst, is_request, is_rst, size}}
 use Rattle.laws_history.proofs.{Fair.AllRise, Ties.later, Ties.may_put_later, Lists.after_more, Lists.count_append, Lists.since_more}
 use Rattle.laws_history.proofs.FairPairs.{answers_only, counts_answerer, counts_asker, open_answerer, rises_answerer, rises_asker}
 

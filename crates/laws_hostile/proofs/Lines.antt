@@ -5,9 +5,8 @@ use Rattle.std.specs.Option.{option_and_then, option_map_or}
 use Rattle.vs_flow.specs.declared.flow.Flow.{Flow}
 use Rattle.vs_limits.specs.declared.TheConstants.{ASSIGNED_LAST, GUEST_CID_MIN, GUEST_CID_MAX}
 use Rattle.vs_outside.specs.HostProgram.{after_client, after_host_write, allowed, client_stream, closed, ended, host_write_answer}
-use Rattle.vs_outside.specs.Host.{HostContents, Stream, stream_at, waits, with_stream}
-use Rattle.vs_outside.specs.HostBytes.{after_line, read_after_ok, wrote_after_connect}
-use Rattle.vs_outside.specs.{HostProgram.with_bytes, declared.mem_stream.HostWritten.HostWritten}
+use Rattle.vs_outside.specs.{HostProgram.with_bytes, Host.{HostContents, Stream, stream_at, waits, with_stream}, HostBytes.after_line}
+use Rattle.vs_outside.specs.{HostBytes.{read_after_ok, wrote_after_connect}, declared.mem_stream.HostWritten.HostWritten}
 use Rattle.vs_page.specs.Fair.{IsPrefixOf}
 use Rattle.laws_device_bytes.{specs.Streamed.has_line, proofs.Lines.after_front, proofs.Lines.after_longer}
 use Rattle.vs_uds.proofs.{Leading.has_lf-digits, Ports.WritesPort-decimal}
@@ -20,8 +19,8 @@ use Rattle.laws_hostile.specs.Isolated.{IsGivenOwn, IsIsolated, delivered_to}
 use Rattle.laws_hostile.proofs.Steps.{played_same, played_shows}
 use Rattle.vs_report.specs.HostLines.{host_played}
 use Rattle.laws_proxy_bytes.specs.Tied.{AccountsFor, IsGiven, IsLine, IsRead, IsWhole, ok_line_of}
-use Rattle.laws_proxy_bytes.proofs.Shown.{new_shows, none_there, unseen_shows}
 use Rattle.laws_proxy_bytes.specs.{Told.Shows, Told.ShowsAt, Told.ShowsIn, Made.Account, Made.Made, Made.account_of}
+use Rattle.laws_proxy_bytes.proofs.Shown.{new_shows, none_there, unseen_shows}
 use Rattle.laws_proxy_bytes.proofs.{Keeping.Keeps, Opening.new_agrees, Turning.keeps_proxy_reset, Turning.keeps_turn}
 use Rattle.vs_proxy_parts.specs.{State.ProxyState, Turns.proxy_reset_of, Turns.turn_of}
 use Rattle.vs_script.specs.Outside.{Client, Host, HostAllow, HostClosed, HostEnd, HostFail, HostListen, HostUnlisten, HostWrite, OfHost}

@@ -1,6 +1,5 @@
 -- What a hostile guest can't do: what a stream of the host may be given, what is put on a flow, and what a failed device does.
-use Rattle.std.specs.Prelude.{◌≡◌, ℕ, ◌≤◌, ◌++◌, List, [], ◌∷◌, Option, Some, None, Err}
-use Rattle.std.specs.Option.{option_map_or, option_and_then}
+use Rattle.std.specs.{Prelude.{◌≡◌, ℕ, ◌≤◌, ◌++◌, List, [], ◌∷◌, Option, Some, None, Err}, Option.{option_map_or, option_and_then}}
 use Rattle.vs_limits.specs.declared.TheConstants.{GUEST_CID_MIN, GUEST_CID_MAX}
 use Rattle.vs_flow.specs.declared.flow.Flow.{Flow}
 use Rattle.vs_outside.specs.{Host.Stream, Host.stream_at, HostBytes.read_after_ok, HostBytes.wrote_after_connect}

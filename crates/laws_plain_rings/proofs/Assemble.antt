@@ -7,9 +7,8 @@ use Rattle.vs_ring_port.specs.{Lists.with_queue, declared.queue.Queue.Queue}
 use Rattle.vs_ring_list.specs.{Ends.Ends, Sound.IsTied}
 use Rattle.vs_ring_plain.specs.{Device.HeldChain, Device.turns_at, Device.with_turns, declared.turns.Turns.Turns}
 use Rattle.vs_plain_driver.specs.Queue.{DriverQueueState}
-use Rattle.laws_plain_rings.specs.{Parts.PartsState, Parts.driver_at, Parts.with_driver, Parts.with_parts_memory, Queue.IsQueueTied}
-use Rattle.laws_plain_rings.specs.{Queue.times, Shown.Shown, Shown.shown, Tie.AreHeldAs, Tie.AreTied, Tie.IsTiedAt, Tie.areas_of}
-use Rattle.laws_plain_rings.specs.Tie.{heads_of, shown_of, start_in, start_of}
+use Rattle.laws_plain_rings.specs.{Parts.{PartsState, driver_at, with_driver, with_parts_memory}, Queue.{IsQueueTied, times}, Shown.Shown}
+use Rattle.laws_plain_rings.specs.{Shown.shown, Tie.{AreHeldAs, AreTied, IsTiedAt, areas_of, heads_of, shown_of, start_in, start_of}}
 use Rattle.laws_plain_rings.proofs.{Held.held_kept, Held.held_moved, QueueSteps.tie_same, Queues.of_each, Queues.of_pairs, Spots.laid_same}
 use Rattle.laws_plain_rings.proofs.Spots.{Wrote, Spot, DiffersAll, PageOf}
 

@@ -1,6 +1,5 @@
 -- How often numbers stand in lists.
-use Rattle.std.proofs.Common.{◌≡◌, ℕ, ◌+◌, ◌<◌, List, [], ◌∷◌, ◌++◌, arith}
-use Rattle.std.proofs.lemmas.Bool.Decides.{nat_tests}
+use Rattle.std.proofs.{Common.{◌≡◌, ℕ, ◌+◌, ◌<◌, List, [], ◌∷◌, ◌++◌, arith}, lemmas.Bool.Decides.nat_tests}
 use Rattle.laws_plain_rings.specs.Queue.{times}
 
 pub times-self : (id : ℕ) → times id (id ∷ []) ≡ 1

@@ -2,8 +2,7 @@
 use Rattle.std.proofs.Common.{◌≡◌, ℕ, ◌^◌, ◌<◌, ap₂, ◌∙◌, arith}
 use Rattle.byteorder.specs.Endian.{little_bytes, little_number}
 use Rattle.vs_header.proofs.RoundTrip.{little_number-little_bytes}
-use Rattle.vs_layout.specs.Entry.{desc_bytes, desc_of, used_elem_bytes, used_elem_of}
-use Rattle.vs_layout.specs.declared.entry.{Desc.Desc, UsedElem.UsedElem}
+use Rattle.vs_layout.specs.{Entry.{desc_bytes, desc_of, used_elem_bytes, used_elem_of}, declared.entry.{Desc.Desc, UsedElem.UsedElem}}
 
 -- a descriptor's bytes hold it
 pub desc_back : (d : Desc) → d.addr < 2 ^ 64 → d.len < 2 ^ 32 → d.flags < 2 ^ 16 → d.next < 2 ^ 16 → desc_of (desc_bytes d) ≡ d

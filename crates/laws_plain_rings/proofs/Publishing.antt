@@ -11,10 +11,9 @@ use Rattle.vs_ring_list.{specs.Ends.Ends, proofs.Ties.tied-load, proofs.Ties.tie
 use Rattle.vs_ring_plain.specs.Device.{turns_at}
 use Rattle.vs_plain_driver.specs.Queue.{DriverQueueState, published_memory, published_queue}
 use Rattle.laws_plain_rings.specs.Tie.{AreTied, areas_of, shown_of, start_of}
-use Rattle.laws_plain_rings.proofs.Assemble.{driver_form_is, step, held_after, parts_form}
-use Rattle.laws_plain_rings.proofs.QueueSteps.{tie_published}
-use Rattle.laws_plain_rings.proofs.Spots.{AvailIdx, Wrote, wrote, read_back, quietly_wrote, quietly_now}
 use Rattle.laws_plain_rings.specs.{Calls.after_driver, Parts.PartsState, Parts.driver_at, Parts.published_parts, Shown.shown}
+use Rattle.laws_plain_rings.proofs.{Assemble.{driver_form_is, step, held_after, parts_form}, QueueSteps.tie_published, Spots.AvailIdx}
+use Rattle.laws_plain_rings.proofs.Spots.{Wrote, wrote, read_back, quietly_wrote, quietly_now}
 
 module _ (p : PartsState) (w : Ends) (tied : AreTied p w) where
   module _ (queue : Queue) (fair : IsFairLog Driver (entries_published queue (pages_at queue w.driver.staged) w.driver.entries)) where

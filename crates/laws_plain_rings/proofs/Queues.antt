@@ -1,7 +1,6 @@
 -- One of the three queues, and the others.
 use Rattle.std.proofs.{Common.◌≡◌, Common.false, Common.refl, Common.true≢false, Common.arith, lemmas.Grind.common_steps}
-use Rattle.vs_ring_port.specs.declared.queue.Queue.TheVariants.{Rx, Tx, Event}
-use Rattle.vs_ring_port.specs.{Chains.same_queue, declared.queue.Queue.Queue}
+use Rattle.vs_ring_port.specs.{declared.queue.Queue.TheVariants.{Rx, Tx, Event}, Chains.same_queue, declared.queue.Queue.Queue}
 
 -- what is so of each two queues that differ
 pub of_pairs : (P : Queue → Queue → Type 0) → P Rx Tx → P Rx Event → P Tx Rx → P Tx Event → P Event Rx → P Event Tx

@@ -9,14 +9,13 @@ use Rattle.vs_ring_port.specs.{Chains.bytes_in, Chains.same_queue, Chains.with_b
 use Rattle.vs_ring_port.specs.{Lists.queue_of, Lists.with_queue, declared.device_ring.Chain.Chain, declared.queue.Queue.Queue}
 use Rattle.vs_ring_list.{specs.Ends.Ends, specs.Sound.IsTied, proofs.Held.same_queue_refl}
 use Rattle.vs_ring_plain.specs.Device.{DeviceState, answer_to, chains_held, hold_of, pieces_of, turns_at, with_memory}
-use Rattle.vs_ring_plain.proofs.Moving.{is_zero, read_step, skipped, unwritten, used}
 use Rattle.vs_ring_plain.specs.{Accesses.over, Pieces.reading, Pieces.spans, Pieces.writing, declared.piece.Piece.Piece}
+use Rattle.vs_ring_plain.proofs.Moving.{is_zero, read_step, skipped, unwritten, used}
 use Rattle.laws_plain_rings.specs.Tie.{AreHeldAs, AreTied, areas_of, heads_of, shown_of, start_of}
-use Rattle.laws_plain_rings.proofs.Spots.{PageOf, high, low, Wrote, wrote, wrote_then, quietly_wrote, IsQuietly}
-use Rattle.laws_plain_rings.proofs.Assemble.{step, parts_form, ends_form}
 use Rattle.laws_plain_rings.specs.{Calls.after_device, Parts.PartsState, Parts.driver_at, Queue.times, Shown.shown}
-use Rattle.laws_plain_rings.proofs.{Held.Found, Held.found, Held.held_written, Parts.read_part, Parts.written_part, QueueSteps.tie_written}
-use Rattle.laws_plain_rings.proofs.{Queues.of_each, Quiet.quiet_step, Quiet.quietly_accessed}
+use Rattle.laws_plain_rings.proofs.{Spots.{PageOf, high, low, Wrote, wrote, wrote_then, quietly_wrote, IsQuietly}, Assemble.step}
+use Rattle.laws_plain_rings.proofs.{Assemble.{parts_form, ends_form}, Held.{Found, found, held_written}, Parts.{read_part, written_part}}
+use Rattle.laws_plain_rings.proofs.{QueueSteps.tie_written, Queues.of_each, Quiet.{quiet_step, quietly_accessed}}
 
 -- a part of one piece
 read_one : (p : Piece) (place count : ℕ) (m : Memory) → place + count ≤ p.len

@@ -1,8 +1,7 @@
 -- The guest's CID is published.
 use Rattle.std.proofs.Common.{◌≡◌, ℕ, ◌+◌, ◌*◌, refl, sym, ap, ◌∙◌, Some, arith}
 use Rattle.vs_guest_mem.specs.Memory.{bytes_at}
-use Rattle.vs_ring_port.specs.{Contents.PublishCid, declared.queue.Queue.Queue, declared.queue.Queue.TheVariants.Rx}
-use Rattle.vs_ring_port.specs.declared.queue.Queue.TheVariants.{Tx, Event}
+use Rattle.vs_ring_port.specs.{Contents.PublishCid, declared.queue.Queue.Queue, declared.queue.Queue.TheVariants.{Rx, Tx, Event}}
 use Rattle.vs_ring_list.specs.Ends.{Ends}
 use Rattle.vs_plain_driver.specs.Queue.{DriverQueueState}
 use Rattle.laws_plain_rings.specs.{Calls.after_device, Parts.PartsState, Parts.driver_at, Tie.AreTied, Tie.IsTiedAt, Tie.areas_of}

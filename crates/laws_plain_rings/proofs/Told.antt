@@ -3,19 +3,16 @@ use Rattle.std.proofs.Common.{◌≡◌, ℕ, ◌+◌, ◌<◌, ◌≤◌, List,
 use Rattle.std.{proofs.lemmas.Bool.false≢true, specs.Option.ForSome, specs.Prelude.option_map}
 use Rattle.vs_page.specs.{Fair.IsFairLog, Log.Device, Log.Driver, Log.Role}
 use Rattle.vs_ring_port.specs.DriverCalls.{CanPublish, CanStage, DriverAllows, DriverAnswer, DriverCall, DriverMoves, LoadCid, Publish}
-use Rattle.vs_ring_port.specs.Contents.{DeviceAnswer, DeviceCall, Given, PublishCid, Read, Return, Take, Write}
-use Rattle.vs_ring_port.specs.DeviceCalls.{CanReturn, DeviceAllows, DeviceMoves, IsTakenAs, IsWholePacket, LeavesNoGap}
-use Rattle.vs_ring_port.specs.EndLog.{EndLog, entries_published, entries_returned, pages_at}
-use Rattle.vs_ring_port.specs.Lists.{Rings, next_at, next_back, next_given, queue_of}
-use Rattle.vs_ring_port.specs.declared.queue.Queue.TheVariants.{Rx, Tx, Event}
-use Rattle.vs_ring_port.specs.{declared.device_ring.Chain.Chain, declared.device_ring.Next.Next, declared.queue.Queue.Queue}
-use Rattle.vs_ring_port.specs.{DriverCalls.Reap, DriverCalls.Stage, Chains.bytes_in, Chains.held_of}
+use Rattle.vs_ring_port.specs.{DriverCalls.{Reap, Stage}, Contents.{DeviceAnswer, DeviceCall, Given, PublishCid, Read, Return, Take, Write}}
+use Rattle.vs_ring_port.specs.{DeviceCalls.{CanReturn, DeviceAllows, DeviceMoves, IsTakenAs, IsWholePacket, LeavesNoGap}, EndLog.EndLog}
+use Rattle.vs_ring_port.specs.{EndLog.{entries_published, entries_returned, pages_at}, Lists.{Rings, next_at, next_back, next_given}}
+use Rattle.vs_ring_port.specs.{Lists.queue_of, declared.queue.Queue.TheVariants.{Rx, Tx, Event}, declared.device_ring.Chain.Chain}
+use Rattle.vs_ring_port.specs.{declared.device_ring.Next.Next, declared.queue.Queue.Queue, Chains.{bytes_in, held_of}}
 use Rattle.vs_ring_list.{specs.Ends.Ends, proofs.Ties.fair-return_event}
 use Rattle.vs_ring_plain.specs.Device.{DeviceState, answer_to, chains_held, plain_state}
 use Rattle.vs_plain_driver.specs.Queue.{flight_in, reaped_page}
-use Rattle.laws_plain_rings.specs.Parts.{PartsState, driver_at, published_parts, reaped_parts, staged_parts, used_in}
-use Rattle.laws_plain_rings.specs.Tie.{AreTied, IsTiedTo, areas_of}
-use Rattle.laws_plain_rings.specs.{Calls.after_device, Calls.after_driver, Exposed.device_told, Exposed.driver_told}
+use Rattle.laws_plain_rings.specs.{Parts.{PartsState, driver_at, published_parts, reaped_parts, staged_parts, used_in}, Tie.AreTied}
+use Rattle.laws_plain_rings.specs.{Tie.{IsTiedTo, areas_of}, Calls.{after_device, after_driver}, Exposed.{device_told, driver_told}}
 use Rattle.laws_plain_rings.proofs.{Publishing.tied_loaded, Publishing.tied_published, Reaping.reaps, Reading.reads, Reading.tied_written}
 use Rattle.laws_plain_rings.proofs.{Resetting.tied_reset, Returning.counts, Returning.tied_returned, Staging.tied_staged, Taking.takes}
 

@@ -1,8 +1,8 @@
 -- What holds of each play.
 use Rattle.std.proofs.Common.{◌≡◌, ◌≢◌, ℕ, suc, ◌<◌, ◌≤◌, ◌^◌, ◌==◌, Bool, true, false, cond, List, [], ◌∷◌, ◌++◌, None, Some, Result, Ok}
 use Rattle.std.proofs.Common.{refl, sym, ap, subst, ◌∙◌, map, arith}
-use Rattle.std.specs.List.{All, Contains}
 use Rattle.std.proofs.lemmas.{Bool.Decides.nat_tests, List.Elements.All-head, List.Elements.All-tail}
+use Rattle.std.specs.List.{All, Contains}
 use Rattle.vs_flow.specs.{Connection.first_of, declared.flow.Flow.Flow}
 use Rattle.laws_history.specs.{History.puts, Packets.has, Packets.shuts_send}
 use Rattle.vs_driver_parts.specs.declared.answers.ConnectError.{ConnectError}
@@ -15,22 +15,19 @@ use Rattle.vs_page.specs.Log.{Device, Driver, Log, Role, history_of}
 use Rattle.vs_script.{specs.Play.Event, specs.Script.Plays, specs.Script.parse_of, specs.Bounds.AreBounded, proofs.Bounded.all_bounded}
 use Rattle.vs_report.specs.Report.{counts_text, device_open_text, guest_open_text, stream_texts}
 use Rattle.vs_report.specs.GuestLines.{accept_text, connect_text, connection_text}
-use Rattle.laws_world.specs.Events.{is_at_rest, is_guest_cid, reset_made}
-use Rattle.laws_world.specs.Sides.{both_of, device_ends, driver_ends}
-use Rattle.laws_world.proofs.NamesStay.{IsTold, accept_told, connect_told, still_over, still_told}
-use Rattle.laws_world.proofs.Carried.{sent_all, sent_stays, wrote_stays}
-use Rattle.laws_world.specs.{Laws.IsEmptied, Pipes.IsFresh, Steps.Leads, World.World, World.first_cid, Names.times_closed, Counts.IsCounted}
-use Rattle.laws_world.proofs.{Names.IsOver, Names.closed_unknown, Bytes.wrote_is_put, CallRests.opening_rests, GuestLines.possible_is}
-use Rattle.laws_world.proofs.{Opening.opening_well, Opening.run_goes, ResetTables.device_emptied, ScriptLines.script_leads}
-use Rattle.laws_world.proofs.{ScriptLines.script_rests, Sound.Goes, Sound.IsWell, Sound.tx_at_rest, Counting.reached_counted}
+use Rattle.laws_world.specs.{Events.{is_at_rest, is_guest_cid, reset_made}, Sides.{both_of, device_ends, driver_ends}, Laws.IsEmptied}
+use Rattle.laws_world.specs.{Pipes.IsFresh, Steps.Leads, World.{World, first_cid}, Names.times_closed, Counts.IsCounted}
+use Rattle.laws_world.proofs.{NamesStay.{IsTold, accept_told, connect_told, still_over, still_told}, Carried.{sent_all, sent_stays}}
+use Rattle.laws_world.proofs.{Carried.wrote_stays, Names.{IsOver, closed_unknown}, Bytes.wrote_is_put, CallRests.opening_rests}
+use Rattle.laws_world.proofs.{GuestLines.possible_is, Opening.{opening_well, run_goes}, ResetTables.device_emptied}
+use Rattle.laws_world.proofs.{ScriptLines.{script_leads, script_rests}, Sound.{Goes, IsWell, tx_at_rest}, Counting.reached_counted}
 use Rattle.laws_driver_bytes.specs.Calls.{flow_accepted, flow_opened, sent_on}
 use Rattle.vs_play.specs.{Answer.base_path, Answer.opened_play, Answer.texts_of, Answer.world_after, Lines.PlayWorld, Lines.event_played}
 use Rattle.laws_play.proofs.PlayLines.{after_both, around_journal, cid_right, front_bounded, lines_of, lines_receive, lines_right}
-use Rattle.laws_play.specs.Headline.{IsLawful, IsNamedIn, StaysShut, world_of}
-use Rattle.laws_play.specs.Said.{accept_answer, close_answer, connect_answer}
 use Rattle.laws_play.proofs.PlayLines.{lines_send, rest_bounded, world_is}
 use Rattle.laws_play.proofs.Reached.{carries, holds_open, holds_rest, keeps_credit, log_is, many_device, many_guest, own_streams, queued}
 use Rattle.laws_play.proofs.{Counting.lines_count, Counting.lines_within, Shutting.IsShut, Shutting.is_shut, Shutting.run_shut}
+use Rattle.laws_play.specs.{Headline.{IsLawful, IsNamedIn, StaysShut, world_of}, Said.{accept_answer, close_answer, connect_answer}}
 use Rattle.laws_proxy_bytes.specs.Counts.{counts_shown}
 use Rattle.vs_driver_parts.specs.declared.answers.Accepted.TheVariants as accepted
 use Rattle.vs_driver_parts.specs.declared.answers.Closed.TheVariants as closed

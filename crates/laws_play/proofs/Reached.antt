@@ -2,21 +2,18 @@
 use Rattle.vs_flow.specs.{Connection.first_of, declared.flow.Flow.Flow}
 use Rattle.std.proofs.Common.{[], ap, Bool, false, get_or, length, List, not, refl, subst, suc, sym, true, ℕ, ◌&&◌, ◌||◌, ◌++◌, ◌∷◌, ◌≡◌}
 use Rattle.std.proofs.lemmas.List.Elements.{All-map, Contains-get_or}
-use Rattle.std.specs.List.{AllPairs}
 use Rattle.std.proofs.{lemmas.List.length-map, lemmas.Bool.and_parts, lemmas.List.Kept.AllPairs-cons, Common.◌≢◌, Common.◌∙◌, Common.arith}
-use Rattle.laws_history.specs.History.{History, IsFair, MayPut, Put, Side, gots, puts}
-use Rattle.laws_history.specs.declared.packet.Packet.{Packet}
+use Rattle.std.specs.List.{AllPairs}
+use Rattle.laws_history.specs.{History.{History, IsFair, MayPut, Put, Side, gots, puts}, declared.packet.Packet.Packet}
 use Rattle.laws_tables.specs.{Ends.FlowEnd, Ends.flows_of, Ends.is_among, Ends.replied, Matches.Matches, Matches.MatchesFlows}
 use Rattle.laws_tables.proofs.{Fair.fair_now, Tables.driver_open, Tables.table_distinct}
-use Rattle.vs_page.specs.Fair.{IsFairLog, IsPrefixOf, payload_got, payload_put}
-use Rattle.vs_page.specs.Log.{Device, Driver, HasGotAll, Log, Role, side_of}
+use Rattle.vs_page.specs.{Fair.{IsFairLog, IsPrefixOf, payload_got, payload_put}, Log.{Device, Driver, HasGotAll, Log, Role, side_of}}
 use Rattle.vs_page.{specs.Open.WasOpened, specs.Open.is_left_open, specs.Open.is_open, proofs.Opened.was_opened}
 use Rattle.laws_bytes.specs.Drains.{Drains, receives}
 use Rattle.laws_world.proofs.Carried.{given_is, gone_of, one_stream, pending_of, received_is, sent_is, to_device, to_driver, to_guest}
-use Rattle.laws_world.specs.Sides.{device_ends, driver_ends, log_with_staged}
 use Rattle.laws_world.proofs.Carried.{to_host, unread_of, wrote_is}
-use Rattle.laws_world.specs.{Events.is_at_rest, Events.none_staged, World.World, World.first_cid}
 use Rattle.laws_world.proofs.{Bytes.read_own, Bytes.wrote_own, Sound.IsWell, Waiting.at_device, Waiting.streams_among}
+use Rattle.laws_world.specs.{Sides.{device_ends, driver_ends, log_with_staged}, Events.{is_at_rest, none_staged}, World.{World, first_cid}}
 use Rattle.laws_driver.specs.Resets.{MarksResets}
 use Rattle.laws_driver_bytes.specs.Calls.{received_on, sent_on}
 use Rattle.laws_play.specs.Headline.{Carries, HasOwnStreams, HoldsOpen, HoldsTheRest, IsQueued, KeepsCredit, PutsWithinCredit, device_flows}

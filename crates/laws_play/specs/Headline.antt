@@ -12,8 +12,7 @@ use Rattle.vs_driver_parts.specs.{Connections.flow_of, State.DriverEntry}
 use Rattle.vs_device_parts.specs.{State.DeviceEntry, Turns.counters_of}
 use Rattle.laws_device.specs.Streams.{has_open_stream, is_waiting_for_request}
 use Rattle.laws_tables.specs.Ends.{flows_of, is_among, replied}
-use Rattle.vs_outside.specs.{HostBytes.host_read, HostBytes.host_wrote, HostBytes.read_after_ok, HostBytes.wrote_after_connect, Host.Stream}
-use Rattle.vs_outside.specs.Host.{stream_at}
+use Rattle.vs_outside.specs.{HostBytes.{host_read, host_wrote, read_after_ok, wrote_after_connect}, Host.{Stream, stream_at}}
 use Rattle.laws_bytes.specs.Drains.{Drains, receives}
 use Rattle.laws_device_bytes.specs.Streamed.{gives, line_for}
 use Rattle.vs_script.specs.{Data.Content, Play.Event}

@@ -1,8 +1,7 @@
 -- Where a connection may be opened the table takes it: its host port is the next one, which was never given.
 use Rattle.std.proofs.Common.{◌≡◌, ℕ, ◌≤◌, nat_le, true, [], ◌∷◌, Option, Some, None, refl, sym, ap, ◌∙◌, arith}
 use Rattle.std.proofs.lemmas.Bool.{Decides.nat_tests, and_parts}
-use Rattle.vs_flow.specs.Flow.{host_flow, is_assigned, same_flow}
-use Rattle.vs_flow.specs.Table.{IsTable, Table, entry_of, has_place, refusal}
+use Rattle.vs_flow.specs.{Flow.{host_flow, is_assigned, same_flow}, Table.{IsTable, Table, entry_of, has_place, refusal}}
 use Rattle.vs_flow.{specs.declared.flow.Flow.Flow, proofs.Entries.same_flow_true}
 use Rattle.vs_limits.specs.declared.TheConstants.{ASSIGNED_FIRST, ASSIGNED_LAST}
 use Rattle.vs_page.specs.Log.{Device, side_by}

@@ -24,10 +24,9 @@ use Rattle.vs_proxy_parts.specs.Handshakes.{tick_handshakes, with_line, without_
 use Rattle.vs_proxy_parts.specs.State.{Handshake, Turning, with_device}
 use Rattle.laws_proxy.proofs.Ports.{last_port, not_refused}
 use Rattle.laws_device_bytes.specs.Streamed.{IsStreamed, Seen, has_line, look, reading}
-use Rattle.laws_device_bytes.proofs.HostCalls.{accepted_host, closed_host, some_seen}
-use Rattle.laws_device_bytes.proofs.Hands.{ends_by, no_line, without_after, without_none}
-use Rattle.laws_device_bytes.proofs.Opens.{hand_of, label_host, line_more, line_now, line_over, one_byte, dropped_host}
-use Rattle.laws_device_bytes.proofs.{Changing.called_host, Changing.goes_on, Lines.line_ends, Lines.line_whole}
+use Rattle.laws_device_bytes.proofs.{HostCalls.{accepted_host, closed_host, some_seen}, Hands.{ends_by, no_line, without_after}}
+use Rattle.laws_device_bytes.proofs.{Hands.without_none, Opens.{hand_of, label_host, line_more, line_now, line_over, one_byte}}
+use Rattle.laws_device_bytes.proofs.{Opens.dropped_host, Changing.{called_host, goes_on}, Lines.{line_ends, line_whole}}
 use Rattle.laws_device_streams.proofs.Tables.{some_after, some_from}
 use Rattle.vs_outside.specs.declared.host_net.Accepted.TheVariants as accepted
 use Rattle.vs_outside.specs.declared.host_net.StreamRead.TheVariants as read

@@ -3,9 +3,8 @@ use Rattle.std.proofs.Common.{ℕ, ◌+◌, ◌<◌, ◌^◌, Bool, true, false,
 use Rattle.vs_contents.specs.CallTree.{Done, for_each}
 use Rattle.vs_limits.specs.declared.TheConstants.{ASSIGNED_FIRST}
 use Rattle.vs_ring_port.specs.{Contents.RingContents, declared.failure.Failure.Failure}
-use Rattle.vs_device_parts.specs.Receiving.{fill_rx_of, pay_event_of}
-use Rattle.vs_device_parts.specs.{declared.answers.Filled.Filled, Calls.DeviceTree, Calls.Situation, State.DeviceState, Streams.pump_of}
-use Rattle.vs_device_parts.specs.{Streams.tick_of, Transmitting.take_tx_of, Turns.reset_of}
+use Rattle.vs_device_parts.specs.{Receiving.{fill_rx_of, pay_event_of}, declared.answers.Filled.Filled, Calls.{DeviceTree, Situation}}
+use Rattle.vs_device_parts.specs.{State.DeviceState, Streams.{pump_of, tick_of}, Transmitting.take_tx_of, Turns.reset_of}
 use Rattle.laws_device.proofs.Carrying.{Fact, IsToldBy, StreamedOver, With, fact_called, held_with, streams_call, with_ring, with_streams}
 use Rattle.laws_device.proofs.Turning.{new_with, pay_keeps, pump_keeps, reset_keeps, tick_keeps}
 use Rattle.laws_device.proofs.Keeping.{Goes, Keeps, keeps_then, keeps_while, asking, keeps_each, keeps_weaker}

@@ -5,8 +5,7 @@ use Rattle.laws_proxy_bytes.specs.Made.{Account, Made, account_of, made, payload
 use Rattle.laws_proxy_bytes.specs.Tied.{Agree, AgreesWith, IsLawful, IsOver, IsTied, IsTiedTo}
 use Rattle.laws_proxy_bytes.proofs.{Keeping.asking, Keeping.Keeps, Accounts.Changes, Accounts.changes, Accounts.changing, Accounts.stays}
 use Rattle.laws_proxy_bytes.proofs.{Entries.given_of, Entries.given_shut, Entries.join_of, Entries.left, Entries.moved, Ties.closed_before}
-use Rattle.std.proofs.Common.{◌≡◌, ℕ, true, List, ◌∷◌, Contains, Option, refl, sym, subst, ◌∙◌}
-use Rattle.std.proofs.lemmas.List.Elements.{All-contains}
+use Rattle.std.proofs.{Common.{◌≡◌, ℕ, true, List, ◌∷◌, Contains, Option, refl, sym, subst, ◌∙◌}, lemmas.List.Elements.All-contains}
 use Rattle.vs_flow.specs.{Table.Table, Table.with_value, Table.without, declared.flow.Flow.Flow}
 use Rattle.vs_device_parts.specs.Connections.{after_leaving, cut_off, stream_closed, with_connection}
 use Rattle.vs_device_parts.specs.{Calls.CloseStream, State.DeviceConnection, State.DeviceEntry, State.DeviceState, Streams.tick_of}

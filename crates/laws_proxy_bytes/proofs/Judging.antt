@@ -2,8 +2,7 @@
 use Rattle.std.proofs.Common.{◌≡◌, ℕ, ◌-◌, ◌==◌, ◌&&◌, Bool, true, false, cond, List, [], ◌∷◌, ◌++◌, length, nat_le, nat_lt, Option, Some}
 use Rattle.std.proofs.Common.{None, refl, sym, ap, subst, ◌∙◌, arith}
 use Rattle.std.{proofs.lemmas.Bool.Decides.nat_tests, specs.Option.option_map}
-use Rattle.vs_conn.specs.End.{after_op, is_reset, is_of, owes_of, verdict_of}
-use Rattle.vs_conn.specs.declared.end.{Verdict.Verdict, Why.Why}
+use Rattle.vs_conn.specs.{End.{after_op, is_reset, is_of, owes_of, verdict_of}, declared.end.{Verdict.Verdict, Why.Why}}
 use Rattle.vs_contents.specs.CallTree.{Done, Ask, Leads, bind}
 use Rattle.vs_flow.specs.{Flow.is_assigned, Table.entry_of, Table.has_place, Table.with_value}
 use Rattle.vs_header.specs.{Op.op_named, Op.op_number, Packet.header_of, declared.Header.Header, declared.TheConstants.HEADER_LEN}
@@ -15,10 +14,9 @@ use Rattle.vs_ring_port.specs.Contents.{Read, Return, Take}
 use Rattle.vs_ring_port.specs.declared.{device_ring.Chain.Chain, device_ring.Next.Next, failure.Failure.Failure, queue.Queue.TheVariants.Tx}
 use Rattle.vs_uds.specs.Path.{path_of}
 use Rattle.vs_device_parts.specs.Transmitting.{dial_answered, heard, on_header, on_known, on_next, on_packet, on_unknown, refused}
-use Rattle.vs_device_parts.specs.Connections.{after_leaving, stream_closed, with_connection, with_reply}
-use Rattle.vs_device_parts.specs.Transmitting.{take_tx_of, try_request, unknown_why}
-use Rattle.vs_device_parts.specs.{Calls.CloseStream, Calls.Dial, Calls.DeviceTree, Calls.Ring, State.DeviceEntry, State.DeviceState}
-use Rattle.vs_device_parts.specs.{Streams.closing, Streams.leaving, Taking.asks_for_stream, declared.answers.Taken.Taken}
+use Rattle.vs_device_parts.specs.{Transmitting.{take_tx_of, try_request, unknown_why}, Connections.{after_leaving, stream_closed}}
+use Rattle.vs_device_parts.specs.{Connections.{with_connection, with_reply}, Calls.{CloseStream, Dial, DeviceTree, Ring}, State.DeviceEntry}
+use Rattle.vs_device_parts.specs.{State.DeviceState, Streams.{closing, leaving}, Taking.asks_for_stream, declared.answers.Taken.Taken}
 use Rattle.vs_limits.specs.declared.TheConstants.{DEVICE_REPLIES}
 use Rattle.laws_proxy_bytes.specs.Judged.{AreUnmoved, AtLength, AtTake, Before, IsAnswered, IsDialedAs, IsDone, IsJudged, IsTried}
 use Rattle.laws_proxy_bytes.specs.Judged.{IsUnknown, OwesReset, delivered_in, read_of}

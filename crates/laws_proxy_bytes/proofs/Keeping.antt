@@ -6,8 +6,7 @@ use Rattle.vs_contents.specs.CallTree.{Done, Ask, Leads}
 use Rattle.vs_limits.specs.declared.TheConstants.{ASSIGNED_LAST}
 use Rattle.vs_device_parts.specs.Calls.{Call, Answer, DeviceTree, Ring, Accept, Dial, Label, ReadStream, WriteStream, ShutWrite}
 use Rattle.vs_device_parts.specs.Calls.{CloseStream}
-use Rattle.laws_proxy_bytes.specs.{Made.Account, Made.Made, Made.MayGet, Made.Makes, Made.account_of, Made.made, Tied.IsWhole}
-use Rattle.laws_proxy_bytes.specs.Tied.{reading_account}
+use Rattle.laws_proxy_bytes.specs.{Made.{Account, Made, MayGet, Makes, account_of, made}, Tied.{IsWhole, reading_account}}
 
 -- A stream that is read or written to is one that was given. One that is labelled is a client's whose line is whole; its port is assigned,
 -- or below.

@@ -2,17 +2,16 @@
 use Rattle.laws_device_walk.proofs.Keeping.{keeps_each, keeps_if, keeps_some, keeps_then}
 use Rattle.laws_proxy_bytes.specs.Made.{Account, Made, account_of, labelled, made, payload_put, payload_taken, shut}
 use Rattle.laws_proxy_bytes.specs.Tied.{Agree, IsLawful, IsOver, IsTied, IsTiedTo, IsWhole, reading_account}
-use Rattle.laws_proxy_bytes.proofs.Accounts.{Changes, changes, changing, stays}
-use Rattle.laws_proxy_bytes.proofs.Entries.{added, given_shut, hands_changed, one_account}
-use Rattle.laws_proxy_bytes.proofs.{Keeping.asking, Keeping.Keeps, Keeping.keeps_weaker, Closing.Has}
+use Rattle.laws_proxy_bytes.proofs.{Accounts.{Changes, changes, changing, stays}, Entries.{added, given_shut, hands_changed, one_account}}
+use Rattle.laws_proxy_bytes.proofs.{Keeping.{asking, Keeps, keeps_weaker}, Closing.Has}
 use Rattle.std.proofs.Common.{◌≡◌, ◌≢◌, ℕ, ◌≤◌, ◌==◌, Bool, true, false, cond, List, [], ◌∷◌, Option, Some, None, Result, Ok, Err, refl}
 use Rattle.std.proofs.Common.{sym, ap, subst, ◌∙◌, arith}
 use Rattle.std.{proofs.lemmas.List.Elements.All-push, specs.List.All, specs.List.AllPairs, specs.Option.option_map}
 use Rattle.vs_conn.specs.End.{asked}
 use Rattle.vs_contents.specs.CallTree.{Done, Ask, bind, for_each}
 use Rattle.vs_flow.specs.Table.{IsTable, Table, emptied, entry_under, next_entry, refusal, slots}
-use Rattle.vs_flow.proofs.Tables.{accepted, with_value_sound}
 use Rattle.vs_flow.specs.declared.{flow.Flow.Flow, table.TableFault.TableFault}
+use Rattle.vs_flow.proofs.Tables.{accepted, with_value_sound}
 use Rattle.vs_limits.specs.declared.TheConstants.{ASSIGNED_LAST, BUF_ALLOC}
 use Rattle.vs_ring_port.specs.{Contents.PublishCid, declared.failure.Failure.Failure}
 use Rattle.vs_device_parts.specs.Connections.{new_connection, stream_closed, with_client}

@@ -9,19 +9,18 @@ use Rattle.vs_page.specs.{Log.Device, Log.flow_to_host, Open.is_dropped}
 use Rattle.vs_ring_port.specs.declared.{device_ring.Chain.Chain, device_ring.Next.Next, failure.Failure.Failure}
 use Rattle.vs_uds.specs.Path.{path_of}
 use Rattle.vs_wrap.specs.Wrap.{counted}
-use Rattle.vs_device_parts.specs.Calls.{Accept, Dial, ReadStream, WriteStream}
-use Rattle.vs_device_parts.specs.{Connections.stream_closed, Receiving.read_room, State.DeviceEntry, State.DeviceState, Streams.closing}
-use Rattle.vs_device_parts.specs.{Streams.to_write, Turns.close_slot, Turns.reset_of}
+use Rattle.vs_device_parts.specs.{Calls.{Accept, Dial, ReadStream, WriteStream}, Connections.stream_closed, Receiving.read_room}
+use Rattle.vs_device_parts.specs.{State.{DeviceEntry, DeviceState}, Streams.{closing, to_write}, Turns.{close_slot, reset_of}}
 use Rattle.vs_credit.specs.Credit.{free_of}
 use Rattle.vs_proxy_parts.specs.Turns.{close_handshake, event_stage, fill_stage, proxy_reset_of, pump_stage, reset_with, tick_stage}
 use Rattle.vs_proxy_parts.specs.{Handshakes.shake_hands, Handshakes.streams_of, State.Handshake, State.ProxyState, State.Turning}
 use Rattle.vs_proxy_parts.specs.{State.start, Turns.turn_of, Turns.unless_failed, declared.answers.Turn.Turn}
 use Rattle.laws_device_walk.proofs.Serving.{AfterEvent, AfterRead, AfterWrite, Closes, Fills, Writes, keeps_fill_rx, keeps_pay_event}
 use Rattle.laws_device_walk.proofs.Turning.{AfterAccept, AfterByte, Between, Shakes, Turns, keeps_event_stage, keeps_fill_stage}
-use Rattle.laws_device_walk.specs.Seen.{Seen, seen}
 use Rattle.laws_device_walk.proofs.Keeping.{Keeps, keeps_each, keeps_if, keeps_some, keeps_then}
 use Rattle.laws_device_walk.proofs.Turning.{keeps_pump_stage, keeps_shake_hands, keeps_tick_stage, keeps_turn, keeps_unless}
 use Rattle.laws_device_walk.proofs.{Serving.keeps_pump, Serving.keeps_tick, Taking.AfterDial, Taking.Takes}
+use Rattle.laws_device_walk.specs.Seen.{Seen, seen}
 use Rattle.laws_proxy_bytes.specs.Counts.{DeviceCounts, count_made, counts_shown}
 use Rattle.laws_proxy_bytes.{specs.Packets.after_packets, specs.Packets.before_packets, proofs.Walks.Walks, proofs.Walks.counting}
 use Rattle.vs_outside.specs.declared.host_net.Accepted.TheVariants as accepted

@@ -1,25 +1,23 @@
 -- Packets to the guest, and the reads of the host's streams that give their payload: no stream is given a byte.
 use Rattle.vs_flow.specs.{Table.with_value, Table.Table, declared.flow.Flow.Flow}
 use Rattle.laws_device_walk.proofs.Serving.{AfterEvent, AfterRead, Fills, IsIn}
-use Rattle.laws_proxy_bytes.proofs.Closing.{D, closes, Has, agree_same, join, over_there}
+use Rattle.laws_proxy_bytes.proofs.{Closing.{D, closes, Has, agree_same, join, over_there}, Accounts.{Changes, changes, changing, stays}}
+use Rattle.laws_proxy_bytes.proofs.{Keeping.{asking, Keeps}, Entries.{hand_other, taken_tied}, Ties.{end_changes, shuts}}
 use Rattle.laws_proxy_bytes.specs.Made.{Account, Made, account_of, is_for, is_of, made, payload_put, payload_taken, ports_of, with_taken}
 use Rattle.laws_proxy_bytes.specs.Tied.{Agree, AgreesWith, IsTied, reading_account}
-use Rattle.laws_proxy_bytes.proofs.Accounts.{Changes, changes, changing, stays}
-use Rattle.laws_proxy_bytes.proofs.{Keeping.asking, Keeping.Keeps, Entries.hand_other, Entries.taken_tied, Ties.end_changes, Ties.shuts}
 use Rattle.std.proofs.Common.{◌≡◌, ℕ, Bool, true, false, cond, List, [], ◌∷◌, ◌++◌, length, bytes_eq, Option, Some, None, refl, sym, ap}
 use Rattle.std.{proofs.Common.◌∙◌, proofs.lemmas.List.append-nil, proofs.lemmas.List.Elements.All-weaker, specs.Option.option_map_or}
 use Rattle.vs_conn.specs.declared.end.State.TheVariants.{Asked, Ended}
-use Rattle.vs_conn.proofs.Frames.{paid_asked, paid_over}
 use Rattle.vs_conn.specs.{End.paid_of, End.wanting_credit, End.with_payload_sent, Headers.payload_header}
+use Rattle.vs_conn.proofs.Frames.{paid_asked, paid_over}
 use Rattle.vs_credit.specs.Credit.{free_of}
 use Rattle.vs_header.specs.{Packet.header_bytes, declared.Header.Header}
 use Rattle.vs_outside.specs.declared.host_net.StreamRead.{StreamRead}
 use Rattle.laws_device_bytes.{specs.Streamed.gives, proofs.Gives.pays_gives}
 use Rattle.vs_ring_port.specs.declared.queue.Queue.TheVariants.{Event, Rx}
 use Rattle.vs_ring_port.specs.{Contents.Take, declared.device_ring.Chain.Chain, declared.device_ring.Next.Next}
-use Rattle.vs_device_parts.specs.Receiving.{fill_rx_of, pay_event_of, read_room, written}
-use Rattle.vs_device_parts.specs.State.{DeviceConnection, DeviceEntry, DeviceState}
-use Rattle.vs_device_parts.specs.{Calls.ReadStream, Calls.Ring, Connections.after_shut, Connections.route_to_guest}
+use Rattle.vs_device_parts.specs.{Receiving.{fill_rx_of, pay_event_of, read_room, written}, State.{DeviceConnection, DeviceEntry}}
+use Rattle.vs_device_parts.specs.{State.DeviceState, Calls.{ReadStream, Ring}, Connections.{after_shut, route_to_guest}}
 use Rattle.laws_device_streams.proofs.Ends.{shut_over}
 use Rattle.vs_proxy_parts.specs.State.{Handshake}
 use Rattle.laws_device_walk.proofs.Serving as walked

@@ -1,6 +1,5 @@
 -- Handshakes: their clients' streams are given nothing before they have a connection.
-use Rattle.vs_device_parts.specs.Calls.{Label, Accept, CloseStream, ReadStream}
-use Rattle.vs_device_parts.specs.{State.DeviceState, Connections.with_client}
+use Rattle.vs_device_parts.specs.{Calls.{Label, Accept, CloseStream, ReadStream}, State.DeviceState, Connections.with_client}
 use Rattle.laws_device_walk.proofs.Turning.{AfterAccept, AfterByte, AfterLine, Between, IsOn, Shakes, may_assign}
 use Rattle.laws_proxy_bytes.specs.Made.{Account, Made, MayGet, account_of, is_of, made, new_account, payload_put, payload_taken, shut}
 use Rattle.laws_proxy_bytes.specs.{Made.with_taken, Tied.IsWhole, Tied.reading_account}

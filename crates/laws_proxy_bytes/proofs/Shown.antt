@@ -7,8 +7,7 @@ use Rattle.vs_header.specs.declared.Header.{Header}
 use Rattle.vs_outside.specs.Host.{HostContents, Stream, stream_at, with_stream}
 use Rattle.vs_outside.proofs.Frames.{keeps_others, stream_at-with_stream}
 use Rattle.vs_page.specs.Log.{flow_to_host}
-use Rattle.laws_proxy_bytes.specs.Made.{Account, delivering, is_on, with_delivery}
-use Rattle.laws_proxy_bytes.specs.{Tied.IsLine, Tied.IsRead, Told.Shows, Told.ShowsAt, Told.ShowsIn}
+use Rattle.laws_proxy_bytes.specs.{Made.{Account, delivering, is_on, with_delivery}, Tied.{IsLine, IsRead}, Told.{Shows, ShowsAt, ShowsIn}}
 use Rattle.laws_device_bytes.proofs.{Hosts.new_there, Hosts.none_there as past_end, Hosts.others_there, Streamed.is_or_not}
 
 -- What is read of a stream stays lawful where nothing of it changes.

@@ -9,17 +9,16 @@ use Rattle.vs_header.specs.declared.TheConstants.{HEADER_LEN}
 use Rattle.vs_outside.specs.Host.{HostContents, Stream, accept_answer, after_accept, after_close, after_dial, after_failed, after_label}
 use Rattle.vs_outside.specs.Host.{after_read, after_shut_write, after_write, called, dial_answer, dialed_stream, fails_now, give_bytes}
 use Rattle.vs_outside.specs.Host.{is_listened, stream_at, take_bytes, waits, IsDialed, IsWritten, with_label_call, with_shut_write_call}
-use Rattle.vs_outside.proofs.Frames.{accepts_waiting}
 use Rattle.vs_outside.specs.declared.host_net.{Accepted.Accepted, Dialed.Dialed, StreamRead.StreamRead, StreamWrite.StreamWrite}
+use Rattle.vs_outside.proofs.Frames.{accepts_waiting}
 use Rattle.vs_ring_port.specs.Contents.{DeviceAnswer, DeviceCall, Take, Read, Write, Return, Given, PublishCid}
 use Rattle.vs_device_parts.specs.Calls.{Answer, Call, DeviceTree, Ring, Accept, Dial, Label, ReadStream, WriteStream, ShutWrite}
-use Rattle.vs_device_parts.specs.Calls.{CloseStream, Allows, IsReadOf, Situation, TakesWithin}
-use Rattle.vs_device_parts.specs.{Playing.Runs, State.DeviceConnection}
+use Rattle.vs_device_parts.specs.{Calls.{CloseStream, Allows, IsReadOf, Situation, TakesWithin}, Playing.Runs, State.DeviceConnection}
 use Rattle.laws_proxy_bytes.specs.Made.{Account, Made, MayGet, account_of, delivering, header_in, labelled, made, new_account, shut}
-use Rattle.laws_proxy_bytes.proofs.Shown.{change_shows, delivers_same, new_shows, none_there, read_same, same_seen, unseen_shows}
-use Rattle.laws_proxy_bytes.proofs.Accounts.{Changes, changes, changing, comes, differs, self_is}
 use Rattle.laws_proxy_bytes.specs.{Made.with_given, Made.took, Made.with_taken, Tied.IsRead, Tied.IsWhole, Tied.reading_account}
 use Rattle.laws_proxy_bytes.specs.{Tied.AgreesWith, Told.AreAccounted, Told.Shows, Told.ShowsAt, Told.ShowsIn, Told.StayAccounted}
+use Rattle.laws_proxy_bytes.proofs.Shown.{change_shows, delivers_same, new_shows, none_there, read_same, same_seen, unseen_shows}
+use Rattle.laws_proxy_bytes.proofs.Accounts.{Changes, changes, changing, comes, differs, self_is}
 use Rattle.laws_proxy_bytes.proofs.{Carrying.carries, Keeping.Asks, Keeping.Keeps, Keeping.keeps_answer}
 use Rattle.vs_proxy_parts.specs.State.{Handshake}
 use Rattle.vs_outside.specs.declared.host_net.Accepted.TheVariants as accepted

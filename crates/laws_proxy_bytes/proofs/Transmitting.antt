@@ -1,11 +1,10 @@
 -- Packets of the guest: payload goes to the stream of its own flow.
 use Rattle.laws_proxy_bytes.specs.Made.{Account, Made, MayGet, account_of, delivering, header_in, made, new_account, payload_put}
 use Rattle.laws_proxy_bytes.specs.Tied.{AgreesWith, Agree, IsOver, IsTied, IsTiedTo, ok_line_of, stream_of}
-use Rattle.laws_proxy_bytes.proofs.Closing.{D, closes, Has, agree_moved, agree_same, join, over_there}
 use Rattle.laws_proxy_bytes.specs.Made.{payload_taken, with_delivery}
-use Rattle.laws_proxy_bytes.proofs.Accounts.{Changes, comes, is_delivered, not_delivered, self_is}
-use Rattle.laws_proxy_bytes.proofs.Ties.{answers, delivers, end_changes}
-use Rattle.laws_proxy_bytes.proofs.{Keeping.asking, Keeping.Keeps, Entries.added, Entries.waiting_kept}
+use Rattle.laws_proxy_bytes.proofs.{Closing.{D, closes, Has, agree_moved, agree_same, join, over_there}, Accounts.{Changes, comes}}
+use Rattle.laws_proxy_bytes.proofs.{Accounts.{is_delivered, not_delivered, self_is}, Ties.{answers, delivers, end_changes}, Keeping.asking}
+use Rattle.laws_proxy_bytes.proofs.{Keeping.Keeps, Entries.{added, waiting_kept}}
 use Rattle.laws_device_walk.{specs.Seen.Seen, proofs.Serving.by_flow, proofs.Taking.AfterDial, proofs.Taking.Takes}
 use Rattle.std.proofs.Common.{◌≡◌, ℕ, Bool, true, false, cond, List, [], ◌∷◌, ◌++◌, Contains, Option, Some, None, refl, sym, ap, subst, ◌∙◌}
 use Rattle.std.{proofs.lemmas.List.Elements.All-push, specs.Option.option_map}
@@ -18,8 +17,7 @@ use Rattle.vs_limits.specs.declared.TheConstants.{BUF_ALLOC}
 use Rattle.vs_outside.specs.declared.host_net.Dialed.{Dialed}
 use Rattle.vs_page.specs.Log.{flow_to_host}
 use Rattle.laws_device_bytes.{specs.Streamed.gives_in, proofs.Gives.delivers_gives, proofs.Gives.hears_gives}
-use Rattle.vs_ring_port.specs.Contents.{Read, Take}
-use Rattle.vs_ring_port.specs.declared.{device_ring.Chain.Chain, device_ring.Next.Next, queue.Queue.TheVariants.Tx}
+use Rattle.vs_ring_port.specs.{Contents.{Read, Take}, declared.{device_ring.Chain.Chain, device_ring.Next.Next, queue.Queue.TheVariants.Tx}}
 use Rattle.vs_uds.specs.Path.{path_of}
 use Rattle.vs_device_parts.specs.{State.DeviceConnection, State.DeviceEntry, State.DeviceState, Calls.Dial, Calls.Ring, Transmitting.heard}
 use Rattle.vs_device_parts.specs.{Transmitting.take_tx_of, Connections.new_connection, Connections.with_connection}

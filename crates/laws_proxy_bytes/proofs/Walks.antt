@@ -3,9 +3,8 @@ use Rattle.std.proofs.Common.{◌≡◌, ℕ, ◌<◌, ◌^◌, Bool, true, fals
 use Rattle.std.proofs.lemmas.Bool.Decides.{nat_tests}
 use Rattle.vs_contents.specs.CallTree.{Done, Ask, Leads}
 use Rattle.vs_outside.specs.{Faults.CountsFault, Host.accept_failed, Host.dial_failed, Host.read_failed, Host.write_failed}
-use Rattle.vs_ring_port.specs.Contents.{Given, PublishCid, Read, Return, Take, Write}
-use Rattle.vs_ring_port.specs.declared.{device_ring.Chain.Chain, queue.Queue.TheVariants.Event, queue.Queue.TheVariants.Rx}
-use Rattle.vs_ring_port.specs.declared.queue.Queue.TheVariants.{Tx}
+use Rattle.vs_ring_port.specs.{Contents.{Given, PublishCid, Read, Return, Take, Write}, declared.device_ring.Chain.Chain}
+use Rattle.vs_ring_port.specs.{declared.{queue.Queue.TheVariants.Event, queue.Queue.TheVariants.Rx}, declared.queue.Queue.TheVariants.Tx}
 use Rattle.vs_wrap.specs.Wrap.{counted}
 use Rattle.vs_device_parts.specs.Calls.{Accept, Allows, Answer, Call, CloseStream, DeviceTree, Dial, Label, ReadStream, Ring, ShutWrite}
 use Rattle.vs_device_parts.specs.Calls.{Situation, WriteStream}

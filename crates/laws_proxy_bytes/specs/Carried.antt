@@ -2,8 +2,7 @@
 use Rattle.std.specs.Prelude.{◌≡◌, ℕ, true, List, Contains, Some}
 use Rattle.vs_flow.specs.{Table.Table, declared.flow.Flow.Flow}
 use Rattle.vs_device_parts.specs.State.{DeviceConnection, DeviceEntry}
-use Rattle.laws_proxy_bytes.specs.{Made.Account, Made.Made, Made.account_of, Made.is_on, Made.payload_put, Made.payload_taken, Tied.IsGiven}
-use Rattle.laws_proxy_bytes.specs.Tied.{IsRead, IsTied}
+use Rattle.laws_proxy_bytes.specs.{Made.{Account, Made, account_of, is_on, payload_put, payload_taken}, Tied.{IsGiven, IsRead, IsTied}}
 
 pub record Carries (calls : List Made) (t : Table DeviceConnection) : Type 0 where
   -- What a stream was given is a prefix of its OK line and the payloads delivered on its own connection.

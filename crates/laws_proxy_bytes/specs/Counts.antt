@@ -5,8 +5,7 @@ use Rattle.vs_outside.specs.Host.{accept_failed, dial_failed, read_failed, write
 use Rattle.vs_page.specs.{Log.Device, Open.is_dropped}
 use Rattle.vs_ring_port.specs.{Contents.PublishCid, Contents.Read}
 use Rattle.vs_wrap.specs.Wrap.{counted}
-use Rattle.vs_device_parts.specs.{Calls.Accept, Calls.Answer, Calls.Call, Calls.Dial, Calls.ReadStream, Calls.Ring, Calls.WriteStream}
-use Rattle.vs_device_parts.specs.State.{DeviceState}
+use Rattle.vs_device_parts.specs.{Calls.{Accept, Answer, Call, Dial, ReadStream, Ring, WriteStream}, State.DeviceState}
 use Rattle.laws_proxy_bytes.specs.{Judged.held_in, Made.Made}
 
 pub record DeviceCounts : Type 0 where

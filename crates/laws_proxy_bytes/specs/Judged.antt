@@ -13,10 +13,9 @@ use Rattle.vs_ring_port.specs.{Contents.Read, Contents.Return, Contents.Take, de
 use Rattle.vs_ring_port.specs.declared.{failure.Failure.Failure, queue.Queue.TheVariants.Tx}
 use Rattle.vs_uds.specs.Path.{path_of}
 use Rattle.vs_wrap.specs.Wrap.{counted}
-use Rattle.vs_device_parts.specs.{Calls.CloseStream, Calls.Dial, Calls.Ring, Connections.with_dialed, Connections.with_fault}
-use Rattle.vs_device_parts.specs.{Connections.with_reply, State.DeviceConnection, State.DeviceEntry, State.DeviceState}
-use Rattle.vs_device_parts.specs.{Taking.asks_for_stream, Transmitting.failing, Transmitting.heard, Transmitting.unknown_why}
-use Rattle.vs_device_parts.specs.declared.answers.Taken.{Taken}
+use Rattle.vs_device_parts.specs.{Calls.{CloseStream, Dial, Ring}, Connections.{with_dialed, with_fault, with_reply}}
+use Rattle.vs_device_parts.specs.{State.{DeviceConnection, DeviceEntry, DeviceState}, Taking.asks_for_stream, Transmitting.{failing, heard}}
+use Rattle.vs_device_parts.specs.{Transmitting.unknown_why, declared.answers.Taken.Taken}
 use Rattle.laws_proxy_bytes.specs.Made.{Account, Made, account_of, made}
 use Rattle.vs_conn.specs.declared.end.Verdict.TheVariants as verdict
 use Rattle.vs_conn.specs.declared.end.Why.TheVariants as why

@@ -1,6 +1,5 @@
 -- A host in memory, and the accounts of its streams.
-use Rattle.std.specs.Prelude.{◌≡◌, ◌≢◌, ℕ, ◌≤◌, ◌++◌, true, false, List, [], Option, Some, None}
-use Rattle.std.specs.List.{All}
+use Rattle.std.specs.{Prelude.{◌≡◌, ◌≢◌, ℕ, ◌≤◌, ◌++◌, true, false, List, [], Option, Some, None}, List.All}
 use Rattle.vs_contents.specs.CallTree.{Leads}
 use Rattle.vs_flow.specs.{declared.flow.Flow.Flow, Table.Table}
 use Rattle.vs_limits.specs.declared.TheConstants.{ASSIGNED_LAST}

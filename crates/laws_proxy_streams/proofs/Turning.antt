@@ -1,18 +1,15 @@
 -- A turn and a reset.
-use Rattle.laws_device_streams.proofs.Keeping.{asking, Keeps, keeps_then}
+use Rattle.laws_device_streams.proofs.{Keeping.{asking, Keeps, keeps_then}, Closing.closes, Receiving.fills, Transmitting.takes}
+use Rattle.laws_device_streams.proofs.{Writing.writes, Opening.keeps_reset, Tables.{some_after, some_from}, Stepping.reach}
 use Rattle.laws_device_streams.specs.{Split.CanReach, Split.is_quiet, Streams.FindsStreams, Streams.HasStreams}
-use Rattle.laws_device_streams.proofs.{Closing.closes, Receiving.fills, Transmitting.takes, Writing.writes, Opening.keeps_reset}
-use Rattle.laws_device_streams.proofs.{Tables.some_after, Tables.some_from, Stepping.reach}
-use Rattle.laws_proxy_streams.proofs.Shaking.{D, shakes, FindsAll}
-use Rattle.laws_proxy_streams.proofs.{Lists.ids, Lists.at_first, Lists.further, Hosts.has_dropped}
+use Rattle.laws_proxy_streams.proofs.{Shaking.{D, shakes, FindsAll}, Lists.{ids, at_first, further}, Hosts.has_dropped}
 use Rattle.std.proofs.Common.{◌≡◌, ℕ, true, List, [], ◌∷◌, Some, Result, Ok, Err, refl}
 use Rattle.std.specs.Option.{ForSome}
 use Rattle.vs_contents.specs.CallTree.{Done, for_each}
 use Rattle.vs_flow.specs.Table.{Table}
 use Rattle.vs_outside.specs.Host.{IsOpen, after_close}
 use Rattle.vs_ring_port.specs.declared.failure.Failure.{Failure}
-use Rattle.vs_device_parts.specs.Calls.{Call, CloseStream, Situation, Allows}
-use Rattle.vs_device_parts.specs.{State.DeviceConnection, State.DeviceState, Turns.reset_of}
+use Rattle.vs_device_parts.specs.{Calls.{Call, CloseStream, Situation, Allows}, State.{DeviceConnection, DeviceState}, Turns.reset_of}
 use Rattle.vs_proxy_parts.specs.Turns.{close_handshake, proxy_reset_of, reset_with, turn_of}
 use Rattle.vs_proxy_parts.specs.{Handshakes.streams_of, State.ProxyState, State.with_device, declared.answers.Turn.Turn}
 use Rattle.laws_device_walk.proofs.Turning as walked

@@ -9,11 +9,9 @@ use Rattle.vs_outside.specs.declared.host_net.Accepted.TheVariants as accepted
 use Rattle.vs_outside.specs.declared.host_net.Dialed.TheVariants as dialed
 use Rattle.vs_outside.specs.declared.host_net.StreamRead.TheVariants as read
 use Rattle.vs_outside.specs.declared.host_net.StreamWrite.TheVariants as write
-use Rattle.vs_page.specs.{Held.packet_held, Log.events_put, Log.Log}
-use Rattle.vs_page.specs.declared.log.LogEntry.TheVariants.{GotPacket, PutPacket}
-use Rattle.vs_ring_port.specs.{Chains.chain_of, Contents.DeviceAnswer, Contents.DeviceCall, Contents.Given, Contents.PublishCid}
-use Rattle.vs_ring_port.specs.{Contents.Read, Contents.Return, Contents.RingContents, Contents.Take, Contents.Write, EndLog.EndLog}
-use Rattle.vs_ring_port.specs.EndLog.{entries_returned, log_returned, log_taken, log_written, with_packet}
+use Rattle.vs_page.specs.{Held.packet_held, Log.{events_put, Log}, declared.log.LogEntry.TheVariants.{GotPacket, PutPacket}}
+use Rattle.vs_ring_port.specs.{Chains.chain_of, Contents.{DeviceAnswer, DeviceCall, Given, PublishCid, Read, Return, RingContents, Take}}
+use Rattle.vs_ring_port.specs.{Contents.Write, EndLog.{EndLog, entries_returned, log_returned, log_taken, log_written, with_packet}}
 use Rattle.vs_ring_port.specs.declared.{device_ring.Chain.Chain, device_ring.Next.Next, queue.Queue.Queue}
 use Rattle.vs_ring_port.specs.declared.queue.Queue.TheVariants.{Event, Rx, Tx}
 use Rattle.vs_ring_port.specs.declared.device_ring.Next.TheVariants as next
@@ -21,12 +19,10 @@ use Rattle.vs_device_parts.specs.Calls.{Accept, Allows, Answer, Call, CloseStrea
 use Rattle.vs_device_parts.specs.{Calls.ShutWrite, Calls.Situation, Calls.WriteStream, Playing.Runs, State.DeviceEntry, State.DeviceState}
 use Rattle.vs_proxy_parts.specs.{State.Handshake, State.ProxyState, declared.answers.Turn.Turn, Turns.turn_of}
 use Rattle.laws_device_walk.specs.Seen.{Seen}
-use Rattle.laws_device_walk.proofs.Keeping.{Asking, Keeps}
-use Rattle.laws_device_walk.proofs.Serving.{AfterRead, AfterWrite, Closes, Fills, Writes}
-use Rattle.laws_device_walk.proofs.Taking.{AfterDial, Takes}
+use Rattle.laws_device_walk.proofs.{Keeping.{Asking, Keeps}, Serving.{AfterRead, AfterWrite, Closes, Fills, Writes}, Taking.AfterDial}
+use Rattle.laws_device_walk.proofs.{Taking.Takes, Turning.{AfterAccept, AfterByte, Between, Shakes, keeps_turn}}
 use Rattle.laws_device_walk.proofs.Serving as serving
 use Rattle.laws_device_walk.proofs.Taking as taking
-use Rattle.laws_device_walk.proofs.Turning.{AfterAccept, AfterByte, Between, Shakes, keeps_turn}
 use Rattle.laws_rest.specs.{Calm.OwesNoEvent, Calm.resets_in, Rest.has_no_mark}
 
 -- Such a call, and a chain that fits its queue.

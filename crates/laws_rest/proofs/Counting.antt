@@ -6,8 +6,7 @@ use Rattle.vs_limits.specs.declared.TheConstants.{HOST_CID}
 use Rattle.vs_page.specs.Log.{Device, Driver, Role}
 use Rattle.vs_page.proofs.Flows.{same_is, same_self}
 use Rattle.laws_tables.specs.{Both.Both, Both.at, Ends.AreDistinct, Ends.FlowEnd, Ends.flows_of, Ends.is_among, Ends.without}
-use Rattle.laws_tables.proofs.Entries.{among_flows, without_distinct, without_own}
-use Rattle.laws_tables.proofs.Tables.{IsOnce, once_rest, only_end, own_none}
+use Rattle.laws_tables.proofs.{Entries.{among_flows, without_distinct, without_own}, Tables.{IsOnce, once_rest, only_end, own_none}}
 use Rattle.laws_rest.specs.Rest.{IsAtRest, IsWithHost}
 use Rattle.laws_rest.proofs.Resting.{same_flows}
 

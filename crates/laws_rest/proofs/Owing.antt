@@ -3,8 +3,7 @@ use Rattle.std.proofs.Common.{◌≡◌, ◌<◌, ◌==◌, ℕ, zero, suc, Bool
 use Rattle.std.proofs.lemmas.{Bool.eq-eqb, Bool.eqb-true, Grind.common_steps, List.Elements.All-map}
 use Rattle.std.specs.{List.All, List.AllPairs, Option.option_map, Prelude.find, Prelude.map, Prelude.slice_index_or}
 use Rattle.vs_conn.specs.End.{ConnectionEnd, owes_of}
-use Rattle.vs_flow.specs.Table.{IsTable, Table, entry_under, revalued, slots, with_value}
-use Rattle.vs_flow.specs.declared.table.Entry.{Entry}
+use Rattle.vs_flow.specs.{Table.{IsTable, Table, entry_under, revalued, slots, with_value}, declared.table.Entry.Entry}
 use Rattle.laws_tables.specs.Ends.{entries_of}
 use Rattle.laws_rest.proofs.Quiet.{in_list}
 

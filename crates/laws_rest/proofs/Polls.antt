@@ -8,8 +8,7 @@ use Rattle.vs_contents.proofs.Leads.{AllEnds, end_of, ends_bind, ends_weaker}
 use Rattle.vs_conn.specs.{End.owes_of, declared.end.Owed.Owed}
 use Rattle.vs_flow.specs.Table.{IsTable, entry_under, slots}
 use Rattle.vs_replies.specs.declared.Reply.{Reply}
-use Rattle.vs_ring_port.specs.{Contents.RingContents, declared.queue.Queue.TheVariants.Event, declared.queue.Queue.TheVariants.Rx}
-use Rattle.vs_ring_port.specs.declared.queue.Queue.TheVariants.{Tx}
+use Rattle.vs_ring_port.specs.{Contents.RingContents, declared.queue.Queue.TheVariants.{Event, Rx, Tx}}
 use Rattle.vs_driver_parts.specs.Conversations.{DriverTree, Round, after_paying, has_page, one_put, owed_bytes, pay_all, pay_and_publish}
 use Rattle.vs_driver_parts.specs.Conversations.{pay_slot, poll_of, poll_packets, poll_puts, poll_reaps, polled, publish_and_pay, published}
 use Rattle.vs_driver_parts.specs.Conversations.{put_all, put_owed, put_owed_of, put_replies, put_reply, put_reply_of, reap_all}

@@ -1,7 +1,6 @@
 -- Both ends at rest, flow by flow.
 use Rattle.std.proofs.Common.{◌≡◌, ℕ, ◌<◌, ◌≤◌, ◌^◌, ◌%◌, Bool, true, false, ◌||◌, if◌then◌else◌, List, [], ◌∷◌, Option, Some, None, refl}
-use Rattle.std.proofs.Common.{sym, ap, ◌∙◌, subst, arith}
-use Rattle.std.proofs.lemmas.{Grind.common_steps, List.Elements.All-head, List.Elements.All-tail}
+use Rattle.std.proofs.{Common.{sym, ap, ◌∙◌, subst, arith}, lemmas.{Grind.common_steps, List.Elements.All-head, List.Elements.All-tail}}
 use Rattle.std.specs.List.{All}
 use Rattle.vs_wrap.specs.Wrap.{difference32}
 use Rattle.vs_header.specs.{Kind.kind_number, declared.Kind.Kind}
@@ -12,8 +11,7 @@ use Rattle.laws_history.specs.History.{Answerer, Asker, Got, History, IsFair, Ma
 use Rattle.laws_history.specs.Packets.{asked_kind, bytes, has, is_response, is_rst, told_alloc, told_forwarded}
 use Rattle.laws_history.specs.declared.packet.Packet.{Packet}
 use Rattle.vs_limits.specs.declared.TheConstants.{BUF_ALLOC, HOST_CID}
-use Rattle.vs_page.specs.Log.{Device, Driver, Role, history_of, other_role, packets_got, packets_put, side_of}
-use Rattle.vs_page.specs.Open.{left_kind}
+use Rattle.vs_page.specs.{Log.{Device, Driver, Role, history_of, other_role, packets_got, packets_put, side_of}, Open.left_kind}
 use Rattle.vs_page.proofs.Flows.{opposite_by, other_twice}
 use Rattle.laws_tables.specs.{Both.Both, Both.at, Ends.FlowEnd, Ends.ends_of, Ends.flows_of, Ends.is_among, Ends.replied, Heard.heard_of}
 use Rattle.laws_tables.specs.{Matches.IsBefore, Matches.IsHeld, Matches.IsLeftOn, Steps.HasEnd}

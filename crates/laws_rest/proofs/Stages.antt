@@ -16,21 +16,19 @@ use Rattle.vs_replies.specs.declared.Reply.{Reply}
 use Rattle.vs_ring_port.specs.{Contents.Take, Known.StopsAt, declared.failure.Failure.Failure, declared.device_ring.Chain.Chain}
 use Rattle.vs_ring_port.specs.declared.{device_ring.Next.Next, queue.Queue.TheVariants.Rx}
 use Rattle.vs_ring_port.specs.declared.device_ring.Next.TheVariants as next
-use Rattle.vs_device_parts.specs.Calls.{Allows, CloseStream, DeviceTree, ReadStream, Ring, Situation}
-use Rattle.vs_device_parts.specs.Connections.{after_shut, cut_off, route_to_guest, with_connection, with_fault}
-use Rattle.vs_device_parts.specs.Receiving.{Filling, after_paying, fill_rx_of, filled_of, hold, holding, may_read, put_on, put_owed}
-use Rattle.vs_device_parts.specs.Receiving.{put_packet, put_reply, put_reply_of, read_answered, read_room, read_stream, read_with_chain}
-use Rattle.vs_device_parts.specs.{Receiving.reply_header, Receiving.round_from, Receiving.serve_slot, Receiving.written, Playing.Runs}
-use Rattle.vs_device_parts.specs.{State.DeviceConnection, State.DeviceEntry, State.DeviceState, Steps.filling, Streams.closing}
-use Rattle.vs_device_parts.specs.declared.answers.Filled.{Filled}
+use Rattle.vs_device_parts.specs.{Calls.{Allows, CloseStream, DeviceTree, ReadStream, Ring, Situation}, Connections.{after_shut, cut_off}}
+use Rattle.vs_device_parts.specs.{Connections.{route_to_guest, with_connection, with_fault}, Receiving.{Filling, after_paying, fill_rx_of}}
+use Rattle.vs_device_parts.specs.Receiving.{filled_of, hold, holding, may_read, put_on, put_owed, put_packet, put_reply, put_reply_of}
+use Rattle.vs_device_parts.specs.Receiving.{read_answered, read_room, read_stream, read_with_chain, reply_header, round_from, serve_slot}
+use Rattle.vs_device_parts.specs.{Receiving.written, Playing.Runs, State.{DeviceConnection, DeviceEntry, DeviceState}, Steps.filling}
+use Rattle.vs_device_parts.specs.{Streams.closing, declared.answers.Filled.Filled}
 use Rattle.laws_device_streams.specs.Waiting.{filling_of}
 use Rattle.laws_device_streams.proofs.Stopping.{is_stage, over_stops}
 use Rattle.laws_device.specs.Honest.{end_in, ends_of_state}
 use Rattle.laws_rest.specs.Rest.{OwesNothing}
-use Rattle.laws_rest.proofs.{Owing.all_owe_none, Owing.end_under, Owing.listed, Owing.same_slots, Owing.same_under, Quiet.Any}
-use Rattle.laws_rest.proofs.Quiet.{NoReplies, NoneAt, OwesNone, Relation, Same, Served, Serves, Sight, Steps, Touches, all_served, ends_any}
-use Rattle.laws_rest.proofs.Quiet.{ends_then, in_list, is_over, more, none_at, one_then, quiet_each, quiet_while, serves, some_at, still}
-use Rattle.laws_rest.proofs.Quiet.{touches_none}
+use Rattle.laws_rest.proofs.{Owing.{all_owe_none, end_under, listed, same_slots, same_under}, Quiet.{Any, NoReplies, NoneAt, OwesNone}}
+use Rattle.laws_rest.proofs.Quiet.{Relation, Same, Served, Serves, Sight, Steps, Touches, all_served, ends_any, ends_then, in_list, is_over}
+use Rattle.laws_rest.proofs.Quiet.{more, none_at, one_then, quiet_each, quiet_while, serves, some_at, still, touches_none}
 
 abbrev see : Filling → Sight
 see r = record {

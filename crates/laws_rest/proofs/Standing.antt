@@ -1,7 +1,6 @@
 -- Whether a flow stands, by the packets put and got on its present connection alone, in whatever order they passed.
 use Rattle.std.proofs.Common.{◌≡◌, ℕ, Bool, true, false, ◌&&◌, not, if◌then◌else◌, Option, Some, None, List, [], ◌∷◌, refl, sym, ap, ◌∙◌}
-use Rattle.std.proofs.{Common.subst, Common.arith, lemmas.Grind.common_steps, lemmas.List.Elements.All-cons, lemmas.List.Elements.All-head}
-use Rattle.std.proofs.lemmas.List.Elements.{All-nil, All-tail}
+use Rattle.std.proofs.{Common.{subst, arith}, lemmas.Grind.common_steps, lemmas.List.Elements.{All-cons, All-head, All-nil, All-tail}}
 use Rattle.std.specs.List.{All}
 use Rattle.vs_flow.specs.{Flow.is_assigned, Flow.same_flow, declared.flow.Flow.Flow}
 use Rattle.laws_history.specs.{Again.AllowsNow, Again.IsFairAll, Again.now_got, Again.now_put, History.Answerer, History.Asker, History.Got}
@@ -9,9 +8,8 @@ use Rattle.laws_history.specs.History.{History, MayPut, Put, Side, gots, is_begu
 use Rattle.laws_history.specs.{Packets.asked_kind, Packets.has, Packets.is_request, Packets.is_rst, declared.packet.Packet.Packet}
 use Rattle.laws_history.proofs.Present.{is_present, swap, swap_back}
 use Rattle.vs_limits.specs.declared.TheConstants.{HOST_CID}
-use Rattle.vs_page.specs.{Fair.IsFairOn, Log.Device, Log.Driver, Log.Log, Log.Role, Log.and_then, Log.flow_got, Log.flow_put}
-use Rattle.vs_page.specs.{Log.history_of, Log.other_role, Log.packets_got, Log.packets_put, Log.side_of, Log.whole_of, Open.cid_of}
-use Rattle.vs_page.specs.Open.{is_dropped, kind_ended, kind_got, kind_put, left_kind}
+use Rattle.vs_page.specs.{Fair.IsFairOn, Log.{Device, Driver, Log, Role, and_then, flow_got, flow_put, history_of, other_role, packets_got}}
+use Rattle.vs_page.specs.{Log.{packets_put, side_of, whole_of}, Open.{cid_of, is_dropped, kind_ended, kind_got, kind_put, left_kind}}
 use Rattle.vs_page.specs.declared.log.LogEntry.TheVariants.{GotEvent, GotPacket, Mark, PutEvent, PutPacket}
 use Rattle.vs_page.proofs.{Entries.fair_got_on, Entries.fair_put_on, Entries.got_on, Entries.present_is, Flows.opposite_by, Flows.same_is}
 use Rattle.vs_page.proofs.{Flows.other_twice, Phases.kind_stays}

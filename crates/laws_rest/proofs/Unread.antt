@@ -10,8 +10,7 @@ use Rattle.vs_credit.specs.Credit.{room_of, unread_of}
 use Rattle.vs_header.specs.{Op.op_named, declared.Header.Header, declared.Op.Op}
 use Rattle.vs_header.specs.declared.Op.TheVariants as op
 use Rattle.vs_limits.specs.declared.TheConstants.{BUF_ALLOC}
-use Rattle.vs_device_parts.specs.{Connections.after_shut, Connections.after_written, State.DeviceConnection, Streams.to_write}
-use Rattle.vs_device_parts.specs.Transmitting.{heard}
+use Rattle.vs_device_parts.specs.{Connections.{after_shut, after_written}, State.DeviceConnection, Streams.to_write, Transmitting.heard}
 use Rattle.laws_device.specs.Honest.{HoldsBytes}
 use Rattle.laws_rest.specs.Pending.{IsExact, delivered}
 

@@ -1,9 +1,7 @@
 -- What a call makes of the calls so far.
 use Rattle.std.specs.Prelude.{Option, Some, None, option_and_then}
-use Rattle.vs_ring_port.specs.Contents.{Take, Write, Return, PublishCid}
-use Rattle.vs_ring_port.specs.DriverCalls.{Stage, Publish, Reap, LoadCid}
-use Rattle.laws_ring_journal.specs.History.{History, RingCall, ByDriver, ByDevice, then}
-use Rattle.laws_ring_journal.specs.declared.journal.Call.{Call}
+use Rattle.vs_ring_port.specs.{Contents.{Take, Write, Return, PublishCid}, DriverCalls.{Stage, Publish, Reap, LoadCid}}
+use Rattle.laws_ring_journal.specs.{History.{History, RingCall, ByDriver, ByDevice, then}, declared.journal.Call.Call}
 use Rattle.laws_ring_journal.specs.declared.journal.Call.TheVariants as call
 
 abbrev pub call_of : Call → Option RingCall

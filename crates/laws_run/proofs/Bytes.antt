@@ -9,8 +9,7 @@ use Rattle.vs_page.specs.Fair.{IsPrefixOf, asked_by, instance_from, number_of, p
 use Rattle.vs_page.specs.Log.{Device, Driver, Log, Role, flow_got, other_role, packets_got, packets_put, side_of, whole_of}
 use Rattle.vs_page.specs.declared.log.LogEntry.TheVariants.{GotEvent, GotPacket, Mark, PutEvent, PutPacket}
 use Rattle.vs_page.proofs.{Entries.got_on, Flows.opposite_by, Flows.same_self}
-use Rattle.vs_driver_parts.specs.Held.{HeldSlots}
-use Rattle.vs_driver_parts.specs.State.{DriverState}
+use Rattle.vs_driver_parts.specs.{Held.HeldSlots, State.DriverState}
 use Rattle.vs_device_parts.specs.Playing.{situation}
 use Rattle.vs_ring_shared.specs.Sights.{DeviceSight, Sight, device_contents, device_log}
 use Rattle.vs_proxy_parts.specs.State.{ProxyState}
@@ -25,8 +24,7 @@ use Rattle.laws_rest.proofs.Standing.{AreKept, device_kept}
 use Rattle.laws_proxy.specs.Honest.{IsProxyStreamed}
 use Rattle.laws_settled.specs.Settled.{IsSettled}
 use Rattle.laws_world.proofs.Bytes.{read_is_got, wrote_is_put}
-use Rattle.vs_apps_parts.specs.Journals.{sent_as}
-use Rattle.vs_apps_parts.specs.declared.journal.Entry.{Entry}
+use Rattle.vs_apps_parts.specs.{Journals.sent_as, declared.journal.Entry.Entry}
 use Rattle.laws_apps.specs.Accounts.{HasOne, IsAccount}
 use Rattle.laws_apps.proofs.Naming.{sent_by_id}
 

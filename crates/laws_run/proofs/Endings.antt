@@ -1,19 +1,16 @@
 -- In the last round each app found its instructions done, or noted that it waits; so it ended.
-use Rattle.std.proofs.Common.{◌≡◌, ◌≢◌, ◌⊎◌, inl, inr, ℕ, zero, suc, ◌+◌, ◌-◌, ◌<◌, ◌≤◌, ◌==◌, nat_lt, Bool, true, false, cond, List, [], ◌∷◌}
-use Rattle.std.proofs.Common.{length, Option, Some, None, refl, sym, ap, subst, ◌∙◌, arith, slice_get, slice_set, get_or-set_other, get_or-set_same}
-use Rattle.std.proofs.Common.{length-set}
-use Rattle.std.proofs.lemmas.{Bool.Decides.nat_tests, Bool.eq-eqb, Bool.eqb-true}
+use Rattle.std.proofs.Common.{◌≡◌, ◌≢◌, ◌⊎◌, inl, inr, ℕ, zero, suc, ◌+◌, ◌-◌, ◌<◌, ◌≤◌, ◌==◌, nat_lt, Bool, true, false, cond, List, []}
+use Rattle.std.proofs.Common.{◌∷◌, length, Option, Some, None, refl, sym, ap, subst, ◌∙◌, arith, slice_get, slice_set, get_or-set_other}
+use Rattle.std.proofs.{Common.{get_or-set_same, length-set}, lemmas.{Bool.Decides.nat_tests, Bool.eq-eqb, Bool.eqb-true}}
 use Rattle.vs_script.specs.App.{Act}
 use Rattle.vs_driver_parts.specs.declared.answers.Polled.{Polled}
 use Rattle.laws_driver_bytes.specs.Calls.{Made}
-use Rattle.vs_apps_parts.specs.Journals.{wait_noted, wait_place}
-use Rattle.vs_apps_parts.specs.{Scripts.RunScript, Scripts.acts_of, Scripts.told_in, Told.step_wait, Told.told_of, Told.wait_of}
-use Rattle.vs_apps_parts.specs.declared.{journal.Entry.Entry, journal.WaitsFor.WaitsFor, progress.AppState.AppState, progress.Stepped.Stepped}
-use Rattle.vs_apps_parts.specs.declared.{told.Told.Told}
+use Rattle.vs_apps_parts.specs.{Journals.{wait_noted, wait_place}, Scripts.{RunScript, acts_of, told_in}, Told.{step_wait, told_of}}
+use Rattle.vs_apps_parts.specs.{Told.wait_of, declared.{journal.Entry.Entry, journal.WaitsFor.WaitsFor, progress.AppState.AppState}}
+use Rattle.vs_apps_parts.specs.declared.{progress.Stepped.Stepped, told.Told.Told}
 use Rattle.vs_apps_parts.specs.declared.progress.Stepped.TheVariants as stepped
 use Rattle.vs_apps_parts.specs.declared.told.Told.TheVariants as says
-use Rattle.laws_apps.specs.Rounds.{AllStand, Stands}
-use Rattle.laws_apps.specs.Runs.{MakesCalls, NotesCall, PollsTo, Run, Steps, Waits, no_app}
+use Rattle.laws_apps.specs.{Rounds.{AllStand, Stands}, Runs.{MakesCalls, NotesCall, PollsTo, Run, Steps, Waits, no_app}}
 use Rattle.vs_run_report.specs.{Endings.ending_at, Endings.ending_of, Endings.state_at, Endings.why_at, Report.ended_at, Right.IsRightEnding}
 use Rattle.vs_run_report.specs.{Right.may_wait, declared.ending.Ending.Ending}
 use Rattle.vs_run_report.specs.declared.ending.Ending.TheVariants as ending

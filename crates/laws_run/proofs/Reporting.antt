@@ -13,10 +13,8 @@ use Rattle.laws_driver.specs.Honest.{slots_of}
 use Rattle.laws_driver_bytes.specs.Calls.{Journal}
 use Rattle.laws_proxy.specs.Honest.{IsProxyStreamed}
 use Rattle.laws_settled.specs.Settled.{IsSettled, IsSteady}
-use Rattle.vs_apps_parts.specs.{Journals.calls_of, Scripts.RunScript, Scripts.acts_of}
-use Rattle.vs_apps_parts.specs.declared.{journal.Entry.Entry, progress.AppState.AppState}
-use Rattle.laws_apps.specs.{Accounts.IsAccount, Runs.IsRunOf, Runs.Run}
-use Rattle.laws_apps.specs.{Calls.run_with, Rounds.AllStand}
+use Rattle.vs_apps_parts.specs.{Journals.calls_of, Scripts.{RunScript, acts_of}, declared.{journal.Entry.Entry, progress.AppState.AppState}}
+use Rattle.laws_apps.specs.{Accounts.IsAccount, Runs.{IsRunOf, Run}, Calls.run_with, Rounds.AllStand}
 use Rattle.vs_report.specs.declared.giving.Totals.{Totals}
 use Rattle.vs_run_report.specs.{Connections.opened_all, Report.ended_at, Right.IsRightConnection, Right.IsRightEnding, Right.IsRightReport}
 use Rattle.vs_run_report.specs.declared.connection.Opened.{Opened}

@@ -5,10 +5,8 @@ use Rattle.std.specs.Option.{ForSome}
 use Rattle.vs_contents.specs.{CallTree.Done, Contents.Relates}
 use Rattle.vs_contents.proofs.Leads.{leads_split}
 use Rattle.vs_flow.specs.Table.{IsTable}
-use Rattle.vs_ring_port.specs.{Known.Known, Known.StopsAt, declared.failure.Failure.Failure}
-use Rattle.vs_ring_port.specs.declared.queue.Queue.TheVariants.{Rx}
-use Rattle.vs_device_parts.specs.{Calls.Allows, Calls.Situation, Playing.Runs, Receiving.Filling, Receiving.fill_rx_of}
-use Rattle.vs_device_parts.specs.{Receiving.filled_of, State.DeviceState}
+use Rattle.vs_ring_port.specs.{Known.{Known, StopsAt}, declared.failure.Failure.Failure, declared.queue.Queue.TheVariants.Rx}
+use Rattle.vs_device_parts.specs.{Calls.{Allows, Situation}, Playing.Runs, Receiving.{Filling, fill_rx_of, filled_of}, State.DeviceState}
 use Rattle.laws_device_streams.specs.Waiting.{filling_of}
 use Rattle.laws_device_streams.proofs.Stopping.{is_stage, over_lacks}
 use Rattle.laws_device.specs.Honest.{ends_of_state}

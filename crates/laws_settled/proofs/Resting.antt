@@ -14,8 +14,7 @@ use Rattle.vs_ring_shared.specs.Sights.{DeviceSight, Sight}
 use Rattle.laws_tables.specs.{Both.Both, Both.at, Ends.flows_of, Ends.is_among, Matches.Matches}
 use Rattle.vs_driver_parts.specs.State.{DriverEntry, DriverState}
 use Rattle.laws_driver.specs.{Honest.IsFitEntry, Resets.MarksResets}
-use Rattle.laws_rest.specs.{Pages.Queued, Rest.IsAtRest, Rest.IsWithHost, Rest.OwesNothing}
-use Rattle.laws_rest.specs.Rest.{has_no_mark}
+use Rattle.laws_rest.specs.{Pages.Queued, Rest.{IsAtRest, IsWithHost, OwesNothing, has_no_mark}}
 use Rattle.laws_rest.proofs.{Counting.same_numbers, Pages.all_back, Pages.all_there, Resting.paired, Resting.same_flows}
 use Rattle.vs_proxy_parts.specs.State.{ProxyState}
 use Rattle.laws_settled.specs.{Hosts.AreWithHost, Settled.AreOver, Settled.IsSettled, Settled.ends_at_rest}

@@ -1,6 +1,5 @@
 -- A proxy that is steady stays so, and what its ring's end knows of the other one's only grows.
-use Rattle.std.proofs.Common.{◌≡◌, ℕ, List, [], Option, Some, None, refl, sym, ap, subst, ◌∙◌, arith}
-use Rattle.std.proofs.lemmas.Option.{same_Some}
+use Rattle.std.proofs.{Common.{◌≡◌, ℕ, List, [], Option, Some, None, refl, sym, ap, subst, ◌∙◌, arith}, lemmas.Option.same_Some}
 use Rattle.vs_contents.specs.{CallTree.Ask, CallTree.Done, Contents.Relates}
 use Rattle.vs_limits.specs.declared.TheConstants.{ASSIGNED_FIRST, FIRST_CID}
 use Rattle.vs_ring_port.specs.{Contents.DeviceAnswer, Contents.DeviceCall, Contents.RingContents, EndLog.EndLog, Known.IsLater, Known.Known}

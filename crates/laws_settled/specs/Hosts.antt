@@ -1,6 +1,5 @@
 -- A device that speaks with the guest for the host alone.
-use Rattle.std.specs.Prelude.{◌≡◌, true, List, [], ◌∷◌}
-use Rattle.std.specs.{List.All, Option.ForSome}
+use Rattle.std.specs.{Prelude.{◌≡◌, true, List, [], ◌∷◌}, List.All, Option.ForSome}
 use Rattle.vs_flow.specs.declared.flow.Flow.{Flow}
 use Rattle.vs_limits.specs.declared.TheConstants.{HOST_CID}
 use Rattle.vs_page.specs.Log.{Log, packets_put}

@@ -1,21 +1,18 @@
 -- A driver and a device that settled, as plain data: what the last round tells of both ends.
-use Rattle.std.specs.Prelude.{◌≡◌, ◌≤◌, ◌<◌, ◌+◌, ◌⊎◌, ℕ, true, [], length, Some, None}
-use Rattle.std.specs.Option.{ForSome}
+use Rattle.std.specs.{Prelude.{◌≡◌, ◌≤◌, ◌<◌, ◌+◌, ◌⊎◌, ℕ, true, [], length, Some, None}, Option.ForSome}
 use Rattle.vs_conn.specs.End.{ConnectionEnd}
 use Rattle.vs_flow.specs.declared.flow.Flow.{Flow}
 use Rattle.vs_limits.specs.declared.TheConstants.{FIRST_CID, HOST_CID}
 use Rattle.vs_page.specs.Log.{Role, events_put, other_role}
 use Rattle.vs_ring_port.specs.{Chains.held_of, Contents.RingContents, declared.queue.Queue.Queue}
-use Rattle.vs_ring_shared.specs.{Meetings.AreOneTable, Sights.DeviceSight, Sights.Sight, Sights.device_log, Sights.driver_log}
-use Rattle.vs_ring_shared.specs.Sights.{flight_of, sight_in, staged_of}
+use Rattle.vs_ring_shared.specs.{Meetings.AreOneTable, Sights.{DeviceSight, Sight, device_log, driver_log, flight_of, sight_in, staged_of}}
 use Rattle.laws_tables.specs.{Both.Both, Both.at, Ends.flows_of, Ends.is_among, Steps.HasEnd}
 use Rattle.vs_driver_parts.specs.{Playing.IsRingOf, State.DriverState}
 use Rattle.laws_driver.specs.Honest.{AgreesWith}
 use Rattle.laws_driver.specs.Honest.{ends_of_state as driver_ends}
 use Rattle.vs_device_parts.specs.{Calls.Situation, State.DeviceState}
 use Rattle.laws_device.specs.Honest.{AgreesWith as DeviceAgreesWith, ends_of_state as device_ends}
-use Rattle.laws_rest.specs.{Calm.OwesNoEvent, Calm.resets_in, Rest.ArePaired, Rest.IsAtRest, Rest.IsRoutedLog, Rest.IsWithHost}
-use Rattle.laws_rest.specs.Rest.{OwesNothing, has_no_mark}
+use Rattle.laws_rest.specs.{Calm.{OwesNoEvent, resets_in}, Rest.{ArePaired, IsAtRest, IsRoutedLog, IsWithHost, OwesNothing, has_no_mark}}
 use Rattle.vs_proxy_parts.specs.State.{ProxyState}
 use Rattle.laws_proxy.specs.Order.{IsInOrder}
 use Rattle.laws_settled.specs.{Asked.AsksOnceWith, Hosts.IsHosts, Hosts.IsHostsWith}

@@ -3,20 +3,19 @@ use Rattle.std.proofs.lemmas.Grind.{common_steps}
 use Rattle.std.proofs.Common.{arith, ◌≡◌, ℕ, Bool, true, false, if◌then◌else◌, List, [], ◌∷◌, refl, sym, ap, ◌∙◌}
 use Rattle.vs_conn.proofs.Steps.{abort_follows, ask_follows, forward_follows, grow_follows, shut_follows}
 use Rattle.vs_conn.specs.{End.ConnectionEnd, End.is_refused, End.verdict_of, Follows.Follows, Follows.IsTaken}
-use Rattle.laws_history.specs.Packets.{IsFormed, is_request, is_rst}
-use Rattle.laws_history.specs.{History.Side, History.gots, History.puts, declared.packet.Packet.Packet}
+use Rattle.laws_history.specs.{Packets.{IsFormed, is_request, is_rst}, History.{Side, gots, puts}, declared.packet.Packet.Packet}
 use Rattle.vs_page.specs.Log.{Driver, Device, HasGotAll, IsNextPacket, Log, Role, flow_got, other_role, side_of}
 use Rattle.vs_page.specs.declared.log.LogEntry.TheVariants.{GotEvent, GotPacket, Mark, PutEvent, PutPacket}
 use Rattle.vs_page.{specs.Fair.IsFairLog, specs.Open.is_dropped, proofs.Entries.next_fair}
 use Rattle.vs_limits.specs.declared.TheConstants.{HOST_CID}
 use Rattle.laws_tables.specs.Both.{Aborts, Asks, Both, Decides, Decision, Forwards, Grows, Happening, IsSound, MakesReset, MayDecide}
 use Rattle.laws_tables.specs.Both.{MayHappen, MayRun, Opens, Pays, PutsEvent, Replies, Seat, Sends, Shuts, Step, Takes, Forgets, TakesEvent}
-use Rattle.laws_tables.proofs.Keeps.{accepts, asks, changes, drops, has_room, ignores, makes_reset, named_kind, opens, opens_fair, pays}
-use Rattle.laws_tables.proofs.Keeps.{pays_fair, puts_event, refuses, replies, replies_fair, sends, sends_fair, start_matches, takes}
 use Rattle.laws_tables.specs.Both.{TakesReset, WantsCredit, after, after_packet, answered, at, decided, happens, run, start, with_seat}
 use Rattle.laws_tables.specs.Steps.{HasEnd, is_overrun, owed_on, payload_on, reply_on, request_on}
-use Rattle.laws_tables.proofs.Fair.{got_formed, got_in_order, got_is_taken, got_not_refused, heard_all}
 use Rattle.laws_tables.specs.{Ends.Ends, Ends.answer_kind, Ends.ends_of, Heard.IsInOrder, Heard.heard_of, Matches.Matches}
+use Rattle.laws_tables.proofs.Keeps.{accepts, asks, changes, drops, has_room, ignores, makes_reset, named_kind, opens, opens_fair, pays}
+use Rattle.laws_tables.proofs.Keeps.{pays_fair, puts_event, refuses, replies, replies_fair, sends, sends_fair, start_matches, takes}
+use Rattle.laws_tables.proofs.Fair.{got_formed, got_in_order, got_is_taken, got_not_refused, heard_all}
 use Rattle.laws_tables.proofs.{Keeps.takes_event, Keeps.forgets, Keeps.takes_reset, Tables.only_end}
 
 by_role : (P : Role → Type 0) → P Driver → P Device → (role : Role) → P role

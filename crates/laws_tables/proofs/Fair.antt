@@ -1,7 +1,6 @@
 -- What is put keeps a log fair, and what a fair log says of the packets that are got.
-use Rattle.std.proofs.{lemmas.Grind.common_steps}
-use Rattle.std.proofs.Common.{rules, ◌≡◌, ◌≢◌, ℕ, ◌+◌, ◌≤◌, Bool, true, false, ◌||◌, if◌then◌else◌, is_some, ◌⊎◌, inl, inr, List, [], ◌∷◌}
-use Rattle.std.proofs.Common.{length, Some, refl, sym, ap, ◌∙◌, subst, arith}
+use Rattle.std.proofs.{lemmas.Grind.common_steps, Common.{rules, ◌≡◌, ◌≢◌, ℕ, ◌+◌, ◌≤◌, Bool, true, false, ◌||◌, if◌then◌else◌, is_some}}
+use Rattle.std.proofs.Common.{◌⊎◌, inl, inr, List, [], ◌∷◌, length, Some, refl, sym, ap, ◌∙◌, subst, arith}
 use Rattle.vs_wrap.specs.Wrap.{unwrap32}
 use Rattle.vs_conn.specs.{End.CanSend, End.ConnectionEnd, End.is_refused, End.owes_of, End.verdict_of, Follows.FitsMessage, Follows.Follows}
 use Rattle.vs_conn.specs.{Follows.IsTaken, declared.end.Owed.Owed, declared.end.State.TheVariants.Ended}
@@ -18,13 +17,11 @@ use Rattle.laws_history.proofs.{Present.fair_once, Now.now, Quiet.marked_both, F
 use Rattle.vs_page.specs.{Fair.IsFairLog, Fair.IsFairOn, Open.cid_of, Open.is_dropped, Open.left_kind, declared.log.LogEntry.LogEntry}
 use Rattle.vs_page.specs.Log.{Log, Role, Driver, and_then, flow_put, flow_got, history_of, side_of, whole_of}
 use Rattle.vs_page.specs.declared.log.LogEntry.TheVariants.{PutPacket, GotPacket}
-use Rattle.vs_page.proofs.{Entries.fair_got_on, Entries.fair_put_on, Entries.one_put, Entries.present_is, Flows.same_is, Flows.same_self}
-use Rattle.vs_page.proofs.Phases.{kind_stays}
+use Rattle.vs_page.proofs.{Entries.{fair_got_on, fair_put_on, one_put, present_is}, Flows.{same_is, same_self}, Phases.kind_stays}
 use Rattle.vs_replies.specs.declared.Reply.{Reply}
-use Rattle.laws_tables.specs.{Ends.Ends, Ends.is_among, Ends.is_new, Ends.replied, Matches.IsOwed, Matches.IsReady, Matches.MatchesFlows}
-use Rattle.laws_tables.specs.Heard.{IsAllHeard, IsInOrder, IsOrdered, IsOrderedLog, IsWithin, IsWithinCredit, heard_of, hears, is_awaiting}
-use Rattle.laws_tables.specs.Heard.{is_empty, is_fresh, is_over, route_of}
-use Rattle.laws_tables.specs.Steps.{HasEnd, is_overrun, owed_on, payload_on, reply_on, request_on}
+use Rattle.laws_tables.specs.{Ends.{Ends, is_among, is_new, replied}, Matches.{IsOwed, IsReady, MatchesFlows}, Heard.IsAllHeard}
+use Rattle.laws_tables.specs.Heard.{IsInOrder, IsOrdered, IsOrderedLog, IsWithin, IsWithinCredit, heard_of, hears, is_awaiting, is_empty}
+use Rattle.laws_tables.specs.{Heard.{is_fresh, is_over, route_of}, Steps.{HasEnd, is_overrun, owed_on, payload_on, reply_on, request_on}}
 use Rattle.laws_tables.proofs.{Frame.heard_put, OnFlow.IsOne, OnFlow.end_follows}
 use Rattle.laws_tables.proofs.Steps.{can_old, known_goes_on, order_one, reply_flow, request_flow, then_put}
 

@@ -1,6 +1,5 @@
 -- Each step on the flow that it is about, over plain values.
-use Rattle.std.proofs.Common.{rules, ◌≡◌, ℕ, Bool, true, false, Option, Some, None, List, [], ◌∷◌, arith}
-use Rattle.std.proofs.lemmas.Grind.{common_steps}
+use Rattle.std.proofs.{Common.{rules, ◌≡◌, ℕ, Bool, true, false, Option, Some, None, List, [], ◌∷◌, arith}, lemmas.Grind.common_steps}
 use Rattle.vs_conn.specs.{End.ConnectionEnd, End.asked, Follows.Follows}
 use Rattle.vs_header.specs.{Kind.kind_number, declared.Kind.Kind}
 use Rattle.laws_history.specs.History.{History, Entry, Side, Asker, gots, puts}

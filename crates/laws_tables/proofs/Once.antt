@@ -1,6 +1,5 @@
 -- Packets come in order where no flow is used again.
-use Rattle.std.proofs.lemmas.Grind.{common_steps}
-use Rattle.std.proofs.Common.{arith, ◌≡◌, Bool, true, false, ◌||◌, if◌then◌else◌, [], ◌∷◌, refl, sym, ◌∙◌}
+use Rattle.std.proofs.{lemmas.Grind.common_steps, Common.{arith, ◌≡◌, Bool, true, false, ◌||◌, if◌then◌else◌, [], ◌∷◌, refl, sym, ◌∙◌}}
 use Rattle.laws_history.specs.{Packets.has, Packets.is_clean_rst, Packets.is_request, declared.packet.Packet.Packet, Again.present}
 use Rattle.laws_history.specs.History.{Answerer, Asker, Entry, Got, History, Put, Side, gots}
 use Rattle.laws_tables.specs.Heard.{AsksOnce, IsOrdered, StopsAtMark, is_awaiting, is_empty}

@@ -1,6 +1,5 @@
 -- What a packet does to the type of the open connection.
-use Rattle.std.proofs.Common.{◌≡◌, ℕ, true, false, ◌&&◌, Option, Some, None, refl, arith}
-use Rattle.std.proofs.lemmas.Grind.{common_steps}
+use Rattle.std.proofs.{Common.{◌≡◌, ℕ, true, false, ◌&&◌, Option, Some, None, refl, arith}, lemmas.Grind.common_steps}
 use Rattle.vs_conn.specs.End.{is_of}
 use Rattle.vs_header.specs.{Kind.kind_number, declared.Kind.Kind}
 use Rattle.laws_history.specs.{Packets.is_request, Packets.is_rst, declared.packet.Packet.Packet}

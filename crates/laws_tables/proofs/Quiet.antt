@@ -3,13 +3,11 @@ use Rattle.std.proofs.lemmas.Grind.{common_steps}
 use Rattle.std.proofs.Common.{arith, ◌≡◌, ℕ, ◌-◌, Bool, true, false, ◌||◌, List, [], ◌∷◌, ◌++◌, refl, sym, ap, ◌∙◌, subst}
 use Rattle.vs_conn.specs.End.{ConnectionEnd}
 use Rattle.vs_flow.specs.{Flow.is_assigned, Flow.same_flow, declared.flow.Flow.Flow}
-use Rattle.laws_history.specs.{Packets.has, Packets.is_clean_rst, Packets.is_request, declared.packet.Packet.Packet}
-use Rattle.laws_history.specs.Again.{IsClean, IsFairAll, after, count, present}
-use Rattle.laws_history.specs.History.{Answerer, Asker, HasGot, History, Side, gots, peer, puts}
+use Rattle.laws_history.specs.{Packets.{has, is_clean_rst, is_request}, declared.packet.Packet.Packet, Again.{IsClean, IsFairAll, after}}
+use Rattle.laws_history.specs.{Again.{count, present}, History.{Answerer, Asker, HasGot, History, Side, gots, peer, puts}}
 use Rattle.laws_history.proofs.{Present.is_present, Quiet.IsQuiet, Quiet.quiet}
 use Rattle.vs_page.specs.{Fair.asked_by, Log.Log, Log.Role, Log.flow_got, Log.history_of, Log.other_role, Log.side_of, Log.whole_of}
-use Rattle.vs_page.proofs.{Entries.got_on, Entries.on_flow, Entries.present_is, Flows.opposite_by, Flows.other_twice, Flows.same_is}
-use Rattle.vs_page.proofs.Phases.{phase_clean}
+use Rattle.vs_page.proofs.{Entries.{got_on, on_flow, present_is}, Flows.{opposite_by, other_twice, same_is}, Phases.phase_clean}
 use Rattle.laws_tables.specs.{Ends.Ends, Ends.ends_of, Ends.is_among, Ends.is_new, Ends.replied, Heard.heard_of, Matches.AllOwed}
 use Rattle.laws_tables.specs.{Matches.Matches, Quiet.IsQuietOn, Steps.HasEnd, Both.Both, Both.IsSound, Both.at}
 use Rattle.vs_replies.specs.declared.Reply.{Reply}

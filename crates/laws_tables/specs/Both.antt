@@ -7,9 +7,8 @@ use Rattle.vs_flow.specs.declared.flow.Flow.{Flow}
 use Rattle.vs_header.specs.declared.Kind.{Kind}
 use Rattle.laws_history.specs.{History.puts, Packets.is_request, Packets.is_rst, declared.packet.Packet.Packet}
 use Rattle.vs_limits.specs.declared.TheConstants.{BUF_ALLOC_MAX}
-use Rattle.vs_page.specs.{Fair.IsFairLog, Open.is_dropped, Log.Driver, Log.Device, Log.HasGotAll, Log.IsNextEvent, Log.IsNextPacket}
-use Rattle.vs_page.specs.{Log.Log, Log.Role, Log.flow_got, Log.history_of, Log.other_role, declared.log.LogEntry.TheVariants.GotEvent}
-use Rattle.vs_page.specs.declared.log.LogEntry.TheVariants.{GotPacket, Mark, PutEvent, PutPacket}
+use Rattle.vs_page.specs.{Fair.IsFairLog, Open.is_dropped, Log.{Driver, Device, HasGotAll, IsNextEvent, IsNextPacket, Log, Role, flow_got}}
+use Rattle.vs_page.specs.{Log.{history_of, other_role}, declared.log.LogEntry.TheVariants.{GotEvent, GotPacket, Mark, PutEvent, PutPacket}}
 use Rattle.vs_replies.specs.declared.Reply.{Reply}
 use Rattle.laws_tables.specs.{Ends.Ends, Ends.answer_kind, Ends.ends_of, Ends.is_new, Matches.Matches, Steps.HasEnd, Steps.IsNextFlow}
 use Rattle.laws_tables.specs.Steps.{accepted, asking, emptied, forgotten, opened, owed_on, paid, payload_on, refused, reply_on, request_on}

@@ -8,9 +8,8 @@ use Rattle.vs_header.specs.declared.Kind.TheVariants.{Stream}
 use Rattle.laws_history.specs.{History.Got, History.History, History.Put, declared.packet.Packet.Packet}
 use Rattle.vs_page.specs.{Log.Log, Log.Role, Log.Driver, Log.Device, Log.and_then, Log.flow_got, Log.flow_put, Open.cid_of, Open.is_dropped}
 use Rattle.vs_page.specs.declared.log.LogEntry.TheVariants.{GotPacket, Mark, PutPacket}
-use Rattle.laws_tables.specs.{Ends.Ends, Heard.route_of, Both.Asks, Both.Decides, Both.Happening, Both.MakesReset, Both.Opens, Both.Pays}
-use Rattle.laws_tables.specs.{Both.PutsEvent, Both.Replies, Both.Shuts, Both.Takes, Both.TakesEvent, Both.TakesReset, Steps.accepted}
-use Rattle.laws_tables.specs.Steps.{owed_on, refused, reply_on, request_on, taken}
+use Rattle.laws_tables.specs.{Ends.Ends, Heard.route_of, Both.{Asks, Decides, Happening, MakesReset, Opens, Pays, PutsEvent, Replies}}
+use Rattle.laws_tables.specs.{Both.{Shuts, Takes, TakesEvent, TakesReset}, Steps.{accepted, owed_on, refused, reply_on, request_on, taken}}
 use Rattle.vs_conn.specs.declared.end.Owed.TheVariants as owed
 
 abbrev pub guest_cid : ℕ

@@ -2,12 +2,10 @@
 use Rattle.std.specs.Prelude.{◌≡◌, ◌≤◌, ℕ, Bool, true, false, ◌&&◌, ◌||◌, not, if◌then◌else◌, [], ◌∷◌}
 use Rattle.vs_conn.specs.declared.route.Route.{Route}
 use Rattle.vs_flow.specs.{Flow.same_flow, declared.flow.Flow.Flow}
-use Rattle.laws_history.specs.{Again.present, declared.packet.Packet.Packet}
-use Rattle.laws_history.specs.History.{History, IsOpening, Put, Got, Side, Asker, Answerer, puts, gots}
-use Rattle.laws_history.specs.Packets.{allowance, bytes, has, is_clean_rst, is_request, told_forwarded}
-use Rattle.vs_page.specs.Log.{Log, Role, Driver, Device, and_then, asks, flow_put, flow_got, history_of, side_of, whole_of}
-use Rattle.vs_page.specs.Open.{cid_of, is_dropped}
-use Rattle.vs_page.specs.declared.log.LogEntry.TheVariants.{PutPacket, GotPacket}
+use Rattle.laws_history.specs.{Again.present, declared.packet.Packet.Packet, History.{History, IsOpening, Put, Got, Side, Asker, Answerer}}
+use Rattle.laws_history.specs.{History.{puts, gots}, Packets.{allowance, bytes, has, is_clean_rst, is_request, told_forwarded}}
+use Rattle.vs_page.specs.{Log.{Log, Role, Driver, Device, and_then, asks, flow_put, flow_got, history_of, side_of, whole_of}, Open.cid_of}
+use Rattle.vs_page.specs.{Open.is_dropped, declared.log.LogEntry.TheVariants.{PutPacket, GotPacket}}
 
 -- What passed on the present connection of a flow, without the packets that were dropped. A REQUEST that is dropped ends what was heard.
 abbrev pub hears : Bool → Packet → History → History

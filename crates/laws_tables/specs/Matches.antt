@@ -6,8 +6,7 @@ use Rattle.vs_header.specs.Kind.{kind_number}
 use Rattle.laws_history.specs.{Packets.asked_kind, Packets.has, Packets.is_clean_rst, Again.IsClean, History.History, History.Side}
 use Rattle.laws_history.specs.History.{Asker, gots, is_begun, of_asker, puts}
 use Rattle.vs_limits.specs.declared.TheConstants.{BUF_ALLOC}
-use Rattle.vs_page.specs.{Fair.IsFairLog, Log.Log, Log.Role, Log.Driver, Log.Device, Log.history_of, Log.side_of, Open.Clean, Open.cid_of}
-use Rattle.vs_page.specs.Open.{left_kind, phase_of}
+use Rattle.vs_page.specs.{Fair.IsFairLog, Log.{Log, Role, Driver, Device, history_of, side_of}, Open.{Clean, cid_of, left_kind, phase_of}}
 use Rattle.vs_replies.specs.declared.Reply.{Reply}
 use Rattle.laws_tables.specs.{Ends.AreDistinct, Ends.Ends, Ends.ends_of, Ends.is_among, Ends.is_new, Ends.replied, Heard.IsWithinCredit}
 use Rattle.laws_tables.specs.Heard.{heard_of, is_awaiting, is_fresh, own_port}

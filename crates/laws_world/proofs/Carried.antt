@@ -6,8 +6,7 @@ use Rattle.vs_device_parts.specs.State.{DeviceEntry}
 use Rattle.vs_flow.specs.{Connection.Connection, Connection.first_of, declared.flow.Flow.Flow}
 use Rattle.laws_history.specs.{History.puts, Packets.has, Packets.shuts_send}
 use Rattle.vs_outside.specs.{Host.Stream, Host.stream_at, HostBytes.host_read, HostBytes.host_wrote}
-use Rattle.vs_page.specs.Fair.{IsFairLog, IsPrefixOf, number_of, payload_got, payload_put}
-use Rattle.vs_page.specs.Log.{Device, Driver, Log, Role, history_of}
+use Rattle.vs_page.specs.{Fair.{IsFairLog, IsPrefixOf, number_of, payload_got, payload_put}, Log.{Device, Driver, Log, Role, history_of}}
 use Rattle.vs_page.proofs.{PayloadLogs.prefix, Shut.shut_put}
 use Rattle.laws_tables.specs.Both.{at}
 use Rattle.laws_bytes.specs.Drains.{Drains, got_on, put_on, receives}
@@ -16,8 +15,7 @@ use Rattle.laws_device_bytes.specs.Streamed.{IsJoined, Seen, gives, line_for, lo
 use Rattle.laws_world.specs.{Sides.both_of, World.World, World.first_cid}
 use Rattle.laws_world.proofs.{Once.number_of_once, Bytes.read_is_got, Bytes.wrote_is_put, Growing.Grows, Growing.runs_grow}
 use Rattle.laws_world.proofs.{Journals.by_flow, Journals.received_some, Sound.Goes, Sound.IsWell}
-use Rattle.laws_driver_bytes.specs.Received.{ReceivedOn, ReceivesOn}
-use Rattle.laws_driver_bytes.specs.Calls.{account_of, received_by, received_on, sent_on}
+use Rattle.laws_driver_bytes.specs.{Received.{ReceivedOn, ReceivesOn}, Calls.{account_of, received_by, received_on, sent_on}}
 use Rattle.laws_device_bytes.proofs.Hosts.{there as is_there}
 
 abbrev pub ToGuest : Flow → World → Type 0

@@ -1,7 +1,6 @@
 -- Whatever happens, the device counts just the packets that it drops, and its ring doesn't fail.
 use Rattle.std.proofs.Common.{◌≡◌, ℕ, ◌+◌, ◌-◌, ◌^◌, ◌==◌, ◌&&◌, min, nat_le, nat_lt, Bool, true, false, cond, List, [], ◌∷◌, length, take}
-use Rattle.std.proofs.Common.{Option, Some, None, refl, sym, ap, subst, ◌∙◌, arith}
-use Rattle.std.proofs.lemmas.Bool.{Decides.nat_tests, false≢true}
+use Rattle.std.proofs.{Common.{Option, Some, None, refl, sym, ap, subst, ◌∙◌, arith}, lemmas.Bool.{Decides.nat_tests, false≢true}}
 use Rattle.vs_contents.specs.CallTree.{Done, bind}
 use Rattle.vs_conn.specs.Headers.{payload_header}
 use Rattle.vs_credit.specs.Credit.{free_of}
@@ -14,12 +13,10 @@ use Rattle.vs_outside.specs.Host.{HostContents}
 use Rattle.vs_outside.specs.declared.host_net.{Accepted.Accepted, Dialed.Dialed, StreamRead.StreamRead, StreamWrite.StreamWrite}
 use Rattle.vs_page.specs.declared.log.LogEntry.TheVariants.{GotPacket, PutEvent, PutPacket}
 use Rattle.vs_page.specs.{Held.event_held, Held.packet_held, Log.Device, Log.Log, Open.cid_of, Open.is_dropped}
-use Rattle.vs_ring_port.specs.Chains.{bytes_in, same_chain}
-use Rattle.vs_ring_port.specs.Contents.{PublishCid, Read, Return, Take, Write}
-use Rattle.vs_ring_port.specs.EndLog.{entries_returned, log_taken, with_event, with_packet}
-use Rattle.vs_ring_port.specs.Lists.{Rings, after_return, after_take, chain_with, next_at, next_given}
-use Rattle.vs_ring_port.specs.declared.queue.Queue.TheVariants.{Event, Rx, Tx}
-use Rattle.vs_ring_port.specs.declared.{device_ring.Chain.Chain, device_ring.Next.Next, failure.Failure.Failure, queue.Queue.Queue}
+use Rattle.vs_ring_port.specs.{Chains.{bytes_in, same_chain}, Contents.{PublishCid, Read, Return, Take, Write}, EndLog.entries_returned}
+use Rattle.vs_ring_port.specs.{EndLog.{log_taken, with_event, with_packet}, Lists.{Rings, after_return, after_take, chain_with, next_at}}
+use Rattle.vs_ring_port.specs.{Lists.next_given, declared.queue.Queue.TheVariants.{Event, Rx, Tx}, declared.device_ring.Chain.Chain}
+use Rattle.vs_ring_port.specs.declared.{device_ring.Next.Next, failure.Failure.Failure, queue.Queue.Queue}
 use Rattle.vs_wrap.specs.Wrap.{counted}
 use Rattle.vs_device_parts.specs.Steps.{chain_came, filling, puts_event, puts_owed, puts_payload, puts_reply, reads, returns, shuts_write}
 use Rattle.vs_device_parts.specs.Receiving.{Filling, hold, may_read, put_owed, put_reply, read_with_chain, written}
@@ -30,20 +27,18 @@ use Rattle.vs_proxy_parts.specs.State.{Handshake, ProxyState, Turning, start, wi
 use Rattle.vs_proxy_parts.specs.{Handshakes.accept_one, Handshakes.read_byte, Handshakes.tick_handshake, Turns.proxy_reset_of}
 use Rattle.laws_device_walk.proofs.Serving.{AfterEvent, AfterRead, AfterWrite, Closes, Fills, Writes, by_slot, keeps_hold, keeps_put_owed}
 use Rattle.laws_device_walk.proofs.Serving.{keeps_put_reply_of, keeps_read_with_chain, keeps_shut_write, keeps_tick_slot}
-use Rattle.laws_device_walk.proofs.Turning.{AfterAccept, AfterByte, Between, Shakes, keeps_accept_one, keeps_read_byte}
-use Rattle.laws_device_walk.proofs.Keeping.{Keeps, keeps_if, keeps_some, keeps_then}
-use Rattle.laws_device_walk.proofs.Taking.{AfterDial, Takes, keeps_on_packet}
+use Rattle.laws_device_walk.proofs.{Turning.{AfterAccept, AfterByte, Between, Shakes, keeps_accept_one, keeps_read_byte}, Keeping.Keeps}
+use Rattle.laws_device_walk.proofs.{Keeping.{keeps_if, keeps_some, keeps_then}, Taking.{AfterDial, Takes, keeps_on_packet}}
 use Rattle.laws_device_walk.{specs.Seen.Seen, specs.Seen.seen, proofs.Serving.keeps_write_pending, proofs.Turning.keeps_tick_handshake}
 use Rattle.laws_device.proofs.{Transmitting.header_is, Ringing.same_self}
 use Rattle.laws_world.specs.Events.{at_moment, call_made, device_step, driver_step, happens, has_failed, holds, holds_event, is_at_rest}
 use Rattle.laws_world.specs.World.{World, around, device_plays, driver_plays, first_cid, opening}
 use Rattle.laws_world.specs.Events.{is_guest_cid, line_read, proxy_step, reset_made, run, unless_failed, where_possible}
-use Rattle.laws_world.proofs.Resetting.{keeps_played, keeps_reset, playing}
 use Rattle.laws_world.specs.{Answers.Around, Answers.answer_around, Counts.IsCounted, Counts.dropped_in, Pages.PageHolds}
+use Rattle.laws_world.proofs.Resetting.{keeps_played, keeps_reset, playing}
 use Rattle.laws_world.proofs.{Opening.opening_well, Rings.AreGiven, Sound.IsWell, Sound.happens_goes}
 use Rattle.laws_driver_bytes.specs.Calls.{Journal, is_right, makes_call}
-use Rattle.vs_driver_parts.specs.Conversations.{DriverTree, publish_of}
-use Rattle.vs_driver_parts.specs.{State.DriverState, Steps.stages_owed, Steps.stages_reply, Steps.takes_page}
+use Rattle.vs_driver_parts.specs.{Conversations.{DriverTree, publish_of}, State.DriverState, Steps.{stages_owed, stages_reply, takes_page}}
 use Rattle.vs_outside.specs.declared.host_net.Accepted.TheVariants as accepted
 use Rattle.vs_outside.specs.declared.host_net.Dialed.TheVariants as dialed
 use Rattle.vs_outside.specs.declared.host_net.StreamRead.TheVariants as read

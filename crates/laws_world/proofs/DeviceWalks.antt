@@ -7,18 +7,16 @@ use Rattle.vs_header.specs.{Packet.header_of, declared.TheConstants.HEADER_LEN}
 use Rattle.laws_history.specs.declared.packet.Packet.{Packet}
 use Rattle.vs_outside.specs.Host.{HostContents, IsDialed, IsWritten, accept_answer, accept_failed, after_accept, after_close, after_dial}
 use Rattle.vs_outside.specs.Host.{after_label, after_read, after_shut_write, after_write, dial_answer, dial_failed, fails_now, read_answer}
-use Rattle.vs_outside.specs.Host.{read_failed, stream_at, write_answer, write_failed}
-use Rattle.vs_outside.specs.Faults.{CountsFault, one_more}
+use Rattle.vs_outside.specs.{Host.{read_failed, stream_at, write_answer, write_failed}, Faults.{CountsFault, one_more}}
 use Rattle.vs_outside.specs.declared.host_net.{Dialed.Dialed, StreamRead.StreamRead, StreamWrite.StreamWrite}
 use Rattle.vs_page.specs.Held.{FitsWire, event_held, held_in, packet_held}
 use Rattle.vs_page.specs.declared.log.LogEntry.TheVariants.{GotPacket, PutEvent, PutPacket}
 use Rattle.vs_page.{specs.Fair.IsFairLog, specs.Log.Device, specs.Log.Driver, specs.Log.IsNextPacket, proofs.Entries.next_fair}
-use Rattle.vs_ring_port.specs.Chains.{Held, bytes_in, same_chain, with_bytes, without_held, held_of}
-use Rattle.vs_ring_port.specs.Contents.{DeviceAnswer, DeviceCall, Given, PublishCid, Read, Return, RingContents, Take, Write}
-use Rattle.vs_ring_port.specs.DeviceCalls.{DeviceMoves, IsTakenAs, IsTakenWhole, IsWholePacket}
-use Rattle.vs_ring_port.specs.EndLog.{EndLog, entries_returned, log_reset, log_returned, log_taken, log_written, with_event, with_packet}
-use Rattle.vs_ring_port.specs.Lists.{Rings, after_return, after_take, next_at, next_given, queue_of}
-use Rattle.vs_ring_port.specs.declared.queue.Queue.TheVariants.{Event, Rx, Tx}
+use Rattle.vs_ring_port.specs.{Chains.{Held, bytes_in, same_chain, with_bytes, without_held, held_of}, Contents.{DeviceAnswer, DeviceCall}}
+use Rattle.vs_ring_port.specs.{Contents.{Given, PublishCid, Read, Return, RingContents, Take, Write}, DeviceCalls.{DeviceMoves, IsTakenAs}}
+use Rattle.vs_ring_port.specs.{DeviceCalls.{IsTakenWhole, IsWholePacket}, EndLog.{EndLog, entries_returned, log_reset, log_returned}}
+use Rattle.vs_ring_port.specs.{EndLog.{log_taken, log_written, with_event, with_packet}, Lists.{Rings, after_return, after_take, next_at}}
+use Rattle.vs_ring_port.specs.{Lists.{next_given, queue_of}, declared.queue.Queue.TheVariants.{Event, Rx, Tx}}
 use Rattle.vs_ring_port.specs.declared.{device_ring.Chain.Chain, queue.Queue.Queue}
 use Rattle.vs_ring_list.{specs.Ends.Ends, specs.Ends.device_contents, proofs.Held.same_chain_is}
 use Rattle.vs_device_parts.specs.Calls.{Accept, Call, CloseStream, DeviceTree, Dial, HostMoves, IsFitAnswer, IsReadOf, Label, ReadStream}

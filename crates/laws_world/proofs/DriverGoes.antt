@@ -1,7 +1,6 @@
 -- What the driver's conversations come to: steps of its seat, headers that fit, the account, and the payload that was put.
 use Rattle.std.proofs.Common.{◌≡◌, ℕ, ◌≤◌, ◌==◌, ◌&&◌, ◌⊎◌, inl, inr, Bool, true, false, cond, List, [], ◌++◌, take, Option, Some, None}
-use Rattle.std.proofs.Common.{Contains, is_some, refl, sym, ap, ◌∙◌, arith}
-use Rattle.std.proofs.lemmas.{Bool.Decides.nat_tests, List.Elements.All-contains}
+use Rattle.std.proofs.{Common.{Contains, is_some, refl, sym, ap, ◌∙◌, arith}, lemmas.{Bool.Decides.nat_tests, List.Elements.All-contains}}
 use Rattle.vs_contents.specs.CallTree.{Done, played}
 use Rattle.vs_flow.specs.{Connection.Connection, Connection.first_of, Flow.same_flow, declared.flow.Flow.Flow}
 use Rattle.vs_page.specs.{Fair.current, Fair.number_of, Fair.payload_put, Log.Driver, Log.Log}
@@ -13,10 +12,10 @@ use Rattle.vs_driver_parts.{specs.Connections.recv_of, specs.Steps.sends_on, spe
 use Rattle.laws_driver.proofs.Putting.{connect_puts, owed_puts, reply_puts, send_puts}
 use Rattle.laws_driver.{specs.Honest.slots_of, proofs.Carrying.Carries, proofs.Carrying.Fact, proofs.Going.Goes, proofs.Walking.poll_goes}
 use Rattle.laws_driver_bytes.specs.Calls.{Connect, GuestCall, Journal, LookAt, Recv, ReplyTo, Send, account_of, bytes_sent, flow_named}
-use Rattle.laws_driver_bytes.proofs.Making.{CarriesCall, account_after, at_first, call_goes, call_received, call_sent, further_as}
 use Rattle.laws_driver_bytes.specs.Calls.{id_named, is_on, is_right, makes_call, sent_of, sent_on, with_call}
-use Rattle.laws_driver_bytes.proofs.Making.{further_journal, port_fits, sent_with}
 use Rattle.laws_driver_bytes.specs.{Received.Account, Received.AreReceived, Received.ReceivesOn, Sent.only_on, Sent.took}
+use Rattle.laws_driver_bytes.proofs.Making.{CarriesCall, account_after, at_first, call_goes, call_received, call_sent, further_as}
+use Rattle.laws_driver_bytes.proofs.Making.{further_journal, port_fits, sent_with}
 use Rattle.laws_driver_bytes.proofs.{Polling.IsFurther, Polling.poll_carries, Sending.poll_puts, Sending.puts_as}
 use Rattle.laws_device.proofs.Seats.{PutsFit}
 use Rattle.laws_world.proofs.Names.{Names, NamesFrom, NamesMay, StaysNamed, WaitsApart, call_named, flows, named_from, names_kept}

@@ -6,16 +6,15 @@ use Rattle.laws_history.specs.History.{History, Put, Side}
 use Rattle.laws_history.specs.{Packets.IsFormed, Packets.is_request, Packets.packet_bytes, declared.packet.Packet.Packet, Again.AllowsNow}
 use Rattle.vs_page.specs.Log.{Device, Driver, HasGotAll, Log, flow_put, history_of, packets_got, packets_put, side_of}
 use Rattle.vs_page.specs.declared.log.LogEntry.TheVariants.{GotPacket, GotEvent, PutPacket}
-use Rattle.vs_page.proofs.Entries.{next_fair, one_put}
 use Rattle.vs_page.specs.{Fair.IsFairLog, Held.FitsWire, Held.event_held, Held.held_in, Held.packet_held}
+use Rattle.vs_page.proofs.Entries.{next_fair, one_put}
 use Rattle.vs_ring_port.specs.EndLog.{EndLog, all_put, entries_marked, entries_reaped, log_loaded, log_published, log_reaped, log_staged}
 use Rattle.vs_ring_port.specs.DriverCalls.{DriverAnswer, DriverCall, DriverMoves, HoldsPacket, LoadCid, MayPublish, Publish, Reap, Stage}
 use Rattle.vs_ring_port.specs.declared.queue.Queue.TheVariants.{Event, Rx, Tx}
 use Rattle.vs_ring_port.specs.{Contents.RingContents, EndLog.pages_at, EndLog.with_event, EndLog.with_packet, DriverCalls.driver_answer}
 use Rattle.vs_ring_port.specs.{Lists.Rings, Lists.after_publish, Lists.after_reap, Lists.next_back, declared.queue.Queue.Queue}
 use Rattle.vs_ring_list.specs.Ends.{driver_contents}
-use Rattle.vs_driver_parts.specs.Conversations.{DriverTree}
-use Rattle.vs_driver_parts.specs.Playing.{BringsFit, CanMake, FitsPorts, IsFitPage, RingAllows}
+use Rattle.vs_driver_parts.specs.{Conversations.DriverTree, Playing.{BringsFit, CanMake, FitsPorts, IsFitPage, RingAllows}}
 use Rattle.laws_driver.proofs.Keeping.{Keeps}
 use Rattle.laws_world.specs.{Laws.AreQueued, Pages.AllHold, Pages.AllPacked, Pages.PageHolds, Pages.TxHolds}
 use Rattle.laws_world.proofs.{Played.device_got, Queues.driver_keeps, Wire.next_fits}

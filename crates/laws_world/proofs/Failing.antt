@@ -5,9 +5,8 @@ use Rattle.std.{proofs.lemmas.Bool.Decides.nat_tests, specs.Option.option_map_or
 use Rattle.vs_header.specs.declared.Header.{Header}
 use Rattle.vs_outside.specs.Host.{HostContents, Stream, accept_answer, after_accept, after_dial, after_failed, after_read, after_write}
 use Rattle.vs_outside.specs.Host.{called, dial_answer, fails_now, is_listened, oldest_client, read_answer, read_of, stream_at, taken_of}
-use Rattle.vs_outside.specs.Faults.{counted_down, fails_next}
-use Rattle.vs_outside.specs.Host.{write_answer, write_of}
-use Rattle.vs_outside.specs.declared.host_net.{Accepted.Accepted, Dialed.Dialed, StreamRead.StreamRead, StreamWrite.StreamWrite}
+use Rattle.vs_outside.specs.{Host.{write_answer, write_of}, Faults.{counted_down, fails_next}, declared.host_net.Accepted.Accepted}
+use Rattle.vs_outside.specs.declared.host_net.{Dialed.Dialed, StreamRead.StreamRead, StreamWrite.StreamWrite}
 use Rattle.vs_ring_port.specs.declared.device_ring.{Chain.Chain, Next.Next}
 use Rattle.vs_flow.specs.declared.flow.Flow.{Flow}
 use Rattle.vs_wrap.specs.Wrap.{counted}

@@ -2,9 +2,8 @@
 use Rattle.std.proofs.Common.{◌≡◌, List, [], ◌∷◌, ◌++◌, refl, ap, subst, ◌∙◌, ℕ}
 use Rattle.vs_page.specs.declared.log.LogEntry.TheVariants.{GotEvent, GotPacket, Mark, PutEvent, PutPacket}
 use Rattle.vs_page.specs.Log.{Device, Driver, Log, Role}
-use Rattle.laws_tables.specs.Both.{Both, Happening, MakesReset, Opens, Pays, PutsEvent, Replies, Sends, Step, Takes, TakesEvent, TakesReset, at}
-use Rattle.laws_tables.specs.Both.{happens, log_after, run}
-use Rattle.laws_tables.specs.Steps.{owed_on, payload_on, reply_on, request_on}
+use Rattle.laws_tables.specs.Both.{Both, Happening, MakesReset, Opens, Pays, PutsEvent, Replies, Sends, Step, Takes, TakesEvent, TakesReset}
+use Rattle.laws_tables.specs.{Both.{at, happens, log_after, run}, Steps.{owed_on, payload_on, reply_on, request_on}}
 use Rattle.laws_world.specs.Sides.{Runs}
 
 -- A log and newer entries.

@@ -5,8 +5,7 @@ use Rattle.vs_contents.specs.CallTree.{Done, Ask, bind, MayPlay}
 use Rattle.vs_ring_port.specs.Contents.{RingContents, DeviceCall, Take, Read, Write, Return, Given, PublishCid}
 use Rattle.vs_ring_port.specs.{Chains.Held, Chains.bytes_in, Chains.chains_of, Chains.same_chain, declared.device_ring.Chain.Chain}
 use Rattle.vs_ring_list.proofs.Held.{same_chain_is}
-use Rattle.vs_device_parts.specs.Calls.{Call, Answer, Ring, Situation, DeviceTree, Allows}
-use Rattle.vs_device_parts.specs.Playing.{CanMake, MayRun}
+use Rattle.vs_device_parts.specs.{Calls.{Call, Answer, Ring, Situation, DeviceTree, Allows}, Playing.{CanMake, MayRun}}
 use Rattle.laws_device.proofs.Keeping.{Can, HoldsChain, Keeps, lets}
 
 abbrev pub IsHeldFor : Call → RingContents → Type 0

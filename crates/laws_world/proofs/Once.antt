@@ -4,9 +4,8 @@ use Rattle.vs_flow.specs.{Flow.is_assigned, declared.flow.Flow.Flow}
 use Rattle.laws_history.specs.{Again.count, Packets.is_request, declared.packet.Packet.Packet, History.Answerer}
 use Rattle.laws_history.specs.History.{Asker, History, Side, gots, peer, puts}
 use Rattle.laws_history.proofs.Lists.{count_append}
-use Rattle.vs_page.specs.{Fair.asked_by, Fair.number_of, Log.Device, Log.Driver, Log.IsNextPacket, Log.Role}
-use Rattle.vs_page.specs.Log.{flow_got, other_role, side_of, whole_of}
-use Rattle.vs_page.specs.declared.log.LogEntry.TheVariants.{GotPacket}
+use Rattle.vs_page.specs.{Fair.{asked_by, number_of}, Log.{Device, Driver, IsNextPacket, Role, flow_got, other_role, side_of, whole_of}}
+use Rattle.vs_page.specs.declared.log.LogEntry.TheVariants.GotPacket
 use Rattle.vs_page.proofs.{Entries.got_on, Entries.on_flow, Flows.opposite_by, Flows.same_self}
 use Rattle.laws_tables.specs.Both.{Asks, Both, Decides, Happening, IsSound, MayHappen, MayRun, Opens, Pays, Sends, Step, at, happens, run, start}
 use Rattle.laws_tables.proofs.{Both.next_is_fair, Fair.own_got_fair}

@@ -11,9 +11,8 @@ use Rattle.laws_world.specs.{Pipes.IsFresh, Pages.AllHold, Pages.AllPacked, Even
 use Rattle.laws_world.specs.{Sides.log_with_staged, World.World, World.opening, World.first_cid}
 use Rattle.laws_world.proofs.{Once.AreOnce, Once.start_once, Played.opening_queued, Runs.and_then, Sound.Goes, Sound.IsWell}
 use Rattle.laws_world.proofs.{Sound.goes_still, Sound.happens_goes, Listeners.AllWait, Listeners.IsOfPort, Names.named_then}
-use Rattle.vs_ring_port.specs.DriverCalls.{driver_answer, Stage, Publish}
-use Rattle.vs_ring_port.specs.declared.queue.Queue.TheVariants.{Rx, Event}
-use Rattle.vs_ring_port.specs.{EndLog.EndLog, EndLog.all_put, EndLog.entries_marked, Lists.Rings}
+use Rattle.vs_ring_port.specs.{DriverCalls.{driver_answer, Stage, Publish}, declared.queue.Queue.TheVariants.{Rx, Event}, EndLog.EndLog}
+use Rattle.vs_ring_port.specs.{EndLog.{all_put, entries_marked}, Lists.Rings}
 use Rattle.vs_ring_list.specs.Ends.{empty_ends}
 use Rattle.vs_driver_parts.specs.Conversations.{DriverTree, load_cid, new_of, new_state, post_events, post_one, posts, publish_of}
 use Rattle.vs_driver_parts.specs.State.{DriverState}

@@ -12,8 +12,7 @@ use Rattle.vs_ring_list.{specs.Ends.Ends, specs.Ends.device_contents, proofs.Det
 use Rattle.vs_device_parts.specs.Calls.{Call, Answer, Ring, Accept, Dial, Label, ReadStream, WriteStream, ShutWrite, CloseStream, Situation}
 use Rattle.vs_device_parts.specs.{Calls.DeviceTree, Calls.Allows, Calls.HostMoves, Calls.IsReadOf, Playing.Runs, Playing.situation}
 use Rattle.laws_device.proofs.Keeping.{Keeps}
-use Rattle.laws_world.proofs.Flown.{LeavesDriver, leaves_stay, leaves_then, leaves_call}
-use Rattle.laws_world.proofs.Holding.{IsHeldFor, MayHold, kept_held}
+use Rattle.laws_world.proofs.{Flown.{LeavesDriver, leaves_stay, leaves_then, leaves_call}, Holding.{IsHeldFor, MayHold, kept_held}}
 use Rattle.laws_world.specs.{Answers.Around, Answers.answer_around, Answers.bytes_with, Over.beside, Over.over_both}
 use Rattle.vs_outside.specs.declared.host_net.Accepted.TheVariants as accepted
 use Rattle.vs_outside.specs.declared.host_net.Dialed.TheVariants as dialed

@@ -5,9 +5,8 @@ use Rattle.vs_contents.specs.CallTree.{Done, Ask, bind, for_each, played, while_
 use Rattle.vs_conn.specs.{End.owes_of, declared.end.Owed.Owed, declared.end.TheConstants.OWED_MAX}
 use Rattle.vs_flow.specs.Table.{entry_under, slots}
 use Rattle.vs_replies.specs.declared.Reply.{Reply}
-use Rattle.vs_ring_port.specs.{Lists.Rings, Lists.after_reap, Lists.oldest, declared.queue.Queue.Queue, DriverCalls.driver_answer}
-use Rattle.vs_ring_port.specs.{DriverCalls.LoadCid, DriverCalls.Publish, DriverCalls.Reap, DriverCalls.Stage, EndLog.EndLog, EndLog.Pages}
-use Rattle.vs_ring_port.specs.EndLog.{log_loaded, log_reaped, with_pages}
+use Rattle.vs_ring_port.specs.{Lists.{Rings, after_reap, oldest}, declared.queue.Queue.Queue, DriverCalls.{driver_answer, LoadCid, Publish}}
+use Rattle.vs_ring_port.specs.{DriverCalls.{Reap, Stage}, EndLog.{EndLog, Pages, log_loaded, log_reaped, with_pages}}
 use Rattle.vs_header.specs.Packet.{header_bytes}
 use Rattle.vs_driver_parts.specs.{Receiving.after_reset, Receiving.is_reset_event, Receiving.on_page, State.DriverEntry, State.DriverState}
 use Rattle.vs_driver_parts.specs.Conversations.{all_taken, pay_all, pay_and_publish, pay_slot, poll_of, poll_packets, poll_puts, poll_reaps}

@@ -1,15 +1,13 @@
 -- Each call on the rings keeps what is under way between the two logs.
 use Rattle.std.proofs.Common.{◌≡◌, ℕ, List, [], ◌∷◌, ◌++◌, take, Option, Some, None, refl, sym, ap, ◌∙◌, append_assoc}
 use Rattle.laws_history.specs.declared.packet.Packet.{Packet}
-use Rattle.vs_page.specs.{Held.packet_held, Held.event_held, Held.held_in, Held.listed, Log.Log, Log.packets_put, Log.packets_got}
-use Rattle.vs_page.specs.{Log.events_put, Log.events_got, declared.log.LogEntry.TheVariants.PutPacket}
-use Rattle.vs_page.specs.declared.log.LogEntry.TheVariants.{GotPacket, PutEvent, GotEvent}
-use Rattle.vs_ring_port.specs.{Chains.bytes_in, Contents.DeviceCall, Contents.Take, Contents.Return, Contents.PublishCid, DeviceCalls.device_answer}
-use Rattle.vs_ring_port.specs.{DriverCalls.DriverCall, DriverCalls.Stage, DriverCalls.Publish, DriverCalls.Reap, DriverCalls.LoadCid}
-use Rattle.vs_ring_port.specs.{DriverCalls.driver_answer, EndLog.EndLog}
-use Rattle.vs_ring_port.specs.EndLog.{all_put, with_packet, with_event, entries_marked, entries_returned, entries_reaped, log_taken}
-use Rattle.vs_ring_port.specs.Lists.{Rings, oldest, all_but_oldest, after_return, next_at, place_after}
-use Rattle.vs_ring_port.specs.declared.queue.Queue.{Queue, TheVariants.Rx, TheVariants.Tx, TheVariants.Event}
+use Rattle.vs_page.specs.{Held.{packet_held, event_held, held_in, listed}, Log.{Log, packets_put, packets_got, events_put, events_got}}
+use Rattle.vs_page.specs.declared.log.LogEntry.TheVariants.{PutPacket, GotPacket, PutEvent, GotEvent}
+use Rattle.vs_ring_port.specs.{Chains.bytes_in, Contents.{DeviceCall, Take, Return, PublishCid}, DeviceCalls.device_answer}
+use Rattle.vs_ring_port.specs.{DriverCalls.{DriverCall, Stage, Publish, Reap, LoadCid, driver_answer}, EndLog.{EndLog, all_put}}
+use Rattle.vs_ring_port.specs.{EndLog.{with_packet, with_event, entries_marked, entries_returned, entries_reaped, log_taken}, Lists.Rings}
+use Rattle.vs_ring_port.specs.{Lists.{oldest, all_but_oldest, after_return, next_at, place_after}, declared.queue.Queue.Queue}
+use Rattle.vs_ring_port.specs.declared.queue.Queue.{TheVariants.Rx, TheVariants.Tx, TheVariants.Event}
 use Rattle.laws_world.specs.Laws.{AreQueued}
 use Rattle.vs_ring_list.proofs.Ties.{held_in-append}
 

@@ -4,9 +4,8 @@ use Rattle.std.proofs.Common.{Ok, Err, refl, sym, ap, subst, ◌∙◌}
 use Rattle.vs_contents.specs.CallTree.{Done, Ask, bind, for_each, played}
 use Rattle.vs_contents.proofs.Leads.{AllEnds, ends_bind}
 use Rattle.vs_flow.specs.Table.{slots}
-use Rattle.vs_ring_port.specs.{EndLog.EndLog, EndLog.log_loaded, EndLog.log_reaped, Lists.Rings, Lists.after_reap, Lists.oldest}
-use Rattle.vs_ring_port.specs.{Contents.PublishCid, DriverCalls.LoadCid, DriverCalls.Publish, DriverCalls.Reap, DriverCalls.Stage}
-use Rattle.vs_ring_port.specs.{DriverCalls.driver_answer, declared.failure.Failure.Failure}
+use Rattle.vs_ring_port.specs.{EndLog.{EndLog, log_loaded, log_reaped}, Lists.{Rings, after_reap, oldest}, Contents.PublishCid}
+use Rattle.vs_ring_port.specs.{DriverCalls.{LoadCid, Publish, Reap, Stage, driver_answer}, declared.failure.Failure.Failure}
 use Rattle.vs_device_parts.specs.{Calls.DeviceTree, Calls.Ring, State.DeviceState, Turns.after_reset, Turns.close_slot}
 use Rattle.vs_driver_parts.specs.{Receiving.is_reset_event, Steps.takes_page, Conversations.Round, Conversations.event_reaped}
 use Rattle.vs_driver_parts.specs.{Conversations.goes_on_with, Conversations.staged_again, Conversations.start, State.DriverEntry}

@@ -3,9 +3,8 @@ use Rattle.std.proofs.Common.{ℕ, Option, Some, None, Result, Ok, Err}
 use Rattle.vs_contents.specs.CallTree.{Ask, Done, bind, for_each, played}
 use Rattle.vs_flow.specs.Table.{entry_under, slots}
 use Rattle.vs_ring_port.specs.{Contents.PublishCid, declared.failure.Failure.Failure}
-use Rattle.vs_device_parts.specs.Calls.{CloseStream, DeviceTree, Ring}
-use Rattle.vs_device_parts.specs.{Connections.stream_closed, Connections.with_connection, State.DeviceEntry, State.DeviceState}
-use Rattle.vs_device_parts.specs.{Streams.closing, Turns.after_reset, Turns.close_slot, Turns.reset_of}
+use Rattle.vs_device_parts.specs.{Calls.{CloseStream, DeviceTree, Ring}, Connections.{stream_closed, with_connection}, State.DeviceEntry}
+use Rattle.vs_device_parts.specs.{State.DeviceState, Streams.closing, Turns.{after_reset, close_slot, reset_of}}
 use Rattle.vs_proxy_parts.specs.{Handshakes.streams_of, State.ProxyState, Turns.close_handshake, Turns.proxy_reset_of, Turns.reset_with}
 use Rattle.laws_device_walk.proofs.Keeping.{Asking, Keeps, keeps_each, keeps_if, keeps_some, keeps_then}
 use Rattle.laws_world.specs.Answers.{Around, answer_around}

@@ -1,8 +1,7 @@
 -- What the device leaves of the pages that are given on tx.
 use Rattle.std.proofs.Common.{ℕ, List, [], ◌∷◌}
-use Rattle.vs_ring_port.specs.Contents.{DeviceCall, Take, Return}
-use Rattle.vs_ring_port.specs.{DeviceCalls.device_answer, EndLog.EndLog, Lists.Rings, Lists.all_but_oldest, Lists.after_return}
-use Rattle.vs_ring_port.specs.{declared.queue.Queue.Queue, declared.queue.Queue.TheVariants.Rx, declared.queue.Queue.TheVariants.Tx}
+use Rattle.vs_ring_port.specs.{Contents.{DeviceCall, Take, Return}, DeviceCalls.device_answer, EndLog.EndLog, Lists.{Rings, all_but_oldest}}
+use Rattle.vs_ring_port.specs.{Lists.after_return, declared.queue.Queue.Queue, declared.queue.Queue.TheVariants.{Rx, Tx}}
 use Rattle.laws_world.specs.Pages.{AllHold, AllPacked}
 
 -- Each holds a packet, and nothing more.

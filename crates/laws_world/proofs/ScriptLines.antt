@@ -1,14 +1,12 @@
 -- Each line of a script, and so each script, is a list of events.
-use Rattle.std.proofs.Common.{◌≡◌, ℕ, true, List, [], ◌∷◌, ◌++◌, refl, sym}
-use Rattle.std.proofs.lemmas.List.{append-nil}
+use Rattle.std.proofs.{Common.{◌≡◌, ℕ, true, List, [], ◌∷◌, ◌++◌, refl, sym}, lemmas.List.append-nil}
 use Rattle.vs_flow.specs.declared.flow.Flow.{Flow}
 use Rattle.vs_outside.specs.Host.{HostContents}
-use Rattle.laws_world.specs.{Events.ClientConnects, Events.HostCloses, Events.HostEnds, Events.HostFails, Events.HostListens}
+use Rattle.laws_world.specs.Events.{ClientConnects, HostCloses, HostEnds, HostFails, HostListens, HostTakes, HostUnlistens, HostWrites}
+use Rattle.laws_world.specs.{Events.{Reset, is_at_rest, is_guest_cid, reset_made}, Plays.{Line, Guest, Poll, TurnAt, ResetTo, Client}}
+use Rattle.laws_world.specs.Plays.{HostListen, HostUnlisten, HostWrite, HostAllow, HostEnd, HostClosed, HostFail, AreRight, after, line}
+use Rattle.laws_world.specs.{Plays.{is_given_right, play, report, sent_by}, Steps.Leads, World.{World, opening}}
 use Rattle.laws_driver_bytes.specs.Calls.{sent_on}
-use Rattle.laws_world.specs.Events.{HostTakes, HostUnlistens, HostWrites, Reset, is_at_rest, is_guest_cid, reset_made}
-use Rattle.laws_world.specs.Plays.{Line, Guest, Poll, TurnAt, ResetTo, Client, HostListen, HostUnlisten, HostWrite, HostAllow, HostEnd}
-use Rattle.laws_world.specs.Plays.{HostClosed, HostFail, AreRight, after, line, is_given_right, play, report, sent_by}
-use Rattle.laws_world.specs.{Steps.Leads, World.World, World.opening}
 use Rattle.laws_world.proofs.{CallRests.call_rests, CallRests.opening_rests, GuestLines.call_leads, GuestLines.leads_none}
 use Rattle.laws_world.proofs.{GuestLines.leads_one, GuestLines.leads_then, GuestLines.possible_is, Polls.poll_does, TurnLines.turn_leads}
 

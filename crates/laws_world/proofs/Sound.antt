@@ -12,8 +12,7 @@ use Rattle.vs_page.specs.{Held.held_in, Held.packet_held, Fair.IsFairLog, Fair.n
 use Rattle.vs_ring_port.specs.{DriverCalls.driver_answer, declared.queue.Queue.Queue, Contents.RingContents, EndLog.EndLog, EndLog.Pages}
 use Rattle.vs_ring_port.specs.{EndLog.all_put, Lists.Rings, Chains.Held, declared.device_ring.Chain.Chain}
 use Rattle.laws_tables.{specs.Both.IsSound, specs.Both.Seat, specs.Ends.Ends, proofs.Voices.AreVoiced}
-use Rattle.vs_driver_parts.specs.Conversations.{DriverTree, publish_of}
-use Rattle.vs_driver_parts.specs.{State.DriverState, Steps.takes_page, Steps.stages_reply, Steps.stages_owed}
+use Rattle.vs_driver_parts.specs.{Conversations.{DriverTree, publish_of}, State.DriverState, Steps.{takes_page, stages_reply, stages_owed}}
 use Rattle.vs_device_parts.specs.Steps.{takes_chain, returns, puts_event, puts_reply, puts_owed, puts_payload, writes, shuts_write}
 use Rattle.vs_device_parts.specs.Playing.{IsRxChain, situation}
 use Rattle.vs_device_parts.specs.{Calls.DeviceTree, Calls.Situation, State.DeviceState, State.DeviceConnection, Streams.tick_slot}
@@ -25,13 +24,12 @@ use Rattle.laws_world.specs.Events.{ProxyReads, Moment, TimesOut, HandshakeTimes
 use Rattle.laws_world.specs.Events.{HostWrites, HostTakes, HostEnds, HostCloses, HostFails, at_moment, call_made, device_step, driver_step}
 use Rattle.laws_world.specs.Events.{happens, has_failed, holds, holds_event, is_at_rest, is_guest_cid, line_read, none_staged, proxy_step}
 use Rattle.laws_world.specs.World.{World, around, device_plays, driver_plays, first_cid}
-use Rattle.laws_world.proofs.DriverGoes.{After, Before, Left, Walks, call_left, call_walks, poll_left, poll_walks}
 use Rattle.laws_world.specs.{Answers.answer_around, Laws.IsQueued, Pages.TxHolds, Events.reset_made, Events.unless_failed}
 use Rattle.laws_world.specs.{Events.where_possible, Events.works_on, Sides.Runs, Sides.both_of, Sides.log_with_staged}
-use Rattle.laws_world.proofs.{DeviceGoes.carried, DeviceGoes.cids_kept, DeviceWalks.AllHeads, DriverWalks.Ties, DriverWalks.first_fair}
-use Rattle.laws_world.proofs.{DriverWalks.shown, DriverWalks.walk, Journals.AllAgree, Played.driver_got, Queues.pages_put, Runs.goes_run}
-use Rattle.laws_world.proofs.{Runs.keeps_sound, Runs.stays, Once.AreOnce, Once.keeps_once, Once.number_of_once, Wire.fit_rest, Keeping.Sees}
-use Rattle.laws_world.proofs.{Names.StaysNamed, Names.WaitsApart, Names.named_from, Names.named_still}
+use Rattle.laws_world.proofs.{DriverGoes.{After, Before, Left, Walks, call_left, call_walks, poll_left, poll_walks}, DeviceGoes.carried}
+use Rattle.laws_world.proofs.{DeviceGoes.cids_kept, DeviceWalks.AllHeads, DriverWalks.{Ties, first_fair, shown, walk}, Journals.AllAgree}
+use Rattle.laws_world.proofs.{Played.driver_got, Queues.pages_put, Runs.{goes_run, keeps_sound, stays}, Once.{AreOnce, keeps_once}}
+use Rattle.laws_world.proofs.{Once.number_of_once, Wire.fit_rest, Keeping.Sees, Names.{StaysNamed, WaitsApart, named_from, named_still}}
 use Rattle.laws_driver_bytes.specs.Calls.{Journal, LookAt, is_right, sent_on, makes_call, GuestCall, ReplyTo, account_of, with_call}
 use Rattle.laws_driver_bytes.specs.Received.{Account, AreReceived}
 use Rattle.laws_driver_bytes.proofs.{Making.made_with, Polling.IsFurther, Sending.puts_as}
@@ -39,15 +37,13 @@ use Rattle.vs_flow.specs.{declared.flow.Flow.Flow, Table.Table, Connection.Conne
 use Rattle.laws_device_bytes.specs.Streamed.{IsStreamed}
 use Rattle.laws_device_bytes.proofs.{Changing.StreamedIf, HostCalls.client_host, HostCalls.same_host, Hosts.unseen}
 use Rattle.vs_limits.specs.declared.TheConstants.{GUEST_CID_MIN, GUEST_CID_MAX, ASSIGNED_FIRST}
-use Rattle.laws_driver.proofs.Carrying.{Carries, Fact, Holds, IsTiedBy, RestsWith}
-use Rattle.laws_driver.proofs.Stepping.{Works, owed_with, publish_with, reply_with, takes_with}
+use Rattle.laws_driver.proofs.{Carrying.{Carries, Fact, Holds, IsTiedBy, RestsWith}, Stepping.{Works, owed_with, publish_with, reply_with}}
+use Rattle.laws_driver.proofs.{Stepping.takes_with, Keeping.{Keeps, keeps_weaker}, Staging.{Rests, rests_tied}}
 use Rattle.laws_driver.specs.{Honest.IsFitState, Honest.ends_of_state, Honest.slots_of, Resets.MarksResets, Staged.IsLeft}
-use Rattle.laws_driver.proofs.{Keeping.Keeps, Keeping.keeps_weaker, Staging.Rests, Staging.rests_tied}
 use Rattle.vs_ring_list.proofs.Held.{same_queue_is}
 use Rattle.laws_device.proofs.Carrying.{IsToldBy, StreamedOver, With}
 use Rattle.laws_device.proofs.{Chains.Among, Seats.AllFit, Seats.Carried, Seats.PutsFit, Keeping.keeps_then, Turning.tick_slot_keeps}
-use Rattle.laws_proxy.proofs.Shaking.{Goes-on, Turns, accepts, reads_byte, ticks}
-use Rattle.laws_proxy.proofs.Turning.{Proxied, proxy_reset_keeps}
+use Rattle.laws_proxy.proofs.{Shaking.{Goes-on, Turns, accepts, reads_byte, ticks}, Turning.{Proxied, proxy_reset_keeps}}
 use Rattle.vs_ring_list.specs.Ends.{Ends as RingEnds, device_contents}
 use Rattle.laws_device.specs.Honest.{is_held, IsFitState as IsFitDevice}
 use Rattle.laws_device.proofs.Keeping.{Keeps as DeviceKeeps, keeps_weaker as device_weaker}

@@ -2,9 +2,8 @@
 use Rattle.std.proofs.Common.{◌≡◌, ℕ, ◌-◌, eqb, Bool, true, false, cond, List, [], ◌∷◌, ◌++◌, Option, Some, None, refl, sym, ap, subst, ◌∙◌}
 use Rattle.std.{proofs.Common.arith, proofs.lemmas.Bool.Decides.nat_tests, specs.Prelude.slice_get}
 use Rattle.vs_flow.specs.Table.{Table}
-use Rattle.vs_outside.specs.Host.{HostContents, Stream, IsOpen, stream_at, with_stream}
-use Rattle.vs_outside.specs.HostProgram.{after_client, after_host_write, client_stream, with_bytes}
-use Rattle.vs_outside.specs.declared.mem_stream.HostWritten.{HostWritten}
+use Rattle.vs_outside.specs.{Host.{HostContents, Stream, IsOpen, stream_at, with_stream}, HostProgram.{after_client, after_host_write}}
+use Rattle.vs_outside.specs.{HostProgram.{client_stream, with_bytes}, declared.mem_stream.HostWritten.HostWritten}
 use Rattle.vs_outside.proofs.Frames.{keeps_others, open_of, open_stream, slice_get-append, stays_open, stream_at-with_stream, stream_place}
 use Rattle.vs_device_parts.specs.State.{DeviceConnection}
 use Rattle.laws_device_streams.specs.Streams.{HasStreams}

@@ -5,8 +5,7 @@ use Rattle.vs_contents.specs.CallTree.{Done, bind}
 use Rattle.vs_outside.specs.HostProgram.{after_listen, after_unlisten, after_client, after_host_write, host_write_answer, allowed, ended}
 use Rattle.vs_outside.specs.{HostProgram.closed, HostProgram.after_fail, Host.HostContents, Host.with_stream}
 use Rattle.vs_ring_port.specs.{Chains.same_queue, EndLog.Pages, declared.device_ring.Chain.Chain, declared.queue.Queue.Queue}
-use Rattle.vs_driver_parts.specs.{Conversations.DriverTree, Conversations.publish_of, State.DriverState, Steps.takes_page}
-use Rattle.vs_driver_parts.specs.Steps.{stages_reply, stages_owed}
+use Rattle.vs_driver_parts.specs.{Conversations.{DriverTree, publish_of}, State.DriverState, Steps.{takes_page, stages_reply, stages_owed}}
 use Rattle.vs_device_parts.specs.{Calls.DeviceTree, State.DeviceState, Streams.tick_slot, Steps.takes_chain, Steps.returns}
 use Rattle.vs_device_parts.specs.Steps.{puts_event, puts_reply, puts_owed, puts_payload, writes, shuts_write}
 use Rattle.vs_proxy_parts.specs.{State.Turning, State.start, State.with_device, Turns.proxy_reset_of, Handshakes.tick_handshake}

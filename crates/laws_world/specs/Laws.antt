@@ -1,7 +1,6 @@
 -- What is true of the world after any list of events.
 use Rattle.std.specs.Prelude.{◌≡◌, [], ◌++◌}
-use Rattle.vs_page.specs.Held.{packet_held, event_held, held_in}
-use Rattle.vs_page.specs.Log.{Log, packets_put, packets_got, events_put, events_got}
+use Rattle.vs_page.specs.{Held.{packet_held, event_held, held_in}, Log.{Log, packets_put, packets_got, events_put, events_got}}
 use Rattle.vs_ring_port.specs.Lists.{Rings}
 use Rattle.vs_ring_list.specs.Ends.{Ends}
 use Rattle.vs_proxy_parts.specs.State.{ProxyState}

@@ -1,10 +1,9 @@
 -- Whole calls, one line of a script each, and what each answers.
 use Rattle.std.specs.Prelude.{◌≡◌, ℕ, ◌+◌, Bool, true, if◌then◌else◌, List, [], ◌∷◌, length, map, Option, Result}
 use Rattle.vs_flow.specs.declared.flow.Flow.{Flow}
-use Rattle.vs_outside.specs.{Host.HostContents, Host.with_stream, HostBytes.wrote_after_connect, HostBytes.read_after_ok}
-use Rattle.vs_outside.specs.HostProgram.{after_listen, after_unlisten, after_client, after_host_write, host_write_answer, has_stream}
-use Rattle.vs_outside.specs.HostProgram.{allowed, ended, closed, after_fail}
-use Rattle.vs_outside.specs.declared.mem_stream.HostWritten.{HostWritten}
+use Rattle.vs_outside.specs.{Host.{HostContents, with_stream}, HostBytes.{wrote_after_connect, read_after_ok}, HostProgram.after_listen}
+use Rattle.vs_outside.specs.HostProgram.{after_unlisten, after_client, after_host_write, host_write_answer, has_stream, allowed, ended}
+use Rattle.vs_outside.specs.{HostProgram.{closed, after_fail}, declared.mem_stream.HostWritten.HostWritten}
 use Rattle.vs_ring_port.specs.declared.failure.Failure.{Failure}
 use Rattle.vs_driver_parts.specs.{declared.answers.Polled.Polled, Conversations.poll_of}
 use Rattle.vs_proxy_parts.specs.{Turns.turn_of, Turns.proxy_reset_of, declared.answers.Turn.Turn}

@@ -1,7 +1,6 @@
 -- The two ends of the world as their connections and their logs, and what it is for one to come of another by their small steps.
 use Rattle.std.specs.Prelude.{◌≡◌, ◌≤◌, List, [], ◌∷◌}
-use Rattle.laws_tables.specs.{Ends.Ends, Ends.entries_of, Heard.own_port}
-use Rattle.laws_tables.specs.Both.{Asks, Both, Happening, MayRun, Opens, Step, at, happens, run}
+use Rattle.laws_tables.specs.{Ends.{Ends, entries_of}, Heard.own_port, Both.{Asks, Both, Happening, MayRun, Opens, Step, at, happens, run}}
 use Rattle.vs_page.specs.Log.{Log, Role}
 use Rattle.vs_ring_port.specs.EndLog.{EndLog, all_put}
 use Rattle.vs_driver_parts.specs.State.{DriverState}

@@ -1,7 +1,5 @@
 -- Scripts of right apps.
-use Rattle.std.proofs.Common.{List, [], ◌∷◌, ◌++◌, map, sym, subst}
-use Rattle.std.proofs.lemmas.List.{map-append}
-use Rattle.std.proofs.lemmas.List.Elements.{All-push}
+use Rattle.std.proofs.{Common.{List, [], ◌∷◌, ◌++◌, map, sym, subst}, lemmas.List.map-append, lemmas.List.Elements.All-push}
 use Rattle.std.specs.List.{All}
 use Rattle.vs_script.specs.{App.app_view, declared.app.App.App}
 use Rattle.vs_apps_parts.specs.Scripts.{AreRight, IsRight, RunScript, script_of}

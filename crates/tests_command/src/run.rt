@@ -4,6 +4,7 @@ use crate::running::{COUNTED, HOSTILE_COUNTED, ends, played, run};
 use std::alloc::{AllocError, AllocGlobal};
 use std::sync::Wait;
 use std::test::Fail;
+use std::thread::Threads;
 use vs_outside::{MemSink, MemSource, PeerHost, PreparedStream};
 
 const NONE: &str = "guest open 0\ndevice open 0\n";
@@ -20,7 +21,10 @@ const HOSTILE_PRINTED: &str = "ok\nok\nok\nfailed AvailJump 0 9\nfailed AvailJum
                                device open 0\n";
 
 /// How many of the first calls of the sink, each failed by itself, end the play of hello with status 4 and before its last line is printed.
-fn failed_writes<R: AllocGlobal + Wait>(rt: &R, calls: u64) -> Result<u64, AllocError> {
+fn failed_writes<R: AllocGlobal + Wait + Threads + Sync>(
+    rt: &R,
+    calls: u64,
+) -> Result<u64, AllocError> {
     let mut failed = 0u64;
     for n in 1..calls {
         let (status, sink) = played(rt, "vsock play", HELLO, 100, (0, n))?;
@@ -32,7 +36,10 @@ fn failed_writes<R: AllocGlobal + Wait>(rt: &R, calls: u64) -> Result<u64, Alloc
 }
 
 /// How many of the first calls of the source, each failed by itself, end the play of hello with status 3 and `read fault`.
-fn failed_reads<R: AllocGlobal + Wait>(rt: &R, calls: u64) -> Result<u64, AllocError> {
+fn failed_reads<R: AllocGlobal + Wait + Threads + Sync>(
+    rt: &R,
+    calls: u64,
+) -> Result<u64, AllocError> {
     let mut failed = 0u64;
     for n in 1..calls {
         if ends(rt, "vsock play", HELLO, 16, (n, 0), 3, ("read fault\n", ""))? {
@@ -43,7 +50,10 @@ fn failed_reads<R: AllocGlobal + Wait>(rt: &R, calls: u64) -> Result<u64, AllocE
 }
 
 /// Whether each of these command lines is none.
-fn are_usage<R: AllocGlobal + Wait>(rt: &R, lines: &[&str]) -> Result<bool, AllocError> {
+fn are_usage<R: AllocGlobal + Wait + Threads + Sync>(
+    rt: &R,
+    lines: &[&str],
+) -> Result<bool, AllocError> {
     for line in lines {
         if !ends(rt, line, HELLO, 100, (0, 0), 1, ("usage\n", ""))? {
             return Ok(false);
@@ -53,7 +63,7 @@ fn are_usage<R: AllocGlobal + Wait>(rt: &R, lines: &[&str]) -> Result<bool, Allo
 }
 
 /// Whether each of these plays ends with its status and prints its text.
-fn are_answered<R: AllocGlobal + Wait>(
+fn are_answered<R: AllocGlobal + Wait + Threads + Sync>(
     rt: &R,
     plays: &[(&str, &str, u8, &str, &str)],
 ) -> Result<bool, AllocError> {
@@ -66,7 +76,10 @@ fn are_answered<R: AllocGlobal + Wait>(
 }
 
 /// What a client prints, and its status, whose stream gives these bytes.
-fn client<R: AllocGlobal + Wait>(rt: &R, line: &str) -> Result<(u8, MemSink), AllocError> {
+fn client<R: AllocGlobal + Wait + Threads + Sync>(
+    rt: &R,
+    line: &str,
+) -> Result<(u8, MemSink), AllocError> {
     let alloc = rt.alloc();
     let mut source = MemSource::new(alloc, Vec::from_slice(alloc, b"yo")?, 1);
     let mut sink = MemSink::new(alloc, 1);

@@ -4,6 +4,7 @@ ghost use Rattle.std.specs.Prelude.{◌≤◌};
 
 use std::alloc::{AllocError, AllocGlobal, Global};
 use std::sync::Wait;
+use std::thread::Threads;
 use vs_outside::{FreeGate, MemSink, MemSource, PeerHost, StepClock};
 use vs_run::vsock_main;
 
@@ -23,7 +24,7 @@ fn words_of(alloc: Global, line: &str) -> Result<Vec<String>, AllocError> {
 }
 
 /// The status of a command line over this source, host and sink.
-pub fn run<R: AllocGlobal + Wait>(
+pub fn run<R: AllocGlobal + Wait + Threads + Sync>(
     rt: &R,
     line: &str,
     source: &mut MemSource,
@@ -33,12 +34,13 @@ pub fn run<R: AllocGlobal + Wait>(
     let words = words_of(rt.alloc(), line)?;
     let mut clock = StepClock::new();
     let mut gate = FreeGate::new();
-    Ok(vsock_main(rt, &words, source, host, &mut clock, &mut gate, sink))
+    let gates = Vec::new(rt.alloc());
+    Ok(vsock_main(rt, &words, source, host, &mut clock, &mut gate, gates, sink))
 }
 
 /// The status of a command line's run of a script, in pieces of that size, and what it prints. The nth call of the source fails, and of the
 /// sink; none, where that is 0.
-pub fn played<R: AllocGlobal + Wait>(
+pub fn played<R: AllocGlobal + Wait + Threads + Sync>(
     rt: &R,
     line: &str,
     script: &str,
@@ -58,7 +60,7 @@ pub fn played<R: AllocGlobal + Wait>(
 }
 
 /// Whether such a run ends with this status and prints this, in two pieces.
-pub fn ends<R: AllocGlobal + Wait>(
+pub fn ends<R: AllocGlobal + Wait + Threads + Sync>(
     rt: &R,
     line: &str,
     script: &str,
@@ -77,7 +79,7 @@ pub fn ends<R: AllocGlobal + Wait>(
 }
 
 /// Whether each of these scripts, played by each of these command lines, ends with status 0 and prints its text and then that last line.
-pub fn are_printed<R: AllocGlobal + Wait>(
+pub fn are_printed<R: AllocGlobal + Wait + Threads + Sync>(
     rt: &R,
     lines: &[&str],
     plays: &[(&str, &str)],

@@ -4,6 +4,7 @@ use crate::running::{COUNTED, played};
 use std::alloc::{AllocError, AllocGlobal, Global};
 use std::sync::Wait;
 use std::test::Fail;
+use std::thread::Threads;
 
 /// These texts, each so many times.
 fn script_of(alloc: Global, texts: &[(u16, &str)]) -> Result<String, AllocError> {
@@ -17,7 +18,7 @@ fn script_of(alloc: Global, texts: &[(u16, &str)]) -> Result<String, AllocError>
 }
 
 /// Whether a play of these texts ends with status 0, these lines, and that nothing was counted.
-fn ends_with<R: AllocGlobal + Wait>(
+fn ends_with<R: AllocGlobal + Wait + Threads + Sync>(
     rt: &R,
     line: &str,
     texts: &[(u16, &str)],

@@ -1,8 +1,6 @@
 -- The script of a run, and how apps go along it.
 use Rattle.std.specs.Prelude.{◌≡◌, ℕ, ◌+◌, ◌-◌, ◌≤◌, ◌^◌, min, nat_le, nat_lt, ◌&&◌, ◌||◌, Bool, true, false, if◌then◌else◌, List, [], ◌∷◌}
-use Rattle.std.specs.Prelude.{◌++◌, map}
-use Rattle.std.specs.{List.All, Prelude.take, Prelude.drop, Prelude.slice_get, Prelude.slice_index_or, Prelude.Some, Prelude.None}
-use Rattle.std.specs.{Option.unwrap_or}
+use Rattle.std.specs.{Prelude.{◌++◌, map, take, drop, slice_get, slice_index_or, Some, None}, List.All, Option.unwrap_or}
 use Rattle.vs_script.specs.{Data.Content, Data.bytes_of, Data.size_of, declared.app.App.App, App.Act, App.app_view, App.Connect, App.Listen}
 use Rattle.vs_script.specs.App.{Accept, Send, Recv, Drain, Exchange, Shutdown, Close}
 use Rattle.laws_driver_bytes.specs.Calls.{GuestCall, Journal, Made}

@@ -1,7 +1,6 @@
 -- The marks of bytes that come together, and the newest one.
 use Rattle.std.proofs.Common.{◌≡◌, ℕ, zero, suc, ◌+◌, ◌-◌, ◌<◌, ◌≤◌, ◌==◌, Bool, true, false, cond, List, [], ◌∷◌, ◌++◌, length, take, drop}
-use Rattle.std.proofs.Common.{Option, Some, None, refl, ap, ◌∙◌, arith, length-append, length-take}
-use Rattle.std.proofs.lemmas.Bool.Decides.{nat_tests}
+use Rattle.std.proofs.{Common.{Option, Some, None, refl, ap, ◌∙◌, arith, length-append, length-take}, lemmas.Bool.Decides.nat_tests}
 use Rattle.std.specs.Option.{IfSome, option_map}
 use Rattle.circular_buffer.specs.Buffer.{keep_last}
 use Rattle.vs_buffer.specs.{declared.messages.Mark.Mark, Messages.first_message, Messages.marks_of, Messages.with_last}

@@ -1,7 +1,6 @@
 -- What an event leads to, and that the next one may happen.
 use Rattle.std.proofs.Common.{◌≡◌, ℕ, ◌<◌, ◌^◌, ◌&&◌, ◌↔◌, nat_lt, Bool, true, false, List, [], ◌∷◌, ◌++◌, is_some, Result, Ok, Err, OnOk}
-use Rattle.std.proofs.Common.{OnErr, IsOk, IsTrue, is_ok, refl, sym, ap, subst, ◌∙◌, arith, rules}
-use Rattle.std.proofs.lemmas.Bool.Decides.{nat_tests}
+use Rattle.std.proofs.{Common.{OnErr, IsOk, IsTrue, is_ok, refl, sym, ap, subst, ◌∙◌, arith, rules}, lemmas.Bool.Decides.nat_tests}
 use Rattle.vs_contents.specs.CallTree.{Done}
 use Rattle.vs_outside.specs.Host.{HostContents}
 use Rattle.vs_ring_port.specs.{Chains.chains_of, Contents.RingContents, EndLog.EndLog, declared.queue.Queue.Queue}

@@ -2,8 +2,7 @@
 use Rattle.std.proofs.Common.{◌≡◌, ℕ, nat_le, true, Option, None, Some, unwrap_or, ap, subst, arith, sym}
 use Rattle.std.proofs.lemmas.Bool.{Decides.nat_tests, and_parts}
 use Rattle.vs_outside.specs.Host.{HostContents}
-use Rattle.vs_ring_port.specs.Chains.{same_queue}
-use Rattle.vs_ring_port.specs.declared.{device_ring.Chain.Chain, queue.Queue.Queue, queue.Queue.TheVariants.Event}
+use Rattle.vs_ring_port.specs.{Chains.same_queue, declared.{device_ring.Chain.Chain, queue.Queue.Queue, queue.Queue.TheVariants.Event}}
 use Rattle.vs_ring_list.{specs.Ends.device_contents, proofs.Held.same_queue_is}
 use Rattle.vs_device_parts.specs.Steps.{puts_event, puts_owed, puts_payload, puts_reply, shuts_write, takes_chain, writes}
 use Rattle.vs_device_parts.specs.{Calls.Situation, Calls.Allows, Playing.CanMake, Playing.MayRun, Playing.situation, Streams.tick_slot}

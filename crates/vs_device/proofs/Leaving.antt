@@ -5,11 +5,10 @@ use Rattle.vs_contents.specs.CallTree.{Done, Ask, bind}
 use Rattle.vs_contents.proofs.{Leads.leads_of, Leads.leads_bind, Conditions.may_of}
 use Rattle.vs_flow.{specs.Table.Table, specs.Table.with_value, specs.Table.without, specs.Table.revalued, proofs.Tables.revalued-slot}
 use Rattle.vs_wrap.specs.Wrap.{counted}
-use Rattle.vs_device_parts.specs.Calls.{Situation, DeviceTree, Allows, CloseStream}
-use Rattle.vs_device_parts.specs.Connections.{with_connection, stream_closed, after_leaving}
-use Rattle.vs_device_parts.specs.Playing.{CanMake, MayRun, MayClose, Runs}
+use Rattle.vs_device_parts.specs.{Calls.{Situation, DeviceTree, Allows, CloseStream}, Connections.{with_connection, stream_closed}}
+use Rattle.vs_device_parts.specs.{Connections.after_leaving, Playing.{CanMake, MayRun, MayClose, Runs}, State.DeviceConnection}
+use Rattle.vs_device_parts.specs.{State.{DeviceEntry, DeviceState}, Streams.{closing, leaving}}
 use Rattle.vs_device_parts.proofs.Under.{with_value_twice}
-use Rattle.vs_device_parts.specs.{State.DeviceConnection, State.DeviceEntry, State.DeviceState, Streams.closing, Streams.leaving}
 
 -- a stream is closed, or was
 module _ (e : DeviceEntry) (f : DeviceConnection → DeviceConnection) (s : DeviceState) where

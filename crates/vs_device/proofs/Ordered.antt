@@ -14,9 +14,8 @@ use Rattle.laws_device_streams.specs.{Split.CanReach, Streams.FindsFree, Streams
 use Rattle.laws_device_streams.proofs.{Closing.keeps_tick, Conditions.quiet_can, Keeping.Keeps, Opening.both_found, Opening.keeps_open}
 use Rattle.laws_device_streams.proofs.{Opening.keeps_reset, Receiving.keeps_fill_rx, Transmitting.keeps_take_tx, Writing.keeps_pump}
 use Rattle.laws_device.specs.{Honest.IsFitFlow, Honest.IsWith, Honest.ends_of_state, Honest.port_after, Streams.AreStreamedWith}
-use Rattle.laws_device.proofs.{Filling.fill_keeps, Keeping.keeps_end, Transmitting.take_keeps, Turning.pay_keeps, Turning.pump_keeps}
-use Rattle.laws_device.proofs.{Turning.reset_keeps, Turning.tick_keeps, Turning.opens_plain, Carrying.ring_end, Carrying.with_ring}
-use Rattle.laws_device.proofs.Carrying.{ring_and_host, ring_only, streamed_end}
+use Rattle.laws_device.proofs.{Filling.fill_keeps, Keeping.keeps_end, Transmitting.take_keeps, Turning.{pay_keeps, pump_keeps, reset_keeps}}
+use Rattle.laws_device.proofs.{Turning.{tick_keeps, opens_plain}, Carrying.{ring_end, with_ring, ring_and_host, ring_only, streamed_end}}
 use Rattle.vs_proxy_parts.specs.State.{Handshake}
 use Rattle.laws_device_streams.proofs.Keeping.{keeps_end as streams_end}
 

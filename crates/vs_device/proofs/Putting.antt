@@ -8,10 +8,9 @@ use Rattle.vs_replies.specs.declared.Reply.{Reply}
 use Rattle.vs_ring_port.specs.declared.device_ring.Chain.{Chain}
 use Rattle.vs_conn.specs.{End.owes_of, Headers.owed_header, declared.end.Owed.Owed}
 use Rattle.vs_flow.specs.Table.{entry_under}
-use Rattle.vs_device_parts.specs.{Calls.DeviceTree, Calls.Situation, Calls.Allows, Connections.route_to_guest, Filling.put_header}
-use Rattle.vs_device_parts.specs.{Playing.CanMake, Playing.MayRun, Playing.Runs, Receiving.Filling, Receiving.hold, Receiving.written}
-use Rattle.vs_device_parts.specs.Receiving.{put_on, put_packet, reply_header, put_reply, put_reply_of, put_owed, after_paying}
-use Rattle.vs_device_parts.specs.State.{DeviceState, DeviceEntry}
+use Rattle.vs_device_parts.specs.{Calls.{DeviceTree, Situation, Allows}, Connections.route_to_guest, Filling.put_header, Playing.CanMake}
+use Rattle.vs_device_parts.specs.{Playing.{MayRun, Runs}, Receiving.{Filling, hold, written, put_on, put_packet, reply_header, put_reply}}
+use Rattle.vs_device_parts.specs.{Receiving.{put_reply_of, put_owed, after_paying}, State.{DeviceState, DeviceEntry}}
 use Rattle.vs_device.proofs.Trees.{bind_same, bind_assoc}
 
 -- what follows the packet that was put

@@ -1,7 +1,7 @@
 -- What reading a stream comes to, for the packet that it puts.
 use Rattle.std.proofs.Common.{◌≡◌, ℕ, ◌+◌, ◌≤◌, arith, Bool, true, false, cond, List, length, take, Option, Some, None, refl, sym, ap}
-use Rattle.std.specs.{Prelude.if◌then◌else◌, Prelude.◌==◌, Option.IfSome}
 use Rattle.std.proofs.{lemmas.List.length-take-le, Common.subst, Common.◌∙◌}
+use Rattle.std.specs.{Prelude.if◌then◌else◌, Prelude.◌==◌, Option.IfSome}
 use Rattle.vs_contents.specs.CallTree.{Done, Ask, bind, while_up_to}
 use Rattle.vs_contents.proofs.{Leads.leads_of, Leads.leads_bind, Conditions.may_first, Conditions.may_rest, Conditions.may_of}
 use Rattle.vs_conn.specs.End.{ConnectionEnd, with_payload_sent, wanting_credit}
@@ -13,11 +13,10 @@ use Rattle.vs_flow.specs.Table.{Table, entry_under, value_under}
 use Rattle.vs_outside.specs.declared.host_net.StreamRead.{StreamRead}
 use Rattle.vs_ring_port.specs.declared.device_ring.Chain.{Chain}
 use Rattle.vs_device_parts.specs.Receiving.{Filling, hold, written, put_on, put_owed, put_payload, may_read, read_room, read_answered}
+use Rattle.vs_device_parts.specs.{Receiving.{read_with_chain, read_stream, serve_slot}, Calls.{DeviceTree, Situation, Allows, ReadStream}}
+use Rattle.vs_device_parts.specs.{Connections.{with_connection, route_to_guest}, Filling.read_slot, Playing.{CanMake, MayRun, Runs}}
+use Rattle.vs_device_parts.specs.{State.{DeviceConnection, DeviceEntry, DeviceState}, Steps.{filling, puts_payload, reads, to_read}}
 use Rattle.vs_device_parts.proofs.Under.{value_is}
-use Rattle.vs_device_parts.specs.{Calls.DeviceTree, Calls.Situation, Calls.Allows, Calls.ReadStream, Connections.with_connection}
-use Rattle.vs_device_parts.specs.{Connections.route_to_guest, Filling.read_slot, Playing.CanMake, Playing.MayRun, Playing.Runs}
-use Rattle.vs_device_parts.specs.{Receiving.read_with_chain, Receiving.read_stream, Receiving.serve_slot, State.DeviceConnection}
-use Rattle.vs_device_parts.specs.{State.DeviceEntry, State.DeviceState, Steps.filling, Steps.puts_payload, Steps.reads, Steps.to_read}
 use Rattle.vs_conn.specs.declared.end.State.TheVariants as state
 
 -- payload is put

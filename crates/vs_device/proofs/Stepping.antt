@@ -8,16 +8,14 @@ use Rattle.vs_contents.proofs.{Leads.leads_of, Leads.leads_bind, Conditions.may_
 use Rattle.vs_device.proofs.{Trees.bind_assoc, Takings.Heard}
 use Rattle.vs_flow.specs.Table.{entry_under}
 use Rattle.vs_header.specs.{Packet.header_of, declared.TheConstants.HEADER_LEN, declared.Header.Header}
-use Rattle.vs_ring_port.specs.Contents.{Read, Return, Take, Write}
-use Rattle.vs_ring_port.specs.Chains.{held_after, same_chain, same_queue, without}
-use Rattle.vs_ring_port.specs.declared.queue.Queue.TheVariants.{Rx, Tx, Event}
-use Rattle.vs_ring_port.specs.declared.{device_ring.Chain.Chain, device_ring.Next.Next, queue.Queue.Queue, failure.Failure.Failure}
+use Rattle.vs_ring_port.specs.{Contents.{Read, Return, Take, Write}, Chains.{held_after, same_chain, same_queue, without}}
+use Rattle.vs_ring_port.specs.{declared.queue.Queue.TheVariants.{Rx, Tx, Event}, declared.{device_ring.Chain.Chain, device_ring.Next.Next}}
+use Rattle.vs_ring_port.specs.declared.{queue.Queue.Queue, failure.Failure.Failure}
 use Rattle.vs_device_parts.specs.Steps.{chain_came, filling, heard_chain, puts_event, puts_owed, puts_reply, shuts_write, takes_chain}
-use Rattle.vs_device_parts.specs.Calls.{Allows, DeviceTree, Ring, Situation}
-use Rattle.vs_device_parts.specs.Playing.{CanMake, IsAmong, IsRxChain, MayRun, Runs}
-use Rattle.vs_device_parts.specs.Receiving.{Filling, event_on, hold, put_owed, put_reply}
-use Rattle.vs_device_parts.specs.{State.DeviceEntry, State.DeviceState, Streams.Writing, Streams.shut_write, Streams.write_pending}
-use Rattle.vs_device_parts.specs.{Steps.writes, Steps.writes_on, Steps.writing, Transmitting.failing, Transmitting.on_packet}
+use Rattle.vs_device_parts.specs.{Steps.{writes, writes_on, writing}, Calls.{Allows, DeviceTree, Ring, Situation}, Playing.CanMake}
+use Rattle.vs_device_parts.specs.{Playing.{IsAmong, IsRxChain, MayRun, Runs}, Receiving.{Filling, event_on, hold, put_owed, put_reply}}
+use Rattle.vs_device_parts.specs.{State.{DeviceEntry, DeviceState}, Streams.{Writing, shut_write, write_pending}, Transmitting.failing}
+use Rattle.vs_device_parts.specs.Transmitting.on_packet
 use Rattle.vs_limits.specs.declared.TheConstants.{DEVICE_REPLIES}
 use Rattle.vs_ring_port.specs.declared.device_ring.Next.TheVariants as next
 use Rattle.vs_ring_port.specs.declared.failure.Failure.TheVariants as failure

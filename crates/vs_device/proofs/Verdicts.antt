@@ -7,10 +7,9 @@ use Rattle.vs_conn.specs.{End.is_reset, End.verdict_of, declared.end.Verdict.Ver
 use Rattle.vs_flow.specs.Table.{entry_under}
 use Rattle.vs_ring_port.specs.declared.device_ring.Chain.{Chain}
 use Rattle.vs_device_parts.proofs.Under.{has_slot, under_changed, with_its}
-use Rattle.vs_device_parts.specs.Connections.{with_connection, stream_closed, after_leaving}
-use Rattle.vs_device_parts.specs.{Calls.Situation, Calls.DeviceTree, Calls.Allows, State.DeviceConnection, State.DeviceEntry}
-use Rattle.vs_device_parts.specs.{State.DeviceState, Playing.CanMake, Playing.MayRun, Playing.MayClose, Playing.Runs, Streams.leaving}
-use Rattle.vs_device_parts.specs.{Streams.closing, Taking.after_refusal, Taking.known_packet, Transmitting.heard, Transmitting.on_known}
+use Rattle.vs_device_parts.specs.{Connections.{with_connection, stream_closed, after_leaving}, Calls.{Situation, DeviceTree, Allows}}
+use Rattle.vs_device_parts.specs.{State.{DeviceConnection, DeviceEntry, DeviceState}, Playing.{CanMake, MayRun, MayClose, Runs}}
+use Rattle.vs_device_parts.specs.{Streams.{leaving, closing}, Taking.{after_refusal, known_packet}, Transmitting.{heard, on_known}}
 use Rattle.vs_device.proofs.Leaving.{may_close}
 use Rattle.vs_conn.specs.declared.end.Verdict.TheVariants as verdict
 use Rattle.vs_conn.specs.declared.end.Why.TheVariants as why

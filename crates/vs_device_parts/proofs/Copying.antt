@@ -1,7 +1,6 @@
 -- The OK line and the payload behind it, copied into one buffer.
 use Rattle.std.proofs.Common.{◌≡◌, ℕ, ◌+◌, ◌-◌, ◌≤◌, List, ◌++◌, length, min, take, sym, ap, ◌∙◌, arith, length-append}
-use Rattle.std.proofs.lemmas.List.{take_min, take-append-le, length-take, length-take-le}
-use Rattle.std.proofs.Math.Seq.{take-append-add, take-length}
+use Rattle.std.proofs.{lemmas.List.{take_min, take-append-le, length-take, length-take-le}, Math.Seq.{take-append-add, take-length}}
 
 module _ (n l p : ℕ) (line pending : List ℕ) (fits : length line ≤ n) (first : l ≡ length line) (second : p ≡ min (n - l) (length pending)) where
   pub count_is : l + p ≡ length (take n (line ++ pending))

@@ -1,9 +1,8 @@
 -- The order in which connections are served: how many slots pass a test.
 use Rattle.std.proofs.Common.{◌≡◌, ℕ, ◌+◌, ◌<◌, ◌≤◌, Bool, true, cond, List, ◌++◌, length, take, drop, get_or, sym, ap, ◌∙◌, arith}
-use Rattle.std.proofs.Common.{length-append}
+use Rattle.std.proofs.{Common.length-append, lemmas.List.{take-append-drop, Elements.filter-append, Filters.length-filter_both}}
+use Rattle.std.proofs.{lemmas.List.Filters.length-filter_more, lemmas.Bool.Decides.nat_tests}
 use Rattle.std.specs.{Prelude.nat_lt, Prelude.nat_le, List.filter}
-use Rattle.std.proofs.lemmas.List.{take-append-drop, Elements.filter-append, Filters.length-filter_both, Filters.length-filter_more}
-use Rattle.std.proofs.lemmas.Bool.Decides.{nat_tests}
 
 -- as many pass in the first places as in all, or fewer
 length-filter_take : (p : ℕ → Bool) (i : ℕ) (xs : List ℕ) → length (filter p (take i xs)) ≤ length (filter p xs)

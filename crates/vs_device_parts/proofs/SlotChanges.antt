@@ -1,12 +1,9 @@
 -- What always holds of the slots after a change of the table.
 use Rattle.std.proofs.Common.{◌≡◌, ℕ, ◌+◌, ◌<◌, ◌==◌, true, not, List, ◌∷◌, [], ◌++◌, length, Some, None, ap, subst, ◌∙◌, arith}
-use Rattle.std.proofs.Common.{length-append}
+use Rattle.std.proofs.{Common.length-append, lemmas.Bool.Decides.nat_tests, lemmas.{List.length-map, List.get_or_append_left}}
+use Rattle.std.proofs.{lemmas.Option.slice_get_within, lemmas.List.Edits.length-remove}
 use Rattle.std.specs.List.{All, filter, remove}
-use Rattle.std.proofs.lemmas.Bool.Decides.{nat_tests}
-use Rattle.std.proofs.lemmas.{List.length-map, List.get_or_append_left, Option.slice_get_within}
-use Rattle.std.proofs.lemmas.List.Edits.{length-remove}
-use Rattle.vs_flow.specs.Table.{Table, IsTable, entry_of, value_under, has_place, with_value, without, revalued}
-use Rattle.vs_flow.specs.declared.flow.Flow.{Flow}
+use Rattle.vs_flow.specs.{Table.{Table, IsTable, entry_of, value_under, has_place, with_value, without, revalued}, declared.flow.Flow.Flow}
 use Rattle.vs_flow.proofs.{Entries.all_others, Entries.remove_at, Lookups.find_place, Tables.IsAccepted, Tables.with_value_sound}
 use Rattle.vs_device_parts.specs.{State.DeviceConnection, State.DeviceEntry, SlotFields.AreKept, declared.slots.Slots.TheInside.Inside}
 use Rattle.vs_device_parts.proofs.Under.{none_under, under}

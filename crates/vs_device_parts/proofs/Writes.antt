@@ -2,8 +2,7 @@
 use Rattle.std.proofs.Common.{◌≡◌, ℕ, ◌+◌, ◌<◌, List, [], ◌∷◌, length, refl, arith}
 use Rattle.vs_header.specs.{Packet.header_bytes, declared.Header.Header, declared.TheConstants.HEADER_LEN}
 use Rattle.vs_ring_port.specs.{declared.device_ring.Chain.Chain, Contents.Write, Contents.Return}
-use Rattle.vs_device_parts.specs.{Calls.Ring, Calls.Situation, Calls.Allows, Playing.CanMake, Playing.MayRun, Playing.Runs}
-use Rattle.vs_device_parts.specs.Receiving.{written}
+use Rattle.vs_device_parts.specs.{Calls.{Ring, Situation, Allows}, Playing.{CanMake, MayRun, Runs}, Receiving.written}
 
 module _ (chain : Chain) (h : Header) where
   pub may_return_header : (payload : List ℕ) (c m : Situation) → length payload ≡ 0 → MayRun (written chain h payload) c

@@ -8,9 +8,8 @@ use Rattle.vs_outside.specs.Host.{dial_failed, read_failed, write_failed, read_a
 use Rattle.vs_outside.specs.declared.host_net.{Accepted.Accepted, Dialed.Dialed, StreamRead.StreamRead, StreamWrite.StreamWrite}
 use Rattle.vs_outside.specs.declared.host_net.StreamRead.TheVariants as read
 use Rattle.vs_outside.specs.declared.host_net.StreamWrite.TheVariants as write
-use Rattle.vs_ring_port.specs.{Chains.IsLongEnough, Chains.chain_of, Contents.RingContents, Contents.DeviceCall, Contents.DeviceAnswer}
-use Rattle.vs_ring_port.specs.{Contents.Take, Contents.Read, DeviceCalls.DeviceAllows, declared.device_ring.Chain.Chain}
-use Rattle.vs_ring_port.specs.declared.queue.Queue.{Queue}
+use Rattle.vs_ring_port.specs.{Chains.{IsLongEnough, chain_of}, Contents.{RingContents, DeviceCall, DeviceAnswer, Take, Read}}
+use Rattle.vs_ring_port.specs.{DeviceCalls.DeviceAllows, declared.device_ring.Chain.Chain, declared.queue.Queue.Queue}
 
 -- A call on the ring or on the host. A read of a stream is into a buffer of so many bytes.
 pub data Call : Type 0 where

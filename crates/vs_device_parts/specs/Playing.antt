@@ -1,11 +1,9 @@
 -- How a device, its ring and its host belong together, and what it takes to make a call.
-use Rattle.std.specs.Prelude.{◌≡◌, ◌<◌, ℕ, false, List, [], ◌∷◌, Option, Some, None, Contains}
-use Rattle.std.specs.Option.{ForSome, IfSome}
+use Rattle.std.specs.{Prelude.{◌≡◌, ◌<◌, ℕ, false, List, [], ◌∷◌, Option, Some, None, Contains}, Option.{ForSome, IfSome}}
 use Rattle.vs_contents.specs.CallTree.{Leads, MayPlay}
 use Rattle.vs_outside.specs.Host.{HostContents, IsOpen}
-use Rattle.vs_ring_port.specs.{declared.device_ring.Chain.Chain, declared.queue.Queue.TheVariants.Rx, Chains.IsLongEnough, Chains.without}
-use Rattle.vs_ring_port.specs.Contents.{RingContents, DeviceCall, DeviceAnswer, Write, Return}
-use Rattle.vs_ring_port.specs.DeviceCalls.{LeavesNoGap, CanReturn}
+use Rattle.vs_ring_port.specs.{declared.device_ring.Chain.Chain, declared.queue.Queue.TheVariants.Rx, Chains.{IsLongEnough, without}}
+use Rattle.vs_ring_port.specs.{Contents.{RingContents, DeviceCall, DeviceAnswer, Write, Return}, DeviceCalls.{LeavesNoGap, CanReturn}}
 use Rattle.vs_device_parts.specs.Calls.{Call, Answer, Ring, Label, ReadStream, WriteStream, ShutWrite, CloseStream, Situation, DeviceTree}
 use Rattle.vs_device_parts.specs.{Calls.Allows, State.DeviceConnection, State.DeviceState}
 

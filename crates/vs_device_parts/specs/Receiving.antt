@@ -5,9 +5,8 @@ use Rattle.byteorder.specs.Endian.{little_bytes}
 use Rattle.vs_contents.specs.CallTree.{Done, Ask, bind, for_each, while_up_to}
 use Rattle.vs_header.specs.{Packet.header_bytes, declared.Header.Header, declared.TheConstants.HEADER_LEN}
 use Rattle.vs_credit.specs.Credit.{free_of}
-use Rattle.vs_conn.specs.{Headers.owed_header, Headers.payload_header, Headers.reset_header, declared.end.Owed.Owed}
-use Rattle.vs_conn.specs.{declared.end.State.State, declared.end.TheConstants.OWED_MAX, End.ConnectionEnd, End.owes_of, End.paid_of}
-use Rattle.vs_conn.specs.End.{with_payload_sent, wanting_credit}
+use Rattle.vs_conn.specs.{Headers.{owed_header, payload_header, reset_header}, declared.end.Owed.Owed, declared.end.State.State}
+use Rattle.vs_conn.specs.{declared.end.TheConstants.OWED_MAX, End.{ConnectionEnd, owes_of, paid_of, with_payload_sent, wanting_credit}}
 use Rattle.vs_flow.specs.Table.{entry_under, slots}
 use Rattle.vs_outside.specs.declared.host_net.StreamRead.{StreamRead}
 use Rattle.vs_page.specs.declared.page.TheConstants.{PAYLOAD_MAX}

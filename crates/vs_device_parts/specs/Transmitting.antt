@@ -11,9 +11,8 @@ use Rattle.vs_replies.specs.Owed.{reply_to}
 use Rattle.vs_uds.specs.{OkLine.ok_text, Path.path_of}
 use Rattle.vs_ring_port.specs.{declared.device_ring.Chain.Chain, declared.device_ring.Next.Next, declared.failure.Failure.Failure}
 use Rattle.vs_ring_port.specs.{declared.queue.Queue.TheVariants.Tx, Contents.Take, Contents.Read, Contents.Return}
-use Rattle.vs_device_parts.specs.{declared.answers.Taken.Taken, Calls.DeviceTree, Calls.Ring, Calls.Dial, State.DeviceConnection}
-use Rattle.vs_device_parts.specs.{State.DeviceState, State.DeviceEntry, Streams.leaving}
-use Rattle.vs_device_parts.specs.Connections.{with_connection, with_reply, with_fault, with_dialed}
+use Rattle.vs_device_parts.specs.{declared.answers.Taken.Taken, Calls.{DeviceTree, Ring, Dial}, State.{DeviceConnection, DeviceState}}
+use Rattle.vs_device_parts.specs.{State.DeviceEntry, Streams.leaving, Connections.{with_connection, with_reply, with_fault, with_dialed}}
 use Rattle.vs_limits.specs.declared.TheConstants.{DEVICE_REPLIES}
 use Rattle.vs_wrap.specs.Wrap.{counted}
 use Rattle.vs_conn.specs.declared.end.Verdict.TheVariants as verdict

@@ -1,8 +1,7 @@
 -- Reset and opening.
 use Rattle.std.specs.Prelude.{ℕ, true, false, List, [], Some, None, Result, Ok, Err, map}
 use Rattle.vs_contents.specs.CallTree.{Done, Ask, bind, for_each}
-use Rattle.vs_flow.specs.{Table.entry_under, Table.slots, Table.emptied, Table.refusal, declared.flow.Flow.Flow}
-use Rattle.vs_flow.specs.declared.table.TableFault.{TableFault}
+use Rattle.vs_flow.specs.{Table.{entry_under, slots, emptied, refusal}, declared.flow.Flow.Flow, declared.table.TableFault.TableFault}
 use Rattle.vs_conn.specs.declared.end.State.{State}
 use Rattle.vs_ring_port.specs.{declared.failure.Failure.Failure, Contents.PublishCid}
 use Rattle.vs_device_parts.specs.{declared.answers.Counters.Counters, Calls.DeviceTree, Calls.Ring, Calls.Label, Connections.with_client}

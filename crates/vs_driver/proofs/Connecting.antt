@@ -2,8 +2,7 @@
 use Rattle.std.proofs.Common.{◌≡◌, ℕ, true, None, Result, Ok, refl}
 use Rattle.vs_contents.specs.CallTree.{Done, bind}
 use Rattle.vs_ring_port.specs.Contents.{RingContents}
-use Rattle.vs_driver_parts.specs.declared.answers.ConnectError.{ConnectError}
-use Rattle.vs_driver_parts.specs.{State.DriverState, Connections.connect_refusal, Connections.connected}
+use Rattle.vs_driver_parts.specs.{declared.answers.ConnectError.ConnectError, State.DriverState, Connections.{connect_refusal, connected}}
 use Rattle.vs_driver_parts.specs.Conversations.{DriverTree, connect_of, connect_with_page, request_bytes, post_packet, reap_all, has_page}
 use Rattle.vs_driver.proofs.Rest.{IsLeft, left_as}
 

@@ -10,10 +10,9 @@ use Rattle.vs_flow.specs.Table.{entry_under}
 use Rattle.vs_replies.specs.declared.Reply.{Reply}
 use Rattle.vs_ring_port.specs.Contents.{RingContents}
 use Rattle.vs_driver_parts.specs.Conversations.{DriverTree, Round, after_paying, has_page, is_rst, one_put, pay_slot, put_owed, put_reply}
-use Rattle.vs_driver_parts.specs.Connections.{with_connection, paid_connection, route_to_host}
-use Rattle.vs_driver_parts.specs.Conversations.{put_reply_of, reply_header, round_of, stage_packet}
-use Rattle.vs_driver_parts.specs.Playing.{CanMake, MayPublishAll, Plays, RingAllows}
-use Rattle.vs_driver_parts.specs.{State.DriverEntry, State.DriverState, declared.tally.Tally.Tally}
+use Rattle.vs_driver_parts.specs.{Conversations.{put_reply_of, reply_header, round_of, stage_packet}, Connections.with_connection}
+use Rattle.vs_driver_parts.specs.{Connections.{paid_connection, route_to_host}, Playing.{CanMake, MayPublishAll, Plays, RingAllows}}
+use Rattle.vs_driver_parts.specs.{State.{DriverEntry, DriverState}, declared.tally.Tally.Tally}
 use Rattle.vs_driver.proofs.Rest.{left_as, may_next, then}
 use Rattle.vs_conn.specs.declared.end.Owed.TheVariants as owed
 

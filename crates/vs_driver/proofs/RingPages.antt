@@ -1,9 +1,7 @@
 -- What the steps on the ring's pages come to.
 use Rattle.std.proofs.Common.{◌≡◌, ℕ, List, refl, sym, ap, subst, ◌∙◌}
-use Rattle.vs_ring_port.specs.declared.queue.Queue.TheVariants.{Tx}
-use Rattle.vs_ring_port.specs.{Counts.Counts, Contents.RingContents, DriverCalls.Stage, DriverCalls.Publish}
-use Rattle.vs_driver_parts.specs.State.{DriverState}
-use Rattle.vs_driver_parts.specs.Conversations.{stage_of, post_packet, stage_packet, one_more_in_flight}
+use Rattle.vs_ring_port.specs.{declared.queue.Queue.TheVariants.Tx, Counts.Counts, Contents.RingContents, DriverCalls.{Stage, Publish}}
+use Rattle.vs_driver_parts.specs.{State.DriverState, Conversations.{stage_of, post_packet, stage_packet, one_more_in_flight}}
 use Rattle.vs_driver_parts.specs.Playing.{IsRingOf, MayPublishAll, Plays, RingAllows, SamePages}
 
 -- a page was staged and published

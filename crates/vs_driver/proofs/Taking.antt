@@ -5,9 +5,8 @@ use Rattle.vs_ring_port.specs.declared.queue.Queue.TheVariants.{Event, Rx}
 use Rattle.vs_ring_port.specs.{declared.queue.Queue.Queue, Contents.RingContents, DriverCalls.Reap, DriverCalls.DriverAllows}
 use Rattle.vs_limits.specs.declared.TheConstants.{DRIVER_REPLIES_FULL}
 use Rattle.vs_driver_parts.specs.Conversations.{Round, take_event, take_packet, packet_reaped, event_reaped, event_taken, staged_again}
-use Rattle.vs_driver_parts.specs.Conversations.{goes_on_with, stage_of, publish_of, published, with_state}
-use Rattle.vs_driver_parts.specs.Playing.{BringsFit, CanMake, MayPublishAll, Plays, RingAllows}
-use Rattle.vs_driver_parts.specs.{State.DriverState, Receiving.on_page}
+use Rattle.vs_driver_parts.specs.{Conversations.{goes_on_with, stage_of, publish_of, published, with_state}, Playing.{BringsFit, CanMake}}
+use Rattle.vs_driver_parts.specs.{Playing.{MayPublishAll, Plays, RingAllows}, State.DriverState, Receiving.on_page}
 
 reaps_event : (r : Round) → nat_lt DRIVER_REPLIES_FULL (length r.state.replies) ≡ false → take_event r ≡ Ask (Reap Event) (event_reaped r)
 reaps_event r few = rw (few, take_event) refl

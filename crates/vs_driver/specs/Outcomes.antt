@@ -3,10 +3,9 @@ use Rattle.std.specs.Prelude.{◌≡◌, ℕ, ◌==◌, ◌≤◌, Bool, true, f
 use Rattle.vs_contents.specs.CallTree.{Done, bind}
 use Rattle.vs_conn.specs.{End.CanSend, End.may_send_of, End.with_payload_sent, End.wanting_credit, declared.end.Stop.Stop}
 use Rattle.vs_flow.specs.Table.{entry_under}
-use Rattle.vs_driver_parts.specs.{declared.answers.ConnectError.ConnectError, declared.answers.Sent.Sent, State.DriverEntry}
-use Rattle.vs_driver_parts.specs.{State.DriverState, State.entry_known_as, Connections.connect_refusal, Connections.connected}
-use Rattle.vs_driver_parts.specs.{Connections.with_end, Conversations.DriverTree, Conversations.no_credit, Conversations.not_sent}
-use Rattle.vs_driver_parts.specs.Conversations.{reap_all, send_stopped, send_with_page}
+use Rattle.vs_driver_parts.specs.{declared.answers.ConnectError.ConnectError, declared.answers.Sent.Sent, State.{DriverEntry, DriverState}}
+use Rattle.vs_driver_parts.specs.{State.entry_known_as, Connections.{connect_refusal, connected, with_end}, Conversations.DriverTree}
+use Rattle.vs_driver_parts.specs.Conversations.{no_credit, not_sent, reap_all, send_stopped, send_with_page}
 use Rattle.vs_driver_parts.specs.declared.answers.ConnectError.TheVariants as refused
 use Rattle.vs_page.specs.declared.page.TheConstants.{PAYLOAD_MAX}
 use Rattle.vs_driver_parts.specs.declared.answers.Sent.TheVariants as sent

@@ -1,6 +1,5 @@
 -- What it takes that an end delivers a packet: an RW that fits its room.
-use Rattle.std.proofs.Common.{◌≡◌, ℕ, ◌≤◌, Bool, true, false, cond, Option, Some, None, refl, arith}
-use Rattle.std.proofs.lemmas.Bool.Decides.{nat_tests}
+use Rattle.std.proofs.{Common.{◌≡◌, ℕ, ◌≤◌, Bool, true, false, cond, Option, Some, None, refl, arith}, lemmas.Bool.Decides.nat_tests}
 use Rattle.vs_conn.specs.{declared.end.State.State, declared.end.Verdict.Verdict, declared.end.Why.Why, End.ConnectionEnd, End.verdict_of}
 use Rattle.vs_conn.specs.End.{state_verdict, op_verdict, payload_verdict, response_verdict, live_verdict, is_of, is_reset}
 use Rattle.vs_conn.specs.declared.end.Why.TheVariants.{BadKind}

@@ -1,7 +1,6 @@
 -- A connection by the id that the application knows it by.
-use Rattle.std.proofs.Common.{◌≡◌, ℕ, true, not, Option, Some, None, refl, sym, ap, ◌∙◌, arith}
+use Rattle.std.proofs.{Common.{◌≡◌, ℕ, true, not, Option, Some, None, refl, sym, ap, ◌∙◌, arith}, lemmas.Bool.Decides.nat_tests}
 use Rattle.std.specs.Option.{option_map}
-use Rattle.std.proofs.lemmas.Bool.Decides.{nat_tests}
 use Rattle.vs_flow.specs.Table.{IsTable, entry_under}
 use Rattle.vs_flow.proofs.Entries.{found_passes}
 use Rattle.vs_driver_parts.specs.State.{DriverEntry, DriverState, GoneConnection, is_known_as, entry_known_as, gone_known_as}

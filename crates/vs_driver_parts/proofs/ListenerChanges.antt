@@ -4,8 +4,7 @@ use Rattle.std.proofs.Common.{◌≡◌, ◌≢◌, ℕ, ◌==◌, true, false, 
 use Rattle.std.proofs.Common.{Option, Some, None, is_some, refl, sym, ap, ◌∙◌, arith}
 use Rattle.std.specs.{List.AllPairs, List.remove, List.position, Option.option_map_or}
 use Rattle.vs_limits.specs.declared.TheConstants.{WAITING}
-use Rattle.vs_driver_parts.specs.{State.Listener, Listening.listener_on, Listening.with_waiting, Listening.with_port, Listening.has_place}
-use Rattle.vs_driver_parts.specs.Connections.{without_listener}
+use Rattle.vs_driver_parts.specs.{State.Listener, Listening.{listener_on, with_waiting, with_port, has_place}, Connections.without_listener}
 use Rattle.vs_driver_parts.proofs.Lists.{IsFirst, NonePasses, fails_at, first_at, found_at, not_some, found_nowhere, passes_nowhere}
 use Rattle.vs_driver_parts.proofs.Lists.{passes_there, one_passes, changed_none, changed_one, kept_none, removed_one}
 

@@ -1,10 +1,9 @@
 -- The numbers of connections after each change of the slots.
 use Rattle.std.proofs.Common.{◌≡◌, ◌≢◌, ℕ, suc, take, drop, ◌+◌, ◌<◌, ◌≤◌, ◌==◌, Bool, true, false, not, List, [], ◌∷◌, ◌++◌, length}
-use Rattle.std.proofs.Common.{get_or, Option, Some, None, refl, sym, ap, ◌∙◌, arith}
-use Rattle.std.specs.{List.All, List.filter, List.remove, Option.option_map_or}
-use Rattle.std.proofs.lemmas.Bool.Decides.{nat_tests}
+use Rattle.std.proofs.{Common.{get_or, Option, Some, None, refl, sym, ap, ◌∙◌, arith}, lemmas.Bool.Decides.nat_tests}
 use Rattle.std.proofs.lemmas.List.Elements.{All-append, All-drop, All-map, All-push, All-take, All-filter, filter_passes}
 use Rattle.std.proofs.lemmas.List.{Kept.AllPairs-filter, Quantifiers.all_pairs_push, Quantifiers.all_pairs_remove}
+use Rattle.std.specs.{List.All, List.filter, List.remove, Option.option_map_or}
 use Rattle.vs_flow.specs.{Flow.is_assigned, Table.Table, Table.IsTable, Table.entry_under, Table.value_under, Table.with_value}
 use Rattle.vs_flow.specs.{Table.with_entry, Table.without, Table.next_entry, Table.revalued, declared.flow.Flow.Flow}
 use Rattle.vs_flow.proofs.{Entries.none_found, Tables.revalued-slot, Tables.revalued-flow}

@@ -1,7 +1,6 @@
 -- What the driver's calls do to its connections, apart from the ring.
 use Rattle.std.specs.Prelude.{ℕ, ◌+◌, ◌==◌, ◌||◌, not, min, nat_lt, nat_le, Bool, true, false, if◌then◌else◌, List, [], ◌∷◌, ◌++◌, length}
-use Rattle.std.specs.Prelude.{map, filter, take, drop, Option, Some, None, is_some}
-use Rattle.std.specs.Option.{option_map, option_map_or}
+use Rattle.std.specs.{Prelude.{map, filter, take, drop, Option, Some, None, is_some}, Option.{option_map, option_map_or}}
 use Rattle.vs_flow.specs.{Flow.host_flow, Flow.is_assigned, Table.with_entry, Table.with_value, Table.without, declared.flow.Flow.Flow}
 use Rattle.vs_header.specs.declared.{Header.Header, Kind.TheVariants.Stream}
 use Rattle.vs_limits.specs.declared.TheConstants.{BUF_ALLOC, LAST_PORT, LAST_ID, DRIVER_CONNECTIONS}

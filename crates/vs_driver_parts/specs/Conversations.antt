@@ -10,9 +10,8 @@ use Rattle.vs_flow.specs.Table.{entry_under, slots}
 use Rattle.vs_limits.specs.declared.TheConstants.{BUF_ALLOC, DRIVER_REPLIES_FULL, DRIVER_CONNECTIONS}
 use Rattle.vs_page.specs.declared.page.TheConstants.{PAYLOAD_MAX}
 use Rattle.vs_replies.specs.declared.Reply.{Reply}
-use Rattle.vs_ring_port.specs.{declared.queue.Queue.Queue, declared.queue.TheConstants.STAGED_MAX, DriverCalls.DriverCall}
-use Rattle.vs_ring_port.specs.DriverCalls.{DriverAnswer, Stage, Publish, Reap, LoadCid}
-use Rattle.vs_ring_port.specs.declared.queue.Queue.TheVariants.{Rx, Tx, Event}
+use Rattle.vs_ring_port.specs.{declared.queue.Queue.Queue, declared.queue.TheConstants.STAGED_MAX, DriverCalls.{DriverCall, DriverAnswer}}
+use Rattle.vs_ring_port.specs.{DriverCalls.{Stage, Publish, Reap, LoadCid}, declared.queue.Queue.TheVariants.{Rx, Tx, Event}}
 use Rattle.vs_driver_parts.specs.declared.{answers.ConnectError.ConnectError, answers.Polled.Polled, answers.Sent.Sent, tally.Tally.Tally}
 use Rattle.vs_driver_parts.specs.{Receiving.on_page, Receiving.is_reset_event, Receiving.after_reset, State.DriverState, State.DriverEntry}
 use Rattle.vs_driver_parts.specs.{State.entry_known_as, State.gone_known_as, Connections.with_end, Connections.with_connection}

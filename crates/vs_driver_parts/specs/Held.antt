@@ -4,8 +4,7 @@ use Rattle.vs_conn.specs.End.{ConnectionEnd, asked, answering, paid_of}
 use Rattle.vs_header.specs.{declared.Header.Header, declared.Kind.TheVariants.Stream}
 use Rattle.vs_limits.specs.declared.TheConstants.{BUF_ALLOC, DRIVER_CONNECTIONS}
 use Rattle.vs_flow.specs.{Flow.host_flow, Table.Table, Table.with_value, Table.with_entry, Table.without, declared.flow.Flow.Flow}
-use Rattle.vs_driver_parts.specs.State.{DriverConnection, DriverEntry, GoneConnection, is_known_as}
-use Rattle.vs_driver_parts.specs.Connections.{gone_as, is_let_go}
+use Rattle.vs_driver_parts.specs.{State.{DriverConnection, DriverEntry, GoneConnection, is_known_as}, Connections.{gone_as, is_let_go}}
 use Rattle.vs_conn.specs.declared.end.Owed.TheVariants as owed
 
 -- The numbers that the next connections get, and those given last; the table, and the connections that are gone.

@@ -1,6 +1,5 @@
 -- What always holds of the fields of the driver's slots. No public clause cites this module.
-use Rattle.std.specs.Prelude.{◌≡◌, ◌≢◌, ℕ, false, ◌+◌, ◌<◌, ◌≤◌, AllPairs, List, length, vec_capacity}
-use Rattle.std.specs.List.{All}
+use Rattle.std.specs.{Prelude.{◌≡◌, ◌≢◌, ℕ, false, ◌+◌, ◌<◌, ◌≤◌, AllPairs, List, length, vec_capacity}, List.All}
 use Rattle.vs_flow.specs.{Flow.is_assigned, Table.Table, Table.IsTable}
 use Rattle.vs_limits.specs.declared.TheConstants.{DRIVER_CONNECTIONS, LAST_ID, LAST_PORT}
 use Rattle.vs_driver_parts.specs.{declared.slots.Slots.TheInside.Inside, Room.IsSpare, State.DriverConnection, State.GoneConnection}

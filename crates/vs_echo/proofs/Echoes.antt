@@ -1,17 +1,14 @@
 -- A stream that echoes, after bytes of it were taken; and the ids of streams.
-use Rattle.std.proofs.Common.{◌≡◌, ◌≤◌, ℕ, zero, suc, ◌+◌, ◌-◌, if◌then◌else◌, Bool, true, false, List, [], ◌∷◌, ◌++◌, length, take, drop, set, ltb, None, Some, refl, sym, ap, ◌∙◌, arith}
+use Rattle.std.proofs.Common.{◌≡◌, ◌≤◌, ℕ, zero, suc, ◌+◌, ◌-◌, if◌then◌else◌, Bool, true, false, List, [], ◌∷◌, ◌++◌, length, take, drop}
+use Rattle.std.proofs.{Common.{set, ltb, None, Some, refl, sym, ap, ◌∙◌, arith}, lemmas.Bool.Decides.nat_tests, lemmas.List.length-drop}
+use Rattle.std.proofs.{lemmas.List.length-set, lemmas.List.Elements.{All-append, All-cons, All-nil}}
 use Rattle.std.specs.List.{All, position_or_len, range_with_len}
-use Rattle.std.proofs.lemmas.Bool.Decides.{nat_tests}
-use Rattle.std.proofs.lemmas.List.{length-drop, length-set}
-use Rattle.std.proofs.lemmas.List.Elements.{All-append, All-cons, All-nil}
 use Rattle.vs_flow.specs.declared.flow.Flow.{Flow}
 use Rattle.vs_outside.proofs.Bytes.{drop_more, take_more}
-use Rattle.vs_outside.specs.Faults.{counted_down}
-use Rattle.vs_outside.specs.Host.{accept_answer, after_start, called, start_answer}
+use Rattle.vs_outside.specs.{Faults.counted_down, Host.{accept_answer, after_start, called, start_answer, HostContents, Stream}}
+use Rattle.vs_outside.specs.{Host.{dialed_stream, is_waiting, oldest_client, take_bytes}, declared.host_net.Started.TheVariants.Ready}
+use Rattle.vs_outside.specs.{HostProgram.adds_dialed, declared.host_net.StreamState.TheVariants.{Closed, Open}}
 use Rattle.vs_outside.specs.declared.host_net.Accepted.TheVariants as accepted
-use Rattle.vs_outside.specs.declared.host_net.Started.TheVariants.{Ready}
-use Rattle.vs_outside.specs.{Host.HostContents, Host.Stream, Host.dialed_stream, Host.is_waiting, Host.oldest_client, Host.take_bytes, HostProgram.adds_dialed}
-use Rattle.vs_outside.specs.declared.host_net.StreamState.TheVariants.{Closed, Open}
 use Rattle.vs_echo.specs.{Echo.IsEcho, declared.echo_stream.TheConstants.ECHO_ROOM}
 
 -- the stream that was given these bytes, of which the first were taken again

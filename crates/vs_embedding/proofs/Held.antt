@@ -1,9 +1,8 @@
 -- The first chain of a list that is a given one, found by its place.
 use Rattle.std.proofs.Common.{inl, inr, refl, ◌≡◌, ℕ, zero, suc, ◌<◌, true, false, List, [], ◌∷◌, length, get_or, Some, Contains, sym, ap}
-use Rattle.std.proofs.Common.{◌∙◌, arith}
+use Rattle.std.proofs.{Common.{◌∙◌, arith}, lemmas.List.{Sums.fails_before_first, Quantifiers.position-Some}, lemmas.Bool.false≢true}
+use Rattle.std.proofs.lemmas.Bool.{cases_lt, lt-ltb}
 use Rattle.std.specs.{List.position, List.remove, List.position_or_len, Option.IsSome}
-use Rattle.std.proofs.lemmas.List.{Sums.fails_before_first, Quantifiers.position-Some}
-use Rattle.std.proofs.lemmas.Bool.{false≢true, cases_lt, lt-ltb}
 use Rattle.vs_ring_port.specs.{declared.device_ring.Chain.Chain, Chains.same_chain, Chains.same_queue, Chains.without}
 use Rattle.vs_ring_port.specs.declared.queue.Queue.{Queue, TheVariants.Rx, TheVariants.Tx, TheVariants.Event}
 

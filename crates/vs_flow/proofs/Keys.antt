@@ -1,13 +1,11 @@
 -- Slots whose keys lead to entries: what is found by a slot and by a place, and what insertions, removals and writes leave.
 use Rattle.std.proofs.lemmas.{Bool.Decides.nat_tests, List.Edits.length-remove, List.Elements.All-cons, List.Elements.All-map}
-use Rattle.std.proofs.lemmas.List.{Folds.map_fixed, append_assoc, Kept.AllPairs-cons, Sums.sum_by-set}
-use Rattle.std.proofs.{lemmas.Option.slice_get_within, lemmas.Option.slice_get_cases, lemmas.Option.slice_get_read, Math.ListN.get_or-append}
-use Rattle.std.proofs.Common.{◌≡◌, ◌≢◌, ℕ, zero, suc, ◌+◌, ◌<◌, ◌≤◌, Bool, false, not, cond, ◌==◌, List, [], ◌∷◌, ◌++◌, length, map}
-use Rattle.std.proofs.Common.{get_or, Option, Some, None, is_some, inl, inr, refl, ap, sym, subst, ◌∙◌, arith, length-append}
-use Rattle.std.proofs.Math.Seq.{get_or-append_seam}
-use Rattle.std.specs.List.{All, AllPairs, AllWithin, find, filter, position, position_or_len, remove, slice_get}
-use Rattle.std.specs.Map.{lookup}
-use Rattle.std.specs.Option.{option_and_then}
+use Rattle.std.proofs.{lemmas.List.{Folds.map_fixed, append_assoc, Kept.AllPairs-cons, Sums.sum_by-set}, lemmas.Option.slice_get_within}
+use Rattle.std.proofs.{lemmas.Option.{slice_get_cases, slice_get_read}, Math.ListN.get_or-append, Common.{◌≡◌, ◌≢◌, ℕ, zero, suc, ◌+◌, ◌<◌}}
+use Rattle.std.proofs.Common.{◌≤◌, Bool, false, not, cond, ◌==◌, List, [], ◌∷◌, ◌++◌, length, map, get_or, Option, Some, None, is_some, inl}
+use Rattle.std.proofs.{Common.{inr, refl, ap, sym, subst, ◌∙◌, arith, length-append}, Math.Seq.get_or-append_seam}
+use Rattle.std.specs.{List.{All, AllPairs, AllWithin, find, filter, position, position_or_len, remove, slice_get}, Map.lookup}
+use Rattle.std.specs.Option.option_and_then
 use Rattle.indexmap.specs.IndexMap.{insert_entry}
 use Rattle.indexmap.proofs.MapLemmas.{absent_from_lookup, insert_entry-absent}
 use Rattle.slab.specs.Slab.{ContainsKey, Slab, Updates, get, slab_len, with_value}

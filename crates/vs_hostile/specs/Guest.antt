@@ -5,8 +5,7 @@ use Rattle.vs_guest_mem.specs.Memory.{after_write, bytes_at, is_inside}
 use Rattle.vs_header.specs.Packet.{header_bytes}
 use Rattle.vs_layout.specs.{Entry.desc_bytes, Layout.avail_entry, Layout.avail_idx, Layout.desc_entry}
 use Rattle.vs_ring_plain.specs.Device.{DeviceState, areas_at, with_change, with_memory}
-use Rattle.vs_script.specs.Hostile.{Hostile, Write, WriteDesc, Give, Index, Packet, Before}
-use Rattle.vs_script.specs.Data.{bytes_of}
+use Rattle.vs_script.specs.{Hostile.{Hostile, Write, WriteDesc, Give, Index, Packet, Before}, Data.bytes_of}
 
 -- Bytes are written at an address. None is where one of them would lie outside the memory, which no script says.
 abbrev pub poked : ℕ → List ℕ → DeviceState → DeviceState

@@ -1,7 +1,6 @@
 -- 16 bytes come back from the descriptor that they hold.
 use Rattle.std.proofs.Common.{◌≡◌, ℕ, ◌+◌, ◌<◌, ◌≤◌, List, ◌++◌, length, take, drop, slice_index, refl, arith, length-drop, get_or-drop}
-use Rattle.std.proofs.Common.{◌∙◌}
-use Rattle.std.proofs.lemmas.List.{drop-drop, take-append-drop, take_all}
+use Rattle.std.proofs.{Common.◌∙◌, lemmas.List.{drop-drop, take-append-drop, take_all}}
 use Rattle.byteorder.specs.Endian.{little_bytes}
 use Rattle.vs_header.specs.Packet.{field_at}
 use Rattle.vs_header.proofs.RoundTrip.{little_bytes-little_number}

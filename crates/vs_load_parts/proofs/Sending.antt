@@ -1,12 +1,10 @@
 -- The bytes that were sent on a connection, entry by entry; and a part of bytes by a rule.
-use Rattle.std.proofs.Common.{◌≡◌, ℕ, zero, suc, ◌+◌, ◌-◌, ◌==◌, min, if◌then◌else◌, Bool, true, false, List, [], ◌∷◌, ◌++◌, map}
-use Rattle.std.proofs.Common.{take, drop, refl, sym, ap, ◌∙◌, arith, append_assoc, append-nil}
+use Rattle.std.proofs.Common.{◌≡◌, ℕ, zero, suc, ◌+◌, ◌-◌, ◌==◌, min, if◌then◌else◌, Bool, true, false, List, [], ◌∷◌, ◌++◌, map, take}
+use Rattle.std.proofs.{Common.{drop, refl, sym, ap, ◌∙◌, arith, append_assoc, append-nil}, lemmas.List.FromFn.map-range_with_len_more}
 use Rattle.std.specs.List.{range_with_len}
-use Rattle.std.proofs.lemmas.List.FromFn.{map-range_with_len_more}
 use Rattle.vs_script.specs.Data.{filled, filled_bytes}
 use Rattle.laws_driver_bytes.specs.{Calls.Journal, Calls.bytes_sent, Calls.names, Sent.took}
-use Rattle.vs_apps_parts.specs.{Journals.calls_of, Journals.data_at, Journals.gathered, Journals.made_by, Journals.made_of}
-use Rattle.vs_apps_parts.specs.{Journals.sent_as, Scripts.RunScript, Scripts.acts_of, Scripts.slice_of}
+use Rattle.vs_apps_parts.specs.{Journals.{calls_of, data_at, gathered, made_by, made_of, sent_as}, Scripts.{RunScript, acts_of, slice_of}}
 use Rattle.vs_apps_parts.specs.declared.journal.{Called.Called, Deed.Deed, Entry.Entry}
 use Rattle.vs_apps_parts.specs.declared.journal.Called.TheVariants as called
 use Rattle.vs_apps_parts.specs.declared.journal.Deed.TheVariants as deed

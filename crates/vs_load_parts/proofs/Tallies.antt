@@ -1,9 +1,7 @@
 -- How the counts of a load add up, and how matches do.
-use Rattle.std.proofs.Common.{◌≡◌, ◌≤◌, ◌<◌, ℕ, ◌+◌, ◌==◌, min, if◌then◌else◌, List, [], ◌∷◌, ◌++◌, length}
-use Rattle.std.proofs.Common.{drop, get_or, refl, sym, ap, ◌∙◌, arith}
+use Rattle.std.proofs.Common.{◌≡◌, ◌≤◌, ◌<◌, ℕ, ◌+◌, ◌==◌, min, if◌then◌else◌, List, [], ◌∷◌, ◌++◌, length, drop, get_or, refl, sym, ap}
+use Rattle.std.proofs.{Common.{◌∙◌, arith}, lemmas.List.{drop_more, flat_map_more, length-drop}, lemmas.List.Sums.fold-append}
 use Rattle.std.specs.List.{flat_map, fold}
-use Rattle.std.proofs.lemmas.List.{drop_more, flat_map_more, length-drop}
-use Rattle.std.proofs.lemmas.List.Sums.{fold-append}
 use Rattle.vs_run_report.specs.Load.{matches}
 
 -- One place more, and no place more.

@@ -1,6 +1,5 @@
 -- The line that a load prints, by the journal of its run.
-use Rattle.std.specs.Prelude.{ℕ, ◌+◌, ◌==◌, if◌then◌else◌, min, List, [], length}
-use Rattle.std.specs.List.{fold}
+use Rattle.std.specs.{Prelude.{ℕ, ◌+◌, ◌==◌, if◌then◌else◌, min, List, [], length}, List.fold}
 use Rattle.laws_driver_bytes.specs.Calls.{Journal, received_by}
 use Rattle.vs_apps_parts.specs.{Journals.calls_of, Journals.data_at, Journals.sent_as, Scripts.RunScript, Scripts.acts_of, Scripts.slice_of}
 use Rattle.vs_apps_parts.specs.declared.journal.{Called.Called, Entry.Entry}
@@ -8,8 +7,7 @@ use Rattle.vs_apps_parts.specs.declared.journal.Called.TheVariants as called
 use Rattle.vs_apps_parts.specs.declared.journal.Deed.TheVariants as deed
 use Rattle.vs_driver_parts.specs.declared.answers.Sent.{Sent}
 use Rattle.vs_driver_parts.specs.declared.answers.Sent.TheVariants as sent
-use Rattle.vs_run_report.specs.{Connections.capped, Connections.opened_all, Load.load_text, Load.matches}
-use Rattle.vs_run_report.specs.declared.connection.Opened.{Opened}
+use Rattle.vs_run_report.specs.{Connections.{capped, opened_all}, Load.{load_text, matches}, declared.connection.Opened.Opened}
 use Rattle.vs_load_parts.specs.declared.tally.Tally.{Tally}
 
 -- Nothing is counted yet; and what one connection adds: the bytes that were sent on it, and the places where the byte that came back is the one

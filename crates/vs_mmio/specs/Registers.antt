@@ -1,8 +1,7 @@
 -- The registers of the socket device as a plain machine (Virtio 1.2, sections 2.1, 2.2, 4.2.2 and 5.10.4): what each call of the
 -- device's monitor answers, and what it leaves.
 use Rattle.std.specs.Prelude.{◌≡◌, ℕ, ◌+◌, ◌-◌, ◌*◌, ◌/◌, ◌%◌, ◌^◌, ◌==◌, ◌&&◌, ◌||◌, not, nat_le, nat_lt, Bool, true, false, IsTrue, List}
-use Rattle.std.specs.Prelude.{[], ◌∷◌, Option, None, Some, bit_and, bit_or, if◌then◌else◌}
-use Rattle.std.specs.{Map.lookup, Option.unwrap_or}
+use Rattle.std.specs.{Prelude.{[], ◌∷◌, Option, None, Some, bit_and, bit_or, if◌then◌else◌}, Map.lookup, Option.unwrap_or}
 use Rattle.vs_mmio.specs.Queue.{may_be_ready, queue_after, with_half}
 use Rattle.vs_mmio.specs.declared.{queue.Limits.Limits, queue.QueueRegs.QueueRegs, queue.ReadyQueue.ReadyQueue, queue.Virtqueue.Virtqueue}
 use Rattle.vs_mmio.specs.declared.{regs.RegisterState.RegisterState, regs.Wrote.Wrote, status.Status.Status, queue.Virtqueue.TheVariants.Rx}

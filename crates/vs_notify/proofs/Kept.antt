@@ -1,9 +1,8 @@
 -- What every access keeps.
 use Rattle.std.proofs.Common.{◌≡◌, ℕ, ◌+◌, ◌^◌, ◌<◌, ◌≤◌, ◌⊎◌, true, false, List, [], ◌∷◌, arith}
-use Rattle.vs_notify.specs.{Words.needs_kick, Words.asks_for_next, Words.may_rest, Machine.Free, Machine.Index, Machine.Event}
-use Rattle.vs_notify.specs.Machine.{Publish, LoadWord, Take, StoreWord, Look, Wake, happens, run, start, owes, rests, word_of, may_publish}
-use Rattle.vs_notify.specs.{Machine.LosesNone, declared.Suppression.Suppression, declared.Suppression.TheVariants.Flags}
-use Rattle.vs_notify.specs.declared.Suppression.TheVariants.{EventIndex}
+use Rattle.vs_notify.specs.{Words.{needs_kick, asks_for_next, may_rest}, Machine.{Free, Index, Event, Publish, LoadWord, Take, StoreWord}}
+use Rattle.vs_notify.specs.Machine.{Look, Wake, happens, run, start, owes, rests, word_of, may_publish, LosesNone}
+use Rattle.vs_notify.specs.{declared.Suppression.Suppression, declared.Suppression.TheVariants.{Flags, EventIndex}}
 
 -- The counts lie as close together as their words tell.
 pub record AreNear (size : ℕ) (i : Index) : Type 0 where

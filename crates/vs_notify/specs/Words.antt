@@ -1,8 +1,7 @@
 -- What the words of a split virtqueue ask for (Virtio 1.2, sections 2.7.7 and 2.7.10). Words have 16 bits.
 use Rattle.std.specs.Prelude.{ℕ, ◌+◌, ◌-◌, ◌%◌, ◌^◌, ◌==◌, nat_lt, Bool, false, bit_and}
 use Rattle.vs_notify.specs.declared.{Consumer.Consumer, Suppression.Suppression, TheConstants.VIRTQ_USED_F_NO_NOTIFY}
-use Rattle.vs_notify.specs.declared.Consumer.TheVariants.{Working, Asked, Resting}
-use Rattle.vs_notify.specs.declared.Suppression.TheVariants.{Flags, EventIndex}
+use Rattle.vs_notify.specs.{declared.Consumer.TheVariants.{Working, Asked, Resting}, declared.Suppression.TheVariants.{Flags, EventIndex}}
 
 -- The standard's formula: (new - event - 1) mod 2^16 < (new - old) mod 2^16.
 abbrev pub vring_need_event : ℕ → ℕ → ℕ → Bool

@@ -3,8 +3,7 @@ use Rattle.std.proofs.{lemmas.Bool.Decides.nat_tests, lemmas.List.Quantifiers.po
 use Rattle.std.proofs.Common.{◌≡◌, ℕ, ◌+◌, ◌-◌, List, get_or, Option, Some, None, refl, sym, ap, subst, ◌∙◌, arith}
 use Rattle.std.specs.{Prelude.option_and_then, Prelude.position, Prelude.slice_get, Prelude.◌==◌, Option.option_map}
 use Rattle.vs_flow.specs.{Connection.Connection, declared.flow.Flow.Flow}
-use Rattle.vs_outside.specs.Host.{HostContents, Stream, stream_at}
-use Rattle.vs_outside.specs.HostBytes.{connection_at, labelled_with, numbered_in, stream_of}
+use Rattle.vs_outside.specs.{Host.{HostContents, Stream, stream_at}, HostBytes.{connection_at, labelled_with, numbered_in, stream_of}}
 
 -- A number says where the id stands.
 numbered : (ids : List ℕ) (id : ℕ) (f : Flow) (k : Connection) → numbered_in ids id f ≡ Some k →

@@ -1,9 +1,7 @@
 -- The streams of a host, by id: where they stand, and what a call does to one of them and to the others.
 use Rattle.std.proofs.Common.{◌≡◌, ℕ, zero, suc, ◌+◌, ◌-◌, ◌<◌, Bool, true, false, cond, eqb, List, [], ◌∷◌, ◌++◌, length, min, get_or, set}
-use Rattle.std.proofs.Common.{Option, None, Some, refl, sym, ap, ◌∙◌, arith}
-use Rattle.std.proofs.lemmas.List.Sums.{sum_by-set}
-use Rattle.std.proofs.lemmas.Option.{slice_get-get_or, slice_get_within, get_or_from_slice_get}
-use Rattle.std.proofs.lemmas.Bool.Decides.{nat_tests}
+use Rattle.std.proofs.{Common.{Option, None, Some, refl, sym, ap, ◌∙◌, arith}, lemmas.List.Sums.sum_by-set, lemmas.Option.slice_get-get_or}
+use Rattle.std.proofs.{lemmas.Option.{slice_get_within, get_or_from_slice_get}, lemmas.Bool.Decides.nat_tests}
 use Rattle.std.specs.{Prelude.slice_get, Prelude.IsSomeAnd, Option.is_none, Option.is_some}
 use Rattle.vs_outside.specs.{declared.host_net.StreamRead.StreamRead, declared.host_net.StreamWrite.StreamWrite, Host.Stream}
 use Rattle.vs_outside.specs.Host.{HostContents, stream_at, IsOpen, called, fails_now, ReadsFrom, IsRead, read_of, read_failed, after_read}

@@ -1,6 +1,5 @@
 -- Counts of failed calls, and lists of calls that are to fail.
-use Rattle.std.specs.Prelude.{◌≡◌, ℕ, ◌+◌, ◌-◌, ◌^◌, nat_lt, ◌==◌, Bool, true, false, if◌then◌else◌, List, map, filter}
-use Rattle.std.specs.List.{list_any}
+use Rattle.std.specs.{Prelude.{◌≡◌, ℕ, ◌+◌, ◌-◌, ◌^◌, nat_lt, ◌==◌, Bool, true, false, if◌then◌else◌, List, map, filter}, List.list_any}
 
 -- A count after one more. It stands still at the last number of 64 bits.
 abbrev pub one_more : ℕ → ℕ

@@ -1,7 +1,6 @@
 -- What the programs of a host wrote and read on a flow, without the two handshake lines of a client (Firecracker's vsock documentation).
 use Rattle.std.specs.Prelude.{ℕ, ◌+◌, ◌-◌, ◌==◌, Bool, false, if◌then◌else◌, List, [], filter, drop, position, slice_get, Option}
-use Rattle.std.specs.Prelude.{option_and_then}
-use Rattle.std.specs.Option.{option_map, option_map_or}
+use Rattle.std.specs.{Prelude.option_and_then, Option.{option_map, option_map_or}}
 use Rattle.vs_flow.specs.{declared.flow.Flow.Flow, Connection.Connection, Flow.same_flow}
 use Rattle.vs_outside.specs.{declared.mem_stream.TheConstants.LINE_END, Host.Stream, Host.HostContents, Host.stream_at}
 

@@ -1,8 +1,7 @@
 -- A packet that was put or got, as the end sees it that put it.
 use Rattle.std.specs.Prelude.{if◌then◌else◌, List, []}
 use Rattle.vs_flow.specs.declared.flow.Flow.{Flow}
-use Rattle.laws_history.specs.{declared.packet.Packet.Packet, History.Entry, History.Got, History.History, History.Put, History.Side}
-use Rattle.laws_history.specs.History.{gots, peer, puts}
+use Rattle.laws_history.specs.{declared.packet.Packet.Packet, History.{Entry, Got, History, Put, Side, gots, peer, puts}}
 use Rattle.vs_page.specs.Log.{Log, Role, asks, flow_got, flow_put, history_of, side_of}
 use Rattle.vs_page.specs.declared.log.LogEntry.{LogEntry, TheVariants.GotPacket, TheVariants.PutPacket}
 

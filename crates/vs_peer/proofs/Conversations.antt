@@ -1,16 +1,14 @@
 -- What a client carries that was answered, and how its conversation ends.
 use Rattle.std.proofs.Common.{◌≡◌, ◌≢◌, ◌≤◌, ◌<◌, ◌⊎◌, inl, inr, ℕ, true, false, Bool, ◌||◌, List, [], ◌++◌, length, take, Option, Some}
-use Rattle.std.proofs.Common.{Result, Ok, Err, refl, sym, ap, subst, ◌∙◌, arith}
+use Rattle.std.proofs.{Common.{Result, Ok, Err, refl, sym, ap, subst, ◌∙◌, arith}, lemmas.List.append-nil}
 use Rattle.std.specs.Prelude.{IsSomeAnd}
-use Rattle.std.proofs.lemmas.List.{append-nil}
 use Rattle.vs_contents.specs.Contents.{Relates}
 use Rattle.vs_outside.specs.Host.{Stream, HostContents, stream_at}
 use Rattle.vs_uds.specs.ConnectLine.{connect_text}
-use Rattle.vs_peer.specs.{Client.IsAnswered, Client.IsUnanswered, Client.IsUnopened, Client.Opens, Conversing.Carries, Conversing.Converses}
-use Rattle.vs_peer.specs.Conversing.{Failed, HasSent, IsDone, IsFailed, IsStuckNow, IsWaiting, Stuck, Unanswered, Unopened}
-use Rattle.vs_peer.specs.{Exchanging.Exchanges, Exchanging.IsStuck, Passing.IsClosed, Passing.Moves, Passing.ReadsAgain, Passing.ReadsEnd}
-use Rattle.vs_peer.specs.{Passing.WritesAgain, Pieces.Emits, Sending.IsSending, Sending.IsStill, Sending.is_shut, Text.port_text}
-use Rattle.vs_peer.specs.{Text.GivesPort, declared.send.Sending.Sending, declared.send.Side.Side, declared.stop.Stop.Stop}
+use Rattle.vs_peer.specs.{Client.{IsAnswered, IsUnanswered, IsUnopened, Opens}, Conversing.{Carries, Converses, Failed, HasSent, IsDone}}
+use Rattle.vs_peer.specs.{Conversing.{IsFailed, IsStuckNow, IsWaiting, Stuck, Unanswered, Unopened}, Exchanging.{Exchanges, IsStuck}}
+use Rattle.vs_peer.specs.{Passing.{IsClosed, Moves, ReadsAgain, ReadsEnd, WritesAgain}, Pieces.Emits, Sending.{IsSending, IsStill, is_shut}}
+use Rattle.vs_peer.specs.{Text.{port_text, GivesPort}, declared.send.Sending.Sending, declared.send.Side.Side, declared.stop.Stop.Stop}
 use Rattle.vs_peer.specs.declared.send.Side.TheVariants as side
 use Rattle.vs_peer.specs.declared.stop.Stop.TheVariants as stop
 use Rattle.vs_peer.proofs.{Clients.client_then, Clients.relates_both, Clients.relates_map, Clients.relates_now, Pieces.emits_append}

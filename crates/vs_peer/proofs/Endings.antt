@@ -1,9 +1,8 @@
 -- The last line, behind what was written before.
 use Rattle.std.proofs.Common.{◌≡◌, inl, inr, ℕ, true, List, ◌++◌, Option, Result, Err, refl, subst, ◌∙◌}
 use Rattle.vs_outside.specs.{Faults.CountsFault, Host.HostContents}
-use Rattle.vs_peer.specs.{Conversing.Converses, Ends.EndsAs, Ends.HostFails, Ends.Meets, Ends.Waits, Failing.host_failed}
-use Rattle.vs_peer.specs.{Failing.sink_failed, Pieces.Emits, Text.host_fault_text, Text.waited_text, Waiting.Paused, Waiting.pauses_of}
-use Rattle.vs_peer.specs.{declared.stop.Stop.Stop}
+use Rattle.vs_peer.specs.{Conversing.Converses, Ends.{EndsAs, HostFails, Meets, Waits}, Failing.{host_failed, sink_failed}, Pieces.Emits}
+use Rattle.vs_peer.specs.{Text.{host_fault_text, waited_text}, Waiting.{Paused, pauses_of}, declared.stop.Stop.Stop}
 use Rattle.vs_peer.specs.declared.stop.Stop.TheVariants as stop
 use Rattle.vs_peer.proofs.Pieces.{emits_append, emits_then_some}
 

@@ -4,10 +4,9 @@ use Rattle.std.proofs.Common.{subst, ◌∙◌, append-nil, arith}
 use Rattle.std.specs.{Prelude.IsSomeAnd}
 use Rattle.vs_contents.specs.Contents.{Relates}
 use Rattle.vs_outside.specs.{Host.Stream, Host.HostContents, Host.stream_at, Faults.CountsFault}
-use Rattle.vs_peer.specs.{Failing.sink_failed, Passing.Moves, Passing.Now, Passing.ReadsAgain, Passing.ReadsEnd, Passing.WritesAgain}
-use Rattle.vs_peer.specs.{Passing.SameStreams, Pieces.Emits, Receiving.Receives, Sending.IsSending, Sending.IsStill, Sending.GoesOn}
-use Rattle.vs_peer.specs.{Sending.Sends, Sending.between, Sending.is_shut, Sending.shuts, Exchanging.Exchanges, Exchanging.Exchanged}
-use Rattle.vs_peer.specs.Exchanging.{ExchangedCut, Leaves, Stepped, SteppedCut, Steps, comes_to, still}
+use Rattle.vs_peer.specs.{Failing.sink_failed, Passing.{Moves, Now, ReadsAgain, ReadsEnd, WritesAgain, SameStreams}, Pieces.Emits}
+use Rattle.vs_peer.specs.{Receiving.Receives, Sending.{IsSending, IsStill, GoesOn, Sends, between, is_shut, shuts}, Exchanging.Exchanges}
+use Rattle.vs_peer.specs.Exchanging.{Exchanged, ExchangedCut, Leaves, Stepped, SteppedCut, Steps, comes_to, still}
 use Rattle.vs_peer.specs.declared.{exchange.Progress.Progress, receive.Came.Came, send.Sending.Sending, send.Side.Side, stop.Stop.Stop}
 use Rattle.vs_peer.specs.declared.exchange.Progress.TheVariants as progress
 use Rattle.vs_peer.specs.declared.receive.Came.TheVariants as came

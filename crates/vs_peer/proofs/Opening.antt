@@ -1,17 +1,15 @@
 -- How a client is answered, or isn't.
-use Rattle.std.proofs.Common.{ℕ, false, List, [], ◌++◌, take, Option, Ok, Err, refl, inl, inr}
+use Rattle.std.proofs.{Common.{ℕ, false, List, [], ◌++◌, take, Option, Ok, Err, refl, inl, inr}, lemmas.List.append-nil}
 use Rattle.std.specs.Prelude.{IsSomeAnd}
 use Rattle.vs_contents.specs.Contents.{Relates}
 use Rattle.vs_outside.specs.Host.{Stream, HostContents, stream_at}
 use Rattle.vs_uds.specs.ConnectLine.{connect_text}
-use Rattle.vs_peer.specs.Asking.{Answers, AnswersBad, AnswersPort, AnswersSome, Asks, AsksSome}
-use Rattle.vs_peer.specs.Client.{Asked, Asking, Closed, Dials, Ended, HasClient, IsAnswered, IsAsked, IsAsking, IsRefused, IsUnanswered}
-use Rattle.vs_peer.specs.Client.{IsUnheard, IsUnopened, Misheard, Opens, Unasked, Undialed, Unheard, Untold}
-use Rattle.vs_peer.specs.Passing.{IsClosed, Moves, Now, ReadsAgain, ReadsEnd, WritesAgain, SameStreams}
-use Rattle.vs_peer.specs.declared.stop.Stop.{Stop}
+use Rattle.vs_peer.specs.{Asking.{Answers, AnswersBad, AnswersPort, AnswersSome, Asks, AsksSome}, Client.{Asked, Asking, Closed, Dials}}
+use Rattle.vs_peer.specs.Client.{Ended, HasClient, IsAnswered, IsAsked, IsAsking, IsRefused, IsUnanswered, IsUnheard, IsUnopened, Misheard}
+use Rattle.vs_peer.specs.{Client.{Opens, Unasked, Undialed, Unheard, Untold}, Passing.{IsClosed, Moves, Now, ReadsAgain, ReadsEnd}}
+use Rattle.vs_peer.specs.{Passing.{WritesAgain, SameStreams}, declared.stop.Stop.Stop}
 use Rattle.vs_peer.specs.declared.stop.Stop.TheVariants as stop
 use Rattle.vs_peer.proofs.Clients.{client_now, client_then, client_as, relates_both, relates_map, relates_now}
-use Rattle.std.proofs.lemmas.List.{append-nil}
 
 module _ (base : List ℕ) (port : ℕ) (host : Option HostContents) where
   -- the dial failed

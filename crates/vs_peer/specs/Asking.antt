@@ -3,8 +3,7 @@ use Rattle.std.specs.Prelude.{◌≡◌, ◌<◌, ◌⊎◌, ℕ, false, List, [
 use Rattle.vs_contents.specs.Contents.{Relates}
 use Rattle.vs_outside.specs.Host.{HostContents}
 use Rattle.vs_uds.specs.{OkLine.IsOkLine, OkLine.ok_step, declared.scan.Step.TheVariants.More, declared.scan.Step.TheVariants.Bad}
-use Rattle.vs_peer.specs.Passing.{Moves, Now, IsClosed, ReadsAgain, ReadsEnd, WritesAgain}
-use Rattle.vs_peer.specs.declared.stop.Stop.{Stop}
+use Rattle.vs_peer.specs.{Passing.{Moves, Now, IsClosed, ReadsAgain, ReadsEnd, WritesAgain}, declared.stop.Stop.Stop}
 use Rattle.vs_peer.specs.declared.stop.Stop.TheVariants as stop
 
 -- Less than the whole line was given.

@@ -1,6 +1,5 @@
 -- What each status of a client says.
-use Rattle.std.specs.Prelude.{◌≡◌, ◌<◌, ◌⊎◌, ◌-◌, ◌^◌, ◌==◌, ◌||◌, ℕ, Bool, true, List, ◌++◌, length, Option}
-use Rattle.std.specs.Option.{ForSome}
+use Rattle.std.specs.{Prelude.{◌≡◌, ◌<◌, ◌⊎◌, ◌-◌, ◌^◌, ◌==◌, ◌||◌, ℕ, Bool, true, List, ◌++◌, length, Option}, Option.ForSome}
 use Rattle.vs_contents.specs.Contents.{Relates}
 use Rattle.vs_outside.specs.Faults.{CountsFault}
 use Rattle.vs_peer.specs.{Client.IsRefused, Conversing.Carries, Conversing.IsDone, Conversing.IsFailed, Conversing.IsWaiting, Ends.Lent}

@@ -1,13 +1,11 @@
 -- What both ends count is what the lists say.
 use Rattle.std.proofs.Common.{◌≡◌, ℕ, ◌+◌, cond, List, [], ◌∷◌, length, length-append, map, refl, sym, ap₂, ◌∙◌, arith}
-use Rattle.vs_ring_port.specs.Chains.{Held, chains_of, held_of, same_queue}
-use Rattle.vs_ring_port.specs.declared.queue.Queue.TheVariants.{Rx, Tx, Event}
+use Rattle.vs_ring_port.specs.{Chains.{Held, chains_of, held_of, same_queue}, declared.queue.Queue.TheVariants.{Rx, Tx, Event}}
 use Rattle.vs_ring_port.specs.{Counts.Counts, EndLog.pages_at, Lists.queue_of, declared.device_ring.Chain.Chain, declared.queue.Queue.Queue}
 use Rattle.vs_ring_list.{specs.Ends.Ends, specs.Ends.in_flight, proofs.Flights.held_of-cons}
 use Rattle.vs_ring_plain.specs.Device.{HeldChain}
 use Rattle.vs_plain_driver.specs.Queue.{flight_in}
-use Rattle.laws_plain_rings.specs.Tie.{AreHeldAs, AreTied, heads_of, shown_of, start_of}
-use Rattle.laws_plain_rings.specs.{Parts.PartsState, Parts.driver_at, Shown.Shown}
+use Rattle.laws_plain_rings.specs.{Tie.{AreHeldAs, AreTied, heads_of, shown_of, start_of}, Parts.{PartsState, driver_at}, Shown.Shown}
 use Rattle.laws_plain_rings.proofs.{Rows.back_length, Rows.out_length, Held.heads_length}
 use Rattle.vs_plain_rings.specs.Counted.{AreCounted}
 

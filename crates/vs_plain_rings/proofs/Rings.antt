@@ -1,11 +1,10 @@
 -- Each call keeps standard rings tied to their memory, and is one that the ports allow.
 use Rattle.std.proofs.Common.{◌≡◌, ℕ, ◌+◌, ◌<◌, ◌≤◌, List, [], length, Option, None, Some, Contains, Bool, true, false, cond, refl, sym, ap}
 use Rattle.std.{proofs.Common.ap₂, proofs.Common.◌∙◌, proofs.Common.subst, specs.Option.ForSome}
-use Rattle.vs_ring_port.specs.DeviceCalls.{CanReturn, DeviceAllows, LeavesNoGap}
-use Rattle.vs_ring_port.specs.DriverCalls.{CanPublish, CanStage, DriverAllows, LoadCid, Publish, Reap, Stage}
-use Rattle.vs_ring_port.specs.Contents.{Given, PublishCid, Read, Return, Take, Write}
-use Rattle.vs_ring_port.specs.declared.queue.Queue.TheVariants.{Rx, Tx, Event}
-use Rattle.vs_ring_port.specs.declared.{device_ring.Chain.Chain, device_ring.Next.Next, queue.Queue.Queue}
+use Rattle.vs_ring_port.specs.{DeviceCalls.{CanReturn, DeviceAllows, LeavesNoGap}, DriverCalls.{CanPublish, CanStage, DriverAllows}}
+use Rattle.vs_ring_port.specs.{DriverCalls.{LoadCid, Publish, Reap, Stage}, Contents.{Given, PublishCid, Read, Return, Take, Write}}
+use Rattle.vs_ring_port.specs.{declared.queue.Queue.TheVariants.{Rx, Tx, Event}, declared.{device_ring.Chain.Chain, device_ring.Next.Next}}
+use Rattle.vs_ring_port.specs.declared.queue.Queue.Queue
 use Rattle.laws_ring_journal.specs.History.{ByDevice, ByDriver, History, RingCall, then}
 use Rattle.vs_ring_list.specs.Ends.{Ends, empty_ends}
 use Rattle.vs_ring_plain.specs.Device.{DeviceState, answer_to, chains_held}

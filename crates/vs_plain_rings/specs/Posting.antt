@@ -2,8 +2,7 @@
 use Rattle.std.specs.Prelude.{◌≡◌, ℕ, ◌+◌, ◌*◌, ◌^◌, ◌<◌, ◌≤◌, Bool, List, ◌∷◌, length, slice_index_or, Option, None, Some}
 use Rattle.vs_guest_mem.specs.Memory.{Memory}
 use Rattle.vs_header.specs.declared.TheConstants.{HEADER_LEN}
-use Rattle.vs_layout.specs.{Layout.AreInside, Layout.IsPlaced, Layout.avail_area, Layout.desc_area, Layout.used_area, Span.IsApart}
-use Rattle.vs_layout.specs.declared.place.Areas.{Areas}
+use Rattle.vs_layout.specs.{Layout.{AreInside, IsPlaced, avail_area, desc_area, used_area}, Span.IsApart, declared.place.Areas.Areas}
 use Rattle.vs_page.specs.declared.page.TheConstants.{PAGE_LEN}
 use Rattle.vs_ring_port.specs.{declared.queue.Queue.Queue, declared.queue.TheConstants.QUEUE_SIZE_MAX, declared.queue.Queue.TheVariants.Tx}
 use Rattle.vs_ring_plain.specs.{Accesses.over, Chain.Ring, Pieces.returning}

@@ -9,9 +9,8 @@ use Rattle.vs_flow.specs.{Flow.host_flow, declared.table.TableFault.TableFault}
 use Rattle.vs_device_parts.specs.Calls.{DeviceTree, Situation, Allows, Accept, ReadStream, CloseStream}
 use Rattle.vs_device_parts.specs.{Playing.CanMake, Playing.MayRun, Playing.Runs, State.DeviceState, Turns.open_of}
 use Rattle.vs_proxy_parts.specs.Handshakes.{accept_answered, accept_one, byte_read, dropping, handshake_on, line_decided, may_open}
-use Rattle.vs_proxy_parts.specs.Handshakes.{read_byte, with_line, without_handshake, without_stream}
-use Rattle.vs_proxy_parts.specs.Turning.{closing_client, connecting, opening_client, without_it}
-use Rattle.vs_proxy_parts.specs.State.{Handshake, Turning, with_device}
+use Rattle.vs_proxy_parts.specs.{Handshakes.{read_byte, with_line, without_handshake, without_stream}, Turning.{closing_client, connecting}}
+use Rattle.vs_proxy_parts.specs.{Turning.{opening_client, without_it}, State.{Handshake, Turning, with_device}}
 use Rattle.vs_limits.specs.declared.TheConstants.{HANDSHAKES}
 use Rattle.vs_outside.specs.declared.host_net.StreamRead.TheVariants as read
 use Rattle.vs_uds.specs.declared.scan.Step.TheVariants as step

@@ -4,8 +4,7 @@ use Rattle.std.proofs.Common.{◌≡◌, ℕ, [], refl, sym, ap}
 use Rattle.vs_contents.specs.CallTree.{Done, for_each}
 use Rattle.vs_contents.proofs.{Leads.leads_bind, Conditions.may_first, Conditions.may_rest}
 use Rattle.vs_ring_port.specs.declared.failure.Failure.{Failure}
-use Rattle.vs_device_parts.specs.{Calls.DeviceTree, Calls.Situation, Calls.Allows, Playing.CanMake, Playing.MayRun, Playing.Runs}
-use Rattle.vs_device_parts.specs.{State.DeviceState, Turns.reset_of}
+use Rattle.vs_device_parts.specs.{Calls.{DeviceTree, Situation, Allows}, Playing.{CanMake, MayRun, Runs}, State.DeviceState, Turns.reset_of}
 use Rattle.vs_proxy_parts.specs.{Handshakes.streams_of, State.ProxyState, State.with_device}
 use Rattle.vs_proxy_parts.specs.Turns.{close_handshake, proxy_reset_of, reset_with}
 

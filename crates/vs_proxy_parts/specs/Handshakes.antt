@@ -6,8 +6,7 @@ use Rattle.vs_flow.specs.{Flow.host_flow, Table.has_place}
 use Rattle.vs_limits.specs.declared.TheConstants.{ASSIGNED_LAST, HANDSHAKES}
 use Rattle.vs_outside.specs.{declared.host_net.Accepted.Accepted, declared.host_net.StreamRead.StreamRead}
 use Rattle.vs_uds.specs.{ConnectLine.connect_step, declared.connect.TheConstants.CONNECT_MAX, declared.scan.Step.Step}
-use Rattle.vs_device_parts.specs.{Connections.with_fault, Connections.is_late, Turns.open_of}
-use Rattle.vs_device_parts.specs.Calls.{DeviceTree, Accept, ReadStream, CloseStream}
+use Rattle.vs_device_parts.specs.{Connections.{with_fault, is_late}, Turns.open_of, Calls.{DeviceTree, Accept, ReadStream, CloseStream}}
 use Rattle.vs_proxy_parts.specs.State.{Handshake, ProxyState, Turning, with_device}
 use Rattle.vs_outside.specs.declared.host_net.Accepted.TheVariants as accepted
 use Rattle.vs_outside.specs.declared.host_net.StreamRead.TheVariants as read

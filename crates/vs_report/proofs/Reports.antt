@@ -1,7 +1,6 @@
 -- How the lines of a report add up.
 use Rattle.std.proofs.Common.{◌≡◌, ◌<◌, arith, ℕ, ◌+◌, List, [], ◌∷◌, ◌++◌, length, take, drop, get_or, Option, Result, Ok, Err, sym, ap}
-use Rattle.std.proofs.Common.{◌∙◌, Some, subst}
-use Rattle.std.proofs.lemmas.List.{take_more, length-take-le, take-append-drop}
+use Rattle.std.proofs.{Common.{◌∙◌, Some, subst}, lemmas.List.{take_more, length-take-le, take-append-drop}}
 use Rattle.vs_outside.specs.Host.{Stream}
 use Rattle.vs_report.specs.{Gives.GivesLines, Report.guest_open_text, Report.device_open_text, Report.counts_text, Report.stream_text}
 use Rattle.vs_report.specs.{Report.stream_texts, Report.report, declared.giving.GiveError.GiveError, declared.giving.Totals.Totals}

@@ -3,8 +3,7 @@ use Rattle.std.specs.Prelude.{ℕ, Bool, true, false, List, ◌++◌, codes, dec
 use Rattle.vs_outside.specs.{Host.HostContents, Host.with_stream, declared.mem_stream.HostWritten.HostWritten}
 use Rattle.vs_outside.specs.HostProgram.{after_fail, after_host_write, after_listen, after_unlisten, allowed, closed, ended, has_stream}
 use Rattle.vs_outside.specs.HostProgram.{host_write_answer}
-use Rattle.vs_script.specs.Outside.{Host, HostListen, HostUnlisten, HostWrite, HostAllow, HostEnd, HostClosed, HostFail}
-use Rattle.vs_script.specs.Data.{bytes_of}
+use Rattle.vs_script.specs.{Outside.{Host, HostListen, HostUnlisten, HostWrite, HostAllow, HostEnd, HostClosed, HostFail}, Data.bytes_of}
 use Rattle.vs_header.specs.declared.Kind.TheVariants as kind
 use Rattle.vs_outside.specs.declared.mem_stream.HostWritten.TheVariants as written
 

@@ -5,9 +5,8 @@ use Rattle.std.specs.Prelude.{sum_by, Result, Ok, Err, if◌then◌else◌, bit_
 use Rattle.byteorder.specs.Endian.{little_number}
 use Rattle.vs_guest_mem.specs.Memory.{is_within}
 use Rattle.vs_header.specs.declared.TheConstants.{HEADER_LEN}
-use Rattle.vs_layout.specs.{Entry.desc_of, Layout.avail_entry, Layout.avail_idx, Layout.desc_entry, declared.entry.Desc.Desc}
-use Rattle.vs_layout.specs.declared.entry.TheConstants.{DESC_LEN, INDIRECT, NEXT, WRITE}
-use Rattle.vs_layout.specs.declared.place.Areas.{Areas}
+use Rattle.vs_layout.specs.{Entry.desc_of, Layout.{avail_entry, avail_idx, desc_entry}, declared.entry.Desc.Desc}
+use Rattle.vs_layout.specs.{declared.entry.TheConstants.{DESC_LEN, INDIRECT, NEXT, WRITE}, declared.place.Areas.Areas}
 use Rattle.vs_ring_plain.specs.{declared.piece.Piece.Piece, Accesses.Accesses, Accesses.Done, Accesses.Read}
 use Rattle.vs_ring_port.specs.declared.failure.Failure.{Failure, TheVariants.AvailJump, TheVariants.HeadRange, TheVariants.Indirect}
 use Rattle.vs_ring_port.specs.declared.failure.Failure.TheVariants.{TxWritable, RxReadable, AddrRange, ChainLong, NextRange, TxShort}

@@ -3,8 +3,7 @@ use Rattle.std.specs.Prelude.{ℕ, Bool, true, false, List, [], ◌∷◌, Optio
 use Rattle.vs_ring_port.specs.declared.queue.Queue.{Queue, TheVariants.Rx, TheVariants.Tx, TheVariants.Event}
 use Rattle.vs_ring_port.specs.declared.{device_ring.Chain.Chain, failure.Failure.Failure}
 use Rattle.vs_ring_plain.specs.{Chain.Taken, Chain.NoChain, Chain.Failed, Chain.Chain as Found, Device.HeldChain, Device.chain_at}
-use Rattle.vs_ring_plain.specs.declared.holds.HeldPieces.{HeldPieces, TheVariants.One, TheVariants.Listed}
-use Rattle.vs_ring_plain.specs.declared.piece.Piece.{Piece}
+use Rattle.vs_ring_plain.specs.{declared.holds.HeldPieces.{HeldPieces, TheVariants.One, TheVariants.Listed}, declared.piece.Piece.Piece}
 
 -- For each queue a list of pieces, with room for so many.
 pub record PieceTable : Type 0 where

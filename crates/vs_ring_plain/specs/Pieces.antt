@@ -3,8 +3,7 @@
 use Rattle.std.specs.Prelude.{ℕ, ◌+◌, ◌-◌, ◌%◌, ◌^◌, ◌==◌, List, [], ◌∷◌, ◌++◌, take, drop, min, if◌then◌else◌}
 use Rattle.byteorder.specs.Endian.{little_bytes, little_number}
 use Rattle.vs_layout.specs.{Entry.used_elem_bytes, Layout.avail_idx, Layout.used_elem, Layout.used_idx}
-use Rattle.vs_ring_plain.specs.declared.piece.Piece.{Piece}
-use Rattle.vs_ring_plain.specs.{Accesses.Accesses, Accesses.Done, Accesses.Read, Accesses.Write, Chain.Ring, Chain.ahead}
+use Rattle.vs_ring_plain.specs.{declared.piece.Piece.Piece, Accesses.{Accesses, Done, Read, Write}, Chain.{Ring, ahead}}
 
 -- Where the len bytes from a place in a chain on lie in memory: piece by piece, without empty ones.
 abbrev pub spans : List Piece → ℕ → ℕ → List Piece

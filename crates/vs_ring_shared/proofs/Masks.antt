@@ -1,6 +1,5 @@
 -- A number by which 2 ^ 16 can be divided is a power of two, and what is left of another divided by it is its low bits.
-use Rattle.std.proofs.Common.{◌≡◌, ℕ, zero, suc, ◌+◌, ◌-◌, ◌*◌, ◌/◌, ◌%◌, ◌^◌, ◌<◌, refl, sym, ap, ◌∙◌, subst, arith}
-use Rattle.std.proofs.lemmas.Nat.{and_mask}
+use Rattle.std.proofs.{Common.{◌≡◌, ℕ, zero, suc, ◌+◌, ◌-◌, ◌*◌, ◌/◌, ◌%◌, ◌^◌, ◌<◌, refl, sym, ap, ◌∙◌, subst, arith}, lemmas.Nat.and_mask}
 use lib.Bits.{bit_and}
 
 abbrev IsPower : ℕ → Type 0

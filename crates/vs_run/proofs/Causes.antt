@@ -15,11 +15,12 @@ use Rattle.vs_script.specs.{Text.words_of, declared.fault.Why.Why, declared.faul
 use Rattle.vs_script.specs.declared.{fault.Why.TheVariants.TooLong, script.Command.Command}
 use Rattle.vs_script.specs.declared.fault.ParseFault.TheVariants as fault
 use Rattle.vs_script.specs.declared.script.Command.TheVariants as script_of
+use Rattle.vs_apps_parts.specs.Scripts.{RunScript}
 use Rattle.vs_words.specs.Command as words
 use Rattle.vs_words.specs.declared.command.Rings.{Rings}
-use Rattle.vs_run.specs.Ends.{EndsAnswer, EndsParsed, EndsRefused, EndsScript, NoMemory, Read, SourceFails, refusal_text, usage_text}
-use Rattle.vs_run.specs.Does.{Does, IsNoScript}
-use Rattle.vs_run.proofs.Endings.{HasLine, gave_none, has_line_behind, one_line}
+use Rattle.vs_run.specs.Ends.{EndsAnswer, EndsAnswering, EndsParsed, EndsRefused, EndsScript, EndsWith, NoMemory, Read, SourceFails, refusal_text, usage_text}
+use Rattle.vs_run.specs.{Does.Does, Does.IsNoScript, Does.KeepsHost, Runs.EndsOver, Runs.EndsRun}
+use Rattle.vs_run.proofs.{Endings.HasLine, Endings.gave_none, Endings.has_line_behind, Endings.not_two, Endings.one_line, Ran.load_two, Ran.run_two}
 
 -- a fault shows in a count that can rise
 fault_shows : (old new : ℕ) → CountsFault true old new → old < 2 ^ 64 - 1 → new ≡ old → ⊥
@@ -36,52 +37,58 @@ same_script c left bytes (inr h) =
     let left_long : nat_le (length left) 1048576 ≡ false = grind (arith, nat_tests, h.0, ap length h.1, length-take (length bytes) left) in
     too_long c bytes long ∙ sym (too_long c left left_long)
 
-module _ (c : Command) (lines : Result Saying Refused → List (List ℕ)) (own : Result Saying Refused → ℕ) (text : List ℕ) (read read' : ℕ)
+module _ (c : Command) (Unread : Type 0) (Parsed : Result Saying Refused → Type 0) (text : List ℕ) (read read' : ℕ)
     (out out' : Option (List ℕ)) (f g r : ℕ) where
   -- of a source that exposed its text, and of which no call failed
-  told : (source : Option (List ℕ)) → source ≡ Some text → EndsScript c lines own source read read' out out' f g r → read < 2 ^ 64 - 1 → read' ≡ read
-      → EndsParsed lines own out out' f g (parse_of c text) r ⊎ EndsAs out out' f g no_memory_text 9 r
+  pub told : (source : Option (List ℕ)) → source ≡ Some text → EndsScript c Unread Parsed source read read' out out' f g r → read < 2 ^ 64 - 1
+      → read' ≡ read → Parsed (parse_of c text) ⊎ (Unread × EndsAs out out' f g no_memory_text 9 r)
   told source is (Read bytes reads kept h) few same =
-      inl (subst (λ p. EndsParsed lines own out out' f g p r) (same_script c text bytes (subst (λ (s : Option (List ℕ)). ReadsAll s bytes) is reads)) h)
-  told source is (SourceFails counts h) few same = absurd (fault_shows read read' counts few same)
-  told source is (NoMemory kept h) few same = inr h
+      inl (subst Parsed (same_script c text bytes (subst (λ (s : Option (List ℕ)). ReadsAll s bytes) is reads)) h)
+  told source is (SourceFails unread counts h) few same = absurd (fault_shows read read' counts few same)
+  told source is (NoMemory unread kept h) few same = inr (unread, h)
 
+  -- it is refused, where the status is 2
+  pub refused_at_2 : (source : Option (List ℕ)) → source ≡ Some text
+      → ((p : Result Saying Refused) → Parsed p → r ≡ 2 → (e : Refused) × (p ≡ Err e))
+      → EndsScript c Unread Parsed source read read' out out' f g r → r ≡ 2 → (e : Refused) × (parse_of c text ≡ Err e)
+  refused_at_2 source is parsed (Read bytes reads kept h) two =
+      let e = parsed (parse_of c bytes) h two in
+      (e.0, sym (same_script c text bytes (subst (λ (s : Option (List ℕ)). ReadsAll s bytes) is reads)) ∙ e.1)
+  refused_at_2 source is parsed (SourceFails unread counts h) two = absurd (omega (arith, not_two out out' f g _ 3 r h two))
+  refused_at_2 source is parsed (NoMemory unread kept h) two = absurd (omega (arith, not_two out out' f g _ 9 r h two))
+
+module _ (c : Command) (lines : Result Saying Refused → List (List ℕ)) (own : Result Saying Refused → ℕ) (text : List ℕ) (read read' : ℕ)
+    (out out' : Option (List ℕ)) (f g r : ℕ) where
   -- its answer is written
-  parsed_answer : (p : Result Saying Refused) → ((e : Refused) → (lines (Err e) ≡ refusal_text e ∷ []) × (own (Err e) ≡ 2)) → EndsParsed lines own out out' f g p r
+  parsed_answer : (p : Result Saying Refused) → ((e : Refused) → (lines (Err e) ≡ refusal_text e ∷ []) × (own (Err e) ≡ 2)) → EndsParsed lines own out out' f g r p
       → EndsAnswer out out' f g (lines p) (own p) r
   parsed_answer (Ok saying) refusals h = h
   parsed_answer (Err e) refusals h = rw ((refusals e).0, (refusals e).1) (one_line out out' f g (refusal_text e) 2 r h)
 
   pub answered : (source : Option (List ℕ)) → source ≡ Some text → ((e : Refused) → (lines (Err e) ≡ refusal_text e ∷ []) × (own (Err e) ≡ 2))
-      → HasLine (lines (parse_of c text)) → EndsScript c lines own source read read' out out' f g r → read < 2 ^ 64 - 1 → read' ≡ read
+      → HasLine (lines (parse_of c text)) → EndsAnswering c lines own source read read' out out' f g r → read < 2 ^ 64 - 1 → read' ≡ read
       → EndsAnswer out out' f g (lines (parse_of c text)) (own (parse_of c text)) r
-  answered source is refusals some ends few same = go (told source is ends few same)
+  answered source is refusals some ends few same =
+      go (told c (Unit {0}) (EndsParsed lines own out out' f g r) text read read' out out' f g r source is ends few same)
     where
-      go : EndsParsed lines own out out' f g (parse_of c text) r ⊎ EndsAs out out' f g no_memory_text 9 r
+      go : EndsParsed lines own out out' f g r (parse_of c text) ⊎ (Unit {0} × EndsAs out out' f g no_memory_text 9 r)
           → EndsAnswer out out' f g (lines (parse_of c text)) (own (parse_of c text)) r
       go (inl h) = parsed_answer (parse_of c text) refusals h
-      go (inr h) = gave_none out out' f g (lines (parse_of c text)) (own (parse_of c text)) r some h
-
-  -- it is refused, where the status is 2
-  as_two : (line : List ℕ) (status : ℕ) → EndsAs out out' f g line status r → r ≡ 2 → status ≡ 2
-  as_two line status (inl h) two = sym h.0 ∙ two
-  as_two line status (inr h) two = absurd (omega (arith, h.0, two))
+      go (inr h) = gave_none out out' f g (lines (parse_of c text)) (own (parse_of c text)) r some h.1
 
   answer_two : (all : List (List ℕ)) (status : ℕ) → EndsAnswer out out' f g all status r → r ≡ 2 → status ≡ 2
-  answer_two all status (written, s, inl w, h) two = sym w.1 ∙ as_two written s h two
-  answer_two all status (written, s, inr w, h) two = absurd (omega (arith, w.5, as_two written s h two))
+  answer_two all status (written, s, inl w, h) two = sym w.1 ∙ not_two out out' f g written s r h two
+  answer_two all status (written, s, inr w, h) two = absurd (omega (arith, w.5, not_two out out' f g written s r h two))
 
-  parsed_two : (p : Result Saying Refused) → ((s : Saying) → own (Ok s) ≡ 2 → ⊥) → EndsParsed lines own out out' f g p r → r ≡ 2 → (e : Refused) × (p ≡ Err e)
-  parsed_two (Ok saying) never h two = absurd (never saying (answer_two (lines (Ok saying)) (own (Ok saying)) h two))
-  parsed_two (Err e) never h two = (e, refl)
+  parsed_two : ((s : Saying) → own (Ok s) ≡ 2 → ⊥) → (p : Result Saying Refused) → EndsParsed lines own out out' f g r p → r ≡ 2 → (e : Refused) × (p ≡ Err e)
+  parsed_two never (Ok saying) h two = absurd (never saying (answer_two (lines (Ok saying)) (own (Ok saying)) h two))
+  parsed_two never (Err e) h two = (e, refl)
 
-  pub refused_at_2 : (source : Option (List ℕ)) → source ≡ Some text → ((s : Saying) → own (Ok s) ≡ 2 → ⊥) → EndsScript c lines own source read read' out out' f g r
-      → r ≡ 2 → (e : Refused) × (parse_of c text ≡ Err e)
-  refused_at_2 source is never (Read bytes reads kept h) two =
-      let e = parsed_two (parse_of c bytes) never h two in
-      (e.0, sym (same_script c text bytes (subst (λ (s : Option (List ℕ)). ReadsAll s bytes) is reads)) ∙ e.1)
-  refused_at_2 source is never (SourceFails counts h) two = absurd (omega (arith, as_two _ 3 h two))
-  refused_at_2 source is never (NoMemory kept h) two = absurd (omega (arith, as_two _ 9 h two))
+  -- it is refused, where the status is 2
+  pub answer_refused : (source : Option (List ℕ)) → source ≡ Some text → ((s : Saying) → own (Ok s) ≡ 2 → ⊥)
+      → EndsAnswering c lines own source read read' out out' f g r → r ≡ 2 → (e : Refused) × (parse_of c text ≡ Err e)
+  answer_refused source is never ends two =
+      refused_at_2 c (Unit {0}) (EndsParsed lines own out out' f g r) text read read' out out' f g r source is (parsed_two never) ends two
 
 -- the refusals of each command's answers, and the statuses of what is no refusal
 pub play_refusals : (queue : ℕ) (e : Refused) → ((play_answer queue (Err e)).lines ≡ refusal_text e ∷ []) × ((play_answer queue (Err e)).status ≡ 2)
@@ -165,11 +172,6 @@ hostile_never (Plays lines) e = absurd (omega (arith, e))
 hostile_never (Runs apps) e = absurd (omega (arith, e))
 hostile_never (Attacks lines) e = no_two _ e
 
--- a status that isn't a line's own
-not_two : (out out' : Option (List ℕ)) (f g : ℕ) (line : List ℕ) (status r : ℕ) → EndsAs out out' f g line status r → r ≡ 2 → status ≡ 2
-not_two out out' f g line status r (inl h) two = sym h.0 ∙ two
-not_two out out' f g line status r (inr h) two = absurd (omega (arith, h.0, two))
-
 says_two : (base : List ℕ) (port idle : ℕ) (old new : Lent) (r : ℕ) (text : List ℕ) → Says base port idle old new r → r ≡ 2 → old.source ≡ Some text
     → SOURCE_MAX < length text
 says_two base port idle old new r text (statuses.Done e h) two is = absurd (omega (arith, e, two))
@@ -181,6 +183,11 @@ says_two base port idle old new r text (statuses.HostFault e h) two is = absurd 
 says_two base port idle old new r text (statuses.Refused e h) two is = absurd (omega (arith, e, two))
 says_two base port idle old new r text (statuses.NoMemory e h) two is = absurd (omega (arith, e, two))
 
+-- what holds of the script of a run
+abbrev pub ran_in : ℕ → Lent → Lent → ℕ → Result Saying Refused → Type 0
+ran_in idle old new r =
+    EndsRun idle old.host new.host old.host_faults new.host_faults old.out new.out old.sink_faults new.sink_faults r
+
 pub no_script_at_2 : (command : Option words.Command) (old new : Lent) (r : ℕ) (text : List ℕ) → Does command old new r → r ≡ 2 → old.source ≡ Some text
     → IsNoScript command text
 no_script_at_2 None old new r text (inl h, source, host) two is =
@@ -188,11 +195,17 @@ no_script_at_2 None old new r text (inl h, source, host) two is =
 no_script_at_2 None old new r text (inr h, source, host) two is =
     absurd (omega (arith, not_two old.out new.out old.sink_faults new.sink_faults no_memory_text 9 r h two))
 no_script_at_2 (Some (words.Play kind queue)) old new r text h two is =
-    refused_at_2 script_of.Play (λ said. (play_answer queue said).lines) (λ said. (play_answer queue said).status) text old.source_faults new.source_faults
+    answer_refused script_of.Play (λ said. (play_answer queue said).lines) (λ said. (play_answer queue said).status) text old.source_faults new.source_faults
     old.out new.out old.sink_faults new.sink_faults r old.source is (play_never queue) h.0 two
+no_script_at_2 (Some (words.Run base queue idle)) old new r text h two is =
+    refused_at_2 script_of.Run (KeepsHost old new) (ran_in idle old new r) text old.source_faults new.source_faults old.out new.out
+    old.sink_faults new.sink_faults r old.source is
+    (run_two old.out new.out old.sink_faults new.sink_faults r idle old.host new.host old.host_faults new.host_faults) h two
 no_script_at_2 (Some words.Hostile) old new r text h two is =
-    refused_at_2 script_of.Hostile (λ said. (hostile_answer said).lines) (λ said. (hostile_answer said).status) text old.source_faults new.source_faults
+    answer_refused script_of.Hostile (λ said. (hostile_answer said).lines) (λ said. (hostile_answer said).status) text old.source_faults new.source_faults
     old.out new.out old.sink_faults new.sink_faults r old.source is hostile_never h.0 two
+no_script_at_2 (Some (words.Load number conns bytes queue)) old new r text h two is =
+    absurd (load_two old.out new.out old.sink_faults new.sink_faults r number conns bytes h.0 two)
 no_script_at_2 (Some (words.Peer base port idle)) old new r text h two is = says_two base port idle old new r text h.0 two is
 
 pub play_written : (command : Option words.Command) (old new : Lent) (r : ℕ) (kind : Rings) (queue : ℕ) (text : List ℕ) → command ≡ Some (words.Play kind queue)
@@ -211,13 +224,50 @@ attack_written command old new r text is h few same told =
     old.out new.out old.sink_faults new.sink_faults r old.source told hostile_refusals
     (attack_some (parse_of script_of.Hostile text) (is_attack text)) (subst (λ k. Does k old new r) is h).0 few same
 
+module _ (command : Option words.Command) (old new : Lent) (r : ℕ) (base : List ℕ) (queue idle : ℕ) (text : List ℕ)
+    (is : command ≡ Some (words.Run base queue idle)) (does : Does command old new r) (few : old.source_faults < 2 ^ 64 - 1)
+    (same : new.source_faults ≡ old.source_faults) (source : old.source ≡ Some text) where
+  told_run : ran_in idle old new r (parse_of script_of.Run text)
+      ⊎ (KeepsHost old new × EndsAs old.out new.out old.sink_faults new.sink_faults no_memory_text 9 r)
+  told_run =
+      told script_of.Run (KeepsHost old new) (ran_in idle old new r) text old.source_faults new.source_faults old.out new.out old.sink_faults
+      new.sink_faults r old.source source (subst (λ k. Does k old new r) is does) few same
+
+  pub run_written : (apps : RunScript) → parse_of script_of.Run text ≡ Ok (Runs apps)
+      → EndsOver idle apps new.host old.host_faults new.host_faults old.out new.out old.sink_faults new.sink_faults r
+  run_written apps parsed = go told_run
+    where
+      go : ran_in idle old new r (parse_of script_of.Run text)
+          ⊎ (KeepsHost old new × EndsAs old.out new.out old.sink_faults new.sink_faults no_memory_text 9 r)
+          → EndsOver idle apps new.host old.host_faults new.host_faults old.out new.out old.sink_faults new.sink_faults r
+      go (inl h) = subst (ran_in idle old new r) parsed h
+      go (inr h) = inr (inl h.1)
+
+  pub run_refused : (e : Refused) → parse_of script_of.Run text ≡ Err e
+      → EndsWith old.out new.out old.sink_faults new.sink_faults (refusal_text e) 2 r × KeepsHost old new
+  run_refused e parsed = go told_run
+    where
+      go : ran_in idle old new r (parse_of script_of.Run text)
+          ⊎ (KeepsHost old new × EndsAs old.out new.out old.sink_faults new.sink_faults no_memory_text 9 r)
+          → EndsWith old.out new.out old.sink_faults new.sink_faults (refusal_text e) 2 r × KeepsHost old new
+      go (inl h) = subst (ran_in idle old new r) parsed h
+      go (inr h) = (inr h.1, h.0)
+
 -- a script that wasn't read
-pub unparsed : (c : Command) (lines : Result Saying Refused → List (List ℕ)) (own : Result Saying Refused → ℕ) (text : List ℕ)
+pub unparsed : (c : Command) (Parsed : Result Saying Refused → Type 0) (text : List ℕ) (out out' : Option (List ℕ)) (f g r : ℕ) (e : ParseFault)
+    → ((x : Refused) → EndsWith out out' f g (refusal_text x) 2 r → Parsed (Err x))
+    → (EndsAs out out' f g no_memory_text 9 r → Parsed (parse_of c text)) → IsRefused c text e → EndsRefused out out' f g e r
+    → Parsed (parse_of c text)
+unparsed c Parsed text out out' f g r (fault.Refused x) refused starved is h = subst Parsed (sym is) (refused x h)
+unparsed c Parsed text out out' f g r fault.OutOfMemory refused starved is h = starved h
+
+-- of an answer, which has a line
+pub no_answer : (c : Command) (lines : Result Saying Refused → List (List ℕ)) (own : Result Saying Refused → ℕ) (text : List ℕ)
     (out out' : Option (List ℕ)) (f g r : ℕ) (e : ParseFault) → HasLine (lines (parse_of c text)) → IsRefused c text e
-    → EndsRefused out out' f g e r → EndsParsed lines own out out' f g (parse_of c text) r
-unparsed c lines own text out out' f g r (fault.Refused x) some is h = subst (λ p. EndsParsed lines own out out' f g p r) (sym is) h
-unparsed c lines own text out out' f g r fault.OutOfMemory some is h = go (parse_of c text) some
+    → EndsRefused out out' f g e r → EndsParsed lines own out out' f g r (parse_of c text)
+no_answer c lines own text out out' f g r e some is h =
+    unparsed c (EndsParsed lines own out out' f g r) text out out' f g r e (λ x w. w) (go (parse_of c text) some) is h
   where
-    go : (p : Result Saying Refused) → HasLine (lines p) → EndsParsed lines own out out' f g p r
-    go (Ok said) line = gave_none out out' f g (lines (Ok said)) (own (Ok said)) r line h
-    go (Err x) line = inr h
+    go : (p : Result Saying Refused) → HasLine (lines p) → EndsAs out out' f g no_memory_text 9 r → EndsParsed lines own out out' f g r p
+    go (Ok said) line w = gave_none out out' f g (lines (Ok said)) (own (Ok said)) r line w
+    go (Err x) line w = inr w

@@ -1,5 +1,5 @@
 -- From how lines were given to how a command ends.
-use Rattle.std.proofs.Common.{◌≡◌, inl, inr, ◌∙◌, ℕ, true, List, [], ◌∷◌, ◌++◌, Option, Some, None, Ok, Err, refl, sym, subst, append-nil}
+use Rattle.std.proofs.Common.{◌≡◌, inl, inr, ◌∙◌, arith, ℕ, true, List, [], ◌∷◌, ◌++◌, Option, Some, None, Ok, Err, refl, sym, subst, append-nil}
 use Rattle.vs_outside.specs.Faults.{CountsFault}
 use Rattle.vs_peer.specs.{Ends.EndsAs, Pieces.Emits, Text.no_memory_text}
 use Rattle.vs_peer.proofs.Pieces.{emits_none, emits_append}
@@ -58,3 +58,8 @@ gave_nothing old f = ([], 0, inl (refl, refl), inl (refl, emits_none old, refl))
 pub one_line : (old new : Option (List ℕ)) (f g : ℕ) (line : List ℕ) (own r : ℕ) → EndsWith old new f g line own r → EndsAnswer old new f g (line ∷ []) own r
 one_line old new f g line own r (inl h) = (line, own, inl (sym (append-nil line), refl), h)
 one_line old new f g line own r (inr h) = (no_memory_text, 9, inr ([], line, [], refl, refl, refl), h)
+
+-- a status that isn't a line's own
+pub not_two : (out out' : Option (List ℕ)) (f g : ℕ) (line : List ℕ) (status r : ℕ) → EndsAs out out' f g line status r → r ≡ 2 → status ≡ 2
+not_two out out' f g line status r (inl h) two = sym h.0 ∙ two
+not_two out out' f g line status r (inr h) two = absurd (omega (arith, h.0, two))

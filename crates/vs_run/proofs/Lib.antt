@@ -1,3 +1,4 @@
 pub mod Endings
 pub mod Causes
 pub mod Statuses
+pub mod Ran

@@ -1,17 +1,18 @@
 -- From what a command did to the cause of its status.
-use Rattle.std.proofs.Common.{◌≡◌, inl, inr, ◌∙◌, ℕ, zero, suc, true, nat_le, List, Option, Some, None, Result, Ok, Err, refl, sym, subst}
+use Rattle.std.proofs.Common.{◌≡◌, ◌⊎◌, [], inl, inr, ◌∙◌, ℕ, zero, suc, true, nat_le, List, Option, Some, None, Result, Ok, Err, refl, sym, subst}
 use Rattle.vs_hostile.specs.Answer.{answer_to as hostile_answer, status_of}
 use Rattle.vs_outside.specs.Faults.{CountsFault}
-use Rattle.vs_peer.specs.{Ends.EndsAs, Ends.Lent, Statuses.Says, Text.no_memory_text, Text.read_fault_text}
+use Rattle.vs_peer.specs.{Ends.{EndsAs, Lent}, Statuses.Says, Text.{host_fault_text, no_memory_text, read_fault_text}}
 use Rattle.vs_peer.specs.Statuses as statuses
 use Rattle.vs_play.specs.Answer.{answer_to as play_answer}
 use Rattle.vs_ring_port.specs.declared.failure.Failure.{Failure}
-use Rattle.vs_script.specs.{Script.Attacks, Script.Plays, Script.Runs, Script.Saying, declared.fault.Refused.Refused}
-use Rattle.vs_script.specs.declared.script.Command.{Command}
+use Rattle.vs_script.specs.{Script.{Attacks, Plays, Runs, Saying}, declared.fault.Refused.Refused, declared.script.Command.Command}
 use Rattle.vs_script.specs.declared.script.Command.TheVariants as script_of
+use Rattle.vs_apps_parts.specs.Scripts.{RunScript}
 use Rattle.vs_words.specs.Command as words
-use Rattle.vs_run.specs.{Does.Does, Does.is_client, Does.is_status, Ends.EndsAnswer, Ends.EndsParsed, Ends.EndsScript, Ends.EndsWith}
-use Rattle.vs_run.specs.Ends.{NoMemory, Read, SourceFails, refusal_text, usage_text}
+use Rattle.vs_run.specs.{Does.{Does, KeepsHost, is_client, is_status, uses_host}, Runs.{EndsLoad, EndsOver, EndsRun}, Ends.EndsAnswer}
+use Rattle.vs_run.specs.Ends.{EndsAnswering, EndsParsed, EndsScript, EndsWith, NoMemory, Read, SourceFails, refusal_text, usage_text}
+use Rattle.vs_run.proofs.Ran.{zero_or_five}
 
 -- A status with its cause.
 data Cause (command : Option words.Command) (old new : Lent) (r : ℕ) : Type 0 where
@@ -20,7 +21,7 @@ data Cause (command : Option words.Command) (old new : Lent) (r : ℕ) : Type 0 
   BadScript : r ≡ 2 → Cause command old new r
   SourceFault : r ≡ 3 → CountsFault true old.source_faults new.source_faults → Cause command old new r
   SinkFault : r ≡ 4 → CountsFault true old.sink_faults new.sink_faults → Cause command old new r
-  Waited : r ≡ 5 → is_client command ≡ true → Cause command old new r
+  Waited : r ≡ 5 → uses_host command ≡ true → Cause command old new r
   HostFault : r ≡ 6 → CountsFault true old.host_faults new.host_faults → Cause command old new r
   DeviceFailed : r ≡ 7 → Cause command old new r
   NotAnswered : r ≡ 8 → is_client command ≡ true → Cause command old new r
@@ -33,7 +34,7 @@ At (suc zero) command old new = command ≡ None
 At (suc (suc zero)) command old new = Unit {0}
 At (suc (suc (suc zero))) command old new = CountsFault true old.source_faults new.source_faults
 At (suc (suc (suc (suc zero)))) command old new = CountsFault true old.sink_faults new.sink_faults
-At (suc (suc (suc (suc (suc zero))))) command old new = is_client command ≡ true
+At (suc (suc (suc (suc (suc zero))))) command old new = uses_host command ≡ true
 At (suc (suc (suc (suc (suc (suc zero)))))) command old new = CountsFault true old.host_faults new.host_faults
 At (suc (suc (suc (suc (suc (suc (suc zero))))))) command old new = Unit {0}
 At (suc (suc (suc (suc (suc (suc (suc (suc zero)))))))) command old new = is_client command ≡ true
@@ -86,17 +87,24 @@ module _ (command : Option words.Command) (old new : Lent) (r : ℕ) where
   answer_cause lines own cause (text, status, inl w, h) = as_cause text status (λ e. cause (e ∙ w.1)) h
   answer_cause lines own cause (text, status, inr w, h) = as_cause text status (λ e. OutOfMemory (e ∙ w.5)) h
 
+  script_cause : (c : Command) (Unread : Type 0) (Parsed : Result Saying Refused → Type 0)
+      → ((p : Result Saying Refused) → Parsed p → Cause command old new r)
+      → EndsScript c Unread Parsed old.source old.source_faults new.source_faults old.out new.out old.sink_faults new.sink_faults r
+      → Cause command old new r
+  script_cause c Unread Parsed parsed (Read bytes reads kept h) = parsed _ h
+  script_cause c Unread Parsed parsed (SourceFails unread counts h) = as_cause read_fault_text 3 (λ e. SourceFault e counts) h
+  script_cause c Unread Parsed parsed (NoMemory unread kept h) = as_cause no_memory_text 9 (λ e. OutOfMemory e) h
+
   module _ (lines : Result Saying Refused → List (List ℕ)) (own : Result Saying Refused → ℕ)
       (causes : (s : Saying) → r ≡ own (Ok s) → Cause command old new r) where
-    parsed_cause : (p : Result Saying Refused) → EndsParsed lines own old.out new.out old.sink_faults new.sink_faults p r → Cause command old new r
+    parsed_cause : (p : Result Saying Refused) → EndsParsed lines own old.out new.out old.sink_faults new.sink_faults r p → Cause command old new r
     parsed_cause (Ok s) h = answer_cause (lines (Ok s)) (own (Ok s)) (causes s) h
     parsed_cause (Err e) h = with_cause (refusal_text e) 2 (λ same. BadScript same) h
 
-    script_cause : (c : Command) → EndsScript c lines own old.source old.source_faults new.source_faults old.out new.out old.sink_faults new.sink_faults r
+    answering_cause : (c : Command)
+        → EndsAnswering c lines own old.source old.source_faults new.source_faults old.out new.out old.sink_faults new.sink_faults r
         → Cause command old new r
-    script_cause c (Read bytes reads kept h) = parsed_cause _ h
-    script_cause c (SourceFails counts h) = as_cause read_fault_text 3 (λ e. SourceFault e counts) h
-    script_cause c (NoMemory kept h) = as_cause no_memory_text 9 (λ e. OutOfMemory e) h
+    answering_cause c h = script_cause c (Unit {0}) (EndsParsed lines own old.out new.out old.sink_faults new.sink_faults r) parsed_cause h
 
   play_status : (queue : ℕ) (s : Saying) → r ≡ (play_answer queue (Ok s)).status → Cause command old new r
   play_status queue (Plays lines) e = Done e
@@ -112,25 +120,54 @@ module _ (command : Option words.Command) (old new : Lent) (r : ℕ) where
   hostile_status (Runs apps) e = Done e
   hostile_status (Attacks lines) e = failed_status _ e
 
-  says_cause : is_client command ≡ true → (base : List ℕ) (port idle : ℕ) → Says base port idle old new r → Cause command old new r
-  says_cause client base port idle (statuses.Done e h) = Done e
-  says_cause client base port idle (statuses.TooLong e h) = BadScript e
-  says_cause client base port idle (statuses.SourceFault e h) = SourceFault e h.counts
-  says_cause client base port idle (statuses.SinkFault e h) = SinkFault e h.counts
-  says_cause client base port idle (statuses.Waited e h) = Waited e client
-  says_cause client base port idle (statuses.HostFault e h) = HostFault e h.counts
-  says_cause client base port idle (statuses.Refused e h) = NotAnswered e client
-  says_cause client base port idle (statuses.NoMemory e h) = OutOfMemory e
+  over_cause : uses_host command ≡ true → (idle : ℕ) (apps : RunScript)
+      → EndsOver idle apps new.host old.host_faults new.host_faults old.out new.out old.sink_faults new.sink_faults r → Cause command old new r
+  over_cause host idle apps (inl (guests, side, met, told, faults, ran, h)) = as_cause _ _ (λ e. own _ e (zero_or_five _)) h
+    where
+      own : (n : ℕ) → r ≡ n → (n ≡ 0) ⊎ (n ≡ 5) → Cause command old new r
+      own n e (inl done) = Done (e ∙ done)
+      own n e (inr five) = Waited (e ∙ five) host
+  over_cause host idle apps (inr (inl h)) = as_cause no_memory_text 9 (λ e. OutOfMemory e) h
+  over_cause host idle apps (inr (inr h)) = as_cause host_fault_text 6 (λ e. HostFault e h.0) h.1
+
+  run_cause : uses_host command ≡ true → (idle : ℕ) (p : Result Saying Refused)
+      → EndsRun idle old.host new.host old.host_faults new.host_faults old.out new.out old.sink_faults new.sink_faults r p
+      → Cause command old new r
+  run_cause host idle (Ok (Runs apps)) h = over_cause host idle apps h
+  run_cause host idle (Ok (Plays lines)) h = with_cause [] 0 (λ e. Done e) h.0
+  run_cause host idle (Ok (Attacks lines)) h = with_cause [] 0 (λ e. Done e) h.0
+  run_cause host idle (Err e) h = with_cause (refusal_text e) 2 (λ same. BadScript same) h.0
+
+  load_cause : (number conns bytes : ℕ) → EndsLoad number conns bytes old.out new.out old.sink_faults new.sink_faults r
+      → Cause command old new r
+  load_cause number conns bytes (inl (line, loaded, h)) = as_cause line 0 (λ e. Done e) h
+  load_cause number conns bytes (inr h) = as_cause no_memory_text 9 (λ e. OutOfMemory e) h
+
+  says_cause : is_client command ≡ true → uses_host command ≡ true → (base : List ℕ) (port idle : ℕ) → Says base port idle old new r → Cause command old new r
+  says_cause client host base port idle (statuses.Done e h) = Done e
+  says_cause client host base port idle (statuses.TooLong e h) = BadScript e
+  says_cause client host base port idle (statuses.SourceFault e h) = SourceFault e h.counts
+  says_cause client host base port idle (statuses.SinkFault e h) = SinkFault e h.counts
+  says_cause client host base port idle (statuses.Waited e h) = Waited e host
+  says_cause client host base port idle (statuses.HostFault e h) = HostFault e h.counts
+  says_cause client host base port idle (statuses.Refused e h) = NotAnswered e client
+  says_cause client host base port idle (statuses.NoMemory e h) = OutOfMemory e
 
 cause : (command : Option words.Command) (old new : Lent) (r : ℕ) → Does command old new r → Cause command old new r
 cause None old new r h = with_cause None old new r usage_text 1 (λ e. Usage e refl) h.0
 cause (Some (words.Play kind queue)) old new r h =
-    script_cause (Some (words.Play kind queue)) old new r (λ said. (play_answer queue said).lines) (λ said. (play_answer queue said).status)
+    answering_cause (Some (words.Play kind queue)) old new r (λ said. (play_answer queue said).lines) (λ said. (play_answer queue said).status)
     (play_status (Some (words.Play kind queue)) old new r queue) script_of.Play h.0
+cause (Some (words.Run base queue idle)) old new r h =
+    script_cause (Some (words.Run base queue idle)) old new r script_of.Run (KeepsHost old new)
+    (EndsRun idle old.host new.host old.host_faults new.host_faults old.out new.out old.sink_faults new.sink_faults r)
+    (run_cause (Some (words.Run base queue idle)) old new r refl idle) h
 cause (Some words.Hostile) old new r h =
-    script_cause (Some words.Hostile) old new r (λ said. (hostile_answer said).lines) (λ said. (hostile_answer said).status)
+    answering_cause (Some words.Hostile) old new r (λ said. (hostile_answer said).lines) (λ said. (hostile_answer said).status)
     (hostile_status (Some words.Hostile) old new r) script_of.Hostile h.0
-cause (Some (words.Peer base port idle)) old new r h = says_cause (Some (words.Peer base port idle)) old new r refl base port idle h.0
+cause (Some (words.Load number conns bytes queue)) old new r h =
+    load_cause (Some (words.Load number conns bytes queue)) old new r number conns bytes h.0
+cause (Some (words.Peer base port idle)) old new r h = says_cause (Some (words.Peer base port idle)) old new r refl refl base port idle h.0
 
 -- What the status says, and that there is no other.
 pub cause_at : (command : Option words.Command) (old new : Lent) (r n : ℕ) → Does command old new r → r ≡ n → At n command old new

@@ -6,8 +6,8 @@ use Rattle.vs_peer.specs.{Ends.Lent, Statuses.NoFault, Statuses.Says, Statuses.i
 use Rattle.vs_play.specs.Answer.{answer_to as play_answer}
 use Rattle.vs_script.specs.{Script.parse_of, declared.fault.Refused.Refused}
 use Rattle.vs_script.specs.declared.script.Command.TheVariants as script_of
-use Rattle.vs_words.specs.Command.{Command, Play, Hostile, Peer}
-use Rattle.vs_run.specs.Ends.{EndsScript, EndsWith, usage_text}
+use Rattle.vs_words.specs.Command.{Command, Play, Run, Hostile, Load, Peer}
+use Rattle.vs_run.specs.{Ends.EndsAnswering, Ends.EndsScript, Ends.EndsWith, Ends.usage_text, Runs.EndsLoad, Runs.EndsRun}
 
 -- All that the command is lent, at one moment: what source, host and sink expose, how many of their calls failed, and how many pauses the
 -- gate counts.
@@ -27,11 +27,24 @@ abbrev pub is_client : Option Command → Bool
 is_client (Some (Peer base port idle)) = true
 is_client _ = false
 
--- A text is no script of the command; a client takes any, of so many bytes.
+-- Whether a command runs apps, and whether it uses the host that it is lent.
+abbrev pub runs_apps : Option Command → Bool
+runs_apps (Some (Run base queue idle)) = true
+runs_apps (Some (Load number conns bytes queue)) = true
+runs_apps _ = false
+
+abbrev pub uses_host : Option Command → Bool
+uses_host (Some (Run base queue idle)) = true
+uses_host (Some (Peer base port idle)) = true
+uses_host _ = false
+
+-- A text is no script of the command; a load reads none, and a client takes any, of so many bytes.
 abbrev pub IsNoScript : Option Command → List ℕ → Type 0
 IsNoScript None text = ⊥
 IsNoScript (Some (Play kind queue)) text = (r : Refused) × (parse_of script_of.Play text ≡ Err r)
+IsNoScript (Some (Run base queue idle)) text = (r : Refused) × (parse_of script_of.Run text ≡ Err r)
 IsNoScript (Some Hostile) text = (r : Refused) × (parse_of script_of.Hostile text ≡ Err r)
+IsNoScript (Some (Load number conns bytes queue)) text = ⊥
 IsNoScript (Some (Peer base port idle)) text = SOURCE_MAX < length text
 
 -- The statuses that a command ends with.
@@ -50,10 +63,15 @@ abbrev pub Does : Option Command → Lent → Lent → ℕ → Type 0
 Does None old new result =
     EndsWith old.out new.out old.sink_faults new.sink_faults usage_text 1 result × KeepsSource old new × KeepsHost old new
 Does (Some (Play kind queue)) old new result =
-    EndsScript script_of.Play (λ said. (play_answer queue said).lines) (λ said. (play_answer queue said).status) old.source
+    EndsAnswering script_of.Play (λ said. (play_answer queue said).lines) (λ said. (play_answer queue said).status) old.source
     old.source_faults new.source_faults old.out new.out old.sink_faults new.sink_faults result × KeepsHost old new
+Does (Some (Run base queue idle)) old new result =
+    EndsScript script_of.Run (KeepsHost old new) (EndsRun idle old.host new.host old.host_faults new.host_faults old.out new.out old.sink_faults
+    new.sink_faults result) old.source old.source_faults new.source_faults old.out new.out old.sink_faults new.sink_faults result
 Does (Some Hostile) old new result =
-    EndsScript script_of.Hostile (λ said. (hostile_answer said).lines) (λ said. (hostile_answer said).status) old.source
+    EndsAnswering script_of.Hostile (λ said. (hostile_answer said).lines) (λ said. (hostile_answer said).status) old.source
     old.source_faults new.source_faults old.out new.out old.sink_faults new.sink_faults result × KeepsHost old new
+Does (Some (Load number conns bytes queue)) old new result =
+    EndsLoad number conns bytes old.out new.out old.sink_faults new.sink_faults result × KeepsSource old new × KeepsHost old new
 Does (Some (Peer base port idle)) old new result =
     Says base port idle old new result × (NoFault old new → is_faultless result ≡ true)

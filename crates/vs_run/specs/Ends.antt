@@ -39,18 +39,25 @@ EndsAnswer out out' faults faults' lines own result =
 -- How a command ends that has read its script, whose answer's lines and status are functions of what the script says, or of what it is
 -- refused for.
 abbrev pub EndsParsed : (Result Saying Refused → List (List ℕ)) → (Result Saying Refused → ℕ) → Option (List ℕ) → Option (List ℕ) → ℕ → ℕ →
-    Result Saying Refused → ℕ → Type 0
-EndsParsed lines own out out' faults faults' (Ok saying) result =
+    ℕ → Result Saying Refused → Type 0
+EndsParsed lines own out out' faults faults' result (Ok saying) =
     EndsAnswer out out' faults faults' (lines (Ok saying)) (own (Ok saying)) result
-EndsParsed lines own out out' faults faults' (Err r) result = EndsWith out out' faults faults' (refusal_text r) 2 result
+EndsParsed lines own out out' faults faults' result (Err r) = EndsWith out out' faults faults' (refusal_text r) 2 result
 
--- How a command ends that reads a script: it has read the source, and gives the answer; or a call of the source failed; or memory ran out.
-pub data EndsScript (command : Command) (lines : Result Saying Refused → List (List ℕ)) (own : Result Saying Refused → ℕ)
-    (source : Option (List ℕ)) (read_faults read_faults' : ℕ) (out out' : Option (List ℕ)) (faults faults' : ℕ) (result : ℕ) : Type 0 where
-  Read : (bytes : List ℕ) → ReadsAll source bytes → read_faults' ≡ read_faults →
-      EndsParsed lines own out out' faults faults' (parse_of command bytes) result →
-      EndsScript command lines own source read_faults read_faults' out out' faults faults' result
-  SourceFails : CountsFault true read_faults read_faults' → EndsAs out out' faults faults' read_fault_text 3 result →
-      EndsScript command lines own source read_faults read_faults' out out' faults faults' result
-  NoMemory : read_faults' ≡ read_faults → EndsAs out out' faults faults' no_memory_text 9 result →
-      EndsScript command lines own source read_faults read_faults' out out' faults faults' result
+-- How a command ends that reads a script: it has read the source, and `Parsed` holds of what the script says, or of what it is refused for; or
+-- a call of the source failed, or memory ran out, and `Unread` holds.
+pub data EndsScript (command : Command) (Unread : Type 0) (Parsed : Result Saying Refused → Type 0) (source : Option (List ℕ))
+    (read_faults read_faults' : ℕ) (out out' : Option (List ℕ)) (faults faults' : ℕ) (result : ℕ) : Type 0 where
+  Read : (bytes : List ℕ) → ReadsAll source bytes → read_faults' ≡ read_faults → Parsed (parse_of command bytes) →
+      EndsScript command Unread Parsed source read_faults read_faults' out out' faults faults' result
+  SourceFails : Unread → CountsFault true read_faults read_faults' → EndsAs out out' faults faults' read_fault_text 3 result →
+      EndsScript command Unread Parsed source read_faults read_faults' out out' faults faults' result
+  NoMemory : Unread → read_faults' ≡ read_faults → EndsAs out out' faults faults' no_memory_text 9 result →
+      EndsScript command Unread Parsed source read_faults read_faults' out out' faults faults' result
+
+-- The same of a command that gives an answer.
+abbrev pub EndsAnswering : Command → (Result Saying Refused → List (List ℕ)) → (Result Saying Refused → ℕ) → Option (List ℕ) → ℕ → ℕ →
+    Option (List ℕ) → Option (List ℕ) → ℕ → ℕ → ℕ → Type 0
+EndsAnswering command lines own source read_faults read_faults' out out' faults faults' result =
+    EndsScript command (Unit {0}) (EndsParsed lines own out out' faults faults' result) source read_faults read_faults' out out' faults faults'
+    result

@@ -1,3 +1,4 @@
 pub mod Ends
 pub mod Played
 pub mod Does
+pub mod Runs

@@ -3,7 +3,7 @@ ghost use Rattle.std.specs.Prelude.{Ok, map};
 ghost use Rattle.vs_hostile.specs.Answer.{answer_to, attack_of};
 ghost use Rattle.vs_script.specs.Script.{numbered_hostile, parse_of, script_view};
 ghost use Rattle.vs_script.specs.declared.script.Command.TheVariants as command;
-ghost use Rattle.vs_run.specs.Ends.{EndsAnswer, EndsParsed, EndsScript};
+ghost use Rattle.vs_run.specs.Ends.{EndsAnswer, EndsParsed, EndsAnswering};
 
 use crate::ending::{no_memory, refused, unread};
 use std::alloc::Global;
@@ -15,7 +15,7 @@ use vs_script::{Command, HostileLine, Numbered, Script, parse};
 
 /// Runs the hostile guest's script that the source holds.
 pub fn hostile_script<S: Source, K: Sink>(alloc: Global, script: &mut S, out: &mut K) -> u8
-    ensures { EndsScript command.Hostile (λ said. (answer_to said).lines) (λ said. (answer_to said).status)
+    ensures { EndsAnswering command.Hostile (λ said. (answer_to said).lines) (λ said. (answer_to said).status)
         (S.contents script.old) (S.faults script.old) (S.faults script.new)
         (K.contents out.old) (K.contents out.new) (K.faults out.old) (K.faults out.new) result }
 {
@@ -28,7 +28,7 @@ pub fn hostile_script<S: Source, K: Sink>(alloc: Global, script: &mut S, out: &m
 // Runs the script that bytes spell.
 fn hostile_bytes<K: Sink>(alloc: Global, bytes: &[u8], out: &mut K) -> u8
     ensures { EndsParsed (λ said. (answer_to said).lines) (λ said. (answer_to said).status)
-        (K.contents out.old) (K.contents out.new) (K.faults out.old) (K.faults out.new) (parse_of command.Hostile bytes.now) result }
+        (K.contents out.old) (K.contents out.new) (K.faults out.old) (K.faults out.new) result (parse_of command.Hostile bytes.now) }
 {
     match parse(alloc, Command::Hostile, bytes) {
         Ok(script) => hostile_parsed(alloc, &script, out),

@@ -3,7 +3,9 @@
 
 mod ending;
 mod hostile;
+mod load;
 mod play;
+mod run;
 mod top;
 
 pub use crate::ending::{host_fault, no_memory};

@@ -4,7 +4,7 @@ ghost use Rattle.vs_ring_list.specs.Ends.{IsQueueSize};
 ghost use Rattle.vs_play.specs.{Answer.answer_to, Answer.events_in, Answer.printed, Ready.IsPlayable};
 ghost use Rattle.vs_script.specs.Script.{numbered_event, parse_of, script_view};
 ghost use Rattle.vs_script.specs.declared.script.Command.TheVariants as command;
-ghost use Rattle.vs_run.specs.{Ends.EndsAnswer, Ends.EndsParsed, Ends.EndsScript, Played.IsPlayed};
+ghost use Rattle.vs_run.specs.{Ends.EndsAnswer, Ends.EndsParsed, Ends.EndsAnswering, Played.IsPlayed};
 
 use crate::ending::{no_memory, refused, unread};
 use std::alloc::Global;
@@ -27,7 +27,7 @@ pub fn play_script<S: Source, K: Sink>(
     out: &mut K,
 ) -> u8
     requires queue { IsQueueSize queue }
-    ensures { EndsScript command.Play (λ said. (answer_to queue said).lines) (λ said. (answer_to queue said).status)
+    ensures { EndsAnswering command.Play (λ said. (answer_to queue said).lines) (λ said. (answer_to queue said).status)
         (S.contents script.old) (S.faults script.old) (S.faults script.new)
         (K.contents out.old) (K.contents out.new) (K.faults out.old) (K.faults out.new) result }
 {
@@ -41,7 +41,7 @@ pub fn play_script<S: Source, K: Sink>(
 fn play_bytes<K: Sink>(alloc: Global, rings: Rings, queue: u16, bytes: &[u8], out: &mut K) -> u8
     requires queue { IsQueueSize queue }
     ensures { EndsParsed (λ said. (answer_to queue said).lines) (λ said. (answer_to queue said).status)
-        (K.contents out.old) (K.contents out.new) (K.faults out.old) (K.faults out.new) (parse_of command.Play bytes.now) result }
+        (K.contents out.old) (K.contents out.new) (K.faults out.old) (K.faults out.new) result (parse_of command.Play bytes.now) }
 {
     law_of_scripts();
     match parse(alloc, Command::Play, bytes) {

@@ -1,7 +1,6 @@
 -- A text that is given piece by piece.
 use Rattle.std.proofs.Common.{◌≡◌, ℕ, ◌+◌, ◌-◌, List, ◌++◌, length, take, drop, Option, Result, Ok, Err, OnErr, sym, ap, ◌∙◌, subst}
-use Rattle.std.proofs.Math.Seq.{take-add}
-use Rattle.std.proofs.lemmas.List.{take_rest, take-append-drop}
+use Rattle.std.proofs.{Math.Seq.take-add, lemmas.List.{take_rest, take-append-drop}}
 use Rattle.vs_peer.specs.Pieces.{Emits, EmitsSome}
 use Rattle.vs_peer.proofs.Pieces.{emits_append}
 use Rattle.vs_report.proofs.LinesGiven.{some_append, some_more}

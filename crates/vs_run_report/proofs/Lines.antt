@@ -1,9 +1,7 @@
 -- How the lines of a report add up.
 use Rattle.std.proofs.Common.{◌≡◌, ℕ, zero, suc, ◌+◌, if◌then◌else◌, Bool, true, false, List, [], ◌∷◌, ◌++◌, map, Result, Ok, Err, OnOk}
-use Rattle.std.proofs.Common.{refl}
-use Rattle.std.proofs.Common.{sym, ap, ◌∙◌, arith, append_assoc, append-nil}
+use Rattle.std.proofs.{Common.{refl, sym, ap, ◌∙◌, arith, append_assoc, append-nil}, lemmas.List.{flat_map_more, map-append}}
 use Rattle.std.specs.List.{flat_map, range_with_len}
-use Rattle.std.proofs.lemmas.List.{flat_map_more, map-append}
 use Rattle.vs_report.specs.Gives.{joined}
 use Rattle.vs_report.proofs.LinesGiven.{joined_append}
 use Rattle.vs_run_report.specs.{Endings.is_done, Report.status_after, Report.status_of, declared.ending.Ending.Ending}

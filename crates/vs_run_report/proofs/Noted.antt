@@ -1,7 +1,6 @@
 -- What a noted wait says of how apps end.
-use Rattle.std.proofs.Common.{◌≡◌, ◌<◌, ℕ, zero, suc, ◌+◌, ◌==◌, nat_lt, Bool, true, false, cond, List, [], ◌∷◌, ◌++◌, length, Option}
-use Rattle.std.proofs.Common.{Some, None}
-use Rattle.std.proofs.{Common.refl, Common.sym, Common.ap, Common.◌∙◌, Common.arith, Common.slice_set, lemmas.Bool.Decides.nat_tests, lemmas.Bool.eq-eqb}
+use Rattle.std.proofs.Common.{◌≡◌, ◌<◌, ℕ, zero, suc, ◌+◌, ◌==◌, nat_lt, Bool, true, false, cond, List, [], ◌∷◌, ◌++◌, length, Option, Some}
+use Rattle.std.proofs.{Common.{None, refl, sym, ap, ◌∙◌, arith, slice_set}, lemmas.Bool.Decides.nat_tests, lemmas.Bool.eq-eqb}
 use Rattle.std.specs.{Option.unwrap_or, Prelude.slice_get}
 use Rattle.vs_apps_parts.specs.Journals.{entry_waited, one_more, times_at, times_in, wait_noted, wait_place, waited_before}
 use Rattle.vs_apps_parts.specs.declared.{journal.Entry.Entry, journal.WaitsFor.WaitsFor, progress.AppState.AppState}

@@ -1,7 +1,6 @@
 -- A step that waits does so for what its instruction may wait for.
 use Rattle.std.proofs.Common.{◌≡◌, ◌||◌, ℕ, nat_lt, if◌then◌else◌, Bool, true, false, List, [], ◌∷◌, ◌++◌, length, Option, Some, None}
-use Rattle.std.proofs.Common.{Result}
-use Rattle.std.proofs.Common.{Ok, Err, refl, ap, subst, arith}
+use Rattle.std.proofs.Common.{Result, Ok, Err, refl, ap, subst, arith}
 use Rattle.vs_script.specs.{App.Act, Data.Content, Data.size_of}
 use Rattle.vs_script.specs.App as act
 use Rattle.laws_driver_bytes.specs.Calls.{GuestCall, Made, ReplyTo}

@@ -1,11 +1,9 @@
 -- The connections of a run's apps, as they are printed.
 use Rattle.std.specs.Prelude.{ℕ, ◌-◌, ◌==◌, ◌^◌, min, if◌then◌else◌, List, [], ◌∷◌, ◌++◌, length, codes, decimal, Option, Some, None}
-use Rattle.std.specs.Prelude.{Result, Ok, Err}
-use Rattle.std.specs.List.{flat_map, range_with_len}
+use Rattle.std.specs.{Prelude.{Result, Ok, Err}, List.{flat_map, range_with_len}}
 use Rattle.vs_flow.specs.declared.flow.Flow.{Flow}
 use Rattle.laws_driver_bytes.specs.Calls.{Journal, received_by}
-use Rattle.vs_apps_parts.specs.Journals.{sent_as}
-use Rattle.vs_apps_parts.specs.declared.journal.{Called.Called, Entry.Entry}
+use Rattle.vs_apps_parts.specs.{Journals.sent_as, declared.journal.{Called.Called, Entry.Entry}}
 use Rattle.vs_apps_parts.specs.declared.journal.Called.TheVariants as called
 use Rattle.vs_apps_parts.specs.declared.journal.Deed.TheVariants as deed
 use Rattle.vs_driver_parts.specs.declared.answers.{Accepted.Accepted, ConnectError.ConnectError}

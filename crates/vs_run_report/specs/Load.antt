@@ -1,6 +1,5 @@
 -- The apps of a load, and the line that it prints.
-use Rattle.std.specs.Prelude.{ℕ, ◌+◌, ◌*◌, ◌%◌, ◌==◌, if◌then◌else◌, List, [], ◌∷◌, ◌++◌, map, codes, decimal}
-use Rattle.std.specs.List.{range_with_len}
+use Rattle.std.specs.{Prelude.{ℕ, ◌+◌, ◌*◌, ◌%◌, ◌==◌, if◌then◌else◌, List, [], ◌∷◌, ◌++◌, map, codes, decimal}, List.range_with_len}
 use Rattle.vs_script.specs.{App.Act, App.Close, App.Connect, App.Exchange, Data.Fill}
 use Rattle.vs_apps_parts.specs.Scripts.{RunScript}
 use Rattle.vs_run_report.specs.declared.load.TheConstants.{LOAD_PORT}

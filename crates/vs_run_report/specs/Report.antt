@@ -1,12 +1,9 @@
 -- The report of a run, line by line, each with its LF.
-use Rattle.std.specs.Prelude.{ℕ, ◌+◌, if◌then◌else◌, List, [], ◌∷◌, ◌++◌, length, map, Some}
-use Rattle.std.specs.List.{range_with_len}
-use Rattle.vs_apps_parts.specs.{Journals.calls_of, Scripts.RunScript, Scripts.acts_of}
-use Rattle.vs_apps_parts.specs.declared.{journal.Entry.Entry, progress.AppState.AppState}
+use Rattle.std.specs.{Prelude.{ℕ, ◌+◌, if◌then◌else◌, List, [], ◌∷◌, ◌++◌, length, map, Some}, List.range_with_len}
+use Rattle.vs_apps_parts.specs.{Journals.calls_of, Scripts.{RunScript, acts_of}, declared.{journal.Entry.Entry, progress.AppState.AppState}}
 use Rattle.vs_report.specs.{Report.counts_text, Report.device_open_text, Report.guest_open_text, declared.giving.Totals.Totals}
-use Rattle.vs_run_report.specs.{Connections.opened_all, Connections.opened_text, Endings.app_text, Endings.ending_of, Endings.is_done}
-use Rattle.vs_run_report.specs.{Endings.state_at, declared.report.TheConstants.WAITED}
-use Rattle.vs_run_report.specs.declared.ending.Ending.{Ending}
+use Rattle.vs_run_report.specs.{Connections.{opened_all, opened_text}, Endings.{app_text, ending_of, is_done, state_at}}
+use Rattle.vs_run_report.specs.{declared.report.TheConstants.WAITED, declared.ending.Ending.Ending}
 
 -- How the app at a place ended, and its line.
 abbrev pub ended_at : RunScript → List AppState → List Entry → ℕ → Ending

@@ -1,13 +1,11 @@
 -- A right report of a run: what it says of each app and of each connection is what was done.
-use Rattle.std.specs.Prelude.{◌≡◌, ℕ, ◌-◌, ◌<◌, ◌≤◌, ◌||◌, Bool, true, false, List, length, slice_get, Some}
-use Rattle.std.specs.List.{All}
+use Rattle.std.specs.{Prelude.{◌≡◌, ℕ, ◌-◌, ◌<◌, ◌≤◌, ◌||◌, Bool, true, false, List, length, slice_get, Some}, List.All}
 use Rattle.vs_flow.specs.Connection.{Connection}
 use Rattle.vs_page.specs.Fair.{IsPrefixOf}
 use Rattle.vs_outside.specs.{Host.HostContents, HostBytes.host_read, HostBytes.host_wrote}
 use Rattle.vs_script.specs.App.{Act, Connect, Accept, Send, Recv, Drain, Exchange}
 use Rattle.laws_driver_bytes.specs.Calls.{Journal, received_by}
-use Rattle.vs_apps_parts.specs.{Journals.calls_of, Journals.calls_of_app, Journals.sent_as, Scripts.IsPlayed, Scripts.RunScript}
-use Rattle.vs_apps_parts.specs.{Scripts.acts_of}
+use Rattle.vs_apps_parts.specs.{Journals.{calls_of, calls_of_app, sent_as}, Scripts.{IsPlayed, RunScript, acts_of}}
 use Rattle.vs_apps_parts.specs.declared.{journal.Entry.Entry, journal.WaitsFor.WaitsFor, progress.AppState.AppState}
 use Rattle.vs_apps_parts.specs.declared.journal.WaitsFor.TheVariants as waits
 use Rattle.vs_report.specs.declared.giving.Totals.{Totals}

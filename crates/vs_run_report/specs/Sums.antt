@@ -1,7 +1,6 @@
 -- What one entry of a journal adds to what was sent and received on a connection, as numbers and places.
 use Rattle.std.specs.Prelude.{ℕ, ◌-◌, ◌==◌, min, if◌then◌else◌, List, [], length}
-use Rattle.vs_apps_parts.specs.{Journals.data_at, Scripts.RunScript, Scripts.acts_of, Scripts.slice_of}
-use Rattle.vs_apps_parts.specs.declared.journal.{Called.Called, Entry.Entry}
+use Rattle.vs_apps_parts.specs.{Journals.data_at, Scripts.{RunScript, acts_of, slice_of}, declared.journal.{Called.Called, Entry.Entry}}
 use Rattle.vs_apps_parts.specs.declared.journal.Called.TheVariants as called
 use Rattle.vs_apps_parts.specs.declared.journal.Deed.TheVariants as deed
 use Rattle.vs_driver_parts.specs.{Connections.got_count, declared.answers.Sent.Sent}

@@ -1,8 +1,7 @@
 -- One more behind others, and an instruction behind those of the last app.
 use Rattle.std.proofs.Common.{◌≡◌, ℕ, suc, zero, Bool, true, false, if◌then◌else◌, nat_lt, List, [], ◌∷◌, ◌++◌, length, map, Result, Ok}
-use Rattle.std.proofs.Common.{Err, refl, sym, ap, ◌∙◌, arith, slice_index_or, slice_set}
+use Rattle.std.proofs.{Common.{Err, refl, sym, ap, ◌∙◌, arith, slice_index_or, slice_set}, lemmas.List.{length-map, map-append}}
 use Rattle.std.specs.Prelude.{IfOk, IfErr}
-use Rattle.std.proofs.lemmas.List.{length-map, map-append}
 use Rattle.vs_script.specs.{App.Act, App.app_view, Script.pushed, Script.add_act, Field.named, Field.IsFault, declared.app.App.App}
 use Rattle.vs_script.specs.declared.fault.{LineFault.LineFault, Why.Why, LineFault.TheVariants.Refused, LineFault.TheVariants.OutOfMemory}
 use Rattle.vs_script.specs.declared.{fault.Why.TheVariants.TooMany, script.TheConstants.MAX_INSTRUCTIONS}

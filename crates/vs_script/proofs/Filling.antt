@@ -1,9 +1,8 @@
 -- Bytes by a rule, run by run.
 use Rattle.std.proofs.Common.{◌≡◌, ◌≤◌, ◌<◌, ℕ, zero, suc, ◌+◌, ◌*◌, ◌/◌, ◌%◌, List, ◌∷◌, ◌++◌, map, take, drop, ap, sym, refl, ◌∙◌, arith}
-use Rattle.std.specs.List.{range_with_len}
 use Rattle.std.proofs.lemmas.List.FromFn.{take-map-range_with_len}
-use Rattle.vs_script.specs.declared.data.TheConstants.{SEVENS}
-use Rattle.vs_script.specs.Data.{filled, filled_bytes}
+use Rattle.std.specs.List.{range_with_len}
+use Rattle.vs_script.specs.{declared.data.TheConstants.SEVENS, Data.{filled, filled_bytes}}
 
 abbrev seven : ℕ → ℕ
 seven x = 7 * x % 256

@@ -1,6 +1,5 @@
 -- The bytes that a line of a script carries.
-use Rattle.std.specs.Prelude.{ℕ, ◌+◌, ◌*◌, ◌/◌, ◌%◌, List, length, map, slice_index}
-use Rattle.std.specs.List.{range_with_len}
+use Rattle.std.specs.{Prelude.{ℕ, ◌+◌, ◌*◌, ◌/◌, ◌%◌, List, length, map, slice_index}, List.range_with_len}
 use Rattle.vs_script.specs.declared.data.Data.{Data}
 use Rattle.vs_script.specs.declared.data.Data.TheVariants as code
 

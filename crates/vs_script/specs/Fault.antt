@@ -1,9 +1,8 @@
 -- What a script is refused for.
 use Rattle.std.specs.Prelude.{ℕ, List, ◌++◌, codes, decimal}
-use Rattle.vs_script.specs.declared.fault.{Why.Why, Refused.Refused, LineFault.LineFault}
-use Rattle.vs_script.specs.declared.fault.Why.TheVariants.{TooLong, BadWord, BadNumber, BadHex, TooMany}
+use Rattle.vs_script.specs.{declared.fault.{Why.Why, Refused.Refused, LineFault.LineFault}, declared.fault.Why.TheVariants.TooLong}
+use Rattle.vs_script.specs.{declared.fault.Why.TheVariants.{BadWord, BadNumber, BadHex, TooMany}, declared.fault.ParseFault.ParseFault}
 use Rattle.vs_script.specs.declared.fault.LineFault.TheVariants as line_fault
-use Rattle.vs_script.specs.declared.fault.ParseFault.{ParseFault}
 use Rattle.vs_script.specs.declared.fault.ParseFault.TheVariants as parse_fault
 
 -- The word that is printed.

@@ -1,7 +1,6 @@
 -- The fields of a line, each read from the words that are left of it.
 use Rattle.std.specs.Prelude.{◌≡◌, ℕ, ◌+◌, ◌*◌, ◌&&◌, nat_le, if◌then◌else◌, Bool, List, [], ◌∷◌, length, codes, bytes_eq, Option, Some}
-use Rattle.std.specs.{Prelude.None, Prelude.option_map, Prelude.Result, Prelude.Ok, Prelude.Err, List.list_all, Str.all_ascii_digits}
-use Rattle.std.specs.Str.Parse.{digits_value}
+use Rattle.std.specs.{Prelude.{None, option_map, Result, Ok, Err}, List.list_all, Str.all_ascii_digits, Str.Parse.digits_value}
 use Rattle.hex.specs.Hex.{hex_digit_value}
 use Rattle.vs_script.specs.{Text.is_empty, Text.is_graphic, Data.Content, Data.Given, Data.Fill, declared.fault.Why.Why}
 use Rattle.vs_script.specs.declared.fault.{LineFault.LineFault, Why.TheVariants.BadWord, Why.TheVariants.BadNumber, Why.TheVariants.BadHex}

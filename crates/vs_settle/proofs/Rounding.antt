@@ -23,13 +23,11 @@ use Rattle.laws_rest.specs.{Calm.resets_in, Rest.OwesNothing, Rest.has_no_mark}
 use Rattle.laws_rest.proofs.Polls.{poll_owes_none}
 use Rattle.vs_proxy_parts.specs.{State.ProxyState, Turns.turn_of, declared.answers.Turn.Turn, declared.answers.Turned.Turned}
 use Rattle.vs_proxy_parts.specs.declared.answers.Turn.TheVariants as turn
-use Rattle.vs_apps_parts.specs.Scripts.{RunScript}
-use Rattle.vs_apps_parts.specs.declared.progress.Stepped.{Stepped}
-use Rattle.laws_apps.specs.Runs.{IsRunOf, PollsTo, Run, Steps, poll_moved}
+use Rattle.vs_apps_parts.specs.{Scripts.RunScript, declared.progress.Stepped.Stepped}
+use Rattle.laws_apps.specs.{Runs.{IsRunOf, PollsTo, Run, Steps, poll_moved}, Rounds.{AllStand, Stands, StandsOnce}}
 use Rattle.laws_settled.specs.{Settled.AreOver, Settled.IsSettled, Settled.IsSteady, Settled.LacksPages}
 use Rattle.laws_settled.proofs.{Quieting.turn_owes_none, Quieting.turn_sound, Resting.settled, Steady.told_runs, Taking.poll_takes_none}
 use Rattle.vs_apps.specs.Guests.{GuestsState, run_in}
-use Rattle.laws_apps.specs.Rounds.{AllStand, Stands, StandsOnce}
 use Rattle.vs_settle.specs.Rounds.{IsCounted, IsSameEnd, LastRound, no_turn, turn_moved}
 
 -- None of several.

@@ -3,8 +3,7 @@ use Rattle.std.specs.Prelude.{◌≡◌, ◌≤◌, ◌+◌, ◌||◌, nat_lt, �
 use Rattle.vs_outside.specs.Host.{HostContents}
 use Rattle.vs_ring_port.specs.{Chains.held_of, declared.queue.Queue.TheVariants.Rx}
 use Rattle.vs_ring_rule.specs.declared.view.Past.{Past}
-use Rattle.vs_ring_shared.specs.Meetings.{after_hearing, what_it_did}
-use Rattle.vs_ring_shared.specs.Sights.{DeviceSight, device_contents, flight_of}
+use Rattle.vs_ring_shared.specs.{Meetings.{after_hearing, what_it_did}, Sights.{DeviceSight, device_contents, flight_of}}
 use Rattle.vs_driver_parts.specs.declared.answers.Polled.{Polled}
 use Rattle.vs_device_parts.specs.Playing.{Runs, situation}
 use Rattle.vs_proxy_parts.specs.{State.ProxyState, Turns.turn_of, declared.answers.Turn.Turn, declared.answers.Turned.Turned}

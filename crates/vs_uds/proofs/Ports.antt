@@ -1,11 +1,10 @@
 -- Digits that write a port, and the port that a text writes.
 use Rattle.std.proofs.Common.{◌≡◌, ◌≤◌, ◌<◌, ◌^◌, ◌&&◌, ℕ, true, nat_le, nat_lt, List, length, Some, None, Result, Ok, Err, refl, subst}
-use Rattle.std.proofs.Common.{inl, inr, arith, rules, decimal, le-leb, leb-true, ltb-true}
-use Rattle.std.specs.{Prelude.MatchResult, Result.result_ok, Str.IsUtf8, Char.is_ascii_digit, List.list_all}
-use Rattle.std.proofs.lemmas.{Bool.and_parts, Bool.cases_lt, Bool.le-ltb, Bool.lt-ltb, Option.cond_some}
-use Rattle.std.proofs.lemmas.Fmt.{IsAscii-from_digits, decimal_nonempty, digits_decimal, digits_value-decimal, length-decimal-le}
-use Rattle.std.proofs.lemmas.Str.{IsUtf8-from_ascii}
+use Rattle.std.proofs.{Common.{inl, inr, arith, rules, decimal, le-leb, leb-true, ltb-true}, lemmas.{Bool.and_parts, Bool.cases_lt}}
+use Rattle.std.proofs.{lemmas.{Bool.le-ltb, Bool.lt-ltb, Option.cond_some}, lemmas.Fmt.{IsAscii-from_digits, decimal_nonempty}}
+use Rattle.std.proofs.{lemmas.Fmt.{digits_decimal, digits_value-decimal, length-decimal-le}, lemmas.Str.IsUtf8-from_ascii}
 use Rattle.std.proofs.lemmas.Str.Parse.{IsNumeralModel, digits_value_short, numerals_by_value, parse_digits}
+use Rattle.std.specs.{Prelude.MatchResult, Result.result_ok, Str.IsUtf8, Char.is_ascii_digit, List.list_all}
 use Rattle.std.specs.Str.Parse.{ParsesUnsigned, digits_value}
 use Rattle.vs_uds.specs.Port.{WritesPort, is_numeral, port_in}
 

@@ -1,7 +1,6 @@
 -- The line `CONNECT PORT` (Firecracker's vsock documentation).
 use Rattle.std.specs.Prelude.{ℕ, ◌≡◌, ◌≤◌, ◌==◌, ◌&&◌, ◌||◌, Bool, if◌then◌else◌, List, [], ◌∷◌, ◌++◌, length, take, drop, map, replicate}
-use Rattle.std.specs.{Prelude.slice_index, Prelude.codes, Prelude.decimal, Prelude.Option, Prelude.None, Char.to_ascii_lowercase}
-use Rattle.std.specs.Str.{bytes_eq}
+use Rattle.std.specs.{Prelude.{slice_index, codes, decimal, Option, None}, Char.to_ascii_lowercase, Str.bytes_eq}
 use Rattle.vs_uds.specs.{Port.WritesPort, Port.port_in, Reading.answers_to, Reading.step_of, Scan.after_digits, Scan.leading_digits}
 use Rattle.vs_uds.specs.{Scan.without_leading_spaces, declared.connect.TheConstants.CONNECT_MAX, declared.scan.TheConstants.CR}
 use Rattle.vs_uds.specs.declared.scan.{TheConstants.LF, TheConstants.SPACE, Step.Step}

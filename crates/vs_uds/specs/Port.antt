@@ -1,7 +1,6 @@
 -- How digits write a port in the lines.
 use Rattle.std.specs.Prelude.{ℕ, ◌≡◌, ◌≤◌, ◌<◌, ◌^◌, ◌&&◌, Bool, true, nat_le, nat_lt, if◌then◌else◌, List, length, Option, Some, None}
-use Rattle.std.specs.{List.list_all, Char.is_ascii_digit}
-use Rattle.std.specs.Str.Parse.{digits_value}
+use Rattle.std.specs.{List.list_all, Char.is_ascii_digit, Str.Parse.digits_value}
 use Rattle.vs_uds.specs.declared.scan.TheConstants.{DIGITS_MAX}
 
 -- Digits that write a port: one to ten of them, with a value below 2^32. Leading zeros are allowed.

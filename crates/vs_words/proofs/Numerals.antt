@@ -1,9 +1,8 @@
 -- Numbers as words write them, and what `parse` makes of them.
 use Rattle.std.proofs.Common.{◌≡◌, ◌<◌, ◌^◌, ℕ, true, nat_le, List, [], ◌∷◌, length, None, Result, Ok, Err, refl, arith, inl, inr, leb-true}
 use Rattle.std.proofs.lemmas.Bool.{lt-leb, and_right, and_parts, cases_lt}
-use Rattle.std.specs.{Result.result_ok, List.list_all, Char.is_ascii_digit, Str.all_ascii_digits}
-use Rattle.std.specs.Str.Parse.{digits_value, ParsesUnsigned}
 use Rattle.std.proofs.lemmas.Str.Parse.{IsNumeralModel, numerals_by_value, tells_all_ascii_digits, parse_digits}
+use Rattle.std.specs.{Result.result_ok, List.list_all, Char.is_ascii_digit, Str.all_ascii_digits, Str.Parse.{digits_value, ParsesUnsigned}}
 use Rattle.vs_words.specs.Numbers.{is_digits, within}
 
 -- the test of each byte in turn

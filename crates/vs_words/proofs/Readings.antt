@@ -1,14 +1,13 @@
 -- From the contract of a parse to what it reads.
-use Rattle.std.proofs.Common.{◌≡◌, ◌∙◌, inl, inr, Bool, true, false, refl, sym, ap, subst, List, [], ◌∷◌, map, drop, Option, Some, None}
-use Rattle.std.proofs.Common.{Result, Ok, Err}
+use Rattle.std.proofs.Common.{◌≡◌, ◌∙◌, ◌&&◌, inl, inr, Bool, true, false, refl, sym, ap, subst, List, [], ◌∷◌, map, drop, Option, Some}
+use Rattle.std.proofs.{Common.{None, Result, Ok, Err}, lemmas.Str.IsUtf8-string_bytes}
 use Rattle.std.specs.{Prelude.String, Prelude.string_bytes, Str.bytes_eq}
-use Rattle.std.proofs.lemmas.Str.{IsUtf8-string_bytes}
 use Rattle.clap.specs.Words.{App, FailsBy, HasKind, HasMatchesOf, Text, fault_of, first_of, found_of, is_simple, is_simple_and_free}
 use Rattle.clap.specs.{Words.kind_of, Words.matches_of, declared.error.Error.Error, declared.parser.matches.ArgMatches.ArgMatches}
 use Rattle.clap.proofs.WalkLemmas.{first_value-rows}
-use Rattle.vs_words.specs.{Errors.error_of, Options.Given, Options.is_empty, Options.options_of, Options.value_of, Reading.Reads}
+use Rattle.vs_words.specs.{Errors.error_of, Options.Given, Options.is_empty, Options.options_of, Options.value_of, Reading.Reads, Reading.app_with}
 use Rattle.vs_words.specs.declared.error.WordsError.{WordsError, TheVariants.Usage, TheVariants.OutOfMemory}
-use Rattle.vs_words.proofs.{Rules.app_with, Rules.given_row, Walks.AreTexts, Walks.Parses, Walks.parsed}
+use Rattle.vs_words.proofs.{Rules.given_row, Walks.AreTexts, Walks.Parses, Walks.parsed}
 
 -- the words of the program are texts
 pub texts_of : {Z : Type 0} (words : List (String Z)) → AreTexts (map string_bytes words)
@@ -29,9 +28,15 @@ first_given name (g ∷ gs) = go (bytes_eq g.name name) refl (first_given name g
     go true e rest = rw e refl
     go false e rest = rw e rest
 
+both : (x y : Bool) → (x && y) ≡ true → x ≡ true
+both true y e = refl
+both false y e = e
+
 module _ (command : Text) (names : List Text) (a : App) (is : a ≡ app_with command names) (simple : is_simple_and_free
-    (app_with command names) ≡ true)
-    (plain : is_simple (app_with command names) ≡ true) (words : List Text) (texts : AreTexts (drop 1 words)) where
+    (app_with command names) ≡ true) (words : List Text) (texts : AreTexts (drop 1 words)) where
+  plain : is_simple (app_with command names) ≡ true
+  plain = both (is_simple (app_with command names)) _ simple
+
   abbrev Comes : Result ArgMatches Error → Type 0
   Comes r = is_simple_and_free a ≡ true → FailsBy (fault_of a words) r
 

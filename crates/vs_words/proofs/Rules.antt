@@ -1,17 +1,14 @@
 -- What a parse reads of a command whose options each take one value, and what it finds of them.
-use Rattle.std.proofs.Common.{◌≡◌, ◌∙◌, ◌||◌, ℕ, Bool, true, false, cond, refl, ap, List, [], ◌∷◌, ◌++◌, map, Some, None}
+use Rattle.std.proofs.Common.{◌≡◌, ◌∙◌, ◌||◌, ℕ, Bool, true, false, cond, refl, sym, ap, List, [], ◌∷◌, ◌++◌, map, Some, None}
 use Rattle.std.specs.{List.list_any, Str.bytes_eq}
 use Rattle.clap.specs.Walk.{Row, Rule, Text, arg_by_id, arg_by_index, arg_by_long, arg_by_short, has_row, reading_by, used, with_values}
-use Rattle.clap.specs.{Walk.without, Simple.App, Simple.Shape, Simple.built, Simple.filled, Simple.filled_from, Simple.new_rule}
+use Rattle.clap.specs.{Walk.without, Simple.App, Simple.Shape, Simple.built, Simple.filled, Simple.filled_from, Simple.with_rule}
 use Rattle.clap.specs.{Simple.new_shape, Faults.use_fault, declared.parser.matches.ValueSource.TheVariants.CommandLine}
 use Rattle.clap.specs.declared.error.kind.ErrorKind.TheVariants as kind
-use Rattle.std.proofs.lemmas.Slice.Eq.{bytes_eq-Decides}
-use Rattle.vs_words.specs.Options.{Given, is_given}
+use Rattle.std.proofs.lemmas.{List.map-append, Slice.Eq.bytes_eq-Decides}
+use Rattle.vs_words.specs.{Options.Given, Options.is_given, Reading.app_with, Reading.option_rule}
 
--- an option as the program adds it, and as a parse reads it
-abbrev pub option_rule : Text → Rule
-option_rule name = record (new_rule name) { long = Some name }
-
+-- an option as a parse reads it
 abbrev pub built_rule : Text → Rule
 built_rule name = filled (option_rule name)
 
@@ -22,13 +19,16 @@ pub filled_names : (i : ℕ) (names : List Text) → filled_from i (map option_r
 filled_names i [] = refl
 filled_names i (n ∷ ns) = ap (λ rs. built_rule n ∷ rs) (filled_names i ns)
 
--- the command as the program makes it, and its shape once it is built
-abbrev pub app_with : Text → List Text → App
-app_with command names = record {
-  top = record (new_shape command) { rules = map option_rule names; disable_help_flag = true };
-  subs = [];
-}
+-- a command with one option more
+pub one_option : (command : Text) (names names' : List Text) (name : Text) (a b : App) → names' ≡ names ++ name ∷ []
+    → a ≡ app_with command names → b ≡ with_rule a (option_rule name) → b ≡ app_with command names'
+one_option command names names' name a b more is added =
+    added ∙ ap (λ (x : App). with_rule x (option_rule name)) is
+    ∙ ap (λ (rs : List Rule). record { top = record (new_shape command) { rules = rs; disable_help_flag = true }; subs = [] })
+    (sym (map-append option_rule names (name ∷ [])))
+    ∙ ap (app_with command) (sym more)
 
+-- the shape of the command once it is built
 abbrev pub shape_with : Text → List Text → Shape
 shape_with command names = record (new_shape command) {
   rules = rules names;

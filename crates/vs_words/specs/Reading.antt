@@ -1,8 +1,19 @@
 -- What a parse of a command's words gives.
-use Rattle.std.specs.Prelude.{◌≡◌, ℕ, List, drop, Some, None, Result, Ok, Err}
-use Rattle.clap.specs.{Words.first_value, Words.found_of, declared.parser.matches.ArgMatches.ArgMatches}
+use Rattle.std.specs.Prelude.{◌≡◌, ℕ, true, List, [], map, drop, Some, None, Result, Ok, Err}
+use Rattle.clap.specs.{Simple.App, Simple.new_rule, Simple.new_shape, Walk.Rule, Words.first_value, Words.found_of}
+use Rattle.clap.specs.declared.parser.matches.ArgMatches.{ArgMatches}
 use Rattle.vs_words.specs.{Options.Given, Options.options_of, Options.value_of, declared.error.WordsError.WordsError}
 use Rattle.vs_words.specs.declared.error.WordsError.TheVariants.{Usage, OutOfMemory}
+
+-- An option `--NAME VALUE`, as the program adds it, and the command with options of these names.
+abbrev pub option_rule : List ℕ → Rule
+option_rule name = record (new_rule name) { long = Some name }
+
+abbrev pub app_with : List ℕ → List (List ℕ) → App
+app_with command names = record {
+  top = record (new_shape command) { rules = map option_rule names; disable_help_flag = true };
+  subs = [];
+}
 
 -- Matches have the values of these options.
 pub record HasValues (options : List Given) (m : ArgMatches) : Type 0 where

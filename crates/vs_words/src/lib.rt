@@ -1,9 +1,19 @@
 //! The command line: what the words behind the program's name ask for.
 //!
 //! ```text
-//! play [--rings list|plain|shared] [--queue N]        N is 8, 16, 32, 64, 128 or 256; 64, where none is given
+//! play [--rings list|plain|shared] [--queue Q]
+//! run --base PATH [--queue Q] [--idle I]
 //! hostile
-//! peer --base PATH --port N [--idle N]                PATH has 1 to 90 bytes; N is 0 to 4,294,967,295, and 1 to 1,000,000; 10,000
+//! load --number N --conns N --bytes N [--queue Q]
+//! peer --base PATH --port N [--idle I]
+//!
+//! Q        8, 16, 32, 64, 128 or 256; 64, where none is given
+//! PATH     1 to 90 bytes
+//! I        1 to 1,000,000; 10,000, where none is given
+//! number   0 to 4,294,967,295
+//! conns    1 to 64
+//! bytes    0 to 1,000,000
+//! port     0 to 4,294,967,295
 //! ```
 //!
 //! An option is `--NAME VALUE` or `--NAME=VALUE`, given once at most. Numbers have no sign and no leading zero.

@@ -1,7 +1,7 @@
 //! The program `vsock`: makes the real world outside, and calls `vs_run`.
 #![tactic(auto)]
 
-use std::alloc::{AllocError, AllocGlobal};
+use std::alloc::{AllocError, AllocGlobal, Global};
 use std::env::{self, Env};
 use std::fs::Files;
 use std::io::{self, ErrorKind};
@@ -11,9 +11,12 @@ use std::time::Clock;
 use vs_real::{MachineClock, ReadSource, UnixHost, WriteSink, YieldGate};
 use vs_run::{host_fault, no_memory, vsock_main};
 
+/// The gates of the threads of a run: one for each of 64 apps, and one for the thread that turns the device.
+const GATES: usize = 65;
+
 fn main(rt: HostRuntime) -> ExitCode {
     let mut out = WriteSink::new(io::writer(&rt));
-    let (words, mut host, mut clock) = match outside(&rt) {
+    let (words, mut host, mut clock, gates) = match outside(&rt) {
         Ok(outside) => outside,
         Err(e) if e.kind() == ErrorKind::OutOfMemory => {
             return ExitCode::from(no_memory(&mut out));
@@ -29,19 +32,30 @@ fn main(rt: HostRuntime) -> ExitCode {
         &mut host,
         &mut clock,
         &mut gate,
+        gates,
         &mut out,
     ))
 }
 
-/// The program's words, the host's sockets and the clock. The error is want of memory, or that the system gives no poll or no clock.
+/// The program's words, the host's sockets, the clock, and the gates of a run. The error is want of memory, or that the system gives no poll or no clock.
 fn outside<R: AllocGlobal + Env + Net + Files + Clock + Clone + Drop>(
     rt: &R,
-) -> io::Result<(Vec<String>, UnixHost<R>, MachineClock<R>)> {
+) -> io::Result<(Vec<String>, UnixHost<R>, MachineClock<R>, Vec<YieldGate>)> {
     Ok((
         words(rt)?,
         UnixHost::new(rt.clone()?)?,
         MachineClock::new(rt.clone()?)?,
+        gates(rt.alloc())?,
     ))
+}
+
+/// The gates of a run.
+fn gates(alloc: Global) -> Result<Vec<YieldGate>, AllocError> {
+    let mut gates = Vec::new(alloc);
+    for _ in 0..GATES {
+        gates.push(YieldGate::new())?;
+    }
+    Ok(gates)
 }
 
 /// The program's words, its name first. Where one isn't text there are none.

@@ -4,8 +4,7 @@ use Rattle.vs_script.specs.App.{instruction_view}
 use Rattle.vs_script.specs.declared.app.Instruction.TheVariants as code
 use Rattle.laws_driver_bytes.specs.Calls.{GuestCall}
 use Rattle.laws_driver_bytes.specs.Calls as call
-use Rattle.vs_apps_parts.specs.{Scripts.IsRight, Scripts.recv_next}
-use Rattle.vs_apps_parts.specs.declared.progress.TheConstants.{SLICE}
+use Rattle.vs_apps_parts.specs.{Scripts.{IsRight, recv_next}, declared.progress.TheConstants.SLICE}
 use Rattle.laws_apps.proofs.Stepping.{both_made, data_of, made_for, made_same, one_made}
 use Rattle.vs_apps.proofs.steps.make_calls.Goals as goal
 

@@ -1,11 +1,9 @@
-use Rattle.std.proofs.Common.{◌≡◌, ◌<◌, true, false, Some, sym, ap, subst, refl, ◌∙◌, arith}
-use Rattle.std.proofs.lemmas.Bool.Decides.{nat_tests}
+use Rattle.std.proofs.{Common.{◌≡◌, ◌<◌, true, false, Some, sym, ap, subst, refl, ◌∙◌, arith}, lemmas.Bool.Decides.nat_tests}
 use Rattle.vs_contents.proofs.Leads.{leads_of}
 use Rattle.vs_credit.specs.Credit.{free_of}
 use Rattle.vs_flow.specs.Table.{entry_under, value_under}
-use Rattle.vs_device_parts.specs.{Calls.Allows, Filling.filling_of, Playing.MayRun, Playing.Runs, Playing.situation, Receiving.Filling}
-use Rattle.vs_device_parts.specs.{Receiving.may_read, Receiving.read_with_chain, State.DeviceConnection, State.DeviceEntry}
-use Rattle.vs_device_parts.specs.{State.DeviceState, declared.fill.Fill.Fill}
+use Rattle.vs_device_parts.specs.{Calls.Allows, Filling.filling_of, Playing.{MayRun, Runs, situation}, Receiving.{Filling, may_read}}
+use Rattle.vs_device_parts.specs.{Receiving.read_with_chain, State.{DeviceConnection, DeviceEntry, DeviceState}, declared.fill.Fill.Fill}
 use Rattle.vs_device_parts.proofs.Under.{value_of}
 use Rattle.vs_device.proofs.{Among.same_among, Reading.IsToRead, Reading.if_some, Reading.may_step_read, Reading.read_stepped}
 use Rattle.vs_device.proofs.{Reading.reads_stream, Reading.same_entry, Reading.step_not_read, Ordered.step_streams}

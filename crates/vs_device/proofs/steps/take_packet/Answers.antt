@@ -1,8 +1,7 @@
 use Rattle.std.proofs.Common.{◌≡◌, true, false, nat_le, length, refl, sym, ◌∙◌, rules}
 use Rattle.vs_ring_port.specs.declared.queue.Queue.TheVariants.{Tx}
 use Rattle.vs_limits.specs.declared.TheConstants.{DEVICE_REPLIES}
-use Rattle.vs_device.proofs.{Stepping.by_came, Stepping.came, Stepping.may_be_heard, Stepping.may_come, Stepping.taken_among}
-use Rattle.vs_device.proofs.{Stepping.takes_none, Stepping.was_heard, Ordered.step_streams}
+use Rattle.vs_device.proofs.{Stepping.{by_came, came, may_be_heard, may_come, taken_among, takes_none, was_heard}, Ordered.step_streams}
 use Rattle.laws_device_streams.proofs.Stepping.{takes_keeps}
 use Rattle.vs_device.proofs.steps.take_packet.Goals as goal
 

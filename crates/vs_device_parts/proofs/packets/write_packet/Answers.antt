@@ -1,5 +1,4 @@
-use Rattle.std.proofs.Common.{arith, ◌≡◌, ◌<◌, ℕ, List, length, refl, subst, ◌∙◌}
-use Rattle.std.proofs.lemmas.Bool.Decides.{nat_tests}
+use Rattle.std.proofs.{Common.{arith, ◌≡◌, ◌<◌, ℕ, List, length, refl, subst, ◌∙◌}, lemmas.Bool.Decides.nat_tests}
 use Rattle.vs_ring_port.specs.{Contents.Write, DeviceCalls.DeviceAllows}
 use Rattle.vs_device_parts.specs.Playing.{situation}
 use Rattle.vs_device_parts.proofs.Held.{still_held}

@@ -1,5 +1,4 @@
-use Rattle.std.proofs.Common.{rules, tests}
-use Rattle.std.proofs.lemmas.Iterator.{Search.position_from_yields_List, Consumers.YieldsList-from_deque}
+use Rattle.std.proofs.{Common.{rules, tests}, lemmas.Iterator.{Search.position_from_yields_List, Consumers.YieldsList-from_deque}}
 use Rattle.vs_ring_port.specs.Chains.{same_chain}
 use Rattle.vs_embedding.proofs.queues.find.Goals as goal
 

@@ -1,5 +1,4 @@
-use Rattle.std.proofs.Common.{rules, ◌∙◌}
-use Rattle.std.proofs.lemmas.List.Sorted.{answers_always}
+use Rattle.std.proofs.{Common.{rules, ◌∙◌}, lemmas.List.Sorted.answers_always}
 use Rattle.vs_flow.proofs.Entries.{searched}
 use Rattle.vs_flow.proofs.table.found_in.Goals as goal
 

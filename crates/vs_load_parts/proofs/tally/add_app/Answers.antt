@@ -1,6 +1,5 @@
-use Rattle.std.proofs.Common.{◌+◌, Option, ap, ◌∙◌, take}
+use Rattle.std.proofs.{Common.{◌+◌, Option, ap, ◌∙◌, take}, lemmas.List.take_more}
 use Rattle.std.specs.List.{fold}
-use Rattle.std.proofs.lemmas.List.{take_more}
 use Rattle.vs_apps_parts.specs.{Journals.calls_of, Scripts.script_of}
 use Rattle.vs_run_report.specs.{Connections.listed, Connections.opened_by, declared.connection.Opened.Opened}
 use Rattle.vs_load_parts.specs.Line.{adds}

@@ -1,7 +1,6 @@
 use Rattle.std.proofs.Common.{◌≡◌, Err, Result, refl, subst, sym, ◌∙◌, arith}
 use Rattle.vs_peer.specs.{Exchanging.Exchanges, declared.stop.Stop.Stop}
-use Rattle.vs_peer.proofs.{Exchanges.done, Exchanges.fails, Exchanges.goes_on, Exchanges.starts, Exchanges.waits, Waits.none_paused}
-use Rattle.vs_peer.proofs.Waits.{paused_before, paused_once}
+use Rattle.vs_peer.proofs.{Exchanges.{done, fails, goes_on, starts, waits}, Waits.{none_paused, paused_before, paused_once}}
 use Rattle.vs_peer.proofs.exchange.exchange.Goals as goal
 
 pub loop-init : goal.loop-init

@@ -1,5 +1,4 @@
-use Rattle.std.proofs.Common.{◌∙◌, ◌+◌, ◌++◌, Option, ap, map, string_bytes, take}
-use Rattle.std.proofs.lemmas.List.{take_more}
+use Rattle.std.proofs.{Common.{◌∙◌, ◌+◌, ◌++◌, Option, ap, map, string_bytes, take}, lemmas.List.take_more}
 use Rattle.vs_apps_parts.specs.{Journals.calls_of, Scripts.script_of}
 use Rattle.vs_report.specs.Gives.{joined}
 use Rattle.vs_run_report.specs.{Connections.listed, Connections.opened_by, Connections.opened_text, declared.connection.Opened.Opened}

@@ -1,5 +1,4 @@
-use Rattle.std.proofs.Common.{◌≡◌, ◌+◌, arith}
-use Rattle.std.proofs.lemmas.List.{take_rest}
+use Rattle.std.proofs.{Common.{◌≡◌, ◌+◌, arith}, lemmas.List.take_rest}
 use Rattle.vs_script.proofs.Pieces.{line_end, lines_of-first, lines_of-only}
 use Rattle.vs_script.proofs.script.next_line.Goals as goal
 

@@ -1,5 +1,4 @@
-use Rattle.std.proofs.Common.{◌≡◌, ◌≢◌, length, eqb-true, sym, ap, ◌∙◌}
-use Rattle.std.proofs.lemmas.Bool.{eqb-false}
+use Rattle.std.proofs.{Common.{◌≡◌, ◌≢◌, length, eqb-true, sym, ap, ◌∙◌}, lemmas.Bool.eqb-false}
 use Rattle.vs_script.proofs.Pieces.{trimmed, words_of-some, words_of-none}
 use Rattle.vs_script.proofs.words.next_word.Goals as goal
 

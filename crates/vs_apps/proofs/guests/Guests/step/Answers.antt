@@ -1,5 +1,4 @@
-use Rattle.std.proofs.Common.{◌≡◌, length, arith, sym, subst}
-use Rattle.std.proofs.lemmas.Grind.{common_steps}
+use Rattle.std.proofs.{Common.{◌≡◌, length, arith, sym, subst}, lemmas.Grind.common_steps}
 use Rattle.vs_apps_parts.specs.Scripts.{AreRight, RunScript}
 use Rattle.laws_apps.specs.Runs.{Steps}
 use Rattle.vs_limits.specs.declared.TheConstants.{FIRST_CID}

@@ -1,8 +1,7 @@
 use Rattle.std.proofs.Common.{◌≡◌, Bool, true, None, Result, Err, refl, sym, ap, rules}
 use Rattle.vs_ring_port.specs.declared.failure.Failure.{Failure}
 use Rattle.vs_device_parts.specs.State.{DeviceState}
-use Rattle.vs_device.proofs.{EventPaying.may_event, EventPaying.took_event, EventPaying.by_chain, Ordered.pay_honest}
-use Rattle.vs_device.proofs.Accounted.{pay_accounted}
+use Rattle.vs_device.proofs.{EventPaying.{may_event, took_event, by_chain}, Ordered.pay_honest, Accounted.pay_accounted}
 use Rattle.vs_device.proofs.device.Device.pay_event.Goals as goal
 
 pub put_event-requires-clause-may : goal.put_event-requires-clause-may

@@ -2,8 +2,7 @@ use Rattle.std.proofs.Common.{◌≡◌, ℕ, ◌*◌, ◌≤◌, length, drop, 
 use Rattle.vs_contents.specs.CallTree.{for_each}
 use Rattle.vs_outside.specs.Host.{HostContents}
 use Rattle.vs_limits.specs.declared.TheConstants.{DEVICE_CONNECTIONS, WRITE_MAX}
-use Rattle.vs_device_parts.specs.{Playing.MayRunOnHost, Playing.RunsOnHost, Streams.Writing, Streams.pump_of, Streams.pump_slot}
-use Rattle.vs_device_parts.specs.Written.{writing}
+use Rattle.vs_device_parts.specs.{Playing.{MayRunOnHost, RunsOnHost}, Streams.{Writing, pump_of, pump_slot}, Written.writing}
 use Rattle.vs_device.proofs.device.Device.pump_out.Given as goal
 
 -- whatever completes the rest completes the whole

@@ -8,8 +8,7 @@ use Rattle.vs_device_parts.specs.{Calls.Allows, Connections.with_connection, Con
 use Rattle.vs_device_parts.specs.{Playing.Runs, Playing.beside, Playing.situation, Receiving.Filling, Receiving.written}
 use Rattle.vs_device_parts.specs.{Receiving.put_payload, State.DeviceConnection, State.DeviceEntry, State.DeviceState}
 use Rattle.vs_device.specs.contracts.device.Device.{the_view}
-use Rattle.vs_device.proofs.{Among.beside_one, Among.held_one, Among.none_among, Paying.mapped, Reading.header, Reading.after_payload}
-use Rattle.vs_device.proofs.Reading.{payload_put, may_put}
+use Rattle.vs_device.proofs.{Among.{beside_one, held_one, none_among}, Paying.mapped, Reading.{header, after_payload, payload_put, may_put}}
 use Rattle.vs_device_parts.proofs.Under.{has_slot, value_of}
 use Rattle.vs_device.proofs.device.Device.put_payload.Goals as goal
 

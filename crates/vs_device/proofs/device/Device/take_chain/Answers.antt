@@ -1,8 +1,7 @@
 use Rattle.std.{proofs.Common.Option, proofs.Common.sym, proofs.Common.ap, proofs.Common.subst, proofs.Common.◌∙◌, specs.Option.IfSome}
 use Rattle.vs_ring_port.specs.declared.device_ring.Chain.{Chain}
 use Rattle.vs_device_parts.specs.Playing.{IsRxChain, held_by}
-use Rattle.vs_device.proofs.Returning.{returned_unread}
-use Rattle.vs_device.proofs.Takings.{heard_failed, heard_returned, may_hear, newest_held, without_newest}
+use Rattle.vs_device.proofs.{Returning.returned_unread, Takings.{heard_failed, heard_returned, may_hear, newest_held, without_newest}}
 use Rattle.vs_device.proofs.device.Device.take_chain.Goals as goal
 
 pub hear-requires-clause-is_held : goal.hear-requires-clause-is_held

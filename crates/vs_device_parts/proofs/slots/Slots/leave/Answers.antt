@@ -1,5 +1,4 @@
-use Rattle.std.proofs.Common.{◌≡◌, length, Some, None, sym, ap, subst, ◌∙◌, arith, rules}
-use Rattle.std.proofs.lemmas.List.Elements.{All-push}
+use Rattle.std.proofs.{Common.{◌≡◌, length, Some, None, sym, ap, subst, ◌∙◌, arith, rules}, lemmas.List.Elements.All-push}
 use Rattle.vs_flow.specs.Table.{Table, value_under, without}
 use Rattle.vs_device_parts.specs.{State.DeviceConnection, Room.IsSpare, SlotFields.AreKept}
 use Rattle.vs_device_parts.proofs.SlotChanges.{none_leaves, one_fewer}

@@ -1,7 +1,6 @@
 use Rattle.std.proofs.Common.{◌≡◌, true, Ok, refl, sym, subst, rules}
 use Rattle.vs_header.specs.{Packet.header_bytes, declared.Header.Header}
-use Rattle.vs_driver_parts.specs.{Conversations.has_page, Conversations.post_packet, Conversations.request_bytes, Playing.MayPublishAll}
-use Rattle.vs_driver_parts.specs.{Playing.Plays}
+use Rattle.vs_driver_parts.specs.{Conversations.{has_page, post_packet, request_bytes}, Playing.{MayPublishAll, Plays}}
 use Rattle.vs_driver.proofs.{Connecting.after_post, Connecting.finds_page, Rest.may_next, Rest.then}
 use Rattle.vs_driver.proofs.driver.Driver.connect_with_page.Goals as goal
 

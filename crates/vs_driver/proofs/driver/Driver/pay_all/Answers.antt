@@ -1,7 +1,6 @@
 use Rattle.std.proofs.Common.{◌≡◌, ℕ, List, ◌<◌, ◌≤◌, length, sym, ap, subst, ◌∙◌, rules, arith}
 use Rattle.vs_ring_port.specs.{declared.queue.Queue.TheVariants.Tx, Counts.no_counts, Counts.with_count}
-use Rattle.vs_driver_parts.specs.{State.DriverState, Playing.MayPublishAll, Playing.Plays, Conversations.Round, Conversations.round_of}
-use Rattle.vs_driver_parts.specs.Conversations.{pay_slot}
+use Rattle.vs_driver_parts.specs.{State.DriverState, Playing.{MayPublishAll, Plays}, Conversations.{Round, round_of, pay_slot}}
 use Rattle.vs_contents.specs.CallTree.{for_each}
 use Rattle.vs_flow.specs.Table.{slots}
 use Rattle.vs_driver.proofs.Paying.{each_more, may_each_step, may_each_more, each_end}

@@ -2,8 +2,7 @@ use Rattle.std.proofs.Common.{◌+◌, ◌*◌, ◌≤◌, length, drop}
 use Rattle.vs_contents.specs.CallTree.{for_each}
 use Rattle.vs_ring_port.specs.{declared.queue.Queue.TheVariants.Tx, Contents.RingContents}
 use Rattle.vs_limits.specs.declared.TheConstants.{DRIVER_CONNECTIONS}
-use Rattle.vs_driver_parts.specs.Conversations.{Round, round_of, pay_all, pay_slot}
-use Rattle.vs_driver_parts.specs.Playing.{IsAtWork, MayPublishAll, Plays}
+use Rattle.vs_driver_parts.specs.{Conversations.{Round, round_of, pay_all, pay_slot}, Playing.{IsAtWork, MayPublishAll, Plays}}
 use Rattle.vs_driver.proofs.driver.Driver.pay_all.Given as goal
 
 -- whatever completes the rest completes the whole

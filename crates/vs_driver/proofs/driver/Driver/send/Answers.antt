@@ -2,8 +2,7 @@ use Rattle.std.proofs.Common.{refl}
 use Rattle.vs_contents.proofs.Leads.{leads_of}
 use Rattle.vs_driver_parts.specs.Playing.{RingAllows}
 use Rattle.laws_driver.proofs.Calls.{send_honest, send_may}
-use Rattle.vs_driver.proofs.{Ending.sends, Pipes.send_leaves, RingPages.ring_same}
-use Rattle.vs_driver.proofs.Sending.{credit_then, held_then, may_then, sent_then}
+use Rattle.vs_driver.proofs.{Ending.sends, Pipes.send_leaves, RingPages.ring_same, Sending.{credit_then, held_then, may_then, sent_then}}
 use Rattle.vs_driver.proofs.driver.Driver.send.Goals as goal
 
 pub reap_all-requires : goal.reap_all-requires

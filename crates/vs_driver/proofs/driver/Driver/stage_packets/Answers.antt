@@ -1,7 +1,6 @@
 use Rattle.std.proofs.Common.{arith}
 use Rattle.vs_contents.proofs.Loops.{while_more, while_stop, may_step, may_more}
-use Rattle.vs_driver_parts.specs.Playing.{CanMake, RingAllows}
-use Rattle.vs_driver_parts.specs.Conversations.{Round, round_of, take_packet}
+use Rattle.vs_driver_parts.specs.{Playing.{CanMake, RingAllows}, Conversations.{Round, round_of, take_packet}}
 use Rattle.vs_driver.proofs.driver.Driver.stage_packets.Goals as goal
 
 pub take_packet-requires-clause-may : goal.take_packet-requires-clause-may

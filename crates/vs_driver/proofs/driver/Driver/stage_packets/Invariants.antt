@@ -1,8 +1,7 @@
 use Rattle.std.proofs.Common.{◌-◌, ◌≤◌}
 use Rattle.vs_contents.specs.CallTree.{while_up_to}
 use Rattle.vs_ring_port.specs.{declared.queue.Queue.TheVariants.Rx, Contents.RingContents}
-use Rattle.vs_driver_parts.specs.Conversations.{Round, round_of, all_taken, take_packet}
-use Rattle.vs_driver_parts.specs.Playing.{IsAtWork, MayPublishAll, Plays}
+use Rattle.vs_driver_parts.specs.{Conversations.{Round, round_of, all_taken, take_packet}, Playing.{IsAtWork, MayPublishAll, Plays}}
 use Rattle.vs_driver.proofs.driver.Driver.stage_packets.Given as goal
 
 -- whatever completes the rest completes the whole

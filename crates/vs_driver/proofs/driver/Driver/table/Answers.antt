@@ -1,5 +1,4 @@
-use Rattle.std.proofs.Common.{List, ◌<◌, ◌≤◌, ◌^◌, map, length, sym, subst, arith, rules}
-use Rattle.std.proofs.lemmas.List.{length-map}
+use Rattle.std.proofs.{Common.{List, ◌<◌, ◌≤◌, ◌^◌, map, length, sym, subst, arith, rules}, lemmas.List.length-map}
 use Rattle.vs_conn.specs.declared.end.State.{State}
 use Rattle.vs_flow.specs.declared.flow.Flow.{Flow}
 use Rattle.vs_driver_parts.specs.{State.DriverEntry, State.DriverState, Connections.table_shown}

@@ -1,7 +1,6 @@
 use Rattle.vs_ring_port.specs.declared.queue.Queue.TheVariants.{Event}
 use Rattle.vs_contents.proofs.{Leads.leads_bind, Conditions.may_first, Conditions.may_rest}
-use Rattle.vs_driver_parts.specs.Playing.{CanMake, RingAllows}
-use Rattle.vs_driver_parts.specs.Conversations.{round_of, all_taken, published, take_event}
+use Rattle.vs_driver_parts.specs.{Playing.{CanMake, RingAllows}, Conversations.{round_of, all_taken, published, take_event}}
 use Rattle.vs_driver.proofs.Taking.{may_published, round_published}
 use Rattle.vs_driver.proofs.driver.Driver.take_events.Goals as goal
 

@@ -1,6 +1,5 @@
 use Rattle.std.proofs.Common.{◌≡◌, ℕ, List, length, drop, get_or, ◌<◌, ◌≤◌, ◌+◌, sym, ap, subst, ◌∙◌, rules}
-use Rattle.vs_driver_parts.specs.State.{DriverState, Listener}
-use Rattle.vs_driver_parts.specs.Connections.{waiting_on, all_closed, after_close, without_listener}
+use Rattle.vs_driver_parts.specs.{State.{DriverState, Listener}, Connections.{waiting_on, all_closed, after_close, without_listener}}
 use Rattle.vs_driver.{specs.contracts.driver.Driver.the_view, proofs.Kept.kept, proofs.Reading.closed_next, proofs.Reading.closed_ended}
 use Rattle.laws_driver.proofs.Changing.{unlisten_changes}
 use Rattle.vs_driver.proofs.driver.Driver.unlisten.Goals as goal

@@ -1,5 +1,4 @@
-use Rattle.std.proofs.Common.{◌≡◌, ℕ, List, length, Some, true, false, sym, ap, ◌∙◌, rules, arith}
-use Rattle.std.proofs.lemmas.List.Elements.{All-push}
+use Rattle.std.proofs.{Common.{◌≡◌, ℕ, List, length, Some, true, false, sym, ap, ◌∙◌, rules, arith}, lemmas.List.Elements.All-push}
 use Rattle.vs_flow.specs.Table.{Table, entry_under, without}
 use Rattle.vs_driver_parts.specs.{Room.IsSpare, State.DriverConnection, State.GoneConnection, Connections.is_let_go, Held.HeldSlots}
 use Rattle.vs_driver_parts.specs.contracts.slots.Slots.{the_view}

@@ -1,7 +1,5 @@
-use Rattle.std.proofs.Common.{◌≡◌, ◌<◌, length, Some, refl, ap, arith}
+use Rattle.std.proofs.{Common.{◌≡◌, ◌<◌, length, Some, refl, ap, arith}, lemmas.List.Elements.All-push, lemmas.Option.slice_get_read}
 use Rattle.std.specs.List.{slice_get}
-use Rattle.std.proofs.lemmas.List.Elements.{All-push}
-use Rattle.std.proofs.lemmas.Option.{slice_get_read}
 use Rattle.vs_flow.specs.declared.flow.Flow.{Flow}
 use Rattle.vs_driver_parts.specs.Room.{IsSpare}
 use Rattle.vs_driver_parts.proofs.Numbers.{numbers_gone_removed}

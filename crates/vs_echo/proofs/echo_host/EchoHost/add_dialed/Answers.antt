@@ -1,6 +1,5 @@
-use Rattle.std.proofs.Common.{◌≡◌, ℕ, List, ◌+◌, ◌∷◌, [], ◌++◌, length, ap, sym, ◌∙◌, arith}
+use Rattle.std.proofs.{Common.{◌≡◌, ℕ, List, ◌+◌, ◌∷◌, [], ◌++◌, length, ap, sym, ◌∙◌, arith}, lemmas.List.length-append}
 use Rattle.std.specs.List.{range_with_len}
-use Rattle.std.proofs.lemmas.List.{length-append}
 use Rattle.vs_outside.specs.{Host.HostContents, Host.Stream, HostProgram.HostMemory}
 use Rattle.vs_echo.specs.contracts.echo_host.EchoHost.{the_view}
 use Rattle.vs_echo.proofs.Echoes.{all_more, dials, ids_more}

@@ -1,5 +1,4 @@
-use Rattle.std.proofs.Common.{◌≡◌, Some, None, refl, sym, subst, ◌∙◌, rules}
-use Rattle.std.proofs.lemmas.Option.{slice_get_read}
+use Rattle.std.proofs.{Common.{◌≡◌, Some, None, refl, sym, subst, ◌∙◌, rules}, lemmas.Option.slice_get_read}
 use Rattle.std.specs.List.{position}
 use Rattle.vs_flow.specs.CleanPairs.{goes_to}
 use Rattle.vs_flow.proofs.Oldest.{IsPlaceOfOldest, oldest_at}

@@ -1,5 +1,4 @@
-use Rattle.std.proofs.Common.{ap, arith, length, refl, sym, ◌∙◌}
-use Rattle.std.proofs.lemmas.Option.{slice_get_past, slice_get_read}
+use Rattle.std.proofs.{Common.{ap, arith, length, refl, sym, ◌∙◌}, lemmas.Option.{slice_get_past, slice_get_read}}
 use Rattle.std.specs.Option.{option_and_then, option_copied}
 use Rattle.slab.specs.Slab.{get}
 use Rattle.vs_flow.specs.TableFields.{table_of}

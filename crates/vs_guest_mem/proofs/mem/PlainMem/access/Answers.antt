@@ -1,5 +1,4 @@
-use Rattle.std.proofs.Common.{refl, arith}
-use Rattle.std.proofs.lemmas.Grind.{common_steps}
+use Rattle.std.proofs.{Common.{refl, arith}, lemmas.Grind.common_steps}
 use Rattle.vs_guest_mem.specs.Plain.{memory_of}
 use Rattle.vs_guest_mem.proofs.Sound.{sound_access}
 use Rattle.vs_guest_mem.proofs.mem.PlainMem.access.Goals as goal

@@ -1,5 +1,4 @@
-use Rattle.std.proofs.Common.{◌≡◌, ◌≤◌, [], false, ◌+◌, ◌-◌, length, take, drop, refl, ap, ◌∙◌, arith}
-use Rattle.std.proofs.lemmas.List.{take_rest}
+use Rattle.std.proofs.{Common.{◌≡◌, ◌≤◌, [], false, ◌+◌, ◌-◌, length, take, drop, refl, ap, ◌∙◌, arith}, lemmas.List.take_rest}
 use Rattle.vs_peer.proofs.{Streams.relates_as, Sends.length_take_le, Sends.nothing_sent, Sends.piece_of}
 use Rattle.vs_peer.proofs.send.Sending.write.Goals as goal
 

@@ -1,7 +1,6 @@
 use Rattle.std.proofs.Common.{◌≡◌, ℕ, ◌+◌, false, is_some, sym, ap, subst, ◌∙◌, arith}
 use Rattle.vs_contents.proofs.Leads.{end_of}
-use Rattle.vs_device_parts.specs.Playing.{MayRun, Runs, situation}
-use Rattle.vs_device_parts.specs.{Calls.Allows, Streams.Writing, Streams.pump_of, Written.writing}
+use Rattle.vs_device_parts.specs.{Playing.{MayRun, Runs, situation}, Calls.Allows, Streams.{Writing, pump_of}, Written.writing}
 use Rattle.vs_proxy_parts.specs.{State.ProxyState, State.Turning, State.with_device, Turning.CountsFew, Turning.turning_of}
 use Rattle.vs_proxy.{specs.contracts.proxy.Proxy.the_view, proofs.Counting.pump_few, proofs.Staging.may_pump, proofs.Staging.pumped}
 use Rattle.vs_proxy.proofs.proxy.Proxy.pump_stage.Goals as goal

@@ -2,8 +2,7 @@ use Rattle.std.proofs.Common.{◌≡◌, ◌≤◌, length, drop}
 use Rattle.vs_contents.specs.CallTree.{for_each}
 use Rattle.vs_ring_port.specs.Contents.{RingContents}
 use Rattle.vs_device_parts.specs.{Calls.Situation, Playing.MayRunOnHost, Playing.Runs, Playing.situation}
-use Rattle.vs_proxy_parts.specs.{Handshakes.tick_handshake, Handshakes.tick_handshakes, State.Turning}
-use Rattle.vs_proxy_parts.specs.Turning.{CountsFew, turning_of}
+use Rattle.vs_proxy_parts.specs.{Handshakes.{tick_handshake, tick_handshakes}, State.Turning, Turning.{CountsFew, turning_of}}
 use Rattle.vs_limits.specs.declared.TheConstants.{HANDSHAKES}
 use Rattle.vs_proxy.proofs.proxy.Proxy.tick_handshakes.Given as goal
 

@@ -1,8 +1,7 @@
 use Rattle.std.proofs.Common.{◌≡◌, false, is_some, sym, subst, ◌∙◌}
 use Rattle.vs_contents.proofs.Leads.{end_of}
 use Rattle.vs_device_parts.specs.{Calls.Allows, Playing.MayRun, Playing.Runs, Playing.situation, State.DeviceState, Streams.tick_of}
-use Rattle.vs_proxy_parts.specs.{Handshakes.tick_handshakes, State.ProxyState, State.Turning, State.with_device}
-use Rattle.vs_proxy_parts.specs.Turning.{CountsFew, turning_of}
+use Rattle.vs_proxy_parts.specs.{Handshakes.tick_handshakes, State.{ProxyState, Turning, with_device}, Turning.{CountsFew, turning_of}}
 use Rattle.vs_proxy.proofs.{Counting.few_then, Counting.tick_few, Staging.may_tick, Staging.may_tick_hands, Staging.ticked}
 use Rattle.vs_proxy.proofs.proxy.Proxy.tick_stage.Goals as goal
 

@@ -3,8 +3,7 @@ use Rattle.vs_guest_mem.specs.Memory.{Memory}
 use Rattle.vs_ring_port.specs.Contents.{Read}
 use Rattle.vs_ring_plain.specs.{declared.piece.Piece.Piece, Accesses.over, Chain.total_len, Device.DeviceState, Device.answer_to}
 use Rattle.vs_ring_plain.specs.{Device.with_memory, Pieces.reading, Pieces.spans, Side.state_in}
-use Rattle.vs_ring_plain.proofs.{DeviceOrder.held_of, DeviceOrder.order_with, HeldChains.held_inside, HeldChains.held_readable}
-use Rattle.vs_ring_plain.proofs.HeldChains.{sound_in}
+use Rattle.vs_ring_plain.proofs.{DeviceOrder.{held_of, order_with}, HeldChains.{held_inside, held_readable, sound_in}}
 use Rattle.vs_ring_plain.proofs.device.DeviceSide.read_chain.Goals as goal
 
 pub read_pieces-requires-clause-inside : goal.read_pieces-requires-clause-inside

@@ -4,8 +4,7 @@ use Rattle.vs_ring_port.specs.{Chains.bytes_in, Chains.chains_of, EndLog.entries
 use Rattle.vs_ring_rule.specs.{Steps.removed, Rule.queue_in}
 use Rattle.vs_ring_shared.specs.{Countings.CountsDevice, Countings.entries_in, Holdings.all_held, Sights.DeviceSight, Sights.returned_queue}
 use Rattle.vs_ring_shared.specs.declared.counters.DeviceCounters.{DeviceCounters}
-use Rattle.vs_ring_shared.proofs.Countings.{count_notice, count_put, counts_turn}
-use Rattle.vs_ring_shared.proofs.DeviceCalls.{returns_rx, returns_tx, returns_event}
+use Rattle.vs_ring_shared.proofs.{Countings.{count_notice, count_put, counts_turn}, DeviceCalls.{returns_rx, returns_tx, returns_event}}
 use Rattle.vs_page.specs.Log as log
 use Rattle.vs_ring_shared.proofs.device_side.DeviceSide.give_back.Goals as goal
 

@@ -3,10 +3,9 @@ use Rattle.std.{proofs.lemmas.Option.IfSome_then, specs.Prelude.IfSome}
 use Rattle.vs_page.specs.Held.{listed, packet_held}
 use Rattle.vs_ring_port.specs.{EndLog.entries_taken, Lists.to_read, declared.queue.Queue.Queue}
 use Rattle.vs_ring_rule.specs.Rule.{queue_in}
-use Rattle.vs_ring_shared.specs.Holdings.{Holding, all_held, packets_in_first}
-use Rattle.vs_ring_shared.specs.Sights.{DeviceSight, TakesOne, sight_of, took_queue}
-use Rattle.vs_ring_shared.proofs.DeviceCalls.{room_to_hold, seen_chain, takes_tx}
+use Rattle.vs_ring_shared.specs.{Holdings.{Holding, all_held, packets_in_first}, Sights.{DeviceSight, TakesOne, sight_of, took_queue}}
 use Rattle.vs_ring_shared.specs.{Countings.CountsDevice, DeviceStates.DeviceTakesChain, declared.counters.DeviceCounters.DeviceCounters}
+use Rattle.vs_ring_shared.proofs.DeviceCalls.{room_to_hold, seen_chain, takes_tx}
 use Rattle.vs_ring_shared.proofs.{DriverCalls.same_table, Countings.count_taken, Countings.counts_turn}
 use Rattle.vs_ring_shared.proofs.device_side.DeviceSide.take_next.Goals as goal
 

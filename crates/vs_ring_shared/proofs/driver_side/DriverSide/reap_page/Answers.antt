@@ -1,8 +1,7 @@
 use Rattle.std.proofs.{Common.Some, Common.ℕ, Common.◌+◌, Common.◌%◌, Common.refl, Common.subst, lemmas.Option.IfSome_then}
 use Rattle.std.specs.Prelude.{IfSome}
 use Rattle.vs_page.specs.Fair.{IsFairLog}
-use Rattle.vs_ring_port.specs.{EndLog.entries_reaped, declared.queue.Queue.Queue}
-use Rattle.vs_ring_port.specs.declared.queue.Queue.TheVariants.{Event, Rx}
+use Rattle.vs_ring_port.specs.{EndLog.entries_reaped, declared.queue.Queue.Queue, declared.queue.Queue.TheVariants.{Event, Rx}}
 use Rattle.vs_ring_shared.specs.{DriverStates.Goes, Sights.ReapsOne, Sights.Sight, Sights.sight_of, Sights.took_queue}
 use Rattle.vs_ring_shared.specs.declared.counters.DriverCounters.{DriverCounters}
 use Rattle.vs_ring_shared.proofs.Countings.{count_event, count_got, counts_event, counts_rx}
