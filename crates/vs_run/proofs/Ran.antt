@@ -1,26 +1,33 @@
 -- What the status of a run says, and of a load.
-use Rattle.std.proofs.Common.{◌≡◌, ◌⊎◌, inl, inr, arith, ℕ, Bool, cond, true, false, List, [], ◌∷◌, Option, Result, Ok, Err, refl, subst}
+use Rattle.std.proofs.Common.{◌≡◌, ◌⊎◌, inl, inr, arith, ℕ, Bool, cond, true, false, List, [], ◌∷◌, length, map, Option, Result, Ok, Err, refl, subst}
+use Rattle.std.specs.List.range_with_len
 use Rattle.vs_outside.specs.Host.{HostContents}
 use Rattle.vs_peer.specs.{Ends.EndsAs, Text.host_fault_text, Text.no_memory_text}
 use Rattle.vs_ring_shared.specs.Ports.{IsRingSize}
 use Rattle.vs_script.specs.{Script.Attacks, Script.Plays, Script.Runs, Script.Saying, declared.fault.Refused.Refused}
 use Rattle.vs_apps_parts.specs.Scripts.{RunScript}
-use Rattle.vs_run_report.specs.{Endings.is_done, Report.status_of, declared.ending.Ending.Ending}
+use Rattle.vs_apps_parts.specs.declared.{journal.Entry.Entry, progress.AppState.AppState}
+use Rattle.vs_run_report.specs.{Endings.is_done, Report.{ended_at, run_status, status_of}, declared.ending.Ending.Ending}
+use Rattle.vs_report.specs.Gives.joined
 use Rattle.vs_report.specs.declared.giving.GiveError.TheVariants as give
-use Rattle.vs_run_apps.specs.{Printed.Answers, declared.whole.RunError.RunError}
+use Rattle.vs_run_apps.specs.{Printed.{Answers, texts_of}, declared.whole.RunError.RunError}
 use Rattle.vs_run_apps.specs.declared.whole.RunError.TheVariants as error
 use Rattle.vs_words.specs.Command.{IsQueueSize}
 use Rattle.vs_run.specs.{Ends.EndsWith, Runs.EndsLoad, Runs.EndsOver, Runs.EndsRun}
 use Rattle.vs_run.proofs.Endings.{not_two}
 
 -- the status of a run that was over
-pub zero_or_five : (es : List Ending) → (status_of es ≡ 0) ⊎ (status_of es ≡ 5)
+zero_or_five : (es : List Ending) → (status_of es ≡ 0) ⊎ (status_of es ≡ 5)
 zero_or_five [] = inl refl
 zero_or_five (e ∷ es) = go (is_done e) (zero_or_five es)
   where
     go : (b : Bool) → (status_of es ≡ 0) ⊎ (status_of es ≡ 5) → (cond b (status_of es) 5 ≡ 0) ⊎ (cond b (status_of es) 5 ≡ 5)
     go true h = h
     go false h = inr refl
+
+pub run_zero_or_five : (script : RunScript) (apps : List AppState) (entries : List Entry)
+    → (run_status script apps entries ≡ 0) ⊎ (run_status script apps entries ≡ 5)
+run_zero_or_five script apps entries = zero_or_five (map (ended_at script apps entries) (range_with_len 0 (length script)))
 
 no_two : (n : ℕ) → (n ≡ 0) ⊎ (n ≡ 5) → n ≡ 2 → ⊥
 no_two n (inl e) two = absurd (omega (arith, e, two))
@@ -34,7 +41,8 @@ module _ (out out' : Option (List ℕ)) (f g r : ℕ) where
   over_two : (idle : ℕ) (script : RunScript) (host : Option HostContents) (failed failed' : ℕ)
       → EndsOver idle script host failed failed' out out' f g r → r ≡ 2 → ⊥
   over_two idle script host failed failed' (inl (guests, side, met, told, faults, ran, h)) two =
-      no_two _ (zero_or_five _) (not_two out out' f g _ _ r h two)
+      no_two (run_status script guests.apps guests.entries) (run_zero_or_five script guests.apps guests.entries)
+      (not_two out out' f g (joined (texts_of idle script guests side.proxy)) (run_status script guests.apps guests.entries) r h two)
   over_two idle script host failed failed' (inr (inl h)) two = absurd (omega (arith, not_two out out' f g _ 9 r h two))
   over_two idle script host failed failed' (inr (inr h)) two = absurd (omega (arith, not_two out out' f g _ 6 r h.1 two))
 
@@ -58,7 +66,7 @@ module _ (idle : ℕ) (script : RunScript) (host : Option HostContents) (failed 
   over_done status (guests, side, met, told, faults, ran, h) = inl (guests, side, met, told, faults, ran, inl h)
 
   over_part : Answered (Err (error.NotGiven give.Sink)) → EndsOver idle script host failed failed' out mid f m 4
-  over_part (guests, side, met, told, faults, ran, h) = inl (guests, side, met, told, faults, ran, inr (refl, h))
+  over_part (guests, side, met, told, faults, ran, h) = inl (guests, side, met, told, faults, ran, inr (refl, h.0, h.1))
 
   pub over_less : (e : RunError) → e ≡ error.NotGiven give.Sink → Answered (Err e) → EndsOver idle script host failed failed' out mid f m 4
   over_less e is h = over_part (subst (λ x. Answered (Err x)) is h)
@@ -76,7 +84,7 @@ module _ (idle : ℕ) (script : RunScript) (host : Option HostContents) (failed 
         → EndsOver idle script host failed failed' out out' f g r
     not_started e is h last =
         let k = subst (λ x. Answered (Err x)) is h in
-        inr (inr (k.0, behind host_fault_text 6 k.1 last))
+        inr (inr (k.0, behind host_fault_text 6 (k.1, k.2) last))
 
 -- a run for whose script memory ran out
 pub run_starved : (idle : ℕ) (host : Option HostContents) (failed : ℕ) (out out' : Option (List ℕ)) (f g r : ℕ) (p : Result Saying Refused)

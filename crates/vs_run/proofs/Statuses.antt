@@ -9,10 +9,13 @@ use Rattle.vs_ring_port.specs.declared.failure.Failure.{Failure}
 use Rattle.vs_script.specs.{Script.{Attacks, Plays, Runs, Saying}, declared.fault.Refused.Refused, declared.script.Command.Command}
 use Rattle.vs_script.specs.declared.script.Command.TheVariants as script_of
 use Rattle.vs_apps_parts.specs.Scripts.{RunScript}
+use Rattle.vs_report.specs.Gives.joined
+use Rattle.vs_run_report.specs.Report.run_status
+use Rattle.vs_run_apps.specs.Printed.texts_of
 use Rattle.vs_words.specs.Command as words
 use Rattle.vs_run.specs.{Does.{Does, KeepsHost, is_client, is_status, uses_host}, Runs.{EndsLoad, EndsOver, EndsRun}, Ends.EndsAnswer}
 use Rattle.vs_run.specs.Ends.{EndsAnswering, EndsParsed, EndsScript, EndsWith, NoMemory, Read, SourceFails, refusal_text, usage_text}
-use Rattle.vs_run.proofs.Ran.{zero_or_five}
+use Rattle.vs_run.proofs.Ran.run_zero_or_five
 
 -- A status with its cause.
 data Cause (command : Option words.Command) (old new : Lent) (r : ℕ) : Type 0 where
@@ -122,7 +125,9 @@ module _ (command : Option words.Command) (old new : Lent) (r : ℕ) where
 
   over_cause : uses_host command ≡ true → (idle : ℕ) (apps : RunScript)
       → EndsOver idle apps new.host old.host_faults new.host_faults old.out new.out old.sink_faults new.sink_faults r → Cause command old new r
-  over_cause host idle apps (inl (guests, side, met, told, faults, ran, h)) = as_cause _ _ (λ e. own _ e (zero_or_five _)) h
+  over_cause host idle apps (inl (guests, side, met, told, faults, ran, h)) =
+      as_cause (joined (texts_of idle apps guests side.proxy)) (run_status apps guests.apps guests.entries)
+      (λ e. own (run_status apps guests.apps guests.entries) e (run_zero_or_five apps guests.apps guests.entries)) h
     where
       own : (n : ℕ) → r ≡ n → (n ≡ 0) ⊎ (n ≡ 5) → Cause command old new r
       own n e (inl done) = Done (e ∙ done)

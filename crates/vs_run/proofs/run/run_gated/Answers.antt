@@ -3,7 +3,7 @@ use Rattle.vs_run.proofs.Ran.{not_started, over_done, over_less, over_starved, r
 use Rattle.vs_run.proofs.run.run_gated.Goals as goal
 
 pub run-requires-clause-queue : goal.run-requires-clause-queue
-run-requires-clause-queue g c = ring_size c.args.queue c.requires.queue
+run-requires-clause-queue g c κs within = ring_size c.args.queue c.requires.queue
 
 pub returns-in-Ok : goal.returns-in-Ok
 returns-in-Ok g c =

@@ -102,8 +102,9 @@ returns-clause-runs g c = λ base queue idle text apps is few same told parsed.
 
 pub returns-clause-refused_run : goal.returns-clause-refused_run
 returns-clause-refused_run g c = λ base queue idle text r is few same told parsed.
-    run_refused (command_of (map string_bytes c.args.words.now))
+    let refused = run_refused (command_of (map string_bytes c.args.words.now))
     (lent (g.S.Source.contents c.args.script.now) (g.H.HostNet.contents c.args.host.now) (g.K.Sink.contents c.args.out.now)
     (g.S.Source.faults c.args.script.now) (g.H.HostNet.faults c.args.host.now) (g.K.Sink.faults c.args.out.now) (g.G.Gate.pauses c.args.gate.now))
     (lent (g.S.Source.contents c.run.new.script) (g.H.HostNet.contents c.run.new.host) (g.K.Sink.contents c.run.new.out)
-    (g.S.Source.faults c.run.new.script) (g.H.HostNet.faults c.run.new.host) (g.K.Sink.faults c.run.new.out) (g.G.Gate.pauses c.run.new.gate)) c.run.result base queue idle text is c.run.ensures.does few same told r parsed
+    (g.S.Source.faults c.run.new.script) (g.H.HostNet.faults c.run.new.host) (g.K.Sink.faults c.run.new.out) (g.G.Gate.pauses c.run.new.gate)) c.run.result base queue idle text is c.run.ensures.does few same told r parsed in
+    (refused.0, refused.1.0, refused.1.1)
