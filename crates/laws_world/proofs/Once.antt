@@ -5,7 +5,7 @@ use Rattle.laws_history.specs.{Again.count, Packets.is_request, declared.packet.
 use Rattle.laws_history.specs.History.{Asker, History, Side, gots, peer, puts}
 use Rattle.laws_history.proofs.Lists.{count_append}
 use Rattle.vs_page.specs.{Fair.{asked_by, number_of}, Log.{Device, Driver, IsNextPacket, Role, flow_got, other_role, side_of, whole_of}}
-use Rattle.vs_page.specs.declared.log.LogEntry.TheVariants.GotPacket
+use Rattle.vs_page.specs.declared.log.LogEntry.TheVariants.{GotPacket}
 use Rattle.vs_page.proofs.{Entries.got_on, Entries.on_flow, Flows.opposite_by, Flows.same_self}
 use Rattle.laws_tables.specs.Both.{Asks, Both, Decides, Happening, IsSound, MayHappen, MayRun, Opens, Pays, Sends, Step, at, happens, run, start}
 use Rattle.laws_tables.proofs.{Both.next_is_fair, Fair.own_got_fair}

@@ -8,7 +8,7 @@ use Rattle.vs_contents.proofs.Leads.{leads_split}
 use Rattle.vs_page.specs.{Log.Log, Open.cid_of}
 use Rattle.vs_script.specs.{App.app_view, declared.app.App.App}
 use Rattle.vs_ring_port.specs.{Contents.RingContents, Known.{IsOlder, Known, LoadsCid}, declared.queue.Queue.TheVariants.{Event, Rx}}
-use Rattle.vs_ring_port.specs.EndLog.EndLog
+use Rattle.vs_ring_port.specs.EndLog.{EndLog}
 use Rattle.vs_driver_parts.specs.Conversations.{load_cid, new_of, new_state, post_all, post_events}
 use Rattle.vs_driver_parts.specs.{Playing.IsRingOf, Playing.Plays, Playing.RingAllows, State.DriverState, declared.answers.Polled.Polled}
 use Rattle.vs_ring_rule.specs.declared.view.Past.{Past}

@@ -15,7 +15,7 @@ use Rattle.vs_device_parts.specs.Steps.{chain_came, filling, heard_chain, puts_e
 use Rattle.vs_device_parts.specs.{Steps.{writes, writes_on, writing}, Calls.{Allows, DeviceTree, Ring, Situation}, Playing.CanMake}
 use Rattle.vs_device_parts.specs.{Playing.{IsAmong, IsRxChain, MayRun, Runs}, Receiving.{Filling, event_on, hold, put_owed, put_reply}}
 use Rattle.vs_device_parts.specs.{State.{DeviceEntry, DeviceState}, Streams.{Writing, shut_write, write_pending}, Transmitting.failing}
-use Rattle.vs_device_parts.specs.Transmitting.on_packet
+use Rattle.vs_device_parts.specs.Transmitting.{on_packet}
 use Rattle.vs_limits.specs.declared.TheConstants.{DEVICE_REPLIES}
 use Rattle.vs_ring_port.specs.declared.device_ring.Next.TheVariants as next
 use Rattle.vs_ring_port.specs.declared.failure.Failure.TheVariants as failure

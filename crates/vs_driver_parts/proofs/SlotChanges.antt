@@ -2,7 +2,7 @@
 use Rattle.std.proofs.{lemmas.Option.{slice_get_within, get_or_from_slice_get}, Math.Seq.get_or-append_seam, lemmas.Bool.Decides.nat_tests}
 use Rattle.std.proofs.{lemmas.List.Edits.length-remove, Common.{◌≡◌, ◌≢◌, ℕ, ◌+◌, ◌<◌, ◌==◌, Bool, true, false, cond, List, [], ◌∷◌, ◌++◌}}
 use Rattle.std.proofs.{Common.{length, get_or, Some, None, sym, ap, subst, ◌∙◌, arith, length-append}, lemmas.List.length-map}
-use Rattle.std.proofs.lemmas.List.get_or_append_left
+use Rattle.std.proofs.lemmas.List.{get_or_append_left}
 use Rattle.std.specs.{List.All, List.AllPairs, List.find, Option.option_and_then, Option.option_map}
 use Rattle.vs_flow.specs.{Flow.host_flow, Flow.is_assigned, Flow.same_flow, declared.flow.Flow.Flow}
 use Rattle.vs_flow.specs.Table.{Table, IsTable, entry_of, entry_under, value_under, with_value, without, revalued}

@@ -5,7 +5,7 @@ use Rattle.std.proofs.{lemmas.Option.{slice_get_cases, slice_get_read}, Math.Lis
 use Rattle.std.proofs.Common.{◌≤◌, Bool, false, not, cond, ◌==◌, List, [], ◌∷◌, ◌++◌, length, map, get_or, Option, Some, None, is_some, inl}
 use Rattle.std.proofs.{Common.{inr, refl, ap, sym, subst, ◌∙◌, arith, length-append}, Math.Seq.get_or-append_seam}
 use Rattle.std.specs.{List.{All, AllPairs, AllWithin, find, filter, position, position_or_len, remove, slice_get}, Map.lookup}
-use Rattle.std.specs.Option.option_and_then
+use Rattle.std.specs.Option.{option_and_then}
 use Rattle.indexmap.specs.IndexMap.{insert_entry}
 use Rattle.indexmap.proofs.MapLemmas.{absent_from_lookup, insert_entry-absent}
 use Rattle.slab.specs.Slab.{ContainsKey, Slab, Updates, get, slab_len, with_value}

@@ -4,7 +4,7 @@ use Rattle.std.{proofs.Common.ap₂, proofs.Common.◌∙◌, proofs.Common.subs
 use Rattle.vs_ring_port.specs.{DeviceCalls.{CanReturn, DeviceAllows, LeavesNoGap}, DriverCalls.{CanPublish, CanStage, DriverAllows}}
 use Rattle.vs_ring_port.specs.{DriverCalls.{LoadCid, Publish, Reap, Stage}, Contents.{Given, PublishCid, Read, Return, Take, Write}}
 use Rattle.vs_ring_port.specs.{declared.queue.Queue.TheVariants.{Rx, Tx, Event}, declared.{device_ring.Chain.Chain, device_ring.Next.Next}}
-use Rattle.vs_ring_port.specs.declared.queue.Queue.Queue
+use Rattle.vs_ring_port.specs.declared.queue.Queue.{Queue}
 use Rattle.laws_ring_journal.specs.History.{ByDevice, ByDriver, History, RingCall, then}
 use Rattle.vs_ring_list.specs.Ends.{Ends, empty_ends}
 use Rattle.vs_ring_plain.specs.Device.{DeviceState, answer_to, chains_held}

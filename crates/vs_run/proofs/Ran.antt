@@ -1,6 +1,6 @@
 -- What the status of a run says, and of a load.
 use Rattle.std.proofs.Common.{◌≡◌, ◌⊎◌, inl, inr, arith, ℕ, Bool, cond, true, false, List, [], ◌∷◌, length, map, Option, Result, Ok, Err, refl, subst}
-use Rattle.std.specs.List.range_with_len
+use Rattle.std.specs.List.{range_with_len}
 use Rattle.vs_outside.specs.Host.{HostContents}
 use Rattle.vs_peer.specs.{Ends.EndsAs, Text.host_fault_text, Text.no_memory_text}
 use Rattle.vs_ring_shared.specs.Ports.{IsRingSize}
@@ -8,7 +8,7 @@ use Rattle.vs_script.specs.{Script.Attacks, Script.Plays, Script.Runs, Script.Sa
 use Rattle.vs_apps_parts.specs.Scripts.{RunScript}
 use Rattle.vs_apps_parts.specs.declared.{journal.Entry.Entry, progress.AppState.AppState}
 use Rattle.vs_run_report.specs.{Endings.is_done, Report.{ended_at, run_status, status_of}, declared.ending.Ending.Ending}
-use Rattle.vs_report.specs.Gives.joined
+use Rattle.vs_report.specs.Gives.{joined}
 use Rattle.vs_report.specs.declared.giving.GiveError.TheVariants as give
 use Rattle.vs_run_apps.specs.{Printed.{Answers, texts_of}, declared.whole.RunError.RunError}
 use Rattle.vs_run_apps.specs.declared.whole.RunError.TheVariants as error

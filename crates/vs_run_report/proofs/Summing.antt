@@ -1,7 +1,7 @@
 -- What the entries of a journal add to what was sent and received on a connection.
 use Rattle.std.proofs.Common.{◌≡◌, ℕ, ◌+◌, ◌-◌, ◌==◌, ◌^◌, min, if◌then◌else◌, Bool, true, false, List, [], ◌∷◌, ◌++◌, length, take, drop}
 use Rattle.std.proofs.{Common.{refl, sym, ap, ◌∙◌, arith, append_assoc, append-nil}, lemmas.List.{length-append, length-drop, length-take}}
-use Rattle.std.proofs.lemmas.List.FromFn.length-map-range_with_len
+use Rattle.std.proofs.lemmas.List.FromFn.{length-map-range_with_len}
 use Rattle.vs_script.specs.Data.{Content, Fill, Given, bytes_of, filled, size_of}
 use Rattle.laws_driver_bytes.specs.{Calls.Journal, Calls.bytes_received, Calls.bytes_sent, Calls.names, Calls.received_by, Sent.took}
 use Rattle.vs_apps_parts.specs.{Journals.{calls_of, data_at, gathered, made_by, made_of, sent_as}, Scripts.{RunScript, acts_of, slice_of}}

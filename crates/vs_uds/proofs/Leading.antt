@@ -2,7 +2,7 @@
 use Rattle.std.proofs.Common.{◌≡◌, ◌==◌, ℕ, zero, suc, Bool, true, false, cond, List, [], ◌∷◌, ◌++◌, length, replicate, Option, Some, None}
 use Rattle.std.proofs.{Common.{refl, sym, inl, inr, arith, eqb-true, leb-true, nat_le}, lemmas.{Bool.and_parts, Bool.cases_Bool}}
 use Rattle.std.proofs.{lemmas.{Bool.false_from_ne_true, List.drop_at, List.take_at, List.take_rest}, Math.Numerals.one-add}
-use Rattle.std.proofs.lemmas.List.Sums.prefix_len-le-length
+use Rattle.std.proofs.lemmas.List.Sums.{prefix_len-le-length}
 use Rattle.std.specs.{Char.is_ascii_digit, List.list_all, List.prefix_len}
 use Rattle.vs_uds.specs.Scan.{after_digits, leading_digits, without_leading_spaces}
 use Rattle.vs_uds.proofs.Readings.{has_lf}

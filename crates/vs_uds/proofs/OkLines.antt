@@ -1,7 +1,7 @@
 -- An OK line is what `ok_port` reads, and it is answered at its last byte.
 use Rattle.std.proofs.Common.{◌≡◌, ◌↔◌, ◌≤◌, ◌<◌, ◌^◌, ℕ, false, List, [], ◌∷◌, ◌++◌, length, take, drop, Some, refl, sym, ap, ◌∙◌, arith}
 use Rattle.std.proofs.{Common.{codes, decimal, take-append-drop, length-append}, lemmas.{Bool.and_parts, Fmt.length-decimal-le}}
-use Rattle.std.proofs.lemmas.Slice.Eq.bytes_eq-Decides
+use Rattle.std.proofs.lemmas.Slice.Eq.{bytes_eq-Decides}
 use Rattle.std.specs.Str.{bytes_eq}
 use Rattle.vs_uds.specs.{OkLine.IsOkLine, OkLine.ok_answers, OkLine.ok_port, OkLine.ok_step, OkLine.ok_text, Port.port_in}
 use Rattle.vs_uds.specs.{Reading.port_at_end, Scan.after_digits, Scan.leading_digits, declared.scan.Step.TheVariants.Port}

@@ -1,7 +1,7 @@
 -- What one word does to a parse of a command whose options each take one value.
 use Rattle.std.proofs.Common.{◌≡◌, ◌∙◌, ◌==◌, ℕ, Bool, true, false, refl, sym, ap, arith, List, [], ◌∷◌, ◌++◌, map, length, Option, Some}
 use Rattle.std.proofs.{Common.None, lemmas.Str.{chars_past_char, encodes-chars}, Math.Utf8.{encode, encodes}}
-use Rattle.std.proofs.lemmas.Bool.Decides.Decides-eqb
+use Rattle.std.proofs.lemmas.Bool.Decides.{Decides-eqb}
 use Rattle.std.specs.{Prelude.slice_get, Str.IsUtf8, Str.bytes_eq, Str.chars}
 use Rattle.clap.specs.{Lexer.long_of, Lexer.name_and_value, Lexer.short_of, Walk.Held, Walk.Text, Walk.Waiting, Walk.Walk, Walk.idle}
 use Rattle.clap.specs.{Walk.option, Walk.settled_rows, Walk.used, Walk.walked, Simple.Shape, Kinds.Kinds, Kinds.or_else, Faults.flags_fault}
