@@ -91,7 +91,7 @@ pub fn load<W: Threads + Wait + Sync, C: Clock, G: Gate + Send + Drop>(
     gates: Vec<G>,
     gate: G,
 ) -> Result<String, AllocError>
-    requires { IsRingSize queue }
+    requires queue { IsRingSize queue }
     ensures { IfOk result (λ line. IsLoaded number conns bytes (string_bytes line)) }
 {
     law_of_loads(number, conns, bytes);
