@@ -1,10 +1,10 @@
 -- From what a command did to what each of its clauses says.
-use Rattle.std.proofs.Common.{◌≡◌, ◌⊎◌, inl, inr, ◌∙◌, ◌<◌, ◌-◌, ◌^◌, arith, ℕ, Bool, cond, true, false, nat_le, List, [], ◌∷◌, length}
+use Rattle.std.proofs.Common.{◌≡◌, ◌≢◌, ◌⊎◌, inl, inr, ◌∙◌, ◌<◌, ◌-◌, ◌^◌, arith, ℕ, Bool, cond, true, false, nat_le, List, [], ◌∷◌, length}
 use Rattle.std.proofs.Common.{Option, Some, None, Result, Ok, Err, refl, sym, ap, subst}
 use Rattle.std.proofs.lemmas.{Bool.Decides.nat_tests, List.length-take}
 use Rattle.vs_hostile.specs.Answer.{answer_to as hostile_answer, hostile_of, status_of}
 use Rattle.vs_outside.specs.Faults.{CountsFault}
-use Rattle.vs_peer.specs.{Ends.EndsAs, Ends.Lent, Pieces.IsReading, Pieces.ReadsAll, Statuses.Says, Text.no_memory_text}
+use Rattle.vs_peer.specs.{Ends.EndsAs, Ends.Lent, Pieces.IsReading, Pieces.ReadsAll, Statuses.Says, Text.no_memory_text, Text.read_fault_text}
 use Rattle.vs_peer.specs.declared.source.TheConstants.{SOURCE_MAX}
 use Rattle.vs_peer.specs.Statuses as statuses
 use Rattle.vs_play.specs.Answer.{answer_to as play_answer, play_of}
@@ -19,8 +19,8 @@ use Rattle.vs_apps_parts.specs.Scripts.{RunScript}
 use Rattle.vs_words.specs.Command as words
 use Rattle.vs_words.specs.declared.command.Rings.{Rings}
 use Rattle.vs_run.specs.Ends.{EndsAnswer, EndsAnswering, EndsParsed, EndsRefused, EndsScript, EndsWith, NoMemory, Read, SourceFails, refusal_text, usage_text}
-use Rattle.vs_run.specs.{Does.Does, Does.IsNoScript, Does.KeepsHost, Runs.EndsOver, Runs.EndsRun}
-use Rattle.vs_run.proofs.{Endings.HasLine, Endings.gave_none, Endings.has_line_behind, Endings.not_two, Endings.one_line, Ran.load_two, Ran.run_two}
+use Rattle.vs_run.specs.{Does.Does, Does.IsNoScript, Does.KeepsHost, Does.KeepsSource, Does.is_client, Does.uses_host, Runs.EndsOver, Runs.EndsRun}
+use Rattle.vs_run.proofs.{Endings.HasLine, Endings.gave_none, Endings.has_line_behind, Endings.not_seven, Endings.not_two, Endings.one_line, Ran.load_two, Ran.run_two}
 
 -- a fault shows in a count that can rise
 fault_shows : (old new : ℕ) → CountsFault true old new → old < 2 ^ 64 - 1 → new ≡ old → ⊥
@@ -89,6 +89,24 @@ module _ (c : Command) (lines : Result Saying Refused → List (List ℕ)) (own 
       → EndsAnswering c lines own source read read' out out' f g r → r ≡ 2 → (e : Refused) × (parse_of c text ≡ Err e)
   answer_refused source is never ends two =
       refused_at_2 c (Unit {0}) (EndsParsed lines own out out' f g r) text read read' out out' f g r source is (parsed_two never) ends two
+
+  -- what its status tells, where a device failed
+  answer_seven : (all : List (List ℕ)) (status : ℕ) → EndsAnswer out out' f g all status r → r ≡ 7 → status ≡ 7
+  answer_seven all status (written, s, inl w, h) seven = sym w.1 ∙ not_seven out out' f g written s r h seven
+  answer_seven all status (written, s, inr w, h) seven = absurd (omega (arith, w.5, not_seven out out' f g written s r h seven))
+
+  parsed_seven : (p : Result Saying Refused) → EndsParsed lines own out out' f g r p → r ≡ 7 → own p ≡ 7
+  parsed_seven (Ok saying) h seven = answer_seven (lines (Ok saying)) (own (Ok saying)) h seven
+  parsed_seven (Err e) (inl h) seven = absurd (omega (arith, not_seven out out' f g (refusal_text e) 2 r h seven))
+  parsed_seven (Err e) (inr h) seven = absurd (omega (arith, not_seven out out' f g no_memory_text 9 r h seven))
+
+  pub answered_seven : (source : Option (List ℕ)) → source ≡ Some text → EndsAnswering c lines own source read read' out out' f g r → r ≡ 7
+      → own (parse_of c text) ≡ 7
+  answered_seven source is (Read bytes reads kept h) seven =
+      subst (λ p. own p ≡ 7) (same_script c text bytes (subst (λ (s : Option (List ℕ)). ReadsAll s bytes) is reads))
+      (parsed_seven (parse_of c bytes) h seven)
+  answered_seven source is (SourceFails unread counts h) seven = absurd (omega (arith, not_seven out out' f g read_fault_text 3 r h seven))
+  answered_seven source is (NoMemory unread kept h) seven = absurd (omega (arith, not_seven out out' f g no_memory_text 9 r h seven))
 
 -- the refusals of each command's answers, and the statuses of what is no refusal
 pub play_refusals : (queue : ℕ) (e : Refused) → ((play_answer queue (Err e)).lines ≡ refusal_text e ∷ []) × ((play_answer queue (Err e)).status ≡ 2)
@@ -224,6 +242,12 @@ attack_written command old new r text is h few same told =
     old.out new.out old.sink_faults new.sink_faults r old.source told hostile_refusals
     (attack_some (parse_of script_of.Hostile text) (is_attack text)) (subst (λ k. Does k old new r) is h).0 few same
 
+pub device_failed : (command : Option words.Command) (old new : Lent) (r : ℕ) → Does command old new r → command ≡ Some words.Hostile → r ≡ 7
+    → (text : List ℕ) → old.source ≡ Some text → (hostile_of text).status ≡ 7
+device_failed command old new r does is seven text told =
+    answered_seven script_of.Hostile (λ said. (hostile_answer said).lines) (λ said. (hostile_answer said).status) text old.source_faults new.source_faults
+    old.out new.out old.sink_faults new.sink_faults r old.source told (subst (λ k. Does k old new r) is does).0 seven
+
 module _ (command : Option words.Command) (old new : Lent) (r : ℕ) (base : List ℕ) (queue idle : ℕ) (text : List ℕ)
     (is : command ≡ Some (words.Run base queue idle)) (does : Does command old new r) (few : old.source_faults < 2 ^ 64 - 1)
     (same : new.source_faults ≡ old.source_faults) (source : old.source ≡ Some text) where
@@ -271,3 +295,44 @@ no_answer c lines own text out out' f g r e some is h =
     go : (p : Result Saying Refused) → HasLine (lines p) → EndsAs out out' f g no_memory_text 9 r → EndsParsed lines own out out' f g r p
     go (Ok said) line w = gave_none out out' f g (lines (Ok said)) (own (Ok said)) r line w
     go (Err x) line w = inr w
+
+-- a command before whose beginning memory ran out
+pub starved : (command : Option words.Command) (old new : Lent) (r : ℕ) → KeepsSource old new → KeepsHost old new
+    → EndsAs old.out new.out old.sink_faults new.sink_faults no_memory_text 9 r → Does command old new r
+starved None old new r source host h = (inr h, source, host)
+starved (Some (words.Play kind queue)) old new r source host h = (NoMemory tt source.1 h, host)
+starved (Some (words.Run base queue idle)) old new r source host h = NoMemory host source.1 h
+starved (Some words.Hostile) old new r source host h = (NoMemory tt source.1 h, host)
+starved (Some (words.Load number conns bytes queue)) old new r source host h = (inr h, source, host)
+starved (Some (words.Peer base port idle)) old new r source host (inl h) =
+    (statuses.NoMemory h.0 (record { writes = h.1; kept = host.0 }), λ none. subst (λ n. statuses.is_faultless n ≡ true) (sym h.0) refl)
+starved (Some (words.Peer base port idle)) old new r source host (inr h) = (
+  statuses.SinkFault h.0 (record { counts = h.2; text = no_memory_text; meant = statuses.Line (inr (inr refl)); writes = h.1 }),
+  λ none. absurd (fault_shows old.sink_faults new.sink_faults h.2 none.sink_rises none.sink),
+)
+
+-- a host that isn't used
+pub host_kept : (command : Option words.Command) (old new : Lent) (r : ℕ) → Does command old new r → uses_host command ≡ false → KeepsHost old new
+host_kept None old new r h none = h.2
+host_kept (Some (words.Play kind queue)) old new r h none = h.1
+host_kept (Some (words.Run base queue idle)) old new r h none = absurd none
+host_kept (Some words.Hostile) old new r h none = h.1
+host_kept (Some (words.Load number conns bytes queue)) old new r h none = h.2
+host_kept (Some (words.Peer base port idle)) old new r h none = absurd none
+
+-- a source of which a call failed
+source_failed : {c : Command} {Unread : Type 0} {Parsed : Result Saying Refused → Type 0} {source : Option (List ℕ)} {read read' : ℕ}
+    {out out' : Option (List ℕ)} {f g r : ℕ} → EndsScript c Unread Parsed source read read' out out' f g r → read' ≢ read
+    → EndsAs out out' f g read_fault_text 3 r × Unread
+source_failed (Read bytes reads kept h) differs = absurd (differs kept)
+source_failed (SourceFails unread counts h) differs = (h, unread)
+source_failed (NoMemory unread kept h) differs = absurd (differs kept)
+
+pub fault_written : (command : Option words.Command) (old new : Lent) (r : ℕ) → Does command old new r → is_client command ≡ false
+    → new.source_faults ≢ old.source_faults → EndsWith old.out new.out old.sink_faults new.sink_faults read_fault_text 3 r × KeepsHost old new
+fault_written None old new r h none differs = absurd (differs h.1.1)
+fault_written (Some (words.Play kind queue)) old new r h none differs = (inl (source_failed h.0 differs).0, h.1)
+fault_written (Some (words.Run base queue idle)) old new r h none differs = let s = source_failed h differs in (inl s.0, s.1)
+fault_written (Some words.Hostile) old new r h none differs = (inl (source_failed h.0 differs).0, h.1)
+fault_written (Some (words.Load number conns bytes queue)) old new r h none differs = absurd (differs h.1.1)
+fault_written (Some (words.Peer base port idle)) old new r h none differs = absurd none

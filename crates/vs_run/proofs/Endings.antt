@@ -63,3 +63,7 @@ one_line old new f g line own r (inr h) = (no_memory_text, 9, inr ([], line, [],
 pub not_two : (out out' : Option (List ℕ)) (f g : ℕ) (line : List ℕ) (status r : ℕ) → EndsAs out out' f g line status r → r ≡ 2 → status ≡ 2
 not_two out out' f g line status r (inl h) two = sym h.0 ∙ two
 not_two out out' f g line status r (inr h) two = absurd (omega (arith, h.0, two))
+
+pub not_seven : (out out' : Option (List ℕ)) (f g : ℕ) (line : List ℕ) (status r : ℕ) → EndsAs out out' f g line status r → r ≡ 7 → status ≡ 7
+not_seven out out' f g line status r (inl h) seven = sym h.0 ∙ seven
+not_seven out out' f g line status r (inr h) seven = absurd (omega (arith, h.0, seven))

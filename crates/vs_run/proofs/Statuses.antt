@@ -26,7 +26,7 @@ data Cause (command : Option words.Command) (old new : Lent) (r : ℕ) : Type 0 
   SinkFault : r ≡ 4 → CountsFault true old.sink_faults new.sink_faults → Cause command old new r
   Waited : r ≡ 5 → uses_host command ≡ true → Cause command old new r
   HostFault : r ≡ 6 → CountsFault true old.host_faults new.host_faults → Cause command old new r
-  DeviceFailed : r ≡ 7 → Cause command old new r
+  DeviceFailed : r ≡ 7 → command ≡ Some words.Hostile → Cause command old new r
   NotAnswered : r ≡ 8 → is_client command ≡ true → Cause command old new r
   OutOfMemory : r ≡ 9 → Cause command old new r
 
@@ -39,7 +39,7 @@ At (suc (suc (suc zero))) command old new = CountsFault true old.source_faults n
 At (suc (suc (suc (suc zero)))) command old new = CountsFault true old.sink_faults new.sink_faults
 At (suc (suc (suc (suc (suc zero))))) command old new = uses_host command ≡ true
 At (suc (suc (suc (suc (suc (suc zero)))))) command old new = CountsFault true old.host_faults new.host_faults
-At (suc (suc (suc (suc (suc (suc (suc zero))))))) command old new = Unit {0}
+At (suc (suc (suc (suc (suc (suc (suc zero))))))) command old new = command ≡ Some words.Hostile
 At (suc (suc (suc (suc (suc (suc (suc (suc zero)))))))) command old new = is_client command ≡ true
 At (suc (suc (suc (suc (suc (suc (suc (suc (suc n))))))))) command old new = Unit {0}
 
@@ -55,7 +55,7 @@ module _ (command : Option words.Command) (old new : Lent) (r : ℕ) where
   at (SinkFault e h) = subst Is (sym e) h
   at (Waited e h) = subst Is (sym e) h
   at (HostFault e h) = subst Is (sym e) h
-  at (DeviceFailed e) = subst Is (sym e) tt
+  at (DeviceFailed e h) = subst Is (sym e) h
   at (NotAnswered e h) = subst Is (sym e) h
   at (OutOfMemory e) = subst Is (sym e) tt
 
@@ -70,7 +70,7 @@ module _ (command : Option words.Command) (old new : Lent) (r : ℕ) where
   small (SinkFault e h) = subst Small (sym e) refl
   small (Waited e h) = subst Small (sym e) refl
   small (HostFault e h) = subst Small (sym e) refl
-  small (DeviceFailed e) = subst Small (sym e) refl
+  small (DeviceFailed e h) = subst Small (sym e) refl
   small (NotAnswered e h) = subst Small (sym e) refl
   small (OutOfMemory e) = subst Small (sym e) refl
 
@@ -114,14 +114,14 @@ module _ (command : Option words.Command) (old new : Lent) (r : ℕ) where
   play_status queue (Runs apps) e = Done e
   play_status queue (Attacks lines) e = Done e
 
-  failed_status : (f : Option Failure) → r ≡ status_of f → Cause command old new r
-  failed_status None e = Done e
-  failed_status (Some f) e = DeviceFailed e
+  failed_status : command ≡ Some words.Hostile → (f : Option Failure) → r ≡ status_of f → Cause command old new r
+  failed_status is None e = Done e
+  failed_status is (Some f) e = DeviceFailed e is
 
-  hostile_status : (s : Saying) → r ≡ (hostile_answer (Ok s)).status → Cause command old new r
-  hostile_status (Plays lines) e = Done e
-  hostile_status (Runs apps) e = Done e
-  hostile_status (Attacks lines) e = failed_status _ e
+  hostile_status : command ≡ Some words.Hostile → (s : Saying) → r ≡ (hostile_answer (Ok s)).status → Cause command old new r
+  hostile_status is (Plays lines) e = Done e
+  hostile_status is (Runs apps) e = Done e
+  hostile_status is (Attacks lines) e = failed_status is _ e
 
   over_cause : uses_host command ≡ true → (idle : ℕ) (apps : RunScript)
       → EndsOver idle apps new.host old.host_faults new.host_faults old.out new.out old.sink_faults new.sink_faults r → Cause command old new r
@@ -169,7 +169,7 @@ cause (Some (words.Run base queue idle)) old new r h =
     (run_cause (Some (words.Run base queue idle)) old new r refl idle) h
 cause (Some words.Hostile) old new r h =
     answering_cause (Some words.Hostile) old new r (λ said. (hostile_answer said).lines) (λ said. (hostile_answer said).status)
-    (hostile_status (Some words.Hostile) old new r) script_of.Hostile h.0
+    (hostile_status (Some words.Hostile) old new r refl) script_of.Hostile h.0
 cause (Some (words.Load number conns bytes queue)) old new r h =
     load_cause (Some (words.Load number conns bytes queue)) old new r number conns bytes h.0
 cause (Some (words.Peer base port idle)) old new r h = says_cause (Some (words.Peer base port idle)) old new r refl refl base port idle h.0

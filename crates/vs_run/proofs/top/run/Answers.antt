@@ -1,6 +1,7 @@
 use Rattle.std.proofs.Common.{◌≡◌, ◌∙◌, Some, ap, map, refl, subst, string_bytes, sym}
 use Rattle.vs_words.specs.Command.{Hostile, Load, Play, Run, command_of, command_view}
 use Rattle.vs_run.specs.Does.{Does, lent}
+use Rattle.vs_run.proofs.Causes.{starved}
 use Rattle.vs_run.proofs.top.run.Goals as goal
 
 pub returns-in-Ok-Play-clause-does : goal.returns-in-Ok-Play-clause-does
@@ -55,3 +56,13 @@ returns-in-Ok-Run-clause-does g c =
     (g.S.Source.faults c.run_script.new.script) (g.H.HostNet.faults c.run_script.new.host) (g.K.Sink.faults c.run_script.new.out)
     (g.G.Gate.pauses c.args.gate.now)) c.run_script.result)
     (sym is) c.run_script.ensures
+
+pub returns-clause-does : goal.returns-clause-does
+returns-clause-does g c =
+    starved (command_of (map string_bytes c.args.words.now))
+    (lent (g.S.Source.contents c.args.script.now) (g.H.HostNet.contents c.args.host.now) (g.K.Sink.contents c.args.out.now)
+    (g.S.Source.faults c.args.script.now) (g.H.HostNet.faults c.args.host.now) (g.K.Sink.faults c.args.out.now)
+    (g.G.Gate.pauses c.args.gate.now))
+    (lent (g.S.Source.contents c.args.script.now) (g.H.HostNet.contents c.args.host.now) (g.K.Sink.contents c.no_memory.new.out)
+    (g.S.Source.faults c.args.script.now) (g.H.HostNet.faults c.args.host.now) (g.K.Sink.faults c.no_memory.new.out)
+    (g.G.Gate.pauses c.args.gate.now)) c.no_memory.result (refl, refl) (refl, refl) c.no_memory.ensures

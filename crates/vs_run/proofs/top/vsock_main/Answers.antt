@@ -1,7 +1,7 @@
-use Rattle.std.proofs.Common.{map, string_bytes}
-use Rattle.vs_words.specs.Command.{command_of}
+use Rattle.std.proofs.Common.{◌≡◌, Some, map, string_bytes}
+use Rattle.vs_words.specs.Command.{Hostile, command_of}
 use Rattle.vs_run.specs.Does.{lent}
-use Rattle.vs_run.proofs.{Causes.attack_written, Causes.no_script_at_2, Causes.play_written, Causes.run_refused, Causes.run_written, Statuses.cause_at, Statuses.is_known}
+use Rattle.vs_run.proofs.{Causes.attack_written, Causes.device_failed, Causes.fault_written, Causes.host_kept, Causes.no_script_at_2, Causes.play_written, Causes.run_refused, Causes.run_written, Statuses.cause_at, Statuses.is_known}
 use Rattle.laws_hostile.proofs.Safe.{each_safe}
 use Rattle.laws_play.proofs.Lawful.{each_script}
 use Rattle.vs_run.proofs.top.vsock_main.Goals as goal
@@ -108,3 +108,35 @@ returns-clause-refused_run g c = λ base queue idle text r is few same told pars
     (lent (g.S.Source.contents c.run.new.script) (g.H.HostNet.contents c.run.new.host) (g.K.Sink.contents c.run.new.out)
     (g.S.Source.faults c.run.new.script) (g.H.HostNet.faults c.run.new.host) (g.K.Sink.faults c.run.new.out) (g.G.Gate.pauses c.run.new.gate)) c.run.result base queue idle text is c.run.ensures.does few same told r parsed in
     (refused.0, refused.1.0, refused.1.1)
+
+pub returns-clause-host : goal.returns-clause-host
+returns-clause-host g c = λ none.
+    host_kept (command_of (map string_bytes c.args.words.now))
+    (lent (g.S.Source.contents c.args.script.now) (g.H.HostNet.contents c.args.host.now) (g.K.Sink.contents c.args.out.now)
+    (g.S.Source.faults c.args.script.now) (g.H.HostNet.faults c.args.host.now) (g.K.Sink.faults c.args.out.now) (g.G.Gate.pauses c.args.gate.now))
+    (lent (g.S.Source.contents c.run.new.script) (g.H.HostNet.contents c.run.new.host) (g.K.Sink.contents c.run.new.out)
+    (g.S.Source.faults c.run.new.script) (g.H.HostNet.faults c.run.new.host) (g.K.Sink.faults c.run.new.out) (g.G.Gate.pauses c.run.new.gate)) c.run.result c.run.ensures.does none
+
+pub returns-clause-fault : goal.returns-clause-fault
+returns-clause-fault g c = λ none differs.
+    let failed = fault_written (command_of (map string_bytes c.args.words.now))
+    (lent (g.S.Source.contents c.args.script.now) (g.H.HostNet.contents c.args.host.now) (g.K.Sink.contents c.args.out.now)
+    (g.S.Source.faults c.args.script.now) (g.H.HostNet.faults c.args.host.now) (g.K.Sink.faults c.args.out.now) (g.G.Gate.pauses c.args.gate.now))
+    (lent (g.S.Source.contents c.run.new.script) (g.H.HostNet.contents c.run.new.host) (g.K.Sink.contents c.run.new.out)
+    (g.S.Source.faults c.run.new.script) (g.H.HostNet.faults c.run.new.host) (g.K.Sink.faults c.run.new.out) (g.G.Gate.pauses c.run.new.gate)) c.run.result c.run.ensures.does none differs in
+    (failed.0, failed.1.0, failed.1.1)
+
+pub returns-clause-status_7 : goal.returns-clause-status_7
+returns-clause-status_7 g c = λ seven.
+    let is : command_of (map string_bytes c.args.words.now) ≡ Some Hostile = cause_at (command_of (map string_bytes c.args.words.now))
+    (lent (g.S.Source.contents c.args.script.now) (g.H.HostNet.contents c.args.host.now) (g.K.Sink.contents c.args.out.now)
+    (g.S.Source.faults c.args.script.now) (g.H.HostNet.faults c.args.host.now) (g.K.Sink.faults c.args.out.now) (g.G.Gate.pauses c.args.gate.now))
+    (lent (g.S.Source.contents c.run.new.script) (g.H.HostNet.contents c.run.new.host) (g.K.Sink.contents c.run.new.out)
+    (g.S.Source.faults c.run.new.script) (g.H.HostNet.faults c.run.new.host) (g.K.Sink.faults c.run.new.out) (g.G.Gate.pauses c.run.new.gate)) c.run.result 7 c.run.ensures.does seven in (
+      is,
+      device_failed (command_of (map string_bytes c.args.words.now))
+          (lent (g.S.Source.contents c.args.script.now) (g.H.HostNet.contents c.args.host.now) (g.K.Sink.contents c.args.out.now)
+          (g.S.Source.faults c.args.script.now) (g.H.HostNet.faults c.args.host.now) (g.K.Sink.faults c.args.out.now) (g.G.Gate.pauses c.args.gate.now))
+          (lent (g.S.Source.contents c.run.new.script) (g.H.HostNet.contents c.run.new.host) (g.K.Sink.contents c.run.new.out)
+          (g.S.Source.faults c.run.new.script) (g.H.HostNet.faults c.run.new.host) (g.K.Sink.faults c.run.new.out) (g.G.Gate.pauses c.run.new.gate)) c.run.result c.run.ensures.does is seven,
+    )
