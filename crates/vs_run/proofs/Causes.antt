@@ -315,10 +315,10 @@ starved (Some (words.Peer base port idle)) old new r source host (inr h) = (
 pub host_kept : (command : Option words.Command) (old new : Lent) (r : ℕ) → Does command old new r → uses_host command ≡ false → KeepsHost old new
 host_kept None old new r h none = h.2
 host_kept (Some (words.Play kind queue)) old new r h none = h.1
-host_kept (Some (words.Run base queue idle)) old new r h none = absurd none
+host_kept (Some (words.Run base queue idle)) old new r h none = let no : true ≡ false = none in absurd cc
 host_kept (Some words.Hostile) old new r h none = h.1
 host_kept (Some (words.Load number conns bytes queue)) old new r h none = h.2
-host_kept (Some (words.Peer base port idle)) old new r h none = absurd none
+host_kept (Some (words.Peer base port idle)) old new r h none = let no : true ≡ false = none in absurd cc
 
 -- a source of which a call failed
 source_failed : {c : Command} {Unread : Type 0} {Parsed : Result Saying Refused → Type 0} {source : Option (List ℕ)} {read read' : ℕ}
@@ -335,4 +335,4 @@ fault_written (Some (words.Play kind queue)) old new r h none differs = (inl (so
 fault_written (Some (words.Run base queue idle)) old new r h none differs = let s = source_failed h differs in (inl s.0, s.1)
 fault_written (Some words.Hostile) old new r h none differs = (inl (source_failed h.0 differs).0, h.1)
 fault_written (Some (words.Load number conns bytes queue)) old new r h none differs = absurd (differs h.1.1)
-fault_written (Some (words.Peer base port idle)) old new r h none differs = absurd none
+fault_written (Some (words.Peer base port idle)) old new r h none differs = let no : true ≡ false = none in absurd cc
