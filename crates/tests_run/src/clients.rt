@@ -119,21 +119,21 @@ const WAITS: [([Client; 2], Case<'static>); 5] = [
         (
             "app\nlisten 70\naccept 70\nclose\n",
             5,
-            "app 1 waited 10000 none at 2\n",
+            "app 1 waited 100 none at 2\n",
             NONE_OPEN,
         ),
     ),
     (
         [("HELLO\nabc", false), SILENT],
-        (SERVED, 5, "app 1 waited 10000 none at 2\n", NONE_OPEN),
+        (SERVED, 5, "app 1 waited 100 none at 2\n", NONE_OPEN),
     ),
     (
         [("CONNECT 71\nabc", false), SILENT],
-        (SERVED, 5, "app 1 waited 10000 none at 2\n", NONE_OPEN),
+        (SERVED, 5, "app 1 waited 100 none at 2\n", NONE_OPEN),
     ),
     (
         [("CONNECT 7", true), SILENT],
-        (SERVED, 5, "app 1 waited 10000 none at 2\n", NONE_OPEN),
+        (SERVED, 5, "app 1 waited 100 none at 2\n", NONE_OPEN),
     ),
     // One client is served, and a second one doesn't come.
     (
@@ -141,7 +141,7 @@ const WAITS: [([Client; 2], Case<'static>); 5] = [
         (
             "app\nlisten 70\naccept 70\nrecv 3\naccept 70\n",
             5,
-            "app 1 waited 10000 none at 4\nconn 70 1073741824 sent 0 received 3 616263\n",
+            "app 1 waited 100 none at 4\nconn 70 1073741824 sent 0 received 3 616263\n",
             ONE_OPEN,
         ),
     ),
@@ -190,7 +190,7 @@ fn is_without_room<R: AllocGlobal + Threads + Wait + Sync>(
     let case = (
         "app\nlisten 70\naccept 70\nsend fill 70000 4\n",
         5,
-        "app 1 waited 10000 no credit at 3\nconn 70 1073741824 sent 65536 received 0 -\n",
+        "app 1 waited 100 no credit at 3\nconn 70 1073741824 sent 65536 received 0 -\n",
         ONE_OPEN,
     );
     let mut wrong = String::new(rt.alloc());

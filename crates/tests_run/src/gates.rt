@@ -70,7 +70,7 @@ pub enum Holds {
     /// Nothing.
     Nothing,
     /// The first step of each app, until the app before it began its second one; and the device behind its first turn, until all of so many
-    /// apps did.
+    /// apps did. Each app has an instruction, so that it has a second step.
     Order(u64),
     /// The first step of the first app, before it takes the lock, until a call of the second app was answered.
     SecondApp,

@@ -159,7 +159,7 @@ const WAITS: [(Peer, Case<'static>); 6] = [
         (
             "app\nconnect 52\nrecv 4\nrecv 4\nclose\n",
             5,
-            "app 1 waited 10000 empty at 3\nconn 1024 52 sent 0 received 6 616263646566\n",
+            "app 1 waited 100 empty at 3\nconn 1024 52 sent 0 received 6 616263646566\n",
             ONE_OPEN,
         ),
     ),
@@ -168,7 +168,7 @@ const WAITS: [(Peer, Case<'static>); 6] = [
         (
             "app\nconnect 52\nshutdown 2\ndrain\nclose\n",
             5,
-            "app 1 waited 10000 empty at 3\nconn 1024 52 sent 0 received 2 6162\n",
+            "app 1 waited 100 empty at 3\nconn 1024 52 sent 0 received 2 6162\n",
             ONE_OPEN,
         ),
     ),
@@ -177,7 +177,7 @@ const WAITS: [(Peer, Case<'static>); 6] = [
         (
             "app\nconnect 52\nexchange 616263\nclose\n",
             5,
-            "app 1 waited 10000 empty at 2\nconn 1024 52 sent 3 received 2 6162\n",
+            "app 1 waited 100 empty at 2\nconn 1024 52 sent 3 received 2 6162\n",
             ONE_OPEN,
         ),
     ),
@@ -186,7 +186,7 @@ const WAITS: [(Peer, Case<'static>); 6] = [
         (
             "app\nconnect 52\nsend fill 65537 3\nclose\n",
             5,
-            "app 1 waited 10000 no credit at 2\nconn 1024 52 sent 65536 received 0 -\n",
+            "app 1 waited 100 no credit at 2\nconn 1024 52 sent 65536 received 0 -\n",
             ONE_OPEN,
         ),
     ),
@@ -195,7 +195,7 @@ const WAITS: [(Peer, Case<'static>); 6] = [
         (
             "app\nconnect 52\nexchange fill 70000 4\nclose\n",
             5,
-            "app 1 waited 10000 empty at 2\nconn 1024 52 sent 65536 received 0 -\n",
+            "app 1 waited 100 empty at 2\nconn 1024 52 sent 65536 received 0 -\n",
             ONE_OPEN,
         ),
     ),
@@ -205,7 +205,7 @@ const WAITS: [(Peer, Case<'static>); 6] = [
         (
             "app\nconnect 52\nrecv 2\nclose\napp\nconnect 52\nsend 63\nrecv 3\n",
             5,
-            "app 1 done\napp 2 waited 10000 empty at 3\nconn 1024 52 sent 0 received 2 6162\n\
+            "app 1 done\napp 2 waited 100 empty at 3\nconn 1024 52 sent 0 received 2 6162\n\
              conn 1025 52 sent 1 received 2 6162\n",
             ONE_OPEN,
         ),

@@ -9,8 +9,8 @@ use std::thread::Threads;
 use vs_outside::{FreeGate, Gate, HostNet, MemSink, MemSource, StepClock};
 use vs_run::vsock_main;
 
-/// The words of a run of apps.
-pub const RUN: &str = "vsock run --base v.sock";
+/// The words of a run of apps, which give up after fewer steps than they would without being told.
+pub const RUN: &str = "vsock run --base v.sock --idle 100";
 
 /// How a report ends where no connection is left.
 pub const NONE_OPEN: &str = "guest open 0\ndevice open 0\ndropped 0 overrun 0 broken 0 faults 0\n";

@@ -40,7 +40,7 @@ const CASES: [Case<'static>; 15] = [
         NONE_OPEN,
     ),
     ("", 0, "", NONE_OPEN),
-    ("# none\n\n  app\n", 0, "app 1 done\n", NONE_OPEN),
+    ("# none\n\n  app\nclose\n", 0, "app 1 done\n", NONE_OPEN),
     // Nobody listens on the port, and the device assigns the other one itself.
     (
         "app\nconnect 53\nsend 61\nrecv 1\nclose\n",
@@ -171,6 +171,24 @@ const WAITS: Case<'static> = (
     "app 1 waited 3 empty at 2\nconn 1024 52 sent 0 received 0 -\n",
     ONE_OPEN,
 );
+
+/// An app that gives up after as many steps as it does without being told.
+const GIVES_UP: Case<'static> = (
+    "app\nconnect 52\nrecv 1\n",
+    5,
+    "app 1 waited 10000 empty at 2\nconn 1024 52 sent 0 received 0 -\n",
+    ONE_OPEN,
+);
+
+#[test]
+fn an_app_gives_up_after_10000_steps(rt: HostRuntime) -> Result<(), Fail> {
+    let mut host = listening(rt.alloc())?;
+    let mut wrong = String::new(rt.alloc());
+    let ended = ran(&rt, "vsock run --base v.sock", GIVES_UP.0, &mut host, true)?;
+    check(rt.alloc(), &mut wrong, &GIVES_UP, &ended)?;
+    assert_eq!(rt; wrong.as_str(), "");
+    Ok(())
+}
 
 #[test]
 fn an_app_waits_as_often_as_it_may(rt: HostRuntime) -> Result<(), Fail> {

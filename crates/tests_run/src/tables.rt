@@ -56,7 +56,7 @@ fn one_app<R: AllocGlobal + Threads + Wait + Sync>(
     let asks = times(alloc, 65, "connect 52\n")?;
     let script = text_of(alloc, &["app\n", asks.as_str()])?;
     let conns = conns(alloc, 64)?;
-    let printed = text_of(alloc, &["app 1 waited 10000 full at 65\n", conns.as_str()])?;
+    let printed = text_of(alloc, &["app 1 waited 100 full at 65\n", conns.as_str()])?;
     wrong(
         rt,
         line,
@@ -98,7 +98,7 @@ fn many_apps<R: AllocGlobal + Threads + Wait + Sync>(
         alloc,
         &[
             done.as_str(),
-            "app 64 waited 10000 full at 2\n",
+            "app 64 waited 100 full at 2\n",
             conns.as_str(),
         ],
     )?;
@@ -130,8 +130,8 @@ fn most<R: AllocGlobal + Threads + Wait + Sync>(
 }
 
 const LINES: [&str; 2] = [
-    "vsock run --base v.sock",
-    "vsock run --base v.sock --queue 8",
+    "vsock run --base v.sock --idle 100",
+    "vsock run --base v.sock --idle 100 --queue 8",
 ];
 
 #[test]
@@ -154,7 +154,7 @@ fn a_place_that_is_left_is_taken(rt: HostRuntime) -> Result<(), Fail> {
 
 #[test]
 fn the_65th_connect_of_64_apps_waits(rt: HostRuntime) -> Result<(), Fail> {
-    let line = "vsock run --base v.sock --queue 128";
+    let line = "vsock run --base v.sock --idle 100 --queue 128";
     assert_eq!(rt; many_apps(&rt, line, false)?.as_str(), "");
     for line in LINES {
         assert_eq!(rt; many_apps(&rt, line, true)?.as_str(), "");
