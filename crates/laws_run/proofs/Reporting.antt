@@ -3,7 +3,7 @@ use Rattle.std.proofs.Common.{◌≡◌, ℕ, ◌<◌, ◌≤◌, List, Some, le
 use Rattle.std.specs.List.{All}
 use Rattle.vs_flow.specs.{Connection.Connection, declared.flow.Flow.Flow}
 use Rattle.vs_limits.specs.declared.TheConstants.{FIRST_CID}
-use Rattle.vs_outside.specs.Host.{HostContents}
+use Rattle.vs_outside.specs.{Faults.one_more, Host.HostContents}
 use Rattle.vs_page.specs.{Fair.number_of, Log.Device}
 use Rattle.vs_ring_shared.specs.Sights.{DeviceSight, Sight, device_contents, device_log, driver_contents, driver_log}
 use Rattle.vs_driver_parts.specs.State.{DriverState}
@@ -63,7 +63,7 @@ module _ (script : RunScript) (driver : DriverState) (end : Sight) (apps : List 
         right_one opened account _ (all_opened opened (length script) entries account.flows i d less)
 
     pub right_report : (opened : ℕ → Connection) × ((t : Totals) (before after : ℕ) → t.broken ≡ driver.broken
-        → t.counters.overrun ≡ p.device.overrun → t.counters.dropped ≡ 0 → (1 ≤ t.counters.faults → before < after)
+        → t.counters.overrun ≡ p.device.overrun → t.counters.dropped ≡ 0 → (1 ≤ t.counters.faults → one_more before ≤ after)
         → IsRightReport script apps entries bytes t opened h before after)
     right_report =
         let told = run.kept.accounted refl (driver_log end) refl in

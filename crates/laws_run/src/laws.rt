@@ -3,7 +3,7 @@
 ghost use Rattle.std.specs.Prelude.{◌≡◌, ◌<◌, ◌≤◌, ℕ, List, Some, length};
 ghost use Rattle.vs_flow.specs.{Connection.Connection, declared.flow.Flow.Flow};
 ghost use Rattle.vs_limits.specs.declared.TheConstants.{FIRST_CID};
-ghost use Rattle.vs_outside.specs.Host.{HostContents};
+ghost use Rattle.vs_outside.specs.{Faults.one_more, Host.HostContents};
 ghost use Rattle.vs_page.specs.{Fair.number_of, Log.Device};
 ghost use Rattle.vs_ring_shared.specs.Sights.{DeviceSight, Sight, device_contents, driver_contents};
 ghost use Rattle.vs_driver_parts.specs.State.{DriverState};
@@ -37,7 +37,7 @@ pub fn law_of_reports()
         → (old stood : Run) → AllStand script (length script) old stood → apps ≡ stood.apps → entries ≡ stood.entries
         → IsProxyStreamed FIRST_CID p (situation (device_contents e) (Some h) faults)
         → (opened : ℕ → Connection) × ((t : Totals) (before after : ℕ) → t.broken ≡ driver.broken → t.counters.overrun ≡ p.device.overrun
-        → t.counters.dropped ≡ 0 → (1 ≤ t.counters.faults → before < after) → IsRightReport script apps entries bytes t opened h before after) }
+        → t.counters.dropped ≡ 0 → (1 ≤ t.counters.faults → one_more before ≤ after) → IsRightReport script apps entries bytes t opened h before after) }
     ensures once { (script : RunScript) (driver : DriverState) (end : Sight) (apps : List AppState) (entries : List Entry) (bytes : List ℕ)
         (p : ProxyState) (e : DeviceSight) (h : HostContents) (faults : ℕ)
         → IsRunOf FIRST_CID script (run_with driver (driver_contents end) apps entries bytes) → IsSettled driver end p e

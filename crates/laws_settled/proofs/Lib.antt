@@ -5,3 +5,5 @@ pub mod Taking
 pub mod Quieting
 pub mod Steady
 pub mod Resting
+pub mod Tallying
+pub mod Beginning

@@ -6,7 +6,7 @@ ghost use Rattle.vs_contents.specs.Contents.{Relates};
 ghost use Rattle.vs_flow.specs.Table.{IsTable};
 ghost use Rattle.vs_limits.specs.declared.TheConstants.{FIRST_CID};
 ghost use Rattle.vs_ring_port.specs.{Contents.RingContents, EndLog.EndLog};
-ghost use Rattle.vs_ring_shared.specs.Sights.{DeviceSight, Sight};
+ghost use Rattle.vs_ring_shared.specs.Sights.{DeviceSight, Sight, device_contents};
 ghost use Rattle.vs_driver_parts.specs.{Conversations.poll_of, Playing.Plays, State.DriverState, declared.answers.Polled.Polled};
 ghost use Rattle.vs_device_parts.specs.{Calls.Situation, Playing.Runs};
 ghost use Rattle.laws_device.specs.Honest.{ends_of_state};
@@ -14,6 +14,7 @@ ghost use Rattle.laws_rest.specs.Rest.{OwesNothing};
 ghost use Rattle.vs_proxy_parts.specs.{State.ProxyState, Turns.new_proxy, Turns.turn_of, declared.answers.Turn.Turn};
 ghost use Rattle.vs_proxy_parts.specs.declared.answers.Turned.{Turned};
 ghost use Rattle.vs_proxy_parts.specs.declared.answers.Turn.TheVariants as turn;
+ghost use Rattle.laws_settled.specs.{Begun.DropsNone, Begun.IsBegun, Begun.Start, Begun.start_with};
 ghost use Rattle.laws_settled.specs.Settled.{AreOver, IsSettled, IsSteady, LacksPages};
 
 /// A new proxy under the first CID of shared rings is steady, with rings on which nothing passed, and each turn leaves it so: no reset is made,
@@ -41,4 +42,17 @@ pub fn law_of_quiet_takes()
 pub fn law_of_settled()
     ensures { (n : ℕ) (d : DriverState) (driver : Sight) (p : ProxyState) (device : DeviceSight) → AreOver n d driver p device
         → IsSettled d driver p device }
+{}
+
+/// A new proxy, with rings on which nothing passed, begins with the host as it is. A turn of a steady one leaves what it began with: it drops a packet only
+/// where that has another CID than the guest's or another destination than the host (Virtio 1.2, section 5.10.6); its device's count of faults rises only
+/// where one more call of the host failed; and the bytes of its connections are those that the host's streams took and gave, where none of these had a
+/// label at first. At rest it dropped nothing.
+pub fn law_of_begun()
+    ensures new { (base : List ℕ) (a : Situation) (l : EndLog) → a.ring.log ≡ Some l → l.entries ≡ []
+        → IsBegun (start_with a.host a.faults) (new_proxy FIRST_CID base) a }
+    ensures turn { (size now : ℕ) (s : ProxyState) (a b : Situation) (x : ProxyState × Turn) → IsSteady s a → Runs (turn_of size now s) a x b
+        → (start : Start) → IsBegun start s a → IsBegun start x.0 b }
+    ensures rest { (d : DriverState) (driver : Sight) (p : ProxyState) (device : DeviceSight) → IsSettled d driver p device
+        → DropsNone p (device_contents device) → p.device.dropped ≡ 0 }
 {}

@@ -8,14 +8,15 @@ use Rattle.vs_apps.specs.Guests.{GuestsState}
 use Rattle.vs_report.specs.declared.giving.{GiveError.GiveError, Totals.Totals}
 use Rattle.vs_report.specs.declared.giving.GiveError.TheVariants as give
 use Rattle.vs_run_report.specs.Report.{run_texts}
-use Rattle.vs_run_apps.specs.{Printed.Gives, Printed.Reports, Printed.texts_of, Printed.totals_of, Runs.HasRun, Sides.SideState}
+use Rattle.laws_settled.specs.Begun.{Start}
+use Rattle.vs_run_apps.specs.{Printed.Gives, Printed.Reports, Printed.texts_of, Runs.HasRun, Runs.totals_of, Sides.SideState}
 
-pub reported : (idle : ℕ) (script : RunScript) (g : GuestsState) (s : SideState) (met : Met) (old new : Option (List ℕ)) (faults faults' : ℕ)
-    (r : Result ℕ GiveError) → HasRun script g s met → Gives idle script g s.proxy old new faults faults' r
-    → Reports idle script s.contents s.faults old new faults faults' r
-reported idle script g s met old new faults faults' (Ok status) run given = (g, s, met, refl, refl, run, given)
-reported idle script g s met old new faults faults' (Err give.Sink) run given = (g, s, met, refl, refl, run, given)
-reported idle script g s met old new faults faults' (Err give.OutOfMemory) run given = given
+pub reported : (idle : ℕ) (script : RunScript) (start : Start) (g : GuestsState) (s : SideState) (met : Met) (old new : Option (List ℕ)) (faults faults' : ℕ)
+    (r : Result ℕ GiveError) → HasRun script start g s met → Gives idle script g s.proxy old new faults faults' r
+    → Reports idle script start s.contents s.faults old new faults faults' r
+reported idle script start g s met old new faults faults' (Ok status) run given = (g, s, met, refl, refl, run, given)
+reported idle script start g s met old new faults faults' (Err give.Sink) run given = (g, s, met, refl, refl, run, given)
+reported idle script start g s met old new faults faults' (Err give.OutOfMemory) run given = given
 
 -- the lines of what guests and a proxy show are theirs
 pub same_texts : (idle : ℕ) (script own : RunScript) (g : GuestsState) (p : ProxyState) (apps : List AppState) (entries : List Entry) (bytes : List ℕ)

@@ -1,29 +1,19 @@
 -- What a run of apps prints, and how it ends.
-use Rattle.std.specs.Prelude.{◌≡◌, ℕ, true, List, length, Option, Result, Ok, Err}
+use Rattle.std.specs.Prelude.{◌≡◌, ℕ, true, List, Option, Result, Ok, Err}
 use Rattle.vs_outside.specs.{Faults.CountsFault, Host.HostContents}
 use Rattle.vs_peer.specs.Pieces.{Emits, EmitsSome}
-use Rattle.vs_driver_parts.specs.Connections.{table_shown as guest_shown}
-use Rattle.vs_device_parts.specs.Turns.{counters_of, table_shown as device_shown}
 use Rattle.vs_proxy_parts.specs.State.{ProxyState}
 use Rattle.vs_ring_shared.specs.declared.counters.Met.{Met}
 use Rattle.vs_apps_parts.specs.Scripts.{RunScript}
 use Rattle.vs_apps.specs.Guests.{GuestsState}
-use Rattle.vs_report.specs.{Gives.joined, declared.giving.GiveError.GiveError, declared.giving.Totals.Totals}
+use Rattle.vs_report.specs.{Gives.joined, declared.giving.GiveError.GiveError}
 use Rattle.vs_report.specs.declared.giving.GiveError.TheVariants as give
 use Rattle.vs_run_report.specs.Report.{run_status, run_texts}
-use Rattle.vs_run_apps.specs.{Runs.HasRun, Sides.SideState, declared.whole.RunError.RunError}
+use Rattle.laws_settled.specs.Begun.{Start}
+use Rattle.vs_run_apps.specs.{Runs.HasRun, Runs.totals_of, Sides.SideState, declared.whole.RunError.RunError}
 use Rattle.vs_run_apps.specs.declared.whole.RunError.TheVariants as error
 
--- What the report of a run counts.
-abbrev pub totals_of : GuestsState → ProxyState → Totals
-totals_of g p = record {
-  guest_open = length (guest_shown g.driver);
-  device_open = length (device_shown p.device);
-  counters = counters_of p.device;
-  broken = g.driver.broken;
-}
-
--- Its lines. `idle` is after how many steps that waited an app gave up.
+-- The lines of its report. `idle` is after how many steps that waited an app gave up.
 abbrev pub texts_of : ℕ → RunScript → GuestsState → ProxyState → List (List ℕ)
 texts_of idle script g p = run_texts idle script g.apps g.entries g.bytes (totals_of g p)
 
@@ -36,24 +26,25 @@ Gives idle script g p old new faults faults' (Err give.Sink) =
     EmitsSome old new (joined (texts_of idle script g p)) × CountsFault true faults faults'
 Gives idle script g p old new faults faults' (Err give.OutOfMemory) = (new ≡ old) × (faults' ≡ faults)
 
--- A run was over, with a host that exposes this and of which so many calls failed, and P is so of both its sides.
-abbrev pub IsOver : RunScript → Option HostContents → ℕ → (GuestsState → ProxyState → Type 0) → Type 0
-IsOver script contents faults P =
-    (g : GuestsState) × (s : SideState) × (met : Met) × (s.contents ≡ contents) × (s.faults ≡ faults) × HasRun script g s met × P g s.proxy
+-- A run that began with this host was over, with a host that exposes this and of which so many calls failed, and P is so of both its sides. What it
+-- reports is right, as `HasRun` says, where the host exposed its streams and none had a label.
+abbrev pub IsOver : RunScript → Start → Option HostContents → ℕ → (GuestsState → ProxyState → Type 0) → Type 0
+IsOver script start contents faults P =
+    (g : GuestsState) × (s : SideState) × (met : Met) × (s.contents ≡ contents) × (s.faults ≡ faults) × HasRun script start g s met × P g s.proxy
 
 -- A run was over, and its report was given, all of it or less than all. Or memory ran out, and nothing was given.
-abbrev pub Reports : ℕ → RunScript → Option HostContents → ℕ → Option (List ℕ) → Option (List ℕ) → ℕ → ℕ → Result ℕ GiveError → Type 0
-Reports idle script contents failed old new faults faults' (Ok status) =
-    IsOver script contents failed (λ g p. Gives idle script g p old new faults faults' (Ok status))
-Reports idle script contents failed old new faults faults' (Err give.Sink) =
-    IsOver script contents failed (λ g p. Gives idle script g p old new faults faults' (Err give.Sink))
-Reports idle script contents failed old new faults faults' (Err give.OutOfMemory) = (new ≡ old) × (faults' ≡ faults)
+abbrev pub Reports : ℕ → RunScript → Start → Option HostContents → ℕ → Option (List ℕ) → Option (List ℕ) → ℕ → ℕ → Result ℕ GiveError → Type 0
+Reports idle script start contents failed old new faults faults' (Ok status) =
+    IsOver script start contents failed (λ g p. Gives idle script g p old new faults faults' (Ok status))
+Reports idle script start contents failed old new faults faults' (Err give.Sink) =
+    IsOver script start contents failed (λ g p. Gives idle script g p old new faults faults' (Err give.Sink))
+Reports idle script start contents failed old new faults faults' (Err give.OutOfMemory) = (new ≡ old) × (faults' ≡ faults)
 
 -- The same; or the host didn't start and counted a fault, and nothing was given.
-abbrev pub Answers : ℕ → RunScript → Option HostContents → ℕ → ℕ → Option (List ℕ) → Option (List ℕ) → ℕ → ℕ → Result ℕ RunError → Type 0
-Answers idle script contents before failed old new faults faults' (Ok status) =
-    Reports idle script contents failed old new faults faults' (Ok status)
-Answers idle script contents before failed old new faults faults' (Err (error.NotGiven e)) =
-    Reports idle script contents failed old new faults faults' (Err e)
-Answers idle script contents before failed old new faults faults' (Err error.NotStarted) =
-    CountsFault true before failed × (new ≡ old) × (faults' ≡ faults)
+abbrev pub Answers : ℕ → RunScript → Start → Option HostContents → ℕ → Option (List ℕ) → Option (List ℕ) → ℕ → ℕ → Result ℕ RunError → Type 0
+Answers idle script start contents failed old new faults faults' (Ok status) =
+    Reports idle script start contents failed old new faults faults' (Ok status)
+Answers idle script start contents failed old new faults faults' (Err (error.NotGiven e)) =
+    Reports idle script start contents failed old new faults faults' (Err e)
+Answers idle script start contents failed old new faults faults' (Err error.NotStarted) =
+    CountsFault true start.faults failed × (new ≡ old) × (faults' ≡ faults)

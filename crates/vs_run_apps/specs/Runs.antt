@@ -1,18 +1,42 @@
 -- What a run of apps ends in.
-use Rattle.std.specs.Prelude.{◌≡◌}
+use Rattle.std.specs.{Prelude.{◌≡◌, ℕ, length}, Option.ForSome}
+use Rattle.vs_flow.specs.Connection.{Connection}
 use Rattle.vs_limits.specs.declared.TheConstants.{FIRST_CID}
+use Rattle.vs_driver_parts.specs.Connections.{table_shown as guest_shown}
+use Rattle.vs_device_parts.specs.Turns.{counters_of, table_shown as device_shown}
+use Rattle.vs_proxy_parts.specs.State.{ProxyState}
 use Rattle.vs_ring_shared.specs.{Countings.met_between, declared.counters.Met.Met}
 use Rattle.vs_apps_parts.specs.Scripts.{RunScript}
 use Rattle.laws_apps.specs.Runs.{IsRunOf}
-use Rattle.laws_settled.specs.Settled.{IsSettled}
+use Rattle.laws_settled.specs.{Begun.{IsBegun, IsUnlabelled, Start}, Settled.{IsSettled, IsSteady}}
 use Rattle.vs_apps.specs.Guests.{GuestsState, run_in}
 use Rattle.vs_settle.specs.Rounds.{LastRound}
-use Rattle.vs_run_apps.specs.Sides.{SideState}
+use Rattle.vs_report.specs.declared.giving.Totals.{Totals}
+use Rattle.vs_run_report.specs.Right.{IsRightReport}
+use Rattle.vs_run_apps.specs.Sides.{SideState, around}
+
+-- What the report of a run counts.
+abbrev pub totals_of : GuestsState → ProxyState → Totals
+totals_of g p = record {
+  guest_open = length (guest_shown g.driver);
+  device_open = length (device_shown p.device);
+  counters = counters_of p.device;
+  broken = g.driver.broken;
+}
+
+-- Where the host exposes its streams, none of which had a label when the run began, the report is right.
+abbrev pub HasRightReport : RunScript → Start → GuestsState → SideState → Type 0
+HasRightReport script start g s =
+    ForSome start.contents IsUnlabelled → ForSome s.contents (λ h.
+    (opened : ℕ → Connection) × IsRightReport script g.apps g.entries g.bytes (totals_of g s.proxy) opened h start.faults s.faults)
 
 -- The journal is that of a run of the script; both ends are at rest; in the last round nothing moved, and each app was done or waited; and so many
--- packets and events were put and got.
-pub record HasRun (script : RunScript) (g : GuestsState) (s : SideState) (met : Met) : Type 0 where
+-- packets and events were put and got. The proxy is steady, and came from where the run began; so the report is right.
+pub record HasRun (script : RunScript) (start : Start) (g : GuestsState) (s : SideState) (met : Met) : Type 0 where
   pub run : IsRunOf FIRST_CID script (run_in g)
   pub rest : IsSettled g.driver g.end s.proxy s.ring
   pub last : LastRound script g s.proxy s.ring s.contents s.faults
   pub numbers : met ≡ met_between g.end.log s.ring.sight.log
+  pub steady : IsSteady s.proxy (around s)
+  pub begun : IsBegun start s.proxy (around s)
+  pub right : HasRightReport script start g s

@@ -4,10 +4,10 @@ ghost use Rattle.std.specs.Prelude.{◌≡◌, ◌≤◌, ℕ, Option, [], IfOk,
 ghost use Rattle.vs_outside.specs.Host.{HostContents};
 ghost use Rattle.vs_uds.specs.declared.path.TheConstants.{BASE_MAX};
 ghost use Rattle.vs_ring_shared.specs.Sights.{DeviceSight};
+ghost use Rattle.laws_settled.specs.Begun.{start_with};
 ghost use Rattle.vs_apps_parts.specs.Scripts.{AreRight, script_of};
 ghost use Rattle.vs_run_apps.specs.Sides.{IsReady, IsSilent};
 
-use laws_settled::laws::law_of_steady_turns;
 use std::alloc::{AllocError, Global};
 use vs_apps::guests::{Guests, RunName};
 use vs_limits::FIRST_CID;
@@ -37,8 +37,7 @@ pub fn new_guests<N: RunName>(
 pub fn new_proxy(alloc: Global, base: &str) -> Result<Proxy, AllocError>
     requires base { (1 ≤ length base.now) × (length base.now ≤ BASE_MAX) }
     ensures ready { IfOk result (λ proxy. (ring : DeviceSight) (contents : Option HostContents) (faults : ℕ) → IsSilent ring
-        → IsReady (record { proxy = proxy; ring = ring; contents = contents; faults = faults })) }
+        → IsReady (start_with contents faults) (record { proxy = proxy; ring = ring; contents = contents; faults = faults })) }
 {
-    law_of_steady_turns();
     Proxy::new(alloc, FIRST_CID, base)
 }

@@ -3,8 +3,8 @@
 ghost use Rattle.std.specs.Prelude.{◌≡◌};
 ghost use Rattle.vs_run_apps.specs.Sides.{IsReady};
 
+use crate::start_name::StartName;
 use std::marker::Model;
-use vs_apps::guests::RunName;
 use vs_apps::threads::Turning;
 use vs_outside::{Clock, HostNet};
 use vs_proxy::Proxy;
@@ -12,14 +12,14 @@ use vs_ring_shared::DeviceEnd;
 use vs_settle::rounds::turn;
 
 /// The proxy and its end of the rings, with a host and a clock that were lent. It may be turned at any time.
-pub struct DeviceSide<'h, 'c, N: RunName, H: HostNet, C: Clock> {
+pub struct DeviceSide<'h, 'c, N: StartName, H: HostNet, C: Clock> {
     proxy: Proxy,
     ring: DeviceEnd<N>,
     host: &'h mut H,
     clock: &'c mut C,
 }
 
-impl<'h, 'c, N: RunName, H: HostNet, C: Clock> Model for DeviceSide<'h, 'c, N, H, C> {
+impl<'h, 'c, N: StartName, H: HostNet, C: Clock> Model for DeviceSide<'h, 'c, N, H, C> {
     ghost use Rattle.vs_run_apps.specs.Sides.{IsReady, Side};
 
     ghost Value = { Side };
@@ -29,10 +29,10 @@ impl<'h, 'c, N: RunName, H: HostNet, C: Clock> Model for DeviceSide<'h, 'c, N, H
       lent = d.host.ghost_name;
     } };
 
-    ghost invariant = { λ d. IsReady (record { proxy = d.proxy; ring = d.ring; contents = H.contents d.host.now; faults = H.faults d.host.now }) };
+    ghost invariant = { λ d. IsReady N.start (record { proxy = d.proxy; ring = d.ring; contents = H.contents d.host.now; faults = H.faults d.host.now }) };
 }
 
-impl<'h, 'c, N: RunName, H: HostNet, C: Clock> DeviceSide<'h, 'c, N, H, C> {
+impl<'h, 'c, N: StartName, H: HostNet, C: Clock> DeviceSide<'h, 'c, N, H, C> {
     /// A device of these parts.
     pub fn new(
         proxy: Proxy,
@@ -40,7 +40,7 @@ impl<'h, 'c, N: RunName, H: HostNet, C: Clock> DeviceSide<'h, 'c, N, H, C> {
         host: &'h mut H,
         clock: &'c mut C,
     ) -> DeviceSide<'h, 'c, N, H, C>
-        requires ready { IsReady (record { proxy = proxy; ring = ring; contents = H.contents host.old; faults = H.faults host.old }) }
+        requires ready { IsReady N.start (record { proxy = proxy; ring = ring; contents = H.contents host.old; faults = H.faults host.old }) }
         ensures lent { result.lent ≡ host.entry.ghost_name }
     {
         DeviceSide {
@@ -53,7 +53,7 @@ impl<'h, 'c, N: RunName, H: HostNet, C: Clock> DeviceSide<'h, 'c, N, H, C> {
 
     /// Its parts, with the host that was lent.
     pub fn into_parts(self) -> (Proxy, DeviceEnd<N>, &'h mut H, &'c mut C)
-        ensures ready { IsReady (record { proxy = result.0; ring = result.1; contents = H.contents result.2.now; faults = H.faults result.2.now }) }
+        ensures ready { IsReady N.start (record { proxy = result.0; ring = result.1; contents = H.contents result.2.now; faults = H.faults result.2.now }) }
         ensures lent { result.2.ghost_name ≡ self.entry.lent }
     {
         let DeviceSide {
@@ -66,7 +66,7 @@ impl<'h, 'c, N: RunName, H: HostNet, C: Clock> DeviceSide<'h, 'c, N, H, C> {
     }
 }
 
-impl<'h, 'c, N: RunName, H: HostNet, C: Clock> Turning for DeviceSide<'h, 'c, N, H, C> {
+impl<'h, 'c, N: StartName, H: HostNet, C: Clock> Turning for DeviceSide<'h, 'c, N, H, C> {
     ghost lent = { λ d. d.lent };
 
     fn turn(&mut self) -> bool {

@@ -5,4 +5,5 @@ pub mod beginning;
 pub mod device_side;
 pub mod reporting;
 pub mod running;
+pub mod start_name;
 pub mod whole;

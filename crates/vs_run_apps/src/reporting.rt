@@ -5,7 +5,7 @@ ghost use Rattle.vs_report.specs.Gives.{joined};
 ghost use Rattle.vs_run_report.specs.Report.{run_status};
 ghost use Rattle.vs_driver_parts.specs.Connections.{table_shown as guest_shown};
 ghost use Rattle.vs_device_parts.specs.Turns.{table_shown as device_shown};
-ghost use Rattle.vs_run_apps.specs.Printed.{Gives, texts_of, totals_of};
+ghost use Rattle.vs_run_apps.specs.{Printed.Gives, Printed.texts_of, Runs.totals_of};
 
 use crate::running::Ran;
 use std::alloc::{AllocError, Global};

@@ -3,11 +3,13 @@
 ghost use Rattle.std.specs.Prelude.{◌≡◌, ℕ, IfOk, Option};
 ghost use Rattle.vs_outside.specs.Host.{HostContents};
 ghost use Rattle.vs_ring_shared.specs.Sights.{DeviceSight};
+ghost use Rattle.laws_settled.specs.Begun.{start_with};
 ghost use Rattle.vs_apps_parts.specs.Scripts.{AreRight, script_of};
 ghost use Rattle.vs_run_apps.specs.{Runs.HasRun, Sides.IsReady, Sides.IsSilent};
 
 use crate::beginning::new_guests;
 use crate::device_side::DeviceSide;
+use crate::start_name::StartName;
 use std::alloc::Global;
 use std::sync::Wait;
 use std::thread::Threads;
@@ -29,7 +31,7 @@ pub struct Ran<N: RunName> {
 }
 
 // Rounds until both ends are at rest. The only error is want of memory.
-fn settled<W: Wait, N: RunName, H: HostNet, C: Clock>(
+fn settled<W: Wait, N: StartName, H: HostNet, C: Clock>(
     rt: &W,
     guests: Guests<N>,
     proxy: Proxy,
@@ -37,8 +39,8 @@ fn settled<W: Wait, N: RunName, H: HostNet, C: Clock>(
     host: &mut H,
     clock: &mut C,
 ) -> Result<Ran<N>, OutOfMemory>
-    requires ready { IsReady (record { proxy = proxy; ring = ring; contents = H.contents host.old; faults = H.faults host.old }) }
-    ensures ran { IfOk result (λ r. HasRun N.script r.guests
+    requires ready { IsReady N.start (record { proxy = proxy; ring = ring; contents = H.contents host.old; faults = H.faults host.old }) }
+    ensures ran { IfOk result (λ r. HasRun N.script N.start r.guests
         (record { proxy = r.proxy; ring = r.ring; contents = H.contents host.new; faults = H.faults host.new }) r.met) }
 {
     let mut guests = guests;
@@ -57,7 +59,13 @@ fn settled<W: Wait, N: RunName, H: HostNet, C: Clock>(
 }
 
 // The apps run beside the device, and then come to rest.
-fn run_on<W: Threads + Wait + Sync, N: RunName + Send, H: HostNet, C: Clock, G: Gate + Send + Drop>(
+fn run_on<
+    W: Threads + Wait + Sync,
+    N: StartName + Send,
+    H: HostNet,
+    C: Clock,
+    G: Gate + Send + Drop,
+>(
     rt: &W,
     alloc: Global,
     guests: Guests<N>,
@@ -69,8 +77,8 @@ fn run_on<W: Threads + Wait + Sync, N: RunName + Send, H: HostNet, C: Clock, G: 
     gates: Vec<G>,
     gate: G,
 ) -> Result<Ran<N>, OutOfMemory>
-    requires ready { IsReady (record { proxy = proxy; ring = ring; contents = H.contents host.old; faults = H.faults host.old }) }
-    ensures ran { IfOk result (λ r. HasRun N.script r.guests
+    requires ready { IsReady N.start (record { proxy = proxy; ring = ring; contents = H.contents host.old; faults = H.faults host.old }) }
+    ensures ran { IfOk result (λ r. HasRun N.script N.start r.guests
         (record { proxy = r.proxy; ring = r.ring; contents = H.contents host.new; faults = H.faults host.new }) r.met) }
 {
     let mut side = DeviceSide::new(proxy, ring, host, clock);
@@ -88,7 +96,7 @@ fn run_on<W: Threads + Wait + Sync, N: RunName + Send, H: HostNet, C: Clock, G: 
 /// The only error is want of memory.
 pub fn run_under<
     W: Threads + Wait + Sync,
-    N: RunName + Send,
+    N: StartName + Send,
     H: HostNet,
     C: Clock,
     G: Gate + Send + Drop,
@@ -108,8 +116,9 @@ pub fn run_under<
     requires right { AreRight N.script }
     requires rings { rings.table ≡ N.ring }
     requires ready { (ring : DeviceSight) (contents : Option HostContents) (faults : ℕ) → IsSilent ring
-        → IsReady (record { proxy = proxy; ring = ring; contents = contents; faults = faults }) }
-    ensures ran { IfOk result (λ r. HasRun N.script r.guests
+        → IsReady (start_with contents faults) (record { proxy = proxy; ring = ring; contents = contents; faults = faults }) }
+    requires start { N.start ≡ start_with (H.contents host.old) (H.faults host.old) }
+    ensures ran { IfOk result (λ r. HasRun N.script N.start r.guests
         (record { proxy = r.proxy; ring = r.ring; contents = H.contents host.new; faults = H.faults host.new }) r.met) }
 {
     let Ok((guests, ring)) = new_guests::<N>(alloc, script, rings) else {

@@ -4,17 +4,18 @@ ghost use Rattle.std.specs.Prelude.{◌≡◌, ◌≤◌, ℕ, Option, length};
 ghost use Rattle.vs_uds.specs.declared.path.TheConstants.{BASE_MAX};
 ghost use Rattle.vs_outside.specs.Host.{HostContents};
 ghost use Rattle.vs_ring_shared.specs.{Ports.IsRingSize, Sights.DeviceSight};
+ghost use Rattle.laws_settled.specs.Begun.{start_with};
 ghost use Rattle.vs_apps_parts.specs.Scripts.{AreRight, script_of};
 ghost use Rattle.vs_run_apps.specs.{Printed.Answers, Printed.Reports, Sides.IsReady, Sides.IsSilent};
 
 use crate::beginning::new_proxy;
 use crate::reporting::give_report;
 use crate::running::run_under;
+use crate::start_name::StartName;
 use std::alloc::Global;
 use std::marker::Brand;
 use std::sync::Wait;
 use std::thread::Threads;
-use vs_apps::guests::RunName;
 use vs_outside::{Clock, Gate, HostNet, Sink, Started};
 use vs_proxy::Proxy;
 use vs_report::giving::GiveError;
@@ -34,7 +35,7 @@ pub enum RunError {
 #[tactic(auto, using(crate::proofs::Told::reported))]
 fn run_and_report<
     W: Threads + Wait + Sync,
-    N: RunName + Send,
+    N: StartName + Send,
     H: HostNet,
     C: Clock,
     G: Gate + Send + Drop,
@@ -56,8 +57,9 @@ fn run_and_report<
     requires right { AreRight N.script }
     requires rings { rings.table ≡ N.ring }
     requires ready { (ring : DeviceSight) (contents : Option HostContents) (faults : ℕ) → IsSilent ring
-        → IsReady (record { proxy = proxy; ring = ring; contents = contents; faults = faults }) }
-    ensures { Reports idle N.script (H.contents host.new) (H.faults host.new) (K.contents out.old) (K.contents out.new) (K.faults out.old)
+        → IsReady (start_with contents faults) (record { proxy = proxy; ring = ring; contents = contents; faults = faults }) }
+    requires start { N.start ≡ start_with (H.contents host.old) (H.faults host.old) }
+    ensures { Reports idle N.script N.start (H.contents host.new) (H.faults host.new) (K.contents out.old) (K.contents out.new) (K.faults out.old)
         (K.faults out.new) result }
 {
     match run_under::<W, N, H, C, G>(
@@ -85,7 +87,7 @@ fn run_started<W: Threads + Wait + Sync, H: HostNet, C: Clock, G: Gate + Send + 
     requires right { AreRight (script_of script.items) }
     requires queue { IsRingSize queue }
     requires base { (1 ≤ length base.now) × (length base.now ≤ BASE_MAX) }
-    ensures { Reports idle (script_of script.items) (H.contents host.new) (H.faults host.new) (K.contents out.old) (K.contents out.new)
+    ensures { Reports idle (script_of script.items) (start_with (H.contents host.old) (H.faults host.old)) (H.contents host.new) (H.faults host.new) (K.contents out.old) (K.contents out.new)
         (K.faults out.old) (K.faults out.new) result }
 {
     let Ok(rings) = make(alloc, queue) else {
@@ -123,7 +125,7 @@ pub fn run<W: Threads + Wait + Sync, H: HostNet, C: Clock, G: Gate + Send + Drop
     requires right { AreRight (script_of script.items) }
     requires queue { IsRingSize queue }
     requires base { (1 ≤ length base.now) × (length base.now ≤ BASE_MAX) }
-    ensures { Answers idle (script_of script.items) (H.contents host.new) (H.faults host.old) (H.faults host.new) (K.contents out.old)
+    ensures { Answers idle (script_of script.items) (start_with (H.contents host.old) (H.faults host.old)) (H.contents host.new) (H.faults host.new) (K.contents out.old)
         (K.contents out.new) (K.faults out.old) (K.faults out.new) result }
 {
     match host.start(base) {

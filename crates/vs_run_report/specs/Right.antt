@@ -2,7 +2,7 @@
 use Rattle.std.specs.{Prelude.{◌≡◌, ℕ, ◌-◌, ◌<◌, ◌≤◌, ◌||◌, Bool, true, false, List, length, slice_get, Some}, List.All}
 use Rattle.vs_flow.specs.Connection.{Connection}
 use Rattle.vs_page.specs.Fair.{IsPrefixOf}
-use Rattle.vs_outside.specs.{Host.HostContents, HostBytes.host_read, HostBytes.host_wrote}
+use Rattle.vs_outside.specs.{Faults.one_more, Host.HostContents, HostBytes.host_read, HostBytes.host_wrote}
 use Rattle.vs_script.specs.App.{Act, Connect, Accept, Send, Recv, Drain, Exchange}
 use Rattle.laws_driver_bytes.specs.Calls.{Journal, received_by}
 use Rattle.vs_apps_parts.specs.{Journals.{calls_of, calls_of_app, sent_as}, Scripts.{IsPlayed, RunScript, acts_of}}
@@ -59,12 +59,12 @@ pub record IsRightConnection (opened : ℕ → Connection) (journal : Journal) (
   pub to_guest : IsPrefixOf (received_by o.id journal) (host_wrote (opened o.id) h)
 
 -- The last line: nothing was dropped, no payload went beyond its room, no connection of the guest was broken; and a fault was counted only
--- where more calls of the host failed than before.
+-- where one more call of the host failed than before, or more. (A count stands still at its last number.)
 pub record HasNoLoss (before after : ℕ) (t : Totals) : Type 0 where
   pub dropped : t.counters.dropped ≡ 0
   pub overrun : t.counters.overrun ≡ 0
   pub broken : t.broken ≡ 0
-  pub faults : 1 ≤ t.counters.faults → before < after
+  pub faults : 1 ≤ t.counters.faults → one_more before ≤ after
 
 -- The report that is made of these: the calls of each app are, in order, its instructions, and so on. No two ids have one connection.
 pub record IsRightReport (script : RunScript) (apps : List AppState) (entries : List Entry) (bytes : List ℕ) (t : Totals)

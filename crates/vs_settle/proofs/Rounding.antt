@@ -25,7 +25,7 @@ use Rattle.vs_proxy_parts.specs.{State.ProxyState, Turns.turn_of, declared.answe
 use Rattle.vs_proxy_parts.specs.declared.answers.Turn.TheVariants as turn
 use Rattle.vs_apps_parts.specs.{Scripts.RunScript, declared.progress.Stepped.Stepped}
 use Rattle.laws_apps.specs.{Runs.{IsRunOf, PollsTo, Run, Steps, poll_moved}, Rounds.{AllStand, Stands, StandsOnce}}
-use Rattle.laws_settled.specs.{Settled.AreOver, Settled.IsSettled, Settled.IsSteady, Settled.LacksPages}
+use Rattle.laws_settled.specs.{Begun.{IsBegun, Start, StaysBegun}, Settled.{AreOver, IsSettled, IsSteady, LacksPages}}
 use Rattle.laws_settled.proofs.{Quieting.turn_owes_none, Quieting.turn_sound, Resting.settled, Steady.told_runs, Taking.poll_takes_none}
 use Rattle.vs_apps.specs.Guests.{GuestsState, run_in}
 use Rattle.vs_settle.specs.Rounds.{IsCounted, IsSameEnd, LastRound, no_turn, turn_moved}
@@ -96,6 +96,28 @@ pub steady_hears : (s : ProxyState) (e d : DeviceSight) (past : Past) (host : Op
     → IsSteady s (situation (device_contents d) host faults)
 steady_hears s e d past host faults is =
     steady_log s (device_contents e) (device_contents d) host faults (ap (λ (x : DeviceSight). Some (device_log x)) is) refl
+
+-- So it does of what a run began with.
+begun_log : (start : Start) (s : ProxyState) (c d : RingContents) (host : Option HostContents) (faults : ℕ) → d.log ≡ c.log → d.honest ≡ c.honest
+    → IsBegun start s (situation c host faults) → IsBegun start s (situation d host faults)
+begun_log start s c d host faults log honest begun = record {
+  drops = λ on l is. begun.drops (sym honest ∙ on) l (sym log ∙ is);
+  streamed = λ unlabelled on l is. begun.streamed unlabelled (sym honest ∙ on) l (sym log ∙ is);
+  failed = begun.failed;
+}
+
+pub stays_log : (s : ProxyState) (c d : RingContents) (host : Option HostContents) (faults : ℕ) → d.log ≡ c.log → d.honest ≡ c.honest
+    → StaysBegun s (situation c host faults) s (situation d host faults)
+stays_log s c d host faults log honest = λ start. begun_log start s c d host faults log honest
+
+pub stays_hears : (s : ProxyState) (e d : DeviceSight) (past : Past) (host : Option HostContents) (faults : ℕ)
+    → d ≡ record e { sight = after_hearing past e.sight }
+    → StaysBegun s (situation (device_contents e) host faults) s (situation (device_contents d) host faults)
+stays_hears s e d past host faults is =
+    stays_log s (device_contents e) (device_contents d) host faults (ap (λ (x : DeviceSight). Some (device_log x)) is) refl
+
+pub stays_then : (s t u : ProxyState) (a b c : Situation) → StaysBegun s a t b → StaysBegun t b u c → StaysBegun s a u c
+stays_then s t u a b c one two = λ start begun. two start (one start begun)
 
 pub its_ring : (s : DeviceState) (e d : DeviceSight) → d.held ≡ e.held → IsItsRing (chains_of e.held) s → IsItsRing (chains_of d.held) s
 its_ring s e d same its = subst (λ (held : List Held). IsItsRing (chains_of held) s) (sym same) its

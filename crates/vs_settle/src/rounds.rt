@@ -7,7 +7,7 @@ ghost use Rattle.vs_device_parts.specs.Playing.{IsItsRing, Runs, situation};
 ghost use Rattle.vs_proxy_parts.specs.Turns.{turn_of};
 ghost use Rattle.vs_proxy_parts.specs.declared.answers.Turn.TheVariants as turn;
 ghost use Rattle.laws_apps.specs.Runs.{poll_moved};
-ghost use Rattle.laws_settled.specs.Settled.{IsSteady};
+ghost use Rattle.laws_settled.specs.{Begun.StaysBegun, Settled.IsSteady};
 ghost use Rattle.vs_apps.specs.Guests.{run_in};
 ghost use Rattle.laws_apps.specs.Rounds.{AllStand, Stands, StandsOnce};
 ghost use Rattle.vs_settle.specs.Rounds.{LastRound, no_turn, turn_moved};
@@ -95,6 +95,8 @@ pub fn turn<N: RunName, H: HostNet>(
     requires steady { IsSteady proxy.old (situation (device_contents ring.old) (H.contents host.old) (H.faults host.old)) }
     ensures ring { IsItsRing (chains_of ring.new.held) proxy.new.device }
     ensures steady { IsSteady proxy.new (situation (device_contents ring.new) (H.contents host.new) (H.faults host.new)) }
+    ensures begun { StaysBegun proxy.old (situation (device_contents ring.old) (H.contents host.old) (H.faults host.old))
+        proxy.new (situation (device_contents ring.new) (H.contents host.new) (H.faults host.new)) }
     ensures runs { result ≡ false → Runs (turn_of ring.old.sight.size now proxy.old)
         (situation (device_contents ring.old) (H.contents host.old) (H.faults host.old)) (proxy.new, turn.Turned no_turn)
         (situation (device_contents ring.new) (H.contents host.new) (H.faults host.new)) }
@@ -117,6 +119,8 @@ pub(crate) fn round<N: RunName, H: HostNet>(
     requires steady { IsSteady proxy.old (situation (device_contents ring.old) (H.contents host.old) (H.faults host.old)) }
     ensures ring { OnOk result (IsItsRing (chains_of ring.new.held) proxy.new.device) }
     ensures steady { OnOk result (IsSteady proxy.new (situation (device_contents ring.new) (H.contents host.new) (H.faults host.new))) }
+    ensures begun { OnOk result (StaysBegun proxy.old (situation (device_contents ring.old) (H.contents host.old) (H.faults host.old))
+        proxy.new (situation (device_contents ring.new) (H.contents host.new) (H.faults host.new))) }
     ensures last { IfOk result (λ moved. moved ≡ false → LastRound N.script guests.new proxy.new ring.new (H.contents host.new) (H.faults host.new)) }
 {
     guests.note(ring);

@@ -4,7 +4,7 @@ ghost use Rattle.std.specs.Prelude.{◌≡◌, ◌≤◌, false, true, IfOk, IfS
 ghost use Rattle.vs_ring_port.specs.Chains.{chains_of};
 ghost use Rattle.vs_ring_shared.specs.{Countings.met_between, Sights.device_contents};
 ghost use Rattle.vs_device_parts.specs.Playing.{IsItsRing, situation};
-ghost use Rattle.laws_settled.specs.Settled.{IsSettled, IsSteady};
+ghost use Rattle.laws_settled.specs.{Begun.StaysBegun, Settled.IsSettled, Settled.IsSteady};
 ghost use Rattle.vs_settle.specs.Rounds.{IsCounted, LastRound};
 
 use crate::rounds::round;
@@ -35,6 +35,8 @@ fn go_round<N: RunName, H: HostNet>(
     requires steady { IsSteady proxy.old (situation (device_contents ring.old) (H.contents host.old) (H.faults host.old)) }
     ensures ring { OnOk result (IsItsRing (chains_of ring.new.held) proxy.new.device) }
     ensures steady { OnOk result (IsSteady proxy.new (situation (device_contents ring.new) (H.contents host.new) (H.faults host.new))) }
+    ensures begun { OnOk result (StaysBegun proxy.old (situation (device_contents ring.old) (H.contents host.old) (H.faults host.old))
+        proxy.new (situation (device_contents ring.new) (H.contents host.new) (H.faults host.new))) }
     ensures last { IfOk result (λ is_last. is_last ≡ true
         → LastRound N.script guests.new proxy.new ring.new (H.contents host.new) (H.faults host.new) × IsCounted guests.new ring.new) }
 {
@@ -58,6 +60,8 @@ fn meet_last<N: RunName, H: HostNet>(
     requires counted { IsCounted guests.old ring.old }
     ensures ring { IsItsRing (chains_of ring.new.held) proxy.now.device }
     ensures steady { IsSteady proxy.now (situation (device_contents ring.new) (H.contents host.now) (H.faults host.now)) }
+    ensures begun { StaysBegun proxy.now (situation (device_contents ring.old) (H.contents host.now) (H.faults host.now))
+        proxy.now (situation (device_contents ring.new) (H.contents host.now) (H.faults host.now)) }
     ensures rest { IsSettled guests.new.driver guests.new.end proxy.now ring.new }
     ensures last { LastRound N.script guests.new proxy.now ring.new (H.contents host.now) (H.faults host.now) }
     ensures numbers { result ≡ met_between guests.new.end.log ring.new.sight.log }
@@ -80,6 +84,8 @@ fn last_round<N: RunName, H: HostNet>(
     requires steady { IsSteady proxy.old (situation (device_contents ring.old) (H.contents host.old) (H.faults host.old)) }
     ensures ring { OnOk result (IsItsRing (chains_of ring.new.held) proxy.new.device) }
     ensures steady { OnOk result (IsSteady proxy.new (situation (device_contents ring.new) (H.contents host.new) (H.faults host.new))) }
+    ensures begun { OnOk result (StaysBegun proxy.old (situation (device_contents ring.old) (H.contents host.old) (H.faults host.old))
+        proxy.new (situation (device_contents ring.new) (H.contents host.new) (H.faults host.new))) }
     ensures rest { IfOk result (λ o. OnSome o (IsSettled guests.new.driver guests.new.end proxy.new ring.new)) }
     ensures last { IfOk result (λ o. OnSome o (LastRound N.script guests.new proxy.new ring.new (H.contents host.new) (H.faults host.new))) }
     ensures numbers { IfOk result (λ o. IfSome o (λ met. met ≡ met_between guests.new.end.log ring.new.sight.log)) }
@@ -110,6 +116,8 @@ pub fn settle<W: Wait, N: RunName, H: HostNet, C: Clock>(
     requires steady { IsSteady proxy.old (situation (device_contents ring.old) (H.contents host.old) (H.faults host.old)) }
     ensures ring { OnOk result (IsItsRing (chains_of ring.new.held) proxy.new.device) }
     ensures steady { OnOk result (IsSteady proxy.new (situation (device_contents ring.new) (H.contents host.new) (H.faults host.new))) }
+    ensures begun { OnOk result (StaysBegun proxy.old (situation (device_contents ring.old) (H.contents host.old) (H.faults host.old))
+        proxy.new (situation (device_contents ring.new) (H.contents host.new) (H.faults host.new))) }
     ensures rest { OnOk result (IsSettled guests.new.driver guests.new.end proxy.new ring.new) }
     ensures last { OnOk result (LastRound N.script guests.new proxy.new ring.new (H.contents host.new) (H.faults host.new)) }
     ensures numbers { IfOk result (λ met. met ≡ met_between guests.new.end.log ring.new.sight.log) }

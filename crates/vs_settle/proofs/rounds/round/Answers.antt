@@ -1,7 +1,7 @@
 use Rattle.std.proofs.Common.{◌||◌, ap, sym, ◌∙◌}
 use Rattle.vs_ring_port.specs.declared.queue.Queue.TheVariants.{Rx}
 use Rattle.vs_ring_shared.specs.{Meetings.what_it_did, Sights.DeviceSight}
-use Rattle.vs_settle.proofs.Rounding.{its_ring, makes_last, neither, rx_flown, steady_hears}
+use Rattle.vs_settle.proofs.Rounding.{its_ring, makes_last, neither, rx_flown, stays_hears, steady_hears}
 use Rattle.vs_settle.proofs.rounds.round.Goals as goal
 
 pub turn-turned-requires-clause-ring : goal.turn-turned-requires-clause-ring
@@ -24,6 +24,16 @@ pub returns-clause-steady : goal.returns-clause-steady
 returns-clause-steady g c =
     steady_hears c.turn-turned.new.proxy c.turn-turned.new.ring c.note-3.new.device (what_it_did c.note-2.new.self.end) (g.H.HostNet.contents c.turn-turned.new.host)
     (g.H.HostNet.faults c.turn-turned.new.host) c.note-3.ensures.device c.turn-turned.ensures.steady
+
+pub returns-clause-begun : goal.returns-clause-begun
+returns-clause-begun g c = λ start was.
+    let host = g.H.HostNet.contents c.args.host.now in
+    let faults = g.H.HostNet.faults c.args.host.now in
+    stays_hears c.turn-turned.new.proxy c.turn-turned.new.ring c.note-3.new.device (what_it_did c.note-2.new.self.end)
+    (g.H.HostNet.contents c.turn-turned.new.host) (g.H.HostNet.faults c.turn-turned.new.host) c.note-3.ensures.device start
+    (c.turn-turned.ensures.begun start
+    (stays_hears c.args.proxy.now c.note.new.device c.note-2.new.device (what_it_did c.step_all.new.guests.end) host faults c.note-2.ensures.device start
+    (stays_hears c.args.proxy.now c.args.ring.now c.note.new.device (what_it_did c.args.guests.now.end) host faults c.note.ensures.device start was)))
 
 pub returns-clause-last : goal.returns-clause-last
 returns-clause-last g c = λ is.

@@ -1,6 +1,6 @@
 use Rattle.std.proofs.Common.{ap}
 use Rattle.vs_ring_shared.specs.{Meetings.what_it_did, Sights.DeviceSight}
-use Rattle.vs_settle.proofs.Rounding.{its_ring, rests_told, steady_hears}
+use Rattle.vs_settle.proofs.Rounding.{its_ring, rests_told, stays_hears, steady_hears}
 use Rattle.vs_settle.proofs.settling.meet_last.Goals as goal
 
 pub returns-clause-ring : goal.returns-clause-ring
@@ -11,6 +11,11 @@ pub returns-clause-steady : goal.returns-clause-steady
 returns-clause-steady g c =
     steady_hears c.args.proxy.now c.args.ring.now c.meet-met.new.device (what_it_did c.args.guests.now.end) (g.H.HostNet.contents c.args.host.now)
     (g.H.HostNet.faults c.args.host.now) c.meet-met.ensures.device c.requires.steady
+
+pub returns-clause-begun : goal.returns-clause-begun
+returns-clause-begun g c =
+    stays_hears c.args.proxy.now c.args.ring.now c.meet-met.new.device (what_it_did c.args.guests.now.end) (g.H.HostNet.contents c.args.host.now)
+    (g.H.HostNet.faults c.args.host.now) c.meet-met.ensures.device
 
 pub returns-clause-rest : goal.returns-clause-rest
 returns-clause-rest g c =

@@ -1,0 +1,47 @@
+-- What a run keeps of its device and its host, from when it began.
+use Rattle.std.specs.{Prelude.{◌≡◌, ◌≤◌, ℕ, true, false, Option, None}, List.All, Option.ForSome}
+use Rattle.laws_history.specs.declared.packet.Packet.{Packet}
+use Rattle.vs_limits.specs.declared.TheConstants.{FIRST_CID}
+use Rattle.vs_outside.specs.{Faults.one_more, Host.HostContents, Host.Stream, Host.is_waiting}
+use Rattle.vs_page.specs.{Log.Device, Log.packets_got, Open.is_dropped}
+use Rattle.vs_ring_port.specs.Contents.{RingContents}
+use Rattle.vs_device_parts.specs.Calls.{Situation}
+use Rattle.laws_device_bytes.specs.Streamed.{client_waits, seen}
+use Rattle.vs_proxy_parts.specs.State.{ProxyState}
+use Rattle.laws_proxy.specs.Honest.{IsProxyStreamed}
+
+-- What a host was like then: what it exposed, and how many of its calls had failed.
+pub record Start : Type 0 where
+  pub contents : Option HostContents
+  pub faults : ℕ
+
+abbrev pub start_with : Option HostContents → ℕ → Start
+start_with contents faults = record { contents = contents; faults = faults }
+
+-- The proxy labelled no stream; and one that waits to be accepted is a client's, of which nothing was taken and which was given nothing.
+abbrev pub IsUnlabelled : HostContents → Type 0
+IsUnlabelled h = All (λ (s : Stream). (s.label ≡ None) × (is_waiting s ≡ true → seen s ≡ client_waits)) h.streams
+
+-- A packet that a device doesn't drop that knows its guest by this CID.
+abbrev pub IsKept : ℕ → Packet → Type 0
+IsKept cid p = is_dropped Device cid p.header ≡ false
+
+-- Where an honest ring tells the device's log: it dropped nothing, as long as each packet that it got has the guest's CID and goes to the host.
+abbrev pub DropsNone : ProxyState → RingContents → Type 0
+DropsNone s c = c.honest ≡ true → ForSome c.log (λ l. All (IsKept FIRST_CID) (packets_got l.entries) → s.device.dropped ≡ 0)
+
+-- So many calls of a host have failed, where it were so many at first. The device counted one only where one more has failed; a count that stands at its
+-- last number counts no more.
+pub record CountsFailed (first counted failed : ℕ) : Type 0 where
+  pub grown : first ≤ failed
+  pub more : 1 ≤ counted → one_more first ≤ failed
+
+-- What holds of a proxy, its ring and its host that came from there.
+pub record IsBegun (start : Start) (s : ProxyState) (a : Situation) : Type 0 where
+  pub drops : DropsNone s a.ring
+  pub streamed : ForSome start.contents IsUnlabelled → IsProxyStreamed FIRST_CID s a
+  pub failed : CountsFailed start.faults s.device.faults a.faults
+
+-- Whatever a run began with, it did so too after these were left.
+abbrev pub StaysBegun : ProxyState → Situation → ProxyState → Situation → Type 0
+StaysBegun s a t b = (start : Start) → IsBegun start s a → IsBegun start t b

@@ -1,0 +1,107 @@
+-- What a run that is over reports is right.
+use Rattle.std.proofs.Common.{◌≡◌, ℕ, List, Option, Some, None, Result, Ok, Err, IfOk, refl, sym, ap, subst, ◌∙◌}
+use Rattle.std.proofs.lemmas.Option.{same_Some}
+use Rattle.std.specs.Option.{ForSome}
+use Rattle.vs_contents.specs.Contents.{Exposes}
+use Rattle.vs_limits.specs.declared.TheConstants.{FIRST_CID}
+use Rattle.vs_outside.specs.{Host.HostContents, Host.after_start}
+use Rattle.vs_ring_port.specs.Chains.{Held, chains_of}
+use Rattle.vs_device_parts.specs.{Calls.Situation, Playing.situation}
+use Rattle.vs_ring_shared.specs.{Countings.met_between, Sights.{DeviceSight, device_contents, device_log}, declared.counters.Met.Met}
+use Rattle.vs_apps_parts.specs.Scripts.{RunScript}
+use Rattle.laws_apps.specs.Runs.{IsRunOf, Run}
+use Rattle.laws_settled.specs.{Begun.{CountsFailed, IsBegun, IsUnlabelled, Start, start_with}, Settled.{IsSettled, IsSteady}}
+use Rattle.laws_settled.proofs.{Beginning.dropped_none, Beginning.new_begun, Steady.new_steady}
+use Rattle.laws_run.proofs.Reporting.{right_report}
+use Rattle.vs_apps.specs.Guests.{GuestsState, run_in}
+use Rattle.vs_settle.specs.Rounds.{LastRound}
+use Rattle.vs_report.specs.declared.giving.GiveError.{GiveError}
+use Rattle.vs_report.specs.declared.giving.GiveError.TheVariants as give
+use Rattle.vs_proxy_parts.specs.{State.ProxyState, Turns.new_proxy}
+use Rattle.vs_run_apps.specs.{Printed.IsOver, Printed.Reports, Runs.{HasRightReport, HasRun, totals_of}, Sides.{IsReady, IsSilent, SideState, around}}
+
+module _ (script : RunScript) (start : Start) (g : GuestsState) (s : SideState) where
+  -- No step, turn or poll of the last round, and nothing after it, changed an app or an entry.
+  module _ (last : LastRound script g s.proxy s.ring s.contents s.faults) where
+    abbrev stood : Run
+    stood = run_in last.stood
+
+    same_run : run_in last.past ≡ record stood { driver = last.past.driver; ring = (run_in last.past).ring }
+    same_run = last.polls.rest
+
+    same_apps : g.apps ≡ stood.apps
+    same_apps = ap (λ (x : GuestsState). x.apps) last.ends ∙ ap (λ (r : Run). r.apps) same_run
+
+    same_entries : g.entries ≡ stood.entries
+    same_entries = ap (λ (x : GuestsState). x.entries) last.ends ∙ ap (λ (r : Run). r.entries) same_run
+
+  pub right_of : IsRunOf FIRST_CID script (run_in g) → IsSettled g.driver g.end s.proxy s.ring → LastRound script g s.proxy s.ring s.contents s.faults
+      → IsSteady s.proxy (around s) → IsBegun start s.proxy (around s) → HasRightReport script start g s
+  right_of run rest last steady begun unlabelled h there =
+      let told = right_report script g.driver g.end g.apps g.entries g.bytes s.proxy s.ring h s.faults run rest
+      (subst (λ (o : Option HostContents). IsSteady s.proxy (situation (device_contents s.ring) o s.faults)) there steady) (run_in last.first) (stood last)
+      last.steps (same_apps last) (same_entries last)
+      (λ honest l is plain k shown. begun.streamed unlabelled honest l is plain k (there ∙ shown)) in
+      (told.0, told.1 (totals_of g s.proxy) start.faults s.faults refl refl (dropped_none g.driver g.end s.proxy s.ring rest begun.drops) begun.failed.more)
+
+  pub has_run : (met : Met) → IsRunOf FIRST_CID script (run_in g) → IsSettled g.driver g.end s.proxy s.ring
+      → LastRound script g s.proxy s.ring s.contents s.faults → met ≡ met_between g.end.log s.ring.sight.log → IsSteady s.proxy (around s)
+      → IsBegun start s.proxy (around s) → HasRun script start g s met
+  has_run met run rest last numbers steady begun = record {
+    run = run;
+    rest = rest;
+    last = last;
+    numbers = numbers;
+    steady = steady;
+    begun = begun;
+    right = right_of run rest last steady begun;
+  }
+
+-- A new proxy over an end on which nothing passed may be turned.
+pub ready : {E : Type 0} (base : List ℕ) (r : Result ProxyState E) → IfOk r (λ p. p ≡ new_proxy FIRST_CID base)
+    → IfOk r (λ p. (ring : DeviceSight) (contents : Option HostContents) (faults : ℕ) → IsSilent ring
+    → IsReady (start_with contents faults) (record { proxy = p; ring = ring; contents = contents; faults = faults }))
+ready base (Err e) is = tt
+ready base (Ok p) is = λ ring contents faults silent.
+    let a : Situation = situation (device_contents ring) contents faults in
+    let now : IsReady (start_with contents faults) (record { proxy = new_proxy FIRST_CID base; ring = ring; contents = contents; faults = faults }) =
+    record {
+      ring = λ still. record { chains = ap (λ (held : List Held). chains_of held) silent.held; rx = tt };
+      steady = new_steady base a (device_log ring) refl silent.log silent.held;
+      begun = new_begun base a (device_log ring) refl silent.log;
+    } in
+    subst (λ (q : ProxyState). IsReady (start_with contents faults) (record { proxy = q; ring = ring; contents = contents; faults = faults })) (sym is) now
+
+-- A host that is started has the streams that it had.
+still_unlabelled : (o n : Option HostContents) (P : HostContents → Type 0) → Exposes o n P after_start → ForSome o IsUnlabelled → ForSome n IsUnlabelled
+still_unlabelled None n P exposes unlabelled h there = absurd (let no : ◌≡◌ {A = Option HostContents} None (Some h) = sym exposes ∙ there in cc)
+still_unlabelled (Some c) n P exposes unlabelled h there =
+    subst IsUnlabelled (same_Some (after_start c) h (sym exposes.1 ∙ there)) (unlabelled c refl)
+
+begun_before : (start now : Start) (g : GuestsState) (s : SideState) → (ForSome start.contents IsUnlabelled → ForSome now.contents IsUnlabelled)
+    → now.faults ≡ start.faults → IsBegun now s.proxy (around s) → IsBegun start s.proxy (around s)
+begun_before start now g s unlabelled same begun = record {
+  drops = begun.drops;
+  streamed = λ none. begun.streamed (unlabelled none);
+  failed = subst (λ (n : ℕ). CountsFailed n s.proxy.device.faults s.faults) same begun.failed;
+}
+
+module _ (o n : Option HostContents) (P : HostContents → Type 0) (k m : ℕ) (exposes : Exposes o n P after_start) (same : m ≡ k) (script : RunScript)
+    (contents : Option HostContents) (failed : ℕ) where
+  over_before : (Q : GuestsState → ProxyState → Type 0) → IsOver script (start_with n m) contents failed Q → IsOver script (start_with o k) contents failed Q
+  over_before Q (g, s, met, shown, counted, run, rest) = (
+    g,
+    s,
+    met,
+    shown,
+    counted,
+    has_run script (start_with o k) g s met run.run run.rest run.last run.numbers run.steady
+        (begun_before (start_with o k) (start_with n m) g s (still_unlabelled o n P exposes) same run.begun),
+    rest,
+  )
+
+  pub reports_before : (idle : ℕ) (old new : Option (List ℕ)) (faults faults' : ℕ) (r : Result ℕ GiveError)
+      → Reports idle script (start_with n m) contents failed old new faults faults' r → Reports idle script (start_with o k) contents failed old new faults faults' r
+  reports_before idle old new faults faults' (Ok status) over = over_before _ over
+  reports_before idle old new faults faults' (Err give.Sink) over = over_before _ over
+  reports_before idle old new faults faults' (Err give.OutOfMemory) none = none
