@@ -74,6 +74,13 @@ const CASES: [Case<'static>; 4] = [
 fn bytes_come_back(rt: HostRuntime) -> Result<(), Fail> {
     for line in LINES {
         assert_eq!(rt; wrong(&rt, line, &CASES, false)?.as_str(), "");
+    }
+    Ok(())
+}
+
+#[test]
+fn bytes_come_back_on_one_thread(rt: HostRuntime) -> Result<(), Fail> {
+    for line in LINES {
         assert_eq!(rt; wrong(&rt, line, &CASES, true)?.as_str(), "");
     }
     Ok(())
