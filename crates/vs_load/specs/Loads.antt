@@ -1,26 +1,29 @@
 -- What a load ends in.
-use Rattle.std.specs.Prelude.{◌≡◌, ℕ, false, List, Option, Some}
+use Rattle.std.specs.Prelude.{◌≡◌, ℕ, false, List, [], Option, Some}
 use Rattle.vs_outside.specs.Host.{HostContents}
 use Rattle.vs_ring_shared.specs.declared.counters.Met.{Met}
 use Rattle.vs_apps_parts.specs.Scripts.{RunScript}
+use Rattle.laws_settled.specs.Begun.{Start, start_with}
 use Rattle.vs_apps.specs.Guests.{GuestsState}
 use Rattle.vs_run_report.specs.Load.{load_script}
 use Rattle.vs_run_apps.specs.{Runs.HasRun, Sides.SideState}
 use Rattle.vs_load_parts.specs.Line.{load_line}
 
--- A run of a script was over, with a host that exposes this and of which so many calls failed, and this is the line of what its apps did.
-pub record IsOver (conns : ℕ) (script : RunScript) (contents : Option HostContents) (faults : ℕ) (line : List ℕ) : Type 0 where
+-- A run of a script that began so was over, with a host that exposes this and of which so many calls failed, and this is the line of what its apps did.
+pub record IsOver (conns : ℕ) (script : RunScript) (start : Start) (contents : Option HostContents) (faults : ℕ) (line : List ℕ) : Type 0 where
   pub guests : GuestsState
   pub side : SideState
   pub met : Met
   pub exposes : side.contents ≡ contents
   pub counts : side.faults ≡ faults
-  pub ran : HasRun script guests side met
+  pub ran : HasRun script start guests side met
   pub is : line ≡ load_line conns script guests.entries guests.bytes
 
--- The load was over, with a host that found memory for all that it was given.
+-- The load was over, with a host that had no stream when it began, and of which no call had failed, and that found memory for all that it was given.
 pub record IsLoaded (number conns bytes : ℕ) (line : List ℕ) : Type 0 where
+  pub first : HostContents
+  pub empty : first.streams ≡ []
   pub host : HostContents
   pub faults : ℕ
   pub fed : host.starved ≡ false
-  pub over : IsOver conns (load_script number conns bytes) (Some host) faults line
+  pub over : IsOver conns (load_script number conns bytes) (start_with (Some first) 0) (Some host) faults line

@@ -3,6 +3,7 @@
 ghost use Rattle.std.specs.Prelude.{◌≡◌, ℕ, IfOk, Option, Some, string_bytes};
 ghost use Rattle.vs_outside.specs.Host.{HostContents};
 ghost use Rattle.vs_ring_shared.specs.{Ports.IsRingSize, Sights.DeviceSight};
+ghost use Rattle.laws_settled.specs.Begun.{start_with};
 ghost use Rattle.vs_apps_parts.specs.Scripts.{AreRight, script_of};
 ghost use Rattle.vs_run_apps.specs.Sides.{IsReady, IsSilent};
 ghost use Rattle.vs_load_parts.specs.Line.{load_line};
@@ -21,6 +22,7 @@ use vs_proxy::Proxy;
 use vs_ring_shared::{NewRings, make};
 use vs_run_apps::beginning::new_proxy;
 use vs_run_apps::running::run_under;
+use vs_run_apps::start_name::StartName;
 use vs_run_report::load::LOAD_PORT;
 use vs_script::App;
 
@@ -46,7 +48,7 @@ fn line_of<N: RunName>(alloc: Global, conns: u32, guests: &Guests<N>) -> Result<
 
 // A load under a name, of which nothing with that name is left but the line.
 #[tactic(auto, using(crate::proofs::Over::over))]
-fn load_under<W: Threads + Wait + Sync, N: RunName + Send, C: Clock, G: Gate + Send + Drop>(
+fn load_under<W: Threads + Wait + Sync, N: StartName + Send, C: Clock, G: Gate + Send + Drop>(
     rt: &W,
     alloc: Global,
     script: Vec<App>,
@@ -62,8 +64,9 @@ fn load_under<W: Threads + Wait + Sync, N: RunName + Send, C: Clock, G: Gate + S
     requires right { AreRight N.script }
     requires rings { rings.table ≡ N.ring }
     requires ready { (ring : DeviceSight) (contents : Option HostContents) (faults : ℕ) → IsSilent ring
-        → IsReady (record { proxy = proxy; ring = ring; contents = contents; faults = faults }) }
-    ensures { IfOk result (λ line. IsOver conns N.script (Some host.new.contents) host.new.faults (string_bytes line)) }
+        → IsReady (start_with contents faults) (record { proxy = proxy; ring = ring; contents = contents; faults = faults }) }
+    requires start { N.start ≡ start_with (Some host.old.contents) host.old.faults }
+    ensures { IfOk result (λ line. IsOver conns N.script N.start (Some host.new.contents) host.new.faults (string_bytes line)) }
 {
     match run_under::<W, N, EchoHost, C, G>(
         rt, alloc, script, rings, proxy, host, clock, LOAD_IDLE, gates, gate,

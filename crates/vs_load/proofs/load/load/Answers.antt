@@ -9,6 +9,8 @@ load_under-requires-clause-right g c κs within = subst AreRight (sym c.in_ok-sc
 pub returns : goal.returns
 returns g c =
     record {
+      first = c.in_ok-host.host.contents;
+      empty = ap (λ m. m.contents.streams) c.in_ok-host.ensures;
       host = c.load_under.new.host.contents;
       faults = c.load_under.new.host.faults;
       fed = sym c.starved.ensures ∙ c.if-starved.false;

@@ -4,7 +4,7 @@ use Rattle.vs_load.proofs.load.load_under.Goals as goal
 
 pub returns-in-Ok : goal.returns-in-Ok
 returns-in-Ok g c =
-    over string_bytes c.args.conns g.N.RunName.script c.in-Ok.ran.guests (record {
+    over string_bytes c.args.conns g.N.RunName.script g.N.StartName.start c.in-Ok.ran.guests (record {
       proxy = c.in-Ok.ran.proxy;
       ring = c.in-Ok.ran.ring;
       contents = Some c.run_under.new.host.contents;
