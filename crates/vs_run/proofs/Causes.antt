@@ -234,12 +234,12 @@ module _ (command : Option words.Command) (old new : Lent) (r : ℕ) (base : Lis
       new.sink_faults r old.source source (subst (λ k. Does k old new r) is does) few same
 
   pub run_written : (apps : RunScript) → parse_of script_of.Run text ≡ Ok (Runs apps)
-      → EndsOver idle apps new.host old.host_faults new.host_faults old.out new.out old.sink_faults new.sink_faults r
+      → EndsOver idle apps old.host new.host old.host_faults new.host_faults old.out new.out old.sink_faults new.sink_faults r
   run_written apps parsed = go told_run
     where
       go : ran_in idle old new r (parse_of script_of.Run text)
           ⊎ (KeepsHost old new × EndsAs old.out new.out old.sink_faults new.sink_faults no_memory_text 9 r)
-          → EndsOver idle apps new.host old.host_faults new.host_faults old.out new.out old.sink_faults new.sink_faults r
+          → EndsOver idle apps old.host new.host old.host_faults new.host_faults old.out new.out old.sink_faults new.sink_faults r
       go (inl h) = subst (ran_in idle old new r) parsed h
       go (inr h) = inr (inl h.1)
 

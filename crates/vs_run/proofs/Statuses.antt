@@ -124,7 +124,7 @@ module _ (command : Option words.Command) (old new : Lent) (r : ℕ) where
   hostile_status (Attacks lines) e = failed_status _ e
 
   over_cause : uses_host command ≡ true → (idle : ℕ) (apps : RunScript)
-      → EndsOver idle apps new.host old.host_faults new.host_faults old.out new.out old.sink_faults new.sink_faults r → Cause command old new r
+      → EndsOver idle apps old.host new.host old.host_faults new.host_faults old.out new.out old.sink_faults new.sink_faults r → Cause command old new r
   over_cause host idle apps (inl (guests, side, met, told, faults, ran, h)) =
       as_cause (joined (texts_of idle apps guests side.proxy)) (run_status apps guests.apps guests.entries)
       (λ e. own (run_status apps guests.apps guests.entries) e (run_zero_or_five apps guests.apps guests.entries)) h

@@ -6,6 +6,7 @@ use Rattle.vs_report.specs.Gives.{joined}
 use Rattle.vs_script.specs.{Script.Runs, Script.Saying, declared.fault.Refused.Refused}
 use Rattle.vs_apps_parts.specs.Scripts.{AreRight, RunScript}
 use Rattle.vs_run_report.specs.Report.{run_status}
+use Rattle.laws_settled.specs.Begun.{start_with}
 use Rattle.vs_run_apps.specs.Printed.{IsOver, texts_of}
 use Rattle.vs_load.specs.Loads.{IsLoaded}
 use Rattle.vs_run.specs.Ends.{EndsWith, refusal_text}
@@ -19,11 +20,11 @@ IsRight _ = Unit {0}
 abbrev pub IsUntouched : Option HostContents → Option HostContents → ℕ → ℕ → Type 0
 IsUntouched host host' faults faults' = (host' ≡ host) × (faults' ≡ faults)
 
--- How the apps of a script end: a run was over, and its report was written, with its status; or memory ran out, and `no memory` was written, and
--- nothing before; or the host didn't start, and `host fault` was written.
-abbrev pub EndsOver : ℕ → RunScript → Option HostContents → ℕ → ℕ → Option (List ℕ) → Option (List ℕ) → ℕ → ℕ → ℕ → Type 0
-EndsOver idle script host failed failed' out out' faults faults' result =
-    IsOver script host failed' (λ g p. EndsAs out out' faults faults' (joined (texts_of idle script g p)) (run_status script g.apps g.entries)
+-- How the apps of a script end: a run was over, and its report was written, with its status, which is right where the host exposed its streams and none
+-- had a label; or memory ran out, and `no memory` was written, and nothing before; or the host didn't start, and `host fault` was written.
+abbrev pub EndsOver : ℕ → RunScript → Option HostContents → Option HostContents → ℕ → ℕ → Option (List ℕ) → Option (List ℕ) → ℕ → ℕ → ℕ → Type 0
+EndsOver idle script host host' failed failed' out out' faults faults' result =
+    IsOver script (start_with host failed) host' failed' (λ g p. EndsAs out out' faults faults' (joined (texts_of idle script g p)) (run_status script g.apps g.entries)
     result)
     ⊎ EndsAs out out' faults faults' no_memory_text 9 result
     ⊎ (CountsFault true failed failed' × EndsAs out out' faults faults' host_fault_text 6 result)
@@ -33,7 +34,7 @@ EndsOver idle script host failed failed' out out' faults faults' result =
 abbrev pub EndsRun : ℕ → Option HostContents → Option HostContents → ℕ → ℕ → Option (List ℕ) → Option (List ℕ) → ℕ → ℕ → ℕ → Result Saying Refused →
     Type 0
 EndsRun idle host host' failed failed' out out' faults faults' result (Ok (Runs apps)) =
-    EndsOver idle apps host' failed failed' out out' faults faults' result
+    EndsOver idle apps host host' failed failed' out out' faults faults' result
 EndsRun idle host host' failed failed' out out' faults faults' result (Ok said) =
     EndsWith out out' faults faults' [] 0 result × IsUntouched host host' failed failed'
 EndsRun idle host host' failed failed' out out' faults faults' result (Err r) =

@@ -124,7 +124,7 @@ fn run_apps<W: Threads + Wait + Sync, H: HostNet, C: Clock, G: Gate + Send + Dro
     requires base { IsBase base.now }
     requires queue { IsQueueSize queue }
     requires right { AreRight (script_of apps.items) }
-    ensures { EndsOver idle (script_of apps.items) (H.contents host.new) (H.faults host.old) (H.faults host.new)
+    ensures { EndsOver idle (script_of apps.items) (H.contents host.old) (H.contents host.new) (H.faults host.old) (H.faults host.new)
         (K.contents out.old) (K.contents out.new) (K.faults out.old) (K.faults out.new) result }
 {
     let mut gates = gates;
@@ -159,7 +159,7 @@ fn run_gated<W: Threads + Wait + Sync, H: HostNet, C: Clock, G: Gate + Send + Dr
     requires base { IsBase base.now }
     requires queue { IsQueueSize queue }
     requires right { AreRight (script_of apps.items) }
-    ensures { EndsOver idle (script_of apps.items) (H.contents host.new) (H.faults host.old) (H.faults host.new)
+    ensures { EndsOver idle (script_of apps.items) (H.contents host.old) (H.contents host.new) (H.faults host.old) (H.faults host.new)
         (K.contents out.old) (K.contents out.new) (K.faults out.old) (K.faults out.new) result }
 {
     match run(

@@ -105,12 +105,12 @@ pub fn vsock_main<
         → S.faults script.old < 2 ^ 64 - 1 → S.faults script.new ≡ S.faults script.old → S.contents script.old ≡ Some text
         → EndsAnswer (K.contents out.old) (K.contents out.new) (K.faults out.old) (K.faults out.new)
         (hostile_of text).lines (hostile_of text).status result }
-    // The apps of a script run until both ends are at rest, and the report of that run is written; or the host didn't start, or memory ran out.
+    // The apps of a script run until both ends are at rest, and the right report of that run is written; or the host didn't start, or memory ran out.
     ensures runs { (base : List ℕ) (queue idle : ℕ) (text : List ℕ) (apps : RunScript)
         → command_of (map string_bytes words.now) ≡ Some (Run base queue idle)
         → S.faults script.old < 2 ^ 64 - 1 → S.faults script.new ≡ S.faults script.old
         → S.contents script.old ≡ Some text → parse_of script_of.Run text ≡ Ok (Runs apps)
-        → EndsOver idle apps (H.contents host.new) (H.faults host.old) (H.faults host.new)
+        → EndsOver idle apps (H.contents host.old) (H.contents host.new) (H.faults host.old) (H.faults host.new)
         (K.contents out.old) (K.contents out.new) (K.faults out.old) (K.faults out.new) result }
     // The line of a load is written, which reads no script.
     ensures loads { (number conns bytes queue : ℕ) → command_of (map string_bytes words.now) ≡ Some (Load number conns bytes queue)
