@@ -1,4 +1,4 @@
-use Rattle.std.proofs.Common.{Some, string_bytes, subst, sym, ◌∙◌}
+use Rattle.std.proofs.Common.{Some, ap, string_bytes, subst, sym, ◌∙◌}
 use Rattle.vs_apps_parts.specs.Scripts.{AreRight}
 use Rattle.vs_load.specs.Loads.{IsOver}
 use Rattle.vs_load.proofs.load.load.Goals as goal
