@@ -12,11 +12,17 @@ use vs_run::vsock_main;
 /// The words of a run of apps, which give up after fewer steps than they would without being told.
 pub const RUN: &str = "vsock run --base v.sock --idle 100";
 
-/// How a report ends where no connection is left.
+/// How a report ends where no connection is left, where one is, and where 64 are.
 pub const NONE_OPEN: &str = "guest open 0\ndevice open 0\ndropped 0 overrun 0 broken 0 faults 0\n";
 
-/// The same where one is left.
 pub const ONE_OPEN: &str = "guest open 1\ndevice open 1\ndropped 0 overrun 0 broken 0 faults 0\n";
+
+pub const ALL_OPEN: &str = "guest open 64\ndevice open 64\ndropped 0 overrun 0 broken 0 faults 0\n";
+
+/// Its last line, and where a fault was counted.
+pub const COUNTED: &str = "dropped 0 overrun 0 broken 0 faults 0\n";
+
+pub const FAULT_COUNTED: &str = "dropped 0 overrun 0 broken 0 faults 1\n";
 
 /// The status that a command ended with, and what it printed.
 #[derive(Drop)]

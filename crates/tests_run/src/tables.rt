@@ -1,6 +1,6 @@
 //! Runs of apps whose connections fill the tables, and scripts of as many apps and instructions as there may be.
 
-use crate::running::{Case, NONE_OPEN, check, ran, text_of, times};
+use crate::running::{ALL_OPEN, Case, NONE_OPEN, check, ran, text_of, times};
 use std::alloc::{AllocError, AllocGlobal, Global};
 use std::fmt::Write;
 use std::sync::Wait;
@@ -8,9 +8,6 @@ use std::test::Fail;
 use std::thread::Threads;
 use vs_header::Kind;
 use vs_outside::MemHost;
-
-/// How a report ends where 64 connections are left.
-const ALL_OPEN: &str = "guest open 64\ndevice open 64\ndropped 0 overrun 0 broken 0 faults 0\n";
 
 /// The lines of so many connections from guest port 1024 on, on which nothing passed.
 fn conns(alloc: Global, count: u32) -> Result<String, AllocError> {
