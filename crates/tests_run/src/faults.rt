@@ -69,7 +69,7 @@ fn is_cut_off<R: AllocGlobal + Threads + Wait + Sync>(
     rt: &R,
     at: usize,
 ) -> Result<bool, AllocError> {
-    let (ended, _) = failing(rt, 0, at as u64 + 1, 0)?;
+    let (ended, _) = failing(rt, 0, (at as u64).saturating_add(1), 0)?;
     let mut printed = String::new(rt.alloc());
     for line in LINES.iter().take(at) {
         printed.push_str(line)?;
