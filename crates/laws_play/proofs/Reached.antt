@@ -12,7 +12,8 @@ use Rattle.vs_page.{specs.Open.WasOpened, specs.Open.is_left_open, specs.Open.is
 use Rattle.laws_bytes.specs.Drains.{Drains, receives}
 use Rattle.laws_world.proofs.Carried.{given_is, gone_of, one_stream, pending_of, received_is, sent_is, to_device, to_driver, to_guest}
 use Rattle.laws_world.proofs.Carried.{to_host, unread_of, wrote_is}
-use Rattle.laws_world.proofs.{Bytes.read_own, Bytes.wrote_own, Sound.IsWell, Waiting.at_device, Waiting.streams_among}
+use Rattle.laws_rest.proofs.Hosts.{read_own, wrote_own}
+use Rattle.laws_world.proofs.{Sound.IsWell, Waiting.at_device, Waiting.streams_among}
 use Rattle.laws_world.specs.{Sides.{device_ends, driver_ends, log_with_staged}, Events.{is_at_rest, none_staged}, World.{World, first_cid}}
 use Rattle.laws_driver.specs.Resets.{MarksResets}
 use Rattle.laws_driver_bytes.specs.Calls.{received_on, sent_on}

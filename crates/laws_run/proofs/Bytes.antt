@@ -1,53 +1,28 @@
--- The bytes of a connection of a run that is at rest: what the apps sent and received, and what the host's programs read and wrote.
-use Rattle.std.proofs.Common.{◌≡◌, ℕ, ◌≤◌, true, false, List, [], ◌∷◌, Some, refl, sym, ap, subst, ◌∙◌, arith}
-use Rattle.vs_flow.specs.{Connection.Connection, Connection.first_of, Flow.is_assigned, declared.flow.Flow.Flow}
+-- The bytes of a run that is at rest: it is one of driver and device over two rings that tell their logs, and a host that exposes its streams.
+use Rattle.std.proofs.Common.{◌≡◌, ℕ, ◌≤◌, true, false, List, [], ◌∷◌, Some, refl, sym, subst, ◌∙◌}
+use Rattle.vs_flow.specs.{Connection.Connection, declared.flow.Flow.Flow}
 use Rattle.vs_limits.specs.declared.TheConstants.{FIRST_CID}
-use Rattle.laws_history.specs.{Again.count, Packets.is_request, declared.packet.Packet.Packet}
-use Rattle.laws_history.specs.History.{Answerer, Asker, Side, gots, peer, puts}
-use Rattle.vs_outside.specs.{Host.HostContents, HostBytes.host_read, HostBytes.host_wrote}
-use Rattle.vs_page.specs.Fair.{IsPrefixOf, asked_by, instance_from, number_of, payload_got, payload_of, payload_put}
-use Rattle.vs_page.specs.Log.{Device, Driver, Log, Role, flow_got, other_role, packets_got, packets_put, side_of, whole_of}
+use Rattle.vs_outside.specs.Host.{HostContents}
+use Rattle.vs_page.specs.{Fair.number_of, Log.{Device, Driver, Log, Role, flow_got}}
 use Rattle.vs_page.specs.declared.log.LogEntry.TheVariants.{GotEvent, GotPacket, Mark, PutEvent, PutPacket}
-use Rattle.vs_page.proofs.{Entries.got_on, Flows.opposite_by, Flows.same_self}
-use Rattle.vs_driver_parts.specs.{Held.HeldSlots, State.DriverState}
-use Rattle.vs_device_parts.specs.Playing.{situation}
-use Rattle.vs_ring_shared.specs.Sights.{DeviceSight, Sight, device_contents, device_log}
+use Rattle.vs_page.proofs.Flows.{same_self}
+use Rattle.vs_ring_port.specs.{Contents.RingContents, EndLog.EndLog}
+use Rattle.vs_driver_parts.specs.State.{DriverState}
+use Rattle.vs_device_parts.specs.{Calls.Situation, Playing.situation}
+use Rattle.vs_ring_shared.specs.Sights.{DeviceSight, Sight, device_contents, device_log, driver_contents, driver_log}
 use Rattle.vs_proxy_parts.specs.State.{ProxyState}
-use Rattle.laws_bytes.proofs.{Firsts.once_got, Firsts.once_put}
-use Rattle.laws_driver_bytes.specs.Calls.{Journal, account_of, received_by}
+use Rattle.laws_tables.specs.Both.{at}
+use Rattle.laws_driver_bytes.specs.{Calls.Journal, Calls.account_of, Calls.received_by, Received.AreReceived}
 use Rattle.laws_asked.specs.Asked.{AskOnce}
-use Rattle.laws_driver.specs.Honest.{ends_of_state as driver_ends}
-use Rattle.laws_device.specs.Honest.{ends_of_state as device_ends}
-use Rattle.laws_device.specs.Streams.{AreHeard, IsPlain}
-use Rattle.laws_device_bytes.specs.Streamed.{IsStreamed}
-use Rattle.laws_rest.proofs.Standing.{AreKept, device_kept}
+use Rattle.laws_driver.specs.Honest.{slots_of}
+use Rattle.laws_device.specs.Streams.{AreHeard}
+use Rattle.laws_rest.specs.Bytes.{AreTold, BothEnds, CarryBytes}
+use Rattle.laws_rest.proofs.{BothEnds.carry_told, BothEnds.once, Standing.AreKept, Standing.device_kept}
 use Rattle.laws_proxy.specs.Honest.{IsProxyStreamed}
-use Rattle.laws_settled.specs.Settled.{IsSettled}
-use Rattle.laws_world.proofs.Bytes.{read_is_got, wrote_is_put}
+use Rattle.laws_settled.specs.Settled.{IsSettled, ends_at_rest}
 use Rattle.vs_apps_parts.specs.{Journals.sent_as, declared.journal.Entry.Entry}
-use Rattle.laws_apps.specs.Accounts.{HasOne, IsAccount}
+use Rattle.laws_apps.specs.Accounts.{IsAccount}
 use Rattle.laws_apps.proofs.Naming.{sent_by_id}
-
--- Where an end got all that the other put, both have the same payload, and the same number of connections.
-module _ (role : Role) (mine other : Log) (all : packets_put other ≡ packets_got mine) where
-  there : (f : Flow) → puts (whole_of (other_role role) f other) ≡ gots (whole_of role f mine)
-  there f = got_on role f mine other [] all
-
-  same_payload : (c : Connection) → payload_put (other_role role) c other ≡ payload_got role c mine
-  same_payload c =
-      ap (λ (side : Side). payload_of (instance_from side c.number (puts (whole_of (other_role role) c.flow other)))) (opposite_by role (is_assigned c.flow.host))
-      ∙ ap (λ (ps : List Packet). payload_of (instance_from (peer (side_of role c.flow)) c.number ps)) (there c.flow)
-
-same_number : (driver device : Log) (f : Flow) → packets_put driver ≡ packets_got device → packets_put device ≡ packets_got driver
-    → number_of Driver f driver ≡ number_of Device f device
-same_number driver device f to_device to_driver =
-    ap (λ (side : Side). asked_by side (puts (whole_of Driver f driver)) (gots (whole_of Driver f driver))) (opposite_by Device (is_assigned f.host))
-    ∙ by (side_of Device f)
-  where
-    by : (side : Side) → asked_by (peer side) (puts (whole_of Driver f driver)) (gots (whole_of Driver f driver))
-        ≡ asked_by side (puts (whole_of Device f device)) (gots (whole_of Device f device))
-    by Asker = ap (λ (ps : List Packet). count is_request ps) (sym (there Driver driver device to_driver f))
-    by Answerer = ap (λ (ps : List Packet). count is_request ps) (there Device device driver to_device f)
 
 -- A device that dropped no packet dropped no payload.
 all_heard : (first : ℕ) (log : Log) → ((f : Flow) → AreKept Device first f log) → AreHeard first log
@@ -62,69 +37,39 @@ all_heard first (PutEvent id ∷ log) kept = all_heard first log kept
 all_heard first (GotEvent id ∷ log) kept = all_heard first log kept
 all_heard first (Mark cid ∷ log) kept = all_heard first log kept
 
-module _ (d : DriverState) (driver : Sight) (p : ProxyState) (device : DeviceSight) (settled : IsSettled d driver p device) where
-  to_device : packets_put driver.log ≡ packets_got device.sight.log
-  to_device = settled.at_rest.got Device
-
-  to_driver : packets_put device.sight.log ≡ packets_got driver.log
-  to_driver = settled.at_rest.got Driver
-
-  -- Each asked once on a flow, so each flow was used once.
-  pub number_once : AskOnce Driver (record { part = driver_ends d; log = driver.log })
-      → AskOnce Device (record { part = device_ends p.next_port p.device; log = device.sight.log }) → (f : Flow) → number_of Device f device.sight.log ≤ 1
-  number_once guest host f = by (side_of Device f) refl
+module _ (d : DriverState) (driver : Sight) (p : ProxyState) (device : DeviceSight) (settled : IsSettled d driver p device)
+    (guest : AskOnce Driver (ends_at_rest d driver p device).driver) (host : AskOnce Device (ends_at_rest d driver p device).device) where
+  ends : BothEnds (ends_at_rest d driver p device)
+  ends = record { fair = settled.at_rest.fair; got = λ role. ([], settled.at_rest.got role); asked = by }
     where
-      by : (side : Side) → side_of Device f ≡ side → (let w = whole_of Device f device.sight.log in asked_by (side_of Device f) (puts w) (gots w)) ≤ 1
-      by Asker is =
-          subst (λ (side : Side). (let w = whole_of Device f device.sight.log in asked_by side (puts w) (gots w)) ≤ 1) (sym is) (host f is).few
-      by Answerer is =
-          let few = (guest f (opposite_by Device (is_assigned f.host) ∙ ap peer is)).few in
-          subst (λ (side : Side). (let w = whole_of Device f device.sight.log in asked_by side (puts w) (gots w)) ≤ 1) (sym is)
-          (subst (λ (ps : List Packet). count is_request ps ≤ 1) (there Device device.sight.log driver.log to_device f) few)
+      by : (role : Role) → AskOnce role (at role (ends_at_rest d driver p device))
+      by Driver = guest
+      by Device = host
 
-  module _ (once : (f : Flow) → number_of Device f device.sight.log ≤ 1) (h : HostContents) (faults : ℕ) (streams : IsProxyStreamed FIRST_CID p (situation (device_contents device) (Some h) faults)) where
-    plain : IsPlain FIRST_CID device.sight.log
-    plain = record {
-      once = once;
+  -- Each flow was used once.
+  pub number_once : (f : Flow) → number_of Device f device.sight.log ≤ 1
+  number_once f = once (ends_at_rest d driver p device) ends Device f
+
+  -- What was sent and received on an id that was given to a connection.
+  module _ (h : HostContents) (faults : ℕ) (streams : IsProxyStreamed FIRST_CID p (situation (device_contents device) (Some h) faults))
+      (opened : ℕ → Connection) (journal : Journal) (entries : List Entry) (account : IsAccount 1 opened journal entries driver.log (slots_of d)) where
+    told : AreTold FIRST_CID d (driver_contents driver) p (situation (device_contents device) (Some h) faults) (driver_log driver) (device_log device) h
+    told = record {
+      driver_honest = refl;
+      device_honest = refl;
+      driver_log = refl;
+      device_log = refl;
+      host = refl;
       heard = all_heard FIRST_CID device.sight.log (λ f. device_kept FIRST_CID f driver.log device.sight.log (settled.at_rest.no_reset Driver)
-          (settled.at_rest.no_reset Device) settled.at_rest.routed to_device);
+          (settled.at_rest.no_reset Device) settled.at_rest.routed (settled.at_rest.got Device));
+      ends = ends;
     }
 
-    streamed : IsStreamed h device.sight.log p.next_port p.device.table p.handshakes
-    streamed = streams refl (device_log device) refl plain h refl
-
-    read_there : (f : Flow) → IsPrefixOf (host_read (first_of f) h) (payload_put Driver (first_of f) driver.log)
-    read_there f =
-        subst (λ (bytes : List ℕ). IsPrefixOf (host_read (first_of f) h) bytes)
-        (sym (once_got Device f device.sight.log (settled.at_rest.fair Device f) (once f))
-        ∙ sym (same_payload Device device.sight.log driver.log to_device (first_of f)))
-        (read_is_got h device.sight.log p.next_port p.device.table p.handshakes streamed f)
-
-    wrote_there : (f : Flow) → payload_got Driver (first_of f) driver.log ≡ host_wrote (first_of f) h
-    wrote_there f =
-        sym (same_payload Driver driver.log device.sight.log to_driver (first_of f))
-        ∙ once_put Device f device.sight.log (settled.at_rest.fair Device f) (once f)
-        ∙ wrote_is_put h device.sight.log p.next_port p.device.table p.handshakes streamed f
-
-    module _ (first_id : ℕ) (opened : ℕ → Connection) (journal : Journal) (entries : List Entry) (slots : HeldSlots)
-        (account : IsAccount first_id opened journal entries driver.log slots) (id : ℕ) (f : Flow) (has : HasOne opened id (Some f)) where
-      is_first : opened id ≡ first_of f
-      is_first =
-          let past = account.received.passed id in
-          let few = once (opened id).flow in
-          let same = same_number driver.log device.sight.log (opened id).flow to_device to_driver in
-          let one : (opened id).number ≡ 1 = omega (arith, past, few, same, has.0) in
-          ap (λ (n : ℕ). let c : Connection = record { flow = (opened id).flow; number = n } in c) one ∙ ap (λ (g : Flow). first_of g) has.1
-
-      pub to_host : IsPrefixOf (host_read (opened id) h) (sent_as id journal)
-      to_host =
-          let sent = account.sent.puts (opened id)
-          ∙ sent_by_id (account_of first_id opened journal) driver.log slots account.received id has.0 journal account.sent.senders in
-          subst (λ (bytes : List ℕ). IsPrefixOf (host_read (opened id) h) bytes) sent
-          (subst (λ (c : Connection). IsPrefixOf (host_read c h) (payload_put Driver c driver.log)) (sym is_first) (read_there f))
-
-      pub to_guest : IsPrefixOf (received_by id journal) (host_wrote (opened id) h)
-      to_guest =
-          subst (λ (bytes : List ℕ). IsPrefixOf (received_by id journal) bytes)
-          (subst (λ (c : Connection). payload_got Driver c driver.log ≡ host_wrote c h) (sym is_first) (wrote_there f))
-          (account.received.front id)
+    pub carried : (id : ℕ) → 1 ≤ (opened id).number → CarryBytes (opened id) (sent_as id journal) (received_by id journal) h
+    carried id some =
+        carry_told FIRST_CID d (driver_contents driver) p (situation (device_contents device) (Some h) faults) (driver_log driver) (device_log device) h
+        (account_of 1 opened journal) id (sent_as id journal) told
+        (λ on l is. let same : driver_log driver ≡ l = cc in
+            subst (λ (k : EndLog). AreReceived (account_of 1 opened journal) k.entries (slots_of d)) same account.received)
+        streams some
+        (account.sent.puts (opened id) ∙ sent_by_id (account_of 1 opened journal) driver.log (slots_of d) account.received id some journal account.sent.senders)
