@@ -12,7 +12,8 @@ use Rattle.vs_ring_port.specs.{Contents.RingContents, EndLog.EndLog}
 use Rattle.laws_tables.specs.Both.{Both, at}
 use Rattle.laws_bytes.proofs.{Firsts.once_got, Firsts.once_put, Logs.prefix_then}
 use Rattle.vs_driver_parts.specs.{Held.HeldSlots, State.DriverState}
-use Rattle.laws_driver_bytes.specs.Received.{Account, AreReceived, IsReceivedWith}
+use Rattle.laws_driver.specs.Honest.{slots_of}
+use Rattle.laws_driver_bytes.specs.{Calls.Journal, Calls.received_by, Senders.IsRightJournal, Senders.IsRightWith, Senders.sent_to}
 use Rattle.vs_device_parts.specs.{Calls.Situation, State.DeviceConnection}
 use Rattle.laws_device.specs.Streams.{AreStreamedWith}
 use Rattle.laws_device_bytes.specs.Streamed.{IsStreamed}
@@ -74,19 +75,22 @@ module _ (b : Both) (ends : BothEnds b) where
       to_guest = subst (λ (bytes : List ℕ). IsPrefixOf received bytes) (wrote_is f) (prefix_then _ _ _ tied.received (arrives Driver (first_of f)));
     }
 
-    pub carry_id : (a : Account) (slots : HeldSlots) (id : ℕ) (sent : List ℕ) → AreReceived a b.driver.log slots → 1 ≤ (a.opened id).number
-        → payload_put Driver (a.opened id) b.driver.log ≡ sent → CarryBytes (a.opened id) sent (a.received id) h
-    carry_id a slots id sent account some put =
-        let is = first_is Driver (a.opened id) some (account.passed id) in
-        subst (λ (c : Connection). CarryBytes c sent (a.received id) h) (sym is)
-        (carry (a.opened id).flow sent (a.received id)
-        (subst (λ (c : Connection). AreTied b.driver.log c sent (a.received id)) is (record { sent = put; received = account.front id })))
+    pub carry_id : (first_id : ℕ) (opened : ℕ → Connection) (journal : Journal) (slots : HeldSlots) (id : ℕ)
+        → IsRightJournal first_id opened journal b.driver.log slots → 1 ≤ (opened id).number
+        → CarryBytes (opened id) (sent_to opened (opened id) journal) (received_by id journal) h
+    carry_id first_id opened journal slots id right some =
+        let is = first_is Driver (opened id) some (right.received.passed id) in
+        let sent = sent_to opened (opened id) journal in
+        subst (λ (c : Connection). CarryBytes c sent (received_by id journal) h) (sym is)
+        (carry (opened id).flow sent (received_by id journal) (subst (λ (c : Connection). AreTied b.driver.log c sent (received_by id journal)) is
+        (record { sent = right.sent.puts (opened id); received = right.received.front id })))
 
 -- Over any rings and any host.
-pub carry_told : (first : ℕ) (d : DriverState) (c : RingContents) (p : ProxyState) (a : Situation) (l m : EndLog) (h : HostContents) (account : Account) (id : ℕ)
-    (sent : List ℕ) → AreTold first d c p a l m h → IsReceivedWith account d c → AreStreamedWith first p.next_port p.handshakes p.device.table a
-    → 1 ≤ (account.opened id).number → payload_put Driver (account.opened id) l.entries ≡ sent → CarryBytes (account.opened id) sent (account.received id) h
-carry_told first d c p a l m h account id sent told received streams some put =
+pub carry_told : (first : ℕ) (d : DriverState) (c : RingContents) (p : ProxyState) (a : Situation) (l m : EndLog) (h : HostContents) (first_id : ℕ)
+    (opened : ℕ → Connection) (journal : Journal) (id : ℕ) → AreTold first d c p a l m h → IsRightWith first_id opened journal d c
+    → AreStreamedWith first p.next_port p.handshakes p.device.table a → 1 ≤ (opened id).number
+    → CarryBytes (opened id) (sent_to opened (opened id) journal) (received_by id journal) h
+carry_told first d c p a l m h first_id opened journal id told right streams some =
     carry_id _ told.ends h p.next_port p.device.table p.handshakes
     (streams told.device_honest m told.device_log (record { once = once _ told.ends Device; heard = told.heard }) h told.host)
-    account _ id sent (received told.driver_honest l told.driver_log) some put
+    first_id opened journal (slots_of d) id (right told.driver_honest l told.driver_log) some

@@ -12,7 +12,7 @@ use Rattle.vs_device_parts.specs.{Calls.Situation, Playing.situation}
 use Rattle.vs_ring_shared.specs.Sights.{DeviceSight, Sight, device_contents, device_log, driver_contents, driver_log}
 use Rattle.vs_proxy_parts.specs.State.{ProxyState}
 use Rattle.laws_tables.specs.Both.{at}
-use Rattle.laws_driver_bytes.specs.{Calls.Journal, Calls.account_of, Calls.received_by, Received.AreReceived}
+use Rattle.laws_driver_bytes.specs.{Calls.Journal, Calls.account_of, Calls.received_by, Senders.IsRightJournal}
 use Rattle.laws_asked.specs.Asked.{AskOnce}
 use Rattle.laws_driver.specs.Honest.{slots_of}
 use Rattle.laws_device.specs.Streams.{AreHeard}
@@ -67,9 +67,10 @@ module _ (d : DriverState) (driver : Sight) (p : ProxyState) (device : DeviceSig
 
     pub carried : (id : ℕ) → 1 ≤ (opened id).number → CarryBytes (opened id) (sent_as id journal) (received_by id journal) h
     carried id some =
-        carry_told FIRST_CID d (driver_contents driver) p (situation (device_contents device) (Some h) faults) (driver_log driver) (device_log device) h
-        (account_of 1 opened journal) id (sent_as id journal) told
+        subst (λ (bytes : List ℕ). CarryBytes (opened id) bytes (received_by id journal) h)
+        (sent_by_id (account_of 1 opened journal) driver.log (slots_of d) account.right.received id some journal account.right.sent.senders)
+        (carry_told FIRST_CID d (driver_contents driver) p (situation (device_contents device) (Some h) faults) (driver_log driver) (device_log device) h
+        1 opened journal id told
         (λ on l is. let same : driver_log driver ≡ l = cc in
-            subst (λ (k : EndLog). AreReceived (account_of 1 opened journal) k.entries (slots_of d)) same account.received)
-        streams some
-        (account.sent.puts (opened id) ∙ sent_by_id (account_of 1 opened journal) driver.log (slots_of d) account.received id some journal account.sent.senders)
+            subst (λ (k : EndLog). IsRightJournal 1 opened journal k.entries (slots_of d)) same account.right)
+        streams some)

@@ -76,7 +76,7 @@ module _ (script : RunScript) (driver : DriverState) (end : Sight) (apps : List 
           λ t before after broken overrun dropped counted. record {
             played = run.follows;
             ended = ended;
-            once = account.received.once;
+            once = account.right.received.once;
             connections = right_all told.0 account;
             totals = record { dropped = dropped; overrun = overrun ∙ none_lost.1; broken = broken ∙ none_lost.0; faults = counted };
           },

@@ -8,8 +8,7 @@ pub returns-clause-flows : goal.returns-clause-flows
 returns-clause-flows c = λ b h port table hands f sent received ends streams tied. carry b ends h port table hands streams f sent received tied
 
 pub returns-clause-ids : goal.returns-clause-ids
-returns-clause-ids c = λ b h port table hands account slots id sent ends streams received some put.
-    carry_id b ends h port table hands streams account slots id sent received some put
+returns-clause-ids c = λ b h port table hands first_id opened journal slots id ends streams. carry_id b ends h port table hands streams first_id opened journal slots id
 
 pub returns-clause-rings : goal.returns-clause-rings
 returns-clause-rings c = carry_told
