@@ -71,8 +71,8 @@ module _ (b : Both) (ends : BothEnds b) where
 
     pub carry : (f : Flow) (sent received : List ℕ) → AreTied b.driver.log (first_of f) sent received → CarryBytes (first_of f) sent received h
     carry f sent received tied = record {
-      to_host = subst (λ (bytes : List ℕ). IsPrefixOf (host_read (first_of f) h) bytes) tied.sent (prefix_then _ _ _ (read_is f) (arrives Device (first_of f)));
-      to_guest = subst (λ (bytes : List ℕ). IsPrefixOf received bytes) (wrote_is f) (prefix_then _ _ _ tied.received (arrives Driver (first_of f)));
+      to_host = subst (λ (bytes : List ℕ). IsPrefixOf (host_read (first_of f) h) bytes) tied.puts (prefix_then _ _ _ (read_is f) (arrives Device (first_of f)));
+      to_guest = subst (λ (bytes : List ℕ). IsPrefixOf received bytes) (wrote_is f) (prefix_then _ _ _ tied.gets (arrives Driver (first_of f)));
     }
 
     pub carry_id : (first_id : ℕ) (opened : ℕ → Connection) (journal : Journal) (slots : HeldSlots) (id : ℕ)
@@ -83,7 +83,7 @@ module _ (b : Both) (ends : BothEnds b) where
         let sent = sent_to opened (opened id) journal in
         subst (λ (c : Connection). CarryBytes c sent (received_by id journal) h) (sym is)
         (carry (opened id).flow sent (received_by id journal) (subst (λ (c : Connection). AreTied b.driver.log c sent (received_by id journal)) is
-        (record { sent = right.sent.puts (opened id); received = right.received.front id })))
+        (record { puts = right.sent.puts (opened id); gets = right.received.front id })))
 
 -- Over any rings and any host.
 pub carry_told : (first : ℕ) (d : DriverState) (c : RingContents) (p : ProxyState) (a : Situation) (l m : EndLog) (h : HostContents) (first_id : ℕ)

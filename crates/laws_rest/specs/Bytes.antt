@@ -27,8 +27,8 @@ pub record BothEnds (b : Both) : Type 0 where
 
 -- These bytes were sent on a connection, and these were received on it, by the driver's log.
 pub record AreTied (log : Log) (c : Connection) (sent received : List ℕ) : Type 0 where
-  pub sent : payload_put Driver c log ≡ sent
-  pub received : IsPrefixOf received (payload_got Driver c log)
+  pub puts : payload_put Driver c log ≡ sent
+  pub gets : IsPrefixOf received (payload_got Driver c log)
 
 -- What the host's program read of a connection is a prefix of what was sent on it, and what was received is a prefix of what that program
 -- wrote.

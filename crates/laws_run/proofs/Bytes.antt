@@ -72,5 +72,5 @@ module _ (d : DriverState) (driver : Sight) (p : ProxyState) (device : DeviceSig
         (carry_told FIRST_CID d (driver_contents driver) p (situation (device_contents device) (Some h) faults) (driver_log driver) (device_log device) h
         1 opened journal id told
         (λ on l is. let same : driver_log driver ≡ l = cc in
-            subst (λ (k : EndLog). IsRightJournal 1 opened journal k.entries (slots_of d)) same account.right)
+        subst (λ (k : EndLog). IsRightJournal 1 opened journal k.entries (slots_of d)) same account.right)
         streams some)

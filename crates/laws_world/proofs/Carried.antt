@@ -20,11 +20,8 @@ use Rattle.laws_world.proofs.{Journals.by_flow, Journals.received_some, Sound.Go
 use Rattle.laws_driver_bytes.specs.{Received.{ReceivedOn, ReceivesOn}, Calls.{account_of, received_by, received_on, sent_on}}
 use Rattle.laws_device_bytes.proofs.Hosts.{there as is_there}
 
-abbrev pub ToGuest : Flow → World → Type 0
-ToGuest f w = IsPrefixOf (received_on f w.journal) (host_wrote (first_of f) w.host)
-
-abbrev pub ToHost : Flow → World → Type 0
-ToHost f w = IsPrefixOf (host_read (first_of f) w.host) (sent_on f w.journal)
+abbrev pub CarriesOn : Flow → World → Type 0
+CarriesOn f w = CarryBytes (first_of f) (sent_on f w.journal) (received_on f w.journal) w.host
 
 module _ {fresh : Type 0} (w : World) (well : IsWell fresh w) where
   abbrev guest : Log
@@ -102,14 +99,8 @@ module _ {fresh : Type 0} (w : World) (well : IsWell fresh w) where
     pub given_is : (f : Flow) → IsPrefixOf (host_read (first_of f) w.host) (payload_got Device (first_of f) device)
     given_is f = both.read_is (both_of w) ends w.host _ _ _ (well.streams new) f
 
-    carried : (f : Flow) → CarryBytes (first_of f) (sent_on f w.journal) (received_on f w.journal) w.host
-    carried f = both.carry (both_of w) ends w.host _ _ _ (well.streams new) f _ _ (record { sent = sent_is f; received = received_is f })
-
-    pub to_guest : (f : Flow) → ToGuest f w
-    to_guest f = (carried f).to_guest
-
-    pub to_host : (f : Flow) → ToHost f w
-    to_host f = (carried f).to_host
+    pub carried : (f : Flow) → CarriesOn f w
+    carried f = both.carry (both_of w) ends w.host _ _ _ (well.streams new) f _ _ (record { puts = sent_is f; gets = received_is f })
 
     pub one_stream : (f : Flow) (i j : ℕ) (s t : Stream) → stream_at i w.host ≡ Some s → stream_at j w.host ≡ Some t → s.label ≡ Some f → t.label ≡ Some f
         → i ≡ j
