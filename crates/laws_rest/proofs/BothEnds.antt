@@ -1,5 +1,5 @@
 -- Bytes of both ends: what each put came first at the other, and the streams are of the same connections.
-use Rattle.std.proofs.Common.{◌≡◌, ℕ, ◌+◌, ◌≤◌, ◌++◌, List, Some, refl, sym, ap, subst, ◌∙◌, arith}
+use Rattle.std.proofs.Common.{◌≡◌, ℕ, ◌≤◌, List, refl, sym, ap, subst, ◌∙◌, arith}
 use Rattle.vs_flow.specs.{Connection.Connection, Connection.first_of, Flow.is_assigned, Table.Table, declared.flow.Flow.Flow}
 use Rattle.laws_history.specs.{Again.count, Packets.is_request, declared.packet.Packet.Packet, History.Answerer}
 use Rattle.laws_history.specs.History.{Asker, Side, gots, peer, puts}

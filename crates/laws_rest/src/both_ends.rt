@@ -1,6 +1,6 @@
 //! The bytes of both ends.
 
-ghost use Rattle.std.specs.Prelude.{◌≡◌, ◌≤◌, ℕ, List};
+ghost use Rattle.std.specs.Prelude.{◌≤◌, ℕ, List};
 ghost use Rattle.vs_flow.specs.{Connection.Connection, Connection.first_of, Table.Table, declared.flow.Flow.Flow};
 ghost use Rattle.vs_outside.specs.Host.{HostContents};
 ghost use Rattle.vs_page.specs.{Fair.number_of, Log.Role};

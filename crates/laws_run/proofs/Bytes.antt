@@ -1,14 +1,14 @@
 -- The bytes of a run that is at rest: it is one of driver and device over two rings that tell their logs, and a host that exposes its streams.
-use Rattle.std.proofs.Common.{◌≡◌, ℕ, ◌≤◌, true, false, List, [], ◌∷◌, Some, refl, sym, subst, ◌∙◌}
+use Rattle.std.proofs.Common.{◌≡◌, ℕ, ◌≤◌, true, false, List, [], ◌∷◌, Some, refl, sym, subst}
 use Rattle.vs_flow.specs.{Connection.Connection, declared.flow.Flow.Flow}
 use Rattle.vs_limits.specs.declared.TheConstants.{FIRST_CID}
 use Rattle.vs_outside.specs.Host.{HostContents}
 use Rattle.vs_page.specs.{Fair.number_of, Log.{Device, Driver, Log, Role, flow_got}}
 use Rattle.vs_page.specs.declared.log.LogEntry.TheVariants.{GotEvent, GotPacket, Mark, PutEvent, PutPacket}
 use Rattle.vs_page.proofs.Flows.{same_self}
-use Rattle.vs_ring_port.specs.{Contents.RingContents, EndLog.EndLog}
+use Rattle.vs_ring_port.specs.EndLog.{EndLog}
 use Rattle.vs_driver_parts.specs.State.{DriverState}
-use Rattle.vs_device_parts.specs.{Calls.Situation, Playing.situation}
+use Rattle.vs_device_parts.specs.Playing.{situation}
 use Rattle.vs_ring_shared.specs.Sights.{DeviceSight, Sight, device_contents, device_log, driver_contents, driver_log}
 use Rattle.vs_proxy_parts.specs.State.{ProxyState}
 use Rattle.laws_tables.specs.Both.{at}

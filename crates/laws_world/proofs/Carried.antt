@@ -1,5 +1,5 @@
 -- What a world that is well says of the bytes of its connections. Packets that the driver staged count as put.
-use Rattle.std.proofs.Common.{◌≡◌, ℕ, ◌≤◌, ◌++◌, ◌⊎◌, inl, inr, true, List, [], Contains, Some, sym, ap, subst, ◌∙◌, arith}
+use Rattle.std.proofs.Common.{◌≡◌, ℕ, ◌≤◌, ◌++◌, ◌⊎◌, inl, inr, true, List, [], Contains, Some, sym, ap, subst, ◌∙◌}
 use Rattle.std.{proofs.lemmas.List.Elements.All-contains, specs.Option.option_map}
 use Rattle.vs_driver_parts.specs.State.{DriverEntry, GoneConnection}
 use Rattle.vs_device_parts.specs.State.{DeviceEntry}

@@ -1,6 +1,6 @@
 -- No flow is used twice: its asker puts one REQUEST at most.
-use Rattle.std.proofs.Common.{◌≡◌, ℕ, ◌+◌, ◌≤◌, ◌++◌, List, [], ◌∷◌, true, refl, sym, ap, subst, ◌∙◌, arith}
-use Rattle.vs_flow.specs.{Flow.is_assigned, declared.flow.Flow.Flow}
+use Rattle.std.proofs.Common.{◌≡◌, ℕ, ◌+◌, List, [], ◌∷◌, true, refl, ap, subst, ◌∙◌, arith}
+use Rattle.vs_flow.specs.Flow.{is_assigned}
 use Rattle.laws_history.specs.{Again.count, Packets.is_request, declared.packet.Packet.Packet, History.Answerer}
 use Rattle.laws_history.specs.History.{Asker, History, Side, gots, peer, puts}
 use Rattle.laws_history.proofs.Lists.{count_append}
