@@ -37,7 +37,7 @@ fn same(a: u8, b: u8) -> u64
 }
 
 /// At how many places two slices hold the same byte.
-#[tactic(auto, using(crate::proofs::Tallies::match_next, crate::proofs::Tallies::match_all, crate::proofs::Tallies::match_same))]
+#[tactic(auto, using(crate::proofs::Tallies::match_next, crate::proofs::Tallies::match_all))]
 pub fn matches(sent: &[u8], received: &[u8]) -> u64
     ensures { result ≡ matches sent.now received.now }
 {
