@@ -1,3 +1,4 @@
+use Rattle.std.proofs.Common.{rules}
 use Rattle.laws_apps.proofs.Slices.{sends_next, stands}
 use Rattle.vs_script.specs.Data.{content_of}
 use Rattle.vs_apps.proofs.sending.send_next.Goals as goal
