@@ -139,7 +139,8 @@ impl Data {
         }
     }
 
-    /// Copies the bytes from a place on to the front of `out`, as many as there are and as it holds, and returns how many. The rest of `out` stays.
+    /// Copies the bytes from a place on to the front of `out`, as many as there are and as it holds, and returns how many. The rest of `out`
+    /// stays.
     pub fn copy_to(&self, from: usize, out: &mut [u8]) -> usize
         ensures count { result ≡ min (length out.old) (size_of (content_of self.now) - from) }
         ensures copied { take result out.new ≡ take result (drop from (bytes_of (content_of self.now))) }
