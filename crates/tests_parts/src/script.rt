@@ -123,5 +123,7 @@ fn one_line_too_many_is_refused(rt: HostRuntime) {
 #[test]
 fn data_is_filled(rt: HostRuntime) {
     let filled = Data::Fill(Fill { n: 252, start: 250 });
-    assert!(rt; filled.byte(1) == 1 && filled.byte(251) == 216);
+    let mut bytes = [9u8; 4];
+    assert!(rt; filled.copy_to(250, &mut bytes) == 2);
+    assert!(rt; bytes == [208, 216, 9, 9]);
 }

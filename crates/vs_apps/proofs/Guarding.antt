@@ -1,6 +1,6 @@
 -- What keeps guests a run of their script.
 use Rattle.std.proofs.Common.{◌≡◌, ◌<◌, ℕ, zero, suc, Bool, List, [], ◌∷◌, ◌++◌, length, get_or, refl, sym, ap, subst, ◌∙◌, arith, Option}
-use Rattle.std.proofs.{Common.{Some, None}, lemmas.{Grind.common_steps, List.length-map, List.length-replicate, Option.same_Some}}
+use Rattle.std.proofs.{Common.{Some, None}, lemmas.{List.length-map, List.length-replicate, Option.same_Some}}
 use Rattle.std.specs.Prelude.{replicate}
 use Rattle.vs_limits.specs.declared.TheConstants.{FIRST_CID, FIRST_PORT}
 use Rattle.vs_contents.specs.Contents.{Relates}

@@ -1,35 +1,20 @@
 //! The next send of an app.
 
-ghost use Rattle.std.specs.Prelude.{◌≡◌, ◌+◌, ◌<◌, ◌≤◌, ℕ, List, length, take, vec_capacity, vec_len};
-ghost use Rattle.vs_script.specs.Data.{bytes_of, content_of, size_of};
+ghost use Rattle.std.specs.Prelude.{◌≡◌, ◌+◌, ◌<◌, ◌≤◌, ℕ, List, vec_capacity, vec_len};
+ghost use Rattle.vs_script.specs.Data.{bytes_of, content_of};
 ghost use Rattle.vs_driver_parts.specs.Playing.{IsRingOf};
 ghost use Rattle.laws_driver.specs.Honest.{IsHonest, IsHonestWith};
-ghost use Rattle.vs_apps_parts.specs.{Journals.data_at, Scripts.RunScript, Scripts.acts_of, Scripts.send_next, Scripts.slice_left};
-ghost use Rattle.vs_apps_parts.specs.{Scripts.slice_of};
-ghost use Rattle.vs_apps_parts.specs.declared.progress.{AppState.AppState, TheConstants.SLICE};
+ghost use Rattle.vs_apps_parts.specs.{Journals.data_at, Scripts.RunScript, Scripts.acts_of, Scripts.send_next};
+ghost use Rattle.vs_apps_parts.specs.declared.progress.{AppState.AppState};
 ghost use Rattle.laws_apps.specs.Calls.{CallsAs, run_with};
 
 use crate::calls::send;
 use vs_apps_parts::journal::Entry;
-use vs_apps_parts::progress::{Progress, SLICE, slice_left};
+use vs_apps_parts::progress::{Progress, SLICE};
 use vs_apps_parts::told::Told;
 use vs_driver::Driver;
 use vs_ring_port::DriverRing;
 use vs_script::Data;
-
-// Copies the next slice of data into a buffer, from the byte at place `from` on. Answers how many bytes it has.
-fn slice_of(content: &Data, from: usize, buffer: &mut [u8]) -> usize
-    requires { length buffer.old ≡ SLICE }
-    ensures count { result ≡ slice_left from (size_of (content_of content.now)) }
-    ensures bytes { take result buffer.new ≡ slice_of from result (bytes_of (content_of content.now)) }
-    ensures within { result ≤ length buffer.new }
-{
-    let n = slice_left(from, content.len());
-    for i in 0..n {
-        buffer[i] = content.byte(from + i);
-    }
-    n
-}
 
 /// The next send of the instruction that an app is at, whose data these are.
 pub fn send_next<R: DriverRing>(
@@ -53,7 +38,7 @@ pub fn send_next<R: DriverRing>(
     ensures room { (vec_capacity entries.new ≡ vec_capacity entries.old) × (vec_len entries.new ≤ vec_len entries.old + 1) }
 {
     let mut buffer = [0u8; SLICE];
-    let n = slice_of(content, progress.sent, &mut buffer);
+    let n = content.copy_to(progress.sent, &mut buffer);
     send(
         driver,
         ring,

@@ -1,8 +1,6 @@
--- The bytes that were sent on a connection, entry by entry; and a part of bytes by a rule.
-use Rattle.std.proofs.Common.{◌≡◌, ℕ, zero, suc, ◌+◌, ◌-◌, ◌==◌, min, if◌then◌else◌, Bool, true, false, List, [], ◌∷◌, ◌++◌, map, take}
-use Rattle.std.proofs.{Common.{drop, refl, sym, ap, ◌∙◌, arith, append_assoc, append-nil}, lemmas.List.FromFn.map-range_with_len_more}
-use Rattle.std.specs.List.{range_with_len}
-use Rattle.vs_script.specs.Data.{filled, filled_bytes}
+-- The bytes that were sent on a connection, entry by entry.
+use Rattle.std.proofs.Common.{◌≡◌, ℕ, zero, suc, ◌+◌, ◌==◌, min, if◌then◌else◌, Bool, true, false, List, [], ◌∷◌, ◌++◌, take, drop}
+use Rattle.std.proofs.Common.{refl, sym, ap, ◌∙◌, arith, append_assoc, append-nil}
 use Rattle.laws_driver_bytes.specs.{Calls.Journal, Calls.bytes_sent, Calls.names, Sent.took}
 use Rattle.vs_apps_parts.specs.{Journals.{calls_of, data_at, gathered, made_by, made_of, sent_as}, Scripts.{RunScript, acts_of, slice_of}}
 use Rattle.vs_apps_parts.specs.declared.journal.{Called.Called, Deed.Deed, Entry.Entry}
@@ -11,45 +9,6 @@ use Rattle.vs_apps_parts.specs.declared.journal.Deed.TheVariants as deed
 use Rattle.vs_driver_parts.specs.declared.answers.Sent.{Sent}
 use Rattle.vs_driver_parts.specs.declared.answers.Sent.TheVariants as sent
 use Rattle.vs_load_parts.specs.Line.{piece_by, piece_in, took_count}
-
--- A part of the values of a rule.
-dropped : (f : ℕ → ℕ) (k n a : ℕ) → drop k (map f (range_with_len a n)) ≡ map f (range_with_len (a + k) (n - k))
-dropped f zero n a =
-    let left : a ≡ a + 0 = omega arith in
-    let right : n ≡ n - 0 = omega arith in
-    ap (λ b. map f (range_with_len b n)) left ∙ ap (λ m. map f (range_with_len (a + 0) m)) right
-dropped f (suc k) zero a = let none : 0 ≡ 0 - suc k = omega arith in ap (λ m. map f (range_with_len (a + suc k) m)) none
-dropped f (suc k) (suc n) a =
-    let left : a + 1 + k ≡ a + suc k = omega arith in
-    let right : n - k ≡ suc n - suc k = omega arith in
-    dropped f k n (a + 1) ∙ ap (λ b. map f (range_with_len b (n - k))) left ∙ ap (λ m. map f (range_with_len (a + suc k) m)) right
-
-taken : (f : ℕ → ℕ) (m n a : ℕ) → take m (map f (range_with_len a n)) ≡ map f (range_with_len a (min m n))
-taken f zero n a = let none : 0 ≡ min 0 n = omega arith in ap (λ k. map f (range_with_len a k)) none
-taken f (suc m) zero a = let none : 0 ≡ min (suc m) 0 = omega arith in ap (λ k. map f (range_with_len a k)) none
-taken f (suc m) (suc n) a =
-    let count : suc (min m n) ≡ min (suc m) (suc n) = omega arith in
-    ap (λ xs. f a ∷ xs) (taken f m n (a + 1)) ∙ ap (λ k. map f (range_with_len a k)) count
-
-part_of : (start n from len : ℕ)
-    → map (λ i. filled start i) (range_with_len from (min len (n - from))) ≡ slice_of from len (filled_bytes n start)
-part_of start n from len =
-    let at : from ≡ 0 + from = omega arith in
-    sym (ap (take len) (dropped (λ i. filled start i) from n 0) ∙ taken (λ i. filled start i) len (n - from) (0 + from)
-    ∙ ap (λ a. map (λ i. filled start i) (range_with_len a (min len (n - from)))) (sym at))
-
-pub filled_next : (start from i byte : ℕ) (old mid new : List ℕ) → mid ≡ old ++ map (λ i. filled start i) (range_with_len from i)
-    → byte ≡ filled start (from + i) → new ≡ mid ++ byte ∷ [] → new ≡ old ++ map (λ i. filled start i) (range_with_len from (i + 1))
-filled_next start from i byte old mid new before is all =
-    all ∙ ap (λ (b : ℕ). mid ++ b ∷ []) is ∙ ap (λ (xs : List ℕ). xs ++ filled start (from + i) ∷ []) before
-    ∙ append_assoc old (map (λ i. filled start i) (range_with_len from i)) (filled start (from + i) ∷ [])
-    ∙ ap (λ (xs : List ℕ). old ++ xs) (sym (map-range_with_len_more (λ i. filled start i) from i (from + i) refl))
-
-pub filled_all : (start n from len count : ℕ) (old new : List ℕ) → count ≡ min len (n - from)
-    → new ≡ old ++ map (λ i. filled start i) (range_with_len from count) → new ≡ old ++ slice_of from len (filled_bytes n start)
-filled_all start n from len count old new is all =
-    all ∙ ap (λ (k : ℕ). old ++ map (λ i. filled start i) (range_with_len from k)) is
-    ∙ ap (λ (xs : List ℕ). old ++ xs) (part_of start n from len)
 
 -- What a send took.
 take_both : (n m : ℕ) (xs : List ℕ) → take n (take m xs) ≡ take (min n m) xs

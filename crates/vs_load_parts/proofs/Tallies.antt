@@ -1,6 +1,7 @@
 -- How the counts of a load add up, and how matches do.
 use Rattle.std.proofs.Common.{◌≡◌, ◌≤◌, ◌<◌, ℕ, ◌+◌, ◌==◌, min, if◌then◌else◌, List, [], ◌∷◌, ◌++◌, length, drop, get_or, refl, sym, ap}
 use Rattle.std.proofs.{Common.{◌∙◌, arith}, lemmas.List.{drop_more, flat_map_more, length-drop}, lemmas.List.Sums.fold-append}
+use Rattle.std.proofs.lemmas.Bool.Decides.{nat_tests}
 use Rattle.std.specs.List.{flat_map, fold}
 use Rattle.vs_run_report.specs.Load.{matches}
 
@@ -24,6 +25,13 @@ pub match_all : (xs ys : List ℕ) (i count total : ℕ) → min (length xs) (le
 match_all xs ys i count total end is =
     let short : min (length (drop i xs)) (length (drop i ys)) ≡ 0 = omega (arith, length-drop i xs, length-drop i ys, end) in
     omega (arith, is, none_left (drop i xs) (drop i ys) short)
+
+match_self : (xs : List ℕ) → length xs ≡ matches xs xs
+match_self [] = refl
+match_self (x ∷ xs) = grind (arith, nat_tests, match_self xs)
+
+pub match_same : (xs ys : List ℕ) → xs ≡ ys → length xs ≡ matches xs ys
+match_same xs ys same = match_self xs ∙ ap (matches xs) same
 
 -- The parts of one more.
 pub fold_next : {A B X : Type 0} (f : B → A → B) (g : X → List A) (a mid new : B) (xs xs' : List X) (x : X) → xs' ≡ xs ++ x ∷ []

@@ -1,7 +1,7 @@
 //! The bytes that were sent on a connection, by a journal.
 
 ghost use Rattle.std.specs.Prelude.{◌≡◌, ◌++◌, OnOk};
-ghost use Rattle.vs_script.specs.{App.instruction_view, Data.bytes_of, Data.content_of, Data.filled_bytes};
+ghost use Rattle.vs_script.specs.App.{instruction_view};
 ghost use Rattle.vs_apps_parts.specs.{Journals.calls_of, Journals.data_at, Journals.data_in, Journals.sent_as, Scripts.acts_of};
 ghost use Rattle.vs_apps_parts.specs.{Scripts.script_of, Scripts.slice_of};
 ghost use Rattle.vs_load_parts.specs.Line.{piece_by, piece_in, took_count};
@@ -9,44 +9,9 @@ ghost use Rattle.vs_load_parts.specs.Line.{piece_by, piece_in, took_count};
 use std::alloc::AllocError;
 use vs_apps_parts::journal::{Called, Deed, Entry};
 use vs_driver_parts::answers::{ConnId, Sent};
-use vs_script::{App, Data, Fill, Instruction};
+use vs_script::{App, Instruction};
 
-// Of bytes by a rule those from a place on, `len` at most.
-#[tactic(auto, using(crate::proofs::Sending::filled_all))]
-fn push_filled(out: &mut Vec<u8>, fill: Fill, from: usize, len: usize) -> Result<(), AllocError>
-    ensures { OnOk result (out.new.items ≡ out.old.items ++ slice_of from len (filled_bytes fill.n fill.start)) }
-{
-    let count = len.min((fill.n as usize).saturating_sub(from));
-    for i in 0..count {
-        out.push(fill.byte(from + i))?;
-    }
-    Ok(())
-}
-
-// Of bytes those from a place on, `len` at most.
-fn slice_of(from: usize, len: usize, bytes: &[u8]) -> &[u8]
-    ensures { result.now ≡ slice_of from len bytes.now }
-{
-    let rest = &bytes[from.min(bytes.len())..];
-    &rest[..len.min(rest.len())]
-}
-
-// The same of the bytes that a line of a script carries.
-fn push_content(
-    out: &mut Vec<u8>,
-    content: &Data,
-    from: usize,
-    len: usize,
-) -> Result<(), AllocError>
-    ensures { OnOk result (out.new.items ≡ out.old.items ++ slice_of from len (bytes_of (content_of content.now))) }
-{
-    match content {
-        Data::Given(bytes) => out.extend_from_slice(slice_of(from, len, bytes)),
-        Data::Fill(fill) => push_filled(out, *fill, from, len),
-    }
-}
-
-// Of an instruction's data.
+// Of an instruction's data those bytes from a place on, `len` at most.
 fn push_data_in(
     out: &mut Vec<u8>,
     instruction: &Instruction,
@@ -56,13 +21,13 @@ fn push_data_in(
     ensures { OnOk result (out.new.items ≡ out.old.items ++ slice_of from len (data_in (instruction_view instruction.now))) }
 {
     match instruction {
-        Instruction::Send { content } => push_content(out, content, from, len),
-        Instruction::Exchange { content } => push_content(out, content, from, len),
+        Instruction::Send { content } => content.push_to(from, len, out),
+        Instruction::Exchange { content } => content.push_to(from, len, out),
         _ => Ok(()),
     }
 }
 
-// Of the data of the instruction at a place of an app.
+// The same of the data of the instruction at a place of an app.
 fn push_data(
     out: &mut Vec<u8>,
     script: &[App],

@@ -41,6 +41,9 @@ fn same(a: u8, b: u8) -> u64
 pub fn matches(sent: &[u8], received: &[u8]) -> u64
     ensures { result ≡ matches sent.now received.now }
 {
+    if sent == received {
+        return sent.len() as u64;
+    }
     let mut count = 0u64;
     for i in 0..sent.len().min(received.len()) {
         count += same(sent[i], received[i]);

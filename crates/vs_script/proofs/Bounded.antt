@@ -6,7 +6,7 @@ use Rattle.vs_script.specs.{Bounds.{AreBounded, IsBounded}, Text.{is_empty, word
 use Rattle.vs_script.specs.{Play.{Event, named_line, play_line}, declared.fault.Refused.Refused, declared.fault.Why.Why}
 use Rattle.vs_script.specs.{declared.fault.Why.TheVariants.BadNumber, declared.outside.TheConstants.MAX_FILL}
 use Rattle.vs_script.specs.{declared.words.TheConstants.MAX_BITS, Field.{Read, after, held, ending, word, is_numeral, number_in, number}}
-use Rattle.vs_script.specs.{Field.{port, id, content, only, named}, Script.{Saying, Plays, Runs, Attacks, chained, pushed, add_event}}
+use Rattle.vs_script.specs.{Field.{id, content, only, named}, Script.{Saying, Plays, Runs, Attacks, chained, pushed, add_event}}
 use Rattle.vs_script.specs.Script.{add_run, add_hostile, add_words, add_lines, lines_from, add_line, unless_refused, parse_of}
 use Rattle.vs_script.specs.declared.script.TheConstants.{MAX_SCRIPT, MAX_LINE, MAX_EVENTS}
 use Rattle.vs_script.specs.Outside as outside

@@ -1,5 +1,5 @@
 -- The bytes that a line of a script carries.
-use Rattle.std.specs.{Prelude.{ℕ, ◌+◌, ◌*◌, ◌/◌, ◌%◌, List, length, map, slice_index}, List.range_with_len}
+use Rattle.std.specs.{Prelude.{ℕ, ◌+◌, ◌*◌, ◌/◌, ◌%◌, List, length, map}, List.range_with_len}
 use Rattle.vs_script.specs.declared.data.Data.{Data}
 use Rattle.vs_script.specs.declared.data.Data.TheVariants as code
 
@@ -21,11 +21,6 @@ size_of (Fill n start) = n
 -- The byte at place i of bytes that are filled from `start` on.
 abbrev pub filled : ℕ → ℕ → ℕ
 filled start i = (start + 7 * i + i / 251) % 256
-
--- The byte at a place.
-abbrev pub byte_at : Content → ℕ → ℕ
-byte_at (Given bytes) i = slice_index bytes i
-byte_at (Fill n start) i = filled start i
 
 -- All of them.
 abbrev pub filled_bytes : ℕ → ℕ → List ℕ

@@ -1,7 +1,7 @@
 //! The bytes that a line of a script carries.
 
-ghost use Rattle.std.specs.Prelude.{◌≡◌, ◌≤◌, ◌<◌, ◌+◌, ◌*◌, ◌^◌, IfOk, OnOk};
-ghost use Rattle.vs_script.specs.Data.{content_of, size_of, byte_at, bytes_of, filled, filled_bytes};
+ghost use Rattle.std.specs.Prelude.{◌≡◌, ◌≤◌, ◌<◌, ◌+◌, ◌-◌, ◌++◌, ◌^◌, IfOk, OnOk, drop, length, min, take};
+ghost use Rattle.vs_script.specs.Data.{content_of, size_of, bytes_of, filled_bytes};
 
 use std::alloc::{AllocError, Global};
 
@@ -57,38 +57,74 @@ static SEVENS: [u8; 507] = [
 ];
 
 impl Fill {
-    /// The byte at a place, counted from 0.
-    pub fn byte(self, place: usize) -> u8
-        requires { place < self.n }
-        ensures { result ≡ filled self.start place }
+    // How many bytes there are from a place on, `most` at most.
+    fn count_from(self, from: usize, most: usize) -> usize
+        ensures { result ≡ min most (self.n - from) }
     {
-        ((usize::from(self.start) + 7 * place + place / 251) % 256) as u8
+        most.min((self.n as usize).saturating_sub(from))
     }
 
-    /// All of the bytes, run by run. The only error is want of memory.
-    fn to_vec(self, alloc: Global) -> Result<Vec<u8>, AllocError>
-        ensures { IfOk result (λ bytes. bytes.items ≡ filled_bytes self.n self.start) }
+    // The bytes from a place on, to the end of their run and `most` at most.
+    fn part(self, place: usize, most: usize) -> &'static [u8]
+        requires { place + most ≤ self.n }
+        ensures bytes { result.now ≡ take (length result.now) (drop place (filled_bytes self.n self.start)) }
+        ensures most { length result.now ≤ most }
+        ensures some { 0 < most → 0 < length result.now }
     {
-        let n = self.n as usize;
-        let mut bytes = Vec::with_capacity(alloc, n)?;
-        for run in 0..n / RUN {
-            self.push_run(&mut bytes, run, RUN)?;
+        let run = place / RUN;
+        let within = place % RUN;
+        let first = (183 * usize::from(self.start) + 178 * run) % 256 + within;
+        &SEVENS[first..first + most.min(RUN - within)]
+    }
+
+    // Copies the bytes from a place on to the front of `out`, as many as there are and as it holds, and returns how many.
+    fn copy_to(self, from: usize, out: &mut [u8]) -> usize
+        ensures count { result ≡ min (length out.old) (self.n - from) }
+        ensures copied { take result out.new ≡ take result (drop from (filled_bytes self.n self.start)) }
+        ensures rest { drop result out.new ≡ drop result out.old }
+    {
+        let count = self.count_from(from, out.len());
+        let mut done = 0;
+        while done < count {
+            let part = self.part(from + done, count - done);
+            let end = done + part.len();
+            out[done..end].copy_from_slice(part);
+            done = end;
         }
-        self.push_run(&mut bytes, n / RUN, n % RUN)?;
-        Ok(bytes)
+        count
     }
 
-    // Appends this many bytes of a run, behind all runs before it. The only error is want of memory.
-    fn push_run(self, bytes: &mut Vec<u8>, run: usize, count: usize) -> Result<(), AllocError>
-        requires few { run < 2 ^ 32 }
-        requires within { count ≤ RUN }
-        requires before { bytes.old.items ≡ filled_bytes (RUN * run) self.start }
-        ensures { OnOk result (bytes.new.items ≡ filled_bytes (RUN * run + count) self.start) }
+    // Appends the bytes from a place on, `most` at most. The only error is want of memory.
+    fn push_to(self, from: usize, most: usize, out: &mut Vec<u8>) -> Result<(), AllocError>
+        ensures { OnOk result (out.new.items ≡ out.old.items ++ take most (drop from (filled_bytes self.n self.start))) }
     {
-        let first = (183 * usize::from(self.start) + 178 * run) % 256;
-        bytes.extend_from_slice(&SEVENS[first..first + count])?;
+        let count = self.count_from(from, most);
+        let mut done = 0;
+        while done < count {
+            let part = self.part(from + done, count - done);
+            out.extend_from_slice(part)?;
+            done += part.len();
+        }
         Ok(())
     }
+}
+
+// The bytes from a place on.
+fn rest(bytes: &[u8], from: usize) -> &[u8]
+    ensures { result.now ≡ drop from bytes.now }
+{
+    &bytes[from.min(bytes.len())..]
+}
+
+// Copies the first of these bytes to the front of `out`, as many as it holds, and returns how many.
+fn copy_front(bytes: &[u8], out: &mut [u8]) -> usize
+    ensures count { result ≡ min (length out.old) (length bytes.now) }
+    ensures copied { take result out.new ≡ take result bytes.now }
+    ensures rest { drop result out.new ≡ drop result out.old }
+{
+    let count = out.len().min(bytes.len());
+    out[..count].copy_from_slice(&bytes[..count]);
+    count
 }
 
 impl Data {
@@ -103,14 +139,29 @@ impl Data {
         }
     }
 
-    /// The byte at a place, counted from 0.
-    pub fn byte(&self, place: usize) -> u8
-        requires { place < size_of (content_of self.now) }
-        ensures { result ≡ byte_at (content_of self.now) place }
+    /// Copies the bytes from a place on to the front of `out`, as many as there are and as it holds, and returns how many. The rest of `out`
+    /// stays.
+    pub fn copy_to(&self, from: usize, out: &mut [u8]) -> usize
+        ensures count { result ≡ min (length out.old) (size_of (content_of self.now) - from) }
+        ensures copied { take result out.new ≡ take result (drop from (bytes_of (content_of self.now))) }
+        ensures rest { drop result out.new ≡ drop result out.old }
     {
         match self {
-            Data::Given(bytes) => bytes[place],
-            Data::Fill(fill) => fill.byte(place),
+            Data::Given(bytes) => copy_front(rest(bytes, from), out),
+            Data::Fill(fill) => fill.copy_to(from, out),
+        }
+    }
+
+    /// Appends the bytes from a place on, `most` at most. The only error is want of memory.
+    pub fn push_to(&self, from: usize, most: usize, out: &mut Vec<u8>) -> Result<(), AllocError>
+        ensures { OnOk result (out.new.items ≡ out.old.items ++ take most (drop from (bytes_of (content_of self.now)))) }
+    {
+        match self {
+            Data::Given(bytes) => {
+                let rest = rest(bytes, from);
+                out.extend_from_slice(&rest[..most.min(rest.len())])
+            }
+            Data::Fill(fill) => fill.push_to(from, most, out),
         }
     }
 
@@ -118,9 +169,8 @@ impl Data {
     pub fn to_vec(&self, alloc: Global) -> Result<Vec<u8>, AllocError>
         ensures { IfOk result (λ bytes. bytes.items ≡ bytes_of (content_of self.now)) }
     {
-        match self {
-            Data::Given(bytes) => bytes.to_vec(alloc),
-            Data::Fill(fill) => fill.to_vec(alloc),
-        }
+        let mut bytes = Vec::with_capacity(alloc, self.len())?;
+        self.push_to(0, self.len(), &mut bytes)?;
+        Ok(bytes)
     }
 }
