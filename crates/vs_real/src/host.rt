@@ -1,4 +1,5 @@
 //! A host's streams over Unix sockets (Firecracker's vsock documentation).
+ghost use Rattle.std.specs.Prelude.{◌≡◌};
 ghost use Rattle.vs_outside.specs.Faults.{CountsFault};
 
 use crate::moves::Moves;
@@ -73,13 +74,17 @@ impl<R: Net + Files + AllocGlobal + Drop> UnixHost<R> {
     }
 
     /// Listens no more, and removes the socket that was made at the base path. One that was put in its place stays, and so do the streams.
-    pub fn stop(&mut self) {
+    pub fn stop(&mut self)
+        ensures counts { self.new.faults ≡ self.old.faults }
+    {
         self.sockets.stop();
         self.made.remove(&self.rt);
     }
 
     // Listens at a path, in place of an earlier one.
-    fn listen(&mut self, path: &str) -> Result<(), StartError> {
+    fn listen(&mut self, path: &str) -> Result<(), StartError>
+        ensures counts { self.new.faults ≡ self.old.faults }
+    {
         self.stop();
         self.sockets.start(&self.rt, path)?;
         self.made.keep(&self.rt, path);

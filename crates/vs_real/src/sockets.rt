@@ -186,9 +186,13 @@ impl Sockets {
         if !self.look(Duration::ZERO) {
             return StreamRead::Failed;
         }
-        match self.streams.get_mut(&id) {
-            Some(socket) if socket.input.polled(self.polls) => read_once(socket, out, self.polls),
-            _ => StreamRead::Again,
+        let Some(socket) = self.streams.get_mut(&id) else {
+            return StreamRead::Failed;
+        };
+        if socket.input.polled(self.polls) {
+            read_once(socket, out, self.polls)
+        } else {
+            StreamRead::Again
         }
     }
 
@@ -213,11 +217,13 @@ impl Sockets {
         if !self.look(Duration::ZERO) {
             return StreamWrite::Failed;
         }
-        match self.streams.get_mut(&id) {
-            Some(socket) if socket.output.polled(self.polls) => {
-                write_once(socket, bytes, self.polls)
-            }
-            _ => StreamWrite::Again,
+        let Some(socket) = self.streams.get_mut(&id) else {
+            return StreamWrite::Failed;
+        };
+        if socket.output.polled(self.polls) {
+            write_once(socket, bytes, self.polls)
+        } else {
+            StreamWrite::Again
         }
     }
 
