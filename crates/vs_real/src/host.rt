@@ -14,9 +14,9 @@ use std::time::Duration;
 use vs_flow::Flow;
 use vs_outside::{Accepted, Dialed, HostNet, Started, StreamRead, StreamWrite};
 
-/// A host over Unix sockets, none of which waits. A read or a write makes at most one system call on its socket, behind a poll where it was told
-/// of the last one, and none where that poll showed that nothing can be there. Each error is a fault, and is counted; of accepts that fail in a
-/// row, one.
+/// A host over Unix sockets, none of which waits. A read or a write makes at most one system call on its socket, behind a poll where it was
+/// told of the last one, and none where that poll showed that nothing can be there. Each error is a fault, and is counted; of accepts that fail
+/// in a row, one.
 ///
 /// The socket of the base path is removed with the host that made it, or by `stop`.
 pub struct UnixHost<R: Net + Files + AllocGlobal + Drop> {
@@ -59,8 +59,8 @@ impl<R: Net + Files + AllocGlobal + Drop> UnixHost<R> {
         self.start_error
     }
 
-    /// Waits until a stream that wasn't ready may be read or written, or a client comes, but at most so long. It is for a loop that has nothing
-    /// else to do, before a turn: what it saw holds in that turn, whose calls poll no more.
+    /// Waits until a stream that wasn't ready may be read or written, or a client comes, but at most so long. It is for a loop that has
+    /// nothing else to do, before a turn: what it saw holds in that turn, in which the first call on each socket polls no more.
     ///
     /// A poll that fails is a fault, and is counted.
     pub fn wait(&mut self, timeout: Duration) {

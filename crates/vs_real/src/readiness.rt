@@ -11,8 +11,8 @@ pub enum Ask {
     Nothing,
 }
 
-/// Whether a socket may be ready one way, as far as the polls showed. A socket that isn't ready is told so once of each poll, and its next call
-/// polls anew, so that one poll serves all sockets of a turn.
+/// Whether a socket may be ready one way, as far as the polls showed. A socket that isn't ready is told so once of each poll, and its next
+/// call polls anew, so that one poll serves all sockets of a turn.
 #[derive(Clone, Copy, Debug, PartialEq, Eq)]
 pub struct Readiness {
     ready: bool,

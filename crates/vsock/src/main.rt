@@ -40,8 +40,8 @@ fn main(rt: HostRuntime) -> ExitCode {
     ExitCode::from(status)
 }
 
-/// The program's words, the host's sockets, the clock, a client's gate, and the gates of a run. The error is want of memory, or that the system
-/// gives no poll or no clock.
+/// The program's words, the host's sockets, the clock, a client's gate, and the gates of a run. The error is want of memory, or that the
+/// system gives no poll or no clock.
 fn outside<R: AllocGlobal + Env + Net + Files + Clock + Clone + Drop>(
     rt: &R,
 ) -> io::Result<
