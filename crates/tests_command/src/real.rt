@@ -6,17 +6,17 @@ use std::fs::{self, Files};
 use std::io::{self, Read, Write};
 use std::net::Net;
 use std::os::unix::net::{UnixListener, UnixStream};
-use std::process;
 use std::sync::Wait;
 use std::test::Fail;
 use std::thread::{self, Threads};
+use std::{process, time};
 use vs_flow::Flow;
 use vs_outside::{
     Accepted, Clock, Dialed, HostNet, MemSink, MemSource, Sink, SinkWrite, Source, SourceRead,
     Started, StreamRead, StreamWrite,
 };
 use vs_peer::{DONE, REFUSED, WAITED};
-use vs_real::{MachineClock, ReadSource, UnixHost, WriteSink, YieldGate};
+use vs_real::{BackoffGate, MachineClock, ReadSource, UnixHost, WriteSink};
 
 /// Steps in a row in which nothing moves, where the other end answers at last.
 const PATIENT: u32 = 1_000_000;
@@ -82,7 +82,7 @@ fn read_to_end(stream: &mut UnixStream) -> io::Result<()> {
 }
 
 /// The status of a client over real sockets that sends so many bytes, and what it wrote.
-fn sending<R: AllocGlobal + Wait, H: HostNet>(
+fn sending<R: AllocGlobal + Wait + time::Clock + Clone + Drop, H: HostNet>(
     rt: &R,
     host: &mut H,
     path: &str,
@@ -92,13 +92,13 @@ fn sending<R: AllocGlobal + Wait, H: HostNet>(
     let bytes = vec![in rt.alloc(); 7; bytes]?;
     let mut source = MemSource::new(rt.alloc(), bytes, 4096);
     let mut sink = MemSink::new(rt.alloc(), 4096);
-    let mut gate = YieldGate::new();
+    let mut gate = BackoffGate::new(rt.clone()?);
     let status = client(rt, path, idle, &mut source, host, &mut gate, &mut sink);
     Ok((status, sink))
 }
 
 /// Whether a client ends with that status and text, at a listener that does so.
-fn ends<R: AllocGlobal + Wait + Threads + Net + Files + Clone + Drop>(
+fn ends<R: AllocGlobal + Wait + Threads + Net + Files + time::Clock + Clone + Drop>(
     rt: &R,
     path: &str,
     answer: Answer,
@@ -181,14 +181,16 @@ fn connected<H: HostNet>(host: &mut H, path: &str) -> bool {
 fn a_host_accepts_its_own_dial(rt: HostRuntime) -> Result<(), Fail> {
     let path = format!(in rt.alloc(); "/tmp/vs_real-{}-accept", process::id(rt.process()))?;
     let mut host = UnixHost::new(rt.clone()?)?;
-    let connected = connected(&mut host, path.as_str());
-    fs::remove_file(&rt, path.as_str())?;
-    assert!(rt; connected);
+    assert!(rt; connected(&mut host, path.as_str()));
 
-    // The first call polls, and the next one accepts.
-    assert_eq!(rt; host.accept(), Accepted::None);
+    // The call that polls accepts.
     assert_eq!(rt; host.accept(), Accepted::Stream(2));
     assert_eq!(rt; host.faults(), 0);
+
+    // The path goes with its host.
+    assert!(rt; fs::exists(&rt, path.as_str())?);
+    drop(host);
+    assert!(rt; !fs::exists(&rt, path.as_str())?);
     Ok(())
 }
 

@@ -1,17 +1,38 @@
 //! The gate of a real run.
 ghost use Rattle.std.specs.Prelude.{◌≡◌};
 
+use crate::moves::Moves;
+use std::cell::Cell;
 use std::marker::Model;
 use std::thread;
+use std::time::{Clock, Duration};
 use vs_outside::Gate;
 
-/// A gate that holds nothing up. A step that moved nothing lets another thread run.
+/// So many pauses in a row give up the processor at once. Those after them sleep.
+const YIELDS: u32 = 100;
+
+/// So many sleeps in a row take twice as long each as the one before, from a microsecond on. Those after them take a millisecond.
+const SHORT_SLEEPS: u32 = 10;
+
+/// A gate that holds nothing up, for one thread. A step that moved nothing lets another thread run; after some of these in a row the thread
+/// sleeps, so that one that waits for long takes next to no processor time.
+///
+/// Pauses are in a row unless something moved between two of them: the gate was told of a second step or turn there, or bytes moved on the
+/// streams of the host beside it.
 #[derive(Drop)]
-pub struct YieldGate {
+pub struct BackoffGate<R> {
+    rt: R,
     pauses: u64,
+    // how many pauses there were in a row
+    row: u32,
+    // how many steps and turns there were since the last pause
+    steps: Cell<u32>,
+    // what moves on a host's streams, and how often it did until the last pause
+    moves: Option<Moves>,
+    moved: u64,
 }
 
-impl Model for YieldGate {
+impl<R> Model for BackoffGate<R> {
     ghost use Rattle.std.specs.Prelude.{ℕ};
 
     ghost Value = { ℕ };
@@ -19,26 +40,87 @@ impl Model for YieldGate {
     ghost view = { λ g. g.pauses };
 }
 
-impl YieldGate {
-    /// A gate without pauses.
-    pub fn new() -> YieldGate
+impl<R: Clock> BackoffGate<R> {
+    /// A gate without pauses, for a thread that tells it of its steps or turns.
+    pub fn new(rt: R) -> BackoffGate<R>
         ensures { result ≡ 0 }
     {
-        YieldGate { pauses: 0 }
+        BackoffGate {
+            rt,
+            pauses: 0,
+            row: 0,
+            steps: Cell::new(0),
+            moves: None,
+            moved: 0,
+        }
+    }
+
+    /// A gate without pauses, for a thread that moves bytes on the streams of a host.
+    pub fn beside(rt: R, moves: Moves) -> BackoffGate<R>
+        ensures { result ≡ 0 }
+    {
+        BackoffGate {
+            rt,
+            pauses: 0,
+            row: 0,
+            steps: Cell::new(0),
+            moves: Some(moves),
+            moved: 0,
+        }
+    }
+
+    // Whether anything moved since the last pause.
+    fn has_moved(&mut self) -> bool
+        ensures { self.new ≡ self.old }
+    {
+        let moved = self.moves.as_ref().map_or(0, |moves| moves.count());
+        let more = moved != self.moved;
+        self.moved = moved;
+        self.steps.replace(0) > 1 || more
+    }
+
+    // One more step or turn.
+    fn count_step(&self) {
+        self.steps.set(self.steps.get().saturating_add(1));
     }
 }
 
-impl Gate for YieldGate {
+impl<R: Clock> Gate for BackoffGate<R> {
     ghost pauses = { λ g. g };
 
-    fn before(&self, app: usize, step: u64) {}
+    fn before(&self, app: usize, step: u64) {
+        self.count_step();
+    }
 
     fn holding(&self, app: usize) {}
 
-    fn turned(&self, n: u64) {}
+    fn turned(&self, n: u64) {
+        self.count_step();
+    }
 
     fn pause(&mut self) {
         self.pauses = self.pauses.saturating_add(1);
-        thread::yield_now();
+        if self.has_moved() {
+            self.row = 0;
+        }
+        rest(&self.rt, self.row);
+        self.row = self.row.saturating_add(1);
+    }
+}
+
+// A pause behind so many in a row.
+fn rest<R: Clock>(rt: &R, row: u32) {
+    match row.checked_sub(YIELDS) {
+        None => thread::yield_now(),
+        Some(sleeps) => thread::sleep(rt, sleep_behind(sleeps)),
+    }
+}
+
+// How long a sleep is behind so many in a row.
+fn sleep_behind(sleeps: u32) -> Duration {
+    if sleeps < SHORT_SLEEPS {
+        Duration::from_micros(1u64 << sleeps)
+    } else {
+        Duration::from_millis(1)
     }
 }

@@ -1,33 +1,45 @@
 //! A host's streams over Unix sockets (Firecracker's vsock documentation).
+ghost use Rattle.std.specs.Prelude.{◌≡◌};
 ghost use Rattle.vs_outside.specs.Faults.{CountsFault};
 
+use crate::moves::Moves;
 use crate::sockets::Sockets;
-use std::alloc::AllocGlobal;
+use crate::starting::{MadePath, StartError};
+use std::alloc::{AllocError, AllocGlobal};
 use std::fs::Files;
 use std::io;
 use std::net::Net;
+use std::os::fd::RawFd;
+use std::time::Duration;
 use vs_flow::Flow;
 use vs_outside::{Accepted, Dialed, HostNet, Started, StreamRead, StreamWrite};
 
-/// A host over Unix sockets, none of which waits. A read or a write makes at most one system call, and none where the last poll showed
-/// that nothing can be there. Each error is a fault, and is counted.
-#[derive(Drop)]
-pub struct UnixHost<R> {
+/// A host over Unix sockets, none of which waits. A read or a write makes at most one system call on its socket, behind a poll where it was
+/// told of the last one, and none where that poll showed that nothing can be there. Each error is a fault, and is counted; of accepts that fail
+/// in a row, one.
+///
+/// The socket of the base path is removed with the host that made it, or by `stop`.
+pub struct UnixHost<R: Net + Files + AllocGlobal + Drop> {
     rt: R,
     sockets: Sockets,
+    made: MadePath,
+    start_error: Option<StartError>,
+    moves: Moves,
     faults: u64,
 }
 
-impl<R: Net + Files + AllocGlobal> UnixHost<R> {
+impl<R: Net + Files + AllocGlobal + Drop> UnixHost<R> {
     /// A host without streams, and without a fault so far. The error is want of memory, or that the system gives no poll.
-    pub fn new(rt: R) -> io::Result<UnixHost<R>>
-    where
-        R: Drop,
-    {
+    pub fn new(rt: R) -> io::Result<UnixHost<R>> {
         let sockets = Sockets::new(&rt)?;
+        let made = MadePath::new(rt.alloc())?;
+        let moves = Moves::new(rt.alloc())?;
         Ok(UnixHost {
             rt,
             sockets,
+            made,
+            start_error: None,
+            moves,
             faults: 0,
         })
     }
@@ -36,9 +48,70 @@ impl<R: Net + Files + AllocGlobal> UnixHost<R> {
     pub fn faults(&self) -> u64 {
         self.faults
     }
+
+    /// The count of reads and writes that moved bytes.
+    pub fn moves(&self) -> Result<Moves, AllocError> {
+        self.moves.try_clone()
+    }
+
+    /// What stood in the way of the last start, where it failed.
+    pub fn start_error(&self) -> Option<StartError> {
+        self.start_error
+    }
+
+    /// Waits until a stream that wasn't ready may be read or written, or a client comes, but at most so long. It is for a loop that has
+    /// nothing else to do, before a turn: what it saw holds in that turn, in which the first call on each socket polls no more.
+    ///
+    /// A poll that fails is a fault, and is counted.
+    pub fn wait(&mut self, timeout: Duration) {
+        let looked = self.sockets.look(timeout);
+        self.faults = counted(self.faults, !looked);
+    }
+
+    /// A descriptor that is readable where `wait` wouldn't wait, for a loop that waits for more than this host.
+    pub fn poll_fd(&self) -> RawFd {
+        self.sockets.poll_fd()
+    }
+
+    /// Listens no more, and removes the socket that was made at the base path. One that was put in its place stays, and so do the streams.
+    pub fn stop(&mut self)
+        ensures counts { self.new.faults ≡ self.old.faults }
+    {
+        self.sockets.stop();
+        self.made.remove(&self.rt);
+    }
+
+    // Listens at a path, in place of an earlier one.
+    fn listen(&mut self, path: &str) -> Result<(), StartError>
+        ensures counts { self.new.faults ≡ self.old.faults }
+    {
+        self.stop();
+        self.sockets.start(&self.rt, path)?;
+        self.made.keep(&self.rt, path);
+        let watched = self.sockets.watch();
+        if watched.is_err() {
+            self.stop();
+        }
+        watched
+    }
 }
 
-impl<R: Net + Files + AllocGlobal> HostNet for UnixHost<R> {
+impl<R: Net + Files + AllocGlobal + Drop> Drop for UnixHost<R> {
+    fn drop(self) {
+        let UnixHost {
+            rt,
+            sockets,
+            mut made,
+            start_error: _,
+            moves: _,
+            faults: _,
+        } = self;
+        drop(sockets);
+        made.remove(&rt);
+    }
+}
+
+impl<R: Net + Files + AllocGlobal + Drop> HostNet for UnixHost<R> {
     ghost use Rattle.std.specs.Prelude.{None};
 
     ghost faults = { λ h. h.faults };
@@ -46,9 +119,13 @@ impl<R: Net + Files + AllocGlobal> HostNet for UnixHost<R> {
     ghost contents = { λ _. None };
 
     fn start(&mut self, path: &str) -> Started {
-        let started = self.sockets.start(&self.rt, path);
-        self.faults = counted(self.faults, matches!(started, Started::Failed));
-        started
+        self.start_error = self.listen(path).err();
+        self.faults = counted(self.faults, self.start_error.is_some());
+        if self.start_error.is_some() {
+            Started::Failed
+        } else {
+            Started::Ready
+        }
     }
 
     fn accept(&mut self) -> Accepted {
@@ -67,12 +144,18 @@ impl<R: Net + Files + AllocGlobal> HostNet for UnixHost<R> {
 
     fn read(&mut self, id: u64, out: &mut [u8]) -> StreamRead {
         let read = self.sockets.read(id, out);
+        if matches!(read, StreamRead::Got(_)) {
+            self.moves.add();
+        }
         self.faults = counted(self.faults, matches!(read, StreamRead::Failed));
         read
     }
 
     fn write(&mut self, id: u64, bytes: &[u8]) -> StreamWrite {
         let wrote = self.sockets.write(id, bytes);
+        if matches!(wrote, StreamWrite::Took(_)) {
+            self.moves.add();
+        }
         self.faults = counted(self.faults, matches!(wrote, StreamWrite::Failed));
         wrote
     }

@@ -3,14 +3,19 @@
 //! counted.
 #![tactic(auto)]
 
+mod again;
 mod clock;
 mod gate;
 mod host;
+mod moves;
 mod readiness;
 mod sockets;
+mod starting;
 mod stdio;
 
 pub use crate::clock::MachineClock;
-pub use crate::gate::YieldGate;
+pub use crate::gate::BackoffGate;
 pub use crate::host::UnixHost;
+pub use crate::moves::Moves;
+pub use crate::starting::StartError;
 pub use crate::stdio::{ReadSource, WriteSink};

@@ -5,14 +5,14 @@
 pub enum Ask {
     /// It asks the socket, which may be ready.
     Socket,
-    /// It polls: the socket wasn't ready, and no poll was made since it was told so.
+    /// It polls first: the socket wasn't ready, and was told so of the last poll.
     Poll,
     /// Nothing: the last poll showed that the socket isn't ready.
     Nothing,
 }
 
-/// Whether a socket may be ready one way, as far as the polls showed. A socket that wasn't ready is polled for once and not again until
-/// another call on it was answered by that poll, so that one poll serves many sockets.
+/// Whether a socket may be ready one way, as far as the polls showed. A socket that isn't ready is told so once of each poll, and its next
+/// call polls anew, so that one poll serves all sockets of a turn.
 #[derive(Clone, Copy, Debug, PartialEq, Eq)]
 pub struct Readiness {
     ready: bool,
@@ -39,6 +39,12 @@ impl Readiness {
             self.told = polls;
             Ask::Nothing
         }
+    }
+
+    /// What the poll that a call made, of that number, showed: whether the socket may be ready.
+    pub fn polled(&mut self, polls: u64) -> bool {
+        self.told = polls;
+        self.ready
     }
 
     /// The socket wasn't ready, after the poll of that number.

@@ -2,20 +2,26 @@
 ghost use Rattle.std.specs.Prelude.{length};
 ghost use Rattle.vs_outside.specs.Host.{ReadsSome, TakesSome};
 
+use crate::again;
 use crate::readiness::{Ask, Readiness};
+use crate::starting::StartError;
 use indexmap::IndexMap;
 use mio::event::Event;
 use mio::net::{UnixListener, UnixStream};
 use mio::{Events, Interest, Poll, Token};
 use std::alloc::AllocGlobal;
 use std::fs::Files;
-use std::io::{self, ErrorKind, Read, Write};
+use std::io::{self, ErrorKind};
 use std::net::{Net, Shutdown};
+use std::os::fd::{AsRawFd, RawFd};
 use std::time::Duration;
-use vs_outside::{Accepted, Dialed, Started, StreamRead, StreamWrite};
+use vs_outside::{Accepted, Dialed, StreamRead, StreamWrite};
 
 /// The most sockets that one poll shows.
 const EVENTS: usize = 128;
+
+/// The streams for which there is room from the beginning on: more than a device has at once.
+const STREAMS: usize = 128;
 
 /// The listener's token. A stream's is its id, which is at least 1.
 const LISTENER: Token = Token(0);
@@ -37,6 +43,8 @@ pub struct Sockets {
     polls: u64,
     listener: Option<UnixListener>,
     clients: Readiness,
+    // whether the last accept failed, so that a further one that does counts no fault
+    accept_failed: bool,
     streams: IndexMap<u64, Socket>,
     last_id: u64,
 }
@@ -46,36 +54,65 @@ impl Sockets {
     pub fn new<R: Net + AllocGlobal>(rt: &R) -> io::Result<Sockets> {
         let poll = Poll::new(rt)?;
         let events = Events::with_capacity(rt.alloc(), EVENTS)?;
-        let streams = IndexMap::new(rt.alloc());
+        let streams = IndexMap::with_capacity(rt.alloc(), STREAMS)?;
         Ok(Sockets {
             poll,
             events,
             polls: 0,
             listener: None,
             clients: Readiness::new(),
+            accept_failed: false,
             streams,
             last_id: 0,
         })
     }
 
-    /// Listens at a path.
-    pub fn start<R: Net + Files>(&mut self, rt: &R, path: &str) -> Started {
-        match listening(rt, &self.poll, path) {
-            Ok(listener) => {
-                self.listener = Some(listener);
-                self.clients = Readiness::new();
-                Started::Ready
-            }
-            Err(_) => Started::Failed,
-        }
+    /// Listens at a path. Nothing that is there is removed.
+    pub fn start<R: Net + Files>(&mut self, rt: &R, path: &str) -> Result<(), StartError> {
+        let listener = UnixListener::bind(rt, path).map_err(|e| StartError::of(e.kind()))?;
+        self.listener = Some(listener);
+        self.clients = Readiness::new();
+        Ok(())
     }
 
-    /// Accepts a client that waits.
+    /// Puts the socket that listens into the poll.
+    pub fn watch(&mut self) -> Result<(), StartError> {
+        let Some(listener) = &mut self.listener else {
+            return Ok(());
+        };
+        self.poll
+            .registry()
+            .register(listener, LISTENER, Interest::READABLE)
+            .map_err(|_| StartError::NoSocket)
+    }
+
+    /// Listens no more.
+    pub fn stop(&mut self) {
+        self.listener = None;
+    }
+
+    /// The descriptor that is readable where a poll would show something.
+    pub fn poll_fd(&self) -> RawFd {
+        self.poll.as_raw_fd()
+    }
+
+    /// Accepts a client that waits. Where accepts fail in a row only the first answers so, and the others that nobody waits.
     pub fn accept(&mut self) -> Accepted {
         match self.clients.ask(self.polls) {
             Ask::Socket => self.accept_now(),
-            Ask::Poll if !self.look() => Accepted::Failed,
-            _ => Accepted::None,
+            Ask::Poll => self.accept_polled(),
+            Ask::Nothing => Accepted::None,
+        }
+    }
+
+    // Polls, and accepts a client that this showed.
+    fn accept_polled(&mut self) -> Accepted {
+        if !self.look(Duration::ZERO) {
+            Accepted::Failed
+        } else if self.clients.polled(self.polls) {
+            self.accept_now()
+        } else {
+            Accepted::None
         }
     }
 
@@ -84,25 +121,32 @@ impl Sockets {
         let Some(listener) = &self.listener else {
             return Accepted::None;
         };
-        match listener.accept() {
-            Ok((stream, _)) => match self.add(stream) {
+        let accepted = again::accept(listener);
+        let failed_before = self.accept_failed;
+        self.accept_failed = false;
+        match accepted {
+            Ok(stream) => match self.add(stream) {
                 Some(id) => Accepted::Stream(id),
                 None => Accepted::Failed,
             },
-            Err(e) => match e.kind() {
-                ErrorKind::WouldBlock => {
-                    self.clients.wait(self.polls);
+            Err(e) if e.kind() == ErrorKind::WouldBlock => {
+                self.clients.wait(self.polls);
+                Accepted::None
+            }
+            Err(_) => {
+                self.accept_failed = true;
+                if failed_before {
                     Accepted::None
+                } else {
+                    Accepted::Failed
                 }
-                ErrorKind::Interrupted => Accepted::None,
-                _ => Accepted::Failed,
-            },
+            }
         }
     }
 
     /// Connects to whoever listens at a path.
     pub fn dial<R: Net + Files>(&mut self, rt: &R, path: &str) -> Dialed {
-        match UnixStream::connect(rt, path) {
+        match again::connect(rt, path) {
             Ok(stream) => match self.add(stream) {
                 Some(id) => Dialed::Stream(id),
                 None => Dialed::Failed,
@@ -130,8 +174,25 @@ impl Sockets {
         };
         match socket.input.ask(self.polls) {
             Ask::Socket => read_once(socket, out, self.polls),
-            Ask::Poll if !self.look() => StreamRead::Failed,
-            _ => StreamRead::Again,
+            Ask::Poll => self.read_polled(id, out),
+            Ask::Nothing => StreamRead::Again,
+        }
+    }
+
+    // Polls, and reads a stream where this showed that it may be ready.
+    fn read_polled(&mut self, id: u64, out: &mut [u8]) -> StreamRead
+        ensures { ReadsSome result (length out.new) }
+    {
+        if !self.look(Duration::ZERO) {
+            return StreamRead::Failed;
+        }
+        let Some(socket) = self.streams.get_mut(&id) else {
+            return StreamRead::Failed;
+        };
+        if socket.input.polled(self.polls) {
+            read_once(socket, out, self.polls)
+        } else {
+            StreamRead::Again
         }
     }
 
@@ -144,8 +205,25 @@ impl Sockets {
         };
         match socket.output.ask(self.polls) {
             Ask::Socket => write_once(socket, bytes, self.polls),
-            Ask::Poll if !self.look() => StreamWrite::Failed,
-            _ => StreamWrite::Again,
+            Ask::Poll => self.write_polled(id, bytes),
+            Ask::Nothing => StreamWrite::Again,
+        }
+    }
+
+    // Polls, and writes to a stream where this showed that it may be ready.
+    fn write_polled(&mut self, id: u64, bytes: &[u8]) -> StreamWrite
+        ensures { TakesSome result (length bytes.now) }
+    {
+        if !self.look(Duration::ZERO) {
+            return StreamWrite::Failed;
+        }
+        let Some(socket) = self.streams.get_mut(&id) else {
+            return StreamWrite::Failed;
+        };
+        if socket.output.polled(self.polls) {
+            write_once(socket, bytes, self.polls)
+        } else {
+            StreamWrite::Again
         }
     }
 
@@ -161,27 +239,15 @@ impl Sockets {
         self.streams.swap_remove(&id);
     }
 
-    // Polls once, without waiting. Answers whether that went well.
-    fn look(&mut self) -> bool {
+    /// Polls once, and waits at most so long until a socket is ready. Answers whether that went well.
+    pub fn look(&mut self, timeout: Duration) -> bool {
         self.polls = self.polls.wrapping_add(1);
-        if self
-            .poll
-            .poll(&mut self.events, Some(Duration::ZERO))
-            .is_err()
-        {
+        if self.poll.poll(&mut self.events, Some(timeout)).is_err() {
             return false;
         }
         wake_all(&self.events, &mut self.clients, &mut self.streams);
         true
     }
-}
-
-// A socket that listens at a path, and is in the poll.
-fn listening<R: Net + Files>(rt: &R, poll: &Poll, path: &str) -> io::Result<UnixListener> {
-    let mut listener = UnixListener::bind(rt, path)?;
-    poll.registry()
-        .register(&mut listener, LISTENER, Interest::READABLE)?;
-    Ok(listener)
 }
 
 // Puts a stream into the poll, under the token of its id. None: there is no such token, or no place in the poll.
@@ -230,7 +296,7 @@ fn read_once(socket: &mut Socket, out: &mut [u8], polls: u64) -> StreamRead
     if out.is_empty() {
         return StreamRead::Again;
     }
-    match socket.stream.read(out) {
+    match again::read(&mut socket.stream, out) {
         Ok(0) => StreamRead::End,
         Ok(n) => StreamRead::Got(n),
         Err(e) => match e.kind() {
@@ -238,7 +304,6 @@ fn read_once(socket: &mut Socket, out: &mut [u8], polls: u64) -> StreamRead
                 socket.input.wait(polls);
                 StreamRead::Again
             }
-            ErrorKind::Interrupted => StreamRead::Again,
             ErrorKind::ConnectionReset => StreamRead::End,
             _ => StreamRead::Failed,
         },
@@ -249,7 +314,7 @@ fn read_once(socket: &mut Socket, out: &mut [u8], polls: u64) -> StreamRead
 fn write_once(socket: &mut Socket, bytes: &[u8], polls: u64) -> StreamWrite
     ensures { TakesSome result (length bytes.now) }
 {
-    match socket.stream.write(bytes) {
+    match again::write(&mut socket.stream, bytes) {
         Ok(0) => StreamWrite::Again,
         Ok(n) => StreamWrite::Took(n),
         Err(e) => match e.kind() {
@@ -257,7 +322,6 @@ fn write_once(socket: &mut Socket, bytes: &[u8], polls: u64) -> StreamWrite
                 socket.output.wait(polls);
                 StreamWrite::Again
             }
-            ErrorKind::Interrupted => StreamWrite::Again,
             ErrorKind::BrokenPipe | ErrorKind::ConnectionReset => StreamWrite::Closed,
             _ => StreamWrite::Failed,
         },

@@ -1,4 +1,5 @@
 //! Standard input as a source, standard output as a sink.
+use crate::again;
 use std::io::{Read, Write};
 use vs_outside::{Sink, SinkWrite, Source, SourceRead};
 
@@ -24,7 +25,7 @@ impl<R: Read> Source for ReadSource<R> {
     ghost contents = { λ _. None };
 
     fn read(&mut self, out: &mut [u8]) -> SourceRead {
-        match self.reader.read(out) {
+        match again::read(&mut self.reader, out) {
             Ok(0) => SourceRead::End,
             Ok(n) => SourceRead::Got(n),
             Err(_) => {
@@ -57,7 +58,7 @@ impl<W: Write> Sink for WriteSink<W> {
     ghost contents = { λ _. None };
 
     fn write(&mut self, bytes: &[u8]) -> SinkWrite {
-        match self.writer.write(bytes) {
+        match again::write(&mut self.writer, bytes) {
             Ok(n) if n > 0 => SinkWrite::Took(n),
             _ => {
                 self.faults = self.faults.saturating_add(1);

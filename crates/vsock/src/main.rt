@@ -1,14 +1,14 @@
 //! The program `vsock`: makes the real world outside, and calls `vs_run`.
 #![tactic(auto)]
 
-use std::alloc::{AllocError, AllocGlobal, Global};
+use std::alloc::{AllocError, AllocGlobal};
 use std::env::{self, Env};
 use std::fs::Files;
 use std::io::{self, ErrorKind};
 use std::net::Net;
 use std::process::ExitCode;
 use std::time::Clock;
-use vs_real::{MachineClock, ReadSource, UnixHost, WriteSink, YieldGate};
+use vs_real::{BackoffGate, MachineClock, ReadSource, UnixHost, WriteSink};
 use vs_run::{host_fault, no_memory, vsock_main};
 
 /// The gates of the threads of a run: one for each of 64 apps, and one for the thread that turns the device.
@@ -16,7 +16,7 @@ const GATES: usize = 65;
 
 fn main(rt: HostRuntime) -> ExitCode {
     let mut out = WriteSink::new(io::writer(&rt));
-    let (words, mut host, mut clock, gates) = match outside(&rt) {
+    let (words, mut host, mut clock, mut gate, gates) = match outside(&rt) {
         Ok(outside) => outside,
         Err(e) if e.kind() == ErrorKind::OutOfMemory => {
             return ExitCode::from(no_memory(&mut out));
@@ -24,8 +24,7 @@ fn main(rt: HostRuntime) -> ExitCode {
         Err(_) => return ExitCode::from(host_fault(&mut out)),
     };
     let mut script = ReadSource::new(rt.stdin());
-    let mut gate = YieldGate::new();
-    ExitCode::from(vsock_main(
+    let status = vsock_main(
         &rt,
         &words,
         &mut script,
@@ -34,26 +33,42 @@ fn main(rt: HostRuntime) -> ExitCode {
         &mut gate,
         gates,
         &mut out,
-    ))
+    );
+    if let Some(error) = host.start_error() {
+        let _ = eprintln!(rt; "vsock: no socket at the base path: {error}");
+    }
+    ExitCode::from(status)
 }
 
-/// The program's words, the host's sockets, the clock, and the gates of a run. The error is want of memory, or that the system gives no poll or no clock.
+/// The program's words, the host's sockets, the clock, a client's gate, and the gates of a run. The error is want of memory, or that the
+/// system gives no poll or no clock.
 fn outside<R: AllocGlobal + Env + Net + Files + Clock + Clone + Drop>(
     rt: &R,
-) -> io::Result<(Vec<String>, UnixHost<R>, MachineClock<R>, Vec<YieldGate>)> {
+) -> io::Result<
+    (
+        Vec<String>,
+        UnixHost<R>,
+        MachineClock<R>,
+        BackoffGate<R>,
+        Vec<BackoffGate<R>>,
+    ),
+> {
+    let host = UnixHost::new(rt.clone()?)?;
+    let gate = BackoffGate::beside(rt.clone()?, host.moves()?);
     Ok((
         words(rt)?,
-        UnixHost::new(rt.clone()?)?,
+        host,
         MachineClock::new(rt.clone()?)?,
-        gates(rt.alloc())?,
+        gate,
+        gates(rt)?,
     ))
 }
 
 /// The gates of a run.
-fn gates(alloc: Global) -> Result<Vec<YieldGate>, AllocError> {
-    let mut gates = Vec::new(alloc);
+fn gates<R: AllocGlobal + Clock + Clone + Drop>(rt: &R) -> Result<Vec<BackoffGate<R>>, AllocError> {
+    let mut gates = Vec::new(rt.alloc());
     for _ in 0..GATES {
-        gates.push(YieldGate::new())?;
+        gates.push(BackoffGate::new(rt.clone()?))?;
     }
     Ok(gates)
 }

@@ -1,0 +1,90 @@
+//! The host's end of bench/run, with calls of 4,096 bytes. Each prints how many bytes passed, and the seconds from the first to the last.
+//!
+//! plain pair BYTES: a copy over a socket pair, between two threads.
+//! plain read PATH BYTES: listens at PATH, and reads of its one client to the end.
+//! plain write PATH BYTES: connects to PATH, asks for port 52 until it is answered by OK, writes, and reads to the end.
+
+use std::env;
+use std::io::{self, Read, Write};
+use std::os::unix::net::{UnixListener, UnixStream};
+use std::thread;
+use std::time::{Duration, Instant};
+
+const PIECE: usize = 4096;
+
+fn read_all(stream: &mut UnixStream) -> io::Result<usize> {
+    let mut piece = [0; PIECE];
+    let mut count = 0;
+    loop {
+        match stream.read(&mut piece)? {
+            0 => return Ok(count),
+            n => count += n,
+        }
+    }
+}
+
+fn write_all(stream: &mut UnixStream, bytes: usize) -> io::Result<()> {
+    let piece = [7; PIECE];
+    let mut left = bytes;
+    while left > 0 {
+        left -= stream.write(&piece[..left.min(PIECE)])?;
+    }
+    Ok(())
+}
+
+fn pair(bytes: usize) -> io::Result<(usize, Duration)> {
+    let (mut one, mut other) = UnixStream::pair()?;
+    let begun = Instant::now();
+    let writer = thread::spawn(move || write_all(&mut one, bytes));
+    let count = read_all(&mut other)?;
+    writer.join().expect("the writer ends")?;
+    Ok((count, begun.elapsed()))
+}
+
+fn read(path: &str) -> io::Result<(usize, Duration)> {
+    let (mut stream, _) = UnixListener::bind(path)?.accept()?;
+    let begun = Instant::now();
+    let count = read_all(&mut stream)?;
+    Ok((count, begun.elapsed()))
+}
+
+/// A connection that was answered. Until an app listens, clients are closed without an answer.
+fn answered(path: &str) -> io::Result<UnixStream> {
+    for _ in 0..10_000 {
+        let mut stream = UnixStream::connect(path)?;
+        stream.write_all(b"CONNECT 52\n")?;
+        let mut byte = [0];
+        let mut line = Vec::new();
+        while matches!(stream.read(&mut byte), Ok(1)) {
+            line.push(byte[0]);
+            if byte[0] == b'\n' && line.starts_with(b"OK ") {
+                return Ok(stream);
+            }
+        }
+        thread::sleep(Duration::from_millis(1));
+    }
+    Err(io::Error::other("nobody answers"))
+}
+
+fn write(path: &str, bytes: usize) -> io::Result<(usize, Duration)> {
+    let mut stream = answered(path)?;
+    let begun = Instant::now();
+    write_all(&mut stream, bytes)?;
+    stream.shutdown(std::net::Shutdown::Write)?;
+    read_all(&mut stream)?;
+    Ok((bytes, begun.elapsed()))
+}
+
+fn main() -> io::Result<()> {
+    let words: Vec<String> = env::args().skip(1).collect();
+    let words: Vec<&str> = words.iter().map(String::as_str).collect();
+    let bytes = words.last().and_then(|it| it.parse().ok()).expect("how many bytes");
+    let (count, took) = match words[..] {
+        ["pair", _] => pair(bytes)?,
+        ["read", path, _] => read(path)?,
+        ["write", path, _] => write(path, bytes)?,
+        _ => return Err(io::Error::other("pair BYTES, read PATH BYTES or write PATH BYTES")),
+    };
+    println!("{count} {}", took.as_secs_f64());
+    Ok(())
+}
