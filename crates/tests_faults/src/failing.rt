@@ -43,6 +43,24 @@ fn text_of(alloc: Global, source: &str, called: Called, n: u64) -> Result<String
     }
 }
 
+/// A source of this text, whose nth call fails where it is the one called.
+fn source_of(alloc: Global, text: String, called: Called, n: u64) -> Result<MemSource, AllocError> {
+    let mut source = MemSource::new(alloc, text.into_bytes(), 16);
+    if matches!(called, Called::Source) {
+        source.fail(n)?;
+    }
+    Ok(source)
+}
+
+/// A sink of which the same is so.
+fn sink_of(alloc: Global, called: Called, n: u64) -> Result<MemSink, AllocError> {
+    let mut sink = MemSink::new(alloc, 4096);
+    if matches!(called, Called::Sink) {
+        sink.fail(n)?;
+    }
+    Ok(sink)
+}
+
 /// A stream that gives an OK line and `hi`, and ends.
 fn answered(alloc: Global) -> Result<PreparedStream, AllocError> {
     Ok(PreparedStream {
@@ -51,6 +69,18 @@ fn answered(alloc: Global) -> Result<PreparedStream, AllocError> {
         room: None,
         closed: false,
     })
+}
+
+/// A host of which the same is so, with such streams at this path.
+fn host_of(alloc: Global, path: &str, called: Called, n: u64) -> Result<PeerHost, AllocError> {
+    let mut host = PeerHost::new(alloc, path, answered(alloc)?)?;
+    if matches!(called, Called::Start) {
+        host.fail_start(n)?;
+    }
+    if matches!(called, Called::Host) {
+        host.fail(n)?;
+    }
+    Ok(host)
 }
 
 /// The status of a command whose nth call fails, and what it prints.
@@ -63,22 +93,15 @@ pub fn failing<R: AllocGlobal + Wait + Threads + Sync>(
     let alloc = rt.alloc();
     let words = words_of(alloc, command.line)?;
     let text = text_of(alloc, command.source, called, n)?;
-    let mut source = MemSource::new(alloc, text.into_bytes(), 16);
-    let mut host = PeerHost::new(alloc, command.path, answered(alloc)?)?;
-    let mut sink = MemSink::new(alloc, 4096);
-    match called {
-        Called::Source => source.fail(n)?,
-        Called::Sink => sink.fail(n)?,
-        Called::Start => host.fail_start(n)?,
-        Called::Host => host.fail(n)?,
-        Called::OwnHost => {}
-    }
-    let status = ended(rt, &words, &mut source, &mut host, &mut sink);
+    let mut source = source_of(alloc, text, called, n)?;
+    let mut sink = sink_of(alloc, called, n)?;
+    let mut host = host_of(alloc, command.path, called, n)?;
+    let status = status_of(rt, &words, &mut source, &mut host, &mut sink);
     Ok((status, sink))
 }
 
 /// The status of these words, on one thread.
-fn ended<R: AllocGlobal + Wait + Threads + Sync>(
+fn status_of<R: AllocGlobal + Wait + Threads + Sync>(
     rt: &R,
     words: &[String],
     source: &mut MemSource,

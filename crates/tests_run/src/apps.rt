@@ -1,6 +1,6 @@
 //! Runs of one app each, over a host whose program gives bytes, ends its streams, or takes only so much.
 
-use crate::running::{Case, NONE_OPEN, ONE_OPEN, commanded};
+use crate::running::{Case, Ended, NONE_OPEN, ONE_OPEN, commanded};
 use std::alloc::{AllocError, AllocGlobal, Global};
 use std::sync::Wait;
 use std::test::Fail;
@@ -21,6 +21,18 @@ fn host_of(alloc: Global, stream: &Stream) -> Result<PeerHost, AllocError> {
     PeerHost::new(alloc, "v.sock_52", prepared)
 }
 
+/// How a run over such a host ends, on so many threads.
+fn ran<R: AllocGlobal + Threads + Wait + Sync>(
+    rt: &R,
+    line: &str,
+    script: &str,
+    threads: u32,
+    stream: &Stream,
+) -> Result<Ended, AllocError> {
+    let mut host = host_of(rt.alloc(), stream)?;
+    commanded(rt, line, script, threads, &mut host)
+}
+
 /// Whether each of these runs ends as told, on so many threads.
 fn end<R: AllocGlobal + Threads + Wait + Sync>(
     rt: &R,
@@ -29,8 +41,7 @@ fn end<R: AllocGlobal + Threads + Wait + Sync>(
     threads: u32,
 ) -> Result<bool, AllocError> {
     for (stream, case) in cases {
-        let mut host = host_of(rt.alloc(), stream)?;
-        if !commanded(rt, line, case.0, threads, &mut host)?.is(case.1, case.2, case.3) {
+        if !ran(rt, line, case.0, threads, stream)?.is(case.1, case.2, case.3) {
             return Ok(false);
         }
     }

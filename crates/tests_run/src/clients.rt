@@ -1,40 +1,51 @@
 //! Runs of apps that clients of the host reach.
 
-use crate::running::{Case, NONE_OPEN, ONE_OPEN, commanded};
-use std::alloc::{AllocError, AllocGlobal, Global};
+use crate::running::{Case, Ended, NONE_OPEN, ONE_OPEN, commanded, listening};
+use std::alloc::{AllocError, AllocGlobal};
 use std::sync::Wait;
 use std::test::Fail;
 use std::thread::Threads;
-use vs_header::Kind;
 use vs_outside::MemHost;
 
 /// What a client writes, and whether it ends behind that.
 type Client = (&'static str, bool);
 
-/// A host with a client that writes nothing, and behind it this one. The device accepts one a turn, so an app that listens in its first step
-/// does so before the second client asks. Port 52 is listened on.
-fn host_of(alloc: Global, client: &Client) -> Result<MemHost, AllocError> {
-    let mut host = MemHost::new(alloc, "v.sock")?;
-    host.listen(52, Kind::Stream)?;
+/// A client that writes nothing comes, and behind it this one. The device accepts one a turn, so an app that listens in its first step does
+/// so before the second client asks.
+fn add_clients(host: &mut MemHost, client: &Client) -> Result<(), AllocError> {
     host.client()?;
     let id = host.client()?;
     host.host_write(id, client.0.as_bytes())?;
     if client.1 {
         host.end(id);
     }
-    Ok(host)
+    Ok(())
 }
 
-/// Whether each of these runs ends as told, on so many threads.
+/// How a run on one thread ends that this client reaches.
+fn reached<R: AllocGlobal + Threads + Wait + Sync>(
+    rt: &R,
+    script: &str,
+    client: &Client,
+) -> Result<Ended, AllocError> {
+    let mut host = listening(rt.alloc())?;
+    add_clients(&mut host, client)?;
+    commanded(
+        rt,
+        "vsock run --base v.sock --idle 100",
+        script,
+        0,
+        &mut host,
+    )
+}
+
+/// Whether each of these runs ends as told.
 fn end<R: AllocGlobal + Threads + Wait + Sync>(
     rt: &R,
     cases: &[(Client, Case<'_>)],
-    threads: u32,
 ) -> Result<bool, AllocError> {
     for (client, case) in cases {
-        let mut host = host_of(rt.alloc(), client)?;
-        let line = "vsock run --base v.sock --idle 100";
-        if !commanded(rt, line, case.0, threads, &mut host)?.is(case.1, case.2, case.3) {
+        if !reached(rt, case.0, client)?.is(case.1, case.2, case.3) {
             return Ok(false);
         }
     }
@@ -102,6 +113,6 @@ const CASES: [(Client, Case<'static>); 7] = [
 
 #[test]
 fn clients_reach_apps(rt: HostRuntime) -> Result<(), Fail> {
-    assert!(rt; end(&rt, &CASES, 0)?);
+    assert!(rt; end(&rt, &CASES)?);
     Ok(())
 }

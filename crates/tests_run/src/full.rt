@@ -1,13 +1,11 @@
 //! Runs of apps whose connections fill the tables.
 
-use crate::running::{ALL_OPEN, commanded};
+use crate::running::{ALL_OPEN, Ended, ran};
 use std::alloc::{AllocError, AllocGlobal, Global};
 use std::fmt::Write;
 use std::sync::Wait;
 use std::test::Fail;
 use std::thread::Threads;
-use vs_header::Kind;
-use vs_outside::MemHost;
 
 /// The lines of so many connections from guest port 1024 on, on which nothing passed, behind that line.
 fn report_of(alloc: Global, line: &str, conns: u32) -> Result<String, AllocError> {
@@ -18,8 +16,28 @@ fn report_of(alloc: Global, line: &str, conns: u32) -> Result<String, AllocError
     Ok(text)
 }
 
-/// Whether an app that asks for 64 connections, and then does this, ends with that status and as many open. Told of are a line for the app,
-/// and so many connections.
+/// An app that asks for 64 connections, and then does this.
+fn script_of(alloc: Global, rest: &str) -> Result<String, AllocError> {
+    let mut script = String::from_str(alloc, "app\n")?;
+    for _ in 0..64u32 {
+        script.push_str("connect 52\n")?;
+    }
+    script.push_str(rest)?;
+    Ok(script)
+}
+
+/// How such an app ends, on so many threads.
+fn asked<R: AllocGlobal + Threads + Wait + Sync>(
+    rt: &R,
+    line: &str,
+    rest: &str,
+    threads: u32,
+) -> Result<Ended, AllocError> {
+    let script = script_of(rt.alloc(), rest)?;
+    ran(rt, line, script.as_str(), threads)
+}
+
+/// Whether it ends with that status and 64 connections open. Told of are a line for the app, and so many connections.
 fn ends<R: AllocGlobal + Threads + Wait + Sync>(
     rt: &R,
     line: &str,
@@ -28,20 +46,8 @@ fn ends<R: AllocGlobal + Threads + Wait + Sync>(
     told: (&str, u32),
     threads: u32,
 ) -> Result<bool, AllocError> {
-    let alloc = rt.alloc();
-    let mut script = String::from_str(alloc, "app\n")?;
-    for _ in 0..64u32 {
-        script.push_str("connect 52\n")?;
-    }
-    script.push_str(rest)?;
-    let mut host = MemHost::new(alloc, "v.sock")?;
-    host.listen(52, Kind::Stream)?;
-    let report = report_of(alloc, told.0, told.1)?;
-    Ok(commanded(rt, line, script.as_str(), threads, &mut host)?.is(
-        status,
-        report.as_str(),
-        ALL_OPEN,
-    ))
+    let report = report_of(rt.alloc(), told.0, told.1)?;
+    Ok(asked(rt, line, rest, threads)?.is(status, report.as_str(), ALL_OPEN))
 }
 
 const LINES: [&str; 2] = [

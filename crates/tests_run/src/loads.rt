@@ -1,11 +1,10 @@
 //! Loads, whose line doesn't depend on how their threads go beside each other.
 
-use crate::running::commanded;
+use crate::running::ran;
 use std::alloc::{AllocError, AllocGlobal};
 use std::sync::Wait;
 use std::test::Fail;
 use std::thread::Threads;
-use vs_outside::MemHost;
 
 /// Whether each of these loads prints its line, on so many threads.
 fn are_printed<R: AllocGlobal + Threads + Wait + Sync>(
@@ -14,8 +13,7 @@ fn are_printed<R: AllocGlobal + Threads + Wait + Sync>(
     threads: u32,
 ) -> Result<bool, AllocError> {
     for (line, printed) in loads {
-        let mut host = MemHost::new(rt.alloc(), "v.sock")?;
-        if !commanded(rt, line, "", threads, &mut host)?.is(0, printed, "") {
+        if !ran(rt, line, "", threads)?.is(0, printed, "") {
             return Ok(false);
         }
     }

@@ -1,41 +1,31 @@
 //! Small runs over a host in memory that listens on port 52.
 
-use crate::running::{Case, Ended, NONE_OPEN, ONE_OPEN, commanded};
+use crate::running::{Case, Ended, NONE_OPEN, ONE_OPEN, commanded, listening, ran};
 use std::alloc::{AllocError, AllocGlobal};
 use std::sync::Wait;
 use std::test::Fail;
 use std::thread::Threads;
-use vs_header::Kind;
-use vs_outside::MemHost;
 
-/// How a run ends on so many threads; the nth start of its host fails, none where that is 0.
-fn ran<R: AllocGlobal + Threads + Wait + Sync>(
-    rt: &R,
-    line: &str,
-    script: &str,
-    threads: u32,
-    n: u64,
-) -> Result<Ended, AllocError> {
-    let mut host = MemHost::new(rt.alloc(), "v.sock")?;
-    host.listen(52, Kind::Stream)?;
-    host.fail_start(n)?;
-    commanded(rt, line, script, threads, &mut host)
-}
-
-/// Whether each of these runs ends as told.
+/// Whether each of these runs ends as told, on so many threads.
 fn end<R: AllocGlobal + Threads + Wait + Sync>(
     rt: &R,
     line: &str,
     cases: &[Case<'_>],
     threads: u32,
-    n: u64,
 ) -> Result<bool, AllocError> {
     for (script, status, printed, last) in cases {
-        if !ran(rt, line, script, threads, n)?.is(*status, printed, last) {
+        if !ran(rt, line, script, threads)?.is(*status, printed, last) {
             return Ok(false);
         }
     }
     Ok(true)
+}
+
+/// How a run ends whose host doesn't start.
+fn not_started<R: AllocGlobal + Threads + Wait + Sync>(rt: &R) -> Result<Ended, AllocError> {
+    let mut host = listening(rt.alloc())?;
+    host.fail_start(1)?;
+    commanded(rt, RUN, HELLO, 0, &mut host)
 }
 
 const RUN: &str = "vsock run --base v.sock";
@@ -75,14 +65,14 @@ const ENDS: [Case<'static>; 6] = [
 
 #[test]
 fn small_runs_print_their_report(rt: HostRuntime) -> Result<(), Fail> {
-    assert!(rt; end(&rt, RUN, &ENDS, 0, 0)?);
-    assert!(rt; end(&rt, RUN, &ENDS, 4, 0)?);
+    assert!(rt; end(&rt, RUN, &ENDS, 0)?);
+    assert!(rt; end(&rt, RUN, &ENDS, 4)?);
     Ok(())
 }
 
 #[test]
 fn a_host_that_does_not_start(rt: HostRuntime) -> Result<(), Fail> {
-    assert!(rt; end(&rt, RUN, &[(HELLO, 6, "host fault\n", "")], 0, 1)?);
+    assert!(rt; not_started(&rt)?.is(6, "host fault\n", ""));
     Ok(())
 }
 
@@ -90,7 +80,12 @@ fn a_host_that_does_not_start(rt: HostRuntime) -> Result<(), Fail> {
 #[test]
 fn an_app_waits_as_often_as_it_may(rt: HostRuntime) -> Result<(), Fail> {
     let printed = "app 1 waited 3 empty at 2\nconn 1024 52 sent 0 received 0 -\n";
-    let waits = ("app\nconnect 52\nrecv 1\n", 5, printed, ONE_OPEN);
-    assert!(rt; end(&rt, "vsock run --base v.sock --idle 3", &[waits], 0, 0)?);
+    let waits = ran(
+        &rt,
+        "vsock run --base v.sock --idle 3",
+        "app\nconnect 52\nrecv 1\n",
+        0,
+    )?;
+    assert!(rt; waits.is(5, printed, ONE_OPEN));
     Ok(())
 }

@@ -3,7 +3,8 @@
 use std::alloc::{AllocError, AllocGlobal, Global};
 use std::sync::Wait;
 use std::thread::Threads;
-use vs_outside::{HostNet, MemSink, MemSource, StepClock};
+use vs_header::Kind;
+use vs_outside::{HostNet, MemHost, MemSink, MemSource, StepClock};
 use vs_real::YieldGate;
 use vs_run::vsock_main;
 
@@ -63,12 +64,12 @@ pub fn commanded<R: AllocGlobal + Threads + Wait + Sync, H: HostNet>(
     let gates = gates(alloc, threads)?;
     let mut source = MemSource::new(alloc, Vec::from_slice(alloc, source.as_bytes())?, 100);
     let mut sink = MemSink::new(alloc, 4096);
-    let status = ended(rt, &words, &mut source, host, gates, &mut sink);
+    let status = status_of(rt, &words, &mut source, host, gates, &mut sink);
     Ok(Ended { status, sink })
 }
 
 /// The status of these words.
-fn ended<R: AllocGlobal + Threads + Wait + Sync, H: HostNet>(
+fn status_of<R: AllocGlobal + Threads + Wait + Sync, H: HostNet>(
     rt: &R,
     words: &[String],
     source: &mut MemSource,
@@ -79,4 +80,22 @@ fn ended<R: AllocGlobal + Threads + Wait + Sync, H: HostNet>(
     let mut clock = StepClock::new();
     let mut gate = YieldGate::new();
     vsock_main(rt, words, source, host, &mut clock, &mut gate, gates, sink)
+}
+
+/// A host in memory that listens on port 52 alone, takes all that its streams are given, and gives nothing.
+pub fn listening(alloc: Global) -> Result<MemHost, AllocError> {
+    let mut host = MemHost::new(alloc, "v.sock")?;
+    host.listen(52, Kind::Stream)?;
+    Ok(host)
+}
+
+/// How a command line ends over this source and such a host, on so many threads.
+pub fn ran<R: AllocGlobal + Threads + Wait + Sync>(
+    rt: &R,
+    line: &str,
+    source: &str,
+    threads: u32,
+) -> Result<Ended, AllocError> {
+    let mut host = listening(rt.alloc())?;
+    commanded(rt, line, source, threads, &mut host)
 }
