@@ -1,0 +1,115 @@
+//! The command over a source, a sink and a host of which one call fails.
+
+use std::alloc::{AllocError, AllocGlobal, Global};
+use std::sync::Wait;
+use std::thread::Threads;
+use vs_outside::{FreeGate, MemSink, MemSource, PeerHost, PreparedStream, StepClock};
+use vs_run::vsock_main;
+
+/// A command: its words, what its source holds, and the one path at which its host takes a dial.
+pub struct Command {
+    pub line: &'static str,
+    pub source: &'static str,
+    pub path: &'static str,
+}
+
+/// Whose calls fail.
+#[derive(Clone, Copy)]
+pub enum Called {
+    Source,
+    Sink,
+    /// The host that is handed in: its starts alone.
+    Start,
+    /// The same: its other calls.
+    Host,
+    /// The host that a play has of its own: a line more at the script's head says so.
+    OwnHost,
+}
+
+/// The words of a command line, the program's name first.
+fn words_of(alloc: Global, line: &str) -> Result<Vec<String>, AllocError> {
+    let mut words = Vec::new(alloc);
+    for word in line.split_ascii_whitespace() {
+        words.push(String::from_str(alloc, word)?)?;
+    }
+    Ok(words)
+}
+
+/// What the source holds of a command whose nth call fails.
+fn text_of(alloc: Global, source: &str, called: Called, n: u64) -> Result<String, AllocError> {
+    match called {
+        Called::OwnHost => format!(in alloc; "host fail {n}\n{source}"),
+        _ => String::from_str(alloc, source),
+    }
+}
+
+/// A source of this text, whose nth call fails where it is the one called.
+fn source_of(alloc: Global, text: String, called: Called, n: u64) -> Result<MemSource, AllocError> {
+    let mut source = MemSource::new(alloc, text.into_bytes(), 16);
+    if matches!(called, Called::Source) {
+        source.fail(n)?;
+    }
+    Ok(source)
+}
+
+/// A sink of which the same is so.
+fn sink_of(alloc: Global, called: Called, n: u64) -> Result<MemSink, AllocError> {
+    let mut sink = MemSink::new(alloc, 4096);
+    if matches!(called, Called::Sink) {
+        sink.fail(n)?;
+    }
+    Ok(sink)
+}
+
+/// A stream that gives an OK line and `hi`, and ends.
+fn answered(alloc: Global) -> Result<PreparedStream, AllocError> {
+    Ok(PreparedStream {
+        bytes: Vec::from_slice(alloc, b"OK 1073741824\nhi")?,
+        ended: true,
+        room: None,
+        closed: false,
+    })
+}
+
+/// A host of which the same is so, with such streams at this path.
+fn host_of(alloc: Global, path: &str, called: Called, n: u64) -> Result<PeerHost, AllocError> {
+    let mut host = PeerHost::new(alloc, path, answered(alloc)?)?;
+    if matches!(called, Called::Start) {
+        host.fail_start(n)?;
+    }
+    if matches!(called, Called::Host) {
+        host.fail(n)?;
+    }
+    Ok(host)
+}
+
+/// The status of a command whose nth call fails, and what it prints.
+pub fn failing<R: AllocGlobal + Wait + Threads + Sync>(
+    rt: &R,
+    command: &Command,
+    called: Called,
+    n: u64,
+) -> Result<(u8, MemSink), AllocError> {
+    let alloc = rt.alloc();
+    let words = words_of(alloc, command.line)?;
+    let text = text_of(alloc, command.source, called, n)?;
+    let mut source = source_of(alloc, text, called, n)?;
+    let mut sink = sink_of(alloc, called, n)?;
+    let mut host = host_of(alloc, command.path, called, n)?;
+    let status = status_of(rt, &words, &mut source, &mut host, &mut sink);
+    Ok((status, sink))
+}
+
+/// The status of these words, on one thread.
+fn status_of<R: AllocGlobal + Wait + Threads + Sync>(
+    rt: &R,
+    words: &[String],
+    source: &mut MemSource,
+    host: &mut PeerHost,
+    sink: &mut MemSink,
+) -> u8 {
+    let mut clock = StepClock::new();
+    let mut gate = FreeGate::new();
+    let gates = Vec::new(rt.alloc());
+    vsock_main(rt, words, source, host, &mut clock, &mut gate, gates, sink)
+}

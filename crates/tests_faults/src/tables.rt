@@ -1,0 +1,213 @@
+//! How commands end of which one call fails.
+
+use crate::failing::{Called, Command, failing};
+use std::alloc::{AllocError, AllocGlobal};
+use std::sync::Wait;
+use std::test::Fail;
+use std::thread::Threads;
+
+/// So many calls; the status of a command of which one of these fails, and what it prints, in two parts.
+type Row = (u64, u8, &'static str, &'static str);
+
+/// The last line of a report of which no call of a host failed, and of which one did.
+const COUNTED: &str = "dropped 0 overrun 0 broken 0 faults 0\n";
+
+const FAULT_COUNTED: &str = "dropped 0 overrun 0 broken 0 faults 1\n";
+
+/// Whether a command ends as these rows say, whichever call fails: those of the first row are its first calls, and so on. The last row is
+/// that of a call that isn't made.
+fn ends<R: AllocGlobal + Wait + Threads + Sync>(
+    rt: &R,
+    command: &Command,
+    called: Called,
+    rows: &[Row],
+) -> Result<bool, AllocError> {
+    let mut n = 0u64;
+    for (calls, status, printed, last) in rows {
+        for _ in 0..*calls {
+            n = n.saturating_add(1);
+            let (ended, sink) = failing(rt, command, called, n)?;
+            if ended != *status
+                || sink.bytes().strip_suffix(last.as_bytes()) != Some(printed.as_bytes())
+            {
+                return Ok(false);
+            }
+        }
+    }
+    Ok(true)
+}
+
+/// Whether a command that gives its sink these pieces, and no more, ends with status 4 behind those before the one that fails.
+fn is_cut_off<R: AllocGlobal + Wait + Threads + Sync>(
+    rt: &R,
+    command: &Command,
+    pieces: &[&str],
+) -> Result<bool, AllocError> {
+    let mut n = 1u64;
+    let mut before = String::new(rt.alloc());
+    for piece in pieces {
+        let (ended, sink) = failing(rt, command, Called::Sink, n)?;
+        if ended != 4 || sink.bytes() != before.as_bytes() {
+            return Ok(false);
+        }
+        before.push_str(piece)?;
+        n = n.saturating_add(1);
+    }
+    let (ended, sink) = failing(rt, command, Called::Sink, n)?;
+    Ok(ended == 0 && sink.bytes() == before.as_bytes())
+}
+
+const PLAY: Command = Command {
+    line: "vsock play",
+    source: "host listen 52\nconnect 52\nturn\npoll\nhost write 1 7969\nsend 1 6869\nturn\npoll\nrecv 1 9\n",
+    path: "v.sock",
+};
+
+const PLAY_PIECES: [&str; 13] = [
+    "ok\n",
+    "conn 1 on 1024 52\n",
+    "turned 1 1 0 0 1 0\n",
+    "polled 1 0 0\n",
+    "ok\n",
+    "took 2\n",
+    "turned 1 1 2 2 0 0\n",
+    "polled 1 0 0\n",
+    "got 2 7969\n",
+    "guest open 1\n",
+    "device open 1\n",
+    "stream 1 1024 52 wrote 2 7969 read 2 6869\n",
+    COUNTED,
+];
+
+const PLAY_READS: [Row; 2] = [
+    (7, 3, "read fault\n", ""),
+    (
+        1,
+        0,
+        "ok\nconn 1 on 1024 52\nturned 1 1 0 0 1 0\npolled 1 0 0\nok\ntook 2\nturned 1 1 2 2 0 0\npolled 1 0 0\ngot 2 7969\n\
+         guest open 1\ndevice open 1\nstream 1 1024 52 wrote 2 7969 read 2 6869\n",
+        COUNTED,
+    ),
+];
+
+/// What the play prints behind the answer of `host fail`, where no stream fails.
+const PLAY_WHOLE: &str =
+    "ok\nok\nconn 1 on 1024 52\nturned 1 1 0 0 1 0\npolled 1 0 0\nok\ntook 2\nturned 1 1 2 2 0 0\npolled 1 0 0\ngot 2 7969\n\
+     guest open 1\ndevice open 1\nstream 1 1024 52 wrote 2 7969 read 2 6869\n";
+
+const PLAY_HOST: [Row; 5] = [
+    // The dial.
+    (
+        1,
+        0,
+        "ok\nok\nconn 1 on 1024 52\nturned 1 1 0 0 0 0\npolled 1 0 0\nno stream\nreset\nturned 0 0 0 0 0 0\npolled 0 0 0\nreset\n\
+         guest open 0\ndevice open 0\n",
+        FAULT_COUNTED,
+    ),
+    // The accepts of both turns.
+    (2, 0, PLAY_WHOLE, FAULT_COUNTED),
+    // The write.
+    (
+        1,
+        0,
+        "ok\nok\nconn 1 on 1024 52\nturned 1 1 0 0 1 0\npolled 1 0 0\nok\ntook 2\nturned 1 1 0 0 0 1\npolled 1 0 0\nreset\n\
+         guest open 0\ndevice open 0\nstream 1 1024 52 wrote 0 - read 0 -\n",
+        FAULT_COUNTED,
+    ),
+    // The read.
+    (
+        1,
+        0,
+        "ok\nok\nconn 1 on 1024 52\nturned 1 1 0 0 1 0\npolled 1 0 0\nok\ntook 2\nturned 1 1 0 2 0 1\npolled 1 0 0\nreset\n\
+         guest open 0\ndevice open 0\nstream 1 1024 52 wrote 0 - read 2 6869\n",
+        FAULT_COUNTED,
+    ),
+    (1, 0, PLAY_WHOLE, COUNTED),
+];
+
+#[test]
+fn each_call_of_a_play_fails_once(rt: HostRuntime) -> Result<(), Fail> {
+    assert!(rt; ends(&rt, &PLAY, Called::Source, &PLAY_READS)?);
+    assert!(rt; is_cut_off(&rt, &PLAY, &PLAY_PIECES)?);
+    assert!(rt; ends(&rt, &PLAY, Called::OwnHost, &PLAY_HOST)?);
+    Ok(())
+}
+
+const RUN: Command = Command {
+    line: "vsock run --base v.sock",
+    source: "app\nconnect 52\nsend 68656c6c6f\ndrain\nclose\n",
+    path: "v.sock_52",
+};
+
+const RUN_PIECES: [&str; 5] = [
+    "app 1 done\n",
+    "conn 1024 52 sent 5 received 16 4f4b20313037333734313832340a6869\n",
+    "guest open 0\n",
+    "device open 0\n",
+    COUNTED,
+];
+
+const RUN_WHOLE: &str =
+    "app 1 done\nconn 1024 52 sent 5 received 16 4f4b20313037333734313832340a6869\nguest open 0\ndevice open 0\n";
+
+/// What the run prints where its connection ended before anything passed.
+const RUN_REFUSED: &str =
+    "app 1 done\nconn 1024 52 sent 0 received 0 -\nguest open 0\ndevice open 0\n";
+
+const RUN_READS: [Row; 2] = [(4, 3, "read fault\n", ""), (1, 0, RUN_WHOLE, COUNTED)];
+
+const RUN_START: [Row; 2] = [(1, 6, "host fault\n", ""), (1, 0, RUN_WHOLE, COUNTED)];
+
+const RUN_HOST: [Row; 6] = [
+    // The accept of the first turn.
+    (1, 0, RUN_WHOLE, FAULT_COUNTED),
+    // The dial.
+    (1, 0, RUN_REFUSED, FAULT_COUNTED),
+    // The accepts of two turns.
+    (2, 0, RUN_WHOLE, FAULT_COUNTED),
+    // The read, before the app sends.
+    (1, 0, RUN_REFUSED, FAULT_COUNTED),
+    // An accept; the write and the read of the end, once the app has all bytes; and the accepts of the last five turns.
+    (8, 0, RUN_WHOLE, FAULT_COUNTED),
+    (1, 0, RUN_WHOLE, COUNTED),
+];
+
+#[test]
+fn each_call_of_a_run_fails_once(rt: HostRuntime) -> Result<(), Fail> {
+    assert!(rt; ends(&rt, &RUN, Called::Source, &RUN_READS)?);
+    assert!(rt; is_cut_off(&rt, &RUN, &RUN_PIECES)?);
+    assert!(rt; ends(&rt, &RUN, Called::Start, &RUN_START)?);
+    assert!(rt; ends(&rt, &RUN, Called::Host, &RUN_HOST)?);
+    Ok(())
+}
+
+const PEER: Command = Command {
+    line: "vsock peer --base v.sock --port 70",
+    source: "yo",
+    path: "v.sock",
+};
+
+const PEER_PIECES: [&str; 2] = ["port 1073741824\n", "hi"];
+
+const PEER_READS: [Row; 2] = [
+    (2, 3, "read fault\n", ""),
+    (1, 0, "port 1073741824\n", "hi"),
+];
+
+const PEER_HOST: [Row; 4] = [
+    // The dial, the write of the CONNECT line, and a read for each byte of the OK line.
+    (16, 6, "", "host fault\n"),
+    // The write of what the source held, and the read of what came.
+    (2, 6, "port 1073741824\n", "host fault\n"),
+    // The read of the end.
+    (1, 6, "port 1073741824\nhi", "host fault\n"),
+    (1, 0, "port 1073741824\n", "hi"),
+];
+
+#[test]
+fn each_call_of_a_client_fails_once(rt: HostRuntime) -> Result<(), Fail> {
+    assert!(rt; ends(&rt, &PEER, Called::Source, &PEER_READS)?);
+    assert!(rt; is_cut_off(&rt, &PEER, &PEER_PIECES)?);
+    assert!(rt; ends(&rt, &PEER, Called::Host, &PEER_HOST)?);
+    Ok(())
+}
