@@ -1,6 +1,6 @@
 -- What writing to the host's streams comes to.
-use Rattle.std.proofs.Common.{◌≡◌, ◌≢◌, ℕ, ◌+◌, ◌≤◌, ◌==◌, Bool, true, false, not, length, Option, Some, None, refl, sym, ap, subst, arith, common_steps}
-use Rattle.std.{specs.Option.ForSome, specs.Option.option_map_or, proofs.lemmas.Bool.Decides.nat_tests}
+use Rattle.std.proofs.Common.{◌≡◌, ◌≢◌, ℕ, ◌+◌, ◌≤◌, ◌==◌, Bool, true, false, not, length, Option, Some, None, refl, sym, ap, subst, arith}
+use Rattle.std.{specs.Prelude.◌&&◌, specs.Option.ForSome, specs.Option.option_map_or, proofs.lemmas.Bool.Decides.nat_tests}
 use Rattle.vs_contents.specs.CallTree.{Done, Ask, bind}
 use Rattle.vs_contents.proofs.{Leads.leads_of, Leads.leads_bind, Conditions.may_rest, Conditions.may_of}
 use Rattle.vs_flow.specs.Table.{entry_under}
@@ -73,8 +73,12 @@ pub record HasStream (o : Option DeviceEntry) : Type 0 where
   pub is : o ≡ Some entry
   pub open_ : entry.value.closed ≡ false
 
+open_by : (closed rest : Bool) → (not closed && rest) ≡ true → closed ≡ false
+open_by false rest has = refl
+open_by true rest has = absurd (cc)
+
 writes_open : (c : DeviceConnection) → has_to_write c ≡ true → c.closed ≡ false
-writes_open c has = grind (arith, common_steps, has)
+writes_open c has = open_by c.closed _ has
 
 pub writes_some : (o : Option DeviceEntry) → option_map_or (λ e. has_to_write e.value) o false ≡ true → HasStream o
 writes_some None h = absurd (cc)

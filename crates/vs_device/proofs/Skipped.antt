@@ -1,7 +1,8 @@
 -- A stage that is left out, since it would do nothing on any connection.
-use Rattle.std.proofs.Common.{◌≡◌, ℕ, ◌==◌, Bool, true, false, cond, not, List, [], ◌∷◌, length, Option, Some, None, refl, sym, arith}
-use Rattle.std.specs.{List.All, List.find, Option.IfSome, Option.option_map_or}
-use Rattle.std.proofs.{lemmas.Bool.Decides.nat_tests, lemmas.List.Elements.{All-head, All-tail}}
+use Rattle.std.proofs.Common.{◌≡◌, ℕ, ◌==◌, Bool, true, false, cond, not, List, [], ◌∷◌, ◌++◌, length, take, Option, Some, None, refl, sym, arith}
+use Rattle.std.specs.{Prelude.◌&&◌, Prelude.◌||◌, List.All, List.find, Option.IfSome, Option.option_map_or}
+use Rattle.std.proofs.{Common.length-append, lemmas.Bool.Decides.nat_tests, lemmas.List.length-take, lemmas.List.Elements.{All-head, All-tail}}
+use Rattle.vs_limits.specs.declared.TheConstants.{WRITE_MAX}
 use Rattle.vs_contents.specs.CallTree.{Done, bind, for_each}
 use Rattle.vs_flow.specs.Table.{Table, entry_under, slots}
 use Rattle.vs_device_parts.specs.{Calls.DeviceTree, Connections.is_timed_out, State.DeviceConnection, State.DeviceEntry, State.DeviceState}
@@ -37,13 +38,43 @@ none_times_out s all =
     let P : DeviceEntry → Type 0 = λ e. is_timed_out s.now e.value ≡ false in
     none_does tick_slot s (λ slot. ticks_none s slot (entry_under s.table slot) refl (all_under P s.table slot all)) (slots s.table)
 
+-- what `has_to_write` tests, test by test
+pub record NoneHolds (no_line no_pending ends : Bool) : Type 0 where
+  pub empty_line : no_line ≡ true
+  pub empty_pending : no_pending ≡ true
+  pub ends_not : ends ≡ false
+
+none_holds : (closed no_line no_pending sends shut : Bool) → closed ≡ false
+    → (not closed && (not no_line || not no_pending || (sends && not shut))) ≡ false → NoneHolds no_line no_pending (sends && not shut)
+none_holds true no_line no_pending sends shut still none = absurd (cc)
+none_holds false true true sends shut still none = record { empty_line = refl; empty_pending = refl; ends_not = none }
+none_holds false true false sends shut still none = absurd (cc)
+none_holds false false no_pending sends shut still none = absurd (cc)
+
+not_out : (closed sends no_line no_pending shut : Bool) → (sends && not shut) ≡ false → (not closed && sends && no_line && no_pending && not shut) ≡ false
+not_out true sends no_line no_pending shut none = refl
+not_out false false no_line no_pending shut none = refl
+not_out false true false no_pending shut none = refl
+not_out false true true false shut none = refl
+not_out false true true true true none = refl
+not_out false true true true false none = absurd (cc)
+
+no_bytes : (n : ℕ) (line pending : List ℕ) → (length line == 0) ≡ true → (length pending == 0) ≡ true → (length (take n (line ++ pending)) == 0) ≡ true
+no_bytes n line pending no_line no_pending =
+    grind (arith, nat_tests, length-append line pending, length-take n (line ++ pending), no_line, no_pending)
+
 -- nothing is to be written to a connection's stream, and its write side isn't to be shut
 pub record HasNone (c : DeviceConnection) : Type 0 where
   pub bytes : (length (to_write c) == 0) ≡ true
   pub written_out : is_written_out c ≡ false
 
 pub has_none : (c : DeviceConnection) → c.closed ≡ false → has_to_write c ≡ false → HasNone c
-has_none c still none = record { bytes = grind (arith, nat_tests, still, none); written_out = grind (arith, nat_tests, still, none) }
+has_none c still none =
+    let tests = none_holds c.closed (length c.ok_line == 0) (length c.pending == 0) c.end.peer.send c.write_shut still none in
+    record {
+      bytes = no_bytes WRITE_MAX c.ok_line c.pending tests.empty_line tests.empty_pending;
+      written_out = not_out c.closed c.end.peer.send (length c.ok_line == 0) (length c.pending == 0) c.write_shut tests.ends_not;
+    }
 
 module _ (slot : ℕ) (w : Writing) where
   pumps_by : (e : DeviceEntry) → entry_under w.state.table slot ≡ Some e → (closed : Bool) → e.value.closed ≡ closed → has_to_write e.value ≡ false

@@ -127,8 +127,17 @@ impl Device {
         for slot in slots.as_slice() {
             self.pump_slot(host, *slot, &mut buffer, &mut wrote);
         }
-        self.watch_anew();
+        self.watch_after_writing(wrote);
         wrote
+    }
+
+    // Looks at all connections anew where a round of writing wrote nothing. One that wrote something may leave more to write.
+    fn watch_after_writing(&mut self, wrote: u32)
+        ensures { self.new ≡ self.old }
+    {
+        if wrote == 0 {
+            self.watch_anew();
+        }
     }
 
     // Whether there may be something to write, or a write side to shut. Where there may not, no connection has it.

@@ -37,4 +37,4 @@ returns-clause-calls g c =
     let xs = c.as_slice-slot-items.result.now in
     let ends : length xs ≤ c.loop-slot.slot-index = search rules in
     let w : Writing = writing c.loop-slot.self c.loop-slot.wrote in
-    rw c.watch_anew.ensures (c.loop-slot.invariant.goes_on w _ _ (λ ring. each_end pump_slot xs c.loop-slot.slot-index w _ ends))
+    rw c.watch_after_writing.ensures (c.loop-slot.invariant.goes_on w _ _ (λ ring. each_end pump_slot xs c.loop-slot.slot-index w _ ends))

@@ -10,9 +10,9 @@ read_stream-requires-clause-known g c =
     let conn : DeviceConnection = c.in-Some.connection.now in
     let value : value_under c.args.self.now.table c.args.slot ≡ Some conn = rw (← c.self.view_is) (sym c.in-Some.ensures) in
     let some : 0 < free_of conn.end.credit = at_some _ conn (λ (x : DeviceConnection). 0 < free_of x.end.credit) value c.requires.credit in
-    some_and _ conn (Reads c.stream.result c.free.result) value (record {
+    some_and _ conn (Reads c.stream-stream.result c.free-credit.result) value (record {
       reads = at_some _ conn (λ (x : DeviceConnection). may_read x.end x.end.state ≡ true) value c.requires.reads;
-      some = omega (arith, some, c.free.ensures);
-      stream_is = c.stream.ensures;
-      credit_is = c.free.ensures;
+      some = omega (arith, some, c.free-credit.ensures);
+      stream_is = c.stream-stream.ensures;
+      credit_is = c.free-credit.ensures;
     })
