@@ -1,9 +1,10 @@
 -- What always holds of the slots after a change of the table.
-use Rattle.std.proofs.Common.{◌≡◌, ℕ, zero, suc, ◌+◌, ◌<◌, ◌≤◌, ◌==◌, Bool, true, false, cond, not, List, ◌∷◌, [], ◌++◌, length, get_or, Some, None, sym, ap, subst, ◌∙◌, arith}
-use Rattle.std.proofs.{Common.length-append, lemmas.Bool.Decides.nat_tests, lemmas.{List.length-map, List.get_or_append_left}}
+use Rattle.std.proofs.Common.{◌≡◌, ℕ, zero, suc, ◌+◌, ◌<◌, ◌≤◌, ◌==◌, Bool, true, false, cond, not, List, ◌∷◌, [], ◌++◌, length, get_or, Option, Some, None, refl, sym, ap, subst}
+use Rattle.std.proofs.Common.{◌∙◌, arith}
+use Rattle.std.proofs.{Common.length-append, lemmas.Bool.Decides.nat_tests, lemmas.{List.get_or-map, List.length-map, List.get_or_append_left}}
 use Rattle.std.proofs.{lemmas.Option.{get_or_from_slice_get, slice_get_within}, lemmas.List.{Edits.length-remove, Elements.{All-filter, All-map, All-push, All-weaker, AllWithin-more}}}
-use Rattle.std.specs.List.{All, AllWithin, filter, remove, slice_get}
-use Rattle.vs_flow.specs.{Table.{Table, IsTable, entry_of, value_under, has_place, next_entry, with_entry, with_value, without, revalued}, declared.flow.Flow.Flow}
+use Rattle.std.specs.List.{All, AllPairs, AllWithin, filter, remove, slice_get}
+use Rattle.vs_flow.specs.{Table.{Table, IsTable, entry_of, value_under, has_place, next_entry, slots, with_entry, with_value, without, revalued}, declared.flow.Flow.Flow}
 use Rattle.vs_flow.proofs.{Entries.all_others, Entries.remove_at, Lookups.find_place, Tables.IsAccepted, Tables.with_value_sound}
 use Rattle.vs_device_parts.specs.{State.DeviceConnection, State.DeviceEntry, SlotFields.AreKept, declared.slots.Slots.TheInside.Inside}
 use Rattle.vs_device_parts.specs.{Connections.is_timed_out, Watched.{AreWatched, IsWatched, has_to_write}, declared.watch.Watch.Watch}
@@ -57,6 +58,23 @@ none_to_write w t none all =
 
 pub watched_without : (w : Watch) (t : Table DeviceConnection) (slot : ℕ) → AreWatched w t → AreWatched w (without t slot)
 watched_without w t slot all = All-filter (λ (e : DeviceEntry). not (e.slot == slot)) (λ (e : DeviceEntry). IsWatched w e.value) t.entries all
+
+-- slots rise
+pub slots_rise : (t : Table DeviceConnection) → IsTable t → AllPairs (λ j k. j < k) (slots t)
+slots_rise t sound i j d lt within = by (slice_get t.entries i) refl
+  where
+    by : (o : Option DeviceEntry) → slice_get t.entries i ≡ o → get_or (slots t) i d < get_or (slots t) j d
+    by None none = absurd (omega (arith, past_all t.entries i none, lt, within, length-map t.entries (λ (e : DeviceEntry). e.slot)))
+    by (Some e) is =
+        let long = length-map t.entries (λ (e : DeviceEntry). e.slot) in
+        let here : i < length t.entries = omega (arith, lt, within, long) in
+        let there : j < length t.entries = omega (arith, within, long) in
+        omega (
+          arith,
+          get_or-map (λ (e : DeviceEntry). e.slot) t.entries i e d here,
+          get_or-map (λ (e : DeviceEntry). e.slot) t.entries j e d there,
+          sound.rising i j e lt there,
+        )
 
 pub kept_with_value : (s : Inside) (slot : ℕ) (d : DeviceConnection) (new : Watch) → AreKept s → IsWatched new d
     → ((c : DeviceConnection) → IsWatched s.watch c → IsWatched new c) → AreKept (record s { table = with_value s.table slot d; watch = new })

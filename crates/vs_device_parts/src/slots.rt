@@ -1,7 +1,7 @@
 //! The device's slots: the connections of the table, and the buffers of free slots.
 
 ghost use Rattle.std.specs.Prelude.{◌≡◌, ◌<◌, ◌≤◌, ◌++◌, ◌+◌, [], true, false, length, Some, None, if◌then◌else◌, IfOk, IfSome, IfNone};
-ghost use Rattle.std.specs.{Prelude.IsSomeAnd, Prelude.option_copied, Prelude.slice_get, Prelude.vec_capacity, List.All, Option.option_map, Option.option_map_or};
+ghost use Rattle.std.specs.{Prelude.IsSomeAnd, Prelude.AllPairs, Prelude.option_copied, Prelude.slice_get, Prelude.vec_capacity, List.All, Option.option_map, Option.option_map_or};
 ghost use Rattle.vs_conn.specs.End.{CanSend, asked, answering, may_shut, owes_of, verdict_of, wanting_credit, with_payload_sent};
 ghost use Rattle.vs_conn.specs.{Headers.owed_header, Headers.payload_header, declared.end.State.TheVariants.Live};
 ghost use Rattle.vs_conn.specs.declared.end.Verdict.TheVariants.{Deliver, Accept};
@@ -122,6 +122,7 @@ impl Slots {
     pub fn all(&self) -> ArrayVec<Slot, DEVICE_CONNECTIONS>
         ensures all { result.items ≡ slots self.now }
         ensures most { length (slots self.now) ≤ DEVICE_CONNECTIONS }
+        ensures rising { AllPairs (λ j k. j < k) (slots self.now) }
     {
         let mut all = ArrayVec::new();
         let mut place = 0;
