@@ -14,3 +14,4 @@ mod Ordered
 mod Accounted
 mod Among
 mod Stepping
+mod Skipped

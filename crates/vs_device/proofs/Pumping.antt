@@ -1,6 +1,6 @@
 -- What writing to the host's streams comes to.
 use Rattle.std.proofs.Common.{◌≡◌, ◌≢◌, ℕ, ◌+◌, ◌≤◌, ◌==◌, Bool, true, false, not, length, Option, Some, None, refl, sym, ap, subst, arith}
-use Rattle.std.{specs.Option.ForSome, specs.Option.option_map_or, proofs.lemmas.Bool.Decides.nat_tests}
+use Rattle.std.{specs.Prelude.◌&&◌, specs.Option.ForSome, specs.Option.option_map_or, proofs.lemmas.Bool.Decides.nat_tests}
 use Rattle.vs_contents.specs.CallTree.{Done, Ask, bind}
 use Rattle.vs_contents.proofs.{Leads.leads_of, Leads.leads_bind, Conditions.may_rest, Conditions.may_of}
 use Rattle.vs_flow.specs.Table.{entry_under}
@@ -8,7 +8,8 @@ use Rattle.vs_outside.specs.{Host.IsOpen, Host.TakesSome, InOut.MovesSome, decla
 use Rattle.vs_device_parts.specs.Calls.{Situation, DeviceTree, Allows, WriteStream, ShutWrite}
 use Rattle.vs_device_parts.specs.Connections.{with_connection, with_fault, after_shut, after_written, cut_off}
 use Rattle.vs_device_parts.specs.Streams.{Writing, closing, pump_slot, shut_write, to_write, write_answered, write_pending, is_written_out}
-use Rattle.vs_device_parts.specs.{State.DeviceEntry, State.DeviceState, Playing.CanMake, Playing.MayRun, Playing.Runs, Written.writing}
+use Rattle.vs_device_parts.specs.{State.{DeviceConnection, DeviceEntry, DeviceState}, Playing.CanMake, Playing.MayRun, Playing.Runs, Watched.has_to_write}
+use Rattle.vs_device_parts.specs.Written.{writing}
 use Rattle.vs_outside.specs.declared.host_net.StreamWrite.TheVariants as write
 
 -- a write's answer
@@ -71,6 +72,17 @@ pub record HasStream (o : Option DeviceEntry) : Type 0 where
   pub entry : DeviceEntry
   pub is : o ≡ Some entry
   pub open_ : entry.value.closed ≡ false
+
+open_by : (closed rest : Bool) → (not closed && rest) ≡ true → closed ≡ false
+open_by false rest has = refl
+open_by true rest has = absurd (cc)
+
+writes_open : (c : DeviceConnection) → has_to_write c ≡ true → c.closed ≡ false
+writes_open c has = open_by c.closed _ has
+
+pub writes_some : (o : Option DeviceEntry) → option_map_or (λ e. has_to_write e.value) o false ≡ true → HasStream o
+writes_some None h = absurd (cc)
+writes_some (Some e) h = record { entry = e; is = refl; open_ = writes_open e.value h }
 
 pub has_stream : (o : Option DeviceEntry) → option_map_or (λ e. not e.value.closed) o false ≡ true → HasStream o
 has_stream None h = absurd (cc)

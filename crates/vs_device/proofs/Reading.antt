@@ -1,10 +1,10 @@
 -- What reading a stream comes to, for the packet that it puts.
-use Rattle.std.proofs.Common.{◌≡◌, ℕ, ◌+◌, ◌≤◌, arith, Bool, true, false, cond, List, length, take, Option, Some, None, refl, sym, ap}
-use Rattle.std.proofs.{lemmas.List.length-take-le, Common.subst, Common.◌∙◌}
-use Rattle.std.specs.{Prelude.if◌then◌else◌, Prelude.◌==◌, Option.IfSome}
+use Rattle.std.proofs.Common.{◌≡◌, ℕ, ◌+◌, ◌≤◌, ◌<◌, arith, Bool, true, false, cond, List, length, take, Option, Some, None, refl, sym, ap}
+use Rattle.std.proofs.{lemmas.List.length-take-le, lemmas.Bool.Decides.nat_tests, Common.subst, Common.◌∙◌}
+use Rattle.std.specs.{Prelude.if◌then◌else◌, Prelude.◌==◌, Option.IfSome, Option.IsSomeAnd, Option.option_map}
 use Rattle.vs_contents.specs.CallTree.{Done, Ask, bind, while_up_to}
 use Rattle.vs_contents.proofs.{Leads.leads_of, Leads.leads_bind, Conditions.may_first, Conditions.may_rest, Conditions.may_of}
-use Rattle.vs_conn.specs.End.{ConnectionEnd, with_payload_sent, wanting_credit}
+use Rattle.vs_conn.specs.End.{ConnectionEnd, owes_of, with_payload_sent, wanting_credit}
 use Rattle.vs_conn.specs.{Headers.payload_header, declared.end.TheConstants.OWED_MAX}
 use Rattle.vs_header.specs.declared.{TheConstants.HEADER_LEN, Header.Header}
 use Rattle.vs_page.specs.declared.page.TheConstants.{PAYLOAD_MAX}
@@ -16,7 +16,7 @@ use Rattle.vs_device_parts.specs.Receiving.{Filling, hold, written, put_on, put_
 use Rattle.vs_device_parts.specs.{Receiving.{read_with_chain, read_stream, serve_slot}, Calls.{DeviceTree, Situation, Allows, ReadStream}}
 use Rattle.vs_device_parts.specs.{Connections.{with_connection, route_to_guest}, Filling.read_slot, Playing.{CanMake, MayRun, Runs}}
 use Rattle.vs_device_parts.specs.{State.{DeviceConnection, DeviceEntry, DeviceState}, Steps.{filling, puts_payload, reads, to_read}}
-use Rattle.vs_device_parts.proofs.Under.{value_is}
+use Rattle.vs_device_parts.specs.Served.{OnlyReads, Reads, Rests}
 use Rattle.vs_conn.specs.declared.end.State.TheVariants as state
 
 -- payload is put
@@ -180,24 +180,114 @@ module _ (slot : ℕ) (r : Filling) (going : r.over ≡ false) where
   served q p c m t on first rest =
       leads_of Allows _ _ c t p served_is (leads_bind Allows (read_slot slot r) (then_owed slot) c m t q p first (leads_of Allows _ _ m t p (ap (owed_on slot q) on) rest))
 
+-- a connection that owes nothing reads its stream
+module _ (slot : ℕ) (r : Filling) (going : r.over ≡ false) (e : DeviceEntry) (found : entry_under r.state.table slot ≡ Some e)
+    (reads : may_read e.value.end e.value.end.state ≡ true) (some : 0 < free_of e.value.end.credit) where
+  credit_left : (free_of e.value.end.credit == 0) ≡ false
+  credit_left = grind (arith, nat_tests, some)
+
+  known_is : read_slot slot r ≡ bind (hold r) (read_with_chain e)
+  known_is = rw (found, read_slot) (rw (reads, credit_left, read_stream) refl)
+
+  pub may_read_known : (q : Filling) (c m : Situation) → MayRun (serve_slot slot r) c → Runs (hold r) c q m → MayRun (read_with_chain e q) m
+  may_read_known q c m may holds =
+      may_rest CanMake Allows (hold r) (read_with_chain e) c m q (may_of CanMake Allows _ _ c known_is (may_serve slot r going c may)) holds
+
+  pub known_was_read : (q p : Filling) (c m u : Situation) → Runs (hold r) c q m → Runs (read_with_chain e q) m p u → Runs (read_slot slot r) c p u
+  known_was_read q p c m u holds rest = leads_of Allows _ _ c u p known_is (leads_bind Allows (hold r) (read_with_chain e) c m u q p holds rest)
+
+-- what it owes is put, unless the stage is over
+module _ (slot : ℕ) (r : Filling) (going : r.over ≡ false) where
+  serves : (q p : Filling) (c m t : Situation) → Runs (read_slot slot r) c q m → Runs (then_owed slot q) m p t → Runs (serve_slot slot r) c p t
+  serves q p c m t first rest = leads_of Allows _ _ c t p (served_is slot r going) (leads_bind Allows (read_slot slot r) (then_owed slot) c m t q p first rest)
+
+  pub served_over : (q : Filling) (c m : Situation) → q.over ≡ true → Runs (read_slot slot r) c q m → Runs (serve_slot slot r) c q m
+  served_over q c m over first = serves q q c m m first (leads_of Allows _ _ m m q (ap (owed_on slot q) over) (refl, refl))
+
+  owes_nothing : (q : Filling) (e : DeviceEntry) (over : Bool) → entry_under q.state.table slot ≡ Some e → owes_of e.value.end ≡ None → owed_on slot q over ≡ Done q
+  owes_nothing q e true found none = refl
+  owes_nothing q e false found none = rw (found, none, put_owed) refl
+
+  pub served_none_owed : (q : Filling) (e : DeviceEntry) (c m : Situation) → entry_under q.state.table slot ≡ Some e → owes_of e.value.end ≡ None
+      → Runs (read_slot slot r) c q m → Runs (serve_slot slot r) c q m
+  served_none_owed q e c m found none first = serves q q c m m first (leads_of Allows _ _ m m q (owes_nothing q e q.over found none) (refl, refl))
+
+  -- one that neither reads nor owes
+  rests_is : (o : Option DeviceEntry) → entry_under r.state.table slot ≡ o → IfSome (option_map (λ (e : DeviceEntry). e.value) o) Rests
+      → owed_on slot r r.over ≡ Done r
+  rests_is None is rest = rw going (rw (is, put_owed) refl)
+  rests_is (Some e) is rest = owes_nothing r e r.over is rest.owes
+
+  reads_none : (o : Option DeviceEntry) → entry_under r.state.table slot ≡ o → IfSome (option_map (λ (e : DeviceEntry). e.value) o) Rests
+      → read_slot slot r ≡ Done r
+  reads_none None is rest = rw (is, read_slot) refl
+  reads_none (Some e) is rest = rw (is, read_slot) (rw (rest.reads, read_stream) refl)
+
+  pub served_at_rest : (c : Situation) → IfSome (value_under r.state.table slot) Rests
+      → Runs (serve_slot slot r) c r c
+  served_at_rest c rest =
+      let o = entry_under r.state.table slot in
+      serves r r c c c (leads_of Allows _ _ c c r (reads_none o refl rest) (refl, refl)) (leads_of Allows _ _ c c r (rests_is o refl rest) (refl, refl))
+
 pub if_some : {X : Type 0} (o : Option X) (x : X) (P : X → Type 0) → o ≡ Some x → P x → IfSome o P
 if_some {X = X} o x P is holds = let Q : Option X → Type 0 = λ p. IfSome p P in subst Q (sym is) holds
 
 pub at_some : {X : Type 0} (o : Option X) (x : X) (P : X → Type 0) → o ≡ Some x → IfSome o P → P x
 at_some {X = X} o x P is holds = let Q : Option X → Type 0 = λ p. IfSome p P in subst Q is holds
 
+pub same_entry : (o : Option DeviceEntry) (e f : DeviceEntry) → o ≡ Some e → o ≡ Some f → e ≡ f
+same_entry o e f is also = let both : Some e ≡ Some f = sym is ∙ also in cc
+
 -- the read that was made, as that of the connection in the slot
 pub record IsRead (chain : Chain) (stream most : ℕ) (e : DeviceEntry) : Type 0 where
   pub stream_is : stream ≡ e.value.stream
   pub room_is : most ≡ read_room (free_of e.value.end.credit) chain
 
-pub is_read : (t : Table DeviceConnection) (slot : ℕ) (c : DeviceConnection) (chain : Chain) (stream free most : ℕ) (e : DeviceEntry) → Some c ≡ value_under t slot
-    → entry_under t slot ≡ Some e → stream ≡ c.stream → free ≡ free_of c.end.credit → most ≡ read_room free chain → IsRead chain stream most e
-is_read t slot c chain stream free most e there found id credit much =
-    let same : e.value ≡ c = value_is t slot e c found (sym there) in record {
-      stream_is = id ∙ ap (λ (x : DeviceConnection). x.stream) (sym same);
-      room_is = much ∙ ap (λ (n : ℕ). read_room n chain) (credit ∙ ap (λ (x : DeviceConnection). free_of x.end.credit) (sym same));
+-- the entry whose stream is read
+pub record Known (slot : ℕ) (t : Table DeviceConnection) (stream credit : ℕ) : Type 0 where
+  pub entry : DeviceEntry
+  pub found : entry_under t slot ≡ Some entry
+  pub reads : Reads stream credit entry.value
+
+pub known : (slot : ℕ) (t : Table DeviceConnection) (stream credit : ℕ) → IsSomeAnd (value_under t slot) (Reads stream credit) → Known slot t stream credit
+known slot t stream credit has = by (entry_under t slot) refl has
+  where
+    by : (o : Option DeviceEntry) → entry_under t slot ≡ o → IsSomeAnd (option_map (λ (e : DeviceEntry). e.value) o) (Reads stream credit)
+        → Known slot t stream credit
+    by None is has = absurd has
+    by (Some e) is has = record { entry = e; found = is; reads = has }
+
+pub known_read : (slot : ℕ) (t : Table DeviceConnection) (chain : Chain) (stream credit most : ℕ) (e : DeviceEntry)
+    → IsSomeAnd (value_under t slot) (Reads stream credit) → entry_under t slot ≡ Some e → most ≡ read_room credit chain → IsRead chain stream most e
+known_read slot t chain stream credit most e has is much =
+    let k = known slot t stream credit has in
+    let same : k.entry ≡ e = same_entry (entry_under t slot) k.entry e k.found is in record {
+      stream_is = k.reads.stream_is ∙ ap (λ (x : DeviceEntry). x.value.stream) same;
+      room_is = much ∙ ap (λ (n : ℕ). read_room n chain) (k.reads.credit_is ∙ ap (λ (x : DeviceEntry). free_of x.value.end.credit) same);
     }
+
+-- one that owes nothing besides
+pub record Owing (slot : ℕ) (t : Table DeviceConnection) (stream credit : ℕ) : Type 0 where
+  pub entry : DeviceEntry
+  pub found : entry_under t slot ≡ Some entry
+  pub only : OnlyReads stream credit entry.value
+  pub free : 0 < free_of entry.value.end.credit
+
+pub owing : (slot : ℕ) (t : Table DeviceConnection) (stream credit : ℕ) → IsSomeAnd (value_under t slot) (OnlyReads stream credit) → Owing slot t stream credit
+owing slot t stream credit has = by (entry_under t slot) refl has
+  where
+    by : (o : Option DeviceEntry) → entry_under t slot ≡ o → IsSomeAnd (option_map (λ (e : DeviceEntry). e.value) o) (OnlyReads stream credit)
+        → Owing slot t stream credit
+    by None is has = absurd has
+    by (Some e) is has = let r : OnlyReads stream credit e.value = has in record {
+      entry = e;
+      found = is;
+      only = r;
+      free = omega (arith, r.reads.some, r.reads.credit_is);
+    }
+
+pub some_and : {X : Type 0} (o : Option X) (x : X) (P : X → Type 0) → o ≡ Some x → P x → IsSomeAnd o P
+some_and {X = X} o x P is holds = let Q : Option X → Type 0 = λ p. IsSomeAnd p P in subst Q (sym is) holds
 
 -- the bytes that it gave have room in the chain, and credit
 pub record Fits (e : ConnectionEnd) (chain : Chain) (bytes : List ℕ) : Type 0 where
@@ -209,6 +299,3 @@ pub fits : (e : ConnectionEnd) (chain : Chain) (n free most : ℕ) (out : List �
 fits e chain n free most out long credit much le big =
     let len : length (take n out) ≡ n = length-take-le n out (omega (arith, much, le, big)) in
     record { within = omega (arith, long, much, le, len); credit = omega (arith, credit, much, le, len) }
-
-pub same_entry : (o : Option DeviceEntry) (e f : DeviceEntry) → o ≡ Some e → o ≡ Some f → e ≡ f
-same_entry o e f is also = let both : Some e ≡ Some f = sym is ∙ also in cc

@@ -1,7 +1,7 @@
 //! The last stage of a turn: packets are put on the receive queue, what is owed to unknown flows first, and then, connection by connection,
 //! what is read of the host's streams and what each owes (Virtio 1.2, sections 5.10.6.1 to 5.10.6.5).
 
-ghost use Rattle.std.specs.Prelude.{◌≡◌, ◌≤◌, ◌<◌, ◌+◌, ◌*◌, ◌^◌, ℕ, List, not, length, false, true, Some, None, is_some, IfSome, Err};
+ghost use Rattle.std.specs.Prelude.{◌≡◌, ◌≤◌, ◌<◌, ◌+◌, ◌*◌, ◌^◌, ℕ, List, not, length, false, true, Some, None, is_some, IfSome, IsSomeAnd, Err};
 ghost use Rattle.std.specs.{Prelude.IfErr, Prelude.IfOk, Prelude.OnOk, Option.ForSome};
 ghost use Rattle.vs_conn.specs.{End.CanSend, End.owes_of, Headers.reset_header, declared.end.TheConstants.OWED_MAX};
 ghost use Rattle.vs_conn.specs.declared.end.Owed.TheVariants as owed;
@@ -20,7 +20,7 @@ ghost use Rattle.vs_device_parts.specs.{Filling.read_slot, Filling.serve_all, Fi
 ghost use Rattle.vs_device_parts.specs.Playing.{IsRingOf, MayRun, MayRunOnHost, MayRunOnRing, Runs, RunsOnHost, RunsOnRing, beside};
 ghost use Rattle.vs_device_parts.specs.{Playing.situation, Receiving.after_paying, Receiving.fill_rx_of, Receiving.filled_of};
 ghost use Rattle.vs_device_parts.specs.Receiving.{hold, may_read, put_owed, put_payload, put_reply, read_room, read_with_chain, serve_slot};
-ghost use Rattle.vs_device_parts.specs.{State.DeviceEntry, Steps.to_read};
+ghost use Rattle.vs_device_parts.specs.{Served.IsServedSo, Served.OnlyReads, Served.Reads, State.DeviceEntry, Steps.to_read};
 ghost use Rattle.vs_limits.specs.declared.TheConstants.{DEVICE_CONNECTIONS, DEVICE_REPLIES};
 
 use crate::device::Device;
@@ -29,6 +29,7 @@ use vs_device_parts::answers::Filled;
 use vs_device_parts::fill::Fill;
 use vs_device_parts::packets::{read_into, write_packet};
 use vs_device_parts::round::round_from;
+use vs_device_parts::service::Service;
 use vs_flow::Slot;
 use vs_header::{HEADER_LEN, Header, Kind, Op};
 use vs_limits::HOST_CID;
@@ -153,6 +154,73 @@ impl Device {
         if fill.over {
             return;
         }
+        match self.service(slot) {
+            Service::Nothing => {}
+            Service::Read { stream, credit } => {
+                self.serve_reading(ring, host, slot, stream, credit, buffer, fill);
+            }
+            Service::Owed => self.serve_owing(ring, host, slot, buffer, fill),
+        }
+    }
+
+    // What the round does on the connection in a slot, as far as one look at it tells.
+    fn service(&self, slot: Slot) -> Service
+        ensures { IsServedSo (value_under self.now.table slot) result }
+    {
+        self.slots.service(slot)
+    }
+
+    // Serves the connection in a slot, which reads a stream with so much credit and owes nothing. Where nothing comes of the read it owes
+    // nothing still.
+    fn serve_reading<R: DeviceRing, H: HostNet>(
+        &mut self,
+        ring: &mut R,
+        host: &mut H,
+        slot: Slot,
+        stream: u64,
+        credit: u32,
+        buffer: &mut [u8; PAYLOAD_MAX],
+        fill: &mut Fill,
+    )
+        requires ring { IsRingOf (R.held ring.old) self.old }
+        requires going { fill.old.over ≡ false }
+        requires few { fill.old.put < 2 ^ 14 }
+        requires few_read { fill.old.read < 2 ^ 20 }
+        requires known { IsSomeAnd (value_under self.old.table slot) (OnlyReads stream credit) }
+        requires may { MayRun (serve_slot slot (filling_of self.old fill.old)) (situation (R.contents ring.old) (H.contents host.old) (H.faults host.old)) }
+        ensures ring { IsRingOf (R.held ring.new) self.new }
+        ensures count { fill.new.put ≤ fill.old.put + (OWED_MAX + 1) }
+        ensures read { fill.new.read ≤ fill.old.read + PAYLOAD_MAX }
+        ensures calls { Runs (serve_slot slot (filling_of self.old fill.old)) (situation (R.contents ring.old) (H.contents host.old) (H.faults host.old)) (filling_of self.new fill.new) (situation (R.contents ring.new) (H.contents host.new) (H.faults host.new)) }
+    {
+        self.hold(ring, fill);
+        if !self.read_stream(ring, host, slot, stream, credit, buffer, fill) {
+            return;
+        }
+        if !fill.over {
+            self.put_all_owed(ring, host, slot, fill);
+        }
+    }
+
+    // Serves the connection in a slot, which may owe a packet or want credit.
+    fn serve_owing<R: DeviceRing, H: HostNet>(
+        &mut self,
+        ring: &mut R,
+        host: &mut H,
+        slot: Slot,
+        buffer: &mut [u8; PAYLOAD_MAX],
+        fill: &mut Fill,
+    )
+        requires ring { IsRingOf (R.held ring.old) self.old }
+        requires going { fill.old.over ≡ false }
+        requires few { fill.old.put < 2 ^ 14 }
+        requires few_read { fill.old.read < 2 ^ 20 }
+        requires may { MayRun (serve_slot slot (filling_of self.old fill.old)) (situation (R.contents ring.old) (H.contents host.old) (H.faults host.old)) }
+        ensures ring { IsRingOf (R.held ring.new) self.new }
+        ensures count { fill.new.put ≤ fill.old.put + (OWED_MAX + 1) }
+        ensures read { fill.new.read ≤ fill.old.read + PAYLOAD_MAX }
+        ensures calls { Runs (serve_slot slot (filling_of self.old fill.old)) (situation (R.contents ring.old) (H.contents host.old) (H.faults host.old)) (filling_of self.new fill.new) (situation (R.contents ring.new) (H.contents host.new) (H.faults host.new)) }
+    {
         self.read_slot(ring, host, slot, buffer, fill);
         if !fill.over {
             self.put_all_owed(ring, host, slot, fill);
@@ -223,20 +291,56 @@ impl Device {
         ensures read { fill.new.read ≤ fill.old.read + PAYLOAD_MAX }
         ensures calls { (e : DeviceEntry) → entry_under self.old.table slot ≡ Some e → Runs (read_with_chain e (filling_of self.old fill.old)) (situation (R.contents ring.old) (H.contents host.old) (H.faults host.old)) (filling_of self.new fill.new) (situation (R.contents ring.new) (H.contents host.new) (H.faults host.new)) }
     {
-        let Some(chain) = &self.chain else {
-            return;
-        };
         let Some(connection) = self.slots.connection(slot) else {
             return;
         };
-        let room = read_room(connection.free(), chain.writable);
-        match read_into(host, connection.stream(), buffer, room) {
-            StreamRead::Got(n) => self.put_payload(ring, slot, &buffer[..n], fill),
-            StreamRead::Again => {}
-            StreamRead::End => self.slots.shut(slot, 2, self.moment),
+        let stream = connection.stream();
+        let credit = connection.free();
+        self.read_stream(ring, host, slot, stream, credit, buffer, fill);
+    }
+
+    // Reads the stream of the connection in a slot, with so much credit, into the chain that is held, where one is. Tells whether something
+    // came of it.
+    fn read_stream<R: DeviceRing, H: HostNet>(
+        &mut self,
+        ring: &mut R,
+        host: &mut H,
+        slot: Slot,
+        stream: u64,
+        credit: u32,
+        buffer: &mut [u8; PAYLOAD_MAX],
+        fill: &mut Fill,
+    ) -> bool
+        requires ring { IsAmong (R.held ring.old) self.old }
+        requires few { fill.old.put < 2 ^ 14 }
+        requires few_read { fill.old.read < 2 ^ 20 }
+        requires known { IsSomeAnd (value_under self.old.table slot) (Reads stream credit) }
+        requires may { (e : DeviceEntry) → entry_under self.old.table slot ≡ Some e → MayRun (read_with_chain e (filling_of self.old fill.old)) (situation (R.contents ring.old) (H.contents host.old) (H.faults host.old)) }
+        ensures ring { IsAmong (R.held ring.new) self.new }
+        ensures beside { beside self.new.chain (R.held ring.new) ≡ beside self.old.chain (R.held ring.old) }
+        ensures count { fill.new.put ≤ fill.old.put + 1 }
+        ensures read { fill.new.read ≤ fill.old.read + PAYLOAD_MAX }
+        ensures calls { (e : DeviceEntry) → entry_under self.old.table slot ≡ Some e → Runs (read_with_chain e (filling_of self.old fill.old)) (situation (R.contents ring.old) (H.contents host.old) (H.faults host.old)) (filling_of self.new fill.new) (situation (R.contents ring.new) (H.contents host.new) (H.faults host.new)) }
+        ensures still { result ≡ false → self.new ≡ self.old }
+    {
+        let Some(chain) = &self.chain else {
+            return false;
+        };
+        let room = read_room(credit, chain.writable);
+        match read_into(host, stream, buffer, room) {
+            StreamRead::Got(n) => {
+                self.put_payload(ring, slot, &buffer[..n], fill);
+                true
+            }
+            StreamRead::Again => false,
+            StreamRead::End => {
+                self.slots.shut(slot, 2, self.moment);
+                true
+            }
             StreamRead::Failed => {
                 self.faults = self.faults.saturating_add(1);
                 self.cut_off(host, slot);
+                true
             }
         }
     }

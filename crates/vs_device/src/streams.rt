@@ -1,9 +1,10 @@
 //! What the device does with the host's streams at a moment, and with the bytes that are pending for them.
 
 ghost use Rattle.std.specs.Prelude.{◌≡◌, ◌≤◌, ◌<◌, ◌+◌, ◌^◌, ℕ, List, true, false, not, Some, length};
-ghost use Rattle.std.specs.Option.{ForSome, option_map_or};
+ghost use Rattle.std.specs.{List.All, Option.ForSome, Option.option_map_or};
 ghost use Rattle.vs_conn.specs.End.{may_shut};
-ghost use Rattle.vs_flow.specs.Table.{entry_under};
+ghost use Rattle.vs_contents.specs.CallTree.{for_each};
+ghost use Rattle.vs_flow.specs.Table.{entry_under, slots};
 ghost use Rattle.vs_outside.specs.{Host.IsOpen, Host.TakesSome, declared.host_net.StreamWrite.TheVariants.Closed};
 ghost use Rattle.vs_ring_port.specs.Contents.{RingContents};
 ghost use Rattle.laws_device_streams.specs.Streams.{HasStreams};
@@ -13,7 +14,7 @@ ghost use Rattle.vs_proxy_parts.specs.State.{Handshake};
 ghost use Rattle.vs_limits.specs.declared.TheConstants.{WRITE_MAX};
 ghost use Rattle.vs_device_parts.specs.{Connections.is_timed_out, Playing.MayRunOnHost, Playing.RunsOnHost, State.DeviceEntry};
 ghost use Rattle.vs_device_parts.specs.Streams.{tick_of, tick_slot, pump_of, pump_slot, write_pending, write_answered, to_write};
-ghost use Rattle.vs_device_parts.specs.{Streams.shut_write, Streams.is_written_out, Written.writing};
+ghost use Rattle.vs_device_parts.specs.{Streams.shut_write, Streams.is_written_out, Watched.has_to_write, Written.writing};
 
 use crate::device::Device;
 use vs_device_parts::host_calls::{shut_write, write};
@@ -38,10 +39,37 @@ impl Device {
             → StayAccounted (tick_of now self.old) calls self.new self.new.table hands (H.contents host.new) }
     {
         self.moment = now;
+        self.time_out(host);
+    }
+
+    // Ends each connection that waits too long.
+    fn time_out<H: HostNet>(&mut self, host: &mut H)
+        requires may { MayRunOnHost (for_each tick_slot (slots self.old.table) self.old) (H.contents host.old) (H.faults host.old) }
+        ensures calls { RunsOnHost (for_each tick_slot (slots self.old.table) self.old) (H.contents host.old) (H.faults host.old) self.new (H.contents host.new) (H.faults host.new) }
+        ensures chain { self.new.chain ≡ self.old.chain }
+    {
+        if !self.may_time_out() {
+            return;
+        }
         let slots = self.slots.all();
         for slot in slots.as_slice() {
             self.tick_slot(host, *slot);
         }
+        self.watch_anew();
+    }
+
+    // Whether a connection may wait too long. Where none may, none does.
+    fn may_time_out(&self) -> bool
+        ensures { result ≡ false → All (λ e. is_timed_out self.now.now e.value ≡ false) self.now.table.entries }
+    {
+        self.slots.may_time_out(self.moment)
+    }
+
+    // Looks at all connections anew, so that later stages know whether they may do something on one of them.
+    fn watch_anew(&mut self)
+        ensures { self.new ≡ self.old }
+    {
+        self.slots.watch_anew();
     }
 
     /// Ends the connection in a slot where it waits too long.
@@ -81,13 +109,49 @@ impl Device {
         ensures bytes { (calls : List Made) (hands : List Handshake) → AreAccounted calls self.old.table hands (H.contents host.old)
             → StayAccounted (pump_of self.old) calls (writing self.new result) self.new.table hands (H.contents host.new) }
     {
+        self.pump(host)
+    }
+
+    // Writes what is pending on all connections.
+    fn pump<H: HostNet>(&mut self, host: &mut H) -> u32
+        requires may { MayRunOnHost (pump_of self.old) (H.contents host.old) (H.faults host.old) }
+        ensures calls { RunsOnHost (pump_of self.old) (H.contents host.old) (H.faults host.old) (writing self.new result) (H.contents host.new) (H.faults host.new) }
+        ensures chain { self.new.chain ≡ self.old.chain }
+    {
+        if !self.may_write() {
+            return 0;
+        }
         let slots = self.slots.all();
         let mut buffer = [0; WRITE_MAX];
         let mut wrote = 0;
         for slot in slots.as_slice() {
             self.pump_slot(host, *slot, &mut buffer, &mut wrote);
         }
+        self.watch_after_writing(wrote);
         wrote
+    }
+
+    // Looks at all connections anew where a round of writing wrote nothing. One that wrote something may leave more to write.
+    fn watch_after_writing(&mut self, wrote: u32)
+        ensures { self.new ≡ self.old }
+    {
+        if wrote == 0 {
+            self.watch_anew();
+        }
+    }
+
+    // Whether there may be something to write, or a write side to shut. Where there may not, no connection has it.
+    fn may_write(&self) -> bool
+        ensures { result ≡ false → All (λ e. has_to_write e.value ≡ false) self.now.table.entries }
+    {
+        self.slots.may_write()
+    }
+
+    // Whether there is something to write on the connection in a slot, or its write side is to be shut.
+    fn has_to_write(&self, slot: Slot) -> bool
+        ensures { result ≡ option_map_or (λ e. has_to_write e.value) (entry_under self.now.table slot) false }
+    {
+        self.slots.has_to_write(slot)
     }
 
     // Writes what is pending on the connection in a slot, whose stream isn't closed.
@@ -104,7 +168,7 @@ impl Device {
         ensures chain { self.new.chain ≡ self.old.chain }
         ensures count { wrote.new ≤ wrote.old + WRITE_MAX }
     {
-        if self.has_stream(slot) {
+        if self.has_to_write(slot) {
             self.write_pending(host, slot, buffer, wrote);
             self.shut_write(host, slot);
         }

@@ -1,22 +1,29 @@
--- The order in which connections are served: how many slots pass a test.
-use Rattle.std.proofs.Common.{◌≡◌, ℕ, ◌+◌, ◌<◌, ◌≤◌, Bool, true, cond, List, ◌++◌, length, take, drop, get_or, sym, ap, ◌∙◌, arith}
-use Rattle.std.proofs.{Common.length-append, lemmas.List.{take-append-drop, Elements.filter-append, Filters.length-filter_both}}
-use Rattle.std.proofs.{lemmas.List.Filters.length-filter_more, lemmas.Bool.Decides.nat_tests}
-use Rattle.std.specs.{Prelude.nat_lt, Prelude.nat_le, List.filter}
+-- The order in which connections are served: slots that rise are parted by one of them.
+use Rattle.std.proofs.Common.{◌≡◌, ℕ, zero, suc, ◌<◌, ◌≤◌, Bool, true, false, List, [], ◌∷◌, length, take, drop, get_or, refl, ap, arith}
+use Rattle.std.proofs.lemmas.Bool.Decides.{nat_tests}
+use Rattle.std.specs.{Prelude.nat_lt, Prelude.nat_le, List.{AllPairs, AllWithin, filter}, List.Sorted.IsPartitionedBy}
 
--- as many pass in the first places as in all, or fewer
-length-filter_take : (p : ℕ → Bool) (i : ℕ) (xs : List ℕ) → length (filter p (take i xs)) ≤ length (filter p xs)
-length-filter_take p i xs =
-    let whole : filter p xs ≡ filter p (take i xs) ++ filter p (drop i xs) = ap (filter p) (sym (take-append-drop i xs)) ∙ filter-append p (take i xs) (drop i xs) in
-    omega (arith, ap (λ (ys : List ℕ). length ys) whole, length-append (filter p (take i xs)) (filter p (drop i xs)))
+-- those that are at most one come first
+pub parted_by : (last : ℕ) (slots : List ℕ) → AllPairs (λ j k. j < k) slots → IsPartitionedBy (λ slot. nat_le slot last) slots
+parted_by last slots rising i j d le lt passes = grind (arith, nat_tests, rising i j d, λ (same : i ≡ j). ap (λ n. get_or slots n d) same)
 
--- there is room for one that passes
-pub is_room : (p : ℕ → Bool) (i : ℕ) (xs : List ℕ) → i < length xs → p (get_or xs i 0) ≡ true → length (filter p (take i xs)) < length (filter p xs)
-is_room p i xs lt is =
-    let more = length-filter_more p xs i 0 lt in
-    let one : length (filter p (take (i + 1) xs)) ≡ length (filter p (take i xs)) + 1 = more ∙ ap (λ (b : Bool). length (filter p (take i xs)) + cond b 1 0) is in
-    omega (arith, length-filter_take p (i + 1) xs, one)
+-- the first places have those that are at most one, and the others those above it
+pub record AreParted (last : ℕ) (slots : List ℕ) (n : ℕ) : Type 0 where
+  pub above : filter (λ slot. nat_lt last slot) slots ≡ drop n slots
+  pub others : filter (λ slot. nat_le slot last) slots ≡ take n slots
 
--- the slots above the last one and all others are all
-pub are_all : (last : ℕ) (slots : List ℕ) → length (filter (λ slot. nat_lt last slot) slots) + length (filter (λ slot. nat_le slot last) slots) ≡ length slots
-are_all last slots = length-filter_both (λ slot. nat_lt last slot) (λ slot. nat_le slot last) (λ slot. grind (arith, nat_tests)) slots
+pub are_parted : (last : ℕ) (slots : List ℕ) (n : ℕ) → n ≤ length slots → AllWithin (λ slot. nat_le slot last ≡ true) slots 0 n
+    → AllWithin (λ slot. nat_le slot last ≡ false) slots n (length slots) → AreParted last slots n
+are_parted last [] zero most low high = record { above = refl; others = refl }
+are_parted last [] (suc n) most low high = absurd (omega (arith, most))
+are_parted last (x ∷ xs) zero most low high =
+    let rest = are_parted last xs zero (omega arith) (λ k d le lt. absurd (omega (arith, lt))) (λ k d le lt. high (suc k) d (omega arith) (omega (arith, lt))) in
+    let here : nat_le x last ≡ false = high 0 x (omega arith) (omega arith) in
+    let above : nat_lt last x ≡ true = grind (arith, nat_tests, here) in
+    record { above = rw (above, rest.above) refl; others = rw (here, rest.others) refl }
+are_parted last (x ∷ xs) (suc n) most low high =
+    let rest = are_parted last xs n (omega (arith, most)) (λ k d le lt. low (suc k) d (omega arith) (omega (arith, lt)))
+    (λ k d le lt. high (suc k) d (omega (arith, le)) (omega (arith, lt))) in
+    let here : nat_le x last ≡ true = low 0 x (omega arith) (omega arith) in
+    let above : nat_lt last x ≡ false = grind (arith, nat_tests, here) in
+    record { above = rw (above, rest.above) refl; others = rw (here, rest.others) refl }

@@ -1,20 +1,90 @@
 -- What always holds of the slots after a change of the table.
-use Rattle.std.proofs.Common.{◌≡◌, ℕ, ◌+◌, ◌<◌, ◌==◌, true, not, List, ◌∷◌, [], ◌++◌, length, Some, None, ap, subst, ◌∙◌, arith}
-use Rattle.std.proofs.{Common.length-append, lemmas.Bool.Decides.nat_tests, lemmas.{List.length-map, List.get_or_append_left}}
-use Rattle.std.proofs.{lemmas.Option.slice_get_within, lemmas.List.Edits.length-remove}
-use Rattle.std.specs.List.{All, filter, remove}
-use Rattle.vs_flow.specs.{Table.{Table, IsTable, entry_of, value_under, has_place, with_value, without, revalued}, declared.flow.Flow.Flow}
+use Rattle.std.proofs.Common.{◌≡◌, ℕ, zero, suc, ◌+◌, ◌<◌, ◌≤◌, ◌==◌, Bool, true, false, cond, not, List, ◌∷◌, [], ◌++◌, length, get_or, Option, Some, None, refl, sym, ap, subst}
+use Rattle.std.proofs.Common.{◌∙◌, arith}
+use Rattle.std.proofs.{Common.length-append, lemmas.Bool.Decides.nat_tests, lemmas.{List.get_or-map, List.length-map, List.get_or_append_left}}
+use Rattle.std.proofs.{lemmas.Option.{get_or_from_slice_get, slice_get_within}, lemmas.List.{Edits.length-remove, Elements.{All-filter, All-map, All-push, All-weaker, AllWithin-more}}}
+use Rattle.std.specs.List.{All, AllPairs, AllWithin, filter, remove, slice_get}
+use Rattle.vs_flow.specs.{Table.{Table, IsTable, entry_of, value_under, has_place, next_entry, slots, with_entry, with_value, without, revalued}, declared.flow.Flow.Flow}
 use Rattle.vs_flow.proofs.{Entries.all_others, Entries.remove_at, Lookups.find_place, Tables.IsAccepted, Tables.with_value_sound}
 use Rattle.vs_device_parts.specs.{State.DeviceConnection, State.DeviceEntry, SlotFields.AreKept, declared.slots.Slots.TheInside.Inside}
+use Rattle.vs_device_parts.specs.{Connections.is_timed_out, Watched.{AreWatched, IsWatched, has_to_write}, declared.watch.Watch.Watch}
 use Rattle.vs_device_parts.proofs.Under.{none_under, under}
 
-pub kept_with_value : (s : Inside) (slot : ℕ) (d : DeviceConnection) → AreKept s → AreKept (record s { table = with_value s.table slot d })
-kept_with_value s slot d kept = record {
+-- what is known after one more thing was noted
+module _ (w new : Watch) (still : (c : DeviceConnection) → IsWatched w c → IsWatched new c) (t : Table DeviceConnection) (all : AreWatched w t) where
+  revalued_watched : (e : DeviceEntry) (d : DeviceConnection) (here : Bool) → IsWatched new d → IsWatched w e.value
+      → IsWatched new (let x : DeviceEntry = cond here (record e { value = d }) e in x).value
+  revalued_watched e d true noted old = noted
+  revalued_watched e d false noted old = still e.value old
+
+  pub watched_with_value : (slot : ℕ) (d : DeviceConnection) → IsWatched new d → AreWatched new (with_value t slot d)
+  watched_with_value slot d noted =
+      All-map (λ (e : DeviceEntry). IsWatched new e.value) (revalued slot d) t.entries
+      (All-weaker (λ (e : DeviceEntry). IsWatched w e.value) (λ (e : DeviceEntry). IsWatched new (revalued slot d e).value)
+      (λ e old. revalued_watched e d (e.slot == slot) noted old) t.entries all)
+
+  pub watched_with_entry : (flow : Flow) (d : DeviceConnection) → IsWatched new d → AreWatched new (with_entry t flow d)
+  watched_with_entry flow d noted =
+      All-push (λ (e : DeviceEntry). IsWatched new e.value) t.entries (next_entry t flow d)
+      (All-weaker (λ (e : DeviceEntry). IsWatched w e.value) (λ (e : DeviceEntry). IsWatched new e.value) (λ e old. still e.value old) t.entries all) noted
+
+-- one more entry was looked at
+pub watched_more : (w new : Watch) → ((c : DeviceConnection) → IsWatched w c → IsWatched new c) → (es : List DeviceEntry) (n : ℕ) (e : DeviceEntry)
+    → IsWatched new e.value → slice_get es n ≡ Some e → AllWithin (λ x. IsWatched w x.value) es 0 n → AllWithin (λ x. IsWatched new x.value) es 0 (n + 1)
+watched_more w new still es n e noted is so_far =
+    let P : DeviceEntry → Type 0 = λ x. IsWatched new x.value in
+    AllWithin-more P es 0 n (λ k d low lt. still (get_or es k d).value (so_far k d low lt)) (λ d. subst P (sym (get_or_from_slice_get es n e d is)) noted)
+
+pub entry_within : (es : List DeviceEntry) (n : ℕ) (e : DeviceEntry) → slice_get es n ≡ Some e → n + 1 ≤ length es
+entry_within es n e is = omega (arith, slice_get_within es n e is)
+
+pub past_all : (es : List DeviceEntry) (n : ℕ) → slice_get es n ≡ None → length es ≤ n
+past_all [] n none = omega arith
+past_all (e ∷ es) zero none = absurd (cc)
+past_all (e ∷ es) (suc n) none = omega (arith, past_all es n none)
+
+-- all were
+pub watched_all : (w : Watch) (es : List DeviceEntry) (n : ℕ) → length es ≤ n → AllWithin (λ x. IsWatched w x.value) es 0 n
+    → All (λ x. IsWatched w x.value) es
+watched_all w es n ends so_far = λ k d lt. so_far k d (omega arith) (omega arith)
+
+pub none_late : (w : Watch) (t : Table DeviceConnection) (now : ℕ) → now < w.due → AreWatched w t → All (λ e. is_timed_out now e.value ≡ false) t.entries
+none_late w t now early all =
+    All-weaker (λ (e : DeviceEntry). IsWatched w e.value) (λ (e : DeviceEntry). is_timed_out now e.value ≡ false) (λ e k. k.due now early) t.entries all
+
+pub none_to_write : (w : Watch) (t : Table DeviceConnection) → w.writes ≡ false → AreWatched w t → All (λ e. has_to_write e.value ≡ false) t.entries
+none_to_write w t none all =
+    All-weaker (λ (e : DeviceEntry). IsWatched w e.value) (λ (e : DeviceEntry). has_to_write e.value ≡ false) (λ e k. k.writes none) t.entries all
+
+pub watched_without : (w : Watch) (t : Table DeviceConnection) (slot : ℕ) → AreWatched w t → AreWatched w (without t slot)
+watched_without w t slot all = All-filter (λ (e : DeviceEntry). not (e.slot == slot)) (λ (e : DeviceEntry). IsWatched w e.value) t.entries all
+
+-- slots rise
+pub slots_rise : (t : Table DeviceConnection) → IsTable t → AllPairs (λ j k. j < k) (slots t)
+slots_rise t sound i j d lt within = by (slice_get t.entries i) refl
+  where
+    by : (o : Option DeviceEntry) → slice_get t.entries i ≡ o → get_or (slots t) i d < get_or (slots t) j d
+    by None none = absurd (omega (arith, past_all t.entries i none, lt, within, length-map t.entries (λ (e : DeviceEntry). e.slot)))
+    by (Some e) is =
+        let long = length-map t.entries (λ (e : DeviceEntry). e.slot) in
+        let here : i < length t.entries = omega (arith, lt, within, long) in
+        let there : j < length t.entries = omega (arith, within, long) in
+        omega (
+          arith,
+          get_or-map (λ (e : DeviceEntry). e.slot) t.entries i e d here,
+          get_or-map (λ (e : DeviceEntry). e.slot) t.entries j e d there,
+          sound.rising i j e lt there,
+        )
+
+pub kept_with_value : (s : Inside) (slot : ℕ) (d : DeviceConnection) (new : Watch) → AreKept s → IsWatched new d
+    → ((c : DeviceConnection) → IsWatched s.watch c → IsWatched new c) → AreKept (record s { table = with_value s.table slot d; watch = new })
+kept_with_value s slot d new kept noted still = record {
   table = with_value_sound s.table slot d kept.table;
   room = kept.room;
   buffers = omega (arith, kept.buffers, length-map s.table.entries (revalued slot d));
   buffer_room = kept.buffer_room;
   spare = kept.spare;
+  watched = watched_with_value s.watch new still s.table kept.watched slot d noted;
 }
 
 pub accepts : (t : Table DeviceConnection) (flow : Flow) → has_place t ≡ true → entry_of t flow ≡ None → IsAccepted t flow

@@ -8,6 +8,8 @@ pub mod Turns
 pub mod Room
 pub mod Paid
 pub mod SlotFields
+pub mod Watched
+pub mod Served
 pub mod Playing
 pub mod Filling
 pub mod Written

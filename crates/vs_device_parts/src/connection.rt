@@ -1,6 +1,6 @@
 //! A connection of the device's table: its end, the host's stream that it is joined to, and what is left to write to that stream.
 
-ghost use Rattle.std.specs.Prelude.{◌≡◌, ◌≤◌, ◌==◌, ◌+◌, ◌-◌, ◌++◌, [], true, false, Some, if◌then◌else◌, length, take};
+ghost use Rattle.std.specs.Prelude.{◌≡◌, ◌≤◌, ◌<◌, ◌==◌, ◌+◌, ◌-◌, ◌++◌, ℕ, [], true, false, Some, if◌then◌else◌, length, take};
 ghost use Rattle.vs_conn.specs.End.{CanSend, asked, answering, may_shut, owes_of, verdict_of, view_of, wanting_credit, with_payload_sent};
 ghost use Rattle.vs_conn.specs.{Headers.owed_header, Headers.payload_header, declared.end.State.TheVariants.Live};
 ghost use Rattle.vs_conn.specs.declared.end.Verdict.TheVariants.{Deliver, Accept};
@@ -10,8 +10,10 @@ ghost use Rattle.vs_limits.specs.declared.TheConstants.{BUF_ALLOC, WRITE_MAX};
 ghost use Rattle.vs_uds.specs.OkLine.{ok_text};
 ghost use Rattle.vs_device_parts.specs.Connections.{after_shut, after_written, cut_off, is_late, is_timed_out, new_connection};
 ghost use Rattle.vs_device_parts.specs.{Connections.stream_closed, Paid.paid_connection, Receiving.may_read, Room.IsSpare};
-ghost use Rattle.vs_device_parts.specs.{Streams.to_write, Streams.is_written_out, Transmitting.heard};
+ghost use Rattle.vs_device_parts.specs.{Streams.to_write, Streams.is_written_out, Transmitting.heard, Watched.has_to_write};
+ghost use Rattle.vs_device_parts.specs.Served.{IsServedSo};
 
+use crate::service::Service;
 use std::marker::Model;
 use vs_buffer::ByteFifo;
 use vs_conn::{End, EndView, Owed, Route, Shut, State, Verdict};
@@ -247,6 +249,26 @@ impl Connection {
         (self.state() == State::Asked && is_late(now, self.asked_at)) || is_late(now, self.shut_at)
     }
 
+    /// A moment before which it doesn't wait too long, if it stays as it is: the last one of all where it waits for nothing.
+    pub fn due(&self) -> u64
+        ensures { (now : ℕ) → now < result → is_timed_out now self.now ≡ false }
+    {
+        let shut = due_of(self.shut_at);
+        if self.state() != State::Asked {
+            return shut;
+        }
+        shut.min(due_of(self.asked_at))
+    }
+
+    /// Whether a round of writing does something on it: bytes are to be written, or the write side is to be shut.
+    pub fn has_to_write(&self) -> bool
+        ensures { result ≡ has_to_write self.now }
+    {
+        let ends = Shut::of(u32::from(self.end.view().got)).send && !self.write_shut;
+        !self.closed
+            && (!self.buffers.ok_line.is_empty() || !self.buffers.pending.is_empty() || ends)
+    }
+
     /// Whether its stream is to be read: both ends let it send.
     pub fn may_read(&self) -> bool
         ensures { result ≡ may_read self.now.end self.now.end.state }
@@ -299,6 +321,26 @@ impl Connection {
         self.end.owed_header(route, what)
     }
 
+    /// What the round over all connections does on it.
+    pub fn service(&self) -> Service
+        ensures { IsServedSo (Some self.now) result }
+    {
+        if self.owes().is_some() {
+            return Service::Owed;
+        }
+        if !self.may_read() {
+            return Service::Nothing;
+        }
+        let credit = self.free();
+        if credit == 0 {
+            return Service::Owed;
+        }
+        Service::Read {
+            stream: self.stream,
+            credit,
+        }
+    }
+
     /// Counts what its end owed as put, at a moment: from a REQUEST on it waits for the answer.
     pub fn paid(&mut self, what: Owed, now: u64)
         requires owed { owes_of self.old.end ≡ Some what }
@@ -318,6 +360,16 @@ impl Connection {
         buffers.ok_line.clear();
         buffers.pending.clear();
         buffers
+    }
+}
+
+// The moment that comes `TIMEOUT` milliseconds after another one, and the last one of all where there is none.
+fn due_of(moment: Option<u64>) -> u64
+    ensures { (now : ℕ) → now < result → is_late now moment ≡ false }
+{
+    match moment {
+        Some(moment) => moment.saturating_add(TIMEOUT),
+        None => u64::MAX,
     }
 }
 

@@ -9,4 +9,6 @@ pub mod host_calls;
 pub mod packets;
 pub mod ring_calls;
 pub mod round;
+pub mod service;
 pub mod slots;
+pub mod watch;

@@ -1,7 +1,7 @@
 //! The device's slots: the connections of the table, and the buffers of free slots.
 
 ghost use Rattle.std.specs.Prelude.{◌≡◌, ◌<◌, ◌≤◌, ◌++◌, ◌+◌, [], true, false, length, Some, None, if◌then◌else◌, IfOk, IfSome, IfNone};
-ghost use Rattle.std.specs.{Prelude.IsSomeAnd, Prelude.option_copied, Prelude.slice_get, Prelude.vec_capacity, List.All, Option.option_map};
+ghost use Rattle.std.specs.{Prelude.IsSomeAnd, Prelude.AllPairs, Prelude.option_copied, Prelude.slice_get, Prelude.vec_capacity, List.All, Option.option_map, Option.option_map_or};
 ghost use Rattle.vs_conn.specs.End.{CanSend, asked, answering, may_shut, owes_of, verdict_of, wanting_credit, with_payload_sent};
 ghost use Rattle.vs_conn.specs.{Headers.owed_header, Headers.payload_header, declared.end.State.TheVariants.Live};
 ghost use Rattle.vs_conn.specs.declared.end.Verdict.TheVariants.{Deliver, Accept};
@@ -11,10 +11,13 @@ ghost use Rattle.vs_flow.specs.Table.{with_value, without};
 ghost use Rattle.vs_header.specs.declared.Kind.TheVariants.{Stream};
 ghost use Rattle.vs_limits.specs.declared.TheConstants.{BUF_ALLOC, DEVICE_CONNECTIONS};
 ghost use Rattle.vs_uds.specs.OkLine.{ok_text};
-ghost use Rattle.vs_device_parts.specs.Connections.{after_shut, after_written, cut_off, new_connection, route_to_guest, stream_closed};
+ghost use Rattle.vs_device_parts.specs.Connections.{after_shut, after_written, cut_off, is_timed_out, new_connection, route_to_guest, stream_closed};
 ghost use Rattle.vs_device_parts.specs.{Paid.paid_connection, Room.IsSpare, State.DeviceConnection, State.DeviceEntry, Transmitting.heard};
+ghost use Rattle.vs_device_parts.specs.{Served.IsServedSo, Watched.has_to_write};
 
 use crate::connection::{Buffers, Connection};
+use crate::service::Service;
+use crate::watch::Watch;
 use arrayvec::ArrayVec;
 use std::alloc::{AllocError, Global};
 use std::marker::Model;
@@ -34,6 +37,8 @@ pub struct Slots {
     table: FlowTable<Connection>,
     // The buffers of the free slots.
     spare: Vec<Buffers>,
+    // What is known of all connections.
+    watch: Watch,
 }
 
 impl Model for Slots {
@@ -57,6 +62,7 @@ impl Slots {
         Ok(Slots {
             table: FlowTable::new(alloc, DEVICE_CONNECTIONS)?,
             spare: all_buffers(alloc)?,
+            watch: Watch::new(),
         })
     }
 
@@ -116,6 +122,7 @@ impl Slots {
     pub fn all(&self) -> ArrayVec<Slot, DEVICE_CONNECTIONS>
         ensures all { result.items ≡ slots self.now }
         ensures most { length (slots self.now) ≤ DEVICE_CONNECTIONS }
+        ensures rising { AllPairs (λ j k. j < k) (slots self.now) }
     {
         let mut all = ArrayVec::new();
         let mut place = 0;
@@ -131,6 +138,53 @@ impl Slots {
         ensures { option_copied result ≡ slice_get self.now.entries place }
     {
         self.table.at(place)
+    }
+
+    /// Whether a connection may wait too long at a moment. Where none may, none does.
+    pub fn may_time_out(&self, now: u64) -> bool
+        ensures { result ≡ false → All (λ e. is_timed_out now e.value ≡ false) self.now.entries }
+    {
+        self.watch.due <= now
+    }
+
+    /// Whether a round of writing does something on the connection in a slot.
+    pub fn has_to_write(&self, slot: Slot) -> bool
+        ensures { result ≡ option_map_or (λ e. has_to_write e.value) (entry_under self.now slot) false }
+    {
+        match self.table.get(slot) {
+            Some(connection) => connection.has_to_write(),
+            None => false,
+        }
+    }
+
+    /// What the round over all connections does on the one in a slot.
+    pub fn service(&self, slot: Slot) -> Service
+        ensures { IsServedSo (value_under self.now slot) result }
+    {
+        match self.table.get(slot) {
+            Some(connection) => connection.service(),
+            None => Service::Nothing,
+        }
+    }
+
+    /// Whether a round of writing may do something. Where it may not, it does nothing on any connection.
+    pub fn may_write(&self) -> bool
+        ensures { result ≡ false → All (λ e. has_to_write e.value ≡ false) self.now.entries }
+    {
+        self.watch.writes
+    }
+
+    /// Looks at all connections anew, after a stage that went over them.
+    pub fn watch_anew(&mut self)
+        ensures { self.new ≡ self.old }
+    {
+        let mut watch = Watch::new();
+        let mut place = 0;
+        while let Some(entry) = self.table.at(place) {
+            watch.note(&entry.value);
+            place += 1;
+        }
+        self.watch = watch;
     }
 
     /// The packet that the connection in a slot owes, if it owes one, and its header.
@@ -164,6 +218,7 @@ impl Slots {
         ensures slot { result ≡ self.old.given }
     {
         let connection = Connection::client(stream, self.spare.take_last());
+        self.watch.note(&connection);
         insert(&mut self.table, flow, connection)
     }
 
@@ -174,6 +229,7 @@ impl Slots {
         ensures { self.new ≡ with_entry self.old flow (new_connection (answering Stream BUF_ALLOC request.now) stream false) }
     {
         let connection = Connection::dialed(stream, request, self.spare.take_last());
+        self.watch.note(&connection);
         insert(&mut self.table, flow, connection);
     }
 
@@ -219,7 +275,9 @@ impl Slots {
         let Some(connection) = self.table.get_mut(slot) else {
             return Verdict::Ignore;
         };
-        connection.on_packet(header)
+        let verdict = connection.on_packet(header);
+        self.watch.note(connection);
+        verdict
     }
 
     /// The connection in a slot stands since its RESPONSE came.
@@ -234,6 +292,7 @@ impl Slots {
             return;
         };
         connection.accept(flow.host);
+        self.watch.note(connection);
     }
 
     /// Payload that the end of the connection in a slot delivers is to be written.
@@ -246,6 +305,7 @@ impl Slots {
             return;
         };
         connection.deliver(payload);
+        self.watch.note(connection);
     }
 
     /// The stream of the connection in a slot is closed.
@@ -256,6 +316,7 @@ impl Slots {
             return;
         };
         connection.stream_closed();
+        self.watch.note(connection);
     }
 
     /// The connection in a slot is over, and its stream is closed.
@@ -266,6 +327,7 @@ impl Slots {
             return;
         };
         connection.cut_off();
+        self.watch.note(connection);
     }
 
     /// Shuts directions of the connection in a slot, at a moment.
@@ -278,6 +340,7 @@ impl Slots {
             return;
         };
         connection.shut(bits, now);
+        self.watch.note(connection);
     }
 
     /// The stream of the connection in a slot took the first `n` of the bytes that were to be written.
@@ -289,6 +352,7 @@ impl Slots {
             return;
         };
         connection.written(n);
+        self.watch.note(connection);
     }
 
     /// The side that the device writes to is shut, of the stream of the connection in a slot.
@@ -299,6 +363,7 @@ impl Slots {
             return;
         };
         connection.write_shut();
+        self.watch.note(connection);
     }
 
     /// Notes that the connection in a slot had no credit for what was to be sent.
@@ -311,6 +376,7 @@ impl Slots {
             return;
         };
         connection.want_credit();
+        self.watch.note(connection);
     }
 
     /// Counts `n` bytes as sent on the connection in a slot.
@@ -322,6 +388,7 @@ impl Slots {
             return;
         };
         connection.sent(n);
+        self.watch.note(connection);
     }
 
     /// Counts a packet that the connection in a slot owed as put, at a moment.
@@ -333,6 +400,7 @@ impl Slots {
             return;
         };
         connection.paid(what, now);
+        self.watch.note(connection);
     }
 }
 

@@ -43,6 +43,9 @@ impl FailList {
         ensures answer { result ≡ fails_next self.old }
         ensures after { self.new ≡ counted_down self.old }
     {
+        if self.calls.is_empty() {
+            return false;
+        }
         let fails = self.calls.contains(&1);
         keep_later(&mut self.calls);
         count_down(&mut self.calls);

@@ -1,8 +1,13 @@
-use Rattle.std.proofs.Common.{◌≡◌, ℕ, List, ◌<◌, ◌≤◌, length, ap, ◌∙◌, rules, arith}
+use Rattle.std.proofs.Common.{◌≡◌, ℕ, List, ◌<◌, ◌≤◌, length, sym, ap, subst, ◌∙◌, rules, arith}
+use Rattle.std.specs.List.{AllPairs}
 use Rattle.vs_flow.specs.Table.{slots}
 use Rattle.vs_device_parts.proofs.Each.{each_more, may_each_step, may_each_more, each_end}
 use Rattle.vs_device_parts.specs.{Filling.filling_of, Receiving.Filling, Receiving.serve_slot, Receiving.round_from, State.DeviceState}
 use Rattle.vs_device.proofs.device.Device.serve_all.Goals as goal
+
+pub round_from-round-requires-clause-rising : goal.round_from-round-requires-clause-rising
+round_from-round-requires-clause-rising g c =
+    subst (λ (xs : List ℕ). AllPairs (λ j k. j < k) xs) (sym (c.as_slice.ensures.value ∙ c.all-slots.ensures.all)) c.all-slots.ensures.rising
 
 pub loop-slot-init : goal.loop-slot-init
 loop-slot-init g c =

@@ -1,33 +1,8 @@
-use Rattle.std.proofs.Common.{◌≤◌, ◌<◌, length, ◌∙◌, rules}
-use Rattle.vs_device_parts.specs.Streams.{tick_slot}
-use Rattle.vs_device_parts.proofs.Each.{each_more, may_each_step, may_each_more, each_end}
 use Rattle.vs_device.proofs.{Ordered.tick_honest, Ordered.tick_streams, Accounted.tick_accounted}
 use Rattle.vs_device.proofs.device.Device.tick.Goals as goal
 
-pub tick_slot-requires : goal.tick_slot-requires
-tick_slot-requires g c =
-    let xs = c.as_slice-slot-items.result.now in
-    let within : c.loop-slot.slot-index < length xs = search rules in
-    record { may = (c.loop-slot.invariant.may.0, may_each_step tick_slot xs c.loop-slot.slot-index 0 c.loop-slot.self within _ c.loop-slot.invariant.may.1) }
-
-pub loop-slot-preserved : goal.loop-slot-preserved
-loop-slot-preserved g c =
-    let xs = c.as_slice-slot-items.result.now in
-    let i = c.loop-slot.slot-index in
-    let within : i < length xs = search rules in
-    let may = c.loop-slot.invariant.may in
-    record {
-      goes_on = λ new h n rest. c.loop-slot.invariant.goes_on new h n (λ ring.
-          each_more tick_slot xs i 0 c.loop-slot.self within _ _ _ _ _ (c.tick_slot.ensures.calls ring) (rest ring));
-      may = (may.0, may_each_more tick_slot xs i 0 c.loop-slot.self within _ _ _ may.1 (c.tick_slot.ensures.calls may.0));
-      chain = c.tick_slot.ensures.chain ∙ c.loop-slot.invariant.chain;
-    }
-
 pub returns-clause-calls : goal.returns-clause-calls
-returns-clause-calls g c =
-    let xs = c.as_slice-slot-items.result.now in
-    let ends : length xs ≤ c.loop-slot.slot-index = search rules in
-    c.loop-slot.invariant.goes_on _ _ _ (λ ring. each_end tick_slot xs c.loop-slot.slot-index c.loop-slot.self _ ends)
+returns-clause-calls g c = rw (← c.self.view_is) c.time_out.ensures.calls
 
 pub returns-clause-streams : goal.returns-clause-streams
 returns-clause-streams g c = tick_streams c.args.self.now _ _ c.args.now _ (returns-clause-calls g c c.requires.may.0)

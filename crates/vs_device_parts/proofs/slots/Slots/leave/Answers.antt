@@ -1,7 +1,7 @@
 use Rattle.std.proofs.{Common.{◌≡◌, length, Some, None, sym, ap, subst, ◌∙◌, arith, rules}, lemmas.List.Elements.All-push}
 use Rattle.vs_flow.specs.Table.{Table, value_under, without}
 use Rattle.vs_device_parts.specs.{State.DeviceConnection, Room.IsSpare, SlotFields.AreKept}
-use Rattle.vs_device_parts.proofs.SlotChanges.{none_leaves, one_fewer}
+use Rattle.vs_device_parts.proofs.SlotChanges.{none_leaves, one_fewer, watched_without}
 use Rattle.vs_device_parts.proofs.slots.Slots.leave.Goals as goal
 
 pub invariant_of-self : goal.invariant_of-self
@@ -25,4 +25,5 @@ invariant_of-self-2 c =
       buffers = omega (arith, kept.buffers, entries, one_fewer s.table c.args.slot c.in-Some.connection kept.table there, c.push_reserved.ensures.len);
       buffer_room = omega (arith, kept.buffer_room, c.push_reserved.ensures.capacity);
       spare = rw c.push_reserved.ensures.items (All-push IsSpare s.spare.items c.into_buffers.result kept.spare c.into_buffers.ensures);
+      watched = rw table (watched_without s.watch s.table c.args.slot kept.watched);
     }

@@ -2,7 +2,7 @@ use Rattle.std.proofs.Common.{◌≡◌, ◌∷◌, [], length, ap, ◌∙◌, a
 use Rattle.vs_flow.specs.Table.{Table, with_entry, next_entry, has_place, entry_of}
 use Rattle.vs_flow.proofs.Tables.{with_entry_sound}
 use Rattle.vs_device_parts.specs.{State.DeviceConnection, Room.IsSpare}
-use Rattle.vs_device_parts.proofs.SlotChanges.{accepts, all_front}
+use Rattle.vs_device_parts.proofs.SlotChanges.{accepts, all_front, watched_with_entry}
 use Rattle.vs_device_parts.proofs.slots.Slots.open_dialed.Goals as goal
 
 pub invariant_of-self : goal.invariant_of-self
@@ -19,4 +19,5 @@ invariant_of-self c =
       buffers = omega (arith, kept.buffers, entries, length-append s.table.entries (next_entry s.table c.args.flow c.dialed-connection.result ∷ []), c.take_last.ensures.len);
       buffer_room = omega (arith, kept.buffer_room, c.take_last.ensures.capacity);
       spare = all_front IsSpare c.take_last.new.self.items c.take_last.result s.spare.items c.take_last.ensures.items kept.spare;
+      watched = rw table (watched_with_entry s.watch c.note.new.self c.note.ensures.others s.table kept.watched c.args.flow c.dialed-connection.result c.note.ensures.watched);
     }

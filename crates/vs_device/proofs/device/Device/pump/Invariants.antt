@@ -3,7 +3,7 @@ use Rattle.vs_contents.specs.CallTree.{for_each}
 use Rattle.vs_outside.specs.Host.{HostContents}
 use Rattle.vs_limits.specs.declared.TheConstants.{DEVICE_CONNECTIONS, WRITE_MAX}
 use Rattle.vs_device_parts.specs.{Playing.{MayRunOnHost, RunsOnHost}, Streams.{Writing, pump_of, pump_slot}, Written.writing}
-use Rattle.vs_device.proofs.device.Device.pump_out.Given as goal
+use Rattle.vs_device.proofs.device.Device.pump.Given as goal
 
 -- whatever completes the rest completes the whole
 abbrev pub invariant-loop-slot : goal.invariant-loop-slot

@@ -1,0 +1,12 @@
+//! What the round over all connections does on one of them, as far as one look at it tells.
+
+/// What the round over all connections does on one of them, as far as one look at it tells.
+#[derive(Clone, Copy)]
+pub enum Service {
+    /// Nothing: it neither reads its stream nor owes a packet.
+    Nothing,
+    /// Its stream is read, with so much credit. It owes no packet.
+    Read { stream: u64, credit: u32 },
+    /// It may owe a packet, or want credit.
+    Owed,
+}
