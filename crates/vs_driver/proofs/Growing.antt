@@ -61,11 +61,7 @@ module _ (id : ℕ) (s : DriverState) (e : DriverEntry) (sound : IsTable s.table
           raised_owes ∙ owes_update e.value.end alloc (may_grow e.value.end alloc done) test
       by _ done = tt
 
--- What the end's answer says where it is Done, and where it isn't.
+-- What the end's answer says where it is Done.
 pub may_by : (x : ConnectionEnd) (alloc : ℕ) (end : EndView) (a : Grown) → end ≡ view_of x
     → ((e : ConnectionEnd) → end ≡ view_of e → a ≡ grow_answer e.state alloc e) → a ≡ rise.Done → MayGrow x alloc
 may_by x alloc end a is answers done = may_grow x alloc (sym (answers x is) ∙ done)
-
-pub not_grown : (a : Grown) (alloc : ℕ) (e : DriverEntry) (s : DriverState) → (a ≡ rise.Done → ⊥) → s ≡ grown_by a alloc e s
-not_grown rise.Done alloc e s apart = absurd (apart refl)
-not_grown _ alloc e s apart = refl
