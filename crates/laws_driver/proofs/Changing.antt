@@ -1,25 +1,27 @@
 -- Calls that make no use of the ring: the driver still matches its log.
 use Rattle.std.proofs.Common.{◌≡◌, ℕ, ◌≤◌, ◌==◌, Bool, true, false, cond, min, List, [], ◌∷◌, length, Option, Some, None, refl, sym, subst}
 use Rattle.std.proofs.Common.{◌∙◌, ap, arith}
-use Rattle.vs_conn.proofs.Steps.{abort_follows, ask_follows, forward_follows, shut_follows}
-use Rattle.vs_conn.specs.{End.ConnectionEnd, End.wanting_credit, Follows.Follows, declared.end.State.State}
+use Rattle.vs_conn.proofs.Steps.{abort_follows, ask_follows, forward_follows, grow_follows, shut_follows}
+use Rattle.vs_conn.specs.{End.ConnectionEnd, End.grown, End.wanting_credit, Follows.Follows, declared.end.State.State}
 use Rattle.vs_credit.specs.Credit.{unread_of}
 use Rattle.laws_history.specs.History.{Side, gots, puts, History}
 use Rattle.vs_page.specs.Log.{Driver, Log, side_of}
-use Rattle.laws_tables.specs.Both.{Aborts, Decides, Decision, Forwards, MayDecide, Shuts, WantsCredit, decided}
+use Rattle.laws_tables.specs.Both.{Aborts, Decides, Decision, Forwards, Grows, MayDecide, Shuts, WantsCredit, decided}
 use Rattle.laws_tables.specs.{Ends.Ends, Heard.heard_of, Matches.Matches, Steps.with_end}
 use Rattle.laws_tables.proofs.{Keeps.changes, Slots.found_by, Tables.driver_begun}
 use Rattle.vs_driver_parts.specs.State.{DriverConnection, DriverEntry, DriverState, GoneConnection, entry_known_as, gone_known_as}
-use Rattle.vs_driver_parts.specs.Connections.{after_close, after_closing, after_read, after_recv, after_shut, after_shutdown}
+use Rattle.vs_driver_parts.specs.Connections.{after_close, after_closing, after_grow, after_read, after_recv, after_shut, after_shutdown}
+use Rattle.vs_driver_parts.specs.{Connections.entry_grow_answer, Connections.grown_by, declared.answers.Grown.Grown}
 use Rattle.vs_driver_parts.specs.Connections.{after_unlisten, all_closed, all_gone_after_read, entry_closed, entry_read, gone_closed}
 use Rattle.vs_driver_parts.specs.Listening.{after_accept, listening, next_accepted, with_waiting, without_id}
 use Rattle.vs_driver_parts.specs.Connections.{shut_in, waiting_on, with_connection, without_gone}
-use Rattle.vs_driver_parts.{specs.State.is_known_as, proofs.Ids.found_under}
+use Rattle.vs_driver_parts.{specs.State.is_known_as, proofs.Growing.MayGrow, proofs.Growing.may_grow, proofs.Ids.found_under}
 use Rattle.laws_driver.specs.Honest.{IsFitState, ends_of_state}
 use Rattle.laws_driver.proofs.{Going.{Goes, at_log, goes_then, one_step, seat, stays}, Tabling.{Stands, connection_ends, connection_fits}}
-use Rattle.laws_driver.proofs.{Tabling.{entry_fits, has_end}, Fits.{IsHeldBy, closing_fits, holds_same, read_fits, shut_fits}}
+use Rattle.laws_driver.proofs.{Tabling.{entry_fits, has_end}, Fits.{IsHeldBy, closing_fits, grow_fits, holds_same, read_fits, shut_fits}}
 use Rattle.vs_conn.specs.declared.end.State.TheVariants as state
 use Rattle.vs_driver_parts.specs.Connections as connections
+use Rattle.vs_driver_parts.specs.declared.answers.Grown.TheVariants as rise
 
 -- What a step does that puts and gets nothing.
 pub record Changes (s t : DriverState) : Type 0 where
@@ -106,6 +108,26 @@ shutdown_changes id bits s fits = by (entry_known_as id s) refl
     by : (o : Option DriverEntry) → entry_known_as id s ≡ o → Changes s (elim o [ Some e ↦ shut_in e.value.end.state bits e s | None ↦ s ])
     by None none = same s fits
     by (Some e) found = shut_by e.value.end.state bits s e fits (stands_known id s e fits found)
+
+-- grow.
+raise_changes : (alloc : ℕ) (s : DriverState) (e : DriverEntry) → IsFitState s → Stands s e → MayGrow e.value.end alloc
+    → Changes s (connections.with_end (grown e.value.end alloc) e s)
+raise_changes alloc s e fits stands may =
+    let held = (entry_fits s e fits stands).buffer in
+    connection_changes s e (record e.value { end = grown e.value.end alloc }) (Grows alloc) fits stands (grow_fits alloc e.value held may.rises may.most) refl
+    (λ side h follows. grow_follows _ _ _ e.value.end alloc follows may.live may.rises may.most) refl (may.live, may.rises, may.most)
+
+grow_by : (a : Grown) (alloc : ℕ) (s : DriverState) (e : DriverEntry) → entry_grow_answer alloc e ≡ a → IsFitState s → Stands s e
+    → Changes s (grown_by a alloc e s)
+grow_by rise.Done alloc s e done fits stands = raise_changes alloc s e fits stands (may_grow e.value.end alloc done)
+grow_by _ alloc s e done fits stands = same s fits
+
+pub grow_changes : (id alloc : ℕ) (s : DriverState) → IsFitState s → Changes s (after_grow id alloc s)
+grow_changes id alloc s fits = by (entry_known_as id s) refl
+  where
+    by : (o : Option DriverEntry) → entry_known_as id s ≡ o → Changes s (elim o [ Some e ↦ grown_by (entry_grow_answer alloc e) alloc e s | None ↦ s ])
+    by None none = same s fits
+    by (Some e) found = grow_by (entry_grow_answer alloc e) alloc s e refl fits (stands_known id s e fits found)
 
 -- close.
 closing_follows : (st : State) (c : DriverConnection) → FollowsAs c.end (after_closing st c).end

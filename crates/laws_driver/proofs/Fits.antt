@@ -3,12 +3,12 @@ use Rattle.std.proofs.Common.{◌≡◌, ℕ, ◌+◌, ◌-◌, ◌<◌, ◌≤�
 use Rattle.std.proofs.Common.{None, refl, sym, ap, subst, ◌∙◌, arith, length-append, length-drop, eq-eqb}
 use Rattle.vs_wrap.specs.Wrap.{difference32, sum32}
 use Rattle.vs_credit.specs.{Credit.room_of, Credit.with_taken, Credit.with_forwarded, Credit.with_heard, declared.Credit.Credit}
-use Rattle.vs_limits.specs.declared.TheConstants.{BUF_ALLOC}
+use Rattle.vs_limits.specs.declared.TheConstants.{BUF_ALLOC_MAX}
 use Rattle.laws_history.specs.declared.packet.Packet.{Packet}
 use Rattle.vs_header.specs.{declared.Header.Header, declared.Op.Op, Op.op_named}
 use Rattle.vs_page.specs.Held.{IsWhole}
 use Rattle.vs_conn.specs.{Shut.joined, Shut.shut_of, declared.end.Owed.Owed, declared.end.State.State, declared.end.Verdict.Verdict}
-use Rattle.vs_conn.specs.End.{ConnectionEnd, after_op, after_message, end_after, verdict_of, all_forwarded, with_payload_sent}
+use Rattle.vs_conn.specs.End.{ConnectionEnd, after_op, after_message, end_after, grown, verdict_of, all_forwarded, with_payload_sent}
 use Rattle.vs_driver_parts.specs.{Room.HasRoom, State.DriverConnection, Receiving.after_packet}
 use Rattle.vs_driver_parts.specs.Connections.{after_read, after_shut, after_closing, paid_connection}
 use Rattle.vs_driver_parts.proofs.Delivers.{delivers, named_rw}
@@ -17,9 +17,9 @@ use Rattle.vs_conn.specs.declared.end.Owed.TheVariants as owed
 use Rattle.vs_conn.specs.declared.end.State.TheVariants as state
 use Rattle.vs_conn.specs.declared.end.Verdict.TheVariants as verdict
 
--- A buffer of BUF_ALLOC bytes with these.
+-- A buffer of BUF_ALLOC_MAX bytes with these.
 abbrev pub Holds : Credit → List ℕ → Type 0
-Holds c bytes = HasRoom c (record { bytes = bytes; capacity = BUF_ALLOC })
+Holds c bytes = HasRoom c (record { bytes = bytes; capacity = BUF_ALLOC_MAX })
 
 abbrev pub IsHeldBy : DriverConnection → Type 0
 IsHeldBy c = Holds c.end.credit c.unread
@@ -28,7 +28,7 @@ IsHeldBy c = Holds c.end.credit c.unread
 pub holds_same : (c d : Credit) (bytes : List ℕ) → Holds c bytes → d.alloc ≡ c.alloc → d.rx_cnt ≡ c.rx_cnt → d.fwd_cnt ≡ c.fwd_cnt → Holds d bytes
 holds_same c d bytes room alloc rx fwd = record {
   unread = room.unread ∙ (ap (λ (n : ℕ). difference32 n c.fwd_cnt) (sym rx) ∙ ap (λ (n : ℕ). difference32 d.rx_cnt n) (sym fwd));
-  fits = room.fits;
+  fits = omega (arith, room.fits, alloc);
   space = omega (arith, room.space, alloc);
   least = room.least;
   alloc = omega (arith, room.alloc, alloc);
@@ -36,7 +36,7 @@ holds_same c d bytes room alloc rx fwd = record {
   fwd_cnt = omega (arith, room.fwd_cnt, fwd);
 }
 
-took_more : (rx fwd n : ℕ) → rx < 2 ^ 32 → fwd < 2 ^ 32 → difference32 rx fwd + n ≤ BUF_ALLOC → difference32 (sum32 rx n) fwd ≡ difference32 rx fwd + n
+took_more : (rx fwd n : ℕ) → rx < 2 ^ 32 → fwd < 2 ^ 32 → difference32 rx fwd + n ≤ BUF_ALLOC_MAX → difference32 (sum32 rx n) fwd ≡ difference32 rx fwd + n
 took_more rx fwd n a b c = omega (arith, a, b, c)
 
 took_both : (rx fwd n : ℕ) → rx < 2 ^ 32 → fwd < 2 ^ 32 → difference32 (sum32 rx n) (sum32 fwd n) ≡ difference32 rx fwd
@@ -145,6 +145,18 @@ sent_fits n c room = holds_same c.end.credit _ c.unread room refl refl refl
 
 pub read_fits : (n : ℕ) (c : DriverConnection) → IsHeldBy c → IsHeldBy (after_read n c)
 read_fits n c room = holds_read c.end.credit c.unread n room
+
+pub grow_fits : (alloc : ℕ) (c : DriverConnection) → IsHeldBy c → c.end.credit.alloc ≤ alloc → alloc ≤ BUF_ALLOC_MAX
+    → Holds (grown c.end alloc).credit c.unread
+grow_fits alloc c room rises most = record {
+  unread = room.unread;
+  fits = omega (arith, room.fits, rises);
+  space = most;
+  least = room.least;
+  alloc = omega (arith, most);
+  rx_cnt = room.rx_cnt;
+  fwd_cnt = room.fwd_cnt;
+}
 
 shut_fits_by : (b : Bool) (credit : Credit) (unread : List ℕ) → Holds credit unread → Holds (cond b (all_forwarded credit) credit) (cond b [] unread)
 shut_fits_by true credit unread room = holds_none credit unread room

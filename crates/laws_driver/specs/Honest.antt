@@ -3,7 +3,7 @@ use Rattle.std.specs.{List.All, Option.ForSome, Prelude.{◌≡◌, ℕ, ◌+◌
 use Rattle.vs_conn.specs.{End.ConnectionEnd, declared.end.State.State}
 use Rattle.vs_flow.specs.{Flow.is_assigned, Table.IsTable, Table.Table, declared.flow.Flow.Flow}
 use Rattle.vs_header.specs.declared.Kind.TheVariants.{Stream}
-use Rattle.vs_limits.specs.declared.TheConstants.{HOST_CID, BUF_ALLOC, LAST_PORT, DRIVER_CONNECTIONS}
+use Rattle.vs_limits.specs.declared.TheConstants.{HOST_CID, BUF_ALLOC_MAX, LAST_PORT, DRIVER_CONNECTIONS}
 use Rattle.vs_page.specs.{Fair.IsFairLog, Log.Driver, Open.is_open}
 use Rattle.vs_replies.specs.declared.Reply.{Reply}
 use Rattle.vs_ring_port.specs.{Contents.RingContents, EndLog.EndLog}
@@ -35,12 +35,13 @@ pub record IsFitFlow (f : Flow) : Type 0 where
   pub host : f.host < 2 ^ 32
   pub peer : f.peer < 2 ^ 64
 
--- A connection is a stream with the host. It holds the bytes that its end counts as unread, of which there are at most BUF_ALLOC.
+-- A connection is a stream with the host. It holds the bytes that its end counts as unread, of which there are at most its buffer space,
+-- which is at most BUF_ALLOC_MAX.
 pub record IsFitEntry (e : DriverEntry) : Type 0 where
   pub ports : IsFitFlow e.flow
   pub peer : e.flow.peer ≡ HOST_CID
   pub kind : e.value.end.kind ≡ Stream
-  pub buffer : HasRoom e.value.end.credit (record { bytes = e.value.unread; capacity = BUF_ALLOC })
+  pub buffer : HasRoom e.value.end.credit (record { bytes = e.value.unread; capacity = BUF_ALLOC_MAX })
 
 abbrev pub IsFitReply : Reply → Type 0
 IsFitReply r = IsFitFlow r.flow

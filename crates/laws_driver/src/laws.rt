@@ -6,7 +6,7 @@ ghost use Rattle.vs_ring_port.specs.{Contents.RingContents, DriverCalls.DriverAl
 ghost use Rattle.vs_driver_parts.specs.declared.answers.{ConnectError.ConnectError, Polled.Polled, Sent.Sent};
 ghost use Rattle.vs_limits.specs.declared.TheConstants.{LAST_PORT};
 ghost use Rattle.vs_driver_parts.specs.State.{DriverState};
-ghost use Rattle.vs_driver_parts.specs.Connections.{after_close, after_recv, after_shutdown, after_unlisten, table_shown};
+ghost use Rattle.vs_driver_parts.specs.Connections.{after_close, after_grow, after_recv, after_shutdown, after_unlisten, table_shown};
 ghost use Rattle.vs_driver_parts.specs.Conversations.{DriverTree, connect_of, new_of, poll_of, send_of};
 ghost use Rattle.vs_driver_parts.specs.{Listening.after_accept, Listening.listening, Playing.MayPublishAll, Playing.Plays};
 ghost use Rattle.laws_driver.specs.Honest.{AgreesWith, IsFresh, IsHonestWith, IsLeftOpen};
@@ -35,6 +35,8 @@ pub fn law_of_other_calls()
     ensures recv { (first id n : ℕ) (s : DriverState) (c : RingContents) → IsHonestWith first s c → IsHonestWith first (after_recv id n s) c }
     ensures shutdown { (first id bits : ℕ) (s : DriverState) (c : RingContents) → IsHonestWith first s c
         → IsHonestWith first (after_shutdown id bits s) c }
+    ensures grow { (first id alloc : ℕ) (s : DriverState) (c : RingContents) → IsHonestWith first s c
+        → IsHonestWith first (after_grow id alloc s) c }
     ensures close { (first id : ℕ) (s : DriverState) (c : RingContents) → IsHonestWith first s c → IsHonestWith first (after_close id s) c }
     ensures listen { (first port : ℕ) (s : DriverState) (c : RingContents) → IsHonestWith first s c → IsHonestWith first (listening port s) c }
     ensures unlisten { (first port : ℕ) (s : DriverState) (c : RingContents) → IsHonestWith first s c

@@ -1,13 +1,14 @@
 -- Calls that read nothing keep the account: those that make no use of the ring, and a send.
 use Rattle.std.proofs.Common.{◌≡◌, ℕ, ◌==◌, not, Bool, true, false, cond, List, [], ◌∷◌, take, length, Option, Some, None, refl, Contains}
 use Rattle.std.proofs.{Common.Result, Common.Ok, Common.Err, Common.◌∙◌, lemmas.List.Elements.All-filter}
-use Rattle.vs_conn.specs.{End.with_payload_sent, End.wanting_credit, declared.end.State.State}
+use Rattle.vs_conn.specs.{End.grown, End.with_payload_sent, End.wanting_credit, declared.end.State.State}
 use Rattle.vs_flow.specs.{Flow.same_flow, Table.IsTable, declared.flow.Flow.Flow}
 use Rattle.laws_history.specs.{History.{Got, History, Put, Side, gots, puts}, declared.packet.Packet.Packet, Packets.is_request}
 use Rattle.vs_page.specs.{Fair.{asked_by, number_of, payload_got}, Log.{Driver, Log, Role, flow_got, flow_put, side_of, whole_of}}
 use Rattle.vs_page.specs.declared.log.LogEntry.TheVariants.{GotPacket, PutPacket}
 use Rattle.vs_driver_parts.specs.State.{DriverConnection, DriverEntry, DriverState, GoneConnection, entry_known_as, gone_known_as}
-use Rattle.vs_driver_parts.specs.Connections.{after_close, after_closing, after_shut, after_shutdown, after_unlisten, all_closed}
+use Rattle.vs_driver_parts.specs.Connections.{after_close, after_closing, after_grow, after_shut, after_shutdown, after_unlisten, all_closed}
+use Rattle.vs_driver_parts.specs.{Connections.entry_grow_answer, Connections.grown_by, declared.answers.Grown.Grown}
 use Rattle.vs_driver_parts.specs.Listening.{after_accept, listening, next_accepted, with_waiting, without_id}
 use Rattle.vs_driver_parts.specs.Connections.{entry_closed, gone_closed, shut_in, waiting_on, without_gone}
 use Rattle.vs_driver_parts.specs.{Held.with_connection_in, State.is_known_as, declared.answers.ListenError.ListenError}
@@ -19,6 +20,7 @@ use Rattle.laws_driver_bytes.specs.Received.{Account, AreReceived, ReceivedOn}
 use Rattle.laws_driver_bytes.proofs.Adding.{asked_after, asked_still, got_over_put}
 use Rattle.laws_driver_bytes.proofs.{Reading.given_none, Receiving.changed_received, Receiving.in_slots}
 use Rattle.vs_conn.specs.declared.end.State.TheVariants as state
+use Rattle.vs_driver_parts.specs.declared.answers.Grown.TheVariants as rise
 
 -- The number of a flow's present connection stays at all packets but REQUESTs.
 put_by : (side : Side) (p : Packet) (w : History) (b : Bool) → is_request p ≡ false
@@ -65,6 +67,22 @@ module _ (a : Account) (log : Log) (s : DriverState) (x : AreReceived a log (slo
           → AreReceived a log (slots_of (elim o as (λ _. DriverState) [ Some e ↦ shut_in e.value.end.state bits e s | None ↦ s ]))
       by None is = x
       by (Some e) is = shut_by e.value.end.state bits e sound (found_by (is_known_as id) s.table.entries e is).0
+
+  -- grow.
+  grow_by : (answer : Grown) (alloc : ℕ) (e : DriverEntry) → IsTable s.table → Contains s.table.entries e
+      → AreReceived a log (slots_of (grown_by answer alloc e s))
+  grow_by rise.Done alloc e sound there =
+      alters e (record e.value { end = grown e.value.end alloc }) sound there refl
+      (stays_still (receives e.value.end) (receives e.value.end) e.value.unread [] (λ on. on) (λ on. refl))
+  grow_by _ alloc e sound there = x
+
+  pub grow_received : (id alloc : ℕ) → IsTable s.table → AreReceived a log (slots_of (after_grow id alloc s))
+  grow_received id alloc sound = by (entry_known_as id s) refl
+    where
+      by : (o : Option DriverEntry) → entry_known_as id s ≡ o
+          → AreReceived a log (slots_of (elim o as (λ _. DriverState) [ Some e ↦ grown_by (entry_grow_answer alloc e) alloc e s | None ↦ s ]))
+      by None is = x
+      by (Some e) is = grow_by (entry_grow_answer alloc e) alloc e sound (found_by (is_known_as id) s.table.entries e is).0
 
   -- close.
   closes : (st : State) (e : DriverEntry) → IsTable s.table → Contains s.table.entries e

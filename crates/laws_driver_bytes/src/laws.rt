@@ -7,7 +7,7 @@ ghost use Rattle.vs_ring_port.specs.Contents.{IsSound, RingContents};
 ghost use Rattle.vs_driver_parts.specs.declared.answers.{ConnectError.ConnectError, Polled.Polled, Sent.Sent};
 ghost use Rattle.vs_driver_parts.specs.Conversations.{DriverTree, connect_of, new_of, poll_of, send_of};
 ghost use Rattle.vs_driver_parts.specs.{Playing.Plays, State.DriverEntry, State.DriverState, State.entry_known_as, Connections.after_close};
-ghost use Rattle.vs_driver_parts.specs.Connections.{after_recv, after_shutdown, after_unlisten};
+ghost use Rattle.vs_driver_parts.specs.Connections.{after_grow, after_recv, after_shutdown, after_unlisten};
 ghost use Rattle.vs_driver_parts.specs.Listening.{after_accept, listening};
 ghost use Rattle.vs_limits.specs.declared.TheConstants.{LAST_PORT};
 ghost use Rattle.laws_driver.specs.Honest.{IsFresh, IsHonestWith};
@@ -54,6 +54,8 @@ pub fn law_of_received()
         → IsHonestWith first s c → IsReceivedWith a s c → Plays (poll_of s) c x d → GoesOnWith a x.0 d }
     ensures shutdown { (first id bits : ℕ) (a : Account) (s : DriverState) (c : RingContents) → IsHonestWith first s c → IsReceivedWith a s c
         → IsReceivedWith a (after_shutdown id bits s) c }
+    ensures grow { (first id alloc : ℕ) (a : Account) (s : DriverState) (c : RingContents) → IsHonestWith first s c → IsReceivedWith a s c
+        → IsReceivedWith a (after_grow id alloc s) c }
     ensures close { (first id : ℕ) (a : Account) (s : DriverState) (c : RingContents) → IsHonestWith first s c → IsReceivedWith a s c
         → IsReceivedWith a (after_close id s) c }
     ensures listen { (first port : ℕ) (a : Account) (s : DriverState) (c : RingContents) → IsHonestWith first s c → IsReceivedWith a s c

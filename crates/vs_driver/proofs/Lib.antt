@@ -10,3 +10,4 @@ pub mod Posting
 pub mod Ending
 pub mod Kept
 pub mod Pipes
+pub mod Growing

@@ -117,7 +117,7 @@ module _ (id : ℕ) (s : DriverState) (e : DriverEntry) (sound : IsTable s.table
       ap (λ (o : Option DriverEntry). (o, gone_known_as other s))
       (others_found c e.slot other s.table.entries (λ is. apart (is ∙ (same ∙ id_is))) (λ k d lt at. ap (λ (x : DriverEntry). x.value.id) (only k d lt at) ∙ sym same))
 
-  known_after : (c : DriverConnection) → c.id ≡ e.value.id → c.closed ≡ e.value.closed
+  pub known_after : (c : DriverConnection) → c.id ≡ e.value.id → c.closed ≡ e.value.closed
       → entry_known_as id (with_connection e.slot c s) ≡ Some (record e { value = c })
   known_after c same closed = own_found c id e s.table.entries only known same closed
 

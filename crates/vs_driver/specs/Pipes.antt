@@ -1,7 +1,9 @@
 -- Each connection is a pipe: what came in on it is read in its order, and a call on one connection leaves all others alone.
-use Rattle.std.specs.Prelude.{◌≡◌, ◌≢◌, ℕ, Bool, false, not, List, [], take, Option, Some, None}
-use Rattle.vs_driver_parts.specs.{declared.answers.Received.Received, declared.answers.Shut.Shut, State.DriverEntry, State.DriverState}
-use Rattle.vs_driver_parts.specs.State.{GoneConnection, entry_known_as, gone_known_as}
+use Rattle.std.specs.Prelude.{◌≡◌, ◌≢◌, ◌&&◌, ℕ, nat_lt, Bool, false, not, List, [], take, Option, Some, None}
+use Rattle.vs_conn.specs.{End.owes_of, Shut.is_both, declared.end.Owed.Owed}
+use Rattle.vs_driver_parts.specs.{declared.answers.Grown.Grown, declared.answers.Received.Received, declared.answers.Shut.Shut}
+use Rattle.vs_driver_parts.specs.State.{DriverEntry, DriverState, GoneConnection, entry_known_as, gone_known_as}
+use Rattle.vs_driver_parts.specs.declared.answers.Grown.TheVariants as rise
 use Rattle.vs_driver_parts.specs.declared.answers.Received.TheVariants as got
 use Rattle.vs_driver_parts.specs.declared.answers.Shut.TheVariants as shut
 
@@ -35,3 +37,23 @@ IfShut _ P = Unit {0}
 abbrev pub UnlessShut : Shut → Type 0 → Type 0
 UnlessShut shut.Done P = Unit {0}
 UnlessShut _ P = P
+
+-- The packet that the connection owes next, where it is one of the table.
+abbrev pub owed_by : ℕ → DriverState → Option Owed
+owed_by id s = elim (entry_known_as id s) [ None ↦ None | Some e ↦ owes_of e.value.end ]
+
+-- The connection's buffer space is below this, and its peer wasn't told that both directions are shut.
+abbrev pub rises : ℕ → ℕ → DriverState → Bool
+rises id alloc s = elim (entry_known_as id s) [
+  | None ↦ false
+  | Some e ↦ nat_lt e.value.end.credit.alloc alloc && not (is_both e.value.end.told)
+]
+
+-- P holds where grow raised the buffer space or found it as asked for, or where it did neither.
+abbrev pub IfGrown : Grown → Type 0 → Type 0
+IfGrown rise.Done P = P
+IfGrown _ P = Unit {0}
+
+abbrev pub UnlessGrown : Grown → Type 0 → Type 0
+UnlessGrown rise.Done P = Unit {0}
+UnlessGrown _ P = P

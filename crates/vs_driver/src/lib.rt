@@ -4,6 +4,7 @@
 mod closing;
 mod connect;
 mod driver;
+mod grow;
 mod listening;
 mod new;
 mod pay;
@@ -19,6 +20,6 @@ mod take;
 pub use driver::Driver;
 pub use table::Entries;
 pub use vs_driver_parts::answers::{
-    Accepted, Closed, ConnId, ConnectError, ConnectionState, ListenError, NotListening, Polled,
-    Received, Sent, Shut,
+    Accepted, Closed, ConnId, ConnectError, ConnectionState, Grown, ListenError, NotListening,
+    Polled, Received, Sent, Shut,
 };

@@ -6,6 +6,7 @@ use Rattle.vs_flow.proofs.Entries.{found_passes}
 use Rattle.vs_driver_parts.specs.State.{DriverEntry, DriverState, GoneConnection, is_known_as, entry_known_as, gone_known_as}
 use Rattle.vs_driver_parts.specs.{Listening.is_answered, Connections.close_of, Connections.is_known, Connections.after_close}
 use Rattle.vs_driver_parts.specs.Connections.{entry_closed, shutdown_of, shut_answer, after_shutdown, shut_in, recv_of, entry_answer}
+use Rattle.vs_driver_parts.specs.Connections.{after_grow, entry_grow_answer, grow_of, grown_by}
 use Rattle.vs_driver_parts.specs.Connections.{gone_answer, unread_of_id, after_recv, entry_read, all_gone_after_read, flow_of}
 use Rattle.vs_driver_parts.specs.declared.answers.Closed.TheVariants as closed
 use Rattle.vs_driver_parts.proofs.Ids.{found_under}
@@ -62,6 +63,12 @@ module _ (id : ℕ) (s : DriverState) (e : DriverEntry) (known : entry_known_as 
 
   pub after_shutdown_known : (bits : ℕ) → after_shutdown id bits s ≡ shut_in e.value.end.state bits e s
   after_shutdown_known bits = rw (known, after_shutdown) refl
+
+  pub grow_known : (alloc : ℕ) → grow_of id alloc s ≡ entry_grow_answer alloc e
+  grow_known alloc = rw (known, grow_of) refl
+
+  pub after_grow_known : (alloc : ℕ) → after_grow id alloc s ≡ grown_by (entry_grow_answer alloc e) alloc e s
+  after_grow_known alloc = rw (known, after_grow) refl
 
   pub recv_known : (n : ℕ) → recv_of id n s ≡ entry_answer n e
   recv_known n = rw (known, recv_of) refl

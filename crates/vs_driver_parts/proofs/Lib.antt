@@ -8,3 +8,4 @@ pub mod SameIds
 pub mod GoneChanges
 pub mod Known
 pub mod Packets
+pub mod Growing

@@ -3,10 +3,10 @@ use Rattle.std.specs.Prelude.{ℕ, ◌+◌, ◌==◌, ◌||◌, not, min, nat_lt
 use Rattle.std.specs.{Prelude.{map, filter, take, drop, Option, Some, None, is_some}, Option.{option_map, option_map_or}}
 use Rattle.vs_flow.specs.{Flow.host_flow, Flow.is_assigned, Table.with_entry, Table.with_value, Table.without, declared.flow.Flow.Flow}
 use Rattle.vs_header.specs.declared.{Header.Header, Kind.TheVariants.Stream}
-use Rattle.vs_limits.specs.declared.TheConstants.{BUF_ALLOC, LAST_PORT, LAST_ID, DRIVER_CONNECTIONS}
+use Rattle.vs_limits.specs.declared.TheConstants.{BUF_ALLOC, BUF_ALLOC_MAX, LAST_PORT, LAST_ID, DRIVER_CONNECTIONS}
 use Rattle.vs_conn.specs.{declared.end.Owed.Owed, declared.end.State.State, declared.route.Route.Route, End.ConnectionEnd, End.asked}
-use Rattle.vs_conn.specs.End.{answering, paid_of, with_payload_forwarded, with_shut, aborted}
-use Rattle.vs_driver_parts.specs.declared.answers.{ConnectionState.ConnectionState, ConnectError.ConnectError, Closed.Closed}
+use Rattle.vs_conn.specs.End.{answering, grown, paid_of, with_payload_forwarded, with_shut, aborted}
+use Rattle.vs_driver_parts.specs.declared.answers.{ConnectionState.ConnectionState, ConnectError.ConnectError, Closed.Closed, Grown.Grown}
 use Rattle.vs_driver_parts.specs.{declared.answers.Received.Received, declared.answers.Shut.Shut, State.DriverConnection}
 use Rattle.vs_driver_parts.specs.State.{GoneConnection, Listener, DriverState, DriverEntry, slots_held, entry_known_as, gone_known_as}
 use Rattle.vs_driver_parts.specs.Listening.{with_waiting, without_id, listener_on}
@@ -17,6 +17,7 @@ use Rattle.vs_driver_parts.specs.declared.answers.ConnectError.TheVariants as re
 use Rattle.vs_driver_parts.specs.declared.answers.Closed.TheVariants as closed
 use Rattle.vs_driver_parts.specs.declared.answers.Received.TheVariants as got
 use Rattle.vs_driver_parts.specs.declared.answers.Shut.TheVariants as shut
+use Rattle.vs_driver_parts.specs.declared.answers.Grown.TheVariants as rise
 
 -- The driver with another connection in the place of an entry's.
 abbrev pub with_connection : ℕ → DriverConnection → DriverState → DriverState
@@ -195,6 +196,36 @@ after_shutdown id bits s = elim (entry_known_as id s) [
   | Some e ↦ shut_in e.value.end.state bits e s
   | None ↦ s
 ]
+
+-- grow: what is answered by an end that is open, where the buffer space is to be `alloc` bytes, and by one in any state.
+abbrev pub live_grow_answer : ℕ → ConnectionEnd → Grown
+live_grow_answer alloc end =
+    if nat_lt BUF_ALLOC_MAX alloc then rise.TooBig BUF_ALLOC_MAX
+    else if nat_lt alloc end.credit.alloc then rise.Shrinks end.credit.alloc
+    else rise.Done
+
+abbrev pub grow_answer : State → ℕ → ConnectionEnd → Grown
+grow_answer state.Asked alloc end = rise.NotOpen
+grow_answer state.Answering alloc end = rise.NotOpen
+grow_answer state.Live alloc end = live_grow_answer alloc end
+grow_answer state.Ended alloc end = rise.Reset
+
+abbrev pub entry_grow_answer : ℕ → DriverEntry → Grown
+entry_grow_answer alloc e = grow_answer e.value.end.state alloc e.value.end
+
+abbrev pub grow_of : ℕ → ℕ → DriverState → Grown
+grow_of id alloc s = elim (entry_known_as id s) [
+  | Some e ↦ entry_grow_answer alloc e
+  | None ↦ if is_some (gone_known_as id s) then rise.Reset else rise.Unknown
+]
+
+-- What it leaves, by its answer.
+abbrev pub grown_by : Grown → ℕ → DriverEntry → DriverState → DriverState
+grown_by rise.Done alloc e s = with_end (grown e.value.end alloc) e s
+grown_by _ alloc e s = s
+
+abbrev pub after_grow : ℕ → ℕ → DriverState → DriverState
+after_grow id alloc s = elim (entry_known_as id s) [ Some e ↦ grown_by (entry_grow_answer alloc e) alloc e s | None ↦ s ]
 
 abbrev pub without_gone : ℕ → List GoneConnection → List GoneConnection
 without_gone id gone = filter (λ g. not (g.id == id)) gone

@@ -131,6 +131,29 @@ pub enum Shut {
     Reset,
 }
 
+/// What a growth of the buffer space answers.
+#[derive(Clone, Copy, Debug, PartialEq, Eq)]
+pub enum Grown {
+    /// The buffer space is as asked for.
+    Done,
+    /// No connection has this id.
+    Unknown,
+    /// The connection isn't open yet.
+    NotOpen,
+    /// The connection ended.
+    Reset,
+    /// More was asked for than a buffer space may be.
+    TooBig {
+        /// The most that it may be.
+        most: u32,
+    },
+    /// The buffer space is larger already.
+    Shrinks {
+        /// What it is.
+        now: u32,
+    },
+}
+
 /// What a close answers.
 #[derive(Clone, Copy, Debug, PartialEq, Eq)]
 pub enum Closed {

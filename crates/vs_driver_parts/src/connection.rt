@@ -1,13 +1,13 @@
 //! A connection of the driver's table: its end, and the bytes that came in on it and weren't read.
 
 ghost use Rattle.std.specs.Prelude.{◌≡◌, ◌≤◌, ◌==◌, ◌+◌, ◌++◌, [], true, false, Some, length, min, take, drop};
-ghost use Rattle.vs_conn.specs.End.{CanSend, asked, answering, may_send_of, may_shut, owes_of, paid_of, verdict_of, view_of};
+ghost use Rattle.vs_conn.specs.End.{CanSend, asked, answering, grown, may_send_of, may_shut, owes_of, paid_of, verdict_of, view_of};
 ghost use Rattle.vs_conn.specs.{End.wanting_credit, End.with_payload_sent, Headers.owed_header, Headers.payload_header};
 ghost use Rattle.vs_conn.specs.declared.end.Owed.TheVariants as owed;
 ghost use Rattle.vs_conn.specs.declared.end.State.TheVariants.{Live};
 ghost use Rattle.vs_credit.specs.Credit.{free_of};
 ghost use Rattle.vs_header.specs.declared.Kind.TheVariants.{Stream};
-ghost use Rattle.vs_limits.specs.declared.TheConstants.{BUF_ALLOC};
+ghost use Rattle.vs_limits.specs.declared.TheConstants.{BUF_ALLOC, BUF_ALLOC_MAX};
 ghost use Rattle.laws_history.specs.declared.packet.Packet.{Packet};
 ghost use Rattle.vs_page.specs.Held.{IsWhole};
 ghost use Rattle.vs_driver_parts.specs.Connections.{after_read, after_shut, after_closing, paid_connection, is_let_go};
@@ -214,6 +214,16 @@ impl Connection {
         count
     }
 
+    /// Raises its buffer space to `alloc` bytes. After a rise a CREDIT_UPDATE is owed. The buffer has the places already.
+    pub fn grow(&mut self, alloc: u32)
+        requires live { self.old.end.state ≡ Live }
+        requires rises { self.old.end.credit.alloc ≤ alloc }
+        requires most { alloc ≤ BUF_ALLOC_MAX }
+        ensures { self.new ≡ record self.old { end = grown self.old.end alloc } }
+    {
+        self.end.grow(alloc);
+    }
+
     /// Shuts directions: bit 0 to receive no more, which drops the unread bytes, bit 1 to send no more.
     pub fn shutdown(&mut self, bits: u8)
         requires state { may_shut self.old.end.state ≡ true }
@@ -242,7 +252,7 @@ impl Connection {
     pub fn into_parts(self) -> (End, ByteFifo)
         ensures end { result.0 ≡ self.end }
         ensures unread { result.1.bytes ≡ self.unread }
-        ensures room { BUF_ALLOC ≤ result.1.capacity }
+        ensures room { BUF_ALLOC_MAX ≤ result.1.capacity }
     {
         (self.end, self.unread)
     }

@@ -2,7 +2,7 @@
 
 ghost use Rattle.std.specs.Prelude.{◌≡◌, ◌≤◌, ◌==◌, ◌++◌, length, min, take, drop};
 ghost use Rattle.vs_conn.specs.End.{view_of};
-ghost use Rattle.vs_limits.specs.declared.TheConstants.{BUF_ALLOC};
+ghost use Rattle.vs_limits.specs.declared.TheConstants.{BUF_ALLOC_MAX};
 ghost use Rattle.vs_driver_parts.specs.Room.{IsSpare};
 
 use crate::answers::ConnId;
@@ -22,20 +22,20 @@ pub struct Gone {
 
 impl Model for Gone {
     ghost use Rattle.std.specs.Prelude.{◌≤◌};
-    ghost use Rattle.vs_limits.specs.declared.TheConstants.{BUF_ALLOC};
+    ghost use Rattle.vs_limits.specs.declared.TheConstants.{BUF_ALLOC_MAX};
     ghost use Rattle.vs_driver_parts.specs.State.{GoneConnection};
 
     ghost Value = { GoneConnection };
 
     ghost view = { λ g. record { id = g.id; flow = g.flow; end = g.end; unread = g.unread.bytes } };
 
-    ghost invariant = { λ g. BUF_ALLOC ≤ g.unread.capacity };
+    ghost invariant = { λ g. BUF_ALLOC_MAX ≤ g.unread.capacity };
 }
 
 impl Gone {
     /// The connection with this id, flow, end and unread bytes.
     pub fn new(id: ConnId, flow: Flow, end: End, unread: ByteFifo) -> Gone
-        requires room { BUF_ALLOC ≤ unread.capacity }
+        requires room { BUF_ALLOC_MAX ≤ unread.capacity }
         ensures { result ≡ record { id = id; flow = flow; end = end; unread = unread.bytes } }
     {
         Gone {

@@ -4,14 +4,14 @@ ghost use Rattle.std.specs.Prelude.{◌≡◌, ◌<◌, ◌≤◌, ◌++◌, ◌
 ghost use Rattle.std.specs.Prelude.{IfNone, IsSomeAnd, option_copied, position, remove, slice_get, ◌^◌, vec_capacity};
 ghost use Rattle.std.specs.{List.All, Option.option_map};
 ghost use Rattle.vs_conn.specs.Headers.{owed_header, payload_header};
-ghost use Rattle.vs_conn.specs.End.{CanSend, answering, may_send_of, owes_of, verdict_of, may_shut, with_payload_sent, wanting_credit};
+ghost use Rattle.vs_conn.specs.End.{CanSend, answering, grown, may_send_of, owes_of, verdict_of, may_shut, with_payload_sent, wanting_credit};
 ghost use Rattle.vs_conn.specs.declared.end.State.TheVariants.{Live};
 ghost use Rattle.vs_credit.specs.Credit.{free_of};
 ghost use Rattle.vs_flow.specs.Flow.{is_assigned};
 ghost use Rattle.vs_flow.specs.Table.{IsTable, entry_of, entry_under, slots, value_under, with_entry};
 ghost use Rattle.laws_history.specs.declared.packet.Packet.{Packet};
 ghost use Rattle.vs_page.specs.Held.{IsWhole};
-ghost use Rattle.vs_limits.specs.declared.TheConstants.{LAST_PORT, LAST_ID, DRIVER_CONNECTIONS};
+ghost use Rattle.vs_limits.specs.declared.TheConstants.{BUF_ALLOC_MAX, LAST_PORT, LAST_ID, DRIVER_CONNECTIONS};
 ghost use Rattle.vs_driver_parts.specs.State.{DriverEntry, DriverConnection, GoneConnection, is_known_as};
 ghost use Rattle.vs_driver_parts.specs.Connections.{route_to_host, after_read, after_shut, after_closing, paid_connection, without_gone};
 ghost use Rattle.vs_driver_parts.specs.{Connections.all_gone_after_read, Receiving.after_packet, Receiving.reset_reply, Room.IsSpare};
@@ -28,11 +28,11 @@ use vs_buffer::ByteFifo;
 use vs_conn::{Owed, Stop, Verdict};
 use vs_flow::{Entry, Flow, FlowTable, Slot};
 use vs_header::Header;
-use vs_limits::{BUF_ALLOC, DRIVER_CONNECTIONS};
+use vs_limits::{BUF_ALLOC_MAX, DRIVER_CONNECTIONS};
 use vs_replies::Reply;
 
-/// Bytes of a connection's receive buffer.
-pub const BUFFER_LEN: usize = BUF_ALLOC as usize;
+/// Bytes of a connection's receive buffer: all that its buffer space may be raised to.
+pub const BUFFER_LEN: usize = BUF_ALLOC_MAX as usize;
 
 /// The connections, each in a slot of its own, and the numbers that are given to them. A connection gets the next slot and the next id
 /// together.
@@ -407,6 +407,19 @@ impl Slots {
             return;
         };
         connection.shutdown(bits);
+    }
+
+    /// Raises the buffer space of the connection in a slot to `alloc` bytes.
+    pub fn grow(&mut self, slot: Slot, alloc: u32)
+        requires live { IfSome (value_under self.old.table slot) (λ c. c.end.state ≡ Live) }
+        requires rises { IfSome (value_under self.old.table slot) (λ c. c.end.credit.alloc ≤ alloc) }
+        requires most { alloc ≤ BUF_ALLOC_MAX }
+        ensures left { (c : DriverConnection) → value_under self.old.table slot ≡ Some c → self.new ≡ with_connection_in slot (record c { end = grown c.end alloc }) self.old }
+    {
+        let Some(connection) = self.table.get_mut(slot) else {
+            return;
+        };
+        connection.grow(alloc);
     }
 
     /// Closes the connection in a slot: the application knows it no more.

@@ -1,7 +1,8 @@
-use Rattle.vs_driver_parts.specs.Connections.{after_close, after_recv, after_shutdown, after_unlisten}
+use Rattle.vs_driver_parts.specs.Connections.{after_close, after_grow, after_recv, after_shutdown, after_unlisten}
 use Rattle.vs_driver_parts.specs.Listening.{after_accept, listening}
 use Rattle.laws_driver.proofs.Calls.{still_honest}
-use Rattle.laws_driver.proofs.Changing.{accept_changes, close_changes, listen_changes, recv_changes, shutdown_changes, unlisten_changes}
+use Rattle.laws_driver.proofs.Changing.{accept_changes, close_changes, grow_changes, listen_changes, recv_changes, shutdown_changes}
+use Rattle.laws_driver.proofs.Changing.{unlisten_changes}
 use Rattle.laws_driver.proofs.laws.law_of_other_calls.Goals as goal
 
 pub returns-clause-recv : goal.returns-clause-recv
@@ -9,6 +10,9 @@ returns-clause-recv c = λ first id n s r honest. still_honest first s (after_re
 
 pub returns-clause-shutdown : goal.returns-clause-shutdown
 returns-clause-shutdown c = λ first id bits s r honest. still_honest first s (after_shutdown id bits s) r (shutdown_changes id bits s) honest
+
+pub returns-clause-grow : goal.returns-clause-grow
+returns-clause-grow c = λ first id alloc s r honest. still_honest first s (after_grow id alloc s) r (grow_changes id alloc s) honest
 
 pub returns-clause-close : goal.returns-clause-close
 returns-clause-close c = λ first id s r honest. still_honest first s (after_close id s) r (close_changes id s) honest

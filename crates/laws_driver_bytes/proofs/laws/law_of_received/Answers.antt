@@ -1,7 +1,7 @@
 use Rattle.std.proofs.Common.{subst, sym}
 use Rattle.vs_driver_parts.specs.Held.{HeldSlots}
 use Rattle.laws_driver_bytes.specs.Received.{AreReceived}
-use Rattle.laws_driver_bytes.proofs.Changing.{accept_slots, close_received, shutdown_received, unlisten_received}
+use Rattle.laws_driver_bytes.proofs.Changing.{accept_slots, close_received, grow_received, shutdown_received, unlisten_received}
 use Rattle.laws_driver_bytes.proofs.{Ending.connect_ends, Ending.new_ends, Ending.poll_ends, Ending.send_ends, Reading.recv_received}
 use Rattle.laws_driver_bytes.proofs.laws.law_of_received.Goals as goal
 
@@ -23,6 +23,10 @@ returns-clause-poll c = poll_ends
 pub returns-clause-shutdown : goal.returns-clause-shutdown
 returns-clause-shutdown c = λ first id bits a s r honest account on l is.
     shutdown_received a l.entries s (account on l is) id bits (honest on l is).fits.sound
+
+pub returns-clause-grow : goal.returns-clause-grow
+returns-clause-grow c = λ first id alloc a s r honest account on l is.
+    grow_received a l.entries s (account on l is) id alloc (honest on l is).fits.sound
 
 pub returns-clause-close : goal.returns-clause-close
 returns-clause-close c = λ first id a s r honest account on l is. close_received a l.entries s (account on l is) id (honest on l is).fits.sound

@@ -9,7 +9,7 @@ pub returns-clause-overrun : goal.returns-clause-overrun
 returns-clause-overrun c = λ n host es. (run_well n host es).overrun
 
 pub returns-clause-unread : goal.returns-clause-unread
-returns-clause-unread c = λ n host es i d less. ((run_well n host es).driver.entries i d less).buffer.fits
+returns-clause-unread c = λ n host es i d less. let held = ((run_well n host es).driver.entries i d less).buffer in (held.fits, held.space)
 
 pub returns-clause-pending : goal.returns-clause-pending
 returns-clause-pending c = λ n host es i d less.
