@@ -90,7 +90,7 @@ module _ (d : DriverState) (driver : Sight) (p : ProxyState) (device : DeviceSig
           (settled.at_rest.no_reset Device) settled.at_rest.routed to_device);
     }
 
-    streamed : IsStreamed h device.sight.log p.next_port p.device.table p.handshakes
+    pub streamed : IsStreamed h device.sight.log p.next_port p.device.table p.handshakes
     streamed = streams refl (device_log device) refl plain h refl
 
     read_there : (f : Flow) → IsPrefixOf (host_read (first_of f) h) (payload_put Driver (first_of f) driver.log)
@@ -100,7 +100,7 @@ module _ (d : DriverState) (driver : Sight) (p : ProxyState) (device : DeviceSig
         ∙ sym (same_payload Device device.sight.log driver.log to_device (first_of f)))
         (read_is_got h device.sight.log p.next_port p.device.table p.handshakes streamed f)
 
-    wrote_there : (f : Flow) → payload_got Driver (first_of f) driver.log ≡ host_wrote (first_of f) h
+    pub wrote_there : (f : Flow) → payload_got Driver (first_of f) driver.log ≡ host_wrote (first_of f) h
     wrote_there f =
         sym (same_payload Driver driver.log device.sight.log to_driver (first_of f))
         ∙ once_put Device f device.sight.log (settled.at_rest.fair Device f) (once f)
@@ -108,7 +108,7 @@ module _ (d : DriverState) (driver : Sight) (p : ProxyState) (device : DeviceSig
 
     module _ (first_id : ℕ) (opened : ℕ → Connection) (journal : Journal) (entries : List Entry) (slots : HeldSlots)
         (account : IsAccount first_id opened journal entries driver.log slots) (id : ℕ) (f : Flow) (has : HasOne opened id (Some f)) where
-      is_first : opened id ≡ first_of f
+      pub is_first : opened id ≡ first_of f
       is_first =
           let past = account.received.passed id in
           let few = once (opened id).flow in

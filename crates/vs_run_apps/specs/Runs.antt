@@ -13,6 +13,7 @@ use Rattle.vs_apps.specs.Guests.{GuestsState, run_in}
 use Rattle.vs_settle.specs.Rounds.{LastRound}
 use Rattle.vs_report.specs.declared.giving.Totals.{Totals}
 use Rattle.vs_run_report.specs.Right.{IsRightReport}
+use Rattle.laws_run.specs.Complete.{IsCompleteRun}
 use Rattle.vs_run_apps.specs.Sides.{SideState, around}
 
 -- What the report of a run counts.
@@ -24,11 +25,12 @@ totals_of g p = record {
   broken = g.driver.broken;
 }
 
--- Where the host exposes its streams, none of which had a label when the run began, the report is right.
+-- Where the host exposes its streams, none of which had a label when the run began, the report is right, and the run is complete.
 abbrev pub HasRightReport : RunScript → Start → GuestsState → SideState → Type 0
 HasRightReport script start g s =
     ForSome start.contents IsUnlabelled → ForSome s.contents (λ h.
-    (opened : ℕ → Connection) × IsRightReport script g.apps g.entries g.bytes (totals_of g s.proxy) opened h start.faults s.faults)
+    (opened : ℕ → Connection) × IsRightReport script g.apps g.entries g.bytes (totals_of g s.proxy) opened h start.faults s.faults
+    × IsCompleteRun script g.apps g.entries g.bytes (totals_of g s.proxy) opened h)
 
 -- The journal is that of a run of the script; both ends are at rest; in the last round nothing moved, and each app was done or waited; and so many
 -- packets and events were put and got. The proxy is steady, and came from where the run began; so the report is right.

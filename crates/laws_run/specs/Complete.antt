@@ -1,0 +1,37 @@
+-- A complete run: what more the report of a run that is at rest says, and the streams of its host.
+use Rattle.std.specs.{List.filter_map, Prelude.{◌≡◌, ℕ, ◌<◌, if◌then◌else◌, List, length, Option, Some, None}}
+use Rattle.vs_flow.specs.{Connection.Connection, declared.flow.Flow.Flow}
+use Rattle.vs_outside.specs.{Host.HostContents, Host.Stream, HostBytes.host_wrote}
+use Rattle.laws_device.specs.Streams.{is_open_in}
+use Rattle.laws_driver_bytes.specs.Calls.{Journal, received_by}
+use Rattle.vs_apps_parts.specs.{Journals.calls_of, Scripts.RunScript, declared.{journal.Entry.Entry, journal.WaitsFor.WaitsFor, progress.AppState.AppState}}
+use Rattle.vs_apps_parts.specs.declared.journal.WaitsFor.TheVariants as waits
+use Rattle.vs_report.specs.declared.giving.Totals.{Totals}
+use Rattle.vs_run_report.specs.{Endings.state_at, Report.ended_at, declared.ending.Ending.Ending}
+use Rattle.vs_run_report.specs.declared.ending.Ending.TheVariants as ending
+
+-- The labels of the streams that have one and that the proxy hasn't closed.
+abbrev pub open_label : Stream → Option Flow
+open_label s = if is_open_in s.state then s.label else None
+
+abbrev pub open_labels : HostContents → List Flow
+open_labels h = filter_map open_label h.streams
+
+-- What is so of a wait, where the last connection of the app has this id. An app that waits for bytes received on it all that the host's program
+-- wrote there and the proxy took. None waits for a connection to open.
+abbrev pub IsCompleteWait : (ℕ → Connection) → Journal → HostContents → Option ℕ → WaitsFor → Type 0
+IsCompleteWait opened journal h conn waits.Empty = (id : ℕ) × (conn ≡ Some id) × (received_by id journal ≡ host_wrote (opened id) h)
+IsCompleteWait opened journal h conn waits.NotOpen = ⊥
+IsCompleteWait opened journal h conn why = Unit {0}
+
+abbrev pub IsCompleteEnding : (ℕ → Connection) → Journal → HostContents → Option ℕ → Ending → Type 0
+IsCompleteEnding opened journal h conn (ending.Waited why at) = IsCompleteWait opened journal h conn why
+IsCompleteEnding opened journal h conn e = Unit {0}
+
+-- Both tables have as many entries as there are streams with a label that the proxy hasn't closed; and so each wait.
+pub record IsCompleteRun (script : RunScript) (apps : List AppState) (entries : List Entry) (bytes : List ℕ) (t : Totals) (opened : ℕ → Connection)
+    (h : HostContents) : Type 0 where
+  pub guest_open : t.guest_open ≡ length (open_labels h)
+  pub device_open : t.device_open ≡ length (open_labels h)
+  pub waits : (k : ℕ) → k < length script
+      → IsCompleteEnding opened (calls_of script bytes entries) h (state_at k apps).progress.conn (ended_at script apps entries k)
