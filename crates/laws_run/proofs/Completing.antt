@@ -30,10 +30,11 @@ use Rattle.laws_apps.specs.{Accounts.{HasOne, IsAccount}, Calls.run_with, Rounds
 use Rattle.vs_report.specs.declared.giving.Totals.{Totals}
 use Rattle.vs_run_report.specs.{Endings.ending_at, Endings.state_at, Endings.why_at, Report.ended_at, Right.IsRightReport, declared.ending.Ending.Ending}
 use Rattle.vs_run_report.specs.declared.ending.Ending.TheVariants as ending
-use Rattle.laws_run.specs.Complete.{IsCompleteEnding, IsCompleteRun, IsCompleteWait, open_labels}
+use Rattle.laws_run.specs.Complete.{IsAtOpen, IsCompleteEnding, IsCompleteRun, IsCompleteWait, open_labels}
+use Rattle.laws_device.specs.Streams.{has_open_stream}
 use Rattle.laws_run.proofs.{Alike.AreApart, Alike.HasApart, Alike.Leaves, Alike.leaves_core, Bytes.is_first, Bytes.streamed, Bytes.wrote_there, Endings.Ends, Endings.Rests}
-use Rattle.laws_run.proofs.{Endings.all_ends, Endings.ends_on, Halting.Halts, Open.as_many_open, Reporting.accounted, Reporting.once, Reporting.right_with}
-use Rattle.laws_run.proofs.{Still.poll_still, Waiting.empty_call, Waiting.not_open, Waiting.recv_id}
+use Rattle.laws_run.proofs.{Endings.all_ends, Endings.ends_on, Halting.Halts, Open.among_entry, Open.among_open, Open.as_many_open, Reporting.accounted, Reporting.once, Reporting.right_with}
+use Rattle.laws_run.proofs.{Still.poll_still, Waiting.credit_call, Waiting.empty_call, Waiting.not_open, Waiting.recv_id, Waiting.send_id}
 
 -- The slots of a table are apart.
 listed_below : (slot : ℕ) (es : List DriverEntry) → ((k : ℕ) (d : DriverEntry) → k < length es → slot < (slice_index_or es k d).slot)
@@ -87,6 +88,50 @@ module _ (script : RunScript) (driver : DriverState) (end : Sight) (apps : List 
       let fit = All-contains IsFitEntry driver.table.entries x fits.entries within in
       (settled.paired Driver x.flow x.value.end fit.peer (one_end driver_end driver.table x fits.sound within)).2.here.live
 
+  -- Both tables.
+  device_fits : IsTable p.device.table
+  device_fits = ((steady.order.ring.1.1 (device_log e) refl).1 refl).fits.sound
+
+  still_open : (x : DeviceEntry) → Contains p.device.table.entries x → x.value.closed ≡ false
+  still_open x within = by x.value.closed refl
+    where
+      there : value_under p.device.table x.slot ≡ Some x.value
+      there =
+          ap (option_map (λ (y : DeviceEntry). y.value))
+          (found_at p.device.table.entries within.0 x device_fits.rising
+          (slice_get_read p.device.table.entries (length p.device.table.entries) within.0 x refl within.1 (sym within.2)))
+
+      alive : x.value.end.state ≡ Live
+      alive =
+          let peer = settled.with_host Device x.flow (among_entry device_end p.device.table.entries x within) in
+          (settled.paired Device x.flow x.value.end peer (one_end device_end p.device.table x device_fits within)).2.here.live
+
+      by : (b : Bool) → x.value.closed ≡ b → x.value.closed ≡ false
+      by false other = other
+      by true closed =
+          let over = (steady.order.streams h refl).over x.slot x.value there closed in
+          let no : Ended ≡ Live = sym over ∙ alive in absurd cc
+
+  device_open : length (device_shown p.device) ≡ length (open_labels h)
+  device_open =
+      length-map p.device.table.entries (λ x. (x.flow, x.value.end.state))
+      ∙ as_many_open h e.sight.log p.next_port p.device.table p.handshakes
+      (streamed driver end p e settled one h faults streams) device_fits still_open
+
+  guest_open : length (guest_shown driver) ≡ length (open_labels h)
+  guest_open =
+      length-map driver.table.entries (λ x. (x.flow, x.value.end.state))
+      ∙ sym (length-map driver.table.entries (λ (x : DriverEntry). record { flow = x.flow; end = driver_end x.value })) ∙ settled.as_many
+      ∙ length-map p.device.table.entries (λ (x : DeviceEntry). record { flow = x.flow; end = device_end x.value })
+      ∙ sym (length-map p.device.table.entries (λ x. (x.flow, x.value.end.state))) ∙ device_open
+
+  -- The flow of a connection of the driver's has an open stream.
+  flow_open : (x : DriverEntry) → Contains driver.table.entries x → has_open_stream x.flow h ≡ true
+  flow_open x within =
+      let fit = All-contains IsFitEntry driver.table.entries x (run.kept.honest refl (driver_log end) refl).fits.entries within in
+      among_open h e.sight.log p.next_port p.device.table p.handshakes (streamed driver end p e settled one h faults streams) device_fits still_open x.flow
+      (sym (settled.same_flows x.flow fit.peer) ∙ among_entry driver_end driver.table.entries x within)
+
   -- One that is known by an id, on which nothing is unread.
   module _ (opened : ℕ → Connection) (account : IsAccount 1 opened journal entries end.log (slots_of driver)) where
     all_received : (id : ℕ) (x : DriverEntry) → Contains driver.table.entries x → x.value.id ≡ id → x.value.unread ≡ [] → receives x.value.end ≡ true
@@ -109,11 +154,31 @@ module _ (script : RunScript) (driver : DriverState) (end : Sight) (apps : List 
     id_some x within =
         let is = All-contains (λ (y : DriverEntry). y.value.id ≡ 1 + y.slot) driver.table.entries x account.received.numbers.slots within in omega (arith, is)
 
+    conn_of : (o : Option ℕ) (id : ℕ) → unwrap_or o 0 ≡ id → 1 ≤ id → o ≡ Some id
+    conn_of None id is some = absurd (omega (arith, is, some))
+    conn_of (Some n) id is some = ap (λ (m : ℕ). let q : Option ℕ = Some m in q) is
+
+    -- It has an open stream.
+    at_open : (k id : ℕ) (x : DriverEntry) → Contains driver.table.entries x → x.value.id ≡ id → id_of (state_at k apps).progress ≡ id
+        → IsAtOpen opened h (state_at k apps).progress.conn id
+    at_open k id x within named own =
+        let on = All-contains (ReceivesOn (account_of 1 opened journal) end.log) driver.table.entries x account.received.held within in
+        let flow : (opened id).flow ≡ x.flow = ap (λ (i : ℕ). (opened i).flow) (sym named) ∙ ap (λ (c : Connection). c.flow) on.present in (
+          conn_of (state_at k apps).progress.conn id own (subst (λ (i : ℕ). 1 ≤ i) named (id_some x within)),
+          ap (λ (f : Flow). has_open_stream f h) flow ∙ flow_open x within,
+        )
+
     wait_complete : (k : ℕ) (why : WaitsFor) → Halts (acts_of k script) (state_at k apps).progress why driver
         → IsCompleteWait opened journal h (state_at k apps).progress.conn why
     wait_complete k waits.Full halts = tt
     wait_complete k (waits.NoDescriptor n) halts = tt
-    wait_complete k (waits.NoCredit tx alloc fwd) halts = tt
+    wait_complete k (waits.NoCredit tx alloc fwd) halts =
+        let is = credit_call halts.call driver tx alloc fwd (halts.stops apart) in
+        let x = is.says.entry in
+        let found = contained is.id x is.says.there in
+        let named : x.value.id ≡ is.id = eqb-true x.value.id is.id (and_parts (x.value.id == is.id) (not x.value.closed) found.1).0 in
+        let own : id_of (state_at k apps).progress ≡ is.id = send_id halts.act (state_at k apps).progress is.id is.bytes (halts.last ∙ ap (λ c. Some c) is.call) in
+        (is.id, at_open k is.id x found.0 named own)
     wait_complete k waits.NoneWaiting halts = tt
     wait_complete k waits.NotOpen halts =
         let no = not_open halts.call driver (halts.stops apart) in absurd (no.state (live no.entry (contained no.id no.entry no.there).0))
@@ -123,15 +188,7 @@ module _ (script : RunScript) (driver : DriverState) (end : Sight) (apps : List 
         let found = contained is.id x is.none.there in
         let named : x.value.id ≡ is.id = eqb-true x.value.id is.id (and_parts (x.value.id == is.id) (not x.value.closed) found.1).0 in
         let own : id_of (state_at k apps).progress ≡ is.id = recv_id halts.act (state_at k apps).progress is.id is.n (halts.last ∙ ap (λ c. Some c) is.call) in
-        (
-          is.id,
-          conn_of (state_at k apps).progress.conn is.id own (subst (λ (i : ℕ). 1 ≤ i) named (id_some x found.0)),
-          all_received is.id x found.0 named is.none.unread is.none.receives,
-        )
-      where
-        conn_of : (o : Option ℕ) (id : ℕ) → unwrap_or o 0 ≡ id → 1 ≤ id → o ≡ Some id
-        conn_of None id is some = absurd (omega (arith, is, some))
-        conn_of (Some n) id is some = ap (λ (m : ℕ). let q : Option ℕ = Some m in q) is
+        (is.id, at_open k is.id x found.0 named own, all_received is.id x found.0 named is.none.unread is.none.receives)
 
     ending_complete : (k : ℕ) → Ends script k apps entries driver
         → IsCompleteEnding opened journal h (state_at k apps).progress.conn (ended_at script apps entries k)
@@ -140,56 +197,6 @@ module _ (script : RunScript) (driver : DriverState) (end : Sight) (apps : List 
         (cond b (ending_at ((state_at k apps).progress.at + 1) (why_at (state_at k apps).waiting entries)) ending.Done)) (sym done) tt
     ending_complete k (inr rests) =
         subst (λ (x : Ending). IsCompleteEnding opened journal h (state_at k apps).progress.conn x) (sym rests.ended) (wait_complete k rests.why rests.halts)
-
-  -- Both tables.
-  among_entry : (es : List DeviceEntry) (x : DeviceEntry) (k : ℕ) → k < length es → slice_index_or es k x ≡ x
-      → is_among x.flow (flows_of (map (λ (y : DeviceEntry). record { flow = y.flow; end = device_end y.value }) es)) ≡ true
-  among_entry [] x k less at = absurd (omega (arith, less))
-  among_entry (y ∷ ys) x zero less at =
-      ap (λ (b : Bool). b || is_among x.flow (flows_of (map (λ (z : DeviceEntry). record { flow = z.flow; end = device_end z.value }) ys)))
-      (ap (λ (d : DeviceEntry). same_flow x.flow d.flow) at ∙ same_self x.flow)
-  among_entry (y ∷ ys) x (suc k) less at = by (same_flow x.flow y.flow) (among_entry ys x k (omega (arith, less)) at)
-    where
-      by : (b : Bool) → is_among x.flow (flows_of (map (λ (z : DeviceEntry). record { flow = z.flow; end = device_end z.value }) ys)) ≡ true
-          → (b || is_among x.flow (flows_of (map (λ (z : DeviceEntry). record { flow = z.flow; end = device_end z.value }) ys))) ≡ true
-      by true rest = refl
-      by false rest = rest
-
-  device_fits : IsTable p.device.table
-  device_fits = ((steady.order.ring.1.1 (device_log e) refl).1 refl).fits.sound
-
-  still_open : (x : DeviceEntry) → Contains p.device.table.entries x → x.value.closed ≡ false
-  still_open x within = by x.value.closed refl
-    where
-      there : value_under p.device.table x.slot ≡ Some x.value
-      there =
-          ap (option_map (λ (y : DeviceEntry). y.value))
-          (found_at p.device.table.entries within.0 x device_fits.rising
-          (slice_get_read p.device.table.entries (length p.device.table.entries) within.0 x refl within.1 (sym within.2)))
-
-      alive : x.value.end.state ≡ Live
-      alive =
-          let peer = settled.with_host Device x.flow (among_entry p.device.table.entries x within.0 within.1 within.2) in
-          (settled.paired Device x.flow x.value.end peer (one_end device_end p.device.table x device_fits within)).2.here.live
-
-      by : (b : Bool) → x.value.closed ≡ b → x.value.closed ≡ false
-      by false other = other
-      by true closed =
-          let over = (steady.order.streams h refl).over x.slot x.value there closed in
-          let no : Ended ≡ Live = sym over ∙ alive in absurd cc
-
-  device_open : length (device_shown p.device) ≡ length (open_labels h)
-  device_open =
-      length-map p.device.table.entries (λ x. (x.flow, x.value.end.state))
-      ∙ as_many_open h e.sight.log p.next_port p.device.table p.handshakes
-      (streamed driver end p e settled one h faults streams) device_fits still_open
-
-  guest_open : length (guest_shown driver) ≡ length (open_labels h)
-  guest_open =
-      length-map driver.table.entries (λ x. (x.flow, x.value.end.state))
-      ∙ sym (length-map driver.table.entries (λ (x : DriverEntry). record { flow = x.flow; end = driver_end x.value })) ∙ settled.as_many
-      ∙ length-map p.device.table.entries (λ (x : DeviceEntry). record { flow = x.flow; end = device_end x.value })
-      ∙ sym (length-map p.device.table.entries (λ x. (x.flow, x.value.end.state))) ∙ device_open
 
   -- The report, with all that is so of it.
   pub complete_report : (opened : ℕ → Connection)

@@ -236,8 +236,7 @@ waits_leave (call.LookAt id) s t old new reply why plays waits =
     (same_leaves s t (sym (ap (λ x. x.0) same)), ap (λ x. wait_of (told_look x.1)) same ∙ waits)
 waits_leave (call.Accept port) s t old new reply why plays waits =
     let same : (after_accept port s, accept_of port s) ≡ (t, reply) = plays.0 in
-    let so : wait_of (told_accept (accept_of port s)) ≡ Some why = ap (λ x. wait_of (told_accept x.1)) same ∙ waits in
-    (
+    let so : wait_of (told_accept (accept_of port s)) ≡ Some why = ap (λ x. wait_of (told_accept x.1)) same ∙ waits in (
       same_leaves s t (sym (ap (λ x. x.0) same) ∙ accept_stays port s (is_some (listener_on port s.listeners)) (next_accepted port s) why so),
       stops_accept (accept_of port s) why so,
     )

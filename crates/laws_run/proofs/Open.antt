@@ -4,7 +4,8 @@ use Rattle.std.proofs.Common.{Contains, slice_get, slice_index_or, refl, sym, ap
 use Rattle.std.proofs.lemmas.{Bool.Decides.nat_tests, List.Elements.All-contains, List.length-map, Map.Made.length-from_same_keys}
 use Rattle.std.specs.{Cmp.IsEquivalence, List.AllByRecursion, List.AllPairs, List.IsDistinct, List.cons_option, List.filter_map, List.list_any, Option.option_map, Option.option_map_or}
 use Rattle.vs_conn.specs.declared.end.State.{State, TheVariants.Ended, TheVariants.Live}
-use Rattle.vs_flow.specs.{Flow.same_flow, Table.IsTable, Table.Table, declared.flow.Flow.Flow}
+use Rattle.vs_flow.specs.{Flow.same_flow, Table.IsTable, Table.Table, declared.flow.Flow.Flow, declared.table.Entry.Entry}
+use Rattle.vs_conn.specs.End.{ConnectionEnd}
 use Rattle.vs_outside.specs.{Host.{HostContents, Stream, stream_at, waits}, HostProgram.closes, declared.host_net.StreamState.StreamState}
 use Rattle.vs_outside.specs.declared.host_net.StreamState.TheVariants as state
 use Rattle.vs_page.{specs.Log.Log, proofs.Flows.same_is, proofs.Flows.same_self}
@@ -76,17 +77,15 @@ none_apart f (g ∷ gs) is = by (same_flow f g) refl is (none_apart f gs)
     by true own is rest = absurd cc
     by false other is rest = (other, rest is)
 
-among_any : (f : Flow) (gs : List Flow) → is_among f gs ≡ list_any (same_flow f) gs
-among_any f [] = refl
-among_any f (g ∷ gs) = ap (λ (b : Bool). same_flow f g || b) (among_any f gs)
-
 -- The flows of a table.
 table_distinct : (es : List DeviceEntry) → AllPairs (λ d e. d.flow ≢ e.flow) es → IsDistinct same_flow (map (λ e. e.flow) es)
 unfolding IsDistinct
 table_distinct [] apart = tt
-table_distinct (e ∷ es) apart =
-    (first es (λ k d less. apart 0 (suc k) d (omega arith) (omega (arith, less))), table_distinct es
-    (λ i j d before within. apart (suc i) (suc j) d (omega (arith, before)) (omega (arith, within))))
+table_distinct (e ∷ es) apart = (
+  first es (λ k d less. apart 0 (suc k) d (omega arith) (omega (arith, less))),
+  table_distinct es
+      (λ i j d before within. apart (suc i) (suc j) d (omega (arith, before)) (omega (arith, within))),
+)
   where
     first : (xs : List DeviceEntry) → ((k : ℕ) (d : DeviceEntry) → k < length xs → e.flow ≢ (slice_index_or xs k d).flow)
         → AllByRecursion (λ g. same_flow e.flow g ≡ false) (map (λ x. x.flow) xs)
@@ -112,6 +111,28 @@ flow_in f (e ∷ es) is = by (same_flow f e.flow) refl is (flow_in f es)
     by false other is rest =
         let r = rest is in
         let less = r.within.1 in record { entry = r.entry; within = (suc r.within.0, omega (arith, less), r.within.2); flow = r.flow }
+
+module _ {T : Type 0} (end_of : T → ConnectionEnd) where
+  among_at : (es : List (Entry T)) (x : Entry T) (k : ℕ) → k < length es → slice_index_or es k x ≡ x → is_among x.flow (flows_of (map (λ y. record { flow = y.flow; end = end_of y.value }) es)) ≡ true
+  among_at [] x k less at = absurd (omega (arith, less))
+  among_at (y ∷ ys) x zero less at =
+      ap (λ (b : Bool). b || is_among x.flow (flows_of (map (λ z. record { flow = z.flow; end = end_of z.value }) ys)))
+      (ap (λ (d : Entry T). same_flow x.flow d.flow) at ∙ same_self x.flow)
+  among_at (y ∷ ys) x (suc k) less at = by (same_flow x.flow y.flow) (among_at ys x k (omega (arith, less)) at)
+    where
+      by : (b : Bool) → is_among x.flow (flows_of (map (λ (z : Entry T). record { flow = z.flow; end = end_of z.value }) ys)) ≡ true
+          → (b || is_among x.flow (flows_of (map (λ (z : Entry T). record { flow = z.flow; end = end_of z.value }) ys))) ≡ true
+      by true rest = refl
+      by false rest = rest
+
+  -- The flow of an entry is among those of its table.
+  pub among_entry : (es : List (Entry T)) (x : Entry T) → Contains es x → is_among x.flow (flows_of (map (λ y. record { flow = y.flow; end = end_of y.value }) es)) ≡ true
+  among_entry es x within = among_at es x within.0 within.1 within.2
+
+flows_any : (f : Flow) (es : List DeviceEntry)
+    → is_among f (flows_of (map (λ (x : DeviceEntry). record { flow = x.flow; end = end_in x.value }) es)) ≡ list_any (same_flow f) (map (λ e. e.flow) es)
+flows_any f [] = refl
+flows_any f (e ∷ es) = ap (λ (b : Bool). same_flow f e.flow || b) (flows_any f es)
 
 module _ (h : HostContents) (log : Log) (port : ℕ) (t : Table DeviceConnection) (hands : List Handshake) (streamed : IsStreamed h log port t hands)
     (table : IsTable t) (is_open : (e : DeviceEntry) → Contains t.entries e → e.value.closed ≡ false) where
@@ -197,13 +218,11 @@ module _ (h : HostContents) (log : Log) (port : ℕ) (t : Table DeviceConnection
       let no : true ≡ false = sym own ∙ sym (label_open f h.streams) ∙ opened in absurd cc
   up f false true is opened =
       let among = open_among h log port t hands streamed f (sym (label_open f h.streams) ∙ opened) in
-      let flows : is_among f (flows_of (entries_of end_in t)) ≡ list_any (same_flow f) (map (λ e. e.flow) t.entries) = flows_any t.entries in
-      let no : true ≡ false = sym among ∙ flows ∙ is in absurd cc
-    where
-      flows_any : (es : List DeviceEntry)
-          → is_among f (flows_of (map (λ (x : DeviceEntry). record { flow = x.flow; end = end_in x.value }) es)) ≡ list_any (same_flow f) (map (λ e. e.flow) es)
-      flows_any [] = refl
-      flows_any (e ∷ es) = ap (λ (b : Bool). same_flow f e.flow || b) (flows_any es)
+      let no : true ≡ false = sym among ∙ flows_any f t.entries ∙ is in absurd cc
+
+  -- A flow of the table has an open stream.
+  pub among_open : (f : Flow) → is_among f (flows_of (entries_of end_in t)) ≡ true → has_open_stream f h ≡ true
+  among_open f is = sym (label_open f h.streams) ∙ sym (up f _ _ refl refl) ∙ sym (flows_any f t.entries) ∙ is
 
   from_none : (k : ℕ) → k + 1 ≡ 0 + k + 1
   from_none k = omega arith

@@ -19,7 +19,7 @@ use Rattle.laws_bytes.specs.Drains.{receives, receives_in}
 use Rattle.vs_apps_parts.specs.{Scripts.{calls_next, id_of, recv_next, send_next}, Told.{told_look, told_recv, wait_of}}
 use Rattle.vs_apps_parts.specs.declared.{journal.WaitsFor.WaitsFor, progress.Progress.Progress}
 use Rattle.vs_apps_parts.specs.declared.journal.WaitsFor.TheVariants as waits
-use Rattle.laws_run.proofs.Halting.{Stops, last_of}
+use Rattle.laws_run.proofs.Halting.{SaysToSend, Stops, last_of}
 
 -- The connection of a call that waits: it isn't Live; or it is, and nothing is unread there, though more may come.
 pub record NotLive (s : DriverState) : Type 0 where
@@ -147,7 +147,62 @@ empty_call (call.Accept port) s stops = absurd stops
 empty_call (call.Shutdown id bits) s stops = absurd stops
 empty_call (call.Close id) s stops = absurd stops
 
--- A receive names the connection that the app is at.
+-- A send that lacks credit.
+recv_not_credit : (r : Received) (tx alloc fwd : ℕ) → wait_of (told_recv r) ≡ Some (waits.NoCredit tx alloc fwd) → ⊥
+recv_not_credit (got.Got n) tx alloc fwd is = absurd cc
+recv_not_credit got.Empty tx alloc fwd is = absurd (let other : waits.Empty ≡ waits.NoCredit tx alloc fwd = same_Some waits.Empty _ is in cc)
+recv_not_credit got.NotOpen tx alloc fwd is = absurd (let other : waits.NotOpen ≡ waits.NoCredit tx alloc fwd = same_Some waits.NotOpen _ is in cc)
+recv_not_credit got.End tx alloc fwd is = absurd cc
+recv_not_credit got.Reset tx alloc fwd is = absurd cc
+recv_not_credit got.Unknown tx alloc fwd is = absurd cc
+
+look_not_credit : (state : ConnectionState) (tx alloc fwd : ℕ) → wait_of (told_look state) ≡ Some (waits.NoCredit tx alloc fwd) → ⊥
+look_not_credit seen.Asked tx alloc fwd is = absurd (let other : waits.NotOpen ≡ waits.NoCredit tx alloc fwd = same_Some waits.NotOpen _ is in cc)
+look_not_credit seen.Answering tx alloc fwd is = absurd cc
+look_not_credit seen.Live tx alloc fwd is = absurd cc
+look_not_credit seen.Ended tx alloc fwd is = absurd cc
+look_not_credit seen.Gone tx alloc fwd is = absurd cc
+look_not_credit seen.Unknown tx alloc fwd is = absurd cc
+
+pub record IsSend (c : GuestCall) (s : DriverState) : Type 0 where
+  pub id : ℕ
+  pub bytes : List ℕ
+  pub call : c ≡ call.Send id bytes
+  pub says : SaysToSend id (Ok 0) s
+
+pub credit_call : (c : GuestCall) (s : DriverState) (tx alloc fwd : ℕ) → Stops c (waits.NoCredit tx alloc fwd) s → IsSend c s
+credit_call (call.Send id bytes) s tx alloc fwd stops = record { id = id; bytes = bytes; call = refl; says = stops }
+credit_call (call.Recv id n) s tx alloc fwd stops = absurd (recv_not_credit (recv_of id n s) tx alloc fwd stops)
+credit_call (call.LookAt id) s tx alloc fwd stops = absurd (look_not_credit (state_of id s) tx alloc fwd stops)
+credit_call (call.Connect port) s tx alloc fwd stops = absurd stops
+credit_call (call.Listen port) s tx alloc fwd stops = absurd stops
+credit_call (call.Unlisten port) s tx alloc fwd stops = absurd stops
+credit_call (call.Accept port) s tx alloc fwd stops = absurd stops
+credit_call (call.Shutdown id bits) s tx alloc fwd stops = absurd stops
+credit_call (call.Close id) s tx alloc fwd stops = absurd stops
+
+-- A send and a receive name the connection that the app is at.
+pub send_id : (act : Act) (p : Progress) (id : ℕ) (bytes : List ℕ) → last_of (calls_next act p) ≡ Some (call.Send id bytes) → id_of p ≡ id
+send_id (Connect port) p id bytes last = by p.asked last
+  where
+    by : (b : Bool) → Some (cond b (call.LookAt (id_of p)) (call.Connect port)) ≡ Some (call.Send id bytes) → id_of p ≡ id
+    by true is = absurd cc
+    by false is = absurd cc
+send_id (Listen port) p id bytes last = absurd cc
+send_id (Accept port) p id bytes last = absurd cc
+send_id (Send c) p id bytes last = cc
+send_id (Recv m) p id bytes last = absurd cc
+send_id Drain p id bytes last = absurd cc
+send_id (Exchange c) p id bytes last = by (nat_lt p.sent (size_of c)) (nat_lt p.got (size_of c)) last
+  where
+    by : (a b : Bool) → last_of (cond a (send_next c p ∷ []) [] ++ cond b (recv_next (size_of c) p ∷ []) []) ≡ Some (call.Send id bytes) → id_of p ≡ id
+    by true true is = absurd cc
+    by true false is = cc
+    by false true is = absurd cc
+    by false false is = absurd cc
+send_id (Shutdown bits) p id bytes last = absurd cc
+send_id Close p id bytes last = absurd cc
+
 pub recv_id : (act : Act) (p : Progress) (id n : ℕ) → last_of (calls_next act p) ≡ Some (call.Recv id n) → id_of p ≡ id
 recv_id (Connect port) p id n last = by p.asked last
   where

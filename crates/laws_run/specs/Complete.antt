@@ -1,8 +1,8 @@
 -- A complete run: what more the report of a run that is at rest says, and the streams of its host.
-use Rattle.std.specs.{List.filter_map, Prelude.{◌≡◌, ℕ, ◌<◌, if◌then◌else◌, List, length, Option, Some, None}}
+use Rattle.std.specs.{List.filter_map, Prelude.{◌≡◌, ℕ, ◌<◌, true, if◌then◌else◌, List, length, Option, Some, None}}
 use Rattle.vs_flow.specs.{Connection.Connection, declared.flow.Flow.Flow}
 use Rattle.vs_outside.specs.{Host.HostContents, Host.Stream, HostBytes.host_wrote}
-use Rattle.laws_device.specs.Streams.{is_open_in}
+use Rattle.laws_device.specs.Streams.{has_open_stream, is_open_in}
 use Rattle.laws_driver_bytes.specs.Calls.{Journal, received_by}
 use Rattle.vs_apps_parts.specs.{Journals.calls_of, Scripts.RunScript, declared.{journal.Entry.Entry, journal.WaitsFor.WaitsFor, progress.AppState.AppState}}
 use Rattle.vs_apps_parts.specs.declared.journal.WaitsFor.TheVariants as waits
@@ -17,10 +17,21 @@ open_label s = if is_open_in s.state then s.label else None
 abbrev pub open_labels : HostContents → List Flow
 open_labels h = filter_map open_label h.streams
 
--- What is so of a wait, where the last connection of the app has this id. An app that waits for bytes received on it all that the host's program
--- wrote there and the proxy took. None waits for a connection to open.
+-- The app's last connection, by its id, has a stream that the proxy hasn't closed. What is so of one where an app waits for bytes, or for credit: it is
+-- open, and in the first case all that the host's program wrote there and the proxy took was received.
+abbrev pub IsAtOpen : (ℕ → Connection) → HostContents → Option ℕ → ℕ → Type 0
+IsAtOpen opened h conn id = (conn ≡ Some id) × (has_open_stream (opened id).flow h ≡ true)
+
+abbrev pub LacksBytes : (ℕ → Connection) → Journal → HostContents → Option ℕ → Type 0
+LacksBytes opened journal h conn = (id : ℕ) × IsAtOpen opened h conn id × (received_by id journal ≡ host_wrote (opened id) h)
+
+abbrev pub LacksCredit : (ℕ → Connection) → HostContents → Option ℕ → Type 0
+LacksCredit opened h conn = (id : ℕ) × IsAtOpen opened h conn id
+
+-- What is so of each wait, where the app is at this connection. None waits for a connection to open.
 abbrev pub IsCompleteWait : (ℕ → Connection) → Journal → HostContents → Option ℕ → WaitsFor → Type 0
-IsCompleteWait opened journal h conn waits.Empty = (id : ℕ) × (conn ≡ Some id) × (received_by id journal ≡ host_wrote (opened id) h)
+IsCompleteWait opened journal h conn waits.Empty = LacksBytes opened journal h conn
+IsCompleteWait opened journal h conn (waits.NoCredit tx alloc fwd) = LacksCredit opened h conn
 IsCompleteWait opened journal h conn waits.NotOpen = ⊥
 IsCompleteWait opened journal h conn why = Unit {0}
 
