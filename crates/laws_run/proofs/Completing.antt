@@ -1,7 +1,7 @@
 -- From what a run ends in to a complete report.
-use Rattle.std.proofs.Common.{◌≡◌, ◌≢◌, ◌+◌, ◌<◌, ◌≤◌, ◌==◌, ◌||◌, ◌⊎◌, inl, inr, nat_lt, ℕ, zero, suc, Bool, true, false, cond, List, [], ◌∷◌, ◌++◌, Option, Some, None, length, map}
+use Rattle.std.proofs.Common.{◌≡◌, ◌≢◌, ◌+◌, ◌<◌, ◌≤◌, ◌==◌, ◌||◌, ◌&&◌, ◌⊎◌, inl, inr, nat_lt, ℕ, zero, suc, Bool, true, false, cond, List, [], ◌∷◌, ◌++◌, Option, Some, None, length, map}
 use Rattle.std.proofs.Common.{Contains, slice_index_or, refl, sym, ap, subst, ◌∙◌, arith, append-nil}
-use Rattle.std.proofs.lemmas.{Bool.and_parts, Bool.eqb-true, List.Elements.All-contains, List.length-map, Option.slice_get_read}
+use Rattle.std.proofs.lemmas.{Bool.and_parts, Bool.Decides.nat_tests, Bool.eqb-true, Grind.common_steps, List.Elements.All-contains, List.length-map, Option.slice_get_read}
 use Rattle.std.specs.{List.AllPairs, Option.option_map, Option.unwrap_or, Prelude.not}
 use Rattle.vs_flow.specs.{Connection.Connection, Connection.first_of, Flow.same_flow, Table.IsTable, Table.entry_under, Table.value_under, declared.flow.Flow.Flow}
 use Rattle.vs_conn.specs.{End.ConnectionEnd, declared.end.State.{State, TheVariants.Ended, TheVariants.Live}}
@@ -10,18 +10,21 @@ use Rattle.vs_outside.specs.{Faults.one_more, Host.HostContents, HostBytes.host_
 use Rattle.vs_page.specs.{Fair.current, Fair.number_of, Fair.payload_got, Log.Device, Log.Driver, Log.Log, Log.Role}
 use Rattle.vs_ring_port.specs.Contents.{RingContents}
 use Rattle.vs_ring_shared.specs.Sights.{DeviceSight, Sight, device_contents, device_log, driver_contents, driver_log}
-use Rattle.vs_driver_parts.specs.{Connections.table_shown as guest_shown, State.DriverEntry, State.DriverState, State.entry_known_as, State.is_known_as}
+use Rattle.vs_driver_parts.specs.{Connections.is_at_end, Connections.table_shown as guest_shown, State.DriverEntry, State.DriverState, State.entry_known_as, State.is_known_as}
 use Rattle.vs_driver_parts.specs.declared.answers.Polled.{Polled}
 use Rattle.vs_device_parts.specs.{Playing.situation, State.DeviceConnection, State.DeviceEntry, Turns.table_shown as device_shown}
 use Rattle.vs_proxy_parts.specs.State.{ProxyState}
-use Rattle.laws_tables.{specs.Ends.flows_of, specs.Ends.is_among, proofs.Slots.found_by, proofs.Slots.one_end}
-use Rattle.vs_page.proofs.Flows.{same_self}
+use Rattle.laws_tables.{specs.Ends.ends_of, specs.Ends.flows_of, specs.Ends.is_among, proofs.Slots.found_by, proofs.Slots.one_end}
+use Rattle.vs_page.proofs.Flows.{same_is}
 use Rattle.laws_driver.specs.Honest.{IsFitEntry, end_in as driver_end, slots_of}
 use Rattle.laws_device.specs.Honest.{end_in as device_end}
 use Rattle.laws_bytes.specs.Drains.{receives}
 use Rattle.laws_driver_bytes.specs.{Calls.Journal, Calls.received_by, Received.ReceivesOn, Calls.account_of}
 use Rattle.laws_proxy.specs.Honest.{IsProxyStreamed}
-use Rattle.laws_rest.proofs.Quiet.{in_list}
+use Rattle.laws_rest.{specs.Rest.ArePaired, proofs.Quiet.in_list, proofs.Waiting.credit_there}
+use Rattle.vs_credit.specs.Credit.{free_of, unread_of}
+use Rattle.vs_conn.specs.declared.shut.Shut.{Shut}
+use Rattle.vs_device_parts.specs.Receiving.{may_read}
 use Rattle.vs_flow.proofs.Entries.{found_at}
 use Rattle.laws_settled.specs.Settled.{IsSettled, IsSteady}
 use Rattle.vs_apps_parts.specs.{Journals.calls_of, Scripts.{RunScript, acts_of, id_of}, declared.{journal.Entry.Entry, journal.WaitsFor.WaitsFor, progress.AppState.AppState}}
@@ -32,8 +35,9 @@ use Rattle.vs_run_report.specs.{Endings.ending_at, Endings.state_at, Endings.why
 use Rattle.vs_run_report.specs.declared.ending.Ending.TheVariants as ending
 use Rattle.laws_run.specs.Complete.{IsAtOpen, IsCompleteEnding, IsCompleteRun, IsCompleteWait, open_labels}
 use Rattle.laws_device.specs.Streams.{has_open_stream}
+use Rattle.laws_run.specs.Dry.{AreDry, IsDryAt, reads_of, reads_under}
 use Rattle.laws_run.proofs.{Alike.AreApart, Alike.HasApart, Alike.Leaves, Alike.leaves_core, Bytes.is_first, Bytes.streamed, Bytes.wrote_there, Endings.Ends, Endings.Rests}
-use Rattle.laws_run.proofs.{Endings.all_ends, Endings.ends_on, Halting.Halts, Open.among_entry, Open.among_open, Open.as_many_open, Reporting.accounted, Reporting.once, Reporting.right_with}
+use Rattle.laws_run.proofs.{Endings.all_ends, Endings.ends_on, Halting.Halts, Open.among_entry, Open.among_open, Open.as_many_open, Open.one_dry, Reporting.accounted, Reporting.once, Reporting.right_with}
 use Rattle.laws_run.proofs.{Still.poll_still, Waiting.credit_call, Waiting.empty_call, Waiting.not_open, Waiting.recv_id, Waiting.send_id}
 
 -- The slots of a table are apart.
@@ -57,7 +61,8 @@ module _ (script : RunScript) (driver : DriverState) (end : Sight) (apps : List 
     (steady : IsSteady p (situation (device_contents e) (Some h) faults)) (old stood : Run) (all : AllStand script (length script) old stood)
     (same_apps : apps ≡ stood.apps) (same_entries : entries ≡ stood.entries) (polled : Polled) (told past : Run) (heard : told.driver ≡ stood.driver)
     (polls : PollsTo polled told past) (still : poll_moved polled ≡ false) (same_driver : driver ≡ past.driver)
-    (streams : IsProxyStreamed FIRST_CID p (situation (device_contents e) (Some h) faults)) where
+    (streams : IsProxyStreamed FIRST_CID p (situation (device_contents e) (Some h) faults))
+    (reads : (slot id : ℕ) → reads_under slot p.device.table ≡ Some id → IsDryAt id h) where
   abbrev journal : Journal
   journal = calls_of script bytes entries
 
@@ -132,6 +137,75 @@ module _ (script : RunScript) (driver : DriverState) (end : Sight) (apps : List 
       among_open h e.sight.log p.next_port p.device.table p.handshakes (streamed driver end p e settled one h faults streams) device_fits still_open x.flow
       (sym (settled.same_flows x.flow fit.peer) ∙ among_entry driver_end driver.table.entries x within)
 
+  -- A connection of the driver's is one of the device's too.
+  record AtDevice (x : DriverEntry) : Type 0 where
+    entry : DeviceEntry
+    within : Contains p.device.table.entries entry
+    flow : x.flow ≡ entry.flow
+    paired : ArePaired x.value.end entry.value.end
+
+  device_entry : (f : Flow) (v : ConnectionEnd) (es : List DeviceEntry)
+      → ends_of f (map (λ (y : DeviceEntry). record { flow = y.flow; end = device_end y.value }) es) ≡ v ∷ []
+      → (y : DeviceEntry) × Contains es y × (f ≡ y.flow) × (y.value.end ≡ v)
+  device_entry f v [] is = absurd cc
+  device_entry f v (y ∷ es) is = by (same_flow f y.flow) refl is (device_entry f v es)
+    where
+      by : (b : Bool) → same_flow f y.flow ≡ b
+          → cond b (y.value.end ∷ ends_of f (map (λ (z : DeviceEntry). record { flow = z.flow; end = device_end z.value }) es))
+          (ends_of f (map (λ (z : DeviceEntry). record { flow = z.flow; end = device_end z.value }) es)) ≡ v ∷ []
+          → (ends_of f (map (λ (z : DeviceEntry). record { flow = z.flow; end = device_end z.value }) es) ≡ v ∷ []
+          → (z : DeviceEntry) × Contains es z × (f ≡ z.flow) × (z.value.end ≡ v))
+          → (z : DeviceEntry) × Contains (y ∷ es) z × (f ≡ z.flow) × (z.value.end ≡ v)
+      by true same is rest = (y, (0, omega arith, refl), same_is f y.flow same, cc)
+      by false other is rest =
+          let r = rest is in
+          let less = r.1.1 in (r.0, (suc r.1.0, omega (arith, less), r.1.2), r.2, r.3)
+
+  at_device : (x : DriverEntry) → Contains driver.table.entries x → AtDevice x
+  at_device x within =
+      let fits = (run.kept.honest refl (driver_log end) refl).fits in
+      let fit = All-contains IsFitEntry driver.table.entries x fits.entries within in
+      let pair = settled.paired Driver x.flow x.value.end fit.peer (one_end driver_end driver.table x fits.sound within) in
+      let there = device_entry x.flow pair.0 p.device.table.entries pair.1 in
+      record { entry = there.0; within = there.1; flow = there.2; paired = subst (λ (v : ConnectionEnd). ArePaired x.value.end v) (sym there.3) pair.2 }
+
+  -- That one reads its stream, where nothing is unread at the driver, though more may come.
+  neither : (a b : Bool) → (a || b) ≡ false → (a ≡ false) × (b ≡ false)
+  neither = grind (arith, common_steps)
+
+  not_none : (n : ℕ) → 32769 ≤ n → (n == 0) ≡ false
+  not_none n least = grind (arith, nat_tests, least)
+
+  may_read_live : (v : ConnectionEnd) → v.state ≡ Live → v.peer.receive ≡ false → v.own.send ≡ false → may_read v v.state ≡ true
+  may_read_live v live receive send =
+      ap (λ (st : State). may_read v st) live ∙ ap (λ (b : Bool). not b && not v.own.send) receive ∙ ap (λ (b : Bool). not b) send
+
+  reads_there : (x : DriverEntry) → Contains driver.table.entries x → x.value.unread ≡ [] → is_at_end x.value.end ≡ false → (at : AtDevice x)
+      → reads_of at.entry ≡ Some at.entry.value.stream
+  reads_there x within unread more at =
+      let v : ConnectionEnd = at.entry.value.end in
+      let fit = All-contains IsFitEntry driver.table.entries x (run.kept.honest refl (driver_log end) refl).fits.entries within in
+      let none : unread_of x.value.end.credit ≡ 0 = sym fit.buffer.unread ∙ ap (λ (bs : List ℕ). length bs) unread in
+      let shut = neither x.value.end.peer.send x.value.end.own.receive more in
+      let least = credit_there x.value.end v at.paired none (ap (λ (b : Bool). b && x.value.end.own.send) shut.1) in
+      let may : may_read v v.state ≡ true =
+      may_read_live v at.paired.there.live (ap (λ (s : Shut). s.receive) at.paired.there.peer ∙ shut.1)
+      (ap (λ (s : Shut). s.send) (sym at.paired.here.peer) ∙ shut.0) in
+      ap (λ (b : Bool). cond (b && not (free_of v.credit == 0)) (Some at.entry.value.stream) None) may
+      ∙ ap (λ (b : Bool). cond (not b) (Some at.entry.value.stream) None) (not_none (free_of v.credit) least)
+
+  all_dry : (x : DriverEntry) → Contains driver.table.entries x → x.value.unread ≡ [] → is_at_end x.value.end ≡ false → AreDry x.flow h
+  all_dry x within unread more =
+      let at = at_device x within in
+      let y = at.entry in
+      let under : entry_under p.device.table y.slot ≡ Some y =
+      found_at p.device.table.entries at.within.0 y device_fits.rising
+      (slice_get_read p.device.table.entries (length p.device.table.entries) at.within.0 y refl at.within.1 (sym at.within.2)) in
+      let dry = reads y.slot y.value.stream
+      (ap (λ (o : Option DeviceEntry). elim o as (λ _. Option ℕ) [ None ↦ None | Some z ↦ reads_of z ]) under ∙ reads_there x within unread more at) in
+      subst (λ (f : Flow). AreDry f h) (sym at.flow)
+      (one_dry h e.sight.log p.next_port p.device.table p.handshakes (streamed driver end p e settled one h faults streams) y at.within dry)
+
   -- One that is known by an id, on which nothing is unread.
   module _ (opened : ℕ → Connection) (account : IsAccount 1 opened journal entries end.log (slots_of driver)) where
     all_received : (id : ℕ) (x : DriverEntry) → Contains driver.table.entries x → x.value.id ≡ id → x.value.unread ≡ [] → receives x.value.end ≡ true
@@ -158,12 +232,16 @@ module _ (script : RunScript) (driver : DriverState) (end : Sight) (apps : List 
     conn_of None id is some = absurd (omega (arith, is, some))
     conn_of (Some n) id is some = ap (λ (m : ℕ). let q : Option ℕ = Some m in q) is
 
+    flow_of_id : (id : ℕ) (x : DriverEntry) → Contains driver.table.entries x → x.value.id ≡ id → (opened id).flow ≡ x.flow
+    flow_of_id id x within named =
+        let on = All-contains (ReceivesOn (account_of 1 opened journal) end.log) driver.table.entries x account.received.held within in
+        ap (λ (i : ℕ). (opened i).flow) (sym named) ∙ ap (λ (c : Connection). c.flow) on.present
+
     -- It has an open stream.
     at_open : (k id : ℕ) (x : DriverEntry) → Contains driver.table.entries x → x.value.id ≡ id → id_of (state_at k apps).progress ≡ id
         → IsAtOpen opened h (state_at k apps).progress.conn id
     at_open k id x within named own =
-        let on = All-contains (ReceivesOn (account_of 1 opened journal) end.log) driver.table.entries x account.received.held within in
-        let flow : (opened id).flow ≡ x.flow = ap (λ (i : ℕ). (opened i).flow) (sym named) ∙ ap (λ (c : Connection). c.flow) on.present in (
+        let flow = flow_of_id id x within named in (
           conn_of (state_at k apps).progress.conn id own (subst (λ (i : ℕ). 1 ≤ i) named (id_some x within)),
           ap (λ (f : Flow). has_open_stream f h) flow ∙ flow_open x within,
         )
@@ -187,8 +265,12 @@ module _ (script : RunScript) (driver : DriverState) (end : Sight) (apps : List 
         let x = is.none.entry in
         let found = contained is.id x is.none.there in
         let named : x.value.id ≡ is.id = eqb-true x.value.id is.id (and_parts (x.value.id == is.id) (not x.value.closed) found.1).0 in
-        let own : id_of (state_at k apps).progress ≡ is.id = recv_id halts.act (state_at k apps).progress is.id is.n (halts.last ∙ ap (λ c. Some c) is.call) in
-        (is.id, at_open k is.id x found.0 named own, all_received is.id x found.0 named is.none.unread is.none.receives)
+        let own : id_of (state_at k apps).progress ≡ is.id = recv_id halts.act (state_at k apps).progress is.id is.n (halts.last ∙ ap (λ c. Some c) is.call) in (
+          is.id,
+          at_open k is.id x found.0 named own,
+          all_received is.id x found.0 named is.none.unread is.none.receives,
+          subst (λ (f : Flow). AreDry f h) (sym (flow_of_id is.id x found.0 named)) (all_dry x found.0 is.none.unread is.none.more),
+        )
 
     ending_complete : (k : ℕ) → Ends script k apps entries driver
         → IsCompleteEnding opened journal h (state_at k apps).progress.conn (ended_at script apps entries k)

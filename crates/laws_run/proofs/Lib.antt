@@ -7,4 +7,5 @@ pub mod Opening
 pub mod Bytes
 pub mod Reporting
 pub mod Open
+pub mod Drying
 pub mod Completing

@@ -1,7 +1,7 @@
 -- At rest the device has a connection for each stream with a label that its proxy hasn't closed, and no other.
 use Rattle.std.proofs.Common.{◌≡◌, ◌≢◌, ◌+◌, ◌-◌, ◌<◌, ◌==◌, ◌||◌, ◌&&◌, ℕ, zero, suc, Bool, true, false, cond, List, [], ◌∷◌, length, map, Option, Some, None}
 use Rattle.std.proofs.Common.{Contains, slice_get, slice_index_or, refl, sym, ap, subst, ◌∙◌, arith}
-use Rattle.std.proofs.lemmas.{Bool.Decides.nat_tests, List.Elements.All-contains, List.length-map, Map.Made.length-from_same_keys}
+use Rattle.std.proofs.lemmas.{Bool.Decides.nat_tests, Bool.and_parts, Option.slice_get-get_or, List.Elements.All-contains, List.length-map, Map.Made.length-from_same_keys}
 use Rattle.std.specs.{Cmp.IsEquivalence, List.AllByRecursion, List.AllPairs, List.IsDistinct, List.cons_option, List.filter_map, List.list_any, Option.option_map, Option.option_map_or}
 use Rattle.vs_conn.specs.declared.end.State.{State, TheVariants.Ended, TheVariants.Live}
 use Rattle.vs_flow.specs.{Flow.same_flow, Table.IsTable, Table.Table, declared.flow.Flow.Flow, declared.table.Entry.Entry}
@@ -16,7 +16,7 @@ use Rattle.laws_device.specs.{Honest.end_in, Streams.has_open_stream, Streams.is
 use Rattle.laws_device.proofs.Waiting.{open_among}
 use Rattle.laws_device_bytes.specs.Streamed.{IsJoined, IsStreamed, Seen, client_waits, look, seen}
 use Rattle.laws_device_bytes.proofs.{HostCalls.some_seen, Hosts.there}
-use Rattle.laws_run.specs.Complete.{open_label, open_labels}
+use Rattle.laws_run.specs.{Complete.open_label, Complete.open_labels, Dry.AreDry, Dry.IsDryAt}
 
 same_flows : IsEquivalence same_flow
 same_flows = record {
@@ -133,6 +133,29 @@ flows_any : (f : Flow) (es : List DeviceEntry)
     → is_among f (flows_of (map (λ (x : DeviceEntry). record { flow = x.flow; end = end_in x.value }) es)) ≡ list_any (same_flow f) (map (λ e. e.flow) es)
 flows_any f [] = refl
 flows_any f (e ∷ es) = ap (λ (b : Bool). same_flow f e.flow || b) (flows_any f es)
+
+-- Where a connection's own stream is dry, all open streams with its label are: it is the only one.
+module _ (h : HostContents) (log : Log) (port : ℕ) (t : Table DeviceConnection) (hands : List Handshake) (streamed : IsStreamed h log port t hands) where
+  looked_at : (k : ℕ) (s : Stream) → slice_get h.streams k ≡ Some s → stream_at (k + 1) h ≡ Some s
+  looked_at k s at =
+      let some : (k + 1 == 0) ≡ false = grind (arith, nat_tests) in
+      let back : k + 1 - 1 ≡ k = omega arith in
+      ap (λ (b : Bool). cond b None (slice_get h.streams (k + 1 - 1))) some ∙ ap (λ (i : ℕ). slice_get h.streams i) back ∙ at
+
+  label_of : (f : Flow) (s : Stream) → is_open_on f s ≡ true → s.label ≡ Some f
+  label_of f s is = by s.label (and_parts (is_open_in s.state) (option_map_or (same_flow f) s.label false) is).1
+    where
+      by : (o : Option Flow) → option_map_or (same_flow f) o false ≡ true → o ≡ Some f
+      by None so = absurd cc
+      by (Some g) so = ap (λ (x : Flow). let o : Option Flow = Some x in o) (sym (same_is f g so))
+
+  pub one_dry : (e : DeviceEntry) → Contains t.entries e → IsDryAt e.value.stream h → AreDry e.flow h
+  one_dry e within dry k d less opened =
+      let s : Stream = slice_index_or h.streams k d in
+      let at : stream_at (k + 1) h ≡ Some s = looked_at k s (slice_get-get_or h.streams k d less) in
+      let j = All-contains (IsJoined (look h) log) t.entries e streamed.joined within in
+      let same = streamed.streams.unique (k + 1) e.value.stream (seen s) j.stream e.flow (ap (option_map seen) at) j.there (label_of e.flow s opened) j.label in
+      dry s (ap (λ (i : ℕ). stream_at i h) (sym same) ∙ at)
 
 module _ (h : HostContents) (log : Log) (port : ℕ) (t : Table DeviceConnection) (hands : List Handshake) (streamed : IsStreamed h log port t hands)
     (table : IsTable t) (is_open : (e : DeviceEntry) → Contains t.entries e → e.value.closed ≡ false) where

@@ -215,6 +215,9 @@ polls s =
 none : (n : ℕ) (b : Bool) → (nat_lt 0 n || b) ≡ false → (n ≡ 0) × (b ≡ false)
 none = grind (arith, nat_tests, common_steps)
 
+pub took_none : (p : Polled) → poll_moved p ≡ false → p.took ≡ 0
+took_none p still = (none p.took _ still).0
+
 pub poll_still : (s t : DriverState) (c d : RingContents) (p : Polled) → Plays (poll_of s) c (t, p) d → poll_moved p ≡ false → SameCore s t
 poll_still s t c d p plays still =
     let took = none p.took _ still in

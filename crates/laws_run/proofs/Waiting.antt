@@ -33,6 +33,7 @@ pub record HasNoneUnread (id : ℕ) (s : DriverState) : Type 0 where
   pub there : entry_known_as id s ≡ Some entry
   pub unread : entry.value.unread ≡ []
   pub receives : receives entry.value.end ≡ true
+  pub more : is_at_end entry.value.end ≡ false
 
 -- Which answers tell so.
 none_read : (st : State) (shut : Bool) (why : WaitsFor) → wait_of (told_recv (cond shut got.End (nothing_read st))) ≡ Some why
@@ -83,6 +84,7 @@ recv_empty id n s is =
       entry = e;
       there = of.there;
       unread = of.unread;
+      more = both.1;
       receives = ap (λ (st : State). receives_in st e.value.end.own.receive) both.0 ∙ by e.value.end.peer.send e.value.end.own.receive both.1;
     }
   where

@@ -6,6 +6,7 @@ use Rattle.laws_device.specs.Streams.{has_open_stream, is_open_in}
 use Rattle.laws_driver_bytes.specs.Calls.{Journal, received_by}
 use Rattle.vs_apps_parts.specs.{Journals.calls_of, Scripts.RunScript, declared.{journal.Entry.Entry, journal.WaitsFor.WaitsFor, progress.AppState.AppState}}
 use Rattle.vs_apps_parts.specs.declared.journal.WaitsFor.TheVariants as waits
+use Rattle.laws_run.specs.Dry.{AreDry}
 use Rattle.vs_report.specs.declared.giving.Totals.{Totals}
 use Rattle.vs_run_report.specs.{Endings.state_at, Report.ended_at, declared.ending.Ending.Ending}
 use Rattle.vs_run_report.specs.declared.ending.Ending.TheVariants as ending
@@ -18,12 +19,14 @@ abbrev pub open_labels : HostContents → List Flow
 open_labels h = filter_map open_label h.streams
 
 -- The app's last connection, by its id, has a stream that the proxy hasn't closed. What is so of one where an app waits for bytes, or for credit: it is
--- open, and in the first case all that the host's program wrote there and the proxy took was received.
+-- open, and in the first case all that the host's program wrote there and the proxy took was received, and nothing is there to be taken now, though
+-- more may come.
 abbrev pub IsAtOpen : (ℕ → Connection) → HostContents → Option ℕ → ℕ → Type 0
 IsAtOpen opened h conn id = (conn ≡ Some id) × (has_open_stream (opened id).flow h ≡ true)
 
 abbrev pub LacksBytes : (ℕ → Connection) → Journal → HostContents → Option ℕ → Type 0
-LacksBytes opened journal h conn = (id : ℕ) × IsAtOpen opened h conn id × (received_by id journal ≡ host_wrote (opened id) h)
+LacksBytes opened journal h conn =
+    (id : ℕ) × IsAtOpen opened h conn id × (received_by id journal ≡ host_wrote (opened id) h) × AreDry (opened id).flow h
 
 abbrev pub LacksCredit : (ℕ → Connection) → HostContents → Option ℕ → Type 0
 LacksCredit opened h conn = (id : ℕ) × IsAtOpen opened h conn id
