@@ -1,5 +1,5 @@
 -- Drivers whose connections differ in no more than what they ask for of credit.
-use Rattle.std.proofs.Common.{◌≡◌, ◌==◌, ◌||◌, ℕ, Bool, true, false, cond, List, [], ◌∷◌, map, Option, Some, None, Result, Ok, Err, refl, sym, ap, subst, ◌∙◌, arith}
+use Rattle.std.proofs.Common.{◌≡◌, ◌==◌, ◌||◌, ℕ, Bool, true, false, cond, List, [], ◌∷◌, map, Option, Some, None, refl, sym, ap, subst, ◌∙◌, arith}
 use Rattle.std.proofs.lemmas.{Bool.eq-eqb, Grind.common_steps}
 use Rattle.std.specs.{Option.option_map, Prelude.find, Prelude.is_some}
 use Rattle.vs_conn.specs.{End.ConnectionEnd, End.may_send_of, End.state_may_send, End.wanting_credit}
@@ -7,7 +7,7 @@ use Rattle.vs_conn.specs.declared.end.State.{State, TheVariants.{Answering, Aske
 use Rattle.vs_flow.specs.Table.{Table, revalued, slots}
 use Rattle.vs_flow.proofs.Lookups.{find-map_same}
 use Rattle.vs_driver_parts.specs.Connections.{entry_answer, gone_answer, recv_of, state_of, state_shown, with_end}
-use Rattle.vs_driver_parts.specs.State.{DriverConnection, DriverEntry, DriverState, GoneConnection, Listener, entry_known_as, gone_known_as, is_known_as}
+use Rattle.vs_driver_parts.specs.State.{DriverConnection, DriverEntry, DriverState, GoneConnection, entry_known_as, gone_known_as, is_known_as}
 use Rattle.vs_driver_parts.specs.declared.answers.{ConnectionState.ConnectionState, Received.Received}
 use Rattle.vs_driver_parts.specs.declared.answers.ConnectionState.TheVariants as seen
 use Rattle.vs_driver_parts.specs.declared.answers.Received.TheVariants as got

@@ -1,20 +1,19 @@
 -- From what a run ends in to a complete report.
-use Rattle.std.proofs.Common.{◌≡◌, ◌≢◌, ◌+◌, ◌<◌, ◌≤◌, ◌==◌, ◌||◌, ◌&&◌, ◌⊎◌, inl, inr, nat_lt, ℕ, zero, suc, Bool, true, false, cond, List, [], ◌∷◌, ◌++◌, Option, Some, None, length, map}
+use Rattle.std.proofs.Common.{◌≡◌, ◌+◌, ◌<◌, ◌≤◌, ◌==◌, ◌||◌, ◌&&◌, inl, inr, ℕ, suc, Bool, true, false, cond, List, [], ◌∷◌, ◌++◌, Option, Some, None, length, map}
 use Rattle.std.proofs.Common.{Contains, slice_index_or, refl, sym, ap, subst, ◌∙◌, arith, append-nil}
 use Rattle.std.proofs.lemmas.{Bool.and_parts, Bool.Decides.nat_tests, Bool.eqb-true, Grind.common_steps, List.Elements.All-contains, List.length-map, Option.slice_get_read}
 use Rattle.std.specs.{List.AllPairs, Option.option_map, Option.unwrap_or, Prelude.not}
-use Rattle.vs_flow.specs.{Connection.Connection, Connection.first_of, Flow.same_flow, Table.IsTable, Table.entry_under, Table.value_under, declared.flow.Flow.Flow}
+use Rattle.vs_flow.specs.{Connection.Connection, Flow.same_flow, Table.IsTable, Table.entry_under, Table.value_under, declared.flow.Flow.Flow}
 use Rattle.vs_conn.specs.{End.ConnectionEnd, declared.end.State.{State, TheVariants.Ended, TheVariants.Live}}
-use Rattle.vs_limits.specs.declared.TheConstants.{FIRST_CID, HOST_CID}
+use Rattle.vs_limits.specs.declared.TheConstants.{FIRST_CID}
 use Rattle.vs_outside.specs.{Faults.one_more, Host.HostContents, HostBytes.host_wrote}
-use Rattle.vs_page.specs.{Fair.current, Fair.number_of, Fair.payload_got, Log.Device, Log.Driver, Log.Log, Log.Role}
-use Rattle.vs_ring_port.specs.Contents.{RingContents}
+use Rattle.vs_page.specs.{Fair.current, Fair.number_of, Fair.payload_got, Log.Device, Log.Driver}
 use Rattle.vs_ring_shared.specs.Sights.{DeviceSight, Sight, device_contents, device_log, driver_contents, driver_log}
 use Rattle.vs_driver_parts.specs.{Connections.is_at_end, Connections.table_shown as guest_shown, State.DriverEntry, State.DriverState, State.entry_known_as, State.is_known_as}
 use Rattle.vs_driver_parts.specs.declared.answers.Polled.{Polled}
-use Rattle.vs_device_parts.specs.{Playing.situation, State.DeviceConnection, State.DeviceEntry, Turns.table_shown as device_shown}
+use Rattle.vs_device_parts.specs.{Playing.situation, State.DeviceEntry, Turns.table_shown as device_shown}
 use Rattle.vs_proxy_parts.specs.State.{ProxyState}
-use Rattle.laws_tables.{specs.Ends.ends_of, specs.Ends.flows_of, specs.Ends.is_among, proofs.Slots.found_by, proofs.Slots.one_end}
+use Rattle.laws_tables.{specs.Ends.ends_of, proofs.Slots.found_by, proofs.Slots.one_end}
 use Rattle.vs_page.proofs.Flows.{same_is}
 use Rattle.laws_driver.specs.Honest.{IsFitEntry, end_in as driver_end, slots_of}
 use Rattle.laws_device.specs.Honest.{end_in as device_end}
@@ -36,7 +35,7 @@ use Rattle.vs_run_report.specs.declared.ending.Ending.TheVariants as ending
 use Rattle.laws_run.specs.Complete.{IsAtOpen, IsCompleteEnding, IsCompleteRun, IsCompleteWait, open_labels}
 use Rattle.laws_device.specs.Streams.{has_open_stream}
 use Rattle.laws_run.specs.Dry.{AreDry, IsDryAt, reads_of, reads_under}
-use Rattle.laws_run.proofs.{Alike.AreApart, Alike.HasApart, Alike.Leaves, Alike.leaves_core, Bytes.is_first, Bytes.streamed, Bytes.wrote_there, Endings.Ends, Endings.Rests}
+use Rattle.laws_run.proofs.{Alike.AreApart, Alike.HasApart, Alike.Leaves, Alike.leaves_core, Bytes.is_first, Bytes.streamed, Bytes.wrote_there, Endings.Ends}
 use Rattle.laws_run.proofs.{Endings.all_ends, Endings.ends_on, Halting.Halts, Open.among_entry, Open.among_open, Open.as_many_open, Open.one_dry, Reporting.accounted, Reporting.once, Reporting.right_with}
 use Rattle.laws_run.proofs.{Still.poll_still, Waiting.credit_call, Waiting.empty_call, Waiting.not_open, Waiting.recv_id, Waiting.send_id}
 

@@ -1,8 +1,8 @@
 -- A stage of filling that puts nothing read each stream that may be read, and each gave Again.
 use Rattle.std.proofs.Common.{slice_get, slice_set, ◌-◌, ◌⊎◌, inl, inr}
-use Rattle.std.proofs.Common.{◌≡◌, ◌≢◌, ◌≤◌, ◌+◌, ◌==◌, ◌&&◌, ◌||◌, not, ℕ, zero, suc, Bool, true, false, cond, List, [], ◌∷◌, ◌++◌, length, Option, Some, None, Ok, Err, refl, sym, ap, subst, ◌∙◌, arith}
-use Rattle.std.proofs.lemmas.{Bool.Decides.nat_tests, Bool.eq-eqb, Bool.eqb-true, Grind.common_steps, Option.same_Some}
-use Rattle.std.specs.{Option.ForSome, Option.option_map, Option.option_map_or, Prelude.{filter, min, nat_le, nat_lt}}
+use Rattle.std.proofs.Common.{◌≡◌, ◌≢◌, ◌≤◌, ◌+◌, ◌==◌, ◌&&◌, ◌||◌, not, ℕ, zero, suc, Bool, true, false, cond, List, [], ◌∷◌, ◌++◌, length, Option, Some, None, refl, sym, ap, subst, ◌∙◌, arith}
+use Rattle.std.proofs.lemmas.{Bool.eq-eqb, Bool.eqb-true, Grind.common_steps, Option.same_Some}
+use Rattle.std.specs.{Option.option_map, Option.option_map_or, Prelude.{filter, min, nat_le, nat_lt}}
 use Rattle.vs_contents.specs.{CallTree.Ask, CallTree.Done, CallTree.bind, CallTree.for_each, CallTree.while_up_to, Contents.Exposes}
 use Rattle.vs_conn.specs.{End.ConnectionEnd, End.owes_of, End.wanting_credit, Headers.owed_header, Headers.payload_header, End.with_payload_sent, End.with_shut}
 use Rattle.vs_conn.specs.declared.end.{Owed.Owed, State.State, State.TheVariants.{Answering, Asked, Ended, Live}, TheConstants.OWED_MAX}
@@ -10,20 +10,20 @@ use Rattle.vs_credit.specs.Credit.{free_of}
 use Rattle.vs_flow.specs.Table.{Table, entry_under, revalued, slots, with_value}
 use Rattle.vs_flow.proofs.Lookups.{entry_under-with_value}
 use Rattle.vs_header.specs.declared.Header.{Header}
-use Rattle.vs_outside.specs.{Host.{HostContents, Stream, after_close, after_read, fails_now, read_answer, read_failed, read_of, stream_at}, declared.host_net.StreamRead.StreamRead}
+use Rattle.vs_outside.specs.{Host.{HostContents, Stream, after_close, after_read, fails_now, read_failed, read_of, stream_at}, declared.host_net.StreamRead.StreamRead}
 use Rattle.vs_outside.specs.declared.host_net.StreamRead.TheVariants as read
 use Rattle.vs_outside.specs.declared.host_net.StreamState.TheVariants as state
 use Rattle.vs_outside.proofs.Frames.{others-after_close, stream_at-with_stream}
 use Rattle.vs_replies.specs.declared.Reply.{Reply}
 use Rattle.vs_ring_port.specs.{Contents.Take, declared.device_ring.Chain.Chain, declared.device_ring.Next.Next, declared.queue.Queue.TheVariants.Rx}
 use Rattle.vs_ring_port.specs.declared.device_ring.Next.TheVariants as next
-use Rattle.vs_device_parts.specs.{Calls.{Allows, Answer, Call, CloseStream, DeviceTree, HostMoves, IsReadOf, ReadStream, Ring, Situation}, Connections.{after_shut, cut_off}}
+use Rattle.vs_device_parts.specs.{Calls.{Allows, Answer, CloseStream, DeviceTree, HostMoves, IsReadOf, ReadStream, Ring, Situation}, Connections.{after_shut, cut_off}}
 use Rattle.vs_device_parts.specs.{Connections.{route_to_guest, with_connection, with_fault}, Playing.Runs, Receiving.{Filling, after_paying, hold, holding, may_read}}
 use Rattle.vs_device_parts.specs.Receiving.{put_on, put_owed, put_packet, put_reply, put_reply_of, read_answered, read_room, read_stream, read_with_chain}
 use Rattle.vs_device_parts.specs.{Receiving.{reply_header, round_from, serve_slot, written}, State.{DeviceConnection, DeviceEntry, DeviceState}, Steps.filling, Streams.closing}
 use Rattle.vs_device_parts.proofs.Under.{has_slot}
 use Rattle.laws_device_streams.specs.Waiting.{filling_of}
-use Rattle.laws_device_walk.proofs.Keeping.{Asking, Keeps, keeps_each, keeps_if, keeps_some, keeps_then, keeps_while}
+use Rattle.laws_device_walk.proofs.Keeping.{Asking, Keeps, keeps_then}
 use Rattle.laws_device.specs.Honest.{end_in}
 use Rattle.laws_rest.proofs.{Owing.listed, Owing.same_slots, Quiet.in_list}
 use Rattle.vs_proxy_parts.specs.{State.ProxyState, Turns.turn_of, declared.answers.Turn.Turn, declared.answers.Turned.Turned}

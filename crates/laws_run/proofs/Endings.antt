@@ -2,17 +2,15 @@
 use Rattle.std.proofs.Common.{◌≡◌, ◌≢◌, ◌⊎◌, inl, inr, ℕ, zero, suc, ◌+◌, ◌-◌, ◌<◌, ◌≤◌, ◌==◌, nat_lt, Bool, true, false, cond, List, []}
 use Rattle.std.proofs.Common.{◌∷◌, length, Option, Some, None, refl, sym, ap, subst, ◌∙◌, arith, slice_get, slice_set, get_or-set_other}
 use Rattle.std.proofs.{Common.{get_or-set_same, length-set}, lemmas.{Bool.Decides.nat_tests, Bool.eq-eqb, Bool.eqb-true}}
-use Rattle.vs_script.specs.App.{Act}
 use Rattle.vs_driver_parts.specs.{State.DriverState, declared.answers.Polled.Polled}
 use Rattle.laws_driver_bytes.specs.Calls.{Made}
 use Rattle.vs_apps_parts.specs.{Journals.{wait_noted, wait_place}, Scripts.{RunScript, acts_of, told_in}, Told.{step_wait, told_of}}
 use Rattle.vs_apps_parts.specs.{Told.wait_of, declared.{journal.Entry.Entry, journal.WaitsFor.WaitsFor, progress.AppState.AppState}}
 use Rattle.vs_apps_parts.specs.declared.{progress.Stepped.Stepped, told.Told.Told}
 use Rattle.vs_apps_parts.specs.declared.progress.Stepped.TheVariants as stepped
-use Rattle.vs_apps_parts.specs.declared.told.Told.TheVariants as says
 use Rattle.laws_apps.specs.{Rounds.{AllStand, Stands}, Runs.{MakesCalls, NotesCall, PollsTo, Run, Steps, Waits, no_app, poll_moved}}
 use Rattle.vs_run_report.specs.{Endings.ending_at, Endings.ending_of, Endings.state_at, Endings.why_at, Report.ended_at, Right.IsRightEnding}
-use Rattle.vs_run_report.specs.{Right.may_wait, declared.ending.Ending.Ending}
+use Rattle.vs_run_report.specs.{declared.ending.Ending.Ending}
 use Rattle.vs_run_report.specs.declared.ending.Ending.TheVariants as ending
 use Rattle.laws_run.proofs.{Alike.Leaves, Alike.leaves_core, Alike.leaves_none, Alike.leaves_then, Halting.Halts, Halting.calls_halt, Halting.first_waits}
 use Rattle.laws_run.proofs.{Halting.halts_on, Halting.last_of, Halting.rest_waits, Still.poll_still}

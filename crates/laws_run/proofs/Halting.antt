@@ -1,5 +1,5 @@
 -- A call that told an app to wait leaves the driver alike, and the driver answers it so again.
-use Rattle.std.proofs.Common.{◌≡◌, ◌==◌, ℕ, nat_lt, Bool, true, false, cond, List, [], ◌∷◌, ◌++◌, length, Option, Some, None, Result, Ok, Err, refl, sym, ap, subst, ◌∙◌}
+use Rattle.std.proofs.Common.{◌≡◌, ◌==◌, ℕ, Bool, true, false, cond, List, [], ◌∷◌, length, Option, Some, None, Result, Ok, Err, refl, sym, ap, subst, ◌∙◌}
 use Rattle.std.proofs.lemmas.{Bool.eqb-true, Option.same_Some}
 use Rattle.std.specs.{Prelude.is_some, Prelude.slice_get}
 use Rattle.vs_contents.specs.CallTree.{Done, bind}
@@ -7,15 +7,14 @@ use Rattle.vs_contents.proofs.Leads.{AllEnds, end_of}
 use Rattle.vs_conn.specs.{End.may_send_of, End.wanting_credit, End.with_payload_sent, declared.end.Stop.Stop}
 use Rattle.vs_conn.specs.declared.end.Stop.TheVariants as stop
 use Rattle.vs_credit.specs.declared.Credit.{Credit}
-use Rattle.vs_script.specs.App.{Act, Connect, Listen, Accept, Send, Recv, Drain, Exchange, Shutdown, Close}
-use Rattle.vs_script.specs.Data.{size_of}
+use Rattle.vs_script.specs.App.{Act}
 use Rattle.vs_ring_port.specs.Contents.{RingContents}
 use Rattle.vs_driver_parts.specs.Connections.{after_read, after_recv, all_gone_after_read, connect_refusal, connected, entry_answer, entry_read, gone_answer}
 use Rattle.vs_driver_parts.specs.Connections.{is_at_end, nothing_read, read_of, recv_of, state_of, unread_of_id, with_connection, with_end}
 use Rattle.vs_driver_parts.specs.Conversations.{connect_of, connect_with_page, has_page, payload_of, post_packet, reap_all, request_bytes, send_of, send_on}
 use Rattle.vs_driver_parts.specs.Conversations.{no_credit, not_sent, payload_bytes, send_stopped, send_with_credit, send_with_page}
 use Rattle.vs_driver_parts.specs.{Listening.next_accepted, Playing.Plays, Playing.RingAllows, State.DriverEntry, State.DriverState, State.GoneConnection}
-use Rattle.vs_driver_parts.specs.State.{entry_known_as, gone_known_as, Listener}
+use Rattle.vs_driver_parts.specs.State.{entry_known_as, gone_known_as}
 use Rattle.vs_driver_parts.specs.Listening.{after_accept, accept_of, listener_on, with_waiting, without_id}
 use Rattle.vs_driver_parts.specs.declared.answers.{Accepted.Accepted, ConnectError.ConnectError, Received.Received, Sent.Sent}
 use Rattle.vs_driver_parts.specs.declared.answers.Accepted.TheVariants as accepted
@@ -26,7 +25,7 @@ use Rattle.laws_driver_bytes.specs.Calls.{GuestCall, Made, ReplyTo, whole_call}
 use Rattle.laws_driver_bytes.specs.Calls as call
 use Rattle.laws_driver_bytes.specs.Received.{bytes_got}
 use Rattle.laws_rest.proofs.Quiet.{ends_then}
-use Rattle.vs_apps_parts.specs.{Scripts.{RunScript, acts_of, calls_in, calls_next, id_of, told_in}, Told.{step_wait, told_accept, told_by, told_connect, told_look}}
+use Rattle.vs_apps_parts.specs.{Scripts.{RunScript, calls_in, calls_next, told_in}, Told.{step_wait, told_accept, told_by, told_connect, told_look}}
 use Rattle.vs_apps_parts.specs.{Told.{told_of, told_recv, told_send, wait_of}, declared.{journal.WaitsFor.WaitsFor, progress.Progress.Progress, told.Told.Told}}
 use Rattle.vs_apps_parts.specs.declared.journal.WaitsFor.TheVariants as waits
 use Rattle.vs_apps_parts.specs.declared.told.Told.TheVariants as says

@@ -3,7 +3,6 @@ use Rattle.std.proofs.Common.{◌≡◌, ◌≢◌, ◌+◌, ◌-◌, ◌<◌, �
 use Rattle.std.proofs.Common.{Contains, slice_get, slice_index_or, refl, sym, ap, subst, ◌∙◌, arith}
 use Rattle.std.proofs.lemmas.{Bool.Decides.nat_tests, Bool.and_parts, Option.slice_get-get_or, List.Elements.All-contains, List.length-map, Map.Made.length-from_same_keys}
 use Rattle.std.specs.{Cmp.IsEquivalence, List.AllByRecursion, List.AllPairs, List.IsDistinct, List.cons_option, List.filter_map, List.list_any, Option.option_map, Option.option_map_or}
-use Rattle.vs_conn.specs.declared.end.State.{State, TheVariants.Ended, TheVariants.Live}
 use Rattle.vs_flow.specs.{Flow.same_flow, Table.IsTable, Table.Table, declared.flow.Flow.Flow, declared.table.Entry.Entry}
 use Rattle.vs_conn.specs.End.{ConnectionEnd}
 use Rattle.vs_outside.specs.{Host.{HostContents, Stream, stream_at, waits}, HostProgram.closes, declared.host_net.StreamState.StreamState}
@@ -11,11 +10,11 @@ use Rattle.vs_outside.specs.declared.host_net.StreamState.TheVariants as state
 use Rattle.vs_page.{specs.Log.Log, proofs.Flows.same_is, proofs.Flows.same_self}
 use Rattle.vs_device_parts.specs.State.{DeviceConnection, DeviceEntry}
 use Rattle.vs_proxy_parts.specs.State.{Handshake}
-use Rattle.laws_tables.specs.Ends.{FlowEnd, entries_of, flows_of, is_among}
+use Rattle.laws_tables.specs.Ends.{entries_of, flows_of, is_among}
 use Rattle.laws_device.specs.{Honest.end_in, Streams.has_open_stream, Streams.is_open_in, Streams.is_open_on}
 use Rattle.laws_device.proofs.Waiting.{open_among}
 use Rattle.laws_device_bytes.specs.Streamed.{IsJoined, IsStreamed, Seen, client_waits, look, seen}
-use Rattle.laws_device_bytes.proofs.{HostCalls.some_seen, Hosts.there}
+use Rattle.laws_device_bytes.proofs.{Hosts.there}
 use Rattle.laws_run.specs.{Complete.open_label, Complete.open_labels, Dry.AreDry, Dry.IsDryAt}
 
 same_flows : IsEquivalence same_flow

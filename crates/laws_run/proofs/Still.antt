@@ -1,6 +1,6 @@
 -- A poll that moved nothing leaves the driver as it was, but for its pages in flight.
 use Rattle.std.proofs.Common.{◌≡◌, ◌+◌, ◌==◌, ◌||◌, ℕ, zero, suc, nat_le, nat_lt, Bool, true, false, cond, List, [], ◌∷◌, length, Option, Some, None}
-use Rattle.std.proofs.Common.{refl, sym, ap, subst, ◌∙◌, arith}
+use Rattle.std.proofs.Common.{refl, ◌∙◌, arith}
 use Rattle.std.proofs.lemmas.{Bool.Decides.nat_tests, Grind.common_steps}
 use Rattle.vs_contents.specs.CallTree.{Ask, Done, bind, for_each, while_up_to}
 use Rattle.vs_contents.proofs.Leads.{AllEnds, end_of, ends_weaker}
@@ -9,9 +9,9 @@ use Rattle.vs_flow.specs.Table.{entry_under, slots}
 use Rattle.vs_header.specs.Packet.{header_bytes}
 use Rattle.vs_limits.specs.declared.TheConstants.{DRIVER_REPLIES_FULL}
 use Rattle.vs_replies.specs.declared.Reply.{Reply}
-use Rattle.vs_ring_port.specs.{Contents.RingContents, DriverCalls.LoadCid, DriverCalls.Publish, DriverCalls.Reap, declared.queue.Queue.Queue}
+use Rattle.vs_ring_port.specs.{Contents.RingContents, DriverCalls.LoadCid, DriverCalls.Reap, declared.queue.Queue.Queue}
 use Rattle.vs_ring_port.specs.{declared.queue.TheConstants.STAGED_MAX, declared.queue.Queue.TheVariants.{Event, Rx, Tx}}
-use Rattle.vs_driver_parts.specs.Conversations.{DriverTree, Round, after_paying, after_stage, all_taken, event_reaped, event_taken, goes_on_with}
+use Rattle.vs_driver_parts.specs.Conversations.{DriverTree, Round, after_paying, all_taken, event_reaped, event_taken, goes_on_with}
 use Rattle.vs_driver_parts.specs.Conversations.{has_page, one_put, owed_bytes, packet_reaped, pay_all, pay_and_publish, pay_slot, poll_of, poll_packets}
 use Rattle.vs_driver_parts.specs.Conversations.{poll_puts, poll_reaps, polled, publish_and_pay, published, put_all, put_owed, put_owed_of, put_replies}
 use Rattle.vs_driver_parts.specs.Conversations.{put_reply, put_reply_of, reap_all, reap_one, reaped, reply_header, stage_of, stage_packet, staged_again}

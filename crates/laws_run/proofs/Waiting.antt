@@ -1,15 +1,15 @@
 -- What an app may wait for at rest, by the driver's answer to its next call.
-use Rattle.std.proofs.Common.{◌≡◌, ◌≢◌, ◌<◌, ◌≤◌, ◌||◌, not, ℕ, Bool, true, false, cond, List, [], ◌∷◌, ◌++◌, length, Option, Some, None, Result, Ok, Err}
-use Rattle.std.proofs.Common.{Contains, refl, sym, ap, subst, ◌∙◌, arith}
-use Rattle.std.proofs.lemmas.{Bool.eqb-true, List.Elements.All-contains, Option.same_Some}
-use Rattle.std.specs.{Option.unwrap_or, Prelude.nat_lt, Prelude.is_some}
-use Rattle.vs_conn.specs.{End.ConnectionEnd, End.may_send_of, End.state_may_send, declared.end.State.State, declared.end.State.TheVariants.{Answering, Asked, Ended, Live}, declared.end.Stop.Stop}
+use Rattle.std.proofs.Common.{◌≡◌, ◌≢◌, ◌||◌, not, ℕ, Bool, true, false, cond, List, [], ◌∷◌, ◌++◌, Option, Some, None, Ok, Err}
+use Rattle.std.proofs.Common.{refl, sym, ap, ◌∙◌}
+use Rattle.std.proofs.lemmas.{Option.same_Some}
+use Rattle.std.specs.{Prelude.nat_lt, Prelude.is_some}
+use Rattle.vs_conn.specs.{End.ConnectionEnd, End.may_send_of, End.state_may_send, declared.end.State.State, declared.end.State.TheVariants.{Answering, Asked, Ended, Live}}
 use Rattle.vs_conn.specs.declared.end.Stop.TheVariants as stop
 use Rattle.vs_credit.specs.Credit.{free_of}
 use Rattle.vs_script.specs.App.{Act, Connect, Listen, Accept, Send, Recv, Drain, Exchange, Shutdown, Close}
-use Rattle.vs_script.specs.Data.{Content, size_of}
+use Rattle.vs_script.specs.Data.{size_of}
 use Rattle.vs_driver_parts.specs.Connections.{entry_answer, gone_answer, is_at_end, nothing_read, read_of, recv_of, state_of, state_shown}
-use Rattle.vs_driver_parts.specs.State.{DriverEntry, DriverState, GoneConnection, entry_known_as, gone_known_as, is_known_as}
+use Rattle.vs_driver_parts.specs.State.{DriverEntry, DriverState, GoneConnection, entry_known_as, gone_known_as}
 use Rattle.vs_driver_parts.specs.declared.answers.{ConnectionState.ConnectionState, Received.Received}
 use Rattle.vs_driver_parts.specs.declared.answers.ConnectionState.TheVariants as seen
 use Rattle.vs_driver_parts.specs.declared.answers.Received.TheVariants as got
