@@ -27,48 +27,9 @@ use Rattle.laws_world.proofs.Bytes.{read_is_got, wrote_is_put}
 use Rattle.vs_apps_parts.specs.{Journals.sent_as, declared.journal.Entry.Entry}
 use Rattle.laws_apps.specs.Accounts.{HasOne, IsAccount}
 use Rattle.laws_apps.proofs.Naming.{sent_by_id}
-
--- Where an end got all that the other put, both have the same payload, and the same number of connections.
-module _ (role : Role) (mine other : Log) (all : packets_put other ≡ packets_got mine) where
-  there : (f : Flow) → puts (whole_of (other_role role) f other) ≡ gots (whole_of role f mine)
-  there f = got_on role f mine other [] all
-
-  same_payload : (c : Connection) → payload_put (other_role role) c other ≡ payload_got role c mine
-  same_payload c =
-      ap (λ (side : Side). payload_of (instance_from side c.number (puts (whole_of (other_role role) c.flow other)))) (opposite_by role (is_assigned c.flow.host))
-      ∙ ap (λ (ps : List Packet). payload_of (instance_from (peer (side_of role c.flow)) c.number ps)) (there c.flow)
-
-same_number : (driver device : Log) (f : Flow) → packets_put driver ≡ packets_got device → packets_put device ≡ packets_got driver
-    → number_of Driver f driver ≡ number_of Device f device
-same_number driver device f to_device to_driver =
-    ap (λ (side : Side). asked_by side (puts (whole_of Driver f driver)) (gots (whole_of Driver f driver))) (opposite_by Device (is_assigned f.host))
-    ∙ by (side_of Device f)
-  where
-    by : (side : Side) → asked_by (peer side) (puts (whole_of Driver f driver)) (gots (whole_of Driver f driver))
-        ≡ asked_by side (puts (whole_of Device f device)) (gots (whole_of Device f device))
-    by Asker = ap (λ (ps : List Packet). count is_request ps) (sym (there Driver driver device to_driver f))
-    by Answerer = ap (λ (ps : List Packet). count is_request ps) (there Device device driver to_device f)
-
--- A device that dropped no packet dropped no payload.
-all_heard : (first : ℕ) (log : Log) → ((f : Flow) → AreKept Device first f log) → AreHeard first log
-all_heard first [] kept = tt
-all_heard first (PutPacket p ∷ log) kept = all_heard first log kept
-all_heard first (GotPacket p ∷ log) kept = (
-  λ dropped left. let own = (kept (flow_got Device p)).0 (same_self (flow_got Device p)) in
-      let no : true ≡ false = sym dropped ∙ own in absurd cc,
-  all_heard first log (λ f. (kept f).1),
-)
-all_heard first (PutEvent id ∷ log) kept = all_heard first log kept
-all_heard first (GotEvent id ∷ log) kept = all_heard first log kept
-all_heard first (Mark cid ∷ log) kept = all_heard first log kept
+use Rattle.laws_run.proofs.Wrote.{is_first, read_there, there, to_device, wrote_there}
 
 module _ (d : DriverState) (driver : Sight) (p : ProxyState) (device : DeviceSight) (settled : IsSettled d driver p device) where
-  to_device : packets_put driver.log ≡ packets_got device.sight.log
-  to_device = settled.at_rest.got Device
-
-  to_driver : packets_put device.sight.log ≡ packets_got driver.log
-  to_driver = settled.at_rest.got Driver
-
   -- Each asked once on a flow, so each flow was used once.
   pub number_once : AskOnce Driver (record { part = driver_ends d; log = driver.log })
       → AskOnce Device (record { part = device_ends p.next_port p.device; log = device.sight.log }) → (f : Flow) → number_of Device f device.sight.log ≤ 1
@@ -80,51 +41,23 @@ module _ (d : DriverState) (driver : Sight) (p : ProxyState) (device : DeviceSig
       by Answerer is =
           let few = (guest f (opposite_by Device (is_assigned f.host) ∙ ap peer is)).few in
           subst (λ (side : Side). (let w = whole_of Device f device.sight.log in asked_by side (puts w) (gots w)) ≤ 1) (sym is)
-          (subst (λ (ps : List Packet). count is_request ps ≤ 1) (there Device device.sight.log driver.log to_device f) few)
+          (subst (λ (ps : List Packet). count is_request ps ≤ 1) (there Device device.sight.log driver.log (to_device d driver p device settled) f) few)
 
   module _ (once : (f : Flow) → number_of Device f device.sight.log ≤ 1) (h : HostContents) (faults : ℕ) (streams : IsProxyStreamed FIRST_CID p (situation (device_contents device) (Some h) faults)) where
-    plain : IsPlain FIRST_CID device.sight.log
-    plain = record {
-      once = once;
-      heard = all_heard FIRST_CID device.sight.log (λ f. device_kept FIRST_CID f driver.log device.sight.log (settled.at_rest.no_reset Driver)
-          (settled.at_rest.no_reset Device) settled.at_rest.routed to_device);
-    }
-
-    pub streamed : IsStreamed h device.sight.log p.next_port p.device.table p.handshakes
-    streamed = streams refl (device_log device) refl plain h refl
-
-    read_there : (f : Flow) → IsPrefixOf (host_read (first_of f) h) (payload_put Driver (first_of f) driver.log)
-    read_there f =
-        subst (λ (bytes : List ℕ). IsPrefixOf (host_read (first_of f) h) bytes)
-        (sym (once_got Device f device.sight.log (settled.at_rest.fair Device f) (once f))
-        ∙ sym (same_payload Device device.sight.log driver.log to_device (first_of f)))
-        (read_is_got h device.sight.log p.next_port p.device.table p.handshakes streamed f)
-
-    pub wrote_there : (f : Flow) → payload_got Driver (first_of f) driver.log ≡ host_wrote (first_of f) h
-    wrote_there f =
-        sym (same_payload Driver driver.log device.sight.log to_driver (first_of f))
-        ∙ once_put Device f device.sight.log (settled.at_rest.fair Device f) (once f)
-        ∙ wrote_is_put h device.sight.log p.next_port p.device.table p.handshakes streamed f
-
     module _ (first_id : ℕ) (opened : ℕ → Connection) (journal : Journal) (entries : List Entry) (slots : HeldSlots)
         (account : IsAccount first_id opened journal entries driver.log slots) (id : ℕ) (f : Flow) (has : HasOne opened id (Some f)) where
-      pub is_first : opened id ≡ first_of f
-      is_first =
-          let past = account.received.passed id in
-          let few = once (opened id).flow in
-          let same = same_number driver.log device.sight.log (opened id).flow to_device to_driver in
-          let one : (opened id).number ≡ 1 = omega (arith, past, few, same, has.0) in
-          ap (λ (n : ℕ). let c : Connection = record { flow = (opened id).flow; number = n } in c) one ∙ ap (λ (g : Flow). first_of g) has.1
+      first : opened id ≡ first_of f
+      first = is_first d driver p device settled once h faults streams (opened id) f has.0 (account.received.passed id) has.1
 
       pub to_host : IsPrefixOf (host_read (opened id) h) (sent_as id journal)
       to_host =
           let sent = account.sent.puts (opened id)
           ∙ sent_by_id (account_of first_id opened journal) driver.log slots account.received id has.0 journal account.sent.senders in
           subst (λ (bytes : List ℕ). IsPrefixOf (host_read (opened id) h) bytes) sent
-          (subst (λ (c : Connection). IsPrefixOf (host_read c h) (payload_put Driver c driver.log)) (sym is_first) (read_there f))
+          (subst (λ (c : Connection). IsPrefixOf (host_read c h) (payload_put Driver c driver.log)) (sym first) (read_there d driver p device settled once h faults streams f))
 
       pub to_guest : IsPrefixOf (received_by id journal) (host_wrote (opened id) h)
       to_guest =
           subst (λ (bytes : List ℕ). IsPrefixOf (received_by id journal) bytes)
-          (subst (λ (c : Connection). payload_got Driver c driver.log ≡ host_wrote c h) (sym is_first) (wrote_there f))
+          (subst (λ (c : Connection). payload_got Driver c driver.log ≡ host_wrote c h) (sym first) (wrote_there d driver p device settled once h faults streams f))
           (account.received.front id)

@@ -35,7 +35,7 @@ use Rattle.vs_run_report.specs.declared.ending.Ending.TheVariants as ending
 use Rattle.laws_run.specs.Complete.{IsAtOpen, IsCompleteEnding, IsCompleteRun, IsCompleteWait, open_labels}
 use Rattle.laws_device.specs.Streams.{has_open_stream}
 use Rattle.laws_run.specs.Dry.{AreDry, IsDryAt, reads_of, reads_under}
-use Rattle.laws_run.proofs.{Alike.AreApart, Alike.HasApart, Alike.Leaves, Alike.leaves_core, Bytes.is_first, Bytes.streamed, Bytes.wrote_there, Endings.Ends}
+use Rattle.laws_run.proofs.{Alike.AreApart, Alike.HasApart, Alike.Leaves, Alike.leaves_core, Endings.Ends, Wrote.is_first, Wrote.streamed, Wrote.wrote_there}
 use Rattle.laws_run.proofs.{Endings.all_ends, Endings.ends_on, Halting.Halts, Open.among_entry, Open.among_open, Open.as_many_open, Open.one_dry, Reporting.accounted, Reporting.once, Reporting.right_with}
 use Rattle.laws_run.proofs.{Still.poll_still, Waiting.credit_call, Waiting.empty_call, Waiting.not_open, Waiting.recv_id, Waiting.send_id}
 
@@ -214,7 +214,7 @@ module _ (script : RunScript) (driver : DriverState) (end : Sight) (apps : List 
         let present : opened id ≡ current Driver x.flow end.log = subst (λ (i : ℕ). opened i ≡ current Driver x.flow end.log) named on.present in
         let has : HasOne opened id (Some x.flow) =
         (subst (λ (c : Connection). 1 ≤ c.number) (sym present) on.some, ap (λ (c : Connection). c.flow) present) in
-        let first = is_first driver end p e settled one h faults streams 1 opened journal entries (slots_of driver) account id x.flow has in
+        let first = is_first driver end p e settled one h faults streams (opened id) x.flow has.0 (account.received.passed id) has.1 in
         let came : received_by x.value.id journal ++ x.value.unread ≡ payload_got Driver (current Driver x.flow end.log) end.log = on.drains.whole gets in
         subst (λ (i : ℕ). received_by id journal ≡ received_by i journal) (sym named) refl
         ∙ sym (append-nil (received_by x.value.id journal)) ∙ ap (λ (bs : List ℕ). received_by x.value.id journal ++ bs) (sym unread) ∙ came

@@ -4,6 +4,7 @@ pub mod Halting
 pub mod Waiting
 pub mod Endings
 pub mod Opening
+pub mod Wrote
 pub mod Bytes
 pub mod Reporting
 pub mod Open
