@@ -13,7 +13,7 @@ use Rattle.laws_driver_bytes.proofs.{Growing.honest_stays, Making.call_goes, Mak
 use Rattle.laws_asked.specs.Asked.{AskOnce, Does}
 use Rattle.laws_asked.proofs.Asking.{begins_once, step_once}
 use Rattle.laws_apps.specs.Asked.{AsksOnceWith}
-use Rattle.laws_apps.proofs.Calling.{told_before}
+use Rattle.laws_driver_bytes.proofs.Righting.{told_before}
 
 does : (step : Step) (w : Seat) → MayDo step w → Does Driver step w
 does (Opens f kind) w may = may.1

@@ -13,7 +13,8 @@ use Rattle.laws_driver_bytes.specs.Received.{AreReceived, no_account}
 use Rattle.laws_driver_bytes.proofs.Connecting.{none_received}
 use Rattle.vs_apps_parts.specs.{Scripts.IsPlayed, Scripts.RunScript, Scripts.acts_of, declared.progress.AppState.AppState}
 use Rattle.laws_apps.proofs.Asked.{new_asks}
-use Rattle.laws_apps.specs.{Accounts.IsAccounted, Accounts.IsSent, Runs.IsRunOf, Runs.no_app}
+use Rattle.laws_driver_bytes.specs.Senders.{IsSent}
+use Rattle.laws_apps.specs.{Accounts.IsAccounted, Runs.IsRunOf, Runs.no_app}
 
 none_put : (side : Side) (k : ℕ) → payload_of (instance_from side k []) ≡ []
 none_put Asker k = refl
@@ -25,7 +26,7 @@ starts id part s log = AreReceived (no_account id) log (slots_of s) × IsSent (n
 pub new_accounted : (size port id : ℕ) (c d : RingContents) (s : DriverState) → port ≤ LAST_PORT → IsFresh c → Plays (new_of size port id) c s d
     → IsAccounted id [] [] s d
 new_accounted size port id c d s fits fresh plays = λ on l is.
-    ((no_account id).opened, record { received = (kept on l is).1.0; sent = (kept on l is).1.1; flows = tt })
+    ((no_account id).opened, record { right = record { received = (kept on l is).1.0; sent = (kept on l is).1.1 }; flows = tt })
   where
     kept : Rests s.cid (starts id) s d
     kept =

@@ -1,33 +1,24 @@
 -- Calls and polls keep the account.
-use Rattle.std.proofs.Common.{◌≡◌, ◌<◌, ◌^◌, ℕ, nat_lt, true, arith, List, [], ◌∷◌, ◌++◌, Option, Some, None, refl, sym, ap, subst, ◌∙◌, append-nil}
+use Rattle.std.proofs.Common.{◌≡◌, ◌<◌, ◌^◌, ℕ, nat_lt, true, arith, List, [], ◌∷◌, ◌++◌, Some, refl, sym, subst, ◌∙◌}
 use Rattle.std.proofs.lemmas.Bool.Decides.{nat_tests}
 use Rattle.vs_ring_port.specs.{Contents.RingContents, EndLog.EndLog}
-use Rattle.vs_driver_parts.specs.{Conversations.{DriverTree, poll_of}, Playing.Plays, State.DriverState, declared.answers.Polled.Polled}
+use Rattle.vs_driver_parts.specs.{Conversations.poll_of, Playing.Plays, State.DriverState, declared.answers.Polled.Polled}
 use Rattle.laws_driver.specs.Honest.{IsHonestWith, slots_of}
 use Rattle.laws_driver.proofs.{Keeping.keeps_end, Ringing.agrees, Staging.Rests}
-use Rattle.laws_driver_bytes.specs.Calls.{GuestCall, Journal, ReplyTo, account_of, is_right, received_by, sent_of, whole_call, with_call}
-use Rattle.laws_driver_bytes.specs.{Received.AreReceived, Received.IsReceivedWith, Sent.TellsMore}
-use Rattle.laws_driver_bytes.proofs.{Ending.poll_ends, Growing.{honest_stays, log_grows}, Journaling.{journaled, sent_just}}
-use Rattle.laws_driver_bytes.proofs.{Making.{at_first, call_sent, further_as, sent_with, whole_with}, Sending.{begins, poll_sent}}
+use Rattle.laws_driver_bytes.specs.Calls.{GuestCall, Journal, ReplyTo, account_of, is_right, whole_call, with_call}
+use Rattle.laws_driver_bytes.specs.Senders.{IsRightJournal}
+use Rattle.laws_driver_bytes.proofs.{Growing.honest_stays, Making.{at_first, call_sent, sent_with, whole_with}, Sending.begins}
+use Rattle.laws_driver_bytes.proofs.Righting.{call_righted, poll_righted, told_before}
 use Rattle.laws_driver_bytes.specs.Calls as call
 use Rattle.laws_rest.specs.Rest.{IsRoutedWith}
 use Rattle.laws_rest.proofs.Routes.{connect_routed, send_routed}
 use Rattle.vs_flow.specs.Connection.{Connection}
 use Rattle.vs_apps_parts.specs.{Journals.entry_called, declared.journal.Called.Called, declared.journal.Entry.Entry}
-use Rattle.laws_apps.specs.{Accounts.IsAccounted, Accounts.TellFlows, Accounts.sent_to, Runs.HasFlow}
-use Rattle.laws_apps.proofs.{Opening.called_has, Opening.flows_snoc, Opening.flows_stay, Sending.call_says, Sending.same_sent, Sending.still_senders}
+use Rattle.laws_apps.specs.{Accounts.IsAccounted, Accounts.TellFlows, Runs.HasFlow}
+use Rattle.laws_apps.proofs.Opening.{called_has, flows_snoc, flows_stay}
 
 same_some : {A : Type 0} (x y : A) → Some x ≡ Some y → x ≡ y
 same_some x y is = cc
-
--- A log that is told after a conversation was told before it.
-pub told_before : {A : Type 0} (tree : DriverTree A) (c d : RingContents) (x : A) → Plays tree c x d → (m : EndLog) → d.log ≡ Some m
-    → (l : EndLog) × (c.log ≡ Some l)
-told_before tree c d x plays m is = by c.log refl (log_grows tree c d x plays)
-  where
-    by : (o : Option EndLog) → c.log ≡ o → TellsMore o d.log → (l : EndLog) × (c.log ≡ Some l)
-    by None log more = let e : None ≡ Some m = sym more ∙ is in absurd cc
-    by (Some l) log more = (l, log)
 
 -- What a log says that is told, it says as the ring tells it.
 abbrev As : (l : EndLog) (c : RingContents) → (EndLog → Type 0) → Type 0
@@ -54,24 +45,9 @@ module _ (first : ℕ) (call : GuestCall) (s : DriverState) (c d : RingContents)
       let l : EndLog = before.0 in
       let on_then : c.honest ≡ true = sym (honest_stays (whole_call call s) c d x plays) ∙ on in
       let was = accounted on_then l before.1 in
-      let account : IsReceivedWith (account_of first_id was.0 journal) s c =
-      as_told (λ (k : EndLog). AreReceived (account_of first_id was.0 journal) k.entries (slots_of s)) l c before.1 was.1.received in
-      let now = journaled first call (whole_call call s) s c d x (λ before after. whole_with first s c call before after right) honest plays first_id was.0 journal
-      account on m is in
-      let says = call_says s c d (account_of first_id was.0 journal) l.entries was.1.received now.0 now.1 call x plays in
-      let puts = sent_just first call (whole_call call s) s c d x (λ before after. whole_with first s c call before after right) honest plays on_then l before.1 m is in (
-        now.0,
-        record {
-          received = now.2;
-          sent = record {
-            senders = (says.0, still_senders was.0 now.0 now.1 journal was.1.sent.senders);
-            puts = λ k. puts k
-                ∙ ap (λ (xs : List ℕ). xs ++ sent_of call x.1 s l.entries k) (was.1.sent.puts k ∙ same_sent was.0 now.0 now.1 k journal was.1.sent.senders)
-                ∙ ap (λ (xs : List ℕ). sent_to now.0 k journal ++ xs) (says.1 k);
-          };
-          flows = flows_stay was.0 now.0 now.1 entries was.1.flows;
-        },
-      )
+      let now = call_righted first call s c d x right honest plays first_id was.0 journal
+      (as_told (λ (k : EndLog). IsRightJournal first_id was.0 journal k.entries (slots_of s)) l c before.1 was.1.right) on m is in
+      (now.0, record { right = now.2; flows = flows_stay was.0 now.0 now.1 entries was.1.flows })
 
 -- Its packets go where they belong.
 port_fits : (port : ℕ) → nat_lt port (2 ^ 32) ≡ true → port < 2 ^ 32
@@ -92,20 +68,9 @@ module _ (first first_id : ℕ) (journal : Journal) (entries : List Entry) (s : 
       let l : EndLog = before.0 in
       let on_then : c.honest ≡ true = sym (honest_stays (poll_of s) c d x plays) ∙ on in
       let was = accounted on_then l before.1 in
-      let account : IsReceivedWith (account_of first_id was.0 journal) s c =
-      as_told (λ (k : EndLog). AreReceived (account_of first_id was.0 journal) k.entries (slots_of s)) l c before.1 was.1.received in
-      let now = poll_ends first (account_of first_id was.0 journal) s c d x honest account plays on m is in
-      let puts = poll_sent first s c d x honest plays on_then l before.1 m is in (
-        now.0.opened,
-        record {
-          received = further_as (account_of first_id was.0 journal) now.0 (λ id. received_by id journal) m.entries (slots_of x.0) now.1 (λ id. refl) now.2;
-          sent = record {
-            senders = still_senders was.0 now.0.opened now.1.opened journal was.1.sent.senders;
-            puts = λ k. puts k ∙ append-nil _ ∙ was.1.sent.puts k ∙ same_sent was.0 now.0.opened now.1.opened k journal was.1.sent.senders;
-          };
-          flows = flows_stay was.0 now.0.opened now.1.opened entries was.1.flows;
-        },
-      )
+      let now = poll_righted first first_id was.0 journal s c d x honest
+      (as_told (λ (k : EndLog). IsRightJournal first_id was.0 journal k.entries (slots_of s)) l c before.1 was.1.right) plays on m is in
+      (now.0, record { right = now.2; flows = flows_stay was.0 now.0 now.1 entries was.1.flows })
 
 -- An entry more that has the flow of its connection.
 pub entry_accounted : (first_id k : ℕ) (journal : Journal) (entries : List Entry) (c : Called) (s : DriverState) (ring : RingContents) → HasFlow c s
@@ -114,10 +79,9 @@ entry_accounted first_id k journal entries c s ring has accounted = λ on l is.
     let was = accounted on l is in (
       was.0,
       record {
-        received = was.1.received;
-        sent = was.1.sent;
+        right = was.1.right;
         flows = flows_snoc was.0 entries (entry_called k c) was.1.flows
-            (called_has (account_of first_id was.0 journal) l.entries s was.1.received c has);
+            (called_has (account_of first_id was.0 journal) l.entries s was.1.right.received c has);
       },
     )
 
@@ -127,4 +91,4 @@ pub told_accounted : (first_id : ℕ) (journal : Journal) (old new : List Entry)
     → IsAccounted first_id journal new s ring
 told_accounted first_id journal old new s ring tell accounted = λ on l is.
     let was = accounted on l is in
-    (was.0, record { received = was.1.received; sent = was.1.sent; flows = tell was.0 was.1.flows })
+    (was.0, record { right = was.1.right; flows = tell was.0 was.1.flows })

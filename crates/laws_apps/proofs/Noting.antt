@@ -13,8 +13,9 @@ use Rattle.laws_driver_bytes.specs.{Calls.whole_call, Calls.with_call, Received.
 use Rattle.laws_driver_bytes.proofs.Reading.{given_none}
 use Rattle.vs_apps_parts.specs.{Journals.made_as, Scripts.with_noted, Told.told_of, Told.wait_of, declared.journal.WaitsFor.WaitsFor}
 use Rattle.vs_apps_parts.specs.declared.journal.Entry.{Entry}
-use Rattle.laws_apps.specs.Accounts.{AreSenders, IsAccounted, sent_to}
-use Rattle.laws_apps.proofs.Sending.{there_none}
+use Rattle.laws_driver_bytes.specs.Senders.{AreSenders, sent_to}
+use Rattle.laws_driver_bytes.proofs.Senders.{there_none}
+use Rattle.laws_apps.specs.Accounts.{IsAccounted}
 
 -- Two journals say the same.
 pub record SaysSame (j k : Journal) : Type 0 where
@@ -35,9 +36,11 @@ same_accounted first_id j k entries s c same accounted = λ on l is.
     let was = accounted on l is in (
       was.0,
       record {
-        received = subst (λ (r : ℕ → List ℕ). AreReceived (record { first_id = first_id; opened = was.0; received = r }) l.entries (slots_of s))
-            (fun_ext same.received) was.1.received;
-        sent = record { senders = same.senders was.0 was.1.sent.senders; puts = λ x. was.1.sent.puts x ∙ same.sent was.0 x };
+        right = record {
+          received = subst (λ (r : ℕ → List ℕ). AreReceived (record { first_id = first_id; opened = was.0; received = r }) l.entries (slots_of s))
+              (fun_ext same.received) was.1.right.received;
+          sent = record { senders = same.senders was.0 was.1.right.sent.senders; puts = λ x. was.1.right.sent.puts x ∙ same.sent was.0 x };
+        };
         flows = was.1.flows;
       },
     )

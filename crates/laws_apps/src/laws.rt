@@ -7,13 +7,13 @@ ghost use Rattle.vs_ring_port.specs.Contents.{RingContents};
 ghost use Rattle.vs_driver_parts.specs.{Conversations.new_of, Conversations.poll_of, Held.HeldSlots, Playing.Plays, State.DriverState};
 ghost use Rattle.vs_driver_parts.specs.declared.answers.Polled.{Polled};
 ghost use Rattle.laws_driver.specs.Honest.{IsFresh, IsHonestWith};
-ghost use Rattle.laws_driver_bytes.specs.Calls.{GuestCall, Journal, ReplyTo, account_of, is_right, whole_call, with_call};
-ghost use Rattle.laws_driver_bytes.specs.Received.{AreReceived};
+ghost use Rattle.laws_driver_bytes.specs.Calls.{GuestCall, Journal, ReplyTo, is_right, whole_call, with_call};
 ghost use Rattle.vs_script.specs.{Script.Runs, Script.parse_of, declared.script.Command.TheVariants.Run as ForRun};
 ghost use Rattle.vs_apps_parts.specs.declared.journal.{Called.Called, Entry.Entry};
 ghost use Rattle.vs_apps_parts.specs.{Journals.entry_called, Journals.made_as, Journals.sent_as, Scripts.AreRight, Scripts.RunScript, Scripts.with_noted};
 ghost use Rattle.vs_apps_parts.specs.declared.progress.{AppState.AppState, Stepped.Stepped};
-ghost use Rattle.laws_apps.specs.{Accounts.IsAccounted, Accounts.IsSent, Runs.HasFlow, Runs.IsRunOf, Runs.PollsTo, Runs.Run, Runs.Steps, Runs.no_app};
+ghost use Rattle.laws_driver_bytes.specs.Senders.{IsRightJournal};
+ghost use Rattle.laws_apps.specs.{Accounts.IsAccounted, Runs.HasFlow, Runs.IsRunOf, Runs.PollsTo, Runs.Run, Runs.Steps, Runs.no_app};
 ghost use Rattle.vs_limits.specs.declared.TheConstants.{LAST_PORT};
 
 /// A call that was made, and a poll, keep the journal's account right: what was sent on each connection is the payload that the log put, and
@@ -37,8 +37,7 @@ pub fn law_of_accounts()
         → HasFlow called s → IsAccounted first_id journal entries s c → IsAccounted first_id journal (entries ++ entry_called k called ∷ []) s c }
     // By ids: what was sent on an id is the payload put on its connection.
     ensures ids { (first_id id : ℕ) (opened : ℕ → Connection) (journal : Journal) (log : Log) (slots : HeldSlots)
-        → AreReceived (account_of first_id opened journal) log slots → IsSent opened journal log → 1 ≤ (opened id).number
-        → payload_put Driver (opened id) log ≡ sent_as id journal }
+        → IsRightJournal first_id opened journal log slots → 1 ≤ (opened id).number → payload_put Driver (opened id) log ≡ sent_as id journal }
 {}
 
 /// A step of an app keeps what is true of a run: the calls of each app are, in order, its instructions, and the journal's account is right.

@@ -11,4 +11,6 @@ pub mod Polling
 pub mod Connecting
 pub mod Making
 pub mod Journaling
+pub mod Senders
+pub mod Righting
 pub mod SamePages

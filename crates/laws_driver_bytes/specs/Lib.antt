@@ -1,3 +1,4 @@
 pub mod Sent
 pub mod Received
 pub mod Calls
+pub mod Senders

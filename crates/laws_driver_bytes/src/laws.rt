@@ -14,6 +14,7 @@ ghost use Rattle.laws_driver.specs.Honest.{IsFresh, IsHonestWith};
 ghost use Rattle.laws_driver_bytes.specs.Calls.{GuestCall, IsJournaledWith, Journal, ReplyTo, account_of, is_right, makes_call, sent_of};
 ghost use Rattle.laws_driver_bytes.specs.Calls.{whole_call, with_call};
 ghost use Rattle.laws_driver_bytes.specs.Received.{Account, GoesOnWith, IsReceivedWith, after_receive, no_account};
+ghost use Rattle.laws_driver_bytes.specs.Senders.{GoesRightWith, IsRightWith};
 ghost use Rattle.laws_driver_bytes.specs.Sent.{PutsJust, StaysShut, TellsMore, none_on, took};
 
 /// Over an honest ring that tells its log a call, whole or on the pages as they stand, puts just the bytes that its reply says a send took, on
@@ -64,7 +65,9 @@ pub fn law_of_received()
 {}
 
 /// What the journal says was received: over an honest ring that tells its log the account is right that the journal comes to, once a call was
-/// made, whole or on the pages as they stand, with its reply.
+/// made, whole or on the pages as they stand, with its reply. A journal that is right says as well what was sent: each entry that sent bytes
+/// names an id that was given to a connection, and the payload put on each connection is what was sent on its ids. So it stays over calls and
+/// polls.
 pub fn law_of_journals()
     ensures call { (first id : ℕ) (opened : ℕ → Connection) (journal : Journal) (call : GuestCall) (s : DriverState) (c d : RingContents)
         (x : DriverState × ReplyTo call) → is_right call ≡ true → IsHonestWith first s c → IsReceivedWith (account_of id opened journal) s c
@@ -72,4 +75,13 @@ pub fn law_of_journals()
     ensures step { (first id : ℕ) (opened : ℕ → Connection) (journal : Journal) (call : GuestCall) (s : DriverState) (c d : RingContents)
         (x : DriverState × ReplyTo call) → is_right call ≡ true → IsHonestWith first s c → IsReceivedWith (account_of id opened journal) s c
         → Plays (makes_call call s) c x d → IsJournaledWith id opened (with_call call s x.1 journal) x.0 d }
+    ensures right { (first id : ℕ) (opened : ℕ → Connection) (journal : Journal) (call : GuestCall) (s : DriverState) (c d : RingContents)
+        (x : DriverState × ReplyTo call) → is_right call ≡ true → IsHonestWith first s c → IsRightWith id opened journal s c
+        → Plays (whole_call call s) c x d → GoesRightWith id opened (with_call call s x.1 journal) x.0 d }
+    ensures right_step { (first id : ℕ) (opened : ℕ → Connection) (journal : Journal) (call : GuestCall) (s : DriverState) (c d : RingContents)
+        (x : DriverState × ReplyTo call) → is_right call ≡ true → IsHonestWith first s c → IsRightWith id opened journal s c
+        → Plays (makes_call call s) c x d → GoesRightWith id opened (with_call call s x.1 journal) x.0 d }
+    ensures right_poll { (first id : ℕ) (opened : ℕ → Connection) (journal : Journal) (s : DriverState) (c d : RingContents)
+        (x : DriverState × Polled) → IsHonestWith first s c → IsRightWith id opened journal s c → Plays (poll_of s) c x d
+        → GoesRightWith id opened journal x.0 d }
 {}

@@ -17,8 +17,9 @@ use Rattle.vs_report.specs.Report.{counts_text, device_open_text, guest_open_tex
 use Rattle.vs_report.specs.GuestLines.{accept_text, connect_text, connection_text}
 use Rattle.laws_world.specs.{Events.{is_at_rest, is_guest_cid, reset_made}, Sides.{both_of, device_ends, driver_ends}, Laws.IsEmptied}
 use Rattle.laws_world.specs.{Pipes.IsFresh, Steps.Leads, World.{World, first_cid}, Names.times_closed, Counts.IsCounted}
+use Rattle.laws_rest.proofs.Hosts.{wrote_is_put}
 use Rattle.laws_world.proofs.{NamesStay.{IsTold, accept_told, connect_told, still_over, still_told}, Carried.{sent_all, sent_stays}}
-use Rattle.laws_world.proofs.{Carried.wrote_stays, Names.{IsOver, closed_unknown}, Bytes.wrote_is_put, CallRests.opening_rests}
+use Rattle.laws_world.proofs.{Carried.wrote_stays, Names.{IsOver, closed_unknown}, CallRests.opening_rests}
 use Rattle.laws_world.proofs.{GuestLines.possible_is, Opening.{opening_well, run_goes}, ResetTables.device_emptied}
 use Rattle.laws_world.proofs.{ScriptLines.{script_leads, script_rests}, Sound.{Goes, IsWell, tx_at_rest}, Counting.reached_counted}
 use Rattle.laws_driver_bytes.specs.Calls.{flow_accepted, flow_opened, sent_on}

@@ -10,9 +10,10 @@ use Rattle.laws_tables.proofs.{Fair.fair_now, Tables.driver_open, Tables.table_d
 use Rattle.vs_page.specs.{Fair.{IsFairLog, IsPrefixOf, payload_got, payload_put}, Log.{Device, Driver, HasGotAll, Log, Role, side_of}}
 use Rattle.vs_page.{specs.Open.WasOpened, specs.Open.is_left_open, specs.Open.is_open, proofs.Opened.was_opened}
 use Rattle.laws_bytes.specs.Drains.{Drains, receives}
-use Rattle.laws_world.proofs.Carried.{given_is, gone_of, one_stream, pending_of, received_is, sent_is, to_device, to_driver, to_guest}
-use Rattle.laws_world.proofs.Carried.{to_host, unread_of, wrote_is}
-use Rattle.laws_world.proofs.{Bytes.read_own, Bytes.wrote_own, Sound.IsWell, Waiting.at_device, Waiting.streams_among}
+use Rattle.laws_world.proofs.Carried.{carried, given_is, gone_of, one_stream, pending_of, received_is, sent_is, to_device, to_driver}
+use Rattle.laws_world.proofs.Carried.{unread_of, wrote_is}
+use Rattle.laws_rest.proofs.Hosts.{read_own, wrote_own}
+use Rattle.laws_world.proofs.{Sound.IsWell, Waiting.at_device, Waiting.streams_among}
 use Rattle.laws_world.specs.{Sides.{device_ends, driver_ends, log_with_staged}, Events.{is_at_rest, none_staged}, World.{World, first_cid}}
 use Rattle.laws_driver.specs.Resets.{MarksResets}
 use Rattle.laws_driver_bytes.specs.Calls.{received_on, sent_on}
@@ -80,8 +81,8 @@ module _ {fresh : Type 0} (w : World) (well : IsWell fresh w) (yes : fresh) (res
 
   pub carries : (f : Flow) → Carries w f
   carries f = record {
-    to_guest = to_guest w well yes f;
-    to_host = to_host w well yes f;
+    to_guest = (carried w well yes f).to_guest;
+    to_host = (carried w well yes f).to_host;
     device_put = wrote_is w well yes f;
     driver_got = at_rest (λ log. IsPrefixOf (payload_got Driver (first_of f) log) (payload_put Device (first_of f) (device_log w))) (to_driver w well f);
     received = at_rest (λ log. IsPrefixOf (received_on f w.journal) (payload_got Driver (first_of f) log)) (received_is w well f);

@@ -1,63 +1,76 @@
--- The bytes of a connection of a run that is at rest: what the apps sent and received, and what the host's programs read and wrote.
-use Rattle.std.proofs.Common.{◌≡◌, ℕ, ◌≤◌, true, false, List, [], ◌∷◌, Some, refl, sym, ap, subst, ◌∙◌, arith}
-use Rattle.vs_flow.specs.{Connection.Connection, Connection.first_of, Flow.is_assigned, declared.flow.Flow.Flow}
+-- The bytes of a run that is at rest: it is one of driver and device over two rings that tell their logs, and a host that exposes its streams.
+use Rattle.std.proofs.Common.{◌≡◌, ℕ, ◌≤◌, true, false, List, [], ◌∷◌, Some, refl, sym, subst, ◌∙◌}
+use Rattle.vs_flow.specs.{Connection.Connection, declared.flow.Flow.Flow}
 use Rattle.vs_limits.specs.declared.TheConstants.{FIRST_CID}
-use Rattle.laws_history.specs.{Again.count, Packets.is_request, declared.packet.Packet.Packet}
-use Rattle.laws_history.specs.History.{Answerer, Asker, Side, gots, peer, puts}
-use Rattle.vs_outside.specs.{Host.HostContents, HostBytes.host_read, HostBytes.host_wrote}
-use Rattle.vs_page.specs.Fair.{IsPrefixOf, asked_by, instance_from, number_of, payload_got, payload_of, payload_put}
-use Rattle.vs_page.specs.Log.{Device, Driver, Log, Role, flow_got, other_role, packets_got, packets_put, side_of, whole_of}
+use Rattle.vs_outside.specs.Host.{HostContents}
+use Rattle.vs_page.specs.{Fair.number_of, Log.{Device, Driver, Log, Role, flow_got}}
 use Rattle.vs_page.specs.declared.log.LogEntry.TheVariants.{GotEvent, GotPacket, Mark, PutEvent, PutPacket}
-use Rattle.vs_page.proofs.{Entries.got_on, Flows.opposite_by, Flows.same_self}
-use Rattle.vs_driver_parts.specs.{Held.HeldSlots, State.DriverState}
+use Rattle.vs_page.proofs.Flows.{same_self}
+use Rattle.vs_ring_port.specs.EndLog.{EndLog}
+use Rattle.vs_driver_parts.specs.State.{DriverState}
 use Rattle.vs_device_parts.specs.Playing.{situation}
-use Rattle.vs_ring_shared.specs.Sights.{DeviceSight, Sight, device_contents, device_log}
+use Rattle.vs_ring_shared.specs.Sights.{DeviceSight, Sight, device_contents, device_log, driver_contents, driver_log}
 use Rattle.vs_proxy_parts.specs.State.{ProxyState}
-use Rattle.laws_bytes.proofs.{Firsts.once_got, Firsts.once_put}
-use Rattle.laws_driver_bytes.specs.Calls.{Journal, account_of, received_by}
+use Rattle.laws_tables.specs.Both.{at}
+use Rattle.laws_driver_bytes.specs.{Calls.Journal, Calls.account_of, Calls.received_by, Senders.IsRightJournal}
 use Rattle.laws_asked.specs.Asked.{AskOnce}
-use Rattle.laws_driver.specs.Honest.{ends_of_state as driver_ends}
-use Rattle.laws_device.specs.Honest.{ends_of_state as device_ends}
-use Rattle.laws_device.specs.Streams.{AreHeard, IsPlain}
-use Rattle.laws_device_bytes.specs.Streamed.{IsStreamed}
-use Rattle.laws_rest.proofs.Standing.{AreKept, device_kept}
+use Rattle.laws_driver.specs.Honest.{slots_of}
+use Rattle.laws_device.specs.Streams.{AreHeard}
+use Rattle.laws_rest.specs.Bytes.{AreTold, BothEnds, CarryBytes}
+use Rattle.laws_rest.proofs.{BothEnds.carry_told, BothEnds.once, Standing.AreKept, Standing.device_kept}
 use Rattle.laws_proxy.specs.Honest.{IsProxyStreamed}
-use Rattle.laws_settled.specs.Settled.{IsSettled}
-use Rattle.laws_world.proofs.Bytes.{read_is_got, wrote_is_put}
+use Rattle.laws_settled.specs.Settled.{IsSettled, ends_at_rest}
 use Rattle.vs_apps_parts.specs.{Journals.sent_as, declared.journal.Entry.Entry}
-use Rattle.laws_apps.specs.Accounts.{HasOne, IsAccount}
+use Rattle.laws_apps.specs.Accounts.{IsAccount}
 use Rattle.laws_apps.proofs.Naming.{sent_by_id}
-use Rattle.laws_run.proofs.Wrote.{is_first, read_there, there, to_device, wrote_there}
 
-module _ (d : DriverState) (driver : Sight) (p : ProxyState) (device : DeviceSight) (settled : IsSettled d driver p device) where
-  -- Each asked once on a flow, so each flow was used once.
-  pub number_once : AskOnce Driver (record { part = driver_ends d; log = driver.log })
-      → AskOnce Device (record { part = device_ends p.next_port p.device; log = device.sight.log }) → (f : Flow) → number_of Device f device.sight.log ≤ 1
-  number_once guest host f = by (side_of Device f) refl
+-- A device that dropped no packet dropped no payload.
+all_heard : (first : ℕ) (log : Log) → ((f : Flow) → AreKept Device first f log) → AreHeard first log
+all_heard first [] kept = tt
+all_heard first (PutPacket p ∷ log) kept = all_heard first log kept
+all_heard first (GotPacket p ∷ log) kept = (
+  λ dropped left. let own = (kept (flow_got Device p)).0 (same_self (flow_got Device p)) in
+      let no : true ≡ false = sym dropped ∙ own in absurd cc,
+  all_heard first log (λ f. (kept f).1),
+)
+all_heard first (PutEvent id ∷ log) kept = all_heard first log kept
+all_heard first (GotEvent id ∷ log) kept = all_heard first log kept
+all_heard first (Mark cid ∷ log) kept = all_heard first log kept
+
+module _ (d : DriverState) (driver : Sight) (p : ProxyState) (device : DeviceSight) (settled : IsSettled d driver p device)
+    (guest : AskOnce Driver (ends_at_rest d driver p device).driver) (host : AskOnce Device (ends_at_rest d driver p device).device) where
+  ends : BothEnds (ends_at_rest d driver p device)
+  ends = record { fair = settled.at_rest.fair; got = λ role. ([], settled.at_rest.got role); asked = by }
     where
-      by : (side : Side) → side_of Device f ≡ side → (let w = whole_of Device f device.sight.log in asked_by (side_of Device f) (puts w) (gots w)) ≤ 1
-      by Asker is =
-          subst (λ (side : Side). (let w = whole_of Device f device.sight.log in asked_by side (puts w) (gots w)) ≤ 1) (sym is) (host f is).few
-      by Answerer is =
-          let few = (guest f (opposite_by Device (is_assigned f.host) ∙ ap peer is)).few in
-          subst (λ (side : Side). (let w = whole_of Device f device.sight.log in asked_by side (puts w) (gots w)) ≤ 1) (sym is)
-          (subst (λ (ps : List Packet). count is_request ps ≤ 1) (there Device device.sight.log driver.log (to_device d driver p device settled) f) few)
+      by : (role : Role) → AskOnce role (at role (ends_at_rest d driver p device))
+      by Driver = guest
+      by Device = host
 
-  module _ (once : (f : Flow) → number_of Device f device.sight.log ≤ 1) (h : HostContents) (faults : ℕ) (streams : IsProxyStreamed FIRST_CID p (situation (device_contents device) (Some h) faults)) where
-    module _ (first_id : ℕ) (opened : ℕ → Connection) (journal : Journal) (entries : List Entry) (slots : HeldSlots)
-        (account : IsAccount first_id opened journal entries driver.log slots) (id : ℕ) (f : Flow) (has : HasOne opened id (Some f)) where
-      first : opened id ≡ first_of f
-      first = is_first d driver p device settled once h faults streams (opened id) f has.0 (account.received.passed id) has.1
+  -- Each flow was used once.
+  pub number_once : (f : Flow) → number_of Device f device.sight.log ≤ 1
+  number_once f = once (ends_at_rest d driver p device) ends Device f
 
-      pub to_host : IsPrefixOf (host_read (opened id) h) (sent_as id journal)
-      to_host =
-          let sent = account.sent.puts (opened id)
-          ∙ sent_by_id (account_of first_id opened journal) driver.log slots account.received id has.0 journal account.sent.senders in
-          subst (λ (bytes : List ℕ). IsPrefixOf (host_read (opened id) h) bytes) sent
-          (subst (λ (c : Connection). IsPrefixOf (host_read c h) (payload_put Driver c driver.log)) (sym first) (read_there d driver p device settled once h faults streams f))
+  -- What was sent and received on an id that was given to a connection.
+  module _ (h : HostContents) (faults : ℕ) (streams : IsProxyStreamed FIRST_CID p (situation (device_contents device) (Some h) faults))
+      (opened : ℕ → Connection) (journal : Journal) (entries : List Entry) (account : IsAccount 1 opened journal entries driver.log (slots_of d)) where
+    told : AreTold FIRST_CID d (driver_contents driver) p (situation (device_contents device) (Some h) faults) (driver_log driver) (device_log device) h
+    told = record {
+      driver_honest = refl;
+      device_honest = refl;
+      driver_log = refl;
+      device_log = refl;
+      host = refl;
+      heard = all_heard FIRST_CID device.sight.log (λ f. device_kept FIRST_CID f driver.log device.sight.log (settled.at_rest.no_reset Driver)
+          (settled.at_rest.no_reset Device) settled.at_rest.routed (settled.at_rest.got Device));
+      ends = ends;
+    }
 
-      pub to_guest : IsPrefixOf (received_by id journal) (host_wrote (opened id) h)
-      to_guest =
-          subst (λ (bytes : List ℕ). IsPrefixOf (received_by id journal) bytes)
-          (subst (λ (c : Connection). payload_got Driver c driver.log ≡ host_wrote c h) (sym first) (wrote_there d driver p device settled once h faults streams f))
-          (account.received.front id)
+    pub carried : (id : ℕ) → 1 ≤ (opened id).number → CarryBytes (opened id) (sent_as id journal) (received_by id journal) h
+    carried id some =
+        subst (λ (bytes : List ℕ). CarryBytes (opened id) bytes (received_by id journal) h)
+        (sent_by_id (account_of 1 opened journal) driver.log (slots_of d) account.right.received id some journal account.right.sent.senders)
+        (carry_told FIRST_CID d (driver_contents driver) p (situation (device_contents device) (Some h) faults) (driver_log driver) (device_log device) h
+        1 opened journal id told
+        (λ on l is. let same : driver_log driver ≡ l = cc in
+        subst (λ (k : EndLog). IsRightJournal 1 opened journal k.entries (slots_of d)) same account.right)
+        streams some)

@@ -210,11 +210,11 @@ module _ (script : RunScript) (driver : DriverState) (end : Sight) (apps : List 
     all_received : (id : ℕ) (x : DriverEntry) → Contains driver.table.entries x → x.value.id ≡ id → x.value.unread ≡ [] → receives x.value.end ≡ true
         → received_by id journal ≡ host_wrote (opened id) h
     all_received id x within named unread gets =
-        let on = All-contains (ReceivesOn (account_of 1 opened journal) end.log) driver.table.entries x account.received.held within in
+        let on = All-contains (ReceivesOn (account_of 1 opened journal) end.log) driver.table.entries x account.right.received.held within in
         let present : opened id ≡ current Driver x.flow end.log = subst (λ (i : ℕ). opened i ≡ current Driver x.flow end.log) named on.present in
         let has : HasOne opened id (Some x.flow) =
         (subst (λ (c : Connection). 1 ≤ c.number) (sym present) on.some, ap (λ (c : Connection). c.flow) present) in
-        let first = is_first driver end p e settled one h faults streams (opened id) x.flow has.0 (account.received.passed id) has.1 in
+        let first = is_first driver end p e settled one h faults streams (opened id) x.flow has.0 (account.right.received.passed id) has.1 in
         let came : received_by x.value.id journal ++ x.value.unread ≡ payload_got Driver (current Driver x.flow end.log) end.log = on.drains.whole gets in
         subst (λ (i : ℕ). received_by id journal ≡ received_by i journal) (sym named) refl
         ∙ sym (append-nil (received_by x.value.id journal)) ∙ ap (λ (bs : List ℕ). received_by x.value.id journal ++ bs) (sym unread) ∙ came
@@ -225,7 +225,7 @@ module _ (script : RunScript) (driver : DriverState) (end : Sight) (apps : List 
     -- No connection has the id 0.
     id_some : (x : DriverEntry) → Contains driver.table.entries x → 1 ≤ x.value.id
     id_some x within =
-        let is = All-contains (λ (y : DriverEntry). y.value.id ≡ 1 + y.slot) driver.table.entries x account.received.numbers.slots within in omega (arith, is)
+        let is = All-contains (λ (y : DriverEntry). y.value.id ≡ 1 + y.slot) driver.table.entries x account.right.received.numbers.slots within in omega (arith, is)
 
     conn_of : (o : Option ℕ) (id : ℕ) → unwrap_or o 0 ≡ id → 1 ≤ id → o ≡ Some id
     conn_of None id is some = absurd (omega (arith, is, some))
@@ -233,7 +233,7 @@ module _ (script : RunScript) (driver : DriverState) (end : Sight) (apps : List 
 
     flow_of_id : (id : ℕ) (x : DriverEntry) → Contains driver.table.entries x → x.value.id ≡ id → (opened id).flow ≡ x.flow
     flow_of_id id x within named =
-        let on = All-contains (ReceivesOn (account_of 1 opened journal) end.log) driver.table.entries x account.received.held within in
+        let on = All-contains (ReceivesOn (account_of 1 opened journal) end.log) driver.table.entries x account.right.received.held within in
         ap (λ (i : ℕ). (opened i).flow) (sym named) ∙ ap (λ (c : Connection). c.flow) on.present
 
     -- It has an open stream.

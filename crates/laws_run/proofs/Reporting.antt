@@ -4,21 +4,22 @@ use Rattle.std.specs.List.{All}
 use Rattle.vs_flow.specs.{Connection.Connection, declared.flow.Flow.Flow}
 use Rattle.vs_limits.specs.declared.TheConstants.{FIRST_CID}
 use Rattle.vs_outside.specs.{Faults.one_more, Host.HostContents}
-use Rattle.vs_page.specs.{Fair.number_of, Log.Device}
+use Rattle.vs_page.specs.{Fair.number_of, Log.{Device, Driver}}
 use Rattle.vs_ring_shared.specs.Sights.{DeviceSight, Sight, device_contents, device_log, driver_contents, driver_log}
 use Rattle.vs_driver_parts.specs.State.{DriverState}
 use Rattle.vs_device_parts.specs.Playing.{situation}
 use Rattle.vs_proxy_parts.specs.State.{ProxyState}
+use Rattle.laws_asked.specs.Asked.{AskOnce}
 use Rattle.laws_driver.specs.Honest.{slots_of}
 use Rattle.laws_driver_bytes.specs.Calls.{Journal}
 use Rattle.laws_proxy.specs.Honest.{IsProxyStreamed}
-use Rattle.laws_settled.specs.Settled.{IsSettled, IsSteady}
+use Rattle.laws_settled.specs.Settled.{IsSettled, IsSteady, ends_at_rest}
 use Rattle.vs_apps_parts.specs.{Journals.calls_of, Scripts.{RunScript, acts_of}, declared.{journal.Entry.Entry, progress.AppState.AppState}}
 use Rattle.laws_apps.specs.{Accounts.IsAccount, Runs.{IsRunOf, Run}, Calls.run_with, Rounds.AllStand}
 use Rattle.vs_report.specs.declared.giving.Totals.{Totals}
 use Rattle.vs_run_report.specs.{Connections.opened_all, Report.ended_at, Right.IsRightConnection, Right.IsRightEnding, Right.IsRightReport}
 use Rattle.vs_run_report.specs.declared.connection.Opened.{Opened}
-use Rattle.laws_run.proofs.{Bytes.number_once, Bytes.to_guest, Bytes.to_host, Endings.all_right, Opening.all_opened}
+use Rattle.laws_run.proofs.{Bytes.carried, Bytes.number_once, Endings.all_right, Opening.all_opened}
 
 module _ (script : RunScript) (driver : DriverState) (end : Sight) (apps : List AppState) (entries : List Entry) (bytes : List ℕ) (p : ProxyState)
     (e : DeviceSight) (h : HostContents) (faults : ℕ)
@@ -30,8 +31,14 @@ module _ (script : RunScript) (driver : DriverState) (end : Sight) (apps : List 
     ((steady.order.ring.1.1 (device_log e) refl).1 refl).none_overrun,
   )
 
+  guest : AskOnce Driver (ends_at_rest driver end p e).driver
+  guest = run.kept.asks refl (driver_log end) refl
+
+  host : AskOnce Device (ends_at_rest driver end p e).device
+  host = steady.asks refl (device_log e) refl
+
   pub once : (f : Flow) → number_of Device f e.sight.log ≤ 1
-  once = number_once driver end p e settled (run.kept.asks refl (driver_log end) refl) (steady.asks refl (device_log e) refl)
+  once = number_once driver end p e settled guest host
 
   -- Nothing after the last round changed an app or an entry.
   module _ (old stood : Run) (all : AllStand script (length script) old stood) (same_apps : apps ≡ stood.apps) (same_entries : entries ≡ stood.entries)
@@ -51,12 +58,9 @@ module _ (script : RunScript) (driver : DriverState) (end : Sight) (apps : List 
 
     right_one : (opened : ℕ → Connection) → Account opened → (o : Opened) → (1 ≤ (opened o.id).number) × ((opened o.id).flow ≡ o.flow)
         → IsRightConnection opened journal h o
-    right_one opened account o has = record {
-      some = has.0;
-      flow = has.1;
-      to_host = to_host driver end p e settled once h faults streams 1 opened journal entries (slots_of driver) account o.id o.flow has;
-      to_guest = to_guest driver end p e settled once h faults streams 1 opened journal entries (slots_of driver) account o.id o.flow has;
-    }
+    right_one opened account o has =
+        let c = carried driver end p e settled guest host h faults streams opened journal entries account o.id has.0 in
+        record { some = has.0; flow = has.1; to_host = c.to_host; to_guest = c.to_guest }
 
     right_all : (opened : ℕ → Connection) → Account opened → All (IsRightConnection opened journal h) (opened_all (length script) entries)
     right_all opened account i d less =
@@ -68,7 +72,7 @@ module _ (script : RunScript) (driver : DriverState) (end : Sight) (apps : List 
     right_with opened account t before after broken overrun dropped counted = record {
       played = run.follows;
       ended = ended;
-      once = account.received.once;
+      once = account.right.received.once;
       connections = right_all opened account;
       totals = record { dropped = dropped; overrun = overrun ∙ none_lost.1; broken = broken ∙ none_lost.0; faults = counted };
     }

@@ -23,7 +23,7 @@ use Rattle.laws_device_bytes.specs.Streamed.{IsStreamed}
 use Rattle.laws_rest.proofs.Standing.{AreKept, device_kept}
 use Rattle.laws_proxy.specs.Honest.{IsProxyStreamed}
 use Rattle.laws_settled.specs.Settled.{IsSettled}
-use Rattle.laws_world.proofs.Bytes.{read_is_got, wrote_is_put}
+use Rattle.laws_rest.proofs.Hosts.{read_is_got, wrote_is_put}
 use Rattle.vs_apps_parts.specs.{Journals.sent_as, declared.journal.Entry.Entry}
 use Rattle.laws_apps.specs.Accounts.{HasOne, IsAccount}
 use Rattle.laws_apps.proofs.Naming.{sent_by_id}

@@ -1,28 +1,27 @@
 -- What a world that is well says of the bytes of its connections. Packets that the driver staged count as put.
-use Rattle.std.proofs.Common.{◌≡◌, ℕ, ◌≤◌, ◌++◌, ◌⊎◌, inl, inr, true, List, [], Contains, Some, sym, ap, subst, ◌∙◌, arith}
+use Rattle.std.proofs.Common.{◌≡◌, ℕ, ◌≤◌, ◌++◌, ◌⊎◌, inl, inr, true, List, [], Contains, Some, sym, ap, subst, ◌∙◌}
 use Rattle.std.{proofs.lemmas.List.Elements.All-contains, specs.Option.option_map}
 use Rattle.vs_driver_parts.specs.State.{DriverEntry, GoneConnection}
 use Rattle.vs_device_parts.specs.State.{DeviceEntry}
 use Rattle.vs_flow.specs.{Connection.Connection, Connection.first_of, declared.flow.Flow.Flow}
 use Rattle.laws_history.specs.{History.puts, Packets.has, Packets.shuts_send}
 use Rattle.vs_outside.specs.{Host.Stream, Host.stream_at, HostBytes.host_read, HostBytes.host_wrote}
-use Rattle.vs_page.specs.{Fair.{IsFairLog, IsPrefixOf, number_of, payload_got, payload_put}, Log.{Device, Driver, Log, Role, history_of}}
-use Rattle.vs_page.proofs.{PayloadLogs.prefix, Shut.shut_put}
+use Rattle.vs_page.specs.{Fair.{IsFairLog, IsPrefixOf, payload_got, payload_put}, Log.{Device, Driver, Log, Role, history_of}}
+use Rattle.vs_page.proofs.Shut.{shut_put}
 use Rattle.laws_tables.specs.Both.{at}
 use Rattle.laws_bytes.specs.Drains.{Drains, got_on, put_on, receives}
-use Rattle.laws_bytes.proofs.{Logs.prefix_then, Firsts.once_got, Firsts.once_put, Firsts.put_begun}
+use Rattle.laws_bytes.proofs.Firsts.{once_got, once_put, put_begun}
 use Rattle.laws_device_bytes.specs.Streamed.{IsJoined, Seen, gives, line_for, look, seen}
 use Rattle.laws_world.specs.{Sides.both_of, World.World, World.first_cid}
-use Rattle.laws_world.proofs.{Once.number_of_once, Bytes.read_is_got, Bytes.wrote_is_put, Growing.Grows, Growing.runs_grow}
+use Rattle.laws_rest.specs.Bytes.{BothEnds, CarryBytes}
+use Rattle.laws_rest.proofs.BothEnds as both
+use Rattle.laws_world.proofs.{Once.both_ends, Growing.Grows, Growing.runs_grow}
 use Rattle.laws_world.proofs.{Journals.by_flow, Journals.received_some, Sound.Goes, Sound.IsWell}
 use Rattle.laws_driver_bytes.specs.{Received.{ReceivedOn, ReceivesOn}, Calls.{account_of, received_by, received_on, sent_on}}
 use Rattle.laws_device_bytes.proofs.Hosts.{there as is_there}
 
-abbrev pub ToGuest : Flow → World → Type 0
-ToGuest f w = IsPrefixOf (received_on f w.journal) (host_wrote (first_of f) w.host)
-
-abbrev pub ToHost : Flow → World → Type 0
-ToHost f w = IsPrefixOf (host_read (first_of f) w.host) (sent_on f w.journal)
+abbrev pub CarriesOn : Flow → World → Type 0
+CarriesOn f w = CarryBytes (first_of f) (sent_on f w.journal) (received_on f w.journal) w.host
 
 module _ {fresh : Type 0} (w : World) (well : IsWell fresh w) where
   abbrev guest : Log
@@ -31,19 +30,12 @@ module _ {fresh : Type 0} (w : World) (well : IsWell fresh w) where
   abbrev device : Log
   device = (both_of w).device.log
 
-  -- No flow was used twice.
-  once : (role : Role) (f : Flow) → number_of role f (at role (both_of w)).log ≤ 1
-  once role f = number_of_once role first_cid (both_of w) well.sound well.once f
+  ends : BothEnds (both_of w)
+  ends = both_ends first_cid (both_of w) well.sound well.once
 
   -- The connection of an id is the first of its flow, and what was received on the flow was received on the id.
-  first_is : (c : Connection) → 1 ≤ c.number → c.number ≤ 1 → c ≡ first_of c.flow
-  first_is c some most = ap (λ (n : ℕ). let d : Connection = record { flow = c.flow; number = n } in d) (omega (arith, some, most))
-
   is_first : (id : ℕ) → 1 ≤ (well.opened id).number → well.opened id ≡ first_of (well.opened id).flow
-  is_first id some =
-      let past = well.received.passed id in
-      let most = once Driver (well.opened id).flow in
-      first_is (well.opened id) some (omega (arith, past, most))
+  is_first id some = both.first_is (both_of w) ends Driver (well.opened id) some (well.received.passed id)
 
   pub one_id : (i j : ℕ) → 1 ≤ (well.opened i).number → 1 ≤ (well.opened j).number → (well.opened i).flow ≡ (well.opened j).flow → i ≡ j
   one_id i j some also same = well.received.once i j some (is_first i some ∙ ap (λ (g : Flow). first_of g) same ∙ sym (is_first j also))
@@ -56,14 +48,14 @@ module _ {fresh : Type 0} (w : World) (well : IsWell fresh w) where
   )
 
   device_got : (f : Flow) → got_on Device f device ≡ payload_got Device (first_of f) device
-  device_got f = sym (once_got Device f device (well.sound.fair Device f) (once Device f))
+  device_got f = sym (once_got Device f device (well.sound.fair Device f) (both.once (both_of w) ends Device f))
 
   -- What the sends took is what the driver put. What was received is a prefix of what it got.
   pub sent_is : (f : Flow) → payload_put Driver (first_of f) guest ≡ sent_on f w.journal
   sent_is f = sym (well.sent f)
 
   pub sent_all : (f : Flow) → sent_on f w.journal ≡ put_on Driver f guest
-  sent_all f = well.sent f ∙ once_put Driver f guest (well.sound.fair Driver f) (once Driver f)
+  sent_all f = well.sent f ∙ once_put Driver f guest (well.sound.fair Driver f) (both.once (both_of w) ends Driver f)
 
   pub received_is : (f : Flow) → IsPrefixOf (received_on f w.journal) (payload_got Driver (first_of f) guest)
   received_is f = by (received_some well.opened f w.journal well.agrees)
@@ -94,24 +86,21 @@ module _ {fresh : Type 0} (w : World) (well : IsWell fresh w) where
       (subst (λ (c : Connection). IsPrefixOf (received_by g.id w.journal ++ g.unread) (payload_got Driver c guest)) n.1 on.front)
 
   pub to_driver : (f : Flow) → IsPrefixOf (payload_got Driver (first_of f) guest) (payload_put Device (first_of f) device)
-  to_driver f = prefix Driver guest device (first_of f) (well.sound.ties Driver)
+  to_driver f = both.arrives (both_of w) ends Driver (first_of f)
 
   pub to_device : (f : Flow) → IsPrefixOf (payload_got Device (first_of f) device) (payload_put Driver (first_of f) guest)
-  to_device f = prefix Device device guest (first_of f) (well.sound.ties Device)
+  to_device f = both.arrives (both_of w) ends Device (first_of f)
 
   -- The streams of a host that had none at first.
   module _ (new : fresh) where
     pub wrote_is : (f : Flow) → payload_put Device (first_of f) device ≡ host_wrote (first_of f) w.host
-    wrote_is f = once_put Device f device (well.sound.fair Device f) (once Device f) ∙ wrote_is_put w.host _ _ _ _ (well.streams new) f
+    wrote_is f = both.wrote_is (both_of w) ends w.host _ _ _ (well.streams new) f
 
     pub given_is : (f : Flow) → IsPrefixOf (host_read (first_of f) w.host) (payload_got Device (first_of f) device)
-    given_is f = subst (λ (bytes : List ℕ). IsPrefixOf (host_read (first_of f) w.host) bytes) (device_got f) (read_is_got w.host _ _ _ _ (well.streams new) f)
+    given_is f = both.read_is (both_of w) ends w.host _ _ _ (well.streams new) f
 
-    pub to_guest : (f : Flow) → ToGuest f w
-    to_guest f = subst (λ (bytes : List ℕ). IsPrefixOf (received_on f w.journal) bytes) (wrote_is f) (prefix_then _ _ _ (received_is f) (to_driver f))
-
-    pub to_host : (f : Flow) → ToHost f w
-    to_host f = subst (λ (bytes : List ℕ). IsPrefixOf (host_read (first_of f) w.host) bytes) (sent_is f) (prefix_then _ _ _ (given_is f) (to_device f))
+    pub carried : (f : Flow) → CarriesOn f w
+    carried f = both.carry (both_of w) ends w.host _ _ _ (well.streams new) f _ _ (record { puts = sent_is f; gets = received_is f })
 
     pub one_stream : (f : Flow) (i j : ℕ) (s t : Stream) → stream_at i w.host ≡ Some s → stream_at j w.host ≡ Some t → s.label ≡ Some f → t.label ≡ Some f
         → i ≡ j

@@ -15,7 +15,6 @@ pub mod Opening
 pub mod Resetting
 pub mod Counting
 pub mod Failing
-pub mod Bytes
 pub mod Growing
 pub mod Carried
 pub mod GuestLines

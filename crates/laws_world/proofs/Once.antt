@@ -1,14 +1,15 @@
 -- No flow is used twice: its asker puts one REQUEST at most.
-use Rattle.std.proofs.Common.{◌≡◌, ℕ, ◌+◌, ◌≤◌, ◌++◌, List, [], ◌∷◌, true, refl, sym, ap, subst, ◌∙◌, arith}
-use Rattle.vs_flow.specs.{Flow.is_assigned, declared.flow.Flow.Flow}
+use Rattle.std.proofs.Common.{◌≡◌, ℕ, ◌+◌, List, [], ◌∷◌, true, refl, ap, subst, ◌∙◌, arith}
+use Rattle.vs_flow.specs.Flow.{is_assigned}
 use Rattle.laws_history.specs.{Again.count, Packets.is_request, declared.packet.Packet.Packet, History.Answerer}
 use Rattle.laws_history.specs.History.{Asker, History, Side, gots, peer, puts}
 use Rattle.laws_history.proofs.Lists.{count_append}
-use Rattle.vs_page.specs.{Fair.{asked_by, number_of}, Log.{Device, Driver, IsNextPacket, Role, flow_got, other_role, side_of, whole_of}}
+use Rattle.vs_page.specs.{Fair.asked_by, Log.{Device, Driver, IsNextPacket, Role, flow_got, other_role, side_of, whole_of}}
 use Rattle.vs_page.specs.declared.log.LogEntry.TheVariants.{GotPacket}
 use Rattle.vs_page.proofs.{Entries.got_on, Entries.on_flow, Flows.opposite_by, Flows.same_self}
 use Rattle.laws_tables.specs.Both.{Asks, Both, Decides, Happening, IsSound, MayHappen, MayRun, Opens, Pays, Sends, Step, at, happens, run, start}
 use Rattle.laws_tables.proofs.{Both.next_is_fair, Fair.own_got_fair}
+use Rattle.laws_rest.specs.Bytes.{BothEnds}
 use Rattle.laws_asked.specs.Asked.{AskOnce, Does}
 use Rattle.laws_asked.proofs.Asking.{begins_once, step_once}
 use Rattle.laws_world.specs.Sides.{AsksAnew, Runs, RunsAnew}
@@ -64,17 +65,6 @@ asked_once role first b s once p next asks =
     answerer Answerer w is none = none
     answerer Asker w is none = absurd cc
 
--- Each end counts one connection at most.
-pub number_of_once : (role : Role) (first : ℕ) (b : Both) → IsSound first b → AreOnce b → (f : Flow) → number_of role f (at role b).log ≤ 1
-number_of_once role first b s once f = by (side_of role f) refl
-  where
-    by : (side : Side) → side_of role f ≡ side → (let w = whole_of role f (at role b).log in asked_by (side_of role f) (puts w) (gots w)) ≤ 1
-    by Asker is = let few = (once role f is).few in
-        subst (λ (side : Side). (let w = whole_of role f (at role b).log in asked_by side (puts w) (gots w)) ≤ 1) (sym is) few
-    by Answerer is =
-        let few = (once (other_role role) f (opposite_by role (is_assigned f.host) ∙ ap peer is)).few in
-        let rest = (s.ties role).packets in
-        let tie = got_on role f (at role b).log (at (other_role role) b).log rest.0 rest.1 in
-        let all = count_append is_request (on_flow (flow_got role) f rest.0) (gots (whole_of role f (at role b).log)) in
-        subst (λ (side : Side). (let w = whole_of role f (at role b).log in asked_by side (puts w) (gots w)) ≤ 1) (sym is)
-        (omega (arith, few, ap (count is_request) tie, all))
+-- So they are two ends, as the law of both ends has them.
+pub both_ends : (first : ℕ) (b : Both) → IsSound first b → AreOnce b → BothEnds b
+both_ends first b s once = record { fair = s.fair; got = λ role. (s.ties role).packets; asked = once }

@@ -29,7 +29,8 @@ use Rattle.laws_world.specs.{Events.where_possible, Events.works_on, Sides.Runs,
 use Rattle.laws_world.proofs.{DriverGoes.{After, Before, Left, Walks, call_left, call_walks, poll_left, poll_walks}, DeviceGoes.carried}
 use Rattle.laws_world.proofs.{DeviceGoes.cids_kept, DeviceWalks.AllHeads, DriverWalks.{Ties, first_fair, shown, walk}, Journals.AllAgree}
 use Rattle.laws_world.proofs.{Played.driver_got, Queues.pages_put, Runs.{goes_run, keeps_sound, stays}, Once.{AreOnce, keeps_once}}
-use Rattle.laws_world.proofs.{Once.number_of_once, Wire.fit_rest, Keeping.Sees, Names.{StaysNamed, WaitsApart, named_from, named_still}}
+use Rattle.laws_rest.proofs.BothEnds as both
+use Rattle.laws_world.proofs.{Once.both_ends, Wire.fit_rest, Keeping.Sees, Names.{StaysNamed, WaitsApart, named_from, named_still}}
 use Rattle.laws_driver_bytes.specs.Calls.{Journal, LookAt, is_right, sent_on, makes_call, GuestCall, ReplyTo, account_of, with_call}
 use Rattle.laws_driver_bytes.specs.Received.{Account, AreReceived}
 use Rattle.laws_driver_bytes.proofs.{Making.made_with, Polling.IsFurther, Sending.puts_as}
@@ -221,7 +222,7 @@ module _ (fresh : Type 0) (w : World) (well : IsWell fresh w) where
   further = (account, record { first_id = refl; opened = λ id some. refl; received = λ id. refl }, well.received)
 
   few : (f : Flow) → number_of Driver f (log_with_staged w.rings.driver) ≤ 1
-  few = number_of_once Driver first_cid (both_of w) well.sound well.once
+  few = both.once (both_of w) (both_ends first_cid (both_of w) well.sound well.once) Driver
 
   -- A step that makes no call of the guest's.
   abbrev step_fact : Fact

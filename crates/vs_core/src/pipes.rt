@@ -12,6 +12,7 @@ ghost use Rattle.laws_device_bytes.specs.Streamed.{gives, line_for};
 ghost use Rattle.vs_proxy_parts.specs.State.{Handshake};
 ghost use Rattle.laws_world.specs.{Events.Event, Events.run, Pipes.IsFresh};
 ghost use Rattle.laws_driver_bytes.specs.Calls.{received_on, sent_on};
+ghost use Rattle.laws_rest.specs.Bytes.{CarryBytes};
 ghost use Rattle.laws_world.specs.{Plays.AreRight, Plays.Line, Plays.after, Sides.both_of, World.opening};
 
 /// After any list of events the bytes that the guest received on a connection, and then the unread ones, are the payload that the driver
@@ -57,10 +58,8 @@ pub fn law_of_streams()
 /// program wrote, and what the host's program read is a prefix of what the guest sent there, without the lines of a handshake. So a
 /// stream's bytes are of its own connection alone.
 pub fn law_of_prefixes()
-    ensures to_guest { (n : ℕ) (host : HostContents) (es : List Event) (f : Flow) → IsFresh host → let w = run es (opening n host) in
-        IsPrefixOf (received_on f w.journal) (host_wrote (first_of f) w.host) }
-    ensures to_host { (n : ℕ) (host : HostContents) (es : List Event) (f : Flow) → IsFresh host → let w = run es (opening n host) in
-        IsPrefixOf (host_read (first_of f) w.host) (sent_on f w.journal) }
+    ensures { (n : ℕ) (host : HostContents) (es : List Event) (f : Flow) → IsFresh host → let w = run es (opening n host) in
+        CarryBytes (first_of f) (sent_on f w.journal) (received_on f w.journal) w.host }
 {}
 
 /// Shutting is for good. Once the driver told that a connection sends no more, what the guest sent there stays, whatever happens; once the
@@ -75,8 +74,6 @@ pub fn law_of_shutting()
 
 /// The same after any script: bytes both ways, in order.
 pub fn law_of_script_bytes()
-    ensures to_guest { (n : ℕ) (host : HostContents) (ls : List Line) (f : Flow) → AreRight ls → IsFresh host
-        → let w = after ls (opening n host) in IsPrefixOf (received_on f w.journal) (host_wrote (first_of f) w.host) }
-    ensures to_host { (n : ℕ) (host : HostContents) (ls : List Line) (f : Flow) → AreRight ls → IsFresh host
-        → let w = after ls (opening n host) in IsPrefixOf (host_read (first_of f) w.host) (sent_on f w.journal) }
+    ensures { (n : ℕ) (host : HostContents) (ls : List Line) (f : Flow) → AreRight ls → IsFresh host
+        → let w = after ls (opening n host) in CarryBytes (first_of f) (sent_on f w.journal) (received_on f w.journal) w.host }
 {}

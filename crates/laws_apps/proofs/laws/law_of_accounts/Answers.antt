@@ -22,5 +22,5 @@ pub returns-clause-entry : goal.returns-clause-entry
 returns-clause-entry c = entry_accounted
 
 pub returns-clause-ids : goal.returns-clause-ids
-returns-clause-ids c = λ first_id id opened journal log slots account sent some.
-    sent.puts (opened id) ∙ sent_by_id (account_of first_id opened journal) log slots account id some journal sent.senders
+returns-clause-ids c = λ first_id id opened journal log slots right some.
+    right.sent.puts (opened id) ∙ sent_by_id (account_of first_id opened journal) log slots right.received id some journal right.sent.senders

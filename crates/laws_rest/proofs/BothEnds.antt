@@ -1,0 +1,96 @@
+-- Bytes of both ends: what each put came first at the other, and the streams are of the same connections.
+use Rattle.std.proofs.Common.{◌≡◌, ℕ, ◌≤◌, List, refl, sym, ap, subst, ◌∙◌, arith}
+use Rattle.vs_flow.specs.{Connection.Connection, Connection.first_of, Flow.is_assigned, Table.Table, declared.flow.Flow.Flow}
+use Rattle.laws_history.specs.{Again.count, Packets.is_request, declared.packet.Packet.Packet, History.Answerer}
+use Rattle.laws_history.specs.History.{Asker, Side, gots, peer, puts}
+use Rattle.laws_history.proofs.Lists.{count_append}
+use Rattle.vs_outside.specs.{Host.HostContents, HostBytes.host_read, HostBytes.host_wrote}
+use Rattle.vs_page.specs.Fair.{IsPrefixOf, asked_by, instance_from, number_of, payload_got, payload_of, payload_put}
+use Rattle.vs_page.specs.Log.{Device, Driver, Role, flow_got, other_role, side_of, whole_of}
+use Rattle.vs_page.proofs.{Entries.got_on, Entries.on_flow, Flows.opposite_by, Payload.instance-append, Payload.payload_of-append}
+use Rattle.vs_ring_port.specs.{Contents.RingContents, EndLog.EndLog}
+use Rattle.laws_tables.specs.Both.{Both, at}
+use Rattle.laws_bytes.proofs.{Firsts.once_got, Firsts.once_put, Logs.prefix_then}
+use Rattle.vs_driver_parts.specs.{Held.HeldSlots, State.DriverState}
+use Rattle.laws_driver.specs.Honest.{slots_of}
+use Rattle.laws_driver_bytes.specs.{Calls.Journal, Calls.received_by, Senders.IsRightJournal, Senders.IsRightWith, Senders.sent_to}
+use Rattle.vs_device_parts.specs.{Calls.Situation, State.DeviceConnection}
+use Rattle.laws_device.specs.Streams.{AreStreamedWith}
+use Rattle.laws_device_bytes.specs.Streamed.{IsStreamed}
+use Rattle.vs_proxy_parts.specs.State.{Handshake, ProxyState}
+use Rattle.laws_rest.specs.Bytes.{AreTied, AreTold, BothEnds, CarryBytes}
+use Rattle.laws_rest.proofs.Hosts.{read_is_got, wrote_is_put}
+
+module _ (b : Both) (ends : BothEnds b) where
+  -- Each end counts one connection at most: the asker put one REQUEST, and the other got no more.
+  pub once : (role : Role) (f : Flow) → number_of role f (at role b).log ≤ 1
+  once role f = by (side_of role f) refl
+    where
+      by : (side : Side) → side_of role f ≡ side → (let w = whole_of role f (at role b).log in asked_by (side_of role f) (puts w) (gots w)) ≤ 1
+      by Asker is =
+          subst (λ (side : Side). (let w = whole_of role f (at role b).log in asked_by side (puts w) (gots w)) ≤ 1) (sym is) (ends.asked role f is).few
+      by Answerer is =
+          let few = (ends.asked (other_role role) f (opposite_by role (is_assigned f.host) ∙ ap peer is)).few in
+          let rest = ends.got role in
+          let tie = got_on role f (at role b).log (at (other_role role) b).log rest.0 rest.1 in
+          let all = count_append is_request (on_flow (flow_got role) f rest.0) (gots (whole_of role f (at role b).log)) in
+          subst (λ (side : Side). (let w = whole_of role f (at role b).log in asked_by side (puts w) (gots w)) ≤ 1) (sym is)
+          (omega (arith, few, ap (count is_request) tie, all))
+
+  -- A connection that has passed is the first of its flow.
+  pub first_is : (role : Role) (c : Connection) → 1 ≤ c.number → c.number ≤ number_of role c.flow (at role b).log → c ≡ first_of c.flow
+  first_is role c some past =
+      let most = once role c.flow in
+      let one : c.number ≡ 1 = omega (arith, some, past, most) in
+      ap (λ (n : ℕ). let d : Connection = record { flow = c.flow; number = n } in d) one
+
+  -- The payload that an end got on a connection is a prefix of what the other put there.
+  pub arrives : (role : Role) (c : Connection) → IsPrefixOf (payload_got role c (at role b).log) (payload_put (other_role role) c (at (other_role role) b).log)
+  arrives role c =
+      let rest = ends.got role in
+      let side = peer (side_of role c.flow) in
+      let came = gots (whole_of role c.flow (at role b).log) in
+      let split = instance-append side c.number (on_flow (flow_got role) c.flow rest.0) came in
+      subst (λ (s : Side). IsPrefixOf (payload_got role c (at role b).log)
+      (payload_of (instance_from s c.number (puts (whole_of (other_role role) c.flow (at (other_role role) b).log)))))
+      (sym (opposite_by role (is_assigned c.flow.host))) (
+        payload_of split.0,
+        ap (λ (ps : List Packet). payload_of (instance_from side c.number ps)) (got_on role c.flow (at role b).log (at (other_role role) b).log rest.0 rest.1)
+            ∙ ap payload_of split.1 ∙ payload_of-append split.0 (instance_from side c.number came),
+      )
+
+  module _ (h : HostContents) (port : ℕ) (table : Table DeviceConnection) (hands : List Handshake) (streams : IsStreamed h b.device.log port table hands) where
+    -- What the host's program wrote is what the device put, and what it read is a prefix of what the device got.
+    pub wrote_is : (f : Flow) → payload_put Device (first_of f) b.device.log ≡ host_wrote (first_of f) h
+    wrote_is f = once_put Device f b.device.log (ends.fair Device f) (once Device f) ∙ wrote_is_put h b.device.log port table hands streams f
+
+    pub read_is : (f : Flow) → IsPrefixOf (host_read (first_of f) h) (payload_got Device (first_of f) b.device.log)
+    read_is f =
+        subst (λ (bytes : List ℕ). IsPrefixOf (host_read (first_of f) h) bytes) (sym (once_got Device f b.device.log (ends.fair Device f) (once Device f)))
+        (read_is_got h b.device.log port table hands streams f)
+
+    pub carry : (f : Flow) (sent received : List ℕ) → AreTied b.driver.log (first_of f) sent received → CarryBytes (first_of f) sent received h
+    carry f sent received tied = record {
+      to_host = subst (λ (bytes : List ℕ). IsPrefixOf (host_read (first_of f) h) bytes) tied.puts (prefix_then _ _ _ (read_is f) (arrives Device (first_of f)));
+      to_guest = subst (λ (bytes : List ℕ). IsPrefixOf received bytes) (wrote_is f) (prefix_then _ _ _ tied.gets (arrives Driver (first_of f)));
+    }
+
+    pub carry_id : (first_id : ℕ) (opened : ℕ → Connection) (journal : Journal) (slots : HeldSlots) (id : ℕ)
+        → IsRightJournal first_id opened journal b.driver.log slots → 1 ≤ (opened id).number
+        → CarryBytes (opened id) (sent_to opened (opened id) journal) (received_by id journal) h
+    carry_id first_id opened journal slots id right some =
+        let is = first_is Driver (opened id) some (right.received.passed id) in
+        let sent = sent_to opened (opened id) journal in
+        subst (λ (c : Connection). CarryBytes c sent (received_by id journal) h) (sym is)
+        (carry (opened id).flow sent (received_by id journal) (subst (λ (c : Connection). AreTied b.driver.log c sent (received_by id journal)) is
+        (record { puts = right.sent.puts (opened id); gets = right.received.front id })))
+
+-- Over any rings and any host.
+pub carry_told : (first : ℕ) (d : DriverState) (c : RingContents) (p : ProxyState) (a : Situation) (l m : EndLog) (h : HostContents) (first_id : ℕ)
+    (opened : ℕ → Connection) (journal : Journal) (id : ℕ) → AreTold first d c p a l m h → IsRightWith first_id opened journal d c
+    → AreStreamedWith first p.next_port p.handshakes p.device.table a → 1 ≤ (opened id).number
+    → CarryBytes (opened id) (sent_to opened (opened id) journal) (received_by id journal) h
+carry_told first d c p a l m h first_id opened journal id told right streams some =
+    carry_id _ told.ends h p.next_port p.device.table p.handshakes
+    (streams told.device_honest m told.device_log (record { once = once _ told.ends Device; heard = told.heard }) h told.host)
+    first_id opened journal (slots_of d) id (right told.driver_honest l told.driver_log) some
