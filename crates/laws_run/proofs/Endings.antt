@@ -2,46 +2,69 @@
 use Rattle.std.proofs.Common.{◌≡◌, ◌≢◌, ◌⊎◌, inl, inr, ℕ, zero, suc, ◌+◌, ◌-◌, ◌<◌, ◌≤◌, ◌==◌, nat_lt, Bool, true, false, cond, List, []}
 use Rattle.std.proofs.Common.{◌∷◌, length, Option, Some, None, refl, sym, ap, subst, ◌∙◌, arith, slice_get, slice_set, get_or-set_other}
 use Rattle.std.proofs.{Common.{get_or-set_same, length-set}, lemmas.{Bool.Decides.nat_tests, Bool.eq-eqb, Bool.eqb-true}}
-use Rattle.vs_script.specs.App.{Act}
-use Rattle.vs_driver_parts.specs.declared.answers.Polled.{Polled}
+use Rattle.vs_driver_parts.specs.{State.DriverState, declared.answers.Polled.Polled}
 use Rattle.laws_driver_bytes.specs.Calls.{Made}
 use Rattle.vs_apps_parts.specs.{Journals.{wait_noted, wait_place}, Scripts.{RunScript, acts_of, told_in}, Told.{step_wait, told_of}}
 use Rattle.vs_apps_parts.specs.{Told.wait_of, declared.{journal.Entry.Entry, journal.WaitsFor.WaitsFor, progress.AppState.AppState}}
 use Rattle.vs_apps_parts.specs.declared.{progress.Stepped.Stepped, told.Told.Told}
 use Rattle.vs_apps_parts.specs.declared.progress.Stepped.TheVariants as stepped
-use Rattle.vs_apps_parts.specs.declared.told.Told.TheVariants as says
-use Rattle.laws_apps.specs.{Rounds.{AllStand, Stands}, Runs.{MakesCalls, NotesCall, PollsTo, Run, Steps, Waits, no_app}}
+use Rattle.laws_apps.specs.{Rounds.{AllStand, Stands}, Runs.{MakesCalls, NotesCall, PollsTo, Run, Steps, Waits, no_app, poll_moved}}
 use Rattle.vs_run_report.specs.{Endings.ending_at, Endings.ending_of, Endings.state_at, Endings.why_at, Report.ended_at, Right.IsRightEnding}
-use Rattle.vs_run_report.specs.{Right.may_wait, declared.ending.Ending.Ending}
+use Rattle.vs_run_report.specs.{declared.ending.Ending.Ending}
 use Rattle.vs_run_report.specs.declared.ending.Ending.TheVariants as ending
+use Rattle.laws_run.proofs.{Alike.Leaves, Alike.leaves_core, Alike.leaves_none, Alike.leaves_then, Halting.Halts, Halting.calls_halt, Halting.first_waits}
+use Rattle.laws_run.proofs.{Halting.halts_on, Halting.last_of, Halting.rest_waits, Still.poll_still}
 use Rattle.vs_run_report.proofs.{Noted.kept, Noted.noted_there, Noted.waits_on, Noted.waits_so, Waiting.waits_right}
 
 -- An app is done; or it ended right with a wait, which is noted in an entry of its own.
-abbrev IsDone : RunScript → ℕ → List AppState → Type 0
+abbrev pub IsDone : RunScript → ℕ → List AppState → Type 0
 IsDone script k apps = nat_lt (state_at k apps).progress.at (length (acts_of k script)) ≡ false
 
-record Rests (script : RunScript) (k : ℕ) (apps : List AppState) (entries : List Entry) : Type 0 where
-  pub right : IsRightEnding (acts_of k script) (ended_at script apps entries k)
+pub record Rests (script : RunScript) (k : ℕ) (apps : List AppState) (entries : List Entry) (driver : DriverState) : Type 0 where
+  pub why : WaitsFor
+  pub ended : ended_at script apps entries k ≡ ending.Waited why ((state_at k apps).progress.at + 1)
+  pub halts : Halts (acts_of k script) (state_at k apps).progress why driver
   pub place : ℕ
   pub waiting : (state_at k apps).waiting ≡ Some place
   pub entry : Entry
   pub there : slice_get entries place ≡ Some entry
   pub own : (entry.app == k) ≡ true
 
-abbrev Ends : RunScript → ℕ → List AppState → List Entry → Type 0
-Ends script k apps entries = IsDone script k apps ⊎ Rests script k apps entries
+abbrev pub Ends : RunScript → ℕ → List AppState → List Entry → DriverState → Type 0
+Ends script k apps entries driver = IsDone script k apps ⊎ Rests script k apps entries driver
 
-ends_right : (script : RunScript) (k : ℕ) (apps : List AppState) (entries : List Entry) → Ends script k apps entries
+-- It is so on a driver alike.
+pub ends_on : (script : RunScript) (k : ℕ) (apps : List AppState) (entries : List Entry) (s t : DriverState) → Leaves s t → Ends script k apps entries s
+    → Ends script k apps entries t
+ends_on script k apps entries s t leaves (inl done) = inl done
+ends_on script k apps entries s t leaves (inr rests) = inr (record {
+  why = rests.why;
+  ended = rests.ended;
+  halts = halts_on (acts_of k script) (state_at k apps).progress rests.why s t leaves rests.halts;
+  place = rests.place;
+  waiting = rests.waiting;
+  entry = rests.entry;
+  there = rests.there;
+  own = rests.own;
+})
+
+ends_right : (script : RunScript) (k : ℕ) (apps : List AppState) (entries : List Entry) (driver : DriverState) → Ends script k apps entries driver
     → IsRightEnding (acts_of k script) (ended_at script apps entries k)
-ends_right script k apps entries (inl done) =
+ends_right script k apps entries driver (inl done) =
     let state : AppState = state_at k apps in
     subst (λ (b : Bool). IsRightEnding (acts_of k script) (cond b (ending_at (state.progress.at + 1) (why_at state.waiting entries)) ending.Done)) (sym done) tt
-ends_right script k apps entries (inr rests) = rests.right
+ends_right script k apps entries driver (inr rests) =
+    let at : ℕ = (state_at k apps).progress.at in
+    let same : at + 1 - 1 ≡ at = omega arith in
+    subst (λ (e : Ending). IsRightEnding (acts_of k script) e) (sym rests.ended)
+    (rests.halts.act, ap (λ (n : ℕ). slice_get (acts_of k script) n) same ∙ rests.halts.next, rests.halts.may)
 
 -- What a step that stands leaves.
-record Stood (script : RunScript) (k : ℕ) (apps : List AppState) (entries : List Entry) (apps' : List AppState) (entries' : List Entry) : Type 0 where
-  pub own : Ends script k apps' entries'
-  pub others : (j : ℕ) → (k == j) ≡ false → Ends script j apps entries → Ends script j apps' entries'
+record Stood (script : RunScript) (k : ℕ) (apps : List AppState) (entries : List Entry) (driver : DriverState) (apps' : List AppState)
+    (entries' : List Entry) (driver' : DriverState) : Type 0 where
+  pub own : Ends script k apps' entries' driver'
+  pub others : (j : ℕ) → (k == j) ≡ false → Ends script j apps entries driver → Ends script j apps' entries' driver'
+  pub leaves : Leaves driver driver'
 
 past_end : {A : Type 0} (xs : List A) (n : ℕ) → slice_get xs n ≡ None → nat_lt n (length xs) ≡ false
 past_end [] n is = grind (arith, nat_tests)
@@ -53,11 +76,12 @@ within [] n x is = absurd cc
 within (y ∷ ys) zero x is = omega arith
 within (y ∷ ys) (suc n) x is = let rest = within ys n x is in omega (arith, rest)
 
-done_stood : (script : RunScript) (k : ℕ) (apps : List AppState) (entries : List Entry)
-    → slice_get (acts_of k script) (state_at k apps).progress.at ≡ None → Stood script k apps entries apps entries
-done_stood script k apps entries none = record {
+done_stood : (script : RunScript) (k : ℕ) (apps : List AppState) (entries : List Entry) (driver : DriverState)
+    → slice_get (acts_of k script) (state_at k apps).progress.at ≡ None → Stood script k apps entries driver apps entries driver
+done_stood script k apps entries driver none = record {
   own = inl (past_end (acts_of k script) (state_at k apps).progress.at none);
   others = λ j other ends. ends;
+  leaves = leaves_none driver;
 }
 
 apart : (k j app : ℕ) → (k == j) ≡ false → (app == j) ≡ true → (app == k) ≡ false
@@ -66,8 +90,8 @@ apart k j app other own = grind (arith, nat_tests, other, own)
 not_same : (k j : ℕ) → (k == j) ≡ false → j ≢ k
 not_same k j is same = let e = eq-eqb k j (sym same) in absurd cc
 
-module _ (script : RunScript) (k : ℕ) (why : WaitsFor) (act : Act) (apps : List AppState) (es : List Entry) (less : k < length apps)
-    (next : slice_get (acts_of k script) (state_at k apps).progress.at ≡ Some act) (may : may_wait act why ≡ true) where
+module _ (script : RunScript) (k : ℕ) (why : WaitsFor) (apps : List AppState) (es : List Entry) (less : k < length apps) (s t : DriverState)
+    (leaves : Leaves s t) (halts : Halts (acts_of k script) (state_at k apps).progress why t) where
   abbrev noted : List Entry
   noted = wait_noted k why (state_at k apps).waiting es
 
@@ -83,22 +107,15 @@ module _ (script : RunScript) (k : ℕ) (why : WaitsFor) (act : Act) (apps : Lis
   other_state : (j : ℕ) → (k == j) ≡ false → state_at j stepped_apps ≡ state_at j apps
   other_state j other = get_or-set_other apps k j state no_app (not_same k j other)
 
-  abbrev RightAt : ℕ → AppState → List Entry → Type 0
-  RightAt j x entries = IsRightEnding (acts_of j script) (ending_of (length (acts_of j script)) x entries)
-
-  own_right : RightAt k state noted
-  own_right =
-      let at : ℕ = (state_at k apps).progress.at in
-      let same : at + 1 - 1 ≡ at = omega arith in
-      subst (λ (e : Ending). IsRightEnding (acts_of k script) e)
-      (sym (waits_so (length (acts_of k script)) k why (state_at k apps) es (within (acts_of k script) at act next)))
-      (act, ap (λ (n : ℕ). slice_get (acts_of k script) n) same ∙ next, may)
-
-  own_ends : Ends script k stepped_apps noted
+  own_ends : Ends script k stepped_apps noted t
   own_ends =
       let there = noted_there k why (state_at k apps).waiting es in
+      let at : ℕ = (state_at k apps).progress.at in
       inr (record {
-        right = subst (λ (x : AppState). RightAt k x noted) (sym own_state) own_right;
+        why = why;
+        ended = subst (λ (x : AppState). ending_of (length (acts_of k script)) x noted ≡ ending.Waited why (x.progress.at + 1)) (sym own_state)
+            (waits_so (length (acts_of k script)) k why (state_at k apps) es (within (acts_of k script) at halts.act halts.next));
+        halts = subst (λ (x : AppState). Halts (acts_of k script) x.progress why t) (sym own_state) halts;
         place = wait_place k (state_at k apps).waiting es;
         waiting = ap (λ (x : AppState). x.waiting) own_state;
         entry = there.0;
@@ -106,16 +123,19 @@ module _ (script : RunScript) (k : ℕ) (why : WaitsFor) (act : Act) (apps : Lis
         own = there.2;
       })
 
-  other_ends : (j : ℕ) → (k == j) ≡ false → Ends script j apps es → Ends script j stepped_apps noted
+  other_ends : (j : ℕ) → (k == j) ≡ false → Ends script j apps es s → Ends script j stepped_apps noted t
   other_ends j other (inl done) =
       inl (subst (λ (x : AppState). nat_lt x.progress.at (length (acts_of j script)) ≡ false) (sym (other_state j other)) done)
   other_ends j other (inr rests) =
       let foreign = apart k j rests.entry.app other rests.own in
       inr (record {
-        right = subst (λ (x : AppState). RightAt j x noted) (sym (other_state j other))
-            (subst (λ (e : Ending). IsRightEnding (acts_of j script) e)
-            (sym (waits_on (length (acts_of j script)) k rests.place why (state_at k apps).waiting (state_at j apps) es rests.entry rests.waiting rests.there
-            foreign)) rests.right);
+        why = rests.why;
+        ended = subst (λ (x : AppState). ending_of (length (acts_of j script)) x noted ≡ ending.Waited rests.why (x.progress.at + 1))
+            (sym (other_state j other))
+            (waits_on (length (acts_of j script)) k rests.place why (state_at k apps).waiting (state_at j apps) es rests.entry rests.waiting rests.there foreign
+            ∙ rests.ended);
+        halts = subst (λ (x : AppState). Halts (acts_of j script) x.progress rests.why t) (sym (other_state j other))
+            (halts_on (acts_of j script) (state_at j apps).progress rests.why s t leaves rests.halts);
         place = rests.place;
         waiting = ap (λ (x : AppState). x.waiting) (other_state j other) ∙ rests.waiting;
         entry = rests.entry;
@@ -123,8 +143,8 @@ module _ (script : RunScript) (k : ℕ) (why : WaitsFor) (act : Act) (apps : Lis
         own = rests.own;
       })
 
-  waits_stood : Stood script k apps es stepped_apps noted
-  waits_stood = record { own = own_ends; others = other_ends }
+  waits_stood : Stood script k apps es s stepped_apps noted t
+  waits_stood = record { own = own_ends; others = other_ends; leaves = leaves }
 
 -- Calls that all told to wait change neither apps nor entries.
 record Same (old new : Run) : Type 0 where
@@ -141,22 +161,6 @@ module _ (script : RunScript) (k : ℕ) where
       let noted : NotesCall script k m (Some why) old new =
       subst (λ (o : Option WaitsFor). NotesCall script k m o old new) (ap (λ (x : Told). wait_of x) is ∙ waits) notes in
       noted.0
-
-  first_waits : (t : Told) (ts : List Told) (why : WaitsFor) → step_wait (t ∷ ts) ≡ Some why → (w : WaitsFor) × (wait_of t ≡ Some w)
-  first_waits (says.Waits w) ts why waits = (w, refl)
-  first_waits (says.Asked id) ts why waits = absurd cc
-  first_waits (says.Given id) ts why waits = absurd cc
-  first_waits (says.Took n) ts why waits = absurd cc
-  first_waits (says.Got n) ts why waits = absurd cc
-  first_waits says.Ends ts why waits = absurd cc
-
-  rest_waits : (t u : Told) (ts : List Told) (why : WaitsFor) → step_wait (t ∷ u ∷ ts) ≡ Some why → step_wait (u ∷ ts) ≡ Some why
-  rest_waits (says.Waits w) u ts why waits = waits
-  rest_waits (says.Asked id) u ts why waits = absurd cc
-  rest_waits (says.Given id) u ts why waits = absurd cc
-  rest_waits (says.Took n) u ts why waits = absurd cc
-  rest_waits (says.Got n) u ts why waits = absurd cc
-  rest_waits says.Ends u ts why waits = absurd cc
 
   calls_same : (made : List Made) (why : WaitsFor) (old new : Run) → step_wait (told_in made) ≡ Some why → MakesCalls script k made old new → Same old new
   calls_same [] why old new waits makes = absurd cc
@@ -177,21 +181,31 @@ module _ (script : RunScript) (k : ℕ) where
 
   -- A step that waits.
   abbrev StoodAs : Run → Run → Type 0
-  StoodAs old new = Stood script k old.apps old.entries new.apps new.entries
+  StoodAs old new = Stood script k old.apps old.entries old.driver new.apps new.entries new.driver
 
   waits_stand : (why : WaitsFor) (mid new : Run) → k < length mid.apps → Waits script k why mid new → StoodAs mid new
   waits_stand why mid new less w =
       let same = calls_same w.calls.made why mid w.calls.over w.waits w.calls.makes in
-      let may = waits_right w.calls.act (state_at k mid.apps).progress w.calls.made why w.calls.calls w.waits in
+      let halted = calls_halt script k w.calls.made why mid w.calls.over w.waits w.calls.makes in
       let state : List Entry → AppState = λ es. record (state_at k mid.apps) { waiting = Some (wait_place k (state_at k mid.apps).waiting es) } in
-      let stood = waits_stood script k why w.calls.act mid.apps mid.entries less w.calls.next may in
+      let stood = waits_stood script k why mid.apps mid.entries less mid.driver w.calls.over.driver halted.leaves (record {
+        act = w.calls.act;
+        next = w.calls.next;
+        may = waits_right w.calls.act (state_at k mid.apps).progress w.calls.made why w.calls.calls w.waits;
+        call = halted.call;
+        last = sym (ap last_of w.calls.calls) ∙ halted.last;
+        stops = halted.stops;
+      }) in
       let apps : new.apps ≡ slice_set mid.apps k (state mid.entries) =
       ap (λ (r : Run). r.apps) w.notes ∙ ap (λ (xs : List AppState). slice_set xs k (state w.calls.over.entries)) same.apps
       ∙ ap (λ (es : List Entry). slice_set mid.apps k (state es)) same.entries in
       let entries : new.entries ≡ wait_noted k why (state_at k mid.apps).waiting mid.entries =
       ap (λ (r : Run). r.entries) w.notes ∙ ap (λ (es : List Entry). wait_noted k why (state_at k mid.apps).waiting es) same.entries in
-      subst (λ (xs : List AppState). Stood script k mid.apps mid.entries xs new.entries) (sym apps)
-      (subst (λ (es : List Entry). Stood script k mid.apps mid.entries (slice_set mid.apps k (state mid.entries)) es) (sym entries) stood)
+      let driver : new.driver ≡ w.calls.over.driver = ap (λ (r : Run). r.driver) w.notes in
+      subst (λ (xs : List AppState). Stood script k mid.apps mid.entries mid.driver xs new.entries new.driver) (sym apps)
+      (subst (λ (es : List Entry). Stood script k mid.apps mid.entries mid.driver (slice_set mid.apps k (state mid.entries)) es new.driver) (sym entries)
+      (subst (λ (d : DriverState). Stood script k mid.apps mid.entries mid.driver (slice_set mid.apps k (state mid.entries))
+      (wait_noted k why (state_at k mid.apps).waiting mid.entries) d) (sym driver) stood))
 
   waits_many : (why : WaitsFor) (mid new : Run) → Waits script k why mid new → length new.apps ≡ length mid.apps
   waits_many why mid new w =
@@ -199,15 +213,25 @@ module _ (script : RunScript) (k : ℕ) where
       ∙ ap (λ (xs : List AppState). length xs) (calls_many w.calls.made mid w.calls.over w.calls.makes)
 
   done_stands : (mid new : Run) → slice_get (acts_of k script) (state_at k mid.apps).progress.at ≡ None → new ≡ mid → StoodAs mid new
-  done_stands mid new none is = subst (λ (r : Run). StoodAs mid r) (sym is) (done_stood script k mid.apps mid.entries none)
+  done_stands mid new none is = subst (λ (r : Run). StoodAs mid r) (sym is) (done_stood script k mid.apps mid.entries mid.driver none)
 
   polled_same : (polled : Polled) (old mid : Run) → PollsTo polled old mid → Same old mid
   polled_same polled old mid polls = record { apps = ap (λ (r : Run). r.apps) polls.rest; entries = ap (λ (r : Run). r.entries) polls.rest }
 
-  stood_from : (old mid new : Run) → Same old mid → StoodAs mid new → StoodAs old new
-  stood_from old mid new same stood =
-      subst (λ (xs : List AppState). Stood script k xs old.entries new.apps new.entries) same.apps
-      (subst (λ (es : List Entry). Stood script k mid.apps es new.apps new.entries) same.entries stood)
+  polled_leaves : (polled : Polled) (old mid : Run) → PollsTo polled old mid → false ≡ poll_moved polled → Leaves old.driver mid.driver
+  polled_leaves polled old mid polls still =
+      leaves_core old.driver mid.driver (poll_still old.driver mid.driver old.ring mid.ring polled polls.polls (sym still))
+
+  stood_from : (old mid new : Run) → Same old mid → Leaves old.driver mid.driver → StoodAs mid new → StoodAs old new
+  stood_from old mid new same leaves stood =
+      let from : Stood script k old.apps old.entries mid.driver new.apps new.entries new.driver =
+      subst (λ (xs : List AppState). Stood script k xs old.entries mid.driver new.apps new.entries new.driver) same.apps
+      (subst (λ (es : List Entry). Stood script k mid.apps es mid.driver new.apps new.entries new.driver) same.entries stood) in
+      record {
+        own = from.own;
+        others = λ j other ends. from.others j other (ends_on script j old.apps old.entries old.driver mid.driver leaves ends);
+        leaves = leaves_then old.driver mid.driver new.driver leaves from.leaves;
+      }
 
   many_from : (old mid new : Run) → Same old mid → length new.apps ≡ length mid.apps → length new.apps ≡ length old.apps
   many_from old mid new same many = many ∙ ap (λ (xs : List AppState). length xs) same.apps
@@ -223,10 +247,11 @@ module _ (script : RunScript) (k : ℕ) where
   step_stood : (s : Stepped) (old new : Run) → k < length old.apps → Stands s → Steps script k s false old new → StoodAs old new
   step_stood (stepped.Waiting why) old new less stands steps =
       let same = polled_same steps.0 old steps.1 steps.2 in
-      stood_from old steps.1 new same
+      stood_from old steps.1 new same (polled_leaves steps.0 old steps.1 steps.2 steps.3)
       (waits_stand why steps.1 new (subst (λ (xs : List AppState). k < length xs) (sym same.apps) less) steps.4)
   step_stood stepped.Done old new less stands steps =
-      stood_from old steps.1 new (polled_same steps.0 old steps.1 steps.2) (done_stands steps.1 new steps.4.0 steps.4.1)
+      stood_from old steps.1 new (polled_same steps.0 old steps.1 steps.2) (polled_leaves steps.0 old steps.1 steps.2 steps.3)
+      (done_stands steps.1 new steps.4.0 steps.4.1)
   step_stood stepped.Moved old new less stands steps = absurd stands
   step_stood stepped.OutOfMemory old new less stands steps = absurd stands
 
@@ -237,23 +262,27 @@ all_many script (suc n) old new all =
     step_many script n all.2.0 all.0 new all.2.1 all.2.2 ∙ all_many script n old all.0 all.1
 
 all_end : (script : RunScript) (n : ℕ) (old new : Run) → n ≤ length old.apps → AllStand script n old new → (k : ℕ) → k < n
-    → Ends script k new.apps new.entries
+    → Ends script k new.apps new.entries new.driver
 all_end script zero old new most all k less = absurd (omega (arith, less))
 all_end script (suc n) old new most all k less = by (n == k) refl (all_end script n old all.0 (omega (arith, most)) all.1 k)
   where
     many : length all.0.apps ≡ length old.apps
     many = all_many script n old all.0 all.1
 
-    stood : Stood script n all.0.apps all.0.entries new.apps new.entries
+    stood : Stood script n all.0.apps all.0.entries all.0.driver new.apps new.entries new.driver
     stood = step_stood script n all.2.0 all.0 new (omega (arith, many, most)) all.2.1 all.2.2
 
-    by : (b : Bool) → (n == k) ≡ b → (k < n → Ends script k all.0.apps all.0.entries) → Ends script k new.apps new.entries
-    by true is before = subst (λ (j : ℕ). Ends script j new.apps new.entries) (eqb-true n k is) stood.own
+    by : (b : Bool) → (n == k) ≡ b → (k < n → Ends script k all.0.apps all.0.entries all.0.driver) → Ends script k new.apps new.entries new.driver
+    by true is before = subst (λ (j : ℕ). Ends script j new.apps new.entries new.driver) (eqb-true n k is) stood.own
     by false is before = stood.others k is (before (grind (arith, nat_tests, is, less)))
 
 -- All apps.
+pub all_ends : (script : RunScript) (old new : Run) → length new.apps ≡ length script → AllStand script (length script) old new → (k : ℕ)
+    → k < length script → Ends script k new.apps new.entries new.driver
+all_ends script old new as_many all k less =
+    let many = all_many script (length script) old new all in all_end script (length script) old new (omega (arith, many, as_many)) all k less
+
 pub all_right : (script : RunScript) (old new : Run) → length new.apps ≡ length script → AllStand script (length script) old new → (k : ℕ)
     → k < length script → IsRightEnding (acts_of k script) (ended_at script new.apps new.entries k)
 all_right script old new as_many all k less =
-    let many = all_many script (length script) old new all in
-    ends_right script k new.apps new.entries (all_end script (length script) old new (omega (arith, many, as_many)) all k less)
+    ends_right script k new.apps new.entries new.driver (all_ends script old new as_many all k less)

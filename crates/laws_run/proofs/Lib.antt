@@ -1,4 +1,12 @@
+pub mod Still
+pub mod Alike
+pub mod Halting
+pub mod Waiting
 pub mod Endings
 pub mod Opening
+pub mod Wrote
 pub mod Bytes
 pub mod Reporting
+pub mod Open
+pub mod Drying
+pub mod Completing

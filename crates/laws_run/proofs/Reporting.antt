@@ -50,10 +50,10 @@ module _ (script : RunScript) (driver : DriverState) (end : Sight) (apps : List 
         (subst (λ (es : List Entry). IsRightEnding (acts_of k script) (ended_at script stood.apps es k)) (sym same_entries)
         (all_right script old stood as_many all k less))
 
-    abbrev journal : Journal
+    abbrev pub journal : Journal
     journal = calls_of script bytes entries
 
-    abbrev Account : (ℕ → Connection) → Type 0
+    abbrev pub Account : (ℕ → Connection) → Type 0
     Account opened = IsAccount 1 opened journal entries end.log (slots_of driver)
 
     right_one : (opened : ℕ → Connection) → Account opened → (o : Opened) → (1 ≤ (opened o.id).number) × ((opened o.id).flow ≡ o.flow)
@@ -66,18 +66,21 @@ module _ (script : RunScript) (driver : DriverState) (end : Sight) (apps : List 
     right_all opened account i d less =
         right_one opened account _ (all_opened opened (length script) entries account.flows i d less)
 
+    pub right_with : (opened : ℕ → Connection) → Account opened → (t : Totals) (before after : ℕ) → t.broken ≡ driver.broken
+        → t.counters.overrun ≡ p.device.overrun → t.counters.dropped ≡ 0 → (1 ≤ t.counters.faults → one_more before ≤ after)
+        → IsRightReport script apps entries bytes t opened h before after
+    right_with opened account t before after broken overrun dropped counted = record {
+      played = run.follows;
+      ended = ended;
+      once = account.right.received.once;
+      connections = right_all opened account;
+      totals = record { dropped = dropped; overrun = overrun ∙ none_lost.1; broken = broken ∙ none_lost.0; faults = counted };
+    }
+
+    pub accounted : (opened : ℕ → Connection) × Account opened
+    accounted = run.kept.accounted refl (driver_log end) refl
+
     pub right_report : (opened : ℕ → Connection) × ((t : Totals) (before after : ℕ) → t.broken ≡ driver.broken
         → t.counters.overrun ≡ p.device.overrun → t.counters.dropped ≡ 0 → (1 ≤ t.counters.faults → one_more before ≤ after)
         → IsRightReport script apps entries bytes t opened h before after)
-    right_report =
-        let told = run.kept.accounted refl (driver_log end) refl in
-        let account : Account told.0 = told.1 in (
-          told.0,
-          λ t before after broken overrun dropped counted. record {
-            played = run.follows;
-            ended = ended;
-            once = account.right.received.once;
-            connections = right_all told.0 account;
-            totals = record { dropped = dropped; overrun = overrun ∙ none_lost.1; broken = broken ∙ none_lost.0; faults = counted };
-          },
-        )
+    right_report = (accounted.0, right_with accounted.0 accounted.1)

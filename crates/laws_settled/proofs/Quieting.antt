@@ -106,30 +106,51 @@ told_taken None p stops = λ k is. absurd cc
 told_taken (Some j) None stops = absurd stops
 told_taken (Some j) (Some i) stops = λ k is. subst (λ (x : Known). x.rx.told ≤ x.rx.taken) (same_Some i k is) stops.all_told
 
+-- The filling of a turn that put nothing.
+pub record LastFill (b : Situation) (d : DeviceState) : Type 0 where
+  pub before : DeviceState
+  pub middle : Situation
+  pub filling : Filling
+  pub runs : Runs (filling_of before) middle filling b
+  pub state : d ≡ filling.state
+  pub none : filling.put ≡ 0
+  pub goes_on : filling.state.failed ≡ None
+
+pub last_fill : (size now : ℕ) (s : ProxyState) (a b : Situation) (x : ProxyState × Turn) (t : Turned) → Runs (turn_of size now s) a x b
+    → x.1 ≡ turn.Turned t → t.put ≡ 0 → LastFill b x.0.device
+last_fill size now s a b x t runs answer none =
+    let stage = last_stage size now s a b x runs in
+    let told = says s stage.last t (stage.answer ∙ answer) in
+    let fills = fills_by stage.before stage.last stage.middle b stage.before.state.device.failed refl stage.runs told.0 in
+    record {
+      before = stage.before.state.device;
+      middle = stage.middle;
+      filling = fills.0;
+      runs = fills.1;
+      state = ap (λ (p : ProxyState). p.device) (sym stage.state) ∙ fills.2;
+      none = (let put = fills.3 in let zero = told.1 in omega (arith, put, zero, none));
+      goes_on = ap (λ (d : DeviceState). d.failed) (sym fills.2) ∙ told.0;
+    }
+
+-- One that is over early lacks pages.
+pub fill_lacks : {b : Situation} {d : DeviceState} (last : LastFill b d) → last.filling.over ≡ true → LacksPages last.filling.state b.ring
+fill_lacks {b} {d} last over =
+    let lacks = over_lacks last.before last.middle b last.filling last.runs over last.goes_on in
+    record { chain = lacks.1; taken = told_taken last.middle.ring.known b.ring.known lacks.0 }
+
 module _ (port size now : ℕ) (s : ProxyState) (a b : Situation) (x : ProxyState × Turn) (t : Turned) (runs : Runs (turn_of size now s) a x b)
     (answer : x.1 ≡ turn.Turned t) (none : t.put ≡ 0) (table : IsTable x.0.device.table) where
   abbrev Quiet : DeviceState → Type 0
   Quiet d = OwesNothing (ends_of_state port d) ⊎ LacksPages d b.ring
 
-  by_stage : (stage : LastStage s b x) → Quiet x.0.device
-  by_stage stage =
-      let told = says s stage.last t (stage.answer ∙ answer) in
-      let fills = fills_by stage.before stage.last stage.middle b stage.before.state.device.failed refl stage.runs told.0 in
-      let q : Filling = fills.0 in
-      let device : x.0.device ≡ q.state = ap (λ (p : ProxyState). p.device) (sym stage.state) ∙ fills.2 in
-      let zero : q.put ≡ 0 = omega (arith, fills.3, told.1, none) in
-      let sound : IsTable q.state.table = subst (λ (d : DeviceState). IsTable d.table) device table in
-      subst Quiet (sym device) (by q fills.1 zero sound (ap (λ (d : DeviceState). d.failed) (sym fills.2) ∙ told.0) q.over refl)
-    where
-      by : (q : Filling) → Runs (filling_of stage.before.state.device) stage.middle q b → q.put ≡ 0 → IsTable q.state.table → q.state.failed ≡ None
-          → (o : Bool) → q.over ≡ o → Quiet q.state
-      by q fill zero sound going true over =
-          let lacks = over_lacks stage.before.state.device stage.middle b q fill over going in
-          inr (record { chain = lacks.1; taken = told_taken stage.middle.ring.known b.ring.known lacks.0 })
-      by q fill zero sound going false over = inl (stage_owes_none port stage.before.state.device stage.middle b q fill zero over sound)
+  by_fill : (last : LastFill b x.0.device) (o : Bool) → last.filling.over ≡ o → Quiet x.0.device
+  by_fill last true over = subst Quiet (sym last.state) (inr (fill_lacks last over))
+  by_fill last false over =
+      subst Quiet (sym last.state) (inl (stage_owes_none port last.before last.middle b last.filling last.runs last.none over
+      (subst (λ (d : DeviceState). IsTable d.table) last.state table)))
 
   pub turn_owes_none : Quiet x.0.device
-  turn_owes_none = by_stage (last_stage size now s a b x runs)
+  turn_owes_none = let last = last_fill size now s a b x t runs answer none in by_fill last last.filling.over refl
 
 -- It left the ring sound.
 pub turn_sound : (size now : ℕ) (s : ProxyState) (a b : Situation) (x : ProxyState × Turn) (t : Turned) → Runs (turn_of size now s) a x b

@@ -1,5 +1,5 @@
 -- What a run of apps ends in.
-use Rattle.std.specs.{Prelude.{◌≡◌, ℕ, length}, Option.ForSome}
+use Rattle.std.specs.{Prelude.{◌≡◌, ℕ, length, Some}, Option.ForSome}
 use Rattle.vs_flow.specs.Connection.{Connection}
 use Rattle.vs_limits.specs.declared.TheConstants.{FIRST_CID}
 use Rattle.vs_driver_parts.specs.Connections.{table_shown as guest_shown}
@@ -13,6 +13,7 @@ use Rattle.vs_apps.specs.Guests.{GuestsState, run_in}
 use Rattle.vs_settle.specs.Rounds.{LastRound}
 use Rattle.vs_report.specs.declared.giving.Totals.{Totals}
 use Rattle.vs_run_report.specs.Right.{IsRightReport}
+use Rattle.laws_run.specs.{Complete.IsCompleteRun, Dry.IsToldDry, Dry.reads_under}
 use Rattle.vs_run_apps.specs.Sides.{SideState, around}
 
 -- What the report of a run counts.
@@ -24,18 +25,21 @@ totals_of g p = record {
   broken = g.driver.broken;
 }
 
--- Where the host exposes its streams, none of which had a label when the run began, the report is right.
+-- Where the host exposes its streams, none of which had a label when the run began, the report is right, and the run is complete.
 abbrev pub HasRightReport : RunScript → Start → GuestsState → SideState → Type 0
 HasRightReport script start g s =
     ForSome start.contents IsUnlabelled → ForSome s.contents (λ h.
-    (opened : ℕ → Connection) × IsRightReport script g.apps g.entries g.bytes (totals_of g s.proxy) opened h start.faults s.faults)
+    (opened : ℕ → Connection) × IsRightReport script g.apps g.entries g.bytes (totals_of g s.proxy) opened h start.faults s.faults
+    × IsCompleteRun script g.apps g.entries g.bytes (totals_of g s.proxy) opened h)
 
--- The journal is that of a run of the script; both ends are at rest; in the last round nothing moved, and each app was done or waited; and so many
--- packets and events were put and got. The proxy is steady, and came from where the run began; so the report is right.
+-- The journal is that of a run of the script; both ends are at rest; in the last round nothing moved, and each app was done or waited; the stream of
+-- each connection that may read it, and has credit, has nothing to be taken; and so many packets and events were put and got. The proxy is steady, and
+-- came from where the run began; so the report is right.
 pub record HasRun (script : RunScript) (start : Start) (g : GuestsState) (s : SideState) (met : Met) : Type 0 where
   pub run : IsRunOf FIRST_CID script (run_in g)
   pub rest : IsSettled g.driver g.end s.proxy s.ring
   pub last : LastRound script g s.proxy s.ring s.contents s.faults
+  pub reads : (slot id : ℕ) → reads_under slot s.proxy.device.table ≡ Some id → IsToldDry id s.contents
   pub numbers : met ≡ met_between g.end.log s.ring.sight.log
   pub steady : IsSteady s.proxy (around s)
   pub begun : IsBegun start s.proxy (around s)

@@ -17,7 +17,7 @@ use vs_apps::guests::{Guests, RunName, laws_of_guests};
 use vs_apps::threads::{OutOfMemory, run_all};
 use vs_outside::{Clock, Gate, HostNet};
 use vs_proxy::Proxy;
-use vs_ring_shared::{DeviceEnd, Met, NewRings};
+use vs_ring_shared::{DeviceEnd, Met, NewRings, laws_of_device_end};
 use vs_script::App;
 use vs_settle::settling::settle;
 
@@ -50,6 +50,7 @@ fn settled<W: Wait, N: StartName, H: HostNet, C: Clock>(
         return Err(OutOfMemory);
     };
     laws_of_guests(&guests);
+    laws_of_device_end(&ring);
     Ok(Ran {
         guests,
         proxy,

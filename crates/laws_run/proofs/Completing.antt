@@ -1,0 +1,297 @@
+-- From what a run ends in to a complete report.
+use Rattle.std.proofs.Common.{◌≡◌, ◌+◌, ◌<◌, ◌≤◌, ◌==◌, ◌||◌, ◌&&◌, inl, inr, ℕ, suc, Bool, true, false, cond, List, [], ◌∷◌, ◌++◌, Option, Some, None, length, map}
+use Rattle.std.proofs.Common.{Contains, slice_index_or, refl, sym, ap, subst, ◌∙◌, arith, append-nil}
+use Rattle.std.proofs.lemmas.{Bool.and_parts, Bool.Decides.nat_tests, Bool.eqb-true, Grind.common_steps, List.Elements.All-contains, List.length-map, Option.slice_get_read}
+use Rattle.std.specs.{List.AllPairs, Option.option_map, Option.unwrap_or, Prelude.not}
+use Rattle.vs_flow.specs.{Connection.Connection, Flow.same_flow, Table.IsTable, Table.entry_under, Table.value_under, declared.flow.Flow.Flow}
+use Rattle.vs_conn.specs.{End.ConnectionEnd, declared.end.State.{State, TheVariants.Ended, TheVariants.Live}}
+use Rattle.vs_limits.specs.declared.TheConstants.{FIRST_CID}
+use Rattle.vs_outside.specs.{Faults.one_more, Host.HostContents, HostBytes.host_wrote}
+use Rattle.vs_page.specs.{Fair.current, Fair.number_of, Fair.payload_got, Log.Device, Log.Driver}
+use Rattle.vs_ring_shared.specs.Sights.{DeviceSight, Sight, device_contents, device_log, driver_contents, driver_log}
+use Rattle.vs_driver_parts.specs.{Connections.is_at_end, Connections.table_shown as guest_shown, State.DriverEntry, State.DriverState, State.entry_known_as, State.is_known_as}
+use Rattle.vs_driver_parts.specs.declared.answers.Polled.{Polled}
+use Rattle.vs_device_parts.specs.{Playing.situation, State.DeviceEntry, Turns.table_shown as device_shown}
+use Rattle.vs_proxy_parts.specs.State.{ProxyState}
+use Rattle.laws_tables.{specs.Ends.ends_of, proofs.Slots.found_by, proofs.Slots.one_end}
+use Rattle.vs_page.proofs.Flows.{same_is}
+use Rattle.laws_driver.specs.Honest.{IsFitEntry, end_in as driver_end, slots_of}
+use Rattle.laws_device.specs.Honest.{end_in as device_end}
+use Rattle.laws_bytes.specs.Drains.{receives}
+use Rattle.laws_driver_bytes.specs.{Calls.Journal, Calls.received_by, Received.ReceivesOn, Calls.account_of}
+use Rattle.laws_proxy.specs.Honest.{IsProxyStreamed}
+use Rattle.laws_rest.{specs.Rest.ArePaired, proofs.Quiet.in_list, proofs.Waiting.credit_there}
+use Rattle.vs_credit.specs.Credit.{free_of, unread_of}
+use Rattle.vs_conn.specs.declared.shut.Shut.{Shut}
+use Rattle.vs_device_parts.specs.Receiving.{may_read}
+use Rattle.vs_flow.proofs.Entries.{found_at}
+use Rattle.laws_settled.specs.Settled.{IsSettled, IsSteady}
+use Rattle.vs_apps_parts.specs.{Journals.calls_of, Scripts.{RunScript, acts_of, id_of}, declared.{journal.Entry.Entry, journal.WaitsFor.WaitsFor, progress.AppState.AppState}}
+use Rattle.vs_apps_parts.specs.declared.journal.WaitsFor.TheVariants as waits
+use Rattle.laws_apps.specs.{Accounts.{HasOne, IsAccount}, Calls.run_with, Rounds.AllStand, Runs.IsRunOf, Runs.PollsTo, Runs.Run, Runs.poll_moved}
+use Rattle.vs_report.specs.declared.giving.Totals.{Totals}
+use Rattle.vs_run_report.specs.{Endings.ending_at, Endings.state_at, Endings.why_at, Report.ended_at, Right.IsRightReport, declared.ending.Ending.Ending}
+use Rattle.vs_run_report.specs.declared.ending.Ending.TheVariants as ending
+use Rattle.laws_run.specs.Complete.{IsAtOpen, IsCompleteEnding, IsCompleteRun, IsCompleteWait, open_labels}
+use Rattle.laws_device.specs.Streams.{has_open_stream}
+use Rattle.laws_run.specs.Dry.{AreDry, IsDryAt, reads_of, reads_under}
+use Rattle.laws_run.proofs.{Alike.AreApart, Alike.HasApart, Alike.Leaves, Alike.leaves_core, Endings.Ends, Wrote.is_first, Wrote.streamed, Wrote.wrote_there}
+use Rattle.laws_run.proofs.{Endings.all_ends, Endings.ends_on, Halting.Halts, Open.among_entry, Open.among_open, Open.as_many_open, Open.one_dry, Reporting.accounted, Reporting.once, Reporting.right_with}
+use Rattle.laws_run.proofs.{Still.poll_still, Waiting.credit_call, Waiting.empty_call, Waiting.not_open, Waiting.recv_id, Waiting.send_id}
+
+-- The slots of a table are apart.
+listed_below : (slot : ℕ) (es : List DriverEntry) → ((k : ℕ) (d : DriverEntry) → k < length es → slot < (slice_index_or es k d).slot)
+    → in_list slot (map (λ e. e.slot) es) ≡ false
+listed_below slot [] below = refl
+listed_below slot (e ∷ es) below =
+    let first = below 0 e (omega arith) in
+    let rest = listed_below slot es (λ k d less. below (suc k) d (omega (arith, less))) in grind (arith, first, rest)
+
+slots_apart : (es : List DriverEntry) → AllPairs (λ d e. d.slot < e.slot) es → AreApart (map (λ e. e.slot) es)
+slots_apart [] rising = tt
+slots_apart (e ∷ es) rising = (
+  listed_below e.slot es (λ k d less. rising 0 (suc k) d (omega arith) (omega (arith, less))),
+  slots_apart es (λ i j d before within. rising (suc i) (suc j) d (omega (arith, before)) (omega (arith, within))),
+)
+
+module _ (script : RunScript) (driver : DriverState) (end : Sight) (apps : List AppState) (entries : List Entry) (bytes : List ℕ) (p : ProxyState)
+    (e : DeviceSight) (h : HostContents) (faults : ℕ)
+    (run : IsRunOf FIRST_CID script (run_with driver (driver_contents end) apps entries bytes)) (settled : IsSettled driver end p e)
+    (steady : IsSteady p (situation (device_contents e) (Some h) faults)) (old stood : Run) (all : AllStand script (length script) old stood)
+    (same_apps : apps ≡ stood.apps) (same_entries : entries ≡ stood.entries) (polled : Polled) (told past : Run) (heard : told.driver ≡ stood.driver)
+    (polls : PollsTo polled told past) (still : poll_moved polled ≡ false) (same_driver : driver ≡ past.driver)
+    (streams : IsProxyStreamed FIRST_CID p (situation (device_contents e) (Some h) faults))
+    (reads : (slot id : ℕ) → reads_under slot p.device.table ≡ Some id → IsDryAt id h) where
+  abbrev journal : Journal
+  journal = calls_of script bytes entries
+
+  one : (f : Flow) → number_of Device f e.sight.log ≤ 1
+  one = once script driver end apps entries bytes p e h faults run settled steady
+
+  apart : HasApart driver
+  apart = slots_apart driver.table.entries (run.kept.honest refl (driver_log end) refl).fits.sound.rising
+
+  -- Each app is done, or the driver as it is at the end answers its next call so that it waits.
+  ends : (k : ℕ) → k < length script → Ends script k apps entries driver
+  ends k less =
+      let as_many : length stood.apps ≡ length script = ap (λ (xs : List AppState). length xs) (sym same_apps) ∙ run.apps in
+      let last = all_ends script old stood as_many all k less in
+      let leaves = leaves_core told.driver past.driver (poll_still told.driver past.driver told.ring past.ring polled polls.polls still) in
+      let then = ends_on script k stood.apps stood.entries stood.driver past.driver (subst (λ (d : DriverState). Leaves d past.driver) heard leaves) last in
+      subst (λ (d : DriverState). Ends script k apps entries d) (sym same_driver)
+      (subst (λ (xs : List AppState). Ends script k xs entries past.driver) (sym same_apps)
+      (subst (λ (es : List Entry). Ends script k stood.apps es past.driver) (sym same_entries) then))
+
+  -- A connection that an app knows is in the table, and Live.
+  contained : (id : ℕ) (x : DriverEntry) → entry_known_as id driver ≡ Some x → Contains driver.table.entries x × (is_known_as id x ≡ true)
+  contained id x at = found_by (is_known_as id) driver.table.entries x at
+
+  live : (x : DriverEntry) → Contains driver.table.entries x → x.value.end.state ≡ Live
+  live x within =
+      let fits = (run.kept.honest refl (driver_log end) refl).fits in
+      let fit = All-contains IsFitEntry driver.table.entries x fits.entries within in
+      (settled.paired Driver x.flow x.value.end fit.peer (one_end driver_end driver.table x fits.sound within)).2.here.live
+
+  -- Both tables.
+  device_fits : IsTable p.device.table
+  device_fits = ((steady.order.ring.1.1 (device_log e) refl).1 refl).fits.sound
+
+  still_open : (x : DeviceEntry) → Contains p.device.table.entries x → x.value.closed ≡ false
+  still_open x within = by x.value.closed refl
+    where
+      there : value_under p.device.table x.slot ≡ Some x.value
+      there =
+          ap (option_map (λ (y : DeviceEntry). y.value))
+          (found_at p.device.table.entries within.0 x device_fits.rising
+          (slice_get_read p.device.table.entries (length p.device.table.entries) within.0 x refl within.1 (sym within.2)))
+
+      alive : x.value.end.state ≡ Live
+      alive =
+          let peer = settled.with_host Device x.flow (among_entry device_end p.device.table.entries x within) in
+          (settled.paired Device x.flow x.value.end peer (one_end device_end p.device.table x device_fits within)).2.here.live
+
+      by : (b : Bool) → x.value.closed ≡ b → x.value.closed ≡ false
+      by false other = other
+      by true closed =
+          let over = (steady.order.streams h refl).over x.slot x.value there closed in
+          let no : Ended ≡ Live = sym over ∙ alive in absurd cc
+
+  device_open : length (device_shown p.device) ≡ length (open_labels h)
+  device_open =
+      length-map p.device.table.entries (λ x. (x.flow, x.value.end.state))
+      ∙ as_many_open h e.sight.log p.next_port p.device.table p.handshakes
+      (streamed driver end p e settled one h faults streams) device_fits still_open
+
+  guest_open : length (guest_shown driver) ≡ length (open_labels h)
+  guest_open =
+      length-map driver.table.entries (λ x. (x.flow, x.value.end.state))
+      ∙ sym (length-map driver.table.entries (λ (x : DriverEntry). record { flow = x.flow; end = driver_end x.value })) ∙ settled.as_many
+      ∙ length-map p.device.table.entries (λ (x : DeviceEntry). record { flow = x.flow; end = device_end x.value })
+      ∙ sym (length-map p.device.table.entries (λ x. (x.flow, x.value.end.state))) ∙ device_open
+
+  -- The flow of a connection of the driver's has an open stream.
+  flow_open : (x : DriverEntry) → Contains driver.table.entries x → has_open_stream x.flow h ≡ true
+  flow_open x within =
+      let fit = All-contains IsFitEntry driver.table.entries x (run.kept.honest refl (driver_log end) refl).fits.entries within in
+      among_open h e.sight.log p.next_port p.device.table p.handshakes (streamed driver end p e settled one h faults streams) device_fits still_open x.flow
+      (sym (settled.same_flows x.flow fit.peer) ∙ among_entry driver_end driver.table.entries x within)
+
+  -- A connection of the driver's is one of the device's too.
+  record AtDevice (x : DriverEntry) : Type 0 where
+    entry : DeviceEntry
+    within : Contains p.device.table.entries entry
+    flow : x.flow ≡ entry.flow
+    paired : ArePaired x.value.end entry.value.end
+
+  device_entry : (f : Flow) (v : ConnectionEnd) (es : List DeviceEntry)
+      → ends_of f (map (λ (y : DeviceEntry). record { flow = y.flow; end = device_end y.value }) es) ≡ v ∷ []
+      → (y : DeviceEntry) × Contains es y × (f ≡ y.flow) × (y.value.end ≡ v)
+  device_entry f v [] is = absurd cc
+  device_entry f v (y ∷ es) is = by (same_flow f y.flow) refl is (device_entry f v es)
+    where
+      by : (b : Bool) → same_flow f y.flow ≡ b
+          → cond b (y.value.end ∷ ends_of f (map (λ (z : DeviceEntry). record { flow = z.flow; end = device_end z.value }) es))
+          (ends_of f (map (λ (z : DeviceEntry). record { flow = z.flow; end = device_end z.value }) es)) ≡ v ∷ []
+          → (ends_of f (map (λ (z : DeviceEntry). record { flow = z.flow; end = device_end z.value }) es) ≡ v ∷ []
+          → (z : DeviceEntry) × Contains es z × (f ≡ z.flow) × (z.value.end ≡ v))
+          → (z : DeviceEntry) × Contains (y ∷ es) z × (f ≡ z.flow) × (z.value.end ≡ v)
+      by true same is rest = (y, (0, omega arith, refl), same_is f y.flow same, cc)
+      by false other is rest =
+          let r = rest is in
+          let less = r.1.1 in (r.0, (suc r.1.0, omega (arith, less), r.1.2), r.2, r.3)
+
+  at_device : (x : DriverEntry) → Contains driver.table.entries x → AtDevice x
+  at_device x within =
+      let fits = (run.kept.honest refl (driver_log end) refl).fits in
+      let fit = All-contains IsFitEntry driver.table.entries x fits.entries within in
+      let pair = settled.paired Driver x.flow x.value.end fit.peer (one_end driver_end driver.table x fits.sound within) in
+      let there = device_entry x.flow pair.0 p.device.table.entries pair.1 in
+      record { entry = there.0; within = there.1; flow = there.2; paired = subst (λ (v : ConnectionEnd). ArePaired x.value.end v) (sym there.3) pair.2 }
+
+  -- That one reads its stream, where nothing is unread at the driver, though more may come.
+  neither : (a b : Bool) → (a || b) ≡ false → (a ≡ false) × (b ≡ false)
+  neither = grind (arith, common_steps)
+
+  not_none : (n : ℕ) → 32769 ≤ n → (n == 0) ≡ false
+  not_none n least = grind (arith, nat_tests, least)
+
+  may_read_live : (v : ConnectionEnd) → v.state ≡ Live → v.peer.receive ≡ false → v.own.send ≡ false → may_read v v.state ≡ true
+  may_read_live v live receive send =
+      ap (λ (st : State). may_read v st) live ∙ ap (λ (b : Bool). not b && not v.own.send) receive ∙ ap (λ (b : Bool). not b) send
+
+  reads_there : (x : DriverEntry) → Contains driver.table.entries x → x.value.unread ≡ [] → is_at_end x.value.end ≡ false → (at : AtDevice x)
+      → reads_of at.entry ≡ Some at.entry.value.stream
+  reads_there x within unread more at =
+      let v : ConnectionEnd = at.entry.value.end in
+      let fit = All-contains IsFitEntry driver.table.entries x (run.kept.honest refl (driver_log end) refl).fits.entries within in
+      let none : unread_of x.value.end.credit ≡ 0 = sym fit.buffer.unread ∙ ap (λ (bs : List ℕ). length bs) unread in
+      let shut = neither x.value.end.peer.send x.value.end.own.receive more in
+      let least = credit_there x.value.end v at.paired none (ap (λ (b : Bool). b && x.value.end.own.send) shut.1) in
+      let may : may_read v v.state ≡ true =
+      may_read_live v at.paired.there.live (ap (λ (s : Shut). s.receive) at.paired.there.peer ∙ shut.1)
+      (ap (λ (s : Shut). s.send) (sym at.paired.here.peer) ∙ shut.0) in
+      ap (λ (b : Bool). cond (b && not (free_of v.credit == 0)) (Some at.entry.value.stream) None) may
+      ∙ ap (λ (b : Bool). cond (not b) (Some at.entry.value.stream) None) (not_none (free_of v.credit) least)
+
+  all_dry : (x : DriverEntry) → Contains driver.table.entries x → x.value.unread ≡ [] → is_at_end x.value.end ≡ false → AreDry x.flow h
+  all_dry x within unread more =
+      let at = at_device x within in
+      let y = at.entry in
+      let under : entry_under p.device.table y.slot ≡ Some y =
+      found_at p.device.table.entries at.within.0 y device_fits.rising
+      (slice_get_read p.device.table.entries (length p.device.table.entries) at.within.0 y refl at.within.1 (sym at.within.2)) in
+      let dry = reads y.slot y.value.stream
+      (ap (λ (o : Option DeviceEntry). elim o as (λ _. Option ℕ) [ None ↦ None | Some z ↦ reads_of z ]) under ∙ reads_there x within unread more at) in
+      subst (λ (f : Flow). AreDry f h) (sym at.flow)
+      (one_dry h e.sight.log p.next_port p.device.table p.handshakes (streamed driver end p e settled one h faults streams) y at.within dry)
+
+  -- One that is known by an id, on which nothing is unread.
+  module _ (opened : ℕ → Connection) (account : IsAccount 1 opened journal entries end.log (slots_of driver)) where
+    all_received : (id : ℕ) (x : DriverEntry) → Contains driver.table.entries x → x.value.id ≡ id → x.value.unread ≡ [] → receives x.value.end ≡ true
+        → received_by id journal ≡ host_wrote (opened id) h
+    all_received id x within named unread gets =
+        let on = All-contains (ReceivesOn (account_of 1 opened journal) end.log) driver.table.entries x account.right.received.held within in
+        let present : opened id ≡ current Driver x.flow end.log = subst (λ (i : ℕ). opened i ≡ current Driver x.flow end.log) named on.present in
+        let has : HasOne opened id (Some x.flow) =
+        (subst (λ (c : Connection). 1 ≤ c.number) (sym present) on.some, ap (λ (c : Connection). c.flow) present) in
+        let first = is_first driver end p e settled one h faults streams (opened id) x.flow has.0 (account.right.received.passed id) has.1 in
+        let came : received_by x.value.id journal ++ x.value.unread ≡ payload_got Driver (current Driver x.flow end.log) end.log = on.drains.whole gets in
+        subst (λ (i : ℕ). received_by id journal ≡ received_by i journal) (sym named) refl
+        ∙ sym (append-nil (received_by x.value.id journal)) ∙ ap (λ (bs : List ℕ). received_by x.value.id journal ++ bs) (sym unread) ∙ came
+        ∙ ap (λ (c : Connection). payload_got Driver c end.log) (sym present ∙ first)
+        ∙ wrote_there driver end p e settled one h faults streams x.flow
+        ∙ ap (λ (c : Connection). host_wrote c h) (sym first)
+
+    -- No connection has the id 0.
+    id_some : (x : DriverEntry) → Contains driver.table.entries x → 1 ≤ x.value.id
+    id_some x within =
+        let is = All-contains (λ (y : DriverEntry). y.value.id ≡ 1 + y.slot) driver.table.entries x account.right.received.numbers.slots within in omega (arith, is)
+
+    conn_of : (o : Option ℕ) (id : ℕ) → unwrap_or o 0 ≡ id → 1 ≤ id → o ≡ Some id
+    conn_of None id is some = absurd (omega (arith, is, some))
+    conn_of (Some n) id is some = ap (λ (m : ℕ). let q : Option ℕ = Some m in q) is
+
+    flow_of_id : (id : ℕ) (x : DriverEntry) → Contains driver.table.entries x → x.value.id ≡ id → (opened id).flow ≡ x.flow
+    flow_of_id id x within named =
+        let on = All-contains (ReceivesOn (account_of 1 opened journal) end.log) driver.table.entries x account.right.received.held within in
+        ap (λ (i : ℕ). (opened i).flow) (sym named) ∙ ap (λ (c : Connection). c.flow) on.present
+
+    -- It has an open stream.
+    at_open : (k id : ℕ) (x : DriverEntry) → Contains driver.table.entries x → x.value.id ≡ id → id_of (state_at k apps).progress ≡ id
+        → IsAtOpen opened h (state_at k apps).progress.conn id
+    at_open k id x within named own =
+        let flow = flow_of_id id x within named in (
+          conn_of (state_at k apps).progress.conn id own (subst (λ (i : ℕ). 1 ≤ i) named (id_some x within)),
+          ap (λ (f : Flow). has_open_stream f h) flow ∙ flow_open x within,
+        )
+
+    wait_complete : (k : ℕ) (why : WaitsFor) → Halts (acts_of k script) (state_at k apps).progress why driver
+        → IsCompleteWait opened journal h (state_at k apps).progress.conn why
+    wait_complete k waits.Full halts = tt
+    wait_complete k (waits.NoDescriptor n) halts = tt
+    wait_complete k (waits.NoCredit tx alloc fwd) halts =
+        let is = credit_call halts.call driver tx alloc fwd (halts.stops apart) in
+        let x = is.says.entry in
+        let found = contained is.id x is.says.there in
+        let named : x.value.id ≡ is.id = eqb-true x.value.id is.id (and_parts (x.value.id == is.id) (not x.value.closed) found.1).0 in
+        let own : id_of (state_at k apps).progress ≡ is.id = send_id halts.act (state_at k apps).progress is.id is.bytes (halts.last ∙ ap (λ c. Some c) is.call) in
+        (is.id, at_open k is.id x found.0 named own)
+    wait_complete k waits.NoneWaiting halts = tt
+    wait_complete k waits.NotOpen halts =
+        let no = not_open halts.call driver (halts.stops apart) in absurd (no.state (live no.entry (contained no.id no.entry no.there).0))
+    wait_complete k waits.Empty halts =
+        let is = empty_call halts.call driver (halts.stops apart) in
+        let x = is.none.entry in
+        let found = contained is.id x is.none.there in
+        let named : x.value.id ≡ is.id = eqb-true x.value.id is.id (and_parts (x.value.id == is.id) (not x.value.closed) found.1).0 in
+        let own : id_of (state_at k apps).progress ≡ is.id = recv_id halts.act (state_at k apps).progress is.id is.n (halts.last ∙ ap (λ c. Some c) is.call) in (
+          is.id,
+          at_open k is.id x found.0 named own,
+          all_received is.id x found.0 named is.none.unread is.none.receives,
+          subst (λ (f : Flow). AreDry f h) (sym (flow_of_id is.id x found.0 named)) (all_dry x found.0 is.none.unread is.none.more),
+        )
+
+    ending_complete : (k : ℕ) → Ends script k apps entries driver
+        → IsCompleteEnding opened journal h (state_at k apps).progress.conn (ended_at script apps entries k)
+    ending_complete k (inl done) =
+        subst (λ (b : Bool). IsCompleteEnding opened journal h (state_at k apps).progress.conn
+        (cond b (ending_at ((state_at k apps).progress.at + 1) (why_at (state_at k apps).waiting entries)) ending.Done)) (sym done) tt
+    ending_complete k (inr rests) =
+        subst (λ (x : Ending). IsCompleteEnding opened journal h (state_at k apps).progress.conn x) (sym rests.ended) (wait_complete k rests.why rests.halts)
+
+  -- The report, with all that is so of it.
+  pub complete_report : (opened : ℕ → Connection)
+      × ((t : Totals) (before after : ℕ) → t.broken ≡ driver.broken → t.counters.overrun ≡ p.device.overrun → t.counters.dropped ≡ 0
+      → (1 ≤ t.counters.faults → one_more before ≤ after) → IsRightReport script apps entries bytes t opened h before after)
+      × ((t : Totals) → t.guest_open ≡ length (guest_shown driver) → t.device_open ≡ length (device_shown p.device)
+      → IsCompleteRun script apps entries bytes t opened h)
+  complete_report =
+      let told = accounted script driver end apps entries bytes p e h faults run settled steady old stood all same_apps same_entries streams in (
+        told.0,
+        right_with script driver end apps entries bytes p e h faults run settled steady old stood all same_apps same_entries streams told.0 told.1,
+        λ t guest device. record {
+          guest_open = guest ∙ guest_open;
+          device_open = device ∙ device_open;
+          waits = λ k less. ending_complete told.0 told.1 k (ends k less);
+        },
+      )

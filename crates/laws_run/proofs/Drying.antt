@@ -1,0 +1,627 @@
+-- A stage of filling that puts nothing read each stream that may be read, and each gave Again.
+use Rattle.std.proofs.Common.{slice_get, slice_set, ◌-◌, ◌⊎◌, inl, inr}
+use Rattle.std.proofs.Common.{◌≡◌, ◌≢◌, ◌≤◌, ◌+◌, ◌==◌, ◌&&◌, ◌||◌, not, ℕ, zero, suc, Bool, true, false, cond, List, [], ◌∷◌, ◌++◌, length, Option, Some, None, refl, sym, ap, subst, ◌∙◌, arith}
+use Rattle.std.proofs.lemmas.{Bool.eq-eqb, Bool.eqb-true, Grind.common_steps, Option.same_Some}
+use Rattle.std.specs.{Option.option_map, Option.option_map_or, Prelude.{filter, min, nat_le, nat_lt}}
+use Rattle.vs_contents.specs.{CallTree.Ask, CallTree.Done, CallTree.bind, CallTree.for_each, CallTree.while_up_to, Contents.Exposes}
+use Rattle.vs_conn.specs.{End.ConnectionEnd, End.owes_of, End.wanting_credit, Headers.owed_header, Headers.payload_header, End.with_payload_sent, End.with_shut}
+use Rattle.vs_conn.specs.declared.end.{Owed.Owed, State.State, State.TheVariants.{Answering, Asked, Ended, Live}, TheConstants.OWED_MAX}
+use Rattle.vs_credit.specs.Credit.{free_of}
+use Rattle.vs_flow.specs.Table.{Table, entry_under, revalued, slots, with_value}
+use Rattle.vs_flow.proofs.Lookups.{entry_under-with_value}
+use Rattle.vs_header.specs.declared.Header.{Header}
+use Rattle.vs_outside.specs.{Host.{HostContents, Stream, after_close, after_read, fails_now, read_failed, read_of, stream_at}, declared.host_net.StreamRead.StreamRead}
+use Rattle.vs_outside.specs.declared.host_net.StreamRead.TheVariants as read
+use Rattle.vs_outside.specs.declared.host_net.StreamState.TheVariants as state
+use Rattle.vs_outside.proofs.Frames.{others-after_close, stream_at-with_stream}
+use Rattle.vs_replies.specs.declared.Reply.{Reply}
+use Rattle.vs_ring_port.specs.{Contents.Take, declared.device_ring.Chain.Chain, declared.device_ring.Next.Next, declared.queue.Queue.TheVariants.Rx}
+use Rattle.vs_ring_port.specs.declared.device_ring.Next.TheVariants as next
+use Rattle.vs_device_parts.specs.{Calls.{Allows, Answer, CloseStream, DeviceTree, HostMoves, IsReadOf, ReadStream, Ring, Situation}, Connections.{after_shut, cut_off}}
+use Rattle.vs_device_parts.specs.{Connections.{route_to_guest, with_connection, with_fault}, Playing.Runs, Receiving.{Filling, after_paying, hold, holding, may_read}}
+use Rattle.vs_device_parts.specs.Receiving.{put_on, put_owed, put_packet, put_reply, put_reply_of, read_answered, read_room, read_stream, read_with_chain}
+use Rattle.vs_device_parts.specs.{Receiving.{reply_header, round_from, serve_slot, written}, State.{DeviceConnection, DeviceEntry, DeviceState}, Steps.filling, Streams.closing}
+use Rattle.vs_device_parts.proofs.Under.{has_slot}
+use Rattle.laws_device_streams.specs.Waiting.{filling_of}
+use Rattle.laws_device_walk.proofs.Keeping.{Asking, Keeps, keeps_then}
+use Rattle.laws_device.specs.Honest.{end_in}
+use Rattle.laws_rest.proofs.{Owing.listed, Owing.same_slots, Quiet.in_list}
+use Rattle.vs_proxy_parts.specs.{State.ProxyState, Turns.turn_of, declared.answers.Turn.Turn, declared.answers.Turned.Turned}
+use Rattle.vs_proxy_parts.specs.declared.answers.Turn.TheVariants as turn
+use Rattle.laws_settled.{specs.Settled.LacksPages, proofs.Quieting.LastFill, proofs.Quieting.fill_lacks, proofs.Quieting.last_fill}
+use Rattle.laws_run.specs.Dry.{IsDry, IsDryAt, IsToldDry, reads_of, reads_under}
+
+-- Whatever ring and host answer.
+abbrev allowed : Asking Situation
+allowed = record {
+  asks = λ call c P. (a : Answer call) (d : Situation) → Allows call a c d → P a d;
+  weaker = λ call c P R weaker asks a d made. weaker a d (asks a d made);
+}
+
+keeps_run : {A : Type 0} (Q : A → Situation → Type 0) (tree : DeviceTree A) (c d : Situation) (x : A) → Keeps allowed Q tree c → Runs tree c x d → Q x d
+keeps_run Q (Done y) c d x keeps runs = subst (λ z. Q z d) runs.0 (subst (λ (e : Situation). Q y e) runs.1 keeps)
+keeps_run Q (Ask call k) c d x keeps runs = keeps_run Q (k runs.0) runs.1 d x (keeps runs.0 runs.1 runs.2) runs.3
+
+keeps_weaker : {A : Type 0} (Q R : A → Situation → Type 0) → ((x : A) (d : Situation) → Q x d → R x d) → (tree : DeviceTree A) (c : Situation)
+    → Keeps allowed Q tree c → Keeps allowed R tree c
+keeps_weaker Q R weaker (Done x) c keeps = weaker x c keeps
+keeps_weaker Q R weaker (Ask call k) c keeps = λ a d made. keeps_weaker Q R weaker (k a) d (keeps a d made)
+
+keeps_any : {A : Type 0} (Q : A → Situation → Type 0) → ((x : A) (d : Situation) → Q x d) → (tree : DeviceTree A) (c : Situation) → Keeps allowed Q tree c
+keeps_any Q all (Done x) c = all x c
+keeps_any Q all (Ask call k) c = λ a d made. keeps_any Q all (k a) d
+
+-- A step of the stage. Where it put nothing and the stage isn't over after it, it wasn't before, and N holds.
+abbrev Relation : Type 1
+Relation = Filling → Situation → Filling → Situation → Type 0
+
+record Step (N : Relation) (r : Filling) (c : Situation) (x : Filling) (d : Situation) : Type 0 where
+  rises : r.put ≤ x.put
+  same : x.put ≡ r.put → x.over ≡ false → (r.over ≡ false) × N r c x d
+
+more : (N : Relation) (r : Filling) (c : Situation) (x : Filling) (d : Situation) → x.put ≡ r.put + 1 → Step N r c x d
+more N r c x d one = record { rises = omega (arith, one); same = λ e o. absurd (omega (arith, one, e)) }
+
+is_over : (N : Relation) (r : Filling) (c : Situation) (x : Filling) (d : Situation) → r.put ≤ x.put → x.over ≡ true → Step N r c x d
+is_over N r c x d least over = record { rises = least; same = λ e o. absurd (let no : true ≡ false = sym over ∙ o in cc) }
+
+one_then : (N M K : Relation) (r : Filling) (c : Situation) (q : Filling) (d : Situation) (x : Filling) (e : Situation)
+    → (N r c q d → M q d x e → K r c x e) → Step N r c q d → Step M q d x e → Step K r c x e
+one_then N M K r c q d x e gives a b = record {
+  rises = (let first = a.rises in let then = b.rises in omega (arith, first, then));
+  same = λ put o.
+      let first = a.rises in
+      let then = b.rises in
+      let second = b.same (omega (arith, first, then, put)) o in
+      let before = a.same (omega (arith, first, then, put)) second.0 in (before.0, gives before.1 second.1);
+}
+
+-- The table and the host stay.
+record Same (r : Filling) (c : Situation) (x : Filling) (d : Situation) : Type 0 where
+  table : x.state.table ≡ r.state.table
+  host : d.host ≡ c.host
+
+still : (r : Filling) (c : Situation) → r.over ≡ false → Step Same r c r c
+still r c on = record { rises = omega arith; same = λ e o. (on, record { table = refl; host = refl }) }
+
+same_then : (r : Filling) (c : Situation) (q : Filling) (d : Situation) (x : Filling) (e : Situation) → Same r c q d → Same q d x e → Same r c x e
+same_then r c q d x e a b = record { table = b.table ∙ a.table; host = b.host ∙ a.host }
+
+-- At most the connection under one slot changes; and that one is dry where it is read.
+record Touches (slot : ℕ) (r : Filling) (c : Situation) (x : Filling) (d : Situation) : Type 0 where
+  slots : slots x.state.table ≡ slots r.state.table
+  others : (n : ℕ) → (n == slot) ≡ false → reads_under n x.state.table ≡ reads_under n r.state.table
+  dry : (id : ℕ) → IsToldDry id c.host → IsToldDry id d.host
+
+abbrev OwnDry : ℕ → Filling → Situation → Type 0
+OwnDry n x d = (id : ℕ) → reads_under n x.state.table ≡ Some id → IsToldDry id d.host
+
+record Serves (slot : ℕ) (r : Filling) (c : Situation) (x : Filling) (d : Situation) : Type 0 where
+  touches : Touches slot r c x d
+  own : OwnDry slot x d
+
+same_touches : (slot : ℕ) (r : Filling) (c : Situation) (x : Filling) (d : Situation) → Same r c x d → Touches slot r c x d
+same_touches slot r c x d same = record {
+  slots = ap (λ (t : Table DeviceConnection). slots t) same.table;
+  others = λ n other. ap (λ (t : Table DeviceConnection). reads_under n t) same.table;
+  dry = λ id is. subst (λ (o : Option HostContents). IsToldDry id o) (sym same.host) is;
+}
+
+serves_then : (slot : ℕ) (r : Filling) (c : Situation) (q : Filling) (d : Situation) (x : Filling) (e : Situation) → Serves slot r c q d → Same q d x e
+    → Serves slot r c x e
+serves_then slot r c q d x e a same = record {
+  touches = record {
+    slots = ap (λ (t : Table DeviceConnection). slots t) same.table ∙ a.touches.slots;
+    others = λ n other. ap (λ (t : Table DeviceConnection). reads_under n t) same.table ∙ a.touches.others n other;
+    dry = λ id is. subst (λ (o : Option HostContents). IsToldDry id o) (sym same.host) (a.touches.dry id is);
+  };
+  own = λ id at. subst (λ (o : Option HostContents). IsToldDry id o) (sym same.host)
+      (a.own id (ap (λ (t : Table DeviceConnection). reads_under slot t) (sym same.table) ∙ at));
+}
+
+then_serves : (slot : ℕ) (r : Filling) (c : Situation) (q : Filling) (d : Situation) (x : Filling) (e : Situation) → Same r c q d → Serves slot q d x e
+    → Serves slot r c x e
+then_serves slot r c q d x e same b = record {
+  touches = record {
+    slots = b.touches.slots ∙ ap (λ (t : Table DeviceConnection). slots t) same.table;
+    others = λ n other. b.touches.others n other ∙ ap (λ (t : Table DeviceConnection). reads_under n t) same.table;
+    dry = λ id is. b.touches.dry id (subst (λ (o : Option HostContents). IsToldDry id o) (sym same.host) is);
+  };
+  own = b.own;
+}
+
+-- A chain is held, or the stage is over.
+record Held (r : Filling) (c : Situation) (q : Filling) (d : Situation) : Type 0 where
+  table : q.state.table ≡ r.state.table
+  step : Step Same r c q d
+  over : q.state.chain ≡ None → q.over ≡ true
+
+held_by : (r : Filling) (c d : Situation) (a : Next) → r.over ≡ false → d.host ≡ c.host → Held r c (holding a r) d
+held_by r c d (next.Chain chain) on host = record {
+  table = refl;
+  step = record { rises = omega arith; same = λ e o. (on, record { table = refl; host = host }) };
+  over = λ none. absurd cc;
+}
+held_by r c d next.None on host = record { table = refl; step = is_over Same r c (holding next.None r) d (omega arith) refl; over = λ none. refl }
+held_by r c d (next.Failed f) on host = record { table = refl; step = is_over Same r c (holding (next.Failed f) r) d (omega arith) refl; over = λ none. refl }
+
+holds : (r : Filling) (c : Situation) → r.over ≡ false → Keeps allowed (λ q d. Held r c q d) (hold r) c
+holds r c on = by r.state.chain refl
+  where
+    by : (o : Option Chain) → r.state.chain ≡ o
+        → Keeps allowed (λ q d. Held r c q d) (elim o as (λ _. DeviceTree Filling) [ Some chain ↦ Done r | None ↦ Ask (Ring (Take Rx)) (λ answer. Done (holding answer r)) ]) c
+    by (Some chain) is = record { table = refl; step = still r c on; over = λ none. absurd (let no : Some chain ≡ None = sym is ∙ none in cc) }
+    by None is = λ a d made. held_by r c d a on made.1
+
+held_none : (N : Relation) (r : Filling) (c : Situation) (q : Filling) (d : Situation) → Held r c q d → q.state.chain ≡ None → Step N r c q d
+held_none N r c q d held none = is_over N r c q d held.step.rises (held.over none)
+
+-- A packet is put, or the stage is over.
+one_put : (chain : Chain) (h : Header) (payload : List ℕ) (q : Filling) (d : Situation)
+    → Keeps allowed (λ p e. p.put ≡ q.put + 1) (put_on chain h payload q) d
+one_put chain h payload q d =
+    keeps_then allowed (λ p e. p.put ≡ q.put + 1) (λ u e. Unit {0}) (written chain h payload)
+    (λ u. Done (record q { state = record q.state { chain = None }; put = q.put + 1 })) d
+    (keeps_any (λ u e. Unit {0}) (λ u e. tt) (written chain h payload) d) (λ u e any. refl)
+
+puts_packet : (N : Relation) (h : Header) (f : DeviceState → DeviceTree DeviceState) (r : Filling) (c : Situation) → r.over ≡ false
+    → Keeps allowed (λ x d. Step N r c x d) (put_packet h f r) c
+puts_packet N h f r c on =
+    keeps_then allowed (λ q d. Step N r c q d) (λ q d. Held r c q d) (hold r)
+    (λ q. elim q.state.chain [
+      | None ↦ Done q
+      | Some chain ↦ bind (put_on chain h [] q) (λ p. bind (f p.state) (λ s. Done (record p { state = s })))
+    ]) c (holds r c on) (λ q d held. by q d held q.state.chain refl)
+  where
+    by : (q : Filling) (d : Situation) → Held r c q d → (o : Option Chain) → q.state.chain ≡ o
+        → Keeps allowed (λ x e. Step N r c x e) (elim o as (λ _. DeviceTree Filling) [
+          | None ↦ Done q
+          | Some chain ↦ bind (put_on chain h [] q) (λ p. bind (f p.state) (λ s. Done (record p { state = s })))
+        ]) d
+    by q d held None is = held_none N r c q d held is
+    by q d held (Some chain) is =
+        keeps_then allowed (λ x e. Step N r c x e) (λ p e. p.put ≡ q.put + 1) (put_on chain h [] q)
+        (λ p. bind (f p.state) (λ s. Done (record p { state = s }))) d (one_put chain h [] q d)
+        (λ p e one. keeps_then allowed (λ x g. Step N r c x g) (λ s g. Unit {0}) (f p.state) (λ s. Done (record p { state = s })) e
+        (keeps_any (λ s g. Unit {0}) (λ s g. tt) (f p.state) e)
+        (λ s g any. let least = held.step.rises in record {
+          rises = omega (arith, least, one);
+          same = λ put o. absurd (omega (arith, least, one, put));
+        }))
+
+-- Steps that leave the table and the host, again and again while the stage goes on.
+abbrev Going : Filling → Situation → Filling × Bool → Situation → Type 0
+Going r c x d = Step Same r c x.0 d × (x.1 ≡ true → x.0.over ≡ false)
+
+stays_while : (step : Filling → DeviceTree (Filling × Bool))
+    → ((r : Filling) (c : Situation) → r.over ≡ false → Keeps allowed (Going r c) (step r) c)
+    → (n : ℕ) (r : Filling) (c : Situation) → r.over ≡ false → Keeps allowed (λ x d. Step Same r c x d) (while_up_to n step r) c
+stays_while step each zero r c on = still r c on
+stays_while step each (suc n) r c on =
+    keeps_then allowed (λ x d. Step Same r c x d) (Going r c) (step r)
+    (λ q. elim q.1 [ true ↦ while_up_to n step q.0 | false ↦ Done q.0 ]) c (each r c on)
+    (λ x d a. by x.0 d x.1 a (λ going. stays_while step each n x.0 d going))
+  where
+    by : (q : Filling) (d : Situation) (b : Bool) → Going r c (q, b) d
+        → (q.over ≡ false → Keeps allowed (λ x e. Step Same q d x e) (while_up_to n step q) d)
+        → Keeps allowed (λ x e. Step Same r c x e) (elim b as (λ _. DeviceTree Filling) [ true ↦ while_up_to n step q | false ↦ Done q ]) d
+    by q d true a rest =
+        keeps_weaker (λ x e. Step Same q d x e) (λ x e. Step Same r c x e) (λ x e b. one_then Same Same Same r c q d x e (same_then r c q d x e) a.0 b)
+        (while_up_to n step q) d (rest (a.1 refl))
+    by q d false a rest = a.0
+
+-- What goes on says so only while the stage isn't over.
+going : (r : Filling) (c : Situation) (q : Filling) (d : Situation) → Step Same r c q d → Going r c (q, not q.over) d
+going r c q d step = (step, λ on. by q.over on)
+  where
+    by : (b : Bool) → not b ≡ true → b ≡ false
+    by true is = absurd cc
+    by false is = refl
+
+puts_going : (h : Header) (f : DeviceState → DeviceTree DeviceState) (r : Filling) (c : Situation) → r.over ≡ false
+    → Keeps allowed (Going r c) (bind (put_packet h f r) (λ q. Done (q, not q.over))) c
+puts_going h f r c on =
+    keeps_then allowed (Going r c) (λ q d. Step Same r c q d) (put_packet h f r) (λ q. Done (q, not q.over)) c (puts_packet Same h f r c on)
+    (λ q d step. going r c q d step)
+
+puts_reply : (rs : List Reply) (r : Filling) (c : Situation) → r.over ≡ false → Keeps allowed (Going r c) (put_reply_of rs r) c
+puts_reply [] r c on = (still r c on, λ no. absurd cc)
+puts_reply (reply ∷ rs) r c on = puts_going (reply_header reply r.state) (λ s. Done (record s { replies = rs })) r c on
+
+puts_owed : (slot : ℕ) (r : Filling) (c : Situation) → r.over ≡ false → Keeps allowed (Going r c) (put_owed slot r) c
+puts_owed slot r c on = by (entry_under r.state.table slot)
+  where
+    owing : (e : DeviceEntry) (w : Option Owed) → Keeps allowed (Going r c) (elim w as (λ _. DeviceTree (Filling × Bool)) [
+      | None ↦ Done (r, false)
+      | Some what ↦
+          bind (put_packet (owed_header e.value.end (route_to_guest r.state.cid e.flow) what) (after_paying what e) r) (λ q. Done (q, not q.over))
+    ]) c
+    owing e None = (still r c on, λ no. absurd cc)
+    owing e (Some what) = puts_going (owed_header e.value.end (route_to_guest r.state.cid e.flow) what) (after_paying what e) r c on
+
+    by : (o : Option DeviceEntry) → Keeps allowed (Going r c) (elim o as (λ _. DeviceTree (Filling × Bool)) [
+      | None ↦ Done (r, false)
+      | Some e ↦ elim (owes_of e.value.end) [
+        | None ↦ Done (r, false)
+        | Some what ↦
+            bind (put_packet (owed_header e.value.end (route_to_guest r.state.cid e.flow) what) (after_paying what e) r) (λ q. Done (q, not q.over))
+      ]
+    ]) c
+    by None = (still r c on, λ no. absurd cc)
+    by (Some e) = owing e (owes_of e.value.end)
+
+-- Another connection under a slot.
+under_other : (t : Table DeviceConnection) (slot n : ℕ) (v : DeviceConnection) → (n == slot) ≡ false → reads_under n (with_value t slot v) ≡ reads_under n t
+under_other t slot n v other =
+    ap (λ (o : Option DeviceEntry). elim o as (λ _. Option ℕ) [ None ↦ None | Some e ↦ reads_of e ]) (entry_under-with_value t slot v n ∙ by (entry_under t n) refl)
+  where
+    kept : (e : DeviceEntry) (b : Bool) → (e.slot == slot) ≡ b → e.slot ≡ n → revalued slot v e ≡ e
+    kept e true is here = absurd (let no : true ≡ false = sym is ∙ ap (λ (m : ℕ). m == slot) here ∙ other in cc)
+    kept e false is here = ap (λ (b : Bool). cond b (record e { value = v }) e) is
+
+    by : (o : Option DeviceEntry) → entry_under t n ≡ o → option_map (revalued slot v) o ≡ o
+    by None at = refl
+    by (Some e) at = ap (λ (x : DeviceEntry). let q : Option DeviceEntry = Some x in q) (kept e (e.slot == slot) refl (has_slot t n e at))
+
+under_own : (t : Table DeviceConnection) (slot : ℕ) (e : DeviceEntry) (v : DeviceConnection) → entry_under t slot ≡ Some e
+    → reads_under slot (with_value t slot v) ≡ reads_of (record e { value = v })
+under_own t slot e v at =
+    ap (λ (o : Option DeviceEntry). elim o as (λ _. Option ℕ) [ None ↦ None | Some x ↦ reads_of x ])
+    (entry_under-with_value t slot v slot ∙ ap (λ (o : Option DeviceEntry). option_map (revalued slot v) o) at)
+    ∙ ap (λ (b : Bool). reads_of (cond b (record e { value = v }) e)) (ap (λ (m : ℕ). m == slot) (has_slot t slot e at) ∙ eq-eqb slot slot refl)
+
+-- A connection that reads nothing is put in the place of another.
+replaces : (slot : ℕ) (e : DeviceEntry) (v : DeviceConnection) (r : Filling) (c : Situation) (x : Filling) (d : Situation) → entry_under r.state.table slot ≡ Some e
+    → reads_of (record e { value = v }) ≡ None → x.state.table ≡ with_value r.state.table slot v → ((id : ℕ) → IsToldDry id c.host → IsToldDry id d.host)
+    → Serves slot r c x d
+replaces slot e v r c x d at none table dry = record {
+  touches = record {
+    slots = ap (λ (t : Table DeviceConnection). slots t) table ∙ same_slots end_in r.state.table slot v;
+    others = λ n other. ap (λ (t : Table DeviceConnection). reads_under n t) table ∙ under_other r.state.table slot n v other;
+    dry = dry;
+  };
+  own = λ id reads. absurd (let no : None ≡ Some id = sym none ∙ sym (under_own r.state.table slot e v at) ∙ ap (λ (t : Table DeviceConnection). reads_under slot t) (sym table) ∙ reads in cc);
+}
+
+still_none : (slot : ℕ) (r : Filling) (c : Situation) → reads_under slot r.state.table ≡ None → Serves slot r c r c
+still_none slot r c none = record {
+  touches = record { slots = refl; others = λ n other. refl; dry = λ id is. is };
+  own = λ id reads. absurd (let no : None ≡ Some id = sym none ∙ reads in cc);
+}
+
+-- What the answers leave of a host.
+abbrev IsQuiet : StreamRead → Type 0
+IsQuiet (read.Got n) = ⊥
+IsQuiet a = Unit {0}
+
+host_moves : (failed : Bool) (P : HostContents → Type 0) (f : HostContents → HostContents) (c d : Situation) → HostMoves failed P f c d
+    → ((id : ℕ) (h : HostContents) → IsDryAt id h → IsDryAt id (f h)) → (id : ℕ) → IsToldDry id c.host → IsToldDry id d.host
+host_moves failed P f c d moves keeps id dry = by c.host moves.host dry
+  where
+    by : (o : Option HostContents) → Exposes o d.host P f → IsToldDry id o → IsToldDry id d.host
+    by None exposes dry = λ h there. absurd (let no : ◌≡◌ {A = Option HostContents} None (Some h) = sym exposes ∙ there in cc)
+    by (Some g) exposes dry = λ h there.
+        subst (IsDryAt id) (same_Some (f g) h (sym exposes.1 ∙ there)) (keeps id g (dry g refl))
+
+dry_closed : (i id : ℕ) (h : HostContents) → IsDryAt i h → IsDryAt i (after_close id h)
+dry_closed i id h dry = by (i == id) refl
+  where
+    own : (o : Option Stream) → stream_at id h ≡ o → IsDryAt id h → IsDryAt id (after_close id h)
+    own None at was = λ s there.
+        absurd (let same : (after_close id h).streams ≡ h.streams = ap (λ (q : Option Stream). option_map_or (λ x. slice_set h.streams (id - 1) (record x { state = state.Closed })) q h.streams) at in
+        let gone : None ≡ Some s = sym at ∙ sym (ap (λ (xs : List Stream). cond (id == 0) None (slice_get xs (id - 1))) same) ∙ there in cc)
+    own (Some x) at was = λ s there.
+        let same : record x { state = state.Closed } ≡ s =
+        same_Some _ s (sym (stream_at-with_stream id (λ (y : Stream). record y { state = state.Closed }) h x at) ∙ there) in
+        let d = was x at in
+        subst IsDry same (record { untaken = d.untaken; goes_on = d.goes_on })
+
+    by : (b : Bool) → (i == id) ≡ b → IsDryAt i (after_close id h)
+    by true is = subst (λ (j : ℕ). IsDryAt j (after_close id h)) (sym (eqb-true i id is)) (own (stream_at id h) refl (subst (λ (j : ℕ). IsDryAt j h) (eqb-true i id is) dry))
+    by false is =
+        let apart : i ≢ id = λ e. let no : true ≡ false = sym (eq-eqb i id e) ∙ is in absurd cc in
+        λ s there. dry s (sym (others-after_close id h i apart) ∙ there)
+
+dry_read : (a : StreamRead) (stream i : ℕ) (h : HostContents) → IsQuiet a → IsDryAt i h → IsDryAt i (after_read stream a h)
+dry_read (read.Got n) stream i h quiet dry = absurd quiet
+dry_read read.Again stream i h quiet dry = dry
+dry_read read.End stream i h quiet dry = dry
+dry_read read.Failed stream i h quiet dry = dry
+
+-- What Again says of a stream.
+again_dry : (s : Stream) (room : ℕ) → ◌≡◌ {A = StreamRead} read.Again (read_of room s) → IsDry s
+again_dry s room is = by (length s.untaken == 0) refl s.ended refl is
+  where
+    none : (xs : List ℕ) → length xs ≡ 0 → xs ≡ []
+    none [] len = refl
+    none (x ∷ xs) len = absurd (omega (arith, len))
+
+    by : (b : Bool) → (length s.untaken == 0) ≡ b → (e : Bool) → s.ended ≡ e
+        → ◌≡◌ {A = StreamRead} read.Again (cond b (cond e read.End read.Again) (read.Got (min room (length s.untaken)))) → IsDry s
+    by true empty true ended says = absurd cc
+    by true empty false ended says = record { untaken = none s.untaken (eqb-true (length s.untaken) 0 empty); goes_on = ended }
+    by false some e ended says = absurd cc
+
+told_again : (stream room : ℕ) (c d : Situation) (payload : List ℕ)
+    → HostMoves false (IsReadOf stream room (read.Again, payload)) (after_read stream read.Again) c d → IsToldDry stream d.host
+told_again stream room c d payload moves = by c.host moves.host
+  where
+    at : (h : HostContents) (b : Bool) (o : Option Stream) → stream_at stream h ≡ o
+        → ◌≡◌ {A = StreamRead} read.Again (cond b read.Failed (option_map_or (read_of room) o read.Again)) → IsDryAt stream h
+    at h true o is says = absurd cc
+    at h false None is says = λ s there. absurd (let no : None ≡ Some s = sym is ∙ there in cc)
+    at h false (Some x) is says = λ s there. subst IsDry (same_Some x s (sym is ∙ there)) (again_dry x room says)
+
+    by : (o : Option HostContents) → Exposes o d.host (IsReadOf stream room (read.Again, payload)) (after_read stream read.Again) → IsToldDry stream d.host
+    by None exposes = λ h there. absurd (let no : ◌≡◌ {A = Option HostContents} None (Some h) = sym exposes ∙ there in cc)
+    by (Some g) exposes = λ h there.
+        subst (IsDryAt stream) (same_Some (after_read stream read.Again g) h (sym exposes.1 ∙ there))
+        (at g (fails_now g) (stream_at stream g) refl exposes.0.0)
+
+-- An end that told that it sends no more reads nothing.
+not_sending : (x : ConnectionEnd) (st : State) → x.own.send ≡ true → may_read x st ≡ false
+not_sending x Live is = by x.peer.receive x.own.send is
+  where
+    by : (a b : Bool) → b ≡ true → (not a && not b) ≡ false
+    by true b so = refl
+    by false true so = refl
+    by false false so = absurd cc
+not_sending x Ended is = refl
+not_sending x Asked is = refl
+not_sending x Answering is = refl
+
+reads_none : (e : DeviceEntry) → may_read e.value.end e.value.end.state ≡ false → reads_of e ≡ None
+reads_none e is = ap (λ (b : Bool). cond (b && not (free_of e.value.end.credit == 0)) (Some e.value.stream) None) is
+
+or_true : (a b : Bool) → b ≡ true → (a || b) ≡ true
+or_true true b is = refl
+or_true false b is = is
+
+module _ (e : DeviceEntry) where
+  abbrev Served : Relation
+  Served = Serves e.slot
+
+  read_stays : (a : StreamRead) (room : ℕ) (payload : List ℕ) (c d : Situation) → IsQuiet a
+      → Allows (ReadStream e.value.stream room) (a, payload) c d → (id : ℕ) → IsToldDry id c.host → IsToldDry id d.host
+  read_stays a room payload c d quiet made =
+      host_moves (read_failed a) (IsReadOf e.value.stream room (a, payload)) (after_read e.value.stream a) c d made.0
+      (λ id h dry. dry_read a e.value.stream id h quiet dry)
+
+  answered : (chain : Chain) (a : StreamRead) (payload : List ℕ) (room : ℕ) (q : Filling) (c d : Situation) → entry_under q.state.table e.slot ≡ Some e
+      → Allows (ReadStream e.value.stream room) (a, payload) c d
+      → Keeps allowed (λ x f. Step Served q c x f) (read_answered chain e a payload q) d
+  answered chain (read.Got n) payload room q c d at made =
+      keeps_then allowed (λ x f. Step Served q c x f) (λ p f. p.put ≡ q.put + 1)
+      (put_on chain (payload_header e.value.end (route_to_guest q.state.cid e.flow) (length payload)) payload q)
+      (λ p. Done (record p {
+        state = record (with_connection e.slot (record e.value { end = with_payload_sent e.value.end (length payload) }) p.state)
+            { last_put = Some e.slot };
+        read = p.read + length payload;
+      })) d (one_put chain (payload_header e.value.end (route_to_guest q.state.cid e.flow) (length payload)) payload q d)
+      (λ p f one. more Served q c _ f one)
+  answered chain read.Again payload room q c d at made = record {
+    rises = omega arith;
+    same = λ put on. (
+      on,
+      record {
+        touches = record { slots = refl; others = λ n other. refl; dry = read_stays read.Again room payload c d tt made };
+        own = λ id reads.
+            subst (λ (i : ℕ). IsToldDry i d.host) (its_stream (may_read e.value.end e.value.end.state && not (free_of e.value.end.credit == 0)) id
+            (sym (ap (λ (o : Option DeviceEntry). elim o as (λ _. Option ℕ) [ None ↦ None | Some x ↦ reads_of x ]) at) ∙ reads))
+            (told_again e.value.stream room c d payload made.0);
+      },
+    );
+  }
+    where
+      its_stream : (b : Bool) (id : ℕ) → cond b (Some e.value.stream) None ≡ Some id → e.value.stream ≡ id
+      its_stream true id is = cc
+      its_stream false id is = absurd cc
+  answered chain read.End payload room q c d at made = record {
+    rises = omega arith;
+    same = λ put on. (
+      on,
+      replaces e.slot e (after_shut 2 q.state.now e.value) q c _ d at
+          (reads_none (record e { value = after_shut 2 q.state.now e.value })
+          (not_sending (with_shut e.value.end 2) (with_shut e.value.end 2).state (or_true e.value.end.own.send _ refl))) refl
+          (read_stays read.End room payload c d tt made),
+    );
+  }
+  answered chain read.Failed payload room q c d at made =
+      keeps_then allowed (λ x f. Step Served q c x f) (λ s f. (s ≡ cut) × ((id : ℕ) → IsToldDry id d.host → IsToldDry id f.host))
+      (closing e cut_off (with_fault q.state)) (λ s. Done (record q { state = s })) d (closes e.value.closed)
+      (λ s f is. record {
+        rises = omega arith;
+        same = λ put on. (
+          on,
+          replaces e.slot e (cut_off e.value) q c (record q { state = s }) f at refl (ap (λ (t : DeviceState). t.table) is.0)
+              (λ id dry. is.1 id (read_stays read.Failed room payload c d tt made id dry)),
+        );
+      })
+    where
+      cut : DeviceState
+      cut = with_connection e.slot (cut_off e.value) (with_fault q.state)
+
+      closes : (b : Bool) → Keeps allowed (λ s f. (s ≡ cut) × ((id : ℕ) → IsToldDry id d.host → IsToldDry id f.host)) (cond b
+          (Done (with_connection e.slot (cut_off e.value) (with_fault q.state)))
+          (Ask (CloseStream e.value.stream) (λ u. Done (with_connection e.slot (cut_off e.value) (with_fault q.state))))) d
+      closes true = (refl, λ id dry. dry)
+      closes false = λ u f closed. (refl, host_moves false (λ h. Unit {0}) (after_close e.value.stream) d f closed (λ id h dry. dry_closed id e.value.stream h dry))
+
+  with_chain : (r q : Filling) (c d : Situation) → Held r c q d → entry_under q.state.table e.slot ≡ Some e
+      → Keeps allowed (λ x f. Step Served r c x f) (read_with_chain e q) d
+  with_chain r q c d held at = by q.state.chain refl
+    where
+      by : (o : Option Chain) → q.state.chain ≡ o → Keeps allowed (λ x f. Step Served r c x f) (elim o as (λ _. DeviceTree Filling) [
+        | None ↦ Done q
+        | Some chain ↦
+            Ask (ReadStream e.value.stream (read_room (free_of e.value.end.credit) chain)) (λ answer. read_answered chain e answer.0 answer.1 q)
+      ]) d
+      by None is = held_none Served r c q d held is
+      by (Some chain) is = λ a f made.
+          keeps_weaker (λ x g. Step Served q d x g) (λ x g. Step Served r c x g)
+          (λ x g step. one_then Same Served Served r c q d x g (then_serves e.slot r c q d x g) held.step step) (read_answered chain e a.0 a.1 q) f
+          (answered chain a.0 a.1 (read_room (free_of e.value.end.credit) chain) q d f at made)
+
+  reads : (r : Filling) (c : Situation) → r.over ≡ false → entry_under r.state.table e.slot ≡ Some e
+      → Keeps allowed (λ x d. Step Served r c x d) (read_stream e r) c
+  reads r c on at = by (may_read e.value.end e.value.end.state) refl (free_of e.value.end.credit == 0) refl
+    where
+      under : reads_under e.slot r.state.table ≡ reads_of e
+      under = ap (λ (o : Option DeviceEntry). elim o as (λ _. Option ℕ) [ None ↦ None | Some x ↦ reads_of x ]) at
+
+      no_credit : (a b : Bool) → b ≡ true → cond (a && not b) (Some e.value.stream) None ≡ None
+      no_credit true true is = refl
+      no_credit false true is = refl
+      no_credit a false is = absurd cc
+
+      by : (may : Bool) → may_read e.value.end e.value.end.state ≡ may → (none : Bool) → (free_of e.value.end.credit == 0) ≡ none
+          → Keeps allowed (λ x d. Step Served r c x d) (cond may
+          (cond none (Done (record r { state = with_connection e.slot (record e.value { end = wanting_credit e.value.end }) r.state }))
+          (bind (hold r) (read_with_chain e))) (Done r)) c
+      by false may none free = record { rises = omega arith; same = λ put o. (on, still_none e.slot r c (under ∙ reads_none e may)) }
+      by true may true free = record {
+        rises = omega arith;
+        same = λ put o. (
+          on,
+          replaces e.slot e (record e.value { end = wanting_credit e.value.end }) r c _ c at
+              (no_credit (may_read e.value.end e.value.end.state) (free_of e.value.end.credit == 0) free) refl (λ id dry. dry),
+        );
+      }
+      by true may false free =
+          keeps_then allowed (λ x d. Step Served r c x d) (λ q d. Held r c q d) (hold r) (read_with_chain e) c (holds r c on)
+          (λ q d held. with_chain r q c d held (ap (λ (t : Table DeviceConnection). entry_under t e.slot) held.table ∙ at))
+
+-- A slot is served.
+slot_read : (slot : ℕ) (r : Filling) (c : Situation) → r.over ≡ false → (o : Option DeviceEntry) → entry_under r.state.table slot ≡ o
+    → Keeps allowed (λ x d. Step (Serves slot) r c x d) (elim o as (λ _. DeviceTree Filling) [ None ↦ Done r | Some e ↦ read_stream e r ]) c
+slot_read slot r c on None at = record {
+  rises = omega arith;
+  same = λ put o. (on, still_none slot r c (ap (λ (q : Option DeviceEntry). elim q as (λ _. Option ℕ) [ None ↦ None | Some e ↦ reads_of e ]) at));
+}
+slot_read slot r c on (Some e) at =
+    let own : e.slot ≡ slot = has_slot r.state.table slot e at in
+    subst (λ (n : ℕ). Keeps allowed (λ x d. Step (Serves n) r c x d) (read_stream e r) c) own
+    (reads e r c on (subst (λ (n : ℕ). entry_under r.state.table n ≡ Some e) (sym own) at))
+
+serves_slot : (slot : ℕ) (r : Filling) (c : Situation) → Keeps allowed (λ x d. Step (Serves slot) r c x d) (serve_slot slot r) c
+serves_slot slot r c = by r.over refl
+  where
+    pays : (q : Filling) (d : Situation) → Step (Serves slot) r c q d → (b : Bool) → q.over ≡ b
+        → Keeps allowed (λ x f. Step (Serves slot) r c x f) (cond b (Done q) (while_up_to OWED_MAX (put_owed slot) q)) d
+    pays q d step true over = step
+    pays q d step false on =
+        keeps_weaker (λ x f. Step Same q d x f) (λ x f. Step (Serves slot) r c x f)
+        (λ x f same. one_then (Serves slot) Same (Serves slot) r c q d x f (serves_then slot r c q d x f) step same)
+        (while_up_to OWED_MAX (put_owed slot) q) d (stays_while (put_owed slot) (puts_owed slot) OWED_MAX q d on)
+
+    by : (b : Bool) → r.over ≡ b → Keeps allowed (λ x d. Step (Serves slot) r c x d) (cond b (Done r)
+        (bind (elim (entry_under r.state.table slot) as (λ _. DeviceTree Filling) [ None ↦ Done r | Some e ↦ read_stream e r ]) (λ q.
+        cond q.over (Done q) (while_up_to OWED_MAX (put_owed slot) q)))) c
+    by true over = is_over (Serves slot) r c r c (omega arith) over
+    by false on =
+        keeps_then allowed (λ x d. Step (Serves slot) r c x d) (λ q d. Step (Serves slot) r c q d)
+        (elim (entry_under r.state.table slot) as (λ _. DeviceTree Filling) [ None ↦ Done r | Some e ↦ read_stream e r ])
+        (λ q. cond q.over (Done q) (while_up_to OWED_MAX (put_owed slot) q)) c (slot_read slot r c on (entry_under r.state.table slot) refl)
+        (λ q d step. pays q d step q.over refl)
+
+-- All slots of a list.
+record ServesAll (is : List ℕ) (r : Filling) (c : Situation) (x : Filling) (d : Situation) : Type 0 where
+  slots : slots x.state.table ≡ slots r.state.table
+  all : (n : ℕ) → in_list n is ≡ true → OwnDry n x d
+  keeps : (n : ℕ) → OwnDry n r c → OwnDry n x d
+
+serve_keeps : (slot n : ℕ) (r : Filling) (c : Situation) (x : Filling) (d : Situation) (b : Bool) → (n == slot) ≡ b → Serves slot r c x d → OwnDry n r c → OwnDry n x d
+serve_keeps slot n r c x d true is s own = subst (λ (m : ℕ). OwnDry m x d) (sym (eqb-true n slot is)) s.own
+serve_keeps slot n r c x d false is s own = λ id at. s.touches.dry id (own id (sym (s.touches.others n is) ∙ at))
+
+serves_more : (slot : ℕ) (is : List ℕ) (r : Filling) (c : Situation) (q : Filling) (d : Situation) (x : Filling) (f : Situation) → Serves slot r c q d
+    → ServesAll is q d x f → ServesAll (slot ∷ is) r c x f
+serves_more slot is r c q d x f s rest = record {
+  slots = rest.slots ∙ s.touches.slots;
+  all = λ n at. by n (n == slot) refl at;
+  keeps = λ n own. rest.keeps n (serve_keeps slot n r c q d (n == slot) refl s own);
+}
+  where
+    by : (n : ℕ) (b : Bool) → (n == slot) ≡ b → (b || in_list n is) ≡ true → OwnDry n x f
+    by n true same at = rest.keeps n (subst (λ (m : ℕ). OwnDry m q d) (sym (eqb-true n slot same)) s.own)
+    by n false other at = rest.all n at
+
+serves_each : (is : List ℕ) (r : Filling) (c : Situation) → Keeps allowed (λ x d. Step (ServesAll is) r c x d) (for_each serve_slot is r) c
+serves_each [] r c = record { rises = omega arith; same = λ put o. (o, record { slots = refl; all = λ n at. absurd cc; keeps = λ n own. own }) }
+serves_each (slot ∷ is) r c =
+    keeps_then allowed (λ x d. Step (ServesAll (slot ∷ is)) r c x d) (λ q d. Step (Serves slot) r c q d) (serve_slot slot r) (for_each serve_slot is) c
+    (serves_slot slot r c)
+    (λ q d step. keeps_weaker (λ x f. Step (ServesAll is) q d x f) (λ x f. Step (ServesAll (slot ∷ is)) r c x f)
+    (λ x f a. one_then (Serves slot) (ServesAll is) (ServesAll (slot ∷ is)) r c q d x f (serves_more slot is r c q d x f) step a)
+    (for_each serve_slot is q) d (serves_each is q d))
+
+-- The round has all slots.
+in_append : (n : ℕ) (xs ys : List ℕ) → in_list n (xs ++ ys) ≡ (in_list n xs || in_list n ys)
+in_append n [] ys = refl
+in_append n (x ∷ xs) ys = let rest = in_append n xs ys in grind (arith, common_steps)
+
+in_filter : (test : ℕ → Bool) (n : ℕ) (xs : List ℕ) → in_list n (filter test xs) ≡ (in_list n xs && test n)
+in_filter test n [] = refl
+in_filter test n (x ∷ xs) = kept (n == x) refl (in_filter test n xs) where
+  kept : (b : Bool) → (n == x) ≡ b → in_list n (filter test xs) ≡ (in_list n xs && test n)
+      → in_list n (filter test (x ∷ xs)) ≡ ((b || in_list n xs) && test n)
+  kept true same rest = let e = eqb-true n x same in grind (arith, common_steps)
+  kept false other rest = grind (arith, common_steps)
+
+either : (n last : ℕ) → (nat_lt last n || nat_le n last) ≡ true
+either n last = grind (arith, common_steps)
+
+by_either : (is after before x y : Bool) → x ≡ (is && after) → y ≡ (is && before) → is ≡ true → (after || before) ≡ true → (x || y) ≡ true
+by_either = grind (arith, common_steps)
+
+in_round : (last : Option ℕ) (xs : List ℕ) (n : ℕ) → in_list n xs ≡ true → in_list n (round_from last xs) ≡ true
+in_round None xs n at = at
+in_round (Some last) xs n at =
+    in_append n (filter (λ slot. nat_lt last slot) xs) (filter (λ slot. nat_le slot last) xs)
+    ∙ by_either (in_list n xs) (nat_lt last n) (nat_le n last) _ _ (in_filter (λ slot. nat_lt last slot) n xs)
+    (in_filter (λ slot. nat_le slot last) n xs) at (either n last)
+
+-- The whole stage.
+abbrev AllDry : Relation
+AllDry r c x d = (n : ℕ) → OwnDry n x d
+
+listed_reads : (n : ℕ) (t : Table DeviceConnection) (id : ℕ) → reads_under n t ≡ Some id → in_list n (slots t) ≡ true
+listed_reads n t id at = by (entry_under t n) refl
+  where
+    by : (o : Option DeviceEntry) → entry_under t n ≡ o → in_list n (slots t) ≡ true
+    by None none =
+        absurd (let no : None ≡ Some id = sym (ap (λ (q : Option DeviceEntry). elim q as (λ _. Option ℕ) [ None ↦ None | Some e ↦ reads_of e ]) none) ∙ at in cc)
+    by (Some e) there = listed end_in t n e.value.end (ap (option_map (λ (x : DeviceEntry). x.value.end)) there)
+
+all_slots : (s : DeviceState) (r : Filling) (c : Situation) (q : Filling) (d : Situation) → Step Same r c q d → (b : Bool) → q.over ≡ b
+    → Keeps allowed (λ x f. Step AllDry r c x f) (cond b (Done q) (for_each serve_slot (round_from q.state.last_put (slots q.state.table)) q)) d
+all_slots s r c q d step true over = is_over AllDry r c q d step.rises over
+all_slots s r c q d step false on =
+    let round = round_from q.state.last_put (slots q.state.table) in
+    keeps_weaker (λ x f. Step (ServesAll round) q d x f) (λ x f. Step AllDry r c x f)
+    (λ x f a. one_then Same (ServesAll round) AllDry r c q d x f
+    (λ same all n id at. all.all n (in_round q.state.last_put (slots q.state.table) n
+    (subst (λ (ns : List ℕ). in_list n ns ≡ true) all.slots (listed_reads n x.state.table id at))) id at) step a)
+    (for_each serve_slot round q) d (serves_each round q d)
+
+pub stage_dry : (s : DeviceState) (a b : Situation) (q : Filling) → Runs (filling_of s) a q b → q.put ≡ 0 → q.over ≡ false
+    → (n id : ℕ) → reads_under n q.state.table ≡ Some id → IsToldDry id b.host
+stage_dry s a b q runs none over =
+    ((keeps_run (λ x d. Step AllDry (filling s) a x d) (filling_of s) a b q
+    (keeps_then allowed (λ x d. Step AllDry (filling s) a x d) (λ r c. Step Same (filling s) a r c) (while_up_to (length s.replies) put_reply (filling s))
+    (λ r. cond r.over (Done r) (for_each serve_slot (round_from r.state.last_put (slots r.state.table)) r)) a
+    (stays_while put_reply (λ r c on. puts_reply r.state.replies r c on) (length s.replies) (filling s) a refl)
+    (λ r c step. all_slots s (filling s) a r c step r.over refl)) runs).same none over).1
+
+-- A turn that put nothing; or it stopped for want of a page.
+pub turn_dry : (size now : ℕ) (s : ProxyState) (a b : Situation) (x : ProxyState × Turn) (t : Turned) → Runs (turn_of size now s) a x b
+    → x.1 ≡ turn.Turned t → t.put ≡ 0
+    → ((n id : ℕ) → reads_under n x.0.device.table ≡ Some id → IsToldDry id b.host) ⊎ LacksPages x.0.device b.ring
+turn_dry size now s a b x t runs answer none =
+    let last = last_fill size now s a b x t runs answer none in by last last.filling.over refl
+  where
+    by : (last : LastFill b x.0.device) (o : Bool) → last.filling.over ≡ o
+        → ((n id : ℕ) → reads_under n x.0.device.table ≡ Some id → IsToldDry id b.host) ⊎ LacksPages x.0.device b.ring
+    by last true over = inr (subst (λ (d : DeviceState). LacksPages d b.ring) (sym last.state) (fill_lacks last over))
+    by last false on = inl (λ n id at. stage_dry last.before last.middle b last.filling last.runs last.none on n id
+        (ap (λ (d : DeviceState). reads_under n d.table) (sym last.state) ∙ at))

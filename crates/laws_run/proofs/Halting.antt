@@ -1,0 +1,324 @@
+-- A call that told an app to wait leaves the driver alike, and the driver answers it so again.
+use Rattle.std.proofs.Common.{◌≡◌, ◌==◌, ℕ, Bool, true, false, cond, List, [], ◌∷◌, length, Option, Some, None, Result, Ok, Err, refl, sym, ap, subst, ◌∙◌}
+use Rattle.std.proofs.lemmas.{Bool.eqb-true, Option.same_Some}
+use Rattle.std.specs.{Prelude.is_some, Prelude.slice_get}
+use Rattle.vs_contents.specs.CallTree.{Done, bind}
+use Rattle.vs_contents.proofs.Leads.{AllEnds, end_of}
+use Rattle.vs_conn.specs.{End.may_send_of, End.wanting_credit, End.with_payload_sent, declared.end.Stop.Stop}
+use Rattle.vs_conn.specs.declared.end.Stop.TheVariants as stop
+use Rattle.vs_credit.specs.declared.Credit.{Credit}
+use Rattle.vs_script.specs.App.{Act}
+use Rattle.vs_ring_port.specs.Contents.{RingContents}
+use Rattle.vs_driver_parts.specs.Connections.{after_read, after_recv, all_gone_after_read, connect_refusal, connected, entry_answer, entry_read, gone_answer}
+use Rattle.vs_driver_parts.specs.Connections.{is_at_end, nothing_read, read_of, recv_of, state_of, unread_of_id, with_connection, with_end}
+use Rattle.vs_driver_parts.specs.Conversations.{connect_of, connect_with_page, has_page, payload_of, post_packet, reap_all, request_bytes, send_of, send_on}
+use Rattle.vs_driver_parts.specs.Conversations.{no_credit, not_sent, payload_bytes, send_stopped, send_with_credit, send_with_page}
+use Rattle.vs_driver_parts.specs.{Listening.next_accepted, Playing.Plays, Playing.RingAllows, State.DriverEntry, State.DriverState, State.GoneConnection}
+use Rattle.vs_driver_parts.specs.State.{entry_known_as, gone_known_as}
+use Rattle.vs_driver_parts.specs.Listening.{after_accept, accept_of, listener_on, with_waiting, without_id}
+use Rattle.vs_driver_parts.specs.declared.answers.{Accepted.Accepted, ConnectError.ConnectError, Received.Received, Sent.Sent}
+use Rattle.vs_driver_parts.specs.declared.answers.Accepted.TheVariants as accepted
+use Rattle.vs_driver_parts.specs.declared.answers.ConnectError.TheVariants as refused
+use Rattle.vs_driver_parts.specs.declared.answers.Received.TheVariants as got
+use Rattle.vs_driver_parts.specs.declared.answers.Sent.TheVariants as sent
+use Rattle.laws_driver_bytes.specs.Calls.{GuestCall, Made, ReplyTo, whole_call}
+use Rattle.laws_driver_bytes.specs.Calls as call
+use Rattle.laws_driver_bytes.specs.Received.{bytes_got}
+use Rattle.laws_rest.proofs.Quiet.{ends_then}
+use Rattle.vs_apps_parts.specs.{Scripts.{RunScript, calls_in, calls_next, told_in}, Told.{step_wait, told_accept, told_by, told_connect, told_look}}
+use Rattle.vs_apps_parts.specs.{Told.{told_of, told_recv, told_send, wait_of}, declared.{journal.WaitsFor.WaitsFor, progress.Progress.Progress, told.Told.Told}}
+use Rattle.vs_apps_parts.specs.declared.journal.WaitsFor.TheVariants as waits
+use Rattle.vs_apps_parts.specs.declared.told.Told.TheVariants as says
+use Rattle.laws_apps.specs.Runs.{MakesCalls, Run}
+use Rattle.laws_run.proofs.{Alike.{Alike, HasApart, Leaves, known_too, leaves_core, leaves_none, leaves_then, leaves_wanting, may_send_too, recv_alike}}
+use Rattle.laws_run.proofs.{Alike.state_alike, Still.SameCore, Still.reaps_all}
+use Rattle.vs_run_report.specs.Right.{may_wait}
+
+-- What an end says to a send on a connection.
+pub record SaysToSend (id : ℕ) (answer : Result ℕ Stop) (s : DriverState) : Type 0 where
+  pub entry : DriverEntry
+  pub there : entry_known_as id s ≡ Some entry
+  pub says : may_send_of entry.value.end ≡ answer
+
+abbrev pub StopsSend : ℕ → WaitsFor → DriverState → Type 0
+StopsSend id waits.NotOpen s = SaysToSend id (Err stop.NotOpen) s
+StopsSend id (waits.NoCredit tx alloc fwd) s = SaysToSend id (Ok 0) s
+StopsSend id (waits.NoDescriptor in_flight) s = Unit {0}
+StopsSend id why s = ⊥
+
+-- What a connect may wait for before it asked, and an accept.
+abbrev pub StopsConnect : WaitsFor → Type 0
+StopsConnect waits.Full = Unit {0}
+StopsConnect (waits.NoDescriptor in_flight) = Unit {0}
+StopsConnect why = ⊥
+
+abbrev pub StopsAccept : WaitsFor → Type 0
+StopsAccept waits.NoneWaiting = Unit {0}
+StopsAccept why = ⊥
+
+-- The driver's answer to a call is to wait for this.
+abbrev pub Stops : GuestCall → WaitsFor → DriverState → Type 0
+Stops (call.Send id bytes) why s = StopsSend id why s
+Stops (call.Recv id n) why s = wait_of (told_recv (recv_of id n s)) ≡ Some why
+Stops (call.LookAt id) why s = wait_of (told_look (state_of id s)) ≡ Some why
+Stops (call.Connect port) why s = StopsConnect why
+Stops (call.Accept port) why s = StopsAccept why
+Stops c why s = ⊥
+
+stops_send : (id : ℕ) (why : WaitsFor) (s t : DriverState) → Alike s t → StopsSend id why s → StopsSend id why t
+stops_send id waits.NotOpen s t alike stops = record {
+  entry = (known_too s t alike id stops.entry stops.there).entry;
+  there = (known_too s t alike id stops.entry stops.there).there;
+  says = may_send_too s t alike id stops.entry stops.there ∙ stops.says;
+}
+stops_send id (waits.NoCredit tx alloc fwd) s t alike stops = record {
+  entry = (known_too s t alike id stops.entry stops.there).entry;
+  there = (known_too s t alike id stops.entry stops.there).there;
+  says = may_send_too s t alike id stops.entry stops.there ∙ stops.says;
+}
+stops_send id (waits.NoDescriptor n) s t alike stops = tt
+stops_send id waits.Full s t alike stops = stops
+stops_send id waits.Empty s t alike stops = stops
+stops_send id waits.NoneWaiting s t alike stops = stops
+
+pub stops_alike : (c : GuestCall) (why : WaitsFor) (s t : DriverState) → Alike s t → Stops c why s → Stops c why t
+stops_alike (call.Send id bytes) why s t alike stops = stops_send id why s t alike stops
+stops_alike (call.Recv id n) why s t alike stops = ap (λ (r : Received). wait_of (told_recv r)) (recv_alike s t alike id n) ∙ stops
+stops_alike (call.LookAt id) why s t alike stops = ap (λ st. wait_of (told_look st)) (state_alike s t alike id) ∙ stops
+stops_alike (call.Connect port) why s t alike stops = stops
+stops_alike (call.Listen port) why s t alike stops = stops
+stops_alike (call.Unlisten port) why s t alike stops = stops
+stops_alike (call.Accept port) why s t alike stops = stops
+stops_alike (call.Shutdown id bits) why s t alike stops = stops
+stops_alike (call.Close id) why s t alike stops = stops
+
+-- A connect.
+abbrev Connects : DriverState → DriverState × Result ℕ ConnectError → Type 0
+Connects s x = (why : WaitsFor) → wait_of (told_connect x.1) ≡ Some why → SameCore s x.0 × StopsConnect why
+
+stops_connect : (r : Result ℕ ConnectError) (why : WaitsFor) → wait_of (told_connect r) ≡ Some why → StopsConnect why
+stops_connect (Ok id) why is = absurd cc
+stops_connect (Err (refused.Full slots)) why is = subst StopsConnect (same_Some waits.Full why is) tt
+stops_connect (Err (refused.NoDescriptor n)) why is = subst StopsConnect (same_Some (waits.NoDescriptor n) why is) tt
+stops_connect (Err (refused.BadPort port)) why is = absurd cc
+stops_connect (Err (refused.PortsSpent port id)) why is = absurd cc
+
+stops_accept : (r : Accepted) (why : WaitsFor) → wait_of (told_accept r) ≡ Some why → StopsAccept why
+stops_accept accepted.None why is = subst StopsAccept (same_Some waits.NoneWaiting why is) tt
+stops_accept (accepted.Conn id) why is = absurd cc
+stops_accept accepted.NotListening why is = absurd cc
+
+connects_page : (host : ℕ) (s t : DriverState) → SameCore s t → AllEnds (Connects s) (connect_with_page host t)
+connects_page host s t same = by (has_page t)
+  where
+    by : (b : Bool) → AllEnds (Connects s) (cond b (bind (post_packet (request_bytes host t) t) (λ u. Done (connected host u, Ok u.next_id)))
+        (Done (t, Err (refused.NoDescriptor t.in_flight))))
+    by true = λ a b why waits. absurd cc
+    by false = λ why is. (same, stops_connect (Err (refused.NoDescriptor t.in_flight)) why is)
+
+connects_as : (host : ℕ) (s : DriverState) (o : Option ConnectError) → AllEnds (Connects s) (elim o [
+  | Some refusal ↦ Done (s, Err refusal)
+  | None ↦ bind (reap_all s) (connect_with_page host)
+])
+connects_as host s (Some refusal) = λ why is. (refl, stops_connect (Err refusal) why is)
+connects_as host s None =
+    ends_then (Connects s) (SameCore s) (reap_all s) (connect_with_page host) (reaps_all s) (λ t same. connects_page host s t same)
+
+-- A send.
+abbrev Sends : ℕ → DriverState → DriverState × Sent → Type 0
+Sends id s x = (why : WaitsFor) → wait_of (told_send x.1) ≡ Some why → Leaves s x.0 × StopsSend id why s
+
+sends_page : (id : ℕ) (e : DriverEntry) (payload : List ℕ) (s t : DriverState) → SameCore s t → AllEnds (Sends id s) (send_with_page e payload t)
+sends_page id e payload s t same = by (has_page t)
+  where
+    none : (why : WaitsFor) → wait_of (told_send (sent.NoDescriptor t.in_flight)) ≡ Some why → StopsSend id why s
+    none why is = subst (λ (w : WaitsFor). StopsSend id w s) (same_Some (waits.NoDescriptor t.in_flight) why is) tt
+
+    by : (b : Bool) → AllEnds (Sends id s) (cond b (bind (post_packet (payload_bytes e payload t) t)
+        (λ u. Done (with_end (with_payload_sent e.value.end (length payload)) e u, sent.Took (length payload)))) (Done (t, sent.NoDescriptor t.in_flight)))
+    by true = λ a b why waits. absurd cc
+    by false = λ why waits. (leaves_core s t same, none why waits)
+
+sends_credit : (id : ℕ) (bytes : List ℕ) (e : DriverEntry) (credit : ℕ) (s : DriverState) → entry_known_as id s ≡ Some e
+    → may_send_of e.value.end ≡ Ok credit → AllEnds (Sends id s) (send_with_credit e credit bytes s)
+sends_credit id bytes e credit s at may = by (length bytes == 0) (credit == 0) refl
+  where
+    wants : (credit == 0) ≡ true → (why : WaitsFor) → wait_of (told_send (no_credit e.value.end)) ≡ Some why → StopsSend id why s
+    wants zero why is =
+        let c : Credit = e.value.end.credit in
+        subst (λ (w : WaitsFor). StopsSend id w s) (same_Some (waits.NoCredit c.tx_cnt c.peer_alloc c.peer_fwd) why is)
+        (record { entry = e; there = at; says = may ∙ ap (λ (n : ℕ). let r : Result ℕ Stop = Ok n in r) (eqb-true credit 0 zero) })
+
+    by : (none : Bool) (b : Bool) → (credit == 0) ≡ b → AllEnds (Sends id s) (cond none (Done (s, sent.Took 0))
+        (cond b (Done (with_end (wanting_credit e.value.end) e s, no_credit e.value.end))
+        (bind (reap_all s) (send_with_page e (payload_of credit bytes)))))
+    by true b is = λ why waits. absurd cc
+    by false true is = λ why waits. (leaves_wanting id s e at, wants is why waits)
+    by false false is =
+        ends_then (Sends id s) (SameCore s) (reap_all s) (send_with_page e (payload_of credit bytes)) (reaps_all s)
+        (λ t same. sends_page id e (payload_of credit bytes) s t same)
+
+sends_may : (id : ℕ) (bytes : List ℕ) (e : DriverEntry) (s : DriverState) (r : Result ℕ Stop) → entry_known_as id s ≡ Some e
+    → may_send_of e.value.end ≡ r
+    → AllEnds (Sends id s) (elim r [ Err why ↦ Done (s, send_stopped why) | Ok credit ↦ send_with_credit e credit bytes s ])
+sends_may id bytes e s (Ok credit) at may = sends_credit id bytes e credit s at may
+sends_may id bytes e s (Err stop.Reset) at may = λ why waits. absurd cc
+sends_may id bytes e s (Err stop.ShutDown) at may = λ why waits. absurd cc
+sends_may id bytes e s (Err stop.NotOpen) at may = λ why waits. (leaves_none s, stops why waits)
+  where
+    stops : (why : WaitsFor) → wait_of (told_send sent.NotOpen) ≡ Some why → StopsSend id why s
+    stops why is = subst (λ (w : WaitsFor). StopsSend id w s) (same_Some waits.NotOpen why is) (record { entry = e; there = at; says = may })
+
+sends_as : (id : ℕ) (bytes : List ℕ) (s : DriverState) (o : Option DriverEntry) → entry_known_as id s ≡ o
+    → AllEnds (Sends id s) (elim o [ None ↦ Done (s, not_sent id s) | Some e ↦ send_on e bytes s ])
+sends_as id bytes s (Some e) at = sends_may id bytes e s (may_send_of e.value.end) at refl
+sends_as id bytes s None at = by (is_some (gone_known_as id s))
+  where
+    by : (b : Bool) → Sends id s (s, cond b sent.Reset sent.Unknown)
+    by true = λ why waits. absurd cc
+    by false = λ why waits. absurd cc
+
+-- A receive.
+entry_stays : (n : ℕ) (e : DriverEntry) (s : DriverState) (unread : List ℕ) (why : WaitsFor) → e.value.unread ≡ unread
+    → wait_of (told_recv (read_of n unread (cond (is_at_end e.value.end) got.End (nothing_read e.value.end.state)))) ≡ Some why → entry_read n e s ≡ s
+entry_stays n e s [] why is waits = by (length e.value.unread == 0) (ap (λ (xs : List ℕ). length xs == 0) is)
+  where
+    by : (b : Bool) → b ≡ true → cond b s (with_connection e.slot (after_read n e.value) s) ≡ s
+    by true so = refl
+    by false so = absurd cc
+entry_stays n e s (x ∷ unread) why is waits = absurd cc
+
+gone_stays : (n : ℕ) (g : GoneConnection) (unread : List ℕ) (why : WaitsFor) → wait_of (told_recv (read_of n unread (cond (is_at_end g.end) got.End got.Reset))) ≡ Some why → ⊥
+gone_stays n g [] why waits = by (is_at_end g.end) waits
+  where
+    by : (b : Bool) → wait_of (told_recv (cond b got.End got.Reset)) ≡ Some why → ⊥
+    by true is = absurd cc
+    by false is = absurd cc
+gone_stays n g (x ∷ unread) why waits = absurd cc
+
+recv_stays : (id n : ℕ) (s : DriverState) (o : Option DriverEntry) (q : Option GoneConnection) (why : WaitsFor)
+    → wait_of (told_recv (elim o as (λ _. Received) [
+      | Some e ↦ entry_answer n e
+      | None ↦ elim q as (λ _. Received) [ None ↦ got.Unknown | Some g ↦ gone_answer n g ]
+    ])) ≡ Some why
+    → elim o as (λ _. DriverState) [ Some e ↦ entry_read n e s | None ↦ record s { gone = all_gone_after_read id n s.gone } ] ≡ s
+recv_stays id n s (Some e) q why waits = entry_stays n e s e.value.unread why refl waits
+recv_stays id n s None None why waits = absurd cc
+recv_stays id n s None (Some g) why waits = absurd (gone_stays n g g.unread why waits)
+
+-- An accept.
+accept_stays : (port : ℕ) (s : DriverState) (b : Bool) (o : Option ℕ) (why : WaitsFor)
+    → wait_of (told_accept (cond b (elim o as (λ _. Accepted) [ None ↦ accepted.None | Some id ↦ accepted.Conn id ]) accepted.NotListening)) ≡ Some why
+    → elim o as (λ _. DriverState) [ None ↦ s | Some id ↦ record s { listeners = with_waiting port (without_id id) s.listeners } ] ≡ s
+accept_stays port s true None why waits = refl
+accept_stays port s true (Some id) why waits = absurd cc
+accept_stays port s false o why waits = absurd cc
+
+same_leaves : (s t : DriverState) → t ≡ s → Leaves s t
+same_leaves s t is = subst (λ (x : DriverState). Leaves s x) (sym is) (leaves_none s)
+
+pub waits_leave : (c : GuestCall) (s t : DriverState) (old new : RingContents) (reply : ReplyTo c) (why : WaitsFor)
+    → Plays (whole_call c s) old (t, reply) new → wait_of (told_by c reply) ≡ Some why → Leaves s t × Stops c why s
+waits_leave (call.Connect port) s t old new reply why plays waits =
+    let both = end_of (Connects s) RingAllows (connect_of port s) old new (t, reply) (connects_as port s (connect_refusal port s)) plays why waits in
+    (leaves_core s t both.0, both.1)
+waits_leave (call.Send id bytes) s t old new reply why plays waits =
+    end_of (Sends id s) RingAllows (send_of id bytes s) old new (t, reply) (sends_as id bytes s (entry_known_as id s) refl) plays why waits
+waits_leave (call.Recv id n) s t old new reply why plays waits =
+    let same : (after_recv id n s, (recv_of id n s, bytes_got (recv_of id n s) (unread_of_id id s))) ≡ (t, reply) = plays.0 in
+    let state : after_recv id n s ≡ t = ap (λ x. x.0) same in
+    let answer : recv_of id n s ≡ reply.0 = ap (λ x. x.1.0) same in
+    let so : wait_of (told_recv (recv_of id n s)) ≡ Some why = ap (λ (r : Received). wait_of (told_recv r)) answer ∙ waits in
+    (same_leaves s t (sym state ∙ recv_stays id n s (entry_known_as id s) (gone_known_as id s) why so), so)
+waits_leave (call.LookAt id) s t old new reply why plays waits =
+    let same : (s, state_of id s) ≡ (t, reply) = plays.0 in
+    (same_leaves s t (sym (ap (λ x. x.0) same)), ap (λ x. wait_of (told_look x.1)) same ∙ waits)
+waits_leave (call.Accept port) s t old new reply why plays waits =
+    let same : (after_accept port s, accept_of port s) ≡ (t, reply) = plays.0 in
+    let so : wait_of (told_accept (accept_of port s)) ≡ Some why = ap (λ x. wait_of (told_accept x.1)) same ∙ waits in (
+      same_leaves s t (sym (ap (λ x. x.0) same) ∙ accept_stays port s (is_some (listener_on port s.listeners)) (next_accepted port s) why so),
+      stops_accept (accept_of port s) why so,
+    )
+waits_leave (call.Listen port) s t old new reply why plays waits = absurd cc
+waits_leave (call.Unlisten port) s t old new reply why plays waits = absurd cc
+waits_leave (call.Shutdown id bits) s t old new reply why plays waits = absurd cc
+waits_leave (call.Close id) s t old new reply why plays waits = absurd cc
+
+-- The calls of a step that waits: the last of them is the one that says for what.
+abbrev pub last_of : List GuestCall → Option GuestCall
+last_of [] = None
+last_of (c ∷ []) = Some c
+last_of (c ∷ d ∷ cs) = last_of (d ∷ cs)
+
+pub record Halted (calls : List GuestCall) (why : WaitsFor) (old new : DriverState) : Type 0 where
+  pub leaves : Leaves old new
+  pub call : GuestCall
+  pub last : last_of calls ≡ Some call
+  pub stops : HasApart new → Stops call why new
+
+pub first_waits : (t : Told) (ts : List Told) (why : WaitsFor) → step_wait (t ∷ ts) ≡ Some why → (w : WaitsFor) × (wait_of t ≡ Some w)
+first_waits (says.Waits w) ts why waits = (w, refl)
+first_waits (says.Asked id) ts why waits = absurd cc
+first_waits (says.Given id) ts why waits = absurd cc
+first_waits (says.Took n) ts why waits = absurd cc
+first_waits (says.Got n) ts why waits = absurd cc
+first_waits says.Ends ts why waits = absurd cc
+
+pub rest_waits : (t u : Told) (ts : List Told) (why : WaitsFor) → step_wait (t ∷ u ∷ ts) ≡ Some why → step_wait (u ∷ ts) ≡ Some why
+rest_waits (says.Waits w) u ts why waits = waits
+rest_waits (says.Asked id) u ts why waits = absurd cc
+rest_waits (says.Given id) u ts why waits = absurd cc
+rest_waits (says.Took n) u ts why waits = absurd cc
+rest_waits (says.Got n) u ts why waits = absurd cc
+rest_waits says.Ends u ts why waits = absurd cc
+
+only_wait : (t : Told) (why : WaitsFor) → step_wait (t ∷ []) ≡ Some why → wait_of t ≡ Some why
+only_wait (says.Waits w) why is = is
+only_wait (says.Asked id) why is = absurd cc
+only_wait (says.Given id) why is = absurd cc
+only_wait (says.Took n) why is = absurd cc
+only_wait (says.Got n) why is = absurd cc
+only_wait says.Ends why is = absurd cc
+
+pub calls_halt : (script : RunScript) (k : ℕ) (made : List Made) (why : WaitsFor) (old new : Run) → step_wait (told_in made) ≡ Some why
+    → MakesCalls script k made old new → Halted (calls_in made) why old.driver new.driver
+calls_halt script k [] why old new waits makes = absurd cc
+calls_halt script k (m ∷ []) why old new waits makes =
+    let both = waits_leave m.call old.driver makes.0.driver old.ring makes.0.ring m.reply why makes.1.plays (only_wait (told_of m) why waits) in
+    let same : new.driver ≡ makes.0.driver = ap (λ (r : Run). r.driver) makes.2 in
+    let leaves : Leaves old.driver new.driver = subst (λ (s : DriverState). Leaves old.driver s) (sym same) both.0 in
+    record {
+      leaves = leaves;
+      call = m.call;
+      last = refl;
+      stops = λ apart. stops_alike m.call why old.driver new.driver (leaves apart).1 both.1;
+    }
+calls_halt script k (m ∷ n ∷ ms) why old new waits makes =
+    let first = first_waits (told_of m) (told_in (n ∷ ms)) why waits in
+    let one = waits_leave m.call old.driver makes.0.driver old.ring makes.0.ring m.reply first.0 makes.1.plays first.1 in
+    let rest = calls_halt script k (n ∷ ms) why makes.0 new (rest_waits (told_of m) (told_of n) (told_in ms) why waits) makes.2 in
+    record {
+      leaves = leaves_then old.driver makes.0.driver new.driver one.0 rest.leaves;
+      call = rest.call;
+      last = rest.last;
+      stops = rest.stops;
+    }
+
+-- An app waits at an instruction for this, and the driver answers the last of its next calls so.
+pub record Halts (acts : List Act) (p : Progress) (why : WaitsFor) (s : DriverState) : Type 0 where
+  pub act : Act
+  pub next : slice_get acts p.at ≡ Some act
+  pub may : may_wait act why ≡ true
+  pub call : GuestCall
+  pub last : last_of (calls_next act p) ≡ Some call
+  pub stops : HasApart s → Stops call why s
+
+pub halts_on : (acts : List Act) (p : Progress) (why : WaitsFor) (s t : DriverState) → Leaves s t → Halts acts p why s → Halts acts p why t
+halts_on acts p why s t leaves halts = record {
+  act = halts.act;
+  next = halts.next;
+  may = halts.may;
+  call = halts.call;
+  last = halts.last;
+  stops = λ apart. let was = leaves apart in stops_alike halts.call why s t was.1 (halts.stops was.0);
+}

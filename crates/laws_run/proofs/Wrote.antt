@@ -1,0 +1,102 @@
+-- What of both ends' bytes holds by flows: all payload arrived, and the host's streams took and gave it.
+use Rattle.std.proofs.Common.{◌≡◌, ℕ, ◌≤◌, true, false, List, [], ◌∷◌, Some, refl, sym, ap, subst, ◌∙◌, arith}
+use Rattle.vs_flow.specs.{Connection.Connection, Connection.first_of, Flow.is_assigned, declared.flow.Flow.Flow}
+use Rattle.vs_limits.specs.declared.TheConstants.{FIRST_CID}
+use Rattle.laws_history.specs.{Again.count, Packets.is_request, declared.packet.Packet.Packet}
+use Rattle.laws_history.specs.History.{Answerer, Asker, Side, gots, peer, puts}
+use Rattle.vs_outside.specs.{Host.HostContents, HostBytes.host_read, HostBytes.host_wrote}
+use Rattle.vs_page.specs.Fair.{IsPrefixOf, asked_by, instance_from, number_of, payload_got, payload_of, payload_put}
+use Rattle.vs_page.specs.Log.{Device, Driver, Log, Role, flow_got, other_role, packets_got, packets_put, side_of, whole_of}
+use Rattle.vs_page.specs.declared.log.LogEntry.TheVariants.{GotEvent, GotPacket, Mark, PutEvent, PutPacket}
+use Rattle.vs_page.proofs.{Entries.got_on, Flows.opposite_by, Flows.same_self}
+use Rattle.vs_driver_parts.specs.{Held.HeldSlots, State.DriverState}
+use Rattle.vs_device_parts.specs.Playing.{situation}
+use Rattle.vs_ring_shared.specs.Sights.{DeviceSight, Sight, device_contents, device_log}
+use Rattle.vs_proxy_parts.specs.State.{ProxyState}
+use Rattle.laws_bytes.proofs.{Firsts.once_got, Firsts.once_put}
+use Rattle.laws_driver_bytes.specs.Calls.{Journal, account_of, received_by}
+use Rattle.laws_asked.specs.Asked.{AskOnce}
+use Rattle.laws_driver.specs.Honest.{ends_of_state as driver_ends}
+use Rattle.laws_device.specs.Honest.{ends_of_state as device_ends}
+use Rattle.laws_device.specs.Streams.{AreHeard, IsPlain}
+use Rattle.laws_device_bytes.specs.Streamed.{IsStreamed}
+use Rattle.laws_rest.proofs.Standing.{AreKept, device_kept}
+use Rattle.laws_proxy.specs.Honest.{IsProxyStreamed}
+use Rattle.laws_settled.specs.Settled.{IsSettled}
+use Rattle.laws_rest.proofs.Hosts.{read_is_got, wrote_is_put}
+use Rattle.vs_apps_parts.specs.{Journals.sent_as, declared.journal.Entry.Entry}
+use Rattle.laws_apps.specs.Accounts.{HasOne, IsAccount}
+use Rattle.laws_apps.proofs.Naming.{sent_by_id}
+
+-- Where an end got all that the other put, both have the same payload, and the same number of connections.
+module _ (role : Role) (mine other : Log) (all : packets_put other ≡ packets_got mine) where
+  pub there : (f : Flow) → puts (whole_of (other_role role) f other) ≡ gots (whole_of role f mine)
+  there f = got_on role f mine other [] all
+
+  same_payload : (c : Connection) → payload_put (other_role role) c other ≡ payload_got role c mine
+  same_payload c =
+      ap (λ (side : Side). payload_of (instance_from side c.number (puts (whole_of (other_role role) c.flow other)))) (opposite_by role (is_assigned c.flow.host))
+      ∙ ap (λ (ps : List Packet). payload_of (instance_from (peer (side_of role c.flow)) c.number ps)) (there c.flow)
+
+pub same_number : (driver device : Log) (f : Flow) → packets_put driver ≡ packets_got device → packets_put device ≡ packets_got driver
+    → number_of Driver f driver ≡ number_of Device f device
+same_number driver device f to_device to_driver =
+    ap (λ (side : Side). asked_by side (puts (whole_of Driver f driver)) (gots (whole_of Driver f driver))) (opposite_by Device (is_assigned f.host))
+    ∙ by (side_of Device f)
+  where
+    by : (side : Side) → asked_by (peer side) (puts (whole_of Driver f driver)) (gots (whole_of Driver f driver))
+        ≡ asked_by side (puts (whole_of Device f device)) (gots (whole_of Device f device))
+    by Asker = ap (λ (ps : List Packet). count is_request ps) (sym (there Driver driver device to_driver f))
+    by Answerer = ap (λ (ps : List Packet). count is_request ps) (there Device device driver to_device f)
+
+-- A device that dropped no packet dropped no payload.
+all_heard : (first : ℕ) (log : Log) → ((f : Flow) → AreKept Device first f log) → AreHeard first log
+all_heard first [] kept = tt
+all_heard first (PutPacket p ∷ log) kept = all_heard first log kept
+all_heard first (GotPacket p ∷ log) kept = (
+  λ dropped left. let own = (kept (flow_got Device p)).0 (same_self (flow_got Device p)) in
+      let no : true ≡ false = sym dropped ∙ own in absurd cc,
+  all_heard first log (λ f. (kept f).1),
+)
+all_heard first (PutEvent id ∷ log) kept = all_heard first log kept
+all_heard first (GotEvent id ∷ log) kept = all_heard first log kept
+all_heard first (Mark cid ∷ log) kept = all_heard first log kept
+
+module _ (d : DriverState) (driver : Sight) (p : ProxyState) (device : DeviceSight) (settled : IsSettled d driver p device) where
+  pub to_device : packets_put driver.log ≡ packets_got device.sight.log
+  to_device = settled.at_rest.got Device
+
+  pub to_driver : packets_put device.sight.log ≡ packets_got driver.log
+  to_driver = settled.at_rest.got Driver
+
+  module _ (once : (f : Flow) → number_of Device f device.sight.log ≤ 1) (h : HostContents) (faults : ℕ) (streams : IsProxyStreamed FIRST_CID p (situation (device_contents device) (Some h) faults)) where
+    pub plain : IsPlain FIRST_CID device.sight.log
+    plain = record {
+      once = once;
+      heard = all_heard FIRST_CID device.sight.log (λ f. device_kept FIRST_CID f driver.log device.sight.log (settled.at_rest.no_reset Driver)
+          (settled.at_rest.no_reset Device) settled.at_rest.routed to_device);
+    }
+
+    pub streamed : IsStreamed h device.sight.log p.next_port p.device.table p.handshakes
+    streamed = streams refl (device_log device) refl plain h refl
+
+    pub read_there : (f : Flow) → IsPrefixOf (host_read (first_of f) h) (payload_put Driver (first_of f) driver.log)
+    read_there f =
+        subst (λ (bytes : List ℕ). IsPrefixOf (host_read (first_of f) h) bytes)
+        (sym (once_got Device f device.sight.log (settled.at_rest.fair Device f) (once f))
+        ∙ sym (same_payload Device device.sight.log driver.log to_device (first_of f)))
+        (read_is_got h device.sight.log p.next_port p.device.table p.handshakes streamed f)
+
+    pub wrote_there : (f : Flow) → payload_got Driver (first_of f) driver.log ≡ host_wrote (first_of f) h
+    wrote_there f =
+        sym (same_payload Driver driver.log device.sight.log to_driver (first_of f))
+        ∙ once_put Device f device.sight.log (settled.at_rest.fair Device f) (once f)
+        ∙ wrote_is_put h device.sight.log p.next_port p.device.table p.handshakes streamed f
+
+    -- A connection of a flow is its only one.
+    pub is_first : (c : Connection) (f : Flow) → 1 ≤ c.number → c.number ≤ number_of Driver c.flow driver.log → c.flow ≡ f → c ≡ first_of f
+    is_first c f some past flow =
+        let few = once c.flow in
+        let same = same_number driver.log device.sight.log c.flow to_device to_driver in
+        let one : c.number ≡ 1 = omega (arith, past, few, same, some) in
+        ap (λ (n : ℕ). let k : Connection = record { flow = c.flow; number = n } in k) one ∙ ap (λ (g : Flow). first_of g) flow

@@ -1,0 +1,2 @@
+pub mod Dry
+pub mod Complete

@@ -1,0 +1,37 @@
+//! A law of complete runs.
+
+ghost use Rattle.std.specs.Prelude.{◌≡◌, ◌≤◌, ℕ, List, Some, false, length};
+ghost use Rattle.vs_flow.specs.Connection.{Connection};
+ghost use Rattle.vs_limits.specs.declared.TheConstants.{FIRST_CID};
+ghost use Rattle.vs_outside.specs.{Faults.one_more, Host.HostContents};
+ghost use Rattle.vs_ring_shared.specs.Sights.{DeviceSight, Sight, device_contents, driver_contents};
+ghost use Rattle.vs_driver_parts.specs.{Connections.table_shown as guest_shown, State.DriverState, declared.answers.Polled.Polled};
+ghost use Rattle.vs_device_parts.specs.{Playing.situation, Turns.table_shown as device_shown};
+ghost use Rattle.vs_proxy_parts.specs.State.{ProxyState};
+ghost use Rattle.laws_proxy.specs.Honest.{IsProxyStreamed};
+ghost use Rattle.laws_settled.specs.Settled.{IsSettled, IsSteady};
+ghost use Rattle.vs_apps_parts.specs.Scripts.{RunScript};
+ghost use Rattle.vs_apps_parts.specs.declared.{journal.Entry.Entry, progress.AppState.AppState};
+ghost use Rattle.laws_apps.specs.{Calls.run_with, Rounds.AllStand, Runs.IsRunOf, Runs.PollsTo, Runs.Run, Runs.poll_moved};
+ghost use Rattle.vs_report.specs.declared.giving.Totals.{Totals};
+ghost use Rattle.vs_run_report.specs.Right.{IsRightReport};
+ghost use Rattle.laws_run.specs.{Complete.IsCompleteRun, Dry.IsDryAt, Dry.reads_under};
+
+/// What is reported of a run that is at rest is right, and the run is complete, where each app's last step moved nothing, one after another, and the
+/// poll after them moved nothing either: an app that waits for bytes received all that the host's program wrote on its connection and the proxy took;
+/// one that waits for bytes or for credit is on a connection whose stream is open; none waits for a connection to open; and both tables have as many
+/// entries as there are streams with a label that the proxy hasn't closed.
+pub fn law_of_complete_runs()
+    ensures { (script : RunScript) (driver : DriverState) (end : Sight) (apps : List AppState) (entries : List Entry) (bytes : List ℕ)
+        (p : ProxyState) (e : DeviceSight) (h : HostContents) (faults : ℕ)
+        → IsRunOf FIRST_CID script (run_with driver (driver_contents end) apps entries bytes) → IsSettled driver end p e
+        → IsSteady p (situation (device_contents e) (Some h) faults)
+        → (old stood : Run) → AllStand script (length script) old stood → apps ≡ stood.apps → entries ≡ stood.entries
+        → (polled : Polled) (told past : Run) → told.driver ≡ stood.driver → PollsTo polled told past → poll_moved polled ≡ false → driver ≡ past.driver
+        → IsProxyStreamed FIRST_CID p (situation (device_contents e) (Some h) faults)
+        → ((slot id : ℕ) → reads_under slot p.device.table ≡ Some id → IsDryAt id h)
+        → (opened : ℕ → Connection) × ((t : Totals) (before after : ℕ) → t.broken ≡ driver.broken → t.counters.overrun ≡ p.device.overrun
+        → t.counters.dropped ≡ 0 → (1 ≤ t.counters.faults → one_more before ≤ after) → IsRightReport script apps entries bytes t opened h before after)
+        × ((t : Totals) → t.guest_open ≡ length (guest_shown driver) → t.device_open ≡ length (device_shown p.device)
+        → IsCompleteRun script apps entries bytes t opened h) }
+{}
