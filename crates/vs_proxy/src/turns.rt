@@ -66,6 +66,7 @@ impl Proxy {
     {
         let size = ring.size();
         let before = self.device.counters();
+        let owed = self.device.owes_event();
         let mut tally = Tally::new();
         self.tick_stage(host, now, &mut tally);
         self.event_stage(ring);
@@ -73,20 +74,21 @@ impl Proxy {
         self.hands_stage(host, &mut tally);
         self.pump_stage(host, &mut tally);
         self.fill_stage(ring, host, &mut tally);
-        self.turned(&before, &tally)
+        self.turned(&before, owed, &tally)
     }
 
-    // What a turn answers, from the counts before it and what it did.
-    fn turned(&self, before: &Counters, tally: &Tally) -> Turn
+    // What a turn answers, from the counts before it, whether an event was owed, and what it did.
+    fn turned(&self, before: &Counters, owed: bool, tally: &Tally) -> Turn
         requires opened { self.now.device.failed ≡ None → self.now.device.opened < before.now.opened + 2 ^ 32 }
         requires closed { self.now.device.failed ≡ None → self.now.device.closed < before.now.closed + 2 ^ 32 }
-        ensures turned { (s : ProxyState) → before.now ≡ counters_of s.device → result ≡ turned s (turning_of self.now tally.now) }
+        ensures turned { (s : ProxyState) → before.now ≡ counters_of s.device → owed ≡ s.device.event_owed → result ≡ turned s (turning_of self.now tally.now) }
         ensures failed { (f : Failure) → result ≡ turn.Failed f → self.now.device.failed ≡ Some f }
     {
         if let Some(failure) = self.device.failure() {
             return Turn::Failed(failure);
         }
         let after = self.device.counters();
+        let owes = self.device.owes_event();
         Turn::Turned(Turned {
             took: tally.took,
             put: tally.put,
@@ -95,6 +97,7 @@ impl Proxy {
             opened: after.opened.saturating_sub(before.opened) as u32,
             closed: after.closed.saturating_sub(before.closed) as u32,
             hands: tally.hands,
+            event: owed && !owes,
         })
     }
 

@@ -146,7 +146,8 @@ returns g c =
     let r1 : Runs (ticks size c.args.now s) x0 t1 x1 = subst P (sym (begun s c.new-tally.result c.new-tally.ensures)) (c.tick_stage.ensures.calls (g.R.DeviceRing.contents c.args.ring.now)) in
     let end : ProxyState × Turn = (c.fill_stage.new.self, c.turned.result) in
     let before : c.counters-before.result ≡ counters_of s.device = c.counters-before.ensures.counters ∙ ap (λ (y : ProxyState). counters_of y.device) c.self.view_is in
-    let answer : c.turned.result ≡ turned s t6 = c.turned.ensures.turned s before in
+    let owed : c.owes_event-owed.result ≡ s.device.event_owed = c.owes_event-owed.ensures ∙ ap (λ (y : ProxyState). y.device.event_owed) c.self.view_is in
+    let answer : c.turned.result ≡ turned s t6 = c.turned.ensures.turned s before owed in
     let l6 : Runs (from_end size c.args.now s t6) x6 end x6 = (ap (λ (y : Turn). let p : ProxyState × Turn = (c.fill_stage.new.self, y) in p) (sym answer), refl) in
     let l5 = stage_then size c.args.now s (fill_stage) (from_end size c.args.now s) t5 t6 end x5 x6 x6 (c.fill_stage.ensures.calls) l6 in
     let l4 = stage_then size c.args.now s (pump_stage) (from_fill size c.args.now s) t4 t5 end x4 x5 x6 (c.pump_stage.ensures.calls (g.R.DeviceRing.contents c.take_stage.new.ring)) l5 in
