@@ -1,8 +1,10 @@
-//! Tests of the driver alone, and of the world as a program.
+//! Tests of the driver alone, of the world as a program, and of the skeleton of a monitor.
 #![tactic(auto)]
 
 #[cfg(test)]
 mod driver;
+#[cfg(test)]
+mod monitor;
 #[cfg(test)]
 mod polls;
 #[cfg(test)]

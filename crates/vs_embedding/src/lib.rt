@@ -7,5 +7,5 @@ pub mod monitor;
 pub mod queues;
 
 pub use collector::Collector;
-pub use monitor::{Monitor, Served};
+pub use monitor::{Monitor, NewError, Served};
 pub use queues::{MonitorRing, Popped, Virtqueues};

@@ -12,7 +12,7 @@ ghost use Rattle.laws_device.specs.Honest.{AgreesWith, IsLeftOpen};
 ghost use Rattle.laws_proxy.specs.{Honest.IsProxyStreamed, Honest.IsProxyWith, Order.IsInOrder};
 ghost use Rattle.vs_proxy_parts.specs.{Handshakes.streams_of, State.ProxyState, Turning.turning_of, Turns.close_handshake};
 ghost use Rattle.vs_proxy_parts.specs.Turns.{proxy_reset_of, turn_of, turned};
-ghost use Rattle.laws_proxy_bytes.specs.{Counts.CountsFaults, Counts.DeviceCounts, Counts.counts_of, Counts.counts_shown, Made.Made};
+ghost use Rattle.laws_proxy_bytes.specs.{Counts.CountsFaults, Counts.DeviceCounts, Counts.counts_of, Counts.counts_shown, Events.TellsEvent, Made.Made};
 ghost use Rattle.laws_proxy_bytes.specs.{Made.Makes, Packets.AreJudged, Packets.chains_taken, Told.AreAccounted, Told.StayAccounted};
 ghost use Rattle.vs_proxy_parts.specs.declared.answers.Turn.TheVariants as turn;
 
@@ -59,6 +59,9 @@ impl Proxy {
         // and counted, or is the ring's failure.
         ensures judged { (calls later : List Made) → Leads Makes (turn_of (R.size ring.old) now self.old) calls (self.new, result) later
             → AreJudged (R.size ring.old) now self.old calls (self.new, result) later }
+        // It tells of an event exactly where one was put: a chain was returned with the four bytes of an event.
+        ensures event { (calls later : List Made) → Leads Makes (turn_of (R.size ring.old) now self.old) calls (self.new, result) later
+            → TellsEvent result calls later }
         // The counts of packets dropped and of faults are what the calls made come to, where they were before; the faults are the host's.
         ensures counts { (calls later : List Made) → Leads Makes (turn_of (R.size ring.old) now self.old) calls (self.new, result) later
             → (first : DeviceCounts) → counts_shown self.old.device ≡ counts_of first calls → counts_shown self.new.device ≡ counts_of first later }

@@ -4,7 +4,7 @@ use Rattle.vs_proxy_parts.specs.{Handshakes.shake_hands, State.ProxyState, State
 use Rattle.vs_proxy_parts.specs.Turns.{event_stage, fill_stage, pump_stage, take_stage, tick_stage, turn_of, turned, unless_failed}
 use Rattle.vs_proxy_parts.specs.declared.{answers.Turn.Turn, tally.Tally.Tally}
 use Rattle.laws_proxy.proofs.Ordered.{turn_honest, turn_may, turn_streamed, turn_streams}
-use Rattle.laws_proxy_bytes.proofs.{Packets.turn_counts, Packets.turn_faults, Packets.turn_is_judged, Turning.turn_accounted}
+use Rattle.laws_proxy_bytes.proofs.{Events.turn_tells_event, Packets.turn_counts, Packets.turn_faults, Packets.turn_is_judged, Turning.turn_accounted}
 use Rattle.vs_proxy.proofs.WholeTurn.{from_end, from_event, from_fill, from_hands, from_pump, from_take, may_event, may_now, may_then}
 use Rattle.vs_proxy.proofs.WholeTurn.{may_tick, nothing, stage_then, ticks}
 use Rattle.vs_proxy.proofs.proxy.Proxy.turn.Goals as goal
@@ -166,6 +166,7 @@ returns g c =
       streamed = turn_streamed s x0 x6 whole c.args.now end ran;
       bytes = turn_accounted whole c.args.now s x0 x6 end ran;
       judged = λ calls later leads. turn_is_judged whole c.args.now s calls later end leads;
+      event = λ calls later leads. turn_tells_event whole c.args.now s calls later end leads;
       counts = λ calls later leads first. turn_counts whole c.args.now s calls later end first leads;
       faults = turn_faults whole c.args.now s x0 x6 end ran;
       kept = λ f failed.
