@@ -37,7 +37,11 @@ made_to Q (Ask call next) calls later x keeps leads =
 
 -- A packet has more bytes than an event.
 longer : (n k : ℕ) → n ≡ cond (HEADER_LEN + k == 4) (n + 1) n
-longer n k = grind (arith, nat_tests)
+longer n k = by (HEADER_LEN + k == 4) refl
+  where
+    by : (b : Bool) → (HEADER_LEN + k == 4) ≡ b → n ≡ cond b (n + 1) n
+    by true is = grind (arith, nat_tests, is)
+    by false is = refl
 
 abbrev one : Bool → ℕ
 one b = cond b 1 0
@@ -137,7 +141,7 @@ module _ (from : ℕ) (was : Bool) where
       keeps_turn events D shakes closes U takes writes fills size now s from (ap (λ (b : Bool). from + one b) is, omega arith)
 
 -- What the answer says.
-IsTold : ProxyState → ProxyState × Turn → Type 0
+abbrev IsTold : ProxyState → ProxyState × Turn → Type 0
 IsTold s x = (t : Turned) → x.1 ≡ turn.Turned t → t.event ≡ (s.device.event_owed && not x.0.device.event_owed)
 
 told_by : (s : ProxyState) (l : Turning) (t : Turned) (o : Option Failure) → (elim o as (λ _. Turn) [
@@ -188,19 +192,16 @@ module _ (size now : ℕ) (s : ProxyState) where
   by from n false true event kept is = let e : n + 1 ≡ from + 0 = kept.0 in absurd (omega (arith, e, kept.1))
   by from n false false event kept is = let e : n + 0 ≡ from + 0 = kept.0 in rw is (omega (arith, e))
 
+  tells : (calls later : List Made) (x : ProxyState × Turn) → Leads Makes (turn_of size now s) calls x later → (a : Turn) → x.1 ≡ a
+      → TellsEvent a calls later
+  tells calls later x leads (turn.Failed f) is = tt
+  tells calls later x leads (turn.Turned t) is =
+      let owed = s.device.event_owed in
+      let kept = made_to (λ (y : ProxyState × Turn) n. D (events_put calls) owed y.0.handshakes None (seen y.0.device) n) (turn_of size now s) calls later x
+      (owed_after (events_put calls) owed size now s refl) leads in
+      by (events_put calls) (events_put later) owed x.0.device.event_owed t.event kept
+      (end_of (IsTold s) Makes (turn_of size now s) calls later x is_told leads t is)
+
   pub turn_tells_event : (calls later : List Made) (x : ProxyState × Turn) → Leads Makes (turn_of size now s) calls x later
       → TellsEvent x.1 calls later
-  turn_tells_event calls later x leads = tells x.1 refl
-    where
-      was : Bool
-      was = s.device.event_owed
-
-      kept : D (events_put calls) was x.0.handshakes None (seen x.0.device) (events_put later)
-      kept = made_to (λ (y : ProxyState × Turn) n. D (events_put calls) was y.0.handshakes None (seen y.0.device) n)
-          (turn_of size now s) calls later x (owed_after (events_put calls) was size now s refl) leads
-
-      tells : (a : Turn) → x.1 ≡ a → TellsEvent a calls later
-      tells (turn.Failed f) is = tt
-      tells (turn.Turned t) is =
-          by (events_put calls) (events_put later) was x.0.device.event_owed t.event kept
-          (end_of (IsTold s) Makes (turn_of size now s) calls later x is_told leads t is)
+  turn_tells_event calls later x leads = tells calls later x leads x.1 refl

@@ -2,7 +2,7 @@
 use Rattle.std.specs.Prelude.{◌≡◌, ℕ, ◌+◌, ◌==◌, if◌then◌else◌, List, [], ◌∷◌}
 use Rattle.vs_ring_port.specs.Contents.{Return}
 use Rattle.vs_device_parts.specs.Calls.{Call, Ring}
-use Rattle.vs_proxy_parts.specs.declared.answers.{Turn.Turn, Turned.Turned}
+use Rattle.vs_proxy_parts.specs.declared.answers.Turn.{Turn}
 use Rattle.laws_proxy_bytes.specs.Made.{Made}
 use Rattle.vs_proxy_parts.specs.declared.answers.Turn.TheVariants as turn
 

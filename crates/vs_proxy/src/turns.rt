@@ -1,6 +1,6 @@
 //! The turn of a proxy, and a transport reset.
 
-ghost use Rattle.std.specs.Prelude.{◌≡◌, ◌≤◌, ◌<◌, ◌+◌, ◌^◌, ℕ, List, Contains, length, [], true, Some, None, IfErr, OnErr, OnOk, Err};
+ghost use Rattle.std.specs.Prelude.{◌≡◌, ◌≤◌, ◌<◌, ◌+◌, ◌^◌, ◌&&◌, not, ℕ, List, Contains, length, [], true, Some, None, IfErr, OnErr, OnOk, Err};
 ghost use Rattle.std.specs.Option.{ForSome};
 ghost use Rattle.vs_contents.specs.CallTree.{Leads, for_each};
 ghost use Rattle.vs_limits.specs.declared.TheConstants.{BUF_ALLOC, GUEST_CID_MIN, GUEST_CID_MAX};
@@ -100,7 +100,7 @@ impl Proxy {
             opened: after.opened.saturating_sub(before.opened) as u32,
             closed: after.closed.saturating_sub(before.closed) as u32,
             hands: tally.hands,
-            event: owed && !owes,
+            event: has_paid(owed, owes),
         })
     }
 
@@ -206,4 +206,11 @@ impl Proxy {
     {
         self.device.failure()
     }
+}
+
+// Whether an event that was owed was put.
+fn has_paid(owed: bool, owes: bool) -> bool
+    ensures { result ≡ (owed && not owes) }
+{
+    owed && !owes
 }
