@@ -5,7 +5,8 @@ use std::test::Fail;
 use vs_embedding::{Collector, Monitor, NewError, Popped, Served, Virtqueues};
 use vs_ring_port::Queue;
 
-// The virtqueues of a guest that gave one chain, of the event queue: its four bytes, whether it came back, and the CID of the configuration.
+// The virtqueues of a guest that gave one chain, of the event queue: its four bytes, whether it came back, and the CID in the
+// configuration.
 #[derive(Drop)]
 struct Sleeper {
     given: bool,
