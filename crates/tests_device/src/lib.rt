@@ -1,10 +1,8 @@
-//! Tests of the driver alone, of the world as a program, and of the skeleton of a monitor.
+//! Tests of the driver alone, and of the world as a program.
 #![tactic(auto)]
 
 #[cfg(test)]
 mod driver;
-#[cfg(test)]
-mod monitor;
 #[cfg(test)]
 mod polls;
 #[cfg(test)]

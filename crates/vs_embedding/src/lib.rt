@@ -5,6 +5,8 @@
 pub mod collector;
 pub mod monitor;
 pub mod queues;
+#[cfg(test)]
+mod tests;
 
 pub use collector::Collector;
 pub use monitor::{Monitor, NewError, Served};

@@ -98,7 +98,7 @@ impl<V: Virtqueues, H: HostNet> Monitor<V, H> {
     {
         law_of_order();
         let turn = self.proxy.turn(&mut self.ring, &mut self.host, now);
-        served(turn)
+        outcome_of(turn)
     }
 
     /// Ends all connections of a guest that goes on under another CID, 3 to 4,294,967,294, as after a snapshot was restored: a turn tells
@@ -139,7 +139,7 @@ impl<V: Virtqueues, H: HostNet> Monitor<V, H> {
 }
 
 // What a turn's answer says of the next round.
-fn served(turn: Turn) -> Served
+fn outcome_of(turn: Turn) -> Served
     ensures { result ≡ served_by turn }
 {
     match turn {

@@ -1,8 +1,8 @@
 //! A guest that sleeps until the monitor interrupts it.
 
+use crate::{Collector, Monitor, NewError, Popped, Served, Virtqueues};
 use std::alloc::Global;
 use std::test::Fail;
-use vs_embedding::{Collector, Monitor, NewError, Popped, Served, Virtqueues};
 use vs_ring_port::Queue;
 
 // The virtqueues of a guest that gave one chain, of the event queue: its four bytes, whether it came back, and the CID in the
