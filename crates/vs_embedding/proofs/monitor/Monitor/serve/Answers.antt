@@ -1,9 +1,9 @@
 use Rattle.vs_device_parts.specs.Playing.{situation}
-use Rattle.vs_embedding.specs.Ring.{around, silent}
+use Rattle.vs_embedding.specs.Ring.{silent}
 use Rattle.vs_embedding.proofs.monitor.Monitor.serve.Goals as goal
 
-pub turn-requires-clause-order : goal.turn-requires-clause-order
-turn-requires-clause-order g c = c.self.invariant.order
+pub turn-turn-requires-clause-order : goal.turn-turn-requires-clause-order
+turn-turn-requires-clause-order g c = c.self.invariant.order
 
 pub invariant_of-self : goal.invariant_of-self
 invariant_of-self g c =
