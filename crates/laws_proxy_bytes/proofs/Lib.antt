@@ -16,3 +16,4 @@ pub mod Telling
 pub mod Walks
 pub mod Quiet
 pub mod Packets
+pub mod Events

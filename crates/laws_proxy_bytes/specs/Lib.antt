@@ -5,3 +5,4 @@ pub mod Counts
 pub mod Packets
 pub mod Carried
 pub mod Told
+pub mod Events

@@ -1,5 +1,5 @@
 -- A turn that put nothing.
-use Rattle.std.proofs.Common.{◌≡◌, ◌+◌, ◌-◌, ◌≤◌, ◌⊎◌, inl, inr, ℕ, Bool, true, false, Option, Some, None, Ok, Err, refl, sym, ap, subst, ◌∙◌, arith}
+use Rattle.std.proofs.Common.{◌≡◌, ◌+◌, ◌-◌, ◌≤◌, ◌&&◌, not, ◌⊎◌, inl, inr, ℕ, Bool, true, false, Option, Some, None, Ok, Err, refl, sym, ap, subst, ◌∙◌, arith}
 use Rattle.std.proofs.lemmas.Option.{same_Some}
 use Rattle.std.specs.Option.{ForSome}
 use Rattle.vs_contents.specs.{CallTree.Done, Contents.Relates}
@@ -82,6 +82,7 @@ says_by : (s : ProxyState) (l : Turning) (t : Turned) (o : Option Failure) → (
     opened = l.state.device.opened - s.device.opened;
     closed = l.state.device.closed - s.device.closed;
     hands = l.hands;
+    event = s.device.event_owed && not l.state.device.event_owed;
   })
 ]) ≡ turn.Turned t → (o ≡ None) × (l.put ≡ t.put)
 says_by s l t (Some f) answer = absurd cc
@@ -95,6 +96,7 @@ says_by s l t None answer = (
     opened = l.state.device.opened - s.device.opened;
     closed = l.state.device.closed - s.device.closed;
     hands = l.hands;
+    event = s.device.event_owed && not l.state.device.event_owed;
   } in u) ≡ t = cc in ap (λ (u : Turned). u.put) same),
 )
 

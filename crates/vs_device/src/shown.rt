@@ -21,6 +21,13 @@ impl Device {
         self.slots.has_place()
     }
 
+    /// Whether the event of a transport reset is owed.
+    pub fn owes_event(&self) -> bool
+        ensures { result ≡ self.now.event_owed }
+    {
+        self.event.owed()
+    }
+
     /// The failure of the ring, where it failed.
     pub fn failure(&self) -> Option<Failure>
         ensures { result ≡ self.now.failed }

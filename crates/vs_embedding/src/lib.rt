@@ -5,7 +5,9 @@
 pub mod collector;
 pub mod monitor;
 pub mod queues;
+#[cfg(test)]
+mod tests;
 
 pub use collector::Collector;
-pub use monitor::{Monitor, Served};
+pub use monitor::{Monitor, NewError, Served};
 pub use queues::{MonitorRing, Popped, Virtqueues};

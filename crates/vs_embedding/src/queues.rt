@@ -80,6 +80,16 @@ impl<V: Virtqueues> MonitorRing<V> {
         let held = VecDeque::with_capacity(alloc, 3 * size as usize)?;
         Ok(MonitorRing { queues, size, held })
     }
+
+    /// The virtqueues.
+    pub fn queues(&self) -> &V {
+        &self.queues
+    }
+
+    /// The virtqueues. The chains that the device held are let go: they don't come back to the guest.
+    pub fn into_queues(self) -> V {
+        self.queues
+    }
 }
 
 impl<V: Virtqueues> DeviceRing for MonitorRing<V> {

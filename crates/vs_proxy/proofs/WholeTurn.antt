@@ -1,5 +1,5 @@
 -- A turn is its six stages.
-use Rattle.std.proofs.Common.{◌≡◌, ℕ, ◌-◌, Option, Some, None, ap, ◌∙◌}
+use Rattle.std.proofs.Common.{◌≡◌, ℕ, ◌-◌, ◌&&◌, not, Option, Some, None, ap, ◌∙◌}
 use Rattle.vs_contents.specs.CallTree.{Done, bind}
 use Rattle.vs_contents.proofs.{Leads.leads_bind, Conditions.may_first, Conditions.may_rest}
 use Rattle.vs_ring_port.specs.declared.failure.Failure.{Failure}
@@ -60,7 +60,7 @@ module _ (size now : ℕ) (s : ProxyState) where
     abbrev answer_of : Option Failure → Turn
     answer_of o = elim o [
       | Some e ↦ turn.Failed e
-      | None ↦ turn.Turned (record { took = 0; put = 0; read = 0; wrote = 0; opened = s.device.opened - s.device.opened; closed = s.device.closed - s.device.closed; hands = 0 })
+      | None ↦ turn.Turned (record { took = 0; put = 0; read = 0; wrote = 0; opened = s.device.opened - s.device.opened; closed = s.device.closed - s.device.closed; hands = 0; event = s.device.event_owed && not s.device.event_owed })
     ]
 
     end : from_end (start s) ≡ Done (s, turn.Failed f)

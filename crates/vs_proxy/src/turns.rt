@@ -1,6 +1,6 @@
 //! The turn of a proxy, and a transport reset.
 
-ghost use Rattle.std.specs.Prelude.{◌≡◌, ◌≤◌, ◌<◌, ◌+◌, ◌^◌, ℕ, List, Contains, length, [], true, Some, None, IfErr, OnErr, OnOk, Err};
+ghost use Rattle.std.specs.Prelude.{◌≡◌, ◌≤◌, ◌<◌, ◌+◌, ◌^◌, ◌&&◌, not, ℕ, List, Contains, length, [], true, Some, None, IfErr, OnErr, OnOk, Err};
 ghost use Rattle.std.specs.Option.{ForSome};
 ghost use Rattle.vs_contents.specs.CallTree.{Leads, for_each};
 ghost use Rattle.vs_limits.specs.declared.TheConstants.{BUF_ALLOC, GUEST_CID_MIN, GUEST_CID_MAX};
@@ -12,7 +12,7 @@ ghost use Rattle.laws_device.specs.Honest.{AgreesWith, IsLeftOpen};
 ghost use Rattle.laws_proxy.specs.{Honest.IsProxyStreamed, Honest.IsProxyWith, Order.IsInOrder};
 ghost use Rattle.vs_proxy_parts.specs.{Handshakes.streams_of, State.ProxyState, Turning.turning_of, Turns.close_handshake};
 ghost use Rattle.vs_proxy_parts.specs.Turns.{proxy_reset_of, turn_of, turned};
-ghost use Rattle.laws_proxy_bytes.specs.{Counts.CountsFaults, Counts.DeviceCounts, Counts.counts_of, Counts.counts_shown, Made.Made};
+ghost use Rattle.laws_proxy_bytes.specs.{Counts.CountsFaults, Counts.DeviceCounts, Counts.counts_of, Counts.counts_shown, Events.TellsEvent, Made.Made};
 ghost use Rattle.laws_proxy_bytes.specs.{Made.Makes, Packets.AreJudged, Packets.chains_taken, Told.AreAccounted, Told.StayAccounted};
 ghost use Rattle.vs_proxy_parts.specs.declared.answers.Turn.TheVariants as turn;
 
@@ -59,6 +59,9 @@ impl Proxy {
         // and counted, or is the ring's failure.
         ensures judged { (calls later : List Made) → Leads Makes (turn_of (R.size ring.old) now self.old) calls (self.new, result) later
             → AreJudged (R.size ring.old) now self.old calls (self.new, result) later }
+        // It tells of an event exactly where one was put: a chain was returned with the four bytes of an event.
+        ensures event { (calls later : List Made) → Leads Makes (turn_of (R.size ring.old) now self.old) calls (self.new, result) later
+            → TellsEvent result calls later }
         // The counts of packets dropped and of faults are what the calls made come to, where they were before; the faults are the host's.
         ensures counts { (calls later : List Made) → Leads Makes (turn_of (R.size ring.old) now self.old) calls (self.new, result) later
             → (first : DeviceCounts) → counts_shown self.old.device ≡ counts_of first calls → counts_shown self.new.device ≡ counts_of first later }
@@ -66,6 +69,7 @@ impl Proxy {
     {
         let size = ring.size();
         let before = self.device.counters();
+        let owed = self.device.owes_event();
         let mut tally = Tally::new();
         self.tick_stage(host, now, &mut tally);
         self.event_stage(ring);
@@ -73,20 +77,21 @@ impl Proxy {
         self.hands_stage(host, &mut tally);
         self.pump_stage(host, &mut tally);
         self.fill_stage(ring, host, &mut tally);
-        self.turned(&before, &tally)
+        self.turned(&before, owed, &tally)
     }
 
-    // What a turn answers, from the counts before it and what it did.
-    fn turned(&self, before: &Counters, tally: &Tally) -> Turn
+    // What a turn answers, from the counts before it, whether an event was owed, and what it did.
+    fn turned(&self, before: &Counters, owed: bool, tally: &Tally) -> Turn
         requires opened { self.now.device.failed ≡ None → self.now.device.opened < before.now.opened + 2 ^ 32 }
         requires closed { self.now.device.failed ≡ None → self.now.device.closed < before.now.closed + 2 ^ 32 }
-        ensures turned { (s : ProxyState) → before.now ≡ counters_of s.device → result ≡ turned s (turning_of self.now tally.now) }
+        ensures turned { (s : ProxyState) → before.now ≡ counters_of s.device → owed ≡ s.device.event_owed → result ≡ turned s (turning_of self.now tally.now) }
         ensures failed { (f : Failure) → result ≡ turn.Failed f → self.now.device.failed ≡ Some f }
     {
         if let Some(failure) = self.device.failure() {
             return Turn::Failed(failure);
         }
         let after = self.device.counters();
+        let owes = self.device.owes_event();
         Turn::Turned(Turned {
             took: tally.took,
             put: tally.put,
@@ -95,6 +100,7 @@ impl Proxy {
             opened: after.opened.saturating_sub(before.opened) as u32,
             closed: after.closed.saturating_sub(before.closed) as u32,
             hands: tally.hands,
+            event: has_paid(owed, owes),
         })
     }
 
@@ -200,4 +206,11 @@ impl Proxy {
     {
         self.device.failure()
     }
+}
+
+// Whether an event that was owed was put.
+fn has_paid(owed: bool, owes: bool) -> bool
+    ensures { result ≡ (owed && not owes) }
+{
+    owed && !owes
 }

@@ -3,3 +3,4 @@ pub mod Handshakes
 pub mod Turns
 pub mod HandshakeFields
 pub mod Turning
+pub mod Used

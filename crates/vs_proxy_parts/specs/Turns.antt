@@ -1,5 +1,5 @@
 -- The proxy's turn: its stages in order.
-use Rattle.std.specs.Prelude.{ℕ, ◌+◌, ◌-◌, Bool, true, false, List, [], Some, None, Result, Ok, Err}
+use Rattle.std.specs.Prelude.{ℕ, ◌+◌, ◌-◌, ◌&&◌, not, Bool, true, false, List, [], Some, None, Result, Ok, Err}
 use Rattle.vs_contents.specs.CallTree.{Done, Ask, bind, for_each, while_up_to}
 use Rattle.vs_limits.specs.declared.TheConstants.{ASSIGNED_FIRST}
 use Rattle.vs_ring_port.specs.declared.failure.Failure.{Failure}
@@ -49,7 +49,7 @@ filled (Err failure) t = t
 abbrev pub fill_stage : Turning → DeviceTree Turning
 fill_stage t = bind (fill_rx_of t.state.device) (λ r. Done (filled r.1 (device_after r.0 t)))
 
--- What a turn did, from the state before it.
+-- What a turn did, from the state before it. The event that is owed no more was put.
 abbrev pub turned : ProxyState → Turning → Turn
 turned s t = elim t.state.device.failed [
   | Some f ↦ turn.Failed f
@@ -61,6 +61,7 @@ turned s t = elim t.state.device.failed [
     opened = t.state.device.opened - s.device.opened;
     closed = t.state.device.closed - s.device.closed;
     hands = t.hands;
+    event = s.device.event_owed && not t.state.device.event_owed;
   })
 ]
 

@@ -1,5 +1,9 @@
 //! What the proxy's calls answer.
-use vs_ring_port::Failure;
+
+ghost use Rattle.std.specs.Prelude.{◌≡◌};
+ghost use Rattle.vs_proxy_parts.specs.Used.{has_used};
+
+use vs_ring_port::{Failure, Queue};
 
 /// What a turn did.
 #[derive(Clone, Copy, Debug, PartialEq, Eq)]
@@ -18,6 +22,22 @@ pub struct Turned {
     pub closed: u32,
     /// Streams accepted and handshakes closed.
     pub hands: u32,
+    /// Whether the event of a transport reset was put on the event queue.
+    pub event: bool,
+}
+
+impl Turned {
+    /// Whether chains of this queue were returned, so that the guest, where it asked to be told of them, has to be interrupted (Virtio 1.2,
+    /// section 2.7.7).
+    pub fn has_used(&self, queue: Queue) -> bool
+        ensures { result ≡ has_used queue self.now }
+    {
+        match queue {
+            Queue::Rx => 0 < self.put,
+            Queue::Tx => 0 < self.took,
+            Queue::Event => self.event,
+        }
+    }
 }
 
 /// What a turn answers.

@@ -37,9 +37,6 @@ neither = grind (arith, common_steps)
 none : (n : ℕ) (b : Bool) → (nat_lt 0 n || b) ≡ false → (n ≡ 0) × (b ≡ false)
 none n b is = let two = neither (nat_lt 0 n) b is in let no = two.0 in (grind (arith, nat_tests, no), two.1)
 
-none_last : (n : ℕ) → nat_lt 0 n ≡ false → n ≡ 0
-none_last n is = grind (arith, nat_tests, is)
-
 pub turn_stands : (x : Turn) → turn_moved x ≡ false → x ≡ turn.Turned no_turn
 turn_stands (turn.Failed f) is = absurd cc
 turn_stands (turn.Turned t) is =
@@ -49,7 +46,7 @@ turn_stands (turn.Turned t) is =
     let wrote = none t.wrote _ read.1 in
     let opened = none t.opened _ wrote.1 in
     let closed = none t.closed _ opened.1 in
-    let hands = none_last t.hands closed.1 in
+    let hands = none t.hands _ closed.1 in
     λ i. turn.Turned (record {
       took = took.0 i;
       put = put.0 i;
@@ -57,7 +54,8 @@ turn_stands (turn.Turned t) is =
       wrote = wrote.0 i;
       opened = opened.0 i;
       closed = closed.0 i;
-      hands = hands i;
+      hands = hands.0 i;
+      event = hands.1 i;
     })
 
 poll_none : (p : Polled) → poll_moved p ≡ false → (p.took ≡ 0) × (p.posted ≡ 0)

@@ -14,11 +14,11 @@ use Rattle.vs_apps.specs.Guests.{GuestsState, run_in}
 
 -- A turn that did nothing, and whether one did anything. A ring that failed did.
 abbrev pub no_turn : Turned
-no_turn = record { took = 0; put = 0; read = 0; wrote = 0; opened = 0; closed = 0; hands = 0 }
+no_turn = record { took = 0; put = 0; read = 0; wrote = 0; opened = 0; closed = 0; hands = 0; event = false }
 
 abbrev pub turn_moved : Turn → Bool
 turn_moved (turn.Turned t) =
-    nat_lt 0 t.took || (nat_lt 0 t.put || (nat_lt 0 t.read || (nat_lt 0 t.wrote || (nat_lt 0 t.opened || (nat_lt 0 t.closed || nat_lt 0 t.hands)))))
+    nat_lt 0 t.took || (nat_lt 0 t.put || (nat_lt 0 t.read || (nat_lt 0 t.wrote || (nat_lt 0 t.opened || (nat_lt 0 t.closed || (nat_lt 0 t.hands || t.event))))))
 turn_moved (turn.Failed f) = true
 
 -- The device's end, but for what it was told and looked up of the driver's.

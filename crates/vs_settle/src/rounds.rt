@@ -39,6 +39,7 @@ fn has_turned(turn: Turn) -> bool
                 || 0 < t.opened
                 || 0 < t.closed
                 || 0 < t.hands
+                || t.event
         }
         Turn::Failed(_) => true,
     }

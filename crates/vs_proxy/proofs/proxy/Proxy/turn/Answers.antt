@@ -4,7 +4,7 @@ use Rattle.vs_proxy_parts.specs.{Handshakes.shake_hands, State.ProxyState, State
 use Rattle.vs_proxy_parts.specs.Turns.{event_stage, fill_stage, pump_stage, take_stage, tick_stage, turn_of, turned, unless_failed}
 use Rattle.vs_proxy_parts.specs.declared.{answers.Turn.Turn, tally.Tally.Tally}
 use Rattle.laws_proxy.proofs.Ordered.{turn_honest, turn_may, turn_streamed, turn_streams}
-use Rattle.laws_proxy_bytes.proofs.{Packets.turn_counts, Packets.turn_faults, Packets.turn_is_judged, Turning.turn_accounted}
+use Rattle.laws_proxy_bytes.proofs.{Events.turn_tells_event, Packets.turn_counts, Packets.turn_faults, Packets.turn_is_judged, Turning.turn_accounted}
 use Rattle.vs_proxy.proofs.WholeTurn.{from_end, from_event, from_fill, from_hands, from_pump, from_take, may_event, may_now, may_then}
 use Rattle.vs_proxy.proofs.WholeTurn.{may_tick, nothing, stage_then, ticks}
 use Rattle.vs_proxy.proofs.proxy.Proxy.turn.Goals as goal
@@ -146,7 +146,8 @@ returns g c =
     let r1 : Runs (ticks size c.args.now s) x0 t1 x1 = subst P (sym (begun s c.new-tally.result c.new-tally.ensures)) (c.tick_stage.ensures.calls (g.R.DeviceRing.contents c.args.ring.now)) in
     let end : ProxyState × Turn = (c.fill_stage.new.self, c.turned.result) in
     let before : c.counters-before.result ≡ counters_of s.device = c.counters-before.ensures.counters ∙ ap (λ (y : ProxyState). counters_of y.device) c.self.view_is in
-    let answer : c.turned.result ≡ turned s t6 = c.turned.ensures.turned s before in
+    let owed : c.owes_event-owed.result ≡ s.device.event_owed = c.owes_event-owed.ensures ∙ ap (λ (y : ProxyState). y.device.event_owed) c.self.view_is in
+    let answer : c.turned.result ≡ turned s t6 = c.turned.ensures.turned s before owed in
     let l6 : Runs (from_end size c.args.now s t6) x6 end x6 = (ap (λ (y : Turn). let p : ProxyState × Turn = (c.fill_stage.new.self, y) in p) (sym answer), refl) in
     let l5 = stage_then size c.args.now s (fill_stage) (from_end size c.args.now s) t5 t6 end x5 x6 x6 (c.fill_stage.ensures.calls) l6 in
     let l4 = stage_then size c.args.now s (pump_stage) (from_fill size c.args.now s) t4 t5 end x4 x5 x6 (c.pump_stage.ensures.calls (g.R.DeviceRing.contents c.take_stage.new.ring)) l5 in
@@ -165,6 +166,7 @@ returns g c =
       streamed = turn_streamed s x0 x6 whole c.args.now end ran;
       bytes = turn_accounted whole c.args.now s x0 x6 end ran;
       judged = λ calls later leads. turn_is_judged whole c.args.now s calls later end leads;
+      event = λ calls later leads. turn_tells_event whole c.args.now s calls later end leads;
       counts = λ calls later leads first. turn_counts whole c.args.now s calls later end first leads;
       faults = turn_faults whole c.args.now s x0 x6 end ran;
       kept = λ f failed.
