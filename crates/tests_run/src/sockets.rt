@@ -54,39 +54,40 @@ fn an_app_and_a_plain_listener(rt: HostRuntime) -> Result<(), Fail> {
     Ok(())
 }
 
-/// How a client of the guest's port 70 ends that asks again where nobody listens yet.
-fn patient<R: AllocGlobal + Threads + Wait + Sync + Net + Files + Clone + Drop>(
+/// How a client of the guest's port 70 ends that begins once an app has reached this listener.
+fn client<R: AllocGlobal + Threads + Wait + Sync + Net + Files + Clone + Drop>(
     rt: &R,
+    listener: UnixListener,
 ) -> io::Result<Ended> {
-    let line = "vsock peer --base guest.sock --port 70 --idle 1000000";
-    for _ in 0..100_000u32 {
-        let ended = over_sockets(rt, line, "hello", 0)?;
-        if !ended.is(8, "peer refused\n", "") {
-            return Ok(ended);
-        }
-        thread::yield_now();
-    }
-    over_sockets(rt, line, "hello", 0)
+    let _ = listener.accept()?;
+    over_sockets(
+        rt,
+        "vsock peer --base guest.sock --port 70 --idle 1000000",
+        "hello",
+        0,
+    )
 }
 
-/// A client of the host asks for a port that an app listens on.
+/// A client of the host asks for a port that an app listens on. The app says that it does by another connection.
 #[test]
 fn a_client_and_a_listening_app(rt: HostRuntime) -> Result<(), Fail> {
+    let listener = UnixListener::bind(&rt, "guest.sock_52")?;
     let theirs = rt.clone()?;
-    let client = thread::spawn(&rt, move || patient(&theirs))?;
+    let client = thread::spawn(&rt, move || client(&theirs, listener))?;
     let ended = over_sockets(
         &rt,
         "vsock run --base guest.sock --idle 1000000",
-        "app\nlisten 70\naccept 70\nrecv 5\nsend 776f726c64\nclose\n",
+        "app\nlisten 70\nconnect 52\nclose\naccept 70\nrecv 5\nsend 776f726c64\nclose\n",
         0,
     )?;
     let client = client.join(&rt)?;
     fs::remove_file(&rt, "guest.sock")?;
+    fs::remove_file(&rt, "guest.sock_52")?;
     assert!(rt; client.is(0, "port 1073741824\n", "world"));
     assert!(rt;
         ended.is(
             0,
-            "app 1 done\nconn 70 1073741824 sent 5 received 5 68656c6c6f\n",
+            "app 1 done\nconn 1024 52 sent 0 received 0 -\nconn 70 1073741824 sent 5 received 5 68656c6c6f\n",
             NONE_OPEN
         )
     );
