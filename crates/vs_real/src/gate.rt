@@ -8,14 +8,14 @@ use std::thread;
 use std::time::{Clock, Duration};
 use vs_outside::Gate;
 
-/// So many pauses in a row give up the processor at once. Those after them sleep.
-const YIELDS: u32 = 100;
+/// So many pauses in a row give up the processor at once, for a microsecond, which is as short as the system's clock allows.
+const SHORT_PAUSES: u32 = 16;
 
-/// So many sleeps in a row take twice as long each as the one before, from a microsecond on. Those after them take a millisecond.
-const SHORT_SLEEPS: u32 = 10;
+/// So many pauses behind them take twice as long each as the one before. Those after them take a millisecond.
+const LONGER_PAUSES: u32 = 10;
 
-/// A gate that holds nothing up, for one thread. A step that moved nothing lets another thread run; after some of these in a row the thread
-/// sleeps, so that one that waits for long takes next to no processor time.
+/// A gate that holds nothing up, for one thread. A step that moved nothing lets another thread run, and the thread sleeps the longer the more
+/// of these are in a row, so that one that waits for long takes next to no processor time.
 ///
 /// Pauses are in a row unless something moved between two of them: the gate was told of a second step or turn there, or bytes moved on the
 /// streams of the host beside it.
@@ -103,23 +103,16 @@ impl<R: Clock> Gate for BackoffGate<R> {
         if self.has_moved() {
             self.row = 0;
         }
-        rest(&self.rt, self.row);
+        thread::sleep(&self.rt, rest_behind(self.row));
         self.row = self.row.saturating_add(1);
     }
 }
 
-// A pause behind so many in a row.
-fn rest<R: Clock>(rt: &R, row: u32) {
-    match row.checked_sub(YIELDS) {
-        None => thread::yield_now(),
-        Some(sleeps) => thread::sleep(rt, sleep_behind(sleeps)),
-    }
-}
-
-// How long a sleep is behind so many in a row.
-fn sleep_behind(sleeps: u32) -> Duration {
-    if sleeps < SHORT_SLEEPS {
-        Duration::from_micros(1u64 << sleeps)
+// How long a pause is behind so many in a row.
+fn rest_behind(row: u32) -> Duration {
+    let longer = row.saturating_sub(SHORT_PAUSES);
+    if longer < LONGER_PAUSES {
+        Duration::from_micros(1u64 << longer)
     } else {
         Duration::from_millis(1)
     }

@@ -15,8 +15,8 @@ use vs_flow::Flow;
 use vs_outside::{Accepted, Dialed, HostNet, Started, StreamRead, StreamWrite};
 
 /// A host over Unix sockets, none of which waits. A read or a write makes at most one system call on its socket, behind a poll where it was
-/// told of the last one, and none where that poll showed that nothing can be there. Each error is a fault, and is counted; of accepts that fail
-/// in a row, one.
+/// told of the last one, and none where that poll showed that nothing can be there. Each error is a fault, and is counted; of accepts that
+/// fail in a row, one.
 ///
 /// The socket of the base path is removed with the host that made it, or by `stop`.
 pub struct UnixHost<R: Net + Files + AllocGlobal + Drop> {
