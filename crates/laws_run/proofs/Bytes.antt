@@ -1,29 +1,23 @@
 -- The bytes of a connection of a run that is at rest: what the apps sent and received, and what the host's programs read and wrote.
-use Rattle.std.proofs.Common.{◌≡◌, ℕ, ◌≤◌, true, false, List, [], ◌∷◌, Some, refl, sym, ap, subst, ◌∙◌, arith}
+use Rattle.std.proofs.Common.{◌≡◌, ℕ, ◌≤◌, List, Some, refl, sym, ap, subst, ◌∙◌}
 use Rattle.vs_flow.specs.{Connection.Connection, Connection.first_of, Flow.is_assigned, declared.flow.Flow.Flow}
 use Rattle.vs_limits.specs.declared.TheConstants.{FIRST_CID}
 use Rattle.laws_history.specs.{Again.count, Packets.is_request, declared.packet.Packet.Packet}
 use Rattle.laws_history.specs.History.{Answerer, Asker, Side, gots, peer, puts}
 use Rattle.vs_outside.specs.{Host.HostContents, HostBytes.host_read, HostBytes.host_wrote}
-use Rattle.vs_page.specs.Fair.{IsPrefixOf, asked_by, instance_from, number_of, payload_got, payload_of, payload_put}
-use Rattle.vs_page.specs.Log.{Device, Driver, Log, Role, flow_got, other_role, packets_got, packets_put, side_of, whole_of}
-use Rattle.vs_page.specs.declared.log.LogEntry.TheVariants.{GotEvent, GotPacket, Mark, PutEvent, PutPacket}
-use Rattle.vs_page.proofs.{Entries.got_on, Flows.opposite_by, Flows.same_self}
+use Rattle.vs_page.specs.Fair.{IsPrefixOf, asked_by, number_of, payload_got, payload_put}
+use Rattle.vs_page.specs.Log.{Device, Driver, side_of, whole_of}
+use Rattle.vs_page.proofs.{Flows.opposite_by}
 use Rattle.vs_driver_parts.specs.{Held.HeldSlots, State.DriverState}
 use Rattle.vs_device_parts.specs.Playing.{situation}
-use Rattle.vs_ring_shared.specs.Sights.{DeviceSight, Sight, device_contents, device_log}
+use Rattle.vs_ring_shared.specs.Sights.{DeviceSight, Sight, device_contents}
 use Rattle.vs_proxy_parts.specs.State.{ProxyState}
-use Rattle.laws_bytes.proofs.{Firsts.once_got, Firsts.once_put}
 use Rattle.laws_driver_bytes.specs.Calls.{Journal, account_of, received_by}
 use Rattle.laws_asked.specs.Asked.{AskOnce}
 use Rattle.laws_driver.specs.Honest.{ends_of_state as driver_ends}
 use Rattle.laws_device.specs.Honest.{ends_of_state as device_ends}
-use Rattle.laws_device.specs.Streams.{AreHeard, IsPlain}
-use Rattle.laws_device_bytes.specs.Streamed.{IsStreamed}
-use Rattle.laws_rest.proofs.Standing.{AreKept, device_kept}
 use Rattle.laws_proxy.specs.Honest.{IsProxyStreamed}
 use Rattle.laws_settled.specs.Settled.{IsSettled}
-use Rattle.laws_world.proofs.Bytes.{read_is_got, wrote_is_put}
 use Rattle.vs_apps_parts.specs.{Journals.sent_as, declared.journal.Entry.Entry}
 use Rattle.laws_apps.specs.Accounts.{HasOne, IsAccount}
 use Rattle.laws_apps.proofs.Naming.{sent_by_id}
