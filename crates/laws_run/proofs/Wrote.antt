@@ -9,24 +9,17 @@ use Rattle.vs_page.specs.Fair.{IsPrefixOf, asked_by, instance_from, number_of, p
 use Rattle.vs_page.specs.Log.{Device, Driver, Log, Role, flow_got, other_role, packets_got, packets_put, side_of, whole_of}
 use Rattle.vs_page.specs.declared.log.LogEntry.TheVariants.{GotEvent, GotPacket, Mark, PutEvent, PutPacket}
 use Rattle.vs_page.proofs.{Entries.got_on, Flows.opposite_by, Flows.same_self}
-use Rattle.vs_driver_parts.specs.{Held.HeldSlots, State.DriverState}
+use Rattle.vs_driver_parts.specs.{State.DriverState}
 use Rattle.vs_device_parts.specs.Playing.{situation}
 use Rattle.vs_ring_shared.specs.Sights.{DeviceSight, Sight, device_contents, device_log}
 use Rattle.vs_proxy_parts.specs.State.{ProxyState}
 use Rattle.laws_bytes.proofs.{Firsts.once_got, Firsts.once_put}
-use Rattle.laws_driver_bytes.specs.Calls.{Journal, account_of, received_by}
-use Rattle.laws_asked.specs.Asked.{AskOnce}
-use Rattle.laws_driver.specs.Honest.{ends_of_state as driver_ends}
-use Rattle.laws_device.specs.Honest.{ends_of_state as device_ends}
 use Rattle.laws_device.specs.Streams.{AreHeard, IsPlain}
 use Rattle.laws_device_bytes.specs.Streamed.{IsStreamed}
 use Rattle.laws_rest.proofs.Standing.{AreKept, device_kept}
 use Rattle.laws_proxy.specs.Honest.{IsProxyStreamed}
 use Rattle.laws_settled.specs.Settled.{IsSettled}
 use Rattle.laws_rest.proofs.Hosts.{read_is_got, wrote_is_put}
-use Rattle.vs_apps_parts.specs.{Journals.sent_as, declared.journal.Entry.Entry}
-use Rattle.laws_apps.specs.Accounts.{HasOne, IsAccount}
-use Rattle.laws_apps.proofs.Naming.{sent_by_id}
 
 -- Where an end got all that the other put, both have the same payload, and the same number of connections.
 module _ (role : Role) (mine other : Log) (all : packets_put other ≡ packets_got mine) where
