@@ -8,6 +8,8 @@ mod clients;
 #[cfg(test)]
 mod full;
 #[cfg(test)]
+mod gate;
+#[cfg(test)]
 mod loads;
 #[cfg(test)]
 mod rows;

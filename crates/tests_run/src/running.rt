@@ -1,11 +1,11 @@
 //! The command over a script and a host that is handed in.
 
+use crate::gate::YieldGate;
 use std::alloc::{AllocError, AllocGlobal, Global};
 use std::sync::Wait;
 use std::thread::Threads;
 use vs_header::Kind;
 use vs_outside::{HostNet, MemHost, MemSink, MemSource, StepClock};
-use vs_real::YieldGate;
 use vs_run::vsock_main;
 
 /// How a report ends where no connection is left, where one is, and where 64 are.

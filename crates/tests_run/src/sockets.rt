@@ -41,7 +41,6 @@ fn an_app_and_a_plain_listener(rt: HostRuntime) -> Result<(), Fail> {
         2,
     )?;
     let echoed = server.join(&rt);
-    fs::remove_file(&rt, "app.sock")?;
     fs::remove_file(&rt, "app.sock_52")?;
     assert!(rt; echoed.is_ok());
     assert!(rt;
@@ -81,7 +80,6 @@ fn a_client_and_a_listening_app(rt: HostRuntime) -> Result<(), Fail> {
         0,
     )?;
     let client = client.join(&rt)?;
-    fs::remove_file(&rt, "guest.sock")?;
     fs::remove_file(&rt, "guest.sock_52")?;
     assert!(rt; client.is(0, "port 1073741824\n", "world"));
     assert!(rt;
