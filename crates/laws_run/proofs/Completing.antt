@@ -1,13 +1,13 @@
 -- From what a run ends in to a complete report.
-use Rattle.std.proofs.Common.{◌≡◌, ◌+◌, ◌<◌, ◌≤◌, ◌==◌, ◌||◌, ◌&&◌, inl, inr, ℕ, suc, Bool, true, false, cond, List, [], ◌∷◌, ◌++◌, Option, Some, None, length, map}
+use Rattle.std.proofs.Common.{◌≡◌, ◌+◌, ◌<◌, ◌≤◌, ◌==◌, ◌||◌, ◌&&◌, inl, inr, ℕ, suc, Bool, true, false, cond, List, [], ◌∷◌, ◌++◌, Option, Some, None, Ok, length, map}
 use Rattle.std.proofs.Common.{Contains, slice_index_or, refl, sym, ap, subst, ◌∙◌, arith, append-nil}
 use Rattle.std.proofs.lemmas.{Bool.and_parts, Bool.Decides.nat_tests, Bool.eqb-true, Grind.common_steps, List.Elements.All-contains, List.length-map, Option.slice_get_read}
 use Rattle.std.specs.{List.AllPairs, Option.option_map, Option.unwrap_or, Prelude.not}
-use Rattle.vs_flow.specs.{Connection.Connection, Flow.same_flow, Table.IsTable, Table.entry_under, Table.value_under, declared.flow.Flow.Flow}
-use Rattle.vs_conn.specs.{End.ConnectionEnd, declared.end.State.{State, TheVariants.Ended, TheVariants.Live}}
+use Rattle.vs_flow.specs.{Connection.Connection, Connection.first_of, Flow.same_flow, Table.IsTable, Table.entry_under, Table.value_under, declared.flow.Flow.Flow}
+use Rattle.vs_conn.specs.{End.ConnectionEnd, End.may_send_of, declared.end.State.{State, TheVariants.Ended, TheVariants.Live}}
 use Rattle.vs_limits.specs.declared.TheConstants.{FIRST_CID}
-use Rattle.vs_outside.specs.{Faults.one_more, Host.HostContents, HostBytes.host_wrote}
-use Rattle.vs_page.specs.{Fair.current, Fair.number_of, Fair.payload_got, Log.Device, Log.Driver}
+use Rattle.vs_outside.specs.{Faults.one_more, Host.HostContents, HostBytes.host_read, HostBytes.host_wrote}
+use Rattle.vs_page.specs.{Fair.current, Fair.number_of, Fair.payload_got, Fair.payload_put, Log.Device, Log.Driver}
 use Rattle.vs_ring_shared.specs.Sights.{DeviceSight, Sight, device_contents, device_log, driver_contents, driver_log}
 use Rattle.vs_driver_parts.specs.{Connections.is_at_end, Connections.table_shown as guest_shown, State.DriverEntry, State.DriverState, State.entry_known_as, State.is_known_as}
 use Rattle.vs_driver_parts.specs.declared.answers.Polled.{Polled}
@@ -17,25 +17,27 @@ use Rattle.laws_tables.{specs.Ends.ends_of, proofs.Slots.found_by, proofs.Slots.
 use Rattle.vs_page.proofs.Flows.{same_is}
 use Rattle.laws_driver.specs.Honest.{IsFitEntry, end_in as driver_end, slots_of}
 use Rattle.laws_device.specs.Honest.{end_in as device_end}
-use Rattle.laws_bytes.specs.Drains.{receives}
+use Rattle.laws_bytes.{specs.Drains.got_on, specs.Drains.receives, proofs.Firsts.once_got}
 use Rattle.laws_driver_bytes.specs.{Calls.Journal, Calls.received_by, Received.ReceivesOn, Calls.account_of}
 use Rattle.laws_proxy.specs.Honest.{IsProxyStreamed}
-use Rattle.laws_rest.{specs.Rest.ArePaired, proofs.Quiet.in_list, proofs.Waiting.credit_there}
+use Rattle.laws_rest.{specs.Rest.ArePaired, proofs.Quiet.in_list, proofs.Waiting.credit_there, proofs.Waiting.unread_there}
 use Rattle.vs_credit.specs.Credit.{free_of, unread_of}
 use Rattle.vs_conn.specs.declared.shut.Shut.{Shut}
 use Rattle.vs_device_parts.specs.Receiving.{may_read}
 use Rattle.vs_flow.proofs.Entries.{found_at}
-use Rattle.laws_settled.specs.Settled.{IsSettled, IsSteady}
-use Rattle.vs_apps_parts.specs.{Journals.calls_of, Scripts.{RunScript, acts_of, id_of}, declared.{journal.Entry.Entry, journal.WaitsFor.WaitsFor, progress.AppState.AppState}}
+use Rattle.laws_settled.specs.{Exact.HoldsExactly, Settled.IsSettled, Settled.IsSteady, Settled.ends_at_rest}
+use Rattle.vs_apps_parts.specs.{Journals.calls_of, Journals.sent_as, Scripts.{RunScript, acts_of, id_of}, declared.{journal.Entry.Entry, journal.WaitsFor.WaitsFor, progress.AppState.AppState}}
 use Rattle.vs_apps_parts.specs.declared.journal.WaitsFor.TheVariants as waits
-use Rattle.laws_apps.specs.{Accounts.{HasOne, IsAccount}, Calls.run_with, Rounds.AllStand, Runs.IsRunOf, Runs.PollsTo, Runs.Run, Runs.poll_moved}
+use Rattle.laws_apps.proofs.Naming.{sent_by_id}
+use Rattle.laws_apps.specs.{Accounts.IsAccount, Calls.run_with, Rounds.AllStand, Runs.IsRunOf, Runs.PollsTo, Runs.Run, Runs.poll_moved}
 use Rattle.vs_report.specs.declared.giving.Totals.{Totals}
 use Rattle.vs_run_report.specs.{Endings.ending_at, Endings.state_at, Endings.why_at, Report.ended_at, Right.IsRightReport, declared.ending.Ending.Ending}
 use Rattle.vs_run_report.specs.declared.ending.Ending.TheVariants as ending
 use Rattle.laws_run.specs.Complete.{IsAtOpen, IsCompleteEnding, IsCompleteRun, IsCompleteWait, open_labels}
 use Rattle.laws_device.specs.Streams.{has_open_stream}
 use Rattle.laws_run.specs.Dry.{AreDry, IsDryAt, reads_of, reads_under}
-use Rattle.laws_run.proofs.{Alike.AreApart, Alike.HasApart, Alike.Leaves, Alike.leaves_core, Endings.Ends, Wrote.is_first, Wrote.streamed, Wrote.wrote_there}
+use Rattle.laws_run.proofs.{Alike.AreApart, Alike.HasApart, Alike.Leaves, Alike.leaves_core, Endings.Ends, Wrote.{is_first, same_payload, streamed, to_device, wrote_there}}
+use Rattle.laws_run.proofs.Unread.{no_free, to_read, unread_within}
 use Rattle.laws_run.proofs.{Endings.all_ends, Endings.ends_on, Halting.Halts, Open.among_entry, Open.among_open, Open.as_many_open, Open.one_dry, Reporting.accounted, Reporting.once, Reporting.right_with}
 use Rattle.laws_run.proofs.{Still.poll_still, Waiting.credit_call, Waiting.empty_call, Waiting.not_open, Waiting.recv_id, Waiting.send_id}
 
@@ -207,20 +209,54 @@ module _ (script : RunScript) (driver : DriverState) (end : Sight) (apps : List 
 
   -- One that is known by an id, on which nothing is unread.
   module _ (opened : ℕ → Connection) (account : IsAccount 1 opened journal entries end.log (slots_of driver)) where
+    first_known : (id : ℕ) (x : DriverEntry) → Contains driver.table.entries x → x.value.id ≡ id → (1 ≤ (opened id).number) × (opened id ≡ first_of x.flow)
+    first_known id x within named =
+        let on = All-contains (ReceivesOn (account_of 1 opened journal) end.log) driver.table.entries x account.right.received.held within in
+        let present : opened id ≡ current Driver x.flow end.log = subst (λ (i : ℕ). opened i ≡ current Driver x.flow end.log) named on.present in
+        let some = subst (λ (c : Connection). 1 ≤ c.number) (sym present) on.some in (
+          some,
+          is_first driver end p e settled one h faults streams (opened id) x.flow some (account.right.received.passed id) (ap (λ (c : Connection). c.flow) present),
+        )
+
     all_received : (id : ℕ) (x : DriverEntry) → Contains driver.table.entries x → x.value.id ≡ id → x.value.unread ≡ [] → receives x.value.end ≡ true
         → received_by id journal ≡ host_wrote (opened id) h
     all_received id x within named unread gets =
         let on = All-contains (ReceivesOn (account_of 1 opened journal) end.log) driver.table.entries x account.right.received.held within in
         let present : opened id ≡ current Driver x.flow end.log = subst (λ (i : ℕ). opened i ≡ current Driver x.flow end.log) named on.present in
-        let has : HasOne opened id (Some x.flow) =
-        (subst (λ (c : Connection). 1 ≤ c.number) (sym present) on.some, ap (λ (c : Connection). c.flow) present) in
-        let first = is_first driver end p e settled one h faults streams (opened id) x.flow has.0 (account.right.received.passed id) has.1 in
+        let first = (first_known id x within named).1 in
         let came : received_by x.value.id journal ++ x.value.unread ≡ payload_got Driver (current Driver x.flow end.log) end.log = on.drains.whole gets in
         subst (λ (i : ℕ). received_by id journal ≡ received_by i journal) (sym named) refl
         ∙ sym (append-nil (received_by x.value.id journal)) ∙ ap (λ (bs : List ℕ). received_by x.value.id journal ++ bs) (sym unread) ∙ came
         ∙ ap (λ (c : Connection). payload_got Driver c end.log) (sym present ∙ first)
         ∙ wrote_there driver end p e settled one h faults streams x.flow
         ∙ ap (λ (c : Connection). host_wrote c h) (sym first)
+
+    -- One that lacks credit: the device holds many bytes of it, which are what its host's program has still to read.
+    unread_by_host : (id : ℕ) (x : DriverEntry) → Contains driver.table.entries x → x.value.id ≡ id → may_send_of x.value.end ≡ Ok 0
+        → 32769 + length (host_read (opened id) h) ≤ length (sent_as id journal)
+    unread_by_host id x within named says =
+        let at = at_device x within in
+        let y = at.entry in
+        let live_there = at.paired.there.live in
+        let none = no_free x.value.end (live x within) says in
+        let goes_on : y.value.end.own.receive ≡ false = ap (λ (s : Shut). s.receive) (sym at.paired.here.peer) ∙ none.1 in
+        let least = unread_there x.value.end y.value.end at.paired none.0 (ap (λ (b : Bool). b && y.value.end.own.send) goes_on) in
+        let exact = (All-contains (λ (z : DeviceEntry). HoldsExactly z.value) p.device.table.entries y steady.exact at.within).exact (λ over. absurd cc) in
+        let on = streamed driver end p e settled one h faults streams in
+        let got = unread_within FIRST_CID (ends_at_rest driver end p e).device.part e.sight.log (settled.at_rest.matches Device) (settled.at_rest.fair Device)
+        y.flow (one y.flow) y.value.end (one_end device_end p.device.table y device_fits at.within) live_there in
+        let least_got : 32769 ≤ length (got_on Device y.flow e.sight.log) = omega (arith, least, got) in
+        let still = to_read h e.sight.log p.next_port p.device.table p.handshakes on y at.within live_there goes_on 32769 (omega (arith, least, exact)) least_got in
+        let first = first_known id x within named in
+        let came : sent_as id journal ≡ got_on Device y.flow e.sight.log =
+        sym (sent_by_id (account_of 1 opened journal) end.log (slots_of driver) account.right.received id first.0 journal account.right.sent.senders)
+        ∙ sym (account.right.sent.puts (opened id)) ∙ ap (λ (c : Connection). payload_put Driver c end.log) first.1
+        ∙ same_payload Device e.sight.log end.log (to_device driver end p e settled) (first_of x.flow)
+        ∙ ap (λ (f : Flow). payload_got Device (first_of f) e.sight.log) at.flow
+        ∙ once_got Device y.flow e.sight.log (settled.at_rest.fair Device y.flow) (one y.flow) in
+        subst (λ (c : Connection). 32769 + length (host_read c h) ≤ length (sent_as id journal)) (sym first.1)
+        (subst (λ (f : Flow). 32769 + length (host_read (first_of f) h) ≤ length (sent_as id journal)) (sym at.flow)
+        (subst (λ (bs : List ℕ). 32769 + length (host_read (first_of y.flow) h) ≤ length bs) (sym came) still))
 
     -- No connection has the id 0.
     id_some : (x : DriverEntry) → Contains driver.table.entries x → 1 ≤ x.value.id
@@ -255,7 +291,7 @@ module _ (script : RunScript) (driver : DriverState) (end : Sight) (apps : List 
         let found = contained is.id x is.says.there in
         let named : x.value.id ≡ is.id = eqb-true x.value.id is.id (and_parts (x.value.id == is.id) (not x.value.closed) found.1).0 in
         let own : id_of (state_at k apps).progress ≡ is.id = send_id halts.act (state_at k apps).progress is.id is.bytes (halts.last ∙ ap (λ c. Some c) is.call) in
-        (is.id, at_open k is.id x found.0 named own)
+        (is.id, at_open k is.id x found.0 named own, unread_by_host is.id x found.0 named is.says.says)
     wait_complete k waits.NoneWaiting halts = tt
     wait_complete k waits.NotOpen halts =
         let no = not_open halts.call driver (halts.stops apart) in absurd (no.state (live no.entry (contained no.id no.entry no.there).0))
