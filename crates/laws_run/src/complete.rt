@@ -19,8 +19,9 @@ ghost use Rattle.laws_run.specs.{Complete.IsCompleteRun, Dry.IsDryAt, Dry.reads_
 
 /// What is reported of a run that is at rest is right, and the run is complete, where each app's last step moved nothing, one after another, and the
 /// poll after them moved nothing either: an app that waits for bytes received all that the host's program wrote on its connection and the proxy took;
-/// one that waits for bytes or for credit is on a connection whose stream is open; none waits for a connection to open; and both tables have as many
-/// entries as there are streams with a label that the proxy hasn't closed.
+/// one that waits for bytes or for credit is on a connection whose stream is open, and of what was sent on that of one that waits for credit the host's
+/// program has more than half of the buffer space still to read; none waits for a connection to open; and both tables have as many entries as there are
+/// streams with a label that the proxy hasn't closed.
 pub fn law_of_complete_runs()
     ensures { (script : RunScript) (driver : DriverState) (end : Sight) (apps : List AppState) (entries : List Entry) (bytes : List ℕ)
         (p : ProxyState) (e : DeviceSight) (h : HostContents) (faults : ℕ)
