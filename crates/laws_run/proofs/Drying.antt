@@ -10,10 +10,10 @@ use Rattle.vs_credit.specs.Credit.{free_of}
 use Rattle.vs_flow.specs.Table.{Table, entry_under, revalued, slots, with_value}
 use Rattle.vs_flow.proofs.Lookups.{entry_under-with_value}
 use Rattle.vs_header.specs.declared.Header.{Header}
-use Rattle.vs_outside.specs.{Host.{HostContents, Stream, after_close, after_read, fails_now, read_failed, read_of, stream_at}, declared.host_net.StreamRead.StreamRead}
+use Rattle.vs_outside.specs.{Host.{HostContents, Stream, with_stream, after_close, after_read, fails_now, read_failed, read_of, stream_at}, declared.host_net.StreamRead.StreamRead}
 use Rattle.vs_outside.specs.declared.host_net.StreamRead.TheVariants as read
 use Rattle.vs_outside.specs.declared.host_net.StreamState.TheVariants as state
-use Rattle.vs_outside.proofs.Frames.{others-after_close, stream_at-with_stream}
+use Rattle.vs_outside.proofs.Frames.{keeps_others, stream_at-with_stream}
 use Rattle.vs_replies.specs.declared.Reply.{Reply}
 use Rattle.vs_ring_port.specs.{Contents.Take, declared.device_ring.Chain.Chain, declared.device_ring.Next.Next, declared.queue.Queue.TheVariants.Rx}
 use Rattle.vs_ring_port.specs.declared.device_ring.Next.TheVariants as next
@@ -26,23 +26,20 @@ use Rattle.laws_device_streams.specs.Waiting.{filling_of}
 use Rattle.laws_device_walk.proofs.Keeping.{Asking, Keeps, keeps_then}
 use Rattle.laws_device.specs.Honest.{end_in}
 use Rattle.laws_rest.proofs.{Owing.listed, Owing.same_slots, Quiet.in_list}
-use Rattle.vs_proxy_parts.specs.{State.ProxyState, Turns.turn_of, declared.answers.Turn.Turn, declared.answers.Turned.Turned}
-use Rattle.vs_proxy_parts.specs.declared.answers.Turn.TheVariants as turn
-use Rattle.laws_settled.{specs.Settled.LacksPages, proofs.Quieting.LastFill, proofs.Quieting.fill_lacks, proofs.Quieting.last_fill}
 use Rattle.laws_run.specs.Dry.{IsDry, IsDryAt, IsFull, IsFullAt, IsToldDry, IsToldFull, reads_of, reads_under, writes_of, writes_under}
 
 -- Whatever ring and host answer.
-abbrev allowed : Asking Situation
+abbrev pub allowed : Asking Situation
 allowed = record {
   asks = λ call c P. (a : Answer call) (d : Situation) → Allows call a c d → P a d;
   weaker = λ call c P R weaker asks a d made. weaker a d (asks a d made);
 }
 
-keeps_run : {A : Type 0} (Q : A → Situation → Type 0) (tree : DeviceTree A) (c d : Situation) (x : A) → Keeps allowed Q tree c → Runs tree c x d → Q x d
+pub keeps_run : {A : Type 0} (Q : A → Situation → Type 0) (tree : DeviceTree A) (c d : Situation) (x : A) → Keeps allowed Q tree c → Runs tree c x d → Q x d
 keeps_run Q (Done y) c d x keeps runs = subst (λ z. Q z d) runs.0 (subst (λ (e : Situation). Q y e) runs.1 keeps)
 keeps_run Q (Ask call k) c d x keeps runs = keeps_run Q (k runs.0) runs.1 d x (keeps runs.0 runs.1 runs.2) runs.3
 
-keeps_weaker : {A : Type 0} (Q R : A → Situation → Type 0) → ((x : A) (d : Situation) → Q x d → R x d) → (tree : DeviceTree A) (c : Situation)
+pub keeps_weaker : {A : Type 0} (Q R : A → Situation → Type 0) → ((x : A) (d : Situation) → Q x d → R x d) → (tree : DeviceTree A) (c : Situation)
     → Keeps allowed Q tree c → Keeps allowed R tree c
 keeps_weaker Q R weaker (Done x) c keeps = weaker x c keeps
 keeps_weaker Q R weaker (Ask call k) c keeps = λ a d made. keeps_weaker Q R weaker (k a) d (keeps a d made)
@@ -352,31 +349,29 @@ host_moves Q failed P f c d moves keeps id dry = by c.host moves.host dry
     by (Some g) exposes dry = λ h there.
         subst (Q id) (same_Some (f g) h (sym exposes.1 ∙ there)) (keeps id g (dry g refl))
 
-pub stays_closed : (P : Stream → Type 0) → ((s : Stream) → P s → P (record s { state = state.Closed })) → (i id : ℕ) (h : HostContents)
-    → ForSome (stream_at i h) P → ForSome (stream_at i (after_close id h)) P
-stays_closed P stays i id h dry = by (i == id) refl
+pub stays_with : (P : Stream → Type 0) (f : Stream → Stream) → ((s : Stream) → P s → P (f s)) → (i id : ℕ) (h : HostContents)
+    → ForSome (stream_at i h) P → ForSome (stream_at i (with_stream id f h)) P
+stays_with P f stays i id h dry = by (i == id) refl
   where
-    own : (o : Option Stream) → stream_at id h ≡ o → ForSome (stream_at id h) P → ForSome (stream_at id (after_close id h)) P
+    own : (o : Option Stream) → stream_at id h ≡ o → ForSome (stream_at id h) P → ForSome (stream_at id (with_stream id f h)) P
     own None at was = λ s there.
-        absurd (let same : (after_close id h).streams ≡ h.streams = ap (λ (q : Option Stream). option_map_or (λ x. slice_set h.streams (id - 1) (record x { state = state.Closed })) q h.streams) at in
+        absurd (let same : (with_stream id f h).streams ≡ h.streams = ap (λ (q : Option Stream). option_map_or (λ x. slice_set h.streams (id - 1) (f x)) q h.streams) at in
         let gone : None ≡ Some s = sym at ∙ sym (ap (λ (xs : List Stream). cond (id == 0) None (slice_get xs (id - 1))) same) ∙ there in cc)
     own (Some x) at was = λ s there.
-        let same : record x { state = state.Closed } ≡ s =
-        same_Some _ s (sym (stream_at-with_stream id (λ (y : Stream). record y { state = state.Closed }) h x at) ∙ there) in
-        subst P same (stays x (was x at))
+        let same : f x ≡ s = same_Some _ s (sym (stream_at-with_stream id f h x at) ∙ there) in subst P same (stays x (was x at))
 
-    by : (b : Bool) → (i == id) ≡ b → ForSome (stream_at i (after_close id h)) P
-    by true is = subst (λ (j : ℕ). ForSome (stream_at j (after_close id h)) P) (sym (eqb-true i id is))
+    by : (b : Bool) → (i == id) ≡ b → ForSome (stream_at i (with_stream id f h)) P
+    by true is = subst (λ (j : ℕ). ForSome (stream_at j (with_stream id f h)) P) (sym (eqb-true i id is))
         (own (stream_at id h) refl (subst (λ (j : ℕ). ForSome (stream_at j h) P) (eqb-true i id is) dry))
     by false is =
         let apart : i ≢ id = λ e. let no : true ≡ false = sym (eq-eqb i id e) ∙ is in absurd cc in
-        λ s there. dry s (sym (others-after_close id h i apart) ∙ there)
+        λ s there. dry s (sym (keeps_others id f h i apart) ∙ there)
 
 dry_closed : (i id : ℕ) (h : HostContents) → IsDryAt i h → IsDryAt i (after_close id h)
-dry_closed = stays_closed IsDry (λ s is. record { untaken = is.untaken; goes_on = is.goes_on })
+dry_closed i id h = stays_with IsDry (λ s. record s { state = state.Closed }) (λ s is. record { untaken = is.untaken; goes_on = is.goes_on }) i id h
 
 pub full_closed : (i id : ℕ) (h : HostContents) → IsFullAt i h → IsFullAt i (after_close id h)
-full_closed = stays_closed IsFull (λ s is. is)
+full_closed i id h = stays_with IsFull (λ s. record s { state = state.Closed }) (λ s is. is) i id h
 
 full_read : (a : StreamRead) (stream i : ℕ) (h : HostContents) → IsQuiet a → IsFullAt i h → IsFullAt i (after_read stream a h)
 full_read (read.Got n) stream i h quiet full = absurd quiet
@@ -435,7 +430,7 @@ not_sending x Answering is = refl
 reads_none : (e : DeviceEntry) → may_read e.value.end e.value.end.state ≡ false → reads_of e ≡ None
 reads_none e is = ap (λ (b : Bool). cond (b && not (free_of e.value.end.credit == 0)) (Some e.value.stream) None) is
 
-or_true : (a b : Bool) → b ≡ true → (a || b) ≡ true
+pub or_true : (a b : Bool) → b ≡ true → (a || b) ≡ true
 or_true true b is = refl
 or_true false b is = is
 
@@ -710,16 +705,3 @@ stage_dry s a b q runs none over =
     (λ r. cond r.over (Done r) (for_each serve_slot (round_from r.state.last_put (slots r.state.table)) r)) a
     (stays_while put_reply (λ r c on. puts_reply r.state.replies r c on) (length s.replies) (filling s) a refl)
     (λ r c step. all_slots s (filling s) a r c step r.over refl)) runs).same none over).1
-
--- A turn that put nothing; or it stopped for want of a page.
-pub turn_dry : (size now : ℕ) (s : ProxyState) (a b : Situation) (x : ProxyState × Turn) (t : Turned) → Runs (turn_of size now s) a x b
-    → x.1 ≡ turn.Turned t → t.put ≡ 0
-    → ((n id : ℕ) → reads_under n x.0.device.table ≡ Some id → IsToldDry id b.host) ⊎ LacksPages x.0.device b.ring
-turn_dry size now s a b x t runs answer none =
-    let last = last_fill size now s a b x t runs answer none in by last last.filling.over refl
-  where
-    by : (last : LastFill b x.0.device) (o : Bool) → last.filling.over ≡ o
-        → ((n id : ℕ) → reads_under n x.0.device.table ≡ Some id → IsToldDry id b.host) ⊎ LacksPages x.0.device b.ring
-    by last true over = inr (subst (λ (d : DeviceState). LacksPages d b.ring) (sym last.state) (fill_lacks last over))
-    by last false on = inl (λ n id at. (stage_dry last.before last.middle b last.filling last.runs last.none on).0 n id
-        (ap (λ (d : DeviceState). reads_under n d.table) (sym last.state) ∙ at))

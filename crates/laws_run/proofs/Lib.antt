@@ -10,4 +10,5 @@ pub mod Reporting
 pub mod Open
 pub mod Unread
 pub mod Drying
+pub mod Pumping
 pub mod Completing

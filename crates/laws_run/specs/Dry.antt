@@ -47,3 +47,8 @@ writes_of e = if not e.value.closed && not (length (to_write e.value) == 0) then
 
 abbrev pub writes_under : ℕ → Table DeviceConnection → Option ℕ
 writes_under slot t = elim (entry_under t slot) [ None ↦ None | Some e ↦ writes_of e ]
+
+-- Each stream that a connection may read, with credit, is dry, and each that it has something to write to is full.
+abbrev pub AreIdle : Table DeviceConnection → Option HostContents → Type 0
+AreIdle t host =
+    ((slot id : ℕ) → reads_under slot t ≡ Some id → IsToldDry id host) × ((slot id : ℕ) → writes_under slot t ≡ Some id → IsToldFull id host)
