@@ -207,8 +207,13 @@ Heard chain s c = AreExact s.table × Holds chain c.ring
 module _ (hands : List Handshake) where
   closes : Closes calls (D hands)
   closes = record {
-    cuts = λ e s c is at still. (tt, λ a d allowed. (with_holds s.table e.slot (cut_off e.value) (cuts_hold e.value (in_table s.table e is at.0)) at.0,
-        call_told (CloseStream e.value.stream) a c d allowed at.1));
+    cuts = λ e s c is at still. (
+      tt,
+      λ a d allowed. (
+        with_holds s.table e.slot (cut_off e.value) (cuts_hold e.value (in_table s.table e is at.0)) at.0,
+        call_told (CloseStream e.value.stream) a c d allowed at.1,
+      ),
+    );
     was_cut = λ e s c is at closed. (with_holds s.table e.slot (cut_off e.value) (cuts_hold e.value (in_table s.table e is at.0)) at.0, at.1);
     leaves = λ page e v s c is closed stream at still. (tt, λ a d allowed. (left_holds s.table e.slot _ at.0, page_stays page c.ring d.ring allowed.ring at.1));
     was_left = λ page e v s c is closed stream at gone. (left_holds s.table e.slot _ at.0, at.1);
@@ -216,13 +221,15 @@ module _ (hands : List Handshake) where
 
   wrote : (e : DeviceEntry) (s : DeviceState) (a : StreamWrite) (c d : Situation) → IsIn s.table e → Allows (WriteStream e.value.stream (to_write e.value)) a c d
       → At s c → AfterWrite calls (D hands) e s a d
-  wrote e s (write.Took n) c d is allowed at =
-      (with_holds s.table e.slot (after_written n e.value) (writes_hold e.value n allowed.1 (in_table s.table e is at.0)) at.0,
-      call_told (WriteStream e.value.stream (to_write e.value)) (write.Took n) c d allowed at.1)
+  wrote e s (write.Took n) c d is allowed at = (
+    with_holds s.table e.slot (after_written n e.value) (writes_hold e.value n allowed.1 (in_table s.table e is at.0)) at.0,
+    call_told (WriteStream e.value.stream (to_write e.value)) (write.Took n) c d allowed at.1,
+  )
   wrote e s write.Again c d is allowed at = (at.0, call_told (WriteStream e.value.stream (to_write e.value)) write.Again c d allowed at.1)
-  wrote e s write.Closed c d is allowed at =
-      (with_holds s.table e.slot (after_shut 1 s.now e.value) (shuts_hold e.value 1 s.now (in_table s.table e is at.0)) at.0,
-      call_told (WriteStream e.value.stream (to_write e.value)) write.Closed c d allowed at.1)
+  wrote e s write.Closed c d is allowed at = (
+    with_holds s.table e.slot (after_shut 1 s.now e.value) (shuts_hold e.value 1 s.now (in_table s.table e is at.0)) at.0,
+    call_told (WriteStream e.value.stream (to_write e.value)) write.Closed c d allowed at.1,
+  )
   wrote e s write.Failed c d is allowed at = (at.0, call_told (WriteStream e.value.stream (to_write e.value)) write.Failed c d allowed at.1)
 
   shut_holds : (c : DeviceConnection) → HoldsExactly c → HoldsExactly (record c { write_shut = true })
@@ -231,8 +238,13 @@ module _ (hands : List Handshake) where
   streams : Writes calls (D hands)
   streams = record {
     writes = λ e s c is still at. (tt, λ a d allowed. wrote e s a c d is allowed at);
-    shuts = λ e s c is out at. (tt, λ a d allowed. (with_holds s.table e.slot _ (shut_holds e.value (in_table s.table e is at.0)) at.0,
-        call_told (ShutWrite e.value.stream) a c d allowed at.1));
+    shuts = λ e s c is out at. (
+      tt,
+      λ a d allowed. (
+        with_holds s.table e.slot _ (shut_holds e.value (in_table s.table e is at.0)) at.0,
+        call_told (ShutWrite e.value.stream) a c d allowed at.1,
+      ),
+    );
   }
 
   event_came : (s : DeviceState) (n : Next) (d : Situation) → At s d → serving.AfterEvent calls (D hands) s n d
@@ -250,9 +262,20 @@ module _ (hands : List Handshake) where
       let one = with_holds s.table e.slot _ (sends_hold e.value 0 (in_table s.table e is at.0)) at.0 in
       (tt, λ a f w. (tt, λ b g r. (one, call_told (Ring (Return chain _)) b f g r (call_told (Ring (Write chain _ _)) a d f w at.1))))
   have_read e chain s (read.Got n) (x ∷ payload) d is at =
-      let one = with_holds s.table e.slot _ (sends_hold e.value (length (x ∷ payload)) (in_table s.table e is at.0)) at.0 in
-      (tt, λ a f w. (tt, λ b g v. (tt, λ i j r. (one, call_told (Ring (Return chain _)) i g j r (call_told (Ring (Write chain _ _)) b f g v
-          (call_told (Ring (Write chain _ _)) a d f w at.1))))))
+      let one = with_holds s.table e.slot _ (sends_hold e.value (length (x ∷ payload)) (in_table s.table e is at.0)) at.0 in (
+        tt,
+        λ a f w. (
+          tt,
+          λ b g v. (
+            tt,
+            λ i j r. (
+              one,
+              call_told (Ring (Return chain _)) i g j r (call_told (Ring (Write chain _ _)) b f g v
+                  (call_told (Ring (Write chain _ _)) a d f w at.1)),
+            ),
+          ),
+        ),
+      )
   have_read e chain s read.End payload d is at = (with_holds s.table e.slot _ (shuts_hold e.value 2 s.now (in_table s.table e is at.0)) at.0, at.1)
   have_read e chain s _ payload d is at = at
 
@@ -261,8 +284,11 @@ module _ (hands : List Handshake) where
     event = λ s c at owed. (tt, λ a d allowed. event_came s a d (at.0, call_told (Ring (Take _)) a c d allowed at.1));
     holds = λ s c at none. (tt, λ a d allowed. held s a d (at.0, call_told (Ring (Take _)) a c d allowed at.1));
     puts = λ h chain s c at is. (tt, λ a d w. (tt, λ b f r. (at.0, call_told (Ring (Return chain _)) b d f r (call_told (Ring (Write chain _ _)) a c d w at.1))));
-    reads = λ e chain s c is at held may. (tt, λ a d allowed. have_read e chain s a.0 a.1 d is
-        (at.0, call_told (ReadStream e.value.stream _) a c d allowed at.1));
+    reads = λ e chain s c is at held may. (
+      tt,
+      λ a d allowed. have_read e chain s a.0 a.1 d is
+          (at.0, call_told (ReadStream e.value.stream _) a c d allowed at.1),
+    );
     wants = λ e s c is at. (with_holds s.table e.slot _ (wants_hold e.value (in_table s.table e is at.0)) at.0, at.1);
     pays = λ e what asked_at s c is owes at. (with_holds s.table e.slot _ (pays_hold e.value what asked_at owes (in_table s.table e is at.0)) at.0, at.1);
   }
@@ -277,11 +303,14 @@ module _ (hands : List Handshake) where
     known : (v : Verdict) (e : DeviceEntry) (s : DeviceState) (c : Situation) → IsIn s.table e → verdict_of e.value.end h ≡ v → Heard chain s c
         → Keeps calls (λ t d. Heard chain t d) (on_known v chain h e s) c
     known verdict.Accept e s c there is at = (other_holds e s _ verdict.Accept is (λ no. absurd cc) there at.0, at.1)
-    known verdict.Deliver e s c there is at = (tt, λ payload d allowed.
-        let l = at.1.0 in
-        let came = told_on c.ring.log d.ring.log _ (λ m. m) allowed.0.log l at.1.1 in
-        let len = payload_len chain.readable h.len (bytes_in chain l.held) payload whole at.1.2 came.0 in
-        (with_holds s.table e.slot _ (delivers_hold e.value h payload is len (in_table s.table e there at.0)) at.0, (l, came.1, at.1.2)))
+    known verdict.Deliver e s c there is at = (
+      tt,
+      λ payload d allowed.
+          let l = at.1.0 in
+          let came = told_on c.ring.log d.ring.log _ (λ m. m) allowed.0.log l at.1.1 in
+          let len = payload_len chain.readable h.len (bytes_in chain l.held) payload whole at.1.2 came.0 in
+          (with_holds s.table e.slot _ (delivers_hold e.value h payload is len (in_table s.table e there at.0)) at.0, (l, came.1, at.1.2)),
+    )
     known verdict.Peer e s c there is at =
         keeps_if calls (λ t d. Heard chain t d) (is_reset h) _ _ c
         (λ reset. keeps_leaving calls (D hands) closes (Some chain) e (heard h e.value) s c there refl refl at)
@@ -320,9 +349,13 @@ module _ (hands : List Handshake) where
 
   came : (s : DeviceState) (n : Next) (c d : Situation) → Allows (Ring (Take Tx)) n c d → At s c → Keeps calls (λ r e. At r.0 e) (on_next n s) d
   came s (next.Chain chain) c d allowed at =
-      let got = told_on c.ring.log d.ring.log _ (log_taken Tx (next.Chain chain) allowed.0.0) allowed.0.1.log at.1.0 at.1.1 in
-      (tt, λ bytes e again. header chain (header_of bytes) s e (at.0,
-          (_, (told_on d.ring.log e.ring.log _ (λ l. l) again.0.log _ got.1).1, taken_in chain allowed.0.0 at.1.0 got.0.0)))
+      let got = told_on c.ring.log d.ring.log _ (log_taken Tx (next.Chain chain) allowed.0.0) allowed.0.1.log at.1.0 at.1.1 in (
+        tt,
+        λ bytes e again. header chain (header_of bytes) s e (
+          at.0,
+          (_, (told_on d.ring.log e.ring.log _ (λ l. l) again.0.log _ got.1).1, taken_in chain allowed.0.0 at.1.0 got.0.0),
+        ),
+      )
   came s next.None c d allowed at = (at.0, call_told (Ring (Take Tx)) next.None c d allowed at.1)
   came s (next.Failed f) c d allowed at = (at.0, call_told (Ring (Take Tx)) (next.Failed f) c d allowed at.1)
 
