@@ -1,13 +1,13 @@
 -- From what a run ends in to a complete report.
-use Rattle.std.proofs.Common.{◌≡◌, ◌+◌, ◌<◌, ◌≤◌, ◌==◌, ◌||◌, ◌&&◌, inl, inr, ℕ, suc, Bool, true, false, cond, List, [], ◌∷◌, ◌++◌, Option, Some, None, length, map}
-use Rattle.std.proofs.Common.{Contains, slice_index_or, refl, sym, ap, subst, ◌∙◌, arith, append-nil}
+use Rattle.std.proofs.Common.{◌≡◌, ◌+◌, ◌<◌, ◌≤◌, ◌==◌, ◌||◌, ◌&&◌, inl, inr, ℕ, suc, Bool, true, false, cond, List, [], ◌∷◌, ◌++◌, Option, Some, None, Ok, length, map}
+use Rattle.std.proofs.Common.{Contains, slice_index_or, refl, sym, ap, subst, ◌∙◌, arith, append-nil, length-append, length-take, take}
 use Rattle.std.proofs.lemmas.{Bool.and_parts, Bool.Decides.nat_tests, Bool.eqb-true, Grind.common_steps, List.Elements.All-contains, List.length-map, Option.slice_get_read}
 use Rattle.std.specs.{List.AllPairs, Option.option_map, Option.unwrap_or, Prelude.not}
-use Rattle.vs_flow.specs.{Connection.Connection, Flow.same_flow, Table.IsTable, Table.entry_under, Table.value_under, declared.flow.Flow.Flow}
-use Rattle.vs_conn.specs.{End.ConnectionEnd, declared.end.State.{State, TheVariants.Ended, TheVariants.Live}}
+use Rattle.vs_flow.specs.{Connection.Connection, Connection.first_of, Flow.same_flow, Table.IsTable, Table.entry_under, Table.value_under, declared.flow.Flow.Flow}
+use Rattle.vs_conn.specs.{End.ConnectionEnd, End.may_send_of, declared.end.State.{State, TheVariants.Ended, TheVariants.Live}}
 use Rattle.vs_limits.specs.declared.TheConstants.{FIRST_CID}
-use Rattle.vs_outside.specs.{Faults.one_more, Host.HostContents, HostBytes.host_wrote}
-use Rattle.vs_page.specs.{Fair.current, Fair.number_of, Fair.payload_got, Log.Device, Log.Driver}
+use Rattle.vs_outside.specs.{Faults.one_more, Host.HostContents, HostBytes.host_read, HostBytes.host_wrote}
+use Rattle.vs_page.specs.{Fair.current, Fair.number_of, Fair.payload_got, Fair.payload_put, Log.Device, Log.Driver}
 use Rattle.vs_ring_shared.specs.Sights.{DeviceSight, Sight, device_contents, device_log, driver_contents, driver_log}
 use Rattle.vs_driver_parts.specs.{Connections.is_at_end, Connections.table_shown as guest_shown, State.DriverEntry, State.DriverState, State.entry_known_as, State.is_known_as}
 use Rattle.vs_driver_parts.specs.declared.answers.Polled.{Polled}
@@ -17,26 +17,28 @@ use Rattle.laws_tables.{specs.Ends.ends_of, proofs.Slots.found_by, proofs.Slots.
 use Rattle.vs_page.proofs.Flows.{same_is}
 use Rattle.laws_driver.specs.Honest.{IsFitEntry, end_in as driver_end, slots_of}
 use Rattle.laws_device.specs.Honest.{end_in as device_end}
-use Rattle.laws_bytes.specs.Drains.{receives}
+use Rattle.laws_bytes.{specs.Drains.got_on, specs.Drains.receives, proofs.Firsts.once_got}
 use Rattle.laws_driver_bytes.specs.{Calls.Journal, Calls.received_by, Received.ReceivesOn, Calls.account_of}
 use Rattle.laws_proxy.specs.Honest.{IsProxyStreamed}
-use Rattle.laws_rest.{specs.Rest.ArePaired, proofs.Quiet.in_list, proofs.Waiting.credit_there}
+use Rattle.laws_rest.{specs.Rest.ArePaired, proofs.Quiet.in_list, proofs.Waiting.credit_there, proofs.Waiting.unread_there}
 use Rattle.vs_credit.specs.Credit.{free_of, unread_of}
 use Rattle.vs_conn.specs.declared.shut.Shut.{Shut}
 use Rattle.vs_device_parts.specs.Receiving.{may_read}
 use Rattle.vs_flow.proofs.Entries.{found_at}
-use Rattle.laws_settled.specs.Settled.{IsSettled, IsSteady}
-use Rattle.vs_apps_parts.specs.{Journals.calls_of, Scripts.{RunScript, acts_of, id_of}, declared.{journal.Entry.Entry, journal.WaitsFor.WaitsFor, progress.AppState.AppState}}
+use Rattle.laws_settled.specs.{Exact.HoldsExactly, Settled.IsSettled, Settled.IsSteady, Settled.ends_at_rest}
+use Rattle.vs_apps_parts.specs.{Journals.calls_of, Journals.sent_as, Scripts.{RunScript, acts_of, id_of}, declared.{journal.Entry.Entry, journal.WaitsFor.WaitsFor, progress.AppState.AppState}}
 use Rattle.vs_apps_parts.specs.declared.journal.WaitsFor.TheVariants as waits
-use Rattle.laws_apps.specs.{Accounts.{HasOne, IsAccount}, Calls.run_with, Rounds.AllStand, Runs.IsRunOf, Runs.PollsTo, Runs.Run, Runs.poll_moved}
+use Rattle.laws_apps.proofs.Naming.{sent_by_id}
+use Rattle.laws_apps.specs.{Accounts.IsAccount, Calls.run_with, Rounds.AllStand, Runs.IsRunOf, Runs.PollsTo, Runs.Run, Runs.poll_moved}
 use Rattle.vs_report.specs.declared.giving.Totals.{Totals}
 use Rattle.vs_run_report.specs.{Endings.ending_at, Endings.state_at, Endings.why_at, Report.ended_at, Right.IsRightReport, declared.ending.Ending.Ending}
 use Rattle.vs_run_report.specs.declared.ending.Ending.TheVariants as ending
 use Rattle.laws_run.specs.Complete.{IsAtOpen, IsCompleteEnding, IsCompleteRun, IsCompleteWait, open_labels}
 use Rattle.laws_device.specs.Streams.{has_open_stream}
-use Rattle.laws_run.specs.Dry.{AreDry, IsDryAt, reads_of, reads_under}
-use Rattle.laws_run.proofs.{Alike.AreApart, Alike.HasApart, Alike.Leaves, Alike.leaves_core, Endings.Ends, Wrote.is_first, Wrote.streamed, Wrote.wrote_there}
-use Rattle.laws_run.proofs.{Endings.all_ends, Endings.ends_on, Halting.Halts, Open.among_entry, Open.among_open, Open.as_many_open, Open.one_dry, Reporting.accounted, Reporting.once, Reporting.right_with}
+use Rattle.laws_run.specs.Dry.{AreDry, AreFull, AreIdle, IsDry, IsFull, reads_of, writes_of}
+use Rattle.laws_run.proofs.{Alike.AreApart, Alike.HasApart, Alike.Leaves, Alike.leaves_core, Drying.under_at, Endings.Ends, Wrote.{is_first, same_payload, streamed, to_device, wrote_there}}
+use Rattle.laws_run.proofs.Unread.{no_free, to_read, unread_within}
+use Rattle.laws_run.proofs.{Endings.all_ends, Endings.ends_on, Halting.Halts, Open.among_entry, Open.among_open, Open.as_many_open, Open.one_is, Reporting.accounted, Reporting.once, Reporting.right_with}
 use Rattle.laws_run.proofs.{Still.poll_still, Waiting.credit_call, Waiting.empty_call, Waiting.not_open, Waiting.recv_id, Waiting.send_id}
 
 -- The slots of a table are apart.
@@ -61,7 +63,7 @@ module _ (script : RunScript) (driver : DriverState) (end : Sight) (apps : List 
     (same_apps : apps ≡ stood.apps) (same_entries : entries ≡ stood.entries) (polled : Polled) (told past : Run) (heard : told.driver ≡ stood.driver)
     (polls : PollsTo polled told past) (still : poll_moved polled ≡ false) (same_driver : driver ≡ past.driver)
     (streams : IsProxyStreamed FIRST_CID p (situation (device_contents e) (Some h) faults))
-    (reads : (slot id : ℕ) → reads_under slot p.device.table ≡ Some id → IsDryAt id h) where
+    (idle : AreIdle p.device.table (Some h)) where
   abbrev journal : Journal
   journal = calls_of script bytes entries
 
@@ -96,14 +98,16 @@ module _ (script : RunScript) (driver : DriverState) (end : Sight) (apps : List 
   device_fits : IsTable p.device.table
   device_fits = ((steady.order.ring.1.1 (device_log e) refl).1 refl).fits.sound
 
+  found_there : (x : DeviceEntry) → Contains p.device.table.entries x → entry_under p.device.table x.slot ≡ Some x
+  found_there x within =
+      found_at p.device.table.entries within.0 x device_fits.rising
+      (slice_get_read p.device.table.entries (length p.device.table.entries) within.0 x refl within.1 (sym within.2))
+
   still_open : (x : DeviceEntry) → Contains p.device.table.entries x → x.value.closed ≡ false
   still_open x within = by x.value.closed refl
     where
       there : value_under p.device.table x.slot ≡ Some x.value
-      there =
-          ap (option_map (λ (y : DeviceEntry). y.value))
-          (found_at p.device.table.entries within.0 x device_fits.rising
-          (slice_get_read p.device.table.entries (length p.device.table.entries) within.0 x refl within.1 (sym within.2)))
+      there = ap (option_map (λ (y : DeviceEntry). y.value)) (found_there x within)
 
       alive : x.value.end.state ≡ Live
       alive =
@@ -168,12 +172,12 @@ module _ (script : RunScript) (driver : DriverState) (end : Sight) (apps : List 
       let there = device_entry x.flow pair.0 p.device.table.entries pair.1 in
       record { entry = there.0; within = there.1; flow = there.2; paired = subst (λ (v : ConnectionEnd). ArePaired x.value.end v) (sym there.3) pair.2 }
 
+  not_zero : (n : ℕ) → 1 ≤ n → (n == 0) ≡ false
+  not_zero n some = grind (arith, nat_tests, some)
+
   -- That one reads its stream, where nothing is unread at the driver, though more may come.
   neither : (a b : Bool) → (a || b) ≡ false → (a ≡ false) × (b ≡ false)
   neither = grind (arith, common_steps)
-
-  not_none : (n : ℕ) → 32769 ≤ n → (n == 0) ≡ false
-  not_none n least = grind (arith, nat_tests, least)
 
   may_read_live : (v : ConnectionEnd) → v.state ≡ Live → v.peer.receive ≡ false → v.own.send ≡ false → may_read v v.state ≡ true
   may_read_live v live receive send =
@@ -191,36 +195,83 @@ module _ (script : RunScript) (driver : DriverState) (end : Sight) (apps : List 
       may_read_live v at.paired.there.live (ap (λ (s : Shut). s.receive) at.paired.there.peer ∙ shut.1)
       (ap (λ (s : Shut). s.send) (sym at.paired.here.peer) ∙ shut.0) in
       ap (λ (b : Bool). cond (b && not (free_of v.credit == 0)) (Some at.entry.value.stream) None) may
-      ∙ ap (λ (b : Bool). cond (not b) (Some at.entry.value.stream) None) (not_none (free_of v.credit) least)
+      ∙ ap (λ (b : Bool). cond (not b) (Some at.entry.value.stream) None) (not_zero (free_of v.credit) (omega (arith, least)))
 
   all_dry : (x : DriverEntry) → Contains driver.table.entries x → x.value.unread ≡ [] → is_at_end x.value.end ≡ false → AreDry x.flow h
   all_dry x within unread more =
       let at = at_device x within in
       let y = at.entry in
-      let under : entry_under p.device.table y.slot ≡ Some y =
-      found_at p.device.table.entries at.within.0 y device_fits.rising
-      (slice_get_read p.device.table.entries (length p.device.table.entries) at.within.0 y refl at.within.1 (sym at.within.2)) in
-      let dry = reads y.slot y.value.stream
-      (ap (λ (o : Option DeviceEntry). elim o as (λ _. Option ℕ) [ None ↦ None | Some z ↦ reads_of z ]) under ∙ reads_there x within unread more at) in
+      let dry = idle.0 y.slot y.value.stream (under_at reads_of p.device.table y.slot (Some y) (found_there y at.within) ∙ reads_there x within unread more at) in
       subst (λ (f : Flow). AreDry f h) (sym at.flow)
-      (one_dry h e.sight.log p.next_port p.device.table p.handshakes (streamed driver end p e settled one h faults streams) y at.within dry)
+      (one_is h e.sight.log p.next_port p.device.table p.handshakes (streamed driver end p e settled one h faults streams) IsDry y at.within (dry h refl))
+
+  -- One that has bytes pending has something to write, so that its stream is full.
+  some_left : (line pending : List ℕ) → 1 ≤ length pending → (length (take 4096 (line ++ pending)) == 0) ≡ false
+  some_left line pending some =
+      let few = length-take 4096 (line ++ pending) in
+      let both = length-append line pending in not_zero (length (take 4096 (line ++ pending))) (omega (arith, few, both, some))
+
+  pending_full : (y : DeviceEntry) → Contains p.device.table.entries y → 1 ≤ length y.value.pending → AreFull y.flow h
+  pending_full y within some =
+      let writes : writes_of y ≡ Some y.value.stream =
+      ap (λ (b : Bool). cond (not b && not (length (take 4096 (y.value.ok_line ++ y.value.pending)) == 0)) (Some y.value.stream) None) (still_open y within)
+      ∙ ap (λ (b : Bool). cond (not b) (Some y.value.stream) None) (some_left y.value.ok_line y.value.pending some) in
+      one_is h e.sight.log p.next_port p.device.table p.handshakes (streamed driver end p e settled one h faults streams) IsFull y within
+      (idle.1 y.slot y.value.stream (under_at writes_of p.device.table y.slot (Some y) (found_there y within) ∙ writes) h refl)
 
   -- One that is known by an id, on which nothing is unread.
   module _ (opened : ℕ → Connection) (account : IsAccount 1 opened journal entries end.log (slots_of driver)) where
+    first_known : (id : ℕ) (x : DriverEntry) → Contains driver.table.entries x → x.value.id ≡ id → (1 ≤ (opened id).number) × (opened id ≡ first_of x.flow)
+    first_known id x within named =
+        let on = All-contains (ReceivesOn (account_of 1 opened journal) end.log) driver.table.entries x account.right.received.held within in
+        let present : opened id ≡ current Driver x.flow end.log = subst (λ (i : ℕ). opened i ≡ current Driver x.flow end.log) named on.present in
+        let some = subst (λ (c : Connection). 1 ≤ c.number) (sym present) on.some in (
+          some,
+          is_first driver end p e settled one h faults streams (opened id) x.flow some (account.right.received.passed id) (ap (λ (c : Connection). c.flow) present),
+        )
+
     all_received : (id : ℕ) (x : DriverEntry) → Contains driver.table.entries x → x.value.id ≡ id → x.value.unread ≡ [] → receives x.value.end ≡ true
         → received_by id journal ≡ host_wrote (opened id) h
     all_received id x within named unread gets =
         let on = All-contains (ReceivesOn (account_of 1 opened journal) end.log) driver.table.entries x account.right.received.held within in
         let present : opened id ≡ current Driver x.flow end.log = subst (λ (i : ℕ). opened i ≡ current Driver x.flow end.log) named on.present in
-        let has : HasOne opened id (Some x.flow) =
-        (subst (λ (c : Connection). 1 ≤ c.number) (sym present) on.some, ap (λ (c : Connection). c.flow) present) in
-        let first = is_first driver end p e settled one h faults streams (opened id) x.flow has.0 (account.right.received.passed id) has.1 in
+        let first = (first_known id x within named).1 in
         let came : received_by x.value.id journal ++ x.value.unread ≡ payload_got Driver (current Driver x.flow end.log) end.log = on.drains.whole gets in
         subst (λ (i : ℕ). received_by id journal ≡ received_by i journal) (sym named) refl
         ∙ sym (append-nil (received_by x.value.id journal)) ∙ ap (λ (bs : List ℕ). received_by x.value.id journal ++ bs) (sym unread) ∙ came
         ∙ ap (λ (c : Connection). payload_got Driver c end.log) (sym present ∙ first)
         ∙ wrote_there driver end p e settled one h faults streams x.flow
         ∙ ap (λ (c : Connection). host_wrote c h) (sym first)
+
+    -- One that lacks credit: the device holds many bytes of it, which are what its host's program has still to read, and its stream is full.
+    unread_by_host : (id : ℕ) (x : DriverEntry) → Contains driver.table.entries x → x.value.id ≡ id → may_send_of x.value.end ≡ Ok 0
+        → (32769 + length (host_read (opened id) h) ≤ length (sent_as id journal)) × AreFull (opened id).flow h
+    unread_by_host id x within named says =
+        let at = at_device x within in
+        let y = at.entry in
+        let live_there = at.paired.there.live in
+        let none = no_free x.value.end (live x within) says in
+        let goes_on : y.value.end.own.receive ≡ false = ap (λ (s : Shut). s.receive) (sym at.paired.here.peer) ∙ none.1 in
+        let least = unread_there x.value.end y.value.end at.paired none.0 (ap (λ (b : Bool). b && y.value.end.own.send) goes_on) in
+        let exact = (All-contains (λ (z : DeviceEntry). HoldsExactly z.value) p.device.table.entries y steady.exact at.within).exact (λ over. absurd cc) in
+        let on = streamed driver end p e settled one h faults streams in
+        let got = unread_within FIRST_CID (ends_at_rest driver end p e).device.part e.sight.log (settled.at_rest.matches Device) (settled.at_rest.fair Device)
+        y.flow (one y.flow) y.value.end (one_end device_end p.device.table y device_fits at.within) live_there in
+        let least_got : 32769 ≤ length (got_on Device y.flow e.sight.log) = omega (arith, least, got) in
+        let many : 32769 ≤ length y.value.pending = omega (arith, least, exact) in
+        let still = to_read h e.sight.log p.next_port p.device.table p.handshakes on y at.within live_there goes_on 32769 many least_got in
+        let first = first_known id x within named in
+        let came : sent_as id journal ≡ got_on Device y.flow e.sight.log =
+        sym (sent_by_id (account_of 1 opened journal) end.log (slots_of driver) account.right.received id first.0 journal account.right.sent.senders)
+        ∙ sym (account.right.sent.puts (opened id)) ∙ ap (λ (c : Connection). payload_put Driver c end.log) first.1
+        ∙ same_payload Device e.sight.log end.log (to_device driver end p e settled) (first_of x.flow)
+        ∙ ap (λ (f : Flow). payload_got Device (first_of f) e.sight.log) at.flow
+        ∙ once_got Device y.flow e.sight.log (settled.at_rest.fair Device y.flow) (one y.flow) in
+        subst (λ (c : Connection). (32769 + length (host_read c h) ≤ length (sent_as id journal)) × AreFull c.flow h) (sym first.1)
+        (subst (λ (f : Flow). (32769 + length (host_read (first_of f) h) ≤ length (sent_as id journal)) × AreFull f h) (sym at.flow) (
+          subst (λ (bs : List ℕ). 32769 + length (host_read (first_of y.flow) h) ≤ length bs) (sym came) still,
+          pending_full y at.within (omega (arith, many)),
+        ))
 
     -- No connection has the id 0.
     id_some : (x : DriverEntry) → Contains driver.table.entries x → 1 ≤ x.value.id
@@ -255,7 +306,7 @@ module _ (script : RunScript) (driver : DriverState) (end : Sight) (apps : List 
         let found = contained is.id x is.says.there in
         let named : x.value.id ≡ is.id = eqb-true x.value.id is.id (and_parts (x.value.id == is.id) (not x.value.closed) found.1).0 in
         let own : id_of (state_at k apps).progress ≡ is.id = send_id halts.act (state_at k apps).progress is.id is.bytes (halts.last ∙ ap (λ c. Some c) is.call) in
-        (is.id, at_open k is.id x found.0 named own)
+        let held = unread_by_host is.id x found.0 named is.says.says in (is.id, at_open k is.id x found.0 named own, held.0, held.1)
     wait_complete k waits.NoneWaiting halts = tt
     wait_complete k waits.NotOpen halts =
         let no = not_open halts.call driver (halts.stops apart) in absurd (no.state (live no.entry (contained no.id no.entry no.there).0))

@@ -2,7 +2,7 @@
 use Rattle.std.proofs.Common.{slice_get, slice_set, ◌-◌, ◌⊎◌, inl, inr}
 use Rattle.std.proofs.Common.{◌≡◌, ◌≢◌, ◌≤◌, ◌+◌, ◌==◌, ◌&&◌, ◌||◌, not, ℕ, zero, suc, Bool, true, false, cond, List, [], ◌∷◌, ◌++◌, length, Option, Some, None, refl, sym, ap, subst, ◌∙◌, arith}
 use Rattle.std.proofs.lemmas.{Bool.eq-eqb, Bool.eqb-true, Grind.common_steps, Option.same_Some}
-use Rattle.std.specs.{Option.option_map, Option.option_map_or, Prelude.{filter, min, nat_le, nat_lt}}
+use Rattle.std.specs.{Option.ForSome, Option.option_map, Option.option_map_or, Prelude.{filter, min, nat_le, nat_lt, take}}
 use Rattle.vs_contents.specs.{CallTree.Ask, CallTree.Done, CallTree.bind, CallTree.for_each, CallTree.while_up_to, Contents.Exposes}
 use Rattle.vs_conn.specs.{End.ConnectionEnd, End.owes_of, End.wanting_credit, Headers.owed_header, Headers.payload_header, End.with_payload_sent, End.with_shut}
 use Rattle.vs_conn.specs.declared.end.{Owed.Owed, State.State, State.TheVariants.{Answering, Asked, Ended, Live}, TheConstants.OWED_MAX}
@@ -10,10 +10,10 @@ use Rattle.vs_credit.specs.Credit.{free_of}
 use Rattle.vs_flow.specs.Table.{Table, entry_under, revalued, slots, with_value}
 use Rattle.vs_flow.proofs.Lookups.{entry_under-with_value}
 use Rattle.vs_header.specs.declared.Header.{Header}
-use Rattle.vs_outside.specs.{Host.{HostContents, Stream, after_close, after_read, fails_now, read_failed, read_of, stream_at}, declared.host_net.StreamRead.StreamRead}
+use Rattle.vs_outside.specs.{Host.{HostContents, Stream, with_stream, after_close, after_read, fails_now, read_failed, read_of, stream_at}, declared.host_net.StreamRead.StreamRead}
 use Rattle.vs_outside.specs.declared.host_net.StreamRead.TheVariants as read
 use Rattle.vs_outside.specs.declared.host_net.StreamState.TheVariants as state
-use Rattle.vs_outside.proofs.Frames.{others-after_close, stream_at-with_stream}
+use Rattle.vs_outside.proofs.Frames.{keeps_others, stream_at-with_stream}
 use Rattle.vs_replies.specs.declared.Reply.{Reply}
 use Rattle.vs_ring_port.specs.{Contents.Take, declared.device_ring.Chain.Chain, declared.device_ring.Next.Next, declared.queue.Queue.TheVariants.Rx}
 use Rattle.vs_ring_port.specs.declared.device_ring.Next.TheVariants as next
@@ -26,23 +26,20 @@ use Rattle.laws_device_streams.specs.Waiting.{filling_of}
 use Rattle.laws_device_walk.proofs.Keeping.{Asking, Keeps, keeps_then}
 use Rattle.laws_device.specs.Honest.{end_in}
 use Rattle.laws_rest.proofs.{Owing.listed, Owing.same_slots, Quiet.in_list}
-use Rattle.vs_proxy_parts.specs.{State.ProxyState, Turns.turn_of, declared.answers.Turn.Turn, declared.answers.Turned.Turned}
-use Rattle.vs_proxy_parts.specs.declared.answers.Turn.TheVariants as turn
-use Rattle.laws_settled.{specs.Settled.LacksPages, proofs.Quieting.LastFill, proofs.Quieting.fill_lacks, proofs.Quieting.last_fill}
-use Rattle.laws_run.specs.Dry.{IsDry, IsDryAt, IsToldDry, reads_of, reads_under}
+use Rattle.laws_run.specs.Dry.{IsDry, IsDryAt, IsFull, IsFullAt, IsToldDry, IsToldFull, reads_of, reads_under, writes_of, writes_under}
 
 -- Whatever ring and host answer.
-abbrev allowed : Asking Situation
+abbrev pub allowed : Asking Situation
 allowed = record {
   asks = λ call c P. (a : Answer call) (d : Situation) → Allows call a c d → P a d;
   weaker = λ call c P R weaker asks a d made. weaker a d (asks a d made);
 }
 
-keeps_run : {A : Type 0} (Q : A → Situation → Type 0) (tree : DeviceTree A) (c d : Situation) (x : A) → Keeps allowed Q tree c → Runs tree c x d → Q x d
+pub keeps_run : {A : Type 0} (Q : A → Situation → Type 0) (tree : DeviceTree A) (c d : Situation) (x : A) → Keeps allowed Q tree c → Runs tree c x d → Q x d
 keeps_run Q (Done y) c d x keeps runs = subst (λ z. Q z d) runs.0 (subst (λ (e : Situation). Q y e) runs.1 keeps)
 keeps_run Q (Ask call k) c d x keeps runs = keeps_run Q (k runs.0) runs.1 d x (keeps runs.0 runs.1 runs.2) runs.3
 
-keeps_weaker : {A : Type 0} (Q R : A → Situation → Type 0) → ((x : A) (d : Situation) → Q x d → R x d) → (tree : DeviceTree A) (c : Situation)
+pub keeps_weaker : {A : Type 0} (Q R : A → Situation → Type 0) → ((x : A) (d : Situation) → Q x d → R x d) → (tree : DeviceTree A) (c : Situation)
     → Keeps allowed Q tree c → Keeps allowed R tree c
 keeps_weaker Q R weaker (Done x) c keeps = weaker x c keeps
 keeps_weaker Q R weaker (Ask call k) c keeps = λ a d made. keeps_weaker Q R weaker (k a) d (keeps a d made)
@@ -87,9 +84,28 @@ still r c on = record { rises = omega arith; same = λ e o. (on, record { table 
 same_then : (r : Filling) (c : Situation) (q : Filling) (d : Situation) (x : Filling) (e : Situation) → Same r c q d → Same q d x e → Same r c x e
 same_then r c q d x e a b = record { table = b.table ∙ a.table; host = b.host ∙ a.host }
 
+-- What has something to write had it before, and streams that take nothing stay so.
+pub record KeepsFull (t : Table DeviceConnection) (o : Option HostContents) (u : Table DeviceConnection) (q : Option HostContents) : Type 0 where
+  pub less : (n id : ℕ) → writes_under n u ≡ Some id → writes_under n t ≡ Some id
+  pub full : (id : ℕ) → IsToldFull id o → IsToldFull id q
+
+keeps_same : (t : Table DeviceConnection) (o : Option HostContents) (u : Table DeviceConnection) (q : Option HostContents) → u ≡ t → q ≡ o → KeepsFull t o u q
+keeps_same t o u q table host = record {
+  less = λ n id at. ap (λ (v : Table DeviceConnection). writes_under n v) (sym table) ∙ at;
+  full = λ id is. subst (λ (p : Option HostContents). IsToldFull id p) (sym host) is;
+}
+
+keeps_both : (t : Table DeviceConnection) (o : Option HostContents) (u : Table DeviceConnection) (q : Option HostContents) (v : Table DeviceConnection)
+    (p : Option HostContents) → KeepsFull t o u q → KeepsFull u q v p → KeepsFull t o v p
+keeps_both t o u q v p a b = record { less = λ n id at. a.less n id (b.less n id at); full = λ id is. b.full id (a.full id is) }
+
+abbrev Frame : Relation
+Frame r c x d = KeepsFull r.state.table c.host x.state.table d.host
+
 -- At most the connection under one slot changes; and that one is dry where it is read.
 record Touches (slot : ℕ) (r : Filling) (c : Situation) (x : Filling) (d : Situation) : Type 0 where
   slots : slots x.state.table ≡ slots r.state.table
+  frame : Frame r c x d
   others : (n : ℕ) → (n == slot) ≡ false → reads_under n x.state.table ≡ reads_under n r.state.table
   dry : (id : ℕ) → IsToldDry id c.host → IsToldDry id d.host
 
@@ -103,6 +119,7 @@ record Serves (slot : ℕ) (r : Filling) (c : Situation) (x : Filling) (d : Situ
 same_touches : (slot : ℕ) (r : Filling) (c : Situation) (x : Filling) (d : Situation) → Same r c x d → Touches slot r c x d
 same_touches slot r c x d same = record {
   slots = ap (λ (t : Table DeviceConnection). slots t) same.table;
+  frame = keeps_same _ _ _ _ same.table same.host;
   others = λ n other. ap (λ (t : Table DeviceConnection). reads_under n t) same.table;
   dry = λ id is. subst (λ (o : Option HostContents). IsToldDry id o) (sym same.host) is;
 }
@@ -112,6 +129,7 @@ serves_then : (slot : ℕ) (r : Filling) (c : Situation) (q : Filling) (d : Situ
 serves_then slot r c q d x e a same = record {
   touches = record {
     slots = ap (λ (t : Table DeviceConnection). slots t) same.table ∙ a.touches.slots;
+    frame = keeps_both _ _ _ _ _ _ a.touches.frame (keeps_same _ _ _ _ same.table same.host);
     others = λ n other. ap (λ (t : Table DeviceConnection). reads_under n t) same.table ∙ a.touches.others n other;
     dry = λ id is. subst (λ (o : Option HostContents). IsToldDry id o) (sym same.host) (a.touches.dry id is);
   };
@@ -124,6 +142,7 @@ then_serves : (slot : ℕ) (r : Filling) (c : Situation) (q : Filling) (d : Situ
 then_serves slot r c q d x e same b = record {
   touches = record {
     slots = b.touches.slots ∙ ap (λ (t : Table DeviceConnection). slots t) same.table;
+    frame = keeps_both _ _ _ _ _ _ (keeps_same _ _ _ _ same.table same.host) b.touches.frame;
     others = λ n other. b.touches.others n other ∙ ap (λ (t : Table DeviceConnection). reads_under n t) same.table;
     dry = λ id is. b.touches.dry id (subst (λ (o : Option HostContents). IsToldDry id o) (sym same.host) is);
   };
@@ -251,9 +270,13 @@ puts_owed slot r c on = by (entry_under r.state.table slot)
     by (Some e) = owing e (owes_of e.value.end)
 
 -- Another connection under a slot.
-under_other : (t : Table DeviceConnection) (slot n : ℕ) (v : DeviceConnection) → (n == slot) ≡ false → reads_under n (with_value t slot v) ≡ reads_under n t
-under_other t slot n v other =
-    ap (λ (o : Option DeviceEntry). elim o as (λ _. Option ℕ) [ None ↦ None | Some e ↦ reads_of e ]) (entry_under-with_value t slot v n ∙ by (entry_under t n) refl)
+abbrev pub under : (DeviceEntry → Option ℕ) → ℕ → Table DeviceConnection → Option ℕ
+under look slot t = elim (entry_under t slot) as (λ _. Option ℕ) [ None ↦ None | Some e ↦ look e ]
+
+pub under_other : (look : DeviceEntry → Option ℕ) (t : Table DeviceConnection) (slot n : ℕ) (v : DeviceConnection) → (n == slot) ≡ false
+    → under look n (with_value t slot v) ≡ under look n t
+under_other look t slot n v other =
+    ap (λ (o : Option DeviceEntry). elim o as (λ _. Option ℕ) [ None ↦ None | Some e ↦ look e ]) (entry_under-with_value t slot v n ∙ by (entry_under t n) refl)
   where
     kept : (e : DeviceEntry) (b : Bool) → (e.slot == slot) ≡ b → e.slot ≡ n → revalued slot v e ≡ e
     kept e true is here = absurd (let no : true ≡ false = sym is ∙ ap (λ (m : ℕ). m == slot) here ∙ other in cc)
@@ -263,29 +286,52 @@ under_other t slot n v other =
     by None at = refl
     by (Some e) at = ap (λ (x : DeviceEntry). let q : Option DeviceEntry = Some x in q) (kept e (e.slot == slot) refl (has_slot t n e at))
 
-under_own : (t : Table DeviceConnection) (slot : ℕ) (e : DeviceEntry) (v : DeviceConnection) → entry_under t slot ≡ Some e
-    → reads_under slot (with_value t slot v) ≡ reads_of (record e { value = v })
-under_own t slot e v at =
-    ap (λ (o : Option DeviceEntry). elim o as (λ _. Option ℕ) [ None ↦ None | Some x ↦ reads_of x ])
+pub under_own : (look : DeviceEntry → Option ℕ) (t : Table DeviceConnection) (slot : ℕ) (e : DeviceEntry) (v : DeviceConnection) → entry_under t slot ≡ Some e
+    → under look slot (with_value t slot v) ≡ look (record e { value = v })
+under_own look t slot e v at =
+    ap (λ (o : Option DeviceEntry). elim o as (λ _. Option ℕ) [ None ↦ None | Some x ↦ look x ])
     (entry_under-with_value t slot v slot ∙ ap (λ (o : Option DeviceEntry). option_map (revalued slot v) o) at)
-    ∙ ap (λ (b : Bool). reads_of (cond b (record e { value = v }) e)) (ap (λ (m : ℕ). m == slot) (has_slot t slot e at) ∙ eq-eqb slot slot refl)
+    ∙ ap (λ (b : Bool). look (cond b (record e { value = v }) e)) (ap (λ (m : ℕ). m == slot) (has_slot t slot e at) ∙ eq-eqb slot slot refl)
+
+pub under_at : (look : DeviceEntry → Option ℕ) (t : Table DeviceConnection) (slot : ℕ) (o : Option DeviceEntry) → entry_under t slot ≡ o
+    → under look slot t ≡ elim o as (λ _. Option ℕ) [ None ↦ None | Some e ↦ look e ]
+under_at look t slot o at = ap (λ (q : Option DeviceEntry). elim q as (λ _. Option ℕ) [ None ↦ None | Some e ↦ look e ]) at
+
+-- It has no more to write than the one before it.
+less_written : (t : Table DeviceConnection) (slot : ℕ) (e : DeviceEntry) (v : DeviceConnection) → entry_under t slot ≡ Some e
+    → ((id : ℕ) → writes_of (record e { value = v }) ≡ Some id → writes_of e ≡ Some id)
+    → (n id : ℕ) → writes_under n (with_value t slot v) ≡ Some id → writes_under n t ≡ Some id
+less_written t slot e v at less n id writes = by (n == slot) refl
+  where
+    by : (b : Bool) → (n == slot) ≡ b → writes_under n t ≡ Some id
+    by false other = sym (under_other writes_of t slot n v other) ∙ writes
+    by true is =
+        let same : n ≡ slot = eqb-true n slot is in
+        let here : writes_under slot (with_value t slot v) ≡ Some id = subst (λ (m : ℕ). writes_under m (with_value t slot v) ≡ Some id) same writes in
+        subst (λ (m : ℕ). writes_under m t ≡ Some id) (sym same)
+        (under_at writes_of t slot (Some e) at ∙ less id (sym (under_own writes_of t slot e v at) ∙ here))
 
 -- A connection that reads nothing is put in the place of another.
 replaces : (slot : ℕ) (e : DeviceEntry) (v : DeviceConnection) (r : Filling) (c : Situation) (x : Filling) (d : Situation) → entry_under r.state.table slot ≡ Some e
-    → reads_of (record e { value = v }) ≡ None → x.state.table ≡ with_value r.state.table slot v → ((id : ℕ) → IsToldDry id c.host → IsToldDry id d.host)
-    → Serves slot r c x d
-replaces slot e v r c x d at none table dry = record {
+    → reads_of (record e { value = v }) ≡ None → x.state.table ≡ with_value r.state.table slot v
+    → ((id : ℕ) → writes_of (record e { value = v }) ≡ Some id → writes_of e ≡ Some id)
+    → ((id : ℕ) → IsToldDry id c.host → IsToldDry id d.host) → ((id : ℕ) → IsToldFull id c.host → IsToldFull id d.host) → Serves slot r c x d
+replaces slot e v r c x d at none table less dry full = record {
   touches = record {
+    frame = record {
+      less = λ n id writes. less_written r.state.table slot e v at less n id (ap (λ (t : Table DeviceConnection). writes_under n t) (sym table) ∙ writes);
+      full = full;
+    };
     slots = ap (λ (t : Table DeviceConnection). slots t) table ∙ same_slots end_in r.state.table slot v;
-    others = λ n other. ap (λ (t : Table DeviceConnection). reads_under n t) table ∙ under_other r.state.table slot n v other;
+    others = λ n other. ap (λ (t : Table DeviceConnection). reads_under n t) table ∙ under_other reads_of r.state.table slot n v other;
     dry = dry;
   };
-  own = λ id reads. absurd (let no : None ≡ Some id = sym none ∙ sym (under_own r.state.table slot e v at) ∙ ap (λ (t : Table DeviceConnection). reads_under slot t) (sym table) ∙ reads in cc);
+  own = λ id reads. absurd (let no : None ≡ Some id = sym none ∙ sym (under_own reads_of r.state.table slot e v at) ∙ ap (λ (t : Table DeviceConnection). reads_under slot t) (sym table) ∙ reads in cc);
 }
 
 still_none : (slot : ℕ) (r : Filling) (c : Situation) → reads_under slot r.state.table ≡ None → Serves slot r c r c
 still_none slot r c none = record {
-  touches = record { slots = refl; others = λ n other. refl; dry = λ id is. is };
+  touches = record { slots = refl; frame = keeps_same _ _ _ _ refl refl; others = λ n other. refl; dry = λ id is. is };
   own = λ id reads. absurd (let no : None ≡ Some id = sym none ∙ reads in cc);
 }
 
@@ -294,33 +340,44 @@ abbrev IsQuiet : StreamRead → Type 0
 IsQuiet (read.Got n) = ⊥
 IsQuiet a = Unit {0}
 
-host_moves : (failed : Bool) (P : HostContents → Type 0) (f : HostContents → HostContents) (c d : Situation) → HostMoves failed P f c d
-    → ((id : ℕ) (h : HostContents) → IsDryAt id h → IsDryAt id (f h)) → (id : ℕ) → IsToldDry id c.host → IsToldDry id d.host
-host_moves failed P f c d moves keeps id dry = by c.host moves.host dry
+pub host_moves : (Q : ℕ → HostContents → Type 0) (failed : Bool) (P : HostContents → Type 0) (f : HostContents → HostContents) (c d : Situation)
+    → HostMoves failed P f c d → ((id : ℕ) (h : HostContents) → Q id h → Q id (f h)) → (id : ℕ) → ForSome c.host (Q id) → ForSome d.host (Q id)
+host_moves Q failed P f c d moves keeps id dry = by c.host moves.host dry
   where
-    by : (o : Option HostContents) → Exposes o d.host P f → IsToldDry id o → IsToldDry id d.host
+    by : (o : Option HostContents) → Exposes o d.host P f → ForSome o (Q id) → ForSome d.host (Q id)
     by None exposes dry = λ h there. absurd (let no : ◌≡◌ {A = Option HostContents} None (Some h) = sym exposes ∙ there in cc)
     by (Some g) exposes dry = λ h there.
-        subst (IsDryAt id) (same_Some (f g) h (sym exposes.1 ∙ there)) (keeps id g (dry g refl))
+        subst (Q id) (same_Some (f g) h (sym exposes.1 ∙ there)) (keeps id g (dry g refl))
 
-dry_closed : (i id : ℕ) (h : HostContents) → IsDryAt i h → IsDryAt i (after_close id h)
-dry_closed i id h dry = by (i == id) refl
+pub stays_with : (P : Stream → Type 0) (f : Stream → Stream) → ((s : Stream) → P s → P (f s)) → (i id : ℕ) (h : HostContents)
+    → ForSome (stream_at i h) P → ForSome (stream_at i (with_stream id f h)) P
+stays_with P f stays i id h dry = by (i == id) refl
   where
-    own : (o : Option Stream) → stream_at id h ≡ o → IsDryAt id h → IsDryAt id (after_close id h)
+    own : (o : Option Stream) → stream_at id h ≡ o → ForSome (stream_at id h) P → ForSome (stream_at id (with_stream id f h)) P
     own None at was = λ s there.
-        absurd (let same : (after_close id h).streams ≡ h.streams = ap (λ (q : Option Stream). option_map_or (λ x. slice_set h.streams (id - 1) (record x { state = state.Closed })) q h.streams) at in
+        absurd (let same : (with_stream id f h).streams ≡ h.streams = ap (λ (q : Option Stream). option_map_or (λ x. slice_set h.streams (id - 1) (f x)) q h.streams) at in
         let gone : None ≡ Some s = sym at ∙ sym (ap (λ (xs : List Stream). cond (id == 0) None (slice_get xs (id - 1))) same) ∙ there in cc)
     own (Some x) at was = λ s there.
-        let same : record x { state = state.Closed } ≡ s =
-        same_Some _ s (sym (stream_at-with_stream id (λ (y : Stream). record y { state = state.Closed }) h x at) ∙ there) in
-        let d = was x at in
-        subst IsDry same (record { untaken = d.untaken; goes_on = d.goes_on })
+        let same : f x ≡ s = same_Some _ s (sym (stream_at-with_stream id f h x at) ∙ there) in subst P same (stays x (was x at))
 
-    by : (b : Bool) → (i == id) ≡ b → IsDryAt i (after_close id h)
-    by true is = subst (λ (j : ℕ). IsDryAt j (after_close id h)) (sym (eqb-true i id is)) (own (stream_at id h) refl (subst (λ (j : ℕ). IsDryAt j h) (eqb-true i id is) dry))
+    by : (b : Bool) → (i == id) ≡ b → ForSome (stream_at i (with_stream id f h)) P
+    by true is = subst (λ (j : ℕ). ForSome (stream_at j (with_stream id f h)) P) (sym (eqb-true i id is))
+        (own (stream_at id h) refl (subst (λ (j : ℕ). ForSome (stream_at j h) P) (eqb-true i id is) dry))
     by false is =
         let apart : i ≢ id = λ e. let no : true ≡ false = sym (eq-eqb i id e) ∙ is in absurd cc in
-        λ s there. dry s (sym (others-after_close id h i apart) ∙ there)
+        λ s there. dry s (sym (keeps_others id f h i apart) ∙ there)
+
+dry_closed : (i id : ℕ) (h : HostContents) → IsDryAt i h → IsDryAt i (after_close id h)
+dry_closed i id h = stays_with IsDry (λ s. record s { state = state.Closed }) (λ s is. record { untaken = is.untaken; goes_on = is.goes_on }) i id h
+
+pub full_closed : (i id : ℕ) (h : HostContents) → IsFullAt i h → IsFullAt i (after_close id h)
+full_closed i id h = stays_with IsFull (λ s. record s { state = state.Closed }) (λ s is. is) i id h
+
+full_read : (a : StreamRead) (stream i : ℕ) (h : HostContents) → IsQuiet a → IsFullAt i h → IsFullAt i (after_read stream a h)
+full_read (read.Got n) stream i h quiet full = absurd quiet
+full_read read.Again stream i h quiet full = full
+full_read read.End stream i h quiet full = full
+full_read read.Failed stream i h quiet full = full
 
 dry_read : (a : StreamRead) (stream i : ℕ) (h : HostContents) → IsQuiet a → IsDryAt i h → IsDryAt i (after_read stream a h)
 dry_read (read.Got n) stream i h quiet dry = absurd quiet
@@ -373,7 +430,7 @@ not_sending x Answering is = refl
 reads_none : (e : DeviceEntry) → may_read e.value.end e.value.end.state ≡ false → reads_of e ≡ None
 reads_none e is = ap (λ (b : Bool). cond (b && not (free_of e.value.end.credit == 0)) (Some e.value.stream) None) is
 
-or_true : (a b : Bool) → b ≡ true → (a || b) ≡ true
+pub or_true : (a b : Bool) → b ≡ true → (a || b) ≡ true
 or_true true b is = refl
 or_true false b is = is
 
@@ -384,8 +441,26 @@ module _ (e : DeviceEntry) where
   read_stays : (a : StreamRead) (room : ℕ) (payload : List ℕ) (c d : Situation) → IsQuiet a
       → Allows (ReadStream e.value.stream room) (a, payload) c d → (id : ℕ) → IsToldDry id c.host → IsToldDry id d.host
   read_stays a room payload c d quiet made =
-      host_moves (read_failed a) (IsReadOf e.value.stream room (a, payload)) (after_read e.value.stream a) c d made.0
+      host_moves IsDryAt (read_failed a) (IsReadOf e.value.stream room (a, payload)) (after_read e.value.stream a) c d made.0
       (λ id h dry. dry_read a e.value.stream id h quiet dry)
+
+  read_full : (a : StreamRead) (room : ℕ) (payload : List ℕ) (c d : Situation) → IsQuiet a
+      → Allows (ReadStream e.value.stream room) (a, payload) c d → (id : ℕ) → IsToldFull id c.host → IsToldFull id d.host
+  read_full a room payload c d quiet made =
+      host_moves IsFullAt (read_failed a) (IsReadOf e.value.stream room (a, payload)) (after_read e.value.stream a) c d made.0
+      (λ id h full. full_read a e.value.stream id h quiet full)
+
+  -- A connection that shuts has no more to write than before.
+  shut_writes : (bits now : ℕ) (v : DeviceConnection) (id : ℕ) → writes_of (record e { value = after_shut bits now v }) ≡ Some id
+      → writes_of (record e { value = v }) ≡ Some id
+  shut_writes bits now v id = by v.closed (with_shut v.end bits).own.receive
+    where
+      by : (closed b : Bool)
+          → cond (not closed && not (length (take 4096 (cond b [] v.ok_line ++ cond b [] v.pending)) == 0)) (Some v.stream) None ≡ Some id
+          → cond (not closed && not (length (take 4096 (v.ok_line ++ v.pending)) == 0)) (Some v.stream) None ≡ Some id
+      by true b writes = absurd cc
+      by false true writes = absurd cc
+      by false false writes = writes
 
   answered : (chain : Chain) (a : StreamRead) (payload : List ℕ) (room : ℕ) (q : Filling) (c d : Situation) → entry_under q.state.table e.slot ≡ Some e
       → Allows (ReadStream e.value.stream room) (a, payload) c d
@@ -404,7 +479,12 @@ module _ (e : DeviceEntry) where
     same = λ put on. (
       on,
       record {
-        touches = record { slots = refl; others = λ n other. refl; dry = read_stays read.Again room payload c d tt made };
+        touches = record {
+          slots = refl;
+          frame = record { less = λ n id writes. writes; full = read_full read.Again room payload c d tt made };
+          others = λ n other. refl;
+          dry = read_stays read.Again room payload c d tt made;
+        };
         own = λ id reads.
             subst (λ (i : ℕ). IsToldDry i d.host) (its_stream (may_read e.value.end e.value.end.state && not (free_of e.value.end.credit == 0)) id
             (sym (ap (λ (o : Option DeviceEntry). elim o as (λ _. Option ℕ) [ None ↦ None | Some x ↦ reads_of x ]) at) ∙ reads))
@@ -423,29 +503,36 @@ module _ (e : DeviceEntry) where
       replaces e.slot e (after_shut 2 q.state.now e.value) q c _ d at
           (reads_none (record e { value = after_shut 2 q.state.now e.value })
           (not_sending (with_shut e.value.end 2) (with_shut e.value.end 2).state (or_true e.value.end.own.send _ refl))) refl
-          (read_stays read.End room payload c d tt made),
+          (shut_writes 2 q.state.now e.value) (read_stays read.End room payload c d tt made) (read_full read.End room payload c d tt made),
     );
   }
   answered chain read.Failed payload room q c d at made =
-      keeps_then allowed (λ x f. Step Served q c x f) (λ s f. (s ≡ cut) × ((id : ℕ) → IsToldDry id d.host → IsToldDry id f.host))
+      keeps_then allowed (λ x f. Step Served q c x f)
+      (λ s f. (s ≡ cut) × ((id : ℕ) → IsToldDry id d.host → IsToldDry id f.host) × ((id : ℕ) → IsToldFull id d.host → IsToldFull id f.host))
       (closing e cut_off (with_fault q.state)) (λ s. Done (record q { state = s })) d (closes e.value.closed)
       (λ s f is. record {
         rises = omega arith;
         same = λ put on. (
           on,
           replaces e.slot e (cut_off e.value) q c (record q { state = s }) f at refl (ap (λ (t : DeviceState). t.table) is.0)
-              (λ id dry. is.1 id (read_stays read.Failed room payload c d tt made id dry)),
+              (λ id writes. absurd cc) (λ id dry. is.1 id (read_stays read.Failed room payload c d tt made id dry))
+              (λ id full. is.2 id (read_full read.Failed room payload c d tt made id full)),
         );
       })
     where
       cut : DeviceState
       cut = with_connection e.slot (cut_off e.value) (with_fault q.state)
 
-      closes : (b : Bool) → Keeps allowed (λ s f. (s ≡ cut) × ((id : ℕ) → IsToldDry id d.host → IsToldDry id f.host)) (cond b
+      closes : (b : Bool) → Keeps allowed
+          (λ s f. (s ≡ cut) × ((id : ℕ) → IsToldDry id d.host → IsToldDry id f.host) × ((id : ℕ) → IsToldFull id d.host → IsToldFull id f.host)) (cond b
           (Done (with_connection e.slot (cut_off e.value) (with_fault q.state)))
           (Ask (CloseStream e.value.stream) (λ u. Done (with_connection e.slot (cut_off e.value) (with_fault q.state))))) d
-      closes true = (refl, λ id dry. dry)
-      closes false = λ u f closed. (refl, host_moves false (λ h. Unit {0}) (after_close e.value.stream) d f closed (λ id h dry. dry_closed id e.value.stream h dry))
+      closes true = (refl, λ id dry. dry, λ id full. full)
+      closes false = λ u f closed. (
+        refl,
+        host_moves IsDryAt false (λ h. Unit {0}) (after_close e.value.stream) d f closed (λ id h dry. dry_closed id e.value.stream h dry),
+        host_moves IsFullAt false (λ h. Unit {0}) (after_close e.value.stream) d f closed (λ id h full. full_closed id e.value.stream h full),
+      )
 
   with_chain : (r q : Filling) (c d : Situation) → Held r c q d → entry_under q.state.table e.slot ≡ Some e
       → Keeps allowed (λ x f. Step Served r c x f) (read_with_chain e q) d
@@ -484,7 +571,8 @@ module _ (e : DeviceEntry) where
         same = λ put o. (
           on,
           replaces e.slot e (record e.value { end = wanting_credit e.value.end }) r c _ c at
-              (no_credit (may_read e.value.end e.value.end.state) (free_of e.value.end.credit == 0) free) refl (λ id dry. dry),
+              (no_credit (may_read e.value.end e.value.end.state) (free_of e.value.end.credit == 0) free) refl (λ id writes. writes)
+              (λ id dry. dry) (λ id full. full),
         );
       }
       by true may false free =
@@ -527,6 +615,7 @@ serves_slot slot r c = by r.over refl
 -- All slots of a list.
 record ServesAll (is : List ℕ) (r : Filling) (c : Situation) (x : Filling) (d : Situation) : Type 0 where
   slots : slots x.state.table ≡ slots r.state.table
+  frame : Frame r c x d
   all : (n : ℕ) → in_list n is ≡ true → OwnDry n x d
   keeps : (n : ℕ) → OwnDry n r c → OwnDry n x d
 
@@ -538,6 +627,7 @@ serves_more : (slot : ℕ) (is : List ℕ) (r : Filling) (c : Situation) (q : Fi
     → ServesAll is q d x f → ServesAll (slot ∷ is) r c x f
 serves_more slot is r c q d x f s rest = record {
   slots = rest.slots ∙ s.touches.slots;
+  frame = keeps_both _ _ _ _ _ _ s.touches.frame rest.frame;
   all = λ n at. by n (n == slot) refl at;
   keeps = λ n own. rest.keeps n (serve_keeps slot n r c q d (n == slot) refl s own);
 }
@@ -547,7 +637,7 @@ serves_more slot is r c q d x f s rest = record {
     by n false other at = rest.all n at
 
 serves_each : (is : List ℕ) (r : Filling) (c : Situation) → Keeps allowed (λ x d. Step (ServesAll is) r c x d) (for_each serve_slot is r) c
-serves_each [] r c = record { rises = omega arith; same = λ put o. (o, record { slots = refl; all = λ n at. absurd cc; keeps = λ n own. own }) }
+serves_each [] r c = record { rises = omega arith; same = λ put o. (o, record { slots = refl; frame = keeps_same _ _ _ _ refl refl; all = λ n at. absurd cc; keeps = λ n own. own }) }
 serves_each (slot ∷ is) r c =
     keeps_then allowed (λ x d. Step (ServesAll (slot ∷ is)) r c x d) (λ q d. Step (Serves slot) r c q d) (serve_slot slot r) (for_each serve_slot is) c
     (serves_slot slot r c)
@@ -583,7 +673,7 @@ in_round (Some last) xs n at =
 
 -- The whole stage.
 abbrev AllDry : Relation
-AllDry r c x d = (n : ℕ) → OwnDry n x d
+AllDry r c x d = ((n : ℕ) → OwnDry n x d) × Frame r c x d
 
 listed_reads : (n : ℕ) (t : Table DeviceConnection) (id : ℕ) → reads_under n t ≡ Some id → in_list n (slots t) ≡ true
 listed_reads n t id at = by (entry_under t n) refl
@@ -600,28 +690,18 @@ all_slots s r c q d step false on =
     let round = round_from q.state.last_put (slots q.state.table) in
     keeps_weaker (λ x f. Step (ServesAll round) q d x f) (λ x f. Step AllDry r c x f)
     (λ x f a. one_then Same (ServesAll round) AllDry r c q d x f
-    (λ same all n id at. all.all n (in_round q.state.last_put (slots q.state.table) n
-    (subst (λ (ns : List ℕ). in_list n ns ≡ true) all.slots (listed_reads n x.state.table id at))) id at) step a)
+    (λ same all. (
+      λ n id at. all.all n (in_round q.state.last_put (slots q.state.table) n
+          (subst (λ (ns : List ℕ). in_list n ns ≡ true) all.slots (listed_reads n x.state.table id at))) id at,
+      keeps_both _ _ _ _ _ _ (keeps_same _ _ _ _ same.table same.host) all.frame,
+    )) step a)
     (for_each serve_slot round q) d (serves_each round q d)
 
 pub stage_dry : (s : DeviceState) (a b : Situation) (q : Filling) → Runs (filling_of s) a q b → q.put ≡ 0 → q.over ≡ false
-    → (n id : ℕ) → reads_under n q.state.table ≡ Some id → IsToldDry id b.host
+    → ((n id : ℕ) → reads_under n q.state.table ≡ Some id → IsToldDry id b.host) × KeepsFull s.table a.host q.state.table b.host
 stage_dry s a b q runs none over =
     ((keeps_run (λ x d. Step AllDry (filling s) a x d) (filling_of s) a b q
     (keeps_then allowed (λ x d. Step AllDry (filling s) a x d) (λ r c. Step Same (filling s) a r c) (while_up_to (length s.replies) put_reply (filling s))
     (λ r. cond r.over (Done r) (for_each serve_slot (round_from r.state.last_put (slots r.state.table)) r)) a
     (stays_while put_reply (λ r c on. puts_reply r.state.replies r c on) (length s.replies) (filling s) a refl)
     (λ r c step. all_slots s (filling s) a r c step r.over refl)) runs).same none over).1
-
--- A turn that put nothing; or it stopped for want of a page.
-pub turn_dry : (size now : ℕ) (s : ProxyState) (a b : Situation) (x : ProxyState × Turn) (t : Turned) → Runs (turn_of size now s) a x b
-    → x.1 ≡ turn.Turned t → t.put ≡ 0
-    → ((n id : ℕ) → reads_under n x.0.device.table ≡ Some id → IsToldDry id b.host) ⊎ LacksPages x.0.device b.ring
-turn_dry size now s a b x t runs answer none =
-    let last = last_fill size now s a b x t runs answer none in by last last.filling.over refl
-  where
-    by : (last : LastFill b x.0.device) (o : Bool) → last.filling.over ≡ o
-        → ((n id : ℕ) → reads_under n x.0.device.table ≡ Some id → IsToldDry id b.host) ⊎ LacksPages x.0.device b.ring
-    by last true over = inr (subst (λ (d : DeviceState). LacksPages d b.ring) (sym last.state) (fill_lacks last over))
-    by last false on = inl (λ n id at. stage_dry last.before last.middle b last.filling last.runs last.none on n id
-        (ap (λ (d : DeviceState). reads_under n d.table) (sym last.state) ∙ at))

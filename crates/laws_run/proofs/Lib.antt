@@ -8,5 +8,7 @@ pub mod Wrote
 pub mod Bytes
 pub mod Reporting
 pub mod Open
+pub mod Unread
 pub mod Drying
+pub mod Pumping
 pub mod Completing

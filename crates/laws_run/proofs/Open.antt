@@ -2,7 +2,7 @@
 use Rattle.std.proofs.Common.{◌≡◌, ◌≢◌, ◌+◌, ◌-◌, ◌<◌, ◌==◌, ◌||◌, ◌&&◌, ℕ, zero, suc, Bool, true, false, cond, List, [], ◌∷◌, length, map, Option, Some, None}
 use Rattle.std.proofs.Common.{Contains, slice_get, slice_index_or, refl, sym, ap, subst, ◌∙◌, arith}
 use Rattle.std.proofs.lemmas.{Bool.Decides.nat_tests, Bool.and_parts, Option.slice_get-get_or, List.Elements.All-contains, List.length-map, Map.Made.length-from_same_keys}
-use Rattle.std.specs.{Cmp.IsEquivalence, List.AllByRecursion, List.AllPairs, List.IsDistinct, List.cons_option, List.filter_map, List.list_any, Option.option_map, Option.option_map_or}
+use Rattle.std.specs.{Cmp.IsEquivalence, List.All, List.AllByRecursion, List.AllPairs, List.IsDistinct, List.cons_option, List.filter_map, List.list_any, Option.ForSome, Option.option_map, Option.option_map_or}
 use Rattle.vs_flow.specs.{Flow.same_flow, Table.IsTable, Table.Table, declared.flow.Flow.Flow, declared.table.Entry.Entry}
 use Rattle.vs_conn.specs.End.{ConnectionEnd}
 use Rattle.vs_outside.specs.{Host.{HostContents, Stream, stream_at, waits}, HostProgram.closes, declared.host_net.StreamState.StreamState}
@@ -15,7 +15,7 @@ use Rattle.laws_device.specs.{Honest.end_in, Streams.has_open_stream, Streams.is
 use Rattle.laws_device.proofs.Waiting.{open_among}
 use Rattle.laws_device_bytes.specs.Streamed.{IsJoined, IsStreamed, Seen, client_waits, look, seen}
 use Rattle.laws_device_bytes.proofs.{Hosts.there}
-use Rattle.laws_run.specs.{Complete.open_label, Complete.open_labels, Dry.AreDry, Dry.IsDryAt}
+use Rattle.laws_run.specs.Complete.{open_label, open_labels}
 
 same_flows : IsEquivalence same_flow
 same_flows = record {
@@ -133,7 +133,7 @@ flows_any : (f : Flow) (es : List DeviceEntry)
 flows_any f [] = refl
 flows_any f (e ∷ es) = ap (λ (b : Bool). same_flow f e.flow || b) (flows_any f es)
 
--- Where a connection's own stream is dry, all open streams with its label are: it is the only one.
+-- What is so of a connection's own stream is so of all open streams with its label: it is the only one.
 module _ (h : HostContents) (log : Log) (port : ℕ) (t : Table DeviceConnection) (hands : List Handshake) (streamed : IsStreamed h log port t hands) where
   looked_at : (k : ℕ) (s : Stream) → slice_get h.streams k ≡ Some s → stream_at (k + 1) h ≡ Some s
   looked_at k s at =
@@ -148,8 +148,9 @@ module _ (h : HostContents) (log : Log) (port : ℕ) (t : Table DeviceConnection
       by None so = absurd cc
       by (Some g) so = ap (λ (x : Flow). let o : Option Flow = Some x in o) (sym (same_is f g so))
 
-  pub one_dry : (e : DeviceEntry) → Contains t.entries e → IsDryAt e.value.stream h → AreDry e.flow h
-  one_dry e within dry k d less opened =
+  pub one_is : (P : Stream → Type 0) (e : DeviceEntry) → Contains t.entries e → ForSome (stream_at e.value.stream h) P
+      → All (λ s. is_open_on e.flow s ≡ true → P s) h.streams
+  one_is P e within dry k d less opened =
       let s : Stream = slice_index_or h.streams k d in
       let at : stream_at (k + 1) h ≡ Some s = looked_at k s (slice_get-get_or h.streams k d less) in
       let j = All-contains (IsJoined (look h) log) t.entries e streamed.joined within in

@@ -26,7 +26,7 @@ module _ (role : Role) (mine other : Log) (all : packets_put other ≡ packets_g
   pub there : (f : Flow) → puts (whole_of (other_role role) f other) ≡ gots (whole_of role f mine)
   there f = got_on role f mine other [] all
 
-  same_payload : (c : Connection) → payload_put (other_role role) c other ≡ payload_got role c mine
+  pub same_payload : (c : Connection) → payload_put (other_role role) c other ≡ payload_got role c mine
   same_payload c =
       ap (λ (side : Side). payload_of (instance_from side c.number (puts (whole_of (other_role role) c.flow other)))) (opposite_by role (is_assigned c.flow.host))
       ∙ ap (λ (ps : List Packet). payload_of (instance_from (peer (side_of role c.flow)) c.number ps)) (there c.flow)

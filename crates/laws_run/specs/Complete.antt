@@ -1,12 +1,12 @@
 -- A complete run: what more the report of a run that is at rest says, and the streams of its host.
-use Rattle.std.specs.{List.filter_map, Prelude.{◌≡◌, ℕ, ◌<◌, true, if◌then◌else◌, List, length, Option, Some, None}}
+use Rattle.std.specs.{List.filter_map, Prelude.{◌≡◌, ℕ, ◌+◌, ◌<◌, ◌≤◌, true, if◌then◌else◌, List, length, Option, Some, None}}
 use Rattle.vs_flow.specs.{Connection.Connection, declared.flow.Flow.Flow}
-use Rattle.vs_outside.specs.{Host.HostContents, Host.Stream, HostBytes.host_wrote}
+use Rattle.vs_outside.specs.{Host.HostContents, Host.Stream, HostBytes.host_read, HostBytes.host_wrote}
 use Rattle.laws_device.specs.Streams.{has_open_stream, is_open_in}
 use Rattle.laws_driver_bytes.specs.Calls.{Journal, received_by}
-use Rattle.vs_apps_parts.specs.{Journals.calls_of, Scripts.RunScript, declared.{journal.Entry.Entry, journal.WaitsFor.WaitsFor, progress.AppState.AppState}}
+use Rattle.vs_apps_parts.specs.{Journals.calls_of, Journals.sent_as, Scripts.RunScript, declared.{journal.Entry.Entry, journal.WaitsFor.WaitsFor, progress.AppState.AppState}}
 use Rattle.vs_apps_parts.specs.declared.journal.WaitsFor.TheVariants as waits
-use Rattle.laws_run.specs.Dry.{AreDry}
+use Rattle.laws_run.specs.Dry.{AreDry, AreFull}
 use Rattle.vs_report.specs.declared.giving.Totals.{Totals}
 use Rattle.vs_run_report.specs.{Endings.state_at, Report.ended_at, declared.ending.Ending.Ending}
 use Rattle.vs_run_report.specs.declared.ending.Ending.TheVariants as ending
@@ -18,9 +18,10 @@ open_label s = if is_open_in s.state then s.label else None
 abbrev pub open_labels : HostContents → List Flow
 open_labels h = filter_map open_label h.streams
 
--- The app's last connection, by its id, has a stream that the proxy hasn't closed. What is so of one where an app waits for bytes, or for credit: it is
--- open, and in the first case all that the host's program wrote there and the proxy took was received, and nothing is there to be taken now, though
--- more may come.
+-- The app's last connection, by its id, has a stream that the proxy hasn't closed. What is so of one where an app waits for bytes: it is open, all that
+-- the host's program wrote there and the proxy took was received, and nothing is there to be taken now, though more may come. And where an app waits for
+-- credit: it is open, takes nothing now, and of what was sent there that program has at least so many bytes still to read, more than half of the buffer
+-- space.
 abbrev pub IsAtOpen : (ℕ → Connection) → HostContents → Option ℕ → ℕ → Type 0
 IsAtOpen opened h conn id = (conn ≡ Some id) × (has_open_stream (opened id).flow h ≡ true)
 
@@ -28,13 +29,14 @@ abbrev pub LacksBytes : (ℕ → Connection) → Journal → HostContents → Op
 LacksBytes opened journal h conn =
     (id : ℕ) × IsAtOpen opened h conn id × (received_by id journal ≡ host_wrote (opened id) h) × AreDry (opened id).flow h
 
-abbrev pub LacksCredit : (ℕ → Connection) → HostContents → Option ℕ → Type 0
-LacksCredit opened h conn = (id : ℕ) × IsAtOpen opened h conn id
+abbrev pub LacksCredit : (ℕ → Connection) → Journal → HostContents → Option ℕ → Type 0
+LacksCredit opened journal h conn =
+    (id : ℕ) × IsAtOpen opened h conn id × (32769 + length (host_read (opened id) h) ≤ length (sent_as id journal)) × AreFull (opened id).flow h
 
 -- What is so of each wait, where the app is at this connection. None waits for a connection to open.
 abbrev pub IsCompleteWait : (ℕ → Connection) → Journal → HostContents → Option ℕ → WaitsFor → Type 0
 IsCompleteWait opened journal h conn waits.Empty = LacksBytes opened journal h conn
-IsCompleteWait opened journal h conn (waits.NoCredit tx alloc fwd) = LacksCredit opened h conn
+IsCompleteWait opened journal h conn (waits.NoCredit tx alloc fwd) = LacksCredit opened journal h conn
 IsCompleteWait opened journal h conn waits.NotOpen = ⊥
 IsCompleteWait opened journal h conn why = Unit {0}
 

@@ -1,10 +1,10 @@
--- A stream of the host from which nothing is to be taken now, though more may come.
-use Rattle.std.specs.{List.All, Option.ForSome, Prelude.{◌≡◌, ℕ, ◌==◌, ◌&&◌, not, true, false, if◌then◌else◌, [], Option, Some, None}}
+-- Streams of the host that are at rest: from which nothing is to be taken now, though more may come; and which take nothing now.
+use Rattle.std.specs.{List.All, Option.ForSome, Prelude.{◌≡◌, ℕ, ◌==◌, ◌&&◌, not, true, false, if◌then◌else◌, [], length, Option, Some, None}}
 use Rattle.vs_credit.specs.Credit.{free_of}
 use Rattle.vs_flow.specs.{Table.Table, Table.entry_under, declared.flow.Flow.Flow}
 use Rattle.laws_device.specs.Streams.{is_open_on}
 use Rattle.vs_outside.specs.Host.{HostContents, Stream, stream_at}
-use Rattle.vs_device_parts.specs.{Receiving.may_read, State.DeviceConnection, State.DeviceEntry}
+use Rattle.vs_device_parts.specs.{Receiving.may_read, State.DeviceConnection, State.DeviceEntry, Streams.to_write}
 
 -- A read of it gives Again.
 pub record IsDry (s : Stream) : Type 0 where
@@ -27,3 +27,28 @@ reads_of e = if may_read e.value.end e.value.end.state && not (free_of e.value.e
 
 abbrev pub reads_under : ℕ → Table DeviceConnection → Option ℕ
 reads_under slot t = elim (entry_under t slot) [ None ↦ None | Some e ↦ reads_of e ]
+
+-- A write of a stream gives Again: there is no room.
+abbrev pub IsFull : Stream → Type 0
+IsFull s = s.room ≡ Some 0
+
+abbrev pub IsFullAt : ℕ → HostContents → Type 0
+IsFullAt id h = ForSome (stream_at id h) IsFull
+
+abbrev pub AreFull : Flow → HostContents → Type 0
+AreFull f h = All (λ s. is_open_on f s ≡ true → IsFull s) h.streams
+
+abbrev pub IsToldFull : ℕ → Option HostContents → Type 0
+IsToldFull id host = ForSome host (IsFullAt id)
+
+-- The stream that the connection under a slot has something to write to.
+abbrev pub writes_of : DeviceEntry → Option ℕ
+writes_of e = if not e.value.closed && not (length (to_write e.value) == 0) then Some e.value.stream else None
+
+abbrev pub writes_under : ℕ → Table DeviceConnection → Option ℕ
+writes_under slot t = elim (entry_under t slot) [ None ↦ None | Some e ↦ writes_of e ]
+
+-- Each stream that a connection may read, with credit, is dry, and each that it has something to write to is full.
+abbrev pub AreIdle : Table DeviceConnection → Option HostContents → Type 0
+AreIdle t host =
+    ((slot id : ℕ) → reads_under slot t ≡ Some id → IsToldDry id host) × ((slot id : ℕ) → writes_under slot t ≡ Some id → IsToldFull id host)

@@ -15,12 +15,13 @@ ghost use Rattle.vs_apps_parts.specs.declared.{journal.Entry.Entry, progress.App
 ghost use Rattle.laws_apps.specs.{Calls.run_with, Rounds.AllStand, Runs.IsRunOf, Runs.PollsTo, Runs.Run, Runs.poll_moved};
 ghost use Rattle.vs_report.specs.declared.giving.Totals.{Totals};
 ghost use Rattle.vs_run_report.specs.Right.{IsRightReport};
-ghost use Rattle.laws_run.specs.{Complete.IsCompleteRun, Dry.IsDryAt, Dry.reads_under};
+ghost use Rattle.laws_run.specs.{Complete.IsCompleteRun, Dry.AreIdle};
 
 /// What is reported of a run that is at rest is right, and the run is complete, where each app's last step moved nothing, one after another, and the
 /// poll after them moved nothing either: an app that waits for bytes received all that the host's program wrote on its connection and the proxy took;
-/// one that waits for bytes or for credit is on a connection whose stream is open; none waits for a connection to open; and both tables have as many
-/// entries as there are streams with a label that the proxy hasn't closed.
+/// one that waits for bytes or for credit is on a connection whose stream is open, which in the latter case takes nothing now, and of what was sent there
+/// the host's program has more than half of the buffer space still to read; none waits for a connection to open; and both tables have as many entries as
+/// there are streams with a label that the proxy hasn't closed.
 pub fn law_of_complete_runs()
     ensures { (script : RunScript) (driver : DriverState) (end : Sight) (apps : List AppState) (entries : List Entry) (bytes : List ℕ)
         (p : ProxyState) (e : DeviceSight) (h : HostContents) (faults : ℕ)
@@ -29,7 +30,7 @@ pub fn law_of_complete_runs()
         → (old stood : Run) → AllStand script (length script) old stood → apps ≡ stood.apps → entries ≡ stood.entries
         → (polled : Polled) (told past : Run) → told.driver ≡ stood.driver → PollsTo polled told past → poll_moved polled ≡ false → driver ≡ past.driver
         → IsProxyStreamed FIRST_CID p (situation (device_contents e) (Some h) faults)
-        → ((slot id : ℕ) → reads_under slot p.device.table ≡ Some id → IsDryAt id h)
+        → AreIdle p.device.table (Some h)
         → (opened : ℕ → Connection) × ((t : Totals) (before after : ℕ) → t.broken ≡ driver.broken → t.counters.overrun ≡ p.device.overrun
         → t.counters.dropped ≡ 0 → (1 ≤ t.counters.faults → one_more before ≤ after) → IsRightReport script apps entries bytes t opened h before after)
         × ((t : Totals) → t.guest_open ≡ length (guest_shown driver) → t.device_open ≡ length (device_shown p.device)

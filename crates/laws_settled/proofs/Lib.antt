@@ -7,3 +7,4 @@ pub mod Steady
 pub mod Resting
 pub mod Tallying
 pub mod Beginning
+mod Exact

@@ -6,7 +6,7 @@ use Rattle.vs_contents.specs.{CallTree.Done, Contents.Relates}
 use Rattle.vs_contents.proofs.Leads.{leads_split}
 use Rattle.vs_flow.specs.Table.{IsTable}
 use Rattle.vs_ring_port.specs.{Known.{Known, StopsAt}, declared.failure.Failure.Failure, declared.queue.Queue.TheVariants.Rx}
-use Rattle.vs_device_parts.specs.{Calls.{Allows, Situation}, Playing.Runs, Receiving.{Filling, fill_rx_of, filled_of}, State.DeviceState}
+use Rattle.vs_device_parts.specs.{Calls.{Allows, Situation}, Playing.Runs, Receiving.{Filling, fill_rx_of, filled_of}, State.DeviceState, Streams.Writing, Streams.pump_of}
 use Rattle.laws_device_streams.specs.Waiting.{filling_of}
 use Rattle.laws_device_streams.proofs.Stopping.{is_stage, over_lacks}
 use Rattle.laws_device.specs.Honest.{ends_of_state}
@@ -18,10 +18,13 @@ use Rattle.vs_proxy_parts.specs.{Handshakes.shake_hands, Turns.unless_failed, de
 use Rattle.vs_proxy_parts.specs.declared.answers.Turn.TheVariants as turn
 use Rattle.laws_settled.specs.Settled.{LacksPages}
 
--- The last stage of a turn.
+-- The last two stages of a turn.
 record LastStage (s : ProxyState) (b : Situation) (x : ProxyState × Turn) : Type 0 where
+  pub first : Turning
+  pub began : Situation
   pub before : Turning
   pub middle : Situation
+  pub pumps : Runs (unless_failed pump_stage first) began before middle
   pub last : Turning
   pub runs : Runs (unless_failed fill_stage before) middle last b
   pub state : last.state ≡ x.0
@@ -36,8 +39,11 @@ last_stage size now s a b x runs =
     let five = leads_split Allows (unless_failed pump_stage four.end) _ four.middle b x four.rest in
     let six = leads_split Allows (unless_failed fill_stage five.end) _ five.middle b x five.rest in
     record {
+      first = four.end;
+      began = four.middle;
       before = five.end;
       middle = five.middle;
+      pumps = five.first;
       last = six.end;
       runs = subst (λ (c : Situation). Runs (unless_failed fill_stage five.end) five.middle six.end c) six.rest.1 six.first;
       state = ap (λ (y : ProxyState × Turn). y.0) six.rest.0;
@@ -46,13 +52,13 @@ last_stage size now s a b x runs =
 
 -- What it filled, and what the turn says of it.
 abbrev Fills : Turning → Situation → Turning → Situation → Type 0
-Fills t m l b = (q : Filling) × Runs (filling_of t.state.device) m q b × (l.state.device ≡ q.state) × (l.put ≡ t.put + q.put)
+Fills t m l b = (q : Filling) × Runs (filling_of t.state.device) m q b × (l.state.device ≡ q.state) × (l.put ≡ t.put + q.put) × (l.wrote ≡ t.wrote)
 
 after_fill : (q : Filling) (t : Turning) (o : Option Failure) → q.state.failed ≡ o
     → let l = filled (elim o [ Some f ↦ Err f | None ↦ Ok (record { put = q.put; read = q.read }) ]) (device_after q.state t) in
-    l.state.device.failed ≡ None → (l.state.device ≡ q.state) × (l.put ≡ t.put + q.put)
+    l.state.device.failed ≡ None → (l.state.device ≡ q.state) × (l.put ≡ t.put + q.put) × (l.wrote ≡ t.wrote)
 after_fill q t (Some f) is none = absurd (let both : Some f ≡ None = sym is ∙ none in cc)
-after_fill q t None is none = (refl, refl)
+after_fill q t None is none = (refl, refl, refl)
 
 fills_by : (t l : Turning) (m b : Situation) (o : Option Failure) → t.state.device.failed ≡ o
     → Runs (elim o [ Some f ↦ Done t | None ↦ fill_stage t ]) m l b → l.state.device.failed ≡ None → Fills t m l b
@@ -70,6 +76,28 @@ fills_by t l m b None is runs none =
       subst (λ (c : Situation). Runs (filling_of t.state.device) m q c) split.rest.1 stage.1,
       ap (λ (u : Turning). u.state.device) (sym l_is) ∙ after.0,
       ap (λ (u : Turning). u.put) (sym l_is) ∙ after.1,
+      ap (λ (u : Turning). u.wrote) (sym l_is) ∙ after.2,
+    )
+
+-- The stage before it: the ring hadn't failed, and the streams were written.
+still_sound : (t l : Turning) (m b : Situation) (o : Option Failure) → t.state.device.failed ≡ o
+    → Runs (elim o [ Some f ↦ Done t | None ↦ fill_stage t ]) m l b → l.state.device.failed ≡ None → t.state.device.failed ≡ None
+still_sound t l m b None is runs none = is
+still_sound t l m b (Some f) is runs none = ap (λ (u : Turning). u.state.device.failed) runs.0 ∙ none
+
+abbrev Pumps : Turning → Situation → Turning → Situation → Type 0
+Pumps t c u m = (w : Writing) × Runs (pump_of t.state.device) c w m × (u.state.device ≡ w.state) × (u.wrote ≡ t.wrote + w.wrote)
+
+pumps_by : (t u : Turning) (c m : Situation) (o : Option Failure) → t.state.device.failed ≡ o
+    → Runs (elim o [ Some f ↦ Done t | None ↦ pump_stage t ]) c u m → u.state.device.failed ≡ None → Pumps t c u m
+pumps_by t u c m (Some f) is runs none =
+    absurd (let both : Some f ≡ None = sym is ∙ ap (λ (v : Turning). v.state.device.failed) runs.0 ∙ none in cc)
+pumps_by t u c m None is runs none =
+    let split = leads_split Allows (pump_of t.state.device) (λ w. Done (record (device_after w.state t) { wrote = t.wrote + w.wrote })) c m u runs in (
+      split.end,
+      subst (λ (d : Situation). Runs (pump_of t.state.device) c split.end d) split.rest.1 split.first,
+      ap (λ (v : Turning). v.state.device) (sym split.rest.0),
+      ap (λ (v : Turning). v.wrote) (sym split.rest.0),
     )
 
 says_by : (s : ProxyState) (l : Turning) (t : Turned) (o : Option Failure) → (elim o as (λ _. Turn) [
@@ -84,23 +112,27 @@ says_by : (s : ProxyState) (l : Turning) (t : Turned) (o : Option Failure) → (
     hands = l.hands;
     event = s.device.event_owed && not l.state.device.event_owed;
   })
-]) ≡ turn.Turned t → (o ≡ None) × (l.put ≡ t.put)
+]) ≡ turn.Turned t → (o ≡ None) × (l.put ≡ t.put) × (l.wrote ≡ t.wrote)
 says_by s l t (Some f) answer = absurd cc
 says_by s l t None answer = (
   refl,
-  (let same : (let u : Turned = record {
-    took = l.took;
-    put = l.put;
-    read = l.read;
-    wrote = l.wrote;
-    opened = l.state.device.opened - s.device.opened;
-    closed = l.state.device.closed - s.device.closed;
-    hands = l.hands;
-    event = s.device.event_owed && not l.state.device.event_owed;
-  } in u) ≡ t = cc in ap (λ (u : Turned). u.put) same),
+  ap (λ (u : Turned). u.put) same,
+  ap (λ (u : Turned). u.wrote) same,
 )
+  where
+    same : (let u : Turned = record {
+      took = l.took;
+      put = l.put;
+      read = l.read;
+      wrote = l.wrote;
+      opened = l.state.device.opened - s.device.opened;
+      closed = l.state.device.closed - s.device.closed;
+      hands = l.hands;
+      event = s.device.event_owed && not l.state.device.event_owed;
+    } in u) ≡ t
+    same = cc
 
-says : (s : ProxyState) (l : Turning) (t : Turned) → turned s l ≡ turn.Turned t → (l.state.device.failed ≡ None) × (l.put ≡ t.put)
+says : (s : ProxyState) (l : Turning) (t : Turned) → turned s l ≡ turn.Turned t → (l.state.device.failed ≡ None) × (l.put ≡ t.put) × (l.wrote ≡ t.wrote)
 says s l t answer = says_by s l t l.state.device.failed answer
 
 told_taken : (o p : Option Known) → Relates o p (StopsAt Rx) → ForSome p (λ k. k.rx.told ≤ k.rx.taken)
@@ -108,23 +140,37 @@ told_taken None p stops = λ k is. absurd cc
 told_taken (Some j) None stops = absurd stops
 told_taken (Some j) (Some i) stops = λ k is. subst (λ (x : Known). x.rx.told ≤ x.rx.taken) (same_Some i k is) stops.all_told
 
--- The filling of a turn that put nothing.
-pub record LastFill (b : Situation) (d : DeviceState) : Type 0 where
+-- The filling of a turn that put nothing, and the writing before it.
+pub record LastFill (b : Situation) (d : DeviceState) (t : Turned) : Type 0 where
+  pub earlier : DeviceState
+  pub began : Situation
+  pub writing : Writing
   pub before : DeviceState
   pub middle : Situation
   pub filling : Filling
+  pub pumps : Runs (pump_of earlier) began writing middle
+  pub pumped : before ≡ writing.state
+  pub wrote : writing.wrote ≤ t.wrote
   pub runs : Runs (filling_of before) middle filling b
   pub state : d ≡ filling.state
   pub none : filling.put ≡ 0
   pub goes_on : filling.state.failed ≡ None
 
 pub last_fill : (size now : ℕ) (s : ProxyState) (a b : Situation) (x : ProxyState × Turn) (t : Turned) → Runs (turn_of size now s) a x b
-    → x.1 ≡ turn.Turned t → t.put ≡ 0 → LastFill b x.0.device
+    → x.1 ≡ turn.Turned t → t.put ≡ 0 → LastFill b x.0.device t
 last_fill size now s a b x t runs answer none =
     let stage = last_stage size now s a b x runs in
     let told = says s stage.last t (stage.answer ∙ answer) in
     let fills = fills_by stage.before stage.last stage.middle b stage.before.state.device.failed refl stage.runs told.0 in
+    let pumps = pumps_by stage.first stage.before stage.began stage.middle stage.first.state.device.failed refl stage.pumps
+    (still_sound stage.before stage.last stage.middle b stage.before.state.device.failed refl stage.runs told.0) in
     record {
+      earlier = stage.first.state.device;
+      began = stage.began;
+      writing = pumps.0;
+      pumps = pumps.1;
+      pumped = pumps.2;
+      wrote = (let more = pumps.3 in let same = fills.4 in let all = told.2 in omega (arith, more, same, all));
       before = stage.before.state.device;
       middle = stage.middle;
       filling = fills.0;
@@ -135,8 +181,8 @@ last_fill size now s a b x t runs answer none =
     }
 
 -- One that is over early lacks pages.
-pub fill_lacks : {b : Situation} {d : DeviceState} (last : LastFill b d) → last.filling.over ≡ true → LacksPages last.filling.state b.ring
-fill_lacks {b} {d} last over =
+pub fill_lacks : {b : Situation} {d : DeviceState} {t : Turned} (last : LastFill b d t) → last.filling.over ≡ true → LacksPages last.filling.state b.ring
+fill_lacks {b} {d} {t} last over =
     let lacks = over_lacks last.before last.middle b last.filling last.runs over last.goes_on in
     record { chain = lacks.1; taken = told_taken last.middle.ring.known b.ring.known lacks.0 }
 
@@ -145,7 +191,7 @@ module _ (port size now : ℕ) (s : ProxyState) (a b : Situation) (x : ProxyStat
   abbrev Quiet : DeviceState → Type 0
   Quiet d = OwesNothing (ends_of_state port d) ⊎ LacksPages d b.ring
 
-  by_fill : (last : LastFill b x.0.device) (o : Bool) → last.filling.over ≡ o → Quiet x.0.device
+  by_fill : (last : LastFill b x.0.device t) (o : Bool) → last.filling.over ≡ o → Quiet x.0.device
   by_fill last true over = subst Quiet (sym last.state) (inr (fill_lacks last over))
   by_fill last false over =
       subst Quiet (sym last.state) (inl (stage_owes_none port last.before last.middle b last.filling last.runs last.none over

@@ -1,5 +1,5 @@
 -- A proxy that is steady stays so, and what its ring's end knows of the other one's only grows.
-use Rattle.std.proofs.{Common.{◌≡◌, ℕ, List, [], Option, Some, None, refl, sym, ap, subst, ◌∙◌, arith}, lemmas.Option.same_Some}
+use Rattle.std.proofs.{Common.{◌≡◌, ℕ, Bool, List, [], Option, Some, None, refl, sym, ap, subst, ◌∙◌, arith}, lemmas.Option.same_Some}
 use Rattle.vs_contents.specs.{CallTree.Ask, CallTree.Done, Contents.Relates}
 use Rattle.vs_limits.specs.declared.TheConstants.{ASSIGNED_FIRST, FIRST_CID}
 use Rattle.vs_ring_port.specs.{Contents.DeviceAnswer, Contents.DeviceCall, Contents.RingContents, EndLog.EndLog, Known.IsLater, Known.Known}
@@ -13,7 +13,7 @@ use Rattle.vs_page.specs.Log.{Device, Log}
 use Rattle.vs_proxy_parts.specs.{State.ProxyState, Turns.new_proxy, Turns.turn_of, declared.answers.Turn.Turn}
 use Rattle.laws_proxy.proofs.Ordered.{new_in_order, turn_honest, turn_streams}
 use Rattle.laws_settled.specs.{Hosts.IsHosts, Settled.IsSteady}
-use Rattle.laws_settled.proofs.{Asked.turn_asks, Hosted.turn_hosts}
+use Rattle.laws_settled.proofs.{Asked.turn_asks, Exact.exact_turns, Hosted.turn_hosts}
 use Rattle.laws_asked.specs.Asked.{AskOnce}
 use Rattle.laws_asked.proofs.Asking.{begins_once}
 use Rattle.laws_device.specs.Honest.{ends_of_state}
@@ -34,12 +34,19 @@ new_steady base a l told silent none = record {
       let same = same_Some l m (sym told ∙ is) in
       subst (λ (log : Log). AskOnce Device (record { part = ends_of_state (new_proxy FIRST_CID base).next_port (new_proxy FIRST_CID base).device; log = log }))
       (sym (ap (λ (x : EndLog). x.entries) (sym same) ∙ silent)) (begins_once Device FIRST_CID ASSIGNED_FIRST);
+  exact = λ i d within. absurd (omega (arith, within));
 }
+
+-- A ring that tells of resets tells its log.
+log_told : (o : Option EndLog) (r : Bool × List ℕ) → resets_in o ≡ Some r → (l : EndLog) × (o ≡ Some l)
+log_told None r is = absurd cc
+log_told (Some l) r is = (l, refl)
 
 pub turn_steady : (size now : ℕ) (s : ProxyState) (a b : Situation) (x : ProxyState × Turn) → IsSteady s a → Runs (turn_of size now s) a x b
     → IsSteady x.0 b
 turn_steady size now s a b x steady runs =
     let calm = calm_turns size now s a b x steady.no_event runs in
+    let told = log_told a.ring.log _ steady.no_reset in
     record {
       order = record {
         streams = turn_streams s a b size now x runs steady.order.streams;
@@ -49,6 +56,7 @@ turn_steady size now s a b x steady runs =
       no_event = calm.0;
       hosts = turn_hosts FIRST_CID size now s a b x steady.order.ring steady.hosts runs;
       asks = turn_asks FIRST_CID size now s a b x steady.order.ring steady.asks runs;
+      exact = exact_turns size now s a b x told.0 told.1 steady.exact runs;
     }
 
 -- What the device was told of stays.

@@ -1,3 +1,4 @@
+pub mod Exact
 pub mod Hosts
 pub mod Asked
 pub mod Begun

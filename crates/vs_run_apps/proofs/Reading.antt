@@ -1,4 +1,5 @@
--- In the last round the device read each stream that it may read, and none had anything to be taken.
+-- In the last round the device read each stream that it may read, and none had anything to be taken; and wrote to each to which it has something to
+-- write, and none took any.
 use Rattle.std.proofs.Common.{◌≡◌, ◌+◌, ◌<◌, ◌⊎◌, inl, inr, ℕ, List, [], ◌∷◌, length, Option, Some, None, refl, sym, ap, ◌∙◌, arith}
 use Rattle.vs_ring_port.specs.{Chains.{Held, chains_of, held_of}, declared.queue.Queue.{Queue, TheVariants.Rx}}
 use Rattle.vs_ring_rule.specs.declared.view.Past.{Past}
@@ -9,7 +10,7 @@ use Rattle.vs_proxy_parts.specs.declared.answers.Turn.TheVariants as turn
 use Rattle.vs_apps_parts.specs.Scripts.{RunScript}
 use Rattle.vs_apps.specs.Guests.{GuestsState}
 use Rattle.laws_settled.{specs.Settled.IsSettled, specs.Settled.LacksPages, proofs.Quieting.turn_sound, proofs.Steady.told_runs, proofs.Taking.poll_takes_none}
-use Rattle.laws_run.{specs.Dry.IsToldDry, specs.Dry.reads_under, proofs.Drying.turn_dry, proofs.Still.took_none}
+use Rattle.laws_run.{specs.Dry.AreIdle, proofs.Pumping.turn_idle, proofs.Still.took_none}
 use Rattle.vs_settle.specs.Rounds.{LastRound, no_turn}
 use Rattle.vs_run_apps.specs.Sides.{SideState}
 
@@ -42,11 +43,10 @@ module _ (script : RunScript) (g : GuestsState) (s : SideState) (last : LastRoun
       let size : last.stood.end.size ≡ s.ring.sight.size = last.size ∙ sym last.same.size in
       omega (arith, taken, told, heard, same, holds, zero, flown, back, none_back, pages, size, some)
 
-  pub all_read : (slot id : ℕ) → reads_under slot s.proxy.device.table ≡ Some id → IsToldDry id s.contents
-  all_read slot id at = by (turn_dry last.before.sight.size last.now last.was (situation (device_contents last.before) last.host_was last.faults_were)
-      (situation (device_contents last.over) s.contents s.faults) (s.proxy, turn.Turned no_turn) no_turn last.turn refl refl)
+  pub all_idle : AreIdle s.proxy.device.table s.contents
+  all_idle = by (turn_idle last.before.sight.size last.now last.was (situation (device_contents last.before) last.host_was last.faults_were)
+      (situation (device_contents last.over) s.contents s.faults) (s.proxy, turn.Turned no_turn) no_turn last.turn refl refl refl)
     where
-      by : ((n i : ℕ) → reads_under n s.proxy.device.table ≡ Some i → IsToldDry i s.contents) ⊎ LacksPages s.proxy.device (device_contents last.over)
-          → IsToldDry id s.contents
-      by (inl dry) = dry slot id at
+      by : AreIdle s.proxy.device.table s.contents ⊎ LacksPages s.proxy.device (device_contents last.over) → AreIdle s.proxy.device.table s.contents
+      by (inl idle) = idle
       by (inr lacks) = absurd (none_lacks lacks)

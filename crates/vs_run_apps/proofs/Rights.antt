@@ -12,17 +12,13 @@ use Rattle.vs_apps_parts.specs.Scripts.{RunScript}
 use Rattle.laws_apps.specs.Runs.{IsRunOf, Run}
 use Rattle.laws_settled.specs.{Begun.{CountsFailed, IsBegun, IsUnlabelled, Start, start_with}, Settled.{IsSettled, IsSteady}}
 use Rattle.laws_settled.proofs.{Beginning.dropped_none, Beginning.new_begun, Steady.new_steady}
-use Rattle.laws_run.{specs.Dry.IsToldDry, specs.Dry.reads_under, proofs.Completing.complete_report}
+use Rattle.laws_run.{specs.Dry.AreIdle, proofs.Completing.complete_report}
 use Rattle.vs_apps.specs.Guests.{GuestsState, run_in}
 use Rattle.vs_settle.specs.Rounds.{LastRound}
 use Rattle.vs_report.specs.declared.giving.GiveError.{GiveError}
 use Rattle.vs_report.specs.declared.giving.GiveError.TheVariants as give
 use Rattle.vs_proxy_parts.specs.{State.ProxyState, Turns.new_proxy}
 use Rattle.vs_run_apps.specs.{Printed.IsOver, Printed.Reports, Runs.{HasRightReport, HasRun, totals_of}, Sides.{IsReady, IsSilent, SideState, around}}
-
--- Each stream that the device may read has nothing to be taken.
-abbrev AreRead : SideState → Type 0
-AreRead s = (slot id : ℕ) → reads_under slot s.proxy.device.table ≡ Some id → IsToldDry id s.contents
 
 module _ (script : RunScript) (start : Start) (g : GuestsState) (s : SideState) where
   -- No step, turn or poll of the last round, and nothing after it, changed an app or an entry.
@@ -40,30 +36,31 @@ module _ (script : RunScript) (start : Start) (g : GuestsState) (s : SideState) 
     same_entries = ap (λ (x : GuestsState). x.entries) last.ends ∙ ap (λ (r : Run). r.entries) same_run
 
   pub right_of : IsRunOf FIRST_CID script (run_in g) → IsSettled g.driver g.end s.proxy s.ring → LastRound script g s.proxy s.ring s.contents s.faults
-      → AreRead s → IsSteady s.proxy (around s) → IsBegun start s.proxy (around s) → HasRightReport script start g s
-  right_of run rest last reads steady begun unlabelled h there =
+      → AreIdle s.proxy.device.table s.contents → IsSteady s.proxy (around s) → IsBegun start s.proxy (around s) → HasRightReport script start g s
+  right_of run rest last idle steady begun unlabelled h there =
       let told = complete_report script g.driver g.end g.apps g.entries g.bytes s.proxy s.ring h s.faults run rest
       (subst (λ (o : Option HostContents). IsSteady s.proxy (situation (device_contents s.ring) o s.faults)) there steady) (run_in last.first) (stood last)
       last.steps (same_apps last) (same_entries last) last.polled (run_in (record last.stood { end = after_hearing last.heard last.stood.end }))
       (run_in last.past) refl last.polls last.still (ap (λ (x : GuestsState). x.driver) last.ends)
-      (λ honest l is plain k shown. begun.streamed unlabelled honest l is plain k (there ∙ shown)) (λ slot id at. reads slot id at h there) in (
+      (λ honest l is plain k shown. begun.streamed unlabelled honest l is plain k (there ∙ shown))
+      (subst (λ (o : Option HostContents). AreIdle s.proxy.device.table o) there idle) in (
         told.0,
         told.1 (totals_of g s.proxy) start.faults s.faults refl refl (dropped_none g.driver g.end s.proxy s.ring rest begun.drops) begun.failed.more,
         told.2 (totals_of g s.proxy) refl refl,
       )
 
   pub has_run : (met : Met) → IsRunOf FIRST_CID script (run_in g) → IsSettled g.driver g.end s.proxy s.ring
-      → LastRound script g s.proxy s.ring s.contents s.faults → AreRead s → met ≡ met_between g.end.log s.ring.sight.log → IsSteady s.proxy (around s)
-      → IsBegun start s.proxy (around s) → HasRun script start g s met
-  has_run met run rest last reads numbers steady begun = record {
+      → LastRound script g s.proxy s.ring s.contents s.faults → AreIdle s.proxy.device.table s.contents → met ≡ met_between g.end.log s.ring.sight.log
+      → IsSteady s.proxy (around s) → IsBegun start s.proxy (around s) → HasRun script start g s met
+  has_run met run rest last idle numbers steady begun = record {
     run = run;
     rest = rest;
     last = last;
-    reads = reads;
+    idle = idle;
     numbers = numbers;
     steady = steady;
     begun = begun;
-    right = right_of run rest last reads steady begun;
+    right = right_of run rest last idle steady begun;
   }
 
 -- A new proxy over an end on which nothing passed may be turned.
@@ -104,7 +101,7 @@ module _ (o n : Option HostContents) (P : HostContents → Type 0) (k m : ℕ) (
     met,
     shown,
     counted,
-    has_run script (start_with o k) g s met run.run run.rest run.last run.reads run.numbers run.steady
+    has_run script (start_with o k) g s met run.run run.rest run.last run.idle run.numbers run.steady
         (begun_before (start_with o k) (start_with n m) g s (still_unlabelled o n P exposes) same run.begun),
     rest,
   )

@@ -13,7 +13,7 @@ use Rattle.vs_apps.specs.Guests.{GuestsState, run_in}
 use Rattle.vs_settle.specs.Rounds.{LastRound}
 use Rattle.vs_report.specs.declared.giving.Totals.{Totals}
 use Rattle.vs_run_report.specs.Right.{IsRightReport}
-use Rattle.laws_run.specs.{Complete.IsCompleteRun, Dry.IsToldDry, Dry.reads_under}
+use Rattle.laws_run.specs.{Complete.IsCompleteRun, Dry.AreIdle}
 use Rattle.vs_run_apps.specs.Sides.{SideState, around}
 
 -- What the report of a run counts.
@@ -33,13 +33,13 @@ HasRightReport script start g s =
     × IsCompleteRun script g.apps g.entries g.bytes (totals_of g s.proxy) opened h)
 
 -- The journal is that of a run of the script; both ends are at rest; in the last round nothing moved, and each app was done or waited; the stream of
--- each connection that may read it, and has credit, has nothing to be taken; and so many packets and events were put and got. The proxy is steady, and
--- came from where the run began; so the report is right.
+-- each connection that may read it, and has credit, has nothing to be taken, and that of each connection with bytes pending takes none; and so many
+-- packets and events were put and got. The proxy is steady, and came from where the run began; so the report is right.
 pub record HasRun (script : RunScript) (start : Start) (g : GuestsState) (s : SideState) (met : Met) : Type 0 where
   pub run : IsRunOf FIRST_CID script (run_in g)
   pub rest : IsSettled g.driver g.end s.proxy s.ring
   pub last : LastRound script g s.proxy s.ring s.contents s.faults
-  pub reads : (slot id : ℕ) → reads_under slot s.proxy.device.table ≡ Some id → IsToldDry id s.contents
+  pub idle : AreIdle s.proxy.device.table s.contents
   pub numbers : met ≡ met_between g.end.log s.ring.sight.log
   pub steady : IsSteady s.proxy (around s)
   pub begun : IsBegun start s.proxy (around s)

@@ -1,0 +1,123 @@
+-- What of a connection's payload its host's program has still to read, where the device holds many bytes of it.
+use Rattle.std.proofs.Common.{◌≡◌, ◌⊎◌, inl, inr, ℕ, ◌+◌, ◌-◌, ◌≤◌, ◌<◌, ◌%◌, ◌^◌, ◌==◌, ◌||◌, not, Bool, true, false, cond, List, [], ◌∷◌, ◌++◌, length, Contains, Some}
+use Rattle.std.proofs.Common.{Ok, Err, None, Option, codes, decimal, refl, sym, ap, subst, ◌∙◌, arith, length-append}
+use Rattle.std.proofs.lemmas.{Bool.Decides.nat_tests, List.Elements.All-contains}
+use Rattle.vs_wrap.specs.Wrap.{difference32}
+use Rattle.vs_credit.specs.Credit.{free_of, unread_of}
+use Rattle.vs_conn.specs.{End.{ConnectionEnd, may_send_of, state_may_send}, Follows.{Follows, IsLeftBy}, declared.end.State.{State, TheVariants.{Asked, Live}}}
+use Rattle.vs_conn.specs.declared.end.Stop.TheVariants as stop
+use Rattle.vs_flow.specs.{Connection.first_of, Flow.is_assigned, Table.Table, declared.flow.Flow.Flow}
+use Rattle.vs_outside.specs.{Host.HostContents, HostBytes.after_line, HostBytes.host_read, HostBytes.read_after_ok}
+use Rattle.vs_uds.{proofs.Leading.has_lf-digits, proofs.Ports.WritesPort-decimal, specs.OkLine.ok_text}
+use Rattle.laws_history.specs.{History.{History, Side, gots, puts}, Packets.bytes, Packets.told_forwarded, declared.packet.Packet.Packet}
+use Rattle.vs_page.specs.{Fair.IsFairLog, Fair.number_of, Fair.payload_got, Fair.payload_of, Log.{Device, Log, history_of, side_of}, Open.left_kind}
+use Rattle.vs_page.proofs.{Payload.length-payload_of, Present.first_got}
+use Rattle.vs_device_parts.specs.State.{DeviceConnection, DeviceEntry}
+use Rattle.vs_proxy_parts.specs.State.{Handshake}
+use Rattle.laws_tables.specs.{Ends.Ends, Ends.ends_of, Ends.is_among, Ends.replied, Heard.heard_of, Matches.{IsBefore, IsHeld, IsLeftOn, Matches}, Steps.HasEnd}
+use Rattle.laws_tables.proofs.Fair.{heard_less}
+use Rattle.laws_bytes.specs.Drains.{got_on}
+use Rattle.laws_bytes.proofs.Firsts.{once_got}
+use Rattle.laws_device_bytes.specs.Streamed.{IsJoined, IsStreamed, gives, gives_in, has_line, line_for, look}
+use Rattle.laws_device_bytes.proofs.{Hosts.there, Lines.{after_is_rest, after_longer, line_ends, line_whole, rest_of}}
+use Rattle.laws_rest.proofs.Hosts.{read_own}
+
+-- What an end that may send, but lacks credit.
+pub no_free : (e : ConnectionEnd) → e.state ≡ Live → may_send_of e ≡ Ok 0 → (free_of e.credit ≡ 0) × (e.peer.receive ≡ false)
+no_free e live says = by e.own.send e.peer.receive refl (sym (ap (λ (st : State). state_may_send st e) live) ∙ says)
+  where
+    by : (a b : Bool) → e.peer.receive ≡ b → cond (a || b) (Err stop.ShutDown) (Ok (free_of e.credit)) ≡ Ok 0 → (free_of e.credit ≡ 0) × (e.peer.receive ≡ false)
+    by true b is says = absurd cc
+    by false true is says = absurd cc
+    by false false is says = ((let same : free_of e.credit ≡ 0 = cc in same), is)
+
+-- An end has no more unread than it got on its flow.
+followed : (side : Side) (h : History) (kind : Option ℕ) (owed : Bool) (ends : List ConnectionEnd) (e : ConnectionEnd) → IsLeftOn Device side h kind owed ends
+    → ends ≡ e ∷ [] → e.state ≡ Live → Follows side (puts h) (gots h) e
+followed side h (Some kind) false ends e held is live =
+    let same : held.0 ≡ e = (let one = sym held.1 ∙ is in cc) in subst (λ (x : ConnectionEnd). Follows side (puts h) (gots h) x) same held.2
+followed side h None false ends e left is live =
+    let before : IsBefore Device side h (e ∷ []) = subst (λ (es : List ConnectionEnd). IsBefore Device side h es) is left in
+    let no : Asked ≡ Live = sym (ap (λ (x : ConnectionEnd). x.state) before.1.asks) ∙ live in absurd cc
+followed side h (Some kind) true ends e left is live = absurd (let no : [] ≡ e ∷ [] = sym left.0 ∙ is in cc)
+followed side h None true ends e left is live = absurd (let no : [] ≡ e ∷ [] = sym left.0 ∙ is in cc)
+
+unread_most : (rx fwd told all : ℕ) → fwd < 2 ^ 32 → rx ≡ all % 2 ^ 32 → told + (fwd + 2 ^ 32 - told % 2 ^ 32) % 2 ^ 32 ≤ all
+    → (rx + 2 ^ 32 - fwd) % 2 ^ 32 ≤ all
+unread_most rx fwd told all fits is most = omega (arith, fits, is, most)
+
+module _ (first : ℕ) (part : Ends) (log : Log) (matches : Matches Device first part log) (fair : IsFairLog Device log) (f : Flow)
+    (few : number_of Device f log ≤ 1) (e : ConnectionEnd) (has : HasEnd f e part) (live : e.state ≡ Live) where
+  pub unread_within : unread_of e.credit ≤ length (got_on Device f log)
+  unread_within =
+      let h = heard_of Device first f log in
+      let follows = followed (side_of Device f) h (left_kind Device first f log) (is_among f (replied part.replies)) (ends_of f part.entries) e
+      (matches.flows.on f) has live in
+      let left : IsLeftBy (side_of Device f) (puts h) (gots h) e = follows.left (λ over. absurd cc) in
+      let most = unread_most e.credit.rx_cnt e.credit.fwd_cnt (told_forwarded (puts h)) (bytes (gots h)) follows.fwd_cnt left.rx_cnt left.forwarded_got in
+      let less = (heard_less Device first f log (fair f)).bytes_more in
+      let len = length-payload_of (gots (history_of Device f log)) in
+      let got = ap (λ (bs : List ℕ). length bs) (sym (once_got Device f log (fair f) few) ∙ first_got Device f log (fair f) few) in
+      omega (arith, most, less, len, got)
+
+-- Of what a stream was given, the lines aside, and what is pending for it.
+no_rest : (xs : List ℕ) → has_line xs ≡ false → rest_of xs ≡ []
+no_rest [] none = refl
+no_rest (x ∷ xs) none = by (x == 10) none (no_rest xs)
+  where
+    by : (b : Bool) → (b || has_line xs) ≡ false → (has_line xs ≡ false → rest_of xs ≡ []) → cond b xs (rest_of xs) ≡ []
+    by true none rest = absurd cc
+    by false none rest = rest none
+
+ok_front : (port : ℕ) → is_assigned port ≡ true → has_line (codes "OK " ++ decimal port) ≡ false
+ok_front port is =
+    let fits : port < 2 ^ 32 = grind (arith, nat_tests, is) in
+    has_lf-digits (decimal port) (WritesPort-decimal port fits).each
+
+abbrev Within : List ℕ → List ℕ → List ℕ → Type 0
+Within read pending got = (length read ≡ 0) ⊎ (length read + length pending ≤ length got)
+
+split_len : (a b c d : List ℕ) → a ++ (b ++ c) ≡ d → length a + length c ≤ length d
+split_len a b c d is =
+    let all = ap (λ (bs : List ℕ). length bs) is in
+    let first = length-append a (b ++ c) in
+    let rest = length-append b c in omega (arith, all, first, rest)
+
+read_within : (b : Bool) (port : ℕ) (given line pending got : List ℕ) → is_assigned port ≡ b
+    → given ++ (line ++ pending) ≡ cond b (ok_text port) [] ++ got → Within (cond b (after_line given) given) pending got
+read_within false port given line pending got inside is = inr (split_len given line pending got is)
+read_within true port given line pending got inside is = by (has_line given) refl
+  where
+    front : List ℕ
+    front = codes "OK " ++ decimal port
+
+    by : (b : Bool) → has_line given ≡ b → Within (after_line given) pending got
+    by false none = inl (ap (λ (bs : List ℕ). length bs) (after_is_rest given ∙ no_rest given none))
+    by true some = inr (split_len (after_line given) line pending got
+        (sym (after_longer given (line ++ pending) some) ∙ ap after_line is ∙ after_longer (front ++ 10 ∷ []) got (line_whole front)
+        ∙ ap (λ (bs : List ℕ). bs ++ got) (line_ends front (ok_front port inside))))
+
+module _ (h : HostContents) (log : Log) (port : ℕ) (t : Table DeviceConnection) (hands : List Handshake) (streamed : IsStreamed h log port t hands)
+    (y : DeviceEntry) (within : Contains t.entries y) (live : y.value.end.state ≡ Live) (goes_on : y.value.end.own.receive ≡ false) where
+  pub read_less : Within (host_read (first_of y.flow) h) y.value.pending (got_on Device y.flow log)
+  read_less =
+      let joined = All-contains (IsJoined (look h) log) t.entries y streamed.joined within in
+      let here = there y.value.stream h joined.stream joined.there in
+      let label = ap (λ s. s.label) here.is ∙ joined.label in
+      let client = ap (λ s. s.by_client) here.is ∙ (streamed.streams.labels y.value.stream joined.stream y.flow joined.there joined.label).client in
+      let all = joined.drains.whole (ap (λ (st : State). gives_in st y.value.end.own.receive) live ∙ ap (λ (b : Bool). not b) goes_on) in
+      subst (λ (bs : List ℕ). Within bs y.value.pending (got_on Device y.flow log))
+      (ap (λ (b : Bool). cond b (after_line here.stream.given) here.stream.given) (sym client)
+      ∙ read_own h log port t hands streamed y.flow y.value.stream here.stream here.at label)
+      (read_within (is_assigned y.flow.host) y.flow.host here.stream.given y.value.ok_line y.value.pending (got_on Device y.flow log) refl
+      (ap (λ s. s.given ++ (y.value.ok_line ++ y.value.pending)) here.is ∙ all))
+
+  -- Many are pending: so many the host's program has still to read.
+  pub to_read : (most : ℕ) → most ≤ length y.value.pending → most ≤ length (got_on Device y.flow log)
+      → most + length (host_read (first_of y.flow) h) ≤ length (got_on Device y.flow log)
+  to_read most many all = by read_less
+    where
+      by : Within (host_read (first_of y.flow) h) y.value.pending (got_on Device y.flow log)
+          → most + length (host_read (first_of y.flow) h) ≤ length (got_on Device y.flow log)
+      by (inl none) = omega (arith, none, all)
+      by (inr less) = omega (arith, less, many)
