@@ -31,7 +31,7 @@ use Rattle.vs_apps_parts.specs.declared.journal.WaitsFor.TheVariants as waits
 use Rattle.vs_apps_parts.specs.declared.told.Told.TheVariants as says
 use Rattle.laws_apps.specs.Runs.{MakesCalls, Run}
 use Rattle.laws_run.proofs.{Alike.{Alike, HasApart, Leaves, known_too, leaves_core, leaves_none, leaves_then, leaves_wanting, may_send_too, recv_alike}}
-use Rattle.laws_run.proofs.{Alike.state_alike, Still.SameCore, Still.reaps_all}
+use Rattle.laws_run.proofs.{Alike.state_alike, Still.SameCore, Still.core_same, Still.reaps_all}
 use Rattle.vs_run_report.specs.Right.{may_wait}
 
 -- What an end says to a send on a connection.
@@ -120,7 +120,7 @@ connects_as : (host : ℕ) (s : DriverState) (o : Option ConnectError) → AllEn
   | Some refusal ↦ Done (s, Err refusal)
   | None ↦ bind (reap_all s) (connect_with_page host)
 ])
-connects_as host s (Some refusal) = λ why is. (refl, stops_connect (Err refusal) why is)
+connects_as host s (Some refusal) = λ why is. (core_same s, stops_connect (Err refusal) why is)
 connects_as host s None =
     ends_then (Connects s) (SameCore s) (reap_all s) (connect_with_page host) (reaps_all s) (λ t same. connects_page host s t same)
 
