@@ -59,7 +59,7 @@ slots_apart (e ∷ es) rising = (
 module _ (script : RunScript) (driver : DriverState) (end : Sight) (apps : List AppState) (entries : List Entry) (bytes : List ℕ) (p : ProxyState)
     (e : DeviceSight) (h : HostContents) (faults : ℕ)
     (run : IsRunOf FIRST_CID script (run_with driver (driver_contents end) apps entries bytes)) (settled : IsSettled driver end p e)
-    (steady : IsSteady p (situation (device_contents e) (Some h) faults)) (old stood : Run) (all : AllStand script (length script) old stood)
+    (steady : IsSteady p (situation (device_contents e) (Some h) faults)) (old stood : Run) (all : AllStand script (length script) old stood) (room : old.driver.in_flight < old.driver.size)
     (same_apps : apps ≡ stood.apps) (same_entries : entries ≡ stood.entries) (polled : Polled) (told past : Run) (heard : told.driver ≡ stood.driver)
     (polls : PollsTo polled told past) (still : poll_moved polled ≡ false) (same_driver : driver ≡ past.driver)
     (streams : IsProxyStreamed FIRST_CID p (situation (device_contents e) (Some h) faults))
@@ -74,15 +74,15 @@ module _ (script : RunScript) (driver : DriverState) (end : Sight) (apps : List 
   apart = slots_apart driver.table.entries (run.kept.honest refl (driver_log end) refl).fits.sound.rising
 
   -- Each app is done, or the driver as it is at the end answers its next call so that it waits.
-  ends : (k : ℕ) → k < length script → Ends script k apps entries driver
+  ends : (k : ℕ) → k < length script → Ends old.driver script k apps entries driver
   ends k less =
       let as_many : length stood.apps ≡ length script = ap (λ (xs : List AppState). length xs) (sym same_apps) ∙ run.apps in
       let last = all_ends script old stood as_many all k less in
       let leaves = leaves_core told.driver past.driver (poll_still told.driver past.driver told.ring past.ring polled polls.polls still) in
-      let then = ends_on script k stood.apps stood.entries stood.driver past.driver (subst (λ (d : DriverState). Leaves d past.driver) heard leaves) last in
-      subst (λ (d : DriverState). Ends script k apps entries d) (sym same_driver)
-      (subst (λ (xs : List AppState). Ends script k xs entries past.driver) (sym same_apps)
-      (subst (λ (es : List Entry). Ends script k stood.apps es past.driver) (sym same_entries) then))
+      let then = ends_on old.driver script k stood.apps stood.entries stood.driver past.driver (subst (λ (d : DriverState). Leaves d past.driver) heard leaves) last in
+      subst (λ (d : DriverState). Ends old.driver script k apps entries d) (sym same_driver)
+      (subst (λ (xs : List AppState). Ends old.driver script k xs entries past.driver) (sym same_apps)
+      (subst (λ (es : List Entry). Ends old.driver script k stood.apps es past.driver) (sym same_entries) then))
 
   -- A connection that an app knows is in the table, and Live.
   contained : (id : ℕ) (x : DriverEntry) → entry_known_as id driver ≡ Some x → Contains driver.table.entries x × (is_known_as id x ≡ true)
@@ -296,10 +296,10 @@ module _ (script : RunScript) (driver : DriverState) (end : Sight) (apps : List 
           ap (λ (f : Flow). has_open_stream f h) flow ∙ flow_open x within,
         )
 
-    wait_complete : (k : ℕ) (why : WaitsFor) → Halts (acts_of k script) (state_at k apps).progress why driver
+    wait_complete : (k : ℕ) (why : WaitsFor) → Halts old.driver (acts_of k script) (state_at k apps).progress why driver
         → IsCompleteWait opened journal h (state_at k apps).progress.conn why
     wait_complete k waits.Full halts = tt
-    wait_complete k (waits.NoDescriptor n) halts = tt
+    wait_complete k (waits.NoDescriptor n) halts = absurd (halts.roomy room)
     wait_complete k (waits.NoCredit tx alloc fwd) halts =
         let is = credit_call halts.call driver tx alloc fwd (halts.stops apart) in
         let x = is.says.entry in
@@ -322,7 +322,7 @@ module _ (script : RunScript) (driver : DriverState) (end : Sight) (apps : List 
           subst (λ (f : Flow). AreDry f h) (sym (flow_of_id is.id x found.0 named)) (all_dry x found.0 is.none.unread is.none.more),
         )
 
-    ending_complete : (k : ℕ) → Ends script k apps entries driver
+    ending_complete : (k : ℕ) → Ends old.driver script k apps entries driver
         → IsCompleteEnding opened journal h (state_at k apps).progress.conn (ended_at script apps entries k)
     ending_complete k (inl done) =
         subst (λ (b : Bool). IsCompleteEnding opened journal h (state_at k apps).progress.conn

@@ -33,11 +33,12 @@ abbrev pub LacksCredit : (ℕ → Connection) → Journal → HostContents → O
 LacksCredit opened journal h conn =
     (id : ℕ) × IsAtOpen opened h conn id × (32769 + length (host_read (opened id) h) ≤ length (sent_as id journal)) × AreFull (opened id).flow h
 
--- What is so of each wait, where the app is at this connection. None waits for a connection to open.
+-- What is so of each wait, where the app is at this connection. None waits for a connection to open, or for a page.
 abbrev pub IsCompleteWait : (ℕ → Connection) → Journal → HostContents → Option ℕ → WaitsFor → Type 0
 IsCompleteWait opened journal h conn waits.Empty = LacksBytes opened journal h conn
 IsCompleteWait opened journal h conn (waits.NoCredit tx alloc fwd) = LacksCredit opened journal h conn
 IsCompleteWait opened journal h conn waits.NotOpen = ⊥
+IsCompleteWait opened journal h conn (waits.NoDescriptor in_flight) = ⊥
 IsCompleteWait opened journal h conn why = Unit {0}
 
 abbrev pub IsCompleteEnding : (ℕ → Connection) → Journal → HostContents → Option ℕ → Ending → Type 0
