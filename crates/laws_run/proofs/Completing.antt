@@ -59,8 +59,8 @@ slots_apart (e ∷ es) rising = (
 module _ (script : RunScript) (driver : DriverState) (end : Sight) (apps : List AppState) (entries : List Entry) (bytes : List ℕ) (p : ProxyState)
     (e : DeviceSight) (h : HostContents) (faults : ℕ)
     (run : IsRunOf FIRST_CID script (run_with driver (driver_contents end) apps entries bytes)) (settled : IsSettled driver end p e)
-    (steady : IsSteady p (situation (device_contents e) (Some h) faults)) (old stood : Run) (all : AllStand script (length script) old stood) (room : old.driver.in_flight < old.driver.size)
-    (same_apps : apps ≡ stood.apps) (same_entries : entries ≡ stood.entries) (polled : Polled) (told past : Run) (heard : told.driver ≡ stood.driver)
+    (steady : IsSteady p (situation (device_contents e) (Some h) faults)) (old stood : Run) (all : AllStand script (length script) old stood)
+    (room : old.driver.in_flight < old.driver.size) (same_apps : apps ≡ stood.apps) (same_entries : entries ≡ stood.entries) (polled : Polled) (told past : Run) (heard : told.driver ≡ stood.driver)
     (polls : PollsTo polled told past) (still : poll_moved polled ≡ false) (same_driver : driver ≡ past.driver)
     (streams : IsProxyStreamed FIRST_CID p (situation (device_contents e) (Some h) faults))
     (idle : AreIdle p.device.table (Some h)) where
