@@ -12,7 +12,7 @@ use Rattle.laws_apps.specs.{Rounds.{AllStand, Stands}, Runs.{MakesCalls, NotesCa
 use Rattle.vs_run_report.specs.{Endings.ending_at, Endings.ending_of, Endings.state_at, Endings.why_at, Report.ended_at, Right.IsRightEnding}
 use Rattle.vs_run_report.specs.{declared.ending.Ending.Ending}
 use Rattle.vs_run_report.specs.declared.ending.Ending.TheVariants as ending
-use Rattle.laws_run.proofs.{Alike.Leaves, Alike.leaves_core, Alike.leaves_none, Alike.leaves_then, Halting.Halts, Halting.calls_halt, Halting.first_waits}
+use Rattle.laws_run.proofs.{Alike.Leaves, Alike.leaves_core, Alike.leaves_none, Alike.leaves_then, Halting.Halts, Halting.calls_halt, Halting.first_call, Halting.first_waits}
 use Rattle.laws_run.proofs.{Halting.halts_on, Halting.last_of, Halting.rest_waits, Still.HasRoom, Still.poll_still, Still.room_stays}
 use Rattle.vs_run_report.proofs.{Noted.kept, Noted.noted_there, Noted.waits_on, Noted.waits_so, Waiting.waits_right}
 
@@ -200,6 +200,8 @@ module _ (first : DriverState) where
           last = sym (ap last_of w.calls.calls) ∙ halted.last;
           stops = halted.stops;
           roomy = λ r. (halted.room (from r)).1;
+          firsts = λ c is. let stops = halted.firsts c (ap first_call w.calls.calls ∙ is) in
+              record { why = stops.why; stops = stops.stops; roomy = λ r. stops.roomy (from r) };
         }) in
         let apps : new.apps ≡ slice_set mid.apps k (state mid.entries) =
         ap (λ (r : Run). r.apps) w.notes ∙ ap (λ (xs : List AppState). slice_set xs k (state w.calls.over.entries)) same.apps

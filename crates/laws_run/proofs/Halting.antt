@@ -316,12 +316,23 @@ last_of [] = None
 last_of (c ∷ []) = Some c
 last_of (c ∷ d ∷ cs) = last_of (d ∷ cs)
 
+abbrev pub first_call : List GuestCall → Option GuestCall
+first_call [] = None
+first_call (c ∷ cs) = Some c
+
+-- The first of them told to wait too, maybe for something else.
+pub record FirstStops (c : GuestCall) (old new : DriverState) : Type 0 where
+  pub why : WaitsFor
+  pub stops : HasApart new → Stops c why new
+  pub roomy : HasRoom old → IsRoomy why
+
 pub record Halted (calls : List GuestCall) (why : WaitsFor) (old new : DriverState) : Type 0 where
   pub leaves : Leaves old new
   pub call : GuestCall
   pub last : last_of calls ≡ Some call
   pub stops : HasApart new → Stops call why new
   pub room : HasRoom old → HasRoom new × IsRoomy why
+  pub firsts : (c : GuestCall) → first_call calls ≡ Some c → FirstStops c old new
 
 pub first_waits : (t : Told) (ts : List Told) (why : WaitsFor) → step_wait (t ∷ ts) ≡ Some why → (w : WaitsFor) × (wait_of t ≡ Some w)
 first_waits (says.Waits w) ts why waits = (w, refl)
@@ -360,6 +371,11 @@ calls_halt script k (m ∷ []) why old new waits makes =
       last = refl;
       stops = λ apart. stops_alike m.call why old.driver new.driver (leaves apart).1 both.1;
       room = λ room. let r = both.2 room in (subst HasRoom (sym same) r.0, r.1);
+      firsts = λ c is. subst (λ (d : GuestCall). FirstStops d old.driver new.driver) (same_Some m.call c is) (record {
+        why = why;
+        stops = λ apart. stops_alike m.call why old.driver new.driver (leaves apart).1 both.1;
+        roomy = λ room. (both.2 room).1;
+      });
     }
 calls_halt script k (m ∷ n ∷ ms) why old new waits makes =
     let first = first_waits (told_of m) (told_in (n ∷ ms)) why waits in
@@ -371,6 +387,12 @@ calls_halt script k (m ∷ n ∷ ms) why old new waits makes =
       last = rest.last;
       stops = rest.stops;
       room = λ room. rest.room (one.2 room).0;
+      firsts = λ c is. subst (λ (d : GuestCall). FirstStops d old.driver new.driver) (same_Some m.call c is) (record {
+        why = first.0;
+        stops = λ apart.
+            stops_alike m.call first.0 old.driver new.driver (leaves_then old.driver makes.0.driver new.driver one.0 rest.leaves apart).1 one.1;
+        roomy = λ room. (one.2 room).1;
+      });
     }
 
 -- An app waits at an instruction for this, and the driver answers the last of its next calls so; not for a page, where one might be put at first.
@@ -383,6 +405,7 @@ module _ (first : DriverState) where
     pub last : last_of (calls_next act p) ≡ Some call
     pub stops : HasApart s → Stops call why s
     pub roomy : HasRoom first → IsRoomy why
+    pub firsts : (c : GuestCall) → first_call (calls_next act p) ≡ Some c → FirstStops c first s
 
   pub halts_on : (acts : List Act) (p : Progress) (why : WaitsFor) (s t : DriverState) → Leaves s t → Halts acts p why s → Halts acts p why t
   halts_on acts p why s t leaves halts = record {
@@ -393,4 +416,9 @@ module _ (first : DriverState) where
     last = halts.last;
     stops = λ apart. let was = leaves apart in stops_alike halts.call why s t was.1 (halts.stops was.0);
     roomy = halts.roomy;
+    firsts = λ c is. let was = halts.firsts c is in record {
+      why = was.why;
+      stops = λ apart. let l = leaves apart in stops_alike c was.why s t l.1 (was.stops l.0);
+      roomy = was.roomy;
+    };
   }
