@@ -50,13 +50,13 @@ leaves_then r s t one two = λ apart.
 
 pub leaves_core : (s t : DriverState) → SameCore s t → Leaves s t
 leaves_core s t same =
-    let table : t.table ≡ s.table = ap (λ (x : DriverState). x.table) same in
+    let table : t.table ≡ s.table = ap (λ (x : DriverState). x.table) same.0 in
     λ apart. (
       subst (λ (u : Table DriverConnection). AreApart (slots u)) table apart,
       record {
         entries = ap (λ (u : Table DriverConnection). map quieted u.entries) table;
-        gone = ap (λ (x : DriverState). x.gone) same;
-        listeners = ap (λ (x : DriverState). x.listeners) same;
+        gone = ap (λ (x : DriverState). x.gone) same.0;
+        listeners = ap (λ (x : DriverState). x.listeners) same.0;
       },
     )
 

@@ -1,7 +1,7 @@
 -- From what a run ends in to a complete report.
 use Rattle.std.proofs.Common.{◌≡◌, ◌+◌, ◌<◌, ◌≤◌, ◌==◌, ◌||◌, ◌&&◌, inl, inr, ℕ, suc, Bool, true, false, cond, List, [], ◌∷◌, ◌++◌, Option, Some, None, Ok, length, map}
-use Rattle.std.proofs.Common.{Contains, slice_index_or, refl, sym, ap, subst, ◌∙◌, arith, append-nil, length-append, length-take, take}
-use Rattle.std.proofs.lemmas.{Bool.and_parts, Bool.Decides.nat_tests, Bool.eqb-true, Grind.common_steps, List.Elements.All-contains, List.length-map, Option.slice_get_read}
+use Rattle.std.proofs.Common.{Contains, nat_lt, slice_get, ◌⊎◌, slice_index_or, refl, sym, ap, subst, ◌∙◌, arith, append-nil, length-append, length-take, take}
+use Rattle.std.proofs.lemmas.{Bool.and_parts, Bool.Decides.nat_tests, Bool.eqb-true, Grind.common_steps, List.Elements.All-contains, List.length-map, Option.same_Some, Option.slice_get_read}
 use Rattle.std.specs.{List.AllPairs, Option.option_map, Option.unwrap_or, Prelude.not}
 use Rattle.vs_flow.specs.{Connection.Connection, Connection.first_of, Flow.same_flow, Table.IsTable, Table.entry_under, Table.value_under, declared.flow.Flow.Flow}
 use Rattle.vs_conn.specs.{End.ConnectionEnd, End.may_send_of, declared.end.State.{State, TheVariants.Ended, TheVariants.Live}}
@@ -26,19 +26,22 @@ use Rattle.vs_conn.specs.declared.shut.Shut.{Shut}
 use Rattle.vs_device_parts.specs.Receiving.{may_read}
 use Rattle.vs_flow.proofs.Entries.{found_at}
 use Rattle.laws_settled.specs.{Exact.HoldsExactly, Settled.IsSettled, Settled.IsSteady, Settled.ends_at_rest}
-use Rattle.vs_apps_parts.specs.{Journals.calls_of, Journals.sent_as, Scripts.{RunScript, acts_of, id_of}, declared.{journal.Entry.Entry, journal.WaitsFor.WaitsFor, progress.AppState.AppState}}
+use Rattle.vs_apps_parts.specs.{Journals.calls_of, Journals.sent_as, Scripts.{RunScript, acts_of, calls_next, id_of, recv_next, send_next, slice_left, slice_of}, declared.{journal.Entry.Entry, journal.WaitsFor.WaitsFor, progress.AppState.AppState}}
+use Rattle.vs_apps_parts.specs.declared.progress.Progress.{Progress}
 use Rattle.vs_apps_parts.specs.declared.journal.WaitsFor.TheVariants as waits
+use Rattle.vs_script.specs.{App.Act, App.Exchange, Data.Content, Data.bytes_of, Data.size_of}
+use Rattle.laws_driver_bytes.specs.Calls as call
 use Rattle.laws_apps.proofs.Naming.{sent_by_id}
 use Rattle.laws_apps.specs.{Accounts.IsAccount, Calls.run_with, Rounds.AllStand, Runs.IsRunOf, Runs.PollsTo, Runs.Run, Runs.poll_moved}
 use Rattle.vs_report.specs.declared.giving.Totals.{Totals}
 use Rattle.vs_run_report.specs.{Endings.ending_at, Endings.state_at, Endings.why_at, Report.ended_at, Right.IsRightReport, declared.ending.Ending.Ending}
 use Rattle.vs_run_report.specs.declared.ending.Ending.TheVariants as ending
-use Rattle.laws_run.specs.Complete.{IsAtOpen, IsCompleteEnding, IsCompleteRun, IsCompleteWait, open_labels}
+use Rattle.laws_run.specs.Complete.{IsAtOpen, IsCompleteEnding, IsCompleteExchange, IsCompleteRun, IsCompleteWait, LacksCredit, open_labels}
 use Rattle.laws_device.specs.Streams.{has_open_stream}
 use Rattle.laws_run.specs.Dry.{AreDry, AreFull, AreIdle, IsDry, IsFull, reads_of, writes_of}
 use Rattle.laws_run.proofs.{Alike.AreApart, Alike.HasApart, Alike.Leaves, Alike.leaves_core, Drying.under_at, Endings.Ends, Wrote.{is_first, same_payload, streamed, to_device, wrote_there}}
 use Rattle.laws_run.proofs.Unread.{no_free, to_read, unread_within}
-use Rattle.laws_run.proofs.{Endings.all_ends, Endings.ends_on, Halting.Halts, Open.among_entry, Open.among_open, Open.as_many_open, Open.one_is, Reporting.accounted, Reporting.once, Reporting.right_with}
+use Rattle.laws_run.proofs.{Endings.all_ends, Endings.ends_on, Halting.{Halts, IsRoomy, Stops, first_call}, Open.among_entry, Open.among_open, Open.as_many_open, Open.one_is, Reporting.accounted, Reporting.once, Reporting.right_with}
 use Rattle.laws_run.proofs.{Still.poll_still, Waiting.credit_call, Waiting.empty_call, Waiting.not_open, Waiting.recv_id, Waiting.send_id}
 
 -- The slots of a table are apart.
@@ -60,7 +63,7 @@ module _ (script : RunScript) (driver : DriverState) (end : Sight) (apps : List 
     (e : DeviceSight) (h : HostContents) (faults : ℕ)
     (run : IsRunOf FIRST_CID script (run_with driver (driver_contents end) apps entries bytes)) (settled : IsSettled driver end p e)
     (steady : IsSteady p (situation (device_contents e) (Some h) faults)) (old stood : Run) (all : AllStand script (length script) old stood)
-    (same_apps : apps ≡ stood.apps) (same_entries : entries ≡ stood.entries) (polled : Polled) (told past : Run) (heard : told.driver ≡ stood.driver)
+    (room : old.driver.in_flight < old.driver.size) (same_apps : apps ≡ stood.apps) (same_entries : entries ≡ stood.entries) (polled : Polled) (told past : Run) (heard : told.driver ≡ stood.driver)
     (polls : PollsTo polled told past) (still : poll_moved polled ≡ false) (same_driver : driver ≡ past.driver)
     (streams : IsProxyStreamed FIRST_CID p (situation (device_contents e) (Some h) faults))
     (idle : AreIdle p.device.table (Some h)) where
@@ -74,15 +77,15 @@ module _ (script : RunScript) (driver : DriverState) (end : Sight) (apps : List 
   apart = slots_apart driver.table.entries (run.kept.honest refl (driver_log end) refl).fits.sound.rising
 
   -- Each app is done, or the driver as it is at the end answers its next call so that it waits.
-  ends : (k : ℕ) → k < length script → Ends script k apps entries driver
+  ends : (k : ℕ) → k < length script → Ends old.driver script k apps entries driver
   ends k less =
       let as_many : length stood.apps ≡ length script = ap (λ (xs : List AppState). length xs) (sym same_apps) ∙ run.apps in
       let last = all_ends script old stood as_many all k less in
       let leaves = leaves_core told.driver past.driver (poll_still told.driver past.driver told.ring past.ring polled polls.polls still) in
-      let then = ends_on script k stood.apps stood.entries stood.driver past.driver (subst (λ (d : DriverState). Leaves d past.driver) heard leaves) last in
-      subst (λ (d : DriverState). Ends script k apps entries d) (sym same_driver)
-      (subst (λ (xs : List AppState). Ends script k xs entries past.driver) (sym same_apps)
-      (subst (λ (es : List Entry). Ends script k stood.apps es past.driver) (sym same_entries) then))
+      let then = ends_on old.driver script k stood.apps stood.entries stood.driver past.driver (subst (λ (d : DriverState). Leaves d past.driver) heard leaves) last in
+      subst (λ (d : DriverState). Ends old.driver script k apps entries d) (sym same_driver)
+      (subst (λ (xs : List AppState). Ends old.driver script k xs entries past.driver) (sym same_apps)
+      (subst (λ (es : List Entry). Ends old.driver script k stood.apps es past.driver) (sym same_entries) then))
 
   -- A connection that an app knows is in the table, and Live.
   contained : (id : ℕ) (x : DriverEntry) → entry_known_as id driver ≡ Some x → Contains driver.table.entries x × (is_known_as id x ≡ true)
@@ -296,10 +299,10 @@ module _ (script : RunScript) (driver : DriverState) (end : Sight) (apps : List 
           ap (λ (f : Flow). has_open_stream f h) flow ∙ flow_open x within,
         )
 
-    wait_complete : (k : ℕ) (why : WaitsFor) → Halts (acts_of k script) (state_at k apps).progress why driver
+    wait_complete : (k : ℕ) (why : WaitsFor) → Halts old.driver (acts_of k script) (state_at k apps).progress why driver
         → IsCompleteWait opened journal h (state_at k apps).progress.conn why
     wait_complete k waits.Full halts = tt
-    wait_complete k (waits.NoDescriptor n) halts = tt
+    wait_complete k (waits.NoDescriptor n) halts = absurd (halts.roomy room)
     wait_complete k (waits.NoCredit tx alloc fwd) halts =
         let is = credit_call halts.call driver tx alloc fwd (halts.stops apart) in
         let x = is.says.entry in
@@ -322,7 +325,59 @@ module _ (script : RunScript) (driver : DriverState) (end : Sight) (apps : List 
           subst (λ (f : Flow). AreDry f h) (sym (flow_of_id is.id x found.0 named)) (all_dry x found.0 is.none.unread is.none.more),
         )
 
-    ending_complete : (k : ℕ) → Ends script k apps entries driver
+    -- A send that stops where it waits for bytes: its connection lacks credit.
+    send_lacks : (k : ℕ) (bytes : List ℕ) (why : WaitsFor) → Stops (call.Send (id_of (state_at k apps).progress) bytes) why driver → IsRoomy why
+        → LacksCredit opened journal h (state_at k apps).progress.conn
+    send_lacks k bytes waits.NotOpen stops roomy =
+        let no = not_open (call.Send (id_of (state_at k apps).progress) bytes) driver stops in absurd (no.state (live no.entry (contained no.id no.entry no.there).0))
+    send_lacks k bytes (waits.NoCredit tx alloc fwd) stops roomy =
+        let id = id_of (state_at k apps).progress in
+        let found = contained id stops.entry stops.there in
+        let named : stops.entry.value.id ≡ id = eqb-true stops.entry.value.id id (and_parts (stops.entry.value.id == id) (not stops.entry.value.closed) found.1).0 in
+        let held = unread_by_host id stops.entry found.0 named stops.says in (id, at_open k id stops.entry found.0 named refl, held.0, held.1)
+    send_lacks k bytes (waits.NoDescriptor n) stops roomy = absurd roomy
+    send_lacks k bytes waits.Full stops roomy = absurd stops
+    send_lacks k bytes waits.Empty stops roomy = absurd stops
+    send_lacks k bytes waits.NoneWaiting stops roomy = absurd stops
+
+    exchange_complete : (k : ℕ) (why : WaitsFor) → Halts old.driver (acts_of k script) (state_at k apps).progress why driver → (c : Content)
+        → slice_get (acts_of k script) (state_at k apps).progress.at ≡ Some (Exchange c)
+        → (size_of c ≤ (state_at k apps).progress.sent) ⊎ LacksCredit opened journal h (state_at k apps).progress.conn
+    exchange_complete k why halts c at = by (nat_lt q.sent (size_of c)) refl
+      where
+        q : Progress
+        q = (state_at k apps).progress
+
+        act : halts.act ≡ Exchange c
+        act = same_Some halts.act (Exchange c) (sym halts.next ∙ at)
+
+        by : (b : Bool) → nat_lt q.sent (size_of c) ≡ b → (size_of c ≤ q.sent) ⊎ LacksCredit opened journal h q.conn
+        by false none = inl (grind (arith, nat_tests, none))
+        by true more =
+            let first : first_call (calls_next halts.act q) ≡ Some (send_next c q) =
+            ap (λ (a : Act). first_call (calls_next a q)) act
+            ∙ ap (λ (b : Bool). first_call (cond b (send_next c q ∷ []) [] ++ cond (nat_lt q.got (size_of c)) (recv_next (size_of c) q ∷ []) [])) more in
+            let stops = halts.firsts (send_next c q) first in
+            inr (send_lacks k (slice_of q.sent (slice_left q.sent (size_of c)) (bytes_of c)) stops.why (stops.stops apart) (stops.roomy room))
+
+    exchanged : (k : ℕ) → Ends old.driver script k apps entries driver
+        → IsCompleteExchange opened journal h (acts_of k script) (state_at k apps).progress (ended_at script apps entries k)
+    exchanged k (inl done) =
+        subst (λ (b : Bool). IsCompleteExchange opened journal h (acts_of k script) (state_at k apps).progress
+        (cond b (ending_at ((state_at k apps).progress.at + 1) (why_at (state_at k apps).waiting entries)) ending.Done)) (sym done) tt
+    exchanged k (inr rests) =
+        subst (λ (x : Ending). IsCompleteExchange opened journal h (acts_of k script) (state_at k apps).progress x) (sym rests.ended) (by rests.why rests.halts)
+      where
+        by : (why : WaitsFor) → Halts old.driver (acts_of k script) (state_at k apps).progress why driver
+            → IsCompleteExchange opened journal h (acts_of k script) (state_at k apps).progress (ending.Waited why ((state_at k apps).progress.at + 1))
+        by waits.Empty halts = λ c at. exchange_complete k waits.Empty halts c at
+        by waits.Full halts = tt
+        by (waits.NoDescriptor n) halts = tt
+        by (waits.NoCredit tx alloc fwd) halts = tt
+        by waits.NoneWaiting halts = tt
+        by waits.NotOpen halts = tt
+
+    ending_complete : (k : ℕ) → Ends old.driver script k apps entries driver
         → IsCompleteEnding opened journal h (state_at k apps).progress.conn (ended_at script apps entries k)
     ending_complete k (inl done) =
         subst (λ (b : Bool). IsCompleteEnding opened journal h (state_at k apps).progress.conn
@@ -344,5 +399,6 @@ module _ (script : RunScript) (driver : DriverState) (end : Sight) (apps : List 
           guest_open = guest ∙ guest_open;
           device_open = device ∙ device_open;
           waits = λ k less. ending_complete told.0 told.1 k (ends k less);
+          exchanges = λ k less. exchanged told.0 told.1 k (ends k less);
         },
       )

@@ -1,24 +1,27 @@
 -- A call that told an app to wait leaves the driver alike, and the driver answers it so again.
-use Rattle.std.proofs.Common.{◌≡◌, ◌==◌, ℕ, Bool, true, false, cond, List, [], ◌∷◌, length, Option, Some, None, Result, Ok, Err, refl, sym, ap, subst, ◌∙◌}
-use Rattle.std.proofs.lemmas.{Bool.eqb-true, Option.same_Some}
+use Rattle.std.proofs.Common.{◌≡◌, ◌<◌, ◌==◌, ℕ, nat_lt, Bool, true, false, cond, List, [], ◌∷◌, length, Option, Some, None, Result, Ok, Err, refl, sym, ap, subst, ◌∙◌, arith}
+use Rattle.std.proofs.lemmas.{Bool.Decides.nat_tests, Bool.eqb-true, Option.same_Some}
 use Rattle.std.specs.{Prelude.is_some, Prelude.slice_get}
 use Rattle.vs_contents.specs.CallTree.{Done, bind}
 use Rattle.vs_contents.proofs.Leads.{AllEnds, end_of}
 use Rattle.vs_conn.specs.{End.may_send_of, End.wanting_credit, End.with_payload_sent, declared.end.Stop.Stop}
 use Rattle.vs_conn.specs.declared.end.Stop.TheVariants as stop
 use Rattle.vs_credit.specs.declared.Credit.{Credit}
+use Rattle.vs_flow.specs.Flow.{is_assigned}
+use Rattle.vs_limits.specs.declared.TheConstants.{DRIVER_CONNECTIONS}
 use Rattle.vs_script.specs.App.{Act}
 use Rattle.vs_ring_port.specs.Contents.{RingContents}
-use Rattle.vs_driver_parts.specs.Connections.{after_read, after_recv, all_gone_after_read, connect_refusal, connected, entry_answer, entry_read, gone_answer}
+use Rattle.vs_driver_parts.specs.Connections.{after_read, after_recv, all_gone_after_read, connect_refusal, connected, is_full, is_spent, entry_answer, entry_read, gone_answer}
 use Rattle.vs_driver_parts.specs.Connections.{is_at_end, nothing_read, read_of, recv_of, state_of, unread_of_id, with_connection, with_end}
 use Rattle.vs_driver_parts.specs.Conversations.{connect_of, connect_with_page, has_page, payload_of, post_packet, reap_all, request_bytes, send_of, send_on}
 use Rattle.vs_driver_parts.specs.Conversations.{no_credit, not_sent, payload_bytes, send_stopped, send_with_credit, send_with_page}
 use Rattle.vs_driver_parts.specs.{Listening.next_accepted, Playing.Plays, Playing.RingAllows, State.DriverEntry, State.DriverState, State.GoneConnection}
 use Rattle.vs_driver_parts.specs.State.{entry_known_as, gone_known_as}
 use Rattle.vs_driver_parts.specs.Listening.{after_accept, accept_of, listener_on, with_waiting, without_id}
-use Rattle.vs_driver_parts.specs.declared.answers.{Accepted.Accepted, ConnectError.ConnectError, Received.Received, Sent.Sent}
+use Rattle.vs_driver_parts.specs.declared.answers.{Accepted.Accepted, ConnectError.ConnectError, ConnectionState.ConnectionState, Received.Received, Sent.Sent}
 use Rattle.vs_driver_parts.specs.declared.answers.Accepted.TheVariants as accepted
 use Rattle.vs_driver_parts.specs.declared.answers.ConnectError.TheVariants as refused
+use Rattle.vs_driver_parts.specs.declared.answers.ConnectionState.TheVariants as seen
 use Rattle.vs_driver_parts.specs.declared.answers.Received.TheVariants as got
 use Rattle.vs_driver_parts.specs.declared.answers.Sent.TheVariants as sent
 use Rattle.laws_driver_bytes.specs.Calls.{GuestCall, Made, ReplyTo, whole_call}
@@ -31,7 +34,7 @@ use Rattle.vs_apps_parts.specs.declared.journal.WaitsFor.TheVariants as waits
 use Rattle.vs_apps_parts.specs.declared.told.Told.TheVariants as says
 use Rattle.laws_apps.specs.Runs.{MakesCalls, Run}
 use Rattle.laws_run.proofs.{Alike.{Alike, HasApart, Leaves, known_too, leaves_core, leaves_none, leaves_then, leaves_wanting, may_send_too, recv_alike}}
-use Rattle.laws_run.proofs.{Alike.state_alike, Still.SameCore, Still.reaps_all}
+use Rattle.laws_run.proofs.{Alike.state_alike, Still.{HasRoom, SameCore, core_same, reaps_all, room_stays}}
 use Rattle.vs_run_report.specs.Right.{may_wait}
 
 -- What an end says to a send on a connection.
@@ -55,6 +58,14 @@ StopsConnect why = ⊥
 abbrev pub StopsAccept : WaitsFor → Type 0
 StopsAccept waits.NoneWaiting = Unit {0}
 StopsAccept why = ⊥
+
+-- Where a page may be put, nothing waits for one.
+abbrev pub IsRoomy : WaitsFor → Type 0
+IsRoomy (waits.NoDescriptor in_flight) = ⊥
+IsRoomy why = Unit {0}
+
+no_room : (a b : ℕ) → nat_lt a b ≡ false → a < b → ⊥
+no_room a b is less = absurd (grind (arith, nat_tests, is, less))
 
 -- The driver's answer to a call is to wait for this.
 abbrev pub Stops : GuestCall → WaitsFor → DriverState → Type 0
@@ -94,7 +105,7 @@ stops_alike (call.Close id) why s t alike stops = stops
 
 -- A connect.
 abbrev Connects : DriverState → DriverState × Result ℕ ConnectError → Type 0
-Connects s x = (why : WaitsFor) → wait_of (told_connect x.1) ≡ Some why → SameCore s x.0 × StopsConnect why
+Connects s x = (why : WaitsFor) → wait_of (told_connect x.1) ≡ Some why → SameCore s x.0 × StopsConnect why × (HasRoom s → IsRoomy why)
 
 stops_connect : (r : Result ℕ ConnectError) (why : WaitsFor) → wait_of (told_connect r) ≡ Some why → StopsConnect why
 stops_connect (Ok id) why is = absurd cc
@@ -109,35 +120,58 @@ stops_accept (accepted.Conn id) why is = absurd cc
 stops_accept accepted.NotListening why is = absurd cc
 
 connects_page : (host : ℕ) (s t : DriverState) → SameCore s t → AllEnds (Connects s) (connect_with_page host t)
-connects_page host s t same = by (has_page t)
+connects_page host s t same = by (has_page t) refl
   where
-    by : (b : Bool) → AllEnds (Connects s) (cond b (bind (post_packet (request_bytes host t) t) (λ u. Done (connected host u, Ok u.next_id)))
+    by : (b : Bool) → has_page t ≡ b → AllEnds (Connects s) (cond b (bind (post_packet (request_bytes host t) t) (λ u. Done (connected host u, Ok u.next_id)))
         (Done (t, Err (refused.NoDescriptor t.in_flight))))
-    by true = λ a b why waits. absurd cc
-    by false = λ why is. (same, stops_connect (Err (refused.NoDescriptor t.in_flight)) why is)
+    by true has = λ a b why waits. absurd cc
+    by false has = λ why is. (
+      same,
+      stops_connect (Err (refused.NoDescriptor t.in_flight)) why is,
+      λ room. absurd (no_room t.in_flight t.size has (room_stays s t same room)),
+    )
 
-connects_as : (host : ℕ) (s : DriverState) (o : Option ConnectError) → AllEnds (Connects s) (elim o [
+-- What refuses a connect at once is no want of a page.
+refusal_roomy : (host : ℕ) (s : DriverState) (refusal : ConnectError) (why : WaitsFor) → connect_refusal host s ≡ Some refusal
+    → wait_of (told_connect (Err refusal)) ≡ Some why → IsRoomy why
+refusal_roomy host s (refused.BadPort port) why is waits = absurd cc
+refusal_roomy host s (refused.Full slots) why is so = subst IsRoomy (same_Some waits.Full why so) tt
+refusal_roomy host s (refused.PortsSpent port id) why is waits = absurd cc
+refusal_roomy host s (refused.NoDescriptor n) why is waits = by (is_assigned host) (is_full s) (is_spent s) is
+  where
+    by : (a b c : Bool) → cond a (Some (refused.BadPort host)) (cond b (Some (refused.Full DRIVER_CONNECTIONS))
+        (cond c (Some (refused.PortsSpent s.last_port s.last_id)) None)) ≡ Some (refused.NoDescriptor n) → IsRoomy why
+    by true b c says = absurd cc
+    by false true c says = absurd cc
+    by false false true says = absurd cc
+    by false false false says = absurd cc
+
+connects_as : (host : ℕ) (s : DriverState) (o : Option ConnectError) → connect_refusal host s ≡ o → AllEnds (Connects s) (elim o [
   | Some refusal ↦ Done (s, Err refusal)
   | None ↦ bind (reap_all s) (connect_with_page host)
 ])
-connects_as host s (Some refusal) = λ why is. (refl, stops_connect (Err refusal) why is)
-connects_as host s None =
+connects_as host s (Some refusal) at = λ why is. (core_same s, stops_connect (Err refusal) why is, λ room. refusal_roomy host s refusal why at is)
+connects_as host s None at =
     ends_then (Connects s) (SameCore s) (reap_all s) (connect_with_page host) (reaps_all s) (λ t same. connects_page host s t same)
 
 -- A send.
 abbrev Sends : ℕ → DriverState → DriverState × Sent → Type 0
-Sends id s x = (why : WaitsFor) → wait_of (told_send x.1) ≡ Some why → Leaves s x.0 × StopsSend id why s
+Sends id s x = (why : WaitsFor) → wait_of (told_send x.1) ≡ Some why → Leaves s x.0 × StopsSend id why s × (HasRoom s → HasRoom x.0 × IsRoomy why)
 
 sends_page : (id : ℕ) (e : DriverEntry) (payload : List ℕ) (s t : DriverState) → SameCore s t → AllEnds (Sends id s) (send_with_page e payload t)
-sends_page id e payload s t same = by (has_page t)
+sends_page id e payload s t same = by (has_page t) refl
   where
     none : (why : WaitsFor) → wait_of (told_send (sent.NoDescriptor t.in_flight)) ≡ Some why → StopsSend id why s
     none why is = subst (λ (w : WaitsFor). StopsSend id w s) (same_Some (waits.NoDescriptor t.in_flight) why is) tt
 
-    by : (b : Bool) → AllEnds (Sends id s) (cond b (bind (post_packet (payload_bytes e payload t) t)
+    by : (b : Bool) → has_page t ≡ b → AllEnds (Sends id s) (cond b (bind (post_packet (payload_bytes e payload t) t)
         (λ u. Done (with_end (with_payload_sent e.value.end (length payload)) e u, sent.Took (length payload)))) (Done (t, sent.NoDescriptor t.in_flight)))
-    by true = λ a b why waits. absurd cc
-    by false = λ why waits. (leaves_core s t same, none why waits)
+    by true has = λ a b why waits. absurd cc
+    by false has = λ why waits. (
+      leaves_core s t same,
+      none why waits,
+      λ room. absurd (no_room t.in_flight t.size has (room_stays s t same room)),
+    )
 
 sends_credit : (id : ℕ) (bytes : List ℕ) (e : DriverEntry) (credit : ℕ) (s : DriverState) → entry_known_as id s ≡ Some e
     → may_send_of e.value.end ≡ Ok credit → AllEnds (Sends id s) (send_with_credit e credit bytes s)
@@ -149,11 +183,15 @@ sends_credit id bytes e credit s at may = by (length bytes == 0) (credit == 0) r
         subst (λ (w : WaitsFor). StopsSend id w s) (same_Some (waits.NoCredit c.tx_cnt c.peer_alloc c.peer_fwd) why is)
         (record { entry = e; there = at; says = may ∙ ap (λ (n : ℕ). let r : Result ℕ Stop = Ok n in r) (eqb-true credit 0 zero) })
 
+    roomy : (why : WaitsFor) → wait_of (told_send (no_credit e.value.end)) ≡ Some why → IsRoomy why
+    roomy why is =
+        let c : Credit = e.value.end.credit in subst IsRoomy (same_Some (waits.NoCredit c.tx_cnt c.peer_alloc c.peer_fwd) why is) tt
+
     by : (none : Bool) (b : Bool) → (credit == 0) ≡ b → AllEnds (Sends id s) (cond none (Done (s, sent.Took 0))
         (cond b (Done (with_end (wanting_credit e.value.end) e s, no_credit e.value.end))
         (bind (reap_all s) (send_with_page e (payload_of credit bytes)))))
     by true b is = λ why waits. absurd cc
-    by false true is = λ why waits. (leaves_wanting id s e at, wants is why waits)
+    by false true is = λ why waits. (leaves_wanting id s e at, wants is why waits, λ room. (room, roomy why waits))
     by false false is =
         ends_then (Sends id s) (SameCore s) (reap_all s) (send_with_page e (payload_of credit bytes)) (reaps_all s)
         (λ t same. sends_page id e (payload_of credit bytes) s t same)
@@ -164,7 +202,7 @@ sends_may : (id : ℕ) (bytes : List ℕ) (e : DriverEntry) (s : DriverState) (r
 sends_may id bytes e s (Ok credit) at may = sends_credit id bytes e credit s at may
 sends_may id bytes e s (Err stop.Reset) at may = λ why waits. absurd cc
 sends_may id bytes e s (Err stop.ShutDown) at may = λ why waits. absurd cc
-sends_may id bytes e s (Err stop.NotOpen) at may = λ why waits. (leaves_none s, stops why waits)
+sends_may id bytes e s (Err stop.NotOpen) at may = λ why so. (leaves_none s, stops why so, λ room. (room, subst IsRoomy (same_Some waits.NotOpen why so) tt))
   where
     stops : (why : WaitsFor) → wait_of (told_send sent.NotOpen) ≡ Some why → StopsSend id why s
     stops why is = subst (λ (w : WaitsFor). StopsSend id w s) (same_Some waits.NotOpen why is) (record { entry = e; there = at; says = may })
@@ -217,11 +255,32 @@ accept_stays port s false o why waits = absurd cc
 same_leaves : (s t : DriverState) → t ≡ s → Leaves s t
 same_leaves s t is = subst (λ (x : DriverState). Leaves s x) (sym is) (leaves_none s)
 
+recv_roomy : (r : Received) (why : WaitsFor) → wait_of (told_recv r) ≡ Some why → IsRoomy why
+recv_roomy (got.Got n) why is = absurd cc
+recv_roomy got.Empty why is = subst IsRoomy (same_Some waits.Empty why is) tt
+recv_roomy got.NotOpen why is = subst IsRoomy (same_Some waits.NotOpen why is) tt
+recv_roomy got.End why is = absurd cc
+recv_roomy got.Reset why is = absurd cc
+recv_roomy got.Unknown why is = absurd cc
+
+look_roomy : (r : ConnectionState) (why : WaitsFor) → wait_of (told_look r) ≡ Some why → IsRoomy why
+look_roomy seen.Asked why is = subst IsRoomy (same_Some waits.NotOpen why is) tt
+look_roomy seen.Answering why is = absurd cc
+look_roomy seen.Live why is = absurd cc
+look_roomy seen.Ended why is = absurd cc
+look_roomy seen.Gone why is = absurd cc
+look_roomy seen.Unknown why is = absurd cc
+
+accept_roomy : (r : Accepted) (why : WaitsFor) → wait_of (told_accept r) ≡ Some why → IsRoomy why
+accept_roomy accepted.None why is = subst IsRoomy (same_Some waits.NoneWaiting why is) tt
+accept_roomy (accepted.Conn id) why is = absurd cc
+accept_roomy accepted.NotListening why is = absurd cc
+
 pub waits_leave : (c : GuestCall) (s t : DriverState) (old new : RingContents) (reply : ReplyTo c) (why : WaitsFor)
-    → Plays (whole_call c s) old (t, reply) new → wait_of (told_by c reply) ≡ Some why → Leaves s t × Stops c why s
+    → Plays (whole_call c s) old (t, reply) new → wait_of (told_by c reply) ≡ Some why → Leaves s t × Stops c why s × (HasRoom s → HasRoom t × IsRoomy why)
 waits_leave (call.Connect port) s t old new reply why plays waits =
-    let both = end_of (Connects s) RingAllows (connect_of port s) old new (t, reply) (connects_as port s (connect_refusal port s)) plays why waits in
-    (leaves_core s t both.0, both.1)
+    let both = end_of (Connects s) RingAllows (connect_of port s) old new (t, reply) (connects_as port s (connect_refusal port s) refl) plays why waits in
+    (leaves_core s t both.0, both.1, λ room. (room_stays s t both.0 room, both.2 room))
 waits_leave (call.Send id bytes) s t old new reply why plays waits =
     end_of (Sends id s) RingAllows (send_of id bytes s) old new (t, reply) (sends_as id bytes s (entry_known_as id s) refl) plays why waits
 waits_leave (call.Recv id n) s t old new reply why plays waits =
@@ -229,15 +288,22 @@ waits_leave (call.Recv id n) s t old new reply why plays waits =
     let state : after_recv id n s ≡ t = ap (λ x. x.0) same in
     let answer : recv_of id n s ≡ reply.0 = ap (λ x. x.1.0) same in
     let so : wait_of (told_recv (recv_of id n s)) ≡ Some why = ap (λ (r : Received). wait_of (told_recv r)) answer ∙ waits in
-    (same_leaves s t (sym state ∙ recv_stays id n s (entry_known_as id s) (gone_known_as id s) why so), so)
+    let stays : t ≡ s = sym state ∙ recv_stays id n s (entry_known_as id s) (gone_known_as id s) why so in
+    (same_leaves s t stays, so, λ room. (subst HasRoom (sym stays) room, recv_roomy (recv_of id n s) why so))
 waits_leave (call.LookAt id) s t old new reply why plays waits =
     let same : (s, state_of id s) ≡ (t, reply) = plays.0 in
-    (same_leaves s t (sym (ap (λ x. x.0) same)), ap (λ x. wait_of (told_look x.1)) same ∙ waits)
+    let so : wait_of (told_look (state_of id s)) ≡ Some why = ap (λ x. wait_of (told_look x.1)) same ∙ waits in (
+      same_leaves s t (sym (ap (λ x. x.0) same)),
+      so,
+      λ room. (subst HasRoom (ap (λ x. x.0) same) room, look_roomy (state_of id s) why so),
+    )
 waits_leave (call.Accept port) s t old new reply why plays waits =
     let same : (after_accept port s, accept_of port s) ≡ (t, reply) = plays.0 in
-    let so : wait_of (told_accept (accept_of port s)) ≡ Some why = ap (λ x. wait_of (told_accept x.1)) same ∙ waits in (
-      same_leaves s t (sym (ap (λ x. x.0) same) ∙ accept_stays port s (is_some (listener_on port s.listeners)) (next_accepted port s) why so),
+    let so : wait_of (told_accept (accept_of port s)) ≡ Some why = ap (λ x. wait_of (told_accept x.1)) same ∙ waits in
+    let stays : t ≡ s = sym (ap (λ x. x.0) same) ∙ accept_stays port s (is_some (listener_on port s.listeners)) (next_accepted port s) why so in (
+      same_leaves s t stays,
       stops_accept (accept_of port s) why so,
+      λ room. (subst HasRoom (sym stays) room, accept_roomy (accept_of port s) why so),
     )
 waits_leave (call.Listen port) s t old new reply why plays waits = absurd cc
 waits_leave (call.Unlisten port) s t old new reply why plays waits = absurd cc
@@ -250,11 +316,23 @@ last_of [] = None
 last_of (c ∷ []) = Some c
 last_of (c ∷ d ∷ cs) = last_of (d ∷ cs)
 
+abbrev pub first_call : List GuestCall → Option GuestCall
+first_call [] = None
+first_call (c ∷ cs) = Some c
+
+-- The first of them told to wait too, maybe for something else.
+pub record FirstStops (c : GuestCall) (old new : DriverState) : Type 0 where
+  pub why : WaitsFor
+  pub stops : HasApart new → Stops c why new
+  pub roomy : HasRoom old → IsRoomy why
+
 pub record Halted (calls : List GuestCall) (why : WaitsFor) (old new : DriverState) : Type 0 where
   pub leaves : Leaves old new
   pub call : GuestCall
   pub last : last_of calls ≡ Some call
   pub stops : HasApart new → Stops call why new
+  pub room : HasRoom old → HasRoom new × IsRoomy why
+  pub firsts : (c : GuestCall) → first_call calls ≡ Some c → FirstStops c old new
 
 pub first_waits : (t : Told) (ts : List Told) (why : WaitsFor) → step_wait (t ∷ ts) ≡ Some why → (w : WaitsFor) × (wait_of t ≡ Some w)
 first_waits (says.Waits w) ts why waits = (w, refl)
@@ -292,6 +370,12 @@ calls_halt script k (m ∷ []) why old new waits makes =
       call = m.call;
       last = refl;
       stops = λ apart. stops_alike m.call why old.driver new.driver (leaves apart).1 both.1;
+      room = λ room. let r = both.2 room in (subst HasRoom (sym same) r.0, r.1);
+      firsts = λ c is. subst (λ (d : GuestCall). FirstStops d old.driver new.driver) (same_Some m.call c is) (record {
+        why = why;
+        stops = λ apart. stops_alike m.call why old.driver new.driver (leaves apart).1 both.1;
+        roomy = λ room. (both.2 room).1;
+      });
     }
 calls_halt script k (m ∷ n ∷ ms) why old new waits makes =
     let first = first_waits (told_of m) (told_in (n ∷ ms)) why waits in
@@ -302,23 +386,39 @@ calls_halt script k (m ∷ n ∷ ms) why old new waits makes =
       call = rest.call;
       last = rest.last;
       stops = rest.stops;
+      room = λ room. rest.room (one.2 room).0;
+      firsts = λ c is. subst (λ (d : GuestCall). FirstStops d old.driver new.driver) (same_Some m.call c is) (record {
+        why = first.0;
+        stops = λ apart.
+            stops_alike m.call first.0 old.driver new.driver (leaves_then old.driver makes.0.driver new.driver one.0 rest.leaves apart).1 one.1;
+        roomy = λ room. (one.2 room).1;
+      });
     }
 
--- An app waits at an instruction for this, and the driver answers the last of its next calls so.
-pub record Halts (acts : List Act) (p : Progress) (why : WaitsFor) (s : DriverState) : Type 0 where
-  pub act : Act
-  pub next : slice_get acts p.at ≡ Some act
-  pub may : may_wait act why ≡ true
-  pub call : GuestCall
-  pub last : last_of (calls_next act p) ≡ Some call
-  pub stops : HasApart s → Stops call why s
+-- An app waits at an instruction for this, and the driver answers the last of its next calls so; not for a page, where one might be put at first.
+module _ (first : DriverState) where
+  pub record Halts (acts : List Act) (p : Progress) (why : WaitsFor) (s : DriverState) : Type 0 where
+    pub act : Act
+    pub next : slice_get acts p.at ≡ Some act
+    pub may : may_wait act why ≡ true
+    pub call : GuestCall
+    pub last : last_of (calls_next act p) ≡ Some call
+    pub stops : HasApart s → Stops call why s
+    pub roomy : HasRoom first → IsRoomy why
+    pub firsts : (c : GuestCall) → first_call (calls_next act p) ≡ Some c → FirstStops c first s
 
-pub halts_on : (acts : List Act) (p : Progress) (why : WaitsFor) (s t : DriverState) → Leaves s t → Halts acts p why s → Halts acts p why t
-halts_on acts p why s t leaves halts = record {
-  act = halts.act;
-  next = halts.next;
-  may = halts.may;
-  call = halts.call;
-  last = halts.last;
-  stops = λ apart. let was = leaves apart in stops_alike halts.call why s t was.1 (halts.stops was.0);
-}
+  pub halts_on : (acts : List Act) (p : Progress) (why : WaitsFor) (s t : DriverState) → Leaves s t → Halts acts p why s → Halts acts p why t
+  halts_on acts p why s t leaves halts = record {
+    act = halts.act;
+    next = halts.next;
+    may = halts.may;
+    call = halts.call;
+    last = halts.last;
+    stops = λ apart. let was = leaves apart in stops_alike halts.call why s t was.1 (halts.stops was.0);
+    roomy = halts.roomy;
+    firsts = λ c is. let was = halts.firsts c is in record {
+      why = was.why;
+      stops = λ apart. let l = leaves apart in stops_alike c was.why s t l.1 (was.stops l.0);
+      roomy = was.roomy;
+    };
+  }

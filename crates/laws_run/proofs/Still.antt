@@ -1,6 +1,6 @@
 -- A poll that moved nothing leaves the driver as it was, but for its pages in flight.
-use Rattle.std.proofs.Common.{◌≡◌, ◌+◌, ◌==◌, ◌||◌, ℕ, zero, suc, nat_le, nat_lt, Bool, true, false, cond, List, [], ◌∷◌, length, Option, Some, None}
-use Rattle.std.proofs.Common.{refl, ◌∙◌, arith}
+use Rattle.std.proofs.Common.{◌≡◌, ◌≤◌, ◌<◌, ◌+◌, ◌==◌, ◌||◌, ℕ, zero, suc, nat_le, nat_lt, Bool, true, false, cond, List, [], ◌∷◌, length, Option, Some, None}
+use Rattle.std.proofs.Common.{refl, ap, ◌∙◌, arith}
 use Rattle.std.proofs.lemmas.{Bool.Decides.nat_tests, Grind.common_steps}
 use Rattle.vs_contents.specs.CallTree.{Ask, Done, bind, for_each, while_up_to}
 use Rattle.vs_contents.proofs.Leads.{AllEnds, end_of, ends_weaker}
@@ -21,12 +21,27 @@ use Rattle.vs_driver_parts.specs.declared.answers.Polled.{Polled}
 use Rattle.laws_apps.specs.Runs.{poll_moved}
 use Rattle.laws_rest.proofs.Quiet.{ends_any, ends_then}
 
--- The driver but for what it counts of its pages.
+-- The driver but for what it counts of its pages. It has no more of them in flight than before.
 abbrev pub core : DriverState → DriverState
 core s = record s { in_flight = 0; staged = 0 }
 
 abbrev pub SameCore : DriverState → DriverState → Type 0
-SameCore s t = core t ≡ core s
+SameCore s t = (core t ≡ core s) × (t.in_flight ≤ s.in_flight)
+
+pub core_same : (s : DriverState) → SameCore s s
+core_same s = (refl, omega arith)
+
+core_then : (r s t : DriverState) → SameCore r s → SameCore s t → SameCore r t
+core_then r s t one two = (two.0 ∙ one.0, (let a = one.1 in let b = two.1 in omega (arith, a, b)))
+
+-- A page may be put.
+abbrev pub HasRoom : DriverState → Type 0
+HasRoom s = s.in_flight < s.size
+
+pub room_stays : (s t : DriverState) → SameCore s t → HasRoom s → HasRoom t
+room_stays s t same room =
+    let size : t.size ≡ s.size = ap (λ (x : DriverState). x.size) same.0 in
+    let less = same.1 in omega (arith, size, less, room)
 
 same_if : (b : Bool) (p q : DriverTree DriverState) (P : DriverState → Type 0) → AllEnds P p → AllEnds P q → AllEnds P (cond b p q)
 same_if true p q P one other = one
@@ -37,17 +52,17 @@ EndsIn P tree = AllEnds P tree
 
 -- Pages that are staged, and those that are reaped.
 stages : (queue : Queue) (page : List ℕ) (s : DriverState) → AllEnds (SameCore s) (stage_of queue page s)
-stages queue page s = λ a. same_if (s.staged + 1 == STAGED_MAX) _ _ (SameCore s) (λ b. refl) refl
+stages queue page s = λ a. same_if (s.staged + 1 == STAGED_MAX) _ _ (SameCore s) (λ b. (refl, omega arith)) (refl, omega arith)
 
 reaps_one : (s : DriverState) → AllEnds (λ (x : DriverState × Bool). SameCore s x.0) (reap_one s)
 reaps_one s = by (s.in_flight == 0)
   where
     answered : (page : Option (List ℕ)) → SameCore s (reaped s page).0
-    answered None = refl
-    answered (Some page) = refl
+    answered None = core_same s
+    answered (Some page) = (refl, omega arith)
 
     by : (b : Bool) → EndsIn (λ (x : DriverState × Bool). SameCore s x.0) (cond b (Done (s, false)) (Ask (Reap Tx) (λ page. Done (reaped s page))))
-    by true = refl
+    by true = core_same s
     by false = λ page. answered page
 
 pub reaps_all : (s : DriverState) → AllEnds (SameCore s) (reap_all s)
@@ -56,11 +71,11 @@ reaps_all s = loop s.in_flight s
     on_with : (n : ℕ) (t q : DriverState) (b : Bool) → SameCore t q → AllEnds (SameCore q) (while_up_to n reap_one q)
         → AllEnds (SameCore t) (elim b [ true ↦ while_up_to n reap_one q | false ↦ Done q ])
     on_with n t q true one after =
-        ends_weaker (SameCore q) (SameCore t) (λ x two. two ∙ one) (while_up_to n reap_one q) after
+        ends_weaker (SameCore q) (SameCore t) (λ x two. core_then t q x one two) (while_up_to n reap_one q) after
     on_with n t q false one after = one
 
     loop : (n : ℕ) (t : DriverState) → AllEnds (SameCore t) (while_up_to n reap_one t)
-    loop zero t = refl
+    loop zero t = core_same t
     loop (suc n) t =
         ends_then (SameCore t) (λ (x : DriverState × Bool). SameCore t x.0) (reap_one t)
         (λ q. elim q.1 [ true ↦ while_up_to n reap_one q.0 | false ↦ Done q.0 ]) (reaps_one t) (λ x a. on_with n t x.0 x.1 a (loop n x.0))
@@ -71,10 +86,10 @@ Kept Q r x = Q x → Q r × SameCore r.state x.state
 
 module _ (Q : Round → Type 0) where
   kept : (r : Round) → Kept Q r r
-  kept r = λ at. (at, refl)
+  kept r = λ at. (at, core_same r.state)
 
   kept_then : (r q x : Round) → Kept Q r q → Kept Q q x → Kept Q r x
-  kept_then r q x one two = λ at. let b = two at in let a = one b.0 in (a.0, b.1 ∙ a.1)
+  kept_then r q x one two = λ at. let b = two at in let a = one b.0 in (a.0, core_then r.state q.state x.state a.1 b.1)
 
   abbrev KeptBy : Round → Round × Bool → Type 0
   KeptBy r x = Kept Q r x.0
@@ -106,7 +121,7 @@ event_by : (r : Round) (b : Bool) → EndsIn (Kept NoReset r) (cond b
     (Ask LoadCid (λ cid. Done (record r { state = after_reset cid r.state; count = r.count + 1; reset = true })))
     (Done (record r { count = r.count + 1 })))
 event_by r true = λ cid at. absurd (let no : true ≡ false = at in cc)
-event_by r false = λ at. (at, refl)
+event_by r false = λ at. (at, core_same r.state)
 
 again : (Q : Round → Type 0) (queue : Queue) (r : Round) → ((s : DriverState) → Q (record r { state = s }) → Q r)
     → AllEnds (λ (x : Round × Bool). Kept Q r x.0) (staged_again queue r)
@@ -178,7 +193,7 @@ puts_owed slot r = by (entry_under r.state.table slot)
 
 publishes : (Q : Round → Type 0) (queue : Queue) (r q : Round) → Kept Q r q → ((s : DriverState) → Q (record q { state = s }) → Q q)
     → AllEnds (Kept Q r) (published queue q)
-publishes Q queue r q a back = λ x. kept_then Q r q (record q { state = record q.state { staged = 0 } }) a (λ at. (back _ at, refl))
+publishes Q queue r q a back = λ x. kept_then Q r q (record q { state = record q.state { staged = 0 } }) a (λ at. (back _ at, (refl, omega arith)))
 
 puts_all : (s : DriverState) → AllEnds (Kept CountsNone (start s)) (put_all s)
 puts_all s =
@@ -210,7 +225,8 @@ polls s =
     (takes_all CountsNone Rx take_packet takes_packet (λ q t at. at) events.state)
     (λ packets b. ends_then (Polls s) (SameCore packets.state) (reap_all packets.state) (poll_puts packets.count events.reset) (reaps_all packets.state)
     (λ t c. ends_then (Polls s) (Kept CountsNone (start t)) (put_all t) (polled packets.count events.reset) (puts_all t)
-    (λ put d took posted reset. (d posted).1 ∙ (c ∙ ((b took).1 ∙ (a reset).1))))))
+    (λ put d took posted reset. core_then s events.state put.state (a reset).1
+    (core_then events.state packets.state put.state (b took).1 (core_then packets.state t put.state c (d posted).1))))))
 
 none : (n : ℕ) (b : Bool) → (nat_lt 0 n || b) ≡ false → (n ≡ 0) × (b ≡ false)
 none = grind (arith, nat_tests, common_steps)

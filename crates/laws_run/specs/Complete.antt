@@ -1,10 +1,12 @@
 -- A complete run: what more the report of a run that is at rest says, and the streams of its host.
-use Rattle.std.specs.{List.filter_map, Prelude.{◌≡◌, ℕ, ◌+◌, ◌<◌, ◌≤◌, true, if◌then◌else◌, List, length, Option, Some, None}}
+use Rattle.std.specs.{List.filter_map, Prelude.{◌≡◌, ℕ, ◌+◌, ◌<◌, ◌≤◌, ◌⊎◌, true, if◌then◌else◌, List, length, slice_get, Option, Some, None}}
 use Rattle.vs_flow.specs.{Connection.Connection, declared.flow.Flow.Flow}
 use Rattle.vs_outside.specs.{Host.HostContents, Host.Stream, HostBytes.host_read, HostBytes.host_wrote}
 use Rattle.laws_device.specs.Streams.{has_open_stream, is_open_in}
 use Rattle.laws_driver_bytes.specs.Calls.{Journal, received_by}
-use Rattle.vs_apps_parts.specs.{Journals.calls_of, Journals.sent_as, Scripts.RunScript, declared.{journal.Entry.Entry, journal.WaitsFor.WaitsFor, progress.AppState.AppState}}
+use Rattle.vs_apps_parts.specs.{Journals.calls_of, Journals.sent_as, Scripts.RunScript, Scripts.acts_of, declared.{journal.Entry.Entry, journal.WaitsFor.WaitsFor, progress.AppState.AppState}}
+use Rattle.vs_apps_parts.specs.declared.progress.Progress.{Progress}
+use Rattle.vs_script.specs.{App.Act, App.Exchange, Data.Content, Data.size_of}
 use Rattle.vs_apps_parts.specs.declared.journal.WaitsFor.TheVariants as waits
 use Rattle.laws_run.specs.Dry.{AreDry, AreFull}
 use Rattle.vs_report.specs.declared.giving.Totals.{Totals}
@@ -33,16 +35,23 @@ abbrev pub LacksCredit : (ℕ → Connection) → Journal → HostContents → O
 LacksCredit opened journal h conn =
     (id : ℕ) × IsAtOpen opened h conn id × (32769 + length (host_read (opened id) h) ≤ length (sent_as id journal)) × AreFull (opened id).flow h
 
--- What is so of each wait, where the app is at this connection. None waits for a connection to open.
+-- What is so of each wait, where the app is at this connection. None waits for a connection to open, or for a page.
 abbrev pub IsCompleteWait : (ℕ → Connection) → Journal → HostContents → Option ℕ → WaitsFor → Type 0
 IsCompleteWait opened journal h conn waits.Empty = LacksBytes opened journal h conn
 IsCompleteWait opened journal h conn (waits.NoCredit tx alloc fwd) = LacksCredit opened journal h conn
 IsCompleteWait opened journal h conn waits.NotOpen = ⊥
+IsCompleteWait opened journal h conn (waits.NoDescriptor in_flight) = ⊥
 IsCompleteWait opened journal h conn why = Unit {0}
 
 abbrev pub IsCompleteEnding : (ℕ → Connection) → Journal → HostContents → Option ℕ → Ending → Type 0
 IsCompleteEnding opened journal h conn (ending.Waited why at) = IsCompleteWait opened journal h conn why
 IsCompleteEnding opened journal h conn e = Unit {0}
+
+-- An app that waits for bytes in an exchange sent all that the exchange sends; or it lacks credit too.
+abbrev pub IsCompleteExchange : (ℕ → Connection) → Journal → HostContents → List Act → Progress → Ending → Type 0
+IsCompleteExchange opened journal h acts p (ending.Waited waits.Empty at) =
+    (c : Content) → slice_get acts p.at ≡ Some (Exchange c) → (size_of c ≤ p.sent) ⊎ LacksCredit opened journal h p.conn
+IsCompleteExchange opened journal h acts p e = Unit {0}
 
 -- Both tables have as many entries as there are streams with a label that the proxy hasn't closed; and so each wait.
 pub record IsCompleteRun (script : RunScript) (apps : List AppState) (entries : List Entry) (bytes : List ℕ) (t : Totals) (opened : ℕ → Connection)
@@ -51,3 +60,5 @@ pub record IsCompleteRun (script : RunScript) (apps : List AppState) (entries : 
   pub device_open : t.device_open ≡ length (open_labels h)
   pub waits : (k : ℕ) → k < length script
       → IsCompleteEnding opened (calls_of script bytes entries) h (state_at k apps).progress.conn (ended_at script apps entries k)
+  pub exchanges : (k : ℕ) → k < length script
+      → IsCompleteExchange opened (calls_of script bytes entries) h (acts_of k script) (state_at k apps).progress (ended_at script apps entries k)

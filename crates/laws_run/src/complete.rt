@@ -1,6 +1,6 @@
 //! A law of complete runs.
 
-ghost use Rattle.std.specs.Prelude.{◌≡◌, ◌≤◌, ℕ, List, Some, false, length};
+ghost use Rattle.std.specs.Prelude.{◌≡◌, ◌<◌, ◌≤◌, ℕ, List, Some, false, length};
 ghost use Rattle.vs_flow.specs.Connection.{Connection};
 ghost use Rattle.vs_limits.specs.declared.TheConstants.{FIRST_CID};
 ghost use Rattle.vs_outside.specs.{Faults.one_more, Host.HostContents};
@@ -20,14 +20,15 @@ ghost use Rattle.laws_run.specs.{Complete.IsCompleteRun, Dry.AreIdle};
 /// What is reported of a run that is at rest is right, and the run is complete, where each app's last step moved nothing, one after another, and the
 /// poll after them moved nothing either: an app that waits for bytes received all that the host's program wrote on its connection and the proxy took;
 /// one that waits for bytes or for credit is on a connection whose stream is open, which in the latter case takes nothing now, and of what was sent there
-/// the host's program has more than half of the buffer space still to read; none waits for a connection to open; and both tables have as many entries as
+/// the host's program has more than half of the buffer space still to read; none waits for a connection to open, or for a page, where a page could be put at first; and both tables have as many entries as
 /// there are streams with a label that the proxy hasn't closed.
 pub fn law_of_complete_runs()
     ensures { (script : RunScript) (driver : DriverState) (end : Sight) (apps : List AppState) (entries : List Entry) (bytes : List ℕ)
         (p : ProxyState) (e : DeviceSight) (h : HostContents) (faults : ℕ)
         → IsRunOf FIRST_CID script (run_with driver (driver_contents end) apps entries bytes) → IsSettled driver end p e
         → IsSteady p (situation (device_contents e) (Some h) faults)
-        → (old stood : Run) → AllStand script (length script) old stood → apps ≡ stood.apps → entries ≡ stood.entries
+        → (old stood : Run) → AllStand script (length script) old stood → old.driver.in_flight < old.driver.size → apps ≡ stood.apps
+        → entries ≡ stood.entries
         → (polled : Polled) (told past : Run) → told.driver ≡ stood.driver → PollsTo polled told past → poll_moved polled ≡ false → driver ≡ past.driver
         → IsProxyStreamed FIRST_CID p (situation (device_contents e) (Some h) faults)
         → AreIdle p.device.table (Some h)

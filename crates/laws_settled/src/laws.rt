@@ -18,7 +18,7 @@ ghost use Rattle.laws_settled.specs.{Begun.DropsNone, Begun.IsBegun, Begun.Start
 ghost use Rattle.laws_settled.specs.Settled.{AreOver, IsSettled, IsSteady, LacksPages};
 
 /// A new proxy under the first CID of shared rings is steady, with rings on which nothing passed, and each turn leaves it so: no reset is made,
-/// and all its packets come from the host.
+/// all its packets come from the host, and it holds of each connection just the bytes that its end counts as unread.
 pub fn law_of_steady_turns()
     ensures new { (base : List ℕ) (a : Situation) (l : EndLog) → a.ring.log ≡ Some l → l.entries ≡ [] → l.held ≡ []
         → IsSteady (new_proxy FIRST_CID base) a }

@@ -40,7 +40,7 @@ module _ (script : RunScript) (start : Start) (g : GuestsState) (s : SideState) 
   right_of run rest last idle steady begun unlabelled h there =
       let told = complete_report script g.driver g.end g.apps g.entries g.bytes s.proxy s.ring h s.faults run rest
       (subst (λ (o : Option HostContents). IsSteady s.proxy (situation (device_contents s.ring) o s.faults)) there steady) (run_in last.first) (stood last)
-      last.steps (same_apps last) (same_entries last) last.polled (run_in (record last.stood { end = after_hearing last.heard last.stood.end }))
+      last.steps last.room (same_apps last) (same_entries last) last.polled (run_in (record last.stood { end = after_hearing last.heard last.stood.end }))
       (run_in last.past) refl last.polls last.still (ap (λ (x : GuestsState). x.driver) last.ends)
       (λ honest l is plain k shown. begun.streamed unlabelled honest l is plain k (there ∙ shown))
       (subst (λ (o : Option HostContents). AreIdle s.proxy.device.table o) there idle) in (

@@ -180,17 +180,26 @@ rx_flown d s ring took =
     let flight : length s.rx.put + length s.rx.staged - length s.rx.got ≡ s.size = ap (λ (c : Counts). c.rx) ring.flight in
     omega (arith, took, staged, flight)
 
+-- Where no transmit page is in flight one may be put.
+pub has_room : (d : DriverState) (s : Sight) (flying : ℕ) → IsRingOf s.size (flight_of s) (staged_of s) d → 0 < s.size → flying ≡ (flight_of s).tx
+    → nat_lt 0 flying ≡ false → d.in_flight < d.size
+has_room d s flying ring some flight none =
+    let flown : (flight_of s).tx ≡ d.in_flight = ap (λ (c : Counts). c.tx) ring.flight in
+    let size = ring.size in
+    let zero : flying ≡ 0 = grind (arith, nat_tests, none) in omega (arith, flown, size, some, flight, zero)
+
 -- A round that moved nothing.
 pub makes_last : (script : RunScript) (g1 g2 g3 g4 g5 : GuestsState) (e1 e2 e3 e4 : DeviceSight) (was p : ProxyState) (now : ℕ) (a b : Option HostContents)
-    (m n : ℕ) (x y : Past) (polled : Polled) → AllStand script (length script) (run_in g1) (run_in g2)
+    (m n : ℕ) (x y : Past) (polled : Polled) → AllStand script (length script) (run_in g1) (run_in g2) → g1.driver.in_flight < g1.driver.size
     → length g2.end.rx.put ≡ length g2.end.rx.got + g2.end.size
     → g3 ≡ record g2 { end = after_hearing x g2.end } → e2 ≡ record e1 { sight = after_hearing (what_it_did g2.end) e1.sight }
     → Runs (turn_of e2.sight.size now was) (situation (device_contents e2) a m) (p, turn.Turned no_turn) (situation (device_contents e3) b n)
     → AreOneTable g3.end e3.sight → g4 ≡ record g3 { end = after_hearing (what_it_did e3.sight) g3.end }
     → e4 ≡ record e3 { sight = after_hearing y e3.sight } → PollsTo polled (run_in g4) (run_in g5) → poll_moved polled ≡ false
     → LastRound script g5 p e4 b n
-makes_last script g1 g2 g3 g4 g5 e1 e2 e3 e4 was p now a b m n x y polled steps flown g3_is e2_is turns fits g4_is e4_is polls still = record {
+makes_last script g1 g2 g3 g4 g5 e1 e2 e3 e4 was p now a b m n x y polled steps room flown g3_is e2_is turns fits g4_is e4_is polls still = record {
   first = g1;
+  room = room;
   stood = g2;
   steps = steps;
   flown = flown;
@@ -218,6 +227,7 @@ pub last_stays : (script : RunScript) (g h : GuestsState) (p : ProxyState) (d e 
     → LastRound script g p d host faults → h ≡ record g { end = after_hearing past g.end } → IsSameEnd d e → LastRound script h p e host faults
 last_stays script g h p d e host faults past last is same = record {
   first = last.first;
+  room = last.room;
   stood = last.stood;
   steps = last.steps;
   flown = last.flown;

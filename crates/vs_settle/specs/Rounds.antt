@@ -1,5 +1,5 @@
 -- The last round of a run that settles: each app's step, the device's turn and the driver's poll moved nothing.
-use Rattle.std.specs.Prelude.{◌≡◌, ◌≤◌, ◌+◌, ◌||◌, nat_lt, ℕ, Bool, true, false, length, Option}
+use Rattle.std.specs.Prelude.{◌≡◌, ◌≤◌, ◌<◌, ◌+◌, ◌||◌, nat_lt, ℕ, Bool, true, false, length, Option}
 use Rattle.vs_outside.specs.Host.{HostContents}
 use Rattle.vs_ring_port.specs.{Chains.held_of, declared.queue.Queue.TheVariants.Rx}
 use Rattle.vs_ring_rule.specs.declared.view.Past.{Past}
@@ -30,8 +30,9 @@ pub record IsSameEnd (old new : DeviceSight) : Type 0 where
 
 pub record LastRound (script : RunScript) (g : GuestsState) (p : ProxyState) (e : DeviceSight) (host : Option HostContents) (faults : ℕ)
     : Type 0 where
-  -- A step of each app. After it all receive pages of the driver are in flight.
+  -- A step of each app; a page could be put when it began. After it all receive pages of the driver are in flight.
   pub first : GuestsState
+  pub room : first.driver.in_flight < first.driver.size
   pub stood : GuestsState
   pub steps : AllStand script (length script) (run_in first) (run_in stood)
   pub flown : length stood.end.rx.put ≡ length stood.end.rx.got + stood.end.size

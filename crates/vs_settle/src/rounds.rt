@@ -106,7 +106,7 @@ pub fn turn<N: RunName, H: HostNet>(
     has_turned(turned)
 }
 
-/// A round. Answers whether it moved anything.
+/// A round. Answers whether it moved anything, or began with a transmit page in flight.
 ///
 /// The only error is want of memory.
 pub(crate) fn round<N: RunName, H: HostNet>(
@@ -125,11 +125,14 @@ pub(crate) fn round<N: RunName, H: HostNet>(
     ensures last { IfOk result (λ moved. moved ≡ false → LastRound N.script guests.new proxy.new ring.new (H.contents host.new) (H.faults host.new)) }
 {
     guests.note(ring);
+    let in_flight = guests.in_flight();
+    laws_of_guests(guests);
     let stepped = step_all(guests)?;
     laws_of_guests(guests);
     guests.note(ring);
     let turned = turn(proxy, ring, host, now);
     guests.note(ring);
     let polled = guests.poll();
-    Ok(any(stepped, turned, has_polled(polled)))
+    let moved = any(stepped, turned, has_polled(polled));
+    Ok(any(in_flight > 0, moved, false))
 }

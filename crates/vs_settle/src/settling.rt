@@ -98,8 +98,8 @@ fn last_round<N: RunName, H: HostNet>(
     Ok(None)
 }
 
-/// Rounds of the apps, the device and the driver, until one moved nothing: a step of each app, a turn, and a poll, where each end is told of what
-/// the other did between them. Then each app is done or waited in its last step, no packet is in a ring, nothing is owed at either end, and both
+/// Rounds of the apps, the device and the driver, until one moved nothing that began with no transmit page in flight: a step of each app, a turn, and a
+/// poll, where each end is told of what the other did between them. Then each app is done or waited in its last step, no packet is in a ring, nothing is owed at either end, and both
 /// tables hold the same connections, each Live at both ends. Answers how many packets and events each end put and got, modulo 2^64. It runs
 /// on while something moves.
 ///

@@ -1,7 +1,7 @@
-use Rattle.std.proofs.Common.{◌||◌, ap, sym, ◌∙◌}
+use Rattle.std.proofs.Common.{◌||◌, nat_lt, false, ap, sym, ◌∙◌}
 use Rattle.vs_ring_port.specs.declared.queue.Queue.TheVariants.{Rx}
 use Rattle.vs_ring_shared.specs.{Meetings.what_it_did, Sights.DeviceSight}
-use Rattle.vs_settle.proofs.Rounding.{its_ring, makes_last, neither, rx_flown, stays_hears, steady_hears}
+use Rattle.vs_settle.proofs.Rounding.{has_room, its_ring, makes_last, neither, rx_flown, stays_hears, steady_hears}
 use Rattle.vs_settle.proofs.rounds.round.Goals as goal
 
 pub turn-turned-requires-clause-ring : goal.turn-turned-requires-clause-ring
@@ -37,13 +37,17 @@ returns-clause-begun g c = λ start was.
 
 pub returns-clause-last : goal.returns-clause-last
 returns-clause-last g c = λ is.
-    let first = neither c.in_ok-stepped.stepped (c.turn-turned.result || c.has_polled.result) (sym c.any.ensures ∙ is) in
+    let flew = neither (nat_lt 0 c.in_flight-in_flight.result) (c.any-moved.result || false) (sym c.any.ensures ∙ is) in
+    let moved = (neither c.any-moved.result false flew.1).0 in
+    let first = neither c.in_ok-stepped.stepped (c.turn-turned.result || c.has_polled.result) (sym c.any-moved.ensures ∙ moved) in
     let rest = neither c.turn-turned.result c.has_polled.result first.1 in
     let guests = c.step_all.new.guests in
     makes_last g.N.RunName.script c.note.new.self guests c.note-2.new.self c.note-3.new.self c.poll-polled.new.self c.note.new.device c.note-2.new.device
     c.turn-turned.new.ring c.note-3.new.device c.args.proxy.now c.turn-turned.new.proxy c.args.now (g.H.HostNet.contents c.args.host.now)
     (g.H.HostNet.contents c.turn-turned.new.host) (g.H.HostNet.faults c.args.host.now) (g.H.HostNet.faults c.turn-turned.new.host)
     (what_it_did c.note.new.device.sight) (what_it_did c.note-2.new.self.end) c.poll-polled.result (c.in_ok-stepped.ensures first.0)
-    (rx_flown guests.driver guests.end c.laws_of_guests.ensures.ring (c.laws_of_guests.ensures.taken Rx)) c.note-2.ensures.driver
+    (has_room c.note.new.self.driver c.note.new.self.end c.in_flight-in_flight.result c.laws_of_guests.ensures.ring c.laws_of_guests.ensures.size
+    c.in_flight-in_flight.ensures flew.0)
+    (rx_flown guests.driver guests.end c.laws_of_guests-2.ensures.ring (c.laws_of_guests-2.ensures.taken Rx)) c.note-2.ensures.driver
     c.note-2.ensures.device (c.turn-turned.ensures.runs rest.0) c.note-3.ensures.fits c.note-3.ensures.driver c.note-3.ensures.device c.poll-polled.ensures
     (sym c.has_polled.ensures ∙ rest.1)
