@@ -3,19 +3,21 @@ ghost use Rattle.std.specs.Prelude.{◌≡◌};
 
 use crate::moves::Moves;
 use std::cell::Cell;
+use std::hint::spin_loop;
 use std::marker::Model;
 use std::thread;
 use std::time::{Clock, Duration};
 use vs_outside::Gate;
 
-/// So many pauses in a row give up the processor at once, for a microsecond, which is as short as the system's clock allows.
-const SHORT_PAUSES: u32 = 16;
+/// So many pauses in a row end at once: the other side is mostly a few microseconds away, and the system's clock wakes no sleeper so soon.
+const SHORT_PAUSES: u32 = 64;
 
-/// So many pauses behind them take twice as long each as the one before. Those after them take a millisecond.
+/// So many pauses behind them sleep, the first for a microsecond, each for twice as long as the one before. Those after them take a
+/// millisecond.
 const LONGER_PAUSES: u32 = 10;
 
-/// A gate that holds nothing up, for one thread. A step that moved nothing lets another thread run, and the thread sleeps the longer the more
-/// of these are in a row, so that one that waits for long takes next to no processor time.
+/// A gate that holds nothing up, for one thread. A step that moved nothing is made again soon, and the thread sleeps the longer the more of
+/// these are in a row, so that one that waits for long takes next to no processor time.
 ///
 /// Pauses are in a row unless something moved between two of them: the gate was told of a second step or turn there, or bytes moved on the
 /// streams of the host beside it.
@@ -103,14 +105,16 @@ impl<R: Clock> Gate for BackoffGate<R> {
         if self.has_moved() {
             self.row = 0;
         }
-        thread::sleep(&self.rt, rest_behind(self.row));
+        match self.row.checked_sub(SHORT_PAUSES) {
+            Some(longer) => thread::sleep(&self.rt, rest_behind(longer)),
+            None => spin_loop(),
+        }
         self.row = self.row.saturating_add(1);
     }
 }
 
-// How long a pause is behind so many in a row.
-fn rest_behind(row: u32) -> Duration {
-    let longer = row.saturating_sub(SHORT_PAUSES);
+// How long a pause sleeps behind so many that slept.
+fn rest_behind(longer: u32) -> Duration {
     if longer < LONGER_PAUSES {
         Duration::from_micros(1u64 << longer)
     } else {
