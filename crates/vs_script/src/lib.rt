@@ -10,8 +10,8 @@
 //! DATA      -, or 2 to 4,096 hex digits of either case, an even number of them, or fill N S: N bytes (0 to 65,536, in apps
 //!           0 to 1,000,000), byte i being (S + 7i + i/251) mod 256, S from 0 to 255
 //!
-//! play      connect PORT, listen PORT, unlisten PORT, accept PORT, send C DATA, recv C N (1 to 65,536), shutdown C B, close C,
-//!           state C, poll, and the lines that follow
+//! play      connect PORT, listen PORT, unlisten PORT, accept PORT, send C DATA, recv C N (1 to 65,536), shutdown C B,
+//!           grow C N (1 to 1,000,000), close C, state C, poll, and the lines that follow
 //!           turn, reset CID (3 to 4,294,967,294), tick MS (0 to 1,000,000), client, host listen PORT, host unlisten PORT,
 //!           host write H DATA, host allow H N (0 to 1,000,000), host end H, host closed H, host fail N (1 to 1,000)
 //!
