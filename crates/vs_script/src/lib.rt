@@ -16,7 +16,7 @@
 //!           host write H DATA, host allow H N (0 to 1,000,000), host end H, host closed H, host fail N (1 to 1,000)
 //!
 //! run       app, and behind it the instructions of the app: connect PORT, listen PORT, accept PORT, send DATA,
-//!           recv N (1 to 1,000,000), drain, exchange DATA, shutdown B, close
+//!           recv N (1 to 1,000,000), drain, exchange DATA, shutdown B, grow N (1 to 1,000,000), close
 //!
 //! hostile   memory BASE SIZE (a multiple of 16 up to 2^62; 4,096 to 1,048,576), then rings N (8 to 256, a power of two; they
 //!           lie in the memory), then write ADDR DATA, desc Q I ADDR LEN FLAGS NEXT, give Q PLACE HEAD, index Q V,

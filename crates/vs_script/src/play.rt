@@ -13,8 +13,8 @@ use std::alloc::Global;
 /// The most bytes that one `recv` of a play asks for.
 const MAX_RECV: u32 = 65_536;
 
-/// The most that one `grow` of a play asks for.
-const MAX_GROW: u32 = 1_000_000;
+/// The most that one `grow` asks for.
+pub(crate) const MAX_GROW: u32 = 1_000_000;
 
 /// An event line of a play.
 #[derive(Drop)]
