@@ -1,11 +1,11 @@
 -- What raising a buffer space leaves of the connection, and of all others.
 use Rattle.std.proofs.Common.{◌≡◌, ℕ, ◌&&◌, not, nat_lt, true, Some, refl, sym, ap, subst, ◌∙◌}
-use Rattle.vs_conn.specs.{End.grown, Shut.is_both}
+use Rattle.vs_conn.specs.{End.ConnectionEnd, End.grown, End.owes_of, End.view_of, Shut.is_both, declared.end.EndView.EndView}
 use Rattle.vs_flow.specs.Table.{IsTable}
 use Rattle.vs_driver_parts.specs.State.{DriverConnection, DriverEntry, DriverState, entry_known_as}
-use Rattle.vs_driver_parts.specs.Connections.{after_grow, entry_grow_answer, grow_of, grown_by, unread_of_id, with_connection, with_end}
+use Rattle.vs_driver_parts.specs.Connections.{after_grow, entry_grow_answer, grow_answer, grow_of, grown_by, unread_of_id, with_connection}
 use Rattle.vs_driver_parts.specs.declared.answers.Grown.{Grown}
-use Rattle.vs_driver_parts.proofs.{Growing.{may_grow, owes_update}, Known.{after_grow_known, grow_known, unread_known}}
+use Rattle.vs_driver_parts.proofs.{Growing.{MayGrow, may_grow, owes_update}, Known.{after_grow_known, grow_known, unread_known}}
 use Rattle.vs_driver.specs.Pipes.{IfGrown, KeepsOthers, UnlessGrown, owed_by, rises}
 use Rattle.vs_driver.proofs.Pipes.{keeps_others, known_after, unread_after}
 use Rattle.vs_conn.specs.declared.end.Owed.TheVariants as owed
@@ -49,11 +49,19 @@ module _ (id : ℕ) (s : DriverState) (e : DriverEntry) (sound : IsTable s.table
       by rise.Done = unread_after id s e sound known raised refl refl ∙ sym (unread_known id s e known)
       by _ = refl
 
+  raised_owes : owed_by id (with_connection e.slot raised s) ≡ owes_of (grown e.value.end alloc)
+  raised_owes = rw (known_after id s e sound known raised refl refl, owed_by) refl
+
   pub known_told : Tells id alloc s (grow_of id alloc s) (after_grow id alloc s)
   known_told = rw (grow_known id s e known alloc, after_grow_known id s e known alloc) (by (entry_grow_answer alloc e) refl)
     where
       by : (a : Grown) → entry_grow_answer alloc e ≡ a → Tells id alloc s a (grown_by a alloc e s)
       by rise.Done done = λ higher.
           let test : (nat_lt e.value.end.credit.alloc alloc && not (is_both e.value.end.told)) ≡ true = rw (known, rises) at higher in
-          rw (known_after id s e sound known raised refl refl, owed_by) (owes_update e.value.end alloc (may_grow e.value.end alloc done) test)
+          raised_owes ∙ owes_update e.value.end alloc (may_grow e.value.end alloc done) test
       by _ done = tt
+
+-- What the end's answer says where it is Done.
+pub may_by : (x : ConnectionEnd) (alloc : ℕ) (end : EndView) (a : Grown) → end ≡ view_of x
+    → ((e : ConnectionEnd) → end ≡ view_of e → a ≡ grow_answer e.state alloc e) → a ≡ rise.Done → MayGrow x alloc
+may_by x alloc end a is answers done = may_grow x alloc (sym (answers x is) ∙ done)

@@ -4,7 +4,7 @@ ghost use Rattle.std.specs.Prelude.{◌≡◌, ℕ, true, Some};
 ghost use Rattle.vs_conn.specs.{End.ConnectionEnd, End.view_of, declared.end.Owed.TheVariants.CreditUpdate};
 ghost use Rattle.vs_flow.specs.Table.{entry_under};
 ghost use Rattle.vs_driver_parts.specs.State.{DriverEntry};
-ghost use Rattle.vs_driver_parts.specs.Connections.{after_grow, entry_grow_answer, grow_answer, grow_of, grown_by, unread_of_id};
+ghost use Rattle.vs_driver_parts.specs.Connections.{after_grow, entry_grow_answer, grow_answer, grow_of, grown_by, live_grow_answer, unread_of_id};
 ghost use Rattle.vs_driver.specs.Pipes.{IfGrown, KeepsOthers, UnlessGrown, owed_by, rises};
 ghost use Rattle.vs_ring_port.specs.Contents.{RingContents};
 ghost use Rattle.laws_driver.specs.Honest.{IsHonestWith};
@@ -60,14 +60,24 @@ impl Driver {
 fn grow_answer(end: EndView, alloc: u32) -> Grown
     ensures { (e : ConnectionEnd) → end ≡ view_of e → result ≡ grow_answer e.state alloc e }
 {
-    let now = end.credit.alloc;
     match end.state {
         State::Asked | State::Answering => Grown::NotOpen,
+        State::Live => live_answer(end.credit.alloc, alloc),
         State::Ended => Grown::Reset,
-        State::Live if alloc > BUF_ALLOC_MAX => Grown::TooBig {
+    }
+}
+
+// The same of an end that is open, whose buffer space is `now` bytes.
+fn live_answer(now: u32, alloc: u32) -> Grown
+    ensures { (e : ConnectionEnd) → e.credit.alloc ≡ now → result ≡ live_grow_answer alloc e }
+{
+    if alloc > BUF_ALLOC_MAX {
+        Grown::TooBig {
             most: BUF_ALLOC_MAX,
-        },
-        State::Live if alloc < now => Grown::Shrinks { now },
-        State::Live => Grown::Done,
+        }
+    } else if alloc < now {
+        Grown::Shrinks { now }
+    } else {
+        Grown::Done
     }
 }
