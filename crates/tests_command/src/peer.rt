@@ -1,11 +1,11 @@
-//! The client of the mapping over a host in memory: what comes back, and calls that fail.
+//! The client of the mapping over a host in memory: what comes back.
 
 use crate::client::client;
 use std::alloc::{AllocError, AllocGlobal, Global};
 use std::sync::Wait;
 use std::test::Fail;
 use vs_outside::{FreeGate, MemSink, MemSource, PeerHost, PreparedStream};
-use vs_peer::{BAD_SOURCE, DONE, HOST_FAULT, READ_FAULT, REFUSED, SINK_FAULT, SOURCE_MAX, WAITED};
+use vs_peer::{BAD_SOURCE, DONE, REFUSED, SOURCE_MAX, WAITED};
 
 const IDLE: u32 = 3;
 
@@ -23,11 +23,9 @@ fn prepared(alloc: Global, bytes: &[u8], ended: bool) -> Result<PreparedStream, 
 fn run<R: AllocGlobal + Wait>(
     rt: &R,
     host: &mut PeerHost,
-    sink_fails: u64,
 ) -> Result<(u8, MemSink, u64), AllocError> {
     let mut source = MemSource::new(rt.alloc(), Vec::from_slice(rt.alloc(), b"yo")?, 1);
     let mut sink = MemSink::new(rt.alloc(), 1);
-    sink.fail(sink_fails)?;
     let mut gate = FreeGate::new();
     let status = client(rt, "v.sock", IDLE, &mut source, host, &mut gate, &mut sink);
     Ok((status, sink, gate.pauses()))
@@ -42,7 +40,7 @@ fn ends<R: AllocGlobal + Wait>(
     given: &[u8],
 ) -> Result<bool, AllocError> {
     let mut host = PeerHost::new(rt.alloc(), "v.sock", prepared)?;
-    let (ended, sink, pauses) = run(rt, &mut host, 0)?;
+    let (ended, sink, pauses) = run(rt, &mut host)?;
     let mut right = ended == status && sink.bytes() == written;
     right = right && (status != WAITED || pauses == u64::from(IDLE));
     for stream in host.host().streams() {
@@ -95,56 +93,6 @@ fn bytes_without_an_end_are_waited_for(rt: HostRuntime) -> Result<(), Fail> {
     Ok(())
 }
 
-/// A client that is answered and done, where a call of the host fails, or of the sink; none, where that is 0.
-fn failing<R: AllocGlobal + Wait>(
-    rt: &R,
-    host_fails: u64,
-    sink_fails: u64,
-) -> Result<(u8, MemSink), AllocError> {
-    let stream = prepared(rt.alloc(), b"OK 1073741824\nhi", true)?;
-    let mut host = PeerHost::new(rt.alloc(), "v.sock", stream)?;
-    host.fail(host_fails)?;
-    let (status, sink, _) = run(rt, &mut host, sink_fails)?;
-    Ok((status, sink))
-}
-
-/// How many of the first calls of the host, each failed by itself, end the client as such.
-fn failed_host_calls<R: AllocGlobal + Wait>(rt: &R, calls: u64) -> Result<u8, AllocError> {
-    let mut failed = 0u8;
-    for n in 1..calls {
-        let (status, sink) = failing(rt, n, 0)?;
-        if status == HOST_FAULT && sink.bytes().ends_with(b"host fault\n") {
-            failed = failed.saturating_add(1);
-        }
-    }
-    Ok(failed)
-}
-
-#[test]
-fn each_call_of_the_host_fails_once(rt: HostRuntime) -> Result<(), Fail> {
-    assert!(rt; failed_host_calls(&rt, 40)? == 19);
-    Ok(())
-}
-
-/// How many of the first calls of the sink, each failed by itself, end the client as such, with less than it has to write.
-fn failed_writes<R: AllocGlobal + Wait>(rt: &R, calls: u64) -> Result<u8, AllocError> {
-    let whole = b"port 1073741824\nhi";
-    let mut failed = 0u8;
-    for n in 1..calls {
-        let (status, sink) = failing(rt, 0, n)?;
-        if status == SINK_FAULT && whole.starts_with(sink.bytes()) && sink.bytes().len() < 18 {
-            failed = failed.saturating_add(1);
-        }
-    }
-    Ok(failed)
-}
-
-#[test]
-fn each_call_of_the_sink_fails_once(rt: HostRuntime) -> Result<(), Fail> {
-    assert!(rt; failed_writes(&rt, 40)? == 18);
-    Ok(())
-}
-
 /// Whether a client with this source ends with that status and text, at a host where nobody listens.
 fn ends_at<R: AllocGlobal + Wait>(
     rt: &R,
@@ -165,14 +113,6 @@ fn ends_at<R: AllocGlobal + Wait>(
         &mut sink,
     );
     Ok(ended == status && sink.bytes() == written)
-}
-
-#[test]
-fn a_source_fails(rt: HostRuntime) -> Result<(), Fail> {
-    let mut source = MemSource::new(rt.alloc(), Vec::new(rt.alloc()), 1);
-    source.fail(1)?;
-    assert!(rt; ends_at(&rt, source, READ_FAULT, b"read fault\n")?);
-    Ok(())
 }
 
 #[test]

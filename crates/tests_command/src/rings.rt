@@ -81,7 +81,6 @@ fn twenty_thousand_lines_over_eight_shared_pages(rt: HostRuntime) -> Result<(), 
         "vsock play --rings shared --queue 8",
         script.as_str(),
         4_096,
-        (0, 0),
     )?;
     assert!(rt;
         status == 0

@@ -1,11 +1,10 @@
-//! Words, statuses, and sources and sinks that fail.
+//! Words and statuses.
 
-use crate::running::{COUNTED, HOSTILE_COUNTED, ends, played, run};
+use crate::running::{COUNTED, HOSTILE_COUNTED, ends};
 use std::alloc::{AllocError, AllocGlobal};
 use std::sync::Wait;
 use std::test::Fail;
 use std::thread::Threads;
-use vs_outside::{MemSink, MemSource, PeerHost, PreparedStream};
 
 const NONE: &str = "guest open 0\ndevice open 0\n";
 
@@ -20,42 +19,13 @@ const HOSTILE: &str = "memory 4096 65536\nrings 8\nindex tx 9\nturn\nturn\n";
 const HOSTILE_PRINTED: &str = "ok\nok\nok\nfailed AvailJump 0 9\nfailed AvailJump 0 9\n\
                                device open 0\n";
 
-/// How many of the first calls of the sink, each failed by itself, end the play of hello with status 4 and before its last line is printed.
-fn failed_writes<R: AllocGlobal + Wait + Threads + Sync>(
-    rt: &R,
-    calls: u64,
-) -> Result<u64, AllocError> {
-    let mut failed = 0u64;
-    for n in 1..calls {
-        let (status, sink) = played(rt, "vsock play", HELLO, 100, (0, n))?;
-        if status == 4 && HELLO_PRINTED.as_bytes().starts_with(sink.bytes()) {
-            failed = failed.saturating_add(1);
-        }
-    }
-    Ok(failed)
-}
-
-/// How many of the first calls of the source, each failed by itself, end the play of hello with status 3 and `read fault`.
-fn failed_reads<R: AllocGlobal + Wait + Threads + Sync>(
-    rt: &R,
-    calls: u64,
-) -> Result<u64, AllocError> {
-    let mut failed = 0u64;
-    for n in 1..calls {
-        if ends(rt, "vsock play", HELLO, 16, (n, 0), 3, ("read fault\n", ""))? {
-            failed = failed.saturating_add(1);
-        }
-    }
-    Ok(failed)
-}
-
 /// Whether each of these command lines is none.
 fn are_usage<R: AllocGlobal + Wait + Threads + Sync>(
     rt: &R,
     lines: &[&str],
 ) -> Result<bool, AllocError> {
     for line in lines {
-        if !ends(rt, line, HELLO, 100, (0, 0), 1, ("usage\n", ""))? {
+        if !ends(rt, line, HELLO, 100, 1, ("usage\n", ""))? {
             return Ok(false);
         }
     }
@@ -68,30 +38,11 @@ fn are_answered<R: AllocGlobal + Wait + Threads + Sync>(
     plays: &[(&str, &str, u8, &str, &str)],
 ) -> Result<bool, AllocError> {
     for (line, script, status, printed, last) in plays {
-        if !ends(rt, line, script, 100, (0, 0), *status, (printed, last))? {
+        if !ends(rt, line, script, 100, *status, (printed, last))? {
             return Ok(false);
         }
     }
     Ok(true)
-}
-
-/// What a client prints, and its status, whose stream gives these bytes.
-fn client<R: AllocGlobal + Wait + Threads + Sync>(
-    rt: &R,
-    line: &str,
-) -> Result<(u8, MemSink), AllocError> {
-    let alloc = rt.alloc();
-    let mut source = MemSource::new(alloc, Vec::from_slice(alloc, b"yo")?, 1);
-    let mut sink = MemSink::new(alloc, 1);
-    let stream = PreparedStream {
-        bytes: Vec::from_slice(alloc, b"OK 1073741824\nhi")?,
-        ended: true,
-        room: None,
-        closed: false,
-    };
-    let mut host = PeerHost::new(alloc, "v.sock", stream)?;
-    let status = run(rt, line, &mut source, &mut host, &mut sink)?;
-    Ok((status, sink))
 }
 
 #[test]
@@ -177,38 +128,6 @@ fn words_that_are_no_command_print_usage(rt: HostRuntime) -> Result<(), Fail> {
 
 #[test]
 fn pieces_of_one_byte_print_the_same(rt: HostRuntime) -> Result<(), Fail> {
-    assert!(rt;
-        ends(
-            &rt,
-            "vsock play",
-            HELLO,
-            1,
-            (0, 0),
-            0,
-            (HELLO_PRINTED, COUNTED)
-        )?
-    );
-    Ok(())
-}
-
-#[test]
-fn each_call_of_the_sink_fails_once(rt: HostRuntime) -> Result<(), Fail> {
-    assert_eq!(rt; failed_writes(&rt, 20)?, 11);
-    Ok(())
-}
-
-#[test]
-fn each_call_of_the_source_fails_once(rt: HostRuntime) -> Result<(), Fail> {
-    assert_eq!(rt; failed_reads(&rt, 20)?, 6);
-    Ok(())
-}
-
-#[test]
-fn a_client_is_answered(rt: HostRuntime) -> Result<(), Fail> {
-    let (status, sink) = client(&rt, "vsock peer --base v.sock --port 70 --idle 3")?;
-    assert_eq!(rt;
-        (status, sink.bytes()),
-        (0, b"port 1073741824\nhi".as_slice())
-    );
+    assert!(rt; ends(&rt, "vsock play", HELLO, 1, 0, (HELLO_PRINTED, COUNTED))?);
     Ok(())
 }

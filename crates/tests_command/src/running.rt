@@ -23,39 +23,35 @@ fn words_of(alloc: Global, line: &str) -> Result<Vec<String>, AllocError> {
     Ok(words)
 }
 
-/// The status of a command line over this source, host and sink.
-pub fn run<R: AllocGlobal + Wait + Threads + Sync>(
+/// The status of these words over this source, host and sink.
+fn run<R: AllocGlobal + Wait + Threads + Sync>(
     rt: &R,
-    line: &str,
+    words: &[String],
     source: &mut MemSource,
     host: &mut PeerHost,
     sink: &mut MemSink,
-) -> Result<u8, AllocError> {
-    let words = words_of(rt.alloc(), line)?;
+) -> u8 {
     let mut clock = StepClock::new();
     let mut gate = FreeGate::new();
     let gates = Vec::new(rt.alloc());
-    Ok(vsock_main(rt, &words, source, host, &mut clock, &mut gate, gates, sink))
+    vsock_main(rt, words, source, host, &mut clock, &mut gate, gates, sink)
 }
 
-/// The status of a command line's run of a script, in pieces of that size, and what it prints. The nth call of the source fails, and of the
-/// sink; none, where that is 0.
+/// The status of a command line's run of a script, in pieces of that size, and what it prints.
 pub fn played<R: AllocGlobal + Wait + Threads + Sync>(
     rt: &R,
     line: &str,
     script: &str,
     piece: usize,
-    fails: (u64, u64),
 ) -> Result<(u8, MemSink), AllocError>
     requires piece { 1 ≤ piece }
 {
     let alloc = rt.alloc();
+    let words = words_of(alloc, line)?;
     let mut source = MemSource::new(alloc, Vec::from_slice(alloc, script.as_bytes())?, piece);
     let mut sink = MemSink::new(alloc, piece);
-    source.fail(fails.0)?;
-    sink.fail(fails.1)?;
     let mut host = PeerHost::refusing(alloc, "v.sock")?;
-    let status = run(rt, line, &mut source, &mut host, &mut sink)?;
+    let status = run(rt, &words, &mut source, &mut host, &mut sink);
     Ok((status, sink))
 }
 
@@ -65,13 +61,12 @@ pub fn ends<R: AllocGlobal + Wait + Threads + Sync>(
     line: &str,
     script: &str,
     piece: usize,
-    fails: (u64, u64),
     status: u8,
     printed: (&str, &str),
 ) -> Result<bool, AllocError>
     requires piece { 1 ≤ piece }
 {
-    let (ended, sink) = played(rt, line, script, piece, fails)?;
+    let (ended, sink) = played(rt, line, script, piece)?;
     Ok(
         ended == status
             && sink.bytes().strip_suffix(printed.1.as_bytes()) == Some(printed.0.as_bytes()),
@@ -87,7 +82,7 @@ pub fn are_printed<R: AllocGlobal + Wait + Threads + Sync>(
 ) -> Result<bool, AllocError> {
     for line in lines {
         for (script, printed) in plays {
-            if !ends(rt, line, script, 100, (0, 0), 0, (printed, last))? {
+            if !ends(rt, line, script, 100, 0, (printed, last))? {
                 return Ok(false);
             }
         }

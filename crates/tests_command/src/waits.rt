@@ -25,7 +25,7 @@ fn ends_with<R: AllocGlobal + Wait + Threads + Sync>(
     last: &str,
 ) -> Result<bool, AllocError> {
     let script = script_of(rt.alloc(), texts)?;
-    let (status, sink) = played(rt, line, script.as_str(), 4_096, (0, 0))?;
+    let (status, sink) = played(rt, line, script.as_str(), 4_096)?;
     match sink.bytes().strip_suffix(COUNTED.as_bytes()) {
         Some(bytes) => Ok(status == 0 && bytes.ends_with(last.as_bytes())),
         None => Ok(false),
