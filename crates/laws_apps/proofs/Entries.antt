@@ -1,5 +1,5 @@
 -- What an entry more, a wait more and bytes more do to what a journal tells.
-use Rattle.std.proofs.Common.{◌≡◌, ℕ, zero, suc, ◌+◌, ◌≤◌, ◌==◌, Bool, true, false, cond, List, [], ◌∷◌, ◌++◌, length, take, drop, Option}
+use Rattle.std.proofs.Common.{◌≡◌, ℕ, zero, suc, ◌+◌, ◌<◌, ◌≤◌, ◌==◌, Bool, true, false, cond, List, [], ◌∷◌, ◌++◌, length, take, drop, Option}
 use Rattle.std.proofs.Common.{Some, None, refl, sym, ap, ◌∙◌, append_assoc, append-nil, slice_set, arith}
 use Rattle.std.proofs.lemmas.List.{take-append-le, drop-append-le, length-drop}
 use Rattle.std.specs.{Prelude.slice_get, Option.unwrap_or}
@@ -11,7 +11,7 @@ use Rattle.vs_apps_parts.specs.Journals.{made_as, made_by, made_by_app, made_of,
 use Rattle.vs_apps_parts.specs.{Scripts.RunScript, Scripts.slice_of, declared.journal.Called.Called, declared.journal.Deed.Deed}
 use Rattle.vs_apps_parts.specs.declared.journal.{Entry.Entry, WaitsFor.WaitsFor}
 use Rattle.vs_flow.specs.Connection.{Connection}
-use Rattle.laws_apps.specs.Accounts.{TellFlows}
+use Rattle.laws_apps.specs.{Accounts.TellFlows, Placed.AreOwned, Placed.IsOwned, Placed.NamesFlow}
 use Rattle.laws_apps.proofs.Opening.{flows_set, flows_snoc}
 use Rattle.vs_apps_parts.specs.declared.journal.Called.TheVariants as called
 use Rattle.vs_apps_parts.specs.declared.journal.Deed.TheVariants as deed
@@ -82,12 +82,25 @@ none_still : (b : Bool) (js : Journal) → js ≡ [] → cond b js [] ≡ []
 none_still true js none = none
 none_still false js none = refl
 
--- What each app's wait leaves: all calls, what stands in the journal's bytes, and the flows that are told.
-pub record SameCalls (script : RunScript) (bytes : List ℕ) (old new : List Entry) : Type 0 where
+-- What each app's wait leaves: all calls, what stands in the journal's bytes, the flows that are told, and whose each entry is.
+pub record SameCalls (script : RunScript) (bytes : List ℕ) (k : ℕ) (old new : List Entry) : Type 0 where
   pub calls : calls_of script bytes new ≡ calls_of script bytes old
   pub app : (j : ℕ) → calls_of_app j script bytes new ≡ calls_of_app j script bytes old
   pub stands : (n : ℕ) → AllStandIn n old → AllStandIn n new
   pub flows : (opened : ℕ → Connection) → TellFlows opened old → TellFlows opened new
+  pub owned : (n : ℕ) → k < n → AreOwned n old → AreOwned n new
+
+owned_snoc : (n : ℕ) (es : List Entry) (e : Entry) → AreOwned n es → IsOwned n e → AreOwned n (es ++ e ∷ [])
+owned_snoc n [] e are is = (is, tt)
+owned_snoc n (x ∷ es) e are is = (are.0, owned_snoc n es e are.1 is)
+
+owned_set : (n : ℕ) (new : Entry) (es : List Entry) (place : ℕ) → AreOwned n es → IsOwned n new → AreOwned n (slice_set es place new)
+owned_set n new [] place are is = tt
+owned_set n new (x ∷ es) zero are is = (is, are.1)
+owned_set n new (x ∷ es) (suc place) are is = (are.0, owned_set n new es place are.1 is)
+
+pub called_owned : (n : ℕ) (es : List Entry) (k : ℕ) (c : Called) → k < n → AreOwned n es → NamesFlow c → AreOwned n (es ++ entry_called k c ∷ [])
+called_owned n es k c less are names = owned_snoc n es (entry_called k c) are (record { app = less; flow = names })
 
 stand_snoc : (n : ℕ) (es : List Entry) (e : Entry) → AllStandIn n es → StandsIn n e → AllStandIn n (es ++ e ∷ [])
 stand_snoc n [] e are is = (is, tt)
@@ -111,42 +124,44 @@ more_stand n m less (e ∷ es) are = (by e.deed are.0, more_stand n m less es ar
     by (deed.Waited times why) stands = tt
 
 pub wait_same : (script : RunScript) (bytes : List ℕ) (k : ℕ) (why : WaitsFor) (last : Option ℕ) (es : List Entry)
-    → SameCalls script bytes es (wait_noted k why last es)
+    → SameCalls script bytes k es (wait_noted k why last es)
 wait_same script bytes k why last es = by (waited_before k last es) refl
   where
-    added : SameCalls script bytes es (es ++ entry_waited k 1 why ∷ [])
+    added : SameCalls script bytes k es (es ++ entry_waited k 1 why ∷ [])
     added = record {
       calls = gathered_snoc (made_by script bytes) es (entry_waited k 1 why);
       app = λ j. gathered_snoc (made_by_app j script bytes) es (entry_waited k 1 why)
           ∙ ap (λ (js : Journal). js ++ calls_of_app j script bytes es) (none_still (k == j) [] refl);
       stands = λ n are. stand_snoc n es (entry_waited k 1 why) are tt;
       flows = λ opened are. flows_snoc opened es (entry_waited k 1 why) are tt;
+      owned = λ n less are. owned_snoc n es (entry_waited k 1 why) are (record { app = less; flow = tt });
     }
 
     changed : (place times : ℕ) (e : Entry) → slice_get es place ≡ Some e → times_in k e ≡ Some times
-        → SameCalls script bytes es (slice_set es place (entry_waited k (one_more times) why))
+        → SameCalls script bytes k es (slice_set es place (entry_waited k (one_more times) why))
     changed place times e at is = record {
       calls = gathered_set (made_by script bytes) es place e (entry_waited k (one_more times) why) at (sym (wait_made script bytes k times e is));
       app = λ j. gathered_set (made_by_app j script bytes) es place e (entry_waited k (one_more times) why) at
           (none_still (k == j) [] refl ∙ sym (none_still (e.app == j) (made_by script bytes e) (wait_made script bytes k times e is)));
       stands = λ n are. stand_set n k (one_more times) why es place are;
       flows = λ opened are. flows_set opened k (one_more times) why es place are;
+      owned = λ n less are. owned_set n (entry_waited k (one_more times) why) es place are (record { app = less; flow = tt });
     }
 
-    at_place : (place times : ℕ) → times_at k place es ≡ Some times → SameCalls script bytes es (slice_set es place (entry_waited k (one_more times) why))
+    at_place : (place times : ℕ) → times_at k place es ≡ Some times → SameCalls script bytes k es (slice_set es place (entry_waited k (one_more times) why))
     at_place place times is = here (slice_get es place) refl is
       where
         here : (o : Option Entry) → slice_get es place ≡ o → elim o as (λ _. Option ℕ) [ None ↦ None | Some e ↦ times_in k e ] ≡ Some times
-            → SameCalls script bytes es (slice_set es place (entry_waited k (one_more times) why))
+            → SameCalls script bytes k es (slice_set es place (entry_waited k (one_more times) why))
         here None at is = absurd cc
         here (Some e) at is = changed place times e at is
 
     placed : (l : Option ℕ) (times : ℕ) → waited_before k l es ≡ Some times
-        → SameCalls script bytes es (slice_set es (unwrap_or l 0) (entry_waited k (one_more times) why))
+        → SameCalls script bytes k es (slice_set es (unwrap_or l 0) (entry_waited k (one_more times) why))
     placed None times is = absurd cc
     placed (Some place) times is = at_place place times is
 
-    by : (o : Option ℕ) → waited_before k last es ≡ o → SameCalls script bytes es (elim o as (λ _. List Entry) [
+    by : (o : Option ℕ) → waited_before k last es ≡ o → SameCalls script bytes k es (elim o as (λ _. List Entry) [
       | None ↦ es ++ entry_waited k 1 why ∷ []
       | Some times ↦ slice_set es (unwrap_or last 0) (entry_waited k (one_more times) why)
     ])

@@ -1,24 +1,32 @@
 -- A step of an app keeps what is true of a run.
-use Rattle.std.proofs.Common.{◌≡◌, ◌≢◌, ℕ, ◌<◌, ◌≤◌, ◌==◌, Bool, true, false, cond, List, [], ◌∷◌, ◌++◌, length, Option, Some, None, refl}
+use Rattle.std.proofs.Common.{◌≡◌, ◌≢◌, ◌⊎◌, inl, inr, ℕ, ◌<◌, ◌≤◌, ◌==◌, Bool, true, false, cond, List, [], ◌∷◌, ◌++◌, length, Option, Some, None, Result, Ok, Err, refl}
 use Rattle.std.proofs.Common.{sym, ap, subst, ◌∙◌, arith, slice_set, get_or-set_other, get_or-set_same, length-set, length-append}
 use Rattle.std.proofs.lemmas.Bool.{eqb-true, eq-eqb}
-use Rattle.std.specs.Prelude.{slice_index_or}
+use Rattle.std.specs.{Option.unwrap_or, Prelude.slice_index_or}
 use Rattle.vs_driver_parts.specs.{State.DriverState, declared.answers.Polled.Polled}
 use Rattle.laws_driver.proofs.Calls.{poll_honest}
 use Rattle.laws_rest.proofs.Routes.{poll_routed}
-use Rattle.laws_driver_bytes.specs.Calls.{Journal, Made, ReplyTo, bytes_received, with_call}
-use Rattle.vs_apps_parts.specs.Journals.{AllStandIn, calls_of, calls_of_app, entry_called, last_wait, made_as, made_by, made_by_app}
-use Rattle.vs_apps_parts.specs.{Journals.{wait_noted, wait_place}, Scripts.{IsPlayed, RunScript, acts_of, told_in, with_noted}}
-use Rattle.vs_apps_parts.specs.{Told.{step_wait, told_of, wait_of}, declared.{journal.Entry.Entry, journal.WaitsFor.WaitsFor}}
+use Rattle.laws_driver_bytes.specs.Calls.{GuestCall, Journal, Made, ReplyTo, Unlisten, bytes_received, flow_accepted, flow_opened, with_call}
+use Rattle.laws_apps.specs.Placed.{AreOwned, ArePlaced, HasItsFlow, IsSome, NamesFlow, accepted_as, asked_as}
+use Rattle.vs_flow.specs.declared.flow.Flow.{Flow}
+use Rattle.vs_driver_parts.specs.{Connections.flow_of, declared.answers.Accepted.Accepted, declared.answers.ConnectError.ConnectError}
+use Rattle.vs_driver_parts.specs.declared.answers.Accepted.TheVariants as accepted
+use Rattle.vs_apps_parts.specs.declared.journal.Called.{Called}
+use Rattle.vs_apps_parts.specs.declared.journal.Called.TheVariants as called
+use Rattle.vs_apps_parts.specs.Journals.{AllStandIn, calls_of, calls_of_app, entry_called, last_wait, made_as, made_by, made_by_app, made_of}
+use Rattle.vs_apps_parts.specs.{Journals.{wait_noted, wait_place}, Scripts.{IsPlayed, RunScript, acts_of, calls_in, id_of, told_in, with_noted}}
+use Rattle.vs_apps_parts.specs.{Told.{step_wait, told_by, told_of, wait_of}, declared.{journal.Entry.Entry, journal.WaitsFor.WaitsFor}}
 use Rattle.vs_apps_parts.specs.declared.{progress.AppState.AppState, progress.Progress.Progress, progress.Stepped.Stepped, told.Told.Told}
 use Rattle.vs_apps_parts.specs.declared.progress.Stepped.TheVariants as stepped
 use Rattle.vs_apps_parts.specs.declared.told.Told.TheVariants as says
 use Rattle.laws_apps.specs.{Accounts.IsAccounted, Runs.IsKept, Runs.IsRunOf, Runs.MakesCall, Runs.MakesCalls, Runs.Moves, Runs.NotesCall}
-use Rattle.laws_apps.specs.Runs.{PollsTo, Run, Steps, Waits, app_at, journal_of, journal_of_app, moved_state, no_app}
+use Rattle.laws_apps.specs.Runs.{CallsNext, HasFlow, PollsTo, Run, Steps, Waits, app_at, journal_of, journal_of_app, moved_state, no_app}
+use Rattle.laws_apps.specs.Traces.{IsTracedWith, is_given}
+use Rattle.laws_apps.proofs.{Giving.{AreApps, app_given, conn_given, given_noted, next_apps}, Tracing.{IsApps, call_traced, poll_traced}}
 use Rattle.laws_apps.proofs.Waiting.{called_waits, moved_waits, wait_waits, waited_waits, waits_noted}
 use Rattle.laws_apps.proofs.Calling.{call_accounted, call_honest, call_routed, entry_accounted, poll_accounted, told_accounted}
-use Rattle.laws_apps.proofs.{Asked.call_asks, Asked.poll_asks, Noting.call_noted, Noting.same_accounted}
-use Rattle.laws_apps.proofs.Entries.{SameCalls, app_calls_stay, called_stand, calls_stay, gathered_snoc, more_stand, wait_same}
+use Rattle.laws_apps.proofs.{Asked.call_asks, Asked.poll_asks, Placing.{IsOfApps, NamesIt, call_placed, poll_placed}, Noting.call_noted, Noting.same_accounted}
+use Rattle.laws_apps.proofs.Entries.{SameCalls, app_calls_stay, called_owned, called_stand, calls_stay, gathered_snoc, more_stand, wait_same}
 
 either : {A : Type 0} (b : Bool) (x : A) → x ≡ cond b x x
 either true x = refl
@@ -102,9 +110,53 @@ flows_after script k m old new journal None notes accounted =
     subst (λ (es : List Entry). IsAccounted 1 journal es new.driver new.ring) (sym notes.3)
     (entry_accounted 1 k journal old.entries notes.0 new.driver new.ring notes.5 accounted)
 
-module _ (first : ℕ) (script : RunScript) (k : ℕ) where
-  call_keeps : (m : Made) (old new : Run) → MakesCall script k m old new → IsKept first script old → IsKept first script new
-  call_keeps m old new makes kept =
+-- An app's call is none that no entry tells of, and what it was given is in its entry.
+called_apps : (script : RunScript) (bytes : List ℕ) (k : ℕ) (c : Called) → IsOfApps (made_of script bytes k c).call
+called_apps script bytes k (called.Connect port answer flow) = tt
+called_apps script bytes k (called.Listen port answer) = tt
+called_apps script bytes k (called.Accept port answer flow) = tt
+called_apps script bytes k (called.Send id at from len answer) = tt
+called_apps script bytes k (called.Recv id len from answer) = tt
+called_apps script bytes k (called.Shutdown id bits answer) = tt
+called_apps script bytes k (called.Grow id alloc answer) = tt
+called_apps script bytes k (called.Close id answer) = tt
+called_apps script bytes k (called.LookAt id answer) = tt
+
+of_apps : (script : RunScript) (k : ℕ) (call : GuestCall) (reply : ReplyTo call) (old new : Run)
+    → NotesCall script k (made_as call reply) (wait_of (told_by call reply)) old new → IsOfApps call
+of_apps script k (Unlisten port) reply old new notes = subst (λ (m : Made). IsOfApps m.call) notes.1 (called_apps script new.bytes k notes.0)
+of_apps script k call reply old new notes = tt
+
+flow_named : (given : Option ℕ) (flow opened : Option Flow) → flow ≡ opened → ((id : ℕ) → given ≡ Some id → IsSome opened) → HasItsFlow given flow
+flow_named None flow opened is some = tt
+flow_named (Some id) flow opened is some = subst IsSome (sym is) (some id refl)
+
+names_flow : (script : RunScript) (bytes : List ℕ) (k : ℕ) (c : Called) (s : DriverState) → HasFlow c s
+    → (let m = made_of script bytes k c in NamesIt m.call m.reply s) → NamesFlow c
+names_flow script bytes k (called.Connect port answer flow) s has named = flow_named (asked_as answer) flow (flow_opened answer s) has (opened answer named)
+  where
+    opened : (r : Result ℕ ConnectError) → ((id : ℕ) → asked_as r ≡ Some id → IsSome (flow_of id s)) → (id : ℕ) → asked_as r ≡ Some id → IsSome (flow_opened r s)
+    opened (Ok n) some id is = some n refl
+    opened (Err why) some id is = absurd cc
+names_flow script bytes k (called.Accept port answer flow) s has named = flow_named (accepted_as answer) flow (flow_accepted answer s) has (taken answer named)
+  where
+    taken : (r : Accepted) → ((id : ℕ) → accepted_as r ≡ Some id → IsSome (flow_of id s)) → (id : ℕ) → accepted_as r ≡ Some id → IsSome (flow_accepted r s)
+    taken (accepted.Conn n) some id is = some n refl
+    taken accepted.None some id is = absurd cc
+    taken accepted.NotListening some id is = absurd cc
+names_flow script bytes k c s has named = tt
+
+owned_after : (script : RunScript) (k : ℕ) (m : Made) (old new : Run) (o : Option WaitsFor) → k < length script → NotesCall script k m o old new
+    → NamesIt m.call m.reply new.driver → AreOwned (length script) old.entries → AreOwned (length script) new.entries
+owned_after script k m old new (Some why) less notes named owned = subst (AreOwned (length script)) (sym notes.0) owned
+owned_after script k m old new None less notes named owned =
+    subst (AreOwned (length script)) (sym notes.3) (called_owned (length script) old.entries k notes.0 less owned
+    (names_flow script new.bytes k notes.0 new.driver notes.5 (subst (λ (x : Made). NamesIt x.call x.reply new.driver) (sym notes.1) named)))
+
+module _ (first : ℕ) (script : RunScript) (k : ℕ) (less : k < length script) where
+  call_keeps : (n : ℕ) (m : Made) (old new : Run) → IsApps n m.call → (n ≡ 0) ⊎ (is_given n (journal_of script old) ≡ true) → MakesCall script k m old new
+      → IsKept first script old → IsKept first script new
+  call_keeps n m old new apps names makes kept =
       let x : DriverState × ReplyTo m.call = (new.driver, m.reply) in
       let all : Journal = journal_of script old in
       let given = call_accounted first m.call old.driver old.ring new.ring x makes.right kept.honest makes.plays 1 all old.entries
@@ -120,6 +172,18 @@ module _ (first : ℕ) (script : RunScript) (k : ℕ) where
             (flows_after script k m old new (with_noted (made_as m.call m.reply ∷ []) all) (wait_of (told_of m)) makes.notes noted);
         stands = stand_after script k m old new kept.stands (wait_of (told_of m)) makes.notes;
         asks = call_asks first old.driver old.ring new.ring kept.honest kept.asks m.call x makes.right makes.plays;
+        places = λ on l is.
+            let now = call_placed first (length script) all old.entries old.driver old.ring new.ring kept.honest kept.places m.call x
+            (of_apps script k m.call m.reply old new (subst (λ (y : Made). NotesCall script k y (wait_of (told_of y)) old new) makes.plain makes.notes))
+            makes.right makes.plays on l is in (
+              subst (λ (js : Journal). ArePlaced js new.driver) (ap (λ (y : Made). with_noted (y ∷ []) all) (sym makes.plain)
+                  ∙ calls_after script k m old new kept.stands (wait_of (told_of m)) refl makes.notes) now.0,
+              owned_after script k m old new (wait_of (told_of m)) less makes.notes now.1 now.2,
+            );
+        traced = subst (λ (js : Journal). IsTracedWith js new.driver new.ring)
+            (ap (λ (y : Made). with_noted (y ∷ []) all) (sym makes.plain) ∙ calls_after script k m old new kept.stands (wait_of (told_of m)) refl makes.notes)
+            (call_traced first n old.driver old.ring new.ring all kept.honest (λ on l is. (kept.accounted on l is).1.right.received.numbers) kept.traced names m.call x
+            makes.right apps makes.plays);
       }
 
   -- What calls one after another leave.
@@ -139,15 +203,24 @@ module _ (first : ℕ) (script : RunScript) (k : ℕ) where
   join_waits true m ms mid old is = ap (λ (o : Option ℕ). waits_noted ms o) is
   join_waits false m ms mid old is = is
 
-  calls_leave : (made : List Made) (old new : Run) → MakesCalls script k made old new → IsKept first script old → Leaves made old new
-  calls_leave [] old new makes kept = subst (λ (r : Run). Leaves [] old r) (sym makes) (record {
+  still_given : (n : ℕ) (m : Made) (old mid : Run) → IsKept first script old → MakesCall script k m old mid → (n ≡ 0) ⊎ (is_given n (journal_of script old) ≡ true)
+      → (n ≡ 0) ⊎ (is_given n (journal_of script mid) ≡ true)
+  still_given n m old mid kept makes (inl none) = inl none
+  still_given n m old mid kept makes (inr given) =
+      inr (subst (λ (js : Journal). is_given n js ≡ true) (calls_after script k m old mid kept.stands (wait_of (told_of m)) refl makes.notes)
+      (given_noted n m (journal_of script old) given))
+
+  calls_leave : (n : ℕ) (made : List Made) (old new : Run) → AreApps n (calls_in made) → (n ≡ 0) ⊎ (is_given n (journal_of script old) ≡ true)
+      → MakesCalls script k made old new → IsKept first script old → Leaves made old new
+  calls_leave n [] old new apps names makes kept = subst (λ (r : Run). Leaves [] old r) (sym makes) (record {
     kept = kept;
     apps = refl;
     journals = λ j. either (k == j) (journal_of_app j script old);
     waits = λ j. either (k == j) (last_wait j old.entries);
   })
-  calls_leave (m ∷ ms) old new makes kept =
-      let rest = calls_leave ms makes.0 new makes.2 (call_keeps m old makes.0 makes.1 kept) in
+  calls_leave n (m ∷ ms) old new apps names makes kept =
+      let rest = calls_leave n ms makes.0 new apps.1 (still_given n m old makes.0 kept makes.1 names) makes.2
+      (call_keeps n m old makes.0 apps.0 names makes.1 kept) in
       record {
         kept = rest.kept;
         apps = rest.apps ∙ makes.1.apps;
@@ -198,6 +271,20 @@ module _ (first : ℕ) (script : RunScript) (k : ℕ) (mid new : Run) (less : k 
       ap (λ (xs : List AppState). slice_index_or (slice_set xs k state) j no_app) same
       ∙ state_after k j (k == j) mid.apps state refl (subst (λ (n : ℕ). k < n) (sym run.apps) less)
 
+  -- The app is at a connection of its own.
+  apps_next : (calls : CallsNext script k mid) → AreApps (id_of (app_at k mid).progress) (calls_in calls.made)
+  apps_next calls = subst (AreApps (id_of (app_at k mid).progress)) (sym calls.calls) (next_apps calls.act (app_at k mid).progress)
+
+  own_given : (id_of (app_at k mid).progress ≡ 0) ⊎ (is_given (id_of (app_at k mid).progress) (journal_of script mid) ≡ true)
+  own_given = by (app_at k mid).progress.conn refl
+    where
+      by : (o : Option ℕ) → (app_at k mid).progress.conn ≡ o → (unwrap_or o 0 ≡ 0) ⊎ (is_given (unwrap_or o 0) (journal_of script mid) ≡ true)
+      by None at = inl refl
+      by (Some id) at =
+          let played = run.follows k less in
+          inr (app_given id k script mid.bytes mid.entries (ap (λ (js : Journal). is_given id js) (sym played.2)
+          ∙ conn_given (acts_of k script) played.0 (app_at k mid).progress played.1 id at))
+
   moves_keep : Moves script k mid new → IsRunOf first script new
   moves_keep m = subst (λ (r : Run). IsRunOf first script r) (sym m.moves) (record {
     apps = as_many over state left.apps;
@@ -207,6 +294,8 @@ module _ (first : ℕ) (script : RunScript) (k : ℕ) (mid new : Run) (less : k 
       accounted = left.kept.accounted;
       stands = left.kept.stands;
       asks = left.kept.asks;
+      places = left.kept.places;
+      traced = left.kept.traced;
     };
     follows = λ j below. subst (λ (x : AppState). Played j (journal_of_app j script over) x.progress) (sym (app_is over state j left.apps))
         (subst (λ (js : Journal). Played j js (cond (k == j) state (app_at j mid)).progress) (sym (left.journals j)) (goes j (k == j) refl below));
@@ -219,8 +308,8 @@ module _ (first : ℕ) (script : RunScript) (k : ℕ) (mid new : Run) (less : k 
       state : AppState
       state = moved_state m.calls.act m.calls.made (app_at k mid)
 
-      left : Leaves first script k m.calls.made mid m.calls.over
-      left = calls_leave first script k m.calls.made mid m.calls.over m.calls.makes run.kept
+      left : Leaves first script k less m.calls.made mid m.calls.over
+      left = calls_leave first script k less (id_of (app_at k mid).progress) m.calls.made mid m.calls.over (apps_next m.calls) own_given m.calls.makes run.kept
 
       here : Played k (with_noted m.calls.made (journal_of_app k script mid)) (moved_state m.calls.act m.calls.made (app_at k mid)).progress
       here =
@@ -257,6 +346,9 @@ module _ (first : ℕ) (script : RunScript) (k : ℕ) (mid new : Run) (less : k 
           left.kept.accounted);
       stands = same.stands (length over.bytes) left.kept.stands;
       asks = left.kept.asks;
+      places = λ on l is. let was = left.kept.places on l is in
+          (subst (λ (js : Journal). ArePlaced js over.driver) (sym same.calls) was.0, same.owned (length script) less was.1);
+      traced = subst (λ (js : Journal). IsTracedWith js over.driver over.ring) (sym same.calls) left.kept.traced;
     };
     follows = λ j below. subst (λ (js : Journal). Played j js (slice_index_or (slice_set over.apps k state) j no_app).progress)
         (sym (same.app j ∙ left.journals j ∙ stays (k == j) (journal_of_app j script mid)))
@@ -274,10 +366,10 @@ module _ (first : ℕ) (script : RunScript) (k : ℕ) (mid new : Run) (less : k 
       state : AppState
       state = record (app_at k mid) { waiting = Some (wait_place k (app_at k mid).waiting w.calls.over.entries) }
 
-      left : Leaves first script k w.calls.made mid w.calls.over
-      left = calls_leave first script k w.calls.made mid w.calls.over w.calls.makes run.kept
+      left : Leaves first script k less w.calls.made mid w.calls.over
+      left = calls_leave first script k less (id_of (app_at k mid).progress) w.calls.made mid w.calls.over (apps_next w.calls) own_given w.calls.makes run.kept
 
-      same : SameCalls script w.calls.over.bytes w.calls.over.entries (wait_noted k why (app_at k mid).waiting w.calls.over.entries)
+      same : SameCalls script w.calls.over.bytes k w.calls.over.entries (wait_noted k why (app_at k mid).waiting w.calls.over.entries)
       same = wait_same script w.calls.over.bytes k why (app_at k mid).waiting w.calls.over.entries
 
       stays : (b : Bool) (journal : Journal) → cond b (with_noted w.calls.made journal) journal ≡ journal
@@ -309,6 +401,8 @@ module _ (first : ℕ) (script : RunScript) (old : Run) (run : IsRunOf first scr
       accounted = poll_accounted first 1 (journal_of script old) old.entries old.driver old.ring mid.ring (mid.driver, polled) run.kept.honest run.kept.accounted polls.polls;
       stands = run.kept.stands;
       asks = poll_asks first old.driver old.ring mid.ring run.kept.honest run.kept.asks (mid.driver, polled) polls.polls;
+      places = poll_placed first (length script) (journal_of script old) old.entries old.driver old.ring mid.ring run.kept.honest run.kept.places (mid.driver, polled) polls.polls;
+      traced = poll_traced first old.driver old.ring mid.ring (journal_of script old) (mid.driver, polled) run.kept.honest run.kept.traced polls.polls;
     };
     follows = run.follows;
     waits = run.waits;

@@ -3,6 +3,9 @@ pub mod Noting
 pub mod Naming
 pub mod Entries
 pub mod Waiting
+pub mod Lasting
+pub mod Tracing
+pub mod Giving
 pub mod Keeping
 pub mod Beginning
 pub mod Making
@@ -12,3 +15,6 @@ pub mod Stepping
 pub mod Parsing
 pub mod Opening
 pub mod Asked
+pub mod Placed
+pub mod Placing
+pub mod Named

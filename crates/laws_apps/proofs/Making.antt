@@ -3,10 +3,10 @@ use Rattle.std.proofs.Common.{◌≡◌, ℕ, ◌≤◌, ◌<◌, ◌^◌, arith
 use Rattle.std.proofs.{Common.{ap, ◌∙◌, append-nil}, lemmas.Bool.Decides.nat_tests}
 use Rattle.std.specs.Prelude.{OnOk, OnErr}
 use Rattle.vs_ring_port.specs.Contents.{RingContents}
-use Rattle.vs_driver_parts.specs.{Connections.{after_close, after_shutdown, close_of, shutdown_of, state_of}, Listening.accept_of}
+use Rattle.vs_driver_parts.specs.{Connections.{after_close, after_grow, after_shutdown, close_of, grow_of, shutdown_of, state_of}, Listening.accept_of}
 use Rattle.vs_driver_parts.specs.{Listening.{after_accept, listen_of, listening}, Playing.Plays, State.DriverState}
 use Rattle.vs_driver_parts.specs.declared.answers.{Accepted.Accepted, Closed.Closed, ConnectionState.ConnectionState}
-use Rattle.vs_driver_parts.specs.declared.answers.{ListenError.ListenError, Shut.Shut}
+use Rattle.vs_driver_parts.specs.declared.answers.{Grown.Grown, ListenError.ListenError, Shut.Shut}
 use Rattle.laws_driver_bytes.specs.Calls as call
 use Rattle.laws_driver_bytes.specs.Calls.{GuestCall, ReplyTo, bytes_received, is_right, whole_call}
 use Rattle.vs_apps_parts.specs.{Journals.{called_noted, ends_at, made_as, made_of}, Scripts.RunScript, Told.{told_by, wait_of}}
@@ -57,6 +57,10 @@ accept_plays port s t r c is state = (both_same (sym state) (sym is), refl)
 pub shutdown_plays : (id bits : ℕ) (s t : DriverState) (r : Shut) (c : RingContents) → r ≡ shutdown_of id s → t ≡ after_shutdown id bits s
     → Plays (whole_call (call.Shutdown id bits) s) c (t, r) c
 shutdown_plays id bits s t r c is state = (both_same (sym state) (sym is), refl)
+
+pub grow_plays : (id alloc : ℕ) (s t : DriverState) (r : Grown) (c : RingContents) → r ≡ grow_of id alloc s → t ≡ after_grow id alloc s
+    → Plays (whole_call (call.Grow id alloc) s) c (t, r) c
+grow_plays id alloc s t r c is state = (both_same (sym state) (sym is), refl)
 
 pub close_plays : (id : ℕ) (s t : DriverState) (r : Closed) (c : RingContents) → r ≡ close_of id s → t ≡ after_close id s
     → Plays (whole_call (call.Close id) s) c (t, r) c

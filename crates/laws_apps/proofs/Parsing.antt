@@ -3,7 +3,7 @@ use Rattle.std.proofs.Common.{◌≡◌, ◌&&◌, if◌then◌else◌, ℕ, nat
 use Rattle.std.proofs.{Common.{Err, codes, bytes_eq, refl, subst, arith}, lemmas.Bool.Decides.nat_tests, lemmas.List.Elements.All-append}
 use Rattle.std.proofs.lemmas.List.Elements.{All-cons, All-head, All-nil, All-tail}
 use Rattle.std.specs.{List.All, Str.Parse.digits_value}
-use Rattle.vs_script.specs.App.{Act, RunStep, Begin, Do, Connect, Listen, Accept, Send, Recv, Drain, Exchange, Shutdown, Close}
+use Rattle.vs_script.specs.App.{Act, RunStep, Begin, Do, Connect, Listen, Accept, Send, Recv, Drain, Exchange, Shutdown, Grow, Close}
 use Rattle.vs_script.specs.{App.{connection_instruction, instruction_line, run_line, run_line_named}, Text.{is_empty, words_of}}
 use Rattle.vs_script.specs.{declared.fault.Refused.Refused, declared.fault.Why.Why, declared.fault.Why.TheVariants.BadNumber}
 use Rattle.vs_script.specs.{declared.words.TheConstants.MAX_BITS, Field.{Read, after, ending, held, is_numeral, named, number_in, within}}
@@ -61,7 +61,8 @@ connection_right name words =
     (holds_if IsRight (bytes_eq name (codes "drain")) _ _ (holds_ending IsRight Drain words tt)
     (holds_if IsRight (bytes_eq name (codes "exchange")) _ _ (holds_always IsRight Exchange _ (λ c. tt))
     (holds_if IsRight (bytes_eq name (codes "shutdown")) _ _ (bits_read (word words))
-    (holds_if IsRight (bytes_eq name (codes "close")) _ _ (holds_ending IsRight Close words tt) tt)))))
+    (holds_if IsRight (bytes_eq name (codes "grow")) _ _ (holds_always IsRight Grow _ (λ n. tt))
+    (holds_if IsRight (bytes_eq name (codes "close")) _ _ (holds_ending IsRight Close words tt) tt))))))
 
 instruction_right : (name : List ℕ) (words : List (List ℕ)) → Holds IsRight (instruction_line name words)
 instruction_right name words =

@@ -1,5 +1,7 @@
 pub mod Accounts
+pub mod Traces
 pub mod Runs
 pub mod Calls
 pub mod Asked
 pub mod Rounds
+pub mod Placed

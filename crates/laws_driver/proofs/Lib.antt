@@ -7,6 +7,7 @@ pub mod Bytes
 pub mod Putting
 pub mod Taking
 pub mod Resetting
+pub mod Emptying
 pub mod Carrying
 pub mod Staging
 pub mod Polling

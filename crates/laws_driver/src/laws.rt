@@ -1,15 +1,18 @@
 //! Laws of the driver over a ring that tells its log.
 
-ghost use Rattle.std.specs.Prelude.{◌≡◌, ◌<◌, ◌≤◌, ◌^◌, ℕ, List, Result};
+ghost use Rattle.std.specs.Prelude.{◌≡◌, ◌<◌, ◌≤◌, ◌^◌, ℕ, true, List, [], length, Result};
 ghost use Rattle.vs_contents.specs.CallTree.{Leads};
+ghost use Rattle.vs_flow.specs.Table.{IsTable};
 ghost use Rattle.vs_ring_port.specs.{Contents.RingContents, DriverCalls.DriverAllows, EndLog.EndLog};
+ghost use Rattle.vs_ring_port.specs.declared.queue.Queue.TheVariants.{Event};
 ghost use Rattle.vs_driver_parts.specs.declared.answers.{ConnectError.ConnectError, Polled.Polled, Sent.Sent};
-ghost use Rattle.vs_limits.specs.declared.TheConstants.{LAST_PORT};
+ghost use Rattle.vs_limits.specs.declared.TheConstants.{DRIVER_REPLIES_FULL, LAST_PORT};
 ghost use Rattle.vs_driver_parts.specs.State.{DriverState};
 ghost use Rattle.vs_driver_parts.specs.Connections.{after_close, after_grow, after_recv, after_shutdown, after_unlisten, table_shown};
 ghost use Rattle.vs_driver_parts.specs.Conversations.{DriverTree, connect_of, new_of, poll_of, send_of};
 ghost use Rattle.vs_driver_parts.specs.{Listening.after_accept, Listening.listening, Playing.MayPublishAll, Playing.Plays};
-ghost use Rattle.laws_driver.specs.Honest.{AgreesWith, IsFresh, IsHonestWith, IsLeftOpen};
+ghost use Rattle.vs_driver_parts.specs.{Receiving.is_reset_event, Steps.takes_page};
+ghost use Rattle.laws_driver.specs.{Honest.AgreesWith, Honest.IsFresh, Honest.IsHonestWith, Honest.IsLeftOpen, Resets.RingBrings};
 
 /// Over an honest ring all that a call puts may be put: it keeps the log fair, so the driver never exceeds the credit that was advertised.
 /// After the call the driver's connections are again those that the log left (Virtio 1.2, section 5.10.6.3).
@@ -54,4 +57,11 @@ pub fn law_of_the_table()
 pub fn law_of_answers<T>()
     ensures answers { (tree : DriverTree T) (c d : RingContents) (x : T) → Plays tree c x d → Leads DriverAllows tree c x d }
     ensures other { (tree : DriverTree T) (c d : RingContents) (x : T) → Plays tree c x d → d.other ≡ c.other }
+{}
+
+/// The step that takes the event page of a transport reset leaves the driver's table empty, over any ring and whatever it answers besides
+/// (Virtio 1.2, section 5.10.6.7).
+pub fn law_of_emptied_tables()
+    ensures { (s t : DriverState) (page : List ℕ) (c d : RingContents) → IsTable s.table → length s.replies ≤ DRIVER_REPLIES_FULL
+        → is_reset_event page ≡ true → Leads (RingBrings page) (takes_page Event s) c t d → t.table.entries ≡ [] }
 {}

@@ -7,17 +7,17 @@ use Rattle.vs_header.specs.declared.Kind.TheVariants.{Stream}
 use Rattle.vs_page.{specs.Fair.payload_put, specs.Log.Driver, specs.Log.Log, proofs.PayloadLogs.put_none}
 use Rattle.vs_ring_port.specs.Contents.{RingContents}
 use Rattle.laws_tables.specs.{Both.Seat, Matches.Matches, Steps.request_on}
-use Rattle.vs_driver_parts.specs.Connections.{after_unlisten, close_of, next_flow, recv_of, shutdown_of, state_of, unread_of_id}
+use Rattle.vs_driver_parts.specs.Connections.{after_unlisten, close_of, grow_of, next_flow, recv_of, shutdown_of, state_of, unread_of_id}
 use Rattle.vs_driver_parts.specs.Listening.{accept_of, listen_of, listener_on, listening}
 use Rattle.vs_driver_parts.specs.{declared.answers.ListenError.ListenError, Conversations.DriverTree, Held.HeldSlots, State.DriverState}
-use Rattle.laws_driver.proofs.Changing.{Changes, accept_changes, close_changes, listen_changes, recv_changes, same, shutdown_changes}
+use Rattle.laws_driver.proofs.Changing.{Changes, accept_changes, close_changes, grow_changes, listen_changes, recv_changes, same}
 use Rattle.laws_driver.specs.Honest.{IsFitState, ends_of_state, slots_of}
 use Rattle.laws_driver.proofs.Calls.{CarriesConnect, CarriesSend, changed_rests, connect_keeps, send_keeps, connects_with, sends_with}
 use Rattle.laws_driver.proofs.Walking.{connect_goes, goes_from, send_goes}
-use Rattle.laws_driver.proofs.{Carrying.Fact, Carrying.Holds, Changing.unlisten_changes, Going.goes_then, Keeping.Keeps, Staging.Rests}
-use Rattle.laws_driver_bytes.specs.Calls.{GuestCall, ReplyTo, Connect, Listen, Unlisten, Accept, Send, Recv, Shutdown, Close, LookAt}
+use Rattle.laws_driver.proofs.{Carrying.Fact, Carrying.Holds, Changing.shutdown_changes, Changing.unlisten_changes, Going.goes_then, Keeping.Keeps, Staging.Rests}
+use Rattle.laws_driver_bytes.specs.Calls.{GuestCall, ReplyTo, Connect, Listen, Unlisten, Accept, Send, Recv, Shutdown, Grow, Close, LookAt}
 use Rattle.laws_driver_bytes.specs.Calls.{Journal, account_of, id_named, is_right, makes_call, names, received_by, sent_of, whole_call}
-use Rattle.laws_driver_bytes.proofs.Changing.{accept_slots, listen_slots, close_received, send_receives, shutdown_received}
+use Rattle.laws_driver_bytes.proofs.Changing.{accept_slots, listen_slots, close_received, grow_received, send_receives, shutdown_received}
 use Rattle.laws_driver_bytes.specs.Received.{Account, AreReceived, GoesOn, bytes_got, with_received}
 use Rattle.laws_driver_bytes.{specs.Calls.with_call, proofs.Changing.unlisten_received, proofs.Connecting.connect_carries}
 use Rattle.laws_driver_bytes.{proofs.Polling.Further, proofs.Polling.IsFurther, proofs.Reading.given_none, proofs.Reading.recv_received}
@@ -63,6 +63,8 @@ module _ (first : ℕ) (s : DriverState) (c : RingContents) where
       changed_rests first before (after (recv_of id n s, bytes_got (recv_of id n s) (unread_of_id id s))) s _ c (recv_changes id n s) (steps s) rests
   made_with (Shutdown id bits) before after right steps rests =
       changed_rests first before (after (shutdown_of id s)) s _ c (shutdown_changes id bits s) (steps s) rests
+  made_with (Grow id alloc) before after right steps rests =
+      changed_rests first before (after (grow_of id alloc s)) s _ c (grow_changes id alloc s) (steps s) rests
   made_with (Close id) before after right steps rests =
       changed_rests first before (after (close_of id s)) s _ c (close_changes id s) (steps s) rests
   made_with (LookAt id) before after right steps rests = changed_rests first before (after (state_of id s)) s s c (same s) (steps s) rests
@@ -84,6 +86,7 @@ call_goes first w (Unlisten port) right =
 call_goes first w (Accept port) right = λ s log fits m goes. goes_then _ _ _ goes ((accept_changes port s fits).goes first log m)
 call_goes first w (Recv id n) right = λ s log fits m goes. goes_then _ _ _ goes ((recv_changes id n s fits).goes first log m)
 call_goes first w (Shutdown id bits) right = λ s log fits m goes. goes_then _ _ _ goes ((shutdown_changes id bits s fits).goes first log m)
+call_goes first w (Grow id alloc) right = λ s log fits m goes. goes_then _ _ _ goes ((grow_changes id alloc s fits).goes first log m)
 call_goes first w (Close id) right = λ s log fits m goes. goes_then _ _ _ goes ((close_changes id s fits).goes first log m)
 call_goes first w (LookAt id) right = λ s log fits m goes. goes
 
@@ -115,6 +118,7 @@ call_received first (Connect port) a = connect_carries first port a
 call_received first (Send id bytes) a = send_further first id bytes a
 call_received first (Recv id n) a = λ s log fits m x. (_, gives a x.0 id _ x.1, recv_received x.0 log id n s fits.sound x.2)
 call_received first (Shutdown id bits) a = λ s log fits m x. (x.0, x.1, shutdown_received x.0 log s x.2 id bits fits.sound)
+call_received first (Grow id alloc) a = λ s log fits m x. (x.0, x.1, grow_received x.0 log s x.2 id alloc fits.sound)
 call_received first (Close id) a = λ s log fits m x. (x.0, x.1, close_received x.0 log s x.2 id fits.sound)
 call_received first (LookAt id) a = λ s log fits m x. x
 call_received first (Listen port) a = λ s log fits m x.

@@ -4,6 +4,8 @@ use Rattle.std.proofs.Common.{OnErr, refl, sym, subst, ◌∙◌}
 use Rattle.vs_conn.specs.declared.end.State.{State}
 use Rattle.vs_conn.specs.declared.end.State.TheVariants as state
 use Rattle.vs_driver_parts.specs.Connections.{after_recv, entry_read, after_read, with_connection, after_shutdown, shut_in, after_close}
+use Rattle.vs_driver_parts.specs.{Connections.{after_grow, entry_grow_answer, grown_by}, declared.answers.Grown.Grown}
+use Rattle.vs_driver_parts.specs.declared.answers.Grown.TheVariants as rise
 use Rattle.vs_driver_parts.specs.Connections.{entry_closed, gone_closed, without_gone, all_closed, waiting_on, after_unlisten}
 use Rattle.vs_driver_parts.specs.{Connections.all_gone_after_read, Listening.{listening, after_accept, next_accepted, with_waiting}}
 use Rattle.vs_driver_parts.specs.{Listening.without_id, Playing.SamePages, State.{DriverState, DriverEntry, GoneConnection, entry_known_as}}
@@ -47,6 +49,17 @@ shutdown_stays id bits s = by (entry_known_as id s)
     by : (o : Option DriverEntry) → SamePages s (elim o [ Some e ↦ shut_in e.value.end.state bits e s | None ↦ s ])
     by None = (refl, refl, refl)
     by (Some e) = shut_stays e.value.end.state bits e s
+
+grow_by_stays : (a : Grown) (alloc : ℕ) (e : DriverEntry) (s : DriverState) → SamePages s (grown_by a alloc e s)
+grow_by_stays rise.Done alloc e s = (refl, refl, refl)
+grow_by_stays _ alloc e s = (refl, refl, refl)
+
+pub grow_stays : (id alloc : ℕ) (s : DriverState) → SamePages s (after_grow id alloc s)
+grow_stays id alloc s = by (entry_known_as id s)
+  where
+    by : (o : Option DriverEntry) → SamePages s (elim o [ Some e ↦ grown_by (entry_grow_answer alloc e) alloc e s | None ↦ s ])
+    by None = (refl, refl, refl)
+    by (Some e) = grow_by_stays (entry_grow_answer alloc e) alloc e s
 
 gone_stays : (id : ℕ) (s : DriverState) → SamePages s (gone_closed id s)
 gone_stays id s = by (gone_known_as id s)

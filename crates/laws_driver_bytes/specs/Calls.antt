@@ -6,6 +6,7 @@ use Rattle.vs_flow.specs.{Connection.Connection, Flow.same_flow, declared.flow.F
 use Rattle.vs_driver_parts.specs.declared.answers.{Accepted.Accepted, Closed.Closed, ConnectError.ConnectError}
 use Rattle.vs_driver_parts.specs.declared.answers.{ConnectionState.ConnectionState, ListenError.ListenError, Received.Received, Sent.Sent}
 use Rattle.vs_driver_parts.specs.{declared.answers.Shut.Shut, State.DriverState, Connections.{recv_of, unread_of_id, after_recv}}
+use Rattle.vs_driver_parts.specs.{Connections.after_grow, Connections.grow_of, declared.answers.Grown.Grown}
 use Rattle.vs_driver_parts.specs.Connections.{shutdown_of, after_shutdown, close_of, after_close, after_unlisten, state_of, flow_of}
 use Rattle.vs_driver_parts.specs.{Connections.next_flow, Conversations.{DriverTree, connect_of, send_of}, Listening.listener_on}
 use Rattle.vs_driver_parts.specs.{Listening.{listen_of, listening, accept_of, after_accept}, Steps.{connects, sends}}
@@ -24,6 +25,7 @@ pub data GuestCall : Type 0 where
   Send : ℕ → List ℕ → GuestCall
   Recv : ℕ → ℕ → GuestCall
   Shutdown : ℕ → ℕ → GuestCall
+  Grow : ℕ → ℕ → GuestCall
   Close : ℕ → GuestCall
   LookAt : ℕ → GuestCall
 
@@ -41,6 +43,7 @@ ReplyTo (Accept port) = Accepted
 ReplyTo (Send id bytes) = Sent
 ReplyTo (Recv id n) = Received × List ℕ
 ReplyTo (Shutdown id bits) = Shut
+ReplyTo (Grow id alloc) = Grown
 ReplyTo (Close id) = Closed
 ReplyTo (LookAt id) = ConnectionState
 
@@ -54,6 +57,7 @@ makes_call (Accept port) s = Done (after_accept port s, accept_of port s)
 makes_call (Send id bytes) s = sends id bytes s
 makes_call (Recv id n) s = Done (after_recv id n s, (recv_of id n s, bytes_got (recv_of id n s) (unread_of_id id s)))
 makes_call (Shutdown id bits) s = Done (after_shutdown id bits s, shutdown_of id s)
+makes_call (Grow id alloc) s = Done (after_grow id alloc s, grow_of id alloc s)
 makes_call (Close id) s = Done (after_close id s, close_of id s)
 makes_call (LookAt id) s = Done (s, state_of id s)
 
@@ -69,6 +73,7 @@ id_named (Connect port) s = Some s.next_id
 id_named (Send id bytes) s = Some id
 id_named (Recv id n) s = Some id
 id_named (Shutdown id bits) s = Some id
+id_named (Grow id alloc) s = Some id
 id_named (Close id) s = Some id
 id_named (LookAt id) s = Some id
 id_named _ s = None
@@ -78,6 +83,7 @@ flow_named (Connect port) s = Some (next_flow port s)
 flow_named (Send id bytes) s = flow_of id s
 flow_named (Recv id n) s = flow_of id s
 flow_named (Shutdown id bits) s = flow_of id s
+flow_named (Grow id alloc) s = flow_of id s
 flow_named (Close id) s = flow_of id s
 flow_named (LookAt id) s = flow_of id s
 flow_named _ s = None

@@ -15,16 +15,17 @@ use Rattle.vs_page.specs.Log.{Device, Driver, Log, Role, history_of}
 use Rattle.vs_script.{specs.Play.Event, specs.Script.Plays, specs.Script.parse_of, specs.Bounds.AreBounded, proofs.Bounded.all_bounded}
 use Rattle.vs_report.specs.Report.{counts_text, device_open_text, guest_open_text, stream_texts}
 use Rattle.vs_report.specs.GuestLines.{accept_text, connect_text, connection_text}
-use Rattle.laws_world.specs.{Events.{is_at_rest, is_guest_cid, reset_made}, Sides.{both_of, device_ends, driver_ends}, Laws.IsEmptied}
+use Rattle.laws_proxy.specs.Resets.{IsEmptied}
+use Rattle.laws_world.specs.{Events.is_at_rest, Sides.{both_of, device_ends, driver_ends}}
 use Rattle.laws_world.specs.{Pipes.IsFresh, Steps.Leads, World.{World, first_cid}, Names.times_closed, Counts.IsCounted}
 use Rattle.laws_rest.proofs.Hosts.{wrote_is_put}
 use Rattle.laws_world.proofs.{NamesStay.{IsTold, accept_told, connect_told, still_over, still_told}, Carried.{sent_all, sent_stays}}
 use Rattle.laws_world.proofs.{Carried.wrote_stays, Names.{IsOver, closed_unknown}, CallRests.opening_rests}
-use Rattle.laws_world.proofs.{GuestLines.possible_is, Opening.{opening_well, run_goes}, ResetTables.device_emptied}
+use Rattle.laws_world.proofs.{Opening.{opening_well, run_goes}, ResetTables.device_emptied}
 use Rattle.laws_world.proofs.{ScriptLines.{script_leads, script_rests}, Sound.{Goes, IsWell, tx_at_rest}, Counting.reached_counted}
 use Rattle.laws_driver_bytes.specs.Calls.{flow_accepted, flow_opened, sent_on}
 use Rattle.vs_play.specs.{Answer.base_path, Answer.opened_play, Answer.texts_of, Answer.world_after, Lines.PlayWorld, Lines.event_played}
-use Rattle.laws_play.proofs.PlayLines.{after_both, around_journal, cid_right, front_bounded, lines_of, lines_receive, lines_right}
+use Rattle.laws_play.proofs.PlayLines.{after_both, around_journal, front_bounded, lines_of, lines_receive, lines_right}
 use Rattle.laws_play.proofs.PlayLines.{lines_send, rest_bounded, world_is}
 use Rattle.laws_play.proofs.Reached.{carries, holds_open, holds_rest, keeps_credit, log_is, many_device, many_guest, own_streams, queued}
 use Rattle.laws_play.proofs.{Counting.lines_count, Counting.lines_within, Shutting.IsShut, Shutting.is_shut, Shutting.run_shut}
@@ -173,12 +174,9 @@ module _ (n : ℕ) where
       → IsEmptied (world_of n (es ++ script.Around (outside.Reset cid) ∷ [])).proxy
   emptied_after es more cid bounded =
       let p = world_after es (opened_play n) in
-      let b = (rest_bounded es (script.Around (outside.Reset cid) ∷ more) bounded).0 in
-      let right = cid_right cid b.0 b.1 in
       let counted = world_counted es (front_bounded es (script.Around (outside.Reset cid) ∷ more) bounded) in
       subst (λ (q : PlayWorld). IsEmptied q.world.proxy) (sym (after_both es (script.Around (outside.Reset cid) ∷ []) (opened_play n)))
-      (subst (λ (v : World). IsEmptied v.proxy) (possible_is (is_guest_cid cid) (reset_made cid) p.world right)
-      (device_emptied cid p.world right counted.unfailed))
+      (device_emptied cid p.world counted.unfailed)
 
   -- A line that told an id.
   named_after : (before more : List Event) (e : Event) (id : ℕ) → AreBounded (before ++ e ∷ more) → All (λ x. x ≢ script.Close id) more

@@ -32,6 +32,7 @@ lines_at (script.Accept port) now = world.Guest (call.Accept port) ∷ []
 lines_at (script.Send id content) now = world.Guest (call.Send id (bytes_of content)) ∷ []
 lines_at (script.Recv id len) now = world.Guest (call.Recv id len) ∷ []
 lines_at (script.Shutdown id bits) now = world.Guest (call.Shutdown id bits) ∷ []
+lines_at (script.Grow id alloc) now = world.Guest (call.Grow id alloc) ∷ []
 lines_at (script.Close id) now = world.Guest (call.Close id) ∷ []
 lines_at (script.State id) now = world.Guest (call.LookAt id) ∷ []
 lines_at script.Poll now = world.Poll ∷ []
@@ -65,7 +66,7 @@ world_is (e ∷ es) p =
 port_right : (port : ℕ) → port ≤ 4294967295 → nat_lt port (2 ^ 32) ≡ true
 port_right port fits = grind (arith, nat_tests)
 
-pub cid_right : (cid : ℕ) → GUEST_CID_MIN ≤ cid → cid ≤ GUEST_CID_MAX → is_guest_cid cid ≡ true
+cid_right : (cid : ℕ) → GUEST_CID_MIN ≤ cid → cid ≤ GUEST_CID_MAX → is_guest_cid cid ≡ true
 cid_right cid low high = grind (arith, nat_tests)
 
 host_right : (host : Host) → is_given_right (host_line host) ≡ true
@@ -126,6 +127,7 @@ event_sends : (e : Event) (p : PlayWorld) (f : Flow) → sent_on f (event_played
 event_sends (script.Connect port) p f = none_moved (sent_on f p.world.journal) (is_on f (flow_named (call.Connect port) p.world.driver))
 event_sends (script.Recv id len) p f = none_moved (sent_on f p.world.journal) (is_on f (flow_of id p.world.driver))
 event_sends (script.Shutdown id bits) p f = none_moved (sent_on f p.world.journal) (is_on f (flow_of id p.world.driver))
+event_sends (script.Grow id alloc) p f = none_moved (sent_on f p.world.journal) (is_on f (flow_of id p.world.driver))
 event_sends (script.Close id) p f = none_moved (sent_on f p.world.journal) (is_on f (flow_of id p.world.driver))
 event_sends (script.State id) p f = none_moved (sent_on f p.world.journal) (is_on f (flow_of id p.world.driver))
 event_sends script.Poll p f = nothing_more (sent_on f p.world.journal)
@@ -138,6 +140,7 @@ event_receives (script.Connect port) p f = none_moved (received_on f p.world.jou
     (call.Connect port) p.world.driver))
 event_receives (script.Send id content) p f = none_moved (received_on f p.world.journal) (is_on f (flow_of id p.world.driver))
 event_receives (script.Shutdown id bits) p f = none_moved (received_on f p.world.journal) (is_on f (flow_of id p.world.driver))
+event_receives (script.Grow id alloc) p f = none_moved (received_on f p.world.journal) (is_on f (flow_of id p.world.driver))
 event_receives (script.Close id) p f = none_moved (received_on f p.world.journal) (is_on f (flow_of id p.world.driver))
 event_receives (script.State id) p f = none_moved (received_on f p.world.journal) (is_on f (flow_of id p.world.driver))
 event_receives script.Poll p f = nothing_more (received_on f p.world.journal)

@@ -19,8 +19,9 @@ use Rattle.vs_script.specs.{Data.Content, Play.Event}
 use Rattle.vs_report.specs.{Report.counts_text, Report.device_open_text, Report.guest_open_text, Report.stream_texts, GuestLines.recv_text}
 use Rattle.vs_report.specs.GuestLines.{opened_text, send_text}
 use Rattle.laws_proxy_bytes.specs.Counts.{counts_of, counts_shown}
-use Rattle.laws_world.specs.{Counts.dropped_in, Laws.IsEmptied, Names.HasFlow, Sides.device_ends, Sides.driver_ends, Steps.Leads, World.World}
-use Rattle.laws_world.specs.World.{first_cid}
+use Rattle.laws_proxy.specs.Resets.{IsEmptied}
+use Rattle.laws_world.specs.{Counts.dropped_in, Names.HasFlow, Sides.device_ends, Sides.driver_ends, Steps.Leads}
+use Rattle.laws_world.specs.World.{World, first_cid}
 use Rattle.laws_driver.specs.Resets.{MarksResets}
 use Rattle.laws_driver_bytes.specs.Calls.{received_on, sent_on}
 use Rattle.vs_play.specs.{Answer.opened_play, Answer.printed, Answer.texts_of, Answer.world_after, Lines.event_played}

@@ -2,3 +2,4 @@ pub mod Ports
 pub mod Shaking
 pub mod Turning
 pub mod Ordered
+pub mod Emptying

@@ -1,13 +1,13 @@
 //! Laws of the proxy over a ring that tells the device's log.
 
-ghost use Rattle.std.specs.{Option.ForSome, Prelude.◌≡◌, Prelude.◌<◌, Prelude.◌^◌, Prelude.ℕ, Prelude.List, Prelude.[], Prelude.Result};
+ghost use Rattle.std.specs.{Option.ForSome, Prelude.{◌≡◌, ◌<◌, ◌^◌, ℕ, List, [], None, Result}};
 ghost use Rattle.vs_ring_port.specs.{Contents.RingContents, declared.failure.Failure.Failure};
 ghost use Rattle.vs_device_parts.specs.{Calls.Situation, Playing.MayRun, Playing.Runs};
 ghost use Rattle.laws_device_streams.specs.Streams.{FindsStreams};
 ghost use Rattle.laws_device.specs.{Honest.IsFresh, Streams.IsTabledWith};
 ghost use Rattle.vs_proxy_parts.specs.{Handshakes.streams_of, State.ProxyState, Turns.new_proxy, Turns.proxy_reset_of, Turns.turn_of};
 ghost use Rattle.vs_proxy_parts.specs.declared.answers.Turn.{Turn};
-ghost use Rattle.laws_proxy.specs.{Honest.IsProxyStreamed, Honest.IsProxyWith, Order.IsInOrder};
+ghost use Rattle.laws_proxy.specs.{Honest.IsProxyStreamed, Honest.IsProxyWith, Order.IsInOrder, Resets.IsEmptied};
 
 /// Over a ring that tells its log a turn and a reset leave the proxy with its ring: the device holds the one chain that it keeps for the
 /// next packet, and over an honest ring its connections are those that the log left. Each packet of a turn keeps the log fair, so a turn
@@ -23,11 +23,10 @@ pub fn law_of_turns()
 {}
 
 /// Over an honest ring that tells its log and a host that exposes its streams a turn and a reset keep what these took and gave in step with the log,
-/// where the guest uses no flow twice and sends payload under its own CID: the payload put on a connection is what was taken of its stream, behind
-/// the CONNECT line where there is one; a stream was given a prefix of its OK line and the payload got, and what is pending is what is between. Of a
-/// client whose line is being read just this line was taken. The table has exactly the flows that the log left open and those of the host's
-/// open
-/// streams (Virtio 1.2, section 5.10.6).
+/// where the guest uses no flow twice and no payload of an open connection is dropped for its CIDs: the payload put on a connection is what was
+/// taken of its stream, behind the CONNECT line where there is one; a stream was given a prefix of its OK line and the payload got, and what is
+/// pending is what is between. Of a client whose line is being read just this line was taken. The table has exactly the flows that the log left
+/// open and those of the host's open streams (Virtio 1.2, section 5.10.6).
 pub fn law_of_streamed()
     ensures new { (cid : ℕ) (base : List ℕ) (a : Situation) → IsFresh a.ring → ForSome a.host (λ h. h.streams ≡ [])
         → IsProxyStreamed cid (new_proxy cid base) a }
@@ -49,4 +48,11 @@ pub fn law_of_order()
     ensures reset_may { (first cid : ℕ) (s : ProxyState) (a : Situation) → IsInOrder first s a → MayRun (proxy_reset_of cid s) a }
     ensures reset { (first cid : ℕ) (s : ProxyState) (a b : Situation) (x : ProxyState × Result (Unit {0}) Failure) → cid < 2 ^ 64
         → IsInOrder first s a → Runs (proxy_reset_of cid s) a x b → IsInOrder first x.0 b }
+{}
+
+/// A transport reset of a device whose ring didn't fail leaves its table, its owed replies and the proxy's handshakes empty, over any ring
+/// and any host (Virtio 1.2, section 5.10.6.7).
+pub fn law_of_emptied_tables()
+    ensures { (cid : ℕ) (s : ProxyState) (a b : Situation) (x : ProxyState × Result (Unit {0}) Failure) → s.device.failed ≡ None
+        → Runs (proxy_reset_of cid s) a x b → IsEmptied x.0 }
 {}

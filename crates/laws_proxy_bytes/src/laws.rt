@@ -8,7 +8,7 @@ ghost use Rattle.vs_proxy_parts.specs.{State.ProxyState, Turns.new_proxy, Turns.
 ghost use Rattle.laws_proxy_bytes.specs.{Carried.Carries, Made.Made, Made.Makes, Made.account_of, Tied.AccountsFor, Told.Shows};
 
 /// The calls that were made for a proxy account for what it holds: before its first call, and after each turn and each reset, whatever the
-/// ring answers, and whatever a host that gives no stream twice and takes no more bytes than it is given.
+/// ring answers, and whatever a host that gives no stream twice and moves no more bytes than it is asked to.
 pub fn law_of_accounts()
     ensures new { (cid : ℕ) (base : List ℕ) → AccountsFor (new_proxy cid base) [] }
     ensures turn { (size now : ℕ) (s : ProxyState) (calls later : List Made) (x : ProxyState × Turn) → AccountsFor s calls

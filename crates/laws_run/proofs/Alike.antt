@@ -1,13 +1,15 @@
 -- Drivers whose connections differ in no more than what they ask for of credit.
-use Rattle.std.proofs.Common.{◌≡◌, ◌==◌, ◌||◌, ℕ, Bool, true, false, cond, List, [], ◌∷◌, map, Option, Some, None, refl, sym, ap, subst, ◌∙◌, arith}
-use Rattle.std.proofs.lemmas.{Bool.eq-eqb, Grind.common_steps}
+use Rattle.std.proofs.Common.{◌≡◌, ◌==◌, ◌||◌, ◌+◌, ℕ, nat_le, not, Bool, true, false, cond, List, [], ◌∷◌, map, length, Option, Some, None, refl, sym, ap, subst, ◌∙◌, arith}
+use Rattle.std.proofs.{Math.Path.fun_ext, lemmas.{Bool.eq-eqb, Grind.common_steps, List.length-map}}
 use Rattle.std.specs.{Option.option_map, Prelude.find, Prelude.is_some}
 use Rattle.vs_conn.specs.{End.ConnectionEnd, End.may_send_of, End.state_may_send, End.wanting_credit}
 use Rattle.vs_conn.specs.declared.end.State.{State, TheVariants.{Answering, Asked, Ended, Live}}
 use Rattle.vs_flow.specs.Table.{Table, revalued, slots}
 use Rattle.vs_flow.proofs.Lookups.{find-map_same}
-use Rattle.vs_driver_parts.specs.Connections.{entry_answer, gone_answer, recv_of, state_of, state_shown, with_end}
-use Rattle.vs_driver_parts.specs.State.{DriverConnection, DriverEntry, DriverState, GoneConnection, entry_known_as, gone_known_as, is_known_as}
+use Rattle.vs_limits.specs.declared.TheConstants.{DRIVER_CONNECTIONS}
+use Rattle.vs_driver_parts.specs.Listening.{is_answered, listener_on, next_accepted}
+use Rattle.vs_driver_parts.specs.Connections.{entry_answer, gone_answer, is_full, recv_of, state_of, state_shown, with_end}
+use Rattle.vs_driver_parts.specs.State.{DriverConnection, DriverEntry, DriverState, GoneConnection, Listener, entry_known_as, gone_known_as, is_known_as}
 use Rattle.vs_driver_parts.specs.declared.answers.{ConnectionState.ConnectionState, Received.Received}
 use Rattle.vs_driver_parts.specs.declared.answers.ConnectionState.TheVariants as seen
 use Rattle.vs_driver_parts.specs.declared.answers.Received.TheVariants as got
@@ -185,3 +187,25 @@ module _ (s t : DriverState) (alike : Alike s t) where
         | None ↦ cond (is_some (find (λ g. g.id == id) gs)) seen.Gone seen.Unknown
         | Some e ↦ state_shown e.value.end.state
       ]) alike.gone
+
+  -- Whether all slots are held, and who may be accepted on a port.
+  pub full_alike : is_full t ≡ is_full s
+  full_alike =
+      let many : length t.table.entries ≡ length s.table.entries =
+      sym (length-map t.table.entries quieted) ∙ ap (λ (es : List DriverEntry). length es) alike.entries ∙ length-map s.table.entries quieted in
+      ap (λ (n : ℕ). nat_le DRIVER_CONNECTIONS (n + length t.gone)) many
+      ∙ ap (λ (gs : List GoneConnection). nat_le DRIVER_CONNECTIONS (length s.table.entries + length gs)) alike.gone
+
+  answered_alike : (id : ℕ) → is_answered t id ≡ is_answered s id
+  answered_alike id =
+      by_entry (λ e. not e.value.unanswered) (is_some (gone_known_as id t)) (λ e. refl) (entry_known_as id t) (entry_known_as id s) (known_alike id)
+      ∙ ap (λ (gs : List GoneConnection). elim (entry_known_as id s) as (λ _. Bool) [
+        | None ↦ is_some (find (λ g. g.id == id) gs)
+        | Some e ↦ not e.value.unanswered
+      ]) alike.gone
+
+  pub accepted_alike : (port : ℕ) → next_accepted port t ≡ next_accepted port s
+  accepted_alike port =
+      ap (λ (ls : List Listener). elim (listener_on port ls) as (λ _. Option ℕ) [ None ↦ None | Some l ↦ find (is_answered t) l.waiting ]) alike.listeners
+      ∙ ap (λ (test : ℕ → Bool). elim (listener_on port s.listeners) as (λ _. Option ℕ) [ None ↦ None | Some l ↦ find test l.waiting ])
+      (fun_ext answered_alike)

@@ -1,24 +1,24 @@
 -- From what a run ends in to a complete report.
 use Rattle.std.proofs.Common.{◌≡◌, ◌+◌, ◌<◌, ◌≤◌, ◌==◌, ◌||◌, ◌&&◌, inl, inr, ℕ, suc, Bool, true, false, cond, List, [], ◌∷◌, ◌++◌, Option, Some, None, Ok, length, map}
 use Rattle.std.proofs.Common.{Contains, nat_lt, slice_get, ◌⊎◌, slice_index_or, refl, sym, ap, subst, ◌∙◌, arith, append-nil, length-append, length-take, take}
-use Rattle.std.proofs.lemmas.{Bool.and_parts, Bool.Decides.nat_tests, Bool.eqb-true, Grind.common_steps, List.Elements.All-contains, List.length-map, Option.same_Some, Option.slice_get_read}
-use Rattle.std.specs.{List.AllPairs, Option.option_map, Option.unwrap_or, Prelude.not}
+use Rattle.std.proofs.lemmas.{Bool.and_parts, Bool.Decides.nat_tests, Bool.eqb-true, Grind.common_steps, List.Elements.{All-cons, All-contains, All-tail}, List.length-map, Option.same_Some, Option.slice_get_read}
+use Rattle.std.specs.{List.{All, AllPairs, list_any}, Option.{option_map}, Option.unwrap_or, Prelude.not}
 use Rattle.vs_flow.specs.{Connection.Connection, Connection.first_of, Flow.same_flow, Table.IsTable, Table.entry_under, Table.value_under, declared.flow.Flow.Flow}
-use Rattle.vs_conn.specs.{End.ConnectionEnd, End.may_send_of, declared.end.State.{State, TheVariants.Ended, TheVariants.Live}}
+use Rattle.vs_conn.specs.{End.ConnectionEnd, End.may_send_of, Shut.is_both, declared.end.State.{State, TheVariants.Ended, TheVariants.Live}}
 use Rattle.vs_limits.specs.declared.TheConstants.{FIRST_CID}
-use Rattle.vs_outside.specs.{Faults.one_more, Host.HostContents, HostBytes.host_read, HostBytes.host_wrote}
+use Rattle.vs_outside.specs.{Faults.one_more, Host.HostContents, Host.Stream, Host.stream_at, HostBytes.host_read, HostBytes.host_wrote}
 use Rattle.vs_page.specs.{Fair.current, Fair.number_of, Fair.payload_got, Fair.payload_put, Log.Device, Log.Driver}
 use Rattle.vs_ring_shared.specs.Sights.{DeviceSight, Sight, device_contents, device_log, driver_contents, driver_log}
-use Rattle.vs_driver_parts.specs.{Connections.is_at_end, Connections.table_shown as guest_shown, State.DriverEntry, State.DriverState, State.entry_known_as, State.is_known_as}
+use Rattle.vs_driver_parts.specs.{Connections.is_at_end, Connections.table_shown as guest_shown, State.DriverConnection, State.DriverEntry, State.DriverState, State.entry_known_as, State.is_known_as}
 use Rattle.vs_driver_parts.specs.declared.answers.Polled.{Polled}
 use Rattle.vs_device_parts.specs.{Playing.situation, State.DeviceEntry, Turns.table_shown as device_shown}
 use Rattle.vs_proxy_parts.specs.State.{ProxyState}
-use Rattle.laws_tables.{specs.Ends.ends_of, proofs.Slots.found_by, proofs.Slots.one_end}
+use Rattle.laws_tables.{specs.Ends.ends_of, specs.Ends.flows_of, specs.Ends.is_among, proofs.Slots.found_by, proofs.Slots.one_end}
 use Rattle.vs_page.proofs.Flows.{same_is}
 use Rattle.laws_driver.specs.Honest.{IsFitEntry, end_in as driver_end, slots_of}
 use Rattle.laws_device.specs.Honest.{end_in as device_end}
-use Rattle.laws_bytes.{specs.Drains.got_on, specs.Drains.receives, proofs.Firsts.once_got}
-use Rattle.laws_driver_bytes.specs.{Calls.Journal, Calls.received_by, Received.ReceivesOn, Calls.account_of}
+use Rattle.laws_bytes.{specs.Drains.got_on, specs.Drains.receives, specs.Drains.receives_in, proofs.Firsts.once_got}
+use Rattle.laws_driver_bytes.specs.{Calls.GuestCall, Calls.Journal, Calls.received_by, Received.ReceivesOn, Calls.account_of}
 use Rattle.laws_proxy.specs.Honest.{IsProxyStreamed}
 use Rattle.laws_rest.{specs.Rest.ArePaired, proofs.Quiet.in_list, proofs.Waiting.credit_there, proofs.Waiting.unread_there}
 use Rattle.vs_credit.specs.Credit.{free_of, unread_of}
@@ -26,7 +26,7 @@ use Rattle.vs_conn.specs.declared.shut.Shut.{Shut}
 use Rattle.vs_device_parts.specs.Receiving.{may_read}
 use Rattle.vs_flow.proofs.Entries.{found_at}
 use Rattle.laws_settled.specs.{Exact.HoldsExactly, Settled.IsSettled, Settled.IsSteady, Settled.ends_at_rest}
-use Rattle.vs_apps_parts.specs.{Journals.calls_of, Journals.sent_as, Scripts.{RunScript, acts_of, calls_next, id_of, recv_next, send_next, slice_left, slice_of}, declared.{journal.Entry.Entry, journal.WaitsFor.WaitsFor, progress.AppState.AppState}}
+use Rattle.vs_apps_parts.specs.{Journals.calls_of, Journals.calls_of_app, Journals.sent_as, Scripts.{RunScript, acts_of, calls_next, id_of, recv_next, send_next, slice_left, slice_of}, declared.{journal.Entry.Entry, journal.WaitsFor.WaitsFor, progress.AppState.AppState}}
 use Rattle.vs_apps_parts.specs.declared.progress.Progress.{Progress}
 use Rattle.vs_apps_parts.specs.declared.journal.WaitsFor.TheVariants as waits
 use Rattle.vs_script.specs.{App.Act, App.Exchange, Data.Content, Data.bytes_of, Data.size_of}
@@ -37,12 +37,52 @@ use Rattle.vs_report.specs.declared.giving.Totals.{Totals}
 use Rattle.vs_run_report.specs.{Endings.ending_at, Endings.state_at, Endings.why_at, Report.ended_at, Right.IsRightReport, declared.ending.Ending.Ending}
 use Rattle.vs_run_report.specs.declared.ending.Ending.TheVariants as ending
 use Rattle.laws_run.specs.Complete.{IsAtOpen, IsCompleteEnding, IsCompleteExchange, IsCompleteRun, IsCompleteWait, LacksCredit, open_labels}
-use Rattle.laws_device.specs.Streams.{has_open_stream}
+use Rattle.laws_device.{specs.Streams.has_open_stream, specs.Streams.is_open_on, proofs.Waiting.open_among}
+use Rattle.laws_apps.specs.Traces.{AllTell, AtId, IsClosing, IsDrained, IsStopped, IsTraced, TellsOf, is_shut, is_touched}
+use Rattle.vs_apps_parts.specs.{Told.told_of, declared.told.Told.Told}
+use Rattle.laws_run.specs.Bounds.{AreShutDown, GoesOn, HasAll, HasBounds, IsBounded, IsShutDown, TakesOn, calls_of_others, done_at, received_in, total}
+use Rattle.laws_run.proofs.Bounding.{AreFree, ArePlain, Way, all_moved, all_plain, app_early, app_free, app_less, app_plain, drain_early, drained, early, free_moves, free_sends, others_unshut}
+use Rattle.laws_run.proofs.Bounding.{received_enough, receiving, sending, sending_all, sent_enough, tally}
+use Rattle.laws_settled.specs.Shut.{IsShutBy}
 use Rattle.laws_run.specs.Dry.{AreDry, AreFull, AreIdle, IsDry, IsFull, reads_of, writes_of}
 use Rattle.laws_run.proofs.{Alike.AreApart, Alike.HasApart, Alike.Leaves, Alike.leaves_core, Drying.under_at, Endings.Ends, Wrote.{is_first, same_payload, streamed, to_device, wrote_there}}
-use Rattle.laws_run.proofs.Unread.{no_free, to_read, unread_within}
+use Rattle.laws_run.proofs.Unread.{no_free, some_unread, to_read, unread_within}
 use Rattle.laws_run.proofs.{Endings.all_ends, Endings.ends_on, Halting.{Halts, IsRoomy, Stops, first_call}, Open.among_entry, Open.among_open, Open.as_many_open, Open.one_is, Reporting.accounted, Reporting.once, Reporting.right_with}
 use Rattle.laws_run.proofs.{Still.poll_still, Waiting.credit_call, Waiting.empty_call, Waiting.not_open, Waiting.recv_id, Waiting.send_id}
+
+-- An entry of a flow among those of a table; no open stream among those of a host; and one that is.
+entry_among : (end_of : DriverConnection → ConnectionEnd) (f : Flow) (es : List DriverEntry)
+    → is_among f (flows_of (map (λ (y : DriverEntry). record { flow = y.flow; end = end_of y.value }) es)) ≡ true → (x : DriverEntry) × Contains es x × (f ≡ x.flow)
+entry_among end_of f [] is = absurd cc
+entry_among end_of f (y ∷ es) is = by (same_flow f y.flow) refl is (entry_among end_of f es)
+  where
+    by : (b : Bool) → same_flow f y.flow ≡ b → (b || is_among f (flows_of (map (λ (z : DriverEntry). record { flow = z.flow; end = end_of z.value }) es))) ≡ true
+        → (is_among f (flows_of (map (λ (z : DriverEntry). record { flow = z.flow; end = end_of z.value }) es)) ≡ true → (x : DriverEntry) × Contains es x × (f ≡ x.flow))
+        → (x : DriverEntry) × Contains (y ∷ es) x × (f ≡ x.flow)
+    by true same is rest = (y, (0, omega arith, refl), same_is f y.flow same)
+    by false other is rest =
+        let r = rest is in
+        let less = r.1.1 in (r.0, (suc r.1.0, omega (arith, less), r.1.2), r.2)
+
+none_open : (p : Stream → Bool) (xs : List Stream) → list_any p xs ≡ false → All (λ s. p s ≡ true → ⊥) xs
+none_open p [] none = λ k d less. absurd (omega (arith, less))
+none_open p (x ∷ xs) none = All-cons (λ s. p s ≡ true → ⊥) x xs (λ is. let no = ap (λ (b : Bool). b || list_any p xs) is in absurd (let both : true ≡ false = sym no ∙ none in cc))
+    (none_open p xs (by (p x) none))
+  where
+    by : (b : Bool) → (b || list_any p xs) ≡ false → list_any p xs ≡ false
+    by true is = absurd cc
+    by false is = is
+
+any_both : (f : Flow) (told : Stream → Bool) (xs : List Stream) → list_any (is_open_on f) xs ≡ true → All (λ s. is_open_on f s ≡ true → told s ≡ true) xs
+    → All (λ s. is_open_on f s ≡ true → told s ≡ false) xs → ⊥
+any_both f told [] is all none = absurd cc
+any_both f told (x ∷ xs) is all none =
+    by (is_open_on f x) refl is (λ rest. any_both f told xs rest (All-tail (λ s. is_open_on f s ≡ true → told s ≡ true) x xs all)
+    (All-tail (λ s. is_open_on f s ≡ true → told s ≡ false) x xs none))
+  where
+    by : (b : Bool) → is_open_on f x ≡ b → (b || list_any (is_open_on f) xs) ≡ true → (list_any (is_open_on f) xs ≡ true → ⊥) → ⊥
+    by true own so rest = let both : true ≡ false = sym (all 0 x (omega arith) own) ∙ none 0 x (omega arith) own in cc
+    by false other so rest = rest so
 
 -- The slots of a table are apart.
 listed_below : (slot : ℕ) (es : List DriverEntry) → ((k : ℕ) (d : DriverEntry) → k < length es → slot < (slice_index_or es k d).slot)
@@ -70,14 +110,14 @@ module _ (script : RunScript) (driver : DriverState) (end : Sight) (apps : List 
   abbrev journal : Journal
   journal = calls_of script bytes entries
 
-  one : (f : Flow) → number_of Device f e.sight.log ≤ 1
+  pub one : (f : Flow) → number_of Device f e.sight.log ≤ 1
   one = once script driver end apps entries bytes p e h faults run settled steady
 
-  apart : HasApart driver
+  pub apart : HasApart driver
   apart = slots_apart driver.table.entries (run.kept.honest refl (driver_log end) refl).fits.sound.rising
 
   -- Each app is done, or the driver as it is at the end answers its next call so that it waits.
-  ends : (k : ℕ) → k < length script → Ends old.driver script k apps entries driver
+  pub ends : (k : ℕ) → k < length script → Ends old.driver script k apps entries driver
   ends k less =
       let as_many : length stood.apps ≡ length script = ap (λ (xs : List AppState). length xs) (sym same_apps) ∙ run.apps in
       let last = all_ends script old stood as_many all k less in
@@ -88,17 +128,17 @@ module _ (script : RunScript) (driver : DriverState) (end : Sight) (apps : List 
       (subst (λ (es : List Entry). Ends old.driver script k stood.apps es past.driver) (sym same_entries) then))
 
   -- A connection that an app knows is in the table, and Live.
-  contained : (id : ℕ) (x : DriverEntry) → entry_known_as id driver ≡ Some x → Contains driver.table.entries x × (is_known_as id x ≡ true)
+  pub contained : (id : ℕ) (x : DriverEntry) → entry_known_as id driver ≡ Some x → Contains driver.table.entries x × (is_known_as id x ≡ true)
   contained id x at = found_by (is_known_as id) driver.table.entries x at
 
-  live : (x : DriverEntry) → Contains driver.table.entries x → x.value.end.state ≡ Live
+  pub live : (x : DriverEntry) → Contains driver.table.entries x → x.value.end.state ≡ Live
   live x within =
       let fits = (run.kept.honest refl (driver_log end) refl).fits in
       let fit = All-contains IsFitEntry driver.table.entries x fits.entries within in
       (settled.paired Driver x.flow x.value.end fit.peer (one_end driver_end driver.table x fits.sound within)).2.here.live
 
   -- Both tables.
-  device_fits : IsTable p.device.table
+  pub device_fits : IsTable p.device.table
   device_fits = ((steady.order.ring.1.1 (device_log e) refl).1 refl).fits.sound
 
   found_there : (x : DeviceEntry) → Contains p.device.table.entries x → entry_under p.device.table x.slot ≡ Some x
@@ -106,7 +146,7 @@ module _ (script : RunScript) (driver : DriverState) (end : Sight) (apps : List 
       found_at p.device.table.entries within.0 x device_fits.rising
       (slice_get_read p.device.table.entries (length p.device.table.entries) within.0 x refl within.1 (sym within.2))
 
-  still_open : (x : DeviceEntry) → Contains p.device.table.entries x → x.value.closed ≡ false
+  pub still_open : (x : DeviceEntry) → Contains p.device.table.entries x → x.value.closed ≡ false
   still_open x within = by x.value.closed refl
     where
       there : value_under p.device.table x.slot ≡ Some x.value
@@ -137,18 +177,18 @@ module _ (script : RunScript) (driver : DriverState) (end : Sight) (apps : List 
       ∙ sym (length-map p.device.table.entries (λ x. (x.flow, x.value.end.state))) ∙ device_open
 
   -- The flow of a connection of the driver's has an open stream.
-  flow_open : (x : DriverEntry) → Contains driver.table.entries x → has_open_stream x.flow h ≡ true
+  pub flow_open : (x : DriverEntry) → Contains driver.table.entries x → has_open_stream x.flow h ≡ true
   flow_open x within =
       let fit = All-contains IsFitEntry driver.table.entries x (run.kept.honest refl (driver_log end) refl).fits.entries within in
       among_open h e.sight.log p.next_port p.device.table p.handshakes (streamed driver end p e settled one h faults streams) device_fits still_open x.flow
       (sym (settled.same_flows x.flow fit.peer) ∙ among_entry driver_end driver.table.entries x within)
 
   -- A connection of the driver's is one of the device's too.
-  record AtDevice (x : DriverEntry) : Type 0 where
-    entry : DeviceEntry
-    within : Contains p.device.table.entries entry
-    flow : x.flow ≡ entry.flow
-    paired : ArePaired x.value.end entry.value.end
+  pub record AtDevice (x : DriverEntry) : Type 0 where
+    pub entry : DeviceEntry
+    pub within : Contains p.device.table.entries entry
+    pub flow : x.flow ≡ entry.flow
+    pub paired : ArePaired x.value.end entry.value.end
 
   device_entry : (f : Flow) (v : ConnectionEnd) (es : List DeviceEntry)
       → ends_of f (map (λ (y : DeviceEntry). record { flow = y.flow; end = device_end y.value }) es) ≡ v ∷ []
@@ -167,7 +207,7 @@ module _ (script : RunScript) (driver : DriverState) (end : Sight) (apps : List 
           let r = rest is in
           let less = r.1.1 in (r.0, (suc r.1.0, omega (arith, less), r.1.2), r.2, r.3)
 
-  at_device : (x : DriverEntry) → Contains driver.table.entries x → AtDevice x
+  pub at_device : (x : DriverEntry) → Contains driver.table.entries x → AtDevice x
   at_device x within =
       let fits = (run.kept.honest refl (driver_log end) refl).fits in
       let fit = All-contains IsFitEntry driver.table.entries x fits.entries within in
@@ -214,7 +254,7 @@ module _ (script : RunScript) (driver : DriverState) (end : Sight) (apps : List 
       let few = length-take 4096 (line ++ pending) in
       let both = length-append line pending in not_zero (length (take 4096 (line ++ pending))) (omega (arith, few, both, some))
 
-  pending_full : (y : DeviceEntry) → Contains p.device.table.entries y → 1 ≤ length y.value.pending → AreFull y.flow h
+  pub pending_full : (y : DeviceEntry) → Contains p.device.table.entries y → 1 ≤ length y.value.pending → AreFull y.flow h
   pending_full y within some =
       let writes : writes_of y ≡ Some y.value.stream =
       ap (λ (b : Bool). cond (not b && not (length (take 4096 (y.value.ok_line ++ y.value.pending)) == 0)) (Some y.value.stream) None) (still_open y within)
@@ -224,7 +264,7 @@ module _ (script : RunScript) (driver : DriverState) (end : Sight) (apps : List 
 
   -- One that is known by an id, on which nothing is unread.
   module _ (opened : ℕ → Connection) (account : IsAccount 1 opened journal entries end.log (slots_of driver)) where
-    first_known : (id : ℕ) (x : DriverEntry) → Contains driver.table.entries x → x.value.id ≡ id → (1 ≤ (opened id).number) × (opened id ≡ first_of x.flow)
+    pub first_known : (id : ℕ) (x : DriverEntry) → Contains driver.table.entries x → x.value.id ≡ id → (1 ≤ (opened id).number) × (opened id ≡ first_of x.flow)
     first_known id x within named =
         let on = All-contains (ReceivesOn (account_of 1 opened journal) end.log) driver.table.entries x account.right.received.held within in
         let present : opened id ≡ current Driver x.flow end.log = subst (λ (i : ℕ). opened i ≡ current Driver x.flow end.log) named on.present in
@@ -277,7 +317,7 @@ module _ (script : RunScript) (driver : DriverState) (end : Sight) (apps : List 
         ))
 
     -- No connection has the id 0.
-    id_some : (x : DriverEntry) → Contains driver.table.entries x → 1 ≤ x.value.id
+    pub id_some : (x : DriverEntry) → Contains driver.table.entries x → 1 ≤ x.value.id
     id_some x within =
         let is = All-contains (λ (y : DriverEntry). y.value.id ≡ 1 + y.slot) driver.table.entries x account.right.received.numbers.slots within in omega (arith, is)
 
@@ -298,6 +338,161 @@ module _ (script : RunScript) (driver : DriverState) (end : Sight) (apps : List 
           conn_of (state_at k apps).progress.conn id own (subst (λ (i : ℕ). 1 ≤ i) named (id_some x within)),
           ap (λ (f : Flow). has_open_stream f h) flow ∙ flow_open x within,
         )
+
+    -- One whose flow has an open stream is in the driver's table.
+    open_entry : (id : ℕ) → 1 ≤ (opened id).number → has_open_stream (opened id).flow h ≡ true → (x : DriverEntry) × Contains driver.table.entries x × (x.value.id ≡ id)
+    open_entry id some opens =
+        let f = (opened id).flow in
+        let there = open_among h e.sight.log p.next_port p.device.table p.handshakes (streamed driver end p e settled one h faults streams) f opens in
+        let found = entry_among driver_end f driver.table.entries (settled.same_flows f (settled.with_host Device f there) ∙ there) in
+        let known = first_known found.0.value.id found.0 found.1 refl in
+        let first = is_first driver end p e settled one h faults streams (opened id) found.0.flow some (account.right.received.passed id) found.2 in
+        (found.0, found.1, account.right.received.once found.0.value.id id known.0 (known.1 ∙ sym first))
+
+    -- One of which both directions are shut: its stream is full.
+    closing_full : (x : DriverEntry) → Contains driver.table.entries x → x.value.end.own.send ≡ true → x.value.end.own.receive ≡ true → AreFull x.flow h
+    closing_full x within sends gets =
+        let at = at_device x within in
+        let y = at.entry in
+        let live_there = at.paired.there.live in
+        let both : is_both y.value.end.peer ≡ true =
+        ap is_both at.paired.there.peer ∙ ap (λ (b : Bool). b && x.value.end.own.send) gets ∙ sends in
+        let some = some_unread FIRST_CID (ends_at_rest driver end p e).device.part e.sight.log (settled.at_rest.matches Device) (settled.at_rest.fair Device)
+        y.flow (one y.flow) y.value.end (one_end device_end p.device.table y device_fits at.within) live_there both in
+        let exact = (All-contains (λ (z : DeviceEntry). HoldsExactly z.value) p.device.table.entries y steady.exact at.within).exact (λ over. absurd cc) in
+        subst (λ (f : Flow). AreFull f h) (sym at.flow) (pending_full y at.within (omega (arith, some, exact)))
+
+    closes_full : (id : ℕ) → AtId IsClosing id driver.next_id driver.table.entries → 1 ≤ (opened id).number → AreFull (opened id).flow h
+    closes_full id at some = by (has_open_stream (opened id).flow h) refl
+      where
+        closing : (x : DriverEntry) → Contains driver.table.entries x → x.value.id ≡ id → IsClosing x.value → AreFull (opened id).flow h
+        closing x within named (inl over) = absurd (let no : Ended ≡ Live = sym over ∙ live x within in cc)
+        closing x within named (inr shut) = subst (λ (f : Flow). AreFull f h) (sym (flow_of_id id x within named)) (closing_full x within shut.0 shut.1)
+
+        by : (b : Bool) → has_open_stream (opened id).flow h ≡ b → AreFull (opened id).flow h
+        by true opens =
+            let x = open_entry id some opens in
+            closing x.0 x.1 x.2 (All-contains (λ (y : DriverEntry). y.value.id ≡ id → IsClosing y.value) driver.table.entries x.0 at.1 x.1 x.2)
+        by false none = λ k s less opens. absurd (none_open (is_open_on (opened id).flow) h.streams none k s less opens)
+
+    -- One that takes on isn't stopped; one that is drained was ended, and all was received, where nobody shut it.
+    at_rest : (P : DriverConnection → Type 0) (id : ℕ) → 1 ≤ (opened id).number → has_open_stream (opened id).flow h ≡ true → AtId P id driver.next_id driver.table.entries
+        → (x : DriverEntry) × Contains driver.table.entries x × (x.value.id ≡ id) × P x.value
+    at_rest P id some opens at =
+        let x = open_entry id some opens in (x.0, x.1, x.2, All-contains (λ (y : DriverEntry). y.value.id ≡ id → P y.value) driver.table.entries x.0 at.1 x.1 x.2)
+
+    shut_there : (id : ℕ) (x : DriverEntry) (within : Contains driver.table.entries x) → x.value.id ≡ id → (P : Stream → Type 0)
+        → ((y : DeviceEntry) → y.value.end.own ≡ x.value.end.peer → IsShutBy y.value h → (s : Stream) × (stream_at y.value.stream h ≡ Some s) × P s)
+        → All (λ s. is_open_on (opened id).flow s ≡ true → P s) h.streams
+    shut_there id x within named P gives =
+        let there = at_device x within in
+        let y = there.entry in
+        let is = gives y (sym there.paired.here.peer) (All-contains (λ (z : DeviceEntry). IsShutBy z.value h) p.device.table.entries y (steady.shut h refl) there.within) in
+        subst (λ (f : Flow). All (λ s. is_open_on f s ≡ true → P s) h.streams) (sym there.flow ∙ sym (flow_of_id id x within named))
+        (one_is h e.sight.log p.next_port p.device.table p.handshakes (streamed driver end p e settled one h faults streams) P y there.within
+        (λ s at. subst P (same_Some is.0 s (sym is.1 ∙ at)) is.2))
+
+    takes_on : (id : ℕ) → 1 ≤ (opened id).number → TakesOn (opened id).flow h → AtId IsStopped id driver.next_id driver.table.entries → ⊥
+    takes_on id some takes at = let x = at_rest IsStopped id some takes.0 at in by x.0 x.1 x.2 x.3
+      where
+        by : (x : DriverEntry) → Contains driver.table.entries x → x.value.id ≡ id → IsStopped x.value → ⊥
+        by x within named (inl over) = let no : Ended ≡ Live = sym over ∙ live x within in cc
+        by x within named (inr peer) = any_both (opened id).flow (λ s. s.host_closed) h.streams takes.0
+            (shut_there id x within named (λ s. s.host_closed ≡ true) (λ y own is. is.receives (ap (λ (s : Shut). s.receive) own ∙ peer))) takes.1
+
+    ended_there : (id : ℕ) (x : DriverEntry) (within : Contains driver.table.entries x) → x.value.id ≡ id → x.value.end.peer.send ≡ true
+        → All (λ s. is_open_on (opened id).flow s ≡ true → s.ended ≡ true) h.streams
+    ended_there id x within named peer = shut_there id x within named (λ s. s.ended ≡ true) (λ y own is. is.sends (ap (λ (s : Shut). s.send) own ∙ peer))
+
+    goes_on : (id : ℕ) → 1 ≤ (opened id).number → has_open_stream (opened id).flow h ≡ true → GoesOn (opened id).flow h
+        → AtId IsDrained id driver.next_id driver.table.entries → ⊥
+    goes_on id some opens more at = let x = at_rest IsDrained id some opens at in by x.0 x.1 x.2 x.3
+      where
+        by : (x : DriverEntry) → Contains driver.table.entries x → x.value.id ≡ id → IsDrained x.value → ⊥
+        by x within named (inl over) = let no : Ended ≡ Live = sym over ∙ live x within in cc
+        by x within named (inr none) = any_both (opened id).flow (λ s. s.ended) h.streams opens (ended_there id x within named none.0) more
+
+    has_all : (id : ℕ) → 1 ≤ (opened id).number → has_open_stream (opened id).flow h ≡ true → is_shut id journal ≡ false
+        → IsTraced journal journal driver.next_id driver.table.entries → AtId IsDrained id driver.next_id driver.table.entries → HasAll opened journal h id
+    has_all id some opens unshut traced at = let x = at_rest IsDrained id some opens at in by x.0 x.1 x.2 x.3
+      where
+        gets : (x : DriverEntry) → Contains driver.table.entries x → x.value.id ≡ id → (b : Bool) → x.value.end.own.receive ≡ b → receives x.value.end ≡ true
+        gets x within named true own =
+            let shut = All-contains (λ (y : DriverEntry). is_touched y.value ≡ true → is_shut y.value.id journal ≡ true) driver.table.entries x traced.touched within
+            (touched x.value.end.own.send) in
+            absurd (let no : true ≡ false = sym shut ∙ ap (λ (i : ℕ). is_shut i journal) named ∙ unshut in cc)
+          where
+            touched : (b : Bool) → (b || (x.value.end.own.receive || x.value.closed)) ≡ true
+            touched true = refl
+            touched false = ap (λ (d : Bool). d || x.value.closed) own
+        gets x within named false own = ap (λ (st : State). receives_in st x.value.end.own.receive) (live x within) ∙ ap (λ (b : Bool). not b) own
+
+        by : (x : DriverEntry) → Contains driver.table.entries x → x.value.id ≡ id → IsDrained x.value → HasAll opened journal h id
+        by x within named (inl over) = absurd (let no : Ended ≡ Live = sym over ∙ live x within in cc)
+        by x within named (inr none) =
+            (all_received id x within named none.1 (gets x within named x.value.end.own.receive refl), ended_there id x within named none.0)
+
+    -- The bounds.
+    closes_all : (js : Journal) → AllTell js driver.next_id driver.table.entries → AreShutDown opened h js
+    closes_all [] tell = tt
+    closes_all (m ∷ older) tell = (by m.call (told_of m) tell.0, closes_all older tell.1)
+      where
+        by : (c : GuestCall) (t : Told) → TellsOf c t older driver.next_id driver.table.entries → IsShutDown opened h c
+        by (call.Close id) t tells = closes_full id tells
+        by _ t tells = tt
+
+    bounded_run : IsBounded script apps entries bytes opened h
+    bounded_run = record { bounds = bounds; closes = closes_all journal traced.tell }
+      where
+        traced : IsTraced journal journal driver.next_id driver.table.entries
+        traced = run.kept.traced refl (driver_log end) refl
+
+        plain : ArePlain journal
+        plain = all_plain script bytes entries
+
+        bounds : (k : ℕ) → k < length script → HasBounds opened h (acts_of k script) k script bytes entries (state_at k apps).progress
+        bounds k less = record {
+          steps = (run.follows k less).0;
+          follows = (run.follows k less).1;
+          noted = (run.follows k less).2;
+          sends = λ id some takes apart_from.
+              let all = moved sending id (free_sends id driver.next_id driver.table.entries (takes_on id some takes) journal plain traced.tell) apart_from in
+              let most = sent_enough id driver.next_id driver.table.entries journal traced.tell in omega (arith, all, most);
+          exchanges = λ id some takes apart_from more.
+              let all = moved sending_all id (free_moves id driver.next_id driver.table.entries (takes_on id some takes) journal
+              (λ so over. goes_on id some takes.0 more so) plain traced.tell) apart_from in
+              let most = sent_enough id driver.next_id driver.table.entries journal traced.tell in omega (arith, all, most);
+          receives = λ id some takes unshut. received id some takes unshut (early id journal) refl;
+          drains = λ id some takes unshut drain.
+              let played = run.follows k less in
+              let over = drain_early id (acts_of k script) played.0 (state_at k apps).progress played.1 drain in
+              all_there id some takes unshut (app_early script bytes k id entries (ap (λ (js : Journal). early id js) (sym played.2) ∙ over));
+        }
+          where
+            own : Journal
+            own = calls_of_app k script bytes entries
+
+            moved : (w : Way) (id : ℕ) → AreFree w.of id journal → is_shut id (calls_of_others k script bytes entries) ≡ false
+                → total w.size (done_at id (acts_of k script) (run.follows k less).0) ≤ tally w.tell id journal
+            moved w id free apart_from =
+                let played = run.follows k less in
+                let plain_own = subst ArePlain (sym played.2) (app_plain script bytes k entries) in
+                let free_own = subst (AreFree w.of id) (sym played.2) (app_free script bytes k w.of id entries free apart_from) in
+                let all = all_moved w id (acts_of k script) played.0 (state_at k apps).progress played.1 plain_own free_own in
+                let most = app_less script bytes k w.tell id entries in
+                let same = ap (λ (js : Journal). tally w.tell id js) played.2 in omega (arith, all, most, same)
+
+            all_there : (id : ℕ) → 1 ≤ (opened id).number → TakesOn (opened id).flow h → is_shut id journal ≡ false → early id journal ≡ true → HasAll opened journal h id
+            all_there id some takes unshut over =
+                has_all id some takes.0 unshut traced (drained id driver.next_id driver.table.entries journal traced.tell unshut over)
+
+            received : (id : ℕ) → 1 ≤ (opened id).number → TakesOn (opened id).flow h → is_shut id journal ≡ false → (b : Bool) → early id journal ≡ b
+                → (total received_in (done_at id (acts_of k script) (run.follows k less).0) ≤ length (received_by id journal)) ⊎ HasAll opened journal h id
+            received id some takes unshut true over = inr (all_there id some takes unshut over)
+            received id some takes unshut false none =
+                let all = moved receiving id (free_moves id driver.next_id driver.table.entries (takes_on id some takes) journal
+                (λ so over. let no : true ≡ false = sym over ∙ none in cc) plain traced.tell) (others_unshut script bytes k id entries unshut) in
+                let most = received_enough script bytes id entries run.kept.stands in inl (omega (arith, all, most))
 
     wait_complete : (k : ℕ) (why : WaitsFor) → Halts old.driver (acts_of k script) (state_at k apps).progress why driver
         → IsCompleteWait opened journal h (state_at k apps).progress.conn why
@@ -400,5 +595,6 @@ module _ (script : RunScript) (driver : DriverState) (end : Sight) (apps : List 
           device_open = device ∙ device_open;
           waits = λ k less. ending_complete told.0 told.1 k (ends k less);
           exchanges = λ k less. exchanged told.0 told.1 k (ends k less);
+          bounded = bounded_run told.0 told.1;
         },
       )

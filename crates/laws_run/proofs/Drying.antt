@@ -1,5 +1,5 @@
 -- A stage of filling that puts nothing read each stream that may be read, and each gave Again.
-use Rattle.std.proofs.Common.{slice_get, slice_set, ◌-◌, ◌⊎◌, inl, inr}
+use Rattle.std.proofs.Common.{slice_get, slice_set, ◌-◌}
 use Rattle.std.proofs.Common.{◌≡◌, ◌≢◌, ◌≤◌, ◌+◌, ◌==◌, ◌&&◌, ◌||◌, not, ℕ, zero, suc, Bool, true, false, cond, List, [], ◌∷◌, ◌++◌, length, Option, Some, None, refl, sym, ap, subst, ◌∙◌, arith}
 use Rattle.std.proofs.lemmas.{Bool.eq-eqb, Bool.eqb-true, Grind.common_steps, Option.same_Some}
 use Rattle.std.specs.{Option.ForSome, Option.option_map, Option.option_map_or, Prelude.{filter, min, nat_le, nat_lt, take}}

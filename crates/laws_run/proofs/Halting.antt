@@ -15,7 +15,7 @@ use Rattle.vs_driver_parts.specs.Connections.{after_read, after_recv, all_gone_a
 use Rattle.vs_driver_parts.specs.Connections.{is_at_end, nothing_read, read_of, recv_of, state_of, unread_of_id, with_connection, with_end}
 use Rattle.vs_driver_parts.specs.Conversations.{connect_of, connect_with_page, has_page, payload_of, post_packet, reap_all, request_bytes, send_of, send_on}
 use Rattle.vs_driver_parts.specs.Conversations.{no_credit, not_sent, payload_bytes, send_stopped, send_with_credit, send_with_page}
-use Rattle.vs_driver_parts.specs.{Listening.next_accepted, Playing.Plays, Playing.RingAllows, State.DriverEntry, State.DriverState, State.GoneConnection}
+use Rattle.vs_driver_parts.specs.{Listening.next_accepted, Playing.Plays, Playing.RingAllows, State.DriverEntry, State.DriverState, State.GoneConnection, State.Listener}
 use Rattle.vs_driver_parts.specs.State.{entry_known_as, gone_known_as}
 use Rattle.vs_driver_parts.specs.Listening.{after_accept, accept_of, listener_on, with_waiting, without_id}
 use Rattle.vs_driver_parts.specs.declared.answers.{Accepted.Accepted, ConnectError.ConnectError, ConnectionState.ConnectionState, Received.Received, Sent.Sent}
@@ -33,7 +33,7 @@ use Rattle.vs_apps_parts.specs.{Told.{told_of, told_recv, told_send, wait_of}, d
 use Rattle.vs_apps_parts.specs.declared.journal.WaitsFor.TheVariants as waits
 use Rattle.vs_apps_parts.specs.declared.told.Told.TheVariants as says
 use Rattle.laws_apps.specs.Runs.{MakesCalls, Run}
-use Rattle.laws_run.proofs.{Alike.{Alike, HasApart, Leaves, known_too, leaves_core, leaves_none, leaves_then, leaves_wanting, may_send_too, recv_alike}}
+use Rattle.laws_run.proofs.{Alike.{Alike, HasApart, Leaves, accepted_alike, full_alike, known_too, leaves_core, leaves_none, leaves_then, leaves_wanting, may_send_too, recv_alike}}
 use Rattle.laws_run.proofs.{Alike.state_alike, Still.{HasRoom, SameCore, core_same, reaps_all, room_stays}}
 use Rattle.vs_run_report.specs.Right.{may_wait}
 
@@ -50,14 +50,14 @@ StopsSend id (waits.NoDescriptor in_flight) s = Unit {0}
 StopsSend id why s = ⊥
 
 -- What a connect may wait for before it asked, and an accept.
-abbrev pub StopsConnect : WaitsFor → Type 0
-StopsConnect waits.Full = Unit {0}
-StopsConnect (waits.NoDescriptor in_flight) = Unit {0}
-StopsConnect why = ⊥
+abbrev pub StopsConnect : WaitsFor → DriverState → Type 0
+StopsConnect waits.Full s = is_full s ≡ true
+StopsConnect (waits.NoDescriptor in_flight) s = Unit {0}
+StopsConnect why s = ⊥
 
-abbrev pub StopsAccept : WaitsFor → Type 0
-StopsAccept waits.NoneWaiting = Unit {0}
-StopsAccept why = ⊥
+abbrev pub StopsAccept : ℕ → WaitsFor → DriverState → Type 0
+StopsAccept port waits.NoneWaiting s = (is_some (listener_on port s.listeners) ≡ true) × (next_accepted port s ≡ None)
+StopsAccept port why s = ⊥
 
 -- Where a page may be put, nothing waits for one.
 abbrev pub IsRoomy : WaitsFor → Type 0
@@ -72,8 +72,8 @@ abbrev pub Stops : GuestCall → WaitsFor → DriverState → Type 0
 Stops (call.Send id bytes) why s = StopsSend id why s
 Stops (call.Recv id n) why s = wait_of (told_recv (recv_of id n s)) ≡ Some why
 Stops (call.LookAt id) why s = wait_of (told_look (state_of id s)) ≡ Some why
-Stops (call.Connect port) why s = StopsConnect why
-Stops (call.Accept port) why s = StopsAccept why
+Stops (call.Connect port) why s = StopsConnect why s
+Stops (call.Accept port) why s = StopsAccept port why s
 Stops c why s = ⊥
 
 stops_send : (id : ℕ) (why : WaitsFor) (s t : DriverState) → Alike s t → StopsSend id why s → StopsSend id why t
@@ -92,32 +92,61 @@ stops_send id waits.Full s t alike stops = stops
 stops_send id waits.Empty s t alike stops = stops
 stops_send id waits.NoneWaiting s t alike stops = stops
 
+stops_connecting : (why : WaitsFor) (s t : DriverState) → Alike s t → StopsConnect why s → StopsConnect why t
+stops_connecting waits.Full s t alike stops = full_alike s t alike ∙ stops
+stops_connecting (waits.NoDescriptor n) s t alike stops = tt
+stops_connecting waits.NotOpen s t alike stops = stops
+stops_connecting (waits.NoCredit tx alloc fwd) s t alike stops = stops
+stops_connecting waits.Empty s t alike stops = stops
+stops_connecting waits.NoneWaiting s t alike stops = stops
+
+stops_accepting : (port : ℕ) (why : WaitsFor) (s t : DriverState) → Alike s t → StopsAccept port why s → StopsAccept port why t
+stops_accepting port waits.NoneWaiting s t alike stops =
+    (ap (λ (ls : List Listener). is_some (listener_on port ls)) alike.listeners ∙ stops.0, accepted_alike s t alike port ∙ stops.1)
+stops_accepting port waits.Full s t alike stops = stops
+stops_accepting port (waits.NoDescriptor n) s t alike stops = stops
+stops_accepting port waits.NotOpen s t alike stops = stops
+stops_accepting port (waits.NoCredit tx alloc fwd) s t alike stops = stops
+stops_accepting port waits.Empty s t alike stops = stops
+
 pub stops_alike : (c : GuestCall) (why : WaitsFor) (s t : DriverState) → Alike s t → Stops c why s → Stops c why t
 stops_alike (call.Send id bytes) why s t alike stops = stops_send id why s t alike stops
 stops_alike (call.Recv id n) why s t alike stops = ap (λ (r : Received). wait_of (told_recv r)) (recv_alike s t alike id n) ∙ stops
 stops_alike (call.LookAt id) why s t alike stops = ap (λ st. wait_of (told_look st)) (state_alike s t alike id) ∙ stops
-stops_alike (call.Connect port) why s t alike stops = stops
+stops_alike (call.Connect port) why s t alike stops = stops_connecting why s t alike stops
 stops_alike (call.Listen port) why s t alike stops = stops
 stops_alike (call.Unlisten port) why s t alike stops = stops
-stops_alike (call.Accept port) why s t alike stops = stops
+stops_alike (call.Accept port) why s t alike stops = stops_accepting port why s t alike stops
 stops_alike (call.Shutdown id bits) why s t alike stops = stops
+stops_alike (call.Grow id alloc) why s t alike stops = stops
 stops_alike (call.Close id) why s t alike stops = stops
 
 -- A connect.
 abbrev Connects : DriverState → DriverState × Result ℕ ConnectError → Type 0
-Connects s x = (why : WaitsFor) → wait_of (told_connect x.1) ≡ Some why → SameCore s x.0 × StopsConnect why × (HasRoom s → IsRoomy why)
+Connects s x = (why : WaitsFor) → wait_of (told_connect x.1) ≡ Some why → SameCore s x.0 × StopsConnect why s × (HasRoom s → IsRoomy why)
 
-stops_connect : (r : Result ℕ ConnectError) (why : WaitsFor) → wait_of (told_connect r) ≡ Some why → StopsConnect why
-stops_connect (Ok id) why is = absurd cc
-stops_connect (Err (refused.Full slots)) why is = subst StopsConnect (same_Some waits.Full why is) tt
-stops_connect (Err (refused.NoDescriptor n)) why is = subst StopsConnect (same_Some (waits.NoDescriptor n) why is) tt
-stops_connect (Err (refused.BadPort port)) why is = absurd cc
-stops_connect (Err (refused.PortsSpent port id)) why is = absurd cc
+-- What refuses a connect at once, and what an accept finds that waits.
+full_by : (host slots : ℕ) (s : DriverState) (a b c : Bool) → cond a (Some (refused.BadPort host)) (cond b (Some (refused.Full DRIVER_CONNECTIONS))
+    (cond c (Some (refused.PortsSpent s.last_port s.last_id)) None)) ≡ Some (refused.Full slots) → b ≡ true
+full_by host slots s true b c is = absurd cc
+full_by host slots s false true c is = refl
+full_by host slots s false false true is = absurd cc
+full_by host slots s false false false is = absurd cc
 
-stops_accept : (r : Accepted) (why : WaitsFor) → wait_of (told_accept r) ≡ Some why → StopsAccept why
-stops_accept accepted.None why is = subst StopsAccept (same_Some waits.NoneWaiting why is) tt
-stops_accept (accepted.Conn id) why is = absurd cc
-stops_accept accepted.NotListening why is = absurd cc
+stops_connect : (host : ℕ) (s : DriverState) (r : ConnectError) (why : WaitsFor) → connect_refusal host s ≡ Some r → wait_of (told_connect (Err r)) ≡ Some why
+    → StopsConnect why s
+stops_connect host s (refused.Full slots) why at is =
+    subst (λ (w : WaitsFor). StopsConnect w s) (same_Some waits.Full why is) (full_by host slots s (is_assigned host) (is_full s) (is_spent s) at)
+stops_connect host s (refused.NoDescriptor n) why at is = subst (λ (w : WaitsFor). StopsConnect w s) (same_Some (waits.NoDescriptor n) why is) tt
+stops_connect host s (refused.BadPort port) why at is = absurd cc
+stops_connect host s (refused.PortsSpent port id) why at is = absurd cc
+
+stops_accept : (port : ℕ) (s : DriverState) (b : Bool) (o : Option ℕ) (why : WaitsFor) → is_some (listener_on port s.listeners) ≡ b → next_accepted port s ≡ o
+    → wait_of (told_accept (cond b (elim o as (λ _. Accepted) [ None ↦ accepted.None | Some id ↦ accepted.Conn id ]) accepted.NotListening)) ≡ Some why
+    → StopsAccept port why s
+stops_accept port s true None why listens none is = subst (λ (w : WaitsFor). StopsAccept port w s) (same_Some waits.NoneWaiting why is) (listens, none)
+stops_accept port s true (Some id) why listens some is = absurd cc
+stops_accept port s false o why listens none is = absurd cc
 
 connects_page : (host : ℕ) (s t : DriverState) → SameCore s t → AllEnds (Connects s) (connect_with_page host t)
 connects_page host s t same = by (has_page t) refl
@@ -127,7 +156,7 @@ connects_page host s t same = by (has_page t) refl
     by true has = λ a b why waits. absurd cc
     by false has = λ why is. (
       same,
-      stops_connect (Err (refused.NoDescriptor t.in_flight)) why is,
+      subst (λ (w : WaitsFor). StopsConnect w s) (same_Some (waits.NoDescriptor t.in_flight) why is) tt,
       λ room. absurd (no_room t.in_flight t.size has (room_stays s t same room)),
     )
 
@@ -150,7 +179,7 @@ connects_as : (host : ℕ) (s : DriverState) (o : Option ConnectError) → conne
   | Some refusal ↦ Done (s, Err refusal)
   | None ↦ bind (reap_all s) (connect_with_page host)
 ])
-connects_as host s (Some refusal) at = λ why is. (core_same s, stops_connect (Err refusal) why is, λ room. refusal_roomy host s refusal why at is)
+connects_as host s (Some refusal) at = λ why is. (core_same s, stops_connect host s refusal why at is, λ room. refusal_roomy host s refusal why at is)
 connects_as host s None at =
     ends_then (Connects s) (SameCore s) (reap_all s) (connect_with_page host) (reaps_all s) (λ t same. connects_page host s t same)
 
@@ -302,12 +331,13 @@ waits_leave (call.Accept port) s t old new reply why plays waits =
     let so : wait_of (told_accept (accept_of port s)) ≡ Some why = ap (λ x. wait_of (told_accept x.1)) same ∙ waits in
     let stays : t ≡ s = sym (ap (λ x. x.0) same) ∙ accept_stays port s (is_some (listener_on port s.listeners)) (next_accepted port s) why so in (
       same_leaves s t stays,
-      stops_accept (accept_of port s) why so,
+      stops_accept port s (is_some (listener_on port s.listeners)) (next_accepted port s) why refl refl so,
       λ room. (subst HasRoom (sym stays) room, accept_roomy (accept_of port s) why so),
     )
 waits_leave (call.Listen port) s t old new reply why plays waits = absurd cc
 waits_leave (call.Unlisten port) s t old new reply why plays waits = absurd cc
 waits_leave (call.Shutdown id bits) s t old new reply why plays waits = absurd cc
+waits_leave (call.Grow id alloc) s t old new reply why plays waits = absurd cc
 waits_leave (call.Close id) s t old new reply why plays waits = absurd cc
 
 -- The calls of a step that waits: the last of them is the one that says for what.

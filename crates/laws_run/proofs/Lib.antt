@@ -11,4 +11,7 @@ pub mod Open
 pub mod Unread
 pub mod Drying
 pub mod Pumping
+pub mod Bounding
 pub mod Completing
+pub mod Lines
+pub mod Holding

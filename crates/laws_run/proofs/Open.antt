@@ -17,7 +17,7 @@ use Rattle.laws_device_bytes.specs.Streamed.{IsJoined, IsStreamed, Seen, client_
 use Rattle.laws_device_bytes.proofs.{Hosts.there}
 use Rattle.laws_run.specs.Complete.{open_label, open_labels}
 
-same_flows : IsEquivalence same_flow
+pub same_flows : IsEquivalence same_flow
 same_flows = record {
   refl = same_self;
   symm = λ f g. by f g (same_flow f g) refl (same_flow g f) refl;
@@ -42,13 +42,13 @@ label_open f (x ∷ xs) = by (is_open_in x.state) x.label (label_open f xs)
     by true None rest = rest
     by true (Some g) rest = ap (λ (c : Bool). same_flow f g || c) rest
 
-record IsPlaced (f : Flow) (xs : List Stream) : Type 0 where
-  place : ℕ
-  stream : Stream
-  at : slice_get xs place ≡ Some stream
-  label : stream.label ≡ Some f
+pub record IsPlaced (f : Flow) (xs : List Stream) : Type 0 where
+  pub place : ℕ
+  pub stream : Stream
+  pub at : slice_get xs place ≡ Some stream
+  pub label : stream.label ≡ Some f
 
-placed_in : (f : Flow) (xs : List Stream) → list_any (is_open_on f) xs ≡ true → IsPlaced f xs
+pub placed_in : (f : Flow) (xs : List Stream) → list_any (is_open_on f) xs ≡ true → IsPlaced f xs
 placed_in f [] is = absurd cc
 placed_in f (x ∷ xs) is = by (is_open_in x.state) x.label refl is (placed_in f xs)
   where
@@ -160,7 +160,7 @@ module _ (h : HostContents) (log : Log) (port : ℕ) (t : Table DeviceConnection
 module _ (h : HostContents) (log : Log) (port : ℕ) (t : Table DeviceConnection) (hands : List Handshake) (streamed : IsStreamed h log port t hands)
     (table : IsTable t) (is_open : (e : DeviceEntry) → Contains t.entries e → e.value.closed ≡ false) where
   -- A stream that is seen has a place.
-  looked : (k : ℕ) (s : Stream) → slice_get h.streams k ≡ Some s → look h (k + 1) ≡ Some (seen s)
+  pub looked : (k : ℕ) (s : Stream) → slice_get h.streams k ≡ Some s → look h (k + 1) ≡ Some (seen s)
   looked k s at =
       let some : (k + 1 == 0) ≡ false = grind (arith, nat_tests) in
       let back : k + 1 - 1 ≡ k = omega arith in

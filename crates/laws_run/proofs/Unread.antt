@@ -1,24 +1,23 @@
 -- What of a connection's payload its host's program has still to read, where the device holds many bytes of it.
-use Rattle.std.proofs.Common.{◌≡◌, ◌⊎◌, inl, inr, ℕ, ◌+◌, ◌-◌, ◌≤◌, ◌<◌, ◌%◌, ◌^◌, ◌==◌, ◌||◌, not, Bool, true, false, cond, List, [], ◌∷◌, ◌++◌, length, Contains, Some}
+use Rattle.std.proofs.Common.{◌≡◌, ◌⊎◌, inl, inr, ℕ, ◌+◌, ◌-◌, ◌≤◌, ◌<◌, ◌%◌, ◌^◌, ◌==◌, ◌&&◌, ◌||◌, not, Bool, true, false, cond, List, [], ◌∷◌, ◌++◌, length, Contains, Some}
 use Rattle.std.proofs.Common.{Ok, Err, None, Option, codes, decimal, refl, sym, ap, subst, ◌∙◌, arith, length-append}
 use Rattle.std.proofs.lemmas.{Bool.Decides.nat_tests, List.Elements.All-contains}
-use Rattle.vs_wrap.specs.Wrap.{difference32}
 use Rattle.vs_credit.specs.Credit.{free_of, unread_of}
-use Rattle.vs_conn.specs.{End.{ConnectionEnd, may_send_of, state_may_send}, Follows.{Follows, IsLeftBy}, declared.end.State.{State, TheVariants.{Asked, Live}}}
+use Rattle.vs_conn.specs.{End.{ConnectionEnd, may_send_of, state_may_send}, Follows.{Follows, IsLeftBy}, Shut.is_both, declared.end.State.{State, TheVariants.{Asked, Ended, Live}}}
 use Rattle.vs_conn.specs.declared.end.Stop.TheVariants as stop
 use Rattle.vs_flow.specs.{Connection.first_of, Flow.is_assigned, Table.Table, declared.flow.Flow.Flow}
-use Rattle.vs_outside.specs.{Host.HostContents, HostBytes.after_line, HostBytes.host_read, HostBytes.read_after_ok}
+use Rattle.vs_outside.specs.{Host.HostContents, HostBytes.after_line, HostBytes.host_read}
 use Rattle.vs_uds.{proofs.Leading.has_lf-digits, proofs.Ports.WritesPort-decimal, specs.OkLine.ok_text}
-use Rattle.laws_history.specs.{History.{History, Side, gots, puts}, Packets.bytes, Packets.told_forwarded, declared.packet.Packet.Packet}
-use Rattle.vs_page.specs.{Fair.IsFairLog, Fair.number_of, Fair.payload_got, Fair.payload_of, Log.{Device, Log, history_of, side_of}, Open.left_kind}
+use Rattle.laws_history.specs.{History.{History, Side, gots, puts}, Packets.bytes, Packets.told_forwarded}
+use Rattle.vs_page.specs.{Fair.IsFairLog, Fair.number_of, Log.{Device, Log, history_of, side_of}, Open.left_kind}
 use Rattle.vs_page.proofs.{Payload.length-payload_of, Present.first_got}
 use Rattle.vs_device_parts.specs.State.{DeviceConnection, DeviceEntry}
 use Rattle.vs_proxy_parts.specs.State.{Handshake}
-use Rattle.laws_tables.specs.{Ends.Ends, Ends.ends_of, Ends.is_among, Ends.replied, Heard.heard_of, Matches.{IsBefore, IsHeld, IsLeftOn, Matches}, Steps.HasEnd}
+use Rattle.laws_tables.specs.{Ends.Ends, Ends.ends_of, Ends.is_among, Ends.replied, Heard.heard_of, Matches.{IsBefore, IsLeftOn, Matches}, Steps.HasEnd}
 use Rattle.laws_tables.proofs.Fair.{heard_less}
 use Rattle.laws_bytes.specs.Drains.{got_on}
 use Rattle.laws_bytes.proofs.Firsts.{once_got}
-use Rattle.laws_device_bytes.specs.Streamed.{IsJoined, IsStreamed, gives, gives_in, has_line, line_for, look}
+use Rattle.laws_device_bytes.specs.Streamed.{IsJoined, IsStreamed, gives_in, has_line, look}
 use Rattle.laws_device_bytes.proofs.{Hosts.there, Lines.{after_is_rest, after_longer, line_ends, line_whole, rest_of}}
 use Rattle.laws_rest.proofs.Hosts.{read_own}
 
@@ -32,7 +31,7 @@ no_free e live says = by e.own.send e.peer.receive refl (sym (ap (λ (st : State
     by false false is says = ((let same : free_of e.credit ≡ 0 = cc in same), is)
 
 -- An end has no more unread than it got on its flow.
-followed : (side : Side) (h : History) (kind : Option ℕ) (owed : Bool) (ends : List ConnectionEnd) (e : ConnectionEnd) → IsLeftOn Device side h kind owed ends
+pub followed : (side : Side) (h : History) (kind : Option ℕ) (owed : Bool) (ends : List ConnectionEnd) (e : ConnectionEnd) → IsLeftOn Device side h kind owed ends
     → ends ≡ e ∷ [] → e.state ≡ Live → Follows side (puts h) (gots h) e
 followed side h (Some kind) false ends e held is live =
     let same : held.0 ≡ e = (let one = sym held.1 ∙ is in cc) in subst (λ (x : ConnectionEnd). Follows side (puts h) (gots h) x) same held.2
@@ -59,6 +58,21 @@ module _ (first : ℕ) (part : Ends) (log : Log) (matches : Matches Device first
       let len = length-payload_of (gots (history_of Device f log)) in
       let got = ap (λ (bs : List ℕ). length bs) (sym (once_got Device f log (fair f) few) ∙ first_got Device f log (fair f) few) in
       omega (arith, most, less, len, got)
+
+  -- Where its peer neither sends nor receives any more, something is unread: else it would be over.
+  pub some_unread : is_both e.peer ≡ true → 1 ≤ unread_of e.credit
+  some_unread both = by (unread_of e.credit == 0) refl
+    where
+      follows : Follows (side_of Device f) (puts (heard_of Device first f log)) (gots (heard_of Device first f log)) e
+      follows = followed (side_of Device f) (heard_of Device first f log) (left_kind Device first f log) (is_among f (replied part.replies)) (ends_of f part.entries) e
+          (matches.flows.on f) has live
+
+      by : (b : Bool) → (unread_of e.credit == 0) ≡ b → 1 ≤ unread_of e.credit
+      by false some = grind (arith, nat_tests, some)
+      by true none =
+          let over : e.state ≡ Ended = (follows.left (λ over. absurd (let no : Ended ≡ Live = sym over ∙ live in cc))).settled
+          (ap (λ (b : Bool). b && (unread_of e.credit == 0)) both ∙ none) in
+          absurd (let no : Ended ≡ Live = sym over ∙ live in cc)
 
 -- Of what a stream was given, the lines aside, and what is pending for it.
 no_rest : (xs : List ℕ) → has_line xs ≡ false → rest_of xs ≡ []

@@ -6,7 +6,7 @@ use Rattle.std.specs.{Prelude.nat_lt, Prelude.is_some}
 use Rattle.vs_conn.specs.{End.ConnectionEnd, End.may_send_of, End.state_may_send, declared.end.State.State, declared.end.State.TheVariants.{Answering, Asked, Ended, Live}}
 use Rattle.vs_conn.specs.declared.end.Stop.TheVariants as stop
 use Rattle.vs_credit.specs.Credit.{free_of}
-use Rattle.vs_script.specs.App.{Act, Connect, Listen, Accept, Send, Recv, Drain, Exchange, Shutdown, Close}
+use Rattle.vs_script.specs.App.{Act, Connect, Listen, Accept, Send, Recv, Drain, Exchange, Shutdown, Grow, Close}
 use Rattle.vs_script.specs.Data.{size_of}
 use Rattle.vs_driver_parts.specs.Connections.{entry_answer, gone_answer, is_at_end, nothing_read, read_of, recv_of, state_of, state_shown}
 use Rattle.vs_driver_parts.specs.State.{DriverEntry, DriverState, GoneConnection, entry_known_as, gone_known_as}
@@ -130,6 +130,7 @@ not_open (call.Listen port) s stops = absurd stops
 not_open (call.Unlisten port) s stops = absurd stops
 not_open (call.Accept port) s stops = absurd stops
 not_open (call.Shutdown id bits) s stops = absurd stops
+not_open (call.Grow id alloc) s stops = absurd stops
 not_open (call.Close id) s stops = absurd stops
 
 pub record IsReceive (c : GuestCall) (s : DriverState) : Type 0 where
@@ -147,6 +148,7 @@ empty_call (call.Listen port) s stops = absurd stops
 empty_call (call.Unlisten port) s stops = absurd stops
 empty_call (call.Accept port) s stops = absurd stops
 empty_call (call.Shutdown id bits) s stops = absurd stops
+empty_call (call.Grow id alloc) s stops = absurd stops
 empty_call (call.Close id) s stops = absurd stops
 
 -- A send that lacks credit.
@@ -181,6 +183,7 @@ credit_call (call.Listen port) s tx alloc fwd stops = absurd stops
 credit_call (call.Unlisten port) s tx alloc fwd stops = absurd stops
 credit_call (call.Accept port) s tx alloc fwd stops = absurd stops
 credit_call (call.Shutdown id bits) s tx alloc fwd stops = absurd stops
+credit_call (call.Grow id most) s tx alloc fwd stops = absurd stops
 credit_call (call.Close id) s tx alloc fwd stops = absurd stops
 
 -- A send and a receive name the connection that the app is at.
@@ -203,6 +206,7 @@ send_id (Exchange c) p id bytes last = by (nat_lt p.sent (size_of c)) (nat_lt p.
     by false true is = absurd cc
     by false false is = absurd cc
 send_id (Shutdown bits) p id bytes last = absurd cc
+send_id (Grow alloc) p id bytes last = absurd cc
 send_id Close p id bytes last = absurd cc
 
 pub recv_id : (act : Act) (p : Progress) (id n : ℕ) → last_of (calls_next act p) ≡ Some (call.Recv id n) → id_of p ≡ id
@@ -224,4 +228,5 @@ recv_id (Exchange c) p id n last = by (nat_lt p.sent (size_of c)) (nat_lt p.got 
     by false true is = cc
     by false false is = absurd cc
 recv_id (Shutdown bits) p id n last = absurd cc
+recv_id (Grow alloc) p id n last = absurd cc
 recv_id Close p id n last = absurd cc

@@ -1,2 +1,4 @@
 pub mod Dry
+pub mod Bounds
 pub mod Complete
+pub mod Places

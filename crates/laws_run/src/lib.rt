@@ -3,3 +3,4 @@
 
 pub mod complete;
 pub mod laws;
+pub mod places;

@@ -2,8 +2,7 @@
 use Rattle.std.proofs.Common.{◌≡◌, ◌==◌, ◌-◌, ℕ, zero, suc, Bool, true, false, cond, List, [], ◌∷◌, Option, Some, None, refl, sym, ap, subst, ◌∙◌}
 use Rattle.std.proofs.Common.{arith, slice_get}
 use Rattle.std.proofs.{lemmas.List.Elements.{All-cons, All-head, All-nil, All-tail}, lemmas.Option.same_Some}
-use Rattle.std.specs.{List.All, Option.ForSome, Option.option_map}
-use Rattle.laws_history.specs.declared.packet.Packet.{Packet}
+use Rattle.std.specs.{List.All, Option.option_map}
 use Rattle.vs_flow.specs.{Table.Table, declared.flow.Flow.Flow}
 use Rattle.vs_limits.specs.declared.TheConstants.{ASSIGNED_FIRST, FIRST_CID}
 use Rattle.vs_outside.specs.Host.{HostContents, Stream, is_waiting, stream_at}

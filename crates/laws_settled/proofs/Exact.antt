@@ -20,11 +20,10 @@ use Rattle.vs_ring_port.specs.{Chains.bytes_in, Contents.{DeviceAnswer, DeviceCa
 use Rattle.vs_ring_port.specs.{DeviceCalls.IsTakenAs, EndLog.{EndLog, log_reset, log_returned, log_taken, log_written}}
 use Rattle.vs_ring_port.specs.declared.{device_ring.Chain.Chain, device_ring.Next.Next, failure.Failure.Failure, queue.Queue.TheVariants.Tx}
 use Rattle.vs_ring_port.specs.declared.device_ring.Next.TheVariants as next
-use Rattle.vs_uds.specs.{OkLine.ok_text, Path.path_of}
-use Rattle.vs_device_parts.specs.Calls.{Accept, Allows, Answer, Call, CloseStream, Dial, Label, ReadStream, Ring, ShutWrite, Situation, WriteStream}
-use Rattle.vs_device_parts.specs.Connections.{after_shut, after_written, cut_off, new_connection, with_connection, with_reply}
+use Rattle.vs_device_parts.specs.Calls.{Accept, Allows, Answer, Call, CloseStream, Label, ReadStream, Ring, ShutWrite, Situation, WriteStream}
+use Rattle.vs_device_parts.specs.Connections.{after_shut, after_written, cut_off, new_connection}
 use Rattle.vs_device_parts.specs.{Playing.Runs, State.DeviceConnection, State.DeviceEntry, State.DeviceState, Streams.to_write}
-use Rattle.vs_device_parts.specs.Transmitting.{dial_answered, heard, on_header, on_known, on_next, on_packet, on_unknown, take_tx_of, try_request}
+use Rattle.vs_device_parts.specs.Transmitting.{dial_answered, heard, on_header, on_known, on_next, on_packet, on_unknown, take_tx_of}
 use Rattle.vs_device_parts.specs.declared.answers.Taken.TheVariants as taken
 use Rattle.vs_proxy_parts.specs.{State.Handshake, State.ProxyState, Turns.turn_of, declared.answers.Turn.Turn}
 use Rattle.laws_bytes.proofs.Changes.{without_changed}
@@ -32,7 +31,7 @@ use Rattle.laws_device.specs.Honest.{HoldsBytes}
 use Rattle.laws_device.proofs.Fits as fits
 use Rattle.laws_device.proofs.{Ringing.same_self, Fits.{fewer, fits_after, fits_forwarded, fits_paid, fits_sent, fits_shut}}
 use Rattle.laws_device_streams.proofs.Keeping.{asking, keeps_end}
-use Rattle.laws_device_walk.specs.Seen.{Seen, seen}
+use Rattle.laws_device_walk.specs.Seen.{Seen}
 use Rattle.laws_device_walk.proofs.Keeping.{Asking, Keeps, keeps_if, keeps_some, keeps_then}
 use Rattle.laws_device_walk.proofs.Serving.{AfterRead, AfterWrite, Closes, Fills, IsIn, Writes, by_flow, keeps_fill_rx, keeps_leaving, keeps_pay_event, keeps_pump, keeps_tick}
 use Rattle.laws_device_walk.proofs.Serving as serving

@@ -3,6 +3,7 @@ pub mod Hosted
 pub mod Asked
 pub mod Taking
 pub mod Quieting
+pub mod Shutting
 pub mod Steady
 pub mod Resting
 pub mod Tallying

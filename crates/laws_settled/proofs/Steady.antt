@@ -13,7 +13,7 @@ use Rattle.vs_page.specs.Log.{Device, Log}
 use Rattle.vs_proxy_parts.specs.{State.ProxyState, Turns.new_proxy, Turns.turn_of, declared.answers.Turn.Turn}
 use Rattle.laws_proxy.proofs.Ordered.{new_in_order, turn_honest, turn_streams}
 use Rattle.laws_settled.specs.{Hosts.IsHosts, Settled.IsSteady}
-use Rattle.laws_settled.proofs.{Asked.turn_asks, Exact.exact_turns, Hosted.turn_hosts}
+use Rattle.laws_settled.proofs.{Asked.turn_asks, Exact.exact_turns, Hosted.turn_hosts, Shutting.turn_shuts}
 use Rattle.laws_asked.specs.Asked.{AskOnce}
 use Rattle.laws_asked.proofs.Asking.{begins_once}
 use Rattle.laws_device.specs.Honest.{ends_of_state}
@@ -35,6 +35,7 @@ new_steady base a l told silent none = record {
       subst (λ (log : Log). AskOnce Device (record { part = ends_of_state (new_proxy FIRST_CID base).next_port (new_proxy FIRST_CID base).device; log = log }))
       (sym (ap (λ (x : EndLog). x.entries) (sym same) ∙ silent)) (begins_once Device FIRST_CID ASSIGNED_FIRST);
   exact = λ i d within. absurd (omega (arith, within));
+  shut = λ h is i d within. absurd (omega (arith, within));
 }
 
 -- A ring that tells of resets tells its log.
@@ -57,6 +58,7 @@ turn_steady size now s a b x steady runs =
       hosts = turn_hosts FIRST_CID size now s a b x steady.order.ring steady.hosts runs;
       asks = turn_asks FIRST_CID size now s a b x steady.order.ring steady.asks runs;
       exact = exact_turns size now s a b x told.0 told.1 steady.exact runs;
+      shut = turn_shuts size now s a b x steady.shut runs;
     }
 
 -- What the device was told of stays.

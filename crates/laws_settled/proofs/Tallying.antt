@@ -21,7 +21,7 @@ use Rattle.vs_ring_port.specs.{DeviceCalls.{IsTakenAs, IsTakenWhole}, EndLog.{En
 use Rattle.vs_ring_port.specs.EndLog.{log_reset, log_written, with_event, with_packet}
 use Rattle.vs_ring_port.specs.declared.{device_ring.Chain.Chain, device_ring.Next.Next, queue.Queue.Queue, queue.Queue.TheVariants.{Event, Rx, Tx}}
 use Rattle.vs_ring_port.specs.declared.device_ring.Next.TheVariants as next
-use Rattle.vs_device_parts.specs.Calls.{Allows, Answer, Call, DeviceTree, Ring, Situation}
+use Rattle.vs_device_parts.specs.Calls.{Allows, Answer, DeviceTree, Ring, Situation}
 use Rattle.vs_device_parts.specs.{Connections.route_to_guest, Playing.Runs, Receiving.written}
 use Rattle.vs_device_parts.specs.{State.DeviceEntry, State.DeviceState}
 use Rattle.vs_proxy_parts.specs.{State.Handshake, State.ProxyState, declared.answers.Turn.Turn, Turns.turn_of}
@@ -34,13 +34,13 @@ use Rattle.laws_device_walk.proofs.Taking as taking
 use Rattle.laws_settled.specs.Begun.{CountsFailed, IsKept}
 
 -- Of each call what ring and host allow.
-abbrev allowed : Asking Situation
+abbrev pub allowed : Asking Situation
 allowed = record {
   asks = λ call c P. (a : Answer call) (d : Situation) → Allows call a c d → P a d;
   weaker = λ call c P R then asks a d made. then a d (asks a d made);
 }
 
-runs_end : {A : Type 0} (Q : A → Situation → Type 0) (tree : DeviceTree A) (c d : Situation) (x : A) → Keeps allowed Q tree c → Runs tree c x d → Q x d
+pub runs_end : {A : Type 0} (Q : A → Situation → Type 0) (tree : DeviceTree A) (c d : Situation) (x : A) → Keeps allowed Q tree c → Runs tree c x d → Q x d
 runs_end Q (Done y) c d x keeps runs =
     subst (λ (e : Situation). Q x e) runs.1 (subst (λ z. Q z c) runs.0 keeps)
 runs_end Q (Ask call go) c d x keeps runs = runs_end Q (go runs.0) runs.1 d x (keeps runs.0 runs.1 runs.2) runs.3

@@ -1,3 +1,4 @@
+pub mod Shut
 pub mod Exact
 pub mod Hosts
 pub mod Asked

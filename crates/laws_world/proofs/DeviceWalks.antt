@@ -9,23 +9,23 @@ use Rattle.vs_outside.specs.Host.{HostContents, IsDialed, IsWritten, accept_answ
 use Rattle.vs_outside.specs.Host.{after_label, after_read, after_shut_write, after_write, dial_answer, dial_failed, fails_now, read_answer}
 use Rattle.vs_outside.specs.{Host.{read_failed, stream_at, write_answer, write_failed}, Faults.{CountsFault, one_more}}
 use Rattle.vs_outside.specs.declared.host_net.{Dialed.Dialed, StreamRead.StreamRead, StreamWrite.StreamWrite}
-use Rattle.vs_page.specs.Held.{FitsWire, event_held, held_in, packet_held}
-use Rattle.vs_page.specs.declared.log.LogEntry.TheVariants.{GotPacket, PutEvent, PutPacket}
-use Rattle.vs_page.{specs.Fair.IsFairLog, specs.Log.Device, specs.Log.Driver, specs.Log.IsNextPacket, proofs.Entries.next_fair}
+use Rattle.vs_page.specs.{Fair.IsFairLog, Held.FitsWire, Held.held_in, Held.packet_held, Log.Device, Log.IsNextPacket, Log.Log}
+use Rattle.vs_page.specs.declared.log.LogEntry.TheVariants.{GotPacket, PutPacket}
 use Rattle.vs_ring_port.specs.{Chains.{Held, bytes_in, same_chain, with_bytes, without_held, held_of}, Contents.{DeviceAnswer, DeviceCall}}
 use Rattle.vs_ring_port.specs.{Contents.{Given, PublishCid, Read, Return, RingContents, Take, Write}, DeviceCalls.{DeviceMoves, IsTakenAs}}
-use Rattle.vs_ring_port.specs.{DeviceCalls.{IsTakenWhole, IsWholePacket}, EndLog.{EndLog, entries_returned, log_reset, log_returned}}
-use Rattle.vs_ring_port.specs.{EndLog.{log_taken, log_written, with_event, with_packet}, Lists.{Rings, after_return, after_take, next_at}}
-use Rattle.vs_ring_port.specs.{Lists.{next_given, queue_of}, declared.queue.Queue.TheVariants.{Event, Rx, Tx}}
-use Rattle.vs_ring_port.specs.declared.{device_ring.Chain.Chain, queue.Queue.Queue}
-use Rattle.vs_ring_list.{specs.Ends.Ends, specs.Ends.device_contents, proofs.Held.same_chain_is}
+use Rattle.vs_ring_port.specs.{DeviceCalls.{IsTakenWhole, IsWholePacket, device_answer}, EndLog.{EndLog, entries_returned, log_reset}}
+use Rattle.vs_ring_port.specs.{EndLog.{log_returned, log_taken, log_written, with_packet}, Lists.{Rings, after_return, after_take}}
+use Rattle.vs_ring_port.specs.Lists.{all_but_oldest, next_at, next_given, oldest, place_after, queue_of, with_queue}
+use Rattle.vs_ring_port.specs.declared.{queue.Queue.Queue, queue.Queue.TheVariants.{Event, Rx, Tx}, device_ring.Chain.Chain}
+use Rattle.vs_ring_list.{specs.Ends.Ends, specs.Ends.device_contents, specs.Sound.IsTied, proofs.Held.same_chain_is}
+use Rattle.vs_ring_list.proofs.Ties.{fair-return_event, tied-return, tied-take}
 use Rattle.vs_device_parts.specs.Calls.{Accept, Call, CloseStream, DeviceTree, Dial, HostMoves, IsFitAnswer, IsReadOf, Label, ReadStream}
 use Rattle.vs_device_parts.specs.{Calls.Ring, Calls.ShutWrite, Calls.Situation, Calls.TakesWithin, Calls.WriteStream, Playing.situation}
 use Rattle.laws_device.proofs.Keeping.{Can, Keeps, Lets}
 use Rattle.laws_device.{specs.Honest.is_held, proofs.Seats.PutsFit, proofs.Transmitting.header_is}
 use Rattle.laws_device_bytes.proofs.Short.{bytes_short, read_short, write_short}
-use Rattle.laws_world.specs.{Answers.Around, Answers.answer_around, Answers.bytes_with, Laws.AreQueued, Pages.PageHolds}
-use Rattle.laws_world.proofs.{Played.driver_got, Queues.device_keeps, Rings.AreGiven, Rings.given_left, Wire.next_fits}
+use Rattle.laws_world.specs.{Answers.Around, Answers.answer_around, Answers.bytes_with, Pages.PageHolds}
+use Rattle.laws_world.proofs.{Rings.AreGiven, Rings.given_left, Wire.next_fits}
 use Rattle.vs_outside.specs.declared.host_net.Dialed.TheVariants as dialed
 use Rattle.vs_outside.specs.declared.host_net.StreamRead.TheVariants as read
 use Rattle.vs_outside.specs.declared.host_net.StreamWrite.TheVariants as write
@@ -68,17 +68,14 @@ none_taken [] = refl
 none_taken (b ∷ bytes) = refl
 
 -- What is returned leaves the log fair.
-returned_fair : (queue : Queue) (len : ℕ) (bytes : List ℕ) (log : EndLog) → IsFairLog Device log.entries → (0 < len → IsWholePacket queue (take len bytes) log)
-    → IsFairLog Device (entries_returned queue (take len bytes) log.entries)
-returned_fair Tx len bytes log fair whole = fair
-returned_fair Event len bytes log fair whole = by (event_held (take len bytes))
-  where
-    by : (o : Option ℕ) → IsFairLog Device (with_event (λ id. PutEvent id) o log.entries)
-    by None = fair
-    by (Some id) = fair
-returned_fair Rx zero bytes log fair whole =
-    subst (λ (page : List ℕ). IsFairLog Device (with_packet (λ p. PutPacket p) (packet_held page) log.entries)) (sym (none_taken bytes)) fair
-returned_fair Rx (suc n) bytes log fair whole = (whole (omega arith)).1
+returned_fair : (queue : Queue) (len : ℕ) (bytes : List ℕ) (lists : Rings) (driver : Log) (log : EndLog) → IsTied lists driver log.entries
+    → (0 < len → IsWholePacket queue (take len bytes) log) → IsFairLog Device (entries_returned queue (take len bytes) log.entries)
+returned_fair Tx len bytes lists driver log tied whole = tied.device_fair
+returned_fair Event len bytes lists driver log tied whole = fair-return_event lists driver log.entries tied (take len bytes)
+returned_fair Rx zero bytes lists driver log tied whole =
+    subst (λ (page : List ℕ). IsFairLog Device (with_packet (λ p. PutPacket p) (packet_held page) log.entries)) (sym (none_taken bytes))
+    tied.device_fair
+returned_fair Rx (suc n) bytes lists driver log tied whole = (whole (omega arith)).1
 
 same_cid : (q : Queue) (page : List ℕ) (lists : Rings) → (after_return q page lists).cid ≡ lists.cid
 same_cid Rx page lists = refl
@@ -108,7 +105,7 @@ writes stream n h (write.Took k) is = (sym is, write_short n k (fails_now h) (st
 writes stream n h write.Failed is = (tt, tt)
 writes stream n h x is = (sym is, tt)
 
-module _ (base : Ends) (there : IsFairLog Driver base.driver.entries) (fit : PutsFit base.driver.entries) where
+module _ (base : Ends) (fit : PutsFit base.driver.entries) where
   abbrev ring : Around → RingContents
   ring s = device_contents (record base { lists = s.lists; device = s.log })
 
@@ -116,8 +113,7 @@ module _ (base : Ends) (there : IsFairLog Driver base.driver.entries) (fit : Put
   exposed s n = situation (ring s) (Some s.host) n
 
   pub record Ties (s : Around) : Type 0 where
-    pub queued : AreQueued s.lists base.driver.entries s.log.entries
-    pub fair : IsFairLog Device s.log.entries
+    pub tied : IsTied s.lists base.driver.entries s.log.entries
     pub cid : s.lists.cid < 2 ^ 64
     pub given : AreGiven s.lists.tx.given
     pub heads : AllHeads s.log.held
@@ -135,20 +131,32 @@ module _ (base : Ends) (there : IsFairLog Driver base.driver.entries) (fit : Put
     fair = λ on l is. let same : g s.log ≡ l = cc in subst (λ (k : EndLog). IsFairLog Device k.entries) same fair;
   }
 
-  -- A page that is taken.
+  -- A page is taken, or none.
+  taken : (queue : Queue) (s : Around) → IsTied s.lists base.driver.entries s.log.entries
+      → let r = (device_answer (Take queue) (s.lists, s.log)).1 in IsTied r.0 base.driver.entries r.1.entries
+  taken queue s tied = by (queue_of queue s.lists).given refl
+    where
+      none : (q : Queue) → (queue_of q s.lists).given ≡ [] → s.lists ≡ with_queue q (record (queue_of q s.lists) { given = [] }) s.lists
+      none Rx is = ap (λ (pages : List (List ℕ)). record s.lists { rx = record s.lists.rx { given = pages } }) is
+      none Tx is = ap (λ (pages : List (List ℕ)). record s.lists { tx = record s.lists.tx { given = pages } }) is
+      none Event is = ap (λ (pages : List (List ℕ)). record s.lists { event = record s.lists.event { given = pages } }) is
+
+      by : (given : List (List ℕ)) → (queue_of queue s.lists).given ≡ given → let q = queue_of queue s.lists in
+          IsTied (with_queue queue (record q { given = all_but_oldest given; place = place_after given s.lists.size q.place }) s.lists)
+          base.driver.entries (log_taken queue (next_at queue q.place (oldest given)) (oldest given) s.log).entries
+      by [] is = subst (λ (lists : Rings). IsTied lists base.driver.entries s.log.entries) (none queue is) tied
+      by (page ∷ pages) is = tied-take s.lists base.driver.entries s.log.entries tied queue page pages _ is
+
   module _ (s : Around) (ties : Ties s) where
     -- A packet that comes is the next that the driver put.
-    came : (page : List ℕ) → PageHolds page → (lists : Rings) → AreQueued lists base.driver.entries (with_packet (λ p. GotPacket p) (packet_held page) s.log.entries)
-        → IsFairLog Device (with_packet (λ p. GotPacket p) (packet_held page) s.log.entries) × FitsWire (header_of (take HEADER_LEN page))
-    came page one lists q =
+    came : (page : List ℕ) → PageHolds page → (lists : Rings)
+        → IsTied lists base.driver.entries (with_packet (λ p. GotPacket p) (packet_held page) s.log.entries)
+        → FitsWire (header_of (take HEADER_LEN page))
+    came page one lists tied =
         let p = one.packet in
-        let got = driver_got (record { lists = s.lists; driver = base.driver; device = s.log }) ties.queued in
-        let now = subst (λ (o : Option Packet). AreQueued lists base.driver.entries (with_packet (λ p. GotPacket p) o s.log.entries)) one.held q in
-        let next : IsNextPacket s.log.entries base.driver.entries p = (held_in packet_held lists.tx.given, now.tx) in (
-          subst (λ (o : Option Packet). IsFairLog Device (with_packet (λ p. GotPacket p) o s.log.entries)) (sym one.held)
-              (next_fair Device s.log.entries base.driver.entries p ties.fair there got next),
-          subst FitsWire (header_is page p one.held) (next_fits s.log.entries base.driver.entries p next fit),
-        )
+        let P : Option Packet → Type 0 = λ o. IsTied lists base.driver.entries (with_packet (λ p. GotPacket p) o s.log.entries) in
+        let next : IsNextPacket s.log.entries base.driver.entries p = (held_in packet_held lists.tx.given, (subst P one.held tied).tx) in
+        subst FitsWire (header_is page p one.held) (next_fits s.log.entries base.driver.entries p next fit)
 
     abbrev place : Queue → ℕ
     place queue = (queue_of queue s.lists).place
@@ -157,26 +165,24 @@ module _ (base : Ends) (there : IsFairLog Driver base.driver.entries) (fit : Put
       page_is : IsTakenAs queue (next_at queue (place queue) o) o
       whole : IsTakenWhole queue (next_at queue (place queue) o) o
       fits : IsFitAnswer (Take queue) (next_at queue (place queue) o)
-      fair : IsFairLog Device (log_taken queue (next_at queue (place queue) o) o s.log).entries
       heads : AllHeads (log_taken queue (next_at queue (place queue) o) o s.log).held
 
     took : (queue : Queue) (o : Option (List ℕ)) → next_given queue s.lists ≡ o
-        → AreQueued (after_take queue s.lists) base.driver.entries (log_taken queue (next_at queue (place queue) o) o s.log).entries → Took queue o
-    took Rx None is q = record { page_is = refl; whole = tt; fits = tt; fair = ties.fair; heads = ties.heads }
-    took Tx None is q = record { page_is = refl; whole = tt; fits = tt; fair = ties.fair; heads = ties.heads }
-    took Event None is q = record { page_is = refl; whole = tt; fits = tt; fair = ties.fair; heads = ties.heads }
+        → IsTied (after_take queue s.lists) base.driver.entries (log_taken queue (next_at queue (place queue) o) o s.log).entries
+        → Took queue o
+    took Rx None is q = record { page_is = refl; whole = tt; fits = tt; heads = ties.heads }
+    took Tx None is q = record { page_is = refl; whole = tt; fits = tt; heads = ties.heads }
+    took Event None is q = record { page_is = refl; whole = tt; fits = tt; heads = ties.heads }
     took Rx (Some page) is q = record {
       page_is = (refl, refl);
       whole = tt;
       fits = record { queue_is = refl; long = omega arith };
-      fair = ties.fair;
       heads = (λ (tx : Rx ≡ Tx). cc, ties.heads);
     }
     took Event (Some page) is q = record {
       page_is = (refl, refl);
       whole = tt;
       fits = record { queue_is = refl; long = omega arith };
-      fair = ties.fair;
       heads = (λ (tx : Event ≡ Tx). cc, ties.heads);
     }
     took Tx (Some page) is q = by s.lists.tx.given is ties.given
@@ -191,8 +197,7 @@ module _ (base : Ends) (there : IsFairLog Driver base.driver.entries) (fit : Put
               page_is = (refl, refl);
               whole = subst (λ (p : List ℕ). IsTakenWhole Tx (next_at Tx (place Tx) (Some p)) (Some p)) same given.1.0;
               fits = record { queue_is = refl; long = omega (arith, long) };
-              fair = now.0;
-              heads = (λ tx. now.1, ties.heads);
+              heads = (λ tx. now, ties.heads);
             }
 
   -- Each call on the ring gets an answer that a ring may give.
@@ -201,19 +206,19 @@ module _ (base : Ends) (there : IsFairLog Driver base.driver.entries) (fit : Put
   one (Take queue) s n ties can =
       let o = next_given queue s.lists in
       let next = next_at queue (queue_of queue s.lists).place o in
-      let q = device_keeps (Take queue) s.lists base.driver.entries s.log ties.queued in
-      let t = took s ties queue o refl q in (
+      let tied = taken queue s ties.tied in
+      let t = took s ties queue o refl tied in (
         (
           (
             o,
             moved (Take queue) next (λ w. (o ≡ next_given queue w) × (next ≡ next_at queue (queue_of queue w).place o)) (after_take queue)
-                (λ l. IsTakenAs queue next o × (true ≡ true → IsTakenWhole queue next o)) (log_taken queue next o) s (refl, refl) (t.page_is, λ honest. t.whole) t.fair,
+                (λ l. IsTakenAs queue next o × (true ≡ true → IsTakenWhole queue next o)) (log_taken queue next o) s (refl, refl) (t.page_is, λ honest. t.whole) tied.device_fair,
           ),
           refl,
           refl,
           t.fits,
         ),
-        record { queued = q; fair = t.fair; cid = taken_cid queue; given = given_left (Take queue) s.lists s.log ties.given; heads = t.heads },
+        record { tied = tied; cid = taken_cid queue; given = given_left (Take queue) s.lists s.log ties.given; heads = t.heads },
       )
     where
       taken_cid : (queue : Queue) → (after_take queue s.lists).cid < 2 ^ 64
@@ -222,12 +227,12 @@ module _ (base : Ends) (there : IsFairLog Driver base.driver.entries) (fit : Put
   one (Read chain place count) s n ties can =
       let bytes = take count (drop place (bytes_in chain s.log.held)) in (
         (
-          moved (Read chain place count) bytes (λ w. Unit {0}) (λ w. w) (λ l. bytes ≡ take count (drop place (bytes_in chain l.held))) (λ l. l) s tt refl ties.fair,
+          moved (Read chain place count) bytes (λ w. Unit {0}) (λ w. w) (λ l. bytes ≡ take count (drop place (bytes_in chain l.held))) (λ l. l) s tt refl ties.tied.device_fair,
           refl,
           refl,
           fits,
         ),
-        record { queued = ties.queued; fair = ties.fair; cid = ties.cid; given = ties.given; heads = ties.heads },
+        record { tied = ties.tied; cid = ties.cid; given = ties.given; heads = ties.heads },
       )
     where
       fits : place ≡ 0 → FitsWire (header_of (take count (drop place (bytes_in chain s.log.held))))
@@ -237,12 +242,13 @@ module _ (base : Ends) (there : IsFairLog Driver base.driver.entries) (fit : Put
           (subst (λ (k : ℕ). FitsWire (header_of (take k (bytes_in chain s.log.held)))) (sym may.0)
           (heads_at chain s.log.held ties.heads may.1 (may.2 s.log refl)))
   one (Write chain place bytes) s n ties can = (
-    (moved (Write chain place bytes) tt (λ w. Unit {0}) (λ w. w) (λ l. Unit {0}) (log_written chain place bytes) s tt tt ties.fair, refl, refl, tt),
-    record { queued = ties.queued; fair = ties.fair; cid = ties.cid; given = ties.given; heads = heads_written chain _ s.log.held can.1 ties.heads },
+    (moved (Write chain place bytes) tt (λ w. Unit {0}) (λ w. w) (λ l. Unit {0}) (log_written chain place bytes) s tt tt ties.tied.device_fair, refl, refl, tt),
+    record { tied = ties.tied; cid = ties.cid; given = ties.given; heads = heads_written chain _ s.log.held can.1 ties.heads },
   )
   one (Return chain len) s n ties can =
       let bytes = bytes_in chain s.log.held in
-      let fair = returned_fair chain.queue len bytes s.log ties.fair (λ some. (can.0 some).whole refl s.log refl) in (
+      let fair = returned_fair chain.queue len bytes s.lists base.driver.entries s.log ties.tied
+      (λ some. (can.0 some).whole refl s.log refl) in (
         (
           (
             bytes,
@@ -254,8 +260,7 @@ module _ (base : Ends) (there : IsFairLog Driver base.driver.entries) (fit : Put
           tt,
         ),
         record {
-          queued = device_keeps (Return chain len) s.lists base.driver.entries s.log ties.queued;
-          fair = fair;
+          tied = tied-return s.lists base.driver.entries s.log.entries ties.tied chain.queue (take len bytes) fair;
           cid = subst (λ (k : ℕ). k < 2 ^ 64) (sym (same_cid chain.queue (take len bytes) s.lists)) ties.cid;
           given = given_left (Return chain len) s.lists s.log ties.given;
           heads = heads_without chain s.log.held ties.heads;
@@ -267,19 +272,25 @@ module _ (base : Ends) (there : IsFairLog Driver base.driver.entries) (fit : Put
           (
             held,
             moved (Given queue) _ (λ w. length (queue_of queue s.lists).given + held ≡ length (queue_of queue w).given + held) (λ w. w)
-                (λ l. held ≡ held_of queue l.held) (λ l. l) s refl refl ties.fair,
+                (λ l. held ≡ held_of queue l.held) (λ l. l) s refl refl ties.tied.device_fair,
           ),
           refl,
           refl,
           tt,
         ),
-        record { queued = ties.queued; fair = ties.fair; cid = ties.cid; given = ties.given; heads = ties.heads },
+        record { tied = ties.tied; cid = ties.cid; given = ties.given; heads = ties.heads },
       )
   one (PublishCid cid) s n ties can = (
-    (moved (PublishCid cid) tt (λ w. Unit {0}) (λ w. record w { cid = cid }) (λ l. Unit {0}) (log_reset cid) s tt tt ties.fair, refl, refl, tt),
+    (moved (PublishCid cid) tt (λ w. Unit {0}) (λ w. record w { cid = cid }) (λ l. Unit {0}) (log_reset cid) s tt tt ties.tied.device_fair, refl, refl, tt),
     record {
-      queued = device_keeps (PublishCid cid) s.lists base.driver.entries s.log ties.queued;
-      fair = ties.fair;
+      tied = record {
+        driver_fair = ties.tied.driver_fair;
+        device_fair = ties.tied.device_fair;
+        tx = ties.tied.tx;
+        rx = ties.tied.rx;
+        event = ties.tied.event;
+        no_event = ties.tied.no_event;
+      };
       cid = can;
       given = ties.given;
       heads = ties.heads;
@@ -292,7 +303,7 @@ module _ (base : Ends) (there : IsFairLog Driver base.driver.entries) (fit : Put
   hosted failed P f s n p = record { ring = refl; faults = counts failed n; host = (p, refl) }
 
   ties_over : (s : Around) (host : HostContents) → Ties s → Ties (record s { host = host })
-  ties_over s host ties = record { queued = ties.queued; fair = ties.fair; cid = ties.cid; given = ties.given; heads = ties.heads }
+  ties_over s host ties = record { tied = ties.tied; cid = ties.cid; given = ties.given; heads = ties.heads }
 
   each : (call : Call) (s : Around) (n : ℕ) → Ties s → Can call (ring s)
       → let r = answer_around call s in (m : ℕ) × Lets call r.0 (exposed s n) (exposed r.1 m) × Ties r.1

@@ -4,20 +4,17 @@ use Rattle.std.{proofs.Common.Bool, proofs.Common.false, specs.Prelude.IsSomeAnd
 use Rattle.vs_contents.specs.CallTree.{Ask, Done, played}
 use Rattle.laws_history.specs.History.{History, Put, Side}
 use Rattle.laws_history.specs.{Packets.IsFormed, Packets.is_request, Packets.packet_bytes, declared.packet.Packet.Packet, Again.AllowsNow}
-use Rattle.vs_page.specs.Log.{Device, Driver, HasGotAll, Log, flow_put, history_of, packets_got, packets_put, side_of}
-use Rattle.vs_page.specs.declared.log.LogEntry.TheVariants.{GotPacket, GotEvent, PutPacket}
-use Rattle.vs_page.specs.{Fair.IsFairLog, Held.FitsWire, Held.event_held, Held.held_in, Held.packet_held}
-use Rattle.vs_page.proofs.Entries.{next_fair, one_put}
-use Rattle.vs_ring_port.specs.EndLog.{EndLog, all_put, entries_marked, entries_reaped, log_loaded, log_published, log_reaped, log_staged}
+use Rattle.vs_page.specs.{Fair.IsFairLog, Held.held_in, Held.packet_held, Log.Driver, Log.Log, Log.flow_put, Log.history_of}
+use Rattle.vs_page.{specs.Log.side_of, specs.declared.log.LogEntry.TheVariants.{GotPacket, PutPacket}, proofs.Entries.one_put}
+use Rattle.vs_ring_port.specs.EndLog.{EndLog, all_put, entries_reaped, log_loaded, log_published, log_reaped, log_staged, pages_at}
 use Rattle.vs_ring_port.specs.DriverCalls.{DriverAnswer, DriverCall, DriverMoves, HoldsPacket, LoadCid, MayPublish, Publish, Reap, Stage}
-use Rattle.vs_ring_port.specs.declared.queue.Queue.TheVariants.{Event, Rx, Tx}
-use Rattle.vs_ring_port.specs.{Contents.RingContents, EndLog.pages_at, EndLog.with_event, EndLog.with_packet, DriverCalls.driver_answer}
-use Rattle.vs_ring_port.specs.{Lists.Rings, Lists.after_publish, Lists.after_reap, Lists.next_back, declared.queue.Queue.Queue}
-use Rattle.vs_ring_list.specs.Ends.{driver_contents}
+use Rattle.vs_ring_port.specs.{Contents.RingContents, DriverCalls.driver_answer, EndLog.with_packet, Lists.{Rings, after_publish}}
+use Rattle.vs_ring_port.specs.Lists.{after_reap, next_back}
+use Rattle.vs_ring_port.specs.declared.queue.Queue.{Queue, TheVariants.{Event, Rx, Tx}}
+use Rattle.vs_ring_list.{specs.Ends.driver_contents, specs.Sound.IsTied, proofs.Ties.{tied-load, tied-publish, tied-reap}}
 use Rattle.vs_driver_parts.specs.{Conversations.DriverTree, Playing.{BringsFit, CanMake, FitsPorts, IsFitPage, RingAllows}}
 use Rattle.laws_driver.proofs.Keeping.{Keeps}
-use Rattle.laws_world.specs.{Laws.AreQueued, Pages.AllHold, Pages.AllPacked, Pages.PageHolds, Pages.TxHolds}
-use Rattle.laws_world.proofs.{Played.device_got, Queues.driver_keeps, Wire.next_fits}
+use Rattle.laws_world.{specs.Pages.AllHold, specs.Pages.AllPacked, specs.Pages.PageHolds, specs.Pages.TxHolds, proofs.Wire.next_fits}
 use Rattle.laws_device.proofs.Seats.{PutsFit}
 
 -- Pages that hold packets, put in a fair log, hold them with as many bytes as their headers tell.
@@ -38,7 +35,7 @@ module _ (log : Log) (page : List ℕ) where
       let formed = put_formed (side_of Driver (flow_put Driver p)) (history_of Driver (flow_put Driver p) log) p (is_request p) refl may in
       record { packet = p; held = held; long = omega (arith, ap length packed, formed.len) }
 
-pub first_fair : (pages : List (List ℕ)) (log : Log) → IsFairLog Driver (all_put pages log) → IsFairLog Driver log
+first_fair : (pages : List (List ℕ)) (log : Log) → IsFairLog Driver (all_put pages log) → IsFairLog Driver log
 first_fair [] log fair = fair
 first_fair (page ∷ pages) log fair = fair_before log page (packet_held page) (first_fair pages (with_packet (λ p. PutPacket p) (packet_held page) log) fair)
 
@@ -60,17 +57,12 @@ one_more : (xs : List (List ℕ)) (page : List ℕ) → AllPacked xs → HoldsPa
 one_more [] page first last = (last, tt)
 one_more (x ∷ xs) page first last = (first.0, one_more xs page first.1 last)
 
-marked_fair : (cid : ℕ) (log : Log) → IsFairLog Driver log → IsFairLog Driver (entries_marked cid log)
-marked_fair cid [] fair = fair
-marked_fair cid (entry ∷ log) fair = fair
-
-module _ (device : EndLog) (there : IsFairLog Device device.entries) (fit : PutsFit device.entries) where
+module _ (device : EndLog) (fit : PutsFit device.entries) where
   abbrev pub shown : Rings × EndLog → RingContents
   shown s = driver_contents (record { lists = s.0; driver = s.1; device = device })
 
   pub record Ties (s : Rings × EndLog) : Type 0 where
-    pub queued : AreQueued s.0 s.1.entries device.entries
-    pub fair : IsFairLog Driver s.1.entries
+    pub tied : IsTied s.0 s.1.entries device.entries
     pub cid : s.0.cid < 2 ^ 64
     pub pages : TxHolds s.0 s.1
 
@@ -87,64 +79,52 @@ module _ (device : EndLog) (there : IsFairLog Device device.entries) (fit : Puts
   }
 
   -- A packet that comes back is the next that the device put.
-  module _ (s : Rings × EndLog) (ties : Ties s) (page : List ℕ) where
-    came : (o : Option Packet) → packet_held page ≡ o → (lists : Rings) → AreQueued lists (with_packet (λ p. GotPacket p) o s.1.entries) device.entries
-        → IsFairLog Driver (with_packet (λ p. GotPacket p) o s.1.entries) × BringsFit page
-    came None held lists q = (ties.fair, λ p is. let both : None ≡ Some p = sym held ∙ is in absurd cc)
-    came (Some p) held lists q =
-        let next : (rest : List Packet) × (packets_put device.entries ≡ rest ++ p ∷ packets_got s.1.entries) = (held_in packet_held lists.rx.back, q.rx) in
-        let got : HasGotAll device.entries s.1.entries = device_got (record { lists = s.0; driver = s.1; device = device }) ties.queued in
-        (next_fair Driver s.1.entries device.entries p ties.fair there got next, λ r is. ports r is (next_fits s.1.entries device.entries p next fit))
-      where
-        ports : (r : Packet) → packet_held page ≡ Some r → FitsWire p.header → FitsPorts r.header
-        ports r is wire =
-            let both : Some p ≡ Some r = sym held ∙ is in
-            let same : p ≡ r = cc in
-            subst (λ (x : Packet). FitsPorts x.header) same (record { src_port = wire.src_port; dst_port = wire.dst_port; src_cid = wire.src_cid })
+  came : (log : Log) (page : List ℕ) (lists : Rings) (o : Option Packet) → packet_held page ≡ o
+      → IsTied lists (with_packet (λ p. GotPacket p) o log) device.entries → BringsFit page
+  came log page lists None held tied p is = let both : None ≡ Some p = sym held ∙ is in absurd cc
+  came log page lists (Some p) held tied r is =
+      let wire = next_fits log device.entries p (held_in packet_held lists.rx.back, tied.rx) fit in
+      let ports : FitsPorts p.header = record { src_port = wire.src_port; dst_port = wire.dst_port; src_cid = wire.src_cid } in
+      let both : Some p ≡ Some r = sym held ∙ is in
+      let same : p ≡ r = cc in
+      subst (λ (x : Packet). FitsPorts x.header) same ports
 
-  reaped : (queue : Queue) (s : Rings × EndLog) → Ties s → (o : Option (List ℕ)) → next_back queue s.0 ≡ o
-      → AreQueued (after_reap queue s.0) (entries_reaped queue o s.1.entries) device.entries
-      → IsFairLog Driver (entries_reaped queue o s.1.entries) × IsFitPage queue o
-  reaped Rx s ties None is q = (ties.fair, tt)
-  reaped Tx s ties None is q = (ties.fair, tt)
-  reaped Event s ties None is q = (ties.fair, tt)
-  reaped Tx s ties (Some page) is q = (ties.fair, tt)
-  reaped Event s ties (Some page) is q = (by (event_held page), tt)
-    where
-      by : (o : Option ℕ) → IsFairLog Driver (with_event (λ id. GotEvent id) o s.1.entries)
-      by None = ties.fair
-      by (Some id) = ties.fair
-  reaped Rx s ties (Some page) is q = came s ties page (packet_held page) refl (after_reap Rx s.0) q
+  reaped : (queue : Queue) (lists : Rings) (log : Log) (o : Option (List ℕ)) → IsTied lists (entries_reaped queue o log) device.entries
+      → IsFitPage queue o
+  reaped Rx lists log (Some page) tied = came log page lists (packet_held page) refl tied
+  reaped Rx lists log None tied = tt
+  reaped x lists log o tied = tt
 
-  tied : (queue : Queue) (s : Rings × EndLog) → Ties s → TxHolds (after_reap queue s.0) s.1 × ((after_reap queue s.0).cid < 2 ^ 64)
-  tied Rx s ties = (ties.pages, ties.cid)
-  tied x s ties = (ties.pages, ties.cid)
+  still : (queue : Queue) (s : Rings × EndLog) → Ties s → TxHolds (after_reap queue s.0) s.1 × ((after_reap queue s.0).cid < 2 ^ 64)
+  still Rx s ties = (ties.pages, ties.cid)
+  still x s ties = (ties.pages, ties.cid)
 
   -- Each call gets an answer that a ring may give.
   one : (call : DriverCall) (s : Rings × EndLog) → Ties s → CanMake call (shown s)
       → let r = driver_answer call s in RingAllows call r.0 (shown s) (shown r.1) × Ties r.1
   one (Stage queue page) s ties can = (
-    moved (Stage queue page) tt (λ w. Unit {0}) (λ w. w) (λ l. Unit {0}) (log_staged queue page) s tt tt ties.fair,
-    record { queued = ties.queued; fair = ties.fair; cid = ties.cid; pages = (ties.pages.0, staged queue (can refl s.1 refl), ties.pages.2) },
+    moved (Stage queue page) tt (λ w. Unit {0}) (λ w. w) (λ l. Unit {0}) (log_staged queue page) s tt tt ties.tied.driver_fair,
+    record { tied = ties.tied; cid = ties.cid; pages = (ties.pages.0, staged queue (can refl s.1 refl), ties.pages.2) },
   )
     where
       staged : (queue : Queue) → (queue ≡ Tx → HoldsPacket page) → AllPacked (log_staged queue page s.1).staged.tx
       staged Tx holds = one_more s.1.staged.tx page ties.pages.1 (holds refl)
       staged x holds = ties.pages.1
   one (Publish queue) s ties can =
+      let pages = pages_at queue s.1.staged in
       let p = published queue (can refl s.1 refl) in (
         (
-          pages_at queue s.1.staged,
-          moved (Publish queue) tt (λ w. Unit {0}) (after_publish queue (pages_at queue s.1.staged)) (λ l. pages_at queue s.1.staged ≡ pages_at queue l.staged)
+          pages,
+          moved (Publish queue) tt (λ w. Unit {0}) (after_publish queue pages) (λ l. pages ≡ pages_at queue l.staged)
               (log_published queue) s tt refl p.0,
         ),
-        record { queued = driver_keeps (Publish queue) s.0 s.1 device.entries ties.queued; fair = p.0; cid = p.2; pages = p.1 },
+        record { tied = tied-publish queue pages s.0 s.1.entries device.entries ties.tied p.0; cid = p.2; pages = p.1 },
       )
     where
       published : (queue : Queue) → MayPublish queue s.1 → let r = (driver_answer (Publish queue) s).1 in
           IsFairLog Driver r.1.entries × TxHolds r.0 r.1 × (r.0.cid < 2 ^ 64)
-      published Rx may = (ties.fair, ties.pages, ties.cid)
-      published Event may = (ties.fair, ties.pages, ties.cid)
+      published Rx may = (ties.tied.driver_fair, ties.pages, ties.cid)
+      published Event may = (ties.tied.driver_fair, ties.pages, ties.cid)
       published Tx may = (
         may,
         (
@@ -156,16 +136,19 @@ module _ (device : EndLog) (there : IsFairLog Device device.entries) (fit : Puts
       )
   one (Reap queue) s ties can =
       let page = next_back queue s.0 in
-      let q = driver_keeps (Reap queue) s.0 s.1 device.entries ties.queued in
-      let r = reaped queue s ties page refl q in
-      let t = tied queue s ties in (
-        (r.1, moved (Reap queue) page (λ w. page ≡ next_back queue w) (after_reap queue) (λ l. Unit {0}) (log_reaped queue page) s refl tt r.0),
-        record { queued = q; fair = r.0; cid = t.1; pages = t.0 },
+      let tied = tied-reap s.0 s.1.entries device.entries ties.tied queue in
+      let kept = still queue s ties in (
+        (
+          reaped queue (after_reap queue s.0) s.1.entries page tied,
+          moved (Reap queue) page (λ w. page ≡ next_back queue w) (after_reap queue) (λ l. Unit {0})
+              (log_reaped queue page) s refl tt tied.driver_fair,
+        ),
+        record { tied = tied; cid = kept.1; pages = kept.0 },
       )
   one LoadCid s ties can =
-      let fair = marked_fair s.0.cid s.1.entries ties.fair in (
-        (ties.cid, moved LoadCid s.0.cid (λ w. s.0.cid ≡ w.cid) (λ w. w) (λ l. Unit {0}) (log_loaded s.0.cid) s refl tt fair),
-        record { queued = driver_keeps LoadCid s.0 s.1 device.entries ties.queued; fair = fair; cid = ties.cid; pages = ties.pages },
+      let tied = tied-load s.0.cid s.0 s.1.entries device.entries ties.tied in (
+        (ties.cid, moved LoadCid s.0.cid (λ w. s.0.cid ≡ w.cid) (λ w. w) (λ l. Unit {0}) (log_loaded s.0.cid) s refl tt tied.driver_fair),
+        record { tied = tied; cid = ties.cid; pages = ties.pages },
       )
 
   pub walk : {A : Type 0} (Q : A → RingContents → Type 0) (tree : DriverTree A) (s : Rings × EndLog) → Ties s → Keeps Q tree (shown s)

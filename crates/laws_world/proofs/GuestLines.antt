@@ -10,7 +10,7 @@ use Rattle.vs_driver_parts.specs.{State.DriverState, State.DriverEntry, State.en
 use Rattle.vs_driver_parts.specs.{Connections.with_end, declared.answers.ConnectError.ConnectError, declared.answers.Sent.Sent}
 use Rattle.vs_conn.specs.{End.may_send_of, End.wanting_credit, declared.end.Stop.Stop}
 use Rattle.vs_flow.specs.declared.flow.Flow.{Flow}
-use Rattle.laws_driver_bytes.specs.Calls.{GuestCall, ReplyTo, Connect, Listen, Unlisten, Accept, Send, Recv, Shutdown, Close, LookAt}
+use Rattle.laws_driver_bytes.specs.Calls.{GuestCall, ReplyTo, Connect, Listen, Unlisten, Accept, Send, Recv, Shutdown, Grow, Close, LookAt}
 use Rattle.laws_driver_bytes.specs.Calls.{is_right, flow_named, id_named, makes_call, with_call}
 use Rattle.laws_world.specs.Events.{call_made, Event, GuestCalls, GuestTakes, driver_step, happens, is_at_rest, none_staged, run}
 use Rattle.laws_world.specs.{Plays.guest_line, Events.where_possible, Events.works_on, Steps.Leads, World.World}
@@ -249,5 +249,6 @@ module _ (w : World) (rest : is_at_rest w.rings.driver.staged ≡ true) where
   call_leads (Accept port) right = plain_call (Accept port) _ right refl
   call_leads (Recv id n) right = plain_call (Recv id n) _ right refl
   call_leads (Shutdown id bits) right = plain_call (Shutdown id bits) _ right refl
+  call_leads (Grow id alloc) right = plain_call (Grow id alloc) _ right refl
   call_leads (Close id) right = plain_call (Close id) _ right refl
   call_leads (LookAt id) right = plain_call (LookAt id) _ right refl

@@ -3,14 +3,16 @@
 use Rattle.std.proofs.Common.{◌≡◌, ℕ, ◌==◌, ◌&&◌, Bool, true, false, not, cond, List, [], ◌∷◌, ◌++◌, length, filter, Option, Some, None}
 use Rattle.std.proofs.Common.{is_some, Result, Ok, Err, refl, ap, subst, ◌∙◌}
 use Rattle.std.specs.List.{slice_get}
-use Rattle.vs_conn.specs.{End.ConnectionEnd, End.is_reset, declared.end.Owed.Owed, declared.end.State.State, declared.end.Verdict.Verdict}
+use Rattle.vs_conn.specs.{End.ConnectionEnd, End.grown, End.is_reset, declared.end.Owed.Owed, declared.end.State.State, declared.end.Verdict.Verdict}
 use Rattle.vs_flow.specs.Table.{IsRising, IsTable, Table, entry_of, entry_under, without}
 use Rattle.vs_flow.{specs.declared.flow.Flow.Flow, proofs.Tables.without_sound}
 use Rattle.vs_header.specs.declared.Header.{Header}
 use Rattle.laws_history.specs.declared.packet.Packet.{Packet}
 use Rattle.vs_page.specs.{Log.Driver, Log.flow_to_guest, Open.is_dropped}
 use Rattle.vs_driver_parts.specs.State.{DriverConnection, DriverEntry, DriverState, GoneConnection, Listener, entry_known_as, gone_known_as}
-use Rattle.vs_driver_parts.specs.Connections.{after_close, after_closing, after_leaving, after_read, after_recv, after_shut, after_shutdown}
+use Rattle.vs_driver_parts.specs.Connections.{after_close, after_closing, after_grow, after_leaving, after_read, after_recv, after_shut, after_shutdown}
+use Rattle.vs_driver_parts.specs.{Connections.entry_grow_answer, Connections.grown_by, declared.answers.Grown.Grown}
+use Rattle.vs_driver_parts.specs.declared.answers.Grown.TheVariants as rise
 use Rattle.vs_driver_parts.specs.Connections.{after_unlisten, all_closed, all_gone_after_read, entry_closed, entry_read, gone_as}
 use Rattle.vs_driver_parts.specs.Connections.{gone_closed, is_let_go, next_flow, paid_connection, shut_in, waiting_on, waits_no_more}
 use Rattle.vs_driver_parts.specs.Receiving.{after_packet, after_verdict, all_left, ends_connection, is_request, may_open, on_heard}
@@ -22,7 +24,7 @@ use Rattle.vs_driver_parts.proofs.{Ids.found_under, Packets.first_under, Packets
 use Rattle.vs_replies.specs.Owed.{reply_to}
 use Rattle.vs_wrap.specs.Wrap.{counted}
 use Rattle.laws_driver.{specs.Honest.IsFitState, proofs.Carrying.Carries, proofs.Carrying.Fact, proofs.Changing.close_changes}
-use Rattle.laws_driver_bytes.specs.Calls.{Accept, Close, Connect, GuestCall, Listen, LookAt, Recv, Send, Shutdown, Unlisten}
+use Rattle.laws_driver_bytes.specs.Calls.{Accept, Close, Connect, Grow, GuestCall, Listen, LookAt, Recv, Send, Shutdown, Unlisten}
 use Rattle.laws_driver_bytes.proofs.Making.{CarriesCall}
 use Rattle.laws_world.proofs.Listeners.{AllIds}
 use Rattle.vs_conn.specs.declared.end.Owed.TheVariants as owed
@@ -153,7 +155,7 @@ module _ {May : ℕ → Type 0} (P : Sight) (kept : IsKept May P) where
       (ap (λ (xs : List DriverEntry). filter (λ x. not (x.slot == e.slot)) xs) is ∙ others_left e es rising)
       (without_sound s.table e.slot sound) (leave_kept s e e.value under (as_it_was e.value) holds)
 
-  -- recv, shutdown, close and unlisten.
+  -- recv, shutdown, grow, close and unlisten.
   recv_kept : (id n : ℕ) (s : DriverState) → IsTable s.table → Sees P s → Sees P (after_recv id n s)
   recv_kept id n s sound holds = by (entry_known_as id s) refl
     where
@@ -179,6 +181,18 @@ module _ {May : ℕ → Type 0} (P : Sight) (kept : IsKept May P) where
           → Sees P (elim o as (λ _. DriverState) [ Some e ↦ shut_in e.value.end.state bits e s | None ↦ s ])
       by None is = holds
       by (Some e) is = shut e.value.end.state e (found_under (is_known_as id) s.table e sound is)
+
+  grow_kept : (id alloc : ℕ) (s : DriverState) → IsTable s.table → Sees P s → Sees P (after_grow id alloc s)
+  grow_kept id alloc s sound holds = by (entry_known_as id s) refl
+    where
+      grow : (a : Grown) (e : DriverEntry) → entry_under s.table e.slot ≡ Some e → Sees P (grown_by a alloc e s)
+      grow rise.Done e under = end_kept (grown e.value.end alloc) e s under holds
+      grow _ e under = holds
+
+      by : (o : Option DriverEntry) → entry_known_as id s ≡ o
+          → Sees P (elim o as (λ _. DriverState) [ Some e ↦ grown_by (entry_grow_answer alloc e) alloc e s | None ↦ s ])
+      by None is = holds
+      by (Some e) is = grow (entry_grow_answer alloc e) e (found_under (is_known_as id) s.table e sound is)
 
   close_kept : (id : ℕ) → May id → (s : DriverState) → IsTable s.table → Sees P s → Sees P (after_close id s)
   close_kept id may s sound holds = by (entry_known_as id s) refl
@@ -253,5 +267,6 @@ module _ {I : Type 0} (P : I → Sight) (May : I → ℕ → Type 0) (kept : (i 
   call_kept first (Accept port) may = λ s log fits m held i x. accept_kept (P i) (kept i) (next_accepted port s) port s (held i x)
   call_kept first (Recv id n) may = λ s log fits m held i x. recv_kept (P i) (kept i) id n s fits.sound (held i x)
   call_kept first (Shutdown id bits) may = λ s log fits m held i x. shutdown_kept (P i) (kept i) id bits s fits.sound (held i x)
+  call_kept first (Grow id alloc) may = λ s log fits m held i x. grow_kept (P i) (kept i) id alloc s fits.sound (held i x)
   call_kept first (Close id) may = λ s log fits m held i x. close_kept (P i) (kept i) id (may i x) s fits.sound (held i x)
   call_kept first (LookAt id) may = λ s log fits m held. held

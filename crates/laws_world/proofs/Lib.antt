@@ -1,5 +1,3 @@
-pub mod Queues
-pub mod Played
 pub mod Runs
 pub mod Once
 pub mod Entries

@@ -1,22 +1,23 @@
 -- The world in which nothing has happened yet.
-use Rattle.std.proofs.Common.{◌≡◌, ℕ, zero, suc, ◌+◌, ◌^◌, ◌<◌, ◌==◌, Bool, true, false, cond, List, [], ◌∷◌, refl, sym, ap, subst, ◌∙◌}
-use Rattle.std.proofs.Common.{arith}
+use Rattle.std.proofs.Common.{◌≡◌, ℕ, zero, suc, ◌+◌, ◌==◌, Bool, true, false, cond, List, [], ◌∷◌, refl, sym, ap, subst, ◌∙◌, arith}
+use Rattle.std.{proofs.Common.Some, specs.Option.ForSome}
 use Rattle.vs_contents.specs.CallTree.{Done, Ask, bind, while_up_to, played}
 use Rattle.vs_flow.specs.Connection.{first_of}
 use Rattle.vs_limits.specs.declared.TheConstants.{ASSIGNED_FIRST, FIRST_PORT}
 use Rattle.vs_outside.specs.Host.{HostContents}
 use Rattle.vs_page.specs.{Fair.payload_put, Log.Driver, Log.Log}
 use Rattle.laws_tables.{proofs.Voices.AreVoiced, proofs.Voices.voices_start, proofs.Both.start_sound, specs.Both.Both}
-use Rattle.laws_world.specs.{Pipes.IsFresh, Pages.AllHold, Pages.AllPacked, Events.happens, Events.run, Sides.both_of, Sides.driver_ends}
+use Rattle.laws_world.specs.{Pipes.IsFresh, Events.happens, Events.run, Sides.both_of, Sides.driver_ends}
 use Rattle.laws_world.specs.{Sides.log_with_staged, World.World, World.opening, World.first_cid}
-use Rattle.laws_world.proofs.{Once.AreOnce, Once.start_once, Played.opening_queued, Runs.and_then, Sound.Goes, Sound.IsWell}
+use Rattle.laws_world.proofs.{Once.AreOnce, Once.start_once, DriverWalks.{Ties, walk}, Runs.and_then, Sound.Goes, Sound.IsWell}
 use Rattle.laws_world.proofs.{Sound.goes_still, Sound.happens_goes, Listeners.AllWait, Listeners.IsOfPort, Names.named_then}
 use Rattle.vs_ring_port.specs.{DriverCalls.{driver_answer, Stage, Publish}, declared.queue.Queue.TheVariants.{Rx, Event}, EndLog.EndLog}
 use Rattle.vs_ring_port.specs.{EndLog.{all_put, entries_marked}, Lists.Rings}
-use Rattle.vs_ring_list.specs.Ends.{empty_ends}
+use Rattle.vs_ring_list.specs.Ends.{Ends, empty_ends}
 use Rattle.vs_driver_parts.specs.Conversations.{DriverTree, load_cid, new_of, new_state, post_events, post_one, posts, publish_of}
 use Rattle.vs_driver_parts.specs.State.{DriverState}
-use Rattle.laws_driver.{specs.Honest.IsFitState, specs.Honest.slots_of, specs.Resets.MarksResets, proofs.Calls.made_fits}
+use Rattle.laws_driver.specs.{Honest.IsFitState, Honest.slots_of, Resets.MarksResets}
+use Rattle.laws_driver.proofs.{Calls.made_fits, Calls.new_keeps, Carrying.nothing, Staging.Rests}
 use Rattle.laws_driver_bytes.{specs.Received.AreReceived, specs.Received.no_account, proofs.Connecting.none_received}
 use Rattle.laws_device.proofs.Seats.{PutsFit}
 use Rattle.laws_device_bytes.proofs.Changing.{no_streams}
@@ -27,7 +28,6 @@ use Rattle.laws_world.specs.Events as events
 record IsQuiet (lists : Rings) (log : EndLog) : Type 0 where
   entries : log.entries ≡ []
   staged : log.staged.tx ≡ []
-  given : lists.tx.given ≡ []
   cid : lists.cid ≡ 3
 
 -- A driver that has done nothing else.
@@ -46,8 +46,8 @@ module _ {X : Type 0} (P : X × (Rings × EndLog) → Type 0) (n : ℕ) (k : Dri
           → P (played driver_answer (bind (bind {A = DriverState × Bool} (bind (Ask (Stage Rx []) (λ _. cond b (Ask (Publish Rx) (λ _. Done (record (made n 0 m) { staged = 0 })))
           (Done (record (made n 0 m) { staged = m + 1 })))) (λ t. Done (t, true)))
           (λ r. elim r.1 as (λ _. DriverTree DriverState) [ true ↦ while_up_to times (post_one Rx) r.0 | false ↦ Done r.0 ])) k) (lists, log))
-      by true rest = rest 0 _ _ (record { entries = quiet.entries; staged = quiet.staged; given = quiet.given; cid = quiet.cid })
-      by false rest = rest (m + 1) _ _ (record { entries = quiet.entries; staged = quiet.staged; given = quiet.given; cid = quiet.cid })
+      by true rest = rest 0 _ _ (record { entries = quiet.entries; staged = quiet.staged; cid = quiet.cid })
+      by false rest = rest (m + 1) _ _ (record { entries = quiet.entries; staged = quiet.staged; cid = quiet.cid })
 
   posts_event : (times m : ℕ) (lists : Rings) (log : EndLog) → IsQuiet lists log
       → P (played driver_answer (bind (while_up_to times (post_one Event) (made n 0 m)) k) (lists, log))
@@ -59,8 +59,8 @@ module _ {X : Type 0} (P : X × (Rings × EndLog) → Type 0) (n : ℕ) (k : Dri
           → P (played driver_answer (bind (bind {A = DriverState × Bool} (bind (Ask (Stage Event []) (λ _. cond b (Ask (Publish Event) (λ _. Done (record (made n 0 m) { staged = 0 })))
           (Done (record (made n 0 m) { staged = m + 1 })))) (λ t. Done (t, true)))
           (λ r. elim r.1 as (λ _. DriverTree DriverState) [ true ↦ while_up_to times (post_one Event) r.0 | false ↦ Done r.0 ])) k) (lists, log))
-      by true rest = rest 0 _ _ (record { entries = quiet.entries; staged = quiet.staged; given = quiet.given; cid = quiet.cid })
-      by false rest = rest (m + 1) _ _ (record { entries = quiet.entries; staged = quiet.staged; given = quiet.given; cid = quiet.cid })
+      by true rest = rest 0 _ _ (record { entries = quiet.entries; staged = quiet.staged; cid = quiet.cid })
+      by false rest = rest (m + 1) _ _ (record { entries = quiet.entries; staged = quiet.staged; cid = quiet.cid })
 
 -- One conversation after two others.
 twice : {A B C : Type 0} (P : C × (Rings × EndLog) → Type 0) (p : DriverTree A) (f : A → DriverTree B) (g : B → DriverTree C) (s : Rings × EndLog)
@@ -69,22 +69,20 @@ twice P (Done x) f g s h = h
 twice P (Ask call k) f g s h = let r = driver_answer call s in twice P (k r.0) f g r.1 h
 
 -- What a new driver leaves.
-record IsMade (n : ℕ) (s : DriverState) (lists : Rings) (log : EndLog) : Type 0 where
+record IsMade (n : ℕ) (s : DriverState) (log : EndLog) : Type 0 where
   state : s ≡ made n 3 0
   entries : log.entries ≡ []
   staged : log.staged.tx ≡ []
-  given : lists.tx.given ≡ []
-  cid : lists.cid ≡ 3
 
 abbrev MadeBy : ℕ → DriverState × (Rings × EndLog) → Type 0
-MadeBy n r = IsMade n r.0 r.1.0 r.1.1
+MadeBy n r = IsMade n r.0 r.1.1
 
 marked_none : (cid : ℕ) (log : Log) → log ≡ [] → entries_marked cid log ≡ []
 marked_none cid log is = ap (entries_marked cid) is
 
 new_made : (n : ℕ) → MadeBy n (played driver_answer (new_of n FIRST_PORT 1) ((empty_ends n).lists, (empty_ends n).driver))
 new_made n = twice (MadeBy n) (posts Rx (made n 0 0)) (publish_of Rx) post_events _ (posts_rx (MadeBy n) n (λ s. bind (publish_of Rx s) post_events) after_rx n 0 (empty_ends n).lists (empty_ends n).driver
-    (record { entries = refl; staged = refl; given = refl; cid = refl }))
+    (record { entries = refl; staged = refl; cid = refl }))
   where
     loaded : (m : ℕ) (lists : Rings) (log : EndLog) → IsQuiet lists log
         → MadeBy n (played driver_answer (bind (publish_of Event (made n 0 m)) load_cid) (lists, log))
@@ -92,18 +90,31 @@ new_made n = twice (MadeBy n) (posts Rx (made n 0 0)) (publish_of Rx) post_event
       state = ap (λ (cid : ℕ). made n cid 0) quiet.cid;
       entries = marked_none lists.cid log.entries quiet.entries;
       staged = quiet.staged;
-      given = quiet.given;
-      cid = quiet.cid;
     }
 
     after_rx : (m : ℕ) (lists : Rings) (log : EndLog) → IsQuiet lists log
         → MadeBy n (played driver_answer (bind (publish_of Rx (made n 0 m)) post_events) (lists, log))
     after_rx m lists log quiet = twice (MadeBy n) (posts Event (made n 0 0)) (publish_of Event) load_cid _ (posts_event (MadeBy n) n (λ s. bind (publish_of Event s) load_cid) loaded n 0 _ _
-        (record { entries = quiet.entries; staged = quiet.staged; given = quiet.given; cid = quiet.cid }))
+        (record { entries = quiet.entries; staged = quiet.staged; cid = quiet.cid }))
 
 module _ (n : ℕ) (host : HostContents) where
-  new : IsMade n (opening n host).driver (opening n host).rings.lists (opening n host).rings.driver
+  new : IsMade n (opening n host).driver (opening n host).rings.driver
   new = new_made n
+
+  -- Its pages are tied to the two logs.
+  ties : Ties (empty_ends n).device tt ((opening n host).rings.lists, (opening n host).rings.driver)
+  ties =
+      let e : Ends = empty_ends n in
+      (walk e.device tt (λ s d. Rests s.cid nothing s d) (new_of n FIRST_PORT 1) (e.lists, e.driver) (record {
+        tied = record { driver_fair = λ f. tt; device_fair = λ f. tt; tx = refl; rx = refl; event = refl; no_event = refl };
+        cid = omega arith;
+        pages = (tt, tt, tt);
+      }) (new_keeps n FIRST_PORT 1 (omega arith) nothing (λ cid. tt) _ fresh)).1
+    where
+      fresh : true ≡ true → ForSome (Some (empty_ends n).driver) (λ l. (l.entries ≡ []) × (l.staged.tx ≡ []))
+      fresh on l is =
+          let same : (empty_ends n).driver ≡ l = cc in
+          subst (λ (k : EndLog). (k.entries ≡ []) × (k.staged.tx ≡ [])) same (refl, refl)
 
   log_empty : log_with_staged (opening n host).rings.driver ≡ []
   log_empty = ap (λ (pages : List (List ℕ)). all_put pages (opening n host).rings.driver.entries) new.staged ∙ new.entries
@@ -122,7 +133,7 @@ module _ (n : ℕ) (host : HostContents) where
 
   pub opening_well : IsWell (IsFresh host) (opening n host)
   opening_well = record {
-    queued = opening_queued n host;
+    tied = ties.tied;
     sound = subst (λ (b : Both). both.IsSound first_cid b) opening_is (start_sound first_cid FIRST_PORT ASSIGNED_FIRST);
     driver = subst IsFitState (sym new.state) (made_fits n FIRST_PORT 1 (omega arith) first_cid (omega arith));
     device = record {
@@ -142,10 +153,10 @@ module _ (n : ℕ) (host : HostContents) where
     };
     driver_puts = subst PutsFit (sym log_empty) tt;
     device_puts = tt;
-    pages = (subst AllHold (sym new.given) tt, subst AllPacked (sym new.staged) tt, subst AllPacked (sym new.given) tt);
+    pages = ties.pages;
     chain = (tt, λ still. tt);
     heads = tt;
-    known = subst (λ (c : ℕ). c < 2 ^ 64) (sym new.cid) (omega arith);
+    known = ties.cid;
     broken = ap (λ (s : DriverState). s.broken) new.state;
     marks = subst MarksResets (sym log_empty) tt;
     overrun = refl;

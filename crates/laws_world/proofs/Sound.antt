@@ -1,14 +1,11 @@
 -- Each event is some of the steps of the two ends.
-use Rattle.std.proofs.Common.{◌≡◌, ℕ, ◌^◌, ◌<◌, ◌≤◌, ◌&&◌, nat_le, Bool, true, false, List, [], ◌∷◌, ◌++◌, refl, sym, ap, subst, ◌∙◌, arith}
-use Rattle.std.proofs.Common.{append_assoc, Some, IfSome, None, Option, is_some, cond}
-use Rattle.std.{proofs.lemmas.Bool.Decides.nat_tests, proofs.lemmas.Bool.and_parts, proofs.lemmas.List.append-nil, specs.Option.ForSome}
+use Rattle.std.proofs.Common.{◌≡◌, ℕ, ◌^◌, ◌<◌, ◌≤◌, ◌&&◌, nat_le, Bool, true, false, List, [], ◌∷◌, refl, sym, subst, arith, Some, IfSome}
+use Rattle.std.{proofs.Common.{None, Option, is_some, cond}, proofs.lemmas.Bool.{Decides.nat_tests, and_parts}, specs.Option.ForSome}
 use Rattle.vs_contents.specs.CallTree.{played, Done}
-use Rattle.laws_history.specs.declared.packet.Packet.{Packet}
 use Rattle.vs_outside.specs.HostProgram.{after_fail, after_host_write, after_listen, after_unlisten, allowed, closed, ended}
 use Rattle.vs_outside.specs.HostProgram.{host_write_answer, with_bytes}
 use Rattle.vs_outside.specs.{Host.HostContents, Host.with_stream, declared.mem_stream.HostWritten.HostWritten}
-use Rattle.vs_page.specs.Log.{packets_put, packets_got, Device, Log, Driver, HasGotAll, events_put}
-use Rattle.vs_page.specs.{Held.held_in, Held.packet_held, Fair.IsFairLog, Fair.number_of, Fair.payload_put}
+use Rattle.vs_page.specs.{Fair.number_of, Fair.payload_put, Log.Device, Log.Driver, Log.Log}
 use Rattle.vs_ring_port.specs.{DriverCalls.driver_answer, declared.queue.Queue.Queue, Contents.RingContents, EndLog.EndLog, EndLog.Pages}
 use Rattle.vs_ring_port.specs.{EndLog.all_put, Lists.Rings, Chains.Held, declared.device_ring.Chain.Chain}
 use Rattle.laws_tables.{specs.Both.IsSound, specs.Both.Seat, specs.Ends.Ends, proofs.Voices.AreVoiced}
@@ -24,13 +21,13 @@ use Rattle.laws_world.specs.Events.{ProxyReads, Moment, TimesOut, HandshakeTimes
 use Rattle.laws_world.specs.Events.{HostWrites, HostTakes, HostEnds, HostCloses, HostFails, at_moment, call_made, device_step, driver_step}
 use Rattle.laws_world.specs.Events.{happens, has_failed, holds, holds_event, is_at_rest, is_guest_cid, line_read, none_staged, proxy_step}
 use Rattle.laws_world.specs.World.{World, around, device_plays, driver_plays, first_cid}
-use Rattle.laws_world.specs.{Answers.answer_around, Laws.IsQueued, Pages.TxHolds, Events.reset_made, Events.unless_failed}
+use Rattle.laws_world.specs.{Answers.answer_around, Pages.TxHolds, Events.reset_made, Events.unless_failed}
 use Rattle.laws_world.specs.{Events.where_possible, Events.works_on, Sides.Runs, Sides.both_of, Sides.log_with_staged}
 use Rattle.laws_world.proofs.{DriverGoes.{After, Before, Left, Walks, call_left, call_walks, poll_left, poll_walks}, DeviceGoes.carried}
-use Rattle.laws_world.proofs.{DeviceGoes.cids_kept, DeviceWalks.AllHeads, DriverWalks.{Ties, first_fair, shown, walk}, Journals.AllAgree}
-use Rattle.laws_world.proofs.{Played.driver_got, Queues.pages_put, Runs.{goes_run, keeps_sound, stays}, Once.{AreOnce, keeps_once}}
+use Rattle.laws_world.proofs.{DeviceGoes.cids_kept, DeviceWalks.AllHeads, DriverWalks.{Ties, shown, walk}, Journals.AllAgree}
+use Rattle.laws_world.proofs.{Runs.{goes_run, keeps_sound, stays}, Once.{AreOnce, keeps_once}}
 use Rattle.laws_rest.proofs.BothEnds as both
-use Rattle.laws_world.proofs.{Once.both_ends, Wire.fit_rest, Keeping.Sees, Names.{StaysNamed, WaitsApart, named_from, named_still}}
+use Rattle.laws_world.proofs.{Once.both_ends, Wire.first_fit, Keeping.Sees, Names.{StaysNamed, WaitsApart, named_from, named_still}}
 use Rattle.laws_driver_bytes.specs.Calls.{Journal, LookAt, is_right, sent_on, makes_call, GuestCall, ReplyTo, account_of, with_call}
 use Rattle.laws_driver_bytes.specs.Received.{Account, AreReceived}
 use Rattle.laws_driver_bytes.proofs.{Making.made_with, Polling.IsFurther, Sending.puts_as}
@@ -41,11 +38,11 @@ use Rattle.vs_limits.specs.declared.TheConstants.{GUEST_CID_MIN, GUEST_CID_MAX, 
 use Rattle.laws_driver.proofs.{Carrying.{Carries, Fact, Holds, IsTiedBy, RestsWith}, Stepping.{Works, owed_with, publish_with, reply_with}}
 use Rattle.laws_driver.proofs.{Stepping.takes_with, Keeping.{Keeps, keeps_weaker}, Staging.{Rests, rests_tied}}
 use Rattle.laws_driver.specs.{Honest.IsFitState, Honest.ends_of_state, Honest.slots_of, Resets.MarksResets, Staged.IsLeft}
-use Rattle.vs_ring_list.proofs.Held.{same_queue_is}
+use Rattle.vs_ring_list.proofs.{Held.same_queue_is, Ties.{device_got, driver_got, tied-publish}}
 use Rattle.laws_device.proofs.Carrying.{IsToldBy, StreamedOver, With}
-use Rattle.laws_device.proofs.{Chains.Among, Seats.AllFit, Seats.Carried, Seats.PutsFit, Keeping.keeps_then, Turning.tick_slot_keeps}
+use Rattle.laws_device.proofs.{Chains.Among, Seats.Carried, Seats.PutsFit, Keeping.keeps_then, Turning.tick_slot_keeps}
 use Rattle.laws_proxy.proofs.{Shaking.{Goes-on, Turns, accepts, reads_byte, ticks}, Turning.{Proxied, proxy_reset_keeps}}
-use Rattle.vs_ring_list.specs.Ends.{Ends as RingEnds, device_contents}
+use Rattle.vs_ring_list.specs.{Ends.device_contents, Sound.IsTied}
 use Rattle.laws_device.specs.Honest.{is_held, IsFitState as IsFitDevice}
 use Rattle.laws_device.proofs.Keeping.{Keeps as DeviceKeeps, keeps_weaker as device_weaker}
 use Rattle.laws_world.proofs.DeviceWalks.{walk as device_walk}
@@ -71,7 +68,7 @@ pub record DeviceHolds (next : ℕ) (s : DeviceState) : Type 0 where
 
 -- What is true of the world after any list of events.
 pub record IsWell (fresh : Type 0) (w : World) : Type 0 where
-  pub queued : IsQueued w.rings
+  pub tied : IsTied w.rings.lists w.rings.driver.entries w.rings.device.entries
   pub sound : IsSound first_cid (both_of w)
   pub driver : IsFitState w.driver
   pub device : DeviceHolds w.proxy.next_port w.proxy.device
@@ -128,19 +125,11 @@ module _ (fresh : Type 0) (w : World) (well : IsWell fresh w) where
   abbrev rings : Rings × EndLog
   rings = (w.rings.lists, w.rings.driver)
 
-  pub device_fits : IsFairLog Device w.rings.device.entries
-  device_fits = well.sound.fair Device
-
   abbrev exposed : Rings × EndLog → RingContents
-  exposed r = shown w.rings.device device_fits well.device_puts r
+  exposed r = shown w.rings.device well.device_puts r
 
-  tie : Ties w.rings.device device_fits well.device_puts rings
-  tie = record {
-    queued = well.queued;
-    fair = first_fair w.rings.driver.staged.tx w.rings.driver.entries (well.sound.fair Driver);
-    cid = well.known;
-    pages = well.pages;
-  }
+  tie : Ties w.rings.device well.device_puts rings
+  tie = record { tied = well.tied; cid = well.known; pages = well.pages }
 
   same_told : {l m : EndLog} → Some l ≡ Some m → l ≡ m
   same_told is = cc
@@ -170,18 +159,14 @@ module _ (fresh : Type 0) (w : World) (well : IsWell fresh w) where
       → Goes fresh w (record (driver_plays tree w).1 { driver = state_of (driver_plays tree w).0; journal = journal })
   driver_goes tree state_of fact journal keeps left =
       let r = played driver_answer tree rings in
-      let ends = walk w.rings.device device_fits well.device_puts (λ x d. DriverTies first_cid (fact x) (state_of x) d) tree rings tie keeps in
+      let ends = walk w.rings.device well.device_puts (λ x d. DriverTies first_cid (fact x) (state_of x) d) tree rings tie keeps in
       let now = ends.0 refl r.1.1 refl in
       let after = left _ _ _ now.1 in
-      let puts = pages_put r.1.1.staged.tx r.1.1.entries in
-      let got = driver_got (record { lists = r.1.0; driver = r.1.1; device = w.rings.device }) ends.1.queued in
-      let runs = goes_run (both_of w).device guest _ after.goes (record {
-        packets = (got.packets.0, got.packets.1 ∙ ap (λ (ps : List Packet). got.packets.0 ++ ps) (sym puts.got));
-        events = (got.events.0, got.events.1 ∙ ap (λ (ids : List ℕ). got.events.0 ++ ids) (sym puts.heard));
-      }) in
+      let runs = goes_run (both_of w).device guest _ after.goes
+      (driver_got _ _ _ (tied-publish q.Tx r.1.1.staged.tx r.1.0 r.1.1.entries w.rings.device.entries ends.1.tied now.0.1.fair)) in
       record {
         well = record {
-          queued = ends.1.queued;
+          tied = ends.1.tied;
           sound = keeps_sound first_cid _ _ runs well.sound;
           driver = now.0.0;
           device = well.device;
@@ -213,7 +198,7 @@ module _ (fresh : Type 0) (w : World) (well : IsWell fresh w) where
       → (Rests first_cid before w.driver (exposed rings) → Keeps (λ x d. Rests first_cid (after x) (state_of x) d) tree (exposed rings))
       → let r = played driver_answer tree rings in Holds (after r.0) (state_of r.0) r.1.1.entries
   rests_on tree state_of before after none held keeps =
-      ((walk w.rings.device device_fits well.device_puts (λ x d. Rests first_cid (after x) (state_of x) d) tree rings tie (keeps (rests_at before none held))).0 refl _ refl).1
+      ((walk w.rings.device well.device_puts (λ x d. Rests first_cid (after x) (state_of x) d) tree rings tie (keeps (rests_at before none held))).0 refl _ refl).1
 
   abbrev account : Account
   account = account_of 1 well.opened w.journal
@@ -285,12 +270,8 @@ module _ (fresh : Type 0) (w : World) (well : IsWell fresh w) where
   abbrev pub carry : Carried
   carry = carried fresh (both_of w) well.sound well.once well.cids
 
-  driver_fair : IsFairLog Driver w.rings.driver.entries
-  driver_fair = first_fair w.rings.driver.staged.tx w.rings.driver.entries (well.sound.fair Driver)
-
   driver_fit : PutsFit w.rings.driver.entries
-  driver_fit = fit_rest (held_in packet_held w.rings.driver.staged.tx) (packets_put w.rings.driver.entries)
-      (subst AllFit (pages_put w.rings.driver.staged.tx w.rings.driver.entries).put well.driver_puts)
+  driver_fit = first_fit w.rings.driver.staged.tx w.rings.driver.entries well.driver_puts
 
   -- What the device finds, where n calls of the host failed so far.
   abbrev pub around_it : ℕ → Situation
@@ -322,39 +303,24 @@ module _ (fresh : Type 0) (w : World) (well : IsWell fresh w) where
     ),
   )
 
-  -- What the device got is what the driver put first, with the packets that are staged.
-  got_staged : (rings : RingEnds) → IsQueued rings → HasGotAll rings.device.entries (log_with_staged rings.driver)
-  got_staged rings q = record {
-    packets = (
-      held_in packet_held rings.driver.staged.tx ++ held_in packet_held rings.lists.tx.given,
-      (pages_put rings.driver.staged.tx rings.driver.entries).put
-          ∙ ap (λ (ps : List Packet). held_in packet_held rings.driver.staged.tx ++ ps) q.tx
-          ∙ sym (append_assoc (held_in packet_held rings.driver.staged.tx) (held_in packet_held rings.lists.tx.given) (packets_got rings.device.entries)),
-    );
-    events = (
-      events_put (log_with_staged rings.driver),
-      sym (append-nil (events_put (log_with_staged rings.driver))) ∙ ap (λ (ids : List ℕ). events_put (log_with_staged rings.driver) ++ ids) (sym q.no_event),
-    );
-  }
-
   device_goes : {A : Type 0} (tree : DeviceTree A) (state_of : A → ProxyState) → DeviceKeeps (λ x d. Proxied carry first_cid (state_of x) d) tree (around_it 0)
       → Goes fresh w (record (device_plays tree w).1 { proxy = state_of (device_plays tree w).0 })
   device_goes tree state_of keeps =
       let r = played answer_around tree (around w) in
-      let ends = device_walk w.rings driver_fair driver_fit (λ x d. Proxied carry first_cid (state_of x) d) tree (around w) 0 (record {
-        queued = well.queued;
-        fair = well.sound.fair Device;
+      let ends = device_walk w.rings driver_fit (λ x d. Proxied carry first_cid (state_of x) d) tree (around w) 0 (record {
+        tied = well.tied;
         cid = well.known;
         given = (well.pages.0, well.pages.2);
         heads = well.heads;
       }) keeps in
       let told = ends.1.1.1 r.1.log refl in
       let now = told.1 refl in
-      let got = got_staged (record { lists = r.1.lists; driver = w.rings.driver; device = r.1.log }) ends.2.queued in
+      let got = device_got _ _ _
+      (tied-publish q.Tx w.rings.driver.staged.tx r.1.lists w.rings.driver.entries r.1.log.entries ends.2.tied (well.sound.fair Driver)) in
       let runs = now.0.seated.1 got in
       record {
         well = record {
-          queued = ends.2.queued;
+          tied = ends.2.tied;
           sound = keeps_sound first_cid _ _ runs well.sound;
           driver = well.driver;
           device = record { fits = now.0.fits; port = ends.1.0 };
@@ -435,7 +401,7 @@ module _ (fresh : Type 0) (w : World) (well : IsWell fresh w) where
       → Goes fresh w (at_moment now (record w { host = host }))
   outside_goes now host streams = record {
     well = record {
-      queued = well.queued;
+      tied = well.tied;
       sound = well.sound;
       driver = well.driver;
       device = record { fits = well.device.fits; port = well.device.port };

@@ -1,8 +1,9 @@
 //! Plays over each kind of rings: all print the same.
 
-use crate::running::{COUNTED, HOSTILE_COUNTED, are_printed, played};
+use crate::running::{are_printed, played};
 use std::alloc::{AllocError, Global};
 use std::test::Fail;
+use tests_support::{COUNTED, HOSTILE_COUNTED};
 
 /// Each kind of rings.
 const KINDS: [&str; 3] = [

@@ -1,10 +1,11 @@
 //! Words and statuses.
 
-use crate::running::{COUNTED, HOSTILE_COUNTED, ends};
+use crate::running::ends;
 use std::alloc::{AllocError, AllocGlobal};
 use std::sync::Wait;
 use std::test::Fail;
 use std::thread::Threads;
+use tests_support::{COUNTED, HOSTILE_COUNTED};
 
 const NONE: &str = "guest open 0\ndevice open 0\n";
 

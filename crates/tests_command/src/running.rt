@@ -2,26 +2,12 @@
 
 ghost use Rattle.std.specs.Prelude.{◌≤◌};
 
-use std::alloc::{AllocError, AllocGlobal, Global};
+use std::alloc::{AllocError, AllocGlobal};
 use std::sync::Wait;
 use std::thread::Threads;
+use tests_support::words_of;
 use vs_outside::{FreeGate, MemSink, MemSource, PeerHost, StepClock};
 use vs_run::vsock_main;
-
-/// The last line of a report where nothing was counted.
-pub const COUNTED: &str = "dropped 0 overrun 0 broken 0 faults 0\n";
-
-/// The same of a run without a driver.
-pub const HOSTILE_COUNTED: &str = "dropped 0 overrun 0 faults 0\n";
-
-/// The words of a command line, the program's name first.
-fn words_of(alloc: Global, line: &str) -> Result<Vec<String>, AllocError> {
-    let mut words = Vec::new(alloc);
-    for word in line.split_ascii_whitespace() {
-        words.push(String::from_str(alloc, word)?)?;
-    }
-    Ok(words)
-}
 
 /// The status of these words over this source, host and sink.
 fn run<R: AllocGlobal + Wait + Threads + Sync>(

@@ -1,10 +1,11 @@
 //! What waits where something is full.
 
-use crate::running::{COUNTED, played};
+use crate::running::played;
 use std::alloc::{AllocError, AllocGlobal, Global};
 use std::sync::Wait;
 use std::test::Fail;
 use std::thread::Threads;
+use tests_support::COUNTED;
 
 /// These texts, each so many times.
 fn script_of(alloc: Global, texts: &[(u16, &str)]) -> Result<String, AllocError> {

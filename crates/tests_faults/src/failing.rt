@@ -3,6 +3,7 @@
 use std::alloc::{AllocError, AllocGlobal, Global};
 use std::sync::Wait;
 use std::thread::Threads;
+use tests_support::words_of;
 use vs_outside::{FreeGate, MemSink, MemSource, PeerHost, PreparedStream, StepClock};
 use vs_run::vsock_main;
 
@@ -24,15 +25,6 @@ pub enum Called {
     Host,
     /// The host that a play has of its own: a line more at the script's head says so.
     OwnHost,
-}
-
-/// The words of a command line, the program's name first.
-fn words_of(alloc: Global, line: &str) -> Result<Vec<String>, AllocError> {
-    let mut words = Vec::new(alloc);
-    for word in line.split_ascii_whitespace() {
-        words.push(String::from_str(alloc, word)?)?;
-    }
-    Ok(words)
 }
 
 /// What the source holds of a command whose nth call fails.

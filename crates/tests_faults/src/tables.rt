@@ -5,14 +5,10 @@ use std::alloc::{AllocError, AllocGlobal};
 use std::sync::Wait;
 use std::test::Fail;
 use std::thread::Threads;
+use tests_support::{COUNTED, FAULT_COUNTED};
 
 /// So many calls; the status of a command of which one of these fails, and what it prints, in two parts.
 type Row = (u64, u8, &'static str, &'static str);
-
-/// The last line of a report of which no call of a host failed, and of which one did.
-const COUNTED: &str = "dropped 0 overrun 0 broken 0 faults 0\n";
-
-const FAULT_COUNTED: &str = "dropped 0 overrun 0 broken 0 faults 1\n";
 
 /// Whether a command ends as these rows say, whichever call fails: those of the first row are its first calls, and so on. The last row is
 /// that of a call that isn't made.

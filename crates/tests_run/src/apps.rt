@@ -1,10 +1,11 @@
 //! Runs of one app each, over a host whose program gives bytes, ends its streams, or takes only so much.
 
-use crate::running::{Case, Ended, NONE_OPEN, ONE_OPEN, commanded};
+use crate::running::{Case, Ended, commanded};
 use std::alloc::{AllocError, AllocGlobal, Global};
 use std::sync::Wait;
 use std::test::Fail;
 use std::thread::Threads;
+use tests_support::{NONE_OPEN, ONE_OPEN};
 use vs_outside::{PeerHost, PreparedStream};
 
 /// What a stream of port 52 gives, whether it ends behind that, and how many bytes it takes, where not all.

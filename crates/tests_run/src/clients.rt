@@ -1,10 +1,11 @@
 //! Runs of apps that clients of the host reach.
 
-use crate::running::{Case, Ended, NONE_OPEN, ONE_OPEN, commanded, listening};
+use crate::running::{Case, Ended, commanded, listening};
 use std::alloc::{AllocError, AllocGlobal};
 use std::sync::Wait;
 use std::test::Fail;
 use std::thread::Threads;
+use tests_support::{NONE_OPEN, ONE_OPEN};
 use vs_outside::MemHost;
 
 /// What a client writes, and whether it ends behind that.

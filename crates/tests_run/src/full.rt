@@ -1,11 +1,12 @@
 //! Runs of apps whose connections fill the tables.
 
-use crate::running::{ALL_OPEN, Ended, ran};
+use crate::running::{Ended, ran};
 use std::alloc::{AllocError, AllocGlobal, Global};
 use std::fmt::Write;
 use std::sync::Wait;
 use std::test::Fail;
 use std::thread::Threads;
+use tests_support::ALL_OPEN;
 
 /// The lines of so many connections from guest port 1024 on, on which nothing passed, behind that line.
 fn report_of(alloc: Global, line: &str, conns: u32) -> Result<String, AllocError> {

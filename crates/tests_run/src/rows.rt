@@ -1,10 +1,11 @@
 //! Small runs over a host in memory that listens on port 52.
 
-use crate::running::{Case, Ended, NONE_OPEN, ONE_OPEN, commanded, listening, ran};
+use crate::running::{Case, Ended, commanded, listening, ran};
 use std::alloc::{AllocError, AllocGlobal};
 use std::sync::Wait;
 use std::test::Fail;
 use std::thread::Threads;
+use tests_support::{NONE_OPEN, ONE_OPEN};
 
 /// Whether each of these runs ends as told, on so many threads.
 fn end<R: AllocGlobal + Threads + Wait + Sync>(

@@ -4,16 +4,10 @@ use crate::gate::YieldGate;
 use std::alloc::{AllocError, AllocGlobal, Global};
 use std::sync::Wait;
 use std::thread::Threads;
+use tests_support::words_of;
 use vs_header::Kind;
 use vs_outside::{HostNet, MemHost, MemSink, MemSource, StepClock};
 use vs_run::vsock_main;
-
-/// How a report ends where no connection is left, where one is, and where 64 are.
-pub const NONE_OPEN: &str = "guest open 0\ndevice open 0\ndropped 0 overrun 0 broken 0 faults 0\n";
-
-pub const ONE_OPEN: &str = "guest open 1\ndevice open 1\ndropped 0 overrun 0 broken 0 faults 0\n";
-
-pub const ALL_OPEN: &str = "guest open 64\ndevice open 64\ndropped 0 overrun 0 broken 0 faults 0\n";
 
 /// A script, the status that its run ends with, and what it prints, in two parts.
 pub type Case<'a> = (&'a str, u8, &'a str, &'a str);
@@ -31,15 +25,6 @@ impl Ended {
         self.status == status
             && self.sink.bytes().strip_suffix(last.as_bytes()) == Some(printed.as_bytes())
     }
-}
-
-/// The words of a command line, the program's name first.
-fn words_of(alloc: Global, line: &str) -> Result<Vec<String>, AllocError> {
-    let mut words = Vec::new(alloc);
-    for word in line.split_ascii_whitespace() {
-        words.push(String::from_str(alloc, word)?)?;
-    }
-    Ok(words)
 }
 
 /// The gates of so many threads.

@@ -1,6 +1,6 @@
 //! Runs and clients over the machine's Unix sockets.
 
-use crate::running::{Ended, NONE_OPEN, commanded};
+use crate::running::{Ended, commanded};
 use std::alloc::AllocGlobal;
 use std::fs::{self, Files};
 use std::io;
@@ -9,6 +9,7 @@ use std::os::unix::net::UnixListener;
 use std::sync::Wait;
 use std::test::Fail;
 use std::thread::{self, Threads};
+use tests_support::NONE_OPEN;
 use vs_real::UnixHost;
 
 /// Gives a client back what it gives, up to its end.

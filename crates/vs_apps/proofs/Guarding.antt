@@ -55,6 +55,8 @@ module _ (script : RunScript) (g : GuestsState) (are : AreGuests script g) where
             accounted = run.kept.accounted;
             stands = run.kept.stands;
             asks = run.kept.asks;
+            traced = run.kept.traced;
+            places = run.kept.places;
           };
           follows = run.follows;
           waits = run.waits;

@@ -118,6 +118,25 @@ pub fn shutdown(
     note_called(entries, app, Called::Shutdown { id, bits, answer })
 }
 
+/// `grow N`
+pub fn grow(
+    driver: &mut Driver,
+    entries: &mut Vec<Entry>,
+    app: usize,
+    id: ConnId,
+    alloc: u32,
+) -> Told
+    requires room { vec_len entries.old < vec_capacity entries.old }
+    ensures ring { (n : ℕ) (flown staged : Counts) → IsRingOf n flown staged driver.old → IsRingOf n flown staged driver.new }
+    ensures honest { (first : ℕ) (c : RingContents) → IsHonestWith first driver.old c → IsHonestWith first driver.new c }
+    ensures calls { (script : RunScript) (c : RingContents) (apps : List AppState) (bytes : List ℕ) → CallsAs script app (call.Grow id alloc) result
+        (run_with driver.old c apps entries.old.items bytes) (run_with driver.new c apps entries.new.items bytes) }
+    ensures room { (vec_capacity entries.new ≡ vec_capacity entries.old) × (vec_len entries.new ≤ vec_len entries.old + 1) }
+{
+    let answer = driver.grow(id, alloc);
+    note_called(entries, app, Called::Grow { id, alloc, answer })
+}
+
 /// The look at a connection that was asked for.
 pub fn look_at(driver: &Driver, entries: &mut Vec<Entry>, app: usize, id: ConnId) -> Told
     requires room { vec_len entries.old < vec_capacity entries.old }

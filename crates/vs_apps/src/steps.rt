@@ -14,7 +14,7 @@ ghost use Rattle.vs_apps_parts.specs.declared.progress.{AppState.AppState, TheCo
 ghost use Rattle.laws_apps.specs.Runs.{Acts, Steps, no_app, poll_moved};
 ghost use Rattle.laws_apps.specs.Calls.{CallsAs, HasRoom, MakesAll, run_of, run_with};
 
-use crate::calls::{accept, close, connect, listen, look_at, shutdown};
+use crate::calls::{accept, close, connect, grow, listen, look_at, shutdown};
 use crate::receiving::recv;
 use crate::sending::send_next;
 use std::alloc::AllocError;
@@ -195,6 +195,9 @@ fn make_calls<R: DriverRing>(
         }
         Instruction::Shutdown { bits } => {
             Heard::one(shutdown(driver, &mut journal.entries, app, id, *bits))
+        }
+        Instruction::Grow { alloc } => {
+            Heard::one(grow(driver, &mut journal.entries, app, id, *alloc))
         }
         Instruction::Close => Heard::one(close(driver, &mut journal.entries, app, id)),
     }

@@ -15,6 +15,7 @@ abbrev pub id_in : GuestCall → Option ℕ
 id_in (call.Send id bytes) = Some id
 id_in (call.Recv id n) = Some id
 id_in (call.Shutdown id bits) = Some id
+id_in (call.Grow id alloc) = Some id
 id_in (call.Close id) = Some id
 id_in (call.LookAt id) = Some id
 id_in c = None
@@ -40,6 +41,7 @@ made_of script bytes app (called.Send id at from len answer) = made_as (call.Sen
 made_of script bytes app (called.Recv id len from answer) =
     made_as (call.Recv id len) (answer, slice_of from (got_count answer) bytes)
 made_of script bytes app (called.Shutdown id bits answer) = made_as (call.Shutdown id bits) answer
+made_of script bytes app (called.Grow id alloc answer) = made_as (call.Grow id alloc) answer
 made_of script bytes app (called.Close id answer) = made_as (call.Close id) answer
 made_of script bytes app (called.LookAt id answer) = made_as (call.LookAt id) answer
 

@@ -2,7 +2,7 @@
 use Rattle.std.specs.Prelude.{◌≡◌, ℕ, ◌+◌, ◌-◌, ◌≤◌, ◌^◌, min, nat_le, nat_lt, ◌&&◌, ◌||◌, Bool, true, false, if◌then◌else◌, List, [], ◌∷◌}
 use Rattle.std.specs.{Prelude.{◌++◌, map, take, drop, slice_get, slice_index_or, Some, None}, List.All, Option.unwrap_or}
 use Rattle.vs_script.specs.{Data.Content, Data.bytes_of, Data.size_of, declared.app.App.App, App.Act, App.app_view, App.Connect, App.Listen}
-use Rattle.vs_script.specs.App.{Accept, Send, Recv, Drain, Exchange, Shutdown, Close}
+use Rattle.vs_script.specs.App.{Accept, Send, Recv, Drain, Exchange, Shutdown, Grow, Close}
 use Rattle.laws_driver_bytes.specs.Calls.{GuestCall, Journal, Made}
 use Rattle.laws_driver_bytes.specs.Calls as call
 use Rattle.vs_apps_parts.specs.{Told.is_any_end, Told.step_wait, Told.told_of, Told.wait_of, declared.progress.Progress.Progress}
@@ -61,6 +61,7 @@ calls_next Drain p = call.Recv (id_of p) SLICE ∷ []
 calls_next (Exchange c) p =
     (if nat_lt p.sent (size_of c) then send_next c p ∷ [] else []) ++ (if nat_lt p.got (size_of c) then recv_next (size_of c) p ∷ [] else [])
 calls_next (Shutdown bits) p = call.Shutdown (id_of p) bits ∷ []
+calls_next (Grow alloc) p = call.Grow (id_of p) alloc ∷ []
 calls_next Close p = call.Close (id_of p) ∷ []
 
 -- What a reply adds to an app's progress. A drain doesn't count what came. A count stands still at the last number of 64 bits.

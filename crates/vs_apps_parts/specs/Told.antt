@@ -40,7 +40,7 @@ abbrev pub told_look : ConnectionState → Told
 told_look seen.Asked = told.Waits waits.NotOpen
 told_look state = told.Ends
 
--- Of each call. A listen, a shutdown and a close are done at any answer.
+-- Of each call. A listen, a shutdown, a growth and a close are done at any answer.
 abbrev pub told_by : (call : GuestCall) → ReplyTo call → Told
 told_by (Connect port) reply = told_connect reply
 told_by (Accept port) reply = told_accept reply

@@ -6,7 +6,8 @@ ghost use Rattle.vs_apps_parts.specs.{Scripts.RunScript, Told.told_of, Told.wait
 
 use crate::told::Told;
 use vs_driver_parts::answers::{
-    Accepted, Closed, ConnId, ConnectError, ConnectionState, ListenError, Received, Sent, Shut,
+    Accepted, Closed, ConnId, ConnectError, ConnectionState, Grown, ListenError, Received, Sent,
+    Shut,
 };
 use vs_flow::Flow;
 
@@ -77,6 +78,12 @@ pub enum Called {
         id: ConnId,
         bits: u8,
         answer: Shut,
+    },
+    /// A rise of the buffer space to so many bytes.
+    Grow {
+        id: ConnId,
+        alloc: u32,
+        answer: Grown,
     },
     /// A close.
     Close {

@@ -6,8 +6,9 @@ pub record Fifo : Type 0 where
   pub bytes : List ℕ
   pub capacity : ℕ
 
--- How a `ByteFifo` holds its bytes: behind `start` dropped ones, in a vector that has room for twice as many as there may be. No public clause cites it.
-pub record IsSound (items : List ℕ) (start capacity room : ℕ) : Type 0 where
-  pub dropped : start ≤ length items
-  pub few : length items ≤ start + capacity
+-- How a `ByteFifo` holds its bytes: from `start` to `end`, in a vector that has room for twice as many as there may be. No public clause cites it.
+pub record IsSound (items : List ℕ) (start end capacity room : ℕ) : Type 0 where
+  pub dropped : start ≤ end
+  pub held : end ≤ length items
+  pub few : end ≤ start + capacity
   pub doubled : capacity + capacity ≤ room

@@ -15,22 +15,23 @@ use std::marker::Model;
 /// so that each byte is moved at most once.
 #[derive(Drop)]
 pub struct ByteFifo {
-    // The bytes lie in one piece, behind `start` ones that were dropped. They move to the front where no more fit behind them.
+    // The bytes lie in one piece, from `start` to `end`; what is outside is left over. They move to the front where no more fit behind them.
     bytes: Vec<u8>,
     start: usize,
+    end: usize,
     capacity: usize,
 }
 
 impl Model for ByteFifo {
-    ghost use Rattle.std.specs.Prelude.{drop};
+    ghost use Rattle.std.specs.Prelude.{drop, take};
     ghost use Rattle.std.specs.Vec.{vec_capacity};
     ghost use Rattle.vs_buffer.specs.Fifo.{Fifo, IsSound};
 
     ghost Value = { Fifo };
 
-    ghost view = { λ f. record { bytes = drop f.start f.bytes.items; capacity = f.capacity } };
+    ghost view = { λ f. record { bytes = drop f.start (take f.end f.bytes.items); capacity = f.capacity } };
 
-    ghost invariant = { λ f. IsSound f.bytes.items f.start f.capacity (vec_capacity f.bytes) };
+    ghost invariant = { λ f. IsSound f.bytes.items f.start f.end f.capacity (vec_capacity f.bytes) };
 }
 
 impl ByteFifo {
@@ -43,6 +44,7 @@ impl ByteFifo {
         Ok(ByteFifo {
             bytes,
             start: 0,
+            end: 0,
             capacity: n,
         })
     }
@@ -52,18 +54,20 @@ impl ByteFifo {
         requires { length self.old.bytes + length bytes.now ≤ self.old.capacity }
         ensures { self.new ≡ record self.old { bytes = self.old.bytes ++ bytes.now } }
     {
-        if self.bytes.capacity() - self.bytes.len() < bytes.len() {
-            move_to_front(&mut self.bytes, self.start);
+        if self.bytes.capacity() - self.end < bytes.len() {
+            move_to_front(&mut self.bytes, self.start, self.end);
+            self.end -= self.start;
             self.start = 0;
         }
-        self.bytes.extend_from_slice(bytes).unwrap();
+        put_behind(&mut self.bytes, self.end, bytes);
+        self.end += bytes.len();
     }
 
     /// All bytes, the oldest first.
     pub fn as_slice(&self) -> &[u8]
         ensures { result.now ≡ self.now.bytes }
     {
-        &self.bytes[self.start..]
+        &self.bytes[self.start..self.end]
     }
 
     /// Copies the oldest bytes to the front of `out`, as many as it holds, and returns how many. The rest of `out` stays.
@@ -82,7 +86,7 @@ impl ByteFifo {
         ensures { self.new ≡ record self.old { bytes = drop n self.old.bytes } }
     {
         self.start += n;
-        if self.start == self.bytes.len() {
+        if self.start == self.end {
             self.clear();
         }
     }
@@ -103,7 +107,7 @@ impl ByteFifo {
         ensures exact { result ≡ length self.now.bytes }
         ensures within { result ≤ self.now.capacity }
     {
-        self.bytes.len() - self.start
+        self.end - self.start
     }
 
     /// Whether there is no byte.
@@ -125,18 +129,32 @@ impl ByteFifo {
     pub fn clear(&mut self)
         ensures { self.new ≡ record self.old { bytes = [] } }
     {
-        self.bytes.clear();
         self.start = 0;
+        self.end = 0;
     }
 }
 
-// Drops the first `start` bytes, and moves those behind them to the front.
-fn move_to_front(bytes: &mut Vec<u8>, start: usize)
-    requires { start ≤ length bytes.old.items }
-    ensures items { bytes.new.items ≡ drop start bytes.old.items }
-    ensures capacity { vec_capacity bytes.new ≡ vec_capacity bytes.old }
+// Copies the bytes from `start` to `end` to the front, where they fit before `start`.
+fn move_to_front(bytes: &mut [u8], start: usize, end: usize)
+    requires part { (start ≤ end) × (end ≤ length bytes.old) }
+    requires fits { end ≤ start + start }
+    ensures length { length bytes.new ≡ length bytes.old }
+    ensures moved { take (end - start) bytes.new ≡ drop start (take end bytes.old) }
 {
-    let left = bytes.len() - start;
-    bytes.copy_within(start.., 0);
-    bytes.truncate(left);
+    let count = end - start;
+    let (front, back) = bytes.split_at_mut(start);
+    front[..count].copy_from_slice(&back[..count]);
+}
+
+// Puts bytes behind the first `end` ones, in place of what is left over there. There has to be memory for them.
+fn put_behind(bytes: &mut Vec<u8>, end: usize, more: &[u8])
+    requires held { end ≤ length bytes.old.items }
+    requires room { end + length more.now ≤ vec_capacity bytes.old }
+    ensures put { take (end + length more.now) bytes.new.items ≡ take end bytes.old.items ++ more.now }
+    ensures length { end + length more.now ≤ length bytes.new.items }
+    ensures capacity { vec_capacity bytes.old ≤ vec_capacity bytes.new }
+{
+    let over = more.len().min(bytes.len() - end);
+    bytes[end..end + over].copy_from_slice(&more[..over]);
+    bytes.extend_from_slice(&more[over..]).unwrap();
 }

@@ -19,6 +19,7 @@ call_view (call_code.Accept port) = call.Accept port
 call_view (call_code.Send id bytes) = call.Send id bytes.items
 call_view (call_code.Recv id len) = call.Recv id len
 call_view (call_code.Shutdown id bits) = call.Shutdown id bits
+call_view (call_code.Grow id alloc) = call.Grow id alloc
 call_view (call_code.Close id) = call.Close id
 call_view (call_code.LookAt id) = call.LookAt id
 
@@ -61,6 +62,7 @@ Tells (call.Send id bytes) answer told = told ≡ reply.Sent answer
 Tells (call.Recv id n) answer (reply.Received got bytes) = answer ≡ (got, bytes.items)
 Tells (call.Recv id n) answer _ = ⊥
 Tells (call.Shutdown id bits) answer told = told ≡ reply.Shut answer
+Tells (call.Grow id alloc) answer told = told ≡ reply.Grown answer
 Tells (call.Close id) answer told = told ≡ reply.Closed answer
 Tells (call.LookAt id) answer told = told ≡ reply.Looked answer
 

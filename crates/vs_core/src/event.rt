@@ -1,7 +1,8 @@
 //! What may happen in the world, and what a call of the guest's answers.
 
 use vs_driver::{
-    Accepted, Closed, ConnId, ConnectError, ConnectionState, ListenError, Received, Sent, Shut,
+    Accepted, Closed, ConnId, ConnectError, ConnectionState, Grown, ListenError, Received, Sent,
+    Shut,
 };
 use vs_flow::Slot;
 use vs_ring_port::{Chain, Queue};
@@ -23,6 +24,8 @@ pub enum GuestCall {
     Recv(ConnId, usize),
     /// It shuts directions of a connection: bit 0 to receive no more, bit 1 to send no more.
     Shutdown(ConnId, u8),
+    /// It raises the buffer space of a connection to so many bytes.
+    Grow(ConnId, u32),
     /// It closes a connection.
     Close(ConnId),
     /// It asks how a connection stands.
@@ -107,6 +110,8 @@ pub enum Reply {
     Received(Received, Vec<u8>),
     /// What a shutdown answered.
     Shut(Shut),
+    /// What a growth answered.
+    Grown(Grown),
     /// What a close answered.
     Closed(Closed),
     /// How the connection stands.

@@ -91,6 +91,7 @@ impl World {
             GuestCall::Send(id, bytes) => Ok(self.send(*id, bytes)),
             GuestCall::Recv(id, len) => self.recv(alloc, *id, *len),
             GuestCall::Shutdown(id, bits) => Ok(self.shutdown(*id, *bits)),
+            GuestCall::Grow(id, alloc) => Ok(self.grow(*id, *alloc)),
             GuestCall::Close(id) => Ok(self.close(*id)),
             GuestCall::LookAt(id) => Ok(self.look_at(*id)),
         }
@@ -159,6 +160,15 @@ impl World {
         ensures { Steps (GuestCalls (call.Shutdown id bits)) self.old self.new result }
     {
         Reply::Shut(self.driver.shutdown(id, bits))
+    }
+
+    // It raises the buffer space of a connection.
+    fn grow(&mut self, id: ConnId, alloc: u32) -> Reply
+        requires ready { IsReady self.old }
+        requires rest { is_at_rest self.old.rings.driver.staged ≡ true }
+        ensures { Steps (GuestCalls (call.Grow id alloc)) self.old self.new result }
+    {
+        Reply::Grown(self.driver.grow(id, alloc))
     }
 
     // It closes a connection.

@@ -11,16 +11,18 @@ ghost use Rattle.vs_outside.specs.Host.{HostContents};
 ghost use Rattle.vs_page.specs.{Fair.IsFairLog, Fair.IsPrefixOf, Fair.payload_got, Fair.payload_put, Log.Device, Log.Driver, Log.HasGotAll};
 ghost use Rattle.vs_page.specs.{Log.IsNextPacket, Log.Log, Log.flow_got, Open.is_dropped, Open.is_open};
 ghost use Rattle.vs_page.specs.declared.log.LogEntry.TheVariants.{Mark};
+ghost use Rattle.vs_ring_list.specs.Sound.{IsTied};
 ghost use Rattle.laws_world.specs.{Counts.dropped_in, Events.Event, Events.happens, Events.is_at_rest};
 ghost use Rattle.laws_driver_bytes.specs.Calls.{GuestCall, is_right, sent_on};
-ghost use Rattle.laws_world.specs.{Events.is_guest_cid, Events.run, Laws.IsQueued, Plays.guest_line, Plays.poll_line, Plays.reset_line};
+ghost use Rattle.laws_world.specs.{Events.is_guest_cid, Events.run, Plays.guest_line, Plays.poll_line, Plays.reset_line};
 ghost use Rattle.laws_world.specs.{Steps.Leads, Sides.Runs, Sides.both_of, World.World, World.first_cid, World.opening};
 
 /// After any list of events what each end got is what the other put first, packets on tx and on rx and ids of events; and what was put and
 /// not got is just what the pages between them hold. So the payload that an end got on a connection is a prefix of the payload that the
 /// other put there.
 pub fn law_of_queues()
-    ensures queued { (n : ℕ) (host : HostContents) (es : List Event) → IsQueued (run es (opening n host)).rings }
+    ensures tied { (n : ℕ) (host : HostContents) (es : List Event) → let r = (run es (opening n host)).rings in
+        IsTied r.lists r.driver.entries r.device.entries }
     ensures driver_got { (n : ℕ) (host : HostContents) (es : List Event) → let r = (run es (opening n host)).rings in
         HasGotAll r.driver.entries r.device.entries }
     ensures device_got { (n : ℕ) (host : HostContents) (es : List Event) → let r = (run es (opening n host)).rings in

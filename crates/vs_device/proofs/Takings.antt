@@ -17,7 +17,7 @@ use Rattle.vs_uds.specs.Path.{path_of}
 use Rattle.vs_device_parts.specs.{declared.answers.Taken.Taken, Calls.Situation, Calls.DeviceTree, Calls.Allows, Calls.Ring, Calls.Dial}
 use Rattle.vs_device_parts.specs.{State.DeviceEntry, State.DeviceState, Playing.CanMake, Playing.MayRun, Playing.Runs, Steps.heard_chain}
 use Rattle.vs_device_parts.specs.{Steps.heard_header, Taking.is_not_for_host, Taking.known_packet, Transmitting.dial_answered}
-use Rattle.vs_device_parts.specs.Transmitting.{failing, on_next, on_packet, take_tx_of, try_request}
+use Rattle.vs_device_parts.specs.Transmitting.{failing, on_next, on_packet, on_unknown, take_tx_of, try_request}
 use Rattle.vs_limits.specs.declared.TheConstants.{DEVICE_REPLIES}
 use Rattle.vs_ring_port.specs.declared.device_ring.Next.TheVariants as next
 use Rattle.vs_ring_port.specs.declared.failure.Failure.TheVariants as failure
@@ -63,6 +63,13 @@ module _ (chain : Chain) (h : Header) (s : DeviceState) (ours : is_not_for_host 
   pub was_known : (e : DeviceEntry) (r : DeviceState × Verdict) (x y : Situation) → entry_of s.table (flow_to_host h) ≡ Some e → Runs (known_packet chain h e s) x r y
       → Runs (on_packet chain h s) x r y
   was_known e r x y found runs = leads_of Allows _ _ x y r (by_entry e found) runs
+
+  by_none : entry_of s.table (flow_to_host h) ≡ None → on_packet chain h s ≡ on_unknown h s
+  by_none none = rw (ours, none, on_packet) refl
+
+  pub was_unknown : (r : DeviceState × Verdict) (x y : Situation) → entry_of s.table (flow_to_host h) ≡ None → Runs (on_unknown h s) x r y
+      → Runs (on_packet chain h s) x r y
+  was_unknown r x y none runs = leads_of Allows _ _ x y r (by_none none) runs
 
 -- a packet of which the chain holds all, and one that says more
 module _ (chain : Chain) (h : Header) (s : DeviceState) where

@@ -19,7 +19,7 @@ ghost use Rattle.vs_device_parts.specs.Playing.{IsRxChain, MayClose, MayRun, Run
 ghost use Rattle.vs_device_parts.specs.{State.DeviceConnection, State.DeviceEntry, State.DeviceState, Steps.heard_chain};
 ghost use Rattle.vs_device_parts.specs.Taking.{after_refusal, asks_for_stream, is_not_for_host, known_packet};
 ghost use Rattle.vs_device_parts.specs.Transmitting.{dial_answered, heard, on_known, on_next, on_packet, on_unknown, refused, take_tx_of};
-ghost use Rattle.vs_device_parts.specs.Transmitting.{try_request, unknown_why};
+ghost use Rattle.vs_device_parts.specs.Transmitting.{op_why, try_request, unknown_why};
 ghost use Rattle.laws_device_streams.specs.Streams.{HasStreams};
 ghost use Rattle.laws_device.specs.Honest.{IsWith};
 ghost use Rattle.laws_proxy_bytes.specs.{Judged.IsJudged, Made.Made, Made.Makes, Told.AreAccounted, Told.StayAccounted};
@@ -32,7 +32,7 @@ use vs_device_parts::host_calls::dial;
 use vs_device_parts::ring_calls::{read_header, read_payload, return_read, take};
 use vs_device_parts::slots::Slots;
 use vs_flow::{Flow, Slot, is_assigned};
-use vs_header::{HEADER_LEN, Header, Kind, Op};
+use vs_header::{HEADER_LEN, Header, Kind, Op, op_of};
 use vs_limits::{DEVICE_REPLIES, HOST_CID};
 use vs_outside::{Dialed, HostNet};
 use vs_replies::Reply;
@@ -410,11 +410,19 @@ fn is_request(header: &Header) -> bool
 fn unknown_why(header: &Header) -> Why
     ensures { result ≡ unknown_why header.now }
 {
-    if header.kind != Kind::Stream.number() {
-        Why::BadKind
-    } else if header.op == 0 || header.op > 7 {
-        Why::BadOp
+    if header.kind == Kind::Stream.number() {
+        op_why(op_of(header.op))
     } else {
-        Why::NotLive
+        Why::BadKind
+    }
+}
+
+// Why a stream packet of this operation is refused on an unknown flow.
+fn op_why(op: Option<Op>) -> Why
+    ensures { result ≡ op_why op }
+{
+    match op {
+        None | Some(Op::Invalid) => Why::BadOp,
+        Some(_) => Why::NotLive,
     }
 }

@@ -1,8 +1,8 @@
 -- Packets that the device takes from the guest.
-use Rattle.std.specs.Prelude.{◌-◌, ◌==◌, ◌&&◌, ◌||◌, not, nat_lt, nat_le, if◌then◌else◌, [], ◌++◌, length, Some, None}
+use Rattle.std.specs.Prelude.{◌-◌, ◌==◌, ◌&&◌, nat_lt, nat_le, if◌then◌else◌, [], ◌++◌, length, Option, Some, None}
 use Rattle.vs_contents.specs.CallTree.{Done, Ask, bind}
-use Rattle.vs_header.specs.{Op.op_number, Packet.header_of, declared.Header.Header, declared.TheConstants.HEADER_LEN}
-use Rattle.vs_header.specs.{declared.Kind.TheVariants.Stream, declared.Op.TheVariants.Request}
+use Rattle.vs_header.specs.{Op.op_named, Op.op_number, Packet.header_of, declared.Header.Header, declared.TheConstants.HEADER_LEN}
+use Rattle.vs_header.specs.{declared.Kind.TheVariants.Stream, declared.Op.Op, declared.Op.TheVariants.Invalid, declared.Op.TheVariants.Request}
 use Rattle.vs_conn.specs.{End.verdict_of, End.end_after, End.is_of, End.is_reset, declared.end.Verdict.Verdict, declared.end.Why.Why}
 use Rattle.vs_flow.specs.{Flow.is_assigned, Table.entry_of, Table.has_place}
 use Rattle.vs_outside.specs.declared.host_net.Dialed.{Dialed}
@@ -58,8 +58,13 @@ try_request h s =
     else Done (refused h s)
 
 -- The verdict on another packet of an unknown flow: RST is ignored, all else gets RST.
+abbrev pub op_why : Option Op → Why
+op_why None = why.BadOp
+op_why (Some Invalid) = why.BadOp
+op_why (Some _) = why.NotLive
+
 abbrev pub unknown_why : Header → Why
-unknown_why h = if not (is_of Stream h) then why.BadKind else if (h.op == 0) || nat_lt 7 h.op then why.BadOp else why.NotLive
+unknown_why h = if is_of Stream h then op_why (op_named h.op) else why.BadKind
 
 abbrev pub on_unknown : Header → DeviceState → DeviceTree (DeviceState × Verdict)
 on_unknown h s =

@@ -42,6 +42,7 @@ event_alike (script.Accept port) p = line_alike (world.Guest (call.Accept port))
 event_alike (script.Send id bytes) p = line_alike (world.Guest (call.Send id (bytes_of bytes))) p
 event_alike (script.Recv id len) p = line_alike (world.Guest (call.Recv id len)) p
 event_alike (script.Shutdown id bits) p = line_alike (world.Guest (call.Shutdown id bits)) p
+event_alike (script.Grow id alloc) p = line_alike (world.Guest (call.Grow id alloc)) p
 event_alike (script.Close id) p = line_alike (world.Guest (call.Close id)) p
 event_alike (script.State id) p = line_alike (world.Guest (call.LookAt id)) p
 event_alike script.Poll p = line_alike world.Poll p

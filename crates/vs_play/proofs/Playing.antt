@@ -62,6 +62,7 @@ module _ (p : PlayState) (s : DriverState) (w : Ends) (text text' : List ℕ) (r
   drives_play (script.Send id content) guest h = answers_play (script.Send id content) _ _ p s w text text' refl ready h
   drives_play (script.Recv id len) guest h = answers_play (script.Recv id len) _ _ p s w text text' refl ready h
   drives_play (script.Shutdown id bits) guest h = answers_play (script.Shutdown id bits) _ _ p s w text text' refl ready h
+  drives_play (script.Grow id alloc) guest h = answers_play (script.Grow id alloc) _ _ p s w text text' refl ready h
   drives_play (script.Close id) guest h = answers_play (script.Close id) _ _ p s w text text' refl ready h
   drives_play (script.State id) guest h = answers_play (script.State id) _ _ p s w text text' refl ready h
   drives_play script.Poll guest h = answers_play script.Poll _ _ p s w text text' refl ready h
@@ -76,6 +77,7 @@ no_outside (lines.Accept port) never y is = cc (is)
 no_outside (lines.Send id content) never y is = cc (is)
 no_outside (lines.Recv id len) never y is = cc (is)
 no_outside (lines.Shutdown id bits) never y is = cc (is)
+no_outside (lines.Grow id alloc) never y is = cc (is)
 no_outside (lines.Close id) never y is = cc (is)
 no_outside (lines.State id) never y is = cc (is)
 no_outside lines.Poll never y is = cc (is)

@@ -23,6 +23,7 @@ may_play (script.Accept port) b = tt
 may_play (script.Send id bytes) b = tt
 may_play (script.Recv id len) b = tt
 may_play (script.Shutdown id bits) b = b
+may_play (script.Grow id alloc) b = tt
 may_play (script.Close id) b = tt
 may_play (script.State id) b = tt
 may_play script.Poll b = tt

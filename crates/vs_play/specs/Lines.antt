@@ -5,7 +5,7 @@ use Rattle.vs_script.specs.{Data.bytes_of, Outside.Outside, Outside.Host, Play.E
 use Rattle.laws_world.specs.{Plays.Line, Plays.Said, Plays.line, World.World}
 use Rattle.laws_driver_bytes.specs.Calls.{GuestCall, ReplyTo, flow_accepted, flow_opened}
 use Rattle.vs_report.specs.GuestLines.{connect_text, listen_text, unlisten_text, accept_text, send_text, recv_text, shutdown_text}
-use Rattle.vs_report.specs.{GuestLines.{close_text, state_text, poll_text}, DeviceLines.{turn_text, reset_text}, HostLines.ok_text}
+use Rattle.vs_report.specs.{GuestLines.{close_text, grow_text, state_text, poll_text}, DeviceLines.{turn_text, reset_text}, HostLines.ok_text}
 use Rattle.vs_report.specs.HostLines.{client_text, write_text, stream_there_text}
 use Rattle.vs_script.specs.Outside as outside
 use Rattle.vs_script.specs.Play as script
@@ -21,6 +21,7 @@ reply_text (call.Accept port) reply s = accept_text reply (flow_accepted reply s
 reply_text (call.Send id bytes) reply s = send_text reply
 reply_text (call.Recv id n) reply s = recv_text reply.0 reply.1
 reply_text (call.Shutdown id bits) reply s = shutdown_text reply
+reply_text (call.Grow id alloc) reply s = grow_text reply
 reply_text (call.Close id) reply s = close_text reply
 reply_text (call.LookAt id) reply s = state_text reply
 
@@ -73,6 +74,7 @@ event_played (script.Accept port) p = played_line (world.Guest (call.Accept port
 event_played (script.Send id bytes) p = played_line (world.Guest (call.Send id (bytes_of bytes))) p
 event_played (script.Recv id len) p = played_line (world.Guest (call.Recv id len)) p
 event_played (script.Shutdown id bits) p = played_line (world.Guest (call.Shutdown id bits)) p
+event_played (script.Grow id alloc) p = played_line (world.Guest (call.Grow id alloc)) p
 event_played (script.Close id) p = played_line (world.Guest (call.Close id)) p
 event_played (script.State id) p = played_line (world.Guest (call.LookAt id)) p
 event_played script.Poll p = played_line world.Poll p

@@ -34,6 +34,7 @@ Drives (script.Accept port) old new v w text text' = Replies (call.Accept port) 
 Drives (script.Send id content) old new v w text text' = Replies (call.Send id (bytes_of content)) old new v w text text'
 Drives (script.Recv id len) old new v w text text' = Replies (call.Recv id len) old new v w text text'
 Drives (script.Shutdown id bits) old new v w text text' = Replies (call.Shutdown id bits) old new v w text text'
+Drives (script.Grow id alloc) old new v w text text' = Replies (call.Grow id alloc) old new v w text text'
 Drives (script.Close id) old new v w text text' = Replies (call.Close id) old new v w text text'
 Drives (script.State id) old new v w text text' = Replies (call.LookAt id) old new v w text text'
 Drives script.Poll old new v w text text' = Answers (poll_of old) (λ polled s. poll_text polled) new v w text text'

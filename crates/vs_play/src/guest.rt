@@ -18,7 +18,7 @@ use vs_both_ends::BothEnds;
 use vs_driver::{Accepted, ConnId, ConnectError, Driver, Received};
 use vs_flow::Flow;
 use vs_report::guest_lines::{
-    push_accept, push_close, push_connect, push_listen, push_poll, push_recv, push_send,
+    push_accept, push_close, push_connect, push_grow, push_listen, push_poll, push_recv, push_send,
     push_shutdown, push_state, push_unlisten,
 };
 use vs_script::{Data, PlayLine};
@@ -60,6 +60,7 @@ pub fn guest_line<R: BothEnds>(
         PlayLine::Send { id, content } => send(driver, rings, *id, content, text),
         PlayLine::Recv { id, len } => recv(driver, buffer, *id, *len, text),
         PlayLine::Shutdown { id, bits } => shutdown(driver, *id, *bits, text),
+        PlayLine::Grow { id, alloc } => grow(driver, *id, *alloc, text),
         PlayLine::Close { id } => close(driver, *id, text),
         PlayLine::State { id } => state(driver, *id, text),
         PlayLine::Poll => poll(driver, rings, text),
@@ -220,6 +221,14 @@ fn shutdown(driver: &mut Driver, id: ConnId, bits: u8, text: &mut String) -> Res
 {
     let answer = driver.shutdown(id, bits);
     push_shutdown(text, answer)
+}
+
+// `grow C N`
+fn grow(driver: &mut Driver, id: ConnId, alloc: u32, text: &mut String) -> Result<(), AllocError>
+    ensures { (e : Ends) → IsDriven driver.old e → OnOk result (Replies (call.Grow id alloc) driver.old driver.new e e (string_bytes text.old) (string_bytes text.new)) }
+{
+    let answer = driver.grow(id, alloc);
+    push_grow(text, answer)
 }
 
 // `close C`

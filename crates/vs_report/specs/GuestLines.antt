@@ -3,7 +3,7 @@ use Rattle.std.specs.Prelude.{ℕ, Bool, true, false, List, ◌++◌, codes, dec
 use Rattle.vs_flow.specs.declared.flow.Flow.{Flow}
 use Rattle.vs_driver_parts.specs.declared.answers.{Accepted.Accepted, Closed.Closed, ConnectError.ConnectError}
 use Rattle.vs_driver_parts.specs.declared.answers.{ConnectionState.ConnectionState, ListenError.ListenError, Polled.Polled}
-use Rattle.vs_driver_parts.specs.declared.answers.{Received.Received, Sent.Sent, Shut.Shut}
+use Rattle.vs_driver_parts.specs.declared.answers.{Grown.Grown, Received.Received, Sent.Sent, Shut.Shut}
 use Rattle.vs_driver_parts.specs.declared.answers.Accepted.TheVariants as accepted
 use Rattle.vs_driver_parts.specs.declared.answers.Closed.TheVariants as closed
 use Rattle.vs_driver_parts.specs.declared.answers.ConnectError.TheVariants as refused
@@ -12,6 +12,7 @@ use Rattle.vs_driver_parts.specs.declared.answers.ListenError.TheVariants as unl
 use Rattle.vs_driver_parts.specs.declared.answers.Received.TheVariants as received
 use Rattle.vs_driver_parts.specs.declared.answers.Sent.TheVariants as sent
 use Rattle.vs_driver_parts.specs.declared.answers.Shut.TheVariants as shut
+use Rattle.vs_driver_parts.specs.declared.answers.Grown.TheVariants as rise
 use Rattle.vs_report.specs.Bytes.{data_text}
 
 -- A connection: its number, its guest port and its host port.
@@ -75,6 +76,15 @@ shutdown_text shut.Done = codes "ok\n"
 shutdown_text shut.Unknown = codes "unknown\n"
 shutdown_text shut.NotOpen = codes "not open\n"
 shutdown_text shut.Reset = codes "reset\n"
+
+-- grow C N
+abbrev pub grow_text : Grown → List ℕ
+grow_text rise.Done = codes "ok\n"
+grow_text rise.Unknown = codes "unknown\n"
+grow_text rise.NotOpen = codes "not open\n"
+grow_text rise.Reset = codes "reset\n"
+grow_text (rise.TooBig most) = codes "too big " ++ decimal most ++ codes "\n"
+grow_text (rise.Shrinks now) = codes "shrinks " ++ decimal now ++ codes "\n"
 
 -- close C
 abbrev pub close_text : Closed → List ℕ

@@ -4,14 +4,14 @@ ghost use Rattle.std.specs.Prelude.{◌≡◌, ◌++◌, OnOk, string_bytes, cod
 ghost use Rattle.vs_report.specs.Bytes.{data_text};
 ghost use Rattle.vs_driver_parts.specs.declared.answers.Sent.TheVariants.{NoCredit};
 ghost use Rattle.vs_report.specs.GuestLines.{opened_text, connection_text, connect_text, refused_text, listen_text, unlisten_text};
-ghost use Rattle.vs_report.specs.GuestLines.{accept_text, send_text, recv_text, shutdown_text, close_text, state_text, reset_text, poll_text};
+ghost use Rattle.vs_report.specs.GuestLines.{accept_text, send_text, recv_text, shutdown_text, grow_text, close_text, state_text, reset_text, poll_text};
 
 use crate::bytes::push_data;
 use crate::number::{push_last, push_number};
 use std::alloc::AllocError;
 use vs_driver_parts::answers::{
-    Accepted, Closed, ConnId, ConnectError, ConnectionState, ListenError, Polled, Received, Sent,
-    Shut,
+    Accepted, Closed, ConnId, ConnectError, ConnectionState, Grown, ListenError, Polled, Received,
+    Sent, Shut,
 };
 use vs_flow::Flow;
 
@@ -154,6 +154,20 @@ pub fn push_shutdown(out: &mut String, answer: Shut) -> Result<(), AllocError>
         Shut::Unknown => out.push_str("unknown\n"),
         Shut::NotOpen => out.push_str("not open\n"),
         Shut::Reset => out.push_str("reset\n"),
+    }
+}
+
+/// `grow C N`
+pub fn push_grow(out: &mut String, answer: Grown) -> Result<(), AllocError>
+    ensures { OnOk result (string_bytes out.new ≡ string_bytes out.old ++ grow_text answer) }
+{
+    match answer {
+        Grown::Done => out.push_str("ok\n"),
+        Grown::Unknown => out.push_str("unknown\n"),
+        Grown::NotOpen => out.push_str("not open\n"),
+        Grown::Reset => out.push_str("reset\n"),
+        Grown::TooBig { most } => push_last(out, "too big ", most as u64),
+        Grown::Shrinks { now } => push_last(out, "shrinks ", now as u64),
     }
 }
 

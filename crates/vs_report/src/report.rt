@@ -2,7 +2,7 @@
 
 ghost use Rattle.std.specs.Prelude.{◌≡◌, ◌++◌, OnOk, string_bytes, codes};
 ghost use Rattle.vs_report.specs.Bytes.{counted_text};
-ghost use Rattle.vs_report.specs.Report.{guest_open_text, device_open_text, stream_text, flow_bytes_text, labelled_text, counts_text};
+ghost use Rattle.vs_report.specs.Report.{guest_open_text, device_open_text, stream_text, flow_bytes_text, labelled_text, broken_text, counts_text};
 
 use crate::bytes::push_counted;
 use crate::number::{push_last, push_number};
@@ -80,6 +80,16 @@ fn push_read(out: &mut String, read: &[u8]) -> Result<(), AllocError>
     out.push_str("\n")
 }
 
+// The packets that broke a connection of the guest, where there is a driver.
+fn push_broken(out: &mut String, broken: Option<u64>) -> Result<(), AllocError>
+    ensures { OnOk result (string_bytes out.new ≡ string_bytes out.old ++ broken_text broken) }
+{
+    match broken {
+        Some(broken) => push_number(out, " broken ", broken),
+        None => Ok(()),
+    }
+}
+
 /// What was counted: packets dropped, payload beyond the room, calls of the host that failed; where there is a driver, between them the
 /// packets that broke a connection of the guest.
 pub fn push_counts(
@@ -91,8 +101,6 @@ pub fn push_counts(
 {
     push_number(out, "dropped ", counters.dropped)?;
     push_number(out, " overrun ", counters.overrun)?;
-    if let Some(broken) = broken {
-        push_number(out, " broken ", broken)?;
-    }
+    push_broken(out, broken)?;
     push_last(out, " faults ", counters.faults)
 }

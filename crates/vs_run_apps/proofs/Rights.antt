@@ -10,9 +10,10 @@ use Rattle.vs_device_parts.specs.{Calls.Situation, Playing.situation}
 use Rattle.vs_ring_shared.specs.{Countings.met_between, Meetings.after_hearing, Sights.{DeviceSight, device_contents, device_log}, declared.counters.Met.Met}
 use Rattle.vs_apps_parts.specs.Scripts.{RunScript}
 use Rattle.laws_apps.specs.Runs.{IsRunOf, Run}
+use Rattle.laws_proxy.specs.Honest.{IsProxyStreamed}
 use Rattle.laws_settled.specs.{Begun.{CountsFailed, IsBegun, IsUnlabelled, Start, start_with}, Settled.{IsSettled, IsSteady}}
 use Rattle.laws_settled.proofs.{Beginning.dropped_none, Beginning.new_begun, Steady.new_steady}
-use Rattle.laws_run.{specs.Dry.AreIdle, proofs.Completing.complete_report}
+use Rattle.laws_run.{specs.Dry.AreIdle, proofs.Completing.complete_report, proofs.Holding.place_waits}
 use Rattle.vs_apps.specs.Guests.{GuestsState, run_in}
 use Rattle.vs_settle.specs.Rounds.{LastRound}
 use Rattle.vs_report.specs.declared.giving.GiveError.{GiveError}
@@ -38,15 +39,20 @@ module _ (script : RunScript) (start : Start) (g : GuestsState) (s : SideState) 
   pub right_of : IsRunOf FIRST_CID script (run_in g) → IsSettled g.driver g.end s.proxy s.ring → LastRound script g s.proxy s.ring s.contents s.faults
       → AreIdle s.proxy.device.table s.contents → IsSteady s.proxy (around s) → IsBegun start s.proxy (around s) → HasRightReport script start g s
   right_of run rest last idle steady begun unlabelled h there =
-      let told = complete_report script g.driver g.end g.apps g.entries g.bytes s.proxy s.ring h s.faults run rest
-      (subst (λ (o : Option HostContents). IsSteady s.proxy (situation (device_contents s.ring) o s.faults)) there steady) (run_in last.first) (stood last)
-      last.steps last.room (same_apps last) (same_entries last) last.polled (run_in (record last.stood { end = after_hearing last.heard last.stood.end }))
-      (run_in last.past) refl last.polls last.still (ap (λ (x : GuestsState). x.driver) last.ends)
-      (λ honest l is plain k shown. begun.streamed unlabelled honest l is plain k (there ∙ shown))
-      (subst (λ (o : Option HostContents). AreIdle s.proxy.device.table o) there idle) in (
+      let now = subst (λ (o : Option HostContents). IsSteady s.proxy (situation (device_contents s.ring) o s.faults)) there steady in
+      let streams : IsProxyStreamed FIRST_CID s.proxy (situation (device_contents s.ring) (Some h) s.faults) =
+      λ honest l is plain k shown. begun.streamed unlabelled honest l is plain k (there ∙ shown) in
+      let still = subst (λ (o : Option HostContents). AreIdle s.proxy.device.table o) there idle in
+      let heard = run_in (record last.stood { end = after_hearing last.heard last.stood.end }) in
+      let told = complete_report script g.driver g.end g.apps g.entries g.bytes s.proxy s.ring h s.faults run rest now (run_in last.first) (stood last)
+      last.steps last.room (same_apps last) (same_entries last) last.polled heard (run_in last.past) refl last.polls last.still
+      (ap (λ (x : GuestsState). x.driver) last.ends) streams still in (
         told.0,
         told.1 (totals_of g s.proxy) start.faults s.faults refl refl (dropped_none g.driver g.end s.proxy s.ring rest begun.drops) begun.failed.more,
         told.2 (totals_of g s.proxy) refl refl,
+        place_waits script g.driver g.end g.apps g.entries g.bytes s.proxy s.ring h s.faults run rest now (run_in last.first) (stood last)
+            last.steps last.room (same_apps last) (same_entries last) last.polled heard (run_in last.past) refl last.polls last.still
+            (ap (λ (x : GuestsState). x.driver) last.ends) streams still,
       )
 
   pub has_run : (met : Met) → IsRunOf FIRST_CID script (run_in g) → IsSettled g.driver g.end s.proxy s.ring

@@ -13,7 +13,7 @@ use Rattle.vs_apps.specs.Guests.{GuestsState, run_in}
 use Rattle.vs_settle.specs.Rounds.{LastRound}
 use Rattle.vs_report.specs.declared.giving.Totals.{Totals}
 use Rattle.vs_run_report.specs.Right.{IsRightReport}
-use Rattle.laws_run.specs.{Complete.IsCompleteRun, Dry.AreIdle}
+use Rattle.laws_run.specs.{Complete.IsCompleteRun, Dry.AreIdle, Places.ArePlaceWaits}
 use Rattle.vs_run_apps.specs.Sides.{SideState, around}
 
 -- What the report of a run counts.
@@ -30,7 +30,8 @@ abbrev pub HasRightReport : RunScript → Start → GuestsState → SideState �
 HasRightReport script start g s =
     ForSome start.contents IsUnlabelled → ForSome s.contents (λ h.
     (opened : ℕ → Connection) × IsRightReport script g.apps g.entries g.bytes (totals_of g s.proxy) opened h start.faults s.faults
-    × IsCompleteRun script g.apps g.entries g.bytes (totals_of g s.proxy) opened h)
+    × IsCompleteRun script g.apps g.entries g.bytes (totals_of g s.proxy) opened h
+    × ArePlaceWaits script g.apps g.entries g.bytes g.driver h)
 
 -- The journal is that of a run of the script; both ends are at rest; in the last round nothing moved, and each app was done or waited; the stream of
 -- each connection that may read it, and has credit, has nothing to be taken, and that of each connection with bytes pending takes none; and so many

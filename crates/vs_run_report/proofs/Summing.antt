@@ -47,6 +47,7 @@ module _ (id : ℕ) (script : RunScript) (bytes : List ℕ) (app : ℕ) where
   sent_called (called.Send other at from len answer) = if_sent (id == other) from len (data_at at (acts_of app script)) answer
   sent_called (called.Recv other len from answer) = ap (λ (xs : List ℕ). length xs) (none_either (id == other) [] refl)
   sent_called (called.Shutdown other bits answer) = ap (λ (xs : List ℕ). length xs) (none_either (id == other) [] refl)
+  sent_called (called.Grow other alloc answer) = ap (λ (xs : List ℕ). length xs) (none_either (id == other) [] refl)
   sent_called (called.Close other answer) = ap (λ (xs : List ℕ). length xs) (none_either (id == other) [] refl)
   sent_called (called.LookAt other answer) = ap (λ (xs : List ℕ). length xs) (none_either (id == other) [] refl)
 
@@ -58,6 +59,7 @@ module _ (id : ℕ) (script : RunScript) (bytes : List ℕ) (app : ℕ) where
   given_called (called.Send other at from len answer) = none_either (id == other) [] refl
   given_called (called.Recv other len from answer) = refl
   given_called (called.Shutdown other bits answer) = none_either (id == other) [] refl
+  given_called (called.Grow other alloc answer) = none_either (id == other) [] refl
   given_called (called.Close other answer) = none_either (id == other) [] refl
   given_called (called.LookAt other answer) = none_either (id == other) [] refl
 

@@ -81,6 +81,7 @@ reply_tells (call.Accept port) r = accept_tells r
 reply_tells (call.Send id bytes) r = send_tells r
 reply_tells (call.Recv id n) r = recv_tells r.0
 reply_tells (call.Shutdown id bits) r = tt
+reply_tells (call.Grow id alloc) r = tt
 reply_tells (call.Close id) r = tt
 reply_tells (call.LookAt id) r = look_tells r
 
@@ -168,6 +169,7 @@ step_waits (act.Recv n) p ms is = one_waits waits_to_receive (recv_next n p) (λ
 step_waits act.Drain p ms is = one_waits waits_to_receive _ (λ why e. e) ms is
 step_waits (act.Exchange c) p ms is = exchanges (nat_lt p.sent (size_of c)) (nat_lt p.got (size_of c)) c p ms is
 step_waits (act.Shutdown bits) p ms is = one_waits (may_wait (act.Shutdown bits)) (call.Shutdown (id_of p) bits) (λ why e. e) ms is
+step_waits (act.Grow alloc) p ms is = one_waits (may_wait (act.Grow alloc)) (call.Grow (id_of p) alloc) (λ why e. e) ms is
 step_waits act.Close p ms is = one_waits (may_wait act.Close) (call.Close (id_of p)) (λ why e. e) ms is
 
 pub waits_right : (a : Act) (p : Progress) (ms : List Made) (why : WaitsFor) → calls_in ms ≡ calls_next a p

@@ -13,7 +13,8 @@ use Rattle.vs_driver_parts.specs.declared.answers.Closed.TheVariants as closed
 use Rattle.vs_driver_parts.specs.declared.answers.ConnectionState.TheVariants as seen
 use Rattle.vs_driver_parts.specs.declared.answers.Received.TheVariants as got
 use Rattle.vs_driver_parts.specs.declared.answers.Sent.TheVariants as sent
-use Rattle.vs_report.specs.declared.giving.Totals.{Totals}
+use Rattle.vs_device_parts.specs.Turns.{counters_of, new_device}
+use Rattle.vs_report.specs.{declared.giving.Totals.Totals, Report.nothing_counted}
 use Rattle.vs_run_report.specs.{Report.run_status, Report.run_texts, Right.IsRightReport}
 
 -- How far an app is whose connection is 1, and where its last entry is a wait.
@@ -25,7 +26,7 @@ abbrev pub both_open : ℕ → Totals
 both_open n = record {
   guest_open = n;
   device_open = n;
-  counters = record { dropped = 0; overrun = 0; faults = 0; opened = 1; closed = 0 };
+  counters = counters_of (new_device 3 []);
   broken = 0;
 }
 
@@ -42,7 +43,7 @@ hello_entries =
 abbrev pub hello_printed : List (List ℕ)
 hello_printed =
     codes "app 1 done\n" ∷ codes "conn 1024 52 sent 5 received 0 -\n" ∷ codes "guest open 0\n" ∷ codes "device open 0\n"
-    ∷ codes "dropped 0 overrun 0 broken 0 faults 0\n" ∷ []
+    ∷ nothing_counted ∷ []
 
 -- Its host, whose program read four of the five bytes so far; and the connections of ids, by their numbers.
 abbrev pub hello_stream : Stream
@@ -89,7 +90,7 @@ silent_entries =
 abbrev pub silent_printed : List (List ℕ)
 silent_printed =
     codes "app 1 waited 3 empty at 2\n" ∷ codes "conn 1024 52 sent 0 received 0 -\n" ∷ codes "guest open 1\n" ∷ codes "device open 1\n"
-    ∷ codes "dropped 0 overrun 0 broken 0 faults 0\n" ∷ []
+    ∷ nothing_counted ∷ []
 
 -- One that a client of the host talks to at port 70, behind one that opens nothing.
 abbrev pub served : RunScript
@@ -105,7 +106,7 @@ served_entries =
 abbrev pub served_printed : List (List ℕ)
 served_printed =
     codes "app 1 done\n" ∷ codes "app 2 done\n" ∷ codes "conn 70 1073741824 sent 2 received 2 796f\n" ∷ codes "guest open 0\n"
-    ∷ codes "device open 0\n" ∷ codes "dropped 0 overrun 0 broken 0 faults 0\n" ∷ []
+    ∷ codes "device open 0\n" ∷ nothing_counted ∷ []
 
 -- What these print.
 abbrev pub hello_says : List (List ℕ)

@@ -103,10 +103,11 @@ line_bounded name words =
     (holds_behind IsBounded (id words) _ (λ c rest. number_alone 1 65536 IsBounded (script.Recv c) rest (λ n is. is)))
     (holds_if IsBounded (bytes_eq name (codes "shutdown")) _ _
     (holds_behind IsBounded (id words) _ (λ c rest. number_alone 1 MAX_BITS IsBounded (script.Shutdown c) rest (λ b is. is)))
+    (holds_if IsBounded (bytes_eq name (codes "grow")) _ _ (holds_behind IsBounded (id words) _ (λ c rest. holds_always IsBounded (script.Grow c) _ (λ x. tt)))
     (holds_if IsBounded (bytes_eq name (codes "close")) _ _ (holds_always IsBounded script.Close _ (λ x. tt))
     (holds_if IsBounded (bytes_eq name (codes "state")) _ _ (holds_always IsBounded script.State _ (λ x. tt))
     (holds_if IsBounded (bytes_eq name (codes "poll")) _ _ (holds_ending IsBounded script.Poll words tt)
-    (holds_named IsBoundedAround IsBounded script.Around (outside_line name words) (outside_bounded name words) (λ line is. is)))))))))))
+    (holds_named IsBoundedAround IsBounded script.Around (outside_line name words) (outside_bounded name words) (λ line is. is))))))))))))
 
 -- All lines.
 abbrev lines_in : List (ℕ × Event) → List Event

@@ -3,6 +3,7 @@ use Rattle.std.specs.Prelude.{ℕ, if◌then◌else◌, Bool, List, map, codes, 
 use Rattle.vs_script.specs.{Data.{Content, content_of}, Field.{after, ending, word, number, port, bits, content, only, named}}
 use Rattle.vs_script.specs.{declared.fault.Why.Why, declared.fault.Why.TheVariants.BadWord, declared.app.{App.App, Instruction.Instruction}}
 use Rattle.vs_script.specs.{declared.app.{RunLine.RunLine, TheConstants.MAX_APP_FILL}, declared.app.TheConstants.MAX_APP_RECV}
+use Rattle.vs_script.specs.declared.play.TheConstants.{MAX_GROW}
 use Rattle.vs_script.specs.declared.app.Instruction.TheVariants as code
 use Rattle.vs_script.specs.declared.app.RunLine.TheVariants as run
 
@@ -16,6 +17,7 @@ pub data Act : Type 0 where
   Drain : Act
   Exchange : (bytes : Content) → Act
   Shutdown : (bits : ℕ) → Act
+  Grow : (alloc : ℕ) → Act
   Close : Act
 
 -- A line of a run: an app begins, or the app that began last does something.
@@ -33,6 +35,7 @@ instruction_view (code.Recv len) = Recv len
 instruction_view code.Drain = Drain
 instruction_view (code.Exchange bytes) = Exchange (content_of bytes)
 instruction_view (code.Shutdown b) = Shutdown b
+instruction_view (code.Grow alloc) = Grow alloc
 instruction_view code.Close = Close
 
 abbrev pub run_view : RunLine → RunStep
@@ -50,6 +53,7 @@ connection_instruction name words =
     else if bytes_eq name (codes "drain") then ending Drain words
     else if bytes_eq name (codes "exchange") then named Exchange (only (content MAX_APP_FILL) words)
     else if bytes_eq name (codes "shutdown") then named Shutdown (only bits words)
+    else if bytes_eq name (codes "grow") then named Grow (only (number 1 MAX_GROW) words)
     else if bytes_eq name (codes "close") then ending Close words
     else Err BadWord
 

@@ -2,7 +2,7 @@
 use Rattle.std.specs.Prelude.{ℕ, if◌then◌else◌, List, codes, bytes_eq, Result}
 use Rattle.vs_script.specs.{Data.Content, Data.content_of, Field.after, Field.ending, Field.word, Field.number, Field.port, Field.id}
 use Rattle.vs_script.specs.{Field.bits, Field.content, Field.only, Field.named, Outside.Outside, Outside.outside_view, Outside.outside_line}
-use Rattle.vs_script.specs.declared.{fault.Why.Why, outside.TheConstants.MAX_FILL, play.PlayLine.PlayLine, play.TheConstants.MAX_RECV}
+use Rattle.vs_script.specs.declared.{fault.Why.Why, outside.TheConstants.MAX_FILL, play.PlayLine.PlayLine, play.TheConstants.MAX_GROW, play.TheConstants.MAX_RECV}
 use Rattle.vs_script.specs.declared.play.PlayLine.TheVariants as code
 
 -- What the guest does, or what happens around it.
@@ -14,6 +14,7 @@ pub data Event : Type 0 where
   Send : (id : ℕ) → (bytes : Content) → Event
   Recv : (id : ℕ) → (len : ℕ) → Event
   Shutdown : (id : ℕ) → (bits : ℕ) → Event
+  Grow : (id : ℕ) → (alloc : ℕ) → Event
   Close : (id : ℕ) → Event
   State : (id : ℕ) → Event
   Poll : Event
@@ -28,6 +29,7 @@ play_view (code.Accept port) = Accept port
 play_view (code.Send id bytes) = Send id (content_of bytes)
 play_view (code.Recv id len) = Recv id len
 play_view (code.Shutdown id b) = Shutdown id b
+play_view (code.Grow id alloc) = Grow id alloc
 play_view (code.Close id) = Close id
 play_view (code.State id) = State id
 play_view code.Poll = Poll
@@ -45,12 +47,17 @@ recv_line words = after (id words) (λ c rest. named (Recv c) (only (number 1 MA
 abbrev pub shutdown_line : List (List ℕ) → Result Event Why
 shutdown_line words = after (id words) (λ c rest. named (Shutdown c) (only bits rest))
 
+-- grow C N, behind its name
+abbrev pub grow_line : List (List ℕ) → Result Event Why
+grow_line words = after (id words) (λ c rest. named (Grow c) (only (number 1 MAX_GROW) rest))
+
 -- The lines that aren't on ports, by their name.
 abbrev pub connection_line : List ℕ → List (List ℕ) → Result Event Why
 connection_line name words =
     if bytes_eq name (codes "send") then send_line words
     else if bytes_eq name (codes "recv") then recv_line words
     else if bytes_eq name (codes "shutdown") then shutdown_line words
+    else if bytes_eq name (codes "grow") then grow_line words
     else if bytes_eq name (codes "close") then named Close (only id words)
     else if bytes_eq name (codes "state") then named State (only id words)
     else if bytes_eq name (codes "poll") then ending Poll words

@@ -6,6 +6,7 @@ ghost use Rattle.vs_script.specs.App.{instruction_view, run_view, instruction_li
 
 use crate::data::Data;
 use crate::fault::{LineFault, Why};
+use crate::play::MAX_GROW;
 use crate::words::{MAX_BITS, Words, is};
 use std::alloc::Global;
 
@@ -34,6 +35,8 @@ pub enum Instruction {
     Exchange { content: Data },
     /// `shutdown B`: bit 0, receive no more; bit 1, send no more (1 to 3).
     Shutdown { bits: u8 },
+    /// `grow N`: raise the buffer space of the connection to N bytes, 1 to 1,000,000 in a script.
+    Grow { alloc: u32 },
     /// `close`: be done with the connection.
     Close,
 }
@@ -127,6 +130,9 @@ fn connection_instruction(
     } else if is(name, b"shutdown") {
         let bits = words.only_number8(1, MAX_BITS)?;
         Ok(Instruction::Shutdown { bits })
+    } else if is(name, b"grow") {
+        let alloc = words.only_number32(1, MAX_GROW)?;
+        Ok(Instruction::Grow { alloc })
     } else if is(name, b"close") {
         words.end()?;
         Ok(Instruction::Close)

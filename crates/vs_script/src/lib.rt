@@ -10,13 +10,13 @@
 //! DATA      -, or 2 to 4,096 hex digits of either case, an even number of them, or fill N S: N bytes (0 to 65,536, in apps
 //!           0 to 1,000,000), byte i being (S + 7i + i/251) mod 256, S from 0 to 255
 //!
-//! play      connect PORT, listen PORT, unlisten PORT, accept PORT, send C DATA, recv C N (1 to 65,536), shutdown C B, close C,
-//!           state C, poll, and the lines that follow
+//! play      connect PORT, listen PORT, unlisten PORT, accept PORT, send C DATA, recv C N (1 to 65,536), shutdown C B,
+//!           grow C N (1 to 1,000,000), close C, state C, poll, and the lines that follow
 //!           turn, reset CID (3 to 4,294,967,294), tick MS (0 to 1,000,000), client, host listen PORT, host unlisten PORT,
 //!           host write H DATA, host allow H N (0 to 1,000,000), host end H, host closed H, host fail N (1 to 1,000)
 //!
 //! run       app, and behind it the instructions of the app: connect PORT, listen PORT, accept PORT, send DATA,
-//!           recv N (1 to 1,000,000), drain, exchange DATA, shutdown B, close
+//!           recv N (1 to 1,000,000), drain, exchange DATA, shutdown B, grow N (1 to 1,000,000), close
 //!
 //! hostile   memory BASE SIZE (a multiple of 16 up to 2^62; 4,096 to 1,048,576), then rings N (8 to 256, a power of two; they
 //!           lie in the memory), then write ADDR DATA, desc Q I ADDR LEN FLAGS NEXT, give Q PLACE HEAD, index Q V,

@@ -2,7 +2,7 @@
 
 ghost use Rattle.std.specs.Prelude.{◌≡◌, IfOk, IfErr, Ok};
 ghost use Rattle.vs_script.specs.Field.{IsFault};
-ghost use Rattle.vs_script.specs.Play.{play_view, play_line, named_line, connection_line, send_line, recv_line, shutdown_line};
+ghost use Rattle.vs_script.specs.Play.{play_view, play_line, named_line, connection_line, grow_line, send_line, recv_line, shutdown_line};
 
 use crate::data::Data;
 use crate::fault::LineFault;
@@ -12,6 +12,9 @@ use std::alloc::Global;
 
 /// The most bytes that one `recv` of a play asks for.
 const MAX_RECV: u32 = 65_536;
+
+/// The most that one `grow` asks for.
+pub(crate) const MAX_GROW: u32 = 1_000_000;
 
 /// An event line of a play.
 #[derive(Drop)]
@@ -30,6 +33,8 @@ pub enum PlayLine {
     Recv { id: u32, len: u32 },
     /// `shutdown C B`: bit 0, it receives no more; bit 1, it sends no more (1 to 3).
     Shutdown { id: u32, bits: u8 },
+    /// `grow C N`: the guest raises the buffer space of a connection to N bytes, 1 to 1,000,000 in a script.
+    Grow { id: u32, alloc: u32 },
     /// `close C`: the guest is done with a connection.
     Close { id: u32 },
     /// `state C`: the guest asks how a connection stands.
@@ -82,6 +87,8 @@ fn connection_line(alloc: Global, name: &[u8], words: &mut Words) -> Result<Play
         recv_line(words)
     } else if is(name, b"shutdown") {
         shutdown_line(words)
+    } else if is(name, b"grow") {
+        grow_line(words)
     } else if is(name, b"close") {
         let id = words.only_id()?;
         Ok(PlayLine::Close { id })
@@ -126,4 +133,14 @@ fn shutdown_line(words: &mut Words) -> Result<PlayLine, LineFault>
     let id = words.id()?;
     let bits = words.only_number8(1, MAX_BITS)?;
     Ok(PlayLine::Shutdown { id, bits })
+}
+
+/// `C N` of `grow`.
+fn grow_line(words: &mut Words) -> Result<PlayLine, LineFault>
+    ensures ok { IfOk result (λ line. grow_line words.old ≡ Ok (play_view line)) }
+    ensures fault { IfErr result (IsFault (grow_line words.old)) }
+{
+    let id = words.id()?;
+    let alloc = words.only_number32(1, MAX_GROW)?;
+    Ok(PlayLine::Grow { id, alloc })
 }

@@ -88,6 +88,7 @@ steady_log s c d host faults log honest steady = record {
   hosts = λ on l is. steady.hosts (sym honest ∙ on) l (sym log ∙ is);
   asks = λ on l is. steady.asks (sym honest ∙ on) l (sym log ∙ is);
   exact = steady.exact;
+  shut = steady.shut;
 }
 
 pub steady_hears : (s : ProxyState) (e d : DeviceSight) (past : Past) (host : Option HostContents) (faults : ℕ)

@@ -44,6 +44,11 @@ returns-in-Shutdown-clause-calls g c = λ script apps found.
     made_for script c.args.app c.args.instruction.now (code.Shutdown c.in-Shutdown.bits) c.args.progress _ _ _ _ _ c.in-Shutdown.is (ap (λ (id : ℕ). let cs : List GuestCall = call.Shutdown id c.in-Shutdown.bits ∷ [] in cs) (sym c.id-id.ensures)) c.one-in-Shutdown.ensures
     (one_made script c.args.app _ c.shutdown.result _ _ (c.shutdown.ensures.calls script (g.R.DriverRing.contents c.args.ring.now) apps c.args.journal.now.bytes.items))
 
+pub returns-in-Grow-clause-calls : goal.returns-in-Grow-clause-calls
+returns-in-Grow-clause-calls g c = λ script apps found.
+    made_for script c.args.app c.args.instruction.now (code.Grow c.in-Grow.alloc) c.args.progress _ _ _ _ _ c.in-Grow.is (ap (λ (id : ℕ). let cs : List GuestCall = call.Grow id c.in-Grow.alloc ∷ [] in cs) (sym c.id-id.ensures)) c.one-in-Grow.ensures
+    (one_made script c.args.app _ c.grow.result _ _ (c.grow.ensures.calls script (g.R.DriverRing.contents c.args.ring.now) apps c.args.journal.now.bytes.items))
+
 pub returns-in-Close-clause-calls : goal.returns-in-Close-clause-calls
 returns-in-Close-clause-calls g c = λ script apps found.
     made_for script c.args.app c.args.instruction.now code.Close c.args.progress _ _ _ _ _ c.in-Close.is (ap (λ (id : ℕ). let cs : List GuestCall = call.Close id ∷ [] in cs) (sym c.id-id.ensures)) c.one-in-Close.ensures
@@ -91,6 +96,12 @@ returns-in-Shutdown-clause-ring g c = c.shutdown.ensures.ring _ _ _ c.requires.r
 
 pub returns-in-Shutdown-clause-honest : goal.returns-in-Shutdown-clause-honest
 returns-in-Shutdown-clause-honest g c = λ first old. c.shutdown.ensures.honest first (g.R.DriverRing.contents c.args.ring.now) old
+
+pub returns-in-Grow-clause-ring : goal.returns-in-Grow-clause-ring
+returns-in-Grow-clause-ring g c = c.grow.ensures.ring _ _ _ c.requires.ring
+
+pub returns-in-Grow-clause-honest : goal.returns-in-Grow-clause-honest
+returns-in-Grow-clause-honest g c = λ first old. c.grow.ensures.honest first (g.R.DriverRing.contents c.args.ring.now) old
 
 pub returns-in-Close-clause-ring : goal.returns-in-Close-clause-ring
 returns-in-Close-clause-ring g c = c.close.ensures.ring _ _ _ c.requires.ring

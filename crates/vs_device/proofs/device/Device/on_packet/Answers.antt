@@ -1,9 +1,9 @@
-use Rattle.std.proofs.Common.{◌≡◌, ℕ, Some, sym, ap, subst, ◌∙◌}
+use Rattle.std.proofs.Common.{rules, ◌≡◌, ℕ, Some, None, sym, ap, subst, ◌∙◌}
 use Rattle.vs_flow.{specs.Table.entry_of, specs.Table.entry_under, specs.declared.flow.Flow.Flow, proofs.Lookups.entry_of_found}
 use Rattle.vs_page.specs.Log.{flow_to_host}
 use Rattle.vs_device_parts.proofs.Under.{IsMapped, mapped}
 use Rattle.vs_device_parts.specs.{Playing.MayRun, Playing.situation, State.DeviceEntry, State.DeviceState, Taking.known_packet}
-use Rattle.vs_device.proofs.{Takings.may_be_known, Takings.was_known, Reading.same_entry, device.Device.on_packet.Goals.In-Some}
+use Rattle.vs_device.proofs.{Takings.may_be_known, Takings.was_known, Takings.was_unknown, Reading.same_entry, device.Device.on_packet.Goals.In-Some}
 use Rattle.vs_device.proofs.device.Device.on_packet.Goals as goal
 
 -- the connection that was found, by its slot and by its flow
@@ -36,3 +36,9 @@ returns-in-Some-clause-calls g c =
     let k = (goal.at.returns-in-Some-clause-calls g c).In-Some in
     was_known c.args.chain.now c.args.header.now c.args.self.now (sym c.if-is_dropped.ensures) (one g k).from _ _ _ (there g k)
     (c.on_known.ensures.calls (one g k).from (found g k))
+
+pub returns-in-None-clause-calls : goal.returns-in-None-clause-calls
+returns-in-None-clause-calls g c =
+    let none : entry_of c.args.self.now.table (flow_to_host c.args.header.now) ≡ None = search rules in
+    was_unknown c.args.chain.now c.args.header.now c.args.self.now (sym c.if-is_dropped.ensures) _ _ _ none
+    (c.on_unknown.ensures.calls (g.R.DeviceRing.contents c.args.ring.now))

@@ -1,0 +1,333 @@
+-- What a journal tells of the driver's connections, through each change of them.
+use Rattle.std.proofs.Common.{◌≡◌, ◌≤◌, ◌⊎◌, inl, inr, ℕ, zero, suc, ◌+◌, ◌==◌, ◌&&◌, ◌||◌, Bool, true, false, not, cond, List, [], ◌∷◌, ◌++◌, filter, drop, map}
+use Rattle.std.proofs.Common.{Contains, get_or, Option, Some, None, refl, sym, ap, ◌∙◌, arith}
+use Rattle.std.proofs.lemmas.{Grind.common_steps, List.Elements.{All-contains, All-filter, All-map, All-push, Contains-get_or}}
+use Rattle.std.specs.List.{All}
+use Rattle.vs_conn.specs.End.{ConnectionEnd, aborted, end_after, is_reset, owes_of, paid_of, verdict_of, with_payload_forwarded}
+use Rattle.vs_conn.specs.{End.with_shut, Shut.shut_of, declared.end.{Owed.Owed, Verdict.Verdict}}
+use Rattle.vs_conn.specs.declared.end.State.TheVariants.{Ended}
+use Rattle.vs_conn.specs.declared.end.Owed.TheVariants as owed
+use Rattle.vs_conn.specs.declared.end.Verdict.TheVariants as verdict
+use Rattle.vs_conn.proofs.Frames.{got_over, got_own, paid_over, paid_own, paid_peer}
+use Rattle.vs_flow.specs.Table.{entry_of, revalued}
+use Rattle.vs_header.specs.declared.Header.{Header}
+use Rattle.laws_history.specs.declared.packet.Packet.{Packet}
+use Rattle.vs_page.specs.{Log.Driver, Log.flow_to_guest, Open.is_dropped}
+use Rattle.vs_replies.specs.Owed.{reply_to}
+use Rattle.vs_driver_parts.specs.State.{DriverConnection, DriverEntry, DriverState}
+use Rattle.vs_driver_parts.specs.Connections.{after_leaving, after_read, after_shut, paid_connection, waits_no_more, with_connection, with_request}
+use Rattle.vs_driver_parts.specs.{Conversations.after_paying, Receiving.{after_packet, after_verdict, all_left, ends_connection, is_request, may_open, on_heard}}
+use Rattle.vs_driver_parts.specs.Receiving.{on_known, on_packet, on_unknown, reset_reply, with_reply}
+use Rattle.vs_wrap.specs.Wrap.{counted}
+use Rattle.laws_tables.proofs.Slots.{found_by}
+use Rattle.laws_driver.proofs.{Carrying.Carries, Carrying.Fact}
+use Rattle.laws_driver_bytes.specs.Calls.{Journal, Made, Connect, Listen, Unlisten, Accept, Send, Recv, Shutdown, Grow, Close, LookAt}
+use Rattle.vs_apps_parts.specs.Told.{told_of}
+use Rattle.laws_apps.specs.Traces.{AllTell, AtId, IsClosing, IsDrained, IsStopped, IsTraced, TellsOf, is_shut, is_touched}
+
+-- A connection came to have this end and these unread bytes.
+pub record IsLater (c : DriverConnection) (end : ConnectionEnd) (unread : List ℕ) : Type 0 where
+  pub over : c.end.state ≡ Ended → end.state ≡ Ended
+  pub shut_send : c.end.own.send ≡ true → end.own.send ≡ true
+  pub shut_receive : c.end.own.receive ≡ true → end.own.receive ≡ true
+  pub peer_receives : c.end.peer.receive ≡ true → end.peer.receive ≡ true
+  pub drained : c.end.peer.send ≡ true → c.unread ≡ [] → (end.state ≡ Ended) ⊎ ((end.peer.send ≡ true) × (unread ≡ []))
+
+-- What lasts then.
+abbrev pub Lasts : (DriverConnection → Type 0) → Type 0
+Lasts P = (c d : DriverConnection) → IsLater c d.end d.unread → P c → P d
+
+pub stopped_lasts : Lasts IsStopped
+stopped_lasts c d later (inl over) = inl (later.over over)
+stopped_lasts c d later (inr peer) = inr (later.peer_receives peer)
+
+pub drained_lasts : Lasts IsDrained
+drained_lasts c d later (inl over) = inl (later.over over)
+drained_lasts c d later (inr none) = later.drained none.0 none.1
+
+pub closing_lasts : Lasts IsClosing
+closing_lasts c d later (inl over) = inl (later.over over)
+closing_lasts c d later (inr shut) = inr (later.shut_send shut.0, later.shut_receive shut.1)
+
+-- A connection that comes from one of the table; and one that is new.
+pub record Comes (by : Journal) (es : List DriverEntry) (d : DriverConnection) : Type 0 where
+  pub entry : DriverEntry
+  pub within : Contains es entry
+  pub id_is : d.id ≡ entry.value.id
+  pub later : IsLater entry.value d.end d.unread
+  pub touched : is_touched d ≡ true → (is_touched entry.value ≡ true) ⊎ (is_shut d.id by ≡ true)
+  pub closed : d.closed ≡ true → (entry.value.closed ≡ true) ⊎ IsClosing d
+
+abbrev pub Came : Journal → ℕ → List DriverEntry → DriverEntry → Type 0
+Came by next es d = Comes by es d.value ⊎ ((next ≤ d.value.id) × (is_touched d.value ≡ false))
+
+closed_touched : (c : DriverConnection) → c.closed ≡ true → is_touched c ≡ true
+closed_touched c is = by c.end.own.send c.end.own.receive
+  where
+    by : (a b : Bool) → (a || (b || c.closed)) ≡ true
+    by true b = refl
+    by false true = refl
+    by false false = is
+
+module _ (by : Journal) (next then : ℕ) (es fs : List DriverEntry) (more : next ≤ then) (came : All (Came by next es) fs) where
+  pub at_id : (P : DriverConnection → Type 0) → Lasts P → (id : ℕ) → AtId P id next es → AtId P id then fs
+  at_id P lasts id at = (let less = at.0 in omega (arith, less, more), λ k d less is. from (get_or fs k d) (came k d less) is)
+    where
+      from : (d : DriverEntry) → Came by next es d → d.value.id ≡ id → P d.value
+      from d (inl c) is = lasts c.entry.value d.value c.later (All-contains (λ e. e.value.id ≡ id → P e.value) es c.entry at.1 c.within (sym c.id_is ∙ is))
+      from d (inr new) is = let above = new.0 in let less = at.0 in absurd (omega (arith, above, less, is))
+
+  either : (P : DriverConnection → Type 0) → Lasts P → (id : ℕ) (older : Journal) → (is_shut id older ≡ true) ⊎ AtId P id next es
+      → (is_shut id older ≡ true) ⊎ AtId P id then fs
+  either P lasts id older (inl shut) = inl shut
+  either P lasts id older (inr at) = inr (at_id P lasts id at)
+
+  pub tells_still : (m : Made) (older : Journal) → TellsOf m.call (told_of m) older next es → TellsOf m.call (told_of m) older then fs
+  tells_still m older tells = by_call m.call (told_of m) tells
+    where
+      by_call : (call : _) (t : _) → TellsOf call t older next es → TellsOf call t older then fs
+      by_call (Send id bytes) t tells = (λ ends. either IsStopped stopped_lasts id older (tells.0 ends), tells.1)
+      by_call (Recv id n) t tells = λ ends. either IsDrained drained_lasts id older (tells ends)
+      by_call (Close id) t tells = at_id IsClosing closing_lasts id tells
+      by_call (Connect port) t tells = tt
+      by_call (Listen port) t tells = tt
+      by_call (Unlisten port) t tells = tt
+      by_call (Accept port) t tells = tt
+      by_call (Shutdown id bits) t tells = tt
+      by_call (Grow id alloc) t tells = tt
+      by_call (LookAt id) t tells = tt
+
+  tell_still : (j : Journal) → AllTell j next es → AllTell j then fs
+  tell_still [] all = tt
+  tell_still (m ∷ older) all = (tells_still m older all.0, tell_still older all.1)
+
+  pub traced_still : (journal : Journal) → IsTraced by journal next es → IsTraced by journal then fs
+  traced_still journal x = record {
+    given = λ id is. let less = x.given id is in omega (arith, less, more);
+    touched = λ k d less is. touched (get_or fs k d) (came k d less) is;
+    closed = λ k d less is. closed (get_or fs k d) (came k d less) is;
+    tell = tell_still journal x.tell;
+  }
+    where
+      touched : (d : DriverEntry) → Came by next es d → is_touched d.value ≡ true → is_shut d.value.id by ≡ true
+      touched d (inr new) is = let no : true ≡ false = sym is ∙ new.1 in absurd cc
+      touched d (inl c) is = on (c.touched is)
+        where
+          on : (is_touched c.entry.value ≡ true) ⊎ (is_shut d.value.id by ≡ true) → is_shut d.value.id by ≡ true
+          on (inl was) = ap (λ (id : ℕ). is_shut id by) c.id_is
+              ∙ All-contains (λ e. is_touched e.value ≡ true → is_shut e.value.id by ≡ true) es c.entry x.touched c.within was
+          on (inr now) = now
+
+      closed : (d : DriverEntry) → Came by next es d → d.value.closed ≡ true → IsClosing d.value
+      closed d (inr new) is = let no : true ≡ false = sym (closed_touched d.value is) ∙ new.1 in absurd cc
+      closed d (inl c) is = on (c.closed is)
+        where
+          on : (c.entry.value.closed ≡ true) ⊎ IsClosing d.value → IsClosing d.value
+          on (inl was) = closing_lasts c.entry.value d.value c.later (All-contains (λ e. e.value.closed ≡ true → IsClosing e.value) es c.entry x.closed c.within was)
+          on (inr now) = now
+
+-- The changes of a table.
+pub same_later : (c : DriverConnection) → IsLater c c.end c.unread
+same_later c = record {
+  over = λ is. is;
+  shut_send = λ is. is;
+  shut_receive = λ is. is;
+  peer_receives = λ is. is;
+  drained = λ peer none. inr (peer, none);
+}
+
+module _ (by : Journal) (next : ℕ) (es : List DriverEntry) where
+  stays : (e : DriverEntry) → Contains es e → Came by next es e
+  stays e within = inl (record { entry = e; within = within; id_is = refl; later = same_later e.value; touched = λ is. inl is; closed = λ is. inl is })
+
+  pub all_stay : All (Came by next es) es
+  all_stay = λ k d less. stays (get_or es k d) (Contains-get_or es k d less)
+
+  pub value_comes : (slot : ℕ) (c : DriverConnection) → Comes by es c → All (Came by next es) (map (revalued slot c) es)
+  value_comes slot c comes = All-map (Came by next es) (revalued slot c) es (λ k d less. at (get_or es k d) (Contains-get_or es k d less))
+    where
+      at : (e : DriverEntry) → Contains es e → Came by next es (revalued slot c e)
+      at e within = is_at (e.slot == slot)
+        where
+          is_at : (b : Bool) → Came by next es (cond b (record e { value = c }) e)
+          is_at true = inl comes
+          is_at false = stays e within
+
+  pub others_stay : (slot : ℕ) → All (Came by next es) (filter (λ e. not (e.slot == slot)) es)
+  others_stay slot = All-filter (λ e. not (e.slot == slot)) (Came by next es) es all_stay
+
+  pub one_comes : (e : DriverEntry) → next ≤ e.value.id → is_touched e.value ≡ false → All (Came by next es) (es ++ e ∷ [])
+  one_comes e above untouched = All-push (Came by next es) es e all_stay (inr (above, untouched))
+
+-- A change that the guest didn't decide.
+pub comes_as : (by : Journal) (es : List DriverEntry) (e : DriverEntry) (c : DriverConnection) → Contains es e → c.id ≡ e.value.id
+    → c.end.own ≡ e.value.end.own → c.closed ≡ e.value.closed → IsLater e.value c.end c.unread → Comes by es c
+comes_as by es e c within id own closed later = record {
+  entry = e;
+  within = within;
+  id_is = id;
+  later = later;
+  touched = λ is. inl (ap (λ o. o.send || (o.receive || e.value.closed)) (sym own) ∙ ap (λ (b : Bool). c.end.own.send || (c.end.own.receive || b)) (sym closed) ∙ is);
+  closed = λ is. inl (sym closed ∙ is);
+}
+
+-- What an end does.
+pub end_later : (c : DriverConnection) (e : ConnectionEnd) → (c.end.state ≡ Ended → e.state ≡ Ended) → e.own ≡ c.end.own → e.peer ≡ c.end.peer
+    → IsLater c e c.unread
+end_later c e over own peer = record {
+  over = over;
+  shut_send = λ is. ap (λ o. o.send) own ∙ is;
+  shut_receive = λ is. ap (λ o. o.receive) own ∙ is;
+  peer_receives = λ is. ap (λ o. o.receive) peer ∙ is;
+  drained = λ sends none. inr (ap (λ o. o.send) peer ∙ sends, none);
+}
+
+got_receives : (e : ConnectionEnd) (h : Header) → e.peer.receive ≡ true → (end_after e h).peer.receive ≡ true
+got_receives e h is = grind (arith, common_steps, is)
+
+got_sends : (e : ConnectionEnd) (h : Header) → e.peer.send ≡ true → (end_after e h).peer.send ≡ true
+got_sends e h is = grind (arith, common_steps, is)
+
+not_delivered : (e : ConnectionEnd) (h : Header) → e.peer.send ≡ true → verdict_of e h ≡ verdict.Deliver → ⊥
+not_delivered e h is delivers = grind (arith, common_steps, is, delivers)
+
+forwarded_over : (e : ConnectionEnd) (n : ℕ) → e.state ≡ Ended → (with_payload_forwarded e n).state ≡ Ended
+forwarded_over e n over = grind (arith, common_steps, over)
+
+shut_over : (e : ConnectionEnd) (bits : ℕ) → e.state ≡ Ended → (with_shut e bits).state ≡ Ended
+shut_over e bits over = grind (arith, common_steps, over)
+
+packet_later : (v : Verdict) (p : Packet) (c : DriverConnection) → verdict_of c.end p.header ≡ v → IsLater c (after_packet v p c).end (after_packet v p c).unread
+packet_later verdict.Deliver p c is = record {
+  over = got_over c.end p.header;
+  shut_send = λ own. ap (λ o. o.send) (got_own c.end p.header) ∙ own;
+  shut_receive = λ own. ap (λ o. o.receive) (got_own c.end p.header) ∙ own;
+  peer_receives = got_receives c.end p.header;
+  drained = λ sends none. absurd (not_delivered c.end p.header sends is);
+}
+packet_later _ p c is = record {
+  over = got_over c.end p.header;
+  shut_send = λ own. ap (λ o. o.send) (got_own c.end p.header) ∙ own;
+  shut_receive = λ own. ap (λ o. o.receive) (got_own c.end p.header) ∙ own;
+  peer_receives = got_receives c.end p.header;
+  drained = λ sends none. inr (got_sends c.end p.header sends, none);
+}
+
+packet_comes : (by : Journal) (es : List DriverEntry) (e : DriverEntry) (v : Verdict) (p : Packet) → Contains es e → verdict_of e.value.end p.header ≡ v
+    → Comes by es (after_packet v p e.value)
+packet_comes by es e verdict.Deliver p within is =
+    comes_as by es e (after_packet verdict.Deliver p e.value) within refl (got_own e.value.end p.header) refl (packet_later verdict.Deliver p e.value is)
+packet_comes by es e v p within is = comes_as by es e (after_packet v p e.value) within refl (got_own e.value.end p.header) refl (packet_later v p e.value is)
+
+pub read_later : (n : ℕ) (c : DriverConnection) → IsLater c (after_read n c).end (after_read n c).unread
+read_later n c = record {
+  over = forwarded_over c.end _;
+  shut_send = λ is. is;
+  shut_receive = λ is. is;
+  peer_receives = λ is. is;
+  drained = λ sends none. inr (sends, ap (drop n) none ∙ nothing n);
+}
+  where
+    nothing : (m : ℕ) → let none : List ℕ = [] in drop m none ≡ none
+    nothing zero = refl
+    nothing (suc m) = refl
+
+pub shut_later : (bits : ℕ) (c : DriverConnection) → IsLater c (after_shut bits c).end (after_shut bits c).unread
+shut_later bits c = record {
+  over = shut_over c.end bits;
+  shut_send = λ is. ap (λ (b : Bool). b || (shut_of bits).send) is;
+  shut_receive = λ is. ap (λ (b : Bool). b || (shut_of bits).receive) is;
+  peer_receives = λ is. is;
+  drained = λ sends none. inr (sends, by (with_shut c.end bits).own.receive none);
+}
+  where
+    by : (b : Bool) → c.unread ≡ [] → cond b [] c.unread ≡ []
+    by true none = refl
+    by false none = none
+
+pub abort_later : (c : DriverConnection) → IsLater c (aborted c.end) c.unread
+abort_later c = record { over = λ is. refl; shut_send = λ is. is; shut_receive = λ is. is; peer_receives = λ is. is; drained = λ sends none. inl refl }
+
+-- A poll.
+abbrev pub Traced : Journal → Journal → Fact
+Traced by journal part s log = IsTraced by journal s.next_id s.table.entries
+
+module _ (by journal : Journal) where
+  abbrev At : DriverState → Type 0
+  At s = IsTraced by journal s.next_id s.table.entries
+
+  pub value_traced : (s : DriverState) (slot : ℕ) (c : DriverConnection) → Comes by s.table.entries c → At s → At (with_connection slot c s)
+  value_traced s slot c comes x =
+      traced_still by s.next_id s.next_id s.table.entries (map (revalued slot c) s.table.entries) (omega arith)
+      (value_comes by s.next_id s.table.entries slot c comes) journal x
+
+  leaving_traced : (s : DriverState) (e : DriverEntry) → At s → At (after_leaving e s)
+  leaving_traced s e x = on e.value.unanswered (traced_still by s.next_id s.next_id s.table.entries _ (omega arith) (others_stay by s.next_id s.table.entries e.slot) journal x)
+    where
+      on : (b : Bool) → IsTraced by journal s.next_id (filter (λ y. not (y.slot == e.slot)) s.table.entries)
+          → IsTraced by journal (cond b (waits_no_more e s) s).next_id (filter (λ y. not (y.slot == e.slot)) s.table.entries)
+      on true y = y
+      on false y = y
+
+  pays_traced : (what : Owed) (e : DriverEntry) (s : DriverState) → Contains s.table.entries e → owes_of e.value.end ≡ Some what → At s → At (after_paying what e s)
+  pays_traced owed.Rst e s within owes x = leaving_traced s e x
+  pays_traced owed.Response e s within owes x =
+      value_traced s e.slot (paid_connection owed.Response e.value)
+      (comes_as by s.table.entries e (paid_connection owed.Response e.value) within refl refl refl
+      (end_later e.value (paid_of e.value.end owed.Response) (paid_over e.value.end owed.Response owes) refl refl)) x
+  pays_traced what e s within owes x =
+      value_traced s e.slot (paid_connection what e.value)
+      (comes_as by s.table.entries e (paid_connection what e.value) within refl (paid_own e.value.end what) refl
+      (end_later e.value (paid_of e.value.end what) (paid_over e.value.end what owes) (paid_own e.value.end what) (paid_peer e.value.end what))) x
+
+  known_traced : (p : Packet) (s : DriverState) (e : DriverEntry) (v : Verdict) → Contains s.table.entries e → verdict_of e.value.end p.header ≡ v → At s
+      → At (after_verdict v p e s)
+  known_traced p s e (verdict.Rst why) within is x =
+      on e.value.unanswered (traced_still by s.next_id s.next_id s.table.entries _ (omega arith)
+      (value_comes by s.next_id s.table.entries e.slot _ (packet_comes by s.table.entries e (verdict.Rst why) p within is)) journal x)
+    where
+      t : DriverState
+      t = with_connection e.slot (after_packet (verdict.Rst why) p e.value) s
+
+      on : (b : Bool) → At t → At (cond b (waits_no_more e (record t { broken = counted s.broken })) (record t { broken = counted s.broken }))
+      on true y = y
+      on false y = y
+  known_traced p s e v within is x = on (ends_connection v p.header)
+    where
+      on : (b : Bool) → At (cond b (after_leaving (record e { value = after_packet v p e.value }) s) (with_connection e.slot (after_packet v p e.value) s))
+      on true = leaving_traced s (record e { value = after_packet v p e.value }) x
+      on false = value_traced s e.slot (after_packet v p e.value) (packet_comes by s.table.entries e v p within is) x
+
+  unknown_traced : (p : Packet) (s : DriverState) → At s → At (on_unknown p s)
+  unknown_traced p s x = on (is_reset p.header) (is_request p.header && may_open (flow_to_guest p.header) s)
+    where
+      on : (r q : Bool) → At (cond r s (cond q (with_request (flow_to_guest p.header) p.header s) (with_reply (reply_to (flow_to_guest p.header) p.header) s)))
+      on true q = x
+      on false true =
+          traced_still by s.next_id (s.next_id + 1) s.table.entries _ (omega arith) (one_comes by s.next_id s.table.entries _ (omega arith) refl) journal x
+      on false false = x
+
+  packet_traced : (p : Packet) (s : DriverState) → At s → At (on_packet p s)
+  packet_traced p s x = on (is_dropped Driver s.cid p.header)
+    where
+      heard : (o : Option DriverEntry) → entry_of s.table (flow_to_guest p.header) ≡ o
+          → At (elim o as (λ _. DriverState) [ None ↦ on_unknown p s | Some e ↦ on_known p e s ])
+      heard None is = unknown_traced p s x
+      heard (Some e) is = known_traced p s e (verdict_of e.value.end p.header) (found_by _ s.table.entries e is).0 refl x
+
+      on : (b : Bool) → At (cond b s (on_heard p s))
+      on true = x
+      on false = heard (entry_of s.table (flow_to_guest p.header)) refl
+
+  left_traced : (es : List DriverEntry) (s : DriverState) → At s → At (all_left es s)
+  left_traced [] s x = x
+  left_traced (e ∷ es) s x = left_traced es (with_reply (reset_reply e) (after_leaving e s)) (leaving_traced s e x)
+
+  pub poll_traces : (first : ℕ) → Carries first (Traced by journal)
+  poll_traces first = record {
+    owed = λ what e s log fits stands owes m was fair x. pays_traced what e s stands.contains owes x;
+    reply = λ r rest s log fits is m fair x. x;
+    got = λ p s log fits ports whole m was fair x. packet_traced p s x;
+    event = λ id s log x. x;
+    reset = λ cid s log less fits x. left_traced s.table.entries (record s { cid = cid }) x;
+  }

@@ -1,0 +1,299 @@
+-- What an app's calls name: its connection is one that it was given, so it closes no other, and it listens where its script says.
+use Rattle.std.proofs.Common.{◌≡◌, ◌⊎◌, inl, inr, ℕ, ◌≤◌, ◌==◌, ◌||◌, nat_lt, Bool, true, false, cond, List, [], ◌∷◌, ◌++◌, Option, Some, None, Result, Ok, Err, refl}
+use Rattle.std.proofs.Common.{sym, ap, subst, ◌∙◌, arith, slice_get}
+use Rattle.std.proofs.lemmas.{Bool.eqb-true}
+use Rattle.std.specs.{List.list_any, Option.unwrap_or}
+use Rattle.vs_script.specs.App.{Act, Connect, Listen, Accept, Send, Recv, Drain, Exchange, Shutdown, Grow, Close}
+use Rattle.vs_script.specs.Data.{size_of}
+use Rattle.vs_driver_parts.specs.declared.answers.{Accepted.Accepted, Closed.Closed, ConnectError.ConnectError, ConnectionState.ConnectionState, ListenError.ListenError}
+use Rattle.vs_driver_parts.specs.declared.answers.{Received.Received, Sent.Sent}
+use Rattle.vs_driver_parts.specs.declared.answers.Accepted.TheVariants as accepted
+use Rattle.vs_driver_parts.specs.declared.answers.Closed.TheVariants as closed
+use Rattle.vs_driver_parts.specs.declared.answers.ConnectError.TheVariants as refused
+use Rattle.vs_driver_parts.specs.declared.answers.ConnectionState.TheVariants as seen
+use Rattle.vs_driver_parts.specs.declared.answers.Received.TheVariants as got
+use Rattle.vs_driver_parts.specs.declared.answers.Sent.TheVariants as sent
+use Rattle.laws_driver_bytes.specs.Calls.{GuestCall, Journal, Made, ReplyTo, names}
+use Rattle.laws_driver_bytes.specs.Calls as call
+use Rattle.vs_apps_parts.specs.Scripts.{Follows, all_counted, all_noted, begun, calls_in, calls_next, counted, goes_to, id_of, on_to_next, recv_next, send_next, told_in, with_noted}
+use Rattle.vs_apps_parts.specs.{Scripts.is_complete, Told.{is_any_end, step_wait, told_accept, told_by, told_connect, told_look, told_of, told_recv, told_send, wait_of}}
+use Rattle.vs_apps_parts.specs.declared.{journal.WaitsFor.WaitsFor, progress.Progress.Progress, told.Told.Told}
+use Rattle.vs_apps_parts.specs.declared.told.Told.TheVariants as told
+use Rattle.laws_apps.specs.Placed.{closed_by, given_by, listened_by, some_did, was_closed, was_given, was_listened}
+use Rattle.laws_apps.proofs.Placed.{or_first, or_second}
+
+-- Calls that are noted behind others leave what those did.
+module _ (by : (call : GuestCall) → ReplyTo call → Option ℕ) (n : ℕ) where
+  still_one : (m : Made) (o : Option WaitsFor) (journal : Journal) → some_did by n journal ≡ true
+      → some_did by n (elim o as (λ _. Journal) [ None ↦ m ∷ journal | Some why ↦ journal ]) ≡ true
+  still_one m None journal is = or_second (names n (by m.call m.reply)) _ is
+  still_one m (Some why) journal is = is
+
+  pub still_did : (ms : List Made) (journal : Journal) → some_did by n journal ≡ true → some_did by n (with_noted ms journal) ≡ true
+  still_did [] journal is = is
+  still_did (m ∷ ms) journal is = still_did ms _ (still_one m (wait_of (told_of m)) journal is)
+
+  -- What is noted of these calls was done by an older one, or by one of these.
+  module _ (test : GuestCall → Bool) (tells : (c : GuestCall) (reply : ReplyTo c) → names n (by c reply) ≡ true → test c ≡ true) where
+    pub did_one : (ms : List Made) (journal : Journal) → some_did by n (with_noted ms journal) ≡ true
+        → (some_did by n journal ≡ true) ⊎ (list_any test (calls_in ms) ≡ true)
+    did_one [] journal is = inl is
+    did_one (m ∷ ms) journal is = by_rest (did_one ms _ is)
+      where
+        first : (a : Bool) → names n (by m.call m.reply) ≡ a → (a || some_did by n journal) ≡ true
+            → (some_did by n journal ≡ true) ⊎ ((test m.call || list_any test (calls_in ms)) ≡ true)
+        first true own so = inr (or_first (test m.call) _ (tells m.call m.reply own))
+        first false other so = inl so
+
+        noted : (o : Option WaitsFor) → some_did by n (elim o as (λ _. Journal) [ None ↦ m ∷ journal | Some why ↦ journal ]) ≡ true
+            → (some_did by n journal ≡ true) ⊎ ((test m.call || list_any test (calls_in ms)) ≡ true)
+        noted None so = first (names n (by m.call m.reply)) refl so
+        noted (Some why) so = inl so
+
+        by_rest : (some_did by n (elim (wait_of (told_of m)) as (λ _. Journal) [ None ↦ m ∷ journal | Some why ↦ journal ]) ≡ true)
+            ⊎ (list_any test (calls_in ms) ≡ true) → (some_did by n journal ≡ true) ⊎ ((test m.call || list_any test (calls_in ms)) ≡ true)
+        by_rest (inl so) = noted (wait_of (told_of m)) so
+        by_rest (inr so) = inr (or_second (test m.call) _ so)
+
+-- The id that a reply tells.
+abbrev id_told : Told → Option ℕ
+id_told (told.Asked id) = Some id
+id_told (told.Given id) = Some id
+id_told t = None
+
+none_connect : (r : Result ℕ ConnectError) (id : ℕ) → id_told (told_connect r) ≡ Some id → given_by (call.Connect 0) r ≡ Some id
+none_connect (Ok n) id is = is
+none_connect (Err (refused.Full slots)) id is = absurd cc
+none_connect (Err (refused.NoDescriptor n)) id is = absurd cc
+none_connect (Err (refused.BadPort port)) id is = absurd cc
+none_connect (Err (refused.PortsSpent port n)) id is = absurd cc
+
+none_accept : (r : Accepted) (id : ℕ) → id_told (told_accept r) ≡ Some id → given_by (call.Accept 0) r ≡ Some id
+none_accept (accepted.Conn n) id is = is
+none_accept accepted.None id is = absurd cc
+none_accept accepted.NotListening id is = absurd cc
+
+none_send : (r : Sent) (id : ℕ) → id_told (told_send r) ≡ Some id → ⊥
+none_send (sent.Took n) id is = absurd cc
+none_send (sent.NoCredit tx alloc fwd) id is = absurd cc
+none_send (sent.NoDescriptor n) id is = absurd cc
+none_send sent.NotOpen id is = absurd cc
+none_send sent.Reset id is = absurd cc
+none_send sent.ShutDown id is = absurd cc
+none_send sent.Unknown id is = absurd cc
+
+none_recv : (r : Received) (id : ℕ) → id_told (told_recv r) ≡ Some id → ⊥
+none_recv (got.Got n) id is = absurd cc
+none_recv got.Empty id is = absurd cc
+none_recv got.NotOpen id is = absurd cc
+none_recv got.End id is = absurd cc
+none_recv got.Reset id is = absurd cc
+none_recv got.Unknown id is = absurd cc
+
+none_look : (r : ConnectionState) (id : ℕ) → id_told (told_look r) ≡ Some id → ⊥
+none_look seen.Asked id is = absurd cc
+none_look seen.Answering id is = absurd cc
+none_look seen.Live id is = absurd cc
+none_look seen.Ended id is = absurd cc
+none_look seen.Gone id is = absurd cc
+none_look seen.Unknown id is = absurd cc
+
+was_told : (c : GuestCall) (reply : ReplyTo c) (id : ℕ) → id_told (told_by c reply) ≡ Some id → given_by c reply ≡ Some id
+was_told (call.Connect port) reply id is = none_connect reply id is
+was_told (call.Accept port) reply id is = none_accept reply id is
+was_told (call.Send n bytes) reply id is = absurd (none_send reply id is)
+was_told (call.Recv n len) reply id is = absurd (none_recv reply.0 id is)
+was_told (call.LookAt n) reply id is = absurd (none_look reply id is)
+was_told (call.Listen port) reply id is = absurd cc
+was_told (call.Unlisten port) reply id is = absurd cc
+was_told (call.Shutdown n bits) reply id is = absurd cc
+was_told (call.Grow n alloc) reply id is = absurd cc
+was_told (call.Close n) reply id is = absurd cc
+
+-- The connection that an app is at, after what its calls told.
+conn_by : (act : Act) (t : Told) (p : Progress) → ((counted act t p).conn ≡ p.conn) ⊎ ((counted act t p).conn ≡ id_told t)
+conn_by act (told.Asked id) p = inr refl
+conn_by act (told.Given id) p = inr refl
+conn_by act (told.Took n) p = inl refl
+conn_by Drain (told.Got n) p = inl refl
+conn_by act (told.Got n) p = inl refl
+conn_by act (told.Waits why) p = inl refl
+conn_by act told.Ends p = inl refl
+
+module _ (id : ℕ) where
+  -- One that tells of an id doesn't wait, so it is noted.
+  noted_told : (m : Made) (t : Told) (journal : Journal) → told_of m ≡ t → id_told t ≡ Some id
+      → was_given id (elim (wait_of (told_of m)) as (λ _. Journal) [ None ↦ m ∷ journal | Some why ↦ journal ]) ≡ true
+  noted_told m t journal at is =
+      subst (λ (u : Told). was_given id (elim (wait_of u) as (λ _. Journal) [ None ↦ m ∷ journal | Some why ↦ journal ]) ≡ true) (sym at) (by t is)
+    where
+      found : names id (given_by m.call m.reply) ≡ true
+      found = ap (λ (o : Option ℕ). names id o) (was_told m.call m.reply id (ap id_told at ∙ is)) ∙ own
+        where
+          own : (id == id) ≡ true
+          own = grind arith
+
+      by : (u : Told) → id_told u ≡ Some id → was_given id (elim (wait_of u) as (λ _. Journal) [ None ↦ m ∷ journal | Some why ↦ journal ]) ≡ true
+      by (told.Asked n) so = or_first (names id (given_by m.call m.reply)) _ found
+      by (told.Given n) so = or_first (names id (given_by m.call m.reply)) _ found
+      by (told.Took n) so = absurd cc
+      by (told.Got n) so = absurd cc
+      by (told.Waits why) so = absurd cc
+      by told.Ends so = absurd cc
+
+  calls_give : (act : Act) (ms : List Made) (p : Progress) (journal : Journal) → (p.conn ≡ Some id → was_given id journal ≡ true)
+      → (all_counted act (told_in ms) p).conn ≡ Some id → was_given id (with_noted ms journal) ≡ true
+  calls_give act [] p journal had is = had is
+  calls_give act (m ∷ ms) p journal had is = calls_give act ms (counted act (told_of m) p) _ (by (conn_by act (told_of m) p)) is
+    where
+      by : ((counted act (told_of m) p).conn ≡ p.conn) ⊎ ((counted act (told_of m) p).conn ≡ id_told (told_of m)) → (counted act (told_of m) p).conn ≡ Some id
+          → was_given id (elim (wait_of (told_of m)) as (λ _. Journal) [ None ↦ m ∷ journal | Some why ↦ journal ]) ≡ true
+      by (inl same) so = still_one given_by id m (wait_of (told_of m)) journal (had (sym same ∙ so))
+      by (inr told) so = noted_told m (told_of m) journal refl (sym told ∙ so)
+
+  goes_conn : (act : Act) (ts : List Told) (q : Progress) → (goes_to act ts q).conn ≡ q.conn
+  goes_conn act ts q = by (is_any_end ts || is_complete act q)
+    where
+      by : (b : Bool) → (cond b (on_to_next q) q).conn ≡ q.conn
+      by true = refl
+      by false = refl
+
+  step_gives : (act : Act) (ms : List Made) (p : Progress) (journal : Journal) (o : Option WaitsFor) → (p.conn ≡ Some id → was_given id journal ≡ true)
+      → (elim o as (λ _. Progress) [ Some why ↦ p | None ↦ goes_to act (told_in ms) (all_counted act (told_in ms) p) ]).conn ≡ Some id
+      → was_given id (with_noted ms journal) ≡ true
+  step_gives act ms p journal (Some why) had is = still_did given_by id ms journal (had is)
+  step_gives act ms p journal None had is =
+      calls_give act ms p journal had (sym (goes_conn act (told_in ms) (all_counted act (told_in ms) p)) ∙ is)
+
+  pub conn_given : (acts : List Act) (steps : List (List Made)) (q : Progress) → Follows acts begun steps q → q.conn ≡ Some id
+      → was_given id (all_noted steps) ≡ true
+  conn_given acts [] q follows is = absurd (let no : None ≡ Some id = ap (λ (p : Progress). p.conn) follows ∙ is in cc)
+  conn_given acts (ms ∷ steps) q follows is =
+      step_gives follows.1 ms follows.0 (all_noted steps) (step_wait (told_in ms)) (conn_given acts steps follows.0 follows.2)
+      (ap (λ (p : Progress). p.conn) (sym follows.4.1) ∙ is)
+
+-- An app closes its own connection.
+abbrev is_close : ℕ → GuestCall → Bool
+is_close id (call.Close n) = id == n
+is_close id c = false
+
+closes_it : (id : ℕ) (c : GuestCall) (reply : ReplyTo c) → names id (closed_by c reply) ≡ true → is_close id c ≡ true
+closes_it id (call.Close n) reply is = by reply is
+  where
+    by : (r : Closed) → names id (closed_by (call.Close n) r) ≡ true → (id == n) ≡ true
+    by closed.Done so = so
+    by closed.Unknown so = absurd cc
+closes_it id (call.Connect port) reply is = absurd cc
+closes_it id (call.Accept port) reply is = absurd cc
+closes_it id (call.Send n bytes) reply is = absurd cc
+closes_it id (call.Recv n len) reply is = absurd cc
+closes_it id (call.LookAt n) reply is = absurd cc
+closes_it id (call.Listen port) reply is = absurd cc
+closes_it id (call.Unlisten port) reply is = absurd cc
+closes_it id (call.Shutdown n bits) reply is = absurd cc
+closes_it id (call.Grow n alloc) reply is = absurd cc
+
+-- A test that holds of none of an instruction's calls but one.
+module _ (test : GuestCall → Bool) (p : Progress) (sends : (bytes : List ℕ) → test (call.Send (id_of p) bytes) ≡ false)
+    (recvs : (n : ℕ) → test (call.Recv (id_of p) n) ≡ false) (looks : test (call.LookAt (id_of p)) ≡ false)
+    (connects : (port : ℕ) → test (call.Connect port) ≡ false) (accepts : (port : ℕ) → test (call.Accept port) ≡ false)
+    (shuts : (bits : ℕ) → test (call.Shutdown (id_of p) bits) ≡ false) (grows : (n : ℕ) → test (call.Grow (id_of p) n) ≡ false) where
+  none_of : (c : GuestCall) → test c ≡ false → (test c || false) ≡ true → ⊥
+  none_of c fails is = let both : true ≡ false = sym is ∙ ap (λ (b : Bool). b || false) fails in absurd cc
+
+  pub only : (act : Act) → list_any test (calls_next act p) ≡ true
+      → ((port : ℕ) × (act ≡ Listen port) × (test (call.Listen port) ≡ true)) ⊎ ((act ≡ Close) × (test (call.Close (id_of p)) ≡ true))
+  only (Connect port) is = absurd (by p.asked is)
+    where
+      by : (b : Bool) → (test (cond b (call.LookAt (id_of p)) (call.Connect port)) || false) ≡ true → ⊥
+      by true so = none_of (call.LookAt (id_of p)) looks so
+      by false so = none_of (call.Connect port) (connects port) so
+  only (Listen port) is = inl (port, refl, one (test (call.Listen port)) is)
+    where
+      one : (b : Bool) → (b || false) ≡ true → b ≡ true
+      one true so = refl
+      one false so = so
+  only (Accept port) is = absurd (none_of (call.Accept port) (accepts port) is)
+  only (Send c) is = absurd (none_of (send_next c p) (sends _) is)
+  only (Recv n) is = absurd (none_of (recv_next n p) (recvs _) is)
+  only Drain is = absurd (none_of (call.Recv (id_of p) _) (recvs _) is)
+  only (Exchange c) is = absurd (by (nat_lt p.sent (size_of c)) (nat_lt p.got (size_of c)) is)
+    where
+      by : (a b : Bool) → list_any test (cond a (send_next c p ∷ []) [] ++ cond b (recv_next (size_of c) p ∷ []) []) ≡ true → ⊥
+      by true true so = let no : true ≡ false = sym so ∙ ap (λ (x : Bool). x || (test (recv_next (size_of c) p) || false)) (sends _)
+          ∙ ap (λ (x : Bool). x || false) (recvs _) in absurd cc
+      by true false so = none_of (send_next c p) (sends _) so
+      by false true so = none_of (recv_next (size_of c) p) (recvs _) so
+      by false false so = absurd cc
+  only (Shutdown bits) is = absurd (none_of (call.Shutdown (id_of p) bits) (shuts bits) is)
+  only (Grow alloc) is = absurd (none_of (call.Grow (id_of p) alloc) (grows alloc) is)
+  only Close is = inr (refl, one (test (call.Close (id_of p))) is)
+    where
+      one : (b : Bool) → (b || false) ≡ true → b ≡ true
+      one true so = refl
+      one false so = so
+
+-- So an id that an app closed, it was given.
+pub closed_given : (id : ℕ) → 1 ≤ id → (acts : List Act) (steps : List (List Made)) (q : Progress) → Follows acts begun steps q
+    → was_closed id (all_noted steps) ≡ true → was_given id (all_noted steps) ≡ true
+closed_given id some acts [] q follows is = absurd cc
+closed_given id some acts (ms ∷ steps) q follows is =
+    by (did_one closed_by id (is_close id) (closes_it id) ms (all_noted steps) is) (closed_given id some acts steps follows.0 follows.2)
+  where
+    conn_of : (o : Option ℕ) → id ≡ unwrap_or o 0 → o ≡ Some id
+    conn_of None same = absurd (omega (arith, some, same))
+    conn_of (Some n) same = ap (λ (m : ℕ). let o : Option ℕ = Some m in o) (sym same)
+
+    own : ((port : ℕ) × (follows.1 ≡ Listen port) × (false ≡ true)) ⊎ ((follows.1 ≡ Close) × ((id == id_of follows.0) ≡ true))
+        → was_given id (all_noted steps) ≡ true
+    own (inl none) = absurd (let both = none.2 in cc)
+    own (inr is_it) = conn_given id acts steps follows.0 follows.2 (conn_of follows.0.conn (eqb-true id (id_of follows.0) is_it.1))
+
+    by : (was_closed id (all_noted steps) ≡ true) ⊎ (list_any (is_close id) (calls_in ms) ≡ true)
+        → (was_closed id (all_noted steps) ≡ true → was_given id (all_noted steps) ≡ true) → was_given id (with_noted ms (all_noted steps)) ≡ true
+    by (inl older) rest = still_did given_by id ms (all_noted steps) (rest older)
+    by (inr now) rest =
+        still_did given_by id ms (all_noted steps)
+        (own (only (is_close id) follows.0 (λ bytes. refl) (λ n. refl) refl (λ port. refl) (λ port. refl) (λ bits. refl) (λ n. refl) follows.1
+        (ap (λ (cs : List GuestCall). list_any (is_close id) cs) (sym follows.4.0) ∙ now)))
+
+-- It listens where its instructions say.
+abbrev is_listen : ℕ → GuestCall → Bool
+is_listen port (call.Listen n) = port == n
+is_listen port c = false
+
+listens_there : (port : ℕ) (c : GuestCall) (reply : ReplyTo c) → names port (listened_by c reply) ≡ true → is_listen port c ≡ true
+listens_there port (call.Listen n) reply is = by reply is
+  where
+    by : (r : Result (Unit {0}) ListenError) → names port (listened_by (call.Listen n) r) ≡ true → (port == n) ≡ true
+    by (Ok x) so = so
+    by (Err why) so = absurd cc
+listens_there port (call.Close n) reply is = absurd cc
+listens_there port (call.Connect n) reply is = absurd cc
+listens_there port (call.Accept n) reply is = absurd cc
+listens_there port (call.Send n bytes) reply is = absurd cc
+listens_there port (call.Recv n len) reply is = absurd cc
+listens_there port (call.LookAt n) reply is = absurd cc
+listens_there port (call.Unlisten n) reply is = absurd cc
+listens_there port (call.Shutdown n bits) reply is = absurd cc
+listens_there port (call.Grow n alloc) reply is = absurd cc
+
+pub listened_there : (port : ℕ) (acts : List Act) (steps : List (List Made)) (q : Progress) → Follows acts begun steps q
+    → was_listened port (all_noted steps) ≡ true → (i : ℕ) × (slice_get acts i ≡ Some (Listen port))
+listened_there port acts [] q follows is = absurd cc
+listened_there port acts (ms ∷ steps) q follows is =
+    by (did_one listened_by port (is_listen port) (listens_there port) ms (all_noted steps) is) (listened_there port acts steps follows.0 follows.2)
+  where
+    own : ((n : ℕ) × (follows.1 ≡ Listen n) × ((port == n) ≡ true)) ⊎ ((follows.1 ≡ Close) × (false ≡ true)) → (i : ℕ) × (slice_get acts i ≡ Some (Listen port))
+    own (inl it) = (
+      follows.0.at,
+      follows.3 ∙ ap (λ (a : Act). let o : Option Act = Some a in o) it.1 ∙ ap (λ (n : ℕ). let o : Option Act = Some (Listen n) in o) (sym (eqb-true port it.0 it.2)),
+    )
+    own (inr none) = absurd (let both = none.1 in cc)
+
+    by : (was_listened port (all_noted steps) ≡ true) ⊎ (list_any (is_listen port) (calls_in ms) ≡ true)
+        → (was_listened port (all_noted steps) ≡ true → (i : ℕ) × (slice_get acts i ≡ Some (Listen port))) → (i : ℕ) × (slice_get acts i ≡ Some (Listen port))
+    by (inl older) rest = rest older
+    by (inr now) rest =
+        own (only (is_listen port) follows.0 (λ bytes. refl) (λ n. refl) refl (λ n. refl) (λ n. refl) (λ bits. refl) (λ n. refl) follows.1
+        (ap (λ (cs : List GuestCall). list_any (is_listen port) cs) (sym follows.4.0) ∙ now))

@@ -1,0 +1,512 @@
+-- What each change of the driver's connections and listeners leaves of what a journal's calls left.
+use Rattle.std.proofs.Common.{◌≡◌, ◌≢◌, ℕ, zero, suc, ◌+◌, ◌<◌, ◌≤◌, ◌==◌, ◌||◌, ◌&&◌, not, Bool, true, false, cond, List, [], ◌∷◌, ◌++◌, length, drop, get_or}
+use Rattle.std.proofs.Common.{Option, Some, None, is_some, refl, sym, ap, subst, ◌∙◌, arith}
+use Rattle.std.proofs.lemmas.{Bool.Decides.nat_tests, Bool.eq-eqb, Bool.eqb-true, Grind.common_steps}
+use Rattle.std.proofs.lemmas.List.Elements.{All-cons, All-contains, All-filter, All-head, All-map, All-push, All-tail, filter_passes}
+use Rattle.std.specs.{List.All, List.filter, List.list_any, Option.option_map_or}
+use Rattle.vs_conn.specs.{End.{ConnectionEnd, end_after, owes_of, with_payload_forwarded, with_shut}, declared.{end.Owed.Owed, end.State.State, shut.Shut.Shut}}
+use Rattle.vs_conn.specs.declared.end.State.TheVariants.{Answering, Asked, Ended, Live}
+use Rattle.vs_conn.specs.declared.end.Owed.TheVariants as owed
+use Rattle.vs_conn.proofs.Frames.{got_asked, got_answering, got_over, got_own}
+use Rattle.vs_flow.specs.{Flow.is_assigned, Table.{IsTable, Table, next_entry, revalued, with_entry, with_value, without}, declared.flow.Flow.Flow}
+use Rattle.vs_header.specs.declared.Header.{Header}
+use Rattle.vs_driver_parts.specs.Connections.{after_leaving, all_gone_after_read, gone_after_read, gone_as, paid_connection, waits_no_more, with_connection}
+use Rattle.vs_driver_parts.specs.{Listening.{listener_on, with_port, with_waiting, without_id}, SlotFields.AreNumbered}
+use Rattle.vs_driver_parts.specs.State.{DriverConnection, DriverEntry, DriverState, GoneConnection, Listener}
+use Rattle.vs_driver_parts.proofs.{Ids.HasId, Ids.value_of, Numbers.{id_there, numbers_gone_without, numbers_left, numbers_with_entry, numbers_with_value, numbers_without}}
+use Rattle.laws_driver.proofs.Tabling.{Stands}
+use Rattle.laws_driver_bytes.specs.Calls.{Journal, Made, names}
+use Rattle.laws_apps.specs.Placed.{ArePlaced, IsPlaced, HasPlaces, IsPlacedEntry, IsPlacedGone, IsPlacedValue, closed_by, given_by, listened_by, stands_closed}
+use Rattle.laws_apps.specs.Placed.{stands_unanswered, waits_at, was_closed, was_given, was_listened}
+
+-- One of three tests.
+pub or_first : (a b : Bool) → a ≡ true → (a || b) ≡ true
+or_first true b is = refl
+or_first false b is = absurd cc
+
+pub or_second : (a b : Bool) → b ≡ true → (a || b) ≡ true
+or_second true b is = refl
+or_second false b is = is
+
+pub one_of : (a b c : Bool) (P : Type 0) → (a || (b || c)) ≡ true → (a ≡ true → P) → (b ≡ true → P) → (c ≡ true → P) → P
+one_of true b c P is first second third = first refl
+one_of false true c P is first second third = second refl
+one_of false false c P is first second third = third is
+
+-- Who waits on a port, when the listeners change.
+pub stays_behind : (id x : ℕ) (ws : List ℕ) → list_any (λ w. w == id) ws ≡ true → list_any (λ w. w == id) (ws ++ x ∷ []) ≡ true
+stays_behind id x [] is = absurd cc
+stays_behind id x (w ∷ ws) is = by (w == id) is (stays_behind id x ws)
+  where
+    by : (b : Bool) → (b || list_any (λ v. v == id) ws) ≡ true → (list_any (λ v. v == id) ws ≡ true → list_any (λ v. v == id) (ws ++ x ∷ []) ≡ true)
+        → (b || list_any (λ v. v == id) (ws ++ x ∷ [])) ≡ true
+    by true is rest = refl
+    by false is rest = rest is
+
+comes_last : (id : ℕ) (ws : List ℕ) → list_any (λ w. w == id) (ws ++ id ∷ []) ≡ true
+comes_last id [] = ap (λ (b : Bool). b || false) (eq-eqb id id refl)
+comes_last id (w ∷ ws) = or_second (w == id) (list_any (λ v. v == id) (ws ++ id ∷ [])) (comes_last id ws)
+
+pub stays_among : (id other : ℕ) → id ≢ other → (ws : List ℕ) → list_any (λ w. w == id) ws ≡ true → list_any (λ w. w == id) (without_id other ws) ≡ true
+stays_among id other apart [] is = absurd cc
+stays_among id other apart (w ∷ ws) is = by (w == other) refl (w == id) refl is (stays_among id other apart ws)
+  where
+    by : (a : Bool) → (w == other) ≡ a → (b : Bool) → (w == id) ≡ b → (b || list_any (λ v. v == id) ws) ≡ true
+        → (list_any (λ v. v == id) ws ≡ true → list_any (λ v. v == id) (without_id other ws) ≡ true)
+        → list_any (λ v. v == id) (cond (not a) (w ∷ without_id other ws) (without_id other ws)) ≡ true
+    by true gone true own is more = absurd (apart (sym (eqb-true w id own) ∙ eqb-true w other gone))
+    by true gone false own is more = more is
+    by false stays true own is more = ap (λ (b : Bool). b || list_any (λ v. v == id) (without_id other ws)) own
+    by false stays false own is more = ap (λ (b : Bool). b || list_any (λ v. v == id) (without_id other ws)) own ∙ more is
+
+module _ (port id : ℕ) where
+  abbrev in_first : Option Listener → Bool
+  in_first o = list_any (λ w. w == id) (option_map_or (λ l. l.waiting) o [])
+
+  pub waits_kept : (q : ℕ) (change : List ℕ → List ℕ)
+      → ((ws : List ℕ) → list_any (λ w. w == id) ws ≡ true → list_any (λ w. w == id) (change ws) ≡ true) → (ls : List Listener)
+      → waits_at port id ls ≡ true → waits_at port id (with_waiting q change ls) ≡ true
+  waits_kept q change keeps [] is = absurd cc
+  waits_kept q change keeps (l ∷ ls) is = by (waits_kept q change keeps ls) (l.port == q)
+    where
+      one : (c : Bool) (x : Listener) → in_first (cond c (Some l) (listener_on port ls)) ≡ true
+          → (list_any (λ w. w == id) l.waiting ≡ true → list_any (λ w. w == id) x.waiting ≡ true)
+          → (waits_at port id ls ≡ true → waits_at port id (with_waiting q change ls) ≡ true)
+          → in_first (cond c (Some x) (listener_on port (with_waiting q change ls))) ≡ true
+      one true x there stays rest = stays there
+      one false x there stays rest = rest there
+
+      by : (waits_at port id ls ≡ true → waits_at port id (with_waiting q change ls) ≡ true) → (b : Bool)
+          → in_first (listener_on port (cond b (record l { waiting = change l.waiting }) l ∷ with_waiting q change ls)) ≡ true
+      by rest true = one (l.port == port) (record l { waiting = change l.waiting }) is (keeps l.waiting) rest
+      by rest false = one (l.port == port) l is (λ a. a) rest
+
+  pub waits_snoc : (l : Listener) (ls : List Listener) → waits_at port id ls ≡ true → waits_at port id (ls ++ l ∷ []) ≡ true
+  waits_snoc l [] is = absurd cc
+  waits_snoc l (x ∷ xs) is = by (x.port == port) is (waits_snoc l xs)
+    where
+      by : (c : Bool) → in_first (cond c (Some x) (listener_on port xs)) ≡ true → (waits_at port id xs ≡ true → waits_at port id (xs ++ l ∷ []) ≡ true)
+          → in_first (cond c (Some x) (listener_on port (xs ++ l ∷ []))) ≡ true
+      by true there rest = there
+      by false there rest = rest there
+
+abbrev FirstHas : ℕ → ℕ → Listener → List Listener → Bool → Type 0
+FirstHas port id l ls b = waits_at port id (cond b (record l { waiting = l.waiting ++ id ∷ [] }) l ∷ with_waiting port (λ ws. ws ++ id ∷ []) ls) ≡ true
+
+pub waits_now : (port id : ℕ) (ls : List Listener) → is_some (listener_on port ls) ≡ true
+    → waits_at port id (with_waiting port (λ ws. ws ++ id ∷ []) ls) ≡ true
+waits_now port id [] is = absurd cc
+waits_now port id (l ∷ ls) is = by (l.port == port) refl is (waits_now port id ls)
+  where
+    by : (b : Bool) → (l.port == port) ≡ b → is_some (cond b (Some l) (listener_on port ls)) ≡ true
+        → (is_some (listener_on port ls) ≡ true → waits_at port id (with_waiting port (λ ws. ws ++ id ∷ []) ls) ≡ true) → FirstHas port id l ls (l.port == port)
+    by true own some more =
+        subst (λ (b : Bool). FirstHas port id l ls b) (sym own)
+        (ap (λ (b : Bool). in_first port id (cond b (Some (record l { waiting = l.waiting ++ id ∷ [] })) (listener_on port (with_waiting port (λ ws. ws ++ id ∷ []) ls)))) own
+        ∙ comes_last id l.waiting)
+    by false other some more =
+        subst (λ (b : Bool). FirstHas port id l ls b) (sym other)
+        (ap (λ (b : Bool). in_first port id (cond b (Some l) (listener_on port (with_waiting port (λ ws. ws ++ id ∷ []) ls)))) other ∙ more some)
+
+pub ports_kept : (P : ℕ → Type 0) (q : ℕ) (change : List ℕ → List ℕ) (ls : List Listener) → All (λ l. P l.port) ls
+    → All (λ l. P l.port) (with_waiting q change ls)
+ports_kept P q change [] all = all
+ports_kept P q change (l ∷ ls) all = All-cons (λ x. P x.port) _ (with_waiting q change ls) (one (l.port == q) (All-head (λ x. P x.port) l ls all))
+    (ports_kept P q change ls (All-tail (λ x. P x.port) l ls all))
+  where
+    one : (b : Bool) → P l.port → P (cond b (record l { waiting = change l.waiting }) l).port
+    one true is = is
+    one false is = is
+
+-- A connection that is placed stays so.
+pub placed_on : (journal now : Journal) (ls ms : List Listener) (id : ℕ) (f : Flow)
+    → (was_given id journal ≡ true → was_given id now ≡ true)
+    → (was_closed id journal ≡ true → (was_given id now || was_closed id now) ≡ true)
+    → (waits_at f.guest id ls ≡ true → (was_given id now || (was_closed id now || waits_at f.guest id ms)) ≡ true)
+    → IsPlaced journal ls id f → IsPlaced now ms id f
+placed_on journal now ls ms id f given closed waits placed = record {
+  known = one_of (was_given id journal) (was_closed id journal) (waits_at f.guest id ls) _ placed.known
+      (λ is. or_first (was_given id now) _ (given is)) (λ is. both (was_given id now) (was_closed id now) (closed is)) waits;
+  own = λ mine. given (placed.own mine);
+}
+  where
+    both : (a b : Bool) → (a || b) ≡ true → (a || (b || waits_at f.guest id ms)) ≡ true
+    both true b is = refl
+    both false true is = refl
+    both false false is = absurd cc
+
+-- What an end's steps leave.
+pub record StandsOn (e d : ConnectionEnd) : Type 0 where
+  pub closed : stands_closed e.state e.own ≡ true → stands_closed d.state d.own ≡ true
+  pub unanswered : stands_unanswered e.state ≡ true → stands_unanswered d.state ≡ true
+
+pub same_stands : (e : ConnectionEnd) → StandsOn e e
+same_stands e = record { closed = λ is. is; unanswered = λ is. is }
+
+got_live : (e : ConnectionEnd) (h : Header) → e.state ≡ Answering → (end_after e h).state ≢ Live
+got_live e h is live = absurd (grind (arith, common_steps, is, live))
+
+pub got_stands : (e : ConnectionEnd) (h : Header) → StandsOn e (end_after e h)
+got_stands e h = record { closed = closes e.state (end_after e h).state refl refl; unanswered = answers e.state (end_after e h).state refl refl }
+  where
+    closes : (a b : State) → e.state ≡ a → (end_after e h).state ≡ b → stands_closed a e.own ≡ true → stands_closed b (end_after e h).own ≡ true
+    closes a Ended was now is = refl
+    closes Live Live was now is = ap (λ (s : Shut). s.send && s.receive) (got_own e h) ∙ is
+    closes Live Asked was now is = let no : Live ≡ Asked = sym was ∙ got_asked e h now in absurd cc
+    closes Live Answering was now is = let no : Live ≡ Answering = sym was ∙ got_answering e h now in absurd cc
+    closes Ended Live was now is = let no : Ended ≡ Live = sym (got_over e h was) ∙ now in absurd cc
+    closes Ended Asked was now is = let no : Ended ≡ Asked = sym (got_over e h was) ∙ now in absurd cc
+    closes Ended Answering was now is = let no : Ended ≡ Answering = sym (got_over e h was) ∙ now in absurd cc
+    closes Asked b was now is = absurd cc
+    closes Answering b was now is = absurd cc
+
+    answers : (a b : State) → e.state ≡ a → (end_after e h).state ≡ b → stands_unanswered a ≡ true → stands_unanswered b ≡ true
+    answers a Ended was now is = refl
+    answers a Answering was now is = refl
+    answers Answering Live was now is = absurd (got_live e h was now)
+    answers Answering Asked was now is = let no : Answering ≡ Asked = sym was ∙ got_asked e h now in absurd cc
+    answers Ended Live was now is = let no : Ended ≡ Live = sym (got_over e h was) ∙ now in absurd cc
+    answers Ended Asked was now is = let no : Ended ≡ Asked = sym (got_over e h was) ∙ now in absurd cc
+    answers Live b was now is = absurd cc
+    answers Asked b was now is = absurd cc
+
+forwarded_closed : (e : ConnectionEnd) (n : ℕ) → stands_closed e.state e.own ≡ true → stands_closed (with_payload_forwarded e n).state (with_payload_forwarded e n).own ≡ true
+forwarded_closed e n is = grind (arith, common_steps, is)
+
+forwarded_unanswered : (e : ConnectionEnd) (n : ℕ) → stands_unanswered e.state ≡ true → stands_unanswered (with_payload_forwarded e n).state ≡ true
+forwarded_unanswered e n is = grind (arith, common_steps, is)
+
+pub forwarded_stands : (e : ConnectionEnd) (n : ℕ) → StandsOn e (with_payload_forwarded e n)
+forwarded_stands e n = record { closed = forwarded_closed e n; unanswered = forwarded_unanswered e n }
+
+shut_closed : (e : ConnectionEnd) (bits : ℕ) → stands_closed e.state e.own ≡ true → stands_closed (with_shut e bits).state (with_shut e bits).own ≡ true
+shut_closed e bits is = grind (arith, common_steps, is)
+
+shut_unanswered : (e : ConnectionEnd) (bits : ℕ) → stands_unanswered e.state ≡ true → stands_unanswered (with_shut e bits).state ≡ true
+shut_unanswered e bits is = grind (arith, common_steps, is)
+
+pub shut_stands : (e : ConnectionEnd) (bits : ℕ) → StandsOn e (with_shut e bits)
+shut_stands e bits = record { closed = shut_closed e bits; unanswered = shut_unanswered e bits }
+
+-- A connection with another end.
+pub value_goes : (journal : Journal) (c d : DriverConnection) → d.id ≡ c.id → d.closed ≡ c.closed → d.unanswered ≡ c.unanswered → StandsOn c.end d.end
+    → IsPlacedValue journal c → IsPlacedValue journal d
+value_goes journal c d id closed unanswered stands value = record {
+  closed = closed ∙ value.closed ∙ ap (λ (i : ℕ). was_closed i journal) (sym id);
+  shut = λ is. stands.closed (value.shut (sym closed ∙ is));
+  waits = λ is. stands.unanswered (value.waits (sym unanswered ∙ is));
+}
+
+-- What a connection owes is put.
+owes_response : (e : ConnectionEnd) → owes_of e ≡ Some owed.Response → e.state ≡ Answering
+owes_response e owes = grind (arith, common_steps, owes)
+
+pub paid_value : (journal : Journal) (c : DriverConnection) (what : Owed) → owes_of c.end ≡ Some what → IsPlacedValue journal c
+    → IsPlacedValue journal (paid_connection what c)
+paid_value journal c owed.Response owes value = record {
+  closed = value.closed;
+  shut = λ is. let no : true ≡ false = sym (value.shut is) ∙ ap (λ (st : State). stands_closed st c.end.own) (owes_response c.end owes) in absurd cc;
+  waits = λ is. absurd cc;
+}
+paid_value journal c what owes value = value_goes journal c (paid_connection what c) refl refl refl (record { closed = λ is. is; unanswered = λ is. is }) value
+
+module _ (journal : Journal) (s : DriverState) (x : ArePlaced journal s) where
+  -- Another connection in the place of an entry's.
+  pub alters : (e : DriverEntry) (c : DriverConnection) → Stands s e → c.id ≡ e.value.id → IsPlacedValue journal c → ArePlaced journal (with_connection e.slot c s)
+  alters e c stands id value = record {
+    numbers = numbers_with_value 1 s.next_port s.next_id s.table s.gone x.numbers e.slot c (id_there s.table e.slot e.value c (value_of s.table e.slot e stands.under) id);
+    entries = All-map (IsPlacedEntry journal s.listeners) (revalued e.slot c) s.table.entries
+        (λ k d less. one (get_or s.table.entries k d) (x.numbers.slots k d less) (x.entries k d less));
+    gone = x.gone;
+    below = x.below;
+    ports = x.ports;
+  }
+    where
+      own : HasId 1 e
+      own = All-contains (HasId 1) s.table.entries e x.numbers.slots stands.contains
+
+      one : (y : DriverEntry) → HasId 1 y → IsPlacedEntry journal s.listeners y → IsPlacedEntry journal s.listeners (revalued e.slot c y)
+      one y has was = by (y.slot == e.slot) refl
+        where
+          by : (b : Bool) → (y.slot == e.slot) ≡ b → IsPlacedEntry journal s.listeners (cond b (record y { value = c }) y)
+          by true same =
+              let at : y.slot ≡ e.slot = eqb-true y.slot e.slot same in
+              let there : y.value.id ≡ c.id = has ∙ ap (λ (n : ℕ). 1 + n) at ∙ sym own ∙ sym id in
+              record { placed = subst (λ (i : ℕ). IsPlaced journal s.listeners i y.flow) there was.placed; value = value }
+          by false other = was
+
+  -- One leaves the table; and one that leaves it holds its slot on.
+  pub departs : (e : DriverEntry) → ArePlaced journal (record s { table = without s.table e.slot })
+  departs e = record {
+    numbers = numbers_without 1 s.next_port s.next_id s.table s.gone x.numbers e.slot;
+    entries = All-filter (λ y. not (y.slot == e.slot)) (IsPlacedEntry journal s.listeners) s.table.entries x.entries;
+    gone = x.gone;
+    below = x.below;
+    ports = x.ports;
+  }
+
+  pub departs_as : (e : DriverEntry) (c : DriverConnection) → IsTable s.table → Stands s e → c.id ≡ e.value.id → IsPlacedValue journal c → c.closed ≡ false
+      → ArePlaced journal (record s { table = without s.table e.slot; gone = s.gone ++ gone_as (record e { value = c }) ∷ [] })
+  departs_as e c sound stands id value shown = record {
+    numbers = numbers_left 1 s.next_port s.next_id s.table s.gone x.numbers e (gone_as (record e { value = c })) sound stands.under id;
+    entries = All-filter (λ y. not (y.slot == e.slot)) (IsPlacedEntry journal s.listeners) s.table.entries x.entries;
+    gone = All-push (IsPlacedGone journal s.listeners) s.gone (gone_as (record e { value = c })) x.gone (record {
+      placed = subst (λ (i : ℕ). IsPlaced journal s.listeners i e.flow) (sym id)
+          (All-contains (IsPlacedEntry journal s.listeners) s.table.entries e x.entries stands.contains).placed;
+      kept = sym value.closed ∙ shown;
+    });
+    below = x.below;
+    ports = x.ports;
+  }
+
+  -- An id waits on a port no more, that was given or closed, or that holds no slot.
+  pub waits_less : (port id : ℕ) → All (λ e. e.value.id ≡ id → (was_given e.value.id journal || was_closed e.value.id journal) ≡ true) s.table.entries
+      → All (λ g. g.id ≡ id → (was_given g.id journal || was_closed g.id journal) ≡ true) s.gone
+      → ArePlaced journal (record s { listeners = with_waiting port (without_id id) s.listeners })
+  waits_less port id held left = record {
+    numbers = x.numbers;
+    entries = λ k d less. let y = get_or s.table.entries k d in
+        record { placed = one y.value.id y.flow (held k d less) (x.entries k d less).placed; value = (x.entries k d less).value };
+    gone = λ k d less. let g = get_or s.gone k d in
+        record { placed = one g.id g.flow (left k d less) (x.gone k d less).placed; kept = (x.gone k d less).kept };
+    below = x.below;
+    ports = ports_kept (λ p. was_listened p journal ≡ true) port (without_id id) s.listeners x.ports;
+  }
+    where
+      one : (i : ℕ) (f : Flow) → (i ≡ id → (was_given i journal || was_closed i journal) ≡ true) → IsPlaced journal s.listeners i f
+          → IsPlaced journal (with_waiting port (without_id id) s.listeners) i f
+      one i f known placed = placed_on journal journal s.listeners (with_waiting port (without_id id) s.listeners) i f (λ is. is) (λ is. or_second (was_given i journal) (was_closed i journal) is)
+          (λ waits. by (i == id) refl waits) placed
+        where
+          both : (a b c : Bool) → (a || b) ≡ true → (a || (b || c)) ≡ true
+          both true b c is = refl
+          both false true c is = refl
+          both false false c is = absurd cc
+
+          differ : (i == id) ≡ false → i ≢ id
+          differ other same = let no : true ≡ false = sym (eq-eqb i id same) ∙ other in absurd cc
+
+          by : (b : Bool) → (i == id) ≡ b → waits_at f.guest i s.listeners ≡ true → (was_given i journal || (was_closed i journal || waits_at f.guest i (with_waiting port (without_id id) s.listeners))) ≡ true
+          by true same waits =
+              both (was_given i journal) (was_closed i journal) (waits_at f.guest i (with_waiting port (without_id id) s.listeners)) (known (eqb-true i id same))
+          by false other waits =
+              or_second (was_given i journal) _ (or_second (was_closed i journal) _
+              (waits_kept f.guest i port (without_id id) (stays_among i id (λ same. differ other same)) s.listeners waits))
+
+-- A connection leaves the table, and its port's list where its RESPONSE isn't put.
+module _ (journal : Journal) (s : DriverState) (x : ArePlaced journal s) where
+  pub leaving : (e : DriverEntry) (c : DriverConnection) → IsTable s.table → Stands s e → c.id ≡ e.value.id → IsPlacedValue journal c
+      → ArePlaced journal (after_leaving (record e { value = c }) s)
+  leaving e c sound stands id value = by c.unanswered refl c.closed refl
+    where
+      left : ArePlaced journal (record s { table = without s.table e.slot })
+      left = departs journal s x e
+
+      apart_slot : (a b n m : ℕ) → not (a == b) ≡ true → n ≡ 1 + a → m ≡ 1 + b → n ≢ m
+      apart_slot a b n m other one two = grind (arith, nat_tests, other, one, two)
+
+      own : e.value.id ≡ 1 + e.slot
+      own = All-contains (HasId 1) s.table.entries e x.numbers.slots stands.contains
+
+      quits : ArePlaced journal (record s { table = without s.table e.slot; listeners = with_waiting e.flow.guest (without_id c.id) s.listeners })
+      quits = waits_less journal (record s { table = without s.table e.slot }) left e.flow.guest c.id
+          (λ k d less same. absurd (apart_slot _ e.slot _ c.id (filter_passes (λ (y : DriverEntry). not (y.slot == e.slot)) s.table.entries k d less)
+          (left.numbers.slots k d less) (id ∙ own) same))
+          (λ k d less same. absurd (All-contains (λ (y : DriverEntry). y.value.id ≢ (get_or s.gone k d).id) s.table.entries e (x.numbers.apart k d less)
+          stands.contains (sym id ∙ sym same)))
+
+      by : (u : Bool) → c.unanswered ≡ u → (b : Bool) → c.closed ≡ b
+          → ArePlaced journal (record (cond u (waits_no_more (record e { value = c }) s) s) {
+            table = without s.table e.slot;
+            gone = cond (b || u) s.gone (s.gone ++ gone_as (record e { value = c }) ∷ []);
+          })
+      by true ua true cl = quits
+      by true ua false cl = quits
+      by false ua true cl = left
+      by false ua false cl = departs_as journal s x e c sound stands id value cl
+
+-- The journal has a call more.
+module _ (journal : Journal) (m : Made) (s : DriverState) (x : ArePlaced journal s) where
+  -- It closed nothing.
+  pub goes_on : closed_by m.call m.reply ≡ None → ArePlaced (m ∷ journal) s
+  goes_on none = record {
+    numbers = x.numbers;
+    entries = λ k d less. let y = x.entries k d less in record {
+      placed = one _ _ y.placed;
+      value = record { closed = y.value.closed ∙ sym (same _); shut = y.value.shut; waits = y.value.waits };
+    };
+    gone = λ k d less. let g = x.gone k d less in record { placed = one _ _ g.placed; kept = same _ ∙ g.kept };
+    below = λ id is. x.below id (sym (same id) ∙ is);
+    ports = λ k d less. or_second (names (get_or s.listeners k d).port (listened_by m.call m.reply)) _ (x.ports k d less);
+  }
+    where
+      same : (id : ℕ) → was_closed id (m ∷ journal) ≡ was_closed id journal
+      same id = ap (λ (o : Option ℕ). names id o || was_closed id journal) none
+
+      one : (id : ℕ) (f : Flow) → IsPlaced journal s.listeners id f → IsPlaced (m ∷ journal) s.listeners id f
+      one id f placed = placed_on journal (m ∷ journal) s.listeners s.listeners id f (or_second (names id (given_by m.call m.reply)) _)
+          (λ is. or_second (was_given id (m ∷ journal)) _ (same id ∙ is))
+          (λ is. or_second (was_given id (m ∷ journal)) _ (or_second (was_closed id (m ∷ journal)) _ is)) placed
+
+  -- It closed this id, of a connection that has left its slot; or of one of the table, which is closed then.
+  module _ (id : ℕ) (found : closed_by m.call m.reply ≡ Some id) (left : All (λ g. g.id ≢ id) s.gone) (less : id < s.next_id) where
+    now : (i : ℕ) → was_closed i (m ∷ journal) ≡ ((i == id) || was_closed i journal)
+    now i = ap (λ (o : Option ℕ). names i o || was_closed i journal) found
+
+    still : (i : ℕ) → i ≢ id → was_closed i journal ≡ was_closed i (m ∷ journal)
+    still i apart = by (i == id) refl ∙ sym (now i)
+      where
+        by : (b : Bool) → (i == id) ≡ b → was_closed i journal ≡ (b || was_closed i journal)
+        by false is = refl
+        by true is = absurd (apart (eqb-true i id is))
+
+    one : (i : ℕ) (f : Flow) → IsPlaced journal s.listeners i f → IsPlaced (m ∷ journal) s.listeners i f
+    one i f placed = placed_on journal (m ∷ journal) s.listeners s.listeners i f (or_second (names i (given_by m.call m.reply)) _)
+        (λ is. or_second (was_given i (m ∷ journal)) _ (or_second (names i (closed_by m.call m.reply)) _ is))
+        (λ is. or_second (was_given i (m ∷ journal)) _ (or_second (was_closed i (m ∷ journal)) _ is)) placed
+
+    was_below : (i : ℕ) → was_closed i (m ∷ journal) ≡ true → i < s.next_id
+    was_below i is = by (i == id) refl (sym (now i) ∙ is)
+      where
+        by : (b : Bool) → (i == id) ≡ b → (b || was_closed i journal) ≡ true → i < s.next_id
+        by true same so = subst (λ (n : ℕ). n < s.next_id) (sym (eqb-true i id same)) less
+        by false other so = x.below i so
+
+    pub closes : (t : Table DriverConnection) → AreNumbered 1 s.next_port s.next_id t s.gone → All (IsPlacedEntry (m ∷ journal) s.listeners) t.entries
+        → HasPlaces (m ∷ journal) s.next_port s.next_id t s.gone s.listeners
+    closes t numbers entries = record {
+      numbers = numbers;
+      entries = entries;
+      gone = λ k d within. let g = x.gone k d within in record { placed = one _ _ g.placed; kept = sym (still _ (left k d within)) ∙ g.kept };
+      below = was_below;
+      ports = λ k d within. or_second (names (get_or s.listeners k d).port (listened_by m.call m.reply)) _ (x.ports k d within);
+    }
+
+    pub closes_gone : All (λ e. e.value.id ≢ id) s.table.entries → ArePlaced (m ∷ journal) s
+    closes_gone held = closes s.table x.numbers (λ k d within. let y = x.entries k d within in record {
+      placed = one _ _ y.placed;
+      value = record { closed = y.value.closed ∙ still _ (held k d within); shut = y.value.shut; waits = y.value.waits };
+    })
+
+    pub closes_entry : (e : DriverEntry) (c : DriverConnection) → Stands s e → e.value.id ≡ id → c.id ≡ e.value.id → c.closed ≡ true
+        → stands_closed c.end.state c.end.own ≡ true → (c.unanswered ≡ true → stands_unanswered c.end.state ≡ true)
+        → ArePlaced (m ∷ journal) (with_connection e.slot c s)
+    closes_entry e c stands named same over shut waits =
+        closes (with_value s.table e.slot c)
+        (numbers_with_value 1 s.next_port s.next_id s.table s.gone x.numbers e.slot c (id_there s.table e.slot e.value c (value_of s.table e.slot e stands.under) same))
+        (All-map (IsPlacedEntry (m ∷ journal) s.listeners) (revalued e.slot c) s.table.entries
+        (λ k d within. entry (get_or s.table.entries k d) (x.numbers.slots k d within) (x.entries k d within)))
+      where
+        own : HasId 1 e
+        own = All-contains (HasId 1) s.table.entries e x.numbers.slots stands.contains
+
+        apart_slot : (a b n i : ℕ) → (a == b) ≡ false → n ≡ 1 + a → i ≡ 1 + b → n ≢ i
+        apart_slot a b n i other first second same = absurd (grind (arith, nat_tests, other, first, second, same))
+
+        value : IsPlacedValue (m ∷ journal) c
+        value = record { closed = over ∙ sym (now c.id ∙ or_first (c.id == id) (was_closed c.id journal) (eq-eqb c.id id (same ∙ named))); shut = λ is. shut; waits = waits }
+
+        entry : (y : DriverEntry) → HasId 1 y → IsPlacedEntry journal s.listeners y → IsPlacedEntry (m ∷ journal) s.listeners (revalued e.slot c y)
+        entry y has was = by (y.slot == e.slot) refl
+          where
+            by : (b : Bool) → (y.slot == e.slot) ≡ b → IsPlacedEntry (m ∷ journal) s.listeners (cond b (record y { value = c }) y)
+            by true at =
+                let there : y.value.id ≡ c.id = has ∙ ap (λ (n : ℕ). 1 + n) (eqb-true y.slot e.slot at) ∙ sym own ∙ sym same in
+                record { placed = one c.id y.flow (subst (λ (i : ℕ). IsPlaced journal s.listeners i y.flow) there was.placed); value = value }
+            by false other =
+                let apart : y.value.id ≢ id = apart_slot y.slot e.slot y.value.id id other has (sym named ∙ own) in
+                record { placed = one y.value.id y.flow was.placed; value = record { closed = was.value.closed ∙ still y.value.id apart; shut = was.value.shut; waits = was.value.waits } }
+
+-- A connection opens, with the next id.
+module _ (journal : Journal) (s : DriverState) (x : ArePlaced journal s) (f : Flow) (c : DriverConnection) (id : c.id ≡ s.next_id) where
+  pub opening : (port : ℕ) (ms : List Listener) → s.next_port ≤ port → (is_assigned f.host ≡ false → f.guest < port)
+      → ((p i : ℕ) → waits_at p i s.listeners ≡ true → waits_at p i ms ≡ true) → All (λ l. was_listened l.port journal ≡ true) ms → IsPlaced journal ms c.id f
+      → c.closed ≡ false → (c.unanswered ≡ true → stands_unanswered c.end.state ≡ true)
+      → HasPlaces journal port (s.next_id + 1) (with_entry s.table f c) s.gone ms
+  opening port ms more below keep ports placed fresh waits = record {
+    numbers = numbers_with_entry 1 s.next_port s.next_id s.table s.gone x.numbers f c port id more below;
+    entries = All-push (IsPlacedEntry journal ms) s.table.entries (next_entry s.table f c)
+        (λ k d less. let y = x.entries k d less in record { placed = one _ _ y.placed; value = y.value })
+        (record { placed = placed; value = record { closed = fresh ∙ sym (new (was_closed c.id journal) refl); shut = λ is. absurd (let no : true ≡ false = sym is ∙ fresh in cc); waits = waits } });
+    gone = λ k d less. let g = x.gone k d less in record { placed = one _ _ g.placed; kept = g.kept };
+    below = λ i is. let less = x.below i is in omega (arith, less);
+    ports = ports;
+  }
+    where
+      one : (i : ℕ) (g : Flow) → IsPlaced journal s.listeners i g → IsPlaced journal ms i g
+      one i g was = placed_on journal journal s.listeners ms i g (λ is. is) (λ is. or_second (was_given i journal) _ is)
+          (λ is. or_second (was_given i journal) _ (or_second (was_closed i journal) _ (keep g.guest i is))) was
+
+      new : (b : Bool) → was_closed c.id journal ≡ b → was_closed c.id journal ≡ false
+      new false is = is
+      new true is = let less = x.below c.id is in absurd (omega (arith, less, id))
+
+-- Bytes of one that is gone are read; and one that is gone is closed.
+read_one : (id n : ℕ) (g : GoneConnection) → ((gone_after_read id n g).id ≡ g.id) × ((gone_after_read id n g).flow ≡ g.flow)
+read_one id n g = by (g.id == id)
+  where
+    by : (b : Bool) → let h : GoneConnection = cond b (record g { unread = drop n g.unread }) g in (h.id ≡ g.id) × (h.flow ≡ g.flow)
+    by true = (refl, refl)
+    by false = (refl, refl)
+
+read_at : (id n : ℕ) (gone : List GoneConnection) (k : ℕ) (d : GoneConnection) → k < length (all_gone_after_read id n gone)
+    → (k < length gone) × (get_or (all_gone_after_read id n gone) k d ≡ gone_after_read id n (get_or gone k d))
+read_at id n [] k d less = absurd (omega (arith, less))
+read_at id n (g ∷ gs) zero d less = (omega arith, refl)
+read_at id n (g ∷ gs) (suc k) d less = let rest = read_at id n gs k d (omega (arith, less)) in (let lt = rest.0 in omega (arith, lt), rest.1)
+
+module _ (journal : Journal) (s : DriverState) (x : ArePlaced journal s) where
+  pub reading : (id n : ℕ) → ArePlaced journal (record s { gone = all_gone_after_read id n s.gone })
+  reading id n = record {
+    numbers = record {
+      given = x.numbers.given;
+      slots = x.numbers.slots;
+      below = λ k d less. let at = read_at id n s.gone k d less in subst (λ (i : ℕ). i < s.next_id) (sym (own k d less)) (x.numbers.below k d at.0);
+      apart = λ k d less i e within. let at = read_at id n s.gone k d less in
+          subst (λ (j : ℕ). (get_or s.table.entries i e).value.id ≢ j) (sym (own k d less)) (x.numbers.apart k d at.0 i e within);
+      distinct = λ i j d before less. let b = read_at id n s.gone j d less in
+          let a = own i d (omega (arith, before, less)) in
+          subst (λ (k : ℕ). k ≢ (get_or (all_gone_after_read id n s.gone) j d).id) (sym a)
+          (subst (λ (k : ℕ). (get_or s.gone i d).id ≢ k) (sym (own j d less)) (x.numbers.distinct i j d before b.0));
+      ports = x.numbers.ports;
+    };
+    entries = x.entries;
+    gone = λ k d less. let at = read_at id n s.gone k d less in
+        subst (IsPlacedGone journal s.listeners) (sym at.1) (one (get_or s.gone k d) (x.gone k d at.0));
+    below = x.below;
+    ports = x.ports;
+  }
+    where
+      own : (k : ℕ) (d : GoneConnection) → k < length (all_gone_after_read id n s.gone) → (get_or (all_gone_after_read id n s.gone) k d).id ≡ (get_or s.gone k d).id
+      own k d less = let at = read_at id n s.gone k d less in ap (λ (g : GoneConnection). g.id) at.1 ∙ (read_one id n (get_or s.gone k d)).0
+
+      one : (g : GoneConnection) → IsPlacedGone journal s.listeners g → IsPlacedGone journal s.listeners (gone_after_read id n g)
+      one g was = by (g.id == id)
+        where
+          by : (b : Bool) → IsPlacedGone journal s.listeners (cond b (record g { unread = drop n g.unread }) g)
+          by true = record { placed = was.placed; kept = was.kept }
+          by false = was
+
+  pub gone_less : (p : GoneConnection → Bool) → ArePlaced journal (record s { gone = filter p s.gone })
+  gone_less p = record {
+    numbers = numbers_gone_without 1 s.next_port s.next_id s.table s.gone x.numbers p;
+    entries = x.entries;
+    gone = All-filter p (IsPlacedGone journal s.listeners) s.gone x.gone;
+    below = x.below;
+    ports = x.ports;
+  }
+
+  -- A port more is listened on.
+  pub listens : (port : ℕ) → was_listened port journal ≡ true → ArePlaced journal (record s { listeners = with_port port s.listeners })
+  listens port is = record {
+    numbers = x.numbers;
+    entries = λ k d less. let y = x.entries k d less in record { placed = one _ _ y.placed; value = y.value };
+    gone = λ k d less. let g = x.gone k d less in record { placed = one _ _ g.placed; kept = g.kept };
+    below = x.below;
+    ports = All-push (λ (l : Listener). was_listened l.port journal ≡ true) s.listeners (record { port = port; waiting = [] }) x.ports is;
+  }
+    where
+      one : (i : ℕ) (f : Flow) → IsPlaced journal s.listeners i f → IsPlaced journal (with_port port s.listeners) i f
+      one i f was = placed_on journal journal s.listeners (with_port port s.listeners) i f (λ so. so) (λ so. or_second (was_given i journal) _ so)
+          (λ so. or_second (was_given i journal) _ (or_second (was_closed i journal) _
+          (waits_snoc f.guest i (record { port = port; waiting = [] }) s.listeners so))) was

@@ -1,0 +1,415 @@
+-- Calls and polls keep what a journal's calls left of the driver's connections.
+use Rattle.std.proofs.Common.{◌≡◌, ◌≢◌, ℕ, ◌+◌, ◌<◌, ◌≤◌, ◌==◌, ◌&&◌, ◌||◌, nat_le, nat_lt, not, Bool, true, false, cond, List, [], ◌∷◌, ◌++◌, length, take, get_or, find, filter}
+use Rattle.std.proofs.Common.{Contains, Option, Some, None, is_some, Result, Ok, Err, refl, sym, ap, subst, ◌∙◌, arith, slice_get}
+use Rattle.std.proofs.lemmas.{Bool.Decides.nat_tests, Bool.and_parts, Bool.eq-eqb, Bool.eqb-true, Grind.common_steps, List.Elements.{All-contains, filter_passes}, Option.{get_or_from_slice_get, same_Some, slice_get_within}}
+use Rattle.std.specs.{List.All, Option.option_map}
+use Rattle.vs_conn.specs.{End.{ConnectionEnd, answering, asked, grown, is_refused, is_reset, owes_of, paid_of, verdict_of, wanting_credit, with_payload_sent, with_shut}}
+use Rattle.vs_conn.specs.declared.end.{Owed.Owed, State.State, Verdict.Verdict}
+use Rattle.vs_conn.specs.declared.end.Owed.TheVariants as owed
+use Rattle.vs_conn.specs.declared.end.State.TheVariants as state
+use Rattle.vs_conn.specs.declared.end.Verdict.TheVariants as verdict
+use Rattle.vs_flow.specs.{Flow.is_assigned, Flow.is_host, Flow.same_flow, Table.IsRising, Table.IsTable, Table.entry_of, declared.flow.Flow.Flow}
+use Rattle.vs_flow.proofs.{Entries.found_passes, Lookups.find_place}
+use Rattle.vs_header.specs.declared.{Header.Header, Kind.TheVariants.Stream}
+use Rattle.vs_limits.specs.declared.TheConstants.{BUF_ALLOC, HOST_CID, LAST_ID, LAST_PORT, WAITING}
+use Rattle.laws_history.specs.declared.packet.Packet.{Packet}
+use Rattle.vs_page.specs.{Fair.IsFairLog, Log.Driver, Log.Log, Log.flow_got, Open.is_dropped, declared.log.LogEntry.TheVariants.GotPacket}
+use Rattle.vs_page.proofs.Flows.{same_is}
+use Rattle.vs_replies.specs.Owed.{reply_to}
+use Rattle.laws_tables.{specs.Matches.Matches, specs.Steps.HasEnd, proofs.Fair.got_not_refused, proofs.Fair.heard_all, proofs.Slots.found_by}
+use Rattle.vs_ring_port.specs.{Contents.RingContents, EndLog.EndLog}
+use Rattle.vs_driver_parts.specs.Connections.{after_closing, after_grow, after_leaving, after_read, after_recv, after_shut, after_shutdown, all_gone_after_read, connected}
+use Rattle.vs_driver_parts.specs.Connections.{entry_closed, entry_grow_answer, entry_read, flow_of, grown_by, is_full, next_flow, paid_connection, shut_in}
+use Rattle.vs_driver_parts.specs.Connections.{state_of, with_connection, with_end, with_request, without_gone}
+use Rattle.vs_driver_parts.specs.{Conversations.{after_paying, new_of, new_state, no_credit, not_sent, poll_of, send_stopped}, Listening.{has_place, is_answered, listen_of, listener_on, listening, next_accepted, with_waiting, without_id}, Playing.Plays}
+use Rattle.vs_driver_parts.specs.Receiving.{after_packet, after_verdict, all_left, is_request, may_open, on_heard, on_known, on_packet, on_unknown, reset_reply, with_reply}
+use Rattle.vs_driver_parts.specs.State.{DriverConnection, DriverEntry, DriverState, GoneConnection, Listener, entry_known_as, gone_known_as, is_known_as}
+use Rattle.vs_driver_parts.specs.declared.answers.{Accepted.Accepted, Grown.Grown, ListenError.ListenError, Polled.Polled, Sent.Sent}
+use Rattle.vs_driver_parts.specs.declared.answers.Accepted.TheVariants as accepted
+use Rattle.vs_driver_parts.specs.declared.answers.Closed.TheVariants as closed
+use Rattle.vs_driver_parts.specs.declared.answers.Grown.TheVariants as rise
+use Rattle.vs_driver_parts.specs.declared.answers.Sent.TheVariants as sent
+use Rattle.vs_driver_parts.proofs.{Ids.HasId, Ids.found_under, Packets.first_under, Packets.others_left, Packets.packet_known, Packets.packet_unknown}
+use Rattle.laws_driver.specs.Honest.{IsFitState, IsFresh, IsHonestWith, ends_of_state}
+use Rattle.laws_driver.proofs.{Calls.new_keeps, Carrying.Carries, Carrying.Fact, Carrying.Holds, Changing.stands_known, Keeping.keeps_end, Polling.poll_keeps, Resetting.first_contained, Resetting.with_cid}
+use Rattle.laws_driver.proofs.{Staging.Rests, Tabling.Stands, Tabling.entry_fits, Tabling.has_end, Tabling.leaves, Taking.with_reply_fits}
+use Rattle.laws_driver_bytes.specs.Calls.{Accept, Close, Connect, Grow, GuestCall, Journal, Listen, LookAt, Made, Recv, ReplyTo, Send, Shutdown, Unlisten}
+use Rattle.laws_driver_bytes.specs.Calls.{is_right, whole_call}
+use Rattle.laws_driver_bytes.proofs.{Growing.honest_stays, Making.CarriesCall, Making.whole_with, Sending.begins}
+use Rattle.laws_driver_bytes.proofs.Righting.{told_before}
+use Rattle.vs_apps_parts.specs.{Journals.made_as, Scripts.with_noted, Told.told_of, Told.wait_of, declared.journal.{Entry.Entry, WaitsFor.WaitsFor}}
+use Rattle.laws_apps.specs.Placed.{AreOwned, ArePlaced, ArePlacedWith, IsSome, IsPlacedEntry, IsPlacedValue, closed_by, given_by, stands_closed, stands_unanswered, was_closed, was_given, was_listened}
+use Rattle.laws_apps.proofs.Placed.{alters, closes_entry, closes_gone, forwarded_stands, gone_less, got_stands, goes_on, leaving, listens, opening, or_first, or_second, StandsOn}
+use Rattle.laws_apps.proofs.Placed.{paid_value, ports_kept, reading, shut_stands, stays_behind, value_goes, waits_kept, waits_less, waits_now}
+
+abbrev pub places : Journal → Fact
+places journal part s log = ArePlaced journal s
+
+module _ (journal : Journal) (s : DriverState) (x : ArePlaced journal s) where
+  value_of : (e : DriverEntry) → Stands s e → IsPlacedValue journal e.value
+  value_of e stands = (All-contains (IsPlacedEntry journal s.listeners) s.table.entries e x.entries stands.contains).value
+
+  -- What a connection owes is put.
+  pays : (what : Owed) (e : DriverEntry) → IsTable s.table → Stands s e → owes_of e.value.end ≡ Some what → ArePlaced journal (after_paying what e s)
+  pays owed.Rst e sound stands owes = leaving journal s x e e.value sound stands refl (value_of e stands)
+  pays what e sound stands owes = alters journal s x e (paid_connection what e.value) stands refl (paid_value journal e.value what owes (value_of e stands))
+
+  -- A packet of a connection, which isn't refused.
+  module _ (p : Packet) (e : DriverEntry) (sound : IsTable s.table) (stands : Stands s e) where
+    heard_value : (v : Verdict) → IsPlacedValue journal (after_packet v p e.value)
+    heard_value verdict.Deliver =
+        value_goes journal e.value (after_packet verdict.Deliver p e.value) refl refl refl (got_stands e.value.end p.header) (value_of e stands)
+    heard_value v = value_goes journal e.value (after_packet v p e.value) refl refl refl (got_stands e.value.end p.header) (value_of e stands)
+
+    peers : (b : Bool) → let c = after_packet verdict.Peer p e.value in
+        ArePlaced journal (cond b (after_leaving (record e { value = c }) s) (with_connection e.slot c s))
+    peers true = leaving journal s x e (after_packet verdict.Peer p e.value) sound stands refl (heard_value verdict.Peer)
+    peers false = alters journal s x e (after_packet verdict.Peer p e.value) stands refl (heard_value verdict.Peer)
+
+    by_verdict : (v : Verdict) → is_refused v ≡ false → ArePlaced journal (after_verdict v p e s)
+    by_verdict (verdict.Rst why) taken = absurd cc
+    by_verdict verdict.Peer taken = peers (is_reset p.header)
+    by_verdict verdict.Deliver taken = alters journal s x e (after_packet verdict.Deliver p e.value) stands refl (heard_value verdict.Deliver)
+    by_verdict v taken = alters journal s x e (after_packet v p e.value) stands refl (heard_value v)
+
+  -- A REQUEST opens a connection, which waits on its port.
+  parts : (a b c d e : Bool) → (a && b && c && d && e) ≡ true → (b ≡ true) × (c ≡ true)
+  parts = grind (arith, common_steps)
+
+  placed_some : (o : Option Listener) → elim o [ None ↦ false | Some l ↦ nat_lt (length l.waiting) WAITING ] ≡ true → is_some o ≡ true
+  placed_some None is = absurd cc
+  placed_some (Some l) is = refl
+
+  requests : (f : Flow) (h : Header) → may_open f s ≡ true → ArePlaced journal (with_request f h s)
+  requests f h may =
+      let is = parts (is_host f) (is_assigned f.host) (has_place f.guest s.listeners) (not (is_full s)) (nat_le s.next_id LAST_ID) may in
+      let c : DriverConnection = record { id = s.next_id; end = answering Stream BUF_ALLOC h; unread = []; unanswered = true; closed = false } in
+      let ms : List Listener = with_waiting f.guest (λ ws. ws ++ s.next_id ∷ []) s.listeners in
+      opening journal s x f c refl s.next_port ms (omega arith) (λ mine. let no : true ≡ false = sym is.0 ∙ mine in absurd cc)
+      (λ p i there. waits_kept p i f.guest (λ ws. ws ++ s.next_id ∷ []) (stays_behind i s.next_id) s.listeners there)
+      (ports_kept (λ p. was_listened p journal ≡ true) f.guest (λ ws. ws ++ s.next_id ∷ []) s.listeners x.ports) (record {
+        known = or_second (was_given s.next_id journal) _ (or_second (was_closed s.next_id journal) _
+            (waits_now f.guest s.next_id s.listeners (placed_some (listener_on f.guest s.listeners) is.1)));
+        own = λ mine. let no : true ≡ false = sym is.0 ∙ mine in absurd cc;
+      }) refl (λ on. refl)
+
+  unknown : (p : Packet) → ArePlaced journal (on_unknown p s)
+  unknown p = by (is_reset p.header) (is_request p.header) (may_open (flow_got Driver p) s) refl
+    where
+      by : (r q o : Bool) → may_open (flow_got Driver p) s ≡ o
+          → ArePlaced journal (cond r s (cond (q && o) (with_request (flow_got Driver p) p.header s) (with_reply (reply_to (flow_got Driver p) p.header) s)))
+      by true q o may = x
+      by false true true may = requests (flow_got Driver p) p.header may
+      by false true false may = x
+      by false false o may = x
+
+-- A packet that is got.
+packet_placed : (first : ℕ) (journal : Journal) (p : Packet) (s : DriverState) (log : Log) → IsFitState s → Matches Driver first (ends_of_state s) log
+    → IsFairLog Driver (GotPacket p ∷ log) → ArePlaced journal s → ArePlaced journal (on_packet p s)
+packet_placed first journal p s log fits m fair x = drop_by (is_dropped Driver s.cid p.header)
+  where
+    known : (e : DriverEntry) → Stands s e → flow_got Driver p ≡ e.flow → ArePlaced journal (on_known p e s)
+    known e stands same =
+        let has : HasEnd (flow_got Driver p) e.value.end (ends_of_state s) =
+        subst (λ (g : Flow). HasEnd g e.value.end (ends_of_state s)) (sym same) (has_end s e fits stands) in
+        let host : (flow_got Driver p).peer ≡ HOST_CID = ap (λ (g : Flow). g.peer) same ∙ (entry_fits s e fits stands).peer in
+        by_verdict journal s x p e fits.sound stands (verdict_of e.value.end p.header)
+        (got_not_refused Driver first p e.value.end (ends_of_state s) log m.flows has (fair (flow_got Driver p)) (heard_all first (flow_got Driver p) log host))
+
+    found : (o : Option DriverEntry) → entry_of s.table (flow_got Driver p) ≡ o → ArePlaced journal (on_heard p s)
+    found None none = subst (λ (t : DriverState). ArePlaced journal t) (sym (packet_unknown p s none)) (unknown journal s x p)
+    found (Some e) is =
+        let passes = found_by (λ (y : DriverEntry). same_flow (flow_got Driver p) y.flow) s.table.entries e is in
+        let stands : Stands s e = record { under = found_under _ s.table e fits.sound is; contains = passes.0 } in
+        subst (λ (t : DriverState). ArePlaced journal t) (sym (packet_known p s e is)) (known e stands (same_is (flow_got Driver p) e.flow passes.1))
+
+    drop_by : (b : Bool) → ArePlaced journal (cond b s (on_heard p s))
+    drop_by true = x
+    drop_by false = found (entry_of s.table (flow_got Driver p)) refl
+
+-- A transport reset: all leave.
+all_placed : (journal : Journal) (es : List DriverEntry) (s : DriverState) → s.table.entries ≡ es → IsFitState s → ArePlaced journal s
+    → ArePlaced journal (all_left es s)
+all_placed journal [] s is fits x = x
+all_placed journal (e ∷ es) s is fits x =
+    let P : List DriverEntry → Type 0 = λ xs. IsRising xs in
+    let rising : P (e ∷ es) = subst P is fits.sound.rising in
+    let first : slice_get s.table.entries 0 ≡ Some e = ap (λ (xs : List DriverEntry). slice_get xs 0) is in
+    let stands : Stands s e = record { under = first_under s.table e fits.sound first; contains = first_contained e es s.table.entries is } in
+    let l = leaves s e e.value fits stands in
+    let m : DriverState = after_leaving e s in
+    let table_is : m.table.entries ≡ es = ap (λ (xs : List DriverEntry). filter (λ x. not (x.slot == e.slot)) xs) is ∙ others_left e es rising in
+    all_placed journal es (with_reply (reset_reply e) m) table_is (with_reply_fits m (reset_reply e) l.fits (entry_fits s e fits stands).ports)
+    (leaving journal s x e e.value fits.sound stands refl (value_of journal s x e stands))
+
+poll_places : (first : ℕ) (journal : Journal) → Carries first (places journal)
+poll_places first journal = record {
+  owed = λ what e s log fits stands owes m was fair x. pays journal s x what e fits.sound stands owes;
+  reply = λ r rest s log fits is m fair x. x;
+  got = λ p s log fits ports whole m was fair x. packet_placed first journal p s log fits m fair x;
+  event = λ id s log x. x;
+  reset = λ cid s log less fits x. all_placed journal s.table.entries (record s { cid = cid }) refl (with_cid cid s less fits) x;
+}
+
+-- A call of an app's is no unlisten. What is noted of it, and the flow of the connection that it was given.
+abbrev pub IsOfApps : GuestCall → Type 0
+IsOfApps (Unlisten port) = ⊥
+IsOfApps call = Unit {0}
+
+abbrev pub noted : (call : GuestCall) → ReplyTo call → Journal → Journal
+noted call reply journal = with_noted (made_as call reply ∷ []) journal
+
+abbrev pub NamesIt : (call : GuestCall) → ReplyTo call → DriverState → Type 0
+NamesIt call reply s = (id : ℕ) → given_by call reply ≡ Some id → IsSome (flow_of id s)
+
+abbrev pub places_after : Journal → (call : GuestCall) → ReplyTo call → Fact
+places_after journal call reply part s log = ArePlaced (noted call reply journal) s × NamesIt call reply s
+
+module _ (journal : Journal) where
+  silent : (call : GuestCall) (reply : ReplyTo call) (s : DriverState) → closed_by call reply ≡ None → ArePlaced journal s → ArePlaced (noted call reply journal) s
+  silent call reply s none x = by (wait_of (told_of (made_as call reply)))
+    where
+      by : (o : Option WaitsFor) → ArePlaced (elim o as (λ _. Journal) [ None ↦ made_as call reply ∷ journal | Some why ↦ journal ]) s
+      by None = goes_on journal (made_as call reply) s x none
+      by (Some why) = x
+
+  -- connect.
+  last_found : (q : DriverEntry → Bool) (es : List DriverEntry) (e : DriverEntry) → q e ≡ true → (flow : Option Flow)
+      → IsSome (elim (find q (es ++ e ∷ [])) [ None ↦ flow | Some y ↦ Some y.flow ])
+  last_found q [] e is flow = by (q e) is
+    where
+      by : (b : Bool) → b ≡ true → IsSome (elim (cond b (Some e) None) [ None ↦ flow | Some y ↦ Some y.flow ])
+      by true so = tt
+      by false so = absurd cc
+  last_found q (y ∷ ys) e is flow = by (q y) (last_found q ys e is flow)
+    where
+      by : (b : Bool) → IsSome (elim (find q (ys ++ e ∷ [])) [ None ↦ flow | Some z ↦ Some z.flow ])
+          → IsSome (elim (cond b (Some y) (find q (ys ++ e ∷ []))) [ None ↦ flow | Some z ↦ Some z.flow ])
+      by true rest = tt
+      by false rest = rest
+
+  connects : (host : ℕ) (s : DriverState) → ArePlaced journal s → ArePlaced (made_as (Connect host) (Ok s.next_id) ∷ journal) (connected host s)
+  connects host s x =
+      let m : Made = made_as (Connect host) (Ok s.next_id) in
+      let c : DriverConnection = record { id = s.next_id; end = paid_of (asked Stream BUF_ALLOC) owed.Request; unread = []; unanswered = false; closed = false } in
+      let was = goes_on journal m s x refl in
+      let given : was_given s.next_id (m ∷ journal) ≡ true = or_first (s.next_id == s.next_id) (was_given s.next_id journal) (eq-eqb s.next_id s.next_id refl) in
+      opening (m ∷ journal) s was (next_flow host s) c refl (s.next_port + 1) s.listeners (omega arith) (λ mine. omega arith) (λ p i there. there) was.ports
+      (record { known = or_first (was_given s.next_id (m ∷ journal)) _ given; own = λ mine. given }) refl (λ no. absurd cc)
+
+  -- accept.
+  accepts : (port : ℕ) (s : DriverState) (log : Log) → ArePlaced journal s → (b : Bool) (o : Option ℕ) → (b ≡ false → o ≡ None)
+      → ((id : ℕ) → o ≡ Some id → IsSome (flow_of id s))
+      → Holds (places_after journal (Accept port) (cond b (elim o as (λ _. Accepted) [ None ↦ accepted.None | Some id ↦ accepted.Conn id ]) accepted.NotListening))
+      (elim o as (λ _. DriverState) [ None ↦ s | Some id ↦ record s { listeners = with_waiting port (without_id id) s.listeners } ]) log
+  accepts port s log x true None none some = (x, λ id no. absurd cc)
+  accepts port s log x false None none some = (goes_on journal (made_as (Accept port) accepted.NotListening) s x refl, λ id no. absurd cc)
+  accepts port s log x false (Some id) none some = let no : Some id ≡ None = none refl in absurd cc
+  accepts port s log x true (Some id) none some =
+      let m : Made = made_as (Accept port) (accepted.Conn id) in
+      let known : (i : ℕ) → i ≡ id → (was_given i (m ∷ journal) || was_closed i (m ∷ journal)) ≡ true =
+      λ i same. or_first (was_given i (m ∷ journal)) _ (or_first (i == id) (was_given i journal) (eq-eqb i id same)) in (
+        waits_less (m ∷ journal) s (goes_on journal m s x refl) port id (λ k d less same. known _ same) (λ k d less same. known _ same),
+        λ i is. subst (λ (n : ℕ). IsSome (flow_of n s)) (same_Some id i is) (some id refl),
+      )
+
+  -- close.
+  record IsOver (c : DriverConnection) (d : DriverConnection) : Type 0 where
+    id : d.id ≡ c.id
+    closed : d.closed ≡ true
+    shut : stands_closed d.end.state d.end.own ≡ true
+    waits : d.unanswered ≡ true → stands_unanswered d.end.state ≡ true
+
+  closed_live : (e : ConnectionEnd) → e.state ≡ state.Live → stands_closed (with_shut e 3).state (with_shut e 3).own ≡ true
+  closed_live e live = grind (arith, common_steps, live)
+
+  closed_so : (c : DriverConnection) → IsPlacedValue journal c → (st : State) → c.end.state ≡ st → IsOver c (after_closing st c)
+  closed_so c value state.Live is =
+      record { id = refl; closed = refl; shut = closed_live c.end is; waits = λ so. (shut_stands c.end 3).unanswered (value.waits so) }
+  closed_so c value st is = record { id = refl; closed = refl; shut = refl; waits = λ so. refl }
+
+  known : (id : ℕ) (i : ℕ) → i ≡ id → (was_given i (made_as (Close id) closed.Done ∷ journal) || was_closed i (made_as (Close id) closed.Done ∷ journal)) ≡ true
+  known id i same = or_second (was_given i (made_as (Close id) closed.Done ∷ journal)) _ (or_first (i == id) (was_closed i journal) (eq-eqb i id same))
+
+  shuts : (id : ℕ) (s : DriverState) → IsFitState s → ArePlaced journal s → (o : Option DriverEntry) (q : Option GoneConnection) → entry_known_as id s ≡ o
+      → gone_known_as id s ≡ q
+      → ArePlaced (noted (Close id) (cond (is_some o || is_some q) closed.Done closed.Unknown) journal) (elim o as (λ _. DriverState) [
+        | Some e ↦ entry_closed e s
+        | None ↦ elim q as (λ _. DriverState) [
+          | None ↦ s
+          | Some g ↦ record s { gone = without_gone id s.gone; listeners = with_waiting g.flow.guest (without_id id) s.listeners }
+        ]
+      ])
+  shuts id s fits x None None at left = goes_on journal (made_as (Close id) closed.Unknown) s x refl
+  shuts id s fits x None (Some g) at left =
+      let m : Made = made_as (Close id) closed.Done in
+      let place = find_place (λ (h : GoneConnection). h.id == id) s.gone g left in
+      let named : g.id ≡ id = eqb-true g.id id (found_passes (λ (h : GoneConnection). h.id == id) s.gone g left) in
+      let there = gone_there s.gone g place.0 place.1 in
+      let less : id < s.next_id = subst (λ (n : ℕ). n < s.next_id) named (All-contains (λ (h : GoneConnection). h.id < s.next_id) s.gone g x.numbers.below there) in
+      let apart = All-contains (λ (h : GoneConnection). All (λ (e : DriverEntry). e.value.id ≢ h.id) s.table.entries) s.gone g x.numbers.apart there in
+      let t : DriverState = record s { gone = without_gone id s.gone } in
+      let now = closes_gone journal m t (gone_less journal s x (λ h. not (h.id == id))) id refl
+      (λ k d within same. other _ (filter_passes (λ (h : GoneConnection). not (h.id == id)) s.gone k d within) same) less
+      (λ k d within same. absurd (apart k d within (same ∙ sym named))) in
+      waits_less (m ∷ journal) t now g.flow.guest id (λ k d within same. known id _ same) (λ k d within same. known id _ same)
+    where
+      gone_there : (gs : List GoneConnection) (h : GoneConnection) (i : ℕ) → slice_get gs i ≡ Some h → Contains gs h
+      gone_there gs h i is = (i, slice_get_within gs i h is, get_or_from_slice_get gs i h h is)
+
+      other : (i : ℕ) → not (i == id) ≡ true → i ≢ id
+      other i differ same = absurd (grind (arith, nat_tests, differ, same))
+  shuts id s fits x (Some e) q at left =
+      let m : Made = made_as (Close id) closed.Done in
+      let stands = stands_known id s e fits at in
+      let found = found_passes (is_known_as id) s.table.entries e at in
+      let named : e.value.id ≡ id = eqb-true e.value.id id (and_parts (e.value.id == id) (not e.value.closed) found).0 in
+      let so = closed_so e.value (value_of journal s x e stands) e.value.end.state refl in
+      let t : DriverState = with_connection e.slot (after_closing e.value.end.state e.value) s in
+      let mine : e.value.id ≡ 1 + e.slot = All-contains (HasId 1) s.table.entries e x.numbers.slots stands.contains in
+      let less : id < s.next_id =
+      let under = All-contains (λ (y : DriverEntry). y.slot < s.table.given) s.table.entries e fits.sound.were_given stands.contains in
+      let given = x.numbers.given in omega (arith, under, given, mine, named) in
+      let now = closes_entry journal m s x id refl
+      (λ k d within same. All-contains (λ (y : DriverEntry). y.value.id ≢ (get_or s.gone k d).id) s.table.entries e (x.numbers.apart k d within)
+      stands.contains (named ∙ sym same)) less e (after_closing e.value.end.state e.value) stands named so.id so.closed so.shut so.waits in
+      waits_less (m ∷ journal) t now e.flow.guest e.value.id (λ k d within same. known id _ (same ∙ named)) (λ k d within same. known id _ (same ∙ named))
+
+  -- All others change the end of a connection at most.
+  another : (s : DriverState) → ArePlaced journal s → (e : DriverEntry) (d : ConnectionEnd) → Stands s e → StandsOn e.value.end d → (unread : List ℕ)
+      → ArePlaced journal (with_connection e.slot (record e.value { end = d; unread = unread }) s)
+  another s x e d stands goes unread =
+      alters journal s x e (record e.value { end = d; unread = unread }) stands refl
+      (value_goes journal e.value (record e.value { end = d; unread = unread }) refl refl refl goes (value_of journal s x e stands))
+
+  receives : (id n : ℕ) (s : DriverState) → IsFitState s → ArePlaced journal s → (o : Option DriverEntry) → entry_known_as id s ≡ o
+      → ArePlaced journal (elim o as (λ _. DriverState) [ Some e ↦ entry_read n e s | None ↦ record s { gone = all_gone_after_read id n s.gone } ])
+  receives id n s fits x None at = reading journal s x id n
+  receives id n s fits x (Some e) at = by (length e.value.unread == 0)
+    where
+      by : (b : Bool) → ArePlaced journal (cond b s (with_connection e.slot (after_read n e.value) s))
+      by true = x
+      by false = another s x e (after_read n e.value).end (stands_known id s e fits at) (forwarded_stands e.value.end _) (after_read n e.value).unread
+
+  shutting : (id bits : ℕ) (s : DriverState) → IsFitState s → ArePlaced journal s → (o : Option DriverEntry) → entry_known_as id s ≡ o
+      → ArePlaced journal (elim o as (λ _. DriverState) [ Some e ↦ shut_in e.value.end.state bits e s | None ↦ s ])
+  shutting id bits s fits x None at = x
+  shutting id bits s fits x (Some e) at = by e.value.end.state
+    where
+      by : (st : State) → ArePlaced journal (shut_in st bits e s)
+      by state.Live = another s x e (after_shut bits e.value).end (stands_known id s e fits at) (shut_stands e.value.end bits) (after_shut bits e.value).unread
+      by st = x
+
+  growing : (id alloc : ℕ) (s : DriverState) → IsFitState s → ArePlaced journal s → (o : Option DriverEntry) → entry_known_as id s ≡ o
+      → ArePlaced journal (elim o as (λ _. DriverState) [ Some e ↦ grown_by (entry_grow_answer alloc e) alloc e s | None ↦ s ])
+  growing id alloc s fits x None at = x
+  growing id alloc s fits x (Some e) at = by (entry_grow_answer alloc e)
+    where
+      by : (a : Grown) → ArePlaced journal (grown_by a alloc e s)
+      by rise.Done = another s x e (grown e.value.end alloc) (stands_known id s e fits at) (record { closed = λ is. is; unanswered = λ is. is }) e.value.unread
+      by a = x
+
+  call_places : (first : ℕ) (call : GuestCall) → IsOfApps call → CarriesCall first call (places journal) (places_after journal call)
+  call_places first (Connect port) apps = record {
+    refused = λ why s log x. (silent (Connect port) (Err why) s refl x, λ id no. absurd cc);
+    opens = λ s log fits free m was fair x. (
+      connects port s x,
+      λ id is. subst (λ (n : ℕ). IsSome (flow_of n (connected port s))) (same_Some s.next_id id is)
+          (last_found (is_known_as s.next_id) s.table.entries
+          (record { slot = s.table.given; flow = next_flow port s; value = record { id = s.next_id; end = paid_of (asked Stream BUF_ALLOC) owed.Request; unread = []; unanswered = false; closed = false } })
+          (ap (λ (b : Bool). b && true) (eq-eqb s.next_id s.next_id refl)) _),
+    );
+  }
+  call_places first (Send id bytes) apps = record {
+    stopped = λ why s log x. unsent (send_stopped why) s x;
+    unknown = λ s log none x. unsent (not_sent id s) s x;
+    empty = λ s log x. unsent (sent.Took 0) s x;
+    full = λ n s log x. unsent (sent.NoDescriptor n) s x;
+    wants = λ e s log fits stands m x. unsent (no_credit e.value.end) (with_end (wanting_credit e.value.end) e s)
+        (another s x e (wanting_credit e.value.end) stands (record { closed = λ is. is; unanswered = λ is. is }) e.value.unread);
+    sends = λ e n s log fits stands known can few m was fair x. let d = with_payload_sent e.value.end (length (take n bytes)) in
+        unsent (sent.Took (length (take n bytes))) (with_end d e s) (another s x e d stands (record { closed = λ is. is; unanswered = λ is. is }) e.value.unread);
+  }
+    where
+      unsent : (answer : Sent) (s : DriverState) → ArePlaced journal s → ArePlaced (noted (Send id bytes) answer journal) s × NamesIt (Send id bytes) answer s
+      unsent answer s x = (silent (Send id bytes) answer s refl x, λ i no. absurd cc)
+  call_places first (Listen port) apps = λ s log fits m x. (by s x (listen_of port s), λ i no. absurd cc)
+    where
+      by : (s : DriverState) → ArePlaced journal s → (r : Result (Unit {0}) ListenError)
+          → ArePlaced (noted (Listen port) r journal) (elim r as (λ _. DriverState) [ Ok y ↦ listening port s | Err why ↦ s ])
+      by s x (Ok y) =
+          listens (made_as (Listen port) (Ok y) ∷ journal) s (goes_on journal (made_as (Listen port) (Ok y)) s x refl) port
+          (or_first (port == port) (was_listened port journal) (eq-eqb port port refl))
+      by s x (Err why) = goes_on journal (made_as (Listen port) (Err why)) s x refl
+  call_places first (Unlisten port) apps = absurd apps
+  call_places first (Accept port) apps = λ s log fits m x.
+      accepts port s log x (is_some (listener_on port s.listeners)) (next_accepted port s) (none_on port s (listener_on port s.listeners)) (answered port s (listener_on port s.listeners))
+    where
+      none_on : (port : ℕ) (s : DriverState) (o : Option Listener) → is_some o ≡ false
+          → elim o as (λ _. Option ℕ) [ None ↦ None | Some l ↦ find (is_answered s) l.waiting ] ≡ None
+      none_on port s None none = refl
+      none_on port s (Some l) none = absurd cc
+
+      flowed : (o : Option DriverEntry) (q : Option GoneConnection) → elim o as (λ _. Bool) [ None ↦ is_some q | Some e ↦ not e.value.unanswered ] ≡ true
+          → IsSome (elim o as (λ _. Option Flow) [ None ↦ option_map (λ g. g.flow) q | Some e ↦ Some e.flow ])
+      flowed (Some e) q is = tt
+      flowed None (Some g) is = tt
+      flowed None None is = absurd cc
+
+      answered : (port : ℕ) (s : DriverState) (o : Option Listener) (id : ℕ)
+          → elim o as (λ _. Option ℕ) [ None ↦ None | Some l ↦ find (is_answered s) l.waiting ] ≡ Some id → IsSome (flow_of id s)
+      answered port s None id is = absurd cc
+      answered port s (Some l) id is = flowed (entry_known_as id s) (gone_known_as id s) (found_passes (is_answered s) l.waiting id is)
+  call_places first (Recv id n) apps = λ s log fits m x.
+      (silent (Recv id n) _ (after_recv id n s) refl (receives id n s fits x (entry_known_as id s) refl), λ i no. absurd cc)
+  call_places first (Shutdown id bits) apps = λ s log fits m x.
+      (silent (Shutdown id bits) _ (after_shutdown id bits s) refl (shutting id bits s fits x (entry_known_as id s) refl), λ i no. absurd cc)
+  call_places first (Grow id alloc) apps = λ s log fits m x.
+      (silent (Grow id alloc) _ (after_grow id alloc s) refl (growing id alloc s fits x (entry_known_as id s) refl), λ i no. absurd cc)
+  call_places first (Close id) apps = λ s log fits m x. (shuts id s fits x (entry_known_as id s) (gone_known_as id s) refl refl, λ i no. absurd cc)
+  call_places first (LookAt id) apps = λ s log fits m x. (silent (LookAt id) (state_of id s) s refl x, λ id no. absurd cc)
+
+module _ (first n : ℕ) (journal : Journal) (entries : List Entry) (s : DriverState) (c d : RingContents) (honest : IsHonestWith first s c)
+    (was : ArePlacedWith n journal entries s c) where
+  pub call_placed : (call : GuestCall) (x : DriverState × ReplyTo call) → IsOfApps call → is_right call ≡ true → Plays (whole_call call s) c x d
+      → (on : d.honest ≡ true) (m : EndLog) → d.log ≡ Some m → ArePlaced (noted call x.1 journal) x.0 × NamesIt call x.1 x.0 × AreOwned n entries
+  call_placed call x apps right plays on m is =
+      let before = told_before (whole_call call s) c d x plays m is in
+      let then = was (sym (honest_stays (whole_call call s) c d x plays) ∙ on) before.0 before.1 in
+      let kept : Rests first (places_after journal call x.1) x.0 d =
+      keeps_end _ (whole_call call s) c d x (whole_with first s c call (places journal) (places_after journal call) right (call_places journal first call apps)
+      (begins first (places journal) s c before.0 before.1 then.0 honest)) plays in
+      ((kept on m is).1.0, (kept on m is).1.1, then.1)
+
+  pub poll_placed : (x : DriverState × Polled) → Plays (poll_of s) c x d → ArePlacedWith n journal entries x.0 d
+  poll_placed x plays = λ on m is.
+      let before = told_before (poll_of s) c d x plays m is in
+      let then = was (sym (honest_stays (poll_of s) c d x plays) ∙ on) before.0 before.1 in
+      let kept : Rests first (places journal) x.0 d =
+      keeps_end _ (poll_of s) c d x (poll_keeps first (places journal) (poll_places first journal) s c
+      (begins first (places journal) s c before.0 before.1 then.0 honest)) plays in
+      ((kept on m is).1, then.1)
+
+pub new_placed : (n size port : ℕ) (c d : RingContents) (s : DriverState) → port ≤ LAST_PORT → IsFresh c → Plays (new_of size port 1) c s d
+    → ArePlacedWith n [] [] s d
+new_placed n size port c d s fits fresh plays = λ on l is. ((kept on l is).1, tt)
+  where
+    empty : (cid : ℕ) → ArePlaced [] (record (new_state size port 1 0) { cid = cid })
+    empty cid = record {
+      numbers = record {
+        given = refl;
+        slots = λ i e within. absurd (omega (arith, within));
+        below = λ i e within. absurd (omega (arith, within));
+        apart = λ i e within. absurd (omega (arith, within));
+        distinct = λ i j e less within. absurd (omega (arith, within));
+        ports = λ i e within. absurd (omega (arith, within));
+      };
+      entries = λ i e within. absurd (omega (arith, within));
+      gone = λ i e within. absurd (omega (arith, within));
+      below = λ id is. absurd cc;
+      ports = λ i e within. absurd (omega (arith, within));
+    }
+
+    kept : Rests s.cid (places []) s d
+    kept =
+        keeps_end (λ t e. Rests t.cid (places []) t e) (new_of size port 1) c d s (new_keeps size port 1 fits (places []) empty c fresh) plays
