@@ -8,12 +8,12 @@ use Rattle.vs_driver_parts.specs.{Conversations.{new_of, poll_of}, Playing.Plays
 use Rattle.laws_driver.specs.Honest.{IsFresh, IsHonestWith}
 use Rattle.laws_driver.proofs.{Calls.new_keeps, Carrying.Fact, Going.Goes, Going.MayDo, Going.MayDoAll, Going.done, Going.seat, Going.stays}
 use Rattle.laws_driver.proofs.{Keeping.keeps_end, Polling.poll_keeps, Staging.Rests, Walking.goes_from, Walking.poll_goes}
-use Rattle.laws_driver_bytes.specs.Calls.{GuestCall, ReplyTo, is_right, whole_call}
-use Rattle.laws_driver_bytes.proofs.{Growing.honest_stays, Making.call_goes, Making.whole_with, Sending.begins}
-use Rattle.laws_asked.specs.Asked.{AskOnce, Does}
-use Rattle.laws_asked.proofs.Asking.{begins_once, step_once}
+use Rattle.laws_driver.specs.Carried.Calls.{GuestCall, ReplyTo, is_right, whole_call}
+use Rattle.laws_driver.proofs.Carried.{Growing.honest_stays, Making.call_goes, Making.whole_with, Sending.begins}
+use Rattle.laws_tables.specs.Asked.{AskOnce, Does}
+use Rattle.laws_tables.proofs.Asking.{begins_once, step_once}
 use Rattle.laws_apps.specs.Asked.{AsksOnceWith}
-use Rattle.laws_driver_bytes.proofs.Righting.{told_before}
+use Rattle.laws_driver.proofs.Carried.Righting.{told_before}
 
 does : (step : Step) (w : Seat) → MayDo step w → Does Driver step w
 does (Opens f kind) w may = may.1

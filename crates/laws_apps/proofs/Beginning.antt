@@ -9,11 +9,11 @@ use Rattle.vs_driver_parts.specs.{Conversations.new_of, Playing.Plays, State.Dri
 use Rattle.laws_driver.specs.Honest.{IsFresh, slots_of}
 use Rattle.laws_driver.proofs.{Calls.new_honest, Calls.new_keeps, Carrying.Fact, Keeping.keeps_end, Staging.Rests}
 use Rattle.laws_rest.proofs.Routes.{new_routed}
-use Rattle.laws_driver_bytes.specs.Received.{AreReceived, no_account}
-use Rattle.laws_driver_bytes.proofs.Connecting.{none_received}
+use Rattle.laws_driver.specs.Carried.Received.{AreReceived, no_account}
+use Rattle.laws_driver.proofs.Carried.Connecting.{none_received}
 use Rattle.vs_apps_parts.specs.{Scripts.IsPlayed, Scripts.RunScript, Scripts.acts_of, declared.progress.AppState.AppState}
 use Rattle.laws_apps.proofs.{Asked.new_asks, Placing.new_placed, Tracing.new_traced}
-use Rattle.laws_driver_bytes.specs.Senders.{IsSent}
+use Rattle.laws_driver.specs.Carried.Senders.{IsSent}
 use Rattle.laws_apps.specs.{Accounts.IsAccounted, Runs.IsRunOf, Runs.no_app}
 
 none_put : (side : Side) (k : ℕ) → payload_of (instance_from side k []) ≡ []

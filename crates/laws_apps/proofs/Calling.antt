@@ -5,11 +5,11 @@ use Rattle.vs_ring_port.specs.{Contents.RingContents, EndLog.EndLog}
 use Rattle.vs_driver_parts.specs.{Conversations.poll_of, Playing.Plays, State.DriverState, declared.answers.Polled.Polled}
 use Rattle.laws_driver.specs.Honest.{IsHonestWith, slots_of}
 use Rattle.laws_driver.proofs.{Keeping.keeps_end, Ringing.agrees, Staging.Rests}
-use Rattle.laws_driver_bytes.specs.Calls.{GuestCall, Journal, ReplyTo, account_of, is_right, whole_call, with_call}
-use Rattle.laws_driver_bytes.specs.Senders.{IsRightJournal}
-use Rattle.laws_driver_bytes.proofs.{Growing.honest_stays, Making.{at_first, call_sent, sent_with, whole_with}, Sending.begins}
-use Rattle.laws_driver_bytes.proofs.Righting.{call_righted, poll_righted, told_before}
-use Rattle.laws_driver_bytes.specs.Calls as call
+use Rattle.laws_driver.specs.Carried.Calls.{GuestCall, Journal, ReplyTo, account_of, is_right, whole_call, with_call}
+use Rattle.laws_driver.specs.Carried.Senders.{IsRightJournal}
+use Rattle.laws_driver.proofs.Carried.{Growing.honest_stays, Making.{at_first, call_sent, sent_with, whole_with}, Sending.begins}
+use Rattle.laws_driver.proofs.Carried.Righting.{call_righted, poll_righted, told_before}
+use Rattle.laws_driver.specs.Carried.Calls as call
 use Rattle.laws_rest.specs.Rest.{IsRoutedWith}
 use Rattle.laws_rest.proofs.Routes.{connect_routed, send_routed}
 use Rattle.vs_flow.specs.Connection.{Connection}

@@ -4,8 +4,8 @@ use Rattle.std.proofs.Common.{Some, None, refl, sym, ap, ◌∙◌, append_assoc
 use Rattle.std.proofs.lemmas.List.{take-append-le, drop-append-le, length-drop}
 use Rattle.std.specs.{Prelude.slice_get, Option.unwrap_or}
 use Rattle.vs_driver_parts.specs.Connections.{got_count}
-use Rattle.laws_driver_bytes.specs.Calls.{Journal, Made}
-use Rattle.laws_driver_bytes.specs.Calls as call
+use Rattle.laws_driver.specs.Carried.Calls.{Journal, Made}
+use Rattle.laws_driver.specs.Carried.Calls as call
 use Rattle.vs_apps_parts.specs.Journals.{AllStandIn, StandsIn, calls_of, calls_of_app, ends_at, entry_called, entry_waited, gathered}
 use Rattle.vs_apps_parts.specs.Journals.{made_as, made_by, made_by_app, made_of, one_more, times_at, times_in, wait_noted, waited_before}
 use Rattle.vs_apps_parts.specs.{Scripts.RunScript, Scripts.slice_of, declared.journal.Called.Called, declared.journal.Deed.Deed}

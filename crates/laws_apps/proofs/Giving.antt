@@ -2,8 +2,8 @@
 use Rattle.std.proofs.Common.{◌≡◌, ◌||◌, ◌==◌, nat_lt, ℕ, Bool, true, false, cond, List, [], ◌∷◌, ◌++◌, Option, Some, None, refl, sym, ap, ◌∙◌}
 use Rattle.std.{proofs.lemmas.Bool.eq-eqb, specs.Option.option_or}
 use Rattle.vs_script.specs.{App.{Act, Connect, Listen, Accept, Send, Recv, Drain, Exchange, Shutdown, Grow, Close}, Data.size_of}
-use Rattle.laws_driver_bytes.specs.Calls.{GuestCall, Journal, Made, names}
-use Rattle.laws_driver_bytes.specs.Calls as call
+use Rattle.laws_driver.specs.Carried.Calls.{GuestCall, Journal, Made, names}
+use Rattle.laws_driver.specs.Carried.Calls as call
 use Rattle.vs_apps_parts.specs.{Journals.{calls_of, calls_of_app, made_by}, declared.journal.Entry.Entry}
 use Rattle.vs_apps_parts.specs.Scripts.{Follows, RunScript, all_counted, all_noted, begun, calls_next, counted, id_of, is_complete, on_to_next, recv_next, send_next}
 use Rattle.vs_apps_parts.specs.{Scripts.told_in, Scripts.with_noted, Told.{is_any_end, step_wait, told_of, wait_of}}

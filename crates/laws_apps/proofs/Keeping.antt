@@ -6,7 +6,7 @@ use Rattle.std.specs.{Option.unwrap_or, Prelude.slice_index_or}
 use Rattle.vs_driver_parts.specs.{State.DriverState, declared.answers.Polled.Polled}
 use Rattle.laws_driver.proofs.Calls.{poll_honest}
 use Rattle.laws_rest.proofs.Routes.{poll_routed}
-use Rattle.laws_driver_bytes.specs.Calls.{GuestCall, Journal, Made, ReplyTo, Unlisten, bytes_received, flow_accepted, flow_opened, with_call}
+use Rattle.laws_driver.specs.Carried.Calls.{GuestCall, Journal, Made, ReplyTo, Unlisten, bytes_received, flow_accepted, flow_opened, with_call}
 use Rattle.laws_apps.specs.Placed.{AreOwned, ArePlaced, HasItsFlow, IsSome, NamesFlow, accepted_as, asked_as}
 use Rattle.vs_flow.specs.declared.flow.Flow.{Flow}
 use Rattle.vs_driver_parts.specs.{Connections.flow_of, declared.answers.Accepted.Accepted, declared.answers.ConnectError.ConnectError}

@@ -21,7 +21,7 @@ use Rattle.vs_driver_parts.specs.Receiving.{on_known, on_packet, on_unknown, res
 use Rattle.vs_wrap.specs.Wrap.{counted}
 use Rattle.laws_tables.proofs.Slots.{found_by}
 use Rattle.laws_driver.proofs.{Carrying.Carries, Carrying.Fact}
-use Rattle.laws_driver_bytes.specs.Calls.{Journal, Made, Connect, Listen, Unlisten, Accept, Send, Recv, Shutdown, Grow, Close, LookAt}
+use Rattle.laws_driver.specs.Carried.Calls.{Journal, Made, Connect, Listen, Unlisten, Accept, Send, Recv, Shutdown, Grow, Close, LookAt}
 use Rattle.vs_apps_parts.specs.Told.{told_of}
 use Rattle.laws_apps.specs.Traces.{AllTell, AtId, IsClosing, IsDrained, IsStopped, IsTraced, TellsOf, is_shut, is_touched}
 

@@ -7,8 +7,8 @@ use Rattle.vs_driver_parts.specs.{Connections.{after_close, after_grow, after_sh
 use Rattle.vs_driver_parts.specs.{Listening.{after_accept, listen_of, listening}, Playing.Plays, State.DriverState}
 use Rattle.vs_driver_parts.specs.declared.answers.{Accepted.Accepted, Closed.Closed, ConnectionState.ConnectionState}
 use Rattle.vs_driver_parts.specs.declared.answers.{Grown.Grown, ListenError.ListenError, Shut.Shut}
-use Rattle.laws_driver_bytes.specs.Calls as call
-use Rattle.laws_driver_bytes.specs.Calls.{GuestCall, ReplyTo, bytes_received, is_right, whole_call}
+use Rattle.laws_driver.specs.Carried.Calls as call
+use Rattle.laws_driver.specs.Carried.Calls.{GuestCall, ReplyTo, bytes_received, is_right, whole_call}
 use Rattle.vs_apps_parts.specs.{Journals.{called_noted, ends_at, made_as, made_of}, Scripts.RunScript, Told.{told_by, wait_of}}
 use Rattle.vs_apps_parts.specs.{declared.journal.Called.Called, declared.journal.Entry.Entry, declared.journal.WaitsFor.WaitsFor}
 use Rattle.vs_apps_parts.specs.declared.{progress.AppState.AppState, told.Told.Told}

@@ -13,8 +13,8 @@ use Rattle.vs_driver_parts.specs.declared.answers.ConnectError.TheVariants as re
 use Rattle.vs_driver_parts.specs.declared.answers.ConnectionState.TheVariants as seen
 use Rattle.vs_driver_parts.specs.declared.answers.Received.TheVariants as got
 use Rattle.vs_driver_parts.specs.declared.answers.Sent.TheVariants as sent
-use Rattle.laws_driver_bytes.specs.Calls.{GuestCall, Journal, Made, ReplyTo, names}
-use Rattle.laws_driver_bytes.specs.Calls as call
+use Rattle.laws_driver.specs.Carried.Calls.{GuestCall, Journal, Made, ReplyTo, names}
+use Rattle.laws_driver.specs.Carried.Calls as call
 use Rattle.vs_apps_parts.specs.Scripts.{Follows, all_counted, all_noted, begun, calls_in, calls_next, counted, goes_to, id_of, on_to_next, recv_next, send_next, told_in, with_noted}
 use Rattle.vs_apps_parts.specs.{Scripts.is_complete, Told.{is_any_end, step_wait, told_accept, told_by, told_connect, told_look, told_of, told_recv, told_send, wait_of}}
 use Rattle.vs_apps_parts.specs.declared.{journal.WaitsFor.WaitsFor, progress.Progress.Progress, told.Told.Told}

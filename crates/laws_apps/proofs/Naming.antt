@@ -5,10 +5,10 @@ use Rattle.vs_flow.specs.{Connection.Connection, Flow.same_flow}
 use Rattle.vs_page.specs.Log.{Log}
 use Rattle.vs_page.proofs.Flows.{same_is, same_self}
 use Rattle.vs_driver_parts.specs.Held.{HeldSlots}
-use Rattle.laws_driver_bytes.specs.{Calls.{Journal, bytes_sent, names}, Received.{Account, AreReceived}, Sent.{is_same, only_on}}
+use Rattle.laws_driver.specs.Carried.{Calls.{Journal, bytes_sent, names}, Received.{Account, AreReceived}, Sent.{is_same, only_on}}
 use Rattle.vs_apps_parts.specs.Journals.{sent_as}
-use Rattle.laws_driver_bytes.specs.Senders.{AreSenders, IsSender, sent_there, sent_to}
-use Rattle.laws_driver_bytes.proofs.Senders.{only_none}
+use Rattle.laws_driver.specs.Carried.Senders.{AreSenders, IsSender, sent_there, sent_to}
+use Rattle.laws_driver.proofs.Carried.Senders.{only_none}
 
 whole_same : (c d : Connection) → is_same c d ≡ true → c ≡ d
 whole_same c d is = by (same_flow c.flow d.flow) refl (c.number == d.number) refl is

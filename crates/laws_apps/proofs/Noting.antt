@@ -8,13 +8,13 @@ use Rattle.vs_driver_parts.specs.{Connections.unread_of_id, Playing.Plays, State
 use Rattle.vs_driver_parts.specs.declared.answers.Received.TheVariants as recv
 use Rattle.vs_driver_parts.specs.declared.answers.Sent.TheVariants as send
 use Rattle.laws_driver.specs.Honest.{slots_of}
-use Rattle.laws_driver_bytes.specs.Calls.{GuestCall, Journal, Made, ReplyTo, Recv, Send, bytes_received, bytes_sent, names, received_by}
-use Rattle.laws_driver_bytes.specs.{Calls.whole_call, Calls.with_call, Received.AreReceived, Received.bytes_got}
-use Rattle.laws_driver_bytes.proofs.Reading.{given_none}
+use Rattle.laws_driver.specs.Carried.Calls.{GuestCall, Journal, Made, ReplyTo, Recv, Send, bytes_received, bytes_sent, names, received_by}
+use Rattle.laws_driver.specs.Carried.{Calls.whole_call, Calls.with_call, Received.AreReceived, Received.bytes_got}
+use Rattle.laws_driver.proofs.Carried.Reading.{given_none}
 use Rattle.vs_apps_parts.specs.{Journals.made_as, Scripts.with_noted, Told.told_of, Told.wait_of, declared.journal.WaitsFor.WaitsFor}
 use Rattle.vs_apps_parts.specs.declared.journal.Entry.{Entry}
-use Rattle.laws_driver_bytes.specs.Senders.{AreSenders, sent_to}
-use Rattle.laws_driver_bytes.proofs.Senders.{there_none}
+use Rattle.laws_driver.specs.Carried.Senders.{AreSenders, sent_to}
+use Rattle.laws_driver.proofs.Carried.Senders.{there_none}
 use Rattle.laws_apps.specs.Accounts.{IsAccounted}
 
 -- Two journals say the same.

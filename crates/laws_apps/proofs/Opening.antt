@@ -11,7 +11,7 @@ use Rattle.vs_driver_parts.specs.{Connections.flow_of, declared.answers.Accepted
 use Rattle.vs_driver_parts.specs.declared.answers.Accepted.TheVariants as accepted
 use Rattle.laws_tables.proofs.Slots.{found_by}
 use Rattle.laws_driver.specs.Honest.{slots_of}
-use Rattle.laws_driver_bytes.specs.{Calls.{flow_accepted, flow_opened}, Received.{Account, AreReceived, ReceivedOn, ReceivesOn}}
+use Rattle.laws_driver.specs.Carried.{Calls.{flow_accepted, flow_opened}, Received.{Account, AreReceived, ReceivedOn, ReceivesOn}}
 use Rattle.vs_apps_parts.specs.{Journals.entry_waited, declared.journal.{Called.Called, Deed.Deed, Entry.Entry, WaitsFor.WaitsFor}}
 use Rattle.vs_apps_parts.specs.declared.journal.Called.TheVariants as called
 use Rattle.vs_apps_parts.specs.declared.journal.Deed.TheVariants as deed

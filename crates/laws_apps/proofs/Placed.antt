@@ -15,7 +15,7 @@ use Rattle.vs_driver_parts.specs.{Listening.{listener_on, with_port, with_waitin
 use Rattle.vs_driver_parts.specs.State.{DriverConnection, DriverEntry, DriverState, GoneConnection, Listener}
 use Rattle.vs_driver_parts.proofs.{Ids.HasId, Ids.value_of, Numbers.{id_there, numbers_gone_without, numbers_left, numbers_with_entry, numbers_with_value, numbers_without}}
 use Rattle.laws_driver.proofs.Tabling.{Stands}
-use Rattle.laws_driver_bytes.specs.Calls.{Journal, Made, names}
+use Rattle.laws_driver.specs.Carried.Calls.{Journal, Made, names}
 use Rattle.laws_apps.specs.Placed.{ArePlaced, IsPlaced, HasPlaces, IsPlacedEntry, IsPlacedGone, IsPlacedValue, closed_by, given_by, listened_by, stands_closed}
 use Rattle.laws_apps.specs.Placed.{stands_unanswered, waits_at, was_closed, was_given, was_listened}
 

@@ -33,10 +33,10 @@ use Rattle.vs_driver_parts.proofs.{Ids.HasId, Ids.found_under, Packets.first_und
 use Rattle.laws_driver.specs.Honest.{IsFitState, IsFresh, IsHonestWith, ends_of_state}
 use Rattle.laws_driver.proofs.{Calls.new_keeps, Carrying.Carries, Carrying.Fact, Carrying.Holds, Changing.stands_known, Keeping.keeps_end, Polling.poll_keeps, Resetting.first_contained, Resetting.with_cid}
 use Rattle.laws_driver.proofs.{Staging.Rests, Tabling.Stands, Tabling.entry_fits, Tabling.has_end, Tabling.leaves, Taking.with_reply_fits}
-use Rattle.laws_driver_bytes.specs.Calls.{Accept, Close, Connect, Grow, GuestCall, Journal, Listen, LookAt, Made, Recv, ReplyTo, Send, Shutdown, Unlisten}
-use Rattle.laws_driver_bytes.specs.Calls.{is_right, whole_call}
-use Rattle.laws_driver_bytes.proofs.{Growing.honest_stays, Making.CarriesCall, Making.whole_with, Sending.begins}
-use Rattle.laws_driver_bytes.proofs.Righting.{told_before}
+use Rattle.laws_driver.specs.Carried.Calls.{Accept, Close, Connect, Grow, GuestCall, Journal, Listen, LookAt, Made, Recv, ReplyTo, Send, Shutdown, Unlisten}
+use Rattle.laws_driver.specs.Carried.Calls.{is_right, whole_call}
+use Rattle.laws_driver.proofs.Carried.{Growing.honest_stays, Making.CarriesCall, Making.whole_with, Sending.begins}
+use Rattle.laws_driver.proofs.Carried.Righting.{told_before}
 use Rattle.vs_apps_parts.specs.{Journals.made_as, Scripts.with_noted, Told.told_of, Told.wait_of, declared.journal.{Entry.Entry, WaitsFor.WaitsFor}}
 use Rattle.laws_apps.specs.Placed.{AreOwned, ArePlaced, ArePlacedWith, IsSome, IsPlacedEntry, IsPlacedValue, closed_by, given_by, stands_closed, stands_unanswered, was_closed, was_given, was_listened}
 use Rattle.laws_apps.proofs.Placed.{alters, closes_entry, closes_gone, forwarded_stands, gone_less, got_stands, goes_on, leaving, listens, opening, or_first, or_second, StandsOn}

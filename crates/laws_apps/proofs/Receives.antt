@@ -5,8 +5,8 @@ use Rattle.vs_ring_port.specs.Contents.{RingContents}
 use Rattle.vs_driver_parts.specs.{Playing.Plays, State.{DriverState, DriverEntry, GoneConnection, entry_known_as, gone_known_as}}
 use Rattle.vs_driver_parts.specs.Connections.{entry_answer, gone_answer, is_at_end, nothing_read, read_of, recv_of, got_count}
 use Rattle.vs_driver_parts.specs.{Conversations.DriverTree, declared.answers.Received.Received}
-use Rattle.laws_driver_bytes.specs.Calls as call
-use Rattle.laws_driver_bytes.specs.Calls.{whole_call}
+use Rattle.laws_driver.specs.Carried.Calls as call
+use Rattle.laws_driver.specs.Carried.Calls.{whole_call}
 use Rattle.vs_apps_parts.specs.{Journals.{called_noted, made_as, made_of}, Scripts.{RunScript, slice_of}, Told.{wait_of, told_of}}
 use Rattle.vs_apps_parts.specs.{Told.told_recv, declared.journal.Called.Called, declared.journal.Entry.Entry}
 use Rattle.vs_apps_parts.specs.{declared.journal.WaitsFor.WaitsFor, declared.{progress.AppState.AppState, told.Told.Told}}

@@ -1,7 +1,7 @@
 -- The next send of an app, whose data stand in a buffer.
 use Rattle.std.proofs.{Common.{◌≡◌, ◌≤◌, ℕ, List, length, take, sym, ap, subst, ◌∙◌}, lemmas.List.{length-take-le}}
 use Rattle.vs_script.specs.Data.{Content, bytes_of, size_of}
-use Rattle.laws_driver_bytes.specs.Calls as call
+use Rattle.laws_driver.specs.Carried.Calls as call
 use Rattle.vs_apps_parts.specs.Scripts.{RunScript, id_of, send_next, slice_left, slice_of}
 use Rattle.vs_apps_parts.specs.declared.{progress.Progress.Progress, told.Told.Told}
 use Rattle.laws_apps.specs.{Runs.Run, Calls.CallsAs}

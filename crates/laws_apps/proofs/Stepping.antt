@@ -6,8 +6,8 @@ use Rattle.std.specs.{List.All, Option.option_map, Option.unwrap_or, Prelude.sli
 use Rattle.vs_script.specs.{App.{Act, app_view, instruction_view}, declared.app.{App.App, Instruction.Instruction}}
 use Rattle.vs_ring_port.specs.Contents.{RingContents}
 use Rattle.vs_driver_parts.specs.{Conversations.poll_of, Playing.Plays, State.DriverState, declared.answers.Polled.Polled}
-use Rattle.laws_driver_bytes.specs.Calls.{GuestCall, Made}
-use Rattle.laws_driver_bytes.specs.Calls as call
+use Rattle.laws_driver.specs.Carried.Calls.{GuestCall, Made}
+use Rattle.laws_driver.specs.Carried.Calls as call
 use Rattle.vs_apps_parts.specs.{Journals.{data_at, data_in, made_as, wait_noted, wait_place}, Scripts.{AreRight, IsRight, RunScript}}
 use Rattle.vs_apps_parts.specs.Scripts.{acts_of, after_step, calls_in, calls_next, id_of, recv_next, script_of, slice_left, told_in}
 use Rattle.vs_apps_parts.specs.{Told.{step_wait, waits_on}, declared.{journal.Entry.Entry, journal.WaitsFor.WaitsFor}}

@@ -30,9 +30,9 @@ use Rattle.vs_page.specs.declared.page.TheConstants.{PAYLOAD_MAX}
 use Rattle.laws_tables.proofs.Slots.{found_by}
 use Rattle.laws_driver.specs.Honest.{IsFresh, IsHonestWith, slots_of}
 use Rattle.laws_driver.proofs.{Calls.{CarriesConnect, CarriesSend, new_keeps}, Carrying.Fact, Keeping.keeps_end, Polling.poll_keeps, Staging.Rests}
-use Rattle.laws_driver_bytes.specs.Calls.{GuestCall, Journal, Made, ReplyTo, Connect, Listen, Unlisten, Accept, Send, Recv, Shutdown, Grow, Close, LookAt}
-use Rattle.laws_driver_bytes.specs.{Calls.is_right, Calls.names, Calls.whole_call, Received.bytes_got}
-use Rattle.laws_driver_bytes.proofs.{Changing.accept_slots, Changing.listen_slots, Growing.honest_stays, Making.whole_with, Righting.told_before, Sending.begins}
+use Rattle.laws_driver.specs.Carried.Calls.{GuestCall, Journal, Made, ReplyTo, Connect, Listen, Unlisten, Accept, Send, Recv, Shutdown, Grow, Close, LookAt}
+use Rattle.laws_driver.specs.Carried.{Calls.is_right, Calls.names, Calls.whole_call, Received.bytes_got}
+use Rattle.laws_driver.proofs.Carried.{Changing.accept_slots, Changing.listen_slots, Growing.honest_stays, Making.whole_with, Righting.told_before, Sending.begins}
 use Rattle.laws_rest.proofs.Quiet.{ends_any, ends_then}
 use Rattle.vs_apps_parts.specs.{Journals.made_as, Scripts.with_noted, Told.{told_accept, told_by, told_connect, told_look, told_recv, told_send, wait_of}, declared.{journal.WaitsFor.WaitsFor}}
 use Rattle.vs_apps_parts.specs.declared.told.Told.TheVariants as says

@@ -2,7 +2,7 @@
 use Rattle.std.proofs.Common.{◌≡◌, ℕ, zero, suc, ◌+◌, ◌==◌, Bool, true, false, cond, List, [], ◌∷◌, ◌++◌, length, Option, Some, None, refl}
 use Rattle.std.proofs.{Common.sym, Common.ap, Common.◌∙◌, Common.slice_set, Common.arith, lemmas.Bool.eqb-true}
 use Rattle.std.specs.{Option.unwrap_or, Prelude.slice_get}
-use Rattle.laws_driver_bytes.specs.Calls.{Made}
+use Rattle.laws_driver.specs.Carried.Calls.{Made}
 use Rattle.vs_apps_parts.specs.Journals.{entry_called, entry_waited, last_wait, last_wait_from, one_more, times_at, times_in, wait_noted}
 use Rattle.vs_apps_parts.specs.{Journals.wait_place, Journals.waited_before, Journals.waits_after, Scripts.told_in, Told.step_wait}
 use Rattle.vs_apps_parts.specs.{Told.told_of, Told.wait_of, Told.waits_on, declared.journal.Called.Called, declared.journal.Deed.Deed}

@@ -6,7 +6,7 @@ use Rattle.vs_ring_port.specs.Contents.{RingContents}
 use Rattle.vs_driver_parts.specs.{Held.HeldSlots, State.DriverState, declared.answers.{Accepted.Accepted, ConnectError.ConnectError}}
 use Rattle.vs_driver_parts.specs.declared.answers.Accepted.TheVariants as accepted
 use Rattle.laws_driver.specs.Honest.{slots_of}
-use Rattle.laws_driver_bytes.specs.{Calls.Journal, Senders.IsRightJournal}
+use Rattle.laws_driver.specs.Carried.{Calls.Journal, Senders.IsRightJournal}
 use Rattle.vs_apps_parts.specs.declared.journal.{Called.Called, Entry.Entry}
 use Rattle.vs_apps_parts.specs.declared.journal.Called.TheVariants as called
 use Rattle.vs_apps_parts.specs.declared.journal.Deed.TheVariants as deed

@@ -3,8 +3,8 @@ use Rattle.std.specs.Prelude.{◌≡◌, ℕ, ◌+◌, ◌≤◌, List, ◌++◌
 use Rattle.vs_contents.specs.CallTree.{Done}
 use Rattle.vs_ring_port.specs.Contents.{RingContents}
 use Rattle.vs_driver_parts.specs.{Connections.got_count, State.DriverState, declared.answers.Received.Received}
-use Rattle.laws_driver_bytes.specs.Calls.{GuestCall, Made, ReplyTo, makes_call}
-use Rattle.laws_driver_bytes.specs.Calls as call
+use Rattle.laws_driver.specs.Carried.Calls.{GuestCall, Made, ReplyTo, makes_call}
+use Rattle.laws_driver.specs.Carried.Calls as call
 use Rattle.vs_apps_parts.specs.{Journals.made_as, Scripts.RunScript, Scripts.calls_in, Scripts.told_in, Told.told_by}
 use Rattle.vs_apps_parts.specs.declared.{journal.Entry.Entry, journal.Journal.Journal, progress.AppState.AppState, told.Told.Told}
 use Rattle.vs_apps_parts.specs.declared.progress.TheConstants.{SLICE}

@@ -8,7 +8,7 @@ use Rattle.vs_driver_parts.specs.{Listening.listener_on, SlotFields.AreNumbered,
 use Rattle.vs_driver_parts.specs.declared.answers.{Accepted.Accepted, Closed.Closed, ConnectError.ConnectError, ListenError.ListenError}
 use Rattle.vs_driver_parts.specs.declared.answers.Accepted.TheVariants as accepted
 use Rattle.vs_driver_parts.specs.declared.answers.Closed.TheVariants as closed
-use Rattle.laws_driver_bytes.specs.Calls.{Accept, Close, Connect, GuestCall, Journal, Listen, ReplyTo, names}
+use Rattle.laws_driver.specs.Carried.Calls.{Accept, Close, Connect, GuestCall, Journal, Listen, ReplyTo, names}
 use Rattle.vs_apps_parts.specs.declared.journal.{Called.Called, Deed.Deed, Entry.Entry}
 use Rattle.vs_apps_parts.specs.declared.journal.Called.TheVariants as called
 use Rattle.vs_apps_parts.specs.declared.journal.Deed.TheVariants as deed

@@ -5,7 +5,7 @@ use Rattle.vs_script.specs.App.{Act}
 use Rattle.vs_ring_port.specs.Contents.{RingContents}
 use Rattle.vs_driver_parts.specs.{Conversations.poll_of, Playing.Plays, State.DriverState, declared.answers.Polled.Polled}
 use Rattle.laws_driver.specs.Honest.{IsHonestWith}
-use Rattle.laws_driver_bytes.specs.Calls.{Journal, Made, bytes_received, flow_accepted, flow_opened, is_right, whole_call}
+use Rattle.laws_driver.specs.Carried.Calls.{Journal, Made, bytes_received, flow_accepted, flow_opened, is_right, whole_call}
 use Rattle.vs_apps_parts.specs.Journals.{AllStandIn, calls_of, calls_of_app, ends_at, entry_called, last_wait, made_as, made_of, wait_noted}
 use Rattle.vs_apps_parts.specs.{Journals.wait_place, Scripts.IsPlayed, Scripts.RunScript, Scripts.acts_of, Scripts.after_step}
 use Rattle.vs_apps_parts.specs.{Scripts.begun, Scripts.calls_in, Scripts.calls_next, Scripts.told_in, Told.step_wait, Told.told_of}

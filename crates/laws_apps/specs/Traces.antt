@@ -3,7 +3,7 @@ use Rattle.std.specs.{List.All, Option.ForSome, Prelude.{◌≡◌, ◌⊎◌, �
 use Rattle.vs_conn.specs.declared.end.State.TheVariants.{Ended}
 use Rattle.vs_ring_port.specs.Contents.{RingContents}
 use Rattle.vs_driver_parts.specs.State.{DriverConnection, DriverEntry, DriverState}
-use Rattle.laws_driver_bytes.specs.Calls.{GuestCall, Journal, Send, Recv, Shutdown, Close, names}
+use Rattle.laws_driver.specs.Carried.Calls.{GuestCall, Journal, Send, Recv, Shutdown, Close, names}
 use Rattle.vs_apps_parts.specs.{Told.told_of, declared.told.Told.Told}
 use Rattle.vs_apps_parts.specs.declared.told.Told.TheVariants as told
 

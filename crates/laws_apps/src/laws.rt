@@ -7,12 +7,12 @@ ghost use Rattle.vs_ring_port.specs.Contents.{RingContents};
 ghost use Rattle.vs_driver_parts.specs.{Conversations.new_of, Conversations.poll_of, Held.HeldSlots, Playing.Plays, State.DriverState};
 ghost use Rattle.vs_driver_parts.specs.declared.answers.Polled.{Polled};
 ghost use Rattle.laws_driver.specs.Honest.{IsFresh, IsHonestWith};
-ghost use Rattle.laws_driver_bytes.specs.Calls.{GuestCall, Journal, ReplyTo, is_right, whole_call, with_call};
+ghost use Rattle.laws_driver.specs.Carried.Calls.{GuestCall, Journal, ReplyTo, is_right, whole_call, with_call};
 ghost use Rattle.vs_script.specs.{Script.Runs, Script.parse_of, declared.script.Command.TheVariants.Run as ForRun};
 ghost use Rattle.vs_apps_parts.specs.declared.journal.{Called.Called, Entry.Entry};
 ghost use Rattle.vs_apps_parts.specs.{Journals.entry_called, Journals.made_as, Journals.sent_as, Scripts.AreRight, Scripts.RunScript, Scripts.with_noted};
 ghost use Rattle.vs_apps_parts.specs.declared.progress.{AppState.AppState, Stepped.Stepped};
-ghost use Rattle.laws_driver_bytes.specs.Senders.{IsRightJournal};
+ghost use Rattle.laws_driver.specs.Carried.Senders.{IsRightJournal};
 ghost use Rattle.laws_apps.specs.{Accounts.IsAccounted, Runs.HasFlow, Runs.IsRunOf, Runs.PollsTo, Runs.Run, Runs.Steps, Runs.no_app};
 ghost use Rattle.vs_limits.specs.declared.TheConstants.{LAST_PORT};
 

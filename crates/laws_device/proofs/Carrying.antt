@@ -12,8 +12,8 @@ use Rattle.vs_proxy_parts.specs.State.{Handshake}
 use Rattle.vs_ring_port.specs.{Chains.Held, EndLog.EndLog}
 use Rattle.vs_device_parts.specs.Calls.{HostMoves, Situation, DeviceTree}
 use Rattle.vs_device_parts.specs.{Playing.IsRxChain, Playing.Runs, State.DeviceConnection, State.DeviceState}
-use Rattle.laws_device_streams.proofs.Tables.{some_after, some_from}
-use Rattle.laws_device_bytes.specs.Streamed.{IsStreamed}
+use Rattle.laws_device.proofs.Named.Tables.{some_after, some_from}
+use Rattle.laws_device.specs.Carried.Streamed.{IsStreamed}
 use Rattle.laws_tables.proofs.Fair.{got_one}
 use Rattle.laws_device.proofs.Ringing.{Telling, Tells, host_moves, tells_weaker}
 use Rattle.laws_device.proofs.{Chains.Among, Chains.alone, Chains.alone_so, Seats.AgreesBy, Seats.Carried, Keeping.Keeps, Keeping.keeps_end}

@@ -25,9 +25,9 @@ use Rattle.laws_device.proofs.{Keeping.{keeps_each, keeps_then, keeps_while}, Pu
 use Rattle.laws_device.proofs.Steps.{Filled, Open, changed, closing_keeps, cut_with, goes_on, hold_keeps, open_filled, called_with}
 use Rattle.laws_device.proofs.{Seats.Carried, Writing.{writes_first, written_keeps}, Ringing.host_moves}
 use Rattle.laws_device.specs.Honest.{IsFitState}
-use Rattle.laws_device_walk.proofs.Keeping.{keeps_if, keeps_some}
-use Rattle.laws_device_bytes.proofs.Changing.{called_host, closes_streams, ends_streams, leaves_streams, put_empty, reads_streams}
-use Rattle.laws_device_bytes.{proofs.Changing.shuts_streams, proofs.Gives.pays_gives, specs.Streamed.IsStreamed}
+use Rattle.laws_device.proofs.Walk.Keeping.{keeps_if, keeps_some}
+use Rattle.laws_device.proofs.Carried.Changing.{called_host, closes_streams, ends_streams, leaves_streams, put_empty, reads_streams}
+use Rattle.laws_device.{proofs.Carried.Changing.shuts_streams, proofs.Carried.Gives.pays_gives, specs.Carried.Streamed.IsStreamed}
 use Rattle.vs_proxy_parts.specs.State.{Handshake}
 use Rattle.vs_page.specs.{Log.Log, Log.Device, declared.log.LogEntry.TheVariants.PutPacket}
 use Rattle.vs_conn.specs.declared.end.Owed.TheVariants as owed

@@ -25,14 +25,14 @@ use Rattle.laws_device.proofs.{Tabling.{entry_fits, has_end}, Carrying.{Fact, Cl
 use Rattle.laws_device.proofs.{Chains.Behind, Seats.{AgreesBy, Carried, LeftBy, seat}, Fits.{delivered, fewer, fits_after}, Keeping.Keeps}
 use Rattle.laws_device.proofs.{Keeping.{asking, Lets, keeps_bind}, Steps.closing_keeps}
 use Rattle.laws_device.specs.Honest.{HoldsBytes, ends_of_state}
-use Rattle.laws_device_walk.proofs.Keeping.{keeps_if, keeps_some}
-use Rattle.laws_device_bytes.proofs.Changing.{accepts_streams, called_host, closes_streams, delivered_rw, delivers_streams, dialed_id}
-use Rattle.laws_device_bytes.proofs.Changing.{empty_streams, failed_host, got_nothing, hears_streams, leaves_streams, passes_streams}
-use Rattle.laws_device_bytes.proofs.{Changing.{payload_in, request_empty, reset_empty, unknown_streams}, Streamed.join_of, Opens.dial_host}
-use Rattle.laws_device_bytes.specs.Streamed.{IsStreamed, gives, look}
+use Rattle.laws_device.proofs.Walk.Keeping.{keeps_if, keeps_some}
+use Rattle.laws_device.proofs.Carried.Changing.{accepts_streams, called_host, closes_streams, delivered_rw, delivers_streams, dialed_id}
+use Rattle.laws_device.proofs.Carried.Changing.{empty_streams, failed_host, got_nothing, hears_streams, leaves_streams, passes_streams}
+use Rattle.laws_device.proofs.Carried.{Changing.{payload_in, request_empty, reset_empty, unknown_streams}, Streamed.join_of, Opens.dial_host}
+use Rattle.laws_device.specs.Carried.Streamed.{IsStreamed, gives, look}
 use Rattle.vs_proxy_parts.specs.State.{Handshake}
-use Rattle.laws_bytes.proofs.Logs.{got_passes, none_passed, passed_after_got, put_after_got}
-use Rattle.laws_bytes.{proofs.Firsts.asked_first, proofs.Firsts.once_history, specs.Drains.has_passed}
+use Rattle.laws_tables.proofs.Logs.{got_passes, none_passed, passed_after_got, put_after_got}
+use Rattle.laws_tables.{proofs.Firsts.asked_first, proofs.Firsts.once_history, specs.Drains.has_passed}
 use Rattle.vs_uds.specs.OkLine.{ok_text}
 use Rattle.laws_tables.specs.Both.{Takes, after as seat_after}
 use Rattle.vs_conn.specs.declared.end.Verdict.TheVariants as verdict

@@ -10,10 +10,10 @@ use Rattle.laws_device.specs.Honest.{is_held}
 use Rattle.vs_page.{specs.Held.FitsWire, proofs.Holding.header_fits}
 use Rattle.vs_device_parts.specs.Calls.{IsFitAnswer, Call, Answer, Ring, Accept, Dial, Label, ReadStream, WriteStream, ShutWrite}
 use Rattle.vs_device_parts.specs.{Calls.CloseStream, Calls.DeviceTree, Calls.Situation, Calls.Allows, Playing.Runs}
-use Rattle.laws_device_streams.specs.Split.{CanPut, MayPut}
-use Rattle.laws_device_walk.proofs.Keeping.{Asking}
-use Rattle.laws_device_streams.proofs.Keeping.{asking as asked}
-use Rattle.laws_device_walk.proofs.Keeping as walked
+use Rattle.laws_device.specs.Named.Split.{CanPut, MayPut}
+use Rattle.laws_device.proofs.Walk.Keeping.{Asking}
+use Rattle.laws_device.proofs.Named.Keeping.{asking as asked}
+use Rattle.laws_device.proofs.Walk.Keeping as walked
 
 -- The chain is among those that are held.
 abbrev pub HoldsChain : Chain → RingContents → Type 0

@@ -7,7 +7,7 @@ use Rattle.vs_page.specs.{Fair.number_of, Log.flow_got, Open.is_dropped, declare
 use Rattle.vs_page.specs.{declared.log.LogEntry.TheVariants.GotPacket, Fair.IsFairLog, Held.FitsWire, Log.Device, Log.Log, Log.packets_put}
 use Rattle.laws_tables.specs.{Steps.HasEnd, Both.Asks, Both.MayHappen, Both.Opens, Both.Seat, Both.Step, Both.Takes, Both.after, Ends.Ends}
 use Rattle.laws_tables.specs.{Heard.own_port, Matches.Matches, Steps.IsNextFlow}
-use Rattle.laws_device_bytes.specs.Streamed.{gives}
+use Rattle.laws_device.specs.Carried.Streamed.{gives}
 use Rattle.laws_history.specs.declared.packet.Packet.{Packet}
 use Rattle.vs_ring_port.specs.{Chains.Held, EndLog.EndLog}
 use Rattle.vs_replies.specs.declared.Reply.{Reply}

@@ -23,7 +23,7 @@ use Rattle.laws_device.proofs.{Filling.{put_reply_keeps, step_keeps, under_there
 use Rattle.laws_device.proofs.{Carrying.{IsToldBy, StreamedOver, With}, Hearing.{After, Heard}, Steps.{none_came, hold_keeps}}
 use Rattle.laws_device.proofs.{Ringing.{moves, tells_weaker}, Seats.{Carried, LeftBy}, Transmitting.{read_keeps, tx_keeps}}
 use Rattle.laws_device.proofs.Turning.{event_put, shut_keeps, write_keeps_all}
-use Rattle.laws_device_walk.proofs.Keeping.{keeps_if, keeps_some}
+use Rattle.laws_device.proofs.Walk.Keeping.{keeps_if, keeps_some}
 use Rattle.vs_proxy_parts.specs.State.{Handshake}
 use Rattle.vs_ring_port.specs.declared.device_ring.Next.TheVariants as next
 

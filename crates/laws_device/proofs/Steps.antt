@@ -12,8 +12,8 @@ use Rattle.laws_device.specs.Honest.{IsFitState}
 use Rattle.laws_device.proofs.Carrying.{Closes, Fact, IsHeldBy, IsToldBy, StreamedOver, With, closed_with, streams_call, streams_go}
 use Rattle.laws_device.proofs.{Chains.Among, Chains.is_unwritten, Chains.taken_holds, Seats.Carried, Changing.Changes, Keeping.Goes}
 use Rattle.laws_device.proofs.{Keeping.Keeps, Keeping.asking, Keeping.Lets, Ringing.moves, Ringing.host_moves, Ringing.tells_weaker}
-use Rattle.laws_device_walk.proofs.Keeping.{keeps_if}
-use Rattle.laws_device_bytes.{proofs.Changing.cuts_streams, proofs.HostCalls.cut_host, specs.Streamed.IsStreamed}
+use Rattle.laws_device.proofs.Walk.Keeping.{keeps_if}
+use Rattle.laws_device.{proofs.Carried.Changing.cuts_streams, proofs.Carried.HostCalls.cut_host, specs.Carried.Streamed.IsStreamed}
 use Rattle.vs_proxy_parts.specs.State.{Handshake}
 use Rattle.vs_outside.specs.Host.{HostContents}
 use Rattle.vs_page.specs.Log.{Log}

@@ -7,7 +7,7 @@ use Rattle.vs_flow.proofs.Tables.{with_value_sound, without_sound, with_entry_so
 use Rattle.laws_tables.specs.{Ends.Ends, Ends.FlowEnd, Ends.entries_of, Ends.is_new, Steps.HasEnd, Steps.with_end, Steps.left}
 use Rattle.laws_tables.proofs.Slots.{changed_slot, one_end, removed_slot}
 use Rattle.vs_device_parts.specs.{State.DeviceConnection, State.DeviceEntry, State.DeviceState, Connections.with_connection}
-use Rattle.laws_bytes.proofs.Changes.{without_changed}
+use Rattle.laws_tables.proofs.Changes.{without_changed}
 use Rattle.laws_device.specs.Honest.{HasNothing, HoldsBytes, IsFit, IsFitEntry, IsFitFlow, IsFitState, end_in, ends_of_state}
 
 -- What is kept of a connection.

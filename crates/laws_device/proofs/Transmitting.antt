@@ -21,7 +21,7 @@ use Rattle.laws_device.proofs.Ringing.{Tells, bytes_held, first_is_held, first_t
 use Rattle.laws_device.proofs.{Ringing.Telling, Hearing.{After, Came, Heard, IsCome, packet_keeps}, Keeping.{Keeps, asking, Lets}}
 use Rattle.laws_device.proofs.{Keeping.keeps_then, Carrying.{Fact, IsToldBy, StreamedOver, With}, Chains.{Among, Behind}, Seats.Carried}
 use Rattle.laws_device.proofs.{Seats.LeftBy, Steps.{it_failed, none_came}}
-use Rattle.laws_device_walk.proofs.Keeping.{keeps_if}
+use Rattle.laws_device.proofs.Walk.Keeping.{keeps_if}
 use Rattle.vs_outside.specs.Host.{HostContents}
 use Rattle.vs_proxy_parts.specs.State.{Handshake}
 use Rattle.vs_ring_port.specs.declared.device_ring.Next.TheVariants as next

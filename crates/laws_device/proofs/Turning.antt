@@ -31,14 +31,14 @@ use Rattle.laws_device.proofs.{Changing.{shuts, unseen, writes, same}, Ringing.{
 use Rattle.laws_device.proofs.{Seats.{Carried, LeftBy, at_log, seat}, Writing.{write_keeps, Writes}, Filling.under_there, Steps.it_failed}
 use Rattle.laws_device.proofs.{Steps.{none_came, cut_with, seat_changed}, Tabling.{IsFitConnection, entry_fits, opening_fits}}
 use Rattle.laws_device.specs.Honest.{IsFitFlow, IsFitState, IsFresh, IsLeft, IsWith, end_in, ends_of_state, port_after}
-use Rattle.laws_device_walk.proofs.Keeping.{keeps_if, keeps_some}
+use Rattle.laws_device.proofs.Walk.Keeping.{keeps_if, keeps_some}
 use Rattle.vs_header.specs.declared.Kind.TheVariants.{Stream}
-use Rattle.laws_device_bytes.proofs.Changing.{called_host, ends_streams, event_streams, failed_host, mark_streams, shut_write_host}
-use Rattle.laws_device_bytes.{proofs.Changing.shuts_streams, proofs.Changing.writes_streams, specs.Streamed.IsStreamed}
-use Rattle.laws_device_streams.proofs.Tables.{some_after, some_from}
+use Rattle.laws_device.proofs.Carried.Changing.{called_host, ends_streams, event_streams, failed_host, mark_streams, shut_write_host}
+use Rattle.laws_device.{proofs.Carried.Changing.shuts_streams, proofs.Carried.Changing.writes_streams, specs.Carried.Streamed.IsStreamed}
+use Rattle.laws_device.proofs.Named.Tables.{some_after, some_from}
 use Rattle.vs_proxy_parts.specs.State.{Handshake}
 use Rattle.laws_device.proofs.{Keeping.Keeps, Keeping.asking as asked_of, Keeping.keeps_each, Keeping.keeps_then, Steps.closing_keeps, Steps.called_with}
-use Rattle.laws_device_bytes.proofs.Closing.{IsClosing, closing_done as all_closed, closing_from, closing_now, closing_passes, closing_was}
+use Rattle.laws_device.proofs.Carried.Closing.{IsClosing, closing_done as all_closed, closing_from, closing_now, closing_passes, closing_was}
 use Rattle.vs_outside.specs.declared.host_net.StreamWrite.TheVariants as write
 use Rattle.vs_ring_port.specs.declared.device_ring.Next.TheVariants as next
 

@@ -11,8 +11,8 @@ use Rattle.vs_page.{specs.Log.Log, proofs.Flows.same_self}
 use Rattle.vs_proxy_parts.specs.State.{Handshake}
 use Rattle.laws_tables.specs.Ends.{FlowEnd, flows_of, is_among, is_new, is_new_in, new_flows}
 use Rattle.laws_tables.proofs.Slots.{found_by}
-use Rattle.laws_device_bytes.specs.Streamed.{IsJoined, IsStreamed, Seen, client_waits, look, seen}
-use Rattle.laws_device_bytes.proofs.{Closing.is_under, Closing.named, HostCalls.some_seen, Hosts.there}
+use Rattle.laws_device.specs.Carried.Streamed.{IsJoined, IsStreamed, Seen, client_waits, look, seen}
+use Rattle.laws_device.proofs.Carried.{Closing.is_under, Closing.named, HostCalls.some_seen, Hosts.there}
 use Rattle.laws_device.specs.Streams.{AreStreamedWith, IsTabledWith, has_open_stream, is_open_in, is_open_on}
 use Rattle.laws_device.{specs.Honest.IsWith, proofs.Shown.left_open, proofs.Shown.same_flows}
 use Rattle.vs_outside.specs.declared.host_net.StreamState.TheVariants as state

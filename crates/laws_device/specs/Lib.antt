@@ -2,3 +2,6 @@ pub mod Honest
 pub mod Packets
 pub mod Streams
 pub mod Worked
+pub mod Walk
+pub mod Named
+pub mod Carried

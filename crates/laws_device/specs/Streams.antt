@@ -10,7 +10,7 @@ use Rattle.vs_proxy_parts.specs.State.{Handshake}
 use Rattle.vs_device_parts.specs.{Calls.Situation, State.DeviceConnection, State.DeviceState, Turns.table_shown}
 use Rattle.laws_tables.specs.Ends.{is_among, replied}
 use Rattle.laws_device.specs.Honest.{flows_shown}
-use Rattle.laws_device_bytes.specs.Streamed.{IsStreamed}
+use Rattle.laws_device.specs.Carried.Streamed.{IsStreamed}
 
 -- No packet with payload of an open connection was dropped.
 abbrev pub AreHeard : ℕ → Log → Type 0

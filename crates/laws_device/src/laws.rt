@@ -19,7 +19,7 @@ ghost use Rattle.vs_device_parts.specs.{Receiving.fill_rx_of, Receiving.pay_even
 ghost use Rattle.vs_device_parts.specs.{State.DeviceState, Streams.Writing, Streams.pump_of, Streams.tick_of, Transmitting.take_tx_of};
 ghost use Rattle.vs_device_parts.specs.{Turns.new_device, Turns.open_of, Turns.reset_of, Turns.table_shown, declared.answers.Filled.Filled};
 ghost use Rattle.vs_device_parts.specs.declared.answers.Taken.{Taken};
-ghost use Rattle.laws_device_streams.specs.Streams.{FindsStreams};
+ghost use Rattle.laws_device.specs.Named.Streams.{FindsStreams};
 ghost use Rattle.laws_device.specs.Honest.{Advertises, AgreesWith, IsClients, IsFitFlow, IsFresh, IsLeftOpen, IsWith, ends_of_state};
 ghost use Rattle.laws_device.specs.{Honest.port_after, Packets.HasAdded, Packets.HasTaken, Packets.HoldsLast, Packets.IsWholeAs};
 ghost use Rattle.laws_device.specs.{Packets.packet_with, Streams.AreStreamedWith, Streams.IsTabledWith};

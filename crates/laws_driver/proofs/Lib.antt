@@ -17,3 +17,4 @@ pub mod Shown
 pub mod Stepping
 pub mod Stopping
 pub mod Walking
+pub mod Carried

@@ -1,3 +1,4 @@
 pub mod Honest
 pub mod Staged
 pub mod Resets
+pub mod Carried

@@ -8,7 +8,7 @@ use Rattle.vs_outside.specs.HostProgram.{after_client, after_host_write, allowed
 use Rattle.vs_outside.specs.{HostProgram.with_bytes, Host.{HostContents, Stream, stream_at, waits, with_stream}, HostBytes.after_line}
 use Rattle.vs_outside.specs.{HostBytes.{read_after_ok, wrote_after_connect}, declared.mem_stream.HostWritten.HostWritten}
 use Rattle.vs_page.specs.Fair.{IsPrefixOf}
-use Rattle.laws_device_bytes.{specs.Streamed.has_line, proofs.Lines.after_front, proofs.Lines.after_longer}
+use Rattle.laws_device.{specs.Carried.Streamed.has_line, proofs.Carried.Lines.after_front, proofs.Carried.Lines.after_longer}
 use Rattle.vs_uds.proofs.{Leading.has_lf-digits, Ports.WritesPort-decimal}
 use Rattle.vs_ring_plain.specs.Device.{DeviceState}
 use Rattle.vs_device_parts.specs.Calls.{DeviceTree}
@@ -18,10 +18,10 @@ use Rattle.laws_hostile.specs.Recorded.{calls_of, made_in, made_over, outside_ma
 use Rattle.laws_hostile.specs.Isolated.{IsGivenOwn, IsIsolated, delivered_to}
 use Rattle.laws_hostile.proofs.Steps.{played_same, played_shows}
 use Rattle.vs_report.specs.HostLines.{host_played}
-use Rattle.laws_proxy_bytes.specs.Tied.{AccountsFor, IsGiven, IsLine, IsRead, IsWhole, ok_line_of}
-use Rattle.laws_proxy_bytes.specs.{Told.Shows, Told.ShowsAt, Told.ShowsIn, Made.Account, Made.Made, Made.account_of}
-use Rattle.laws_proxy_bytes.proofs.Shown.{new_shows, none_there, unseen_shows}
-use Rattle.laws_proxy_bytes.proofs.{Keeping.Keeps, Opening.new_agrees, Turning.keeps_proxy_reset, Turning.keeps_turn}
+use Rattle.laws_proxy.specs.Account.Tied.{AccountsFor, IsGiven, IsLine, IsRead, IsWhole, ok_line_of}
+use Rattle.laws_proxy.specs.Account.{Told.Shows, Told.ShowsAt, Told.ShowsIn, Made.Account, Made.Made, Made.account_of}
+use Rattle.laws_proxy.proofs.Account.Shown.{new_shows, none_there, unseen_shows}
+use Rattle.laws_proxy.proofs.Account.{Keeping.Keeps, Opening.new_agrees, Turning.keeps_proxy_reset, Turning.keeps_turn}
 use Rattle.vs_proxy_parts.specs.{State.ProxyState, Turns.proxy_reset_of, Turns.turn_of}
 use Rattle.vs_script.specs.Outside.{Client, Host, HostAllow, HostClosed, HostEnd, HostFail, HostListen, HostUnlisten, HostWrite, OfHost}
 use Rattle.vs_script.specs.Hostile.{Hostile, Write, WriteDesc, Give, Index, Packet, Before, Look}

@@ -7,10 +7,10 @@ use Rattle.vs_device_parts.specs.Calls.{DeviceTree}
 use Rattle.vs_hostile.specs.{Answer.state_after, Answers.Around, Answers.answer_around, Run.Done, Run.GuestState, Run.HasMemory}
 use Rattle.vs_hostile.specs.Run.{HasRings, HostileState, Nothing, WasReset, hostile_does, line_in, over}
 use Rattle.vs_proxy_parts.specs.{State.ProxyState, Turns.proxy_reset_of, Turns.turn_of}
-use Rattle.laws_proxy_bytes.specs.{Counts.DeviceCounts, Counts.counts_of, Counts.counts_shown, Made.Made, Made.Makes, Made.account_of}
-use Rattle.laws_proxy_bytes.specs.{Packets.chains_taken, Tied.AccountsFor, Told.Shows}
-use Rattle.laws_proxy_bytes.proofs.{Keeping.Keeps, Packets.reset_counts, Packets.reset_takes_none, Packets.turn_counts}
-use Rattle.laws_proxy_bytes.proofs.{Packets.turn_is_judged, Turning.keeps_proxy_reset, Turning.keeps_turn}
+use Rattle.laws_proxy.specs.Account.{Counts.DeviceCounts, Counts.counts_of, Counts.counts_shown, Made.Made, Made.Makes, Made.account_of}
+use Rattle.laws_proxy.specs.Account.{Packets.chains_taken, Tied.AccountsFor, Told.Shows}
+use Rattle.laws_proxy.proofs.Account.{Keeping.Keeps, Packets.reset_counts, Packets.reset_takes_none, Packets.turn_counts}
+use Rattle.laws_proxy.proofs.Account.{Packets.turn_is_judged, Turning.keeps_proxy_reset, Turning.keeps_turn}
 use Rattle.vs_script.specs.Hostile.{Hostile, Write, WriteDesc, Give, Index, Packet, Before, Look}
 use Rattle.vs_script.specs.Outside.{Client, OfHost, Outside, Reset, Tick}
 use Rattle.laws_hostile.specs.{Isolated.AreLinesJudged, Isolated.IsLineJudged, Recorded.calls_of, Recorded.made_in, Recorded.recorded}

@@ -10,10 +10,10 @@ use Rattle.vs_device_parts.specs.Calls.{Call, DeviceTree, IsReadOf, TakesWithin,
 use Rattle.vs_device_parts.specs.Calls.{ShutWrite, CloseStream}
 use Rattle.vs_hostile.specs.Answers.{Around, answer_around, bytes_with}
 use Rattle.laws_hostile.specs.Recorded.{Recorded, recording}
-use Rattle.laws_proxy_bytes.specs.{Made.Made, Made.Makes, Made.MayGet, Made.account_of, Made.made, Told.Shows}
-use Rattle.laws_device_bytes.proofs.Short.{bytes_short, read_short, write_short}
-use Rattle.laws_proxy_bytes.proofs.{Keeping.Asks, Keeping.Keeps, Keeping.keeps_answer, Telling.accept_shows}
-use Rattle.laws_proxy_bytes.proofs.Telling.{close_shows, dial_shows, label_shows, read_shows, ring_shows, shut_shows, write_shows}
+use Rattle.laws_proxy.specs.Account.{Made.Made, Made.Makes, Made.MayGet, Made.account_of, Made.made, Told.Shows}
+use Rattle.laws_device.proofs.Carried.Short.{bytes_short, read_short, write_short}
+use Rattle.laws_proxy.proofs.Account.{Keeping.Asks, Keeping.Keeps, Keeping.keeps_answer, Telling.accept_shows}
+use Rattle.laws_proxy.proofs.Account.Telling.{close_shows, dial_shows, label_shows, read_shows, ring_shows, shut_shows, write_shows}
 
 -- The answers of a host in memory are such as may be got.
 dial_is : (path : List ℕ) (c : HostContents) (a : Dialed) → dial_answer path c ≡ a → IsDialed path a c

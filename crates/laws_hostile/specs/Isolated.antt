@@ -7,8 +7,8 @@ use Rattle.vs_page.specs.Fair.{IsPrefixOf}
 use Rattle.vs_ring_plain.specs.Device.{DeviceState}
 use Rattle.vs_ring_port.specs.declared.failure.Failure.{Failure}
 use Rattle.vs_proxy_parts.specs.declared.answers.Turn.{Turn as Turning, TheVariants.Failed}
-use Rattle.laws_proxy_bytes.specs.{Carried.Carries, Counts.counts_of, Counts.counts_shown, Made.Made, Made.account_of, Packets.AreJudged}
-use Rattle.laws_proxy_bytes.specs.{Packets.chains_taken, Tied.ok_line_of}
+use Rattle.laws_proxy.specs.Account.{Carried.Carries, Counts.counts_of, Counts.counts_shown, Made.Made, Made.account_of, Packets.AreJudged}
+use Rattle.laws_proxy.specs.Account.{Packets.chains_taken, Tied.ok_line_of}
 use Rattle.vs_script.specs.{Hostile.Around, Hostile.Hostile, Outside.Reset, Outside.Turn}
 use Rattle.vs_hostile.specs.Run.{GuestState, HasRings, HasTurned, HostileState, WasReset, beginning, hostile_does, line_in}
 use Rattle.vs_hostile.specs.Answer.{state_after}

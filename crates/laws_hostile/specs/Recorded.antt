@@ -7,7 +7,7 @@ use Rattle.vs_ring_plain.specs.Device.{DeviceState}
 use Rattle.vs_device_parts.specs.Calls.{Answer, Call, DeviceTree}
 use Rattle.vs_hostile.specs.{Answers.Around, Answers.answer_around, Run.GuestState, Run.HasRings, Run.HostileState, Run.hostile_does}
 use Rattle.vs_proxy_parts.specs.Turns.{proxy_reset_of, turn_of}
-use Rattle.laws_proxy_bytes.specs.Made.{Made}
+use Rattle.laws_proxy.specs.Account.Made.{Made}
 use Rattle.vs_script.specs.{Hostile.Hostile, Outside.Outside, Outside.Reset}
 use Rattle.vs_script.specs.Hostile.{Around as OfOutside}
 use Rattle.vs_script.specs.Outside.{Turn as TakeTurn}

@@ -5,8 +5,8 @@ use Rattle.vs_contents.specs.CallTree.{Ask, Done, played}
 use Rattle.vs_ring_port.specs.declared.failure.Failure.{Failure}
 use Rattle.vs_device_parts.specs.Calls.{DeviceTree}
 use Rattle.vs_proxy_parts.specs.{State.ProxyState, Turns.proxy_reset_of, Turns.turn_of, declared.answers.Turn.Turn}
-use Rattle.laws_proxy_bytes.specs.{Counts.DeviceCounts, Counts.count_made, Counts.counts_of, Counts.counts_shown, Made.Made, Made.made}
-use Rattle.laws_proxy_bytes.proofs.{Quiet.counts_reset, Quiet.counts_turn, Walks.Walks}
+use Rattle.laws_proxy.specs.Account.{Counts.DeviceCounts, Counts.count_made, Counts.counts_of, Counts.counts_shown, Made.Made, Made.made}
+use Rattle.laws_proxy.proofs.Account.{Quiet.counts_reset, Quiet.counts_turn, Walks.Walks}
 use Rattle.vs_script.specs.{Outside.Outside, Play.Event, Data.bytes_of}
 use Rattle.laws_world.proofs.Failing.{FailsWithin, reset_fails, turn_fails}
 use Rattle.laws_world.specs.{Answers.Around, Answers.answer_around, World.around}

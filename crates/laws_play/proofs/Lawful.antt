@@ -10,7 +10,7 @@ use Rattle.vs_driver_parts.specs.{State.DriverEntry, Connections.flow_of, declar
 use Rattle.vs_device_parts.specs.{State.DeviceEntry, Turns.counters_of, declared.answers.Counters.Counters}
 use Rattle.laws_tables.{specs.Both.Both, specs.Both.at, specs.Steps.HasEnd, proofs.Slots.one_end}
 use Rattle.vs_outside.specs.{HostBytes.host_wrote, Host.HostContents, HostProgram.new_host, HostProgram.plain}
-use Rattle.laws_bytes.specs.Drains.{put_on}
+use Rattle.laws_tables.specs.Drains.{put_on}
 use Rattle.vs_page.specs.Log.{Device, Driver, Log, Role, history_of}
 use Rattle.vs_script.{specs.Play.Event, specs.Script.Plays, specs.Script.parse_of, specs.Bounds.AreBounded, proofs.Bounded.all_bounded}
 use Rattle.vs_report.specs.Report.{counts_text, device_open_text, guest_open_text, stream_texts}
@@ -23,14 +23,14 @@ use Rattle.laws_world.proofs.{NamesStay.{IsTold, accept_told, connect_told, stil
 use Rattle.laws_world.proofs.{Carried.wrote_stays, Names.{IsOver, closed_unknown}, CallRests.opening_rests}
 use Rattle.laws_world.proofs.{Opening.{opening_well, run_goes}, ResetTables.device_emptied}
 use Rattle.laws_world.proofs.{ScriptLines.{script_leads, script_rests}, Sound.{Goes, IsWell, tx_at_rest}, Counting.reached_counted}
-use Rattle.laws_driver_bytes.specs.Calls.{flow_accepted, flow_opened, sent_on}
+use Rattle.laws_driver.specs.Carried.Calls.{flow_accepted, flow_opened, sent_on}
 use Rattle.vs_play.specs.{Answer.base_path, Answer.opened_play, Answer.texts_of, Answer.world_after, Lines.PlayWorld, Lines.event_played}
 use Rattle.laws_play.proofs.PlayLines.{after_both, around_journal, front_bounded, lines_of, lines_receive, lines_right}
 use Rattle.laws_play.proofs.PlayLines.{lines_send, rest_bounded, world_is}
 use Rattle.laws_play.proofs.Reached.{carries, holds_open, holds_rest, keeps_credit, log_is, many_device, many_guest, own_streams, queued}
 use Rattle.laws_play.proofs.{Counting.lines_count, Counting.lines_within, Shutting.IsShut, Shutting.is_shut, Shutting.run_shut}
 use Rattle.laws_play.specs.{Headline.{IsLawful, IsNamedIn, StaysShut, world_of}, Said.{accept_answer, close_answer, connect_answer}}
-use Rattle.laws_proxy_bytes.specs.Counts.{counts_shown}
+use Rattle.laws_proxy.specs.Account.Counts.{counts_shown}
 use Rattle.vs_driver_parts.specs.declared.answers.Accepted.TheVariants as accepted
 use Rattle.vs_driver_parts.specs.declared.answers.Closed.TheVariants as closed
 use Rattle.vs_script.specs.Outside as outside

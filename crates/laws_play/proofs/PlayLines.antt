@@ -6,14 +6,14 @@ use Rattle.vs_driver_parts.specs.Connections.{flow_of}
 use Rattle.vs_flow.specs.declared.flow.Flow.{Flow}
 use Rattle.vs_script.specs.{Data.bytes_of, Outside.Host, Outside.Outside, Play.Event, Bounds.AreBounded, Bounds.IsBounded}
 use Rattle.laws_world.specs.{Events.is_guest_cid, Plays.AreRight, Plays.Line, Plays.after, Plays.is_given_right, World.World}
-use Rattle.laws_driver_bytes.specs.Calls.{is_on, received_on, sent_on, flow_named}
+use Rattle.laws_driver.specs.Carried.Calls.{is_on, received_on, sent_on, flow_named}
 use Rattle.laws_world.proofs.Journals.{either_none}
 use Rattle.vs_play.specs.{Answer.world_after, Lines.PlayWorld, Lines.event_played, Lines.host_line}
 use Rattle.laws_play.specs.Said.{received_by, received_in, sent_by, sent_in}
-use Rattle.laws_bytes.proofs.Logs.{nothing_more}
+use Rattle.laws_tables.proofs.Logs.{nothing_more}
 use Rattle.vs_script.specs.Outside as outside
 use Rattle.vs_script.specs.Play as script
-use Rattle.laws_driver_bytes.specs.Calls as call
+use Rattle.laws_driver.specs.Carried.Calls as call
 use Rattle.laws_world.specs.Plays as world
 
 -- The line of the world that an event line is, at a moment. That time passes is none.

@@ -9,14 +9,14 @@ use Rattle.laws_tables.specs.{Ends.FlowEnd, Ends.flows_of, Ends.is_among, Ends.r
 use Rattle.laws_tables.proofs.{Fair.fair_now, Tables.driver_open, Tables.table_distinct}
 use Rattle.vs_page.specs.{Fair.{IsFairLog, IsPrefixOf, payload_got, payload_put}, Log.{Device, Driver, HasGotAll, Log, Role, side_of}}
 use Rattle.vs_page.{specs.Open.WasOpened, specs.Open.is_left_open, specs.Open.is_open, proofs.Opened.was_opened}
-use Rattle.laws_bytes.specs.Drains.{Drains, receives}
+use Rattle.laws_tables.specs.Drains.{Drains, receives}
 use Rattle.laws_world.proofs.Carried.{carried, given_is, gone_of, one_stream, pending_of, received_is, sent_is, to_device, to_driver}
 use Rattle.laws_world.proofs.Carried.{unread_of, wrote_is}
 use Rattle.laws_rest.proofs.Hosts.{read_own, wrote_own}
 use Rattle.laws_world.proofs.{Sound.IsWell, Waiting.at_device, Waiting.streams_among}
 use Rattle.laws_world.specs.{Sides.{device_ends, driver_ends, log_with_staged}, Events.{is_at_rest, none_staged}, World.{World, first_cid}}
 use Rattle.laws_driver.specs.Resets.{MarksResets}
-use Rattle.laws_driver_bytes.specs.Calls.{received_on, sent_on}
+use Rattle.laws_driver.specs.Carried.Calls.{received_on, sent_on}
 use Rattle.laws_play.specs.Headline.{Carries, HasOwnStreams, HoldsOpen, HoldsTheRest, IsQueued, KeepsCredit, PutsWithinCredit, device_flows}
 use Rattle.laws_play.specs.Headline.{device_log, device_replies, driver_log, guest_flows}
 use Rattle.laws_device.specs.Streams.{is_waiting_for_request}

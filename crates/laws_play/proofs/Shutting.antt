@@ -19,7 +19,7 @@ use Rattle.vs_page.specs.declared.log.LogEntry.TheVariants.{GotPacket, PutPacket
 use Rattle.vs_page.{proofs.Entries.present_is, specs.Fair.payload_of, specs.Open.is_dropped, specs.declared.log.LogEntry.LogEntry}
 use Rattle.laws_world.specs.Sides.{AsksAnew, RunsAnew}
 use Rattle.laws_world.proofs.{Once.AreOnce, Once.asked_once, Once.keeps_once, Runs.one_step}
-use Rattle.laws_bytes.{proofs.Firsts.silent_whole, specs.Drains.put_on}
+use Rattle.laws_tables.{proofs.Firsts.silent_whole, specs.Drains.put_on}
 use Rattle.vs_conn.specs.declared.end.Owed.TheVariants as owed
 use Rattle.vs_conn.specs.declared.end.State.TheVariants as state
 use Rattle.vs_conn.specs.declared.end.Stop.TheVariants as stop

@@ -13,17 +13,17 @@ use Rattle.vs_device_parts.specs.{State.DeviceEntry, Turns.counters_of}
 use Rattle.laws_device.specs.Streams.{has_open_stream, is_waiting_for_request}
 use Rattle.laws_tables.specs.Ends.{flows_of, is_among, replied}
 use Rattle.vs_outside.specs.{HostBytes.{host_read, host_wrote, read_after_ok, wrote_after_connect}, Host.{Stream, stream_at}}
-use Rattle.laws_bytes.specs.Drains.{Drains, receives}
-use Rattle.laws_device_bytes.specs.Streamed.{gives, line_for}
+use Rattle.laws_tables.specs.Drains.{Drains, receives}
+use Rattle.laws_device.specs.Carried.Streamed.{gives, line_for}
 use Rattle.vs_script.specs.{Data.Content, Play.Event}
 use Rattle.vs_report.specs.{Report.counts_text, Report.device_open_text, Report.guest_open_text, Report.stream_texts, GuestLines.recv_text}
 use Rattle.vs_report.specs.GuestLines.{opened_text, send_text}
-use Rattle.laws_proxy_bytes.specs.Counts.{counts_of, counts_shown}
+use Rattle.laws_proxy.specs.Account.Counts.{counts_of, counts_shown}
 use Rattle.laws_proxy.specs.Resets.{IsEmptied}
 use Rattle.laws_world.specs.{Counts.dropped_in, Names.HasFlow, Sides.device_ends, Sides.driver_ends, Steps.Leads}
 use Rattle.laws_world.specs.World.{World, first_cid}
 use Rattle.laws_driver.specs.Resets.{MarksResets}
-use Rattle.laws_driver_bytes.specs.Calls.{received_on, sent_on}
+use Rattle.laws_driver.specs.Carried.Calls.{received_on, sent_on}
 use Rattle.vs_play.specs.{Answer.opened_play, Answer.printed, Answer.texts_of, Answer.world_after, Lines.event_played}
 use Rattle.laws_play.specs.{Recorded.calls_of, Recorded.fails_in, Said.accept_answer, Said.close_answer, Said.connect_answer, Said.received_in}
 use Rattle.laws_play.specs.Said.{recv_answer, recv_bytes, send_answer, sent_in}

@@ -3,7 +3,7 @@ use Rattle.std.specs.Prelude.{ℕ, ◌+◌, Bool, true, false, if◌then◌else�
 use Rattle.vs_contents.specs.CallTree.{played}
 use Rattle.vs_device_parts.specs.Calls.{Answer, Call, DeviceTree}
 use Rattle.vs_proxy_parts.specs.Turns.{proxy_reset_of, turn_of}
-use Rattle.laws_proxy_bytes.specs.Made.{Made, made}
+use Rattle.laws_proxy.specs.Account.Made.{Made, made}
 use Rattle.vs_script.specs.{Outside.Outside, Play.Event}
 use Rattle.laws_world.specs.{Answers.Around, Answers.answer_around, World.World, World.around}
 use Rattle.vs_play.specs.Lines.{PlayWorld, event_played}

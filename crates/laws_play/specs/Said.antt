@@ -6,7 +6,7 @@ use Rattle.vs_driver_parts.specs.{Listening.accept_of, declared.answers.{Accepte
 use Rattle.vs_driver_parts.specs.{declared.answers.Received.Received, declared.answers.Sent.Sent}
 use Rattle.vs_script.specs.{Data.Content, Data.bytes_of, Play.Event}
 use Rattle.laws_world.specs.World.{driver_plays}
-use Rattle.laws_driver_bytes.specs.{Calls.is_on, Sent.took, Received.bytes_got}
+use Rattle.laws_driver.specs.Carried.{Calls.is_on, Sent.took, Received.bytes_got}
 use Rattle.vs_play.specs.Lines.{PlayWorld, event_played}
 use Rattle.vs_script.specs.Play as script
 

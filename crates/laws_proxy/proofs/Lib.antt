@@ -3,3 +3,5 @@ pub mod Shaking
 pub mod Turning
 pub mod Ordered
 pub mod Emptying
+pub mod Named
+pub mod Account

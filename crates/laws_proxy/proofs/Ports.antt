@@ -9,7 +9,7 @@ use Rattle.vs_ring_port.specs.EndLog.{EndLog}
 use Rattle.laws_tables.{specs.Ends.ends_of, specs.Ends.entries_of, proofs.Slots.found_by, proofs.Slots.one_end}
 use Rattle.vs_device_parts.specs.State.{DeviceConnection, DeviceEntry, DeviceState}
 use Rattle.laws_device.{specs.Honest.end_in, proofs.Seats.AgreesBy, proofs.Seats.Carried}
-use Rattle.laws_device_walk.proofs.Turning.{may_assign}
+use Rattle.laws_device.proofs.Walk.Turning.{may_assign}
 
 -- A flow without an end has no entry.
 absent : (t : Table DeviceConnection) (f : Flow) → IsTable t → ends_of f (entries_of end_in t) ≡ [] → entry_of t f ≡ None

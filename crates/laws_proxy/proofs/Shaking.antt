@@ -13,8 +13,8 @@ use Rattle.vs_uds.proofs.Decided.{port_fits}
 use Rattle.vs_uds.specs.{ConnectLine.connect_step, declared.connect.TheConstants.CONNECT_MAX, declared.scan.Step.Step}
 use Rattle.vs_device_parts.specs.Calls.{Accept, Allows, CloseStream, HostMoves, IsReadOf, Label, ReadStream, Situation}
 use Rattle.vs_device_parts.specs.{Connections.is_late, Connections.with_client, State.DeviceState, State.DeviceConnection, Turns.open_of}
-use Rattle.laws_device_walk.proofs.Turning.{AfterAccept, AfterByte, IsOn, Shakes, keeps_accept_one, keeps_read_byte, keeps_tick_handshake}
-use Rattle.laws_device_walk.proofs.Turning.{may_assign}
+use Rattle.laws_device.proofs.Walk.Turning.{AfterAccept, AfterByte, IsOn, Shakes, keeps_accept_one, keeps_read_byte, keeps_tick_handshake}
+use Rattle.laws_device.proofs.Walk.Turning.{may_assign}
 use Rattle.laws_device.proofs.Keeping.{Goes, Keeps, asking, keeps_weaker}
 use Rattle.laws_device.proofs.Carrying.{Fact, fact_called, fact_goes, IsHeldBy, IsToldBy, StreamedOver, With, streams_call}
 use Rattle.laws_device.proofs.{Turning.label_keeps, Ringing.host_moves, Ringing.tells_weaker, Seats.Carried}
@@ -23,11 +23,11 @@ use Rattle.vs_proxy_parts.specs.Handshakes.{may_open, opening, read_byte, read_l
 use Rattle.vs_proxy_parts.specs.Handshakes.{tick_handshakes, with_line, without_handshake, without_stream}
 use Rattle.vs_proxy_parts.specs.State.{Handshake, Turning, with_device}
 use Rattle.laws_proxy.proofs.Ports.{last_port, not_refused}
-use Rattle.laws_device_bytes.specs.Streamed.{IsStreamed, Seen, has_line, look, reading}
-use Rattle.laws_device_bytes.proofs.{HostCalls.{accepted_host, closed_host, some_seen}, Hands.{ends_by, no_line, without_after}}
-use Rattle.laws_device_bytes.proofs.{Hands.without_none, Opens.{hand_of, label_host, line_more, line_now, line_over, one_byte}}
-use Rattle.laws_device_bytes.proofs.{Opens.dropped_host, Changing.{called_host, goes_on}, Lines.{line_ends, line_whole}}
-use Rattle.laws_device_streams.proofs.Tables.{some_after, some_from}
+use Rattle.laws_device.specs.Carried.Streamed.{IsStreamed, Seen, has_line, look, reading}
+use Rattle.laws_device.proofs.Carried.{HostCalls.{accepted_host, closed_host, some_seen}, Hands.{ends_by, no_line, without_after}}
+use Rattle.laws_device.proofs.Carried.{Hands.without_none, Opens.{hand_of, label_host, line_more, line_now, line_over, one_byte}}
+use Rattle.laws_device.proofs.Carried.{Opens.dropped_host, Changing.{called_host, goes_on}, Lines.{line_ends, line_whole}}
+use Rattle.laws_device.proofs.Named.Tables.{some_after, some_from}
 use Rattle.vs_outside.specs.declared.host_net.Accepted.TheVariants as accepted
 use Rattle.vs_outside.specs.declared.host_net.StreamRead.TheVariants as read
 use Rattle.vs_uds.specs.declared.scan.Step.TheVariants as step

@@ -15,9 +15,9 @@ use Rattle.vs_proxy_parts.specs.State.{Handshake, ProxyState, Turning, start, wi
 use Rattle.vs_proxy_parts.specs.Turns.{pump_stage, reset_with, take_one, take_stage, tick_stage, took_packet, turn_of, unless_failed}
 use Rattle.vs_proxy_parts.specs.{declared.answers.Turn.Turn, Handshakes.shake_hands, Handshakes.streams_of, Handshakes.tick_handshakes}
 use Rattle.laws_proxy.{specs.Honest.IsProxyWith, specs.Honest.IsProxyStreamed, proofs.Shaking.At, proofs.Shaking.shaking}
-use Rattle.laws_device_walk.proofs.Turning.{KeptBy, keeps_turn_by}
+use Rattle.laws_device.proofs.Walk.Turning.{KeptBy, keeps_turn_by}
 use Rattle.vs_outside.specs.Host.{after_close}
-use Rattle.laws_device_bytes.proofs.Opens.{first_dropped}
+use Rattle.laws_device.proofs.Carried.Opens.{first_dropped}
 
 pub new_proxy_with : (cid : ℕ) (base : List ℕ) (c : RingContents) → cid < 2 ^ 64 → IsFresh c → IsProxyWith cid (new_proxy cid base) c
 new_proxy_with cid base c fits fresh = (omega arith, new_with ASSIGNED_FIRST cid base c fits fresh)

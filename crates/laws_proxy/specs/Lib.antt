@@ -1,3 +1,4 @@
 pub mod Honest
 pub mod Order
 pub mod Resets
+pub mod Account

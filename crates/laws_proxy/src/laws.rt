@@ -3,7 +3,7 @@
 ghost use Rattle.std.specs.{Option.ForSome, Prelude.{◌≡◌, ◌<◌, ◌^◌, ℕ, List, [], None, Result}};
 ghost use Rattle.vs_ring_port.specs.{Contents.RingContents, declared.failure.Failure.Failure};
 ghost use Rattle.vs_device_parts.specs.{Calls.Situation, Playing.MayRun, Playing.Runs};
-ghost use Rattle.laws_device_streams.specs.Streams.{FindsStreams};
+ghost use Rattle.laws_device.specs.Named.Streams.{FindsStreams};
 ghost use Rattle.laws_device.specs.{Honest.IsFresh, Streams.IsTabledWith};
 ghost use Rattle.vs_proxy_parts.specs.{Handshakes.streams_of, State.ProxyState, Turns.new_proxy, Turns.proxy_reset_of, Turns.turn_of};
 ghost use Rattle.vs_proxy_parts.specs.declared.answers.Turn.{Turn};

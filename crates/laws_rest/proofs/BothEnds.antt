@@ -10,13 +10,13 @@ use Rattle.vs_page.specs.Log.{Device, Driver, Role, flow_got, other_role, side_o
 use Rattle.vs_page.proofs.{Entries.got_on, Entries.on_flow, Flows.opposite_by, Payload.instance-append, Payload.payload_of-append}
 use Rattle.vs_ring_port.specs.{Contents.RingContents, EndLog.EndLog}
 use Rattle.laws_tables.specs.Both.{Both, at}
-use Rattle.laws_bytes.proofs.{Firsts.once_got, Firsts.once_put, Logs.prefix_then}
+use Rattle.laws_tables.proofs.{Firsts.once_got, Firsts.once_put, Logs.prefix_then}
 use Rattle.vs_driver_parts.specs.{Held.HeldSlots, State.DriverState}
 use Rattle.laws_driver.specs.Honest.{slots_of}
-use Rattle.laws_driver_bytes.specs.{Calls.Journal, Calls.received_by, Senders.IsRightJournal, Senders.IsRightWith, Senders.sent_to}
+use Rattle.laws_driver.specs.Carried.{Calls.Journal, Calls.received_by, Senders.IsRightJournal, Senders.IsRightWith, Senders.sent_to}
 use Rattle.vs_device_parts.specs.{Calls.Situation, State.DeviceConnection}
 use Rattle.laws_device.specs.Streams.{AreStreamedWith}
-use Rattle.laws_device_bytes.specs.Streamed.{IsStreamed}
+use Rattle.laws_device.specs.Carried.Streamed.{IsStreamed}
 use Rattle.vs_proxy_parts.specs.State.{Handshake, ProxyState}
 use Rattle.laws_rest.specs.Bytes.{AreTied, AreTold, BothEnds, CarryBytes}
 use Rattle.laws_rest.proofs.Hosts.{read_is_got, wrote_is_put}

@@ -18,11 +18,11 @@ use Rattle.vs_ring_port.specs.declared.device_ring.Next.TheVariants as next
 use Rattle.vs_device_parts.specs.Calls.{Accept, Allows, Answer, Call, CloseStream, DeviceTree, Dial, IsFitChain, Label, ReadStream, Ring}
 use Rattle.vs_device_parts.specs.{Calls.ShutWrite, Calls.Situation, Calls.WriteStream, Playing.Runs, State.DeviceEntry, State.DeviceState}
 use Rattle.vs_proxy_parts.specs.{State.Handshake, State.ProxyState, declared.answers.Turn.Turn, Turns.turn_of}
-use Rattle.laws_device_walk.specs.Seen.{Seen}
-use Rattle.laws_device_walk.proofs.{Keeping.{Asking, Keeps}, Serving.{AfterRead, AfterWrite, Closes, Fills, Writes}, Taking.AfterDial}
-use Rattle.laws_device_walk.proofs.{Taking.Takes, Turning.{AfterAccept, AfterByte, Between, Shakes, keeps_turn}}
-use Rattle.laws_device_walk.proofs.Serving as serving
-use Rattle.laws_device_walk.proofs.Taking as taking
+use Rattle.laws_device.specs.Walk.Seen.{Seen}
+use Rattle.laws_device.proofs.Walk.{Keeping.{Asking, Keeps}, Serving.{AfterRead, AfterWrite, Closes, Fills, Writes}, Taking.AfterDial}
+use Rattle.laws_device.proofs.Walk.{Taking.Takes, Turning.{AfterAccept, AfterByte, Between, Shakes, keeps_turn}}
+use Rattle.laws_device.proofs.Walk.Serving as serving
+use Rattle.laws_device.proofs.Walk.Taking as taking
 use Rattle.laws_rest.specs.{Calm.OwesNoEvent, Calm.resets_in, Rest.has_no_mark}
 
 -- Such a call, and a chain that fits its queue.

@@ -11,9 +11,9 @@ use Rattle.vs_outside.specs.Host.{HostContents, Stream, stream_at}
 use Rattle.vs_page.{proofs.Flows.same_self, specs.Fair.IsPrefixOf, specs.Log.Device, specs.Log.Log}
 use Rattle.vs_proxy_parts.specs.State.{Handshake}
 use Rattle.vs_uds.{proofs.Leading.has_lf-digits, proofs.Ports.WritesPort-decimal, specs.OkLine.ok_text}
-use Rattle.laws_bytes.specs.Drains.{got_on, put_on}
-use Rattle.laws_device_bytes.specs.Streamed.{IsStreamed, Seen, has_line, line_for, look, seen}
-use Rattle.laws_device_bytes.proofs.{Hosts.there, Lines.after_front}
+use Rattle.laws_tables.specs.Drains.{got_on, put_on}
+use Rattle.laws_device.specs.Carried.Streamed.{IsStreamed, Seen, has_line, line_for, look, seen}
+use Rattle.laws_device.proofs.Carried.{Hosts.there, Lines.after_front}
 
 -- An OK line has no LF but its last byte.
 ok_front : (port : ℕ) → is_assigned port ≡ true → has_line (codes "OK " ++ decimal port) ≡ false

@@ -22,8 +22,8 @@ use Rattle.vs_device_parts.specs.Receiving.{filled_of, hold, holding, may_read, 
 use Rattle.vs_device_parts.specs.Receiving.{read_answered, read_room, read_stream, read_with_chain, reply_header, round_from, serve_slot}
 use Rattle.vs_device_parts.specs.{Receiving.written, Playing.Runs, State.{DeviceConnection, DeviceEntry, DeviceState}, Steps.filling}
 use Rattle.vs_device_parts.specs.{Streams.closing, declared.answers.Filled.Filled}
-use Rattle.laws_device_streams.specs.Waiting.{filling_of}
-use Rattle.laws_device_streams.proofs.Stopping.{is_stage, over_stops}
+use Rattle.laws_device.specs.Named.Waiting.{filling_of}
+use Rattle.laws_device.proofs.Named.Stopping.{is_stage, over_stops}
 use Rattle.laws_device.specs.Honest.{end_in, ends_of_state}
 use Rattle.laws_rest.specs.Rest.{OwesNothing}
 use Rattle.laws_rest.proofs.{Owing.{all_owe_none, end_under, listed, same_slots, same_under}, Quiet.{Any, NoReplies, NoneAt, OwesNone}}

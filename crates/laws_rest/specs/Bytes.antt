@@ -7,7 +7,7 @@ use Rattle.vs_page.specs.Fair.{IsFairLog, IsPrefixOf, payload_got, payload_put}
 use Rattle.vs_page.specs.Log.{Driver, Log, Role, other_role, packets_got, packets_put}
 use Rattle.vs_ring_port.specs.{Contents.RingContents, EndLog.EndLog}
 use Rattle.laws_tables.specs.Both.{Both, at}
-use Rattle.laws_asked.specs.Asked.{AskOnce}
+use Rattle.laws_tables.specs.Asked.{AskOnce}
 use Rattle.vs_driver_parts.specs.State.{DriverState}
 use Rattle.laws_driver.specs.Honest.{ends_of_state as driver_ends}
 use Rattle.vs_device_parts.specs.Calls.{Situation}

@@ -6,7 +6,7 @@ ghost use Rattle.vs_flow.specs.Table.{IsTable};
 ghost use Rattle.vs_ring_port.specs.{Known.StopsAt, declared.queue.Queue.TheVariants.Rx};
 ghost use Rattle.vs_device_parts.specs.{Calls.Situation, Playing.Runs, Receiving.Filling, Receiving.fill_rx_of, State.DeviceState};
 ghost use Rattle.vs_device_parts.specs.declared.answers.Filled.{Filled};
-ghost use Rattle.laws_device_streams.specs.Waiting.{filling_of};
+ghost use Rattle.laws_device.specs.Named.Waiting.{filling_of};
 ghost use Rattle.laws_device.specs.Honest.{ends_of_state};
 ghost use Rattle.vs_proxy_parts.specs.{State.ProxyState, Turns.turn_of, declared.answers.Turn.Turn};
 ghost use Rattle.laws_rest.specs.{Calm.OwesNoEvent, Calm.resets_in, Rest.OwesNothing};

@@ -10,8 +10,8 @@ use Rattle.vs_driver_parts.specs.declared.answers.ConnectError.TheVariants as re
 use Rattle.vs_driver_parts.specs.declared.answers.ConnectionState.TheVariants as seen
 use Rattle.vs_driver_parts.specs.declared.answers.Received.TheVariants as got
 use Rattle.vs_driver_parts.specs.declared.answers.Sent.TheVariants as sent
-use Rattle.laws_driver_bytes.specs.Calls.{GuestCall, Journal, Made, ReplyTo, bytes_received, bytes_sent, names, received_by}
-use Rattle.laws_driver_bytes.specs.Calls as call
+use Rattle.laws_driver.specs.Carried.Calls.{GuestCall, Journal, Made, ReplyTo, bytes_received, bytes_sent, names, received_by}
+use Rattle.laws_driver.specs.Carried.Calls as call
 use Rattle.vs_apps_parts.specs.{Journals.{AllStandIn, calls_of, calls_of_app, ends_at, id_in, made_by, made_of, sent_as}, Told.{is_any_end, is_end, step_wait, told_by, told_of, wait_of}}
 use Rattle.vs_apps_parts.specs.{Told.{told_recv, told_send}, declared.journal.{Called.Called, Deed.Deed, Entry.Entry, WaitsFor.WaitsFor}}
 use Rattle.vs_apps_parts.specs.Scripts.{Follows, RunScript, after_step, all_counted, all_noted, begun, calls_in, calls_next, counted, goes_to, id_of, is_complete, more, on_to_next}

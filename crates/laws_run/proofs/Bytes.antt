@@ -12,8 +12,8 @@ use Rattle.vs_device_parts.specs.Playing.{situation}
 use Rattle.vs_ring_shared.specs.Sights.{DeviceSight, Sight, device_contents, device_log, driver_contents, driver_log}
 use Rattle.vs_proxy_parts.specs.State.{ProxyState}
 use Rattle.laws_tables.specs.Both.{at}
-use Rattle.laws_driver_bytes.specs.{Calls.Journal, Calls.account_of, Calls.received_by, Senders.IsRightJournal}
-use Rattle.laws_asked.specs.Asked.{AskOnce}
+use Rattle.laws_driver.specs.Carried.{Calls.Journal, Calls.account_of, Calls.received_by, Senders.IsRightJournal}
+use Rattle.laws_tables.specs.Asked.{AskOnce}
 use Rattle.laws_driver.specs.Honest.{slots_of}
 use Rattle.laws_device.specs.Streams.{AreHeard}
 use Rattle.laws_rest.specs.Bytes.{AreTold, BothEnds, CarryBytes}

@@ -17,8 +17,8 @@ use Rattle.laws_tables.{specs.Ends.ends_of, specs.Ends.flows_of, specs.Ends.is_a
 use Rattle.vs_page.proofs.Flows.{same_is}
 use Rattle.laws_driver.specs.Honest.{IsFitEntry, end_in as driver_end, slots_of}
 use Rattle.laws_device.specs.Honest.{end_in as device_end}
-use Rattle.laws_bytes.{specs.Drains.got_on, specs.Drains.receives, specs.Drains.receives_in, proofs.Firsts.once_got}
-use Rattle.laws_driver_bytes.specs.{Calls.GuestCall, Calls.Journal, Calls.received_by, Received.ReceivesOn, Calls.account_of}
+use Rattle.laws_tables.{specs.Drains.got_on, specs.Drains.receives, specs.Drains.receives_in, proofs.Firsts.once_got}
+use Rattle.laws_driver.specs.Carried.{Calls.GuestCall, Calls.Journal, Calls.received_by, Received.ReceivesOn, Calls.account_of}
 use Rattle.laws_proxy.specs.Honest.{IsProxyStreamed}
 use Rattle.laws_rest.{specs.Rest.ArePaired, proofs.Quiet.in_list, proofs.Waiting.credit_there, proofs.Waiting.unread_there}
 use Rattle.vs_credit.specs.Credit.{free_of, unread_of}
@@ -30,7 +30,7 @@ use Rattle.vs_apps_parts.specs.{Journals.calls_of, Journals.calls_of_app, Journa
 use Rattle.vs_apps_parts.specs.declared.progress.Progress.{Progress}
 use Rattle.vs_apps_parts.specs.declared.journal.WaitsFor.TheVariants as waits
 use Rattle.vs_script.specs.{App.Act, App.Exchange, Data.Content, Data.bytes_of, Data.size_of}
-use Rattle.laws_driver_bytes.specs.Calls as call
+use Rattle.laws_driver.specs.Carried.Calls as call
 use Rattle.laws_apps.proofs.Naming.{sent_by_id}
 use Rattle.laws_apps.specs.{Accounts.IsAccount, Calls.run_with, Rounds.AllStand, Runs.IsRunOf, Runs.PollsTo, Runs.Run, Runs.poll_moved}
 use Rattle.vs_report.specs.declared.giving.Totals.{Totals}

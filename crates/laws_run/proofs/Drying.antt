@@ -22,8 +22,8 @@ use Rattle.vs_device_parts.specs.{Connections.{route_to_guest, with_connection, 
 use Rattle.vs_device_parts.specs.Receiving.{put_on, put_owed, put_packet, put_reply, put_reply_of, read_answered, read_room, read_stream, read_with_chain}
 use Rattle.vs_device_parts.specs.{Receiving.{reply_header, round_from, serve_slot, written}, State.{DeviceConnection, DeviceEntry, DeviceState}, Steps.filling, Streams.closing}
 use Rattle.vs_device_parts.proofs.Under.{has_slot}
-use Rattle.laws_device_streams.specs.Waiting.{filling_of}
-use Rattle.laws_device_walk.proofs.Keeping.{Asking, Keeps, keeps_then}
+use Rattle.laws_device.specs.Named.Waiting.{filling_of}
+use Rattle.laws_device.proofs.Walk.Keeping.{Asking, Keeps, keeps_then}
 use Rattle.laws_device.specs.Honest.{end_in}
 use Rattle.laws_rest.proofs.{Owing.listed, Owing.same_slots, Quiet.in_list}
 use Rattle.laws_run.specs.Dry.{IsDry, IsDryAt, IsFull, IsFullAt, IsToldDry, IsToldFull, reads_of, reads_under, writes_of, writes_under}

@@ -3,7 +3,7 @@ use Rattle.std.proofs.Common.{◌≡◌, ◌≢◌, ◌⊎◌, inl, inr, ℕ, ze
 use Rattle.std.proofs.Common.{◌∷◌, length, Option, Some, None, refl, sym, ap, subst, ◌∙◌, arith, slice_get, slice_set, get_or-set_other}
 use Rattle.std.proofs.{Common.{get_or-set_same, length-set}, lemmas.{Bool.Decides.nat_tests, Bool.eq-eqb, Bool.eqb-true}}
 use Rattle.vs_driver_parts.specs.{State.DriverState, declared.answers.Polled.Polled}
-use Rattle.laws_driver_bytes.specs.Calls.{Made}
+use Rattle.laws_driver.specs.Carried.Calls.{Made}
 use Rattle.vs_apps_parts.specs.{Journals.{wait_noted, wait_place}, Scripts.{RunScript, acts_of, told_in}, Told.{step_wait, told_of}}
 use Rattle.vs_apps_parts.specs.{Told.wait_of, declared.{journal.Entry.Entry, journal.WaitsFor.WaitsFor, progress.AppState.AppState}}
 use Rattle.vs_apps_parts.specs.declared.{progress.Stepped.Stepped, told.Told.Told}

@@ -24,9 +24,9 @@ use Rattle.vs_driver_parts.specs.declared.answers.ConnectError.TheVariants as re
 use Rattle.vs_driver_parts.specs.declared.answers.ConnectionState.TheVariants as seen
 use Rattle.vs_driver_parts.specs.declared.answers.Received.TheVariants as got
 use Rattle.vs_driver_parts.specs.declared.answers.Sent.TheVariants as sent
-use Rattle.laws_driver_bytes.specs.Calls.{GuestCall, Made, ReplyTo, whole_call}
-use Rattle.laws_driver_bytes.specs.Calls as call
-use Rattle.laws_driver_bytes.specs.Received.{bytes_got}
+use Rattle.laws_driver.specs.Carried.Calls.{GuestCall, Made, ReplyTo, whole_call}
+use Rattle.laws_driver.specs.Carried.Calls as call
+use Rattle.laws_driver.specs.Carried.Received.{bytes_got}
 use Rattle.laws_rest.proofs.Quiet.{ends_then}
 use Rattle.vs_apps_parts.specs.{Scripts.{RunScript, calls_in, calls_next, told_in}, Told.{step_wait, told_accept, told_by, told_connect, told_look}}
 use Rattle.vs_apps_parts.specs.{Told.{told_of, told_recv, told_send, wait_of}, declared.{journal.WaitsFor.WaitsFor, progress.Progress.Progress, told.Told.Told}}

@@ -24,9 +24,9 @@ use Rattle.laws_tables.{specs.Ends.{ends_of, entries_of, flows_of, is_among, rep
 use Rattle.laws_driver.specs.Honest.{end_in as driver_end, slots_of}
 use Rattle.laws_device.specs.{Honest.end_in as device_end, Streams.{has_open_stream, is_open_in, is_open_on}}
 use Rattle.laws_device.proofs.Waiting.{open_among}
-use Rattle.laws_device_bytes.specs.Streamed.{IsStreamed, seen as seen_as}
-use Rattle.laws_driver_bytes.specs.{Calls.{GuestCall, Journal, account_of}, Received.{ReceivedOn}}
-use Rattle.laws_driver_bytes.specs.Calls as call
+use Rattle.laws_device.specs.Carried.Streamed.{IsStreamed, seen as seen_as}
+use Rattle.laws_driver.specs.Carried.{Calls.{GuestCall, Journal, account_of}, Received.{ReceivedOn}}
+use Rattle.laws_driver.specs.Carried.Calls as call
 use Rattle.laws_proxy.specs.Honest.{IsProxyStreamed}
 use Rattle.laws_settled.specs.{Exact.HoldsExactly, Settled.IsSettled, Settled.IsSteady, Settled.ends_at_rest}
 use Rattle.vs_apps_parts.specs.{Journals.calls_of, Scripts.{RunScript, acts_of, calls_next}, Told.{told_look, told_recv, wait_of}}

@@ -6,7 +6,7 @@ use Rattle.std.specs.List.{flat_map, list_any, range_with_len}
 use Rattle.vs_flow.specs.Connection.{Connection}
 use Rattle.vs_script.specs.App.{Listen}
 use Rattle.vs_driver_parts.specs.declared.answers.Accepted.TheVariants as accepted
-use Rattle.laws_driver_bytes.specs.Calls.{GuestCall, Journal, ReplyTo, names}
+use Rattle.laws_driver.specs.Carried.Calls.{GuestCall, Journal, ReplyTo, names}
 use Rattle.vs_apps_parts.specs.{Journals.{calls_of, calls_of_app, made_by, made_by_app, made_of}, Scripts.{RunScript, acts_of}}
 use Rattle.vs_apps_parts.specs.declared.journal.{Called.Called, Deed.Deed, Entry.Entry}
 use Rattle.vs_apps_parts.specs.declared.journal.Called.TheVariants as called

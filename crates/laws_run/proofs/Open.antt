@@ -13,8 +13,8 @@ use Rattle.vs_proxy_parts.specs.State.{Handshake}
 use Rattle.laws_tables.specs.Ends.{entries_of, flows_of, is_among}
 use Rattle.laws_device.specs.{Honest.end_in, Streams.has_open_stream, Streams.is_open_in, Streams.is_open_on}
 use Rattle.laws_device.proofs.Waiting.{open_among}
-use Rattle.laws_device_bytes.specs.Streamed.{IsJoined, IsStreamed, Seen, client_waits, look, seen}
-use Rattle.laws_device_bytes.proofs.{Hosts.there}
+use Rattle.laws_device.specs.Carried.Streamed.{IsJoined, IsStreamed, Seen, client_waits, look, seen}
+use Rattle.laws_device.proofs.Carried.{Hosts.there}
 use Rattle.laws_run.specs.Complete.{open_label, open_labels}
 
 pub same_flows : IsEquivalence same_flow

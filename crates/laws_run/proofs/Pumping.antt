@@ -17,7 +17,7 @@ use Rattle.vs_device_parts.proofs.Under.{has_slot}
 use Rattle.vs_proxy_parts.specs.{State.ProxyState, Turns.turn_of, declared.answers.Turn.Turn, declared.answers.Turned.Turned}
 use Rattle.vs_proxy_parts.specs.declared.answers.Turn.TheVariants as turn
 use Rattle.laws_device.specs.Honest.{end_in}
-use Rattle.laws_device_walk.proofs.Keeping.{Keeps, keeps_then}
+use Rattle.laws_device.proofs.Walk.Keeping.{Keeps, keeps_then}
 use Rattle.laws_rest.proofs.{Owing.listed, Owing.same_slots, Quiet.in_list}
 use Rattle.laws_settled.{specs.Settled.LacksPages, proofs.Quieting.LastFill, proofs.Quieting.fill_lacks, proofs.Quieting.last_fill}
 use Rattle.laws_run.specs.Dry.{AreIdle, IsFull, IsFullAt, IsToldFull, writes_of, writes_under}

@@ -9,9 +9,9 @@ use Rattle.vs_ring_shared.specs.Sights.{DeviceSight, Sight, device_contents, dev
 use Rattle.vs_driver_parts.specs.State.{DriverState}
 use Rattle.vs_device_parts.specs.Playing.{situation}
 use Rattle.vs_proxy_parts.specs.State.{ProxyState}
-use Rattle.laws_asked.specs.Asked.{AskOnce}
+use Rattle.laws_tables.specs.Asked.{AskOnce}
 use Rattle.laws_driver.specs.Honest.{slots_of}
-use Rattle.laws_driver_bytes.specs.Calls.{Journal}
+use Rattle.laws_driver.specs.Carried.Calls.{Journal}
 use Rattle.laws_proxy.specs.Honest.{IsProxyStreamed}
 use Rattle.laws_settled.specs.Settled.{IsSettled, IsSteady, ends_at_rest}
 use Rattle.vs_apps_parts.specs.{Journals.calls_of, Scripts.{RunScript, acts_of}, declared.{journal.Entry.Entry, progress.AppState.AppState}}

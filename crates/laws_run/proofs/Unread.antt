@@ -15,10 +15,10 @@ use Rattle.vs_device_parts.specs.State.{DeviceConnection, DeviceEntry}
 use Rattle.vs_proxy_parts.specs.State.{Handshake}
 use Rattle.laws_tables.specs.{Ends.Ends, Ends.ends_of, Ends.is_among, Ends.replied, Heard.heard_of, Matches.{IsBefore, IsLeftOn, Matches}, Steps.HasEnd}
 use Rattle.laws_tables.proofs.Fair.{heard_less}
-use Rattle.laws_bytes.specs.Drains.{got_on}
-use Rattle.laws_bytes.proofs.Firsts.{once_got}
-use Rattle.laws_device_bytes.specs.Streamed.{IsJoined, IsStreamed, gives_in, has_line, look}
-use Rattle.laws_device_bytes.proofs.{Hosts.there, Lines.{after_is_rest, after_longer, line_ends, line_whole, rest_of}}
+use Rattle.laws_tables.specs.Drains.{got_on}
+use Rattle.laws_tables.proofs.Firsts.{once_got}
+use Rattle.laws_device.specs.Carried.Streamed.{IsJoined, IsStreamed, gives_in, has_line, look}
+use Rattle.laws_device.proofs.Carried.{Hosts.there, Lines.{after_is_rest, after_longer, line_ends, line_whole, rest_of}}
 use Rattle.laws_rest.proofs.Hosts.{read_own}
 
 -- What an end that may send, but lacks credit.

@@ -13,9 +13,9 @@ use Rattle.vs_driver_parts.specs.State.{DriverEntry, DriverState, GoneConnection
 use Rattle.vs_driver_parts.specs.declared.answers.{ConnectionState.ConnectionState, Received.Received}
 use Rattle.vs_driver_parts.specs.declared.answers.ConnectionState.TheVariants as seen
 use Rattle.vs_driver_parts.specs.declared.answers.Received.TheVariants as got
-use Rattle.laws_driver_bytes.specs.Calls.{GuestCall}
-use Rattle.laws_driver_bytes.specs.Calls as call
-use Rattle.laws_bytes.specs.Drains.{receives, receives_in}
+use Rattle.laws_driver.specs.Carried.Calls.{GuestCall}
+use Rattle.laws_driver.specs.Carried.Calls as call
+use Rattle.laws_tables.specs.Drains.{receives, receives_in}
 use Rattle.vs_apps_parts.specs.{Scripts.{calls_next, id_of, recv_next, send_next}, Told.{told_look, told_recv, wait_of}}
 use Rattle.vs_apps_parts.specs.declared.{journal.WaitsFor.WaitsFor, progress.Progress.Progress}
 use Rattle.vs_apps_parts.specs.declared.journal.WaitsFor.TheVariants as waits

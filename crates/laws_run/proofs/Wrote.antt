@@ -13,9 +13,9 @@ use Rattle.vs_driver_parts.specs.{State.DriverState}
 use Rattle.vs_device_parts.specs.Playing.{situation}
 use Rattle.vs_ring_shared.specs.Sights.{DeviceSight, Sight, device_contents, device_log}
 use Rattle.vs_proxy_parts.specs.State.{ProxyState}
-use Rattle.laws_bytes.proofs.{Firsts.once_got, Firsts.once_put}
+use Rattle.laws_tables.proofs.{Firsts.once_got, Firsts.once_put}
 use Rattle.laws_device.specs.Streams.{AreHeard, IsPlain}
-use Rattle.laws_device_bytes.specs.Streamed.{IsStreamed}
+use Rattle.laws_device.specs.Carried.Streamed.{IsStreamed}
 use Rattle.laws_rest.proofs.Standing.{AreKept, device_kept}
 use Rattle.laws_proxy.specs.Honest.{IsProxyStreamed}
 use Rattle.laws_settled.specs.Settled.{IsSettled}

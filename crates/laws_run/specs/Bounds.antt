@@ -5,7 +5,7 @@ use Rattle.vs_flow.specs.{Connection.Connection, declared.flow.Flow.Flow}
 use Rattle.vs_outside.specs.{Host.HostContents, HostBytes.host_wrote}
 use Rattle.vs_script.specs.{App.{Act, Drain, Exchange, Recv, Send}, Data.size_of}
 use Rattle.laws_device.specs.Streams.{has_open_stream, is_open_on}
-use Rattle.laws_driver_bytes.specs.Calls.{Close, GuestCall, Journal, Made, names, received_by}
+use Rattle.laws_driver.specs.Carried.Calls.{Close, GuestCall, Journal, Made, names, received_by}
 use Rattle.vs_apps_parts.specs.{Journals.{calls_of, calls_of_app, gathered, made_by, sent_as}, Scripts.{Follows, RunScript, acts_of, after_step, all_noted, begun, told_in}}
 use Rattle.vs_apps_parts.specs.declared.{journal.Entry.Entry, progress.AppState.AppState, progress.Progress.Progress}
 use Rattle.laws_apps.specs.Traces.{is_shut}

@@ -3,7 +3,7 @@ use Rattle.std.specs.{List.filter_map, Prelude.{◌≡◌, ℕ, ◌+◌, ◌<◌
 use Rattle.vs_flow.specs.{Connection.Connection, declared.flow.Flow.Flow}
 use Rattle.vs_outside.specs.{Host.HostContents, Host.Stream, HostBytes.host_read, HostBytes.host_wrote}
 use Rattle.laws_device.specs.Streams.{has_open_stream, is_open_in}
-use Rattle.laws_driver_bytes.specs.Calls.{Journal, received_by}
+use Rattle.laws_driver.specs.Carried.Calls.{Journal, received_by}
 use Rattle.vs_apps_parts.specs.{Journals.calls_of, Journals.sent_as, Scripts.RunScript, Scripts.acts_of, declared.{journal.Entry.Entry, journal.WaitsFor.WaitsFor, progress.AppState.AppState}}
 use Rattle.vs_apps_parts.specs.declared.progress.Progress.{Progress}
 use Rattle.vs_script.specs.{App.Act, App.Exchange, Data.Content, Data.size_of}

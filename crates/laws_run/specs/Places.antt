@@ -7,7 +7,7 @@ use Rattle.vs_outside.specs.Host.{HostContents, Stream}
 use Rattle.vs_script.specs.App.{Act, Accept, Listen}
 use Rattle.vs_driver_parts.specs.State.{DriverState, GoneConnection}
 use Rattle.laws_device.specs.Streams.{has_open_stream, is_open_on}
-use Rattle.laws_driver_bytes.specs.Calls.{Journal}
+use Rattle.laws_driver.specs.Carried.Calls.{Journal}
 use Rattle.vs_apps_parts.specs.{Journals.calls_of, Scripts.RunScript, Scripts.acts_of, declared.{journal.Entry.Entry, journal.WaitsFor.WaitsFor, progress.AppState.AppState}}
 use Rattle.vs_apps_parts.specs.declared.progress.Progress.{Progress}
 use Rattle.vs_apps_parts.specs.declared.journal.WaitsFor.TheVariants as waits

@@ -26,16 +26,16 @@ use Rattle.vs_device_parts.specs.{Playing.Runs, State.DeviceConnection, State.De
 use Rattle.vs_device_parts.specs.Transmitting.{dial_answered, heard, on_header, on_known, on_next, on_packet, on_unknown, take_tx_of}
 use Rattle.vs_device_parts.specs.declared.answers.Taken.TheVariants as taken
 use Rattle.vs_proxy_parts.specs.{State.Handshake, State.ProxyState, Turns.turn_of, declared.answers.Turn.Turn}
-use Rattle.laws_bytes.proofs.Changes.{without_changed}
+use Rattle.laws_tables.proofs.Changes.{without_changed}
 use Rattle.laws_device.specs.Honest.{HoldsBytes}
 use Rattle.laws_device.proofs.Fits as fits
 use Rattle.laws_device.proofs.{Ringing.same_self, Fits.{fewer, fits_after, fits_forwarded, fits_paid, fits_sent, fits_shut}}
-use Rattle.laws_device_streams.proofs.Keeping.{asking, keeps_end}
-use Rattle.laws_device_walk.specs.Seen.{Seen}
-use Rattle.laws_device_walk.proofs.Keeping.{Asking, Keeps, keeps_if, keeps_some, keeps_then}
-use Rattle.laws_device_walk.proofs.Serving.{AfterRead, AfterWrite, Closes, Fills, IsIn, Writes, by_flow, keeps_fill_rx, keeps_leaving, keeps_pay_event, keeps_pump, keeps_tick}
-use Rattle.laws_device_walk.proofs.Serving as serving
-use Rattle.laws_device_walk.proofs.Turning.{AfterAccept, AfterByte, Between, Ends, Shakes, keeps_turn_by}
+use Rattle.laws_device.proofs.Named.Keeping.{asking, keeps_end}
+use Rattle.laws_device.specs.Walk.Seen.{Seen}
+use Rattle.laws_device.proofs.Walk.Keeping.{Asking, Keeps, keeps_if, keeps_some, keeps_then}
+use Rattle.laws_device.proofs.Walk.Serving.{AfterRead, AfterWrite, Closes, Fills, IsIn, Writes, by_flow, keeps_fill_rx, keeps_leaving, keeps_pay_event, keeps_pump, keeps_tick}
+use Rattle.laws_device.proofs.Walk.Serving as serving
+use Rattle.laws_device.proofs.Walk.Turning.{AfterAccept, AfterByte, Between, Ends, Shakes, keeps_turn_by}
 use Rattle.laws_rest.specs.Pending.{IsExact, delivered}
 use Rattle.laws_settled.specs.Exact.{AreExact, HoldsExactly}
 use Rattle.laws_rest.proofs.Unread.{hears, pays, shuts, writes}

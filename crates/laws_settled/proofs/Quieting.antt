@@ -7,8 +7,8 @@ use Rattle.vs_contents.proofs.Leads.{leads_split}
 use Rattle.vs_flow.specs.Table.{IsTable}
 use Rattle.vs_ring_port.specs.{Known.{Known, StopsAt}, declared.failure.Failure.Failure, declared.queue.Queue.TheVariants.Rx}
 use Rattle.vs_device_parts.specs.{Calls.{Allows, Situation}, Playing.Runs, Receiving.{Filling, fill_rx_of, filled_of}, State.DeviceState, Streams.Writing, Streams.pump_of}
-use Rattle.laws_device_streams.specs.Waiting.{filling_of}
-use Rattle.laws_device_streams.proofs.Stopping.{is_stage, over_lacks}
+use Rattle.laws_device.specs.Named.Waiting.{filling_of}
+use Rattle.laws_device.proofs.Named.Stopping.{is_stage, over_lacks}
 use Rattle.laws_device.specs.Honest.{ends_of_state}
 use Rattle.laws_rest.specs.Rest.{OwesNothing}
 use Rattle.laws_rest.proofs.Stages.{stage_owes_none}

@@ -27,11 +27,11 @@ use Rattle.vs_device_parts.specs.Calls.{Allows, IsReadOf, ReadStream, Situation,
 use Rattle.vs_device_parts.specs.Connections.{after_shut, after_written, cut_off, new_connection, route_to_guest, stream_closed}
 use Rattle.vs_device_parts.specs.{Playing.Runs, Receiving.written, State.DeviceConnection, State.DeviceEntry, State.DeviceState, Streams.to_write, Transmitting.heard}
 use Rattle.vs_proxy_parts.specs.{State.Handshake, State.ProxyState, Turns.turn_of, declared.answers.Turn.Turn}
-use Rattle.laws_bytes.proofs.Changes.{without_changed}
-use Rattle.laws_device_walk.specs.Seen.{Seen}
-use Rattle.laws_device_walk.proofs.{Keeping.Keeps, Serving.{AfterEvent, AfterRead, AfterWrite, Closes, Fills, Writes, by_flow}, Taking.{AfterDial, Takes}, Turning.{AfterAccept, AfterByte, Between, Shakes, keeps_turn}}
-use Rattle.laws_device_walk.proofs.Serving as serving
-use Rattle.laws_device_walk.proofs.Taking as taking
+use Rattle.laws_tables.proofs.Changes.{without_changed}
+use Rattle.laws_device.specs.Walk.Seen.{Seen}
+use Rattle.laws_device.proofs.Walk.{Keeping.Keeps, Serving.{AfterEvent, AfterRead, AfterWrite, Closes, Fills, Writes, by_flow}, Taking.{AfterDial, Takes}, Turning.{AfterAccept, AfterByte, Between, Shakes, keeps_turn}}
+use Rattle.laws_device.proofs.Walk.Serving as serving
+use Rattle.laws_device.proofs.Walk.Taking as taking
 use Rattle.laws_settled.specs.Shut.{AreShutBy, IsClosedAt, IsEndedAt, IsShutBy}
 use Rattle.laws_settled.proofs.Tallying.{allowed, runs_end}
 

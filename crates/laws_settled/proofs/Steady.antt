@@ -14,8 +14,8 @@ use Rattle.vs_proxy_parts.specs.{State.ProxyState, Turns.new_proxy, Turns.turn_o
 use Rattle.laws_proxy.proofs.Ordered.{new_in_order, turn_honest, turn_streams}
 use Rattle.laws_settled.specs.{Hosts.IsHosts, Settled.IsSteady}
 use Rattle.laws_settled.proofs.{Asked.turn_asks, Exact.exact_turns, Hosted.turn_hosts, Shutting.turn_shuts}
-use Rattle.laws_asked.specs.Asked.{AskOnce}
-use Rattle.laws_asked.proofs.Asking.{begins_once}
+use Rattle.laws_tables.specs.Asked.{AskOnce}
+use Rattle.laws_tables.proofs.Asking.{begins_once}
 use Rattle.laws_device.specs.Honest.{ends_of_state}
 
 pub new_steady : (base : List ℕ) (a : Situation) (l : EndLog) → a.ring.log ≡ Some l → l.entries ≡ [] → l.held ≡ [] → IsSteady (new_proxy FIRST_CID base) a

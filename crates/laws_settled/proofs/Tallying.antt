@@ -26,11 +26,11 @@ use Rattle.vs_device_parts.specs.{Connections.route_to_guest, Playing.Runs, Rece
 use Rattle.vs_device_parts.specs.{State.DeviceEntry, State.DeviceState}
 use Rattle.vs_proxy_parts.specs.{State.Handshake, State.ProxyState, declared.answers.Turn.Turn, Turns.turn_of}
 use Rattle.laws_device.proofs.{Ringing.bytes_held, Transmitting.header_is}
-use Rattle.laws_device_walk.specs.Seen.{Seen, seen}
-use Rattle.laws_device_walk.proofs.{Keeping.{Asking, Keeps}, Serving.{AfterEvent, AfterRead, AfterWrite, Closes, Fills, Writes}, Taking.AfterDial}
-use Rattle.laws_device_walk.proofs.{Taking.Takes, Turning.{AfterAccept, AfterByte, Between, Shakes, keeps_turn}}
-use Rattle.laws_device_walk.proofs.Serving as serving
-use Rattle.laws_device_walk.proofs.Taking as taking
+use Rattle.laws_device.specs.Walk.Seen.{Seen, seen}
+use Rattle.laws_device.proofs.Walk.{Keeping.{Asking, Keeps}, Serving.{AfterEvent, AfterRead, AfterWrite, Closes, Fills, Writes}, Taking.AfterDial}
+use Rattle.laws_device.proofs.Walk.{Taking.Takes, Turning.{AfterAccept, AfterByte, Between, Shakes, keeps_turn}}
+use Rattle.laws_device.proofs.Walk.Serving as serving
+use Rattle.laws_device.proofs.Walk.Taking as taking
 use Rattle.laws_settled.specs.Begun.{CountsFailed, IsKept}
 
 -- Of each call what ring and host allow.

@@ -2,7 +2,7 @@
 use Rattle.std.specs.{Option.ForSome, Prelude.◌≡◌, Prelude.true}
 use Rattle.vs_page.specs.Log.{Device}
 use Rattle.vs_ring_port.specs.Contents.{RingContents}
-use Rattle.laws_asked.specs.Asked.{AskOnce}
+use Rattle.laws_tables.specs.Asked.{AskOnce}
 use Rattle.laws_device.specs.Honest.{ends_of_state}
 use Rattle.vs_proxy_parts.specs.State.{ProxyState}
 

@@ -14,7 +14,7 @@ use Rattle.vs_driver_parts.specs.Conversations.{payload_bytes, payload_of, post_
 use Rattle.vs_driver_parts.specs.Conversations.{reap_all, request_bytes, send_on, send_stopped, send_with_credit, send_with_page}
 use Rattle.vs_limits.specs.declared.TheConstants.{FIRST_PORT}
 use Rattle.laws_world.specs.{Events.is_at_rest, Events.works_on, Plays.guest_line, World.World, World.opening}
-use Rattle.laws_driver_bytes.specs.Calls.{GuestCall, Connect, Send}
+use Rattle.laws_driver.specs.Carried.Calls.{GuestCall, Connect, Send}
 use Rattle.laws_world.proofs.{GuestLines.played_bind, GuestLines.reaps_all, Polls.published_rests, Polls.rest_works}
 use Rattle.vs_ring_port.specs.declared.queue.Queue.TheVariants as q
 use Rattle.vs_driver_parts.specs.declared.answers.ConnectError.TheVariants as connect_refused

@@ -9,16 +9,16 @@ use Rattle.vs_outside.specs.{Host.Stream, Host.stream_at, HostBytes.host_read, H
 use Rattle.vs_page.specs.{Fair.{IsFairLog, IsPrefixOf, payload_got, payload_put}, Log.{Device, Driver, Log, Role, history_of}}
 use Rattle.vs_page.proofs.Shut.{shut_put}
 use Rattle.laws_tables.specs.Both.{at}
-use Rattle.laws_bytes.specs.Drains.{Drains, got_on, put_on, receives}
-use Rattle.laws_bytes.proofs.Firsts.{once_got, once_put, put_begun}
-use Rattle.laws_device_bytes.specs.Streamed.{IsJoined, Seen, gives, line_for, look, seen}
+use Rattle.laws_tables.specs.Drains.{Drains, got_on, put_on, receives}
+use Rattle.laws_tables.proofs.Firsts.{once_got, once_put, put_begun}
+use Rattle.laws_device.specs.Carried.Streamed.{IsJoined, Seen, gives, line_for, look, seen}
 use Rattle.laws_world.specs.{Sides.both_of, World.World, World.first_cid}
 use Rattle.laws_rest.specs.Bytes.{BothEnds, CarryBytes}
 use Rattle.laws_rest.proofs.BothEnds as both
 use Rattle.laws_world.proofs.{Once.both_ends, Growing.Grows, Growing.runs_grow}
 use Rattle.laws_world.proofs.{Journals.by_flow, Journals.received_some, Sound.Goes, Sound.IsWell}
-use Rattle.laws_driver_bytes.specs.{Received.{ReceivedOn, ReceivesOn}, Calls.{account_of, received_by, received_on, sent_on}}
-use Rattle.laws_device_bytes.proofs.Hosts.{there as is_there}
+use Rattle.laws_driver.specs.Carried.{Received.{ReceivedOn, ReceivesOn}, Calls.{account_of, received_by, received_on, sent_on}}
+use Rattle.laws_device.proofs.Carried.Hosts.{there as is_there}
 
 abbrev pub CarriesOn : Flow → World → Type 0
 CarriesOn f w = CarryBytes (first_of f) (sent_on f w.journal) (received_on f w.journal) w.host

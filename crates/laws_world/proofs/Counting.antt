@@ -25,11 +25,11 @@ use Rattle.vs_device_parts.specs.{Calls.DeviceTree, Calls.Ring, Connections.rout
 use Rattle.vs_device_parts.specs.{Streams.shut_write, Streams.tick_slot, Streams.write_pending, Transmitting.on_packet, Turns.after_reset}
 use Rattle.vs_proxy_parts.specs.State.{Handshake, ProxyState, Turning, start, with_device}
 use Rattle.vs_proxy_parts.specs.{Handshakes.accept_one, Handshakes.read_byte, Handshakes.tick_handshake, Turns.proxy_reset_of}
-use Rattle.laws_device_walk.proofs.Serving.{AfterEvent, AfterRead, AfterWrite, Closes, Fills, Writes, by_slot, keeps_hold, keeps_put_owed}
-use Rattle.laws_device_walk.proofs.Serving.{keeps_put_reply_of, keeps_read_with_chain, keeps_shut_write, keeps_tick_slot}
-use Rattle.laws_device_walk.proofs.{Turning.{AfterAccept, AfterByte, Between, Shakes, keeps_accept_one, keeps_read_byte}, Keeping.Keeps}
-use Rattle.laws_device_walk.proofs.{Keeping.{keeps_if, keeps_some, keeps_then}, Taking.{AfterDial, Takes, keeps_on_packet}}
-use Rattle.laws_device_walk.{specs.Seen.Seen, specs.Seen.seen, proofs.Serving.keeps_write_pending, proofs.Turning.keeps_tick_handshake}
+use Rattle.laws_device.proofs.Walk.Serving.{AfterEvent, AfterRead, AfterWrite, Closes, Fills, Writes, by_slot, keeps_hold, keeps_put_owed}
+use Rattle.laws_device.proofs.Walk.Serving.{keeps_put_reply_of, keeps_read_with_chain, keeps_shut_write, keeps_tick_slot}
+use Rattle.laws_device.proofs.Walk.{Turning.{AfterAccept, AfterByte, Between, Shakes, keeps_accept_one, keeps_read_byte}, Keeping.Keeps}
+use Rattle.laws_device.proofs.Walk.{Keeping.{keeps_if, keeps_some, keeps_then}, Taking.{AfterDial, Takes, keeps_on_packet}}
+use Rattle.laws_device.{specs.Walk.Seen.Seen, specs.Walk.Seen.seen, proofs.Walk.Serving.keeps_write_pending, proofs.Walk.Turning.keeps_tick_handshake}
 use Rattle.laws_device.proofs.{Transmitting.header_is, Ringing.same_self}
 use Rattle.laws_world.specs.Events.{at_moment, call_made, device_step, driver_step, happens, has_failed, holds, holds_event, is_at_rest}
 use Rattle.laws_world.specs.World.{World, around, device_plays, driver_plays, first_cid, opening}
@@ -37,15 +37,15 @@ use Rattle.laws_world.specs.Events.{is_guest_cid, line_read, proxy_step, reset_m
 use Rattle.laws_world.specs.{Answers.Around, Answers.answer_around, Counts.IsCounted, Counts.dropped_in, Pages.PageHolds}
 use Rattle.laws_world.proofs.Resetting.{keeps_played, keeps_reset, playing}
 use Rattle.laws_world.proofs.{Opening.opening_well, Rings.AreGiven, Sound.IsWell, Sound.happens_goes}
-use Rattle.laws_driver_bytes.specs.Calls.{Journal, is_right, makes_call}
+use Rattle.laws_driver.specs.Carried.Calls.{Journal, is_right, makes_call}
 use Rattle.vs_driver_parts.specs.{Conversations.{DriverTree, publish_of}, State.DriverState, Steps.{stages_owed, stages_reply, takes_page}}
 use Rattle.vs_outside.specs.declared.host_net.Accepted.TheVariants as accepted
 use Rattle.vs_outside.specs.declared.host_net.Dialed.TheVariants as dialed
 use Rattle.vs_outside.specs.declared.host_net.StreamRead.TheVariants as read
 use Rattle.vs_outside.specs.declared.host_net.StreamWrite.TheVariants as write
 use Rattle.vs_ring_port.specs.declared.device_ring.Next.TheVariants as next
-use Rattle.laws_device_walk.proofs.Serving as serving
-use Rattle.laws_device_walk.proofs.Taking as taking
+use Rattle.laws_device.proofs.Walk.Serving as serving
+use Rattle.laws_device.proofs.Walk.Taking as taking
 use Rattle.laws_world.specs.Events as events
 
 -- Between calls, and while a page of tx is held that was judged.

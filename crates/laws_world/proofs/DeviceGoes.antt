@@ -4,7 +4,7 @@ use Rattle.vs_page.specs.{Log.Device, Log.HasGotAll, Log.flow_got, declared.log.
 use Rattle.laws_tables.specs.Both.{Both, IsSound, Seat}
 use Rattle.laws_tables.proofs.{Fair.got_formed, Voices.AreVoiced, Voices.voices_run}
 use Rattle.laws_device.proofs.Seats.{Carried, PutsFit}
-use Rattle.laws_device_bytes.proofs.Cids.{dropped_empty}
+use Rattle.laws_device.proofs.Carried.Cids.{dropped_empty}
 use Rattle.laws_world.proofs.Runs.{and_then, device_runs, got_before, keeps_sound, log_before}
 use Rattle.laws_world.{specs.Sides.Runs, specs.World.first_cid, proofs.Once.AreOnce, proofs.Once.both_ends, proofs.Once.keeps_once}
 use Rattle.laws_rest.proofs.BothEnds as both

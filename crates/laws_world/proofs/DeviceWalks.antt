@@ -23,7 +23,7 @@ use Rattle.vs_device_parts.specs.Calls.{Accept, Call, CloseStream, DeviceTree, D
 use Rattle.vs_device_parts.specs.{Calls.Ring, Calls.ShutWrite, Calls.Situation, Calls.TakesWithin, Calls.WriteStream, Playing.situation}
 use Rattle.laws_device.proofs.Keeping.{Can, Keeps, Lets}
 use Rattle.laws_device.{specs.Honest.is_held, proofs.Seats.PutsFit, proofs.Transmitting.header_is}
-use Rattle.laws_device_bytes.proofs.Short.{bytes_short, read_short, write_short}
+use Rattle.laws_device.proofs.Carried.Short.{bytes_short, read_short, write_short}
 use Rattle.laws_world.specs.{Answers.Around, Answers.answer_around, Answers.bytes_with, Pages.PageHolds}
 use Rattle.laws_world.proofs.{Rings.AreGiven, Rings.given_left, Wire.next_fits}
 use Rattle.vs_outside.specs.declared.host_net.Dialed.TheVariants as dialed

@@ -11,12 +11,12 @@ use Rattle.vs_driver_parts.{specs.Conversations.DriverTree, specs.Conversations.
 use Rattle.vs_driver_parts.{specs.Connections.recv_of, specs.Steps.sends_on, specs.declared.answers.Sent.Sent, proofs.Known.flow_known}
 use Rattle.laws_driver.proofs.Putting.{connect_puts, owed_puts, reply_puts, send_puts}
 use Rattle.laws_driver.{specs.Honest.slots_of, proofs.Carrying.Carries, proofs.Carrying.Fact, proofs.Going.Goes, proofs.Walking.poll_goes}
-use Rattle.laws_driver_bytes.specs.Calls.{Connect, GuestCall, Journal, LookAt, Recv, ReplyTo, Send, account_of, bytes_sent, flow_named}
-use Rattle.laws_driver_bytes.specs.Calls.{id_named, is_on, is_right, makes_call, sent_of, sent_on, with_call}
-use Rattle.laws_driver_bytes.specs.{Received.Account, Received.AreReceived, Received.ReceivesOn, Sent.only_on, Sent.took}
-use Rattle.laws_driver_bytes.proofs.Making.{CarriesCall, account_after, at_first, call_goes, call_received, call_sent, further_as}
-use Rattle.laws_driver_bytes.proofs.Making.{further_journal, port_fits, sent_with}
-use Rattle.laws_driver_bytes.proofs.{Polling.IsFurther, Polling.poll_carries, Sending.poll_puts, Sending.puts_as}
+use Rattle.laws_driver.specs.Carried.Calls.{Connect, GuestCall, Journal, LookAt, Recv, ReplyTo, Send, account_of, bytes_sent, flow_named}
+use Rattle.laws_driver.specs.Carried.Calls.{id_named, is_on, is_right, makes_call, sent_of, sent_on, with_call}
+use Rattle.laws_driver.specs.Carried.{Received.Account, Received.AreReceived, Received.ReceivesOn, Sent.only_on, Sent.took}
+use Rattle.laws_driver.proofs.Carried.Making.{CarriesCall, account_after, at_first, call_goes, call_received, call_sent, further_as}
+use Rattle.laws_driver.proofs.Carried.Making.{further_journal, port_fits, sent_with}
+use Rattle.laws_driver.proofs.Carried.{Polling.IsFurther, Polling.poll_carries, Sending.poll_puts, Sending.puts_as}
 use Rattle.laws_device.proofs.Seats.{PutsFit}
 use Rattle.laws_world.proofs.Names.{Names, NamesFrom, NamesMay, StaysNamed, WaitsApart, call_named, flows, named_from, names_kept}
 use Rattle.laws_world.proofs.Journals.{Agrees, AllAgree, agree_on, either_none}

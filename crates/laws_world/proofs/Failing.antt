@@ -12,9 +12,9 @@ use Rattle.vs_flow.specs.declared.flow.Flow.{Flow}
 use Rattle.vs_wrap.specs.Wrap.{counted}
 use Rattle.vs_device_parts.specs.State.{DeviceEntry, DeviceState}
 use Rattle.vs_proxy_parts.specs.{State.Handshake, State.ProxyState, Turns.proxy_reset_of, Turns.turn_of, declared.answers.Turn.Turn}
-use Rattle.laws_device_walk.proofs.Serving.{AfterEvent, AfterRead, AfterWrite, Closes, Fills, Writes}
-use Rattle.laws_device_walk.proofs.Turning.{AfterAccept, AfterByte, Between, Shakes, keeps_turn}
-use Rattle.laws_device_walk.{specs.Seen.Seen, specs.Seen.seen, proofs.Taking.AfterDial, proofs.Taking.Takes}
+use Rattle.laws_device.proofs.Walk.Serving.{AfterEvent, AfterRead, AfterWrite, Closes, Fills, Writes}
+use Rattle.laws_device.proofs.Walk.Turning.{AfterAccept, AfterByte, Between, Shakes, keeps_turn}
+use Rattle.laws_device.{specs.Walk.Seen.Seen, specs.Walk.Seen.seen, proofs.Walk.Taking.AfterDial, proofs.Walk.Taking.Takes}
 use Rattle.laws_world.proofs.Resetting.{keeps_played, keeps_reset, playing}
 use Rattle.laws_world.specs.{Answers.Around, Plays.reset_line, Plays.turn_line, World.World, World.around}
 use Rattle.vs_outside.specs.declared.host_net.Accepted.TheVariants as accepted
@@ -22,8 +22,8 @@ use Rattle.vs_outside.specs.declared.host_net.Dialed.TheVariants as dialed
 use Rattle.vs_outside.specs.declared.host_net.StreamRead.TheVariants as read
 use Rattle.vs_outside.specs.declared.host_net.StreamWrite.TheVariants as write
 use Rattle.vs_ring_port.specs.declared.device_ring.Next.TheVariants as next
-use Rattle.laws_device_walk.proofs.Serving as serving
-use Rattle.laws_device_walk.proofs.Taking as taking
+use Rattle.laws_device.proofs.Walk.Serving as serving
+use Rattle.laws_device.proofs.Walk.Taking as taking
 
 -- One call more leaves one fewer that is to fail, where it failed.
 shorter : (calls : List ℕ) → length (counted_down calls) + cond (fails_next calls) 1 0 ≤ length calls

@@ -10,8 +10,8 @@ use Rattle.vs_driver_parts.specs.{State.DriverState, State.DriverEntry, State.en
 use Rattle.vs_driver_parts.specs.{Connections.with_end, declared.answers.ConnectError.ConnectError, declared.answers.Sent.Sent}
 use Rattle.vs_conn.specs.{End.may_send_of, End.wanting_credit, declared.end.Stop.Stop}
 use Rattle.vs_flow.specs.declared.flow.Flow.{Flow}
-use Rattle.laws_driver_bytes.specs.Calls.{GuestCall, ReplyTo, Connect, Listen, Unlisten, Accept, Send, Recv, Shutdown, Grow, Close, LookAt}
-use Rattle.laws_driver_bytes.specs.Calls.{is_right, flow_named, id_named, makes_call, with_call}
+use Rattle.laws_driver.specs.Carried.Calls.{GuestCall, ReplyTo, Connect, Listen, Unlisten, Accept, Send, Recv, Shutdown, Grow, Close, LookAt}
+use Rattle.laws_driver.specs.Carried.Calls.{is_right, flow_named, id_named, makes_call, with_call}
 use Rattle.laws_world.specs.Events.{call_made, Event, GuestCalls, GuestTakes, driver_step, happens, is_at_rest, none_staged, run}
 use Rattle.laws_world.specs.{Plays.guest_line, Events.where_possible, Events.works_on, Steps.Leads, World.World}
 use Rattle.vs_ring_port.specs.declared.queue.Queue.TheVariants as q

@@ -3,7 +3,7 @@ use Rattle.std.proofs.Common.{◌≡◌, ℕ, ◌≤◌, ◌==◌, ◌⊎◌, in
 use Rattle.std.proofs.{Common.subst, Common.◌∙◌, Common.arith, Common.append-nil, lemmas.Bool.Decides.nat_tests}
 use Rattle.vs_flow.specs.{Connection.Connection, Flow.same_flow, declared.flow.Flow.Flow}
 use Rattle.vs_page.proofs.Flows.{same_is, same_self}
-use Rattle.laws_driver_bytes.specs.Calls.{Journal, Made, bytes_received, is_on, names, received_by, received_on}
+use Rattle.laws_driver.specs.Carried.Calls.{Journal, Made, bytes_received, is_on, names, received_by, received_on}
 
 pub either_none : (b : Bool) (bytes : List ℕ) → bytes ≡ [] → cond b bytes [] ≡ []
 either_none true bytes none = none

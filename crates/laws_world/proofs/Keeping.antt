@@ -24,8 +24,8 @@ use Rattle.vs_driver_parts.proofs.{Ids.found_under, Packets.first_under, Packets
 use Rattle.vs_replies.specs.Owed.{reply_to}
 use Rattle.vs_wrap.specs.Wrap.{counted}
 use Rattle.laws_driver.{specs.Honest.IsFitState, proofs.Carrying.Carries, proofs.Carrying.Fact, proofs.Changing.close_changes}
-use Rattle.laws_driver_bytes.specs.Calls.{Accept, Close, Connect, Grow, GuestCall, Listen, LookAt, Recv, Send, Shutdown, Unlisten}
-use Rattle.laws_driver_bytes.proofs.Making.{CarriesCall}
+use Rattle.laws_driver.specs.Carried.Calls.{Accept, Close, Connect, Grow, GuestCall, Listen, LookAt, Recv, Send, Shutdown, Unlisten}
+use Rattle.laws_driver.proofs.Carried.Making.{CarriesCall}
 use Rattle.laws_world.proofs.Listeners.{AllIds}
 use Rattle.vs_conn.specs.declared.end.Owed.TheVariants as owed
 use Rattle.vs_conn.specs.declared.end.State.TheVariants as state

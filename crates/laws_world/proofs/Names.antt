@@ -15,8 +15,8 @@ use Rattle.vs_driver_parts.specs.{Connections.without_gone, Listening.{is_answer
 use Rattle.vs_driver_parts.proofs.Ids.{HasId, entry_has, found_under, has_slot}
 use Rattle.vs_driver_parts.proofs.{Known.flow_gone, Known.flow_known, SameIds.closing_closed, SameIds.closing_id}
 use Rattle.laws_driver.{specs.Honest.slots_of, proofs.Carrying.Fact}
-use Rattle.laws_driver_bytes.specs.Received.{Account, AreReceived, ReceivedOn, ReceivesOn}
-use Rattle.laws_driver_bytes.specs.Calls.{Close, GuestCall, Journal, LookAt, ReplyTo, with_call}
+use Rattle.laws_driver.specs.Carried.Received.{Account, AreReceived, ReceivedOn, ReceivesOn}
+use Rattle.laws_driver.specs.Carried.Calls.{Close, GuestCall, Journal, LookAt, ReplyTo, with_call}
 use Rattle.vs_conn.specs.End.{ConnectionEnd, answering}
 use Rattle.vs_header.specs.declared.Kind.TheVariants.{Stream}
 use Rattle.vs_limits.specs.declared.TheConstants.{BUF_ALLOC}

@@ -15,7 +15,7 @@ use Rattle.vs_driver_parts.specs.Listening.{accept_of, after_accept, is_answered
 use Rattle.vs_driver_parts.proofs.Ids.{HasId}
 use Rattle.vs_driver_parts.specs.{Conversations.connect_of, declared.answers.Accepted.Accepted, declared.answers.ConnectError.ConnectError}
 use Rattle.laws_driver.proofs.{Calls.connect_keeps, Carrying.Fact}
-use Rattle.laws_driver_bytes.specs.Calls.{account_of}
+use Rattle.laws_driver.specs.Carried.Calls.{account_of}
 use Rattle.laws_world.proofs.Listeners.{AllWait, IsOfPort, IsOther, accepted_other, ids_found, wait_found, wait_weaker}
 use Rattle.laws_world.proofs.Names.{IsOver, Stands, WaitsApart, answered_seen, flow_opened, flow_seen, seen, shown}
 use Rattle.laws_world.specs.{Names.HasFlow, Names.times_closed, Sides.log_with_staged, World.World, World.first_cid}

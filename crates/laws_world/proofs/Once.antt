@@ -10,10 +10,10 @@ use Rattle.vs_page.proofs.{Entries.got_on, Entries.on_flow, Flows.opposite_by, F
 use Rattle.laws_tables.specs.Both.{Asks, Both, Decides, Happening, IsSound, MayHappen, MayRun, Opens, Pays, Sends, Step, at, happens, run, start}
 use Rattle.laws_tables.proofs.{Both.next_is_fair, Fair.own_got_fair}
 use Rattle.laws_rest.specs.Bytes.{BothEnds}
-use Rattle.laws_asked.specs.Asked.{AskOnce, Does}
-use Rattle.laws_asked.proofs.Asking.{begins_once, step_once}
+use Rattle.laws_tables.specs.Asked.{AskOnce, Does}
+use Rattle.laws_tables.proofs.Asking.{begins_once, step_once}
 use Rattle.laws_world.specs.Sides.{AsksAnew, Runs, RunsAnew}
-use Rattle.laws_bytes.proofs.Firsts.{asker_asks, none_begun}
+use Rattle.laws_tables.proofs.Firsts.{asker_asks, none_begun}
 
 abbrev pub AreOnce : Both → Type 0
 AreOnce b = (role : Role) → AskOnce role (at role b)

@@ -18,9 +18,9 @@ use Rattle.vs_driver_parts.specs.Conversations.{DriverTree, load_cid, new_of, ne
 use Rattle.vs_driver_parts.specs.State.{DriverState}
 use Rattle.laws_driver.specs.{Honest.IsFitState, Honest.slots_of, Resets.MarksResets}
 use Rattle.laws_driver.proofs.{Calls.made_fits, Calls.new_keeps, Carrying.nothing, Staging.Rests}
-use Rattle.laws_driver_bytes.{specs.Received.AreReceived, specs.Received.no_account, proofs.Connecting.none_received}
+use Rattle.laws_driver.{specs.Carried.Received.AreReceived, specs.Carried.Received.no_account, proofs.Carried.Connecting.none_received}
 use Rattle.laws_device.proofs.Seats.{PutsFit}
-use Rattle.laws_device_bytes.proofs.Changing.{no_streams}
+use Rattle.laws_device.proofs.Carried.Changing.{no_streams}
 use Rattle.laws_tables.specs.Both as both
 use Rattle.laws_world.specs.Events as events
 

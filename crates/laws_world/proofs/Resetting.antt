@@ -6,7 +6,7 @@ use Rattle.vs_ring_port.specs.{Contents.PublishCid, declared.failure.Failure.Fai
 use Rattle.vs_device_parts.specs.{Calls.{CloseStream, DeviceTree, Ring}, Connections.{stream_closed, with_connection}, State.DeviceEntry}
 use Rattle.vs_device_parts.specs.{State.DeviceState, Streams.closing, Turns.{after_reset, close_slot, reset_of}}
 use Rattle.vs_proxy_parts.specs.{Handshakes.streams_of, State.ProxyState, Turns.close_handshake, Turns.proxy_reset_of, Turns.reset_with}
-use Rattle.laws_device_walk.proofs.Keeping.{Asking, Keeps, keeps_each, keeps_if, keeps_some, keeps_then}
+use Rattle.laws_device.proofs.Walk.Keeping.{Asking, Keeps, keeps_each, keeps_if, keeps_some, keeps_then}
 use Rattle.laws_world.specs.Answers.{Around, answer_around}
 
 -- A conversation over list rings and a host in memory: what holds at its end.

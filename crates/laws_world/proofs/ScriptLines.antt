@@ -6,7 +6,7 @@ use Rattle.laws_world.specs.Events.{ClientConnects, HostCloses, HostEnds, HostFa
 use Rattle.laws_world.specs.{Events.{Reset, is_at_rest, is_guest_cid, reset_made}, Plays.{Line, Guest, Poll, TurnAt, ResetTo, Client}}
 use Rattle.laws_world.specs.Plays.{HostListen, HostUnlisten, HostWrite, HostAllow, HostEnd, HostClosed, HostFail, AreRight, after, line}
 use Rattle.laws_world.specs.{Plays.{is_given_right, play, report, sent_by}, Steps.Leads, World.{World, opening}}
-use Rattle.laws_driver_bytes.specs.Calls.{sent_on}
+use Rattle.laws_driver.specs.Carried.Calls.{sent_on}
 use Rattle.laws_world.proofs.{CallRests.call_rests, CallRests.opening_rests, GuestLines.call_leads, GuestLines.leads_none}
 use Rattle.laws_world.proofs.{GuestLines.leads_one, GuestLines.leads_then, GuestLines.possible_is, Polls.poll_does, TurnLines.turn_leads}
 

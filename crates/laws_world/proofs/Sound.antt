@@ -28,12 +28,12 @@ use Rattle.laws_world.proofs.{DeviceGoes.cids_kept, DeviceWalks.AllHeads, Driver
 use Rattle.laws_world.proofs.{Runs.{goes_run, keeps_sound, stays}, Once.{AreOnce, keeps_once}}
 use Rattle.laws_rest.proofs.BothEnds as both
 use Rattle.laws_world.proofs.{Once.both_ends, Wire.first_fit, Keeping.Sees, Names.{StaysNamed, WaitsApart, named_from, named_still}}
-use Rattle.laws_driver_bytes.specs.Calls.{Journal, LookAt, is_right, sent_on, makes_call, GuestCall, ReplyTo, account_of, with_call}
-use Rattle.laws_driver_bytes.specs.Received.{Account, AreReceived}
-use Rattle.laws_driver_bytes.proofs.{Making.made_with, Polling.IsFurther, Sending.puts_as}
+use Rattle.laws_driver.specs.Carried.Calls.{Journal, LookAt, is_right, sent_on, makes_call, GuestCall, ReplyTo, account_of, with_call}
+use Rattle.laws_driver.specs.Carried.Received.{Account, AreReceived}
+use Rattle.laws_driver.proofs.Carried.{Making.made_with, Polling.IsFurther, Sending.puts_as}
 use Rattle.vs_flow.specs.{declared.flow.Flow.Flow, Table.Table, Connection.Connection, Connection.first_of}
-use Rattle.laws_device_bytes.specs.Streamed.{IsStreamed}
-use Rattle.laws_device_bytes.proofs.{Changing.StreamedIf, HostCalls.client_host, HostCalls.same_host, Hosts.unseen}
+use Rattle.laws_device.specs.Carried.Streamed.{IsStreamed}
+use Rattle.laws_device.proofs.Carried.{Changing.StreamedIf, HostCalls.client_host, HostCalls.same_host, Hosts.unseen}
 use Rattle.vs_limits.specs.declared.TheConstants.{GUEST_CID_MIN, GUEST_CID_MAX, ASSIGNED_FIRST}
 use Rattle.laws_driver.proofs.{Carrying.{Carries, Fact, Holds, IsTiedBy, RestsWith}, Stepping.{Works, owed_with, publish_with, reply_with}}
 use Rattle.laws_driver.proofs.{Stepping.takes_with, Keeping.{Keeps, keeps_weaker}, Staging.{Rests, rests_tied}}

@@ -6,7 +6,7 @@ use Rattle.vs_device_parts.specs.State.{DeviceEntry}
 use Rattle.vs_flow.specs.declared.flow.Flow.{Flow}
 use Rattle.laws_history.specs.History.{Asker, Side, gots, puts}
 use Rattle.vs_page.specs.{Fair.asked_by, Fair.number_of, Log.Device, Log.Log, Log.side_of, Log.whole_of, Open.is_open}
-use Rattle.laws_asked.specs.Asked.{has_new}
+use Rattle.laws_tables.specs.Asked.{has_new}
 use Rattle.laws_tables.specs.Ends.{flows_of, is_among, is_new, new_flows, replied}
 use Rattle.laws_tables.{specs.Steps.HasEnd, proofs.Slots.one_end, proofs.Tables.all_open, proofs.Tables.end_new}
 use Rattle.laws_device.specs.Streams.{has_open_stream, is_waiting_for_request}

@@ -12,7 +12,7 @@ use Rattle.vs_proxy_parts.specs.{State.Turning, State.start, State.with_device, 
 use Rattle.vs_proxy_parts.specs.Handshakes.{accept_one, read_byte}
 use Rattle.laws_device.specs.Honest.{is_held}
 use Rattle.laws_world.specs.{World.World, World.driver_plays, World.device_plays}
-use Rattle.laws_driver_bytes.specs.Calls.{GuestCall, ReplyTo, is_right, makes_call, with_call}
+use Rattle.laws_driver.specs.Carried.Calls.{GuestCall, ReplyTo, is_right, makes_call, with_call}
 use Rattle.vs_header.specs.declared.Kind.TheVariants as kind
 use Rattle.vs_ring_port.specs.declared.queue.Queue.TheVariants as q
 

@@ -2,7 +2,7 @@
 use Rattle.std.specs.Prelude.{◌≡◌, ℕ, suc, ◌==◌, Bool, false, if◌then◌else◌, [], ◌∷◌, Some}
 use Rattle.vs_flow.specs.declared.flow.Flow.{Flow}
 use Rattle.vs_driver_parts.specs.{Connections.flow_of, State.DriverState}
-use Rattle.laws_driver_bytes.specs.Calls.{Close, GuestCall, Journal}
+use Rattle.laws_driver.specs.Carried.Calls.{Close, GuestCall, Journal}
 
 -- The id has this flow, and no other id has it.
 abbrev pub HasFlow : ℕ → Flow → DriverState → Type 0

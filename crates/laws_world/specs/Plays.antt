@@ -8,7 +8,7 @@ use Rattle.vs_ring_port.specs.declared.failure.Failure.{Failure}
 use Rattle.vs_driver_parts.specs.{declared.answers.Polled.Polled, Conversations.poll_of}
 use Rattle.vs_proxy_parts.specs.{Turns.turn_of, Turns.proxy_reset_of, declared.answers.Turn.Turn}
 use Rattle.laws_world.specs.{Events.is_guest_cid, World.World, World.driver_plays, World.device_plays}
-use Rattle.laws_driver_bytes.specs.Calls.{GuestCall, ReplyTo, bytes_sent, flow_named, is_on, is_right, whole_call, with_call}
+use Rattle.laws_driver.specs.Carried.Calls.{GuestCall, ReplyTo, bytes_sent, flow_named, is_on, is_right, whole_call, with_call}
 use Rattle.vs_header.specs.declared.Kind.TheVariants as kind
 
 pub data Line : Type 0 where

@@ -9,7 +9,7 @@ use Rattle.vs_limits.specs.declared.TheConstants.{FIRST_PORT}
 use Rattle.vs_device_parts.specs.Calls.{DeviceTree}
 use Rattle.vs_proxy_parts.specs.{State.ProxyState, Turns.new_proxy}
 use Rattle.laws_world.specs.Answers.{Around, answer_around}
-use Rattle.laws_driver_bytes.specs.Calls.{Journal}
+use Rattle.laws_driver.specs.Carried.Calls.{Journal}
 
 pub record World : Type 0 where
   pub driver : DriverState

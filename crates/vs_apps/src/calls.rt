@@ -4,8 +4,8 @@ ghost use Rattle.std.specs.Prelude.{◌≡◌, ◌+◌, ◌<◌, ◌≤◌, ℕ,
 ghost use Rattle.vs_ring_port.specs.{Contents.RingContents, Counts.Counts};
 ghost use Rattle.vs_driver_parts.specs.Playing.{IsRingOf};
 ghost use Rattle.laws_driver.specs.Honest.{IsHonest, IsHonestWith};
-ghost use Rattle.laws_driver_bytes.specs.Calls.{flow_accepted, flow_opened};
-ghost use Rattle.laws_driver_bytes.specs.Calls as call;
+ghost use Rattle.laws_driver.specs.Carried.Calls.{flow_accepted, flow_opened};
+ghost use Rattle.laws_driver.specs.Carried.Calls as call;
 ghost use Rattle.vs_apps_parts.specs.{Journals.data_at, Scripts.RunScript, Scripts.acts_of, Scripts.slice_of};
 ghost use Rattle.vs_apps_parts.specs.{declared.progress.AppState.AppState};
 ghost use Rattle.laws_apps.specs.Calls.{CallsAs, run_with};

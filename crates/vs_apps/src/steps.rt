@@ -7,7 +7,7 @@ ghost use Rattle.vs_script.specs.{App.instruction_view, Data.bytes_of, Data.cont
 ghost use Rattle.vs_ring_port.specs.{Contents.RingContents, Counts.Counts};
 ghost use Rattle.vs_driver_parts.specs.Playing.{IsRingOf};
 ghost use Rattle.laws_driver.specs.Honest.{IsHonest, IsHonestWith};
-ghost use Rattle.laws_driver_bytes.specs.Calls as call;
+ghost use Rattle.laws_driver.specs.Carried.Calls as call;
 ghost use Rattle.vs_apps_parts.specs.Scripts.{AreRight, IsRight, RunScript, acts_of, calls_next, id_of, recv_next, script_of, send_next};
 ghost use Rattle.vs_apps_parts.specs.{Journals.data_at, Told.listed, Told.told_list};
 ghost use Rattle.vs_apps_parts.specs.declared.progress.{AppState.AppState, TheConstants.SLICE};

@@ -3,8 +3,8 @@ use Rattle.std.specs.Prelude.{ℕ, false, List, [], ◌∷◌, codes, Ok, Err, S
 use Rattle.vs_flow.specs.Flow.{host_flow}
 use Rattle.vs_script.specs.{App.Act, Data.Given}
 use Rattle.vs_script.specs.App as act
-use Rattle.laws_driver_bytes.specs.Calls.{Made}
-use Rattle.laws_driver_bytes.specs.Calls as call
+use Rattle.laws_driver.specs.Carried.Calls.{Made}
+use Rattle.laws_driver.specs.Carried.Calls as call
 use Rattle.vs_apps_parts.specs.{Journals.entry_called, Journals.entry_waited, Journals.made_as, Scripts.RunScript}
 use Rattle.vs_apps_parts.specs.declared.{journal.Entry.Entry, progress.Progress.Progress}
 use Rattle.vs_apps_parts.specs.declared.journal.Called.TheVariants as called

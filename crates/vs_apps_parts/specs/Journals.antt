@@ -4,8 +4,8 @@ use Rattle.std.specs.{Option.unwrap_or, Prelude.Option, Prelude.Some, Prelude.No
 use Rattle.vs_script.specs.{App.Act, Data.bytes_of}
 use Rattle.vs_script.specs.App as act
 use Rattle.vs_driver_parts.specs.Connections.{got_count}
-use Rattle.laws_driver_bytes.specs.{Calls.GuestCall, Calls.Journal, Calls.Made, Calls.ReplyTo, Calls.bytes_sent, Calls.names}
-use Rattle.laws_driver_bytes.specs.Calls as call
+use Rattle.laws_driver.specs.Carried.{Calls.GuestCall, Calls.Journal, Calls.Made, Calls.ReplyTo, Calls.bytes_sent, Calls.names}
+use Rattle.laws_driver.specs.Carried.Calls as call
 use Rattle.vs_apps_parts.specs.{Scripts.{RunScript, acts_of, slice_of}, declared.journal.{Called.Called, Entry.Entry, WaitsFor.WaitsFor}}
 use Rattle.vs_apps_parts.specs.declared.journal.Called.TheVariants as called
 use Rattle.vs_apps_parts.specs.declared.journal.Deed.TheVariants as deed

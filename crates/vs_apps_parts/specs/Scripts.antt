@@ -3,8 +3,8 @@ use Rattle.std.specs.Prelude.{◌≡◌, ℕ, ◌+◌, ◌-◌, ◌≤◌, ◌^�
 use Rattle.std.specs.{Prelude.{◌++◌, map, take, drop, slice_get, slice_index_or, Some, None}, List.All, Option.unwrap_or}
 use Rattle.vs_script.specs.{Data.Content, Data.bytes_of, Data.size_of, declared.app.App.App, App.Act, App.app_view, App.Connect, App.Listen}
 use Rattle.vs_script.specs.App.{Accept, Send, Recv, Drain, Exchange, Shutdown, Grow, Close}
-use Rattle.laws_driver_bytes.specs.Calls.{GuestCall, Journal, Made}
-use Rattle.laws_driver_bytes.specs.Calls as call
+use Rattle.laws_driver.specs.Carried.Calls.{GuestCall, Journal, Made}
+use Rattle.laws_driver.specs.Carried.Calls as call
 use Rattle.vs_apps_parts.specs.{Told.is_any_end, Told.step_wait, Told.told_of, Told.wait_of, declared.progress.Progress.Progress}
 use Rattle.vs_apps_parts.specs.declared.{progress.TheConstants.SLICE, told.Told.Told}
 use Rattle.vs_apps_parts.specs.declared.told.Told.TheVariants as told

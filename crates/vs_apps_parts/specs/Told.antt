@@ -2,7 +2,7 @@
 use Rattle.std.specs.Prelude.{ℕ, ◌||◌, Bool, true, false, List, [], ◌∷◌, ◌++◌, Option, Some, None, Result, Ok, Err}
 use Rattle.vs_driver_parts.specs.declared.answers.{Accepted.Accepted, ConnectError.ConnectError, ConnectionState.ConnectionState}
 use Rattle.vs_driver_parts.specs.declared.answers.{Received.Received, Sent.Sent}
-use Rattle.laws_driver_bytes.specs.Calls.{GuestCall, Made, ReplyTo, Connect, Accept, Send, Recv, LookAt}
+use Rattle.laws_driver.specs.Carried.Calls.{GuestCall, Made, ReplyTo, Connect, Accept, Send, Recv, LookAt}
 use Rattle.vs_apps_parts.specs.declared.{journal.WaitsFor.WaitsFor, told.Heard.Heard, told.Told.Told}
 use Rattle.vs_apps_parts.specs.declared.journal.WaitsFor.TheVariants as waits
 use Rattle.vs_apps_parts.specs.declared.told.Told.TheVariants as told

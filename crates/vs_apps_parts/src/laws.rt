@@ -1,7 +1,7 @@
 //! Worked runs of apps.
 
 ghost use Rattle.std.specs.Prelude.{◌≡◌, [], ◌∷◌, codes, None, Some, true};
-ghost use Rattle.laws_driver_bytes.specs.Calls.{received_by};
+ghost use Rattle.laws_driver.specs.Carried.Calls.{received_by};
 ghost use Rattle.vs_script.specs.{App.Accept, App.Close, App.Connect, App.Drain, App.Exchange, App.Recv, App.Send, Data.Given};
 ghost use Rattle.vs_apps_parts.specs.Examples.{accepted_one, answered, asked, at_next, bad_port, both_wait, closed_it, drained, full};
 ghost use Rattle.vs_apps_parts.specs.Examples.{greeters, greeting, heard_nothing, heard_unknown, hi, looked, no_credit, none_waiting};

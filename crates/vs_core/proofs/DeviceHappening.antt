@@ -7,7 +7,7 @@ use Rattle.vs_ring_port.specs.Chains.{Held, chains_of, same_chain, same_queue}
 use Rattle.vs_ring_port.specs.declared.{device_ring.Chain.Chain, failure.Failure.Failure, queue.Queue.Queue}
 use Rattle.vs_ring_list.{specs.Ends.Ends, proofs.Held.same_chain_is, proofs.Held.same_queue_is}
 use Rattle.vs_device_parts.specs.{Calls.DeviceTree, Playing.IsAmong, State.DeviceState}
-use Rattle.laws_device_streams.specs.Streams.{HasStreams}
+use Rattle.laws_device.specs.Named.Streams.{HasStreams}
 use Rattle.vs_proxy_parts.specs.{State.{ProxyState, Turning, start, with_device}, Handshakes.{read_byte, streams_of}, Turns.proxy_reset_of}
 use Rattle.laws_device.specs.Honest.{is_held}
 use Rattle.laws_world.specs.Events.{Event, Moment, device_step, happens, has_failed, host_step, line_read, proxy_step, reset_made, run}

@@ -16,12 +16,12 @@ use Rattle.vs_proxy_parts.specs.{Handshakes.accept_one, Handshakes.tick_handshak
 use Rattle.laws_world.specs.Events.{Event, call_made, device_step, driver_step, happens, has_failed, holds, is_at_rest, is_guest_cid}
 use Rattle.laws_world.specs.Events.{line_read, proxy_step, reset_made, run, unless_failed, where_possible, works_on}
 use Rattle.laws_world.{specs.World.World, specs.World.first_cid, specs.World.opening, specs.Over.over_lists, proofs.OverLists.over}
-use Rattle.laws_driver_bytes.specs.Calls.{GuestCall, ReplyTo, is_right, makes_call}
+use Rattle.laws_driver.specs.Carried.Calls.{GuestCall, ReplyTo, is_right, makes_call}
 use Rattle.vs_core.proofs.Driven.{driven_stays, honest_rest, rested, stepped, works_with}
 use Rattle.vs_core.specs.Ready.{Happens, IsDrivenAtWork, IsReached, IsReady, IsServedAtWork, WorldState, shown, with_journal}
 use Rattle.vs_core.specs.{Views.Steps, Views.Tells, Views.TellsWhere, declared.event.Reply.Reply}
 use Rattle.vs_ring_port.specs.declared.queue.Queue.TheVariants as q
-use Rattle.laws_driver_bytes.specs.Calls as call
+use Rattle.laws_driver.specs.Carried.Calls as call
 use Rattle.laws_world.specs.Events as event
 
 -- What happens doesn't look at the journal.

@@ -6,11 +6,11 @@ use Rattle.vs_ring_port.specs.{Chains.same_queue, declared.{device_ring.Chain.Ch
 use Rattle.vs_ring_list.{specs.Ends.device_contents, proofs.Held.same_queue_is}
 use Rattle.vs_device_parts.specs.Steps.{puts_event, puts_owed, puts_payload, puts_reply, shuts_write, takes_chain, writes}
 use Rattle.vs_device_parts.specs.{Calls.Situation, Calls.Allows, Playing.CanMake, Playing.MayRun, Playing.situation, Streams.tick_slot}
-use Rattle.laws_device_streams.proofs.Stepping.{puts_event_keeps, shuts_at, takes_at, writes_at, puts_owed_keeps, puts_payload_keeps}
-use Rattle.laws_device_streams.{specs.Split.CanReach, specs.Streams.HasStreams, proofs.Conditions.may_where, proofs.Conditions.quiet_can}
-use Rattle.laws_device_streams.{proofs.Keeping.keeps_may, proofs.Stepping.puts_reply_keeps, proofs.Closing.keeps_tick_slot}
+use Rattle.laws_device.proofs.Named.Stepping.{puts_event_keeps, shuts_at, takes_at, writes_at, puts_owed_keeps, puts_payload_keeps}
+use Rattle.laws_device.{specs.Named.Split.CanReach, specs.Named.Streams.HasStreams, proofs.Named.Conditions.may_where, proofs.Named.Conditions.quiet_can}
+use Rattle.laws_device.{proofs.Named.Keeping.keeps_may, proofs.Named.Stepping.puts_reply_keeps, proofs.Named.Closing.keeps_tick_slot}
 use Rattle.vs_proxy_parts.specs.{Handshakes.read_byte, Handshakes.streams_of, Handshakes.tick_handshake, State.start, Turns.proxy_reset_of}
-use Rattle.laws_proxy_streams.proofs.{Shaking.FindsAll, Shaking.keeps_read_byte, Shaking.keeps_tick_handshake, Turning.keeps_proxy_reset}
+use Rattle.laws_proxy.proofs.Named.{Shaking.FindsAll, Shaking.keeps_read_byte, Shaking.keeps_tick_handshake, Turning.keeps_proxy_reset}
 use Rattle.laws_device.{specs.Honest.is_held, proofs.Carrying.With, proofs.Keeping.keeps_put}
 use Rattle.laws_world.proofs.Sound.{IsWell, all, carry, held_there, proxied}
 use Rattle.laws_world.specs.{Events.holds, World.World, World.first_cid}

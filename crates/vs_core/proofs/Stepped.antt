@@ -7,7 +7,7 @@ use Rattle.vs_ring_port.specs.{Chains.chains_of, EndLog.EndLog, declared.failure
 use Rattle.vs_ring_list.specs.Ends.{Ends, device_contents, staged_of}
 use Rattle.laws_driver.specs.Staged.{IsTied}
 use Rattle.vs_driver_parts.specs.{Playing.all_flown, State.DriverState}
-use Rattle.laws_device_streams.specs.Streams.{HasStreams}
+use Rattle.laws_device.specs.Named.Streams.{HasStreams}
 use Rattle.vs_device_parts.specs.Playing.{IsAmong, IsRxChain, MayRun, Runs, situation}
 use Rattle.vs_device_parts.specs.{State.DeviceState, Calls.Accept, Calls.DeviceTree, Calls.Situation, Steps.returns}
 use Rattle.laws_device.proofs.Keeping.{HoldsChain}

@@ -7,10 +7,10 @@ use Rattle.vs_outside.specs.Host.{HostContents}
 use Rattle.vs_driver_parts.specs.{Playing.all_flown, State.DriverState}
 use Rattle.laws_driver.specs.Staged.{IsTied}
 use Rattle.vs_device_parts.specs.Playing.{IsAmong}
-use Rattle.laws_device_streams.specs.Streams.{HasStreams}
+use Rattle.laws_device.specs.Named.Streams.{HasStreams}
 use Rattle.vs_proxy_parts.specs.{Handshakes.streams_of, State.ProxyState}
 use Rattle.laws_world.specs.{Events.Event, Events.happens, Events.run, World.World, World.first_cid, World.opening}
-use Rattle.laws_driver_bytes.specs.Calls.{Journal}
+use Rattle.laws_driver.specs.Carried.Calls.{Journal}
 
 -- A world without the journal of the calls that the guest made.
 pub record WorldState : Type 0 where

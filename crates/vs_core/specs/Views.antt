@@ -1,9 +1,9 @@
 -- Events as the program holds them, and what it answers to one.
 use Rattle.std.specs.Prelude.{◌≡◌, ◌&&◌, ◌≤◌, Bool, true, false, []}
 use Rattle.laws_world.specs.Events.{Event, call_made, is_at_rest}
-use Rattle.laws_driver_bytes.specs.Calls.{GuestCall, ReplyTo, is_right}
+use Rattle.laws_driver.specs.Carried.Calls.{GuestCall, ReplyTo, is_right}
 use Rattle.vs_core.specs.{Ready.Happens, Ready.WorldState, Ready.with_journal, declared.event.Reply.Reply}
-use Rattle.laws_driver_bytes.specs.Calls as call
+use Rattle.laws_driver.specs.Carried.Calls as call
 use Rattle.laws_world.specs.Events as event
 use Rattle.vs_core.specs.declared.event.Event as program
 use Rattle.vs_core.specs.declared.event.Event.TheVariants as code

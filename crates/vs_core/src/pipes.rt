@@ -7,11 +7,11 @@ ghost use Rattle.vs_flow.specs.{Connection.first_of, declared.flow.Flow.Flow};
 ghost use Rattle.laws_history.specs.{History.puts, Packets.has, Packets.shuts_send};
 ghost use Rattle.vs_outside.specs.{Host.HostContents, Host.Stream, Host.stream_at, HostBytes.host_read, HostBytes.host_wrote};
 ghost use Rattle.vs_page.specs.{Fair.IsPrefixOf, Fair.payload_got, Fair.payload_put, Log.Device, Log.Driver, Log.history_of};
-ghost use Rattle.laws_bytes.specs.Drains.{Drains, receives};
-ghost use Rattle.laws_device_bytes.specs.Streamed.{gives, line_for};
+ghost use Rattle.laws_tables.specs.Drains.{Drains, receives};
+ghost use Rattle.laws_device.specs.Carried.Streamed.{gives, line_for};
 ghost use Rattle.vs_proxy_parts.specs.State.{Handshake};
 ghost use Rattle.laws_world.specs.{Events.Event, Events.run, Pipes.IsFresh};
-ghost use Rattle.laws_driver_bytes.specs.Calls.{received_on, sent_on};
+ghost use Rattle.laws_driver.specs.Carried.Calls.{received_on, sent_on};
 ghost use Rattle.laws_rest.specs.Bytes.{CarryBytes};
 ghost use Rattle.laws_world.specs.{Plays.AreRight, Plays.Line, Plays.after, Sides.both_of, World.opening};
 

@@ -6,7 +6,7 @@ ghost use Rattle.vs_device_parts.specs.Transmitting.{take_tx_of};
 ghost use Rattle.vs_flow.specs.declared.flow.Flow.{Flow};
 ghost use Rattle.vs_outside.specs.Host.{HostContents};
 ghost use Rattle.laws_world.specs.Events.{is_at_rest};
-ghost use Rattle.laws_driver_bytes.specs.Calls.{sent_on};
+ghost use Rattle.laws_driver.specs.Carried.Calls.{sent_on};
 ghost use Rattle.laws_world.specs.Plays.{AreRight, Line, after, is_given_right, line, play, report, sent_by, turn_line};
 ghost use Rattle.laws_world.specs.{Steps.Leads, Steps.device_calls, World.World, World.opening};
 

@@ -7,9 +7,9 @@ use Rattle.vs_device_parts.specs.{Calls.Situation, Playing.Runs, Receiving.fill_
 use Rattle.vs_device_parts.specs.{Streams.Writing, Streams.pump_of, Streams.tick_of, Transmitting.take_tx_of, Turns.open_of, Turns.reset_of}
 use Rattle.vs_device_parts.specs.declared.answers.{Filled.Filled, Taken.Taken}
 use Rattle.vs_proxy_parts.specs.State.{Handshake}
-use Rattle.laws_proxy_bytes.specs.{Made.Made, Told.AreAccounted, Told.IsAsking, Told.StayAccounted}
-use Rattle.laws_proxy_bytes.proofs.{Closing.keeps_tick, Opening.keeps_open, Opening.keeps_reset_alone, Receiving.keeps_fill_rx}
-use Rattle.laws_proxy_bytes.proofs.{Receiving.keeps_pay_event, Telling.stay_accounted, Transmitting.keeps_take_tx, Writing.keeps_pump}
+use Rattle.laws_proxy.specs.Account.{Made.Made, Told.AreAccounted, Told.IsAsking, Told.StayAccounted}
+use Rattle.laws_proxy.proofs.Account.{Closing.keeps_tick, Opening.keeps_open, Opening.keeps_reset_alone, Receiving.keeps_fill_rx}
+use Rattle.laws_proxy.proofs.Account.{Receiving.keeps_pay_event, Telling.stay_accounted, Transmitting.keeps_take_tx, Writing.keeps_pump}
 
 module _ (s : DeviceState) (a b : Situation) where
   pub take_accounted : (x : DeviceState × Taken) → Runs (take_tx_of s) a x b → (calls : List Made) (hands : List Handshake)

@@ -10,14 +10,14 @@ use Rattle.vs_device_parts.specs.{Receiving.fill_rx_of, Receiving.pay_event_of, 
 use Rattle.vs_device_parts.specs.{Streams.tick_of, Transmitting.take_tx_of, Turns.open_of, Turns.reset_of, declared.answers.Filled.Filled}
 use Rattle.vs_device_parts.specs.{declared.answers.Taken.Taken, Calls.Allows, Calls.DeviceTree, Calls.Situation, Playing.CanMake}
 use Rattle.vs_device_parts.specs.Playing.{Runs, RunsOnHost, RunsOnRing, situation}
-use Rattle.laws_device_streams.specs.{Split.CanReach, Streams.FindsFree, Streams.FindsStreams, Streams.HasStreams}
-use Rattle.laws_device_streams.proofs.{Closing.keeps_tick, Conditions.quiet_can, Keeping.Keeps, Opening.both_found, Opening.keeps_open}
-use Rattle.laws_device_streams.proofs.{Opening.keeps_reset, Receiving.keeps_fill_rx, Transmitting.keeps_take_tx, Writing.keeps_pump}
+use Rattle.laws_device.specs.Named.{Split.CanReach, Streams.FindsFree, Streams.FindsStreams, Streams.HasStreams}
+use Rattle.laws_device.proofs.Named.{Closing.keeps_tick, Conditions.quiet_can, Keeping.Keeps, Opening.both_found, Opening.keeps_open}
+use Rattle.laws_device.proofs.Named.{Opening.keeps_reset, Receiving.keeps_fill_rx, Transmitting.keeps_take_tx, Writing.keeps_pump}
 use Rattle.laws_device.specs.{Honest.IsFitFlow, Honest.IsWith, Honest.ends_of_state, Honest.port_after, Streams.AreStreamedWith}
 use Rattle.laws_device.proofs.{Filling.fill_keeps, Keeping.keeps_end, Transmitting.take_keeps, Turning.{pay_keeps, pump_keeps, reset_keeps}}
 use Rattle.laws_device.proofs.{Turning.{tick_keeps, opens_plain}, Carrying.{ring_end, with_ring, ring_and_host, ring_only, streamed_end}}
 use Rattle.vs_proxy_parts.specs.State.{Handshake}
-use Rattle.laws_device_streams.proofs.Keeping.{keeps_end as streams_end}
+use Rattle.laws_device.proofs.Named.Keeping.{keeps_end as streams_end}
 
 module _ (s : DeviceState) (a b : Situation) where
   pub take_streams : (x : DeviceState × Taken) → Runs (take_tx_of s) a x b → (others : List ℕ) → FindsStreams others s a

@@ -4,9 +4,9 @@ ghost use Rattle.std.specs.Prelude.{◌≡◌, ◌≤◌, ℕ, List, [], Some, I
 ghost use Rattle.vs_limits.specs.declared.TheConstants.{GUEST_CID_MIN, GUEST_CID_MAX};
 ghost use Rattle.vs_outside.specs.Host.{HostContents};
 ghost use Rattle.vs_ring_port.specs.{Contents.RingContents, EndLog.EndLog};
-ghost use Rattle.laws_device_streams.specs.Streams.{AreOpen, HasStreams};
+ghost use Rattle.laws_device.specs.Named.Streams.{AreOpen, HasStreams};
 ghost use Rattle.laws_device.specs.Honest.{AgreesWith, IsFresh, IsWith};
-ghost use Rattle.laws_proxy_bytes.specs.{Made.account_of, Told.AreAccounted, Told.Shows};
+ghost use Rattle.laws_proxy.specs.Account.{Made.account_of, Told.AreAccounted, Told.Shows};
 ghost use Rattle.vs_uds.specs.declared.path.TheConstants.{BASE_MAX};
 ghost use Rattle.vs_device_parts.specs.{Connections.with_fault, Transmitting.failing, Turns.counters_of, Turns.new_device};
 

@@ -10,7 +10,7 @@ ghost use Rattle.vs_device_parts.specs.Playing.{AllowsOnRing, IsItsRing, MayRunO
 ghost use Rattle.vs_device_parts.specs.Receiving.{event_on, pay_event_of};
 ghost use Rattle.laws_device.specs.Honest.{IsWith};
 ghost use Rattle.vs_outside.specs.Host.{HostContents};
-ghost use Rattle.laws_proxy_bytes.specs.{Judged.AreUnmoved, Made.Made, Made.Makes, Told.AreAccounted, Told.StayAccounted};
+ghost use Rattle.laws_proxy.specs.Account.{Judged.AreUnmoved, Made.Made, Made.Makes, Told.AreAccounted, Told.StayAccounted};
 ghost use Rattle.vs_proxy_parts.specs.State.{Handshake};
 
 use crate::device::Device;

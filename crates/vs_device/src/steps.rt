@@ -4,7 +4,7 @@
 ghost use Rattle.std.specs.{Prelude.◌≡◌, Prelude.◌≤◌, Prelude.ℕ, Prelude.List, Prelude.Contains, Option.ForSome};
 ghost use Rattle.vs_outside.specs.Host.{HostContents};
 ghost use Rattle.vs_ring_port.specs.declared.queue.Queue.TheVariants.{Event, Rx, Tx};
-ghost use Rattle.laws_device_streams.specs.Streams.{HasStreams};
+ghost use Rattle.laws_device.specs.Named.Streams.{HasStreams};
 ghost use Rattle.vs_device_parts.specs.Playing.{IsAmong, MayRun, MayRunOnHost, MayRunOnRing, Runs, RunsOnHost, RunsOnRing, situation};
 ghost use Rattle.vs_device_parts.specs.Steps.{puts_event, puts_owed, puts_payload, puts_reply, returns, shuts_write, takes_chain, writes};
 ghost use Rattle.vs_device_parts.specs.Streams.{tick_slot};

@@ -20,9 +20,9 @@ ghost use Rattle.vs_device_parts.specs.{State.DeviceConnection, State.DeviceEntr
 ghost use Rattle.vs_device_parts.specs.Taking.{after_refusal, asks_for_stream, is_not_for_host, known_packet};
 ghost use Rattle.vs_device_parts.specs.Transmitting.{dial_answered, heard, on_known, on_next, on_packet, on_unknown, refused, take_tx_of};
 ghost use Rattle.vs_device_parts.specs.Transmitting.{op_why, try_request, unknown_why};
-ghost use Rattle.laws_device_streams.specs.Streams.{HasStreams};
+ghost use Rattle.laws_device.specs.Named.Streams.{HasStreams};
 ghost use Rattle.laws_device.specs.Honest.{IsWith};
-ghost use Rattle.laws_proxy_bytes.specs.{Judged.IsJudged, Made.Made, Made.Makes, Told.AreAccounted, Told.StayAccounted};
+ghost use Rattle.laws_proxy.specs.Account.{Judged.IsJudged, Made.Made, Made.Makes, Told.AreAccounted, Told.StayAccounted};
 ghost use Rattle.vs_proxy_parts.specs.State.{Handshake};
 
 use crate::device::Device;

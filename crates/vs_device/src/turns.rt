@@ -8,10 +8,10 @@ ghost use Rattle.vs_ring_port.specs.{declared.failure.Failure.Failure, Contents.
 ghost use Rattle.vs_limits.specs.declared.TheConstants.{BUF_ALLOC, GUEST_CID_MIN, GUEST_CID_MAX};
 ghost use Rattle.laws_tables.specs.Steps.{IsNextFlow};
 ghost use Rattle.vs_page.specs.Log as log;
-ghost use Rattle.laws_device_streams.specs.Streams.{HasStreams, IsFree};
+ghost use Rattle.laws_device.specs.Named.Streams.{HasStreams, IsFree};
 ghost use Rattle.laws_device.specs.Streams.{AreStreamedWith};
 ghost use Rattle.laws_device.specs.Honest.{AgreesWith, IsLeftOpen, IsWith, ends_of_state, port_after};
-ghost use Rattle.laws_proxy_bytes.specs.{Made.Made, Told.AreAccounted, Told.IsAsking, Told.StayAccounted};
+ghost use Rattle.laws_proxy.specs.Account.{Made.Made, Told.AreAccounted, Told.IsAsking, Told.StayAccounted};
 ghost use Rattle.vs_proxy_parts.specs.State.{Handshake};
 ghost use Rattle.vs_device_parts.specs.{State.DeviceEntry, Playing.IsItsRing, Playing.MayRun, Playing.MayRunOnHost, Playing.Runs};
 ghost use Rattle.vs_device_parts.specs.{Playing.RunsOnHost, Playing.situation, Turns.after_reset, Turns.close_slot, Turns.open_of};

@@ -4,7 +4,7 @@ use Rattle.std.specs.Prelude.{◌&&◌, nat_lt, length}
 use Rattle.vs_flow.specs.Table.{Table}
 use Rattle.vs_outside.specs.Host.{HostContents}
 use Rattle.vs_device_parts.specs.{Playing.IsItsRing, State.DeviceConnection, State.DeviceState}
-use Rattle.laws_device_streams.specs.Streams.{HasStreams}
+use Rattle.laws_device.specs.Named.Streams.{HasStreams}
 use Rattle.vs_proxy_parts.specs.{Handshakes.streams_of, State.ProxyState}
 use Rattle.vs_script.specs.{Outside.Host, Data.bytes_of, Hostile.Hostile}
 use Rattle.byteorder.specs.Endian.{little_bytes}

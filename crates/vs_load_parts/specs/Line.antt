@@ -1,6 +1,6 @@
 -- The line that a load prints, by the journal of its run.
 use Rattle.std.specs.{Prelude.{ℕ, ◌+◌, ◌==◌, if◌then◌else◌, min, List, [], length}, List.fold}
-use Rattle.laws_driver_bytes.specs.Calls.{Journal, received_by}
+use Rattle.laws_driver.specs.Carried.Calls.{Journal, received_by}
 use Rattle.vs_apps_parts.specs.{Journals.calls_of, Journals.data_at, Journals.sent_as, Scripts.RunScript, Scripts.acts_of, Scripts.slice_of}
 use Rattle.vs_apps_parts.specs.declared.journal.{Called.Called, Entry.Entry}
 use Rattle.vs_apps_parts.specs.declared.journal.Called.TheVariants as called

@@ -8,9 +8,9 @@ use Rattle.vs_outside.specs.Host.{HostContents}
 use Rattle.vs_driver_parts.specs.State.{DriverState}
 use Rattle.laws_driver.specs.Honest.{IsHonestWith}
 use Rattle.vs_device_parts.specs.{Calls.Situation, Playing.IsItsRing, Playing.Runs, Playing.situation}
-use Rattle.laws_device_streams.proofs.Opening.{new_has}
+use Rattle.laws_device.proofs.Named.Opening.{new_has}
 use Rattle.vs_proxy_parts.specs.{State.ProxyState, Turns.new_proxy, Turns.proxy_reset_of, Turns.turn_of, declared.answers.Turn.Turn}
-use Rattle.laws_proxy_streams.proofs.Lists.{none_open}
+use Rattle.laws_proxy.proofs.Named.Lists.{none_open}
 use Rattle.laws_device.proofs.Carrying.{ring_only}
 use Rattle.laws_proxy.proofs.Turning.{new_proxy_with, proxy_reset_keeps, turn_keeps, plain_proxied}
 use Rattle.laws_proxy.proofs.Ordered.{reset_honest, reset_streams, turn_honest, turn_streams}

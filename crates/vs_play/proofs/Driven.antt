@@ -7,9 +7,9 @@ use Rattle.vs_driver_parts.specs.{Playing.IsRingOf, Playing.SamePages, State.Dri
 use Rattle.vs_driver_parts.specs.declared.answers.ListenError.{ListenError}
 use Rattle.laws_driver.specs.Honest.{IsHonestWith}
 use Rattle.laws_world.specs.Over.{over_lists}
-use Rattle.laws_driver_bytes.specs.Calls.{GuestCall, ReplyTo, whole_call}
+use Rattle.laws_driver.specs.Carried.Calls.{GuestCall, ReplyTo, whole_call}
 use Rattle.vs_play.specs.{Lines.reply_text, Ready.IsDriven, Told.Replies}
-use Rattle.laws_driver_bytes.specs.Calls as call
+use Rattle.laws_driver.specs.Carried.Calls as call
 
 ring_stays : (s t : DriverState) (e : Ends) → SamePages s t → IsRingOf e.lists.size (flight_of e) (staged_of e) s
     → IsRingOf e.lists.size (flight_of e) (staged_of e) t

@@ -6,7 +6,7 @@ use Rattle.vs_play.specs.{Answer.report_of, Answer.texts_of, Answer.world_after,
 use Rattle.vs_play.specs.{Lines.outside_played, Lines.played_line, Ready.PlayState, Ready.shown, Ready.world_in}
 use Rattle.vs_script.specs.Outside as outside
 use Rattle.vs_script.specs.Play as script
-use Rattle.laws_driver_bytes.specs.Calls as call
+use Rattle.laws_driver.specs.Carried.Calls as call
 use Rattle.laws_world.specs.Plays as world
 
 -- What is left of a line, and what it printed.

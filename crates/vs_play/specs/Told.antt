@@ -8,10 +8,10 @@ use Rattle.vs_report.specs.GuestLines.{poll_text}
 use Rattle.vs_ring_list.specs.Ends.{Ends}
 use Rattle.vs_script.specs.{Data.bytes_of, Play.Event}
 use Rattle.laws_world.specs.Over.{over_both, over_lists}
-use Rattle.laws_driver_bytes.specs.Calls.{GuestCall, ReplyTo, whole_call}
+use Rattle.laws_driver.specs.Carried.Calls.{GuestCall, ReplyTo, whole_call}
 use Rattle.vs_play.specs.{Lines.reply_text, Ready.IsDriven, Ready.IsServed}
 use Rattle.vs_script.specs.Play as script
-use Rattle.laws_driver_bytes.specs.Calls as call
+use Rattle.laws_driver.specs.Carried.Calls as call
 
 -- A conversation of the driver's over the rings: its answer is printed behind what stood there, and the rings stay the driver's.
 pub record Answers {A : Type 0} (tree : DriverTree (DriverState × A)) (text_of : A → DriverState → List ℕ) (new : DriverState) (v w : Ends)

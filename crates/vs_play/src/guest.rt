@@ -7,9 +7,9 @@ ghost use Rattle.vs_driver_parts.specs.{Conversations.new_of, Conversations.poll
 ghost use Rattle.vs_limits.specs.declared.TheConstants.{FIRST_PORT};
 ghost use Rattle.vs_report.specs.GuestLines.{poll_text};
 ghost use Rattle.vs_script.specs.{Data.bytes_of, Data.content_of, Play.play_view};
-ghost use Rattle.laws_driver_bytes.specs.Calls as call;
+ghost use Rattle.laws_driver.specs.Carried.Calls as call;
 ghost use Rattle.laws_world.specs.Over.{over_lists};
-ghost use Rattle.laws_driver_bytes.specs.Calls.{flow_accepted, flow_opened, makes_call};
+ghost use Rattle.laws_driver.specs.Carried.Calls.{flow_accepted, flow_opened, makes_call};
 ghost use Rattle.vs_play.specs.{Ready.IsBits, Ready.IsDriven, Ready.IsPlayable};
 ghost use Rattle.vs_play.specs.Told.{Answers, Drives, Replies};
 

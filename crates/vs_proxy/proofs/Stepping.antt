@@ -4,10 +4,10 @@ use Rattle.std.specs.Option.{ForSome}
 use Rattle.vs_outside.specs.Host.{HostContents}
 use Rattle.vs_ring_port.specs.Contents.{RingContents}
 use Rattle.vs_device_parts.specs.{Calls.Allows, Calls.Call, Calls.DeviceTree, Calls.Situation, Playing.RunsOnHost, Playing.situation}
-use Rattle.laws_device_streams.specs.{Split.CanReach, Split.is_quiet, Streams.HasStreams}
-use Rattle.laws_device_streams.proofs.Keeping.{Keeps, keeps_end}
+use Rattle.laws_device.specs.Named.{Split.CanReach, Split.is_quiet, Streams.HasStreams}
+use Rattle.laws_device.proofs.Named.Keeping.{Keeps, keeps_end}
 use Rattle.vs_proxy_parts.specs.{Handshakes.{accept_one, read_byte, streams_of, tick_handshake}, State.{ProxyState, Turning, start}}
-use Rattle.laws_proxy_streams.proofs.Shaking.{FindsAll, Turns, TurnsFirst, keeps_accept_one, keeps_read_byte, keeps_tick_handshake}
+use Rattle.laws_proxy.proofs.Named.Shaking.{FindsAll, Turns, TurnsFirst, keeps_accept_one, keeps_read_byte, keeps_tick_handshake}
 
 -- A ring that exposes nothing.
 abbrev untold : RingContents

@@ -7,13 +7,13 @@ ghost use Rattle.vs_limits.specs.declared.TheConstants.{BUF_ALLOC, GUEST_CID_MIN
 ghost use Rattle.vs_ring_port.specs.{EndLog.EndLog, declared.failure.Failure.Failure};
 ghost use Rattle.vs_device_parts.specs.Playing.{IsItsRing, MayRun, MayRunOnHost, Runs, RunsOnHost, situation};
 ghost use Rattle.vs_device_parts.specs.{Turns.counters_of, Turns.table_shown, State.DeviceEntry};
-ghost use Rattle.laws_device_streams.specs.Streams.{HasStreams};
+ghost use Rattle.laws_device.specs.Named.Streams.{HasStreams};
 ghost use Rattle.laws_device.specs.Honest.{AgreesWith, IsLeftOpen};
 ghost use Rattle.laws_proxy.specs.{Honest.IsProxyStreamed, Honest.IsProxyWith, Order.IsInOrder};
 ghost use Rattle.vs_proxy_parts.specs.{Handshakes.streams_of, State.ProxyState, Turning.turning_of, Turns.close_handshake};
 ghost use Rattle.vs_proxy_parts.specs.Turns.{proxy_reset_of, turn_of, turned};
-ghost use Rattle.laws_proxy_bytes.specs.{Counts.CountsFaults, Counts.DeviceCounts, Counts.counts_of, Counts.counts_shown, Events.TellsEvent, Made.Made};
-ghost use Rattle.laws_proxy_bytes.specs.{Made.Makes, Packets.AreJudged, Packets.chains_taken, Told.AreAccounted, Told.StayAccounted};
+ghost use Rattle.laws_proxy.specs.Account.{Counts.CountsFaults, Counts.DeviceCounts, Counts.counts_of, Counts.counts_shown, Events.TellsEvent, Made.Made};
+ghost use Rattle.laws_proxy.specs.Account.{Made.Makes, Packets.AreJudged, Packets.chains_taken, Told.AreAccounted, Told.StayAccounted};
 ghost use Rattle.vs_proxy_parts.specs.declared.answers.Turn.TheVariants as turn;
 
 use crate::proxy::Proxy;

@@ -3,7 +3,7 @@ use Rattle.std.proofs.Common.{◌≡◌, ℕ, ◌+◌, ◌-◌, ◌==◌, ◌^�
 use Rattle.std.proofs.{Common.{refl, sym, ap, ◌∙◌, arith, append_assoc, append-nil}, lemmas.List.{length-append, length-drop, length-take}}
 use Rattle.std.proofs.lemmas.List.FromFn.{length-map-range_with_len}
 use Rattle.vs_script.specs.Data.{Content, Fill, Given, bytes_of, filled, size_of}
-use Rattle.laws_driver_bytes.specs.{Calls.Journal, Calls.bytes_received, Calls.bytes_sent, Calls.names, Calls.received_by, Sent.took}
+use Rattle.laws_driver.specs.Carried.{Calls.Journal, Calls.bytes_received, Calls.bytes_sent, Calls.names, Calls.received_by, Sent.took}
 use Rattle.vs_apps_parts.specs.{Journals.{calls_of, data_at, gathered, made_by, made_of, sent_as}, Scripts.{RunScript, acts_of, slice_of}}
 use Rattle.vs_apps_parts.specs.declared.journal.{Called.Called, Deed.Deed, Entry.Entry}
 use Rattle.vs_apps_parts.specs.declared.journal.Called.TheVariants as called

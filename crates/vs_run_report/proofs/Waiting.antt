@@ -3,8 +3,8 @@ use Rattle.std.proofs.Common.{◌≡◌, ◌||◌, ℕ, nat_lt, if◌then◌else
 use Rattle.std.proofs.Common.{Result, Ok, Err, refl, ap, subst, arith}
 use Rattle.vs_script.specs.{App.Act, Data.Content, Data.size_of}
 use Rattle.vs_script.specs.App as act
-use Rattle.laws_driver_bytes.specs.Calls.{GuestCall, Made, ReplyTo}
-use Rattle.laws_driver_bytes.specs.Calls as call
+use Rattle.laws_driver.specs.Carried.Calls.{GuestCall, Made, ReplyTo}
+use Rattle.laws_driver.specs.Carried.Calls as call
 use Rattle.vs_apps_parts.specs.Scripts.{calls_in, calls_next, id_of, recv_next, send_next, told_in}
 use Rattle.vs_apps_parts.specs.Told.{step_wait, told_accept, told_by, told_connect, told_look, told_of, told_recv, told_send}
 use Rattle.vs_apps_parts.specs.declared.{journal.WaitsFor.WaitsFor, progress.Progress.Progress, told.Told.Told}

@@ -2,7 +2,7 @@
 use Rattle.std.specs.Prelude.{ℕ, ◌-◌, ◌==◌, ◌^◌, min, if◌then◌else◌, List, [], ◌∷◌, ◌++◌, length, codes, decimal, Option, Some, None}
 use Rattle.std.specs.{Prelude.{Result, Ok, Err}, List.{flat_map, range_with_len}}
 use Rattle.vs_flow.specs.declared.flow.Flow.{Flow}
-use Rattle.laws_driver_bytes.specs.Calls.{Journal, received_by}
+use Rattle.laws_driver.specs.Carried.Calls.{Journal, received_by}
 use Rattle.vs_apps_parts.specs.{Journals.sent_as, declared.journal.{Called.Called, Entry.Entry}}
 use Rattle.vs_apps_parts.specs.declared.journal.Called.TheVariants as called
 use Rattle.vs_apps_parts.specs.declared.journal.Deed.TheVariants as deed

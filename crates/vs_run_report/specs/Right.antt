@@ -4,7 +4,7 @@ use Rattle.vs_flow.specs.Connection.{Connection}
 use Rattle.vs_page.specs.Fair.{IsPrefixOf}
 use Rattle.vs_outside.specs.{Faults.one_more, Host.HostContents, HostBytes.host_read, HostBytes.host_wrote}
 use Rattle.vs_script.specs.App.{Act, Connect, Accept, Send, Recv, Drain, Exchange}
-use Rattle.laws_driver_bytes.specs.Calls.{Journal, received_by}
+use Rattle.laws_driver.specs.Carried.Calls.{Journal, received_by}
 use Rattle.vs_apps_parts.specs.{Journals.{calls_of, calls_of_app, sent_as}, Scripts.{IsPlayed, RunScript, acts_of}}
 use Rattle.vs_apps_parts.specs.declared.{journal.Entry.Entry, journal.WaitsFor.WaitsFor, progress.AppState.AppState}
 use Rattle.vs_apps_parts.specs.declared.journal.WaitsFor.TheVariants as waits

@@ -2,7 +2,7 @@
 
 ghost use Rattle.std.specs.Prelude.{◌≡◌, ◌<◌, ◌+◌, ◌==◌, ℕ, true, false, List, [], ◌∷◌, Option, Some, codes, slice_get};
 ghost use Rattle.vs_script.specs.{App.Act, App.Close, App.Connect, App.Exchange, Data.Fill};
-ghost use Rattle.laws_driver_bytes.specs.Calls.{Made};
+ghost use Rattle.laws_driver.specs.Carried.Calls.{Made};
 ghost use Rattle.vs_apps_parts.specs.{Scripts.calls_in, Scripts.calls_next, Scripts.told_in, Told.step_wait};
 ghost use Rattle.vs_apps_parts.specs.{Journals.wait_noted, Journals.wait_place};
 ghost use Rattle.vs_apps_parts.specs.declared.{journal.Entry.Entry, journal.WaitsFor.WaitsFor, progress.AppState.AppState};

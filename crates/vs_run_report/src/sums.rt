@@ -1,7 +1,7 @@
 //! What was sent and received on a connection, by a journal.
 
 ghost use Rattle.std.specs.Prelude.{◌≡◌, IfOk, List, ℕ, length};
-ghost use Rattle.laws_driver_bytes.specs.Calls.{received_by};
+ghost use Rattle.laws_driver.specs.Carried.Calls.{received_by};
 ghost use Rattle.vs_script.specs.App.{instruction_view};
 ghost use Rattle.vs_apps_parts.specs.{Journals.calls_of, Journals.data_at, Journals.data_in, Journals.sent_as, Scripts.acts_of};
 ghost use Rattle.vs_apps_parts.specs.{Scripts.script_of, Scripts.slice_of};

@@ -1,6 +1,6 @@
 use Rattle.vs_device_parts.specs.{Calls.Allows, Receiving.fill_rx_of, Receiving.pay_event_of, Transmitting.take_tx_of, Turns.reset_of}
-use Rattle.laws_device_streams.specs.Split.{CanReach}
-use Rattle.laws_device_streams.proofs.{Conditions.may_where, Keeping.keeps_may, Receiving.keeps_fill_rx, Receiving.keeps_pay_event}
+use Rattle.laws_device.specs.Named.Split.{CanReach}
+use Rattle.laws_device.proofs.Named.{Conditions.may_where, Keeping.keeps_may, Receiving.keeps_fill_rx, Receiving.keeps_pay_event}
 use Rattle.laws_device.proofs.{Carrying.ring_only, Filling.fill_keeps, Keeping.keeps_put, Transmitting.take_keeps, Turning.new_with}
 use Rattle.laws_device.proofs.{Turning.pay_keeps, Turning.reset_keeps, Carrying.plain_with, Carrying.ring_end}
 use Rattle.std.proofs.Common.{[]}

@@ -1,6 +1,6 @@
 use Rattle.std.proofs.Common.{arith, refl}
-use Rattle.laws_driver_bytes.specs.Calls as call
-use Rattle.laws_driver_bytes.proofs.SamePages.{listen_stays}
+use Rattle.laws_driver.specs.Carried.Calls as call
+use Rattle.laws_driver.proofs.Carried.SamePages.{listen_stays}
 use Rattle.vs_driver.proofs.RingPages.{ring_same}
 use Rattle.vs_apps_parts.specs.declared.journal.Called.TheVariants as called
 use Rattle.laws_apps.proofs.Making.{calls_as, listen_plays}

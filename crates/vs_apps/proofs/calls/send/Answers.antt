@@ -1,6 +1,6 @@
 use Rattle.std.proofs.Common.{ℕ, List, length, arith, ap, refl}
 use Rattle.vs_apps_parts.specs.Journals.{made_as}
-use Rattle.laws_driver_bytes.specs.Calls as call
+use Rattle.laws_driver.specs.Carried.Calls as call
 use Rattle.vs_apps_parts.specs.declared.journal.Called.TheVariants as called
 use Rattle.laws_apps.proofs.Making.{calls_as}
 use Rattle.vs_apps.proofs.calls.send.Goals as goal

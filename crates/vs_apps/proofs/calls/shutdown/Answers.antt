@@ -1,7 +1,7 @@
 use Rattle.std.proofs.Common.{arith, refl, subst, sym}
 use Rattle.vs_driver_parts.specs.Playing.{SamePages}
-use Rattle.laws_driver_bytes.specs.Calls as call
-use Rattle.laws_driver_bytes.proofs.SamePages.{shutdown_stays}
+use Rattle.laws_driver.specs.Carried.Calls as call
+use Rattle.laws_driver.proofs.Carried.SamePages.{shutdown_stays}
 use Rattle.vs_driver.proofs.RingPages.{ring_same}
 use Rattle.vs_apps_parts.specs.declared.journal.Called.TheVariants as called
 use Rattle.laws_apps.proofs.Making.{calls_as, shutdown_plays}

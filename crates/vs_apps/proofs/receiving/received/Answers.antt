@@ -1,6 +1,6 @@
 use Rattle.std.proofs.Common.{◌≤◌, length, sym, subst, arith}
 use Rattle.vs_driver_parts.specs.{Connections.got_count, Playing.SamePages, declared.answers.Received.Received}
-use Rattle.laws_driver_bytes.proofs.SamePages.{recv_stays}
+use Rattle.laws_driver.proofs.Carried.SamePages.{recv_stays}
 use Rattle.laws_apps.proofs.Receives.{recv_few}
 use Rattle.vs_apps.proofs.receiving.received.Goals as goal
 

@@ -1,7 +1,7 @@
 use Rattle.std.proofs.Common.{length, sym, subst}
 use Rattle.vs_driver_parts.specs.Playing.{SamePages}
 use Rattle.vs_core.proofs.Driven.{driven_stays}
-use Rattle.laws_driver_bytes.proofs.SamePages.{recv_stays}
+use Rattle.laws_driver.proofs.Carried.SamePages.{recv_stays}
 use Rattle.vs_core.proofs.guest_events.received.Goals as goal
 
 pub returns-clause-driven : goal.returns-clause-driven

@@ -1,4 +1,4 @@
-use Rattle.laws_bytes.proofs.Logs.{prefix_then}
+use Rattle.laws_tables.proofs.Logs.{prefix_then}
 use Rattle.laws_world.specs.{Events.run, World.opening}
 use Rattle.laws_world.proofs.{Carried.gone_of, Carried.received_is, Carried.to_driver, Carried.unread_of, Opening.run_well}
 use Rattle.vs_core.proofs.pipes.law_of_receiving.Goals as goal

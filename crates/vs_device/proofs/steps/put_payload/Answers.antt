@@ -7,7 +7,7 @@ use Rattle.vs_device_parts.specs.{Receiving.read_with_chain, State.{DeviceConnec
 use Rattle.vs_device_parts.proofs.Under.{value_of}
 use Rattle.vs_device.proofs.{Among.same_among, Reading.IsToRead, Reading.if_some, Reading.may_step_read, Reading.read_stepped}
 use Rattle.vs_device.proofs.{Reading.reads_stream, Reading.same_entry, Reading.step_not_read, Ordered.step_streams}
-use Rattle.laws_device_streams.proofs.Stepping.{puts_payload_keeps}
+use Rattle.laws_device.proofs.Named.Stepping.{puts_payload_keeps}
 use Rattle.vs_device.proofs.steps.put_payload.Goals as goal
 
 pub read_with_chain-requires-clause-ring : goal.read_with_chain-requires-clause-ring

@@ -1,8 +1,8 @@
 use Rattle.std.proofs.{Common.◌++◌, Common.ap, Common.refl, Common.string_bytes, Common.◌∙◌, lemmas.Result.on_ok_weaker}
 use Rattle.vs_report.specs.GuestLines.{accept_text}
-use Rattle.laws_driver_bytes.proofs.SamePages.{accept_stays}
+use Rattle.laws_driver.proofs.Carried.SamePages.{accept_stays}
 use Rattle.vs_play.proofs.Driven.{replies_as}
-use Rattle.laws_driver_bytes.specs.Calls as call
+use Rattle.laws_driver.specs.Carried.Calls as call
 use Rattle.vs_play.proofs.guest.accept.Goals as goal
 
 pub returns : goal.returns

@@ -1,7 +1,7 @@
 use Rattle.std.proofs.lemmas.Result.{on_ok_weaker}
-use Rattle.laws_driver_bytes.proofs.SamePages.{listen_stays}
+use Rattle.laws_driver.proofs.Carried.SamePages.{listen_stays}
 use Rattle.vs_play.proofs.Driven.{driven_stays, listen_made, replies}
-use Rattle.laws_driver_bytes.specs.Calls as call
+use Rattle.laws_driver.specs.Carried.Calls as call
 use Rattle.vs_play.proofs.guest.listen.Goals as goal
 
 pub returns : goal.returns

@@ -1,6 +1,6 @@
 use Rattle.std.proofs.{Common.length, Common.take, lemmas.Result.on_ok_weaker}
 use Rattle.vs_play.proofs.Driven.{replies}
-use Rattle.laws_driver_bytes.specs.Calls as call
+use Rattle.laws_driver.specs.Carried.Calls as call
 use Rattle.vs_play.proofs.guest.recv_into.Goals as goal
 
 pub returns : goal.returns

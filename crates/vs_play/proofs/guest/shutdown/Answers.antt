@@ -1,7 +1,7 @@
 use Rattle.std.proofs.{Common.refl, lemmas.Result.on_ok_weaker}
-use Rattle.laws_driver_bytes.proofs.SamePages.{shutdown_stays}
+use Rattle.laws_driver.proofs.Carried.SamePages.{shutdown_stays}
 use Rattle.vs_play.proofs.Driven.{replies_as}
-use Rattle.laws_driver_bytes.specs.Calls as call
+use Rattle.laws_driver.specs.Carried.Calls as call
 use Rattle.vs_play.proofs.guest.shutdown.Goals as goal
 
 pub returns : goal.returns

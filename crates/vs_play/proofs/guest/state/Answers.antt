@@ -1,7 +1,7 @@
 use Rattle.std.proofs.{Common.◌++◌, Common.ap, Common.refl, Common.string_bytes, Common.◌∙◌, lemmas.Result.on_ok_weaker}
 use Rattle.vs_report.specs.GuestLines.{state_text}
 use Rattle.vs_play.proofs.Driven.{replies}
-use Rattle.laws_driver_bytes.specs.Calls as call
+use Rattle.laws_driver.specs.Carried.Calls as call
 use Rattle.vs_play.proofs.guest.state.Goals as goal
 
 pub returns : goal.returns

@@ -1,5 +1,5 @@
 use Rattle.vs_play.proofs.Driven.{driven_stays}
-use Rattle.laws_driver_bytes.proofs.SamePages.{unlistening_stays}
+use Rattle.laws_driver.proofs.Carried.SamePages.{unlistening_stays}
 use Rattle.vs_play.proofs.guest.unlistened.Goals as goal
 
 pub returns-clause-driven : goal.returns-clause-driven

@@ -1,5 +1,5 @@
 use Rattle.std.proofs.Common.{◌≡◌, length, take}
-use Rattle.laws_driver_bytes.specs.Calls.{received_by}
+use Rattle.laws_driver.specs.Carried.Calls.{received_by}
 use Rattle.vs_apps_parts.specs.{Journals.calls_of, Journals.sent_as, Scripts.script_of}
 use Rattle.vs_run_report.specs.Connections.{capped}
 use Rattle.vs_run_report.proofs.sums.add_up.Given as goal

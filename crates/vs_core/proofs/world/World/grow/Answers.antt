@@ -2,9 +2,9 @@ use Rattle.std.proofs.Common.{◌≡◌, true, refl, sym, ap₂, subst}
 use Rattle.vs_contents.specs.CallTree.{Done}
 use Rattle.vs_driver_parts.specs.Playing.{SamePages}
 use Rattle.laws_world.specs.Events.{is_at_rest}
-use Rattle.laws_driver_bytes.proofs.SamePages.{grow_stays}
+use Rattle.laws_driver.proofs.Carried.SamePages.{grow_stays}
 use Rattle.vs_core.{specs.Ready.IsReady, specs.Ready.WorldState, proofs.Happening.calls_in}
-use Rattle.laws_driver_bytes.specs.Calls as call
+use Rattle.laws_driver.specs.Carried.Calls as call
 use Rattle.vs_core.proofs.world.World.grow.Goals as goal
 
 pub returns : goal.returns

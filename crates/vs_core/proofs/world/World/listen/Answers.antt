@@ -1,8 +1,8 @@
 use Rattle.std.proofs.Common.{◌≡◌, true, refl, sym, subst}
 use Rattle.laws_world.specs.Events.{is_at_rest}
-use Rattle.laws_driver_bytes.proofs.SamePages.{listen_stays}
+use Rattle.laws_driver.proofs.Carried.SamePages.{listen_stays}
 use Rattle.vs_core.{specs.Ready.IsReady, specs.Ready.WorldState, proofs.Happening.calls_in, proofs.Happening.listen_made}
-use Rattle.laws_driver_bytes.specs.Calls as call
+use Rattle.laws_driver.specs.Carried.Calls as call
 use Rattle.vs_core.proofs.world.World.listen.Goals as goal
 
 pub returns : goal.returns

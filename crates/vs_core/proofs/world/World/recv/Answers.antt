@@ -1,7 +1,7 @@
 use Rattle.std.proofs.Common.{◌≡◌, refl, subst, sym, true}
 use Rattle.laws_world.specs.Events.{is_at_rest}
 use Rattle.vs_core.{specs.Ready.IsReady, specs.Ready.WorldState, proofs.Happening.calls}
-use Rattle.laws_driver_bytes.specs.Calls as call
+use Rattle.laws_driver.specs.Carried.Calls as call
 use Rattle.vs_core.proofs.world.World.recv.Goals as goal
 
 pub returns : goal.returns

@@ -1,7 +1,7 @@
 use Rattle.std.proofs.Common.{◌≡◌, true, refl, sym, subst}
 use Rattle.laws_world.specs.Events.{is_at_rest}
 use Rattle.vs_core.{specs.Ready.IsReady, specs.Ready.WorldState, proofs.Driven.is_honest, proofs.Driven.resting, proofs.Happening.sends_on}
-use Rattle.laws_driver_bytes.specs.Calls as call
+use Rattle.laws_driver.specs.Carried.Calls as call
 use Rattle.vs_core.proofs.world.World.send.Goals as goal
 
 pub send-requires-clause-ring : goal.send-requires-clause-ring

@@ -5,7 +5,7 @@ use Rattle.vs_ring_port.specs.Contents.{RingContents}
 use Rattle.vs_device_parts.specs.{State.DeviceConnection, Turns.new_device}
 use Rattle.laws_device.{specs.Honest.IsWith, proofs.Turning.new_with}
 use Rattle.vs_limits.specs.declared.TheConstants.{DEVICE_CONNECTIONS}
-use Rattle.laws_proxy_bytes.{specs.Told.AreAccounted, proofs.Turning.new_accounted}
+use Rattle.laws_proxy.{specs.Account.Told.AreAccounted, proofs.Account.Turning.new_accounted}
 use Rattle.vs_device.proofs.device.Device.new.Goals as goal
 
 -- A new device, where its table and its replies are these.

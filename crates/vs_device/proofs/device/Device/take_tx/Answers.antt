@@ -2,7 +2,7 @@ use Rattle.std.proofs.Common.{◌≡◌, false, length, None, refl, sym, ap, rul
 use Rattle.vs_limits.specs.declared.TheConstants.{DEVICE_REPLIES}
 use Rattle.vs_device_parts.specs.{State.DeviceState, declared.answers.Taken.Taken}
 use Rattle.vs_device.proofs.{Takings.{may_next, took_next, by_next}, Ordered.{take_honest, take_streams}, Accounted.take_accounted}
-use Rattle.laws_proxy_bytes.proofs.Judging.{take_judged}
+use Rattle.laws_proxy.proofs.Account.Judging.{take_judged}
 use Rattle.vs_device_parts.specs.declared.answers.Taken.TheVariants as taken
 use Rattle.vs_device.proofs.device.Device.take_tx.Goals as goal
 

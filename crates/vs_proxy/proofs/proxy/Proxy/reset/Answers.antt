@@ -1,6 +1,6 @@
 use Rattle.std.proofs.Common.{arith}
 use Rattle.laws_proxy.proofs.Ordered.{reset_honest, reset_may, reset_streamed, reset_streams}
-use Rattle.laws_proxy_bytes.proofs.{Packets.reset_counts, Packets.reset_faults, Packets.reset_takes_none, Turning.reset_accounted}
+use Rattle.laws_proxy.proofs.Account.{Packets.reset_counts, Packets.reset_faults, Packets.reset_takes_none, Turning.reset_accounted}
 use Rattle.vs_proxy.proofs.proxy.Proxy.reset.Goals as goal
 
 pub reset_all-requires-clause-may : goal.reset_all-requires-clause-may

@@ -4,7 +4,7 @@ use Rattle.vs_proxy_parts.specs.{Handshakes.shake_hands, State.ProxyState, State
 use Rattle.vs_proxy_parts.specs.Turns.{event_stage, fill_stage, pump_stage, take_stage, tick_stage, turn_of, turned, unless_failed}
 use Rattle.vs_proxy_parts.specs.declared.{answers.Turn.Turn, tally.Tally.Tally}
 use Rattle.laws_proxy.proofs.Ordered.{turn_honest, turn_may, turn_streamed, turn_streams}
-use Rattle.laws_proxy_bytes.proofs.{Events.turn_tells_event, Packets.turn_counts, Packets.turn_faults, Packets.turn_is_judged, Turning.turn_accounted}
+use Rattle.laws_proxy.proofs.Account.{Events.turn_tells_event, Packets.turn_counts, Packets.turn_faults, Packets.turn_is_judged, Turning.turn_accounted}
 use Rattle.vs_proxy.proofs.WholeTurn.{from_end, from_event, from_fill, from_hands, from_pump, from_take, may_event, may_now, may_then}
 use Rattle.vs_proxy.proofs.WholeTurn.{may_tick, nothing, stage_then, ticks}
 use Rattle.vs_proxy.proofs.proxy.Proxy.turn.Goals as goal

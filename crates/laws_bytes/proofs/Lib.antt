@@ -1,4 +1,0 @@
-pub mod Changes
-pub mod Logs
-pub mod Steps
-pub mod Firsts

@@ -1,0 +1,334 @@
+-- What the host's streams took and gave, through the small changes of the device.
+use Rattle.vs_flow.specs.{Table.{IsTable, Table, entry_of, with_value, without}, Flow.{is_assigned, same_flow}, declared.flow.Flow.Flow}
+use Rattle.vs_flow.proofs.{Entries.none_found, Tables.with_value_sound}
+use Rattle.std.proofs.Common.{◌≡◌, ℕ, ◌+◌, ◌-◌, ◌≤◌, ◌==◌, ◌&&◌, nat_le, Bool, true, false, cond, List, [], ◌∷◌, ◌++◌, length, take, drop}
+use Rattle.std.proofs.Common.{Contains, Option, Some, None, refl, sym, ap, subst, ◌∙◌, arith, slice_get}
+use Rattle.std.{proofs.lemmas.Bool.Decides.nat_tests, proofs.lemmas.Grind.common_steps, proofs.lemmas.List.append-nil}
+use Rattle.std.{proofs.Math.Seq.drop-nil, proofs.Math.Seq.take-nil, specs.List.All, specs.Option.option_map}
+use Rattle.vs_conn.specs.End.{ConnectionEnd, end_after, is_of, is_reset, verdict_of, with_shut, with_payload_sent}
+use Rattle.vs_conn.{specs.declared.end.Verdict.Verdict, proofs.Frames.got_asked}
+use Rattle.vs_device_parts.specs.Connections.{after_shut, after_written, cut_off}
+use Rattle.vs_device_parts.specs.{State.DeviceConnection, State.DeviceEntry, Transmitting.heard, Streams.to_write}
+use Rattle.laws_device.proofs.Carried.Gives.{drop_both, first_of, forwards_asked, forwards_gives, accepted_other, accepts_asked}
+use Rattle.laws_device.proofs.Carried.Gives.{accepts_response, answered_host, comes_behind, delivered_other, delivers_gives, gives_delivered}
+use Rattle.laws_device.proofs.Carried.Gives.{goes_host, hears_gives, kept_empty, response_empty, shut_gives, shuts_asked, unanswered_got}
+use Rattle.laws_device.proofs.Carried.{HostCalls.{read_host, write_host, cut_host, same_host}, Streamed.{join_of, left_streamed}}
+use Rattle.laws_device.proofs.Carried.{Streamed.{passed_streamed, same_streamed}, Tabled.value_contained, Hosts.unseen}
+use Rattle.laws_device.specs.Carried.Streamed.{IsJoined, IsStreamed, gives, line_for, look, seen, Seen}
+use Rattle.laws_history.specs.{Packets.{has, is_request, is_response, is_rw}, History.{Answerer, Asker, Got, History, IsFair, Side, gots}}
+use Rattle.laws_history.specs.{History.{puts, MayPut, peer}, declared.packet.Packet.Packet, Again.AllowsNow}
+use Rattle.laws_tables.{specs.Steps.payload_on, proofs.Fair.fair_now, proofs.Fair.own_got_fair}
+use Rattle.laws_tables.proofs.Logs.{got_after_got, got_after_put, none_on_any, only_on, passed_after_got, passed_after_put, put_after_got}
+use Rattle.laws_tables.proofs.{Logs.put_after_put, Goes.comes_out, Goes.Goes, Goes.drops, Goes.stays_still, Changes.without_changed}
+use Rattle.laws_tables.specs.Drains.{Drains, got_on, put_on}
+use Rattle.vs_outside.specs.Host.{after_close, after_failed, after_read, after_shut_write, after_write, called, dial_answer, fails_now}
+use Rattle.vs_outside.specs.Host.{is_listened, next_bytes, HostContents, with_shut_write_call, Stream}
+use Rattle.vs_outside.proofs.Frames.{stream_at-after_failed}
+use Rattle.vs_page.specs.{Held.{IsWhole, packet_held, packet_with, payload_held}, Log.{Device, Log, flow_got, flow_put, history_of}}
+use Rattle.vs_page.specs.{Log.{side_of, whole_of}, declared.log.LogEntry.TheVariants.{GotPacket, Mark, PutEvent, PutPacket}}
+use Rattle.vs_page.{specs.Fair.IsFairLog, specs.Fair.payload_of, specs.Fair.IsFairOn, proofs.Flows.same_self}
+use Rattle.vs_header.specs.{Packet.header_of, declared.Header.Header, declared.Kind.Kind}
+use Rattle.vs_proxy_parts.specs.State.{Handshake}
+use Rattle.vs_uds.specs.ConnectLine.{connect_port, connect_step}
+use Rattle.vs_uds.specs.{Reading.is_decided, Reading.port_or_bad, declared.connect.TheConstants.CONNECT_MAX, OkLine.ok_text}
+use Rattle.vs_outside.specs.declared.host_net.Dialed.TheVariants as dialed
+use Rattle.vs_conn.specs.declared.end.State.TheVariants as state
+use Rattle.vs_conn.specs.declared.end.Verdict.TheVariants as verdict
+use Rattle.vs_outside.specs.declared.host_net.StreamRead.TheVariants as read
+use Rattle.vs_outside.specs.declared.host_net.StreamWrite.TheVariants as write
+use Rattle.vs_uds.specs.declared.scan.Step.TheVariants as step
+
+-- Where the host was fresh at first.
+abbrev pub StreamedIf : Type 0 → HostContents → Log → ℕ → Table DeviceConnection → List Handshake → Type 0
+StreamedIf fresh c log port t hands = fresh → IsStreamed c log port t hands
+
+-- What packets carry payload.
+pub delivered_rw : (e : ConnectionEnd) (p : Packet) → verdict_of e p.header ≡ verdict.Deliver → is_rw p ≡ true
+delivered_rw e p is = grind (arith, nat_tests, common_steps, is)
+
+pub request_empty : (p : Packet) → is_request p ≡ true → is_rw p ≡ false
+request_empty p is = grind (arith, nat_tests, common_steps, is)
+
+pub reset_empty : (kind : Kind) (p : Packet) → (is_reset p.header && is_of kind p.header) ≡ true → is_rw p ≡ false
+reset_empty kind p is = grind (arith, nat_tests, common_steps, is)
+
+pub got_nothing : (p : Packet) (log : Log) → p.payload ≡ [] → (f : Flow) → got_on Device f log ≡ got_on Device f (GotPacket p ∷ log)
+got_nothing p log none f = sym (got_after_got Device p log f
+    ∙ ap (λ (bytes : List ℕ). got_on Device f log ++ only_on (flow_got Device p) bytes f) none ∙ none_on_any (flow_got Device p) f (got_on Device f log))
+
+-- The payload of a page that holds an RW.
+payload_by : (h : Header) (p : Packet) (o : Option (List ℕ)) → option_map (λ payload. record { header = h; payload = payload }) o ≡ Some p
+    → (p.header ≡ h) × (o ≡ Some p.payload)
+payload_by h p None is = absurd cc
+payload_by h p (Some payload) is =
+    let same : ◌≡◌ {A = Packet} record { header = h; payload = payload } p = cc in
+    (sym (ap (λ (q : Packet). q.header) same), ap (λ (q : Packet). Some q.payload) same)
+
+some_of : {A : Type 0} (b : Bool) (o : Option A) (y : A) → cond b o None ≡ Some y → o ≡ Some y
+some_of true o y is = is
+some_of false o y is = absurd cc
+
+pub payload_in : (page : List ℕ) (p : Packet) → packet_held page ≡ Some p → is_rw p ≡ true → take p.header.len (drop 44 page) ≡ p.payload
+payload_in page p held carries =
+    let h = header_of (take 44 page) in
+    let parts = payload_by h p (payload_held h (drop 44 page)) (some_of (nat_le 44 (length page)) (packet_with h (drop 44 page)) p held) in
+    let rw_here : (h.op == 5) ≡ true = ap (λ (g : Header). g.op == 5) (sym parts.0) ∙ carries in
+    let given : cond (nat_le h.len (length (drop 44 page))) (Some (take h.len (drop 44 page))) None ≡ Some p.payload =
+    ap (λ (b : Bool). cond b (cond (nat_le h.len (length (drop 44 page))) (Some (take h.len (drop 44 page))) None) (Some [])) (sym rw_here) ∙ parts.1 in
+    let taken : Some (take h.len (drop 44 page)) ≡ Some p.payload =
+    some_of (nat_le h.len (length (drop 44 page))) (Some (take h.len (drop 44 page))) p.payload given in
+    ap (λ (g : Header). take g.len (drop 44 page)) parts.0 ∙ cc
+
+no_request : (p : Packet) → is_response p ≡ true → is_request p ≡ false
+no_request p is = grind (arith, nat_tests, common_steps, is)
+
+-- Calls on the host that fail, and the id of a stream that is dialed.
+pub failed_host : (c : HostContents) (log : Log) (port : ℕ) (t : Table DeviceConnection) (hands : List Handshake) → IsStreamed c log port t hands
+    → IsStreamed (after_failed c) log port t hands
+failed_host c log port t hands x = same_host c (after_failed c) log port t hands (λ j. sym (ap (option_map seen) (stream_at-after_failed j c)))
+    (labelled_by (fails_now c)) x
+  where
+    labelled_by : (b : Bool) → (cond b (called c) (record (called c) { starved = true })).labelled ≡ c.labelled
+    labelled_by true = refl
+    labelled_by false = refl
+
+pub dialed_id : (path : List ℕ) (stream : ℕ) (c : HostContents) → dial_answer path c ≡ dialed.Stream stream → stream ≡ length c.streams + 1
+dialed_id path stream c is = by (fails_now c) (is_listened path c) is
+  where
+    by : (a b : Bool) → cond a dialed.Failed (cond b (dialed.Stream (length c.streams + 1)) dialed.Refused) ≡ dialed.Stream stream
+        → stream ≡ length c.streams + 1
+    by true b is = absurd cc
+    by false false is = absurd cc
+    by false true is = cc
+
+-- A packet without payload was put.
+pub put_empty : (c : HostContents) (log : Log) (port : ℕ) (t : Table DeviceConnection) (hands : List Handshake) (p : Packet) → p.payload ≡ []
+    → IsStreamed c log port t hands → IsStreamed c (PutPacket p ∷ log) port t hands
+put_empty c log port t hands p none x = same_streamed (look c) (look c) c.labelled log (PutPacket p ∷ log) port (λ id. refl)
+    (λ f. sym (put_after_put Device p log f ∙ ap (λ (bytes : List ℕ). put_on Device f log ++ only_on (flow_put Device p) bytes f) none
+    ∙ none_on_any (flow_put Device p) f (put_on Device f log))) (λ f. sym (got_after_put Device p log f)) (passed_after_put Device p log) t hands x
+
+module _ (c : HostContents) (log : Log) (port : ℕ) (t : Table DeviceConnection) (hands : List Handshake) (x : IsStreamed c log port t hands) (sound : IsTable t) where
+  -- A connection decides something.
+  pub decides_streams : (e : DeviceEntry) → Contains t.entries e → (k : DeviceConnection) → k.stream ≡ e.value.stream → k.by_client ≡ e.value.by_client
+      → k.closed ≡ e.value.closed → Goes (gives e.value.end) (gives k.end) (e.value.ok_line ++ e.value.pending)
+      (k.ok_line ++ k.pending) [] []
+      → (k.end.state ≡ state.Asked → e.value.end.state ≡ state.Asked) → (e.value.ok_line ≡ [] → k.ok_line ≡ []) → (e.value.pending ≡ [] → k.pending ≡ [])
+      → IsStreamed c log port (with_value t e.slot k) hands
+  decides_streams e is k stream client closed goes asks ok pending =
+      goes_host c log log port t hands x sound e is k stream client closed [] (λ f. refl)
+      (λ f. sym (none_on_any e.flow f (got_on Device f log))) (λ f on. on)
+      goes (λ on. (asks on, ok, pending))
+
+  pub cuts_streams : (e : DeviceEntry) → Contains t.entries e → e.value.closed ≡ true
+      → IsStreamed c log port (with_value t e.slot (cut_off e.value)) hands
+  cuts_streams e is shut = decides_streams e is (cut_off e.value) refl refl (sym shut)
+      (drops (gives e.value.end) (e.value.ok_line ++ e.value.pending) [])
+      (λ on. absurd cc) (λ none. refl) (λ none. refl)
+
+  pub shuts_streams : (e : DeviceEntry) (bits now : ℕ) → Contains t.entries e → IsStreamed c log port (with_value t e.slot (after_shut bits now e.value)) hands
+  shuts_streams e bits now is = decides_streams e is (after_shut bits now e.value) refl refl refl
+      (shut_gives e.value.end bits e.value.ok_line e.value.pending)
+      (shuts_asked e.value.end bits) (kept_empty (with_shut e.value.end bits).own.receive e.value.ok_line)
+      (kept_empty (with_shut e.value.end bits).own.receive e.value.pending)
+
+  -- Its end alone changes.
+  pub ends_streams : (e : DeviceEntry) → Contains t.entries e → (k : DeviceConnection) → k.stream ≡ e.value.stream → k.by_client ≡ e.value.by_client
+      → k.closed ≡ e.value.closed → (k.ok_line ≡ e.value.ok_line) → k.pending ≡ e.value.pending
+      → (gives k.end ≡ true → gives e.value.end ≡ true)
+      → (k.end.state ≡ state.Asked → e.value.end.state ≡ state.Asked) → IsStreamed c log port (with_value t e.slot k) hands
+  ends_streams e is k stream client closed ok pending less asks = decides_streams e is k stream client closed
+      (subst (λ (line : List ℕ). Goes (gives e.value.end) (gives k.end) (e.value.ok_line ++ e.value.pending) (line ++ k.pending) [] []) (sym ok)
+      (subst (λ (bytes : List ℕ). Goes (gives e.value.end) (gives k.end) (e.value.ok_line ++ e.value.pending) (e.value.ok_line ++ bytes) [] []) (sym pending)
+      (stays_still (gives e.value.end) (gives k.end) (e.value.ok_line ++ e.value.pending) [] less (λ on. refl)))) asks (λ none. ok ∙ none) (λ none. pending ∙ none)
+
+  -- A packet came.
+  module _ (p : Packet) (whole : IsWhole p) where
+    put_same : (f : Flow) → put_on Device f log ≡ put_on Device f (GotPacket p ∷ log)
+    put_same f = sym (put_after_got Device p log f)
+
+    module _ (e : DeviceEntry) (is : Contains t.entries e) (flow : flow_got Device p ≡ e.flow) where
+      got_here : (f : Flow) → got_on Device f (GotPacket p ∷ log) ≡ got_on Device f log ++ only_on e.flow p.payload f
+      got_here f = got_after_got Device p log f ∙ ap (λ (g : Flow). got_on Device f log ++ only_on g p.payload f) flow
+
+      pub hears_streams : (v : Verdict) → verdict_of e.value.end p.header ≡ v → (v ≡ verdict.Accept → ⊥) → (v ≡ verdict.Deliver → ⊥)
+          → IsStreamed c (GotPacket p ∷ log) port (with_value t e.slot (heard p.header e.value)) hands
+      hears_streams v now other undelivered = goes_host c log (GotPacket p ∷ log) port t hands x sound e is
+          (heard p.header e.value) refl refl refl p.payload put_same
+          got_here (passed_after_got Device p log)
+          (stays_still (gives e.value.end) (gives (end_after e.value.end p.header)) (e.value.ok_line ++ e.value.pending) p.payload
+          (hears_gives e.value.end p.header v now other) (λ on. whole.none (gives_delivered e.value.end p v now undelivered on)))
+          (λ on. (got_asked e.value.end p.header on, (λ none. none), λ none. none))
+
+      pub delivers_streams : (payload : List ℕ) → payload ≡ p.payload → verdict_of e.value.end p.header ≡ verdict.Deliver
+          → IsStreamed c (GotPacket p ∷ log) port (with_value t e.slot (record (heard p.header e.value) { pending = e.value.pending ++ payload })) hands
+      delivers_streams payload same now = goes_host c log (GotPacket p ∷ log) port t hands x sound e is
+          (record (heard p.header e.value) { pending = e.value.pending ++ payload }) refl refl refl p.payload put_same got_here
+          (passed_after_got Device p log)
+          (subst (λ (bytes : List ℕ). Goes (gives e.value.end) (gives (end_after e.value.end p.header)) (e.value.ok_line ++ e.value.pending)
+          (e.value.ok_line ++ (e.value.pending ++ bytes)) [] p.payload) (sym same)
+          (comes_behind (gives e.value.end) (gives (end_after e.value.end p.header)) e.value.ok_line e.value.pending p.payload
+          (delivers_gives e.value.end p.header now)))
+          (λ on. absurd (delivered_other e.value.end p.header now on))
+
+      -- RESPONSE, before which no payload came.
+      pub accepts_streams : IsFairLog Device (GotPacket p ∷ log) → history_of Device e.flow log ≡ whole_of Device e.flow log
+          → e.value.by_client ≡ is_assigned e.flow.host → (line : List ℕ)
+          → line ≡ cond e.value.by_client (ok_text e.flow.host) [] → verdict_of e.value.end p.header ≡ verdict.Accept
+          → IsStreamed c (GotPacket p ∷ log) port (with_value t e.slot (record (heard p.header e.value) { ok_line = line })) hands
+      accepts_streams fair first client line written now =
+          answered_host c log (GotPacket p ∷ log) port t hands x sound e is (record (heard p.header e.value) { ok_line = line }) refl refl
+          refl p.payload put_same got_here
+          (passed_after_got Device p log) (accepts_asked e.value.end p.header now)
+          (ap (λ (h : History). payload_of (gots h)) (sym first) ∙ nothing (side_of Device e.flow) (history_of Device e.flow log) (accepts_response e.value.end p now) older fair_here)
+          (whole.none (response_empty p (accepts_response e.value.end p now))) (written ∙ ap (λ (b : Bool). cond b (ok_text e.flow.host) []) client) refl
+          (accepted_other e.value.end p.header now)
+        where
+          two : IsFairOn Device e.flow log × AllowsNow (side_of Device e.flow) (history_of Device e.flow log) (Got p)
+          two = subst (λ (g : Flow). IsFairOn Device g log × AllowsNow (side_of Device g) (history_of Device g log) (Got p)) flow
+              (own_got_fair Device p log (fair (flow_got Device p)))
+
+          older : IsFair (side_of Device e.flow) (history_of Device e.flow log)
+          older = fair_now Device e.flow log two.0
+
+          fair_here : MayPut (peer (side_of Device e.flow)) (gots (history_of Device e.flow log)) (puts (history_of Device e.flow log)) p
+          fair_here = two.1.goes_on (no_request p (accepts_response e.value.end p now))
+
+          nothing : (side : Side) (h : History) → is_response p ≡ true → IsFair side h → MayPut (peer side) (gots h) (puts h) p → payload_of (gots h) ≡ []
+          nothing Asker h response fair may = unanswered_got h fair (first_response h response may)
+            where
+              first_response : (h : History) → is_response p ≡ true → MayPut Answerer (gots h) (puts h) p → has is_response (gots h) ≡ false
+              first_response h response may = let timely = may.timely in grind (arith, nat_tests, common_steps, response, timely)
+          nothing Answerer h response fair may = absurd (never h response may)
+            where
+              never : (h : History) → is_response p ≡ true → MayPut Asker (gots h) (puts h) p → ⊥
+              never h response may = let timely = may.timely in absurd (grind (arith, nat_tests, common_steps, response, timely))
+
+    -- On a flow none of whose connections is given it.
+    pub passes_streams : All (λ e. e.flow ≡ flow_got Device p → gives e.value.end ≡ true → p.payload ≡ []) t.entries → IsStreamed c (GotPacket p ∷ log) port t hands
+    passes_streams idle = passed_streamed (look c) c.labelled log (GotPacket p ∷ log) port t hands x (flow_got Device p) p.payload put_same
+        (got_after_got Device p log) (passed_after_got Device p log) idle
+
+    pub unknown_streams : entry_of t (flow_got Device p) ≡ None → IsStreamed c (GotPacket p ∷ log) port t hands
+    unknown_streams none = passes_streams (λ i e within on.
+        let fails = none_found (λ (y : DeviceEntry). same_flow (flow_got Device p) y.flow) t.entries none i e within in
+        let both : true ≡ false = sym (same_self (flow_got Device p)) ∙ ap (λ (f : Flow). same_flow (flow_got Device p) f) (sym on) ∙ fails in
+        λ given. absurd (never both))
+      where
+        never : true ≡ false → ⊥
+        never is = cc
+
+    pub empty_streams : is_rw p ≡ false → IsStreamed c (GotPacket p ∷ log) port t hands
+    empty_streams other = passes_streams (λ i e within on given. whole.none other)
+
+  -- A connection leaves, whose stream is closed or closes.
+  pub leaves_streams : (e : DeviceEntry) → Contains t.entries e → e.value.closed ≡ true → (k : DeviceConnection)
+      → IsStreamed c log port (without (with_value t e.slot k) e.slot) hands
+  leaves_streams e is shut k = subst (λ (u : Table DeviceConnection). IsStreamed c log port u hands) (sym (without_changed t e.slot k))
+      (left_streamed (look c) c.labelled log port t hands x sound e is shut)
+
+  pub closes_streams : (e : DeviceEntry) → Contains t.entries e → (k : DeviceConnection)
+      → IsStreamed (after_close e.value.stream c) log port (without (with_value t e.slot k) e.slot) hands
+  closes_streams e is k =
+      let cut : DeviceConnection = cut_off e.value in
+      subst (λ (u : Table DeviceConnection). IsStreamed (after_close e.value.stream c) log port u hands)
+      (without_changed t e.slot cut ∙ sym (without_changed t e.slot k))
+      (left_streamed (look (after_close e.value.stream c)) c.labelled log port (with_value t e.slot cut) hands
+      (cut_host c log port t hands x sound e is)
+      (with_value_sound t e.slot cut sound) (record e { value = cut }) (value_contained t sound e is cut) refl)
+
+  -- Bytes of its stream are read and put; its stream is given bytes.
+  pub reads_streams : (e : DeviceEntry) (is : Contains t.entries e) (n cid : ℕ) → let bytes = next_bytes e.value.stream n c in
+      IsStreamed (after_read e.value.stream (read.Got n) c) (PutPacket (payload_on Device cid e.flow e.value.end bytes) ∷ log) port
+      (with_value t e.slot (record e.value { end = with_payload_sent e.value.end (length bytes) })) hands
+  reads_streams e is n cid =
+      let bytes = next_bytes e.value.stream n c in
+      let p = payload_on Device cid e.flow e.value.end bytes in
+      let j = join_of (look c) c.labelled log port t hands x e is in
+      read_host c log (PutPacket p ∷ log) port t hands x sound e is (record e.value { end = with_payload_sent e.value.end (length bytes) })
+      refl refl refl n bytes refl
+      (put_after_put Device p log) (λ f. sym (got_after_put Device p log f)) (passed_after_put Device p log) j.drains j.asked
+
+  pub writes_streams : (e : DeviceEntry) → Contains t.entries e → (n : ℕ) → n ≤ length (to_write e.value)
+      → IsStreamed (after_write e.value.stream (to_write e.value) (write.Took n) c) log port (with_value t e.slot (after_written n e.value)) hands
+  writes_streams e is n less =
+      let j = join_of (look c) c.labelled log port t hands x e is in
+      let all = e.value.ok_line ++ e.value.pending in
+      let k = after_written n e.value in
+      let out = comes_out (gives e.value.end) (gives k.end) all n (forwards_gives e.value.end (n - length e.value.ok_line)) j.stream.given
+      (line_for e.flow ++ got_on Device e.flow log) j.drains in
+      write_host c log log port t hands x sound e is k refl refl refl n (to_write e.value)
+      (subst (λ (bytes : List ℕ). Drains (gives k.end) (j.stream.given ++ bytes) (k.ok_line ++ k.pending) (line_for e.flow ++ got_on Device e.flow log)) (sym (first_of n all less))
+      (subst (λ (bytes : List ℕ). Drains (gives k.end) (j.stream.given ++ take n all) bytes (line_for e.flow ++ got_on Device e.flow log))
+      (drop_both n e.value.ok_line e.value.pending)
+      (subst (λ (bytes : List ℕ). Drains (gives k.end) (j.stream.given ++ take n all) (drop n all) bytes)
+      (append-nil (line_for e.flow ++ got_on Device e.flow log)) out)))
+      (λ on. nothing e n j.stream.given (j.asked (forwards_asked e.value.end (n - length e.value.ok_line) on)))
+    where
+      nothing : (e : DeviceEntry) (n : ℕ) (given : List ℕ) → (given ≡ []) × (e.value.ok_line ≡ []) × (e.value.pending ≡ []) ×
+          (e.value.closed ≡ false)
+          → (given ++ take n (to_write e.value) ≡ []) × (drop n e.value.ok_line ≡ []) × (drop (n - length e.value.ok_line) e.value.pending ≡ [])
+          × (e.value.closed ≡ false)
+      nothing e n given (a, b, d, still) = (
+        ap (λ (bytes : List ℕ). bytes ++ take n (to_write e.value)) a
+            ∙ ap (λ (bytes : List ℕ). take n (take 4096 (bytes ++ e.value.pending))) b ∙ ap (λ (bytes : List ℕ). take n (take 4096 bytes)) d
+            ∙ ap (take n) (take-nil 4096) ∙ take-nil n,
+        ap (drop n) b ∙ drop-nil n,
+        ap (drop (n - length e.value.ok_line)) d ∙ drop-nil (n - length e.value.ok_line),
+        still,
+      )
+
+-- Calls on the host that change no bytes.
+pub called_host : (c : HostContents) (log : Log) (port : ℕ) (t : Table DeviceConnection) (hands : List Handshake) → IsStreamed c log port t hands
+    → IsStreamed (called c) log port t hands
+called_host c log port t hands x = same_host c (called c) log port t hands (λ j. refl) refl x
+
+pub shut_write_host : (id : ℕ) (c : HostContents) (log : Log) (port : ℕ) (t : Table DeviceConnection) (hands : List Handshake) → IsStreamed c log port t hands
+    → IsStreamed (after_shut_write id c) log port t hands
+shut_write_host id c log port t hands x = same_host c (after_shut_write id c) log port t hands
+    (unseen id (λ s. record s { write_shut = true }) (with_shut_write_call c) (λ st. refl)) refl x
+
+-- Entries that are no packets.
+pub event_streams : (c : HostContents) (log : Log) (id port : ℕ) (t : Table DeviceConnection) (hands : List Handshake) → IsStreamed c log port t hands
+    → IsStreamed c (PutEvent id ∷ log) port t hands
+event_streams c log id port t hands x = same_streamed (look c) (look c) c.labelled log (PutEvent id ∷ log) port (λ j. refl) (λ f. refl) (λ f. refl)
+    (λ f on. on) t hands x
+
+pub mark_streams : (c : HostContents) (log : Log) (cid port : ℕ) (t : Table DeviceConnection) (hands : List Handshake) → IsStreamed c log port t hands
+    → IsStreamed c (Mark cid ∷ log) port t hands
+mark_streams c log cid port t hands x = same_streamed (look c) (look c) c.labelled log (Mark cid ∷ log) port (λ j. refl) (λ f. refl) (λ f. refl)
+    (λ f on. on) t hands x
+
+-- A line goes on, where it isn't decided.
+pub goes_on : (line : List ℕ) → connect_step line ≡ step.More → is_decided CONNECT_MAX line ≡ false
+goes_on line is = by (is_decided 32 line) (connect_port line) is
+  where
+    by : (b : Bool) (o : Option ℕ) → cond b (port_or_bad o) step.More ≡ step.More → b ≡ false
+    by false o is = refl
+    by true None is = absurd cc
+    by true (Some port) is = absurd cc
+
+-- A host without streams, and a table without connections.
+pub no_streams : (c : HostContents) (port : ℕ) (t : Table DeviceConnection) → t.entries ≡ [] → c.streams ≡ [] → IsStreamed c [] port t []
+no_streams c port t empty fresh = record {
+  joined = subst (λ (es : List DeviceEntry). All (IsJoined (look c) []) es) (sym empty) (λ i e within. absurd (omega (arith, within)));
+  tabled = λ id s f there label. absurd (none id s there);
+  streams = record {
+    labels = λ id s f there label. absurd (none id s there);
+    unique = λ i j s u f a b p q. absurd (none i s a);
+    none = λ f without. refl;
+    waiting = λ id s there waits. absurd (none id s there);
+    lines = record {
+      read = λ i h within. absurd (omega (arith, within));
+      undecided = λ i h within. absurd (omega (arith, within));
+      apart = λ i j h less within. absurd (omega (arith, within));
+    };
+  };
+}
+  where
+    by : (b : Bool) (id : ℕ) (s : Seen) → option_map seen (cond b None (slice_get {X = Stream} [] (id - 1))) ≡ Some s → ⊥
+    by true id s there = cc
+    by false id s there = cc
+
+    none : (id : ℕ) (s : Seen) → look c id ≡ Some s → ⊥
+    none id s there = by (id == 0) id s (ap (λ (xs : List Stream). option_map seen (cond (id == 0) None (slice_get xs (id - 1)))) (sym fresh) ∙ there)

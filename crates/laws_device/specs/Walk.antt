@@ -1,0 +1,2 @@
+-- What the conversations of device and proxy keep, over any ring and any host: each is walked once.
+pub mod Seen

@@ -1,3 +1,0 @@
-pub mod Streams
-pub mod Split
-pub mod Waiting

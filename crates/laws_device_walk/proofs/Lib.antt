@@ -1,4 +1,0 @@
-pub mod Keeping
-pub mod Serving
-pub mod Taking
-pub mod Turning

@@ -1,0 +1,153 @@
+-- Calls that read nothing keep the account: those that make no use of the ring, and a send.
+use Rattle.std.proofs.Common.{◌≡◌, ℕ, ◌==◌, not, Bool, true, false, cond, List, [], ◌∷◌, take, length, Option, Some, None, refl, Contains}
+use Rattle.std.proofs.{Common.Result, Common.Ok, Common.Err, Common.◌∙◌, lemmas.List.Elements.All-filter}
+use Rattle.vs_conn.specs.{End.grown, End.with_payload_sent, End.wanting_credit, declared.end.State.State}
+use Rattle.vs_flow.specs.{Flow.same_flow, Table.IsTable, declared.flow.Flow.Flow}
+use Rattle.laws_history.specs.{History.{Got, History, Put, Side, gots, puts}, declared.packet.Packet.Packet, Packets.is_request}
+use Rattle.vs_page.specs.{Fair.{asked_by, number_of, payload_got}, Log.{Driver, Log, Role, flow_got, flow_put, side_of, whole_of}}
+use Rattle.vs_page.specs.declared.log.LogEntry.TheVariants.{GotPacket, PutPacket}
+use Rattle.vs_driver_parts.specs.State.{DriverConnection, DriverEntry, DriverState, GoneConnection, entry_known_as, gone_known_as}
+use Rattle.vs_driver_parts.specs.Connections.{after_close, after_closing, after_grow, after_shut, after_shutdown, after_unlisten, all_closed}
+use Rattle.vs_driver_parts.specs.{Connections.entry_grow_answer, Connections.grown_by, declared.answers.Grown.Grown}
+use Rattle.vs_driver_parts.specs.Listening.{after_accept, listening, next_accepted, with_waiting, without_id}
+use Rattle.vs_driver_parts.specs.Connections.{entry_closed, gone_closed, shut_in, waiting_on, without_gone}
+use Rattle.vs_driver_parts.specs.{Held.with_connection_in, State.is_known_as, declared.answers.ListenError.ListenError}
+use Rattle.vs_driver_parts.proofs.Numbers.{numbers_gone_without}
+use Rattle.laws_tables.{proofs.Slots.found_by, specs.Steps.payload_on}
+use Rattle.laws_tables.{specs.Drains.receives, proofs.Goes.Goes, proofs.Goes.ended_goes, proofs.Goes.shut_goes, proofs.Goes.stays_still}
+use Rattle.laws_driver.{specs.Honest.IsFitState, specs.Honest.slots_of, proofs.Calls.CarriesSend, proofs.Changing.close_changes}
+use Rattle.laws_driver.specs.Carried.Received.{Account, AreReceived, ReceivedOn}
+use Rattle.laws_driver.proofs.Carried.Adding.{asked_after, asked_still, got_over_put}
+use Rattle.laws_driver.proofs.Carried.{Reading.given_none, Receiving.changed_received, Receiving.in_slots}
+use Rattle.vs_conn.specs.declared.end.State.TheVariants as state
+use Rattle.vs_driver_parts.specs.declared.answers.Grown.TheVariants as rise
+
+-- The number of a flow's present connection stays at all packets but REQUESTs.
+put_by : (side : Side) (p : Packet) (w : History) (b : Bool) → is_request p ≡ false
+    → let v : History = cond b (Put p ∷ w) w in asked_by side (puts v) (gots v) ≡ asked_by side (puts w) (gots w)
+put_by side p w true plain = asked_still side p (puts w) (gots w) plain
+put_by side p w false plain = refl
+
+got_by : (side : Side) (p : Packet) (w : History) (b : Bool) → is_request p ≡ false
+    → let v : History = cond b (Got p ∷ w) w in asked_by side (puts v) (gots v) ≡ asked_by side (puts w) (gots w)
+got_by side p w true plain = asked_after side p (puts w) (gots w) plain
+got_by side p w false plain = refl
+
+pub number_put : (role : Role) (p : Packet) (log : Log) (f : Flow) → is_request p ≡ false → number_of role f (PutPacket p ∷ log) ≡ number_of role f log
+number_put role p log f plain = put_by (side_of role f) p (whole_of role f log) (same_flow f (flow_put role p)) plain
+
+pub number_got : (role : Role) (p : Packet) (log : Log) (f : Flow) → is_request p ≡ false → number_of role f (GotPacket p ∷ log) ≡ number_of role f log
+number_got role p log f plain = got_by (side_of role f) p (whole_of role f log) (same_flow f (flow_got role p)) plain
+
+module _ (a : Account) (log : Log) (s : DriverState) (x : AreReceived a log (slots_of s)) where
+  -- A connection of the table changes, and no byte moves; and the driver puts a packet besides.
+  pub alters : (e : DriverEntry) (c : DriverConnection) → IsTable s.table → Contains s.table.entries e → c.id ≡ e.value.id
+      → Goes (receives e.value.end) (receives c.end) e.value.unread c.unread [] [] → AreReceived a log (with_connection_in e.slot c (slots_of s))
+  alters e c sound there same goes =
+      changed_received a a.received log log e [] [] (λ id. given_none (id == e.value.id) (a.received id)) (λ k. given_none _ (payload_got Driver k log))
+      (λ f. refl) (slots_of s) x sound there c same goes
+
+  pub puts_and_alters : (p : Packet) (e : DriverEntry) (c : DriverConnection) → is_request p ≡ false → IsTable s.table → Contains s.table.entries e
+      → c.id ≡ e.value.id → Goes (receives e.value.end) (receives c.end) e.value.unread c.unread [] []
+      → AreReceived a (PutPacket p ∷ log) (with_connection_in e.slot c (slots_of s))
+  puts_and_alters p e c plain sound there same goes =
+      changed_received a a.received log (PutPacket p ∷ log) e [] [] (λ id. given_none (id == e.value.id) (a.received id))
+      (λ k. got_over_put Driver p log k ∙ given_none _ (payload_got Driver k log))
+      (λ f. number_put Driver p log f plain) (slots_of s) x sound there c same goes
+
+  -- shutdown.
+  shut_by : (st : State) (bits : ℕ) (e : DriverEntry) → IsTable s.table → Contains s.table.entries e → AreReceived a log (slots_of (shut_in st bits e s))
+  shut_by state.Live bits e sound there = alters e (after_shut bits e.value) sound there refl (shut_goes e.value.end bits e.value.unread)
+  shut_by _ bits e sound there = x
+
+  pub shutdown_received : (id bits : ℕ) → IsTable s.table → AreReceived a log (slots_of (after_shutdown id bits s))
+  shutdown_received id bits sound = by (entry_known_as id s) refl
+    where
+      by : (o : Option DriverEntry) → entry_known_as id s ≡ o
+          → AreReceived a log (slots_of (elim o as (λ _. DriverState) [ Some e ↦ shut_in e.value.end.state bits e s | None ↦ s ]))
+      by None is = x
+      by (Some e) is = shut_by e.value.end.state bits e sound (found_by (is_known_as id) s.table.entries e is).0
+
+  -- grow.
+  grow_by : (answer : Grown) (alloc : ℕ) (e : DriverEntry) → IsTable s.table → Contains s.table.entries e
+      → AreReceived a log (slots_of (grown_by answer alloc e s))
+  grow_by rise.Done alloc e sound there =
+      alters e (record e.value { end = grown e.value.end alloc }) sound there refl
+      (stays_still (receives e.value.end) (receives e.value.end) e.value.unread [] (λ on. on) (λ on. refl))
+  grow_by _ alloc e sound there = x
+
+  pub grow_received : (id alloc : ℕ) → IsTable s.table → AreReceived a log (slots_of (after_grow id alloc s))
+  grow_received id alloc sound = by (entry_known_as id s) refl
+    where
+      by : (o : Option DriverEntry) → entry_known_as id s ≡ o
+          → AreReceived a log (slots_of (elim o as (λ _. DriverState) [ Some e ↦ grown_by (entry_grow_answer alloc e) alloc e s | None ↦ s ]))
+      by None is = x
+      by (Some e) is = grow_by (entry_grow_answer alloc e) alloc e sound (found_by (is_known_as id) s.table.entries e is).0
+
+  -- close.
+  closes : (st : State) (e : DriverEntry) → IsTable s.table → Contains s.table.entries e
+      → AreReceived a log (with_connection_in e.slot (after_closing st e.value) (slots_of s))
+  closes state.Live e sound there = alters e (after_closing state.Live e.value) sound there refl (shut_goes e.value.end 3 e.value.unread)
+  closes st e sound there = alters e (after_closing st e.value) sound there refl (ended_goes (receives e.value.end) e.value.unread)
+
+  gone_received : (o : Option GoneConnection) (id : ℕ) → AreReceived a log (slots_of (elim o as (λ _. DriverState) [
+    | None ↦ s
+    | Some g ↦ record s { gone = without_gone id s.gone; listeners = with_waiting g.flow.guest (without_id id) s.listeners }
+  ]))
+  gone_received None id = x
+  gone_received (Some g) id =
+      let stays : GoneConnection → Bool = λ h. not (h.id == id) in
+      in_slots a log (slots_of s) _ x refl (numbers_gone_without a.first_id s.next_port s.next_id s.table s.gone x.numbers stays) x.held
+      (All-filter stays (ReceivedOn a log) s.gone x.left)
+
+  pub close_received : (id : ℕ) → IsTable s.table → AreReceived a log (slots_of (after_close id s))
+  close_received id sound = by (entry_known_as id s) refl
+    where
+      by : (o : Option DriverEntry) → entry_known_as id s ≡ o
+          → AreReceived a log (slots_of (elim o as (λ _. DriverState) [ Some e ↦ entry_closed e s | None ↦ gone_closed id s ]))
+      by None is = gone_received (gone_known_as id s) id
+      by (Some e) is = closes e.value.end.state e sound (found_by (is_known_as id) s.table.entries e is).0
+
+-- unlisten.
+all_received : (a : Account) (log : Log) (ids : List ℕ) (s : DriverState) → IsFitState s → AreReceived a log (slots_of s)
+    → AreReceived a log (slots_of (all_closed ids s))
+all_received a log [] s fits x = x
+all_received a log (id ∷ ids) s fits x =
+    all_received a log ids (after_close id s) (close_changes id s fits).fits (close_received a log s x id fits.sound)
+
+pub unlisten_received : (a : Account) (log : Log) (port : ℕ) (s : DriverState) → IsFitState s → AreReceived a log (slots_of s)
+    → AreReceived a log (slots_of (after_unlisten port s))
+unlisten_received a log port s fits x = all_received a log (waiting_on port s) s fits x
+
+-- listen and accept change no slot.
+pub listen_slots : (port : ℕ) (s : DriverState) (r : Result (Unit {0}) ListenError)
+    → slots_of (elim r as (λ _. DriverState) [ Ok x ↦ listening port s | Err why ↦ s ]) ≡ slots_of s
+listen_slots port s (Ok x) = refl
+listen_slots port s (Err why) = refl
+
+pub accept_slots : (port : ℕ) (s : DriverState) → slots_of (after_accept port s) ≡ slots_of s
+accept_slots port s = by (next_accepted port s)
+  where
+    by : (o : Option ℕ) → slots_of (elim o as (λ _. DriverState) [
+      | None ↦ s
+      | Some id ↦ record s { listeners = with_waiting port (without_id id) s.listeners }
+    ]) ≡ slots_of s
+    by None = refl
+    by (Some id) = refl
+
+-- send.
+pub send_receives : (first id : ℕ) (bytes : List ℕ) (a : Account)
+    → CarriesSend first id bytes (λ part t log. AreReceived a log (slots_of t)) (λ answer part t log. AreReceived a log (slots_of t))
+send_receives first id bytes a = record {
+  stopped = λ why s log x. x;
+  unknown = λ s log none x. x;
+  empty = λ s log x. x;
+  full = λ n s log x. x;
+  wants = λ e s log fits stands m x.
+      alters a log s x e (record e.value { end = wanting_credit e.value.end }) fits.sound stands.contains refl
+      (stays_still (receives e.value.end) (receives e.value.end) e.value.unread [] (λ on. on) (λ on. refl));
+  sends = λ e n s log fits stands known can few m was fair x.
+      puts_and_alters a log s x (payload_on Driver s.cid e.flow e.value.end (take n bytes)) e
+      (record e.value { end = with_payload_sent e.value.end (length (take n bytes)) }) refl fits.sound stands.contains refl
+      (stays_still (receives e.value.end) (receives e.value.end) e.value.unread [] (λ on. on) (λ on. refl));
+}

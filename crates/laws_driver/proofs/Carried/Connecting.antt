@@ -1,0 +1,90 @@
+-- A connect opens a connection on which nothing was delivered; and the account of a driver that was just made.
+use Rattle.std.proofs.Common.{◌≡◌, ◌≢◌, ℕ, ◌+◌, ◌<◌, Bool, true, false, cond, None, List, [], ◌∷◌, refl, ap, ◌∙◌, arith}
+use Rattle.std.specs.List.{All}
+use Rattle.vs_conn.specs.End.{asked, paid_of}
+use Rattle.vs_flow.{specs.Connection.Connection, specs.Flow.is_assigned, specs.declared.flow.Flow.Flow, proofs.Entries.same_flow_false}
+use Rattle.vs_header.specs.declared.Kind.TheVariants.{Stream}
+use Rattle.vs_limits.specs.declared.TheConstants.{BUF_ALLOC}
+use Rattle.laws_history.specs.History.{Answerer, Asker, Put, Side, gots, puts}
+use Rattle.laws_history.specs.{declared.packet.Packet.Packet, Again.count, Packets.is_request}
+use Rattle.vs_page.specs.Fair.{IsFairLog, asked_by, current, number_of, payload_got, payload_of}
+use Rattle.vs_page.specs.Log.{Driver, Log, and_then, history_of, side_by, side_of, whole_of}
+use Rattle.vs_page.{specs.declared.log.LogEntry.TheVariants.PutPacket, proofs.Flows.same_self, proofs.Present.present_got}
+use Rattle.laws_tables.specs.Steps.{request_on}
+use Rattle.vs_driver_parts.specs.Connections.{connect_refusal, connected, next_flow}
+use Rattle.vs_driver_parts.specs.{Held.HeldSlots, State.DriverConnection, State.DriverState, Conversations.new_state}
+use Rattle.laws_driver.{specs.Honest.IsFitState, specs.Honest.slots_of, proofs.Calls.CarriesConnect, proofs.Putting.may_connect}
+use Rattle.laws_driver.specs.Carried.Received.{Account, AreReceived, no_account, with_opened}
+use Rattle.laws_driver.proofs.Carried.Polling.{Further, IsFurther, goes_then}
+use Rattle.laws_driver.proofs.Carried.{Adding.got_over_put, Logging.opened_goes_on, Logging.opened_received, Receiving.in_slots}
+use Rattle.vs_conn.specs.declared.end.Owed.TheVariants as owed
+
+-- The numbers given last don't count.
+with_last : (a : Account) (log : Log) (slots : HeldSlots) (port id : ℕ) → AreReceived a log slots
+    → AreReceived a log (record slots { last_port = port; last_id = id })
+with_last a log slots port id x = in_slots a log slots (record slots { last_port = port; last_id = id }) x refl x.numbers x.held x.left
+
+number_rises : (side : Side) (put got : List Packet) (p : Packet) → side ≡ Asker → is_request p ≡ true
+    → asked_by side (p ∷ put) got ≡ asked_by side put got + 1
+number_rises Asker put got p is request = ap (λ (b : Bool). cond b (count is_request put + 1) (count is_request put)) request
+number_rises Answerer put got p is request = absurd cc
+
+connected_received : (a : Account) (host : ℕ) (s : DriverState) (log : Log) → let p = request_on Driver s.cid (next_flow host s) Stream in
+    IsFitState s → connect_refusal host s ≡ None → IsFairLog Driver (PutPacket p ∷ log) → IsFurther a (slots_of s) log
+    → IsFurther a (slots_of (connected host s)) (PutPacket p ∷ log)
+connected_received a host s log fits free fair x =
+    let f : Flow = next_flow host s in
+    let p : Packet = request_on Driver s.cid f Stream in
+    let new : Log = PutPacket p ∷ log in
+    let own = (may_connect host s free).own in
+    let side : side_of Driver f ≡ Asker = ap (λ (b : Bool). side_by Driver b) own in
+    let w = whole_of Driver f log in
+    let next : number_of Driver f new ≡ number_of Driver f log + 1 =
+    ap (λ (b : Bool). let v = cond b (Put p ∷ w) w in asked_by (side_of Driver f) (puts v) (gots v)) (same_self f)
+    ∙ number_rises (side_of Driver f) (puts w) (gots w) p side refl in
+    let got : (k : Connection) → payload_got Driver k new ≡ payload_got Driver k log = λ k. got_over_put Driver p log k in
+    let nothing : payload_got Driver (current Driver f new) new ≡ [] =
+    present_got Driver f new (fair f)
+    ∙ ap (λ (b : Bool). payload_of (gots (cond b (and_then (Put p) (history_of Driver f log)) (history_of Driver f log)))) (same_self f) in
+    let others : (g : Flow) → g ≢ f → number_of Driver g new ≡ number_of Driver g log =
+    λ g apart. ap (λ (b : Bool). let v = cond b (Put p ∷ whole_of Driver g log) (whole_of Driver g log) in asked_by (side_of Driver g) (puts v) (gots v))
+    (same_flow_false g f apart) in
+    let absent : All (λ e. e.flow ≢ f) s.table.entries = λ i d within on.
+    let below = fits.ports i d within (ap (λ (g : Flow). is_assigned g.host) on ∙ own) in
+    let port = ap (λ (g : Flow). g.guest) on in
+    absurd (omega (arith, below, port)) in
+    let c : DriverConnection = record { id = s.next_id; end = paid_of (asked Stream BUF_ALLOC) owed.Request; unread = []; unanswered = false; closed = false } in
+    let below : is_assigned f.host ≡ false → f.guest < s.next_port + 1 = λ mine. omega arith in
+    let b : Account = with_opened s.next_id (current Driver f new) x.0 in (
+      b,
+      goes_then a x.0 b x.1
+          (opened_goes_on x.0 log new (slots_of s) f c (s.next_port + 1) x.2 got nothing next others refl refl absent (omega arith) below),
+      with_last b new (record (slots_of s) { next_port = s.next_port + 1; next_id = s.next_id + 1; table = (connected host s).table }) s.next_port s.next_id
+          (with_last b new _ s.last_port s.last_id
+          (opened_received x.0 log new (slots_of s) f c (s.next_port + 1) x.2 got nothing next others refl refl absent (omega arith) below)),
+    )
+
+pub connect_carries : (first host : ℕ) (a : Account) → CarriesConnect first host (Further a) (λ answer. Further a)
+connect_carries first host a = record {
+  refused = λ why s log x. x;
+  opens = λ s log fits free m was fair x. connected_received a host s log fits free fair x;
+}
+
+-- Nothing was received before the first call.
+pub none_received : (size port id : ℕ) → AreReceived (no_account id) [] (slots_of (new_state size port id 0))
+none_received size port id = record {
+  numbers = record {
+    given = omega arith;
+    slots = λ i d within. absurd (omega (arith, within));
+    below = λ i d within. absurd (omega (arith, within));
+    apart = λ i d within. absurd (omega (arith, within));
+    distinct = λ i j d less within. absurd (omega (arith, within));
+    ports = λ i d within. absurd (omega (arith, within));
+  };
+  front = λ other. ([], refl);
+  held = λ i d within. absurd (omega (arith, within));
+  left = λ i d within. absurd (omega (arith, within));
+  passed = λ other. omega arith;
+  once = λ i j some same. absurd (omega (arith, some));
+  fresh = λ other less. (refl, refl);
+}

@@ -1,0 +1,262 @@
+-- A poll keeps the account, with the ids of the connections that it opens.
+use Rattle.std.proofs.Common.{◌≡◌, ◌≢◌, ℕ, ◌+◌, ◌<◌, ◌≤◌, ◌==◌, ◌&&◌, not, Bool, true, false, cond, List, [], ◌∷◌, ◌++◌, Contains, Option}
+use Rattle.std.proofs.{Common.{Some, None, refl, sym, ap, subst, ◌∙◌, arith}, lemmas.{Bool.Decides.nat_tests, Grind.common_steps}}
+use Rattle.std.specs.List.{All, filter, slice_get}
+use Rattle.vs_conn.specs.End.{ConnectionEnd, answering, end_after, is_refused, is_reset, owes_of, paid_of, verdict_of}
+use Rattle.vs_conn.specs.declared.end.{Owed.Owed, Verdict.Verdict}
+use Rattle.vs_flow.specs.{Connection.Connection, Flow.is_assigned, Flow.same_flow, Table.IsRising, Table.IsTable, Table.entry_of}
+use Rattle.vs_flow.specs.{Table.without, declared.flow.Flow.Flow}
+use Rattle.vs_flow.proofs.Entries.{none_found, same_flow_false}
+use Rattle.vs_limits.specs.declared.TheConstants.{BUF_ALLOC, HOST_CID}
+use Rattle.laws_history.specs.{declared.packet.Packet.Packet, Packets.is_rw, Again.count, History.{Answerer, Asker, Got, Side, gots, puts}}
+use Rattle.vs_page.specs.{Fair.{IsFairLog, asked_by, current, number_of, payload_got, payload_of}, Held.IsWhole, Log.{Driver, Log}}
+use Rattle.vs_page.specs.{Log.{and_then, flow_got, history_of, side_by, side_of, whole_of}, Open.is_dropped}
+use Rattle.vs_page.specs.declared.log.LogEntry.TheVariants.{GotEvent, GotPacket, Mark, PutPacket}
+use Rattle.vs_page.proofs.{Flows.same_is, Flows.same_self, PayloadLogs.got_none, Present.present_got}
+use Rattle.vs_replies.specs.Owed.{reply_to}
+use Rattle.laws_tables.specs.{Ends.is_new, Matches.Matches, Steps.HasEnd, Steps.owed_on, Steps.reply_on}
+use Rattle.laws_tables.proofs.{Fair.got_goes_on, Fair.got_not_refused, Fair.heard_all, Slots.found_by, Tables.driver_begun}
+use Rattle.vs_driver_parts.specs.{Conversations.after_paying, Held.HeldSlots, State.DriverConnection, State.DriverEntry, State.DriverState}
+use Rattle.vs_driver_parts.specs.Connections.{after_leaving, gone_as, is_let_go, paid_connection, with_connection, with_request}
+use Rattle.vs_driver_parts.specs.{Connections.waits_no_more, Receiving.after_packet, Receiving.after_verdict, Receiving.all_left}
+use Rattle.vs_driver_parts.specs.Receiving.{is_request, may_open, on_heard, on_known, on_packet, on_unknown, reset_reply, with_reply}
+use Rattle.vs_driver_parts.proofs.{Ids.found_under, Packets.first_under, Packets.others_left, Packets.packet_known, Packets.packet_unknown}
+use Rattle.laws_tables.specs.Drains.{receives}
+use Rattle.laws_tables.proofs.Goes.{Goes, comes_in, delivers_to, hears_less, only_delivered, pays_less, stays_still}
+use Rattle.laws_driver.specs.Honest.{IsFitState, ends_of_state, slots_of}
+use Rattle.laws_driver.proofs.{Carrying.Carries, Carrying.Fact, Tabling.Stands, Tabling.entry_fits, Tabling.has_end, Tabling.leaves}
+use Rattle.laws_driver.proofs.{Resetting.first_contained, Resetting.with_cid, Taking.with_reply_fits}
+use Rattle.laws_driver.specs.Carried.{Received.Account, Received.AreReceived, Received.GoesOn, Received.with_opened, Sent.only_on}
+use Rattle.vs_header.specs.declared.Kind.TheVariants.{Stream}
+use Rattle.laws_driver.proofs.Carried.{Adding.got_adds, Adding.got_over_put, Changing.number_got, Changing.number_put}
+use Rattle.laws_driver.proofs.Carried.{Changing.puts_and_alters, Logging.leaves_received, Logging.opened_goes_on, Logging.opened_received}
+use Rattle.laws_driver.proofs.Carried.{Logging.passes_by, Logging.same_received, Reading.given_none, Receiving.changed_received}
+use Rattle.vs_conn.specs.declared.end.Owed.TheVariants as owed
+use Rattle.vs_conn.specs.declared.end.Verdict.TheVariants as verdict
+use Rattle.laws_history.specs.Packets as packets
+
+-- A packet that the driver puts, which opens nothing.
+pub puts_received : (a : Account) (p : Packet) (log : Log) (slots : HeldSlots) → packets.is_request p ≡ false → AreReceived a log slots
+    → AreReceived a (PutPacket p ∷ log) slots
+puts_received a p log slots plain x =
+    same_received a log (PutPacket p ∷ log) slots (got_over_put Driver p log) (λ f. number_put Driver p log f plain) x
+
+-- A connection leaves the table.
+pub leaving_received : (a : Account) (log : Log) (s : DriverState) (e : DriverEntry) (c : DriverConnection) → IsTable s.table
+    → Contains s.table.entries e → c.id ≡ e.value.id → c.unread ≡ e.value.unread → AreReceived a log (slots_of s)
+    → AreReceived a log (slots_of (after_leaving (record e { value = c }) s))
+leaving_received a log s e c sound there same unread x =
+    by c.unanswered (leaves_received a log (slots_of s) x sound e there (is_let_go c) (gone_as (record e { value = c })) same refl unread)
+  where
+    by : (b : Bool) → let gone = cond (is_let_go c) s.gone (s.gone ++ gone_as (record e { value = c }) ∷ []) in
+        AreReceived a log (record (slots_of s) { table = without s.table e.slot; gone = gone })
+        → AreReceived a log (slots_of (record (cond b (waits_no_more (record e { value = c }) s) s) { table = without s.table e.slot; gone = gone }))
+    by true y = y
+    by false y = y
+
+-- What a connection owes is put.
+new_by : (e : ConnectionEnd) → owes_of e ≡ Some owed.Request → is_new e ≡ true
+new_by e owes = grind (arith, common_steps, owes)
+
+pays_received : (what : Owed) (a : Account) (e : DriverEntry) (s : DriverState) (log : Log) → IsFitState s → Stands s e → owes_of e.value.end ≡ Some what
+    → is_new e.value.end ≡ false → AreReceived a log (slots_of s)
+    → AreReceived a (PutPacket (owed_on Driver s.cid e.flow e.value.end what) ∷ log) (slots_of (after_paying what e s))
+pays_received owed.Request a e s log fits stands owes old x =
+    let both : true ≡ false = sym (new_by e.value.end owes) ∙ old in absurd cc
+pays_received owed.Rst a e s log fits stands owes old x =
+    leaving_received a (PutPacket (owed_on Driver s.cid e.flow e.value.end owed.Rst) ∷ log) s e e.value fits.sound stands.contains refl refl
+    (puts_received a (owed_on Driver s.cid e.flow e.value.end owed.Rst) log (slots_of s) refl x)
+pays_received what a e s log fits stands owes old x =
+    puts_and_alters a log s x (owed_on Driver s.cid e.flow e.value.end what) e (paid_connection what e.value) refl fits.sound stands.contains refl
+    (stays_still (receives e.value.end) (receives (paid_of e.value.end what)) e.value.unread [] (pays_less e.value.end what owes) (λ on. refl))
+
+-- A transport reset: all leave.
+all_leave : (a : Account) (log : Log) (es : List DriverEntry) (s : DriverState) → s.table.entries ≡ es → IsFitState s → AreReceived a log (slots_of s)
+    → AreReceived a log (slots_of (all_left es s))
+all_leave a log [] s is fits x = x
+all_leave a log (e ∷ es) s is fits x =
+    let P : List DriverEntry → Type 0 = λ xs. IsRising xs in
+    let rising : P (e ∷ es) = subst P is fits.sound.rising in
+    let first : slice_get s.table.entries 0 ≡ Some e = ap (λ (xs : List DriverEntry). slice_get xs 0) is in
+    let stands : Stands s e = record { under = first_under s.table e fits.sound first; contains = first_contained e es s.table.entries is } in
+    let l = leaves s e e.value fits stands in
+    let m : DriverState = after_leaving e s in
+    let table_is : m.table.entries ≡ es = ap (λ (xs : List DriverEntry). filter (λ x. not (x.slot == e.slot)) xs) is ∙ others_left e es rising in
+    all_leave a log es (with_reply (reset_reply e) m) table_is (with_reply_fits m (reset_reply e) l.fits (entry_fits s e fits stands).ports)
+    (leaving_received a log s e e.value fits.sound stands.contains refl refl x)
+
+-- A packet is got, of a connection of the table.
+module _ (first : ℕ) (a : Account) (p : Packet) (e : DriverEntry) (s : DriverState) (log : Log) (fits : IsFitState s) (stands : Stands s e)
+    (same : flow_got Driver p ≡ e.flow) (whole : IsWhole p) (m : Matches Driver first (ends_of_state s) log) (was : IsFairLog Driver log)
+    (fair : IsFairLog Driver (GotPacket p ∷ log)) (x : AreReceived a log (slots_of s)) where
+  has : HasEnd (flow_got Driver p) e.value.end (ends_of_state s)
+  has = subst (λ (g : Flow). HasEnd g e.value.end (ends_of_state s)) (sym same) (has_end s e fits stands)
+
+  plain : packets.is_request p ≡ false
+  plain = got_goes_on Driver first p e.value.end (ends_of_state s) log m.flows has (fair (flow_got Driver p))
+
+  kept : is_refused (verdict_of e.value.end p.header) ≡ false
+  kept =
+      let host : (flow_got Driver p).peer ≡ HOST_CID = ap (λ (g : Flow). g.peer) same ∙ (entry_fits s e fits stands).peer in
+      got_not_refused Driver first p e.value.end (ends_of_state s) log m.flows has (fair (flow_got Driver p)) (heard_all first (flow_got Driver p) log host)
+
+  hears : (c : DriverConnection) → c.id ≡ e.value.id → Goes (receives e.value.end) (receives c.end) e.value.unread c.unread [] p.payload
+      → AreReceived a (GotPacket p ∷ log) (slots_of (with_connection e.slot c s))
+  hears c id goes =
+      changed_received a a.received log (GotPacket p ∷ log) e [] p.payload (λ other. given_none (other == e.value.id) (a.received other))
+      (λ k. subst (λ (g : Flow). payload_got Driver k (GotPacket p ∷ log) ≡ payload_got Driver k log ++ only_on (current Driver g log) p.payload k) same
+      (got_adds Driver p log plain was fair k))
+      (λ f. number_got Driver p log f plain) (slots_of s) x fits.sound stands.contains c id goes
+
+  unmoved : (v : Verdict) → verdict_of e.value.end p.header ≡ v → is_refused v ≡ false → (v ≡ verdict.Deliver → ⊥)
+      → Goes (receives e.value.end) (receives (end_after e.value.end p.header)) e.value.unread e.value.unread [] p.payload
+  unmoved v is taken other = stays_still (receives e.value.end) (receives (end_after e.value.end p.header)) e.value.unread p.payload
+      (hears_less e.value.end p.header) (λ on. whole.none (only_delivered e.value.end p v is taken other on))
+
+  empty_rst : is_reset p.header ≡ true → is_rw p ≡ false
+  empty_rst is = grind (arith, nat_tests, common_steps, is)
+
+  peers : (b : Bool) → verdict_of e.value.end p.header ≡ verdict.Peer → is_reset p.header ≡ b
+      → let c = after_packet verdict.Peer p e.value in
+      AreReceived a (GotPacket p ∷ log) (slots_of (cond b (after_leaving (record e { value = c }) s) (with_connection e.slot c s)))
+  peers false is reset = hears (after_packet verdict.Peer p e.value) refl (unmoved verdict.Peer is refl (λ (q : verdict.Peer ≡ verdict.Deliver). cc))
+  peers true is reset =
+      leaving_received a (GotPacket p ∷ log) s e (after_packet verdict.Peer p e.value) fits.sound stands.contains refl refl
+      (same_received a log (GotPacket p ∷ log) (slots_of s) (λ k. got_none Driver log p k (whole.none (empty_rst reset)))
+      (λ f. number_got Driver p log f plain) x)
+
+  by_verdict : (v : Verdict) → verdict_of e.value.end p.header ≡ v → is_refused v ≡ false → AreReceived a (GotPacket p ∷ log) (slots_of (after_verdict v p e s))
+  by_verdict (verdict.Rst why) is taken = absurd cc
+  by_verdict verdict.Peer is taken = peers (is_reset p.header) is refl
+  by_verdict verdict.Deliver is taken =
+      hears (after_packet verdict.Deliver p e.value) refl
+      (comes_in (receives e.value.end) (receives (end_after e.value.end p.header)) e.value.unread p.payload (delivers_to e.value.end p.header is))
+  by_verdict v is taken = hears (after_packet v p e.value) refl (unmoved v is taken (λ (q : v ≡ verdict.Deliver). cc))
+
+  pub known_received : AreReceived a (GotPacket p ∷ log) (slots_of (on_known p e s))
+  known_received = by_verdict (verdict_of e.value.end p.header) refl kept
+
+-- An account that goes on from another.
+abbrev pub IsFurther : Account → HeldSlots → Log → Type 0
+IsFurther a slots log = (b : Account) × GoesOn a b × AreReceived b log slots
+
+abbrev pub Further : Account → Fact
+Further a part s log = IsFurther a (slots_of s) log
+
+pub goes_then : (a b c : Account) → GoesOn a b → GoesOn b c → GoesOn a c
+goes_then a b c one two = record {
+  first_id = two.first_id ∙ one.first_id;
+  opened = λ id some. two.opened id (subst (λ (k : Connection). 1 ≤ k.number) (sym (one.opened id some)) some) ∙ one.opened id some;
+  received = λ id. two.received id ∙ one.received id;
+}
+
+number_rises : (side : Side) (put got : List Packet) (p : Packet) → side ≡ Answerer → packets.is_request p ≡ true
+    → asked_by side put (p ∷ got) ≡ asked_by side put got + 1
+number_rises Answerer put got p is request = ap (λ (b : Bool). cond b (count packets.is_request got + 1) (count packets.is_request got)) request
+number_rises Asker put got p is request = absurd cc
+
+-- Of a flow that has no connection.
+module _ (a : Account) (p : Packet) (s : DriverState) (log : Log) (whole : IsWhole p) (fair : IsFairLog Driver (GotPacket p ∷ log))
+    (absent : All (λ e. e.flow ≢ flow_got Driver p) s.table.entries) (x : IsFurther a (slots_of s) log) where
+  abbrev f : Flow
+  f = flow_got Driver p
+
+  passes : IsFurther a (slots_of s) (GotPacket p ∷ log)
+  passes = (x.0, x.1, passes_by x.0 p log (slots_of s) absent x.2)
+
+  opens : is_request p.header ≡ true → may_open f s ≡ true → IsFurther a (slots_of (with_request f p.header s)) (GotPacket p ∷ log)
+  opens asks may =
+      let is_one : packets.is_request p ≡ true = asked_by_header asks in
+      let none : p.payload ≡ [] = whole.none (no_payload is_one) in
+      let side : side_of Driver f ≡ Answerer = ap (λ (b : Bool). side_by Driver b) (assigned_by may) in
+      let w = whole_of Driver f log in
+      let next : number_of Driver f (GotPacket p ∷ log) ≡ number_of Driver f log + 1 =
+      ap (λ (b : Bool). let v = cond b (Got p ∷ w) w in asked_by (side_of Driver f) (puts v) (gots v)) (same_self f)
+      ∙ number_rises (side_of Driver f) (puts w) (gots w) p side is_one in
+      let got : (k : Connection) → payload_got Driver k (GotPacket p ∷ log) ≡ payload_got Driver k log = λ k. got_none Driver log p k none in
+      let nothing : payload_got Driver (current Driver f (GotPacket p ∷ log)) (GotPacket p ∷ log) ≡ [] =
+      present_got Driver f (GotPacket p ∷ log) (fair f)
+      ∙ ap (λ (b : Bool). payload_of (gots (cond b (and_then (Got p) (history_of Driver f log)) (history_of Driver f log)))) (same_self f)
+      ∙ ap (λ (b : Bool). payload_of (gots (cond b (Got p ∷ []) (Got p ∷ history_of Driver f log)))) is_one
+      ∙ none in
+      let others : (g : Flow) → g ≢ f → number_of Driver g (GotPacket p ∷ log) ≡ number_of Driver g log =
+      λ g apart. ap (λ (b : Bool). let v = cond b (Got p ∷ whole_of Driver g log) (whole_of Driver g log) in asked_by (side_of Driver g) (puts v) (gots v))
+      (same_flow_false g f apart) in
+      let c : DriverConnection = record { id = s.next_id; end = answering Stream BUF_ALLOC p.header; unread = []; unanswered = true; closed = false } in
+      let below : is_assigned f.host ≡ false → f.guest < s.next_port =
+      λ own. let both : true ≡ false = sym (assigned_by may) ∙ own in absurd cc in (
+        with_opened s.next_id (current Driver f (GotPacket p ∷ log)) x.0,
+        goes_then a x.0 (with_opened s.next_id (current Driver f (GotPacket p ∷ log)) x.0) x.1
+            (opened_goes_on x.0 log (GotPacket p ∷ log) (slots_of s) f c s.next_port x.2 got nothing next others refl refl absent (omega arith) below),
+        opened_received x.0 log (GotPacket p ∷ log) (slots_of s) f c s.next_port x.2 got nothing next others refl refl absent (omega arith) below,
+      )
+    where
+      asked_by_header : is_request p.header ≡ true → packets.is_request p ≡ true
+      asked_by_header is = grind (arith, nat_tests, common_steps, is)
+
+      no_payload : packets.is_request p ≡ true → is_rw p ≡ false
+      no_payload is = grind (arith, nat_tests, common_steps, is)
+
+      assigned_by : may_open (flow_got Driver p) s ≡ true → is_assigned (flow_got Driver p).host ≡ true
+      assigned_by is = grind (arith, nat_tests, common_steps, is)
+
+  pub unknown_received : IsFurther a (slots_of (on_unknown p s)) (GotPacket p ∷ log)
+  unknown_received = by (is_reset p.header) (is_request p.header) (may_open f s) refl refl
+    where
+      by : (r q o : Bool) → is_request p.header ≡ q → may_open f s ≡ o
+          → IsFurther a (slots_of (cond r s (cond (q && o) (with_request f p.header s) (with_reply (reply_to f p.header) s)))) (GotPacket p ∷ log)
+      by true q o asks may = passes
+      by false true true asks may = opens asks may
+      by false true false asks may = passes
+      by false false o asks may = passes
+
+-- A packet.
+heard_received : (first : ℕ) (a : Account) (p : Packet) (s : DriverState) (log : Log) → IsFitState s → IsWhole p → Matches Driver first (ends_of_state s) log
+    → IsFairLog Driver log → IsFairLog Driver (GotPacket p ∷ log) → IsFurther a (slots_of s) log → IsFurther a (slots_of (on_packet p s)) (GotPacket p ∷ log)
+heard_received first a p s log fits whole m was fair x = drop_by (is_dropped Driver s.cid p.header) refl
+  where
+    absent_of : entry_of s.table (flow_got Driver p) ≡ None → All (λ e. e.flow ≢ flow_got Driver p) s.table.entries
+    absent_of none i d within on =
+        let fails = none_found (λ (y : DriverEntry). same_flow (flow_got Driver p) y.flow) s.table.entries none i d within in
+        let both : true ≡ false = sym (same_self (flow_got Driver p)) ∙ ap (λ (f : Flow). same_flow (flow_got Driver p) f) (sym on) ∙ fails in
+        cc
+
+    found : (o : Option DriverEntry) → entry_of s.table (flow_got Driver p) ≡ o → IsFurther a (slots_of (on_heard p s)) (GotPacket p ∷ log)
+    found None none =
+        subst (λ (t : DriverState). IsFurther a (slots_of t) (GotPacket p ∷ log)) (sym (packet_unknown p s none))
+        (unknown_received a p s log whole fair (absent_of none) x)
+    found (Some e) is =
+        let passes = found_by (λ (y : DriverEntry). same_flow (flow_got Driver p) y.flow) s.table.entries e is in
+        let stands : Stands s e = record { under = found_under _ s.table e fits.sound is; contains = passes.0 } in
+        let same = same_is (flow_got Driver p) e.flow passes.1 in
+        subst (λ (t : DriverState). IsFurther a (slots_of t) (GotPacket p ∷ log)) (sym (packet_known p s e is))
+        (x.0, x.1, known_received first x.0 p e s log fits stands same whole m was fair x.2)
+
+    of_host : p.header.src_cid ≡ HOST_CID → is_dropped Driver s.cid p.header ≡ false
+    of_host is = grind (arith, nat_tests, common_steps, is)
+
+    drop_by : (b : Bool) → is_dropped Driver s.cid p.header ≡ b → IsFurther a (slots_of (cond b s (on_heard p s))) (GotPacket p ∷ log)
+    drop_by false kept = found (entry_of s.table (flow_got Driver p)) refl
+    drop_by true dropped = (x.0, x.1, passes_by x.0 p log (slots_of s) apart x.2)
+      where
+        apart : All (λ e. e.flow ≢ flow_got Driver p) s.table.entries
+        apart i d within on =
+            let entry = fits.entries i d within in
+            let both : true ≡ false = sym dropped ∙ of_host (sym (ap (λ (f : Flow). f.peer) on) ∙ entry.peer) in
+            cc
+
+pub poll_carries : (first : ℕ) (a : Account) → Carries first (Further a)
+poll_carries first a = record {
+  owed = λ what e s log fits stands owes m was fair x.
+      let old = driver_begun first (ends_of_state s) log e.flow e.value.end m.flows (has_end s e fits stands) in
+      (x.0, x.1, pays_received what x.0 e s log fits stands owes old x.2);
+  reply = λ r rest s log fits is m fair x. (x.0, x.1, puts_received x.0 (reply_on Driver s.cid r) log (slots_of s) refl x.2);
+  got = λ p s log fits ports whole m was fair x. heard_received first a p s log fits whole m was fair x;
+  event = λ id s log x. (x.0, x.1, same_received x.0 log (GotEvent id ∷ log) (slots_of s) (λ c. refl) (λ f. refl) x.2);
+  reset = λ cid s log less fits x. (
+    x.0,
+    x.1,
+    all_leave x.0 (Mark cid ∷ log) s.table.entries (record s { cid = cid }) refl (with_cid cid s less fits)
+        (same_received x.0 log (Mark cid ∷ log) (slots_of s) (λ c. refl) (λ f. refl) x.2),
+  );
+}

@@ -1,0 +1,78 @@
+-- What an application received on the driver's connections, against the payload that was delivered to them.
+use Rattle.std.specs.{List.All, Option.ForSome, Prelude.{◌≡◌, ℕ, ◌≤◌, ◌==◌, ◌++◌, true, if◌then◌else◌, List, [], take}}
+use Rattle.vs_flow.specs.{Connection.Connection, Flow.host_flow}
+use Rattle.vs_page.specs.{Fair.IsPrefixOf, Fair.current, Fair.number_of, Fair.payload_got, Log.Driver, Log.Log}
+use Rattle.vs_ring_port.specs.Contents.{RingContents}
+use Rattle.vs_driver_parts.specs.{declared.answers.Received.Received, Held.HeldSlots, SlotFields.AreNumbered, State.DriverEntry}
+use Rattle.vs_driver_parts.specs.{State.DriverState, State.GoneConnection, Connections.recv_of, Connections.unread_of_id}
+use Rattle.laws_driver.specs.Honest.{slots_of}
+use Rattle.laws_tables.specs.Drains.{Drains, receives}
+use Rattle.vs_driver_parts.specs.declared.answers.Received.TheVariants as got
+
+-- The account of an application: the id that its first connection got; by ids, which connection of which flow it is, 0 where none has the id;
+-- and the bytes that the receives on it gave.
+pub record Account : Type 0 where
+  pub first_id : ℕ
+  pub opened : ℕ → Connection
+  pub received : ℕ → List ℕ
+
+-- Before the first call.
+abbrev pub no_account : ℕ → Account
+no_account first_id = record {
+  first_id = first_id;
+  opened = λ id. let c : Connection = record { flow = host_flow 0 0; number = 0 } in c;
+  received = λ id. [];
+}
+
+-- An id was given to a connection; a receive on an id gave these bytes.
+abbrev pub with_opened : ℕ → Connection → Account → Account
+with_opened id c a = record a { opened = λ other. if other == id then c else a.opened other }
+
+abbrev pub with_received : ℕ → List ℕ → Account → Account
+with_received id bytes a = record a { received = λ other. a.received other ++ (if other == id then bytes else []) }
+
+-- The bytes that come with a receive's answer: of the unread ones the first.
+abbrev pub bytes_got : Received → List ℕ → List ℕ
+bytes_got (got.Got n) unread = take n unread
+bytes_got _ unread = []
+
+abbrev pub after_receive : ℕ → ℕ → DriverState → Account → Account
+after_receive id n s a = with_received id (bytes_got (recv_of id n s) (unread_of_id id s)) a
+
+-- A connection of the table is the present one of its flow. What was received on it, and then the bytes that are unread, is the payload
+-- delivered to it, as long as it receives; and then a prefix of that.
+pub record ReceivesOn (a : Account) (log : Log) (e : DriverEntry) : Type 0 where
+  pub present : a.opened e.value.id ≡ current Driver e.flow log
+  pub some : 1 ≤ number_of Driver e.flow log
+  pub drains : Drains (receives e.value.end) (a.received e.value.id) e.value.unread (payload_got Driver (current Driver e.flow log) log)
+
+-- One that is gone is a connection of its flow, the present one or an older one.
+pub record ReceivedOn (a : Account) (log : Log) (g : GoneConnection) : Type 0 where
+  pub flow : (a.opened g.id).flow ≡ g.flow
+  pub some : 1 ≤ (a.opened g.id).number
+  pub front : IsPrefixOf (a.received g.id ++ g.unread) (payload_got Driver (a.opened g.id) log)
+
+-- The account is right: so are the connections of the table, and those that are gone. What was received on any id is a prefix of the payload
+-- delivered to its connection. The connections of ids have passed, no two of them are one; ids that are still to be given have none.
+pub record AreReceived (a : Account) (log : Log) (slots : HeldSlots) : Type 0 where
+  pub numbers : AreNumbered a.first_id slots.next_port slots.next_id slots.table slots.gone
+  pub front : (id : ℕ) → IsPrefixOf (a.received id) (payload_got Driver (a.opened id) log)
+  pub held : All (ReceivesOn a log) slots.table.entries
+  pub left : All (ReceivedOn a log) slots.gone
+  pub passed : (id : ℕ) → (a.opened id).number ≤ number_of Driver (a.opened id).flow log
+  pub once : (i j : ℕ) → 1 ≤ (a.opened i).number → a.opened i ≡ a.opened j → i ≡ j
+  pub fresh : (id : ℕ) → slots.next_id ≤ id → ((a.opened id).number ≡ 0) × (a.received id ≡ [])
+
+-- The same where an honest ring tells the log.
+abbrev pub IsReceivedWith : Account → DriverState → RingContents → Type 0
+IsReceivedWith a s c = c.honest ≡ true → ForSome c.log (λ l. AreReceived a l.entries (slots_of s))
+
+-- Another account has all that this one has, and maybe more ids.
+pub record GoesOn (a b : Account) : Type 0 where
+  pub first_id : b.first_id ≡ a.first_id
+  pub opened : (id : ℕ) → 1 ≤ (a.opened id).number → b.opened id ≡ a.opened id
+  pub received : (id : ℕ) → b.received id ≡ a.received id
+
+-- The account goes on to one that is right.
+abbrev pub GoesOnWith : Account → DriverState → RingContents → Type 0
+GoesOnWith a s c = c.honest ≡ true → ForSome c.log (λ l. (b : Account) × GoesOn a b × AreReceived b l.entries (slots_of s))

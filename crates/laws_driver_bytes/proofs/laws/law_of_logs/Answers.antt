@@ -1,8 +1,0 @@
-use Rattle.laws_driver_bytes.proofs.{Growing.log_grows, Shutting.stays_shut}
-use Rattle.laws_driver_bytes.proofs.laws.law_of_logs.Goals as goal
-
-pub returns-clause-grows : goal.returns-clause-grows
-returns-clause-grows g c = log_grows
-
-pub returns-clause-shut : goal.returns-clause-shut
-returns-clause-shut g c = stays_shut

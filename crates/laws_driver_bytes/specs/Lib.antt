@@ -1,4 +1,0 @@
-pub mod Sent
-pub mod Received
-pub mod Calls
-pub mod Senders

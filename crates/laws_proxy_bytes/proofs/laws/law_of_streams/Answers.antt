@@ -1,5 +1,0 @@
-use Rattle.laws_proxy_bytes.proofs.Carrying.{carries}
-use Rattle.laws_proxy_bytes.proofs.laws.law_of_streams.Goals as goal
-
-pub returns : goal.returns
-returns c = record { carries = λ s calls holds. carries calls s.device.table s.handshakes holds }

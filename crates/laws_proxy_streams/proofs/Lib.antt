@@ -1,4 +1,0 @@
-pub mod Lists
-pub mod Hosts
-pub mod Shaking
-pub mod Turning
