@@ -254,7 +254,7 @@ either n last = grind (arith, common_steps)
 by_either : (is after before x y : Bool) → x ≡ (is && after) → y ≡ (is && before) → is ≡ true → (after || before) ≡ true → (x || y) ≡ true
 by_either = grind (arith, common_steps)
 
-in_round : (last : Option ℕ) (xs : List ℕ) (n : ℕ) → in_list n xs ≡ true → in_list n (round_from last xs) ≡ true
+pub in_round : (last : Option ℕ) (xs : List ℕ) (n : ℕ) → in_list n xs ≡ true → in_list n (round_from last xs) ≡ true
 in_round None xs n at = at
 in_round (Some last) xs n at =
     in_append n (filter (λ slot. nat_lt last slot) xs) (filter (λ slot. nat_le slot last) xs)

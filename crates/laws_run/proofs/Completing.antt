@@ -41,8 +41,9 @@ use Rattle.laws_device.{specs.Streams.has_open_stream, specs.Streams.is_open_on,
 use Rattle.laws_apps.specs.Traces.{AllTell, AtId, IsClosing, IsDrained, IsStopped, IsTraced, TellsOf, is_shut, is_touched}
 use Rattle.vs_apps_parts.specs.{Told.told_of, declared.told.Told.Told}
 use Rattle.laws_run.specs.Bounds.{AreShutDown, GoesOn, HasAll, HasBounds, IsBounded, IsShutDown, TakesOn, calls_of_others, done_at, received_in, total}
-use Rattle.laws_run.proofs.Bounding.{AreFree, ArePlain, Way, all_moved, all_plain, app_early, app_free, app_less, app_plain, drain_early, drained, early, free_moves, free_sends, others_unshut}
-use Rattle.laws_run.proofs.Bounding.{received_enough, receiving, sending, sending_all, sent_enough, tally}
+use Rattle.laws_run.proofs.Bounding.{AreFree, ArePlain, Way, all_moved, receiving, sending, sending_all, tally}
+use Rattle.laws_run.proofs.Moved.{all_plain, app_early, app_free, app_less, app_plain, drain_early, drained, early, free_moves, free_sends}
+use Rattle.laws_run.proofs.Moved.{others_unshut, received_enough, sent_enough}
 use Rattle.laws_settled.specs.Shut.{IsShutBy}
 use Rattle.laws_run.specs.Dry.{AreDry, AreFull, AreIdle, IsDry, IsFull, reads_of, writes_of}
 use Rattle.laws_run.proofs.{Alike.AreApart, Alike.HasApart, Alike.Leaves, Alike.leaves_core, Drying.under_at, Endings.Ends, Wrote.{is_first, same_payload, streamed, to_device, wrote_there}}

@@ -25,7 +25,7 @@ use Rattle.vs_device_parts.proofs.Under.{has_slot}
 use Rattle.laws_device.specs.Named.Waiting.{filling_of}
 use Rattle.laws_device.proofs.Walk.Keeping.{Asking, Keeps, keeps_then}
 use Rattle.laws_device.specs.Honest.{end_in}
-use Rattle.laws_rest.proofs.{Owing.listed, Owing.same_slots, Quiet.in_list}
+use Rattle.laws_rest.proofs.{Owing.listed, Owing.same_slots, Quiet.in_list, Stages.in_round}
 use Rattle.laws_run.specs.Dry.{IsDry, IsDryAt, IsFull, IsFullAt, IsToldDry, IsToldFull, reads_of, reads_under, writes_of, writes_under}
 
 -- Whatever ring and host answer.
@@ -644,32 +644,6 @@ serves_each (slot ∷ is) r c =
     (λ q d step. keeps_weaker (λ x f. Step (ServesAll is) q d x f) (λ x f. Step (ServesAll (slot ∷ is)) r c x f)
     (λ x f a. one_then (Serves slot) (ServesAll is) (ServesAll (slot ∷ is)) r c q d x f (serves_more slot is r c q d x f) step a)
     (for_each serve_slot is q) d (serves_each is q d))
-
--- The round has all slots.
-in_append : (n : ℕ) (xs ys : List ℕ) → in_list n (xs ++ ys) ≡ (in_list n xs || in_list n ys)
-in_append n [] ys = refl
-in_append n (x ∷ xs) ys = let rest = in_append n xs ys in grind (arith, common_steps)
-
-in_filter : (test : ℕ → Bool) (n : ℕ) (xs : List ℕ) → in_list n (filter test xs) ≡ (in_list n xs && test n)
-in_filter test n [] = refl
-in_filter test n (x ∷ xs) = kept (n == x) refl (in_filter test n xs) where
-  kept : (b : Bool) → (n == x) ≡ b → in_list n (filter test xs) ≡ (in_list n xs && test n)
-      → in_list n (filter test (x ∷ xs)) ≡ ((b || in_list n xs) && test n)
-  kept true same rest = let e = eqb-true n x same in grind (arith, common_steps)
-  kept false other rest = grind (arith, common_steps)
-
-either : (n last : ℕ) → (nat_lt last n || nat_le n last) ≡ true
-either n last = grind (arith, common_steps)
-
-by_either : (is after before x y : Bool) → x ≡ (is && after) → y ≡ (is && before) → is ≡ true → (after || before) ≡ true → (x || y) ≡ true
-by_either = grind (arith, common_steps)
-
-in_round : (last : Option ℕ) (xs : List ℕ) (n : ℕ) → in_list n xs ≡ true → in_list n (round_from last xs) ≡ true
-in_round None xs n at = at
-in_round (Some last) xs n at =
-    in_append n (filter (λ slot. nat_lt last slot) xs) (filter (λ slot. nat_le slot last) xs)
-    ∙ by_either (in_list n xs) (nat_lt last n) (nat_le n last) _ _ (in_filter (λ slot. nat_lt last slot) n xs)
-    (in_filter (λ slot. nat_le slot last) n xs) at (either n last)
 
 -- The whole stage.
 abbrev AllDry : Relation

@@ -12,6 +12,7 @@ pub mod Unread
 pub mod Drying
 pub mod Pumping
 pub mod Bounding
+pub mod Moved
 pub mod Completing
 pub mod Lines
 pub mod Holding
