@@ -23,7 +23,7 @@ use Rattle.vs_device_parts.specs.Connections.{after_shut, after_written, cut_off
 use Rattle.vs_device_parts.specs.{Connections.{with_connection, with_fault}, Streams.{Writing, closing, is_written_out, pump_of, pump_slot}}
 use Rattle.vs_device_parts.specs.{Streams.{shut_write, tick_of, tick_slot, to_write, write_answered, write_pending}, Calls.CloseStream}
 use Rattle.vs_device_parts.specs.{Calls.{DeviceTree, Label, Ring, ShutWrite, WriteStream, Situation}, Turns.{after_reset, close_slot}}
-use Rattle.vs_device_parts.specs.{Turns.{new_device, open_of, reset_of}, Receiving.{event_on, pay_event_of}, State.DeviceConnection}
+use Rattle.vs_device_parts.specs.{State.new_device, Turns.{open_of, reset_of}, Receiving.{event_on, pay_event_of}, State.DeviceConnection}
 use Rattle.vs_device_parts.specs.{State.{DeviceEntry, DeviceState}, Transmitting.failing}
 use Rattle.laws_device.proofs.Carrying.{ring_only, Fact, IsHeldBy, fact_goes, IsToldBy, StreamedOver, With, closed_held, streams_go}
 use Rattle.laws_device.proofs.{Carrying.plain_with, Chains.{Among, first_written, held_there, is_unwritten, taken_holds}, Changing.cuts}

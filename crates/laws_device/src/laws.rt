@@ -17,7 +17,7 @@ ghost use Rattle.vs_ring_port.specs.declared.device_ring.Next.TheVariants as nex
 ghost use Rattle.vs_device_parts.specs.{Calls.Allows, Calls.Ring, Calls.Situation, Playing.MayRun, Playing.Runs, Receiving.event_on};
 ghost use Rattle.vs_device_parts.specs.{Receiving.fill_rx_of, Receiving.pay_event_of, Receiving.written, State.DeviceEntry};
 ghost use Rattle.vs_device_parts.specs.{State.DeviceState, Streams.Writing, Streams.pump_of, Streams.tick_of, Transmitting.take_tx_of};
-ghost use Rattle.vs_device_parts.specs.{Turns.new_device, Turns.open_of, Turns.reset_of, Turns.table_shown, declared.answers.Filled.Filled};
+ghost use Rattle.vs_device_parts.specs.{State.new_device, Turns.open_of, Turns.reset_of, Turns.table_shown, declared.answers.Filled.Filled};
 ghost use Rattle.vs_device_parts.specs.declared.answers.Taken.{Taken};
 ghost use Rattle.laws_device.specs.Named.Streams.{FindsStreams};
 ghost use Rattle.laws_device.specs.Honest.{Advertises, AgreesWith, IsClients, IsFitFlow, IsFresh, IsLeftOpen, IsWith, ends_of_state};

@@ -6,7 +6,7 @@ ghost use Rattle.vs_outside.specs.Host.{HostContents};
 ghost use Rattle.vs_ring_port.specs.declared.failure.Failure.{Failure};
 ghost use Rattle.vs_device_parts.specs.{Calls.DeviceTree, Calls.Situation, Playing.MayRun, Playing.Runs, Receiving.fill_rx_of};
 ghost use Rattle.vs_device_parts.specs.{Receiving.pay_event_of, State.DeviceState, Streams.Writing, Streams.pump_of, Streams.tick_of};
-ghost use Rattle.vs_device_parts.specs.{Transmitting.take_tx_of, Turns.new_device, Turns.open_of, Turns.reset_of};
+ghost use Rattle.vs_device_parts.specs.{Transmitting.take_tx_of, State.new_device, Turns.open_of, Turns.reset_of};
 ghost use Rattle.vs_device_parts.specs.declared.answers.{Filled.Filled, Taken.Taken};
 ghost use Rattle.laws_device.specs.Named.{Split.MayPut, Split.MayReach, Streams.AreOpen, Streams.FindsFree, Streams.FindsStreams};
 ghost use Rattle.laws_device.specs.Named.Streams.{HasStreams};

@@ -7,7 +7,7 @@ use Rattle.vs_flow.specs.{Connection.first_of, declared.flow.Flow.Flow}
 use Rattle.laws_history.specs.{History.puts, Packets.has, Packets.shuts_send}
 use Rattle.vs_driver_parts.specs.declared.answers.ConnectError.{ConnectError}
 use Rattle.vs_driver_parts.specs.{State.DriverEntry, Connections.flow_of, declared.answers.Accepted.Accepted}
-use Rattle.vs_device_parts.specs.{State.DeviceEntry, Turns.counters_of, declared.answers.Counters.Counters}
+use Rattle.vs_device_parts.specs.{State.DeviceEntry, State.counters_of, declared.answers.Counters.Counters}
 use Rattle.laws_tables.{specs.Both.Both, specs.Both.at, specs.Steps.HasEnd, proofs.Slots.one_end}
 use Rattle.vs_outside.specs.{HostBytes.host_wrote, Host.HostContents, HostProgram.new_host, HostProgram.plain}
 use Rattle.laws_tables.specs.Drains.{put_on}

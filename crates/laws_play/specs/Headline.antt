@@ -9,7 +9,7 @@ use Rattle.laws_history.specs.{Packets.is_rst, Packets.shuts_send, Packets.size,
 use Rattle.vs_page.specs.{Log.Device, Log.Driver, Log.HasGotAll, Log.Log, Log.Role, Log.history_of, Open.WasOpened, Open.is_open}
 use Rattle.vs_page.specs.Fair.{IsFairLog, IsPrefixOf, payload_got, payload_put}
 use Rattle.vs_driver_parts.specs.{Connections.flow_of, State.DriverEntry}
-use Rattle.vs_device_parts.specs.{State.DeviceEntry, Turns.counters_of}
+use Rattle.vs_device_parts.specs.{State.DeviceEntry, State.counters_of}
 use Rattle.laws_device.specs.Streams.{has_open_stream, is_waiting_for_request}
 use Rattle.laws_tables.specs.Ends.{flows_of, is_among, replied}
 use Rattle.vs_outside.specs.{HostBytes.{host_read, host_wrote, read_after_ok, wrote_after_connect}, Host.{Stream, stream_at}}

@@ -8,7 +8,7 @@ ghost use Rattle.laws_device.specs.Named.Streams.{AreOpen, HasStreams};
 ghost use Rattle.laws_device.specs.Honest.{AgreesWith, IsFresh, IsWith};
 ghost use Rattle.laws_proxy.specs.Account.{Made.account_of, Told.AreAccounted, Told.Shows};
 ghost use Rattle.vs_uds.specs.declared.path.TheConstants.{BASE_MAX};
-ghost use Rattle.vs_device_parts.specs.{Connections.with_fault, Transmitting.failing, Turns.counters_of, Turns.new_device};
+ghost use Rattle.vs_device_parts.specs.{Connections.with_fault, Transmitting.failing, State.counters_of, State.new_device};
 
 use std::alloc::{AllocError, Global};
 use std::marker::Model;

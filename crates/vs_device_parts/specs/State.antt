@@ -1,8 +1,10 @@
 -- What the device holds, as plain lists.
-use Rattle.std.specs.Prelude.{ℕ, Bool, List, Option}
+use Rattle.std.specs.Prelude.{ℕ, Bool, false, List, [], Option, None}
 use Rattle.vs_conn.specs.End.{ConnectionEnd}
+use Rattle.vs_device_parts.specs.declared.answers.Counters.{Counters}
 use Rattle.vs_flow.specs.{Table.Table, declared.table.Entry.Entry}
 use Rattle.vs_replies.specs.declared.Reply.{Reply}
+use Rattle.vs_limits.specs.declared.TheConstants.{DEVICE_CONNECTIONS}
 use Rattle.vs_ring_port.specs.declared.{device_ring.Chain.Chain, failure.Failure.Failure}
 
 -- A connection of the table: its end, and the host's stream that it is joined to.
@@ -45,3 +47,26 @@ pub record DeviceState : Type 0 where
   pub faults : ℕ
   pub opened : ℕ
   pub closed : ℕ
+
+-- A device before its first call.
+abbrev pub new_device : ℕ → List ℕ → DeviceState
+new_device cid base = record {
+  cid = cid;
+  base = base;
+  now = 0;
+  table = record { room = DEVICE_CONNECTIONS; entries = []; given = 0 };
+  replies = [];
+  event_owed = false;
+  chain = None;
+  last_put = None;
+  failed = None;
+  dropped = 0;
+  overrun = 0;
+  faults = 0;
+  opened = 0;
+  closed = 0;
+}
+
+-- What it counted.
+abbrev pub counters_of : DeviceState → Counters
+counters_of s = record { dropped = s.dropped; overrun = s.overrun; faults = s.faults; opened = s.opened; closed = s.closed }

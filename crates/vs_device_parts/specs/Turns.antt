@@ -1,31 +1,11 @@
 -- Reset and opening.
-use Rattle.std.specs.Prelude.{ℕ, true, false, List, [], Some, None, Result, Ok, Err, map}
+use Rattle.std.specs.Prelude.{ℕ, true, List, [], Some, None, Result, Ok, Err, map}
 use Rattle.vs_contents.specs.CallTree.{Done, Ask, bind, for_each}
 use Rattle.vs_flow.specs.{Table.{entry_under, slots, emptied, refusal}, declared.flow.Flow.Flow, declared.table.TableFault.TableFault}
 use Rattle.vs_conn.specs.declared.end.State.{State}
 use Rattle.vs_ring_port.specs.{declared.failure.Failure.Failure, Contents.PublishCid}
-use Rattle.vs_device_parts.specs.{declared.answers.Counters.Counters, Calls.DeviceTree, Calls.Ring, Calls.Label, Connections.with_client}
-use Rattle.vs_device_parts.specs.{Connections.stream_closed, State.DeviceState, Streams.closing}
-use Rattle.vs_limits.specs.declared.TheConstants.{DEVICE_CONNECTIONS}
-
--- A device before its first call.
-abbrev pub new_device : ℕ → List ℕ → DeviceState
-new_device cid base = record {
-  cid = cid;
-  base = base;
-  now = 0;
-  table = record { room = DEVICE_CONNECTIONS; entries = []; given = 0 };
-  replies = [];
-  event_owed = false;
-  chain = None;
-  last_put = None;
-  failed = None;
-  dropped = 0;
-  overrun = 0;
-  faults = 0;
-  opened = 0;
-  closed = 0;
-}
+use Rattle.vs_device_parts.specs.{Calls.DeviceTree, Calls.Ring, Calls.Label, Connections.with_client, Connections.stream_closed}
+use Rattle.vs_device_parts.specs.{State.DeviceState, Streams.closing}
 
 -- reset: all streams are closed, by rising slot; table and owed replies are empty; the CID is published, and an event is owed.
 abbrev pub close_slot : ℕ → DeviceState → DeviceTree DeviceState
@@ -46,9 +26,6 @@ open_of flow stream s = elim (refusal s.table flow) [
   | Some fault ↦ Done (s, Err fault)
   | None ↦ Ask (Label stream flow) (λ _. Done (with_client flow stream s, Ok s.table.given))
 ]
-
-abbrev pub counters_of : DeviceState → Counters
-counters_of s = record { dropped = s.dropped; overrun = s.overrun; faults = s.faults; opened = s.opened; closed = s.closed }
 
 -- The table, by rising slot.
 abbrev pub table_shown : DeviceState → List (Flow × State)

@@ -1,7 +1,7 @@
 -- How the lines of a run add up.
 use Rattle.std.proofs.Common.{◌≡◌, ◌<◌, ℕ, ◌+◌, List, [], ◌∷◌, ◌++◌, length, map, drop, get_or, Option, None, Result, Ok, Err, sym, ap, ◌∙◌}
 use Rattle.std.proofs.{Common.subst, Common.append_assoc, lemmas.List.drop_more, lemmas.List.drop-map, lemmas.List.length-map}
-use Rattle.vs_device_parts.specs.Turns.{counters_of, table_shown}
+use Rattle.vs_device_parts.specs.{State.counters_of, Turns.table_shown}
 use Rattle.vs_outside.specs.Host.{Stream}
 use Rattle.vs_report.{specs.Gives.GivesLines, specs.Report.counts_text, specs.Report.device_open_text, specs.Report.stream_texts}
 use Rattle.vs_report.{specs.declared.giving.GiveError.GiveError, proofs.LinesGiven.gives_next, proofs.LinesGiven.gives_less}

@@ -1,6 +1,6 @@
 -- What a hostile guest's script prints, and the status that it ends with, as a function of its bytes.
 use Rattle.std.specs.Prelude.{ℕ, List, [], ◌∷◌, ◌++◌, length, map, codes, Option, Some, None, Result, Ok, Err}
-use Rattle.vs_device_parts.specs.Turns.{counters_of}
+use Rattle.vs_device_parts.specs.State.{counters_of}
 use Rattle.vs_report.specs.{Answers.Answer, Answers.refusal, Bytes.data_text, DeviceLines.turn_text, DeviceLines.reset_text}
 use Rattle.vs_report.specs.{HostLines.ok_text, HostLines.client_text, Report.counts_text, Report.device_open_text, Report.stream_texts}
 use Rattle.vs_report.specs.declared.giving.GiveError.{GiveError}

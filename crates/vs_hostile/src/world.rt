@@ -1,7 +1,7 @@
 //! What a hostile guest's script runs on: the guest's memory, the device with its proxy, a host in memory and a clock, line by line.
 
 ghost use Rattle.std.specs.Prelude.{◌≡◌, IfOk, OnOk, length, string_bytes};
-ghost use Rattle.vs_device_parts.specs.Turns.{counters_of, table_shown};
+ghost use Rattle.vs_device_parts.specs.{State.counters_of, Turns.table_shown};
 ghost use Rattle.vs_script.specs.Hostile.{hostile_view};
 ghost use Rattle.vs_hostile.specs.{Ready.IsReady, Ready.Steps, Run.beginning, Run.first_set_up, Run.rings_in, Run.second_set_up};
 ghost use Rattle.vs_hostile.specs.{Rings.rings_of, World.guest_view};

@@ -1,6 +1,6 @@
 -- The answer of a play: the lines that a script prints, and the status that it ends with, as a function of its bytes.
 use Rattle.std.specs.Prelude.{ℕ, List, [], ◌∷◌, ◌++◌, length, map, codes, Result, Ok, Err}
-use Rattle.vs_device_parts.specs.Turns.{counters_of}
+use Rattle.vs_device_parts.specs.State.{counters_of}
 use Rattle.vs_script.specs.{Play.Event, Script.Saying, Script.Plays, Script.parse_of, declared.fault.Refused.Refused}
 use Rattle.vs_script.specs.declared.script.Command.TheVariants as command
 use Rattle.laws_world.specs.World.{World, opened_host, opening}

@@ -6,7 +6,7 @@ ghost use Rattle.vs_contents.specs.CallTree.{Leads, for_each};
 ghost use Rattle.vs_limits.specs.declared.TheConstants.{BUF_ALLOC, GUEST_CID_MIN, GUEST_CID_MAX};
 ghost use Rattle.vs_ring_port.specs.{EndLog.EndLog, declared.failure.Failure.Failure};
 ghost use Rattle.vs_device_parts.specs.Playing.{IsItsRing, MayRun, MayRunOnHost, Runs, RunsOnHost, situation};
-ghost use Rattle.vs_device_parts.specs.{Turns.counters_of, Turns.table_shown, State.DeviceEntry};
+ghost use Rattle.vs_device_parts.specs.{State.counters_of, Turns.table_shown, State.DeviceEntry};
 ghost use Rattle.laws_device.specs.Named.Streams.{HasStreams};
 ghost use Rattle.laws_device.specs.Honest.{AgreesWith, IsLeftOpen};
 ghost use Rattle.laws_proxy.specs.{Honest.IsProxyStreamed, Honest.IsProxyWith, Order.IsInOrder};

@@ -3,7 +3,7 @@ use Rattle.std.specs.{Prelude.{◌≡◌, ℕ, length, Some}, Option.ForSome}
 use Rattle.vs_flow.specs.Connection.{Connection}
 use Rattle.vs_limits.specs.declared.TheConstants.{FIRST_CID}
 use Rattle.vs_driver_parts.specs.Connections.{table_shown as guest_shown}
-use Rattle.vs_device_parts.specs.Turns.{counters_of, table_shown as device_shown}
+use Rattle.vs_device_parts.specs.{State.counters_of, Turns.table_shown as device_shown}
 use Rattle.vs_proxy_parts.specs.State.{ProxyState}
 use Rattle.vs_ring_shared.specs.{Countings.met_between, declared.counters.Met.Met}
 use Rattle.vs_apps_parts.specs.Scripts.{RunScript}

@@ -13,7 +13,7 @@ use Rattle.vs_driver_parts.specs.declared.answers.Closed.TheVariants as closed
 use Rattle.vs_driver_parts.specs.declared.answers.ConnectionState.TheVariants as seen
 use Rattle.vs_driver_parts.specs.declared.answers.Received.TheVariants as got
 use Rattle.vs_driver_parts.specs.declared.answers.Sent.TheVariants as sent
-use Rattle.vs_device_parts.specs.Turns.{counters_of, new_device}
+use Rattle.vs_device_parts.specs.State.{counters_of, new_device}
 use Rattle.vs_report.specs.{declared.giving.Totals.Totals, Report.nothing_counted}
 use Rattle.vs_run_report.specs.{Report.run_status, Report.run_texts, Right.IsRightReport}
 

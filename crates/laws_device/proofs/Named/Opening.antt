@@ -13,7 +13,7 @@ use Rattle.vs_outside.proofs.Frames.{open-after_label, others-after_label}
 use Rattle.vs_ring_port.specs.{Contents.PublishCid, declared.failure.Failure.Failure}
 use Rattle.vs_device_parts.specs.{State.{DeviceConnection, DeviceState}, Streams.closing, Calls.{Call, CloseStream, Label, Ring, Situation}}
 use Rattle.vs_device_parts.specs.{Calls.{DeviceTree, Allows}, Connections.{new_connection, stream_closed, with_client}, Turns.after_reset}
-use Rattle.vs_device_parts.specs.Turns.{close_slot, new_device, open_of, reset_of}
+use Rattle.vs_device_parts.specs.{State.new_device, Turns.close_slot, Turns.open_of, Turns.reset_of}
 use Rattle.laws_device.specs.Named.Streams.{AreOpen, FindsFree, FindsStreams, HasStreams, IsFree, JoinsStreams}
 use Rattle.laws_device.specs.Named.Split.{CanReach, is_quiet}
 use Rattle.laws_device.proofs.Walk.Keeping.{keeps_if, keeps_some}

@@ -2,7 +2,7 @@ use Rattle.std.proofs.Common.{ℕ, ◌<◌, ◌^◌, List, [], Some, sym, ap, su
 use Rattle.vs_flow.specs.Table.{Table}
 use Rattle.vs_replies.specs.declared.{Replies.Replies, Reply.Reply}
 use Rattle.vs_ring_port.specs.Contents.{RingContents}
-use Rattle.vs_device_parts.specs.{State.DeviceConnection, Turns.new_device}
+use Rattle.vs_device_parts.specs.{State.DeviceConnection, State.new_device}
 use Rattle.laws_device.{specs.Honest.IsWith, proofs.Turning.new_with}
 use Rattle.vs_limits.specs.declared.TheConstants.{DEVICE_CONNECTIONS}
 use Rattle.laws_proxy.{specs.Account.Told.AreAccounted, proofs.Account.Turning.new_accounted}

@@ -1,5 +1,5 @@
 use Rattle.std.proofs.Common.{◌≡◌, ℕ, refl, sym, ap, subst, ◌∙◌}
-use Rattle.vs_device_parts.specs.{Calls.DeviceTree, Playing.MayRun, Playing.Runs, Playing.situation, Turns.counters_of}
+use Rattle.vs_device_parts.specs.{Calls.DeviceTree, Playing.MayRun, Playing.Runs, Playing.situation, State.counters_of}
 use Rattle.vs_proxy_parts.specs.{Handshakes.shake_hands, State.ProxyState, State.Turning, State.start, Turning.turning_of}
 use Rattle.vs_proxy_parts.specs.Turns.{event_stage, fill_stage, pump_stage, take_stage, tick_stage, turn_of, turned, unless_failed}
 use Rattle.vs_proxy_parts.specs.declared.{answers.Turn.Turn, tally.Tally.Tally}
