@@ -14,7 +14,6 @@ pub mod Turning
 pub mod Judging
 pub mod Shown
 pub mod Carrying
-pub mod Growing
 pub mod Telling
 pub mod Walks
 pub mod Quiet

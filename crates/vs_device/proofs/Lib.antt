@@ -15,4 +15,3 @@ mod Accounted
 mod Among
 mod Stepping
 mod Skipped
-mod Growing

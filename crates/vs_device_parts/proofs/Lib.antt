@@ -5,4 +5,3 @@ pub mod Each
 mod Rounds
 mod Writes
 mod Held
-pub mod Growing
