@@ -19,6 +19,7 @@ pub mod Turning
 pub mod Stepping
 pub mod Packets
 pub mod Waiting
+pub mod Growing
 pub mod Walk
 pub mod Named
 pub mod Carried

@@ -6,7 +6,7 @@ ghost use Rattle.vs_contents.specs.Contents.{Relates};
 ghost use Rattle.vs_flow.specs.declared.{flow.Flow.Flow, table.TableFault.TableFault};
 ghost use Rattle.vs_header.specs.{Packet.header_of, declared.Header.Header, declared.TheConstants.HEADER_LEN};
 ghost use Rattle.laws_history.specs.{Packets.is_rw, declared.packet.Packet.Packet};
-ghost use Rattle.vs_limits.specs.declared.TheConstants.{BUF_ALLOC};
+ghost use Rattle.vs_limits.specs.declared.TheConstants.{BUF_ALLOC_MAX};
 ghost use Rattle.laws_tables.specs.{Ends.is_new, Steps.IsNextFlow};
 ghost use Rattle.vs_page.specs.{Held.packet_held, Log.Device, Log.packets_put, declared.log.LogEntry.TheVariants.PutEvent};
 ghost use Rattle.vs_page.specs.declared.log.LogEntry.TheVariants.{PutPacket};
@@ -104,8 +104,8 @@ pub fn worked_waiting()
 {}
 
 /// The device's table has exactly the flows that the log left open, and those whose REQUEST isn't put, which come from clients of the
-/// host. What is pending of a connection is at most the buffer space that each packet put advertises, and no packet held more payload
-/// than there was room for.
+/// host. What is pending of a connection is at most its buffer space, which is 262,144 bytes at most, and of which each packet put advertises
+/// 65,536 or more; no packet held more payload than there was room for.
 pub fn law_of_the_table()
     ensures open { (first port : ℕ) (s : DeviceState) (l : EndLog) → AgreesWith first port s l → IsLeftOpen first s (table_shown s) l }
     ensures clients { (first port : ℕ) (s : DeviceState) (l : EndLog) (e : DeviceEntry) → AgreesWith first port s l
@@ -113,7 +113,7 @@ pub fn law_of_the_table()
         → is_new e.value.end ≡ true → IsClients e }
     ensures pending { (first port : ℕ) (s : DeviceState) (l : EndLog) (e : DeviceEntry) → AgreesWith first port s l
         → Contains s.table.entries e
-        → length e.value.pending ≤ BUF_ALLOC }
+        → (length e.value.pending ≤ e.value.end.credit.alloc) × (e.value.end.credit.alloc ≤ BUF_ALLOC_MAX) }
     ensures advertised { (first port : ℕ) (s : DeviceState) (l : EndLog) → AgreesWith first port s l → All Advertises
         (packets_put l.entries) }
     ensures no_overrun { (first port : ℕ) (s : DeviceState) (l : EndLog) → AgreesWith first port s l → s.overrun ≡ 0 }

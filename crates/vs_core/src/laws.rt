@@ -2,7 +2,7 @@
 
 ghost use Rattle.vs_flow.specs.{Connection.Connection, Connection.first_of, declared.flow.Flow.Flow};
 ghost use Rattle.std.specs.Prelude.{◌≡◌, ℕ, ◌-◌, ◌^◌, ◌≤◌, ◌||◌, min, false, true, List, [], ◌∷◌, length, All, None};
-ghost use Rattle.vs_limits.specs.declared.TheConstants.{BUF_ALLOC, BUF_ALLOC_MAX, FIRST_PORT, ASSIGNED_FIRST};
+ghost use Rattle.vs_limits.specs.declared.TheConstants.{BUF_ALLOC_MAX, FIRST_PORT, ASSIGNED_FIRST};
 ghost use Rattle.vs_conn.specs.End.{ConnectionEnd, is_refused, verdict_of};
 ghost use Rattle.laws_history.specs.declared.packet.Packet.{Packet};
 ghost use Rattle.laws_tables.specs.{Both.start, Ends.begun_flows, Ends.flows_of, Ends.is_among, Ends.new_flows, Ends.replied};
@@ -91,7 +91,8 @@ pub fn law_of_credit()
         All (λ e. (length e.value.unread ≤ e.value.end.credit.alloc) × (e.value.end.credit.alloc ≤ BUF_ALLOC_MAX))
         (run es (opening n host)).driver.table.entries }
     ensures pending { (n : ℕ) (host : HostContents) (es : List Event) →
-        All (λ e. length e.value.pending ≤ BUF_ALLOC) (run es (opening n host)).proxy.device.table.entries }
+        All (λ e. (length e.value.pending ≤ e.value.end.credit.alloc) × (e.value.end.credit.alloc ≤ BUF_ALLOC_MAX))
+        (run es (opening n host)).proxy.device.table.entries }
 {}
 
 /// After any list of events the device counted just the packets of its log that it drops, each by the guest's CID of then, and its ring
