@@ -15,8 +15,9 @@ use Rattle.vs_device_parts.specs.Playing.{IsRxChain, situation}
 use Rattle.vs_device_parts.specs.{Calls.DeviceTree, Calls.Situation, State.DeviceState, State.DeviceConnection, Streams.tick_slot}
 use Rattle.vs_proxy_parts.specs.State.{ProxyState, Turning, start, with_device, Handshake}
 use Rattle.vs_proxy_parts.specs.{Turns.proxy_reset_of, Handshakes.accept_one, Handshakes.tick_handshake, Handshakes.read_byte}
+use Rattle.vs_proxy_parts.specs.Growing.{after_flow_grow}
 use Rattle.laws_world.specs.Events.{Event, GuestCalls, GuestTakes, GuestReplies, GuestPays, GuestPublishes, DeviceTakes, DeviceReturns}
-use Rattle.laws_world.specs.Events.{DevicePutsEvent, DeviceReplies, DeviceReads, DevicePays, DeviceWrites, DeviceShutsWrite, ProxyAccepts}
+use Rattle.laws_world.specs.Events.{DevicePutsEvent, DeviceReplies, DeviceReads, DevicePays, DeviceWrites, DeviceShutsWrite, DeviceGrows, ProxyAccepts}
 use Rattle.laws_world.specs.Events.{ProxyReads, Moment, TimesOut, HandshakeTimesOut, Reset, HostListens, HostUnlistens, ClientConnects}
 use Rattle.laws_world.specs.Events.{HostWrites, HostTakes, HostEnds, HostCloses, HostFails, at_moment, call_made, device_step, driver_step}
 use Rattle.laws_world.specs.Events.{happens, has_failed, holds, holds_event, is_at_rest, is_guest_cid, line_read, none_staged, proxy_step}
@@ -41,7 +42,7 @@ use Rattle.laws_driver.specs.{Honest.IsFitState, Honest.ends_of_state, Honest.sl
 use Rattle.vs_ring_list.proofs.{Held.same_queue_is, Ties.{device_got, driver_got, tied-publish}}
 use Rattle.laws_device.proofs.Carrying.{IsToldBy, StreamedOver, With}
 use Rattle.laws_device.proofs.{Chains.Among, Seats.Carried, Seats.PutsFit, Keeping.keeps_then, Turning.tick_slot_keeps}
-use Rattle.laws_proxy.proofs.{Shaking.{Goes-on, Turns, accepts, reads_byte, ticks}, Turning.{Proxied, proxy_reset_keeps}}
+use Rattle.laws_proxy.proofs.{Growing.flow_grow_proxied, Shaking.{Goes-on, Turns, accepts, reads_byte, ticks}, Turning.{Proxied, proxy_reset_keeps}}
 use Rattle.vs_ring_list.specs.{Ends.device_contents, Sound.IsTied}
 use Rattle.laws_device.specs.Honest.{is_held, IsFitState as IsFitDevice}
 use Rattle.laws_device.proofs.Keeping.{Keeps as DeviceKeeps, keeps_weaker as device_weaker}
@@ -468,6 +469,8 @@ module _ (fresh : Type 0) (w : World) (well : IsWell fresh w) where
       device_steps.writes_keeps kept (all fresh w well) w.proxy.handshakes first_cid w.proxy.next_port w.proxy.device here held_now slot)
   happens_goes (DeviceShutsWrite slot) = device_goes_on (shuts_write slot) (λ going.
       device_steps.shuts_keeps kept (all fresh w well) w.proxy.handshakes first_cid w.proxy.next_port w.proxy.device here held_now slot)
+  happens_goes (DeviceGrows flow alloc) =
+      device_goes fresh w well (Done (after_flow_grow flow alloc w.proxy)) (λ s. s) (flow_grow_proxied flow alloc w.proxy kept first_cid here (proxied fresh w well 0))
   happens_goes ProxyAccepts = proxy_goes_on accept_one (accepts kept first_cid (start w.proxy) here (proxied fresh w well 0))
   happens_goes (ProxyReads stream) = proxy_goes_on (line_read stream)
       (keeps_then (Goes-on kept first_cid) (Turns kept first_cid) (read_byte stream (start w.proxy)) (λ r. Done r.0) here

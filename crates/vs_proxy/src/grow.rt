@@ -7,7 +7,8 @@ ghost use Rattle.vs_ring_port.specs.Contents.{RingContents};
 ghost use Rattle.vs_ring_port.specs.declared.device_ring.Chain.{Chain};
 ghost use Rattle.vs_device_parts.specs.{Calls.Situation, Growing.owed_in, Growing.rises, Playing.IsItsRing, State.counters_of};
 ghost use Rattle.vs_device_parts.specs.declared.answers.Grown.TheVariants.{Done};
-ghost use Rattle.vs_proxy_parts.specs.{Growing.after_flow_grow, Growing.flow_grow_of, Growing.slot_of, Handshakes.streams_of};
+ghost use Rattle.vs_proxy_parts.specs.Growing.{after_flow_grow, after_label_grow, flow_grow_of, label_at, label_grow_of, slot_of};
+ghost use Rattle.vs_proxy_parts.specs.Handshakes.{streams_of};
 ghost use Rattle.laws_device.specs.Named.Streams.{HasStreams};
 ghost use Rattle.laws_proxy.specs.{Honest.IsProxyStreamed, Honest.IsProxyWith, Order.IsInOrder};
 ghost use Rattle.laws_proxy.specs.Account.{Made.Made, Told.AreAccounted};
@@ -15,6 +16,7 @@ ghost use Rattle.laws_proxy.specs.Account.{Made.Made, Told.AreAccounted};
 use crate::proxy::Proxy;
 use vs_device::Grown;
 use vs_flow::Flow;
+use vs_outside::MemHost;
 
 impl Proxy {
     /// Raises the buffer space that the connection of a flow advertises to `alloc` bytes. After a rise it owes the guest a CREDIT_UPDATE, which
@@ -49,6 +51,21 @@ impl Proxy {
         self.grow_on(flow, alloc)
     }
 
+    /// The same of the connection that the label of a stream names, of a host in memory. It answers nothing exactly where there is no such
+    /// stream, and `Unknown` where the stream has no label.
+    pub fn grow_stream(&mut self, host: &MemHost, stream: u64, alloc: u32) -> Option<Grown>
+        ensures answer { result ≡ label_grow_of (label_at stream host.now.contents) alloc self.old }
+        ensures state { self.new ≡ after_label_grow (label_at stream host.now.contents) alloc self.old }
+        ensures ring { (held : List Chain) → IsItsRing held self.old.device → IsItsRing held self.new.device }
+        ensures order { (first : ℕ) (a : Situation) → IsInOrder first self.old a → IsInOrder first self.new a }
+    {
+        match label_at(host, stream) {
+            Some(Some(flow)) => Some(self.grow(flow, alloc)),
+            Some(None) => Some(Grown::Unknown),
+            None => None,
+        }
+    }
+
     // Raises it in the slot of the flow's connection, if there is one.
     fn grow_on(&mut self, flow: Flow, alloc: u32) -> Grown
         ensures answer { result ≡ flow_grow_of flow alloc self.old }
@@ -62,4 +79,13 @@ impl Proxy {
             None => Grown::Unknown,
         }
     }
+}
+
+// The label of a stream, where there is such a stream.
+fn label_at(host: &MemHost, stream: u64) -> Option<Option<Flow>>
+    ensures { result ≡ label_at stream host.now.contents }
+{
+    let place = stream.checked_sub(1)?;
+    let stream = host.streams().get(place as usize)?;
+    Some(stream.label())
 }
