@@ -399,8 +399,8 @@ module _ {fresh : Type 0} (w : World) (well : IsWell fresh w) (was : IsCounted w
   happens_counted (events.DeviceWrites slot) = unless_device (writes slot) (writes_counts w.proxy.handshakes slot)
   happens_counted (events.DeviceShutsWrite slot) = unless_device (shuts_write slot) (shuts_counts w.proxy.handshakes slot)
   happens_counted (events.DeviceGrows flow alloc) =
-      let same : (d : DeviceState) → Type 0 = λ d. IsCounted (record w { proxy = with_device d w.proxy }) in
-      let kept = flow_grow_stays flow alloc w.proxy same was (λ e. record { dropped = was.dropped; unfailed = was.unfailed }) in
+      let kept = flow_grow_stays flow alloc w.proxy (λ d. IsCounted (record w { proxy = with_device d w.proxy })) was
+      (λ e. record { dropped = was.dropped; unfailed = was.unfailed }) in
       record { dropped = kept.dropped; unfailed = kept.unfailed }
   happens_counted events.ProxyAccepts = unless_proxy accept_one (keeps_accept_one playing (Between D) shakes)
   happens_counted (events.ProxyReads stream) = unless_proxy (line_read stream) (line_counts stream)

@@ -85,7 +85,9 @@ impl Proxy {
 fn label_at(host: &MemHost, stream: u64) -> Option<Option<Flow>>
     ensures { result ≡ label_at stream host.now.contents }
 {
-    let place = stream.checked_sub(1)?;
-    let stream = host.streams().get(place as usize)?;
+    if stream == 0 {
+        return None;
+    }
+    let stream = host.streams().get(stream as usize - 1)?;
     Some(stream.label())
 }

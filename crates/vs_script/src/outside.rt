@@ -93,8 +93,8 @@ fn around_host(alloc: Global, act: &[u8], words: &mut Words) -> Result<OutsideLi
 {
     if is(act, b"grow") {
         let stream = words.id()?;
-        let alloc = words.only_number32(1, MAX_GROW)?;
-        Ok(OutsideLine::Grow { stream, alloc })
+        let n = words.only_number32(1, MAX_GROW)?;
+        Ok(OutsideLine::Grow { stream, alloc: n })
     } else {
         let line = host_line(alloc, act, words)?;
         Ok(OutsideLine::Host(line))
