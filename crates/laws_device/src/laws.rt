@@ -87,16 +87,14 @@ pub fn law_of_streamed()
 {}
 
 /// Over such a ring and such a host the device's table has exactly the flows that the log left open and those of the host's open streams:
-/// those
-/// that have a flow as their label, until the device closes them.
+/// those that have a flow as their label, until the device closes them.
 pub fn law_of_open_streams()
     ensures table { (first port : ℕ) (lines : List Handshake) (s : DeviceState) (a : Situation) → IsWith first port s a.ring
         → AreStreamedWith first port lines s.table a → IsTabledWith first s a }
 {}
 
 /// A client's connection waits for its REQUEST to be put: it does while its stream is open and no REQUEST was put, and not once one was, or
-/// the
-/// proxy closed the stream.
+/// the proxy closed the stream.
 pub fn worked_waiting()
     ensures waits { is_waiting_for_request client_flow (client_host stream.Open) [] ≡ true }
     ensures asked { is_waiting_for_request client_flow (client_host stream.Open) asked_log ≡ false }
