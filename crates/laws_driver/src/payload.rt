@@ -68,8 +68,8 @@ pub fn law_of_received()
 
 /// What the journal says was received: over an honest ring that tells its log the account is right that the journal comes to, once a call was
 /// made, whole or on the pages as they stand, with its reply. A journal that is right says as well what was sent: each entry that sent bytes
-/// names an id that was given to a connection, and the payload put on each connection is what was sent on its ids. So it stays over calls and
-/// polls.
+/// names an id that was given to a connection, and the payload put on each connection is what was sent on its ids. So is the empty one of a
+/// driver that was just made, and so it stays over calls and polls.
 pub fn law_of_journals()
     ensures call { (first id : ℕ) (opened : ℕ → Connection) (journal : Journal) (call : GuestCall) (s : DriverState) (c d : RingContents)
         (x : DriverState × ReplyTo call) → is_right call ≡ true → IsHonestWith first s c → IsReceivedWith (account_of id opened journal) s c
@@ -77,6 +77,8 @@ pub fn law_of_journals()
     ensures step { (first id : ℕ) (opened : ℕ → Connection) (journal : Journal) (call : GuestCall) (s : DriverState) (c d : RingContents)
         (x : DriverState × ReplyTo call) → is_right call ≡ true → IsHonestWith first s c → IsReceivedWith (account_of id opened journal) s c
         → Plays (makes_call call s) c x d → IsJournaledWith id opened (with_call call s x.1 journal) x.0 d }
+    ensures right_new { (size port id : ℕ) (c d : RingContents) (s : DriverState) → port ≤ LAST_PORT → IsFresh c → Plays (new_of size port id) c s d
+        → IsRightWith id (no_account id).opened [] s d }
     ensures right { (first id : ℕ) (opened : ℕ → Connection) (journal : Journal) (call : GuestCall) (s : DriverState) (c d : RingContents)
         (x : DriverState × ReplyTo call) → is_right call ≡ true → IsHonestWith first s c → IsRightWith id opened journal s c
         → Plays (whole_call call s) c x d → GoesRightWith id opened (with_call call s x.1 journal) x.0 d }
