@@ -18,6 +18,7 @@ pub mod Transmitting
 pub mod Turning
 pub mod Stepping
 pub mod Packets
+pub mod Growing
 pub mod Waiting
 pub mod Walk
 pub mod Named

@@ -7,14 +7,14 @@ ghost use Rattle.vs_flow.specs.declared.{flow.Flow.Flow, table.TableFault.TableF
 ghost use Rattle.vs_header.specs.{Packet.header_of, declared.Header.Header, declared.TheConstants.HEADER_LEN};
 ghost use Rattle.laws_history.specs.{Packets.is_rw, declared.packet.Packet.Packet};
 ghost use Rattle.vs_limits.specs.declared.TheConstants.{BUF_ALLOC};
-ghost use Rattle.laws_tables.specs.{Ends.is_new, Steps.IsNextFlow};
+ghost use Rattle.laws_tables.specs.{Ends.is_new, Later.IsLater, Later.StaysShut, Steps.IsNextFlow};
 ghost use Rattle.vs_page.specs.{Held.packet_held, Log.Device, Log.packets_put, declared.log.LogEntry.TheVariants.PutEvent};
 ghost use Rattle.vs_page.specs.declared.log.LogEntry.TheVariants.{PutPacket};
-ghost use Rattle.vs_ring_port.specs.{Chains.Held, Contents.Read, Contents.RingContents, Contents.Take, EndLog.EndLog};
+ghost use Rattle.vs_ring_port.specs.{Chains.Held, Contents.IsSound, Contents.Read, Contents.RingContents, Contents.Take, EndLog.EndLog};
 ghost use Rattle.vs_ring_port.specs.declared.{device_ring.Chain.Chain, failure.Failure.Failure, queue.Queue.TheVariants.Event};
 ghost use Rattle.vs_ring_port.specs.declared.queue.Queue.TheVariants.{Rx, Tx};
 ghost use Rattle.vs_ring_port.specs.declared.device_ring.Next.TheVariants as next;
-ghost use Rattle.vs_device_parts.specs.{Calls.Allows, Calls.Ring, Calls.Situation, Playing.MayRun, Playing.Runs, Receiving.event_on};
+ghost use Rattle.vs_device_parts.specs.{Calls.Allows, Calls.DeviceTree, Calls.Ring, Calls.Situation, Playing.MayRun, Playing.Runs, Receiving.event_on};
 ghost use Rattle.vs_device_parts.specs.{Receiving.fill_rx_of, Receiving.pay_event_of, Receiving.written, State.DeviceEntry};
 ghost use Rattle.vs_device_parts.specs.{State.DeviceState, Streams.Writing, Streams.pump_of, Streams.tick_of, Transmitting.take_tx_of};
 ghost use Rattle.vs_device_parts.specs.{State.new_device, Turns.open_of, Turns.reset_of, Turns.table_shown, declared.answers.Filled.Filled};
@@ -115,6 +115,15 @@ pub fn law_of_the_table()
     ensures advertised { (first port : ℕ) (s : DeviceState) (l : EndLog) → AgreesWith first port s l → All Advertises
         (packets_put l.entries) }
     ensures no_overrun { (first port : ℕ) (s : DeviceState) (l : EndLog) → AgreesWith first port s l → s.overrun ≡ 0 }
+{}
+
+/// Any conversation of the device, over any ring and any host: a log that is told is told with more entries. Over an honest ring nothing more is
+/// put on a connection after the SHUTDOWN that says 'no more is sent' (Virtio 1.2, section 5.10.6.5).
+pub fn law_of_logs<T>()
+    ensures grows { (tree : DeviceTree T) (a b : Situation) (x : T) → Runs tree a x b
+        → Relates a.ring.log b.ring.log (λ l m. IsLater l.entries m.entries) }
+    ensures shut { (tree : DeviceTree T) (a b : Situation) (x : T) → IsSound Device a.ring → Runs tree a x b → a.ring.honest ≡ true
+        → ForSome a.ring.log (λ l. ForSome b.ring.log (λ m. StaysShut Device l.entries m.entries)) }
 {}
 
 /// Over any ring that tells its log a packet is one entry. The packet that the device writes into a chain and returns is put, with its

@@ -6,16 +6,15 @@ use Rattle.vs_device_parts.specs.State.{DeviceEntry}
 use Rattle.vs_flow.specs.{Connection.Connection, Connection.first_of, declared.flow.Flow.Flow}
 use Rattle.laws_history.specs.{History.puts, Packets.has, Packets.shuts_send}
 use Rattle.vs_outside.specs.{Host.Stream, Host.stream_at, HostBytes.host_read, HostBytes.host_wrote}
-use Rattle.vs_page.specs.{Fair.{IsFairLog, IsPrefixOf, payload_got, payload_put}, Log.{Device, Driver, Log, Role, history_of}}
-use Rattle.vs_page.proofs.Shut.{shut_put}
-use Rattle.laws_tables.specs.Both.{at}
+use Rattle.vs_page.specs.{Fair.{IsPrefixOf, payload_got, payload_put}, Log.{Device, Driver, Log, Role, history_of}}
+use Rattle.laws_tables.{specs.Both.Both, specs.Both.at, specs.Later.IsLater, proofs.Later.run_later, proofs.Later.stays_shut}
 use Rattle.laws_tables.specs.Drains.{Drains, got_on, put_on, receives}
 use Rattle.laws_tables.proofs.Firsts.{once_got, once_put, put_begun}
 use Rattle.laws_device.specs.Carried.Streamed.{IsJoined, Seen, gives, line_for, look, seen}
 use Rattle.laws_world.specs.{Sides.both_of, World.World, World.first_cid}
 use Rattle.laws_rest.specs.Bytes.{BothEnds, CarryBytes}
 use Rattle.laws_rest.proofs.BothEnds as both
-use Rattle.laws_world.proofs.{Once.both_ends, Growing.Grows, Growing.runs_grow}
+use Rattle.laws_world.proofs.Once.{both_ends}
 use Rattle.laws_world.proofs.{Journals.by_flow, Journals.received_some, Sound.Goes, Sound.IsWell}
 use Rattle.laws_driver.specs.Carried.{Received.{ReceivedOn, ReceivesOn}, Calls.{account_of, received_by, received_on, sent_on}}
 use Rattle.laws_device.proofs.Carried.Hosts.{there as is_there}
@@ -123,18 +122,13 @@ module _ {fresh : Type 0} (w : World) (well : IsWell fresh w) where
         )
 
 -- What an end put stays once it told that it sends no more.
-stays_put : (role : Role) (older log : Log) (f : Flow) → Grows older log → IsFairLog role older → IsFairLog role log
-    → has shuts_send (puts (history_of role f older)) ≡ true
-    → payload_put role (first_of f) log ≡ payload_put role (first_of f) older
-stays_put role older log f (newer, is) was fair shut =
-    ap (payload_put role (first_of f)) is ∙ shut_put role newer older (first_of f) (subst (IsFairLog role) is fair f) shut (put_begun role f older shuts_send (was f) shut)
-
 module _ {fresh : Type 0} (w v : World) (well : IsWell fresh w) (goes : Goes fresh w v) (f : Flow) where
   kept : (role : Role) → has shuts_send (puts (history_of role f (at role (both_of w)).log)) ≡ true
       → payload_put role (first_of f) (at role (both_of v)).log ≡ payload_put role (first_of f) (at role (both_of w)).log
   kept role shut =
-      stays_put role (at role (both_of w)).log (at role (both_of v)).log f (runs_grow role (both_of w) (both_of v) goes.runs) (well.sound.fair role)
-      (goes.well.sound.fair role) shut
+      let old = (at role (both_of w)).log in
+      let later = subst (λ (b : Both). IsLater old (at role b).log) goes.runs.ends (run_later role goes.runs.steps (both_of w)) in
+      stays_shut role old _ later (goes.well.sound.fair role) (first_of f) shut (put_begun role f old shuts_send (well.sound.fair role f) shut)
 
   pub sent_stays : has shuts_send (puts (history_of Driver f (both_of w).driver.log)) ≡ true → sent_on f v.journal ≡ sent_on f w.journal
   sent_stays shut = sym (sent_is v goes.well f) ∙ kept Driver shut ∙ sent_is w well f

@@ -1,5 +1,5 @@
 -- Over any ring a conversation leaves a ring honest that was, and adds to the log that it tells.
-use Rattle.std.proofs.Common.{◌≡◌, ℕ, Option, Some, None, List, [], ◌∷◌, ◌++◌, refl, sym, ap, subst, ◌∙◌, append_assoc}
+use Rattle.std.proofs.Common.{◌≡◌, ℕ, Option, Some, None, List, [], ◌∷◌, ◌++◌, refl, sym, ap, subst, ◌∙◌}
 use Rattle.vs_contents.specs.{CallTree.Ask, CallTree.Done, Contents.Exposes}
 use Rattle.laws_history.specs.declared.packet.Packet.{Packet}
 use Rattle.vs_page.specs.{Held.event_held, Held.packet_held, Log.Log, declared.log.LogEntry.LogEntry}
@@ -9,7 +9,8 @@ use Rattle.vs_ring_port.specs.EndLog.{all_put, entries_marked, entries_published
 use Rattle.vs_ring_port.specs.{EndLog.{log_staged, pages_at, with_event, with_packet}, declared.queue.Queue.Queue}
 use Rattle.vs_ring_port.specs.declared.queue.Queue.TheVariants.{Event, Rx, Tx}
 use Rattle.vs_driver_parts.specs.{Conversations.DriverTree, Playing.Plays, Playing.RingAllows}
-use Rattle.laws_driver.specs.Carried.Sent.{IsLater, TellsMore}
+use Rattle.laws_tables.{specs.Later.IsLater, proofs.Later.later_then}
+use Rattle.laws_driver.specs.Carried.Sent.{TellsMore}
 
 one_honest : (call : DriverCall) (a : DriverAnswer call) (c d : RingContents) → RingAllows call a c d → d.honest ≡ c.honest
 one_honest (Stage queue page) a c d allowed = allowed.honest
@@ -28,10 +29,6 @@ packet_later entry (Some p) log = (entry p ∷ [], refl)
 event_later : (o : Option ℕ) (log : Log) → IsLater log (with_event (λ id. GotEvent id) o log)
 event_later None log = ([], refl)
 event_later (Some id) log = (GotEvent id ∷ [], refl)
-
-later_then : (a b c : Log) → IsLater a b → IsLater b c → IsLater a c
-later_then a b c first next =
-    (next.0 ++ first.0, next.1 ∙ ap (λ (log : Log). next.0 ++ log) first.1 ∙ sym (append_assoc next.0 first.0 a))
 
 put_later : (pages : List (List ℕ)) (log : Log) → IsLater log (all_put pages log)
 put_later [] log = ([], refl)
@@ -55,26 +52,19 @@ marked_later cid [] = ([], refl)
 marked_later cid (entry ∷ log) = (Mark cid ∷ [], refl)
 
 one_later : (call : DriverCall) (a : DriverAnswer call) (c d : RingContents) → RingAllows call a c d → TellsMore c.log d.log
-one_later (Stage queue page) a c d allowed = by c.log allowed.log
+one_later call a c d = by call a
   where
-    by : (o : Option EndLog) → Exposes o d.log (λ l. Unit {0}) (log_staged queue page) → TellsMore o d.log
-    by None is = is
-    by (Some l) is = subst (TellsMore (Some l)) (sym is.1) ([], refl)
-one_later (Publish queue) a c d allowed = by c.log allowed.1.log
-  where
-    by : (o : Option EndLog) → Exposes o d.log (λ l. allowed.0 ≡ pages_at queue l.staged) (log_published queue) → TellsMore o d.log
-    by None is = is
-    by (Some l) is = subst (TellsMore (Some l)) (sym is.1) (published_later queue (pages_at queue l.staged) l.entries)
-one_later (Reap queue) a c d allowed = by c.log allowed.1.log
-  where
-    by : (o : Option EndLog) → Exposes o d.log (λ l. Unit {0}) (log_reaped queue a) → TellsMore o d.log
-    by None is = is
-    by (Some l) is = subst (TellsMore (Some l)) (sym is.1) (reaped_later queue a l.entries)
-one_later LoadCid a c d allowed = by c.log allowed.1.log
-  where
-    by : (o : Option EndLog) → Exposes o d.log (λ l. Unit {0}) (log_loaded a) → TellsMore o d.log
-    by None is = is
-    by (Some l) is = subst (TellsMore (Some l)) (sym is.1) (marked_later a l.entries)
+    told : (o : Option EndLog) (R : EndLog → Type 0) (g : EndLog → EndLog) → ((l : EndLog) → IsLater l.entries (g l).entries) → Exposes o d.log R g
+        → TellsMore o d.log
+    told None R g later is = is
+    told (Some l) R g later is = subst (TellsMore (Some l)) (sym is.1) (later l)
+
+    by : (call : DriverCall) (a : DriverAnswer call) → RingAllows call a c d → TellsMore c.log d.log
+    by (Stage queue page) a allowed = told c.log _ (log_staged queue page) (λ l. ([], refl)) allowed.log
+    by (Publish queue) a allowed =
+        told c.log _ (log_published queue) (λ l. published_later queue (pages_at queue l.staged) l.entries) allowed.1.log
+    by (Reap queue) a allowed = told c.log _ (log_reaped queue a) (λ l. reaped_later queue a l.entries) allowed.1.log
+    by LoadCid a allowed = told c.log _ (log_loaded a) (λ l. marked_later a l.entries) allowed.1.log
 
 more_then : (a b c : Option EndLog) → TellsMore a b → TellsMore b c → TellsMore a c
 more_then None None c first next = next

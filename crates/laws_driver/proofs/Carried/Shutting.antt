@@ -1,10 +1,12 @@
 -- Nothing more is put on a connection after the SHUTDOWN that says 'no more is sent', by no call.
-use Rattle.std.proofs.Common.{◌≡◌, Option, Some, ap, subst, ◌∙◌}
+use Rattle.std.proofs.Common.{◌≡◌, true, Option, Some, subst, ◌∙◌}
+use Rattle.std.specs.Option.{ForSome}
 use Rattle.vs_contents.specs.CallTree.{Ask, Done}
-use Rattle.vs_page.{specs.Fair.IsFairLog, specs.Fair.payload_put, specs.Log.Driver, specs.Log.Log, proofs.Shut.shut_put}
+use Rattle.vs_page.specs.Log.{Driver}
+use Rattle.laws_tables.{specs.Later.IsLater, specs.Later.StaysShut, proofs.Later.stays_shut}
 use Rattle.vs_ring_port.specs.{DriverCalls.{DriverAnswer, DriverCall, Stage}, Contents.{IsSound, RingContents}, EndLog.EndLog}
 use Rattle.vs_driver_parts.specs.{Conversations.DriverTree, Playing.Plays, Playing.RingAllows}
-use Rattle.laws_driver.specs.Carried.Sent.{IsLater, StaysShut, TellsMore}
+use Rattle.laws_driver.specs.Carried.Sent.{TellsMore}
 use Rattle.laws_driver.proofs.Carried.Growing.{honest_stays, log_grows}
 
 one_sound : (call : DriverCall) (a : DriverAnswer call) (c d : RingContents) → RingAllows call a c d → IsSound Driver d
@@ -22,9 +24,8 @@ later_by old o p m is told more =
     let Q : Option EndLog → Type 0 = λ q. TellsMore (Some old) q in
     subst Q told (subst P is more)
 
-pub stays_shut : {A : Type 0} (tree : DriverTree A) (c d : RingContents) (x : A) → IsSound Driver c → Plays tree c x d → StaysShut c d
-stays_shut tree c d x sound plays = λ on l is m told k shut up_to.
-    let later = later_by l c.log d.log m is told (log_grows tree c d x plays) in
-    let fair = sound_stays tree c d x sound plays (honest_stays tree c d x plays ∙ on) m told in
-    let P : Log → Type 0 = λ log. IsFairLog Driver log in
-    ap (payload_put Driver k) later.1 ∙ shut_put Driver later.0 l.entries k (subst P later.1 fair k.flow) shut up_to
+pub shut_still : {A : Type 0} (tree : DriverTree A) (c d : RingContents) (x : A) → IsSound Driver c → Plays tree c x d → c.honest ≡ true
+    → ForSome c.log (λ l. ForSome d.log (λ m. StaysShut Driver l.entries m.entries))
+shut_still tree c d x sound plays = λ on l is m told.
+    stays_shut Driver l.entries m.entries (later_by l c.log d.log m is told (log_grows tree c d x plays))
+    (sound_stays tree c d x sound plays (honest_stays tree c d x plays ∙ on) m told)
