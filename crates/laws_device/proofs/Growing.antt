@@ -1,5 +1,5 @@
 -- Over any ring a conversation leaves it as honest as it was and its log fair, and adds to the log that it tells.
-use Rattle.std.proofs.Common.{◌≡◌, ℕ, true, List, [], ◌∷◌, take, Option, Some, None, refl, sym, ap, subst, ◌∙◌}
+use Rattle.std.proofs.Common.{◌≡◌, ℕ, true, List, [], ◌∷◌, take, Option, Some, None, refl, sym, subst, ◌∙◌}
 use Rattle.std.specs.Option.{ForSome}
 use Rattle.vs_contents.specs.{CallTree.Ask, CallTree.Done, Contents.Relates}
 use Rattle.laws_history.specs.declared.packet.Packet.{Packet}

@@ -5,7 +5,7 @@ use Rattle.laws_history.specs.History.{Answerer, Asker, Side}
 use Rattle.vs_page.specs.{Fair.instance_from, Fair.payload_of, Log.Driver, Log.side_of}
 use Rattle.vs_ring_port.specs.Contents.{RingContents}
 use Rattle.vs_driver_parts.specs.{declared.answers.{ConnectError.ConnectError, Polled.Polled, Sent.Sent}, Conversations.connect_of}
-use Rattle.vs_driver_parts.specs.{Conversations.{new_of, poll_of, send_of}, Playing.Plays, State.DriverState}
+use Rattle.vs_driver_parts.specs.{Conversations.{new_of, new_state, poll_of, send_of}, Playing.Plays, State.DriverState}
 use Rattle.laws_driver.proofs.{Polling.poll_keeps, Calls.connect_keeps, Calls.new_keeps, Calls.send_keeps, Carrying.Fact, Keeping.keeps_end}
 use Rattle.laws_driver.proofs.{Ringing.at_rest, Staging.Rests}
 use Rattle.laws_driver.proofs.Carried.{Connecting.{connect_carries, none_received}, Polling.{Further, poll_carries}, Changing.send_receives}
@@ -49,6 +49,12 @@ none_put : (side : Side) (k : ℕ) → payload_of (instance_from side k []) ≡ 
 none_put Asker k = refl
 none_put Answerer k = refl
 
+pub none_righted : (size port id : ℕ) → IsRightJournal id (no_account id).opened [] [] (slots_of (new_state size port id 0))
+none_righted size port id = record {
+  received = none_received size port id;
+  sent = record { senders = tt; puts = λ k. none_put (side_of Driver k.flow) k.number };
+}
+
 abbrev starts : ℕ → Fact
 starts id part s log = IsRightJournal id (no_account id).opened [] log (slots_of s)
 
@@ -57,7 +63,5 @@ pub new_righted : (size port id : ℕ) (c d : RingContents) (s : DriverState) �
 new_righted size port id c d s fits fresh plays = λ on l is.
     let kept : Rests s.cid (starts id) s d =
     keeps_end (λ t e. Rests t.cid (starts id) t e) (new_of size port id) c d s
-    (new_keeps size port id fits (starts id)
-    (λ cid. record { received = none_received size port id; sent = record { senders = tt; puts = λ k. none_put (side_of Driver k.flow) k.number } })
-    c fresh) plays in
+    (new_keeps size port id fits (starts id) (λ cid. none_righted size port id) c fresh) plays in
     (kept on l is).1

@@ -1,5 +1,5 @@
 -- Over any ring a conversation leaves a ring honest that was, and adds to the log that it tells.
-use Rattle.std.proofs.Common.{◌≡◌, ℕ, Option, Some, None, List, [], ◌∷◌, ◌++◌, refl, sym, ap, subst, ◌∙◌}
+use Rattle.std.proofs.Common.{◌≡◌, ℕ, Option, Some, None, List, [], ◌∷◌, refl, sym, ap, subst, ◌∙◌}
 use Rattle.vs_contents.specs.{CallTree.Ask, CallTree.Done, Contents.Exposes}
 use Rattle.laws_history.specs.declared.packet.Packet.{Packet}
 use Rattle.vs_page.specs.{Held.event_held, Held.packet_held, Log.Log, declared.log.LogEntry.LogEntry}
