@@ -56,21 +56,15 @@ returned_later Rx page log = packet_later (λ p. PutPacket p) (packet_held page)
 returned_later Event page log = event_later (event_held page) log
 returned_later Tx page log = ([], refl)
 
-abbrev Later : EndLog → EndLog → Type 0
+abbrev pub Later : EndLog → EndLog → Type 0
 Later l m = IsLater l.entries m.entries
 
-record GoesOn (c d : RingContents) : Type 0 where
-  honest : d.honest ≡ c.honest
-  sound : IsSound Device c → IsSound Device d
-  more : Relates c.log d.log Later
+abbrev pub GoesOn : RingContents → RingContents → Type 0
+GoesOn c d = (d.honest ≡ c.honest) × (IsSound Device c → IsSound Device d) × Relates c.log d.log Later
 
 moved : (call : DeviceCall) (a : DeviceAnswer call) (L : Rings → Type 0) (f : Rings → Rings) (Q : EndLog → Type 0) (g : EndLog → EndLog)
     (c d : RingContents) → DeviceMoves call a L f Q g c d → ((l : EndLog) → IsLater l.entries (g l).entries) → GoesOn c d
-moved call a L f Q g c d made later = record {
-  honest = made.honest;
-  sound = λ was. made.fair;
-  more = related call a L f Q g c d made Later (λ l is asked. later l);
-}
+moved call a L f Q g c d made later = (made.honest, λ was. made.fair, related call a L f Q g c d made Later (λ l is asked. later l))
 
 ring_goes : (call : DeviceCall) (a : DeviceAnswer call) (c d : RingContents) → DeviceAllows call a c d → GoesOn c d
 ring_goes (Take queue) a c d allowed = moved _ _ _ _ _ (log_taken queue a allowed.0) c d allowed.1 (taken_later queue a allowed.0)
@@ -81,28 +75,22 @@ ring_goes (Return chain len) a c d allowed =
 ring_goes (Given queue) a c d allowed = moved _ _ _ _ _ (λ l. l) c d allowed.1 (λ l. ([], refl))
 ring_goes (PublishCid cid) a c d allowed = moved _ _ _ _ _ (log_reset cid) c d allowed (λ l. (Mark cid ∷ [], refl))
 
-goes_on : {A : Type 0} (tree : DeviceTree A) (c d : Situation) (x : A) → Runs tree c x d → GoesOn c.ring d.ring
-goes_on = over_runs GoesOn (λ c. record { honest = refl; sound = λ sound. sound; more = as_told c.log })
-    (λ c d e first rest. record {
-      honest = rest.honest ∙ first.honest;
-      sound = λ sound. rest.sound (first.sound sound);
-      more = joined c.log d.log e.log Later Later Later (λ l m n. later_then l.entries m.entries n.entries) first.more rest.more;
-    }) ring_goes
+pub goes_on : {A : Type 0} (tree : DeviceTree A) (c d : Situation) (x : A) → Runs tree c x d → GoesOn c.ring d.ring
+goes_on = over_runs GoesOn (λ c. (refl, λ sound. sound, as_told c.log)) (λ c d e first rest. (
+  rest.0 ∙ first.0,
+  λ sound. rest.1 (first.1 sound),
+  joined c.log d.log e.log Later Later Later (λ l m n. later_then l.entries m.entries n.entries) first.2 rest.2,
+)) ring_goes
   where
     as_told : (o : Option EndLog) → Relates o o Later
     as_told None = refl
     as_told (Some l) = ([], refl)
 
-pub log_grows : {A : Type 0} (tree : DeviceTree A) (c d : Situation) (x : A) → Runs tree c x d
-    → Relates c.ring.log d.ring.log (λ l m. IsLater l.entries m.entries)
-log_grows tree c d x runs = (goes_on tree c d x runs).more
-
 -- Nothing more is put on a connection after the SHUTDOWN that says 'no more is sent'.
 pub shut_still : {A : Type 0} (tree : DeviceTree A) (c d : Situation) (x : A) → IsSound Device c.ring → Runs tree c x d → c.ring.honest ≡ true
     → ForSome c.ring.log (λ l. ForSome d.ring.log (λ m. StaysShut Device l.entries m.entries))
-shut_still tree c d x sound runs = λ on l is m told.
-    let went = goes_on tree c d x runs in
-    stays_shut Device l.entries m.entries (between c.ring.log d.ring.log l m is told went.more) (went.sound sound (went.honest ∙ on) m told)
+shut_still tree c d x sound runs = λ on l is m told. let went = goes_on tree c d x runs in
+    stays_shut Device l.entries m.entries (between c.ring.log d.ring.log l m is told went.2) (went.1 sound (went.0 ∙ on) m told)
   where
     between : (o p : Option EndLog) (l m : EndLog) → o ≡ Some l → p ≡ Some m → Relates o p Later → Later l m
     between o p l m is told later =

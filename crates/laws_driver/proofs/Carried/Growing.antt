@@ -1,25 +1,17 @@
--- Over any ring a conversation leaves a ring honest that was, and adds to the log that it tells.
-use Rattle.std.proofs.Common.{◌≡◌, ℕ, Option, Some, None, List, [], ◌∷◌, refl, sym, ap, subst, ◌∙◌}
+-- Over any ring a conversation leaves it as honest as it was and its log fair, and adds to the log that it tells.
+use Rattle.std.proofs.Common.{◌≡◌, ℕ, true, Option, Some, None, List, [], ◌∷◌, refl, sym, subst, ◌∙◌}
+use Rattle.std.specs.Option.{ForSome}
 use Rattle.vs_contents.specs.{CallTree.Ask, CallTree.Done, Contents.Exposes}
 use Rattle.laws_history.specs.declared.packet.Packet.{Packet}
-use Rattle.vs_page.specs.{Held.event_held, Held.packet_held, Log.Log, declared.log.LogEntry.LogEntry}
+use Rattle.vs_page.specs.{Held.event_held, Held.packet_held, Log.Driver, Log.Log, declared.log.LogEntry.LogEntry}
 use Rattle.vs_page.specs.declared.log.LogEntry.TheVariants.{GotEvent, GotPacket, Mark, PutPacket}
-use Rattle.vs_ring_port.specs.{Contents.RingContents, DriverCalls.{DriverAnswer, DriverCall, LoadCid, Publish, Reap, Stage}, EndLog.EndLog}
-use Rattle.vs_ring_port.specs.EndLog.{all_put, entries_marked, entries_published, entries_reaped, log_loaded, log_published, log_reaped}
-use Rattle.vs_ring_port.specs.{EndLog.{log_staged, pages_at, with_event, with_packet}, declared.queue.Queue.Queue}
+use Rattle.vs_ring_port.specs.{Contents.{IsSound, RingContents}, DriverCalls.{DriverAnswer, DriverCall, DriverMoves, LoadCid, Publish, Reap, Stage}}
+use Rattle.vs_ring_port.specs.EndLog.{EndLog, all_put, entries_marked, entries_published, entries_reaped, log_loaded, log_published, log_reaped}
+use Rattle.vs_ring_port.specs.{EndLog.{log_staged, pages_at, with_event, with_packet}, Lists.Rings, declared.queue.Queue.Queue}
 use Rattle.vs_ring_port.specs.declared.queue.Queue.TheVariants.{Event, Rx, Tx}
 use Rattle.vs_driver_parts.specs.{Conversations.DriverTree, Playing.Plays, Playing.RingAllows}
-use Rattle.laws_tables.{specs.Later.IsLater, proofs.Later.later_then}
+use Rattle.laws_tables.{specs.Later.IsLater, specs.Later.StaysShut, proofs.Later.later_then, proofs.Later.stays_shut}
 use Rattle.laws_driver.specs.Carried.Sent.{TellsMore}
-
-one_honest : (call : DriverCall) (a : DriverAnswer call) (c d : RingContents) → RingAllows call a c d → d.honest ≡ c.honest
-one_honest (Stage queue page) a c d allowed = allowed.honest
-one_honest x a c d allowed = allowed.1.honest
-
-pub honest_stays : {A : Type 0} (tree : DriverTree A) (c d : RingContents) (x : A) → Plays tree c x d → d.honest ≡ c.honest
-honest_stays (Done y) c d x plays = ap (λ (r : RingContents). r.honest) (sym plays.1)
-honest_stays (Ask call next) c d x plays =
-    honest_stays (next plays.0) plays.1 d x plays.3 ∙ one_honest call plays.0 c plays.1 plays.2
 
 -- Entries that come behind others.
 packet_later : (entry : Packet → LogEntry) (o : Option Packet) (log : Log) → IsLater log (with_packet entry o log)
@@ -51,20 +43,24 @@ marked_later : (cid : ℕ) (log : Log) → IsLater log (entries_marked cid log)
 marked_later cid [] = ([], refl)
 marked_later cid (entry ∷ log) = (Mark cid ∷ [], refl)
 
-one_later : (call : DriverCall) (a : DriverAnswer call) (c d : RingContents) → RingAllows call a c d → TellsMore c.log d.log
-one_later call a c d = by call a
-  where
-    told : (o : Option EndLog) (R : EndLog → Type 0) (g : EndLog → EndLog) → ((l : EndLog) → IsLater l.entries (g l).entries) → Exposes o d.log R g
-        → TellsMore o d.log
-    told None R g later is = is
-    told (Some l) R g later is = subst (TellsMore (Some l)) (sym is.1) (later l)
+-- What a conversation leaves of a ring.
+abbrev pub GoesOn : RingContents → RingContents → Type 0
+GoesOn c d = (d.honest ≡ c.honest) × (IsSound Driver c → IsSound Driver d) × TellsMore c.log d.log
 
-    by : (call : DriverCall) (a : DriverAnswer call) → RingAllows call a c d → TellsMore c.log d.log
-    by (Stage queue page) a allowed = told c.log _ (log_staged queue page) (λ l. ([], refl)) allowed.log
-    by (Publish queue) a allowed =
-        told c.log _ (log_published queue) (λ l. published_later queue (pages_at queue l.staged) l.entries) allowed.1.log
-    by (Reap queue) a allowed = told c.log _ (log_reaped queue a) (λ l. reaped_later queue a l.entries) allowed.1.log
-    by LoadCid a allowed = told c.log _ (log_loaded a) (λ l. marked_later a l.entries) allowed.1.log
+moved : (call : DriverCall) (a : DriverAnswer call) (L : Rings → Type 0) (f : Rings → Rings) (Q : EndLog → Type 0) (g : EndLog → EndLog)
+    (c d : RingContents) → DriverMoves call a L f Q g c d → ((l : EndLog) → IsLater l.entries (g l).entries) → GoesOn c d
+moved call a L f Q g c d made later = (made.honest, λ was. made.fair, told c.log made.log)
+  where
+    told : (o : Option EndLog) → Exposes o d.log Q g → TellsMore o d.log
+    told None is = is
+    told (Some l) is = subst (TellsMore (Some l)) (sym is.1) (later l)
+
+one_goes : (call : DriverCall) (a : DriverAnswer call) (c d : RingContents) → RingAllows call a c d → GoesOn c d
+one_goes (Stage queue page) a c d allowed = moved _ _ _ _ _ (log_staged queue page) c d allowed (λ l. ([], refl))
+one_goes (Publish queue) a c d allowed =
+    moved _ _ _ _ _ (log_published queue) c d allowed.1 (λ l. published_later queue (pages_at queue l.staged) l.entries)
+one_goes (Reap queue) a c d allowed = moved _ _ _ _ _ (log_reaped queue a) c d allowed.1 (λ l. reaped_later queue a l.entries)
+one_goes LoadCid a c d allowed = moved _ _ _ _ _ (log_loaded a) c d allowed.1 (λ l. marked_later a l.entries)
 
 more_then : (a b c : Option EndLog) → TellsMore a b → TellsMore b c → TellsMore a c
 more_then None None c first next = next
@@ -77,7 +73,24 @@ same_more : (o : Option EndLog) → TellsMore o o
 same_more None = refl
 same_more (Some l) = ([], refl)
 
-pub log_grows : {A : Type 0} (tree : DriverTree A) (c d : RingContents) (x : A) → Plays tree c x d → TellsMore c.log d.log
-log_grows (Done y) c d x plays = subst (λ (r : RingContents). TellsMore c.log r.log) plays.1 (same_more c.log)
-log_grows (Ask call next) c d x plays =
-    more_then c.log plays.1.log d.log (one_later call plays.0 c plays.1 plays.2) (log_grows (next plays.0) plays.1 d x plays.3)
+pub goes_on : {A : Type 0} (tree : DriverTree A) (c d : RingContents) (x : A) → Plays tree c x d → GoesOn c d
+goes_on (Done y) c d x plays = subst (GoesOn c) plays.1 (refl, λ sound. sound, same_more c.log)
+goes_on (Ask call next) c d x plays =
+    let first = one_goes call plays.0 c plays.1 plays.2 in
+    let rest = goes_on (next plays.0) plays.1 d x plays.3 in
+    (rest.0 ∙ first.0, λ sound. rest.1 (first.1 sound), more_then c.log plays.1.log d.log first.2 rest.2)
+
+pub honest_stays : {A : Type 0} (tree : DriverTree A) (c d : RingContents) (x : A) → Plays tree c x d → d.honest ≡ c.honest
+honest_stays tree c d x plays = (goes_on tree c d x plays).0
+
+-- Nothing more is put on a connection after the SHUTDOWN that says 'no more is sent', by no call.
+later_by : (old : EndLog) (o p : Option EndLog) (m : EndLog) → o ≡ Some old → p ≡ Some m → TellsMore o p → IsLater old.entries m.entries
+later_by old o p m is told more =
+    let P : Option EndLog → Type 0 = λ q. TellsMore q p in
+    let Q : Option EndLog → Type 0 = λ q. TellsMore (Some old) q in
+    subst Q told (subst P is more)
+
+pub shut_still : {A : Type 0} (tree : DriverTree A) (c d : RingContents) (x : A) → IsSound Driver c → Plays tree c x d → c.honest ≡ true
+    → ForSome c.log (λ l. ForSome d.log (λ m. StaysShut Driver l.entries m.entries))
+shut_still tree c d x sound plays = λ on l is m told. let went = goes_on tree c d x plays in
+    stays_shut Driver l.entries m.entries (later_by l c.log d.log m is told went.2) (went.1 sound (went.0 ∙ on) m told)

@@ -7,13 +7,13 @@ use Rattle.vs_driver_parts.specs.{Conversations.{DriverTree, poll_of}, Playing.P
 use Rattle.laws_driver.specs.Honest.{IsHonestWith, slots_of}
 use Rattle.laws_driver.specs.Carried.Calls.{GuestCall, Journal, ReplyTo, account_of, is_right, makes_call, received_by, whole_call, with_call}
 use Rattle.laws_driver.specs.Carried.{Received.Account, Received.AreReceived, Senders.GoesRightWith, Senders.IsRightWith, Sent.TellsMore}
-use Rattle.laws_driver.proofs.Carried.{Ending.poll_ends, Growing.{honest_stays, log_grows}, Journaling.{Carried, journaled, sent_just}, Making.{further_as, made_with, whole_with}}
+use Rattle.laws_driver.proofs.Carried.{Ending.poll_ends, Growing.{goes_on, honest_stays}, Journaling.{Carried, journaled, sent_just}, Making.{further_as, made_with, whole_with}}
 use Rattle.laws_driver.proofs.Carried.{Senders.{Says, call_says, sent_more, step_says, still_sent}, Sending.poll_sent}
 
 -- A log that is told after a conversation was told before it.
 pub told_before : {A : Type 0} (tree : DriverTree A) (c d : RingContents) (x : A) → Plays tree c x d → (m : EndLog) → d.log ≡ Some m
     → (l : EndLog) × (c.log ≡ Some l)
-told_before tree c d x plays m is = by c.log refl (log_grows tree c d x plays)
+told_before tree c d x plays m is = by c.log refl (goes_on tree c d x plays).2
   where
     by : (o : Option EndLog) → c.log ≡ o → TellsMore o d.log → (l : EndLog) × (c.log ≡ Some l)
     by None log more = let e : None ≡ Some m = sym more ∙ is in absurd cc
