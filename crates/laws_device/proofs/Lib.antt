@@ -18,7 +18,7 @@ pub mod Transmitting
 pub mod Turning
 pub mod Stepping
 pub mod Packets
-pub mod Growing
+pub mod Logs
 pub mod Waiting
 pub mod Walk
 pub mod Named

@@ -15,7 +15,7 @@ use Rattle.laws_settled.specs.{Hosts.IsHosts, Settled.IsSteady}
 use Rattle.laws_settled.proofs.{Asked.turn_asks, Exact.exact_turns, Hosted.turn_hosts, Shutting.turn_shuts}
 use Rattle.laws_tables.specs.Asked.{AskOnce}
 use Rattle.laws_tables.proofs.Asking.{begins_once}
-use Rattle.laws_device.{specs.Honest.ends_of_state, proofs.Growing.over_runs, proofs.Packets.joined}
+use Rattle.laws_device.{specs.Honest.ends_of_state, proofs.Logs.over_runs, proofs.Packets.joined}
 
 pub new_steady : (base : List ℕ) (a : Situation) (l : EndLog) → a.ring.log ≡ Some l → l.entries ≡ [] → l.held ≡ [] → IsSteady (new_proxy FIRST_CID base) a
 new_steady base a l told silent none = record {

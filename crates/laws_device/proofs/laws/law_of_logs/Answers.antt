@@ -1,4 +1,4 @@
-use Rattle.laws_device.proofs.Growing.{goes_on, shut_still}
+use Rattle.laws_device.proofs.Logs.{goes_on, shut_still}
 use Rattle.laws_device.proofs.laws.law_of_logs.Goals as goal
 
 pub returns-clause-grows : goal.returns-clause-grows
