@@ -356,6 +356,7 @@ pub fn counterexamples()
     ensures mark_ignored { after_packet Device [] guest_mark guest_flow true (refused guest_flow Stream no_ends) ≡ refused guest_flow Stream
         no_ends }
     ensures mark_not_open { is_open Device guest_cid guest_flow log_of_mark (is_among guest_flow (replied after_two.replies)) ≡ false }
+    ensures unput_may { MayRun unput (start guest_cid 1024 ASSIGNED_FIRST) }
     // A packet that comes after a marked RST and before the next REQUEST meets an end that is to ask, which then counts as begun.
     ensures early_begun { is_among assigned_flow (begun_flows spoiled.entries) ≡ true }
     ensures early_not_open { is_open Device guest_cid assigned_flow log_of_early false ≡ false }
