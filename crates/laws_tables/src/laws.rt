@@ -14,7 +14,8 @@ ghost use Rattle.vs_limits.specs.declared.TheConstants.{ASSIGNED_FIRST, HOST_CID
 ghost use Rattle.laws_history.specs.{Again.IsClean, History.Asker, History.Got, History.Put, History.gots, History.puts};
 ghost use Rattle.laws_history.specs.{Packets.is_clean_rst, Packets.is_request, Packets.is_rst, declared.packet.Packet.Packet};
 ghost use Rattle.laws_tables.specs.{Asked.AskOnce, Asked.Does, Matches.IsAsking, Matches.Matches, Quiet.IsQuietOn, Both.Both};
-ghost use Rattle.laws_tables.specs.Both.{Happening, IsSound, MayRun, Seat, Step, after, after_packet, at, new_seat, run, start};
+ghost use Rattle.laws_tables.specs.Both.{Happening, IsSound, MayRun, MayStep, MayStepAll, Seat, Step, after, after_all, after_packet, at};
+ghost use Rattle.laws_tables.specs.Both.{new_seat, run, start};
 ghost use Rattle.laws_tables.specs.Examples.{guest_mark, log_of_early, log_of_mark, no_ends, spoiled, after_two, asking_end, closing, guest_cid};
 ghost use Rattle.laws_tables.specs.Examples.{guest_flow, heard_on, host_end, assigned_flow, kept_falsely, live_end, log_of_false_mark};
 ghost use Rattle.laws_tables.specs.Examples.{log_of_return, log_of_two, log_over_reset, log_with_drop, lost_response, new_cid, opening};
@@ -135,6 +136,20 @@ pub fn law_of_order()
     ensures older { (role : Role) (entry : LogEntry) (log : Log) → IsOrderedLog role (entry ∷ log) → IsOrderedLog role log }
     ensures fair { (role : Role) (log : Log) → IsFairLog role log → IsOrderedLog role log }
     ensures once { (role : Role) (log : Log) → AsksOnceLog role log → IsOrderedLog role log }
+/// One seat by itself, over any ring that tells its log, whatever the peer puts: that the log is fair isn't asked. A step keeps it matching
+/// its log where packets come in order. So from a new seat on, over a log in which each flow's first packet is its only REQUEST, the flows
+/// of the table are those that the log left open, less those to which an RST is owed as a reply, and those whose REQUEST isn't put yet.
+pub fn law_of_one_seat()
+    ensures keeps { (role : Role) (first : ℕ) (step : Step) (w : Seat) → MayStep role step w → Matches role first w.part w.log
+        → let v = after role step w in IsOrderedLog role v.log → Matches role first v.part v.log }
+    ensures matches { (role : Role) (first port : ℕ) (steps : List Step) → MayStepAll role steps (new_seat first port)
+        → let w = after_all role steps (new_seat first port) in AsksOnceLog role w.log → Matches role first w.part w.log }
+    ensures table { (role : Role) (first port : ℕ) (steps : List Step) (f : Flow) → MayStepAll role steps (new_seat first port)
+        → let w = after_all role steps (new_seat first port) in AsksOnceLog role w.log
+        → is_among f (flows_of w.part.entries)
+        ≡ (is_open role first f w.log (is_among f (replied w.part.replies)) || is_among f (new_flows w.part.entries)) }
+{}
+
 {}
 
 /// What a step on a flow's connection does to the ends of that flow and of others.
