@@ -12,7 +12,7 @@ use Rattle.laws_rest.proofs.Routes.{new_routed}
 use Rattle.laws_driver.specs.Carried.Received.{AreReceived, no_account}
 use Rattle.laws_driver.proofs.Carried.Connecting.{none_received}
 use Rattle.vs_apps_parts.specs.{Scripts.IsPlayed, Scripts.RunScript, Scripts.acts_of, declared.progress.AppState.AppState}
-use Rattle.laws_apps.proofs.{Asked.new_asks, Placing.new_placed, Tracing.new_traced}
+use Rattle.laws_apps.proofs.{Answering.new_answered, Asked.new_asks, Placing.new_placed, Tracing.new_traced}
 use Rattle.laws_driver.specs.Carried.Senders.{IsSent}
 use Rattle.laws_apps.specs.{Accounts.IsAccounted, Runs.IsRunOf, Runs.no_app}
 
@@ -47,6 +47,7 @@ begins_run size port c d s script apps fits fresh plays as_many begun = record {
     asks = new_asks size port 1 c d s fits fresh plays;
     places = new_placed (length script) size port c d s fits fresh plays;
     traced = new_traced size port c d s fits fresh plays;
+    given = new_answered size port c d s fits fresh plays;
   };
   follows = λ k below. subst (λ (x : AppState). IsPlayed (acts_of k script) [] x.progress) (sym (begun k)) ([], refl, refl);
   waits = λ k below. ap (λ (x : AppState). x.waiting) (begun k);
