@@ -42,6 +42,7 @@ struct Device {
 }
 
 impl Driver {
+    #[inline(always)]
     fn post(&mut self, page: Page) {
         let slot = self.free.pop().unwrap();
         let place = self.offered as usize % self.shared.size;
@@ -56,6 +57,7 @@ impl Driver {
         }
     }
 
+    #[inline(always)]
     fn reap(&mut self) -> Option<Page> {
         if self.shared.used_index.0.load(Ordering::Acquire) == self.taken {
             return None;
@@ -69,6 +71,7 @@ impl Driver {
 }
 
 impl Device {
+    #[inline(always)]
     fn take(&mut self) -> Option<(u16, Page)> {
         if self.shared.available_index.0.load(Ordering::Acquire) == self.taken {
             return None;
@@ -80,6 +83,7 @@ impl Device {
         page.map(|page| (slot, page))
     }
 
+    #[inline(always)]
     fn give(&mut self, slot: u16, page: Page) {
         let element = (page.used as u64) << 32 | slot as u64;
         self.shared.used[self.given as usize % self.shared.size].store(element, Ordering::Relaxed);
@@ -89,7 +93,8 @@ impl Device {
     }
 }
 
-fn opened(size: usize, batch: u16) -> (Driver, Device) {
+/// Both ends, with all pages posted once `fill` has written into each what its number says.
+fn opened(size: usize, batch: u16, fill: fn(&mut Page, u32)) -> (Driver, Device) {
     let shared = Arc::new(Shared {
         size,
         descriptors: (0..size).map(|_| AtomicU64::new(0)).collect(),
@@ -107,11 +112,13 @@ fn opened(size: usize, batch: u16) -> (Driver, Device) {
         batch,
         taken: 0,
     };
-    for _ in 0..size {
-        driver.post(Page {
+    for number in 0..size as u32 {
+        let mut page = Page {
             bytes: Box::new([0; 4096]),
             used: 0,
-        });
+        };
+        fill(&mut page, number);
+        driver.post(page);
     }
     (
         driver,
@@ -133,6 +140,7 @@ fn serve_one(device: &mut Device, number: u32) -> bool {
     true
 }
 
+#[inline(always)]
 fn reap_one(driver: &mut Driver, number: u32) -> Option<bool> {
     let mut page = driver.reap()?;
     let right = page.used == 4 && page.bytes[..4] == number.to_le_bytes();
@@ -142,7 +150,7 @@ fn reap_one(driver: &mut Driver, number: u32) -> Option<bool> {
 }
 
 fn one(size: usize, batch: u16, count: u32) -> (u32, u128) {
-    let (mut driver, mut device) = opened(size, batch);
+    let (mut driver, mut device) = opened(size, batch, |_, _| ());
     let start = Instant::now();
     let mut right = 0;
     for number in 0..count {
@@ -153,7 +161,7 @@ fn one(size: usize, batch: u16, count: u32) -> (u32, u128) {
 }
 
 fn two(size: usize, batch: u16, count: u32) -> (u32, u128) {
-    let (mut driver, mut device) = opened(size, batch);
+    let (mut driver, mut device) = opened(size, batch, |_, _| ());
     let start = Instant::now();
     let right = std::thread::scope(|scope| {
         scope.spawn(move || {
@@ -181,19 +189,136 @@ fn two(size: usize, batch: u16, count: u32) -> (u32, u128) {
     (right, start.elapsed().as_millis())
 }
 
-/// The rows of one thread, and then those of two, unless the argument `one` is given.
+/// A packet's header, 44 bytes on the wire.
+#[derive(PartialEq, Eq)]
+struct Header {
+    cids: [u64; 2],
+    ports_and_len: [u32; 3],
+    kind_and_op: [u16; 2],
+    flags_and_credit: [u32; 3],
+}
+
+/// That of the packet of a number: the first is the REQUEST's, the others are RSTs.
+fn numbered(number: u32) -> Header {
+    let (op, buf_alloc) = if number == 0 { (1, 65536) } else { (3, number) };
+    Header {
+        cids: [3, 2],
+        ports_and_len: [1024, 52, 0],
+        kind_and_op: [1, op],
+        flags_and_credit: [0, buf_alloc, 0],
+    }
+}
+
+fn put_packet(page: &mut Page, number: u32) {
+    let header = numbered(number);
+    for (at, field) in header.cids.iter().enumerate() {
+        page.bytes[8 * at..8 * at + 8].copy_from_slice(&field.to_le_bytes());
+    }
+    for (at, field) in header.ports_and_len.iter().enumerate() {
+        page.bytes[16 + 4 * at..20 + 4 * at].copy_from_slice(&field.to_le_bytes());
+    }
+    for (at, field) in header.kind_and_op.iter().enumerate() {
+        page.bytes[28 + 2 * at..30 + 2 * at].copy_from_slice(&field.to_le_bytes());
+    }
+    for (at, field) in header.flags_and_credit.iter().enumerate() {
+        page.bytes[32 + 4 * at..36 + 4 * at].copy_from_slice(&field.to_le_bytes());
+    }
+    page.used = 44;
+}
+
+fn decoded(bytes: &[u8; 44]) -> Header {
+    let long = |at: usize| u64::from_le_bytes(bytes[at..at + 8].try_into().unwrap());
+    let word = |at: usize| u32::from_le_bytes(bytes[at..at + 4].try_into().unwrap());
+    let short = |at: usize| u16::from_le_bytes(bytes[at..at + 2].try_into().unwrap());
+    Header {
+        cids: [long(0), long(8)],
+        ports_and_len: [word(16), word(20), word(24)],
+        kind_and_op: [short(28), short(30)],
+        flags_and_credit: [word(32), word(36), word(40)],
+    }
+}
+
+#[inline(always)]
+fn receive_one(device: &mut Device, number: u32) -> Option<bool> {
+    let (slot, mut page) = device.take()?;
+    let mut bytes = [0; 44];
+    bytes.copy_from_slice(&page.bytes[..44]);
+    page.used = 0;
+    device.give(slot, page);
+    Some(decoded(&bytes) == numbered(number))
+}
+
+#[inline(always)]
+fn send_one(driver: &mut Driver, number: u32) -> bool {
+    let Some(mut page) = driver.reap() else {
+        return false;
+    };
+    put_packet(&mut page, number);
+    driver.post(page);
+    true
+}
+
+fn transmit_one(size: usize, count: u32) -> (u32, u128) {
+    let (mut driver, mut device) = opened(size, 1, put_packet);
+    let start = Instant::now();
+    let mut right = 0;
+    for number in 0..count {
+        right += receive_one(&mut device, number).unwrap_or(false) as u32;
+        send_one(&mut driver, size as u32 + number);
+    }
+    (right, start.elapsed().as_millis())
+}
+
+fn transmit_two(size: usize, count: u32) -> (u32, u128) {
+    let (mut driver, mut device) = opened(size, 1, put_packet);
+    let start = Instant::now();
+    let right = std::thread::scope(|scope| {
+        scope.spawn(move || {
+            let mut number = size as u32;
+            while number < count {
+                if send_one(&mut driver, number) {
+                    number += 1;
+                } else {
+                    std::hint::spin_loop();
+                }
+            }
+        });
+        let (mut number, mut right) = (0, 0);
+        while number < count {
+            match receive_one(&mut device, number) {
+                Some(is) => {
+                    right += is as u32;
+                    number += 1;
+                }
+                None => std::hint::spin_loop(),
+            }
+        }
+        right
+    });
+    (right, start.elapsed().as_millis())
+}
+
+/// The rows of one thread, and then those of two, unless the argument `one` is given; of events, or with `transmit` of packets.
 fn main() {
     let count = 1_000_000;
-    let rows = [(8, 1), (256, 1), (256, 16)];
-    for (size, batch) in rows {
-        let (right, took) = one(size, batch, count);
-        println!("one {size} {batch} {right} {took}");
-    }
-    if std::env::args().any(|word| word == "one") {
-        return;
-    }
-    for (size, batch) in rows {
-        let (right, took) = two(size, batch, count);
-        println!("two {size} {batch} {right} {took}");
+    let has = |given: &str| std::env::args().any(|word| word == given);
+    type Row = fn(usize, u16, u32) -> (u32, u128);
+    let (name, rows, ways): (_, &[(usize, u16)], [Row; 2]) = if has("transmit") {
+        let ways: [Row; 2] = [
+            |size, _, count| transmit_one(size, count),
+            |size, _, count| transmit_two(size, count),
+        ];
+        ("transmit", &[(8, 1), (256, 1)], ways)
+    } else {
+        ("event", &[(8, 1), (256, 1), (256, 16)], [one, two])
+    };
+    for (threads, run) in ["one", "two"].iter().zip(ways) {
+        for &(size, batch) in rows {
+            let (right, took) = run(size, batch, count);
+            println!("{name} {threads} {size} {batch} {right} {took}");
+        }
+        if has("one") {
+            return;
+        }
     }
 }

@@ -7,7 +7,7 @@ use Rattle.vs_driver_parts.specs.{State.DriverState, declared.answers.Polled.Pol
 use Rattle.laws_driver.proofs.Calls.{poll_honest}
 use Rattle.laws_rest.proofs.Routes.{poll_routed}
 use Rattle.laws_driver.specs.Carried.Calls.{GuestCall, Journal, Made, ReplyTo, Unlisten, bytes_received, flow_accepted, flow_opened, with_call}
-use Rattle.laws_apps.specs.Placed.{AreOwned, ArePlaced, HasItsFlow, IsSome, NamesFlow, accepted_as, asked_as}
+use Rattle.laws_apps.specs.Placed.{AreOwned, ArePlaced, HasItsFlow, IsAsked, IsClients, IsTo, NamesFlow, accepted_as, asked_as, given_by, was_given}
 use Rattle.vs_flow.specs.declared.flow.Flow.{Flow}
 use Rattle.vs_driver_parts.specs.{Connections.flow_of, declared.answers.Accepted.Accepted, declared.answers.ConnectError.ConnectError}
 use Rattle.vs_driver_parts.specs.declared.answers.Accepted.TheVariants as accepted
@@ -21,11 +21,11 @@ use Rattle.vs_apps_parts.specs.declared.progress.Stepped.TheVariants as stepped
 use Rattle.vs_apps_parts.specs.declared.told.Told.TheVariants as says
 use Rattle.laws_apps.specs.{Accounts.IsAccounted, Runs.IsKept, Runs.IsRunOf, Runs.MakesCall, Runs.MakesCalls, Runs.Moves, Runs.NotesCall}
 use Rattle.laws_apps.specs.Runs.{CallsNext, HasFlow, PollsTo, Run, Steps, Waits, app_at, journal_of, journal_of_app, moved_state, no_app}
-use Rattle.laws_apps.specs.Traces.{IsTracedWith, is_given}
-use Rattle.laws_apps.proofs.{Giving.{AreApps, app_given, conn_given, given_noted, next_apps}, Tracing.{IsApps, call_traced, poll_traced}}
+use Rattle.laws_apps.specs.{Given.AreGivenWith, Traces.IsTracedWith}
+use Rattle.laws_apps.proofs.{Answering.{NamesIt, call_answered, call_named, poll_answered}, Giving.{AreApps, next_apps}, Named.{app_did, conn_given, still_did}, Tracing.{IsApps, call_traced, poll_traced}}
 use Rattle.laws_apps.proofs.Waiting.{called_waits, moved_waits, wait_waits, waited_waits, waits_noted}
 use Rattle.laws_apps.proofs.Calling.{call_accounted, call_honest, call_routed, entry_accounted, poll_accounted, told_accounted}
-use Rattle.laws_apps.proofs.{Asked.call_asks, Asked.poll_asks, Placing.{IsOfApps, NamesIt, call_placed, poll_placed}, Noting.call_noted, Noting.same_accounted}
+use Rattle.laws_apps.proofs.{Asked.call_asks, Asked.poll_asks, Placing.{IsOfApps, call_placed, poll_placed}, Noting.call_noted, Noting.same_accounted}
 use Rattle.laws_apps.proofs.Entries.{SameCalls, app_calls_stay, called_owned, called_stand, calls_stay, gathered_snoc, more_stand, wait_same}
 
 either : {A : Type 0} (b : Bool) (x : A) → x ≡ cond b x x
@@ -127,20 +127,24 @@ of_apps : (script : RunScript) (k : ℕ) (call : GuestCall) (reply : ReplyTo cal
 of_apps script k (Unlisten port) reply old new notes = subst (λ (m : Made). IsOfApps m.call) notes.1 (called_apps script new.bytes k notes.0)
 of_apps script k call reply old new notes = tt
 
-flow_named : (given : Option ℕ) (flow opened : Option Flow) → flow ≡ opened → ((id : ℕ) → given ≡ Some id → IsSome opened) → HasItsFlow given flow
-flow_named None flow opened is some = tt
-flow_named (Some id) flow opened is some = subst IsSome (sym is) (some id refl)
+flow_named : (P : Flow → Type 0) (given : Option ℕ) (flow opened : Option Flow) → flow ≡ opened → ((id : ℕ) → given ≡ Some id → IsTo P opened) → HasItsFlow P given flow
+flow_named P None flow opened is some = tt
+flow_named P (Some id) flow opened is some = subst (IsTo P) (sym is) (some id refl)
 
 names_flow : (script : RunScript) (bytes : List ℕ) (k : ℕ) (c : Called) (s : DriverState) → HasFlow c s
     → (let m = made_of script bytes k c in NamesIt m.call m.reply s) → NamesFlow c
-names_flow script bytes k (called.Connect port answer flow) s has named = flow_named (asked_as answer) flow (flow_opened answer s) has (opened answer named)
+names_flow script bytes k (called.Connect port answer flow) s has named =
+    flow_named (IsAsked port) (asked_as answer) flow (flow_opened answer s) has (opened answer named)
   where
-    opened : (r : Result ℕ ConnectError) → ((id : ℕ) → asked_as r ≡ Some id → IsSome (flow_of id s)) → (id : ℕ) → asked_as r ≡ Some id → IsSome (flow_opened r s)
+    opened : (r : Result ℕ ConnectError) → ((id : ℕ) → asked_as r ≡ Some id → IsTo (IsAsked port) (flow_of id s)) → (id : ℕ) → asked_as r ≡ Some id
+        → IsTo (IsAsked port) (flow_opened r s)
     opened (Ok n) some id is = some n refl
     opened (Err why) some id is = absurd cc
-names_flow script bytes k (called.Accept port answer flow) s has named = flow_named (accepted_as answer) flow (flow_accepted answer s) has (taken answer named)
+names_flow script bytes k (called.Accept port answer flow) s has named =
+    flow_named (IsClients port) (accepted_as answer) flow (flow_accepted answer s) has (taken answer named)
   where
-    taken : (r : Accepted) → ((id : ℕ) → accepted_as r ≡ Some id → IsSome (flow_of id s)) → (id : ℕ) → accepted_as r ≡ Some id → IsSome (flow_accepted r s)
+    taken : (r : Accepted) → ((id : ℕ) → accepted_as r ≡ Some id → IsTo (IsClients port) (flow_of id s)) → (id : ℕ) → accepted_as r ≡ Some id
+        → IsTo (IsClients port) (flow_accepted r s)
     taken (accepted.Conn n) some id is = some n refl
     taken accepted.None some id is = absurd cc
     taken accepted.NotListening some id is = absurd cc
@@ -154,7 +158,7 @@ owned_after script k m old new None less notes named owned =
     (names_flow script new.bytes k notes.0 new.driver notes.5 (subst (λ (x : Made). NamesIt x.call x.reply new.driver) (sym notes.1) named)))
 
 module _ (first : ℕ) (script : RunScript) (k : ℕ) (less : k < length script) where
-  call_keeps : (n : ℕ) (m : Made) (old new : Run) → IsApps n m.call → (n ≡ 0) ⊎ (is_given n (journal_of script old) ≡ true) → MakesCall script k m old new
+  call_keeps : (n : ℕ) (m : Made) (old new : Run) → IsApps n m.call → (n ≡ 0) ⊎ (was_given n (journal_of script old) ≡ true) → MakesCall script k m old new
       → IsKept first script old → IsKept first script new
   call_keeps n m old new apps names makes kept =
       let x : DriverState × ReplyTo m.call = (new.driver, m.reply) in
@@ -163,12 +167,12 @@ module _ (first : ℕ) (script : RunScript) (k : ℕ) (less : k < length script)
       kept.accounted in
       let noted = same_accounted 1 (with_call m.call old.driver m.reply all) (with_noted (made_as m.call m.reply ∷ []) all) old.entries new.driver new.ring
       (call_noted old.driver all m.call old.ring new.ring x makes.plays) given in
+      let journals : with_noted (made_as m.call m.reply ∷ []) all ≡ journal_of script new =
+      ap (λ (y : Made). with_noted (y ∷ []) all) (sym makes.plain) ∙ calls_after script k m old new kept.stands (wait_of (told_of m)) refl makes.notes in
       record {
         routed = call_routed first m.call old.driver old.ring new.ring x makes.right kept.honest kept.routed makes.plays;
         honest = call_honest first m.call old.driver old.ring new.ring x makes.right kept.honest makes.plays;
-        accounted = subst (λ (js : Journal). IsAccounted 1 js new.entries new.driver new.ring)
-            (ap (λ (y : Made). with_noted (y ∷ []) all) (sym makes.plain)
-            ∙ calls_after script k m old new kept.stands (wait_of (told_of m)) refl makes.notes)
+        accounted = subst (λ (js : Journal). IsAccounted 1 js new.entries new.driver new.ring) journals
             (flows_after script k m old new (with_noted (made_as m.call m.reply ∷ []) all) (wait_of (told_of m)) makes.notes noted);
         stands = stand_after script k m old new kept.stands (wait_of (told_of m)) makes.notes;
         asks = call_asks first old.driver old.ring new.ring kept.honest kept.asks m.call x makes.right makes.plays;
@@ -176,14 +180,16 @@ module _ (first : ℕ) (script : RunScript) (k : ℕ) (less : k < length script)
             let now = call_placed first (length script) all old.entries old.driver old.ring new.ring kept.honest kept.places m.call x
             (of_apps script k m.call m.reply old new (subst (λ (y : Made). NotesCall script k y (wait_of (told_of y)) old new) makes.plain makes.notes))
             makes.right makes.plays on l is in (
-              subst (λ (js : Journal). ArePlaced js new.driver) (ap (λ (y : Made). with_noted (y ∷ []) all) (sym makes.plain)
-                  ∙ calls_after script k m old new kept.stands (wait_of (told_of m)) refl makes.notes) now.0,
-              owned_after script k m old new (wait_of (told_of m)) less makes.notes now.1 now.2,
+              subst (λ (js : Journal). ArePlaced js new.driver) journals now.0,
+              owned_after script k m old new (wait_of (told_of m)) less makes.notes
+                  (call_named first all old.driver old.ring new.ring kept.honest kept.given (length script) old.entries kept.places m.call x makes.plays on l is now.1) now.2,
             );
-        traced = subst (λ (js : Journal). IsTracedWith js new.driver new.ring)
-            (ap (λ (y : Made). with_noted (y ∷ []) all) (sym makes.plain) ∙ calls_after script k m old new kept.stands (wait_of (told_of m)) refl makes.notes)
-            (call_traced first n old.driver old.ring new.ring all kept.honest (λ on l is. (kept.accounted on l is).1.right.received.numbers) kept.traced names m.call x
+        traced = subst (λ (js : Journal). IsTracedWith js new.driver new.ring) journals
+            (call_traced first n old.driver old.ring new.ring all kept.honest (λ on l is. (kept.accounted on l is).1.right.received.numbers) kept.traced kept.given names m.call x
             makes.right apps makes.plays);
+        given = subst (λ (js : Journal). AreGivenWith js new.driver new.ring) journals
+            (call_answered first all old.driver old.ring new.ring kept.honest kept.given m.call x
+            (of_apps script k m.call m.reply old new (subst (λ (y : Made). NotesCall script k y (wait_of (told_of y)) old new) makes.plain makes.notes)) makes.right makes.plays);
       }
 
   -- What calls one after another leave.
@@ -203,14 +209,14 @@ module _ (first : ℕ) (script : RunScript) (k : ℕ) (less : k < length script)
   join_waits true m ms mid old is = ap (λ (o : Option ℕ). waits_noted ms o) is
   join_waits false m ms mid old is = is
 
-  still_given : (n : ℕ) (m : Made) (old mid : Run) → IsKept first script old → MakesCall script k m old mid → (n ≡ 0) ⊎ (is_given n (journal_of script old) ≡ true)
-      → (n ≡ 0) ⊎ (is_given n (journal_of script mid) ≡ true)
+  still_given : (n : ℕ) (m : Made) (old mid : Run) → IsKept first script old → MakesCall script k m old mid → (n ≡ 0) ⊎ (was_given n (journal_of script old) ≡ true)
+      → (n ≡ 0) ⊎ (was_given n (journal_of script mid) ≡ true)
   still_given n m old mid kept makes (inl none) = inl none
   still_given n m old mid kept makes (inr given) =
-      inr (subst (λ (js : Journal). is_given n js ≡ true) (calls_after script k m old mid kept.stands (wait_of (told_of m)) refl makes.notes)
-      (given_noted n m (journal_of script old) given))
+      inr (subst (λ (js : Journal). was_given n js ≡ true) (calls_after script k m old mid kept.stands (wait_of (told_of m)) refl makes.notes)
+      (still_did given_by n (m ∷ []) (journal_of script old) given))
 
-  calls_leave : (n : ℕ) (made : List Made) (old new : Run) → AreApps n (calls_in made) → (n ≡ 0) ⊎ (is_given n (journal_of script old) ≡ true)
+  calls_leave : (n : ℕ) (made : List Made) (old new : Run) → AreApps n (calls_in made) → (n ≡ 0) ⊎ (was_given n (journal_of script old) ≡ true)
       → MakesCalls script k made old new → IsKept first script old → Leaves made old new
   calls_leave n [] old new apps names makes kept = subst (λ (r : Run). Leaves [] old r) (sym makes) (record {
     kept = kept;
@@ -275,15 +281,15 @@ module _ (first : ℕ) (script : RunScript) (k : ℕ) (mid new : Run) (less : k 
   apps_next : (calls : CallsNext script k mid) → AreApps (id_of (app_at k mid).progress) (calls_in calls.made)
   apps_next calls = subst (AreApps (id_of (app_at k mid).progress)) (sym calls.calls) (next_apps calls.act (app_at k mid).progress)
 
-  own_given : (id_of (app_at k mid).progress ≡ 0) ⊎ (is_given (id_of (app_at k mid).progress) (journal_of script mid) ≡ true)
+  own_given : (id_of (app_at k mid).progress ≡ 0) ⊎ (was_given (id_of (app_at k mid).progress) (journal_of script mid) ≡ true)
   own_given = by (app_at k mid).progress.conn refl
     where
-      by : (o : Option ℕ) → (app_at k mid).progress.conn ≡ o → (unwrap_or o 0 ≡ 0) ⊎ (is_given (unwrap_or o 0) (journal_of script mid) ≡ true)
+      by : (o : Option ℕ) → (app_at k mid).progress.conn ≡ o → (unwrap_or o 0 ≡ 0) ⊎ (was_given (unwrap_or o 0) (journal_of script mid) ≡ true)
       by None at = inl refl
       by (Some id) at =
           let played = run.follows k less in
-          inr (app_given id k script mid.bytes mid.entries (ap (λ (js : Journal). is_given id js) (sym played.2)
-          ∙ conn_given (acts_of k script) played.0 (app_at k mid).progress played.1 id at))
+          inr (app_did given_by id script mid.bytes k mid.entries (ap (λ (js : Journal). was_given id js) (sym played.2)
+          ∙ conn_given id (acts_of k script) played.0 (app_at k mid).progress played.1 at))
 
   moves_keep : Moves script k mid new → IsRunOf first script new
   moves_keep m = subst (λ (r : Run). IsRunOf first script r) (sym m.moves) (record {
@@ -296,6 +302,7 @@ module _ (first : ℕ) (script : RunScript) (k : ℕ) (mid new : Run) (less : k 
       asks = left.kept.asks;
       places = left.kept.places;
       traced = left.kept.traced;
+      given = left.kept.given;
     };
     follows = λ j below. subst (λ (x : AppState). Played j (journal_of_app j script over) x.progress) (sym (app_is over state j left.apps))
         (subst (λ (js : Journal). Played j js (cond (k == j) state (app_at j mid)).progress) (sym (left.journals j)) (goes j (k == j) refl below));
@@ -349,6 +356,7 @@ module _ (first : ℕ) (script : RunScript) (k : ℕ) (mid new : Run) (less : k 
       places = λ on l is. let was = left.kept.places on l is in
           (subst (λ (js : Journal). ArePlaced js over.driver) (sym same.calls) was.0, same.owned (length script) less was.1);
       traced = subst (λ (js : Journal). IsTracedWith js over.driver over.ring) (sym same.calls) left.kept.traced;
+      given = subst (λ (js : Journal). AreGivenWith js over.driver over.ring) (sym same.calls) left.kept.given;
     };
     follows = λ j below. subst (λ (js : Journal). Played j js (slice_index_or (slice_set over.apps k state) j no_app).progress)
         (sym (same.app j ∙ left.journals j ∙ stays (k == j) (journal_of_app j script mid)))
@@ -403,6 +411,7 @@ module _ (first : ℕ) (script : RunScript) (old : Run) (run : IsRunOf first scr
       asks = poll_asks first old.driver old.ring mid.ring run.kept.honest run.kept.asks (mid.driver, polled) polls.polls;
       places = poll_placed first (length script) (journal_of script old) old.entries old.driver old.ring mid.ring run.kept.honest run.kept.places (mid.driver, polled) polls.polls;
       traced = poll_traced first old.driver old.ring mid.ring (journal_of script old) (mid.driver, polled) run.kept.honest run.kept.traced polls.polls;
+      given = poll_answered first (journal_of script old) old.driver old.ring mid.ring run.kept.honest run.kept.given (mid.driver, polled) polls.polls;
     };
     follows = run.follows;
     waits = run.waits;

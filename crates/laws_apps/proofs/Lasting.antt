@@ -103,7 +103,6 @@ module _ (by : Journal) (next then : ℕ) (es fs : List DriverEntry) (more : nex
 
   pub traced_still : (journal : Journal) → IsTraced by journal next es → IsTraced by journal then fs
   traced_still journal x = record {
-    given = λ id is. let less = x.given id is in omega (arith, less, more);
     touched = λ k d less is. touched (get_or fs k d) (came k d less) is;
     closed = λ k d less is. closed (get_or fs k d) (came k d less) is;
     tell = tell_still journal x.tell;

@@ -5,6 +5,7 @@ use Rattle.std.proofs.lemmas.{Bool.eqb-true}
 use Rattle.std.specs.{List.list_any, Option.unwrap_or}
 use Rattle.vs_script.specs.App.{Act, Connect, Listen, Accept, Send, Recv, Drain, Exchange, Shutdown, Grow, Close}
 use Rattle.vs_script.specs.Data.{size_of}
+use Rattle.vs_apps_parts.specs.{Journals.{calls_of, calls_of_app, made_by, made_by_app}, Scripts.RunScript, declared.journal.Entry.Entry}
 use Rattle.vs_driver_parts.specs.declared.answers.{Accepted.Accepted, Closed.Closed, ConnectError.ConnectError, ConnectionState.ConnectionState, ListenError.ListenError}
 use Rattle.vs_driver_parts.specs.declared.answers.{Received.Received, Sent.Sent}
 use Rattle.vs_driver_parts.specs.declared.answers.Accepted.TheVariants as accepted
@@ -20,7 +21,33 @@ use Rattle.vs_apps_parts.specs.{Scripts.is_complete, Told.{is_any_end, step_wait
 use Rattle.vs_apps_parts.specs.declared.{journal.WaitsFor.WaitsFor, progress.Progress.Progress, told.Told.Told}
 use Rattle.vs_apps_parts.specs.declared.told.Told.TheVariants as told
 use Rattle.laws_apps.specs.Placed.{closed_by, given_by, listened_by, some_did, was_closed, was_given, was_listened}
-use Rattle.laws_apps.proofs.Placed.{or_first, or_second}
+use Rattle.laws_apps.specs.Traces.{id_told}
+use Rattle.laws_apps.proofs.Placed.{one_of, or_first, or_second}
+
+-- What some call of two journals did; and what an app did was done.
+module _ (by : (call : GuestCall) → ReplyTo call → Option ℕ) (m : ℕ) where
+  pub did_append : (a b : Journal) → some_did by m (a ++ b) ≡ (some_did by m a || some_did by m b)
+  did_append [] b = refl
+  did_append (x ∷ a) b = by_first (names m (by x.call x.reply)) (did_append a b)
+    where
+      by_first : (c : Bool) → some_did by m (a ++ b) ≡ (some_did by m a || some_did by m b)
+          → (c || some_did by m (a ++ b)) ≡ ((c || some_did by m a) || some_did by m b)
+      by_first true rest = refl
+      by_first false rest = rest
+
+  pub app_did : (script : RunScript) (bytes : List ℕ) (k : ℕ) (es : List Entry) → some_did by m (calls_of_app k script bytes es) ≡ true
+      → some_did by m (calls_of script bytes es) ≡ true
+  app_did script bytes k [] is = absurd cc
+  app_did script bytes k (e ∷ es) is =
+      did_append (calls_of script bytes es) (made_by script bytes e)
+      ∙ one_of false (some_did by m (calls_of_app k script bytes es)) (some_did by m (made_by_app k script bytes e)) _
+      (sym (did_append (calls_of_app k script bytes es) (made_by_app k script bytes e)) ∙ is) (λ no_way. absurd cc)
+      (λ older. or_first (some_did by m (calls_of script bytes es)) _ (app_did script bytes k es older))
+      (λ now. or_second (some_did by m (calls_of script bytes es)) _ (own (e.app == k) now))
+    where
+      own : (b : Bool) → some_did by m (cond b (made_by script bytes e) []) ≡ true → some_did by m (made_by script bytes e) ≡ true
+      own true so = so
+      own false so = absurd cc
 
 -- Calls that are noted behind others leave what those did.
 module _ (by : (call : GuestCall) → ReplyTo call → Option ℕ) (n : ℕ) where
@@ -55,12 +82,7 @@ module _ (by : (call : GuestCall) → ReplyTo call → Option ℕ) (n : ℕ) whe
         by_rest (inl so) = noted (wait_of (told_of m)) so
         by_rest (inr so) = inr (or_second (test m.call) _ so)
 
--- The id that a reply tells.
-abbrev id_told : Told → Option ℕ
-id_told (told.Asked id) = Some id
-id_told (told.Given id) = Some id
-id_told t = None
-
+-- What tells no id, and what was given where one is told.
 none_connect : (r : Result ℕ ConnectError) (id : ℕ) → id_told (told_connect r) ≡ Some id → given_by (call.Connect 0) r ≡ Some id
 none_connect (Ok n) id is = is
 none_connect (Err (refused.Full slots)) id is = absurd cc

@@ -1,8 +1,8 @@
 -- Calls and polls keep what a journal's calls left of the driver's connections.
 use Rattle.std.proofs.Common.{◌≡◌, ◌≢◌, ℕ, ◌+◌, ◌<◌, ◌≤◌, ◌==◌, ◌&&◌, ◌||◌, nat_le, nat_lt, not, Bool, true, false, cond, List, [], ◌∷◌, ◌++◌, length, take, get_or, find, filter}
 use Rattle.std.proofs.Common.{Contains, Option, Some, None, is_some, Result, Ok, Err, refl, sym, ap, subst, ◌∙◌, arith, slice_get}
-use Rattle.std.proofs.lemmas.{Bool.Decides.nat_tests, Bool.and_parts, Bool.eq-eqb, Bool.eqb-true, Grind.common_steps, List.Elements.{All-contains, filter_passes}, Option.{get_or_from_slice_get, same_Some, slice_get_within}}
-use Rattle.std.specs.{List.All, Option.option_map}
+use Rattle.std.proofs.lemmas.{Bool.Decides.nat_tests, Bool.and_parts, Bool.eq-eqb, Bool.eqb-true, Grind.common_steps, List.Elements.{All-contains, All-head, All-tail, filter_passes}, Option.{get_or_from_slice_get, same_Some, slice_get_within}}
+use Rattle.std.specs.List.{All}
 use Rattle.vs_conn.specs.{End.{ConnectionEnd, answering, asked, grown, is_refused, is_reset, owes_of, paid_of, verdict_of, wanting_credit, with_payload_sent, with_shut}}
 use Rattle.vs_conn.specs.declared.end.{Owed.Owed, State.State, Verdict.Verdict}
 use Rattle.vs_conn.specs.declared.end.Owed.TheVariants as owed
@@ -31,14 +31,14 @@ use Rattle.vs_driver_parts.specs.declared.answers.Grown.TheVariants as rise
 use Rattle.vs_driver_parts.specs.declared.answers.Sent.TheVariants as sent
 use Rattle.vs_driver_parts.proofs.{Ids.HasId, Ids.found_under, Packets.first_under, Packets.others_left, Packets.packet_known, Packets.packet_unknown}
 use Rattle.laws_driver.specs.Honest.{IsFitState, IsFresh, IsHonestWith, ends_of_state}
-use Rattle.laws_driver.proofs.{Calls.new_keeps, Carrying.Carries, Carrying.Fact, Carrying.Holds, Changing.stands_known, Keeping.keeps_end, Polling.poll_keeps, Resetting.first_contained, Resetting.with_cid}
+use Rattle.laws_driver.proofs.{Calls.new_keeps, Carrying.Carries, Carrying.Fact, Changing.stands_known, Keeping.keeps_end, Polling.poll_keeps, Resetting.first_contained, Resetting.with_cid}
 use Rattle.laws_driver.proofs.{Staging.Rests, Tabling.Stands, Tabling.entry_fits, Tabling.has_end, Tabling.leaves, Taking.with_reply_fits}
 use Rattle.laws_driver.specs.Carried.Calls.{Accept, Close, Connect, Grow, GuestCall, Journal, Listen, LookAt, Made, Recv, ReplyTo, Send, Shutdown, Unlisten}
 use Rattle.laws_driver.specs.Carried.Calls.{is_right, whole_call}
 use Rattle.laws_driver.proofs.Carried.{Growing.honest_stays, Making.CarriesCall, Making.whole_with, Sending.begins}
 use Rattle.laws_driver.proofs.Carried.Righting.{told_before}
 use Rattle.vs_apps_parts.specs.{Journals.made_as, Scripts.with_noted, Told.told_of, Told.wait_of, declared.journal.{Entry.Entry, WaitsFor.WaitsFor}}
-use Rattle.laws_apps.specs.Placed.{AreOwned, ArePlaced, ArePlacedWith, IsSome, IsPlacedEntry, IsPlacedValue, closed_by, given_by, stands_closed, stands_unanswered, was_closed, was_given, was_listened}
+use Rattle.laws_apps.specs.Placed.{AreOwned, ArePlaced, ArePlacedWith, IsAsked, IsPlacedEntry, IsPlacedValue, IsTo, asked_as, closed_by, stands_closed, stands_unanswered, was_closed, was_given, was_listened}
 use Rattle.laws_apps.proofs.Placed.{alters, closes_entry, closes_gone, forwarded_stands, gone_less, got_stands, goes_on, leaving, listens, opening, or_first, or_second, StandsOn}
 use Rattle.laws_apps.proofs.Placed.{paid_value, ports_kept, reading, shut_stands, stays_behind, value_goes, waits_kept, waits_less, waits_now}
 
@@ -151,7 +151,7 @@ poll_places first journal = record {
   reset = λ cid s log less fits x. all_placed journal s.table.entries (record s { cid = cid }) refl (with_cid cid s less fits) x;
 }
 
--- A call of an app's is no unlisten. What is noted of it, and the flow of the connection that it was given.
+-- A call of an app's is no unlisten. What is noted of it, and the flow of the connection that it opened.
 abbrev pub IsOfApps : GuestCall → Type 0
 IsOfApps (Unlisten port) = ⊥
 IsOfApps call = Unit {0}
@@ -159,11 +159,12 @@ IsOfApps call = Unit {0}
 abbrev pub noted : (call : GuestCall) → ReplyTo call → Journal → Journal
 noted call reply journal = with_noted (made_as call reply ∷ []) journal
 
-abbrev pub NamesIt : (call : GuestCall) → ReplyTo call → DriverState → Type 0
-NamesIt call reply s = (id : ℕ) → given_by call reply ≡ Some id → IsSome (flow_of id s)
+abbrev pub NamesAsked : (call : GuestCall) → ReplyTo call → DriverState → Type 0
+NamesAsked (Connect port) reply s = (id : ℕ) → asked_as reply ≡ Some id → IsTo (IsAsked port) (flow_of id s)
+NamesAsked call reply s = Unit {0}
 
 abbrev pub places_after : Journal → (call : GuestCall) → ReplyTo call → Fact
-places_after journal call reply part s log = ArePlaced (noted call reply journal) s × NamesIt call reply s
+places_after journal call reply part s log = ArePlaced (noted call reply journal) s × NamesAsked call reply s
 
 module _ (journal : Journal) where
   silent : (call : GuestCall) (reply : ReplyTo call) (s : DriverState) → closed_by call reply ≡ None → ArePlaced journal s → ArePlaced (noted call reply journal) s
@@ -174,19 +175,22 @@ module _ (journal : Journal) where
       by (Some why) = x
 
   -- connect.
-  last_found : (q : DriverEntry → Bool) (es : List DriverEntry) (e : DriverEntry) → q e ≡ true → (flow : Option Flow)
-      → IsSome (elim (find q (es ++ e ∷ [])) [ None ↦ flow | Some y ↦ Some y.flow ])
-  last_found q [] e is flow = by (q e) is
+  last_found : (q : DriverEntry → Bool) (es : List DriverEntry) (e : DriverEntry) → All (λ y. q y ≡ false) es → q e ≡ true → (flow : Option Flow)
+      → elim (find q (es ++ e ∷ [])) as (λ _. Option Flow) [ None ↦ flow | Some y ↦ Some y.flow ] ≡ Some e.flow
+  last_found q [] e none is flow = ap (λ (b : Bool). elim (cond b (Some e) None) as (λ _. Option Flow) [ None ↦ flow | Some y ↦ Some y.flow ]) is
+  last_found q (y ∷ ys) e none is flow =
+      ap (λ (b : Bool). elim (cond b (Some y) (find q (ys ++ e ∷ []))) as (λ _. Option Flow) [ None ↦ flow | Some z ↦ Some z.flow ]) (All-head (λ z. q z ≡ false) y ys none)
+      ∙ last_found q ys e (All-tail (λ z. q z ≡ false) y ys none) is flow
+
+  unknown_yet : (s : DriverState) → IsFitState s → ArePlaced journal s → All (λ y. is_known_as s.next_id y ≡ false) s.table.entries
+  unknown_yet s fits x = λ k d less. by (get_or s.table.entries k d) (x.numbers.slots k d less) (fits.sound.were_given k d less)
     where
-      by : (b : Bool) → b ≡ true → IsSome (elim (cond b (Some e) None) [ None ↦ flow | Some y ↦ Some y.flow ])
-      by true so = tt
-      by false so = absurd cc
-  last_found q (y ∷ ys) e is flow = by (q y) (last_found q ys e is flow)
-    where
-      by : (b : Bool) → IsSome (elim (find q (ys ++ e ∷ [])) [ None ↦ flow | Some z ↦ Some z.flow ])
-          → IsSome (elim (cond b (Some y) (find q (ys ++ e ∷ []))) [ None ↦ flow | Some z ↦ Some z.flow ])
-      by true rest = tt
-      by false rest = rest
+      by : (y : DriverEntry) → y.value.id ≡ 1 + y.slot → y.slot < s.table.given → is_known_as s.next_id y ≡ false
+      by y own under = of (y.value.id == s.next_id) refl
+        where
+          of : (b : Bool) → (y.value.id == s.next_id) ≡ b → (b && not y.value.closed) ≡ false
+          of false other = refl
+          of true same = let is = eqb-true y.value.id s.next_id same in let next = x.numbers.given in absurd (omega (arith, own, under, is, next))
 
   connects : (host : ℕ) (s : DriverState) → ArePlaced journal s → ArePlaced (made_as (Connect host) (Ok s.next_id) ∷ journal) (connected host s)
   connects host s x =
@@ -198,20 +202,17 @@ module _ (journal : Journal) where
       (record { known = or_first (was_given s.next_id (m ∷ journal)) _ given; own = λ mine. given }) refl (λ no. absurd cc)
 
   -- accept.
-  accepts : (port : ℕ) (s : DriverState) (log : Log) → ArePlaced journal s → (b : Bool) (o : Option ℕ) → (b ≡ false → o ≡ None)
-      → ((id : ℕ) → o ≡ Some id → IsSome (flow_of id s))
-      → Holds (places_after journal (Accept port) (cond b (elim o as (λ _. Accepted) [ None ↦ accepted.None | Some id ↦ accepted.Conn id ]) accepted.NotListening))
-      (elim o as (λ _. DriverState) [ None ↦ s | Some id ↦ record s { listeners = with_waiting port (without_id id) s.listeners } ]) log
-  accepts port s log x true None none some = (x, λ id no. absurd cc)
-  accepts port s log x false None none some = (goes_on journal (made_as (Accept port) accepted.NotListening) s x refl, λ id no. absurd cc)
-  accepts port s log x false (Some id) none some = let no : Some id ≡ None = none refl in absurd cc
-  accepts port s log x true (Some id) none some =
+  accepts : (port : ℕ) (s : DriverState) → ArePlaced journal s → (b : Bool) (o : Option ℕ) → (b ≡ false → o ≡ None)
+      → ArePlaced (noted (Accept port) (cond b (elim o as (λ _. Accepted) [ None ↦ accepted.None | Some id ↦ accepted.Conn id ]) accepted.NotListening) journal)
+      (elim o as (λ _. DriverState) [ None ↦ s | Some id ↦ record s { listeners = with_waiting port (without_id id) s.listeners } ])
+  accepts port s x true None none = x
+  accepts port s x false None none = goes_on journal (made_as (Accept port) accepted.NotListening) s x refl
+  accepts port s x false (Some id) none = let no : Some id ≡ None = none refl in absurd cc
+  accepts port s x true (Some id) none =
       let m : Made = made_as (Accept port) (accepted.Conn id) in
       let known : (i : ℕ) → i ≡ id → (was_given i (m ∷ journal) || was_closed i (m ∷ journal)) ≡ true =
-      λ i same. or_first (was_given i (m ∷ journal)) _ (or_first (i == id) (was_given i journal) (eq-eqb i id same)) in (
-        waits_less (m ∷ journal) s (goes_on journal m s x refl) port id (λ k d less same. known _ same) (λ k d less same. known _ same),
-        λ i is. subst (λ (n : ℕ). IsSome (flow_of n s)) (same_Some id i is) (some id refl),
-      )
+      λ i same. or_first (was_given i (m ∷ journal)) _ (or_first (i == id) (was_given i journal) (eq-eqb i id same)) in
+      waits_less (m ∷ journal) s (goes_on journal m s x refl) port id (λ k d less same. known _ same) (λ k d less same. known _ same)
 
   -- close.
   record IsOver (c : DriverConnection) (d : DriverConnection) : Type 0 where
@@ -314,10 +315,10 @@ module _ (journal : Journal) where
     refused = λ why s log x. (silent (Connect port) (Err why) s refl x, λ id no. absurd cc);
     opens = λ s log fits free m was fair x. (
       connects port s x,
-      λ id is. subst (λ (n : ℕ). IsSome (flow_of n (connected port s))) (same_Some s.next_id id is)
-          (last_found (is_known_as s.next_id) s.table.entries
+      λ id is. subst (λ (n : ℕ). IsTo (IsAsked port) (flow_of n (connected port s))) (same_Some s.next_id id is)
+          (subst (IsTo (IsAsked port)) (sym (last_found (is_known_as s.next_id) s.table.entries
           (record { slot = s.table.given; flow = next_flow port s; value = record { id = s.next_id; end = paid_of (asked Stream BUF_ALLOC) owed.Request; unread = []; unanswered = false; closed = false } })
-          (ap (λ (b : Bool). b && true) (eq-eqb s.next_id s.next_id refl)) _),
+          (unknown_yet s fits x) (ap (λ (b : Bool). b && true) (eq-eqb s.next_id s.next_id refl)) _)) refl),
     );
   }
   call_places first (Send id bytes) apps = record {
@@ -331,9 +332,9 @@ module _ (journal : Journal) where
         unsent (sent.Took (length (take n bytes))) (with_end d e s) (another s x e d stands (record { closed = λ is. is; unanswered = λ is. is }) e.value.unread);
   }
     where
-      unsent : (answer : Sent) (s : DriverState) → ArePlaced journal s → ArePlaced (noted (Send id bytes) answer journal) s × NamesIt (Send id bytes) answer s
-      unsent answer s x = (silent (Send id bytes) answer s refl x, λ i no. absurd cc)
-  call_places first (Listen port) apps = λ s log fits m x. (by s x (listen_of port s), λ i no. absurd cc)
+      unsent : (answer : Sent) (s : DriverState) → ArePlaced journal s → ArePlaced (noted (Send id bytes) answer journal) s × NamesAsked (Send id bytes) answer s
+      unsent answer s x = (silent (Send id bytes) answer s refl x, tt)
+  call_places first (Listen port) apps = λ s log fits m x. (by s x (listen_of port s), tt)
     where
       by : (s : DriverState) → ArePlaced journal s → (r : Result (Unit {0}) ListenError)
           → ArePlaced (noted (Listen port) r journal) (elim r as (λ _. DriverState) [ Ok y ↦ listening port s | Err why ↦ s ])
@@ -343,43 +344,36 @@ module _ (journal : Journal) where
       by s x (Err why) = goes_on journal (made_as (Listen port) (Err why)) s x refl
   call_places first (Unlisten port) apps = absurd apps
   call_places first (Accept port) apps = λ s log fits m x.
-      accepts port s log x (is_some (listener_on port s.listeners)) (next_accepted port s) (none_on port s (listener_on port s.listeners)) (answered port s (listener_on port s.listeners))
+      (accepts port s x (is_some (listener_on port s.listeners)) (next_accepted port s) (none_on port s (listener_on port s.listeners)), tt)
     where
       none_on : (port : ℕ) (s : DriverState) (o : Option Listener) → is_some o ≡ false
           → elim o as (λ _. Option ℕ) [ None ↦ None | Some l ↦ find (is_answered s) l.waiting ] ≡ None
       none_on port s None none = refl
       none_on port s (Some l) none = absurd cc
-
-      flowed : (o : Option DriverEntry) (q : Option GoneConnection) → elim o as (λ _. Bool) [ None ↦ is_some q | Some e ↦ not e.value.unanswered ] ≡ true
-          → IsSome (elim o as (λ _. Option Flow) [ None ↦ option_map (λ g. g.flow) q | Some e ↦ Some e.flow ])
-      flowed (Some e) q is = tt
-      flowed None (Some g) is = tt
-      flowed None None is = absurd cc
-
-      answered : (port : ℕ) (s : DriverState) (o : Option Listener) (id : ℕ)
-          → elim o as (λ _. Option ℕ) [ None ↦ None | Some l ↦ find (is_answered s) l.waiting ] ≡ Some id → IsSome (flow_of id s)
-      answered port s None id is = absurd cc
-      answered port s (Some l) id is = flowed (entry_known_as id s) (gone_known_as id s) (found_passes (is_answered s) l.waiting id is)
   call_places first (Recv id n) apps = λ s log fits m x.
-      (silent (Recv id n) _ (after_recv id n s) refl (receives id n s fits x (entry_known_as id s) refl), λ i no. absurd cc)
+      (silent (Recv id n) _ (after_recv id n s) refl (receives id n s fits x (entry_known_as id s) refl), tt)
   call_places first (Shutdown id bits) apps = λ s log fits m x.
-      (silent (Shutdown id bits) _ (after_shutdown id bits s) refl (shutting id bits s fits x (entry_known_as id s) refl), λ i no. absurd cc)
+      (silent (Shutdown id bits) _ (after_shutdown id bits s) refl (shutting id bits s fits x (entry_known_as id s) refl), tt)
   call_places first (Grow id alloc) apps = λ s log fits m x.
-      (silent (Grow id alloc) _ (after_grow id alloc s) refl (growing id alloc s fits x (entry_known_as id s) refl), λ i no. absurd cc)
-  call_places first (Close id) apps = λ s log fits m x. (shuts id s fits x (entry_known_as id s) (gone_known_as id s) refl refl, λ i no. absurd cc)
-  call_places first (LookAt id) apps = λ s log fits m x. (silent (LookAt id) (state_of id s) s refl x, λ id no. absurd cc)
+      (silent (Grow id alloc) _ (after_grow id alloc s) refl (growing id alloc s fits x (entry_known_as id s) refl), tt)
+  call_places first (Close id) apps = λ s log fits m x. (shuts id s fits x (entry_known_as id s) (gone_known_as id s) refl refl, tt)
+  call_places first (LookAt id) apps = λ s log fits m x. (silent (LookAt id) (state_of id s) s refl x, tt)
 
 module _ (first n : ℕ) (journal : Journal) (entries : List Entry) (s : DriverState) (c d : RingContents) (honest : IsHonestWith first s c)
     (was : ArePlacedWith n journal entries s c) where
   pub call_placed : (call : GuestCall) (x : DriverState × ReplyTo call) → IsOfApps call → is_right call ≡ true → Plays (whole_call call s) c x d
-      → (on : d.honest ≡ true) (m : EndLog) → d.log ≡ Some m → ArePlaced (noted call x.1 journal) x.0 × NamesIt call x.1 x.0 × AreOwned n entries
+      → (on : d.honest ≡ true) (m : EndLog) → d.log ≡ Some m → ArePlaced (noted call x.1 journal) x.0 × NamesAsked call x.1 x.0 × AreOwned n entries
   call_placed call x apps right plays on m is =
       let before = told_before (whole_call call s) c d x plays m is in
       let then = was (sym (honest_stays (whole_call call s) c d x plays) ∙ on) before.0 before.1 in
       let kept : Rests first (places_after journal call x.1) x.0 d =
       keeps_end _ (whole_call call s) c d x (whole_with first s c call (places journal) (places_after journal call) right (call_places journal first call apps)
       (begins first (places journal) s c before.0 before.1 then.0 honest)) plays in
-      ((kept on m is).1.0, (kept on m is).1.1, then.1)
+      ((kept on m is).1.0, named call x.1 x.0 (kept on m is).1.1, then.1)
+    where
+      named : (call : GuestCall) (reply : ReplyTo call) (t : DriverState) → NamesAsked call reply (record t { in_flight = 0; staged = 0 }) → NamesAsked call reply t
+      named (Connect port) reply t is = is
+      named call reply t is = tt
 
   pub poll_placed : (x : DriverState × Polled) → Plays (poll_of s) c x d → ArePlacedWith n journal entries x.0 d
   poll_placed x plays = λ on m is.

@@ -12,16 +12,13 @@ use Rattle.vs_credit.specs.Credit.{free_of}
 use Rattle.vs_flow.specs.Table.{IsTable, entry_under, revalued}
 use Rattle.vs_flow.proofs.{Entries.{found_at, found_passes, none_found}, Lookups.find_place}
 use Rattle.vs_ring_port.specs.{Contents.RingContents, EndLog.EndLog}
-use Rattle.vs_driver_parts.specs.State.{DriverConnection, DriverEntry, DriverState, GoneConnection, Listener, entry_known_as, gone_known_as, is_known_as}
+use Rattle.vs_driver_parts.specs.State.{DriverConnection, DriverEntry, DriverState, GoneConnection, entry_known_as, gone_known_as, is_known_as}
 use Rattle.vs_driver_parts.specs.Connections.{after_close, after_closing, after_grow, after_read, after_recv, after_shut, after_shutdown, all_gone_after_read}
 use Rattle.vs_driver_parts.specs.Connections.{entry_answer, entry_closed, entry_grow_answer, entry_read, gone_answer, gone_closed, grown_by, is_at_end, nothing_read, read_of, recv_of, shut_in}
 use Rattle.vs_driver_parts.specs.Connections.{close_of, grow_of, state_of, unread_of_id, with_connection, with_end, without_gone}
 use Rattle.vs_driver_parts.specs.Conversations.{has_page, new_of, no_credit, not_sent, payload_bytes, payload_of, poll_of, post_packet, reap_all, send_of, send_on, send_stopped, send_with_credit, send_with_page}
-use Rattle.vs_driver_parts.specs.{Held.HeldSlots, Listening.{accept_of, after_accept, is_answered, listen_of, listener_on, listening, next_accepted, with_waiting, without_id}, Playing.{Plays, RingAllows}, SlotFields.AreNumbered}
-use Rattle.vs_driver_parts.specs.declared.answers.{Accepted.Accepted, ConnectError.ConnectError, ConnectionState.ConnectionState, Grown.Grown, Polled.Polled, Received.Received, Sent.Sent}
-use Rattle.vs_driver_parts.specs.declared.answers.Accepted.TheVariants as accepted
-use Rattle.vs_driver_parts.specs.declared.answers.ConnectError.TheVariants as refused
-use Rattle.vs_driver_parts.specs.declared.answers.ConnectionState.TheVariants as seen
+use Rattle.vs_driver_parts.specs.{Held.HeldSlots, Listening.{accept_of, after_accept, listen_of, listening, with_waiting, without_id}, Playing.{Plays, RingAllows}, SlotFields.AreNumbered}
+use Rattle.vs_driver_parts.specs.declared.answers.{Grown.Grown, Polled.Polled, Received.Received, Sent.Sent}
 use Rattle.vs_driver_parts.specs.declared.answers.Grown.TheVariants as rise
 use Rattle.vs_driver_parts.specs.declared.answers.Received.TheVariants as got
 use Rattle.vs_driver_parts.specs.declared.answers.Sent.TheVariants as sent
@@ -29,14 +26,15 @@ use Rattle.vs_limits.specs.declared.TheConstants.{LAST_PORT}
 use Rattle.vs_page.specs.declared.page.TheConstants.{PAYLOAD_MAX}
 use Rattle.laws_tables.proofs.Slots.{found_by}
 use Rattle.laws_driver.specs.Honest.{IsFresh, IsHonestWith, slots_of}
-use Rattle.laws_driver.proofs.{Calls.{CarriesConnect, CarriesSend, new_keeps}, Carrying.Fact, Keeping.keeps_end, Polling.poll_keeps, Staging.Rests}
-use Rattle.laws_driver.specs.Carried.Calls.{GuestCall, Journal, Made, ReplyTo, Connect, Listen, Unlisten, Accept, Send, Recv, Shutdown, Grow, Close, LookAt}
-use Rattle.laws_driver.specs.Carried.{Calls.is_right, Calls.names, Calls.whole_call, Received.bytes_got}
+use Rattle.laws_driver.proofs.{Calls.{CarriesConnect, CarriesSend, new_keeps}, Keeping.keeps_end, Polling.poll_keeps, Staging.Rests}
+use Rattle.laws_driver.specs.Carried.Calls.{GuestCall, Journal, ReplyTo, Connect, Listen, Unlisten, Accept, Send, Recv, Shutdown, Grow, Close, LookAt}
+use Rattle.laws_driver.specs.Carried.{Calls.is_right, Calls.whole_call, Received.bytes_got}
 use Rattle.laws_driver.proofs.Carried.{Changing.accept_slots, Changing.listen_slots, Growing.honest_stays, Making.whole_with, Righting.told_before, Sending.begins}
 use Rattle.laws_rest.proofs.Quiet.{ends_any, ends_then}
-use Rattle.vs_apps_parts.specs.{Journals.made_as, Scripts.with_noted, Told.{told_accept, told_by, told_connect, told_look, told_recv, told_send, wait_of}, declared.{journal.WaitsFor.WaitsFor}}
+use Rattle.vs_apps_parts.specs.{Journals.made_as, Scripts.with_noted, Told.{told_by, told_recv, told_send, wait_of}, declared.{journal.WaitsFor.WaitsFor}}
 use Rattle.vs_apps_parts.specs.declared.told.Told.TheVariants as says
-use Rattle.laws_apps.specs.Traces.{AtId, IsClosing, IsDrained, IsStopped, IsTraced, IsTracedWith, TellsOf, id_told, is_given, is_shut, is_touched, shuts}
+use Rattle.laws_apps.specs.Traces.{AtId, IsClosing, IsDrained, IsStopped, IsTraced, IsTracedWith, TellsOf, is_shut, is_touched, shuts}
+use Rattle.laws_apps.specs.{Given.AreGivenWith, Placed.was_given}
 use Rattle.laws_apps.proofs.Lasting.{Comes, IsLater, Traced, abort_later, comes_as, end_later, one_comes, poll_traces, read_later, shut_later}
 use Rattle.laws_apps.proofs.Lasting.{traced_still, value_traced}
 
@@ -51,7 +49,7 @@ IsApps n (Close id) = id ≡ n
 IsApps n (LookAt id) = id ≡ n
 IsApps n call = Unit {0}
 
-found_gone : (p : GoneConnection → Bool) (gs : List GoneConnection) (g : GoneConnection) → find p gs ≡ Some g → Contains gs g × (p g ≡ true)
+pub found_gone : (p : GoneConnection → Bool) (gs : List GoneConnection) (g : GoneConnection) → find p gs ≡ Some g → Contains gs g × (p g ≡ true)
 found_gone p gs g is =
     let place = find_place p gs g is in
     ((place.0, slice_get_within gs place.0 g place.1, get_or_from_slice_get gs place.0 g g place.1), found_passes p gs g is)
@@ -354,92 +352,19 @@ module _ (s : DriverState) (sound : IsTable s.table) (numbers : AreNumbered 1 s.
       at None is = gone (gone_known_as id s) (none_closing is)
       at (Some e) is = (less, revalues e is (after_closing e.value.end.state e.value) (closing e.value.end.state e.value).0)
 
--- The ids that calls give.
-accepted_less : (port : ℕ) (s : DriverState) → IsTable s.table → AreNumbered 1 s.next_port s.next_id s.table s.gone → (id : ℕ)
-    → id_told (told_accept (accept_of port s)) ≡ Some id → id < s.next_id
-accepted_less port s sound numbers id is = on (is_some (listener_on port s.listeners)) (next_accepted port s) refl is
-  where
-    answered : (other : ℕ) → is_answered s other ≡ true → other < s.next_id
-    answered other is = by (entry_known_as other s) (gone_known_as other s) refl refl is
-      where
-        by : (o : Option DriverEntry) (g : Option GoneConnection) → entry_known_as other s ≡ o → gone_known_as other s ≡ g
-            → elim o as (λ _. Bool) [ None ↦ is_some g | Some e ↦ not e.value.unanswered ] ≡ true → other < s.next_id
-        by (Some e) g at there so =
-            let found = found_by (is_known_as other) s.table.entries e at in
-            let slot = All-contains (λ y. y.value.id ≡ 1 + y.slot) s.table.entries e numbers.slots found.0 in
-            let given = All-contains (λ y. y.slot < s.table.given) s.table.entries e sound.were_given found.0 in
-            let same = eqb-true e.value.id other (and_parts (e.value.id == other) (not e.value.closed) found.1).0 in
-            let next = numbers.given in omega (arith, slot, given, same, next)
-        by None (Some g) at there so =
-            let found = found_gone (λ (h : GoneConnection). h.id == other) s.gone g there in
-            let below = All-contains (λ h. h.id < s.next_id) s.gone g numbers.below found.0 in
-            let same = eqb-true g.id other found.1 in omega (arith, below, same)
-        by None None at there so = absurd cc
-
-    on : (b : Bool) (o : Option ℕ) → next_accepted port s ≡ o
-        → id_told (told_accept (cond b (elim o as (λ _. Accepted) [ None ↦ accepted.None | Some other ↦ accepted.Conn other ]) accepted.NotListening)) ≡ Some id → id < s.next_id
-    on false o at is = absurd cc
-    on true None at is = absurd cc
-    on true (Some other) at is = subst (λ (i : ℕ). i < s.next_id) (same_Some other id is) (next other at)
-      where
-        next : (i : ℕ) → next_accepted port s ≡ Some i → i < s.next_id
-        next i at = by (listener_on port s.listeners) at
-          where
-            by : (o : Option Listener) → elim o as (λ _. Option ℕ) [ None ↦ None | Some l ↦ find (is_answered s) l.waiting ] ≡ Some i → i < s.next_id
-            by None at = absurd cc
-            by (Some l) at = answered i (found_passes (is_answered s) l.waiting i at)
-
 -- A call is noted, unless it told to wait.
 noted_traced : (call : GuestCall) (reply : ReplyTo call) (journal : Journal) (next : ℕ) (es : List DriverEntry) → ((id : ℕ) → shuts call id ≡ false)
-    → IsTraced journal journal next es → ((id : ℕ) → id_told (told_by call reply) ≡ Some id → id < next) → TellsOf call (told_by call reply) journal next es
+    → IsTraced journal journal next es → TellsOf call (told_by call reply) journal next es
     → let new = with_noted (made_as call reply ∷ []) journal in IsTraced new new next es
-noted_traced call reply journal next es none x gives tells = by (wait_of (told_by call reply))
+noted_traced call reply journal next es none x tells = by (wait_of (told_by call reply))
   where
-    m : Made
-    m = made_as call reply
-
-    given : (o : Option ℕ) → id_told (told_by call reply) ≡ o → (id : ℕ) → (names id o || is_given id journal) ≡ true → id < next
-    given None at id is = x.given id is
-    given (Some other) at id is = one (id == other) refl is
-      where
-        one : (b : Bool) → (id == other) ≡ b → (b || is_given id journal) ≡ true → id < next
-        one true same is = let less = gives other at in let own = eqb-true id other same in omega (arith, less, own)
-        one false same is = x.given id is
-
-    by : (o : Option WaitsFor) → let new = elim o as (λ _. Journal) [ None ↦ m ∷ journal | Some why ↦ journal ] in IsTraced new new next es
+    by : (o : Option WaitsFor) → let new = elim o as (λ _. Journal) [ None ↦ made_as call reply ∷ journal | Some why ↦ journal ] in IsTraced new new next es
     by (Some why) = x
     by None = record {
-      given = given (id_told (told_by call reply)) refl;
       touched = λ k d less is. ap (λ (b : Bool). b || is_shut (get_or es k d).value.id journal) (none (get_or es k d).value.id) ∙ x.touched k d less is;
       closed = x.closed;
       tell = (tells, x.tell);
     }
-
--- What gives none.
-none_some : (o : Option ℕ) (id : ℕ) → o ≡ None → o ≡ Some id → ⊥
-none_some o id none some = let no : None ≡ Some id = sym none ∙ some in cc
-
-no_refusal : (why : ConnectError) (id : ℕ) → id_told (told_connect (Err why)) ≡ Some id → ⊥
-no_refusal (refused.Full slots) id is = cc
-no_refusal (refused.NoDescriptor n) id is = cc
-no_refusal _ id is = cc
-
-no_sent : (r : Sent) → id_told (told_send r) ≡ None
-no_sent (sent.Took n) = refl
-no_sent (sent.NoCredit tx alloc fwd) = refl
-no_sent (sent.NoDescriptor n) = refl
-no_sent sent.NotOpen = refl
-no_sent _ = refl
-
-no_received : (r : Received) → id_told (told_recv r) ≡ None
-no_received (got.Got n) = refl
-no_received got.Empty = refl
-no_received got.NotOpen = refl
-no_received _ = refl
-
-no_look : (r : ConnectionState) → id_told (told_look r) ≡ None
-no_look seen.Asked = refl
-no_look _ = refl
 
 -- A send and a connect, on the ring.
 send_traces : (first : ℕ) (by journal : Journal) (id : ℕ) (bytes : List ℕ) → CarriesSend first id bytes (Traced by journal) (λ answer. Traced by journal)
@@ -459,22 +384,17 @@ send_traces first by journal id bytes = record {
     changes s e end within over own peer x = value_traced by journal s e.slot (record e.value { end = end })
         (comes_as by s.table.entries e (record e.value { end = end }) within refl own refl (end_later e.value end over own peer)) x
 
-abbrev Gives : Journal → Result ℕ ConnectError → Fact
-Gives journal answer part s log = IsTraced journal journal s.next_id s.table.entries × ((id : ℕ) → id_told (told_connect answer) ≡ Some id → id < s.next_id)
-
-connect_traces : (first : ℕ) (journal : Journal) (port : ℕ) → CarriesConnect first port (Traced journal journal) (Gives journal)
+connect_traces : (first : ℕ) (journal : Journal) (port : ℕ) → CarriesConnect first port (Traced journal journal) (λ answer. Traced journal journal)
 connect_traces first journal port = record {
-  refused = λ why s log x. (x, λ id is. absurd (no_refusal why id is));
-  opens = λ s log fits free m was fair x. (
-    traced_still journal s.next_id (s.next_id + 1) s.table.entries _ (omega arith) (one_comes journal s.next_id s.table.entries _ (omega arith) refl) journal x,
-    λ id is. let same = same_Some s.next_id id is in omega (arith, same),
-  );
+  refused = λ why s log x. x;
+  opens = λ s log fits free m was fair x.
+      traced_still journal s.next_id (s.next_id + 1) s.table.entries _ (omega arith) (one_comes journal s.next_id s.table.entries _ (omega arith) refl) journal x;
 }
 
 -- A call of an app's.
 module _ (first n : ℕ) (s : DriverState) (c d : RingContents) (journal : Journal) (honest : IsHonestWith first s c)
     (numbered : c.honest ≡ true → (l : EndLog) → c.log ≡ Some l → AreNumbered 1 s.next_port s.next_id s.table s.gone) (traced : IsTracedWith journal s c)
-    (given : (n ≡ 0) ⊎ (is_given n journal ≡ true)) where
+    (gives : AreGivenWith journal s c) (given : (n ≡ 0) ⊎ (was_given n journal ≡ true)) where
   abbrev Noted : (call : GuestCall) → ReplyTo call → DriverState → Type 0
   Noted call reply t = let new = with_noted (made_as call reply ∷ []) journal in IsTraced new new t.next_id t.table.entries
 
@@ -494,9 +414,9 @@ module _ (first n : ℕ) (s : DriverState) (c d : RingContents) (journal : Journ
       less : n < s.next_id
       less = of given
         where
-          of : (n ≡ 0) ⊎ (is_given n journal ≡ true) → n < s.next_id
+          of : (n ≡ 0) ⊎ (was_given n journal ≡ true) → n < s.next_id
           of (inl zero) = let next = numbers.given in omega (arith, zero, next)
-          of (inr is) = t.given n is
+          of (inr is) = (gives on l told).given n is
 
       own_shut : (id : ℕ) → ((id == id) || is_shut id journal) ≡ true
       own_shut id = ap (λ (b : Bool). b || is_shut id journal) (eq-eqb id id refl)
@@ -508,53 +428,49 @@ module _ (first n : ℕ) (s : DriverState) (c d : RingContents) (journal : Journ
       by : (call : GuestCall) (x : DriverState × ReplyTo call) → is_right call ≡ true → IsApps n call → Plays (whole_call call s) c x d → Noted call x.1 x.0
       by (Unlisten port) x right apps plays = absurd apps
       by (Connect port) x right apps plays =
-          let kept : Rests first (Gives journal x.1) x.0 d =
-          keeps_end _ (whole_call (Connect port) s) c d x (whole_with first s c (Connect port) (Traced journal journal) (Gives journal) right (connect_traces first journal port)
-          (begins first (Traced journal journal) s c l told t honest)) plays in
-          let held = (kept on_now m now).1 in
-          noted_traced (Connect port) x.1 journal x.0.next_id x.0.table.entries (λ id. refl) held.0 held.1 tt
+          let kept : Rests first (Traced journal journal) x.0 d =
+          keeps_end _ (whole_call (Connect port) s) c d x (whole_with first s c (Connect port) (Traced journal journal) (λ answer. Traced journal journal) right
+          (connect_traces first journal port) (begins first (Traced journal journal) s c l told t honest)) plays in
+          noted_traced (Connect port) x.1 journal x.0.next_id x.0.table.entries (λ id. refl) (kept on_now m now).1 tt
       by (Send id bytes) x right apps plays =
           let tells : TellsOf (Send id bytes) (told_send x.1) journal s.next_id s.table.entries =
           end_of (λ (y : DriverState × Sent). SendEnds s fits numbers journal t id (length bytes) y.1) RingAllows (send_of id bytes s) c d x
           (sends_end s fits numbers journal t id bytes (subst (λ (i : ℕ). i < s.next_id) (sym apps) less)) plays in
           let new = with_noted (made_as (Send id bytes) x.1 ∷ []) journal in
-          let noted = noted_traced (Send id bytes) x.1 journal s.next_id s.table.entries (λ i. refl) t (λ i is. absurd (none_some _ i (no_sent x.1) is)) tells in
+          let noted = noted_traced (Send id bytes) x.1 journal s.next_id s.table.entries (λ i. refl) t tells in
           let kept : Rests first (Traced new new) x.0 d =
           keeps_end _ (whole_call (Send id bytes) s) c d x (whole_with first s c (Send id bytes) (Traced new new) (λ r. Traced new new) right (send_traces first new new id bytes)
           (begins first (Traced new new) s c l told noted honest)) plays in
           (kept on_now m now).1
       by (Listen port) x right apps plays = subst (λ (y : DriverState × ReplyTo (Listen port)). Noted (Listen port) y.1 y.0) plays.0
-          (slots_still s _ _ (noted_traced (Listen port) (listen_of port s) journal s.next_id s.table.entries (λ id. refl) t (λ id is. absurd cc) tt)
+          (slots_still s _ _ (noted_traced (Listen port) (listen_of port s) journal s.next_id s.table.entries (λ id. refl) t tt)
           (elim (listen_of port s) as (λ _. DriverState) [ Ok u ↦ listening port s | Err why ↦ s ]) (listen_slots port s (listen_of port s)))
       by (Accept port) x right apps plays = subst (λ (y : DriverState × ReplyTo (Accept port)). Noted (Accept port) y.1 y.0) plays.0
-          (slots_still s _ _ (noted_traced (Accept port) (accept_of port s) journal s.next_id s.table.entries (λ id. refl) t (accepted_less port s fits numbers) tt)
+          (slots_still s _ _ (noted_traced (Accept port) (accept_of port s) journal s.next_id s.table.entries (λ id. refl) t tt)
           (after_accept port s) (accept_slots port s))
       by (Recv id count) x right apps plays = subst (λ (y : DriverState × ReplyTo (Recv id count)). Noted (Recv id count) y.1 y.0) plays.0
           (recv_still s _ _ (noted_traced (Recv id count) (recv_of id count s, bytes_got (recv_of id count s) (unread_of_id id s)) journal s.next_id s.table.entries
-          (λ i. refl) t (λ i is. absurd (none_some _ i (no_received (recv_of id count s)) is)) (recv_ends s fits numbers journal t id count (subst (λ (i : ℕ). i < s.next_id) (sym apps) less))) id count)
+          (λ i. refl) t (recv_ends s fits numbers journal t id count (subst (λ (i : ℕ). i < s.next_id) (sym apps) less))) id count)
       by (Shutdown id bits) x right apps plays = subst (λ (y : DriverState × ReplyTo (Shutdown id bits)). Noted (Shutdown id bits) y.1 y.0) plays.0
           (shutdown_still s _ _ (record {
-            given = t.given;
             touched = λ k e within is. or_shut ((get_or s.table.entries k e).value.id == id) _ (t.touched k e within is);
             closed = t.closed;
             tell = (tt, t.tell);
           }) id (own_shut id) bits)
       by (Grow id alloc) x right apps plays = subst (λ (y : DriverState × ReplyTo (Grow id alloc)). Noted (Grow id alloc) y.1 y.0) plays.0
-          (grow_still s _ _ (noted_traced (Grow id alloc) (grow_of id alloc s) journal s.next_id s.table.entries (λ i. refl) t (λ i is. absurd cc) tt) id alloc)
+          (grow_still s _ _ (noted_traced (Grow id alloc) (grow_of id alloc s) journal s.next_id s.table.entries (λ i. refl) t tt) id alloc)
       by (Close id) x right apps plays = subst (λ (y : DriverState × ReplyTo (Close id)). Noted (Close id) y.1 y.0) plays.0
           (let still = close_still s (made_as (Close id) (close_of id s) ∷ journal) journal (record {
-            given = t.given;
             touched = λ k e within is. or_shut ((get_or s.table.entries k e).value.id == id) _ (t.touched k e within is);
             closed = t.closed;
             tell = t.tell;
           }) id (own_shut id) in record {
-            given = still.given;
             touched = still.touched;
             closed = still.closed;
             tell = (closes_id s fits numbers journal t id (subst (λ (i : ℕ). i < s.next_id) (sym apps) less), still.tell);
           })
       by (LookAt id) x right apps plays = subst (λ (y : DriverState × ReplyTo (LookAt id)). Noted (LookAt id) y.1 y.0) plays.0
-          (noted_traced (LookAt id) (state_of id s) journal s.next_id s.table.entries (λ i. refl) t (λ i is. absurd (none_some _ i (no_look (state_of id s)) is)) tt)
+          (noted_traced (LookAt id) (state_of id s) journal s.next_id s.table.entries (λ i. refl) t tt)
 
   pub call_traced : (call : GuestCall) (x : DriverState × ReplyTo call) → is_right call ≡ true → IsApps n call → Plays (whole_call call s) c x d
       → IsTracedWith (with_noted (made_as call x.1 ∷ []) journal) x.0 d
@@ -578,7 +494,7 @@ pub new_traced : (size port : ℕ) (c d : RingContents) (s : DriverState) → po
 new_traced size port c d s fits fresh plays = λ on l is. (kept on l is).1
   where
     none : IsTraced [] [] 1 []
-    none = record { given = λ id is. absurd cc; touched = λ k e within. absurd (omega (arith, within)); closed = λ k e within. absurd (omega (arith, within)); tell = tt }
+    none = record { touched = λ k e within. absurd (omega (arith, within)); closed = λ k e within. absurd (omega (arith, within)); tell = tt }
 
     kept : Rests s.cid (Traced [] []) s d
     kept = keeps_end (λ t e. Rests t.cid (Traced [] []) t e) (new_of size port 1) c d s (new_keeps size port 1 fits (Traced [] []) (λ cid. none) c fresh) plays

@@ -103,18 +103,25 @@ pub record HasPlaces (journal : Journal) (port next : ℕ) (table : Table Driver
 abbrev pub ArePlaced : Journal → DriverState → Type 0
 ArePlaced journal s = HasPlaces journal s.next_port s.next_id s.table s.gone s.listeners
 
--- Each entry is one of the first apps, so many; and it has the flow of the connection that was asked for or accepted.
-abbrev pub IsSome : Option Flow → Type 0
-IsSome None = ⊥
-IsSome (Some f) = Unit {0}
+-- Each entry is one of the first apps, so many; and it has the flow of the connection that was asked for, which goes to the port of the call, or was accepted
+-- there, of a client of the host.
+abbrev pub IsTo : (Flow → Type 0) → Option Flow → Type 0
+IsTo P None = ⊥
+IsTo P (Some f) = P f
 
-abbrev pub HasItsFlow : Option ℕ → Option Flow → Type 0
-HasItsFlow None flow = Unit {0}
-HasItsFlow (Some id) flow = IsSome flow
+abbrev pub HasItsFlow : (Flow → Type 0) → Option ℕ → Option Flow → Type 0
+HasItsFlow P None flow = Unit {0}
+HasItsFlow P (Some id) flow = IsTo P flow
+
+abbrev pub IsAsked : ℕ → Flow → Type 0
+IsAsked port f = f.host ≡ port
+
+abbrev pub IsClients : ℕ → Flow → Type 0
+IsClients port f = (f.guest ≡ port) × (is_assigned f.host ≡ true)
 
 abbrev pub NamesFlow : Called → Type 0
-NamesFlow (called.Connect port answer flow) = HasItsFlow (asked_as answer) flow
-NamesFlow (called.Accept port answer flow) = HasItsFlow (accepted_as answer) flow
+NamesFlow (called.Connect port answer flow) = HasItsFlow (IsAsked port) (asked_as answer) flow
+NamesFlow (called.Accept port answer flow) = HasItsFlow (IsClients port) (accepted_as answer) flow
 NamesFlow c = Unit {0}
 
 abbrev pub NamesOne : Deed → Type 0

@@ -14,7 +14,7 @@ use Rattle.vs_apps_parts.specs.declared.{journal.WaitsFor.WaitsFor, progress.App
 use Rattle.vs_apps_parts.specs.declared.progress.Stepped.TheVariants as stepped
 use Rattle.vs_apps_parts.specs.declared.journal.Called.TheVariants as called
 use Rattle.laws_rest.specs.Rest.{IsRoutedWith}
-use Rattle.laws_apps.specs.{Accounts.IsAccounted, Asked.AsksOnceWith, Placed.ArePlacedWith, Traces.IsTracedWith}
+use Rattle.laws_apps.specs.{Accounts.IsAccounted, Asked.AsksOnceWith, Given.AreGivenWith, Placed.ArePlacedWith, Traces.IsTracedWith}
 
 pub record Run : Type 0 where
   pub driver : DriverState
@@ -37,8 +37,8 @@ journal_of_app k script run = calls_of_app k script run.bytes run.entries
 
 -- Where an honest ring tells the log: the driver is the one that the log left, where this was the guest's CID at first; its packets go where
 -- they belong, as long as all that it got come from the host; the journal's account is right, from the id 1 on, and tells the flows of ids; the driver asked once on each
--- flow; its connections and listeners are those that the journal's calls left, and are what the calls' replies tell. Each entry is an app's of the script, and
--- has its connection's flow.
+-- flow; its connections and listeners are those that the journal's calls left, are what the calls' replies tell, and were given once. Each entry is an app's of
+-- the script, and has its connection's flow.
 pub record IsKept (first : ℕ) (script : RunScript) (run : Run) : Type 0 where
   pub honest : IsHonestWith first run.driver run.ring
   pub routed : IsRoutedWith first run.ring
@@ -47,6 +47,7 @@ pub record IsKept (first : ℕ) (script : RunScript) (run : Run) : Type 0 where
   pub asks : AsksOnceWith run.driver run.ring
   pub places : ArePlacedWith (length script) (journal_of script run) run.entries run.driver run.ring
   pub traced : IsTracedWith (journal_of script run) run.driver run.ring
+  pub given : AreGivenWith (journal_of script run) run.driver run.ring
 
 -- A run of a script: the calls of each app are, in order, its instructions; and each app knows whether its last entry is a wait.
 pub record IsRunOf (first : ℕ) (script : RunScript) (run : Run) : Type 0 where

@@ -3,7 +3,7 @@ use Rattle.std.specs.{List.All, Option.ForSome, Prelude.{◌≡◌, ◌⊎◌, �
 use Rattle.vs_conn.specs.declared.end.State.TheVariants.{Ended}
 use Rattle.vs_ring_port.specs.Contents.{RingContents}
 use Rattle.vs_driver_parts.specs.State.{DriverConnection, DriverEntry, DriverState}
-use Rattle.laws_driver.specs.Carried.Calls.{GuestCall, Journal, Send, Recv, Shutdown, Close, names}
+use Rattle.laws_driver.specs.Carried.Calls.{GuestCall, Journal, Send, Recv, Shutdown, Close}
 use Rattle.vs_apps_parts.specs.{Told.told_of, declared.told.Told.Told}
 use Rattle.vs_apps_parts.specs.declared.told.Told.TheVariants as told
 
@@ -12,10 +12,6 @@ abbrev pub id_told : Told → Option ℕ
 id_told (told.Asked id) = Some id
 id_told (told.Given id) = Some id
 id_told t = None
-
-abbrev pub is_given : ℕ → Journal → Bool
-is_given id [] = false
-is_given id (m ∷ older) = names id (id_told (told_of m)) || is_given id older
 
 -- A call shuts a direction of an id's connection, or closes the id.
 abbrev pub shuts : GuestCall → ℕ → Bool
@@ -61,7 +57,6 @@ AllTell (m ∷ older) next es = TellsOf m.call (told_of m) older next es × AllT
 -- The journal against the driver's next id and its connections, of which those that are touched were shut by a call of a journal, this one or one that
 -- goes on from it.
 pub record IsTraced (by journal : Journal) (next : ℕ) (es : List DriverEntry) : Type 0 where
-  pub given : (id : ℕ) → is_given id journal ≡ true → id < next
   pub touched : All (λ e. is_touched e.value ≡ true → is_shut e.value.id by ≡ true) es
   pub closed : All (λ e. e.value.closed ≡ true → IsClosing e.value) es
   pub tell : AllTell journal next es

@@ -5,7 +5,7 @@ use Rattle.vs_conn.specs.End.{ConnectionEnd, after_message, after_op, end_after,
 use Rattle.vs_conn.{specs.declared.end.Owed.Owed, specs.declared.end.Verdict.Verdict, proofs.Frames.paid_credit}
 use Rattle.vs_credit.specs.{Credit.room_of, Credit.with_forwarded, Credit.with_sent, Credit.with_taken, declared.Credit.Credit}
 use Rattle.vs_header.specs.{Op.op_named, declared.Header.Header, declared.Op.Op}
-use Rattle.vs_limits.specs.declared.TheConstants.{BUF_ALLOC}
+use Rattle.vs_limits.specs.declared.TheConstants.{BUF_ALLOC_MAX}
 use Rattle.laws_device.specs.Honest.{HoldsBytes}
 use Rattle.vs_conn.specs.declared.end.Verdict.TheVariants as verdict
 use Rattle.vs_header.specs.declared.Op.TheVariants as op
@@ -30,7 +30,7 @@ forwards_within : (rx fwd n u alloc : ℕ) → rx < 2 ^ 32 → fwd < 2 ^ 32 → 
     → (rx + 2 ^ 32 - fwd) % 2 ^ 32 ≤ alloc → (rx + 2 ^ 32 - (fwd + n) % 2 ^ 32) % 2 ^ 32 ≤ alloc
 forwards_within rx fwd n u alloc r f le un w = omega (arith, r, f, le, un, w)
 
-takes_within : (rx fwd n alloc : ℕ) → rx < 2 ^ 32 → fwd < 2 ^ 32 → alloc ≤ BUF_ALLOC → n ≤ alloc - (rx + 2 ^ 32 - fwd) % 2 ^ 32
+takes_within : (rx fwd n alloc : ℕ) → rx < 2 ^ 32 → fwd < 2 ^ 32 → alloc ≤ BUF_ALLOC_MAX → n ≤ alloc - (rx + 2 ^ 32 - fwd) % 2 ^ 32
     → (rx + 2 ^ 32 - fwd) % 2 ^ 32 ≤ alloc → ((rx + n) % 2 ^ 32 + 2 ^ 32 - fwd) % 2 ^ 32 ≤ alloc
 takes_within rx fwd n alloc r f a le w = omega (arith, r, f, a, le, w)
 
@@ -50,7 +50,7 @@ fits_forwarded c n u fits le = record {
   within = forwards_within c.rx_cnt c.fwd_cnt n u c.alloc fits.rx fits.fwd le fits.unread fits.within;
 }
 
-takes : (rx fwd n u alloc : ℕ) → rx < 2 ^ 32 → fwd < 2 ^ 32 → alloc ≤ BUF_ALLOC → n ≤ alloc - (rx + 2 ^ 32 - fwd) % 2 ^ 32
+takes : (rx fwd n u alloc : ℕ) → rx < 2 ^ 32 → fwd < 2 ^ 32 → alloc ≤ BUF_ALLOC_MAX → n ≤ alloc - (rx + 2 ^ 32 - fwd) % 2 ^ 32
     → u ≤ (rx + 2 ^ 32 - fwd) % 2 ^ 32 → u + n ≤ ((rx + n) % 2 ^ 32 + 2 ^ 32 - fwd) % 2 ^ 32
 takes rx fwd n u alloc r f a le un = omega (arith, r, f, a, le, un)
 

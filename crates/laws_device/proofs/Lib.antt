@@ -18,7 +18,9 @@ pub mod Transmitting
 pub mod Turning
 pub mod Stepping
 pub mod Packets
+pub mod Growing
 pub mod Waiting
+pub mod Logs
 pub mod Walk
 pub mod Named
 pub mod Carried

@@ -19,7 +19,7 @@ use Rattle.laws_device.proofs.{Ringing.returned_held, Ringing.written_held, Tran
 use Rattle.vs_ring_port.specs.declared.device_ring.Next.TheVariants as next
 
 -- What a call does to the log, between the logs before and after it.
-related : (call : DeviceCall) (a : DeviceAnswer call) (L : Rings → Type 0) (f : Rings → Rings) (R : EndLog → Type 0) (g : EndLog → EndLog)
+pub related : (call : DeviceCall) (a : DeviceAnswer call) (L : Rings → Type 0) (f : Rings → Rings) (R : EndLog → Type 0) (g : EndLog → EndLog)
     (c d : RingContents)
     → DeviceMoves call a L f R g c d → (Q : EndLog → EndLog → Type 0) → ((l : EndLog) → c.log ≡ Some l → R l → Q l (g l))
     → Relates c.log d.log Q
@@ -29,9 +29,9 @@ related call a L f R g c d made Q each = by c.log refl made.log
     by None is exposes = exposes
     by (Some l) is exposes = subst (λ (o : Option EndLog). Relates (Some l) o Q) (sym exposes.1) (each l is exposes.0)
 
-joined : (o p q : Option EndLog) (R S T : EndLog → EndLog → Type 0) → ((l m n : EndLog) → R l m → S m n → T l n) → Relates o p R
+pub joined : {X : Type 0} (o p q : Option X) (R S T : X → X → Type 0) → ((l m n : X) → R l m → S m n → T l n) → Relates o p R
     → Relates p q S → Relates o q T
-joined None p q R S T both first second = subst (λ (x : Option EndLog). Relates x q S) first second
+joined {X = X} None p q R S T both first second = subst (λ (x : Option X). Relates x q S) first second
 joined (Some l) None q R S T both first second = absurd first
 joined (Some l) (Some m) None R S T both first second = absurd second
 joined (Some l) (Some m) (Some n) R S T both first second = both l m n first second

@@ -5,7 +5,7 @@ use Rattle.vs_flow.specs.declared.flow.Flow.{Flow}
 use Rattle.laws_history.specs.History.{Got, History, IsFair, IsHonest, Put, Side, gots, puts}
 use Rattle.laws_history.specs.Packets.{has, is_request, is_rst, tells, told_alloc}
 use Rattle.laws_history.{specs.Again.AllowsNow, specs.declared.packet.Packet.Packet, proofs.Present.fair_once}
-use Rattle.vs_limits.specs.declared.TheConstants.{BUF_ALLOC}
+use Rattle.vs_limits.specs.declared.TheConstants.{BUF_ALLOC, BUF_ALLOC_MAX}
 use Rattle.vs_page.specs.declared.log.LogEntry.TheVariants.{GotEvent, GotPacket, Mark, PutEvent, PutPacket}
 use Rattle.vs_page.proofs.Entries.{one_got, one_put, present_is}
 use Rattle.vs_page.specs.{Log.Device, Log.Log, Log.flow_put, Log.history_of, Log.packets_put, Log.side_of, Log.whole_of, Fair.IsFairLog}
@@ -28,9 +28,9 @@ left_open first port s l agrees f =
 
 pub pending_within : (first port : ℕ) (s : DeviceState) (l : EndLog) (e : DeviceEntry) → AgreesWith first port s l
     → Contains s.table.entries e
-    → length e.value.pending ≤ BUF_ALLOC
+    → (length e.value.pending ≤ e.value.end.credit.alloc) × (e.value.end.credit.alloc ≤ BUF_ALLOC_MAX)
 pending_within first port s l e agrees there =
-    let bytes = (entry_fits s agrees.fits e there).bytes in omega (arith, bytes.unread, bytes.within, bytes.alloc)
+    let bytes = (entry_fits s agrees.fits e there).bytes in (omega (arith, bytes.unread, bytes.within), bytes.alloc)
 
 usual_by : (told first alloc : ℕ) (b : Bool) → (b ≡ false → alloc ≡ first) → told ≤ alloc → (b ≡ true → first ≤ told) → first ≤ alloc
 usual_by told first alloc true same rises older = omega (arith, rises, older refl)

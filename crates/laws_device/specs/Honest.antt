@@ -6,7 +6,7 @@ use Rattle.vs_header.specs.declared.Kind.TheVariants.{Stream}
 use Rattle.vs_credit.specs.{Credit.unread_of, declared.Credit.Credit}
 use Rattle.vs_flow.specs.{Table.IsTable, Table.Table, declared.flow.Flow.Flow, declared.table.TableFault.TableFault}
 use Rattle.laws_history.specs.{History.Asker, Packets.is_rst, declared.packet.Packet.Packet}
-use Rattle.vs_limits.specs.declared.TheConstants.{BUF_ALLOC}
+use Rattle.vs_limits.specs.declared.TheConstants.{BUF_ALLOC, BUF_ALLOC_MAX}
 use Rattle.vs_page.specs.{Fair.IsFairLog, Log.Device, Log.Log, Log.side_of, Open.is_open}
 use Rattle.vs_replies.specs.declared.Reply.{Reply}
 use Rattle.vs_ring_port.specs.{Chains.Held, Chains.same_chain, Contents.RingContents, EndLog.EndLog, declared.device_ring.Chain.Chain}
@@ -37,11 +37,11 @@ pub record IsFitFlow (f : Flow) : Type 0 where
   pub peer : f.peer < 2 ^ 64
 
 -- So many bytes are pending at an end with this credit: they were got and aren't forwarded, and no more are unread than there is buffer
--- space, which is the usual one.
+-- space, which is at most the largest one.
 pub record HoldsBytes (c : Credit) (pending : ℕ) : Type 0 where
   pub unread : pending ≤ unread_of c
   pub within : unread_of c ≤ c.alloc
-  pub alloc : c.alloc ≤ BUF_ALLOC
+  pub alloc : c.alloc ≤ BUF_ALLOC_MAX
   pub rx : c.rx_cnt < 2 ^ 32
   pub fwd : c.fwd_cnt < 2 ^ 32
 

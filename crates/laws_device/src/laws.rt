@@ -6,15 +6,15 @@ ghost use Rattle.vs_contents.specs.Contents.{Relates};
 ghost use Rattle.vs_flow.specs.declared.{flow.Flow.Flow, table.TableFault.TableFault};
 ghost use Rattle.vs_header.specs.{Packet.header_of, declared.Header.Header, declared.TheConstants.HEADER_LEN};
 ghost use Rattle.laws_history.specs.{Packets.is_rw, declared.packet.Packet.Packet};
-ghost use Rattle.vs_limits.specs.declared.TheConstants.{BUF_ALLOC};
-ghost use Rattle.laws_tables.specs.{Ends.is_new, Steps.IsNextFlow};
+ghost use Rattle.vs_limits.specs.declared.TheConstants.{BUF_ALLOC_MAX};
+ghost use Rattle.laws_tables.specs.{Ends.is_new, Later.IsLater, Later.StaysShut, Steps.IsNextFlow};
 ghost use Rattle.vs_page.specs.{Held.packet_held, Log.Device, Log.packets_put, declared.log.LogEntry.TheVariants.PutEvent};
 ghost use Rattle.vs_page.specs.declared.log.LogEntry.TheVariants.{PutPacket};
-ghost use Rattle.vs_ring_port.specs.{Chains.Held, Contents.Read, Contents.RingContents, Contents.Take, EndLog.EndLog};
+ghost use Rattle.vs_ring_port.specs.{Chains.Held, Contents.IsSound, Contents.Read, Contents.RingContents, Contents.Take, EndLog.EndLog};
 ghost use Rattle.vs_ring_port.specs.declared.{device_ring.Chain.Chain, failure.Failure.Failure, queue.Queue.TheVariants.Event};
 ghost use Rattle.vs_ring_port.specs.declared.queue.Queue.TheVariants.{Rx, Tx};
 ghost use Rattle.vs_ring_port.specs.declared.device_ring.Next.TheVariants as next;
-ghost use Rattle.vs_device_parts.specs.{Calls.Allows, Calls.Ring, Calls.Situation, Playing.MayRun, Playing.Runs, Receiving.event_on};
+ghost use Rattle.vs_device_parts.specs.{Calls.Allows, Calls.DeviceTree, Calls.Ring, Calls.Situation, Playing.MayRun, Playing.Runs, Receiving.event_on};
 ghost use Rattle.vs_device_parts.specs.{Receiving.fill_rx_of, Receiving.pay_event_of, Receiving.written, State.DeviceEntry};
 ghost use Rattle.vs_device_parts.specs.{State.DeviceState, Streams.Writing, Streams.pump_of, Streams.tick_of, Transmitting.take_tx_of};
 ghost use Rattle.vs_device_parts.specs.{State.new_device, Turns.open_of, Turns.reset_of, Turns.table_shown, declared.answers.Filled.Filled};
@@ -87,16 +87,14 @@ pub fn law_of_streamed()
 {}
 
 /// Over such a ring and such a host the device's table has exactly the flows that the log left open and those of the host's open streams:
-/// those
-/// that have a flow as their label, until the device closes them.
+/// those that have a flow as their label, until the device closes them.
 pub fn law_of_open_streams()
     ensures table { (first port : ℕ) (lines : List Handshake) (s : DeviceState) (a : Situation) → IsWith first port s a.ring
         → AreStreamedWith first port lines s.table a → IsTabledWith first s a }
 {}
 
 /// A client's connection waits for its REQUEST to be put: it does while its stream is open and no REQUEST was put, and not once one was, or
-/// the
-/// proxy closed the stream.
+/// the proxy closed the stream.
 pub fn worked_waiting()
     ensures waits { is_waiting_for_request client_flow (client_host stream.Open) [] ≡ true }
     ensures asked { is_waiting_for_request client_flow (client_host stream.Open) asked_log ≡ false }
@@ -104,8 +102,8 @@ pub fn worked_waiting()
 {}
 
 /// The device's table has exactly the flows that the log left open, and those whose REQUEST isn't put, which come from clients of the
-/// host. What is pending of a connection is at most the buffer space that each packet put advertises, and no packet held more payload
-/// than there was room for.
+/// host. What is pending of a connection is at most its buffer space, which is 262,144 bytes at most, and of which each packet put advertises
+/// 65,536 or more; no packet held more payload than there was room for.
 pub fn law_of_the_table()
     ensures open { (first port : ℕ) (s : DeviceState) (l : EndLog) → AgreesWith first port s l → IsLeftOpen first s (table_shown s) l }
     ensures clients { (first port : ℕ) (s : DeviceState) (l : EndLog) (e : DeviceEntry) → AgreesWith first port s l
@@ -113,10 +111,19 @@ pub fn law_of_the_table()
         → is_new e.value.end ≡ true → IsClients e }
     ensures pending { (first port : ℕ) (s : DeviceState) (l : EndLog) (e : DeviceEntry) → AgreesWith first port s l
         → Contains s.table.entries e
-        → length e.value.pending ≤ BUF_ALLOC }
+        → (length e.value.pending ≤ e.value.end.credit.alloc) × (e.value.end.credit.alloc ≤ BUF_ALLOC_MAX) }
     ensures advertised { (first port : ℕ) (s : DeviceState) (l : EndLog) → AgreesWith first port s l → All Advertises
         (packets_put l.entries) }
     ensures no_overrun { (first port : ℕ) (s : DeviceState) (l : EndLog) → AgreesWith first port s l → s.overrun ≡ 0 }
+{}
+
+/// Any conversation of the device, over any ring and any host: a log that is told is told with more entries. Over an honest ring nothing more is
+/// put on a connection after the SHUTDOWN that says 'no more is sent' (Virtio 1.2, section 5.10.6.5).
+pub fn law_of_logs<T>()
+    ensures grows { (tree : DeviceTree T) (a b : Situation) (x : T) → Runs tree a x b
+        → Relates a.ring.log b.ring.log (λ l m. IsLater l.entries m.entries) }
+    ensures shut { (tree : DeviceTree T) (a b : Situation) (x : T) → IsSound Device a.ring → Runs tree a x b → a.ring.honest ≡ true
+        → ForSome a.ring.log (λ l. ForSome b.ring.log (λ m. StaysShut Device l.entries m.entries)) }
 {}
 
 /// Over any ring that tells its log a packet is one entry. The packet that the device writes into a chain and returns is put, with its

@@ -1,12 +1,12 @@
 //! Laws of the driver over a ring that tells its log.
 
-ghost use Rattle.std.specs.Prelude.{◌≡◌, ◌<◌, ◌≤◌, ◌^◌, ℕ, true, List, [], length, Result};
+ghost use Rattle.std.specs.Prelude.{◌≡◌, ◌<◌, ◌≤◌, ◌^◌, ℕ, true, List, [], length, All, Result};
 ghost use Rattle.vs_contents.specs.CallTree.{Leads};
 ghost use Rattle.vs_flow.specs.Table.{IsTable};
 ghost use Rattle.vs_ring_port.specs.{Contents.RingContents, DriverCalls.DriverAllows, EndLog.EndLog};
 ghost use Rattle.vs_ring_port.specs.declared.queue.Queue.TheVariants.{Event};
 ghost use Rattle.vs_driver_parts.specs.declared.answers.{ConnectError.ConnectError, Polled.Polled, Sent.Sent};
-ghost use Rattle.vs_limits.specs.declared.TheConstants.{DRIVER_REPLIES_FULL, LAST_PORT};
+ghost use Rattle.vs_limits.specs.declared.TheConstants.{BUF_ALLOC_MAX, DRIVER_REPLIES_FULL, LAST_PORT};
 ghost use Rattle.vs_driver_parts.specs.State.{DriverState};
 ghost use Rattle.vs_driver_parts.specs.Connections.{after_close, after_grow, after_recv, after_shutdown, after_unlisten, table_shown};
 ghost use Rattle.vs_driver_parts.specs.Conversations.{DriverTree, connect_of, new_of, poll_of, send_of};
@@ -48,9 +48,11 @@ pub fn law_of_other_calls()
         → IsHonestWith first (after_accept port s) c }
 {}
 
-/// The driver's table has exactly the flows that the log left open.
+/// The driver's table has exactly the flows that the log left open. What is unread of a connection is at most its buffer space.
 pub fn law_of_the_table()
-    ensures { (first : ℕ) (s : DriverState) (l : EndLog) → AgreesWith first s l → IsLeftOpen first (table_shown s) s.replies l }
+    ensures open { (first : ℕ) (s : DriverState) (l : EndLog) → AgreesWith first s l → IsLeftOpen first (table_shown s) s.replies l }
+    ensures unread { (first : ℕ) (s : DriverState) (l : EndLog) → AgreesWith first s l
+        → All (λ e. (length e.value.unread ≤ e.value.end.credit.alloc) × (e.value.end.credit.alloc ≤ BUF_ALLOC_MAX)) s.table.entries }
 {}
 
 /// A conversation with the driver's ring is one with any ring: each answer is one that a ring may give. What the other end did stays.

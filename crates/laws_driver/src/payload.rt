@@ -1,8 +1,10 @@
 //! Laws on the bytes of the driver's connections.
 
 ghost use Rattle.std.specs.Prelude.{◌≡◌, ◌<◌, ◌≤◌, ◌^◌, ◌++◌, ℕ, true, List, [], Result, Some};
+ghost use Rattle.std.specs.Option.{ForSome};
 ghost use Rattle.vs_flow.specs.Connection.{Connection};
 ghost use Rattle.vs_page.specs.Log.{Driver};
+ghost use Rattle.laws_tables.specs.Later.{StaysShut};
 ghost use Rattle.vs_ring_port.specs.Contents.{IsSound, RingContents};
 ghost use Rattle.vs_driver_parts.specs.declared.answers.{ConnectError.ConnectError, Polled.Polled, Sent.Sent};
 ghost use Rattle.vs_driver_parts.specs.Conversations.{DriverTree, connect_of, new_of, poll_of, send_of};
@@ -15,7 +17,7 @@ ghost use Rattle.laws_driver.specs.Carried.Calls.{GuestCall, IsJournaledWith, Jo
 ghost use Rattle.laws_driver.specs.Carried.Calls.{whole_call, with_call};
 ghost use Rattle.laws_driver.specs.Carried.Received.{Account, GoesOnWith, IsReceivedWith, after_receive, no_account};
 ghost use Rattle.laws_driver.specs.Carried.Senders.{GoesRightWith, IsRightWith};
-ghost use Rattle.laws_driver.specs.Carried.Sent.{PutsJust, StaysShut, TellsMore, none_on, took};
+ghost use Rattle.laws_driver.specs.Carried.Sent.{PutsJust, TellsMore, none_on, took};
 
 /// Over an honest ring that tells its log a call, whole or on the pages as they stand, puts just the bytes that its reply says a send took, on
 /// the connection of the send's id, and none on any other. A poll puts no payload (Virtio 1.2, section 5.10.6.3).
@@ -35,7 +37,8 @@ pub fn law_of_sent()
 /// connection after the SHUTDOWN that says 'no more is sent' (Virtio 1.2, section 5.10.6.5).
 pub fn law_of_logs<T>()
     ensures grows { (tree : DriverTree T) (c d : RingContents) (x : T) → Plays tree c x d → TellsMore c.log d.log }
-    ensures shut { (tree : DriverTree T) (c d : RingContents) (x : T) → IsSound Driver c → Plays tree c x d → StaysShut c d }
+    ensures shut { (tree : DriverTree T) (c d : RingContents) (x : T) → IsSound Driver c → Plays tree c x d → c.honest ≡ true
+        → ForSome c.log (λ l. ForSome d.log (λ m. StaysShut Driver l.entries m.entries)) }
 {}
 
 /// What an application received on a connection, and then the bytes that are unread, is the payload delivered to it. A receive gives of the
@@ -68,8 +71,8 @@ pub fn law_of_received()
 
 /// What the journal says was received: over an honest ring that tells its log the account is right that the journal comes to, once a call was
 /// made, whole or on the pages as they stand, with its reply. A journal that is right says as well what was sent: each entry that sent bytes
-/// names an id that was given to a connection, and the payload put on each connection is what was sent on its ids. So it stays over calls and
-/// polls.
+/// names an id that was given to a connection, and the payload put on each connection is what was sent on its ids. So is the empty one of a
+/// driver that was just made, and so it stays over calls and polls.
 pub fn law_of_journals()
     ensures call { (first id : ℕ) (opened : ℕ → Connection) (journal : Journal) (call : GuestCall) (s : DriverState) (c d : RingContents)
         (x : DriverState × ReplyTo call) → is_right call ≡ true → IsHonestWith first s c → IsReceivedWith (account_of id opened journal) s c
@@ -77,6 +80,8 @@ pub fn law_of_journals()
     ensures step { (first id : ℕ) (opened : ℕ → Connection) (journal : Journal) (call : GuestCall) (s : DriverState) (c d : RingContents)
         (x : DriverState × ReplyTo call) → is_right call ≡ true → IsHonestWith first s c → IsReceivedWith (account_of id opened journal) s c
         → Plays (makes_call call s) c x d → IsJournaledWith id opened (with_call call s x.1 journal) x.0 d }
+    ensures right_new { (size port id : ℕ) (c d : RingContents) (s : DriverState) → port ≤ LAST_PORT → IsFresh c → Plays (new_of size port id) c s d
+        → IsRightWith id (no_account id).opened [] s d }
     ensures right { (first id : ℕ) (opened : ℕ → Connection) (journal : Journal) (call : GuestCall) (s : DriverState) (c d : RingContents)
         (x : DriverState × ReplyTo call) → is_right call ≡ true → IsHonestWith first s c → IsRightWith id opened journal s c
         → Plays (whole_call call s) c x d → GoesRightWith id opened (with_call call s x.1 journal) x.0 d }

@@ -7,10 +7,10 @@ ghost use Rattle.laws_history.specs.Packets.{allowance, bytes, forwarded_by, is_
 ghost use Rattle.laws_history.specs.Packets.{told_alloc, told_forwarded};
 ghost use Rattle.vs_limits.specs.declared.TheConstants.{BUF_ALLOC, BUF_ALLOC_MAX};
 
-/// What fairness says of a connection's credit and order. Its first entry is its REQUEST, and no other packet is. The payload put, at each
-/// packet put, is within the credit advertised by the newest packet got; what is said to be forwarded never falls and is at most the
-/// payload got; the buffer space begins at `BUF_ALLOC` at least, never falls, and is at most `BUF_ALLOC_MAX`; no payload follows a
-/// SHUTDOWN that says 'no more is sent'. All this holds in both directions.
+/// What fairness says of a connection's credit and order. Its first entry is its REQUEST. The payload put, at each packet put, is within the
+/// credit advertised by the newest packet got, and what is said to be forwarded is at most the payload got; both hold of packets got, too. Of
+/// those put the buffer space begins at `BUF_ALLOC`, never falls, and is at most `BUF_ALLOC_MAX`, and no payload follows a SHUTDOWN that says
+/// 'no more is sent'.
 pub fn laws_of_fairness()
     ensures opening { (side : Side) (h : History) (entry : Entry) → IsFair side (h ++ entry ∷ []) → IsOpening side entry }
     ensures credit { (side : Side) (h : History) (p : Packet) → IsFair side (Put p ∷ h) → is_rst p ≡ false

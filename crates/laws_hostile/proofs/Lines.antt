@@ -22,10 +22,11 @@ use Rattle.laws_proxy.specs.Account.Tied.{AccountsFor, IsGiven, IsLine, IsRead, 
 use Rattle.laws_proxy.specs.Account.{Told.Shows, Told.ShowsAt, Told.ShowsIn, Made.Account, Made.Made, Made.account_of}
 use Rattle.laws_proxy.proofs.Account.Shown.{new_shows, none_there, unseen_shows}
 use Rattle.laws_proxy.proofs.Account.{Keeping.Keeps, Opening.new_agrees, Turning.keeps_proxy_reset, Turning.keeps_turn}
-use Rattle.vs_proxy_parts.specs.{State.ProxyState, Turns.proxy_reset_of, Turns.turn_of}
+use Rattle.laws_proxy.proofs.Growing.{flow_grow_accounts, label_grow_by}
+use Rattle.vs_proxy_parts.specs.{Growing.label_at, State.ProxyState, Turns.proxy_reset_of, Turns.turn_of}
 use Rattle.vs_script.specs.Outside.{Client, Host, HostAllow, HostClosed, HostEnd, HostFail, HostListen, HostUnlisten, HostWrite, OfHost}
 use Rattle.vs_script.specs.Hostile.{Hostile, Write, WriteDesc, Give, Index, Packet, Before, Look}
-use Rattle.vs_script.specs.{Outside.Outside, Outside.Reset, Outside.Tick, Data.bytes_of}
+use Rattle.vs_script.specs.{Outside.Grow, Outside.Outside, Outside.Reset, Outside.Tick, Data.bytes_of}
 use Rattle.vs_outside.specs.declared.mem_stream.HostWritten.TheVariants as written
 use Rattle.vs_script.specs.Hostile.{Memory as SetMemory, Rings as SetRings, Around as OfOutside}
 use Rattle.vs_script.specs.Outside.{Turn as TakeTurn}
@@ -103,6 +104,11 @@ outside_holds (Reset cid) ring s calls holds = by (nat_le GUEST_CID_MIN cid && n
         (keeps_proxy_reset cid s.proxy calls holds.accounts) holds.shows
     by false = holds
 outside_holds (Tick ms) ring s calls holds = record { accounts = holds.accounts; shows = holds.shows }
+outside_holds (Grow stream alloc) ring s calls holds = record {
+  accounts = label_grow_by (label_at stream s.host) alloc s.proxy (λ x. AccountsFor x calls) holds.accounts
+      (λ flow. flow_grow_accounts flow alloc s.proxy calls holds.accounts);
+  shows = holds.shows;
+}
 outside_holds Client ring s calls holds = record { accounts = holds.accounts; shows = client_shows (account_of calls) s.host holds.shows }
 outside_holds (OfHost line) ring s calls holds = record {
   accounts = holds.accounts;

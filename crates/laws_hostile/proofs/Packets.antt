@@ -1,18 +1,19 @@
 -- The packets that the device took in a run were judged, and what its counts come to.
-use Rattle.std.proofs.Common.{◌≡◌, ◌&&◌, nat_le, Bool, true, false, cond, List, [], ◌∷◌, refl, subst}
+use Rattle.std.proofs.Common.{◌≡◌, ◌&&◌, nat_le, Bool, true, false, cond, List, [], ◌∷◌, refl, subst, ◌∙◌}
 use Rattle.vs_limits.specs.declared.TheConstants.{GUEST_CID_MIN, GUEST_CID_MAX}
 use Rattle.vs_contents.specs.CallTree.{Leads, played}
 use Rattle.vs_ring_plain.specs.Device.{DeviceState}
 use Rattle.vs_device_parts.specs.Calls.{DeviceTree}
 use Rattle.vs_hostile.specs.{Answer.state_after, Answers.Around, Answers.answer_around, Run.Done, Run.GuestState, Run.HasMemory}
 use Rattle.vs_hostile.specs.Run.{HasRings, HostileState, Nothing, WasReset, hostile_does, line_in, over}
-use Rattle.vs_proxy_parts.specs.{State.ProxyState, Turns.proxy_reset_of, Turns.turn_of}
+use Rattle.laws_proxy.proofs.Growing.{label_grow_counts}
+use Rattle.vs_proxy_parts.specs.{Growing.label_at, State.ProxyState, Turns.proxy_reset_of, Turns.turn_of}
 use Rattle.laws_proxy.specs.Account.{Counts.DeviceCounts, Counts.counts_of, Counts.counts_shown, Made.Made, Made.Makes, Made.account_of}
 use Rattle.laws_proxy.specs.Account.{Packets.chains_taken, Tied.AccountsFor, Told.Shows}
 use Rattle.laws_proxy.proofs.Account.{Keeping.Keeps, Packets.reset_counts, Packets.reset_takes_none, Packets.turn_counts}
 use Rattle.laws_proxy.proofs.Account.{Packets.turn_is_judged, Turning.keeps_proxy_reset, Turning.keeps_turn}
 use Rattle.vs_script.specs.Hostile.{Hostile, Write, WriteDesc, Give, Index, Packet, Before, Look}
-use Rattle.vs_script.specs.Outside.{Client, OfHost, Outside, Reset, Tick}
+use Rattle.vs_script.specs.Outside.{Client, Grow, OfHost, Outside, Reset, Tick}
 use Rattle.laws_hostile.specs.{Isolated.AreLinesJudged, Isolated.IsLineJudged, Recorded.calls_of, Recorded.made_in, Recorded.recorded}
 use Rattle.laws_hostile.proofs.{Lines.Holds, Lines.line_holds, Steps.played_makes, Steps.played_same}
 use Rattle.vs_script.specs.Hostile.{Memory as SetMemory, Rings as SetRings, Around as OfOutside}
@@ -59,6 +60,8 @@ outside_goes (Reset cid) ring s calls holds = by (nat_le GUEST_CID_MIN cid && na
         )
     by false = (refl, λ first is. is)
 outside_goes (Tick ms) ring s calls holds = (refl, λ first is. is)
+outside_goes (Grow stream alloc) ring s calls holds =
+    (refl, λ first is. label_grow_counts (label_at stream s.host) alloc s.proxy ∙ is)
 outside_goes Client ring s calls holds = (refl, λ first is. is)
 outside_goes (OfHost line) ring s calls holds = (refl, λ first is. is)
 

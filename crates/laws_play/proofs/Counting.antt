@@ -4,7 +4,8 @@ use Rattle.std.proofs.Common.{length-append}
 use Rattle.vs_contents.specs.CallTree.{Ask, Done, played}
 use Rattle.vs_ring_port.specs.declared.failure.Failure.{Failure}
 use Rattle.vs_device_parts.specs.Calls.{DeviceTree}
-use Rattle.vs_proxy_parts.specs.{State.ProxyState, Turns.proxy_reset_of, Turns.turn_of, declared.answers.Turn.Turn}
+use Rattle.laws_proxy.proofs.Growing.{label_grow_counts}
+use Rattle.vs_proxy_parts.specs.{Growing.label_at, State.ProxyState, Turns.proxy_reset_of, Turns.turn_of, declared.answers.Turn.Turn}
 use Rattle.laws_proxy.specs.Account.{Counts.DeviceCounts, Counts.count_made, Counts.counts_of, Counts.counts_shown, Made.Made, Made.made}
 use Rattle.laws_proxy.proofs.Account.{Quiet.counts_reset, Quiet.counts_turn, Walks.Walks}
 use Rattle.vs_script.specs.{Outside.Outside, Play.Event, Data.bytes_of}
@@ -42,6 +43,7 @@ module _ (first : DeviceCounts) where
       played_counts (λ (x : ProxyState × Result (Unit {0}) Failure). counts_shown x.0.device) (proxy_reset_of cid p.world.proxy)
       (around p.world) calls (counts_shown p.world.proxy.device) first (counts_reset false cid p.world.proxy) is
   outside_counts (outside.Tick ms) p calls is = is
+  outside_counts (outside.Grow stream alloc) p calls is = label_grow_counts (label_at stream p.world.host) alloc p.world.proxy ∙ is
   outside_counts outside.Client p calls is = is
   outside_counts (outside.OfHost host) p calls is = by host
     where
@@ -82,6 +84,9 @@ host_within m (outside.HostFail n) p at =
 line_within : (m : ℕ) (e : Event) (p : PlayWorld) → FailsWithin m p.world → After m e p
 line_within m (script.Around outside.Turn) p at = turn_fails m p.moment p.world at
 line_within m (script.Around (outside.Reset cid)) p at = reset_fails m cid p.world at
+line_within m (script.Around (outside.Grow stream alloc)) p at =
+    subst (λ (c : DeviceCounts). c.faults + length p.world.host.to_fail ≤ m)
+    (sym (label_grow_counts (label_at stream p.world.host) alloc p.world.proxy)) at
 line_within m (script.Around (outside.OfHost host)) p at = host_within m host p at
 line_within m x p at = at
 

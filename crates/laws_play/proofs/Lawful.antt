@@ -217,7 +217,7 @@ module _ (n : ℕ) where
   close_named before more id bounded is =
       let p = world_after before (opened_play n) in
       let well = world_well before (front_bounded before (script.Close id ∷ more) bounded) in
-      let over = closed_unknown p.world.driver.next_port id p.world.driver well.driver.sound well.received.numbers is in
+      let over = closed_unknown p.world.driver.next_port id p.world.driver well.driver.sound well.right.received.numbers is in
       subst (λ (q : PlayWorld). flow_of id q.world.driver ≡ None) (sym (after_both before (script.Close id ∷ more) (opened_play n)))
       (still_closed (script.Close id) p (world_rests before) well id more (rest_bounded before (script.Close id ∷ more) bounded)
       over)

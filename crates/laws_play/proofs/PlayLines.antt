@@ -21,6 +21,7 @@ abbrev lines_around : Outside → ℕ → List Line
 lines_around outside.Turn now = world.TurnAt now ∷ []
 lines_around (outside.Reset cid) now = world.ResetTo cid ∷ []
 lines_around (outside.Tick ms) now = []
+lines_around (outside.Grow stream alloc) now = world.Grow stream alloc ∷ []
 lines_around outside.Client now = world.Client ∷ []
 lines_around (outside.OfHost host) now = host_line host ∷ []
 
@@ -77,6 +78,7 @@ around_right : (line : Outside) (now : ℕ) → IsBounded (script.Around line) �
 around_right outside.Turn now b = (refl, tt)
 around_right (outside.Reset cid) now b = (cid_right cid b.0 b.1, tt)
 around_right (outside.Tick ms) now b = tt
+around_right (outside.Grow stream alloc) now b = (refl, tt)
 around_right outside.Client now b = (refl, tt)
 around_right (outside.OfHost host) now b = (host_right host, tt)
 
@@ -111,6 +113,7 @@ pub around_journal : (line : Outside) (p : PlayWorld) → (event_played (script.
 around_journal outside.Turn p = refl
 around_journal (outside.Reset cid) p = refl
 around_journal (outside.Tick ms) p = refl
+around_journal (outside.Grow stream alloc) p = refl
 around_journal outside.Client p = refl
 around_journal (outside.OfHost host) p = by host
   where

@@ -145,7 +145,7 @@ module _ {fresh : Type 0} (w : World) (well : IsWell fresh w) (yes : fresh) (res
     driver_fair = driver_fair;
     device_fair = device_fair;
     unread = λ i d less. let held = (well.driver.entries i d less).buffer in (held.fits, held.space);
-    pending = λ i d less. let fits = (well.device.fits.entries i d less).bytes in omega (arith, fits.unread, fits.within, fits.alloc);
+    pending = λ i d less. let fits = (well.device.fits.entries i d less).bytes in (omega (arith, fits.unread, fits.within), fits.alloc);
     broken = well.broken;
     overrun = well.overrun;
   }

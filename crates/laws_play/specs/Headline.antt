@@ -3,7 +3,7 @@
 use Rattle.std.specs.Prelude.{◌≡◌, ◌≢◌, ℕ, ◌+◌, ◌-◌, ◌^◌, ◌≤◌, min, ◌||◌, Bool, true, false, List, [], ◌∷◌, ◌++◌, length, Some, None, All}
 use Rattle.std.specs.Prelude.{AllPairs, Contains, Ok}
 use Rattle.vs_flow.specs.{declared.flow.Flow.Flow, Connection.first_of}
-use Rattle.vs_limits.specs.declared.TheConstants.{BUF_ALLOC, BUF_ALLOC_MAX}
+use Rattle.vs_limits.specs.declared.TheConstants.{BUF_ALLOC_MAX}
 use Rattle.laws_history.specs.{History.History, History.Put, History.gots, History.puts, Packets.allowance, Packets.bytes, Packets.has}
 use Rattle.laws_history.specs.{Packets.is_rst, Packets.shuts_send, Packets.size, declared.packet.Packet.Packet}
 use Rattle.vs_page.specs.{Log.Device, Log.Driver, Log.HasGotAll, Log.Log, Log.Role, Log.history_of, Open.WasOpened, Open.is_open}
@@ -172,7 +172,7 @@ pub record KeepsCredit (w : World) : Type 0 where
   pub driver_fair : IsFairLog Driver (driver_log w)
   pub device_fair : IsFairLog Device (device_log w)
   pub unread : All (λ e. (length e.value.unread ≤ e.value.end.credit.alloc) × (e.value.end.credit.alloc ≤ BUF_ALLOC_MAX)) w.driver.table.entries
-  pub pending : All (λ e. length e.value.pending ≤ BUF_ALLOC) w.proxy.device.table.entries
+  pub pending : All (λ e. (length e.value.pending ≤ e.value.end.credit.alloc) × (e.value.end.credit.alloc ≤ BUF_ALLOC_MAX)) w.proxy.device.table.entries
   pub broken : w.driver.broken ≡ 0
   pub overrun : w.proxy.device.overrun ≡ 0
 

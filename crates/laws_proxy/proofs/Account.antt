@@ -14,6 +14,7 @@ pub mod Turning
 pub mod Judging
 pub mod Shown
 pub mod Carrying
+pub mod Growing
 pub mod Telling
 pub mod Walks
 pub mod Quiet

@@ -9,7 +9,7 @@ use Rattle.vs_conn.proofs.Frames.{got_over, paid_credit}
 use Rattle.vs_credit.specs.Credit.{room_of, unread_of}
 use Rattle.vs_header.specs.{Op.op_named, declared.Header.Header, declared.Op.Op}
 use Rattle.vs_header.specs.declared.Op.TheVariants as op
-use Rattle.vs_limits.specs.declared.TheConstants.{BUF_ALLOC}
+use Rattle.vs_limits.specs.declared.TheConstants.{BUF_ALLOC_MAX}
 use Rattle.vs_device_parts.specs.{Connections.{after_shut, after_written}, State.DeviceConnection, Streams.to_write, Transmitting.heard}
 use Rattle.laws_device.specs.Honest.{HoldsBytes}
 use Rattle.laws_rest.specs.Pending.{IsExact, delivered}
@@ -18,7 +18,7 @@ forwards : (rx fwd n u : ℕ) → rx < 2 ^ 32 → fwd < 2 ^ 32 → n ≤ u → (
     → (rx + 2 ^ 32 - (fwd + n) % 2 ^ 32) % 2 ^ 32 ≡ u - n
 forwards rx fwd n u r f le is = omega (arith, r, f, le, is)
 
-takes : (rx fwd n alloc : ℕ) → rx < 2 ^ 32 → fwd < 2 ^ 32 → alloc ≤ BUF_ALLOC → n ≤ alloc - (rx + 2 ^ 32 - fwd) % 2 ^ 32
+takes : (rx fwd n alloc : ℕ) → rx < 2 ^ 32 → fwd < 2 ^ 32 → alloc ≤ BUF_ALLOC_MAX → n ≤ alloc - (rx + 2 ^ 32 - fwd) % 2 ^ 32
     → (rx + 2 ^ 32 - fwd) % 2 ^ 32 ≤ alloc → ((rx + n) % 2 ^ 32 + 2 ^ 32 - fwd) % 2 ^ 32 ≡ (rx + 2 ^ 32 - fwd) % 2 ^ 32 + n
 takes rx fwd n alloc r f a le within = omega (arith, r, f, a, le, within)
 

@@ -221,7 +221,7 @@ counted_at act (says.Got n) p = refl
 counted_at act (says.Waits why) p = refl
 counted_at act says.Ends p = refl
 
-all_counted_at : (act : Act) (ts : List Told) (p : Progress) → (all_counted act ts p).at ≡ p.at
+pub all_counted_at : (act : Act) (ts : List Told) (p : Progress) → (all_counted act ts p).at ≡ p.at
 all_counted_at act [] p = refl
 all_counted_at act (t ∷ ts) p = all_counted_at act ts (counted act t p) ∙ counted_at act t p
 

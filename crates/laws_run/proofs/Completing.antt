@@ -40,11 +40,11 @@ use Rattle.laws_run.specs.Complete.{IsAtOpen, IsCompleteEnding, IsCompleteExchan
 use Rattle.laws_device.{specs.Streams.has_open_stream, specs.Streams.is_open_on, proofs.Waiting.open_among}
 use Rattle.laws_apps.specs.Traces.{AllTell, AtId, IsClosing, IsDrained, IsStopped, IsTraced, TellsOf, is_shut, is_touched}
 use Rattle.vs_apps_parts.specs.{Told.told_of, declared.told.Told.Told}
-use Rattle.laws_run.specs.Bounds.{AreShutDown, GoesOn, HasAll, HasBounds, IsBounded, IsShutDown, TakesOn, calls_of_others, done_at, received_in, total}
+use Rattle.laws_run.specs.Bounds.{AreShutDown, HasBounds, HasEnd, IsBounded, IsShutDown, TakesOn, calls_of_others, done_at, early, is_cut, total}
 use Rattle.laws_run.proofs.Bounding.{AreFree, ArePlain, Way, all_moved, receiving, sending, sending_all, tally}
-use Rattle.laws_run.proofs.Moved.{all_plain, app_early, app_free, app_less, app_plain, drain_early, drained, early, free_moves, free_sends}
-use Rattle.laws_run.proofs.Moved.{others_unshut, received_enough, sent_enough}
-use Rattle.laws_settled.specs.Shut.{IsShutBy}
+use Rattle.laws_run.proofs.Moved.{all_plain, app_early, app_free, app_less, app_plain, drain_early, drained, free_moves, free_sends, stopped}
+use Rattle.laws_run.proofs.{Moved.{received_enough, sent_enough}, Trying.{all_lined, all_tried, tried}}
+use Rattle.laws_settled.specs.Shut.{GivesNoMore, IsShutBy}
 use Rattle.laws_run.specs.Dry.{AreDry, AreFull, AreIdle, IsDry, IsFull, reads_of, writes_of}
 use Rattle.laws_run.proofs.{Alike.AreApart, Alike.HasApart, Alike.Leaves, Alike.leaves_core, Drying.under_at, Endings.Ends, Wrote.{is_first, same_payload, streamed, to_device, wrote_there}}
 use Rattle.laws_run.proofs.Unread.{no_free, some_unread, to_read, unread_within}
@@ -402,23 +402,16 @@ module _ (script : RunScript) (driver : DriverState) (end : Sight) (apps : List 
             (shut_there id x within named (λ s. s.host_closed ≡ true) (λ y own is. is.receives (ap (λ (s : Shut). s.receive) own ∙ peer))) takes.1
 
     ended_there : (id : ℕ) (x : DriverEntry) (within : Contains driver.table.entries x) → x.value.id ≡ id → x.value.end.peer.send ≡ true
-        → All (λ s. is_open_on (opened id).flow s ≡ true → s.ended ≡ true) h.streams
-    ended_there id x within named peer = shut_there id x within named (λ s. s.ended ≡ true) (λ y own is. is.sends (ap (λ (s : Shut). s.send) own ∙ peer))
+        → All (λ s. is_open_on (opened id).flow s ≡ true → GivesNoMore s) h.streams
+    ended_there id x within named peer = shut_there id x within named (λ s. GivesNoMore s) (λ y own is. is.sends (ap (λ (s : Shut). s.send) own ∙ peer))
 
-    goes_on : (id : ℕ) → 1 ≤ (opened id).number → has_open_stream (opened id).flow h ≡ true → GoesOn (opened id).flow h
-        → AtId IsDrained id driver.next_id driver.table.entries → ⊥
-    goes_on id some opens more at = let x = at_rest IsDrained id some opens at in by x.0 x.1 x.2 x.3
+    has_all : (id : ℕ) → 1 ≤ (opened id).number → has_open_stream (opened id).flow h ≡ true
+        → IsTraced journal journal driver.next_id driver.table.entries → AtId IsDrained id driver.next_id driver.table.entries → HasEnd opened journal h id
+    has_all id some opens traced at = let x = at_rest IsDrained id some opens at in by x.0 x.1 x.2 x.3
       where
-        by : (x : DriverEntry) → Contains driver.table.entries x → x.value.id ≡ id → IsDrained x.value → ⊥
-        by x within named (inl over) = let no : Ended ≡ Live = sym over ∙ live x within in cc
-        by x within named (inr none) = any_both (opened id).flow (λ s. s.ended) h.streams opens (ended_there id x within named none.0) more
-
-    has_all : (id : ℕ) → 1 ≤ (opened id).number → has_open_stream (opened id).flow h ≡ true → is_shut id journal ≡ false
-        → IsTraced journal journal driver.next_id driver.table.entries → AtId IsDrained id driver.next_id driver.table.entries → HasAll opened journal h id
-    has_all id some opens unshut traced at = let x = at_rest IsDrained id some opens at in by x.0 x.1 x.2 x.3
-      where
-        gets : (x : DriverEntry) → Contains driver.table.entries x → x.value.id ≡ id → (b : Bool) → x.value.end.own.receive ≡ b → receives x.value.end ≡ true
-        gets x within named true own =
+        gets : (x : DriverEntry) → Contains driver.table.entries x → x.value.id ≡ id → is_shut id journal ≡ false → (b : Bool) → x.value.end.own.receive ≡ b
+            → receives x.value.end ≡ true
+        gets x within named unshut true own =
             let shut = All-contains (λ (y : DriverEntry). is_touched y.value ≡ true → is_shut y.value.id journal ≡ true) driver.table.entries x traced.touched within
             (touched x.value.end.own.send) in
             absurd (let no : true ≡ false = sym shut ∙ ap (λ (i : ℕ). is_shut i journal) named ∙ unshut in cc)
@@ -426,12 +419,12 @@ module _ (script : RunScript) (driver : DriverState) (end : Sight) (apps : List 
             touched : (b : Bool) → (b || (x.value.end.own.receive || x.value.closed)) ≡ true
             touched true = refl
             touched false = ap (λ (d : Bool). d || x.value.closed) own
-        gets x within named false own = ap (λ (st : State). receives_in st x.value.end.own.receive) (live x within) ∙ ap (λ (b : Bool). not b) own
+        gets x within named unshut false own = ap (λ (st : State). receives_in st x.value.end.own.receive) (live x within) ∙ ap (λ (b : Bool). not b) own
 
-        by : (x : DriverEntry) → Contains driver.table.entries x → x.value.id ≡ id → IsDrained x.value → HasAll opened journal h id
+        by : (x : DriverEntry) → Contains driver.table.entries x → x.value.id ≡ id → IsDrained x.value → HasEnd opened journal h id
         by x within named (inl over) = absurd (let no : Ended ≡ Live = sym over ∙ live x within in cc)
         by x within named (inr none) =
-            (all_received id x within named none.1 (gets x within named x.value.end.own.receive refl), ended_there id x within named none.0)
+            (λ unshut. all_received id x within named none.1 (gets x within named unshut x.value.end.own.receive refl), ended_there id x within named none.0)
 
     -- The bounds.
     closes_all : (js : Journal) → AllTell js driver.next_id driver.table.entries → AreShutDown opened h js
@@ -443,7 +436,7 @@ module _ (script : RunScript) (driver : DriverState) (end : Sight) (apps : List 
         by _ t tells = tt
 
     bounded_run : IsBounded script apps entries bytes opened h
-    bounded_run = record { bounds = bounds; closes = closes_all journal traced.tell }
+    bounded_run = record { bounds = bounds; uncut = λ id some takes. uncut id some takes (is_cut id journal) refl; ended = ended; closes = closes_all journal traced.tell }
       where
         traced : IsTraced journal journal driver.next_id driver.table.entries
         traced = run.kept.traced refl (driver_log end) refl
@@ -451,23 +444,35 @@ module _ (script : RunScript) (driver : DriverState) (end : Sight) (apps : List 
         plain : ArePlain journal
         plain = all_plain script bytes entries
 
-        bounds : (k : ℕ) → k < length script → HasBounds opened h (acts_of k script) k script bytes entries (state_at k apps).progress
+        uncut : (id : ℕ) → 1 ≤ (opened id).number → TakesOn (opened id).flow h → (b : Bool) → is_cut id journal ≡ b → is_cut id journal ≡ false
+        uncut id some takes false none = none
+        uncut id some takes true cut = absurd (takes_on id some takes (stopped id driver.next_id driver.table.entries journal traced.tell cut))
+
+        ended : (id : ℕ) → 1 ≤ (opened id).number → has_open_stream (opened id).flow h ≡ true → early id journal ≡ true → HasEnd opened journal h id
+        ended id some opens over = has_all id some opens traced (drained id driver.next_id driver.table.entries journal traced.tell over)
+
+        bounds : (k : ℕ) → k < length script → HasBounds (acts_of k script) k script bytes entries (state_at k apps).progress
         bounds k less = record {
           steps = (run.follows k less).0;
           follows = (run.follows k less).1;
           noted = (run.follows k less).2;
-          sends = λ id some takes apart_from.
-              let all = moved sending id (free_sends id driver.next_id driver.table.entries (takes_on id some takes) journal plain traced.tell) apart_from in
+          lines =
+              let most = all_tried (acts_of k script) (run.follows k less).0 (state_at k apps).progress (run.follows k less).1 in
+              let same = ap (λ (js : Journal). tried js) (run.follows k less).2 in
+              let lined = all_lined script bytes k (length script) entries (run.kept.places refl (driver_log end) refl).1 in omega (arith, most, same, lined);
+          sends = λ id apart_from free.
+              let all = moved sending id (free_sends id journal plain free) apart_from in
               let most = sent_enough id driver.next_id driver.table.entries journal traced.tell in omega (arith, all, most);
-          exchanges = λ id some takes apart_from more.
-              let all = moved sending_all id (free_moves id driver.next_id driver.table.entries (takes_on id some takes) journal
-              (λ so over. goes_on id some takes.0 more so) plain traced.tell) apart_from in
+          exchanges = λ id apart_from free none.
+              let all = moved sending_all id (free_moves id journal plain free none) apart_from in
               let most = sent_enough id driver.next_id driver.table.entries journal traced.tell in omega (arith, all, most);
-          receives = λ id some takes unshut. received id some takes unshut (early id journal) refl;
-          drains = λ id some takes unshut drain.
+          receives = λ id apart_from free none.
+              let all = moved receiving id (free_moves id journal plain free none) apart_from in
+              let most = received_enough script bytes id entries run.kept.stands in omega (arith, all, most);
+          drains = λ id apart_from drain.
               let played = run.follows k less in
               let over = drain_early id (acts_of k script) played.0 (state_at k apps).progress played.1 drain in
-              all_there id some takes unshut (app_early script bytes k id entries (ap (λ (js : Journal). early id js) (sym played.2) ∙ over));
+              app_early script bytes k id entries apart_from (ap (λ (js : Journal). early id js) (sym played.2) ∙ over);
         }
           where
             own : Journal
@@ -482,18 +487,6 @@ module _ (script : RunScript) (driver : DriverState) (end : Sight) (apps : List 
                 let all = all_moved w id (acts_of k script) played.0 (state_at k apps).progress played.1 plain_own free_own in
                 let most = app_less script bytes k w.tell id entries in
                 let same = ap (λ (js : Journal). tally w.tell id js) played.2 in omega (arith, all, most, same)
-
-            all_there : (id : ℕ) → 1 ≤ (opened id).number → TakesOn (opened id).flow h → is_shut id journal ≡ false → early id journal ≡ true → HasAll opened journal h id
-            all_there id some takes unshut over =
-                has_all id some takes.0 unshut traced (drained id driver.next_id driver.table.entries journal traced.tell unshut over)
-
-            received : (id : ℕ) → 1 ≤ (opened id).number → TakesOn (opened id).flow h → is_shut id journal ≡ false → (b : Bool) → early id journal ≡ b
-                → (total received_in (done_at id (acts_of k script) (run.follows k less).0) ≤ length (received_by id journal)) ⊎ HasAll opened journal h id
-            received id some takes unshut true over = inr (all_there id some takes unshut over)
-            received id some takes unshut false none =
-                let all = moved receiving id (free_moves id driver.next_id driver.table.entries (takes_on id some takes) journal
-                (λ so over. let no : true ≡ false = sym over ∙ none in cc) plain traced.tell) (others_unshut script bytes k id entries unshut) in
-                let most = received_enough script bytes id entries run.kept.stands in inl (omega (arith, all, most))
 
     wait_complete : (k : ℕ) (why : WaitsFor) → Halts old.driver (acts_of k script) (state_at k apps).progress why driver
         → IsCompleteWait opened journal h (state_at k apps).progress.conn why
@@ -597,5 +590,7 @@ module _ (script : RunScript) (driver : DriverState) (end : Sight) (apps : List 
           waits = λ k less. ending_complete told.0 told.1 k (ends k less);
           exchanges = λ k less. exchanged told.0 told.1 k (ends k less);
           bounded = bounded_run told.0 told.1;
+          given = (run.kept.given refl (driver_log end) refl).all;
+          owned = (run.kept.places refl (driver_log end) refl).1;
         },
       )

@@ -1,8 +1,8 @@
 -- A stage of filling that puts nothing read each stream that may be read, and each gave Again.
 use Rattle.std.proofs.Common.{slice_get, slice_set, ◌-◌}
 use Rattle.std.proofs.Common.{◌≡◌, ◌≢◌, ◌≤◌, ◌+◌, ◌==◌, ◌&&◌, ◌||◌, not, ℕ, zero, suc, Bool, true, false, cond, List, [], ◌∷◌, ◌++◌, length, Option, Some, None, refl, sym, ap, subst, ◌∙◌, arith}
-use Rattle.std.proofs.lemmas.{Bool.eq-eqb, Bool.eqb-true, Grind.common_steps, Option.same_Some}
-use Rattle.std.specs.{Option.ForSome, Option.option_map, Option.option_map_or, Prelude.{filter, min, nat_le, nat_lt, take}}
+use Rattle.std.proofs.lemmas.{Bool.eq-eqb, Bool.eqb-true, Option.same_Some}
+use Rattle.std.specs.{Option.ForSome, Option.option_map, Option.option_map_or, Prelude.{min, take}}
 use Rattle.vs_contents.specs.{CallTree.Ask, CallTree.Done, CallTree.bind, CallTree.for_each, CallTree.while_up_to, Contents.Exposes}
 use Rattle.vs_conn.specs.{End.ConnectionEnd, End.owes_of, End.wanting_credit, Headers.owed_header, Headers.payload_header, End.with_payload_sent, End.with_shut}
 use Rattle.vs_conn.specs.declared.end.{Owed.Owed, State.State, State.TheVariants.{Answering, Asked, Ended, Live}, TheConstants.OWED_MAX}
@@ -115,14 +115,6 @@ OwnDry n x d = (id : ℕ) → reads_under n x.state.table ≡ Some id → IsTold
 record Serves (slot : ℕ) (r : Filling) (c : Situation) (x : Filling) (d : Situation) : Type 0 where
   touches : Touches slot r c x d
   own : OwnDry slot x d
-
-same_touches : (slot : ℕ) (r : Filling) (c : Situation) (x : Filling) (d : Situation) → Same r c x d → Touches slot r c x d
-same_touches slot r c x d same = record {
-  slots = ap (λ (t : Table DeviceConnection). slots t) same.table;
-  frame = keeps_same _ _ _ _ same.table same.host;
-  others = λ n other. ap (λ (t : Table DeviceConnection). reads_under n t) same.table;
-  dry = λ id is. subst (λ (o : Option HostContents). IsToldDry id o) (sym same.host) is;
-}
 
 serves_then : (slot : ℕ) (r : Filling) (c : Situation) (q : Filling) (d : Situation) (x : Filling) (e : Situation) → Serves slot r c q d → Same q d x e
     → Serves slot r c x e

@@ -13,6 +13,7 @@ pub mod Drying
 pub mod Pumping
 pub mod Bounding
 pub mod Moved
+pub mod Trying
 pub mod Completing
 pub mod Lines
 pub mod Holding

@@ -1,5 +1,5 @@
 -- Which ids have a line: those that an app was given; and an id that was closed was given, and a port that is listened on stands in the script.
-use Rattle.std.proofs.Common.{◌≡◌, ℕ, zero, suc, ◌+◌, ◌<◌, ◌≤◌, ◌==◌, ◌||◌, Bool, true, false, cond, List, [], ◌∷◌, ◌++◌, length, get_or, Option, Some, None}
+use Rattle.std.proofs.Common.{◌≡◌, ℕ, zero, suc, ◌+◌, ◌<◌, ◌≤◌, ◌||◌, Bool, true, false, cond, List, [], ◌∷◌, length, get_or, Option, Some, None}
 use Rattle.std.proofs.Common.{Ok, Err, refl, sym, ap, subst, ◌∙◌, arith, slice_get}
 use Rattle.std.proofs.lemmas.{Bool.eq-eqb, Bool.eqb-true, List.Folds.list_any-append, List.FromFn.{get_or-range_with_len, length-range_with_len}}
 use Rattle.std.specs.List.{flat_map, list_any, range_with_len}
@@ -13,7 +13,7 @@ use Rattle.vs_apps_parts.specs.declared.journal.Called.TheVariants as called
 use Rattle.vs_apps_parts.specs.declared.journal.Deed.TheVariants as deed
 use Rattle.laws_apps.specs.{Accounts.HasOne, Accounts.TellFlows, Accounts.TellsFlow, Runs.IsRunOf, Runs.Run, Runs.app_at}
 use Rattle.laws_apps.specs.Placed.{AreOwned, NamesFlow, NamesOne, given_by, some_did, was_closed, was_given, was_listened}
-use Rattle.laws_apps.proofs.{Named.closed_given, Named.listened_there, Placed.one_of, Placed.or_first, Placed.or_second}
+use Rattle.laws_apps.proofs.{Named.{app_did, closed_given, did_append, listened_there}, Placed.one_of, Placed.or_first, Placed.or_second}
 use Rattle.vs_run_report.specs.Connections.{listed, opened_all, opened_by, opened_in, opened_of}
 use Rattle.vs_run_report.specs.declared.connection.Opened.{Opened}
 
@@ -21,54 +21,30 @@ plain : (b : Bool) → (b || false) ≡ true → b ≡ true
 plain true is = refl
 plain false is = is
 
--- What some call of two journals did.
-module _ (by : (call : GuestCall) → ReplyTo call → Option ℕ) (m : ℕ) where
-  did_append : (a b : Journal) → some_did by m (a ++ b) ≡ (some_did by m a || some_did by m b)
-  did_append [] b = refl
-  did_append (x ∷ a) b = by_first (names m (by x.call x.reply)) (did_append a b)
-    where
-      by_first : (c : Bool) → some_did by m (a ++ b) ≡ (some_did by m a || some_did by m b)
-          → (c || some_did by m (a ++ b)) ≡ ((c || some_did by m a) || some_did by m b)
-      by_first true rest = refl
-      by_first false rest = rest
+-- An app of the script did what some call did.
+module _ (by : (call : GuestCall) → ReplyTo call → Option ℕ) (m : ℕ) (script : RunScript) (bytes : List ℕ) where
+  pub record AppDid (n : ℕ) (es : List Entry) : Type 0 where
+    pub app : ℕ
+    pub less : app < n
+    pub did : some_did by m (calls_of_app app script bytes es) ≡ true
 
-  -- An app of the script did so; and what an app did was done.
-  module _ (script : RunScript) (bytes : List ℕ) where
-    pub record AppDid (n : ℕ) (es : List Entry) : Type 0 where
-      pub app : ℕ
-      pub less : app < n
-      pub did : some_did by m (calls_of_app app script bytes es) ≡ true
-
-    pub did_app : (n : ℕ) (es : List Entry) → AreOwned n es → some_did by m (calls_of script bytes es) ≡ true → AppDid n es
-    did_app n [] owned is = absurd cc
-    did_app n (e ∷ es) owned is =
-        one_of false (some_did by m (calls_of script bytes es)) (some_did by m (made_by script bytes e)) (AppDid n (e ∷ es))
-        (sym (did_append (calls_of script bytes es) (made_by script bytes e)) ∙ is) (λ no_way. absurd cc)
-        (λ older. let r = did_app n es owned.1 older in record {
-          app = r.app;
-          less = r.less;
-          did = did_append (calls_of_app r.app script bytes es) (made_by_app r.app script bytes e) ∙ or_first (some_did by m (calls_of_app r.app script bytes es)) _ r.did;
-        })
-        (λ now. record {
-          app = e.app;
-          less = owned.0.app;
-          did = did_append (calls_of_app e.app script bytes es) (made_by_app e.app script bytes e)
-              ∙ or_second (some_did by m (calls_of_app e.app script bytes es)) _
-              (ap (λ (b : Bool). some_did by m (cond b (made_by script bytes e) [])) (eq-eqb e.app e.app refl) ∙ now);
-        })
-
-    pub app_did : (k : ℕ) (es : List Entry) → some_did by m (calls_of_app k script bytes es) ≡ true → some_did by m (calls_of script bytes es) ≡ true
-    app_did k [] is = absurd cc
-    app_did k (e ∷ es) is =
-        did_append (calls_of script bytes es) (made_by script bytes e)
-        ∙ one_of false (some_did by m (calls_of_app k script bytes es)) (some_did by m (made_by_app k script bytes e)) _
-        (sym (did_append (calls_of_app k script bytes es) (made_by_app k script bytes e)) ∙ is) (λ no_way. absurd cc)
-        (λ older. or_first (some_did by m (calls_of script bytes es)) _ (app_did k es older))
-        (λ now. or_second (some_did by m (calls_of script bytes es)) _ (own (e.app == k) now))
-      where
-        own : (b : Bool) → some_did by m (cond b (made_by script bytes e) []) ≡ true → some_did by m (made_by script bytes e) ≡ true
-        own true so = so
-        own false so = absurd cc
+  pub did_app : (n : ℕ) (es : List Entry) → AreOwned n es → some_did by m (calls_of script bytes es) ≡ true → AppDid n es
+  did_app n [] owned is = absurd cc
+  did_app n (e ∷ es) owned is =
+      one_of false (some_did by m (calls_of script bytes es)) (some_did by m (made_by script bytes e)) (AppDid n (e ∷ es))
+      (sym (did_append by m (calls_of script bytes es) (made_by script bytes e)) ∙ is) (λ no_way. absurd cc)
+      (λ older. let r = did_app n es owned.1 older in record {
+        app = r.app;
+        less = r.less;
+        did = did_append by m (calls_of_app r.app script bytes es) (made_by_app r.app script bytes e) ∙ or_first (some_did by m (calls_of_app r.app script bytes es)) _ r.did;
+      })
+      (λ now. record {
+        app = e.app;
+        less = owned.0.app;
+        did = did_append by m (calls_of_app e.app script bytes es) (made_by_app e.app script bytes e)
+            ∙ or_second (some_did by m (calls_of_app e.app script bytes es)) _
+            (ap (λ (b : Bool). some_did by m (cond b (made_by script bytes e) [])) (eq-eqb e.app e.app refl) ∙ now);
+      })
 
 -- A run's ids that were closed were given, and its ports that are listened on stand in its script.
 module _ (first : ℕ) (script : RunScript) (run : Run) (is : IsRunOf first script run) (owned : AreOwned (length script) run.entries) where

@@ -1,5 +1,5 @@
 -- What a journal tells of the calls by which an app moved bytes: what a reply tells is what was moved.
-use Rattle.std.proofs.Common.{◌≡◌, ◌⊎◌, inl, inr, ℕ, ◌+◌, ◌≤◌, ◌==◌, ◌||◌, ◌&&◌, nat_lt, Bool, true, false, cond, List, [], ◌∷◌, ◌++◌}
+use Rattle.std.proofs.Common.{◌≡◌, ◌⊎◌, inl, inr, ℕ, ◌+◌, ◌≤◌, ◌==◌, ◌||◌, ◌&&◌, not, nat_lt, Bool, true, false, cond, List, [], ◌∷◌, ◌++◌}
 use Rattle.std.proofs.Common.{Option, Some, None, Ok, Err, append_assoc, append-nil, length, length-append, length-drop, drop, length-take}
 use Rattle.std.proofs.Common.{slice_get, refl, sym, ap, subst, ◌∙◌, arith}
 use Rattle.std.{proofs.lemmas.Bool.Decides.nat_tests, proofs.lemmas.Bool.and_parts, proofs.lemmas.Bool.eq-eqb, proofs.lemmas.Bool.eqb-true}
@@ -28,7 +28,7 @@ use Rattle.laws_apps.specs.{Traces.AllTell, Traces.AtId, Traces.IsDrained, Trace
 use Rattle.laws_apps.specs.Traces.{shuts}
 use Rattle.laws_run.proofs.Bounding.{is_send, is_recv, is_move, sent_told, got_told, sending, tally, AreFree, follows_went, no_received}
 use Rattle.laws_run.proofs.Bounding.{ArePlain, at_parts}
-use Rattle.laws_run.specs.{Bounds.calls_of_others, Bounds.done_at, Bounds.done_by, Bounds.is_at, Bounds.is_drain, Bounds.went}
+use Rattle.laws_run.specs.Bounds.{calls_of_others, done_at, done_by, early, is_at, is_cut, is_drain, is_over, receives_on, sends_on, was_over, went}
 
 -- What stands in a journal, and in an app's part of it.
 shut_after : (id : ℕ) (ms journal : Journal) → is_shut id (ms ++ journal) ≡ (is_shut id ms || is_shut id journal)
@@ -72,16 +72,16 @@ all_plain script bytes [] = tt
 all_plain script bytes (e ∷ es) = plain_after (calls_of script bytes es) (made_by script bytes e) (all_plain script bytes es) (made_plain script bytes e.app e.deed)
 
 module _ (script : RunScript) (bytes : List ℕ) (k : ℕ) where
-  pub others_unshut : (id : ℕ) (es : List Entry) → is_shut id (calls_of script bytes es) ≡ false → is_shut id (calls_of_others k script bytes es) ≡ false
-  others_unshut id [] none = refl
-  others_unshut id (e ∷ es) none =
-      let parts = both_false _ _ (sym (shut_after id (calls_of script bytes es) (made_by script bytes e)) ∙ none) in
-      shut_after id (calls_of_others k script bytes es) (cond (e.app == k) [] (made_by script bytes e))
-      ∙ ap (λ (b : Bool). b || is_shut id (cond (e.app == k) [] (made_by script bytes e))) (others_unshut id es parts.0) ∙ by (e.app == k) parts.1
-    where
-      by : (b : Bool) → is_shut id (made_by script bytes e) ≡ false → is_shut id (cond b [] (made_by script bytes e)) ≡ false
-      by true is = refl
-      by false is = is
+  -- An entry more of the others', which shut no id.
+  others_apart : (id : ℕ) (e : Entry) (es : List Entry) → is_shut id (calls_of_others k script bytes (e ∷ es)) ≡ false
+      → (is_shut id (calls_of_others k script bytes es) ≡ false) × (is_shut id (cond (e.app == k) [] (made_by script bytes e)) ≡ false)
+  others_apart id e es apart = both_false _ _ (sym (shut_after id (calls_of_others k script bytes es) (cond (e.app == k) [] (made_by script bytes e))) ∙ apart)
+
+  next_same : (id : ℕ) (e : Entry) (older own : Journal) → is_shut id older ≡ is_shut id own → (b : Bool) → is_shut id (cond b [] (made_by script bytes e)) ≡ false
+      → is_shut id (made_by script bytes e ++ older) ≡ is_shut id (cond b (made_by script bytes e) [] ++ own)
+  next_same id e older own same true none = shut_after id (made_by script bytes e) older ∙ ap (λ (b : Bool). is_shut id (made_by script bytes e) || b) same
+      ∙ sym (shut_after id (made_by script bytes e) own)
+  next_same id e older own same false none = shut_after id (made_by script bytes e) older ∙ ap (λ (b : Bool). b || is_shut id older) none ∙ same
 
   pub app_plain : (es : List Entry) → ArePlain (calls_of_app k script bytes es)
   app_plain [] = tt
@@ -116,19 +116,13 @@ module _ (script : RunScript) (bytes : List ℕ) (k : ℕ) where
     free_from (e ∷ es) older own all apart same free =
         subst (AreFree of id) (sym (append_assoc (calls_of_app k script bytes es) (cond (e.app == k) (made_by script bytes e) []) own))
         (free_from es (made_by script bytes e ++ older) (cond (e.app == k) (made_by script bytes e) [] ++ own) all_then parts.0
-        (next_same (e.app == k) parts.1) (next_free (e.app == k) e.deed (free_last (calls_of script bytes es) (made_by script bytes e ++ older) all_then)))
+        (next_same id e older own same (e.app == k) parts.1) (next_free (e.app == k) e.deed (free_last (calls_of script bytes es) (made_by script bytes e ++ older) all_then)))
       where
         all_then : AreFree of id (calls_of script bytes es ++ (made_by script bytes e ++ older))
         all_then = subst (AreFree of id) (append_assoc (calls_of script bytes es) (made_by script bytes e) older) all
 
         parts : (is_shut id (calls_of_others k script bytes es) ≡ false) × (is_shut id (cond (e.app == k) [] (made_by script bytes e)) ≡ false)
-        parts = both_false _ _ (sym (shut_after id (calls_of_others k script bytes es) (cond (e.app == k) [] (made_by script bytes e))) ∙ apart)
-
-        next_same : (b : Bool) → is_shut id (cond b [] (made_by script bytes e)) ≡ false
-            → is_shut id (made_by script bytes e ++ older) ≡ is_shut id (cond b (made_by script bytes e) [] ++ own)
-        next_same true none = shut_after id (made_by script bytes e) older ∙ ap (λ (b : Bool). is_shut id (made_by script bytes e) || b) same
-            ∙ sym (shut_after id (made_by script bytes e) own)
-        next_same false none = shut_after id (made_by script bytes e) older ∙ ap (λ (b : Bool). b || is_shut id older) none ∙ same
+        parts = others_apart id e es apart
 
         next_free : (b : Bool) (d : Deed)
             → AreFree of id (elim d as (λ _. Journal) [ deed.Called c ↦ made_of script bytes e.app c ∷ [] | deed.Waited times why ↦ [] ] ++ older)
@@ -142,83 +136,89 @@ module _ (script : RunScript) (bytes : List ℕ) (k : ℕ) where
     app_free es free apart = subst (AreFree of id) (append-nil (calls_of_app k script bytes es))
         (free_from es [] [] (subst (AreFree of id) (sym (append-nil (calls_of script bytes es))) free) apart refl tt)
 
--- Whether a receive on an id was over, whatever came.
-abbrev is_over : Told → Bool
-is_over says.Ends = true
-is_over t = false
+or_case : (a b : Bool) (P : Type 0) → (a || b) ≡ true → (a ≡ true → P) → (b ≡ true → P) → P
+or_case true b P is one two = one refl
+or_case false b P is one two = two is
 
-abbrev recv_over : ℕ → GuestCall → Told → Bool
-recv_over id (call.Recv other n) t = (other == id) && is_over t
-recv_over id c t = false
+or_goes : (a b c d : Bool) → (a ≡ true → c ≡ true) → (b ≡ true → d ≡ true) → (a || b) ≡ true → (c || d) ≡ true
+or_goes true b c d one two is = ap (λ (x : Bool). x || d) (one refl)
+or_goes false b true d one two is = refl
+or_goes false b false d one two is = two is
 
-abbrev pub early : ℕ → Journal → Bool
-early id [] = false
-early id (m ∷ older) = recv_over id m.call (told_of m) || early id older
+-- Where no send, or no receive, on an id was over before a call shut the id, none was but behind one.
+module _ (id : ℕ) where
+  not_over : (a b c d : Bool) → ((a && (b && not c)) || d) ≡ false → a ≡ true → b ≡ true → c ≡ true
+  not_over true true true d none one two = refl
+  not_over true true false d none one two = absurd cc
+  not_over true false c d none one two = absurd cc
+  not_over false b c d none one two = absurd cc
 
-module _ (id next : ℕ) (ds : List DriverEntry) where
-  shut_or : (P : DriverConnection → Type 0) (other : ℕ) (older : Journal) → other ≡ id → (AtId P id next ds → is_shut id older ≡ true)
-      → (is_shut other older ≡ true) ⊎ AtId P other next ds → is_shut id older ≡ true
-  shut_or P other older at then (inl shut) = subst (λ (i : ℕ). is_shut i older ≡ true) at shut
-  shut_or P other older at then (inr is) = then (subst (λ (i : ℕ). AtId P i next ds) at is)
+  free_of : (of on : GuestCall → Bool) → ((c : GuestCall) → of c ≡ true → id_in c ≡ Some id → on c ≡ true) → (js : Journal) → ArePlain js
+      → was_over on id js ≡ false → AreFree of id js
+  free_of of on here [] plain none = tt
+  free_of of on here (m ∷ older) plain none = (
+    λ is at ends. not_over (on m.call) (is_over (told_of m)) (is_shut id older) (was_over on id older) none (here m.call is (sym plain.0 ∙ at)) (ap (λ (t : Told). is_over t) ends),
+    free_of of on here older plain.1 (both_false (on m.call && (is_over (told_of m) && not (is_shut id older))) (was_over on id older) none).1,
+  )
 
-  module _ (stops : AtId IsStopped id next ds → ⊥) where
-    send_free : (c : GuestCall) (t : Told) (older : Journal) → TellsOf c t older next ds → is_send c ≡ true → id_in c ≡ Some id → t ≡ says.Ends → is_shut id older ≡ true
-    send_free (call.Send other given) t older tells is at ends = shut_or IsStopped other older (same_Some other id at) (λ so. absurd (stops so)) (tells.0 ends)
-    send_free _ t older tells is at ends = absurd cc
+  on_send : (c : GuestCall) → is_send c ≡ true → id_in c ≡ Some id → sends_on id c ≡ true
+  on_send (call.Send other bytes) is at = eq-eqb other id (same_Some other id at)
+  on_send _ is at = absurd cc
 
-    move_free : (c : GuestCall) (t : Told) (older : Journal) → (AtId IsDrained id next ds → recv_over id c t ≡ true → ⊥) → TellsOf c t older next ds → is_move c ≡ true
-        → id_in c ≡ Some id → t ≡ says.Ends → is_shut id older ≡ true
-    move_free (call.Send other given) t older drains tells is at ends = send_free (call.Send other given) t older tells refl at ends
-    move_free (call.Recv other n) t older drains tells is at ends =
-        let same = same_Some other id at in
-        shut_or IsDrained other older same (λ so. absurd (drains so (ap (λ (u : Told). (other == id) && is_over u) ends ∙ ap (λ (b : Bool). b && true) (eq-eqb other id same))))
-        (tells ends)
-    move_free _ t older drains tells is at ends = absurd cc
+  on_recv : (c : GuestCall) → is_recv c ≡ true → id_in c ≡ Some id → receives_on id c ≡ true
+  on_recv (call.Recv other n) is at = eq-eqb other id (same_Some other id at)
+  on_recv _ is at = absurd cc
 
-    pub free_sends : (js : Journal) → ArePlain js → AllTell js next ds → AreFree is_send id js
-    free_sends [] plain tell = tt
-    free_sends (m ∷ older) plain tell =
-        ((λ is at ends. send_free m.call (told_of m) older tell.0 is (sym plain.0 ∙ at) ends), free_sends older plain.1 tell.1)
+  pub free_sends : (js : Journal) → ArePlain js → is_cut id js ≡ false → AreFree is_send id js
+  free_sends js plain none = free_of is_send (sends_on id) on_send js plain none
 
-    pub free_moves : (js : Journal) → (AtId IsDrained id next ds → early id js ≡ true → ⊥) → ArePlain js → AllTell js next ds → AreFree is_move id js
-    free_moves [] drains plain tell = tt
-    free_moves (m ∷ older) drains plain tell = (
-      λ is at ends. move_free m.call (told_of m) older (λ so over. drains so (ap (λ (b : Bool). b || early id older) over)) tell.0 is (sym plain.0 ∙ at) ends,
-      free_moves older (λ so over. drains so (second (recv_over id m.call (told_of m)) over)) plain.1 tell.1,
-    )
-      where
-        second : (a : Bool) → early id older ≡ true → (a || early id older) ≡ true
-        second true over = refl
-        second false over = over
-
-  -- Where no call shut it, a receive that was over found it so.
-  pub drained : (js : Journal) → AllTell js next ds → is_shut id js ≡ false → early id js ≡ true → AtId IsDrained id next ds
-  drained [] tell none over = absurd cc
-  drained (m ∷ older) tell none over =
-      by (recv_over id m.call (told_of m)) refl over (λ more. drained older tell.1 apart.1 more)
+  pub free_moves : (js : Journal) → ArePlain js → is_cut id js ≡ false → early id js ≡ false → AreFree is_move id js
+  free_moves js plain uncut none = both js (free_sends js plain uncut) (free_of is_recv (receives_on id) on_recv js plain none)
     where
-      apart : (shuts m.call id ≡ false) × (is_shut id older ≡ false)
-      apart = both_false (shuts m.call id) (is_shut id older) none
+      either : (c : GuestCall) (P : Type 0) → is_move c ≡ true → (is_send c ≡ true → P) → (is_recv c ≡ true → P) → P
+      either (call.Send other bytes) P is one two = one refl
+      either (call.Recv other n) P is one two = two refl
+      either _ P is one two = absurd cc
 
-      at : (c : GuestCall) (t : Told) → TellsOf c t older next ds → recv_over id c t ≡ true → AtId IsDrained id next ds
-      at (call.Recv other n) t tells is = here t tells (and_parts (other == id) (is_over t) is).1
-        where
-          same : other ≡ id
-          same = eqb-true other id (and_parts (other == id) (is_over t) is).0
+      both : (js : Journal) → AreFree is_send id js → AreFree is_recv id js → AreFree is_move id js
+      both [] one two = tt
+      both (m ∷ older) one two =
+          (λ is at ends. either m.call (is_shut id older ≡ true) is (λ sends. one.0 sends at ends) (λ gets. two.0 gets at ends), both older one.1 two.1)
 
-          as_is : (is_shut other older ≡ true) ⊎ AtId IsDrained other next ds → AtId IsDrained id next ds
-          as_is (inl shut) = absurd (let no : true ≡ false = sym shut ∙ ap (λ (i : ℕ). is_shut i older) same ∙ apart.1 in cc)
-          as_is (inr so) = subst (λ (i : ℕ). AtId IsDrained i next ds) same so
+  -- One that was over so found it so.
+  module _ (next : ℕ) (ds : List DriverEntry) where
+    found_over : (on : GuestCall → Bool) (P : DriverConnection → Type 0) → ((c : GuestCall) (t : Told) (older : Journal) → TellsOf c t older next ds → on c ≡ true
+        → is_over t ≡ true → (is_shut id older ≡ true) ⊎ AtId P id next ds) → (js : Journal) → AllTell js next ds → was_over on id js ≡ true → AtId P id next ds
+    found_over on P tells [] tell over = absurd cc
+    found_over on P tells (m ∷ older) tell over =
+        or_case (on m.call && (is_over (told_of m) && not (is_shut id older))) (was_over on id older) (AtId P id next ds) over (λ now.
+        let one = and_parts (on m.call) (is_over (told_of m) && not (is_shut id older)) now in
+        let two = and_parts (is_over (told_of m)) (not (is_shut id older)) one.1 in of (tells m.call (told_of m) older tell.0 one.0 two.0) two.1)
+        (λ before. found_over on P tells older tell.1 before)
+      where
+        of : (is_shut id older ≡ true) ⊎ AtId P id next ds → not (is_shut id older) ≡ true → AtId P id next ds
+        of (inl shut) free = absurd (let no : true ≡ false = sym free ∙ ap (λ (b : Bool). not b) shut in cc)
+        of (inr at) free = at
 
-          here : (u : Told) → TellsOf (call.Recv other n) u older next ds → is_over u ≡ true → AtId IsDrained id next ds
-          here says.Ends tells yes_over = as_is (tells refl)
-          here _ tells yes_over = absurd cc
-      at _ t tells is = absurd cc
+    send_tells : (c : GuestCall) (t : Told) (older : Journal) → TellsOf c t older next ds → sends_on id c ≡ true → is_over t ≡ true
+        → (is_shut id older ≡ true) ⊎ AtId IsStopped id next ds
+    send_tells (call.Send other bytes) says.Ends older tells on over =
+        subst (λ (i : ℕ). (is_shut i older ≡ true) ⊎ AtId IsStopped i next ds) (eqb-true other id on) (tells.0 refl)
+    send_tells (call.Send other bytes) t older tells on over = absurd cc
+    send_tells c t older tells on over = absurd cc
 
-      by : (b : Bool) → recv_over id m.call (told_of m) ≡ b → (b || early id older) ≡ true → (early id older ≡ true → AtId IsDrained id next ds)
-          → AtId IsDrained id next ds
-      by true is yes_over rest = at m.call (told_of m) tell.0 is
-      by false is yes_over rest = rest yes_over
+    recv_tells : (c : GuestCall) (t : Told) (older : Journal) → TellsOf c t older next ds → receives_on id c ≡ true → is_over t ≡ true
+        → (is_shut id older ≡ true) ⊎ AtId IsDrained id next ds
+    recv_tells (call.Recv other n) says.Ends older tells on over =
+        subst (λ (i : ℕ). (is_shut i older ≡ true) ⊎ AtId IsDrained i next ds) (eqb-true other id on) (tells refl)
+    recv_tells (call.Recv other n) t older tells on over = absurd cc
+    recv_tells c t older tells on over = absurd cc
+
+    pub stopped : (js : Journal) → AllTell js next ds → is_cut id js ≡ true → AtId IsStopped id next ds
+    stopped = found_over (sends_on id) IsStopped send_tells
+
+    pub drained : (js : Journal) → AllTell js next ds → early id js ≡ true → AtId IsDrained id next ds
+    drained = found_over (receives_on id) IsDrained recv_tells
 
 -- What a reply tells is what was moved.
 none_took : (c : GuestCall) (reply : ReplyTo c) → is_send c ≡ false → sent_told (told_by c reply) ≡ 0
@@ -337,33 +337,35 @@ any_after (x ∷ xs) ys = by (is_drain x) (any_after xs ys)
     by true rest = refl
     by false rest = rest
 
-early_after : (id : ℕ) (ms journal : Journal) → early id (ms ++ journal) ≡ (early id ms || early id journal)
-early_after id [] journal = refl
-early_after id (m ∷ ms) journal = by (recv_over id m.call (told_of m)) (early_after id ms journal)
-  where
-    by : (b : Bool) → early id (ms ++ journal) ≡ (early id ms || early id journal) → (b || early id (ms ++ journal)) ≡ ((b || early id ms) || early id journal)
-    by true rest = refl
-    by false rest = rest
+module _ (script : RunScript) (bytes : List ℕ) (k id : ℕ) where
+  early_from : (es : List Entry) (older own : Journal) → is_shut id (calls_of_others k script bytes es) ≡ false → is_shut id older ≡ is_shut id own
+      → (early id own ≡ true → early id older ≡ true) → early id (calls_of_app k script bytes es ++ own) ≡ true → early id (calls_of script bytes es ++ older) ≡ true
+  early_from [] older own apart same goes is = goes is
+  early_from (e ∷ es) older own apart same goes is =
+      subst (λ (js : Journal). early id js ≡ true) (sym (append_assoc (calls_of script bytes es) (made_by script bytes e) older))
+      (early_from es (made_by script bytes e ++ older) (cond (e.app == k) (made_by script bytes e) [] ++ own) parts.0
+      (next_same script bytes k id e older own same (e.app == k) parts.1) (next (e.app == k) e.deed)
+      (subst (λ (js : Journal). early id js ≡ true) (append_assoc (calls_of_app k script bytes es) (cond (e.app == k) (made_by script bytes e) []) own) is))
+    where
+      parts : (is_shut id (calls_of_others k script bytes es) ≡ false) × (is_shut id (cond (e.app == k) [] (made_by script bytes e)) ≡ false)
+      parts = others_apart script bytes k id e es apart
 
-or_case : (a b : Bool) (P : Type 0) → (a || b) ≡ true → (a ≡ true → P) → (b ≡ true → P) → P
-or_case true b P is one two = one refl
-or_case false b P is one two = two is
+      next : (b : Bool) (d : Deed)
+          → early id (cond b (elim d as (λ _. Journal) [ deed.Called c ↦ made_of script bytes e.app c ∷ [] | deed.Waited times why ↦ [] ]) [] ++ own) ≡ true
+          → early id (elim d as (λ _. Journal) [ deed.Called c ↦ made_of script bytes e.app c ∷ [] | deed.Waited times why ↦ [] ] ++ older) ≡ true
+      next true (deed.Waited times why) so = goes so
+      next false (deed.Waited times why) so = goes so
+      next true (deed.Called c) so = let m : Made = made_of script bytes e.app c in
+          or_goes (receives_on id m.call && (is_over (told_of m) && not (is_shut id own))) (early id own) _ (early id older)
+          (λ now. ap (λ (b : Bool). receives_on id m.call && (is_over (told_of m) && not b)) same ∙ now) goes so
+      next false (deed.Called c) so = let m : Made = made_of script bytes e.app c in
+          or_goes false (early id own) (receives_on id m.call && (is_over (told_of m) && not (is_shut id older))) (early id older) (λ no. absurd cc) goes so
 
-or_goes : (a b c d : Bool) → (a ≡ true → c ≡ true) → (b ≡ true → d ≡ true) → (a || b) ≡ true → (c || d) ≡ true
-or_goes true b c d one two is = ap (λ (x : Bool). x || d) (one refl)
-or_goes false b true d one two is = refl
-or_goes false b false d one two is = two is
-
-pub app_early : (script : RunScript) (bytes : List ℕ) (k id : ℕ) (es : List Entry) → early id (calls_of_app k script bytes es) ≡ true
-    → early id (calls_of script bytes es) ≡ true
-app_early script bytes k id [] is = is
-app_early script bytes k id (e ∷ es) is =
-    early_after id (calls_of script bytes es) (made_by script bytes e)
-    ∙ or_goes _ _ _ _ (app_early script bytes k id es) (by (e.app == k)) (sym (early_after id (calls_of_app k script bytes es) (cond (e.app == k) (made_by script bytes e) [])) ∙ is)
-  where
-    by : (b : Bool) → early id (cond b (made_by script bytes e) []) ≡ true → early id (made_by script bytes e) ≡ true
-    by true yes_early = yes_early
-    by false yes_early = absurd cc
+  pub app_early : (es : List Entry) → is_shut id (calls_of_others k script bytes es) ≡ false → early id (calls_of_app k script bytes es) ≡ true
+      → early id (calls_of script bytes es) ≡ true
+  app_early es apart is =
+      subst (λ (js : Journal). early id js ≡ true) (append-nil (calls_of script bytes es))
+      (early_from es [] [] apart refl (λ so. so) (subst (λ (js : Journal). early id js ≡ true) (sym (append-nil (calls_of_app k script bytes es))) is))
 
 early_more : (id : ℕ) (ms : List Made) (journal : Journal) → early id journal ≡ true → early id (with_noted ms journal) ≡ true
 early_more id [] journal is = is
@@ -374,14 +376,15 @@ early_more id (m ∷ ms) journal is = early_more id ms (with_noted (m ∷ []) jo
     second false = is
 
     by : (o : Option WaitsFor) → early id (elim o as (λ _. Journal) [ None ↦ m ∷ journal | Some why ↦ journal ]) ≡ true
-    by None = second (recv_over id m.call (told_of m))
+    by None = second (receives_on id m.call && (is_over (told_of m) && not (is_shut id journal)))
     by (Some why) = is
 
-drain_step : (id : ℕ) (act : Act) (ms : List Made) (p : Progress) (journal : Journal) → calls_in ms ≡ calls_next act p → id_of p ≡ id → is_drain act ≡ true
+drain_step : (id : ℕ) (act : Act) (ms : List Made) (p : Progress) (journal : Journal) → calls_in ms ≡ calls_next act p → id_of p ≡ id → is_shut id journal ≡ false
+    → is_drain act ≡ true
     → nat_lt p.at (after_step act (told_in ms) p).at ≡ true → early id (with_noted ms journal) ≡ true
-drain_step id Drain [] p journal calls at drains goes = absurd cc
-drain_step id Drain (m ∷ n ∷ ms) p journal calls at drains goes = absurd cc
-drain_step id Drain (m ∷ []) p journal calls at drains goes = by m.call m.reply first refl (told_of m) refl goes
+drain_step id Drain [] p journal calls at free drains goes = absurd cc
+drain_step id Drain (m ∷ n ∷ ms) p journal calls at free drains goes = absurd cc
+drain_step id Drain (m ∷ []) p journal calls at free drains goes = by m.call m.reply first refl (told_of m) refl goes
   where
     first : m.call ≡ call.Recv (id_of p) SLICE
     first = cc
@@ -389,8 +392,8 @@ drain_step id Drain (m ∷ []) p journal calls at drains goes = by m.call m.repl
     stays : nat_lt p.at p.at ≡ true → ⊥
     stays is = grind (arith, nat_tests, is)
 
-    over : (c : GuestCall) → c ≡ call.Recv (id_of p) SLICE → recv_over id c says.Ends ≡ true
-    over c is = ap (λ (d : GuestCall). recv_over id d says.Ends) is ∙ ap (λ (b : Bool). b && true) (eq-eqb (id_of p) id at)
+    over : (c : GuestCall) → c ≡ call.Recv (id_of p) SLICE → receives_on id c ≡ true
+    over c is = ap (λ (d : GuestCall). receives_on id d) is ∙ eq-eqb (id_of p) id at
 
     none : (c : GuestCall) (reply : ReplyTo c) → c ≡ call.Recv (id_of p) SLICE → id_told (told_by c reply) ≡ None
     none (call.Recv other n) reply is = no_received reply.0
@@ -400,13 +403,14 @@ drain_step id Drain (m ∷ []) p journal calls at drains goes = by m.call m.repl
         → nat_lt p.at (after_step Drain (t ∷ []) p).at ≡ true → early id (elim (wait_of (told_of m)) as (λ _. Journal) [ None ↦ m ∷ journal | Some why ↦ journal ]) ≡ true
     by c reply is same says.Ends told more =
         ap (λ (u : Told). early id (elim (wait_of u) as (λ _. Journal) [ None ↦ m ∷ journal | Some why ↦ journal ])) told
-        ∙ ap (λ (u : Told). recv_over id m.call u || early id journal) told ∙ ap (λ (b : Bool). b || early id journal) (over m.call first)
+        ∙ ap (λ (u : Told). (receives_on id m.call && (is_over u && not (is_shut id journal))) || early id journal) told
+        ∙ ap (λ (b : Bool). (b && not (is_shut id journal)) || early id journal) (over m.call first) ∙ ap (λ (b : Bool). not b || early id journal) free
     by c reply is same (says.Given i) told more = absurd (let no : Some i ≡ None = sym (ap id_told (same ∙ told)) ∙ none c reply is in cc)
     by c reply is same (says.Waits why) told more = absurd (stays more)
     by c reply is same (says.Asked i) told more = absurd (stays more)
     by c reply is same (says.Took n) told more = absurd (stays more)
     by c reply is same (says.Got n) told more = absurd (stays more)
-drain_step id act ms p journal calls at drains goes = absurd cc
+drain_step id act ms p journal calls at free drains goes = absurd cc
 
 pub drain_early : (id : ℕ) (acts : List Act) (steps : List (List Made)) (q : Progress) → Follows acts begun steps q → list_any is_drain (done_at id acts steps) ≡ true
     → early id (all_noted steps) ≡ true
@@ -435,7 +439,7 @@ drain_early id acts (ms ∷ steps) q (mid, act, follows, next, (calls, goes)) is
     by : (a : Bool) → is_at id p old ≡ a → (b : Bool) → nat_lt p.at (after_step act (told_in ms) p).at ≡ b → list_any is_drain (cond a (cond b (act ∷ []) []) []) ≡ true
         → early id (with_noted ms old) ≡ true
     by true at true more drains = drain_step id act ms p old (subst (λ (x : Progress). calls_in ms ≡ calls_next act x) is_mid calls)
-        (at_parts sending id acts p old at).0 (one (is_drain act) drains) more
+        (at_parts sending id acts p old at).0 (at_parts sending id acts p old at).1 (one (is_drain act) drains) more
       where
         one : (b : Bool) → (b || false) ≡ true → b ≡ true
         one true so = refl

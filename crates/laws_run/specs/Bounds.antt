@@ -1,15 +1,18 @@
 -- Bounds of a complete run: what was sent at least on a connection, by the instructions that its app carried out there; and what became of one that was closed.
-use Rattle.std.specs.Prelude.{◌≡◌, ◌⊎◌, ℕ, ◌+◌, ◌<◌, ◌≤◌, ◌==◌, ◌&&◌, not, nat_lt, Bool, true, false, if◌then◌else◌, List, [], ◌∷◌, ◌++◌, length, slice_get, Some, None}
+use Rattle.std.specs.Prelude.{◌≡◌, ℕ, ◌+◌, ◌<◌, ◌≤◌, ◌==◌, ◌&&◌, ◌||◌, not, nat_lt, Bool, true, false, if◌then◌else◌, List, [], ◌∷◌, ◌++◌, length, slice_get, Some, None, is_some, take}
 use Rattle.std.specs.List.{All, list_any}
 use Rattle.vs_flow.specs.{Connection.Connection, declared.flow.Flow.Flow}
 use Rattle.vs_outside.specs.{Host.HostContents, HostBytes.host_wrote}
-use Rattle.vs_script.specs.{App.{Act, Drain, Exchange, Recv, Send}, Data.size_of}
+use Rattle.vs_script.specs.{App.{Accept, Act, Connect, Drain, Exchange, Recv, Send}, Data.size_of}
 use Rattle.laws_device.specs.Streams.{has_open_stream, is_open_on}
-use Rattle.laws_driver.specs.Carried.Calls.{Close, GuestCall, Journal, Made, names, received_by}
+use Rattle.laws_driver.specs.Carried.Calls.{Close, GuestCall, Journal, Made, ReplyTo, names, received_by}
+use Rattle.laws_driver.specs.Carried.Calls as call
 use Rattle.vs_apps_parts.specs.{Journals.{calls_of, calls_of_app, gathered, made_by, sent_as}, Scripts.{Follows, RunScript, acts_of, after_step, all_noted, begun, told_in}}
-use Rattle.vs_apps_parts.specs.declared.{journal.Entry.Entry, progress.AppState.AppState, progress.Progress.Progress}
-use Rattle.laws_apps.specs.Traces.{is_shut}
-use Rattle.vs_run_report.specs.Endings.{state_at}
+use Rattle.vs_apps_parts.specs.{Told.told_of, declared.{journal.Entry.Entry, progress.AppState.AppState, progress.Progress.Progress, told.Told.Told}}
+use Rattle.vs_apps_parts.specs.declared.told.Told.TheVariants as told
+use Rattle.laws_apps.specs.{Placed.accepted_as, Placed.asked_as, Traces.is_shut}
+use Rattle.vs_run_report.specs.{Connections.opened_of, Endings.state_at}
+use Rattle.laws_settled.specs.Shut.{GivesNoMore}
 use Rattle.laws_run.specs.Dry.{AreFull}
 
 -- How many bytes an instruction names, by kinds: a send's, an exchange's, and those to be received; and all of a list.
@@ -66,32 +69,68 @@ calls_of_others k script bytes es = gathered (made_by_others k script bytes) es
 abbrev pub TakesOn : Flow → HostContents → Type 0
 TakesOn f h = (has_open_stream f h ≡ true) × All (λ s. is_open_on f s ≡ true → s.host_closed ≡ false) h.streams
 
--- The host's program ended no open stream of the flow; and it ended each, and all that it wrote there was received on the id.
-abbrev pub GoesOn : Flow → HostContents → Type 0
-GoesOn f h = All (λ s. is_open_on f s ≡ true → s.ended ≡ false) h.streams
+-- It ended each open stream of the flow, nothing is left to be taken, and all that was taken was received on the id, unless a call shut that.
+abbrev pub HasEnd : (ℕ → Connection) → Journal → HostContents → ℕ → Type 0
+HasEnd opened journal h id =
+    (is_shut id journal ≡ false → received_by id journal ≡ host_wrote (opened id) h) × All (λ s. is_open_on (opened id).flow s ≡ true → GivesNoMore s) h.streams
 
-abbrev pub HasAll : (ℕ → Connection) → Journal → HostContents → ℕ → Type 0
-HasAll opened journal h id =
-    (received_by id journal ≡ host_wrote (opened id) h) × All (λ s. is_open_on (opened id).flow s ≡ true → s.ended ≡ true) h.streams
+-- Whether a send on an id was over, whatever it moved, before a call shut the id; and whether a receive was.
+abbrev pub is_over : Told → Bool
+is_over told.Ends = true
+is_over t = false
 
--- The calls of an app are, in order, its instructions. On each connection whose stream takes on, and that no other app shut, at least so much was sent as
--- the sends name that the app carried out there before it shut a direction of it, or closed it; its exchanges too where the stream goes on. And where no
--- app shut it, at least so much was received as its receives and exchanges name; or all was, to the end, as where it was drained.
-pub record HasBounds (opened : ℕ → Connection) (h : HostContents) (acts : List Act) (k : ℕ) (script : RunScript) (bytes : List ℕ) (entries : List Entry)
-    (p : Progress) : Type 0 where
+abbrev pub sends_on : ℕ → GuestCall → Bool
+sends_on id (call.Send other bytes) = other == id
+sends_on id c = false
+
+abbrev pub receives_on : ℕ → GuestCall → Bool
+receives_on id (call.Recv other n) = other == id
+receives_on id c = false
+
+abbrev pub was_over : (GuestCall → Bool) → ℕ → Journal → Bool
+was_over on id [] = false
+was_over on id (m ∷ older) = (on m.call && (is_over (told_of m) && not (is_shut id older))) || was_over on id older
+
+abbrev pub is_cut : ℕ → Journal → Bool
+is_cut id journal = was_over (sends_on id) id journal
+
+abbrev pub early : ℕ → Journal → Bool
+early id journal = was_over (receives_on id) id journal
+
+-- An instruction that is to open a connection; and how many calls of a journal were to, and opened none.
+abbrev pub opens : Act → ℕ
+opens (Connect port) = 1
+opens (Accept port) = 1
+opens act = 0
+
+abbrev pub is_refusal : (call : GuestCall) → ReplyTo call → Bool
+is_refusal (call.Connect port) reply = not (is_some (asked_as reply))
+is_refusal (call.Accept port) reply = not (is_some (accepted_as reply))
+is_refusal c reply = false
+
+abbrev pub refusals : Journal → ℕ
+refusals [] = 0
+refusals (m ∷ older) = (if is_refusal m.call m.reply then 1 else 0) + refusals older
+
+-- The calls of an app are, in order, its instructions. It has a line for each connect and each accept that it carried out, but for those whose call was
+-- refused. On each connection that no other app shut at least so much was sent as the sends name that the app carried out there before it shut a direction of
+-- it, or closed it, unless a send was over before that; its exchanges count too, and at least so much was received as its receives and exchanges name, unless
+-- a receive was, as where it was drained.
+pub record HasBounds (acts : List Act) (k : ℕ) (script : RunScript) (bytes : List ℕ) (entries : List Entry) (p : Progress) : Type 0 where
   pub steps : List (List Made)
   pub follows : Follows acts begun steps p
   pub noted : all_noted steps ≡ calls_of_app k script bytes entries
-  pub sends : (id : ℕ) → 1 ≤ (opened id).number → TakesOn (opened id).flow h → is_shut id (calls_of_others k script bytes entries) ≡ false
+  pub lines : total opens (take p.at acts) ≤ length (opened_of k entries) + refusals (calls_of_app k script bytes entries)
+  pub sends : (id : ℕ) → is_shut id (calls_of_others k script bytes entries) ≡ false → is_cut id (calls_of script bytes entries) ≡ false
       → total sent_by (done_at id acts steps) ≤ length (sent_as id (calls_of script bytes entries))
-  pub exchanges : (id : ℕ) → 1 ≤ (opened id).number → TakesOn (opened id).flow h → is_shut id (calls_of_others k script bytes entries) ≡ false
-      → GoesOn (opened id).flow h
+  pub exchanges : (id : ℕ) → is_shut id (calls_of_others k script bytes entries) ≡ false → is_cut id (calls_of script bytes entries) ≡ false
+      → early id (calls_of script bytes entries) ≡ false
       → total (λ act. sent_by act + exchanged_by act) (done_at id acts steps) ≤ length (sent_as id (calls_of script bytes entries))
-  pub receives : (id : ℕ) → 1 ≤ (opened id).number → TakesOn (opened id).flow h → is_shut id (calls_of script bytes entries) ≡ false
-      → (total received_in (done_at id acts steps) ≤ length (received_by id (calls_of script bytes entries)))
-      ⊎ HasAll opened (calls_of script bytes entries) h id
-  pub drains : (id : ℕ) → 1 ≤ (opened id).number → TakesOn (opened id).flow h → is_shut id (calls_of script bytes entries) ≡ false
-      → list_any is_drain (done_at id acts steps) ≡ true → HasAll opened (calls_of script bytes entries) h id
+  pub receives : (id : ℕ) → is_shut id (calls_of_others k script bytes entries) ≡ false → is_cut id (calls_of script bytes entries) ≡ false
+      → early id (calls_of script bytes entries) ≡ false
+      → total received_in (done_at id acts steps) ≤ length (received_by id (calls_of script bytes entries))
+  pub drains : (id : ℕ) → is_shut id (calls_of_others k script bytes entries) ≡ false → list_any is_drain (done_at id acts steps) ≡ true
+      → early id (calls_of script bytes entries) ≡ true
 
 -- A close: each stream of the flow of the connection whose id was closed that the proxy hasn't closed takes nothing now.
 abbrev pub IsShutDown : (ℕ → Connection) → HostContents → GuestCall → Type 0
@@ -102,7 +141,11 @@ abbrev pub AreShutDown : (ℕ → Connection) → HostContents → Journal → T
 AreShutDown opened h [] = Unit {0}
 AreShutDown opened h (m ∷ older) = IsShutDown opened h m.call × AreShutDown opened h older
 
+-- No send was over so on a connection whose stream takes on; and where a receive was, of one whose stream the proxy hasn't closed, that came to its end.
 pub record IsBounded (script : RunScript) (apps : List AppState) (entries : List Entry) (bytes : List ℕ) (opened : ℕ → Connection) (h : HostContents)
     : Type 0 where
-  pub bounds : (k : ℕ) → k < length script → HasBounds opened h (acts_of k script) k script bytes entries (state_at k apps).progress
+  pub bounds : (k : ℕ) → k < length script → HasBounds (acts_of k script) k script bytes entries (state_at k apps).progress
+  pub uncut : (id : ℕ) → 1 ≤ (opened id).number → TakesOn (opened id).flow h → is_cut id (calls_of script bytes entries) ≡ false
+  pub ended : (id : ℕ) → 1 ≤ (opened id).number → has_open_stream (opened id).flow h ≡ true → early id (calls_of script bytes entries) ≡ true
+      → HasEnd opened (calls_of script bytes entries) h id
   pub closes : AreShutDown opened h (calls_of script bytes entries)

@@ -8,6 +8,7 @@ use Rattle.vs_apps_parts.specs.{Journals.calls_of, Journals.sent_as, Scripts.Run
 use Rattle.vs_apps_parts.specs.declared.progress.Progress.{Progress}
 use Rattle.vs_script.specs.{App.Act, App.Exchange, Data.Content, Data.size_of}
 use Rattle.vs_apps_parts.specs.declared.journal.WaitsFor.TheVariants as waits
+use Rattle.laws_apps.specs.{Given.AllGiven, Placed.AreOwned}
 use Rattle.laws_run.specs.{Bounds.IsBounded, Dry.AreDry, Dry.AreFull}
 use Rattle.vs_report.specs.declared.giving.Totals.{Totals}
 use Rattle.vs_run_report.specs.{Endings.state_at, Report.ended_at, declared.ending.Ending.Ending}
@@ -53,7 +54,8 @@ IsCompleteExchange opened journal h acts p (ending.Waited waits.Empty at) =
     (c : Content) → slice_get acts p.at ≡ Some (Exchange c) → (size_of c ≤ p.sent) ⊎ LacksCredit opened journal h p.conn
 IsCompleteExchange opened journal h acts p e = Unit {0}
 
--- Both tables have as many entries as there are streams with a label that the proxy hasn't closed; so each wait; and what was done is so.
+-- Both tables have as many entries as there are streams with a label that the proxy hasn't closed; so each wait; what was done is so; and what each connect and
+-- accept was given.
 pub record IsCompleteRun (script : RunScript) (apps : List AppState) (entries : List Entry) (bytes : List ℕ) (t : Totals) (opened : ℕ → Connection)
     (h : HostContents) : Type 0 where
   pub guest_open : t.guest_open ≡ length (open_labels h)
@@ -63,3 +65,5 @@ pub record IsCompleteRun (script : RunScript) (apps : List AppState) (entries : 
   pub exchanges : (k : ℕ) → k < length script
       → IsCompleteExchange opened (calls_of script bytes entries) h (acts_of k script) (state_at k apps).progress (ended_at script apps entries k)
   pub bounded : IsBounded script apps entries bytes opened h
+  pub given : AllGiven (calls_of script bytes entries)
+  pub owned : AreOwned (length script) entries

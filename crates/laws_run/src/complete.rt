@@ -22,8 +22,9 @@ ghost use Rattle.laws_run.specs.{Complete.IsCompleteRun, Dry.AreIdle};
 /// and at an exchange it sent all of that, or lacks credit too; one that waits for bytes or for credit is on a connection whose stream is open, which
 /// in the latter case takes nothing now, and of what was sent there the host's program has more than half of the buffer space still to read; none
 /// waits for a connection to open, or for a page, where a page could be put at first; both tables have as many entries as there are streams with a label
-/// that the proxy hasn't closed; and on a connection that nobody shut, and whose stream is open, what the app's done instructions name was moved, or all
-/// came to the end, while one that an app closed is closed or takes nothing (Virtio 1.2, section 5.10.6.5).
+/// that the proxy hasn't closed; each connect and accept that an app carried out opened a connection of its own, or was refused; on each connection
+/// what the instructions name that the app carried out before it shut that was moved, unless one of them was over early, which where its stream is open is
+/// where that ended or was closed; and one that an app closed is closed or takes nothing (Virtio 1.2, section 5.10.6.5).
 pub fn law_of_complete_runs()
     ensures { (script : RunScript) (driver : DriverState) (end : Sight) (apps : List AppState) (entries : List Entry) (bytes : List ℕ)
         (p : ProxyState) (e : DeviceSight) (h : HostContents) (faults : ℕ)

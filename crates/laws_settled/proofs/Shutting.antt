@@ -1,5 +1,5 @@
 -- Through a turn the device shuts the receiving of a connection only where the host's program closed its stream.
-use Rattle.std.proofs.Common.{◌≡◌, ℕ, ◌-◌, ◌==◌, ◌||◌, not, Bool, true, false, cond, List, [], ◌∷◌, ◌++◌, length, min, get_or, Option, Some, None, refl, sym, ap, subst, ◌∙◌}
+use Rattle.std.proofs.Common.{◌≡◌, ℕ, zero, suc, ◌-◌, ◌==◌, ◌||◌, not, Bool, true, false, cond, List, [], ◌∷◌, ◌++◌, length, min, get_or, Option, Some, None, refl, sym, ap, subst, ◌∙◌, arith, drop, take}
 use Rattle.std.proofs.lemmas.{Bool.eq-eqb, Bool.eqb-true, List.Elements.{All-contains, All-filter, All-map, All-push}, Option.same_Some}
 use Rattle.std.specs.{Option.ForSome, Option.option_map_or, Prelude.slice_get}
 use Rattle.vs_contents.specs.Contents.{Exposes}
@@ -32,19 +32,19 @@ use Rattle.laws_device.specs.Walk.Seen.{Seen}
 use Rattle.laws_device.proofs.Walk.{Keeping.Keeps, Serving.{AfterEvent, AfterRead, AfterWrite, Closes, Fills, Writes, by_flow}, Taking.{AfterDial, Takes}, Turning.{AfterAccept, AfterByte, Between, Shakes, keeps_turn}}
 use Rattle.laws_device.proofs.Walk.Serving as serving
 use Rattle.laws_device.proofs.Walk.Taking as taking
-use Rattle.laws_settled.specs.Shut.{AreShutBy, IsClosedAt, IsEndedAt, IsShutBy}
+use Rattle.laws_settled.specs.Shut.{AreShutBy, GivesNoMore, IsClosedAt, IsEndedAt, IsShutBy}
 use Rattle.laws_settled.proofs.Tallying.{allowed, runs_end}
 
--- HOSTS: a stream that is closed or ended stays so.
+-- HOSTS: a stream that is closed, or gives no more, stays so.
 abbrev Stay : HostContents → HostContents → Type 0
-Stay h g = (id : ℕ) (s : HostStream) → stream_at id h ≡ Some s → (t : HostStream) × (stream_at id g ≡ Some t) × (t.host_closed ≡ s.host_closed) × (t.ended ≡ s.ended)
+Stay h g = (id : ℕ) (s : HostStream) → stream_at id h ≡ Some s → (t : HostStream) × (stream_at id g ≡ Some t) × (t.host_closed ≡ s.host_closed) × (GivesNoMore s → GivesNoMore t)
 
-stream_stays : (id : ℕ) (f : HostStream → HostStream) (h : HostContents) → ((s : HostStream) → ((f s).host_closed ≡ s.host_closed) × ((f s).ended ≡ s.ended))
+stream_stays : (id : ℕ) (f : HostStream → HostStream) (h : HostContents) → ((s : HostStream) → ((f s).host_closed ≡ s.host_closed) × (GivesNoMore s → GivesNoMore (f s)))
     → Stay h (with_stream id f h)
 stream_stays id f h same other s at = by (other == id) refl
   where
     by : (b : Bool) → (other == id) ≡ b
-        → (t : HostStream) × (stream_at other (with_stream id f h) ≡ Some t) × (t.host_closed ≡ s.host_closed) × (t.ended ≡ s.ended)
+        → (t : HostStream) × (stream_at other (with_stream id f h) ≡ Some t) × (t.host_closed ≡ s.host_closed) × (GivesNoMore s → GivesNoMore t)
     by true is =
         let one = eqb-true other id is in (
           f s,
@@ -52,10 +52,10 @@ stream_stays id f h same other s at = by (other == id) refl
           (same s).0,
           (same s).1,
         )
-    by false is = (s, keeps_others id f h other (λ on. let yes = eq-eqb other id on in let no : true ≡ false = sym yes ∙ is in cc) ∙ at, refl, refl)
+    by false is = (s, keeps_others id f h other (λ on. let yes = eq-eqb other id on in let no : true ≡ false = sym yes ∙ is in cc) ∙ at, refl, λ none. none)
 
 stays_none : (h : HostContents) → Stay h h
-stays_none h id s at = (s, at, refl, refl)
+stays_none h id s at = (s, at, refl, λ none. none)
 
 dial_stays : (flow : Flow) (a : Dialed) (h : HostContents) → Stay h (after_dial flow a h)
 dial_stays flow (dialed.Stream id) h = λ other s at.
@@ -64,7 +64,7 @@ dial_stays flow (dialed.Stream id) h = λ other s at.
       ap (λ (b : Bool). let o : Option HostStream = cond b None (slice_get (h.streams ++ dialed_stream flow h.prepared ∷ []) (other - 1)) in o) place.0
           ∙ slice_get-append h.streams (dialed_stream flow h.prepared ∷ []) (other - 1) s place.1,
       refl,
-      refl,
+      λ none. none,
     )
 dial_stays flow dialed.Refused h = stays_none h
 dial_stays flow dialed.Failed h = by (fails_now h)
@@ -74,15 +74,20 @@ dial_stays flow dialed.Failed h = by (fails_now h)
     by false = stays_none h
 
 accept_stays : (a : Accepted) (h : HostContents) → Stay h (after_accept a h)
-accept_stays (accepted.Stream id) h = stream_stays id (λ s. record s { state = state.Open }) (called h) (λ s. (refl, refl))
+accept_stays (accepted.Stream id) h = stream_stays id (λ s. record s { state = state.Open }) (called h) (λ s. (refl, λ none. none))
 accept_stays _ h = stays_none h
 
 read_stays : (id : ℕ) (a : StreamRead) (h : HostContents) → Stay h (after_read id a h)
-read_stays id (read.Got n) h = stream_stays id (take_bytes n) (called h) (λ s. (refl, refl))
+read_stays id (read.Got n) h = stream_stays id (take_bytes n) (called h) (λ s. (refl, λ none. (none.0, λ e. ap (λ (xs : List ℕ). drop n xs) (none.1 e) ∙ nothing n)))
+  where
+    nothing : (m : ℕ) → let none : List ℕ = [] in drop m none ≡ none
+    nothing zero = refl
+    nothing (suc m) = refl
 read_stays id _ h = stays_none h
 
 write_stays : (id : ℕ) (bytes : List ℕ) (a : StreamWrite) (h : HostContents) → Stay h (after_write id bytes a h)
-write_stays id bytes (write.Took n) h = stream_stays id (give_bytes n bytes) (called h) (λ s. (refl, refl))
+write_stays id bytes (write.Took n) h = stream_stays id (give_bytes n bytes) (called h)
+    (λ s. (refl, λ none. (none.0, λ e. ap (λ (b : Bool). cond b (s.untaken ++ take n bytes) s.untaken) e ∙ none.1 e)))
 write_stays id bytes write.Failed h = dial_stays (record { guest = 0; host = 0; peer = 0 }) dialed.Failed h
 write_stays id bytes _ h = stays_none h
 
@@ -103,15 +108,20 @@ closed_so id n h is = by (fails_now h) (stream_at id h) refl is
 ended_so : (id n : ℕ) (h : HostContents) → read.End ≡ read_answer id n h → IsEndedAt id h
 ended_so id n h is = by (fails_now h) (stream_at id h) refl is
   where
-    of : (s : HostStream) (b c : Bool) → s.ended ≡ c → read.End ≡ cond b (cond c read.End read.Again) (read.Got (min n (length s.untaken))) → s.ended ≡ true
-    of s true true at so = at
-    of s true false at so = absurd cc
-    of s false c at so = absurd cc
+    empty : (xs : List ℕ) → (length xs == 0) ≡ true → xs ≡ []
+    empty [] none = refl
+    empty (x ∷ xs) none = let no = eqb-true (length (x ∷ xs)) 0 none in absurd (omega (arith, no))
+
+    of : (s : HostStream) (b : Bool) → (length s.untaken == 0) ≡ b → (c : Bool) → s.ended ≡ c
+        → read.End ≡ cond b (cond c read.End read.Again) (read.Got (min n (length s.untaken))) → GivesNoMore s
+    of s true none true at so = (at, λ e. empty s.untaken none)
+    of s true none false at so = absurd cc
+    of s false some c at so = absurd cc
 
     by : (b : Bool) (o : Option HostStream) → stream_at id h ≡ o → read.End ≡ cond b read.Failed (option_map_or (read_of n) o read.Again) → IsEndedAt id h
     by true o at so = absurd cc
     by false None at so = absurd cc
-    by false (Some s) at so = (s, at, of s (length s.untaken == 0) s.ended refl so)
+    by false (Some s) at so = (s, at, of s (length s.untaken == 0) refl s.ended refl so)
 
 -- TABLES
 same_shut : (h : HostContents) (c d : DeviceConnection) → d.stream ≡ c.stream → d.end.own ≡ c.end.own → IsShutBy c h → IsShutBy d h
@@ -123,7 +133,7 @@ same_shut h c d stream own is = record {
 stays_shut : (h g : HostContents) (c : DeviceConnection) → Stay h g → IsShutBy c h → IsShutBy c g
 stays_shut h g c stays is = record {
   receives = λ own. let was = is.receives own in let now = stays c.stream was.0 was.1 in (now.0, now.1, now.2 ∙ was.2);
-  sends = λ own. let was = is.sends own in let now = stays c.stream was.0 was.1 in (now.0, now.1, now.3 ∙ was.2);
+  sends = λ own. let was = is.sends own in let now = stays c.stream was.0 was.1 in (now.0, now.1, now.3 was.2);
 }
 
 goes_on : (t : Table DeviceConnection) (o n : Option HostContents) (P : HostContents → Type 0) (f : HostContents → HostContents) → Exposes o n P f
@@ -212,11 +222,11 @@ module _ (hands : List Handshake) where
   closes : Closes allowed (D hands)
   closes = record {
     cuts = λ e s c is at still a d made.
-        goes_on (with_value s.table e.slot (cut_off e.value)) c.host d.host _ _ made.host (λ h. stream_stays e.value.stream _ h (λ x. (refl, refl)))
+        goes_on (with_value s.table e.slot (cut_off e.value)) c.host d.host _ _ made.host (λ h. stream_stays e.value.stream _ h (λ x. (refl, λ none. none)))
         (changes_shut s.table c.host at e (cut_off e.value) is refl refl);
     was_cut = λ e s c is at closed. changes_shut s.table c.host at e (cut_off e.value) is refl refl;
     leaves = λ page e v s c is closed stream at still a d made.
-        goes_on (without (with_value s.table e.slot (stream_closed v)) e.slot) c.host d.host _ _ made.host (λ h. stream_stays v.stream _ h (λ x. (refl, refl)))
+        goes_on (without (with_value s.table e.slot (stream_closed v)) e.slot) c.host d.host _ _ made.host (λ h. stream_stays v.stream _ h (λ x. (refl, λ none. none)))
         (leaves_shut s.table c.host at e.slot (stream_closed v));
     was_left = λ page e v s c is closed stream at gone. leaves_shut s.table c.host at e.slot (stream_closed v);
   }
@@ -235,7 +245,7 @@ module _ (hands : List Handshake) where
     writes = λ e s c is still at a d made. wrote e s a c d is made at;
     shuts = λ e s c is out at a d made.
         goes_on (with_value s.table e.slot (record e.value { write_shut = true })) c.host d.host _ _ made.host
-        (λ h. stream_stays e.value.stream _ (with_shut_write_call h) (λ x. (refl, refl)))
+        (λ h. stream_stays e.value.stream _ (with_shut_write_call h) (λ x. (refl, λ none. none)))
         (changes_shut s.table c.host at e (record e.value { write_shut = true }) is refl refl);
   }
 
@@ -305,17 +315,17 @@ byte_read : (h : Handshake) (hands : List Handshake) (port : ℕ) (s : DeviceSta
     → AfterByte allowed (Between D) h hands port s a bytes d
 byte_read h hands port s (read.Got k) bytes d at = record {
   more = λ is. at;
-  ends = λ a e made. goes_on s.table d.host e.host _ _ made.host (λ g. stream_stays h.stream _ g (λ x. (refl, refl))) at;
+  ends = λ a e made. goes_on s.table d.host e.host _ _ made.host (λ g. stream_stays h.stream _ g (λ x. (refl, λ none. none))) at;
   refused = λ guest why may is. at;
   opens = λ guest is may none a e made. opens_shut s.table e.host
-      (goes_on s.table d.host e.host _ _ made.host (λ g. stream_stays h.stream _ (with_label_call h.stream g) (λ x. (refl, refl))) at) _
+      (goes_on s.table d.host e.host _ _ made.host (λ g. stream_stays h.stream _ (with_label_call h.stream g) (λ x. (refl, λ none. none))) at) _
       (new_connection (asked Stream BUF_ALLOC) h.stream true) refl;
 }
 byte_read h hands port s _ bytes d at = at
 
 shakes : Shakes allowed (Between D)
 shakes = record {
-  drops = λ h hands port s c on at a d made. goes_on s.table c.host d.host _ _ made.host (λ g. stream_stays h.stream _ g (λ x. (refl, refl))) at;
+  drops = λ h hands port s c on at a d made. goes_on s.table c.host d.host _ _ made.host (λ g. stream_stays h.stream _ g (λ x. (refl, λ none. none))) at;
   accepts = λ hands port s c at a d made. accepted_by hands port s a d (goes_on s.table c.host d.host _ _ made.host (λ g. accept_stays a g) at);
   reads = λ h hands port s c on at a d made. byte_read h hands port s a.0 a.1 d
       (goes_on s.table c.host d.host _ _ made.0.host (λ g. read_stays h.stream a.0 g) at);

@@ -2,11 +2,10 @@
 use Rattle.std.proofs.{Common.{◌≡◌, ℕ, Bool, List, [], Option, Some, None, refl, sym, ap, subst, ◌∙◌, arith}, lemmas.Option.same_Some}
 use Rattle.vs_contents.specs.{CallTree.Ask, CallTree.Done, Contents.Relates}
 use Rattle.vs_limits.specs.declared.TheConstants.{ASSIGNED_FIRST, FIRST_CID}
-use Rattle.vs_ring_port.specs.{Contents.DeviceAnswer, Contents.DeviceCall, Contents.RingContents, EndLog.EndLog, Known.IsLater, Known.Known}
+use Rattle.vs_ring_port.specs.{Contents.DeviceAnswer, Contents.DeviceCall, Contents.RingContents, DeviceCalls.DeviceAllows, EndLog.EndLog, Known.IsLater, Known.Known}
 use Rattle.vs_ring_port.specs.declared.queue.Queue.TheVariants.{Rx}
 use Rattle.vs_ring_port.proofs.Knowing.{device_keeps}
-use Rattle.vs_device_parts.specs.Calls.{Accept, Allows, Answer, Call, CloseStream, DeviceTree, Dial, Label, ReadStream, Ring, ShutWrite}
-use Rattle.vs_device_parts.specs.{Calls.Situation, Calls.WriteStream, Playing.Runs}
+use Rattle.vs_device_parts.specs.{Calls.DeviceTree, Calls.Situation, Playing.Runs}
 use Rattle.laws_rest.specs.Calm.{resets_in}
 use Rattle.laws_rest.proofs.Calm.{calm_turns}
 use Rattle.vs_page.specs.Log.{Device, Log}
@@ -16,7 +15,7 @@ use Rattle.laws_settled.specs.{Hosts.IsHosts, Settled.IsSteady}
 use Rattle.laws_settled.proofs.{Asked.turn_asks, Exact.exact_turns, Hosted.turn_hosts, Shutting.turn_shuts}
 use Rattle.laws_tables.specs.Asked.{AskOnce}
 use Rattle.laws_tables.proofs.Asking.{begins_once}
-use Rattle.laws_device.specs.Honest.{ends_of_state}
+use Rattle.laws_device.{specs.Honest.ends_of_state, proofs.Logs.over_runs, proofs.Packets.joined}
 
 pub new_steady : (base : List ℕ) (a : Situation) (l : EndLog) → a.ring.log ≡ Some l → l.entries ≡ [] → l.held ≡ [] → IsSteady (new_proxy FIRST_CID base) a
 new_steady base a l told silent none = record {
@@ -65,41 +64,18 @@ turn_steady size now s a b x steady runs =
 abbrev pub ToldAsMuch : Known → Known → Type 0
 ToldAsMuch k i = i.rx.told ≡ k.rx.told
 
-as_much : (o p : Option Known) → p ≡ o → Relates o p ToldAsMuch
-as_much None p same = same
-as_much (Some k) None same = absurd cc
-as_much (Some k) (Some i) same = let is : i ≡ k = cc in ap (λ (j : Known). j.rx.told) is
+as_much : (o : Option Known) → Relates o o ToldAsMuch
+as_much None = refl
+as_much (Some k) = refl
 
-as_much_then : (o p q : Option Known) → Relates o p ToldAsMuch → Relates p q ToldAsMuch → Relates o q ToldAsMuch
-as_much_then None None q first rest = rest
-as_much_then None (Some i) q first rest = absurd cc
-as_much_then (Some k) None q first rest = absurd first
-as_much_then (Some k) (Some i) None first rest = absurd rest
-as_much_then (Some k) (Some i) (Some l) first rest = rest ∙ first
-
-by_ring : (call : DeviceCall) (a : DeviceAnswer call) (c d : Situation) → Allows (Ring call) a c d → Relates c.ring.known d.ring.known ToldAsMuch
-by_ring call a c d allowed =
-    later c.ring.known d.ring.known (device_keeps (Ask call (λ z. Done z)) a c.ring d.ring (a, d.ring, allowed.0, (refl, refl)))
+by_ring : (call : DeviceCall) (a : DeviceAnswer call) (c d : RingContents) → DeviceAllows call a c d → Relates c.known d.known ToldAsMuch
+by_ring call a c d allowed = later c.known d.known (device_keeps (Ask call (λ z. Done z)) a c d (a, d, allowed, (refl, refl)))
   where
     later : (o p : Option Known) → Relates o p IsLater → Relates o p ToldAsMuch
     later None p is = is
     later (Some k) None is = absurd is
     later (Some k) (Some i) is = is.told Rx
 
-by_host : (c d : Situation) → d.ring ≡ c.ring → Relates c.ring.known d.ring.known ToldAsMuch
-by_host c d same = as_much c.ring.known d.ring.known (ap (λ (r : RingContents). r.known) same)
-
-by_call : (call : Call) (a : Answer call) (c d : Situation) → Allows call a c d → Relates c.ring.known d.ring.known ToldAsMuch
-by_call (Ring call) a c d allowed = by_ring call a c d allowed
-by_call Accept a c d allowed = by_host c d allowed.ring
-by_call (Dial path flow) a c d allowed = by_host c d allowed.ring
-by_call (Label stream flow) a c d allowed = by_host c d allowed.ring
-by_call (ReadStream stream n) a c d allowed = by_host c d allowed.0.ring
-by_call (WriteStream stream bytes) a c d allowed = by_host c d allowed.0.ring
-by_call (ShutWrite stream) a c d allowed = by_host c d allowed.ring
-by_call (CloseStream stream) a c d allowed = by_host c d allowed.ring
-
 pub told_runs : {A : Type 0} (tree : DeviceTree A) (c d : Situation) (x : A) → Runs tree c x d → Relates c.ring.known d.ring.known ToldAsMuch
-told_runs (Done y) c d x runs = as_much c.ring.known d.ring.known (ap (λ (z : Situation). z.ring.known) (sym runs.1))
-told_runs (Ask call go) c d x runs =
-    as_much_then c.ring.known runs.1.ring.known d.ring.known (by_call call runs.0 c runs.1 runs.2) (told_runs (go runs.0) runs.1 d x runs.3)
+told_runs = over_runs (λ c d. Relates c.known d.known ToldAsMuch) (λ c. as_much c.known)
+    (λ c d e. joined c.known d.known e.known ToldAsMuch ToldAsMuch ToldAsMuch (λ k i l first rest. rest ∙ first)) by_ring

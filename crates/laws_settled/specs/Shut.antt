@@ -1,15 +1,19 @@
 -- Which directions a device shut of its connections, by their streams.
-use Rattle.std.specs.{List.All, Option.ForSome, Prelude.{◌≡◌, ℕ, true, Option, Some}}
+use Rattle.std.specs.{List.All, Option.ForSome, Prelude.{◌≡◌, ℕ, true, false, [], Option, Some}}
 use Rattle.vs_flow.specs.Table.{Table}
 use Rattle.vs_outside.specs.Host.{HostContents, Stream, stream_at}
 use Rattle.vs_device_parts.specs.State.{DeviceConnection}
 
--- A stream that the host's program closed; and one on which it wrote its last byte.
+-- A stream on which the host's program wrote its last byte, and of which all was taken, unless it gives back what is given to it. One that the program closed,
+-- and one like that.
+abbrev pub GivesNoMore : Stream → Type 0
+GivesNoMore s = (s.ended ≡ true) × (s.echoes ≡ false → s.untaken ≡ [])
+
 abbrev pub IsClosedAt : ℕ → HostContents → Type 0
 IsClosedAt id h = (s : Stream) × (stream_at id h ≡ Some s) × (s.host_closed ≡ true)
 
 abbrev pub IsEndedAt : ℕ → HostContents → Type 0
-IsEndedAt id h = (s : Stream) × (stream_at id h ≡ Some s) × (s.ended ≡ true)
+IsEndedAt id h = (s : Stream) × (stream_at id h ≡ Some s) × GivesNoMore s
 
 -- A connection takes no more of the guest's bytes only where its stream was closed so, and sends no more only where it was ended.
 pub record IsShutBy (c : DeviceConnection) (h : HostContents) : Type 0 where

@@ -1,10 +1,10 @@
 -- The driver and the device, each with its connections and its log, over any order of their steps.
-use Rattle.std.specs.Prelude.{◌≡◌, ℕ, ◌≤◌, Bool, true, false, if◌then◌else◌, List, [], ◌∷◌, length, Some}
-use Rattle.vs_conn.specs.{Follows.FitsMessage, declared.end.Owed.Owed, declared.end.State.TheVariants.Live, End.CanSend, End.ConnectionEnd}
+use Rattle.std.specs.Prelude.{◌≡◌, ℕ, ◌≤◌, Bool, true, false, if◌then◌else◌, is_some, List, [], ◌∷◌, length, Some}
+use Rattle.vs_conn.specs.{Follows.{FitsMessage, IsTaken}, declared.end.{Owed.Owed, State.TheVariants.Live}, End.CanSend, End.ConnectionEnd}
 use Rattle.vs_conn.specs.End.{aborted, grown, owes_of, wanting_credit, with_payload_forwarded, with_payload_sent, with_shut}
 use Rattle.vs_credit.specs.Credit.{unread_of}
 use Rattle.vs_flow.specs.declared.flow.Flow.{Flow}
-use Rattle.vs_header.specs.declared.Kind.{Kind}
+use Rattle.vs_header.specs.{declared.Kind.Kind, Kind.kind_named}
 use Rattle.laws_history.specs.{History.puts, Packets.is_request, Packets.is_rst, declared.packet.Packet.Packet}
 use Rattle.vs_limits.specs.declared.TheConstants.{BUF_ALLOC_MAX}
 use Rattle.vs_page.specs.{Fair.IsFairLog, Open.is_dropped, Log.{Driver, Device, HasGotAll, IsNextEvent, IsNextPacket, Log, Role, flow_got}}
@@ -114,22 +114,36 @@ abbrev pub with_seat : Role → Seat → Both → Both
 with_seat Driver w b = record b { driver = w }
 with_seat Device w b = record b { device = w }
 
--- A step may happen at a seat. Only the next packet, and the next event, that the other put can be taken.
+-- A step may happen, as far as its seat alone says. What is taken is any packet whose fields fit, accepted only with a known type.
+abbrev pub MayStep : Role → Step → Seat → Type 0
+MayStep role (Opens f kind) w = IsNextFlow role f w.part
+MayStep role (Asks f kind) w = (role ≡ Device) × IsNextFlow role f w.part
+MayStep role (Sends f e payload) w =
+    HasEnd f e w.part × CanSend e (length payload) × FitsMessage e (puts (history_of role f w.log)) (length payload)
+MayStep role (Pays f e what) w = HasEnd f e w.part × (owes_of e ≡ Some what)
+MayStep role (Replies r rest) w = w.part.replies ≡ r ∷ rest
+MayStep role (Decides f e what) w = HasEnd f e w.part × (is_new e ≡ false) × MayDecide e what
+MayStep role (Takes p answer) w = IsTaken p × (answer ≡ true → is_some (kind_named p.header.kind) ≡ true)
+MayStep role Forgets w = Unit {0}
+MayStep role (PutsEvent id) w = role ≡ Device
+MayStep role (TakesEvent id) w = role ≡ Driver
+MayStep role (MakesReset cid) w = role ≡ Device
+MayStep role (TakesReset cid) w = role ≡ Driver
+
+-- Steps of one seat.
+abbrev pub MayStepAll : Role → List Step → Seat → Type 0
+MayStepAll role [] w = Unit {0}
+MayStepAll role (step ∷ steps) w = MayStep role step w × MayStepAll role steps (after role step w)
+
+abbrev pub after_all : Role → List Step → Seat → Seat
+after_all role [] w = w
+after_all role (step ∷ steps) w = after_all role steps (after role step w)
+
+-- With the other seat only the next packet, and the next event, that it put can be taken.
 abbrev pub MayHappen : Role → Step → Both → Type 0
-MayHappen role (Opens f kind) b = IsNextFlow role f (at role b).part
-MayHappen role (Asks f kind) b = (role ≡ Device) × IsNextFlow role f (at role b).part
-MayHappen role (Sends f e payload) b =
-    HasEnd f e (at role b).part × CanSend e (length payload)
-    × FitsMessage e (puts (history_of role f (at role b).log)) (length payload)
-MayHappen role (Pays f e what) b = HasEnd f e (at role b).part × (owes_of e ≡ Some what)
-MayHappen role (Replies r rest) b = (at role b).part.replies ≡ r ∷ rest
-MayHappen role (Decides f e what) b = HasEnd f e (at role b).part × (is_new e ≡ false) × MayDecide e what
 MayHappen role (Takes p answer) b = IsNextPacket (at role b).log (at (other_role role) b).log p
-MayHappen role Forgets b = Unit {0}
-MayHappen role (PutsEvent id) b = role ≡ Device
 MayHappen role (TakesEvent id) b = (role ≡ Driver) × IsNextEvent (at role b).log (at (other_role role) b).log id
-MayHappen role (MakesReset cid) b = role ≡ Device
-MayHappen role (TakesReset cid) b = role ≡ Driver
+MayHappen role step b = MayStep role step (at role b)
 
 abbrev pub happens : Role → Step → Both → Both
 happens role step b = with_seat role (after role step (at role b)) b

@@ -28,8 +28,7 @@ abbrev pub IsHeld : ℕ → Side → History → List ConnectionEnd → Type 0
 IsHeld kind side h ends = (e : ConnectionEnd) × (ends ≡ e ∷ []) × Follows side (puts h) (gots h) e × (kind_number e.kind ≡ kind)
 
 -- The ends of a flow are those that what was heard leaves, where the log leaves a connection of this type open or none, and an RST is owed
--- to
--- it as a reply or not. None is owed where a REQUEST may come.
+-- to it as a reply or not. None is owed where a REQUEST may come.
 abbrev pub IsLeftOn : Role → Side → History → Option ℕ → Bool → List ConnectionEnd → Type 0
 IsLeftOn role side h (Some kind) false ends = IsHeld kind side h ends
 IsLeftOn role side h None false ends = IsBefore role side h ends
@@ -55,8 +54,7 @@ pub record IsKept (role : Role) (first : ℕ) (part : Ends) (log : Log) (f : Flo
   pub over : is_awaiting (heard_of role first f log) ≡ false
 
 -- Each flow is as the log leaves it, flows whose port is still to be given are unused, those that are kept are over and stand once, and
--- the guest's CID is
--- the one that the log tells, where it was this at first.
+-- the guest's CID is the one that the log tells, where it was this at first.
 pub record MatchesFlows (role : Role) (first : ℕ) (part : Ends) (log : Log) : Type 0 where
   pub on : (f : Flow) → MatchesOn role first part log f
   pub unused : (f : Flow) → side_of role f ≡ Asker → part.next_port ≤ own_port role f → IsUnused role first part log f
@@ -79,8 +77,7 @@ AllOwed role log [] = Unit {0}
 AllOwed role log (r ∷ rs) = IsOwed role log r × AllOwed role log rs
 
 -- What a fair log gives besides: what was put on each flow is within the credit that was heard, flows that are kept are clean by the log,
--- so
--- that no transport reset stands between REQUEST and marked RST, those on which an end is to ask are ready, and each reply may be put.
+-- so that no transport reset stands between REQUEST and marked RST, those on which an end is to ask are ready, and each reply may be put.
 pub record IsFairlyLeft (role : Role) (first : ℕ) (part : Ends) (log : Log) : Type 0 where
   pub within : (f : Flow) → IsWithinCredit role first f log
   pub kept : (f : Flow) → is_among f part.clean ≡ true → phase_of role first f log ≡ Clean

@@ -14,7 +14,8 @@ ghost use Rattle.vs_limits.specs.declared.TheConstants.{ASSIGNED_FIRST, HOST_CID
 ghost use Rattle.laws_history.specs.{Again.IsClean, History.Asker, History.Got, History.Put, History.gots, History.puts};
 ghost use Rattle.laws_history.specs.{Packets.is_clean_rst, Packets.is_request, Packets.is_rst, declared.packet.Packet.Packet};
 ghost use Rattle.laws_tables.specs.{Asked.AskOnce, Asked.Does, Matches.IsAsking, Matches.Matches, Quiet.IsQuietOn, Both.Both};
-ghost use Rattle.laws_tables.specs.Both.{Happening, IsSound, MayRun, Seat, Step, after, after_packet, at, new_seat, run, start};
+ghost use Rattle.laws_tables.specs.Both.{Happening, IsSound, MayRun, MayStep, MayStepAll, Seat, Step, after, after_all, after_packet, at};
+ghost use Rattle.laws_tables.specs.Both.{new_seat, run, start};
 ghost use Rattle.laws_tables.specs.Examples.{guest_mark, log_of_early, log_of_mark, no_ends, spoiled, after_two, asking_end, closing, guest_cid};
 ghost use Rattle.laws_tables.specs.Examples.{guest_flow, heard_on, host_end, assigned_flow, kept_falsely, live_end, log_of_false_mark};
 ghost use Rattle.laws_tables.specs.Examples.{log_of_return, log_of_two, log_over_reset, log_with_drop, lost_response, new_cid, opening};
@@ -125,16 +126,28 @@ pub fn law_of_events()
         → Matches role first (emptied cid part) (Mark cid ∷ log) }
 {}
 
-/// Packets come in order over every fair log, and whatever the peer puts, over one in which each flow's first packet is its only REQUEST
-/// and
-/// its own side's to put, where nothing follows a marked RST at the end that asked. So the table is what such a log left open over any ring
-/// that tells it.
+/// Packets come in order over every fair log; and whatever the peer puts, over one in which each flow's first packet is its only REQUEST
+/// and its own side's to put, where nothing follows a marked RST at the end that asked.
 pub fn law_of_order()
     ensures in_order { (role : Role) (first : ℕ) (p : Packet) (log : Log) → let f = flow_got role p in
         IsOrderedLog role (GotPacket p ∷ log) → IsInOrder (side_of role f) (heard_of role first f log) p }
     ensures older { (role : Role) (entry : LogEntry) (log : Log) → IsOrderedLog role (entry ∷ log) → IsOrderedLog role log }
     ensures fair { (role : Role) (log : Log) → IsFairLog role log → IsOrderedLog role log }
     ensures once { (role : Role) (log : Log) → AsksOnceLog role log → IsOrderedLog role log }
+{}
+
+/// One seat by itself, over any ring that tells its log, whatever the peer puts: that the log is fair isn't asked. A step keeps it matching
+/// its log where packets come in order. So from a new seat on, over a log in which each flow's first packet is its only REQUEST, the flows
+/// of the table are those that the log left open, less those to which an RST is owed as a reply, and those whose REQUEST isn't put yet.
+pub fn law_of_one_seat()
+    ensures keeps { (role : Role) (first : ℕ) (step : Step) (w : Seat) → MayStep role step w → Matches role first w.part w.log
+        → let v = after role step w in IsOrderedLog role v.log → Matches role first v.part v.log }
+    ensures matches { (role : Role) (first port : ℕ) (steps : List Step) → MayStepAll role steps (new_seat first port)
+        → let w = after_all role steps (new_seat first port) in AsksOnceLog role w.log → Matches role first w.part w.log }
+    ensures table { (role : Role) (first port : ℕ) (steps : List Step) (f : Flow) → MayStepAll role steps (new_seat first port)
+        → let w = after_all role steps (new_seat first port) in AsksOnceLog role w.log
+        → is_among f (flows_of w.part.entries)
+        ≡ (is_open role first f w.log (is_among f (replied w.part.replies)) || is_among f (new_flows w.part.entries)) }
 {}
 
 /// What a step on a flow's connection does to the ends of that flow and of others.
@@ -149,8 +162,9 @@ pub fn law_of_ends()
         → ends_of g (with_connection f e part).entries ≡ ends_of g part.entries }
 {}
 
-/// What an end heard on a flow is what passed there without the packets that were dropped, and the driver drops none. A packet that is
-/// put or got is the newest that was heard on its flow. A packet of another flow, an event and a transport reset change nothing in it.
+/// What an end heard on a flow is what passed there without the packets that were dropped, and the driver drops none of the host's. A
+/// packet that is put or got is the newest that was heard on its flow, and a REQUEST that is dropped ends what was heard there. A packet of
+/// another flow, an event and a transport reset change nothing in it.
 pub fn law_of_hearing()
     ensures driver { (first : ℕ) (f : Flow) (log : Log) → f.peer ≡ HOST_CID → IsAllHeard Driver first f log }
     ensures puts { (role : Role) (first : ℕ) (f : Flow) (log : Log) → puts (heard_of role first f log) ≡ puts (history_of role f log) }
@@ -190,8 +204,8 @@ pub fn law_of_fairness()
         → IsFairLog role log → part.replies ≡ r ∷ rest → IsFairLog role (PutPacket (reply_on role cid r) ∷ log) }
 {}
 
-/// A packet that keeps the log fair comes in order, and its fields fit; it is a REQUEST exactly where nothing passed on its flow before.
-/// A connection never refuses it where no packet of the flow was dropped, which at the driver is always. It has room for its payload in
+/// A packet that keeps the log fair comes in order, and its fields fit; it is a REQUEST where nothing passed on its flow before. A
+/// connection doesn't refuse it where no packet of the flow was dropped, and the driver none of the host's. It has room for its payload in
 /// any case (Virtio 1.2, sections 5.10.6.3 and 5.10.6.5).
 pub fn law_of_fair_packets()
     ensures in_order { (role : Role) (first : ℕ) (p : Packet) (log : Log) → let f = flow_got role p in IsFairOn role f (GotPacket p ∷ log)
@@ -212,10 +226,9 @@ pub fn law_of_fair_packets()
 {}
 
 /// The table of an end that matches its log. No flow stands twice in it, nor among those that are kept. The flows of its connections that
-/// have begun are exactly those
-/// that the log left open, less those to which an RST is owed as a reply; the others ask for their flows and have not put their REQUEST.
-/// All of the driver's have begun. After a transport reset none has. One that has begun follows what was heard on its flow; where one is
-/// new, nothing was heard.
+/// have begun are exactly those that the log left open, less those to which an RST is owed as a reply; the others ask for their flows and
+/// have not put their REQUEST. All of the driver's have begun, and right after a transport reset none has. One that has begun follows what
+/// was heard on its flow; on that of a new one nothing is awaited.
 pub fn law_of_the_table()
     ensures once { (role : Role) (first : ℕ) (part : Ends) (log : Log) → Matches role first part log
         → AllPairs (λ d e. d.flow ≢ e.flow) part.entries }
@@ -260,8 +273,8 @@ pub fn law_of_slots<T>()
 
 /// Driver and device over every order of their steps, each where it may happen, from a fresh pair on, transport resets and changes of the
 /// guest's CID included. Both match their logs, both logs are fair, and each got what the other put first. So the driver's table is what
-/// its log left open, and of the device's the connections that have begun. The driver refuses no packet, the device none that it doesn't
-/// drop, and neither gets more payload than it has room for.
+/// its log left open, and of the device's the connections that have begun. The driver refuses no packet of the host's, the device none that
+/// it doesn't drop, and the device gets no more payload than it has room for.
 pub fn law_of_both()
     ensures sound { (first guest_port host_port : ℕ) (xs : List Happening) → MayRun xs (start first guest_port host_port)
         → IsSound first (run xs (start first guest_port host_port)) }
@@ -284,8 +297,7 @@ pub fn law_of_both()
 {}
 
 /// A flow that either end keeps to be used again: neither ring holds a packet of it, and the other end has no connection on it and owes it
-/// no
-/// reply. No transport reset stood between its REQUEST and the marked RST that ended it.
+/// no reply. No transport reset stood between its REQUEST and the marked RST that ended it.
 pub fn law_of_kept_flows()
     ensures quiet { (first guest_port host_port : ℕ) (xs : List Happening) (role : Role) (f : Flow)
         → MayRun xs (start first guest_port host_port) → let b = run xs (start first guest_port host_port) in
@@ -332,8 +344,7 @@ pub fn example()
 /// first, the flow has a connection but isn't open. Where a REQUEST that is dropped ended nothing of what was heard, an end would tell more
 /// forwarded than it heard, though the log is fair. A flow whose REQUEST was never put isn't asked for again. Where a guest that breaks the
 /// rules puts a marked RST, a flow is kept that isn't clean by the log. A connection over which a transport reset stands is clean by what
-/// was
-/// put and got, but not by its phase.
+/// was put and got, but not by its phase.
 pub fn counterexamples()
     ensures asks { (kind : Kind) (alloc : ℕ) → Follows Asker [] [] (asked kind alloc) → ⊥ }
     ensures dropped { is_dropped Device guest_cid lost_response.header ≡ true }
@@ -345,6 +356,7 @@ pub fn counterexamples()
     ensures return_fair { IsFairOn Device guest_flow log_of_return }
     ensures return_beyond { IsWithin (heard_on Device guest_cid guest_flow log_of_return) → ⊥ }
     ensures return_within { IsWithin (heard_of Device guest_cid guest_flow log_of_return) }
+    ensures unput_may { MayRun unput (start guest_cid 1024 ASSIGNED_FIRST) }
     ensures unput { IsNextFlow Device assigned_flow (run unput (start guest_cid 1024 ASSIGNED_FIRST)).device.part → ⊥ }
     ensures kept_falsely { is_among assigned_flow kept_falsely.clean ≡ true }
     ensures false_mark { phase_of Device guest_cid assigned_flow log_of_false_mark ≡ Over }

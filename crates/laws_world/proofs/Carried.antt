@@ -6,17 +6,16 @@ use Rattle.vs_device_parts.specs.State.{DeviceEntry}
 use Rattle.vs_flow.specs.{Connection.Connection, Connection.first_of, declared.flow.Flow.Flow}
 use Rattle.laws_history.specs.{History.puts, Packets.has, Packets.shuts_send}
 use Rattle.vs_outside.specs.{Host.Stream, Host.stream_at, HostBytes.host_read, HostBytes.host_wrote}
-use Rattle.vs_page.specs.{Fair.{IsFairLog, IsPrefixOf, payload_got, payload_put}, Log.{Device, Driver, Log, Role, history_of}}
-use Rattle.vs_page.proofs.Shut.{shut_put}
-use Rattle.laws_tables.specs.Both.{at}
+use Rattle.vs_page.specs.{Fair.{IsPrefixOf, payload_got, payload_put}, Log.{Device, Driver, Log, Role, history_of}}
+use Rattle.laws_tables.{specs.Both.Both, specs.Both.at, specs.Later.IsLater, proofs.Later.run_later, proofs.Later.stays_shut}
 use Rattle.laws_tables.specs.Drains.{Drains, got_on, put_on, receives}
 use Rattle.laws_tables.proofs.Firsts.{once_got, once_put, put_begun}
 use Rattle.laws_device.specs.Carried.Streamed.{IsJoined, Seen, gives, line_for, look, seen}
 use Rattle.laws_world.specs.{Sides.both_of, World.World, World.first_cid}
 use Rattle.laws_rest.specs.Bytes.{BothEnds, CarryBytes}
 use Rattle.laws_rest.proofs.BothEnds as both
-use Rattle.laws_world.proofs.{Once.both_ends, Growing.Grows, Growing.runs_grow}
-use Rattle.laws_world.proofs.{Journals.by_flow, Journals.received_some, Sound.Goes, Sound.IsWell}
+use Rattle.laws_world.proofs.Once.{both_ends}
+use Rattle.laws_world.proofs.{Journals.by_flow, Journals.received_some, Journals.sent_flow, Sound.Goes, Sound.IsWell}
 use Rattle.laws_driver.specs.Carried.{Received.{ReceivedOn, ReceivesOn}, Calls.{account_of, received_by, received_on, sent_on}}
 use Rattle.laws_device.proofs.Carried.Hosts.{there as is_there}
 
@@ -35,10 +34,10 @@ module _ {fresh : Type 0} (w : World) (well : IsWell fresh w) where
 
   -- The connection of an id is the first of its flow, and what was received on the flow was received on the id.
   is_first : (id : ℕ) → 1 ≤ (well.opened id).number → well.opened id ≡ first_of (well.opened id).flow
-  is_first id some = both.first_is (both_of w) ends Driver (well.opened id) some (well.received.passed id)
+  is_first id some = both.first_is (both_of w) ends Driver (well.opened id) some (well.right.received.passed id)
 
   pub one_id : (i j : ℕ) → 1 ≤ (well.opened i).number → 1 ≤ (well.opened j).number → (well.opened i).flow ≡ (well.opened j).flow → i ≡ j
-  one_id i j some also same = well.received.once i j some (is_first i some ∙ ap (λ (g : Flow). first_of g) same ∙ sym (is_first j also))
+  one_id i j some also same = well.right.received.once i j some (is_first i some ∙ ap (λ (g : Flow). first_of g) same ∙ sym (is_first j also))
 
   named : (id : ℕ) (f : Flow) → (well.opened id).flow ≡ f → 1 ≤ (well.opened id).number
       → (received_by id w.journal ≡ received_on f w.journal) × (well.opened id ≡ first_of f)
@@ -52,10 +51,11 @@ module _ {fresh : Type 0} (w : World) (well : IsWell fresh w) where
 
   -- What the sends took is what the driver put. What was received is a prefix of what it got.
   pub sent_is : (f : Flow) → payload_put Driver (first_of f) guest ≡ sent_on f w.journal
-  sent_is f = sym (well.sent f)
+  sent_is f =
+      well.right.sent.puts (first_of f) ∙ sym (sent_flow well.opened f (λ id some. ap (λ (c : Connection). c.number) (is_first id some)) w.journal well.agrees)
 
   pub sent_all : (f : Flow) → sent_on f w.journal ≡ put_on Driver f guest
-  sent_all f = well.sent f ∙ once_put Driver f guest (well.sound.fair Driver f) (both.once (both_of w) ends Driver f)
+  sent_all f = sym (sent_is f) ∙ once_put Driver f guest (well.sound.fair Driver f) (both.once (both_of w) ends Driver f)
 
   pub received_is : (f : Flow) → IsPrefixOf (received_on f w.journal) (payload_got Driver (first_of f) guest)
   received_is f = by (received_some well.opened f w.journal well.agrees)
@@ -66,12 +66,12 @@ module _ {fresh : Type 0} (w : World) (well : IsWell fresh w) where
       by (inr (id, some, flow)) =
           let n = named id f flow some in
           subst (λ (bytes : List ℕ). IsPrefixOf bytes (payload_got Driver (first_of f) guest)) n.0
-          (subst (λ (c : Connection). IsPrefixOf (received_by id w.journal) (payload_got Driver c guest)) n.1 (well.received.front id))
+          (subst (λ (c : Connection). IsPrefixOf (received_by id w.journal) (payload_got Driver c guest)) n.1 (well.right.received.front id))
 
   pub unread_of : (e : DriverEntry) → Contains w.driver.table.entries e
       → Drains (receives e.value.end) (received_on e.flow w.journal) e.value.unread (payload_got Driver (first_of e.flow) guest)
   unread_of e there =
-      let on = All-contains (ReceivesOn (account_of 1 well.opened w.journal) guest) w.driver.table.entries e well.received.held there in
+      let on = All-contains (ReceivesOn (account_of 1 well.opened w.journal) guest) w.driver.table.entries e well.right.received.held there in
       let n = named e.value.id e.flow (ap (λ (c : Connection). c.flow) on.present) (subst (λ (c : Connection). 1 ≤ c.number) (sym on.present) on.some) in
       subst (λ (bytes : List ℕ). Drains (receives e.value.end) bytes e.value.unread (payload_got Driver (first_of e.flow) guest)) n.0
       (subst (λ (c : Connection). Drains (receives e.value.end) (received_by e.value.id w.journal) e.value.unread (payload_got Driver c guest))
@@ -80,7 +80,7 @@ module _ {fresh : Type 0} (w : World) (well : IsWell fresh w) where
   pub gone_of : (g : GoneConnection) → Contains w.driver.gone g
       → IsPrefixOf (received_on g.flow w.journal ++ g.unread) (payload_got Driver (first_of g.flow) guest)
   gone_of g there =
-      let on = All-contains (ReceivedOn (account_of 1 well.opened w.journal) guest) w.driver.gone g well.received.left there in
+      let on = All-contains (ReceivedOn (account_of 1 well.opened w.journal) guest) w.driver.gone g well.right.received.left there in
       let n = named g.id g.flow on.flow on.some in
       subst (λ (bytes : List ℕ). IsPrefixOf (bytes ++ g.unread) (payload_got Driver (first_of g.flow) guest)) n.0
       (subst (λ (c : Connection). IsPrefixOf (received_by g.id w.journal ++ g.unread) (payload_got Driver c guest)) n.1 on.front)
@@ -123,18 +123,13 @@ module _ {fresh : Type 0} (w : World) (well : IsWell fresh w) where
         )
 
 -- What an end put stays once it told that it sends no more.
-stays_put : (role : Role) (older log : Log) (f : Flow) → Grows older log → IsFairLog role older → IsFairLog role log
-    → has shuts_send (puts (history_of role f older)) ≡ true
-    → payload_put role (first_of f) log ≡ payload_put role (first_of f) older
-stays_put role older log f (newer, is) was fair shut =
-    ap (payload_put role (first_of f)) is ∙ shut_put role newer older (first_of f) (subst (IsFairLog role) is fair f) shut (put_begun role f older shuts_send (was f) shut)
-
 module _ {fresh : Type 0} (w v : World) (well : IsWell fresh w) (goes : Goes fresh w v) (f : Flow) where
   kept : (role : Role) → has shuts_send (puts (history_of role f (at role (both_of w)).log)) ≡ true
       → payload_put role (first_of f) (at role (both_of v)).log ≡ payload_put role (first_of f) (at role (both_of w)).log
   kept role shut =
-      stays_put role (at role (both_of w)).log (at role (both_of v)).log f (runs_grow role (both_of w) (both_of v) goes.runs) (well.sound.fair role)
-      (goes.well.sound.fair role) shut
+      let old = (at role (both_of w)).log in
+      let later = subst (λ (b : Both). IsLater old (at role b).log) goes.runs.ends (run_later role goes.runs.steps (both_of w)) in
+      stays_shut role old _ later (goes.well.sound.fair role) (first_of f) shut (put_begun role f old shuts_send (well.sound.fair role f) shut)
 
   pub sent_stays : has shuts_send (puts (history_of Driver f (both_of w).driver.log)) ≡ true → sent_on f v.journal ≡ sent_on f w.journal
   sent_stays shut = sym (sent_is v goes.well f) ∙ kept Driver shut ∙ sent_is w well f

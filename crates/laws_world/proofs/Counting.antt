@@ -35,6 +35,7 @@ use Rattle.laws_world.specs.Events.{at_moment, call_made, device_step, driver_st
 use Rattle.laws_world.specs.World.{World, around, device_plays, driver_plays, first_cid, opening}
 use Rattle.laws_world.specs.Events.{is_guest_cid, line_read, proxy_step, reset_made, run, unless_failed, where_possible}
 use Rattle.laws_world.specs.{Answers.Around, Answers.answer_around, Counts.IsCounted, Counts.dropped_in, Pages.PageHolds}
+use Rattle.laws_proxy.proofs.Growing.{flow_grow_stays}
 use Rattle.laws_world.proofs.Resetting.{keeps_played, keeps_reset, playing}
 use Rattle.laws_world.proofs.{Opening.opening_well, Rings.AreGiven, Sound.IsWell, Sound.happens_goes}
 use Rattle.laws_driver.specs.Carried.Calls.{Journal, is_right, makes_call}
@@ -397,6 +398,10 @@ module _ {fresh : Type 0} (w : World) (well : IsWell fresh w) (was : IsCounted w
   happens_counted (events.DevicePays slot) = unless_device (puts_owed slot) (puts_owed_counts w.proxy.handshakes slot)
   happens_counted (events.DeviceWrites slot) = unless_device (writes slot) (writes_counts w.proxy.handshakes slot)
   happens_counted (events.DeviceShutsWrite slot) = unless_device (shuts_write slot) (shuts_counts w.proxy.handshakes slot)
+  happens_counted (events.DeviceGrows flow alloc) =
+      let kept = flow_grow_stays flow alloc w.proxy (λ d. IsCounted (record w { proxy = with_device d w.proxy })) was
+      (λ e. record { dropped = was.dropped; unfailed = was.unfailed }) in
+      record { dropped = kept.dropped; unfailed = kept.unfailed }
   happens_counted events.ProxyAccepts = unless_proxy accept_one (keeps_accept_one playing (Between D) shakes)
   happens_counted (events.ProxyReads stream) = unless_proxy (line_read stream) (line_counts stream)
   happens_counted (events.Moment now) = hosts_counted now w.host

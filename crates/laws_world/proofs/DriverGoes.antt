@@ -1,27 +1,24 @@
 -- What the driver's conversations come to: steps of its seat, headers that fit, the account, and the payload that was put.
-use Rattle.std.proofs.Common.{◌≡◌, ℕ, ◌≤◌, ◌==◌, ◌&&◌, ◌⊎◌, inl, inr, Bool, true, false, cond, List, [], ◌++◌, take, Option, Some, None}
-use Rattle.std.proofs.{Common.{Contains, is_some, refl, sym, ap, ◌∙◌, arith}, lemmas.{Bool.Decides.nat_tests, List.Elements.All-contains}}
-use Rattle.vs_contents.specs.CallTree.{Done, played}
-use Rattle.vs_flow.specs.{Connection.Connection, Connection.first_of, Flow.same_flow, declared.flow.Flow.Flow}
-use Rattle.vs_page.specs.{Fair.current, Fair.number_of, Fair.payload_put, Log.Driver, Log.Log}
-use Rattle.vs_ring_port.specs.{DriverCalls.driver_answer, EndLog.EndLog, Lists.Rings}
-use Rattle.laws_tables.{specs.Both.Seat, specs.Ends.Ends, proofs.Slots.found_by}
-use Rattle.vs_driver_parts.specs.State.{DriverEntry, DriverState, entry_known_as, gone_known_as, is_known_as}
-use Rattle.vs_driver_parts.{specs.Conversations.DriverTree, specs.Conversations.not_sent, specs.Connections.flow_of}
-use Rattle.vs_driver_parts.{specs.Connections.recv_of, specs.Steps.sends_on, specs.declared.answers.Sent.Sent, proofs.Known.flow_known}
+use Rattle.std.proofs.Common.{◌≡◌, ℕ, ◌≤◌, ◌⊎◌, inl, inr, true, take, None, Some, refl}
+use Rattle.vs_contents.specs.CallTree.{played}
+use Rattle.vs_flow.specs.Connection.{Connection}
+use Rattle.vs_page.specs.Log.{Log}
+use Rattle.vs_ring_port.specs.{Contents.RingContents, DriverCalls.driver_answer, EndLog.EndLog, Lists.Rings}
+use Rattle.laws_tables.specs.{Both.Seat, Ends.Ends}
+use Rattle.vs_driver_parts.specs.{Connections.{flow_of, recv_of}, Playing.Plays, State.DriverState}
+use Rattle.vs_driver_parts.specs.State.{entry_known_as, gone_known_as}
 use Rattle.laws_driver.proofs.Putting.{connect_puts, owed_puts, reply_puts, send_puts}
 use Rattle.laws_driver.{specs.Honest.slots_of, proofs.Carrying.Carries, proofs.Carrying.Fact, proofs.Going.Goes, proofs.Walking.poll_goes}
-use Rattle.laws_driver.specs.Carried.Calls.{Connect, GuestCall, Journal, LookAt, Recv, ReplyTo, Send, account_of, bytes_sent, flow_named}
-use Rattle.laws_driver.specs.Carried.Calls.{id_named, is_on, is_right, makes_call, sent_of, sent_on, with_call}
-use Rattle.laws_driver.specs.Carried.{Received.Account, Received.AreReceived, Received.ReceivesOn, Sent.only_on, Sent.took}
+use Rattle.laws_driver.specs.Carried.Calls.{Connect, GuestCall, Journal, LookAt, Recv, ReplyTo, Send, account_of, flow_named}
+use Rattle.laws_driver.specs.Carried.Calls.{id_named, is_right, makes_call, with_call}
+use Rattle.laws_driver.specs.Carried.{Received.Account, Senders.IsRightJournal, Sent.took}
 use Rattle.laws_driver.proofs.Carried.Making.{CarriesCall, account_after, at_first, call_goes, call_received, call_sent, further_as}
-use Rattle.laws_driver.proofs.Carried.Making.{further_journal, port_fits, sent_with}
+use Rattle.laws_driver.proofs.Carried.{Making.further_journal, Making.port_fits, Making.sent_with, Senders.{sent_more, step_says, still_sent}}
 use Rattle.laws_driver.proofs.Carried.{Polling.IsFurther, Polling.poll_carries, Sending.poll_puts, Sending.puts_as}
 use Rattle.laws_device.proofs.Seats.{PutsFit}
 use Rattle.laws_world.proofs.Names.{Names, NamesFrom, NamesMay, StaysNamed, WaitsApart, call_named, flows, named_from, names_kept}
-use Rattle.laws_world.proofs.Journals.{Agrees, AllAgree, agree_on, either_none}
-use Rattle.laws_world.proofs.{Keeping.Sees, Keeping.call_kept, Keeping.poll_kept, Names.names_may, Names.step_named}
-use Rattle.vs_driver_parts.specs.declared.answers.Sent.TheVariants as answers
+use Rattle.laws_world.proofs.{Journals.{Agrees, AllAgree, MovesNone, agree_on}, Keeping.Sees, Keeping.call_kept, Keeping.poll_kept}
+use Rattle.laws_world.proofs.Names.{names_may, step_named}
 
 module _ (first : ℕ) (old : Seat) where
   abbrev pub Walks : Account → Fact → Fact → Fact
@@ -131,15 +128,13 @@ pub record Left (old : Seat) (was : ℕ → Connection) (from : DriverState) (be
   pub opened : ℕ → Connection
   -- Ids keep their connections.
   pub on : (id : ℕ) → 1 ≤ (was id).number → opened id ≡ was id
-  pub received : AreReceived (account_of 1 opened journal) log (slots_of s)
+  pub right : IsRightJournal 1 opened journal log (slots_of s)
   pub waiting : Sees WaitsApart s
   pub named : StaysNamed from before s journal
   pub agrees : AllAgree opened journal
-  pub sent : (f : Flow) → sent_on f journal ≡ payload_put Driver (first_of f) log
 
 module _ (first : ℕ) (old : Seat) (opened : ℕ → Connection) (journal : Journal) (s : DriverState) (base : Log)
-    (was : AreReceived (account_of 1 opened journal) base (slots_of s)) (agrees : AllAgree opened journal)
-    (sent : (f : Flow) → sent_on f journal ≡ payload_put Driver (first_of f) base) (few : (f : Flow) → number_of Driver f base ≤ 1) where
+    (was : IsRightJournal 1 opened journal base (slots_of s)) (agrees : AllAgree opened journal) where
   abbrev account : Account
   account = account_of 1 opened journal
 
@@ -150,11 +145,13 @@ module _ (first : ℕ) (old : Seat) (opened : ℕ → Connection) (journal : Jou
     fits = x.1;
     opened = x.2.0.opened;
     on = x.2.1.opened;
-    received = further_as account x.2.0 _ log (slots_of t) x.2.1 (λ id. refl) x.2.2;
+    right = record {
+      received = further_as account x.2.0 _ log (slots_of t) x.2.1 (λ id. refl) x.2.2;
+      sent = still_sent opened x.2.0.opened x.2.1.opened journal base log x.4 was.sent;
+    };
     waiting = x.3 None tt;
     named = step_named s journal part t log x.3;
     agrees = agree_on opened x.2.0.opened x.2.1.opened journal agrees;
-    sent = λ f. sent f ∙ sym (x.4 (first_of f));
   }
 
   -- A call that was made.
@@ -162,69 +159,35 @@ module _ (first : ℕ) (old : Seat) (opened : ℕ → Connection) (journal : Jou
     abbrev pub reply_of : (call : GuestCall) → ReplyTo call
     reply_of call = (played driver_answer (makes_call call s) r).0.1
 
-    -- A receive gives bytes of the connection that it names.
-    received_of : (id n : ℕ) → Agrees opened (record { call = Recv id n; id = Some id; flow = flow_of id s; reply = reply_of (Recv id n) })
-    received_of id n = by (flows account base s was id)
+    -- A call that moves bytes names the connection of its id.
+    of_id : (id : ℕ) (call : GuestCall) → ((entry_known_as id s ≡ None) × (gone_known_as id s ≡ None) → MovesNone call (reply_of call))
+        → Agrees opened (record { call = call; id = Some id; flow = flow_of id s; reply = reply_of call })
+    of_id id call unknown = by (flows account base s was.received id)
       where
         by : ((entry_known_as id s ≡ None) × (gone_known_as id s ≡ None)) ⊎ ((flow_of id s ≡ Some (opened id).flow) × (1 ≤ (opened id).number))
-            → Agrees opened (record { call = Recv id n; id = Some id; flow = flow_of id s; reply = reply_of (Recv id n) })
-        by (inl none) = inl (rw (none.0, none.1, recv_of) refl)
+            → Agrees opened (record { call = call; id = Some id; flow = flow_of id s; reply = reply_of call })
+        by (inl none) = inl (unknown none)
         by (inr on) = inr (id, refl, on.0, on.1)
 
     reply_agrees : (call : GuestCall) → Agrees opened (record { call = call; id = id_named call s; flow = flow_named call s; reply = reply_of call })
-    reply_agrees (Recv id n) = received_of id n
-    reply_agrees call = inl refl
+    reply_agrees (Recv id n) = of_id id (Recv id n) (λ none. rw (none.0, none.1, recv_of) (refl, refl))
+    reply_agrees (Send id bytes) = of_id id (Send id bytes) (λ none. rw (none.0, none.1, played, took) (refl, refl))
+    reply_agrees call = inl (refl, refl)
 
-    -- A send puts bytes on the flow that it names.
-    sent_by_flow : (f : Flow) (id : ℕ) (bytes : List ℕ) → cond (is_on f (flow_of id s)) (took bytes (reply_of (Send id bytes))) []
-        ≡ sent_of (Send id bytes) (reply_of (Send id bytes)) s base (first_of f)
-    sent_by_flow f id bytes = by (entry_known_as id s) refl
-      where
-        none_took : (b : Bool) → took bytes (cond b answers.Reset answers.Unknown) ≡ []
-        none_took true = refl
-        none_took false = refl
-
-        one_is : (e : DriverEntry) → Contains s.table.entries e → (1 == number_of Driver e.flow base) ≡ true
-        one_is e there =
-            let some = (All-contains (ReceivesOn account base) s.table.entries e was.held there).some in
-            let most = few e.flow in
-            let one : number_of Driver e.flow base ≡ 1 = omega (arith, some, most) in grind (arith, nat_tests, one)
-
-        also : (a b : Bool) (xs : List ℕ) → b ≡ true → cond a xs [] ≡ cond (a && b) xs []
-        also true b xs is = ap (λ (c : Bool). cond c xs []) (sym is)
-        also false b xs is = refl
-
-        by : (o : Option DriverEntry) → entry_known_as id s ≡ o
-            → let reply : Sent = (played driver_answer (elim o as (λ _. DriverTree (DriverState × Sent)) [
-              | None ↦ Done (s, not_sent id s)
-              | Some e ↦ sends_on e bytes s
-            ]) r).0.1 in
-            cond (is_on f (flow_of id s)) (took bytes reply) [] ≡ elim o as (λ _. List ℕ) [
-              | None ↦ []
-              | Some e ↦ only_on (current Driver e.flow base) (took bytes reply) (first_of f)
-            ]
-        by None unknown = either_none (is_on f (flow_of id s)) _ (none_took (is_some (gone_known_as id s)))
-        by (Some e) known =
-            ap (λ (g : Option Flow). cond (is_on f g) (took bytes (played driver_answer (sends_on e bytes s) r).0.1) []) (flow_known id s e known)
-            ∙ also (same_flow f e.flow) (1 == number_of Driver e.flow base) _ (one_is e (found_by (is_known_as id) s.table.entries e known).0)
-
-    call_by_flow : (call : GuestCall) (f : Flow) → cond (is_on f (flow_named call s)) (bytes_sent call (reply_of call)) []
-        ≡ sent_of call (reply_of call) s base (first_of f)
-    call_by_flow (Send id bytes) f = sent_by_flow f id bytes
-    call_by_flow call f = either_none (is_on f (flow_named call s)) [] refl
-
-    pub call_left : (call : GuestCall) (part : Ends) (t : DriverState) (log : Log) → After first old account s base call (reply_of call) part t log
+    pub call_left : (call : GuestCall) (c d : RingContents) → Plays (makes_call call s) c (played driver_answer (makes_call call s) r).0 d
+        → (part : Ends) (t : DriverState) (log : Log) → After first old account s base call (reply_of call) part t log
         → Left old opened s journal (with_call call s (reply_of call) journal) part t log
-    call_left call part t log x = let now = further_journal 1 opened journal call s (reply_of call) (slots_of t) log x.2 in record {
+    call_left call c d plays part t log x = let now = further_journal 1 opened journal call s (reply_of call) (slots_of t) log x.2 in record {
       goes = x.0;
       fits = x.1;
       opened = now.0;
       on = now.1;
-      received = now.2;
+      right = record {
+        received = now.2;
+        sent = sent_more opened now.0 now.1 journal call s (reply_of call) base log x.4
+            (step_says s c d account base was.received now.0 now.1 call _ plays) was.sent;
+      };
       waiting = x.3 None tt;
       named = call_named call (reply_of call) s journal part t log x.3;
       agrees = agree_on opened now.0 now.1 (with_call call s (reply_of call) journal) (reply_agrees call, agrees);
-      sent = λ f.
-          ap (λ (xs : List ℕ). xs ++ cond (is_on f (flow_named call s)) (bytes_sent call (reply_of call)) []) (sent f)
-          ∙ ap (λ (xs : List ℕ). payload_put Driver (first_of f) base ++ xs) (call_by_flow call f) ∙ sym (x.4 (first_of f));
     }

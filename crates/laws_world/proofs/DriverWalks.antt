@@ -1,4 +1,4 @@
--- The driver's conversations over list rings that are tied to the device's log: whatever such a conversation keeps, it keeps here.
+-- The driver's conversations over list rings that are tied to the device's log: each is one that any ring may have.
 use Rattle.std.proofs.Common.{◌≡◌, ℕ, ◌<◌, ◌^◌, List, [], ◌∷◌, ◌++◌, length, Option, Some, None, refl, sym, ap, subst, ◌∙◌, arith, true}
 use Rattle.std.{proofs.Common.Bool, proofs.Common.false, specs.Prelude.IsSomeAnd}
 use Rattle.vs_contents.specs.CallTree.{Ask, Done, played}
@@ -12,7 +12,7 @@ use Rattle.vs_ring_port.specs.{Contents.RingContents, DriverCalls.driver_answer,
 use Rattle.vs_ring_port.specs.Lists.{after_reap, next_back}
 use Rattle.vs_ring_port.specs.declared.queue.Queue.{Queue, TheVariants.{Event, Rx, Tx}}
 use Rattle.vs_ring_list.{specs.Ends.driver_contents, specs.Sound.IsTied, proofs.Ties.{tied-load, tied-publish, tied-reap}}
-use Rattle.vs_driver_parts.specs.{Conversations.DriverTree, Playing.{BringsFit, CanMake, FitsPorts, IsFitPage, RingAllows}}
+use Rattle.vs_driver_parts.specs.{Conversations.DriverTree, Playing.{BringsFit, CanMake, FitsPorts, IsFitPage, Plays, RingAllows}}
 use Rattle.laws_driver.proofs.Keeping.{Keeps}
 use Rattle.laws_world.{specs.Pages.AllHold, specs.Pages.AllPacked, specs.Pages.PageHolds, specs.Pages.TxHolds, proofs.Wire.next_fits}
 use Rattle.laws_device.proofs.Seats.{PutsFit}
@@ -152,9 +152,9 @@ module _ (device : EndLog) (fit : PutsFit device.entries) where
       )
 
   pub walk : {A : Type 0} (Q : A → RingContents → Type 0) (tree : DriverTree A) (s : Rings × EndLog) → Ties s → Keeps Q tree (shown s)
-      → let r = played driver_answer tree s in Q r.0 (shown r.1) × Ties r.1
-  walk Q (Done x) s ties keeps = (keeps, ties)
+      → let r = played driver_answer tree s in Plays tree (shown s) r.0 (shown r.1) × Ties r.1
+  walk Q (Done x) s ties keeps = ((refl, refl), ties)
   walk Q (Ask call next) s ties keeps =
       let r = driver_answer call s in
       let now = one call s ties keeps.0 in
-      walk Q (next r.0) r.1 now.1 (keeps.1 r.0 (shown r.1) now.0)
+      let rest = walk Q (next r.0) r.1 now.1 (keeps.1 r.0 (shown r.1) now.0) in ((r.0, shown r.1, now.0, rest.0), rest.1)

@@ -1,19 +1,23 @@
 -- A journal by flows and by ids: the same where no flow is used twice.
-use Rattle.std.proofs.Common.{◌≡◌, ℕ, ◌≤◌, ◌==◌, ◌⊎◌, inl, inr, Bool, true, false, cond, List, [], ◌∷◌, ◌++◌, Option, Some, refl, sym, ap}
+use Rattle.std.proofs.Common.{◌≡◌, ℕ, ◌≤◌, ◌==◌, ◌&&◌, ◌⊎◌, inl, inr, Bool, true, false, cond, List, [], ◌∷◌, ◌++◌, Option, Some, refl, sym, ap}
 use Rattle.std.proofs.{Common.subst, Common.◌∙◌, Common.arith, Common.append-nil, lemmas.Bool.Decides.nat_tests}
-use Rattle.vs_flow.specs.{Connection.Connection, Flow.same_flow, declared.flow.Flow.Flow}
+use Rattle.vs_flow.specs.{Connection.Connection, Connection.first_of, Flow.same_flow, declared.flow.Flow.Flow}
 use Rattle.vs_page.proofs.Flows.{same_is, same_self}
-use Rattle.laws_driver.specs.Carried.Calls.{Journal, Made, bytes_received, is_on, names, received_by, received_on}
+use Rattle.laws_driver.specs.Carried.Calls.{GuestCall, Journal, Made, ReplyTo, bytes_received, bytes_sent, is_on, names, received_by, received_on}
+use Rattle.laws_driver.{specs.Carried.Calls.sent_on, specs.Carried.Senders.sent_there, specs.Carried.Senders.sent_to, proofs.Carried.Senders.there_none}
 
 pub either_none : (b : Bool) (bytes : List ℕ) → bytes ≡ [] → cond b bytes [] ≡ []
 either_none true bytes none = none
 either_none false bytes none = refl
 
+abbrev pub MovesNone : (call : GuestCall) → ReplyTo call → Type 0
+MovesNone call reply = (bytes_received call reply ≡ []) × (bytes_sent call reply ≡ [])
+
 module _ (opened : ℕ → Connection) where
-  -- A call that gave bytes names a connection, by its id and by its flow.
+  -- A call that moved bytes names a connection, by its id and by its flow.
   abbrev pub Agrees : Made → Type 0
   Agrees made =
-      (bytes_received made.call made.reply ≡ [])
+      MovesNone made.call made.reply
       ⊎ ((id : ℕ) × (made.id ≡ Some id) × (made.flow ≡ Some (opened id).flow) × (1 ≤ (opened id).number))
 
   abbrev pub AllAgree : Journal → Type 0
@@ -42,7 +46,7 @@ module _ (opened : ℕ → Connection) where
 
         by : Agrees made → Received older → Received (made ∷ older)
         by given (inr there) = inr there
-        by (inl none) (inl old) = inl (empty (is_on f made.flow) (either_none (is_on f made.flow) _ none) refl old)
+        by (inl none) (inl old) = inl (empty (is_on f made.flow) (either_none (is_on f made.flow) _ none.0) refl old)
         by (inr (id, named, flow, some)) (inl old) = here id flow some (same_flow f (opened id).flow) refl old
 
   -- It is the same by both, of an id whose flow no other has.
@@ -69,11 +73,33 @@ module _ (opened : ℕ → Connection) where
             absurd cc
 
         by : Agrees made → cond (is_on (opened id).flow made.flow) bytes [] ≡ cond (names id made.id) bytes []
-        by (inl none) = either_none (is_on (opened id).flow made.flow) bytes none ∙ sym (either_none (names id made.id) bytes none)
+        by (inl none) = either_none (is_on (opened id).flow made.flow) bytes none.0 ∙ sym (either_none (names id made.id) bytes none.0)
         by (inr (j, named, flow, one)) =
             ap (λ (g : Option Flow). cond (is_on (opened id).flow g) bytes []) flow
             ∙ ap (λ (b : Bool). cond b bytes []) (tests j one (same_flow (opened id).flow (opened j).flow) (id == j) refl refl)
             ∙ ap (λ (o : Option ℕ). cond (names id o) bytes []) (sym named)
+
+  -- What was sent on a flow was sent on its first connection, and there are no others.
+  module _ (f : Flow) (first : (id : ℕ) → 1 ≤ (opened id).number → (opened id).number ≡ 1) where
+    pub sent_flow : (journal : Journal) → AllAgree journal → sent_on f journal ≡ sent_to opened (first_of f) journal
+    sent_flow [] agree = refl
+    sent_flow (made ∷ older) agree =
+        ap (λ (xs : List ℕ). xs ++ cond (is_on f made.flow) bytes []) (sent_flow older agree.1)
+        ∙ ap (λ (xs : List ℕ). sent_to opened (first_of f) older ++ xs) (by agree.0)
+      where
+        bytes : List ℕ
+        bytes = bytes_sent made.call made.reply
+
+        same : (a : Bool) (n : ℕ) → n ≡ 1 → cond a bytes [] ≡ cond (a && (1 == n)) bytes []
+        same true n one = ap (λ (k : ℕ). cond (1 == k) bytes []) (sym one)
+        same false n one = refl
+
+        by : Agrees made → cond (is_on f made.flow) bytes [] ≡ sent_there opened (first_of f) made.id bytes
+        by (inl none) = either_none (is_on f made.flow) bytes none.1 ∙ sym (there_none opened (first_of f) made.id bytes none.1)
+        by (inr (id, named, flow, some)) =
+            ap (λ (g : Option Flow). cond (is_on f g) bytes []) flow
+            ∙ same (same_flow f (opened id).flow) (opened id).number (first id some)
+            ∙ ap (λ (o : Option ℕ). sent_there opened (first_of f) o bytes) (sym named)
 
 -- More ids come.
 pub agree_on : (o p : ℕ → Connection) → ((id : ℕ) → 1 ≤ (o id).number → p id ≡ o id) → (journal : Journal) → AllAgree o journal → AllAgree p journal

@@ -13,7 +13,6 @@ pub mod Opening
 pub mod Resetting
 pub mod Counting
 pub mod Failing
-pub mod Growing
 pub mod Carried
 pub mod GuestLines
 pub mod Polls

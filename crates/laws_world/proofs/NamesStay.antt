@@ -35,17 +35,17 @@ module _ {fresh : Type 0} (w : World) (well : IsWell fresh w) (id : ℕ) where
 
   told_stands : IsTold id s → (f : Flow) × Sees (Stands id (Some f)) s
   told_stands told =
-      let x = answered_seen s.next_port id s well.driver.sound well.received.numbers told.answered in (
+      let x = answered_seen s.next_port id s well.driver.sound well.right.received.numbers told.answered in (
         x.0,
-        record { given = told.given; next_is = well.received.numbers.given; ids = well.received.numbers.slots; is = x.1; waits = inr told.waits },
+        record { given = told.given; next_is = well.right.received.numbers.given; ids = well.right.received.numbers.slots; is = x.1; waits = inr told.waits },
       )
 
   unknown_stands : id < s.next_id → seen id s.table s.gone ≡ None → Sees (Stands id None) s
-  unknown_stands given is = record { given = given; next_is = well.received.numbers.given; ids = well.received.numbers.slots; is = is; waits = inl refl }
+  unknown_stands given is = record { given = given; next_is = well.right.received.numbers.given; ids = well.right.received.numbers.slots; is = is; waits = inl refl }
 
   -- The flow that the driver tells, and tells of no other id.
   stands_flow : (o : Option Flow) → Sees (Stands id o) s → flow_of id s ≡ o
-  stands_flow o x = flow_seen s.next_port id s well.driver.sound well.received.numbers ∙ ap (option_map (λ (y : Bool × Flow). y.1)) x.is ∙ by o
+  stands_flow o x = flow_seen s.next_port id s well.driver.sound well.right.received.numbers ∙ ap (option_map (λ (y : Bool × Flow). y.1)) x.is ∙ by o
     where
       by : (o : Option Flow) → option_map (λ (y : Bool × Flow). y.1) (shown o) ≡ o
       by None = refl
@@ -56,9 +56,9 @@ module _ {fresh : Type 0} (w : World) (well : IsWell fresh w) (id : ℕ) where
       let a = account_of 1 well.opened w.journal in
       let log = log_with_staged w.rings.driver in
       let flow = stands_flow (Some f) x in
-      let mine = flow_opened a log s well.received id f flow in (
+      let mine = flow_opened a log s well.right.received id f flow in (
         flow,
-        λ other is. let theirs = flow_opened a log s well.received other f is in one_id w well other id theirs.1 mine.1 (theirs.0 ∙ sym mine.0),
+        λ other is. let theirs = flow_opened a log s well.right.received other f is in one_id w well other id theirs.1 mine.1 (theirs.0 ∙ sym mine.0),
       )
 
 -- So it is in each world that this one leads to: where the id isn't closed, and where it was.
@@ -97,7 +97,7 @@ module _ {fresh : Type 0} (w : World) (well : IsWell fresh w) (rest : w.rings.dr
       → IsTold id (played driver_answer (connect_of host w.driver) (w.rings.lists, w.rings.driver)).0.0
   connect_told host id port is =
       let told = rests_on fresh w well (connect_of host w.driver) (λ x. x.0) Before (λ x. After id x.1) rest
-      (well.waiting, well.received.numbers.given, well.received.numbers.slots)
+      (well.waiting, well.right.received.numbers.given, well.right.received.numbers.slots)
       (λ rests. connect_keeps first_cid host Before (After id) (record {
         refused = λ why s log held is. absurd cc;
         opens = λ s log fits free m was fair held is.

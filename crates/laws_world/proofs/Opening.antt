@@ -2,10 +2,9 @@
 use Rattle.std.proofs.Common.{◌≡◌, ℕ, zero, suc, ◌+◌, ◌==◌, Bool, true, false, cond, List, [], ◌∷◌, refl, sym, ap, subst, ◌∙◌, arith}
 use Rattle.std.{proofs.Common.Some, specs.Option.ForSome}
 use Rattle.vs_contents.specs.CallTree.{Done, Ask, bind, while_up_to, played}
-use Rattle.vs_flow.specs.Connection.{first_of}
 use Rattle.vs_limits.specs.declared.TheConstants.{ASSIGNED_FIRST, FIRST_PORT}
 use Rattle.vs_outside.specs.Host.{HostContents}
-use Rattle.vs_page.specs.{Fair.payload_put, Log.Driver, Log.Log}
+use Rattle.vs_page.specs.Log.{Log}
 use Rattle.laws_tables.{proofs.Voices.AreVoiced, proofs.Voices.voices_start, proofs.Both.start_sound, specs.Both.Both}
 use Rattle.laws_world.specs.{Pipes.IsFresh, Events.happens, Events.run, Sides.both_of, Sides.driver_ends}
 use Rattle.laws_world.specs.{Sides.log_with_staged, World.World, World.opening, World.first_cid}
@@ -18,7 +17,7 @@ use Rattle.vs_driver_parts.specs.Conversations.{DriverTree, load_cid, new_of, ne
 use Rattle.vs_driver_parts.specs.State.{DriverState}
 use Rattle.laws_driver.specs.{Honest.IsFitState, Honest.slots_of, Resets.MarksResets}
 use Rattle.laws_driver.proofs.{Calls.made_fits, Calls.new_keeps, Carrying.nothing, Staging.Rests}
-use Rattle.laws_driver.{specs.Carried.Received.AreReceived, specs.Carried.Received.no_account, proofs.Carried.Connecting.none_received}
+use Rattle.laws_driver.{specs.Carried.Received.no_account, specs.Carried.Senders.IsRightJournal, proofs.Carried.Ending.none_righted}
 use Rattle.laws_device.proofs.Seats.{PutsFit}
 use Rattle.laws_device.proofs.Carried.Changing.{no_streams}
 use Rattle.laws_tables.specs.Both as both
@@ -164,11 +163,10 @@ module _ (n : ℕ) (host : HostContents) where
     once = subst AreOnce opening_is (start_once first_cid FIRST_PORT ASSIGNED_FIRST);
     streams = λ fresh. no_streams host (opening n host).proxy.next_port (opening n host).proxy.device.table refl fresh.streams;
     opened = (no_account 1).opened;
-    received = subst (λ (log : Log). AreReceived (no_account 1) log (slots_of (opening n host).driver)) (sym log_empty)
-        (subst (λ (s : DriverState). AreReceived (no_account 1) [] (slots_of s)) (sym new.state) (none_received n FIRST_PORT 1));
+    right = subst (λ (log : Log). IsRightJournal 1 (no_account 1).opened [] log (slots_of (opening n host).driver)) (sym log_empty)
+        (subst (λ (s : DriverState). IsRightJournal 1 (no_account 1).opened [] [] (slots_of s)) (sym new.state) (none_righted n FIRST_PORT 1));
     agrees = tt;
     waiting = ((λ id. 0), subst (λ (s : DriverState). AllWait (IsOfPort s.next_id (λ id. 0)) s.listeners) (sym new.state) tt);
-    sent = λ f. ap (payload_put Driver (first_of f)) (sym log_empty);
   }
 
 -- After any list of events.

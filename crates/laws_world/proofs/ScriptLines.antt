@@ -2,11 +2,13 @@
 use Rattle.std.proofs.{Common.{◌≡◌, ℕ, true, List, [], ◌∷◌, ◌++◌, refl, sym}, lemmas.List.append-nil}
 use Rattle.vs_flow.specs.declared.flow.Flow.{Flow}
 use Rattle.vs_outside.specs.Host.{HostContents}
-use Rattle.laws_world.specs.Events.{ClientConnects, HostCloses, HostEnds, HostFails, HostListens, HostTakes, HostUnlistens, HostWrites}
-use Rattle.laws_world.specs.{Events.{Reset, is_at_rest, is_guest_cid, reset_made}, Plays.{Line, Guest, Poll, TurnAt, ResetTo, Client}}
+use Rattle.vs_proxy_parts.specs.Growing.{label_at}
+use Rattle.laws_world.specs.Events.{ClientConnects, DeviceGrows, HostCloses, HostEnds, HostFails, HostListens, HostTakes, HostUnlistens, HostWrites}
+use Rattle.laws_world.specs.{Events.{Reset, is_at_rest, is_guest_cid, reset_made}, Plays.{Line, Guest, Poll, TurnAt, ResetTo, Grow, Client}}
 use Rattle.laws_world.specs.Plays.{HostListen, HostUnlisten, HostWrite, HostAllow, HostEnd, HostClosed, HostFail, AreRight, after, line}
 use Rattle.laws_world.specs.{Plays.{is_given_right, play, report, sent_by}, Steps.Leads, World.{World, opening}}
 use Rattle.laws_driver.specs.Carried.Calls.{sent_on}
+use Rattle.laws_proxy.proofs.Growing.{label_grow_by}
 use Rattle.laws_world.proofs.{CallRests.call_rests, CallRests.opening_rests, GuestLines.call_leads, GuestLines.leads_none}
 use Rattle.laws_world.proofs.{GuestLines.leads_one, GuestLines.leads_then, GuestLines.possible_is, Polls.poll_does, TurnLines.turn_leads}
 
@@ -15,6 +17,8 @@ line_leads (Guest call) w rest may = call_leads w rest call may
 line_leads Poll w rest may = (poll_does w rest).leads
 line_leads (TurnAt now) w rest may = turn_leads now w
 line_leads (ResetTo cid) w rest may = leads_one (Reset cid) w _ (possible_is (is_guest_cid cid) (reset_made cid) w may)
+line_leads (Grow stream alloc) w rest may = label_grow_by (label_at stream w.host) alloc w.proxy (λ s. Leads w (record w { proxy = s }))
+    (leads_none w w refl) (λ flow. leads_one (DeviceGrows flow alloc) w _ refl)
 line_leads Client w rest may = leads_one ClientConnects w _ refl
 line_leads (HostListen port) w rest may = leads_one (HostListens port) w _ refl
 line_leads (HostUnlisten port) w rest may = leads_one (HostUnlistens port) w _ refl

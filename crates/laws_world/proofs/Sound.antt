@@ -5,18 +5,19 @@ use Rattle.vs_contents.specs.CallTree.{played, Done}
 use Rattle.vs_outside.specs.HostProgram.{after_fail, after_host_write, after_listen, after_unlisten, allowed, closed, ended}
 use Rattle.vs_outside.specs.HostProgram.{host_write_answer, with_bytes}
 use Rattle.vs_outside.specs.{Host.HostContents, Host.with_stream, declared.mem_stream.HostWritten.HostWritten}
-use Rattle.vs_page.specs.{Fair.number_of, Fair.payload_put, Log.Device, Log.Driver, Log.Log}
+use Rattle.vs_page.specs.Log.{Device, Driver, Log}
 use Rattle.vs_ring_port.specs.{DriverCalls.driver_answer, declared.queue.Queue.Queue, Contents.RingContents, EndLog.EndLog, EndLog.Pages}
 use Rattle.vs_ring_port.specs.{EndLog.all_put, Lists.Rings, Chains.Held, declared.device_ring.Chain.Chain}
 use Rattle.laws_tables.{specs.Both.IsSound, specs.Both.Seat, specs.Ends.Ends, proofs.Voices.AreVoiced}
-use Rattle.vs_driver_parts.specs.{Conversations.{DriverTree, publish_of}, State.DriverState, Steps.{takes_page, stages_reply, stages_owed}}
+use Rattle.vs_driver_parts.specs.{Conversations.{DriverTree, publish_of}, Playing.Plays, State.DriverState, Steps.{takes_page, stages_reply, stages_owed}}
 use Rattle.vs_device_parts.specs.Steps.{takes_chain, returns, puts_event, puts_reply, puts_owed, puts_payload, writes, shuts_write}
 use Rattle.vs_device_parts.specs.Playing.{IsRxChain, situation}
 use Rattle.vs_device_parts.specs.{Calls.DeviceTree, Calls.Situation, State.DeviceState, State.DeviceConnection, Streams.tick_slot}
 use Rattle.vs_proxy_parts.specs.State.{ProxyState, Turning, start, with_device, Handshake}
 use Rattle.vs_proxy_parts.specs.{Turns.proxy_reset_of, Handshakes.accept_one, Handshakes.tick_handshake, Handshakes.read_byte}
+use Rattle.vs_proxy_parts.specs.Growing.{after_flow_grow}
 use Rattle.laws_world.specs.Events.{Event, GuestCalls, GuestTakes, GuestReplies, GuestPays, GuestPublishes, DeviceTakes, DeviceReturns}
-use Rattle.laws_world.specs.Events.{DevicePutsEvent, DeviceReplies, DeviceReads, DevicePays, DeviceWrites, DeviceShutsWrite, ProxyAccepts}
+use Rattle.laws_world.specs.Events.{DevicePutsEvent, DeviceReplies, DeviceReads, DevicePays, DeviceWrites, DeviceShutsWrite, DeviceGrows, ProxyAccepts}
 use Rattle.laws_world.specs.Events.{ProxyReads, Moment, TimesOut, HandshakeTimesOut, Reset, HostListens, HostUnlistens, ClientConnects}
 use Rattle.laws_world.specs.Events.{HostWrites, HostTakes, HostEnds, HostCloses, HostFails, at_moment, call_made, device_step, driver_step}
 use Rattle.laws_world.specs.Events.{happens, has_failed, holds, holds_event, is_at_rest, is_guest_cid, line_read, none_staged, proxy_step}
@@ -26,22 +27,21 @@ use Rattle.laws_world.specs.{Events.where_possible, Events.works_on, Sides.Runs,
 use Rattle.laws_world.proofs.{DriverGoes.{After, Before, Left, Walks, call_left, call_walks, poll_left, poll_walks}, DeviceGoes.carried}
 use Rattle.laws_world.proofs.{DeviceGoes.cids_kept, DeviceWalks.AllHeads, DriverWalks.{Ties, shown, walk}, Journals.AllAgree}
 use Rattle.laws_world.proofs.{Runs.{goes_run, keeps_sound, stays}, Once.{AreOnce, keeps_once}}
-use Rattle.laws_rest.proofs.BothEnds as both
-use Rattle.laws_world.proofs.{Once.both_ends, Wire.first_fit, Keeping.Sees, Names.{StaysNamed, WaitsApart, named_from, named_still}}
-use Rattle.laws_driver.specs.Carried.Calls.{Journal, LookAt, is_right, sent_on, makes_call, GuestCall, ReplyTo, account_of, with_call}
-use Rattle.laws_driver.specs.Carried.Received.{Account, AreReceived}
+use Rattle.laws_world.proofs.{Wire.first_fit, Keeping.Sees, Names.{StaysNamed, WaitsApart, named_from, named_still}}
+use Rattle.laws_driver.specs.Carried.Calls.{Journal, LookAt, is_right, makes_call, GuestCall, ReplyTo, account_of, with_call}
+use Rattle.laws_driver.specs.Carried.{Received.Account, Senders.IsRightJournal}
 use Rattle.laws_driver.proofs.Carried.{Making.made_with, Polling.IsFurther, Sending.puts_as}
-use Rattle.vs_flow.specs.{declared.flow.Flow.Flow, Table.Table, Connection.Connection, Connection.first_of}
+use Rattle.vs_flow.specs.{Connection.Connection, Table.Table}
 use Rattle.laws_device.specs.Carried.Streamed.{IsStreamed}
 use Rattle.laws_device.proofs.Carried.{Changing.StreamedIf, HostCalls.client_host, HostCalls.same_host, Hosts.unseen}
 use Rattle.vs_limits.specs.declared.TheConstants.{GUEST_CID_MIN, GUEST_CID_MAX, ASSIGNED_FIRST}
 use Rattle.laws_driver.proofs.{Carrying.{Carries, Fact, Holds, IsTiedBy, RestsWith}, Stepping.{Works, owed_with, publish_with, reply_with}}
-use Rattle.laws_driver.proofs.{Stepping.takes_with, Keeping.{Keeps, keeps_weaker}, Staging.{Rests, rests_tied}}
+use Rattle.laws_driver.proofs.{Stepping.takes_with, Keeping.{Keeps, keeps_end, keeps_weaker}, Staging.{Rests, rests_tied}}
 use Rattle.laws_driver.specs.{Honest.IsFitState, Honest.ends_of_state, Honest.slots_of, Resets.MarksResets, Staged.IsLeft}
 use Rattle.vs_ring_list.proofs.{Held.same_queue_is, Ties.{device_got, driver_got, tied-publish}}
 use Rattle.laws_device.proofs.Carrying.{IsToldBy, StreamedOver, With}
 use Rattle.laws_device.proofs.{Chains.Among, Seats.Carried, Seats.PutsFit, Keeping.keeps_then, Turning.tick_slot_keeps}
-use Rattle.laws_proxy.proofs.{Shaking.{Goes-on, Turns, accepts, reads_byte, ticks}, Turning.{Proxied, proxy_reset_keeps}}
+use Rattle.laws_proxy.proofs.{Growing.flow_grow_proxied, Shaking.{Goes-on, Turns, accepts, reads_byte, ticks}, Turning.{Proxied, proxy_reset_keeps}}
 use Rattle.vs_ring_list.specs.{Ends.device_contents, Sound.IsTied}
 use Rattle.laws_device.specs.Honest.{is_held, IsFitState as IsFitDevice}
 use Rattle.laws_device.proofs.Keeping.{Keeps as DeviceKeeps, keeps_weaker as device_weaker}
@@ -84,11 +84,10 @@ pub record IsWell (fresh : Type 0) (w : World) : Type 0 where
   pub marks : MarksResets (log_with_staged w.rings.driver)
   -- Ids were given to these connections.
   pub opened : ℕ → Connection
-  pub received : AreReceived (account_of 1 opened w.journal) (log_with_staged w.rings.driver) (slots_of w.driver)
+  pub right : IsRightJournal 1 opened w.journal (log_with_staged w.rings.driver) (slots_of w.driver)
   pub agrees : AllAgree opened w.journal
   -- Each id waits on one port.
   pub waiting : Sees WaitsApart w.driver
-  pub sent : (f : Flow) → sent_on f w.journal ≡ payload_put Driver (first_of f) (log_with_staged w.rings.driver)
   pub overrun : w.proxy.device.overrun ≡ 0
   pub cids : AreVoiced first_cid (both_of w)
   -- No flow is used twice.
@@ -154,14 +153,14 @@ module _ (fresh : Type 0) (w : World) (well : IsWell fresh w) where
 
   driver_goes : {A : Type 0} (tree : DriverTree A) (state_of : A → DriverState) (fact : A → Fact) (journal : Journal)
       → Keeps (λ x d. DriverTies first_cid (fact x) (state_of x) d) tree (exposed rings)
-      → ((part : Ends) (s : DriverState) (log : Log) → fact (played driver_answer tree rings).0 part s log
-      → Left guest well.opened w.driver w.journal journal part s log)
+      → (let r = played driver_answer tree rings in Plays tree (exposed rings) r.0 (exposed r.1) → (part : Ends) (s : DriverState) (log : Log)
+      → fact r.0 part s log → Left guest well.opened w.driver w.journal journal part s log)
       → Goes fresh w (record (driver_plays tree w).1 { driver = state_of (driver_plays tree w).0; journal = journal })
   driver_goes tree state_of fact journal keeps left =
       let r = played driver_answer tree rings in
       let ends = walk w.rings.device well.device_puts (λ x d. DriverTies first_cid (fact x) (state_of x) d) tree rings tie keeps in
-      let now = ends.0 refl r.1.1 refl in
-      let after = left _ _ _ now.1 in
+      let now = keeps_end _ tree _ _ _ keeps ends.0 refl r.1.1 refl in
+      let after = left ends.0 _ _ _ now.1 in
       let runs = goes_run (both_of w).device guest _ after.goes
       (driver_got _ _ _ (tied-publish q.Tx r.1.1.staged.tx r.1.0 r.1.1.entries w.rings.device.entries ends.1.tied now.0.1.fair)) in
       record {
@@ -179,10 +178,9 @@ module _ (fresh : Type 0) (w : World) (well : IsWell fresh w) where
           broken = now.0.1.none_refused;
           marks = now.0.1.marks;
           opened = after.opened;
-          received = after.received;
+          right = after.right;
           agrees = after.agrees;
           waiting = after.waiting;
-          sent = after.sent;
           overrun = well.overrun;
           cids = cids_kept first_cid _ _ runs well.sound well.cids;
           once = keeps_once first_cid _ _ runs well.sound well.once;
@@ -198,16 +196,13 @@ module _ (fresh : Type 0) (w : World) (well : IsWell fresh w) where
       → (Rests first_cid before w.driver (exposed rings) → Keeps (λ x d. Rests first_cid (after x) (state_of x) d) tree (exposed rings))
       → let r = played driver_answer tree rings in Holds (after r.0) (state_of r.0) r.1.1.entries
   rests_on tree state_of before after none held keeps =
-      ((walk w.rings.device well.device_puts (λ x d. Rests first_cid (after x) (state_of x) d) tree rings tie (keeps (rests_at before none held))).0 refl _ refl).1
+      let kept = keeps (rests_at before none held) in (keeps_end _ tree _ _ _ kept (walk w.rings.device well.device_puts _ tree rings tie kept).0 refl _ refl).1
 
   abbrev account : Account
   account = account_of 1 well.opened w.journal
 
   further : IsFurther account (slots_of w.driver) (log_with_staged w.rings.driver)
-  further = (account, record { first_id = refl; opened = λ id some. refl; received = λ id. refl }, well.received)
-
-  few : (f : Flow) → number_of Driver f (log_with_staged w.rings.driver) ≤ 1
-  few = both.once (both_of w) (both_ends first_cid (both_of w) well.sound well.once) Driver
+  further = (account, record { first_id = refl; opened = λ id some. refl; received = λ id. refl }, well.right.received)
 
   -- A step that makes no call of the guest's.
   abbrev step_fact : Fact
@@ -226,7 +221,7 @@ module _ (fresh : Type 0) (w : World) (well : IsWell fresh w) where
   step_goes : (step : DriverState → DriverTree DriverState) → Keeps (DriverTies first_cid step_fact) (step w.driver) (exposed rings)
       → Goes fresh w (driver_step step w)
   step_goes step keeps = driver_goes (step w.driver) (λ s. s) (λ s. step_fact) w.journal keeps
-      (poll_left first_cid guest well.opened w.journal w.driver guest.log well.received well.agrees well.sent few)
+      (λ plays. poll_left first_cid guest well.opened w.journal w.driver guest.log well.right well.agrees)
 
   works_at : (queue : Queue) → works_on queue w.rings.driver.staged ≡ true → Works queue first_cid step_fact w.driver (exposed rings)
   works_at q.Tx may = ties_at step_fact at_step
@@ -263,7 +258,7 @@ module _ (fresh : Type 0) (w : World) (well : IsWell fresh w) where
       (makes_call call w.driver) (exposed rings)
       (made_with first_cid w.driver (exposed rings) call before after right (call_walks first_cid guest account w.driver guest.log call right)
       (rests_at before none (seat_stays guest guest refl, well.driver_puts, further, from_here call, (refl, refl)))))
-      (call_left first_cid guest well.opened w.journal w.driver guest.log well.received well.agrees well.sent few rings call)
+      (call_left first_cid guest well.opened w.journal w.driver guest.log well.right well.agrees rings call _ _)
 
 -- The device plays one, and so does the proxy.
 module _ (fresh : Type 0) (w : World) (well : IsWell fresh w) where
@@ -333,10 +328,9 @@ module _ (fresh : Type 0) (w : World) (well : IsWell fresh w) where
           broken = well.broken;
           marks = well.marks;
           opened = well.opened;
-          received = well.received;
+          right = well.right;
           agrees = well.agrees;
           waiting = well.waiting;
-          sent = well.sent;
           overrun = now.0.none_overrun;
           cids = cids_kept first_cid _ _ runs well.sound well.cids;
           once = keeps_once first_cid _ _ runs well.sound well.once;
@@ -414,10 +408,9 @@ module _ (fresh : Type 0) (w : World) (well : IsWell fresh w) where
       broken = well.broken;
       marks = well.marks;
       opened = well.opened;
-      received = well.received;
+      right = well.right;
       agrees = well.agrees;
       waiting = well.waiting;
-      sent = well.sent;
       overrun = well.overrun;
       cids = well.cids;
       once = well.once;
@@ -468,6 +461,8 @@ module _ (fresh : Type 0) (w : World) (well : IsWell fresh w) where
       device_steps.writes_keeps kept (all fresh w well) w.proxy.handshakes first_cid w.proxy.next_port w.proxy.device here held_now slot)
   happens_goes (DeviceShutsWrite slot) = device_goes_on (shuts_write slot) (λ going.
       device_steps.shuts_keeps kept (all fresh w well) w.proxy.handshakes first_cid w.proxy.next_port w.proxy.device here held_now slot)
+  happens_goes (DeviceGrows flow alloc) =
+      device_goes fresh w well (Done (after_flow_grow flow alloc w.proxy)) (λ s. s) (flow_grow_proxied flow alloc w.proxy kept first_cid here (proxied fresh w well 0))
   happens_goes ProxyAccepts = proxy_goes_on accept_one (accepts kept first_cid (start w.proxy) here (proxied fresh w well 0))
   happens_goes (ProxyReads stream) = proxy_goes_on (line_read stream)
       (keeps_then (Goes-on kept first_cid) (Turns kept first_cid) (read_byte stream (start w.proxy)) (λ r. Done r.0) here

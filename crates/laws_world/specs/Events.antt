@@ -1,5 +1,6 @@
 -- What may happen in the world, one page move or one call at a time, and what each leads to.
 use Rattle.std.specs.Prelude.{ℕ, ◌&&◌, nat_le, Bool, true, false, if◌then◌else◌, List, [], ◌∷◌, is_some}
+use Rattle.vs_flow.specs.declared.flow.Flow.{Flow}
 use Rattle.vs_limits.specs.declared.TheConstants.{GUEST_CID_MIN, GUEST_CID_MAX}
 use Rattle.vs_contents.specs.CallTree.{Done, bind}
 use Rattle.vs_outside.specs.HostProgram.{after_listen, after_unlisten, after_client, after_host_write, host_write_answer, allowed, ended}
@@ -9,7 +10,7 @@ use Rattle.vs_driver_parts.specs.{Conversations.{DriverTree, publish_of}, State.
 use Rattle.vs_device_parts.specs.{Calls.DeviceTree, State.DeviceState, Streams.tick_slot, Steps.takes_chain, Steps.returns}
 use Rattle.vs_device_parts.specs.Steps.{puts_event, puts_reply, puts_owed, puts_payload, writes, shuts_write}
 use Rattle.vs_proxy_parts.specs.{State.Turning, State.start, State.with_device, Turns.proxy_reset_of, Handshakes.tick_handshake}
-use Rattle.vs_proxy_parts.specs.Handshakes.{accept_one, read_byte}
+use Rattle.vs_proxy_parts.specs.{Growing.after_flow_grow, Handshakes.accept_one, Handshakes.read_byte}
 use Rattle.laws_device.specs.Honest.{is_held}
 use Rattle.laws_world.specs.{World.World, World.driver_plays, World.device_plays}
 use Rattle.laws_driver.specs.Carried.Calls.{GuestCall, ReplyTo, is_right, makes_call, with_call}
@@ -37,6 +38,8 @@ pub data Event : Type 0 where
   -- It writes to a connection's stream, and shuts the side that it writes to.
   DeviceWrites : ℕ → Event
   DeviceShutsWrite : ℕ → Event
+  -- It raises the buffer space of the connection of a flow.
+  DeviceGrows : Flow → ℕ → Event
   -- It accepts a client, and reads a byte of its line.
   ProxyAccepts : Event
   ProxyReads : ℕ → Event
@@ -134,6 +137,7 @@ happens (DeviceReads slot) w = unless_failed (device_step (puts_payload slot)) w
 happens (DevicePays slot) w = unless_failed (device_step (puts_owed slot)) w
 happens (DeviceWrites slot) w = unless_failed (device_step (writes slot)) w
 happens (DeviceShutsWrite slot) w = unless_failed (device_step (shuts_write slot)) w
+happens (DeviceGrows flow alloc) w = record w { proxy = after_flow_grow flow alloc w.proxy }
 happens ProxyAccepts w = unless_failed (proxy_step accept_one) w
 happens (ProxyReads stream) w = unless_failed (proxy_step (line_read stream)) w
 happens (Moment now) w = at_moment now w

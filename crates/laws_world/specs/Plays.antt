@@ -6,6 +6,8 @@ use Rattle.vs_outside.specs.HostProgram.{after_unlisten, after_client, after_hos
 use Rattle.vs_outside.specs.{HostProgram.{closed, after_fail}, declared.mem_stream.HostWritten.HostWritten}
 use Rattle.vs_ring_port.specs.declared.failure.Failure.{Failure}
 use Rattle.vs_driver_parts.specs.{declared.answers.Polled.Polled, Conversations.poll_of}
+use Rattle.vs_device_parts.specs.declared.answers.Grown.{Grown}
+use Rattle.vs_proxy_parts.specs.{Growing.after_label_grow, Growing.label_at, Growing.label_grow_of}
 use Rattle.vs_proxy_parts.specs.{Turns.turn_of, Turns.proxy_reset_of, declared.answers.Turn.Turn}
 use Rattle.laws_world.specs.{Events.is_guest_cid, World.World, World.driver_plays, World.device_plays}
 use Rattle.laws_driver.specs.Carried.Calls.{GuestCall, ReplyTo, bytes_sent, flow_named, is_on, is_right, whole_call, with_call}
@@ -16,6 +18,7 @@ pub data Line : Type 0 where
   Poll : Line
   TurnAt : ℕ → Line
   ResetTo : ℕ → Line
+  Grow : ℕ → ℕ → Line
   Client : Line
   HostListen : ℕ → Line
   HostUnlisten : ℕ → Line
@@ -30,6 +33,7 @@ pub data Said : Type 0 where
   HasPolled : Polled → Said
   HasTurned : Turn → Said
   WasReset : Result (Unit {0}) Failure → Said
+  HasGrown : Option Grown → Said
   StreamIs : ℕ → Said
   Wrote : HostWritten → Said
   IsThere : Bool → Said
@@ -48,6 +52,12 @@ turn_line now w = let r = device_plays (turn_of w.rings.lists.size now w.proxy) 
 abbrev pub reset_line : ℕ → World → World × Said
 reset_line cid w = let r = device_plays (proxy_reset_of cid w.proxy) w in (record r.1 { proxy = r.0.0 }, WasReset r.0.1)
 
+-- The device raises the buffer space of a stream's connection.
+abbrev pub grow_line : ℕ → ℕ → World → World × Said
+grow_line stream alloc w =
+    let label = label_at stream w.host in
+    (record w { proxy = after_label_grow label alloc w.proxy }, HasGrown (label_grow_of label alloc w.proxy))
+
 abbrev pub host_line : (HostContents → HostContents) → Said → World → World × Said
 host_line f said w = (record w { host = f w.host }, said)
 
@@ -56,6 +66,7 @@ line (Guest call) w = guest_line call w
 line Poll w = poll_line w
 line (TurnAt now) w = turn_line now w
 line (ResetTo cid) w = reset_line cid w
+line (Grow stream alloc) w = grow_line stream alloc w
 line Client w = host_line after_client (StreamIs (length w.host.streams + 1)) w
 line (HostListen port) w = host_line (after_listen port kind.Stream) (IsThere true) w
 line (HostUnlisten port) w = host_line (after_unlisten port kind.Stream) (IsThere true) w

@@ -56,6 +56,7 @@ module _ (script : RunScript) (g : GuestsState) (are : AreGuests script g) where
             stands = run.kept.stands;
             asks = run.kept.asks;
             traced = run.kept.traced;
+            given = run.kept.given;
             places = run.kept.places;
           };
           follows = run.follows;

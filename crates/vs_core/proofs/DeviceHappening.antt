@@ -2,6 +2,7 @@
 use Rattle.std.proofs.Common.{◌≡◌, ℕ, suc, ◌+◌, ◌&&◌, Bool, true, false, cond, List, [], ◌∷◌, Option, Some, Result, is_some, Contains, refl}
 use Rattle.std.proofs.{Common.{sym, ap, subst, ◌∙◌, arith}, lemmas.{Iterator.Adapters.position_from-zero, Bool.and_parts}}
 use Rattle.std.specs.{Option.ForSome, List.position, List.position_from}
+use Rattle.vs_flow.specs.declared.flow.Flow.{Flow}
 use Rattle.vs_outside.specs.Host.{HostContents}
 use Rattle.vs_ring_port.specs.Chains.{Held, chains_of, same_chain, same_queue}
 use Rattle.vs_ring_port.specs.declared.{device_ring.Chain.Chain, failure.Failure.Failure, queue.Queue.Queue}
@@ -9,8 +10,10 @@ use Rattle.vs_ring_list.{specs.Ends.Ends, proofs.Held.same_chain_is, proofs.Held
 use Rattle.vs_device_parts.specs.{Calls.DeviceTree, Playing.IsAmong, State.DeviceState}
 use Rattle.laws_device.specs.Named.Streams.{HasStreams}
 use Rattle.vs_proxy_parts.specs.{State.{ProxyState, Turning, start, with_device}, Handshakes.{read_byte, streams_of}, Turns.proxy_reset_of}
+use Rattle.vs_proxy_parts.specs.Growing.{after_flow_grow}
+use Rattle.laws_proxy.proofs.Growing.{flow_grow_stays, flow_grow_streams}
 use Rattle.laws_device.specs.Honest.{is_held}
-use Rattle.laws_world.specs.Events.{Event, Moment, device_step, happens, has_failed, host_step, line_read, proxy_step, reset_made, run}
+use Rattle.laws_world.specs.Events.{DeviceGrows, Event, Moment, device_step, happens, has_failed, host_step, line_read, proxy_step, reset_made, run}
 use Rattle.laws_world.specs.Events.{is_guest_cid, unless_failed, where_possible}
 use Rattle.laws_world.specs.{Over.device_after, Over.proxy_after, Over.reset_after, Pipes.IsFresh, World.World, World.opening}
 use Rattle.laws_world.proofs.{Opening.run_well, Sound.IsWell, Flown.LeavesDriver, OverBoth.IsPlayed, StayOpen.StayOpen, StayOpen.still_has}
@@ -141,6 +144,17 @@ moment_did now old s is ready =
     happened (Moment now) old (record old { proxy = s }) (ap (λ (x : ProxyState). record old { proxy = x }) is) ready ready.driven
     (subst (λ (x : ProxyState). IsServedAtWork x old.rings old.host) (sym is)
     (record { chain = ready.served.chain; streams = ready.served.streams }))
+
+-- The buffer space of a connection is raised.
+pub growth_did : (flow : Flow) (alloc : ℕ) (old : WorldState) (s : ProxyState) → s ≡ after_flow_grow flow alloc old.proxy → IsReady old
+    → Happens (DeviceGrows flow alloc) old (record old { proxy = s })
+growth_did flow alloc old s is ready =
+    let held = chains_of old.rings.device.held in
+    happened (DeviceGrows flow alloc) old (record old { proxy = s }) (ap (λ (x : ProxyState). record old { proxy = x }) is) ready ready.driven
+    (subst (λ (x : ProxyState). IsServedAtWork x old.rings old.host) (sym is) (record {
+      chain = flow_grow_stays flow alloc old.proxy (IsAmong held) ready.served.chain (λ e. ready.served.chain);
+      streams = flow_grow_streams flow alloc old.proxy old.host ready.served.streams;
+    }))
 
 -- A chain that the events' test finds is held.
 held_contains : (chain : Chain) (held : List Held) → is_held chain held ≡ true → Contains (chains_of held) chain

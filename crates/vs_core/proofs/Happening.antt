@@ -61,6 +61,7 @@ module _ (w : World) where
   blind (event.DevicePays slot) = device_blind (puts_owed slot)
   blind (event.DeviceWrites slot) = device_blind (writes slot)
   blind (event.DeviceShutsWrite slot) = device_blind (shuts_write slot)
+  blind (event.DeviceGrows flow alloc) = refl
   blind event.ProxyAccepts = unless_blind (has_failed w) (proxy_step accept_one) w refl refl
   blind (event.ProxyReads stream) = unless_blind (has_failed w) (proxy_step (line_read stream)) w refl refl
   blind (event.Moment now) = refl

@@ -37,6 +37,7 @@ event_view (code.DeviceReads slot) = event.DeviceReads slot
 event_view (code.DevicePays slot) = event.DevicePays slot
 event_view (code.DeviceWrites slot) = event.DeviceWrites slot
 event_view (code.DeviceShutsWrite slot) = event.DeviceShutsWrite slot
+event_view (code.DeviceGrows flow alloc) = event.DeviceGrows flow alloc
 event_view code.ProxyAccepts = event.ProxyAccepts
 event_view (code.ProxyReads stream) = event.ProxyReads stream
 event_view (code.Moment now) = event.Moment now

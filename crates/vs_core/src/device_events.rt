@@ -4,7 +4,7 @@
 ghost use Rattle.std.specs.Prelude.{◌≡◌, ◌&&◌, OnOk, false, nat_le};
 ghost use Rattle.vs_ring_port.specs.Chains.{same_queue};
 ghost use Rattle.vs_ring_port.specs.declared.queue.Queue.TheVariants as q;
-ghost use Rattle.laws_world.specs.Events.{DevicePays, DevicePutsEvent, DeviceReads, DeviceReplies, DeviceReturns, DeviceShutsWrite};
+ghost use Rattle.laws_world.specs.Events.{DeviceGrows, DevicePays, DevicePutsEvent, DeviceReads, DeviceReplies, DeviceReturns, DeviceShutsWrite};
 ghost use Rattle.laws_world.specs.Events.{DeviceTakes, DeviceWrites, HandshakeTimesOut, Moment, ProxyAccepts, ProxyReads, Reset, TimesOut};
 ghost use Rattle.laws_device.specs.Honest.{is_held};
 ghost use Rattle.laws_world.specs.Events.{is_guest_cid};
@@ -12,7 +12,7 @@ ghost use Rattle.vs_core.specs.Ready.{Happens, IsReady};
 
 use crate::world::World;
 use std::alloc::AllocError;
-use vs_flow::Slot;
+use vs_flow::{Flow, Slot};
 use vs_limits::{GUEST_CID_MAX, GUEST_CID_MIN};
 use vs_outside::MemHost;
 use vs_proxy::steps;
@@ -126,6 +126,14 @@ impl World {
         }
         steps::shut_write(&mut self.proxy, &mut self.host, slot);
         fed(&self.host)
+    }
+
+    /// It raises the buffer space of the connection of a flow.
+    pub(crate) fn device_grows(&mut self, flow: Flow, alloc: u32)
+        requires ready { IsReady self.old }
+        ensures { Happens (DeviceGrows flow alloc) self.old self.new }
+    {
+        let _answer = self.proxy.grow(flow, alloc);
     }
 
     /// The proxy accepts a client.

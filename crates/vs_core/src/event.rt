@@ -4,7 +4,7 @@ use vs_driver::{
     Accepted, Closed, ConnId, ConnectError, ConnectionState, Grown, ListenError, Received, Sent,
     Shut,
 };
-use vs_flow::Slot;
+use vs_flow::{Flow, Slot};
 use vs_ring_port::{Chain, Queue};
 
 /// A call that the guest makes on its driver, a poll aside.
@@ -61,6 +61,8 @@ pub enum Event {
     DeviceWrites(Slot),
     /// It shuts the side of a connection's stream that it writes to.
     DeviceShutsWrite(Slot),
+    /// It raises the buffer space of the connection of a flow to so many bytes.
+    DeviceGrows(Flow, u32),
     /// The proxy accepts a client.
     ProxyAccepts,
     /// It reads a byte of a client's line.

@@ -2,7 +2,7 @@
 
 ghost use Rattle.vs_flow.specs.{Connection.Connection, Connection.first_of, declared.flow.Flow.Flow};
 ghost use Rattle.std.specs.Prelude.{◌≡◌, ℕ, ◌-◌, ◌^◌, ◌≤◌, ◌||◌, min, false, true, List, [], ◌∷◌, length, All, None};
-ghost use Rattle.vs_limits.specs.declared.TheConstants.{BUF_ALLOC, BUF_ALLOC_MAX, FIRST_PORT, ASSIGNED_FIRST};
+ghost use Rattle.vs_limits.specs.declared.TheConstants.{BUF_ALLOC_MAX, FIRST_PORT, ASSIGNED_FIRST};
 ghost use Rattle.vs_conn.specs.End.{ConnectionEnd, is_refused, verdict_of};
 ghost use Rattle.laws_history.specs.declared.packet.Packet.{Packet};
 ghost use Rattle.laws_tables.specs.{Both.start, Ends.begun_flows, Ends.flows_of, Ends.is_among, Ends.new_flows, Ends.replied};
@@ -14,7 +14,8 @@ ghost use Rattle.vs_page.specs.declared.log.LogEntry.TheVariants.{Mark};
 ghost use Rattle.vs_ring_list.specs.Sound.{IsTied};
 ghost use Rattle.laws_world.specs.{Counts.dropped_in, Events.Event, Events.happens, Events.is_at_rest};
 ghost use Rattle.laws_driver.specs.Carried.Calls.{GuestCall, is_right, sent_on};
-ghost use Rattle.laws_world.specs.{Events.is_guest_cid, Events.run, Plays.guest_line, Plays.poll_line, Plays.reset_line};
+ghost use Rattle.laws_device.specs.Streams.{is_waiting_for_request};
+ghost use Rattle.laws_world.specs.{Events.is_guest_cid, Events.run, Pipes.IsFresh, Plays.guest_line, Plays.poll_line, Plays.reset_line};
 ghost use Rattle.laws_world.specs.{Steps.Leads, Sides.Runs, Sides.both_of, World.World, World.first_cid, World.opening};
 
 /// After any list of events what each end got is what the other put first, packets on tx and on rx and ids of events; and what was put and
@@ -55,14 +56,19 @@ pub fn law_of_logs()
 {}
 
 /// After any list of events each table holds just the connections that the log of its end left open: of the device's those that have
-/// begun, the others ask for their flow and have not put their REQUEST. None is from before a transport reset: where the newest entry of a
-/// log is one, none has begun (Virtio 1.2, section 5.10.6.7).
+/// begun, the others ask for their flow and have not put their REQUEST: where the host had no streams at first, the flows of its open streams
+/// on which the log began no connection. None is from before a transport reset: where the newest entry of a log is one, none has begun (Virtio
+/// 1.2, section 5.10.6.7).
 pub fn law_of_tables()
     ensures driver { (n : ℕ) (host : HostContents) (es : List Event) (f : Flow) → let b = both_of (run es (opening n host)) in
         is_among f (flows_of b.driver.part.entries) ≡ is_open Driver first_cid f b.driver.log (is_among f (replied b.driver.part.replies)) }
     ensures device { (n : ℕ) (host : HostContents) (es : List Event) (f : Flow) → let b = both_of (run es (opening n host)) in
         is_among f (flows_of b.device.part.entries)
         ≡ (is_open Device first_cid f b.device.log (is_among f (replied b.device.part.replies)) || is_among f (new_flows b.device.part.entries)) }
+    ensures streams { (n : ℕ) (host : HostContents) (es : List Event) (f : Flow) → IsFresh host → let w = run es (opening n host) in
+        let b = both_of w in
+        is_among f (flows_of b.device.part.entries)
+        ≡ (is_open Device first_cid f b.device.log (is_among f (replied b.device.part.replies)) || is_waiting_for_request f w.host b.device.log) }
     ensures driver_reset { (n : ℕ) (host : HostContents) (es : List Event) (cid : ℕ) (older : Log) → let b = both_of (run es (opening n host)) in
         b.driver.log ≡ Mark cid ∷ older → begun_flows b.driver.part.entries ≡ [] }
     ensures device_reset { (n : ℕ) (host : HostContents) (es : List Event) (cid : ℕ) (older : Log) → let b = both_of (run es (opening n host)) in
@@ -91,7 +97,8 @@ pub fn law_of_credit()
         All (λ e. (length e.value.unread ≤ e.value.end.credit.alloc) × (e.value.end.credit.alloc ≤ BUF_ALLOC_MAX))
         (run es (opening n host)).driver.table.entries }
     ensures pending { (n : ℕ) (host : HostContents) (es : List Event) →
-        All (λ e. length e.value.pending ≤ BUF_ALLOC) (run es (opening n host)).proxy.device.table.entries }
+        All (λ e. (length e.value.pending ≤ e.value.end.credit.alloc) × (e.value.end.credit.alloc ≤ BUF_ALLOC_MAX))
+        (run es (opening n host)).proxy.device.table.entries }
 {}
 
 /// After any list of events the device counted just the packets of its log that it drops, each by the guest's CID of then, and its ring

@@ -34,6 +34,7 @@ impl World {
             Event::DevicePays(slot) => silent(self.device_pays(*slot)),
             Event::DeviceWrites(slot) => silent(self.device_writes(*slot)),
             Event::DeviceShutsWrite(slot) => silent(self.device_shuts_write(*slot)),
+            Event::DeviceGrows(flow, alloc) => silent(Ok(self.device_grows(*flow, *alloc))),
             Event::ProxyAccepts => silent(self.proxy_accepts()),
             Event::ProxyReads(stream) => silent(self.proxy_reads(*stream)),
             Event::Moment(now) => silent(Ok(self.moment(*now))),

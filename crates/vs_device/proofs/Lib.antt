@@ -15,3 +15,4 @@ mod Accounted
 mod Among
 mod Stepping
 mod Skipped
+mod Growing

@@ -5,6 +5,7 @@
 mod closing;
 mod device;
 mod events;
+mod grow;
 mod receive;
 mod shown;
 pub mod steps;
@@ -14,4 +15,4 @@ mod turns;
 
 pub use device::Device;
 pub use turns::Entries;
-pub use vs_device_parts::answers::{Counters, Filled, Taken};
+pub use vs_device_parts::answers::{Counters, Filled, Grown, Taken};

@@ -2,8 +2,10 @@
 
 ghost use Rattle.std.specs.Prelude.{◌≡◌};
 ghost use Rattle.vs_flow.specs.Table.{has_place};
+ghost use Rattle.vs_proxy_parts.specs.Growing.{slot_of};
 
 use crate::device::Device;
+use vs_flow::{Flow, Slot};
 use vs_ring_port::Failure;
 
 impl Device {
@@ -19,6 +21,13 @@ impl Device {
         ensures { result ≡ has_place self.now.table }
     {
         self.slots.has_place()
+    }
+
+    /// The slot of the connection of a flow.
+    pub fn by_flow(&self, flow: Flow) -> Option<Slot>
+        ensures { result ≡ slot_of flow self.now }
+    {
+        self.slots.by_flow(flow)
     }
 
     /// Whether the event of a transport reset is owed.

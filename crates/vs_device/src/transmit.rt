@@ -8,7 +8,7 @@ ghost use Rattle.vs_contents.specs.CallTree.{Leads};
 ghost use Rattle.vs_credit.specs.Credit.{unread_of};
 ghost use Rattle.vs_flow.specs.Table.{entry_of, entry_under, has_place, value_under, with_value};
 ghost use Rattle.vs_header.specs.declared.TheConstants.{HEADER_LEN};
-ghost use Rattle.vs_limits.specs.declared.TheConstants.{BUF_ALLOC, DEVICE_REPLIES};
+ghost use Rattle.vs_limits.specs.declared.TheConstants.{BUF_ALLOC_MAX, DEVICE_REPLIES};
 ghost use Rattle.vs_page.specs.Log.{flow_to_host};
 ghost use Rattle.vs_ring_port.specs.{Chains.IsLongEnough, Contents.Read, declared.device_ring.Chain.Chain};
 ghost use Rattle.vs_ring_port.specs.declared.{failure.Failure.Failure, queue.Queue.TheVariants.Tx};
@@ -210,7 +210,7 @@ impl Device {
         requires is_held { Contains (R.held ring.old) chain.now }
         requires whole { HEADER_LEN + header.now.len ≤ chain.now.readable }
         requires delivers { verdict ≡ Deliver → IfSome (value_under self.old.table slot) (λ c. length c.pending + header.now.len ≤ unread_of c.end.credit) }
-        requires most { verdict ≡ Deliver → header.now.len ≤ BUF_ALLOC }
+        requires most { verdict ≡ Deliver → header.now.len ≤ BUF_ALLOC_MAX }
         requires delivered { verdict ≡ Deliver → IfSome (value_under self.old.table slot) (λ c. may_shut c.end.state ≡ true) }
         requires accepted { verdict ≡ Accept → IfSome (value_under self.old.table slot) (λ c. may_shut c.end.state ≡ true) }
         requires may { verdict ≡ Peer → is_reset header.now ≡ true → (e : DeviceEntry) → entry_under self.old.table slot ≡ Some e → MayClose e.value (H.contents host.old) }
@@ -253,7 +253,7 @@ impl Device {
         requires is_held { Contains (R.held ring.old) chain.now }
         requires whole { HEADER_LEN + len ≤ chain.now.readable }
         requires delivers { IfSome (value_under self.old.table slot) (λ c. length c.pending + len ≤ unread_of c.end.credit) }
-        requires most { len ≤ BUF_ALLOC }
+        requires most { len ≤ BUF_ALLOC_MAX }
         requires stands { IfSome (value_under self.old.table slot) (λ c. may_shut c.end.state ≡ true) }
         ensures held { R.held ring.new ≡ R.held ring.old }
         ensures calls { (bytes : List ℕ) × AllowsOnRing (Read chain.now HEADER_LEN len) bytes (R.contents ring.old) (R.contents ring.new) × ((c : DeviceConnection) → value_under self.old.table slot ≡ Some c → self.new ≡ with_connection slot (record c { pending = c.pending ++ bytes }) self.old) }

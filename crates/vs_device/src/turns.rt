@@ -5,7 +5,7 @@ ghost use Rattle.std.specs.{Iterator.YieldsFirst, Iterator.item_count, Option.Fo
 ghost use Rattle.vs_contents.specs.CallTree.{for_each};
 ghost use Rattle.vs_flow.specs.Table.{refusal, slots};
 ghost use Rattle.vs_ring_port.specs.{declared.failure.Failure.Failure, Contents.RingContents, EndLog.EndLog};
-ghost use Rattle.vs_limits.specs.declared.TheConstants.{BUF_ALLOC, GUEST_CID_MIN, GUEST_CID_MAX};
+ghost use Rattle.vs_limits.specs.declared.TheConstants.{BUF_ALLOC_MAX, GUEST_CID_MIN, GUEST_CID_MAX};
 ghost use Rattle.laws_tables.specs.Steps.{IsNextFlow};
 ghost use Rattle.vs_page.specs.Log as log;
 ghost use Rattle.laws_device.specs.Named.Streams.{HasStreams, IsFree};
@@ -149,9 +149,9 @@ impl Device {
         ensures countable { length result < 2 ^ 64 }
         // They are the connections that the log of an honest ring left open, and those of clients whose REQUEST isn't put.
         ensures open { (first port : ℕ) (l : EndLog) → AgreesWith first port self.now l → IsLeftOpen first self.now result l }
-        // What is pending of a connection is within the buffer space that each packet advertises.
+        // What is pending of a connection is within its buffer space, which is 262,144 bytes at most.
         ensures pending { (first port : ℕ) (l : EndLog) (e : DeviceEntry) → AgreesWith first port self.now l
-            → Contains self.now.table.entries e → length e.value.pending ≤ BUF_ALLOC }
+            → Contains self.now.table.entries e → (length e.value.pending ≤ e.value.end.credit.alloc) × (e.value.end.credit.alloc ≤ BUF_ALLOC_MAX) }
     {
         let slots = &self.slots;
         let connections = slots.open();

@@ -5,3 +5,4 @@ pub mod Each
 mod Rounds
 mod Writes
 mod Held
+pub mod Growing

@@ -5,6 +5,7 @@ pub mod Streams
 pub mod Transmitting
 pub mod Receiving
 pub mod Turns
+pub mod Growing
 pub mod Room
 pub mod Paid
 pub mod SlotFields

@@ -27,6 +27,29 @@ pub struct Filled {
     pub read: u32,
 }
 
+/// What a growth of the buffer space answers.
+#[derive(Clone, Copy, Debug, PartialEq, Eq)]
+pub enum Grown {
+    /// The buffer space is as asked for.
+    Done,
+    /// No connection has this slot, or this flow.
+    Unknown,
+    /// The connection isn't open yet.
+    NotOpen,
+    /// The connection ended.
+    Reset,
+    /// More was asked for than a buffer space may be.
+    TooBig {
+        /// The most that it may be.
+        most: u32,
+    },
+    /// The buffer space is larger already.
+    Shrinks {
+        /// What it is.
+        now: u32,
+    },
+}
+
 /// What the device counted since it was made. A count stays at its type's last value.
 #[derive(Clone, Copy, Debug, PartialEq, Eq)]
 pub struct Counters {

@@ -1,24 +1,26 @@
 //! A connection of the device's table: its end, the host's stream that it is joined to, and what is left to write to that stream.
 
 ghost use Rattle.std.specs.Prelude.{◌≡◌, ◌≤◌, ◌<◌, ◌==◌, ◌+◌, ◌-◌, ◌++◌, ℕ, [], true, false, Some, if◌then◌else◌, length, take};
-ghost use Rattle.vs_conn.specs.End.{CanSend, asked, answering, may_shut, owes_of, verdict_of, view_of, wanting_credit, with_payload_sent};
+ghost use Rattle.vs_conn.specs.End.{CanSend, asked, answering, grown, may_shut, owes_of, verdict_of, view_of, wanting_credit, with_payload_sent};
 ghost use Rattle.vs_conn.specs.{Headers.owed_header, Headers.payload_header, declared.end.State.TheVariants.Live};
 ghost use Rattle.vs_conn.specs.declared.end.Verdict.TheVariants.{Deliver, Accept};
 ghost use Rattle.vs_credit.specs.Credit.{free_of, unread_of};
 ghost use Rattle.vs_header.specs.declared.Kind.TheVariants.{Stream};
-ghost use Rattle.vs_limits.specs.declared.TheConstants.{BUF_ALLOC, WRITE_MAX};
+ghost use Rattle.vs_limits.specs.declared.TheConstants.{BUF_ALLOC, BUF_ALLOC_MAX, WRITE_MAX};
 ghost use Rattle.vs_uds.specs.OkLine.{ok_text};
 ghost use Rattle.vs_device_parts.specs.Connections.{after_shut, after_written, cut_off, is_late, is_timed_out, new_connection};
 ghost use Rattle.vs_device_parts.specs.{Connections.stream_closed, Paid.paid_connection, Receiving.may_read, Room.IsSpare};
 ghost use Rattle.vs_device_parts.specs.{Streams.to_write, Streams.is_written_out, Transmitting.heard, Watched.has_to_write};
-ghost use Rattle.vs_device_parts.specs.Served.{IsServedSo};
+ghost use Rattle.vs_device_parts.specs.{Growing.grow_answer, Served.IsServedSo};
+ghost use Rattle.vs_device_parts.specs.declared.answers.Grown.TheVariants.{Done};
 
+use crate::answers::Grown;
 use crate::service::Service;
 use std::marker::Model;
 use vs_buffer::ByteFifo;
 use vs_conn::{End, EndView, Owed, Route, Shut, State, Verdict};
 use vs_header::{Header, Kind};
-use vs_limits::{BUF_ALLOC, TIMEOUT, WRITE_MAX};
+use vs_limits::{BUF_ALLOC, BUF_ALLOC_MAX, TIMEOUT, WRITE_MAX};
 use vs_uds::ok_line;
 
 /// The buffers of a connection.
@@ -139,7 +141,7 @@ impl Connection {
         ensures verdict { result ≡ verdict_of self.old.end header.now }
         ensures heard { self.new ≡ heard header.now self.old }
         ensures room { result ≡ Deliver → length self.old.pending + header.now.len ≤ unread_of self.new.end.credit }
-        ensures most { result ≡ Deliver → header.now.len ≤ BUF_ALLOC }
+        ensures most { result ≡ Deliver → header.now.len ≤ BUF_ALLOC_MAX }
         ensures delivers { result ≡ Deliver → may_shut self.new.end.state ≡ true }
         ensures accepts { result ≡ Accept → may_shut self.new.end.state ≡ true }
     {
@@ -290,6 +292,30 @@ impl Connection {
         ensures { self.new ≡ record self.old { end = wanting_credit self.old.end } }
     {
         self.end.want_credit();
+    }
+
+    /// What is answered where its buffer space is to be `alloc` bytes.
+    pub fn grow_answer(&self, alloc: u32) -> Grown
+        ensures { result ≡ grow_answer self.now.end.state alloc self.now.end }
+    {
+        let now = self.end.view().credit.alloc;
+        match self.state() {
+            State::Asked | State::Answering => Grown::NotOpen,
+            State::Ended => Grown::Reset,
+            State::Live if alloc > BUF_ALLOC_MAX => Grown::TooBig {
+                most: BUF_ALLOC_MAX,
+            },
+            State::Live if alloc < now => Grown::Shrinks { now },
+            State::Live => Grown::Done,
+        }
+    }
+
+    /// Raises its buffer space to `alloc` bytes. After a rise a CREDIT_UPDATE is owed. The buffer has the places already.
+    pub fn grow(&mut self, alloc: u32)
+        requires { grow_answer self.old.end.state alloc self.old.end ≡ Done }
+        ensures { self.new ≡ record self.old { end = grown self.old.end alloc } }
+    {
+        self.end.grow(alloc);
     }
 
     /// The header of an RW with `len` bytes of payload.

@@ -2,18 +2,19 @@
 
 ghost use Rattle.std.specs.Prelude.{◌≡◌, ◌<◌, ◌≤◌, ◌++◌, ◌+◌, [], true, false, length, Some, None, if◌then◌else◌, IfOk, IfSome, IfNone};
 ghost use Rattle.std.specs.{Prelude.IsSomeAnd, Prelude.AllPairs, Prelude.option_copied, Prelude.slice_get, Prelude.vec_capacity, List.All, Option.option_map, Option.option_map_or};
-ghost use Rattle.vs_conn.specs.End.{CanSend, asked, answering, may_shut, owes_of, verdict_of, wanting_credit, with_payload_sent};
+ghost use Rattle.vs_conn.specs.End.{CanSend, asked, answering, grown, may_shut, owes_of, verdict_of, wanting_credit, with_payload_sent};
 ghost use Rattle.vs_conn.specs.{Headers.owed_header, Headers.payload_header, declared.end.State.TheVariants.Live};
 ghost use Rattle.vs_conn.specs.declared.end.Verdict.TheVariants.{Deliver, Accept};
 ghost use Rattle.vs_credit.specs.Credit.{free_of, unread_of};
 ghost use Rattle.vs_flow.specs.Table.{IsTable, emptied, entry_of, entry_under, has_place, refusal, slots, value_under, with_entry};
 ghost use Rattle.vs_flow.specs.Table.{with_value, without};
 ghost use Rattle.vs_header.specs.declared.Kind.TheVariants.{Stream};
-ghost use Rattle.vs_limits.specs.declared.TheConstants.{BUF_ALLOC, DEVICE_CONNECTIONS};
+ghost use Rattle.vs_limits.specs.declared.TheConstants.{BUF_ALLOC, BUF_ALLOC_MAX, DEVICE_CONNECTIONS};
 ghost use Rattle.vs_uds.specs.OkLine.{ok_text};
 ghost use Rattle.vs_device_parts.specs.Connections.{after_shut, after_written, cut_off, is_timed_out, new_connection, route_to_guest, stream_closed};
 ghost use Rattle.vs_device_parts.specs.{Paid.paid_connection, Room.IsSpare, State.DeviceConnection, State.DeviceEntry, Transmitting.heard};
-ghost use Rattle.vs_device_parts.specs.{Served.IsServedSo, Watched.has_to_write};
+ghost use Rattle.vs_device_parts.specs.{Growing.grow_answer, Served.IsServedSo, Watched.has_to_write};
+ghost use Rattle.vs_device_parts.specs.declared.answers.Grown.TheVariants.{Done};
 
 use crate::connection::{Buffers, Connection};
 use crate::service::Service;
@@ -25,11 +26,11 @@ use vs_buffer::ByteFifo;
 use vs_conn::{Owed, Route, Verdict};
 use vs_flow::{Entry, Flow, FlowTable, Slot, TableFault};
 use vs_header::Header;
-use vs_limits::{BUF_ALLOC, DEVICE_CONNECTIONS, HOST_CID};
+use vs_limits::{BUF_ALLOC_MAX, DEVICE_CONNECTIONS, HOST_CID};
 use vs_uds::OK_MAX;
 
-/// Bytes of a connection's receive buffer.
-pub const BUFFER_LEN: usize = BUF_ALLOC as usize;
+/// Bytes of a connection's receive buffer: as many as its buffer space may be raised to.
+pub const BUFFER_LEN: usize = BUF_ALLOC_MAX as usize;
 
 /// The connections, each in a slot of its own.
 #[derive(Drop)]
@@ -268,7 +269,7 @@ impl Slots {
         ensures verdict { (c : DeviceConnection) → value_under self.old slot ≡ Some c → result ≡ verdict_of c.end header.now }
         ensures left { (c : DeviceConnection) → value_under self.old slot ≡ Some c → self.new ≡ with_value self.old slot (heard header.now c) }
         ensures room { (c : DeviceConnection) → value_under self.old slot ≡ Some c → result ≡ Deliver → length c.pending + header.now.len ≤ unread_of (heard header.now c).end.credit }
-        ensures most { (c : DeviceConnection) → value_under self.old slot ≡ Some c → result ≡ Deliver → header.now.len ≤ BUF_ALLOC }
+        ensures most { (c : DeviceConnection) → value_under self.old slot ≡ Some c → result ≡ Deliver → header.now.len ≤ BUF_ALLOC_MAX }
         ensures delivers { (c : DeviceConnection) → value_under self.old slot ≡ Some c → result ≡ Deliver → may_shut (heard header.now c).end.state ≡ true }
         ensures accepts { (c : DeviceConnection) → value_under self.old slot ≡ Some c → result ≡ Accept → may_shut (heard header.now c).end.state ≡ true }
     {
@@ -376,6 +377,18 @@ impl Slots {
             return;
         };
         connection.want_credit();
+        self.watch.note(connection);
+    }
+
+    /// Raises the buffer space of the connection in a slot to `alloc` bytes.
+    pub fn grow(&mut self, slot: Slot, alloc: u32)
+        requires may { IfSome (value_under self.old slot) (λ c. grow_answer c.end.state alloc c.end ≡ Done) }
+        ensures left { (c : DeviceConnection) → value_under self.old slot ≡ Some c → self.new ≡ with_value self.old slot (record c { end = grown c.end alloc }) }
+    {
+        let Some(connection) = self.table.get_mut(slot) else {
+            return;
+        };
+        connection.grow(alloc);
         self.watch.note(connection);
     }
 

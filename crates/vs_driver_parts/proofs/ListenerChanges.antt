@@ -1,71 +1,69 @@
--- How the lists of those that wait change at the place of a port.
-use Rattle.std.proofs.{lemmas.Bool.Decides.nat_tests, lemmas.List.Quantifiers.all_pairs_push}
-use Rattle.std.proofs.Common.{◌≡◌, ◌≢◌, ℕ, ◌==◌, true, false, not, cond, List, [], ◌∷◌, map, get_or, set, length, nat_le, nat_lt, ◌<◌}
-use Rattle.std.proofs.Common.{Option, Some, None, is_some, refl, sym, ap, ◌∙◌, arith}
-use Rattle.std.specs.{List.AllPairs, List.remove, List.position, Option.option_map_or}
-use Rattle.vs_limits.specs.declared.TheConstants.{WAITING}
-use Rattle.vs_driver_parts.specs.{State.Listener, Listening.{listener_on, with_waiting, with_port, has_place}, Connections.without_listener}
-use Rattle.vs_driver_parts.proofs.Lists.{IsFirst, NonePasses, fails_at, first_at, found_at, not_some, found_nowhere, passes_nowhere}
-use Rattle.vs_driver_parts.proofs.Lists.{passes_there, one_passes, changed_none, changed_one, kept_none, removed_one}
+-- The listeners of a map's entries: what is found of a port, and what changes of the entries leave.
+use Rattle.std.proofs.{lemmas.Bool.Decides.nat_tests, lemmas.List.{get_or-map}, lemmas.List.Kept.AllPairs-filter}
+use Rattle.std.proofs.lemmas.{Map.{NonePasses, none_passes_from_lookup}, Map.Keys.{IsDistinct-tail, apart_from_distinct}, Map.Entries.{length-keys_of, none_past_head}}
+use Rattle.std.proofs.lemmas.List.Sums.{length-filter, count_by-le-length}
+use Rattle.std.proofs.Common.{◌≡◌, ◌≢◌, ℕ, ◌≤◌, nat_eq, ◌==◌, true, false, not, List, [], ◌∷◌, ◌++◌, length}
+use Rattle.std.proofs.Common.{Some, None, is_some, refl, arith}
+use Rattle.std.specs.{List.AllPairs, List.IsDistinct, Map.keys_of, Map.lookup, Map.set_value, Option.option_map, Cmp.nat_eq_equiv}
+use Rattle.arrayvec.specs.ArrayVec.{ArrayVec}
+use Rattle.indexmap.specs.IndexMap.{insert_entry}
+use Rattle.vs_flow.proofs.Keys.{IsNextPair, next_pair}
+use Rattle.vs_driver_parts.specs.{ListenerFields.{listener_of, listeners_of, others}}
+use Rattle.vs_driver_parts.specs.{Listening.{listener_on, with_waiting, with_port}, Connections.without_listener}
 
-abbrev pub AreDistinct : List Listener → Type 0
-AreDistinct ls = AllPairs (λ a b. a.port ≢ b.port) ls
+-- keys are distinct
+apart : (es : List (ℕ × ArrayVec ℕ)) → IsDistinct nat_eq (keys_of es) → AllPairs (λ a b. nat_eq b.0 a.0 ≡ false) es
+apart es distinct i j d lt within =
+    let far = apart_from_distinct nat_eq (keys_of es) i j d.0 distinct lt (omega (arith, within, length-keys_of es)) in
+    let here = get_or-map (λ (e : ℕ × ArrayVec ℕ). e.0) es i d d.0 (omega (arith, lt, within)) in
+    let there = get_or-map (λ (e : ℕ × ArrayVec ℕ). e.0) es j d d.0 within in
+    grind (arith, nat_tests, far, here, there)
 
-with_waiting_map : (port : ℕ) (change : List ℕ → List ℕ) (ls : List Listener)
-    → with_waiting port change ls ≡ map (λ l. cond (l.port == port) (record l { waiting = change l.waiting }) l) ls
-with_waiting_map port change [] = refl
-with_waiting_map port change (l ∷ ls) =
-    ap (λ (rest : List Listener). cond (l.port == port) (record l { waiting = change l.waiting }) l ∷ rest) (with_waiting_map port change ls)
+module _ (port : ℕ) where
+  -- a port is found where its entry is
+  pub found : (es : List (ℕ × ArrayVec ℕ))
+      → listener_on port (listeners_of es) ≡ option_map (λ v. listener_of (port, v)) (lookup (nat_eq port) es)
+  found [] = refl
+  found (e ∷ es) = let rest = found es in grind (arith, nat_tests, rest)
 
-not_full : (l : Listener) → nat_lt (length l.waiting) WAITING ≡ not (nat_le WAITING (length l.waiting))
-not_full l = grind (arith, nat_tests)
+  unwritten : (change : List ℕ → List ℕ) (es : List (ℕ × ArrayVec ℕ)) → NonePasses (nat_eq port) es
+      → with_waiting port change (listeners_of es) ≡ listeners_of es
+  unwritten change [] none = refl
+  unwritten change (e ∷ es) none = let rest = unwritten change es none.1 in grind (arith, nat_tests, none.0, rest)
 
-module _ (port : ℕ) (ls : List Listener) where
-  pub waiting_nowhere : (change : List ℕ → List ℕ) → position (λ l. l.port == port) ls ≡ None → with_waiting port change ls ≡ ls
-  waiting_nowhere change none =
-      with_waiting_map port change ls
-      ∙ changed_none (λ l. l.port == port) (λ l. record l { waiting = change l.waiting }) ls (passes_nowhere _ ls (found_nowhere (λ l. l.port == port) ls none))
+  -- where none waits, and where what waits is written
+  pub waiting_nowhere : (change : List ℕ → List ℕ) (es : List (ℕ × ArrayVec ℕ)) → lookup (nat_eq port) es ≡ None
+      → with_waiting port change (listeners_of es) ≡ listeners_of es
+  waiting_nowhere change es none = unwritten change es (none_passes_from_lookup (nat_eq port) es none)
 
-  pub unlistened_nowhere : position (λ l. l.port == port) ls ≡ None → without_listener port ls ≡ ls
-  unlistened_nowhere none = kept_none (λ l. l.port == port) ls (passes_nowhere _ ls (found_nowhere (λ l. l.port == port) ls none))
+  pub waiting_there : (change : List ℕ → List ℕ) (v w : ArrayVec ℕ) (es : List (ℕ × ArrayVec ℕ)) → IsDistinct nat_eq (keys_of es)
+      → lookup (nat_eq port) es ≡ Some v → w.items ≡ change v.items → with_waiting port change (listeners_of es) ≡ listeners_of (set_value (nat_eq port) es w)
+  waiting_there change v w [] distinct at new = refl
+  waiting_there change v w (e ∷ es) distinct at new =
+      let here : nat_eq port e.0 ≡ true → with_waiting port change (listeners_of es) ≡ listeners_of es =
+      λ is. unwritten change es (none_past_head nat_eq_equiv port e es distinct is) in
+      let rest = waiting_there change v w es (IsDistinct-tail nat_eq e.0 (keys_of es) distinct) in
+      grind (arith, nat_tests, at, new, here, rest)
 
-  module _ (i : ℕ) (l : Listener) (at : position (λ l. l.port == port) ls ≡ Some i) (is : l ≡ get_or ls i l) where
-    pub first : IsFirst (λ l. l.port == port) ls i l
-    first = first_at (λ l. l.port == port) ls i l at is
+  -- with an entry for a port that isn't there
+  pub listened : (w : ArrayVec ℕ) (es : List (ℕ × ArrayVec ℕ)) → w.items ≡ [] → is_some (listener_on port (listeners_of es)) ≡ false
+      → listeners_of (insert_entry nat_eq es port w) ≡ with_port port (listeners_of es)
+  listened w [] none new = grind (arith, none)
+  listened w (e ∷ es) none new = let rest = listened w es none in grind (arith, nat_tests, new, rest)
 
-    pub waiting_there : (change : List ℕ → List ℕ) (m : Listener) → AreDistinct ls → m ≡ record l { waiting = change l.waiting }
-        → with_waiting port change ls ≡ set ls i m
-    waiting_there change m distinct new =
-        let there = changed_one (λ l. l.port == port) (λ l. record l { waiting = change l.waiting }) ls i l
-        (one_passes (λ l. l.port) port ls distinct) first.within (passes_there (λ l. l.port == port) ls i l first.passes is) in
-        with_waiting_map port change ls ∙ (there
-        ∙ ap (λ (k : Listener). set ls i (record k { waiting = change k.waiting })) (sym is) ∙ ap (λ (k : Listener). set ls i k) (sym new))
+  -- without a port's entry
+  pub unlistened : (es : List (ℕ × ArrayVec ℕ)) → without_listener port (listeners_of es) ≡ listeners_of (others port es)
+  unlistened [] = refl
+  unlistened (e ∷ es) = let rest = unlistened es in grind (arith, nat_tests, rest)
 
-    pub unlistened_there : AreDistinct ls → without_listener port ls ≡ remove ls i
-    unlistened_there distinct = removed_one (λ l. l.port == port) ls i l
-        (one_passes (λ l. l.port) port ls distinct) first.within (passes_there (λ l. l.port == port) ls i l first.passes is)
+  pub no_more : (es : List (ℕ × ArrayVec ℕ)) → length (others port es) ≤ length es
+  no_more es = omega (arith, length-filter (λ e. not (e.0 == port)) es, count_by-le-length (λ e. not (e.0 == port)) es)
 
-    pub place_there : has_place port ls ≡ not (nat_le WAITING (length l.waiting))
-    place_there = rw (first.found, has_place) (not_full l)
-
-    pub place_is_free : has_place port ls ≡ true → length l.waiting < WAITING
-    place_is_free free = let full : not (nat_le WAITING (length l.waiting)) ≡ true = sym place_there ∙ free in grind (arith, nat_tests, full)
-
-    pub waits_there : option_map_or (λ (k : Listener). k.waiting) (listener_on port ls) [] ≡ l.waiting
-    waits_there = rw first.found refl
-
-  pub place_nowhere : position (λ l. l.port == port) ls ≡ None → has_place port ls ≡ false
-  place_nowhere none = rw (found_nowhere (λ l. l.port == port) ls none, has_place) refl
-
-  pub waits_nowhere : position (λ l. l.port == port) ls ≡ None → option_map_or (λ (k : Listener). k.waiting) (listener_on port ls) [] ≡ []
-  waits_nowhere none = rw (found_nowhere (λ l. l.port == port) ls none) refl
-
-  pub listened : (o : Option ℕ) → position (λ l. l.port == port) ls ≡ o → is_some o ≡ is_some (listener_on port ls)
-  listened None none = rw (found_nowhere (λ l. l.port == port) ls none) refl
-  listened (Some i) at = rw (found_at (λ l. l.port == port) ls i (record { port = port; waiting = [] }) at) refl
-
-  pub listened_distinct : AreDistinct ls → is_some (listener_on port ls) ≡ false → AreDistinct (with_port port ls)
-  listened_distinct distinct new =
-      let nowhere : NonePasses (λ l. l.port == port) ls = passes_nowhere (λ l. l.port == port) ls (not_some (listener_on port ls) new) in
-      all_pairs_push (λ (a : Listener) (b : Listener). a.port ≢ b.port) ls (record { port = port; waiting = [] }) distinct
-      (λ k d lt same. let fails = fails_at (λ l. l.port == port) ls k d nowhere lt in grind (arith, nat_tests, fails, same))
+  -- an entry that goes behind those that went before it
+  pub next_other : (done rest all : List (ℕ × ArrayVec ℕ)) (k : ℕ) (v : ArrayVec ℕ) → IsDistinct nat_eq (keys_of all)
+      → done ++ others port ((k, v) ∷ rest) ≡ others port all → k ≢ port
+      → IsNextPair nat_eq done (others port rest) (others port all) k v
+  next_other done rest all k v distinct seam differs =
+      let other : (k == port) ≡ false = grind (arith, nat_tests, differs) in
+      next_pair nat_eq done (others port rest) (others port all) k v (rw other at seam)
+      (AllPairs-filter (λ a b. nat_eq b.0 a.0 ≡ false) (λ e. not (e.0 == port)) all (apart all distinct))

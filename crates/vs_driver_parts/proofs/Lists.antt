@@ -1,6 +1,6 @@
 -- Places in lists: code finds the one element with a property by its place, and writes there or removes it.
 use Rattle.std.proofs.Common.{◌≡◌, ◌≢◌, ℕ, zero, suc, ◌+◌, ◌<◌, ◌==◌, Bool, true, false, not, cond, List, [], ◌∷◌, length, map, get_or, set}
-use Rattle.std.proofs.Common.{ltb, drop, Option, Some, None, is_some, refl, sym, ap, ◌∙◌, arith, drop-cons, add-one}
+use Rattle.std.proofs.Common.{ltb, drop, Some, None, refl, sym, ap, ◌∙◌, arith, drop-cons, add-one}
 use Rattle.std.proofs.{lemmas.List.Folds.find_at, lemmas.Option.{slice_get_read, slice_get_past, slice_get-get_or, slice_get_within}}
 use Rattle.std.proofs.{lemmas.Option.{get_or_from_slice_get, cond_some}, lemmas.Bool.Decides.nat_tests}
 use Rattle.std.specs.List.{All, AllPairs, find, filter, remove, position, position_or_len, slice_get}
@@ -13,10 +13,6 @@ not_both b t f = cc
 cond_none : {Y : Type 0} (b : Bool) (y : Y) → cond b (Some y) None ≡ None → b ≡ false
 cond_none true y h = cc
 cond_none false y h = refl
-
-pub not_some : {X : Type 0} (o : Option X) → is_some o ≡ false → o ≡ None
-not_some None e = refl
-not_some (Some x) e = absurd (cc)
 
 module _ {X : Type 0} where
   -- no element passes; at most one does
@@ -32,7 +28,7 @@ module _ {X : Type 0} where
   none_passes p [] all = tt
   none_passes p (x ∷ xs) all = (all 0 x (omega arith), none_passes p xs (λ k d lt. all (suc k) d (omega arith)))
 
-  pub fails_at : (p : X → Bool) (xs : List X) (i : ℕ) (d : X) → NonePasses p xs → i < length xs → p (get_or xs i d) ≡ false
+  fails_at : (p : X → Bool) (xs : List X) (i : ℕ) (d : X) → NonePasses p xs → i < length xs → p (get_or xs i d) ≡ false
   fails_at p [] i d none lt = absurd (omega arith)
   fails_at p (x ∷ xs) zero d none lt = none.0
   fails_at p (x ∷ xs) (suc i) d none lt = fails_at p xs i d none.1 (omega arith)

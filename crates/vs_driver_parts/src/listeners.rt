@@ -1,89 +1,29 @@
 //! The ports that are listened on, and the connections that wait there to be accepted.
 
-ghost use Rattle.std.specs.Prelude.{◌≡◌, ◌<◌, ◌==◌, [], true, false, length, nat_le, is_some, position, IfOk, Some};
+ghost use Rattle.std.specs.Prelude.{◌≡◌, ◌+◌, ◌≤◌, [], true, false, length, nat_le, is_some, IfOk};
 ghost use Rattle.std.specs.Option.{option_map_or};
+ghost use Rattle.indexmap.specs.IndexMap.{index_map_len, spare, IsEmpty};
 ghost use Rattle.vs_limits.specs.declared.TheConstants.{LISTENERS, WAITING};
 ghost use Rattle.vs_driver_parts.specs.Listening.{listener_on, with_waiting, waiting_too, without_id, has_place, with_port};
-ghost use Rattle.vs_driver_parts.specs.Connections.{without_listener};
+ghost use Rattle.vs_driver_parts.specs.{Connections.without_listener, ListenerFields.others};
 
 use crate::answers::ConnId;
 use arrayvec::ArrayVec;
+use indexmap::IndexMap;
 use std::alloc::{AllocError, Global};
 use std::marker::Model;
+use std::mem;
 use vs_limits::{LISTENERS, WAITING};
 
-/// A port that is listened on.
-#[derive(Drop)]
-pub struct PortListener {
-    port: u32,
-    // Ids of the connections that wait, oldest first.
-    waiting: ArrayVec<ConnId, WAITING>,
-}
-
-impl Model for PortListener {
-    ghost use Rattle.vs_driver_parts.specs.State.{Listener};
-
-    ghost Value = { Listener };
-
-    ghost view = { λ l. record { port = l.port; waiting = l.waiting.items } };
-}
-
-impl PortListener {
-    fn new(port: u32) -> PortListener
-        ensures { result ≡ record { port = port; waiting = [] } }
-    {
-        PortListener {
-            port,
-            waiting: ArrayVec::new(),
-        }
-    }
-
-    fn has_port(&self, port: u32) -> bool
-        ensures { result ≡ (self.now.port == port) }
-    {
-        self.port == port
-    }
-
-    fn is_full(&self) -> bool
-        ensures { result ≡ nat_le WAITING (length self.now.waiting) }
-    {
-        self.waiting.is_full()
-    }
-
-    fn waiting(&self) -> &[ConnId]
-        ensures { result.now ≡ self.now.waiting }
-    {
-        self.waiting.as_slice()
-    }
-
-    fn all_waiting(&self) -> ArrayVec<ConnId, WAITING>
-        ensures { result.items ≡ self.now.waiting }
-    {
-        let mut all = ArrayVec::new();
-        match all.try_extend_from_slice(self.waiting.as_slice()) {
-            Ok(()) => all,
-            Err(_) => unreachable!(),
-        }
-    }
-
-    fn wait(&mut self, id: ConnId)
-        requires place { length self.old.waiting < WAITING }
-        ensures { self.new ≡ record self.old { waiting = waiting_too id self.old.waiting } }
-    {
-        self.waiting.push(id);
-    }
-
-    fn leave(&mut self, id: ConnId)
-        ensures { self.new ≡ record self.old { waiting = without_id id self.old.waiting } }
-    {
-        self.waiting.retain(|waiting| *waiting != id);
-    }
-}
+// Each port with the ids of the connections that wait there, oldest first.
+type Ports = IndexMap<u32, ArrayVec<ConnId, WAITING>>;
 
 /// The ports that are listened on, in the order in which that began. A port is there once.
 #[derive(Drop)]
 pub struct Listeners {
-    ports: Vec<PortListener>,
+    ports: Ports,
+    // Empty, with room for all: a map that forgets a single port may have lost that port's room, so what stays moves here.
+    twin: Ports,
 }
 
 impl Model for Listeners {
@@ -92,20 +32,23 @@ impl Model for Listeners {
 
     ghost Value = { List Listener };
 
-    ghost use Rattle.vs_driver_parts.specs.ListenerFields.{AreListened};
+    ghost use Rattle.vs_driver_parts.specs.ListenerFields.{listeners_of, AreListened};
 
-    ghost view = { λ l. l.ports.items };
+    ghost view = { λ l. listeners_of l.ports.entries };
 
     ghost invariant = { AreListened };
 }
 
+#[tactic(auto, using(crate::proofs::ListenerChanges::found))]
 impl Listeners {
     /// No port is listened on. There is room for all that may be.
     pub fn new(alloc: Global) -> Result<Listeners, AllocError>
         ensures { IfOk result (λ l. l ≡ []) }
     {
+        let ports = IndexMap::with_capacity(alloc, LISTENERS)?;
         Ok(Listeners {
-            ports: Vec::with_capacity(alloc, LISTENERS)?,
+            ports,
+            twin: IndexMap::with_capacity(alloc, LISTENERS)?,
         })
     }
 
@@ -113,7 +56,7 @@ impl Listeners {
     pub fn is_listened(&self, port: u32) -> bool
         ensures { result ≡ is_some (listener_on port self.now) }
     {
-        place_of(&self.ports, port).is_some()
+        self.ports.contains_key(&port)
     }
 
     /// Whether as many ports are listened on as may be.
@@ -129,15 +72,15 @@ impl Listeners {
         requires room { nat_le LISTENERS (length self.old) ≡ false }
         ensures { self.new ≡ with_port port self.old }
     {
-        self.ports.push_reserved(PortListener::new(port));
+        self.ports.insert(port, ArrayVec::new()).unwrap();
     }
 
     /// Whether a place is free on a port's list.
     pub fn has_place(&self, port: u32) -> bool
         ensures { result ≡ has_place port self.now }
     {
-        match place_of(&self.ports, port) {
-            Some(place) => !self.ports[place].is_full(),
+        match self.ports.get(&port) {
+            Some(waiting) => !waiting.is_full(),
             None => false,
         }
     }
@@ -146,8 +89,8 @@ impl Listeners {
     pub fn waiting(&self, port: u32) -> &[ConnId]
         ensures { result.now ≡ option_map_or (λ l. l.waiting) (listener_on port self.now) [] }
     {
-        match place_of(&self.ports, port) {
-            Some(place) => self.ports[place].waiting(),
+        match self.ports.get(&port) {
+            Some(waiting) => waiting.as_slice(),
             None => &[],
         }
     }
@@ -156,8 +99,8 @@ impl Listeners {
     pub fn all_waiting(&self, port: u32) -> ArrayVec<ConnId, WAITING>
         ensures { result.items ≡ option_map_or (λ l. l.waiting) (listener_on port self.now) [] }
     {
-        match place_of(&self.ports, port) {
-            Some(place) => self.ports[place].all_waiting(),
+        match self.ports.get(&port) {
+            Some(waiting) => waiting.clone().unwrap(),
             None => ArrayVec::new(),
         }
     }
@@ -167,9 +110,9 @@ impl Listeners {
         requires place { has_place port self.old ≡ true }
         ensures { self.new ≡ with_waiting port (waiting_too id) self.old }
     {
-        match place_of(&self.ports, port) {
-            Some(place) => {
-                self.ports[place].wait(id);
+        match self.ports.get_mut(&port) {
+            Some(waiting) => {
+                waiting.push(id);
             }
             None => {}
         }
@@ -179,9 +122,9 @@ impl Listeners {
     pub fn leave(&mut self, port: u32, id: ConnId)
         ensures { self.new ≡ with_waiting port (without_id id) self.old }
     {
-        match place_of(&self.ports, port) {
-            Some(place) => {
-                self.ports[place].leave(id);
+        match self.ports.get_mut(&port) {
+            Some(waiting) => {
+                waiting.retain(|other| *other != id);
             }
             None => {}
         }
@@ -191,18 +134,24 @@ impl Listeners {
     pub fn unlisten(&mut self, port: u32)
         ensures { self.new ≡ without_listener port self.old }
     {
-        match place_of(&self.ports, port) {
-            Some(place) => {
-                self.ports.remove(place);
-            }
-            None => {}
-        }
+        move_others(&mut self.ports, &mut self.twin, port);
+        mem::swap(&mut self.ports, &mut self.twin);
     }
 }
 
-// The place of a port.
-fn place_of(ports: &[PortListener], port: u32) -> Option<usize>
-    ensures { result ≡ position (λ l. l.port == port) ports.now }
+// Moves all but one port, in their order.
+fn move_others(from: &mut Ports, to: &mut Ports, port: u32)
+    requires empty { IsEmpty to.old }
+    requires room { index_map_len from.old ≤ spare to.old }
+    ensures moved { to.new.entries ≡ others port from.old.entries }
+    ensures emptied { IsEmpty from.new }
+    ensures room { index_map_len from.old + spare from.old ≤ spare from.new }
+    ensures room_there { spare to.old ≤ index_map_len to.new + spare to.new }
 {
-    ports.iter().position(|listener| listener.has_port(port))
+    let all = from.len();
+    for (listened, waiting) in from.drain(..all) {
+        if listened != port {
+            to.insert(listened, waiting).unwrap();
+        }
+    }
 }

@@ -8,8 +8,9 @@ use Rattle.vs_ring_port.specs.declared.failure.Failure.{Failure}
 use Rattle.vs_ring_plain.specs.Device.{DeviceState}
 use Rattle.vs_device_parts.specs.Calls.{DeviceTree}
 use Rattle.vs_proxy_parts.specs.{State.ProxyState, Turns.new_proxy, Turns.turn_of, Turns.proxy_reset_of, declared.answers.Turn.Turn}
-use Rattle.vs_report.specs.HostLines.{host_played}
-use Rattle.vs_script.specs.{Hostile.Hostile, Hostile.Look, Outside.Outside, Outside.Reset, Outside.Tick, Outside.Client, Outside.OfHost}
+use Rattle.vs_proxy_parts.specs.Growing.{after_label_grow, label_at, label_grow_of}
+use Rattle.vs_report.specs.{DeviceLines.growth_text, HostLines.host_played}
+use Rattle.vs_script.specs.{Hostile.Hostile, Hostile.Look, Outside.Outside, Outside.Reset, Outside.Tick, Outside.Grow, Outside.Client, Outside.OfHost}
 use Rattle.vs_hostile.specs.{Answers.answer_around, Guest.guest_writes, Guest.looked, Rings.rings_of}
 use Rattle.vs_script.specs.Hostile.{Memory as SetMemory, Rings as SetRings, Around as OfOutside}
 use Rattle.vs_script.specs.Outside.{Turn as TakeTurn}
@@ -50,6 +51,9 @@ abbrev pub outside_does : Outside → DeviceState → HostileState → HostileSt
 outside_does TakeTurn ring s = over (turn_of ring.size s.now s.proxy) (λ t. HasTurned t) ring s
 outside_does (Reset cid) ring s = if nat_le GUEST_CID_MIN cid && nat_le cid GUEST_CID_MAX then over (proxy_reset_of cid s.proxy) (λ r. WasReset r) ring s else (s, Done)
 outside_does (Tick ms) ring s = (record s { now = min 18446744073709551615 (s.now + ms) }, Done)
+outside_does (Grow stream alloc) ring s =
+    let label = label_at stream s.host in
+    (record s { proxy = after_label_grow label alloc s.proxy }, HostPrints (growth_text (label_grow_of label alloc s.proxy)))
 outside_does Client ring s = (record s { host = after_client s.host }, StreamIs (length s.host.streams + 1))
 outside_does (OfHost line) ring s = let r = host_played line s.host in (record s { host = r.0 }, HostPrints r.1)
 

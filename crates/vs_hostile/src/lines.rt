@@ -18,7 +18,7 @@ use vs_limits::{GUEST_CID_MAX, GUEST_CID_MIN};
 use vs_outside::{Clock, MemHost, StepClock};
 use vs_proxy::{Proxy, Turn};
 use vs_report::bytes::push_data;
-use vs_report::device_lines::{push_reset, push_turn};
+use vs_report::device_lines::{push_growth, push_reset, push_turn};
 use vs_report::host_lines::{client, host_line, push_ok};
 use vs_script::{HostileLine, OutsideLine};
 
@@ -167,6 +167,10 @@ pub fn outside_line(
         OutsideLine::Tick { ms } => {
             clock.tick(*ms as u64);
             push_ok(text)
+        }
+        OutsideLine::Grow { stream, alloc } => {
+            let answer = proxy.grow_stream(host, *stream as u64, *alloc);
+            push_growth(text, answer)
         }
         OutsideLine::Client => client(host, text),
         OutsideLine::Host(line) => host_line(host, line, text),

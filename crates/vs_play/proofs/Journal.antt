@@ -18,6 +18,7 @@ line_alike (world.Guest c) p = refl
 line_alike world.Poll p = refl
 line_alike (world.TurnAt now) p = refl
 line_alike (world.ResetTo cid) p = refl
+line_alike (world.Grow stream alloc) p = refl
 line_alike world.Client p = refl
 line_alike (world.HostListen port) p = refl
 line_alike (world.HostUnlisten port) p = refl
@@ -31,6 +32,7 @@ outside_alike : (line : Outside) (p : PlayWorld) → seen (outside_played line p
 outside_alike outside.Turn p = line_alike (world.TurnAt p.moment) p
 outside_alike (outside.Reset cid) p = line_alike (world.ResetTo cid) p
 outside_alike (outside.Tick ms) p = refl
+outside_alike (outside.Grow stream alloc) p = line_alike (world.Grow stream alloc) p
 outside_alike outside.Client p = line_alike world.Client p
 outside_alike (OfHost host) p = line_alike (host_line host) p
 

@@ -1,15 +1,18 @@
 -- What a line does on one end of the rings, the host or the moment is a line of the play.
-use Rattle.std.proofs.Common.{◌≡◌, ℕ, ◌+◌, min, List, ◌++◌, length, Result, Ok, Err, OnOk, refl, sym, ap, subst, ◌∙◌}
+use Rattle.std.proofs.Common.{◌≡◌, ℕ, ◌+◌, min, List, ◌++◌, length, Option, Result, Ok, Err, OnOk, refl, sym, ap, ap₂, subst, ◌∙◌}
 use Rattle.vs_ring_list.specs.Ends.{Ends, empty_ends}
 use Rattle.vs_driver_parts.specs.{Conversations.DriverTree, Conversations.new_of, State.DriverState}
 use Rattle.vs_limits.specs.declared.TheConstants.{FIRST_PORT}
-use Rattle.vs_device_parts.specs.Calls.{DeviceTree}
+use Rattle.vs_ring_port.specs.declared.device_ring.Chain.{Chain}
+use Rattle.vs_device_parts.specs.{Calls.{DeviceTree, Situation}, Playing.IsItsRing, declared.answers.Grown.Grown}
 use Rattle.vs_outside.specs.{Host.HostContents, HostProgram.after_client}
 use Rattle.vs_proxy_parts.specs.{State.ProxyState, Turns.new_proxy, Turns.proxy_reset_of, Turns.turn_of}
-use Rattle.vs_report.specs.{DeviceLines.reset_text, DeviceLines.turn_text, HostLines.client_text, HostLines.host_played, HostLines.ok_text}
+use Rattle.vs_proxy_parts.specs.Growing.{after_label_grow, label_at, label_grow_of}
+use Rattle.laws_proxy.specs.Order.{IsInOrder}
+use Rattle.vs_report.specs.{DeviceLines.growth_text, DeviceLines.reset_text, DeviceLines.turn_text, HostLines.client_text, HostLines.host_played, HostLines.ok_text}
 use Rattle.vs_report.proofs.HostPrograms.{client_opens, host_opens}
 use Rattle.vs_script.specs.{Play.Event, Play.Around, Play.play_view, declared.outside.OutsideLine.OutsideLine, Outside.Client, Outside.Host}
-use Rattle.vs_script.specs.{Outside.OfHost, Outside.Outside, Outside.Reset, Outside.Tick, Outside.Turn, declared.play.PlayLine.PlayLine}
+use Rattle.vs_script.specs.{Outside.Grow, Outside.OfHost, Outside.Outside, Outside.Reset, Outside.Tick, Outside.Turn, declared.play.PlayLine.PlayLine}
 use Rattle.laws_world.specs.{Over.over_both, Over.over_lists, World.first_cid, World.opened_host}
 use Rattle.laws_world.proofs.StayOpen.{StayOpen}
 use Rattle.vs_play.specs.{Answer.base_path, Answer.opened_play, Lines.event_played, Told.Answers, Told.Drives, Told.Serves, Ready.IsDriven}
@@ -109,6 +112,19 @@ turn_plays p now moment s w h text text' at still ready serves =
 pub reset_plays : (cid : ℕ) (p : PlayState) (s : ProxyState) (w : Ends) (h : HostContents) (text text' : List ℕ) → IsReady p
     → Serves (proxy_reset_of cid p.proxy) reset_text s p.rings w p.host h text text' → Plays (Around (Reset cid)) p (with_device p s w h) text text'
 reset_plays cid p s w h text text' ready serves = serves_play (Around (Reset cid)) _ reset_text p s w h text text' refl ready serves
+
+-- The buffer space of a stream's connection is raised.
+pub grow_plays : (stream alloc : ℕ) (p : PlayState) (s : ProxyState) (answer : Option Grown) (text text' : List ℕ)
+    → answer ≡ label_grow_of (label_at stream p.host) alloc p.proxy → s ≡ after_label_grow (label_at stream p.host) alloc p.proxy
+    → ((held : List Chain) → IsItsRing held p.proxy.device → IsItsRing held s.device)
+    → ((first : ℕ) (a : Situation) → IsInOrder first p.proxy a → IsInOrder first s a) → IsReady p → text' ≡ text ++ growth_text answer
+    → Plays (Around (Grow stream alloc)) p (record p { proxy = s }) text text'
+grow_plays stream alloc p s answer text text' is grown ring order ready printed =
+    is_shown (Around (Grow stream alloc)) p (record p { proxy = s }) text text' (growth_text answer)
+    (ap₂ (λ (x : ProxyState) (a : Option Grown). (record p { proxy = x }, growth_text a)) (sym grown) (sym is)) printed (record {
+      driven = ready.driven;
+      served = record { chains = ring _ ready.served.chains; order = order _ _ ready.served.order };
+    })
 
 -- Time passes.
 pub tick_plays : (ms : ℕ) (p : PlayState) (moment : ℕ) (text text' : List ℕ) → moment ≡ min 18446744073709551615 (p.moment + ms)

@@ -13,6 +13,7 @@ may_outside outside.Turn b = tt
 may_outside (outside.Reset cid) b = b
 may_outside (outside.Tick ms) b = tt
 may_outside outside.Client b = tt
+may_outside (outside.Grow stream alloc) b = tt
 may_outside (outside.OfHost host) b = tt
 
 may_play : (e : Event) → IsBounded e → IsPlayable e

@@ -2,11 +2,11 @@
 use Rattle.std.specs.Prelude.{ℕ, List, [], ◌∷◌, ◌++◌, codes}
 use Rattle.vs_report.specs.{Answers.Answer, Report.nothing_counted}
 
--- A client of the host connects, and both sides talk.
+-- A client of the host connects, both sides talk, and the device tells of more buffer space.
 abbrev pub client : List ℕ
 client =
     codes "listen 1234\nclient\nhost write 1 434f4e4e45435420313233340a616263\nturn\npoll\n"
-    ++ codes "accept 1234\nsend 1 78\nturn\npoll\nrecv 1 10\n"
+    ++ codes "accept 1234\nsend 1 78\nturn\npoll\nrecv 1 10\nhost grow 1 70000\nhost grow 1 65536\nturn\npoll\n"
 
 abbrev pub client_answer : Answer
 client_answer = record {
@@ -14,7 +14,8 @@ client_answer = record {
   lines =
       codes "ok\n" ∷ codes "stream 1\n" ∷ codes "ok\n" ∷ codes "turned 0 1 13 0 1 0\n" ∷ codes "polled 1 1 0\n" ∷
       codes "conn 1 on 1234 1073741824\n" ∷ codes "took 1\n" ∷ codes "turned 2 1 3 15 0 0\n" ∷ codes "polled 1 0 0\n" ∷
-      codes "got 3 616263\n" ∷ codes "guest open 1\n" ∷ codes "device open 1\n" ∷
+      codes "got 3 616263\n" ∷ codes "ok\n" ∷ codes "shrinks 70000\n" ∷ codes "turned 0 1 0 0 0 0\n" ∷ codes "polled 1 0 0\n" ∷
+      codes "guest open 1\n" ∷ codes "device open 1\n" ∷
       codes "stream 1 1234 1073741824 wrote 3 616263 read 1 78\n" ∷ nothing_counted ∷ [];
 }
 

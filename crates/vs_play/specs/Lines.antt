@@ -5,7 +5,7 @@ use Rattle.vs_script.specs.{Data.bytes_of, Outside.Outside, Outside.Host, Play.E
 use Rattle.laws_world.specs.{Plays.Line, Plays.Said, Plays.line, World.World}
 use Rattle.laws_driver.specs.Carried.Calls.{GuestCall, ReplyTo, flow_accepted, flow_opened}
 use Rattle.vs_report.specs.GuestLines.{connect_text, listen_text, unlisten_text, accept_text, send_text, recv_text, shutdown_text}
-use Rattle.vs_report.specs.{GuestLines.{close_text, grow_text, state_text, poll_text}, DeviceLines.{turn_text, reset_text}, HostLines.ok_text}
+use Rattle.vs_report.specs.{GuestLines.{close_text, grow_text, state_text, poll_text}, DeviceLines.{growth_text, turn_text, reset_text}, HostLines.ok_text}
 use Rattle.vs_report.specs.HostLines.{client_text, write_text, stream_there_text}
 use Rattle.vs_script.specs.Outside as outside
 use Rattle.vs_script.specs.Play as script
@@ -31,6 +31,7 @@ said_text (world.Replied c reply) w = reply_text c reply w.driver
 said_text (world.HasPolled p) w = poll_text p
 said_text (world.HasTurned t) w = turn_text t
 said_text (world.WasReset r) w = reset_text r
+said_text (world.HasGrown answer) w = growth_text answer
 said_text (world.StreamIs n) w = client_text n
 said_text (world.Wrote answer) w = write_text answer
 said_text (world.IsThere found) w = stream_there_text found
@@ -62,6 +63,7 @@ abbrev pub outside_played : Outside → PlayWorld → PlayWorld × List ℕ
 outside_played outside.Turn p = played_line (world.TurnAt p.moment) p
 outside_played (outside.Reset cid) p = played_line (world.ResetTo cid) p
 outside_played (outside.Tick ms) p = (ticked ms p, ok_text)
+outside_played (outside.Grow stream alloc) p = played_line (world.Grow stream alloc) p
 outside_played outside.Client p = played_line world.Client p
 outside_played (outside.OfHost host) p = played_line (host_line host) p
 

@@ -14,6 +14,7 @@ use vs_both_ends::BothEnds;
 use vs_driver::Driver;
 use vs_outside::{Clock, MemHost, MemStream, StepClock};
 use vs_proxy::Proxy;
+use vs_report::device_lines::push_growth;
 use vs_report::giving::Totals;
 use vs_report::host_lines::{client, host_line, push_ok};
 use vs_script::{OutsideLine, PlayLine};
@@ -126,6 +127,10 @@ impl<R: BothEnds> Play<R> {
             OutsideLine::Tick { ms } => {
                 self.clock.tick(*ms as u64);
                 push_ok(text)
+            }
+            OutsideLine::Grow { stream, alloc } => {
+                let answer = self.proxy.grow_stream(&self.host, *stream as u64, *alloc);
+                push_growth(text, answer)
             }
             OutsideLine::Client => client(&mut self.host, text),
             OutsideLine::Host(line) => host_line(&mut self.host, line, text),

@@ -1,6 +1,7 @@
 //! The proxy: the device together with the handshakes of the host's clients, and its turn (Firecracker's vsock documentation).
 #![tactic(auto)]
 
+mod grow;
 mod lines;
 mod proxy;
 mod shaking;

@@ -3,7 +3,7 @@
 ghost use Rattle.std.specs.Prelude.{◌≡◌, ◌≤◌, ◌<◌, ◌+◌, ◌^◌, ◌&&◌, not, ℕ, List, Contains, length, [], true, Some, None, IfErr, OnErr, OnOk, Err};
 ghost use Rattle.std.specs.Option.{ForSome};
 ghost use Rattle.vs_contents.specs.CallTree.{Leads, for_each};
-ghost use Rattle.vs_limits.specs.declared.TheConstants.{BUF_ALLOC, GUEST_CID_MIN, GUEST_CID_MAX};
+ghost use Rattle.vs_limits.specs.declared.TheConstants.{BUF_ALLOC_MAX, GUEST_CID_MIN, GUEST_CID_MAX};
 ghost use Rattle.vs_ring_port.specs.{EndLog.EndLog, declared.failure.Failure.Failure};
 ghost use Rattle.vs_device_parts.specs.Playing.{IsItsRing, MayRun, MayRunOnHost, Runs, RunsOnHost, situation};
 ghost use Rattle.vs_device_parts.specs.{State.counters_of, Turns.table_shown, State.DeviceEntry};
@@ -193,9 +193,9 @@ impl Proxy {
         ensures countable { length result < 2 ^ 64 }
         // They are the connections that the log of an honest ring left open, and those of clients whose REQUEST isn't put.
         ensures open { (first port : ℕ) (l : EndLog) → AgreesWith first port self.now.device l → IsLeftOpen first self.now.device result l }
-        // What is pending of a connection is within the buffer space that each packet advertises.
+        // What is pending of a connection is within its buffer space, which is 262,144 bytes at most.
         ensures pending { (first port : ℕ) (l : EndLog) (e : DeviceEntry) → AgreesWith first port self.now.device l
-            → Contains self.now.device.table.entries e → length e.value.pending ≤ BUF_ALLOC }
+            → Contains self.now.device.table.entries e → (length e.value.pending ≤ e.value.end.credit.alloc) × (e.value.end.credit.alloc ≤ BUF_ALLOC_MAX) }
     {
         self.device.table()
     }

@@ -1,5 +1,7 @@
--- What the lines print that are the device's turns and resets, each with its LF.
-use Rattle.std.specs.Prelude.{ℕ, List, ◌++◌, codes, decimal, Result, Ok, Err}
+-- What the lines print that are the device's turns, resets and growths, each with its LF.
+use Rattle.std.specs.Prelude.{ℕ, List, ◌++◌, codes, decimal, Option, Some, None, Result, Ok, Err}
+use Rattle.vs_device_parts.specs.declared.answers.Grown.{Grown}
+use Rattle.vs_device_parts.specs.declared.answers.Grown.TheVariants as rise
 use Rattle.vs_proxy_parts.specs.declared.answers.Turn.{Turn}
 use Rattle.vs_proxy_parts.specs.declared.answers.Turn.TheVariants as turn
 use Rattle.vs_ring_port.specs.declared.failure.Failure.{Failure}
@@ -46,3 +48,13 @@ turn_text (turn.Failed f) = failure_text f
 abbrev pub reset_text : Result (Unit {0}) Failure → List ℕ
 reset_text (Ok x) = codes "ok\n"
 reset_text (Err f) = failure_text f
+
+-- host grow H N: what was answered, where there is such a stream
+abbrev pub growth_text : Option Grown → List ℕ
+growth_text None = codes "no stream\n"
+growth_text (Some rise.Done) = codes "ok\n"
+growth_text (Some rise.Unknown) = codes "unknown\n"
+growth_text (Some rise.NotOpen) = codes "not open\n"
+growth_text (Some rise.Reset) = codes "reset\n"
+growth_text (Some (rise.TooBig most)) = codes "too big " ++ decimal most ++ codes "\n"
+growth_text (Some (rise.Shrinks now)) = codes "shrinks " ++ decimal now ++ codes "\n"

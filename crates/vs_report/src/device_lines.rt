@@ -1,11 +1,12 @@
-//! What the lines print that are the device's turns and resets.
+//! What the lines print that are the device's turns, resets and growths.
 
 ghost use Rattle.std.specs.Prelude.{◌≡◌, ◌++◌, OnOk, string_bytes};
 ghost use Rattle.vs_report.specs.DeviceLines.{one_value_text, two_values_text, failure_text, moved_text, turn_text, turned_text};
-ghost use Rattle.vs_report.specs.DeviceLines.{reset_text};
+ghost use Rattle.vs_report.specs.DeviceLines.{growth_text, reset_text};
 
 use crate::number::{push_last, push_number};
 use std::alloc::AllocError;
+use vs_device_parts::answers::Grown;
 use vs_proxy_parts::answers::Turn;
 use vs_ring_port::Failure;
 
@@ -96,4 +97,19 @@ fn push_two(out: &mut String, name: &str, first: u64, second: u64) -> Result<(),
     out.push_str(name)?;
     push_number(out, " ", first)?;
     push_last(out, " ", second)
+}
+
+/// `host grow H N`: what was answered, where there is such a stream.
+pub fn push_growth(out: &mut String, answer: Option<Grown>) -> Result<(), AllocError>
+    ensures { OnOk result (string_bytes out.new ≡ string_bytes out.old ++ growth_text answer) }
+{
+    match answer {
+        None => out.push_str("no stream\n"),
+        Some(Grown::Done) => out.push_str("ok\n"),
+        Some(Grown::Unknown) => out.push_str("unknown\n"),
+        Some(Grown::NotOpen) => out.push_str("not open\n"),
+        Some(Grown::Reset) => out.push_str("reset\n"),
+        Some(Grown::TooBig { most }) => push_last(out, "too big ", most as u64),
+        Some(Grown::Shrinks { now }) => push_last(out, "shrinks ", now as u64),
+    }
 }

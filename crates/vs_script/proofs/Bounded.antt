@@ -2,7 +2,7 @@
 use Rattle.std.proofs.Common.{◌≡◌, ◌≤◌, ◌&&◌, if◌then◌else◌, ℕ, nat_le, nat_lt, Bool, true, false, List, [], ◌∷◌, ◌++◌, map, length, Option}
 use Rattle.std.proofs.{Common.{Some, None, Result, Ok, Err, codes, bytes_eq, refl, subst, arith}, lemmas.Bool.Decides.nat_tests}
 use Rattle.vs_limits.specs.declared.TheConstants.{GUEST_CID_MIN, GUEST_CID_MAX}
-use Rattle.vs_script.specs.{Bounds.{AreBounded, IsBounded}, Text.{is_empty, words_of}, Outside.{Outside, host_line, outside_line}}
+use Rattle.vs_script.specs.{Bounds.{AreBounded, IsBounded}, Text.{is_empty, words_of}, Outside.{Outside, around_host, host_line, outside_line}}
 use Rattle.vs_script.specs.{Play.{Event, named_line, play_line}, declared.fault.Refused.Refused, declared.fault.Why.Why}
 use Rattle.vs_script.specs.{declared.fault.Why.TheVariants.BadNumber, declared.outside.TheConstants.MAX_FILL}
 use Rattle.vs_script.specs.{declared.words.TheConstants.MAX_BITS, Field.{Read, after, held, ending, word, is_numeral, number_in, number}}
@@ -82,6 +82,12 @@ number_alone low high P f words each =
 abbrev IsBoundedAround : Outside → Type 0
 IsBoundedAround line = IsBounded (script.Around line)
 
+host_bounded : (act : List ℕ) (words : List (List ℕ)) → Holds IsBoundedAround (around_host act words)
+host_bounded act words =
+    holds_if IsBoundedAround (bytes_eq act (codes "grow")) _ _
+    (holds_behind IsBoundedAround (id words) _ (λ stream rest. holds_always IsBoundedAround (outside.Grow stream) _ (λ alloc. tt)))
+    (holds_always IsBoundedAround outside.OfHost (host_line act words) (λ line. tt))
+
 outside_bounded : (name : List ℕ) (words : List (List ℕ)) → Holds IsBoundedAround (outside_line name words)
 outside_bounded name words =
     holds_if IsBoundedAround (bytes_eq name (codes "turn")) _ _ (holds_ending IsBoundedAround outside.Turn words tt)
@@ -89,7 +95,7 @@ outside_bounded name words =
     (holds_if IsBoundedAround (bytes_eq name (codes "tick")) _ _ (holds_always IsBoundedAround outside.Tick _ (λ ms. tt))
     (holds_if IsBoundedAround (bytes_eq name (codes "client")) _ _ (holds_ending IsBoundedAround outside.Client words tt)
     (holds_if IsBoundedAround (bytes_eq name (codes "host")) _ _
-    (holds_behind IsBoundedAround (word words) _ (λ act rest. holds_always IsBoundedAround outside.OfHost (host_line act rest) (λ line. tt))) tt))))
+    (holds_behind IsBoundedAround (word words) around_host host_bounded) tt))))
 
 line_bounded : (name : List ℕ) (words : List (List ℕ)) → Holds IsBounded (named_line name words)
 line_bounded name words =

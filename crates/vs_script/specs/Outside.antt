@@ -1,6 +1,6 @@
 -- Lines on what surrounds the guest's driver: the device, the moment, and the programs of the host.
 use Rattle.std.specs.Prelude.{ℕ, if◌then◌else◌, List, codes, bytes_eq, Result, Err}
-use Rattle.vs_script.specs.declared.{fault.Why.Why, fault.Why.TheVariants.BadWord, outside.HostLine.HostLine, outside.TheConstants.MAX_FILL}
+use Rattle.vs_script.specs.declared.{fault.Why.Why, fault.Why.TheVariants.BadWord, outside.HostLine.HostLine, outside.TheConstants.{MAX_FILL, MAX_GROW}}
 use Rattle.vs_script.specs.{declared.outside.TheConstants.{MAX_TICK, MAX_ALLOW, MAX_FAIL}, Data.{Content, content_of}, Field.after}
 use Rattle.vs_script.specs.{Field.{ending, word, number, port, id, content, only, named}, declared.outside.OutsideLine.OutsideLine}
 use Rattle.vs_limits.specs.declared.TheConstants.{GUEST_CID_MIN, GUEST_CID_MAX}
@@ -17,12 +17,14 @@ pub data Host : Type 0 where
   HostClosed : (stream : ℕ) → Host
   HostFail : (n : ℕ) → Host
 
--- The device's turn, a transport reset, time that passes, a client that connects, or what programs of the host do.
+-- The device's turn, a transport reset, time that passes, a client that connects, a connection's buffer space that the device raises, or what
+-- programs of the host do.
 pub data Outside : Type 0 where
   Turn : Outside
   Reset : (cid : ℕ) → Outside
   Tick : (ms : ℕ) → Outside
   Client : Outside
+  Grow : (stream : ℕ) → (alloc : ℕ) → Outside
   OfHost : Host → Outside
 
 -- The same, as the program holds them.
@@ -40,6 +42,7 @@ outside_view outside.Turn = Turn
 outside_view (outside.Reset cid) = Reset cid
 outside_view (outside.Tick ms) = Tick ms
 outside_view outside.Client = Client
+outside_view (outside.Grow stream alloc) = Grow stream alloc
 outside_view (outside.Host line) = OfHost (host_view line)
 
 -- host write H DATA, behind `write`
@@ -60,12 +63,18 @@ stream_line act words =
     else if bytes_eq act (codes "fail") then named HostFail (only (number 1 MAX_FAIL) words)
     else Err BadWord
 
--- The lines that begin with `host`, by the word behind it.
+-- The lines that begin with `host` and tell of a program, by the word behind it.
 abbrev pub host_line : List ℕ → List (List ℕ) → Result Host Why
 host_line act words =
     if bytes_eq act (codes "listen") then named HostListen (only port words)
     else if bytes_eq act (codes "unlisten") then named HostUnlisten (only port words)
     else stream_line act words
+
+-- grow H N, and the lines on programs, behind `host`.
+abbrev pub around_host : List ℕ → List (List ℕ) → Result Outside Why
+around_host act words =
+    if bytes_eq act (codes "grow") then after (id words) (λ stream rest. named (Grow stream) (only (number 1 MAX_GROW) rest))
+    else named OfHost (host_line act words)
 
 -- turn, reset CID, tick MS, client, and the lines of the host, by their name.
 abbrev pub outside_line : List ℕ → List (List ℕ) → Result Outside Why
@@ -74,5 +83,5 @@ outside_line name words =
     else if bytes_eq name (codes "reset") then named Reset (only (number GUEST_CID_MIN GUEST_CID_MAX) words)
     else if bytes_eq name (codes "tick") then named Tick (only (number 0 MAX_TICK) words)
     else if bytes_eq name (codes "client") then ending Client words
-    else if bytes_eq name (codes "host") then after (word words) (λ act rest. named OfHost (host_line act rest))
+    else if bytes_eq name (codes "host") then after (word words) around_host
     else Err BadWord

@@ -2,7 +2,7 @@
 use Rattle.std.specs.Prelude.{ℕ, if◌then◌else◌, List, codes, bytes_eq, Result}
 use Rattle.vs_script.specs.{Data.Content, Data.content_of, Field.after, Field.ending, Field.word, Field.number, Field.port, Field.id}
 use Rattle.vs_script.specs.{Field.bits, Field.content, Field.only, Field.named, Outside.Outside, Outside.outside_view, Outside.outside_line}
-use Rattle.vs_script.specs.declared.{fault.Why.Why, outside.TheConstants.MAX_FILL, play.PlayLine.PlayLine, play.TheConstants.MAX_GROW, play.TheConstants.MAX_RECV}
+use Rattle.vs_script.specs.declared.{fault.Why.Why, outside.TheConstants.{MAX_FILL, MAX_GROW}, play.PlayLine.PlayLine, play.TheConstants.MAX_RECV}
 use Rattle.vs_script.specs.declared.play.PlayLine.TheVariants as code
 
 -- What the guest does, or what happens around it.

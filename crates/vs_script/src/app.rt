@@ -6,7 +6,7 @@ ghost use Rattle.vs_script.specs.App.{instruction_view, run_view, instruction_li
 
 use crate::data::Data;
 use crate::fault::{LineFault, Why};
-use crate::play::MAX_GROW;
+use crate::outside::MAX_GROW;
 use crate::words::{MAX_BITS, Words, is};
 use std::alloc::Global;
 

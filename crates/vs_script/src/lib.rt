@@ -13,7 +13,8 @@
 //! play      connect PORT, listen PORT, unlisten PORT, accept PORT, send C DATA, recv C N (1 to 65,536), shutdown C B,
 //!           grow C N (1 to 1,000,000), close C, state C, poll, and the lines that follow
 //!           turn, reset CID (3 to 4,294,967,294), tick MS (0 to 1,000,000), client, host listen PORT, host unlisten PORT,
-//!           host write H DATA, host allow H N (0 to 1,000,000), host end H, host closed H, host fail N (1 to 1,000)
+//!           host write H DATA, host allow H N (0 to 1,000,000), host end H, host closed H, host fail N (1 to 1,000),
+//!           host grow H N (1 to 1,000,000)
 //!
 //! run       app, and behind it the instructions of the app: connect PORT, listen PORT, accept PORT, send DATA,
 //!           recv N (1 to 1,000,000), drain, exchange DATA, shutdown B, grow N (1 to 1,000,000), close

@@ -2,7 +2,7 @@
 
 ghost use Rattle.std.specs.Prelude.{◌≡◌, IfOk, IfErr, Ok, Err};
 ghost use Rattle.vs_script.specs.Field.{IsFault};
-ghost use Rattle.vs_script.specs.Outside.{host_view, outside_view, host_line, stream_line, host_write, host_allow, outside_line};
+ghost use Rattle.vs_script.specs.Outside.{around_host, host_view, outside_view, host_line, stream_line, host_write, host_allow, outside_line};
 
 use crate::data::Data;
 use crate::fault::{LineFault, Why};
@@ -12,6 +12,9 @@ use vs_limits::{GUEST_CID_MAX, GUEST_CID_MIN};
 
 /// The most bytes that a line of a play or of a hostile guest fills.
 pub const MAX_FILL: u32 = 65_536;
+
+/// The most that one `grow` asks for.
+pub(crate) const MAX_GROW: u32 = 1_000_000;
 
 /// The most milliseconds that a `tick` lets pass.
 const MAX_TICK: u32 = 1_000_000;
@@ -33,6 +36,8 @@ pub enum OutsideLine {
     Tick { ms: u32 },
     /// `client`: a program of the host connects to the base path.
     Client,
+    /// `host grow H N`: the device raises the buffer space of a stream's connection to N bytes, 1 to 1,000,000 in a script.
+    Grow { stream: u32, alloc: u32 },
     /// `host ..`: what programs of the host do.
     Host(HostLine),
 }
@@ -75,14 +80,28 @@ pub fn outside_line(alloc: Global, name: &[u8], words: &mut Words) -> Result<Out
         Ok(OutsideLine::Client)
     } else if is(name, b"host") {
         let act = words.word()?;
-        let line = host_line(alloc, act, words)?;
-        Ok(OutsideLine::Host(line))
+        around_host(alloc, act, words)
     } else {
         Err(LineFault::Refused(Why::BadWord))
     }
 }
 
-/// What a line says behind `host` and the name of an act.
+/// What a line says behind `host` and the name of an act, of the device or of a program.
+fn around_host(alloc: Global, act: &[u8], words: &mut Words) -> Result<OutsideLine, LineFault>
+    ensures ok { IfOk result (λ line. around_host act.now words.old ≡ Ok (outside_view line)) }
+    ensures fault { IfErr result (IsFault (around_host act.now words.old)) }
+{
+    if is(act, b"grow") {
+        let stream = words.id()?;
+        let n = words.only_number32(1, MAX_GROW)?;
+        Ok(OutsideLine::Grow { stream, alloc: n })
+    } else {
+        let line = host_line(alloc, act, words)?;
+        Ok(OutsideLine::Host(line))
+    }
+}
+
+/// What a line says behind `host` and the name of an act of a program.
 fn host_line(alloc: Global, act: &[u8], words: &mut Words) -> Result<HostLine, LineFault>
     ensures ok { IfOk result (λ line. host_line act.now words.old ≡ Ok (host_view line)) }
     ensures fault { IfErr result (IsFault (host_line act.now words.old)) }

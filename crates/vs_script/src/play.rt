@@ -6,15 +6,12 @@ ghost use Rattle.vs_script.specs.Play.{play_view, play_line, named_line, connect
 
 use crate::data::Data;
 use crate::fault::LineFault;
-use crate::outside::{MAX_FILL, OutsideLine, outside_line};
+use crate::outside::{MAX_FILL, MAX_GROW, OutsideLine, outside_line};
 use crate::words::{MAX_BITS, Words, is};
 use std::alloc::Global;
 
 /// The most bytes that one `recv` of a play asks for.
 const MAX_RECV: u32 = 65_536;
-
-/// The most that one `grow` asks for.
-pub(crate) const MAX_GROW: u32 = 1_000_000;
 
 /// An event line of a play.
 #[derive(Drop)]

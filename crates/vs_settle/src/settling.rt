@@ -98,10 +98,10 @@ fn last_round<N: RunName, H: HostNet>(
     Ok(None)
 }
 
-/// Rounds of the apps, the device and the driver, until one moved nothing that began with no transmit page in flight: a step of each app, a turn, and a
-/// poll, where each end is told of what the other did between them. Then each app is done or waited in its last step, no packet is in a ring, nothing is owed at either end, and both
-/// tables hold the same connections, each Live at both ends. Answers how many packets and events each end put and got, modulo 2^64. It runs
-/// on while something moves.
+/// Rounds of the apps, the device and the driver, until one moved nothing that began with a transmit page free: a step of each app, a turn, and
+/// a poll, where each end is told of what the other did between them. Then each app is done or waited in its last step, no packet is in a ring,
+/// nothing is owed at either end, and both tables hold the same connections, each Live at both ends. Answers how many packets and events each
+/// end put and got, modulo 2^64. It runs on while something moves.
 ///
 /// The only error is want of memory.
 pub fn settle<W: Wait, N: RunName, H: HostNet, C: Clock>(

@@ -1,14 +1,17 @@
 -- What calls on the ring carry to their ends.
-use Rattle.std.proofs.Common.{ℕ, ◌<◌, ◌≤◌, ◌^◌, List, Result, refl}
+use Rattle.std.proofs.Common.{◌≡◌, ℕ, ◌<◌, ◌≤◌, ◌^◌, List, [], Result, refl}
 use Rattle.vs_limits.specs.declared.TheConstants.{LAST_PORT}
+use Rattle.laws_history.specs.History.{Answerer, Asker, Side}
+use Rattle.vs_page.specs.{Fair.instance_from, Fair.payload_of, Log.Driver, Log.side_of}
 use Rattle.vs_ring_port.specs.Contents.{RingContents}
 use Rattle.vs_driver_parts.specs.{declared.answers.{ConnectError.ConnectError, Polled.Polled, Sent.Sent}, Conversations.connect_of}
-use Rattle.vs_driver_parts.specs.{Conversations.{new_of, poll_of, send_of}, Playing.Plays, State.DriverState}
+use Rattle.vs_driver_parts.specs.{Conversations.{new_of, new_state, poll_of, send_of}, Playing.Plays, State.DriverState}
 use Rattle.laws_driver.proofs.{Polling.poll_keeps, Calls.connect_keeps, Calls.new_keeps, Calls.send_keeps, Carrying.Fact, Keeping.keeps_end}
 use Rattle.laws_driver.proofs.{Ringing.at_rest, Staging.Rests}
 use Rattle.laws_driver.proofs.Carried.{Connecting.{connect_carries, none_received}, Polling.{Further, poll_carries}, Changing.send_receives}
 use Rattle.laws_driver.specs.Honest.{IsFresh, IsHonestWith, slots_of}
 use Rattle.laws_driver.specs.Carried.Received.{Account, AreReceived, GoesOnWith, IsReceivedWith, no_account}
+use Rattle.laws_driver.specs.Carried.Senders.{IsRightJournal, IsRightWith}
 
 abbrev pub received_by : Account → Fact
 received_by a part s log = AreReceived a log (slots_of s)
@@ -41,10 +44,24 @@ connect_ends first host a s c d x port honest account plays = λ on l is.
     (connect_keeps first host (Further a) _ (connect_carries first host a) s c port (further_from first a s c honest account)) plays in
     (kept on l is).1
 
-pub new_ends : (size port id : ℕ) (c d : RingContents) (s : DriverState) → port ≤ LAST_PORT → IsFresh c → Plays (new_of size port id) c s d
-    → IsReceivedWith (no_account id) s d
-new_ends size port id c d s fits fresh plays = λ on l is.
-    let kept : Rests s.cid (received_by (no_account id)) s d =
-    keeps_end (λ t e. Rests t.cid (received_by (no_account id)) t e) (new_of size port id) c d s
-    (new_keeps size port id fits (received_by (no_account id)) (λ cid. none_received size port id) c fresh) plays in
+-- Nothing was sent before the first call.
+none_put : (side : Side) (k : ℕ) → payload_of (instance_from side k []) ≡ []
+none_put Asker k = refl
+none_put Answerer k = refl
+
+pub none_righted : (size port id : ℕ) → IsRightJournal id (no_account id).opened [] [] (slots_of (new_state size port id 0))
+none_righted size port id = record {
+  received = none_received size port id;
+  sent = record { senders = tt; puts = λ k. none_put (side_of Driver k.flow) k.number };
+}
+
+abbrev starts : ℕ → Fact
+starts id part s log = IsRightJournal id (no_account id).opened [] log (slots_of s)
+
+pub new_righted : (size port id : ℕ) (c d : RingContents) (s : DriverState) → port ≤ LAST_PORT → IsFresh c → Plays (new_of size port id) c s d
+    → IsRightWith id (no_account id).opened [] s d
+new_righted size port id c d s fits fresh plays = λ on l is.
+    let kept : Rests s.cid (starts id) s d =
+    keeps_end (λ t e. Rests t.cid (starts id) t e) (new_of size port id) c d s
+    (new_keeps size port id fits (starts id) (λ cid. none_righted size port id) c fresh) plays in
     (kept on l is).1

@@ -1,24 +1,17 @@
--- Over any ring a conversation leaves a ring honest that was, and adds to the log that it tells.
-use Rattle.std.proofs.Common.{◌≡◌, ℕ, Option, Some, None, List, [], ◌∷◌, ◌++◌, refl, sym, ap, subst, ◌∙◌, append_assoc}
+-- Over any ring a conversation leaves it as honest as it was and its log fair, and adds to the log that it tells.
+use Rattle.std.proofs.Common.{◌≡◌, ℕ, true, Option, Some, None, List, [], ◌∷◌, refl, sym, subst, ◌∙◌}
+use Rattle.std.specs.Option.{ForSome}
 use Rattle.vs_contents.specs.{CallTree.Ask, CallTree.Done, Contents.Exposes}
 use Rattle.laws_history.specs.declared.packet.Packet.{Packet}
-use Rattle.vs_page.specs.{Held.event_held, Held.packet_held, Log.Log, declared.log.LogEntry.LogEntry}
+use Rattle.vs_page.specs.{Held.event_held, Held.packet_held, Log.Driver, Log.Log, declared.log.LogEntry.LogEntry}
 use Rattle.vs_page.specs.declared.log.LogEntry.TheVariants.{GotEvent, GotPacket, Mark, PutPacket}
-use Rattle.vs_ring_port.specs.{Contents.RingContents, DriverCalls.{DriverAnswer, DriverCall, LoadCid, Publish, Reap, Stage}, EndLog.EndLog}
-use Rattle.vs_ring_port.specs.EndLog.{all_put, entries_marked, entries_published, entries_reaped, log_loaded, log_published, log_reaped}
-use Rattle.vs_ring_port.specs.{EndLog.{log_staged, pages_at, with_event, with_packet}, declared.queue.Queue.Queue}
+use Rattle.vs_ring_port.specs.{Contents.{IsSound, RingContents}, DriverCalls.{DriverAnswer, DriverCall, DriverMoves, LoadCid, Publish, Reap, Stage}}
+use Rattle.vs_ring_port.specs.EndLog.{EndLog, all_put, entries_marked, entries_published, entries_reaped, log_loaded, log_published, log_reaped}
+use Rattle.vs_ring_port.specs.{EndLog.{log_staged, pages_at, with_event, with_packet}, Lists.Rings, declared.queue.Queue.Queue}
 use Rattle.vs_ring_port.specs.declared.queue.Queue.TheVariants.{Event, Rx, Tx}
 use Rattle.vs_driver_parts.specs.{Conversations.DriverTree, Playing.Plays, Playing.RingAllows}
-use Rattle.laws_driver.specs.Carried.Sent.{IsLater, TellsMore}
-
-one_honest : (call : DriverCall) (a : DriverAnswer call) (c d : RingContents) → RingAllows call a c d → d.honest ≡ c.honest
-one_honest (Stage queue page) a c d allowed = allowed.honest
-one_honest x a c d allowed = allowed.1.honest
-
-pub honest_stays : {A : Type 0} (tree : DriverTree A) (c d : RingContents) (x : A) → Plays tree c x d → d.honest ≡ c.honest
-honest_stays (Done y) c d x plays = ap (λ (r : RingContents). r.honest) (sym plays.1)
-honest_stays (Ask call next) c d x plays =
-    honest_stays (next plays.0) plays.1 d x plays.3 ∙ one_honest call plays.0 c plays.1 plays.2
+use Rattle.laws_tables.{specs.Later.IsLater, specs.Later.StaysShut, proofs.Later.later_then, proofs.Later.stays_shut}
+use Rattle.laws_driver.specs.Carried.Sent.{TellsMore}
 
 -- Entries that come behind others.
 packet_later : (entry : Packet → LogEntry) (o : Option Packet) (log : Log) → IsLater log (with_packet entry o log)
@@ -28,10 +21,6 @@ packet_later entry (Some p) log = (entry p ∷ [], refl)
 event_later : (o : Option ℕ) (log : Log) → IsLater log (with_event (λ id. GotEvent id) o log)
 event_later None log = ([], refl)
 event_later (Some id) log = (GotEvent id ∷ [], refl)
-
-later_then : (a b c : Log) → IsLater a b → IsLater b c → IsLater a c
-later_then a b c first next =
-    (next.0 ++ first.0, next.1 ∙ ap (λ (log : Log). next.0 ++ log) first.1 ∙ sym (append_assoc next.0 first.0 a))
 
 put_later : (pages : List (List ℕ)) (log : Log) → IsLater log (all_put pages log)
 put_later [] log = ([], refl)
@@ -54,27 +43,24 @@ marked_later : (cid : ℕ) (log : Log) → IsLater log (entries_marked cid log)
 marked_later cid [] = ([], refl)
 marked_later cid (entry ∷ log) = (Mark cid ∷ [], refl)
 
-one_later : (call : DriverCall) (a : DriverAnswer call) (c d : RingContents) → RingAllows call a c d → TellsMore c.log d.log
-one_later (Stage queue page) a c d allowed = by c.log allowed.log
+-- What a conversation leaves of a ring.
+abbrev pub GoesOn : RingContents → RingContents → Type 0
+GoesOn c d = (d.honest ≡ c.honest) × (IsSound Driver c → IsSound Driver d) × TellsMore c.log d.log
+
+moved : (call : DriverCall) (a : DriverAnswer call) (L : Rings → Type 0) (f : Rings → Rings) (Q : EndLog → Type 0) (g : EndLog → EndLog)
+    (c d : RingContents) → DriverMoves call a L f Q g c d → ((l : EndLog) → IsLater l.entries (g l).entries) → GoesOn c d
+moved call a L f Q g c d made later = (made.honest, λ was. made.fair, told c.log made.log)
   where
-    by : (o : Option EndLog) → Exposes o d.log (λ l. Unit {0}) (log_staged queue page) → TellsMore o d.log
-    by None is = is
-    by (Some l) is = subst (TellsMore (Some l)) (sym is.1) ([], refl)
-one_later (Publish queue) a c d allowed = by c.log allowed.1.log
-  where
-    by : (o : Option EndLog) → Exposes o d.log (λ l. allowed.0 ≡ pages_at queue l.staged) (log_published queue) → TellsMore o d.log
-    by None is = is
-    by (Some l) is = subst (TellsMore (Some l)) (sym is.1) (published_later queue (pages_at queue l.staged) l.entries)
-one_later (Reap queue) a c d allowed = by c.log allowed.1.log
-  where
-    by : (o : Option EndLog) → Exposes o d.log (λ l. Unit {0}) (log_reaped queue a) → TellsMore o d.log
-    by None is = is
-    by (Some l) is = subst (TellsMore (Some l)) (sym is.1) (reaped_later queue a l.entries)
-one_later LoadCid a c d allowed = by c.log allowed.1.log
-  where
-    by : (o : Option EndLog) → Exposes o d.log (λ l. Unit {0}) (log_loaded a) → TellsMore o d.log
-    by None is = is
-    by (Some l) is = subst (TellsMore (Some l)) (sym is.1) (marked_later a l.entries)
+    told : (o : Option EndLog) → Exposes o d.log Q g → TellsMore o d.log
+    told None is = is
+    told (Some l) is = subst (TellsMore (Some l)) (sym is.1) (later l)
+
+one_goes : (call : DriverCall) (a : DriverAnswer call) (c d : RingContents) → RingAllows call a c d → GoesOn c d
+one_goes (Stage queue page) a c d allowed = moved _ _ _ _ _ (log_staged queue page) c d allowed (λ l. ([], refl))
+one_goes (Publish queue) a c d allowed =
+    moved _ _ _ _ _ (log_published queue) c d allowed.1 (λ l. published_later queue (pages_at queue l.staged) l.entries)
+one_goes (Reap queue) a c d allowed = moved _ _ _ _ _ (log_reaped queue a) c d allowed.1 (λ l. reaped_later queue a l.entries)
+one_goes LoadCid a c d allowed = moved _ _ _ _ _ (log_loaded a) c d allowed.1 (λ l. marked_later a l.entries)
 
 more_then : (a b c : Option EndLog) → TellsMore a b → TellsMore b c → TellsMore a c
 more_then None None c first next = next
@@ -87,7 +73,24 @@ same_more : (o : Option EndLog) → TellsMore o o
 same_more None = refl
 same_more (Some l) = ([], refl)
 
-pub log_grows : {A : Type 0} (tree : DriverTree A) (c d : RingContents) (x : A) → Plays tree c x d → TellsMore c.log d.log
-log_grows (Done y) c d x plays = subst (λ (r : RingContents). TellsMore c.log r.log) plays.1 (same_more c.log)
-log_grows (Ask call next) c d x plays =
-    more_then c.log plays.1.log d.log (one_later call plays.0 c plays.1 plays.2) (log_grows (next plays.0) plays.1 d x plays.3)
+pub goes_on : {A : Type 0} (tree : DriverTree A) (c d : RingContents) (x : A) → Plays tree c x d → GoesOn c d
+goes_on (Done y) c d x plays = subst (GoesOn c) plays.1 (refl, λ sound. sound, same_more c.log)
+goes_on (Ask call next) c d x plays =
+    let first = one_goes call plays.0 c plays.1 plays.2 in
+    let rest = goes_on (next plays.0) plays.1 d x plays.3 in
+    (rest.0 ∙ first.0, λ sound. rest.1 (first.1 sound), more_then c.log plays.1.log d.log first.2 rest.2)
+
+pub honest_stays : {A : Type 0} (tree : DriverTree A) (c d : RingContents) (x : A) → Plays tree c x d → d.honest ≡ c.honest
+honest_stays tree c d x plays = (goes_on tree c d x plays).0
+
+-- Nothing more is put on a connection after the SHUTDOWN that says 'no more is sent', by no call.
+later_by : (old : EndLog) (o p : Option EndLog) (m : EndLog) → o ≡ Some old → p ≡ Some m → TellsMore o p → IsLater old.entries m.entries
+later_by old o p m is told more =
+    let P : Option EndLog → Type 0 = λ q. TellsMore q p in
+    let Q : Option EndLog → Type 0 = λ q. TellsMore (Some old) q in
+    subst Q told (subst P is more)
+
+pub shut_still : {A : Type 0} (tree : DriverTree A) (c d : RingContents) (x : A) → IsSound Driver c → Plays tree c x d → c.honest ≡ true
+    → ForSome c.log (λ l. ForSome d.log (λ m. StaysShut Driver l.entries m.entries))
+shut_still tree c d x sound plays = λ on l is m told. let went = goes_on tree c d x plays in
+    stays_shut Driver l.entries m.entries (later_by l c.log d.log m is told went.2) (went.1 sound (went.0 ∙ on) m told)

@@ -1,19 +1,19 @@
 -- A journal stays right, once a call was made with its reply, and over a poll.
-use Rattle.std.proofs.Common.{◌≡◌, ℕ, ◌≤◌, true, List, ◌++◌, Option, Some, None, sym, ap, refl, ◌∙◌, append-nil}
+use Rattle.std.proofs.Common.{◌≡◌, ℕ, ◌≤◌, true, Option, Some, None, sym, refl, ◌∙◌, append-nil}
 use Rattle.vs_flow.specs.Connection.{Connection}
 use Rattle.vs_page.specs.Log.{Log}
 use Rattle.vs_ring_port.specs.{Contents.RingContents, EndLog.EndLog}
 use Rattle.vs_driver_parts.specs.{Conversations.{DriverTree, poll_of}, Playing.Plays, State.DriverState, declared.answers.Polled.Polled}
 use Rattle.laws_driver.specs.Honest.{IsHonestWith, slots_of}
-use Rattle.laws_driver.specs.Carried.Calls.{GuestCall, Journal, ReplyTo, account_of, is_right, makes_call, received_by, sent_of, whole_call, with_call}
-use Rattle.laws_driver.specs.Carried.{Received.Account, Received.AreReceived, Senders.GoesRightWith, Senders.IsRightWith, Senders.sent_to, Sent.TellsMore}
-use Rattle.laws_driver.proofs.Carried.{Ending.poll_ends, Growing.{honest_stays, log_grows}, Journaling.{Carried, journaled, sent_just}, Making.{further_as, made_with, whole_with}}
-use Rattle.laws_driver.proofs.Carried.{Senders.{Says, call_says, same_sent, step_says, still_senders}, Sending.poll_sent}
+use Rattle.laws_driver.specs.Carried.Calls.{GuestCall, Journal, ReplyTo, account_of, is_right, makes_call, received_by, whole_call, with_call}
+use Rattle.laws_driver.specs.Carried.{Received.Account, Received.AreReceived, Senders.GoesRightWith, Senders.IsRightWith, Sent.TellsMore}
+use Rattle.laws_driver.proofs.Carried.{Ending.poll_ends, Growing.{goes_on, honest_stays}, Journaling.{Carried, journaled, sent_just}, Making.{further_as, made_with, whole_with}}
+use Rattle.laws_driver.proofs.Carried.{Senders.{Says, call_says, sent_more, step_says, still_sent}, Sending.poll_sent}
 
 -- A log that is told after a conversation was told before it.
 pub told_before : {A : Type 0} (tree : DriverTree A) (c d : RingContents) (x : A) → Plays tree c x d → (m : EndLog) → d.log ≡ Some m
     → (l : EndLog) × (c.log ≡ Some l)
-told_before tree c d x plays m is = by c.log refl (log_grows tree c d x plays)
+told_before tree c d x plays m is = by c.log refl (goes_on tree c d x plays).2
   where
     by : (o : Option EndLog) → c.log ≡ o → TellsMore o d.log → (l : EndLog) × (c.log ≡ Some l)
     by None log more = let e : None ≡ Some m = sym more ∙ is in absurd cc
@@ -37,12 +37,7 @@ module _ (first : ℕ) (call : GuestCall) (tree : DriverTree (DriverState × Rep
         now.1,
         record {
           received = now.2;
-          sent = record {
-            senders = (told.0, still_senders opened now.0 now.1 journal was.sent.senders);
-            puts = λ k. puts k
-                ∙ ap (λ (xs : List ℕ). xs ++ sent_of call x.1 s l.entries k) (was.sent.puts k ∙ same_sent opened now.0 now.1 k journal was.sent.senders)
-                ∙ ap (λ (xs : List ℕ). sent_to now.0 k journal ++ xs) (told.1 k);
-          };
+          sent = sent_more opened now.0 now.1 journal call s x.1 l.entries m.entries puts told was.sent;
         },
       )
 
@@ -72,9 +67,6 @@ poll_righted first first_id opened journal s c d x honest right plays = λ on m 
       now.1.opened,
       record {
         received = further_as (account_of first_id opened journal) now.0 (λ id. received_by id journal) m.entries (slots_of x.0) now.1 (λ id. refl) now.2;
-        sent = record {
-          senders = still_senders opened now.0.opened now.1.opened journal was.sent.senders;
-          puts = λ k. puts k ∙ append-nil _ ∙ was.sent.puts k ∙ same_sent opened now.0.opened now.1.opened k journal was.sent.senders;
-        };
+        sent = still_sent opened now.0.opened now.1.opened journal l.entries m.entries (λ k. puts k ∙ append-nil _) was.sent;
       },
     )

@@ -5,16 +5,16 @@ use Rattle.std.specs.Prelude.{is_some}
 use Rattle.vs_contents.specs.CallTree.{Done}
 use Rattle.vs_flow.specs.Connection.{Connection}
 use Rattle.vs_flow.proofs.Entries.{found_passes}
-use Rattle.vs_page.specs.{Fair.current, Log.Driver, Log.Log}
+use Rattle.vs_page.specs.{Fair.current, Fair.payload_put, Log.Driver, Log.Log}
 use Rattle.vs_ring_port.specs.Contents.{RingContents}
 use Rattle.vs_driver_parts.specs.{declared.answers.Sent.Sent, Conversations.{DriverTree, not_sent, send_on}, Playing.Plays, Steps.sends_on}
 use Rattle.vs_driver_parts.specs.State.{DriverEntry, DriverState, entry_known_as, gone_known_as, is_known_as}
 use Rattle.vs_driver_parts.specs.declared.answers.Sent.TheVariants as sent
 use Rattle.laws_tables.proofs.Slots.{found_by}
 use Rattle.laws_driver.specs.Honest.{slots_of}
-use Rattle.laws_driver.specs.Carried.Calls.{GuestCall, Journal, ReplyTo, Send, bytes_sent, id_named, makes_call, sent_of, whole_call}
+use Rattle.laws_driver.specs.Carried.Calls.{GuestCall, Journal, ReplyTo, Send, bytes_sent, id_named, makes_call, sent_of, whole_call, with_call}
 use Rattle.laws_driver.specs.Carried.{Received.Account, Received.AreReceived, Received.ReceivesOn, Sent.is_same, Sent.only_on, Sent.took}
-use Rattle.laws_driver.specs.Carried.Senders.{AreSenders, IsSender, sent_there, sent_to}
+use Rattle.laws_driver.specs.Carried.Senders.{AreSenders, IsSender, IsSent, sent_there, sent_to}
 
 pub only_none : (at c : Connection) (bytes : List ℕ) → bytes ≡ [] → only_on at bytes c ≡ []
 only_none at c bytes none = by (is_same c at)
@@ -26,6 +26,11 @@ only_none at c bytes none = by (is_same c at)
 pub there_none : (opened : ℕ → Connection) (c : Connection) (named : Option ℕ) (bytes : List ℕ) → bytes ≡ [] → sent_there opened c named bytes ≡ []
 there_none opened c None bytes none = refl
 there_none opened c (Some id) bytes none = only_none (opened id) c bytes none
+
+-- What a call puts is what the journal says that it sent, on an id that has a connection.
+abbrev pub Says : DriverState → Log → (ℕ → Connection) → (call : GuestCall) → ReplyTo call → Type 0
+Says s log now call reply = IsSender now (id_named call s) (bytes_sent call reply)
+    × ((k : Connection) → sent_of call reply s log k ≡ sent_there now k (id_named call s) (bytes_sent call reply))
 
 -- Other connections, where those that ids had stay.
 module _ (a b : ℕ → Connection) (stay : (id : ℕ) → 1 ≤ (a id).number → b id ≡ a id) where
@@ -39,21 +44,34 @@ module _ (a b : ℕ → Connection) (stay : (id : ℕ) → 1 ≤ (a id).number �
   still_sender (Some id) bytes (inr some) = inr (subst (λ (k : Connection). 1 ≤ k.number) (sym (stay id some)) some)
   still_sender None bytes (inr never) = absurd never
 
-  pub still_senders : (journal : Journal) → AreSenders a journal → AreSenders b journal
+  still_senders : (journal : Journal) → AreSenders a journal → AreSenders b journal
   still_senders [] are = tt
   still_senders (m ∷ older) are = (still_sender m.id (bytes_sent m.call m.reply) are.0, still_senders older are.1)
 
-  pub same_sent : (c : Connection) (journal : Journal) → AreSenders a journal → sent_to a c journal ≡ sent_to b c journal
+  same_sent : (c : Connection) (journal : Journal) → AreSenders a journal → sent_to a c journal ≡ sent_to b c journal
   same_sent c [] are = refl
   same_sent c (m ∷ older) are =
       let bytes = bytes_sent m.call m.reply in
       ap (λ (xs : List ℕ). xs ++ sent_there a c m.id bytes) (same_sent c older are.1)
       ∙ ap (λ (xs : List ℕ). sent_to b c older ++ xs) (same_there c m.id bytes are.0)
 
--- What a call puts is what the journal says that it sent, on an id that has a connection.
-abbrev pub Says : DriverState → Log → (ℕ → Connection) → (call : GuestCall) → ReplyTo call → Type 0
-Says s log now call reply = IsSender now (id_named call s) (bytes_sent call reply)
-    × ((k : Connection) → sent_of call reply s log k ≡ sent_there now k (id_named call s) (bytes_sent call reply))
+  -- What a journal says was sent, where no payload is put, and where a call puts some.
+  pub still_sent : (journal : Journal) (old new : Log) → ((k : Connection) → payload_put Driver k new ≡ payload_put Driver k old) → IsSent a journal old
+      → IsSent b journal new
+  still_sent journal old new same was = record {
+    senders = still_senders journal was.senders;
+    puts = λ k. same k ∙ was.puts k ∙ same_sent k journal was.senders;
+  }
+
+  pub sent_more : (journal : Journal) (call : GuestCall) (s : DriverState) (reply : ReplyTo call) (old new : Log)
+      → ((k : Connection) → payload_put Driver k new ≡ payload_put Driver k old ++ sent_of call reply s old k) → Says s old b call reply
+      → IsSent a journal old → IsSent b (with_call call s reply journal) new
+  sent_more journal call s reply old new more says was = record {
+    senders = (says.0, still_senders journal was.senders);
+    puts = λ k. more k
+        ∙ ap (λ (xs : List ℕ). xs ++ sent_of call reply s old k) (was.puts k ∙ same_sent k journal was.senders)
+        ∙ ap (λ (xs : List ℕ). sent_to b k journal ++ xs) (says.1 k);
+  }
 
 module _ (s : DriverState) (c d : RingContents) (a : Account) (log : Log) (account : AreReceived a log (slots_of s))
     (now : ℕ → Connection) (stay : (id : ℕ) → 1 ≤ (a.opened id).number → now id ≡ a.opened id) where

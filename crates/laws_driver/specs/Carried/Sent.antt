@@ -1,9 +1,9 @@
 -- The payload that the driver puts, connection by connection.
 use Rattle.std.specs.Option.{ForSome}
-use Rattle.std.specs.Prelude.{◌≡◌, ℕ, ◌==◌, ◌≤◌, ◌&&◌, Bool, true, if◌then◌else◌, List, [], ◌++◌, take, Option, Some, None}
+use Rattle.std.specs.Prelude.{◌≡◌, ℕ, ◌==◌, ◌&&◌, Bool, true, if◌then◌else◌, List, [], ◌++◌, take, Option, Some, None}
 use Rattle.vs_flow.specs.{Connection.Connection, Flow.same_flow}
-use Rattle.laws_history.specs.{History.puts, Packets.has, Packets.shuts_send}
-use Rattle.vs_page.specs.{Fair.current, Fair.number_of, Fair.payload_put, Log.Driver, Log.Log, Log.history_of}
+use Rattle.laws_tables.specs.Later.{IsLater}
+use Rattle.vs_page.specs.{Fair.current, Fair.payload_put, Log.Driver, Log.Log}
 use Rattle.vs_contents.specs.Contents.{Relates}
 use Rattle.vs_ring_port.specs.{Contents.RingContents, EndLog.EndLog}
 use Rattle.vs_driver_parts.specs.{declared.answers.Sent.Sent, State.DriverState, State.entry_known_as}
@@ -31,10 +31,7 @@ sent_by id bytes answer s log c = elim (entry_known_as id s) [
   | Some e ↦ only_on (current Driver e.flow log) (took bytes answer) c
 ]
 
--- A log with more entries; and a log that is told, where one was, with more entries.
-abbrev pub IsLater : Log → Log → Type 0
-IsLater old new = (newer : Log) × (new ≡ newer ++ old)
-
+-- A log that is told, where one was, with more entries.
 abbrev pub TellsMore : Option EndLog → Option EndLog → Type 0
 TellsMore old new = Relates old new (λ l m. IsLater l.entries m.entries)
 
@@ -42,9 +39,3 @@ TellsMore old new = Relates old new (λ l m. IsLater l.entries m.entries)
 abbrev pub PutsJust : (Log → Connection → List ℕ) → RingContents → RingContents → Type 0
 PutsJust more old new = old.honest ≡ true → ForSome old.log (λ l. ForSome new.log (λ m.
     (c : Connection) → payload_put Driver c m.entries ≡ payload_put Driver c l.entries ++ more l.entries c))
-
--- The same of a connection up to the present one of its flow, where the driver put the SHUTDOWN that says 'no more is sent': nothing more is put.
-abbrev pub StaysShut : RingContents → RingContents → Type 0
-StaysShut old new = old.honest ≡ true → ForSome old.log (λ l. ForSome new.log (λ m. (c : Connection)
-    → has shuts_send (puts (history_of Driver c.flow l.entries)) ≡ true → c.number ≤ number_of Driver c.flow l.entries
-    → payload_put Driver c m.entries ≡ payload_put Driver c l.entries))

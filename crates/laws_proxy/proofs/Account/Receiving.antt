@@ -27,7 +27,7 @@ use Rattle.vs_ring_port.specs.declared.device_ring.Next.TheVariants as next
 
 module _ (hands : List Handshake) where
   -- A connection has another end, and nothing else of it changes.
-  has_end : (at : ℕ → Option Account) (put taken : Flow → List ℕ) (t : Table DeviceConnection) (e : DeviceEntry) (c : DeviceConnection)
+  pub has_end : (at : ℕ → Option Account) (put taken : Flow → List ℕ) (t : Table DeviceConnection) (e : DeviceEntry) (c : DeviceConnection)
       → IsIn t e
       → c.stream ≡ e.value.stream → c.by_client ≡ e.value.by_client → c.closed ≡ e.value.closed
       → c.ok_line ≡ e.value.ok_line → c.pending ≡ e.value.pending → (gives c.end ≡ true → gives e.value.end ≡ true)

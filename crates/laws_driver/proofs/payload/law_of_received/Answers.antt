@@ -2,11 +2,11 @@ use Rattle.std.proofs.Common.{subst, sym}
 use Rattle.vs_driver_parts.specs.Held.{HeldSlots}
 use Rattle.laws_driver.specs.Carried.Received.{AreReceived}
 use Rattle.laws_driver.proofs.Carried.Changing.{accept_slots, close_received, grow_received, shutdown_received, unlisten_received}
-use Rattle.laws_driver.proofs.Carried.{Ending.connect_ends, Ending.new_ends, Ending.poll_ends, Ending.send_ends, Reading.recv_received}
+use Rattle.laws_driver.proofs.Carried.{Ending.connect_ends, Ending.new_righted, Ending.poll_ends, Ending.send_ends, Reading.recv_received}
 use Rattle.laws_driver.proofs.payload.law_of_received.Goals as goal
 
 pub returns-clause-new : goal.returns-clause-new
-returns-clause-new c = new_ends
+returns-clause-new c = λ size port id r d s fits fresh plays on l is. (new_righted size port id r d s fits fresh plays on l is).received
 
 pub returns-clause-recv : goal.returns-clause-recv
 returns-clause-recv c = λ first id n a s r honest account on l is. recv_received a l.entries id n s (honest on l is).fits.sound (account on l is)

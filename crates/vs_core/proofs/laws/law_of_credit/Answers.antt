@@ -13,4 +13,4 @@ returns-clause-unread c = λ n host es i d less. let held = ((run_well n host es
 
 pub returns-clause-pending : goal.returns-clause-pending
 returns-clause-pending c = λ n host es i d less.
-    let fits = ((run_well n host es).device.fits.entries i d less).bytes in omega (arith, fits.unread, fits.within, fits.alloc)
+    let fits = ((run_well n host es).device.fits.entries i d less).bytes in (omega (arith, fits.unread, fits.within), fits.alloc)

@@ -1,7 +1,7 @@
 use Rattle.std.proofs.Common.{subst}
 use Rattle.laws_tables.{specs.Matches.Matches, proofs.Tables.all_open, proofs.Tables.driver_open, proofs.Tables.reset_empty}
 use Rattle.vs_page.specs.Log.{Device, Driver, Log}
-use Rattle.laws_world.{specs.Events.run, specs.Sides.both_of, specs.World.first_cid, specs.World.opening, proofs.Opening.run_well}
+use Rattle.laws_world.{specs.Events.run, specs.Sides.both_of, specs.World.first_cid, specs.World.opening, proofs.Opening.run_well, proofs.Waiting.at_device}
 use Rattle.vs_core.proofs.laws.law_of_tables.Goals as goal
 
 pub returns-clause-driver : goal.returns-clause-driver
@@ -11,6 +11,9 @@ returns-clause-driver c = λ n host es f. let b = both_of (run es (opening n hos
 pub returns-clause-device : goal.returns-clause-device
 returns-clause-device c = λ n host es f. let b = both_of (run es (opening n host)) in
     all_open Device first_cid b.device.part b.device.log f ((run_well n host es).sound.matches Device).flows
+
+pub returns-clause-streams : goal.returns-clause-streams
+returns-clause-streams c = λ n host es f fresh. at_device (run es (opening n host)) (run_well n host es) fresh f
 
 pub returns-clause-driver_reset : goal.returns-clause-driver_reset
 returns-clause-driver_reset c = λ n host es cid older is. let b = both_of (run es (opening n host)) in

@@ -1,15 +1,16 @@
-use Rattle.std.proofs.Common.{◌≡◌, ◌==◌, sym, ◌∙◌, Some, None, rules}
-use Rattle.std.specs.List.{position}
-use Rattle.vs_driver_parts.specs.State.{Listener}
-use Rattle.vs_driver_parts.proofs.ListenerChanges.{unlistened_there, unlistened_nowhere}
+use Rattle.std.proofs.Common.{ap, arith, length, sym, ◌∙◌}
+use Rattle.vs_driver_parts.specs.ListenerFields.{listeners_of}
+use Rattle.vs_driver_parts.proofs.ListenerChanges.{unlistened, no_more}
 use Rattle.vs_driver_parts.proofs.listeners.Listeners.unlisten.Goals as goal
 
-pub returns-in-Some : goal.returns-in-Some
-returns-in-Some c =
-    let at : position (λ (l : Listener). l.port == c.args.port) c.self.inside.ports.items ≡ Some c.in-Some.place = search rules in
-    rw (← c.self.view_is) (c.remove.ensures.items ∙ sym (unlistened_there c.args.port c.self.inside.ports.items c.in-Some.place c.remove.result at c.remove.ensures.value c.self.invariant.distinct))
+pub invariant_of-self : goal.invariant_of-self
+invariant_of-self c = rw (c.swap.ensures.x_after, c.swap.ensures.y_after) (record {
+  within = omega (arith, ap length c.move_others.ensures.moved, no_more c.args.port c.self.inside.ports.entries, c.self.invariant.within);
+  room = omega (arith, c.move_others.ensures.room_there, c.self.invariant.room_there);
+  empty = c.move_others.ensures.emptied;
+  room_there = omega (arith, c.move_others.ensures.room, c.self.invariant.room);
+})
 
-pub returns-in-None : goal.returns-in-None
-returns-in-None c =
-    let at : position (λ (l : Listener). l.port == c.args.port) c.self.inside.ports.items ≡ None = search rules in
-    rw (← c.self.view_is) (sym (unlistened_nowhere c.args.port c.self.inside.ports.items at))
+pub returns : goal.returns
+returns c = rw (← c.self.view_is, c.swap.ensures.x_after)
+    (ap listeners_of c.move_others.ensures.moved ∙ sym (unlistened c.args.port c.self.inside.ports.entries))

@@ -1,7 +1,7 @@
 use Rattle.std.proofs.{Common.sym, Common.subst, lemmas.Result.on_ok_weaker}
 use Rattle.vs_script.specs.Outside.{host_view}
 use Rattle.vs_play.specs.Ready.{IsReady, PlayState}
-use Rattle.vs_play.proofs.Playing.{client_plays, host_plays, on_ok_both, reset_plays, tick_plays, turn_plays}
+use Rattle.vs_play.proofs.Playing.{client_plays, grow_plays, host_plays, on_ok_both, reset_plays, tick_plays, turn_plays}
 use Rattle.vs_play.proofs.play.Play.outside_line.Goals as goal
 
 pub returns-in-Turn : goal.returns-in-Turn
@@ -22,6 +22,13 @@ returns-in-Tick g c =
     let ready = subst IsReady (sym c.self.view_is) c.requires.ready in
     rw (← c.self.view_is, c.in-Tick.is) (on_ok_weaker c.push_ok.result (λ printed. tick_plays c.in-Tick.ms _ c.tick.new.self _ _ c.tick.ensures ready printed)
     c.push_ok.ensures)
+
+pub returns-in-Grow : goal.returns-in-Grow
+returns-in-Grow g c =
+    let ready = subst IsReady (sym c.self.view_is) c.requires.ready in
+    let d = c.grow_stream-answer in
+    rw (← c.self.view_is, c.in-Grow.is) (on_ok_weaker c.push_growth.result (grow_plays c.in-Grow.stream c.in-Grow.alloc _ d.new.self d.result _ _
+    d.ensures.answer d.ensures.state d.ensures.ring d.ensures.order ready) c.push_growth.ensures)
 
 pub returns-in-Client : goal.returns-in-Client
 returns-in-Client g c =

@@ -1,0 +1,634 @@
+-- Calls and polls keep what a journal's calls were given, against the driver's next id and its listeners.
+use Rattle.std.proofs.Common.{◌≡◌, ◌⊎◌, inl, inr, ℕ, ◌+◌, ◌<◌, ◌≤◌, ◌==◌, ◌&&◌, ◌||◌, nat_le, not, Bool, true, false, cond, List, [], ◌∷◌, ◌++◌, length, find, take}
+use Rattle.std.proofs.Common.{Option, Some, None, is_some, Result, Ok, Err, refl, sym, ap, subst, ◌∙◌, arith}
+use Rattle.std.proofs.lemmas.{Bool.and_parts, Bool.eq-eqb, Bool.eqb-true, List.Elements.All-contains, Option.same_Some}
+use Rattle.std.specs.{List.list_any, Option.{option_map, option_map_or}}
+use Rattle.vs_contents.specs.CallTree.{Done, bind}
+use Rattle.vs_contents.proofs.Leads.{AllEnds, end_of}
+use Rattle.vs_conn.specs.{End.is_reset, End.verdict_of, declared.{end.Owed.Owed, end.State.State, end.Verdict.Verdict}}
+use Rattle.vs_conn.specs.declared.end.Owed.TheVariants as owed
+use Rattle.vs_conn.specs.declared.end.State.TheVariants as state
+use Rattle.vs_conn.specs.declared.end.Verdict.TheVariants as verdict
+use Rattle.vs_flow.{proofs.Entries.found_passes, specs.Flow.is_assigned, specs.Table.entry_of, specs.declared.flow.Flow.Flow}
+use Rattle.vs_limits.specs.declared.TheConstants.{DRIVER_CONNECTIONS, LAST_PORT, LISTENERS}
+use Rattle.laws_history.specs.declared.packet.Packet.{Packet}
+use Rattle.vs_page.specs.{Log.Driver, Log.flow_to_guest, Open.is_dropped}
+use Rattle.vs_replies.specs.Owed.{reply_to}
+use Rattle.laws_tables.proofs.Slots.{found_by}
+use Rattle.vs_ring_port.specs.{Contents.RingContents, EndLog.EndLog}
+use Rattle.vs_wrap.specs.Wrap.{counted}
+use Rattle.vs_driver_parts.specs.Connections.{after_close, after_leaving, after_read, after_recv, after_grow, after_shutdown, all_gone_after_read, connected, entry_closed, entry_grow_answer, entry_read}
+use Rattle.vs_driver_parts.specs.Connections.{flow_of, grown_by, is_full, is_spent, shut_in, state_of, waits_no_more, with_connection, with_request, without_gone}
+use Rattle.vs_driver_parts.specs.Conversations.{DriverTree, after_paying, connect_of, connect_with_page, has_page, new_of, no_credit, not_sent, poll_of, post_packet, reap_all, request_bytes, send_stopped}
+use Rattle.vs_driver_parts.specs.{Listening.{accept_of, is_answered, listener_on, listening, next_accepted, with_port, with_waiting, without_id}, Playing.{Plays, RingAllows}}
+use Rattle.vs_driver_parts.specs.Receiving.{after_packet, after_verdict, all_left, ends_connection, is_request, may_open, on_heard, on_known, on_packet, on_unknown, reset_reply, with_reply}
+use Rattle.vs_driver_parts.specs.State.{DriverEntry, DriverState, GoneConnection, Listener, entry_known_as, gone_known_as, is_known_as}
+use Rattle.vs_driver_parts.specs.declared.answers.{Accepted.Accepted, ConnectError.ConnectError, Grown.Grown, ListenError.ListenError, Polled.Polled, Sent.Sent}
+use Rattle.vs_driver_parts.specs.declared.answers.Accepted.TheVariants as accepted
+use Rattle.vs_driver_parts.specs.declared.answers.ConnectError.TheVariants as refused
+use Rattle.vs_driver_parts.specs.declared.answers.Grown.TheVariants as rise
+use Rattle.vs_driver_parts.specs.declared.answers.ListenError.TheVariants as unheard
+use Rattle.vs_driver_parts.specs.declared.answers.Sent.TheVariants as sent
+use Rattle.laws_driver.specs.Honest.{IsFresh, IsHonestWith}
+use Rattle.laws_driver.proofs.{Calls.new_keeps, Carrying.Carries, Carrying.Fact, Keeping.keeps_end, Polling.poll_keeps, Staging.Rests}
+use Rattle.laws_driver.specs.Carried.Calls.{Accept, Close, Connect, Grow, GuestCall, Journal, Listen, LookAt, Made, Recv, ReplyTo, Send, Shutdown, Unlisten}
+use Rattle.laws_driver.specs.Carried.Calls.{is_right, names, whole_call}
+use Rattle.laws_driver.proofs.Carried.{Growing.honest_stays, Making.CarriesCall, Making.whole_with, Righting.told_before, Sending.begins}
+use Rattle.laws_rest.proofs.Quiet.{ends_any, ends_then}
+use Rattle.vs_apps_parts.specs.{Journals.made_as, Told.told_of, Told.wait_of, declared.journal.Entry.Entry, declared.journal.WaitsFor.WaitsFor}
+use Rattle.laws_apps.specs.Given.{AreGiven, AreGivenWith, ConnectTells, TellsGiven, heard_by, is_heard}
+use Rattle.laws_apps.specs.Placed.{ArePlaced, ArePlacedWith, IsAsked, IsClients, IsPlaced, IsPlacedEntry, IsPlacedGone, IsTo, accepted_as, asked_as, given_by, waits_at, was_closed, was_given}
+use Rattle.laws_apps.proofs.{Placed.{one_of, or_first, or_second}, Placing.{IsOfApps, NamesAsked, noted}, Tracing.found_gone}
+
+-- The listener on a port, where the waiting of one changes.
+abbrev changed : (List ℕ → List ℕ) → Listener → Listener
+changed change l = record l { waiting = change l.waiting }
+
+other_listener : (p q : ℕ) (change : List ℕ → List ℕ) → (p == q) ≡ false → (ls : List Listener) → listener_on p (with_waiting q change ls) ≡ listener_on p ls
+other_listener p q change other [] = refl
+other_listener p q change other (l ∷ ls) = by (other_listener p q change other ls) (l.port == q) refl
+  where
+    own : listener_on p (with_waiting q change ls) ≡ listener_on p ls → (x : Listener) (b : Bool) → (b ≡ true → x ≡ l)
+        → cond b (Some x) (listener_on p (with_waiting q change ls)) ≡ cond b (Some l) (listener_on p ls)
+    own rest x true same = ap (λ (y : Listener). Some y) (same refl)
+    own rest x false same = rest
+
+    differ : (l.port == q) ≡ true → (l.port == p) ≡ true → changed change l ≡ l
+    differ at is =
+        let same : p ≡ q = sym (eqb-true l.port p is) ∙ eqb-true l.port q at in
+        absurd (let no : true ≡ false = sym (eq-eqb p q same) ∙ other in cc)
+
+    by : listener_on p (with_waiting q change ls) ≡ listener_on p ls → (a : Bool) → (l.port == q) ≡ a
+        → listener_on p (cond a (changed change l) l ∷ with_waiting q change ls) ≡ listener_on p (l ∷ ls)
+    by rest true at = own rest (changed change l) (l.port == p) (differ at)
+    by rest false at = own rest l (l.port == p) (λ is. refl)
+
+own_listener : (q : ℕ) (change : List ℕ → List ℕ) (ls : List Listener)
+    → listener_on q (with_waiting q change ls) ≡ option_map (changed change) (listener_on q ls)
+own_listener q change [] = refl
+own_listener q change (l ∷ ls) = by (own_listener q change ls) (l.port == q) refl
+  where
+    by : listener_on q (with_waiting q change ls) ≡ option_map (changed change) (listener_on q ls) → (a : Bool) → (l.port == q) ≡ a
+        → listener_on q (cond a (changed change l) l ∷ with_waiting q change ls) ≡ option_map (changed change) (cond a (Some l) (listener_on q ls))
+    by rest true at = ap (λ (b : Bool). cond b (Some (changed change l)) (listener_on q (with_waiting q change ls))) at
+    by rest false at = ap (λ (b : Bool). cond b (Some l) (listener_on q (with_waiting q change ls))) at ∙ rest
+
+still_heard : (p q : ℕ) (change : List ℕ → List ℕ) (ls : List Listener) → is_some (listener_on p ls) ≡ true → is_some (listener_on p (with_waiting q change ls)) ≡ true
+still_heard p q change ls is = by (p == q) refl
+  where
+    mapped : (o : Option Listener) → is_some o ≡ true → is_some (option_map (changed change) o) ≡ true
+    mapped None none = none
+    mapped (Some l) some = refl
+
+    by : (b : Bool) → (p == q) ≡ b → is_some (listener_on p (with_waiting q change ls)) ≡ true
+    by false other = ap (λ (o : Option Listener). is_some o) (other_listener p q change other ls) ∙ is
+    by true same = subst (λ (n : ℕ). is_some (listener_on n ls) ≡ true → is_some (listener_on n (with_waiting q change ls)) ≡ true) (sym (eqb-true p q same))
+        (λ some. ap (λ (o : Option Listener). is_some o) (own_listener q change ls) ∙ mapped (listener_on q ls) some) is
+
+-- Who waits where, before that.
+module _ (i : ℕ) where
+  abbrev waits_in : Option Listener → Bool
+  waits_in o = list_any (λ w. w == i) (option_map_or (λ l. l.waiting) o [])
+
+  elsewhere : (p q : ℕ) (change : List ℕ → List ℕ) (ls : List Listener) → (p == q) ≡ false → waits_at p i (with_waiting q change ls) ≡ true → waits_at p i ls ≡ true
+  elsewhere p q change ls other is = sym (ap (λ (o : Option Listener). waits_in o) (other_listener p q change other ls)) ∙ is
+
+  before : (p q : ℕ) (change : List ℕ → List ℕ) (ls : List Listener)
+      → ((ws : List ℕ) → list_any (λ w. w == i) (change ws) ≡ true → list_any (λ w. w == i) ws ≡ true)
+      → waits_at p i (with_waiting q change ls) ≡ true → waits_at p i ls ≡ true
+  before p q change ls fewer is = by (p == q) refl
+    where
+      mapped : (o : Option Listener) → waits_in (option_map (changed change) o) ≡ true → waits_in o ≡ true
+      mapped None none = none
+      mapped (Some l) some = fewer l.waiting some
+
+      by : (b : Bool) → (p == q) ≡ b → waits_at p i ls ≡ true
+      by false other = elsewhere p q change ls other is
+      by true same = subst (λ (n : ℕ). waits_at n i (with_waiting q change ls) ≡ true → waits_at n i ls ≡ true) (sym (eqb-true p q same))
+          (λ some. mapped (listener_on q ls) (sym (ap (λ (o : Option Listener). waits_in o) (own_listener q change ls)) ∙ some)) is
+
+  -- Without an id that waits no more, and before one that waits since.
+  fewer_without : (j : ℕ) (ws : List ℕ) → list_any (λ w. w == i) (without_id j ws) ≡ true → list_any (λ w. w == i) ws ≡ true
+  fewer_without j [] is = is
+  fewer_without j (w ∷ ws) is = by (not (w == j)) is (fewer_without j ws)
+    where
+      both : (b : Bool) → (b || list_any (λ v. v == i) (without_id j ws)) ≡ true
+          → (list_any (λ v. v == i) (without_id j ws) ≡ true → list_any (λ v. v == i) ws ≡ true) → (b || list_any (λ v. v == i) ws) ≡ true
+      both true so rest = refl
+      both false so rest = rest so
+
+      by : (a : Bool) → list_any (λ v. v == i) (cond a (w ∷ without_id j ws) (without_id j ws)) ≡ true
+          → (list_any (λ v. v == i) (without_id j ws) ≡ true → list_any (λ v. v == i) ws ≡ true) → ((w == i) || list_any (λ v. v == i) ws) ≡ true
+      by false so rest = or_second (w == i) _ (rest so)
+      by true so rest = both (w == i) so rest
+
+  none_left : (ws : List ℕ) → list_any (λ w. w == i) (without_id i ws) ≡ true → ⊥
+  none_left [] is = absurd cc
+  none_left (w ∷ ws) is = by (w == i) refl is (none_left ws)
+    where
+      by : (a : Bool) → (w == i) ≡ a → list_any (λ v. v == i) (cond (not a) (w ∷ without_id i ws) (without_id i ws)) ≡ true
+          → (list_any (λ v. v == i) (without_id i ws) ≡ true → ⊥) → ⊥
+      by true at so rest = rest so
+      by false at so rest = rest (sym (ap (λ (b : Bool). b || list_any (λ v. v == i) (without_id i ws)) at) ∙ so)
+
+  gone_there : (q : ℕ) (ls : List Listener) → waits_at q i (with_waiting q (without_id i) ls) ≡ true → ⊥
+  gone_there q ls is = by (listener_on q ls) (sym (ap (λ (o : Option Listener). waits_in o) (own_listener q (without_id i) ls)) ∙ is)
+    where
+      by : (o : Option Listener) → waits_in (option_map (changed (without_id i)) o) ≡ true → ⊥
+      by None none = absurd cc
+      by (Some l) some = none_left l.waiting some
+
+  fewer_behind : (n : ℕ) → (n == i) ≡ false → (ws : List ℕ) → list_any (λ w. w == i) (ws ++ n ∷ []) ≡ true → list_any (λ w. w == i) ws ≡ true
+  fewer_behind n other [] is = absurd (let no : true ≡ false = sym is ∙ ap (λ (b : Bool). b || false) other in cc)
+  fewer_behind n other (w ∷ ws) is = by (w == i) is (fewer_behind n other ws)
+    where
+      by : (b : Bool) → (b || list_any (λ v. v == i) (ws ++ n ∷ [])) ≡ true
+          → (list_any (λ v. v == i) (ws ++ n ∷ []) ≡ true → list_any (λ v. v == i) ws ≡ true) → (b || list_any (λ v. v == i) ws) ≡ true
+      by true so rest = refl
+      by false so rest = rest so
+
+  -- Where another port is listened on nobody waits there.
+  before_listen : (p q : ℕ) (ls : List Listener) → waits_at p i (with_port q ls) ≡ true → waits_at p i ls ≡ true
+  before_listen p q [] is = by (q == p) is
+    where
+      by : (b : Bool) → waits_in (cond b (Some (record { port = q; waiting = [] })) None) ≡ true → waits_in None ≡ true
+      by true so = so
+      by false so = so
+  before_listen p q (l ∷ ls) is = by (l.port == p) is (before_listen p q ls)
+    where
+      by : (b : Bool) → waits_in (cond b (Some l) (listener_on p (with_port q ls))) ≡ true → (waits_at p i (with_port q ls) ≡ true → waits_at p i ls ≡ true)
+          → waits_in (cond b (Some l) (listener_on p ls)) ≡ true
+      by true so rest = so
+      by false so rest = rest so
+
+heard_before : (p q : ℕ) (ls : List Listener) → is_some (listener_on p ls) ≡ true → is_some (listener_on p (with_port q ls)) ≡ true
+heard_before p q [] is = absurd cc
+heard_before p q (l ∷ ls) is = by (l.port == p) is (heard_before p q ls)
+  where
+    by : (b : Bool) → is_some (cond b (Some l) (listener_on p ls)) ≡ true → (is_some (listener_on p ls) ≡ true → is_some (listener_on p (with_port q ls)) ≡ true)
+        → is_some (cond b (Some l) (listener_on p (with_port q ls))) ≡ true
+    by true so rest = refl
+    by false so rest = rest so
+
+heard_now : (p : ℕ) (ls : List Listener) → is_some (listener_on p (with_port p ls)) ≡ true
+heard_now p [] = ap (λ (b : Bool). let o : Option Listener = cond b (Some (record { port = p; waiting = [] })) None in is_some o) (eq-eqb p p refl)
+heard_now p (l ∷ ls) = by (l.port == p) (heard_now p ls)
+  where
+    by : (b : Bool) → is_some (listener_on p (with_port p ls)) ≡ true → is_some (cond b (Some l) (listener_on p (with_port p ls))) ≡ true
+    by true rest = refl
+    by false rest = rest
+
+-- The next id that is accepted waits there.
+found_any : (test : ℕ → Bool) (id : ℕ) (ws : List ℕ) → find test ws ≡ Some id → list_any (λ w. w == id) ws ≡ true
+found_any test id [] is = absurd cc
+found_any test id (w ∷ ws) is = by (test w) is (found_any test id ws)
+  where
+    by : (b : Bool) → cond b (Some w) (find test ws) ≡ Some id → (find test ws ≡ Some id → list_any (λ v. v == id) ws ≡ true)
+        → ((w == id) || list_any (λ v. v == id) ws) ≡ true
+    by true so rest = or_first (w == id) _ (eq-eqb w id (same_Some w id so))
+    by false so rest = or_second (w == id) _ (rest so)
+
+-- What is given, through each change of the listeners and each call.
+module _ (journal : Journal) (next : ℕ) (ls : List Listener) (x : AreGiven journal next ls) where
+  back : (q j p i : ℕ) → waits_at p i (with_waiting q (without_id j) ls) ≡ true → waits_at p i ls ≡ true
+  back q j p i is = before i p q (without_id j) ls (fewer_without i j) is
+
+  waits_less : (q j : ℕ) → AreGiven journal next (with_waiting q (without_id j) ls)
+  waits_less q j = record {
+    given = x.given;
+    waits = λ p i is. x.waits p i (back q j p i is);
+    one = λ p r i a b. x.one p r i (back q j p i a) (back q j r i b);
+    heard = λ p is. still_heard p q (without_id j) ls (x.heard p is);
+    all = x.all;
+  }
+
+  not_given : (i : ℕ) → i ≡ next → (b : Bool) → was_given i journal ≡ b → b ≡ false
+  not_given i same false is = refl
+  not_given i same true is = let less = x.given i is in absurd (omega (arith, less, same))
+
+  abbrev Came : ℕ → ℕ → ℕ → Type 0
+  Came q p i = (waits_at p i ls ≡ true) ⊎ ((i ≡ next) × (p ≡ q))
+
+  came : (q p i : ℕ) → waits_at p i (with_waiting q (λ ws. ws ++ next ∷ []) ls) ≡ true → Came q p i
+  came q p i is = by (next == i) refl (p == q) refl
+    where
+      by : (a : Bool) → (next == i) ≡ a → (b : Bool) → (p == q) ≡ b → Came q p i
+      by false other b at = inl (before i p q (λ ws. ws ++ next ∷ []) ls (fewer_behind i next other) is)
+      by true same false other = inl (elsewhere i p q (λ ws. ws ++ next ∷ []) ls other is)
+      by true same true own = inr (sym (eqb-true next i same), eqb-true p q own)
+
+  requested : (q : ℕ) → AreGiven journal (next + 1) (with_waiting q (λ ws. ws ++ next ∷ []) ls)
+  requested q = record {
+    given = λ i is. let less = x.given i is in omega (arith, less);
+    waits = λ p i is. on p i (came q p i is);
+    one = λ p r i a b. both p r i (came q p i a) (came q r i b);
+    heard = λ p is. still_heard p q (λ ws. ws ++ next ∷ []) ls (x.heard p is);
+    all = x.all;
+  }
+    where
+      on : (p i : ℕ) → Came q p i → (i < next + 1) × (was_given i journal ≡ false)
+      on p i (inl was) = let w = x.waits p i was in (let less = w.0 in omega (arith, less), w.1)
+      on p i (inr new) = let same = new.0 in (omega (arith, same), not_given i same (was_given i journal) refl)
+
+      both : (p r i : ℕ) → Came q p i → Came q r i → p ≡ r
+      both p r i (inl a) (inl b) = x.one p r i a b
+      both p r i (inr a) (inr b) = a.1 ∙ sym b.1
+      both p r i (inl a) (inr b) = let less = (x.waits p i a).0 in let same = b.0 in absurd (omega (arith, less, same))
+      both p r i (inr a) (inl b) = let less = (x.waits r i b).0 in let same = a.0 in absurd (omega (arith, less, same))
+
+  goes_on : (m : Made) → given_by m.call m.reply ≡ None → heard_by m.call m.reply ≡ None → TellsGiven m.call m.reply journal → AreGiven (m ∷ journal) next ls
+  goes_on m none unheard tells = record {
+    given = λ i is. x.given i (sym (same i) ∙ is);
+    waits = λ p i is. let w = x.waits p i is in (w.0, same i ∙ w.1);
+    one = x.one;
+    heard = λ p is. x.heard p (sym (ap (λ (o : Option ℕ). names p o || is_heard p journal) unheard) ∙ is);
+    all = (tells, x.all);
+  }
+    where
+      same : (i : ℕ) → was_given i (m ∷ journal) ≡ was_given i journal
+      same i = ap (λ (o : Option ℕ). names i o || was_given i journal) none
+
+  -- Unless it told to wait.
+  silent : (call : GuestCall) (reply : ReplyTo call) → given_by call reply ≡ None → heard_by call reply ≡ None → TellsGiven call reply journal
+      → AreGiven (noted call reply journal) next ls
+  silent call reply none unheard tells = by (wait_of (told_of (made_as call reply)))
+    where
+      by : (o : Option WaitsFor) → AreGiven (elim o as (λ _. Journal) [ None ↦ made_as call reply ∷ journal | Some why ↦ journal ]) next ls
+      by None = goes_on (made_as call reply) none unheard tells
+      by (Some why) = x
+
+  -- An id is given: the next, or one that waits.
+  module _ (m : Made) (id : ℕ) (gives : given_by m.call m.reply ≡ Some id) where
+    now : (i : ℕ) → was_given i (m ∷ journal) ≡ ((i == id) || was_given i journal)
+    now i = ap (λ (o : Option ℕ). names i o || was_given i journal) gives
+
+    below : (more i : ℕ) → id < more → next ≤ more → was_given i (m ∷ journal) ≡ true → i < more
+    below more i less most is = by (i == id) refl (sym (now i) ∙ is)
+      where
+        by : (b : Bool) → (i == id) ≡ b → (b || was_given i journal) ≡ true → i < more
+        by true same so = let own = eqb-true i id same in omega (arith, own, less)
+        by false other so = let under = x.given i so in omega (arith, under, most)
+
+    still_waits : (i : ℕ) → (i ≡ id → ⊥) → was_given i journal ≡ false → was_given i (m ∷ journal) ≡ false
+    still_waits i apart none = by (i == id) refl
+      where
+        by : (b : Bool) → (i == id) ≡ b → was_given i (m ∷ journal) ≡ false
+        by true same = absurd (apart (eqb-true i id same))
+        by false other = now i ∙ ap (λ (b : Bool). b || was_given i journal) other ∙ none
+
+  connects_given : (port : ℕ) → AreGiven (made_as (Connect port) (Ok next) ∷ journal) (next + 1) ls
+  connects_given port = record {
+    given = λ i is. below (made_as (Connect port) (Ok next)) next refl (next + 1) i (omega arith) (omega arith) is;
+    waits = λ p i is. let w = x.waits p i is in let less = w.0 in (
+      omega (arith, less),
+      still_waits (made_as (Connect port) (Ok next)) next refl i (λ same. absurd (omega (arith, less, same))) w.1,
+    );
+    one = x.one;
+    heard = x.heard;
+    all = (not_given next refl (was_given next journal) refl, x.all);
+  }
+
+  accepts_given : (port id : ℕ) → waits_at port id ls ≡ true
+      → AreGiven (made_as (Accept port) (accepted.Conn id) ∷ journal) next (with_waiting port (without_id id) ls)
+  accepts_given port id there = record {
+    given = λ i is. below (made_as (Accept port) (accepted.Conn id)) id refl next i (x.waits port id there).0 (omega arith) is;
+    waits = λ p i is. let w = x.waits p i (back port id p i is) in (w.0, still_waits (made_as (Accept port) (accepted.Conn id)) id refl i (left p i is) w.1);
+    one = (waits_less port id).one;
+    heard = λ p is. still_heard p port (without_id id) ls (x.heard p is);
+    all = ((x.waits port id there).1, x.all);
+  }
+    where
+      left : (p i : ℕ) → waits_at p i (with_waiting port (without_id id) ls) ≡ true → i ≡ id → ⊥
+      left p i is same =
+          let own = subst (λ (n : ℕ). waits_at p n (with_waiting port (without_id id) ls) ≡ true) same is in
+          gone_there id port ls (subst (λ (n : ℕ). waits_at n id (with_waiting port (without_id id) ls) ≡ true) (x.one p port id (back port id p id own) there) own)
+
+  listens_given : (port : ℕ) → AreGiven (made_as (Listen port) (Ok tt) ∷ journal) next (with_port port ls)
+  listens_given port = record {
+    given = x.given;
+    waits = λ p i is. x.waits p i (before_listen i p port ls is);
+    one = λ p q i a b. x.one p q i (before_listen i p port ls a) (before_listen i q port ls b);
+    heard = λ p is. by p (p == port) refl is;
+    all = (tt, x.all);
+  }
+    where
+      by : (p : ℕ) (b : Bool) → (p == port) ≡ b → (b || is_heard p journal) ≡ true → is_some (listener_on p (with_port port ls)) ≡ true
+      by p true same so = subst (λ (n : ℕ). is_some (listener_on p (with_port n ls)) ≡ true) (eqb-true p port same) (heard_now p ls)
+      by p false other so = heard_before p port ls (x.heard p so)
+
+  -- It is listened on already.
+  heard_given : (port : ℕ) → is_some (listener_on port ls) ≡ true → AreGiven (made_as (Listen port) (Err unheard.Taken) ∷ journal) next ls
+  heard_given port there = record { given = x.given; waits = x.waits; one = x.one; heard = λ p is. by p (p == port) refl is; all = (tt, x.all) }
+    where
+      by : (p : ℕ) (b : Bool) → (p == port) ≡ b → (b || is_heard p journal) ≡ true → is_some (listener_on p ls) ≡ true
+      by p true same so = subst (λ (n : ℕ). is_some (listener_on n ls) ≡ true) (sym (eqb-true p port same)) there
+      by p false other so = x.heard p so
+
+-- A poll.
+module _ (journal : Journal) where
+  abbrev At : DriverState → Type 0
+  At s = AreGiven journal s.next_id s.listeners
+
+  leaving_given : (e : DriverEntry) (s : DriverState) → At s → At (after_leaving e s)
+  leaving_given e s x = on e.value.unanswered
+    where
+      on : (b : Bool) → At (cond b (waits_no_more e s) s)
+      on true = waits_less journal s.next_id s.listeners x e.flow.guest e.value.id
+      on false = x
+
+  pays_given : (what : Owed) (e : DriverEntry) (s : DriverState) → At s → At (after_paying what e s)
+  pays_given owed.Rst e s x = leaving_given e s x
+  pays_given what e s x = x
+
+  known_given : (p : Packet) (e : DriverEntry) (s : DriverState) (v : Verdict) → At s → At (after_verdict v p e s)
+  known_given p e s (verdict.Rst why) x = on e.value.unanswered
+    where
+      on : (b : Bool) → At (cond b (waits_no_more e (with_connection e.slot (after_packet (verdict.Rst why) p e.value) (record s { broken = counted s.broken })))
+          (with_connection e.slot (after_packet (verdict.Rst why) p e.value) (record s { broken = counted s.broken })))
+      on true = waits_less journal s.next_id s.listeners x e.flow.guest e.value.id
+      on false = x
+  known_given p e s v x = on (ends_connection v p.header)
+    where
+      on : (b : Bool) → At (cond b (after_leaving (record e { value = after_packet v p e.value }) s) (with_connection e.slot (after_packet v p e.value) s))
+      on true = leaving_given (record e { value = after_packet v p e.value }) s x
+      on false = x
+
+  packet_given : (p : Packet) (s : DriverState) → At s → At (on_packet p s)
+  packet_given p s x = on (is_dropped Driver s.cid p.header)
+    where
+      unknown : (r q : Bool) → At (cond r s (cond q (with_request (flow_to_guest p.header) p.header s) (with_reply (reply_to (flow_to_guest p.header) p.header) s)))
+      unknown true q = x
+      unknown false true = requested journal s.next_id s.listeners x (flow_to_guest p.header).guest
+      unknown false false = x
+
+      heard : (o : Option DriverEntry) → At (elim o as (λ _. DriverState) [ None ↦ on_unknown p s | Some e ↦ on_known p e s ])
+      heard None = unknown (is_reset p.header) (is_request p.header && may_open (flow_to_guest p.header) s)
+      heard (Some e) = known_given p e s (verdict_of e.value.end p.header) x
+
+      on : (b : Bool) → At (cond b s (on_heard p s))
+      on true = x
+      on false = heard (entry_of s.table (flow_to_guest p.header))
+
+  left_given : (es : List DriverEntry) (s : DriverState) → At s → At (all_left es s)
+  left_given [] s x = x
+  left_given (e ∷ es) s x = left_given es (with_reply (reset_reply e) (after_leaving e s)) (leaving_given e s x)
+
+abbrev gives : Journal → Fact
+gives journal part s log = AreGiven journal s.next_id s.listeners
+
+poll_gives : (first : ℕ) (journal : Journal) → Carries first (gives journal)
+poll_gives first journal = record {
+  owed = λ what e s log fits stands owes m was fair x. pays_given journal what e s x;
+  reply = λ r rest s log fits is m fair x. x;
+  got = λ p s log fits ports whole m was fair x. packet_given journal p s x;
+  event = λ id s log x. x;
+  reset = λ cid s log less fits x. left_given journal s.table.entries (record s { cid = cid }) x;
+}
+
+-- Why a connect is refused, whatever the ring.
+connect_ends : (port : ℕ) (s : DriverState) → AllEnds (λ (y : DriverState × Result ℕ ConnectError). ConnectTells port y.1 []) (connect_of port s)
+connect_ends port s = by (is_assigned port) refl (is_full s) (is_spent s)
+  where
+    page : (t : DriverState) (b : Bool) → AllEnds (λ (y : DriverState × Result ℕ ConnectError). ConnectTells port y.1 [])
+        (cond b (bind (post_packet (request_bytes port t) t) (λ u. Done (connected port u, Ok u.next_id))) (Done (t, Err (refused.NoDescriptor t.in_flight))))
+    page t true = λ a b. refl
+    page t false = tt
+
+    by : (a : Bool) → is_assigned port ≡ a → (b c : Bool) → AllEnds (λ (y : DriverState × Result ℕ ConnectError). ConnectTells port y.1 [])
+        (elim (cond a (Some (refused.BadPort port)) (cond b (Some (refused.Full DRIVER_CONNECTIONS)) (cond c (Some (refused.PortsSpent s.last_port s.last_id)) None)))
+        as (λ _. DriverTree (DriverState × Result ℕ ConnectError)) [ Some refusal ↦ Done (s, Err refusal) | None ↦ bind (reap_all s) (connect_with_page port) ])
+    by true is b c = is
+    by false is true c = tt
+    by false is false true = tt
+    by false is false false =
+        ends_then (λ (y : DriverState × Result ℕ ConnectError). ConnectTells port y.1 []) (λ (t : DriverState). Unit {0}) (reap_all s) (connect_with_page port)
+        (ends_any (λ (t : DriverState). Unit {0}) (λ t. tt) (reap_all s)) (λ t u. page t (has_page t))
+
+-- A call of an app's, where a connect is refused so.
+abbrev IsSo : (call : GuestCall) → ReplyTo call → Type 0
+IsSo (Connect port) reply = ConnectTells port reply []
+IsSo call reply = Unit {0}
+
+abbrev gives_after : Journal → (call : GuestCall) → ReplyTo call → Fact
+gives_after journal call reply part s log = IsSo call reply → AreGiven (noted call reply journal) s.next_id s.listeners
+
+module _ (journal : Journal) where
+  refusal : (port : ℕ) (why : ConnectError) (s : DriverState) → At journal s → ConnectTells port (Err why) [] → AreGiven (noted (Connect port) (Err why) journal) s.next_id s.listeners
+  refusal port (refused.BadPort p) s x is = silent journal s.next_id s.listeners x (Connect port) (Err (refused.BadPort p)) refl refl is
+  refusal port why s x is = silent journal s.next_id s.listeners x (Connect port) (Err why) refl refl tt
+
+  unsent : (id : ℕ) (bytes : List ℕ) (answer : Sent) (s : DriverState) → At journal s → AreGiven (noted (Send id bytes) answer journal) s.next_id s.listeners
+  unsent id bytes answer s x = silent journal s.next_id s.listeners x (Send id bytes) answer refl refl tt
+
+  listening_given : (port : ℕ) (s : DriverState) → At journal s → (b : Bool) → is_some (listener_on port s.listeners) ≡ b → (c : Bool)
+      → let r : Result (Unit {0}) ListenError = cond b (Err unheard.Taken) (cond c (Err (unheard.Full LISTENERS)) (Ok tt)) in
+      let t : DriverState = elim r as (λ _. DriverState) [ Ok y ↦ listening port s | Err why ↦ s ] in AreGiven (noted (Listen port) r journal) t.next_id t.listeners
+  listening_given port s x true there c = heard_given journal s.next_id s.listeners x port there
+  listening_given port s x false there true = silent journal s.next_id s.listeners x (Listen port) (Err (unheard.Full LISTENERS)) refl refl tt
+  listening_given port s x false there false = listens_given journal s.next_id s.listeners x port
+
+  accepting : (port : ℕ) (s : DriverState) → At journal s → (b : Bool) → is_some (listener_on port s.listeners) ≡ b → (o : Option ℕ) → next_accepted port s ≡ o
+      → let r : Accepted = cond b (elim o as (λ _. Accepted) [ None ↦ accepted.None | Some id ↦ accepted.Conn id ]) accepted.NotListening in
+      let t : DriverState = elim o as (λ _. DriverState) [ None ↦ s | Some id ↦ record s { listeners = with_waiting port (without_id id) s.listeners } ] in
+      AreGiven (noted (Accept port) r journal) t.next_id t.listeners
+  accepting port s x b there (Some id) is = by b there
+    where
+      waits : (o : Option Listener) → elim o as (λ _. Option ℕ) [ None ↦ None | Some l ↦ find (is_answered s) l.waiting ] ≡ Some id → (waits_in id o ≡ true) × (is_some o ≡ true)
+      waits None so = absurd cc
+      waits (Some l) so = (found_any (is_answered s) id l.waiting so, refl)
+
+      by : (b : Bool) → is_some (listener_on port s.listeners) ≡ b
+          → AreGiven (noted (Accept port) (cond b (accepted.Conn id) accepted.NotListening) journal) s.next_id (with_waiting port (without_id id) s.listeners)
+      by true at = accepts_given journal s.next_id s.listeners x port id (waits (listener_on port s.listeners) is).0
+      by false at = let no : true ≡ false = sym (waits (listener_on port s.listeners) is).1 ∙ at in absurd cc
+  accepting port s x true there None is = x
+  accepting port s x false there None is = silent journal s.next_id s.listeners x (Accept port) accepted.NotListening refl refl (by (is_heard port journal) refl)
+    where
+      by : (b : Bool) → is_heard port journal ≡ b → b ≡ false
+      by false so = refl
+      by true so = let no : true ≡ false = sym (x.heard port so) ∙ there in absurd cc
+
+  -- A call that changes no listener, and a close.
+  kept : (call : GuestCall) (reply : ReplyTo call) → given_by call reply ≡ None → heard_by call reply ≡ None → TellsGiven call reply journal → (s : DriverState)
+      → At journal s → At (noted call reply journal) s
+  kept call reply none unheard tells s x = silent journal s.next_id s.listeners x call reply none unheard tells
+
+received_same : (journal : Journal) (n id : ℕ) (s : DriverState) (o : Option DriverEntry) → At journal s
+    → At journal (elim o as (λ _. DriverState) [ Some e ↦ entry_read n e s | None ↦ record s { gone = all_gone_after_read id n s.gone } ])
+received_same journal n id s None x = x
+received_same journal n id s (Some e) x = by (length e.value.unread == 0)
+  where
+    by : (b : Bool) → At journal (cond b s (with_connection e.slot (after_read n e.value) s))
+    by true = x
+    by false = x
+
+shut_same : (journal : Journal) (bits : ℕ) (s : DriverState) (o : Option DriverEntry) → At journal s
+    → At journal (elim o as (λ _. DriverState) [ Some e ↦ shut_in e.value.end.state bits e s | None ↦ s ])
+shut_same journal bits s None x = x
+shut_same journal bits s (Some e) x = by e.value.end.state
+  where
+    by : (st : State) → At journal (shut_in st bits e s)
+    by state.Live = x
+    by st = x
+
+grown_same : (journal : Journal) (alloc : ℕ) (s : DriverState) (o : Option DriverEntry) → At journal s
+    → At journal (elim o as (λ _. DriverState) [ Some e ↦ grown_by (entry_grow_answer alloc e) alloc e s | None ↦ s ])
+grown_same journal alloc s None x = x
+grown_same journal alloc s (Some e) x = by (entry_grow_answer alloc e)
+  where
+    by : (a : Grown) → At journal (grown_by a alloc e s)
+    by rise.Done = x
+    by a = x
+
+closed_less : (journal : Journal) (id : ℕ) (s : DriverState) (o : Option DriverEntry) (q : Option GoneConnection) → At journal s
+    → At journal (elim o as (λ _. DriverState) [
+      | Some e ↦ entry_closed e s
+      | None ↦ elim q as (λ _. DriverState) [
+        | None ↦ s
+        | Some g ↦ record s { gone = without_gone id s.gone; listeners = with_waiting g.flow.guest (without_id id) s.listeners }
+      ]
+    ])
+closed_less journal id s None None x = x
+closed_less journal id s None (Some g) x = waits_less journal s.next_id s.listeners x g.flow.guest id
+closed_less journal id s (Some e) q x = waits_less journal s.next_id s.listeners x e.flow.guest e.value.id
+
+call_gives : (first : ℕ) (journal : Journal) (call : GuestCall) → IsOfApps call → CarriesCall first call (gives journal) (gives_after journal call)
+call_gives first journal (Connect port) apps = record {
+  refused = λ why s log x is. refusal journal port why s x is;
+  opens = λ s log fits free m was fair x is. connects_given journal s.next_id s.listeners x port;
+}
+call_gives first journal (Send id bytes) apps = record {
+  stopped = λ why s log x is. unsent journal id bytes (send_stopped why) s x;
+  unknown = λ s log none x is. unsent journal id bytes (not_sent id s) s x;
+  empty = λ s log x is. unsent journal id bytes (sent.Took 0) s x;
+  full = λ n s log x is. unsent journal id bytes (sent.NoDescriptor n) s x;
+  wants = λ e s log fits stands m x is. unsent journal id bytes (no_credit e.value.end) s x;
+  sends = λ e n s log fits stands known can few m was fair x is. unsent journal id bytes (sent.Took (length (take n bytes))) s x;
+}
+call_gives first journal (Listen port) apps = λ s log fits m x is.
+    listening_given journal port s x (is_some (listener_on port s.listeners)) refl (nat_le LISTENERS (length s.listeners))
+call_gives first journal (Unlisten port) apps = absurd apps
+call_gives first journal (Accept port) apps = λ s log fits m x is.
+    accepting journal port s x (is_some (listener_on port s.listeners)) refl (next_accepted port s) refl
+call_gives first journal (Recv id n) apps = λ s log fits m x is.
+    kept journal (Recv id n) _ refl refl tt (after_recv id n s) (received_same journal n id s (entry_known_as id s) x)
+call_gives first journal (Shutdown id bits) apps = λ s log fits m x is.
+    kept journal (Shutdown id bits) _ refl refl tt (after_shutdown id bits s) (shut_same journal bits s (entry_known_as id s) x)
+call_gives first journal (Grow id alloc) apps = λ s log fits m x is.
+    kept journal (Grow id alloc) _ refl refl tt (after_grow id alloc s) (grown_same journal alloc s (entry_known_as id s) x)
+call_gives first journal (Close id) apps = λ s log fits m x is.
+    kept journal (Close id) _ refl refl tt (after_close id s) (closed_less journal id s (entry_known_as id s) (gone_known_as id s) x)
+call_gives first journal (LookAt id) apps = λ s log fits m x is. kept journal (LookAt id) (state_of id s) refl refl tt s x
+
+-- The connection that an accept gave waited on its port, so it is a client's there.
+module _ (journal : Journal) (s : DriverState) (placed : ArePlaced journal s) (x : AreGiven journal s.next_id s.listeners) (port id : ℕ)
+    (is : accept_of port s ≡ accepted.Conn id) where
+  next_is : (b : Bool) (o : Option ℕ) → cond b (elim o as (λ _. Accepted) [ None ↦ accepted.None | Some i ↦ accepted.Conn i ]) accepted.NotListening ≡ accepted.Conn id
+      → o ≡ Some id
+  next_is true (Some i) at = let same : i ≡ id = cc in ap (λ (n : ℕ). let o : Option ℕ = Some n in o) same
+  next_is true None at = absurd cc
+  next_is false o at = absurd cc
+
+  found_on : (o : Option Listener) → elim o as (λ _. Option ℕ) [ None ↦ None | Some l ↦ find (is_answered s) l.waiting ] ≡ Some id
+      → (waits_in id o ≡ true) × (is_answered s id ≡ true)
+  found_on None at = absurd cc
+  found_on (Some l) at = (found_any (is_answered s) id l.waiting at, found_passes (is_answered s) l.waiting id at)
+
+  there : (waits_at port id s.listeners ≡ true) × (is_answered s id ≡ true)
+  there = found_on (listener_on port s.listeners) (next_is (is_some (listener_on port s.listeners)) (next_accepted port s) is)
+
+  on_port : (i : ℕ) (f : Flow) → i ≡ id → was_closed i journal ≡ false → IsPlaced journal s.listeners i f → IsClients port f
+  on_port i f same shown at = (guest, by (is_assigned f.host) refl)
+    where
+      free : was_given i journal ≡ false
+      free = ap (λ (n : ℕ). was_given n journal) same ∙ (x.waits port id there.0).1
+
+      guest : f.guest ≡ port
+      guest = one_of (was_given i journal) (was_closed i journal) (waits_at f.guest i s.listeners) (f.guest ≡ port) at.known
+          (λ given. let no : true ≡ false = sym given ∙ free in absurd cc) (λ closed. let no : true ≡ false = sym closed ∙ shown in absurd cc)
+          (λ waits. x.one f.guest port id (subst (λ (n : ℕ). waits_at f.guest n s.listeners ≡ true) same waits) there.0)
+
+      by : (b : Bool) → is_assigned f.host ≡ b → is_assigned f.host ≡ true
+      by true so = so
+      by false so = let no : true ≡ false = sym (at.own so) ∙ free in absurd cc
+
+  pub accepted_there : IsTo (IsClients port) (flow_of id s)
+  accepted_there = by (entry_known_as id s) refl (gone_known_as id s) refl there.1
+    where
+      open_one : (b : Bool) → not b ≡ true → b ≡ false
+      open_one false so = refl
+      open_one true so = absurd cc
+
+      by : (o : Option DriverEntry) → entry_known_as id s ≡ o → (q : Option GoneConnection) → gone_known_as id s ≡ q
+          → elim o as (λ _. Bool) [ None ↦ is_some q | Some e ↦ not e.value.unanswered ] ≡ true
+          → IsTo (IsClients port) (elim o as (λ _. Option Flow) [ None ↦ option_map (λ g. g.flow) q | Some e ↦ Some e.flow ])
+      by (Some e) at q left answered =
+          let found = found_by (is_known_as id) s.table.entries e at in
+          let parts = and_parts (e.value.id == id) (not e.value.closed) found.1 in
+          let at_e = All-contains (IsPlacedEntry journal s.listeners) s.table.entries e placed.entries found.0 in
+          on_port e.value.id e.flow (eqb-true e.value.id id parts.0) (sym at_e.value.closed ∙ open_one e.value.closed parts.1) at_e.placed
+      by None at (Some g) left answered =
+          let found = found_gone (λ (h : GoneConnection). h.id == id) s.gone g left in
+          let at_g = All-contains (IsPlacedGone journal s.listeners) s.gone g placed.gone found.0 in on_port g.id g.flow (eqb-true g.id id found.1) at_g.kept at_g.placed
+      by None at None left answered = absurd cc
+
+-- The flow of the connection that a call gave, by the driver after it.
+abbrev pub NamesIt : (call : GuestCall) → ReplyTo call → DriverState → Type 0
+NamesIt (Connect port) reply s = (id : ℕ) → asked_as reply ≡ Some id → IsTo (IsAsked port) (flow_of id s)
+NamesIt (Accept port) reply s = (id : ℕ) → accepted_as reply ≡ Some id → IsTo (IsClients port) (flow_of id s)
+NamesIt call reply s = Unit {0}
+
+module _ (first : ℕ) (journal : Journal) (s : DriverState) (c d : RingContents) (honest : IsHonestWith first s c) (was : AreGivenWith journal s c) where
+  so : (call : GuestCall) (x : DriverState × ReplyTo call) → Plays (whole_call call s) c x d → IsSo call x.1
+  so (Connect port) x plays =
+      end_of (λ (y : DriverState × Result ℕ ConnectError). ConnectTells port y.1 []) RingAllows (connect_of port s) c d x (connect_ends port s) plays
+  so call x plays = tt
+
+  pub call_answered : (call : GuestCall) (x : DriverState × ReplyTo call) → IsOfApps call → is_right call ≡ true → Plays (whole_call call s) c x d
+      → AreGivenWith (noted call x.1 journal) x.0 d
+  call_answered call x apps right plays = λ on m is.
+      let before = told_before (whole_call call s) c d x plays m is in
+      let then = was (sym (honest_stays (whole_call call s) c d x plays) ∙ on) before.0 before.1 in
+      let kept : Rests first (gives_after journal call x.1) x.0 d =
+      keeps_end _ (whole_call call s) c d x (whole_with first s c call (gives journal) (gives_after journal call) right (call_gives first journal call apps)
+      (begins first (gives journal) s c before.0 before.1 then honest)) plays in
+      (kept on m is).1 (so call x plays)
+
+  pub call_named : (n : ℕ) (entries : List Entry) → ArePlacedWith n journal entries s c → (call : GuestCall) (x : DriverState × ReplyTo call) → Plays (whole_call call s) c x d
+      → (on : d.honest ≡ true) (m : EndLog) → d.log ≡ Some m → NamesAsked call x.1 x.0 → NamesIt call x.1 x.0
+  call_named n entries placed (Connect port) x plays on m is named = named
+  call_named n entries placed (Accept port) x plays on m is named =
+      let before = told_before (whole_call (Accept port) s) c d x plays m is in
+      let then = sym (honest_stays (whole_call (Accept port) s) c d x plays) ∙ on in
+      subst (λ (y : DriverState × Accepted). (id : ℕ) → accepted_as y.1 ≡ Some id → IsTo (IsClients port) (flow_of id y.0)) plays.0
+      (λ id given. subst (IsTo (IsClients port)) (sym (same id (next_accepted port s)))
+      (accepted_there journal s (placed then before.0 before.1).0 (was then before.0 before.1) port id (conn (accept_of port s) id given)))
+    where
+      conn : (r : Accepted) (id : ℕ) → accepted_as r ≡ Some id → r ≡ accepted.Conn id
+      conn (accepted.Conn i) id given = ap (λ (n : ℕ). accepted.Conn n) (same_Some i id given)
+      conn accepted.None id given = absurd cc
+      conn accepted.NotListening id given = absurd cc
+
+      same : (id : ℕ) (o : Option ℕ)
+          → flow_of id (elim o as (λ _. DriverState) [ None ↦ s | Some i ↦ record s { listeners = with_waiting port (without_id i) s.listeners } ]) ≡ flow_of id s
+      same id None = refl
+      same id (Some i) = refl
+  call_named n entries placed call x plays on m is named = tt
+
+  pub poll_answered : (x : DriverState × Polled) → Plays (poll_of s) c x d → AreGivenWith journal x.0 d
+  poll_answered x plays = λ on m is.
+      let before = told_before (poll_of s) c d x plays m is in
+      let then = was (sym (honest_stays (poll_of s) c d x plays) ∙ on) before.0 before.1 in
+      let kept : Rests first (gives journal) x.0 d =
+      keeps_end _ (poll_of s) c d x (poll_keeps first (gives journal) (poll_gives first journal) s c
+      (begins first (gives journal) s c before.0 before.1 then honest)) plays in
+      (kept on m is).1
+
+pub new_answered : (size port : ℕ) (c d : RingContents) (s : DriverState) → port ≤ LAST_PORT → IsFresh c → Plays (new_of size port 1) c s d → AreGivenWith [] s d
+new_answered size port c d s fits fresh plays = λ on l is. (kept on l is).1
+  where
+    none : AreGiven [] 1 []
+    none = record { given = λ id is. absurd cc; waits = λ p i is. absurd cc; one = λ p q i a b. absurd cc; heard = λ p is. absurd cc; all = tt }
+
+    kept : Rests s.cid (gives []) s d
+    kept = keeps_end (λ t e. Rests t.cid (gives []) t e) (new_of size port 1) c d s (new_keeps size port 1 fits (gives []) (λ cid. none) c fresh) plays
