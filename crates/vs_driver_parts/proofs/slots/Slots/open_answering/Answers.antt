@@ -3,14 +3,14 @@ use Rattle.vs_flow.specs.Table.{Table, with_entry, next_entry}
 use Rattle.vs_flow.proofs.Tables.{with_entry_sound}
 use Rattle.vs_driver_parts.specs.{Room.IsSpare, State.DriverConnection}
 use Rattle.vs_driver_parts.proofs.{Numbers.numbers_with_entry, SlotChanges.all_front}
-use Rattle.vs_limits.specs.declared.TheConstants.{LAST_ID}
+use Rattle.vs_limits.specs.declared.TheConstants.{DRIVER_CONNECTIONS, LAST_ID}
 use Rattle.vs_driver_parts.proofs.slots.Slots.open_answering.Goals as goal
 
 pub invariant_of-self : goal.invariant_of-self
 invariant_of-self c =
     let s = c.self.inside in
     let kept = c.self.invariant in
-    let free : length s.table.entries + length s.gone.items < 64 = rw (← c.self.view_is) at c.requires.free in
+    let free : length s.table.entries + length s.gone.items < DRIVER_CONNECTIONS = rw (← c.self.view_is) at c.requires.free in
     let table : c.insert.new.table ≡ with_entry s.table c.args.flow c.answering-connection.result = c.insert.ensures in
     let id : c.answering-connection.result.id ≡ s.next_id = search rules in
     let entries = ap (λ (t : Table DriverConnection). length t.entries) table in

@@ -3,7 +3,7 @@ use Rattle.vs_flow.specs.{Flow.host_flow, Table.Table, Table.entry_of, Table.wit
 use Rattle.vs_flow.proofs.Tables.{with_entry_sound}
 use Rattle.vs_driver_parts.specs.{Room.IsSpare, State.DriverConnection}
 use Rattle.vs_driver_parts.proofs.{Numbers.numbers_with_entry, SlotChanges.new_flow, SlotChanges.all_front}
-use Rattle.vs_limits.specs.declared.TheConstants.{LAST_PORT, LAST_ID}
+use Rattle.vs_limits.specs.declared.TheConstants.{DRIVER_CONNECTIONS, LAST_PORT, LAST_ID}
 use Rattle.vs_driver_parts.proofs.slots.Slots.open_asked.Goals as goal
 
 pub insert-requires-clause-unknown : goal.insert-requires-clause-unknown
@@ -16,7 +16,7 @@ pub invariant_of-self : goal.invariant_of-self
 invariant_of-self c =
     let s = c.self.inside in
     let kept = c.self.invariant in
-    let free : length s.table.entries + length s.gone.items < 64 = rw (← c.self.view_is) at c.requires.free in
+    let free : length s.table.entries + length s.gone.items < DRIVER_CONNECTIONS = rw (← c.self.view_is) at c.requires.free in
     let table : c.insert.new.table ≡ with_entry s.table (host_flow s.next_port c.args.host) c.asked-connection.result =
     c.insert.ensures ∙ ap (λ (f : Flow). with_entry s.table f c.asked-connection.result) c.to_host-flow.ensures in
     let id : c.asked-connection.result.id ≡ s.next_id = search rules in
