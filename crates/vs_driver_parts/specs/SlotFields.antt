@@ -1,6 +1,7 @@
 -- What always holds of the fields of the driver's slots. No public clause cites this module.
-use Rattle.std.specs.{Prelude.{◌≡◌, ◌≢◌, ℕ, false, ◌+◌, ◌<◌, ◌≤◌, AllPairs, List, length, vec_capacity}, List.All}
-use Rattle.vs_flow.specs.{Flow.is_assigned, Table.Table, Table.IsTable}
+use Rattle.std.specs.{Prelude.{◌≡◌, ◌≢◌, ℕ, false, ◌+◌, ◌<◌, ◌≤◌, AllPairs, List, [], ◌∷◌, length, None, vec_capacity}, List.All}
+use Rattle.vs_flow.specs.{Flow.is_assigned, Table.Table, Table.IsTable, Table.entry_of, declared.flow.Flow.Flow}
+use Rattle.laws_tables.specs.Ends.{AreDistinct}
 use Rattle.vs_limits.specs.declared.TheConstants.{DRIVER_CONNECTIONS, LAST_ID, LAST_PORT}
 use Rattle.vs_driver_parts.specs.{declared.slots.Slots.TheInside.Inside, Room.IsSpare, State.DriverConnection, State.GoneConnection}
 
@@ -14,9 +15,25 @@ pub record AreNumbered (first port next : ℕ) (table : Table DriverConnection) 
   pub distinct : AllPairs (λ g h. g.id ≢ h.id) gone
   pub ports : All (λ e. is_assigned e.flow.host ≡ false → e.flow.guest < port) table.entries
 
+-- A flow that may be used again is of a connection that this side opened, and isn't in the table.
+pub record MayReuse (port : ℕ) (table : Table DriverConnection) (f : Flow) : Type 0 where
+  pub own : is_assigned f.host ≡ false
+  pub given : f.guest < port
+  pub absent : entry_of table f ≡ None
+
+abbrev pub AllReuse : ℕ → Table DriverConnection → List Flow → Type 0
+AllReuse port table [] = Unit {0}
+AllReuse port table (f ∷ fs) = MayReuse port table f × AllReuse port table fs
+
+-- So all are that are kept, and none is kept twice.
+pub record AreClean (port : ℕ) (table : Table DriverConnection) (clean : List Flow) : Type 0 where
+  pub each : AllReuse port table clean
+  pub once : AreDistinct clean
+
 -- There are buffers for all slots, and room for all connections.
 pub record AreKept (s : Inside) : Type 0 where
   pub numbers : AreNumbered s.first_id s.next_port s.next_id s.table s.gone.items
+  pub clean : AreClean s.next_port s.table s.clean
   pub last_port : s.next_port ≤ LAST_PORT + 1
   pub last_id : s.next_id ≤ LAST_ID + 1
   pub table : IsTable s.table

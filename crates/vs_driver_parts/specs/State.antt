@@ -38,6 +38,8 @@ pub record DriverState : Type 0 where
   pub table : Table DriverConnection
   -- In the order in which they left.
   pub gone : List GoneConnection
+  -- The flows that may be used again, oldest first.
+  pub clean : List Flow
   pub listeners : List Listener
   -- RSTs owed to unknown flows, oldest first.
   pub replies : List Reply

@@ -2,7 +2,7 @@
 
 ghost use Rattle.std.specs.Prelude.{◌≡◌, ◌≤◌, ◌==◌, ◌+◌, ◌++◌, [], true, false, Some, length, min, take, drop};
 ghost use Rattle.vs_conn.specs.End.{CanSend, asked, answering, grown, may_send_of, may_shut, owes_of, paid_of, verdict_of, view_of};
-ghost use Rattle.vs_conn.specs.{End.wanting_credit, End.with_payload_sent, Headers.owed_header, Headers.payload_header};
+ghost use Rattle.vs_conn.specs.{End.wanting_credit, End.with_payload_sent, Headers.owed_header, Headers.payload_header, Shut.is_both};
 ghost use Rattle.vs_conn.specs.declared.end.Owed.TheVariants as owed;
 ghost use Rattle.vs_conn.specs.declared.end.State.TheVariants.{Live};
 ghost use Rattle.vs_credit.specs.Credit.{free_of};
@@ -104,6 +104,13 @@ impl Connection {
         ensures { result ≡ self.now.closed }
     {
         self.closed
+    }
+
+    /// Whether its end decided to shut both directions.
+    pub fn has_shut(&self) -> bool
+        ensures { result ≡ is_both self.now.end.own }
+    {
+        self.end.view().put == 3
     }
 
     /// What its end shows.

@@ -1,6 +1,6 @@
 //! The driver's slots: connections of the table, those that are gone and not closed, and the buffers of free slots.
 
-ghost use Rattle.std.specs.Prelude.{◌≡◌, ◌<◌, ◌≤◌, ◌++◌, ◌==◌, [], true, false, length, min, take, drop, find, Some, None, IfOk, IfSome};
+ghost use Rattle.std.specs.Prelude.{◌≡◌, ◌+◌, ◌<◌, ◌≤◌, ◌++◌, ◌==◌, ℕ, List, [], true, false, length, min, take, drop, find, Some, None, IfOk, IfSome};
 ghost use Rattle.std.specs.Prelude.{IfNone, IsSomeAnd, option_copied, position, remove, slice_get, ◌^◌, vec_capacity};
 ghost use Rattle.std.specs.{List.All, Option.option_map};
 ghost use Rattle.vs_conn.specs.Headers.{owed_header, payload_header};
@@ -14,8 +14,12 @@ ghost use Rattle.vs_page.specs.Held.{IsWhole};
 ghost use Rattle.vs_limits.specs.declared.TheConstants.{BUF_ALLOC_MAX, LAST_PORT, LAST_ID, DRIVER_CONNECTIONS};
 ghost use Rattle.vs_driver_parts.specs.State.{DriverEntry, DriverConnection, GoneConnection, is_known_as};
 ghost use Rattle.vs_driver_parts.specs.Connections.{route_to_host, after_read, after_shut, after_closing, paid_connection, without_gone};
-ghost use Rattle.vs_driver_parts.specs.{Connections.all_gone_after_read, Receiving.after_packet, Receiving.reset_reply, Room.IsSpare};
-ghost use Rattle.vs_driver_parts.specs.Held.{KnowsNone, no_slots, held_in, with_asked_in, with_answering_in, with_connection_in, left_in};
+ghost use Rattle.vs_driver_parts.specs.{Connections.all_gone_after_read, Connections.free_flow, Receiving.after_packet, Receiving.reset_reply};
+ghost use Rattle.vs_driver_parts.specs.{Connections.kept_if, Room.IsSpare};
+ghost use Rattle.laws_tables.specs.Steps.{is_kept, port_after};
+ghost use Rattle.laws_history.specs.Packets.{is_clean_rst};
+ghost use Rattle.vs_page.specs.Log.{Driver};
+ghost use Rattle.vs_driver_parts.specs.Held.{KnowsNone, no_slots, held_in, with_asked_in, with_answering_in, with_connection_in, left_in, kept_in};
 
 use crate::answers::ConnId;
 use crate::connection::Connection;
@@ -26,9 +30,9 @@ use std::alloc::{AllocError, Global};
 use std::marker::Model;
 use vs_buffer::ByteFifo;
 use vs_conn::{Owed, Stop, Verdict};
-use vs_flow::{Entry, Flow, FlowTable, Slot};
-use vs_header::Header;
-use vs_limits::{BUF_ALLOC_MAX, DRIVER_CONNECTIONS};
+use vs_flow::{CleanPairs, Entry, Flow, FlowTable, Slot, is_assigned};
+use vs_header::{CLEAN, Header, Op};
+use vs_limits::{BUF_ALLOC_MAX, DRIVER_CONNECTIONS, LAST_PORT};
 use vs_replies::Reply;
 
 /// Bytes of a connection's receive buffer: all that its buffer space may be raised to.
@@ -46,6 +50,7 @@ pub struct Slots {
     last_id: u32,
     table: FlowTable<Connection>,
     gone: Vec<Gone>,
+    clean: CleanPairs,
     // The buffers of the free slots.
     spare: Vec<ByteFifo>,
 }
@@ -64,6 +69,7 @@ impl Model for Slots {
       last_id = s.last_id;
       table = s.table;
       gone = s.gone.items;
+      clean = s.clean;
     } };
 
     ghost invariant = { AreKept };
@@ -84,6 +90,7 @@ impl Slots {
             last_id: 0,
             table: FlowTable::new(alloc, DRIVER_CONNECTIONS)?,
             gone: Vec::with_capacity(alloc, DRIVER_CONNECTIONS)?,
+            clean: CleanPairs::new(alloc)?,
             spare: buffers(alloc)?,
         })
     }
@@ -104,11 +111,15 @@ impl Slots {
         self.table.len()
     }
 
-    /// The guest port that the next connection of this side gets.
-    pub fn next_port(&self) -> u32
-        ensures { result ≡ self.now.next_port }
+    /// The flow of the next connection of this side to a host port. `None` comes exactly where the last guest port was given and no flow to that
+    /// port may be used again.
+    pub fn next_flow(&self, host: u32) -> Option<Flow>
+        ensures { result ≡ free_flow host self.now.next_port self.now.clean }
     {
-        self.next_port
+        if self.next_port <= LAST_PORT {
+            return Some(Flow::to_host(self.next_port, host));
+        }
+        self.clean.oldest_to(host)
     }
 
     /// The id that the next connection gets, up to 2^32.
@@ -195,6 +206,20 @@ impl Slots {
         Some((what, connection.owed_header(route_to_host(cid, flow), what)))
     }
 
+    /// Whether a packet leaves the flow of the connection in a slot to be used again: a marked RST, where this side asked for the connection and
+    /// decided to shut both directions.
+    pub fn keeps(&self, slot: Slot, header: &Header) -> bool
+        ensures { (e : DriverEntry) (payload : List ℕ) → entry_under self.now.table slot ≡ Some e → let p : Packet = record { header = header.now; payload = payload } in result ≡ is_kept Driver e.flow e.value.end p }
+    {
+        let Some(flow) = self.table.flow_of(slot) else {
+            return false;
+        };
+        let Some(connection) = self.table.get(slot) else {
+            return false;
+        };
+        !is_assigned(flow.host) && connection.has_shut() && is_marked(header)
+    }
+
     /// All slots of the table, by rising slot.
     pub fn all(&self) -> ArrayVec<Slot, DRIVER_CONNECTIONS>
         ensures all { result.items ≡ slots self.now.table }
@@ -237,22 +262,22 @@ impl Slots {
         self.gone.iter().find(|gone| gone.has_id(id))
     }
 
-    /// A connection to a host port opens, whose REQUEST is put. It gets the next guest port, and its id is returned.
-    pub fn open_asked(&mut self, host: u32) -> ConnId
+    /// A connection opens on the next flow to its host port, and its REQUEST is put. Its id is returned.
+    pub fn open_asked(&mut self, flow: Flow) -> ConnId
         requires free { held_in self.old < DRIVER_CONNECTIONS }
-        requires port { self.old.next_port ≤ LAST_PORT }
+        requires next { free_flow flow.host self.old.next_port self.old.clean ≡ Some flow }
         requires id { self.old.next_id ≤ LAST_ID }
-        requires host { is_assigned host ≡ false }
-        ensures opened { self.new ≡ with_asked_in host self.old }
+        requires host { is_assigned flow.host ≡ false }
+        ensures opened { self.new ≡ with_asked_in flow self.old }
         ensures id { result ≡ self.old.next_id }
     {
         let id = self.next_id as u32;
-        let flow = Flow::to_host(self.next_port, host);
         let connection = Connection::asked(id, self.spare.take_last());
         insert(&mut self.table, flow, connection);
-        self.last_port = self.next_port;
+        self.next_port = port_after(self.next_port, flow.guest);
+        self.clean.remove(flow);
+        self.last_port = flow.guest;
         self.last_id = id;
-        self.next_port += 1;
         self.next_id += 1;
         id
     }
@@ -274,9 +299,11 @@ impl Slots {
         id
     }
 
-    /// The connection in a slot leaves the table. It is gone then, or its slot is free where it was closed or never answered.
-    pub fn leave(&mut self, slot: Slot)
-        ensures { (e : DriverEntry) → entry_under self.old.table slot ≡ Some e → self.new ≡ left_in e self.old }
+    /// The connection in a slot leaves the table. It is gone then, or its slot is free where it was closed or never answered. Its flow may be
+    /// used again where `keep` says so, which is asked of connections of this side alone.
+    pub fn leave(&mut self, slot: Slot, keep: bool)
+        requires own { keep ≡ true → (e : DriverEntry) → entry_under self.old.table slot ≡ Some e → is_assigned e.flow.host ≡ false }
+        ensures { (e : DriverEntry) → entry_under self.old.table slot ≡ Some e → self.new ≡ kept_in keep e.flow (left_in e self.old) }
     {
         let Some(flow) = self.table.flow_of(slot) else {
             return;
@@ -284,6 +311,7 @@ impl Slots {
         let Some(connection) = self.table.remove(slot) else {
             return;
         };
+        keep_if(&mut self.clean, keep, flow);
         let id = connection.id();
         let let_go = connection.is_let_go();
         let (end, mut unread) = connection.into_parts();
@@ -431,6 +459,33 @@ impl Slots {
             return;
         };
         connection.close();
+    }
+}
+
+// The guest port that is given next, once this one was given.
+fn port_after(next: u32, port: u32) -> u32
+    requires left { next ≤ LAST_PORT + 1 }
+    ensures { result ≡ port_after next port }
+{
+    if next <= port {
+        return next + 1;
+    }
+    next
+}
+
+// Whether a packet is a marked RST.
+fn is_marked(header: &Header) -> bool
+    ensures { (payload : List ℕ) → let p : Packet = record { header = header.now; payload = payload } in result ≡ is_clean_rst p }
+{
+    header.op == Op::Rst.number() && header.flags == CLEAN
+}
+
+// Keeps a flow, or not.
+fn keep_if(clean: &mut CleanPairs, keep: bool, flow: Flow)
+    ensures { clean.new ≡ kept_if keep flow clean.old }
+{
+    if keep {
+        clean.keep(flow);
     }
 }
 
