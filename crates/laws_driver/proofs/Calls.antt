@@ -331,6 +331,8 @@ module _ (size port id : ℕ) (port_fits : port ≤ LAST_PORT) where
     entries = λ i d within. absurd (omega (arith, within));
     ports = λ i d within. absurd (omega (arith, within));
     owed = λ i d within. absurd (omega (arith, within));
+    clean_fit = λ i d within. absurd (omega (arith, within));
+    clean_sound = record { each = tt; once = tt };
   }
 
   loaded : (cid : ℕ) (l : EndLog) → cid < 2 ^ 64 → Fresh l → IsAtRest cid (record made { cid = cid }) (log_loaded cid l)

@@ -12,9 +12,8 @@ seat s log = record { part = ends_of_state s; log = log }
 pub at_log : (log : Log) (old new : Ends) → old ≡ new → (let w : Seat = record { part = old; log = log } in w) ≡ record { part = new; log = log }
 at_log log old new = ap (λ (part : Ends). let w : Seat = record { part = part; log = log } in w)
 
--- A step that may happen there, whatever the other end did. No flow is asked for whose port was given before.
+-- A step that may happen there, whatever the other end did.
 abbrev pub MayDo : Step → Seat → Type 0
-MayDo (Opens f kind) w = IsNextFlow Driver f w.part × (w.part.next_port ≤ own_port Driver f)
 MayDo (Takes p answer) w = Unit {0}
 MayDo (TakesEvent id) w = Unit {0}
 MayDo step w = MayHappen Driver step (record { driver = w; device = w })

@@ -1,6 +1,6 @@
 //! What the driver does with the packets that it takes, and at a transport reset (Virtio 1.2, sections 5.10.6.4 to 5.10.6.7).
 
-ghost use Rattle.std.specs.Prelude.{◌≡◌, ℕ, List, ◌<◌, ◌≤◌, ◌==◌, ◌&&◌, ◌^◌, [], false, true, length, Some, None};
+ghost use Rattle.std.specs.Prelude.{◌≡◌, ℕ, List, ◌<◌, ◌≤◌, ◌==◌, ◌&&◌, ◌^◌, [], true, not, length, Some, None};
 ghost use Rattle.vs_conn.specs.End.{is_refused};
 ghost use Rattle.vs_flow.specs.{Flow.is_assigned, Table.entry_of, Table.entry_under, declared.flow.Flow.Flow};
 ghost use Rattle.laws_history.specs.declared.packet.Packet.{Packet};
@@ -74,12 +74,12 @@ impl Driver {
         ensures state { (e : DriverEntry) → entry_under self.old.table slot ≡ Some e → let p : Packet = record { header = header.now; payload = payload.now } in self.new ≡ on_known p e self.old }
         ensures pages { SamePages self.old self.new }
     {
-        let keep = self.slots.keeps(slot, header);
+        let cleanly = self.slots.ends_cleanly(slot, header);
         let verdict = self.slots.on_packet(slot, header, payload);
         if is_refused(verdict) {
             self.refuse(slot);
         } else if ends_connection(verdict, header) {
-            self.leave(slot, keep);
+            self.leave(slot, cleanly);
         }
     }
 
@@ -107,14 +107,13 @@ impl Driver {
         }
     }
 
-    /// The connection in a slot leaves the table. Its flow may be used again where `keep` says so, which is asked of the guest's own alone.
-    pub(crate) fn leave(&mut self, slot: Slot, keep: bool)
-        requires own { keep ≡ true → (e : DriverEntry) → entry_under self.old.table slot ≡ Some e → is_assigned e.flow.host ≡ false }
-        ensures state { (e : DriverEntry) → entry_under self.old.table slot ≡ Some e → self.new ≡ keeping keep e.flow (after_leaving e self.old) }
+    /// The connection in a slot leaves the table. Its flow may be used again where it ended cleanly and the guest opened it.
+    pub(crate) fn leave(&mut self, slot: Slot, cleanly: bool)
+        ensures state { (e : DriverEntry) → entry_under self.old.table slot ≡ Some e → self.new ≡ keeping (cleanly && not (is_assigned e.flow.host)) e.flow (after_leaving e self.old) }
         ensures pages { SamePages self.old self.new }
     {
         self.leave_list(slot);
-        self.slots.leave(slot, keep);
+        self.slots.leave(slot, cleanly);
     }
 
     // Takes a packet of an unknown flow.

@@ -1,20 +1,21 @@
 -- Flows that may be used again, through each change of the table and of those that are kept.
-use Rattle.std.proofs.Common.{◌≡◌, ◌+◌, ◌-◌, ◌<◌, ◌≤◌, ◌==◌, ◌||◌, nat_le, ℕ, zero, suc, drop, length, Bool, true, false, cond, List, []}
-use Rattle.std.proofs.{Common.{◌∷◌, ◌++◌, get_or, Option, Some, None, refl, sym, ap, ◌∙◌, subst, arith}, lemmas.Bool.Decides.nat_tests}
-use Rattle.std.specs.{List.find, Option.option_and_then, Option.option_map, Option.option_or}
+use Rattle.std.proofs.Common.{◌≡◌, ◌+◌, ◌-◌, ◌<◌, ◌≤◌, ◌==◌, ◌&&◌, ◌||◌, not, nat_le, nat_lt, ◌⊎◌, inl, inr, ℕ, zero, suc, drop, length, Bool, true, false, cond, List, []}
+use Rattle.std.proofs.{Common.{◌∷◌, ◌++◌, get_or, Option, Some, None, is_some, refl, sym, ap, ◌∙◌, subst, arith}, lemmas.Bool.Decides.nat_tests}
+use Rattle.std.specs.{List.All, List.find, Option.option_and_then, Option.option_map_or, Option.option_map, Option.option_or}
 use Rattle.vs_flow.specs.{CleanPairs.goes_to, CleanPairs.kept, CleanPairs.oldest, CleanPairs.without_oldest, Flow.host_flow, Flow.is_assigned}
 use Rattle.vs_flow.specs.{Flow.same_flow, declared.flow.Flow.Flow, Table.Table, Table.IsTable, Table.entry_of, Table.entry_under}
 use Rattle.vs_flow.specs.Table.{revalued, with_entry, with_value, without, next_entry}
-use Rattle.vs_flow.proofs.Entries.{find_none, same_flow_false}
+use Rattle.vs_flow.proofs.Entries.{find_none, found_passes, same_flow_false}
 use Rattle.vs_flow.proofs.Lookups.{entry_of-with_entry, entry_of-with_value, entry_of-without, entry_under_found}
-use Rattle.vs_limits.specs.declared.TheConstants.{CLEAN_PAIRS, LAST_PORT}
+use Rattle.vs_limits.specs.declared.TheConstants.{CLEAN_PAIRS, DRIVER_CONNECTIONS, LAST_ID, LAST_PORT}
 use Rattle.vs_page.proofs.Flows.{same_is, same_self}
 use Rattle.laws_tables.specs.Ends.{AreDistinct, is_among}
 use Rattle.laws_tables.specs.Steps.{port_after}
 use Rattle.laws_tables.specs.Ends.{without as flows_without}
 use Rattle.laws_tables.proofs.Entries.{kept_distinct, without_distinct, without_none, without_own}
-use Rattle.vs_driver_parts.specs.{Connections.free_flow, Connections.kept_if, SlotFields.{AllReuse, AreClean, AreKept, AreNumbered, MayReuse}}
-use Rattle.vs_driver_parts.specs.{State.{DriverConnection, DriverEntry, GoneConnection}, declared.slots.Slots.TheInside.Inside}
+use Rattle.vs_driver_parts.specs.{Connections.{connect_refusal, free_flow, is_full, kept_if, next_flow}, SlotFields.{AllReuse, AreClean, AreKept, MayReuse}}
+use Rattle.vs_driver_parts.specs.{State.{DriverConnection, DriverEntry, DriverState, slots_held}, declared.slots.Slots.TheInside.Inside}
+use Rattle.vs_driver_parts.specs.declared.answers.ConnectError.{ConnectError}
 use Rattle.vs_driver_parts.proofs.Ids.{entry_has}
 
 either_true : (a b : Bool) → b ≡ true → (a || b) ≡ true
@@ -124,7 +125,7 @@ clean_entry port next t f c fs clean none more = record {
         by false other = refl
 
 -- One leaves it, and its flow is kept, or not.
-clean_without : (port : ℕ) (t : Table DriverConnection) (fs : List Flow) (slot : ℕ) → IsTable t → AreClean port t fs → AreClean port (without t slot) fs
+pub clean_without : (port : ℕ) (t : Table DriverConnection) (fs : List Flow) (slot : ℕ) → IsTable t → AreClean port t fs → AreClean port (without t slot) fs
 clean_without port t fs slot sound clean = record {
   each = each_to port port t (without t slot) fs (λ f is may. record {
     own = may.own;
@@ -159,33 +160,52 @@ pub flow_there : (t : Table DriverConnection) (slot : ℕ) (e : DriverEntry) (f 
 flow_there t slot e f found is =
     let same : Some f ≡ Some e.flow = is ∙ ap (option_map (λ (x : DriverEntry). x.flow)) found in cc
 
-pub left_clean : (s : Inside) (slot : ℕ) (e : DriverEntry) (f : Flow) (keep : Bool) → AreKept s → entry_under s.table slot ≡ Some e
+own_only : (b assigned : Bool) → (b && not assigned) ≡ true → assigned ≡ false
+own_only b false is = refl
+own_only true true is = absurd cc
+own_only false true is = absurd cc
+
+pub left_clean : (s : Inside) (slot : ℕ) (e : DriverEntry) (f : Flow) (cleanly : Bool) → AreKept s → entry_under s.table slot ≡ Some e
     → Some f ≡ option_map (λ x. x.flow) (entry_under s.table slot)
-    → (keep ≡ true → (x : DriverEntry) → entry_under s.table slot ≡ Some x → is_assigned x.flow.host ≡ false)
-    → AreClean s.next_port (without s.table slot) (kept_if keep f s.clean)
-left_clean s slot e f keep kept found is own =
-    subst (λ g. AreClean s.next_port (without s.table slot) (kept_if keep g s.clean)) (sym (flow_there s.table slot e f found is))
-    (clean_left keep s.next_port s.table s.clean slot e kept.table found (λ asked. own asked e found)
+    → AreClean s.next_port (without s.table slot) (kept_if (cleanly && not (is_assigned f.host)) f s.clean)
+left_clean s slot e f cleanly kept found is =
+    subst (λ g. AreClean s.next_port (without s.table slot) (kept_if (cleanly && not (is_assigned g.host)) g s.clean))
+    (sym (flow_there s.table slot e f found is))
+    (clean_left (cleanly && not (is_assigned e.flow.host)) s.next_port s.table s.clean slot e kept.table found (own_only cleanly (is_assigned e.flow.host))
     (entry_has (λ x. is_assigned x.flow.host ≡ false → x.flow.guest < s.next_port) (λ x. x.slot == slot) s.table.entries e kept.numbers.ports found) kept.clean)
 
 -- A fresh one is none of the table's.
-new_flow : (first port next : ℕ) (t : Table DriverConnection) (gone : List GoneConnection) (host : ℕ) → AreNumbered first port next t gone
+new_flow : (port : ℕ) (t : Table DriverConnection) (host : ℕ) → All (λ e. is_assigned e.flow.host ≡ false → e.flow.guest < port) t.entries
     → is_assigned host ≡ false → entry_of t (host_flow port host) ≡ None
-new_flow first port next t gone host kept mine =
+new_flow port t host ports mine =
     let flow : Flow = host_flow port host in
     find_none (λ (e : DriverEntry). same_flow flow e.flow) t.entries (λ k d lt. same_flow_false flow (get_or t.entries k d).flow (λ same.
     let host_is : host ≡ (get_or t.entries k d).flow.host = ap (λ (f : Flow). f.host) same in
     let guest_is : port ≡ (get_or t.entries k d).flow.guest = ap (λ (f : Flow). f.guest) same in
-    let less = kept.ports k d lt (ap is_assigned (sym host_is) ∙ mine) in
+    let less = ports k d lt (ap is_assigned (sym host_is) ∙ mine) in
     absurd (omega (arith, less, guest_is))))
 
 -- The next flow to a host port: a fresh one, or the oldest of those that are kept.
-fresh_is : (host port : ℕ) (fs : List Flow) (f : Flow) → nat_le port LAST_PORT ≡ true → free_flow host port fs ≡ Some f → f ≡ host_flow port host
+pub fresh_is : (host port : ℕ) (fs : List Flow) (f : Flow) → nat_le port LAST_PORT ≡ true → free_flow host port fs ≡ Some f → f ≡ host_flow port host
 fresh_is host port fs f left is =
     let same : Some (host_flow port host) ≡ Some f = sym (ap (λ b. cond b (Some (host_flow port host)) (oldest (goes_to host) fs)) left) ∙ is in cc
 
-again_is : (host port : ℕ) (fs : List Flow) (f : Flow) → nat_le port LAST_PORT ≡ false → free_flow host port fs ≡ Some f → oldest (goes_to host) fs ≡ Some f
+pub again_is : (host port : ℕ) (fs : List Flow) (f : Flow) → nat_le port LAST_PORT ≡ false → free_flow host port fs ≡ Some f → oldest (goes_to host) fs ≡ Some f
 again_is host port fs f spent is = sym (ap (λ b. cond b (Some (host_flow port host)) (oldest (goes_to host) fs)) spent) ∙ is
+
+pub given_host : (host port : ℕ) (fs : List Flow) (f : Flow) → free_flow host port fs ≡ Some f → f.host ≡ host
+given_host host port fs f is = by (nat_le port LAST_PORT) refl
+  where
+    by : (b : Bool) → nat_le port LAST_PORT ≡ b → f.host ≡ host
+    by true left = ap (λ (g : Flow). g.host) (fresh_is host port fs f left is)
+    by false spent = let passes = found_passes (goes_to host) fs f (again_is host port fs f spent is) in grind (arith, nat_tests, passes)
+
+pub given_from : (host port : ℕ) (fs : List Flow) (f : Flow) → free_flow host port fs ≡ Some f → (port ≤ f.guest) ⊎ (is_among f fs ≡ true)
+given_from host port fs f is = by (nat_le port LAST_PORT) refl
+  where
+    by : (b : Bool) → nat_le port LAST_PORT ≡ b → (port ≤ f.guest) ⊎ (is_among f fs ≡ true)
+    by true left = let guest : f.guest ≡ port = ap (λ (g : Flow). g.guest) (fresh_is host port fs f left is) in inl (omega (arith, guest))
+    by false spent = inr (found_among (goes_to host) f fs (again_is host port fs f spent is))
 
 pub port_below : (port guest : ℕ) → guest < port_after port guest
 port_below port guest = grind (arith, nat_tests)
@@ -205,15 +225,46 @@ module _ (port : ℕ) (t : Table DriverConnection) (fs : List Flow) (clean : Are
       by true left = grind (arith, nat_tests, left, most)
       by false spent = let below = again_below (again_is f.host port fs f spent is) in grind (arith, nat_tests, below, most)
 
-  pub given_absent : (first next : ℕ) (gone : List GoneConnection) → AreNumbered first port next t gone → is_assigned f.host ≡ false
+  pub given_absent : All (λ e. is_assigned e.flow.host ≡ false → e.flow.guest < port) t.entries → is_assigned f.host ≡ false
       → free_flow f.host port fs ≡ Some f → entry_of t f ≡ None
-  given_absent first next gone numbers own is = by (nat_le port LAST_PORT) refl
+  given_absent ports own is = by (nat_le port LAST_PORT) refl
     where
       by : (b : Bool) → nat_le port LAST_PORT ≡ b → entry_of t f ≡ None
-      by true left = ap (entry_of t) (fresh_is f.host port fs f left is) ∙ new_flow first port next t gone f.host numbers own
+      by true left = ap (entry_of t) (fresh_is f.host port fs f left is) ∙ new_flow port t f.host ports own
       by false spent = (each_at port t f fs clean.each (found_among (goes_to f.host) f fs (again_is f.host port fs f spent is))).absent
 
   pub given_clean : (c : DriverConnection) → AreClean (port_after port f.guest) (with_entry t f c) (flows_without f fs)
   given_clean c =
       clean_entry port (port_after port f.guest) t f c (flows_without f fs)
       (record { each = each_without port t f fs clean.each; once = without_distinct f fs clean.once }) (without_own f fs) (port_rises port f.guest)
+
+-- A connect that isn't refused before a page is looked for.
+pub record MayConnect (host : ℕ) (s : DriverState) : Type 0 where
+  pub own : is_assigned host ≡ false
+  pub place : slots_held s < DRIVER_CONNECTIONS
+  pub flow : free_flow host s.next_port s.clean ≡ Some (next_flow host s)
+  pub id : s.next_id ≤ LAST_ID
+
+none_refused : (a b c d : Bool) (x y z : ConnectError) → cond a (Some x) (cond b (Some y) (cond (not c || d) (Some z) None)) ≡ None
+    → (a ≡ false) × (b ≡ false) × (c ≡ true) × (d ≡ false)
+none_refused true b c d x y z is = absurd cc
+none_refused false true c d x y z is = absurd cc
+none_refused false false false d x y z is = absurd cc
+none_refused false false true true x y z is = absurd cc
+none_refused false false true false x y z is = (refl, refl, refl, refl)
+
+some_flow : (o : Option Flow) (f : Flow) → is_some o ≡ true → o ≡ Some (option_map_or (λ g. g) o f)
+some_flow None f is = absurd cc
+some_flow (Some g) f is = refl
+
+pub may_connect : (host : ℕ) (s : DriverState) → connect_refusal host s ≡ None → MayConnect host s
+may_connect host s is =
+    let n = none_refused (is_assigned host) (is_full s) (is_some (free_flow host s.next_port s.clean)) (nat_lt LAST_ID s.next_id) _ _ _ is in
+    let room = n.1 in
+    let last = n.3 in
+    record {
+      own = n.0;
+      place = grind (arith, nat_tests, room);
+      flow = some_flow (free_flow host s.next_port s.clean) (host_flow s.next_port host) n.2;
+      id = grind (arith, nat_tests, last);
+    }

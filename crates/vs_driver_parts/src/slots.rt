@@ -1,6 +1,6 @@
 //! The driver's slots: connections of the table, those that are gone and not closed, and the buffers of free slots.
 
-ghost use Rattle.std.specs.Prelude.{◌≡◌, ◌+◌, ◌<◌, ◌≤◌, ◌++◌, ◌==◌, ℕ, List, [], true, false, length, min, take, drop, find, Some, None, IfOk, IfSome};
+ghost use Rattle.std.specs.Prelude.{◌≡◌, ◌+◌, ◌<◌, ◌≤◌, ◌++◌, ◌==◌, ◌&&◌, not, ℕ, List, [], true, false, length, min, take, drop, find, Some, None, IfOk, IfSome};
 ghost use Rattle.std.specs.Prelude.{IfNone, IsSomeAnd, option_copied, position, remove, slice_get, ◌^◌, vec_capacity};
 ghost use Rattle.std.specs.{List.All, Option.option_map};
 ghost use Rattle.vs_conn.specs.Headers.{owed_header, payload_header};
@@ -16,9 +16,9 @@ ghost use Rattle.vs_driver_parts.specs.State.{DriverEntry, DriverConnection, Gon
 ghost use Rattle.vs_driver_parts.specs.Connections.{route_to_host, after_read, after_shut, after_closing, paid_connection, without_gone};
 ghost use Rattle.vs_driver_parts.specs.{Connections.all_gone_after_read, Connections.free_flow, Receiving.after_packet, Receiving.reset_reply};
 ghost use Rattle.vs_driver_parts.specs.{Connections.kept_if, Room.IsSpare};
-ghost use Rattle.laws_tables.specs.Steps.{is_kept, port_after};
+ghost use Rattle.laws_tables.specs.Steps.{port_after};
 ghost use Rattle.laws_history.specs.Packets.{is_clean_rst};
-ghost use Rattle.vs_page.specs.Log.{Driver};
+ghost use Rattle.vs_conn.specs.Shut.{is_both};
 ghost use Rattle.vs_driver_parts.specs.Held.{KnowsNone, no_slots, held_in, with_asked_in, with_answering_in, with_connection_in, left_in, kept_in};
 
 use crate::answers::ConnId;
@@ -206,18 +206,14 @@ impl Slots {
         Some((what, connection.owed_header(route_to_host(cid, flow), what)))
     }
 
-    /// Whether a packet leaves the flow of the connection in a slot to be used again: a marked RST, where this side asked for the connection and
-    /// decided to shut both directions.
-    pub fn keeps(&self, slot: Slot, header: &Header) -> bool
-        ensures { (e : DriverEntry) (payload : List ℕ) → entry_under self.now.table slot ≡ Some e → let p : Packet = record { header = header.now; payload = payload } in result ≡ is_kept Driver e.flow e.value.end p }
+    /// Whether a packet ends the connection in a slot cleanly: a marked RST, where both directions were shut.
+    pub fn ends_cleanly(&self, slot: Slot, header: &Header) -> bool
+        ensures { (e : DriverEntry) (payload : List ℕ) → entry_under self.now.table slot ≡ Some e → let p : Packet = record { header = header.now; payload = payload } in result ≡ (is_both e.value.end.own && is_clean_rst p) }
     {
-        let Some(flow) = self.table.flow_of(slot) else {
-            return false;
-        };
-        let Some(connection) = self.table.get(slot) else {
-            return false;
-        };
-        !is_assigned(flow.host) && connection.has_shut() && is_marked(header)
+        match self.table.get(slot) {
+            Some(connection) => connection.has_shut() && is_marked(header),
+            None => false,
+        }
     }
 
     /// All slots of the table, by rising slot.
@@ -300,10 +296,9 @@ impl Slots {
     }
 
     /// The connection in a slot leaves the table. It is gone then, or its slot is free where it was closed or never answered. Its flow may be
-    /// used again where `keep` says so, which is asked of connections of this side alone.
-    pub fn leave(&mut self, slot: Slot, keep: bool)
-        requires own { keep ≡ true → (e : DriverEntry) → entry_under self.old.table slot ≡ Some e → is_assigned e.flow.host ≡ false }
-        ensures { (e : DriverEntry) → entry_under self.old.table slot ≡ Some e → self.new ≡ kept_in keep e.flow (left_in e self.old) }
+    /// used again where it ended cleanly and this side opened it.
+    pub fn leave(&mut self, slot: Slot, cleanly: bool)
+        ensures { (e : DriverEntry) → entry_under self.old.table slot ≡ Some e → self.new ≡ kept_in (cleanly && not (is_assigned e.flow.host)) e.flow (left_in e self.old) }
     {
         let Some(flow) = self.table.flow_of(slot) else {
             return;
@@ -311,7 +306,7 @@ impl Slots {
         let Some(connection) = self.table.remove(slot) else {
             return;
         };
-        keep_if(&mut self.clean, keep, flow);
+        keep_own(&mut self.clean, cleanly, flow);
         let id = connection.id();
         let let_go = connection.is_let_go();
         let (end, mut unread) = connection.into_parts();
@@ -480,11 +475,11 @@ fn is_marked(header: &Header) -> bool
     header.op == Op::Rst.number() && header.flags == CLEAN
 }
 
-// Keeps a flow, or not.
-fn keep_if(clean: &mut CleanPairs, keep: bool, flow: Flow)
-    ensures { clean.new ≡ kept_if keep flow clean.old }
+// Keeps the flow of a connection that this side opened, where it ended cleanly.
+fn keep_own(clean: &mut CleanPairs, cleanly: bool, flow: Flow)
+    ensures { clean.new ≡ kept_if (cleanly && not (is_assigned flow.host)) flow clean.old }
 {
-    if keep {
+    if cleanly && !is_assigned(flow.host) {
         clean.keep(flow);
     }
 }

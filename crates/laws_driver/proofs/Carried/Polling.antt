@@ -5,7 +5,7 @@ use Rattle.std.specs.List.{All, filter, slice_get}
 use Rattle.vs_conn.specs.End.{ConnectionEnd, answering, end_after, is_refused, is_reset, owes_of, paid_of, verdict_of}
 use Rattle.vs_conn.specs.declared.end.{Owed.Owed, Verdict.Verdict}
 use Rattle.vs_flow.specs.{Connection.Connection, Flow.is_assigned, Flow.same_flow, Table.IsRising, Table.IsTable, Table.entry_of}
-use Rattle.vs_flow.specs.{Table.without, declared.flow.Flow.Flow}
+use Rattle.vs_flow.specs.{Table.Table, Table.without, declared.flow.Flow.Flow}
 use Rattle.vs_flow.proofs.Entries.{none_found, same_flow_false}
 use Rattle.vs_limits.specs.declared.TheConstants.{BUF_ALLOC, HOST_CID}
 use Rattle.laws_history.specs.{declared.packet.Packet.Packet, Packets.is_rw, Again.count, History.{Answerer, Asker, Got, Side, gots, puts}}
@@ -14,10 +14,10 @@ use Rattle.vs_page.specs.{Log.{and_then, flow_got, history_of, side_by, side_of,
 use Rattle.vs_page.specs.declared.log.LogEntry.TheVariants.{GotEvent, GotPacket, Mark, PutPacket}
 use Rattle.vs_page.proofs.{Flows.same_is, Flows.same_self, PayloadLogs.got_none, Present.present_got}
 use Rattle.vs_replies.specs.Owed.{reply_to}
-use Rattle.laws_tables.specs.{Ends.is_new, Matches.Matches, Steps.HasEnd, Steps.owed_on, Steps.reply_on}
+use Rattle.laws_tables.specs.{Ends.is_new, Matches.Matches, Steps.HasEnd, Steps.is_kept, Steps.owed_on, Steps.reply_on}
 use Rattle.laws_tables.proofs.{Fair.got_goes_on, Fair.got_not_refused, Fair.heard_all, Slots.found_by, Tables.driver_begun}
 use Rattle.vs_driver_parts.specs.{Conversations.after_paying, Held.HeldSlots, State.DriverConnection, State.DriverEntry, State.DriverState}
-use Rattle.vs_driver_parts.specs.Connections.{after_leaving, gone_as, is_let_go, paid_connection, with_connection, with_request}
+use Rattle.vs_driver_parts.specs.Connections.{after_leaving, gone_as, is_let_go, keeping, paid_connection, with_connection, with_request}
 use Rattle.vs_driver_parts.specs.{Connections.waits_no_more, Receiving.after_packet, Receiving.after_verdict, Receiving.all_left}
 use Rattle.vs_driver_parts.specs.Receiving.{is_request, may_open, on_heard, on_known, on_packet, on_unknown, reset_reply, with_reply}
 use Rattle.vs_driver_parts.proofs.{Ids.found_under, Packets.first_under, Packets.others_left, Packets.packet_known, Packets.packet_unknown}
@@ -30,7 +30,7 @@ use Rattle.laws_driver.specs.Carried.{Received.Account, Received.AreReceived, Re
 use Rattle.vs_header.specs.declared.Kind.TheVariants.{Stream}
 use Rattle.laws_driver.proofs.Carried.{Adding.got_adds, Adding.got_over_put, Changing.number_got, Changing.number_put}
 use Rattle.laws_driver.proofs.Carried.{Changing.puts_and_alters, Logging.leaves_received, Logging.opened_goes_on, Logging.opened_received}
-use Rattle.laws_driver.proofs.Carried.{Logging.passes_by, Logging.same_received, Reading.given_none, Receiving.changed_received}
+use Rattle.laws_driver.proofs.Carried.{Logging.passes_by, Logging.same_received, Reading.given_none, Receiving.{changed_received, in_clean}}
 use Rattle.vs_conn.specs.declared.end.Owed.TheVariants as owed
 use Rattle.vs_conn.specs.declared.end.Verdict.TheVariants as verdict
 use Rattle.laws_history.specs.Packets as packets
@@ -118,12 +118,14 @@ module _ (first : ℕ) (a : Account) (p : Packet) (e : DriverEntry) (s : DriverS
 
   peers : (b : Bool) → verdict_of e.value.end p.header ≡ verdict.Peer → is_reset p.header ≡ b
       → let c = after_packet verdict.Peer p e.value in
-      AreReceived a (GotPacket p ∷ log) (slots_of (cond b (after_leaving (record e { value = c }) s) (with_connection e.slot c s)))
+      AreReceived a (GotPacket p ∷ log) (slots_of (cond b (keeping (is_kept Driver e.flow e.value.end p) e.flow (after_leaving (record e { value = c }) s))
+      (with_connection e.slot c s)))
   peers false is reset = hears (after_packet verdict.Peer p e.value) refl (unmoved verdict.Peer is refl (λ (q : verdict.Peer ≡ verdict.Deliver). cc))
   peers true is reset =
-      leaving_received a (GotPacket p ∷ log) s e (after_packet verdict.Peer p e.value) fits.sound stands.contains refl refl
+      in_clean a (GotPacket p ∷ log) _ _
+      (leaving_received a (GotPacket p ∷ log) s e (after_packet verdict.Peer p e.value) fits.sound stands.contains refl refl
       (same_received a log (GotPacket p ∷ log) (slots_of s) (λ k. got_none Driver log p k (whole.none (empty_rst reset)))
-      (λ f. number_got Driver p log f plain) x)
+      (λ f. number_got Driver p log f plain) x))
 
   by_verdict : (v : Verdict) → verdict_of e.value.end p.header ≡ v → is_refused v ≡ false → AreReceived a (GotPacket p ∷ log) (slots_of (after_verdict v p e s))
   by_verdict (verdict.Rst why) is taken = absurd cc
@@ -210,21 +212,22 @@ module _ (a : Account) (p : Packet) (s : DriverState) (log : Log) (whole : IsWho
       by false true false asks may = passes
       by false false o asks may = passes
 
+-- A flow without an entry.
+pub not_there : (t : Table DriverConnection) (f : Flow) → entry_of t f ≡ None → All (λ e. e.flow ≢ f) t.entries
+not_there t f none i d within on =
+    let fails = none_found (λ (y : DriverEntry). same_flow f y.flow) t.entries none i d within in
+    let both : true ≡ false = sym (same_self f) ∙ ap (λ (g : Flow). same_flow f g) (sym on) ∙ fails in
+    cc
+
 -- A packet.
 heard_received : (first : ℕ) (a : Account) (p : Packet) (s : DriverState) (log : Log) → IsFitState s → IsWhole p → Matches Driver first (ends_of_state s) log
     → IsFairLog Driver log → IsFairLog Driver (GotPacket p ∷ log) → IsFurther a (slots_of s) log → IsFurther a (slots_of (on_packet p s)) (GotPacket p ∷ log)
 heard_received first a p s log fits whole m was fair x = drop_by (is_dropped Driver s.cid p.header) refl
   where
-    absent_of : entry_of s.table (flow_got Driver p) ≡ None → All (λ e. e.flow ≢ flow_got Driver p) s.table.entries
-    absent_of none i d within on =
-        let fails = none_found (λ (y : DriverEntry). same_flow (flow_got Driver p) y.flow) s.table.entries none i d within in
-        let both : true ≡ false = sym (same_self (flow_got Driver p)) ∙ ap (λ (f : Flow). same_flow (flow_got Driver p) f) (sym on) ∙ fails in
-        cc
-
     found : (o : Option DriverEntry) → entry_of s.table (flow_got Driver p) ≡ o → IsFurther a (slots_of (on_heard p s)) (GotPacket p ∷ log)
     found None none =
         subst (λ (t : DriverState). IsFurther a (slots_of t) (GotPacket p ∷ log)) (sym (packet_unknown p s none))
-        (unknown_received a p s log whole fair (absent_of none) x)
+        (unknown_received a p s log whole fair (not_there s.table (flow_got Driver p) none) x)
     found (Some e) is =
         let passes = found_by (λ (y : DriverEntry). same_flow (flow_got Driver p) y.flow) s.table.entries e is in
         let stands : Stands s e = record { under = found_under _ s.table e fits.sound is; contains = passes.0 } in

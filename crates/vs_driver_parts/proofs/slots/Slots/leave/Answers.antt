@@ -1,5 +1,5 @@
-use Rattle.std.proofs.{Common.{◌≡◌, ℕ, List, [], ◌∷◌, ◌++◌, length, Some, true, false, sym, ap, ◌∙◌, rules, arith}, lemmas.List.Elements.All-push}
-use Rattle.vs_flow.specs.{Table.{Table, entry_under, without}, declared.flow.Flow.Flow}
+use Rattle.std.proofs.{Common.{◌≡◌, ◌&&◌, not, ℕ, List, [], ◌∷◌, ◌++◌, length, Some, true, false, sym, ap, ◌∙◌, rules, arith}, lemmas.List.Elements.All-push}
+use Rattle.vs_flow.specs.{Flow.is_assigned, Table.{Table, entry_under, without}, declared.flow.Flow.Flow}
 use Rattle.vs_driver_parts.specs.{Room.IsSpare, State.DriverConnection, State.DriverEntry, State.GoneConnection, Held.HeldSlots}
 use Rattle.vs_driver_parts.specs.Connections.{is_let_go, kept_if}
 use Rattle.vs_driver_parts.specs.contracts.slots.Slots.{the_view}
@@ -16,7 +16,7 @@ invariant_of-self-then-let_go c =
     let entries = ap (λ (t : Table DriverConnection). length t.entries) table in
     record {
       numbers = rw table (numbers_without s.first_id s.next_port s.next_id s.table s.gone.items kept.numbers c.args.slot);
-      clean = rw (table, c.keep_if.ensures) (left_clean s c.args.slot u.entry c.in-Some.flow c.args.keep kept u.found c.in-Some.ensures.flow (rw (← c.self.view_is) at c.requires.own));
+      clean = rw (table, c.keep_own.ensures) (left_clean s c.args.slot u.entry c.in-Some.flow c.args.cleanly kept u.found c.in-Some.ensures.flow);
       last_port = kept.last_port;
       last_id = kept.last_id;
       table = c.in-Some-remove.ensures.sound;
@@ -28,11 +28,11 @@ invariant_of-self-then-let_go c =
     }
 
 -- What is kept, by the entry's flow.
-keeps : (c : goal.After-keep_if) (e : DriverEntry) → entry_under c.self.inside.table c.args.slot ≡ Some e
-    → c.keep_if.new.clean ≡ kept_if c.args.keep e.flow c.self.inside.clean
+keeps : (c : goal.After-keep_own) (e : DriverEntry) → entry_under c.self.inside.table c.args.slot ≡ Some e
+    → c.keep_own.new.clean ≡ kept_if (c.args.cleanly && not (is_assigned e.flow.host)) e.flow c.self.inside.clean
 keeps c e there =
     let s = c.self.inside in
-    c.keep_if.ensures ∙ ap (λ (f : Flow). kept_if c.args.keep f s.clean) (flow_there s.table c.args.slot e c.in-Some.flow there c.in-Some.ensures.flow)
+    c.keep_own.ensures ∙ ap (λ (f : Flow). kept_if (c.args.cleanly && not (is_assigned f.host)) f s.clean) (flow_there s.table c.args.slot e c.in-Some.flow there c.in-Some.ensures.flow)
 
 pub returns-then-let_go : goal.returns-then-let_go
 returns-then-let_go c = λ e found.
@@ -40,9 +40,9 @@ returns-then-let_go c = λ e found.
     let table : c.remove.new.self ≡ without s.table c.args.slot = c.in-Some-remove.ensures.removed in
     let go : is_let_go c.in-Some-remove.connection ≡ true = search rules in
     let there : entry_under s.table c.args.slot ≡ Some e = rw (← c.self.view_is) at found in
-    rw (← c.self.view_is) (ap (λ (t : Table DriverConnection). let h : HeldSlots = the_view s in record h { table = t; clean = c.keep_if.new.clean }) table
+    rw (← c.self.view_is) (ap (λ (t : Table DriverConnection). let h : HeldSlots = the_view s in record h { table = t; clean = c.keep_own.new.clean }) table
     ∙ (ap (λ (fs : List Flow). let h : HeldSlots = the_view s in record h { table = without s.table c.args.slot; clean = fs }) (keeps c e there)
-    ∙ ap (λ (h : HeldSlots). record h { clean = kept_if c.args.keep e.flow s.clean })
+    ∙ ap (λ (h : HeldSlots). record h { clean = kept_if (c.args.cleanly && not (is_assigned e.flow.host)) e.flow s.clean })
     (left_free (the_view s) c.args.slot e c.in-Some-remove.connection there c.in-Some-remove.ensures.value go)))
 
 pub invariant_of-self-2 : goal.invariant_of-self-2
@@ -58,7 +58,7 @@ invariant_of-self-2 c =
     record {
       numbers = rw (table, ← u.slot_is, c.push_reserved-2.ensures.items)
           (numbers_left s.first_id s.next_port s.next_id s.table s.gone.items kept.numbers u.entry c.new.result kept.table there (id ∙ sym value));
-      clean = rw (table, c.keep_if.ensures) (left_clean s c.args.slot u.entry c.in-Some.flow c.args.keep kept u.found c.in-Some.ensures.flow (rw (← c.self.view_is) at c.requires.own));
+      clean = rw (table, c.keep_own.ensures) (left_clean s c.args.slot u.entry c.in-Some.flow c.args.cleanly kept u.found c.in-Some.ensures.flow);
       last_port = kept.last_port;
       last_id = kept.last_id;
       table = c.in-Some-remove.ensures.sound;
@@ -77,10 +77,10 @@ returns c = λ e found.
     let there : entry_under s.table c.args.slot ≡ Some e = rw (← c.self.view_is) at found in
     let new : c.new.result ≡ record { id = c.in-Some-remove.connection.id; flow = c.in-Some.flow; end = c.in-Some-remove.connection.end; unread = c.in-Some-remove.connection.unread } = search rules in
     rw (← c.self.view_is) (ap (λ (t : Table DriverConnection). let h : HeldSlots = the_view s in
-    record h { table = t; gone = c.push_reserved-2.new.self.items; clean = c.keep_if.new.clean }) table
+    record h { table = t; gone = c.push_reserved-2.new.self.items; clean = c.keep_own.new.clean }) table
     ∙ (ap (λ (gone : List GoneConnection). let h : HeldSlots = the_view s in
-    record h { table = without s.table c.args.slot; gone = gone; clean = c.keep_if.new.clean }) c.push_reserved-2.ensures.items
+    record h { table = without s.table c.args.slot; gone = gone; clean = c.keep_own.new.clean }) c.push_reserved-2.ensures.items
     ∙ (ap (λ (fs : List Flow). let h : HeldSlots = the_view s in
     record h { table = without s.table c.args.slot; gone = s.gone.items ++ c.new.result ∷ []; clean = fs }) (keeps c e there)
-    ∙ ap (λ (h : HeldSlots). record h { clean = kept_if c.args.keep e.flow s.clean })
+    ∙ ap (λ (h : HeldSlots). record h { clean = kept_if (c.args.cleanly && not (is_assigned e.flow.host)) e.flow s.clean })
     (left_kept (the_view s) c.args.slot e c.in-Some-remove.connection there c.in-Some-remove.ensures.value c.in-Some.flow c.new.result stays c.in-Some.ensures.flow new))))

@@ -11,7 +11,7 @@ pub insert-requires-clause-unknown : goal.insert-requires-clause-unknown
 insert-requires-clause-unknown c =
     let s = c.self.inside in
     let kept = c.self.invariant in
-    given_absent s.next_port s.table s.clean kept.clean c.args.flow s.first_id s.next_id s.gone.items kept.numbers c.requires.host
+    given_absent s.next_port s.table s.clean kept.clean c.args.flow kept.numbers.ports c.requires.host
     (rw (← c.self.view_is) at c.requires.next)
 
 pub invariant_of-self : goal.invariant_of-self
@@ -33,7 +33,7 @@ invariant_of-self c =
       last_port = rw c.port_after.ensures (given_within s.next_port s.table s.clean kept.clean f next kept.last_port);
       last_id = omega (arith, last);
       table = rw table (with_entry_sound s.table f c.asked-connection.result kept.table (record {
-        absent = given_absent s.next_port s.table s.clean kept.clean f s.first_id s.next_id s.gone.items kept.numbers c.requires.host next;
+        absent = given_absent s.next_port s.table s.clean kept.clean f kept.numbers.ports c.requires.host next;
         place = omega (arith, kept.table_room, free);
         slot = omega (arith, kept.numbers.given, kept.last_id);
       }));
