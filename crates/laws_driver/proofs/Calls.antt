@@ -18,6 +18,7 @@ use Rattle.vs_driver_parts.specs.Conversations.{post_one, post_packet, posts, pu
 use Rattle.vs_driver_parts.specs.{Conversations.{send_with_page, stage_of}, Connections.{connect_refusal, connected, next_flow}}
 use Rattle.vs_driver_parts.specs.{declared.answers.ConnectError.ConnectError, declared.answers.Polled.Polled, declared.answers.Sent.Sent}
 use Rattle.vs_driver_parts.specs.{Playing.{MayPublishAll, Plays}, State.{DriverEntry, DriverState, entry_known_as}, Steps.{connects, sends}}
+use Rattle.vs_driver_parts.proofs.Clean.{none_clean}
 use Rattle.vs_limits.specs.declared.TheConstants.{LAST_PORT}
 use Rattle.laws_driver.specs.Honest.{AgreesWith, IsFitState, IsFresh, IsHonestWith, ends_of_state}
 use Rattle.laws_driver.proofs.{Polling.{not_tx_event, not_tx_rx, poll_keeps}, Changing.{Changes, stands_known, wanting_changes}}
@@ -332,7 +333,7 @@ module _ (size port id : ℕ) (port_fits : port ≤ LAST_PORT) where
     ports = λ i d within. absurd (omega (arith, within));
     owed = λ i d within. absurd (omega (arith, within));
     clean_fit = λ i d within. absurd (omega (arith, within));
-    clean_sound = record { each = tt; once = tt };
+    clean_sound = none_clean made.next_port made.table;
   }
 
   loaded : (cid : ℕ) (l : EndLog) → cid < 2 ^ 64 → Fresh l → IsAtRest cid (record made { cid = cid }) (log_loaded cid l)

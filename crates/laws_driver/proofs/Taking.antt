@@ -191,7 +191,7 @@ module _ (first : ℕ) (p : Packet) (s : DriverState) (log : Log) (fits : IsFitS
         fits = opening_fits s f c s.next_port s.clean fits free flow_fits room.peer (answering_held p.header s.next_id) refl fits.port_left (omega arith)
             (λ own. let both : true ≡ false = sym room.assigned ∙ own in absurd cc) fits.clean_fit
             (clean_entry s.next_port s.next_port s.table f c s.clean fits.clean_sound
-            (none_assigned s.next_port s.table f s.clean fits.clean_sound.each room.assigned) (omega arith));
+            (none_assigned s.next_port s.table f s.clean fits.clean_sound room.assigned) (omega arith));
         broken = refl;
         answer = true;
         ends = ends

@@ -29,6 +29,11 @@ kept_with_connection s slot d kept id = record {
   spare = kept.spare;
 }
 
+-- A connection in a slot is another, with the same id.
+pub kept_after : (s : Inside) (slot : ℕ) (old d : DriverConnection) → AreKept s → value_under s.table slot ≡ Some old → d.id ≡ old.id
+    → AreKept (record s { table = with_value s.table slot d })
+kept_after s slot old d kept is id = kept_with_connection s slot d kept (id_there s.table slot old d is id)
+
 -- A connection is closed: its id is none's then.
 pub knows_none : (s : Inside) (slot : ℕ) (c d : DriverConnection) → AreKept s → value_under s.table slot ≡ Some c → d.id ≡ c.id → d.closed ≡ true
     → (find (is_known_as c.id) (with_value s.table slot d).entries ≡ None) × (find (λ g. g.id == c.id) s.gone.items ≡ None)

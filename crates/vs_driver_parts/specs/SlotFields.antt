@@ -25,10 +25,13 @@ abbrev pub AllReuse : ℕ → Table DriverConnection → List Flow → Type 0
 AllReuse port table [] = Unit {0}
 AllReuse port table (f ∷ fs) = MayReuse port table f × AllReuse port table fs
 
--- So all are that are kept, and none is kept twice.
-pub record AreClean (port : ℕ) (table : Table DriverConnection) (clean : List Flow) : Type 0 where
+-- So all are that are kept, and none is kept twice. It stays one fact, so that a search doesn't look into it.
+pub record KeepsClean (port : ℕ) (table : Table DriverConnection) (clean : List Flow) : Type 0 where
   pub each : AllReuse port table clean
   pub once : AreDistinct clean
+
+unfoldable pub AreClean : ℕ → Table DriverConnection → List Flow → Type 0
+AreClean port table clean = KeepsClean port table clean
 
 -- There are buffers for all slots, and room for all connections.
 pub record AreKept (s : Inside) : Type 0 where

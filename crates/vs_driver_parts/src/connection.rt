@@ -1,6 +1,6 @@
 //! A connection of the driver's table: its end, and the bytes that came in on it and weren't read.
 
-ghost use Rattle.std.specs.Prelude.{◌≡◌, ◌≤◌, ◌==◌, ◌+◌, ◌++◌, [], true, false, Some, length, min, take, drop};
+ghost use Rattle.std.specs.Prelude.{◌≡◌, ℕ, List, ◌≤◌, ◌==◌, ◌&&◌, ◌+◌, ◌++◌, [], true, false, Some, length, min, take, drop};
 ghost use Rattle.vs_conn.specs.End.{CanSend, asked, answering, grown, may_send_of, may_shut, owes_of, paid_of, verdict_of, view_of};
 ghost use Rattle.vs_conn.specs.{End.wanting_credit, End.with_payload_sent, Headers.owed_header, Headers.payload_header, Shut.is_both};
 ghost use Rattle.vs_conn.specs.declared.end.Owed.TheVariants as owed;
@@ -8,7 +8,7 @@ ghost use Rattle.vs_conn.specs.declared.end.State.TheVariants.{Live};
 ghost use Rattle.vs_credit.specs.Credit.{free_of};
 ghost use Rattle.vs_header.specs.declared.Kind.TheVariants.{Stream};
 ghost use Rattle.vs_limits.specs.declared.TheConstants.{BUF_ALLOC, BUF_ALLOC_MAX};
-ghost use Rattle.laws_history.specs.declared.packet.Packet.{Packet};
+ghost use Rattle.laws_history.specs.{Packets.is_clean_rst, declared.packet.Packet.Packet};
 ghost use Rattle.vs_page.specs.Held.{IsWhole};
 ghost use Rattle.vs_driver_parts.specs.Connections.{after_read, after_shut, after_closing, paid_connection, is_let_go};
 ghost use Rattle.vs_driver_parts.specs.{Receiving.after_packet, Room.IsSpare};
@@ -17,7 +17,7 @@ use crate::answers::ConnId;
 use std::marker::Model;
 use vs_buffer::ByteFifo;
 use vs_conn::{End, EndView, Owed, Route, State, Stop, Verdict};
-use vs_header::{Header, Kind};
+use vs_header::{CLEAN, Header, Kind, Op};
 use vs_limits::BUF_ALLOC;
 
 /// A connection of the table.
@@ -106,8 +106,15 @@ impl Connection {
         self.closed
     }
 
-    /// Whether its end decided to shut both directions.
-    pub fn has_shut(&self) -> bool
+    /// Whether a packet ends it cleanly: a marked RST, where its end decided to shut both directions.
+    pub fn ends_cleanly(&self, header: &Header) -> bool
+        ensures { (payload : List ℕ) → let p : Packet = record { header = header.now; payload = payload } in result ≡ (is_both self.now.end.own && is_clean_rst p) }
+    {
+        self.has_shut() && is_marked(header)
+    }
+
+    // Whether its end decided to shut both directions.
+    fn has_shut(&self) -> bool
         ensures { result ≡ is_both self.now.end.own }
     {
         self.end.view().put == 3
@@ -263,4 +270,11 @@ impl Connection {
     {
         (self.end, self.unread)
     }
+}
+
+// Whether a packet is a marked RST.
+fn is_marked(header: &Header) -> bool
+    ensures { (payload : List ℕ) → let p : Packet = record { header = header.now; payload = payload } in result ≡ is_clean_rst p }
+{
+    header.op == Op::Rst.number() && header.flags == CLEAN
 }

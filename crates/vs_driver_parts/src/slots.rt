@@ -31,7 +31,7 @@ use std::marker::Model;
 use vs_buffer::ByteFifo;
 use vs_conn::{Owed, Stop, Verdict};
 use vs_flow::{CleanPairs, Entry, Flow, FlowTable, Slot, is_assigned};
-use vs_header::{CLEAN, Header, Op};
+use vs_header::Header;
 use vs_limits::{BUF_ALLOC_MAX, DRIVER_CONNECTIONS, LAST_PORT};
 use vs_replies::Reply;
 
@@ -78,6 +78,7 @@ impl Model for Slots {
 impl Slots {
     /// The slots of a driver that has no connection yet, and gives guest ports from `port` on and ids from `id` on. All memory is taken
     /// here.
+    #[tactic(auto, unfolding(crate::specs::SlotFields::AreClean))]
     pub fn new(alloc: Global, port: u32, id: ConnId) -> Result<Slots, AllocError>
         requires port { port ≤ LAST_PORT }
         ensures { IfOk result (λ s. s ≡ no_slots port id) }
@@ -211,7 +212,7 @@ impl Slots {
         ensures { (e : DriverEntry) (payload : List ℕ) → entry_under self.now.table slot ≡ Some e → let p : Packet = record { header = header.now; payload = payload } in result ≡ (is_both e.value.end.own && is_clean_rst p) }
     {
         match self.table.get(slot) {
-            Some(connection) => connection.has_shut() && is_marked(header),
+            Some(connection) => connection.ends_cleanly(header),
             None => false,
         }
     }
@@ -270,7 +271,8 @@ impl Slots {
         let id = self.next_id as u32;
         let connection = Connection::asked(id, self.spare.take_last());
         insert(&mut self.table, flow, connection);
-        self.next_port = port_after(self.next_port, flow.guest);
+        let next = port_after(self.next_port, flow.guest);
+        self.next_port = next;
         self.clean.remove(flow);
         self.last_port = flow.guest;
         self.last_id = id;
@@ -360,7 +362,6 @@ impl Slots {
     }
 }
 
-#[tactic(auto, using(crate::proofs::SlotChanges::kept_with_connection, crate::proofs::SameIds::packet_id, crate::proofs::SameIds::paid_id, crate::proofs::SameIds::closing_id))]
 impl Slots {
     /// Takes a packet of the connection in a slot, and says what its end says to it.
     pub fn on_packet(&mut self, slot: Slot, header: &Header, payload: &[u8]) -> Verdict
@@ -459,20 +460,13 @@ impl Slots {
 
 // The guest port that is given next, once this one was given.
 fn port_after(next: u32, port: u32) -> u32
-    requires left { next ≤ LAST_PORT + 1 }
+    requires left { port ≤ LAST_PORT }
     ensures { result ≡ port_after next port }
 {
     if next <= port {
-        return next + 1;
+        return port + 1;
     }
     next
-}
-
-// Whether a packet is a marked RST.
-fn is_marked(header: &Header) -> bool
-    ensures { (payload : List ℕ) → let p : Packet = record { header = header.now; payload = payload } in result ≡ is_clean_rst p }
-{
-    header.op == Op::Rst.number() && header.flags == CLEAN
 }
 
 // Keeps the flow of a connection that this side opened, where it ended cleanly.

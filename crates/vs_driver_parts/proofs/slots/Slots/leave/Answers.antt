@@ -27,13 +27,6 @@ invariant_of-self-then-let_go c =
       spare = rw c.push_reserved.ensures.items (All-push IsSpare s.spare.items c.clear.new.self kept.spare (search rules));
     }
 
--- What is kept, by the entry's flow.
-keeps : (c : goal.After-keep_own) (e : DriverEntry) → entry_under c.self.inside.table c.args.slot ≡ Some e
-    → c.keep_own.new.clean ≡ kept_if (c.args.cleanly && not (is_assigned e.flow.host)) e.flow c.self.inside.clean
-keeps c e there =
-    let s = c.self.inside in
-    c.keep_own.ensures ∙ ap (λ (f : Flow). kept_if (c.args.cleanly && not (is_assigned f.host)) f s.clean) (flow_there s.table c.args.slot e c.in-Some.flow there c.in-Some.ensures.flow)
-
 pub returns-then-let_go : goal.returns-then-let_go
 returns-then-let_go c = λ e found.
     let s = c.self.inside in
@@ -41,7 +34,8 @@ returns-then-let_go c = λ e found.
     let go : is_let_go c.in-Some-remove.connection ≡ true = search rules in
     let there : entry_under s.table c.args.slot ≡ Some e = rw (← c.self.view_is) at found in
     rw (← c.self.view_is) (ap (λ (t : Table DriverConnection). let h : HeldSlots = the_view s in record h { table = t; clean = c.keep_own.new.clean }) table
-    ∙ (ap (λ (fs : List Flow). let h : HeldSlots = the_view s in record h { table = without s.table c.args.slot; clean = fs }) (keeps c e there)
+    ∙ (ap (λ (fs : List Flow). let h : HeldSlots = the_view s in record h { table = without s.table c.args.slot; clean = fs }) (c.keep_own.ensures
+    ∙ ap (λ (f : Flow). kept_if (c.args.cleanly && not (is_assigned f.host)) f s.clean) (flow_there s.table c.args.slot e c.in-Some.flow there c.in-Some.ensures.flow))
     ∙ ap (λ (h : HeldSlots). record h { clean = kept_if (c.args.cleanly && not (is_assigned e.flow.host)) e.flow s.clean })
     (left_free (the_view s) c.args.slot e c.in-Some-remove.connection there c.in-Some-remove.ensures.value go)))
 
@@ -81,6 +75,7 @@ returns c = λ e found.
     ∙ (ap (λ (gone : List GoneConnection). let h : HeldSlots = the_view s in
     record h { table = without s.table c.args.slot; gone = gone; clean = c.keep_own.new.clean }) c.push_reserved-2.ensures.items
     ∙ (ap (λ (fs : List Flow). let h : HeldSlots = the_view s in
-    record h { table = without s.table c.args.slot; gone = s.gone.items ++ c.new.result ∷ []; clean = fs }) (keeps c e there)
+    record h { table = without s.table c.args.slot; gone = s.gone.items ++ c.new.result ∷ []; clean = fs }) (c.keep_own.ensures
+    ∙ ap (λ (f : Flow). kept_if (c.args.cleanly && not (is_assigned f.host)) f s.clean) (flow_there s.table c.args.slot e c.in-Some.flow there c.in-Some.ensures.flow))
     ∙ ap (λ (h : HeldSlots). record h { clean = kept_if (c.args.cleanly && not (is_assigned e.flow.host)) e.flow s.clean })
     (left_kept (the_view s) c.args.slot e c.in-Some-remove.connection there c.in-Some-remove.ensures.value c.in-Some.flow c.new.result stays c.in-Some.ensures.flow new))))

@@ -18,7 +18,7 @@ invariant_of-self c =
     record {
       numbers = rw table (numbers_with_entry s.first_id s.next_port s.next_id s.table s.gone.items kept.numbers c.args.flow c.answering-connection.result _ id (omega arith) (λ mine. absurd (cc (mine, c.requires.host))));
       clean = rw table (clean_entry s.next_port s.next_port s.table c.args.flow c.answering-connection.result s.clean kept.clean
-          (none_assigned s.next_port s.table c.args.flow s.clean kept.clean.each c.requires.host) (omega arith));
+          (none_assigned s.next_port s.table c.args.flow s.clean kept.clean c.requires.host) (omega arith));
       last_port = kept.last_port;
       last_id = omega (arith, last);
       table = rw table (with_entry_sound s.table c.args.flow c.answering-connection.result kept.table

@@ -1,9 +1,10 @@
 use Rattle.std.proofs.Common.{◌≡◌, ◌+◌, ◌<◌, ◌≤◌, length, ◌∷◌, [], Some, ap, ◌∙◌, rules, arith, length-append}
 use Rattle.vs_flow.specs.Table.{Table, entry_of, with_entry, next_entry}
 use Rattle.vs_flow.proofs.Tables.{with_entry_sound}
+use Rattle.laws_tables.specs.Ends.{without as flows_without}
 use Rattle.vs_driver_parts.specs.{Connections.free_flow, Room.IsSpare, State.DriverConnection}
 use Rattle.vs_driver_parts.proofs.{Numbers.numbers_with_entry, SlotChanges.all_front}
-use Rattle.vs_driver_parts.proofs.Clean.{given_absent, given_clean, given_within, port_below, port_rises, removed_flow}
+use Rattle.vs_driver_parts.proofs.Clean.{all_clean, given_absent, given_clean, given_guest, given_within, port_below, port_rises, removed_flow}
 use Rattle.vs_limits.specs.declared.TheConstants.{LAST_ID}
 use Rattle.vs_driver_parts.proofs.slots.Slots.open_asked.Goals as goal
 
@@ -13,6 +14,12 @@ insert-requires-clause-unknown c =
     let kept = c.self.invariant in
     given_absent s.next_port s.table s.clean kept.clean c.args.flow kept.numbers.ports c.requires.host
     (rw (← c.self.view_is) at c.requires.next)
+
+pub port_after-next-requires : goal.port_after-next-requires
+port_after-next-requires c =
+    let s = c.self.inside in
+    let kept = c.self.invariant in
+    record { left = given_guest s.next_port s.table s.clean kept.clean c.args.flow (rw (← c.self.view_is) at c.requires.next) kept.last_port }
 
 pub invariant_of-self : goal.invariant_of-self
 invariant_of-self c =
@@ -26,11 +33,11 @@ invariant_of-self c =
     let entries = ap (λ (t : Table DriverConnection). length t.entries) table in
     let last : s.next_id ≤ LAST_ID = rw (← c.self.view_is) at c.requires.id in
     record {
-      numbers = rw (table, c.port_after.ensures) (numbers_with_entry s.first_id s.next_port s.next_id s.table s.gone.items kept.numbers f c.asked-connection.result _ id
+      numbers = rw (table, c.port_after-next.ensures) (numbers_with_entry s.first_id s.next_port s.next_id s.table s.gone.items kept.numbers f c.asked-connection.result _ id
           (port_rises s.next_port f.guest) (λ mine. port_below s.next_port f.guest));
-      clean = rw (table, c.port_after.ensures, c.remove.ensures, removed_flow f s.clean kept.clean.once)
+      clean = rw (table, c.port_after-next.ensures, c.remove.ensures, removed_flow f s.clean (all_clean s.next_port s.table s.clean kept.clean).once)
           (given_clean s.next_port s.table s.clean kept.clean f c.asked-connection.result);
-      last_port = rw c.port_after.ensures (given_within s.next_port s.table s.clean kept.clean f next kept.last_port);
+      last_port = rw c.port_after-next.ensures (given_within s.next_port s.table s.clean kept.clean f next kept.last_port);
       last_id = omega (arith, last);
       table = rw table (with_entry_sound s.table f c.asked-connection.result kept.table (record {
         absent = given_absent s.next_port s.table s.clean kept.clean f kept.numbers.ports c.requires.host next;
@@ -43,3 +50,10 @@ invariant_of-self c =
       buffer_room = omega (arith, kept.buffer_room, c.take_last.ensures.capacity);
       spare = all_front IsSpare c.take_last.new.self.items c.take_last.result s.spare.items c.take_last.ensures.items kept.spare;
     }
+
+pub returns-clause-opened : goal.returns-clause-opened
+returns-clause-opened c =
+    let s = c.self.inside in
+    let clean : c.remove.new.self ≡ flows_without c.args.flow s.clean =
+    c.remove.ensures ∙ removed_flow c.args.flow s.clean (all_clean s.next_port s.table s.clean c.self.invariant.clean).once in
+    search rules
