@@ -1,8 +1,8 @@
 -- The driver's steps, one after another: each is a step of its seat (its connections and its log). Which packets and events come is for the
 -- other end to say.
-use Rattle.std.proofs.Common.{◌≡◌, ◌≤◌, List, [], ◌∷◌, refl, sym, ap, subst, ◌∙◌}
+use Rattle.std.proofs.Common.{◌≡◌, List, [], ◌∷◌, refl, sym, ap, subst, ◌∙◌}
 use Rattle.vs_page.specs.Log.{Driver, Log}
-use Rattle.laws_tables.specs.{Ends.Ends, Heard.own_port, Steps.IsNextFlow, Both.{MayHappen, Opens, Seat, Step, Takes, TakesEvent, after}}
+use Rattle.laws_tables.specs.{Ends.Ends, Both.{MayHappen, Seat, Step, Takes, TakesEvent, after}}
 use Rattle.vs_driver_parts.specs.State.{DriverState}
 use Rattle.laws_driver.specs.Honest.{ends_of_state}
 

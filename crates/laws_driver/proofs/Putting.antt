@@ -142,14 +142,11 @@ next_fits host s host_fits fits f is = by (nat_le s.next_port LAST_PORT) refl
 
 fit_without : (f : Flow) (fs : List Flow) → All IsFitClean fs → All IsFitClean (flows_without f fs)
 fit_without f [] all = all
-fit_without f (g ∷ gs) all = by (same_flow f g)
+fit_without f (g ∷ gs) all = by (same_flow f g) (fit_without f gs (All-tail IsFitClean g gs all))
   where
-    rest : All IsFitClean (flows_without f gs)
-    rest = fit_without f gs (All-tail IsFitClean g gs all)
-
-    by : (b : Bool) → All IsFitClean (cond b (flows_without f gs) (g ∷ flows_without f gs))
-    by true = rest
-    by false = All-cons IsFitClean g (flows_without f gs) (All-head IsFitClean g gs all) rest
+    by : (b : Bool) → All IsFitClean (flows_without f gs) → All IsFitClean (cond b (flows_without f gs) (g ∷ flows_without f gs))
+    by true rest = rest
+    by false rest = All-cons IsFitClean g (flows_without f gs) (All-head IsFitClean g gs all) rest
 
 asked_held : IsHeldBy (record { id = 0; end = paid_of (asked Stream BUF_ALLOC) owed.Request; unread = []; unanswered = false; closed = false })
 asked_held = record { unread = refl; fits = omega arith; space = omega arith; least = omega arith; alloc = omega arith; rx_cnt = omega arith; fwd_cnt = omega arith }
