@@ -6,6 +6,7 @@ use Rattle.std.specs.{List.range_with_len, Prelude.◌==◌, Prelude.◌&&◌, P
 use Rattle.byteorder.specs.Endian.{little_number}
 use Rattle.vs_guest_mem.specs.Memory.{Memory, after_write, bytes_at}
 use Rattle.vs_layout.specs.{Layout.queue_areas_of, declared.place.Areas.Areas, declared.placement.QueueAreas.QueueAreas}
+use Rattle.vs_limits.specs.declared.TheConstants.{FIRST_CID}
 use Rattle.vs_ring_port.specs.{Chains.same_queue, declared.queue.Queue.Queue, declared.queue.Queue.TheVariants.{Rx, Tx, Event}}
 use Rattle.vs_ring_list.specs.Ends.{empty_ends}
 use Rattle.vs_ring_plain.specs.Device.{areas_at, cleared_used, new_device}
@@ -274,10 +275,10 @@ module _ (m : Memory) (base n at : ℕ) (indirect : Bool) (nonzero : 0 < n) (lim
     rx = new_queue n (Some at);
     tx = new_queue n (Some (at + 4096 * n));
     event = new_queue n (Some (at + 2 * (4096 * n)));
-    cid = 3;
+    cid = FIRST_CID;
   }
 
-  made_is : new_parts m base n indirect 3 ≡ made
+  made_is : new_parts m base n indirect ≡ made
   made_is = rw pages refl
 
   same_start : (q : Queue) → start_of made q ≡ start q
@@ -309,17 +310,17 @@ module _ (m : Memory) (base n at : ℕ) (indirect : Bool) (nonzero : 0 < n) (lim
           let start = at + 2 * (4096 * n) in
           ([], [], empty_tie Event n start (shown all.event start after_all) nonzero (clear.avail Event) (clear.used Event))
 
-  pub new_tied : AreTied (new_parts m base n indirect 3) (empty_ends n)
+  pub new_tied : AreTied (new_parts m base n indirect) (empty_ends n)
   new_tied = subst (λ (p : PartsState). AreTied p (empty_ends n)) (sym made_is) made_tied
 
 -- they are tied where they alone change the memory
 pub told_new : (m : Memory) (base n : ℕ) (indirect : Bool) → 0 < n → n ≤ 32768 → m.base + length m.bytes < 2 ^ 64 → m.base ≤ base
-    → IsTiedTo (new_parts m base n indirect 3) (first_ends m base n)
+    → IsTiedTo (new_parts m base n indirect) (first_ends m base n)
 told_new m base n indirect nonzero limit fits from =
     by (length m.changes == 0) refl (pages_start m (queue_areas_of base n).event.end n) refl (2 ^ 16 % n == 0) refl
   where
     by : (a : Bool) → (length m.changes == 0) ≡ a → (o : Option ℕ) → pages_start m (queue_areas_of base n).event.end n ≡ o
-        → (c : Bool) → (2 ^ 16 % n == 0) ≡ c → IsTiedTo (new_parts m base n indirect 3) (cond (a && is_some o && c) (Some (empty_ends
+        → (c : Bool) → (2 ^ 16 % n == 0) ≡ c → IsTiedTo (new_parts m base n indirect) (cond (a && is_some o && c) (Some (empty_ends
         n)) None)
     by false still o pages c divides = tt
     by true still None pages c divides = tt

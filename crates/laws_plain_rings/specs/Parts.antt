@@ -3,6 +3,7 @@ use Rattle.std.specs.Prelude.{ℕ, ◌+◌, ◌-◌, ◌*◌, ◌%◌, Bool, nat
 use Rattle.std.specs.List.{range_with_len}
 use Rattle.vs_guest_mem.specs.Memory.{Memory}
 use Rattle.vs_layout.specs.{Layout.queue_areas_of, declared.placement.QueueAreas.QueueAreas}
+use Rattle.vs_limits.specs.declared.TheConstants.{FIRST_CID}
 use Rattle.vs_page.specs.declared.page.TheConstants.{PAGE_LEN}
 use Rattle.vs_ring_port.specs.{Counts.Counts, declared.queue.Queue.Queue, declared.queue.Queue.TheVariants.{Rx, Tx, Event}}
 use Rattle.vs_ring_plain.specs.Device.{DeviceState, areas_at, cleared_used, new_device, with_memory}
@@ -77,8 +78,8 @@ new_queue n at =
     record { n = n; pages_at = at; pages = replicate n None; free = range_with_len 0 n; published = 0; staged = 0; reaped = 0 }
 
 -- Rings of which each queue has n places, with the areas from a base on, before the first call.
-abbrev pub new_parts : Memory → ℕ → ℕ → Bool → ℕ → PartsState
-new_parts m base n indirect cid =
+abbrev pub new_parts : Memory → ℕ → ℕ → Bool → PartsState
+new_parts m base n indirect =
     let areas = queue_areas_of base n in
     let pages = pages_start m areas.event.end n in
     record {
@@ -86,5 +87,5 @@ new_parts m base n indirect cid =
       rx = new_queue n pages;
       tx = new_queue n (pages_behind pages (PAGE_LEN * n));
       event = new_queue n (pages_behind pages (2 * (PAGE_LEN * n)));
-      cid = cid;
+      cid = FIRST_CID;
     }

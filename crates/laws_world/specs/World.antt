@@ -5,7 +5,7 @@ use Rattle.vs_ring_port.specs.DriverCalls.{driver_answer}
 use Rattle.vs_ring_list.specs.Ends.{Ends, empty_ends}
 use Rattle.vs_outside.specs.{Host.HostContents, HostProgram.new_host, HostProgram.plain}
 use Rattle.vs_driver_parts.specs.{State.DriverState, Conversations.DriverTree, Conversations.new_of}
-use Rattle.vs_limits.specs.declared.TheConstants.{FIRST_PORT}
+use Rattle.vs_limits.specs.declared.TheConstants.{FIRST_CID, FIRST_PORT}
 use Rattle.vs_device_parts.specs.Calls.{DeviceTree}
 use Rattle.vs_proxy_parts.specs.{State.ProxyState, Turns.new_proxy}
 use Rattle.laws_world.specs.Answers.{Around, answer_around}
@@ -37,7 +37,7 @@ device_plays tree w =
 
 -- The guest's CID before the first transport reset.
 abbrev pub first_cid : ℕ
-first_cid = 3
+first_cid = FIRST_CID
 
 -- A host at which nobody listens, with this base path.
 abbrev pub opened_host : List ℕ → HostContents

@@ -1,6 +1,6 @@
 -- A hostile guest's run: each line of its script, and what it answers.
 use Rattle.std.specs.Prelude.{ℕ, ◌+◌, ◌&&◌, nat_le, min, if◌then◌else◌, List, [], length, Option, None, Some, Result, codes}
-use Rattle.vs_limits.specs.declared.TheConstants.{GUEST_CID_MIN, GUEST_CID_MAX}
+use Rattle.vs_limits.specs.declared.TheConstants.{FIRST_CID, GUEST_CID_MIN, GUEST_CID_MAX}
 use Rattle.vs_contents.specs.CallTree.{played}
 use Rattle.vs_layout.specs.declared.span.Span.{Span}
 use Rattle.vs_outside.specs.{Host.HostContents, HostProgram.after_client, HostProgram.new_host, HostProgram.plain}
@@ -86,9 +86,10 @@ line_in (HasRings ring) line s = over_rings line ring s
 abbrev pub hostile_does : Hostile → HostileState → HostileState × Said
 hostile_does line s = line_in s.guest line s
 
--- Before the first line: a device just made, with guest CID 3, at moment 0, and a host at whose base path `v.sock` clients may connect.
+-- Before the first line: a device just made, with the guest's first CID, at moment 0, and a host at whose base path `v.sock` clients may
+-- connect.
 abbrev pub base_path : List ℕ
 base_path = codes "v.sock"
 
 abbrev pub beginning : HostileState
-beginning = record { guest = Nothing; proxy = new_proxy 3 base_path; host = (new_host base_path [] plain).contents; now = 0 }
+beginning = record { guest = Nothing; proxy = new_proxy FIRST_CID base_path; host = (new_host base_path [] plain).contents; now = 0 }

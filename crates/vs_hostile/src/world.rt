@@ -14,14 +14,12 @@ use std::alloc::{AllocError, Global};
 use std::marker::Model;
 use vs_device::Counters;
 use vs_layout::Span;
+use vs_limits::FIRST_CID;
 use vs_outside::{MemHost, MemStream, StepClock};
 use vs_proxy::Proxy;
 use vs_report::host_lines::push_ok;
 use vs_ring_port::Failure;
 use vs_script::HostileLine;
-
-/// The guest's CID before the first reset.
-const FIRST_CID: u64 = 3;
 
 /// The base path of the host's sockets.
 const BASE_PATH: &str = "v.sock";

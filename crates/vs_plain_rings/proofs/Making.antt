@@ -2,6 +2,7 @@
 use Rattle.std.proofs.Common.{◌≡◌, ℕ, ◌+◌, ◌*◌, ◌-◌, ◌%◌, ◌≤◌, Bool, true, false, cond, Option, Some, None, IfSome, length, refl, ap, ◌∙◌}
 use Rattle.std.{proofs.Common.sym, proofs.Common.ap₂, proofs.Common.arith, specs.Prelude.nat_le, proofs.lemmas.Bool.Decides.nat_tests}
 use Rattle.vs_guest_mem.specs.Memory.{Memory}
+use Rattle.vs_limits.specs.declared.TheConstants.{FIRST_CID}
 use Rattle.vs_plain_driver.specs.{Queue.DriverQueueState, Queue.cleared_avail, View.ArePagesIn}
 use Rattle.vs_layout.specs.{Layout.queue_areas_of, declared.placement.QueueAreas.QueueAreas}
 use Rattle.vs_ring_plain.specs.Device.{DeviceState, areas_at, cleared_used, new_device, with_memory}
@@ -63,10 +64,10 @@ pub made : (m : Memory) (base n : ℕ) (indirect : Bool) (areas : QueueAreas) (d
     → d3 ≡ given_to Event d2
     → d4 ≡ used_by Rx d3 → d5 ≡ used_by Tx d4 → d6 ≡ used_by Event d5 → let pages = pages_start m (queue_areas_of base n).event.end n in
     rx ≡ new_queue n pages → tx ≡ new_queue n (pages_behind pages (4096 * n)) → event ≡ new_queue n (pages_behind pages (2 * (4096 * n)))
-    → let p : PartsState = record { device = d6; rx = rx; tx = tx; event = event; cid = 3 } in p ≡ new_parts m base n indirect 3
+    → let p : PartsState = record { device = d6; rx = rx; tx = tx; event = event; cid = FIRST_CID } in p ≡ new_parts m base n indirect
 made m base n indirect areas d0 d1 d2 d3 d4 d5 d6 rx tx event is is0 is1 is2 is3 is4 is5 is6 is_rx is_tx is_event =
     let of : DeviceState → DriverQueueState → DriverQueueState → DriverQueueState → PartsState =
-    λ d a b c. record { device = d; rx = a; tx = b; event = c; cid = 3 } in
+    λ d a b c. record { device = d; rx = a; tx = b; event = c; cid = FIRST_CID } in
     let device : d6 ≡ new_device (cleared areas n m) n areas indirect =
     is6
     ∙ ap (used_by Event) (is5 ∙ ap (used_by Tx) (is4 ∙ ap (used_by Rx) (is3 ∙ ap (given_to Event) (is2 ∙ ap (given_to Tx)

@@ -69,7 +69,7 @@ impl Parts {
         requires limit { n ≤ QUEUE_SIZE_MAX }
         requires from { mem.base ≤ base }
         requires to { (queue_areas_of base n).event.end ≤ mem.base + length mem.bytes }
-        ensures { IfOk result (λ p. p ≡ new_parts mem base n indirect 3) }
+        ensures { IfOk result (λ p. p ≡ new_parts mem base n indirect) }
     {
         let top = mem.base() + mem.size();
         let areas = queue_areas(base, n);

@@ -62,7 +62,7 @@ impl PlainRings {
         requires limit { n ≤ QUEUE_SIZE_MAX }
         requires from { mem.base ≤ base }
         requires to { (queue_areas_of base n).event.end ≤ mem.base + length mem.bytes }
-        ensures parts { IfOk result (λ r. r.parts ≡ new_parts mem base n indirect 3) }
+        ensures parts { IfOk result (λ r. r.parts ≡ new_parts mem base n indirect) }
         ensures ends { IfOk result (λ r. r.ends ≡ first_ends mem base n) }
     {
         let journal = first_journal(is_alone(&mem, base, n));

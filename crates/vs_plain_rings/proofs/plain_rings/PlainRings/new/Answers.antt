@@ -13,7 +13,7 @@ ends_are c =
 pub invariant_of-result : goal.invariant_of-result
 invariant_of-result c =
     subst (λ (p : PartsState). IsTiedTo p (ends_by p.device.size c.first_journal-journal.result.calls)) (sym c.in_ok-parts.ensures)
-    (subst (IsTiedTo (new_parts c.args.mem c.args.base c.args.n c.args.indirect 3)) (sym (ends_are c))
+    (subst (IsTiedTo (new_parts c.args.mem c.args.base c.args.n c.args.indirect)) (sym (ends_are c))
     (told_new c.args.mem c.args.base c.args.n c.args.indirect c.requires.nonzero c.requires.limit c.is_alone.ensures.fits c.requires.from))
 
 pub returns-clause-ends : goal.returns-clause-ends
