@@ -1,5 +1,5 @@
 -- Driver and device at rest, as plain data: each got all that the other put, and nothing is owed.
-use Rattle.std.specs.{Prelude.{◌≡◌, ℕ, ◌<◌, ◌≤◌, ◌^◌, Bool, true, false, [], ◌∷◌, None}, List.All, Option.ForSome}
+use Rattle.std.specs.{Prelude.{◌≡◌, ℕ, ◌+◌, ◌-◌, ◌<◌, ◌≤◌, ◌^◌, Bool, true, false, [], ◌∷◌, None}, List.All, Option.ForSome}
 use Rattle.vs_wrap.specs.Wrap.{difference32}
 use Rattle.vs_conn.specs.{End.ConnectionEnd, End.owes_of, Shut.is_both, declared.end.State.TheVariants.Live}
 use Rattle.vs_conn.specs.declared.end.TheConstants.{UPDATE_AT}
@@ -71,6 +71,10 @@ pub record Mirrors (e other : ConnectionEnd) : Type 0 where
   pub updated : is_both other.own ≡ false → difference32 other.credit.fwd_cnt other.told_fwd < UPDATE_AT
   -- It knows the directions that the other shut.
   pub peer : e.peer ≡ other.own
+
+-- More than half of the first buffer space: all of it but what may be forwarded untold.
+abbrev pub over_half : ℕ
+over_half = BUF_ALLOC - UPDATE_AT + 1
 
 pub record ArePaired (e other : ConnectionEnd) : Type 0 where
   pub here : Mirrors e other

@@ -10,7 +10,7 @@ ghost use Rattle.laws_tables.specs.{Both.Both, Both.MayRun, Both.at, Ends.flows_
 ghost use Rattle.laws_tables.specs.Steps.{HasEnd};
 ghost use Rattle.laws_rest.specs.Examples.{fresh, losing, lost, opened_twice, resting};
 ghost use Rattle.laws_rest.specs.Pages.{AllGiven, AreTied, NoneInFlight, Queued};
-ghost use Rattle.laws_rest.specs.Rest.{ArePaired, IsAtRest, IsWithHost, OwesNothing};
+ghost use Rattle.laws_rest.specs.Rest.{ArePaired, IsAtRest, IsWithHost, OwesNothing, over_half};
 
 /// At rest both tables hold the same flows with the host, and each such connection is Live at both ends, which know of each other what each
 /// told, also where flows were used before. Where all connections are with the host, the tables have as many.
@@ -24,12 +24,12 @@ pub fn law_of_rest()
 {}
 
 /// What the waits of an application rest on. Where nothing is unread at an end that still receives, its peer has credit, so that it looks for
-/// more. Where an end has no credit, and its peer still sends or receives, its peer holds more than half of the usual buffer space.
+/// more. Where an end has no credit, and its peer still sends or receives, its peer holds more than half of the first buffer space.
 pub fn law_of_waits()
     ensures empty { (e other : ConnectionEnd) → ArePaired e other → unread_of e.credit ≡ 0 → is_both e.own ≡ false
-        → 32769 ≤ free_of other.credit }
+        → over_half ≤ free_of other.credit }
     ensures no_credit { (e other : ConnectionEnd) → ArePaired e other → free_of e.credit ≡ 0 → is_both other.own ≡ false
-        → 32769 ≤ unread_of other.credit }
+        → over_half ≤ unread_of other.credit }
 {}
 
 /// Why the law asks that no packet is dropped. Both ends may come to this, each got all that the other put, and neither owes anything; and

@@ -20,7 +20,7 @@ use Rattle.laws_device.specs.Honest.{end_in as device_end}
 use Rattle.laws_tables.{specs.Drains.got_on, specs.Drains.receives, specs.Drains.receives_in, proofs.Firsts.once_got}
 use Rattle.laws_driver.specs.Carried.{Calls.GuestCall, Calls.Journal, Calls.received_by, Received.ReceivesOn, Calls.account_of}
 use Rattle.laws_proxy.specs.Honest.{IsProxyStreamed}
-use Rattle.laws_rest.{specs.Rest.ArePaired, proofs.Quiet.in_list, proofs.Waiting.credit_there, proofs.Waiting.unread_there}
+use Rattle.laws_rest.{specs.Rest.ArePaired, specs.Rest.over_half, proofs.Quiet.in_list, proofs.Waiting.credit_there, proofs.Waiting.unread_there}
 use Rattle.vs_credit.specs.Credit.{free_of, unread_of}
 use Rattle.vs_conn.specs.declared.shut.Shut.{Shut}
 use Rattle.vs_device_parts.specs.Receiving.{may_read}
@@ -289,7 +289,7 @@ module _ (script : RunScript) (driver : DriverState) (end : Sight) (apps : List 
 
     -- One that lacks credit: the device holds many bytes of it, which are what its host's program has still to read, and its stream is full.
     unread_by_host : (id : ℕ) (x : DriverEntry) → Contains driver.table.entries x → x.value.id ≡ id → may_send_of x.value.end ≡ Ok 0
-        → (32769 + length (host_read (opened id) h) ≤ length (sent_as id journal)) × AreFull (opened id).flow h
+        → (over_half + length (host_read (opened id) h) ≤ length (sent_as id journal)) × AreFull (opened id).flow h
     unread_by_host id x within named says =
         let at = at_device x within in
         let y = at.entry in
@@ -301,9 +301,9 @@ module _ (script : RunScript) (driver : DriverState) (end : Sight) (apps : List 
         let on = streamed driver end p e settled one h faults streams in
         let got = unread_within FIRST_CID (ends_at_rest driver end p e).device.part e.sight.log (settled.at_rest.matches Device) (settled.at_rest.fair Device)
         y.flow (one y.flow) y.value.end (one_end device_end p.device.table y device_fits at.within) live_there in
-        let least_got : 32769 ≤ length (got_on Device y.flow e.sight.log) = omega (arith, least, got) in
-        let many : 32769 ≤ length y.value.pending = omega (arith, least, exact) in
-        let still = to_read h e.sight.log p.next_port p.device.table p.handshakes on y at.within live_there goes_on 32769 many least_got in
+        let least_got : over_half ≤ length (got_on Device y.flow e.sight.log) = omega (arith, least, got) in
+        let many : over_half ≤ length y.value.pending = omega (arith, least, exact) in
+        let still = to_read h e.sight.log p.next_port p.device.table p.handshakes on y at.within live_there goes_on over_half many least_got in
         let first = first_known id x within named in
         let came : sent_as id journal ≡ got_on Device y.flow e.sight.log =
         sym (sent_by_id (account_of 1 opened journal) end.log (slots_of driver) account.right.received id first.0 journal account.right.sent.senders)
@@ -311,9 +311,9 @@ module _ (script : RunScript) (driver : DriverState) (end : Sight) (apps : List 
         ∙ same_payload Device e.sight.log end.log (to_device driver end p e settled) (first_of x.flow)
         ∙ ap (λ (f : Flow). payload_got Device (first_of f) e.sight.log) at.flow
         ∙ once_got Device y.flow e.sight.log (settled.at_rest.fair Device y.flow) (one y.flow) in
-        subst (λ (c : Connection). (32769 + length (host_read c h) ≤ length (sent_as id journal)) × AreFull c.flow h) (sym first.1)
-        (subst (λ (f : Flow). (32769 + length (host_read (first_of f) h) ≤ length (sent_as id journal)) × AreFull f h) (sym at.flow) (
-          subst (λ (bs : List ℕ). 32769 + length (host_read (first_of y.flow) h) ≤ length bs) (sym came) still,
+        subst (λ (c : Connection). (over_half + length (host_read c h) ≤ length (sent_as id journal)) × AreFull c.flow h) (sym first.1)
+        (subst (λ (f : Flow). (over_half + length (host_read (first_of f) h) ≤ length (sent_as id journal)) × AreFull f h) (sym at.flow) (
+          subst (λ (bs : List ℕ). over_half + length (host_read (first_of y.flow) h) ≤ length bs) (sym came) still,
           pending_full y at.within (omega (arith, many)),
         ))
 

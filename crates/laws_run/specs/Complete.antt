@@ -9,6 +9,7 @@ use Rattle.vs_apps_parts.specs.declared.progress.Progress.{Progress}
 use Rattle.vs_script.specs.{App.Act, App.Exchange, Data.Content, Data.size_of}
 use Rattle.vs_apps_parts.specs.declared.journal.WaitsFor.TheVariants as waits
 use Rattle.laws_apps.specs.{Given.AllGiven, Placed.AreOwned}
+use Rattle.laws_rest.specs.Rest.{over_half}
 use Rattle.laws_run.specs.{Bounds.IsBounded, Dry.AreDry, Dry.AreFull}
 use Rattle.vs_report.specs.declared.giving.Totals.{Totals}
 use Rattle.vs_run_report.specs.{Endings.state_at, Report.ended_at, declared.ending.Ending.Ending}
@@ -34,7 +35,7 @@ LacksBytes opened journal h conn =
 
 abbrev pub LacksCredit : (ℕ → Connection) → Journal → HostContents → Option ℕ → Type 0
 LacksCredit opened journal h conn =
-    (id : ℕ) × IsAtOpen opened h conn id × (32769 + length (host_read (opened id) h) ≤ length (sent_as id journal)) × AreFull (opened id).flow h
+    (id : ℕ) × IsAtOpen opened h conn id × (over_half + length (host_read (opened id) h) ≤ length (sent_as id journal)) × AreFull (opened id).flow h
 
 -- What is so of each wait, where the app is at this connection. None waits for a connection to open, or for a page.
 abbrev pub IsCompleteWait : (ℕ → Connection) → Journal → HostContents → Option ℕ → WaitsFor → Type 0
