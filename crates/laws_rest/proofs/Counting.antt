@@ -6,17 +6,9 @@ use Rattle.vs_limits.specs.declared.TheConstants.{HOST_CID}
 use Rattle.vs_page.specs.Log.{Device, Driver, Role}
 use Rattle.vs_page.proofs.Flows.{same_is, same_self}
 use Rattle.laws_tables.specs.{Both.Both, Both.at, Ends.AreDistinct, Ends.FlowEnd, Ends.flows_of, Ends.is_among, Ends.without}
-use Rattle.laws_tables.proofs.{Entries.{among_flows, without_distinct, without_own}, Tables.{IsOnce, once_rest, only_end, own_none}}
+use Rattle.laws_tables.proofs.{Entries.{among_flows, without_distinct, without_none, without_own}, Tables.{IsOnce, once_rest, only_end, own_none}}
 use Rattle.laws_rest.specs.Rest.{IsAtRest, IsWithHost}
 use Rattle.laws_rest.proofs.Resting.{same_flows}
-
-without_none : (f : Flow) (ys : List Flow) → is_among f ys ≡ false → without f ys ≡ ys
-without_none f [] none = refl
-without_none f (y ∷ ys) none = by (same_flow f y) refl (without_none f ys)
-  where
-    by : (b : Bool) → same_flow f y ≡ b → (is_among f ys ≡ false → without f ys ≡ ys) → without f (y ∷ ys) ≡ y ∷ ys
-    by true same rest = let no : true ≡ false = sym (rw same refl) ∙ none in absurd cc
-    by false other rest = rw other (ap (λ zs. y ∷ zs) (rest (rw other at none)))
 
 length_without : (f : Flow) (ys : List Flow) → AreDistinct ys → is_among f ys ≡ true → length ys ≡ length (without f ys) + 1
 length_without f [] once there = absurd cc

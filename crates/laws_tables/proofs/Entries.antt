@@ -1,12 +1,12 @@
 -- What each change of the entries does to a flow's ends.
-use Rattle.std.proofs.Common.{◌≡◌, nat_le, length, Bool, true, false, ◌||◌, if◌then◌else◌, List, [], ◌∷◌, ◌++◌, refl, sym, ap, ◌∙◌, arith}
+use Rattle.std.proofs.Common.{◌≡◌, ℕ, zero, suc, ◌+◌, ◌-◌, length, drop, Bool, true, false, ◌||◌, if◌then◌else◌, List, [], ◌∷◌, ◌++◌, refl, sym, ap, ◌∙◌, arith}
 use Rattle.std.proofs.lemmas.Grind.{common_steps}
 use Rattle.vs_conn.specs.End.{ConnectionEnd}
-use Rattle.vs_flow.specs.{Flow.is_host, Flow.same_flow, declared.flow.Flow.Flow}
+use Rattle.vs_flow.specs.{CleanPairs.kept, Flow.is_host, Flow.same_flow, declared.flow.Flow.Flow}
 use Rattle.vs_limits.specs.declared.TheConstants.{CLEAN_PAIRS}
 use Rattle.vs_replies.specs.declared.Reply.{Reply}
-use Rattle.laws_tables.specs.Ends.{AreDistinct, FlowEnd, ends_of, flows_of, is_among, keeping, of_host, replaced, replied, replies_of}
-use Rattle.laws_tables.specs.Ends.{rest_of, without, without_flow}
+use Rattle.laws_tables.specs.Ends.{AreDistinct, FlowEnd, ends_of, flows_of, is_among, of_host, replaced, replied, replies_of}
+use Rattle.laws_tables.specs.Ends.{without, without_flow}
 use Rattle.vs_page.proofs.Flows.{same_self, same_is}
 
 -- Flows that are one, and another.
@@ -85,17 +85,14 @@ replied_of [] = refl
 replied_of (x ∷ xs) = ap (λ (fs : List Flow). x.flow ∷ fs) (replied_of xs)
 
 -- Flows that are kept.
-pub rest_among : (f : Flow) (fs : List Flow) → is_among f (rest_of fs) ≡ true → is_among f fs ≡ true
-rest_among f [] is = is
-rest_among f (g ∷ gs) is = grind (arith, common_steps, is)
+drop_among : (f : Flow) (n : ℕ) (fs : List Flow) → is_among f (drop n fs) ≡ true → is_among f fs ≡ true
+drop_among f zero fs is = is
+drop_among f (suc n) [] is = is
+drop_among f (suc n) (g ∷ gs) is = let rest = drop_among f n gs is in grind (arith, common_steps, rest)
 
-keeping_by : (f g : Flow) (fs : List Flow) (b : Bool) → is_among g ((if b then rest_of fs else fs) ++ f ∷ []) ≡ true
-    → same_flow g f ≡ false → is_among g fs ≡ true
-keeping_by f g fs true is other = rest_among g fs (sym (among_other f g (rest_of fs) other) ∙ is)
-keeping_by f g fs false is other = sym (among_other f g fs other) ∙ is
-
-pub keeping_among : (f g : Flow) (fs : List Flow) → is_among g (keeping f fs) ≡ true → same_flow g f ≡ false → is_among g fs ≡ true
-keeping_among f g fs is other = keeping_by f g fs (nat_le CLEAN_PAIRS (length fs)) is other
+pub kept_among : (f g : Flow) (fs : List Flow) → is_among g (kept CLEAN_PAIRS f fs) ≡ true → same_flow g f ≡ false → is_among g fs ≡ true
+kept_among f g fs is other =
+    let n : ℕ = length fs + 1 - CLEAN_PAIRS in drop_among g n fs (sym (among_other f g (drop n fs) other) ∙ is)
 
 pub without_among : (f g : Flow) (fs : List Flow) → is_among g (without f fs) ≡ true → is_among g fs ≡ true
 without_among f g [] is = is
@@ -110,6 +107,14 @@ without_own f (g ∷ fs) = let rest = without_own f fs in grind (arith, common_s
 not_then : (now was : Bool) → (now ≡ true → was ≡ true) → was ≡ false → now ≡ false
 not_then true was keeps none = let both : false ≡ true = sym none ∙ keeps refl in absurd cc
 not_then false was keeps none = refl
+
+pub without_none : (f : Flow) (fs : List Flow) → is_among f fs ≡ false → without f fs ≡ fs
+without_none f [] none = refl
+without_none f (g ∷ gs) none = by (same_flow f g) refl (without_none f gs)
+  where
+    by : (b : Bool) → same_flow f g ≡ b → (is_among f gs ≡ false → without f gs ≡ gs) → without f (g ∷ gs) ≡ g ∷ gs
+    by true same rest = let no : true ≡ false = sym (rw same refl) ∙ none in absurd cc
+    by false other rest = rw other (ap (λ hs. g ∷ hs) (rest (rw other at none)))
 
 without_by : (f g : Flow) (gs : List Flow) (b : Bool) → is_among g gs ≡ false → AreDistinct (without f gs)
     → AreDistinct (if b then without f gs else g ∷ without f gs)
@@ -132,17 +137,15 @@ last_distinct f (g ∷ gs) none d =
     let two = or_parts (same_flow f g) (is_among f gs) none in
     (among_other f g gs (same_back f g two.0) ∙ d.0, last_distinct f gs two.1 d.1)
 
-rest_distinct : (fs : List Flow) → AreDistinct fs → AreDistinct (rest_of fs)
-rest_distinct = grind (arith, common_steps)
+drop_distinct : (n : ℕ) (fs : List Flow) → AreDistinct fs → AreDistinct (drop n fs)
+drop_distinct zero fs d = d
+drop_distinct (suc n) [] d = tt
+drop_distinct (suc n) (g ∷ gs) d = drop_distinct n gs d.1
 
-keeping_from : (f : Flow) (fs : List Flow) (b : Bool) → is_among f fs ≡ false → AreDistinct fs
-    → AreDistinct ((if b then rest_of fs else fs) ++ f ∷ [])
-keeping_from f fs true none d =
-    last_distinct f (rest_of fs) (not_then (is_among f (rest_of fs)) (is_among f fs) (rest_among f fs) none) (rest_distinct fs d)
-keeping_from f fs false none d = last_distinct f fs none d
-
-pub keeping_distinct : (f : Flow) (fs : List Flow) → is_among f fs ≡ false → AreDistinct fs → AreDistinct (keeping f fs)
-keeping_distinct f fs none d = keeping_from f fs (nat_le CLEAN_PAIRS (length fs)) none d
+pub kept_distinct : (f : Flow) (fs : List Flow) → is_among f fs ≡ false → AreDistinct fs → AreDistinct (kept CLEAN_PAIRS f fs)
+kept_distinct f fs none d =
+    let n : ℕ = length fs + 1 - CLEAN_PAIRS in
+    last_distinct f (drop n fs) (not_then (is_among f (drop n fs)) (is_among f fs) (drop_among f n fs) none) (drop_distinct n fs d)
 
 -- Flows between the guest and the host.
 pub host_among : (f : Flow) (fs : List Flow) → is_among f (of_host fs) ≡ true → is_among f fs ≡ true

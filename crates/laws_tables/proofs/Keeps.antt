@@ -4,26 +4,26 @@ use Rattle.std.proofs.{Common.{refl, sym, ap, ◌∙◌, subst, arith, None, ◌
 use Rattle.vs_conn.specs.End.{CanSend, ConnectionEnd, answering, asked, end_after, is_of, owes_of, paid_of, verdict_of, with_payload_sent}
 use Rattle.vs_conn.specs.{Follows.Follows, Follows.IsTaken, Follows.FitsMessage, declared.end.Owed.Owed}
 use Rattle.vs_conn.proofs.{Frames.got_kind, Getting.get_follows, Steps.answer_follows, Steps.asked_follows, Steps.send_follows}
-use Rattle.vs_flow.specs.{Flow.same_flow, declared.flow.Flow.Flow}
+use Rattle.vs_flow.specs.{CleanPairs.kept, Flow.same_flow, declared.flow.Flow.Flow}
 use Rattle.vs_header.specs.{Kind.kind_named, Kind.kind_number, declared.Header.Header, declared.Kind.Kind}
 use Rattle.laws_history.specs.History.{Asker, Entry, Got, History, IsFair, MayPut, Put, Side, gots, is_begun, of_asker, peer, puts}
 use Rattle.laws_history.specs.Packets.{asked_kind, has, is_clean_rst, is_request, is_rst}
 use Rattle.laws_history.{specs.declared.packet.Packet.Packet, specs.Again.AllowsNow, proofs.Quiet.marked_both, proofs.Ties.Later}
-use Rattle.vs_limits.specs.declared.TheConstants.{BUF_ALLOC}
+use Rattle.vs_limits.specs.declared.TheConstants.{BUF_ALLOC, CLEAN_PAIRS}
 use Rattle.vs_page.specs.{Log.{Device, Driver, Log, Role, and_then, flow_got, flow_put, history_of, side_of}, Open.{Clean, Open, Phase}}
 use Rattle.vs_page.specs.Open.{is_dropped, open_kind, phase_of, phase_reset, cid_of, kind_got, kind_put, left_kind}
 use Rattle.vs_page.specs.{declared.log.LogEntry.TheVariants.{GotEvent, GotPacket, Mark, PutEvent, PutPacket}, Fair.{IsFairLog, IsFairOn}}
 use Rattle.vs_page.proofs.{Entries.one_got, Entries.one_put, Flows.same_is, Flows.same_self, Phases.phase_clean, Phases.phase_marked}
 use Rattle.vs_replies.specs.declared.Reply.{Reply}
 use Rattle.laws_tables.specs.Ends.{Ends, FlowEnd, answer_kind, ends_of, is_among, is_new, replied, replies_of, AreDistinct, flows_of}
-use Rattle.laws_tables.specs.{Ends.{keeping, of_host, replaced, without, without_flow}, Steps.{HasEnd, HasNone, IsNextFlow, accepted}}
+use Rattle.laws_tables.specs.{Ends.{of_host, replaced, without, without_flow}, Steps.{HasEnd, HasNone, IsNextFlow, accepted}}
 use Rattle.laws_tables.specs.Steps.{asking, emptied, forgotten, is_kept, is_overrun, left, opened, owed_on, paid, payload_on, refused}
 use Rattle.laws_tables.specs.{Steps.{reply_on, request_on, reset, taken, with_clean, with_end, with_replies, port_after}, Matches.AllOwed}
 use Rattle.laws_tables.specs.Matches.{IsFairlyLeft, IsOwed, IsReady, Matches, MatchesFlows, IsKept, IsLeftOn, IsUnused, MatchesOn}
 use Rattle.laws_tables.specs.Heard.{IsInOrder, IsWithin, IsWithinCredit, heard_of, own_port, is_awaiting, is_fresh, route_of}
 use Rattle.laws_tables.proofs.OnFlow.{end_asks, end_follows, follows_old, asks_on, begins_on, changes_on, closed_on, drops_on, empties_on}
 use Rattle.laws_tables.proofs.{OnFlow.{fresh_closed, ignores_on, passes_on, refuses_on}, Entries.{added_same, host_among, replaced_same}}
-use Rattle.laws_tables.proofs.Entries.{without_own, without_same, added_other, among_flows, host_distinct, keeping_among, keeping_distinct}
+use Rattle.laws_tables.proofs.Entries.{without_own, without_same, added_other, among_flows, host_distinct, kept_among, kept_distinct}
 use Rattle.laws_tables.proofs.{Entries.{replaced_other, without_among, without_distinct, without_other}, Fair.{heard_less, fair_now}}
 use Rattle.laws_tables.proofs.Fair.{got_formed, got_in_order, got_no_overrun, got_within, open_within, own_got_fair, pay_may_on}
 use Rattle.laws_tables.proofs.Fair.{put_allowed, put_fair, put_keeps_within, reply_may, reply_within, request_allowed, send_may_on}
@@ -182,9 +182,9 @@ forgets role first part log m = fewer role first part.next_port [] part log (ome
 -- One that keeps another flow.
 keeps_flow : (role : Role) (first : ℕ) (f : Flow) (part : Ends) (log : Log) → IsUsed role f part → IsKept role first part log f
     → (IsFairLog role log → phase_of role first f log ≡ Clean) → Matches role first part log
-    → Matches role first (record part { clean = keeping f part.clean }) log
+    → Matches role first (record part { clean = kept CLEAN_PAIRS f part.clean }) log
 keeps_flow role first f part log used own clean m =
-    let new : Ends = record part { clean = keeping f part.clean } in
+    let new : Ends = record part { clean = kept CLEAN_PAIRS f part.clean } in
     record {
       flows = record {
         on = m.flows.on;
@@ -194,23 +194,23 @@ keeps_flow role first f part log used own clean m =
             (λ apart asker later. let u = m.flows.unused g asker later in record {
               silent = u.silent;
               no_end = u.no_end;
-              not_kept = not_then _ _ (λ among. keeping_among f g part.clean among apart) u.not_kept;
+              not_kept = not_then _ _ (λ among. kept_among f g part.clean among apart) u.not_kept;
             });
         kept = λ g. own_or_other (λ x. is_among x new.clean ≡ true → IsKept role first new log x) f g (λ among. as_kept f own)
-            (λ apart among. as_kept g (m.flows.kept g (keeping_among f g part.clean among apart)));
-        once = keeping_distinct f part.clean used.unkept m.flows.once;
+            (λ apart among. as_kept g (m.flows.kept g (kept_among f g part.clean among apart)));
+        once = kept_distinct f part.clean used.unkept m.flows.once;
         cid = m.flows.cid;
       };
       fairly = λ fair. let l = m.fairly fair in record {
         within = l.within;
         kept = λ g. own_or_other (λ x. is_among x new.clean ≡ true → phase_of role first x log ≡ Clean) f g (λ among. clean fair)
-            (λ apart among. l.kept g (keeping_among f g part.clean among apart));
+            (λ apart among. l.kept g (kept_among f g part.clean among apart));
         ready = l.ready;
         replies = l.replies;
       };
     }
   where
-    as_kept : (g : Flow) → IsKept role first part log g → IsKept role first (record part { clean = keeping f part.clean }) log g
+    as_kept : (g : Flow) → IsKept role first part log g → IsKept role first (record part { clean = kept CLEAN_PAIRS f part.clean }) log g
     as_kept g k = record { asker = k.asker; no_end = k.no_end; no_reply = k.no_reply; over = k.over }
 
 -- A flow that may be asked for is ready.

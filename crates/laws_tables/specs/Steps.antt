@@ -3,13 +3,13 @@ use Rattle.std.specs.Prelude.{◌≡◌, ◌≤◌, ℕ, ◌+◌, nat_le, ◌⊎
 use Rattle.vs_conn.specs.{Follows.owed_packet, Follows.payload_packet, Headers.reset_header, Shut.is_both, declared.end.Owed.Owed}
 use Rattle.vs_conn.specs.{declared.end.Verdict.Verdict, declared.end.Why.TheVariants.Overrun, End.ConnectionEnd, End.answering, End.asked}
 use Rattle.vs_conn.specs.End.{end_after, is_of, paid_of}
-use Rattle.vs_flow.specs.declared.flow.Flow.{Flow}
+use Rattle.vs_flow.specs.{CleanPairs.kept, declared.flow.Flow.Flow}
 use Rattle.vs_header.specs.declared.{Header.Header, Kind.Kind}
 use Rattle.laws_history.specs.{History.Asker, Packets.is_clean_rst, Packets.is_rst, declared.packet.Packet.Packet}
-use Rattle.vs_limits.specs.declared.TheConstants.{BUF_ALLOC}
+use Rattle.vs_limits.specs.declared.TheConstants.{BUF_ALLOC, CLEAN_PAIRS}
 use Rattle.vs_page.specs.{Log.Role, Log.side_of, Open.asks_for}
 use Rattle.vs_replies.specs.declared.Reply.{Reply}
-use Rattle.laws_tables.specs.Ends.{Ends, ends_of, is_among, keeping, of_host, replaced, replies_of, without, without_flow}
+use Rattle.laws_tables.specs.Ends.{Ends, ends_of, is_among, of_host, replaced, replies_of, without, without_flow}
 use Rattle.laws_tables.specs.Heard.{own_port, route_of}
 use Rattle.vs_conn.specs.declared.end.Owed.TheVariants as owed
 use Rattle.vs_conn.specs.declared.end.Verdict.TheVariants as verdict
@@ -66,7 +66,7 @@ abbrev pub is_kept : Role → Flow → ConnectionEnd → Packet → Bool
 is_kept role f e p = asks_for (side_of role f) && is_both e.own && is_clean_rst p
 
 abbrev pub with_clean : Bool → Flow → Ends → Ends
-with_clean true f part = record part { clean = keeping f part.clean }
+with_clean true f part = record part { clean = kept CLEAN_PAIRS f part.clean }
 with_clean false f part = part
 
 -- No flow is kept any more.

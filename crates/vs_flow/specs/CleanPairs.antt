@@ -2,9 +2,12 @@
 use Rattle.std.specs.Prelude.{ℕ, ◌-◌, ◌+◌, Bool, ◌==◌, if◌then◌else◌, List, [], ◌∷◌, ◌++◌, length, drop, find, Option}
 use Rattle.vs_flow.specs.declared.flow.Flow.{Flow}
 
--- a flow is to this host port
+-- a flow is to this host port, or from this guest port
 abbrev pub goes_to : ℕ → Flow → Bool
 goes_to host f = f.host == host
+
+abbrev pub comes_from : ℕ → Flow → Bool
+comes_from guest f = f.guest == guest
 
 -- with one more, of which at most so many stay
 abbrev pub kept : ℕ → Flow → List Flow → List Flow

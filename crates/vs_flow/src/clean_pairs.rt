@@ -1,7 +1,8 @@
 //! Flows whose ports may be used again, since both ends closed the connection cleanly.
 ghost use Rattle.std.specs.Prelude.{◌≡◌, ◌≤◌, ◌==◌, [], IfOk, position};
 ghost use Rattle.vs_limits.specs.declared.TheConstants.{CLEAN_PAIRS};
-ghost use Rattle.vs_flow.specs.CleanPairs.{kept, oldest, without_oldest, goes_to};
+ghost use Rattle.vs_flow.specs.{CleanPairs.comes_from, CleanPairs.goes_to, CleanPairs.kept, CleanPairs.oldest, CleanPairs.without_oldest};
+ghost use Rattle.vs_flow.specs.Flow.{same_flow};
 
 use crate::flow::Flow;
 use std::alloc::{AllocError, Global};
@@ -48,19 +49,49 @@ impl CleanPairs {
         self.flows.push_reserved(flow);
     }
 
-    /// Takes out the oldest flow to a host port and returns it, or `None` where no flow goes there.
-    pub fn take(&mut self, host: u32) -> Option<Flow>
-        ensures oldest { result ≡ oldest (goes_to host) self.old }
-        ensures taken { self.new ≡ without_oldest (goes_to host) self.old }
+    /// The oldest flow to a host port, or `None` where no flow goes there.
+    pub fn oldest_to(&self, host: u32) -> Option<Flow>
+        ensures { result ≡ oldest (goes_to host) self.now }
     {
-        let place = place_of(&self.flows, host)?;
-        Some(self.flows.remove(place))
+        let place = place_to(&self.flows, host)?;
+        Some(self.flows[place])
+    }
+
+    /// The oldest flow from a guest port, or `None` where no flow goes from there.
+    pub fn oldest_from(&self, guest: u32) -> Option<Flow>
+        ensures { result ≡ oldest (comes_from guest) self.now }
+    {
+        let place = place_from(&self.flows, guest)?;
+        Some(self.flows[place])
+    }
+
+    /// Keeps a flow no more. Where it is kept twice, the older one goes.
+    pub fn remove(&mut self, flow: Flow)
+        ensures { self.new ≡ without_oldest (same_flow flow) self.old }
+    {
+        if let Some(place) = place_of(&self.flows, flow) {
+            self.flows.remove(place);
+        }
     }
 }
 
 // The place of the oldest flow to a host port.
-fn place_of(flows: &[Flow], host: u32) -> Option<usize>
+fn place_to(flows: &[Flow], host: u32) -> Option<usize>
     ensures { result ≡ position (goes_to host) flows.now }
 {
     flows.iter().position(|flow| flow.host == host)
+}
+
+// The place of the oldest flow from a guest port.
+fn place_from(flows: &[Flow], guest: u32) -> Option<usize>
+    ensures { result ≡ position (comes_from guest) flows.now }
+{
+    flows.iter().position(|flow| flow.guest == guest)
+}
+
+// The place of a flow.
+fn place_of(flows: &[Flow], flow: Flow) -> Option<usize>
+    ensures { result ≡ position (same_flow flow) flows.now }
+{
+    flows.iter().position(|other| flow == *other)
 }
