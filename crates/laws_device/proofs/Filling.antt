@@ -5,7 +5,7 @@ use Rattle.std.proofs.lemmas.Grind.{common_steps}
 use Rattle.vs_contents.specs.CallTree.{Ask, Done, bind, for_each, while_up_to}
 use Rattle.vs_conn.specs.End.{CanSend, ConnectionEnd, owes_of, paid_of, state_may_send, wanting_credit, with_payload_sent}
 use Rattle.vs_conn.{specs.Headers.owed_header, specs.Headers.payload_header, specs.declared.end.Owed.Owed, specs.declared.end.State.State}
-use Rattle.vs_conn.{specs.declared.end.Stop.TheVariants.ShutDown, specs.declared.end.TheConstants.OWED_MAX, proofs.Frames.paid_asked}
+use Rattle.vs_conn.{specs.declared.end.Stop.TheVariants.ShutDown, proofs.Frames.paid_asked}
 use Rattle.vs_credit.specs.Credit.{free_of}
 use Rattle.vs_flow.specs.Table.{IsTable, entry_under, slots, Table, with_value}
 use Rattle.vs_header.specs.declared.Header.{Header}
@@ -34,6 +34,7 @@ use Rattle.vs_conn.specs.declared.end.Owed.TheVariants as owed
 use Rattle.vs_conn.specs.declared.end.State.TheVariants as state
 use Rattle.vs_outside.specs.declared.host_net.StreamRead.TheVariants as read
 use Rattle.vs_device_parts.specs.declared.answers.Filled.{Filled as FilledAnswer}
+use Rattle.vs_limits.specs.declared.TheConstants.{OWED_MAX}
 
 pub live_old : (e : ConnectionEnd) → may_read e e.state ≡ true → is_new e ≡ false
 live_old e is = grind (arith, common_steps, is)

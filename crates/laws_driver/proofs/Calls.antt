@@ -9,7 +9,7 @@ use Rattle.vs_header.specs.declared.Kind.TheVariants.{Stream}
 use Rattle.vs_page.specs.Log.{Driver, Log}
 use Rattle.vs_page.specs.{Fair.IsFairLog, declared.log.LogEntry.TheVariants.PutPacket, declared.page.TheConstants.PAYLOAD_MAX}
 use Rattle.vs_ring_port.specs.declared.queue.Queue.TheVariants.{Rx, Tx, Event}
-use Rattle.vs_ring_port.specs.{declared.queue.Queue.Queue, declared.queue.TheConstants.STAGED_MAX, Contents.RingContents, EndLog.EndLog}
+use Rattle.vs_ring_port.specs.{declared.queue.Queue.Queue, Contents.RingContents, EndLog.EndLog}
 use Rattle.vs_ring_port.specs.{EndLog.entries_marked, EndLog.log_loaded, EndLog.log_published, EndLog.log_staged, DriverCalls.Publish}
 use Rattle.laws_tables.{specs.Matches.Matches, specs.Steps.payload_on, specs.Steps.request_on, proofs.Keeps.start_matches}
 use Rattle.vs_driver_parts.specs.Conversations.{DriverTree, connect_of, connect_with_page, has_page, load_cid, new_of, new_state, no_credit}
@@ -18,7 +18,7 @@ use Rattle.vs_driver_parts.specs.Conversations.{post_one, post_packet, posts, pu
 use Rattle.vs_driver_parts.specs.{Conversations.{send_with_page, stage_of}, Connections.{connect_refusal, connected, next_flow}}
 use Rattle.vs_driver_parts.specs.{declared.answers.ConnectError.ConnectError, declared.answers.Polled.Polled, declared.answers.Sent.Sent}
 use Rattle.vs_driver_parts.specs.{Playing.{MayPublishAll, Plays}, State.{DriverEntry, DriverState, entry_known_as}, Steps.{connects, sends}}
-use Rattle.vs_limits.specs.declared.TheConstants.{LAST_PORT}
+use Rattle.vs_limits.specs.declared.TheConstants.{LAST_PORT, STAGED_MAX}
 use Rattle.laws_driver.specs.Honest.{AgreesWith, IsFitState, IsFresh, IsHonestWith, ends_of_state}
 use Rattle.laws_driver.proofs.{Polling.{not_tx_event, not_tx_rx, poll_keeps}, Changing.{Changes, stands_known, wanting_changes}}
 use Rattle.laws_driver.proofs.{Keeping.{Keeps, keeps_bind, keeps_end, keeps_may, keeps_weaker, keeps_while}, Ringing.{IsAtRest, Tells}}

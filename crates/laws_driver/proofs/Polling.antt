@@ -2,7 +2,7 @@
 use Rattle.std.proofs.Common.{◌≡◌, ℕ, ◌+◌, ◌<◌, ◌^◌, ◌==◌, nat_le, nat_lt, Bool, true, false, cond, List, [], ◌∷◌, length, Option, Some}
 use Rattle.std.proofs.{Common.{None, refl, sym, ap, subst, ◌∙◌, arith}, lemmas.Bool.Decides.nat_tests}
 use Rattle.vs_contents.specs.CallTree.{Done, Ask, bind}
-use Rattle.vs_conn.specs.{End.owes_of, declared.end.Owed.Owed, declared.end.TheConstants.OWED_MAX}
+use Rattle.vs_conn.specs.{End.owes_of, declared.end.Owed.Owed}
 use Rattle.vs_flow.specs.Table.{entry_under, slots}
 use Rattle.vs_header.specs.Packet.{header_bytes}
 use Rattle.laws_history.specs.declared.packet.Packet.{Packet}
@@ -22,7 +22,7 @@ use Rattle.vs_driver_parts.specs.Conversations.{reply_header, stage_of, stage_pa
 use Rattle.vs_driver_parts.specs.{Conversations.{take_packet, with_state}, Receiving.{after_reset, is_reset_event, on_packet, on_page}}
 use Rattle.vs_driver_parts.specs.Playing.{BringsFit, RingAllows}
 use Rattle.vs_driver_parts.{specs.declared.answers.Polled.Polled, specs.State.DriverEntry, specs.State.DriverState, proofs.Ids.has_slot}
-use Rattle.vs_limits.specs.declared.TheConstants.{DRIVER_REPLIES_FULL}
+use Rattle.vs_limits.specs.declared.TheConstants.{DRIVER_REPLIES_FULL, OWED_MAX}
 use Rattle.laws_driver.proofs.Keeping.{Keeps, keeps_bind, keeps_each, keeps_weaker, keeps_while}
 use Rattle.laws_driver.proofs.Staging.{Rests, SameBut, Ties, publish_other, publish_tx, reap_keeps, rests_tied, stage_other, stage_tx}
 use Rattle.laws_driver.proofs.{Putting.owed_puts, Putting.reply_puts, Resetting.resets, Tabling.Stands, Taking.gets_packet, Ringing.Tells}

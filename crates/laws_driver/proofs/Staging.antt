@@ -3,7 +3,7 @@ use Rattle.std.proofs.Common.{◌≡◌, ℕ, ◌+◌, ◌-◌, ◌==◌, Bool, 
 use Rattle.vs_contents.specs.CallTree.{Done, Ask}
 use Rattle.laws_history.specs.declared.packet.Packet.{Packet}
 use Rattle.vs_ring_port.specs.DriverCalls.{CanPublish, Publish, Reap}
-use Rattle.vs_ring_port.specs.{declared.queue.Queue.Queue, declared.queue.TheConstants.STAGED_MAX, declared.queue.Queue.TheVariants.Tx}
+use Rattle.vs_ring_port.specs.{declared.queue.Queue.Queue, declared.queue.Queue.TheVariants.Tx}
 use Rattle.vs_ring_port.specs.{Contents.RingContents, EndLog.EndLog, EndLog.log_published, EndLog.log_reaped, EndLog.log_staged}
 use Rattle.vs_driver_parts.specs.Conversations.{one_more_in_flight, post_packet, publish_of, reap_all, reap_one, reaped, stage_of}
 use Rattle.vs_driver_parts.specs.{State.DriverState, Playing.RingAllows, Conversations.stage_packet}
@@ -11,6 +11,7 @@ use Rattle.laws_driver.proofs.Carrying.{Fact, IsTiedBy, PutsWith, RestsWith, pub
 use Rattle.laws_driver.proofs.Ringing.{IsAtRest, Tells, can_publish, can_publish_other, moves, tells_weaker, can_stage, can_stage_other}
 use Rattle.laws_driver.specs.Staged.{IsTied}
 use Rattle.laws_driver.proofs.{Carrying.staged_other, Carrying.staged_with, Keeping.Keeps, Keeping.keeps_while}
+use Rattle.vs_limits.specs.declared.TheConstants.{STAGED_MAX}
 
 -- What holds of the driver that a conversation ends with, and while packets may be staged.
 abbrev pub Rests : ℕ → Fact → DriverState → RingContents → Type 0

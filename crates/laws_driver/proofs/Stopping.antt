@@ -2,8 +2,8 @@
 use Rattle.std.proofs.Common.{◌≡◌, ◌<◌, ◌≤◌, ◌+◌, ◌==◌, ℕ, zero, suc, nat_lt, nat_le, Bool, true, false, cond, List, [], length, Option}
 use Rattle.std.proofs.{Common.{Some, None, refl, sym, subst, arith}, lemmas.Bool.{eqb-true, leb-true, ltb-true}}
 use Rattle.vs_contents.specs.{CallTree.Ask, CallTree.Done, CallTree.bind, CallTree.while_up_to, Contents.Relates}
-use Rattle.vs_limits.specs.declared.TheConstants.{DRIVER_REPLIES_FULL}
-use Rattle.vs_ring_port.specs.{Contents.RingContents, declared.queue.TheConstants.STAGED_MAX, DriverCalls.{DriverAnswer, DriverCall}}
+use Rattle.vs_limits.specs.declared.TheConstants.{DRIVER_REPLIES_FULL, STAGED_MAX}
+use Rattle.vs_ring_port.specs.{Contents.RingContents, DriverCalls.{DriverAnswer, DriverCall}}
 use Rattle.vs_ring_port.specs.{DriverCalls.{DriverLearns, LoadCid, Publish, Reap, Stage}, Known.{Known, StopsAt, after_stores}}
 use Rattle.vs_ring_port.specs.declared.queue.Queue.{Queue, TheVariants.Event, TheVariants.Rx, TheVariants.Tx}
 use Rattle.vs_ring_port.proofs.{Knowing.driver_keeps, Stopping.NotFewer, Stopping.at_first, Stopping.grown_by, Stopping.stops_by}

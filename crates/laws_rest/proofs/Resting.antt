@@ -5,12 +5,12 @@ use Rattle.std.specs.List.{All}
 use Rattle.vs_wrap.specs.Wrap.{difference32}
 use Rattle.vs_header.specs.{Kind.kind_number, declared.Kind.Kind}
 use Rattle.vs_conn.specs.{End.ConnectionEnd, End.asked, End.owes_of, Follows.Follows, Follows.IsLeftBy, Shut.is_both, Shut.is_within}
-use Rattle.vs_conn.specs.declared.{end.State.TheVariants.Live, end.TheConstants.UPDATE_AT, shut.Shut.Shut}
+use Rattle.vs_conn.specs.declared.{end.State.TheVariants.Live, shut.Shut.Shut}
 use Rattle.vs_flow.specs.{Flow.is_assigned, Flow.same_flow, declared.flow.Flow.Flow}
 use Rattle.laws_history.specs.History.{Answerer, Asker, Got, History, IsFair, MayPut, Put, Side, gots, of_asker, peer, puts}
 use Rattle.laws_history.specs.Packets.{asked_kind, bytes, has, is_response, is_rst, told_alloc, told_forwarded}
 use Rattle.laws_history.specs.declared.packet.Packet.{Packet}
-use Rattle.vs_limits.specs.declared.TheConstants.{BUF_ALLOC, HOST_CID}
+use Rattle.vs_limits.specs.declared.TheConstants.{BUF_ALLOC, HOST_CID, UPDATE_AT}
 use Rattle.vs_page.specs.{Log.{Device, Driver, Role, history_of, other_role, packets_got, packets_put, side_of}, Open.left_kind}
 use Rattle.vs_page.proofs.Flows.{opposite_by, other_twice}
 use Rattle.laws_tables.specs.{Both.Both, Both.at, Ends.FlowEnd, Ends.ends_of, Ends.flows_of, Ends.is_among, Ends.replied, Heard.heard_of}

@@ -6,7 +6,7 @@ use Rattle.std.specs.Prelude.{filter, find, nat_le, nat_lt}
 use Rattle.vs_contents.specs.{CallTree.Ask, CallTree.Done, CallTree.bind, CallTree.for_each, CallTree.while_up_to, Contents.Relates}
 use Rattle.vs_contents.proofs.Leads.{AllEnds, end_of, ends_bind, ends_weaker}
 use Rattle.vs_conn.specs.{End.owes_of, End.wanting_credit, End.with_payload_sent, Headers.owed_header, Headers.payload_header}
-use Rattle.vs_conn.specs.declared.end.{Owed.Owed, TheConstants.OWED_MAX}
+use Rattle.vs_conn.specs.declared.end.{Owed.Owed}
 use Rattle.vs_credit.specs.Credit.{free_of}
 use Rattle.vs_flow.specs.Table.{IsTable, entry_under, slots, with_value}
 use Rattle.vs_header.specs.declared.Header.{Header}
@@ -29,6 +29,7 @@ use Rattle.laws_rest.specs.Rest.{OwesNothing}
 use Rattle.laws_rest.proofs.{Owing.{all_owe_none, end_under, listed, same_slots, same_under}, Quiet.{Any, NoReplies, NoneAt, OwesNone}}
 use Rattle.laws_rest.proofs.Quiet.{Relation, Same, Served, Serves, Sight, Steps, Touches, all_served, ends_any, ends_then, in_list, is_over}
 use Rattle.laws_rest.proofs.Quiet.{more, none_at, one_then, quiet_each, quiet_while, serves, some_at, still, touches_none}
+use Rattle.vs_limits.specs.declared.TheConstants.{OWED_MAX}
 
 abbrev see : Filling → Sight
 see r = record {

@@ -3,8 +3,7 @@ use Rattle.std.proofs.Common.{◌≡◌, ◌<◌, ◌≤◌, ◌+◌, ◌-◌, �
 use Rattle.vs_wrap.specs.Wrap.{difference32}
 use Rattle.vs_conn.specs.{End.ConnectionEnd, Shut.is_both}
 use Rattle.vs_credit.specs.Credit.{free_of, unread_of}
-use Rattle.vs_conn.specs.declared.end.TheConstants.{UPDATE_AT}
-use Rattle.vs_limits.specs.declared.TheConstants.{BUF_ALLOC}
+use Rattle.vs_limits.specs.declared.TheConstants.{BUF_ALLOC, UPDATE_AT}
 use Rattle.laws_rest.specs.Rest.{ArePaired, over_half}
 
 -- Two counters that are no way apart are one.

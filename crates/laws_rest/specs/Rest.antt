@@ -2,9 +2,8 @@
 use Rattle.std.specs.{Prelude.{◌≡◌, ℕ, ◌+◌, ◌-◌, ◌<◌, ◌≤◌, ◌^◌, Bool, true, false, [], ◌∷◌, None}, List.All, Option.ForSome}
 use Rattle.vs_wrap.specs.Wrap.{difference32}
 use Rattle.vs_conn.specs.{End.ConnectionEnd, End.owes_of, Shut.is_both, declared.end.State.TheVariants.Live}
-use Rattle.vs_conn.specs.declared.end.TheConstants.{UPDATE_AT}
 use Rattle.vs_flow.specs.declared.flow.Flow.{Flow}
-use Rattle.vs_limits.specs.declared.TheConstants.{BUF_ALLOC, HOST_CID}
+use Rattle.vs_limits.specs.declared.TheConstants.{BUF_ALLOC, HOST_CID, UPDATE_AT}
 use Rattle.vs_page.specs.{Fair.IsFairLog, Log.Device, Log.Log, Log.Role, Log.other_role, Log.packets_got, Log.packets_put, Open.cid_of}
 use Rattle.vs_page.specs.{Open.is_dropped, declared.log.LogEntry.TheVariants.Mark, declared.log.LogEntry.TheVariants.PutPacket}
 use Rattle.vs_ring_port.specs.Contents.{RingContents}

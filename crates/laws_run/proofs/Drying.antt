@@ -5,7 +5,7 @@ use Rattle.std.proofs.lemmas.{Bool.eq-eqb, Bool.eqb-true, Option.same_Some}
 use Rattle.std.specs.{Option.ForSome, Option.option_map, Option.option_map_or, Prelude.{min, take}}
 use Rattle.vs_contents.specs.{CallTree.Ask, CallTree.Done, CallTree.bind, CallTree.for_each, CallTree.while_up_to, Contents.Exposes}
 use Rattle.vs_conn.specs.{End.ConnectionEnd, End.owes_of, End.wanting_credit, Headers.owed_header, Headers.payload_header, End.with_payload_sent, End.with_shut}
-use Rattle.vs_conn.specs.declared.end.{Owed.Owed, State.State, State.TheVariants.{Answering, Asked, Ended, Live}, TheConstants.OWED_MAX}
+use Rattle.vs_conn.specs.declared.end.{Owed.Owed, State.State, State.TheVariants.{Answering, Asked, Ended, Live}}
 use Rattle.vs_credit.specs.Credit.{free_of}
 use Rattle.vs_flow.specs.Table.{Table, entry_under, revalued, slots, with_value}
 use Rattle.vs_flow.proofs.Lookups.{entry_under-with_value}
@@ -27,6 +27,7 @@ use Rattle.laws_device.proofs.Walk.Keeping.{Asking, Keeps, keeps_then}
 use Rattle.laws_device.specs.Honest.{end_in}
 use Rattle.laws_rest.proofs.{Owing.listed, Owing.same_slots, Quiet.in_list, Stages.in_round}
 use Rattle.laws_run.specs.Dry.{IsDry, IsDryAt, IsFull, IsFullAt, IsToldDry, IsToldFull, reads_of, reads_under, writes_of, writes_under}
+use Rattle.vs_limits.specs.declared.TheConstants.{OWED_MAX}
 
 -- Whatever ring and host answer.
 abbrev pub allowed : Asking Situation

@@ -4,13 +4,13 @@ use Rattle.std.proofs.Common.{refl, ap, ◌∙◌, arith}
 use Rattle.std.proofs.lemmas.{Bool.Decides.nat_tests, Grind.common_steps}
 use Rattle.vs_contents.specs.CallTree.{Ask, Done, bind, for_each, while_up_to}
 use Rattle.vs_contents.proofs.Leads.{AllEnds, end_of, ends_weaker}
-use Rattle.vs_conn.specs.{End.owes_of, declared.end.Owed.Owed, declared.end.TheConstants.OWED_MAX}
+use Rattle.vs_conn.specs.{End.owes_of, declared.end.Owed.Owed}
 use Rattle.vs_flow.specs.Table.{entry_under, slots}
 use Rattle.vs_header.specs.Packet.{header_bytes}
-use Rattle.vs_limits.specs.declared.TheConstants.{DRIVER_REPLIES_FULL}
+use Rattle.vs_limits.specs.declared.TheConstants.{DRIVER_REPLIES_FULL, OWED_MAX, STAGED_MAX}
 use Rattle.vs_replies.specs.declared.Reply.{Reply}
 use Rattle.vs_ring_port.specs.{Contents.RingContents, DriverCalls.LoadCid, DriverCalls.Reap, declared.queue.Queue.Queue}
-use Rattle.vs_ring_port.specs.{declared.queue.TheConstants.STAGED_MAX, declared.queue.Queue.TheVariants.{Event, Rx, Tx}}
+use Rattle.vs_ring_port.specs.{declared.queue.Queue.TheVariants.{Event, Rx, Tx}}
 use Rattle.vs_driver_parts.specs.Conversations.{DriverTree, Round, after_paying, all_taken, event_reaped, event_taken, goes_on_with}
 use Rattle.vs_driver_parts.specs.Conversations.{has_page, one_put, owed_bytes, packet_reaped, pay_all, pay_and_publish, pay_slot, poll_of, poll_packets}
 use Rattle.vs_driver_parts.specs.Conversations.{poll_puts, poll_reaps, polled, publish_and_pay, published, put_all, put_owed, put_owed_of, put_replies}

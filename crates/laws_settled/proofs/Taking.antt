@@ -2,14 +2,14 @@
 use Rattle.std.proofs.Common.{◌≡◌, ◌+◌, ◌==◌, ℕ, zero, suc, nat_le, nat_lt, Bool, true, false, cond, List, [], ◌∷◌, length, Option, Some, None}
 use Rattle.std.proofs.Common.{refl, sym, ap, subst, ◌∙◌, arith}
 use Rattle.vs_contents.specs.{CallTree.Ask, CallTree.Done, CallTree.bind, CallTree.for_each, CallTree.while_up_to, Contents.Relates}
-use Rattle.vs_conn.specs.{End.owes_of, declared.end.Owed.Owed, declared.end.TheConstants.OWED_MAX}
+use Rattle.vs_conn.specs.{End.owes_of, declared.end.Owed.Owed}
 use Rattle.vs_flow.specs.Table.{entry_under, slots}
 use Rattle.vs_header.specs.Packet.{header_bytes}
-use Rattle.vs_limits.specs.declared.TheConstants.{DRIVER_REPLIES_FULL}
+use Rattle.vs_limits.specs.declared.TheConstants.{DRIVER_REPLIES_FULL, OWED_MAX, STAGED_MAX}
 use Rattle.vs_replies.specs.declared.Reply.{Reply}
 use Rattle.vs_ring_port.specs.{Contents.RingContents, DriverCalls.{DriverAnswer, DriverCall, DriverLearns, LoadCid, Publish, Reap, Stage}}
 use Rattle.vs_ring_port.specs.{EndLog.EndLog, Known.{Finds, Known, after_stores, stores_for}, declared.queue.Queue.Queue}
-use Rattle.vs_ring_port.specs.{declared.queue.TheConstants.STAGED_MAX, declared.queue.Queue.TheVariants.{Event, Rx, Tx}}
+use Rattle.vs_ring_port.specs.{declared.queue.Queue.TheVariants.{Event, Rx, Tx}}
 use Rattle.vs_driver_parts.specs.Conversations.{DriverTree, Round, after_paying, all_taken, event_reaped, event_taken, goes_on_with, has_page}
 use Rattle.vs_driver_parts.specs.Conversations.{one_put, packet_reaped, pay_all, pay_and_publish, pay_slot, poll_of, poll_packets, poll_puts}
 use Rattle.vs_driver_parts.specs.Conversations.{poll_reaps, polled, publish_and_pay, published, put_all, put_owed, owed_bytes, put_owed_of, put_replies, reply_header}

@@ -2,7 +2,7 @@
 use Rattle.std.proofs.Common.{◌≡◌, ℕ, ◌+◌, ◌==◌, not, Bool, true, false, cond, List, [], ◌∷◌, length, Option, Some, None, Result, Ok, Err}
 use Rattle.std.proofs.Common.{refl, sym, subst}
 use Rattle.vs_contents.specs.CallTree.{Done, Ask, bind, for_each, played, while_up_to}
-use Rattle.vs_conn.specs.{End.owes_of, End.wanting_credit, Headers.owed_header, declared.end.Owed.Owed, declared.end.TheConstants.OWED_MAX}
+use Rattle.vs_conn.specs.{End.owes_of, End.wanting_credit, Headers.owed_header, declared.end.Owed.Owed}
 use Rattle.vs_conn.specs.declared.end.Owed.TheVariants as owed
 use Rattle.vs_credit.specs.Credit.{free_of}
 use Rattle.vs_flow.specs.Table.{entry_under, slots}
@@ -24,6 +24,7 @@ use Rattle.laws_world.specs.{Events.DeviceReplies, Events.DeviceTakes, Steps.Lea
 use Rattle.laws_world.proofs.DeviceLeads as leads
 use Rattle.laws_world.proofs.DeviceLeads.{Does, EndsFine, device_bind, device_event, does_nothing, does_then, fine_played, plays}
 use Rattle.laws_world.proofs.{DeviceLeads.with_proxy, GuestLines.leads_then, TickStage.TurnDoes, TickStage.turning_at}
+use Rattle.vs_limits.specs.declared.TheConstants.{OWED_MAX}
 
 abbrev filling_at : World → Filling → Filling
 filling_at w x = record x { state = w.proxy.device }

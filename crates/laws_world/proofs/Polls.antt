@@ -2,7 +2,7 @@
 use Rattle.std.proofs.Common.{◌≡◌, ℕ, zero, suc, ◌+◌, ◌==◌, ◌&&◌, nat_le, nat_lt, Bool, true, false, cond, List, [], ◌∷◌, length, Option}
 use Rattle.std.proofs.{Common.Some, Common.None, Common.refl, Common.sym, Common.ap, Common.subst, Common.◌∙◌, lemmas.Bool.and_parts}
 use Rattle.vs_contents.specs.CallTree.{Done, Ask, bind, for_each, played, while_up_to}
-use Rattle.vs_conn.specs.{End.owes_of, declared.end.Owed.Owed, declared.end.TheConstants.OWED_MAX}
+use Rattle.vs_conn.specs.{End.owes_of, declared.end.Owed.Owed}
 use Rattle.vs_flow.specs.Table.{entry_under, slots}
 use Rattle.vs_replies.specs.declared.Reply.{Reply}
 use Rattle.vs_ring_port.specs.{Lists.{Rings, after_reap, oldest}, declared.queue.Queue.Queue, DriverCalls.{driver_answer, LoadCid, Publish}}
@@ -15,7 +15,7 @@ use Rattle.vs_driver_parts.specs.Conversations.{one_more_in_flight, one_put, owe
 use Rattle.vs_driver_parts.specs.Conversations.{stage_packet, DriverTree, Round, event_reaped, goes_on_with, packet_reaped, publish_of}
 use Rattle.vs_driver_parts.specs.Conversations.{published, put_owed, put_reply, staged_again, start, take_event, take_packet}
 use Rattle.vs_driver_parts.specs.Steps.{stages_owed, stages_reply, takes_page}
-use Rattle.vs_limits.specs.declared.TheConstants.{DRIVER_REPLIES_FULL}
+use Rattle.vs_limits.specs.declared.TheConstants.{DRIVER_REPLIES_FULL, OWED_MAX}
 use Rattle.laws_world.specs.{Steps.Leads, World.World, Events.Event, Events.GuestPays, Events.GuestPublishes, Events.GuestReplies}
 use Rattle.laws_world.specs.Events.{GuestTakes, driver_step, happens, is_at_rest, none_staged, works_on}
 use Rattle.laws_world.proofs.GuestLines.{leads_none, leads_one, leads_then, played_bind, possible_is, reaps_all, with_driver}

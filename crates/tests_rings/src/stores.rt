@@ -1,7 +1,7 @@
 //! The stores of the available index: pages that are staged together are given by one.
 
 ghost use Rattle.std.specs.Prelude.{◌≡◌, ◌+◌, ◌<◌, ◌≤◌, [], IfOk, is_some, true};
-ghost use Rattle.vs_ring_port.specs.declared.queue.TheConstants.{STAGED_MAX};
+ghost use Rattle.vs_limits.specs.declared.TheConstants.{STAGED_MAX};
 
 use std::alloc::{AllocError, Global};
 use std::marker::Brand;

@@ -2,7 +2,7 @@
 use Rattle.std.proofs.Common.{◌≡◌, ℕ, ◌<◌, true, [], length, Option, Some, unwrap_or, refl, sym, ap, subst, ◌∙◌, rules}
 use Rattle.std.proofs.lemmas.Bool.{and_parts}
 use Rattle.vs_ring_port.specs.{Contents.RingContents, Counts.at, Counts.no_counts, Counts.with_count, EndLog.EndLog, EndLog.Pages}
-use Rattle.vs_ring_port.specs.{EndLog.pages_at, declared.queue.Queue.Queue, declared.queue.TheConstants.STAGED_MAX}
+use Rattle.vs_ring_port.specs.{EndLog.pages_at, declared.queue.Queue.Queue}
 use Rattle.vs_ring_port.specs.declared.queue.Queue.TheVariants.{Rx, Tx, Event}
 use Rattle.vs_ring_list.specs.Ends.{Ends, driver_contents, flight_of, staged_of}
 use Rattle.vs_driver_parts.specs.{Playing.IsAtWork, Playing.IsRingOf, Playing.SamePages, State.DriverState}
@@ -12,6 +12,7 @@ use Rattle.laws_driver.proofs.Ringing.{agrees, at_rest, tied}
 use Rattle.laws_world.specs.{Events.is_at_rest, Events.none_staged, Events.works_on, World.first_cid}
 use Rattle.laws_world.proofs.{Polls.rest_works, Sound.nothing_staged}
 use Rattle.vs_core.specs.Ready.{IsDrivenAtWork}
+use Rattle.vs_limits.specs.declared.TheConstants.{STAGED_MAX}
 
 -- On any other queue than the one in work nothing is staged.
 others_empty : (queue q : Queue) (staged : Pages) → works_on queue staged ≡ true → (queue ≡ q → ⊥) → pages_at q staged ≡ []

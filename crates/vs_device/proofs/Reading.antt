@@ -5,7 +5,7 @@ use Rattle.std.specs.{Prelude.if◌then◌else◌, Prelude.◌==◌, Option.IfSo
 use Rattle.vs_contents.specs.CallTree.{Done, Ask, bind, while_up_to}
 use Rattle.vs_contents.proofs.{Leads.leads_of, Leads.leads_bind, Conditions.may_first, Conditions.may_rest, Conditions.may_of}
 use Rattle.vs_conn.specs.End.{ConnectionEnd, owes_of, with_payload_sent, wanting_credit}
-use Rattle.vs_conn.specs.{Headers.payload_header, declared.end.TheConstants.OWED_MAX}
+use Rattle.vs_conn.specs.{Headers.payload_header}
 use Rattle.vs_header.specs.declared.{TheConstants.HEADER_LEN, Header.Header}
 use Rattle.vs_page.specs.declared.page.TheConstants.{PAYLOAD_MAX}
 use Rattle.vs_credit.specs.Credit.{free_of}
@@ -18,6 +18,7 @@ use Rattle.vs_device_parts.specs.{Connections.{with_connection, route_to_guest},
 use Rattle.vs_device_parts.specs.{State.{DeviceConnection, DeviceEntry, DeviceState}, Steps.{filling, puts_payload, reads, to_read}}
 use Rattle.vs_device_parts.specs.Served.{OnlyReads, Reads, Rests}
 use Rattle.vs_conn.specs.declared.end.State.TheVariants as state
+use Rattle.vs_limits.specs.declared.TheConstants.{OWED_MAX}
 
 -- payload is put
 module _ (chain : Chain) (e : DeviceEntry) (payload : List ℕ) (r : Filling) where

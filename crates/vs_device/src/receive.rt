@@ -3,7 +3,7 @@
 
 ghost use Rattle.std.specs.Prelude.{◌≡◌, ◌≤◌, ◌<◌, ◌+◌, ◌*◌, ◌^◌, ℕ, List, not, length, false, true, Some, None, is_some, IfSome, IsSomeAnd, Err};
 ghost use Rattle.std.specs.{Prelude.IfErr, Prelude.IfOk, Prelude.OnOk, Option.ForSome};
-ghost use Rattle.vs_conn.specs.{End.CanSend, End.owes_of, Headers.reset_header, declared.end.TheConstants.OWED_MAX};
+ghost use Rattle.vs_conn.specs.{End.CanSend, End.owes_of, Headers.reset_header};
 ghost use Rattle.vs_conn.specs.declared.end.Owed.TheVariants as owed;
 ghost use Rattle.vs_contents.specs.CallTree.{while_up_to};
 ghost use Rattle.vs_credit.specs.Credit.{free_of};
@@ -21,10 +21,10 @@ ghost use Rattle.vs_device_parts.specs.Playing.{IsRingOf, MayRun, MayRunOnHost, 
 ghost use Rattle.vs_device_parts.specs.{Playing.situation, Receiving.after_paying, Receiving.fill_rx_of, Receiving.filled_of};
 ghost use Rattle.vs_device_parts.specs.Receiving.{hold, may_read, put_owed, put_payload, put_reply, read_room, read_with_chain, serve_slot};
 ghost use Rattle.vs_device_parts.specs.{Served.IsServedSo, Served.OnlyReads, Served.Reads, State.DeviceEntry, Steps.to_read};
-ghost use Rattle.vs_limits.specs.declared.TheConstants.{DEVICE_CONNECTIONS, DEVICE_REPLIES};
+ghost use Rattle.vs_limits.specs.declared.TheConstants.{DEVICE_CONNECTIONS, DEVICE_REPLIES, OWED_MAX};
 
 use crate::device::Device;
-use vs_conn::{OWED_MAX, Owed};
+use vs_conn::{Owed};
 use vs_device_parts::answers::Filled;
 use vs_device_parts::fill::Fill;
 use vs_device_parts::packets::{read_into, write_packet};
@@ -32,7 +32,7 @@ use vs_device_parts::round::round_from;
 use vs_device_parts::service::Service;
 use vs_flow::Slot;
 use vs_header::{HEADER_LEN, Header, Kind, Op};
-use vs_limits::HOST_CID;
+use vs_limits::{HOST_CID, OWED_MAX};
 use vs_outside::{HostNet, StreamRead};
 use vs_page::PAYLOAD_MAX;
 use vs_replies::Reply;

@@ -6,7 +6,7 @@ use Rattle.vs_contents.specs.CallTree.{Done, Ask, bind, for_each, while_up_to}
 use Rattle.vs_header.specs.{Packet.header_bytes, declared.Header.Header, declared.TheConstants.HEADER_LEN}
 use Rattle.vs_credit.specs.Credit.{free_of}
 use Rattle.vs_conn.specs.{Headers.{owed_header, payload_header, reset_header}, declared.end.Owed.Owed, declared.end.State.State}
-use Rattle.vs_conn.specs.{declared.end.TheConstants.OWED_MAX, End.{ConnectionEnd, owes_of, paid_of, with_payload_sent, wanting_credit}}
+use Rattle.vs_conn.specs.{End.{ConnectionEnd, owes_of, paid_of, with_payload_sent, wanting_credit}}
 use Rattle.vs_flow.specs.Table.{entry_under, slots}
 use Rattle.vs_outside.specs.declared.host_net.StreamRead.{StreamRead}
 use Rattle.vs_page.specs.declared.page.TheConstants.{PAYLOAD_MAX}
@@ -20,6 +20,7 @@ use Rattle.vs_conn.specs.declared.end.Owed.TheVariants as owed
 use Rattle.vs_conn.specs.declared.end.State.TheVariants as state
 use Rattle.vs_outside.specs.declared.host_net.StreamRead.TheVariants as read
 use Rattle.vs_ring_port.specs.declared.device_ring.Next.TheVariants as next
+use Rattle.vs_limits.specs.declared.TheConstants.{OWED_MAX}
 
 -- The owed event: the id 0 of a transport reset, where an event chain is there.
 abbrev pub event_on : Next → DeviceState → DeviceTree (DeviceState × Result Bool Failure)

@@ -1,22 +1,22 @@
 //! The last stages of a poll: owed replies are put, and then what each connection owes (Virtio 1.2, sections 5.10.6.3 to 5.10.6.5).
 
 ghost use Rattle.std.specs.Prelude.{◌≡◌, ◌+◌, ◌-◌, ◌<◌, ◌≤◌, ◌^◌, false, true, Some};
-ghost use Rattle.vs_conn.specs.{End.owes_of, declared.end.TheConstants.OWED_MAX};
+ghost use Rattle.vs_conn.specs.{End.owes_of};
 ghost use Rattle.vs_conn.specs.declared.end.Owed.TheVariants as owed;
 ghost use Rattle.vs_flow.specs.Table.{entry_under};
 ghost use Rattle.vs_ring_port.specs.declared.queue.Queue.TheVariants.{Tx};
-ghost use Rattle.vs_limits.specs.declared.TheConstants.{DRIVER_REPLIES, HOST_CID};
+ghost use Rattle.vs_limits.specs.declared.TheConstants.{DRIVER_REPLIES, HOST_CID, OWED_MAX};
 ghost use Rattle.vs_driver_parts.specs.{State.DriverEntry, Conversations.put_all, Conversations.put_replies, Conversations.put_reply};
 ghost use Rattle.vs_driver_parts.specs.Conversations.{pay_all, pay_slot, put_owed, after_paying, is_rst, reply_header, round_of};
 ghost use Rattle.vs_driver_parts.specs.Playing.{IsRingOf, IsAtWork, MayPublishAll, Plays, SamePages};
 
 use crate::driver::Driver;
-use vs_conn::{OWED_MAX, Owed, Route};
+use vs_conn::{Owed, Route};
 use vs_driver_parts::route::route_to_host;
 use vs_driver_parts::tally::Tally;
 use vs_flow::Slot;
 use vs_header::{Header, Kind, Op};
-use vs_limits::HOST_CID;
+use vs_limits::{HOST_CID, OWED_MAX};
 use vs_replies::Reply;
 use vs_ring_port::{DriverRing, Queue};
 

@@ -6,8 +6,7 @@ ghost use Rattle.vs_driver_parts.specs.Conversations.{take_all, all_taken, take_
 ghost use Rattle.vs_driver_parts.specs.Receiving.{is_reset_event};
 ghost use Rattle.vs_driver_parts.specs.Playing.{IsRingOf, IsAtWork, MayPublishAll, Plays, SamePages};
 ghost use Rattle.vs_ring_port.specs.Counts.{at, no_counts, one_more, with_count};
-ghost use Rattle.vs_ring_port.specs.declared.queue.TheConstants.{STAGED_MAX};
-ghost use Rattle.vs_limits.specs.declared.TheConstants.{DRIVER_REPLIES_FULL};
+ghost use Rattle.vs_limits.specs.declared.TheConstants.{DRIVER_REPLIES_FULL, STAGED_MAX};
 
 use crate::driver::Driver;
 use byteorder::{ByteOrder, LittleEndian};

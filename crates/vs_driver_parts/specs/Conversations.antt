@@ -5,12 +5,11 @@ use Rattle.vs_contents.specs.CallTree.{CallTree, Done, Ask, bind, for_each, whil
 use Rattle.vs_header.specs.{Packet.header_bytes, declared.Header.Header, declared.Kind.TheVariants.Stream}
 use Rattle.vs_conn.specs.{Headers.owed_header, Headers.payload_header, Headers.reset_header, declared.end.Owed.Owed, declared.end.Stop.Stop}
 use Rattle.vs_conn.specs.End.{ConnectionEnd, may_send_of, owes_of, with_payload_sent, wanting_credit, asked}
-use Rattle.vs_conn.specs.declared.end.TheConstants.{OWED_MAX}
 use Rattle.vs_flow.specs.Table.{entry_under, slots}
-use Rattle.vs_limits.specs.declared.TheConstants.{BUF_ALLOC, DRIVER_REPLIES_FULL, DRIVER_CONNECTIONS}
+use Rattle.vs_limits.specs.declared.TheConstants.{BUF_ALLOC, DRIVER_CONNECTIONS, DRIVER_REPLIES_FULL, OWED_MAX, STAGED_MAX}
 use Rattle.vs_page.specs.declared.page.TheConstants.{PAYLOAD_MAX}
 use Rattle.vs_replies.specs.declared.Reply.{Reply}
-use Rattle.vs_ring_port.specs.{declared.queue.Queue.Queue, declared.queue.TheConstants.STAGED_MAX, DriverCalls.{DriverCall, DriverAnswer}}
+use Rattle.vs_ring_port.specs.{declared.queue.Queue.Queue, DriverCalls.{DriverCall, DriverAnswer}}
 use Rattle.vs_ring_port.specs.{DriverCalls.{Stage, Publish, Reap, LoadCid}, declared.queue.Queue.TheVariants.{Rx, Tx, Event}}
 use Rattle.vs_driver_parts.specs.declared.{answers.ConnectError.ConnectError, answers.Polled.Polled, answers.Sent.Sent, tally.Tally.Tally}
 use Rattle.vs_driver_parts.specs.{Receiving.on_page, Receiving.is_reset_event, Receiving.after_reset, State.DriverState, State.DriverEntry}

@@ -3,10 +3,11 @@ use Rattle.std.specs.{Prelude.◌≡◌, Prelude.ℕ, Prelude.◌<◌, Prelude.�
 use Rattle.vs_contents.specs.CallTree.{Leads, MayPlay}
 use Rattle.vs_header.specs.declared.Header.{Header}
 use Rattle.vs_page.specs.Held.{packet_held}
-use Rattle.vs_ring_port.specs.{declared.queue.Queue.Queue, declared.queue.TheConstants.STAGED_MAX, declared.queue.Queue.TheVariants.Rx}
+use Rattle.vs_ring_port.specs.{declared.queue.Queue.Queue, declared.queue.Queue.TheVariants.Rx}
 use Rattle.vs_ring_port.specs.{Contents.RingContents, Counts.Counts, Counts.no_counts, Counts.with_count}
 use Rattle.vs_ring_port.specs.DriverCalls.{DriverCall, DriverAnswer, Stage, Publish, Reap, LoadCid, DriverAllows, CanPublish, CanStage}
 use Rattle.vs_driver_parts.specs.{State.DriverState, Conversations.DriverTree}
+use Rattle.vs_limits.specs.declared.TheConstants.{STAGED_MAX}
 
 -- The counts of pages stay.
 abbrev pub SamePages : DriverState → DriverState → Type 0

@@ -2,13 +2,13 @@
 
 ghost use Rattle.std.specs.Prelude.{◌≡◌, [], ◌+◌, ◌-◌, ◌<◌, ◌≤◌, ◌==◌, length, vec_capacity, nat_lt, IfOk};
 ghost use Rattle.std.specs.List.{All};
-ghost use Rattle.vs_ring_port.specs.declared.queue.TheConstants.{STAGED_MAX};
 ghost use Rattle.vs_driver_parts.specs.PageCounts.{PageCounts};
+ghost use Rattle.vs_limits.specs.declared.TheConstants.{STAGED_MAX};
 
 use std::alloc::{AllocError, Global};
 use std::marker::Model;
+use vs_limits::STAGED_MAX;
 use vs_page::Page;
-use vs_ring_port::queue::STAGED_MAX;
 
 /// The pages of the transmit queue that are the driver's.
 #[derive(Drop)]

@@ -7,6 +7,12 @@ pub const BUF_ALLOC: u32 = 65_536;
 /// The most bytes of buffer space that an end may advertise.
 pub const BUF_ALLOC_MAX: u32 = 262_144;
 
+/// Bytes forwarded, and not told to the peer, at which a CREDIT_UPDATE is owed.
+pub const UPDATE_AT: u32 = 32_768;
+
+/// The most packets that one connection owes in a row: RESPONSE, CREDIT_UPDATE, CREDIT_REQUEST and SHUTDOWN.
+pub const OWED_MAX: usize = 4;
+
 /// The most bytes that a message of a seqpacket socket has.
 pub const MESSAGE_MAX: u32 = 16_208;
 
@@ -69,3 +75,6 @@ pub const CLEAN_PAIRS: usize = 64;
 
 /// Handshakes of the host's clients at once.
 pub const HANDSHAKES: usize = 16;
+
+/// The most pages that may be staged on a queue.
+pub const STAGED_MAX: u16 = 16;

@@ -4,7 +4,7 @@ use Rattle.std.proofs.Common.{◌≡◌, ℕ, ◌+◌, ◌≤◌, ◌==◌, fals
 use Rattle.vs_contents.specs.CallTree.{Done, bind, for_each, while_up_to}
 use Rattle.vs_contents.proofs.Leads.{ends_bind, ends_weaker}
 use Rattle.vs_conn.specs.Headers.{owed_header, payload_header}
-use Rattle.vs_conn.specs.{End.owes_of, End.with_payload_sent, declared.end.Owed.Owed, declared.end.TheConstants.OWED_MAX}
+use Rattle.vs_conn.specs.{End.owes_of, End.with_payload_sent, declared.end.Owed.Owed}
 use Rattle.vs_credit.specs.Credit.{free_of}
 use Rattle.vs_flow.specs.Table.{entry_under, slots}
 use Rattle.vs_header.specs.declared.Header.{Header}
@@ -21,6 +21,7 @@ use Rattle.vs_proxy.proofs.Counting.{Ends, closing_few, ends_if, ends_option, ke
 use Rattle.vs_conn.specs.declared.end.Owed.TheVariants as owed
 use Rattle.vs_outside.specs.declared.host_net.StreamRead.TheVariants as read
 use Rattle.vs_ring_port.specs.declared.device_ring.Next.TheVariants as next
+use Rattle.vs_limits.specs.declared.TheConstants.{OWED_MAX}
 
 -- no more left than packets were put
 record Puts (r q : Filling) : Type 0 where

@@ -1,10 +1,9 @@
 //! The stages of a turn, each of which is left out once the ring failed.
 
 ghost use Rattle.std.specs.Prelude.{◌≡◌, ◌≤◌, ◌<◌, ◌+◌, ◌*◌, ◌^◌, List, None, is_some};
-ghost use Rattle.vs_conn.specs.declared.end.TheConstants.{OWED_MAX};
 ghost use Rattle.vs_ring_port.specs.declared.device_ring.Chain.{Chain};
 ghost use Rattle.vs_uds.specs.declared.connect.TheConstants.{CONNECT_MAX};
-ghost use Rattle.vs_limits.specs.declared.TheConstants.{DEVICE_CONNECTIONS, DEVICE_REPLIES, HANDSHAKES};
+ghost use Rattle.vs_limits.specs.declared.TheConstants.{DEVICE_CONNECTIONS, DEVICE_REPLIES, HANDSHAKES, OWED_MAX};
 ghost use Rattle.vs_device_parts.specs.Playing.{IsItsRing, MayRun, MayRunOnHost, MayRunOnRing, Runs, RunsOnHost, RunsOnRing, situation};
 ghost use Rattle.vs_proxy_parts.specs.{Handshakes.shake_hands, Turning.CountsFew, Turning.turning_of, Turns.event_stage, Turns.fill_stage};
 ghost use Rattle.vs_proxy_parts.specs.Turns.{pump_stage, take_one, take_stage, tick_stage, took_packet, unless_failed};

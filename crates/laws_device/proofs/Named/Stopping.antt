@@ -1,7 +1,7 @@
 -- Where a stage ends for want of a page: the last load showed none that isn't taken.
 use Rattle.std.proofs.Common.{◌≡◌, ◌≢◌, ◌+◌, ◌-◌, ◌==◌, ℕ, zero, suc, nat_lt, nat_le, Bool, true, false, not, cond, List, [], ◌∷◌, length}
 use Rattle.std.proofs.Common.{Option, Some, None, Result, Err, refl, sym, ap, subst, ◌∙◌}
-use Rattle.vs_conn.specs.{Headers.{owed_header, payload_header}, End.owes_of, declared.end.Owed.Owed, declared.end.TheConstants.OWED_MAX}
+use Rattle.vs_conn.specs.{Headers.{owed_header, payload_header}, End.owes_of, declared.end.Owed.Owed}
 use Rattle.vs_contents.specs.CallTree.{Ask, Done, bind, for_each, while_up_to}
 use Rattle.vs_contents.{specs.Contents.Relates, proofs.Leads.leads_bind, proofs.Leads.leads_split}
 use Rattle.vs_credit.specs.Credit.{free_of}
@@ -13,7 +13,7 @@ use Rattle.vs_ring_port.specs.{Contents.{DeviceAnswer, DeviceCall, Return, RingC
 use Rattle.vs_ring_port.specs.{declared.queue.Queue.TheVariants.{Rx, Tx}, declared.{device_ring.Chain.Chain, device_ring.Next.Next}}
 use Rattle.vs_ring_port.specs.declared.{failure.Failure.Failure, queue.Queue.Queue}
 use Rattle.vs_ring_port.proofs.{Knowing.device_keeps, Stopping.NotFewer, Stopping.at_first, Stopping.grown_by, Stopping.stops_by}
-use Rattle.vs_limits.specs.declared.TheConstants.{DEVICE_REPLIES}
+use Rattle.vs_limits.specs.declared.TheConstants.{DEVICE_REPLIES, OWED_MAX}
 use Rattle.vs_device_parts.specs.Receiving.{Filling, after_paying, fill_rx_of, filled_of, hold, holding, may_read, put_on, put_owed}
 use Rattle.vs_device_parts.specs.Receiving.{put_packet, put_reply, put_reply_of, read_answered, read_room, read_stream, read_with_chain}
 use Rattle.vs_device_parts.specs.{Receiving.{reply_header, round_from, serve_slot, written}, Calls.{Allows, Call, DeviceTree, ReadStream}}

@@ -3,7 +3,7 @@ use Rattle.std.proofs.Common.{◌≡◌, ℕ, ◌+◌, ◌==◌, not, Bool, true
 use Rattle.std.proofs.Common.{refl, sym, ap, subst, ◌∙◌}
 use Rattle.byteorder.specs.Endian.{little_bytes}
 use Rattle.vs_conn.specs.End.{owes_of, paid_of, wanting_credit, with_payload_sent}
-use Rattle.vs_conn.specs.{Headers.owed_header, Headers.payload_header, declared.end.Owed.Owed, declared.end.TheConstants.OWED_MAX}
+use Rattle.vs_conn.specs.{Headers.owed_header, Headers.payload_header, declared.end.Owed.Owed}
 use Rattle.vs_contents.specs.CallTree.{Done, Ask, bind, for_each, while_up_to}
 use Rattle.vs_credit.specs.Credit.{free_of}
 use Rattle.vs_flow.specs.Table.{IsTable, Table, entry_of, entry_under, slots}
@@ -29,6 +29,7 @@ use Rattle.vs_conn.specs.declared.end.Owed.TheVariants as owed
 use Rattle.vs_outside.specs.declared.host_net.StreamRead.TheVariants as read
 use Rattle.vs_outside.specs.declared.host_net.StreamWrite.TheVariants as write
 use Rattle.vs_ring_port.specs.declared.device_ring.Next.TheVariants as next
+use Rattle.vs_limits.specs.declared.TheConstants.{OWED_MAX}
 
 -- An entry of a table, found by its slot or by its flow.
 pub record IsIn (t : Table DeviceConnection) (e : DeviceEntry) : Type 0 where

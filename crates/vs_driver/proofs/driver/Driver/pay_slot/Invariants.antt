@@ -1,9 +1,9 @@
 use Rattle.std.proofs.Common.{◌+◌, ◌-◌, ◌≤◌}
 use Rattle.vs_contents.specs.CallTree.{while_up_to}
 use Rattle.vs_ring_port.specs.{declared.queue.Queue.TheVariants.Tx, Contents.RingContents}
-use Rattle.vs_conn.specs.declared.end.TheConstants.{OWED_MAX}
 use Rattle.vs_driver_parts.specs.{Conversations.{Round, round_of, pay_slot, put_owed}, Playing.{IsAtWork, MayPublishAll, Plays}}
 use Rattle.vs_driver.proofs.driver.Driver.pay_slot.Given as goal
+use Rattle.vs_limits.specs.declared.TheConstants.{OWED_MAX}
 
 -- whatever completes the rest completes the whole
 abbrev pub invariant-loop : goal.invariant-loop
