@@ -1,14 +1,16 @@
 -- What always holds of the slots after a change of the table.
-use Rattle.std.proofs.Common.{◌≡◌, ℕ, zero, suc, ◌+◌, ◌<◌, ◌≤◌, ◌==◌, Bool, true, false, cond, not, List, ◌∷◌, [], ◌++◌, length, get_or, Option, Some, None, refl, sym, ap, subst}
+use Rattle.std.proofs.Common.{◌≡◌, ℕ, zero, suc, ◌+◌, ◌<◌, ◌≤◌, ◌==◌, Bool, true, false, cond, not, List, ◌∷◌, [], ◌++◌, length, map, get_or, Option, Some, None, refl, sym, ap, subst}
 use Rattle.std.proofs.Common.{◌∙◌, arith}
 use Rattle.std.proofs.{Common.length-append, lemmas.Bool.Decides.nat_tests, lemmas.{List.get_or-map, List.length-map, List.get_or_append_left}}
 use Rattle.std.proofs.{lemmas.Option.{get_or_from_slice_get, slice_get_within}, lemmas.List.{Edits.length-remove, Elements.{All-filter, All-map, All-push, All-weaker, AllWithin-more}}}
 use Rattle.std.specs.List.{All, AllPairs, AllWithin, filter, remove, slice_get}
-use Rattle.vs_flow.specs.{Table.{Table, IsTable, entry_of, value_under, has_place, next_entry, slots, with_entry, with_value, without, revalued}, declared.flow.Flow.Flow}
-use Rattle.vs_flow.proofs.{Entries.all_others, Entries.remove_at, Lookups.find_place, Tables.IsAccepted, Tables.with_value_sound}
+use Rattle.vs_flow.specs.{Table.{Table, IsTable, entry_of, entry_under, value_under, has_place, next_entry, slots, with_entry, with_value, without, revalued}, declared.flow.Flow.Flow}
+use Rattle.vs_flow.proofs.{Entries.all_others, Entries.found_at, Entries.remove_at, Lookups.find_place, Tables.IsAccepted, Tables.revalued-slot, Tables.with_value_sound}
 use Rattle.vs_device_parts.specs.{State.DeviceConnection, State.DeviceEntry, SlotFields.AreKept, declared.slots.Slots.TheInside.Inside}
 use Rattle.vs_device_parts.specs.{Connections.is_timed_out, Watched.{AreWatched, IsWatched, has_to_write}, declared.watch.Watch.Watch}
-use Rattle.vs_device_parts.proofs.Under.{none_under, under}
+use Rattle.vs_device_parts.proofs.Under.{none_under, under, value_of}
+use Rattle.vs_device_parts.specs.{Served.IsServedSo, declared.service.Service.Service}
+use Rattle.vs_conn.specs.End.{owes_of}
 
 -- what is known after one more thing was noted
 module _ (w new : Watch) (still : (c : DeviceConnection) → IsWatched w c → IsWatched new c) (t : Table DeviceConnection) (all : AreWatched w t) where
@@ -76,6 +78,26 @@ slots_rise t sound i j d lt within = by (slice_get t.entries i) refl
           sound.rising i j e lt there,
         )
 
+-- the connection at a place owes nothing where none may
+pub owes_none_at : (w : Watch) (t : Table DeviceConnection) (place : ℕ) (e : DeviceEntry) → AreWatched w t → w.owes ≡ false
+    → slice_get t.entries place ≡ Some e → owes_of e.value.end ≡ None
+owes_none_at w t place e all none is =
+    let P : DeviceEntry → Type 0 = λ x. IsWatched w x.value in
+    let watched : IsWatched w e.value = subst P (get_or_from_slice_get t.entries place e e is) (all place e (slice_get_within t.entries place e is)) in
+    watched.owes none
+
+-- and stands under its slot
+pub served_at : (t : Table DeviceConnection) (slot place : ℕ) (e : DeviceEntry) (service : Service) → IsTable t → slice_get t.entries place ≡ Some e
+    → e.slot ≡ slot → IsServedSo (Some e.value) service → IsServedSo (value_under t slot) service
+served_at t slot place e service sound is at served =
+    let found : entry_under t e.slot ≡ Some e = found_at t.entries place e sound.rising is in
+    let P : Option DeviceConnection → Type 0 = λ o. IsServedSo o service in
+    subst P (sym (value_of t slot e (ap (λ (n : ℕ). entry_under t n) (sym at) ∙ found))) served
+
+same_slots : (slot : ℕ) (d : DeviceConnection) (es : List DeviceEntry) → map (λ e. e.slot) (map (revalued slot d) es) ≡ map (λ e. e.slot) es
+same_slots slot d [] = refl
+same_slots slot d (e ∷ es) = rw (revalued-slot slot d e) (ap (λ (xs : List ℕ). e.slot ∷ xs) (same_slots slot d es))
+
 pub kept_with_value : (s : Inside) (slot : ℕ) (d : DeviceConnection) (new : Watch) → AreKept s → IsWatched new d
     → ((c : DeviceConnection) → IsWatched s.watch c → IsWatched new c) → AreKept (record s { table = with_value s.table slot d; watch = new })
 kept_with_value s slot d new kept noted still = record {
@@ -84,6 +106,7 @@ kept_with_value s slot d new kept noted still = record {
   buffers = omega (arith, kept.buffers, length-map s.table.entries (revalued slot d));
   buffer_room = kept.buffer_room;
   spare = kept.spare;
+  order = kept.order ∙ sym (same_slots slot d s.table.entries);
   watched = watched_with_value s.watch new still s.table kept.watched slot d noted;
 }
 

@@ -1,6 +1,8 @@
--- What is known of all connections at once: when the first of them may time out, and whether one may have something for its stream.
-use Rattle.std.specs.{Prelude.◌≡◌, Prelude.ℕ, Prelude.◌<◌, Prelude.◌==◌, Prelude.◌&&◌, Prelude.◌||◌, Prelude.not, Prelude.Bool, Prelude.false, Prelude.length}
+-- What is known of all connections at once: when the first of them may time out, whether one may have something
+-- for its stream, and whether one may owe a packet.
+use Rattle.std.specs.{Prelude.◌≡◌, Prelude.ℕ, Prelude.◌<◌, Prelude.◌==◌, Prelude.◌&&◌, Prelude.◌||◌, Prelude.not, Prelude.Bool, Prelude.false, Prelude.length, Prelude.None}
 use Rattle.std.specs.List.{All}
+use Rattle.vs_conn.specs.End.{owes_of}
 use Rattle.vs_flow.specs.Table.{Table}
 use Rattle.vs_device_parts.specs.{Connections.is_timed_out, State.DeviceConnection, declared.watch.Watch.Watch}
 
@@ -13,6 +15,7 @@ has_to_write c =
 pub record IsWatched (w : Watch) (c : DeviceConnection) : Type 0 where
   pub due : (now : ℕ) → now < w.due → is_timed_out now c ≡ false
   pub writes : w.writes ≡ false → has_to_write c ≡ false
+  pub owes : w.owes ≡ false → owes_of c.end ≡ None
 
 -- It holds of all.
 abbrev pub AreWatched : Watch → Table DeviceConnection → Type 0

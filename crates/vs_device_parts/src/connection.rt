@@ -347,13 +347,11 @@ impl Connection {
         self.end.owed_header(route, what)
     }
 
-    /// What the round over all connections does on it.
+    /// What the round over all connections does on it, where it owes no packet.
     pub fn service(&self) -> Service
+        requires none { owes_of self.now.end ≡ None }
         ensures { IsServedSo (Some self.now) result }
     {
-        if self.owes().is_some() {
-            return Service::Owed;
-        }
         if !self.may_read() {
             return Service::Nothing;
         }

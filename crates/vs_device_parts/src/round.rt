@@ -22,8 +22,8 @@ pub fn round_from(last: Option<Slot>, slots: &[Slot]) -> ArrayVec<Slot, DEVICE_C
     round
 }
 
-// The place of the first slot of a round.
-fn first_from(last: Option<Slot>, slots: &[Slot]) -> usize
+/// The place of the first slot of a round.
+pub fn first_from(last: Option<Slot>, slots: &[Slot]) -> usize
     requires rising { AllPairs (λ j k. j < k) slots.now }
     ensures most { result ≤ length slots.now }
     ensures round { round_from last slots.now ≡ drop result slots.now ++ take result slots.now }

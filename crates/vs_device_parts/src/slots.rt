@@ -38,6 +38,8 @@ pub struct Slots {
     table: FlowTable<Connection>,
     // The buffers of the free slots.
     spare: Vec<Buffers>,
+    // All slots of the table, by rising slot.
+    order: ArrayVec<Slot, DEVICE_CONNECTIONS>,
     // What is known of all connections.
     watch: Watch,
 }
@@ -63,6 +65,7 @@ impl Slots {
         Ok(Slots {
             table: FlowTable::new(alloc, DEVICE_CONNECTIONS)?,
             spare: all_buffers(alloc)?,
+            order: ArrayVec::new(),
             watch: Watch::new(),
         })
     }
@@ -126,11 +129,7 @@ impl Slots {
         ensures rising { AllPairs (λ j k. j < k) (slots self.now) }
     {
         let mut all = ArrayVec::new();
-        let mut place = 0;
-        while let Some(entry) = self.table.at(place) {
-            all.push(entry.slot);
-            place += 1;
-        }
+        all.try_extend_from_slice(self.order.as_slice()).unwrap();
         all
     }
 
@@ -158,13 +157,13 @@ impl Slots {
         }
     }
 
-    /// What the round over all connections does on the one in a slot.
-    pub fn service(&self, slot: Slot) -> Service
+    /// What the round over all connections does on the one in a slot, as far as one look tells at the place where it stands if none went before.
+    pub fn service(&self, slot: Slot, place: usize) -> Service
         ensures { IsServedSo (value_under self.now slot) result }
     {
-        match self.table.get(slot) {
-            Some(connection) => connection.service(),
-            None => Service::Nothing,
+        match self.table.at(place) {
+            Some(entry) if entry.slot == slot && !self.watch.owes => entry.value.service(),
+            _ => Service::Owed,
         }
     }
 
@@ -186,6 +185,15 @@ impl Slots {
             place += 1;
         }
         self.watch = watch;
+    }
+
+    /// Looks at all connections anew where one may have owed a packet.
+    pub fn watch_owed(&mut self)
+        ensures { self.new ≡ self.old }
+    {
+        if self.watch.owes {
+            self.watch_anew();
+        }
     }
 
     /// The packet that the connection in a slot owes, if it owes one, and its header.
@@ -220,7 +228,9 @@ impl Slots {
     {
         let connection = Connection::client(stream, self.spare.take_last());
         self.watch.note(&connection);
-        insert(&mut self.table, flow, connection)
+        let slot = insert(&mut self.table, flow, connection);
+        self.order = slots_of(&self.table);
+        slot
     }
 
     /// A connection opens that the guest's REQUEST asks for, on the stream that a dial gave.
@@ -232,6 +242,7 @@ impl Slots {
         let connection = Connection::dialed(stream, request, self.spare.take_last());
         self.watch.note(&connection);
         insert(&mut self.table, flow, connection);
+        self.order = slots_of(&self.table);
     }
 
     /// All connections leave the table.
@@ -259,6 +270,7 @@ impl Slots {
             return;
         };
         self.spare.push_reserved(connection.into_buffers());
+        self.order = slots_of(&self.table);
     }
 }
 
@@ -440,6 +452,20 @@ fn insert(table: &mut FlowTable<Connection>, flow: Flow, connection: Connection)
         Ok(slot) => slot,
         Err(_) => unreachable!(),
     }
+}
+
+// All slots of a table, by rising slot.
+fn slots_of(table: &FlowTable<Connection>) -> ArrayVec<Slot, DEVICE_CONNECTIONS>
+    requires most { length table.now.entries ≤ DEVICE_CONNECTIONS }
+    ensures { result.items ≡ slots table.now }
+{
+    let mut all = ArrayVec::new();
+    let mut place = 0;
+    while let Some(entry) = table.at(place) {
+        all.push(entry.slot);
+        place += 1;
+    }
+    all
 }
 
 // The buffers of all slots.

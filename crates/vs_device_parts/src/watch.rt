@@ -12,6 +12,8 @@ pub struct Watch {
     pub due: u64,
     /// A connection may have bytes for its stream, or its write side may be to be shut.
     pub writes: bool,
+    /// A connection may owe a packet.
+    pub owes: bool,
 }
 
 impl Watch {
@@ -22,6 +24,7 @@ impl Watch {
         Watch {
             due: u64::MAX,
             writes: false,
+            owes: false,
         }
     }
 
@@ -32,5 +35,6 @@ impl Watch {
     {
         self.due = self.due.min(connection.due());
         self.writes = self.writes || connection.has_to_write();
+        self.owes = self.owes || connection.owes().is_some();
     }
 }
