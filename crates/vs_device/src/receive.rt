@@ -9,17 +9,18 @@ ghost use Rattle.vs_contents.specs.CallTree.{while_up_to};
 ghost use Rattle.vs_credit.specs.Credit.{free_of};
 ghost use Rattle.vs_flow.specs.Table.{entry_under, value_under};
 ghost use Rattle.vs_header.specs.declared.TheConstants.{HEADER_LEN};
+ghost use Rattle.vs_outside.specs.{Host.ReadsSome, declared.host_net.StreamRead.TheVariants as read};
 ghost use Rattle.vs_page.specs.declared.page.TheConstants.{PAYLOAD_MAX};
 ghost use Rattle.vs_ring_port.specs.declared.{device_ring.Chain.Chain, failure.Failure.Failure};
 ghost use Rattle.laws_device.specs.Named.Streams.{HasStreams};
 ghost use Rattle.laws_device.specs.Honest.{IsWith};
 ghost use Rattle.laws_proxy.specs.Account.{Made.Made, Told.AreAccounted, Told.StayAccounted};
 ghost use Rattle.vs_proxy_parts.specs.State.{Handshake};
-ghost use Rattle.vs_device_parts.specs.{Connections.route_to_guest, Filling.filling_of, Filling.is_rst, Filling.put_header};
+ghost use Rattle.vs_device_parts.specs.{Connections.route_to_guest, Filling.bytes_read, Filling.filling_of, Filling.is_rst, Filling.put_header};
 ghost use Rattle.vs_device_parts.specs.{Filling.read_slot, Filling.serve_all, Filling.serve_rest, Playing.IsAmong, Playing.IsItsRing};
 ghost use Rattle.vs_device_parts.specs.Playing.{IsRingOf, MayRun, MayRunOnHost, MayRunOnRing, Runs, RunsOnHost, RunsOnRing, beside};
 ghost use Rattle.vs_device_parts.specs.{Playing.situation, Receiving.after_paying, Receiving.fill_rx_of, Receiving.filled_of};
-ghost use Rattle.vs_device_parts.specs.Receiving.{hold, may_read, put_owed, put_payload, put_reply, read_room, read_with_chain, serve_slot};
+ghost use Rattle.vs_device_parts.specs.Receiving.{hold, may_read, put_owed, put_payload, put_reply, read_answered, read_room, read_with_chain, serve_slot};
 ghost use Rattle.vs_device_parts.specs.{Served.IsServedSo, Served.OnlyReads, Served.Reads, State.DeviceEntry, Steps.to_read};
 ghost use Rattle.vs_limits.specs.declared.TheConstants.{DEVICE_CONNECTIONS, DEVICE_REPLIES, OWED_MAX};
 
@@ -28,7 +29,7 @@ use vs_conn::{Owed};
 use vs_device_parts::answers::Filled;
 use vs_device_parts::fill::Fill;
 use vs_device_parts::packets::{read_into, write_packet};
-use vs_device_parts::round::round_from;
+use vs_device_parts::round::{first_from, round_from};
 use vs_device_parts::service::Service;
 use vs_flow::Slot;
 use vs_header::{HEADER_LEN, Header, Kind, Op};
@@ -127,10 +128,23 @@ impl Device {
     {
         let slots = self.slots.all();
         let round = round_from(self.last_put, slots.as_slice());
+        let mut place = first_from(self.last_put, slots.as_slice());
         let mut buffer = [0; PAYLOAD_MAX];
         for slot in round.as_slice() {
-            self.serve_slot(ring, host, *slot, &mut buffer, fill);
+            if place >= round.len() {
+                place = 0;
+            }
+            self.serve_slot(ring, host, *slot, place, &mut buffer, fill);
+            place = place.wrapping_add(1);
         }
+        self.watch_owed();
+    }
+
+    // Looks at all connections anew where one may have owed a packet.
+    fn watch_owed(&mut self)
+        ensures { self.new ≡ self.old }
+    {
+        self.slots.watch_owed();
     }
 
     // Serves the connection in a slot: its stream is read, and what it owes is put.
@@ -139,6 +153,7 @@ impl Device {
         ring: &mut R,
         host: &mut H,
         slot: Slot,
+        place: usize,
         buffer: &mut [u8; PAYLOAD_MAX],
         fill: &mut Fill,
     )
@@ -154,7 +169,7 @@ impl Device {
         if fill.over {
             return;
         }
-        match self.service(slot) {
+        match self.service(slot, place) {
             Service::Nothing => {}
             Service::Read { stream, credit } => {
                 self.serve_reading(ring, host, slot, stream, credit, buffer, fill);
@@ -164,10 +179,10 @@ impl Device {
     }
 
     // What the round does on the connection in a slot, as far as one look at it tells.
-    fn service(&self, slot: Slot) -> Service
+    fn service(&self, slot: Slot, place: usize) -> Service
         ensures { IsServedSo (value_under self.now.table slot) result }
     {
-        self.slots.service(slot)
+        self.slots.service(slot, place)
     }
 
     // Serves the connection in a slot, which reads a stream with so much credit and owes nothing. Where nothing comes of the read it owes
@@ -194,9 +209,14 @@ impl Device {
         ensures calls { Runs (serve_slot slot (filling_of self.old fill.old)) (situation (R.contents ring.old) (H.contents host.old) (H.faults host.old)) (filling_of self.new fill.new) (situation (R.contents ring.new) (H.contents host.new) (H.faults host.new)) }
     {
         self.hold(ring, fill);
-        if !self.read_stream(ring, host, slot, stream, credit, buffer, fill) {
+        let Some(chain) = &self.chain else {
+            return;
+        };
+        let answer = read_into(host, stream, buffer, read_room(credit, chain.writable));
+        if is_again(answer) {
             return;
         }
+        self.read_answered(ring, host, slot, answer, buffer, fill);
         if !fill.over {
             self.put_all_owed(ring, host, slot, fill);
         }
@@ -299,8 +319,7 @@ impl Device {
         self.read_stream(ring, host, slot, stream, credit, buffer, fill);
     }
 
-    // Reads the stream of the connection in a slot, with so much credit, into the chain that is held, where one is. Tells whether something
-    // came of it.
+    // Reads the stream of the connection in a slot, with so much credit, into the chain that is held, where one is.
     fn read_stream<R: DeviceRing, H: HostNet>(
         &mut self,
         ring: &mut R,
@@ -310,7 +329,7 @@ impl Device {
         credit: u32,
         buffer: &mut [u8; PAYLOAD_MAX],
         fill: &mut Fill,
-    ) -> bool
+    )
         requires ring { IsAmong (R.held ring.old) self.old }
         requires few { fill.old.put < 2 ^ 14 }
         requires few_read { fill.old.read < 2 ^ 20 }
@@ -321,26 +340,43 @@ impl Device {
         ensures count { fill.new.put ≤ fill.old.put + 1 }
         ensures read { fill.new.read ≤ fill.old.read + PAYLOAD_MAX }
         ensures calls { (e : DeviceEntry) → entry_under self.old.table slot ≡ Some e → Runs (read_with_chain e (filling_of self.old fill.old)) (situation (R.contents ring.old) (H.contents host.old) (H.faults host.old)) (filling_of self.new fill.new) (situation (R.contents ring.new) (H.contents host.new) (H.faults host.new)) }
-        ensures still { result ≡ false → self.new ≡ self.old }
     {
         let Some(chain) = &self.chain else {
-            return false;
+            return;
         };
-        let room = read_room(credit, chain.writable);
-        match read_into(host, stream, buffer, room) {
-            StreamRead::Got(n) => {
-                self.put_payload(ring, slot, &buffer[..n], fill);
-                true
-            }
-            StreamRead::Again => false,
-            StreamRead::End => {
-                self.slots.shut(slot, 2, self.moment);
-                true
-            }
+        let answer = read_into(host, stream, buffer, read_room(credit, chain.writable));
+        self.read_answered(ring, host, slot, answer, buffer, fill);
+    }
+
+    // The read of the stream of the connection in a slot was answered.
+    fn read_answered<R: DeviceRing, H: HostNet>(
+        &mut self,
+        ring: &mut R,
+        host: &mut H,
+        slot: Slot,
+        answer: StreamRead,
+        buffer: &[u8; PAYLOAD_MAX],
+        fill: &mut Fill,
+    )
+        requires ring { IsAmong (R.held ring.old) self.old }
+        requires few { fill.old.put < 2 ^ 14 }
+        requires few_read { fill.old.read < 2 ^ 20 }
+        requires reads { IfSome (value_under self.old.table slot) (λ c. may_read c.end c.end.state ≡ true) }
+        requires some { (e : DeviceEntry) (chain : Chain) → entry_under self.old.table slot ≡ Some e → self.old.chain ≡ Some chain → ReadsSome answer (read_room (free_of e.value.end.credit) chain) }
+        requires may { (e : DeviceEntry) (chain : Chain) → entry_under self.old.table slot ≡ Some e → self.old.chain ≡ Some chain → MayRun (read_answered chain e answer (bytes_read answer buffer.now) (filling_of self.old fill.old)) (situation (R.contents ring.old) (H.contents host.old) (H.faults host.old)) }
+        ensures ring { IsAmong (R.held ring.new) self.new }
+        ensures beside { beside self.new.chain (R.held ring.new) ≡ beside self.old.chain (R.held ring.old) }
+        ensures count { fill.new.put ≤ fill.old.put + 1 }
+        ensures read { fill.new.read ≤ fill.old.read + PAYLOAD_MAX }
+        ensures calls { (e : DeviceEntry) (chain : Chain) → entry_under self.old.table slot ≡ Some e → self.old.chain ≡ Some chain → Runs (read_answered chain e answer (bytes_read answer buffer.now) (filling_of self.old fill.old)) (situation (R.contents ring.old) (H.contents host.old) (H.faults host.old)) (filling_of self.new fill.new) (situation (R.contents ring.new) (H.contents host.new) (H.faults host.new)) }
+    {
+        match answer {
+            StreamRead::Got(n) => self.put_payload(ring, slot, &buffer[..n], fill),
+            StreamRead::Again => {}
+            StreamRead::End => self.slots.shut(slot, 2, self.moment),
             StreamRead::Failed => {
                 self.faults = self.faults.saturating_add(1);
                 self.cut_off(host, slot);
-                true
             }
         }
     }
@@ -546,6 +582,13 @@ fn read_room(credit: u32, writable: u64) -> usize
 {
     let held = writable - HEADER_LEN as u64;
     u64::from(credit).min(held).min(PAYLOAD_MAX as u64) as usize
+}
+
+// Whether nothing came of a read.
+fn is_again(answer: StreamRead) -> bool
+    ensures { result ≡ true → answer ≡ read.Again }
+{
+    matches!(answer, StreamRead::Again)
 }
 
 // Whether a packet that is owed is RST.
