@@ -10,7 +10,8 @@ use Rattle.vs_header.specs.declared.{TheConstants.HEADER_LEN, Header.Header}
 use Rattle.vs_page.specs.declared.page.TheConstants.{PAYLOAD_MAX}
 use Rattle.vs_credit.specs.Credit.{free_of}
 use Rattle.vs_flow.specs.Table.{Table, entry_under, value_under}
-use Rattle.vs_outside.specs.declared.host_net.StreamRead.{StreamRead}
+use Rattle.vs_outside.specs.{Host.ReadsSome, InOut.MovesSome, declared.host_net.StreamRead.StreamRead}
+use Rattle.vs_outside.specs.declared.host_net.StreamRead.TheVariants as read
 use Rattle.vs_ring_port.specs.declared.device_ring.Chain.{Chain}
 use Rattle.vs_device_parts.specs.Receiving.{Filling, hold, written, put_on, put_owed, put_payload, may_read, read_room, read_answered}
 use Rattle.vs_device_parts.specs.{Receiving.{read_with_chain, read_stream, serve_slot}, Calls.{DeviceTree, Situation, Allows, ReadStream}}
@@ -238,6 +239,42 @@ at_some {X = X} o x P is holds = let Q : Option X → Type 0 = λ p. IfSome p P 
 
 pub same_entry : (o : Option DeviceEntry) (e f : DeviceEntry) → o ≡ Some e → o ≡ Some f → e ≡ f
 same_entry o e f is also = let both : Some e ≡ Some f = sym is ∙ also in cc
+
+pub same_chain : (o : Option Chain) (c d : Chain) → o ≡ Some c → o ≡ Some d → c ≡ d
+same_chain o c d is also = let both : Some c ≡ Some d = sym is ∙ also in cc
+
+-- what was read of a connection's stream, into the chain that is held
+pub record WasRead (slot : ℕ) (s : DeviceState) (answer : StreamRead) : Type 0 where
+  pub entry : DeviceEntry
+  pub found : entry_under s.table slot ≡ Some entry
+  pub chain : Chain
+  pub held : s.chain ≡ Some chain
+  pub reads : may_read entry.value.end entry.value.end.state ≡ true
+  pub some : ReadsSome answer (read_room (free_of entry.value.end.credit) chain)
+
+abbrev MayRead : DeviceConnection → Type 0
+MayRead c = may_read c.end c.end.state ≡ true
+
+abbrev ReadSo : StreamRead → Option DeviceConnection → Chain → Type 0
+ReadSo answer o chain = IsSomeAnd o (λ c. ReadsSome answer (read_room (free_of c.end.credit) chain))
+
+pub was_read : (slot : ℕ) (s : DeviceState) (answer : StreamRead) → IsSomeAnd (value_under s.table slot) MayRead
+    → IsSomeAnd s.chain (ReadSo answer (value_under s.table slot)) → WasRead slot s answer
+was_read slot s answer reads some = by (entry_under s.table slot) s.chain refl refl reads some
+  where
+    by : (o : Option DeviceEntry) (h : Option Chain) → entry_under s.table slot ≡ o → s.chain ≡ h
+        → IsSomeAnd (option_map (λ (e : DeviceEntry). e.value) o) MayRead
+        → IsSomeAnd h (ReadSo answer (option_map (λ (e : DeviceEntry). e.value) o)) → WasRead slot s answer
+    by None h found held reads some = absurd reads
+    by (Some e) None found held reads some = absurd some
+    by (Some e) (Some chain) found held reads some = record { entry = e; found = found; chain = chain; held = held; reads = reads; some = some }
+
+pub none_read : (chain : Chain) (e : DeviceEntry) (answer : StreamRead) (bytes : List ℕ) (q : Filling) (c : Situation) → answer ≡ read.Again
+    → Runs (read_answered chain e answer bytes q) c q c
+none_read chain e answer bytes q c is = let P : StreamRead → Type 0 = λ a. Runs (read_answered chain e a bytes q) c q c in subst P (sym is) (refl, refl)
+
+pub got_some : (answer : StreamRead) (n room : ℕ) → answer ≡ read.Got n → ReadsSome answer room → MovesSome n room
+got_some answer n room is some = let P : StreamRead → Type 0 = λ a. ReadsSome a room in subst P is some
 
 -- the read that was made, as that of the connection in the slot
 pub record IsRead (chain : Chain) (stream most : ℕ) (e : DeviceEntry) : Type 0 where

@@ -25,7 +25,7 @@ ghost use Rattle.vs_device_parts.specs.{Served.IsServedSo, Served.OnlyReads, Ser
 ghost use Rattle.vs_limits.specs.declared.TheConstants.{DEVICE_CONNECTIONS, DEVICE_REPLIES, OWED_MAX};
 
 use crate::device::Device;
-use vs_conn::{Owed};
+use vs_conn::Owed;
 use vs_device_parts::answers::Filled;
 use vs_device_parts::fill::Fill;
 use vs_device_parts::packets::{read_into, write_packet};
@@ -209,14 +209,9 @@ impl Device {
         ensures calls { Runs (serve_slot slot (filling_of self.old fill.old)) (situation (R.contents ring.old) (H.contents host.old) (H.faults host.old)) (filling_of self.new fill.new) (situation (R.contents ring.new) (H.contents host.new) (H.faults host.new)) }
     {
         self.hold(ring, fill);
-        let Some(chain) = &self.chain else {
-            return;
-        };
-        let answer = read_into(host, stream, buffer, read_room(credit, chain.writable));
-        if is_again(answer) {
+        if !self.read_stream(ring, host, slot, stream, credit, buffer, fill) {
             return;
         }
-        self.read_answered(ring, host, slot, answer, buffer, fill);
         if !fill.over {
             self.put_all_owed(ring, host, slot, fill);
         }
@@ -319,7 +314,9 @@ impl Device {
         self.read_stream(ring, host, slot, stream, credit, buffer, fill);
     }
 
-    // Reads the stream of the connection in a slot, with so much credit, into the chain that is held, where one is.
+    // Reads the stream of the connection in a slot, with so much credit, into the chain that is held, where one is. Tells whether something
+    // came of it.
+    #[inline(always)]
     fn read_stream<R: DeviceRing, H: HostNet>(
         &mut self,
         ring: &mut R,
@@ -329,7 +326,7 @@ impl Device {
         credit: u32,
         buffer: &mut [u8; PAYLOAD_MAX],
         fill: &mut Fill,
-    )
+    ) -> bool
         requires ring { IsAmong (R.held ring.old) self.old }
         requires few { fill.old.put < 2 ^ 14 }
         requires few_read { fill.old.read < 2 ^ 20 }
@@ -340,12 +337,17 @@ impl Device {
         ensures count { fill.new.put ≤ fill.old.put + 1 }
         ensures read { fill.new.read ≤ fill.old.read + PAYLOAD_MAX }
         ensures calls { (e : DeviceEntry) → entry_under self.old.table slot ≡ Some e → Runs (read_with_chain e (filling_of self.old fill.old)) (situation (R.contents ring.old) (H.contents host.old) (H.faults host.old)) (filling_of self.new fill.new) (situation (R.contents ring.new) (H.contents host.new) (H.faults host.new)) }
+        ensures still { result ≡ false → self.new ≡ self.old }
     {
         let Some(chain) = &self.chain else {
-            return;
+            return false;
         };
         let answer = read_into(host, stream, buffer, read_room(credit, chain.writable));
+        if is_again(answer) {
+            return false;
+        }
         self.read_answered(ring, host, slot, answer, buffer, fill);
+        true
     }
 
     // The read of the stream of the connection in a slot was answered.
@@ -361,8 +363,8 @@ impl Device {
         requires ring { IsAmong (R.held ring.old) self.old }
         requires few { fill.old.put < 2 ^ 14 }
         requires few_read { fill.old.read < 2 ^ 20 }
-        requires reads { IfSome (value_under self.old.table slot) (λ c. may_read c.end c.end.state ≡ true) }
-        requires some { (e : DeviceEntry) (chain : Chain) → entry_under self.old.table slot ≡ Some e → self.old.chain ≡ Some chain → ReadsSome answer (read_room (free_of e.value.end.credit) chain) }
+        requires reads { IsSomeAnd (value_under self.old.table slot) (λ c. may_read c.end c.end.state ≡ true) }
+        requires some { IsSomeAnd self.old.chain (λ chain. IsSomeAnd (value_under self.old.table slot) (λ c. ReadsSome answer (read_room (free_of c.end.credit) chain))) }
         requires may { (e : DeviceEntry) (chain : Chain) → entry_under self.old.table slot ≡ Some e → self.old.chain ≡ Some chain → MayRun (read_answered chain e answer (bytes_read answer buffer.now) (filling_of self.old fill.old)) (situation (R.contents ring.old) (H.contents host.old) (H.faults host.old)) }
         ensures ring { IsAmong (R.held ring.new) self.new }
         ensures beside { beside self.new.chain (R.held ring.new) ≡ beside self.old.chain (R.held ring.old) }
@@ -550,6 +552,7 @@ impl Device {
     }
 
     /// Holds a chain of the receive queue: the one that is held already, or the next one. Where there is none, the stage is over.
+    #[inline(always)]
     pub(crate) fn hold<R: DeviceRing>(&mut self, ring: &mut R, fill: &mut Fill)
         requires ring { IsAmong (R.held ring.old) self.old }
         requires going { fill.old.over ≡ false }

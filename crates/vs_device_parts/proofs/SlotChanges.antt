@@ -10,7 +10,6 @@ use Rattle.vs_device_parts.specs.{State.DeviceConnection, State.DeviceEntry, Slo
 use Rattle.vs_device_parts.specs.{Connections.is_timed_out, Watched.{AreWatched, IsWatched, has_to_write}, declared.watch.Watch.Watch}
 use Rattle.vs_device_parts.proofs.Under.{none_under, under, value_of}
 use Rattle.vs_device_parts.specs.{Served.IsServedSo, declared.service.Service.Service}
-use Rattle.vs_conn.specs.End.{owes_of}
 
 -- what is known after one more thing was noted
 module _ (w new : Watch) (still : (c : DeviceConnection) → IsWatched w c → IsWatched new c) (t : Table DeviceConnection) (all : AreWatched w t) where
@@ -78,15 +77,7 @@ slots_rise t sound i j d lt within = by (slice_get t.entries i) refl
           sound.rising i j e lt there,
         )
 
--- the connection at a place owes nothing where none may
-pub owes_none_at : (w : Watch) (t : Table DeviceConnection) (place : ℕ) (e : DeviceEntry) → AreWatched w t → w.owes ≡ false
-    → slice_get t.entries place ≡ Some e → owes_of e.value.end ≡ None
-owes_none_at w t place e all none is =
-    let P : DeviceEntry → Type 0 = λ x. IsWatched w x.value in
-    let watched : IsWatched w e.value = subst P (get_or_from_slice_get t.entries place e e is) (all place e (slice_get_within t.entries place e is)) in
-    watched.owes none
-
--- and stands under its slot
+-- the connection at a place stands under its slot
 pub served_at : (t : Table DeviceConnection) (slot place : ℕ) (e : DeviceEntry) (service : Service) → IsTable t → slice_get t.entries place ≡ Some e
     → e.slot ≡ slot → IsServedSo (Some e.value) service → IsServedSo (value_under t slot) service
 served_at t slot place e service sound is at served =

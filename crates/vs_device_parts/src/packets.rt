@@ -31,6 +31,7 @@ pub fn write_packet<R: DeviceRing>(ring: &mut R, chain: Chain, header: &Header, 
 }
 
 /// Reads the next bytes of an open stream into the front of `out`, at most `room` ones.
+#[inline(always)]
 pub fn read_into<H: HostNet>(host: &mut H, stream: u64, out: &mut [u8], room: usize) -> StreamRead
     requires open { ForSome (H.contents host.old) (IsOpen stream) }
     requires room { room ≤ length out.old }

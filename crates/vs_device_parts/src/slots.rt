@@ -162,7 +162,9 @@ impl Slots {
         ensures { IsServedSo (value_under self.now slot) result }
     {
         match self.table.at(place) {
-            Some(entry) if entry.slot == slot && !self.watch.owes => entry.value.service(),
+            Some(entry) if entry.slot == slot && !owes(self.watch.owes, &entry.value) => {
+                entry.value.service()
+            }
             _ => Service::Owed,
         }
     }
@@ -201,9 +203,9 @@ impl Slots {
         ensures none { IfNone result (IfSome (entry_under self.now slot) (λ e. owes_of e.value.end ≡ None)) }
         ensures some { IfSome result (λ (what, header). IsSomeAnd (entry_under self.now slot) (λ e. (owes_of e.value.end ≡ Some what) × (header ≡ owed_header e.value.end (route_to_guest cid e.flow) what))) }
     {
-        let flow = self.table.flow_of(slot)?;
         let connection = self.table.get(slot)?;
         let what = connection.owes()?;
+        let flow = self.table.flow_of(slot)?;
         Some((
             what,
             connection.owed_header(route_to_guest(cid, flow), what),
@@ -466,6 +468,13 @@ fn slots_of(table: &FlowTable<Connection>) -> ArrayVec<Slot, DEVICE_CONNECTIONS>
         place += 1;
     }
     all
+}
+
+// Whether a connection owes a packet, where it may.
+fn owes(may: bool, connection: &Connection) -> bool
+    ensures { result ≡ false → may ≡ true → owes_of connection.now.end ≡ None }
+{
+    may && connection.owes().is_some()
 }
 
 // The buffers of all slots.

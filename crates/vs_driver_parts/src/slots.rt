@@ -189,9 +189,9 @@ impl Slots {
         ensures none { IfNone result (IfSome (entry_under self.now.table slot) (λ e. owes_of e.value.end ≡ None)) }
         ensures some { IfSome result (λ (what, header). IsSomeAnd (entry_under self.now.table slot) (λ e. (owes_of e.value.end ≡ Some what) × (header ≡ owed_header e.value.end (route_to_host cid e.flow) what))) }
     {
-        let flow = self.table.flow_of(slot)?;
         let connection = self.table.get(slot)?;
         let what = connection.owes()?;
+        let flow = self.table.flow_of(slot)?;
         Some((what, connection.owed_header(route_to_host(cid, flow), what)))
     }
 

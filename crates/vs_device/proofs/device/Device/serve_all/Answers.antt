@@ -9,6 +9,10 @@ pub round_from-round-requires-clause-rising : goal.round_from-round-requires-cla
 round_from-round-requires-clause-rising g c =
     subst (λ (xs : List ℕ). AllPairs (λ j k. j < k) xs) (sym (c.as_slice.ensures.value ∙ c.all-slots.ensures.all)) c.all-slots.ensures.rising
 
+pub first_from-place-requires : goal.first_from-place-requires
+first_from-place-requires g c =
+    record { rising = subst (λ (xs : List ℕ). AllPairs (λ j k. j < k) xs) (sym (c.as_slice-2.ensures.value ∙ c.all-slots.ensures.all)) c.all-slots.ensures.rising }
+
 pub loop-slot-init : goal.loop-slot-init
 loop-slot-init g c =
     let is : c.as_slice-slot-items.result.now ≡ round_from c.args.self.now.last_put (slots c.args.self.now.table) =
@@ -48,4 +52,4 @@ pub returns-clause-calls : goal.returns-clause-calls
 returns-clause-calls g c =
     let xs = c.as_slice-slot-items.result.now in
     let ends : length xs ≤ c.loop-slot.slot-index = search rules in
-    c.loop-slot.invariant.goes_on _ _ (each_end serve_slot xs c.loop-slot.slot-index (filling_of c.loop-slot.self c.loop-slot.fill) _ ends)
+    rw c.watch_owed.ensures (c.loop-slot.invariant.goes_on _ _ (each_end serve_slot xs c.loop-slot.slot-index (filling_of c.loop-slot.self c.loop-slot.fill) _ ends))

@@ -1,5 +1,5 @@
-use Rattle.std.proofs.Common.{sym, rules, arith}
-use Rattle.vs_device_parts.proofs.SlotChanges.{owes_none_at, served_at}
+use Rattle.std.proofs.Common.{sym}
+use Rattle.vs_device_parts.proofs.SlotChanges.{served_at}
 use Rattle.vs_device_parts.proofs.slots.Slots.service.Goals as goal
 
 pub returns-in-Some : goal.returns-in-Some
