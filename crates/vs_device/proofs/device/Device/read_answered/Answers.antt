@@ -39,10 +39,13 @@ put_payload-requires-clause-may g c = λ e chain is held.
 pub cut_off-requires : goal.cut_off-requires
 cut_off-requires g c = record {
   may = λ e found.
-      let is : entry_under c.args.self.now.table c.args.slot ≡ Some e = rw (← c.self.view_is) found in
+      let is : entry_under c.args.self.now.table c.args.slot ≡ Some e = rw (← c.self-in-Failed.view_is) found in
       let u = was_read c.args.slot c.args.self.now c.args.answer c.requires.reads c.requires.some in
-      may_close e cut_off (with_fault c.args.self.now) _ (may_first _ _ (closing e cut_off (with_fault c.args.self.now)) _ _
-      (rw c.in-Failed.is at (c.requires.may e u.chain is u.held)));
+      let q : Filling = filling_of c.args.self.now c.args.fill.now in
+      let from = situation (g.R.DeviceRing.contents c.args.ring.now) (g.H.HostNet.contents c.args.host.now) (g.H.HostNet.faults c.args.host.now) in
+      let P : StreamRead → Type 0 = λ a. MayRun (read_answered u.chain e a (bytes_read a c.args.buffer.now) q) from in
+      may_close e cut_off (with_fault c.args.self.now) from (may_first _ _ (closing e cut_off (with_fault c.args.self.now)) _ from
+      (subst P c.in-Failed.is (c.requires.may e u.chain is u.held)));
 }
 
 pub returns-in-Got-clause-calls : goal.returns-in-Got-clause-calls
@@ -53,20 +56,20 @@ returns-in-Again-clause-calls g c = λ e chain is held. none_read chain e c.args
 
 pub returns-in-End-clause-calls : goal.returns-in-End-clause-calls
 returns-in-End-clause-calls g c = λ e chain is held.
-    let d = c.self-in-End.inside in
-    let found : entry_under d.slots c.args.slot ≡ Some e = rw (← c.self-in-End.view_is) at is in
-    let moment = ap (λ (x : DeviceState). with_connection e.slot (after_shut 2 x.now e.value) c.args.self.now) c.self-in-End.view_is in
-    let state = changed (the_view d) c.args.self.now c.args.slot e (after_shut 2 d.moment e.value) c.shut.new.self c.self-in-End.view_is
+    let d = c.self.inside in
+    let found : entry_under d.slots c.args.slot ≡ Some e = rw (← c.self.view_is) at is in
+    let moment = ap (λ (x : DeviceState). with_connection e.slot (after_shut 2 x.now e.value) c.args.self.now) c.self.view_is in
+    let state = changed (the_view d) c.args.self.now c.args.slot e (after_shut 2 d.moment e.value) c.shut.new.self c.self.view_is
     (c.shut.ensures.left e.value (value_of d.slots c.args.slot e found)) (has_slot d.slots c.args.slot e found) ∙ moment in
     rw c.in-End.is (ap (λ (x : DeviceState). record (filling_of c.args.self.now c.args.fill.now) { state = x }) (sym state), refl)
 
 pub returns-in-Failed-clause-calls : goal.returns-in-Failed-clause-calls
 returns-in-Failed-clause-calls g c = λ e chain is held.
-    let d = c.self.inside in
+    let d = c.self-in-Failed.inside in
     let count : c.saturating_add-self-inside.result ≡ counted d.faults = search rules in
     let state : the_view (record d { faults = c.saturating_add-self-inside.result }) ≡ with_fault c.args.self.now =
-    rw (← c.self.view_is) (ap (λ (n : ℕ). the_view (record d { faults = n })) count) in
+    rw (← c.self-in-Failed.view_is) (ap (λ (n : ℕ). the_view (record d { faults = n })) count) in
     let P : DeviceState → Type 0 = λ x. RunsOnHost (closing e cut_off x) (g.H.HostNet.contents c.args.host.now) (g.H.HostNet.faults c.args.host.now)
     c.cut_off.new.self (g.H.HostNet.contents c.cut_off.new.host) (g.H.HostNet.faults c.cut_off.new.host) in
-    let closes = subst P state (c.cut_off.ensures.calls e (rw (← c.self.view_is) at is)) in
+    let closes = subst P state (c.cut_off.ensures.calls e (rw (← c.self-in-Failed.view_is) at is)) in
     rw c.in-Failed.is (leads_bind _ (closing e cut_off (with_fault c.args.self.now)) _ _ _ _ _ _ (closes _) (refl, refl))
