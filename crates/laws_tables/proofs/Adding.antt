@@ -8,7 +8,7 @@ use Rattle.vs_page.specs.Fair.{IsFairLog, asked_by, current, instance_from, numb
 use Rattle.vs_page.specs.Log.{Log, Role, and_then, flow_got, flow_put, history_of, side_of, whole_of}
 use Rattle.vs_page.specs.declared.log.LogEntry.TheVariants.{GotPacket, PutPacket}
 use Rattle.vs_page.proofs.{Flows.same_is, Flows.same_self, Present.present_got, Present.present_put}
-use Rattle.laws_driver.specs.Carried.Sent.{only_on}
+use Rattle.laws_tables.specs.Drains.{only_on}
 
 -- The number of the connection that a packet behind these is of.
 abbrev index : Side → Packet → List Packet → ℕ
@@ -160,3 +160,20 @@ pub got_over_put : (role : Role) (p : Packet) (log : Log) (c : Connection) → p
 got_over_put role p log c =
     ap (λ (ps : List Packet). payload_of (instance_from (peer (side_of role c.flow)) c.number ps))
     (gots_still (same_flow c.flow (flow_put role p)) p (whole_of role c.flow log))
+
+-- The number of a flow's present connection stays at all packets but REQUESTs.
+number_put_by : (side : Side) (p : Packet) (w : History) (b : Bool) → is_request p ≡ false
+    → let v : History = cond b (Put p ∷ w) w in asked_by side (puts v) (gots v) ≡ asked_by side (puts w) (gots w)
+number_put_by side p w true plain = asked_still side p (puts w) (gots w) plain
+number_put_by side p w false plain = refl
+
+number_got_by : (side : Side) (p : Packet) (w : History) (b : Bool) → is_request p ≡ false
+    → let v : History = cond b (Got p ∷ w) w in asked_by side (puts v) (gots v) ≡ asked_by side (puts w) (gots w)
+number_got_by side p w true plain = asked_after side p (puts w) (gots w) plain
+number_got_by side p w false plain = refl
+
+pub number_put : (role : Role) (p : Packet) (log : Log) (f : Flow) → is_request p ≡ false → number_of role f (PutPacket p ∷ log) ≡ number_of role f log
+number_put role p log f plain = number_put_by (side_of role f) p (whole_of role f log) (same_flow f (flow_put role p)) plain
+
+pub number_got : (role : Role) (p : Packet) (log : Log) (f : Flow) → is_request p ≡ false → number_of role f (GotPacket p ∷ log) ≡ number_of role f log
+number_got role p log f plain = number_got_by (side_of role f) p (whole_of role f log) (same_flow f (flow_got role p)) plain
