@@ -149,7 +149,7 @@ put_begun role f log test fair is = by (number_of role f log) refl
     by (suc n) some = omega arith
 
 -- Where nothing was heard nothing passed, at an end that asks.
-no_present : (role : Role) (f : Flow) (log : Log) → history_of role f log ≡ [] → whole_of role f log ≡ []
+pub no_present : (role : Role) (f : Flow) (log : Log) → history_of role f log ≡ [] → whole_of role f log ≡ []
 no_present role f log none = present_none (whole_of role f log) (present_is role f log ∙ none)
 
 pub silent_whole : (role : Role) (first : ℕ) (f : Flow) (log : Log) → IsFairOn role f log → side_of role f ≡ Asker → heard_of role first f log ≡ []

@@ -46,15 +46,8 @@ StreamedIf fresh c log port t hands = fresh → IsStreamed c log port t hands
 pub delivered_rw : (e : ConnectionEnd) (p : Packet) → verdict_of e p.header ≡ verdict.Deliver → is_rw p ≡ true
 delivered_rw e p is = grind (arith, nat_tests, common_steps, is)
 
-pub request_empty : (p : Packet) → is_request p ≡ true → is_rw p ≡ false
-request_empty p is = grind (arith, nat_tests, common_steps, is)
-
 pub reset_empty : (kind : Kind) (p : Packet) → (is_reset p.header && is_of kind p.header) ≡ true → is_rw p ≡ false
 reset_empty kind p is = grind (arith, nat_tests, common_steps, is)
-
-pub got_nothing : (p : Packet) (log : Log) → p.payload ≡ [] → (f : Flow) → got_on Device f log ≡ got_on Device f (GotPacket p ∷ log)
-got_nothing p log none f = sym (got_after_got Device p log f
-    ∙ ap (λ (bytes : List ℕ). got_on Device f log ++ only_on (flow_got Device p) bytes f) none ∙ none_on_any (flow_got Device p) f (got_on Device f log))
 
 -- The payload of a page that holds an RW.
 payload_by : (h : Header) (p : Packet) (o : Option (List ℕ)) → option_map (λ payload. record { header = h; payload = payload }) o ≡ Some p
@@ -85,12 +78,18 @@ no_request p is = grind (arith, nat_tests, common_steps, is)
 -- Calls on the host that fail, and the id of a stream that is dialed.
 pub failed_host : (c : HostContents) (log : Log) (port : ℕ) (t : Table DeviceConnection) (hands : List Handshake) → IsStreamed c log port t hands
     → IsStreamed (after_failed c) log port t hands
-failed_host c log port t hands x = same_host c (after_failed c) log port t hands (λ j. sym (ap (option_map seen) (stream_at-after_failed j c)))
-    (labelled_by (fails_now c)) x
+failed_host c log port t hands x = same_host c (after_failed c) log port t hands
+    (λ j. look_kept c (after_failed c) list_is same_labels j (stream_at-after_failed j c)) list_is (counts_kept c (after_failed c) list_is same_labels) x
   where
     labelled_by : (b : Bool) → (cond b (called c) (record (called c) { starved = true })).labelled ≡ c.labelled
     labelled_by true = refl
     labelled_by false = refl
+
+    list_is : (after_failed c).labelled ≡ c.labelled
+    list_is = labelled_by (fails_now c)
+
+    same_labels : (f : Flow) (j : ℕ) → is_labelled f (after_failed c) j ≡ is_labelled f c j
+    same_labels f j = ap (λ (o : Option Stream). option_map_or (λ s. option_map_or (same_flow f) s.label false) o false) (stream_at-after_failed j c)
 
 pub dialed_id : (path : List ℕ) (stream : ℕ) (c : HostContents) → dial_answer path c ≡ dialed.Stream stream → stream ≡ length c.streams + 1
 dialed_id path stream c is = by (fails_now c) (is_listened path c) is
@@ -101,12 +100,33 @@ dialed_id path stream c is = by (fails_now c) (is_listened path c) is
     by false false is = absurd cc
     by false true is = cc
 
--- A packet without payload was put.
+-- A packet without payload was put that is no REQUEST: one that isn't marked, or one of a connection.
+abbrev pub MayFollow : Table DeviceConnection → Packet → Type 0
+MayFollow t p = (is_clean_rst p ≡ false) ⊎ ((e : DeviceEntry) × Contains t.entries e × (flow_put Device p ≡ e.flow))
+
 pub put_empty : (c : HostContents) (log : Log) (port : ℕ) (t : Table DeviceConnection) (hands : List Handshake) (p : Packet) → p.payload ≡ []
-    → IsStreamed c log port t hands → IsStreamed c (PutPacket p ∷ log) port t hands
-put_empty c log port t hands p none x = same_streamed (look c) (look c) c.labelled log (PutPacket p ∷ log) port (λ id. refl)
-    (λ f. sym (put_after_put Device p log f ∙ ap (λ (bytes : List ℕ). put_on Device f log ++ only_on (flow_put Device p) bytes f) none
-    ∙ none_on_any (flow_put Device p) f (put_on Device f log))) (λ f. sym (got_after_put Device p log f)) (passed_after_put Device p log) t hands x
+    → is_request p ≡ false → MayFollow t p → IsStreamed c log port t hands → IsStreamed c (PutPacket p ∷ log) port t hands
+put_empty c log port t hands p none plain may x = same_streamed (look c) (look c) c.labelled (count_in c) log (PutPacket p ∷ log) port (λ id. refl)
+    (put_still_by may) t hands x
+  where
+    -- Each REQUEST of the flow has its stream, where the flow has a connection.
+    all_by : (b : Bool) (n m : ℕ) → cond b (m + 1) m ≡ n → n ≤ m → n ≡ m
+    all_by true n m newest most = absurd (omega (arith, newest, most))
+    all_by false n m newest most = sym newest
+
+    counted_by : (b : Bool) (f : Flow) (new : Bool) → is_assigned f.host ≡ b → cond new (number_of Device f log + 1) (number_of Device f log) ≡ count_in c f
+        → (is_assigned f.host ≡ false → count_in c f ≡ number_of Device f log)
+    counted_by b f new is newest outside =
+        let counted = subst (λ (b : Bool). IsCounted b (count_in c f) (number_of Device f log) (has is_clean_rst (puts (history_of Device f log)))) outside
+        (x.streams.counted f) in
+        all_by new (count_in c f) (number_of Device f log) newest counted.0
+
+    put_still_by : MayFollow t p → StaysStill (count_in c) log (PutPacket p ∷ log)
+    put_still_by (inl unmarked) = put_still p log (count_in c) none plain (λ guest. inl unmarked)
+    put_still_by (inr (e, there, flow)) =
+        let j = join_of (look c) c.labelled (count_in c) log port t hands x e there in
+        put_still p log (count_in c) none plain (λ guest. inr (subst (λ (f : Flow). is_assigned f.host ≡ false → count_in c f ≡ number_of Device f log) (sym flow)
+        (counted_by (is_assigned e.flow.host) e.flow (is_new e.value.end) refl j.newest) guest))
 
 module _ (c : HostContents) (log : Log) (port : ℕ) (t : Table DeviceConnection) (hands : List Handshake) (x : IsStreamed c log port t hands) (sound : IsTable t) where
   -- A connection decides something.
