@@ -78,24 +78,6 @@ none_begun side w fair none = by (present w) refl (fair_once side w fair)
 pub asker_asks : (side : Side) (put got : List Packet) (p : Packet) → MayPut side put got p → is_request p ≡ true → side ≡ Asker
 asker_asks side put got p may asks = let t = may.timely in grind (arith, common_steps, asks, t)
 
--- It comes before all else on a flow that is used once.
-pub asked_first : (role : Role) (p : Packet) (log : Log) → IsFairLog role (GotPacket p ∷ log) → number_of role (flow_got role p) (GotPacket p ∷ log) ≤ 1
-    → is_request p ≡ true → whole_of role (flow_got role p) log ≡ []
-asked_first role p log fair few asks =
-    let f : Flow = flow_got role p in
-    let own = own_got_fair role p log (fair f) in
-    let theirs : peer (side_of role f) ≡ Asker = asker_asks (peer (side_of role f)) [] [] p (own.1.opens asks).1 asks in
-    none_begun (side_of role f) (whole_of role f log) own.0 (none (side_of role f) (whole_of role f log) theirs
-    (subst (λ (b : Bool). (let v : History = cond b (Got p ∷ whole_of role f log) (whole_of role f log) in asked_by (side_of role f) (puts v) (gots v)) ≤ 1) (same_self f) few))
-  where
-    by : (b : Bool) (n : ℕ) → b ≡ true → cond b (n + 1) n ≤ 1 → n ≡ 0
-    by true n is most = omega (arith, most)
-    by false n is most = absurd cc
-
-    none : (side : Side) (w : History) → peer side ≡ Asker → asked_by side (puts w) (p ∷ gots w) ≤ 1 → asked_by side (puts w) (gots w) ≡ 0
-    none Answerer w is most = by (is_request p) (count is_request (gots w)) asks most
-    none Asker w is most = absurd cc
-
 -- The present connection is all where there is one at most.
 pub once_present : (side : Side) (w : History) → IsFairAll side w → asked_by side (puts w) (gots w) ≤ 1 → present w ≡ w
 once_present side [] fair few = refl

@@ -12,8 +12,8 @@ use Rattle.vs_page.specs.Log.{Device, Log, and_then, flow_got, flow_put, history
 use Rattle.vs_page.specs.declared.log.LogEntry.TheVariants.{GotPacket, PutPacket}
 use Rattle.vs_page.proofs.Flows.{same_self}
 use Rattle.laws_tables.specs.Drains.{only_on}
-use Rattle.laws_tables.proofs.{Adding.got_adds, Adding.got_nothing, Adding.number_got, Adding.number_put, Adding.put_nothing}
-use Rattle.laws_tables.proofs.{Adding.got_over_put, Adding.put_over_got, Fair.own_got_fair, Firsts.asker_asks, Firsts.no_present}
+use Rattle.laws_tables.proofs.{Adding.got_adds, Adding.got_nothing, Adding.number_put, Adding.put_nothing}
+use Rattle.laws_tables.proofs.{Adding.got_over_put, Fair.own_got_fair, Firsts.asker_asks, Firsts.no_present}
 use Rattle.laws_tables.proofs.Logs.{none_on_any}
 use Rattle.laws_device.specs.Carried.Streamed.{AreCounted, IsCounted}
 use Rattle.laws_device.proofs.Carried.Streamed.{StaysStill}
@@ -86,8 +86,11 @@ counted_asks p log n asks assigned room f x = by (same_flow f (flow_put Device p
         of : (b : Bool) → b ≡ true → asked_by (side_by Device b) (puts (whole_of Device f log)) (gots (whole_of Device f log)) + 1 ≤ n f
             → AreIn b (n f) (whole_of Device f log) (history_of Device f log)
             → AreIn b (n f) (Put p ∷ whole_of Device f log) (and_then (Put p) (history_of Device f log))
-        of true own more x = (x.0, subst (λ (r : Bool). cond r (count is_request (puts (whole_of Device f log)) + 1) (count is_request (puts (whole_of Device f log))) ≤ n f)
-            (sym asks) more)
+        of true own more x = (
+          x.0,
+          subst (λ (r : Bool). cond r (count is_request (puts (whole_of Device f log)) + 1) (count is_request (puts (whole_of Device f log))) ≤ n f)
+              (sym asks) more,
+        )
         of false own more x = absurd cc
 
     by : (s : Bool) → same_flow f (flow_put Device p) ≡ s
@@ -175,6 +178,20 @@ number_put_elsewhere p log f other =
 
 pub request_empty : (p : Packet) → is_request p ≡ true → is_rw p ≡ false
 request_empty p is = grind (arith, nat_tests, common_steps, is)
+
+-- A REQUEST that is put is one more on its flow, which is the device's own.
+pub request_put : (p : Packet) (log : Log) (f : Flow) → is_request p ≡ true → f ≡ flow_put Device p → is_assigned f.host ≡ true
+    → number_of Device f (PutPacket p ∷ log) ≡ number_of Device f log + 1
+request_put p log f asks flow own = by (is_assigned f.host) (same_flow f (flow_put Device p)) own (ap (same_flow f) (sym flow) ∙ same_self f)
+  where
+    w : History
+    w = whole_of Device f log
+
+    by : (b s : Bool) → b ≡ true → s ≡ true
+        → (let v : History = cond s (Put p ∷ w) w in asked_by (side_by Device b) (puts v) (gots v)) ≡ asked_by (side_by Device b) (puts w) (gots w) + 1
+    by true true own there = ap (λ (c : Bool). cond c (count is_request (puts w) + 1) (count is_request (puts w))) asks
+    by true false own there = absurd cc
+    by false s own there = absurd cc
 
 -- What comes is on the present connection of its flow.
 pub comes_on : (p : Packet) (log : Log) → IsWhole p → IsFairLog Device log → IsFairLog Device (GotPacket p ∷ log) → (c : Connection)

@@ -15,7 +15,7 @@ use Rattle.laws_history.specs.{History.Put, History.gots, declared.packet.Packet
 use Rattle.vs_outside.specs.Host.{HostContents}
 use Rattle.vs_page.specs.{Fair.number_of, Fair.payload_got, Fair.payload_of, Fair.payload_put, Log.Device, Log.Log}
 use Rattle.vs_proxy_parts.specs.State.{Handshake}
-use Rattle.laws_tables.specs.Drains.{Drains, only_on}
+use Rattle.laws_tables.specs.{Drains.Drains, Drains.only_on, Ends.is_new}
 use Rattle.laws_device.specs.Carried.Streamed.{AreCounted, IsJoined, IsStreamed, connection_of, count_in, gives, line_for, look}
 use Rattle.laws_tables.proofs.{Logs.all_of, Logs.there_on, Goes.Goes, Goes.comes_in, Goes.drops, Goes.stays_still}
 use Rattle.laws_device.proofs.Carried.Streamed.{changed_streamed, join_of}
@@ -36,6 +36,16 @@ pays_gives e _ owes is = is
 
 pub hears_gives : (e : ConnectionEnd) (h : Header) (v : Verdict) → verdict_of e h ≡ v → (v ≡ verdict.Accept → ⊥) → gives (end_after e h) ≡ true → gives e ≡ true
 hears_gives e h v is other on = grind (arith, common_steps, is, on)
+
+-- A connection whose REQUEST was put, or got, stays such a one.
+pub stays_old : (e : ConnectionEnd) (h : Header) → is_new e ≡ false → is_new (end_after e h) ≡ false
+stays_old e h old = grind (arith, common_steps, old)
+
+pub shuts_old : (e : ConnectionEnd) (bits : ℕ) → is_new e ≡ false → is_new (with_shut e bits) ≡ false
+shuts_old e bits old = grind (arith, common_steps, old)
+
+pub forwards_old : (e : ConnectionEnd) (n : ℕ) → is_new e ≡ false → is_new (with_payload_forwarded e n) ≡ false
+forwards_old e n old = grind (arith, common_steps, old)
 
 pub delivers_gives : (e : ConnectionEnd) (h : Header) → verdict_of e h ≡ verdict.Deliver → gives e ≡ true
 delivers_gives e h is = grind (arith, common_steps, is)

@@ -1,7 +1,6 @@
 -- What the host's streams took and gave, through the calls of the proxy and of the host's programs.
-use Rattle.std.proofs.Common.{◌≡◌, ◌≢◌, ℕ, zero, suc, ◌-◌, ◌==◌, Bool, true, false, cond, List, [], ◌∷◌, ◌++◌, take, get_or, slice_get, ◌+◌}
-use Rattle.std.proofs.Common.{length, Contains, Option, Some, None, refl, sym, ap, subst, ◌∙◌, arith, ◌⊎◌, inl, inr}
-use Rattle.std.proofs.lemmas.Bool.Decides.{nat_tests}
+use Rattle.std.proofs.Common.{◌≡◌, ◌≢◌, ℕ, Bool, true, false, cond, List, [], ◌∷◌, ◌++◌, take, get_or, ◌+◌}
+use Rattle.std.proofs.Common.{length, Contains, Option, Some, None, refl, sym, ap, subst, ◌∙◌, ◌⊎◌, inl, inr}
 use Rattle.std.proofs.lemmas.List.{append-nil, Elements.All-push, Elements.All-weaker, Quantifiers.all_pairs_push}
 use Rattle.std.specs.{List.All, Option.option_map, Option.option_map_or}
 use Rattle.vs_outside.specs.Host.{HostContents, Stream, accept_answer, after_accept, after_close, after_read, after_write, called}
@@ -9,14 +8,15 @@ use Rattle.vs_outside.specs.{Host.{give_bytes, next_bytes, stream_at, take_bytes
 use Rattle.vs_outside.{specs.HostBytes.after_line, proofs.Frames.accepts_waiting}
 use Rattle.vs_conn.specs.declared.end.State.TheVariants.{Asked}
 use Rattle.vs_device_parts.specs.{Connections.cut_off, State.DeviceConnection, State.DeviceEntry}
-use Rattle.vs_flow.specs.{Connection.Connection, Table.IsTable, Table.Table, Table.with_value, declared.flow.Flow.Flow}
+use Rattle.vs_flow.specs.{Connection.Connection, Table.IsTable, Table.Table, Table.with_value, Table.without, declared.flow.Flow.Flow}
 use Rattle.vs_page.specs.{Fair.number_of, Fair.payload_got, Fair.payload_put, Log.Device, Log.Log}
 use Rattle.vs_proxy_parts.specs.State.{Handshake}
 use Rattle.vs_uds.specs.{Reading.is_decided, declared.connect.TheConstants.CONNECT_MAX}
 use Rattle.laws_tables.specs.{Drains.{Drains, only_on}, Ends.is_new}
-use Rattle.laws_tables.proofs.{Logs.none_on_any, Goes.drops}
-use Rattle.laws_device.specs.Carried.Streamed.{AreCounted, AreLabelled, AreStreamed, HasLabel, IsJoined, IsLabelled, IsStreamed, Seen}
-use Rattle.laws_device.specs.Carried.Streamed.{client_waits, connection_in, connection_of, count_in, gives, has_line, line_for, look, reading, seen, seen_as, taken_of}
+use Rattle.laws_tables.proofs.{Changes.others_left, Logs.none_on_any, Goes.drops}
+use Rattle.laws_device.specs.Carried.Streamed.{AreCounted, AreLabelled, AreStreamed, IsJoined, IsLabelled, IsStreamed, Seen}
+use Rattle.laws_device.specs.Carried.Streamed.{client_waits, connection_of, count_in, gives, has_line, line_for, look, reading, seen, seen_as, taken_of}
+use Rattle.laws_device.proofs.Carried.{Streamed.one_seen, Tabled.stream_stays}
 use Rattle.laws_device.proofs.Carried.Streamed.{is_or_not, join_moves, join_of, moved_streamed, no_entry, one_streamed, recounted, recounted_labels}
 use Rattle.laws_device.proofs.Carried.{Streamed.same_streamed, Streamed.unlabelled_streamed, Lines.after_longer}
 use Rattle.laws_device.proofs.Carried.Hosts.{changed_seen, counts_more, counts_still, new_look, none_there, others_look, others_seen, there, unseen_none}
@@ -213,6 +213,48 @@ module _ (c : HostContents) (log : Log) (port : ℕ) (t : Table DeviceConnection
       (λ f. sym (none_on_any k f (payload_got Device f log))) (same_ends log e (cut_off e.value) new) (λ f other. refl) (λ f y. y)
       (subst (λ (all : List ℕ). Drains false (s.given ++ []) [] all) (append-nil (line_for e.flow ++ payload_got Device k log)) gone)
       (λ on. absurd cc) (taken_more s [] (s.given ++ []) true (x.streams.labels e.value.stream s k cut.there cut.label).whole))
+
+  -- It leaves, and its stream closes.
+  pub closed_left : IsStreamed (after_close e.value.stream c) log port (without t e.slot) hands
+  closed_left = record {
+    joined = others_left t sound e is (IsJoined (look c) (count_in c) log) (IsJoined (look (shut_host id c)) (count_in (shut_host id c)) log) x.joined
+        (λ y other j.
+        let z = join_moves (look c) (look (shut_host id c)) (count_in c) log log y j
+        (sym (others_seen id (λ s. record s { state = state.Closed }) c (λ st. refl) y.value.stream (apart y other j)) ∙ j.there) refl refl in
+        record {
+          stream = z.stream;
+          there = z.there;
+          label = z.label;
+          newest = z.newest ∙ counts_still id (λ s. record s { state = state.Closed }) c (λ st. refl) y.flow;
+          client = z.client;
+          closed = z.closed;
+          drains = z.drains;
+          asked = z.asked;
+        });
+    tabled = λ j u k now label still.
+        let before = open_before id c j u now still in
+        let old = x.tabled j u k before.0 label still in
+        (old.0, stream_stays t sound e is old.0 j old.1 before.1);
+    streams = shut_labels id c log port hands x.streams away;
+  }
+    where
+      id : ℕ
+      id = e.value.stream
+
+      apart : (y : DeviceEntry) → y.flow ≢ e.flow → IsJoined (look c) (count_in c) log y → y.value.stream ≢ id
+      apart y other j same =
+          let one : j.stream ≡ cut.stream = one_seen (look c) id j.stream cut.stream (ap (look c) (sym same) ∙ j.there) cut.there in
+          let both : Some (connection_of y log) ≡ Some (connection_of e log) = sym j.label ∙ ap (λ (s : Seen). s.label) one ∙ cut.label in
+          other (flow_of (connection_of y log) (connection_of e log) both)
+        where
+          flow_of : (a b : Connection) → ◌≡◌ {A = Option Connection} (Some a) (Some b) → a.flow ≡ b.flow
+          flow_of a b is = cc
+
+      away : All (λ h. h.stream ≢ id) hands
+      away i h within same =
+          let line = get_or hands i h in
+          let one : reading line.line ≡ cut.stream = one_seen (look c) id (reading line.line) cut.stream (ap (look c) (sym same) ∙ x.streams.lines.read i h within) cut.there in
+          let both : None ≡ Some (connection_of e log) = ap (λ (s : Seen). s.label) one ∙ cut.label in absurd cc
 
 -- A client connects.
 -- One stream more without a label: which it is, and that the others stay.

@@ -1,10 +1,10 @@
 -- What each call of the proxy and each program changes of a host's streams, as they are seen.
-use Rattle.std.proofs.Common.{◌≡◌, ◌≢◌, ℕ, zero, suc, ◌+◌, ◌-◌, ◌<◌, ◌==◌, not, nat_lt, Bool, true, false, cond, List, [], ◌∷◌, ◌++◌, length}
-use Rattle.std.proofs.Common.{slice_get, slice_set, Contains, Option, Some, None, is_some, refl, sym, ap, subst, ◌∙◌, arith, length-append, option_and_then, ◌≤◌}
+use Rattle.std.proofs.Common.{◌≡◌, ◌≢◌, ℕ, zero, suc, ◌+◌, ◌-◌, ◌==◌, not, nat_lt, Bool, true, false, cond, List, [], ◌∷◌, ◌++◌, length}
+use Rattle.std.proofs.Common.{slice_get, slice_set, Contains, Option, Some, None, refl, sym, ap, subst, ◌∙◌, arith, length-append, option_and_then, ◌≤◌}
 use Rattle.std.specs.{List.filter, List.prefix_len, Option.option_map, Option.option_map_or}
-use Rattle.std.proofs.lemmas.{Bool.Decides.nat_tests, List.append-nil, List.Elements.Contains-push, List.Elements.filter-append}
+use Rattle.std.proofs.lemmas.{Bool.Decides.nat_tests, List.append-nil, List.Elements.filter-append}
 use Rattle.std.proofs.lemmas.List.Elements.{filter_agree}
-use Rattle.vs_flow.{specs.Connection.Connection, specs.Flow.same_flow, specs.declared.flow.Flow.Flow, proofs.Entries.same_flow_true}
+use Rattle.vs_flow.{specs.Connection.Connection, specs.Flow.same_flow, specs.declared.flow.Flow.Flow}
 use Rattle.vs_outside.specs.{Host.{HostContents, Stream, stream_at, with_stream}, HostBytes.is_labelled, HostBytes.labelled_with}
 use Rattle.vs_outside.specs.HostBytes.{stream_of}
 use Rattle.vs_outside.proofs.Frames.{keeps_others, stream_at-with_stream}

@@ -9,7 +9,6 @@ use Rattle.vs_flow.specs.Table.{IsTable, Table, next_entry, with_entry, with_val
 use Rattle.vs_flow.{specs.Connection.Connection, specs.Flow.same_flow, specs.declared.flow.Flow.Flow}
 use Rattle.vs_flow.proofs.Entries.{same_flow_false, same_flow_true}
 use Rattle.vs_page.specs.{Fair.IsPrefixOf, Fair.number_of, Fair.payload_got, Fair.payload_put, Log.Device, Log.Log}
-use Rattle.vs_page.proofs.Flows.{same_self}
 use Rattle.vs_proxy_parts.specs.State.{Handshake}
 use Rattle.laws_tables.specs.{Drains.{Drains, is_same, only_on}, Ends.is_new}
 use Rattle.laws_tables.proofs.{Changes.{changed, others_left}, Logs.{longer, none_on_any, not_on, same_connection, shorter, there_on}}
@@ -366,10 +365,10 @@ passed_streamed at labelled count log new port t lines x on came put got number 
           closed = j.closed;
           drains = subst (λ (c : Connection). Drains (gives e.value.end) j.stream.given (e.value.ok_line ++ e.value.pending)
               (line_for e.flow ++ payload_got Device c new)) same (record {
-            front = comes (j.stream.given ++ (e.value.ok_line ++ e.value.pending)) c j.drains.front;
-            whole = λ is. j.drains.whole is ∙ sym (same_after c ∙ ap (λ (bytes : List ℕ). (line_for e.flow ++ payload_got Device c log) ++ bytes)
-                (none_more (is_same c on) refl is) ∙ append-nil (line_for e.flow ++ payload_got Device c log));
-          });
+                front = comes (j.stream.given ++ (e.value.ok_line ++ e.value.pending)) c j.drains.front;
+                whole = λ is. j.drains.whole is ∙ sym (same_after c ∙ ap (λ (bytes : List ℕ). (line_for e.flow ++ payload_got Device c log) ++ bytes)
+                    (none_more (is_same c on) refl is) ∙ append-nil (line_for e.flow ++ payload_got Device c log));
+              });
           asked = j.asked;
         }
       where
