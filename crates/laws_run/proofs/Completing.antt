@@ -247,7 +247,7 @@ module _ (script : RunScript) (driver : DriverState) (end : Sight) (apps : List 
       let y = at.entry in
       let dry = idle.0 y.slot y.value.stream (under_at reads_of p.device.table y.slot (Some y) (found_there y at.within) ∙ reads_there x within unread more at) in
       subst (λ (f : Flow). AreDry f h) (sym at.flow)
-      (one_is h e.sight.log p.next_port p.device.table p.handshakes (streamed driver end p e settled one h faults streams) IsDry y at.within (dry h refl))
+      (one_is h e.sight.log p.next_port p.device.table p.handshakes (streamed driver end p e settled one h faults streams) device_fits IsDry y at.within (dry h refl))
 
   -- One that has bytes pending has something to write, so that its stream is full.
   some_left : (line pending : List ℕ) → 1 ≤ length pending → (length (take 4096 (line ++ pending)) == 0) ≡ false
@@ -260,7 +260,7 @@ module _ (script : RunScript) (driver : DriverState) (end : Sight) (apps : List 
       let writes : writes_of y ≡ Some y.value.stream =
       ap (λ (b : Bool). cond (not b && not (length (take 4096 (y.value.ok_line ++ y.value.pending)) == 0)) (Some y.value.stream) None) (still_open y within)
       ∙ ap (λ (b : Bool). cond (not b) (Some y.value.stream) None) (some_left y.value.ok_line y.value.pending some) in
-      one_is h e.sight.log p.next_port p.device.table p.handshakes (streamed driver end p e settled one h faults streams) IsFull y within
+      one_is h e.sight.log p.next_port p.device.table p.handshakes (streamed driver end p e settled one h faults streams) device_fits IsFull y within
       (idle.1 y.slot y.value.stream (under_at writes_of p.device.table y.slot (Some y) (found_there y within) ∙ writes) h refl)
 
   -- One that is known by an id, on which nothing is unread.
@@ -390,7 +390,7 @@ module _ (script : RunScript) (driver : DriverState) (end : Sight) (apps : List 
         let y = there.entry in
         let is = gives y (sym there.paired.here.peer) (All-contains (λ (z : DeviceEntry). IsShutBy z.value h) p.device.table.entries y (steady.shut h refl) there.within) in
         subst (λ (f : Flow). All (λ s. is_open_on f s ≡ true → P s) h.streams) (sym there.flow ∙ sym (flow_of_id id x within named))
-        (one_is h e.sight.log p.next_port p.device.table p.handshakes (streamed driver end p e settled one h faults streams) P y there.within
+        (one_is h e.sight.log p.next_port p.device.table p.handshakes (streamed driver end p e settled one h faults streams) device_fits P y there.within
         (λ s at. subst P (same_Some is.0 s (sym is.1 ∙ at)) is.2))
 
     takes_on : (id : ℕ) → 1 ≤ (opened id).number → TakesOn (opened id).flow h → AtId IsStopped id driver.next_id driver.table.entries → ⊥

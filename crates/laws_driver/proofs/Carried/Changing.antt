@@ -1,4 +1,5 @@
 -- Calls that read nothing keep the account: those that make no use of the ring, and a send.
+use Rattle.laws_tables.proofs.Adding.{number_put}
 use Rattle.laws_tables.proofs.Adding.{got_over_put}
 use Rattle.std.proofs.Common.{◌≡◌, ℕ, ◌==◌, not, Bool, true, false, cond, List, [], ◌∷◌, take, length, Option, Some, None, refl, Contains}
 use Rattle.std.proofs.{Common.Result, Common.Ok, Common.Err, Common.◌∙◌, lemmas.List.Elements.All-filter}
