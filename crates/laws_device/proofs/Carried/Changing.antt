@@ -2,7 +2,7 @@
 use Rattle.vs_flow.specs.{Table.{IsTable, Table, entry_of, with_value, without}, Flow.{is_assigned, same_flow}, declared.flow.Flow.Flow}
 use Rattle.vs_flow.specs.Connection.{Connection}
 use Rattle.vs_flow.proofs.Entries.{same_flow_true}
-use Rattle.std.proofs.Common.{◌≡◌, ℕ, ◌+◌, ◌-◌, ◌≤◌, ◌==◌, ◌&&◌, nat_le, Bool, true, false, cond, List, [], ◌∷◌, ◌++◌, length, take, drop}
+use Rattle.std.proofs.Common.{◌≡◌, ◌≢◌, ℕ, ◌+◌, ◌-◌, ◌≤◌, ◌==◌, ◌&&◌, nat_le, Bool, true, false, cond, List, [], ◌∷◌, ◌++◌, length, take, drop}
 use Rattle.std.proofs.Common.{Contains, Option, Some, None, refl, sym, ap, subst, ◌∙◌, arith, slice_get, get_or, ◌⊎◌, inl, inr}
 use Rattle.std.{proofs.lemmas.Bool.Decides.nat_tests, proofs.lemmas.Grind.common_steps, proofs.lemmas.List.append-nil}
 use Rattle.std.{proofs.Math.Seq.drop-nil, proofs.Math.Seq.take-nil, specs.List.All, specs.List.filter, specs.Option.option_map, specs.Option.option_map_or}
@@ -18,6 +18,7 @@ use Rattle.laws_device.proofs.Carried.{Streamed.{StaysStill, passed_streamed, sa
 use Rattle.laws_device.proofs.Carried.Hosts.{counts_kept, counts_still, look_kept, unseen}
 use Rattle.laws_device.proofs.Carried.Counted.{comes_on, counted_asks, counted_got, counted_put, number_elsewhere, number_put_elsewhere, put_still}
 use Rattle.laws_device.proofs.Carried.{Counted.request_put, Gives.forwards_old, Gives.shuts_old, Gives.stays_old}
+use Rattle.laws_device.specs.Carried.Streamed.{client_waits}
 use Rattle.laws_device.specs.Carried.Streamed.{AreCounted, IsCounted, IsJoined, IsStreamed, connection_of, count_in, gives, line_for, look, seen, Seen}
 use Rattle.laws_history.specs.{Packets.{has, is_clean_rst, is_request, is_response, is_rw}, History.{Answerer, Asker, Got, History, IsFair, Side, gots}}
 use Rattle.laws_history.specs.{History.{puts, MayPut, peer}, declared.packet.Packet.Packet, Again.AllowsNow}
@@ -392,20 +393,23 @@ goes_on line is = by (is_decided 32 line) (connect_port line) is
     by true None is = absurd cc
     by true (Some port) is = absurd cc
 
--- A host without streams, and a table without connections.
-pub no_streams : (c : HostContents) (port : ℕ) (t : Table DeviceConnection) → t.entries ≡ [] → c.streams ≡ [] → c.labelled ≡ [] → IsStreamed c [] port t []
-no_streams c port t empty fresh unlabelled = record {
+-- A host none of whose streams has a label, and a table without connections.
+pub no_labels : (c : HostContents) (port : ℕ) (t : Table DeviceConnection) → t.entries ≡ [] → c.labelled ≡ []
+    → ((id : ℕ) (s : Seen) (k : Connection) → look c id ≡ Some s → s.label ≢ Some k)
+    → ((id : ℕ) (s : Seen) → look c id ≡ Some s → s.waiting ≡ true → s ≡ client_waits) → IsStreamed c [] port t []
+no_labels c port t empty unlabelled none waits = record {
   joined = subst (λ (es : List DeviceEntry). All (IsJoined (look c) (count_in c) []) es) (sym empty) (λ i e within. absurd (omega (arith, within)));
-  tabled = λ id s f there label. absurd (none id s there);
+  tabled = λ id s k there label. absurd (none id s k there label);
   streams = record {
-    labels = λ id s f there label. absurd (none id s there);
-    unique = λ i j s u f a b p q. absurd (none i s a);
-    every = λ d some most. let none_counted = ap (λ (ids : List ℕ). length (filter (is_labelled d.flow c) ids)) unlabelled in
+    labels = λ id s k there label. absurd (none id s k there label);
+    unique = λ i j s u k a b p q. absurd (none i s k a p);
+    every = λ k some most.
+        let none_counted = ap (λ (ids : List ℕ). length (filter (is_labelled k.flow c) ids)) unlabelled in
         absurd (omega (arith, some, most, none_counted));
     listed = λ id within. absurd (nowhere (subst (λ (ids : List ℕ). Contains ids id) unlabelled within));
     counted = λ f. subst (λ (ids : List ℕ). AreCounted (λ g. length (filter (is_labelled f c) ids)) [] f) (sym unlabelled) (empty_counted f);
-    none = λ d without. nothing_put (side_of Device d.flow) d.number;
-    waiting = λ id s there waits. absurd (none id s there);
+    none = λ k without. nothing_put (side_of Device k.flow) k.number;
+    waiting = waits;
     lines = record {
       read = λ i h within. absurd (omega (arith, within));
       undecided = λ i h within. absurd (omega (arith, within));
@@ -414,10 +418,6 @@ no_streams c port t empty fresh unlabelled = record {
   };
 }
   where
-    by : (b : Bool) (id : ℕ) (s : Seen) → option_map (seen c id) (cond b None (slice_get {X = Stream} [] (id - 1))) ≡ Some s → ⊥
-    by true id s there = cc
-    by false id s there = cc
-
     nowhere : {id : ℕ} → Contains [] id → ⊥
     nowhere (k, less, is) = absurd (omega (arith, less))
 
@@ -431,6 +431,15 @@ no_streams c port t empty fresh unlabelled = record {
         none_in : (b : Bool) → IsCounted b 0 (asked_by (side_by Device b) [] []) false
         none_in true = (omega arith, omega arith)
         none_in false = (omega arith, λ marked. absurd cc)
+
+-- A host without streams.
+pub no_streams : (c : HostContents) (port : ℕ) (t : Table DeviceConnection) → t.entries ≡ [] → c.streams ≡ [] → c.labelled ≡ [] → IsStreamed c [] port t []
+no_streams c port t empty fresh unlabelled =
+    no_labels c port t empty unlabelled (λ id s k there on. none id s there) (λ id s there waits. absurd (none id s there))
+  where
+    by : (b : Bool) (id : ℕ) (s : Seen) → option_map (seen c id) (cond b None (slice_get {X = Stream} [] (id - 1))) ≡ Some s → ⊥
+    by true id s there = cc
+    by false id s there = cc
 
     none : (id : ℕ) (s : Seen) → look c id ≡ Some s → ⊥
     none id s there = by (id == 0) id s (ap (λ (xs : List Stream). option_map (seen c id) (cond (id == 0) None (slice_get xs (id - 1)))) (sym fresh) ∙ there)
