@@ -1,11 +1,17 @@
 -- What was sent on a connection is what was sent on its id, since no two ids have one connection.
+use Rattle.laws_tables.specs.Drains.{is_same}
+use Rattle.laws_tables.specs.Drains.{only_on}
 use Rattle.std.proofs.Common.{◌≡◌, inl, inr, ℕ, ◌≤◌, ◌==◌, ◌&&◌, Bool, true, false, cond, List, [], ◌∷◌, ◌++◌, Option, Some, None, refl}
 use Rattle.std.proofs.{Common.sym, Common.ap, Common.◌∙◌, lemmas.Bool.eqb-true, lemmas.Bool.eq-eqb}
 use Rattle.vs_flow.specs.{Connection.Connection, Flow.same_flow}
 use Rattle.vs_page.specs.Log.{Log}
 use Rattle.vs_page.proofs.Flows.{same_is, same_self}
 use Rattle.vs_driver_parts.specs.Held.{HeldSlots}
-use Rattle.laws_driver.specs.Carried.{Calls.{Journal, bytes_sent, names}, Received.{Account, AreReceived}, Sent.{is_same, only_on}}
+use Rattle.laws_driver.specs.Carried.Calls.{Journal}
+use Rattle.laws_driver.specs.Carried.Calls.{bytes_sent}
+use Rattle.laws_driver.specs.Carried.Calls.{names}
+use Rattle.laws_driver.specs.Carried.Received.{Account}
+use Rattle.laws_driver.specs.Carried.Received.{AreReceived}
 use Rattle.vs_apps_parts.specs.Journals.{sent_as}
 use Rattle.laws_driver.specs.Carried.Senders.{AreSenders, IsSender, sent_there, sent_to}
 use Rattle.laws_driver.proofs.Carried.Senders.{only_none}

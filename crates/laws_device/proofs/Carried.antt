@@ -2,6 +2,7 @@
 pub mod Lines
 pub mod Tabled
 pub mod Streamed
+pub mod Counted
 pub mod Hosts
 pub mod HostCalls
 pub mod Hands

@@ -1,11 +1,10 @@
 -- What a walk over the device's conversations carries besides: what the host's streams took and gave.
-use Rattle.std.proofs.Common.{◌≡◌, ℕ, ◌+◌, ◌≤◌, Bool, true, false, cond, List, [], ◌∷◌, Option, None, IfSome, ◌⊎◌, inl, inr, sym, subst}
-use Rattle.std.{proofs.Common.arith, proofs.Common.is_some, proofs.Common.ap, proofs.Common.◌∙◌, specs.Option.ForSome}
-use Rattle.laws_history.specs.History.{Answerer, Asker, Got, History, Put, Side, gots, puts}
-use Rattle.laws_history.specs.{Again.count, Packets.is_request, declared.packet.Packet.Packet}
-use Rattle.vs_flow.specs.{Flow.same_flow, Table.Table}
-use Rattle.vs_page.specs.{declared.log.LogEntry.TheVariants.{GotPacket, PutPacket}, Log.{Device, Log, flow_got, flow_put, side_of}}
-use Rattle.vs_page.specs.{Log.whole_of, declared.log.LogEntry.LogEntry, Fair.asked_by, Open.is_dropped}
+use Rattle.std.proofs.Common.{◌≡◌, ℕ, Bool, true, false, List, [], ◌∷◌, Option, None, IfSome, ◌⊎◌, inl, inr, sym, subst}
+use Rattle.std.{proofs.Common.is_some, proofs.Common.ap, proofs.Common.◌∙◌, specs.Option.ForSome}
+use Rattle.laws_history.specs.declared.packet.Packet.{Packet}
+use Rattle.vs_flow.specs.Table.{Table}
+use Rattle.vs_page.specs.{declared.log.LogEntry.TheVariants.{GotPacket, PutPacket}, Log.{Device, Log, flow_got}}
+use Rattle.vs_page.specs.{declared.log.LogEntry.LogEntry, Open.is_dropped}
 use Rattle.vs_contents.specs.Contents.{Exposes}
 use Rattle.vs_outside.specs.Host.{HostContents, after_close}
 use Rattle.vs_proxy_parts.specs.State.{Handshake}
@@ -17,7 +16,7 @@ use Rattle.laws_device.specs.Carried.Streamed.{IsStreamed}
 use Rattle.laws_tables.proofs.Fair.{got_one}
 use Rattle.laws_device.proofs.Ringing.{Telling, Tells, host_moves, tells_weaker}
 use Rattle.laws_device.proofs.{Chains.Among, Chains.alone, Chains.alone_so, Seats.AgreesBy, Seats.Carried, Keeping.Keeps, Keeping.keeps_end}
-use Rattle.laws_device.specs.{Honest.IsFitState, Honest.IsWith, Streams.AreStreamedWith, Streams.IsPlain}
+use Rattle.laws_device.specs.{Honest.IsFitState, Honest.IsWith, Streams.AreHeard, Streams.AreStreamedWith}
 
 abbrev pub Fact : Type 1
 Fact = Option HostContents → Log → Type 0
@@ -36,41 +35,9 @@ IsHeldBy carry fact first port s c = IfSome s.chain IsRxChain × Tells (IsToldBy
 abbrev pub With : Carried → List Handshake → ℕ → ℕ → DeviceState → Situation → Type 0
 With carry lines first port s c = IsHeldBy carry (StreamedOver carry lines first port s.table) first port s c
 
--- A flow was used no more often before.
-put_rises : (side : Side) (p : Packet) (w : History) (b : Bool)
-    → let v : History = cond b (Put p ∷ w) w in asked_by side (puts w) (gots w) ≤ asked_by side (puts v) (gots v)
-put_rises side p w false = omega arith
-put_rises Answerer p w true = omega arith
-put_rises Asker p w true = by (is_request p)
-  where
-    by : (b : Bool) → count is_request (puts w) ≤ cond b (count is_request (puts w) + 1) (count is_request (puts w))
-    by true = omega arith
-    by false = omega arith
-
-got_rises : (side : Side) (p : Packet) (w : History) (b : Bool)
-    → let v : History = cond b (Got p ∷ w) w in asked_by side (puts w) (gots w) ≤ asked_by side (puts v) (gots v)
-got_rises side p w false = omega arith
-got_rises Asker p w true = omega arith
-got_rises Answerer p w true = by (is_request p)
-  where
-    by : (b : Bool) → count is_request (gots w) ≤ cond b (count is_request (gots w) + 1) (count is_request (gots w))
-    by true = omega arith
-    by false = omega arith
-
-pub plain_before : (first : ℕ) (entry : LogEntry) (log : Log) → IsPlain first (entry ∷ log) → IsPlain first log
-plain_before first (PutPacket p) log plain = record {
-  once = λ f.
-      let rises = put_rises (side_of Device f) p (whole_of Device f log) (same_flow f (flow_put Device p)) in
-      let most = plain.once f in omega (arith, rises, most);
-  heard = plain.heard;
-}
-plain_before first (GotPacket p) log plain = record {
-  once = λ f.
-      let rises = got_rises (side_of Device f) p (whole_of Device f log) (same_flow f (flow_got Device p)) in
-      let most = plain.once f in omega (arith, rises, most);
-  heard = plain.heard.1;
-}
-plain_before first _ log plain = record { once = plain.once; heard = plain.heard }
+pub heard_before : (first : ℕ) (entry : LogEntry) (log : Log) → AreHeard first (entry ∷ log) → AreHeard first log
+heard_before first (GotPacket p) log heard = heard.1
+heard_before first _ log heard = heard
 
 -- A step on streams, without a call on the host and with one.
 module _ (carry : Carried) (first : ℕ) (hands lines : List Handshake) (port next : ℕ) (t u : Table DeviceConnection) (log new : Log) (once : carry.plain first new → carry.plain first log) where
@@ -99,12 +66,11 @@ whole ok = record {
   of_host = λ f host. tt;
   holds = λ w. Unit {0};
   step = λ step w may asked fits was. tt;
-  plain = IsPlain;
-  before = plain_before;
-  once = λ first w was few. few.once;
+  plain = AreHeard;
+  before = heard_before;
   idle = λ first p w was m fair few dropped e has given.
       let own = got_one Device first p e w.part w.log m.flows has (fair (flow_got Device p)) in
-      few.heard.0 (ap (λ (cid : ℕ). is_dropped Device cid p.header) (sym m.flows.cid) ∙ dropped) (ap is_some own.kind_is);
+      few.0 (ap (λ (cid : ℕ). is_dropped Device cid p.header) (sym m.flows.cid) ∙ dropped) (ap is_some own.kind_is);
 }
 
 module _ (ok : Type 0) (lines : List Handshake) (first port : ℕ) (s : DeviceState) (c : Situation) where

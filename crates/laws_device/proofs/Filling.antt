@@ -1,6 +1,6 @@
 -- What filling the receive queue keeps, part by part.
 use Rattle.std.proofs.Common.{◌≡◌, ℕ, ◌+◌, ◌≤◌, ◌==◌, ◌&&◌, ◌||◌, not, Bool, true, false, cond, if◌then◌else◌, List, [], ◌∷◌, length}
-use Rattle.std.proofs.Common.{Contains, Option, Some, None, Result, Ok, Err, refl, sym, subst, ◌∙◌, arith, IfSome, IsOkAnd}
+use Rattle.std.proofs.Common.{Contains, Option, Some, None, Result, Ok, Err, refl, sym, subst, ◌∙◌, arith, IfSome, IsOkAnd, inl, inr}
 use Rattle.std.proofs.lemmas.Grind.{common_steps}
 use Rattle.vs_contents.specs.CallTree.{Ask, Done, bind, for_each, while_up_to}
 use Rattle.vs_conn.specs.End.{CanSend, ConnectionEnd, owes_of, paid_of, state_may_send, wanting_credit, with_payload_sent}
@@ -12,24 +12,26 @@ use Rattle.vs_header.specs.declared.Header.{Header}
 use Rattle.vs_outside.specs.{declared.host_net.StreamRead.StreamRead, Host.HostContents, Host.after_close, Host.after_read, Host.called}
 use Rattle.vs_replies.specs.declared.Reply.{Reply}
 use Rattle.vs_ring_port.specs.declared.{device_ring.Chain.Chain, failure.Failure.Failure}
-use Rattle.laws_tables.{specs.Ends.is_new, specs.Steps.payload_on, proofs.Slots.found_by}
+use Rattle.laws_tables.{specs.Ends.is_new, specs.Steps.payload_on, proofs.Keeps.owed_old, proofs.Slots.found_by}
+use Rattle.laws_history.specs.Packets.{is_request}
 use Rattle.vs_device_parts.specs.Connections.{after_leaving, after_shut, cut_off, route_to_guest, stream_closed, with_connection}
 use Rattle.vs_device_parts.specs.Receiving.{Filling, after_paying, fill_rx_of, filled_of, hold, may_read, put_on, put_owed, put_packet}
 use Rattle.vs_device_parts.specs.Receiving.{put_payload, put_reply, put_reply_of, read_answered, read_room, read_stream, read_with_chain}
 use Rattle.vs_device_parts.specs.Receiving.{reply_header, round_from, serve_slot}
 use Rattle.vs_device_parts.specs.{Calls.DeviceTree, Calls.IsReadOf, Calls.ReadStream, Calls.Situation, Connections.with_fault}
 use Rattle.vs_device_parts.specs.{Streams.closing, Playing.IsRxChain, State.DeviceConnection, State.DeviceEntry, State.DeviceState}
-use Rattle.laws_device.proofs.Carrying.{Fact, IsHeldBy, IsToldBy, StreamedOver, With, closed_held, fact_called, put_goes, streams_call}
+use Rattle.laws_device.proofs.Carrying.{Fact, IsHeldBy, StreamedOver, With, closed_held, fact_called, put_goes, streams_call}
 use Rattle.laws_device.proofs.{Carrying.streams_go, Changing.{cuts, shuts, wants, same}, Keeping.{Goes, Keeps, asking, Lets, keeps_bind}}
 use Rattle.laws_device.proofs.{Keeping.{keeps_each, keeps_then, keeps_while}, Putting.{Puts, owed_puts, reply_puts, rst_puts, send_puts}}
 use Rattle.laws_device.proofs.Steps.{Filled, Open, changed, closing_keeps, cut_with, goes_on, hold_keeps, open_filled, called_with}
-use Rattle.laws_device.proofs.{Seats.Carried, Writing.{writes_first, written_keeps}, Ringing.host_moves}
+use Rattle.laws_device.proofs.{Seats.Carried, Writing.{writes_first, written_keeps}}
 use Rattle.laws_device.specs.Honest.{IsFitState}
 use Rattle.laws_device.proofs.Walk.Keeping.{keeps_if, keeps_some}
-use Rattle.laws_device.proofs.Carried.Changing.{called_host, closes_streams, ends_streams, leaves_streams, put_empty, reads_streams}
+use Rattle.laws_device.proofs.Carried.Changing.{MayFollow, asks_streams, called_host, closes_streams, ends_streams, leaves_streams, put_empty}
+use Rattle.laws_device.proofs.{Carried.Changing.reads_streams, Carried.Tabled.value_contained, Tabling.entry_fits}
 use Rattle.laws_device.{proofs.Carried.Changing.shuts_streams, proofs.Carried.Gives.pays_gives, specs.Carried.Streamed.IsStreamed}
 use Rattle.vs_proxy_parts.specs.State.{Handshake}
-use Rattle.vs_page.specs.{Log.Log, Log.Device, declared.log.LogEntry.TheVariants.PutPacket}
+use Rattle.vs_page.specs.{Fair.IsFairLog, Log.Log, Log.Device, Log.flow_to_guest, declared.log.LogEntry.TheVariants.PutPacket}
 use Rattle.vs_conn.specs.declared.end.Owed.TheVariants as owed
 use Rattle.vs_conn.specs.declared.end.State.TheVariants as state
 use Rattle.vs_outside.specs.declared.host_net.StreamRead.TheVariants as read
@@ -51,6 +53,23 @@ may_send_on e _ n may fits = absurd cc
 
 pub can_send : (e : ConnectionEnd) (n : ℕ) → may_read e e.state ≡ true → n ≤ free_of e.credit → CanSend e n
 can_send e n may fits = may_send_on e e.state n may fits
+
+-- An end that owes its REQUEST hasn't put it; one that owes anything else that leaves it in the table has put or got one.
+request_new : (e : ConnectionEnd) → owes_of e ≡ Some owed.Request → is_new e ≡ true
+request_new e owes = grind (arith, common_steps, owes)
+
+new_owes : (e : ConnectionEnd) → is_new e ≡ true → owes_of e ≡ Some owed.Request
+new_owes e new = grind (arith, common_steps, new)
+
+owes_begun : (e : ConnectionEnd) (what : Owed) → owes_of e ≡ Some what → (what ≡ owed.Request → ⊥) → is_new e ≡ false
+owes_begun e what owes other = by (is_new e) refl
+  where
+    same : (a b : Owed) → ◌≡◌ {A = Option Owed} (Some a) (Some b) → a ≡ b
+    same a b is = cc
+
+    by : (b : Bool) → is_new e ≡ b → b ≡ false
+    by false is = refl
+    by true new = absurd (other (same what owed.Request (sym owes ∙ new_owes e new)))
 
 pub under_there : (s : DeviceState) (slot : ℕ) (e : DeviceEntry) → entry_under s.table slot ≡ Some e → Contains s.table.entries e
 under_there s slot e under = (found_by (λ (x : DeviceEntry). x.slot == slot) s.table.entries e under).0
@@ -100,12 +119,13 @@ module _ (carry : Carried) (lines : List Handshake) (first port : ℕ) where
       (λ chain some. let both : None ≡ Some chain = sym none ∙ some in absurd cc)) c ready
 
   -- The same, where the streams are as the table says then, and no call on the host follows.
-  empty_put : (h : Header) (s t : DeviceState) → (IsFitState s → (c : HostContents) (log : Log) → IsStreamed c log port s.table lines
-      → IsStreamed c log port t.table lines)
+  empty_put : (h : Header) (s t : DeviceState) → is_request (record { header = h; payload = [] }) ≡ false
+      → (IsFitState s → MayFollow t.table (record { header = h; payload = [] }))
+      → (IsFitState s → (c : HostContents) (log : Log) → IsStreamed c log port s.table lines → IsStreamed c log port t.table lines)
       → IsFitState s → (o : Option HostContents) (log : Log) → Streamed s.table o log
       → Streamed t.table o (PutPacket (record { header = h; payload = [] }) ∷ log)
-  empty_put h s t carries fits o log x = put_goes carry first lines port s.table t.table log (record { header = h; payload = [] })
-      (λ c y. put_empty c log port t.table lines (record { header = h; payload = [] }) refl (carries fits c log y)) o x
+  empty_put h s t plain may carries fits o log x = put_goes carry first lines port s.table t.table log (record { header = h; payload = [] })
+      (λ c y. put_empty c log port t.table lines (record { header = h; payload = [] }) refl plain (may fits) (carries fits c log y)) o x
 
   one_put : (q : Filling) (c : Situation) → Over q c → Goes Ready Over (q, not q.over) c
   one_put q c filled = goes_on carry lines first port q c filled
@@ -120,7 +140,7 @@ module _ (carry : Carried) (lines : List Handshake) (first port : ℕ) where
       let again : Filling → DeviceTree (Filling × Bool) = λ q. Done (q, not q.over) in
       keeps_then Over (Goes Ready Over) (put_packet h f r) again c
       (put_packet_keeps h f r (record r.state { chain = None; replies = rest }) (Streamed r.state.table)
-      (λ fits. reply_puts carry port r.state fits reply rest is) (empty_put h r.state r.state (λ fits c log x. x)) refl ready.1
+      (λ fits. reply_puts carry port r.state fits reply rest is) (empty_put h r.state r.state refl (λ fits. inl refl) (λ fits c log x. x)) refl ready.1
       (λ R d held holds. holds d held) c ready)
       one_put
 
@@ -134,15 +154,20 @@ module _ (carry : Carried) (lines : List Handshake) (first port : ℕ) where
     spent = record r.state { chain = None }
 
     -- The connection, which stays.
-    stays_by : (what : Owed) (v : DeviceConnection) → owes_of e.value.end ≡ Some what
+    stays_by : (what : Owed) (v : DeviceConnection) → owes_of e.value.end ≡ Some what → is_new e.value.end ≡ false
         → v ≡ record e.value { end = paid_of e.value.end what; asked_at = v.asked_at }
         → (IsFitState r.state → (c : HostContents) (log : Log) → IsStreamed c log port r.state.table lines
         → IsStreamed c log port (with_value r.state.table e.slot v) lines)
-    stays_by what v owes is fits h log x = subst (λ (w : DeviceConnection). IsStreamed h log port (with_value r.state.table e.slot w) lines)
+    stays_by what v owes begun is fits h log x = subst (λ (w : DeviceConnection). IsStreamed h log port (with_value r.state.table e.slot w) lines)
         (sym is)
         (ends_streams h log port r.state.table lines x fits.sound e there (record
         e.value { end = paid_of e.value.end what; asked_at = v.asked_at })
-        refl refl refl refl refl (pays_gives e.value.end what owes) (paid_asked e.value.end what))
+        refl refl refl (owed_old e.value.end what owes ∙ sym begun) refl refl (pays_gives e.value.end what owes) (paid_asked e.value.end what))
+
+    -- The packet that it owes is of its flow.
+    of_it : (v : DeviceConnection) (h : Header) → flow_to_guest h ≡ e.flow → IsFitState r.state
+        → MayFollow (with_value r.state.table e.slot v) (record { header = h; payload = [] })
+    of_it v h flow fits = inr (record e { value = v }, value_contained r.state.table fits.sound e there v, flow)
 
     owed_by : (what : Owed) → owes_of e.value.end ≡ Some what → (c : Situation) → Ready r c
         → Keeps Over (put_packet (owed_header e.value.end (route_to_guest r.state.cid e.flow) what) (after_paying what e) r) c
@@ -151,14 +176,24 @@ module _ (carry : Carried) (lines : List Handshake) (first port : ℕ) where
         let t : DeviceState = record (with_connection e.slot v spent) { last_put = Some e.slot } in
         put_packet_keeps _ (after_paying owed.Request e) r t (Streamed t.table)
         (λ fits. owed_puts carry port r.state fits e there owed.Request owes v refl refl refl)
-        (empty_put _ r.state t (stays_by owed.Request v owes refl)) refl ready.1 (λ R d held holds. holds d held) c ready
+        (λ fits o log y. put_goes carry first lines port r.state.table t.table log
+        (record { header = owed_header e.value.end (route_to_guest r.state.cid e.flow) owed.Request; payload = [] })
+        (λ h x. asks_streams h log port r.state.table lines x fits.sound e there v refl refl refl (request_new e.value.end owes)
+        (owed_old e.value.end owed.Request owes) refl refl (pays_gives e.value.end owed.Request owes) (paid_asked e.value.end owed.Request)
+        (record { header = owed_header e.value.end (route_to_guest r.state.cid e.flow) owed.Request; payload = [] }) refl refl refl
+        ((entry_fits r.state fits e there).new (request_new e.value.end owes)).by_client) o y)
+        refl ready.1 (λ R d held holds. holds d held) c ready
     owed_by owed.Rst owes c ready =
         let gone : DeviceState = record spent { last_put = Some e.slot } in
         let t : DeviceState = after_leaving e.slot (with_connection e.slot (stream_closed e.value) gone) in
         let F : Fact = λ o log. IsTable r.state.table × Streamed r.state.table o log in
         put_packet_keeps _ (after_paying owed.Rst e) r t F
         (λ fits. rst_puts carry port r.state fits e there owed.Rst owes refl (stream_closed e.value))
-        (λ fits o log x. (fits.sound, empty_put _ r.state r.state (λ fits c log x. x) fits o log x))
+        (λ fits o log x. (
+          fits.sound,
+          empty_put (owed_header e.value.end (route_to_guest r.state.cid e.flow) owed.Rst) r.state r.state refl (λ fits. inr (e, there, refl))
+              (λ fits c log x. x) fits o log x,
+        ))
         refl ready.1
         (λ R d held holds. keeps_bind R (closing e stream_closed gone) (λ t. Done (after_leaving e.slot t)) d
         (closing_keeps (λ u. R (after_leaving e.slot u)) e stream_closed gone d
@@ -174,7 +209,9 @@ module _ (carry : Carried) (lines : List Handshake) (first port : ℕ) where
         let t : DeviceState = record (with_connection e.slot v spent) { last_put = Some e.slot } in
         put_packet_keeps _ (after_paying what e) r t (Streamed t.table)
         (λ fits. owed_puts carry port r.state fits e there what owes v refl refl refl)
-        (empty_put _ r.state t (stays_by what v owes refl)) refl ready.1 (λ R d held holds. holds d held) c ready
+        (empty_put (owed_header e.value.end (route_to_guest r.state.cid e.flow) what) r.state t refl
+        (of_it v (owed_header e.value.end (route_to_guest r.state.cid e.flow) what) refl)
+        (stays_by what v owes (owes_begun e.value.end what owes (λ (q : what ≡ owed.Request). cc)) refl)) refl ready.1 (λ R d held holds. holds d held) c ready
 
   pub put_owed_keeps : (slot : ℕ) (r : Filling) (c : Situation) → Ready r c → Keeps (Goes Ready Over) (put_owed slot r) c
   put_owed_keeps slot r c ready =
@@ -249,7 +286,10 @@ module _ (carry : Carried) (lines : List Handshake) (first port : ℕ) where
           (IsReadOf e.value.stream room (read.Got n, payload)) (after_read e.value.stream (read.Got n)) (λ h is few x.
           subst (λ (bytes : List ℕ). IsStreamed (after_read e.value.stream (read.Got n) h)
           (PutPacket (payload_on Device r.state.cid e.flow e.value.end bytes) ∷ l.entries) port (with_value r.state.table e.slot (sent bytes)) lines)
-          (sym is.1) (reads_streams h l.entries port r.state.table lines x p.fits.sound e there n r.state.cid)) o k exposes) c d made.0 holds)
+          (sym is.1) (reads_streams h l.entries port r.state.table lines x p.fits.sound p.fair e there old n r.state.cid
+          (subst (λ (bytes : List ℕ). IsFairLog Device (PutPacket (payload_on Device r.state.cid e.flow e.value.end bytes) ∷ l.entries)) is.1
+          ((send_puts carry port with_it p.fits e there payload (can_send e.value.end (length payload) may (omega (arith, made.1)))
+          (omega (arith, made.1)) old).fair first l.entries p.matches p.fair)))) o k exposes) c d made.0 holds)
       answered_keeps read.Again payload c d made holds = (
         called_with carry lines first port with_it with_it refl refl (λ fits. same carry port with_it fits) false
             (IsReadOf e.value.stream room (read.Again, payload)) called
@@ -260,13 +300,13 @@ module _ (carry : Carried) (lines : List Handshake) (first port : ℕ) where
         called_with carry lines first port with_it (with_connection e.slot (after_shut 2 with_it.now e.value) with_it) refl refl
             (λ fits. shuts carry port with_it fits e there 2 with_it.now old) false (IsReadOf e.value.stream room (read.End, payload)) called
             (λ fits h log is x. called_host h log port (with_value r.state.table e.slot (after_shut 2 with_it.now e.value)) lines
-            (shuts_streams h log port r.state.table lines x fits.sound e 2 with_it.now there)) c d made.0 holds,
+            (shuts_streams h log port r.state.table lines x fits.sound e 2 with_it.now there old)) c d made.0 holds,
         λ still. going,
       )
       answered_keeps read.Failed payload c d made holds =
           keeps_bind Over (closing e cut_off (with_fault with_it)) (λ t. Done (record chained { state = t })) d
           (closing_keeps (λ t x. Over (record chained { state = t }) x) e cut_off (with_fault with_it) d (λ x closes. (
-            cut_with carry lines first port e with_it (with_connection e.slot (cut_off e.value) (with_fault with_it)) there refl refl
+            cut_with carry lines first port e with_it (with_connection e.slot (cut_off e.value) (with_fault with_it)) there refl refl (λ fits. old)
                 (λ fits. cuts carry port with_it fits e there old) d x closes
                 (called_with carry lines first port with_it with_it refl refl (λ fits. same carry port with_it fits) true
                 (IsReadOf e.value.stream room (read.Failed, payload)) called
@@ -291,7 +331,7 @@ module _ (carry : Carried) (lines : List Handshake) (first port : ℕ) where
     read_by true c ready = (
       changed carry lines first port r.state (with_connection e.slot (record e.value { end = wanting_credit e.value.end }) r.state) refl refl
           (λ fits. wants carry port r.state fits e there old) (λ fits h log x. ends_streams h log port r.state.table lines x fits.sound e there
-          (record e.value { end = wanting_credit e.value.end }) refl refl refl refl refl (λ on. on) (λ on. on)) c ready.0,
+          (record e.value { end = wanting_credit e.value.end }) refl refl refl refl refl refl (λ on. on) (λ on. on)) c ready.0,
       λ going. ready.1,
     )
     read_by false c ready =

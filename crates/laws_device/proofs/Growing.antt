@@ -41,7 +41,7 @@ module _ (slot alloc : ℕ) (s : DeviceState) where
       changed carry lines first port s (grown_by rise.Done alloc e s) refl refl
       (λ fits. grows carry port s fits e is.among alloc (may_grow e.value.end alloc done))
       (λ fits h log x. ends_streams h log port s.table lines x fits.sound e is.among (record e.value { end = grown e.value.end alloc })
-      refl refl refl refl refl (λ on. on) (λ on. on)) c holds)
+      refl refl refl refl refl refl (λ on. on) (λ on. on)) c holds)
 
   pub grow_with : (first port : ℕ) (c : RingContents) → IsWith first port s c → IsWith first port (after_grow slot alloc s) c
   grow_with first port c holds =

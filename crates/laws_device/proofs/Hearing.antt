@@ -2,10 +2,11 @@
 use Rattle.std.proofs.Common.{◌≡◌, ℕ, ◌+◌, ◌≤◌, ◌==◌, ◌&&◌, Bool, true, false, cond, List, [], ◌∷◌, ◌++◌, length, take, drop, Contains}
 use Rattle.std.proofs.Common.{Option, Some, None, refl, sym, ap, subst, ◌∙◌, arith, length-append, length-take, get_or, inl, inr}
 use Rattle.std.{proofs.lemmas.Bool.Decides.nat_tests, proofs.lemmas.Grind.common_steps, proofs.lemmas.List.get_or_default, specs.List.All}
-use Rattle.vs_contents.specs.CallTree.{Done, Ask, bind}
+use Rattle.vs_contents.specs.CallTree.{Done, bind}
 use Rattle.vs_conn.specs.{End.{ConnectionEnd, after_op, end_after, is_reset, is_of, verdict_of}, declared.end.{Verdict.Verdict, Why.Why}}
 use Rattle.vs_flow.specs.Table.{entry_of, has_place, with_value, Table}
 use Rattle.vs_flow.{specs.Flow.is_assigned, specs.Flow.same_flow, specs.declared.flow.Flow.Flow, proofs.Entries.same_flow_true}
+use Rattle.vs_header.specs.declared.Kind.{Kind}
 use Rattle.vs_header.specs.{Op.op_named, declared.Header.Header, declared.TheConstants.HEADER_LEN, declared.Kind.TheVariants.Stream}
 use Rattle.laws_history.specs.{Packets.is_request, declared.packet.Packet.Packet}
 use Rattle.vs_outside.specs.{declared.host_net.Dialed.Dialed, Host.{HostContents, IsDialed, after_dial, after_failed, after_close, called}}
@@ -16,7 +17,7 @@ use Rattle.vs_ring_port.specs.{Chains.bytes_in, EndLog.EndLog, declared.device_r
 use Rattle.laws_tables.{specs.Ends.is_new, specs.Steps.is_overrun, specs.Steps.HasEnd, proofs.Slots.found_by}
 use Rattle.vs_device_parts.specs.Calls.{DeviceTree, Dial, HostMoves, Situation}
 use Rattle.vs_device_parts.specs.Connections.{after_leaving, stream_closed, with_connection, with_dialed, with_fault, with_reply}
-use Rattle.vs_device_parts.specs.Transmitting.{dial_answered, heard, on_known, on_packet, on_unknown, refused, try_request, unknown_why}
+use Rattle.vs_device_parts.specs.Transmitting.{dial_answered, heard, on_known, on_packet, on_unknown, refused, unknown_why}
 use Rattle.vs_device_parts.specs.{State.DeviceConnection, State.DeviceEntry, State.DeviceState, Streams.closing, Streams.leaving}
 use Rattle.vs_wrap.specs.Wrap.{counted}
 use Rattle.laws_device.proofs.{Ringing.{Tells, moves, tells_weaker, host_moves, Telling, bytes_held}, Taking.{drops_it, has_its_room}}
@@ -27,17 +28,20 @@ use Rattle.laws_device.proofs.{Keeping.{asking, Lets, keeps_bind}, Steps.closing
 use Rattle.laws_device.specs.Honest.{HoldsBytes, ends_of_state}
 use Rattle.laws_device.proofs.Walk.Keeping.{keeps_if, keeps_some}
 use Rattle.laws_device.proofs.Carried.Changing.{accepts_streams, called_host, closes_streams, delivered_rw, delivers_streams, dialed_id}
-use Rattle.laws_device.proofs.Carried.Changing.{empty_streams, failed_host, got_nothing, hears_streams, leaves_streams, passes_streams}
-use Rattle.laws_device.proofs.Carried.{Changing.{payload_in, request_empty, reset_empty, unknown_streams}, Streamed.join_of, Opens.dial_host}
-use Rattle.laws_device.specs.Carried.Streamed.{IsStreamed, gives, look}
+use Rattle.laws_device.proofs.Carried.Changing.{empty_streams, failed_host, hears_streams, leaves_streams, passes_streams}
+use Rattle.laws_device.proofs.Carried.{Changing.{payload_in, reset_empty, unknown_streams}, Counted.request_empty, Streamed.join_of, Opens.dial_host}
+use Rattle.laws_device.specs.Carried.Streamed.{IsStreamed, count_in, gives, look}
 use Rattle.vs_proxy_parts.specs.State.{Handshake}
-use Rattle.laws_tables.proofs.Logs.{got_passes, none_passed, passed_after_got, put_after_got}
-use Rattle.laws_tables.{proofs.Firsts.asked_first, proofs.Firsts.once_history, specs.Drains.has_passed}
+use Rattle.laws_tables.specs.Heard.{heard_of}
+use Rattle.vs_page.specs.Log.{side_of}
+use Rattle.laws_tables.proofs.{Fair.got_goes_on, Fair.got_one, OnFlow.follows_old}
 use Rattle.vs_uds.specs.OkLine.{ok_text}
-use Rattle.laws_tables.specs.Both.{Takes, after as seat_after}
 use Rattle.vs_conn.specs.declared.end.Verdict.TheVariants as verdict
 use Rattle.vs_conn.specs.declared.end.Why.TheVariants as why
 use Rattle.vs_outside.specs.declared.host_net.Dialed.TheVariants as dialed
+
+pub reset_plain : (kind : Kind) (p : Packet) → (is_reset p.header && is_of kind p.header) ≡ true → is_request p ≡ false
+reset_plain kind p is = grind (arith, nat_tests, common_steps, is)
 
 -- A packet ends a connection where it is an RST of its type.
 abbrev pub peer_resets : Verdict → Header → Bool
@@ -47,7 +51,7 @@ peer_resets _ h = false
 pub rst_leaves : (e : ConnectionEnd) (h : Header) → peer_resets (verdict_of e h) h ≡ (is_reset h && is_of e.kind h)
 rst_leaves e h = grind (arith, common_steps)
 
-pub still_new : (e : ConnectionEnd) (h : Header) → is_new (end_after e h) ≡ true → is_new e ≡ true
+still_new : (e : ConnectionEnd) (h : Header) → is_new (end_after e h) ≡ true → is_new e ≡ true
 still_new e h = grind (arith, common_steps)
 
 pub accept_old : (e : ConnectionEnd) (h : Header) → verdict_of e h ≡ verdict.Accept → is_new (end_after e h) ≡ false
@@ -156,6 +160,15 @@ module _ (carry : Carried) (lines : List Handshake) (first port : ℕ) (s : Devi
       subst (λ (f : Flow). HasEnd f e.value.end (ends_of_state port s)) flow (has_end s was.fits e there port) in
       carry.idle first (packet payload) (seat port s log) was.seated was.matches fair plain dropped e.value.end has given
 
+  -- A REQUEST comes on no flow that has a connection.
+  no_asking : (payload : List ℕ) (log : Log) → LeftBy carry first port s.cid s.overrun s.table s.replies log → IsFairLog Device (GotPacket (packet payload) ∷ log)
+      → All (λ e. e.flow ≡ flow_to_host h → is_request (packet payload) ≡ false) s.table.entries
+  no_asking payload log was fair i d within flow =
+      let e : DeviceEntry = get_or s.table.entries i d in
+      let there : Contains s.table.entries e = (i, within, sym (get_or_default s.table.entries i d e within)) in
+      got_goes_on Device first (packet payload) e.value.end (ends_of_state port s) log was.matches.flows
+      (subst (λ (f : Flow). HasEnd f e.value.end (ends_of_state port s)) flow (has_end s was.fits e there port)) (fair (flow_to_host h))
+
   module _ (kept : is_dropped Device s.cid h ≡ false) where
     -- A packet of a connection of the table.
     module _ (e : DeviceEntry) (there : Contains s.table.entries e) (flow : flow_to_host h ≡ e.flow) where
@@ -215,13 +228,25 @@ module _ (carry : Carried) (lines : List Handshake) (first port : ℕ) (s : Devi
             let no : true ≡ false = sym over ∙ sym (ap is_overrun is) ∙ room in
             cc
 
+      -- It is no REQUEST, and the connection's was put or got.
+      known : (payload : List ℕ) (log : Log) → LeftBy carry first port s.cid s.overrun s.table s.replies log → IsFairLog Device (GotPacket (packet payload) ∷ log)
+          → (is_request (packet payload) ≡ false) × (is_new e.value.end ≡ false)
+      known payload log was fair =
+          let has : HasEnd (flow_to_host h) e.value.end (ends_of_state port s) =
+          subst (λ (f : Flow). HasEnd f e.value.end (ends_of_state port s)) (sym flow) (has_end s was.fits e there port) in (
+            got_goes_on Device first (packet payload) e.value.end (ends_of_state port s) log was.matches.flows has (fair (flow_to_host h)),
+            follows_old (side_of Device (flow_to_host h)) (heard_of Device first (flow_to_host h) log) e.value.end
+                (got_one Device first (packet payload) e.value.end (ends_of_state port s) log was.matches.flows has (fair (flow_to_host h))).follows,
+          )
+
       abbrev with_verdict : Verdict → DeviceTree DeviceState → DeviceTree (DeviceState × Verdict)
       with_verdict v tree = bind tree (λ t. Done (t, v))
 
       heard_on : (v : Verdict) → verdict_of e.value.end h ≡ v → (v ≡ verdict.Accept → ⊥) → (v ≡ verdict.Deliver → ⊥)
           → Streams (λ c. c) (with_connection e.slot (heard h e.value) s)
       heard_on v is other undelivered payload log was fair whole few c x =
-          hears_streams c log port s.table lines x was.fits.sound (packet payload) whole e there flow v is other undelivered
+          let o = known payload log was fair in
+          hears_streams c log port s.table lines x was.fits.sound (packet payload) whole was.fair fair e there flow o.0 o.1 v is other undelivered
 
       module _ (c : Situation) (tells : Tells Came c) where
         peers : (b : Bool) → is_reset h ≡ b → verdict_of e.value.end h ≡ verdict.Peer
@@ -237,20 +262,22 @@ module _ (carry : Carried) (lines : List Handshake) (first port : ℕ) (s : Devi
             let empty = reset_empty e.value.end.kind in
             let leaving_now = λ (payload : List ℕ) (log : Log) (was : LeftBy carry first port s.cid s.overrun s.table s.replies log)
             (fair : IsFairLog Device (GotPacket (packet payload) ∷ log)). leaves payload log was fair is reset in
+            let ends = sym (rst_leaves e.value.end h) ∙ ap (λ (w : Verdict). peer_resets w h) is ∙ reset in
             let heard_streams = λ (payload : List ℕ) (log : Log) (was : LeftBy carry first port s.cid s.overrun s.table s.replies log)
-            (whole : IsWhole (packet payload)) (g : HostContents) (y : IsStreamed g log port s.table lines).
-            empty_streams g log port s.table lines y was.fits.sound (packet payload) whole (empty (packet payload)
-            (sym (rst_leaves e.value.end h) ∙ ap (λ (w : Verdict). peer_resets w h) is ∙ reset)) in
+            (fair : IsFairLog Device (GotPacket (packet payload) ∷ log)) (whole : IsWhole (packet payload)) (g : HostContents)
+            (y : IsStreamed g log port s.table lines).
+            empty_streams g log port s.table lines y was.fits.sound (packet payload) whole was.fair fair (empty (packet payload) ends)
+            (reset_plain e.value.end.kind (packet payload) ends) in
             let by : (d : Situation) → Closes x.value c d → Heard (gone, verdict.Peer) d = λ d closes. elim closes as
             (λ z. Heard (gone, verdict.Peer) d) [
               | inl shut ↦
                   subst (λ (z : Situation). Heard (gone, verdict.Peer) z) (sym shut.1) (quiet gone verdict.Peer c refl refl leaving_now
                   (λ payload log was fair whole few g y. leaves_streams g (GotPacket (packet payload) ∷ log) port s.table lines
-                  (heard_streams payload log was whole g y) was.fits.sound e there shut.0 (stream_closed (heard h e.value))) tells)
+                  (heard_streams payload log was fair whole g y) was.fits.sound e there shut.0 (stream_closed (heard h e.value))) tells)
               | inr made ↦
                   calls gone verdict.Peer c d false (λ g. Unit {0}) (after_close e.value.stream) refl refl leaving_now
                   (λ payload log was fair whole few g any y. closes_streams g (GotPacket (packet payload) ∷ log) port s.table lines
-                  (heard_streams payload log was whole g y) was.fits.sound e there (stream_closed (heard h e.value))) made.1 tells
+                  (heard_streams payload log was fair whole g y) was.fits.sound e there (stream_closed (heard h e.value))) made.1 tells
             ] in
             keeps_bind Heard (leaving x s) (λ t. Done (t, verdict.Peer)) c (keeps_bind (λ t d. Heard (t, verdict.Peer) d)
             (closing x stream_closed s) next c (closing_keeps (λ t. Heard (after_leaving e.slot t, verdict.Peer)) x stream_closed s c by))
@@ -269,9 +296,9 @@ module _ (carry : Carried) (lines : List Handshake) (first port : ℕ) (s : Devi
             → Heard (with_connection e.slot (record (heard h e.value) { ok_line = line }) s, verdict.Accept) c
         accepted line written is = quiet (with_connection e.slot (record (heard h e.value) { ok_line = line }) s) verdict.Accept c refl refl
             (λ payload log was fair. accepts payload log was fair line is) (λ payload log was fair whole few c y.
-            accepts_streams c log port s.table lines y was.fits.sound (packet payload) whole e there flow fair
-            (once_history Device e.flow log (was.fair e.flow) (carry.once first (seat port s log) was.seated (carry.before first (GotPacket (packet payload)) log few) e.flow))
-            (join_of (look c) c.labelled log port s.table lines y e there).client line written is) tells
+            let o = known payload log was fair in
+            accepts_streams c log port s.table lines y was.fits.sound (packet payload) whole was.fair fair e there flow o.0 o.1
+            (join_of (look c) c.labelled (count_in c) log port s.table lines y e there).client line written is) tells
 
         by_verdict : (v : Verdict) → verdict_of e.value.end h ≡ v → Keeps Heard (with_verdict v (on_known v chain h e s)) c
         by_verdict verdict.Accept is = accepted _ refl is
@@ -295,7 +322,9 @@ module _ (carry : Carried) (lines : List Handshake) (first port : ℕ) (s : Devi
                       (λ payload log was fair. delivers payload log was fair bytes (omega (arith, few, same)) is) come
                       (streams_go carry first lines lines port port s.table (with_value s.table e.slot (record (heard h e.value) { pending = e.value.pending ++ bytes }))
                       come.log (GotPacket (packet come.payload) ∷ come.log) (carry.before first (GotPacket (packet come.payload)) come.log) (λ c some x.
-                      delivers_streams c come.log port s.table lines x come.was.fits.sound (packet come.payload) come.whole e there flow bytes
+                      let known_now = known come.payload come.log come.was come.fair in
+                      delivers_streams c come.log port s.table lines x come.was.fits.sound (packet come.payload) come.whole come.was.fair come.fair e there flow
+                      known_now.0 known_now.1 bytes
                       (read ∙ payload_in came.0 (packet come.payload) come.held (delivered_rw e.value.end (packet come.payload) is)) is) o),
                 )) tells,
           ),
@@ -312,7 +341,7 @@ module _ (carry : Carried) (lines : List Handshake) (first port : ℕ) (s : Devi
     -- A packet of another flow.
     module _ (none : entry_of s.table (flow_to_host h) ≡ None) (c : Situation) (tells : Tells Came c) where
       passes : Streams (λ c. c) s
-      passes payload log was fair whole few c x = unknown_streams c log port s.table lines x was.fits.sound (packet payload) whole none
+      passes payload log was fair whole few c x = unknown_streams c log port s.table lines x was.fits.sound (packet payload) whole was.fair fair none
 
       replied : (t : DeviceState) (v : Verdict) → (t.failed ≡ s.failed) × (t.chain ≡ s.chain) × (t.cid ≡ s.cid) × (t.overrun ≡ s.overrun)
           × (t.table ≡ s.table)
@@ -331,13 +360,6 @@ module _ (carry : Carried) (lines : List Handshake) (first port : ℕ) (s : Devi
           rw (cid, overrun, table, replies) (replies_to carry first port s (packet payload) log was fair wire kept none plain))
           (λ payload log was fair whole few g is x. rw table (carries g (GotPacket (packet payload) ∷ log) (passes payload log was fair whole few g x))) made tells
 
-      quiet_flow : (payload : List ℕ) (log : Log) → carry.holds (seat port s log) → IsFairLog Device (GotPacket (packet payload) ∷ log)
-          → carry.plain first (GotPacket (packet payload) ∷ log) → is_request (packet payload) ≡ true → has_passed Device (flow_to_host h) log ≡ false
-      quiet_flow payload log seated fair few request =
-          let few = carry.once first (seat_after Device (Takes (packet payload) false) (seat port s log))
-          (carry.step (Takes (packet payload) false) (seat port s log) tt tt (λ all. all) seated) few (flow_to_host h) in
-          none_passed Device (flow_to_host h) log (asked_first Device (packet payload) log fair few request)
-
       dial_by : (path : List ℕ) (a : Dialed) (d : Situation) → Lets (Dial path (flow_to_host h)) a c d → is_assigned h.dst_port ≡ false → is_reset h ≡ false
           → is_request (packet []) ≡ true → h.kind ≡ 1 → has_place s.table ≡ true → Heard (dial_answered h a s) d
       dial_by path (dialed.Stream stream) d made outside plain request kind place =
@@ -347,10 +369,8 @@ module _ (carry : Carried) (lines : List Handshake) (first port : ℕ) (s : Devi
           (λ payload log was fair whole few g is x.
           subst (λ (n : ℕ). IsStreamed (after_dial (flow_to_host h) (dialed.Stream n) g) (GotPacket (packet payload) ∷ log) port
           (with_dialed (flow_to_host h) h n s).table lines) (sym (dialed_id path stream g (sym is)))
-          (dial_host g log (GotPacket (packet payload) ∷ log) port s.table lines x was.fits.sound (flow_to_host h) h outside
-          (quiet_flow payload log was.seated fair few request)
-          (got_passes Device (packet payload) log (flow_to_host h) refl) (λ f. sym (put_after_got Device (packet payload) log f))
-          (got_nothing (packet payload) log (whole.none (request_empty (packet payload) request))) (passed_after_got Device (packet payload) log))) made tells
+          (dial_host g log port s.table lines x was.fits.sound (packet payload) fair request (whole.none (request_empty (packet payload) request)) none h))
+          made tells
       dial_by path dialed.Refused d made outside plain request kind place = dials path dialed.Refused d called (with_reply (reply_to (flow_to_host h) h) s) false
           (refl, refl, refl, refl, refl, refl) plain made (λ g log x. called_host g log port s.table lines x)
       dial_by path dialed.Failed d made outside plain request kind place = dials path dialed.Failed d after_failed (with_reply (reply_to (flow_to_host h) h) (with_fault s)) true
@@ -379,7 +399,8 @@ module _ (carry : Carried) (lines : List Handshake) (first port : ℕ) (s : Devi
   packet_keeps c tells =
       keeps_if asking Heard (is_dropped Device s.cid h) _ _ c (λ is. quiet (record s { dropped = counted s.dropped }) verdict.Ignore c refl refl
       (λ payload log was fair. drops_it carry first port s (packet payload) log was fair wire is) (λ payload log was fair whole few g x.
-      passes_streams g log port s.table lines x was.fits.sound (packet payload) whole (idle payload log was fair few is)) tells) (λ kept.
+      passes_streams g log port s.table lines x was.fits.sound (packet payload) whole was.fair fair (idle payload log was fair few is)
+      (no_asking payload log was fair)) tells) (λ kept.
       keeps_some asking Heard (entry_of s.table (flow_to_host h)) (on_unknown h s)
       (λ e. bind (on_known (verdict_of e.value.end h) chain h e s) (λ t. Done (t, verdict_of e.value.end h))) c
       (λ none. unknown kept none c tells) (λ e is.

@@ -10,7 +10,7 @@ use Rattle.vs_page.specs.{Fair.IsFairLog, Log.Device, Overwriting.overwritten}
 use Rattle.vs_ring_port.specs.{Chains.{Held, bytes_in, chains_of, same_chain, same_queue, with_bytes, without_held}, Contents.RingContents}
 use Rattle.vs_ring_port.specs.{Contents.{DeviceCall, DeviceAnswer}, DeviceCalls.DeviceMoves, EndLog.{EndLog, entries_returned}}
 use Rattle.vs_ring_port.specs.{EndLog.{log_returned, log_written}, Lists.Rings, declared.device_ring.Chain.Chain}
-use Rattle.vs_ring_port.specs.{declared.queue.Queue.Queue, declared.queue.Queue.TheVariants.{Rx, Tx, Event}}
+use Rattle.vs_ring_port.specs.{declared.queue.Queue.Queue, declared.queue.Queue.TheVariants.{Rx}}
 
 -- P holds of the log that a ring tells; it depends on whether the ring is honest, and on what the host exposes.
 abbrev pub Telling : Type 1

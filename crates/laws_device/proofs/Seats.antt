@@ -3,7 +3,7 @@ use Rattle.std.proofs.Common.{◌≡◌, ℕ, ◌≤◌, true, List, [], ◌∷�
 use Rattle.vs_conn.specs.End.{ConnectionEnd}
 use Rattle.vs_flow.specs.{declared.flow.Flow.Flow, Table.Table}
 use Rattle.vs_limits.specs.declared.TheConstants.{HOST_CID}
-use Rattle.vs_page.specs.{Fair.number_of, Log.flow_got, Open.is_dropped, declared.log.LogEntry.LogEntry}
+use Rattle.vs_page.specs.{Log.flow_got, Open.is_dropped, declared.log.LogEntry.LogEntry}
 use Rattle.vs_page.specs.{declared.log.LogEntry.TheVariants.GotPacket, Fair.IsFairLog, Held.FitsWire, Log.Device, Log.Log, Log.packets_put}
 use Rattle.laws_tables.specs.{Steps.HasEnd, Both.Asks, Both.MayHappen, Both.Opens, Both.Seat, Both.Step, Both.Takes, Both.after, Ends.Ends}
 use Rattle.laws_tables.specs.{Heard.own_port, Matches.Matches, Steps.IsNextFlow}
@@ -42,8 +42,8 @@ abbrev pub PutsFit : Log → Type 0
 PutsFit log = AllFit (packets_put log)
 
 -- What is carried: whether the host's streams are told of, which other chains may be held, which flows the device may ask for, those with the
--- host among them, and a fact of the seat that each step keeps. Where the
--- log is plain, which each one before it then was, no flow was used twice, and no payload was dropped that a stream is to be given.
+-- host among them, and a fact of the seat that each step keeps. Where the log is plain, which each one before it then was, no payload was
+-- dropped that a stream is to be given.
 pub record Carried : Type 1 where
   pub ok : Type 0
   pub others : List Held → Type 0
@@ -53,7 +53,6 @@ pub record Carried : Type 1 where
   pub step : (step : Step) (w : Seat) → MayDo step w → IsAsked asks step → (PutsFit w.log → PutsFit (after Device step w).log) → holds w → holds (after Device step w)
   pub plain : ℕ → Log → Type 0
   pub before : (first : ℕ) (entry : LogEntry) (log : Log) → plain first (entry ∷ log) → plain first log
-  pub once : (first : ℕ) (w : Seat) → holds w → plain first w.log → (f : Flow) → number_of Device f w.log ≤ 1
   pub idle : (first : ℕ) (p : Packet) (w : Seat) → holds w → Matches Device first w.part w.log → IsFairLog Device (GotPacket p ∷ w.log)
       → plain first (GotPacket p ∷ w.log) → is_dropped Device w.part.cid p.header ≡ true → (e : ConnectionEnd) → HasEnd (flow_got Device p) e w.part
       → gives e ≡ true → p.payload ≡ []

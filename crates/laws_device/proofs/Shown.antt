@@ -6,7 +6,7 @@ use Rattle.laws_history.specs.History.{Got, History, IsFair, IsHonest, Put, Side
 use Rattle.laws_history.specs.Packets.{has, is_request, is_rst, tells, told_alloc}
 use Rattle.laws_history.{specs.Again.AllowsNow, specs.declared.packet.Packet.Packet, proofs.Present.fair_once}
 use Rattle.vs_limits.specs.declared.TheConstants.{BUF_ALLOC, BUF_ALLOC_MAX}
-use Rattle.vs_page.specs.declared.log.LogEntry.TheVariants.{GotEvent, GotPacket, Mark, PutEvent, PutPacket}
+use Rattle.vs_page.specs.declared.log.LogEntry.TheVariants.{GotPacket, PutPacket}
 use Rattle.vs_page.proofs.Entries.{one_got, one_put, present_is}
 use Rattle.vs_page.specs.{Log.Device, Log.Log, Log.flow_put, Log.history_of, Log.packets_put, Log.side_of, Log.whole_of, Fair.IsFairLog}
 use Rattle.vs_ring_port.specs.EndLog.{EndLog}

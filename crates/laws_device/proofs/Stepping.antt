@@ -1,22 +1,21 @@
 -- What the single steps keep, beside whatever other chains are held.
-use Rattle.std.proofs.Common.{◌≡◌, ℕ, ◌≤◌, ◌==◌, Bool, true, false, cond, List, [], take, Contains, Option, Some, None, refl, sym, ap}
+use Rattle.std.proofs.Common.{◌≡◌, ℕ, ◌≤◌, ◌==◌, Bool, true, false, List, [], take, Option, Some, None, refl, sym, ap}
 use Rattle.std.{proofs.Common.subst, proofs.Common.◌∙◌, proofs.Common.arith, proofs.Common.IfSome, specs.Option.ForSome}
-use Rattle.byteorder.specs.Endian.{little_bytes}
-use Rattle.vs_contents.specs.CallTree.{Done, Ask, bind}
-use Rattle.vs_conn.specs.{End.wanting_credit, declared.end.Verdict.Verdict}
+use Rattle.vs_contents.specs.CallTree.{Done, bind}
+use Rattle.vs_conn.specs.{declared.end.Verdict.Verdict}
 use Rattle.vs_credit.specs.Credit.{free_of}
 use Rattle.vs_flow.specs.Table.{entry_under}
 use Rattle.vs_header.specs.declared.Header.{Header}
 use Rattle.vs_outside.specs.Host.{HostContents}
 use Rattle.vs_page.specs.{Held.FitsWire, Log.Log}
-use Rattle.vs_ring_port.specs.{declared.queue.Queue.TheVariants.{Event, Rx, Tx}, Chains.{Held, bytes_in, same_queue}, Contents.Return}
-use Rattle.vs_ring_port.specs.{Contents.{Take, Write}, DeviceCalls.IsTakenAs, EndLog.{EndLog, entries_returned, log_returned, log_taken}}
+use Rattle.vs_ring_port.specs.{declared.queue.Queue.TheVariants.{Event, Rx, Tx}, Chains.{Held, bytes_in, same_queue}}
+use Rattle.vs_ring_port.specs.{Contents.{Take}, DeviceCalls.IsTakenAs, EndLog.{EndLog, entries_returned, log_returned, log_taken}}
 use Rattle.vs_ring_port.specs.{declared.device_ring.Chain.Chain, declared.device_ring.Next.Next, declared.queue.Queue.Queue}
 use Rattle.vs_device_parts.specs.Steps.{chain_came, filling, puts_event, puts_owed, puts_payload, puts_reply, reads, returns, shuts_write}
-use Rattle.vs_device_parts.specs.Receiving.{Filling, may_read, put_owed, put_reply, read_with_chain}
+use Rattle.vs_device_parts.specs.Receiving.{Filling, may_read, put_owed, put_reply}
 use Rattle.vs_device_parts.specs.Steps.{takes_chain, writes, writes_on, writing}
-use Rattle.vs_device_parts.specs.{Calls.DeviceTree, Calls.Ring, Calls.Situation, Connections.with_connection, Playing.IsRxChain}
-use Rattle.vs_device_parts.specs.{State.DeviceEntry, State.DeviceState, Streams.shut_write, Streams.write_pending, Transmitting.failing}
+use Rattle.vs_device_parts.specs.{Calls.DeviceTree, Calls.Ring, Calls.Situation, Playing.IsRxChain}
+use Rattle.vs_device_parts.specs.{State.DeviceState, Streams.shut_write, Streams.write_pending, Transmitting.failing}
 use Rattle.laws_device.specs.Honest.{is_held}
 use Rattle.laws_device.proofs.{Chains.{Among, among_more, among_without, held_there}, Filling.{Over, Ready, put_owed_keeps}}
 use Rattle.laws_device.proofs.{Filling.{put_reply_keeps, step_keeps, under_there}, Keeping.{Goes, Keeps, asking, Lets, keeps_then}}

@@ -1,11 +1,12 @@
 -- Steps of the device between its calls on the ring, and the chain that it takes for a packet.
-use Rattle.std.proofs.Common.{◌≡◌, ℕ, Bool, true, false, not, cond, List, [], Contains, Option, Some, None, refl, sym, subst, ◌∙◌, IfSome}
+use Rattle.laws_tables.specs.Ends.{is_new}
+use Rattle.std.proofs.Common.{◌≡◌, ℕ, Bool, true, false, not, List, [], Contains, Option, Some, None, refl, sym, subst, ◌∙◌, IfSome}
 use Rattle.std.proofs.Common.{inl, inr}
-use Rattle.vs_contents.specs.CallTree.{Done, Ask, bind}
+use Rattle.vs_contents.specs.CallTree.{bind}
 use Rattle.vs_ring_port.specs.EndLog.{EndLog, log_taken}
 use Rattle.vs_ring_port.specs.{Contents.Take, DeviceCalls.IsTakenAs, declared.device_ring.Chain.Chain, declared.device_ring.Next.Next}
 use Rattle.vs_ring_port.specs.{declared.queue.Queue.TheVariants.Rx, declared.failure.Failure.Failure, declared.queue.Queue.Queue}
-use Rattle.vs_device_parts.specs.{Calls.{CloseStream, DeviceTree, HostMoves, Ring, Situation}, Receiving.{Filling, hold, holding}}
+use Rattle.vs_device_parts.specs.{Calls.{DeviceTree, HostMoves, Ring, Situation}, Receiving.{Filling, hold, holding}}
 use Rattle.vs_device_parts.specs.{Connections.{cut_off, with_connection}, Playing.IsRxChain, State.{DeviceConnection, DeviceEntry}}
 use Rattle.vs_device_parts.specs.{State.DeviceState, Streams.closing, Transmitting.failing}
 use Rattle.laws_device.specs.Honest.{IsFitState}
@@ -99,13 +100,13 @@ module _ (carry : Carried) (lines : List Handshake) (first port : ℕ) where
 
   -- A connection is over, and its stream closes.
   pub cut_with : (e : DeviceEntry) (s t : DeviceState) → Contains s.table.entries e → t.chain ≡ s.chain → t.failed ≡ s.failed
-      → (IsFitState s → Changes carry port s t) → (c d : Situation) → Closes e.value c d → With carry lines first port s c
-      → IsHeldBy carry (Streamed (with_value s.table e.slot (cut_off e.value))) first port t d
-  cut_with e s t there chain failed step c d closes holds =
+      → (IsFitState s → is_new e.value.end ≡ false) → (IsFitState s → Changes carry port s t) → (c d : Situation) → Closes e.value c d
+      → With carry lines first port s c → IsHeldBy carry (Streamed (with_value s.table e.slot (cut_off e.value))) first port t d
+  cut_with e s t there chain failed old step c d closes holds =
       let u : Table DeviceConnection = with_value s.table e.slot (cut_off e.value) in
       seat_changed s t (Streamed u) chain failed step d (closed_with carry first port s e.value c d lines s.table u
-      (λ shut fits h log x. cuts_streams h log port s.table lines x fits.sound e there shut)
-      (λ fits h log x. cut_host h log port s.table lines x fits.sound e there) closes holds)
+      (λ shut fits h log x. cuts_streams h log port s.table lines x fits.sound e there (old fits) shut)
+      (λ fits h log x. cut_host h log port s.table lines x fits.sound e there (sym (old fits))) closes holds)
 
   -- A stage that goes on, and one that may be over.
   abbrev pub Open : Filling → Situation → Type 0

@@ -7,7 +7,7 @@ use Rattle.byteorder.specs.Endian.{little_bytes}
 use Rattle.vs_contents.specs.{CallTree.Done, CallTree.Ask, CallTree.bind, CallTree.for_each, Contents.Exposes}
 use Rattle.vs_conn.specs.End.{asked}
 use Rattle.vs_flow.specs.Table.{IsTable, Table, emptied, entry_under, refusal, slots, with_value}
-use Rattle.vs_flow.{specs.declared.flow.Flow.Flow, specs.declared.table.TableFault.TableFault, proofs.Tables.accepted}
+use Rattle.vs_flow.{specs.declared.flow.Flow.Flow, proofs.Tables.accepted}
 use Rattle.vs_limits.specs.declared.TheConstants.{BUF_ALLOC}
 use Rattle.vs_outside.specs.declared.host_net.StreamWrite.{StreamWrite}
 use Rattle.vs_outside.specs.Host.{HostContents, IsWritten, after_failed, after_close, after_label, after_shut_write, after_write, called}
@@ -21,13 +21,13 @@ use Rattle.laws_tables.specs.{Ends.Ends, Ends.FlowEnd, Ends.is_new, Matches.Matc
 use Rattle.laws_tables.proofs.{Keeps.asks, Keeps.makes_reset, Keeps.puts_event, Keeps.start_matches, Slots.added_slot, Slots.found_by}
 use Rattle.vs_device_parts.specs.Connections.{after_shut, after_written, cut_off, is_timed_out, new_connection, stream_closed, with_client}
 use Rattle.vs_device_parts.specs.{Connections.{with_connection, with_fault}, Streams.{Writing, closing, is_written_out, pump_of, pump_slot}}
-use Rattle.vs_device_parts.specs.{Streams.{shut_write, tick_of, tick_slot, to_write, write_answered, write_pending}, Calls.CloseStream}
+use Rattle.vs_device_parts.specs.{Streams.{shut_write, tick_of, tick_slot, to_write, write_answered, write_pending}}
 use Rattle.vs_device_parts.specs.{Calls.{DeviceTree, Label, Ring, ShutWrite, WriteStream, Situation}, Turns.{after_reset, close_slot}}
 use Rattle.vs_device_parts.specs.{State.new_device, Turns.{open_of, reset_of}, Receiving.{event_on, pay_event_of}, State.DeviceConnection}
-use Rattle.vs_device_parts.specs.{State.{DeviceEntry, DeviceState}, Transmitting.failing}
+use Rattle.vs_device_parts.specs.{State.{DeviceEntry, DeviceState}}
 use Rattle.laws_device.proofs.Carrying.{ring_only, Fact, IsHeldBy, fact_goes, IsToldBy, StreamedOver, With, closed_held, streams_go}
 use Rattle.laws_device.proofs.{Carrying.plain_with, Chains.{Among, first_written, held_there, is_unwritten, taken_holds}, Changing.cuts}
-use Rattle.laws_device.proofs.{Changing.{shuts, unseen, writes, same}, Ringing.{Tells, moves, tells_weaker, host_moves}, Keeping.Lets}
+use Rattle.laws_device.proofs.{Changing.{shuts, unseen, writes, same}, Ringing.{Tells, moves, host_moves}, Keeping.Lets}
 use Rattle.laws_device.proofs.{Seats.{Carried, LeftBy, at_log, seat}, Writing.{write_keeps, Writes}, Filling.under_there, Steps.it_failed}
 use Rattle.laws_device.proofs.{Steps.{none_came, cut_with, seat_changed}, Tabling.{IsFitConnection, entry_fits, opening_fits}}
 use Rattle.laws_device.specs.Honest.{IsFitFlow, IsFitState, IsFresh, IsLeft, IsWith, end_in, ends_of_state, port_after}
@@ -216,7 +216,7 @@ module _ (carry : Carried) (lines : List Handshake) (first port : ℕ) where
       let there = under_there s slot e under in
       keeps_if asked_of Now (is_timed_out s.now e.value) _ _ c (λ late. closing_keeps Now e cut_off s c (λ d closes.
       cut_with carry lines first port e s (with_connection e.slot (cut_off e.value) s) there refl refl
-      (λ fits. cuts carry port s fits e there (late_old e s fits there late)) c d closes holds)) (λ no. holds))
+      (λ fits. late_old e s fits there late) (λ fits. cuts carry port s fits e there (late_old e s fits there late)) c d closes holds)) (λ no. holds))
     where
       if_late : DeviceEntry → DeviceTree DeviceState
       if_late e = if is_timed_out s.now e.value then closing e cut_off s else Done s
@@ -241,7 +241,7 @@ module _ (carry : Carried) (lines : List Handshake) (first port : ℕ) where
         called_with carry lines first port w.state (with_connection e.slot (after_written n e.value) w.state) refl refl
         (λ fits. writes carry port w.state fits e there n made.1 (begun fits)) false (IsWritten e.value.stream (length (to_write e.value)) (write.Took n))
         (after_write e.value.stream (to_write e.value) (write.Took n))
-        (λ fits h log is x. writes_streams h log port w.state.table lines x fits.sound e there n made.1) c d made.0 holds
+        (λ fits h log is x. writes_streams h log port w.state.table lines x fits.sound e there (begun fits) n made.1) c d made.0 holds
     answered_keeps write.Again c d made holds =
         called_with carry lines first port w.state w.state refl refl (λ fits. same carry port w.state fits) false
         (IsWritten e.value.stream (length (to_write e.value)) write.Again) called (λ fits h log is x. called_host h log port w.state.table lines x) c d made.0 holds
@@ -249,11 +249,11 @@ module _ (carry : Carried) (lines : List Handshake) (first port : ℕ) where
         let t : DeviceState = with_connection e.slot (after_shut 1 w.state.now e.value) w.state in
         called_with carry lines first port w.state t refl refl (λ fits. shuts carry port w.state fits e there 1 w.state.now (begun fits)) false
         (IsWritten e.value.stream (length (to_write e.value)) write.Closed) called (λ fits h log is x. called_host h log port t.table lines
-        (shuts_streams h log port w.state.table lines x fits.sound e 1 w.state.now there)) c d made.0 holds
+        (shuts_streams h log port w.state.table lines x fits.sound e 1 w.state.now there (begun fits))) c d made.0 holds
     answered_keeps write.Failed c d made holds =
         keeps_then Now WritingWith (closing e cut_off (with_fault w.state)) (λ s. Done (record w { state = s })) d
         (closing_keeps Now e cut_off (with_fault w.state) d (λ x closes.
-        cut_with carry lines first port e w.state (with_connection e.slot (cut_off e.value) (with_fault w.state)) there refl refl
+        cut_with carry lines first port e w.state (with_connection e.slot (cut_off e.value) (with_fault w.state)) there refl refl begun
         (λ fits. cuts carry port w.state fits e there (begun fits)) d x closes
         (called_with carry lines first port w.state w.state refl refl (λ fits. same carry port w.state fits) true
         (IsWritten e.value.stream (length (to_write e.value)) write.Failed) after_failed
@@ -280,7 +280,7 @@ module _ (carry : Carried) (lines : List Handshake) (first port : ℕ) where
           (called_with carry lines first port w.state (with_connection e.slot v w.state) refl refl
           (λ fits. unseen carry port w.state fits e there v refl (shut_fits e w.state fits there)) false (λ h. Unit {0}) (after_shut_write e.value.stream)
           (λ fits h log any x. shut_write_host e.value.stream h log port (with_value w.state.table e.slot v) lines
-          (ends_streams h log port w.state.table lines x fits.sound e there v refl refl refl refl refl (λ on. on) (λ on. on))) c d made
+          (ends_streams h log port w.state.table lines x fits.sound e there v refl refl refl refl refl refl (λ on. on) (λ on. on))) c d made
           holds)
 
       if_out : DeviceEntry → DeviceTree Writing

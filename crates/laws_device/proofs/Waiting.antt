@@ -6,13 +6,14 @@ use Rattle.std.specs.{List.list_any, Option.option_map, Option.option_map_or}
 use Rattle.vs_conn.specs.{End.ConnectionEnd, declared.end.State.State, declared.end.State.TheVariants.Asked}
 use Rattle.vs_device_parts.specs.{Calls.Situation, State.DeviceConnection, State.DeviceEntry, State.DeviceState}
 use Rattle.vs_flow.{specs.Flow.same_flow, specs.Table.Table, specs.declared.flow.Flow.Flow, proofs.Entries.same_flow_true}
+use Rattle.vs_flow.specs.Connection.{Connection}
 use Rattle.vs_outside.specs.{Host.{HostContents, Stream, stream_at, waits}, HostProgram.closes, declared.host_net.StreamState.StreamState}
 use Rattle.vs_page.{specs.Log.Log, proofs.Flows.same_self}
 use Rattle.vs_proxy_parts.specs.State.{Handshake}
 use Rattle.laws_tables.specs.Ends.{FlowEnd, flows_of, is_among, is_new, is_new_in, new_flows}
 use Rattle.laws_tables.proofs.Slots.{found_by}
-use Rattle.laws_device.specs.Carried.Streamed.{IsJoined, IsStreamed, Seen, client_waits, look, seen}
-use Rattle.laws_device.proofs.Carried.{Closing.is_under, Closing.named, HostCalls.some_seen, Hosts.there}
+use Rattle.laws_device.specs.Carried.Streamed.{IsJoined, IsStreamed, Seen, client_waits, connection_in, connection_of, count_in, look, seen}
+use Rattle.laws_device.proofs.Carried.{Closing.is_under, Closing.named, HostCalls.some_seen, Hosts.label_here, Hosts.label_there, Hosts.there}
 use Rattle.laws_device.specs.Streams.{AreStreamedWith, IsTabledWith, has_open_stream, is_open_in, is_open_on}
 use Rattle.laws_device.{specs.Honest.IsWith, proofs.Shown.left_open, proofs.Shown.same_flows}
 use Rattle.vs_outside.specs.declared.host_net.StreamState.TheVariants as state
@@ -117,11 +118,12 @@ module _ (c : HostContents) (log : Log) (port : ℕ) (t : Table DeviceConnection
   -- The stream of a connection whose REQUEST isn't put is open.
   pub new_open : (e : DeviceEntry) → Contains t.entries e → is_new e.value.end ≡ true → has_open_stream e.flow c ≡ true
   new_open e is new =
-      let j = All-contains (IsJoined (look c) log) t.entries e x.joined is in
+      let j = All-contains (IsJoined (look c) (count_in c) log) t.entries e x.joined is in
       let st = there e.value.stream c j.stream j.there in
+      let its = ap (λ (s : Seen). s.label) st.is ∙ j.label in
       let still : closes st.stream.state ≡ false = ap (λ (s : Seen). s.closed) st.is ∙ j.closed
       ∙ (j.asked (new_asks e.value.end new)).3 in
-      let label : st.stream.label ≡ Some e.flow = ap (λ (s : Seen). s.label) st.is ∙ j.label in
+      let label : st.stream.label ≡ Some e.flow = (label_there c e.value.stream st.stream.label (connection_of e log) its).0 in
       let busy = waits_not e.value.stream st.stream st.at e.flow label (waits st.stream.state) refl in
       let passes : is_open_on e.flow st.stream ≡ true =
       ap (λ (b : Bool). b && option_map_or (same_flow e.flow) st.stream.label false) (opens_by st.stream.state busy still)
@@ -133,8 +135,8 @@ module _ (c : HostContents) (log : Log) (port : ℕ) (t : Table DeviceConnection
           → waits st.state ≡ false
       waits_not id st at f label false is = is
       waits_not id st at f label true is =
-          let client : seen st ≡ client_waits = x.streams.waiting id (seen st) (ap (option_map seen) at) is in
-          let both : None ≡ Some f = sym (ap (λ (s : Seen). s.label) client) ∙ label in
+          let client : seen c id st ≡ client_waits = x.streams.waiting id (seen c id st) (ap (option_map (seen c id)) at) is in
+          let both : None ≡ Some (connection_in c id f) = sym (ap (λ (s : Seen). s.label) client) ∙ label_here c id st f label in
           absurd cc
 
       placed : (b : Bool) (id : ℕ) (st : Stream) → cond b None (slice_get c.streams (id - 1)) ≡ Some st
@@ -148,28 +150,32 @@ module _ (c : HostContents) (log : Log) (port : ℕ) (t : Table DeviceConnection
       let one = one_of (is_open_on f) c.streams is in
       let parts = and_parts (is_open_in one.element.state) (option_map_or (same_flow f) one.element.label false) one.passes in
       let label = labelled one.element.label parts.1 in
-      let at : look c (one.place + 1) ≡ Some (seen one.element) = placed one.place one.element one.at in
-      let slot = x.tabled (one.place + 1) (seen one.element) f at label (still_by one.element.state parts.0) in
-      let u = is_under t slot.0 (one.place + 1) slot.1 in
+      let id : ℕ = one.place + 1 in
+      let at : look c id ≡ Some (seen c id one.element) = placed one.place one.element one.at in
+      let its = label_here c id one.element f label in
+      let slot = x.tabled id (seen c id one.element) (connection_in c id f) at its (still_by one.element.state parts.0) in
+      let u = is_under t slot.0 id slot.1 in
       let e = u.entry in
       let within = (found_by (λ (y : DeviceEntry). y.slot == slot.0) t.entries e u.under).0 in
-      let j = All-contains (IsJoined (look c) log) t.entries e x.joined within in
-      let same : seen one.element ≡ j.stream = some_seen (seen one.element) j.stream
-      (sym at ∙ ap (look c) (sym (named e (one.place + 1) u.stream).1) ∙ j.there) in
-      let flow : Some e.flow ≡ Some f = sym j.label ∙ ap (λ (s : Seen). s.label) (sym same) ∙ label in
-      let own : e.flow ≡ f = cc in
+      let j = All-contains (IsJoined (look c) (count_in c) log) t.entries e x.joined within in
+      let same : seen c id one.element ≡ j.stream = some_seen (seen c id one.element) j.stream
+      (sym at ∙ ap (look c) (sym (named e id u.stream).1) ∙ j.there) in
+      let own : e.flow ≡ f = flow_of (connection_of e log) (connection_in c id f) (sym j.label ∙ ap (λ (s : Seen). s.label) (sym same) ∙ its) in
       subst (λ (g : Flow). is_among g (flows_of (map out t.entries)) ≡ true) own (among_entry t.entries e within.0 within.1 within.2)
     where
       labelled : (o : Option Flow) → option_map_or (same_flow f) o false ≡ true → o ≡ Some f
       labelled None is = absurd cc
       labelled (Some g) is = ap (λ (h : Flow). Some h) (sym (same_flow_true f g is))
 
-      placed : (k : ℕ) (st : Stream) → slice_get c.streams k ≡ Some st → look c (k + 1) ≡ Some (seen st)
+      flow_of : (a b : Connection) → ◌≡◌ {A = Option Connection} (Some a) (Some b) → a.flow ≡ b.flow
+      flow_of a b is = cc
+
+      placed : (k : ℕ) (st : Stream) → slice_get c.streams k ≡ Some st → look c (k + 1) ≡ Some (seen c (k + 1) st)
       placed k st at =
           let some : (k + 1 == 0) ≡ false = grind (arith, nat_tests) in
           let back : k + 1 - 1 ≡ k = omega arith in
-          ap (λ (b : Bool). option_map seen (cond b None (slice_get c.streams (k + 1 - 1)))) some
-          ∙ ap (λ (i : ℕ). option_map seen (slice_get c.streams i)) back ∙ ap (option_map seen) at
+          ap (λ (b : Bool). option_map (seen c (k + 1)) (cond b None (slice_get c.streams (k + 1 - 1)))) some
+          ∙ ap (λ (i : ℕ). option_map (seen c (k + 1)) (slice_get c.streams i)) back ∙ ap (option_map (seen c (k + 1))) at
 
   -- One whose REQUEST isn't put has an open stream.
   pub new_streams : (f : Flow) → is_among f (new_flows (map out t.entries)) ≡ true → has_open_stream f c ≡ true

@@ -1,6 +1,6 @@
 -- The host's streams, where an honest ring tells the log.
 use Rattle.std.specs.{List.list_any, Option.ForSome, Option.option_map_or}
-use Rattle.std.specs.Prelude.{◌≡◌, ℕ, ◌≤◌, ◌==◌, ◌&&◌, ◌||◌, Bool, true, false, List, [], ◌∷◌}
+use Rattle.std.specs.Prelude.{◌≡◌, ℕ, ◌==◌, ◌&&◌, ◌||◌, Bool, true, false, List, [], ◌∷◌}
 use Rattle.vs_flow.specs.{Flow.same_flow, Table.Table, declared.flow.Flow.Flow}
 use Rattle.vs_outside.specs.{Host.HostContents, Host.Stream, declared.host_net.StreamState.StreamState}
 use Rattle.vs_outside.specs.declared.host_net.StreamState.TheVariants.{Open}
@@ -19,16 +19,11 @@ AreHeard first (GotPacket p ∷ log) =
     (is_dropped Device (cid_of first log) p.header ≡ true → is_left_open Device first (flow_got Device p) log ≡ true → p.payload ≡ []) × AreHeard first log
 AreHeard first (_ ∷ log) = AreHeard first log
 
--- What a guest does that uses no flow twice and sends payload under the CID that it was told.
-pub record IsPlain (first : ℕ) (log : Log) : Type 0 where
-  pub once : (f : Flow) → number_of Device f log ≤ 1
-  pub heard : AreHeard first log
-
--- Where an honest ring tells the log of a plain guest, and the host exposes its streams, these took and gave just the payload of their
--- connections; these lines are being read.
+-- Where an honest ring tells the log, none of whose connections missed payload, and the host exposes its streams, these took and gave just
+-- the payload of their connections; these lines are being read.
 abbrev pub AreStreamedWith : ℕ → ℕ → List Handshake → Table DeviceConnection → Situation → Type 0
 AreStreamedWith first port lines table a =
-    a.ring.honest ≡ true → ForSome a.ring.log (λ l. IsPlain first l.entries → ForSome a.host (λ h. IsStreamed h l.entries port table lines))
+    a.ring.honest ≡ true → ForSome a.ring.log (λ l. AreHeard first l.entries → ForSome a.host (λ h. IsStreamed h l.entries port table lines))
 
 -- A stream of the host has this flow as its label, and the proxy hasn't closed it.
 abbrev pub is_open_in : StreamState → Bool
@@ -52,4 +47,4 @@ IsTabledBy first s c log = (f : Flow) → is_among f (flows_shown (table_shown s
 
 abbrev pub IsTabledWith : ℕ → DeviceState → Situation → Type 0
 IsTabledWith first s a =
-    a.ring.honest ≡ true → ForSome a.ring.log (λ l. IsPlain first l.entries → ForSome a.host (λ h. IsTabledBy first s h l.entries))
+    a.ring.honest ≡ true → ForSome a.ring.log (λ l. AreHeard first l.entries → ForSome a.host (λ h. IsTabledBy first s h l.entries))

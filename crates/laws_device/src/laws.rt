@@ -65,9 +65,10 @@ pub fn law_of_other_calls()
 {}
 
 /// Over an honest ring that tells its log and a host that exposes its streams each call keeps what these took and gave in step with the log, where
-/// the guest uses no flow twice and no payload of an open connection is dropped for its CIDs. The payload put on a connection is what was taken
-/// of its stream, behind the CONNECT line where there is one. A stream is given a prefix of its OK line and the payload got on its connection,
-/// and what is pending is what is between (Virtio 1.2, section 5.10.6).
+/// no payload of an open connection is dropped for its CIDs. The streams with a flow as label are the flow's connections, in the order in which
+/// they got it; a guest may use a pair of ports again. The payload put on a connection is what was taken of its stream, behind the CONNECT line
+/// where there is one. A stream is given a prefix of its OK line and the payload got on its connection, and what is pending is what is between
+/// (Virtio 1.2, section 5.10.6).
 pub fn law_of_streamed()
     ensures take_tx { (first port : ℕ) (lines : List Handshake) (s : DeviceState) (a b : Situation) (x : DeviceState × Taken) → IsWith first port s a.ring
         → AreStreamedWith first port lines s.table a → Runs (take_tx_of s) a x b → AreStreamedWith first port lines x.0.table b }

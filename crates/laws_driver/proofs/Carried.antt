@@ -1,5 +1,4 @@
 -- The bytes of the driver's connections, over any ring that tells its log: what its calls put, and what they gave.
-pub mod Adding
 pub mod Growing
 pub mod Sending
 pub mod Receiving

@@ -1,4 +1,5 @@
 -- What holds of each play.
+use Rattle.laws_world.proofs.Carried.{wrote_all}
 use Rattle.std.proofs.Common.{◌≡◌, ◌≢◌, ℕ, suc, ◌<◌, ◌≤◌, ◌^◌, ◌==◌, Bool, true, false, cond, List, [], ◌∷◌, ◌++◌, None, Some, Result, Ok}
 use Rattle.std.proofs.Common.{refl, sym, ap, subst, ◌∙◌, map, arith}
 use Rattle.std.proofs.lemmas.{Bool.Decides.nat_tests, List.Elements.All-head, List.Elements.All-tail}
@@ -18,7 +19,6 @@ use Rattle.vs_report.specs.GuestLines.{accept_text, connect_text, connection_tex
 use Rattle.laws_proxy.specs.Resets.{IsEmptied}
 use Rattle.laws_world.specs.{Events.is_at_rest, Sides.{both_of, device_ends, driver_ends}}
 use Rattle.laws_world.specs.{Pipes.IsFresh, Steps.Leads, World.{World, first_cid}, Names.times_closed, Counts.IsCounted}
-use Rattle.laws_rest.proofs.Hosts.{wrote_is_put}
 use Rattle.laws_world.proofs.{NamesStay.{IsTold, accept_told, connect_told, still_over, still_told}, Carried.{sent_all, sent_stays}}
 use Rattle.laws_world.proofs.{Carried.wrote_stays, Names.{IsOver, closed_unknown}, CallRests.opening_rests}
 use Rattle.laws_world.proofs.{Opening.{opening_well, run_goes}, ResetTables.device_emptied}
@@ -83,12 +83,12 @@ module _ (w v : World) (f : Flow) (well : IsWell Fresh w) (goes : Goes Fresh w v
   device_decided : (e : DeviceEntry) → Contains w.proxy.device.table.entries e → e.flow ≡ f → e.value.end.own.send ≡ true
       → host_wrote (first_of f) v.host ≡ host_wrote (first_of f) w.host
   device_decided e there own shut =
-      sym (wrote_is_put v.host _ _ _ _ (goes.well.streams fresh) f)
+      wrote_all v goes.well fresh f
       ∙ decided_put Device (is_shut Device first_cid f (device_ends w.proxy) (both_of w).device.log e.value.end
       (well.sound.matches Device).flows
       (subst (λ (g : Flow). HasEnd g e.value.end (device_ends w.proxy)) own (one_end
       (λ c. c.end) w.proxy.device.table e well.device.fits.sound there)) shut)
-      ∙ wrote_is_put w.host _ _ _ _ (well.streams fresh) f
+      ∙ sym (wrote_all w well fresh f)
 
   stays_shut : is_at_rest w.rings.driver.staged ≡ true → StaysShut f w v
   stays_shut rest = record {

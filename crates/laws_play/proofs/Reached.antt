@@ -1,4 +1,5 @@
 -- What holds of a world in which nothing is staged, where it is well.
+use Rattle.laws_world.proofs.Carried.{its_first}
 use Rattle.vs_flow.specs.{Connection.first_of, declared.flow.Flow.Flow}
 use Rattle.std.proofs.Common.{[], ap, Bool, false, get_or, length, List, not, refl, subst, suc, sym, true, ℕ, ◌&&◌, ◌||◌, ◌++◌, ◌∷◌, ◌≡◌}
 use Rattle.std.proofs.lemmas.List.Elements.{All-map, Contains-get_or}
@@ -105,8 +106,8 @@ module _ {fresh : Type 0} (w : World) (well : IsWell fresh w) (yes : fresh) (res
   pub own_streams : HasOwnStreams w
   own_streams = record {
     one = one_stream w well yes;
-    wrote = λ f i s at label. wrote_own w.host _ _ _ _ (well.streams yes) f i s at label;
-    read = λ f i s at label. read_own w.host _ _ _ _ (well.streams yes) f i s at label;
+    wrote = λ f i s at label. wrote_own w.host _ _ _ _ (well.streams yes) (first_of f) (omega arith) i s at (its_first w well yes f i s at label);
+    read = λ f i s at label. read_own w.host _ _ _ _ (well.streams yes) (first_of f) (omega arith) i s at (its_first w well yes f i s at label);
   }
 
   -- The tables.

@@ -23,10 +23,11 @@ new_in_order cid base a fits fresh = record {
   ring = new_proxy_with cid base a.ring fits fresh;
 }
 
-pub new_streamed : (cid : ℕ) (base : List ℕ) (a : Situation) → IsFresh a.ring → ForSome a.host (λ h. h.streams ≡ []) → IsProxyStreamed cid (new_proxy cid base) a
+pub new_streamed : (cid : ℕ) (base : List ℕ) (a : Situation) → IsFresh a.ring → ForSome a.host (λ h. (h.streams ≡ []) × (h.labelled ≡ []))
+    → IsProxyStreamed cid (new_proxy cid base) a
 new_streamed cid base a fresh none honest l is plain h there =
     subst (λ (log : Log). IsStreamed h log ASSIGNED_FIRST (new_proxy cid base).device.table []) (sym (fresh l is).0)
-    (no_streams h ASSIGNED_FIRST (new_proxy cid base).device.table refl (none h there))
+    (no_streams h ASSIGNED_FIRST (new_proxy cid base).device.table refl (none h there).0 (none h there).1)
 
 pub turn_may : (first size now : ℕ) (s : ProxyState) (a : Situation) → IsInOrder first s a → MayRun (turn_of size now s) a
 turn_may first size now s a is =

@@ -1,27 +1,27 @@
 -- Handshakes make no call on the ring. A whole line opens a connection under the next host port.
-use Rattle.std.proofs.Common.{inl, ◌≡◌, ℕ, ◌+◌, ◌<◌, ◌≤◌, ◌^◌, nat_lt, Bool, true, false, cond, if◌then◌else◌, List, ◌++◌, length, Option}
-use Rattle.std.proofs.Common.{Some, None, refl, sym, ap, subst, arith, ◌≢◌, ◌==◌, ◌∙◌, ◌∷◌, []}
+use Rattle.vs_flow.proofs.Tables.{accepted}
+use Rattle.std.proofs.Common.{inl, ◌≡◌, ℕ, ◌+◌, ◌≤◌, Bool, true, false, List, ◌++◌}
+use Rattle.std.proofs.Common.{Some, None, refl, sym, ap, subst, arith, ◌≢◌, ◌∙◌, ◌∷◌, []}
 use Rattle.std.{proofs.lemmas.Bool.Decides.nat_tests, specs.List.All, specs.Option.ForSome}
-use Rattle.vs_contents.specs.{CallTree.Done, CallTree.Ask, CallTree.bind, CallTree.for_each, Contents.Exposes}
 use Rattle.vs_flow.{specs.Flow.host_flow, specs.Flow.is_assigned, specs.Table.refusal, specs.Table.Table, specs.declared.flow.Flow.Flow}
-use Rattle.vs_flow.{specs.declared.table.TableFault.TableFault, proofs.Entries.found_passes}
-use Rattle.vs_limits.specs.declared.TheConstants.{ASSIGNED_LAST, HANDSHAKES, ASSIGNED_FIRST}
+use Rattle.vs_flow.{specs.declared.table.TableFault.TableFault}
+use Rattle.vs_limits.specs.declared.TheConstants.{ASSIGNED_LAST, ASSIGNED_FIRST}
 use Rattle.vs_outside.specs.Host.{HostContents, accept_answer, after_accept, after_close, after_label, after_read, called}
 use Rattle.vs_outside.specs.{declared.host_net.Accepted.Accepted, declared.host_net.StreamRead.StreamRead, HostBytes.after_line}
 use Rattle.vs_page.specs.Log.{Device, side_by, Log}
 use Rattle.vs_uds.proofs.Decided.{port_fits}
-use Rattle.vs_uds.specs.{ConnectLine.connect_step, declared.connect.TheConstants.CONNECT_MAX, declared.scan.Step.Step}
+use Rattle.vs_uds.specs.{ConnectLine.connect_step}
 use Rattle.vs_device_parts.specs.Calls.{Accept, Allows, CloseStream, HostMoves, IsReadOf, Label, ReadStream, Situation}
-use Rattle.vs_device_parts.specs.{Connections.is_late, Connections.with_client, State.DeviceState, State.DeviceConnection, Turns.open_of}
+use Rattle.vs_device_parts.specs.{Connections.with_client, State.DeviceState, State.DeviceConnection}
 use Rattle.laws_device.proofs.Walk.Turning.{AfterAccept, AfterByte, IsOn, Shakes, keeps_accept_one, keeps_read_byte, keeps_tick_handshake}
 use Rattle.laws_device.proofs.Walk.Turning.{may_assign}
 use Rattle.laws_device.proofs.Keeping.{Goes, Keeps, asking, keeps_weaker}
 use Rattle.laws_device.proofs.Carrying.{Fact, fact_called, fact_goes, IsHeldBy, IsToldBy, StreamedOver, With, streams_call}
-use Rattle.laws_device.proofs.{Turning.label_keeps, Ringing.host_moves, Ringing.tells_weaker, Seats.Carried}
-use Rattle.vs_proxy_parts.specs.Handshakes.{accept_answered, accept_one, byte_read, dropping, handshake_on, host_fault, line_decided}
-use Rattle.vs_proxy_parts.specs.Handshakes.{may_open, opening, read_byte, read_line, shake_hands, streams_of, tick_handshake}
-use Rattle.vs_proxy_parts.specs.Handshakes.{tick_handshakes, with_line, without_handshake, without_stream}
-use Rattle.vs_proxy_parts.specs.State.{Handshake, Turning, with_device}
+use Rattle.laws_device.proofs.{Turning.label_keeps, Ringing.tells_weaker, Seats.Carried}
+use Rattle.vs_proxy_parts.specs.Handshakes.{accept_one}
+use Rattle.vs_proxy_parts.specs.Handshakes.{read_byte, tick_handshake}
+use Rattle.vs_proxy_parts.specs.Handshakes.{with_line, without_stream}
+use Rattle.vs_proxy_parts.specs.State.{Handshake, Turning}
 use Rattle.laws_proxy.proofs.Ports.{last_port, not_refused}
 use Rattle.laws_device.specs.Carried.Streamed.{IsStreamed, Seen, has_line, look, reading}
 use Rattle.laws_device.proofs.Carried.{HostCalls.{accepted_host, closed_host, some_seen}, Hands.{ends_by, no_line, without_after}}
@@ -144,7 +144,7 @@ module _ (carry : Carried) (first : ℕ) where
             (λ fits o n log exposes x good plain. some_after o n (λ h. Unit {0}) (after_label stream flow)
             (IsLineOn hands port s.table stream line log) (λ h. IsStreamed h log (port + 1) (with_client flow stream s).table rest) exposes
             (λ h any y. label_host h log port s.table rest y.over stream guest line y.here y.away (y.ended guest decided).0
-            (y.ended guest decided).1 inside fits.sound) (x good plain)) c none holds in (
+            (y.ended guest decided).1 inside fits.sound (accepted s.table flow none).absent) (x good plain)) c none holds in (
               asks.0,
               λ a d made. (omega (arith, above), asks.1 a d made),
             )

@@ -1,19 +1,19 @@
 -- A turn, stage by stage, and a reset.
-use Rattle.std.proofs.Common.{ℕ, ◌+◌, ◌<◌, ◌^◌, Bool, true, false, List, [], ◌∷◌, map, Option, Some, None, Result, Ok, Err, arith, ◌≤◌}
+use Rattle.std.proofs.Common.{ℕ, ◌<◌, ◌^◌, false, List, [], ◌∷◌, map, Result, Ok, Err, arith, ◌≤◌}
 use Rattle.vs_contents.specs.CallTree.{Done, for_each}
 use Rattle.vs_limits.specs.declared.TheConstants.{ASSIGNED_FIRST}
 use Rattle.vs_ring_port.specs.{Contents.RingContents, declared.failure.Failure.Failure}
-use Rattle.vs_device_parts.specs.{Receiving.{fill_rx_of, pay_event_of}, declared.answers.Filled.Filled, Calls.{DeviceTree, Situation}}
+use Rattle.vs_device_parts.specs.{Receiving.{fill_rx_of, pay_event_of}, Calls.{DeviceTree, Situation}}
 use Rattle.vs_device_parts.specs.{State.DeviceState, Streams.{pump_of, tick_of}, Transmitting.take_tx_of, Turns.reset_of}
-use Rattle.laws_device.proofs.Carrying.{Fact, IsToldBy, StreamedOver, With, fact_called, held_with, streams_call, with_ring, with_streams}
+use Rattle.laws_device.proofs.Carrying.{Fact, StreamedOver, With, fact_called, held_with, streams_call, with_ring, with_streams}
 use Rattle.laws_device.proofs.Turning.{new_with, pay_keeps, pump_keeps, reset_keeps, tick_keeps}
-use Rattle.laws_device.proofs.Keeping.{Goes, Keeps, keeps_then, keeps_while, asking, keeps_each, keeps_weaker}
+use Rattle.laws_device.proofs.Keeping.{Keeps, keeps_then, asking, keeps_weaker}
 use Rattle.laws_device.{specs.Honest.IsFresh, proofs.Filling.fill_keeps, proofs.Transmitting.take_keeps, proofs.Carrying.ring_only}
-use Rattle.laws_device.{proofs.Carrying.whole, proofs.Carrying.ring_and_host, proofs.Ringing.host_moves, proofs.Seats.Carried}
-use Rattle.vs_proxy_parts.specs.Turns.{close_handshake, device_after, event_stage, fill_stage, filled, new_proxy, proxy_reset_of}
-use Rattle.vs_proxy_parts.specs.State.{Handshake, ProxyState, Turning, start, with_device}
-use Rattle.vs_proxy_parts.specs.Turns.{pump_stage, reset_with, take_one, take_stage, tick_stage, took_packet, turn_of, unless_failed}
-use Rattle.vs_proxy_parts.specs.{declared.answers.Turn.Turn, Handshakes.shake_hands, Handshakes.streams_of, Handshakes.tick_handshakes}
+use Rattle.laws_device.{proofs.Carrying.whole, proofs.Carrying.ring_and_host, proofs.Seats.Carried}
+use Rattle.vs_proxy_parts.specs.Turns.{close_handshake, new_proxy, proxy_reset_of}
+use Rattle.vs_proxy_parts.specs.State.{Handshake, ProxyState, with_device}
+use Rattle.vs_proxy_parts.specs.Turns.{reset_with, turn_of}
+use Rattle.vs_proxy_parts.specs.{declared.answers.Turn.Turn, Handshakes.streams_of}
 use Rattle.laws_proxy.{specs.Honest.IsProxyWith, specs.Honest.IsProxyStreamed, proofs.Shaking.At, proofs.Shaking.shaking}
 use Rattle.laws_device.proofs.Walk.Turning.{KeptBy, keeps_turn_by}
 use Rattle.vs_outside.specs.Host.{after_close}

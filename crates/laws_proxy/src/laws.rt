@@ -23,12 +23,13 @@ pub fn law_of_turns()
 {}
 
 /// Over an honest ring that tells its log and a host that exposes its streams a turn and a reset keep what these took and gave in step with the log,
-/// where the guest uses no flow twice and no payload of an open connection is dropped for its CIDs: the payload put on a connection is what was
-/// taken of its stream, behind the CONNECT line where there is one; a stream was given a prefix of its OK line and the payload got, and what is
-/// pending is what is between. Of a client whose line is being read just this line was taken. The table has exactly the flows that the log left
-/// open and those of the host's open streams (Virtio 1.2, section 5.10.6).
+/// where no payload of an open connection is dropped for its CIDs: the payload put on a connection is what was taken of its stream, behind the
+/// CONNECT line where there is one; a stream was given a prefix of its OK line and the payload got on its connection, and what is pending is what
+/// is between. A guest may use a pair of ports again: the streams with a flow as label are its connections, in the order in which they got it. Of a
+/// client whose line is being read just this line was taken. The table has exactly the flows that the log left open and those of the host's open
+/// streams (Virtio 1.2, section 5.10.6).
 pub fn law_of_streamed()
-    ensures new { (cid : ℕ) (base : List ℕ) (a : Situation) → IsFresh a.ring → ForSome a.host (λ h. h.streams ≡ [])
+    ensures new { (cid : ℕ) (base : List ℕ) (a : Situation) → IsFresh a.ring → ForSome a.host (λ h. (h.streams ≡ []) × (h.labelled ≡ []))
         → IsProxyStreamed cid (new_proxy cid base) a }
     ensures turn { (first size now : ℕ) (s : ProxyState) (a b : Situation) (x : ProxyState × Turn) → IsProxyWith first s a.ring
         → IsProxyStreamed first s a → Runs (turn_of size now s) a x b → IsProxyStreamed first x.0 b }

@@ -10,7 +10,7 @@ use Rattle.vs_page.specs.Log.{Device, Driver, Role, flow_got, other_role, side_o
 use Rattle.vs_page.proofs.{Entries.got_on, Entries.on_flow, Flows.opposite_by, Payload.instance-append, Payload.payload_of-append}
 use Rattle.vs_ring_port.specs.{Contents.RingContents, EndLog.EndLog}
 use Rattle.laws_tables.specs.Both.{Both, at}
-use Rattle.laws_tables.proofs.{Firsts.once_got, Firsts.once_put, Logs.prefix_then}
+use Rattle.laws_tables.proofs.Logs.{prefix_then}
 use Rattle.vs_driver_parts.specs.{Held.HeldSlots, State.DriverState}
 use Rattle.laws_driver.specs.Honest.{slots_of}
 use Rattle.laws_driver.specs.Carried.{Calls.Journal, Calls.received_by, Senders.IsRightJournal, Senders.IsRightWith, Senders.sent_to}
@@ -61,29 +61,24 @@ module _ (b : Both) (ends : BothEnds b) where
 
   module _ (h : HostContents) (port : ℕ) (table : Table DeviceConnection) (hands : List Handshake) (streams : IsStreamed h b.device.log port table hands) where
     -- What the host's program wrote is what the device put, and what it read is a prefix of what the device got.
-    pub wrote_is : (f : Flow) → payload_put Device (first_of f) b.device.log ≡ host_wrote (first_of f) h
-    wrote_is f = once_put Device f b.device.log (ends.fair Device f) (once Device f) ∙ wrote_is_put h b.device.log port table hands streams f
+    pub wrote_is : (c : Connection) → 1 ≤ c.number → payload_put Device c b.device.log ≡ host_wrote c h
+    wrote_is c some = wrote_is_put h b.device.log port table hands streams c some
 
-    pub read_is : (f : Flow) → IsPrefixOf (host_read (first_of f) h) (payload_got Device (first_of f) b.device.log)
-    read_is f =
-        subst (λ (bytes : List ℕ). IsPrefixOf (host_read (first_of f) h) bytes) (sym (once_got Device f b.device.log (ends.fair Device f) (once Device f)))
-        (read_is_got h b.device.log port table hands streams f)
+    pub read_is : (c : Connection) → 1 ≤ c.number → IsPrefixOf (host_read c h) (payload_got Device c b.device.log)
+    read_is c some = read_is_got h b.device.log port table hands streams c some
 
-    pub carry : (f : Flow) (sent received : List ℕ) → AreTied b.driver.log (first_of f) sent received → CarryBytes (first_of f) sent received h
-    carry f sent received tied = record {
-      to_host = subst (λ (bytes : List ℕ). IsPrefixOf (host_read (first_of f) h) bytes) tied.puts (prefix_then _ _ _ (read_is f) (arrives Device (first_of f)));
-      to_guest = subst (λ (bytes : List ℕ). IsPrefixOf received bytes) (wrote_is f) (prefix_then _ _ _ tied.gets (arrives Driver (first_of f)));
+    pub carry : (c : Connection) → 1 ≤ c.number → (sent received : List ℕ) → AreTied b.driver.log c sent received → CarryBytes c sent received h
+    carry c some sent received tied = record {
+      to_host = subst (λ (bytes : List ℕ). IsPrefixOf (host_read c h) bytes) tied.puts (prefix_then _ _ _ (read_is c some) (arrives Device c));
+      to_guest = subst (λ (bytes : List ℕ). IsPrefixOf received bytes) (wrote_is c some) (prefix_then _ _ _ tied.gets (arrives Driver c));
     }
 
     pub carry_id : (first_id : ℕ) (opened : ℕ → Connection) (journal : Journal) (slots : HeldSlots) (id : ℕ)
         → IsRightJournal first_id opened journal b.driver.log slots → 1 ≤ (opened id).number
         → CarryBytes (opened id) (sent_to opened (opened id) journal) (received_by id journal) h
     carry_id first_id opened journal slots id right some =
-        let is = first_is Driver (opened id) some (right.received.passed id) in
-        let sent = sent_to opened (opened id) journal in
-        subst (λ (c : Connection). CarryBytes c sent (received_by id journal) h) (sym is)
-        (carry (opened id).flow sent (received_by id journal) (subst (λ (c : Connection). AreTied b.driver.log c sent (received_by id journal)) is
-        (record { puts = right.sent.puts (opened id); gets = right.received.front id })))
+        carry (opened id) some (sent_to opened (opened id) journal) (received_by id journal)
+        (record { puts = right.sent.puts (opened id); gets = right.received.front id })
 
 -- Over any rings and any host.
 pub carry_told : (first : ℕ) (d : DriverState) (c : RingContents) (p : ProxyState) (a : Situation) (l m : EndLog) (h : HostContents) (first_id : ℕ)
@@ -92,5 +87,5 @@ pub carry_told : (first : ℕ) (d : DriverState) (c : RingContents) (p : ProxySt
     → CarryBytes (opened id) (sent_to opened (opened id) journal) (received_by id journal) h
 carry_told first d c p a l m h first_id opened journal id told right streams some =
     carry_id _ told.ends h p.next_port p.device.table p.handshakes
-    (streams told.device_honest m told.device_log (record { once = once _ told.ends Device; heard = told.heard }) h told.host)
+    (streams told.device_honest m told.device_log told.heard h told.host)
     first_id opened journal (slots_of d) id (right told.driver_honest l told.driver_log) some

@@ -15,8 +15,8 @@ use Rattle.vs_ring_port.specs.{Contents.Write, EndLog.{EndLog, entries_returned,
 use Rattle.vs_ring_port.specs.declared.{device_ring.Chain.Chain, device_ring.Next.Next, queue.Queue.Queue}
 use Rattle.vs_ring_port.specs.declared.queue.Queue.TheVariants.{Event, Rx, Tx}
 use Rattle.vs_ring_port.specs.declared.device_ring.Next.TheVariants as next
-use Rattle.vs_device_parts.specs.Calls.{Accept, Allows, Answer, Call, CloseStream, DeviceTree, Dial, IsFitChain, Label, ReadStream, Ring}
-use Rattle.vs_device_parts.specs.{Calls.ShutWrite, Calls.Situation, Calls.WriteStream, Playing.Runs, State.DeviceEntry, State.DeviceState}
+use Rattle.vs_device_parts.specs.Calls.{Allows, Answer, Call, DeviceTree, IsFitChain, ReadStream, Ring}
+use Rattle.vs_device_parts.specs.{Calls.Situation, Calls.WriteStream, Playing.Runs, State.DeviceEntry, State.DeviceState}
 use Rattle.vs_proxy_parts.specs.{State.Handshake, State.ProxyState, declared.answers.Turn.Turn, Turns.turn_of}
 use Rattle.laws_device.specs.Walk.Seen.{Seen}
 use Rattle.laws_device.proofs.Walk.{Keeping.{Asking, Keeps}, Serving.{AfterRead, AfterWrite, Closes, Fills, Writes}, Taking.AfterDial}

@@ -1,19 +1,18 @@
--- What the host wrote and read of a flow, against the two logs.
-use Rattle.std.proofs.Common.{◌≡◌, ◌≢◌, ℕ, zero, suc, get_or, ◌^◌, ◌<◌, Bool, true, false, cond, List, [], ◌∷◌, ◌++◌, length, codes}
-use Rattle.std.proofs.Common.{decimal, slice_get, Contains, Option, Some, None, refl, sym, ap, subst, ◌∙◌, arith}
-use Rattle.std.specs.{List.filter, Option.option_and_then, Option.option_map, Option.option_map_or}
-use Rattle.std.proofs.lemmas.{Bool.Decides.nat_tests, List.Elements.filter_passes}
-use Rattle.vs_flow.proofs.Entries.{same_flow_true}
-use Rattle.vs_flow.specs.{Connection.first_of, Flow.is_assigned, Flow.same_flow, Table.Table, declared.flow.Flow.Flow}
+-- What the host wrote and read of a connection, against the two logs.
+use Rattle.std.proofs.Common.{◌≡◌, ℕ, ◌-◌, ◌≤◌, ◌^◌, ◌<◌, Bool, true, false, cond, List, [], ◌++◌, codes, decimal, slice_get, Option}
+use Rattle.std.proofs.Common.{Some, None, refl, sym, ap, subst, ◌∙◌, arith, option_and_then}
+use Rattle.std.proofs.lemmas.{Bool.Decides.nat_tests, Option.slice_get_within}
+use Rattle.std.specs.{Option.option_map, Option.option_map_or}
+use Rattle.vs_flow.specs.{Connection.Connection, Connection.first_of, Flow.is_assigned, Table.Table, declared.flow.Flow.Flow}
+use Rattle.laws_history.specs.{History.puts, Packets.has, Packets.is_clean_rst}
 use Rattle.vs_device_parts.specs.State.{DeviceConnection}
-use Rattle.vs_outside.specs.HostBytes.{after_line, host_read, host_wrote, is_labelled, read_after_ok, wrote_after_connect}
+use Rattle.vs_outside.specs.HostBytes.{after_line, host_read, host_wrote, labelled_with, read_after_ok, stream_of, wrote_after_connect}
 use Rattle.vs_outside.specs.Host.{HostContents, Stream, stream_at}
-use Rattle.vs_page.{proofs.Flows.same_self, specs.Fair.IsPrefixOf, specs.Log.Device, specs.Log.Log}
+use Rattle.vs_page.specs.{Fair.IsPrefixOf, Fair.number_of, Fair.payload_got, Fair.payload_put, Log.Device, Log.Log, Log.history_of}
 use Rattle.vs_proxy_parts.specs.State.{Handshake}
 use Rattle.vs_uds.{proofs.Leading.has_lf-digits, proofs.Ports.WritesPort-decimal, specs.OkLine.ok_text}
-use Rattle.laws_tables.specs.Drains.{got_on, put_on}
-use Rattle.laws_device.specs.Carried.Streamed.{IsStreamed, Seen, has_line, line_for, look, seen}
-use Rattle.laws_device.proofs.Carried.{Hosts.there, Lines.after_front}
+use Rattle.laws_device.specs.Carried.Streamed.{IsCounted, IsLabelled, IsStreamed, Seen, connection_in, count_in, has_line, line_for, look, seen}
+use Rattle.laws_device.proofs.Carried.{Hosts.label_here, Hosts.stream_is, Hosts.there, Lines.after_front}
 
 -- An OK line has no LF but its last byte.
 ok_front : (port : ℕ) → is_assigned port ≡ true → has_line (codes "OK " ++ decimal port) ≡ false
@@ -21,104 +20,80 @@ ok_front port is =
     let fits : port < 2 ^ 32 = grind (arith, nat_tests, is) in
     has_lf-digits (decimal port) (WritesPort-decimal port fits).each
 
--- What stands in a list stands in its filter, where it passes.
-empty_has : (id : ℕ) → Contains [] id → ⊥
-empty_has id (k, less, is) = absurd (omega (arith, less))
+some_stream : (a b : Stream) → ◌≡◌ {A = Option Stream} (Some a) (Some b) → a ≡ b
+some_stream a b is = cc
 
-kept_later : (y id : ℕ) (ys : List ℕ) → Contains ys id → Contains (y ∷ ys) id
-kept_later y id ys (k, less, is) = (suc k, omega (arith, less), is)
-
-Contains-filter : (test : ℕ → Bool) (ids : List ℕ) (id : ℕ) → Contains ids id → test id ≡ true → Contains (filter test ids) id
-Contains-filter test [] id there is = absurd (empty_has id there)
-Contains-filter test (y ∷ ys) id (zero, less, here) is =
-    let first : y ≡ id = here in
-    subst (λ (b : Bool). Contains (cond b (y ∷ filter test ys) (filter test ys)) id) (sym is ∙ ap test (sym first)) (0, omega arith, first)
-Contains-filter test (y ∷ ys) id (suc k, less, here) is = by (test y) (Contains-filter test ys id (k, omega (arith, less), here) is)
-  where
-    by : (b : Bool) → Contains (filter test ys) id → Contains (cond b (y ∷ filter test ys) (filter test ys)) id
-    by true later = kept_later y id (filter test ys) later
-    by false later = later
-
-module _ (c : HostContents) (log : Log) (port : ℕ) (t : Table DeviceConnection) (hands : List Handshake) (x : IsStreamed c log port t hands) (f : Flow) where
-  -- The label of a stream that passes.
-  labelled_by : (o : Option Flow) → option_map_or (same_flow f) o false ≡ true → o ≡ Some f
-  labelled_by None is = absurd cc
-  labelled_by (Some g) is = ap (λ (h : Flow). Some h) (sym (same_flow_true f g is))
-
-  passes_by : (o : Option Stream) → option_map_or (λ s. option_map_or (same_flow f) s.label false) o false ≡ true → (st : Stream) × (o ≡ Some st) × (st.label ≡ Some f)
-  passes_by None is = absurd cc
-  passes_by (Some st) is = (st, refl, labelled_by st.label is)
-
-  -- A stream with the label is among those that have it.
-  none_passes : (ids : List ℕ) (id : ℕ) → filter (is_labelled f c) ids ≡ [] → Contains ids id → is_labelled f c id ≡ true → ⊥
-  none_passes ids id none there is =
-      let kept = Contains-filter (is_labelled f c) ids id there is in
-      empty_has id (subst (λ (xs : List ℕ). Contains xs id) none kept)
-
-  no_stream : filter (is_labelled f c) c.labelled ≡ [] → (id : ℕ) (s : Seen) → look c id ≡ Some s → s.label ≢ Some f
-  no_stream none id s at on =
-      let l = x.streams.labels id s f at on in
-      let st = there id c s at in
-      let label : st.stream.label ≡ Some f = ap (λ (y : Seen). y.label) st.is ∙ on in
-      none_passes c.labelled id none l.listed
-      (ap (λ (o : Option Stream). option_map_or (λ y. option_map_or (same_flow f) y.label false) o false) st.at
-      ∙ ap (λ (o : Option Flow). option_map_or (same_flow f) o false) label ∙ same_self f)
-
-  abbrev wrote : Option ℕ → List ℕ
-  wrote o = option_map_or wrote_after_connect (option_and_then (λ id. stream_at id c) o) []
-
-  abbrev read : Option ℕ → List ℕ
-  read o = option_map_or read_after_ok (option_and_then (λ id. stream_at id c) o) []
-
-  first_passes : (xs : List ℕ) (id : ℕ) (ids : List ℕ) → xs ≡ id ∷ ids → ((k : ℕ) (d : ℕ) → k < length xs → is_labelled f c (get_or xs k d) ≡ true)
-      → is_labelled f c id ≡ true
-  first_passes [] id ids is all = absurd cc
-  first_passes (y ∷ ys) id ids is all = let same : y ≡ id = cc in ap (is_labelled f c) (sym same) ∙ all 0 y (omega arith)
-
-  -- The first of the streams with the label.
-  first_one : (ids : List ℕ) → filter (is_labelled f c) c.labelled ≡ ids
-      → (put_on Device f log ≡ wrote (slice_get ids 0)) × IsPrefixOf (read (slice_get ids 0)) (got_on Device f log)
-  first_one [] is = (x.streams.none f (no_stream is), (got_on Device f log, refl))
-  first_one (id ∷ ids) is =
-      let passes : is_labelled f c id ≡ true = first_passes (filter (is_labelled f c) c.labelled) id ids is (filter_passes (is_labelled f c) c.labelled) in
-      let st = passes_by (stream_at id c) passes in
-      let at : look c id ≡ Some (seen st.0) = ap (option_map seen) st.1 in
-      let l = x.streams.labels id (seen st.0) f at st.2 in (
-        l.took ∙ ap (λ (o : Option Stream). option_map_or wrote_after_connect o []) (sym st.1),
-        subst (λ (o : Option Stream). IsPrefixOf (option_map_or read_after_ok o []) (got_on Device f log)) (sym st.1)
-            (read_front st.0 st.0.by_client refl l.client l.gave),
-      )
+module _ (c : HostContents) (log : Log) (port : ℕ) (t : Table DeviceConnection) (hands : List Handshake) (x : IsStreamed c log port t hands) (k : Connection)
+    (some : 1 ≤ k.number) where
+  -- A stream of the connection has one of the numbers of its flow.
+  within : (st : Stream) → stream_of k c ≡ Some st → k.number ≤ count_in c k.flow
+  within st is = by (slice_get (labelled_with k.flow c) (k.number - 1)) refl is
     where
-      read_front : (st : Stream) (b : Bool) → st.by_client ≡ b → st.by_client ≡ is_assigned f.host → IsPrefixOf st.given (line_for f ++ got_on Device f log)
-          → IsPrefixOf (cond st.by_client (after_line st.given) st.given) (got_on Device f log)
+      by : (o : Option ℕ) → slice_get (labelled_with k.flow c) (k.number - 1) ≡ o → option_and_then (λ id. stream_at id c) o ≡ Some st
+          → k.number ≤ count_in c k.flow
+      by None at is = absurd cc
+      by (Some id) at is = let less = slice_get_within (labelled_with k.flow c) (k.number - 1) id at in omega (arith, less, some)
+
+  -- Its stream, if it has one.
+  one_stream : (o : Option Stream) → stream_of k c ≡ o
+      → (payload_put Device k log ≡ option_map_or wrote_after_connect o []) × IsPrefixOf (option_map_or read_after_ok o []) (payload_got Device k log)
+  one_stream None is = (x.streams.none k none, (payload_got Device k log, refl))
+    where
+      none : (id : ℕ) (s : Seen) → look c id ≡ Some s → s.label ≡ Some k → ⊥
+      none id s at on =
+          let st = there id c s at in
+          let found = stream_is c id st.stream k some st.at (ap (λ (y : Seen). y.label) st.is ∙ on) in
+          let both : None ≡ Some st.stream = sym is ∙ found in absurd cc
+  one_stream (Some st) is =
+      let one = x.streams.every k some (within st is) in
+      let found = there one.0 c one.1 one.2 in
+      let label : (seen c one.0 found.stream).label ≡ Some k = ap (λ (y : Seen). y.label) found.is ∙ one.3 in
+      let same : found.stream ≡ st = some_stream found.stream st (sym (stream_is c one.0 found.stream k some found.at label) ∙ is) in
+      let l = subst (λ (y : Seen). IsLabelled y k (count_in c) log port) (sym found.is) (x.streams.labels one.0 one.1 k one.2 one.3) in
+      subst (λ (y : Stream). (payload_put Device k log ≡ wrote_after_connect y) × IsPrefixOf (read_after_ok y) (payload_got Device k log)) same
+      (l.took, read_front found.stream found.stream.by_client refl l.client l.gave)
+    where
+      read_front : (st : Stream) (b : Bool) → st.by_client ≡ b → st.by_client ≡ is_assigned k.flow.host
+          → IsPrefixOf st.given (line_for k.flow ++ payload_got Device k log)
+          → IsPrefixOf (cond st.by_client (after_line st.given) st.given) (payload_got Device k log)
       read_front st true is client gave =
-          let inside : is_assigned f.host ≡ true = sym client ∙ is in
-          let line : line_for f ≡ ok_text f.host = ap (λ (b : Bool). cond b (ok_text f.host) []) inside in
-          rw is (after_front (codes "OK " ++ decimal f.host) (got_on Device f log) st.given (ok_front f.host inside)
-          (subst (λ (bytes : List ℕ). IsPrefixOf st.given (bytes ++ got_on Device f log)) line gave))
+          let inside : is_assigned k.flow.host ≡ true = sym client ∙ is in
+          let line : line_for k.flow ≡ ok_text k.flow.host = ap (λ (b : Bool). cond b (ok_text k.flow.host) []) inside in
+          rw is (after_front (codes "OK " ++ decimal k.flow.host) (payload_got Device k log) st.given (ok_front k.flow.host inside)
+          (subst (λ (bytes : List ℕ). IsPrefixOf st.given (bytes ++ payload_got Device k log)) line gave))
       read_front st false is client gave =
-          let outside : is_assigned f.host ≡ false = sym client ∙ is in
-          let line : line_for f ≡ [] = ap (λ (b : Bool). cond b (ok_text f.host) []) outside in
-          rw is (subst (λ (bytes : List ℕ). IsPrefixOf st.given (bytes ++ got_on Device f log)) line gave)
+          let outside : is_assigned k.flow.host ≡ false = sym client ∙ is in
+          let line : line_for k.flow ≡ [] = ap (λ (b : Bool). cond b (ok_text k.flow.host) []) outside in
+          rw is (subst (λ (bytes : List ℕ). IsPrefixOf st.given (bytes ++ payload_got Device k log)) line gave)
 
-  pub wrote_is_put : put_on Device f log ≡ host_wrote (first_of f) c
-  wrote_is_put = (first_one (filter (is_labelled f c) c.labelled) refl).0
+  pub wrote_is_put : payload_put Device k log ≡ host_wrote k c
+  wrote_is_put = (one_stream (stream_of k c) refl).0
 
-  pub read_is_got : IsPrefixOf (host_read (first_of f) c) (got_on Device f log)
-  read_is_got = (first_one (filter (is_labelled f c) c.labelled) refl).1
+  pub read_is_got : IsPrefixOf (host_read k c) (payload_got Device k log)
+  read_is_got = (one_stream (stream_of k c) refl).1
 
-  -- The one stream with the label.
-  module _ (id : ℕ) (s : Stream) (at : stream_at id c ≡ Some s) (label : s.label ≡ Some f) where
-    first_at : (ids : List ℕ) → filter (is_labelled f c) c.labelled ≡ ids → option_and_then (λ id. stream_at id c) (slice_get ids 0) ≡ Some s
-    first_at [] is = absurd (no_stream is id (seen s) (ap (option_map seen) at) label)
-    first_at (other ∷ ids) is =
-        let st = passes_by (stream_at other c) (first_passes (filter (is_labelled f c) c.labelled) other ids is (filter_passes (is_labelled f c) c.labelled)) in
-        let same : other ≡ id = x.streams.unique other id (seen st.0) (seen s) f (ap (option_map seen) st.1)
-        (ap (option_map seen) at) st.2 label in
-        ap (λ (i : ℕ). stream_at i c) same ∙ at
+  -- The stream that is seen as the connection.
+  module _ (id : ℕ) (s : Stream) (at : stream_at id c ≡ Some s) (label : (seen c id s).label ≡ Some k) where
+    pub wrote_own : wrote_after_connect s ≡ host_wrote k c
+    wrote_own = ap (λ (o : Option Stream). option_map_or wrote_after_connect o []) (sym (stream_is c id s k some at label))
 
-    pub wrote_own : wrote_after_connect s ≡ host_wrote (first_of f) c
-    wrote_own = ap (λ (o : Option Stream). option_map_or wrote_after_connect o []) (sym (first_at (filter (is_labelled f c) c.labelled) refl))
+    pub read_own : read_after_ok s ≡ host_read k c
+    read_own = ap (λ (o : Option Stream). option_map_or read_after_ok o []) (sym (stream_is c id s k some at label))
 
-    pub read_own : read_after_ok s ≡ host_read (first_of f) c
-    read_own = ap (λ (o : Option Stream). option_map_or read_after_ok o []) (sym (first_at (filter (is_labelled f c) c.labelled) refl))
+-- Where no flow is used twice, a stream with a label is its flow's first connection.
+module _ (c : HostContents) (log : Log) (port : ℕ) (t : Table DeviceConnection) (hands : List Handshake) (x : IsStreamed c log port t hands)
+    (once : (f : Flow) → number_of Device f log ≤ 1) where
+  few_streams : (f : Flow) → count_in c f ≤ 1
+  few_streams f = by (is_assigned f.host) (x.streams.counted f)
+    where
+      by : (b : Bool) → IsCounted b (count_in c f) (number_of Device f log) (has is_clean_rst (puts (history_of Device f log))) → count_in c f ≤ 1
+      by true counted = counted.0
+      by false counted = let most = once f in let less = counted.0 in omega (arith, most, less)
+
+  pub first_label : (f : Flow) (id : ℕ) (s : Stream) → stream_at id c ≡ Some s → s.label ≡ Some f → (seen c id s).label ≡ Some (first_of f)
+  first_label f id s at label =
+      let here = label_here c id s f label in
+      let l = x.streams.labels id (seen c id s) (connection_in c id f) (ap (option_map (seen c id)) at) here in
+      let few = few_streams f in
+      let one : (connection_in c id f).number ≡ 1 = omega (arith, l.some, l.most, few) in
+      here ∙ ap (λ (n : ℕ). let d : Connection = record { flow = f; number = n } in Some d) one

@@ -7,7 +7,7 @@ use Rattle.vs_flow.specs.{Flow.same_flow, declared.flow.Flow.Flow}
 use Rattle.laws_history.specs.{declared.packet.Packet.Packet, History.{Answerer, Asker, History, Side, gots, is_begun, puts}}
 use Rattle.vs_limits.specs.declared.TheConstants.{HOST_CID, LAST_PORT}
 use Rattle.vs_page.specs.{Log.{Device, Driver, Log, flow_got, flow_put, history_of, packets_got, side_of}, Open.{cid_of, is_dropped}}
-use Rattle.vs_page.specs.declared.log.LogEntry.TheVariants.{GotEvent, GotPacket, Mark, PutEvent, PutPacket}
+use Rattle.vs_page.specs.declared.log.LogEntry.TheVariants.{GotPacket, PutPacket}
 use Rattle.vs_page.proofs.{Entries.one_put, Flows.same_is}
 use Rattle.vs_ring_port.specs.Contents.{RingContents}
 use Rattle.laws_tables.specs.{Heard.is_empty, Steps.owed_on, Steps.payload_on, Steps.reply_on, Steps.request_on}

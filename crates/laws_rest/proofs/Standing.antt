@@ -10,7 +10,7 @@ use Rattle.laws_history.proofs.Present.{is_present, swap, swap_back}
 use Rattle.vs_limits.specs.declared.TheConstants.{HOST_CID}
 use Rattle.vs_page.specs.{Fair.IsFairOn, Log.{Device, Driver, Log, Role, and_then, flow_got, flow_put, history_of, other_role, packets_got}}
 use Rattle.vs_page.specs.{Log.{packets_put, side_of, whole_of}, Open.{cid_of, is_dropped, kind_ended, kind_got, kind_put, left_kind}}
-use Rattle.vs_page.specs.declared.log.LogEntry.TheVariants.{GotEvent, GotPacket, Mark, PutEvent, PutPacket}
+use Rattle.vs_page.specs.declared.log.LogEntry.TheVariants.{GotPacket, Mark, PutPacket}
 use Rattle.vs_page.proofs.{Entries.fair_got_on, Entries.fair_put_on, Entries.got_on, Entries.present_is, Flows.opposite_by, Flows.same_is}
 use Rattle.vs_page.proofs.{Flows.other_twice, Phases.kind_stays}
 use Rattle.laws_tables.specs.Heard.{IsAllHeard}

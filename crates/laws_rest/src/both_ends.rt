@@ -1,7 +1,7 @@
 //! The bytes of both ends.
 
 ghost use Rattle.std.specs.Prelude.{◌≤◌, ℕ, List};
-ghost use Rattle.vs_flow.specs.{Connection.Connection, Connection.first_of, Table.Table, declared.flow.Flow.Flow};
+ghost use Rattle.vs_flow.specs.{Connection.Connection, Table.Table, declared.flow.Flow.Flow};
 ghost use Rattle.vs_outside.specs.Host.{HostContents};
 ghost use Rattle.vs_page.specs.{Fair.number_of, Log.Role};
 ghost use Rattle.vs_ring_port.specs.{Contents.RingContents, EndLog.EndLog};
@@ -15,14 +15,14 @@ ghost use Rattle.vs_proxy_parts.specs.State.{Handshake, ProxyState};
 ghost use Rattle.laws_rest.specs.Bytes.{AreTied, AreTold, BothEnds, CarryBytes};
 
 /// Driver and device each got first what the other put. Then what the host's program read of a connection is a prefix of what was sent on it,
-/// and what was received on it is a prefix of what that program wrote: of the first connection of each flow, and it is the only one; and so,
-/// by a journal that is right, of each id that was given to a connection. So it is over any two honest rings that tell their logs, and any host
-/// that exposes its streams (Virtio 1.2, section 5.10.6).
+/// and what was received on it is a prefix of what that program wrote: of each connection; and so, by a journal that is right, of each id that
+/// was given to a connection. So it is over any two honest rings that tell their logs, and any host that exposes its streams. Where neither end
+/// asked twice on a flow, each flow has one connection at most (Virtio 1.2, section 5.10.6).
 pub fn law_of_both_ends()
     ensures once { (b : Both) (role : Role) (f : Flow) → BothEnds b → number_of role f (at role b).log ≤ 1 }
-    ensures flows { (b : Both) (h : HostContents) (port : ℕ) (table : Table DeviceConnection) (hands : List Handshake) (f : Flow)
-        (sent received : List ℕ) → BothEnds b → IsStreamed h b.device.log port table hands
-        → AreTied b.driver.log (first_of f) sent received → CarryBytes (first_of f) sent received h }
+    ensures connections { (b : Both) (h : HostContents) (port : ℕ) (table : Table DeviceConnection) (hands : List Handshake) (c : Connection)
+        (sent received : List ℕ) → BothEnds b → IsStreamed h b.device.log port table hands → 1 ≤ c.number
+        → AreTied b.driver.log c sent received → CarryBytes c sent received h }
     ensures ids { (b : Both) (h : HostContents) (port : ℕ) (table : Table DeviceConnection) (hands : List Handshake) (first_id : ℕ)
         (opened : ℕ → Connection) (journal : Journal) (slots : HeldSlots) (id : ℕ) → BothEnds b → IsStreamed h b.device.log port table hands
         → IsRightJournal first_id opened journal b.driver.log slots → 1 ≤ (opened id).number

@@ -17,7 +17,7 @@ use Rattle.laws_tables.{specs.Ends.ends_of, specs.Ends.flows_of, specs.Ends.is_a
 use Rattle.vs_page.proofs.Flows.{same_is}
 use Rattle.laws_driver.specs.Honest.{IsFitEntry, end_in as driver_end, slots_of}
 use Rattle.laws_device.specs.Honest.{end_in as device_end}
-use Rattle.laws_tables.{specs.Drains.got_on, specs.Drains.receives, specs.Drains.receives_in, proofs.Firsts.once_got}
+use Rattle.laws_tables.{specs.Drains.receives, specs.Drains.receives_in}
 use Rattle.laws_driver.specs.Carried.{Calls.GuestCall, Calls.Journal, Calls.received_by, Received.ReceivesOn, Calls.account_of}
 use Rattle.laws_proxy.specs.Honest.{IsProxyStreamed}
 use Rattle.laws_rest.{specs.Rest.ArePaired, specs.Rest.over_half, proofs.Quiet.in_list, proofs.Waiting.credit_there, proofs.Waiting.unread_there}
@@ -46,7 +46,7 @@ use Rattle.laws_run.proofs.Moved.{all_plain, app_early, app_free, app_less, app_
 use Rattle.laws_run.proofs.{Moved.{received_enough, sent_enough}, Trying.{all_lined, all_tried, tried}}
 use Rattle.laws_settled.specs.Shut.{GivesNoMore, IsShutBy}
 use Rattle.laws_run.specs.Dry.{AreDry, AreFull, AreIdle, IsDry, IsFull, reads_of, writes_of}
-use Rattle.laws_run.proofs.{Alike.AreApart, Alike.HasApart, Alike.Leaves, Alike.leaves_core, Drying.under_at, Endings.Ends, Wrote.{is_first, same_payload, streamed, to_device, wrote_there}}
+use Rattle.laws_run.proofs.{Alike.AreApart, Alike.HasApart, Alike.Leaves, Alike.leaves_core, Drying.under_at, Endings.Ends, Wrote.{is_first, same_number, same_payload, streamed, to_device, to_driver, wrote_there}}
 use Rattle.laws_run.proofs.Unread.{no_free, some_unread, to_read, unread_within}
 use Rattle.laws_run.proofs.{Endings.all_ends, Endings.ends_on, Halting.{Halts, IsRoomy, Stops, first_call}, Open.among_entry, Open.among_open, Open.as_many_open, Open.one_is, Reporting.accounted, Reporting.once, Reporting.right_with}
 use Rattle.laws_run.proofs.{Still.poll_still, Waiting.credit_call, Waiting.empty_call, Waiting.not_open, Waiting.recv_id, Waiting.send_id}
@@ -247,7 +247,7 @@ module _ (script : RunScript) (driver : DriverState) (end : Sight) (apps : List 
       let y = at.entry in
       let dry = idle.0 y.slot y.value.stream (under_at reads_of p.device.table y.slot (Some y) (found_there y at.within) ∙ reads_there x within unread more at) in
       subst (λ (f : Flow). AreDry f h) (sym at.flow)
-      (one_is h e.sight.log p.next_port p.device.table p.handshakes (streamed driver end p e settled one h faults streams) IsDry y at.within (dry h refl))
+      (one_is h e.sight.log p.next_port p.device.table p.handshakes (streamed driver end p e settled one h faults streams) device_fits IsDry y at.within (dry h refl))
 
   -- One that has bytes pending has something to write, so that its stream is full.
   some_left : (line pending : List ℕ) → 1 ≤ length pending → (length (take 4096 (line ++ pending)) == 0) ≡ false
@@ -260,7 +260,7 @@ module _ (script : RunScript) (driver : DriverState) (end : Sight) (apps : List 
       let writes : writes_of y ≡ Some y.value.stream =
       ap (λ (b : Bool). cond (not b && not (length (take 4096 (y.value.ok_line ++ y.value.pending)) == 0)) (Some y.value.stream) None) (still_open y within)
       ∙ ap (λ (b : Bool). cond (not b) (Some y.value.stream) None) (some_left y.value.ok_line y.value.pending some) in
-      one_is h e.sight.log p.next_port p.device.table p.handshakes (streamed driver end p e settled one h faults streams) IsFull y within
+      one_is h e.sight.log p.next_port p.device.table p.handshakes (streamed driver end p e settled one h faults streams) device_fits IsFull y within
       (idle.1 y.slot y.value.stream (under_at writes_of p.device.table y.slot (Some y) (found_there y within) ∙ writes) h refl)
 
   -- One that is known by an id, on which nothing is unread.
@@ -279,13 +279,12 @@ module _ (script : RunScript) (driver : DriverState) (end : Sight) (apps : List 
     all_received id x within named unread gets =
         let on = All-contains (ReceivesOn (account_of 1 opened journal) end.log) driver.table.entries x account.right.received.held within in
         let present : opened id ≡ current Driver x.flow end.log = subst (λ (i : ℕ). opened i ≡ current Driver x.flow end.log) named on.present in
-        let first = (first_known id x within named).1 in
+        let some = subst (λ (c : Connection). 1 ≤ c.number) (sym present) on.some in
         let came : received_by x.value.id journal ++ x.value.unread ≡ payload_got Driver (current Driver x.flow end.log) end.log = on.drains.whole gets in
         subst (λ (i : ℕ). received_by id journal ≡ received_by i journal) (sym named) refl
         ∙ sym (append-nil (received_by x.value.id journal)) ∙ ap (λ (bs : List ℕ). received_by x.value.id journal ++ bs) (sym unread) ∙ came
-        ∙ ap (λ (c : Connection). payload_got Driver c end.log) (sym present ∙ first)
-        ∙ wrote_there driver end p e settled one h faults streams x.flow
-        ∙ ap (λ (c : Connection). host_wrote c h) (sym first)
+        ∙ ap (λ (c : Connection). payload_got Driver c end.log) (sym present)
+        ∙ wrote_there driver end p e settled one h faults streams (opened id) some
 
     -- One that lacks credit: the device holds many bytes of it, which are what its host's program has still to read, and its stream is full.
     unread_by_host : (id : ℕ) (x : DriverEntry) → Contains driver.table.entries x → x.value.id ≡ id → may_send_of x.value.end ≡ Ok 0
@@ -300,22 +299,27 @@ module _ (script : RunScript) (driver : DriverState) (end : Sight) (apps : List 
         let exact = (All-contains (λ (z : DeviceEntry). HoldsExactly z.value) p.device.table.entries y steady.exact at.within).exact (λ over. absurd cc) in
         let on = streamed driver end p e settled one h faults streams in
         let got = unread_within FIRST_CID (ends_at_rest driver end p e).device.part e.sight.log (settled.at_rest.matches Device) (settled.at_rest.fair Device)
-        y.flow (one y.flow) y.value.end (one_end device_end p.device.table y device_fits at.within) live_there in
-        let least_got : over_half ≤ length (got_on Device y.flow e.sight.log) = omega (arith, least, got) in
+        y.flow y.value.end (one_end device_end p.device.table y device_fits at.within) live_there in
+        let its : Connection = current Device y.flow e.sight.log in
+        let least_got : over_half ≤ length (payload_got Device its e.sight.log) = omega (arith, least, got) in
         let many : over_half ≤ length y.value.pending = omega (arith, least, exact) in
         let still = to_read h e.sight.log p.next_port p.device.table p.handshakes on y at.within live_there goes_on over_half many least_got in
-        let first = first_known id x within named in
-        let came : sent_as id journal ≡ got_on Device y.flow e.sight.log =
-        sym (sent_by_id (account_of 1 opened journal) end.log (slots_of driver) account.right.received id first.0 journal account.right.sent.senders)
-        ∙ sym (account.right.sent.puts (opened id)) ∙ ap (λ (c : Connection). payload_put Driver c end.log) first.1
-        ∙ same_payload Device e.sight.log end.log (to_device driver end p e settled) (first_of x.flow)
-        ∙ ap (λ (f : Flow). payload_got Device (first_of f) e.sight.log) at.flow
-        ∙ once_got Device y.flow e.sight.log (settled.at_rest.fair Device y.flow) (one y.flow) in
-        subst (λ (c : Connection). (over_half + length (host_read c h) ≤ length (sent_as id journal)) × AreFull c.flow h) (sym first.1)
-        (subst (λ (f : Flow). (over_half + length (host_read (first_of f) h) ≤ length (sent_as id journal)) × AreFull f h) (sym at.flow) (
-          subst (λ (bs : List ℕ). over_half + length (host_read (first_of y.flow) h) ≤ length bs) (sym came) still,
+        let known = first_known id x within named in
+        let held = All-contains (ReceivesOn (account_of 1 opened journal) end.log) driver.table.entries x account.right.received.held within in
+        let present : opened id ≡ current Driver x.flow end.log = subst (λ (i : ℕ). opened i ≡ current Driver x.flow end.log) named held.present in
+        let same : opened id ≡ its = present
+        ∙ ap (λ (n : ℕ). let c : Connection = record { flow = x.flow; number = n } in c)
+        (same_number end.log e.sight.log x.flow (to_device driver end p e settled) (to_driver driver end p e settled))
+        ∙ ap (λ (f : Flow). current Device f e.sight.log) at.flow in
+        let came : sent_as id journal ≡ payload_got Device its e.sight.log =
+        sym (sent_by_id (account_of 1 opened journal) end.log (slots_of driver) account.right.received id known.0 journal account.right.sent.senders)
+        ∙ sym (account.right.sent.puts (opened id))
+        ∙ same_payload Device e.sight.log end.log (to_device driver end p e settled) (opened id)
+        ∙ ap (λ (c : Connection). payload_got Device c e.sight.log) same in
+        subst (λ (c : Connection). (over_half + length (host_read c h) ≤ length (sent_as id journal)) × AreFull c.flow h) (sym same) (
+          subst (λ (bs : List ℕ). over_half + length (host_read its h) ≤ length bs) (sym came) still,
           pending_full y at.within (omega (arith, many)),
-        ))
+        )
 
     -- No connection has the id 0.
     pub id_some : (x : DriverEntry) → Contains driver.table.entries x → 1 ≤ x.value.id
@@ -359,7 +363,7 @@ module _ (script : RunScript) (driver : DriverState) (end : Sight) (apps : List 
         let both : is_both y.value.end.peer ≡ true =
         ap is_both at.paired.there.peer ∙ ap (λ (b : Bool). b && x.value.end.own.send) gets ∙ sends in
         let some = some_unread FIRST_CID (ends_at_rest driver end p e).device.part e.sight.log (settled.at_rest.matches Device) (settled.at_rest.fair Device)
-        y.flow (one y.flow) y.value.end (one_end device_end p.device.table y device_fits at.within) live_there both in
+        y.flow y.value.end (one_end device_end p.device.table y device_fits at.within) live_there both in
         let exact = (All-contains (λ (z : DeviceEntry). HoldsExactly z.value) p.device.table.entries y steady.exact at.within).exact (λ over. absurd cc) in
         subst (λ (f : Flow). AreFull f h) (sym at.flow) (pending_full y at.within (omega (arith, some, exact)))
 
@@ -390,7 +394,7 @@ module _ (script : RunScript) (driver : DriverState) (end : Sight) (apps : List 
         let y = there.entry in
         let is = gives y (sym there.paired.here.peer) (All-contains (λ (z : DeviceEntry). IsShutBy z.value h) p.device.table.entries y (steady.shut h refl) there.within) in
         subst (λ (f : Flow). All (λ s. is_open_on f s ≡ true → P s) h.streams) (sym there.flow ∙ sym (flow_of_id id x within named))
-        (one_is h e.sight.log p.next_port p.device.table p.handshakes (streamed driver end p e settled one h faults streams) P y there.within
+        (one_is h e.sight.log p.next_port p.device.table p.handshakes (streamed driver end p e settled one h faults streams) device_fits P y there.within
         (λ s at. subst P (same_Some is.0 s (sym is.1 ∙ at)) is.2))
 
     takes_on : (id : ℕ) → 1 ≤ (opened id).number → TakesOn (opened id).flow h → AtId IsStopped id driver.next_id driver.table.entries → ⊥

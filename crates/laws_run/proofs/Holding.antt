@@ -24,7 +24,8 @@ use Rattle.laws_tables.{specs.Ends.{ends_of, entries_of, flows_of, is_among, rep
 use Rattle.laws_driver.specs.Honest.{end_in as driver_end, slots_of}
 use Rattle.laws_device.specs.{Honest.end_in as device_end, Streams.{has_open_stream, is_open_in, is_open_on}}
 use Rattle.laws_device.proofs.Waiting.{open_among}
-use Rattle.laws_device.specs.Carried.Streamed.{IsStreamed, seen as seen_as}
+use Rattle.laws_device.{specs.Carried.Streamed.IsStreamed, specs.Carried.Streamed.connection_in, proofs.Carried.Hosts.label_here}
+use Rattle.laws_device.specs.Carried.Streamed.{seen as seen_in}
 use Rattle.laws_driver.specs.Carried.{Calls.{GuestCall, Journal, account_of}, Received.{ReceivedOn}}
 use Rattle.laws_driver.specs.Carried.Calls as call
 use Rattle.laws_proxy.specs.Honest.{IsProxyStreamed}
@@ -417,10 +418,10 @@ module _ (script : RunScript) (driver : DriverState) (end : Sight) (apps : List 
             by (Some g) is so =
                 let own : s.label ≡ Some f = is ∙ ap (λ (x : Flow). let o : Option Flow = Some x in o) (sym (same_is f g so)) in
                 let client : s.by_client ≡ is_assigned f.host =
-                (on.streams.labels (k + 1) (seen_as s) f (looked h e.sight.log p.next_port p.device.table p.handshakes on
+                (on.streams.labels (k + 1) (seen_in h (k + 1) s) (connection_in h (k + 1) f) (looked h e.sight.log p.next_port p.device.table p.handshakes on
                 (device_fits script driver end apps entries bytes p e h faults run settled steady old stood all room same_apps same_entries polled told past heard polls still same_driver streams idle)
                 (still_open script driver end apps entries bytes p e h faults run settled steady old stood all room same_apps same_entries polled told past heard polls still same_driver streams idle)
-                k s there) own).client in
+                k s there) (label_here h (k + 1) s f own)).client in
                 ap (λ (b : Bool). b && option_map_or (λ x. not (has_line lines x)) s.label false) (client ∙ assigned)
                 ∙ ap (λ (o : Option Flow). option_map_or (λ x. not (has_line lines x)) o false) own ∙ ap (λ (b : Bool). not b) none
 

@@ -3,7 +3,9 @@ use Rattle.std.proofs.Common.{◌≡◌, ◌≢◌, ◌+◌, ◌-◌, ◌<◌, �
 use Rattle.std.proofs.Common.{Contains, slice_get, slice_index_or, refl, sym, ap, subst, ◌∙◌, arith}
 use Rattle.std.proofs.lemmas.{Bool.Decides.nat_tests, Bool.and_parts, Option.slice_get-get_or, List.Elements.All-contains, List.length-map, Map.Made.length-from_same_keys}
 use Rattle.std.specs.{Cmp.IsEquivalence, List.All, List.AllByRecursion, List.AllPairs, List.IsDistinct, List.cons_option, List.filter_map, List.list_any, Option.ForSome, Option.option_map, Option.option_map_or}
-use Rattle.vs_flow.specs.{Flow.same_flow, Table.IsTable, Table.Table, declared.flow.Flow.Flow, declared.table.Entry.Entry}
+use Rattle.vs_flow.specs.{Connection.Connection, Flow.same_flow, Table.IsTable, Table.Table, Table.entry_of, declared.flow.Flow.Flow, declared.table.Entry.Entry}
+use Rattle.vs_flow.proofs.Lookups.{entry_under_found}
+use Rattle.laws_tables.proofs.{Changes.under_slot, Slots.found_by}
 use Rattle.vs_conn.specs.End.{ConnectionEnd}
 use Rattle.vs_outside.specs.{Host.{HostContents, Stream, stream_at, waits}, HostProgram.closes, declared.host_net.StreamState.StreamState}
 use Rattle.vs_outside.specs.declared.host_net.StreamState.TheVariants as state
@@ -13,8 +15,8 @@ use Rattle.vs_proxy_parts.specs.State.{Handshake}
 use Rattle.laws_tables.specs.Ends.{entries_of, flows_of, is_among}
 use Rattle.laws_device.specs.{Honest.end_in, Streams.has_open_stream, Streams.is_open_in, Streams.is_open_on}
 use Rattle.laws_device.proofs.Waiting.{open_among}
-use Rattle.laws_device.specs.Carried.Streamed.{IsJoined, IsStreamed, Seen, client_waits, look, seen}
-use Rattle.laws_device.proofs.Carried.{Hosts.there}
+use Rattle.laws_device.specs.Carried.Streamed.{IsJoined, IsStreamed, Seen, client_waits, connection_in, connection_of, count_in, look, seen}
+use Rattle.laws_device.proofs.Carried.{Closing.is_under, Closing.named, Hosts.label_here, Hosts.label_there, Hosts.there}
 use Rattle.laws_run.specs.Complete.{open_label, open_labels}
 
 pub same_flows : IsEquivalence same_flow
@@ -47,25 +49,32 @@ pub record IsPlaced (f : Flow) (xs : List Stream) : Type 0 where
   pub stream : Stream
   pub at : slice_get xs place ≡ Some stream
   pub label : stream.label ≡ Some f
+  pub passes : is_open_on f stream ≡ true
 
 pub placed_in : (f : Flow) (xs : List Stream) → list_any (is_open_on f) xs ≡ true → IsPlaced f xs
 placed_in f [] is = absurd cc
-placed_in f (x ∷ xs) is = by (is_open_in x.state) x.label refl is (placed_in f xs)
+placed_in f (x ∷ xs) is = by (is_open_in x.state) refl x.label refl is (placed_in f xs)
   where
     later : IsPlaced f xs → IsPlaced f (x ∷ xs)
-    later r = record { place = suc r.place; stream = r.stream; at = r.at; label = r.label }
+    later r = record { place = suc r.place; stream = r.stream; at = r.at; label = r.label; passes = r.passes }
 
-    own : (g : Flow) (c : Bool) → same_flow f g ≡ c → x.label ≡ Some g → (c || list_any (is_open_on f) xs) ≡ true
+    own : (g : Flow) (c : Bool) → same_flow f g ≡ c → is_open_in x.state ≡ true → x.label ≡ Some g → (c || list_any (is_open_on f) xs) ≡ true
         → (list_any (is_open_on f) xs ≡ true → IsPlaced f xs) → IsPlaced f (x ∷ xs)
-    own g true same label is rest =
-        record { place = 0; stream = x; at = refl; label = label ∙ ap (λ (h : Flow). let o : Option Flow = Some h in o) (sym (same_is f g same)) }
-    own g false other label is rest = later (rest is)
+    own g true same opened label is rest = record {
+      place = 0;
+      stream = x;
+      at = refl;
+      label = label ∙ ap (λ (h : Flow). let o : Option Flow = Some h in o) (sym (same_is f g same));
+      passes = ap (λ (b : Bool). b && option_map_or (same_flow f) x.label false) opened ∙ ap (λ (o : Option Flow). option_map_or (same_flow f) o false) label
+          ∙ same;
+    }
+    own g false other opened label is rest = later (rest is)
 
-    by : (b : Bool) (o : Option Flow) → x.label ≡ o → ((b && option_map_or (same_flow f) o false) || list_any (is_open_on f) xs) ≡ true
+    by : (b : Bool) → is_open_in x.state ≡ b → (o : Option Flow) → x.label ≡ o → ((b && option_map_or (same_flow f) o false) || list_any (is_open_on f) xs) ≡ true
         → (list_any (is_open_on f) xs ≡ true → IsPlaced f xs) → IsPlaced f (x ∷ xs)
-    by false o label is rest = later (rest is)
-    by true None label is rest = later (rest is)
-    by true (Some g) label is rest = own g (same_flow f g) refl label is rest
+    by false opened o label is rest = later (rest is)
+    by true opened None label is rest = later (rest is)
+    by true opened (Some g) label is rest = own g (same_flow f g) refl opened label is rest
 
 none_apart : (f : Flow) (gs : List Flow) → list_any (same_flow f) gs ≡ false → AllByRecursion (λ g. same_flow f g ≡ false) gs
 none_apart f [] is = tt
@@ -134,7 +143,8 @@ flows_any f [] = refl
 flows_any f (e ∷ es) = ap (λ (b : Bool). same_flow f e.flow || b) (flows_any f es)
 
 -- What is so of a connection's own stream is so of all open streams with its label: it is the only one.
-module _ (h : HostContents) (log : Log) (port : ℕ) (t : Table DeviceConnection) (hands : List Handshake) (streamed : IsStreamed h log port t hands) where
+module _ (h : HostContents) (log : Log) (port : ℕ) (t : Table DeviceConnection) (hands : List Handshake) (streamed : IsStreamed h log port t hands)
+    (table : IsTable t) where
   looked_at : (k : ℕ) (s : Stream) → slice_get h.streams k ≡ Some s → stream_at (k + 1) h ≡ Some s
   looked_at k s at =
       let some : (k + 1 == 0) ≡ false = grind (arith, nat_tests) in
@@ -148,49 +158,98 @@ module _ (h : HostContents) (log : Log) (port : ℕ) (t : Table DeviceConnection
       by None so = absurd cc
       by (Some g) so = ap (λ (x : Flow). let o : Option Flow = Some x in o) (sym (same_is f g so))
 
+  still_open : (s : StreamState) → is_open_in s ≡ true → closes s ≡ false
+  still_open state.Waiting is = absurd cc
+  still_open state.Open is = refl
+  still_open state.Closed is = absurd cc
+
+  flow_of : (a b : Connection) → ◌≡◌ {A = Option Connection} (Some a) (Some b) → a.flow ≡ b.flow
+  flow_of a b is = cc
+
+  -- The connection of an open stream.
+  record IsOf (f : Flow) (k : ℕ) : Type 0 where
+    pub entry : DeviceEntry
+    pub found : entry_of t f ≡ Some entry
+    pub stream : entry.value.stream ≡ k + 1
+
+  of_open : (f : Flow) (k : ℕ) (s : Stream) → slice_get h.streams k ≡ Some s → is_open_on f s ≡ true → IsOf f k
+  of_open f k s at opened =
+      let id : ℕ = k + 1 in
+      let there : look h id ≡ Some (seen h id s) = ap (option_map (seen h id)) (looked_at k s at) in
+      let label = label_here h id s f (label_of f s opened) in
+      let still = still_open s.state (and_parts (is_open_in s.state) (option_map_or (same_flow f) s.label false) opened).0 in
+      let slot = streamed.tabled id (seen h id s) (connection_in h id f) there label still in
+      let u = is_under t slot.0 id slot.1 in
+      let e = u.entry in
+      let own = named e id u.stream in
+      let j = All-contains (IsJoined (look h) (count_in h) log) t.entries e streamed.joined
+      (found_by (λ (y : DeviceEntry). y.slot == slot.0) t.entries e u.under).0 in
+      let one : Some (seen h id s) ≡ Some j.stream = sym there ∙ ap (look h) (sym own.1) ∙ j.there in
+      let flow : f ≡ e.flow = flow_of (connection_in h id f) (connection_of e log)
+      (sym label ∙ ap (λ (x : Seen). x.label) (seen_is (seen h id s) j.stream one) ∙ j.label) in
+      record { entry = e; found = ap (entry_of t) flow ∙ (entry_under_found t slot.0 e table u.under).of_flow; stream = own.1 }
+    where
+      seen_is : (a b : Seen) → ◌≡◌ {A = Option Seen} (Some a) (Some b) → a ≡ b
+      seen_is a b is = cc
+
+  entry_is : (a b : DeviceEntry) → ◌≡◌ {A = Option DeviceEntry} (Some a) (Some b) → a ≡ b
+  entry_is a b is = cc
+
+  -- Two open streams with one label are one.
+  pub open_alone : (f : Flow) (i j : ℕ) (s u : Stream) → slice_get h.streams i ≡ Some s → slice_get h.streams j ≡ Some u
+      → is_open_on f s ≡ true → is_open_on f u ≡ true → i ≡ j
+  open_alone f i j s u at also opened other =
+      let a = of_open f i s at opened in
+      let b = of_open f j u also other in
+      let same : a.entry ≡ b.entry = entry_is a.entry b.entry (sym a.found ∙ b.found) in
+      let streams : i + 1 ≡ j + 1 = sym a.stream ∙ ap (λ (x : DeviceEntry). x.value.stream) same ∙ b.stream in
+      omega (arith, streams)
+
   pub one_is : (P : Stream → Type 0) (e : DeviceEntry) → Contains t.entries e → ForSome (stream_at e.value.stream h) P
       → All (λ s. is_open_on e.flow s ≡ true → P s) h.streams
   one_is P e within dry k d less opened =
       let s : Stream = slice_index_or h.streams k d in
-      let at : stream_at (k + 1) h ≡ Some s = looked_at k s (slice_get-get_or h.streams k d less) in
-      let j = All-contains (IsJoined (look h) log) t.entries e streamed.joined within in
-      let same = streamed.streams.unique (k + 1) e.value.stream (seen s) j.stream e.flow (ap (option_map seen) at) j.there (label_of e.flow s opened) j.label in
-      dry s (ap (λ (i : ℕ). stream_at i h) (sym same) ∙ at)
+      let get = slice_get-get_or h.streams k d less in
+      let a = of_open e.flow k s get opened in
+      let same : a.entry ≡ e = entry_is a.entry e (sym a.found ∙ (entry_under_found t e.slot e table (under_slot t table e within)).of_flow) in
+      dry s (ap (λ (x : DeviceEntry). stream_at x.value.stream h) (sym same) ∙ ap (λ (i : ℕ). stream_at i h) a.stream ∙ looked_at k s get)
 
 module _ (h : HostContents) (log : Log) (port : ℕ) (t : Table DeviceConnection) (hands : List Handshake) (streamed : IsStreamed h log port t hands)
     (table : IsTable t) (is_open : (e : DeviceEntry) → Contains t.entries e → e.value.closed ≡ false) where
   -- A stream that is seen has a place.
-  pub looked : (k : ℕ) (s : Stream) → slice_get h.streams k ≡ Some s → look h (k + 1) ≡ Some (seen s)
+  pub looked : (k : ℕ) (s : Stream) → slice_get h.streams k ≡ Some s → look h (k + 1) ≡ Some (seen h (k + 1) s)
   looked k s at =
       let some : (k + 1 == 0) ≡ false = grind (arith, nat_tests) in
       let back : k + 1 - 1 ≡ k = omega arith in
-      ap (λ (b : Bool). option_map seen (cond b None (slice_get h.streams (k + 1 - 1)))) some
-      ∙ ap (λ (i : ℕ). option_map seen (slice_get h.streams i)) back ∙ ap (option_map seen) at
+      ap (λ (b : Bool). option_map (seen h (k + 1)) (cond b None (slice_get h.streams (k + 1 - 1)))) some
+      ∙ ap (λ (i : ℕ). option_map (seen h (k + 1)) (slice_get h.streams i)) back ∙ ap (option_map (seen h (k + 1))) at
 
-  labels_distinct : (n : ℕ) (xs : List Stream) → ((k : ℕ) (s : Stream) → slice_get xs k ≡ Some s → look h (n + k + 1) ≡ Some (seen s))
+  labels_distinct : (n : ℕ) (xs : List Stream) → ((k : ℕ) (s : Stream) → slice_get xs k ≡ Some s → slice_get h.streams (n + k) ≡ Some s)
       → IsDistinct same_flow (filter_map open_label xs)
   unfolding IsDistinct
   labels_distinct n [] at = tt
   labels_distinct n (x ∷ xs) at =
-      let here : (k : ℕ) → n + suc k + 1 ≡ suc n + k + 1 = λ k. omega arith in
-      by (labels_distinct (suc n) xs (λ k s there. subst (λ (i : ℕ). look h i ≡ Some (seen s)) (here k) (at (suc k) s there)))
-      (is_open_in x.state) x.label refl
+      let here : (k : ℕ) → n + suc k ≡ suc n + k = λ k. omega arith in
+      by (labels_distinct (suc n) xs (λ k s there. subst (λ (i : ℕ). slice_get h.streams i ≡ Some s) (here k) (at (suc k) s there)))
+      (is_open_in x.state) refl x.label refl
     where
-      differs : (f : Flow) → x.label ≡ Some f → (b : Bool) → list_any (is_open_on f) xs ≡ b → b ≡ false
-      differs f label false is = refl
-      differs f label true is =
+      differs : (f : Flow) → is_open_on f x ≡ true → (b : Bool) → list_any (is_open_on f) xs ≡ b → b ≡ false
+      differs f opened false is = refl
+      differs f opened true is =
           let other = placed_in f xs is in
           let place = other.place in
-          let first : look h (n + 1) ≡ Some (seen x) = subst (λ (i : ℕ). look h (i + 1) ≡ Some (seen x)) (omega arith) (at 0 x refl) in
-          let same = streamed.streams.unique (n + 1) (n + suc place + 1) (seen x) (seen other.stream) f first (at (suc place) other.stream other.at) label other.label in
+          let same = open_alone h log port t hands streamed table f (n + 0) (n + suc place) x other.stream (at 0 x refl) (at (suc place) other.stream other.at)
+          opened other.passes in
           absurd (omega (arith, same))
 
-      by : IsDistinct same_flow (filter_map open_label xs) → (b : Bool) (o : Option Flow) → x.label ≡ o
+      by : IsDistinct same_flow (filter_map open_label xs) → (b : Bool) → is_open_in x.state ≡ b → (o : Option Flow) → x.label ≡ o
           → IsDistinct same_flow (cons_option (cond b o None) (filter_map open_label xs))
-      by rest false o label = rest
-      by rest true None label = rest
-      by rest true (Some g) label =
-          (none_apart g (filter_map open_label xs) (label_open g xs ∙ differs g label (list_any (is_open_on g) xs) refl), rest)
+      by rest false opened o label = rest
+      by rest true opened None label = rest
+      by rest true opened (Some g) label =
+          let passes : is_open_on g x ≡ true = ap (λ (b : Bool). b && option_map_or (same_flow g) x.label false) opened
+          ∙ ap (λ (o : Option Flow). option_map_or (same_flow g) o false) label ∙ same_self g in
+          (none_apart g (filter_map open_label xs) (label_open g xs ∙ differs g passes (list_any (is_open_on g) xs) refl), rest)
 
   -- The stream of a connection is open.
   opens_by : (s : StreamState) → waits s ≡ false → closes s ≡ false → is_open_in s ≡ true
@@ -209,10 +268,11 @@ module _ (h : HostContents) (log : Log) (port : ℕ) (t : Table DeviceConnection
 
   entry_open : (e : DeviceEntry) → Contains t.entries e → list_any (is_open_on e.flow) h.streams ≡ true
   entry_open e is =
-      let j = All-contains (IsJoined (look h) log) t.entries e streamed.joined is in
+      let j = All-contains (IsJoined (look h) (count_in h) log) t.entries e streamed.joined is in
       let st = there e.value.stream h j.stream j.there in
       let still : closes st.stream.state ≡ false = ap (λ (s : Seen). s.closed) st.is ∙ j.closed ∙ is_open e is in
-      let label : st.stream.label ≡ Some e.flow = ap (λ (s : Seen). s.label) st.is ∙ j.label in
+      let label : st.stream.label ≡ Some e.flow =
+      (label_there h e.value.stream st.stream.label (connection_of e log) (ap (λ (s : Seen). s.label) st.is ∙ j.label)).0 in
       let busy = waits_not e.value.stream st.stream st.at e.flow label (waits st.stream.state) refl in
       let passes : is_open_on e.flow st.stream ≡ true =
       ap (λ (b : Bool). b && option_map_or (same_flow e.flow) st.stream.label false) (opens_by st.stream.state busy still)
@@ -223,8 +283,8 @@ module _ (h : HostContents) (log : Log) (port : ℕ) (t : Table DeviceConnection
           → waits st.state ≡ false
       waits_not id st at f label false is = is
       waits_not id st at f label true is =
-          let client : seen st ≡ client_waits = streamed.streams.waiting id (seen st) (ap (option_map seen) at) is in
-          let both : None ≡ Some f = sym (ap (λ (s : Seen). s.label) client) ∙ label in
+          let client : seen h id st ≡ client_waits = streamed.streams.waiting id (seen h id st) (ap (option_map (seen h id)) at) is in
+          let both : None ≡ Some (connection_in h id f) = sym (ap (λ (s : Seen). s.label) client) ∙ label_here h id st f label in
           absurd cc
 
       placed : (b : Bool) (id : ℕ) (st : Stream) → cond b None (slice_get h.streams (id - 1)) ≡ Some st → slice_get h.streams (id - 1) ≡ Some st
@@ -247,7 +307,7 @@ module _ (h : HostContents) (log : Log) (port : ℕ) (t : Table DeviceConnection
   pub among_open : (f : Flow) → is_among f (flows_of (entries_of end_in t)) ≡ true → has_open_stream f h ≡ true
   among_open f is = sym (label_open f h.streams) ∙ sym (up f _ _ refl refl) ∙ sym (flows_any f t.entries) ∙ is
 
-  from_none : (k : ℕ) → k + 1 ≡ 0 + k + 1
+  from_none : (k : ℕ) → k ≡ 0 + k
   from_none k = omega arith
 
   -- The table has as many entries as there are labels of open streams.
@@ -255,4 +315,4 @@ module _ (h : HostContents) (log : Log) (port : ℕ) (t : Table DeviceConnection
   as_many_open =
       sym (length-map t.entries (λ e. e.flow))
       ∙ length-from_same_keys same_flows (map (λ e. e.flow) t.entries) (open_labels h) (table_distinct t.entries table.distinct)
-      (labels_distinct 0 h.streams (λ k s at. subst (λ (i : ℕ). look h i ≡ Some (seen s)) (from_none k) (looked k s at))) (λ f. up f _ _ refl refl)
+      (labels_distinct 0 h.streams (λ k s at. subst (λ (i : ℕ). slice_get h.streams i ≡ Some s) (from_none k) at)) (λ f. up f _ _ refl refl)

@@ -5,19 +5,18 @@ use Rattle.std.proofs.lemmas.{Bool.Decides.nat_tests, List.Elements.All-contains
 use Rattle.vs_credit.specs.Credit.{free_of, unread_of}
 use Rattle.vs_conn.specs.{End.{ConnectionEnd, may_send_of, state_may_send}, Follows.{Follows, IsLeftBy}, Shut.is_both, declared.end.State.{State, TheVariants.{Asked, Ended, Live}}}
 use Rattle.vs_conn.specs.declared.end.Stop.TheVariants as stop
-use Rattle.vs_flow.specs.{Connection.first_of, Flow.is_assigned, Table.Table, declared.flow.Flow.Flow}
+use Rattle.vs_flow.specs.{Connection.Connection, Flow.is_assigned, Table.Table, declared.flow.Flow.Flow}
 use Rattle.vs_outside.specs.{Host.HostContents, HostBytes.after_line, HostBytes.host_read}
 use Rattle.vs_uds.{proofs.Leading.has_lf-digits, proofs.Ports.WritesPort-decimal, specs.OkLine.ok_text}
 use Rattle.laws_history.specs.{History.{History, Side, gots, puts}, Packets.bytes, Packets.told_forwarded}
-use Rattle.vs_page.specs.{Fair.IsFairLog, Fair.number_of, Log.{Device, Log, history_of, side_of}, Open.left_kind}
-use Rattle.vs_page.proofs.{Payload.length-payload_of, Present.first_got}
+use Rattle.vs_page.specs.{Fair.IsFairLog, Fair.current, Fair.number_of, Fair.payload_got, Log.{Device, Log, history_of, side_of}, Open.left_kind}
+use Rattle.vs_page.proofs.{Payload.length-payload_of, Present.present_got}
 use Rattle.vs_device_parts.specs.State.{DeviceConnection, DeviceEntry}
 use Rattle.vs_proxy_parts.specs.State.{Handshake}
 use Rattle.laws_tables.specs.{Ends.Ends, Ends.ends_of, Ends.is_among, Ends.replied, Heard.heard_of, Matches.{IsBefore, IsLeftOn, Matches}, Steps.HasEnd}
 use Rattle.laws_tables.proofs.Fair.{heard_less}
-use Rattle.laws_tables.specs.Drains.{got_on}
-use Rattle.laws_tables.proofs.Firsts.{once_got}
-use Rattle.laws_device.specs.Carried.Streamed.{IsJoined, IsStreamed, gives_in, has_line, look}
+use Rattle.laws_tables.specs.Ends.{is_new_in}
+use Rattle.laws_device.specs.Carried.Streamed.{IsJoined, IsStreamed, connection_of, count_in, gives_in, has_line, look}
 use Rattle.laws_device.proofs.Carried.{Hosts.there, Lines.{after_is_rest, after_longer, line_ends, line_whole, rest_of}}
 use Rattle.laws_rest.proofs.Hosts.{read_own}
 
@@ -46,8 +45,8 @@ unread_most : (rx fwd told all : ℕ) → fwd < 2 ^ 32 → rx ≡ all % 2 ^ 32 �
 unread_most rx fwd told all fits is most = omega (arith, fits, is, most)
 
 module _ (first : ℕ) (part : Ends) (log : Log) (matches : Matches Device first part log) (fair : IsFairLog Device log) (f : Flow)
-    (few : number_of Device f log ≤ 1) (e : ConnectionEnd) (has : HasEnd f e part) (live : e.state ≡ Live) where
-  pub unread_within : unread_of e.credit ≤ length (got_on Device f log)
+    (e : ConnectionEnd) (has : HasEnd f e part) (live : e.state ≡ Live) where
+  pub unread_within : unread_of e.credit ≤ length (payload_got Device (current Device f log) log)
   unread_within =
       let h = heard_of Device first f log in
       let follows = followed (side_of Device f) h (left_kind Device first f log) (is_among f (replied part.replies)) (ends_of f part.entries) e
@@ -56,7 +55,7 @@ module _ (first : ℕ) (part : Ends) (log : Log) (matches : Matches Device first
       let most = unread_most e.credit.rx_cnt e.credit.fwd_cnt (told_forwarded (puts h)) (bytes (gots h)) follows.fwd_cnt left.rx_cnt left.forwarded_got in
       let less = (heard_less Device first f log (fair f)).bytes_more in
       let len = length-payload_of (gots (history_of Device f log)) in
-      let got = ap (λ (bs : List ℕ). length bs) (sym (once_got Device f log (fair f) few) ∙ first_got Device f log (fair f) few) in
+      let got = ap (λ (bs : List ℕ). length bs) (present_got Device f log (fair f)) in
       omega (arith, most, less, len, got)
 
   -- Where its peer neither sends nor receives any more, something is unread: else it would be over.
@@ -113,25 +112,34 @@ read_within true port given line pending got inside is = by (has_line given) ref
 
 module _ (h : HostContents) (log : Log) (port : ℕ) (t : Table DeviceConnection) (hands : List Handshake) (streamed : IsStreamed h log port t hands)
     (y : DeviceEntry) (within : Contains t.entries y) (live : y.value.end.state ≡ Live) (goes_on : y.value.end.own.receive ≡ false) where
-  pub read_less : Within (host_read (first_of y.flow) h) y.value.pending (got_on Device y.flow log)
+  abbrev its : Connection
+  its = current Device y.flow log
+
+  its_is : connection_of y log ≡ its
+  its_is = ap (λ (st : State). let n = number_of Device y.flow log in
+      let c : Connection = record { flow = y.flow; number = cond (is_new_in st y.value.end.request_put) (n + 1) n } in c) live
+
+  pub read_less : Within (host_read its h) y.value.pending (payload_got Device its log)
   read_less =
-      let joined = All-contains (IsJoined (look h) log) t.entries y streamed.joined within in
+      let joined = All-contains (IsJoined (look h) (count_in h) log) t.entries y streamed.joined within in
       let here = there y.value.stream h joined.stream joined.there in
+      let labels = streamed.streams.labels y.value.stream joined.stream (connection_of y log) joined.there joined.label in
       let label = ap (λ s. s.label) here.is ∙ joined.label in
-      let client = ap (λ s. s.by_client) here.is ∙ (streamed.streams.labels y.value.stream joined.stream y.flow joined.there joined.label).client in
+      let client = ap (λ s. s.by_client) here.is ∙ labels.client in
       let all = joined.drains.whole (ap (λ (st : State). gives_in st y.value.end.own.receive) live ∙ ap (λ (b : Bool). not b) goes_on) in
-      subst (λ (bs : List ℕ). Within bs y.value.pending (got_on Device y.flow log))
+      subst (λ (c : Connection). Within (host_read c h) y.value.pending (payload_got Device c log)) its_is
+      (subst (λ (bs : List ℕ). Within bs y.value.pending (payload_got Device (connection_of y log) log))
       (ap (λ (b : Bool). cond b (after_line here.stream.given) here.stream.given) (sym client)
-      ∙ read_own h log port t hands streamed y.flow y.value.stream here.stream here.at label)
-      (read_within (is_assigned y.flow.host) y.flow.host here.stream.given y.value.ok_line y.value.pending (got_on Device y.flow log) refl
-      (ap (λ s. s.given ++ (y.value.ok_line ++ y.value.pending)) here.is ∙ all))
+      ∙ read_own h log port t hands streamed (connection_of y log) labels.some y.value.stream here.stream here.at label)
+      (read_within (is_assigned y.flow.host) y.flow.host here.stream.given y.value.ok_line y.value.pending (payload_got Device (connection_of y log) log) refl
+      (ap (λ s. s.given ++ (y.value.ok_line ++ y.value.pending)) here.is ∙ all)))
 
   -- Many are pending: so many the host's program has still to read.
-  pub to_read : (most : ℕ) → most ≤ length y.value.pending → most ≤ length (got_on Device y.flow log)
-      → most + length (host_read (first_of y.flow) h) ≤ length (got_on Device y.flow log)
+  pub to_read : (most : ℕ) → most ≤ length y.value.pending → most ≤ length (payload_got Device its log)
+      → most + length (host_read its h) ≤ length (payload_got Device its log)
   to_read most many all = by read_less
     where
-      by : Within (host_read (first_of y.flow) h) y.value.pending (got_on Device y.flow log)
-          → most + length (host_read (first_of y.flow) h) ≤ length (got_on Device y.flow log)
+      by : Within (host_read its h) y.value.pending (payload_got Device its log)
+          → most + length (host_read its h) ≤ length (payload_got Device its log)
       by (inl none) = omega (arith, none, all)
       by (inr less) = omega (arith, less, many)

@@ -13,8 +13,7 @@ use Rattle.vs_driver_parts.specs.{State.DriverState}
 use Rattle.vs_device_parts.specs.Playing.{situation}
 use Rattle.vs_ring_shared.specs.Sights.{DeviceSight, Sight, device_contents, device_log}
 use Rattle.vs_proxy_parts.specs.State.{ProxyState}
-use Rattle.laws_tables.proofs.{Firsts.once_put}
-use Rattle.laws_device.specs.Streams.{AreHeard, IsPlain}
+use Rattle.laws_device.specs.Streams.{AreHeard}
 use Rattle.laws_device.specs.Carried.Streamed.{IsStreamed}
 use Rattle.laws_rest.proofs.Standing.{AreKept, device_kept}
 use Rattle.laws_proxy.specs.Honest.{IsProxyStreamed}
@@ -63,21 +62,17 @@ module _ (d : DriverState) (driver : Sight) (p : ProxyState) (device : DeviceSig
   to_driver = settled.at_rest.got Driver
 
   module _ (once : (f : Flow) → number_of Device f device.sight.log ≤ 1) (h : HostContents) (faults : ℕ) (streams : IsProxyStreamed FIRST_CID p (situation (device_contents device) (Some h) faults)) where
-    pub plain : IsPlain FIRST_CID device.sight.log
-    plain = record {
-      once = once;
-      heard = all_heard FIRST_CID device.sight.log (λ f. device_kept FIRST_CID f driver.log device.sight.log (settled.at_rest.no_reset Driver)
-          (settled.at_rest.no_reset Device) settled.at_rest.routed to_device);
-    }
+    pub heard : AreHeard FIRST_CID device.sight.log
+    heard = all_heard FIRST_CID device.sight.log (λ f. device_kept FIRST_CID f driver.log device.sight.log (settled.at_rest.no_reset Driver)
+        (settled.at_rest.no_reset Device) settled.at_rest.routed to_device)
 
     pub streamed : IsStreamed h device.sight.log p.next_port p.device.table p.handshakes
-    streamed = streams refl (device_log device) refl plain h refl
+    streamed = streams refl (device_log device) refl heard h refl
 
-    pub wrote_there : (f : Flow) → payload_got Driver (first_of f) driver.log ≡ host_wrote (first_of f) h
-    wrote_there f =
-        sym (same_payload Driver driver.log device.sight.log to_driver (first_of f))
-        ∙ once_put Device f device.sight.log (settled.at_rest.fair Device f) (once f)
-        ∙ wrote_is_put h device.sight.log p.next_port p.device.table p.handshakes streamed f
+    pub wrote_there : (c : Connection) → 1 ≤ c.number → payload_got Driver c driver.log ≡ host_wrote c h
+    wrote_there c some =
+        sym (same_payload Driver driver.log device.sight.log to_driver c)
+        ∙ wrote_is_put h device.sight.log p.next_port p.device.table p.handshakes streamed c some
 
     -- A connection of a flow is its only one.
     pub is_first : (c : Connection) (f : Flow) → 1 ≤ c.number → c.number ≤ number_of Driver c.flow driver.log → c.flow ≡ f → c ≡ first_of f

@@ -30,7 +30,6 @@ asking = record {
   step = λ step w may asked fits was. step_once Device step w (does step w may) was;
   plain = λ first log. ⊥;
   before = λ first entry log no. no;
-  once = λ first w was no. absurd no;
   idle = λ first p w was m fair no. absurd no;
 }
 

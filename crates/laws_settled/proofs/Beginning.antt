@@ -3,7 +3,7 @@ use Rattle.std.proofs.Common.{◌≡◌, ◌==◌, ◌-◌, ℕ, zero, suc, Bool
 use Rattle.std.proofs.Common.{arith, slice_get}
 use Rattle.std.proofs.{lemmas.List.Elements.{All-cons, All-head, All-nil, All-tail}, lemmas.Option.same_Some}
 use Rattle.std.specs.{List.All, Option.option_map}
-use Rattle.vs_flow.specs.{Table.Table, declared.flow.Flow.Flow}
+use Rattle.vs_flow.specs.{Connection.Connection, Table.Table, declared.flow.Flow.Flow}
 use Rattle.vs_limits.specs.declared.TheConstants.{ASSIGNED_FIRST, FIRST_CID}
 use Rattle.vs_outside.specs.Host.{HostContents, Stream, is_waiting, stream_at}
 use Rattle.vs_page.specs.{Log.Device, Log.Driver, Log.Log, Log.events_put, Log.flow_got, Log.packets_got, Open.cid_of, Open.is_dropped}
@@ -13,7 +13,7 @@ use Rattle.vs_ring_port.specs.EndLog.{EndLog}
 use Rattle.vs_ring_shared.specs.Sights.{DeviceSight, Sight, device_contents, device_log}
 use Rattle.vs_driver_parts.specs.State.{DriverState}
 use Rattle.vs_device_parts.specs.{Calls.Situation, Playing.Runs, State.DeviceConnection, State.DeviceEntry}
-use Rattle.laws_device.specs.Carried.Streamed.{IsJoined, IsStreamed, Seen, client_waits, look, seen}
+use Rattle.laws_device.{specs.Carried.Streamed.{IsStreamed, Seen, client_waits, connection_in, look, seen, seen_as}, proofs.Carried.Changing.no_labels}
 use Rattle.laws_rest.{specs.Calm.resets_in, specs.Rest.has_no_mark, proofs.Standing.AreKept, proofs.Standing.device_kept}
 use Rattle.vs_proxy_parts.specs.{State.ProxyState, Turns.new_proxy, Turns.turn_of, declared.answers.Turn.Turn}
 use Rattle.laws_proxy.proofs.Ordered.{turn_streamed}
@@ -22,7 +22,7 @@ use Rattle.laws_settled.proofs.Tallying.{Drops, Tallies, turn_tallies}
 
 -- A HOST WITHOUT LABELS
 abbrev IsPlain : Stream → Type 0
-IsPlain s = (s.label ≡ None) × (is_waiting s ≡ true → seen s ≡ client_waits)
+IsPlain s = (s.label ≡ None) × (is_waiting s ≡ true → seen_as None s ≡ client_waits)
 
 abbrev SeenPlain : Seen → Type 0
 SeenPlain s = (s.label ≡ None) × (s.waiting ≡ true → s ≡ client_waits)
@@ -32,37 +32,26 @@ plain_at [] i s is all = absurd cc
 plain_at (x ∷ xs) zero s is all = subst IsPlain (same_Some x s is) (All-head IsPlain x xs all)
 plain_at (x ∷ xs) (suc i) s is all = plain_at xs i s is (All-tail IsPlain x xs all)
 
-seen_plain : (o : Option Stream) (s : Seen) → option_map seen o ≡ Some s → ((x : Stream) → o ≡ Some x → IsPlain x) → SeenPlain s
-seen_plain None s is plain = absurd cc
-seen_plain (Some x) s is plain = subst SeenPlain (same_Some (seen x) s is) (plain x refl)
+seen_plain : (h : HostContents) (id : ℕ) (o : Option Stream) (s : Seen) → option_map (seen h id) o ≡ Some s → ((x : Stream) → o ≡ Some x → IsPlain x)
+    → SeenPlain s
+seen_plain h id None s is plain = absurd cc
+seen_plain h id (Some x) s is plain =
+    let unlabelled : seen h id x ≡ seen_as None x = ap (λ (o : Option Flow). seen_as (option_map (connection_in h id) o) x) (plain x refl).0 in
+    subst SeenPlain (sym unlabelled ∙ same_Some (seen h id x) s is) (refl, (plain x refl).1)
 
 module _ (h : HostContents) (unlabelled : IsUnlabelled h) where
   there_plain : (b : Bool) (id : ℕ) (s : Stream) → cond b None (slice_get h.streams (id - 1)) ≡ Some s → IsPlain s
   there_plain true id s is = absurd cc
-  there_plain false id s is = plain_at h.streams (id - 1) s is unlabelled
+  there_plain false id s is = plain_at h.streams (id - 1) s is unlabelled.1
 
   plain : (id : ℕ) (s : Seen) → look h id ≡ Some s → SeenPlain s
-  plain id s is = seen_plain (stream_at id h) s is (λ x there. there_plain (id == 0) id x there)
-
-  none_labelled : (id : ℕ) (s : Seen) (f : Flow) → look h id ≡ Some s → s.label ≡ Some f → ⊥
-  none_labelled id s f is label = let no : ◌≡◌ {A = Option Flow} None (Some f) = sym (plain id s is).0 ∙ label in cc
+  plain id s is = seen_plain h id (stream_at id h) s is (λ x there. there_plain (id == 0) id x there)
 
   begins_streamed : (port : ℕ) (t : Table DeviceConnection) → t.entries ≡ [] → IsStreamed h [] port t []
-  begins_streamed port t empty = record {
-    joined = subst (λ (es : List DeviceEntry). All (IsJoined (look h) []) es) (sym empty) (λ i e within. absurd (omega (arith, within)));
-    tabled = λ id s f there label. absurd (none_labelled id s f there label);
-    streams = record {
-      labels = λ id s f there label. absurd (none_labelled id s f there label);
-      unique = λ i j s u f a b p q. absurd (none_labelled i s f a p);
-      none = λ f without. refl;
-      waiting = λ id s there waits. (plain id s there).1 waits;
-      lines = record {
-        read = λ i h within. absurd (omega (arith, within));
-        undecided = λ i h within. absurd (omega (arith, within));
-        apart = λ i j h less within. absurd (omega (arith, within));
-      };
-    };
-  }
+  begins_streamed port t empty =
+      no_labels h port t empty unlabelled.0
+      (λ id s k is label. let no : ◌≡◌ {A = Option Connection} None (Some k) = sym (plain id s is).0 ∙ label in absurd cc)
+      (λ id s is waits. (plain id s is).1 waits)
 
 -- THE BEGINNING
 pub new_begun : (base : List ℕ) (a : Situation) (l : EndLog) → a.ring.log ≡ Some l → l.entries ≡ []

@@ -19,7 +19,6 @@ hosts = record {
   step = λ step w may asked fits was. step_hosts w was step may asked;
   plain = λ first log. ⊥;
   before = λ first entry log no. no;
-  once = λ first w was no. absurd no;
   idle = λ first p w was m fair no. absurd no;
 }
 

@@ -1,12 +1,12 @@
 -- What a run keeps of its device and its host, from when it began.
-use Rattle.std.specs.{Prelude.{◌≡◌, ◌≤◌, ℕ, true, false, Option, None}, List.All, Option.ForSome}
+use Rattle.std.specs.{Prelude.{◌≡◌, ◌≤◌, ℕ, true, false, [], Option, None}, List.All, Option.ForSome}
 use Rattle.laws_history.specs.declared.packet.Packet.{Packet}
 use Rattle.vs_limits.specs.declared.TheConstants.{FIRST_CID}
 use Rattle.vs_outside.specs.{Faults.one_more, Host.HostContents, Host.Stream, Host.is_waiting}
 use Rattle.vs_page.specs.{Log.Device, Log.packets_got, Open.is_dropped}
 use Rattle.vs_ring_port.specs.Contents.{RingContents}
 use Rattle.vs_device_parts.specs.Calls.{Situation}
-use Rattle.laws_device.specs.Carried.Streamed.{client_waits, seen}
+use Rattle.laws_device.specs.Carried.Streamed.{client_waits, seen_as}
 use Rattle.vs_proxy_parts.specs.State.{ProxyState}
 use Rattle.laws_proxy.specs.Honest.{IsProxyStreamed}
 
@@ -20,7 +20,7 @@ start_with contents faults = record { contents = contents; faults = faults }
 
 -- The proxy labelled no stream; and one that waits to be accepted is a client's, of which nothing was taken and which was given nothing.
 abbrev pub IsUnlabelled : HostContents → Type 0
-IsUnlabelled h = All (λ (s : Stream). (s.label ≡ None) × (is_waiting s ≡ true → seen s ≡ client_waits)) h.streams
+IsUnlabelled h = (h.labelled ≡ []) × All (λ (s : Stream). (s.label ≡ None) × (is_waiting s ≡ true → seen_as None s ≡ client_waits)) h.streams
 
 -- A packet that a device doesn't drop that knows its guest by this CID.
 abbrev pub IsKept : ℕ → Packet → Type 0

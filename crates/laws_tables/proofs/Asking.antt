@@ -5,11 +5,11 @@ use Rattle.vs_conn.specs.End.{ConnectionEnd, answering, asked, end_after, is_of,
 use Rattle.vs_flow.specs.{Flow.same_flow, declared.flow.Flow.Flow}
 use Rattle.vs_header.specs.declared.{Header.Header, Kind.Kind}
 use Rattle.laws_history.specs.{Again.count, Packets.is_request, Packets.is_rst, declared.packet.Packet.Packet}
-use Rattle.laws_history.specs.History.{Asker, Got, History, Put, puts}
+use Rattle.laws_history.specs.History.{Got, History, Put, puts}
 use Rattle.vs_limits.specs.declared.TheConstants.{BUF_ALLOC}
-use Rattle.vs_page.specs.{Open.is_dropped, Log.Log, Log.Role, Log.flow_got, Log.flow_put, Log.side_of, Log.whole_of}
+use Rattle.vs_page.specs.{Open.is_dropped, Log.Log, Log.Role, Log.flow_got, Log.flow_put, Log.whole_of}
 use Rattle.vs_page.specs.declared.log.LogEntry.TheVariants.{GotPacket, PutPacket}
-use Rattle.vs_page.proofs.Flows.{same_is, same_self}
+use Rattle.vs_page.proofs.Flows.{same_is}
 use Rattle.laws_tables.specs.Both.{Aborts, Asks, Decides, Decision, Forgets, Forwards, Grows, MakesReset, Opens, Pays, PutsEvent, Replies}
 use Rattle.laws_tables.specs.Both.{Seat, Sends, Shuts, Step, Takes, TakesEvent, TakesReset, WantsCredit, after, after_packet, answered}
 use Rattle.laws_tables.specs.{Both.{decided, new_seat}, Heard.own_port, Ends.{Ends, answer_kind, ends_of, is_new, replaced}, Steps.asking}

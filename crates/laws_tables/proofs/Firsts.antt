@@ -1,15 +1,15 @@
 -- Flows that are used once: all that passed on them is their present connection.
-use Rattle.vs_page.proofs.{Present.first_got, Present.first_put, Entries.present_is, Flows.same_self}
+use Rattle.vs_page.proofs.{Present.first_got, Present.first_put, Entries.present_is}
 use Rattle.vs_flow.specs.{Connection.first_of, declared.flow.Flow.Flow}
 use Rattle.std.proofs.Common.{◌≡◌, ℕ, zero, suc, ◌+◌, ◌≤◌, Bool, true, false, cond, ◌||◌, List, [], ◌∷◌, refl, sym, ap, subst, ◌∙◌, arith}
 use Rattle.std.proofs.lemmas.Grind.{common_steps}
 use Rattle.laws_history.specs.{Again.IsFairAll, Again.count, Again.present, Packets.has, Packets.is_request, declared.packet.Packet.Packet}
-use Rattle.laws_history.specs.History.{Answerer, Asker, Got, History, IsFair, MayPut, Put, Side, gots, is_begun, peer, puts}
+use Rattle.laws_history.specs.History.{Answerer, Asker, Got, History, IsFair, MayPut, Put, Side, gots, is_begun, puts}
 use Rattle.laws_history.proofs.Present.{fair_once}
-use Rattle.vs_page.specs.{Fair.{IsFairLog, IsFairOn, asked_by, number_of, payload_got, payload_of, payload_put}, Log.{Log, Role, flow_got}}
-use Rattle.vs_page.specs.{Log.{history_of, side_of, whole_of}, declared.log.LogEntry.TheVariants.GotPacket}
+use Rattle.vs_page.specs.{Fair.{IsFairOn, asked_by, number_of, payload_got, payload_of, payload_put}, Log.{Log, Role}}
+use Rattle.vs_page.specs.{Log.{history_of, side_of, whole_of}}
 use Rattle.laws_tables.specs.Heard.{heard_of}
-use Rattle.laws_tables.proofs.Fair.{fair_begun, fair_now, heard_puts, own_got_fair}
+use Rattle.laws_tables.proofs.Fair.{fair_begun, fair_now, heard_puts}
 
 -- A present connection without entries is that of a flow on which nothing passed.
 pub present_none : (w : History) → present w ≡ [] → w ≡ []
@@ -78,24 +78,6 @@ none_begun side w fair none = by (present w) refl (fair_once side w fair)
 pub asker_asks : (side : Side) (put got : List Packet) (p : Packet) → MayPut side put got p → is_request p ≡ true → side ≡ Asker
 asker_asks side put got p may asks = let t = may.timely in grind (arith, common_steps, asks, t)
 
--- It comes before all else on a flow that is used once.
-pub asked_first : (role : Role) (p : Packet) (log : Log) → IsFairLog role (GotPacket p ∷ log) → number_of role (flow_got role p) (GotPacket p ∷ log) ≤ 1
-    → is_request p ≡ true → whole_of role (flow_got role p) log ≡ []
-asked_first role p log fair few asks =
-    let f : Flow = flow_got role p in
-    let own = own_got_fair role p log (fair f) in
-    let theirs : peer (side_of role f) ≡ Asker = asker_asks (peer (side_of role f)) [] [] p (own.1.opens asks).1 asks in
-    none_begun (side_of role f) (whole_of role f log) own.0 (none (side_of role f) (whole_of role f log) theirs
-    (subst (λ (b : Bool). (let v : History = cond b (Got p ∷ whole_of role f log) (whole_of role f log) in asked_by (side_of role f) (puts v) (gots v)) ≤ 1) (same_self f) few))
-  where
-    by : (b : Bool) (n : ℕ) → b ≡ true → cond b (n + 1) n ≤ 1 → n ≡ 0
-    by true n is most = omega (arith, most)
-    by false n is most = absurd cc
-
-    none : (side : Side) (w : History) → peer side ≡ Asker → asked_by side (puts w) (p ∷ gots w) ≤ 1 → asked_by side (puts w) (gots w) ≡ 0
-    none Answerer w is most = by (is_request p) (count is_request (gots w)) asks most
-    none Asker w is most = absurd cc
-
 -- The present connection is all where there is one at most.
 pub once_present : (side : Side) (w : History) → IsFairAll side w → asked_by side (puts w) (gots w) ≤ 1 → present w ≡ w
 once_present side [] fair few = refl
@@ -149,7 +131,7 @@ put_begun role f log test fair is = by (number_of role f log) refl
     by (suc n) some = omega arith
 
 -- Where nothing was heard nothing passed, at an end that asks.
-no_present : (role : Role) (f : Flow) (log : Log) → history_of role f log ≡ [] → whole_of role f log ≡ []
+pub no_present : (role : Role) (f : Flow) (log : Log) → history_of role f log ≡ [] → whole_of role f log ≡ []
 no_present role f log none = present_none (whole_of role f log) (present_is role f log ∙ none)
 
 pub silent_whole : (role : Role) (first : ℕ) (f : Flow) (log : Log) → IsFairOn role f log → side_of role f ≡ Asker → heard_of role first f log ≡ []

@@ -1,7 +1,7 @@
--- Bytes on their way through a buffer, and the payload of a flow in a log.
-use Rattle.std.specs.Prelude.{◌≡◌, ℕ, ◌++◌, not, Bool, true, false, List}
+-- Bytes on their way through a buffer, the payload of a flow in a log, and bytes of one connection.
+use Rattle.std.specs.Prelude.{◌≡◌, ℕ, ◌++◌, ◌==◌, ◌&&◌, not, Bool, true, false, if◌then◌else◌, List, []}
 use Rattle.vs_conn.specs.{End.ConnectionEnd, declared.end.State.State, declared.end.State.TheVariants.Ended}
-use Rattle.vs_flow.specs.declared.flow.Flow.{Flow}
+use Rattle.vs_flow.specs.{Connection.Connection, Flow.same_flow, declared.flow.Flow.Flow}
 use Rattle.laws_history.specs.History.{gots, puts}
 use Rattle.laws_tables.specs.Heard.{is_empty}
 use Rattle.vs_page.specs.{Fair.IsPrefixOf, Fair.payload_of, Log.Log, Log.Role, Log.whole_of}
@@ -28,3 +28,10 @@ got_on role f log = payload_of (gots (whole_of role f log))
 
 abbrev pub has_passed : Role → Flow → Log → Bool
 has_passed role f log = not (is_empty (whole_of role f log))
+
+-- These bytes on one connection, and none on any other.
+abbrev pub is_same : Connection → Connection → Bool
+is_same c d = same_flow c.flow d.flow && (c.number == d.number)
+
+abbrev pub only_on : Connection → List ℕ → Connection → List ℕ
+only_on at bytes c = if is_same c at then bytes else []

@@ -1,4 +1,8 @@
 -- What a world that is well says of the bytes of its connections. Packets that the driver staged count as put.
+use Rattle.std.proofs.Common.{arith}
+use Rattle.std.proofs.lemmas.Option.{same_Some}
+use Rattle.laws_device.proofs.Carried.Hosts.{label_there}
+use Rattle.laws_rest.proofs.Hosts.{first_label}
 use Rattle.std.proofs.Common.{◌≡◌, ℕ, ◌≤◌, ◌++◌, ◌⊎◌, inl, inr, true, List, [], Contains, Some, sym, ap, subst, ◌∙◌}
 use Rattle.std.{proofs.lemmas.List.Elements.All-contains, specs.Option.option_map}
 use Rattle.vs_driver_parts.specs.State.{DriverEntry, GoneConnection}
@@ -8,9 +12,9 @@ use Rattle.laws_history.specs.{History.puts, Packets.has, Packets.shuts_send}
 use Rattle.vs_outside.specs.{Host.Stream, Host.stream_at, HostBytes.host_read, HostBytes.host_wrote}
 use Rattle.vs_page.specs.{Fair.{IsPrefixOf, payload_got, payload_put}, Log.{Device, Driver, Log, Role, history_of}}
 use Rattle.laws_tables.{specs.Both.Both, specs.Both.at, specs.Later.IsLater, proofs.Later.run_later, proofs.Later.stays_shut}
-use Rattle.laws_tables.specs.Drains.{Drains, got_on, put_on, receives}
-use Rattle.laws_tables.proofs.Firsts.{once_got, once_put, put_begun}
-use Rattle.laws_device.specs.Carried.Streamed.{IsJoined, Seen, gives, line_for, look, seen}
+use Rattle.laws_tables.specs.Drains.{Drains, put_on, receives}
+use Rattle.laws_tables.proofs.Firsts.{once_put, put_begun}
+use Rattle.laws_device.specs.Carried.Streamed.{IsJoined, Seen, connection_of, count_in, gives, line_for, look, seen}
 use Rattle.laws_world.specs.{Sides.both_of, World.World, World.first_cid}
 use Rattle.laws_rest.specs.Bytes.{BothEnds, CarryBytes}
 use Rattle.laws_rest.proofs.BothEnds as both
@@ -45,9 +49,6 @@ module _ {fresh : Type 0} (w : World) (well : IsWell fresh w) where
     sym (by_flow well.opened one_id id some w.journal well.agrees) ∙ ap (λ (g : Flow). received_on g w.journal) flow,
     is_first id some ∙ ap (λ (g : Flow). first_of g) flow,
   )
-
-  device_got : (f : Flow) → got_on Device f device ≡ payload_got Device (first_of f) device
-  device_got f = sym (once_got Device f device (well.sound.fair Device f) (both.once (both_of w) ends Device f))
 
   -- What the sends took is what the driver put. What was received is a prefix of what it got.
   pub sent_is : (f : Flow) → payload_put Driver (first_of f) guest ≡ sent_on f w.journal
@@ -94,32 +95,44 @@ module _ {fresh : Type 0} (w : World) (well : IsWell fresh w) where
   -- The streams of a host that had none at first.
   module _ (new : fresh) where
     pub wrote_is : (f : Flow) → payload_put Device (first_of f) device ≡ host_wrote (first_of f) w.host
-    wrote_is f = both.wrote_is (both_of w) ends w.host _ _ _ (well.streams new) f
+    wrote_is f = both.wrote_is (both_of w) ends w.host _ _ _ (well.streams new) (first_of f) (omega arith)
 
     pub given_is : (f : Flow) → IsPrefixOf (host_read (first_of f) w.host) (payload_got Device (first_of f) device)
-    given_is f = both.read_is (both_of w) ends w.host _ _ _ (well.streams new) f
+    given_is f = both.read_is (both_of w) ends w.host _ _ _ (well.streams new) (first_of f) (omega arith)
+
+    -- That is all that the device put on the flow.
+    pub wrote_all : (f : Flow) → host_wrote (first_of f) w.host ≡ put_on Device f device
+    wrote_all f = sym (wrote_is f) ∙ once_put Device f device (well.sound.fair Device f) (both.once (both_of w) ends Device f)
+
+    -- A stream with a label is the first connection of its flow.
+    pub its_first : (f : Flow) (i : ℕ) (s : Stream) → stream_at i w.host ≡ Some s → s.label ≡ Some f → (seen w.host i s).label ≡ Some (first_of f)
+    its_first f i s at label = first_label w.host _ _ _ _ (well.streams new) (λ g. both.once (both_of w) ends Device g) f i s at label
 
     pub carried : (f : Flow) → CarriesOn f w
-    carried f = both.carry (both_of w) ends w.host _ _ _ (well.streams new) f _ _ (record { puts = sent_is f; gets = received_is f })
+    carried f = both.carry (both_of w) ends w.host _ _ _ (well.streams new) (first_of f) (omega arith) _ _ (record { puts = sent_is f; gets = received_is f })
 
     pub one_stream : (f : Flow) (i j : ℕ) (s t : Stream) → stream_at i w.host ≡ Some s → stream_at j w.host ≡ Some t → s.label ≡ Some f → t.label ≡ Some f
         → i ≡ j
     one_stream f i j s t here there label other =
-        (well.streams new).streams.unique i j (seen s) (seen t) f (ap (option_map seen) here) (ap (option_map seen) there) label other
+        (well.streams new).streams.unique i j (seen w.host i s) (seen w.host j t) (first_of f) (ap (option_map (seen w.host i)) here)
+        (ap (option_map (seen w.host j)) there) (its_first f i s here label) (its_first f j t there other)
 
     pub pending_of : (e : DeviceEntry) → Contains w.proxy.device.table.entries e
         → (s : Stream) × (stream_at e.value.stream w.host ≡ Some s) × (s.label ≡ Some e.flow)
         × Drains (gives e.value.end) s.given (e.value.ok_line ++ e.value.pending) (line_for e.flow ++ payload_got Device (first_of e.flow) device)
     pending_of e there =
-        let j = All-contains (IsJoined (look w.host) device) w.proxy.device.table.entries e (well.streams new).joined there in
-        let st = is_there e.value.stream w.host j.stream j.there in (
+        let j = All-contains (IsJoined (look w.host) (count_in w.host) device) w.proxy.device.table.entries e (well.streams new).joined there in
+        let st = is_there e.value.stream w.host j.stream j.there in
+        let its = ap (λ (s : Seen). s.label) st.is ∙ j.label in
+        let label = (label_there w.host e.value.stream st.stream.label (connection_of e device) its).0 in
+        let first = same_Some (connection_of e device) (first_of e.flow) (sym its ∙ its_first e.flow e.value.stream st.stream st.at label) in (
           st.stream,
           st.at,
-          ap (λ (s : Seen). s.label) st.is ∙ j.label,
+          label,
           subst (λ (given : List ℕ). Drains (gives e.value.end) given (e.value.ok_line ++ e.value.pending)
               (line_for e.flow ++ payload_got Device (first_of e.flow) device)) (ap (λ (s : Seen). s.given) (sym st.is))
-              (subst (λ (bytes : List ℕ). Drains (gives e.value.end) j.stream.given (e.value.ok_line ++ e.value.pending) (line_for e.flow ++ bytes))
-              (device_got e.flow) j.drains),
+              (subst (λ (c : Connection). Drains (gives e.value.end) j.stream.given (e.value.ok_line ++ e.value.pending)
+              (line_for e.flow ++ payload_got Device c device)) first j.drains),
         )
 
 -- What an end put stays once it told that it sends no more.

@@ -6,14 +6,13 @@ use Rattle.laws_tables.proofs.{Fair.got_formed, Voices.AreVoiced, Voices.voices_
 use Rattle.laws_device.proofs.Seats.{Carried, PutsFit}
 use Rattle.laws_device.proofs.Carried.Cids.{dropped_empty}
 use Rattle.laws_world.proofs.Runs.{and_then, device_runs, got_before, keeps_sound, log_before}
-use Rattle.laws_world.{specs.Sides.Runs, specs.World.first_cid, proofs.Once.AreOnce, proofs.Once.both_ends, proofs.Once.keeps_once}
-use Rattle.laws_rest.proofs.BothEnds as both
+use Rattle.laws_world.specs.{Sides.Runs, World.first_cid}
 
 -- The CIDs of packets stay as the two ends go on.
 pub cids_kept : (first : ℕ) (b c : Both) → Runs b c → IsSound first b → AreVoiced first b → AreVoiced first c
 cids_kept first b c r s cids = subst (AreVoiced first) r.ends (voices_run first r.steps b s r.may cids)
 
-module _ (fresh : Type 0) (b : Both) (sound : IsSound first_cid b) (once : AreOnce b) (cids : AreVoiced first_cid b) where
+module _ (fresh : Type 0) (b : Both) (sound : IsSound first_cid b) (cids : AreVoiced first_cid b) where
   abbrev beside : Seat → Both
   beside w = record { driver = b.driver; device = w }
 
@@ -33,9 +32,6 @@ module _ (fresh : Type 0) (b : Both) (sound : IsSound first_cid b) (once : AreOn
     );
     plain = λ first log. HasGotAll log b.driver.log;
     before = λ first entry log got. log_before b.driver.log entry log got;
-    once = λ first w was got.
-        let runs = was.1 got in
-        both.once (beside w) (both_ends first_cid (beside w) (keeps_sound first_cid b (beside w) runs sound) (keeps_once first_cid b (beside w) runs sound once)) Device;
     idle = λ first p w was m fair got dropped e has given.
         let runs = was.1 (log_before b.driver.log (GotPacket p) w.log got) in
         dropped_empty first_cid (beside w) (keeps_sound first_cid b (beside w) runs sound) (cids_kept first_cid b (beside w) runs sound cids) p got.packets

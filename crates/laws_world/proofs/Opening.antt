@@ -161,7 +161,7 @@ module _ (n : ℕ) (host : HostContents) where
     overrun = refl;
     cids = subst (AreVoiced first_cid) opening_is (voices_start first_cid FIRST_PORT ASSIGNED_FIRST);
     once = subst AreOnce opening_is (start_once first_cid FIRST_PORT ASSIGNED_FIRST);
-    streams = λ fresh. no_streams host (opening n host).proxy.next_port (opening n host).proxy.device.table refl fresh.streams;
+    streams = λ fresh. no_streams host (opening n host).proxy.next_port (opening n host).proxy.device.table refl fresh.streams fresh.labelled;
     opened = (no_account 1).opened;
     right = subst (λ (log : Log). IsRightJournal 1 (no_account 1).opened [] log (slots_of (opening n host).driver)) (sym log_empty)
         (subst (λ (s : DriverState). IsRightJournal 1 (no_account 1).opened [] [] (slots_of s)) (sym new.state) (none_righted n FIRST_PORT 1));

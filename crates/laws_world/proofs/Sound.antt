@@ -33,7 +33,7 @@ use Rattle.laws_driver.specs.Carried.{Received.Account, Senders.IsRightJournal}
 use Rattle.laws_driver.proofs.Carried.{Making.made_with, Polling.IsFurther, Sending.puts_as}
 use Rattle.vs_flow.specs.{Connection.Connection, Table.Table}
 use Rattle.laws_device.specs.Carried.Streamed.{IsStreamed}
-use Rattle.laws_device.proofs.Carried.{Changing.StreamedIf, HostCalls.client_host, HostCalls.same_host, Hosts.unseen}
+use Rattle.laws_device.proofs.Carried.{Changing.StreamedIf, HostCalls.client_host, HostCalls.same_host, Hosts.counts_still, Hosts.unseen}
 use Rattle.vs_limits.specs.declared.TheConstants.{GUEST_CID_MIN, GUEST_CID_MAX, ASSIGNED_FIRST}
 use Rattle.laws_driver.proofs.{Carrying.{Carries, Fact, Holds, IsTiedBy, RestsWith}, Stepping.{Works, owed_with, publish_with, reply_with}}
 use Rattle.laws_driver.proofs.{Stepping.takes_with, Keeping.{Keeps, keeps_end, keeps_weaker}, Staging.{Rests, rests_tied}}
@@ -57,7 +57,7 @@ use Rattle.vs_outside.specs.declared.mem_stream.HostWritten.TheVariants as writt
 host_written : (id : ℕ) (bytes : List ℕ) (answer : HostWritten) (c : HostContents) (log : Log) (port : ℕ) (t : Table DeviceConnection) (hands : List Handshake)
     → IsStreamed c log port t hands → IsStreamed (after_host_write id bytes answer c) log port t hands
 host_written id bytes written.Ok c log port t hands x = same_host c (with_stream id (with_bytes bytes) c) log port t hands
-    (unseen id (with_bytes bytes) c (λ st. refl)) refl x
+    (unseen id (with_bytes bytes) c (λ st. refl) (λ o st. refl)) refl (counts_still id (with_bytes bytes) c (λ st. refl)) x
 host_written id bytes written.Ended c log port t hands x = x
 host_written id bytes written.NoStream c log port t hands x = x
 
@@ -263,7 +263,7 @@ module _ (fresh : Type 0) (w : World) (well : IsWell fresh w) where
 -- The device plays one, and so does the proxy.
 module _ (fresh : Type 0) (w : World) (well : IsWell fresh w) where
   abbrev pub carry : Carried
-  carry = carried fresh (both_of w) well.sound well.once well.cids
+  carry = carried fresh (both_of w) well.sound well.cids
 
   driver_fit : PutsFit w.rings.driver.entries
   driver_fit = first_fit w.rings.driver.staged.tx w.rings.driver.entries well.driver_puts
@@ -477,11 +477,14 @@ module _ (fresh : Type 0) (w : World) (well : IsWell fresh w) where
   happens_goes (HandshakeTimesOut stream) = proxy_goes_on (tick_handshake stream) (ticks kept first_cid stream (start w.proxy) here (proxied fresh w well 0))
   happens_goes (Reset cid) = possible fresh (is_guest_cid cid) (reset_made cid) w well (λ may.
       device_goes fresh w well (proxy_reset_of cid w.proxy) (λ r. r.0) (proxy_reset_keeps kept first_cid cid w.proxy here (guest_cid_fits cid may) (proxied fresh w well 0)))
-  happens_goes (HostListens port) = host_goes _ (λ ok. same_host w.host (after_listen port kind.Stream w.host) _ _ _ _ (λ j. refl) refl (well.streams ok))
-  happens_goes (HostUnlistens port) = host_goes _ (λ ok. same_host w.host (after_unlisten port kind.Stream w.host) _ _ _ _ (λ j. refl) refl (well.streams ok))
+  happens_goes (HostListens port) = host_goes _ (λ ok. same_host w.host (after_listen port kind.Stream w.host) _ _ _ _ (λ j. refl) refl (λ f. refl) (well.streams ok))
+  happens_goes (HostUnlistens port) = host_goes _ (λ ok. same_host w.host (after_unlisten port kind.Stream w.host) _ _ _ _ (λ j. refl) refl (λ f. refl) (well.streams ok))
   happens_goes ClientConnects = host_goes _ (λ ok. client_host w.host _ _ _ _ (well.streams ok))
   happens_goes (HostWrites stream bytes) = host_goes _ (λ ok. host_written stream bytes (host_write_answer stream w.host) w.host _ _ _ _ (well.streams ok))
-  happens_goes (HostTakes stream n) = host_goes _ (λ ok. same_host w.host (with_stream stream (allowed 18446744073709551615 n) w.host) _ _ _ _ (unseen stream (allowed 18446744073709551615 n) w.host (λ st. refl)) refl (well.streams ok))
-  happens_goes (HostEnds stream) = host_goes _ (λ ok. same_host w.host (with_stream stream ended w.host) _ _ _ _ (unseen stream ended w.host (λ st. refl)) refl (well.streams ok))
-  happens_goes (HostCloses stream) = host_goes _ (λ ok. same_host w.host (with_stream stream closed w.host) _ _ _ _ (unseen stream closed w.host (λ st. refl)) refl (well.streams ok))
-  happens_goes (HostFails n) = host_goes _ (λ ok. same_host w.host (after_fail n w.host) _ _ _ _ (λ j. refl) refl (well.streams ok))
+  happens_goes (HostTakes stream n) = host_goes _ (λ ok. same_host w.host (with_stream stream (allowed 18446744073709551615 n) w.host) _ _ _ _ (unseen stream (allowed 18446744073709551615 n) w.host (λ st. refl) (λ o st. refl)) refl
+      (counts_still stream (allowed 18446744073709551615 n) w.host (λ st. refl)) (well.streams ok))
+  happens_goes (HostEnds stream) = host_goes _ (λ ok. same_host w.host (with_stream stream ended w.host) _ _ _ _ (unseen stream ended w.host (λ st. refl) (λ o st. refl)) refl
+      (counts_still stream ended w.host (λ st. refl)) (well.streams ok))
+  happens_goes (HostCloses stream) = host_goes _ (λ ok. same_host w.host (with_stream stream closed w.host) _ _ _ _ (unseen stream closed w.host (λ st. refl) (λ o st. refl)) refl
+      (counts_still stream closed w.host (λ st. refl)) (well.streams ok))
+  happens_goes (HostFails n) = host_goes _ (λ ok. same_host w.host (after_fail n w.host) _ _ _ _ (λ j. refl) refl (λ f. refl) (well.streams ok))

@@ -92,8 +92,8 @@ impl Device {
         // Over an honest ring that tells its log the connections are those that the log left, and all that is put keeps the log fair.
         ensures honest { (first port : ℕ) → IsWith first port self.old (R.contents ring.old)
             → IsWith first port self.new (R.contents ring.new) }
-        // Where the guest uses no flow twice and no payload of an open connection is dropped for its CIDs, the payload put on each
-        // connection is what was taken of its stream, and its stream was given a prefix of its OK line and the payload got.
+        // Where no payload of an open connection is dropped for its CIDs, the payload put on each connection is what was taken of its
+        // stream, and its stream was given a prefix of its OK line and the payload got there; a guest may use a pair of ports again.
         ensures streamed { (first port : ℕ) (lines : List Handshake) → IsWith first port self.old (R.contents ring.old)
             → AreStreamedWith first port lines self.old.table (situation (R.contents ring.old) (H.contents host.old) (H.faults host.old))
             → AreStreamedWith first port lines self.new.table (situation (R.contents ring.new) (H.contents host.new) (H.faults host.new)) }

@@ -44,8 +44,8 @@ impl Proxy {
             → ForSome (H.contents host.new) (HasStreams (streams_of self.new) self.new.device.table) }
         // Over an honest ring that tells its log the connections are those that the log left, and all that is put keeps the log fair.
         ensures honest { (first : ℕ) → IsProxyWith first self.old (R.contents ring.old) → IsProxyWith first self.new (R.contents ring.new) }
-        // Where the guest uses no flow twice and no payload of an open connection is dropped for its CIDs, the payload put on each
-        // connection is what was taken of its stream, and its stream was given a prefix of its OK line and the payload got.
+        // Where no payload of an open connection is dropped for its CIDs, the payload put on each connection is what was taken of its
+        // stream, and its stream was given a prefix of its OK line and the payload got there; a guest may use a pair of ports again.
         ensures streamed { (first : ℕ) → IsProxyWith first self.old (R.contents ring.old)
             → IsProxyStreamed first self.old (situation (R.contents ring.old) (H.contents host.old) (H.faults host.old))
             → IsProxyStreamed first self.new (situation (R.contents ring.new) (H.contents host.new) (H.faults host.new)) }
@@ -130,8 +130,8 @@ impl Proxy {
             → ForSome (H.contents host.new) (HasStreams (streams_of self.new) self.new.device.table) }
         // Over an honest ring that tells its log the connections are those that the log left, and all that is put keeps the log fair.
         ensures honest { (first : ℕ) → IsProxyWith first self.old (R.contents ring.old) → IsProxyWith first self.new (R.contents ring.new) }
-        // Where the guest uses no flow twice and no payload of an open connection is dropped for its CIDs, the payload put on each
-        // connection is what was taken of its stream, and its stream was given a prefix of its OK line and the payload got.
+        // Where no payload of an open connection is dropped for its CIDs, the payload put on each connection is what was taken of its
+        // stream, and its stream was given a prefix of its OK line and the payload got there; a guest may use a pair of ports again.
         ensures streamed { (first : ℕ) → IsProxyWith first self.old (R.contents ring.old)
             → IsProxyStreamed first self.old (situation (R.contents ring.old) (H.contents host.old) (H.faults host.old))
             → IsProxyStreamed first self.new (situation (R.contents ring.new) (H.contents host.new) (H.faults host.new)) }

@@ -1,10 +1,11 @@
 -- What the host's streams took and gave, through the small changes of the device.
 use Rattle.vs_flow.specs.{Table.{IsTable, Table, entry_of, with_value, without}, Flow.{is_assigned, same_flow}, declared.flow.Flow.Flow}
-use Rattle.vs_flow.proofs.{Entries.none_found, Tables.with_value_sound}
-use Rattle.std.proofs.Common.{◌≡◌, ℕ, ◌+◌, ◌-◌, ◌≤◌, ◌==◌, ◌&&◌, nat_le, Bool, true, false, cond, List, [], ◌∷◌, ◌++◌, length, take, drop}
-use Rattle.std.proofs.Common.{Contains, Option, Some, None, refl, sym, ap, subst, ◌∙◌, arith, slice_get}
+use Rattle.vs_flow.specs.Connection.{Connection}
+use Rattle.vs_flow.proofs.Entries.{same_flow_true}
+use Rattle.std.proofs.Common.{◌≡◌, ◌≢◌, ℕ, ◌+◌, ◌-◌, ◌≤◌, ◌==◌, ◌&&◌, nat_le, Bool, true, false, cond, List, [], ◌∷◌, ◌++◌, length, take, drop}
+use Rattle.std.proofs.Common.{Contains, Option, Some, None, refl, sym, ap, subst, ◌∙◌, arith, slice_get, get_or, ◌⊎◌, inl, inr}
 use Rattle.std.{proofs.lemmas.Bool.Decides.nat_tests, proofs.lemmas.Grind.common_steps, proofs.lemmas.List.append-nil}
-use Rattle.std.{proofs.Math.Seq.drop-nil, proofs.Math.Seq.take-nil, specs.List.All, specs.Option.option_map}
+use Rattle.std.{proofs.Math.Seq.drop-nil, proofs.Math.Seq.take-nil, specs.List.All, specs.List.filter, specs.Option.option_map, specs.Option.option_map_or}
 use Rattle.vs_conn.specs.End.{ConnectionEnd, end_after, is_of, is_reset, verdict_of, with_shut, with_payload_sent}
 use Rattle.vs_conn.{specs.declared.end.Verdict.Verdict, proofs.Frames.got_asked}
 use Rattle.vs_device_parts.specs.Connections.{after_shut, after_written, cut_off}
@@ -12,21 +13,26 @@ use Rattle.vs_device_parts.specs.{State.DeviceConnection, State.DeviceEntry, Tra
 use Rattle.laws_device.proofs.Carried.Gives.{drop_both, first_of, forwards_asked, forwards_gives, accepted_other, accepts_asked}
 use Rattle.laws_device.proofs.Carried.Gives.{accepts_response, answered_host, comes_behind, delivered_other, delivers_gives, gives_delivered}
 use Rattle.laws_device.proofs.Carried.Gives.{goes_host, hears_gives, kept_empty, response_empty, shut_gives, shuts_asked, unanswered_got}
-use Rattle.laws_device.proofs.Carried.{HostCalls.{read_host, write_host, cut_host, same_host}, Streamed.{join_of, left_streamed}}
-use Rattle.laws_device.proofs.Carried.{Streamed.{passed_streamed, same_streamed}, Tabled.value_contained, Hosts.unseen}
-use Rattle.laws_device.specs.Carried.Streamed.{IsJoined, IsStreamed, gives, line_for, look, seen, Seen}
-use Rattle.laws_history.specs.{Packets.{has, is_request, is_response, is_rw}, History.{Answerer, Asker, Got, History, IsFair, Side, gots}}
+use Rattle.laws_device.proofs.Carried.{HostCalls.{read_host, write_host, closed_left, same_ends, same_host}, Streamed.{join_of, left_streamed}}
+use Rattle.laws_device.proofs.Carried.{Streamed.{StaysStill, passed_streamed, same_connection_of, same_streamed}, Opens.none_apart}
+use Rattle.laws_device.proofs.Carried.Hosts.{counts_kept, counts_still, look_kept, unseen}
+use Rattle.laws_device.proofs.Carried.Counted.{comes_on, counted_asks, counted_got, counted_put, number_elsewhere, number_put_elsewhere, put_still}
+use Rattle.laws_device.proofs.Carried.{Counted.request_put, Gives.forwards_old, Gives.shuts_old, Gives.stays_old}
+use Rattle.laws_device.specs.Carried.Streamed.{client_waits}
+use Rattle.laws_device.specs.Carried.Streamed.{AreCounted, IsCounted, IsJoined, IsStreamed, connection_of, count_in, gives, line_for, look, seen, Seen}
+use Rattle.laws_history.specs.{Packets.{has, is_clean_rst, is_request, is_response, is_rw}, History.{Answerer, Asker, Got, History, IsFair, Side, gots}}
 use Rattle.laws_history.specs.{History.{puts, MayPut, peer}, declared.packet.Packet.Packet, Again.AllowsNow}
 use Rattle.laws_tables.{specs.Steps.payload_on, proofs.Fair.fair_now, proofs.Fair.own_got_fair}
-use Rattle.laws_tables.proofs.Logs.{got_after_got, got_after_put, none_on_any, only_on, passed_after_got, passed_after_put, put_after_got}
-use Rattle.laws_tables.proofs.{Logs.put_after_put, Goes.comes_out, Goes.Goes, Goes.drops, Goes.stays_still, Changes.without_changed}
-use Rattle.laws_tables.specs.Drains.{Drains, got_on, put_on}
+use Rattle.laws_tables.proofs.Adding.{got_over_put, number_got, number_put, put_adds, put_nothing, put_over_got}
+use Rattle.laws_tables.proofs.{Logs.none_on_any, Goes.comes_out, Goes.Goes, Goes.drops, Goes.stays_still, Changes.without_changed}
+use Rattle.laws_tables.specs.{Drains.Drains, Drains.only_on, Ends.is_new}
 use Rattle.vs_outside.specs.Host.{after_close, after_failed, after_read, after_shut_write, after_write, called, dial_answer, fails_now}
-use Rattle.vs_outside.specs.Host.{is_listened, next_bytes, HostContents, with_shut_write_call, Stream}
+use Rattle.vs_outside.specs.{Host.{is_listened, next_bytes, HostContents, with_shut_write_call, Stream}, HostBytes.is_labelled}
 use Rattle.vs_outside.proofs.Frames.{stream_at-after_failed}
 use Rattle.vs_page.specs.{Held.{IsWhole, packet_held, packet_with, payload_held}, Log.{Device, Log, flow_got, flow_put, history_of}}
-use Rattle.vs_page.specs.{Log.{side_of, whole_of}, declared.log.LogEntry.TheVariants.{GotPacket, Mark, PutEvent, PutPacket}}
-use Rattle.vs_page.{specs.Fair.IsFairLog, specs.Fair.payload_of, specs.Fair.IsFairOn, proofs.Flows.same_self}
+use Rattle.vs_page.specs.{Log.{side_of}, declared.log.LogEntry.TheVariants.{GotPacket, Mark, PutEvent, PutPacket}}
+use Rattle.vs_page.specs.Fair.{IsFairLog, IsFairOn, asked_by, current, instance_from, number_of, payload_got, payload_of, payload_put}
+use Rattle.vs_page.{specs.Log.side_by, proofs.Flows.same_self, proofs.Present.present_got}
 use Rattle.vs_header.specs.{Packet.header_of, declared.Header.Header, declared.Kind.Kind}
 use Rattle.vs_proxy_parts.specs.State.{Handshake}
 use Rattle.vs_uds.specs.ConnectLine.{connect_port, connect_step}
@@ -46,15 +52,8 @@ StreamedIf fresh c log port t hands = fresh → IsStreamed c log port t hands
 pub delivered_rw : (e : ConnectionEnd) (p : Packet) → verdict_of e p.header ≡ verdict.Deliver → is_rw p ≡ true
 delivered_rw e p is = grind (arith, nat_tests, common_steps, is)
 
-pub request_empty : (p : Packet) → is_request p ≡ true → is_rw p ≡ false
-request_empty p is = grind (arith, nat_tests, common_steps, is)
-
 pub reset_empty : (kind : Kind) (p : Packet) → (is_reset p.header && is_of kind p.header) ≡ true → is_rw p ≡ false
 reset_empty kind p is = grind (arith, nat_tests, common_steps, is)
-
-pub got_nothing : (p : Packet) (log : Log) → p.payload ≡ [] → (f : Flow) → got_on Device f log ≡ got_on Device f (GotPacket p ∷ log)
-got_nothing p log none f = sym (got_after_got Device p log f
-    ∙ ap (λ (bytes : List ℕ). got_on Device f log ++ only_on (flow_got Device p) bytes f) none ∙ none_on_any (flow_got Device p) f (got_on Device f log))
 
 -- The payload of a page that holds an RW.
 payload_by : (h : Header) (p : Packet) (o : Option (List ℕ)) → option_map (λ payload. record { header = h; payload = payload }) o ≡ Some p
@@ -85,12 +84,18 @@ no_request p is = grind (arith, nat_tests, common_steps, is)
 -- Calls on the host that fail, and the id of a stream that is dialed.
 pub failed_host : (c : HostContents) (log : Log) (port : ℕ) (t : Table DeviceConnection) (hands : List Handshake) → IsStreamed c log port t hands
     → IsStreamed (after_failed c) log port t hands
-failed_host c log port t hands x = same_host c (after_failed c) log port t hands (λ j. sym (ap (option_map seen) (stream_at-after_failed j c)))
-    (labelled_by (fails_now c)) x
+failed_host c log port t hands x = same_host c (after_failed c) log port t hands
+    (λ j. look_kept c (after_failed c) list_is same_labels j (stream_at-after_failed j c)) list_is (counts_kept c (after_failed c) list_is same_labels) x
   where
     labelled_by : (b : Bool) → (cond b (called c) (record (called c) { starved = true })).labelled ≡ c.labelled
     labelled_by true = refl
     labelled_by false = refl
+
+    list_is : (after_failed c).labelled ≡ c.labelled
+    list_is = labelled_by (fails_now c)
+
+    same_labels : (f : Flow) (j : ℕ) → is_labelled f (after_failed c) j ≡ is_labelled f c j
+    same_labels f j = ap (λ (o : Option Stream). option_map_or (λ s. option_map_or (same_flow f) s.label false) o false) (stream_at-after_failed j c)
 
 pub dialed_id : (path : List ℕ) (stream : ℕ) (c : HostContents) → dial_answer path c ≡ dialed.Stream stream → stream ≡ length c.streams + 1
 dialed_id path stream c is = by (fails_now c) (is_listened path c) is
@@ -101,61 +106,140 @@ dialed_id path stream c is = by (fails_now c) (is_listened path c) is
     by false false is = absurd cc
     by false true is = cc
 
--- A packet without payload was put.
+-- A packet without payload was put that is no REQUEST: one that isn't marked, or one of a connection.
+abbrev pub MayFollow : Table DeviceConnection → Packet → Type 0
+MayFollow t p = (is_clean_rst p ≡ false) ⊎ ((e : DeviceEntry) × Contains t.entries e × (flow_put Device p ≡ e.flow))
+
 pub put_empty : (c : HostContents) (log : Log) (port : ℕ) (t : Table DeviceConnection) (hands : List Handshake) (p : Packet) → p.payload ≡ []
-    → IsStreamed c log port t hands → IsStreamed c (PutPacket p ∷ log) port t hands
-put_empty c log port t hands p none x = same_streamed (look c) (look c) c.labelled log (PutPacket p ∷ log) port (λ id. refl)
-    (λ f. sym (put_after_put Device p log f ∙ ap (λ (bytes : List ℕ). put_on Device f log ++ only_on (flow_put Device p) bytes f) none
-    ∙ none_on_any (flow_put Device p) f (put_on Device f log))) (λ f. sym (got_after_put Device p log f)) (passed_after_put Device p log) t hands x
+    → is_request p ≡ false → MayFollow t p → IsStreamed c log port t hands → IsStreamed c (PutPacket p ∷ log) port t hands
+put_empty c log port t hands p none plain may x = same_streamed (look c) (look c) c.labelled (count_in c) log (PutPacket p ∷ log) port (λ id. refl)
+    (put_still_by may) t hands x
+  where
+    -- Each REQUEST of the flow has its stream, where the flow has a connection.
+    all_by : (b : Bool) (n m : ℕ) → cond b (m + 1) m ≡ n → n ≤ m → n ≡ m
+    all_by true n m newest most = absurd (omega (arith, newest, most))
+    all_by false n m newest most = sym newest
+
+    counted_by : (b : Bool) (f : Flow) (new : Bool) → is_assigned f.host ≡ b → cond new (number_of Device f log + 1) (number_of Device f log) ≡ count_in c f
+        → (is_assigned f.host ≡ false → count_in c f ≡ number_of Device f log)
+    counted_by b f new is newest outside =
+        let counted = subst (λ (b : Bool). IsCounted b (count_in c f) (number_of Device f log) (has is_clean_rst (puts (history_of Device f log)))) outside
+        (x.streams.counted f) in
+        all_by new (count_in c f) (number_of Device f log) newest counted.0
+
+    put_still_by : MayFollow t p → StaysStill (count_in c) log (PutPacket p ∷ log)
+    put_still_by (inl unmarked) = put_still p log (count_in c) none plain (λ guest. inl unmarked)
+    put_still_by (inr (e, there, flow)) =
+        let j = join_of (look c) c.labelled (count_in c) log port t hands x e there in
+        put_still p log (count_in c) none plain (λ guest. inr (subst (λ (f : Flow). is_assigned f.host ≡ false → count_in c f ≡ number_of Device f log) (sym flow)
+        (counted_by (is_assigned e.flow.host) e.flow (is_new e.value.end) refl j.newest) guest))
+
+-- A REQUEST was put or got on a connection before and after a packet that is none: it keeps its number.
+both_old : (log new : Log) (e : DeviceEntry) (v : DeviceConnection) → is_new v.end ≡ false → is_new e.value.end ≡ false
+    → number_of Device e.flow log ≡ number_of Device e.flow new → connection_of (record e { value = v }) new ≡ connection_of e log
+both_old log new e v now old number =
+    ap (λ (b : Bool). let c : Connection = record { flow = e.flow; number = cond b (number_of Device e.flow new + 1) (number_of Device e.flow new) } in c) (now ∙ sym old)
+    ∙ sym (same_connection_of log new e number)
+
+-- Such a connection is the present one of its flow.
+present_old : (log : Log) (e : DeviceEntry) → is_new e.value.end ≡ false → current Device e.flow log ≡ connection_of e log
+present_old log e old =
+    ap (λ (b : Bool). let c : Connection = record { flow = e.flow; number = cond b (number_of Device e.flow log + 1) (number_of Device e.flow log) } in c) (sym old)
+
+-- A packet that isn't a REQUEST where it is of a connection's flow leaves the connection's number.
+number_kept : (p : Packet) (log : Log) (f : Flow) → (f ≡ flow_got Device p → is_request p ≡ false) → number_of Device f log ≡ number_of Device f (GotPacket p ∷ log)
+number_kept p log f plain = by (same_flow f (flow_got Device p)) refl
+  where
+    by : (b : Bool) → same_flow f (flow_got Device p) ≡ b → number_of Device f log ≡ number_of Device f (GotPacket p ∷ log)
+    by true same = sym (number_got Device p log f (plain (same_flow_true f (flow_got Device p) same)))
+    by false other = number_elsewhere p log f (λ same. never (sym (same_self f) ∙ ap (same_flow f) same ∙ other))
+      where
+        never : true ≡ false → ⊥
+        never is = cc
 
 module _ (c : HostContents) (log : Log) (port : ℕ) (t : Table DeviceConnection) (hands : List Handshake) (x : IsStreamed c log port t hands) (sound : IsTable t) where
   -- A connection decides something.
   pub decides_streams : (e : DeviceEntry) → Contains t.entries e → (k : DeviceConnection) → k.stream ≡ e.value.stream → k.by_client ≡ e.value.by_client
-      → k.closed ≡ e.value.closed → Goes (gives e.value.end) (gives k.end) (e.value.ok_line ++ e.value.pending)
+      → k.closed ≡ e.value.closed → is_new k.end ≡ is_new e.value.end → Goes (gives e.value.end) (gives k.end) (e.value.ok_line ++ e.value.pending)
       (k.ok_line ++ k.pending) [] []
       → (k.end.state ≡ state.Asked → e.value.end.state ≡ state.Asked) → (e.value.ok_line ≡ [] → k.ok_line ≡ []) → (e.value.pending ≡ [] → k.pending ≡ [])
       → IsStreamed c log port (with_value t e.slot k) hands
-  decides_streams e is k stream client closed goes asks ok pending =
-      goes_host c log log port t hands x sound e is k stream client closed [] (λ f. refl)
-      (λ f. sym (none_on_any e.flow f (got_on Device f log))) (λ f on. on)
+  decides_streams e is k stream client closed new goes asks ok pending =
+      goes_host c log log port t hands x sound e is k stream client closed [] (λ d. refl)
+      (λ d. sym (none_on_any (connection_of e log) d (payload_got Device d log))) (same_ends log e k new) (λ f other. refl) (λ f y. y)
       goes (λ on. (asks on, ok, pending))
 
-  pub cuts_streams : (e : DeviceEntry) → Contains t.entries e → e.value.closed ≡ true
+  pub cuts_streams : (e : DeviceEntry) → Contains t.entries e → is_new e.value.end ≡ false → e.value.closed ≡ true
       → IsStreamed c log port (with_value t e.slot (cut_off e.value)) hands
-  cuts_streams e is shut = decides_streams e is (cut_off e.value) refl refl (sym shut)
+  cuts_streams e is old shut = decides_streams e is (cut_off e.value) refl refl (sym shut) (sym old)
       (drops (gives e.value.end) (e.value.ok_line ++ e.value.pending) [])
       (λ on. absurd cc) (λ none. refl) (λ none. refl)
 
-  pub shuts_streams : (e : DeviceEntry) (bits now : ℕ) → Contains t.entries e → IsStreamed c log port (with_value t e.slot (after_shut bits now e.value)) hands
-  shuts_streams e bits now is = decides_streams e is (after_shut bits now e.value) refl refl refl
+  pub shuts_streams : (e : DeviceEntry) (bits now : ℕ) → Contains t.entries e → is_new e.value.end ≡ false
+      → IsStreamed c log port (with_value t e.slot (after_shut bits now e.value)) hands
+  shuts_streams e bits now is old = decides_streams e is (after_shut bits now e.value) refl refl refl
+      (shuts_old e.value.end bits old ∙ sym old)
       (shut_gives e.value.end bits e.value.ok_line e.value.pending)
       (shuts_asked e.value.end bits) (kept_empty (with_shut e.value.end bits).own.receive e.value.ok_line)
       (kept_empty (with_shut e.value.end bits).own.receive e.value.pending)
 
   -- Its end alone changes.
   pub ends_streams : (e : DeviceEntry) → Contains t.entries e → (k : DeviceConnection) → k.stream ≡ e.value.stream → k.by_client ≡ e.value.by_client
-      → k.closed ≡ e.value.closed → (k.ok_line ≡ e.value.ok_line) → k.pending ≡ e.value.pending
+      → k.closed ≡ e.value.closed → is_new k.end ≡ is_new e.value.end → (k.ok_line ≡ e.value.ok_line) → k.pending ≡ e.value.pending
       → (gives k.end ≡ true → gives e.value.end ≡ true)
       → (k.end.state ≡ state.Asked → e.value.end.state ≡ state.Asked) → IsStreamed c log port (with_value t e.slot k) hands
-  ends_streams e is k stream client closed ok pending less asks = decides_streams e is k stream client closed
+  ends_streams e is k stream client closed new ok pending less asks = decides_streams e is k stream client closed new
       (subst (λ (line : List ℕ). Goes (gives e.value.end) (gives k.end) (e.value.ok_line ++ e.value.pending) (line ++ k.pending) [] []) (sym ok)
       (subst (λ (bytes : List ℕ). Goes (gives e.value.end) (gives k.end) (e.value.ok_line ++ e.value.pending) (e.value.ok_line ++ bytes) [] []) (sym pending)
       (stays_still (gives e.value.end) (gives k.end) (e.value.ok_line ++ e.value.pending) [] less (λ on. refl)))) asks (λ none. ok ∙ none) (λ none. pending ∙ none)
 
-  -- A packet came.
-  module _ (p : Packet) (whole : IsWhole p) where
-    put_same : (f : Flow) → put_on Device f log ≡ put_on Device f (GotPacket p ∷ log)
-    put_same f = sym (put_after_got Device p log f)
+  -- Its REQUEST is put.
+  pub asks_streams : (e : DeviceEntry) → Contains t.entries e → (k : DeviceConnection) → k.stream ≡ e.value.stream → k.by_client ≡ e.value.by_client
+      → k.closed ≡ e.value.closed → is_new e.value.end ≡ true → is_new k.end ≡ false → (k.ok_line ≡ e.value.ok_line) → k.pending ≡ e.value.pending
+      → (gives k.end ≡ true → gives e.value.end ≡ true) → (k.end.state ≡ state.Asked → e.value.end.state ≡ state.Asked)
+      → (p : Packet) → is_request p ≡ true → p.payload ≡ [] → flow_put Device p ≡ e.flow → e.value.by_client ≡ true
+      → IsStreamed c (PutPacket p ∷ log) port (with_value t e.slot k) hands
+  asks_streams e is k stream client closed was now ok pending less asks p request none flow by_client =
+      let its : Connection = connection_of e log in
+      let j = join_of (look c) c.labelled (count_in c) log port t hands x e is in
+      let own : is_assigned e.flow.host ≡ true = sym j.client ∙ by_client in
+      let after : connection_of (record e { value = k }) (PutPacket p ∷ log) ≡ its =
+      ap (λ (b : Bool). let d : Connection = record { flow = e.flow; number = cond b (number_of Device e.flow (PutPacket p ∷ log) + 1) (number_of Device e.flow (PutPacket p ∷ log)) } in d) now
+      ∙ ap (λ (n : ℕ). let d : Connection = record { flow = e.flow; number = n } in d) (request_put p log e.flow request (sym flow) own)
+      ∙ ap (λ (b : Bool). let d : Connection = record { flow = e.flow; number = cond b (number_of Device e.flow log + 1) (number_of Device e.flow log) } in d) (sym was) in
+      let next : number_of Device e.flow log + 1 ≡ count_in c e.flow =
+      ap (λ (b : Bool). cond b (number_of Device e.flow log + 1) (number_of Device e.flow log)) (sym was) ∙ j.newest in
+      goes_host c log (PutPacket p ∷ log) port t hands x sound e is k stream client closed [] (put_nothing Device p log none)
+      (λ d. got_over_put Device p log d ∙ sym (none_on_any its d (payload_got Device d log))) after
+      (λ f other. number_put_elsewhere p log f (λ same. other (same ∙ flow)))
+      (counted_asks p log (count_in c) request (subst (λ (f : Flow). is_assigned f.host ≡ true) (sym flow) own)
+      (subst (λ (f : Flow). number_of Device f log + 1 ≤ count_in c f) (sym flow) (omega (arith, next))))
+      (subst (λ (line : List ℕ). Goes (gives e.value.end) (gives k.end) (e.value.ok_line ++ e.value.pending) (line ++ k.pending) [] []) (sym ok)
+      (subst (λ (bytes : List ℕ). Goes (gives e.value.end) (gives k.end) (e.value.ok_line ++ e.value.pending) (e.value.ok_line ++ bytes) [] []) (sym pending)
+      (stays_still (gives e.value.end) (gives k.end) (e.value.ok_line ++ e.value.pending) [] less (λ on. refl))))
+      (λ on. (asks on, (λ empty. ok ∙ empty), λ empty. pending ∙ empty))
 
-    module _ (e : DeviceEntry) (is : Contains t.entries e) (flow : flow_got Device p ≡ e.flow) where
-      got_here : (f : Flow) → got_on Device f (GotPacket p ∷ log) ≡ got_on Device f log ++ only_on e.flow p.payload f
-      got_here f = got_after_got Device p log f ∙ ap (λ (g : Flow). got_on Device f log ++ only_on g p.payload f) flow
+  -- A packet came, and the log is fair with it.
+  module _ (p : Packet) (whole : IsWhole p) (was : IsFairLog Device log) (fair : IsFairLog Device (GotPacket p ∷ log)) where
+    put_same : (d : Connection) → payload_put Device d log ≡ payload_put Device d (GotPacket p ∷ log)
+    put_same d = sym (put_over_got Device p log d)
+
+    module _ (e : DeviceEntry) (is : Contains t.entries e) (flow : flow_got Device p ≡ e.flow) (plain : is_request p ≡ false) (old : is_new e.value.end ≡ false) where
+      got_here : (d : Connection) → payload_got Device d (GotPacket p ∷ log) ≡ payload_got Device d log ++ only_on (connection_of e log) p.payload d
+      got_here d = comes_on p log whole was fair d
+          ∙ ap (λ (k : Connection). payload_got Device d log ++ only_on k p.payload d) (ap (λ (f : Flow). current Device f log) flow ∙ present_old log e old)
+
+      number_same : (f : Flow) → number_of Device f log ≡ number_of Device f (GotPacket p ∷ log)
+      number_same f = sym (number_got Device p log f plain)
+
+      heard_here : (v : DeviceConnection) → v.end ≡ end_after e.value.end p.header → connection_of (record e { value = v }) (GotPacket p ∷ log) ≡ connection_of e log
+      heard_here v end = both_old log (GotPacket p ∷ log) e v (ap is_new end ∙ stays_old e.value.end p.header old) old (number_same e.flow)
 
       pub hears_streams : (v : Verdict) → verdict_of e.value.end p.header ≡ v → (v ≡ verdict.Accept → ⊥) → (v ≡ verdict.Deliver → ⊥)
           → IsStreamed c (GotPacket p ∷ log) port (with_value t e.slot (heard p.header e.value)) hands
       hears_streams v now other undelivered = goes_host c log (GotPacket p ∷ log) port t hands x sound e is
           (heard p.header e.value) refl refl refl p.payload put_same
-          got_here (passed_after_got Device p log)
+          got_here (heard_here (heard p.header e.value) refl) (λ f apart. number_same f) (counted_got p log (count_in c))
           (stays_still (gives e.value.end) (gives (end_after e.value.end p.header)) (e.value.ok_line ++ e.value.pending) p.payload
           (hears_gives e.value.end p.header v now other) (λ on. whole.none (gives_delivered e.value.end p v now undelivered on)))
           (λ on. (got_asked e.value.end p.header on, (λ none. none), λ none. none))
@@ -164,7 +248,7 @@ module _ (c : HostContents) (log : Log) (port : ℕ) (t : Table DeviceConnection
           → IsStreamed c (GotPacket p ∷ log) port (with_value t e.slot (record (heard p.header e.value) { pending = e.value.pending ++ payload })) hands
       delivers_streams payload same now = goes_host c log (GotPacket p ∷ log) port t hands x sound e is
           (record (heard p.header e.value) { pending = e.value.pending ++ payload }) refl refl refl p.payload put_same got_here
-          (passed_after_got Device p log)
+          (heard_here (record (heard p.header e.value) { pending = e.value.pending ++ payload }) refl) (λ f apart. number_same f) (counted_got p log (count_in c))
           (subst (λ (bytes : List ℕ). Goes (gives e.value.end) (gives (end_after e.value.end p.header)) (e.value.ok_line ++ e.value.pending)
           (e.value.ok_line ++ (e.value.pending ++ bytes)) [] p.payload) (sym same)
           (comes_behind (gives e.value.end) (gives (end_after e.value.end p.header)) e.value.ok_line e.value.pending p.payload
@@ -172,15 +256,16 @@ module _ (c : HostContents) (log : Log) (port : ℕ) (t : Table DeviceConnection
           (λ on. absurd (delivered_other e.value.end p.header now on))
 
       -- RESPONSE, before which no payload came.
-      pub accepts_streams : IsFairLog Device (GotPacket p ∷ log) → history_of Device e.flow log ≡ whole_of Device e.flow log
-          → e.value.by_client ≡ is_assigned e.flow.host → (line : List ℕ)
+      pub accepts_streams : e.value.by_client ≡ is_assigned e.flow.host → (line : List ℕ)
           → line ≡ cond e.value.by_client (ok_text e.flow.host) [] → verdict_of e.value.end p.header ≡ verdict.Accept
           → IsStreamed c (GotPacket p ∷ log) port (with_value t e.slot (record (heard p.header e.value) { ok_line = line })) hands
-      accepts_streams fair first client line written now =
+      accepts_streams client line written now =
           answered_host c log (GotPacket p ∷ log) port t hands x sound e is (record (heard p.header e.value) { ok_line = line }) refl refl
           refl p.payload put_same got_here
-          (passed_after_got Device p log) (accepts_asked e.value.end p.header now)
-          (ap (λ (h : History). payload_of (gots h)) (sym first) ∙ nothing (side_of Device e.flow) (history_of Device e.flow log) (accepts_response e.value.end p now) older fair_here)
+          (heard_here (record (heard p.header e.value) { ok_line = line }) refl) (λ f apart. number_same f) (counted_got p log (count_in c))
+          (accepts_asked e.value.end p.header now)
+          (ap (λ (k : Connection). payload_got Device k log) (sym (present_old log e old)) ∙ present_got Device e.flow log (was e.flow)
+          ∙ nothing (side_of Device e.flow) (history_of Device e.flow log) (accepts_response e.value.end p now) older fair_here)
           (whole.none (response_empty p (accepts_response e.value.end p now))) (written ∙ ap (λ (b : Bool). cond b (ok_text e.flow.host) []) client) refl
           (accepted_other e.value.end p.header now)
         where
@@ -205,64 +290,63 @@ module _ (c : HostContents) (log : Log) (port : ℕ) (t : Table DeviceConnection
               never h response may = let timely = may.timely in absurd (grind (arith, nat_tests, common_steps, response, timely))
 
     -- On a flow none of whose connections is given it.
-    pub passes_streams : All (λ e. e.flow ≡ flow_got Device p → gives e.value.end ≡ true → p.payload ≡ []) t.entries → IsStreamed c (GotPacket p ∷ log) port t hands
-    passes_streams idle = passed_streamed (look c) c.labelled log (GotPacket p ∷ log) port t hands x (flow_got Device p) p.payload put_same
-        (got_after_got Device p log) (passed_after_got Device p log) idle
+    pub passes_streams : All (λ e. e.flow ≡ flow_got Device p → gives e.value.end ≡ true → p.payload ≡ []) t.entries
+        → All (λ e. e.flow ≡ flow_got Device p → is_request p ≡ false) t.entries → IsStreamed c (GotPacket p ∷ log) port t hands
+    passes_streams idle plain = passed_streamed (look c) c.labelled (count_in c) log (GotPacket p ∷ log) port t hands x (current Device (flow_got Device p) log)
+        p.payload put_same (comes_on p log whole was fair) (λ i e within. number_kept p log (get_or t.entries i e).flow (plain i e within))
+        (counted_got p log (count_in c)) idle
 
     pub unknown_streams : entry_of t (flow_got Device p) ≡ None → IsStreamed c (GotPacket p ∷ log) port t hands
-    unknown_streams none = passes_streams (λ i e within on.
-        let fails = none_found (λ (y : DeviceEntry). same_flow (flow_got Device p) y.flow) t.entries none i e within in
-        let both : true ≡ false = sym (same_self (flow_got Device p)) ∙ ap (λ (f : Flow). same_flow (flow_got Device p) f) (sym on) ∙ fails in
-        λ given. absurd (never both))
-      where
-        never : true ≡ false → ⊥
-        never is = cc
+    unknown_streams none = passes_streams (λ i e within on. absurd (none_apart t (flow_got Device p) none i e within on))
+        (λ i e within on. absurd (none_apart t (flow_got Device p) none i e within on))
 
-    pub empty_streams : is_rw p ≡ false → IsStreamed c (GotPacket p ∷ log) port t hands
-    empty_streams other = passes_streams (λ i e within on given. whole.none other)
+    pub empty_streams : is_rw p ≡ false → is_request p ≡ false → IsStreamed c (GotPacket p ∷ log) port t hands
+    empty_streams other plain = passes_streams (λ i e within on given. whole.none other) (λ i e within on. plain)
 
   -- A connection leaves, whose stream is closed or closes.
   pub leaves_streams : (e : DeviceEntry) → Contains t.entries e → e.value.closed ≡ true → (k : DeviceConnection)
       → IsStreamed c log port (without (with_value t e.slot k) e.slot) hands
   leaves_streams e is shut k = subst (λ (u : Table DeviceConnection). IsStreamed c log port u hands) (sym (without_changed t e.slot k))
-      (left_streamed (look c) c.labelled log port t hands x sound e is shut)
+      (left_streamed (look c) c.labelled (count_in c) log port t hands x sound e is shut)
 
   pub closes_streams : (e : DeviceEntry) → Contains t.entries e → (k : DeviceConnection)
       → IsStreamed (after_close e.value.stream c) log port (without (with_value t e.slot k) e.slot) hands
-  closes_streams e is k =
-      let cut : DeviceConnection = cut_off e.value in
-      subst (λ (u : Table DeviceConnection). IsStreamed (after_close e.value.stream c) log port u hands)
-      (without_changed t e.slot cut ∙ sym (without_changed t e.slot k))
-      (left_streamed (look (after_close e.value.stream c)) c.labelled log port (with_value t e.slot cut) hands
-      (cut_host c log port t hands x sound e is)
-      (with_value_sound t e.slot cut sound) (record e { value = cut }) (value_contained t sound e is cut) refl)
+  closes_streams e is k = subst (λ (u : Table DeviceConnection). IsStreamed (after_close e.value.stream c) log port u hands) (sym (without_changed t e.slot k))
+      (closed_left c log port t hands x sound e is)
 
   -- Bytes of its stream are read and put; its stream is given bytes.
-  pub reads_streams : (e : DeviceEntry) (is : Contains t.entries e) (n cid : ℕ) → let bytes = next_bytes e.value.stream n c in
-      IsStreamed (after_read e.value.stream (read.Got n) c) (PutPacket (payload_on Device cid e.flow e.value.end bytes) ∷ log) port
+  pub reads_streams : IsFairLog Device log → (e : DeviceEntry) (is : Contains t.entries e) → is_new e.value.end ≡ false → (n cid : ℕ)
+      → let bytes = next_bytes e.value.stream n c in IsFairLog Device (PutPacket (payload_on Device cid e.flow e.value.end bytes) ∷ log)
+      → IsStreamed (after_read e.value.stream (read.Got n) c) (PutPacket (payload_on Device cid e.flow e.value.end bytes) ∷ log) port
       (with_value t e.slot (record e.value { end = with_payload_sent e.value.end (length bytes) })) hands
-  reads_streams e is n cid =
+  reads_streams was e is old n cid fair =
       let bytes = next_bytes e.value.stream n c in
       let p = payload_on Device cid e.flow e.value.end bytes in
-      let j = join_of (look c) c.labelled log port t hands x e is in
-      read_host c log (PutPacket p ∷ log) port t hands x sound e is (record e.value { end = with_payload_sent e.value.end (length bytes) })
+      let j = join_of (look c) c.labelled (count_in c) log port t hands x e is in
+      let v : DeviceConnection = record e.value { end = with_payload_sent e.value.end (length bytes) } in
+      read_host c log (PutPacket p ∷ log) port t hands x sound e is v
       refl refl refl n bytes refl
-      (put_after_put Device p log) (λ f. sym (got_after_put Device p log f)) (passed_after_put Device p log) j.drains j.asked
+      (λ d. put_adds Device p log refl was fair d ∙ ap (λ (k : Connection). payload_put Device d log ++ only_on k bytes d) (present_old log e old))
+      (λ d. sym (got_over_put Device p log d))
+      (both_old log (PutPacket p ∷ log) e v old old (sym (number_put Device p log e.flow refl)))
+      (λ f. sym (number_put Device p log f refl))
+      (counted_put p log (count_in c) refl (λ guest. inl refl)) j.drains j.asked
 
-  pub writes_streams : (e : DeviceEntry) → Contains t.entries e → (n : ℕ) → n ≤ length (to_write e.value)
+  pub writes_streams : (e : DeviceEntry) → Contains t.entries e → is_new e.value.end ≡ false → (n : ℕ) → n ≤ length (to_write e.value)
       → IsStreamed (after_write e.value.stream (to_write e.value) (write.Took n) c) log port (with_value t e.slot (after_written n e.value)) hands
-  writes_streams e is n less =
-      let j = join_of (look c) c.labelled log port t hands x e is in
+  writes_streams e is old n less =
+      let j = join_of (look c) c.labelled (count_in c) log port t hands x e is in
+      let its : Connection = connection_of e log in
       let all = e.value.ok_line ++ e.value.pending in
       let k = after_written n e.value in
       let out = comes_out (gives e.value.end) (gives k.end) all n (forwards_gives e.value.end (n - length e.value.ok_line)) j.stream.given
-      (line_for e.flow ++ got_on Device e.flow log) j.drains in
-      write_host c log log port t hands x sound e is k refl refl refl n (to_write e.value)
-      (subst (λ (bytes : List ℕ). Drains (gives k.end) (j.stream.given ++ bytes) (k.ok_line ++ k.pending) (line_for e.flow ++ got_on Device e.flow log)) (sym (first_of n all less))
-      (subst (λ (bytes : List ℕ). Drains (gives k.end) (j.stream.given ++ take n all) bytes (line_for e.flow ++ got_on Device e.flow log))
+      (line_for e.flow ++ payload_got Device its log) j.drains in
+      write_host c log log port t hands x sound e is k refl refl refl n (to_write e.value) (same_ends log e k (forwards_old e.value.end (n - length e.value.ok_line) old ∙ sym old))
+      (subst (λ (bytes : List ℕ). Drains (gives k.end) (j.stream.given ++ bytes) (k.ok_line ++ k.pending) (line_for e.flow ++ payload_got Device its log)) (sym (first_of n all less))
+      (subst (λ (bytes : List ℕ). Drains (gives k.end) (j.stream.given ++ take n all) bytes (line_for e.flow ++ payload_got Device its log))
       (drop_both n e.value.ok_line e.value.pending)
       (subst (λ (bytes : List ℕ). Drains (gives k.end) (j.stream.given ++ take n all) (drop n all) bytes)
-      (append-nil (line_for e.flow ++ got_on Device e.flow log)) out)))
+      (append-nil (line_for e.flow ++ payload_got Device its log)) out)))
       (λ on. nothing e n j.stream.given (j.asked (forwards_asked e.value.end (n - length e.value.ok_line) on)))
     where
       nothing : (e : DeviceEntry) (n : ℕ) (given : List ℕ) → (given ≡ []) × (e.value.ok_line ≡ []) × (e.value.pending ≡ []) ×
@@ -281,23 +365,24 @@ module _ (c : HostContents) (log : Log) (port : ℕ) (t : Table DeviceConnection
 -- Calls on the host that change no bytes.
 pub called_host : (c : HostContents) (log : Log) (port : ℕ) (t : Table DeviceConnection) (hands : List Handshake) → IsStreamed c log port t hands
     → IsStreamed (called c) log port t hands
-called_host c log port t hands x = same_host c (called c) log port t hands (λ j. refl) refl x
+called_host c log port t hands x = same_host c (called c) log port t hands (λ j. refl) refl (λ f. refl) x
 
 pub shut_write_host : (id : ℕ) (c : HostContents) (log : Log) (port : ℕ) (t : Table DeviceConnection) (hands : List Handshake) → IsStreamed c log port t hands
     → IsStreamed (after_shut_write id c) log port t hands
 shut_write_host id c log port t hands x = same_host c (after_shut_write id c) log port t hands
-    (unseen id (λ s. record s { write_shut = true }) (with_shut_write_call c) (λ st. refl)) refl x
+    (unseen id (λ s. record s { write_shut = true }) (with_shut_write_call c) (λ st. refl) (λ o st. refl)) refl
+    (counts_still id (λ s. record s { write_shut = true }) (with_shut_write_call c) (λ st. refl)) x
 
 -- Entries that are no packets.
 pub event_streams : (c : HostContents) (log : Log) (id port : ℕ) (t : Table DeviceConnection) (hands : List Handshake) → IsStreamed c log port t hands
     → IsStreamed c (PutEvent id ∷ log) port t hands
-event_streams c log id port t hands x = same_streamed (look c) (look c) c.labelled log (PutEvent id ∷ log) port (λ j. refl) (λ f. refl) (λ f. refl)
-    (λ f on. on) t hands x
+event_streams c log id port t hands x = same_streamed (look c) (look c) c.labelled (count_in c) log (PutEvent id ∷ log) port (λ j. refl)
+    (record { put = λ d. refl; got = λ d. refl; number = λ f. refl; counted = λ f y. y }) t hands x
 
 pub mark_streams : (c : HostContents) (log : Log) (cid port : ℕ) (t : Table DeviceConnection) (hands : List Handshake) → IsStreamed c log port t hands
     → IsStreamed c (Mark cid ∷ log) port t hands
-mark_streams c log cid port t hands x = same_streamed (look c) (look c) c.labelled log (Mark cid ∷ log) port (λ j. refl) (λ f. refl) (λ f. refl)
-    (λ f on. on) t hands x
+mark_streams c log cid port t hands x = same_streamed (look c) (look c) c.labelled (count_in c) log (Mark cid ∷ log) port (λ j. refl)
+    (record { put = λ d. refl; got = λ d. refl; number = λ f. refl; counted = λ f y. y }) t hands x
 
 -- A line goes on, where it isn't decided.
 pub goes_on : (line : List ℕ) → connect_step line ≡ step.More → is_decided CONNECT_MAX line ≡ false
@@ -308,16 +393,23 @@ goes_on line is = by (is_decided 32 line) (connect_port line) is
     by true None is = absurd cc
     by true (Some port) is = absurd cc
 
--- A host without streams, and a table without connections.
-pub no_streams : (c : HostContents) (port : ℕ) (t : Table DeviceConnection) → t.entries ≡ [] → c.streams ≡ [] → IsStreamed c [] port t []
-no_streams c port t empty fresh = record {
-  joined = subst (λ (es : List DeviceEntry). All (IsJoined (look c) []) es) (sym empty) (λ i e within. absurd (omega (arith, within)));
-  tabled = λ id s f there label. absurd (none id s there);
+-- A host none of whose streams has a label, and a table without connections.
+pub no_labels : (c : HostContents) (port : ℕ) (t : Table DeviceConnection) → t.entries ≡ [] → c.labelled ≡ []
+    → ((id : ℕ) (s : Seen) (k : Connection) → look c id ≡ Some s → s.label ≢ Some k)
+    → ((id : ℕ) (s : Seen) → look c id ≡ Some s → s.waiting ≡ true → s ≡ client_waits) → IsStreamed c [] port t []
+no_labels c port t empty unlabelled none waits = record {
+  joined = subst (λ (es : List DeviceEntry). All (IsJoined (look c) (count_in c) []) es) (sym empty) (λ i e within. absurd (omega (arith, within)));
+  tabled = λ id s k there label. absurd (none id s k there label);
   streams = record {
-    labels = λ id s f there label. absurd (none id s there);
-    unique = λ i j s u f a b p q. absurd (none i s a);
-    none = λ f without. refl;
-    waiting = λ id s there waits. absurd (none id s there);
+    labels = λ id s k there label. absurd (none id s k there label);
+    unique = λ i j s u k a b p q. absurd (none i s k a p);
+    every = λ k some most.
+        let none_counted = ap (λ (ids : List ℕ). length (filter (is_labelled k.flow c) ids)) unlabelled in
+        absurd (omega (arith, some, most, none_counted));
+    listed = λ id within. absurd (nowhere (subst (λ (ids : List ℕ). Contains ids id) unlabelled within));
+    counted = λ f. subst (λ (ids : List ℕ). AreCounted (λ g. length (filter (is_labelled f c) ids)) [] f) (sym unlabelled) (empty_counted f);
+    none = λ k without. nothing_put (side_of Device k.flow) k.number;
+    waiting = waits;
     lines = record {
       read = λ i h within. absurd (omega (arith, within));
       undecided = λ i h within. absurd (omega (arith, within));
@@ -326,9 +418,28 @@ no_streams c port t empty fresh = record {
   };
 }
   where
-    by : (b : Bool) (id : ℕ) (s : Seen) → option_map seen (cond b None (slice_get {X = Stream} [] (id - 1))) ≡ Some s → ⊥
+    nowhere : {id : ℕ} → Contains [] id → ⊥
+    nowhere (k, less, is) = absurd (omega (arith, less))
+
+    nothing_put : (side : Side) (k : ℕ) → payload_of (instance_from side k []) ≡ []
+    nothing_put Asker k = refl
+    nothing_put Answerer k = refl
+
+    empty_counted : (f : Flow) → AreCounted (λ g. 0) [] f
+    empty_counted f = none_in (is_assigned f.host)
+      where
+        none_in : (b : Bool) → IsCounted b 0 (asked_by (side_by Device b) [] []) false
+        none_in true = (omega arith, omega arith)
+        none_in false = (omega arith, λ marked. absurd cc)
+
+-- A host without streams.
+pub no_streams : (c : HostContents) (port : ℕ) (t : Table DeviceConnection) → t.entries ≡ [] → c.streams ≡ [] → c.labelled ≡ [] → IsStreamed c [] port t []
+no_streams c port t empty fresh unlabelled =
+    no_labels c port t empty unlabelled (λ id s k there on. none id s there) (λ id s there waits. absurd (none id s there))
+  where
+    by : (b : Bool) (id : ℕ) (s : Seen) → option_map (seen c id) (cond b None (slice_get {X = Stream} [] (id - 1))) ≡ Some s → ⊥
     by true id s there = cc
     by false id s there = cc
 
     none : (id : ℕ) (s : Seen) → look c id ≡ Some s → ⊥
-    none id s there = by (id == 0) id s (ap (λ (xs : List Stream). option_map seen (cond (id == 0) None (slice_get xs (id - 1)))) (sym fresh) ∙ there)
+    none id s there = by (id == 0) id s (ap (λ (xs : List Stream). option_map (seen c id) (cond (id == 0) None (slice_get xs (id - 1)))) (sym fresh) ∙ there)

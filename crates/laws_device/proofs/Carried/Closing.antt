@@ -3,21 +3,21 @@ use Rattle.std.proofs.Common.{◌≡◌, ◌≢◌, ℕ, zero, suc, ◌==◌, Bo
 use Rattle.std.proofs.Common.{None, refl, sym, ap, ◌∙◌, arith}
 use Rattle.std.{proofs.lemmas.Bool.Decides.nat_tests, proofs.lemmas.List.Elements.All-contains, specs.List.All, specs.List.find}
 use Rattle.vs_device_parts.{specs.Connections.stream_closed, specs.State.DeviceConnection, specs.State.DeviceEntry, proofs.Under.has_slot}
-use Rattle.vs_flow.specs.{Table.Table, Table.emptied, Table.entry_under, Table.slots, Table.with_value, declared.flow.Flow.Flow}
+use Rattle.vs_flow.specs.{Table.Table, Table.emptied, Table.entry_under, Table.slots, Table.with_value, Connection.Connection}
 use Rattle.vs_outside.specs.Host.{HostContents, after_close}
 use Rattle.vs_page.specs.Log.{Log}
 use Rattle.vs_proxy_parts.specs.State.{Handshake}
 use Rattle.laws_tables.proofs.Slots.{found_by}
 use Rattle.laws_device.specs.Named.Streams.{joined_stream, stream_under}
 use Rattle.laws_device.proofs.Named.Tables.{joined_in, stream_closed_under, value_in}
-use Rattle.laws_device.specs.Carried.Streamed.{AreLabelled, IsJoined, IsStreamed, Seen, look, reading}
+use Rattle.laws_device.specs.Carried.Streamed.{AreLabelled, IsJoined, IsStreamed, Seen, connection_of, count_in, look, reading}
 use Rattle.laws_device.proofs.Carried.HostCalls.{open_before, shut_labels, some_seen}
 
 -- A stream with a label that isn't closed is that of a connection under one of these slots. No line is of such a stream.
 pub record IsClosing (rest : List ℕ) (t : Table DeviceConnection) (c : HostContents) (log : Log) (port : ℕ)
     (hands : List Handshake) : Type 0 where
-  pub streams : AreLabelled (look c) c.labelled log port hands
-  pub left : (id : ℕ) (s : Seen) (f : Flow) → look c id ≡ Some s → s.label ≡ Some f → s.closed ≡ false
+  pub streams : AreLabelled (look c) c.labelled (count_in c) log port hands
+  pub left : (id : ℕ) (s : Seen) (k : Connection) → look c id ≡ Some s → s.label ≡ Some k → s.closed ≡ false
       → (slot : ℕ) × (stream_under t slot ≡ Some id) × Contains rest slot
   pub away : (slot id : ℕ) → stream_under t slot ≡ Some id → All (λ h. h.stream ≢ id) hands
 
@@ -66,12 +66,12 @@ module _ (c : HostContents) (log : Log) (port : ℕ) (t : Table DeviceConnection
     away = λ slot id at i h within same.
         let u = is_under t slot id at in
         let e = u.entry in
-        let j = All-contains (IsJoined (look c) log) t.entries e x.joined (found_by
+        let j = All-contains (IsJoined (look c) (count_in c) log) t.entries e x.joined (found_by
         (λ (y : DeviceEntry). y.slot == slot) t.entries e u.under).0 in
         let place : (get_or hands i h).stream ≡ e.value.stream = same ∙ sym (named e id u.stream).1 in
         let one : reading (get_or hands i h).line ≡ j.stream =
         some_seen (reading (get_or hands i h).line) j.stream (sym (x.streams.lines.read i h within) ∙ ap (look c) place ∙ j.there) in
-        let both : None ≡ Some e.flow = ap (λ (s : Seen). s.label) one ∙ j.label in
+        let both : None ≡ Some (connection_of e log) = ap (λ (s : Seen). s.label) one ∙ j.label in
         absurd cc;
   }
 

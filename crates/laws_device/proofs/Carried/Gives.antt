@@ -1,5 +1,5 @@
 -- What the end of a device's connection does to the payload that its stream is given.
-use Rattle.std.proofs.Common.{◌≡◌, ℕ, zero, suc, ◌-◌, ◌≤◌, Bool, true, false, cond, List, [], ◌∷◌, ◌++◌, length, take, drop, Contains, Some}
+use Rattle.std.proofs.Common.{◌≡◌, ◌≢◌, ℕ, zero, suc, ◌-◌, ◌≤◌, Bool, true, false, cond, List, [], ◌∷◌, ◌++◌, length, take, drop, Contains, Some}
 use Rattle.std.proofs.Common.{refl, sym, ap, subst, ◌∙◌, append_assoc, arith}
 use Rattle.std.proofs.lemmas.{Bool.Decides.nat_tests, Grind.common_steps, List.append-nil, List.length-take, List.take-take}
 use Rattle.vs_conn.specs.End.{ConnectionEnd, end_after, owes_of, paid_of, verdict_of, with_payload_forwarded, with_shut}
@@ -8,16 +8,16 @@ use Rattle.vs_conn.specs.declared.end.Owed.TheVariants as owed
 use Rattle.vs_conn.specs.declared.end.State.TheVariants as state
 use Rattle.vs_conn.specs.declared.end.Verdict.TheVariants as verdict
 use Rattle.vs_device_parts.specs.State.{DeviceConnection, DeviceEntry}
-use Rattle.vs_flow.specs.{Table.IsTable, Table.Table, Table.with_value, declared.flow.Flow.Flow}
+use Rattle.vs_flow.specs.{Connection.Connection, Table.IsTable, Table.Table, Table.with_value, declared.flow.Flow.Flow}
 use Rattle.vs_header.specs.declared.Header.{Header}
 use Rattle.laws_history.specs.{Packets.has, Packets.is_response, Packets.is_rw, History.Asker, History.Got, History.History, History.IsFair}
 use Rattle.laws_history.specs.{History.Put, History.gots, declared.packet.Packet.Packet}
 use Rattle.vs_outside.specs.Host.{HostContents}
-use Rattle.vs_page.specs.{Fair.payload_of, Log.Device, Log.Log}
+use Rattle.vs_page.specs.{Fair.number_of, Fair.payload_got, Fair.payload_of, Fair.payload_put, Log.Device, Log.Log}
 use Rattle.vs_proxy_parts.specs.State.{Handshake}
-use Rattle.laws_tables.specs.Drains.{Drains, got_on, has_passed, put_on}
-use Rattle.laws_device.specs.Carried.Streamed.{IsJoined, IsStreamed, gives, line_for, look}
-use Rattle.laws_tables.proofs.{Logs.all_of, Logs.only_on, Logs.there_on, Goes.Goes, Goes.comes_in, Goes.drops, Goes.stays_still}
+use Rattle.laws_tables.specs.{Drains.Drains, Drains.only_on, Ends.is_new}
+use Rattle.laws_device.specs.Carried.Streamed.{AreCounted, IsJoined, IsStreamed, connection_of, count_in, gives, line_for, look}
+use Rattle.laws_tables.proofs.{Logs.all_of, Logs.there_on, Goes.Goes, Goes.comes_in, Goes.drops, Goes.stays_still}
 use Rattle.laws_device.proofs.Carried.Streamed.{changed_streamed, join_of}
 
 -- An end whose stream is given all was such an end before.
@@ -36,6 +36,16 @@ pays_gives e _ owes is = is
 
 pub hears_gives : (e : ConnectionEnd) (h : Header) (v : Verdict) → verdict_of e h ≡ v → (v ≡ verdict.Accept → ⊥) → gives (end_after e h) ≡ true → gives e ≡ true
 hears_gives e h v is other on = grind (arith, common_steps, is, on)
+
+-- A connection whose REQUEST was put, or got, stays such a one.
+pub stays_old : (e : ConnectionEnd) (h : Header) → is_new e ≡ false → is_new (end_after e h) ≡ false
+stays_old e h old = grind (arith, common_steps, old)
+
+pub shuts_old : (e : ConnectionEnd) (bits : ℕ) → is_new e ≡ false → is_new (with_shut e bits) ≡ false
+shuts_old e bits old = grind (arith, common_steps, old)
+
+pub forwards_old : (e : ConnectionEnd) (n : ℕ) → is_new e ≡ false → is_new (with_payload_forwarded e n) ≡ false
+forwards_old e n old = grind (arith, common_steps, old)
 
 pub delivers_gives : (e : ConnectionEnd) (h : Header) → verdict_of e h ≡ verdict.Deliver → gives e ≡ true
 delivers_gives e h is = grind (arith, common_steps, is)
@@ -85,12 +95,17 @@ unanswered_got (Got p ∷ h) fair none = by (is_rw p) refl (unanswered_got h fai
 -- A connection changes as a packet comes, or as it decides something.
 module _ (c : HostContents) (log new : Log) (port : ℕ) (t : Table DeviceConnection) (hands : List Handshake) (x : IsStreamed c log port t hands)
     (sound : IsTable t) (e : DeviceEntry) (is : Contains t.entries e) (k : DeviceConnection) (stream : k.stream ≡ e.value.stream)
-    (client : k.by_client ≡ e.value.by_client) (closed : k.closed ≡ e.value.closed) (came : List ℕ) (put : (f : Flow)
-    → put_on Device f log ≡ put_on Device f new)
-    (got : (f : Flow) → got_on Device f new ≡ got_on Device f log ++ only_on e.flow came f)
-    (passed : (f : Flow) → has_passed Device f log ≡ true → has_passed Device f new ≡ true) where
-  abbrev join : IsJoined (look c) log e
-  join = join_of (look c) c.labelled log port t hands x e is
+    (client : k.by_client ≡ e.value.by_client) (closed : k.closed ≡ e.value.closed) (came : List ℕ)
+    (put : (d : Connection) → payload_put Device d log ≡ payload_put Device d new)
+    (got : (d : Connection) → payload_got Device d new ≡ payload_got Device d log ++ only_on (connection_of e log) came d)
+    (keeps : connection_of (record e { value = k }) new ≡ connection_of e log)
+    (number : (f : Flow) → f ≢ e.flow → number_of Device f log ≡ number_of Device f new)
+    (counted : (f : Flow) → AreCounted (count_in c) log f → AreCounted (count_in c) new f) where
+  abbrev join : IsJoined (look c) (count_in c) log e
+  join = join_of (look c) c.labelled (count_in c) log port t hands x e is
+
+  abbrev its : Connection
+  its = connection_of e log
 
   abbrev whole : DeviceConnection → List ℕ
   whole v = v.ok_line ++ v.pending
@@ -99,30 +114,30 @@ module _ (c : HostContents) (log new : Log) (port : ℕ) (t : Table DeviceConnec
       → (k.end.state ≡ state.Asked
       → (e.value.end.state ≡ state.Asked) × (e.value.ok_line ≡ [] → k.ok_line ≡ []) × (e.value.pending ≡ [] → k.pending ≡ []))
       → IsStreamed c new port (with_value t e.slot k) hands
-  goes_host goes asks = changed_streamed (look c) (look c) c.labelled log new port t hands x sound e is k stream client closed came
-      (λ id. refl) put got passed
-      (subst (λ (out : List ℕ). Drains (gives k.end) out (whole k) (line_for e.flow ++ got_on Device e.flow new)) (append-nil join.stream.given)
+  goes_host goes asks = changed_streamed (look c) (look c) c.labelled (count_in c) log new port t hands x sound e is k stream client closed came
+      (λ id. refl) put got keeps number counted
+      (subst (λ (out : List ℕ). Drains (gives k.end) out (whole k) (line_for e.flow ++ payload_got Device its new)) (append-nil join.stream.given)
       (subst (λ (all : List ℕ). Drains (gives k.end) (join.stream.given ++ []) (whole k) all) all_came
-      (goes join.stream.given (line_for e.flow ++ got_on Device e.flow log) join.drains)))
+      (goes join.stream.given (line_for e.flow ++ payload_got Device its log) join.drains)))
       (λ on. let now = asks on in let a = join.asked now.0 in (a.0, now.1 a.1, now.2 a.2, closed ∙ a.3))
     where
-      all_came : (line_for e.flow ++ got_on Device e.flow log) ++ came ≡ line_for e.flow ++ got_on Device e.flow new
-      all_came = append_assoc (line_for e.flow) (got_on Device e.flow log) came
-          ∙ ap (λ (bytes : List ℕ). line_for e.flow ++ bytes) (sym (got e.flow ∙ there_on e.flow (got_on Device e.flow log) came))
+      all_came : (line_for e.flow ++ payload_got Device its log) ++ came ≡ line_for e.flow ++ payload_got Device its new
+      all_came = append_assoc (line_for e.flow) (payload_got Device its log) came
+          ∙ ap (λ (bytes : List ℕ). line_for e.flow ++ bytes) (sym (got its ∙ there_on its (payload_got Device its log) came))
 
   -- RESPONSE came: the OK line is to be written first.
-  pub answered_host : e.value.end.state ≡ state.Asked → got_on Device e.flow log ≡ [] → came ≡ [] → k.ok_line ≡ line_for e.flow → k.pending ≡ e.value.pending
+  pub answered_host : e.value.end.state ≡ state.Asked → payload_got Device its log ≡ [] → came ≡ [] → k.ok_line ≡ line_for e.flow → k.pending ≡ e.value.pending
       → (k.end.state ≡ state.Asked → ⊥) → IsStreamed c new port (with_value t e.slot k) hands
   answered_host asking nothing none line pending other =
       let a = join.asked asking in
-      let got_none : got_on Device e.flow new ≡ [] = got e.flow ∙ there_on e.flow (got_on Device e.flow log) came
+      let got_none : payload_got Device its new ≡ [] = got its ∙ there_on its (payload_got Device its log) came
       ∙ ap (λ (bytes : List ℕ). bytes ++ came) nothing ∙ none in
-      let all : join.stream.given ++ whole k ≡ line_for e.flow ++ got_on Device e.flow new =
+      let all : join.stream.given ++ whole k ≡ line_for e.flow ++ payload_got Device its new =
       ap (λ (bytes : List ℕ). bytes ++ whole k) a.0 ∙ ap (λ (bytes : List ℕ). bytes ++ k.pending) line
       ∙ ap (λ (bytes : List ℕ). line_for e.flow ++ bytes) (pending ∙ a.2 ∙ sym got_none) in
-      changed_streamed (look c) (look c) c.labelled log new port t hands x sound e is k stream client closed came
-      (λ id. refl) put got passed
-      (record { front = all_of (join.stream.given ++ whole k) (line_for e.flow ++ got_on Device e.flow new) all; whole = λ on. all })
+      changed_streamed (look c) (look c) c.labelled (count_in c) log new port t hands x sound e is k stream client closed came
+      (λ id. refl) put got keeps number counted
+      (record { front = all_of (join.stream.given ++ whole k) (line_for e.flow ++ payload_got Device its new) all; whole = λ on. all })
       (λ on. absurd (other on))
 
 -- Shutting.

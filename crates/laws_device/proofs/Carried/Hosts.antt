@@ -1,48 +1,104 @@
 -- What each call of the proxy and each program changes of a host's streams, as they are seen.
-use Rattle.std.proofs.Common.{◌≡◌, ◌≢◌, ℕ, zero, suc, ◌+◌, ◌-◌, ◌==◌, Bool, true, false, cond, List, [], ◌∷◌, ◌++◌, length, slice_get}
-use Rattle.std.proofs.Common.{slice_set, Option, Some, None, refl, sym, ap, ◌∙◌, arith}
-use Rattle.std.{specs.Option.option_map, specs.Option.option_map_or, proofs.lemmas.Bool.Decides.nat_tests}
-use Rattle.vs_outside.specs.Host.{HostContents, Stream, stream_at, with_stream}
+use Rattle.std.proofs.Common.{◌≡◌, ◌≢◌, ℕ, zero, suc, ◌+◌, ◌-◌, ◌==◌, not, nat_lt, Bool, true, false, cond, List, [], ◌∷◌, ◌++◌, length}
+use Rattle.std.proofs.Common.{slice_get, slice_set, Contains, Option, Some, None, refl, sym, ap, subst, ◌∙◌, arith, length-append, option_and_then, ◌≤◌}
+use Rattle.std.specs.{List.filter, List.prefix_len, Option.option_map, Option.option_map_or}
+use Rattle.std.proofs.lemmas.{Bool.Decides.nat_tests, List.append-nil, List.Elements.filter-append}
+use Rattle.std.proofs.lemmas.List.Elements.{filter_agree}
+use Rattle.vs_flow.{specs.Connection.Connection, specs.Flow.same_flow, specs.declared.flow.Flow.Flow}
+use Rattle.vs_outside.specs.{Host.{HostContents, Stream, stream_at, with_stream}, HostBytes.is_labelled, HostBytes.labelled_with}
+use Rattle.vs_outside.specs.HostBytes.{stream_of}
 use Rattle.vs_outside.proofs.Frames.{keeps_others, stream_at-with_stream}
-use Rattle.laws_device.specs.Carried.Streamed.{Seen, look, seen}
+use Rattle.vs_page.proofs.Flows.{same_self}
+use Rattle.laws_device.specs.Carried.Streamed.{Seen, connection_in, count_in, look, number_in, seen, seen_as}
+use Rattle.laws_device.proofs.Carried.Streamed.{is_or_not}
 
 -- The stream of an id as it is seen.
 pub record IsThere (id : ℕ) (c : HostContents) (s : Seen) : Type 0 where
   pub stream : Stream
   pub at : stream_at id c ≡ Some stream
-  pub is : seen stream ≡ s
+  pub is : seen c id stream ≡ s
 
 pub there : (id : ℕ) (c : HostContents) (s : Seen) → look c id ≡ Some s → IsThere id c s
 there id c s is = by (stream_at id c) refl is
   where
-    by : (o : Option Stream) → stream_at id c ≡ o → option_map seen o ≡ Some s → IsThere id c s
+    by : (o : Option Stream) → stream_at id c ≡ o → option_map (seen c id) o ≡ Some s → IsThere id c s
     by None at is = absurd cc
     by (Some st) at is = record { stream = st; at = at; is = cc }
 
-module _ (id : ℕ) (f : Stream → Stream) (c : HostContents) where
+some_flow : (f g : Connection) → ◌≡◌ {A = Option Connection} (Some f) (Some g) → f ≡ g
+some_flow f g is = cc
+
+-- Its label, where it is seen as a connection; and that connection.
+pub label_there : (c : HostContents) (id : ℕ) (o : Option Flow) (k : Connection) → option_map (connection_in c id) o ≡ Some k
+    → (o ≡ Some k.flow) × (k ≡ connection_in c id k.flow)
+label_there c id None k is = absurd cc
+label_there c id (Some f) k is =
+    let same = some_flow (connection_in c id f) k is in
+    let flow : f ≡ k.flow = ap (λ (d : Connection). d.flow) same in
+    (ap (λ (g : Flow). Some g) flow, sym same ∙ ap (connection_in c id) flow)
+
+pub label_here : (c : HostContents) (id : ℕ) (st : Stream) (f : Flow) → st.label ≡ Some f → (seen c id st).label ≡ Some (connection_in c id f)
+label_here c id st f is = ap (option_map (connection_in c id)) is
+
+-- Hosts whose streams have the same labels, which they got in the same order.
+module _ (c d : HostContents) (list : d.labelled ≡ c.labelled) (same : (f : Flow) (j : ℕ) → is_labelled f d j ≡ is_labelled f c j) where
+  labelled_kept : (f : Flow) → labelled_with f d ≡ labelled_with f c
+  labelled_kept f = filter_agree (is_labelled f d) (is_labelled f c) (same f) d.labelled ∙ ap (filter (is_labelled f c)) list
+
+  pub counts_kept : (f : Flow) → count_in c f ≡ count_in d f
+  counts_kept f = ap length (sym (labelled_kept f))
+
+  label_kept : (j : ℕ) (o : Option Flow) → option_map (connection_in d j) o ≡ option_map (connection_in c j) o
+  label_kept j None = refl
+  label_kept j (Some f) = ap (λ (ids : List ℕ). let k : Connection = record { flow = f; number = number_in ids j } in Some k) (labelled_kept f)
+
+  look_by : (j : ℕ) (o : Option Stream) → option_map (seen c j) o ≡ option_map (seen d j) o
+  look_by j None = refl
+  look_by j (Some st) = ap (λ (o : Option Connection). Some (seen_as o st)) (sym (label_kept j st.label))
+
+  pub look_kept : (j : ℕ) → stream_at j d ≡ stream_at j c → look c j ≡ look d j
+  look_kept j at = look_by j (stream_at j c) ∙ ap (option_map (seen d j)) (sym at)
+
+  pub look_now : (j : ℕ) (st new : Stream) → stream_at j d ≡ Some new → new.label ≡ st.label → look d j ≡ Some (seen_as (option_map (connection_in c j) st.label) new)
+  look_now j st new at label =
+      ap (option_map (seen d j)) at
+      ∙ ap (λ (o : Option Connection). Some (seen_as o new)) (label_kept j new.label ∙ ap (option_map (connection_in c j)) label)
+
+-- A stream changes and keeps its label.
+module _ (id : ℕ) (f : Stream → Stream) (c : HostContents) (keeps : (st : Stream) → (f st).label ≡ st.label) where
+  still_labelled : (g : Flow) (j : ℕ) → is_labelled g (with_stream id f c) j ≡ is_labelled g c j
+  still_labelled g j = is_or_not j id (is_labelled g (with_stream id f c) j ≡ is_labelled g c j)
+      (λ place. ap (is_labelled g (with_stream id f c)) place ∙ here (stream_at id c) refl ∙ ap (is_labelled g c) (sym place))
+      (λ other. ap (λ (o : Option Stream). option_map_or (λ s. option_map_or (same_flow g) s.label false) o false) (keeps_others id f c j other))
+    where
+      here : (o : Option Stream) → stream_at id c ≡ o → is_labelled g (with_stream id f c) id ≡ is_labelled g c id
+      here None none = ap (λ (xs : List Stream). is_labelled g (record c { streams = xs }) id)
+          (ap (λ (o : Option Stream). option_map_or (λ s. slice_set c.streams (id - 1) (f s)) o c.streams) none)
+      here (Some st) at =
+          ap (λ (o : Option Stream). option_map_or (λ s. option_map_or (same_flow g) s.label false) o false) (stream_at-with_stream id f c st at)
+          ∙ ap (λ (o : Option Flow). option_map_or (same_flow g) o false) (keeps st)
+          ∙ ap (λ (o : Option Stream). option_map_or (λ s. option_map_or (same_flow g) s.label false) o false) (sym at)
+
   -- The others stay.
   pub others_seen : (j : ℕ) → j ≢ id → look c j ≡ look (with_stream id f c) j
-  others_seen j other = ap (option_map seen) (sym (keeps_others id f c j other))
+  others_seen j other = look_kept c (with_stream id f c) refl still_labelled j (keeps_others id f c j other)
 
-  pub changed_seen : (st : Stream) → stream_at id c ≡ Some st → look (with_stream id f c) id ≡ Some (seen (f st))
-  changed_seen st at = ap (option_map seen) (stream_at-with_stream id f c st at)
+  pub changed_seen : (st : Stream) → stream_at id c ≡ Some st → look (with_stream id f c) id ≡ Some (seen_as (option_map (connection_in c id) st.label) (f st))
+  changed_seen st at = look_now c (with_stream id f c) refl still_labelled id st (f st) (stream_at-with_stream id f c st at) (keeps st)
 
--- A change that isn't seen.
-pub unseen : (id : ℕ) (f : Stream → Stream) (c : HostContents) → ((st : Stream) → seen (f st) ≡ seen st) → (j : ℕ) → look c j ≡ look (with_stream id f c) j
-unseen id f c same j = by (j == id) refl
-  where
-    here : (o : Option Stream) → stream_at id c ≡ o → look c id ≡ look (with_stream id f c) id
-    here None none = stays
-      where
-        stays : look c id ≡ look (with_stream id f c) id
-        stays = ap (λ (xs : List Stream). look (record c { streams = xs }) id)
-            (sym (ap (λ (o : Option Stream). option_map_or (λ s. slice_set c.streams (id - 1) (f s)) o c.streams) none))
-    here (Some st) at = ap (option_map seen) at ∙ ap (λ (s : Seen). Some s) (sym (same st)) ∙ sym (changed_seen id f c st at)
+  pub counts_still : (g : Flow) → count_in c g ≡ count_in (with_stream id f c) g
+  counts_still g = counts_kept c (with_stream id f c) refl still_labelled g
 
-    by : (b : Bool) → (j == id) ≡ b → look c j ≡ look (with_stream id f c) j
-    by true is = let place : j ≡ id = grind (arith, nat_tests, is) in
-        ap (look c) place ∙ here (stream_at id c) refl ∙ ap (look (with_stream id f c)) (sym place)
-    by false other = others_seen id f c j (grind (arith, nat_tests, other))
+  -- A change that isn't seen.
+  pub unseen : ((o : Option Connection) (st : Stream) → seen_as o (f st) ≡ seen_as o st) → (j : ℕ) → look c j ≡ look (with_stream id f c) j
+  unseen same j = is_or_not j id (look c j ≡ look (with_stream id f c) j)
+      (λ place. ap (look c) place ∙ here (stream_at id c) refl ∙ ap (look (with_stream id f c)) (sym place)) (others_seen j)
+    where
+      here : (o : Option Stream) → stream_at id c ≡ o → look c id ≡ look (with_stream id f c) id
+      here None none = ap (λ (xs : List Stream). look (record c { streams = xs }) id)
+          (sym (ap (λ (o : Option Stream). option_map_or (λ s. slice_set c.streams (id - 1) (f s)) o c.streams) none))
+      here (Some st) at = ap (option_map (seen c id)) at
+          ∙ ap (λ (s : Seen). Some s) (sym (same (option_map (connection_in c id) st.label) st)) ∙ sym (changed_seen st at)
 
 -- A stream that isn't there.
 pub unseen_none : (id : ℕ) (f : Stream → Stream) (c : HostContents) → stream_at id c ≡ None → (j : ℕ) → look c j ≡ look (with_stream id f c) j
@@ -86,3 +142,184 @@ module _ (y : Stream) (c : HostContents) where
 
   pub none_there : stream_at (length c.streams + 1) c ≡ None
   none_there = rw (new_place, back) (get_past c.streams)
+
+  -- Where it has no label, no stream is of another connection.
+  module _ (free : y.label ≡ None) where
+    abbrev with_it : HostContents
+    with_it = record c { streams = c.streams ++ y ∷ [] }
+
+    more_labelled : (g : Flow) (j : ℕ) → is_labelled g with_it j ≡ is_labelled g c j
+    more_labelled g j = is_or_not j (length c.streams + 1) (is_labelled g with_it j ≡ is_labelled g c j)
+        (λ place. ap (is_labelled g with_it) place
+        ∙ ap (λ (o : Option Stream). option_map_or (λ s. option_map_or (same_flow g) s.label false) o false) new_there
+        ∙ ap (λ (o : Option Flow). option_map_or (same_flow g) o false) free
+        ∙ sym (ap (λ (o : Option Stream). option_map_or (λ s. option_map_or (same_flow g) s.label false) o false) none_there)
+        ∙ ap (is_labelled g c) (sym place))
+        (λ other. ap (λ (o : Option Stream). option_map_or (λ s. option_map_or (same_flow g) s.label false) o false) (others_there j other))
+
+    pub others_look : (j : ℕ) → j ≢ length c.streams + 1 → look c j ≡ look with_it j
+    others_look j other = look_kept c with_it refl more_labelled j (others_there j other)
+
+    pub new_look : look with_it (length c.streams + 1) ≡ Some (seen_as None y)
+    new_look = ap (option_map (seen with_it (length c.streams + 1))) new_there
+        ∙ ap (λ (o : Option Flow). Some (seen_as (option_map (connection_in with_it (length c.streams + 1)) o) y)) free
+
+    pub counts_more : (g : Flow) → count_in c g ≡ count_in with_it g
+    counts_more g = counts_kept c with_it refl more_labelled g
+
+-- The place of an id in a list, from 1; and 0, where it isn't there.
+abbrev next_number : ℕ → ℕ
+next_number zero = 0
+next_number (suc n) = suc (suc n)
+
+number_cons : (x : ℕ) (xs : List ℕ) (j : ℕ) → number_in (x ∷ xs) j ≡ cond (x == j) 1 (next_number (number_in xs j))
+number_cons x xs j = by (x == j) (prefix_len (λ (y : ℕ). not (y == j)) xs)
+  where
+    first : (b : Bool) → b ≡ true → option_map_or (λ place. place + 1) (cond b (Some 0) None) 0 ≡ 1
+    first true is = refl
+    first false is = absurd cc
+
+    later : (n : ℕ) (a b : Bool) → a ≡ b → option_map_or (λ place. place + 1) (cond a (Some (1 + n)) None) 0
+        ≡ next_number (option_map_or (λ place. place + 1) (cond b (Some n) None) 0)
+    later n true true is = let same : n + 1 ≡ suc n = omega arith in let more : 1 + n + 1 ≡ suc (suc n) = omega arith in more ∙ ap next_number (sym same)
+    later n false false is = refl
+    later n true false is = absurd cc
+    later n false true is = absurd cc
+
+    by : (b : Bool) (n : ℕ) → option_map_or (λ place. place + 1)
+        (cond (nat_lt (cond (not b) (1 + n) 0) (suc (length xs))) (Some (cond (not b) (1 + n) 0)) None) 0
+        ≡ cond b 1 (next_number (option_map_or (λ place. place + 1) (cond (nat_lt n (length xs)) (Some n) None) 0))
+    by true n = first (nat_lt 0 (suc (length xs))) (grind (arith, nat_tests))
+    by false n = later n (nat_lt (1 + n) (suc (length xs))) (nat_lt n (length xs)) (grind (arith, nat_tests))
+
+number_push : (xs : List ℕ) (id j : ℕ) → j ≢ id → number_in (xs ++ id ∷ []) j ≡ number_in xs j
+number_push [] id j other =
+    let apart : (id == j) ≡ false = grind (arith, nat_tests, other) in
+    number_cons id [] j ∙ ap (λ (b : Bool). cond b 1 (next_number (number_in [] j))) apart
+number_push (x ∷ xs) id j other =
+    number_cons x (xs ++ id ∷ []) j ∙ ap (λ (n : ℕ). cond (x == j) 1 (next_number n)) (number_push xs id j other) ∙ sym (number_cons x xs j)
+
+number_last : (xs : List ℕ) (id : ℕ) → (Contains xs id → ⊥) → number_in (xs ++ id ∷ []) id ≡ length xs + 1
+number_last [] id none = let here : (id == id) ≡ true = grind arith in
+    number_cons id [] id ∙ ap (λ (b : Bool). cond b 1 (next_number (number_in [] id))) here
+number_last (x ∷ xs) id none =
+    let apart : (x == id) ≡ false = by (x == id) refl in
+    let rest : number_in (xs ++ id ∷ []) id ≡ suc (length xs) = number_last xs id (λ within. none (later within)) ∙ omega arith in
+    let more : suc (suc (length xs)) ≡ suc (length xs) + 1 = omega arith in
+    number_cons x (xs ++ id ∷ []) id ∙ ap (λ (b : Bool). cond b 1 (next_number (number_in (xs ++ id ∷ []) id))) apart
+    ∙ ap next_number rest ∙ more
+  where
+    later : Contains xs id → Contains (x ∷ xs) id
+    later (k, less, is) = (suc k, omega (arith, less), is)
+
+    by : (b : Bool) → (x == id) ≡ b → b ≡ false
+    by false is = refl
+    by true is = absurd (none (0, omega arith, grind (arith, nat_tests, is)))
+
+-- What stands at its number.
+pub number_get : (xs : List ℕ) (j k : ℕ) → number_in xs j ≡ suc k → slice_get xs k ≡ Some j
+number_get [] j k is = absurd cc
+number_get (x ∷ xs) j k is = by (x == j) refl (sym (number_cons x xs j) ∙ is) (λ n at. number_get xs j n at)
+  where
+    after : (n k : ℕ) → number_in xs j ≡ n → next_number n ≡ suc k → ((n : ℕ) → number_in xs j ≡ suc n → slice_get xs n ≡ Some j)
+        → slice_get (x ∷ xs) k ≡ Some j
+    after zero k at is rest = absurd cc
+    after (suc n) zero at is rest = absurd cc
+    after (suc n) (suc k) at is rest = let same : n ≡ k = cc in rest k (at ∙ ap suc same)
+
+    first : (k : ℕ) → 1 ≡ suc k → (x == j) ≡ true → slice_get (x ∷ xs) k ≡ Some j
+    first zero is same = let here : x ≡ j = grind (arith, nat_tests, same) in ap (λ (y : ℕ). Some y) here
+    first (suc k) is same = absurd cc
+
+    by : (b : Bool) → (x == j) ≡ b → cond b 1 (next_number (number_in xs j)) ≡ suc k
+        → ((n : ℕ) → number_in xs j ≡ suc n → slice_get xs n ≡ Some j) → slice_get (x ∷ xs) k ≡ Some j
+    by true same is rest = first k is same
+    by false other is rest = after (number_in xs j) k refl is rest
+
+-- The stream of a connection that is seen.
+pub stream_is : (c : HostContents) (id : ℕ) (st : Stream) (k : Connection) → 1 ≤ k.number → stream_at id c ≡ Some st → (seen c id st).label ≡ Some k
+    → stream_of k c ≡ Some st
+stream_is c id st k some at on = by k.number refl some
+  where
+    is : k ≡ connection_in c id k.flow
+    is = (label_there c id st.label k on).1
+
+    by : (n : ℕ) → k.number ≡ n → 1 ≤ n → stream_of k c ≡ Some st
+    by zero none some = absurd (omega (arith, some))
+    by (suc n) nth some =
+        let back : k.number - 1 ≡ n = omega (arith, nth) in
+        let here = number_get (labelled_with k.flow c) id n (sym (ap (λ (d : Connection). d.number) is) ∙ nth) in
+        ap (λ (m : ℕ). option_and_then (λ i. stream_at i c) (slice_get (labelled_with k.flow c) m)) back
+        ∙ ap (option_and_then (λ i. stream_at i c)) here ∙ at
+
+-- A stream gets a label.
+filter_within : (p q : ℕ → Bool) (xs : List ℕ) → ((x : ℕ) → Contains xs x → p x ≡ q x) → filter p xs ≡ filter q xs
+filter_within p q [] same = refl
+filter_within p q (x ∷ xs) same =
+    ap (λ (b : Bool). cond b (x ∷ filter p xs) (filter p xs)) (same x (0, omega arith, refl))
+    ∙ ap (λ (ys : List ℕ). cond (q x) (x ∷ ys) ys) (filter_within p q xs (λ y within. let less = within.1 in same y (suc within.0, omega (arith, less), within.2)))
+
+not_kept : (p : ℕ → Bool) (xs : List ℕ) (id : ℕ) → Contains (filter p xs) id → Contains xs id
+not_kept p [] id within = within
+not_kept p (x ∷ xs) id within = by (p x) within (not_kept p xs id)
+  where
+    later : Contains xs id → Contains (x ∷ xs) id
+    later (k, less, is) = (suc k, omega (arith, less), is)
+
+    kept : Contains (x ∷ filter p xs) id → (Contains (filter p xs) id → Contains xs id) → Contains (x ∷ xs) id
+    kept (zero, less, is) rest = (0, omega arith, is)
+    kept (suc k, less, is) rest = later (rest (k, omega (arith, less), is))
+
+    by : (b : Bool) → Contains (cond b (x ∷ filter p xs) (filter p xs)) id → (Contains (filter p xs) id → Contains xs id) → Contains (x ∷ xs) id
+    by true within rest = kept within rest
+    by false within rest = later (rest within)
+
+module _ (c d : HostContents) (id : ℕ) (f : Flow) (list : d.labelled ≡ c.labelled ++ id ∷ []) (others : (j : ℕ) → j ≢ id → stream_at j d ≡ stream_at j c)
+    (st : Stream) (at : stream_at id d ≡ Some st) (label : st.label ≡ Some f) (unlisted : Contains c.labelled id → ⊥) where
+  here_labelled : (g : Flow) → is_labelled g d id ≡ same_flow g f
+  here_labelled g = ap (λ (o : Option Stream). option_map_or (λ s. option_map_or (same_flow g) s.label false) o false) at
+      ∙ ap (λ (o : Option Flow). option_map_or (same_flow g) o false) label
+
+  old_labelled : (g : Flow) (j : ℕ) → Contains c.labelled j → is_labelled g d j ≡ is_labelled g c j
+  old_labelled g j within = ap (λ (o : Option Stream). option_map_or (λ s. option_map_or (same_flow g) s.label false) o false)
+      (others j (λ same. unlisted (subst (λ (i : ℕ). Contains c.labelled i) same within)))
+
+  labelled_then : (g : Flow) → labelled_with g d ≡ labelled_with g c ++ cond (same_flow g f) (id ∷ []) []
+  labelled_then g =
+      ap (filter (is_labelled g d)) list ∙ filter-append (is_labelled g d) c.labelled (id ∷ [])
+      ∙ ap (λ (xs : List ℕ). xs ++ filter (is_labelled g d) (id ∷ [])) (filter_within (is_labelled g d) (is_labelled g c) c.labelled (old_labelled g))
+      ∙ ap (λ (b : Bool). labelled_with g c ++ cond b (id ∷ []) []) (here_labelled g)
+
+  pub counts_then : (g : Flow) → count_in d g ≡ cond (same_flow g f) (count_in c g + 1) (count_in c g)
+  counts_then g = ap length (labelled_then g) ∙ by (same_flow g f)
+    where
+      by : (b : Bool) → length (labelled_with g c ++ cond b (id ∷ []) []) ≡ cond b (count_in c g + 1) (count_in c g)
+      by true = length-append (labelled_with g c) (id ∷ [])
+      by false = ap length (append-nil (labelled_with g c))
+
+  number_other : (g : Flow) (j : ℕ) → j ≢ id → number_in (labelled_with g d) j ≡ number_in (labelled_with g c) j
+  number_other g j other = ap (λ (ids : List ℕ). number_in ids j) (labelled_then g) ∙ by (same_flow g f)
+    where
+      by : (b : Bool) → number_in (labelled_with g c ++ cond b (id ∷ []) []) j ≡ number_in (labelled_with g c) j
+      by true = number_push (labelled_with g c) id j other
+      by false = ap (λ (ids : List ℕ). number_in ids j) (append-nil (labelled_with g c))
+
+  number_here : number_in (labelled_with f d) id ≡ count_in c f + 1
+  number_here = ap (λ (ids : List ℕ). number_in ids id) (labelled_then f)
+      ∙ ap (λ (b : Bool). number_in (labelled_with f c ++ cond b (id ∷ []) []) id) (same_self f)
+      ∙ number_last (labelled_with f c) id (λ within. unlisted (not_kept (is_labelled f c) c.labelled id within))
+
+  other_label : (j : ℕ) → j ≢ id → (o : Option Flow) → option_map (connection_in c j) o ≡ option_map (connection_in d j) o
+  other_label j other None = refl
+  other_label j other (Some g) = ap (λ (n : ℕ). let k : Connection = record { flow = g; number = n } in Some k) (sym (number_other g j other))
+
+  look_then : (j : ℕ) → j ≢ id → (o : Option Stream) → option_map (seen c j) o ≡ option_map (seen d j) o
+  look_then j other None = refl
+  look_then j other (Some s) = ap (λ (o : Option Connection). Some (seen_as o s)) (other_label j other s.label)
+
+  pub others_then : (j : ℕ) → j ≢ id → look c j ≡ look d j
+  others_then j other = look_then j other (stream_at j c) ∙ ap (option_map (seen d j)) (sym (others j other))
+
+  pub here_then : look d id ≡ Some (seen_as (Some (record { flow = f; number = count_in c f + 1 })) st)
+  here_then = ap (option_map (seen d id)) at ∙ ap (λ (o : Option Flow). Some (seen_as (option_map (connection_in d id) o) st)) label
+      ∙ ap (λ (n : ℕ). let k : Connection = record { flow = f; number = n } in Some (seen_as (Some k) st)) number_here

@@ -1,25 +1,32 @@
 -- What the host's streams took and gave, as a line is read and a connection opens.
-use Rattle.std.proofs.Common.{◌≡◌, ◌≢◌, ℕ, zero, suc, ◌+◌, ◌-◌, ◌==◌, min, Bool, true, false, cond, List, [], ◌∷◌, ◌++◌, length, take}
-use Rattle.std.proofs.Common.{get_or, slice_get, Option, Some, None, is_some, refl, sym, ap, subst, ◌∙◌, arith}
-use Rattle.std.proofs.lemmas.{Bool.Decides.nat_tests, List.Elements.Contains-push, Option.get_or_from_slice_get, Option.slice_get_within}
+use Rattle.std.proofs.Common.{◌≡◌, ◌≢◌, ℕ, zero, suc, ◌+◌, ◌≤◌, ◌==◌, min, Bool, true, false, cond, List, [], ◌∷◌, ◌++◌, length, take}
+use Rattle.std.proofs.Common.{get_or, Contains, Option, Some, None, is_some, refl, sym, ap, subst, ◌∙◌, arith}
+use Rattle.std.proofs.lemmas.{Bool.Decides.nat_tests, Option.get_or_from_slice_get, Option.slice_get_within}
 use Rattle.std.specs.{List.All, List.find, Option.option_map, Option.option_map_or}
 use Rattle.vs_conn.specs.End.{answering, asked}
-use Rattle.vs_device_parts.specs.{Connections.new_connection, State.DeviceConnection}
-use Rattle.vs_flow.specs.{Flow.host_flow, Flow.is_assigned, Table.IsTable, Table.Table, Table.with_entry, declared.flow.Flow.Flow}
-use Rattle.vs_flow.proofs.{Entries.found_passes, Lookups.find_place}
+use Rattle.vs_device_parts.specs.{Connections.new_connection, State.DeviceConnection, State.DeviceEntry}
+use Rattle.vs_flow.specs.{Connection.Connection, Flow.host_flow, Flow.is_assigned, Flow.same_flow, declared.flow.Flow.Flow}
+use Rattle.vs_flow.specs.Table.{IsTable, Table, entry_of, next_entry, with_entry}
+use Rattle.vs_flow.proofs.{Entries.found_passes, Entries.none_found, Entries.same_flow_true, Lookups.find_place}
 use Rattle.vs_header.specs.declared.Header.{Header}
+use Rattle.laws_history.specs.{History.{Got, gots, puts}, Packets.{has, is_clean_rst, is_request}, declared.packet.Packet.Packet}
 use Rattle.vs_limits.specs.declared.TheConstants.{BUF_ALLOC}
 use Rattle.vs_outside.specs.Host.{HostContents, Stream, after_close, after_dial, after_label, after_read, called, dialed_stream, fails_now}
 use Rattle.vs_outside.specs.Host.{has_label, next_bytes, read_answer, read_of, stream_at, take_bytes, with_label_call}
-use Rattle.vs_outside.specs.HostBytes.{after_line}
-use Rattle.vs_page.specs.Log.{Device, Log}
+use Rattle.vs_outside.{specs.HostBytes.after_line, proofs.Frames.keeps_others, proofs.Frames.stream_at-with_stream}
+use Rattle.vs_page.specs.Fair.{IsFairLog, current, number_of, payload_got, payload_of, payload_put}
+use Rattle.vs_page.specs.{Log.{Device, Log, and_then, flow_got, history_of}, declared.log.LogEntry.TheVariants.GotPacket}
+use Rattle.vs_page.proofs.{Flows.same_self, Present.present_got}
 use Rattle.vs_proxy_parts.specs.{Handshakes.with_line, Handshakes.without_stream, State.Handshake}
 use Rattle.vs_uds.specs.{OkLine.ok_text, Reading.is_decided, declared.connect.TheConstants.CONNECT_MAX}
-use Rattle.laws_device.specs.Carried.Streamed.{AreLines, AreStreamed, IsStreamed, Seen, client_waits, has_line, line_for, look, reading, seen}
-use Rattle.laws_device.proofs.Carried.{Hosts.{changed_seen, new_there, none_there, others_seen, others_there, there}, HostCalls.closed_host}
-use Rattle.laws_device.proofs.Carried.{HostCalls.{more_kept, some_seen}, Streamed.{one_streamed, opened_streamed}, Hands.with_all}
+use Rattle.laws_tables.{specs.Drains.Drains, proofs.Adding.got_nothing, proofs.Adding.put_over_got}
+use Rattle.laws_device.specs.Carried.Streamed.{AreCounted, AreLines, AreStreamed, IsCounted, IsStreamed, Seen, connection_in, connection_of, count_in}
+use Rattle.laws_device.specs.Carried.Streamed.{has_line, line_for, look, reading, seen, seen_as}
+use Rattle.laws_device.proofs.Carried.Hosts.{changed_seen, counts_still, counts_then, here_then, new_there, none_there, others_seen, others_then}
+use Rattle.laws_device.proofs.Carried.{Hosts.others_there, Hosts.there, HostCalls.closed_host, HostCalls.some_seen}
+use Rattle.laws_device.proofs.Carried.Counted.{IsAsked, counted_got, number_elsewhere, request_asks}
+use Rattle.laws_device.proofs.Carried.{Streamed.{one_streamed, opened_streamed, recounted}, Hands.with_all}
 use Rattle.laws_device.proofs.Carried.Hands.{with_apart, without_all, without_none, without_pairs}
-use Rattle.laws_tables.{specs.Drains.got_on, specs.Drains.has_passed, specs.Drains.put_on, proofs.Logs.none_got, proofs.Logs.none_put}
 use Rattle.vs_header.specs.declared.Kind.TheVariants as kind
 use Rattle.vs_outside.specs.declared.host_net.Dialed.TheVariants as dialed
 use Rattle.vs_outside.specs.declared.host_net.StreamRead.TheVariants as read
@@ -89,6 +96,9 @@ other_lines c log port t hands lines x reads = record {
   streams = record {
     labels = x.streams.labels;
     unique = x.streams.unique;
+    every = x.streams.every;
+    listed = x.streams.listed;
+    counted = x.streams.counted;
     none = x.streams.none;
     waiting = x.streams.waiting;
     lines = reads;
@@ -129,16 +139,18 @@ module _ (c : HostContents) (log : Log) (port : ℕ) (t : Table DeviceConnection
   line_now =
       let s = there id c (reading h.line) hand.there in
       let took : bytes ≡ take n s.stream.untaken = next ∙ ap (λ (o : Option Stream). option_map_or (λ (y : Stream). take n y.untaken) o []) s.at in
-      changed_seen id (take_bytes n) (called c) s.stream s.at
+      changed_seen id (take_bytes n) (called c) (λ y. refl) s.stream s.at
       ∙ ap (λ (y : Seen). let r : Seen = record y { taken = y.taken ++ take n s.stream.untaken } in Some r) s.is
       ∙ ap (λ (b : List ℕ). Some (reading (h.line ++ b))) (sym took)
 
   others_now : (j : ℕ) → j ≢ id → look c j ≡ look read_on j
-  others_now j other = others_seen id (take_bytes n) (called c) j other
+  others_now j other = others_seen id (take_bytes n) (called c) (λ y. refl) j other
 
   goes_with : (lines : List Handshake) → AreLines (look read_on) lines → IsStreamed read_on log port t lines
-  goes_with lines = one_streamed (look c) (look read_on) c.labelled log port t hands lines x id (reading (h.line ++ bytes)) line_now refl refl
-      (λ b is. ap (λ (s : Seen). s.label) (sym (some_seen (reading h.line) b (sym hand.there ∙ is)))) others_now
+  goes_with lines reads =
+      recounted (look read_on) c.labelled (count_in c) (count_in read_on) log port t lines (counts_still id (take_bytes n) (called c) (λ y. refl))
+      (one_streamed (look c) (look read_on) c.labelled (count_in c) log port t hands lines x id (reading (h.line ++ bytes)) line_now refl refl
+      (λ b is. ap (λ (s : Seen). s.label) (sym (some_seen (reading h.line) b (sym hand.there ∙ is)))) others_now reads)
 
   pub line_more : is_decided CONNECT_MAX (h.line ++ bytes) ≡ false → IsStreamed read_on log port t (with_line id (h.line ++ bytes) hands)
   line_more open_line = goes_with (with_line id (h.line ++ bytes) hands) (record {
@@ -160,59 +172,150 @@ module _ (c : HostContents) (log : Log) (port : ℕ) (t : Table DeviceConnection
     apart = without_pairs (λ (g : Handshake) (k : Handshake). g.stream ≢ k.stream) id hands x.streams.lines.apart;
   })
 
+-- The flow of a connection that is to open has none in the table, and the host lists no stream that has no label.
+module _ (c : HostContents) (log : Log) (port : ℕ) (t : Table DeviceConnection) (hands : List Handshake) (x : IsStreamed c log port t hands) where
+  pub unlisted : (id : ℕ) → ((b : Seen) → look c id ≡ Some b → b.label ≡ None) → Contains c.labelled id → ⊥
+  unlisted id free within =
+      let h = x.streams.listed id within in
+      let both : Some h.connection ≡ None = sym h.label ∙ free h.stream h.there in absurd cc
+
+  -- No stream has the label of a flow whose port is still to come.
+  pub none_counted : (f : Flow) → is_assigned f.host ≡ true → port ≤ f.host → count_in c f ≡ 0
+  none_counted f assigned less = by (count_in c f) refl
+    where
+      by : (n : ℕ) → count_in c f ≡ n → n ≡ 0
+      by zero is = refl
+      by (suc n) is =
+          let one = x.streams.every (record { flow = f; number = 1 }) (omega arith) (omega (arith, is)) in
+          let l = x.streams.labels one.0 one.1 (record { flow = f; number = 1 }) one.2 one.3 in
+          let below = l.ported assigned in absurd (omega (arith, below, less))
+
+-- No connection of a table has this flow.
+pub none_apart : (t : Table DeviceConnection) (f : Flow) → entry_of t f ≡ None → All (λ e. e.flow ≢ f) t.entries
+none_apart t f none i e within same =
+    let fails = none_found (λ (y : DeviceEntry). same_flow f y.flow) t.entries none i e within in
+    let both : true ≡ false = sym (same_self f) ∙ ap (λ (g : Flow). same_flow f g) (sym same) ∙ fails in absurd cc
+
 -- LABEL: a whole line opens a connection.
 module _ (c : HostContents) (log : Log) (port : ℕ) (t : Table DeviceConnection) (lines : List Handshake) (x : IsStreamed c log port t lines)
     (id guest : ℕ) (line : List ℕ) (here : look c id ≡ Some (reading line)) (away : All (λ h. h.stream ≢ id) lines)
-    (whole : has_line line ≡ true) (none_behind : after_line line ≡ []) (inside : is_assigned port ≡ true) (sound : IsTable t) where
+    (whole : has_line line ≡ true) (none_behind : after_line line ≡ []) (inside : is_assigned port ≡ true) (sound : IsTable t)
+    (alone : entry_of t (host_flow guest port) ≡ None) where
   abbrev f : Flow
   f = host_flow guest port
 
   abbrev labelled_now : HostContents
   labelled_now = after_label id f c
 
-  label_seen : look labelled_now id ≡ Some (record (reading line) { label = Some f })
-  label_seen =
-      let s = there id c (reading line) here in
-      changed_seen id (λ y. record y { label = Some f }) (with_label_call id c) s.stream s.at
-      ∙ ap (λ (y : Seen). let r : Seen = record y { label = Some f } in Some r) s.is
+  abbrev stream_before : Stream
+  stream_before = (there id c (reading line) here).stream
 
-  others_labelled : (j : ℕ) → j ≢ id → look c j ≡ look labelled_now j
-  others_labelled j other = others_seen id (λ y. record y { label = Some f }) (with_label_call id c) j other
+  abbrev stream_now : Stream
+  stream_now = record stream_before { label = Some f }
+
+  free : (b : Seen) → look c id ≡ Some b → b.label ≡ None
+  free b is = ap (λ (s : Seen). s.label) (sym (some_seen (reading line) b (sym here ∙ is)))
+
+  unlabelled : (o : Option Flow) → option_map (connection_in c id) o ≡ None → o ≡ None
+  unlabelled None is = refl
+  unlabelled (Some g) is = absurd cc
 
   no_label : has_label id c ≡ false
   no_label =
       let s = there id c (reading line) here in
-      let label : s.stream.label ≡ None = ap (λ (y : Seen). y.label) s.is in
+      let label : s.stream.label ≡ None = unlabelled s.stream.label (ap (λ (y : Seen). y.label) s.is) in
       ap (λ (o : Option Stream). option_map_or (λ (y : Stream). is_some y.label) o false) s.at ∙ ap (λ (o : Option Flow). is_some o) label
 
-  fresh_label : (j : ℕ) (u : Seen) → look c j ≡ Some u → u.label ≢ Some f
-  fresh_label j u is on = let old = x.streams.labels j u f is on in absurd (omega (arith, old.ported inside))
+  list_is : labelled_now.labelled ≡ c.labelled ++ id ∷ []
+  list_is = ap (λ (b : Bool). cond b c.labelled (c.labelled ++ id ∷ [])) no_label
+
+  others_at : (j : ℕ) → j ≢ id → stream_at j labelled_now ≡ stream_at j c
+  others_at j other = keeps_others id (λ y. record y { label = Some f }) (with_label_call id c) j other
+
+  now_at : stream_at id labelled_now ≡ Some stream_now
+  now_at = stream_at-with_stream id (λ y. record y { label = Some f }) (with_label_call id c) stream_before (there id c (reading line) here).at
+
+  none_listed : Contains c.labelled id → ⊥
+  none_listed = unlisted c log port t lines x id free
+
+  none_yet : count_in c f ≡ 0
+  none_yet = none_counted c log port t lines x f inside (omega arith)
+
+  abbrev first : Connection
+  first = record { flow = f; number = count_in c f + 1 }
+
+  label_seen : look labelled_now id ≡ Some (record (reading line) { label = Some first })
+  label_seen =
+      here_then c labelled_now id f list_is others_at stream_now now_at refl none_listed
+      ∙ ap (λ (y : Seen). let r : Seen = record y { label = Some first } in Some r) (there id c (reading line) here).is
+
+  others_labelled : (j : ℕ) → j ≢ id → look c j ≡ look labelled_now j
+  others_labelled j other = others_then c labelled_now id f list_is others_at stream_now now_at refl none_listed j other
+
+  counts : (g : Flow) → count_in labelled_now g ≡ cond (same_flow g f) (count_in c g + 1) (count_in c g)
+  counts = counts_then c labelled_now id f list_is others_at stream_now now_at refl none_listed
+
+  own_count : count_in labelled_now f ≡ count_in c f + 1
+  own_count = counts f ∙ ap (λ (b : Bool). cond b (count_in c f + 1) (count_in c f)) (same_self f)
+
+  -- No REQUEST was put there, and no bytes.
+  no_request : number_of Device f log ≡ 0
+  no_request = let most = counted_inside.1 in omega (arith, most, none_yet)
+    where
+      counted_inside : IsCounted true (count_in c f) (number_of Device f log) (has is_clean_rst (puts (history_of Device f log)))
+      counted_inside = subst (λ (b : Bool). IsCounted b (count_in c f) (number_of Device f log) (has is_clean_rst (puts (history_of Device f log)))) inside
+          (x.streams.counted f)
+
+  new_number : first ≡ connection_of (next_entry t f (new_connection (asked kind.Stream BUF_ALLOC) id true)) log
+  new_number = ap (λ (n : ℕ). let d : Connection = record { flow = f; number = n + 1 } in d) (none_yet ∙ sym no_request)
+
+  fresh_label : (j : ℕ) (u : Seen) → look c j ≡ Some u → u.label ≢ Some first
+  fresh_label j u is on = let most = (x.streams.labels j u first is on).most in absurd (omega (arith, most))
+
+  label_counted : (g : Flow) → AreCounted (count_in c) log g → AreCounted (count_in labelled_now) log g
+  label_counted g old = by (same_flow g f) refl (counts g)
+    where
+      own : is_assigned g.host ≡ true → count_in c g ≡ 0 → number_of Device g log ≡ 0 → count_in labelled_now g ≡ count_in c g + 1 → AreCounted (count_in labelled_now) log g
+      own assigned none zero_of more = subst (λ (b : Bool). IsCounted b (count_in labelled_now g) (number_of Device g log) (has is_clean_rst (puts (history_of Device g log))))
+          (sym assigned) (omega (arith, more, none), omega (arith, zero_of))
+
+      by : (b : Bool) → same_flow g f ≡ b → count_in labelled_now g ≡ cond b (count_in c g + 1) (count_in c g) → AreCounted (count_in labelled_now) log g
+      by true same more =
+          let is : f ≡ g = sym (same_flow_true g f same) in
+          own (subst (λ (h : Flow). is_assigned h.host ≡ true) is inside) (subst (λ (h : Flow). count_in c h ≡ 0) is none_yet)
+          (subst (λ (h : Flow). number_of Device h log ≡ 0) is no_request) more
+      by false other stays = subst (λ (n : ℕ). AreCounted (λ h. n) log g) (sym stays) old
 
   pub label_host : IsStreamed labelled_now log (port + 1) (with_entry t f (new_connection (asked kind.Stream BUF_ALLOC) id true)) lines
   label_host =
-      let none : put_on Device f log ≡ [] = x.streams.none f fresh_label in
-      subst (λ (ids : List ℕ). AreStreamed (look labelled_now) ids log (port + 1) (with_entry t f (new_connection (asked kind.Stream BUF_ALLOC) id true)) lines)
-      (sym (ap (λ (b : Bool). cond b c.labelled (c.labelled ++ id ∷ [])) no_label))
-      (opened_streamed (look c) (look labelled_now) c.labelled log log port (port + 1) t lines lines x id (record (reading line) { label = Some f }) f
-      (new_connection (asked kind.Stream BUF_ALLOC) id true) label_seen refl refl others_labelled
-      (λ b is. ap (λ (s : Seen). s.label) (sym (some_seen (reading line) b (sym here ∙ is)))) (omega arith) (λ g. refl) (λ g. refl)
-      (λ g is. is) fresh_label sound refl refl
+      let none : payload_put Device first log ≡ [] = x.streams.none first fresh_label in
+      subst (λ (ids : List ℕ). AreStreamed (look labelled_now) ids (count_in labelled_now) log (port + 1)
+      (with_entry t f (new_connection (asked kind.Stream BUF_ALLOC) id true)) lines)
+      (sym list_is)
+      (opened_streamed (look c) (look labelled_now) c.labelled (count_in c) (count_in labelled_now) log log port (port + 1) t lines lines x id
+      (record (reading line) { label = Some first }) first
+      (new_connection (asked kind.Stream BUF_ALLOC) id true) label_seen refl refl others_labelled free (omega arith) counts refl (λ g. refl) (λ g. refl)
+      (none_apart t f alone) (λ g other. refl) label_counted sound refl refl
       (record {
-        listed = Contains-push c.labelled id;
+        some = omega arith;
+        most = omega (arith, own_count);
         client = sym inside;
         whole = λ is. whole;
         took = none ∙ sym none_behind;
-        gave = (line_for f ++ got_on Device f log, refl);
+        gave = (line_for f ++ payload_got Device first log, refl);
         ported = λ is. omega arith;
-        passed = λ is. let both : true ≡ false = sym inside ∙ is in absurd cc;
       })
       (record {
-        stream = record (reading line) { label = Some f };
+        stream = record (reading line) { label = Some first };
         there = label_seen;
-        label = refl;
+        label = ap (λ (d : Connection). Some d) new_number;
+        newest = ap (λ (d : Connection). d.number) (sym new_number) ∙ sym own_count;
         client = sym inside;
         closed = refl;
-        drains = record { front = (line_for f ++ got_on Device f log, refl); whole = λ is. absurd cc };
+        drains = record {
+          front = (line_for f ++ payload_got Device (connection_of (next_entry t f (new_connection (asked kind.Stream BUF_ALLOC) id true)) log) log, refl);
+          whole = λ is. absurd cc;
+        };
         asked = λ is. (refl, refl, refl, refl);
       })
       (record {
@@ -221,65 +324,120 @@ module _ (c : HostContents) (log : Log) (port : ℕ) (t : Table DeviceConnection
         apart = x.streams.lines.apart;
       }))
 
--- DIAL: a connection opens with a new stream.
-module _ (c : HostContents) (log new : Log) (port : ℕ) (t : Table DeviceConnection) (hands : List Handshake) (x : IsStreamed c log port t hands)
-    (sound : IsTable t) (f : Flow) (h : Header) (outside : is_assigned f.host ≡ false) (quiet : has_passed Device f log ≡ false)
-    (passes : has_passed Device f new ≡ true)
-    (put : (g : Flow) → put_on Device g log ≡ put_on Device g new) (got : (g : Flow) → got_on Device g log ≡ got_on Device g new)
-    (passed : (g : Flow) → has_passed Device g log ≡ true → has_passed Device g new ≡ true) where
+-- DIAL: a connection opens with a new stream, on a REQUEST after which the log stays fair.
+module _ (c : HostContents) (log : Log) (port : ℕ) (t : Table DeviceConnection) (hands : List Handshake) (x : IsStreamed c log port t hands)
+    (sound : IsTable t) (p : Packet) (fair : IsFairLog Device (GotPacket p ∷ log)) (asks : is_request p ≡ true) (empty : p.payload ≡ [])
+    (alone : entry_of t (flow_got Device p) ≡ None) where
+  abbrev g : Flow
+  g = flow_got Device p
+
+  abbrev new : Log
+  new = GotPacket p ∷ log
+
   abbrev new_stream : Stream
-  new_stream = dialed_stream f c.prepared
+  new_stream = dialed_stream g c.prepared
+
+  abbrev new_id : ℕ
+  new_id = length c.streams + 1
 
   abbrev dialed_now : HostContents
-  dialed_now = after_dial f (dialed.Stream (length c.streams + 1)) c
+  dialed_now = after_dial g (dialed.Stream new_id) c
 
-  dialed_seen : look dialed_now (length c.streams + 1) ≡ Some (seen (dialed_stream f c.prepared))
-  dialed_seen = ap (option_map seen) (new_there new_stream c)
+  asked_then : IsAsked (count_in c) log p
+  asked_then = request_asks p log (count_in c) fair asks (x.streams.counted g)
 
-  others_dialed : (j : ℕ) → j ≢ length c.streams + 1 → look c j ≡ look dialed_now j
-  others_dialed j other = ap (option_map seen) (sym (others_there new_stream c j other))
+  nothing_before : (b : Seen) → look c new_id ≡ Some b → b.label ≡ None
+  nothing_before b is = let both : None ≡ Some b = sym (ap (option_map (seen c new_id)) (none_there new_stream c)) ∙ is in absurd cc
 
-  nothing_before : (b : Seen) → look c (length c.streams + 1) ≡ Some b → b.label ≡ None
-  nothing_before b is = let both : None ≡ Some b = sym (ap (option_map seen) (none_there new_stream c)) ∙ is in absurd cc
+  dial_unlisted : Contains c.labelled new_id → ⊥
+  dial_unlisted = unlisted c log port t hands x new_id nothing_before
 
-  fresh_dial : (j : ℕ) (u : Seen) → look c j ≡ Some u → u.label ≢ Some f
-  fresh_dial j u is on =
-      let old = x.streams.labels j u f is on in
-      let both : true ≡ false = sym (old.passed outside) ∙ quiet in
-      absurd cc
+  others_at_dial : (j : ℕ) → j ≢ new_id → stream_at j dialed_now ≡ stream_at j c
+  others_at_dial j other = others_there new_stream c j other
 
-  no_first_line : line_for f ≡ []
-  no_first_line = ap (λ (b : Bool). cond b (ok_text f.host) []) outside
+  abbrev next_one : Connection
+  next_one = record { flow = g; number = count_in c g + 1 }
 
-  pub dial_host : IsStreamed dialed_now new port (with_entry t f (new_connection (answering kind.Stream BUF_ALLOC h) (length c.streams + 1) false)) hands
-  dial_host =
-      let none_put_on : put_on Device f new ≡ [] = sym (put f) ∙ none_put Device f log quiet in
-      let none_got_on : got_on Device f new ≡ [] = sym (got f) ∙ none_got Device f log quiet in
-      let all : line_for f ++ got_on Device f new ≡ [] = ap (λ (bytes : List ℕ). bytes ++ got_on Device f new) no_first_line ∙ none_got_on in
-      opened_streamed (look c) (look dialed_now) c.labelled log new port port t hands hands x (length c.streams + 1) (seen (dialed_stream f c.prepared)) f
-      (new_connection (answering kind.Stream BUF_ALLOC h) (length c.streams + 1) false) dialed_seen refl refl others_dialed nothing_before
-      (omega arith) put got passed fresh_dial sound refl refl
+  dialed_seen : look dialed_now new_id ≡ Some (seen_as (Some next_one) (dialed_stream g c.prepared))
+  dialed_seen = here_then c dialed_now new_id g refl others_at_dial new_stream (new_there new_stream c) refl dial_unlisted
+
+  others_dialed : (j : ℕ) → j ≢ new_id → look c j ≡ look dialed_now j
+  others_dialed j other = others_then c dialed_now new_id g refl others_at_dial new_stream (new_there new_stream c) refl dial_unlisted j other
+
+  dial_counts : (f : Flow) → count_in dialed_now f ≡ cond (same_flow f g) (count_in c f + 1) (count_in c f)
+  dial_counts = counts_then c dialed_now new_id g refl others_at_dial new_stream (new_there new_stream c) refl dial_unlisted
+
+  dial_count : count_in dialed_now g ≡ count_in c g + 1
+  dial_count = dial_counts g ∙ ap (λ (b : Bool). cond b (count_in c g + 1) (count_in c g)) (same_self g)
+
+  fresh_dial : (j : ℕ) (u : Seen) → look c j ≡ Some u → u.label ≢ Some next_one
+  fresh_dial j u is on = let most = (x.streams.labels j u next_one is on).most in absurd (omega (arith, most))
+
+  number_now : count_in c g + 1 ≡ number_of Device g new
+  number_now = ap (λ (n : ℕ). n + 1) asked_then.all ∙ sym asked_then.next
+
+  now_is : next_one ≡ current Device g new
+  now_is = ap (λ (n : ℕ). let d : Connection = record { flow = g; number = n } in d) number_now
+
+  -- Nothing came there but the REQUEST.
+  nothing_came : payload_got Device next_one new ≡ []
+  nothing_came =
+      ap (λ (d : Connection). payload_got Device d new) now_is ∙ present_got Device g new (fair g)
+      ∙ ap (λ (b : Bool). payload_of (gots (cond b (and_then (Got p) (history_of Device g log)) (history_of Device g log)))) (same_self g)
+      ∙ ap (λ (b : Bool). payload_of (gots (cond b (Got p ∷ []) (Got p ∷ history_of Device g log)))) asks
+      ∙ empty
+
+  dial_counted : (f : Flow) → AreCounted (count_in c) log f → AreCounted (count_in dialed_now) new f
+  dial_counted f old = by (same_flow f g) refl (dial_counts f)
+    where
+      own : is_assigned f.host ≡ false → count_in dialed_now f ≡ number_of Device f new → AreCounted (count_in dialed_now) new f
+      own guest all = subst (λ (b : Bool). IsCounted b (count_in dialed_now f) (number_of Device f new) (has is_clean_rst (puts (history_of Device f new))))
+          (sym guest) (omega (arith, all), λ marked. all)
+
+      by : (b : Bool) → same_flow f g ≡ b → count_in dialed_now f ≡ cond b (count_in c f + 1) (count_in c f) → AreCounted (count_in dialed_now) new f
+      by true same more =
+          let is : g ≡ f = sym (same_flow_true f g same) in
+          own (subst (λ (h : Flow). is_assigned h.host ≡ false) is asked_then.guest)
+          (more ∙ subst (λ (h : Flow). count_in c h + 1 ≡ number_of Device h new) is number_now)
+      by false other stays = subst (λ (n : ℕ). AreCounted (λ h. n) new f) (sym stays) (counted_got p log (count_in c) f old)
+
+  no_first_line : line_for g ≡ []
+  no_first_line = ap (λ (b : Bool). cond b (ok_text g.host) []) asked_then.guest
+
+  pub dial_host : (h : Header) → IsStreamed dialed_now new port (with_entry t g (new_connection (answering kind.Stream BUF_ALLOC h) new_id false)) hands
+  dial_host h =
+      let none_put : payload_put Device next_one new ≡ [] = put_over_got Device p log next_one ∙ x.streams.none next_one fresh_dial in
+      let all : line_for g ++ payload_got Device next_one new ≡ [] = ap (λ (bytes : List ℕ). bytes ++ payload_got Device next_one new) no_first_line ∙ nothing_came in
+      opened_streamed (look c) (look dialed_now) c.labelled (count_in c) (count_in dialed_now) log new port port t hands hands x new_id
+      (seen_as (Some next_one) (dialed_stream g c.prepared)) next_one
+      (new_connection (answering kind.Stream BUF_ALLOC h) new_id false) dialed_seen refl refl others_dialed nothing_before
+      (omega arith) dial_counts refl (λ d. sym (put_over_got Device p log d)) (got_nothing Device p log empty) (none_apart t g alone)
+      (number_elsewhere p log) dial_counted sound refl refl
       (record {
-        listed = Contains-push c.labelled (length c.streams + 1);
-        client = sym outside;
+        some = omega arith;
+        most = omega (arith, dial_count);
+        client = sym asked_then.guest;
         whole = λ is. absurd cc;
-        took = none_put_on;
-        gave = (line_for f ++ got_on Device f new, refl);
-        ported = λ is. let both : true ≡ false = sym is ∙ outside in absurd cc;
-        passed = λ is. passes;
+        took = none_put;
+        gave = (line_for g ++ payload_got Device next_one new, refl);
+        ported = λ is. let both : true ≡ false = sym is ∙ asked_then.guest in absurd cc;
       })
       (record {
-        stream = seen (dialed_stream f c.prepared);
+        stream = seen_as (Some next_one) (dialed_stream g c.prepared);
         there = dialed_seen;
-        label = refl;
-        client = sym outside;
+        label = ap (λ (d : Connection). Some d) now_is;
+        newest = sym number_now ∙ sym dial_count;
+        client = sym asked_then.guest;
         closed = refl;
-        drains = record { front = (line_for f ++ got_on Device f new, refl); whole = λ is. sym all };
+        drains = subst (λ (d : Connection). Drains true [] [] (line_for g ++ payload_got Device d new)) now_is
+            (record { front = (line_for g ++ payload_got Device next_one new, refl); whole = λ is. sym all });
         asked = λ is. absurd cc;
       })
       (record {
-        read = λ i g within. more_kept (dialed_stream f c.prepared) c (get_or hands i g).stream (reading (get_or hands i g).line)
-            (x.streams.lines.read i g within);
+        read = λ i k within. sym (others_dialed (get_or hands i k).stream (λ place.
+            let seen_there = ap (look c) (sym place) ∙ x.streams.lines.read i k within in
+            let both : None ≡ Some (reading (get_or hands i k).line) = sym (ap (option_map (seen c new_id)) (none_there new_stream c)) ∙ seen_there in absurd cc))
+            ∙ x.streams.lines.read i k within;
         undecided = x.streams.lines.undecided;
         apart = x.streams.lines.apart;
       })

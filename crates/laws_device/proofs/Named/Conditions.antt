@@ -1,7 +1,7 @@
 -- What a call asks for, of the host and of the ring apart.
 use Rattle.std.proofs.{Common.◌≡◌, Common.◌==◌, Common.true, Common.arith, lemmas.Bool.Decides.nat_tests}
-use Rattle.vs_ring_port.specs.Contents.{Take, Read, Write, Return, Given, PublishCid}
-use Rattle.vs_device_parts.specs.Calls.{Call, Ring, Accept, Dial, Label, ReadStream, WriteStream, ShutWrite, CloseStream, Situation}
+use Rattle.vs_ring_port.specs.Contents.{Write, Return}
+use Rattle.vs_device_parts.specs.Calls.{Call, Ring, Accept, Dial, Situation}
 use Rattle.vs_device_parts.specs.{Calls.DeviceTree, Calls.Allows, Playing.CanMake, Playing.MayRun}
 use Rattle.laws_device.specs.Named.Split.{CanPut, CanReach, MayPut, MayReach, is_quiet}
 use Rattle.laws_device.proofs.Named.Keeping.{may_both}

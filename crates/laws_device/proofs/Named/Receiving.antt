@@ -5,7 +5,7 @@ use Rattle.laws_device.proofs.Named.Tables.{has_moved, some_after, some_from, st
 use Rattle.laws_device.specs.Named.{Split.CanReach, Streams.FindsStreams, Streams.HasStreams}
 use Rattle.laws_device.proofs.Named.{Closing.D, Closing.closes, Closing.stays, Keeping.asking, Keeping.Keeps, Ends.reads_not}
 use Rattle.laws_device.proofs.Named.{Ends.shut_over, Writing.all_stay, Writing.finds_changed}
-use Rattle.std.proofs.Common.{◌≡◌, ℕ, Bool, true, false, List, [], ◌∷◌, length, None, refl}
+use Rattle.std.proofs.Common.{◌≡◌, ℕ, Bool, true, false, List, [], ◌∷◌, length, refl}
 use Rattle.std.specs.Option.{ForSome}
 use Rattle.vs_conn.specs.End.{paid_of, wanting_credit, with_payload_sent}
 use Rattle.vs_conn.{specs.Headers.payload_header, proofs.Frames.paid_over}
@@ -19,7 +19,6 @@ use Rattle.vs_device_parts.specs.Receiving.{Filling, fill_rx_of, may_read, pay_e
 use Rattle.vs_device_parts.specs.{Calls.ReadStream, Calls.Situation, Calls.Allows, Connections.after_shut, Connections.route_to_guest}
 use Rattle.vs_device_parts.specs.{Receiving.written, State.DeviceConnection, State.DeviceEntry, State.DeviceState}
 use Rattle.laws_device.proofs.Walk.Serving as walked
-use Rattle.vs_conn.specs.declared.end.Owed.TheVariants as owed
 use Rattle.vs_outside.specs.declared.host_net.StreamRead.TheVariants as read
 use Rattle.vs_ring_port.specs.declared.device_ring.Next.TheVariants as next
 

@@ -1,29 +1,41 @@
--- What the host's streams took and gave, against the packets of their flows.
-use Rattle.std.specs.Prelude.{◌≡◌, ◌≢◌, ℕ, ◌<◌, ◌++◌, ◌==◌, not, Bool, true, false, if◌then◌else◌, List, [], Option, Some, None, AllPairs}
-use Rattle.std.specs.{Prelude.Contains, List.All, List.list_any, Option.option_map}
+-- What the host's streams took and gave, against the packets of their connections.
+use Rattle.std.specs.Prelude.{◌≡◌, ◌≢◌, ℕ, ◌+◌, ◌<◌, ◌≤◌, ◌++◌, ◌==◌, not, Bool, true, false, if◌then◌else◌, List, [], Option, Some, None}
+use Rattle.std.specs.{Prelude.{AllPairs, Contains, length, position}, List.All, List.list_any, Option.option_map, Option.option_map_or}
 use Rattle.vs_conn.specs.{End.ConnectionEnd, declared.end.State.State, declared.end.State.TheVariants.{Answering, Asked, Live}}
 use Rattle.vs_device_parts.specs.State.{DeviceConnection, DeviceEntry}
-use Rattle.vs_flow.specs.{Flow.is_assigned, Table.Table, declared.flow.Flow.Flow}
-use Rattle.vs_outside.specs.{Host.HostContents, Host.Stream, Host.stream_at, Host.waits, HostBytes.after_line, HostProgram.is_closed}
+use Rattle.vs_flow.specs.{Connection.Connection, Flow.is_assigned, Table.Table, declared.flow.Flow.Flow}
+use Rattle.vs_outside.specs.{Host.HostContents, Host.Stream, Host.stream_at, Host.waits, HostBytes.after_line, HostBytes.labelled_with}
+use Rattle.vs_outside.specs.HostProgram.{is_closed}
 use Rattle.laws_device.specs.Named.Streams.{stream_under}
 use Rattle.vs_uds.specs.{declared.scan.TheConstants.LF, OkLine.ok_text, Reading.is_decided, declared.connect.TheConstants.CONNECT_MAX}
-use Rattle.vs_page.specs.{Fair.IsPrefixOf, Log.Device, Log.Log}
+use Rattle.vs_page.specs.{Fair.IsPrefixOf, Fair.number_of, Fair.payload_got, Fair.payload_put, Log.Device, Log.Log, Log.history_of}
 use Rattle.vs_proxy_parts.specs.State.{Handshake}
-use Rattle.laws_tables.specs.Drains.{Drains, got_on, has_passed, put_on}
+use Rattle.laws_history.specs.{History.puts, Packets.has, Packets.is_clean_rst}
+use Rattle.laws_tables.specs.{Drains.Drains, Ends.is_new}
 
--- What counts of a stream: its label, who made it, whether it waits to be accepted, whether the proxy closed it, and the bytes that the
--- proxy took of it and gave it.
+-- What counts of a stream: the connection that it is by its label, who made it, whether it waits to be accepted, whether the proxy closed
+-- it, and the bytes that the proxy took of it and gave it.
 pub record Seen : Type 0 where
-  pub label : Option Flow
+  pub label : Option Connection
   pub by_client : Bool
   pub waiting : Bool
   pub closed : Bool
   pub taken : List ℕ
   pub given : List ℕ
 
-abbrev pub seen : Stream → Seen
-seen s = record {
-  label = s.label;
+-- The streams with one label are counted from 1, in the order in which they got it. A stream that the host doesn't list has number 0.
+abbrev pub number_in : List ℕ → ℕ → ℕ
+number_in ids id = option_map_or (λ place. place + 1) (position (λ other. other == id) ids) 0
+
+abbrev pub connection_in : HostContents → ℕ → Flow → Connection
+connection_in c id f = record { flow = f; number = number_in (labelled_with f c) id }
+
+abbrev pub count_in : HostContents → Flow → ℕ
+count_in c f = length (labelled_with f c)
+
+abbrev pub seen_as : Option Connection → Stream → Seen
+seen_as label s = record {
+  label = label;
   by_client = s.by_client;
   waiting = waits s.state;
   closed = is_closed s;
@@ -31,8 +43,11 @@ seen s = record {
   given = s.given;
 }
 
+abbrev pub seen : HostContents → ℕ → Stream → Seen
+seen c id s = seen_as (option_map (connection_in c id) s.label) s
+
 abbrev pub look : HostContents → ℕ → Option Seen
-look c id = option_map seen (stream_at id c)
+look c id = option_map (seen c id) (stream_at id c)
 
 -- A client that waits, and one whose line is being read.
 abbrev pub client_waits : Seen
@@ -61,25 +76,32 @@ gives_in _ shut = false
 abbrev pub gives : ConnectionEnd → Bool
 gives e = gives_in e.state e.own.receive
 
--- A stream with a label: the payload put on its flow was taken of it, and it was given a prefix of its OK line and the payload got.
-pub record IsLabelled (id : ℕ) (s : Seen) (f : Flow) (labelled : List ℕ) (log : Log) (port : ℕ) : Type 0 where
-  pub listed : Contains labelled id
-  pub client : s.by_client ≡ is_assigned f.host
-  pub whole : s.by_client ≡ true → has_line s.taken ≡ true
-  pub took : put_on Device f log ≡ taken_of s
-  pub gave : IsPrefixOf s.given (line_for f ++ got_on Device f log)
-  -- Its flow isn't one that is still to come.
-  pub ported : is_assigned f.host ≡ true → f.host < port
-  pub passed : is_assigned f.host ≡ false → has_passed Device f log ≡ true
+-- The connection of an entry of the device's table: the present one of its flow, or the next one, where its REQUEST isn't put.
+abbrev pub connection_of : DeviceEntry → Log → Connection
+connection_of e log = let n = number_of Device e.flow log in record { flow = e.flow; number = if is_new e.value.end then n + 1 else n }
 
--- A connection and its stream, which is open until a RESPONSE came.
-pub record IsJoined (at : ℕ → Option Seen) (log : Log) (e : DeviceEntry) : Type 0 where
+-- A stream with a label: the payload put on its connection was taken of it, and it was given a prefix of its OK line and the payload got
+-- there. Its number is one of those that its flow's streams have.
+pub record IsLabelled (s : Seen) (c : Connection) (count : Flow → ℕ) (log : Log) (port : ℕ) : Type 0 where
+  pub some : 1 ≤ c.number
+  pub most : c.number ≤ count c.flow
+  pub client : s.by_client ≡ is_assigned c.flow.host
+  pub whole : s.by_client ≡ true → has_line s.taken ≡ true
+  pub took : payload_put Device c log ≡ taken_of s
+  pub gave : IsPrefixOf s.given (line_for c.flow ++ payload_got Device c log)
+  -- Its flow isn't one that is still to come.
+  pub ported : is_assigned c.flow.host ≡ true → c.flow.host < port
+
+-- A connection and its stream, which is its flow's newest, and open until a RESPONSE came.
+pub record IsJoined (at : ℕ → Option Seen) (count : Flow → ℕ) (log : Log) (e : DeviceEntry) : Type 0 where
   pub stream : Seen
   pub there : at e.value.stream ≡ Some stream
-  pub label : stream.label ≡ Some e.flow
+  pub label : stream.label ≡ Some (connection_of e log)
+  pub newest : (connection_of e log).number ≡ count e.flow
   pub client : e.value.by_client ≡ is_assigned e.flow.host
   pub closed : stream.closed ≡ e.value.closed
-  pub drains : Drains (gives e.value.end) stream.given (e.value.ok_line ++ e.value.pending) (line_for e.flow ++ got_on Device e.flow log)
+  pub drains : Drains (gives e.value.end) stream.given (e.value.ok_line ++ e.value.pending)
+      (line_for e.flow ++ payload_got Device (connection_of e log) log)
   pub asked : e.value.end.state ≡ Asked → (stream.given ≡ []) × (e.value.ok_line ≡ []) × (e.value.pending ≡ []) × (e.value.closed ≡ false)
 
 -- Lines that are being read: each of its own stream, and none is whole.
@@ -88,23 +110,45 @@ pub record AreLines (at : ℕ → Option Seen) (lines : List Handshake) : Type 0
   pub undecided : All (λ h. is_decided CONNECT_MAX h.line ≡ false) lines
   pub apart : AllPairs (λ g h. g.stream ≢ h.stream) lines
 
--- No two streams have one label. On a flow without a stream no payload was put.
-pub record AreLabelled (at : ℕ → Option Seen) (labelled : List ℕ) (log : Log) (port : ℕ) (hands : List Handshake) : Type 0 where
-  pub labels : (id : ℕ) (s : Seen) (f : Flow) → at id ≡ Some s → s.label ≡ Some f
-      → IsLabelled id s f labelled log port
-  pub unique : (i j : ℕ) (s t : Seen) (f : Flow) → at i ≡ Some s → at j ≡ Some t → s.label ≡ Some f → t.label ≡ Some f
+-- How many streams have a flow as label, against the REQUESTs on it. Each flow whose port the proxy assigned has one stream at most, and no
+-- REQUEST is put without one. On any other flow a REQUEST that is dropped or refused gets no stream, and none follows it: so each REQUEST has one,
+-- where the device put a marked RST on the present connection, and another REQUEST may come.
+abbrev pub IsCounted : Bool → ℕ → ℕ → Bool → Type 0
+IsCounted true count number marked = (count ≤ 1) × (number ≤ count)
+IsCounted false count number marked = (count ≤ number) × (marked ≡ true → count ≡ number)
+
+abbrev pub AreCounted : (Flow → ℕ) → Log → Flow → Type 0
+AreCounted count log f =
+    IsCounted (is_assigned f.host) (count f) (number_of Device f log) (has is_clean_rst (puts (history_of Device f log)))
+
+-- A stream that has a label.
+pub record HasLabel (at : ℕ → Option Seen) (id : ℕ) : Type 0 where
+  pub stream : Seen
+  pub connection : Connection
+  pub there : at id ≡ Some stream
+  pub label : stream.label ≡ Some connection
+
+-- No two streams are of one connection, the streams with a flow as label have all numbers up to their count, and each id that is listed is
+-- that of a stream with a label. On a connection without a stream no payload was put.
+pub record AreLabelled (at : ℕ → Option Seen) (labelled : List ℕ) (count : Flow → ℕ) (log : Log) (port : ℕ) (hands : List Handshake)
+    : Type 0 where
+  pub labels : (id : ℕ) (s : Seen) (c : Connection) → at id ≡ Some s → s.label ≡ Some c → IsLabelled s c count log port
+  pub unique : (i j : ℕ) (s t : Seen) (c : Connection) → at i ≡ Some s → at j ≡ Some t → s.label ≡ Some c → t.label ≡ Some c
       → i ≡ j
-  pub none : (f : Flow) → ((id : ℕ) (s : Seen) → at id ≡ Some s → s.label ≢ Some f) → put_on Device f log ≡ []
+  pub every : (c : Connection) → 1 ≤ c.number → c.number ≤ count c.flow → (id : ℕ) × (s : Seen) × (at id ≡ Some s) × (s.label ≡ Some c)
+  pub listed : (id : ℕ) → Contains labelled id → HasLabel at id
+  pub counted : (f : Flow) → AreCounted count log f
+  pub none : (c : Connection) → ((id : ℕ) (s : Seen) → at id ≡ Some s → s.label ≢ Some c) → payload_put Device c log ≡ []
   pub waiting : (id : ℕ) (s : Seen) → at id ≡ Some s → s.waiting ≡ true → s ≡ client_waits
   pub lines : AreLines at hands
 
 -- Each connection has its stream, and each stream with a label that isn't closed is that of a connection.
-pub record AreStreamed (at : ℕ → Option Seen) (labelled : List ℕ) (log : Log) (port : ℕ) (table : Table DeviceConnection)
-    (hands : List Handshake) : Type 0 where
-  pub joined : All (IsJoined at log) table.entries
-  pub tabled : (id : ℕ) (s : Seen) (f : Flow) → at id ≡ Some s → s.label ≡ Some f → s.closed ≡ false
+pub record AreStreamed (at : ℕ → Option Seen) (labelled : List ℕ) (count : Flow → ℕ) (log : Log) (port : ℕ)
+    (table : Table DeviceConnection) (hands : List Handshake) : Type 0 where
+  pub joined : All (IsJoined at count log) table.entries
+  pub tabled : (id : ℕ) (s : Seen) (c : Connection) → at id ≡ Some s → s.label ≡ Some c → s.closed ≡ false
       → (slot : ℕ) × (stream_under table slot ≡ Some id)
-  pub streams : AreLabelled at labelled log port hands
+  pub streams : AreLabelled at labelled count log port hands
 
 abbrev pub IsStreamed : HostContents → Log → ℕ → Table DeviceConnection → List Handshake → Type 0
-IsStreamed c log port table lines = AreStreamed (look c) c.labelled log port table lines
+IsStreamed c log port table lines = AreStreamed (look c) c.labelled (count_in c) log port table lines

@@ -1,4 +1,6 @@
 -- Calls that read nothing keep the account: those that make no use of the ring, and a send.
+use Rattle.laws_tables.proofs.Adding.{number_put}
+use Rattle.laws_tables.proofs.Adding.{got_over_put}
 use Rattle.std.proofs.Common.{◌≡◌, ℕ, ◌==◌, not, Bool, true, false, cond, List, [], ◌∷◌, take, length, Option, Some, None, refl, Contains}
 use Rattle.std.proofs.{Common.Result, Common.Ok, Common.Err, Common.◌∙◌, lemmas.List.Elements.All-filter}
 use Rattle.vs_conn.specs.{End.grown, End.with_payload_sent, End.wanting_credit, declared.end.State.State}
@@ -17,27 +19,9 @@ use Rattle.laws_tables.{proofs.Slots.found_by, specs.Steps.payload_on}
 use Rattle.laws_tables.{specs.Drains.receives, proofs.Goes.Goes, proofs.Goes.ended_goes, proofs.Goes.shut_goes, proofs.Goes.stays_still}
 use Rattle.laws_driver.{specs.Honest.IsFitState, specs.Honest.slots_of, proofs.Calls.CarriesSend, proofs.Changing.close_changes}
 use Rattle.laws_driver.specs.Carried.Received.{Account, AreReceived, ReceivedOn}
-use Rattle.laws_driver.proofs.Carried.Adding.{asked_after, asked_still, got_over_put}
 use Rattle.laws_driver.proofs.Carried.{Reading.given_none, Receiving.changed_received, Receiving.in_slots}
 use Rattle.vs_conn.specs.declared.end.State.TheVariants as state
 use Rattle.vs_driver_parts.specs.declared.answers.Grown.TheVariants as rise
-
--- The number of a flow's present connection stays at all packets but REQUESTs.
-put_by : (side : Side) (p : Packet) (w : History) (b : Bool) → is_request p ≡ false
-    → let v : History = cond b (Put p ∷ w) w in asked_by side (puts v) (gots v) ≡ asked_by side (puts w) (gots w)
-put_by side p w true plain = asked_still side p (puts w) (gots w) plain
-put_by side p w false plain = refl
-
-got_by : (side : Side) (p : Packet) (w : History) (b : Bool) → is_request p ≡ false
-    → let v : History = cond b (Got p ∷ w) w in asked_by side (puts v) (gots v) ≡ asked_by side (puts w) (gots w)
-got_by side p w true plain = asked_after side p (puts w) (gots w) plain
-got_by side p w false plain = refl
-
-pub number_put : (role : Role) (p : Packet) (log : Log) (f : Flow) → is_request p ≡ false → number_of role f (PutPacket p ∷ log) ≡ number_of role f log
-number_put role p log f plain = put_by (side_of role f) p (whole_of role f log) (same_flow f (flow_put role p)) plain
-
-pub number_got : (role : Role) (p : Packet) (log : Log) (f : Flow) → is_request p ≡ false → number_of role f (GotPacket p ∷ log) ≡ number_of role f log
-number_got role p log f plain = got_by (side_of role f) p (whole_of role f log) (same_flow f (flow_got role p)) plain
 
 module _ (a : Account) (log : Log) (s : DriverState) (x : AreReceived a log (slots_of s)) where
   -- A connection of the table changes, and no byte moves; and the driver puts a packet besides.

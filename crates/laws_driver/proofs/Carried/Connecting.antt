@@ -1,4 +1,5 @@
 -- A connect opens a connection on which nothing was delivered; and the account of a driver that was just made.
+use Rattle.laws_tables.proofs.Adding.{got_over_put}
 use Rattle.std.proofs.Common.{◌≡◌, ◌≢◌, ℕ, ◌+◌, ◌<◌, Bool, true, false, cond, None, List, [], ◌∷◌, refl, ap, ◌∙◌, arith}
 use Rattle.std.specs.List.{All}
 use Rattle.vs_conn.specs.End.{asked, paid_of}
@@ -16,7 +17,9 @@ use Rattle.vs_driver_parts.specs.{Held.HeldSlots, State.DriverConnection, State.
 use Rattle.laws_driver.{specs.Honest.IsFitState, specs.Honest.slots_of, proofs.Calls.CarriesConnect, proofs.Putting.may_connect}
 use Rattle.laws_driver.specs.Carried.Received.{Account, AreReceived, no_account, with_opened}
 use Rattle.laws_driver.proofs.Carried.Polling.{Further, IsFurther, goes_then}
-use Rattle.laws_driver.proofs.Carried.{Adding.got_over_put, Logging.opened_goes_on, Logging.opened_received, Receiving.in_slots}
+use Rattle.laws_driver.proofs.Carried.Logging.{opened_goes_on}
+use Rattle.laws_driver.proofs.Carried.Logging.{opened_received}
+use Rattle.laws_driver.proofs.Carried.Receiving.{in_slots}
 use Rattle.vs_conn.specs.declared.end.Owed.TheVariants as owed
 
 -- The numbers given last don't count.

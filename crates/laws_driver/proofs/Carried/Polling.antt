@@ -1,4 +1,9 @@
 -- A poll keeps the account, with the ids of the connections that it opens.
+use Rattle.laws_tables.proofs.Adding.{number_got}
+use Rattle.laws_tables.proofs.Adding.{number_put}
+use Rattle.laws_tables.proofs.Adding.{got_over_put}
+use Rattle.laws_tables.proofs.Adding.{got_adds}
+use Rattle.laws_tables.specs.Drains.{only_on}
 use Rattle.std.proofs.Common.{◌≡◌, ◌≢◌, ℕ, ◌+◌, ◌<◌, ◌≤◌, ◌==◌, ◌&&◌, not, Bool, true, false, cond, List, [], ◌∷◌, ◌++◌, Contains, Option}
 use Rattle.std.proofs.{Common.{Some, None, refl, sym, ap, subst, ◌∙◌, arith}, lemmas.{Bool.Decides.nat_tests, Grind.common_steps}}
 use Rattle.std.specs.List.{All, filter, slice_get}
@@ -26,9 +31,11 @@ use Rattle.laws_tables.proofs.Goes.{Goes, comes_in, delivers_to, hears_less, onl
 use Rattle.laws_driver.specs.Honest.{IsFitState, ends_of_state, slots_of}
 use Rattle.laws_driver.proofs.{Carrying.Carries, Carrying.Fact, Tabling.Stands, Tabling.entry_fits, Tabling.has_end, Tabling.leaves}
 use Rattle.laws_driver.proofs.{Resetting.first_contained, Resetting.with_cid, Taking.with_reply_fits}
-use Rattle.laws_driver.specs.Carried.{Received.Account, Received.AreReceived, Received.GoesOn, Received.with_opened, Sent.only_on}
+use Rattle.laws_driver.specs.Carried.Received.{Account}
+use Rattle.laws_driver.specs.Carried.Received.{AreReceived}
+use Rattle.laws_driver.specs.Carried.Received.{GoesOn}
+use Rattle.laws_driver.specs.Carried.Received.{with_opened}
 use Rattle.vs_header.specs.declared.Kind.TheVariants.{Stream}
-use Rattle.laws_driver.proofs.Carried.{Adding.got_adds, Adding.got_over_put, Changing.number_got, Changing.number_put}
 use Rattle.laws_driver.proofs.Carried.{Changing.puts_and_alters, Logging.leaves_received, Logging.opened_goes_on, Logging.opened_received}
 use Rattle.laws_driver.proofs.Carried.{Logging.passes_by, Logging.same_received, Reading.given_none, Receiving.changed_received}
 use Rattle.vs_conn.specs.declared.end.Owed.TheVariants as owed

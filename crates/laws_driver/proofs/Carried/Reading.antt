@@ -1,4 +1,5 @@
 -- A receive: the bytes that it gives are of the unread ones the first.
+use Rattle.laws_tables.specs.Drains.{only_on}
 use Rattle.std.proofs.Common.{◌≡◌, ◌≢◌, ℕ, zero, suc, ◌<◌, ◌==◌, nat_lt, min, Bool, true, false, cond, List, [], ◌∷◌, ◌++◌, length, take}
 use Rattle.std.proofs.Common.{drop, get_or, Option, Some, None, refl, sym, ap, subst, ◌∙◌, arith, append-nil, append_assoc}
 use Rattle.std.proofs.{lemmas.List.{get_or_default, take_min}, lemmas.Option.{get_or_from_slice_get, slice_get_within}}
@@ -16,7 +17,12 @@ use Rattle.vs_driver_parts.proofs.Known.{after_recv_gone, after_recv_known, recv
 use Rattle.laws_tables.specs.Drains.{Drains, receives}
 use Rattle.laws_tables.proofs.{Logs.nothing_more, Logs.shorter, Goes.comes_out, Goes.forwards_less}
 use Rattle.laws_driver.specs.Honest.{slots_of}
-use Rattle.laws_driver.specs.Carried.{Received.{Account, AreReceived, ReceivedOn, after_receive, bytes_got, with_received}, Sent.only_on}
+use Rattle.laws_driver.specs.Carried.Received.{Account}
+use Rattle.laws_driver.specs.Carried.Received.{AreReceived}
+use Rattle.laws_driver.specs.Carried.Received.{ReceivedOn}
+use Rattle.laws_driver.specs.Carried.Received.{after_receive}
+use Rattle.laws_driver.specs.Carried.Received.{bytes_got}
+use Rattle.laws_driver.specs.Carried.Received.{with_received}
 use Rattle.laws_driver.proofs.Carried.Receiving.{apart_by, changed_received, number_same, same_account}
 use Rattle.vs_conn.specs.declared.end.State.TheVariants as state
 use Rattle.vs_driver_parts.specs.declared.answers.Received.TheVariants as got

@@ -1,4 +1,5 @@
 -- What an application received, through each change of a connection.
+use Rattle.laws_tables.specs.Drains.{only_on}
 use Rattle.std.proofs.Common.{◌≡◌, ◌≢◌, ℕ, ◌<◌, ◌≤◌, ◌==◌, ◌&&◌, Bool, true, false, cond, List, [], ◌++◌, length, get_or, Contains, refl}
 use Rattle.std.proofs.Common.{sym, ap, subst, ◌∙◌, arith, append-nil}
 use Rattle.std.{proofs.Math.Path.fun_ext, proofs.lemmas.Bool.Decides.nat_tests, proofs.lemmas.List.Elements.All-contains, specs.List.All}
@@ -10,7 +11,10 @@ use Rattle.vs_driver_parts.specs.{Held.HeldSlots, Held.with_connection_in, SlotF
 use Rattle.vs_driver_parts.proofs.{Ids.HasId, Ids.value_of, Numbers.id_there, Numbers.numbers_with_value}
 use Rattle.laws_tables.specs.Drains.{Drains, receives}
 use Rattle.laws_tables.proofs.{Changes.changed, Changes.under_slot, Logs.longer, Logs.shorter, Goes.Goes}
-use Rattle.laws_driver.specs.Carried.{Received.Account, Received.AreReceived, Received.ReceivedOn, Received.ReceivesOn, Sent.only_on}
+use Rattle.laws_driver.specs.Carried.Received.{Account}
+use Rattle.laws_driver.specs.Carried.Received.{AreReceived}
+use Rattle.laws_driver.specs.Carried.Received.{ReceivedOn}
+use Rattle.laws_driver.specs.Carried.Received.{ReceivesOn}
 
 -- Other slots, of which the next one has the same id.
 pub in_slots : (a : Account) (log : Log) (slots new : HeldSlots) → AreReceived a log slots → new.next_id ≡ slots.next_id

@@ -1,4 +1,6 @@
 -- What was sent on each connection, by the ids that calls named.
+use Rattle.laws_tables.specs.Drains.{is_same}
+use Rattle.laws_tables.specs.Drains.{only_on}
 use Rattle.std.proofs.Common.{◌≡◌, inl, inr, ℕ, ◌≤◌, Bool, true, false, cond, List, [], ◌∷◌, ◌++◌, Option, Some, None, refl, sym, ap, subst}
 use Rattle.std.proofs.{Common.◌∙◌, Common.arith, lemmas.Bool.Decides.nat_tests, lemmas.List.Elements.All-contains}
 use Rattle.std.specs.Prelude.{is_some}
@@ -13,7 +15,10 @@ use Rattle.vs_driver_parts.specs.declared.answers.Sent.TheVariants as sent
 use Rattle.laws_tables.proofs.Slots.{found_by}
 use Rattle.laws_driver.specs.Honest.{slots_of}
 use Rattle.laws_driver.specs.Carried.Calls.{GuestCall, Journal, ReplyTo, Send, bytes_sent, id_named, makes_call, sent_of, whole_call, with_call}
-use Rattle.laws_driver.specs.Carried.{Received.Account, Received.AreReceived, Received.ReceivesOn, Sent.is_same, Sent.only_on, Sent.took}
+use Rattle.laws_driver.specs.Carried.Received.{Account}
+use Rattle.laws_driver.specs.Carried.Received.{AreReceived}
+use Rattle.laws_driver.specs.Carried.Received.{ReceivesOn}
+use Rattle.laws_driver.specs.Carried.Sent.{took}
 use Rattle.laws_driver.specs.Carried.Senders.{AreSenders, IsSender, IsSent, sent_there, sent_to}
 
 pub only_none : (at c : Connection) (bytes : List ℕ) → bytes ≡ [] → only_on at bytes c ≡ []

@@ -1,4 +1,7 @@
 -- The payload that the driver's calls put.
+use Rattle.laws_tables.proofs.Adding.{put_over_got}
+use Rattle.laws_tables.proofs.Adding.{put_adds}
+use Rattle.laws_tables.specs.Drains.{only_on}
 use Rattle.std.proofs.Common.{◌≡◌, ℕ, zero, suc, Bool, true, false, cond, List, [], ◌∷◌, ◌++◌, length, take, Option, Some, None, Result, Ok}
 use Rattle.std.proofs.Common.{Err, ◌||◌, refl, sym, ap, subst, ◌∙◌, append-nil}
 use Rattle.std.specs.Prelude.{find, is_some}
@@ -16,8 +19,11 @@ use Rattle.vs_driver_parts.specs.{declared.answers.Polled.Polled, declared.answe
 use Rattle.laws_driver.specs.Honest.{IsHonestWith}
 use Rattle.laws_driver.proofs.Carrying.{Carries, Fact, Holds}
 use Rattle.laws_driver.proofs.{Calls.CarriesSend, Keeping.keeps_end, Polling.poll_keeps, Ringing.at_rest, Staging.Rests}
-use Rattle.laws_driver.specs.Carried.Sent.{PutsJust, none_on, only_on, sent_by, took}
-use Rattle.laws_driver.proofs.Carried.{Adding.put_adds, Adding.put_over_got, Growing.honest_stays}
+use Rattle.laws_driver.specs.Carried.Sent.{PutsJust}
+use Rattle.laws_driver.specs.Carried.Sent.{none_on}
+use Rattle.laws_driver.specs.Carried.Sent.{sent_by}
+use Rattle.laws_driver.specs.Carried.Sent.{took}
+use Rattle.laws_driver.proofs.Carried.Growing.{honest_stays}
 use Rattle.vs_conn.specs.declared.end.State.TheVariants as state
 use Rattle.vs_conn.specs.declared.end.Stop.TheVariants as stop
 use Rattle.vs_driver_parts.specs.declared.answers.Sent.TheVariants as sent

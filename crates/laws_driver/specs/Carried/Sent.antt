@@ -1,7 +1,17 @@
 -- The payload that the driver puts, connection by connection.
+use Rattle.laws_tables.specs.Drains.{only_on}
 use Rattle.std.specs.Option.{ForSome}
-use Rattle.std.specs.Prelude.{◌≡◌, ℕ, ◌==◌, ◌&&◌, Bool, true, if◌then◌else◌, List, [], ◌++◌, take, Option, Some, None}
-use Rattle.vs_flow.specs.{Connection.Connection, Flow.same_flow}
+use Rattle.std.specs.Prelude.{◌≡◌}
+use Rattle.std.specs.Prelude.{ℕ}
+use Rattle.std.specs.Prelude.{true}
+use Rattle.std.specs.Prelude.{List}
+use Rattle.std.specs.Prelude.{[]}
+use Rattle.std.specs.Prelude.{◌++◌}
+use Rattle.std.specs.Prelude.{take}
+use Rattle.std.specs.Prelude.{Option}
+use Rattle.std.specs.Prelude.{Some}
+use Rattle.std.specs.Prelude.{None}
+use Rattle.vs_flow.specs.Connection.{Connection}
 use Rattle.laws_tables.specs.Later.{IsLater}
 use Rattle.vs_page.specs.{Fair.current, Fair.payload_put, Log.Driver, Log.Log}
 use Rattle.vs_contents.specs.Contents.{Relates}
@@ -9,13 +19,7 @@ use Rattle.vs_ring_port.specs.{Contents.RingContents, EndLog.EndLog}
 use Rattle.vs_driver_parts.specs.{declared.answers.Sent.Sent, State.DriverState, State.entry_known_as}
 use Rattle.vs_driver_parts.specs.declared.answers.Sent.TheVariants as sent
 
-abbrev pub is_same : Connection → Connection → Bool
-is_same c d = same_flow c.flow d.flow && (c.number == d.number)
-
--- These bytes on one connection, and none on any other; none on any.
-abbrev pub only_on : Connection → List ℕ → Connection → List ℕ
-only_on at bytes c = if is_same c at then bytes else []
-
+-- No bytes on any connection.
 abbrev pub none_on : Log → Connection → List ℕ
 none_on log c = []
 

@@ -1,13 +1,13 @@
 -- A turn tells whether it put an event.
 use Rattle.std.proofs.Common.{◌≡◌, ℕ, ◌+◌, ◌-◌, ◌≤◌, ◌==◌, ◌&&◌, not, Bool, true, false, cond, List, [], ◌∷◌, length, Option, Some, None}
-use Rattle.std.proofs.{Common.{refl, sym, ap, subst, ◌∙◌, arith}, lemmas.Bool.Decides.nat_tests}
+use Rattle.std.proofs.{Common.{refl, sym, ap, subst, arith}, lemmas.Bool.Decides.nat_tests}
 use Rattle.vs_contents.specs.CallTree.{Done, Ask, Leads, bind}
 use Rattle.vs_contents.proofs.Leads.{AllEnds, end_of, ends_bind}
 use Rattle.vs_header.specs.{declared.Header.Header, declared.TheConstants.HEADER_LEN}
 use Rattle.vs_outside.specs.declared.host_net.{Accepted.Accepted, Dialed.Dialed, StreamRead.StreamRead, StreamWrite.StreamWrite}
 use Rattle.vs_ring_port.specs.declared.{device_ring.Chain.Chain, device_ring.Next.Next, failure.Failure.Failure}
-use Rattle.vs_device_parts.specs.{Calls.{Answer, Call, DeviceTree}, State.{DeviceEntry, DeviceState}}
-use Rattle.vs_proxy_parts.specs.Turns.{event_stage, fill_stage, pump_stage, take_stage, tick_stage, turn_of, turned, unless_failed}
+use Rattle.vs_device_parts.specs.{Calls.{Answer, DeviceTree}, State.{DeviceEntry, DeviceState}}
+use Rattle.vs_proxy_parts.specs.Turns.{event_stage, fill_stage, pump_stage, take_stage, tick_stage, turn_of, unless_failed}
 use Rattle.vs_proxy_parts.specs.{Handshakes.shake_hands, State.Handshake, State.ProxyState, State.Turning, State.start}
 use Rattle.vs_proxy_parts.specs.declared.answers.{Turn.Turn, Turned.Turned}
 use Rattle.laws_device.proofs.Walk.Serving.{AfterEvent, AfterRead, AfterWrite, Closes, Fills, Writes}

@@ -4,8 +4,7 @@ use Rattle.laws_device.proofs.Walk.Keeping as walked
 use Rattle.std.proofs.Common.{◌≡◌, ℕ, ◌≤◌, List, ◌∷◌, Some, subst, sym}
 use Rattle.vs_contents.specs.CallTree.{Done, Ask, Leads}
 use Rattle.vs_limits.specs.declared.TheConstants.{ASSIGNED_LAST}
-use Rattle.vs_device_parts.specs.Calls.{Call, Answer, DeviceTree, Ring, Accept, Dial, Label, ReadStream, WriteStream, ShutWrite}
-use Rattle.vs_device_parts.specs.Calls.{CloseStream}
+use Rattle.vs_device_parts.specs.Calls.{Call, Answer, DeviceTree, Label, ReadStream, WriteStream}
 use Rattle.laws_proxy.specs.Account.{Made.{Account, Made, MayGet, Makes, account_of, made}, Tied.{IsWhole, reading_account}}
 
 -- A stream that is read or written to is one that was given. One that is labelled is a client's whose line is whole; its port is assigned,

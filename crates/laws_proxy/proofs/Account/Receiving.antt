@@ -5,7 +5,7 @@ use Rattle.laws_proxy.proofs.Account.{Closing.{D, closes, Has, agree_same, join,
 use Rattle.laws_proxy.proofs.Account.{Keeping.{asking, Keeps}, Entries.{hand_other, taken_tied}, Ties.{end_changes, shuts}}
 use Rattle.laws_proxy.specs.Account.Made.{Account, Made, account_of, is_for, is_of, made, payload_put, payload_taken, ports_of, with_taken}
 use Rattle.laws_proxy.specs.Account.Tied.{Agree, AgreesWith, IsTied, reading_account}
-use Rattle.std.proofs.Common.{◌≡◌, ℕ, Bool, true, false, cond, List, [], ◌∷◌, ◌++◌, length, bytes_eq, Option, Some, None, refl, sym, ap}
+use Rattle.std.proofs.Common.{◌≡◌, ℕ, Bool, true, false, cond, List, [], ◌∷◌, ◌++◌, length, bytes_eq, Option, Some, refl, sym, ap}
 use Rattle.std.{proofs.Common.◌∙◌, proofs.lemmas.List.append-nil, proofs.lemmas.List.Elements.All-weaker, specs.Option.option_map_or}
 use Rattle.vs_conn.specs.declared.end.State.TheVariants.{Asked, Ended}
 use Rattle.vs_conn.specs.{End.paid_of, End.wanting_credit, End.with_payload_sent, Headers.payload_header}
@@ -21,7 +21,6 @@ use Rattle.vs_device_parts.specs.{State.DeviceState, Calls.{ReadStream, Ring}, C
 use Rattle.laws_device.proofs.Named.Ends.{shut_over}
 use Rattle.vs_proxy_parts.specs.State.{Handshake}
 use Rattle.laws_device.proofs.Walk.Serving as walked
-use Rattle.vs_conn.specs.declared.end.Owed.TheVariants as owed
 use Rattle.vs_outside.specs.declared.host_net.StreamRead.TheVariants as read
 use Rattle.vs_ring_port.specs.declared.device_ring.Next.TheVariants as next
 

@@ -5,7 +5,7 @@ use Rattle.laws_proxy.specs.Account.Made.{Account, Made, MayGet, account_of, is_
 use Rattle.laws_proxy.specs.Account.{Made.with_taken, Tied.IsWhole, Tied.reading_account}
 use Rattle.laws_proxy.proofs.Account.{Closing.D, Closing.Has, Keeping.asking, Opening.opens, Opening.waits_unlabelled, Accounts.Changes}
 use Rattle.laws_proxy.proofs.Account.{Accounts.changes, Accounts.comes, Entries.hands_changed, Entries.taken_tied, Entries.waiting_kept}
-use Rattle.std.proofs.Common.{◌≡◌, ◌≢◌, ℕ, subst, get_or, ◌≤◌, ◌&&◌, nat_le, ◌==◌, Bool, true, false, cond, List, [], ◌∷◌, ◌++◌, length}
+use Rattle.std.proofs.Common.{◌≡◌, ◌≢◌, ℕ, subst, get_or, ◌≤◌, nat_le, ◌==◌, Bool, true, false, cond, List, [], ◌∷◌, ◌++◌, length}
 use Rattle.std.proofs.Common.{Option, Some, None, refl, sym, ap, ◌∙◌, arith}
 use Rattle.std.{proofs.lemmas.Bool.and_parts, proofs.lemmas.List.Elements.All-push, proofs.lemmas.List.Quantifiers.all_pairs_push}
 use Rattle.std.{proofs.lemmas.Bool.Decides.nat_tests, proofs.lemmas.List.append-nil, specs.List.All}
@@ -17,7 +17,7 @@ use Rattle.laws_device.proofs.Carried.Hands.{ends_by, no_line, with_all, with_ap
 use Rattle.laws_device.proofs.Carried.Lines.{line_ends, line_whole}
 use Rattle.vs_uds.specs.ConnectLine.{connect_port, connect_step}
 use Rattle.vs_uds.specs.{declared.connect.TheConstants.CONNECT_MAX, Reading.is_decided, Reading.port_or_bad}
-use Rattle.vs_proxy_parts.specs.{Handshakes.may_open, Handshakes.with_line, Handshakes.without_stream, State.Handshake, State.ProxyState}
+use Rattle.vs_proxy_parts.specs.{Handshakes.with_line, Handshakes.without_stream, State.Handshake}
 use Rattle.vs_outside.specs.declared.host_net.Accepted.TheVariants as accepted
 use Rattle.vs_outside.specs.declared.host_net.StreamRead.TheVariants as read
 use Rattle.vs_uds.specs.declared.scan.Step.TheVariants as step

@@ -11,7 +11,7 @@ use Rattle.vs_outside.specs.Host.{after_read, after_shut_write, after_write, cal
 use Rattle.vs_outside.specs.Host.{is_listened, stream_at, take_bytes, waits, IsDialed, IsWritten, with_label_call, with_shut_write_call}
 use Rattle.vs_outside.specs.declared.host_net.{Accepted.Accepted, Dialed.Dialed, StreamRead.StreamRead, StreamWrite.StreamWrite}
 use Rattle.vs_outside.proofs.Frames.{accepts_waiting}
-use Rattle.vs_ring_port.specs.Contents.{DeviceAnswer, DeviceCall, Take, Read, Write, Return, Given, PublishCid}
+use Rattle.vs_ring_port.specs.Contents.{DeviceAnswer, DeviceCall, Read, PublishCid}
 use Rattle.vs_device_parts.specs.Calls.{Answer, Call, DeviceTree, Ring, Accept, Dial, Label, ReadStream, WriteStream, ShutWrite}
 use Rattle.vs_device_parts.specs.{Calls.{CloseStream, Allows, IsReadOf, Situation, TakesWithin}, Playing.Runs, State.DeviceConnection}
 use Rattle.laws_proxy.specs.Account.Made.{Account, Made, MayGet, account_of, delivering, header_in, labelled, made, new_account, shut}

@@ -3,10 +3,10 @@ use Rattle.std.proofs.Common.{◌≡◌, ℕ, ◌<◌, ◌^◌, Bool, true, fals
 use Rattle.std.proofs.lemmas.Bool.Decides.{nat_tests}
 use Rattle.vs_contents.specs.CallTree.{Done, Ask, Leads}
 use Rattle.vs_outside.specs.{Faults.CountsFault, Host.accept_failed, Host.dial_failed, Host.read_failed, Host.write_failed}
-use Rattle.vs_ring_port.specs.{Contents.{Given, PublishCid, Read, Return, Take, Write}, declared.device_ring.Chain.Chain}
-use Rattle.vs_ring_port.specs.{declared.{queue.Queue.TheVariants.Event, queue.Queue.TheVariants.Rx}, declared.queue.Queue.TheVariants.Tx}
+use Rattle.vs_ring_port.specs.{Contents.{Take}, declared.device_ring.Chain.Chain}
+use Rattle.vs_ring_port.specs.{declared.queue.Queue.TheVariants.Tx}
 use Rattle.vs_wrap.specs.Wrap.{counted}
-use Rattle.vs_device_parts.specs.Calls.{Accept, Allows, Answer, Call, CloseStream, DeviceTree, Dial, Label, ReadStream, Ring, ShutWrite}
+use Rattle.vs_device_parts.specs.Calls.{Accept, Allows, Answer, Call, DeviceTree, Dial, ReadStream, Ring}
 use Rattle.vs_device_parts.specs.Calls.{Situation, WriteStream}
 use Rattle.laws_device.proofs.Walk.Keeping.{Asking, Keeps}
 use Rattle.laws_proxy.specs.Account.{Counts.CountsFaults, Counts.DeviceCounts, Counts.count_made, Counts.counts_of, Made.Made, Made.Makes}

@@ -4,8 +4,9 @@ use Rattle.laws_rest.proofs.both_ends.law_of_both_ends.Goals as goal
 pub returns-clause-once : goal.returns-clause-once
 returns-clause-once c = λ b role f ends. once b ends role f
 
-pub returns-clause-flows : goal.returns-clause-flows
-returns-clause-flows c = λ b h port table hands f sent received ends streams tied. carry b ends h port table hands streams f sent received tied
+pub returns-clause-connections : goal.returns-clause-connections
+returns-clause-connections c = λ b h port table hands k sent received ends streams some tied.
+    carry b ends h port table hands streams k some sent received tied
 
 pub returns-clause-ids : goal.returns-clause-ids
 returns-clause-ids c = λ b h port table hands first_id opened journal slots id ends streams. carry_id b ends h port table hands streams first_id opened journal slots id

@@ -1,6 +1,6 @@
 -- What a packet adds to the payload of connections, where the log is fair with it: only the present connection of its flow gets any.
 use Rattle.std.proofs.Common.{◌≡◌, ℕ, ◌+◌, ◌==◌, ◌&&◌, Bool, true, false, cond, List, [], ◌∷◌, ◌++◌, length, refl, sym, ap, subst, ◌∙◌}
-use Rattle.std.proofs.{Common.arith, Common.append-nil, Common.length-append, lemmas.Bool.Decides.nat_tests}
+use Rattle.std.proofs.{Common.arith, Common.length-append, lemmas.Bool.Decides.nat_tests}
 use Rattle.vs_flow.specs.{Connection.Connection, Flow.same_flow, declared.flow.Flow.Flow}
 use Rattle.laws_history.specs.{declared.packet.Packet.Packet, Packets.is_clean_rst, Packets.is_request, Again.count, History.Answerer}
 use Rattle.laws_history.specs.History.{Asker, Got, History, Put, Side, gots, peer, puts}
@@ -8,7 +8,7 @@ use Rattle.vs_page.specs.Fair.{IsFairLog, asked_by, current, instance_from, numb
 use Rattle.vs_page.specs.Log.{Log, Role, and_then, flow_got, flow_put, history_of, side_of, whole_of}
 use Rattle.vs_page.specs.declared.log.LogEntry.TheVariants.{GotPacket, PutPacket}
 use Rattle.vs_page.proofs.{Flows.same_is, Flows.same_self, Present.present_got, Present.present_put}
-use Rattle.laws_driver.specs.Carried.Sent.{only_on}
+use Rattle.laws_tables.{specs.Drains.only_on, proofs.Logs.nothing_more}
 
 -- The number of the connection that a packet behind these is of.
 abbrev index : Side → Packet → List Packet → ℕ
@@ -19,9 +19,6 @@ with_one : (side : Side) (k : ℕ) (p : Packet) (ps : List Packet)
     → instance_from side k (p ∷ ps) ≡ cond (index side p ps == k) (p ∷ instance_from side k ps) (instance_from side k ps)
 with_one Asker k p ps = refl
 with_one Answerer k p ps = refl
-
-nothing_more : (xs : List ℕ) → xs ≡ xs ++ []
-nothing_more xs = sym (append-nil xs)
 
 no_bytes : (xs ys : List ℕ) → xs ≡ xs ++ ys → ys ≡ []
 no_bytes xs [] is = refl
@@ -143,6 +140,29 @@ module _ (role : Role) (p : Packet) (log : Log) (plain : is_request p ≡ false)
             (present_got role from log (was from)) got_now c.number)
         by false is = nothing_more (payload_got role c log)
 
+-- A packet without payload adds none.
+empty_by : (side : Side) (k : ℕ) (p : Packet) (ps : List Packet) → p.payload ≡ []
+    → payload_of (instance_from side k ps) ≡ payload_of (instance_from side k (p ∷ ps))
+empty_by side k p ps none =
+    no_more (index side p ps == k) (payload_of (instance_from side k ps)) p.payload none
+    ∙ sym (ap payload_of (with_one side k p ps) ∙ payload_with (index side p ps == k) p (instance_from side k ps))
+
+pub put_nothing : (role : Role) (p : Packet) (log : Log) → p.payload ≡ [] → (c : Connection) → payload_put role c log ≡ payload_put role c (PutPacket p ∷ log)
+put_nothing role p log none c = by (same_flow c.flow (flow_put role p))
+  where
+    by : (b : Bool) → payload_put role c log
+        ≡ payload_of (instance_from (side_of role c.flow) c.number (puts (cond b (Put p ∷ whole_of role c.flow log) (whole_of role c.flow log))))
+    by true = empty_by (side_of role c.flow) c.number p (puts (whole_of role c.flow log)) none
+    by false = refl
+
+pub got_nothing : (role : Role) (p : Packet) (log : Log) → p.payload ≡ [] → (c : Connection) → payload_got role c log ≡ payload_got role c (GotPacket p ∷ log)
+got_nothing role p log none c = by (same_flow c.flow (flow_got role p))
+  where
+    by : (b : Bool) → payload_got role c log
+        ≡ payload_of (instance_from (peer (side_of role c.flow)) c.number (gots (cond b (Got p ∷ whole_of role c.flow log) (whole_of role c.flow log))))
+    by true = empty_by (peer (side_of role c.flow)) c.number p (gots (whole_of role c.flow log)) none
+    by false = refl
+
 -- What was put isn't changed by a packet that is got, nor what was got by one that is put.
 puts_still : (b : Bool) (p : Packet) (h : History) → puts (cond b (Got p ∷ h) h) ≡ puts h
 puts_still true p h = refl
@@ -160,3 +180,20 @@ pub got_over_put : (role : Role) (p : Packet) (log : Log) (c : Connection) → p
 got_over_put role p log c =
     ap (λ (ps : List Packet). payload_of (instance_from (peer (side_of role c.flow)) c.number ps))
     (gots_still (same_flow c.flow (flow_put role p)) p (whole_of role c.flow log))
+
+-- The number of a flow's present connection stays at all packets but REQUESTs.
+number_put_by : (side : Side) (p : Packet) (w : History) (b : Bool) → is_request p ≡ false
+    → let v : History = cond b (Put p ∷ w) w in asked_by side (puts v) (gots v) ≡ asked_by side (puts w) (gots w)
+number_put_by side p w true plain = asked_still side p (puts w) (gots w) plain
+number_put_by side p w false plain = refl
+
+number_got_by : (side : Side) (p : Packet) (w : History) (b : Bool) → is_request p ≡ false
+    → let v : History = cond b (Got p ∷ w) w in asked_by side (puts v) (gots v) ≡ asked_by side (puts w) (gots w)
+number_got_by side p w true plain = asked_after side p (puts w) (gots w) plain
+number_got_by side p w false plain = refl
+
+pub number_put : (role : Role) (p : Packet) (log : Log) (f : Flow) → is_request p ≡ false → number_of role f (PutPacket p ∷ log) ≡ number_of role f log
+number_put role p log f plain = number_put_by (side_of role f) p (whole_of role f log) (same_flow f (flow_put role p)) plain
+
+pub number_got : (role : Role) (p : Packet) (log : Log) (f : Flow) → is_request p ≡ false → number_of role f (GotPacket p ∷ log) ≡ number_of role f log
+number_got role p log f plain = number_got_by (side_of role f) p (whole_of role f log) (same_flow f (flow_got role p)) plain

@@ -1,0 +1,207 @@
+-- The streams with a flow as label against the REQUESTs of a log, entry by entry.
+use Rattle.std.proofs.Common.{◌≡◌, ◌≢◌, ℕ, ◌+◌, ◌≤◌, ◌||◌, Bool, true, false, cond, List, [], ◌∷◌, ◌++◌, refl, sym, ap, subst, ◌∙◌, arith}
+use Rattle.std.proofs.Common.{◌⊎◌, inl, inr}
+use Rattle.vs_flow.specs.{Connection.Connection, Flow.is_assigned, Flow.same_flow, declared.flow.Flow.Flow}
+use Rattle.vs_flow.proofs.Entries.{same_flow_false, same_flow_true}
+use Rattle.laws_history.specs.{Again.MayPutNow, Again.count, Again.IsClean, Packets.has, Packets.is_clean_rst, Packets.is_request}
+use Rattle.laws_history.specs.Packets.{is_rw}
+use Rattle.std.proofs.lemmas.{Bool.Decides.nat_tests, Grind.common_steps}
+use Rattle.laws_history.specs.{History.{Asker, Got, History, Put, Side, gots, peer, puts}, declared.packet.Packet.Packet}
+use Rattle.vs_page.specs.{Fair.IsFairLog, Fair.asked_by, Fair.current, Fair.number_of, Fair.payload_got, Held.IsWhole}
+use Rattle.vs_page.specs.Log.{Device, Log, and_then, flow_got, flow_put, history_of, side_by, side_of, whole_of}
+use Rattle.vs_page.specs.declared.log.LogEntry.TheVariants.{GotPacket, PutPacket}
+use Rattle.vs_page.proofs.Flows.{same_self}
+use Rattle.laws_tables.specs.Drains.{only_on}
+use Rattle.laws_tables.proofs.{Adding.got_adds, Adding.got_nothing, Adding.number_put, Adding.put_nothing}
+use Rattle.laws_tables.proofs.{Adding.got_over_put, Fair.own_got_fair, Firsts.asker_asks, Firsts.no_present}
+use Rattle.laws_tables.proofs.Logs.{none_on_any}
+use Rattle.laws_device.specs.Carried.Streamed.{AreCounted, IsCounted}
+use Rattle.laws_device.proofs.Carried.Streamed.{StaysStill}
+
+-- The same, by what passed on a flow, and what did on its present connection.
+abbrev AreIn : Bool → ℕ → History → History → Type 0
+AreIn b n w h = IsCounted b n (asked_by (side_by Device b) (puts w) (gots w)) (has is_clean_rst (puts h))
+
+got_in : (b s : Bool) (p : Packet) (n : ℕ) (w h : History) → AreIn b n w h → AreIn b n (cond s (Got p ∷ w) w) (cond s (and_then (Got p) h) h)
+got_in b false p n w h x = x
+got_in true true p n w h x = x
+got_in false true p n w h x = by (is_request p)
+  where
+    by : (r : Bool) → IsCounted false n (cond r (count is_request (gots w) + 1) (count is_request (gots w)))
+        (has is_clean_rst (puts (cond r (Got p ∷ []) (Got p ∷ h))))
+    by true = (omega (arith, x.0), λ marked. absurd cc)
+    by false = x
+
+-- A packet comes: no more are marked after it, and a REQUEST is one more.
+pub counted_got : (p : Packet) (log : Log) (n : Flow → ℕ) (f : Flow) → AreCounted n log f → AreCounted n (GotPacket p ∷ log) f
+counted_got p log n f x = got_in (is_assigned f.host) (same_flow f (flow_got Device p)) p (n f) (whole_of Device f log) (history_of Device f log) x
+
+put_in : (b s : Bool) (p : Packet) (n : ℕ) (w h : History) → is_request p ≡ false → (s ≡ true → b ≡ false → (is_clean_rst p ≡ false) ⊎ (n ≡ count is_request (gots w)))
+    → AreIn b n w h → AreIn b n (cond s (Put p ∷ w) w) (cond s (and_then (Put p) h) h)
+put_in b false p n w h plain marks x = x
+put_in true true p n w h plain marks x = (x.0, subst (λ (r : Bool). cond r (count is_request (puts w) + 1) (count is_request (puts w)) ≤ n) (sym plain) x.1)
+put_in false true p n w h plain marks x =
+    subst (λ (r : Bool). IsCounted false n (count is_request (gots w)) (has is_clean_rst (puts (cond r (Put p ∷ []) (Put p ∷ h))))) (sym plain)
+    (by (marks refl refl))
+  where
+    by : (is_clean_rst p ≡ false) ⊎ (n ≡ count is_request (gots w)) → IsCounted false n (count is_request (gots w)) (is_clean_rst p || has is_clean_rst (puts h))
+    by (inl not) = subst (λ (c : Bool). IsCounted false n (count is_request (gots w)) (c || has is_clean_rst (puts h))) (sym not) x
+    by (inr all) = (x.0, λ marked. all)
+
+-- A packet is put that is no REQUEST: one that isn't marked, or one of a flow each REQUEST of which has its stream.
+pub counted_put : (p : Packet) (log : Log) (n : Flow → ℕ) → is_request p ≡ false
+    → (is_assigned (flow_put Device p).host ≡ false → (is_clean_rst p ≡ false) ⊎ (n (flow_put Device p) ≡ number_of Device (flow_put Device p) log))
+    → (f : Flow) → AreCounted n log f → AreCounted n (PutPacket p ∷ log) f
+counted_put p log n plain marks f x =
+    put_in (is_assigned f.host) (same_flow f (flow_put Device p)) p (n f) (whole_of Device f log) (history_of Device f log) plain
+    (λ own guest. by own guest (marks (subst (λ (g : Flow). is_assigned g.host ≡ false) (same_flow_true f (flow_put Device p) own) guest))) x
+  where
+    by : same_flow f (flow_put Device p) ≡ true → is_assigned f.host ≡ false
+        → (is_clean_rst p ≡ false) ⊎ (n (flow_put Device p) ≡ number_of Device (flow_put Device p) log)
+        → (is_clean_rst p ≡ false) ⊎ (n f ≡ count is_request (gots (whole_of Device f log)))
+    by own guest (inl not) = inl not
+    by own guest (inr all) =
+        let here = subst (λ (g : Flow). n g ≡ number_of Device g log) (sym (same_flow_true f (flow_put Device p) own)) all in
+        inr (subst (λ (b : Bool). n f ≡ asked_by (side_by Device b) (puts (whole_of Device f log)) (gots (whole_of Device f log))) guest here)
+
+-- One that has no payload and is no REQUEST.
+pub put_still : (p : Packet) (log : Log) (n : Flow → ℕ) → p.payload ≡ [] → is_request p ≡ false
+    → (is_assigned (flow_put Device p).host ≡ false → (is_clean_rst p ≡ false) ⊎ (n (flow_put Device p) ≡ number_of Device (flow_put Device p) log))
+    → StaysStill n log (PutPacket p ∷ log)
+put_still p log n none plain marks = record {
+  put = put_nothing Device p log none;
+  got = λ c. sym (got_over_put Device p log c);
+  number = λ f. sym (number_put Device p log f plain);
+  counted = counted_put p log n plain marks;
+}
+
+-- A REQUEST is put on a flow: it has a stream there.
+pub counted_asks : (p : Packet) (log : Log) (n : Flow → ℕ) → is_request p ≡ true → is_assigned (flow_put Device p).host ≡ true
+    → number_of Device (flow_put Device p) log + 1 ≤ n (flow_put Device p) → (f : Flow) → AreCounted n log f → AreCounted n (PutPacket p ∷ log) f
+counted_asks p log n asks assigned room f x = by (same_flow f (flow_put Device p)) refl
+  where
+    there : is_assigned f.host ≡ true → number_of Device f log + 1 ≤ n f → AreIn (is_assigned f.host) (n f) (Put p ∷ whole_of Device f log) (and_then (Put p) (history_of Device f log))
+    there own more = of (is_assigned f.host) own more x
+      where
+        of : (b : Bool) → b ≡ true → asked_by (side_by Device b) (puts (whole_of Device f log)) (gots (whole_of Device f log)) + 1 ≤ n f
+            → AreIn b (n f) (whole_of Device f log) (history_of Device f log)
+            → AreIn b (n f) (Put p ∷ whole_of Device f log) (and_then (Put p) (history_of Device f log))
+        of true own more x = (
+          x.0,
+          subst (λ (r : Bool). cond r (count is_request (puts (whole_of Device f log)) + 1) (count is_request (puts (whole_of Device f log))) ≤ n f)
+              (sym asks) more,
+        )
+        of false own more x = absurd cc
+
+    by : (s : Bool) → same_flow f (flow_put Device p) ≡ s
+        → AreIn (is_assigned f.host) (n f) (cond s (Put p ∷ whole_of Device f log) (whole_of Device f log))
+        (cond s (and_then (Put p) (history_of Device f log)) (history_of Device f log))
+    by false other = x
+    by true own =
+        let same = sym (same_flow_true f (flow_put Device p) own) in
+        there (subst (λ (g : Flow). is_assigned g.host ≡ true) same assigned) (subst (λ (g : Flow). number_of Device g log + 1 ≤ n g) same room)
+
+-- A REQUEST comes, where the log stays fair: each one before it had its stream. And it is one more on its flow, which is the guest's.
+pub record IsAsked (n : Flow → ℕ) (log : Log) (p : Packet) : Type 0 where
+  pub guest : is_assigned (flow_got Device p).host ≡ false
+  pub all : n (flow_got Device p) ≡ number_of Device (flow_got Device p) log
+  pub next : number_of Device (flow_got Device p) (GotPacket p ∷ log) ≡ number_of Device (flow_got Device p) log + 1
+
+pub request_asks : (p : Packet) (log : Log) (n : Flow → ℕ) → IsFairLog Device (GotPacket p ∷ log) → is_request p ≡ true
+    → AreCounted n log (flow_got Device p) → IsAsked n log p
+request_asks p log n fair asks x = record { guest = guest (is_assigned f.host) refl; all = all; next = next }
+  where
+    f : Flow
+    f = flow_got Device p
+
+    w : History
+    w = whole_of Device f log
+
+    h : History
+    h = history_of Device f log
+
+    may : MayPutNow (peer (side_of Device f)) (gots h) (puts h) p
+    may = (own_got_fair Device p log (fair f)).1
+
+    theirs : peer (side_of Device f) ≡ Asker
+    theirs = asker_asks (peer (side_of Device f)) [] [] p (may.opens asks).1 asks
+
+    guest : (b : Bool) → is_assigned f.host ≡ b → b ≡ false
+    guest false is = refl
+    guest true is = let no : peer (side_by Device true) ≡ Asker = ap (λ (b : Bool). peer (side_by Device b)) (sym is) ∙ theirs in absurd cc
+
+    outside : is_assigned f.host ≡ false
+    outside = guest (is_assigned f.host) refl
+
+    nothing : (h : History) → gots h ≡ [] → puts h ≡ [] → h ≡ []
+    nothing [] a b = refl
+    nothing (Put q ∷ h) a b = absurd cc
+    nothing (Got q ∷ h) a b = absurd cc
+
+    counted : IsCounted false (n f) (number_of Device f log) (has is_clean_rst (puts h))
+    counted = subst (λ (b : Bool). IsCounted b (n f) (number_of Device f log) (has is_clean_rst (puts h))) outside x
+
+    empty : (w : History) (side : Side) → w ≡ [] → asked_by side (puts w) (gots w) ≡ 0
+    empty [] Asker is = refl
+    empty [] _ is = refl
+    empty (q ∷ w) side is = absurd cc
+
+    all_by : ((gots h ≡ []) × (puts h ≡ [])) ⊎ IsClean (gots h) (puts h) → n f ≡ number_of Device f log
+    all_by (inl (a, b)) =
+        let zero_of : number_of Device f log ≡ 0 = empty w (side_of Device f) (no_present Device f log (nothing h a b)) in
+        let most = counted.0 in omega (arith, zero_of, most)
+    all_by (inr clean) = counted.1 clean.marked
+
+    all : n f ≡ number_of Device f log
+    all = all_by (may.opens asks).0
+
+    next_by : (b s r : Bool) → b ≡ false → s ≡ true → is_request p ≡ r → r ≡ true
+        → (let v : History = cond s (Got p ∷ w) w in asked_by (side_by Device b) (puts v) (gots v)) ≡ asked_by (side_by Device b) (puts w) (gots w) + 1
+    next_by false true true b s r is = ap (λ (c : Bool). cond c (count is_request (gots w) + 1) (count is_request (gots w))) r
+    next_by true s r b _ _ is = absurd cc
+    next_by false false r b s _ is = absurd cc
+    next_by false true false b s r is = absurd cc
+
+    next : number_of Device f (GotPacket p ∷ log) ≡ number_of Device f log + 1
+    next = next_by (is_assigned f.host) (same_flow f f) (is_request p) outside (same_self f) refl asks
+
+-- On other flows no number changes.
+pub number_elsewhere : (p : Packet) (log : Log) (f : Flow) → f ≢ flow_got Device p → number_of Device f log ≡ number_of Device f (GotPacket p ∷ log)
+number_elsewhere p log f other =
+    ap (λ (s : Bool). let v : History = cond s (Got p ∷ whole_of Device f log) (whole_of Device f log) in asked_by (side_of Device f) (puts v) (gots v))
+    (sym (same_flow_false f (flow_got Device p) other))
+
+pub number_put_elsewhere : (p : Packet) (log : Log) (f : Flow) → f ≢ flow_put Device p → number_of Device f log ≡ number_of Device f (PutPacket p ∷ log)
+number_put_elsewhere p log f other =
+    ap (λ (s : Bool). let v : History = cond s (Put p ∷ whole_of Device f log) (whole_of Device f log) in asked_by (side_of Device f) (puts v) (gots v))
+    (sym (same_flow_false f (flow_put Device p) other))
+
+pub request_empty : (p : Packet) → is_request p ≡ true → is_rw p ≡ false
+request_empty p is = grind (arith, nat_tests, common_steps, is)
+
+-- A REQUEST that is put is one more on its flow, which is the device's own.
+pub request_put : (p : Packet) (log : Log) (f : Flow) → is_request p ≡ true → f ≡ flow_put Device p → is_assigned f.host ≡ true
+    → number_of Device f (PutPacket p ∷ log) ≡ number_of Device f log + 1
+request_put p log f asks flow own = by (is_assigned f.host) (same_flow f (flow_put Device p)) own (ap (same_flow f) (sym flow) ∙ same_self f)
+  where
+    w : History
+    w = whole_of Device f log
+
+    by : (b s : Bool) → b ≡ true → s ≡ true
+        → (let v : History = cond s (Put p ∷ w) w in asked_by (side_by Device b) (puts v) (gots v)) ≡ asked_by (side_by Device b) (puts w) (gots w) + 1
+    by true true own there = ap (λ (c : Bool). cond c (count is_request (puts w) + 1) (count is_request (puts w))) asks
+    by true false own there = absurd cc
+    by false s own there = absurd cc
+
+-- What comes is on the present connection of its flow.
+pub comes_on : (p : Packet) (log : Log) → IsWhole p → IsFairLog Device log → IsFairLog Device (GotPacket p ∷ log) → (c : Connection)
+    → payload_got Device c (GotPacket p ∷ log) ≡ payload_got Device c log ++ only_on (current Device (flow_got Device p) log) p.payload c
+comes_on p log whole was fair c = by (is_request p) refl
+  where
+    by : (b : Bool) → is_request p ≡ b
+        → payload_got Device c (GotPacket p ∷ log) ≡ payload_got Device c log ++ only_on (current Device (flow_got Device p) log) p.payload c
+    by false plain = got_adds Device p log plain was fair c
+    by true asks =
+        let none : p.payload ≡ [] = whole.none (request_empty p asks) in
+        sym (got_nothing Device p log none c) ∙ sym (none_on_any (current Device (flow_got Device p) log) c (payload_got Device c log))
+        ∙ ap (λ (bytes : List ℕ). payload_got Device c log ++ only_on (current Device (flow_got Device p) log) bytes c) (sym none)
