@@ -1,7 +1,7 @@
 -- Each small step keeps an end of many connections matching its log.
 use Rattle.std.proofs.Common.{◌+◌, rules, ◌≡◌, ◌≢◌, ℕ, ◌≤◌, Bool, true, false, ◌||◌, ◌⊎◌, inl, inr, Option, Some, List, [], ◌∷◌, ◌++◌, refl}
 use Rattle.std.proofs.{Common.{sym, ap, ◌∙◌, subst, arith}, lemmas.{Grind.common_steps, Bool.Decides.nat_tests}}
-use Rattle.vs_conn.specs.End.{CanSend, ConnectionEnd, asked, owes_of, paid_of}
+use Rattle.vs_conn.specs.End.{CanSend, ConnectionEnd, owes_of, paid_of}
 use Rattle.vs_conn.specs.{Follows.Follows, Follows.owed_packet, declared.end.Owed.Owed, declared.route.Route.Route}
 use Rattle.vs_conn.proofs.{Frames.paid_kind, Steps.pay_follows}
 use Rattle.vs_flow.specs.{Flow.same_flow, declared.flow.Flow.Flow}
@@ -14,7 +14,7 @@ use Rattle.vs_page.specs.Log.{Log, Role, Driver, Device, and_then, flow_put, flo
 use Rattle.vs_page.proofs.Flows.{same_self}
 use Rattle.vs_replies.specs.declared.Reply.{Reply}
 use Rattle.laws_tables.specs.{Ends.{Ends, ends_of, flows_of, is_among, is_new, replied, replies_of}, Heard.{IsInOrder, heard_of}}
-use Rattle.laws_tables.specs.{Heard.{is_awaiting, is_fresh, own_port}, Steps.{HasEnd, IsNextFlow, asking, is_kept, owed_on, payload_on}}
+use Rattle.laws_tables.specs.{Heard.{is_awaiting, is_fresh, own_port}, Steps.{HasEnd, IsNextFlow, is_kept, owed_on, payload_on}}
 use Rattle.laws_tables.specs.{Steps.{port_after, reply_on, request_on}, Matches.{IsAsking, IsLeftOn, MatchesFlows, MatchesOn}}
 use Rattle.laws_tables.proofs.{Entries.{among_append, among_last, among_other, replied_append, replied_of}, Frame.{IsUsed, heard_got}}
 use Rattle.laws_tables.proofs.{Frame.{heard_put, left_alone, open_got, open_put}, OnFlow.{IsOne, begins_on, end_asks, end_follows}}
