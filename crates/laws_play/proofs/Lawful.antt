@@ -8,7 +8,7 @@ use Rattle.laws_history.specs.{History.puts, Packets.has, Packets.shuts_send}
 use Rattle.vs_driver_parts.specs.declared.answers.ConnectError.{ConnectError}
 use Rattle.vs_driver_parts.specs.{State.DriverEntry, Connections.flow_of, declared.answers.Accepted.Accepted}
 use Rattle.vs_device_parts.specs.{State.DeviceEntry, State.counters_of, declared.answers.Counters.Counters}
-use Rattle.laws_tables.{specs.Both.Both, specs.Both.at, specs.Steps.HasEnd, proofs.Slots.one_end}
+use Rattle.laws_tables.{specs.Both.Both, specs.Both.at, specs.Later.IsShut, specs.Steps.HasEnd, proofs.Shutting.is_shut, proofs.Slots.one_end}
 use Rattle.vs_outside.specs.{HostBytes.host_wrote, Host.HostContents, HostProgram.new_host, HostProgram.plain}
 use Rattle.laws_tables.specs.Drains.{put_on}
 use Rattle.vs_page.specs.Log.{Device, Driver, Log, Role, history_of}
@@ -28,7 +28,7 @@ use Rattle.vs_play.specs.{Answer.base_path, Answer.opened_play, Answer.texts_of,
 use Rattle.laws_play.proofs.PlayLines.{after_both, around_journal, front_bounded, lines_of, lines_receive, lines_right}
 use Rattle.laws_play.proofs.PlayLines.{lines_send, rest_bounded, world_is}
 use Rattle.laws_play.proofs.Reached.{carries, holds_open, holds_rest, keeps_credit, log_is, many_device, many_guest, own_streams, queued}
-use Rattle.laws_play.proofs.{Counting.lines_count, Counting.lines_within, Shutting.IsShut, Shutting.is_shut, Shutting.run_shut}
+use Rattle.laws_play.proofs.{Counting.lines_count, Counting.lines_within, Shutting.run_shut}
 use Rattle.laws_play.specs.{Headline.{IsLawful, IsNamedIn, StaysShut, world_of}, Said.{accept_answer, close_answer, connect_answer}}
 use Rattle.laws_proxy.specs.Account.Counts.{counts_shown}
 use Rattle.vs_driver_parts.specs.declared.answers.Accepted.TheVariants as accepted
@@ -65,7 +65,7 @@ lines_go es p rest bounded well =
 
 module _ (w v : World) (f : Flow) (well : IsWell Fresh w) (goes : Goes Fresh w v) where
   -- What an end put stays from its decision on that it sends no more.
-  decided_put : (role : Role) → IsShut role first_cid f (at role (both_of w)).part (at role (both_of w)).log
+  decided_put : (role : Role) → IsShut role f (at role (both_of w))
       → put_on role f (at role (both_of v)).log ≡ put_on role f (at role (both_of w)).log
   decided_put role x = subst (λ (b : Both). put_on role f (at role b).log ≡ put_on role f (at role (both_of w)).log) goes.runs.ends
       (run_shut role first_cid f goes.runs.steps (both_of w) well.sound well.once goes.runs.may goes.runs.anew x)
@@ -74,7 +74,7 @@ module _ (w v : World) (f : Flow) (well : IsWell Fresh w) (goes : Goes Fresh w v
       → sent_on f v.journal ≡ sent_on f w.journal
   guest_decided e there own shut =
       sent_all v goes.well f
-      ∙ decided_put Driver (is_shut Driver first_cid f (driver_ends w.driver) (both_of w).driver.log e.value.end
+      ∙ decided_put Driver (is_shut Driver first_cid f (both_of w).driver e.value.end
       (well.sound.matches Driver).flows
       (subst (λ (g : Flow). HasEnd g e.value.end (driver_ends w.driver)) own (one_end
       (λ c. c.end) w.driver.table e well.driver.sound there)) shut)
@@ -84,7 +84,7 @@ module _ (w v : World) (f : Flow) (well : IsWell Fresh w) (goes : Goes Fresh w v
       → host_wrote (first_of f) v.host ≡ host_wrote (first_of f) w.host
   device_decided e there own shut =
       sym (wrote_is_put v.host _ _ _ _ (goes.well.streams fresh) f)
-      ∙ decided_put Device (is_shut Device first_cid f (device_ends w.proxy) (both_of w).device.log e.value.end
+      ∙ decided_put Device (is_shut Device first_cid f (both_of w).device e.value.end
       (well.sound.matches Device).flows
       (subst (λ (g : Flow). HasEnd g e.value.end (device_ends w.proxy)) own (one_end
       (λ c. c.end) w.proxy.device.table e well.device.fits.sound there)) shut)
