@@ -21,6 +21,7 @@ pub mod Packets
 pub mod Growing
 pub mod Waiting
 pub mod Logs
+pub mod Dropping
 pub mod Walk
 pub mod Named
 pub mod Carried

@@ -9,7 +9,7 @@ use Rattle.laws_history.specs.{History.puts, Packets.has, Packets.shuts_send}
 use Rattle.vs_driver_parts.specs.declared.answers.ConnectError.{ConnectError}
 use Rattle.vs_driver_parts.specs.{State.DriverEntry, Connections.flow_of, declared.answers.Accepted.Accepted}
 use Rattle.vs_device_parts.specs.{State.DeviceEntry, State.counters_of, declared.answers.Counters.Counters}
-use Rattle.laws_tables.{specs.Both.Both, specs.Both.at, specs.Steps.HasEnd, proofs.Slots.one_end}
+use Rattle.laws_tables.{specs.Both.Both, specs.Both.at, specs.Later.IsShut, specs.Steps.HasEnd, proofs.Shutting.is_shut, proofs.Slots.one_end}
 use Rattle.vs_outside.specs.{HostBytes.host_wrote, Host.HostContents, HostProgram.new_host, HostProgram.plain}
 use Rattle.laws_tables.specs.Drains.{put_on}
 use Rattle.vs_page.specs.Log.{Device, Driver, Log, Role, history_of}
@@ -18,17 +18,17 @@ use Rattle.vs_report.specs.Report.{counts_text, device_open_text, guest_open_tex
 use Rattle.vs_report.specs.GuestLines.{accept_text, connect_text, connection_text}
 use Rattle.laws_proxy.specs.Resets.{IsEmptied}
 use Rattle.laws_world.specs.{Events.is_at_rest, Sides.{both_of, device_ends, driver_ends}}
-use Rattle.laws_world.specs.{Pipes.IsFresh, Steps.Leads, World.{World, first_cid}, Names.times_closed, Counts.IsCounted}
+use Rattle.laws_world.specs.{Pipes.IsFresh, Steps.Leads, World.{World, first_cid}, Names.times_closed}
 use Rattle.laws_world.proofs.{NamesStay.{IsTold, accept_told, connect_told, still_over, still_told}, Carried.{sent_all, sent_stays}}
 use Rattle.laws_world.proofs.{Carried.wrote_stays, Names.{IsOver, closed_unknown}, CallRests.opening_rests}
 use Rattle.laws_world.proofs.{Opening.{opening_well, run_goes}, ResetTables.device_emptied}
-use Rattle.laws_world.proofs.{ScriptLines.{script_leads, script_rests}, Sound.{Goes, IsWell, tx_at_rest}, Counting.reached_counted}
+use Rattle.laws_world.proofs.{ScriptLines.{script_leads, script_rests}, Sound.{Goes, IsWell, tx_at_rest}}
 use Rattle.laws_driver.specs.Carried.Calls.{flow_accepted, flow_opened, sent_on}
 use Rattle.vs_play.specs.{Answer.base_path, Answer.opened_play, Answer.texts_of, Answer.world_after, Lines.PlayWorld, Lines.event_played}
 use Rattle.laws_play.proofs.PlayLines.{after_both, around_journal, front_bounded, lines_of, lines_receive, lines_right}
 use Rattle.laws_play.proofs.PlayLines.{lines_send, rest_bounded, world_is}
 use Rattle.laws_play.proofs.Reached.{carries, holds_open, holds_rest, keeps_credit, log_is, many_device, many_guest, own_streams, queued}
-use Rattle.laws_play.proofs.{Counting.lines_count, Counting.lines_within, Shutting.IsShut, Shutting.is_shut, Shutting.run_shut}
+use Rattle.laws_play.proofs.{Counting.lines_count, Counting.lines_within, Shutting.run_shut}
 use Rattle.laws_play.specs.{Headline.{IsLawful, IsNamedIn, StaysShut, world_of}, Said.{accept_answer, close_answer, connect_answer}}
 use Rattle.laws_proxy.specs.Account.Counts.{counts_shown}
 use Rattle.vs_driver_parts.specs.declared.answers.Accepted.TheVariants as accepted
@@ -65,7 +65,7 @@ lines_go es p rest bounded well =
 
 module _ (w v : World) (f : Flow) (well : IsWell Fresh w) (goes : Goes Fresh w v) where
   -- What an end put stays from its decision on that it sends no more.
-  decided_put : (role : Role) → IsShut role first_cid f (at role (both_of w)).part (at role (both_of w)).log
+  decided_put : (role : Role) → IsShut role f (at role (both_of w))
       → put_on role f (at role (both_of v)).log ≡ put_on role f (at role (both_of w)).log
   decided_put role x = subst (λ (b : Both). put_on role f (at role b).log ≡ put_on role f (at role (both_of w)).log) goes.runs.ends
       (run_shut role first_cid f goes.runs.steps (both_of w) well.sound well.once goes.runs.may goes.runs.anew x)
@@ -74,7 +74,7 @@ module _ (w v : World) (f : Flow) (well : IsWell Fresh w) (goes : Goes Fresh w v
       → sent_on f v.journal ≡ sent_on f w.journal
   guest_decided e there own shut =
       sent_all v goes.well f
-      ∙ decided_put Driver (is_shut Driver first_cid f (driver_ends w.driver) (both_of w).driver.log e.value.end
+      ∙ decided_put Driver (is_shut Driver first_cid f (both_of w).driver e.value.end
       (well.sound.matches Driver).flows
       (subst (λ (g : Flow). HasEnd g e.value.end (driver_ends w.driver)) own (one_end
       (λ c. c.end) w.driver.table e well.driver.sound there)) shut)
@@ -84,7 +84,7 @@ module _ (w v : World) (f : Flow) (well : IsWell Fresh w) (goes : Goes Fresh w v
       → host_wrote (first_of f) v.host ≡ host_wrote (first_of f) w.host
   device_decided e there own shut =
       wrote_all v goes.well fresh f
-      ∙ decided_put Device (is_shut Device first_cid f (device_ends w.proxy) (both_of w).device.log e.value.end
+      ∙ decided_put Device (is_shut Device first_cid f (both_of w).device e.value.end
       (well.sound.matches Device).flows
       (subst (λ (g : Flow). HasEnd g e.value.end (device_ends w.proxy)) own (one_end
       (λ c. c.end) w.proxy.device.table e well.device.fits.sound there)) shut)
@@ -158,10 +158,6 @@ module _ (n : ℕ) where
   world_well : (es : List Event) → AreBounded es → IsWell Fresh (world_of n es)
   world_well es bounded = (lines_go es (opened_play n) at_rest bounded (opening_well n play_host)).well
 
-  world_counted : (es : List Event) → AreBounded es → IsCounted (world_of n es)
-  world_counted es bounded =
-      let leads = lines_lead es (opened_play n) at_rest bounded in subst IsCounted leads.1 (reached_counted n play_host leads.0)
-
   shut_both : (es more : List Event) (f : Flow) → AreBounded (es ++ more) → StaysShut f (world_of n es) (world_of n (es ++ more))
   shut_both es more f bounded =
       let p = world_after es (opened_play n) in
@@ -174,9 +170,9 @@ module _ (n : ℕ) where
       → IsEmptied (world_of n (es ++ script.Around (outside.Reset cid) ∷ [])).proxy
   emptied_after es more cid bounded =
       let p = world_after es (opened_play n) in
-      let counted = world_counted es (front_bounded es (script.Around (outside.Reset cid) ∷ more) bounded) in
+      let well = world_well es (front_bounded es (script.Around (outside.Reset cid) ∷ more) bounded) in
       subst (λ (q : PlayWorld). IsEmptied q.world.proxy) (sym (after_both es (script.Around (outside.Reset cid) ∷ []) (opened_play n)))
-      (device_emptied cid p.world counted.unfailed)
+      (device_emptied cid p.world well.counted.unfailed)
 
   -- A line that told an id.
   named_after : (before more : List Event) (e : Event) (id : ℕ) → AreBounded (before ++ e ∷ more) → All (λ x. x ≢ script.Close id) more
@@ -227,7 +223,6 @@ module _ (n : ℕ) where
       let w = world_of n lines in
       let well = world_well lines bounded in
       let rest = world_rests lines in
-      let counted = world_counted lines bounded in
       record {
         events = lines_lead lines (opened_play n) at_rest bounded;
         bytes = λ f. carries w well fresh rest f;
@@ -256,8 +251,8 @@ module _ (n : ℕ) where
             (shut_both before more f (subst AreBounded is bounded));
         tables = holds_open w well fresh rest;
         reset = λ before more cid is. emptied_after before more cid (subst AreBounded is bounded);
-        unfailed = counted.unfailed;
-        dropped = counted.dropped;
+        unfailed = well.counted.unfailed;
+        dropped = well.counted.dropped_is;
         counts = lines_count (counts_shown (opened_play n).world.proxy.device) lines (opened_play n) [] refl;
         faults = (let told = lines_within lines (opened_play n) 0 (omega arith) in omega (arith, told));
         credit = keeps_credit w well fresh rest;

@@ -10,7 +10,7 @@ use Rattle.vs_page.specs.{Log.Device, Log.Driver, Log.HasGotAll, Log.Log, Log.Ro
 use Rattle.vs_page.specs.Fair.{IsFairLog, IsPrefixOf, payload_got, payload_put}
 use Rattle.vs_driver_parts.specs.{Connections.flow_of, State.DriverEntry}
 use Rattle.vs_device_parts.specs.{State.DeviceEntry, State.counters_of}
-use Rattle.laws_device.specs.Streams.{has_open_stream, is_waiting_for_request}
+use Rattle.laws_device.specs.{Dropped.dropped_in, Streams.has_open_stream, Streams.is_waiting_for_request}
 use Rattle.laws_tables.specs.Ends.{flows_of, is_among, replied}
 use Rattle.vs_outside.specs.{HostBytes.{host_read, host_wrote, read_after_ok, wrote_after_connect}, Host.{Stream, stream_at}}
 use Rattle.laws_tables.specs.Drains.{Drains, receives}
@@ -20,7 +20,7 @@ use Rattle.vs_report.specs.{Report.counts_text, Report.device_open_text, Report.
 use Rattle.vs_report.specs.GuestLines.{opened_text, send_text}
 use Rattle.laws_proxy.specs.Account.Counts.{counts_of, counts_shown}
 use Rattle.laws_proxy.specs.Resets.{IsEmptied}
-use Rattle.laws_world.specs.{Counts.dropped_in, Names.HasFlow, Sides.device_ends, Sides.driver_ends, Steps.Leads}
+use Rattle.laws_world.specs.{Names.HasFlow, Sides.device_ends, Sides.driver_ends, Steps.Leads}
 use Rattle.laws_world.specs.World.{World, first_cid}
 use Rattle.laws_driver.specs.Resets.{MarksResets}
 use Rattle.laws_driver.specs.Carried.Calls.{received_on, sent_on}

@@ -7,7 +7,8 @@ use Rattle.vs_page.specs.{Fair.payload_got, Fair.payload_put, Log.Device, Log.Dr
 use Rattle.laws_tables.specs.Ends.{is_among}
 use Rattle.vs_driver_parts.specs.{Connections.flow_of, Connections.state_of, declared.answers.ConnectionState.ConnectionState}
 use Rattle.vs_script.specs.{Play.Event, Script.Saying, Script.Plays, Script.parse_of, declared.fault.Refused.Refused}
-use Rattle.laws_world.specs.{Counts.dropped_in, World.World, World.first_cid}
+use Rattle.laws_device.specs.Dropped.{dropped_in}
+use Rattle.laws_world.specs.World.{World, first_cid}
 use Rattle.vs_play.specs.Answer.{opened_play}
 use Rattle.laws_play.specs.Headline.{device_flows, device_log, driver_log, guest_flows, guest_replies, world_of}
 use Rattle.laws_play.specs.{Recorded.fails_in, Said.received_in, Said.sent_in}

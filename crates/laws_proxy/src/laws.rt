@@ -4,7 +4,7 @@ ghost use Rattle.std.specs.{Option.ForSome, Prelude.{◌≡◌, ◌<◌, ◌^◌
 ghost use Rattle.vs_ring_port.specs.{Contents.RingContents, declared.failure.Failure.Failure};
 ghost use Rattle.vs_device_parts.specs.{Calls.Situation, Playing.MayRun, Playing.Runs};
 ghost use Rattle.laws_device.specs.Named.Streams.{FindsStreams};
-ghost use Rattle.laws_device.specs.{Honest.IsFresh, Streams.IsTabledWith};
+ghost use Rattle.laws_device.specs.{Dropped.IsCountedWith, Honest.IsFresh, Streams.IsTabledWith};
 ghost use Rattle.vs_proxy_parts.specs.{Handshakes.streams_of, State.ProxyState, Turns.new_proxy, Turns.proxy_reset_of, Turns.turn_of};
 ghost use Rattle.vs_proxy_parts.specs.declared.answers.Turn.{Turn};
 ghost use Rattle.laws_proxy.specs.{Honest.IsProxyStreamed, Honest.IsProxyWith, Order.IsInOrder, Resets.IsEmptied};
@@ -49,6 +49,16 @@ pub fn law_of_order()
     ensures reset_may { (first cid : ℕ) (s : ProxyState) (a : Situation) → IsInOrder first s a → MayRun (proxy_reset_of cid s) a }
     ensures reset { (first cid : ℕ) (s : ProxyState) (a b : Situation) (x : ProxyState × Result (Unit {0}) Failure) → cid < 2 ^ 64
         → IsInOrder first s a → Runs (proxy_reset_of cid s) a x b → IsInOrder first x.0 b }
+{}
+
+/// Over an honest ring that tells its log, and any host, the ring doesn't fail, and the device counts just the packets of the log that it drops, each
+/// by the guest's CID of then. The count stands still at the last number of 64 bits.
+pub fn law_of_counts()
+    ensures new { (cid : ℕ) (base : List ℕ) (c : RingContents) → IsFresh c → IsCountedWith cid (new_proxy cid base).device c }
+    ensures turn { (first size now : ℕ) (s : ProxyState) (a b : Situation) (x : ProxyState × Turn) → IsCountedWith first s.device a.ring
+        → Runs (turn_of size now s) a x b → IsCountedWith first x.0.device b.ring }
+    ensures reset { (first cid : ℕ) (s : ProxyState) (a b : Situation) (x : ProxyState × Result (Unit {0}) Failure) → IsCountedWith first s.device a.ring
+        → Runs (proxy_reset_of cid s) a x b → IsCountedWith first x.0.device b.ring }
 {}
 
 /// A transport reset of a device whose ring didn't fail leaves its table, its owed replies and the proxy's handshakes empty, over any ring

@@ -1,7 +1,7 @@
 -- Each step of an end keeps that it asks once on a flow.
 use Rattle.std.proofs.{lemmas.Grind.common_steps, lemmas.Bool.Decides.nat_tests, Common.◌≡◌, Common.ℕ, Common.◌+◌, Common.◌≤◌, Common.Bool}
-use Rattle.std.proofs.Common.{true, false, cond, ◌&&◌, ◌||◌, ◌++◌, List, [], ◌∷◌, length, Some, refl, sym, ap, subst, ◌∙◌, arith}
-use Rattle.vs_conn.specs.End.{ConnectionEnd, answering, asked, end_after, is_of, owes_of, paid_of, with_payload_sent}
+use Rattle.std.proofs.Common.{true, false, cond, ◌&&◌, List, [], ◌∷◌, Some, refl, sym, ap, subst, ◌∙◌, arith}
+use Rattle.vs_conn.specs.End.{ConnectionEnd, asked, end_after, is_of, owes_of, paid_of}
 use Rattle.vs_flow.specs.{Flow.same_flow, declared.flow.Flow.Flow}
 use Rattle.vs_header.specs.declared.{Header.Header, Kind.Kind}
 use Rattle.laws_history.specs.{Again.count, Packets.is_request, Packets.is_rst, declared.packet.Packet.Packet}
@@ -10,15 +10,15 @@ use Rattle.vs_limits.specs.declared.TheConstants.{BUF_ALLOC}
 use Rattle.vs_page.specs.{Open.is_dropped, Log.Log, Log.Role, Log.flow_got, Log.flow_put, Log.whole_of}
 use Rattle.vs_page.specs.declared.log.LogEntry.TheVariants.{GotPacket, PutPacket}
 use Rattle.vs_page.proofs.Flows.{same_is}
-use Rattle.laws_tables.specs.Both.{Aborts, Asks, Decides, Decision, Forgets, Forwards, Grows, MakesReset, Opens, Pays, PutsEvent, Replies}
-use Rattle.laws_tables.specs.Both.{Seat, Sends, Shuts, Step, Takes, TakesEvent, TakesReset, WantsCredit, after, after_packet, answered}
-use Rattle.laws_tables.specs.{Both.{decided, new_seat}, Heard.own_port, Ends.{Ends, answer_kind, ends_of, is_new, replaced}, Steps.asking}
+use Rattle.laws_tables.specs.Both.{Aborts, Asks, Decides, Decision, Forwards, Grows, Opens, Pays, Replies}
+use Rattle.laws_tables.specs.Both.{Seat, Sends, Shuts, Step, Takes, WantsCredit, after, after_packet, answered}
+use Rattle.laws_tables.specs.{Both.{decided, new_seat, part_after}, Heard.own_port, Ends.{Ends, ends_of, is_new, replaced}, Steps.asking}
 use Rattle.laws_tables.specs.Steps.{is_kept, left, opened, owed_on, payload_on, port_after, reply_on, request_on, with_clean}
-use Rattle.laws_tables.specs.Steps.{with_connection, with_end}
-use Rattle.laws_tables.proofs.{Steps.owed_flow, Steps.request_flow, Keeps.paid_old, Entries.replaced_same}
+use Rattle.laws_tables.specs.Steps.{with_end}
+use Rattle.laws_tables.proofs.{Steps.owed_flow, Steps.request_flow, Keeps.paid_old}
 use Rattle.vs_conn.specs.declared.end.Owed.TheVariants as owed
 use Rattle.laws_tables.specs.Asked.{AskOnce, AsksOnce, Does, asks_of, has_new}
-use Rattle.laws_tables.proofs.News.{added_new, replaced_old, replaced_other, some_new, without_new}
+use Rattle.laws_tables.proofs.News.{MakesNone, MakesOther, Stays, none_replaced, some_one, step_makes}
 
 -- A packet that is put, and one that is got.
 count_put : (b asks : Bool) (p : Packet) (h : History) → is_request p ≡ asks
@@ -66,13 +66,29 @@ decided_old e Aborts old = grind (arith, common_steps, old)
 decided_old e WantsCredit old = grind (arith, common_steps, old)
 decided_old e (Grows alloc) old = grind (arith, common_steps, old)
 
-was_new : (old now : Bool) → (old ≡ false → now ≡ false) → now ≡ true → old ≡ true
-was_new true now keeps is = refl
-was_new false now keeps is = let no : false ≡ true = sym (keeps refl) ∙ is in absurd cc
-
 none_new : (old now : Bool) → (now ≡ true → old ≡ true) → old ≡ false → now ≡ false
 none_new old true news none = let no : true ≡ false = sym (news refl) ∙ none in absurd cc
 none_new old false news none = refl
+
+ends_stay : Stays is_new
+ends_stay = record { heard = after_old; sent = λ e n old. old; paid = paid_old; decided = decided_old }
+
+no_port : (role : Role) (p : Packet) (answer : Bool) (part : Ends) → (part_after role (Takes p answer) part).next_port ≡ part.next_port
+no_port role p answer part = by (is_dropped role part.cid p.header)
+  where
+    known : (b k : Bool) (g : Flow) (e : ConnectionEnd) → (cond b (with_clean k g (left g part)) (with_end g e part)).next_port ≡ part.next_port
+    known = grind (arith, common_steps)
+
+    unknown : (g : Flow) (rst asks : Bool) → (cond rst part (answered asks answer p g part)).next_port ≡ part.next_port
+    unknown = grind (arith, common_steps)
+
+    heard : (g : Flow) (es : List ConnectionEnd) → (after_packet role es p g answer part).next_port ≡ part.next_port
+    heard g [] = unknown g (is_rst p) (is_request p)
+    heard g (e ∷ more) = known (is_rst p && is_of e.kind p.header) (is_kept role g e p) g (end_after e p.header)
+
+    by : (b : Bool) → (cond b part (after_packet role (ends_of (flow_got role p) part.entries) p (flow_got role p) answer part)).next_port ≡ part.next_port
+    by true = refl
+    by false = heard (flow_got role p) (ends_of (flow_got role p) part.entries)
 
 port_rises : (next port : ℕ) → next ≤ port_after next port
 port_rises = grind (arith, nat_tests, common_steps)
@@ -83,7 +99,7 @@ port_given next port later = grind (arith, nat_tests, common_steps, later)
 -- A step that puts no REQUEST on the flow, and makes no end new there.
 module _ (role : Role) (f : Flow) (old : Seat) (o : AsksOnce role f old.part old.log) where
   pub stays : (part : Ends) (log : Log) → asks_of role f log ≡ asks_of role f old.log → old.part.next_port ≤ part.next_port
-      → (has_new (ends_of f part.entries) ≡ true → has_new (ends_of f old.part.entries) ≡ true) → AsksOnce role f part log
+      → MakesNone is_new f old.part.entries part.entries → AsksOnce role f part log
   stays part log same rises news = record {
     few = omega (arith, o.few, same);
     new = λ is. same ∙ o.new (news is);
@@ -91,64 +107,12 @@ module _ (role : Role) (f : Flow) (old : Seat) (o : AsksOnce role f old.part old
         (same ∙ u.0, none_new (has_new (ends_of f old.part.entries)) (has_new (ends_of f part.entries)) news u.1);
   }
 
-  -- Another end of a flow that has one.
-  changed : (g : Flow) (e now : ConnectionEnd) (more : List ConnectionEnd) → ends_of g old.part.entries ≡ e ∷ more
-      → (is_new e ≡ false → is_new now ≡ false)
-      → has_new (ends_of f (replaced g now old.part.entries)) ≡ true → has_new (ends_of f old.part.entries) ≡ true
-  changed g e now more has keeps is = by (is_new now) refl (same_flow f g) refl
-    where
-      by : (n : Bool) → is_new now ≡ n → (b : Bool) → same_flow f g ≡ b → has_new (ends_of f old.part.entries) ≡ true
-      by false new b same = replaced_old f g now old.part.entries new is
-      by true new true same =
-          let one = same_is f g same in
-          subst (λ (k : Flow). has_new (ends_of k old.part.entries) ≡ true) (sym one)
-          (some_new g e more old.part.entries has (was_new (is_new e) (is_new now) keeps new))
-      by true new false other = sym (replaced_other f g now old.part.entries other) ∙ is
+  pub still : (step : Step) (log : Log) → asks_of role f log ≡ asks_of role f old.log → old.part.next_port ≤ (part_after role step old.part).next_port
+      → MakesOther is_new f step role old.part → AsksOnce role f (part_after role step old.part) log
+  still step log same rises other = stays (part_after role step old.part) log same rises (step_makes is_new ends_stay f step role old.part other)
 
-  pub changes : (g : Flow) (e now : ConnectionEnd) (more : List ConnectionEnd) (log : Log) → ends_of g old.part.entries ≡ e ∷ more
-      → (is_new e ≡ false → is_new now ≡ false) → asks_of role f log ≡ asks_of role f old.log → AsksOnce role f (with_end g now old.part) log
-  changes g e now more log has keeps same = stays (with_end g now old.part) log same (omega arith) (changed g e now more has keeps)
-
-  -- An end comes that isn't new.
-  came : (g : Flow) (e : ConnectionEnd) → is_new e ≡ false → has_new (ends_of f (with_connection g e old.part).entries) ≡ true
-      → has_new (ends_of f old.part.entries) ≡ true
-  came g e new is = by (has_new (ends_of f old.part.entries)) (same_flow f g) (is_new e) new (sym (added_new f g e old.part.entries) ∙ is)
-    where
-      by : (h b n : Bool) → n ≡ false → (h || (b && n)) ≡ true → h ≡ true
-      by = grind (arith, common_steps)
-
-  -- A packet that is taken.
-  module _ (p : Packet) (answer : Bool) (log : Log) (same : asks_of role f log ≡ asks_of role f old.log) where
-    abbrev g : Flow
-    g = flow_got role p
-
-    kept : AsksOnce role f old.part log
-    kept = stays old.part log same (omega arith) (λ is. is)
-
-    none_known : (a b : Bool) → AsksOnce role f (answered a b p g old.part) log
-    none_known true true =
-        stays (answered true true p g old.part) log same (omega arith) (came g (answering (answer_kind p.header.kind) BUF_ALLOC p.header) refl)
-    none_known true false = stays (answered true false p g old.part) log same (omega arith) (λ is. is)
-    none_known false true = stays (answered false true p g old.part) log same (omega arith) (λ is. is)
-    none_known false false = stays (answered false false p g old.part) log same (omega arith) (λ is. is)
-
-    unknown : (b : Bool) → AsksOnce role f (cond b old.part (answered (is_request p) answer p g old.part)) log
-    unknown true = kept
-    unknown false = none_known (is_request p) answer
-
-    known : (b k : Bool) (e : ConnectionEnd) (more : List ConnectionEnd) → ends_of g old.part.entries ≡ e ∷ more
-        → AsksOnce role f (cond b (with_clean k g (left g old.part)) (with_end g (end_after e p.header) old.part)) log
-    known true true e more has = stays (with_clean true g (left g old.part)) log same (omega arith) (without_new f g old.part.entries)
-    known true false e more has = stays (with_clean false g (left g old.part)) log same (omega arith) (without_new f g old.part.entries)
-    known false k e more has = changes g e (end_after e p.header) more log has (after_old e p.header) same
-
-    heard : (es : List ConnectionEnd) → ends_of g old.part.entries ≡ es → AsksOnce role f (after_packet role es p g answer old.part) log
-    heard [] none = unknown (is_rst p)
-    heard (e ∷ more) has = known (is_rst p && is_of e.kind p.header) (is_kept role g e p) e more has
-
-    pub takes : (b : Bool) → AsksOnce role f (cond b old.part (after_packet role (ends_of g old.part.entries) p g answer old.part)) log
-    takes true = kept
-    takes false = heard (ends_of g old.part.entries) refl
+none_here : (b n : Bool) → n ≡ false → (b && n) ≡ false
+none_here = grind (arith, common_steps)
 
 -- A flow is asked for.
 module _ (role : Role) (f g : Flow) (kind : Kind) (w : Seat) (o : AsksOnce role f w.part w.log) (port : w.part.next_port ≤ own_port role g) where
@@ -160,12 +124,8 @@ module _ (role : Role) (f g : Flow) (kind : Kind) (w : Seat) (o : AsksOnce role 
   free : same_flow f g ≡ true → (asks_of role f w.log ≡ 0) × (has_new (ends_of f w.part.entries) ≡ false)
   free same = o.unused (subst (λ (k : Flow). w.part.next_port ≤ own_port role k) (sym (same_is f g same)) port)
 
-  other_new : (e : ConnectionEnd) → same_flow f g ≡ false → has_new (ends_of f (w.part.entries ++ record { flow = g; end = e } ∷ [])) ≡ true
-      → has_new (ends_of f w.part.entries) ≡ true
-  other_new e other is = by (has_new (ends_of f w.part.entries)) (same_flow f g) (is_new e) other (sym (added_new f g e w.part.entries) ∙ is)
-    where
-      by : (h b n : Bool) → b ≡ false → (h || (b && n)) ≡ true → h ≡ true
-      by = grind (arith, common_steps)
+  opened_makes : MakesNone is_new f w.part.entries (opened role g kind w.part).entries
+  opened_makes = step_makes is_new ends_stay f (Opens g kind) role w.part (none_here (same_flow f g) _ refl)
 
   pub opens : AsksOnce role f (opened role g kind w.part) (PutPacket (request_on role w.part.cid g kind) ∷ w.log)
   opens = by (same_flow f g) refl
@@ -179,13 +139,13 @@ module _ (role : Role) (f g : Flow) (kind : Kind) (w : Seat) (o : AsksOnce role 
       by : (b : Bool) → same_flow f g ≡ b → AsksOnce role f (opened role g kind w.part) (PutPacket (request_on role w.part.cid g kind) ∷ w.log)
       by true same = record {
         few = put_request role f (request_on role w.part.cid g kind) w.log refl (free same).0;
-        new = λ is. let no : true ≡ false = sym (came role f w o g (paid_of (asked kind BUF_ALLOC) owed.Request) refl is) ∙ (free same).1 in absurd cc;
+        new = λ is. let no : true ≡ false = sym (opened_makes is) ∙ (free same).1 in absurd cc;
         unused = λ later. given same later;
       }
       by false other =
           stays role f w o (opened role g kind w.part) (PutPacket (request_on role w.part.cid g kind) ∷ w.log)
           (put_elsewhere role f (request_on role w.part.cid g kind) w.log (ap (same_flow f) (request_flow role w.part.cid g kind) ∙ other))
-          (port_rises w.part.next_port (own_port role g)) (other_new (paid_of (asked kind BUF_ALLOC) owed.Request) other)
+          (port_rises w.part.next_port (own_port role g)) opened_makes
 
   pub asks : AsksOnce role f (asking role g kind w.part) w.log
   asks = by (same_flow f g) refl
@@ -193,7 +153,7 @@ module _ (role : Role) (f g : Flow) (kind : Kind) (w : Seat) (o : AsksOnce role 
       by : (b : Bool) → same_flow f g ≡ b → AsksOnce role f (asking role g kind w.part) w.log
       by true same = record { few = let none = (free same).0 in omega (arith, none); new = λ is. (free same).0; unused = λ later. given same later }
       by false other =
-          stays role f w o (asking role g kind w.part) w.log refl (port_rises w.part.next_port (own_port role g)) (other_new (asked kind BUF_ALLOC) other)
+          still role f w o (Asks g kind) w.log refl (port_rises w.part.next_port (own_port role g)) (ap (λ (b : Bool). b && true) other)
 
 -- An end puts the REQUEST that it owed.
 pub pays_request : (role : Role) (f g : Flow) (e : ConnectionEnd) (w : Seat) → AsksOnce role f w.part w.log → ends_of g w.part.entries ≡ e ∷ []
@@ -207,9 +167,9 @@ pays_request role f g e w o has owes = by (same_flow f g) refl
     paid_none : (k : Flow) → k ≡ g → has_new (ends_of k (replaced g (paid_of e owed.Request) w.part.entries)) ≡ false
     paid_none k same =
         ap (λ (j : Flow). has_new (ends_of j (replaced g (paid_of e owed.Request) w.part.entries))) same
-        ∙ ap has_new (replaced_same g e (paid_of e owed.Request) w.part.entries has) ∙ old e
+        ∙ none_replaced is_new g (paid_of e owed.Request) w.part.entries (old e)
       where
-        old : (d : ConnectionEnd) → (is_new (paid_of d owed.Request) || false) ≡ false
+        old : (d : ConnectionEnd) → is_new (paid_of d owed.Request) ≡ false
         old = grind (arith, common_steps)
 
     by : (b : Bool) → same_flow f g ≡ b
@@ -217,41 +177,34 @@ pays_request role f g e w o has owes = by (same_flow f g) refl
     by true same =
         let one = same_is f g same in
         let here : has_new (ends_of f w.part.entries) ≡ true =
-        subst (λ (k : Flow). has_new (ends_of k w.part.entries) ≡ true) (sym one) (some_new g e [] w.part.entries has (owes_new e owes)) in record {
+        subst (λ (k : Flow). has_new (ends_of k w.part.entries) ≡ true) (sym one) (some_one is_new g e [] w.part.entries has (owes_new e owes)) in record {
           few = put_request role f (owed_on role w.part.cid g e owed.Request) w.log refl (o.new here);
           new = λ is. let no : true ≡ false = sym is ∙ paid_none f one in absurd cc;
           unused = λ later. let no : true ≡ false = sym here ∙ (o.unused later).1 in absurd cc;
         }
     by false other =
-        changes role f w o g e (paid_of e owed.Request) [] _ has (paid_old e owed.Request)
+        still role f w o (Pays g e owed.Request) _
         (put_elsewhere role f (owed_on role w.part.cid g e owed.Request) w.log
-        (ap (same_flow f) (owed_flow role w.part.cid g e owed.Request) ∙ other))
+        (ap (same_flow f) (owed_flow role w.part.cid g e owed.Request) ∙ other)) (omega arith) has
 
 -- Each step.
 pub step_once : (role : Role) (step : Step) (w : Seat) → Does role step w → AskOnce role w → AskOnce role (after role step w)
 step_once role (Opens g kind) w does once f asker = opens role f g kind w (once f asker) does
 step_once role (Asks g kind) w does once f asker = asks role f g kind w (once f asker) does
 step_once role (Sends g e payload) w does once f asker =
-    changes role f w (once f asker) g e (with_payload_sent e (length payload)) [] _ does (λ old. old)
-    (put_other role f (payload_on role w.part.cid g e payload) w.log refl)
+    still role f w (once f asker) (Sends g e payload) _ (put_other role f (payload_on role w.part.cid g e payload) w.log refl) (omega arith) does
 step_once role (Pays g e owed.Request) w does once f asker = pays_request role f g e w (once f asker) does.0 does.1
 step_once role (Pays g e owed.Rst) w does once f asker =
-    stays role f w (once f asker) (left g w.part) _ (put_other role f (owed_on role w.part.cid g e owed.Rst) w.log refl) (omega arith)
-    (without_new f g w.part.entries)
+    still role f w (once f asker) (Pays g e owed.Rst) _ (put_other role f (owed_on role w.part.cid g e owed.Rst) w.log refl) (omega arith) does.0
 step_once role (Pays g e what) w does once f asker =
-    changes role f w (once f asker) g e (paid_of e what) [] _ does.0 (paid_old e what)
-    (put_other role f (owed_on role w.part.cid g e what) w.log refl)
+    still role f w (once f asker) (Pays g e what) _ (put_other role f (owed_on role w.part.cid g e what) w.log refl) (omega arith) does.0
 step_once role (Replies r rest) w does once f asker =
-    stays role f w (once f asker) _ _ (put_other role f (reply_on role w.part.cid r) w.log refl) (omega arith) (λ is. is)
-step_once role (Decides g e what) w does once f asker =
-    changes role f w (once f asker) g e (decided e what) [] w.log does (decided_old e what) refl
-step_once role Forgets w does once f asker = stays role f w (once f asker) _ w.log refl (omega arith) (λ is. is)
+    still role f w (once f asker) (Replies r rest) _ (put_other role f (reply_on role w.part.cid r) w.log refl) (omega arith) tt
 step_once role (Takes p answer) w does once f asker =
-    takes role f w (once f asker) p answer (GotPacket p ∷ w.log) (got_same role f p w.log) (is_dropped role w.part.cid p.header)
-step_once role (PutsEvent id) w does once f asker = stays role f w (once f asker) _ _ refl (omega arith) (λ is. is)
-step_once role (TakesEvent id) w does once f asker = stays role f w (once f asker) _ _ refl (omega arith) (λ is. is)
-step_once role (MakesReset cid) w does once f asker = stays role f w (once f asker) _ _ refl (omega arith) (λ is. absurd cc)
-step_once role (TakesReset cid) w does once f asker = stays role f w (once f asker) _ _ refl (omega arith) (λ is. absurd cc)
+    let same = no_port role p answer w.part in
+    still role f w (once f asker) (Takes p answer) _ (got_same role f p w.log) (omega (arith, same)) (λ asks. none_here (same_flow f (flow_got role p)) _ refl)
+step_once role (Decides g e what) w does once f asker = still role f w (once f asker) (Decides g e what) w.log refl (omega arith) does
+step_once role step w does once f asker = still role f w (once f asker) step _ refl (omega arith) tt
 
 pub begins_once : (role : Role) (first port : ℕ) → AskOnce role (new_seat first port)
 begins_once role first port f asker = record { few = omega arith; new = λ is. refl; unused = λ later. (refl, refl) }

@@ -13,7 +13,7 @@ stays_shut role old new later fair = λ k shut up_to.
     ap (payload_put role k) later.1 ∙ shut_put role later.0 old k (subst (IsFairLog role) later.1 fair k.flow) shut up_to
 
 -- A step adds the same to any log.
-step_adds : (role : Role) (cid : ℕ) (step : Step) (log : Log) → log_after role cid step log ≡ log_after role cid step [] ++ log
+pub step_adds : (role : Role) (cid : ℕ) (step : Step) (log : Log) → log_after role cid step log ≡ log_after role cid step [] ++ log
 step_adds = grind (arith, common_steps)
 
 one_later : (side role : Role) (step : Step) (b : Both) → IsLater (at side b).log (at side (happens role step b)).log

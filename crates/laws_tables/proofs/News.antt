@@ -1,79 +1,124 @@
--- Ends that are new, among those of a flow, when entries come, change and go.
-use Rattle.std.proofs.Common.{◌≡◌, Bool, true, false, cond, ◌&&◌, ◌||◌, ◌++◌, List, [], ◌∷◌, refl, sym, ap, ◌∙◌, arith}
+-- Ends that pass a test, among those of a flow, when entries come, change and go, and over the steps of an end of many connections.
+use Rattle.std.proofs.Common.{◌≡◌, ℕ, Bool, true, false, cond, ◌&&◌, ◌||◌, ◌++◌, List, [], ◌∷◌, length, refl, sym, ap, subst, ◌∙◌, arith}
 use Rattle.std.proofs.lemmas.Grind.{common_steps}
-use Rattle.vs_conn.specs.End.{ConnectionEnd}
+use Rattle.vs_conn.specs.End.{ConnectionEnd, answering, asked, end_after, is_of, paid_of, with_payload_sent}
+use Rattle.vs_conn.specs.declared.end.Owed.{Owed}
 use Rattle.vs_flow.specs.{Flow.same_flow, declared.flow.Flow.Flow}
-use Rattle.vs_page.proofs.Flows.{same_is, same_self}
-use Rattle.laws_tables.specs.Ends.{FlowEnd, ends_of, is_new, replaced, without_flow}
-use Rattle.laws_tables.specs.Asked.{has_new}
+use Rattle.vs_header.specs.declared.Header.{Header}
+use Rattle.laws_history.specs.{Packets.is_request, Packets.is_rst, declared.packet.Packet.Packet}
+use Rattle.vs_limits.specs.declared.TheConstants.{BUF_ALLOC}
+use Rattle.vs_page.{proofs.Flows.same_is, specs.Log.Role, specs.Log.flow_got, specs.Open.is_dropped}
+use Rattle.laws_tables.specs.Ends.{Ends, FlowEnd, answer_kind, ends_of, replaced, without_flow}
+use Rattle.laws_tables.specs.Both.{Asks, Decides, Decision, MakesReset, Opens, Pays, Sends, Step, Takes, TakesReset, after_packet, answered, decided, part_after}
+use Rattle.laws_tables.specs.{Asked.has_one, Steps.HasEnd, Steps.is_kept, Steps.left, Steps.with_clean, Steps.with_end}
+use Rattle.laws_tables.proofs.Entries.{replaced_other}
+use Rattle.vs_conn.specs.declared.end.Owed.TheVariants as owed
 
-pub added_new : (f g : Flow) (e : ConnectionEnd) (xs : List FlowEnd)
-    → has_new (ends_of f (xs ++ record { flow = g; end = e } ∷ [])) ≡ (has_new (ends_of f xs) || (same_flow f g && is_new e))
-added_new f g e [] = grind (arith, common_steps)
-added_new f g e (x ∷ xs) = let rest = added_new f g e xs in grind (arith, common_steps)
+module _ (test : ConnectionEnd → Bool) where
+  pub added_one : (f g : Flow) (e : ConnectionEnd) (xs : List FlowEnd)
+      → has_one test (ends_of f (xs ++ record { flow = g; end = e } ∷ [])) ≡ (has_one test (ends_of f xs) || (same_flow f g && test e))
+  added_one f g e [] = grind (arith, common_steps)
+  added_one f g e (x ∷ xs) = let rest = added_one f g e xs in grind (arith, common_steps)
 
-pub without_new : (f g : Flow) (xs : List FlowEnd) → has_new (ends_of f (without_flow g xs)) ≡ true → has_new (ends_of f xs) ≡ true
-without_new f g [] is = absurd cc
-without_new f g (x ∷ xs) is = let rest = without_new f g xs in grind (arith, common_steps)
+  -- Where one passes it after this, one did before.
+  abbrev pub MakesNone : Flow → List FlowEnd → List FlowEnd → Type 0
+  MakesNone f old new = has_one test (ends_of f new) ≡ true → has_one test (ends_of f old) ≡ true
 
--- A flow with an end that is new, and one whose end changes to an old one.
-pub some_new : (g : Flow) (e : ConnectionEnd) (es : List ConnectionEnd) (xs : List FlowEnd) → ends_of g xs ≡ e ∷ es → is_new e ≡ true
-    → has_new (ends_of g xs) ≡ true
-some_new g e es xs is new = ap has_new is ∙ ap (λ (b : Bool). b || has_new es) new
+  pub leaves : (f g : Flow) (xs : List FlowEnd) → MakesNone f xs (without_flow g xs)
+  leaves f g [] is = absurd cc
+  leaves f g (x ∷ xs) is = let rest = leaves f g xs in grind (arith, common_steps)
 
-or_right : (a b : Bool) → b ≡ true → (a || b) ≡ true
-or_right true b is = refl
-or_right false b is = is
+  -- An end that comes passes it on another flow at most.
+  pub comes : (f g : Flow) (e : ConnectionEnd) (xs : List FlowEnd) → (same_flow f g && test e) ≡ false
+      → MakesNone f xs (xs ++ record { flow = g; end = e } ∷ [])
+  comes f g e xs none is = by (has_one test (ends_of f xs)) (same_flow f g && test e) none (sym (added_one f g e xs) ∙ is)
+    where
+      by : (h b : Bool) → b ≡ false → (h || b) ≡ true → h ≡ true
+      by = grind (arith, common_steps)
 
-past_old : (n h : Bool) → n ≡ false → (n || h) ≡ true → h ≡ true
-past_old true h old is = absurd cc
-past_old false h old is = is
+  -- A flow with an end that passes it, and one whose end changes to one that doesn't.
+  pub some_one : (g : Flow) (e : ConnectionEnd) (es : List ConnectionEnd) (xs : List FlowEnd) → ends_of g xs ≡ e ∷ es → test e ≡ true
+      → has_one test (ends_of g xs) ≡ true
+  some_one g e es xs is one = ap (has_one test) is ∙ ap (λ (b : Bool). b || has_one test es) one
 
-or_still : (n h k : Bool) → (h ≡ true → k ≡ true) → (n || h) ≡ true → (n || k) ≡ true
-or_still true h k goes is = refl
-or_still false h k goes is = goes is
+  pub none_replaced : (g : Flow) (now : ConnectionEnd) (xs : List FlowEnd) → test now ≡ false → has_one test (ends_of g (replaced g now xs)) ≡ false
+  none_replaced g now [] none = refl
+  none_replaced g now (x ∷ xs) none = by (same_flow g x.flow) refl (none_replaced g now xs none)
+    where
+      by : (a : Bool) → same_flow g x.flow ≡ a → has_one test (ends_of g (replaced g now xs)) ≡ false
+          → has_one test (ends_of g ((cond a (record x { end = now }) x) ∷ replaced g now xs)) ≡ false
+      by true same rest = rw same (rw none rest)
+      by false other rest = rw other rest
 
--- Of one entry, where these are the ends behind it, before and after.
-module _ (old now : ConnectionEnd) (before after : List ConnectionEnd) (goes : has_new after ≡ true → has_new before ≡ true) where
-  changed_one : (b : Bool) → is_new now ≡ false → has_new (cond b (now ∷ after) after) ≡ true → has_new (cond b (old ∷ before) before) ≡ true
-  changed_one true none is = or_right (is_new old) (has_new before) (goes (past_old (is_new now) (has_new after) none is))
-  changed_one false none is = goes is
+  pub changes : (f g : Flow) (e now : ConnectionEnd) (more : List ConnectionEnd) (xs : List FlowEnd) → ends_of g xs ≡ e ∷ more
+      → (test e ≡ false → test now ≡ false) → MakesNone f xs (replaced g now xs)
+  changes f g e now more xs has keeps is = by (same_flow f g) refl (test now) refl
+    where
+      was : (old new : Bool) → (old ≡ false → new ≡ false) → new ≡ true → old ≡ true
+      was = grind (arith, common_steps)
 
-  same_one : (b : Bool) → has_new (cond b (old ∷ after) after) ≡ true → has_new (cond b (old ∷ before) before) ≡ true
-  same_one true is = or_still (is_new old) (has_new after) (has_new before) goes is
-  same_one false is = goes is
+      by : (b : Bool) → same_flow f g ≡ b → (n : Bool) → test now ≡ n → has_one test (ends_of f xs) ≡ true
+      by false other n at = sym (ap (has_one test) (replaced_other g f now xs other)) ∙ is
+      by true same true at =
+          subst (λ (k : Flow). has_one test (ends_of k xs) ≡ true) (sym (same_is f g same)) (some_one g e more xs has (was (test e) (test now) keeps at))
+      by true same false at =
+          let none = subst (λ (k : Flow). has_one test (ends_of k (replaced g now xs)) ≡ false) (sym (same_is f g same)) (none_replaced g now xs at) in
+          absurd (let no : true ≡ false = sym is ∙ none in cc)
 
-pub replaced_old : (f g : Flow) (now : ConnectionEnd) (xs : List FlowEnd) → is_new now ≡ false → has_new (ends_of f (replaced g now xs)) ≡ true
-    → has_new (ends_of f xs) ≡ true
-replaced_old f g now [] old is = absurd cc
-replaced_old f g now (x ∷ xs) old is = by (same_flow g x.flow) (replaced_old f g now xs old) is
-  where
-    by : (a : Bool) → (has_new (ends_of f (replaced g now xs)) ≡ true → has_new (ends_of f xs) ≡ true)
-        → has_new (ends_of f ((cond a (record x { end = now }) x) ∷ replaced g now xs)) ≡ true → has_new (ends_of f (x ∷ xs)) ≡ true
-    by true goes is = changed_one x.end now (ends_of f xs) (ends_of f (replaced g now xs)) goes (same_flow f x.flow) old is
-    by false goes is = same_one x.end now (ends_of f xs) (ends_of f (replaced g now xs)) goes (same_flow f x.flow) is
+  -- Nothing that an end does makes it pass.
+  pub record Stays : Type 0 where
+    pub heard : (e : ConnectionEnd) (h : Header) → test e ≡ false → test (end_after e h) ≡ false
+    pub sent : (e : ConnectionEnd) (n : ℕ) → test e ≡ false → test (with_payload_sent e n) ≡ false
+    pub paid : (e : ConnectionEnd) (what : Owed) → test e ≡ false → test (paid_of e what) ≡ false
+    pub decided : (e : ConnectionEnd) (what : Decision) → test e ≡ false → test (decided e what) ≡ false
 
--- On another flow nothing changes.
-same_ends : (e : ConnectionEnd) (before after : List ConnectionEnd) → has_new after ≡ has_new before → (b : Bool)
-    → has_new (cond b (e ∷ after) after) ≡ has_new (cond b (e ∷ before) before)
-same_ends e before after same true = ap (λ (b : Bool). is_new e || b) same
-same_ends e before after same false = same
+  -- A step names the end of its flow, and an end that it makes passes on another flow at most.
+  abbrev pub MakesOther : Flow → Step → Role → Ends → Type 0
+  MakesOther f (Opens g kind) role part = (same_flow f g && test (paid_of (asked kind BUF_ALLOC) owed.Request)) ≡ false
+  MakesOther f (Asks g kind) role part = (same_flow f g && test (asked kind BUF_ALLOC)) ≡ false
+  MakesOther f (Sends g e payload) role part = HasEnd g e part
+  MakesOther f (Pays g e what) role part = HasEnd g e part
+  MakesOther f (Decides g e what) role part = HasEnd g e part
+  MakesOther f (Takes p answer) role part = let g = flow_got role p in
+      is_request p ≡ true → (same_flow f g && test (answering (answer_kind p.header.kind) BUF_ALLOC p.header)) ≡ false
+  MakesOther f step role part = Unit {0}
 
-pub replaced_other : (f g : Flow) (now : ConnectionEnd) (xs : List FlowEnd) → same_flow f g ≡ false
-    → has_new (ends_of f (replaced g now xs)) ≡ has_new (ends_of f xs)
-replaced_other f g now [] other = refl
-replaced_other f g now (x ∷ xs) other = by (same_flow g x.flow) refl (replaced_other f g now xs other)
-  where
-    apart : same_flow g x.flow ≡ true → (b : Bool) → same_flow f x.flow ≡ b → b ≡ false
-    apart mine true theirs =
-        let same : f ≡ g = same_is f x.flow theirs ∙ sym (same_is g x.flow mine) in
-        let no : true ≡ false = sym (same_self f) ∙ ap (same_flow f) same ∙ other in absurd cc
-    apart mine false theirs = refl
+  module _ (stays : Stays) (f : Flow) where
+    -- A packet that is taken.
+    module _ (role : Role) (p : Packet) (answer : Bool) (part : Ends) (none : MakesOther f (Takes p answer) role part) where
+      abbrev g : Flow
+      g = flow_got role p
 
-    by : (a : Bool) → same_flow g x.flow ≡ a → has_new (ends_of f (replaced g now xs)) ≡ has_new (ends_of f xs)
-        → has_new (ends_of f ((cond a (record x { end = now }) x) ∷ replaced g now xs)) ≡ has_new (ends_of f (x ∷ xs))
-    by true mine rest =
-        let out : same_flow f x.flow ≡ false = apart mine (same_flow f x.flow) refl in
-        ap (λ (b : Bool). has_new (cond b (now ∷ ends_of f (replaced g now xs)) (ends_of f (replaced g now xs)))) out ∙ rest
-        ∙ sym (ap (λ (b : Bool). has_new (cond b (x.end ∷ ends_of f xs) (ends_of f xs))) out)
-    by false mine rest = same_ends x.end (ends_of f xs) (ends_of f (replaced g now xs)) rest (same_flow f x.flow)
+      unknown : (rst asks a : Bool) → is_request p ≡ asks → MakesNone f part.entries (cond rst part (answered asks a p g part)).entries
+      unknown true asks a is = λ one. one
+      unknown false true true is = comes f g (answering (answer_kind p.header.kind) BUF_ALLOC p.header) part.entries (none is)
+      unknown false true false is = λ one. one
+      unknown false false a is = λ one. one
+
+      known : (leaves_it k : Bool) (e : ConnectionEnd) (more : List ConnectionEnd) → ends_of g part.entries ≡ e ∷ more
+          → MakesNone f part.entries (cond leaves_it (with_clean k g (left g part)) (with_end g (end_after e p.header) part)).entries
+      known true true e more has = leaves f g part.entries
+      known true false e more has = leaves f g part.entries
+      known false k e more has = changes f g e (end_after e p.header) more part.entries has (stays.heard e p.header)
+
+      heard_by : (es : List ConnectionEnd) → ends_of g part.entries ≡ es → MakesNone f part.entries (after_packet role es p g answer part).entries
+      heard_by [] has = unknown (is_rst p) (is_request p) answer refl
+      heard_by (e ∷ more) has = known (is_rst p && is_of e.kind p.header) (is_kept role g e p) e more has
+
+      takes : (dropped : Bool) → MakesNone f part.entries (cond dropped part (after_packet role (ends_of g part.entries) p g answer part)).entries
+      takes true = λ one. one
+      takes false = heard_by (ends_of g part.entries) refl
+
+    -- Each step.
+    pub step_makes : (step : Step) (role : Role) (part : Ends) → MakesOther f step role part
+        → MakesNone f part.entries (part_after role step part).entries
+    step_makes (Opens g kind) role part other = comes f g (paid_of (asked kind BUF_ALLOC) owed.Request) part.entries other
+    step_makes (Asks g kind) role part other = comes f g (asked kind BUF_ALLOC) part.entries other
+    step_makes (Sends g e payload) role part has = changes f g e (with_payload_sent e (length payload)) [] part.entries has (stays.sent e (length payload))
+    step_makes (Pays g e owed.Rst) role part has = leaves f g part.entries
+    step_makes (Pays g e what) role part has = changes f g e (paid_of e what) [] part.entries has (stays.paid e what)
+    step_makes (Decides g e what) role part has = changes f g e (decided e what) [] part.entries has (stays.decided e what)
+    step_makes (Takes p answer) role part other = takes role p answer part other (is_dropped role part.cid p.header)
+    step_makes (MakesReset cid) role part other = λ one. absurd cc
+    step_makes (TakesReset cid) role part other = λ one. absurd cc
+    step_makes step role part other = λ one. one

@@ -22,7 +22,7 @@ ghost use Rattle.laws_tables.specs.Examples.{log_of_return, log_of_two, log_over
 ghost use Rattle.laws_tables.specs.{Examples.payload_after, Examples.resetting, Examples.unput, Ends.AreDistinct, Ends.Ends};
 ghost use Rattle.laws_tables.specs.Ends.{answer_kind, begun_flows, ends_of, entries_of, flows_of, is_among, is_new, new_flows, replied};
 ghost use Rattle.laws_tables.specs.{Ends.replaced, Ends.without_flow, Heard.AsksOnce, Heard.AsksOnceLog, Heard.IsAllHeard, Heard.IsInOrder};
-ghost use Rattle.laws_tables.specs.Heard.{IsOrderedLog, IsWithin, heard_of, is_awaiting, is_empty};
+ghost use Rattle.laws_tables.specs.{Heard.{IsOrderedLog, IsWithin, heard_of, is_awaiting, is_empty}, Later.{IsShut, StillShut, UsesOnce}};
 ghost use Rattle.laws_tables.specs.Steps.{HasEnd, HasNone, IsNextFlow, accepted, asking, emptied, is_message, is_overrun, left, opened};
 ghost use Rattle.laws_tables.specs.Steps.{owed_on, paid, payload_on, refused, reply_on, request_on, reset, taken, with_connection};
 ghost use Rattle.laws_tables.specs.Steps.{with_end, with_replies};
@@ -148,6 +148,15 @@ pub fn law_of_one_seat()
         → let w = after_all role steps (new_seat first port) in AsksOnceLog role w.log
         → is_among f (flows_of w.part.entries)
         ≡ (is_open role first f w.log (is_among f (replied w.part.replies)) || is_among f (new_flows w.part.entries)) }
+{}
+
+/// Shutting is for good, over any ring that tells its log. Where a connection's end decided to send no more, its flow is shut; and where no flow
+/// is used twice, so it stays over each step, and no payload is put there (Virtio 1.2, section 5.10.6.5).
+pub fn law_of_shutting()
+    ensures begins { (role : Role) (first : ℕ) (f : Flow) (w : Seat) (e : ConnectionEnd) → Matches role first w.part w.log → HasEnd f e w.part
+        → e.own.send ≡ true → IsShut role f w }
+    ensures step { (role : Role) (f : Flow) (step : Step) (w : Seat) → UsesOnce role step w → IsShut role f w
+        → StillShut role f w (after role step w) }
 {}
 
 /// What a step on a flow's connection does to the ends of that flow and of others.

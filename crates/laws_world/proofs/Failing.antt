@@ -1,29 +1,38 @@
 -- Over list rings and a host in memory each call that failed is one that was to fail: a fault counted is one fewer to come.
 use Rattle.std.proofs.Common.{◌≡◌, ℕ, ◌+◌, ◌-◌, ◌≤◌, ◌==◌, ◌||◌, min, nat_lt, Bool, true, false, cond, List, [], ◌∷◌, length, map, filter}
-use Rattle.std.proofs.Common.{Option, Some, None, refl, sym, subst, arith}
+use Rattle.std.proofs.Common.{Option, Some, None, Result, refl, sym, subst, arith}
 use Rattle.std.{proofs.lemmas.Bool.Decides.nat_tests, specs.Option.option_map_or}
-use Rattle.vs_header.specs.declared.Header.{Header}
 use Rattle.vs_outside.specs.Host.{HostContents, Stream, accept_answer, after_accept, after_dial, after_failed, after_read, after_write}
-use Rattle.vs_outside.specs.Host.{called, dial_answer, fails_now, is_listened, oldest_client, read_answer, read_of, stream_at, taken_of}
+use Rattle.vs_outside.specs.Host.{accept_failed, called, dial_failed, read_failed, write_failed}
+use Rattle.vs_outside.specs.Host.{dial_answer, fails_now, is_listened, oldest_client, read_answer, read_of, stream_at, taken_of}
 use Rattle.vs_outside.specs.{Host.{write_answer, write_of}, Faults.{counted_down, fails_next}, declared.host_net.Accepted.Accepted}
 use Rattle.vs_outside.specs.declared.host_net.{Dialed.Dialed, StreamRead.StreamRead, StreamWrite.StreamWrite}
-use Rattle.vs_ring_port.specs.declared.device_ring.{Chain.Chain, Next.Next}
+use Rattle.vs_ring_port.specs.declared.device_ring.{Next.Next}
 use Rattle.vs_flow.specs.declared.flow.Flow.{Flow}
 use Rattle.vs_wrap.specs.Wrap.{counted}
-use Rattle.vs_device_parts.specs.State.{DeviceEntry, DeviceState}
-use Rattle.vs_proxy_parts.specs.{State.Handshake, State.ProxyState, Turns.proxy_reset_of, Turns.turn_of, declared.answers.Turn.Turn}
-use Rattle.laws_device.proofs.Walk.Serving.{AfterEvent, AfterRead, AfterWrite, Closes, Fills, Writes}
-use Rattle.laws_device.proofs.Walk.Turning.{AfterAccept, AfterByte, Between, Shakes, keeps_turn}
-use Rattle.laws_device.{specs.Walk.Seen.Seen, specs.Walk.Seen.seen, proofs.Walk.Taking.AfterDial, proofs.Walk.Taking.Takes}
-use Rattle.laws_world.proofs.Resetting.{keeps_played, keeps_reset, playing}
-use Rattle.laws_world.specs.{Answers.Around, Plays.reset_line, Plays.turn_line, World.World, World.around}
+use Rattle.vs_device_parts.specs.Calls.{DeviceTree}
+use Rattle.vs_contents.specs.CallTree.{Ask, Done, played}
+use Rattle.vs_ring_port.specs.declared.failure.Failure.{Failure}
+use Rattle.vs_proxy_parts.specs.{State.ProxyState, Turns.proxy_reset_of, Turns.turn_of, declared.answers.Turn.Turn}
+use Rattle.laws_device.proofs.Walk.{Counts.{AfterTx, Calls, Counts, TxCalls, counts_turn, faulted}, Keeping.Asking, Keeping.Keeps, Single.reset_counts}
+use Rattle.laws_world.specs.{Answers.Around, Answers.answer_around, Plays.reset_line, Plays.turn_line, World.World, World.around}
 use Rattle.vs_outside.specs.declared.host_net.Accepted.TheVariants as accepted
 use Rattle.vs_outside.specs.declared.host_net.Dialed.TheVariants as dialed
 use Rattle.vs_outside.specs.declared.host_net.StreamRead.TheVariants as read
 use Rattle.vs_outside.specs.declared.host_net.StreamWrite.TheVariants as write
 use Rattle.vs_ring_port.specs.declared.device_ring.Next.TheVariants as next
-use Rattle.laws_device.proofs.Walk.Serving as serving
-use Rattle.laws_device.proofs.Walk.Taking as taking
+
+-- A conversation over list rings and a host in memory: what holds at its end.
+abbrev pub playing : Asking Around
+playing = record {
+  asks = λ call a P. let r = answer_around call a in P r.0 r.1;
+  weaker = λ call a P R then asks. let r = answer_around call a in then r.0 r.1 asks;
+}
+
+pub keeps_played : {A : Type 0} (Q : A → Around → Type 0) (tree : DeviceTree A) (a : Around) → Keeps playing Q tree a
+    → let r = played answer_around tree a in Q r.0 r.1
+keeps_played Q (Done x) a keeps = keeps
+keeps_played Q (Ask call next) a keeps = let r = answer_around call a in keeps_played Q (next r.0) r.1 keeps
 
 -- One call more leaves one fewer that is to fail, where it failed.
 shorter : (calls : List ℕ) → length (counted_down calls) + cond (fails_next calls) 1 0 ≤ length calls
@@ -46,11 +55,8 @@ module _ (m : ℕ) where
   abbrev Within : ℕ → List ℕ → Type 0
   Within faults calls = faults + length calls ≤ m
 
-  abbrev D : List Handshake → Option Chain → Seen → Around → Type 0
-  D hands page s a = Within s.faults a.host.to_fail
-
-  abbrev U : List Handshake → Chain → Header → Seen → Around → Type 0
-  U hands chain h s a = Within s.faults a.host.to_fail
+  abbrev P : Counts → Around → Type 0
+  P n a = Within n.faults a.host.to_fail
 
   went : (faults : ℕ) (h : HostContents) → Within faults h.to_fail → Within faults (called h).to_fail
   went faults h at = let less = shorter h.to_fail in by (fails_now h) less
@@ -124,91 +130,50 @@ module _ (m : ℕ) where
   abbrev on : HostContents → Around → Around
   on h a = record a { host = h }
 
-  module _ (hands : List Handshake) where
-    closes : Closes playing (D hands)
-    closes = record {
-      cuts = λ e s a is at still. at;
-      was_cut = λ e s a is at closed. at;
-      leaves = λ page e v s a is closed stream at still. at;
-      was_left = λ page e v s a is closed stream at gone. at;
-    }
+  wrote : (n : Counts) (stream : ℕ) (bytes : List ℕ) (x : StreamWrite) (a : Around) → P n a → write_answer stream (length bytes) a.host ≡ x
+      → P (faulted (write_failed x) n) (on (after_write stream bytes x a.host) a)
+  wrote n stream bytes write.Failed a at is =
+      subst (Within (counted n.faults)) (sym (after_failed_is a.host)) (fails n.faults a.host at (write_to_fail stream (length bytes) a.host is))
+  wrote n stream bytes _ a at is = went n.faults a.host at
 
-    wrote : (e : DeviceEntry) (s : DeviceState) (stream : ℕ) (bytes : List ℕ) (x : StreamWrite) (a : Around) → D hands None (seen s) a
-        → write_answer stream (length bytes) a.host ≡ x → AfterWrite playing (D hands) e s x (on (after_write stream bytes x a.host) a)
-    wrote e s stream bytes write.Failed a at is =
-        subst (Within (counted s.faults)) (sym (after_failed_is a.host))
-        (fails s.faults a.host at (write_to_fail stream (length bytes) a.host is))
-    wrote e s stream bytes _ a at is = went s.faults a.host at
+  have_read : (n : Counts) (stream room : ℕ) (x : StreamRead) (a : Around) → P n a → read_answer stream room a.host ≡ x
+      → P (faulted (read_failed x) n) (on (after_read stream x a.host) a)
+  have_read n stream room read.Failed a at is = fails n.faults a.host at (read_to_fail stream room a.host is)
+  have_read n stream room _ a at is = went n.faults a.host at
 
-    writings : Writes playing (D hands)
-    writings = record { writes = λ e s a is still at. wrote e s _ _ _ a at refl; shuts = λ e s a is out at. at }
+  dials : (n : Counts) (path : List ℕ) (flow : Flow) (x : Dialed) (a : Around) → P n a → dial_answer path a.host ≡ x
+      → P (faulted (dial_failed x) n) (on (after_dial flow x a.host) a)
+  dials n path flow dialed.Failed a at is =
+      subst (Within (counted n.faults)) (sym (after_failed_is a.host)) (fails n.faults a.host at (dial_to_fail path a.host is))
+  dials n path flow _ a at is = went n.faults a.host at
 
-    have_read : (e : DeviceEntry) (chain : Chain) (s : DeviceState) (stream room : ℕ) (x : StreamRead) (payload : List ℕ) (a : Around)
-        → D hands None (seen s) a → read_answer stream room a.host ≡ x
-        → AfterRead playing (D hands) e chain s x payload (on (after_read stream x a.host) a)
-    have_read e chain s stream room (read.Got n) [] a at is = went s.faults a.host at
-    have_read e chain s stream room (read.Got n) (x ∷ payload) a at is = went s.faults a.host at
-    have_read e chain s stream room read.Failed payload a at is = fails s.faults a.host at (read_to_fail stream room a.host is)
-    have_read e chain s stream room _ payload a at is = went s.faults a.host at
+  accepts : (n : Counts) (x : Accepted) (a : Around) → P n a → accept_answer a.host ≡ x → P (faulted (accept_failed x) n) (on (after_accept x a.host) a)
+  accepts n accepted.Failed a at is = fails n.faults a.host at (accept_to_fail a.host is)
+  accepts n _ a at is = went n.faults a.host at
 
-    held : (s : DeviceState) (n : Next) (a : Around) → D hands None (seen s) a → serving.AfterTake playing (D hands) s n a
-    held s (next.Chain chain) a at = at
-    held s _ a at = at
-
-    paid : (s : DeviceState) (n : Next) (a : Around) → D hands None (seen s) a → AfterEvent playing (D hands) s n a
-    paid s (next.Chain chain) a at = at
-    paid s _ a at = at
-
-    fills : Fills playing (D hands)
-    fills = record {
-      event = λ s a at owed. paid s _ _ at;
-      holds = λ s a at none. held s _ _ at;
-      puts = λ h chain s a at is. at;
-      reads = λ e chain s a is at held may. have_read e chain s _ _ _ _ a at refl;
-      wants = λ e s a is at. at;
-      pays = λ e what asked s a is owes at. at;
-    }
-
-    taken : (s : DeviceState) (n : Next) (a : Around) → D hands None (seen s) a → taking.AfterTake playing (D hands) (U hands) s n a
-    taken s (next.Chain chain) a at = record { short = λ is. at; drops = λ whole is. at; comes = λ whole is. at }
-    taken s _ a at = at
-
-    dials : (chain : Chain) (h : Header) (s : DeviceState) (path : List ℕ) (flow : Flow) (x : Dialed) (a : Around) → D hands None (seen s) a
-        → dial_answer path a.host ≡ x → AfterDial playing (D hands) (U hands) chain h s x (on (after_dial flow x a.host) a)
-    dials chain h s path flow dialed.Failed a at is =
-        subst (Within (counted s.faults)) (sym (after_failed_is a.host)) (fails s.faults a.host at (dial_to_fail path a.host is))
-    dials chain h s path flow _ a at is = went s.faults a.host at
-
-    takings : Takes playing (D hands) (U hands)
-    takings = record {
-      takes = λ s a at. taken s _ _ at;
-      returns = λ chain s a at. at;
-      ignores = λ chain h s a at. at;
-      dials = λ chain h s a none place at. dials chain h s _ _ _ a at refl;
-      accepts = λ chain h e s a found is at. at;
-      delivers = λ chain h e s a found is at. at;
-      hears = λ chain h e s a v found is other at. at;
-    }
-
-  accepts : (hands : List Handshake) (port : ℕ) (s : DeviceState) (x : Accepted) (a : Around) → D hands None (seen s) a → accept_answer a.host ≡ x
-      → AfterAccept playing (Between D) hands port s x (on (after_accept x a.host) a)
-  accepts hands port s accepted.Failed a at is = fails s.faults a.host at (accept_to_fail a.host is)
-  accepts hands port s _ a at is = went s.faults a.host at
-
-  bytes_read : (h : Handshake) (hands : List Handshake) (port : ℕ) (s : DeviceState) (x : StreamRead) (bytes : List ℕ) (a : Around)
-      → D hands None (seen s) a → read_answer h.stream 1 a.host ≡ x
-      → AfterByte playing (Between D) h hands port s x bytes (on (after_read h.stream x a.host) a)
-  bytes_read h hands port s (read.Got n) bytes a at is =
-      let now = went s.faults a.host at in record { more = λ is. now; ends = now; refused = λ guest fault may is. now; opens = λ guest is may none. now }
-  bytes_read h hands port s read.Failed bytes a at is = fails s.faults a.host at (read_to_fail h.stream 1 a.host is)
-  bytes_read h hands port s _ bytes a at is = went s.faults a.host at
-
-  shakes : Shakes playing (Between D)
-  shakes = record {
-    drops = λ h hands port s a on at. at;
-    accepts = λ hands port s a at. accepts hands port s _ a at refl;
-    reads = λ h hands port s a on at. bytes_read h hands port s _ _ a at refl;
+  calls : Calls playing P
+  calls = record {
+    closes = λ stream n a at. at;
+    shuts = λ stream n a at. at;
+    labels = λ stream flow n a at. at;
+    accepts = λ n a at. accepts n _ a at refl;
+    dials = λ path flow n a at. dials n path flow _ a at refl;
+    reads = λ stream room n a at. have_read n stream room _ a at refl;
+    writes = λ stream bytes n a at. wrote n stream bytes _ a at refl;
+    takes_rx = λ n a at. at;
+    takes_event = λ n a at. at;
+    puts = λ chain place bytes n a at. at;
+    returns = λ chain len n a at. at;
+    publishes = λ cid n a at. at;
   }
+
+  taken : (n : Counts) (x : Next) (a : Around) → P n a → AfterTx playing P x n a
+  taken n (next.Chain chain) a at = record { short = λ is. at; drops = λ whole is. at; comes = λ whole is. at }
+  taken n next.None a at = at
+  taken n (next.Failed f) a at = at
+
+  tx_calls : TxCalls playing P
+  tx_calls = record { takes = λ n a at. taken n _ _ at; reads = λ chain len n a at. at }
 
   -- A turn and a transport reset.
   abbrev pub FailsWithin : World → Type 0
@@ -217,11 +182,9 @@ module _ (m : ℕ) where
   pub turn_fails : (now : ℕ) (w : World) → FailsWithin w → FailsWithin (turn_line now w).0
   turn_fails now w at =
       keeps_played (λ (x : ProxyState × Turn) b. Within x.0.device.faults b.host.to_fail)
-      (turn_of w.rings.lists.size now w.proxy) (around w)
-      (keeps_turn playing D shakes closes U takings writings fills w.rings.lists.size now w.proxy (around w) at)
+      (turn_of w.rings.lists.size now w.proxy) (around w) (counts_turn playing P calls tx_calls w.rings.lists.size now w.proxy (around w) at)
 
   pub reset_fails : (cid : ℕ) (w : World) → FailsWithin w → FailsWithin (reset_line cid w).0
   reset_fails cid w at =
-      keeps_played _ (proxy_reset_of cid w.proxy) (around w)
-      (keeps_reset cid (λ s a. Within s.faults a.host.to_fail) (λ e s a at. at) (λ e s a at. at) (λ s a at. at) (λ stream s a at. at)
-      w.proxy (around w) at)
+      keeps_played (λ (x : ProxyState × Result (Unit {0}) Failure) b. Within x.0.device.faults b.host.to_fail)
+      (proxy_reset_of cid w.proxy) (around w) (reset_counts playing P calls cid w.proxy (around w) at)

@@ -10,8 +10,6 @@ pub mod DeviceGoes
 pub mod Rings
 pub mod Sound
 pub mod Opening
-pub mod Resetting
-pub mod Counting
 pub mod Failing
 pub mod Carried
 pub mod GuestLines

@@ -1,19 +1,19 @@
 -- No flow is used twice: its asker puts one REQUEST at most.
-use Rattle.std.proofs.Common.{◌≡◌, ℕ, ◌+◌, List, [], ◌∷◌, true, refl, ap, subst, ◌∙◌, arith}
-use Rattle.vs_flow.specs.Flow.{is_assigned}
+use Rattle.std.proofs.Common.{◌≡◌, ℕ, ◌+◌, ◌≤◌, List, [], ◌∷◌, true, refl, ap, subst, ◌∙◌, arith}
+use Rattle.vs_flow.specs.{Flow.is_assigned, declared.flow.Flow.Flow}
 use Rattle.laws_history.specs.{Again.count, Packets.is_request, declared.packet.Packet.Packet, History.Answerer}
 use Rattle.laws_history.specs.History.{Asker, History, Side, gots, peer, puts}
 use Rattle.laws_history.proofs.Lists.{count_append}
 use Rattle.vs_page.specs.{Fair.asked_by, Log.{Device, Driver, IsNextPacket, Role, flow_got, other_role, side_of, whole_of}}
 use Rattle.vs_page.specs.declared.log.LogEntry.TheVariants.{GotPacket}
 use Rattle.vs_page.proofs.{Entries.got_on, Entries.on_flow, Flows.opposite_by, Flows.same_self}
-use Rattle.laws_tables.specs.Both.{Asks, Both, Decides, Happening, IsSound, MayHappen, MayRun, Opens, Pays, Sends, Step, at, happens, run, start}
+use Rattle.laws_tables.specs.Both.{Asks, Both, Decides, Happening, IsSound, MayHappen, MayRun, Opens, Pays, Sends, Step, Takes, at, happens, run}
 use Rattle.laws_tables.proofs.{Both.next_is_fair, Fair.own_got_fair}
 use Rattle.laws_rest.specs.Bytes.{BothEnds}
-use Rattle.laws_tables.specs.Asked.{AskOnce, Does}
+use Rattle.laws_tables.specs.{Asked.AskOnce, Asked.Does, Both.start, Heard.own_port, Later.UsesOnce, Steps.IsNextFlow}
 use Rattle.laws_tables.proofs.Asking.{begins_once, step_once}
 use Rattle.laws_world.specs.Sides.{AsksAnew, Runs, RunsAnew}
-use Rattle.laws_tables.proofs.Firsts.{asker_asks, none_begun}
+use Rattle.laws_tables.proofs.Firsts.{asker_asks, none_begun, silent_whole}
 
 abbrev pub AreOnce : Both → Type 0
 AreOnce b = (role : Role) → AskOnce role (at role b)
@@ -64,6 +64,22 @@ asked_once role first b s once p next asks =
     answerer : (side : Side) (w : History) → peer side ≡ Asker → count is_request (gots w) ≡ 0 → asked_by side (puts w) (gots w) ≡ 0
     answerer Answerer w is none = none
     answerer Asker w is none = absurd cc
+
+-- So no step uses a flow twice. Nothing passed on one whose port is still to be given.
+silent : (role : Role) (first : ℕ) (f : Flow) (b : Both) → IsSound first b → IsNextFlow role f (at role b).part
+    → (at role b).part.next_port ≤ own_port role f → whole_of role f (at role b).log ≡ []
+silent role first f b s next anew =
+    silent_whole role first f (at role b).log (s.fair role f) next.asker ((s.matches role).flows.unused f next.asker anew).silent
+
+pub uses_once : (role : Role) (first : ℕ) (step : Step) (b : Both) → IsSound first b → AreOnce b → MayHappen role step b → AsksAnew role step b
+    → UsesOnce role step (at role b)
+uses_once role first (Opens f kind) b s once may anew = silent role first f b s may anew
+uses_once role first (Asks f kind) b s once may anew = silent role first f b s may.1 anew
+uses_once role first (Sends f e payload) b s once may anew = (may.0, may.1)
+uses_once role first (Pays f e what) b s once may anew = may.0
+uses_once role first (Decides f e what) b s once may anew = may.0
+uses_once role first (Takes p answer) b s once may anew = asked_once role first b s once p may
+uses_once role first step b s once may anew = tt
 
 -- So they are two ends, as the law of both ends has them.
 pub both_ends : (first : ℕ) (b : Both) → IsSound first b → AreOnce b → BothEnds b

@@ -159,6 +159,7 @@ module _ (n : ℕ) (host : HostContents) where
     broken = ap (λ (s : DriverState). s.broken) new.state;
     marks = subst MarksResets (sym log_empty) tt;
     overrun = refl;
+    counted = record { cid_is = refl; dropped_is = refl; unfailed = refl };
     cids = subst (AreVoiced first_cid) opening_is (voices_start first_cid FIRST_PORT ASSIGNED_FIRST);
     once = subst AreOnce opening_is (start_once first_cid FIRST_PORT ASSIGNED_FIRST);
     streams = λ fresh. no_streams host (opening n host).proxy.next_port (opening n host).proxy.device.table refl fresh.streams fresh.labelled;

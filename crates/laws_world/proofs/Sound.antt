@@ -41,11 +41,15 @@ use Rattle.laws_driver.specs.{Honest.IsFitState, Honest.ends_of_state, Honest.sl
 use Rattle.vs_ring_list.proofs.{Held.same_queue_is, Ties.{device_got, driver_got, tied-publish}}
 use Rattle.laws_device.proofs.Carrying.{IsToldBy, StreamedOver, With}
 use Rattle.laws_device.proofs.{Chains.Among, Seats.Carried, Seats.PutsFit, Keeping.keeps_then, Turning.tick_slot_keeps}
-use Rattle.laws_proxy.proofs.{Growing.flow_grow_proxied, Shaking.{Goes-on, Turns, accepts, reads_byte, ticks}, Turning.{Proxied, proxy_reset_keeps}}
+use Rattle.laws_proxy.proofs.{Growing.flow_grow_proxied, Growing.flow_grow_stays, Shaking.{Goes-on, Turns, accepts, reads_byte, ticks}, Turning.{Proxied, proxy_reset_keeps}}
 use Rattle.vs_ring_list.specs.{Ends.device_contents, Sound.IsTied}
 use Rattle.laws_device.specs.Honest.{is_held, IsFitState as IsFitDevice}
 use Rattle.laws_device.proofs.Keeping.{Keeps as DeviceKeeps, keeps_weaker as device_weaker}
 use Rattle.laws_world.proofs.DeviceWalks.{walk as device_walk}
+use Rattle.laws_device.specs.Dropped.{IsCounted}
+use Rattle.laws_device.proofs.{Dropping.{P, calls, keeps_both, looks, moving, tx_calls}, Walk.Counts.counts}
+use Rattle.laws_device.proofs.Walk.Keeping as moved
+use Rattle.laws_device.proofs.Walk.Single as one
 use Rattle.laws_driver.proofs.Staging.{Ties as DriverTies}
 use Rattle.laws_driver.proofs.Going.{stays as seat_stays}
 use Rattle.laws_device.proofs.Stepping as device_steps
@@ -89,6 +93,7 @@ pub record IsWell (fresh : Type 0) (w : World) : Type 0 where
   -- Each id waits on one port.
   pub waiting : Sees WaitsApart w.driver
   pub overrun : w.proxy.device.overrun ≡ 0
+  pub counted : IsCounted first_cid w.proxy.device.cid w.proxy.device.dropped w.proxy.device.failed w.rings.device.entries
   pub cids : AreVoiced first_cid (both_of w)
   -- No flow is used twice.
   pub once : AreOnce (both_of w)
@@ -182,6 +187,7 @@ module _ (fresh : Type 0) (w : World) (well : IsWell fresh w) where
           agrees = after.agrees;
           waiting = after.waiting;
           overrun = well.overrun;
+          counted = well.counted;
           cids = cids_kept first_cid _ _ runs well.sound well.cids;
           once = keeps_once first_cid _ _ runs well.sound well.once;
           streams = well.streams;
@@ -298,17 +304,25 @@ module _ (fresh : Type 0) (w : World) (well : IsWell fresh w) where
     ),
   )
 
+  -- What it counted so far.
+  pub counted_now : (n : ℕ) → P first_cid (counts w.proxy.device) (around_it n)
+  counted_now n = λ l is on. subst (λ (k : EndLog). IsCounted first_cid w.proxy.device.cid w.proxy.device.dropped w.proxy.device.failed k.entries)
+      (one_told is) well.counted
+
   device_goes : {A : Type 0} (tree : DeviceTree A) (state_of : A → ProxyState) → DeviceKeeps (λ x d. Proxied carry first_cid (state_of x) d) tree (around_it 0)
+      → moved.Keeps moving (λ x d. P first_cid (counts (state_of x).device) d) tree (around_it 0)
       → Goes fresh w (record (device_plays tree w).1 { proxy = state_of (device_plays tree w).0 })
-  device_goes tree state_of keeps =
+  device_goes {A} tree state_of keeps counting =
       let r = played answer_around tree (around w) in
-      let ends = device_walk w.rings driver_fit (λ x d. Proxied carry first_cid (state_of x) d) tree (around w) 0 (record {
+      let Both_kept : A → Situation → Type 0 = λ x d. Proxied carry first_cid (state_of x) d × P first_cid (counts (state_of x).device) d in
+      let ends = device_walk w.rings driver_fit Both_kept tree (around w) 0 (record {
         tied = well.tied;
         cid = well.known;
         given = (well.pages.0, well.pages.2);
         heads = well.heads;
-      }) keeps in
-      let told = ends.1.1.1 r.1.log refl in
+      }) (keeps_both (λ x d. P first_cid (counts (state_of x).device) d) (λ x d. Proxied carry first_cid (state_of x) d) tree (around_it 0) keeps counting) in
+      let kept_so = ends.1.0 in
+      let told = kept_so.1.1 r.1.log refl in
       let now = told.1 refl in
       let got = device_got _ _ _
       (tied-publish q.Tx w.rings.driver.staged.tx r.1.lists w.rings.driver.entries r.1.log.entries ends.2.tied (well.sound.fair Driver)) in
@@ -318,11 +332,11 @@ module _ (fresh : Type 0) (w : World) (well : IsWell fresh w) where
           tied = ends.2.tied;
           sound = keeps_sound first_cid _ _ runs well.sound;
           driver = well.driver;
-          device = record { fits = now.0.fits; port = ends.1.0 };
+          device = record { fits = now.0.fits; port = kept_so.0 };
           driver_puts = well.driver_puts;
           device_puts = now.0.seated.0;
           pages = (ends.2.given.0, well.pages.1, ends.2.given.1);
-          chain = (ends.1.1.0, told.0);
+          chain = (kept_so.1.0, told.0);
           heads = ends.2.heads;
           known = ends.2.cid;
           broken = well.broken;
@@ -332,6 +346,7 @@ module _ (fresh : Type 0) (w : World) (well : IsWell fresh w) where
           agrees = well.agrees;
           waiting = well.waiting;
           overrun = now.0.none_overrun;
+          counted = ends.1.1 r.1.log refl refl;
           cids = cids_kept first_cid _ _ runs well.sound well.cids;
           once = keeps_once first_cid _ _ runs well.sound well.once;
           streams = λ ok. now.1 ok got r.1.host refl;
@@ -346,12 +361,15 @@ module _ (fresh : Type 0) (w : World) (well : IsWell fresh w) where
   abbrev pub device_with : DeviceState → Situation → Type 0
   device_with = With carry w.proxy.handshakes first_cid w.proxy.next_port
 
-  device_step_goes : (step : DeviceState → DeviceTree DeviceState) → DeviceKeeps device_with (step w.proxy.device) (around_it 0) → Goes fresh w (device_step step w)
-  device_step_goes step keeps = device_goes (step w.proxy.device) (λ s. with_device s w.proxy)
+  device_step_goes : (step : DeviceState → DeviceTree DeviceState) → one.Counting moving (P first_cid) (calls first_cid) step
+      → DeviceKeeps device_with (step w.proxy.device) (around_it 0) → Goes fresh w (device_step step w)
+  device_step_goes step counting keeps = device_goes (step w.proxy.device) (λ s. with_device s w.proxy)
       (device_weaker device_with (λ x d. Proxied carry first_cid (with_device x w.proxy) d) (λ x d kept. (well.device.port, kept)) (step w.proxy.device) (around_it 0) keeps)
+      (counting w.proxy.device (around_it 0) (counted_now 0))
 
-  proxy_step_goes : (step : Turning → DeviceTree Turning) → DeviceKeeps (Turns carry first_cid) (step (start w.proxy)) (around_it 0) → Goes fresh w (proxy_step step w)
-  proxy_step_goes step keeps = device_goes (step (start w.proxy)) (λ t. t.state) keeps
+  proxy_step_goes : (step : Turning → DeviceTree Turning) → one.Turns moving (P first_cid) (calls first_cid) step
+      → DeviceKeeps (Turns carry first_cid) (step (start w.proxy)) (around_it 0) → Goes fresh w (proxy_step step w)
+  proxy_step_goes step counting keeps = device_goes (step (start w.proxy)) (λ t. t.state) keeps (counting (start w.proxy) (around_it 0) (counted_now 0))
 
 possible : (fresh : Type 0) (b : Bool) (step : World → World) (w : World) → IsWell fresh w → (b ≡ true → Goes fresh w (step w)) → Goes fresh w (where_possible b step w)
 possible fresh true step w well goes = goes refl
@@ -379,12 +397,14 @@ module _ (fresh : Type 0) (w : World) (well : IsWell fresh w) where
   held_now : device_with fresh w well w.proxy.device here
   held_now = (proxied fresh w well 0).1
 
-  device_goes_on : (step : DeviceState → DeviceTree DeviceState) → (w.proxy.device.failed ≡ None → DeviceKeeps (device_with fresh w well) (step w.proxy.device) here)
+  device_goes_on : (step : DeviceState → DeviceTree DeviceState) → one.Counting moving (P first_cid) (calls first_cid) step
+      → (w.proxy.device.failed ≡ None → DeviceKeeps (device_with fresh w well) (step w.proxy.device) here)
       → Goes fresh w (unless_failed (device_step step) w)
-  device_goes_on step keeps = unfailed fresh (device_step step) w well (λ going. device_step_goes fresh w well step (keeps going))
+  device_goes_on step counting keeps = unfailed fresh (device_step step) w well (λ going. device_step_goes fresh w well step counting (keeps going))
 
-  proxy_goes_on : (step : Turning → DeviceTree Turning) → DeviceKeeps (Turns kept first_cid) (step (start w.proxy)) here → Goes fresh w (unless_failed (proxy_step step) w)
-  proxy_goes_on step keeps = unfailed fresh (proxy_step step) w well (λ going. proxy_step_goes fresh w well step keeps)
+  proxy_goes_on : (step : Turning → DeviceTree Turning) → one.Turns moving (P first_cid) (calls first_cid) step
+      → DeviceKeeps (Turns kept first_cid) (step (start w.proxy)) here → Goes fresh w (unless_failed (proxy_step step) w)
+  proxy_goes_on step counting keeps = unfailed fresh (proxy_step step) w well (λ going. proxy_step_goes fresh w well step counting keeps)
 
   pub held_there : (chain : Chain) → is_held chain w.rings.device.held ≡ true → ForSome (Some w.rings.device) (λ l. is_held chain l.held ≡ true)
   held_there chain is l there = subst (λ (k : EndLog). is_held chain k.held ≡ true) (one_told fresh w well there) is
@@ -412,6 +432,7 @@ module _ (fresh : Type 0) (w : World) (well : IsWell fresh w) where
       agrees = well.agrees;
       waiting = well.waiting;
       overrun = well.overrun;
+      counted = well.counted;
       cids = well.cids;
       once = well.once;
       streams = streams;
@@ -440,31 +461,38 @@ module _ (fresh : Type 0) (w : World) (well : IsWell fresh w) where
       possible fresh (works_on q.Tx w.rings.driver.staged) (driver_step (stages_owed slot)) w well (λ may. pays_goes fresh w well slot)
   happens_goes (GuestPublishes queue) =
       possible fresh (works_on queue w.rings.driver.staged) (driver_step (publish_of queue)) w well (publishes_goes fresh w well queue)
-  happens_goes (DeviceTakes queue) = device_goes_on (takes_chain queue) (λ going.
+  happens_goes (DeviceTakes queue) = device_goes_on (takes_chain queue)
+      (one.takes_counts moving (P first_cid) (calls first_cid) (tx_calls first_cid) (looks first_cid) queue) (λ going.
       device_steps.takes_keeps kept (all fresh w well) w.proxy.handshakes first_cid w.proxy.next_port w.proxy.device here going held_now queue)
   happens_goes (DeviceReturns chain) = possible fresh (holds q.Tx chain w) (device_step (returns chain)) w well (λ may.
       let parts = and_parts _ _ may in
-      device_step_goes fresh w well (returns chain) (device_steps.returns_keeps kept (all fresh w well) w.proxy.handshakes first_cid w.proxy.next_port w.proxy.device here held_now
+      device_step_goes fresh w well (returns chain) (one.returns_counts moving (P first_cid) (calls first_cid) chain)
+      (device_steps.returns_keeps kept (all fresh w well) w.proxy.handshakes first_cid w.proxy.next_port w.proxy.device here held_now
       chain (sym (same_queue_is q.Tx chain.queue parts.0)) (held_there chain parts.1)))
   happens_goes (DevicePutsEvent chain) = possible fresh (holds_event chain w) (device_step (puts_event chain)) w well (λ may.
       let room = and_parts (holds q.Event chain w) (nat_le 4 chain.writable) may in
       let parts = and_parts _ _ room.0 in
-      device_step_goes fresh w well (puts_event chain) (device_steps.puts_event_keeps kept (all fresh w well) w.proxy.handshakes first_cid w.proxy.next_port w.proxy.device here held_now
+      device_step_goes fresh w well (puts_event chain) (one.puts_event_counts moving (P first_cid) (calls first_cid) chain)
+      (device_steps.puts_event_keeps kept (all fresh w well) w.proxy.handshakes first_cid w.proxy.next_port w.proxy.device here held_now
       chain (sym (same_queue_is q.Event chain.queue parts.0)) (grind (arith, nat_tests, room.1)) (held_there chain parts.1)))
-  happens_goes DeviceReplies = device_goes_on puts_reply (λ going.
+  happens_goes DeviceReplies = device_goes_on puts_reply (one.puts_reply_counts moving (P first_cid) (calls first_cid)) (λ going.
       device_steps.puts_reply_keeps kept (all fresh w well) w.proxy.handshakes first_cid w.proxy.next_port w.proxy.device here going held_now)
-  happens_goes (DeviceReads slot) = device_goes_on (puts_payload slot) (λ going.
+  happens_goes (DeviceReads slot) = device_goes_on (puts_payload slot) (one.puts_payload_counts moving (P first_cid) (calls first_cid) slot) (λ going.
       device_steps.puts_payload_keeps kept (all fresh w well) w.proxy.handshakes first_cid w.proxy.next_port w.proxy.device here going held_now slot)
-  happens_goes (DevicePays slot) = device_goes_on (puts_owed slot) (λ going.
+  happens_goes (DevicePays slot) = device_goes_on (puts_owed slot) (one.puts_owed_counts moving (P first_cid) (calls first_cid) slot) (λ going.
       device_steps.puts_owed_keeps kept (all fresh w well) w.proxy.handshakes first_cid w.proxy.next_port w.proxy.device here going held_now slot)
-  happens_goes (DeviceWrites slot) = device_goes_on (writes slot) (λ going.
+  happens_goes (DeviceWrites slot) = device_goes_on (writes slot) (one.writes_counts moving (P first_cid) (calls first_cid) slot) (λ going.
       device_steps.writes_keeps kept (all fresh w well) w.proxy.handshakes first_cid w.proxy.next_port w.proxy.device here held_now slot)
-  happens_goes (DeviceShutsWrite slot) = device_goes_on (shuts_write slot) (λ going.
+  happens_goes (DeviceShutsWrite slot) = device_goes_on (shuts_write slot) (one.shuts_counts moving (P first_cid) (calls first_cid) slot) (λ going.
       device_steps.shuts_keeps kept (all fresh w well) w.proxy.handshakes first_cid w.proxy.next_port w.proxy.device here held_now slot)
   happens_goes (DeviceGrows flow alloc) =
       device_goes fresh w well (Done (after_flow_grow flow alloc w.proxy)) (λ s. s) (flow_grow_proxied flow alloc w.proxy kept first_cid here (proxied fresh w well 0))
-  happens_goes ProxyAccepts = proxy_goes_on accept_one (accepts kept first_cid (start w.proxy) here (proxied fresh w well 0))
+      (flow_grow_stays flow alloc w.proxy (λ d. P first_cid (counts d) here) (counted_now fresh w well 0) (λ e. counted_now fresh w well 0))
+  happens_goes ProxyAccepts = proxy_goes_on accept_one (one.accepts_counts moving (P first_cid) (calls first_cid))
+      (accepts kept first_cid (start w.proxy) here (proxied fresh w well 0))
   happens_goes (ProxyReads stream) = proxy_goes_on (line_read stream)
+      (λ t c at. moved.keeps_then moving (λ u d. P first_cid (counts u.state.device) d) (λ r d. P first_cid (counts r.0.state.device) d) (read_byte stream t) (λ r. Done r.0) c
+      (one.line_counts moving (P first_cid) (calls first_cid) stream t c at) (λ r d now. now))
       (keeps_then (Goes-on kept first_cid) (Turns kept first_cid) (read_byte stream (start w.proxy)) (λ r. Done r.0) here
       (reads_byte kept first_cid stream (start w.proxy) here (proxied fresh w well 0)) line_kept)
     where
@@ -472,11 +500,13 @@ module _ (fresh : Type 0) (w : World) (well : IsWell fresh w) where
       line_kept (t, true) d turns = turns
       line_kept (t, false) d turns = turns
   happens_goes (Moment now) = outside_goes now w.host well.streams
-  happens_goes (TimesOut slot) = device_goes_on (tick_slot slot) (λ going.
+  happens_goes (TimesOut slot) = device_goes_on (tick_slot slot) (one.ticks_counts moving (P first_cid) (calls first_cid) slot) (λ going.
       tick_slot_keeps kept w.proxy.handshakes first_cid w.proxy.next_port slot w.proxy.device here held_now)
-  happens_goes (HandshakeTimesOut stream) = proxy_goes_on (tick_handshake stream) (ticks kept first_cid stream (start w.proxy) here (proxied fresh w well 0))
+  happens_goes (HandshakeTimesOut stream) = proxy_goes_on (tick_handshake stream) (one.hand_ticks_counts moving (P first_cid) (calls first_cid) stream)
+      (ticks kept first_cid stream (start w.proxy) here (proxied fresh w well 0))
   happens_goes (Reset cid) = possible fresh (is_guest_cid cid) (reset_made cid) w well (λ may.
-      device_goes fresh w well (proxy_reset_of cid w.proxy) (λ r. r.0) (proxy_reset_keeps kept first_cid cid w.proxy here (guest_cid_fits cid may) (proxied fresh w well 0)))
+      device_goes fresh w well (proxy_reset_of cid w.proxy) (λ r. r.0) (proxy_reset_keeps kept first_cid cid w.proxy here (guest_cid_fits cid may) (proxied fresh w well 0))
+      (one.reset_counts moving (P first_cid) (calls first_cid) cid w.proxy here (counted_now fresh w well 0)))
   happens_goes (HostListens port) = host_goes _ (λ ok. same_host w.host (after_listen port kind.Stream w.host) _ _ _ _ (λ j. refl) refl (λ f. refl) (well.streams ok))
   happens_goes (HostUnlistens port) = host_goes _ (λ ok. same_host w.host (after_unlisten port kind.Stream w.host) _ _ _ _ (λ j. refl) refl (λ f. refl) (well.streams ok))
   happens_goes ClientConnects = host_goes _ (λ ok. client_host w.host _ _ _ _ (well.streams ok))

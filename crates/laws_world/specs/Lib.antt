@@ -2,7 +2,6 @@ pub mod Answers
 pub mod World
 pub mod Events
 pub mod Plays
-pub mod Counts
 pub mod Sides
 pub mod Pages
 pub mod Pipes

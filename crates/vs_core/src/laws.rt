@@ -12,9 +12,9 @@ ghost use Rattle.vs_page.specs.{Fair.IsFairLog, Fair.IsPrefixOf, Fair.payload_go
 ghost use Rattle.vs_page.specs.{Log.IsNextPacket, Log.Log, Log.flow_got, Open.is_dropped, Open.is_open};
 ghost use Rattle.vs_page.specs.declared.log.LogEntry.TheVariants.{Mark};
 ghost use Rattle.vs_ring_list.specs.Sound.{IsTied};
-ghost use Rattle.laws_world.specs.{Counts.dropped_in, Events.Event, Events.happens, Events.is_at_rest};
+ghost use Rattle.laws_world.specs.{Events.Event, Events.happens, Events.is_at_rest};
 ghost use Rattle.laws_driver.specs.Carried.Calls.{GuestCall, is_right, sent_on};
-ghost use Rattle.laws_device.specs.Streams.{is_waiting_for_request};
+ghost use Rattle.laws_device.specs.{Dropped.dropped_in, Streams.is_waiting_for_request};
 ghost use Rattle.laws_world.specs.{Events.is_guest_cid, Events.run, Pipes.IsFresh, Plays.guest_line, Plays.poll_line, Plays.reset_line};
 ghost use Rattle.laws_world.specs.{Steps.Leads, Sides.Runs, Sides.both_of, World.World, World.first_cid, World.opening};
 

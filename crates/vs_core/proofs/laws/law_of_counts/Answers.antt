@@ -1,8 +1,8 @@
-use Rattle.laws_world.proofs.Counting.{reached_counted}
+use Rattle.laws_world.{specs.Events.run, specs.World.opening, proofs.Opening.run_well}
 use Rattle.vs_core.proofs.laws.law_of_counts.Goals as goal
 
 pub returns-clause-dropped : goal.returns-clause-dropped
-returns-clause-dropped c = λ n host es. (reached_counted n host es).dropped
+returns-clause-dropped c = λ n host es. (run_well n host es).counted.dropped_is
 
 pub returns-clause-unfailed : goal.returns-clause-unfailed
-returns-clause-unfailed c = λ n host es. (reached_counted n host es).unfailed
+returns-clause-unfailed c = λ n host es. (run_well n host es).counted.unfailed

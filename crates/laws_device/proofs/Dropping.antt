@@ -1,0 +1,261 @@
+-- Over an honest ring that tells its log the device counts just the packets of the log that it drops, and its ring doesn't fail.
+use Rattle.std.proofs.Common.{◌≡◌, ℕ, ◌+◌, ◌-◌, ◌^◌, min, nat_lt, Bool, true, false, cond, List, [], ◌∷◌, length, take, drop, Option, Some, None}
+use Rattle.std.proofs.{Common.{refl, sym, ap, subst, ◌∙◌, arith}, lemmas.Bool.{Decides.nat_tests, false≢true}}
+use Rattle.std.specs.{Option.ForSome, Prelude.IsSomeAnd}
+use Rattle.vs_contents.specs.CallTree.{Done, Ask}
+use Rattle.vs_header.specs.{Packet.header_of, declared.Header.Header, declared.TheConstants.HEADER_LEN}
+use Rattle.laws_history.specs.{Packets.packet_bytes, Packets.size, declared.packet.Packet.Packet}
+use Rattle.vs_page.specs.declared.log.LogEntry.TheVariants.{GotPacket, PutEvent, PutPacket}
+use Rattle.vs_page.specs.{Fair.IsFairLog, Held.event_held, Held.packet_held, Log.Device, Log.Log, Log.flow_got}
+use Rattle.vs_page.specs.{Open.cid_of, Open.is_dropped}
+use Rattle.vs_page.proofs.Holding.{packet_whole}
+use Rattle.vs_ring_port.specs.{Chains.Held, Chains.bytes_in, Contents.{DeviceAnswer, DeviceCall, Read, RingContents, Take}, DeviceCalls.DeviceAllows}
+use Rattle.vs_ring_port.specs.{DeviceCalls.{DeviceMoves, IsTakenAs, IsTakenWhole}, DriverCalls.HoldsPacket, EndLog.EndLog, EndLog.entries_returned}
+use Rattle.vs_ring_port.specs.{EndLog.{log_reset, log_returned, log_taken, log_written, with_event, with_packet}, Lists.Rings}
+use Rattle.vs_ring_port.specs.declared.{device_ring.Chain.Chain, device_ring.Next.Next, failure.Failure.Failure, queue.Queue.Queue}
+use Rattle.vs_ring_port.specs.declared.queue.Queue.TheVariants.{Event, Rx, Tx}
+use Rattle.vs_wrap.specs.Wrap.{counted}
+use Rattle.laws_tables.proofs.Fair.{got_formed}
+use Rattle.vs_device_parts.specs.Calls.{Accept, Allows, Answer, Call, CloseStream, DeviceTree, Dial, Label, ReadStream, Ring, ShutWrite, Situation, WriteStream}
+use Rattle.vs_device_parts.specs.Playing.{Runs}
+use Rattle.laws_device.specs.Dropped.{IsCounted, dropped_in}
+use Rattle.laws_device.proofs.Walk.{Counts.{AfterTx, Calls, Counts, HeaderRead, TxCalls, after_next}, Keeping.Asking}
+use Rattle.laws_device.proofs.{Keeping.{Keeps, Lets, asking, lets}, Named.Keeping.asking as asked, Ringing.{Telling, Tells, bytes_held, moves}, Transmitting.header_is}
+use Rattle.laws_device.proofs.Walk.Keeping as walked
+use Rattle.vs_ring_port.specs.declared.device_ring.Next.TheVariants as next
+
+-- What a call does to the ring.
+abbrev pub Moves : (call : Call) → Answer call → Situation → Situation → Type 0
+Moves (Ring call) a c d = DeviceAllows call a c.ring d.ring × (d.host ≡ c.host)
+Moves call a c d = d.ring ≡ c.ring
+
+abbrev pub moving : Asking Situation
+moving = asked (λ call c. Unit {0}) Moves
+
+let_moves : (call : Call) (a : Answer call) (c d : Situation) → Lets call a c d → Moves call a c d
+let_moves (Ring call) a c d made = (made.0, made.1)
+let_moves (ReadStream stream n) a c d made = made.0.ring
+let_moves (WriteStream stream bytes) a c d made = made.0.ring
+let_moves Accept a c d made = made.ring
+let_moves (Dial path flow) a c d made = made.ring
+let_moves (Label stream flow) a c d made = made.ring
+let_moves (ShutWrite stream) a c d made = made.ring
+let_moves (CloseStream stream) a c d made = made.ring
+
+module _ {A : Type 0} (Q : A → Situation → Type 0) where
+  pub moving_end : (tree : DeviceTree A) (c d : Situation) (x : A) → walked.Keeps moving Q tree c → Runs tree c x d → Q x d
+  moving_end (Done y) c d x keeps runs =
+      let P : A → Type 0 = λ z. Q z c in let R : Situation → Type 0 = λ e. Q x e in subst R runs.1 (subst P runs.0 keeps)
+  moving_end (Ask call next) c d x keeps runs =
+      moving_end (next runs.0) runs.1 d x (keeps.1 runs.0 runs.1 (let_moves call runs.0 c runs.1 (lets call runs.0 c runs.1 runs.2))) runs.3
+
+  -- What is kept besides.
+  pub keeps_both : (P : A → Situation → Type 0) (tree : DeviceTree A) (c : Situation) → Keeps P tree c → walked.Keeps moving Q tree c
+      → Keeps (λ x d. P x d × Q x d) tree c
+  keeps_both P (Done x) c keeps also = (keeps, also)
+  keeps_both P (Ask call next) c keeps also =
+      (keeps.0, λ a d made. keeps_both P (next a) d (keeps.1 a d made) (also.1 a d (let_moves call a c d made)))
+
+-- Of an honest ring.
+abbrev When : (EndLog → Type 0) → Telling
+When A honest host l = honest ≡ true → A l
+
+over : (call : DeviceCall) (a : DeviceAnswer call) (L : Rings → Type 0) (f : Rings → Rings) (R : EndLog → Type 0) (g : EndLog → EndLog) (c d : Situation)
+    → DeviceMoves call a L f R g c.ring d.ring → d.host ≡ c.host → (A B : EndLog → Type 0)
+    → ((l : EndLog) → c.ring.honest ≡ true → R l → A l → IsFairLog Device (g l).entries → B (g l)) → Tells (When A) c → Tells (When B) d
+over call a L f R g c d made same A B step at =
+    moves call a L f R g c d made same (λ h o l. (c.ring.honest ≡ h) × When A h o l) (When B)
+    (λ h o l r was fair on. step l (was.0 ∙ on) r (was.1 on) (fair on)) (λ l is. (refl, at l is))
+
+module _ (first : ℕ) where
+  abbrev At : Counts → EndLog → Type 0
+  At n l = IsCounted first n.cid n.dropped n.failed l.entries
+
+  abbrev pub P : Counts → Situation → Type 0
+  P n c = Tells (When (At n)) c
+
+  stays : (n : Counts) (c d : Situation) → d.ring ≡ c.ring → P n c → P n d
+  stays n c d same at = subst (λ (r : RingContents). ForSome r.log (λ l. r.honest ≡ true → At n l)) (sym same) at
+
+  -- A page that isn't of tx is taken.
+  taken_other : (queue : Queue) (n : Counts) (a : Next) (page : Option (List ℕ)) (l : EndLog) → (queue ≡ Tx → ⊥) → IsTakenWhole queue a page → At n l
+      → At n (log_taken queue a page l) × At (after_next a n) (log_taken queue a page l)
+  taken_other Tx n a page l other whole at = absurd (other refl)
+  taken_other Rx n (next.Chain chain) None l other whole at = (at, at)
+  taken_other Rx n (next.Chain chain) (Some page) l other whole at = (at, at)
+  taken_other Rx n next.None page l other whole at = (at, at)
+  taken_other Rx n (next.Failed f) page l other whole at = absurd whole
+  taken_other Event n (next.Chain chain) None l other whole at = (at, at)
+  taken_other Event n (next.Chain chain) (Some page) l other whole at = (at, at)
+  taken_other Event n next.None page l other whole at = (at, at)
+  taken_other Event n (next.Failed f) page l other whole at = absurd whole
+
+  returned : (n : Counts) (q : Queue) (page : List ℕ) (log : Log) → IsCounted first n.cid n.dropped n.failed log
+      → IsCounted first n.cid n.dropped n.failed (entries_returned q page log)
+  returned n Tx page log at = at
+  returned n Rx page log at = by (packet_held page)
+    where
+      by : (o : Option Packet) → IsCounted first n.cid n.dropped n.failed (with_packet (λ p. PutPacket p) o log)
+      by None = at
+      by (Some p) = record { cid_is = at.cid_is; dropped_is = at.dropped_is; unfailed = at.unfailed }
+  returned n Event page log at = by (event_held page)
+    where
+      by : (o : Option ℕ) → IsCounted first n.cid n.dropped n.failed (with_event (λ id. PutEvent id) o log)
+      by None = at
+      by (Some id) = record { cid_is = at.cid_is; dropped_is = at.dropped_is; unfailed = at.unfailed }
+
+  pub calls : Calls moving P
+  calls = record {
+    closes = λ stream n c at. (tt, λ a d same. stays n c d same at);
+    shuts = λ stream n c at. (tt, λ a d same. stays n c d same at);
+    labels = λ stream flow n c at. (tt, λ a d same. stays n c d same at);
+    accepts = λ n c at. (tt, λ a d same. stays n c d same at);
+    dials = λ path flow n c at. (tt, λ a d same. stays n c d same at);
+    reads = λ stream room n c at. (tt, λ a d same. stays n c d same at);
+    writes = λ stream bytes n c at. (tt, λ a d same. stays n c d same at);
+    takes_rx = λ n c at. (
+      tt,
+      λ a d made. over _ _ _ _ _ (log_taken Rx a made.0.0) c d made.0.1 made.1 (At n) (At (after_next a n))
+          (λ l on asked was fair. (taken_other Rx n a made.0.0 l (λ tx. cc) (asked.1 on) was).1) at,
+    );
+    takes_event = λ n c at. (
+      tt,
+      λ a d made. over _ _ _ _ _ (log_taken Event a made.0.0) c d made.0.1 made.1 (At n) (At (after_next a n))
+          (λ l on asked was fair. (taken_other Event n a made.0.0 l (λ tx. cc) (asked.1 on) was).1) at,
+    );
+    puts = λ chain place bytes n c at. (
+      tt,
+      λ a d made. over _ _ _ _ _ (log_written chain place bytes) c d made.0 made.1 (At n) (At n)
+          (λ l on asked was fair. was) at,
+    );
+    returns = λ chain len n c at. (
+      tt,
+      λ a d made. over _ _ _ _ _ (log_returned chain len) c d made.0.1 made.1 (At n) (At n)
+          (λ l on asked was fair. returned n chain.queue (take len (bytes_in chain l.held)) l.entries was) at,
+    );
+    publishes = λ cid n c at. (
+      tt,
+      λ a d made. over _ _ _ _ _ (log_reset cid) c d made.0 made.1 (At n) (At (record n { cid = cid }))
+          (λ l on asked was fair. record { cid_is = refl; dropped_is = was.dropped_is; unfailed = was.unfailed }) at,
+    );
+  }
+
+  pub looks : (n : Counts) (c : Situation) → P n c → moving.asks (Ring (Take Event)) c (λ a d. P n d)
+  looks n c at = (
+    tt,
+    λ a d made. over _ _ _ _ _ (log_taken Event a made.0.0) c d made.0.1 made.1 (At n) (At n)
+        (λ l on asked was fair. (taken_other Event n a made.0.0 l (λ tx. cc) (asked.1 on) was).0) at,
+  )
+
+  -- A page of tx was taken, which holds a packet as long as its header says.
+  record Took (chain : Chain) (n : Counts) (l : EndLog) : Type 0 where
+    page : List ℕ
+    packet : Packet
+    held : packet_held page ≡ Some packet
+    log : Log
+    entries : l.entries ≡ GotPacket packet ∷ log
+    before : IsCounted first n.cid n.dropped n.failed log
+    fair : IsFairLog Device (GotPacket packet ∷ log)
+    others : List Held
+    there : l.held ≡ record { chain = chain; bytes = page } ∷ others
+    readable : chain.readable ≡ length page
+
+  took : (chain : Chain) (n : Counts) (page : Option (List ℕ)) (l : EndLog) → IsTakenAs Tx (next.Chain chain) page
+      → IsTakenWhole Tx (next.Chain chain) page → At n l → IsFairLog Device (log_taken Tx (next.Chain chain) page l).entries
+      → Took chain n (log_taken Tx (next.Chain chain) page l)
+  took chain n None l is_taken whole at fair = absurd is_taken
+  took chain n (Some page) l is_taken whole at fair = by (packet_held page) refl whole
+    where
+      by : (o : Option Packet) → packet_held page ≡ o → IsSomeAnd o (λ p. page ≡ packet_bytes p) → Took chain n (log_taken Tx (next.Chain chain) (Some page) l)
+      by None is none = absurd none
+      by (Some p) is holds = record {
+        page = page;
+        packet = p;
+        held = is;
+        log = l.entries;
+        entries = ap (λ (o : Option Packet). with_packet (λ q. GotPacket q) o l.entries) is;
+        before = at;
+        fair = subst (λ (o : Option Packet). IsFairLog Device (with_packet (λ q. GotPacket q) o l.entries)) is fair;
+        others = l.held;
+        there = refl;
+        readable = is_taken.1;
+      }
+
+  one_more : (n m : ℕ) → n ≡ min m (2 ^ 64 - 1) → counted n ≡ min (1 + m) (2 ^ 64 - 1)
+  one_more n m is = grind (arith, nat_tests, is)
+
+  none_more : (n m : ℕ) → n ≡ min m (2 ^ 64 - 1) → n ≡ min (0 + m) (2 ^ 64 - 1)
+  none_more n m is = grind (arith, nat_tests, is)
+
+  -- A packet that is got, and dropped or not.
+  got : (n : Counts) (log : Log) (p : Packet) (b : Bool) → IsCounted first n.cid n.dropped n.failed log → is_dropped Device n.cid p.header ≡ b
+      → IsCounted first n.cid (cond b (counted n.dropped) n.dropped) n.failed (GotPacket p ∷ log)
+  got n log p b at is = record {
+    cid_is = at.cid_is;
+    dropped_is = by b (sym (ap (λ (c : ℕ). is_dropped Device c p.header) at.cid_is) ∙ is);
+    unfailed = at.unfailed;
+  }
+    where
+      m : ℕ
+      m = dropped_in first log
+
+      by : (b : Bool) → is_dropped Device (cid_of first log) p.header ≡ b
+          → cond b (counted n.dropped) n.dropped ≡ min (dropped_in first (GotPacket p ∷ log)) (2 ^ 64 - 1)
+      by true on = one_more n.dropped m at.dropped_is ∙ ap (λ (x : Bool). min (cond x 1 0 + m) (2 ^ 64 - 1)) (sym on)
+      by false off = none_more n.dropped m at.dropped_is ∙ ap (λ (x : Bool). min (cond x 1 0 + m) (2 ^ 64 - 1)) (sym off)
+
+  -- Its header is read.
+  module _ (chain : Chain) (n : Counts) (h : Header) where
+    record Heard (l : EndLog) : Type 0 where
+      took : Took chain n l
+      header : took.packet.header ≡ h
+
+    judged : (b : Bool) → is_dropped Device n.cid h ≡ b → (l : EndLog) → Heard l → At (record n { dropped = cond b (counted n.dropped) n.dropped }) l
+    judged b is l heard =
+        let t = heard.took in
+        subst (λ (log : Log). IsCounted first n.cid (cond b (counted n.dropped) n.dropped) n.failed log) (sym t.entries)
+        (got n t.log t.packet b t.before (ap (λ (x : Header). is_dropped Device n.cid x) heard.header ∙ is))
+
+    not_short : nat_lt (chain.readable - HEADER_LEN) h.len ≡ true → (l : EndLog) → Heard l → ⊥
+    not_short short l heard =
+        let t = heard.took in
+        let formed = got_formed Device t.packet t.log (t.fair (flow_got Device t.packet)) in
+        let whole = (packet_whole t.page t.packet t.held).1 in
+        let len : h.len ≡ size t.packet = ap (λ (x : Header). x.len) (sym heard.header) ∙ formed.len in
+        let readable = t.readable in
+        absurd (grind (arith, nat_tests, short, whole, len, readable))
+
+    header_read : (c : Situation) → Tells (When Heard) c → HeaderRead moving P chain h n c
+    header_read c tells = record {
+      short = λ short l is on. absurd (not_short short l (tells l is on));
+      drops = λ whole is l there on. judged true is l (tells l there on);
+      comes = λ whole is l there on. judged false is l (tells l there on);
+    }
+
+  heard_as : (chain : Chain) (n : Counts) (bytes : List ℕ) (l : EndLog) → bytes ≡ take HEADER_LEN (drop 0 (bytes_in chain l.held)) → Took chain n l
+      → Heard chain n (header_of bytes) l
+  heard_as chain n bytes l is t = record {
+    took = t;
+    header = header_is t.page t.packet t.held
+        ∙ sym (ap header_of (is ∙ ap (take HEADER_LEN) (bytes_held chain t.page t.others l t.there)));
+  }
+
+  tx_taken : (n : Counts) (c : Situation) (a : Next) (d : Situation) → Moves (Ring (Take Tx)) a c d → P n c → AfterTx moving P a n d
+  tx_taken n c (next.Chain chain) d made at =
+      let now = over _ _ _ _ _ (log_taken Tx (next.Chain chain) made.0.0) c d made.0.1 made.1 (At n) (Took chain n)
+      (λ l on asked was fair. took chain n made.0.0 l asked.0 (asked.1 on) was fair) at in (
+        tt,
+        λ bytes e read. header_read chain n (header_of bytes) e (over _ _ _ _ _ (λ l. l) d e read.0 read.1 (Took chain n) (Heard chain n (header_of bytes))
+            (λ l on asked was fair. heard_as chain n bytes l asked was) now),
+      )
+  tx_taken n c next.None d made at =
+      over _ _ _ _ _ (log_taken Tx next.None made.0.0) c d made.0.1 made.1 (At n) (At n) (λ l on asked was fair. was) at
+  tx_taken n c (next.Failed f) d made at =
+      over _ _ _ _ _ (log_taken Tx (next.Failed f) made.0.0) c d made.0.1 made.1 (At n) (At (record n { failed = Some f }))
+      (λ l on asked was fair. absurd (asked.1 on)) at
+
+  pub tx_calls : TxCalls moving P
+  tx_calls = record {
+    takes = λ n c at. (tt, λ a d made. tx_taken n c a d made at);
+    reads = λ chain len n c at. (tt, λ bytes d made. over _ _ _ _ _ (λ l. l) c d made.0 made.1 (At n) (At n) (λ l on asked was fair. was) at);
+  }
