@@ -18,7 +18,6 @@ use Rattle.vs_device_parts.specs.{Receiving.{read_with_chain, read_stream, serve
 use Rattle.vs_device_parts.specs.{Connections.{with_connection, route_to_guest}, Filling.read_slot, Playing.{CanMake, MayRun, Runs}}
 use Rattle.vs_device_parts.specs.{State.{DeviceConnection, DeviceEntry, DeviceState}, Steps.{filling, puts_payload, reads, to_read}}
 use Rattle.vs_device_parts.specs.Served.{OnlyReads, Reads, Rests}
-use Rattle.vs_conn.specs.declared.end.State.TheVariants as state
 use Rattle.vs_limits.specs.declared.TheConstants.{OWED_MAX}
 
 -- payload is put

@@ -3,7 +3,7 @@ use Rattle.std.proofs.Common.{◌≡◌, ℕ, ◌==◌, Bool, true, false, cond,
 use Rattle.std.specs.{Prelude.◌&&◌, Prelude.◌||◌, List.All, List.find, Option.IfSome, Option.option_map_or}
 use Rattle.std.proofs.{Common.length-append, lemmas.Bool.Decides.nat_tests, lemmas.List.length-take, lemmas.List.Elements.{All-head, All-tail}}
 use Rattle.vs_limits.specs.declared.TheConstants.{WRITE_MAX}
-use Rattle.vs_contents.specs.CallTree.{Done, bind, for_each}
+use Rattle.vs_contents.specs.CallTree.{Done, for_each}
 use Rattle.vs_flow.specs.Table.{Table, entry_under, slots}
 use Rattle.vs_device_parts.specs.{Calls.DeviceTree, Connections.is_timed_out, State.DeviceConnection, State.DeviceEntry, State.DeviceState}
 use Rattle.vs_device_parts.specs.Streams.{Writing, is_written_out, pump_slot, shut_write, tick_slot, to_write, write_pending}

@@ -1,4 +1,3 @@
-use Rattle.vs_device_parts.specs.Streams.{tick_slot}
 use Rattle.laws_device.proofs.Named.Stepping.{times_out_keeps}
 use Rattle.vs_device.proofs.Ordered.{host_step_streams}
 use Rattle.vs_device.proofs.steps.time_out.Goals as goal
