@@ -113,11 +113,6 @@ pub once_put : (role : Role) (f : Flow) (log : Log) → IsFairOn role f log → 
 once_put role f log fair few =
     first_put role f log fair few ∙ ap (λ (h : History). payload_of (puts h)) (once_history role f log fair few)
 
-pub once_got : (role : Role) (f : Flow) (log : Log) → IsFairOn role f log → number_of role f log ≤ 1
-    → payload_got role (first_of f) log ≡ payload_of (gots (whole_of role f log))
-once_got role f log fair few =
-    first_got role f log fair few ∙ ap (λ (h : History). payload_of (gots h)) (once_history role f log fair few)
-
 -- A flow on which something was put was used.
 pub put_begun : (role : Role) (f : Flow) (log : Log) (test : Packet → Bool) → IsFairOn role f log → has test (puts (history_of role f log)) ≡ true
     → 1 ≤ number_of role f log

@@ -19,15 +19,9 @@ receives_in _ shut = not shut
 abbrev pub receives : ConnectionEnd → Bool
 receives e = receives_in e.state e.own.receive
 
--- All payload that an end put on a flow, and that it got there; and whether anything passed on it.
+-- All payload that an end put on a flow.
 abbrev pub put_on : Role → Flow → Log → List ℕ
 put_on role f log = payload_of (puts (whole_of role f log))
-
-abbrev pub got_on : Role → Flow → Log → List ℕ
-got_on role f log = payload_of (gots (whole_of role f log))
-
-abbrev pub has_passed : Role → Flow → Log → Bool
-has_passed role f log = not (is_empty (whole_of role f log))
 
 -- These bytes on one connection, and none on any other.
 abbrev pub is_same : Connection → Connection → Bool

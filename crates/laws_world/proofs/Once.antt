@@ -66,5 +66,5 @@ asked_once role first b s once p next asks =
     answerer Asker w is none = absurd cc
 
 -- So they are two ends, as the law of both ends has them.
-pub both_ends : (first : ℕ) (b : Both) → IsSound first b → AreOnce b → BothEnds b
-both_ends first b s once = record { fair = s.fair; got = λ role. (s.ties role).packets; asked = once }
+pub both_ends : (first : ℕ) (b : Both) → IsSound first b → BothEnds b
+both_ends first b s = record { fair = s.fair; got = λ role. (s.ties role).packets }
