@@ -2,8 +2,7 @@
 use Rattle.std.specs.Prelude.{◌≡◌, ℕ, ◌++◌, ◌==◌, ◌&&◌, not, Bool, true, false, if◌then◌else◌, List, []}
 use Rattle.vs_conn.specs.{End.ConnectionEnd, declared.end.State.State, declared.end.State.TheVariants.Ended}
 use Rattle.vs_flow.specs.{Connection.Connection, Flow.same_flow, declared.flow.Flow.Flow}
-use Rattle.laws_history.specs.History.{gots, puts}
-use Rattle.laws_tables.specs.Heard.{is_empty}
+use Rattle.laws_history.specs.History.{puts}
 use Rattle.vs_page.specs.{Fair.IsPrefixOf, Fair.payload_of, Log.Log, Log.Role, Log.whole_of}
 
 -- What came out of a buffer, and then what it holds, is a prefix of what came in; and all of it, while nothing is left out.
