@@ -20,7 +20,7 @@ use Rattle.vs_page.proofs.{Flows.same_self, Present.present_got}
 use Rattle.vs_proxy_parts.specs.{Handshakes.with_line, Handshakes.without_stream, State.Handshake}
 use Rattle.vs_uds.specs.{OkLine.ok_text, Reading.is_decided, declared.connect.TheConstants.CONNECT_MAX}
 use Rattle.laws_tables.{specs.Drains.Drains, proofs.Adding.got_nothing, proofs.Adding.put_over_got}
-use Rattle.laws_device.specs.Carried.Streamed.{AreCounted, AreLines, AreStreamed, IsCounted, IsStreamed, Seen, connection_in, connection_of, count_in}
+use Rattle.laws_device.specs.Carried.Streamed.{AreCounted, AreLines, AreStreamed, IsCounted, IsStreamed, Seen, connection_of, count_in}
 use Rattle.laws_device.specs.Carried.Streamed.{has_line, line_for, look, reading, seen, seen_as}
 use Rattle.laws_device.proofs.Carried.Hosts.{changed_seen, counts_still, counts_then, here_then, new_there, none_there, others_seen, others_then}
 use Rattle.laws_device.proofs.Carried.{Hosts.none_labelled, Hosts.others_there, Hosts.there, HostCalls.closed_host, HostCalls.some_seen}
