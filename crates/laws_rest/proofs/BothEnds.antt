@@ -9,7 +9,7 @@ use Rattle.vs_page.specs.Fair.{IsPrefixOf, asked_by, instance_from, number_of, p
 use Rattle.vs_page.specs.Log.{Device, Driver, Role, flow_got, other_role, side_of, whole_of}
 use Rattle.vs_page.proofs.{Entries.got_on, Entries.on_flow, Flows.opposite_by, Payload.instance-append, Payload.payload_of-append}
 use Rattle.vs_ring_port.specs.{Contents.RingContents, EndLog.EndLog}
-use Rattle.laws_tables.specs.Both.{Both, at}
+use Rattle.laws_tables.specs.{Asked.AskOnce, Both.Both, Both.at}
 use Rattle.laws_tables.proofs.Logs.{prefix_then}
 use Rattle.vs_driver_parts.specs.{Held.HeldSlots, State.DriverState}
 use Rattle.laws_driver.specs.Honest.{slots_of}
@@ -22,28 +22,6 @@ use Rattle.laws_rest.specs.Bytes.{AreTied, AreTold, BothEnds, CarryBytes}
 use Rattle.laws_rest.proofs.Hosts.{read_is_got, wrote_is_put}
 
 module _ (b : Both) (ends : BothEnds b) where
-  -- Each end counts one connection at most: the asker put one REQUEST, and the other got no more.
-  pub once : (role : Role) (f : Flow) → number_of role f (at role b).log ≤ 1
-  once role f = by (side_of role f) refl
-    where
-      by : (side : Side) → side_of role f ≡ side → (let w = whole_of role f (at role b).log in asked_by (side_of role f) (puts w) (gots w)) ≤ 1
-      by Asker is =
-          subst (λ (side : Side). (let w = whole_of role f (at role b).log in asked_by side (puts w) (gots w)) ≤ 1) (sym is) (ends.asked role f is).few
-      by Answerer is =
-          let few = (ends.asked (other_role role) f (opposite_by role (is_assigned f.host) ∙ ap peer is)).few in
-          let rest = ends.got role in
-          let tie = got_on role f (at role b).log (at (other_role role) b).log rest.0 rest.1 in
-          let all = count_append is_request (on_flow (flow_got role) f rest.0) (gots (whole_of role f (at role b).log)) in
-          subst (λ (side : Side). (let w = whole_of role f (at role b).log in asked_by side (puts w) (gots w)) ≤ 1) (sym is)
-          (omega (arith, few, ap (count is_request) tie, all))
-
-  -- A connection that has passed is the first of its flow.
-  pub first_is : (role : Role) (c : Connection) → 1 ≤ c.number → c.number ≤ number_of role c.flow (at role b).log → c ≡ first_of c.flow
-  first_is role c some past =
-      let most = once role c.flow in
-      let one : c.number ≡ 1 = omega (arith, some, past, most) in
-      ap (λ (n : ℕ). let d : Connection = record { flow = c.flow; number = n } in d) one
-
   -- The payload that an end got on a connection is a prefix of what the other put there.
   pub arrives : (role : Role) (c : Connection) → IsPrefixOf (payload_got role c (at role b).log) (payload_put (other_role role) c (at (other_role role) b).log)
   arrives role c =
@@ -79,6 +57,30 @@ module _ (b : Both) (ends : BothEnds b) where
     carry_id first_id opened journal slots id right some =
         carry (opened id) some (sent_to opened (opened id) journal) (received_by id journal)
         (record { puts = right.sent.puts (opened id); gets = right.received.front id })
+
+-- Where neither asked twice on a flow.
+module _ (b : Both) (ends : BothEnds b) (asked : (role : Role) → AskOnce role (at role b)) where
+  -- Each end counts one connection at most: the asker put one REQUEST, and the other got no more.
+  pub once : (role : Role) (f : Flow) → number_of role f (at role b).log ≤ 1
+  once role f = by (side_of role f) refl
+    where
+      by : (side : Side) → side_of role f ≡ side → (let w = whole_of role f (at role b).log in asked_by (side_of role f) (puts w) (gots w)) ≤ 1
+      by Asker is =
+          subst (λ (side : Side). (let w = whole_of role f (at role b).log in asked_by side (puts w) (gots w)) ≤ 1) (sym is) (asked role f is).few
+      by Answerer is =
+          let few = (asked (other_role role) f (opposite_by role (is_assigned f.host) ∙ ap peer is)).few in
+          let rest = ends.got role in
+          let tie = got_on role f (at role b).log (at (other_role role) b).log rest.0 rest.1 in
+          let all = count_append is_request (on_flow (flow_got role) f rest.0) (gots (whole_of role f (at role b).log)) in
+          subst (λ (side : Side). (let w = whole_of role f (at role b).log in asked_by side (puts w) (gots w)) ≤ 1) (sym is)
+          (omega (arith, few, ap (count is_request) tie, all))
+
+  -- A connection that has passed is the first of its flow.
+  pub first_is : (role : Role) (c : Connection) → 1 ≤ c.number → c.number ≤ number_of role c.flow (at role b).log → c ≡ first_of c.flow
+  first_is role c some past =
+      let most = once role c.flow in
+      let one : c.number ≡ 1 = omega (arith, some, past, most) in
+      ap (λ (n : ℕ). let d : Connection = record { flow = c.flow; number = n } in d) one
 
 -- Over any rings and any host.
 pub carry_told : (first : ℕ) (d : DriverState) (c : RingContents) (p : ProxyState) (a : Situation) (l m : EndLog) (h : HostContents) (first_id : ℕ)

@@ -7,7 +7,6 @@ use Rattle.vs_page.specs.Fair.{IsFairLog, IsPrefixOf, payload_got, payload_put}
 use Rattle.vs_page.specs.Log.{Driver, Log, Role, other_role, packets_got, packets_put}
 use Rattle.vs_ring_port.specs.{Contents.RingContents, EndLog.EndLog}
 use Rattle.laws_tables.specs.Both.{Both, at}
-use Rattle.laws_tables.specs.Asked.{AskOnce}
 use Rattle.vs_driver_parts.specs.State.{DriverState}
 use Rattle.laws_driver.specs.Honest.{ends_of_state as driver_ends}
 use Rattle.vs_device_parts.specs.Calls.{Situation}
@@ -19,11 +18,10 @@ use Rattle.vs_proxy_parts.specs.State.{ProxyState}
 abbrev pub HasGotFirst : Log → Log → Type 0
 HasGotFirst mine other = (rest : List Packet) × (packets_put other ≡ rest ++ packets_got mine)
 
--- Both logs are fair, each end got first what the other put, and neither asked twice on a flow.
+-- Both logs are fair, and each end got first what the other put.
 pub record BothEnds (b : Both) : Type 0 where
   pub fair : (role : Role) → IsFairLog role (at role b).log
   pub got : (role : Role) → HasGotFirst (at role b).log (at (other_role role) b).log
-  pub asked : (role : Role) → AskOnce role (at role b)
 
 -- These bytes were sent on a connection, and these were received on it, by the driver's log.
 pub record AreTied (log : Log) (c : Connection) (sent received : List ℕ) : Type 0 where

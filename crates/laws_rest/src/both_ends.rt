@@ -16,10 +16,9 @@ ghost use Rattle.laws_rest.specs.Bytes.{AreTied, AreTold, BothEnds, CarryBytes};
 
 /// Driver and device each got first what the other put. Then what the host's program read of a connection is a prefix of what was sent on it,
 /// and what was received on it is a prefix of what that program wrote: of each connection; and so, by a journal that is right, of each id that
-/// was given to a connection. So it is over any two honest rings that tell their logs, and any host that exposes its streams. Where neither end
-/// asked twice on a flow, each flow has one connection at most (Virtio 1.2, section 5.10.6).
+/// was given to a connection; also where a guest uses a pair of ports again. So it is over any two honest rings that tell their logs, and any host
+/// that exposes its streams (Virtio 1.2, section 5.10.6).
 pub fn law_of_both_ends()
-    ensures once { (b : Both) (role : Role) (f : Flow) → BothEnds b → number_of role f (at role b).log ≤ 1 }
     ensures connections { (b : Both) (h : HostContents) (port : ℕ) (table : Table DeviceConnection) (hands : List Handshake) (c : Connection)
         (sent received : List ℕ) → BothEnds b → IsStreamed h b.device.log port table hands → 1 ≤ c.number
         → AreTied b.driver.log c sent received → CarryBytes c sent received h }

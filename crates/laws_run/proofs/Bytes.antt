@@ -37,18 +37,18 @@ all_heard first (PutEvent id ∷ log) kept = all_heard first log kept
 all_heard first (GotEvent id ∷ log) kept = all_heard first log kept
 all_heard first (Mark cid ∷ log) kept = all_heard first log kept
 
-module _ (d : DriverState) (driver : Sight) (p : ProxyState) (device : DeviceSight) (settled : IsSettled d driver p device)
-    (guest : AskOnce Driver (ends_at_rest d driver p device).driver) (host : AskOnce Device (ends_at_rest d driver p device).device) where
+module _ (d : DriverState) (driver : Sight) (p : ProxyState) (device : DeviceSight) (settled : IsSettled d driver p device) where
   ends : BothEnds (ends_at_rest d driver p device)
-  ends = record { fair = settled.at_rest.fair; got = λ role. ([], settled.at_rest.got role); asked = by }
-    where
-      by : (role : Role) → AskOnce role (at role (ends_at_rest d driver p device))
-      by Driver = guest
-      by Device = host
+  ends = record { fair = settled.at_rest.fair; got = λ role. ([], settled.at_rest.got role) }
 
-  -- Each flow was used once.
-  pub number_once : (f : Flow) → number_of Device f device.sight.log ≤ 1
-  number_once f = once (ends_at_rest d driver p device) ends Device f
+  -- Each flow was used once, where neither end asked twice.
+  pub number_once : AskOnce Driver (ends_at_rest d driver p device).driver → AskOnce Device (ends_at_rest d driver p device).device
+      → (f : Flow) → number_of Device f device.sight.log ≤ 1
+  number_once guest host f = once (ends_at_rest d driver p device) ends asked Device f
+    where
+      asked : (role : Role) → AskOnce role (at role (ends_at_rest d driver p device))
+      asked Driver = guest
+      asked Device = host
 
   -- What was sent and received on an id that was given to a connection.
   module _ (h : HostContents) (faults : ℕ) (streams : IsProxyStreamed FIRST_CID p (situation (device_contents device) (Some h) faults))

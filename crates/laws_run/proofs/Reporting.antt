@@ -59,7 +59,7 @@ module _ (script : RunScript) (driver : DriverState) (end : Sight) (apps : List 
     right_one : (opened : ℕ → Connection) → Account opened → (o : Opened) → (1 ≤ (opened o.id).number) × ((opened o.id).flow ≡ o.flow)
         → IsRightConnection opened journal h o
     right_one opened account o has =
-        let c = carried driver end p e settled guest host h faults streams opened journal entries account o.id has.0 in
+        let c = carried driver end p e settled h faults streams opened journal entries account o.id has.0 in
         record { some = has.0; flow = has.1; to_host = c.to_host; to_guest = c.to_guest }
 
     right_all : (opened : ℕ → Connection) → Account opened → All (IsRightConnection opened journal h) (opened_all (length script) entries)

@@ -12,7 +12,7 @@ use Rattle.vs_page.proofs.Flows.{same_self}
 use Rattle.vs_ring_port.specs.EndLog.{EndLog}
 use Rattle.vs_ring_shared.specs.Sights.{DeviceSight, Sight, device_contents, device_log}
 use Rattle.vs_driver_parts.specs.State.{DriverState}
-use Rattle.vs_device_parts.specs.{Calls.Situation, Playing.Runs, State.DeviceConnection, State.DeviceEntry}
+use Rattle.vs_device_parts.specs.{Calls.Situation, Playing.Runs, State.DeviceConnection}
 use Rattle.laws_device.{specs.Carried.Streamed.{IsStreamed, Seen, client_waits, connection_in, look, seen, seen_as}, proofs.Carried.Changing.no_labels}
 use Rattle.laws_rest.{specs.Calm.resets_in, specs.Rest.has_no_mark, proofs.Standing.AreKept, proofs.Standing.device_kept}
 use Rattle.vs_proxy_parts.specs.{State.ProxyState, Turns.new_proxy, Turns.turn_of, declared.answers.Turn.Turn}

@@ -1,12 +1,12 @@
 -- Flows that are used once: all that passed on them is their present connection.
-use Rattle.vs_page.proofs.{Present.first_got, Present.first_put, Entries.present_is}
+use Rattle.vs_page.proofs.{Present.first_put, Entries.present_is}
 use Rattle.vs_flow.specs.{Connection.first_of, declared.flow.Flow.Flow}
 use Rattle.std.proofs.Common.{◌≡◌, ℕ, zero, suc, ◌+◌, ◌≤◌, Bool, true, false, cond, ◌||◌, List, [], ◌∷◌, refl, sym, ap, subst, ◌∙◌, arith}
 use Rattle.std.proofs.lemmas.Grind.{common_steps}
 use Rattle.laws_history.specs.{Again.IsFairAll, Again.count, Again.present, Packets.has, Packets.is_request, declared.packet.Packet.Packet}
 use Rattle.laws_history.specs.History.{Answerer, Asker, Got, History, IsFair, MayPut, Put, Side, gots, is_begun, puts}
 use Rattle.laws_history.proofs.Present.{fair_once}
-use Rattle.vs_page.specs.{Fair.{IsFairOn, asked_by, number_of, payload_got, payload_of, payload_put}, Log.{Log, Role}}
+use Rattle.vs_page.specs.{Fair.{IsFairOn, asked_by, number_of, payload_of, payload_put}, Log.{Log, Role}}
 use Rattle.vs_page.specs.{Log.{history_of, side_of, whole_of}}
 use Rattle.laws_tables.specs.Heard.{heard_of}
 use Rattle.laws_tables.proofs.Fair.{fair_begun, fair_now, heard_puts}
@@ -112,11 +112,6 @@ pub once_put : (role : Role) (f : Flow) (log : Log) → IsFairOn role f log → 
     → payload_put role (first_of f) log ≡ payload_of (puts (whole_of role f log))
 once_put role f log fair few =
     first_put role f log fair few ∙ ap (λ (h : History). payload_of (puts h)) (once_history role f log fair few)
-
-pub once_got : (role : Role) (f : Flow) (log : Log) → IsFairOn role f log → number_of role f log ≤ 1
-    → payload_got role (first_of f) log ≡ payload_of (gots (whole_of role f log))
-once_got role f log fair few =
-    first_got role f log fair few ∙ ap (λ (h : History). payload_of (gots h)) (once_history role f log fair few)
 
 -- A flow on which something was put was used.
 pub put_begun : (role : Role) (f : Flow) (log : Log) (test : Packet → Bool) → IsFairOn role f log → has test (puts (history_of role f log)) ≡ true

@@ -34,11 +34,11 @@ module _ {fresh : Type 0} (w : World) (well : IsWell fresh w) where
   device = (both_of w).device.log
 
   ends : BothEnds (both_of w)
-  ends = both_ends first_cid (both_of w) well.sound well.once
+  ends = both_ends first_cid (both_of w) well.sound
 
   -- The connection of an id is the first of its flow, and what was received on the flow was received on the id.
   is_first : (id : ℕ) → 1 ≤ (well.opened id).number → well.opened id ≡ first_of (well.opened id).flow
-  is_first id some = both.first_is (both_of w) ends Driver (well.opened id) some (well.right.received.passed id)
+  is_first id some = both.first_is (both_of w) ends well.once Driver (well.opened id) some (well.right.received.passed id)
 
   pub one_id : (i j : ℕ) → 1 ≤ (well.opened i).number → 1 ≤ (well.opened j).number → (well.opened i).flow ≡ (well.opened j).flow → i ≡ j
   one_id i j some also same = well.right.received.once i j some (is_first i some ∙ ap (λ (g : Flow). first_of g) same ∙ sym (is_first j also))
@@ -56,7 +56,7 @@ module _ {fresh : Type 0} (w : World) (well : IsWell fresh w) where
       well.right.sent.puts (first_of f) ∙ sym (sent_flow well.opened f (λ id some. ap (λ (c : Connection). c.number) (is_first id some)) w.journal well.agrees)
 
   pub sent_all : (f : Flow) → sent_on f w.journal ≡ put_on Driver f guest
-  sent_all f = sym (sent_is f) ∙ once_put Driver f guest (well.sound.fair Driver f) (both.once (both_of w) ends Driver f)
+  sent_all f = sym (sent_is f) ∙ once_put Driver f guest (well.sound.fair Driver f) (both.once (both_of w) ends well.once Driver f)
 
   pub received_is : (f : Flow) → IsPrefixOf (received_on f w.journal) (payload_got Driver (first_of f) guest)
   received_is f = by (received_some well.opened f w.journal well.agrees)
@@ -102,11 +102,11 @@ module _ {fresh : Type 0} (w : World) (well : IsWell fresh w) where
 
     -- That is all that the device put on the flow.
     pub wrote_all : (f : Flow) → host_wrote (first_of f) w.host ≡ put_on Device f device
-    wrote_all f = sym (wrote_is f) ∙ once_put Device f device (well.sound.fair Device f) (both.once (both_of w) ends Device f)
+    wrote_all f = sym (wrote_is f) ∙ once_put Device f device (well.sound.fair Device f) (both.once (both_of w) ends well.once Device f)
 
     -- A stream with a label is the first connection of its flow.
     pub its_first : (f : Flow) (i : ℕ) (s : Stream) → stream_at i w.host ≡ Some s → s.label ≡ Some f → (seen w.host i s).label ≡ Some (first_of f)
-    its_first f i s at label = first_label w.host _ _ _ _ (well.streams new) (λ g. both.once (both_of w) ends Device g) f i s at label
+    its_first f i s at label = first_label w.host _ _ _ _ (well.streams new) (λ g. both.once (both_of w) ends well.once Device g) f i s at label
 
     pub carried : (f : Flow) → CarriesOn f w
     carried f = both.carry (both_of w) ends w.host _ _ _ (well.streams new) (first_of f) (omega arith) _ _ (record { puts = sent_is f; gets = received_is f })

@@ -82,5 +82,5 @@ uses_once role first (Takes p answer) b s once may anew = asked_once role first 
 uses_once role first step b s once may anew = tt
 
 -- So they are two ends, as the law of both ends has them.
-pub both_ends : (first : ℕ) (b : Both) → IsSound first b → AreOnce b → BothEnds b
-both_ends first b s once = record { fair = s.fair; got = λ role. (s.ties role).packets; asked = once }
+pub both_ends : (first : ℕ) (b : Both) → IsSound first b → BothEnds b
+both_ends first b s = record { fair = s.fair; got = λ role. (s.ties role).packets }

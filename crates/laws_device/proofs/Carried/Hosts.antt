@@ -37,6 +37,10 @@ label_there c id (Some f) k is =
     let flow : f ≡ k.flow = ap (λ (d : Connection). d.flow) same in
     (ap (λ (g : Flow). Some g) flow, sym same ∙ ap (connection_in c id) flow)
 
+pub none_labelled : (c : HostContents) (id : ℕ) (o : Option Flow) → option_map (connection_in c id) o ≡ None → o ≡ None
+none_labelled c id None is = refl
+none_labelled c id (Some f) is = absurd cc
+
 pub label_here : (c : HostContents) (id : ℕ) (st : Stream) (f : Flow) → st.label ≡ Some f → (seen c id st).label ≡ Some (connection_in c id f)
 label_here c id st f is = ap (option_map (connection_in c id)) is
 

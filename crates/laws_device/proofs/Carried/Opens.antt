@@ -20,10 +20,10 @@ use Rattle.vs_page.proofs.{Flows.same_self, Present.present_got}
 use Rattle.vs_proxy_parts.specs.{Handshakes.with_line, Handshakes.without_stream, State.Handshake}
 use Rattle.vs_uds.specs.{OkLine.ok_text, Reading.is_decided, declared.connect.TheConstants.CONNECT_MAX}
 use Rattle.laws_tables.{specs.Drains.Drains, proofs.Adding.got_nothing, proofs.Adding.put_over_got}
-use Rattle.laws_device.specs.Carried.Streamed.{AreCounted, AreLines, AreStreamed, IsCounted, IsStreamed, Seen, connection_in, connection_of, count_in}
+use Rattle.laws_device.specs.Carried.Streamed.{AreCounted, AreLines, AreStreamed, IsCounted, IsStreamed, Seen, connection_of, count_in}
 use Rattle.laws_device.specs.Carried.Streamed.{has_line, line_for, look, reading, seen, seen_as}
 use Rattle.laws_device.proofs.Carried.Hosts.{changed_seen, counts_still, counts_then, here_then, new_there, none_there, others_seen, others_then}
-use Rattle.laws_device.proofs.Carried.{Hosts.others_there, Hosts.there, HostCalls.closed_host, HostCalls.some_seen}
+use Rattle.laws_device.proofs.Carried.{Hosts.none_labelled, Hosts.others_there, Hosts.there, HostCalls.closed_host, HostCalls.some_seen}
 use Rattle.laws_device.proofs.Carried.Counted.{IsAsked, counted_got, number_elsewhere, request_asks}
 use Rattle.laws_device.proofs.Carried.{Streamed.{one_streamed, opened_streamed, recounted}, Hands.with_all}
 use Rattle.laws_device.proofs.Carried.Hands.{with_apart, without_all, without_none, without_pairs}
@@ -216,14 +216,10 @@ module _ (c : HostContents) (log : Log) (port : ℕ) (t : Table DeviceConnection
   free : (b : Seen) → look c id ≡ Some b → b.label ≡ None
   free b is = ap (λ (s : Seen). s.label) (sym (some_seen (reading line) b (sym here ∙ is)))
 
-  unlabelled : (o : Option Flow) → option_map (connection_in c id) o ≡ None → o ≡ None
-  unlabelled None is = refl
-  unlabelled (Some g) is = absurd cc
-
   no_label : has_label id c ≡ false
   no_label =
       let s = there id c (reading line) here in
-      let label : s.stream.label ≡ None = unlabelled s.stream.label (ap (λ (y : Seen). y.label) s.is) in
+      let label : s.stream.label ≡ None = none_labelled c id s.stream.label (ap (λ (y : Seen). y.label) s.is) in
       ap (λ (o : Option Stream). option_map_or (λ (y : Stream). is_some y.label) o false) s.at ∙ ap (λ (o : Option Flow). is_some o) label
 
   list_is : labelled_now.labelled ≡ c.labelled ++ id ∷ []

@@ -1,8 +1,5 @@
-use Rattle.laws_rest.proofs.BothEnds.{carry, carry_id, carry_told, once}
+use Rattle.laws_rest.proofs.BothEnds.{carry, carry_id, carry_told}
 use Rattle.laws_rest.proofs.both_ends.law_of_both_ends.Goals as goal
-
-pub returns-clause-once : goal.returns-clause-once
-returns-clause-once c = λ b role f ends. once b ends role f
 
 pub returns-clause-connections : goal.returns-clause-connections
 returns-clause-connections c = λ b h port table hands k sent received ends streams some tied.

@@ -3,6 +3,7 @@ use Rattle.vs_proxy_parts.specs.State.{Handshake}
 use Rattle.laws_device.specs.Carried.Streamed.{Seen, look, reading}
 use Rattle.laws_world.specs.{Events.run, World.opening}
 use Rattle.laws_world.proofs.{Carried.given_is, Carried.one_stream, Carried.pending_of, Carried.wrote_is, Opening.run_well}
+use Rattle.laws_device.proofs.Carried.Hosts.{none_labelled}
 use Rattle.laws_device.proofs.Carried.Hosts.{there as is_there}
 use Rattle.vs_core.proofs.pipes.law_of_streams.Goals as goal
 
@@ -24,4 +25,4 @@ returns-clause-lines c = λ n host es h fresh there.
     let read = All-contains (λ (g : Handshake). look w.host g.stream ≡ Some (reading g.line)) w.proxy.handshakes h
     ((run_well n host es).streams fresh).streams.lines.read there in
     let st = is_there h.stream w.host (reading h.line) read in
-    (st.stream, st.at, ap (λ (s : Seen). s.label) st.is, ap (λ (s : Seen). s.taken) st.is)
+    (st.stream, st.at, none_labelled w.host h.stream st.stream.label (ap (λ (s : Seen). s.label) st.is), ap (λ (s : Seen). s.taken) st.is)
