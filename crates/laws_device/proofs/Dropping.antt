@@ -1,26 +1,27 @@
 -- Over an honest ring that tells its log the device counts just the packets of the log that it drops, and its ring doesn't fail.
 use Rattle.std.proofs.Common.{◌≡◌, ℕ, ◌+◌, ◌-◌, ◌^◌, min, nat_lt, Bool, true, false, cond, List, [], ◌∷◌, length, take, drop, Option, Some, None}
-use Rattle.std.proofs.{Common.{refl, sym, ap, subst, ◌∙◌, arith}, lemmas.Bool.{Decides.nat_tests, false≢true}}
+use Rattle.std.proofs.{Common.{refl, sym, ap, subst, ◌∙◌, arith}, lemmas.Bool.{Decides.nat_tests}}
 use Rattle.std.specs.{Option.ForSome, Prelude.IsSomeAnd}
+use Rattle.byteorder.specs.Endian.{little_bytes}
 use Rattle.vs_contents.specs.CallTree.{Done, Ask}
-use Rattle.vs_header.specs.{Packet.header_of, declared.Header.Header, declared.TheConstants.HEADER_LEN}
+use Rattle.vs_header.specs.{Packet.header_bytes, Packet.header_of, declared.Header.Header, declared.TheConstants.HEADER_LEN}
 use Rattle.laws_history.specs.{Packets.packet_bytes, Packets.size, declared.packet.Packet.Packet}
 use Rattle.vs_page.specs.declared.log.LogEntry.TheVariants.{GotPacket, PutEvent, PutPacket}
 use Rattle.vs_page.specs.{Fair.IsFairLog, Held.event_held, Held.packet_held, Log.Device, Log.Log, Log.flow_got}
 use Rattle.vs_page.specs.{Open.cid_of, Open.is_dropped}
 use Rattle.vs_page.proofs.Holding.{packet_whole}
-use Rattle.vs_ring_port.specs.{Chains.Held, Chains.bytes_in, Contents.{DeviceAnswer, DeviceCall, Read, RingContents, Take}, DeviceCalls.DeviceAllows}
-use Rattle.vs_ring_port.specs.{DeviceCalls.{DeviceMoves, IsTakenAs, IsTakenWhole}, DriverCalls.HoldsPacket, EndLog.EndLog, EndLog.entries_returned}
+use Rattle.vs_ring_port.specs.{Chains.Held, Chains.bytes_in, Contents.{DeviceAnswer, DeviceCall, PublishCid, Return, RingContents, Take, Write}, DeviceCalls.DeviceAllows}
+use Rattle.vs_ring_port.specs.{DeviceCalls.{DeviceMoves, IsTakenAs, IsTakenWhole}, EndLog.EndLog, EndLog.entries_returned}
 use Rattle.vs_ring_port.specs.{EndLog.{log_reset, log_returned, log_taken, log_written, with_event, with_packet}, Lists.Rings}
-use Rattle.vs_ring_port.specs.declared.{device_ring.Chain.Chain, device_ring.Next.Next, failure.Failure.Failure, queue.Queue.Queue}
+use Rattle.vs_ring_port.specs.declared.{device_ring.Chain.Chain, device_ring.Next.Next, queue.Queue.Queue}
 use Rattle.vs_ring_port.specs.declared.queue.Queue.TheVariants.{Event, Rx, Tx}
 use Rattle.vs_wrap.specs.Wrap.{counted}
 use Rattle.laws_tables.proofs.Fair.{got_formed}
-use Rattle.vs_device_parts.specs.Calls.{Accept, Allows, Answer, Call, CloseStream, DeviceTree, Dial, Label, ReadStream, Ring, ShutWrite, Situation, WriteStream}
-use Rattle.vs_device_parts.specs.Playing.{Runs}
+use Rattle.vs_device_parts.specs.Calls.{Accept, Answer, Call, CloseStream, DeviceTree, Dial, Label, ReadStream, Ring, ShutWrite, Situation, WriteStream}
+use Rattle.vs_device_parts.specs.{Playing.Runs, Receiving.written}
 use Rattle.laws_device.specs.Dropped.{IsCounted, dropped_in}
-use Rattle.laws_device.proofs.Walk.{Counts.{AfterTx, Calls, Counts, HeaderRead, TxCalls, after_next}, Keeping.Asking}
-use Rattle.laws_device.proofs.{Keeping.{Keeps, Lets, asking, lets}, Named.Keeping.asking as asked, Ringing.{Telling, Tells, bytes_held, moves}, Transmitting.header_is}
+use Rattle.laws_device.proofs.Walk.{Fields.{AfterEventPage, AfterTx, Calls, Fields, HeaderRead, TxCalls, after_rx}, Keeping.Asking, Single.OneByOne}
+use Rattle.laws_device.proofs.{Keeping.{Keeps, Lets, lets}, Named.Keeping.asking as asked, Ringing.{Telling, Tells, bytes_held, moves}, Transmitting.header_is}
 use Rattle.laws_device.proofs.Walk.Keeping as walked
 use Rattle.vs_ring_port.specs.declared.device_ring.Next.TheVariants as next
 
@@ -68,29 +69,29 @@ over call a L f R g c d made same A B step at =
     (λ h o l r was fair on. step l (was.0 ∙ on) r (was.1 on) (fair on)) (λ l is. (refl, at l is))
 
 module _ (first : ℕ) where
-  abbrev At : Counts → EndLog → Type 0
+  abbrev At : Fields → EndLog → Type 0
   At n l = IsCounted first n.cid n.dropped n.failed l.entries
 
-  abbrev pub P : Counts → Situation → Type 0
-  P n c = Tells (When (At n)) c
+  abbrev pub P : Option Chain → Fields → Situation → Type 0
+  P page n c = Tells (When (At n)) c
 
-  stays : (n : Counts) (c d : Situation) → d.ring ≡ c.ring → P n c → P n d
+  stays : (n : Fields) (c d : Situation) → d.ring ≡ c.ring → P None n c → P None n d
   stays n c d same at = subst (λ (r : RingContents). ForSome r.log (λ l. r.honest ≡ true → At n l)) (sym same) at
 
   -- A page that isn't of tx is taken.
-  taken_other : (queue : Queue) (n : Counts) (a : Next) (page : Option (List ℕ)) (l : EndLog) → (queue ≡ Tx → ⊥) → IsTakenWhole queue a page → At n l
-      → At n (log_taken queue a page l) × At (after_next a n) (log_taken queue a page l)
+  taken_other : (queue : Queue) (n : Fields) (a : Next) (page : Option (List ℕ)) (l : EndLog) → (queue ≡ Tx → ⊥) → IsTakenWhole queue a page → At n l
+      → At n (log_taken queue a page l)
   taken_other Tx n a page l other whole at = absurd (other refl)
-  taken_other Rx n (next.Chain chain) None l other whole at = (at, at)
-  taken_other Rx n (next.Chain chain) (Some page) l other whole at = (at, at)
-  taken_other Rx n next.None page l other whole at = (at, at)
+  taken_other Rx n (next.Chain chain) None l other whole at = at
+  taken_other Rx n (next.Chain chain) (Some page) l other whole at = at
+  taken_other Rx n next.None page l other whole at = at
   taken_other Rx n (next.Failed f) page l other whole at = absurd whole
-  taken_other Event n (next.Chain chain) None l other whole at = (at, at)
-  taken_other Event n (next.Chain chain) (Some page) l other whole at = (at, at)
-  taken_other Event n next.None page l other whole at = (at, at)
+  taken_other Event n (next.Chain chain) None l other whole at = at
+  taken_other Event n (next.Chain chain) (Some page) l other whole at = at
+  taken_other Event n next.None page l other whole at = at
   taken_other Event n (next.Failed f) page l other whole at = absurd whole
 
-  returned : (n : Counts) (q : Queue) (page : List ℕ) (log : Log) → IsCounted first n.cid n.dropped n.failed log
+  returned : (n : Fields) (q : Queue) (page : List ℕ) (log : Log) → IsCounted first n.cid n.dropped n.failed log
       → IsCounted first n.cid n.dropped n.failed (entries_returned q page log)
   returned n Tx page log at = at
   returned n Rx page log at = by (packet_held page)
@@ -104,51 +105,82 @@ module _ (first : ℕ) where
       by None = at
       by (Some id) = record { cid_is = at.cid_is; dropped_is = at.dropped_is; unfailed = at.unfailed }
 
+  rx_at : (n : Fields) (a : Next) (page : Option (List ℕ)) (l : EndLog) → IsTakenWhole Rx a page → At n l → At (after_rx a n) (log_taken Rx a page l)
+  rx_at n (next.Chain chain) page l whole at = taken_other Rx n (next.Chain chain) page l (λ tx. cc) whole at
+  rx_at n next.None page l whole at = at
+  rx_at n (next.Failed f) page l whole at = absurd whole
+
+  took_page : (queue : Queue) → (queue ≡ Tx → ⊥) → (n : Fields) (a : Next) (c d : Situation) → Moves (Ring (Take queue)) a c d → P None n c → P None n d
+  took_page queue other n a c d made at = over _ _ _ _ _ (log_taken queue a made.0.0) c d made.0.1 made.1 (At n) (At n)
+      (λ l on asked was fair. taken_other queue n a made.0.0 l other (asked.1 on) was) at
+
+  wrote : (chain : Chain) (place : ℕ) (bytes : List ℕ) (n : Fields) (c : Situation) → P None n c
+      → moving.asks (Ring (Write chain place bytes)) c (λ a d. P None n d)
+  wrote chain place bytes n c at = (
+    tt,
+    λ a d made. over _ _ _ _ _ (log_written chain place bytes) c d made.0 made.1 (At n) (At n)
+        (λ l on asked was fair. was) at,
+  )
+
+  returns : (chain : Chain) (len : ℕ) (n : Fields) (c : Situation) → P None n c → moving.asks (Ring (Return chain len)) c (λ a d. P None n d)
+  returns chain len n c at = (
+    tt,
+    λ a d made. over _ _ _ _ _ (log_returned chain len) c d made.0.1 made.1 (At n) (At n)
+        (λ l on asked was fair. returned n chain.queue (take len (bytes_in chain l.held)) l.entries was) at,
+  )
+
+  puts_four : (chain : Chain) (n : Fields) (c : Situation) → P None n c
+      → moving.asks (Ring (Write chain 0 (little_bytes 4 0))) c (λ a d. moving.asks (Ring (Return chain 4)) d (λ b e. P None n e))
+  puts_four chain n c at = let w = wrote chain 0 (little_bytes 4 0) n c at in (tt, λ a d made. returns chain 4 n d (w.1 a d made))
+
+  puts_packet : (chain : Chain) (h : Header) (payload : List ℕ) (n : Fields) (c : Situation) → P None n c
+      → walked.Keeps moving (λ x d. P None n d) (written chain h payload) c
+  puts_packet chain h [] n c at = let w = wrote chain 0 (header_bytes h) n c at in (tt, λ a d made. returns chain HEADER_LEN n d (w.1 a d made))
+  puts_packet chain h (x ∷ payload) n c at =
+      let w = wrote chain 0 (header_bytes h) n c at in
+      (tt, λ a d made. (tt, λ b e more. returns chain _ n e ((wrote chain HEADER_LEN (x ∷ payload) n d (w.1 a d made)).1 b e more)))
+
+  event_page : (n : Fields) (a : Next) (c d : Situation) → Moves (Ring (Take Event)) a c d → P None n c → AfterEventPage moving P a n d
+  event_page n (next.Chain chain) c d made at = puts_four chain n d (took_page Event (λ tx. cc) n (next.Chain chain) c d made at)
+  event_page n next.None c d made at = took_page Event (λ tx. cc) n next.None c d made at
+  event_page n (next.Failed f) c d made at = over _ _ _ _ _ (log_taken Event (next.Failed f) made.0.0) c d made.0.1 made.1 (At n) (At (record n { failed = Some f }))
+      (λ l on asked was fair. absurd (asked.1 on)) at
+
   pub calls : Calls moving P
   calls = record {
-    closes = λ stream n c at. (tt, λ a d same. stays n c d same at);
+    closes = λ page stream n c at. (tt, λ a d same. stays n c d same at);
     shuts = λ stream n c at. (tt, λ a d same. stays n c d same at);
     labels = λ stream flow n c at. (tt, λ a d same. stays n c d same at);
     accepts = λ n c at. (tt, λ a d same. stays n c d same at);
-    dials = λ path flow n c at. (tt, λ a d same. stays n c d same at);
     reads = λ stream room n c at. (tt, λ a d same. stays n c d same at);
     writes = λ stream bytes n c at. (tt, λ a d same. stays n c d same at);
-    takes_rx = λ n c at. (
+    takes_rx = λ n c at none. (
       tt,
-      λ a d made. over _ _ _ _ _ (log_taken Rx a made.0.0) c d made.0.1 made.1 (At n) (At (after_next a n))
-          (λ l on asked was fair. (taken_other Rx n a made.0.0 l (λ tx. cc) (asked.1 on) was).1) at,
+      λ a d made. over _ _ _ _ _ (log_taken Rx a made.0.0) c d made.0.1 made.1 (At n) (At (after_rx a n))
+          (λ l on asked was fair. rx_at n a made.0.0 l (asked.1 on) was) at,
     );
-    takes_event = λ n c at. (
-      tt,
-      λ a d made. over _ _ _ _ _ (log_taken Event a made.0.0) c d made.0.1 made.1 (At n) (At (after_next a n))
-          (λ l on asked was fair. (taken_other Event n a made.0.0 l (λ tx. cc) (asked.1 on) was).1) at,
-    );
-    puts = λ chain place bytes n c at. (
-      tt,
-      λ a d made. over _ _ _ _ _ (log_written chain place bytes) c d made.0 made.1 (At n) (At n)
-          (λ l on asked was fair. was) at,
-    );
-    returns = λ chain len n c at. (
-      tt,
-      λ a d made. over _ _ _ _ _ (log_returned chain len) c d made.0.1 made.1 (At n) (At n)
-          (λ l on asked was fair. returned n chain.queue (take len (bytes_in chain l.held)) l.entries was) at,
-    );
-    publishes = λ cid n c at. (
-      tt,
-      λ a d made. over _ _ _ _ _ (log_reset cid) c d made.0 made.1 (At n) (At (record n { cid = cid }))
-          (λ l on asked was fair. record { cid_is = refl; dropped_is = was.dropped_is; unfailed = was.unfailed }) at,
-    );
+    event = λ n c at owed. (tt, λ a d made. event_page n a c d made at);
+    puts = λ chain h payload n c at is. puts_packet chain h payload n c at;
   }
 
-  pub looks : (n : Counts) (c : Situation) → P n c → moving.asks (Ring (Take Event)) c (λ a d. P n d)
-  looks n c at = (
+  pub publishes : (cid : ℕ) (n : Fields) (c : Situation) → P None n c
+      → moving.asks (Ring (PublishCid cid)) c (λ a d. P None (record n { cid = cid; event_owed = true }) d)
+  publishes cid n c at = (
     tt,
-    λ a d made. over _ _ _ _ _ (log_taken Event a made.0.0) c d made.0.1 made.1 (At n) (At n)
-        (λ l on asked was fair. (taken_other Event n a made.0.0 l (λ tx. cc) (asked.1 on) was).0) at,
+    λ a d made. over _ _ _ _ _ (log_reset cid) c d made.0 made.1 (At n) (At (record n { cid = cid }))
+        (λ l on asked was fair. record { cid_is = refl; dropped_is = was.dropped_is; unfailed = was.unfailed }) at,
   )
 
+  pub alone : OneByOne moving P
+  alone = record {
+    returns = λ chain n c at. returns chain 0 n c at;
+    puts_event = puts_four;
+    looks = λ n c at. (tt, λ a d made. took_page Event (λ tx. cc) n a c d made at);
+    holds = λ chain n c at. at;
+  }
+
   -- A page of tx was taken, which holds a packet as long as its header says.
-  record Took (chain : Chain) (n : Counts) (l : EndLog) : Type 0 where
+  record Took (chain : Chain) (n : Fields) (l : EndLog) : Type 0 where
     page : List ℕ
     packet : Packet
     held : packet_held page ≡ Some packet
@@ -160,7 +192,7 @@ module _ (first : ℕ) where
     there : l.held ≡ record { chain = chain; bytes = page } ∷ others
     readable : chain.readable ≡ length page
 
-  took : (chain : Chain) (n : Counts) (page : Option (List ℕ)) (l : EndLog) → IsTakenAs Tx (next.Chain chain) page
+  took : (chain : Chain) (n : Fields) (page : Option (List ℕ)) (l : EndLog) → IsTakenAs Tx (next.Chain chain) page
       → IsTakenWhole Tx (next.Chain chain) page → At n l → IsFairLog Device (log_taken Tx (next.Chain chain) page l).entries
       → Took chain n (log_taken Tx (next.Chain chain) page l)
   took chain n None l is_taken whole at fair = absurd is_taken
@@ -188,7 +220,7 @@ module _ (first : ℕ) where
   none_more n m is = grind (arith, nat_tests, is)
 
   -- A packet that is got, and dropped or not.
-  got : (n : Counts) (log : Log) (p : Packet) (b : Bool) → IsCounted first n.cid n.dropped n.failed log → is_dropped Device n.cid p.header ≡ b
+  got : (n : Fields) (log : Log) (p : Packet) (b : Bool) → IsCounted first n.cid n.dropped n.failed log → is_dropped Device n.cid p.header ≡ b
       → IsCounted first n.cid (cond b (counted n.dropped) n.dropped) n.failed (GotPacket p ∷ log)
   got n log p b at is = record {
     cid_is = at.cid_is;
@@ -205,7 +237,7 @@ module _ (first : ℕ) where
       by false off = none_more n.dropped m at.dropped_is ∙ ap (λ (x : Bool). min (cond x 1 0 + m) (2 ^ 64 - 1)) (sym off)
 
   -- Its header is read.
-  module _ (chain : Chain) (n : Counts) (h : Header) where
+  module _ (chain : Chain) (n : Fields) (h : Header) where
     record Heard (l : EndLog) : Type 0 where
       took : Took chain n l
       header : took.packet.header ≡ h
@@ -232,7 +264,7 @@ module _ (first : ℕ) where
       comes = λ whole is l there on. judged false is l (tells l there on);
     }
 
-  heard_as : (chain : Chain) (n : Counts) (bytes : List ℕ) (l : EndLog) → bytes ≡ take HEADER_LEN (drop 0 (bytes_in chain l.held)) → Took chain n l
+  heard_as : (chain : Chain) (n : Fields) (bytes : List ℕ) (l : EndLog) → bytes ≡ take HEADER_LEN (drop 0 (bytes_in chain l.held)) → Took chain n l
       → Heard chain n (header_of bytes) l
   heard_as chain n bytes l is t = record {
     took = t;
@@ -240,7 +272,7 @@ module _ (first : ℕ) where
         ∙ sym (ap header_of (is ∙ ap (take HEADER_LEN) (bytes_held chain t.page t.others l t.there)));
   }
 
-  tx_taken : (n : Counts) (c : Situation) (a : Next) (d : Situation) → Moves (Ring (Take Tx)) a c d → P n c → AfterTx moving P a n d
+  tx_taken : (n : Fields) (c : Situation) (a : Next) (d : Situation) → Moves (Ring (Take Tx)) a c d → P None n c → AfterTx moving P a n d
   tx_taken n c (next.Chain chain) d made at =
       let now = over _ _ _ _ _ (log_taken Tx (next.Chain chain) made.0.0) c d made.0.1 made.1 (At n) (Took chain n)
       (λ l on asked was fair. took chain n made.0.0 l asked.0 (asked.1 on) was fair) at in (
@@ -258,4 +290,6 @@ module _ (first : ℕ) where
   tx_calls = record {
     takes = λ n c at. (tt, λ a d made. tx_taken n c a d made at);
     reads = λ chain len n c at. (tt, λ bytes d made. over _ _ _ _ _ (λ l. l) c d made.0 made.1 (At n) (At n) (λ l on asked was fair. was) at);
+    dials = λ chain path flow n c at. (tt, λ a d same. stays n c d same at);
+    returns = λ chain n c at. returns chain 0 n c at;
   }

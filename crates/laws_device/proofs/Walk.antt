@@ -3,5 +3,5 @@ pub mod Keeping
 pub mod Serving
 pub mod Taking
 pub mod Turning
-pub mod Counts
+pub mod Fields
 pub mod Single

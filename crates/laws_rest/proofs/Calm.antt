@@ -4,11 +4,6 @@ use Rattle.std.specs.Option.{IfSome}
 use Rattle.vs_contents.specs.{CallTree.Ask, CallTree.Done, Contents.Exposes}
 use Rattle.laws_history.specs.declared.packet.Packet.{Packet}
 use Rattle.vs_header.specs.declared.Header.{Header}
-use Rattle.vs_outside.specs.declared.host_net.{Accepted.Accepted, StreamRead.StreamRead, StreamWrite.StreamWrite, Dialed.Dialed}
-use Rattle.vs_outside.specs.declared.host_net.Accepted.TheVariants as accepted
-use Rattle.vs_outside.specs.declared.host_net.Dialed.TheVariants as dialed
-use Rattle.vs_outside.specs.declared.host_net.StreamRead.TheVariants as read
-use Rattle.vs_outside.specs.declared.host_net.StreamWrite.TheVariants as write
 use Rattle.vs_page.specs.{Held.packet_held, Log.{events_put, Log}, declared.log.LogEntry.TheVariants.{GotPacket, PutPacket}}
 use Rattle.vs_ring_port.specs.{Chains.chain_of, Contents.{DeviceAnswer, DeviceCall, Given, PublishCid, Read, Return, RingContents, Take}}
 use Rattle.vs_ring_port.specs.{Contents.Write, EndLog.{EndLog, entries_returned, log_returned, log_taken, log_written, with_packet}}
@@ -16,13 +11,9 @@ use Rattle.vs_ring_port.specs.declared.{device_ring.Chain.Chain, device_ring.Nex
 use Rattle.vs_ring_port.specs.declared.queue.Queue.TheVariants.{Event, Rx, Tx}
 use Rattle.vs_ring_port.specs.declared.device_ring.Next.TheVariants as next
 use Rattle.vs_device_parts.specs.Calls.{Allows, Answer, Call, DeviceTree, IsFitChain, ReadStream, Ring}
-use Rattle.vs_device_parts.specs.{Calls.Situation, Calls.WriteStream, Playing.Runs, State.DeviceEntry, State.DeviceState}
-use Rattle.vs_proxy_parts.specs.{State.Handshake, State.ProxyState, declared.answers.Turn.Turn, Turns.turn_of}
-use Rattle.laws_device.specs.Walk.Seen.{Seen}
-use Rattle.laws_device.proofs.Walk.{Keeping.{Asking, Keeps}, Serving.{AfterRead, AfterWrite, Closes, Fills, Writes}, Taking.AfterDial}
-use Rattle.laws_device.proofs.Walk.{Taking.Takes, Turning.{AfterAccept, AfterByte, Between, Shakes, keeps_turn}}
-use Rattle.laws_device.proofs.Walk.Serving as serving
-use Rattle.laws_device.proofs.Walk.Taking as taking
+use Rattle.vs_device_parts.specs.{Calls.Situation, Calls.WriteStream, Playing.Runs, Receiving.written, State.DeviceState}
+use Rattle.vs_proxy_parts.specs.{State.ProxyState, declared.answers.Turn.Turn, Turns.turn_of}
+use Rattle.laws_device.proofs.Walk.{Fields.{AfterTx, Calls, Fields, TxCalls, after_rx, fields_turn}, Keeping.{Asking, Keeps}}
 use Rattle.laws_rest.specs.{Calm.OwesNoEvent, Calm.resets_in, Rest.has_no_mark}
 
 -- Such a call, and a chain that fits its queue.
@@ -112,11 +103,8 @@ calm_runs Q (Ask call k) s t x calm runs =
     (rest.0, rest.1 ∙ call_same call runs.0 s runs.1 calm.0 runs.2)
 
 -- No event is owed, the chain that is held is one of rx, and a page that is taken one of tx.
-abbrev D : List Handshake → Option Chain → Seen → Unit {0} → Type 0
-D hands page s c = ((s.event_owed ≡ false) × IfSome s.chain (λ chain. chain.queue ≡ Rx)) × IfSome page (λ chain. chain.queue ≡ Tx)
-
-abbrev U : List Handshake → Chain → Header → Seen → Unit {0} → Type 0
-U hands chain h s c = D hands (Some chain) s c
+abbrev P : Option Chain → Fields → Unit {0} → Type 0
+P page n c = ((n.event_owed ≡ false) × IfSome n.chain (λ chain. chain.queue ≡ Rx)) × IfSome page (λ chain. chain.queue ≡ Tx)
 
 abbrev Owes : DeviceState → Type 0
 Owes s = OwesNoEvent s × Unit {0}
@@ -130,84 +118,46 @@ rx_other o chain is rx same =
     let both : Rx ≡ Event = sym held ∙ same in
     absurd cc
 
-module _ (hands : List Handshake) where
-  closes : Closes calls (D hands)
-  closes = record {
-    cuts = λ e s c is at still. (tt, λ a fit. at);
-    was_cut = λ e s c is at closed. at;
-    leaves = λ page e v s c is closed stream at still. (tt, λ a fit. at);
-    was_left = λ page e v s c is closed stream at gone. at;
-  }
+held : (a : Next) (n : Fields) → IfSome (chain_of a) (λ chain. chain.queue ≡ Rx) → P None n tt → P None (after_rx a n) tt
+held (next.Chain chain) n fit at = ((at.0.0, fit), tt)
+held next.None n fit at = at
+held (next.Failed f) n fit at = at
 
-  wrote : (e : DeviceEntry) (s : DeviceState) (a : StreamWrite) → Owes s → AfterWrite calls (D hands) e s a tt
-  wrote e s (write.Took n) at = at
-  wrote e s _ at = at
+puts_packet : (chain : Chain) (h : Header) (payload : List ℕ) (n : Fields) → chain.queue ≢ Event → P None n tt
+    → Keeps calls (λ x c. P None (record n { chain = None }) c) (written chain h payload) tt
+puts_packet chain h [] n other at = (tt, λ a fit. (other, λ b any. ((at.0.0, tt), tt)))
+puts_packet chain h (x ∷ payload) n other at = (tt, λ a fit. (tt, λ b any. (other, λ d more. ((at.0.0, tt), tt))))
 
-  writes : Writes calls (D hands)
-  writes = record { writes = λ e s c is still at. (tt, λ a fit. wrote e s a at); shuts = λ e s c is out at. (tt, λ a fit. at) }
+plain : Calls calls P
+plain = record {
+  closes = λ page stream n c at. (tt, λ a fit. at);
+  shuts = λ stream n c at. (tt, λ a fit. at);
+  labels = λ stream flow n c at. (tt, λ a fit. at);
+  accepts = λ n c at. (tt, λ a fit. at);
+  reads = λ stream room n c at. (tt, λ a fit. at);
+  writes = λ stream bytes n c at. (tt, λ a fit. at);
+  takes_rx = λ n c at none. (tt, λ a fit. held a n fit at);
+  event = λ n c at owed. absurd (let no : true ≡ false = sym owed ∙ at.0.0 in cc);
+  puts = λ chain h payload n c at is. puts_packet chain h payload n (rx_other n.chain chain is at.0.1) at;
+}
 
-  held : (s : DeviceState) (n : Next) → IfSome (chain_of n) (λ chain. chain.queue ≡ Rx) → Owes s → serving.AfterTake calls (D hands) s n tt
-  held s (next.Chain chain) fit at = ((at.0.0, fit), tt)
-  held s _ fit at = at
+taken : (a : Next) (n : Fields) → IfSome (chain_of a) (λ chain. chain.queue ≡ Tx) → P None n tt → AfterTx calls P a n tt
+taken (next.Chain chain) n fit at =
+    (tt, λ bytes any. record { short = λ no. at; drops = λ whole no. (at.0, fit); comes = λ whole kept. (at.0, fit) })
+taken next.None n fit at = at
+taken (next.Failed f) n fit at = at
 
-  have_read : (e : DeviceEntry) (chain : Chain) (s : DeviceState) (a : StreamRead) (payload : List ℕ) → chain.queue ≢ Event → Owes s
-      → AfterRead calls (D hands) e chain s a payload tt
-  have_read e chain s (read.Got n) [] other at = (tt, λ a fit. (other, λ b any. ((at.0.0, tt), tt)))
-  have_read e chain s (read.Got n) (x ∷ payload) other at = (tt, λ a fit. (tt, λ b any. (other, λ d more. ((at.0.0, tt), tt))))
-  have_read e chain s _ payload other at = at
-
-  fills : Fills calls (D hands)
-  fills = record {
-    event = λ s c at owed. absurd (let no : true ≡ false = sym owed ∙ at.0.0 in cc);
-    holds = λ s c at none. (tt, λ a fit. held s a fit at);
-    puts = λ h chain s c at is. (tt, λ a fit. (rx_other s.chain chain is at.0.1, λ b any. ((at.0.0, tt), tt)));
-    reads = λ e chain s c is at held may. (tt, λ a fit. have_read e chain s a.0 a.1 (rx_other s.chain chain held at.0.1) at);
-    wants = λ e s c is at. at;
-    pays = λ e what asked s c is owes at. at;
-  }
-
-  taken_by : (s : DeviceState) (n : Next) → IfSome (chain_of n) (λ chain. chain.queue ≡ Tx) → Owes s
-      → taking.AfterTake calls (D hands) (U hands) s n tt
-  taken_by s (next.Chain chain) fit at =
-      (tt, λ bytes any. record { short = λ no. at; drops = λ whole no. (at.0, fit); comes = λ whole kept. (at.0, fit) })
-  taken_by s _ fit at = at
-
-  dials : (chain : Chain) (h : Header) (s : DeviceState) (a : Dialed) → OwesNoEvent s × (chain.queue ≡ Tx)
-      → AfterDial calls (D hands) (U hands) chain h s a tt
-  dials chain h s (dialed.Stream id) at = at
-  dials chain h s _ at = at
-
-  takes : Takes calls (D hands) (U hands)
-  takes = record {
-    takes = λ s c at. (tt, λ a fit. taken_by s a fit at);
-    returns = λ chain s c at. (tx_other chain.queue at.1, λ a fit. (at.0, tt));
-    ignores = λ chain h s c at. at;
-    dials = λ chain h s c none place at. (tt, λ a fit. dials chain h s a at);
-    accepts = λ chain h e s c found is at. at;
-    delivers = λ chain h e s c found is at. (tt, λ a fit. at);
-    hears = λ chain h e s c v found is other at. at;
-  }
-
-accepted_by : (hands : List Handshake) (port : ℕ) (s : DeviceState) (a : Accepted) → Owes s → AfterAccept calls (Between D) hands port s a tt
-accepted_by hands port s (accepted.Stream id) at = at
-accepted_by hands port s _ at = at
-
-byte_read : (h : Handshake) (hands : List Handshake) (port : ℕ) (s : DeviceState) (a : StreamRead) (bytes : List ℕ) → Owes s
-    → AfterByte calls (Between D) h hands port s a bytes tt
-byte_read h hands port s (read.Got n) bytes at =
-    record { more = λ is. at; ends = (tt, λ a fit. at); refused = λ guest fault may is. at; opens = λ guest is may none. (tt, λ a fit. at) }
-byte_read h hands port s _ bytes at = at
-
-shakes : Shakes calls (Between D)
-shakes = record {
-  drops = λ h hands port s c on at. (tt, λ a fit. at);
-  accepts = λ hands port s c at. (tt, λ a fit. accepted_by hands port s a at);
-  reads = λ h hands port s c on at. (tt, λ a fit. byte_read h hands port s a.0 a.1 at);
+tx_calls : TxCalls calls P
+tx_calls = record {
+  takes = λ n c at. (tt, λ a fit. taken a n fit at);
+  reads = λ chain len n c at. (tt, λ bytes any. at);
+  dials = λ chain path flow n c at. (tt, λ a fit. at);
+  returns = λ chain n c at. (tx_other chain.queue at.1, λ a fit. (at.0, tt));
 }
 
 pub calm_turns : (size now : ℕ) (s : ProxyState) (a b : Situation) (x : ProxyState × Turn) → OwesNoEvent s.device → Runs (turn_of size now s) a x b
     → OwesNoEvent x.0.device × (resets_in b.ring.log ≡ resets_in a.ring.log)
 calm_turns size now s a b x d runs =
     let same = calm_runs (λ (y : ProxyState × Turn). Owes y.0.device) (turn_of size now s) a b x
-    (keeps_turn calls D shakes closes U takes writes fills size now s tt (d, tt)) runs in
+    (fields_turn calls P plain tx_calls size now s tt (d, tt)) runs in
     (same.0.0, same.1)

@@ -7,14 +7,16 @@ use Rattle.vs_outside.specs.Host.{accept_failed, called, dial_failed, read_faile
 use Rattle.vs_outside.specs.Host.{dial_answer, fails_now, is_listened, oldest_client, read_answer, read_of, stream_at, taken_of}
 use Rattle.vs_outside.specs.{Host.{write_answer, write_of}, Faults.{counted_down, fails_next}, declared.host_net.Accepted.Accepted}
 use Rattle.vs_outside.specs.declared.host_net.{Dialed.Dialed, StreamRead.StreamRead, StreamWrite.StreamWrite}
-use Rattle.vs_ring_port.specs.declared.device_ring.{Next.Next}
+use Rattle.vs_header.specs.declared.Header.{Header}
+use Rattle.vs_ring_port.specs.declared.device_ring.{Chain.Chain, Next.Next}
 use Rattle.vs_flow.specs.declared.flow.Flow.{Flow}
 use Rattle.vs_wrap.specs.Wrap.{counted}
-use Rattle.vs_device_parts.specs.Calls.{DeviceTree}
+use Rattle.vs_ring_port.specs.{Contents.Take, declared.queue.Queue.TheVariants.{Event, Rx}}
+use Rattle.vs_device_parts.specs.{Calls.DeviceTree, Calls.Ring, Receiving.written}
 use Rattle.vs_contents.specs.CallTree.{Ask, Done, played}
 use Rattle.vs_ring_port.specs.declared.failure.Failure.{Failure}
 use Rattle.vs_proxy_parts.specs.{State.ProxyState, Turns.proxy_reset_of, Turns.turn_of, declared.answers.Turn.Turn}
-use Rattle.laws_device.proofs.Walk.{Counts.{AfterTx, Calls, Counts, TxCalls, counts_turn, faulted}, Keeping.Asking, Keeping.Keeps, Single.reset_counts}
+use Rattle.laws_device.proofs.Walk.{Fields.{AfterEventPage, AfterTx, Calls, Fields, TxCalls, after_rx, faulted, fields_turn}, Keeping.Asking, Keeping.Keeps, Single.reset_keeps}
 use Rattle.laws_world.specs.{Answers.Around, Answers.answer_around, Plays.reset_line, Plays.turn_line, World.World, World.around}
 use Rattle.vs_outside.specs.declared.host_net.Accepted.TheVariants as accepted
 use Rattle.vs_outside.specs.declared.host_net.Dialed.TheVariants as dialed
@@ -55,8 +57,8 @@ module _ (m : ℕ) where
   abbrev Within : ℕ → List ℕ → Type 0
   Within faults calls = faults + length calls ≤ m
 
-  abbrev P : Counts → Around → Type 0
-  P n a = Within n.faults a.host.to_fail
+  abbrev P : Option Chain → Fields → Around → Type 0
+  P page n a = Within n.faults a.host.to_fail
 
   went : (faults : ℕ) (h : HostContents) → Within faults h.to_fail → Within faults (called h).to_fail
   went faults h at = let less = shorter h.to_fail in by (fails_now h) less
@@ -130,50 +132,67 @@ module _ (m : ℕ) where
   abbrev on : HostContents → Around → Around
   on h a = record a { host = h }
 
-  wrote : (n : Counts) (stream : ℕ) (bytes : List ℕ) (x : StreamWrite) (a : Around) → P n a → write_answer stream (length bytes) a.host ≡ x
-      → P (faulted (write_failed x) n) (on (after_write stream bytes x a.host) a)
+  wrote : (n : Fields) (stream : ℕ) (bytes : List ℕ) (x : StreamWrite) (a : Around) → P None n a → write_answer stream (length bytes) a.host ≡ x
+      → P None (faulted (write_failed x) n) (on (after_write stream bytes x a.host) a)
   wrote n stream bytes write.Failed a at is =
       subst (Within (counted n.faults)) (sym (after_failed_is a.host)) (fails n.faults a.host at (write_to_fail stream (length bytes) a.host is))
   wrote n stream bytes _ a at is = went n.faults a.host at
 
-  have_read : (n : Counts) (stream room : ℕ) (x : StreamRead) (a : Around) → P n a → read_answer stream room a.host ≡ x
-      → P (faulted (read_failed x) n) (on (after_read stream x a.host) a)
+  have_read : (n : Fields) (stream room : ℕ) (x : StreamRead) (a : Around) → P None n a → read_answer stream room a.host ≡ x
+      → P None (faulted (read_failed x) n) (on (after_read stream x a.host) a)
   have_read n stream room read.Failed a at is = fails n.faults a.host at (read_to_fail stream room a.host is)
   have_read n stream room _ a at is = went n.faults a.host at
 
-  dials : (n : Counts) (path : List ℕ) (flow : Flow) (x : Dialed) (a : Around) → P n a → dial_answer path a.host ≡ x
-      → P (faulted (dial_failed x) n) (on (after_dial flow x a.host) a)
+  dials : (n : Fields) (path : List ℕ) (flow : Flow) (x : Dialed) (a : Around) → P None n a → dial_answer path a.host ≡ x
+      → P None (faulted (dial_failed x) n) (on (after_dial flow x a.host) a)
   dials n path flow dialed.Failed a at is =
       subst (Within (counted n.faults)) (sym (after_failed_is a.host)) (fails n.faults a.host at (dial_to_fail path a.host is))
   dials n path flow _ a at is = went n.faults a.host at
 
-  accepts : (n : Counts) (x : Accepted) (a : Around) → P n a → accept_answer a.host ≡ x → P (faulted (accept_failed x) n) (on (after_accept x a.host) a)
+  accepts : (n : Fields) (x : Accepted) (a : Around) → P None n a → accept_answer a.host ≡ x → P None (faulted (accept_failed x) n) (on (after_accept x a.host) a)
   accepts n accepted.Failed a at is = fails n.faults a.host at (accept_to_fail a.host is)
   accepts n _ a at is = went n.faults a.host at
 
+  rx_page : (x : Next) (n : Fields) (a : Around) → P None n a → P None (after_rx x n) a
+  rx_page (next.Chain chain) n a at = at
+  rx_page next.None n a at = at
+  rx_page (next.Failed f) n a at = at
+
+  event_page : (x : Next) (n : Fields) (a : Around) → P None n a → AfterEventPage playing P x n a
+  event_page (next.Chain chain) n a at = at
+  event_page next.None n a at = at
+  event_page (next.Failed f) n a at = at
+
+  puts_packet : (chain : Chain) (h : Header) (payload : List ℕ) (n : Fields) (a : Around) → P None n a
+      → Keeps playing (λ x b. P None n b) (written chain h payload) a
+  puts_packet chain h [] n a at = at
+  puts_packet chain h (x ∷ payload) n a at = at
+
   calls : Calls playing P
   calls = record {
-    closes = λ stream n a at. at;
+    closes = λ page stream n a at. at;
     shuts = λ stream n a at. at;
     labels = λ stream flow n a at. at;
     accepts = λ n a at. accepts n _ a at refl;
-    dials = λ path flow n a at. dials n path flow _ a at refl;
     reads = λ stream room n a at. have_read n stream room _ a at refl;
     writes = λ stream bytes n a at. wrote n stream bytes _ a at refl;
-    takes_rx = λ n a at. at;
-    takes_event = λ n a at. at;
-    puts = λ chain place bytes n a at. at;
-    returns = λ chain len n a at. at;
-    publishes = λ cid n a at. at;
+    takes_rx = λ n a at none. let r = answer_around (Ring (Take Rx)) a in rx_page r.0 n r.1 at;
+    event = λ n a at owed. let r = answer_around (Ring (Take Event)) a in event_page r.0 n r.1 at;
+    puts = λ chain h payload n a at is. puts_packet chain h payload n a at;
   }
 
-  taken : (n : Counts) (x : Next) (a : Around) → P n a → AfterTx playing P x n a
-  taken n (next.Chain chain) a at = record { short = λ is. at; drops = λ whole is. at; comes = λ whole is. at }
-  taken n next.None a at = at
-  taken n (next.Failed f) a at = at
+  taken : (x : Next) (n : Fields) (a : Around) → P None n a → AfterTx playing P x n a
+  taken (next.Chain chain) n a at = record { short = λ is. at; drops = λ whole is. at; comes = λ whole is. at }
+  taken next.None n a at = at
+  taken (next.Failed f) n a at = at
 
   tx_calls : TxCalls playing P
-  tx_calls = record { takes = λ n a at. taken n _ _ at; reads = λ chain len n a at. at }
+  tx_calls = record {
+    takes = λ n a at. taken _ n _ at;
+    reads = λ chain len n a at. at;
+    dials = λ chain path flow n a at. dials n path flow _ a at refl;
+    returns = λ chain n a at. at;
+  }
 
   -- A turn and a transport reset.
   abbrev pub FailsWithin : World → Type 0
@@ -182,9 +201,9 @@ module _ (m : ℕ) where
   pub turn_fails : (now : ℕ) (w : World) → FailsWithin w → FailsWithin (turn_line now w).0
   turn_fails now w at =
       keeps_played (λ (x : ProxyState × Turn) b. Within x.0.device.faults b.host.to_fail)
-      (turn_of w.rings.lists.size now w.proxy) (around w) (counts_turn playing P calls tx_calls w.rings.lists.size now w.proxy (around w) at)
+      (turn_of w.rings.lists.size now w.proxy) (around w) (fields_turn playing P calls tx_calls w.rings.lists.size now w.proxy (around w) at)
 
   pub reset_fails : (cid : ℕ) (w : World) → FailsWithin w → FailsWithin (reset_line cid w).0
   reset_fails cid w at =
       keeps_played (λ (x : ProxyState × Result (Unit {0}) Failure) b. Within x.0.device.faults b.host.to_fail)
-      (proxy_reset_of cid w.proxy) (around w) (reset_counts playing P calls cid w.proxy (around w) at)
+      (proxy_reset_of cid w.proxy) (around w) (reset_keeps playing P calls cid (λ n a at. at) w.proxy (around w) at)

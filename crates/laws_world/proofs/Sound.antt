@@ -47,7 +47,7 @@ use Rattle.laws_device.specs.Honest.{is_held, IsFitState as IsFitDevice}
 use Rattle.laws_device.proofs.Keeping.{Keeps as DeviceKeeps, keeps_weaker as device_weaker}
 use Rattle.laws_world.proofs.DeviceWalks.{walk as device_walk}
 use Rattle.laws_device.specs.Dropped.{IsCounted}
-use Rattle.laws_device.proofs.{Dropping.{P, calls, keeps_both, looks, moving, tx_calls}, Walk.Counts.counts}
+use Rattle.laws_device.proofs.{Dropping.{P, alone, calls, keeps_both, moving, publishes, tx_calls}, Walk.Fields.fields}
 use Rattle.laws_device.proofs.Walk.Keeping as moved
 use Rattle.laws_device.proofs.Walk.Single as one
 use Rattle.laws_driver.proofs.Staging.{Ties as DriverTies}
@@ -305,22 +305,22 @@ module _ (fresh : Type 0) (w : World) (well : IsWell fresh w) where
   )
 
   -- What it counted so far.
-  pub counted_now : (n : ℕ) → P first_cid (counts w.proxy.device) (around_it n)
+  pub counted_now : (n : ℕ) → P first_cid None (fields w.proxy.device) (around_it n)
   counted_now n = λ l is on. subst (λ (k : EndLog). IsCounted first_cid w.proxy.device.cid w.proxy.device.dropped w.proxy.device.failed k.entries)
       (one_told is) well.counted
 
   device_goes : {A : Type 0} (tree : DeviceTree A) (state_of : A → ProxyState) → DeviceKeeps (λ x d. Proxied carry first_cid (state_of x) d) tree (around_it 0)
-      → moved.Keeps moving (λ x d. P first_cid (counts (state_of x).device) d) tree (around_it 0)
+      → moved.Keeps moving (λ x d. P first_cid None (fields (state_of x).device) d) tree (around_it 0)
       → Goes fresh w (record (device_plays tree w).1 { proxy = state_of (device_plays tree w).0 })
   device_goes {A} tree state_of keeps counting =
       let r = played answer_around tree (around w) in
-      let Both_kept : A → Situation → Type 0 = λ x d. Proxied carry first_cid (state_of x) d × P first_cid (counts (state_of x).device) d in
+      let Both_kept : A → Situation → Type 0 = λ x d. Proxied carry first_cid (state_of x) d × P first_cid None (fields (state_of x).device) d in
       let ends = device_walk w.rings driver_fit Both_kept tree (around w) 0 (record {
         tied = well.tied;
         cid = well.known;
         given = (well.pages.0, well.pages.2);
         heads = well.heads;
-      }) (keeps_both (λ x d. P first_cid (counts (state_of x).device) d) (λ x d. Proxied carry first_cid (state_of x) d) tree (around_it 0) keeps counting) in
+      }) (keeps_both (λ x d. P first_cid None (fields (state_of x).device) d) (λ x d. Proxied carry first_cid (state_of x) d) tree (around_it 0) keeps counting) in
       let kept_so = ends.1.0 in
       let told = kept_so.1.1 r.1.log refl in
       let now = told.1 refl in
@@ -361,13 +361,13 @@ module _ (fresh : Type 0) (w : World) (well : IsWell fresh w) where
   abbrev pub device_with : DeviceState → Situation → Type 0
   device_with = With carry w.proxy.handshakes first_cid w.proxy.next_port
 
-  device_step_goes : (step : DeviceState → DeviceTree DeviceState) → one.Counting moving (P first_cid) (calls first_cid) step
+  device_step_goes : (step : DeviceState → DeviceTree DeviceState) → one.Keeping moving (P first_cid) step
       → DeviceKeeps device_with (step w.proxy.device) (around_it 0) → Goes fresh w (device_step step w)
   device_step_goes step counting keeps = device_goes (step w.proxy.device) (λ s. with_device s w.proxy)
       (device_weaker device_with (λ x d. Proxied carry first_cid (with_device x w.proxy) d) (λ x d kept. (well.device.port, kept)) (step w.proxy.device) (around_it 0) keeps)
       (counting w.proxy.device (around_it 0) (counted_now 0))
 
-  proxy_step_goes : (step : Turning → DeviceTree Turning) → one.Turns moving (P first_cid) (calls first_cid) step
+  proxy_step_goes : (step : Turning → DeviceTree Turning) → one.Turns moving (P first_cid) step
       → DeviceKeeps (Turns carry first_cid) (step (start w.proxy)) (around_it 0) → Goes fresh w (proxy_step step w)
   proxy_step_goes step counting keeps = device_goes (step (start w.proxy)) (λ t. t.state) keeps (counting (start w.proxy) (around_it 0) (counted_now 0))
 
@@ -397,12 +397,12 @@ module _ (fresh : Type 0) (w : World) (well : IsWell fresh w) where
   held_now : device_with fresh w well w.proxy.device here
   held_now = (proxied fresh w well 0).1
 
-  device_goes_on : (step : DeviceState → DeviceTree DeviceState) → one.Counting moving (P first_cid) (calls first_cid) step
+  device_goes_on : (step : DeviceState → DeviceTree DeviceState) → one.Keeping moving (P first_cid) step
       → (w.proxy.device.failed ≡ None → DeviceKeeps (device_with fresh w well) (step w.proxy.device) here)
       → Goes fresh w (unless_failed (device_step step) w)
   device_goes_on step counting keeps = unfailed fresh (device_step step) w well (λ going. device_step_goes fresh w well step counting (keeps going))
 
-  proxy_goes_on : (step : Turning → DeviceTree Turning) → one.Turns moving (P first_cid) (calls first_cid) step
+  proxy_goes_on : (step : Turning → DeviceTree Turning) → one.Turns moving (P first_cid) step
       → DeviceKeeps (Turns kept first_cid) (step (start w.proxy)) here → Goes fresh w (unless_failed (proxy_step step) w)
   proxy_goes_on step counting keeps = unfailed fresh (proxy_step step) w well (λ going. proxy_step_goes fresh w well step counting keeps)
 
@@ -462,37 +462,38 @@ module _ (fresh : Type 0) (w : World) (well : IsWell fresh w) where
   happens_goes (GuestPublishes queue) =
       possible fresh (works_on queue w.rings.driver.staged) (driver_step (publish_of queue)) w well (publishes_goes fresh w well queue)
   happens_goes (DeviceTakes queue) = device_goes_on (takes_chain queue)
-      (one.takes_counts moving (P first_cid) (calls first_cid) (tx_calls first_cid) (looks first_cid) queue) (λ going.
+      (one.takes_keeps moving (P first_cid) (calls first_cid) (tx_calls first_cid) (alone first_cid) queue) (λ going.
       device_steps.takes_keeps kept (all fresh w well) w.proxy.handshakes first_cid w.proxy.next_port w.proxy.device here going held_now queue)
   happens_goes (DeviceReturns chain) = possible fresh (holds q.Tx chain w) (device_step (returns chain)) w well (λ may.
       let parts = and_parts _ _ may in
-      device_step_goes fresh w well (returns chain) (one.returns_counts moving (P first_cid) (calls first_cid) chain)
+      device_step_goes fresh w well (returns chain) (one.returns_keeps moving (P first_cid) (calls first_cid) (tx_calls first_cid) (alone first_cid) chain)
       (device_steps.returns_keeps kept (all fresh w well) w.proxy.handshakes first_cid w.proxy.next_port w.proxy.device here held_now
       chain (sym (same_queue_is q.Tx chain.queue parts.0)) (held_there chain parts.1)))
   happens_goes (DevicePutsEvent chain) = possible fresh (holds_event chain w) (device_step (puts_event chain)) w well (λ may.
       let room = and_parts (holds q.Event chain w) (nat_le 4 chain.writable) may in
       let parts = and_parts _ _ room.0 in
-      device_step_goes fresh w well (puts_event chain) (one.puts_event_counts moving (P first_cid) (calls first_cid) chain)
+      device_step_goes fresh w well (puts_event chain) (one.puts_event_keeps moving (P first_cid) (calls first_cid) (tx_calls first_cid) (alone first_cid) chain)
       (device_steps.puts_event_keeps kept (all fresh w well) w.proxy.handshakes first_cid w.proxy.next_port w.proxy.device here held_now
       chain (sym (same_queue_is q.Event chain.queue parts.0)) (grind (arith, nat_tests, room.1)) (held_there chain parts.1)))
-  happens_goes DeviceReplies = device_goes_on puts_reply (one.puts_reply_counts moving (P first_cid) (calls first_cid)) (λ going.
+  happens_goes DeviceReplies = device_goes_on puts_reply (one.puts_reply_keeps moving (P first_cid) (calls first_cid)) (λ going.
       device_steps.puts_reply_keeps kept (all fresh w well) w.proxy.handshakes first_cid w.proxy.next_port w.proxy.device here going held_now)
-  happens_goes (DeviceReads slot) = device_goes_on (puts_payload slot) (one.puts_payload_counts moving (P first_cid) (calls first_cid) slot) (λ going.
+  happens_goes (DeviceReads slot) = device_goes_on (puts_payload slot) (one.puts_payload_keeps moving (P first_cid) (calls first_cid) slot) (λ going.
       device_steps.puts_payload_keeps kept (all fresh w well) w.proxy.handshakes first_cid w.proxy.next_port w.proxy.device here going held_now slot)
-  happens_goes (DevicePays slot) = device_goes_on (puts_owed slot) (one.puts_owed_counts moving (P first_cid) (calls first_cid) slot) (λ going.
+  happens_goes (DevicePays slot) = device_goes_on (puts_owed slot) (one.puts_owed_keeps moving (P first_cid) (calls first_cid) slot) (λ going.
       device_steps.puts_owed_keeps kept (all fresh w well) w.proxy.handshakes first_cid w.proxy.next_port w.proxy.device here going held_now slot)
-  happens_goes (DeviceWrites slot) = device_goes_on (writes slot) (one.writes_counts moving (P first_cid) (calls first_cid) slot) (λ going.
+  happens_goes (DeviceWrites slot) = device_goes_on (writes slot) (one.writes_keeps moving (P first_cid) (calls first_cid) slot) (λ going.
       device_steps.writes_keeps kept (all fresh w well) w.proxy.handshakes first_cid w.proxy.next_port w.proxy.device here held_now slot)
-  happens_goes (DeviceShutsWrite slot) = device_goes_on (shuts_write slot) (one.shuts_counts moving (P first_cid) (calls first_cid) slot) (λ going.
+  happens_goes (DeviceShutsWrite slot) = device_goes_on (shuts_write slot) (one.shuts_keeps moving (P first_cid) (calls first_cid) slot) (λ going.
       device_steps.shuts_keeps kept (all fresh w well) w.proxy.handshakes first_cid w.proxy.next_port w.proxy.device here held_now slot)
   happens_goes (DeviceGrows flow alloc) =
       device_goes fresh w well (Done (after_flow_grow flow alloc w.proxy)) (λ s. s) (flow_grow_proxied flow alloc w.proxy kept first_cid here (proxied fresh w well 0))
-      (flow_grow_stays flow alloc w.proxy (λ d. P first_cid (counts d) here) (counted_now fresh w well 0) (λ e. counted_now fresh w well 0))
-  happens_goes ProxyAccepts = proxy_goes_on accept_one (one.accepts_counts moving (P first_cid) (calls first_cid))
+      (flow_grow_stays flow alloc w.proxy (λ d. P first_cid None (fields d) here) (counted_now fresh w well 0) (λ e. counted_now fresh w well 0))
+  happens_goes ProxyAccepts = proxy_goes_on accept_one (one.accepts_keeps moving (P first_cid) (calls first_cid))
       (accepts kept first_cid (start w.proxy) here (proxied fresh w well 0))
   happens_goes (ProxyReads stream) = proxy_goes_on (line_read stream)
-      (λ t c at. moved.keeps_then moving (λ u d. P first_cid (counts u.state.device) d) (λ r d. P first_cid (counts r.0.state.device) d) (read_byte stream t) (λ r. Done r.0) c
-      (one.line_counts moving (P first_cid) (calls first_cid) stream t c at) (λ r d now. now))
+      (λ t c at. moved.keeps_then moving (λ u d. P first_cid None (fields u.state.device) d)
+      (λ r d. P first_cid None (fields r.0.state.device) d) (read_byte stream t) (λ r. Done r.0) c
+      (one.line_keeps moving (P first_cid) (calls first_cid) stream t c at) (λ r d now. now))
       (keeps_then (Goes-on kept first_cid) (Turns kept first_cid) (read_byte stream (start w.proxy)) (λ r. Done r.0) here
       (reads_byte kept first_cid stream (start w.proxy) here (proxied fresh w well 0)) line_kept)
     where
@@ -500,13 +501,13 @@ module _ (fresh : Type 0) (w : World) (well : IsWell fresh w) where
       line_kept (t, true) d turns = turns
       line_kept (t, false) d turns = turns
   happens_goes (Moment now) = outside_goes now w.host well.streams
-  happens_goes (TimesOut slot) = device_goes_on (tick_slot slot) (one.ticks_counts moving (P first_cid) (calls first_cid) slot) (λ going.
+  happens_goes (TimesOut slot) = device_goes_on (tick_slot slot) (one.ticks_keeps moving (P first_cid) (calls first_cid) slot) (λ going.
       tick_slot_keeps kept w.proxy.handshakes first_cid w.proxy.next_port slot w.proxy.device here held_now)
-  happens_goes (HandshakeTimesOut stream) = proxy_goes_on (tick_handshake stream) (one.hand_ticks_counts moving (P first_cid) (calls first_cid) stream)
+  happens_goes (HandshakeTimesOut stream) = proxy_goes_on (tick_handshake stream) (one.hand_ticks_keeps moving (P first_cid) (calls first_cid) stream)
       (ticks kept first_cid stream (start w.proxy) here (proxied fresh w well 0))
   happens_goes (Reset cid) = possible fresh (is_guest_cid cid) (reset_made cid) w well (λ may.
       device_goes fresh w well (proxy_reset_of cid w.proxy) (λ r. r.0) (proxy_reset_keeps kept first_cid cid w.proxy here (guest_cid_fits cid may) (proxied fresh w well 0))
-      (one.reset_counts moving (P first_cid) (calls first_cid) cid w.proxy here (counted_now fresh w well 0)))
+      (one.reset_keeps moving (P first_cid) (calls first_cid) cid (publishes first_cid cid) w.proxy here (counted_now fresh w well 0)))
   happens_goes (HostListens port) = host_goes _ (λ ok. same_host w.host (after_listen port kind.Stream w.host) _ _ _ _ (λ j. refl) refl (λ f. refl) (well.streams ok))
   happens_goes (HostUnlistens port) = host_goes _ (λ ok. same_host w.host (after_unlisten port kind.Stream w.host) _ _ _ _ (λ j. refl) refl (λ f. refl) (well.streams ok))
   happens_goes ClientConnects = host_goes _ (λ ok. client_host w.host _ _ _ _ (well.streams ok))

@@ -4,25 +4,15 @@ use Rattle.std.proofs.{Common.{refl, sym, ap, subst, arith}, lemmas.Bool.Decides
 use Rattle.vs_contents.specs.CallTree.{Done, Ask, Leads, bind}
 use Rattle.vs_contents.proofs.Leads.{AllEnds, end_of, ends_bind}
 use Rattle.vs_header.specs.{declared.Header.Header, declared.TheConstants.HEADER_LEN}
-use Rattle.vs_outside.specs.declared.host_net.{Accepted.Accepted, Dialed.Dialed, StreamRead.StreamRead, StreamWrite.StreamWrite}
 use Rattle.vs_ring_port.specs.declared.{device_ring.Chain.Chain, device_ring.Next.Next, failure.Failure.Failure}
-use Rattle.vs_device_parts.specs.{Calls.{Answer, DeviceTree}, State.{DeviceEntry, DeviceState}}
+use Rattle.vs_device_parts.specs.{Calls.{Answer, DeviceTree}, Receiving.written}
 use Rattle.vs_proxy_parts.specs.Turns.{event_stage, fill_stage, pump_stage, take_stage, tick_stage, turn_of, unless_failed}
-use Rattle.vs_proxy_parts.specs.{Handshakes.shake_hands, State.Handshake, State.ProxyState, State.Turning, State.start}
+use Rattle.vs_proxy_parts.specs.{Handshakes.shake_hands, State.ProxyState, State.Turning, State.start}
 use Rattle.vs_proxy_parts.specs.declared.answers.{Turn.Turn, Turned.Turned}
-use Rattle.laws_device.proofs.Walk.Serving.{AfterEvent, AfterRead, AfterWrite, Closes, Fills, Writes}
-use Rattle.laws_device.proofs.Walk.Turning.{AfterAccept, AfterByte, Between, Shakes, keeps_turn}
-use Rattle.laws_device.proofs.Walk.{Keeping.Asking, Keeping.Keeps, Taking.AfterDial, Taking.Takes}
-use Rattle.laws_device.specs.Walk.Seen.{Seen, seen}
+use Rattle.laws_device.proofs.Walk.{Fields.{AfterEventPage, AfterTx, Calls, Fields, TxCalls, after_rx, fields, fields_turn}, Keeping.Asking, Keeping.Keeps}
 use Rattle.laws_proxy.specs.Account.{Events.TellsEvent, Events.event_put, Events.events_put, Made.Made, Made.Makes}
-use Rattle.vs_outside.specs.declared.host_net.Accepted.TheVariants as accepted
-use Rattle.vs_outside.specs.declared.host_net.Dialed.TheVariants as dialed
-use Rattle.vs_outside.specs.declared.host_net.StreamRead.TheVariants as read
-use Rattle.vs_outside.specs.declared.host_net.StreamWrite.TheVariants as write
 use Rattle.vs_proxy_parts.specs.declared.answers.Turn.TheVariants as turn
 use Rattle.vs_ring_port.specs.declared.device_ring.Next.TheVariants as next
-use Rattle.laws_device.proofs.Walk.Serving as serving
-use Rattle.laws_device.proofs.Walk.Taking as taking
 
 abbrev events : Asking ℕ
 events = record { asks = λ call n P. (a : Answer call) → P a (event_put call n); weaker = λ call n P R then asks. λ a. then a (event_put call n) (asks a) }
@@ -48,97 +38,56 @@ one b = cond b 1 0
 
 -- From so many events on, where one was owed or not.
 module _ (from : ℕ) (was : Bool) where
-  abbrev D : List Handshake → Option Chain → Seen → ℕ → Type 0
-  D hands page s n = (n + one s.event_owed ≡ from + one was) × (from ≤ n)
+  abbrev P : Option Chain → Fields → ℕ → Type 0
+  P page k n = (n + one k.event_owed ≡ from + one was) × (from ≤ n)
 
-  abbrev U : List Handshake → Chain → Header → Seen → ℕ → Type 0
-  U hands chain h s n = D hands None s n
+  rx_page : (a : Next) (k : Fields) (n : ℕ) → P None k n → P None (after_rx a k) n
+  rx_page (next.Chain chain) k n at = at
+  rx_page next.None k n at = at
+  rx_page (next.Failed f) k n at = at
 
-  module _ (hands : List Handshake) where
-    closes : Closes events (D hands)
-    closes = record {
-      cuts = λ e s n is at still a. at;
-      was_cut = λ e s n is at closed. at;
-      leaves = λ page e v s n is closed stream at still a. at;
-      was_left = λ page e v s n is closed stream at gone. at;
-    }
+  event_page : (a : Next) (k : Fields) (n : ℕ) → P None k n → k.event_owed ≡ true → AfterEventPage events P a k n
+  event_page (next.Chain chain) k n at owed = λ a c.
+      let one_more : n + 1 ≡ from + one was = subst (λ (b : Bool). n + one b ≡ from + one was) owed at.0 in
+      (omega (arith, one_more), omega (arith, at.1))
+  event_page next.None k n at owed = at
+  event_page (next.Failed f) k n at owed = at
 
-    wrote : (e : DeviceEntry) (s : DeviceState) (a : StreamWrite) (n : ℕ) → D hands None (seen s) n → AfterWrite events (D hands) e s a n
-    wrote e s (write.Took k) n at = at
-    wrote e s _ n at = at
+  puts_packet : (chain : Chain) (h : Header) (payload : List ℕ) (k : Fields) (n : ℕ) → P None k n
+      → Keeps events (λ x m. P None k m) (written chain h payload) n
+  puts_packet chain h [] k n at = λ a c. at
+  puts_packet chain h (x ∷ payload) k n at = λ a c d. subst (λ (m : ℕ). P None k m) (longer n (length (x ∷ payload))) at
 
-    writes : Writes events (D hands)
-    writes = record { writes = λ e s n is still at a. wrote e s a n at; shuts = λ e s n is out at a. at }
+  plain : Calls events P
+  plain = record {
+    closes = λ page stream k n at a. at;
+    shuts = λ stream k n at a. at;
+    labels = λ stream flow k n at a. at;
+    accepts = λ k n at a. at;
+    reads = λ stream room k n at a. at;
+    writes = λ stream bytes k n at a. at;
+    takes_rx = λ k n at none a. rx_page a k n at;
+    event = λ k n at owed a. event_page a k n at owed;
+    puts = λ chain h payload k n at is. puts_packet chain h payload k n at;
+  }
 
-    paid : (s : DeviceState) (a : Next) (n : ℕ) → D hands None (seen s) n → s.event_owed ≡ true → AfterEvent events (D hands) s a n
-    paid s (next.Chain chain) n at owed = λ a c.
-        let one_more : n + 1 ≡ from + one was = subst (λ (b : Bool). n + one b ≡ from + one was) owed at.0 in
-        (omega (arith, one_more), omega (arith, at.1))
-    paid s _ n at owed = at
+  taken : (a : Next) (k : Fields) (n : ℕ) → P None k n → AfterTx events P a k n
+  taken (next.Chain chain) k n at = λ bytes. record { short = λ is. at; drops = λ whole is. at; comes = λ whole is. at }
+  taken next.None k n at = at
+  taken (next.Failed f) k n at = at
 
-    held : (s : DeviceState) (a : Next) (n : ℕ) → D hands None (seen s) n → serving.AfterTake events (D hands) s a n
-    held s (next.Chain chain) n at = at
-    held s _ n at = at
-
-    have_read : (e : DeviceEntry) (chain : Chain) (s : DeviceState) (a : StreamRead) (payload : List ℕ) (n : ℕ) → D hands None (seen s) n
-        → AfterRead events (D hands) e chain s a payload n
-    have_read e chain s (read.Got k) [] n at = λ a c. at
-    have_read e chain s (read.Got k) (x ∷ payload) n at = λ a c d.
-        let P : ℕ → Type 0 = λ m. D hands None (seen s) m in subst P (longer n (length (x ∷ payload))) at
-    have_read e chain s _ payload n at = at
-
-    fills : Fills events (D hands)
-    fills = record {
-      event = λ s n at owed a. paid s a n at owed;
-      holds = λ s n at none a. held s a n at;
-      puts = λ h chain s n at is a c. at;
-      reads = λ e chain s n is at held may a. have_read e chain s a.0 a.1 n at;
-      wants = λ e s n is at. at;
-      pays = λ e what asked s n is owes at. at;
-    }
-
-    taken_by : (s : DeviceState) (a : Next) (n : ℕ) → D hands None (seen s) n → taking.AfterTake events (D hands) (U hands) s a n
-    taken_by s (next.Chain chain) n at = λ bytes. record { short = λ is. at; drops = λ whole is. at; comes = λ whole is. at }
-    taken_by s _ n at = at
-
-    dials : (chain : Chain) (h : Header) (s : DeviceState) (a : Dialed) (n : ℕ) → D hands None (seen s) n
-        → AfterDial events (D hands) (U hands) chain h s a n
-    dials chain h s (dialed.Stream id) n at = at
-    dials chain h s _ n at = at
-
-    takes : Takes events (D hands) (U hands)
-    takes = record {
-      takes = λ s n at a. taken_by s a n at;
-      returns = λ chain s n at a. at;
-      ignores = λ chain h s n at. at;
-      dials = λ chain h s n none place at a. dials chain h s a n at;
-      accepts = λ chain h e s n found is at. at;
-      delivers = λ chain h e s n found is at payload. at;
-      hears = λ chain h e s n v found is other at. at;
-    }
-
-  accepted_by : (hands : List Handshake) (port : ℕ) (s : DeviceState) (a : Accepted) (n : ℕ) → D hands None (seen s) n
-      → AfterAccept events (Between D) hands port s a n
-  accepted_by hands port s (accepted.Stream id) n at = at
-  accepted_by hands port s _ n at = at
-
-  byte_read : (h : Handshake) (hands : List Handshake) (port : ℕ) (s : DeviceState) (a : StreamRead) (bytes : List ℕ) (n : ℕ)
-      → D hands None (seen s) n → AfterByte events (Between D) h hands port s a bytes n
-  byte_read h hands port s (read.Got k) bytes n at =
-      record { more = λ is. at; ends = λ a. at; refused = λ guest fault may is. at; opens = λ guest is may none a. at }
-  byte_read h hands port s _ bytes n at = at
-
-  shakes : Shakes events (Between D)
-  shakes = record {
-    drops = λ h hands port s n on at a. at;
-    accepts = λ hands port s n at a. accepted_by hands port s a n at;
-    reads = λ h hands port s n on at a. byte_read h hands port s a.0 a.1 n at;
+  tx_calls : TxCalls events P
+  tx_calls = record {
+    takes = λ k n at a. taken a k n at;
+    reads = λ chain len k n at bytes. at;
+    dials = λ chain path flow k n at a. at;
+    returns = λ chain k n at a. at;
   }
 
   owed_after : (size now : ℕ) (s : ProxyState) → s.device.event_owed ≡ was
-      → Keeps events (λ (x : ProxyState × Turn) n. D x.0.handshakes None (seen x.0.device) n) (turn_of size now s) from
+      → Keeps events (λ (x : ProxyState × Turn) n. P None (fields x.0.device) n) (turn_of size now s) from
   owed_after size now s is =
-      keeps_turn events D shakes closes U takes writes fills size now s from (ap (λ (b : Bool). from + one b) is, omega arith)
+      fields_turn events P plain tx_calls size now s from (ap (λ (b : Bool). from + one b) is, omega arith)
 
 -- What the answer says.
 abbrev IsTold : ProxyState → ProxyState × Turn → Type 0
@@ -197,7 +146,7 @@ module _ (size now : ℕ) (s : ProxyState) where
   tells calls later x leads (turn.Failed f) is = tt
   tells calls later x leads (turn.Turned t) is =
       let owed = s.device.event_owed in
-      let kept = made_to (λ (y : ProxyState × Turn) n. D (events_put calls) owed y.0.handshakes None (seen y.0.device) n) (turn_of size now s) calls later x
+      let kept = made_to (λ (y : ProxyState × Turn) n. P (events_put calls) owed None (fields y.0.device) n) (turn_of size now s) calls later x
       (owed_after (events_put calls) owed size now s refl) leads in
       by (events_put calls) (events_put later) owed x.0.device.event_owed t.event kept
       (end_of (IsTold s) Makes (turn_of size now s) calls later x is_told leads t is)

@@ -1,14 +1,15 @@
 -- A device and a proxy, and the counts that their calls come to.
-use Rattle.std.proofs.Common.{◌≡◌, ℕ, ◌-◌, ◌&&◌, not, nat_lt, Bool, true, false, cond, List, Option, Result, refl, sym, ap, subst, ◌∙◌}
+use Rattle.std.proofs.Common.{◌≡◌, ℕ, ◌-◌, ◌&&◌, not, nat_lt, Bool, true, false, cond, List, [], ◌∷◌, Option, Result, refl, sym, ap, subst, ◌∙◌}
 use Rattle.vs_header.specs.{Packet.header_of, declared.Header.Header, declared.TheConstants.HEADER_LEN}
 use Rattle.vs_page.specs.{Log.Device, Open.is_dropped}
 use Rattle.vs_ring_port.specs.{Contents.Read, declared.device_ring.Chain.Chain, declared.device_ring.Next.Next, declared.failure.Failure.Failure}
 use Rattle.vs_wrap.specs.Wrap.{counted}
+use Rattle.vs_device_parts.specs.Receiving.{written}
 use Rattle.vs_device_parts.specs.Calls.{Accept, DeviceTree, Dial, ReadStream, Ring, WriteStream}
 use Rattle.vs_proxy_parts.specs.Turns.{event_stage, fill_stage, proxy_reset_of, pump_stage, tick_stage}
 use Rattle.vs_proxy_parts.specs.{Handshakes.shake_hands, State.Handshake, State.ProxyState, State.Turning, State.start, Turns.turn_of, Turns.unless_failed}
 use Rattle.vs_proxy_parts.specs.declared.answers.Turn.{Turn}
-use Rattle.laws_device.proofs.Walk.{Counts.{AfterTx, Calls, Counts, HeaderRead, TxCalls}, Keeping.{Asking, Keeps, keeps_then}, Single.reset_counts}
+use Rattle.laws_device.proofs.Walk.{Fields.{AfterEventPage, AfterTx, Calls, Fields, HeaderRead, TxCalls, after_rx}, Keeping.{Asking, Keeps, keeps_then}, Single.reset_keeps}
 use Rattle.laws_device.specs.Walk.Seen.{Seen}
 use Rattle.laws_device.proofs.Walk.Serving.{Closes, Fills, keeps_fill_rx, keeps_pay_event, keeps_pump, keeps_tick}
 use Rattle.laws_device.proofs.Walk.Turning.{Between, Turns, keeps_event_stage, keeps_fill_stage, keeps_pump_stage, keeps_shake_hands, keeps_tick_stage}
@@ -16,30 +17,42 @@ use Rattle.laws_device.proofs.Walk.Turning.{keeps_unless}
 use Rattle.laws_proxy.specs.Account.Counts.{DeviceCounts, count_made, counts_shown}
 use Rattle.laws_proxy.{specs.Account.Packets.after_packets, specs.Account.Packets.before_packets, proofs.Account.Walks.Walks, proofs.Account.Walks.counting}
 use Rattle.vs_ring_port.specs.declared.device_ring.Next.TheVariants as next
-use Rattle.laws_device.proofs.Walk.Counts as walk
+use Rattle.laws_device.proofs.Walk.Fields as walk
 
-abbrev shown : Counts → DeviceCounts
+abbrev shown : Fields → DeviceCounts
 shown n = record { cid = n.cid; dropped = n.dropped; faults = n.faults }
 
-abbrev P : Counts → DeviceCounts → Type 0
-P n m = shown n ≡ m
+abbrev P : Option Chain → Fields → DeviceCounts → Type 0
+P page n m = shown n ≡ m
 
 -- Conversations that may take chains of tx, and those that leave them out.
 module _ (b : Bool) where
+  rx_page : (a : Next) (n : Fields) (m : DeviceCounts) → shown n ≡ m → shown (after_rx a n) ≡ m
+  rx_page (next.Chain chain) n m at = at
+  rx_page next.None n m at = at
+  rx_page (next.Failed f) n m at = at
+
+  event_page : (a : Next) (n : Fields) (m : DeviceCounts) → shown n ≡ m → AfterEventPage (counting b) P a n m
+  event_page (next.Chain chain) n m at = (refl, λ a. (refl, λ c. at))
+  event_page next.None n m at = at
+  event_page (next.Failed f) n m at = at
+
+  puts_packet : (chain : Chain) (h : Header) (payload : List ℕ) (n : Fields) (m : DeviceCounts) → shown n ≡ m
+      → Keeps (counting b) (λ x k. shown n ≡ k) (written chain h payload) m
+  puts_packet chain h [] n m at = (refl, λ a. (refl, λ c. at))
+  puts_packet chain h (x ∷ payload) n m at = (refl, λ a. (refl, λ c. (refl, λ d. at)))
+
   calls : Calls (counting b) P
   calls = record {
-    closes = λ stream n m at. (refl, λ a. at);
+    closes = λ page stream n m at. (refl, λ a. at);
     shuts = λ stream n m at. (refl, λ a. at);
     labels = λ stream flow n m at. (refl, λ a. at);
     accepts = λ n m at. (refl, λ a. ap (count_made Accept a) at);
-    dials = λ path flow n m at. (refl, λ a. ap (count_made (Dial path flow) a) at);
     reads = λ stream room n m at. (refl, λ a. ap (count_made (ReadStream stream room) a) at);
     writes = λ stream bytes n m at. (refl, λ a. ap (count_made (WriteStream stream bytes) a) at);
-    takes_rx = λ n m at. (refl, λ a. at);
-    takes_event = λ n m at. (refl, λ a. at);
-    puts = λ chain place bytes n m at. (refl, λ a. at);
-    returns = λ chain len n m at. (refl, λ a. at);
-    publishes = λ cid n m at. (refl, λ a. ap (λ (k : DeviceCounts). record k { cid = cid }) at);
+    takes_rx = λ n m at none. (refl, λ a. rx_page a n m at);
+    event = λ n m at owed. (refl, λ a. event_page a n m at);
+    puts = λ chain h payload n m at is. puts_packet chain h payload n m at;
   }
 
   abbrev K : Asking DeviceCounts
@@ -84,15 +97,16 @@ module _ (b : Bool) where
 
   pub counts_reset : (cid : ℕ) (s : ProxyState)
       → Walks b (λ (x : ProxyState × Result (Unit {0}) Failure). counts_shown x.0.device) (proxy_reset_of cid s) (counts_shown s.device)
-  counts_reset cid s = reset_counts (counting b) P calls cid s (counts_shown s.device) refl
+  counts_reset cid s =
+      reset_keeps (counting b) P calls cid (λ n m at. (refl, λ a. ap (λ (k : DeviceCounts). record k { cid = cid }) at)) s (counts_shown s.device) refl
 
 -- A packet that is taken is dropped, or not; or it is the ring's failure.
-dropped_as : (n : Counts) (b c : Bool) → c ≡ b
+dropped_as : (n : Fields) (b c : Bool) → c ≡ b
     → ◌≡◌ {A = DeviceCounts} (record (shown n) { dropped = cond b (counted n.dropped) n.dropped })
     (record (shown n) { dropped = cond c (counted n.dropped) n.dropped })
 dropped_as n b c is = ap (λ (d : Bool). record (shown n) { dropped = cond d (counted n.dropped) n.dropped }) (sym is)
 
-header_read : (chain : Chain) (h : Header) (n : Counts)
+header_read : (chain : Chain) (h : Header) (n : Fields)
     → let short = nat_lt (chain.readable - HEADER_LEN) h.len in let lost = is_dropped Device n.cid h in
     HeaderRead (counting false) P chain h n (record (shown n) { dropped = cond (not short && lost) (counted n.dropped) n.dropped })
 header_read chain h n =
@@ -103,7 +117,7 @@ header_read chain h n =
       comes = λ whole is. dropped_as n false (not short && lost) (ap (λ (d : Bool). not d && lost) whole ∙ is);
     }
 
-taken : (a : Next) (n : Counts) (m : DeviceCounts) → P n m → AfterTx (counting false) P a n m
+taken : (a : Next) (n : Fields) (m : DeviceCounts) → shown n ≡ m → AfterTx (counting false) P a n m
 taken (next.Chain chain) n m at = (
   refl,
   λ bytes. subst (λ (k : DeviceCounts). HeaderRead (counting false) P chain (header_of bytes) n (count_made (Ring (Read chain 0 HEADER_LEN)) bytes k)) at
@@ -113,8 +127,13 @@ taken next.None n m at = at
 taken (next.Failed f) n m at = at
 
 tx_calls : TxCalls (counting false) P
-tx_calls = record { takes = λ n m at. (refl, λ a. taken a n m at); reads = λ chain len n m at. (refl, λ bytes. at) }
+tx_calls = record {
+  takes = λ n m at. (refl, λ a. taken a n m at);
+  reads = λ chain len n m at. (refl, λ bytes. at);
+  dials = λ chain path flow n m at. (refl, λ a. ap (count_made (Dial path flow) a) at);
+  returns = λ chain n m at. (refl, λ a. at);
+}
 
 pub counts_turn : (size now : ℕ) (s : ProxyState)
     → Walks false (λ (x : ProxyState × Turn). counts_shown x.0.device) (turn_of size now s) (counts_shown s.device)
-counts_turn size now s = walk.counts_turn (counting false) P (calls false) tx_calls size now s (counts_shown s.device) refl
+counts_turn size now s = walk.fields_turn (counting false) P (calls false) tx_calls size now s (counts_shown s.device) refl

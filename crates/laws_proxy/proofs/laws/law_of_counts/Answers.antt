@@ -4,16 +4,16 @@ use Rattle.vs_device_parts.specs.Calls.{DeviceTree, Situation}
 use Rattle.vs_device_parts.specs.Playing.{Runs}
 use Rattle.vs_device_parts.specs.State.{DeviceState}
 use Rattle.laws_device.specs.Dropped.{IsCounted, IsCountedWith}
-use Rattle.laws_device.proofs.{Dropping.{P, calls, moving, moving_end, tx_calls}, Walk.Counts.counts, Walk.Counts.counts_turn, Walk.Keeping.Keeps}
-use Rattle.laws_device.proofs.Walk.Single.{reset_counts}
+use Rattle.laws_device.proofs.{Dropping.{P, calls, moving, moving_end, publishes, tx_calls}, Walk.Fields.fields, Walk.Fields.fields_turn, Walk.Keeping.Keeps}
+use Rattle.laws_device.proofs.Walk.Single.{reset_keeps}
 use Rattle.laws_proxy.proofs.laws.law_of_counts.Goals as goal
 
 -- What a whole conversation leaves.
 ends : {A : Type 0} (first : ℕ) (state_of : A → DeviceState) (s : DeviceState) (tree : DeviceTree A) (a b : Situation) (x : A)
-    → IsCountedWith first s a.ring → (P first (counts s) a → Keeps moving (λ y d. P first (counts (state_of y)) d) tree a) → Runs tree a x b
+    → IsCountedWith first s a.ring → (P first None (fields s) a → Keeps moving (λ y d. P first None (fields (state_of y)) d) tree a) → Runs tree a x b
     → IsCountedWith first (state_of x) b.ring
 ends first state_of s tree a b x was keeps runs = λ on l is.
-    moving_end (λ y d. P first (counts (state_of y)) d) tree a b x (keeps (λ m there honest. was honest m there)) runs l is on
+    moving_end (λ y d. P first None (fields (state_of y)) d) tree a b x (keeps (λ m there honest. was honest m there)) runs l is on
 
 pub returns-clause-new : goal.returns-clause-new
 returns-clause-new c = λ cid base r fresh on l is.
@@ -21,8 +21,8 @@ returns-clause-new c = λ cid base r fresh on l is.
 
 pub returns-clause-turn : goal.returns-clause-turn
 returns-clause-turn c = λ first size now s a b x was.
-    ends first (λ y. y.0.device) s.device _ a b x was (counts_turn moving (P first) (calls first) (tx_calls first) size now s a)
+    ends first (λ y. y.0.device) s.device _ a b x was (fields_turn moving (P first) (calls first) (tx_calls first) size now s a)
 
 pub returns-clause-reset : goal.returns-clause-reset
 returns-clause-reset c = λ first cid s a b x was.
-    ends first (λ y. y.0.device) s.device _ a b x was (reset_counts moving (P first) (calls first) cid s a)
+    ends first (λ y. y.0.device) s.device _ a b x was (reset_keeps moving (P first) (calls first) cid (publishes first cid) s a)
