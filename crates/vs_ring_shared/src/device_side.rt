@@ -59,8 +59,7 @@ impl DeviceSide {
             Queue::Rx => take_chain(&mut self.port, &mut self.rx, &mut self.held, queue),
             Queue::Tx => {
                 let chain = take_chain(&mut self.port, &mut self.tx, &mut self.held, queue)?;
-                let more = self.held.packets_in_newest();
-                self.counters.tx_got = self.counters.tx_got.wrapping_add(more);
+                self.counters.tx_got = self.counters.tx_got.wrapping_add(1);
                 Some(chain)
             }
             Queue::Event => take_chain(&mut self.port, &mut self.event, &mut self.held, queue),

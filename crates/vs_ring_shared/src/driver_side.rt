@@ -75,9 +75,8 @@ impl DriverSide {
         match queue {
             Queue::Rx => stage(&mut self.port, &mut self.rx, queue, page),
             Queue::Tx => {
-                let more = packets_in(&page);
                 stage(&mut self.port, &mut self.tx, queue, page)?;
-                self.counters.tx_offered = self.counters.tx_offered.wrapping_add(more);
+                self.counters.tx_offered = self.counters.tx_offered.wrapping_add(1);
                 Ok(())
             }
             Queue::Event => stage(&mut self.port, &mut self.event, queue, page),
