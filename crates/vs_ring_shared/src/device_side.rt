@@ -49,6 +49,7 @@ impl DeviceSide {
 
     /// Takes the page that the driver gave first of those not yet taken, as a chain, by an index that it loads. `None` comes exactly where
     /// that index shows as many pages as were taken: then all that it was told of is among them.
+    #[inline(always)]
     pub fn take_next(&mut self, queue: Queue) -> Option<Chain>
         ensures none { IfNone result (TakesNone queue self.old self.new) }
         ensures chain { IfSome result (λ chain. TakesOne queue chain self.old self.new) }
@@ -59,8 +60,7 @@ impl DeviceSide {
             Queue::Rx => take_chain(&mut self.port, &mut self.rx, &mut self.held, queue),
             Queue::Tx => {
                 let chain = take_chain(&mut self.port, &mut self.tx, &mut self.held, queue)?;
-                let more = self.held.packets_in_newest();
-                self.counters.tx_got = self.counters.tx_got.wrapping_add(more);
+                self.counters.tx_got = self.counters.tx_got.wrapping_add(1);
                 Some(chain)
             }
             Queue::Event => take_chain(&mut self.port, &mut self.event, &mut self.held, queue),
@@ -68,6 +68,7 @@ impl DeviceSide {
     }
 
     /// Reads the bytes of a chain from place `at` on, as many as `out` has.
+    #[inline(always)]
     pub fn read_from(&self, chain: &Chain, at: u64, out: &mut [u8])
         requires is_held { Contains (chains_of self.now.held) chain.now }
         requires in_range { at + length out.old ≤ chain.now.readable }
@@ -80,6 +81,7 @@ impl DeviceSide {
     }
 
     /// Writes into a chain from place `at` on, over what was written there before. No gap may be left before `at`.
+    #[inline(always)]
     pub fn write_into(&mut self, chain: &Chain, at: u64, bytes: &[u8])
         requires is_held { Contains (chains_of self.old.held) chain.now }
         requires in_range { at + length bytes.now ≤ chain.now.writable }
@@ -91,6 +93,7 @@ impl DeviceSide {
     }
 
     /// Returns a chain with the first `len` of its bytes. The log with what these hold has to be fair.
+    #[inline(always)]
     pub fn give_back(&mut self, chain: Chain, len: u32)
         requires is_held { Contains (chains_of self.old.held) chain }
         requires fair { let page = take len (bytes_in chain self.old.held) in

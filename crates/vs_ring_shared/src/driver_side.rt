@@ -63,6 +63,7 @@ impl DriverSide {
     ///
     /// The page comes back with `NoDescriptor` exactly where as many pages of the queue are in flight, staged ones included, as it has
     /// descriptors.
+    #[inline(always)]
     pub fn stage_page(&mut self, queue: Queue, page: Page) -> Result<(), (NoDescriptor, Page)>
         requires packet { queue ≡ Queue.Tx → HoldsPacket page }
         ensures ok { OnOk result (self.new ≡ after_staging queue page self.old) }
@@ -75,9 +76,8 @@ impl DriverSide {
         match queue {
             Queue::Rx => stage(&mut self.port, &mut self.rx, queue, page),
             Queue::Tx => {
-                let more = packets_in(&page);
                 stage(&mut self.port, &mut self.tx, queue, page)?;
-                self.counters.tx_offered = self.counters.tx_offered.wrapping_add(more);
+                self.counters.tx_offered = self.counters.tx_offered.wrapping_add(1);
                 Ok(())
             }
             Queue::Event => stage(&mut self.port, &mut self.event, queue, page),
@@ -86,6 +86,7 @@ impl DriverSide {
 
     /// Gives all pages staged on a queue to the device, by one store of the available index; where none is staged, by
     /// none. The log with their packets has to be fair.
+    #[inline(always)]
     pub fn publish_staged(&mut self, queue: Queue)
         requires fair { IsFairLog log.Driver (entries_published queue (sight_in queue self.old).staged self.old.log) }
         ensures { self.new ≡ after_publishing queue self.old }
@@ -102,6 +103,7 @@ impl DriverSide {
 
     /// Takes back the page that the device gave back first of those not yet taken, by an index that it loads. `None` comes exactly where
     /// that index shows as many pages as were taken: then all that it was told of is among them.
+    #[inline(always)]
     pub fn reap_page(&mut self, queue: Queue) -> Option<Page>
         ensures none { IfNone result (ReapsNone queue self.old self.new) }
         ensures back { IfSome result (λ page. ReapsOne queue page self.old self.new) }

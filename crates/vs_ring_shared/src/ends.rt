@@ -182,17 +182,20 @@ impl<N: RingName> DriverRing for DriverEnd<N> {
         self.side.size()
     }
 
+    #[inline(always)]
     fn stage(&mut self, queue: Queue, page: Page) -> Result<(), (NoDescriptor, Page)> {
         laws_of_driver_side(&self.side);
         self.side.stage_page(queue, page)?;
         Ok(())
     }
 
+    #[inline(always)]
     fn publish(&mut self, queue: Queue) {
         laws_of_driver_side(&self.side);
         self.side.publish_staged(queue);
     }
 
+    #[inline(always)]
     fn reap(&mut self, queue: Queue) -> Reaped {
         laws_of_driver_side(&self.side);
         let Some(page) = self.side.reap_page(queue) else {
@@ -232,6 +235,7 @@ impl<N: RingName> DeviceRing for DeviceEnd<N> {
         self.side.size()
     }
 
+    #[inline(always)]
     fn next(&mut self, queue: Queue) -> Next {
         let Some(chain) = self.side.take_next(queue) else {
             return Next::None;
@@ -247,16 +251,19 @@ impl<N: RingName> DeviceRing for DeviceEnd<N> {
         chain.writable
     }
 
+    #[inline(always)]
     fn read(&mut self, chain: &Chain, at: u64, out: &mut [u8]) {
         laws_of_device_side(&self.side);
         self.side.read_from(chain, at, out);
     }
 
+    #[inline(always)]
     fn write(&mut self, chain: &Chain, at: u64, bytes: &[u8]) {
         laws_of_device_side(&self.side);
         self.side.write_into(chain, at, bytes);
     }
 
+    #[inline(always)]
     fn done(&mut self, chain: Chain, len: u32) {
         laws_of_device_side(&self.side);
         self.side.give_back(chain, len);

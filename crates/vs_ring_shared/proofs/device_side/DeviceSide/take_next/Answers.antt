@@ -1,12 +1,12 @@
-use Rattle.std.proofs.Common.{◌≡◌, ℕ, ◌+◌, ◌%◌, ◌∷◌, length, ap, ◌∙◌, subst, sym}
+use Rattle.std.proofs.Common.{◌≡◌, ℕ, ◌+◌, ◌%◌, ◌∷◌, length, refl, ap, subst, sym}
 use Rattle.std.{proofs.lemmas.Option.IfSome_then, specs.Prelude.IfSome}
 use Rattle.vs_page.specs.Held.{listed, packet_held}
-use Rattle.vs_ring_port.specs.{EndLog.entries_taken, Lists.to_read, declared.queue.Queue.Queue}
-use Rattle.vs_ring_rule.specs.Rule.{queue_in}
-use Rattle.vs_ring_shared.specs.{Holdings.{Holding, all_held, packets_in_first}, Sights.{DeviceSight, TakesOne, sight_of, took_queue}}
+use Rattle.vs_ring_port.specs.{EndLog.entries_taken, declared.queue.Queue.Queue}
+use Rattle.vs_ring_rule.specs.{OneQueue.HoldsWhole, Rule.flags_of, Rule.queue_in}
+use Rattle.vs_ring_shared.specs.{Holdings.all_held, Sights.{DeviceSight, TakesOne, sight_of, took_queue}}
 use Rattle.vs_ring_shared.specs.{Countings.CountsDevice, DeviceStates.DeviceTakesChain, declared.counters.DeviceCounters.DeviceCounters}
 use Rattle.vs_ring_shared.proofs.DeviceCalls.{room_to_hold, seen_chain, takes_tx}
-use Rattle.vs_ring_shared.proofs.{DriverCalls.same_table, Countings.count_taken, Countings.counts_turn}
+use Rattle.vs_ring_shared.proofs.{DriverCalls.same_table, Countings.{count_taken, counts_turn, one_packet}}
 use Rattle.vs_ring_shared.proofs.device_side.DeviceSide.take_next.Goals as goal
 
 pub take_chain-requires-clause-room : goal.take_chain-requires-clause-room
@@ -48,11 +48,10 @@ invariant_of-self-in-Tx c =
     let p = call.new.port in
     let b = c.in_ok-chain-in-Tx.ensures.chain in
     let w : ℕ = 18446744073709551616 in
-    let counters : DeviceCounters = record d.counters { tx_got = (d.counters.tx_got + c.packets_in_newest-more.result) % w } in
+    let counters : DeviceCounters = record d.counters { tx_got = (d.counters.tx_got + 1) % w } in
     let one : ℕ → DeviceCounters = λ k. record d.counters { tx_got = (d.counters.tx_got + k) % w } in
-    let more : c.packets_in_newest-more.result ≡ length (listed (packet_held b.page)) =
-    c.packets_in_newest-more.ensures ∙ ap (λ (h : Holding). packets_in_first h.pages) b.held_is
-    ∙ ap (λ (q : Queue). length (listed (packet_held (to_read q b.page)))) c.in-Tx.is in (
+    let long = subst (λ (q : Queue). HoldsWhole (flags_of q) b.page) c.in-Tx.is b.takes.long in
+    let more : 1 ≡ length (listed (packet_held b.page)) = sym (one_packet b.page (long refl)) in (
       takes_tx d.port.size p.size call.ensures.size c.in_ok-chain-in-Tx.chain me p.token.me d.rx d.tx d.event call.new.numbers d.held call.new.held
           c.self.invariant.0
           (subst (λ (q : Queue). DeviceTakesChain d.port.size q c.in_ok-chain-in-Tx.chain me p.token.me call.new.numbers d.held call.new.held)
