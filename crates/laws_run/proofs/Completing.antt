@@ -7,7 +7,7 @@ use Rattle.vs_flow.specs.{Connection.Connection, Connection.first_of, Flow.same_
 use Rattle.vs_conn.specs.{End.ConnectionEnd, End.may_send_of, Shut.is_both, declared.end.State.{State, TheVariants.Ended, TheVariants.Live}}
 use Rattle.vs_limits.specs.declared.TheConstants.{FIRST_CID}
 use Rattle.vs_outside.specs.{Faults.one_more, Host.HostContents, Host.Stream, Host.stream_at, HostBytes.host_read, HostBytes.host_wrote}
-use Rattle.vs_page.specs.{Fair.current, Fair.number_of, Fair.payload_got, Fair.payload_put, Log.Device, Log.Driver}
+use Rattle.vs_page.specs.{Fair.current, Fair.number_of, Fair.payload_got, Log.Device, Log.Driver}
 use Rattle.vs_ring_shared.specs.Sights.{DeviceSight, Sight, device_contents, device_log, driver_contents, driver_log}
 use Rattle.vs_driver_parts.specs.{Connections.is_at_end, Connections.table_shown as guest_shown, State.DriverConnection, State.DriverEntry, State.DriverState, State.entry_known_as, State.is_known_as}
 use Rattle.vs_driver_parts.specs.declared.answers.Polled.{Polled}

@@ -512,7 +512,8 @@ module _ (fresh : Type 0) (w : World) (well : IsWell fresh w) where
   happens_goes (HostUnlistens port) = host_goes _ (λ ok. same_host w.host (after_unlisten port kind.Stream w.host) _ _ _ _ (λ j. refl) refl (λ f. refl) (well.streams ok))
   happens_goes ClientConnects = host_goes _ (λ ok. client_host w.host _ _ _ _ (well.streams ok))
   happens_goes (HostWrites stream bytes) = host_goes _ (λ ok. host_written stream bytes (host_write_answer stream w.host) w.host _ _ _ _ (well.streams ok))
-  happens_goes (HostTakes stream n) = host_goes _ (λ ok. same_host w.host (with_stream stream (allowed 18446744073709551615 n) w.host) _ _ _ _ (unseen stream (allowed 18446744073709551615 n) w.host (λ st. refl) (λ o st. refl)) refl
+  happens_goes (HostTakes stream n) = host_goes _ (λ ok. same_host w.host (with_stream stream (allowed 18446744073709551615 n) w.host) _ _ _ _
+      (unseen stream (allowed 18446744073709551615 n) w.host (λ st. refl) (λ o st. refl)) refl
       (counts_still stream (allowed 18446744073709551615 n) w.host (λ st. refl)) (well.streams ok))
   happens_goes (HostEnds stream) = host_goes _ (λ ok. same_host w.host (with_stream stream ended w.host) _ _ _ _ (unseen stream ended w.host (λ st. refl) (λ o st. refl)) refl
       (counts_still stream ended w.host (λ st. refl)) (well.streams ok))

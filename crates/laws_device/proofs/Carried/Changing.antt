@@ -204,7 +204,8 @@ module _ (c : HostContents) (log : Log) (port : ℕ) (t : Table DeviceConnection
       let j = join_of (look c) c.labelled (count_in c) log port t hands x e is in
       let own : is_assigned e.flow.host ≡ true = sym j.client ∙ by_client in
       let after : connection_of (record e { value = k }) (PutPacket p ∷ log) ≡ its =
-      ap (λ (b : Bool). let d : Connection = record { flow = e.flow; number = cond b (number_of Device e.flow (PutPacket p ∷ log) + 1) (number_of Device e.flow (PutPacket p ∷ log)) } in d) now
+      ap (λ (b : Bool). let n = number_of Device e.flow (PutPacket p ∷ log) in
+      let d : Connection = record { flow = e.flow; number = cond b (n + 1) n } in d) now
       ∙ ap (λ (n : ℕ). let d : Connection = record { flow = e.flow; number = n } in d) (request_put p log e.flow request (sym flow) own)
       ∙ ap (λ (b : Bool). let d : Connection = record { flow = e.flow; number = cond b (number_of Device e.flow log + 1) (number_of Device e.flow log) } in d) (sym was) in
       let next : number_of Device e.flow log + 1 ≡ count_in c e.flow =
@@ -342,7 +343,8 @@ module _ (c : HostContents) (log : Log) (port : ℕ) (t : Table DeviceConnection
       let out = comes_out (gives e.value.end) (gives k.end) all n (forwards_gives e.value.end (n - length e.value.ok_line)) j.stream.given
       (line_for e.flow ++ payload_got Device its log) j.drains in
       write_host c log log port t hands x sound e is k refl refl refl n (to_write e.value) (same_ends log e k (forwards_old e.value.end (n - length e.value.ok_line) old ∙ sym old))
-      (subst (λ (bytes : List ℕ). Drains (gives k.end) (j.stream.given ++ bytes) (k.ok_line ++ k.pending) (line_for e.flow ++ payload_got Device its log)) (sym (first_of n all less))
+      (subst (λ (bytes : List ℕ). Drains (gives k.end) (j.stream.given ++ bytes) (k.ok_line ++ k.pending) (line_for e.flow ++ payload_got Device its log))
+      (sym (first_of n all less))
       (subst (λ (bytes : List ℕ). Drains (gives k.end) (j.stream.given ++ take n all) bytes (line_for e.flow ++ payload_got Device its log))
       (drop_both n e.value.ok_line e.value.pending)
       (subst (λ (bytes : List ℕ). Drains (gives k.end) (j.stream.given ++ take n all) (drop n all) bytes)

@@ -80,7 +80,8 @@ pub counted_asks : (p : Packet) (log : Log) (n : Flow → ℕ) → is_request p 
     → number_of Device (flow_put Device p) log + 1 ≤ n (flow_put Device p) → (f : Flow) → AreCounted n log f → AreCounted n (PutPacket p ∷ log) f
 counted_asks p log n asks assigned room f x = by (same_flow f (flow_put Device p)) refl
   where
-    there : is_assigned f.host ≡ true → number_of Device f log + 1 ≤ n f → AreIn (is_assigned f.host) (n f) (Put p ∷ whole_of Device f log) (and_then (Put p) (history_of Device f log))
+    there : is_assigned f.host ≡ true → number_of Device f log + 1 ≤ n f
+        → AreIn (is_assigned f.host) (n f) (Put p ∷ whole_of Device f log) (and_then (Put p) (history_of Device f log))
     there own more = of (is_assigned f.host) own more x
       where
         of : (b : Bool) → b ≡ true → asked_by (side_by Device b) (puts (whole_of Device f log)) (gots (whole_of Device f log)) + 1 ≤ n f
