@@ -4,6 +4,9 @@ use std::sync::Arc;
 use std::sync::atomic::{AtomicU16, AtomicU64, Ordering};
 use std::time::Instant;
 
+/// How many numbers each row passes.
+const COUNT: u32 = 1_000_000;
+
 struct Page {
     bytes: Box<[u8; 4096]>,
     used: usize,
@@ -130,6 +133,7 @@ fn opened(size: usize, batch: u16, fill: fn(&mut Page, u32)) -> (Driver, Device)
     )
 }
 
+#[inline(always)]
 fn serve_one(device: &mut Device, number: u32) -> bool {
     let Some((slot, mut page)) = device.take() else {
         return false;
@@ -149,25 +153,41 @@ fn reap_one(driver: &mut Driver, number: u32) -> Option<bool> {
     Some(right)
 }
 
-fn one(size: usize, batch: u16, count: u32) -> (u32, u128) {
-    let (mut driver, mut device) = opened(size, batch, |_, _| ());
-    let start = Instant::now();
+/// One thread gives the numbers from `first` on and takes those from 0 on, `count` of them, in turn; the first is given already where `first`
+/// is above 0. Answers how many came right.
+#[inline(always)]
+fn one(
+    first: u32,
+    count: u32,
+    mut give: impl FnMut(u32) -> bool,
+    mut take: impl FnMut(u32) -> Option<bool>,
+) -> u32 {
     let mut right = 0;
     for number in 0..count {
-        serve_one(&mut device, number);
-        right += reap_one(&mut driver, number).unwrap_or(false) as u32;
+        if first == 0 {
+            give(number);
+        }
+        right += take(number).unwrap_or(false) as u32;
+        if first > 0 {
+            give(first + number);
+        }
     }
-    (right, start.elapsed().as_millis())
+    right
 }
 
-fn two(size: usize, batch: u16, count: u32) -> (u32, u128) {
-    let (mut driver, mut device) = opened(size, batch, |_, _| ());
-    let start = Instant::now();
-    let right = std::thread::scope(|scope| {
+/// One thread gives the numbers from `first` on that are below `count`, and another takes those from 0 on.
+#[inline(always)]
+fn two(
+    first: u32,
+    count: u32,
+    mut give: impl FnMut(u32) -> bool + Send,
+    mut take: impl FnMut(u32) -> Option<bool>,
+) -> u32 {
+    std::thread::scope(|scope| {
         scope.spawn(move || {
-            let mut number = 0;
+            let mut number = first;
             while number < count {
-                if serve_one(&mut device, number) {
+                if give(number) {
                     number += 1;
                 } else {
                     std::hint::spin_loop();
@@ -176,7 +196,7 @@ fn two(size: usize, batch: u16, count: u32) -> (u32, u128) {
         });
         let (mut number, mut right) = (0, 0);
         while number < count {
-            match reap_one(&mut driver, number) {
+            match take(number) {
                 Some(is) => {
                     right += is as u32;
                     number += 1;
@@ -185,8 +205,29 @@ fn two(size: usize, batch: u16, count: u32) -> (u32, u128) {
             }
         }
         right
-    });
+    })
+}
+
+/// How many came right, and the milliseconds.
+#[inline(always)]
+fn timed(
+    is_one: bool,
+    first: u32,
+    give: impl FnMut(u32) -> bool + Send,
+    take: impl FnMut(u32) -> Option<bool>,
+) -> (u32, u128) {
+    let start = Instant::now();
+    let right = if is_one {
+        one(first, COUNT, give, take)
+    } else {
+        two(first, COUNT, give, take)
+    };
     (right, start.elapsed().as_millis())
+}
+
+fn event(is_one: bool, size: usize, batch: u16) -> (u32, u128) {
+    let (mut driver, mut device) = opened(size, batch, |_, _| ());
+    timed(is_one, 0, |number| serve_one(&mut device, number), |number| reap_one(&mut driver, number))
 }
 
 /// A packet's header, 44 bytes on the wire.
@@ -258,63 +299,28 @@ fn send_one(driver: &mut Driver, number: u32) -> bool {
     true
 }
 
-fn transmit_one(size: usize, count: u32) -> (u32, u128) {
-    let (mut driver, mut device) = opened(size, 1, put_packet);
-    let start = Instant::now();
-    let mut right = 0;
-    for number in 0..count {
-        right += receive_one(&mut device, number).unwrap_or(false) as u32;
-        send_one(&mut driver, size as u32 + number);
-    }
-    (right, start.elapsed().as_millis())
-}
-
-fn transmit_two(size: usize, count: u32) -> (u32, u128) {
-    let (mut driver, mut device) = opened(size, 1, put_packet);
-    let start = Instant::now();
-    let right = std::thread::scope(|scope| {
-        scope.spawn(move || {
-            let mut number = size as u32;
-            while number < count {
-                if send_one(&mut driver, number) {
-                    number += 1;
-                } else {
-                    std::hint::spin_loop();
-                }
-            }
-        });
-        let (mut number, mut right) = (0, 0);
-        while number < count {
-            match receive_one(&mut device, number) {
-                Some(is) => {
-                    right += is as u32;
-                    number += 1;
-                }
-                None => std::hint::spin_loop(),
-            }
-        }
-        right
-    });
-    (right, start.elapsed().as_millis())
+fn transmit(is_one: bool, size: usize, batch: u16) -> (u32, u128) {
+    let (mut driver, mut device) = opened(size, batch, put_packet);
+    timed(
+        is_one,
+        size as u32,
+        |number| send_one(&mut driver, number),
+        |number| receive_one(&mut device, number),
+    )
 }
 
 /// The rows of one thread, and then those of two, unless the argument `one` is given; of events, or with `transmit` of packets.
 fn main() {
-    let count = 1_000_000;
     let has = |given: &str| std::env::args().any(|word| word == given);
-    type Row = fn(usize, u16, u32) -> (u32, u128);
-    let (name, rows, ways): (_, &[(usize, u16)], [Row; 2]) = if has("transmit") {
-        let ways: [Row; 2] = [
-            |size, _, count| transmit_one(size, count),
-            |size, _, count| transmit_two(size, count),
-        ];
-        ("transmit", &[(8, 1), (256, 1)], ways)
+    type Row = fn(bool, usize, u16) -> (u32, u128);
+    let (name, row, rows): (_, Row, &[(usize, u16)]) = if has("transmit") {
+        ("transmit", transmit, &[(8, 1), (256, 1)])
     } else {
-        ("event", &[(8, 1), (256, 1), (256, 16)], [one, two])
+        ("event", event, &[(8, 1), (256, 1), (256, 16)])
     };
-    for (threads, run) in ["one", "two"].iter().zip(ways) {
+    for (threads, is_one) in [("one", true), ("two", false)] {
         for &(size, batch) in rows {
-            let (right, took) = run(size, batch, count);
+            let (right, took) = row(is_one, size, batch);
             println!("{name} {threads} {size} {batch} {right} {took}");
         }
         if has("one") {
