@@ -3,6 +3,7 @@ use Rattle.std.specs.Prelude.{◌≡◌, ℕ, ◌++◌, ◌==◌, ◌&&◌, not,
 use Rattle.vs_conn.specs.{End.ConnectionEnd, declared.end.State.State, declared.end.State.TheVariants.Ended}
 use Rattle.vs_flow.specs.{Connection.Connection, Flow.same_flow, declared.flow.Flow.Flow}
 use Rattle.laws_history.specs.History.{puts}
+use Rattle.laws_tables.specs.Heard.{is_empty}
 use Rattle.vs_page.specs.{Fair.IsPrefixOf, Fair.payload_of, Log.Log, Log.Role, Log.whole_of}
 
 -- What came out of a buffer, and then what it holds, is a prefix of what came in; and all of it, while nothing is left out.
@@ -18,9 +19,12 @@ receives_in _ shut = not shut
 abbrev pub receives : ConnectionEnd → Bool
 receives e = receives_in e.state e.own.receive
 
--- All payload that an end put on a flow.
+-- All payload that an end put on a flow; and whether anything passed on it.
 abbrev pub put_on : Role → Flow → Log → List ℕ
 put_on role f log = payload_of (puts (whole_of role f log))
+
+abbrev pub has_passed : Role → Flow → Log → Bool
+has_passed role f log = not (is_empty (whole_of role f log))
 
 -- These bytes on one connection, and none on any other.
 abbrev pub is_same : Connection → Connection → Bool
