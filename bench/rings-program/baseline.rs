@@ -309,12 +309,40 @@ fn transmit(is_one: bool, size: usize, batch: u16) -> (u32, u128) {
     )
 }
 
-/// The rows of one thread, and then those of two, unless the argument `one` is given; of events, or with `transmit` of packets.
+#[inline(always)]
+fn put_one(device: &mut Device, number: u32) -> bool {
+    let Some((slot, mut page)) = device.take() else {
+        return false;
+    };
+    put_packet(&mut page, number);
+    device.give(slot, page);
+    true
+}
+
+#[inline(always)]
+fn get_one(driver: &mut Driver, number: u32) -> Option<bool> {
+    let mut page = driver.reap()?;
+    let right = page.used == 44 && decoded(page.bytes[..44].try_into().unwrap()) == numbered(number);
+    page.used = 0;
+    driver.post(page);
+    Some(right)
+}
+
+fn receive(is_one: bool, size: usize, batch: u16) -> (u32, u128) {
+    let (mut driver, mut device) = opened(size, batch, |_, _| ());
+    put_one(&mut device, 0);
+    timed(is_one, 1, |number| put_one(&mut device, number), |number| get_one(&mut driver, number))
+}
+
+/// The rows of one thread, and then those of two, unless the argument `one` is given; of events, or with `transmit` or `receive` of
+/// packets.
 fn main() {
     let has = |given: &str| std::env::args().any(|word| word == given);
     type Row = fn(bool, usize, u16) -> (u32, u128);
     let (name, row, rows): (_, Row, &[(usize, u16)]) = if has("transmit") {
         ("transmit", transmit, &[(8, 1), (256, 1)])
+    } else if has("receive") {
+        ("receive", receive, &[(8, 1), (256, 1), (256, 16)])
     } else {
         ("event", event, &[(8, 1), (256, 1), (256, 16)])
     };
