@@ -15,8 +15,8 @@ use vs_flow::Flow;
 use vs_outside::{Accepted, Dialed, HostNet, Started, StreamRead, StreamWrite};
 
 /// A host over Unix sockets, none of which waits. A read or a write makes at most one system call on its socket, behind a poll where it was
-/// told of the last one, and none where that poll showed that nothing can be there. Each error is a fault, and is counted; of accepts that
-/// fail in a row, one.
+/// told of the last one, and none where that poll showed that nothing can be there. While bytes move an accept polls once in 16 calls, so that
+/// a busy device makes a poll in 16 turns. Each error is a fault, and is counted; of accepts that fail in a row, one.
 ///
 /// The socket of the base path is removed with the host that made it, or by `stop`.
 pub struct UnixHost<R: Net + Files + AllocGlobal + Drop> {
@@ -79,6 +79,14 @@ impl<R: Net + Files + AllocGlobal + Drop> UnixHost<R> {
     {
         self.sockets.stop();
         self.made.remove(&self.rt);
+    }
+
+    // Bytes moved.
+    fn note_move(&mut self)
+        ensures counts { self.new.faults ≡ self.old.faults }
+    {
+        self.moves.add();
+        self.sockets.note_move();
     }
 
     // Listens at a path, in place of an earlier one.
@@ -145,7 +153,7 @@ impl<R: Net + Files + AllocGlobal + Drop> HostNet for UnixHost<R> {
     fn read(&mut self, id: u64, out: &mut [u8]) -> StreamRead {
         let read = self.sockets.read(id, out);
         if matches!(read, StreamRead::Got(_)) {
-            self.moves.add();
+            self.note_move();
         }
         self.faults = counted(self.faults, matches!(read, StreamRead::Failed));
         read
@@ -154,7 +162,7 @@ impl<R: Net + Files + AllocGlobal + Drop> HostNet for UnixHost<R> {
     fn write(&mut self, id: u64, bytes: &[u8]) -> StreamWrite {
         let wrote = self.sockets.write(id, bytes);
         if matches!(wrote, StreamWrite::Took(_)) {
-            self.moves.add();
+            self.note_move();
         }
         self.faults = counted(self.faults, matches!(wrote, StreamWrite::Failed));
         wrote

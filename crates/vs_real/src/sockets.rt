@@ -23,6 +23,10 @@ const EVENTS: usize = 128;
 /// The streams for which there is room from the beginning on: more than a device has at once.
 const STREAMS: usize = 128;
 
+/// So many accepts in a row are answered without a poll while bytes move: one poll then serves so many turns, and a client waits that much
+/// longer.
+const PUT_OFF: u32 = 15;
+
 /// The listener's token. A stream's is its id, which is at least 1.
 const LISTENER: Token = Token(0);
 
@@ -43,6 +47,9 @@ pub struct Sockets {
     polls: u64,
     listener: Option<UnixListener>,
     clients: Readiness,
+    // whether bytes moved since the last accept, and how many accepts in a row were answered without the poll that they wanted
+    moved: bool,
+    put_off: u32,
     // whether the last accept failed, so that a further one that does counts no fault
     accept_failed: bool,
     streams: IndexMap<u64, Socket>,
@@ -61,6 +68,8 @@ impl Sockets {
             polls: 0,
             listener: None,
             clients: Readiness::new(),
+            moved: false,
+            put_off: 0,
             accept_failed: false,
             streams,
             last_id: 0,
@@ -96,13 +105,33 @@ impl Sockets {
         self.poll.as_raw_fd()
     }
 
-    /// Accepts a client that waits. Where accepts fail in a row only the first answers so, and the others that nobody waits.
+    /// Bytes moved on a stream.
+    pub fn note_move(&mut self) {
+        self.moved = true;
+    }
+
+    /// Accepts a client that waits. While bytes move it polls in one call of 16 alone. Where accepts fail in a row only the first answers so,
+    /// and the others that nobody waits.
     pub fn accept(&mut self) -> Accepted {
         match self.clients.ask(self.polls) {
             Ask::Socket => self.accept_now(),
+            Ask::Poll if self.puts_off() => Accepted::None,
             Ask::Poll => self.accept_polled(),
             Ask::Nothing => Accepted::None,
         }
+    }
+
+    // Whether an accept that wants a poll is answered without one, since bytes moved since the last accept.
+    fn puts_off(&mut self) -> bool {
+        let moved = self.moved;
+        self.moved = false;
+        let puts_off = moved && self.put_off < PUT_OFF;
+        self.put_off = if puts_off {
+            self.put_off.saturating_add(1)
+        } else {
+            0
+        };
+        puts_off
     }
 
     // Polls, and accepts a client that this showed.
