@@ -4,18 +4,25 @@ ghost use Rattle.std.specs.Prelude.{◌≡◌};
 use crate::moves::Moves;
 use std::cell::Cell;
 use std::marker::Model;
-use std::thread;
 use std::time::{Clock, Duration};
+use std::{hint, thread};
 use vs_outside::Gate;
 
-/// So many pauses in a row give up the processor at once, for a microsecond, which is as short as the system's clock allows.
+/// So many pauses in a row look again after a moment and keep the processor: a sleep of a microsecond takes some sixty, as much as these
+/// together.
+const LOOKS: u32 = 64;
+
+/// How often such a pause tells the processor that it waits.
+const SPINS: u32 = 16;
+
+/// So many pauses behind them give up the processor at once, for a microsecond, which is as short as the system's clock allows.
 const SHORT_PAUSES: u32 = 16;
 
 /// So many pauses behind them take twice as long each as the one before. Those after them take a millisecond.
 const LONGER_PAUSES: u32 = 10;
 
-/// A gate that holds nothing up, for one thread. A step that moved nothing lets another thread run, and the thread sleeps the longer the more
-/// of these are in a row, so that one that waits for long takes next to no processor time.
+/// A gate that holds nothing up, for one thread. A step that moved nothing is made again at once, and where some of these are in a row the
+/// thread sleeps the longer the more they are, so that one that waits for long takes next to no processor time.
 ///
 /// Pauses are in a row unless something moved between two of them: the gate was told of a second step or turn there, or bytes moved on the
 /// streams of the host beside it.
@@ -103,12 +110,22 @@ impl<R: Clock> Gate for BackoffGate<R> {
         if self.has_moved() {
             self.row = 0;
         }
-        thread::sleep(&self.rt, rest_behind(self.row));
+        match self.row.checked_sub(LOOKS) {
+            None => look_again(),
+            Some(row) => thread::sleep(&self.rt, rest_behind(row)),
+        }
         self.row = self.row.saturating_add(1);
     }
 }
 
-// How long a pause is behind so many in a row.
+// A moment in which the processor is kept.
+fn look_again() {
+    for _ in 0..SPINS {
+        hint::spin_loop();
+    }
+}
+
+// How long a sleep is behind so many in a row.
 fn rest_behind(row: u32) -> Duration {
     let longer = row.saturating_sub(SHORT_PAUSES);
     if longer < LONGER_PAUSES {
