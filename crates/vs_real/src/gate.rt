@@ -8,8 +8,8 @@ use std::time::{Clock, Duration};
 use std::{hint, thread};
 use vs_outside::Gate;
 
-/// So many pauses in a row look again after a moment and keep the processor: a sleep of a microsecond takes some sixty, as much as these
-/// together.
+/// So many pauses in a row keep the processor and look again after a moment: a sleep takes longer than it is asked for, and where the other
+/// side moves soon that would be the longer wait.
 const LOOKS: u32 = 64;
 
 /// How often such a pause tells the processor that it waits.
