@@ -1,44 +1,41 @@
 -- Calls and polls keep what a journal's calls were given, against the driver's next id and its listeners.
-use Rattle.std.proofs.Common.{◌≡◌, ◌⊎◌, inl, inr, ℕ, ◌+◌, ◌<◌, ◌≤◌, ◌==◌, ◌&&◌, ◌||◌, nat_le, not, Bool, true, false, cond, List, [], ◌∷◌, ◌++◌, length, find, take}
-use Rattle.std.proofs.Common.{Option, Some, None, is_some, Result, Ok, Err, refl, sym, ap, subst, ◌∙◌, arith}
-use Rattle.std.proofs.lemmas.{Bool.and_parts, Bool.eq-eqb, Bool.eqb-true, List.Elements.All-contains, Option.same_Some}
-use Rattle.std.specs.{List.list_any, Option.{option_map, option_map_or}}
-use Rattle.vs_contents.specs.CallTree.{Done, bind}
-use Rattle.vs_contents.proofs.Leads.{AllEnds, end_of}
-use Rattle.vs_conn.specs.{End.is_reset, End.verdict_of, declared.{end.Owed.Owed, end.State.State, end.Verdict.Verdict}}
-use Rattle.vs_conn.specs.declared.end.Owed.TheVariants as owed
-use Rattle.vs_conn.specs.declared.end.State.TheVariants as state
-use Rattle.vs_conn.specs.declared.end.Verdict.TheVariants as verdict
-use Rattle.vs_flow.{proofs.Entries.found_passes, specs.Flow.is_assigned, specs.Table.entry_of, specs.declared.flow.Flow.Flow}
+use Rattle.std.proofs.Common.{◌≡◌, ◌⊎◌, inl, inr, ℕ, ◌+◌, ◌<◌, ◌≤◌, ◌==◌, ◌&&◌, ◌||◌, nat_le, not, Bool, true, false, cond, List, [], ◌∷◌, ◌++◌, length, find, take, Option, Some}
+use Rattle.std.proofs.{Common.{None, is_some, Result, Ok, Err, refl, sym, ap, subst, ◌∙◌, arith}, lemmas.{Bool.{and_parts, eq-eqb, eqb-true}, List.Elements.All-contains}}
+use Rattle.std.{proofs.lemmas.Option.same_Some, specs.{List.list_any, Option.{option_map, option_map_or}}}
+use Rattle.vs_contents.{specs.CallTree.{Done, bind}, proofs.Leads.{AllEnds, end_of}}
+use Rattle.vs_conn.specs.{End.{is_reset, verdict_of}, declared.end.{Owed.Owed, State.State, Verdict.Verdict}}
+use Rattle.vs_flow.{proofs.Entries.found_passes, specs.{Flow.is_assigned, Table.entry_of, declared.flow.Flow.Flow}}
 use Rattle.vs_limits.specs.declared.TheConstants.{DRIVER_CONNECTIONS, LAST_PORT, LISTENERS}
 use Rattle.laws_history.specs.declared.packet.Packet.{Packet}
-use Rattle.vs_page.specs.{Log.Driver, Log.flow_to_guest, Open.is_dropped}
+use Rattle.vs_page.specs.{Log.{Driver, flow_to_guest}, Open.is_dropped}
 use Rattle.vs_replies.specs.Owed.{reply_to}
 use Rattle.laws_tables.proofs.Slots.{found_by}
 use Rattle.vs_ring_port.specs.{Contents.RingContents, EndLog.EndLog}
 use Rattle.vs_wrap.specs.Wrap.{counted}
-use Rattle.vs_driver_parts.specs.Connections.{after_close, after_leaving, after_read, after_recv, after_grow, after_shutdown, all_gone_after_read, connected, entry_closed, entry_grow_answer, entry_read}
-use Rattle.vs_driver_parts.specs.Connections.{flow_of, grown_by, is_full, is_spent, shut_in, state_of, waits_no_more, with_connection, with_request, without_gone}
-use Rattle.vs_driver_parts.specs.Conversations.{DriverTree, after_paying, connect_of, connect_with_page, has_page, new_of, no_credit, not_sent, poll_of, post_packet, reap_all, request_bytes, send_stopped}
-use Rattle.vs_driver_parts.specs.{Listening.{accept_of, is_answered, listener_on, listening, next_accepted, with_port, with_waiting, without_id}, Playing.{Plays, RingAllows}}
-use Rattle.vs_driver_parts.specs.Receiving.{after_packet, after_verdict, all_left, ends_connection, is_request, may_open, on_heard, on_known, on_packet, on_unknown, reset_reply, with_reply}
-use Rattle.vs_driver_parts.specs.State.{DriverEntry, DriverState, GoneConnection, Listener, entry_known_as, gone_known_as, is_known_as}
-use Rattle.vs_driver_parts.specs.declared.answers.{Accepted.Accepted, ConnectError.ConnectError, Grown.Grown, ListenError.ListenError, Polled.Polled, Sent.Sent}
+use Rattle.vs_driver_parts.specs.Connections.{after_close, after_leaving, after_read, after_recv, after_grow, after_shutdown, all_gone_after_read, connected, entry_closed}
+use Rattle.vs_driver_parts.specs.Connections.{entry_grow_answer, entry_read, flow_of, grown_by, is_full, is_spent, shut_in, state_of, waits_no_more, with_connection, with_request}
+use Rattle.vs_driver_parts.specs.{Connections.without_gone, Conversations.{DriverTree, after_paying, connect_of, connect_with_page, has_page, new_of, no_credit, not_sent, poll_of}}
+use Rattle.vs_driver_parts.specs.{Conversations.{post_packet, reap_all, request_bytes, send_stopped}, Listening.{accept_of, is_answered, listener_on, listening, next_accepted}}
+use Rattle.vs_driver_parts.specs.{Listening.{with_port, with_waiting, without_id}, Playing.{Plays, RingAllows}, Receiving.{after_packet, after_verdict, all_left, ends_connection}}
+use Rattle.vs_driver_parts.specs.{Receiving.{is_request, may_open, on_heard, on_known, on_packet, on_unknown, reset_reply, with_reply}, State.{DriverEntry, DriverState}}
+use Rattle.vs_driver_parts.specs.{State.{GoneConnection, Listener, entry_known_as, gone_known_as, is_known_as}, declared.answers.{Accepted.Accepted, ConnectError.ConnectError}}
+use Rattle.vs_driver_parts.specs.declared.answers.{Grown.Grown, ListenError.ListenError, Polled.Polled, Sent.Sent}
+use Rattle.laws_driver.specs.{Honest.{IsFresh, IsHonestWith}, Carried.Calls.{Accept, Close, Connect, Grow, GuestCall, Journal, Listen, LookAt, Made, Recv, ReplyTo, Send, Shutdown}}
+use Rattle.laws_driver.{specs.Carried.Calls.{Unlisten, is_right, names, whole_call}, proofs.{Calls.new_keeps, Carrying.{Carries, Fact}, Keeping.keeps_end, Polling.poll_keeps}}
+use Rattle.laws_driver.proofs.{Staging.Rests, Carried.{Growing.honest_stays, Making.{CarriesCall, whole_with}, Righting.told_before, Sending.begins}}
+use Rattle.laws_rest.proofs.Quiet.{ends_any, ends_then}
+use Rattle.vs_apps_parts.specs.{Journals.made_as, Told.{told_of, wait_of}, declared.journal.{Entry.Entry, WaitsFor.WaitsFor}}
+use Rattle.laws_apps.specs.{Given.{AreGiven, AreGivenWith, ConnectTells, TellsGiven, heard_by, is_heard}, Placed.{ArePlaced, ArePlacedWith, IsAsked, IsClients, IsPlaced}}
+use Rattle.laws_apps.{specs.Placed.{IsPlacedEntry, IsPlacedGone, IsTo, accepted_as, asked_as, given_by, waits_at, was_closed, was_given}, proofs.Placed.{one_of, or_first}}
+use Rattle.laws_apps.proofs.{Placed.or_second, Placing.{IsOfApps, NamesAsked, noted}, Tracing.found_gone}
+use Rattle.vs_conn.specs.declared.end.Owed.TheVariants as owed
+use Rattle.vs_conn.specs.declared.end.State.TheVariants as state
+use Rattle.vs_conn.specs.declared.end.Verdict.TheVariants as verdict
 use Rattle.vs_driver_parts.specs.declared.answers.Accepted.TheVariants as accepted
 use Rattle.vs_driver_parts.specs.declared.answers.ConnectError.TheVariants as refused
 use Rattle.vs_driver_parts.specs.declared.answers.Grown.TheVariants as rise
 use Rattle.vs_driver_parts.specs.declared.answers.ListenError.TheVariants as unheard
 use Rattle.vs_driver_parts.specs.declared.answers.Sent.TheVariants as sent
-use Rattle.laws_driver.specs.Honest.{IsFresh, IsHonestWith}
-use Rattle.laws_driver.proofs.{Calls.new_keeps, Carrying.Carries, Carrying.Fact, Keeping.keeps_end, Polling.poll_keeps, Staging.Rests}
-use Rattle.laws_driver.specs.Carried.Calls.{Accept, Close, Connect, Grow, GuestCall, Journal, Listen, LookAt, Made, Recv, ReplyTo, Send, Shutdown, Unlisten}
-use Rattle.laws_driver.specs.Carried.Calls.{is_right, names, whole_call}
-use Rattle.laws_driver.proofs.Carried.{Growing.honest_stays, Making.CarriesCall, Making.whole_with, Righting.told_before, Sending.begins}
-use Rattle.laws_rest.proofs.Quiet.{ends_any, ends_then}
-use Rattle.vs_apps_parts.specs.{Journals.made_as, Told.told_of, Told.wait_of, declared.journal.Entry.Entry, declared.journal.WaitsFor.WaitsFor}
-use Rattle.laws_apps.specs.Given.{AreGiven, AreGivenWith, ConnectTells, TellsGiven, heard_by, is_heard}
-use Rattle.laws_apps.specs.Placed.{ArePlaced, ArePlacedWith, IsAsked, IsClients, IsPlaced, IsPlacedEntry, IsPlacedGone, IsTo, accepted_as, asked_as, given_by, waits_at, was_closed, was_given}
-use Rattle.laws_apps.proofs.{Placed.{one_of, or_first, or_second}, Placing.{IsOfApps, NamesAsked, noted}, Tracing.found_gone}
 
 -- The listener on a port, where the waiting of one changes.
 abbrev changed : (List ℕ → List ℕ) → Listener → Listener

@@ -3,17 +3,12 @@ use Rattle.std.proofs.Common.{◌≡◌, ◌≤◌, ℕ, true, List, [], ◌∷�
 use Rattle.vs_limits.specs.declared.TheConstants.{LAST_PORT}
 use Rattle.vs_page.specs.Log.{Driver}
 use Rattle.vs_ring_port.specs.{Contents.RingContents, EndLog.EndLog}
-use Rattle.laws_tables.specs.Both.{Asks, Decides, Opens, Pays, Seat, Sends, Step}
+use Rattle.laws_tables.{specs.{Both.{Asks, Decides, Opens, Pays, Seat, Sends, Step}, Asked.{AskOnce, Does}}, proofs.Asking.{begins_once, step_once}}
 use Rattle.vs_driver_parts.specs.{Conversations.{new_of, poll_of}, Playing.Plays, State.DriverState, declared.answers.Polled.Polled}
-use Rattle.laws_driver.specs.Honest.{IsFresh, IsHonestWith}
-use Rattle.laws_driver.proofs.{Calls.new_keeps, Carrying.Fact, Going.Goes, Going.MayDo, Going.MayDoAll, Going.done, Going.seat, Going.stays}
-use Rattle.laws_driver.proofs.{Keeping.keeps_end, Polling.poll_keeps, Staging.Rests, Walking.goes_from, Walking.poll_goes}
-use Rattle.laws_driver.specs.Carried.Calls.{GuestCall, ReplyTo, is_right, whole_call}
-use Rattle.laws_driver.proofs.Carried.{Growing.honest_stays, Making.call_goes, Making.whole_with, Sending.begins}
-use Rattle.laws_tables.specs.Asked.{AskOnce, Does}
-use Rattle.laws_tables.proofs.Asking.{begins_once, step_once}
+use Rattle.laws_driver.{specs.{Honest.{IsFresh, IsHonestWith}, Carried.Calls.{GuestCall, ReplyTo, is_right, whole_call}}, proofs.{Calls.new_keeps, Carrying.Fact, Going.Goes}}
+use Rattle.laws_driver.proofs.{Going.{MayDo, MayDoAll, done, seat, stays}, Keeping.keeps_end, Polling.poll_keeps, Staging.Rests, Walking.{goes_from, poll_goes}}
+use Rattle.laws_driver.proofs.Carried.{Growing.honest_stays, Making.{call_goes, whole_with}, Sending.begins, Righting.told_before}
 use Rattle.laws_apps.specs.Asked.{AsksOnceWith}
-use Rattle.laws_driver.proofs.Carried.Righting.{told_before}
 
 does : (step : Step) (w : Seat) → MayDo step w → Does Driver step w
 does (Opens f kind) w may = may.1

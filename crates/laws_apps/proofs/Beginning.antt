@@ -1,14 +1,12 @@
 -- A run at first.
-use Rattle.std.proofs.Common.{◌≡◌, ℕ, ◌≤◌, List, [], length, refl, sym, ap, subst}
-use Rattle.std.specs.Prelude.{slice_index_or}
+use Rattle.std.{proofs.Common.{◌≡◌, ℕ, ◌≤◌, List, [], length, refl, sym, ap, subst}, specs.Prelude.slice_index_or}
 use Rattle.vs_limits.specs.declared.TheConstants.{LAST_PORT}
 use Rattle.vs_ring_port.specs.Contents.{RingContents}
 use Rattle.vs_driver_parts.specs.{Conversations.new_of, Playing.Plays, State.DriverState}
-use Rattle.laws_driver.{specs.Honest.IsFresh, specs.Carried.Received.no_account, proofs.Calls.new_honest, proofs.Carried.Ending.new_righted}
+use Rattle.laws_driver.{specs.{Honest.IsFresh, Carried.Received.no_account}, proofs.{Calls.new_honest, Carried.Ending.new_righted}}
 use Rattle.laws_rest.proofs.Routes.{new_routed}
-use Rattle.vs_apps_parts.specs.{Scripts.IsPlayed, Scripts.RunScript, Scripts.acts_of, declared.progress.AppState.AppState}
-use Rattle.laws_apps.proofs.{Answering.new_answered, Asked.new_asks, Placing.new_placed, Tracing.new_traced}
-use Rattle.laws_apps.specs.{Runs.IsRunOf, Runs.no_app}
+use Rattle.vs_apps_parts.specs.{Scripts.{IsPlayed, RunScript, acts_of}, declared.progress.AppState.AppState}
+use Rattle.laws_apps.{proofs.{Answering.new_answered, Asked.new_asks, Placing.new_placed, Tracing.new_traced}, specs.Runs.{IsRunOf, no_app}}
 
 pub begins_run : (size port : ℕ) (c d : RingContents) (s : DriverState) (script : RunScript) (apps : List AppState) → port ≤ LAST_PORT
     → IsFresh c → Plays (new_of size port 1) c s d → length apps ≡ length script → ((k : ℕ) → slice_index_or apps k no_app ≡ no_app)

@@ -1,21 +1,15 @@
 -- Calls and polls keep the account.
-use Rattle.std.proofs.Common.{◌≡◌, ◌<◌, ◌^◌, ℕ, nat_lt, true, arith, List, [], ◌∷◌, ◌++◌, Some, refl, sym, subst, ◌∙◌}
-use Rattle.std.proofs.lemmas.Bool.Decides.{nat_tests}
+use Rattle.std.proofs.{Common.{◌≡◌, ◌<◌, ◌^◌, ℕ, nat_lt, true, arith, List, [], ◌∷◌, ◌++◌, Some, refl, sym, subst, ◌∙◌}, lemmas.Bool.Decides.nat_tests}
 use Rattle.vs_ring_port.specs.{Contents.RingContents, EndLog.EndLog}
 use Rattle.vs_driver_parts.specs.{Conversations.poll_of, Playing.Plays, State.DriverState, declared.answers.Polled.Polled}
-use Rattle.laws_driver.specs.Honest.{IsHonestWith, slots_of}
-use Rattle.laws_driver.proofs.{Keeping.keeps_end, Ringing.agrees, Staging.Rests}
-use Rattle.laws_driver.specs.Carried.Calls.{GuestCall, Journal, ReplyTo, account_of, is_right, whole_call, with_call}
-use Rattle.laws_driver.specs.Carried.Senders.{IsRightJournal}
-use Rattle.laws_driver.proofs.Carried.{Growing.honest_stays, Making.{at_first, call_sent, sent_with, whole_with}, Sending.begins}
-use Rattle.laws_driver.proofs.Carried.Righting.{call_righted, poll_righted, told_before}
-use Rattle.laws_driver.specs.Carried.Calls as call
-use Rattle.laws_rest.specs.Rest.{IsRoutedWith}
-use Rattle.laws_rest.proofs.Routes.{connect_routed, send_routed}
+use Rattle.laws_driver.specs.{Honest.{IsHonestWith, slots_of}, Carried.{Calls.{GuestCall, Journal, ReplyTo, account_of, is_right, whole_call, with_call}, Senders.IsRightJournal}}
+use Rattle.laws_driver.proofs.{Keeping.keeps_end, Ringing.agrees, Staging.Rests, Carried.{Growing.honest_stays, Making.{at_first, call_sent, sent_with, whole_with}}}
+use Rattle.laws_driver.proofs.Carried.{Sending.begins, Righting.{call_righted, poll_righted, told_before}}
+use Rattle.laws_rest.{specs.Rest.IsRoutedWith, proofs.Routes.{connect_routed, send_routed}}
 use Rattle.vs_flow.specs.Connection.{Connection}
-use Rattle.vs_apps_parts.specs.{Journals.entry_called, declared.journal.Called.Called, declared.journal.Entry.Entry}
-use Rattle.laws_apps.specs.{Accounts.IsAccounted, Accounts.TellFlows, Runs.HasFlow}
-use Rattle.laws_apps.proofs.Opening.{called_has, flows_snoc, flows_stay}
+use Rattle.vs_apps_parts.specs.{Journals.entry_called, declared.journal.{Called.Called, Entry.Entry}}
+use Rattle.laws_apps.{specs.{Accounts.{IsAccounted, TellFlows}, Runs.HasFlow}, proofs.Opening.{called_has, flows_snoc, flows_stay}}
+use Rattle.laws_driver.specs.Carried.Calls as call
 
 same_some : {A : Type 0} (x y : A) → Some x ≡ Some y → x ≡ y
 same_some x y is = cc

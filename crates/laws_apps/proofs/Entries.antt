@@ -1,18 +1,15 @@
 -- What an entry more, a wait more and bytes more do to what a journal tells.
-use Rattle.std.proofs.Common.{◌≡◌, ℕ, zero, suc, ◌+◌, ◌<◌, ◌≤◌, ◌==◌, Bool, true, false, cond, List, [], ◌∷◌, ◌++◌, length, take, drop, Option}
-use Rattle.std.proofs.Common.{Some, None, refl, sym, ap, ◌∙◌, append_assoc, append-nil, slice_set, arith}
-use Rattle.std.proofs.lemmas.List.{take-append-le, drop-append-le, length-drop}
-use Rattle.std.specs.{Prelude.slice_get, Option.unwrap_or}
+use Rattle.std.proofs.Common.{◌≡◌, ℕ, zero, suc, ◌+◌, ◌<◌, ◌≤◌, ◌==◌, Bool, true, false, cond, List, [], ◌∷◌, ◌++◌, length, take, drop, Option, Some, None, refl, sym, ap, ◌∙◌}
+use Rattle.std.{proofs.{Common.{append_assoc, append-nil, slice_set, arith}, lemmas.List.{take-append-le, drop-append-le, length-drop}}, specs.Prelude.slice_get}
+use Rattle.std.specs.Option.{unwrap_or}
 use Rattle.vs_driver_parts.specs.Connections.{got_count}
 use Rattle.laws_driver.specs.Carried.Calls.{Journal, Made}
-use Rattle.laws_driver.specs.Carried.Calls as call
-use Rattle.vs_apps_parts.specs.Journals.{AllStandIn, StandsIn, calls_of, calls_of_app, ends_at, entry_called, entry_waited, gathered}
-use Rattle.vs_apps_parts.specs.Journals.{made_as, made_by, made_by_app, made_of, one_more, times_at, times_in, wait_noted, waited_before}
-use Rattle.vs_apps_parts.specs.{Scripts.RunScript, Scripts.slice_of, declared.journal.Called.Called, declared.journal.Deed.Deed}
+use Rattle.vs_apps_parts.specs.Journals.{AllStandIn, StandsIn, calls_of, calls_of_app, ends_at, entry_called, entry_waited, gathered, made_as, made_by, made_by_app, made_of}
+use Rattle.vs_apps_parts.specs.{Journals.{one_more, times_at, times_in, wait_noted, waited_before}, Scripts.{RunScript, slice_of}, declared.journal.{Called.Called, Deed.Deed}}
 use Rattle.vs_apps_parts.specs.declared.journal.{Entry.Entry, WaitsFor.WaitsFor}
 use Rattle.vs_flow.specs.Connection.{Connection}
-use Rattle.laws_apps.specs.{Accounts.TellFlows, Placed.AreOwned, Placed.IsOwned, Placed.NamesFlow}
-use Rattle.laws_apps.proofs.Opening.{flows_set, flows_snoc}
+use Rattle.laws_apps.{specs.{Accounts.TellFlows, Placed.{AreOwned, IsOwned, NamesFlow}}, proofs.Opening.{flows_set, flows_snoc}}
+use Rattle.laws_driver.specs.Carried.Calls as call
 use Rattle.vs_apps_parts.specs.declared.journal.Called.TheVariants as called
 use Rattle.vs_apps_parts.specs.declared.journal.Deed.TheVariants as deed
 

@@ -1,32 +1,25 @@
 -- A step of an app keeps what is true of a run.
-use Rattle.std.proofs.Common.{◌≡◌, ◌≢◌, ◌⊎◌, inl, inr, ℕ, ◌<◌, ◌≤◌, ◌==◌, Bool, true, false, cond, List, [], ◌∷◌, ◌++◌, length, Option, Some, None, Result, Ok, Err, refl}
-use Rattle.std.proofs.Common.{sym, ap, subst, ◌∙◌, arith, slice_set, get_or-set_other, get_or-set_same, length-set, length-append}
-use Rattle.std.proofs.lemmas.Bool.{eqb-true, eq-eqb}
+use Rattle.std.proofs.Common.{◌≡◌, ◌≢◌, ◌⊎◌, inl, inr, ℕ, ◌<◌, ◌≤◌, ◌==◌, Bool, true, false, cond, List, [], ◌∷◌, ◌++◌, length, Option, Some, None, Result, Ok, Err, refl, sym, ap}
+use Rattle.std.proofs.{Common.{subst, ◌∙◌, arith, slice_set, get_or-set_other, get_or-set_same, length-set, length-append}, lemmas.Bool.{eqb-true, eq-eqb}}
 use Rattle.std.specs.{Option.unwrap_or, Prelude.slice_index_or}
-use Rattle.vs_driver_parts.specs.{State.DriverState, declared.answers.Polled.Polled}
-use Rattle.laws_driver.proofs.Calls.{poll_honest}
+use Rattle.vs_driver_parts.specs.{State.DriverState, declared.answers.{Polled.Polled, Accepted.Accepted, ConnectError.ConnectError}, Connections.flow_of}
+use Rattle.laws_driver.{proofs.Calls.poll_honest, specs.Carried.Calls.{GuestCall, Journal, Made, ReplyTo, Unlisten, bytes_received, flow_accepted, flow_opened, with_call}}
 use Rattle.laws_rest.proofs.Routes.{poll_routed}
-use Rattle.laws_driver.specs.Carried.Calls.{GuestCall, Journal, Made, ReplyTo, Unlisten, bytes_received, flow_accepted, flow_opened, with_call}
-use Rattle.laws_apps.specs.Placed.{AreOwned, ArePlaced, HasItsFlow, IsAsked, IsClients, IsTo, NamesFlow, accepted_as, asked_as, given_by, was_given}
+use Rattle.laws_apps.specs.{Placed.{AreOwned, ArePlaced, HasItsFlow, IsAsked, IsClients, IsTo, NamesFlow, accepted_as, asked_as, given_by, was_given}, Accounts.IsAccounted}
+use Rattle.laws_apps.specs.Runs.{IsKept, IsRunOf, MakesCall, MakesCalls, Moves, NotesCall, CallsNext, HasFlow, PollsTo, Run, Steps, Waits, app_at, journal_of, journal_of_app}
+use Rattle.laws_apps.{specs.{Runs.{moved_state, no_app}, Given.AreGivenWith, Traces.IsTracedWith}, proofs.Answering.{NamesIt, call_answered, call_named, poll_answered}}
+use Rattle.laws_apps.proofs.{Giving.{AreApps, next_apps}, Named.{app_did, conn_given, still_did}, Tracing.{IsApps, call_traced, poll_traced}, Waiting.{called_waits, moved_waits}}
+use Rattle.laws_apps.proofs.{Waiting.{wait_waits, waited_waits, waits_noted}, Calling.{call_accounted, call_honest, call_routed, entry_accounted, poll_accounted, told_accounted}}
+use Rattle.laws_apps.proofs.{Asked.{call_asks, poll_asks}, Placing.{IsOfApps, call_placed, poll_placed}, Noting.{call_noted, same_accounted}, Entries.{SameCalls, app_calls_stay}}
+use Rattle.laws_apps.proofs.Entries.{called_owned, called_stand, calls_stay, gathered_snoc, more_stand, wait_same}
 use Rattle.vs_flow.specs.declared.flow.Flow.{Flow}
-use Rattle.vs_driver_parts.specs.{Connections.flow_of, declared.answers.Accepted.Accepted, declared.answers.ConnectError.ConnectError}
+use Rattle.vs_apps_parts.specs.declared.{journal.{Called.Called, Entry.Entry, WaitsFor.WaitsFor}, progress.{AppState.AppState, Progress.Progress, Stepped.Stepped}, told.Told.Told}
+use Rattle.vs_apps_parts.specs.Journals.{AllStandIn, calls_of, calls_of_app, entry_called, last_wait, made_as, made_by, made_by_app, made_of, wait_noted, wait_place}
+use Rattle.vs_apps_parts.specs.{Scripts.{IsPlayed, RunScript, acts_of, calls_in, id_of, told_in, with_noted}, Told.{step_wait, told_by, told_of, wait_of}}
 use Rattle.vs_driver_parts.specs.declared.answers.Accepted.TheVariants as accepted
-use Rattle.vs_apps_parts.specs.declared.journal.Called.{Called}
 use Rattle.vs_apps_parts.specs.declared.journal.Called.TheVariants as called
-use Rattle.vs_apps_parts.specs.Journals.{AllStandIn, calls_of, calls_of_app, entry_called, last_wait, made_as, made_by, made_by_app, made_of}
-use Rattle.vs_apps_parts.specs.{Journals.{wait_noted, wait_place}, Scripts.{IsPlayed, RunScript, acts_of, calls_in, id_of, told_in, with_noted}}
-use Rattle.vs_apps_parts.specs.{Told.{step_wait, told_by, told_of, wait_of}, declared.{journal.Entry.Entry, journal.WaitsFor.WaitsFor}}
-use Rattle.vs_apps_parts.specs.declared.{progress.AppState.AppState, progress.Progress.Progress, progress.Stepped.Stepped, told.Told.Told}
 use Rattle.vs_apps_parts.specs.declared.progress.Stepped.TheVariants as stepped
 use Rattle.vs_apps_parts.specs.declared.told.Told.TheVariants as says
-use Rattle.laws_apps.specs.{Accounts.IsAccounted, Runs.IsKept, Runs.IsRunOf, Runs.MakesCall, Runs.MakesCalls, Runs.Moves, Runs.NotesCall}
-use Rattle.laws_apps.specs.Runs.{CallsNext, HasFlow, PollsTo, Run, Steps, Waits, app_at, journal_of, journal_of_app, moved_state, no_app}
-use Rattle.laws_apps.specs.{Given.AreGivenWith, Traces.IsTracedWith}
-use Rattle.laws_apps.proofs.{Answering.{NamesIt, call_answered, call_named, poll_answered}, Giving.{AreApps, next_apps}, Named.{app_did, conn_given, still_did}, Tracing.{IsApps, call_traced, poll_traced}}
-use Rattle.laws_apps.proofs.Waiting.{called_waits, moved_waits, wait_waits, waited_waits, waits_noted}
-use Rattle.laws_apps.proofs.Calling.{call_accounted, call_honest, call_routed, entry_accounted, poll_accounted, told_accounted}
-use Rattle.laws_apps.proofs.{Asked.call_asks, Asked.poll_asks, Placing.{IsOfApps, call_placed, poll_placed}, Noting.call_noted, Noting.same_accounted}
-use Rattle.laws_apps.proofs.Entries.{SameCalls, app_calls_stay, called_owned, called_stand, calls_stay, gathered_snoc, more_stand, wait_same}
 
 either : {A : Type 0} (b : Bool) (x : A) → x ≡ cond b x x
 either true x = refl

@@ -1,29 +1,24 @@
 -- What a journal tells of the driver's connections, through each change of them.
-use Rattle.std.proofs.Common.{◌≡◌, ◌≤◌, ◌⊎◌, inl, inr, ℕ, zero, suc, ◌+◌, ◌==◌, ◌&&◌, ◌||◌, Bool, true, false, not, cond, List, [], ◌∷◌, ◌++◌, filter, drop, map}
-use Rattle.std.proofs.Common.{Contains, get_or, Option, Some, None, refl, sym, ap, ◌∙◌, arith}
-use Rattle.std.proofs.lemmas.{Grind.common_steps, List.Elements.{All-contains, All-filter, All-map, All-push, Contains-get_or}}
-use Rattle.std.specs.List.{All}
-use Rattle.vs_conn.specs.End.{ConnectionEnd, aborted, end_after, is_reset, owes_of, paid_of, verdict_of, with_payload_forwarded}
-use Rattle.vs_conn.specs.{End.with_shut, Shut.shut_of, declared.end.{Owed.Owed, Verdict.Verdict}}
-use Rattle.vs_conn.specs.declared.end.State.TheVariants.{Ended}
-use Rattle.vs_conn.specs.declared.end.Owed.TheVariants as owed
-use Rattle.vs_conn.specs.declared.end.Verdict.TheVariants as verdict
-use Rattle.vs_conn.proofs.Frames.{got_over, got_own, paid_over, paid_own, paid_peer}
+use Rattle.std.proofs.Common.{◌≡◌, ◌≤◌, ◌⊎◌, inl, inr, ℕ, zero, suc, ◌+◌, ◌==◌, ◌&&◌, ◌||◌, Bool, true, false, not, cond, List, [], ◌∷◌, ◌++◌, filter, drop, map, Contains, get_or}
+use Rattle.std.proofs.{Common.{Option, Some, None, refl, sym, ap, ◌∙◌, arith}, lemmas.{Grind.common_steps, List.Elements.{All-contains, All-filter, All-map, All-push}}}
+use Rattle.std.{proofs.lemmas.List.Elements.Contains-get_or, specs.List.All}
+use Rattle.vs_conn.specs.{End.{ConnectionEnd, aborted, end_after, is_reset, owes_of, paid_of, verdict_of, with_payload_forwarded, with_shut}, Shut.shut_of, declared.end.Owed.Owed}
+use Rattle.vs_conn.{specs.declared.end.{Verdict.Verdict, State.TheVariants.Ended}, proofs.Frames.{got_over, got_own, paid_over, paid_own, paid_peer}}
 use Rattle.vs_flow.specs.Table.{entry_of, revalued}
 use Rattle.vs_header.specs.declared.Header.{Header}
 use Rattle.laws_history.specs.declared.packet.Packet.{Packet}
-use Rattle.vs_page.specs.{Log.Driver, Log.flow_to_guest, Open.is_dropped}
+use Rattle.vs_page.specs.{Log.{Driver, flow_to_guest}, Open.is_dropped}
 use Rattle.vs_replies.specs.Owed.{reply_to}
-use Rattle.vs_driver_parts.specs.State.{DriverConnection, DriverEntry, DriverState}
-use Rattle.vs_driver_parts.specs.Connections.{after_leaving, after_read, after_shut, paid_connection, waits_no_more, with_connection, with_request}
-use Rattle.vs_driver_parts.specs.{Conversations.after_paying, Receiving.{after_packet, after_verdict, all_left, ends_connection, is_request, may_open, on_heard}}
-use Rattle.vs_driver_parts.specs.Receiving.{on_known, on_packet, on_unknown, reset_reply, with_reply}
+use Rattle.vs_driver_parts.specs.{State.{DriverConnection, DriverEntry, DriverState}, Connections.{after_leaving, after_read, after_shut, paid_connection, waits_no_more}}
+use Rattle.vs_driver_parts.specs.{Connections.{with_connection, with_request}, Conversations.after_paying, Receiving.{after_packet, after_verdict, all_left, ends_connection}}
+use Rattle.vs_driver_parts.specs.Receiving.{is_request, may_open, on_heard, on_known, on_packet, on_unknown, reset_reply, with_reply}
 use Rattle.vs_wrap.specs.Wrap.{counted}
 use Rattle.laws_tables.proofs.Slots.{found_by}
-use Rattle.laws_driver.proofs.{Carrying.Carries, Carrying.Fact}
-use Rattle.laws_driver.specs.Carried.Calls.{Journal, Made, Connect, Listen, Unlisten, Accept, Send, Recv, Shutdown, Grow, Close, LookAt}
+use Rattle.laws_driver.{proofs.Carrying.{Carries, Fact}, specs.Carried.Calls.{Journal, Made, Connect, Listen, Unlisten, Accept, Send, Recv, Shutdown, Grow, Close, LookAt}}
 use Rattle.vs_apps_parts.specs.Told.{told_of}
 use Rattle.laws_apps.specs.Traces.{AllTell, AtId, IsClosing, IsDrained, IsStopped, IsTraced, TellsOf, is_shut, is_touched}
+use Rattle.vs_conn.specs.declared.end.Owed.TheVariants as owed
+use Rattle.vs_conn.specs.declared.end.Verdict.TheVariants as verdict
 
 -- A connection came to have this end and these unread bytes.
 pub record IsLater (c : DriverConnection) (end : ConnectionEnd) (unread : List ℕ) : Type 0 where

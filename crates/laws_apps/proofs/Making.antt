@@ -1,18 +1,15 @@
 -- What a call leaves that is made and noted.
-use Rattle.std.proofs.Common.{◌≡◌, ℕ, ◌≤◌, ◌<◌, ◌^◌, arith, true, List, [], ◌++◌, length, Option, Some, None, Result, Ok, Err, refl, sym}
-use Rattle.std.proofs.{Common.{ap, ◌∙◌, append-nil}, lemmas.Bool.Decides.nat_tests}
-use Rattle.std.specs.Prelude.{OnOk, OnErr}
+use Rattle.std.proofs.Common.{◌≡◌, ℕ, ◌≤◌, ◌<◌, ◌^◌, arith, true, List, [], ◌++◌, length, Option, Some, None, Result, Ok, Err, refl, sym, ap, ◌∙◌, append-nil}
+use Rattle.std.{proofs.lemmas.Bool.Decides.nat_tests, specs.Prelude.{OnOk, OnErr}}
 use Rattle.vs_ring_port.specs.Contents.{RingContents}
-use Rattle.vs_driver_parts.specs.{Connections.{after_close, after_grow, after_shutdown, close_of, grow_of, shutdown_of, state_of}, Listening.accept_of}
-use Rattle.vs_driver_parts.specs.{Listening.{after_accept, listen_of, listening}, Playing.Plays, State.DriverState}
-use Rattle.vs_driver_parts.specs.declared.answers.{Accepted.Accepted, Closed.Closed, ConnectionState.ConnectionState}
+use Rattle.vs_driver_parts.specs.{Connections.{after_close, after_grow, after_shutdown, close_of, grow_of, shutdown_of, state_of}, Listening.{accept_of, after_accept, listen_of}}
+use Rattle.vs_driver_parts.specs.{Listening.listening, Playing.Plays, State.DriverState, declared.answers.{Accepted.Accepted, Closed.Closed, ConnectionState.ConnectionState}}
 use Rattle.vs_driver_parts.specs.declared.answers.{Grown.Grown, ListenError.ListenError, Shut.Shut}
-use Rattle.laws_driver.specs.Carried.Calls as call
 use Rattle.laws_driver.specs.Carried.Calls.{GuestCall, ReplyTo, bytes_received, is_right, whole_call}
-use Rattle.vs_apps_parts.specs.{Journals.{called_noted, ends_at, made_as, made_of}, Scripts.RunScript, Told.{told_by, wait_of}}
-use Rattle.vs_apps_parts.specs.{declared.journal.Called.Called, declared.journal.Entry.Entry, declared.journal.WaitsFor.WaitsFor}
-use Rattle.vs_apps_parts.specs.declared.{progress.AppState.AppState, told.Told.Told}
+use Rattle.vs_apps_parts.specs.{Journals.{called_noted, ends_at, made_as, made_of}, Scripts.RunScript, Told.{told_by, wait_of}, declared.journal.{Called.Called, Entry.Entry}}
+use Rattle.vs_apps_parts.specs.declared.{journal.WaitsFor.WaitsFor, progress.AppState.AppState, told.Told.Told}
 use Rattle.laws_apps.specs.{Runs.{HasFlow, NotesCall}, Calls.{CallsAs, run_with}}
+use Rattle.laws_driver.specs.Carried.Calls as call
 
 module _ (script : RunScript) (k : ℕ) (made_call : GuestCall) (reply : ReplyTo made_call) (entry : Called) (t : DriverState) (old new : List Entry) (bytes : List ℕ)
     (made : made_of script bytes k entry ≡ made_as made_call reply) (within : ends_at entry ≤ length bytes) (flow : HasFlow entry t)

@@ -1,28 +1,23 @@
 -- What an app's calls name: its connection is one that it was given, so it closes no other, and it listens where its script says.
-use Rattle.std.proofs.Common.{◌≡◌, ◌⊎◌, inl, inr, ℕ, ◌≤◌, ◌==◌, ◌||◌, nat_lt, Bool, true, false, cond, List, [], ◌∷◌, ◌++◌, Option, Some, None, Result, Ok, Err, refl}
-use Rattle.std.proofs.Common.{sym, ap, subst, ◌∙◌, arith, slice_get}
-use Rattle.std.proofs.lemmas.{Bool.eqb-true}
-use Rattle.std.specs.{List.list_any, Option.unwrap_or}
-use Rattle.vs_script.specs.App.{Act, Connect, Listen, Accept, Send, Recv, Drain, Exchange, Shutdown, Grow, Close}
-use Rattle.vs_script.specs.Data.{size_of}
-use Rattle.vs_apps_parts.specs.{Journals.{calls_of, calls_of_app, made_by, made_by_app}, Scripts.RunScript, declared.journal.Entry.Entry}
+use Rattle.std.proofs.Common.{◌≡◌, ◌⊎◌, inl, inr, ℕ, ◌≤◌, ◌==◌, ◌||◌, nat_lt, Bool, true, false, cond, List, [], ◌∷◌, ◌++◌, Option, Some, None, Result, Ok, Err, refl, sym, ap}
+use Rattle.std.{proofs.{Common.{subst, ◌∙◌, arith, slice_get}, lemmas.Bool.eqb-true}, specs.{List.list_any, Option.unwrap_or}}
+use Rattle.vs_script.specs.{App.{Act, Connect, Listen, Accept, Send, Recv, Drain, Exchange, Shutdown, Grow, Close}, Data.size_of}
+use Rattle.vs_apps_parts.specs.{Journals.{calls_of, calls_of_app, made_by, made_by_app}, Scripts.{RunScript, Follows, all_counted, all_noted, begun, calls_in, calls_next, counted}}
+use Rattle.vs_apps_parts.specs.{Scripts.{goes_to, id_of, on_to_next, recv_next, send_next, told_in, with_noted, is_complete}, declared.journal.{Entry.Entry, WaitsFor.WaitsFor}}
+use Rattle.vs_apps_parts.specs.{declared.{progress.Progress.Progress, told.Told.Told}, Told.{is_any_end, step_wait, told_accept, told_by, told_connect, told_look, told_of}}
+use Rattle.vs_apps_parts.specs.Told.{told_recv, told_send, wait_of}
 use Rattle.vs_driver_parts.specs.declared.answers.{Accepted.Accepted, Closed.Closed, ConnectError.ConnectError, ConnectionState.ConnectionState, ListenError.ListenError}
 use Rattle.vs_driver_parts.specs.declared.answers.{Received.Received, Sent.Sent}
+use Rattle.laws_driver.specs.Carried.Calls.{GuestCall, Journal, Made, ReplyTo, names}
+use Rattle.laws_apps.{specs.{Placed.{closed_by, given_by, listened_by, some_did, was_closed, was_given, was_listened}, Traces.id_told}, proofs.Placed.{one_of, or_first, or_second}}
 use Rattle.vs_driver_parts.specs.declared.answers.Accepted.TheVariants as accepted
 use Rattle.vs_driver_parts.specs.declared.answers.Closed.TheVariants as closed
 use Rattle.vs_driver_parts.specs.declared.answers.ConnectError.TheVariants as refused
 use Rattle.vs_driver_parts.specs.declared.answers.ConnectionState.TheVariants as seen
 use Rattle.vs_driver_parts.specs.declared.answers.Received.TheVariants as got
 use Rattle.vs_driver_parts.specs.declared.answers.Sent.TheVariants as sent
-use Rattle.laws_driver.specs.Carried.Calls.{GuestCall, Journal, Made, ReplyTo, names}
 use Rattle.laws_driver.specs.Carried.Calls as call
-use Rattle.vs_apps_parts.specs.Scripts.{Follows, all_counted, all_noted, begun, calls_in, calls_next, counted, goes_to, id_of, on_to_next, recv_next, send_next, told_in, with_noted}
-use Rattle.vs_apps_parts.specs.{Scripts.is_complete, Told.{is_any_end, step_wait, told_accept, told_by, told_connect, told_look, told_of, told_recv, told_send, wait_of}}
-use Rattle.vs_apps_parts.specs.declared.{journal.WaitsFor.WaitsFor, progress.Progress.Progress, told.Told.Told}
 use Rattle.vs_apps_parts.specs.declared.told.Told.TheVariants as told
-use Rattle.laws_apps.specs.Placed.{closed_by, given_by, listened_by, some_did, was_closed, was_given, was_listened}
-use Rattle.laws_apps.specs.Traces.{id_told}
-use Rattle.laws_apps.proofs.Placed.{one_of, or_first, or_second}
 
 -- What some call of two journals did; and what an app did was done.
 module _ (by : (call : GuestCall) → ReplyTo call → Option ℕ) (m : ℕ) where

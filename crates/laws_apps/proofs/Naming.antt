@@ -1,20 +1,13 @@
 -- What was sent on a connection is what was sent on its id, since no two ids have one connection.
-use Rattle.laws_tables.specs.Drains.{is_same}
-use Rattle.laws_tables.specs.Drains.{only_on}
-use Rattle.std.proofs.Common.{◌≡◌, inl, inr, ℕ, ◌≤◌, ◌==◌, ◌&&◌, Bool, true, false, cond, List, [], ◌∷◌, ◌++◌, Option, Some, None, refl}
-use Rattle.std.proofs.{Common.sym, Common.ap, Common.◌∙◌, lemmas.Bool.eqb-true, lemmas.Bool.eq-eqb}
+use Rattle.laws_tables.specs.Drains.{is_same, only_on}
+use Rattle.std.proofs.{Common.{◌≡◌, inl, inr, ℕ, ◌≤◌, ◌==◌, ◌&&◌, Bool, true, false, cond, List, [], ◌∷◌, ◌++◌, Option, Some, None, refl, sym, ap, ◌∙◌}, lemmas.Bool.eqb-true}
+use Rattle.std.proofs.lemmas.Bool.{eq-eqb}
 use Rattle.vs_flow.specs.{Connection.Connection, Flow.same_flow}
-use Rattle.vs_page.specs.Log.{Log}
-use Rattle.vs_page.proofs.Flows.{same_is, same_self}
+use Rattle.vs_page.{specs.Log.Log, proofs.Flows.{same_is, same_self}}
 use Rattle.vs_driver_parts.specs.Held.{HeldSlots}
-use Rattle.laws_driver.specs.Carried.Calls.{Journal}
-use Rattle.laws_driver.specs.Carried.Calls.{bytes_sent}
-use Rattle.laws_driver.specs.Carried.Calls.{names}
-use Rattle.laws_driver.specs.Carried.Received.{Account}
-use Rattle.laws_driver.specs.Carried.Received.{AreReceived}
-use Rattle.vs_apps_parts.specs.Journals.{sent_as}
-use Rattle.laws_driver.specs.Carried.Senders.{AreSenders, IsSender, sent_there, sent_to}
+use Rattle.laws_driver.specs.Carried.{Calls.{Journal, bytes_sent, names}, Received.{Account, AreReceived}, Senders.{AreSenders, IsSender, sent_there, sent_to}}
 use Rattle.laws_driver.proofs.Carried.Senders.{only_none}
+use Rattle.vs_apps_parts.specs.Journals.{sent_as}
 
 whole_same : (c d : Connection) → is_same c d ≡ true → c ≡ d
 whole_same c d is = by (same_flow c.flow d.flow) refl (c.number == d.number) refl is

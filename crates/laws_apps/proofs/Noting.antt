@@ -1,21 +1,14 @@
 -- Which calls a journal needs: those that sent or received no byte may come and go.
-use Rattle.std.proofs.Common.{◌≡◌, inl, ℕ, cond, List, [], ◌∷◌, ◌++◌, Option, Some, None, refl, sym, ap, subst, ◌∙◌, append-nil}
-use Rattle.std.proofs.Math.Path.{fun_ext}
+use Rattle.std.proofs.{Common.{◌≡◌, inl, ℕ, cond, List, [], ◌∷◌, ◌++◌, Option, Some, None, refl, sym, ap, subst, ◌∙◌, append-nil}, Math.Path.fun_ext}
 use Rattle.vs_flow.specs.Connection.{Connection}
 use Rattle.vs_ring_port.specs.Contents.{RingContents}
-use Rattle.vs_driver_parts.specs.{declared.answers.Received.Received, declared.answers.Sent.Sent, Connections.recv_of}
-use Rattle.vs_driver_parts.specs.{Connections.unread_of_id, Playing.Plays, State.DriverState}
+use Rattle.vs_driver_parts.specs.{declared.answers.{Received.Received, Sent.Sent}, Connections.{recv_of, unread_of_id}, Playing.Plays, State.DriverState}
+use Rattle.laws_driver.specs.{Honest.slots_of, Carried.Calls.{GuestCall, Journal, Made, ReplyTo, Recv, Send, bytes_received, bytes_sent, names, received_by, whole_call, with_call}}
+use Rattle.laws_driver.{specs.Carried.{Received.{AreReceived, bytes_got}, Senders.{AreSenders, sent_to}}, proofs.Carried.{Reading.given_none, Senders.there_none}}
+use Rattle.vs_apps_parts.specs.{Journals.made_as, Scripts.with_noted, Told.{told_of, wait_of}, declared.journal.{WaitsFor.WaitsFor, Entry.Entry}}
+use Rattle.laws_apps.specs.Accounts.{IsAccounted}
 use Rattle.vs_driver_parts.specs.declared.answers.Received.TheVariants as recv
 use Rattle.vs_driver_parts.specs.declared.answers.Sent.TheVariants as send
-use Rattle.laws_driver.specs.Honest.{slots_of}
-use Rattle.laws_driver.specs.Carried.Calls.{GuestCall, Journal, Made, ReplyTo, Recv, Send, bytes_received, bytes_sent, names, received_by}
-use Rattle.laws_driver.specs.Carried.{Calls.whole_call, Calls.with_call, Received.AreReceived, Received.bytes_got}
-use Rattle.laws_driver.proofs.Carried.Reading.{given_none}
-use Rattle.vs_apps_parts.specs.{Journals.made_as, Scripts.with_noted, Told.told_of, Told.wait_of, declared.journal.WaitsFor.WaitsFor}
-use Rattle.vs_apps_parts.specs.declared.journal.Entry.{Entry}
-use Rattle.laws_driver.specs.Carried.Senders.{AreSenders, sent_to}
-use Rattle.laws_driver.proofs.Carried.Senders.{there_none}
-use Rattle.laws_apps.specs.Accounts.{IsAccounted}
 
 -- Two journals say the same.
 pub record SaysSame (j k : Journal) : Type 0 where

@@ -1,21 +1,17 @@
 -- The flows that a journal's entries tell of the connections that they opened.
-use Rattle.std.proofs.Common.{◌≡◌, ℕ, zero, suc, ◌≤◌, ◌==◌, Bool, List, [], ◌∷◌, ◌++◌, Option, Some, None, Result, Ok, Err}
-use Rattle.std.proofs.Common.{refl, sym, subst, arith, slice_set}
-use Rattle.std.proofs.lemmas.{Bool.Decides.nat_tests, List.Elements.All-contains, Option.get_or_from_slice_get, Option.slice_get_within}
-use Rattle.std.specs.Option.{option_map}
-use Rattle.vs_flow.specs.{Connection.Connection, declared.flow.Flow.Flow}
-use Rattle.vs_flow.proofs.{Entries.found_passes, Lookups.find_place}
+use Rattle.std.proofs.Common.{◌≡◌, ℕ, zero, suc, ◌≤◌, ◌==◌, Bool, List, [], ◌∷◌, ◌++◌, Option, Some, None, Result, Ok, Err, refl, sym, subst, arith, slice_set}
+use Rattle.std.{proofs.lemmas.{Bool.Decides.nat_tests, List.Elements.All-contains, Option.{get_or_from_slice_get, slice_get_within}}, specs.Option.option_map}
+use Rattle.vs_flow.{specs.{Connection.Connection, declared.flow.Flow.Flow}, proofs.{Entries.found_passes, Lookups.find_place}}
 use Rattle.vs_page.specs.Log.{Log}
-use Rattle.vs_driver_parts.specs.State.{DriverEntry, DriverState, GoneConnection, entry_known_as, gone_known_as, is_known_as}
-use Rattle.vs_driver_parts.specs.{Connections.flow_of, declared.answers.Accepted.Accepted, declared.answers.ConnectError.ConnectError}
-use Rattle.vs_driver_parts.specs.declared.answers.Accepted.TheVariants as accepted
+use Rattle.vs_driver_parts.specs.{State.{DriverEntry, DriverState, GoneConnection, entry_known_as, gone_known_as, is_known_as}, Connections.flow_of}
+use Rattle.vs_driver_parts.specs.declared.answers.{Accepted.Accepted, ConnectError.ConnectError}
 use Rattle.laws_tables.proofs.Slots.{found_by}
-use Rattle.laws_driver.specs.Honest.{slots_of}
-use Rattle.laws_driver.specs.Carried.{Calls.{flow_accepted, flow_opened}, Received.{Account, AreReceived, ReceivedOn, ReceivesOn}}
+use Rattle.laws_driver.specs.{Honest.slots_of, Carried.{Calls.{flow_accepted, flow_opened}, Received.{Account, AreReceived, ReceivedOn, ReceivesOn}}}
 use Rattle.vs_apps_parts.specs.{Journals.entry_waited, declared.journal.{Called.Called, Deed.Deed, Entry.Entry, WaitsFor.WaitsFor}}
+use Rattle.laws_apps.specs.{Accounts.{EntryTells, HasOne, IsAccepted, IsConnected, TellFlows, TellsFlow}, Runs.HasFlow}
+use Rattle.vs_driver_parts.specs.declared.answers.Accepted.TheVariants as accepted
 use Rattle.vs_apps_parts.specs.declared.journal.Called.TheVariants as called
 use Rattle.vs_apps_parts.specs.declared.journal.Deed.TheVariants as deed
-use Rattle.laws_apps.specs.{Accounts.{EntryTells, HasOne, IsAccepted, IsConnected, TellFlows, TellsFlow}, Runs.HasFlow}
 
 -- Where ids that had connections keep them, all that was told of them stays so.
 module _ (a b : ℕ → Connection) (stay : (id : ℕ) → 1 ≤ (a id).number → b id ≡ a id) where

@@ -1,17 +1,13 @@
 -- The apps of each script that is read for a run are right.
-use Rattle.std.proofs.Common.{◌≡◌, ◌&&◌, if◌then◌else◌, ℕ, nat_le, nat_lt, Bool, true, false, List, [], ◌∷◌, length, Some, None, Result, Ok}
-use Rattle.std.proofs.{Common.{Err, codes, bytes_eq, refl, subst, arith}, lemmas.Bool.Decides.nat_tests, lemmas.List.Elements.All-append}
-use Rattle.std.proofs.lemmas.List.Elements.{All-cons, All-head, All-nil, All-tail}
-use Rattle.std.specs.{List.All, Str.Parse.digits_value}
-use Rattle.vs_script.specs.App.{Act, RunStep, Begin, Do, Connect, Listen, Accept, Send, Recv, Drain, Exchange, Shutdown, Grow, Close}
-use Rattle.vs_script.specs.{App.{connection_instruction, instruction_line, run_line, run_line_named}, Text.{is_empty, words_of}}
-use Rattle.vs_script.specs.{declared.fault.Refused.Refused, declared.fault.Why.Why, declared.fault.Why.TheVariants.BadNumber}
-use Rattle.vs_script.specs.{declared.words.TheConstants.MAX_BITS, Field.{Read, after, ending, held, is_numeral, named, number_in, within}}
-use Rattle.vs_script.specs.{Field.word, Script.{Saying, Plays, Runs, Attacks, add_act, add_line, add_lines, add_run, add_step, add_words}}
-use Rattle.vs_script.specs.{Script.{chained, lines_from, parse_of, pushed, unless_refused}, declared.script.TheConstants.MAX_APPS}
-use Rattle.vs_script.specs.declared.script.TheConstants.{MAX_INSTRUCTIONS, MAX_LINE, MAX_SCRIPT}
-use Rattle.vs_script.specs.declared.script.Command.TheVariants as command
+use Rattle.std.proofs.Common.{◌≡◌, ◌&&◌, if◌then◌else◌, ℕ, nat_le, nat_lt, Bool, true, false, List, [], ◌∷◌, length, Some, None, Result, Ok, Err, codes, bytes_eq, refl, subst}
+use Rattle.std.{proofs.{Common.arith, lemmas.{Bool.Decides.nat_tests, List.Elements.{All-append, All-cons, All-head, All-nil, All-tail}}}, specs.{List.All, Str.Parse.digits_value}}
+use Rattle.vs_script.specs.App.{Act, RunStep, Begin, Do, Connect, Listen, Accept, Send, Recv, Drain, Exchange, Shutdown, Grow, Close, connection_instruction, instruction_line}
+use Rattle.vs_script.specs.{App.{run_line, run_line_named}, Text.{is_empty, words_of}, declared.fault.{Refused.Refused, Why.{Why, TheVariants.BadNumber}}}
+use Rattle.vs_script.specs.{declared.{words.TheConstants.MAX_BITS, script.TheConstants.{MAX_APPS, MAX_INSTRUCTIONS, MAX_LINE, MAX_SCRIPT}}, Field.{Read, after, ending, held}}
+use Rattle.vs_script.specs.{Field.{is_numeral, named, number_in, within, word}, Script.{Saying, Plays, Runs, Attacks, add_act, add_line, add_lines, add_run, add_step, add_words}}
+use Rattle.vs_script.specs.Script.{chained, lines_from, parse_of, pushed, unless_refused}
 use Rattle.vs_apps_parts.specs.Scripts.{AreRight, IsRight, RunScript}
+use Rattle.vs_script.specs.declared.script.Command.TheVariants as command
 
 -- What is read has a property, where nothing is at fault.
 abbrev Holds : {X E : Type 0} → (X → Type 0) → Result X E → Type 0

@@ -1,23 +1,20 @@
 -- What each change of the driver's connections and listeners leaves of what a journal's calls left.
-use Rattle.std.proofs.Common.{◌≡◌, ◌≢◌, ℕ, zero, suc, ◌+◌, ◌<◌, ◌≤◌, ◌==◌, ◌||◌, ◌&&◌, not, Bool, true, false, cond, List, [], ◌∷◌, ◌++◌, length, drop, get_or}
-use Rattle.std.proofs.Common.{Option, Some, None, is_some, refl, sym, ap, subst, ◌∙◌, arith}
-use Rattle.std.proofs.lemmas.{Bool.Decides.nat_tests, Bool.eq-eqb, Bool.eqb-true, Grind.common_steps}
-use Rattle.std.proofs.lemmas.List.Elements.{All-cons, All-contains, All-filter, All-head, All-map, All-push, All-tail, filter_passes}
-use Rattle.std.specs.{List.All, List.filter, List.list_any, Option.option_map_or}
-use Rattle.vs_conn.specs.{End.{ConnectionEnd, end_after, owes_of, with_payload_forwarded, with_shut}, declared.{end.Owed.Owed, end.State.State, shut.Shut.Shut}}
-use Rattle.vs_conn.specs.declared.end.State.TheVariants.{Answering, Asked, Ended, Live}
-use Rattle.vs_conn.specs.declared.end.Owed.TheVariants as owed
-use Rattle.vs_conn.proofs.Frames.{got_asked, got_answering, got_over, got_own}
+use Rattle.std.proofs.Common.{◌≡◌, ◌≢◌, ℕ, zero, suc, ◌+◌, ◌<◌, ◌≤◌, ◌==◌, ◌||◌, ◌&&◌, not, Bool, true, false, cond, List, [], ◌∷◌, ◌++◌, length, drop, get_or, Option, Some, None}
+use Rattle.std.proofs.{Common.{is_some, refl, sym, ap, subst, ◌∙◌, arith}, lemmas.{Bool.{Decides.nat_tests, eq-eqb, eqb-true}, Grind.common_steps, List.Elements.All-cons}}
+use Rattle.std.{proofs.lemmas.List.Elements.{All-contains, All-filter, All-head, All-map, All-push, All-tail, filter_passes}, specs.List.{All, filter, list_any}}
+use Rattle.std.specs.Option.{option_map_or}
+use Rattle.vs_conn.specs.{End.{ConnectionEnd, end_after, owes_of, with_payload_forwarded, with_shut}, declared.end.{Owed.Owed, State.{State, TheVariants.{Answering, Asked}}}}
+use Rattle.vs_conn.{specs.declared.{end.State.TheVariants.{Ended, Live}, shut.Shut.Shut}, proofs.Frames.{got_asked, got_answering, got_over, got_own}}
 use Rattle.vs_flow.specs.{Flow.is_assigned, Table.{IsTable, Table, next_entry, revalued, with_entry, with_value, without}, declared.flow.Flow.Flow}
 use Rattle.vs_header.specs.declared.Header.{Header}
 use Rattle.vs_driver_parts.specs.Connections.{after_leaving, all_gone_after_read, gone_after_read, gone_as, paid_connection, waits_no_more, with_connection}
-use Rattle.vs_driver_parts.specs.{Listening.{listener_on, with_port, with_waiting, without_id}, SlotFields.AreNumbered}
-use Rattle.vs_driver_parts.specs.State.{DriverConnection, DriverEntry, DriverState, GoneConnection, Listener}
-use Rattle.vs_driver_parts.proofs.{Ids.HasId, Ids.value_of, Numbers.{id_there, numbers_gone_without, numbers_left, numbers_with_entry, numbers_with_value, numbers_without}}
-use Rattle.laws_driver.proofs.Tabling.{Stands}
-use Rattle.laws_driver.specs.Carried.Calls.{Journal, Made, names}
-use Rattle.laws_apps.specs.Placed.{ArePlaced, IsPlaced, HasPlaces, IsPlacedEntry, IsPlacedGone, IsPlacedValue, closed_by, given_by, listened_by, stands_closed}
-use Rattle.laws_apps.specs.Placed.{stands_unanswered, waits_at, was_closed, was_given, was_listened}
+use Rattle.vs_driver_parts.specs.{Listening.{listener_on, with_port, with_waiting, without_id}, SlotFields.AreNumbered, State.{DriverConnection, DriverEntry, DriverState}}
+use Rattle.vs_driver_parts.{specs.State.{GoneConnection, Listener}, proofs.{Ids.{HasId, value_of}, Numbers.{id_there, numbers_gone_without, numbers_left, numbers_with_entry}}}
+use Rattle.vs_driver_parts.proofs.Numbers.{numbers_with_value, numbers_without}
+use Rattle.laws_driver.{proofs.Tabling.Stands, specs.Carried.Calls.{Journal, Made, names}}
+use Rattle.laws_apps.specs.Placed.{ArePlaced, IsPlaced, HasPlaces, IsPlacedEntry, IsPlacedGone, IsPlacedValue, closed_by, given_by, listened_by, stands_closed, stands_unanswered}
+use Rattle.laws_apps.specs.Placed.{waits_at, was_closed, was_given, was_listened}
+use Rattle.vs_conn.specs.declared.end.Owed.TheVariants as owed
 
 -- One of three tests.
 pub or_first : (a b : Bool) → a ≡ true → (a || b) ≡ true

@@ -1,46 +1,43 @@
 -- Calls and polls keep what a journal's calls left of the driver's connections.
 use Rattle.std.proofs.Common.{◌≡◌, ◌≢◌, ℕ, ◌+◌, ◌<◌, ◌≤◌, ◌==◌, ◌&&◌, ◌||◌, nat_le, nat_lt, not, Bool, true, false, cond, List, [], ◌∷◌, ◌++◌, length, take, get_or, find, filter}
-use Rattle.std.proofs.Common.{Contains, Option, Some, None, is_some, Result, Ok, Err, refl, sym, ap, subst, ◌∙◌, arith, slice_get}
-use Rattle.std.proofs.lemmas.{Bool.Decides.nat_tests, Bool.and_parts, Bool.eq-eqb, Bool.eqb-true, Grind.common_steps, List.Elements.{All-contains, All-head, All-tail, filter_passes}, Option.{get_or_from_slice_get, same_Some, slice_get_within}}
-use Rattle.std.specs.List.{All}
-use Rattle.vs_conn.specs.{End.{ConnectionEnd, answering, asked, grown, is_refused, is_reset, owes_of, paid_of, verdict_of, wanting_credit, with_payload_sent, with_shut}}
+use Rattle.std.proofs.{Common.{Contains, Option, Some, None, is_some, Result, Ok, Err, refl, sym, ap, subst, ◌∙◌, arith, slice_get}, lemmas.Bool.{Decides.nat_tests, and_parts}}
+use Rattle.std.proofs.lemmas.{Bool.{eq-eqb, eqb-true}, Grind.common_steps, List.Elements.{All-contains, All-head, All-tail, filter_passes}, Option.get_or_from_slice_get}
+use Rattle.std.{proofs.lemmas.Option.{same_Some, slice_get_within}, specs.List.All}
+use Rattle.vs_conn.specs.End.{ConnectionEnd, answering, asked, grown, is_refused, is_reset, owes_of, paid_of, verdict_of, wanting_credit, with_payload_sent, with_shut}
 use Rattle.vs_conn.specs.declared.end.{Owed.Owed, State.State, Verdict.Verdict}
-use Rattle.vs_conn.specs.declared.end.Owed.TheVariants as owed
-use Rattle.vs_conn.specs.declared.end.State.TheVariants as state
-use Rattle.vs_conn.specs.declared.end.Verdict.TheVariants as verdict
-use Rattle.vs_flow.specs.{Flow.is_assigned, Flow.is_host, Flow.same_flow, Table.IsRising, Table.IsTable, Table.entry_of, declared.flow.Flow.Flow}
-use Rattle.vs_flow.proofs.{Entries.found_passes, Lookups.find_place}
+use Rattle.vs_flow.{specs.{Flow.{is_assigned, is_host, same_flow}, Table.{IsRising, IsTable, entry_of}, declared.flow.Flow.Flow}, proofs.{Entries.found_passes, Lookups.find_place}}
 use Rattle.vs_header.specs.declared.{Header.Header, Kind.TheVariants.Stream}
 use Rattle.vs_limits.specs.declared.TheConstants.{BUF_ALLOC, HOST_CID, LAST_ID, LAST_PORT, WAITING}
 use Rattle.laws_history.specs.declared.packet.Packet.{Packet}
-use Rattle.vs_page.specs.{Fair.IsFairLog, Log.Driver, Log.Log, Log.flow_got, Open.is_dropped, declared.log.LogEntry.TheVariants.GotPacket}
-use Rattle.vs_page.proofs.Flows.{same_is}
+use Rattle.vs_page.{specs.{Fair.IsFairLog, Log.{Driver, Log, flow_got}, Open.is_dropped, declared.log.LogEntry.TheVariants.GotPacket}, proofs.Flows.same_is}
 use Rattle.vs_replies.specs.Owed.{reply_to}
-use Rattle.laws_tables.{specs.Matches.Matches, specs.Steps.HasEnd, proofs.Fair.got_not_refused, proofs.Fair.heard_all, proofs.Slots.found_by}
+use Rattle.laws_tables.{specs.{Matches.Matches, Steps.HasEnd}, proofs.{Fair.{got_not_refused, heard_all}, Slots.found_by}}
 use Rattle.vs_ring_port.specs.{Contents.RingContents, EndLog.EndLog}
 use Rattle.vs_driver_parts.specs.Connections.{after_closing, after_grow, after_leaving, after_read, after_recv, after_shut, after_shutdown, all_gone_after_read, connected}
-use Rattle.vs_driver_parts.specs.Connections.{entry_closed, entry_grow_answer, entry_read, flow_of, grown_by, is_full, next_flow, paid_connection, shut_in}
-use Rattle.vs_driver_parts.specs.Connections.{state_of, with_connection, with_end, with_request, without_gone}
-use Rattle.vs_driver_parts.specs.{Conversations.{after_paying, new_of, new_state, no_credit, not_sent, poll_of, send_stopped}, Listening.{has_place, is_answered, listen_of, listener_on, listening, next_accepted, with_waiting, without_id}, Playing.Plays}
-use Rattle.vs_driver_parts.specs.Receiving.{after_packet, after_verdict, all_left, is_request, may_open, on_heard, on_known, on_packet, on_unknown, reset_reply, with_reply}
-use Rattle.vs_driver_parts.specs.State.{DriverConnection, DriverEntry, DriverState, GoneConnection, Listener, entry_known_as, gone_known_as, is_known_as}
-use Rattle.vs_driver_parts.specs.declared.answers.{Accepted.Accepted, Grown.Grown, ListenError.ListenError, Polled.Polled, Sent.Sent}
+use Rattle.vs_driver_parts.specs.Connections.{entry_closed, entry_grow_answer, entry_read, flow_of, grown_by, is_full, next_flow, paid_connection, shut_in, state_of}
+use Rattle.vs_driver_parts.specs.{Connections.{with_connection, with_end, with_request, without_gone}, Conversations.{after_paying, new_of, new_state, no_credit, not_sent}}
+use Rattle.vs_driver_parts.specs.{Conversations.{poll_of, send_stopped}, Listening.{has_place, is_answered, listen_of, listener_on, listening, next_accepted, with_waiting}}
+use Rattle.vs_driver_parts.specs.{Listening.without_id, Playing.Plays, Receiving.{after_packet, after_verdict, all_left, is_request, may_open, on_heard, on_known, on_packet}}
+use Rattle.vs_driver_parts.specs.{Receiving.{on_unknown, reset_reply, with_reply}, State.{DriverConnection, DriverEntry, DriverState, GoneConnection, Listener, entry_known_as}}
+use Rattle.vs_driver_parts.specs.{State.{gone_known_as, is_known_as}, declared.answers.{Accepted.Accepted, Grown.Grown, ListenError.ListenError, Polled.Polled, Sent.Sent}}
+use Rattle.vs_driver_parts.proofs.{Ids.{HasId, found_under}, Packets.{first_under, others_left, packet_known, packet_unknown}}
+use Rattle.laws_driver.specs.{Honest.{IsFitState, IsFresh, IsHonestWith, ends_of_state}, Carried.Calls.{Accept, Close, Connect, Grow, GuestCall, Journal, Listen, LookAt, Made}}
+use Rattle.laws_driver.{specs.Carried.Calls.{Recv, ReplyTo, Send, Shutdown, Unlisten, is_right, whole_call}, proofs.{Calls.new_keeps, Carrying.{Carries, Fact}}}
+use Rattle.laws_driver.proofs.{Changing.stands_known, Keeping.keeps_end, Polling.poll_keeps, Resetting.{first_contained, with_cid}, Staging.Rests, Tabling.{Stands, entry_fits}}
+use Rattle.laws_driver.proofs.{Tabling.{has_end, leaves}, Taking.with_reply_fits, Carried.{Growing.honest_stays, Making.{CarriesCall, whole_with}, Sending.begins}}
+use Rattle.laws_driver.proofs.Carried.Righting.{told_before}
+use Rattle.vs_apps_parts.specs.{Journals.made_as, Scripts.with_noted, Told.{told_of, wait_of}, declared.journal.{Entry.Entry, WaitsFor.WaitsFor}}
+use Rattle.laws_apps.specs.Placed.{AreOwned, ArePlaced, ArePlacedWith, IsAsked, IsPlacedEntry, IsPlacedValue, IsTo, asked_as, closed_by, stands_closed, stands_unanswered}
+use Rattle.laws_apps.{specs.Placed.{was_closed, was_given, was_listened}, proofs.Placed.{alters, closes_entry, closes_gone, forwarded_stands, gone_less, got_stands, goes_on}}
+use Rattle.laws_apps.proofs.Placed.{leaving, listens, opening, or_first, or_second, StandsOn, paid_value, ports_kept, reading, shut_stands, stays_behind, value_goes, waits_kept}
+use Rattle.laws_apps.proofs.Placed.{waits_less, waits_now}
+use Rattle.vs_conn.specs.declared.end.Owed.TheVariants as owed
+use Rattle.vs_conn.specs.declared.end.State.TheVariants as state
+use Rattle.vs_conn.specs.declared.end.Verdict.TheVariants as verdict
 use Rattle.vs_driver_parts.specs.declared.answers.Accepted.TheVariants as accepted
 use Rattle.vs_driver_parts.specs.declared.answers.Closed.TheVariants as closed
 use Rattle.vs_driver_parts.specs.declared.answers.Grown.TheVariants as rise
 use Rattle.vs_driver_parts.specs.declared.answers.Sent.TheVariants as sent
-use Rattle.vs_driver_parts.proofs.{Ids.HasId, Ids.found_under, Packets.first_under, Packets.others_left, Packets.packet_known, Packets.packet_unknown}
-use Rattle.laws_driver.specs.Honest.{IsFitState, IsFresh, IsHonestWith, ends_of_state}
-use Rattle.laws_driver.proofs.{Calls.new_keeps, Carrying.Carries, Carrying.Fact, Changing.stands_known, Keeping.keeps_end, Polling.poll_keeps, Resetting.first_contained, Resetting.with_cid}
-use Rattle.laws_driver.proofs.{Staging.Rests, Tabling.Stands, Tabling.entry_fits, Tabling.has_end, Tabling.leaves, Taking.with_reply_fits}
-use Rattle.laws_driver.specs.Carried.Calls.{Accept, Close, Connect, Grow, GuestCall, Journal, Listen, LookAt, Made, Recv, ReplyTo, Send, Shutdown, Unlisten}
-use Rattle.laws_driver.specs.Carried.Calls.{is_right, whole_call}
-use Rattle.laws_driver.proofs.Carried.{Growing.honest_stays, Making.CarriesCall, Making.whole_with, Sending.begins}
-use Rattle.laws_driver.proofs.Carried.Righting.{told_before}
-use Rattle.vs_apps_parts.specs.{Journals.made_as, Scripts.with_noted, Told.told_of, Told.wait_of, declared.journal.{Entry.Entry, WaitsFor.WaitsFor}}
-use Rattle.laws_apps.specs.Placed.{AreOwned, ArePlaced, ArePlacedWith, IsAsked, IsPlacedEntry, IsPlacedValue, IsTo, asked_as, closed_by, stands_closed, stands_unanswered, was_closed, was_given, was_listened}
-use Rattle.laws_apps.proofs.Placed.{alters, closes_entry, closes_gone, forwarded_stands, gone_less, got_stands, goes_on, leaving, listens, opening, or_first, or_second, StandsOn}
-use Rattle.laws_apps.proofs.Placed.{paid_value, ports_kept, reading, shut_stands, stays_behind, value_goes, waits_kept, waits_less, waits_now}
 
 abbrev pub places : Journal → Fact
 places journal part s log = ArePlaced journal s

@@ -1,17 +1,15 @@
 -- A receive, made and noted.
-use Rattle.std.proofs.Common.{◌≡◌, ℕ, ◌≤◌, arith, Bool, true, false, cond, List, [], ◌∷◌, ◌++◌, ◌+◌, length, length-append, subst, take}
-use Rattle.std.proofs.{Common.{Option, Some, None, refl, sym, ap, ◌∙◌, append-nil}, Math.Seq.{drop-append_seam, take-length}}
+use Rattle.std.proofs.Common.{◌≡◌, ℕ, ◌≤◌, arith, Bool, true, false, cond, List, [], ◌∷◌, ◌++◌, ◌+◌, length, length-append, subst, take, Option, Some, None, refl, sym, ap, ◌∙◌}
+use Rattle.std.proofs.{Common.append-nil, Math.Seq.{drop-append_seam, take-length}}
 use Rattle.vs_ring_port.specs.Contents.{RingContents}
-use Rattle.vs_driver_parts.specs.{Playing.Plays, State.{DriverState, DriverEntry, GoneConnection, entry_known_as, gone_known_as}}
-use Rattle.vs_driver_parts.specs.Connections.{entry_answer, gone_answer, is_at_end, nothing_read, read_of, recv_of, got_count}
-use Rattle.vs_driver_parts.specs.{Conversations.DriverTree, declared.answers.Received.Received}
-use Rattle.laws_driver.specs.Carried.Calls as call
+use Rattle.vs_driver_parts.specs.{Playing.Plays, State.{DriverState, DriverEntry, GoneConnection, entry_known_as, gone_known_as}, Connections.{entry_answer, gone_answer}}
+use Rattle.vs_driver_parts.specs.{Connections.{is_at_end, nothing_read, read_of, recv_of, got_count}, Conversations.DriverTree, declared.answers.Received.Received}
 use Rattle.laws_driver.specs.Carried.Calls.{whole_call}
-use Rattle.vs_apps_parts.specs.{Journals.{called_noted, made_as, made_of}, Scripts.{RunScript, slice_of}, Told.{wait_of, told_of}}
-use Rattle.vs_apps_parts.specs.{Told.told_recv, declared.journal.Called.Called, declared.journal.Entry.Entry}
-use Rattle.vs_apps_parts.specs.{declared.journal.WaitsFor.WaitsFor, declared.{progress.AppState.AppState, told.Told.Told}}
+use Rattle.vs_apps_parts.specs.{Journals.{called_noted, made_as, made_of}, Scripts.{RunScript, slice_of}, Told.{wait_of, told_of, told_recv}, declared.journal.Called.Called}
+use Rattle.vs_apps_parts.specs.declared.{journal.{Entry.Entry, WaitsFor.WaitsFor}, progress.AppState.AppState, told.Told.Told}
 use Rattle.laws_apps.specs.{Runs.NotesCall, Calls.{CallsAs, Receives, run_with}}
 use Rattle.vs_conn.specs.declared.end.State.{State}
+use Rattle.laws_driver.specs.Carried.Calls as call
 use Rattle.vs_conn.specs.declared.end.State.TheVariants as state
 use Rattle.vs_driver_parts.specs.declared.answers.Received.TheVariants as recv
 use Rattle.vs_apps_parts.specs.declared.journal.Called.TheVariants as called

@@ -1,10 +1,9 @@
 -- The next send of an app, whose data stand in a buffer.
-use Rattle.std.proofs.{Common.{◌≡◌, ◌≤◌, ℕ, List, length, take, sym, ap, subst, ◌∙◌}, lemmas.List.{length-take-le}}
+use Rattle.std.proofs.{Common.{◌≡◌, ◌≤◌, ℕ, List, length, take, sym, ap, subst, ◌∙◌}, lemmas.List.length-take-le}
 use Rattle.vs_script.specs.Data.{Content, bytes_of, size_of}
-use Rattle.laws_driver.specs.Carried.Calls as call
-use Rattle.vs_apps_parts.specs.Scripts.{RunScript, id_of, send_next, slice_left, slice_of}
-use Rattle.vs_apps_parts.specs.declared.{progress.Progress.Progress, told.Told.Told}
+use Rattle.vs_apps_parts.specs.{Scripts.{RunScript, id_of, send_next, slice_left, slice_of}, declared.{progress.Progress.Progress, told.Told.Told}}
 use Rattle.laws_apps.specs.{Runs.Run, Calls.CallsAs}
+use Rattle.laws_driver.specs.Carried.Calls as call
 
 module _ (c : Content) (p : Progress) (n : ℕ) (buffer : List ℕ) (bytes : take n buffer ≡ slice_of p.sent n (bytes_of c)) where
   pub stands : (all : List ℕ) → n ≤ length buffer → all ≡ bytes_of c → slice_of p.sent (length (take n buffer)) all ≡ take n buffer

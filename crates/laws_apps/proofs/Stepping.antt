@@ -1,20 +1,16 @@
 -- The calls of a step together, and what the step comes to.
-use Rattle.std.proofs.Common.{◌≡◌, ◌<◌, ◌≤◌, ℕ, zero, suc, Bool, true, false, cond, List, [], ◌∷◌, ◌++◌, length, get_or, map, Option, Some}
-use Rattle.std.proofs.Common.{None, refl, sym, ap, subst, ◌∙◌, arith}
-use Rattle.std.proofs.lemmas.Option.{slice_get-map, slice_get_past, slice_get_read, unwrap_or-slice_get}
-use Rattle.std.specs.{List.All, Option.option_map, Option.unwrap_or, Prelude.slice_get}
+use Rattle.std.proofs.Common.{◌≡◌, ◌<◌, ◌≤◌, ℕ, zero, suc, Bool, true, false, cond, List, [], ◌∷◌, ◌++◌, length, get_or, map, Option, Some, None, refl, sym, ap, subst, ◌∙◌, arith}
+use Rattle.std.{proofs.lemmas.Option.{slice_get-map, slice_get_past, slice_get_read, unwrap_or-slice_get}, specs.{List.All, Option.{option_map, unwrap_or}, Prelude.slice_get}}
 use Rattle.vs_script.specs.{App.{Act, app_view, instruction_view}, declared.app.{App.App, Instruction.Instruction}}
 use Rattle.vs_ring_port.specs.Contents.{RingContents}
 use Rattle.vs_driver_parts.specs.{Conversations.poll_of, Playing.Plays, State.DriverState, declared.answers.Polled.Polled}
 use Rattle.laws_driver.specs.Carried.Calls.{GuestCall, Made}
+use Rattle.vs_apps_parts.specs.{Journals.{data_at, data_in, made_as, wait_noted, wait_place}, Scripts.{AreRight, IsRight, RunScript, acts_of, after_step, calls_in, calls_next}}
+use Rattle.vs_apps_parts.specs.{Scripts.{id_of, recv_next, script_of, slice_left, told_in}, Told.{step_wait, waits_on}, declared.journal.{Entry.Entry, WaitsFor.WaitsFor}}
+use Rattle.vs_apps_parts.specs.declared.{progress.{AppState.AppState, Progress.Progress, Stepped.Stepped}, told.Told.Told}
+use Rattle.laws_apps.specs.{Runs.{Acts, MakesCalls, Moves, PollsTo, Run, Steps, Waits, app_at, poll_moved, with_app}, Calls.{CallsAs, MakesAll, run_with}}
 use Rattle.laws_driver.specs.Carried.Calls as call
-use Rattle.vs_apps_parts.specs.{Journals.{data_at, data_in, made_as, wait_noted, wait_place}, Scripts.{AreRight, IsRight, RunScript}}
-use Rattle.vs_apps_parts.specs.Scripts.{acts_of, after_step, calls_in, calls_next, id_of, recv_next, script_of, slice_left, told_in}
-use Rattle.vs_apps_parts.specs.{Told.{step_wait, waits_on}, declared.{journal.Entry.Entry, journal.WaitsFor.WaitsFor}}
-use Rattle.vs_apps_parts.specs.declared.{progress.AppState.AppState, progress.Progress.Progress, progress.Stepped.Stepped, told.Told.Told}
 use Rattle.vs_apps_parts.specs.declared.progress.Stepped.TheVariants as stepped
-use Rattle.laws_apps.specs.Runs.{Acts, MakesCalls, Moves, PollsTo, Run, Steps, Waits, app_at, poll_moved, with_app}
-use Rattle.laws_apps.specs.Calls.{CallsAs, MakesAll, run_with}
 
 module _ (script : RunScript) (k : ℕ) where
   pub one_made : (c : GuestCall) (told : Told) (old new : Run) → CallsAs script k c told old new → MakesAll script k (c ∷ []) (told ∷ []) old new

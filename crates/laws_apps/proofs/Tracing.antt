@@ -1,42 +1,37 @@
 -- What a journal tells of the driver's connections stays so over polls, and with each call that an app makes.
-use Rattle.std.proofs.Common.{◌≡◌, ◌≤◌, ◌<◌, ◌⊎◌, inl, inr, ℕ, ◌+◌, ◌==◌, ◌||◌, Bool, true, false, not, cond, List, [], ◌∷◌, length, length-take, map, min, take}
-use Rattle.std.proofs.Common.{Contains, Option, Some, None, Result, Ok, Err, refl, sym, ap, subst, ◌∙◌, arith, get_or}
-use Rattle.std.proofs.lemmas.{Bool.and_parts, Bool.eqb-true, Bool.eq-eqb, Grind.common_steps, List.Elements.{All-contains, All-map, Contains-get_or}, Option.{get_or_from_slice_get, same_Some, slice_get_read, slice_get_within}}
-use Rattle.std.specs.{List.All, List.find, Prelude.is_some}
-use Rattle.vs_contents.specs.CallTree.{Done, bind}
-use Rattle.vs_contents.proofs.Leads.{AllEnds, end_of}
-use Rattle.vs_conn.specs.{End.{ConnectionEnd, grown, may_send_of, state_may_send, wanting_credit, with_payload_sent}, declared.end.State.State, declared.end.Stop.Stop}
-use Rattle.vs_conn.specs.declared.end.State.TheVariants as state
-use Rattle.vs_conn.specs.declared.end.Stop.TheVariants as stop
+use Rattle.std.proofs.Common.{◌≡◌, ◌≤◌, ◌<◌, ◌⊎◌, inl, inr, ℕ, ◌+◌, ◌==◌, ◌||◌, Bool, true, false, not, cond, List, [], ◌∷◌, length, length-take, map, min, take, Contains, Option}
+use Rattle.std.proofs.{Common.{Some, None, Result, Ok, Err, refl, sym, ap, subst, ◌∙◌, arith, get_or}, lemmas.{Bool.{and_parts, eqb-true, eq-eqb}, Grind.common_steps}}
+use Rattle.std.{proofs.lemmas.{List.Elements.{All-contains, All-map, Contains-get_or}, Option.{get_or_from_slice_get, same_Some, slice_get_read, slice_get_within}}, specs.List.All}
+use Rattle.std.specs.{List.find, Prelude.is_some}
+use Rattle.vs_contents.{specs.CallTree.{Done, bind}, proofs.Leads.{AllEnds, end_of}}
+use Rattle.vs_conn.specs.{End.{ConnectionEnd, grown, may_send_of, state_may_send, wanting_credit, with_payload_sent}, declared.end.{State.State, Stop.Stop}}
 use Rattle.vs_credit.specs.Credit.{free_of}
-use Rattle.vs_flow.specs.Table.{IsTable, entry_under, revalued}
-use Rattle.vs_flow.proofs.{Entries.{found_at, found_passes, none_found}, Lookups.find_place}
+use Rattle.vs_flow.{specs.Table.{IsTable, entry_under, revalued}, proofs.{Entries.{found_at, found_passes, none_found}, Lookups.find_place}}
 use Rattle.vs_ring_port.specs.{Contents.RingContents, EndLog.EndLog}
-use Rattle.vs_driver_parts.specs.State.{DriverConnection, DriverEntry, DriverState, GoneConnection, entry_known_as, gone_known_as, is_known_as}
-use Rattle.vs_driver_parts.specs.Connections.{after_close, after_closing, after_grow, after_read, after_recv, after_shut, after_shutdown, all_gone_after_read}
-use Rattle.vs_driver_parts.specs.Connections.{entry_answer, entry_closed, entry_grow_answer, entry_read, gone_answer, gone_closed, grown_by, is_at_end, nothing_read, read_of, recv_of, shut_in}
-use Rattle.vs_driver_parts.specs.Connections.{close_of, grow_of, state_of, unread_of_id, with_connection, with_end, without_gone}
-use Rattle.vs_driver_parts.specs.Conversations.{has_page, new_of, no_credit, not_sent, payload_bytes, payload_of, poll_of, post_packet, reap_all, send_of, send_on, send_stopped, send_with_credit, send_with_page}
-use Rattle.vs_driver_parts.specs.{Held.HeldSlots, Listening.{accept_of, after_accept, listen_of, listening, with_waiting, without_id}, Playing.{Plays, RingAllows}, SlotFields.AreNumbered}
-use Rattle.vs_driver_parts.specs.declared.answers.{Grown.Grown, Polled.Polled, Received.Received, Sent.Sent}
-use Rattle.vs_driver_parts.specs.declared.answers.Grown.TheVariants as rise
-use Rattle.vs_driver_parts.specs.declared.answers.Received.TheVariants as got
-use Rattle.vs_driver_parts.specs.declared.answers.Sent.TheVariants as sent
+use Rattle.vs_driver_parts.specs.{State.{DriverConnection, DriverEntry, DriverState, GoneConnection, entry_known_as, gone_known_as, is_known_as}, Connections.after_close}
+use Rattle.vs_driver_parts.specs.Connections.{after_closing, after_grow, after_read, after_recv, after_shut, after_shutdown, all_gone_after_read, entry_answer, entry_closed}
+use Rattle.vs_driver_parts.specs.Connections.{entry_grow_answer, entry_read, gone_answer, gone_closed, grown_by, is_at_end, nothing_read, read_of, recv_of, shut_in, close_of}
+use Rattle.vs_driver_parts.specs.{Connections.{grow_of, state_of, unread_of_id, with_connection, with_end, without_gone}, Conversations.{has_page, new_of, no_credit, not_sent}}
+use Rattle.vs_driver_parts.specs.Conversations.{payload_bytes, payload_of, poll_of, post_packet, reap_all, send_of, send_on, send_stopped, send_with_credit, send_with_page}
+use Rattle.vs_driver_parts.specs.{Held.HeldSlots, Listening.{accept_of, after_accept, listen_of, listening, with_waiting, without_id}, Playing.{Plays, RingAllows}}
+use Rattle.vs_driver_parts.specs.{SlotFields.AreNumbered, declared.answers.{Grown.Grown, Polled.Polled, Received.Received, Sent.Sent}}
 use Rattle.vs_limits.specs.declared.TheConstants.{LAST_PORT}
 use Rattle.vs_page.specs.declared.page.TheConstants.{PAYLOAD_MAX}
 use Rattle.laws_tables.proofs.Slots.{found_by}
-use Rattle.laws_driver.specs.Honest.{IsFresh, IsHonestWith, slots_of}
-use Rattle.laws_driver.proofs.{Calls.{CarriesConnect, CarriesSend, new_keeps}, Keeping.keeps_end, Polling.poll_keeps, Staging.Rests}
-use Rattle.laws_driver.specs.Carried.Calls.{GuestCall, Journal, ReplyTo, Connect, Listen, Unlisten, Accept, Send, Recv, Shutdown, Grow, Close, LookAt}
-use Rattle.laws_driver.specs.Carried.{Calls.is_right, Calls.whole_call, Received.bytes_got}
-use Rattle.laws_driver.proofs.Carried.{Changing.accept_slots, Changing.listen_slots, Growing.honest_stays, Making.whole_with, Righting.told_before, Sending.begins}
+use Rattle.laws_driver.specs.{Honest.{IsFresh, IsHonestWith, slots_of}, Carried.Calls.{GuestCall, Journal, ReplyTo, Connect, Listen, Unlisten, Accept, Send, Recv, Shutdown, Grow}}
+use Rattle.laws_driver.{specs.Carried.{Calls.{Close, LookAt, is_right, whole_call}, Received.bytes_got}, proofs.{Calls.{CarriesConnect, CarriesSend, new_keeps}, Keeping.keeps_end}}
+use Rattle.laws_driver.proofs.{Polling.poll_keeps, Staging.Rests, Carried.{Changing.{accept_slots, listen_slots}, Growing.honest_stays, Making.whole_with, Righting.told_before}}
+use Rattle.laws_driver.proofs.Carried.Sending.{begins}
 use Rattle.laws_rest.proofs.Quiet.{ends_any, ends_then}
-use Rattle.vs_apps_parts.specs.{Journals.made_as, Scripts.with_noted, Told.{told_by, told_recv, told_send, wait_of}, declared.{journal.WaitsFor.WaitsFor}}
+use Rattle.vs_apps_parts.specs.{Journals.made_as, Scripts.with_noted, Told.{told_by, told_recv, told_send, wait_of}, declared.journal.WaitsFor.WaitsFor}
+use Rattle.laws_apps.specs.{Traces.{AtId, IsClosing, IsDrained, IsStopped, IsTraced, IsTracedWith, TellsOf, is_shut, is_touched, shuts}, Given.AreGivenWith, Placed.was_given}
+use Rattle.laws_apps.proofs.Lasting.{Comes, IsLater, Traced, abort_later, comes_as, end_later, one_comes, poll_traces, read_later, shut_later, traced_still, value_traced}
+use Rattle.vs_conn.specs.declared.end.State.TheVariants as state
+use Rattle.vs_conn.specs.declared.end.Stop.TheVariants as stop
+use Rattle.vs_driver_parts.specs.declared.answers.Grown.TheVariants as rise
+use Rattle.vs_driver_parts.specs.declared.answers.Received.TheVariants as got
+use Rattle.vs_driver_parts.specs.declared.answers.Sent.TheVariants as sent
 use Rattle.vs_apps_parts.specs.declared.told.Told.TheVariants as says
-use Rattle.laws_apps.specs.Traces.{AtId, IsClosing, IsDrained, IsStopped, IsTraced, IsTracedWith, TellsOf, is_shut, is_touched, shuts}
-use Rattle.laws_apps.specs.{Given.AreGivenWith, Placed.was_given}
-use Rattle.laws_apps.proofs.Lasting.{Comes, IsLater, Traced, abort_later, comes_as, end_later, one_comes, poll_traces, read_later, shut_later}
-use Rattle.laws_apps.proofs.Lasting.{traced_still, value_traced}
 
 -- A call that an app makes, whose connection has this id.
 abbrev pub IsApps : ℕ → GuestCall → Type 0

@@ -1,12 +1,10 @@
 -- Where each app's last entry stands, if it is a wait.
-use Rattle.std.proofs.Common.{◌≡◌, ℕ, zero, suc, ◌+◌, ◌==◌, Bool, true, false, cond, List, [], ◌∷◌, ◌++◌, length, Option, Some, None, refl}
-use Rattle.std.proofs.{Common.sym, Common.ap, Common.◌∙◌, Common.slice_set, Common.arith, lemmas.Bool.eqb-true}
-use Rattle.std.specs.{Option.unwrap_or, Prelude.slice_get}
+use Rattle.std.proofs.Common.{◌≡◌, ℕ, zero, suc, ◌+◌, ◌==◌, Bool, true, false, cond, List, [], ◌∷◌, ◌++◌, length, Option, Some, None, refl, sym, ap, ◌∙◌, slice_set, arith}
+use Rattle.std.{proofs.lemmas.Bool.eqb-true, specs.{Option.unwrap_or, Prelude.slice_get}}
 use Rattle.laws_driver.specs.Carried.Calls.{Made}
-use Rattle.vs_apps_parts.specs.Journals.{entry_called, entry_waited, last_wait, last_wait_from, one_more, times_at, times_in, wait_noted}
-use Rattle.vs_apps_parts.specs.{Journals.wait_place, Journals.waited_before, Journals.waits_after, Scripts.told_in, Told.step_wait}
-use Rattle.vs_apps_parts.specs.{Told.told_of, Told.wait_of, Told.waits_on, declared.journal.Called.Called, declared.journal.Deed.Deed}
-use Rattle.vs_apps_parts.specs.declared.{journal.Entry.Entry, journal.WaitsFor.WaitsFor, told.Told.Told}
+use Rattle.vs_apps_parts.specs.Journals.{entry_called, entry_waited, last_wait, last_wait_from, one_more, times_at, times_in, wait_noted, wait_place, waited_before, waits_after}
+use Rattle.vs_apps_parts.specs.{Scripts.told_in, Told.{step_wait, told_of, wait_of, waits_on}, declared.journal.{Called.Called, Deed.Deed, Entry.Entry, WaitsFor.WaitsFor}}
+use Rattle.vs_apps_parts.specs.declared.told.Told.{Told}
 use Rattle.vs_apps_parts.specs.declared.journal.Deed.TheVariants as deed
 use Rattle.vs_apps_parts.specs.declared.told.Told.TheVariants as says
 

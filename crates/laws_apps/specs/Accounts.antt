@@ -4,10 +4,9 @@ use Rattle.vs_flow.specs.{Connection.Connection, declared.flow.Flow.Flow}
 use Rattle.vs_page.specs.Log.{Log}
 use Rattle.vs_ring_port.specs.Contents.{RingContents}
 use Rattle.vs_driver_parts.specs.{Held.HeldSlots, State.DriverState, declared.answers.{Accepted.Accepted, ConnectError.ConnectError}}
-use Rattle.vs_driver_parts.specs.declared.answers.Accepted.TheVariants as accepted
-use Rattle.laws_driver.specs.Honest.{slots_of}
-use Rattle.laws_driver.specs.Carried.{Calls.Journal, Senders.IsRightJournal}
+use Rattle.laws_driver.specs.{Honest.slots_of, Carried.{Calls.Journal, Senders.IsRightJournal}}
 use Rattle.vs_apps_parts.specs.declared.journal.{Called.Called, Entry.Entry}
+use Rattle.vs_driver_parts.specs.declared.answers.Accepted.TheVariants as accepted
 use Rattle.vs_apps_parts.specs.declared.journal.Called.TheVariants as called
 use Rattle.vs_apps_parts.specs.declared.journal.Deed.TheVariants as deed
 

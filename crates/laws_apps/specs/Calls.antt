@@ -4,11 +4,10 @@ use Rattle.vs_contents.specs.CallTree.{Done}
 use Rattle.vs_ring_port.specs.Contents.{RingContents}
 use Rattle.vs_driver_parts.specs.{Connections.got_count, State.DriverState, declared.answers.Received.Received}
 use Rattle.laws_driver.specs.Carried.Calls.{GuestCall, Made, ReplyTo, makes_call}
-use Rattle.laws_driver.specs.Carried.Calls as call
-use Rattle.vs_apps_parts.specs.{Journals.made_as, Scripts.RunScript, Scripts.calls_in, Scripts.told_in, Told.told_by}
-use Rattle.vs_apps_parts.specs.declared.{journal.Entry.Entry, journal.Journal.Journal, progress.AppState.AppState, told.Told.Told}
-use Rattle.vs_apps_parts.specs.declared.progress.TheConstants.{SLICE}
+use Rattle.vs_apps_parts.specs.{Journals.made_as, Scripts.{RunScript, calls_in, told_in}, Told.told_by, declared.journal.{Entry.Entry, Journal.Journal}}
+use Rattle.vs_apps_parts.specs.declared.{progress.{AppState.AppState, TheConstants.SLICE}, told.Told.Told}
 use Rattle.laws_apps.specs.Runs.{MakesCall, MakesCalls, Run}
+use Rattle.laws_driver.specs.Carried.Calls as call
 
 abbrev pub run_with : DriverState → RingContents → List AppState → List Entry → List ℕ → Run
 run_with driver ring apps entries bytes = record { driver = driver; ring = ring; apps = apps; entries = entries; bytes = bytes }

@@ -2,13 +2,12 @@
 use Rattle.std.specs.{Option.ForSome, Prelude.{◌≡◌, ℕ, ◌<◌, Bool, true, false, List, [], ◌∷◌, Option, Some, None, Result, Ok, Err, is_some}}
 use Rattle.vs_flow.specs.Flow.{is_assigned}
 use Rattle.vs_ring_port.specs.Contents.{RingContents}
-use Rattle.vs_driver_parts.specs.{Listening.listener_on, State.DriverState, State.Listener}
-use Rattle.vs_driver_parts.specs.declared.answers.{Accepted.Accepted, ConnectError.ConnectError, ListenError.ListenError}
+use Rattle.vs_driver_parts.specs.{Listening.listener_on, State.{DriverState, Listener}, declared.answers.{Accepted.Accepted, ConnectError.ConnectError, ListenError.ListenError}}
+use Rattle.laws_driver.specs.Carried.Calls.{Accept, Connect, GuestCall, Journal, Listen, ReplyTo}
+use Rattle.laws_apps.specs.Placed.{some_did, waits_at, was_given}
 use Rattle.vs_driver_parts.specs.declared.answers.Accepted.TheVariants as accepted
 use Rattle.vs_driver_parts.specs.declared.answers.ConnectError.TheVariants as refused
 use Rattle.vs_driver_parts.specs.declared.answers.ListenError.TheVariants as unheard
-use Rattle.laws_driver.specs.Carried.Calls.{Accept, Connect, GuestCall, Journal, Listen, ReplyTo}
-use Rattle.laws_apps.specs.Placed.{some_did, waits_at, was_given}
 
 -- The port that is listened on after a listen, by it or before.
 abbrev pub heard_as : ℕ → Result (Unit {0}) ListenError → Option ℕ

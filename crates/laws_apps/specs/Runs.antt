@@ -1,20 +1,16 @@
 -- A run of apps: the driver and its ring, the apps and the journal; what it keeps, and a step of an app.
-use Rattle.std.specs.Prelude.{◌≡◌, ◌≤◌, ℕ, ◌<◌, ◌||◌, nat_lt, Bool, true, false, List, [], ◌∷◌, ◌++◌, length, Option, Some, None, slice_get}
-use Rattle.std.specs.Prelude.{slice_index_or, slice_set}
+use Rattle.std.specs.Prelude.{◌≡◌, ◌≤◌, ℕ, ◌<◌, ◌||◌, nat_lt, Bool, true, false, List, [], ◌∷◌, ◌++◌, length, Option, Some, None, slice_get, slice_index_or, slice_set}
 use Rattle.vs_script.specs.App.{Act}
 use Rattle.vs_ring_port.specs.Contents.{RingContents}
 use Rattle.vs_driver_parts.specs.{Conversations.poll_of, Playing.Plays, State.DriverState, declared.answers.Polled.Polled}
-use Rattle.laws_driver.specs.Honest.{IsHonestWith}
-use Rattle.laws_driver.specs.Carried.Calls.{Journal, Made, bytes_received, flow_accepted, flow_opened, is_right, whole_call}
-use Rattle.vs_apps_parts.specs.Journals.{AllStandIn, calls_of, calls_of_app, ends_at, entry_called, last_wait, made_as, made_of, wait_noted}
-use Rattle.vs_apps_parts.specs.{Journals.wait_place, Scripts.IsPlayed, Scripts.RunScript, Scripts.acts_of, Scripts.after_step}
-use Rattle.vs_apps_parts.specs.{Scripts.begun, Scripts.calls_in, Scripts.calls_next, Scripts.told_in, Told.step_wait, Told.told_of}
-use Rattle.vs_apps_parts.specs.{Told.wait_of, Told.waits_on, declared.journal.Called.Called, declared.journal.Entry.Entry}
-use Rattle.vs_apps_parts.specs.declared.{journal.WaitsFor.WaitsFor, progress.AppState.AppState, progress.Stepped.Stepped}
-use Rattle.vs_apps_parts.specs.declared.progress.Stepped.TheVariants as stepped
-use Rattle.vs_apps_parts.specs.declared.journal.Called.TheVariants as called
+use Rattle.laws_driver.specs.{Honest.IsHonestWith, Carried.Calls.{Journal, Made, bytes_received, flow_accepted, flow_opened, is_right, whole_call}}
+use Rattle.vs_apps_parts.specs.{Journals.{AllStandIn, calls_of, calls_of_app, ends_at, entry_called, last_wait, made_as, made_of, wait_noted, wait_place}, Scripts.IsPlayed}
+use Rattle.vs_apps_parts.specs.{Scripts.{RunScript, acts_of, after_step, begun, calls_in, calls_next, told_in}, Told.{step_wait, told_of, wait_of, waits_on}}
+use Rattle.vs_apps_parts.specs.declared.{journal.{Called.Called, Entry.Entry, WaitsFor.WaitsFor}, progress.{AppState.AppState, Stepped.Stepped}}
 use Rattle.laws_rest.specs.Rest.{IsRoutedWith}
 use Rattle.laws_apps.specs.{Accounts.IsAccounted, Asked.AsksOnceWith, Given.AreGivenWith, Placed.ArePlacedWith, Traces.IsTracedWith}
+use Rattle.vs_apps_parts.specs.declared.progress.Stepped.TheVariants as stepped
+use Rattle.vs_apps_parts.specs.declared.journal.Called.TheVariants as called
 
 pub record Run : Type 0 where
   pub driver : DriverState

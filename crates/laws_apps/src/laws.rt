@@ -2,18 +2,14 @@
 
 ghost use Rattle.std.specs.Prelude.{◌≡◌, ◌<◌, ◌≤◌, ℕ, Bool, true, List, [], ◌∷◌, ◌++◌, Ok, length, slice_index_or};
 ghost use Rattle.vs_flow.specs.Connection.{Connection};
-ghost use Rattle.vs_page.specs.{Fair.payload_put, Log.Driver, Log.Log};
+ghost use Rattle.vs_page.specs.{Fair.payload_put, Log.{Driver, Log}};
 ghost use Rattle.vs_ring_port.specs.Contents.{RingContents};
-ghost use Rattle.vs_driver_parts.specs.{Conversations.new_of, Conversations.poll_of, Held.HeldSlots, Playing.Plays, State.DriverState};
-ghost use Rattle.vs_driver_parts.specs.declared.answers.Polled.{Polled};
-ghost use Rattle.laws_driver.specs.Honest.{IsFresh, IsHonestWith};
-ghost use Rattle.laws_driver.specs.Carried.Calls.{GuestCall, Journal, ReplyTo, is_right, whole_call, with_call};
-ghost use Rattle.vs_script.specs.{Script.Runs, Script.parse_of, declared.script.Command.TheVariants.Run as ForRun};
-ghost use Rattle.vs_apps_parts.specs.declared.journal.{Called.Called, Entry.Entry};
-ghost use Rattle.vs_apps_parts.specs.{Journals.entry_called, Journals.made_as, Journals.sent_as, Scripts.AreRight, Scripts.RunScript, Scripts.with_noted};
-ghost use Rattle.vs_apps_parts.specs.declared.progress.{AppState.AppState, Stepped.Stepped};
-ghost use Rattle.laws_driver.specs.Carried.Senders.{IsRightJournal};
-ghost use Rattle.laws_apps.specs.{Accounts.IsAccounted, Runs.HasFlow, Runs.IsRunOf, Runs.PollsTo, Runs.Run, Runs.Steps, Runs.no_app};
+ghost use Rattle.vs_driver_parts.specs.{Conversations.{new_of, poll_of}, Held.HeldSlots, Playing.Plays, State.DriverState, declared.answers.Polled.Polled};
+ghost use Rattle.laws_driver.specs.{Honest.{IsFresh, IsHonestWith}, Carried.{Calls.{GuestCall, Journal, ReplyTo, is_right, whole_call, with_call}, Senders.IsRightJournal}};
+ghost use Rattle.vs_script.specs.{Script.{Runs, parse_of}, declared.script.Command.TheVariants.Run as ForRun};
+ghost use Rattle.vs_apps_parts.specs.{declared.{journal.{Called.Called, Entry.Entry}, progress.{AppState.AppState, Stepped.Stepped}}, Journals.{entry_called, made_as, sent_as}};
+ghost use Rattle.vs_apps_parts.specs.Scripts.{AreRight, RunScript, with_noted};
+ghost use Rattle.laws_apps.specs.{Accounts.IsAccounted, Runs.{HasFlow, IsRunOf, PollsTo, Run, Steps, no_app}};
 ghost use Rattle.vs_limits.specs.declared.TheConstants.{LAST_PORT};
 
 /// A call that was made, and a poll, keep the journal's account right: what was sent on each connection is the payload that the log put, and

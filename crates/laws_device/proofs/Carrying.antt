@@ -1,22 +1,16 @@
 -- What a walk over the device's conversations carries besides: what the host's streams took and gave.
-use Rattle.std.proofs.Common.{◌≡◌, ℕ, Bool, true, false, List, [], ◌∷◌, Option, None, IfSome, ◌⊎◌, inl, inr, sym, subst}
-use Rattle.std.{proofs.Common.is_some, proofs.Common.ap, proofs.Common.◌∙◌, specs.Option.ForSome}
+use Rattle.std.{proofs.Common.{◌≡◌, ℕ, Bool, true, false, List, [], ◌∷◌, Option, None, IfSome, ◌⊎◌, inl, inr, sym, subst, is_some, ap, ◌∙◌}, specs.Option.ForSome}
 use Rattle.laws_history.specs.declared.packet.Packet.{Packet}
 use Rattle.vs_flow.specs.Table.{Table}
-use Rattle.vs_page.specs.{declared.log.LogEntry.TheVariants.{GotPacket, PutPacket}, Log.{Device, Log, flow_got}}
-use Rattle.vs_page.specs.{declared.log.LogEntry.LogEntry, Open.is_dropped}
+use Rattle.vs_page.specs.{declared.log.LogEntry.{TheVariants.{GotPacket, PutPacket}, LogEntry}, Log.{Device, Log, flow_got}, Open.is_dropped}
 use Rattle.vs_contents.specs.Contents.{Exposes}
 use Rattle.vs_outside.specs.Host.{HostContents, after_close}
 use Rattle.vs_proxy_parts.specs.State.{Handshake}
 use Rattle.vs_ring_port.specs.{Chains.Held, EndLog.EndLog}
-use Rattle.vs_device_parts.specs.Calls.{HostMoves, Situation, DeviceTree}
-use Rattle.vs_device_parts.specs.{Playing.IsRxChain, Playing.Runs, State.DeviceConnection, State.DeviceState}
-use Rattle.laws_device.proofs.Named.Tables.{some_after, some_from}
-use Rattle.laws_device.specs.Carried.Streamed.{IsStreamed}
+use Rattle.vs_device_parts.specs.{Calls.{HostMoves, Situation, DeviceTree}, Playing.{IsRxChain, Runs}, State.{DeviceConnection, DeviceState}}
+use Rattle.laws_device.proofs.{Named.Tables.{some_after, some_from}, Ringing.{Telling, Tells, host_moves, tells_weaker}, Chains.{Among, alone, alone_so}, Seats.{AgreesBy, Carried}}
+use Rattle.laws_device.{proofs.Keeping.{Keeps, keeps_end}, specs.{Carried.Streamed.IsStreamed, Honest.{IsFitState, IsWith}, Streams.{AreHeard, AreStreamedWith}}}
 use Rattle.laws_tables.proofs.Fair.{got_one}
-use Rattle.laws_device.proofs.Ringing.{Telling, Tells, host_moves, tells_weaker}
-use Rattle.laws_device.proofs.{Chains.Among, Chains.alone, Chains.alone_so, Seats.AgreesBy, Seats.Carried, Keeping.Keeps, Keeping.keeps_end}
-use Rattle.laws_device.specs.{Honest.IsFitState, Honest.IsWith, Streams.AreHeard, Streams.AreStreamedWith}
 
 abbrev pub Fact : Type 1
 Fact = Option HostContents → Log → Type 0

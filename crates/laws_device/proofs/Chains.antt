@@ -1,12 +1,11 @@
 -- Chains that the device holds, and what is written into them.
-use Rattle.std.proofs.Common.{◌≡◌, ℕ, suc, ◌+◌, ◌==◌, ◌&&◌, Bool, true, false, cond, List, [], ◌∷◌, ◌++◌, Contains, length, take, drop}
-use Rattle.std.proofs.Common.{Option, Some, None, refl, sym, ap, subst, ◌∙◌, arith, length-append, IfSome}
-use Rattle.std.proofs.lemmas.{Bool.Decides.nat_tests, Bool.and_parts, List.take_at}
+use Rattle.std.proofs.Common.{◌≡◌, ℕ, suc, ◌+◌, ◌==◌, ◌&&◌, Bool, true, false, cond, List, [], ◌∷◌, ◌++◌, Contains, length, take, drop, Option, Some, None, refl, sym, ap, subst}
+use Rattle.std.proofs.{Common.{◌∙◌, arith, length-append, IfSome}, lemmas.{Bool.{Decides.nat_tests, and_parts}, List.take_at}}
 use Rattle.vs_page.specs.Overwriting.{overwritten}
-use Rattle.vs_ring_port.specs.Chains.{Held, bytes_in, chains_of, same_chain, same_queue, with_bytes, without_held}
-use Rattle.vs_ring_port.specs.{declared.queue.Queue.TheVariants.{Rx, Tx, Event}, declared.{device_ring.Chain.Chain, queue.Queue.Queue}}
+use Rattle.vs_ring_port.specs.{Chains.{Held, bytes_in, chains_of, same_chain, same_queue, with_bytes, without_held}, declared.queue.Queue.{TheVariants.{Rx, Tx, Event}, Queue}}
+use Rattle.vs_ring_port.specs.declared.device_ring.Chain.{Chain}
 use Rattle.vs_device_parts.specs.Playing.{IsRxChain}
-use Rattle.laws_device.{specs.Honest.is_held, specs.Honest.unwritten, proofs.Ringing.same_self}
+use Rattle.laws_device.{specs.Honest.{is_held, unwritten}, proofs.Ringing.same_self}
 
 -- The chain is held; its bytes; the other chains that are held.
 abbrev pub Holds : Chain → (List ℕ → Type 0) → (List Held → Type 0) → List Held → Type 0

@@ -1,22 +1,18 @@
 -- Decisions of a connection: no packet passes, and the device still matches its log.
-use Rattle.std.proofs.Common.{◌≡◌, ℕ, ◌-◌, ◌≤◌, Bool, true, false, cond, List, [], ◌∷◌, ◌++◌, length, drop, Contains, refl, sym, ap, subst}
-use Rattle.std.proofs.{Common.◌∙◌, Common.arith, Common.length-append, Common.length-drop, Common.length-take, lemmas.Grind.common_steps}
-use Rattle.vs_conn.proofs.Steps.{abort_follows, ask_follows, forward_follows, grow_follows, shut_follows}
-use Rattle.vs_conn.specs.{End.ConnectionEnd, End.grown, End.wanting_credit, End.with_payload_forwarded, End.with_shut, Follows.Follows}
+use Rattle.std.proofs.Common.{◌≡◌, ℕ, ◌-◌, ◌≤◌, Bool, true, false, cond, List, [], ◌∷◌, ◌++◌, length, drop, Contains, refl, sym, ap, subst, ◌∙◌, arith, length-append, length-drop}
+use Rattle.std.proofs.{Common.length-take, lemmas.Grind.common_steps}
+use Rattle.vs_conn.{proofs.Steps.{abort_follows, ask_follows, forward_follows, grow_follows, shut_follows}, specs.End.{ConnectionEnd, grown, wanting_credit}}
+use Rattle.vs_conn.specs.{End.{with_payload_forwarded, with_shut}, Follows.Follows, declared.end.State.State}
 use Rattle.laws_history.specs.History.{Side, gots, puts, History}
 use Rattle.vs_flow.specs.{Flow.same_flow, Table.Table, declared.flow.Flow.Flow}
 use Rattle.vs_page.specs.Log.{Device, Log, side_of}
-use Rattle.laws_tables.specs.Ends.{Ends, FlowEnd, ends_of, is_new, is_new_in, replaced}
-use Rattle.laws_tables.specs.Both.{Aborts, Decides, Decision, Forwards, Grows, MayDecide, Seat, Shuts, WantsCredit, decided}
-use Rattle.laws_tables.{specs.Heard.heard_of, specs.Matches.Matches, specs.Steps.with_end, proofs.Keeps.changes}
-use Rattle.laws_device.proofs.Tabling.{IsFitConnection, begun_fits, connection_ends, connection_fits, entry_fits, has_end}
-use Rattle.laws_device.specs.Honest.{HoldsBytes, IsFit, IsFitState, ends_of_state, ends_with}
-use Rattle.laws_device.proofs.{Seats.Carried, Seats.at_log, Seats.seat, Fits.fits_forwarded, Fits.fits_shut}
+use Rattle.laws_tables.specs.{Ends.{Ends, FlowEnd, ends_of, is_new, is_new_in, replaced}, Both.{Aborts, Decides, Decision, Forwards, Grows, MayDecide, Seat, Shuts, WantsCredit}}
+use Rattle.laws_tables.{specs.{Both.decided, Heard.heard_of, Matches.Matches, Steps.with_end}, proofs.Keeps.changes}
+use Rattle.laws_device.proofs.{Tabling.{IsFitConnection, begun_fits, connection_ends, connection_fits, entry_fits, has_end}, Seats.{Carried, at_log, seat}, Fits.fits_forwarded}
+use Rattle.laws_device.{proofs.Fits.fits_shut, specs.Honest.{HoldsBytes, IsFit, IsFitState, ends_of_state, ends_with}}
 use Rattle.vs_replies.specs.declared.Reply.{Reply}
-use Rattle.vs_device_parts.specs.Connections.{after_shut, after_written, cut_off, with_connection}
-use Rattle.vs_device_parts.{specs.State.DeviceConnection, specs.State.DeviceEntry, specs.State.DeviceState, specs.Streams.to_write}
+use Rattle.vs_device_parts.specs.{Connections.{after_shut, after_written, cut_off, with_connection}, State.{DeviceConnection, DeviceEntry, DeviceState}, Streams.to_write}
 use Rattle.vs_device_parts.proofs.Growing.{MayGrow}
-use Rattle.vs_conn.specs.declared.end.State.{State}
 
 -- What a step does that puts and gets nothing.
 pub record ChangesTo (carry : Carried) (port cid overrun : ℕ) (table : Table DeviceConnection) (replies : List Reply) (cid' overrun' : ℕ)

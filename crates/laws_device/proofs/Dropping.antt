@@ -1,27 +1,22 @@
 -- Over an honest ring that tells its log the device counts just the packets of the log that it drops, and its ring doesn't fail.
-use Rattle.std.proofs.Common.{◌≡◌, ℕ, ◌+◌, ◌-◌, ◌^◌, min, nat_lt, Bool, true, false, cond, List, [], ◌∷◌, length, take, drop, Option, Some, None}
-use Rattle.std.proofs.{Common.{refl, sym, ap, subst, ◌∙◌, arith}, lemmas.Bool.{Decides.nat_tests}}
-use Rattle.std.specs.{Option.ForSome, Prelude.IsSomeAnd}
+use Rattle.std.proofs.Common.{◌≡◌, ℕ, ◌+◌, ◌-◌, ◌^◌, min, nat_lt, Bool, true, false, cond, List, [], ◌∷◌, length, take, drop, Option, Some, None, refl, sym, ap, subst, ◌∙◌, arith}
+use Rattle.std.{proofs.lemmas.Bool.Decides.nat_tests, specs.{Option.ForSome, Prelude.IsSomeAnd}}
 use Rattle.byteorder.specs.Endian.{little_bytes}
 use Rattle.vs_contents.specs.CallTree.{Done, Ask}
-use Rattle.vs_header.specs.{Packet.header_bytes, Packet.header_of, declared.Header.Header, declared.TheConstants.HEADER_LEN}
-use Rattle.laws_history.specs.{Packets.packet_bytes, Packets.size, declared.packet.Packet.Packet}
-use Rattle.vs_page.specs.declared.log.LogEntry.TheVariants.{GotPacket, PutEvent, PutPacket}
-use Rattle.vs_page.specs.{Fair.IsFairLog, Held.event_held, Held.packet_held, Log.Device, Log.Log, Log.flow_got}
-use Rattle.vs_page.specs.{Open.cid_of, Open.is_dropped}
-use Rattle.vs_page.proofs.Holding.{packet_whole}
-use Rattle.vs_ring_port.specs.{Chains.Held, Chains.bytes_in, Contents.{DeviceAnswer, DeviceCall, PublishCid, Return, RingContents, Take, Write}, DeviceCalls.DeviceAllows}
-use Rattle.vs_ring_port.specs.{DeviceCalls.{DeviceMoves, IsTakenAs, IsTakenWhole}, EndLog.EndLog, EndLog.entries_returned}
-use Rattle.vs_ring_port.specs.{EndLog.{log_reset, log_returned, log_taken, log_written, with_event, with_packet}, Lists.Rings}
-use Rattle.vs_ring_port.specs.declared.{device_ring.Chain.Chain, device_ring.Next.Next, queue.Queue.Queue}
-use Rattle.vs_ring_port.specs.declared.queue.Queue.TheVariants.{Event, Rx, Tx}
+use Rattle.vs_header.specs.{Packet.{header_bytes, header_of}, declared.{Header.Header, TheConstants.HEADER_LEN}}
+use Rattle.laws_history.specs.{Packets.{packet_bytes, size}, declared.packet.Packet.Packet}
+use Rattle.vs_page.specs.{declared.log.LogEntry.TheVariants.{GotPacket, PutEvent, PutPacket}, Fair.IsFairLog, Held.{event_held, packet_held}, Log.{Device, Log, flow_got}}
+use Rattle.vs_page.{specs.Open.{cid_of, is_dropped}, proofs.Holding.packet_whole}
+use Rattle.vs_ring_port.specs.{Chains.{Held, bytes_in}, Contents.{DeviceAnswer, DeviceCall, PublishCid, Return, RingContents, Take, Write}, DeviceCalls.{DeviceAllows, DeviceMoves}}
+use Rattle.vs_ring_port.specs.{DeviceCalls.{IsTakenAs, IsTakenWhole}, EndLog.{EndLog, entries_returned, log_reset, log_returned, log_taken, log_written, with_event, with_packet}}
+use Rattle.vs_ring_port.specs.{Lists.Rings, declared.{device_ring.{Chain.Chain, Next.Next}, queue.Queue.{Queue, TheVariants.{Event, Rx, Tx}}}}
 use Rattle.vs_wrap.specs.Wrap.{counted}
 use Rattle.laws_tables.proofs.Fair.{got_formed}
-use Rattle.vs_device_parts.specs.Calls.{Accept, Answer, Call, CloseStream, DeviceTree, Dial, Label, ReadStream, Ring, ShutWrite, Situation, WriteStream}
-use Rattle.vs_device_parts.specs.{Playing.Runs, Receiving.written}
-use Rattle.laws_device.specs.Dropped.{IsCounted, dropped_in}
-use Rattle.laws_device.proofs.Walk.{Fields.{AfterEventPage, AfterTx, Calls, Fields, HeaderRead, TxCalls, after_rx}, Keeping.Asking, Single.OneByOne}
-use Rattle.laws_device.proofs.{Keeping.{Keeps, Lets, lets}, Named.Keeping.asking as asked, Ringing.{Telling, Tells, bytes_held, moves}, Transmitting.header_is}
+use Rattle.vs_device_parts.specs.{Calls.{Accept, Answer, Call, CloseStream, DeviceTree, Dial, Label, ReadStream, Ring, ShutWrite, Situation, WriteStream}, Playing.Runs}
+use Rattle.vs_device_parts.specs.Receiving.{written}
+use Rattle.laws_device.{specs.Dropped.{IsCounted, dropped_in}, proofs.Walk.{Fields.{AfterEventPage, AfterTx, Calls, Fields, HeaderRead, TxCalls, after_rx}, Keeping.Asking}}
+use Rattle.laws_device.proofs.{Walk.Single.OneByOne, Keeping.{Keeps, Lets, lets}, Named.Keeping.asking as asked, Ringing.{Telling, Tells, bytes_held, moves}}
+use Rattle.laws_device.proofs.Transmitting.{header_is}
 use Rattle.laws_device.proofs.Walk.Keeping as walked
 use Rattle.vs_ring_port.specs.declared.device_ring.Next.TheVariants as next
 

@@ -4,13 +4,12 @@ use Rattle.vs_conn.specs.End.{grown}
 use Rattle.vs_flow.specs.Table.{entry_under}
 use Rattle.vs_outside.specs.Host.{HostContents}
 use Rattle.vs_ring_port.specs.Contents.{RingContents}
-use Rattle.vs_device_parts.specs.{Calls.Situation, Growing.{after_grow, entry_grow_answer, grow_of, grown_by}, State.{DeviceEntry, DeviceState}}
-use Rattle.vs_device_parts.{proofs.Growing.may_grow, specs.Playing.situation, specs.declared.answers.Grown.Grown}
+use Rattle.vs_device_parts.specs.{Calls.Situation, Growing.{after_grow, entry_grow_answer, grow_of, grown_by}, State.{DeviceEntry, DeviceState}, Playing.situation}
+use Rattle.vs_device_parts.{specs.declared.answers.Grown.Grown, proofs.Growing.may_grow}
 use Rattle.vs_proxy_parts.specs.State.{Handshake}
-use Rattle.laws_device.specs.{Honest.IsWith, Named.Streams.HasStreams, Streams.AreStreamedWith}
-use Rattle.laws_device.proofs.{Carrying.{With, held_with, plain_with, ring_and_host, ring_only, with_ring, with_streams}, Changing.grows}
-use Rattle.laws_device.proofs.{Carried.Changing.ends_streams, Named.Tables.{entry_by_slot, has_changed, value_by_entry}, Steps.changed}
-use Rattle.laws_device.proofs.{Seats.Carried, Walk.Serving.by_slot}
+use Rattle.laws_device.{specs.{Honest.IsWith, Named.Streams.HasStreams, Streams.AreStreamedWith}, proofs.Carrying.{With, held_with, plain_with, ring_and_host, ring_only}}
+use Rattle.laws_device.proofs.{Carrying.{with_ring, with_streams}, Changing.grows, Carried.Changing.ends_streams, Named.Tables.{entry_by_slot, has_changed, value_by_entry}}
+use Rattle.laws_device.proofs.{Steps.changed, Seats.Carried, Walk.Serving.by_slot}
 use Rattle.vs_device_parts.specs.declared.answers.Grown.TheVariants as rise
 
 module _ (slot alloc : ℕ) (s : DeviceState) where

@@ -1,40 +1,30 @@
 -- What the device keeps as it takes a packet, whose page stands in the log: each verdict, and each end of a REQUEST.
-use Rattle.std.proofs.Common.{◌≡◌, ℕ, ◌+◌, ◌≤◌, ◌==◌, ◌&&◌, Bool, true, false, cond, List, [], ◌∷◌, ◌++◌, length, take, drop, Contains}
-use Rattle.std.proofs.Common.{Option, Some, None, refl, sym, ap, subst, ◌∙◌, arith, length-append, length-take, get_or, inl, inr}
-use Rattle.std.{proofs.lemmas.Bool.Decides.nat_tests, proofs.lemmas.Grind.common_steps, proofs.lemmas.List.get_or_default, specs.List.All}
+use Rattle.std.proofs.Common.{◌≡◌, ℕ, ◌+◌, ◌≤◌, ◌==◌, ◌&&◌, Bool, true, false, cond, List, [], ◌∷◌, ◌++◌, length, take, drop, Contains, Option, Some, None, refl, sym, ap, subst}
+use Rattle.std.proofs.{Common.{◌∙◌, arith, length-append, length-take, get_or, inl, inr}, lemmas.{Bool.Decides.nat_tests, Grind.common_steps, List.get_or_default}}
+use Rattle.std.specs.List.{All}
 use Rattle.vs_contents.specs.CallTree.{Done, bind}
 use Rattle.vs_conn.specs.{End.{ConnectionEnd, after_op, end_after, is_reset, is_of, verdict_of}, declared.end.{Verdict.Verdict, Why.Why}}
-use Rattle.vs_flow.specs.Table.{entry_of, has_place, with_value, Table}
-use Rattle.vs_flow.{specs.Flow.is_assigned, specs.Flow.same_flow, specs.declared.flow.Flow.Flow, proofs.Entries.same_flow_true}
-use Rattle.vs_header.specs.declared.Kind.{Kind}
-use Rattle.vs_header.specs.{Op.op_named, declared.Header.Header, declared.TheConstants.HEADER_LEN, declared.Kind.TheVariants.Stream}
+use Rattle.vs_flow.{specs.{Table.{entry_of, has_place, with_value, Table}, Flow.{is_assigned, same_flow}, declared.flow.Flow.Flow}, proofs.Entries.same_flow_true}
+use Rattle.vs_header.specs.{declared.{Kind.{Kind, TheVariants.Stream}, Header.Header, TheConstants.HEADER_LEN}, Op.op_named}
 use Rattle.laws_history.specs.{Packets.is_request, declared.packet.Packet.Packet}
 use Rattle.vs_outside.specs.{declared.host_net.Dialed.Dialed, Host.{HostContents, IsDialed, after_dial, after_failed, after_close, called}}
-use Rattle.vs_page.specs.{Fair.IsFairLog, Held.FitsWire, Held.IsWhole, Held.packet_held, Log.Device, Log.Log, Log.flow_to_host}
-use Rattle.vs_page.specs.{Open.is_dropped, declared.log.LogEntry.TheVariants.GotPacket}
+use Rattle.vs_page.specs.{Fair.IsFairLog, Held.{FitsWire, IsWhole, packet_held}, Log.{Device, Log, flow_to_host, side_of}, Open.is_dropped}
+use Rattle.vs_page.specs.declared.log.LogEntry.TheVariants.{GotPacket}
 use Rattle.vs_replies.specs.Owed.{reply_to}
 use Rattle.vs_ring_port.specs.{Chains.bytes_in, EndLog.EndLog, declared.device_ring.Chain.Chain}
-use Rattle.laws_tables.{specs.Ends.is_new, specs.Steps.is_overrun, specs.Steps.HasEnd, proofs.Slots.found_by}
-use Rattle.vs_device_parts.specs.Calls.{DeviceTree, Dial, HostMoves, Situation}
-use Rattle.vs_device_parts.specs.Connections.{after_leaving, stream_closed, with_connection, with_dialed, with_fault, with_reply}
-use Rattle.vs_device_parts.specs.Transmitting.{dial_answered, heard, on_known, on_packet, on_unknown, refused, unknown_why}
-use Rattle.vs_device_parts.specs.{State.DeviceConnection, State.DeviceEntry, State.DeviceState, Streams.closing, Streams.leaving}
+use Rattle.laws_tables.{specs.{Ends.is_new, Steps.{is_overrun, HasEnd}, Heard.heard_of}, proofs.{Slots.found_by, Fair.{got_goes_on, got_one}, OnFlow.follows_old}}
+use Rattle.vs_device_parts.specs.{Calls.{DeviceTree, Dial, HostMoves, Situation}, Connections.{after_leaving, stream_closed, with_connection, with_dialed, with_fault, with_reply}}
+use Rattle.vs_device_parts.specs.{Transmitting.{dial_answered, heard, on_known, on_packet, on_unknown, refused, unknown_why}, State.{DeviceConnection, DeviceEntry, DeviceState}}
+use Rattle.vs_device_parts.specs.Streams.{closing, leaving}
 use Rattle.vs_wrap.specs.Wrap.{counted}
-use Rattle.laws_device.proofs.{Ringing.{Tells, moves, tells_weaker, host_moves, Telling, bytes_held}, Taking.{drops_it, has_its_room}}
-use Rattle.laws_device.proofs.{Taking.{ignores_it, leaves_with, opens, replies_to, stays_with}, Tabling.{IsFitConnection, begun_fits}}
-use Rattle.laws_device.proofs.{Tabling.{entry_fits, has_end}, Carrying.{Fact, Closes, StreamedOver, streams_call, streams_go}}
-use Rattle.laws_device.proofs.{Chains.Behind, Seats.{AgreesBy, Carried, LeftBy, seat}, Fits.{delivered, fewer, fits_after}, Keeping.Keeps}
-use Rattle.laws_device.proofs.{Keeping.{asking, Lets, keeps_bind}, Steps.closing_keeps}
-use Rattle.laws_device.specs.Honest.{HoldsBytes, ends_of_state}
-use Rattle.laws_device.proofs.Walk.Keeping.{keeps_if, keeps_some}
-use Rattle.laws_device.proofs.Carried.Changing.{accepts_streams, called_host, closes_streams, delivered_rw, delivers_streams, dialed_id}
-use Rattle.laws_device.proofs.Carried.Changing.{empty_streams, failed_host, hears_streams, leaves_streams, passes_streams}
-use Rattle.laws_device.proofs.Carried.{Changing.{payload_in, reset_empty, unknown_streams}, Counted.request_empty, Streamed.join_of, Opens.dial_host}
+use Rattle.laws_device.proofs.{Ringing.{Tells, moves, tells_weaker, host_moves, Telling, bytes_held}, Taking.{drops_it, has_its_room, ignores_it, leaves_with, opens, replies_to}}
+use Rattle.laws_device.proofs.{Taking.stays_with, Tabling.{IsFitConnection, begun_fits, entry_fits, has_end}, Carrying.{Fact, Closes, StreamedOver, streams_call, streams_go}}
+use Rattle.laws_device.proofs.{Chains.Behind, Seats.{AgreesBy, Carried, LeftBy, seat}, Fits.{delivered, fewer, fits_after}, Keeping.{Keeps, asking, Lets, keeps_bind}}
+use Rattle.laws_device.proofs.{Steps.closing_keeps, Walk.Keeping.{keeps_if, keeps_some}, Carried.Changing.{accepts_streams, called_host, closes_streams, delivered_rw}}
+use Rattle.laws_device.proofs.Carried.Changing.{delivers_streams, dialed_id, empty_streams, failed_host, hears_streams, leaves_streams, passes_streams, payload_in, reset_empty}
+use Rattle.laws_device.{proofs.Carried.{Changing.unknown_streams, Counted.request_empty, Streamed.join_of, Opens.dial_host}, specs.Honest.{HoldsBytes, ends_of_state}}
 use Rattle.laws_device.specs.Carried.Streamed.{IsStreamed, count_in, gives, look}
 use Rattle.vs_proxy_parts.specs.State.{Handshake}
-use Rattle.laws_tables.specs.Heard.{heard_of}
-use Rattle.vs_page.specs.Log.{side_of}
-use Rattle.laws_tables.proofs.{Fair.got_goes_on, Fair.got_one, OnFlow.follows_old}
 use Rattle.vs_uds.specs.OkLine.{ok_text}
 use Rattle.vs_conn.specs.declared.end.Verdict.TheVariants as verdict
 use Rattle.vs_conn.specs.declared.end.Why.TheVariants as why

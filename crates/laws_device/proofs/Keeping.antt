@@ -1,18 +1,12 @@
 -- What a conversation keeps of its ring: what holds at each of its ends, where each of its calls on the ring may be made.
-use Rattle.std.proofs.Common.{◌≡◌, ℕ, zero, suc, ◌<◌, ◌^◌, Bool, true, false, List, Contains, subst}
-use Rattle.std.specs.Option.{ForSome}
+use Rattle.std.{proofs.Common.{◌≡◌, ℕ, zero, suc, ◌<◌, ◌^◌, Bool, true, false, List, Contains, subst}, specs.Option.ForSome}
 use Rattle.vs_contents.specs.CallTree.{Done, Ask, bind, for_each, while_up_to}
-use Rattle.vs_ring_port.specs.Contents.{RingContents, DeviceCall, Read, Write, Return, PublishCid, DeviceAnswer}
-use Rattle.vs_ring_port.specs.DeviceCalls.{CanReturn, LeavesNoGap, DeviceAllows}
-use Rattle.vs_ring_port.specs.{Chains.chains_of, declared.device_ring.Chain.Chain, declared.queue.Queue.TheVariants.Tx}
+use Rattle.vs_ring_port.specs.{Contents.{RingContents, DeviceCall, Read, Write, Return, PublishCid, DeviceAnswer}, DeviceCalls.{CanReturn, LeavesNoGap, DeviceAllows}}
+use Rattle.vs_ring_port.specs.{Chains.chains_of, declared.{device_ring.Chain.Chain, queue.Queue.TheVariants.Tx}}
 use Rattle.vs_header.specs.{Packet.header_of, declared.TheConstants.HEADER_LEN}
-use Rattle.laws_device.specs.Honest.{is_held}
+use Rattle.laws_device.{specs.{Honest.is_held, Named.Split.{CanPut, MayPut}}, proofs.{Walk.Keeping.Asking, Named.Keeping.asking as asked}}
 use Rattle.vs_page.{specs.Held.FitsWire, proofs.Holding.header_fits}
-use Rattle.vs_device_parts.specs.Calls.{IsFitAnswer, Call, Answer, Ring}
-use Rattle.vs_device_parts.specs.{Calls.DeviceTree, Calls.Situation, Calls.Allows, Playing.Runs}
-use Rattle.laws_device.specs.Named.Split.{CanPut, MayPut}
-use Rattle.laws_device.proofs.Walk.Keeping.{Asking}
-use Rattle.laws_device.proofs.Named.Keeping.{asking as asked}
+use Rattle.vs_device_parts.specs.{Calls.{IsFitAnswer, Call, Answer, Ring, DeviceTree, Situation, Allows}, Playing.Runs}
 use Rattle.laws_device.proofs.Walk.Keeping as walked
 
 -- The chain is among those that are held.

@@ -1,17 +1,13 @@
 -- Over any ring a conversation leaves it as honest as it was and its log fair, and adds to the log that it tells.
-use Rattle.std.proofs.Common.{◌≡◌, ℕ, true, List, [], ◌∷◌, take, Option, Some, None, refl, sym, subst, ◌∙◌}
-use Rattle.std.specs.Option.{ForSome}
-use Rattle.vs_contents.specs.{CallTree.Ask, CallTree.Done, Contents.Relates}
+use Rattle.std.{proofs.Common.{◌≡◌, ℕ, true, List, [], ◌∷◌, take, Option, Some, None, refl, sym, subst, ◌∙◌}, specs.Option.ForSome}
+use Rattle.vs_contents.specs.{CallTree.{Ask, Done}, Contents.Relates}
 use Rattle.laws_history.specs.declared.packet.Packet.{Packet}
-use Rattle.vs_page.specs.{Held.event_held, Held.packet_held, Log.Device, Log.Log, declared.log.LogEntry.LogEntry}
-use Rattle.vs_page.specs.declared.log.LogEntry.TheVariants.{GotPacket, Mark, PutEvent, PutPacket}
-use Rattle.vs_ring_port.specs.{Chains.bytes_in, DeviceCalls.DeviceAllows, DeviceCalls.DeviceMoves, Lists.Rings, declared.device_ring.Next.Next}
-use Rattle.vs_ring_port.specs.Contents.{DeviceAnswer, DeviceCall, Given, IsSound, PublishCid, Read, Return, RingContents, Take, Write}
+use Rattle.vs_page.specs.{Held.{event_held, packet_held}, Log.{Device, Log}, declared.log.LogEntry.{LogEntry, TheVariants.{GotPacket, Mark, PutEvent, PutPacket}}}
+use Rattle.vs_ring_port.specs.{Chains.bytes_in, DeviceCalls.{DeviceAllows, DeviceMoves}, Lists.Rings, declared.{device_ring.Next.Next, queue.Queue.{Queue, TheVariants.Event}}}
+use Rattle.vs_ring_port.specs.{declared.queue.Queue.TheVariants.{Rx, Tx}, Contents.{DeviceAnswer, DeviceCall, Given, IsSound, PublishCid, Read, Return, RingContents, Take, Write}}
 use Rattle.vs_ring_port.specs.EndLog.{EndLog, entries_returned, log_reset, log_returned, log_taken, log_written, with_event, with_packet}
-use Rattle.vs_ring_port.specs.declared.queue.Queue.{Queue, TheVariants.{Event, Rx, Tx}}
-use Rattle.vs_device_parts.specs.Calls.{Accept, Allows, Answer, Call, CloseStream, DeviceTree, Dial, Label, ReadStream, Ring, ShutWrite, Situation}
-use Rattle.vs_device_parts.specs.{Calls.WriteStream, Playing.Runs}
-use Rattle.laws_tables.{specs.Later.IsLater, specs.Later.StaysShut, proofs.Later.later_then, proofs.Later.stays_shut}
+use Rattle.vs_device_parts.specs.{Calls.{Accept, Allows, Answer, Call, CloseStream, DeviceTree, Dial, Label, ReadStream, Ring, ShutWrite, Situation, WriteStream}, Playing.Runs}
+use Rattle.laws_tables.{specs.Later.{IsLater, StaysShut}, proofs.Later.{later_then, stays_shut}}
 use Rattle.laws_device.proofs.Packets.{joined, related}
 use Rattle.vs_ring_port.specs.declared.device_ring.Next.TheVariants as next
 

@@ -1,21 +1,17 @@
 -- What one packet does to the log: the packet that is put, the one that is taken, and an event.
-use Rattle.std.proofs.Common.{◌≡◌, ℕ, ◌+◌, ◌==◌, nat_le, Bool, true, false, cond, List, [], ◌∷◌, ◌++◌, length, take, drop, Option, Some}
-use Rattle.std.proofs.{Common.None, Common.Result, Common.refl, Common.sym, Common.ap, Common.subst, Common.◌∙◌, lemmas.List.append-nil}
-use Rattle.std.specs.Option.{ForSome, option_map}
+use Rattle.std.proofs.Common.{◌≡◌, ℕ, ◌+◌, ◌==◌, nat_le, Bool, true, false, cond, List, [], ◌∷◌, ◌++◌, length, take, drop, Option, Some, None, Result, refl, sym, ap, subst, ◌∙◌}
+use Rattle.std.{proofs.lemmas.List.append-nil, specs.Option.{ForSome, option_map}}
 use Rattle.byteorder.specs.Endian.{little_bytes}
 use Rattle.vs_contents.specs.Contents.{Exposes, Relates}
-use Rattle.vs_header.specs.{Packet.header_bytes, Packet.header_of, declared.Header.Header, declared.TheConstants.HEADER_LEN}
+use Rattle.vs_header.specs.{Packet.{header_bytes, header_of}, declared.{Header.Header, TheConstants.HEADER_LEN}}
 use Rattle.laws_history.specs.{Packets.is_rw, declared.packet.Packet.Packet}
-use Rattle.vs_page.specs.{Held.packet_held, Held.payload_held, Log.Log, Overwriting.overwritten, declared.log.LogEntry.TheVariants.PutEvent}
-use Rattle.vs_page.specs.declared.log.LogEntry.TheVariants.{PutPacket}
-use Rattle.vs_ring_port.specs.{Chains.{Held, bytes_in}, DeviceCalls.{DeviceMoves, IsTakenAs}, Lists.Rings, declared.device_ring.Chain.Chain}
-use Rattle.vs_ring_port.specs.{declared.failure.Failure.Failure, Contents.{DeviceAnswer, DeviceCall, Read, Return, RingContents, Take}}
-use Rattle.vs_ring_port.specs.{Contents.Write, EndLog.{EndLog, log_returned, log_taken, log_written, with_packet}}
-use Rattle.vs_ring_port.specs.declared.queue.Queue.TheVariants.{Event, Rx, Tx}
+use Rattle.vs_page.specs.{Held.{packet_held, payload_held}, Log.Log, Overwriting.overwritten, declared.log.LogEntry.TheVariants.{PutEvent, PutPacket}}
+use Rattle.vs_ring_port.specs.{Chains.{Held, bytes_in}, DeviceCalls.{DeviceMoves, IsTakenAs}, Lists.Rings, declared.{device_ring.Chain.Chain, failure.Failure.Failure}}
+use Rattle.vs_ring_port.specs.{declared.queue.Queue.TheVariants.{Event, Rx, Tx}, Contents.{DeviceAnswer, DeviceCall, Read, Return, RingContents, Take, Write}, EndLog.EndLog}
+use Rattle.vs_ring_port.specs.EndLog.{log_returned, log_taken, log_written, with_packet}
 use Rattle.vs_device_parts.specs.{Calls.{Allows, Ring, Situation}, Playing.Runs, Receiving.{event_on, written}, State.DeviceState}
-use Rattle.laws_device.specs.Packets.{HasAdded, HasTaken, HoldsLast, IsWholeAs, packet_with}
-use Rattle.laws_device.proofs.{Chains.both_written, Chains.first_written, Ringing.bytes_held, Ringing.returned_entries}
-use Rattle.laws_device.proofs.{Ringing.returned_held, Ringing.written_held, Transmitting.some_test}
+use Rattle.laws_device.{specs.Packets.{HasAdded, HasTaken, HoldsLast, IsWholeAs, packet_with}, proofs.{Chains.{both_written, first_written}, Ringing.bytes_held}}
+use Rattle.laws_device.proofs.{Ringing.{returned_entries, returned_held, written_held}, Transmitting.some_test}
 use Rattle.vs_ring_port.specs.declared.device_ring.Next.TheVariants as next
 
 -- What a call does to the log, between the logs before and after it.

@@ -1,24 +1,19 @@
 -- The steps at which the device puts a packet: payload is sent, what is owed is paid, a reply is given.
-use Rattle.std.proofs.Common.{◌≡◌, ℕ, suc, ◌<◌, ◌^◌, false, List, [], ◌∷◌, ◌++◌, length, Contains, Some, refl, sym, ap, subst, ◌∙◌, arith}
-use Rattle.std.{proofs.lemmas.List.append-nil, specs.List.All}
-use Rattle.vs_conn.specs.Headers.{owed_flags, owed_header, owed_op, payload_header}
-use Rattle.vs_conn.specs.End.{CanSend, ConnectionEnd, owes_of, paid_of, with_payload_sent}
-use Rattle.vs_conn.{specs.declared.end.Owed.Owed, specs.Follows.FitsMessage, proofs.Frames.paid_kind, proofs.Steps.stream_fits}
+use Rattle.std.proofs.{Common.{◌≡◌, ℕ, suc, ◌<◌, ◌^◌, false, List, [], ◌∷◌, ◌++◌, length, Contains, Some, refl, sym, ap, subst, ◌∙◌, arith}, lemmas.List.append-nil}
+use Rattle.std.specs.List.{All}
+use Rattle.vs_conn.specs.{Headers.{owed_flags, owed_header, owed_op, payload_header}, End.{CanSend, ConnectionEnd, owes_of, paid_of, with_payload_sent}, declared.end.Owed.Owed}
+use Rattle.vs_conn.{specs.Follows.FitsMessage, proofs.{Frames.paid_kind, Steps.stream_fits}}
 use Rattle.vs_header.specs.{Packet.header_bytes, declared.Header.Header}
 use Rattle.laws_history.specs.{History.puts, declared.packet.Packet.Packet}
 use Rattle.vs_flow.specs.Table.{Table, with_value, without}
-use Rattle.vs_page.specs.Log.{Device, Log, history_of}
-use Rattle.vs_page.specs.{Fair.IsFairLog, Held.FitsWire, Held.packet_held, declared.log.LogEntry.TheVariants.PutPacket}
-use Rattle.vs_page.proofs.Packets.{held_alone, held_payload}
+use Rattle.vs_page.{specs.{Log.{Device, Log, history_of}, Fair.IsFairLog, Held.{FitsWire, packet_held}, declared.log.LogEntry.TheVariants.PutPacket}, proofs.Packets.held_alone}
+use Rattle.vs_page.proofs.Packets.{held_payload}
 use Rattle.vs_replies.specs.declared.Reply.{Reply}
-use Rattle.laws_tables.specs.Steps.{owed_on, paid, payload_on, with_end}
-use Rattle.laws_tables.specs.{Ends.Ends, Ends.is_new, Matches.Matches, Both.Pays, Both.Replies, Both.Seat, Both.Sends}
-use Rattle.laws_tables.proofs.{Keeps.{owed_old, pays, pays_fair, replies, replies_fair, sends, sends_fair}, OwedFlags.owed_flags_fit}
-use Rattle.laws_device.proofs.Tabling.{begun_fits, connection_ends, connection_fits, entry_fits, has_end, left_ends, left_fits}
-use Rattle.laws_device.proofs.{Seats.Carried, Seats.at_log, Seats.seat, Bytes.header_fits, Bytes.reset_fits, Fits.fits_paid, Fits.fits_sent}
-use Rattle.laws_device.specs.Honest.{HoldsBytes, IsFit, IsFitEntry, IsFitReply, IsFitState, ends_of_state, ends_with}
-use Rattle.vs_device_parts.specs.State.{DeviceConnection, DeviceEntry, DeviceState}
-use Rattle.vs_device_parts.specs.{Connections.route_to_guest, Connections.with_connection, Receiving.reply_header}
+use Rattle.laws_tables.{specs.{Steps.{owed_on, paid, payload_on, with_end}, Ends.{Ends, is_new}, Matches.Matches, Both.{Pays, Replies, Seat, Sends}}, proofs.Keeps.{owed_old, pays}}
+use Rattle.laws_tables.proofs.{Keeps.{pays_fair, replies, replies_fair, sends, sends_fair}, OwedFlags.owed_flags_fit}
+use Rattle.laws_device.proofs.{Tabling.{begun_fits, connection_ends, connection_fits, entry_fits, has_end, left_ends, left_fits}, Seats.{Carried, at_log, seat}, Bytes.header_fits}
+use Rattle.laws_device.{proofs.{Bytes.reset_fits, Fits.{fits_paid, fits_sent}}, specs.Honest.{HoldsBytes, IsFit, IsFitEntry, IsFitReply, IsFitState, ends_of_state, ends_with}}
+use Rattle.vs_device_parts.specs.{State.{DeviceConnection, DeviceEntry, DeviceState}, Connections.{route_to_guest, with_connection}, Receiving.reply_header}
 use Rattle.vs_conn.specs.declared.end.Owed.TheVariants as owed
 use Rattle.vs_header.specs.declared.Op.TheVariants as op
 

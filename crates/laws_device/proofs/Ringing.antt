@@ -1,16 +1,14 @@
 -- What a call on a ring that tells its log keeps.
-use Rattle.std.proofs.Common.{◌≡◌, ℕ, ◌+◌, ◌≤◌, Bool, true, cond, List, ◌∷◌, ◌++◌, Contains, length, take, drop, Option, Some, None, refl}
-use Rattle.std.proofs.{Common.sym, Common.ap, Common.subst, Common.◌∙◌, Common.arith, Common.length-append, lemmas.Bool.Decides.nat_tests}
-use Rattle.std.specs.Option.{ForSome}
+use Rattle.std.proofs.Common.{◌≡◌, ℕ, ◌+◌, ◌≤◌, Bool, true, cond, List, ◌∷◌, ◌++◌, Contains, length, take, drop, Option, Some, None, refl, sym, ap, subst, ◌∙◌, arith}
+use Rattle.std.{proofs.{Common.length-append, lemmas.Bool.Decides.nat_tests}, specs.Option.ForSome}
 use Rattle.vs_contents.specs.Contents.{Exposes}
 use Rattle.vs_outside.specs.Host.{HostContents}
 use Rattle.vs_device_parts.specs.Calls.{HostMoves, Situation}
 use Rattle.laws_device.specs.Honest.{is_held}
 use Rattle.vs_page.specs.{Fair.IsFairLog, Log.Device, Overwriting.overwritten}
-use Rattle.vs_ring_port.specs.{Chains.{Held, bytes_in, chains_of, same_chain, same_queue, with_bytes, without_held}, Contents.RingContents}
-use Rattle.vs_ring_port.specs.{Contents.{DeviceCall, DeviceAnswer}, DeviceCalls.DeviceMoves, EndLog.{EndLog, entries_returned}}
-use Rattle.vs_ring_port.specs.{EndLog.{log_returned, log_written}, Lists.Rings, declared.device_ring.Chain.Chain}
-use Rattle.vs_ring_port.specs.{declared.queue.Queue.Queue, declared.queue.Queue.TheVariants.{Rx}}
+use Rattle.vs_ring_port.specs.{Chains.{Held, bytes_in, chains_of, same_chain, same_queue, with_bytes, without_held}, Contents.{RingContents, DeviceCall, DeviceAnswer}}
+use Rattle.vs_ring_port.specs.{DeviceCalls.DeviceMoves, EndLog.{EndLog, entries_returned, log_returned, log_written}, Lists.Rings, declared.device_ring.Chain.Chain}
+use Rattle.vs_ring_port.specs.declared.queue.Queue.{Queue, TheVariants.Rx}
 
 -- P holds of the log that a ring tells; it depends on whether the ring is honest, and on what the host exposes.
 abbrev pub Telling : Type 1

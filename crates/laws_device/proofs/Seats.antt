@@ -3,16 +3,13 @@ use Rattle.std.proofs.Common.{◌≡◌, ℕ, ◌≤◌, true, List, [], ◌∷�
 use Rattle.vs_conn.specs.End.{ConnectionEnd}
 use Rattle.vs_flow.specs.{declared.flow.Flow.Flow, Table.Table}
 use Rattle.vs_limits.specs.declared.TheConstants.{HOST_CID}
-use Rattle.vs_page.specs.{Log.flow_got, Open.is_dropped, declared.log.LogEntry.LogEntry}
-use Rattle.vs_page.specs.{declared.log.LogEntry.TheVariants.GotPacket, Fair.IsFairLog, Held.FitsWire, Log.Device, Log.Log, Log.packets_put}
-use Rattle.laws_tables.specs.{Steps.HasEnd, Both.Asks, Both.MayHappen, Both.Opens, Both.Seat, Both.Step, Both.Takes, Both.after, Ends.Ends}
-use Rattle.laws_tables.specs.{Heard.own_port, Matches.Matches, Steps.IsNextFlow}
-use Rattle.laws_device.specs.Carried.Streamed.{gives}
+use Rattle.vs_page.specs.{Log.{flow_got, Device, Log, packets_put}, Open.is_dropped, declared.log.LogEntry.{LogEntry, TheVariants.GotPacket}, Fair.IsFairLog, Held.FitsWire}
+use Rattle.laws_tables.specs.{Steps.{HasEnd, IsNextFlow}, Both.{Asks, MayHappen, Opens, Seat, Step, Takes, after}, Ends.Ends, Heard.own_port, Matches.Matches}
+use Rattle.laws_device.specs.{Carried.Streamed.gives, Honest.{IsFit, ends_of_state, ends_with}}
 use Rattle.laws_history.specs.declared.packet.Packet.{Packet}
 use Rattle.vs_ring_port.specs.{Chains.Held, EndLog.EndLog}
 use Rattle.vs_replies.specs.declared.Reply.{Reply}
 use Rattle.vs_device_parts.specs.State.{DeviceConnection, DeviceState}
-use Rattle.laws_device.specs.Honest.{IsFit, ends_of_state, ends_with}
 
 abbrev pub seat : ℕ → DeviceState → Log → Seat
 seat port s log = record { part = ends_of_state port s; log = log }

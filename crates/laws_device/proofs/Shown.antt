@@ -1,20 +1,16 @@
 -- The table that is shown and what is pending, and the log.
-use Rattle.std.proofs.Common.{true, false, ◌≡◌, ℕ, ◌≤◌, Bool, not, ◌||◌, cond, List, [], ◌∷◌, map, length, Contains, refl, ap, subst, ◌∙◌}
-use Rattle.std.{specs.List.All, proofs.Common.arith, proofs.lemmas.List.Elements.All-nil, proofs.lemmas.List.Elements.All-cons}
+use Rattle.std.proofs.{Common.{true, false, ◌≡◌, ℕ, ◌≤◌, Bool, not, ◌||◌, cond, List, [], ◌∷◌, map, length, Contains, refl, ap, subst, ◌∙◌, arith}, lemmas.List.Elements.All-nil}
+use Rattle.std.{proofs.lemmas.List.Elements.All-cons, specs.List.All}
 use Rattle.vs_flow.specs.declared.flow.Flow.{Flow}
-use Rattle.laws_history.specs.History.{Got, History, IsFair, IsHonest, Put, Side, gots, puts}
-use Rattle.laws_history.specs.Packets.{has, is_request, is_rst, tells, told_alloc}
-use Rattle.laws_history.{specs.Again.AllowsNow, specs.declared.packet.Packet.Packet, proofs.Present.fair_once}
+use Rattle.laws_history.specs.{History.{Got, History, IsFair, IsHonest, Put, Side, gots, puts}, Packets.{has, is_request, is_rst, tells, told_alloc}, Again.AllowsNow}
+use Rattle.laws_history.{specs.declared.packet.Packet.Packet, proofs.Present.fair_once}
 use Rattle.vs_limits.specs.declared.TheConstants.{BUF_ALLOC, BUF_ALLOC_MAX}
-use Rattle.vs_page.specs.declared.log.LogEntry.TheVariants.{GotPacket, PutPacket}
+use Rattle.vs_page.specs.{declared.log.LogEntry.TheVariants.{GotPacket, PutPacket}, Log.{Device, Log, flow_put, history_of, packets_put, side_of, whole_of}, Fair.IsFairLog}
 use Rattle.vs_page.proofs.Entries.{one_got, one_put, present_is}
-use Rattle.vs_page.specs.{Log.Device, Log.Log, Log.flow_put, Log.history_of, Log.packets_put, Log.side_of, Log.whole_of, Fair.IsFairLog}
 use Rattle.vs_ring_port.specs.EndLog.{EndLog}
-use Rattle.laws_tables.specs.Ends.{FlowEnd, flows_of, is_among, is_new}
-use Rattle.laws_tables.proofs.Tables.{all_open, end_new}
-use Rattle.vs_device_parts.specs.{State.DeviceEntry, State.DeviceState, Turns.table_shown}
-use Rattle.laws_device.specs.Honest.{Advertises, AgreesWith, IsClients, IsLeftOpen, ends_of_state, flows_shown}
-use Rattle.laws_device.proofs.Tabling.{entry_fits, has_end}
+use Rattle.laws_tables.{specs.Ends.{FlowEnd, flows_of, is_among, is_new}, proofs.Tables.{all_open, end_new}}
+use Rattle.vs_device_parts.specs.{State.{DeviceEntry, DeviceState}, Turns.table_shown}
+use Rattle.laws_device.{specs.Honest.{Advertises, AgreesWith, IsClients, IsLeftOpen, ends_of_state, flows_shown}, proofs.Tabling.{entry_fits, has_end}}
 
 pub same_flows : (es : List DeviceEntry)
     → flows_shown (map (λ e. (e.flow, e.value.end.state)) es) ≡ flows_of

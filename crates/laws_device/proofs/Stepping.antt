@@ -1,28 +1,21 @@
 -- What the single steps keep, beside whatever other chains are held.
-use Rattle.std.proofs.Common.{◌≡◌, ℕ, ◌≤◌, ◌==◌, Bool, true, false, List, [], take, Option, Some, None, refl, sym, ap}
-use Rattle.std.{proofs.Common.subst, proofs.Common.◌∙◌, proofs.Common.arith, proofs.Common.IfSome, specs.Option.ForSome}
+use Rattle.std.{proofs.Common.{◌≡◌, ℕ, ◌≤◌, ◌==◌, Bool, true, false, List, [], take, Option, Some, None, refl, sym, ap, subst, ◌∙◌, arith, IfSome}, specs.Option.ForSome}
 use Rattle.vs_contents.specs.CallTree.{Done, bind}
-use Rattle.vs_conn.specs.{declared.end.Verdict.Verdict}
+use Rattle.vs_conn.specs.declared.end.Verdict.{Verdict}
 use Rattle.vs_credit.specs.Credit.{free_of}
 use Rattle.vs_flow.specs.Table.{entry_under}
 use Rattle.vs_header.specs.declared.Header.{Header}
 use Rattle.vs_outside.specs.Host.{HostContents}
 use Rattle.vs_page.specs.{Held.FitsWire, Log.Log}
-use Rattle.vs_ring_port.specs.{declared.queue.Queue.TheVariants.{Event, Rx, Tx}, Chains.{Held, bytes_in, same_queue}}
-use Rattle.vs_ring_port.specs.{Contents.{Take}, DeviceCalls.IsTakenAs, EndLog.{EndLog, entries_returned, log_returned, log_taken}}
-use Rattle.vs_ring_port.specs.{declared.device_ring.Chain.Chain, declared.device_ring.Next.Next, declared.queue.Queue.Queue}
-use Rattle.vs_device_parts.specs.Steps.{chain_came, filling, puts_event, puts_owed, puts_payload, puts_reply, reads, returns, shuts_write}
-use Rattle.vs_device_parts.specs.Receiving.{Filling, may_read, put_owed, put_reply}
-use Rattle.vs_device_parts.specs.Steps.{takes_chain, writes, writes_on, writing}
-use Rattle.vs_device_parts.specs.{Calls.DeviceTree, Calls.Ring, Calls.Situation, Playing.IsRxChain}
-use Rattle.vs_device_parts.specs.{State.DeviceState, Streams.shut_write, Streams.write_pending, Transmitting.failing}
-use Rattle.laws_device.specs.Honest.{is_held}
-use Rattle.laws_device.proofs.{Chains.{Among, among_more, among_without, held_there}, Filling.{Over, Ready, put_owed_keeps}}
-use Rattle.laws_device.proofs.{Filling.{put_reply_keeps, step_keeps, under_there}, Keeping.{Goes, Keeps, asking, Lets, keeps_then}}
-use Rattle.laws_device.proofs.{Carrying.{IsToldBy, StreamedOver, With}, Hearing.{After, Heard}, Steps.{none_came, hold_keeps}}
-use Rattle.laws_device.proofs.{Ringing.{moves, tells_weaker}, Seats.{Carried, LeftBy}, Transmitting.{read_keeps, tx_keeps}}
-use Rattle.laws_device.proofs.Turning.{event_put, shut_keeps, write_keeps_all}
-use Rattle.laws_device.proofs.Walk.Keeping.{keeps_if, keeps_some}
+use Rattle.vs_ring_port.specs.{declared.{queue.Queue.{TheVariants.{Event, Rx, Tx}, Queue}, device_ring.{Chain.Chain, Next.Next}}, Chains.{Held, bytes_in, same_queue}}
+use Rattle.vs_ring_port.specs.{Contents.Take, DeviceCalls.IsTakenAs, EndLog.{EndLog, entries_returned, log_returned, log_taken}}
+use Rattle.vs_device_parts.specs.Steps.{chain_came, filling, puts_event, puts_owed, puts_payload, puts_reply, reads, returns, shuts_write, takes_chain, writes, writes_on, writing}
+use Rattle.vs_device_parts.specs.{Receiving.{Filling, may_read, put_owed, put_reply}, Calls.{DeviceTree, Ring, Situation}, Playing.IsRxChain, State.DeviceState, Streams.shut_write}
+use Rattle.vs_device_parts.specs.{Streams.write_pending, Transmitting.failing}
+use Rattle.laws_device.{specs.Honest.is_held, proofs.{Chains.{Among, among_more, among_without, held_there}, Filling.{Over, Ready, put_owed_keeps, put_reply_keeps, step_keeps}}}
+use Rattle.laws_device.proofs.{Filling.under_there, Keeping.{Goes, Keeps, asking, Lets, keeps_then}, Carrying.{IsToldBy, StreamedOver, With}, Hearing.{After, Heard}}
+use Rattle.laws_device.proofs.{Steps.{none_came, hold_keeps}, Ringing.{moves, tells_weaker}, Seats.{Carried, LeftBy}, Transmitting.{read_keeps, tx_keeps}, Turning.event_put}
+use Rattle.laws_device.proofs.{Turning.{shut_keeps, write_keeps_all}, Walk.Keeping.{keeps_if, keeps_some}}
 use Rattle.vs_proxy_parts.specs.State.{Handshake}
 use Rattle.vs_ring_port.specs.declared.device_ring.Next.TheVariants as next
 

@@ -1,20 +1,14 @@
 -- Steps of the device between its calls on the ring, and the chain that it takes for a packet.
 use Rattle.laws_tables.specs.Ends.{is_new}
-use Rattle.std.proofs.Common.{◌≡◌, ℕ, Bool, true, false, not, List, [], Contains, Option, Some, None, refl, sym, subst, ◌∙◌, IfSome}
-use Rattle.std.proofs.Common.{inl, inr}
+use Rattle.std.proofs.Common.{◌≡◌, ℕ, Bool, true, false, not, List, [], Contains, Option, Some, None, refl, sym, subst, ◌∙◌, IfSome, inl, inr}
 use Rattle.vs_contents.specs.CallTree.{bind}
-use Rattle.vs_ring_port.specs.EndLog.{EndLog, log_taken}
-use Rattle.vs_ring_port.specs.{Contents.Take, DeviceCalls.IsTakenAs, declared.device_ring.Chain.Chain, declared.device_ring.Next.Next}
-use Rattle.vs_ring_port.specs.{declared.queue.Queue.TheVariants.Rx, declared.failure.Failure.Failure, declared.queue.Queue.Queue}
-use Rattle.vs_device_parts.specs.{Calls.{DeviceTree, HostMoves, Ring, Situation}, Receiving.{Filling, hold, holding}}
-use Rattle.vs_device_parts.specs.{Connections.{cut_off, with_connection}, Playing.IsRxChain, State.{DeviceConnection, DeviceEntry}}
-use Rattle.vs_device_parts.specs.{State.DeviceState, Streams.closing, Transmitting.failing}
-use Rattle.laws_device.specs.Honest.{IsFitState}
-use Rattle.laws_device.proofs.Carrying.{Closes, Fact, IsHeldBy, IsToldBy, StreamedOver, With, closed_with, streams_call, streams_go}
-use Rattle.laws_device.proofs.{Chains.Among, Chains.is_unwritten, Chains.taken_holds, Seats.Carried, Changing.Changes, Keeping.Goes}
-use Rattle.laws_device.proofs.{Keeping.Keeps, Keeping.asking, Keeping.Lets, Ringing.moves, Ringing.host_moves, Ringing.tells_weaker}
-use Rattle.laws_device.proofs.Walk.Keeping.{keeps_if}
-use Rattle.laws_device.{proofs.Carried.Changing.cuts_streams, proofs.Carried.HostCalls.cut_host, specs.Carried.Streamed.IsStreamed}
+use Rattle.vs_ring_port.specs.{EndLog.{EndLog, log_taken}, Contents.Take, DeviceCalls.IsTakenAs, declared.{device_ring.{Chain.Chain, Next.Next}, queue.Queue.TheVariants.Rx}}
+use Rattle.vs_ring_port.specs.declared.{queue.Queue.Queue, failure.Failure.Failure}
+use Rattle.vs_device_parts.specs.{Calls.{DeviceTree, HostMoves, Ring, Situation}, Receiving.{Filling, hold, holding}, Connections.{cut_off, with_connection}, Playing.IsRxChain}
+use Rattle.vs_device_parts.specs.{State.{DeviceConnection, DeviceEntry, DeviceState}, Streams.closing, Transmitting.failing}
+use Rattle.laws_device.{specs.{Honest.IsFitState, Carried.Streamed.IsStreamed}, proofs.Carrying.{Closes, Fact, IsHeldBy, IsToldBy, StreamedOver, With, closed_with, streams_call}}
+use Rattle.laws_device.proofs.{Carrying.streams_go, Chains.{Among, is_unwritten, taken_holds}, Seats.Carried, Changing.Changes, Keeping.{Goes, Keeps, asking, Lets}, Ringing.moves}
+use Rattle.laws_device.proofs.{Ringing.{host_moves, tells_weaker}, Walk.Keeping.keeps_if, Carried.{Changing.cuts_streams, HostCalls.cut_host}}
 use Rattle.vs_proxy_parts.specs.State.{Handshake}
 use Rattle.vs_outside.specs.Host.{HostContents}
 use Rattle.vs_page.specs.Log.{Log}

@@ -1,13 +1,12 @@
 -- What steps on the table do to the device's numbers, and to its connections as ends.
-use Rattle.std.proofs.Common.{◌≡◌, ℕ, ◌==◌, Bool, true, false, cond, not, List, get_or, length, Contains, sym, ap, subst, ◌∙◌}
-use Rattle.std.proofs.lemmas.List.Elements.{All-map, All-push, All-filter}
+use Rattle.std.proofs.{Common.{◌≡◌, ℕ, ◌==◌, Bool, true, false, cond, not, List, get_or, length, Contains, sym, ap, subst, ◌∙◌}, lemmas.List.Elements.{All-map, All-push}}
+use Rattle.std.proofs.lemmas.List.Elements.{All-filter}
 use Rattle.vs_header.specs.declared.Kind.TheVariants.{Stream}
-use Rattle.vs_flow.specs.{Table.{Table, with_value, without, with_entry, next_entry, revalued}, declared.flow.Flow.Flow}
-use Rattle.vs_flow.proofs.Tables.{with_value_sound, without_sound, with_entry_sound, IsAccepted}
-use Rattle.laws_tables.specs.{Ends.Ends, Ends.FlowEnd, Ends.entries_of, Ends.is_new, Steps.HasEnd, Steps.with_end, Steps.left}
-use Rattle.laws_tables.proofs.Slots.{changed_slot, one_end, removed_slot}
-use Rattle.vs_device_parts.specs.{State.DeviceConnection, State.DeviceEntry, State.DeviceState, Connections.with_connection}
+use Rattle.vs_flow.{specs.{Table.{Table, with_value, without, with_entry, next_entry, revalued}, declared.flow.Flow.Flow}, proofs.Tables.{with_value_sound, without_sound}}
+use Rattle.vs_flow.proofs.Tables.{with_entry_sound, IsAccepted}
+use Rattle.laws_tables.{specs.{Ends.{Ends, FlowEnd, entries_of, is_new}, Steps.{HasEnd, with_end, left}}, proofs.Slots.{changed_slot, one_end, removed_slot}}
 use Rattle.laws_tables.proofs.Changes.{without_changed}
+use Rattle.vs_device_parts.specs.{State.{DeviceConnection, DeviceEntry, DeviceState}, Connections.with_connection}
 use Rattle.laws_device.specs.Honest.{HasNothing, HoldsBytes, IsFit, IsFitEntry, IsFitFlow, IsFitState, end_in, ends_of_state}
 
 -- What is kept of a connection.

@@ -1,27 +1,19 @@
 -- A packet that is got: the device's connections are those that the log with it leaves.
-use Rattle.std.proofs.Common.{◌≡◌, ℕ, ◌&&◌, Bool, true, false, cond, List, [], ◌∷◌, Contains, None, refl, sym, ap, subst, ◌∙◌, arith}
-use Rattle.std.proofs.lemmas.{List.Elements.All-push, Bool.Decides.nat_tests, Grind.common_steps}
-use Rattle.vs_conn.specs.End.{ConnectionEnd, answering, end_after, is_reset, is_of, verdict_of}
-use Rattle.vs_conn.{specs.Follows.IsTaken, proofs.Frames.got_kind}
-use Rattle.laws_history.specs.{Packets.is_request, Packets.is_rst, declared.packet.Packet.Packet}
+use Rattle.std.proofs.{Common.{◌≡◌, ℕ, ◌&&◌, Bool, true, false, cond, List, [], ◌∷◌, Contains, None, refl, sym, ap, subst, ◌∙◌, arith}, lemmas.List.Elements.All-push}
+use Rattle.std.proofs.lemmas.{Bool.Decides.nat_tests, Grind.common_steps}
+use Rattle.vs_conn.{specs.{End.{ConnectionEnd, answering, end_after, is_reset, is_of, verdict_of}, Follows.IsTaken}, proofs.Frames.got_kind}
+use Rattle.laws_history.specs.{Packets.{is_request, is_rst}, declared.packet.Packet.Packet}
 use Rattle.vs_limits.specs.declared.TheConstants.{BUF_ALLOC}
-use Rattle.vs_flow.specs.Table.{entry_of, has_place, refusal, with_value, without}
-use Rattle.vs_flow.{specs.declared.flow.Flow.Flow, proofs.Tables.accepted}
-use Rattle.vs_page.specs.Log.{Device, Log, flow_to_host, side_of}
-use Rattle.vs_page.specs.{Fair.IsFairLog, Held.FitsWire, Open.is_dropped, declared.log.LogEntry.TheVariants.GotPacket}
+use Rattle.vs_flow.{specs.{Table.{entry_of, has_place, refusal, with_value, without}, declared.flow.Flow.Flow}, proofs.Tables.accepted}
+use Rattle.vs_page.specs.{Log.{Device, Log, flow_to_host, side_of}, Fair.IsFairLog, Held.FitsWire, Open.is_dropped, declared.log.LogEntry.TheVariants.GotPacket}
 use Rattle.vs_replies.specs.Owed.{reply_to}
-use Rattle.laws_tables.specs.Steps.{HasEnd, HasNone, forgotten, is_kept, is_overrun, left, taken, with_clean, with_end}
-use Rattle.laws_tables.specs.Both.{Forgets, Seat, Takes, after, after_packet, after_taking, answered}
-use Rattle.laws_tables.proofs.Keeps.{accepts, drops, forgets, has_room, ignores, refuses, takes}
-use Rattle.laws_tables.specs.{Ends.Ends, Ends.FlowEnd, Ends.answer_kind, Ends.ends_of, Heard.IsInOrder, Heard.heard_of, Matches.Matches}
-use Rattle.laws_tables.proofs.{Fair.got_in_order, Fair.got_is_taken, Slots.added_slot, Slots.no_entry}
-use Rattle.vs_device_parts.specs.Connections.{new_connection, with_connection, with_dialed, with_reply}
-use Rattle.vs_device_parts.specs.State.{DeviceConnection, DeviceEntry, DeviceState}
-use Rattle.laws_device.proofs.Tabling.{IsFitConnection, begun_fits, connection_ends, connection_fits, has_end, left_ends, left_fits}
-use Rattle.laws_device.specs.Honest.{IsFitFlow, IsFitReply, ends_of_state, end_in}
-use Rattle.laws_device.proofs.{Seats.Carried, Seats.LeftBy, Seats.at_log, Seats.seat, Tabling.entry_fits, Tabling.opening_fits}
+use Rattle.laws_tables.specs.{Steps.{HasEnd, HasNone, forgotten, is_kept, is_overrun, left, taken, with_clean, with_end, accepted as accepted_as}, Both.{Forgets, Seat, Takes}}
+use Rattle.laws_tables.specs.{Both.{after, after_packet, after_taking, answered}, Ends.{Ends, FlowEnd, answer_kind, ends_of}, Heard.{IsInOrder, heard_of}, Matches.Matches}
+use Rattle.laws_tables.proofs.{Keeps.{accepts, drops, forgets, has_room, ignores, refuses, takes}, Fair.{got_in_order, got_is_taken}, Slots.{added_slot, no_entry}}
+use Rattle.vs_device_parts.specs.{Connections.{new_connection, with_connection, with_dialed, with_reply}, State.{DeviceConnection, DeviceEntry, DeviceState}}
+use Rattle.laws_device.proofs.{Tabling.{IsFitConnection, begun_fits, connection_ends, connection_fits, has_end, left_ends, left_fits, entry_fits, opening_fits}, Seats.Carried}
+use Rattle.laws_device.{proofs.Seats.{LeftBy, at_log, seat}, specs.Honest.{IsFitFlow, IsFitReply, ends_of_state, end_in}}
 use Rattle.vs_header.specs.declared.Kind.TheVariants.{Stream}
-use Rattle.laws_tables.specs.Steps.{accepted as accepted_as}
 
 -- What an RST leaves of an end that keeps no flow.
 pub forgotten_taken : (f : Flow) (after : ConnectionEnd) (part : Ends) → part.clean ≡ [] → (b kept : Bool)

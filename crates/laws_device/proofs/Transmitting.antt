@@ -1,27 +1,21 @@
 -- What taking a packet of the guest keeps.
-use Rattle.std.proofs.Common.{◌≡◌, ℕ, ◌-◌, ◌≤◌, ◌==◌, nat_le, nat_lt, Bool, true, false, cond, if◌then◌else◌, List, [], ◌∷◌, length, take}
-use Rattle.std.proofs.Common.{drop, Option, Some, None, refl, sym, ap, subst, ◌∙◌, arith, IfSome, length-drop}
-use Rattle.std.{proofs.lemmas.Bool.Decides.nat_tests, specs.Option.option_map}
+use Rattle.std.proofs.Common.{◌≡◌, ℕ, ◌-◌, ◌≤◌, ◌==◌, nat_le, nat_lt, Bool, true, false, cond, if◌then◌else◌, List, [], ◌∷◌, length, take, drop, Option, Some, None, refl, sym, ap}
+use Rattle.std.{proofs.{Common.{subst, ◌∙◌, arith, IfSome, length-drop}, lemmas.Bool.Decides.nat_tests}, specs.Option.option_map}
 use Rattle.vs_contents.specs.CallTree.{Done, Ask, bind}
 use Rattle.vs_conn.specs.declared.end.Verdict.{Verdict}
-use Rattle.vs_header.specs.declared.Op.TheVariants.{Rw}
-use Rattle.vs_header.specs.{Op.op_number, Packet.header_of, declared.Header.Header, declared.TheConstants.HEADER_LEN}
+use Rattle.vs_header.specs.{declared.{Op.TheVariants.Rw, Header.Header, TheConstants.HEADER_LEN}, Op.op_number, Packet.header_of}
 use Rattle.laws_history.specs.{Packets.size, declared.packet.Packet.Packet}
-use Rattle.vs_page.specs.Held.{FitsWire, packet_held, packet_with, payload_held, IsWhole}
-use Rattle.vs_page.specs.{Fair.IsFairLog, Log.Device, Log.Log, Log.flow_got, declared.log.LogEntry.TheVariants.GotPacket}
-use Rattle.vs_page.proofs.Holding.{packet_whole}
-use Rattle.vs_ring_port.specs.{Chains.Held, Contents.Read, Contents.Return, Contents.Take, EndLog.EndLog, EndLog.log_returned}
-use Rattle.vs_ring_port.specs.{EndLog.log_taken, EndLog.with_packet, declared.device_ring.Chain.Chain, declared.device_ring.Next.Next}
-use Rattle.vs_ring_port.specs.{declared.failure.Failure.Failure, declared.queue.Queue.TheVariants.Tx, DeviceCalls.IsTakenAs}
+use Rattle.vs_page.specs.{Held.{FitsWire, packet_held, packet_with, payload_held, IsWhole}, Fair.IsFairLog, Log.{Device, Log, flow_got}}
+use Rattle.vs_page.{specs.declared.log.LogEntry.TheVariants.GotPacket, proofs.Holding.packet_whole}
+use Rattle.vs_ring_port.specs.{Chains.Held, Contents.{Read, Return, Take}, EndLog.{EndLog, log_returned, log_taken, with_packet}, declared.device_ring.{Chain.Chain, Next.Next}}
+use Rattle.vs_ring_port.specs.{declared.{failure.Failure.Failure, queue.Queue.TheVariants.Tx}, DeviceCalls.IsTakenAs}
 use Rattle.laws_tables.proofs.Fair.{got_formed}
-use Rattle.vs_device_parts.specs.{Calls.{Ring, Situation, DeviceTree}, Transmitting.{failing, on_next, on_packet, take_tx_of}}
-use Rattle.vs_device_parts.specs.{declared.answers.Taken.Taken, Playing.IsRxChain, State.DeviceState}
+use Rattle.vs_device_parts.specs.{Calls.{Ring, Situation, DeviceTree}, Transmitting.{failing, on_next, on_packet, take_tx_of}, declared.answers.Taken.Taken, Playing.IsRxChain}
+use Rattle.vs_device_parts.specs.State.{DeviceState}
 use Rattle.vs_limits.specs.declared.TheConstants.{DEVICE_REPLIES}
-use Rattle.laws_device.proofs.Ringing.{Tells, bytes_held, first_is_held, first_there, moves, returned_entries, returned_held, tells_weaker}
-use Rattle.laws_device.proofs.{Ringing.Telling, Hearing.{After, Came, Heard, IsCome, packet_keeps}, Keeping.{Keeps, asking, Lets}}
-use Rattle.laws_device.proofs.{Keeping.keeps_then, Carrying.{Fact, IsToldBy, StreamedOver, With}, Chains.{Among, Behind}, Seats.Carried}
-use Rattle.laws_device.proofs.{Seats.LeftBy, Steps.{it_failed, none_came}}
-use Rattle.laws_device.proofs.Walk.Keeping.{keeps_if}
+use Rattle.laws_device.proofs.{Ringing.{Tells, bytes_held, first_is_held, first_there, moves, returned_entries, returned_held, tells_weaker, Telling}, Hearing.{After, Came, Heard}}
+use Rattle.laws_device.proofs.{Hearing.{IsCome, packet_keeps}, Keeping.{Keeps, asking, Lets, keeps_then}, Carrying.{Fact, IsToldBy, StreamedOver, With}, Chains.{Among, Behind}}
+use Rattle.laws_device.proofs.{Seats.{Carried, LeftBy}, Steps.{it_failed, none_came}, Walk.Keeping.keeps_if}
 use Rattle.vs_outside.specs.Host.{HostContents}
 use Rattle.vs_proxy_parts.specs.State.{Handshake}
 use Rattle.vs_ring_port.specs.declared.device_ring.Next.TheVariants as next

@@ -1,44 +1,34 @@
 -- What the owed event, a reset, a tick, a round of writing and an opening keep.
-use Rattle.std.proofs.Common.{◌≡◌, ℕ, ◌+◌, ◌<◌, ◌≤◌, ◌^◌, ◌==◌, ◌&&◌, ◌||◌, Bool, true, false, cond, if◌then◌else◌, List, [], ◌∷◌, ◌++◌}
-use Rattle.std.proofs.Common.{length, take, Contains, Option, Some, None, Result, Ok, Err, refl, sym, ap, subst, ◌∙◌, arith, nat_le, ◌⊎◌}
-use Rattle.std.proofs.Common.{inl, inr, length-append, length-take}
-use Rattle.std.{proofs.lemmas.Bool.Decides.nat_tests, specs.Option.ForSome}
+use Rattle.std.proofs.Common.{◌≡◌, ℕ, ◌+◌, ◌<◌, ◌≤◌, ◌^◌, ◌==◌, ◌&&◌, ◌||◌, Bool, true, false, cond, if◌then◌else◌, List, [], ◌∷◌, ◌++◌, length, take, Contains, Option, Some, None}
+use Rattle.std.proofs.{Common.{Result, Ok, Err, refl, sym, ap, subst, ◌∙◌, arith, nat_le, ◌⊎◌, inl, inr, length-append, length-take}, lemmas.Bool.Decides.nat_tests}
+use Rattle.std.specs.Option.{ForSome}
 use Rattle.byteorder.specs.Endian.{little_bytes}
-use Rattle.vs_contents.specs.{CallTree.Done, CallTree.Ask, CallTree.bind, CallTree.for_each, Contents.Exposes}
+use Rattle.vs_contents.specs.{CallTree.{Done, Ask, bind, for_each}, Contents.Exposes}
 use Rattle.vs_conn.specs.End.{asked}
-use Rattle.vs_flow.specs.Table.{IsTable, Table, emptied, entry_under, refusal, slots, with_value}
-use Rattle.vs_flow.{specs.declared.flow.Flow.Flow, proofs.Tables.accepted}
+use Rattle.vs_flow.{specs.{Table.{IsTable, Table, emptied, entry_under, refusal, slots, with_value}, declared.flow.Flow.Flow}, proofs.Tables.accepted}
 use Rattle.vs_limits.specs.declared.TheConstants.{BUF_ALLOC}
-use Rattle.vs_outside.specs.declared.host_net.StreamWrite.{StreamWrite}
-use Rattle.vs_outside.specs.Host.{HostContents, IsWritten, after_failed, after_close, after_label, after_shut_write, after_write, called}
+use Rattle.vs_outside.specs.{declared.host_net.StreamWrite.StreamWrite, Host.{HostContents, IsWritten, after_failed, after_close, after_label, after_shut_write, after_write}}
+use Rattle.vs_outside.specs.Host.{called}
 use Rattle.vs_page.specs.{declared.log.LogEntry.TheVariants.{Mark, PutEvent}, Log.{Device, Log}, Held.event_held}
-use Rattle.vs_ring_port.specs.{Contents.{RingContents, PublishCid, Return, Take, Write}, EndLog.{EndLog, log_reset, log_returned}}
-use Rattle.vs_ring_port.specs.{EndLog.{log_taken, entries_returned, with_event}, Chains.{Held, bytes_in}, declared.device_ring.Chain.Chain}
-use Rattle.vs_ring_port.specs.{declared.device_ring.Next.Next, declared.failure.Failure.Failure, declared.queue.Queue.Queue}
-use Rattle.vs_ring_port.specs.{DeviceCalls.{IsTakenAs, IsWholePacket}, declared.queue.Queue.TheVariants.{Event, Tx}}
-use Rattle.laws_tables.specs.Both.{Asks, MakesReset, PutsEvent, Seat}
-use Rattle.laws_tables.specs.{Ends.Ends, Ends.FlowEnd, Ends.is_new, Matches.Matches, Steps.IsNextFlow, Steps.asking}
-use Rattle.laws_tables.proofs.{Keeps.asks, Keeps.makes_reset, Keeps.puts_event, Keeps.start_matches, Slots.added_slot, Slots.found_by}
-use Rattle.vs_device_parts.specs.Connections.{after_shut, after_written, cut_off, is_timed_out, new_connection, stream_closed, with_client}
-use Rattle.vs_device_parts.specs.{Connections.{with_connection, with_fault}, Streams.{Writing, closing, is_written_out, pump_of, pump_slot}}
-use Rattle.vs_device_parts.specs.{Streams.{shut_write, tick_of, tick_slot, to_write, write_answered, write_pending}}
-use Rattle.vs_device_parts.specs.{Calls.{DeviceTree, Label, Ring, ShutWrite, WriteStream, Situation}, Turns.{after_reset, close_slot}}
-use Rattle.vs_device_parts.specs.{State.new_device, Turns.{open_of, reset_of}, Receiving.{event_on, pay_event_of}, State.DeviceConnection}
-use Rattle.vs_device_parts.specs.{State.{DeviceEntry, DeviceState}}
-use Rattle.laws_device.proofs.Carrying.{ring_only, Fact, IsHeldBy, fact_goes, IsToldBy, StreamedOver, With, closed_held, streams_go}
-use Rattle.laws_device.proofs.{Carrying.plain_with, Chains.{Among, first_written, held_there, is_unwritten, taken_holds}, Changing.cuts}
-use Rattle.laws_device.proofs.{Changing.{shuts, unseen, writes, same}, Ringing.{Tells, moves, host_moves}, Keeping.Lets}
-use Rattle.laws_device.proofs.{Seats.{Carried, LeftBy, at_log, seat}, Writing.{write_keeps, Writes}, Filling.under_there, Steps.it_failed}
-use Rattle.laws_device.proofs.{Steps.{none_came, cut_with, seat_changed}, Tabling.{IsFitConnection, entry_fits, opening_fits}}
-use Rattle.laws_device.specs.Honest.{IsFitFlow, IsFitState, IsFresh, IsLeft, IsWith, end_in, ends_of_state, port_after}
-use Rattle.laws_device.proofs.Walk.Keeping.{keeps_if, keeps_some}
+use Rattle.vs_ring_port.specs.{Contents.{RingContents, PublishCid, Return, Take, Write}, EndLog.{EndLog, log_reset, log_returned, log_taken, entries_returned, with_event}}
+use Rattle.vs_ring_port.specs.{Chains.{Held, bytes_in}, declared.{device_ring.{Chain.Chain, Next.Next}, failure.Failure.Failure, queue.Queue.{Queue, TheVariants.{Event, Tx}}}}
+use Rattle.vs_ring_port.specs.DeviceCalls.{IsTakenAs, IsWholePacket}
+use Rattle.laws_tables.{specs.{Both.{Asks, MakesReset, PutsEvent, Seat}, Ends.{Ends, FlowEnd, is_new}, Matches.Matches, Steps.{IsNextFlow, asking}}, proofs.Keeps.asks}
+use Rattle.laws_tables.proofs.{Keeps.{makes_reset, puts_event, start_matches}, Slots.{added_slot, found_by}}
+use Rattle.vs_device_parts.specs.Connections.{after_shut, after_written, cut_off, is_timed_out, new_connection, stream_closed, with_client, with_connection, with_fault}
+use Rattle.vs_device_parts.specs.Streams.{Writing, closing, is_written_out, pump_of, pump_slot, shut_write, tick_of, tick_slot, to_write, write_answered, write_pending}
+use Rattle.vs_device_parts.specs.{Calls.{DeviceTree, Label, Ring, ShutWrite, WriteStream, Situation}, Turns.{after_reset, close_slot, open_of, reset_of}, State.new_device}
+use Rattle.vs_device_parts.specs.{State.{DeviceConnection, DeviceEntry, DeviceState}, Receiving.{event_on, pay_event_of}}
+use Rattle.laws_device.proofs.{Carrying.{ring_only, Fact, IsHeldBy, fact_goes, IsToldBy, StreamedOver, With, closed_held, streams_go, plain_with}, Chains.{Among, first_written}}
+use Rattle.laws_device.proofs.{Chains.{held_there, is_unwritten, taken_holds}, Changing.{cuts, shuts, unseen, writes, same}, Ringing.{Tells, moves, host_moves}, Keeping.Lets}
+use Rattle.laws_device.proofs.{Keeping.{Keeps, asking as asked_of, keeps_each, keeps_then}, Seats.{Carried, LeftBy, at_log, seat}, Writing.{write_keeps, Writes}}
+use Rattle.laws_device.proofs.{Filling.under_there, Steps.{it_failed, none_came, cut_with, seat_changed, closing_keeps, called_with}, Tabling.{IsFitConnection, entry_fits}}
+use Rattle.laws_device.proofs.{Tabling.opening_fits, Walk.Keeping.{keeps_if, keeps_some}, Carried.Changing.{called_host, ends_streams, event_streams, failed_host, mark_streams}}
+use Rattle.laws_device.proofs.Carried.{Changing.{shut_write_host, shuts_streams, writes_streams}, Closing.{IsClosing, closing_done as all_closed, closing_from, closing_now}}
+use Rattle.laws_device.{proofs.{Carried.Closing.{closing_passes, closing_was}, Named.Tables.{some_after, some_from}}, specs.Honest.{IsFitFlow, IsFitState, IsFresh, IsLeft, IsWith}}
+use Rattle.laws_device.specs.{Honest.{end_in, ends_of_state, port_after}, Carried.Streamed.IsStreamed}
 use Rattle.vs_header.specs.declared.Kind.TheVariants.{Stream}
-use Rattle.laws_device.proofs.Carried.Changing.{called_host, ends_streams, event_streams, failed_host, mark_streams, shut_write_host}
-use Rattle.laws_device.{proofs.Carried.Changing.shuts_streams, proofs.Carried.Changing.writes_streams, specs.Carried.Streamed.IsStreamed}
-use Rattle.laws_device.proofs.Named.Tables.{some_after, some_from}
 use Rattle.vs_proxy_parts.specs.State.{Handshake}
-use Rattle.laws_device.proofs.{Keeping.Keeps, Keeping.asking as asked_of, Keeping.keeps_each, Keeping.keeps_then, Steps.closing_keeps, Steps.called_with}
-use Rattle.laws_device.proofs.Carried.Closing.{IsClosing, closing_done as all_closed, closing_from, closing_now, closing_passes, closing_was}
 use Rattle.vs_outside.specs.declared.host_net.StreamWrite.TheVariants as write
 use Rattle.vs_ring_port.specs.declared.device_ring.Next.TheVariants as next
 

@@ -1,20 +1,16 @@
 -- A packet, or an event, is written into a chain and returned with it.
-use Rattle.std.proofs.Common.{◌≡◌, ℕ, ◌+◌, ◌≤◌, Bool, true, List, [], ◌∷◌, ◌++◌, length, take, Option, Some, None, refl, sym, ap, subst}
-use Rattle.std.proofs.{Common.◌∙◌, Common.arith, Common.IsSomeAnd, lemmas.List.append-nil, lemmas.List.length-take}
+use Rattle.std.proofs.Common.{◌≡◌, ℕ, ◌+◌, ◌≤◌, Bool, true, List, [], ◌∷◌, ◌++◌, length, take, Option, Some, None, refl, sym, ap, subst, ◌∙◌, arith, IsSomeAnd}
+use Rattle.std.proofs.lemmas.List.{append-nil, length-take}
 use Rattle.vs_contents.specs.CallTree.{Ask, bind}
-use Rattle.vs_header.specs.{Packet.header_bytes, declared.Header.Header, declared.TheConstants.HEADER_LEN}
+use Rattle.vs_header.specs.{Packet.header_bytes, declared.{Header.Header, TheConstants.HEADER_LEN}}
 use Rattle.laws_history.specs.{Packets.packet_bytes, declared.packet.Packet.Packet}
-use Rattle.vs_page.specs.Log.{Device, Log}
-use Rattle.vs_page.specs.{Fair.IsFairLog, Held.packet_held, Overwriting.overwritten, declared.log.LogEntry.TheVariants.PutPacket}
-use Rattle.vs_ring_port.specs.{EndLog.{EndLog, entries_returned, log_returned, log_written, with_packet}, Chains.{Held, bytes_in}}
-use Rattle.vs_ring_port.specs.{Chains.without_held, Contents.{Return, Write}, DeviceCalls.IsWholePacket, DriverCalls.HoldsPacket}
-use Rattle.vs_ring_port.specs.{declared.device_ring.Chain.Chain, declared.queue.Queue.Queue, declared.queue.Queue.TheVariants.{Rx, Tx}}
+use Rattle.vs_page.specs.{Log.{Device, Log}, Fair.IsFairLog, Held.packet_held, Overwriting.overwritten, declared.log.LogEntry.TheVariants.PutPacket}
+use Rattle.vs_ring_port.specs.{EndLog.{EndLog, entries_returned, log_returned, log_written, with_packet}, Chains.{Held, bytes_in, without_held}, Contents.{Return, Write}}
+use Rattle.vs_ring_port.specs.{DeviceCalls.IsWholePacket, DriverCalls.HoldsPacket, declared.{device_ring.Chain.Chain, queue.Queue.{Queue, TheVariants.{Rx, Tx}}}}
 use Rattle.laws_tables.specs.Matches.{Matches}
-use Rattle.vs_device_parts.specs.{Calls.DeviceTree, Calls.Ring, Calls.Situation, Receiving.written, State.DeviceState}
-use Rattle.laws_device.specs.Honest.{IsFitState, ends_of_state}
-use Rattle.laws_device.proofs.Ringing.{Tells, moves, overwritten_long, Telling}
-use Rattle.laws_device.proofs.Chains.{Among, Holds, both_written, first_written, held_there, holds_written, is_unwritten}
-use Rattle.laws_device.proofs.{Keeping.Keeps, Putting.Puts, Seats.AgreesBy, Seats.Carried, Seats.seat, Carrying.Fact, Carrying.IsToldBy}
+use Rattle.vs_device_parts.specs.{Calls.{DeviceTree, Ring, Situation}, Receiving.written, State.DeviceState}
+use Rattle.laws_device.{specs.Honest.{IsFitState, ends_of_state}, proofs.{Ringing.{Tells, moves, overwritten_long, Telling}, Chains.{Among, Holds, both_written, first_written}}}
+use Rattle.laws_device.proofs.{Chains.{held_there, holds_written, is_unwritten}, Keeping.Keeps, Putting.Puts, Seats.{AgreesBy, Carried, seat}, Carrying.{Fact, IsToldBy}}
 use Rattle.vs_outside.specs.Host.{HostContents}
 
 -- It begins with this header.

@@ -1,16 +1,12 @@
 -- The host's streams, where an honest ring tells the log.
-use Rattle.std.specs.{List.list_any, Option.ForSome, Option.option_map_or}
-use Rattle.std.specs.Prelude.{◌≡◌, ℕ, ◌==◌, ◌&&◌, ◌||◌, Bool, true, false, List, [], ◌∷◌}
+use Rattle.std.specs.{List.list_any, Option.{ForSome, option_map_or}, Prelude.{◌≡◌, ℕ, ◌==◌, ◌&&◌, ◌||◌, Bool, true, false, List, [], ◌∷◌}}
 use Rattle.vs_flow.specs.{Flow.same_flow, Table.Table, declared.flow.Flow.Flow}
-use Rattle.vs_outside.specs.{Host.HostContents, Host.Stream, declared.host_net.StreamState.StreamState}
-use Rattle.vs_outside.specs.declared.host_net.StreamState.TheVariants.{Open}
-use Rattle.vs_page.specs.{Fair.number_of, Log.Device, Log.Log, Log.flow_got, Open.cid_of, Open.is_dropped, Open.is_left_open, Open.is_open}
-use Rattle.vs_page.specs.declared.log.LogEntry.TheVariants.{GotPacket}
+use Rattle.vs_outside.specs.{Host.{HostContents, Stream}, declared.host_net.StreamState.{StreamState, TheVariants.Open}}
+use Rattle.vs_page.specs.{Fair.number_of, Log.{Device, Log, flow_got}, Open.{cid_of, is_dropped, is_left_open, is_open}, declared.log.LogEntry.TheVariants.GotPacket}
 use Rattle.vs_proxy_parts.specs.State.{Handshake}
-use Rattle.vs_device_parts.specs.{Calls.Situation, State.DeviceConnection, State.DeviceState, Turns.table_shown}
+use Rattle.vs_device_parts.specs.{Calls.Situation, State.{DeviceConnection, DeviceState}, Turns.table_shown}
 use Rattle.laws_tables.specs.Ends.{is_among, replied}
-use Rattle.laws_device.specs.Honest.{flows_shown}
-use Rattle.laws_device.specs.Carried.Streamed.{IsStreamed}
+use Rattle.laws_device.specs.{Honest.flows_shown, Carried.Streamed.IsStreamed}
 
 -- No packet with payload of an open connection was dropped.
 abbrev pub AreHeard : ℕ → Log → Type 0

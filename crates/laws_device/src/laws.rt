@@ -1,31 +1,24 @@
 //! Laws of the device over a ring that tells its log.
 
-ghost use Rattle.std.specs.Prelude.{◌≡◌, ◌<◌, ◌≤◌, ◌^◌, ℕ, Bool, true, false, List, [], Some, Result, Contains, length, take, drop};
-ghost use Rattle.std.specs.{List.All, Option.ForSome};
+ghost use Rattle.std.specs.{Prelude.{◌≡◌, ◌<◌, ◌≤◌, ◌^◌, ℕ, Bool, true, false, List, [], Some, Result, Contains, length, take, drop}, List.All, Option.ForSome};
 ghost use Rattle.vs_contents.specs.Contents.{Relates};
 ghost use Rattle.vs_flow.specs.declared.{flow.Flow.Flow, table.TableFault.TableFault};
-ghost use Rattle.vs_header.specs.{Packet.header_of, declared.Header.Header, declared.TheConstants.HEADER_LEN};
+ghost use Rattle.vs_header.specs.{Packet.header_of, declared.{Header.Header, TheConstants.HEADER_LEN}};
 ghost use Rattle.laws_history.specs.{Packets.is_rw, declared.packet.Packet.Packet};
 ghost use Rattle.vs_limits.specs.declared.TheConstants.{BUF_ALLOC_MAX};
-ghost use Rattle.laws_tables.specs.{Ends.is_new, Later.IsLater, Later.StaysShut, Steps.IsNextFlow};
-ghost use Rattle.vs_page.specs.{Held.packet_held, Log.Device, Log.packets_put, declared.log.LogEntry.TheVariants.PutEvent};
-ghost use Rattle.vs_page.specs.declared.log.LogEntry.TheVariants.{PutPacket};
-ghost use Rattle.vs_ring_port.specs.{Chains.Held, Contents.IsSound, Contents.Read, Contents.RingContents, Contents.Take, EndLog.EndLog};
-ghost use Rattle.vs_ring_port.specs.declared.{device_ring.Chain.Chain, failure.Failure.Failure, queue.Queue.TheVariants.Event};
-ghost use Rattle.vs_ring_port.specs.declared.queue.Queue.TheVariants.{Rx, Tx};
-ghost use Rattle.vs_ring_port.specs.declared.device_ring.Next.TheVariants as next;
-ghost use Rattle.vs_device_parts.specs.{Calls.Allows, Calls.DeviceTree, Calls.Ring, Calls.Situation, Playing.MayRun, Playing.Runs, Receiving.event_on};
-ghost use Rattle.vs_device_parts.specs.{Receiving.fill_rx_of, Receiving.pay_event_of, Receiving.written, State.DeviceEntry};
-ghost use Rattle.vs_device_parts.specs.{State.DeviceState, Streams.Writing, Streams.pump_of, Streams.tick_of, Transmitting.take_tx_of};
-ghost use Rattle.vs_device_parts.specs.{State.new_device, Turns.open_of, Turns.reset_of, Turns.table_shown, declared.answers.Filled.Filled};
-ghost use Rattle.vs_device_parts.specs.declared.answers.Taken.{Taken};
-ghost use Rattle.laws_device.specs.Named.Streams.{FindsStreams};
-ghost use Rattle.laws_device.specs.Honest.{Advertises, AgreesWith, IsClients, IsFitFlow, IsFresh, IsLeftOpen, IsWith, ends_of_state};
-ghost use Rattle.laws_device.specs.{Honest.port_after, Packets.HasAdded, Packets.HasTaken, Packets.HoldsLast, Packets.IsWholeAs};
-ghost use Rattle.laws_device.specs.{Packets.packet_with, Streams.AreStreamedWith, Streams.IsTabledWith};
-ghost use Rattle.laws_device.specs.{Streams.is_waiting_for_request, Worked.asked_log, Worked.client_flow, Worked.client_host};
-ghost use Rattle.vs_outside.specs.declared.host_net.StreamState.TheVariants as stream;
+ghost use Rattle.laws_tables.specs.{Ends.is_new, Later.{IsLater, StaysShut}, Steps.IsNextFlow};
+ghost use Rattle.vs_page.specs.{Held.packet_held, Log.{Device, packets_put}, declared.log.LogEntry.TheVariants.{PutEvent, PutPacket}};
+ghost use Rattle.vs_ring_port.specs.{Chains.Held, Contents.{IsSound, Read, RingContents, Take}, EndLog.EndLog, declared.{device_ring.Chain.Chain, failure.Failure.Failure}};
+ghost use Rattle.vs_ring_port.specs.declared.queue.Queue.TheVariants.{Event, Rx, Tx};
+ghost use Rattle.vs_device_parts.specs.{Calls.{Allows, DeviceTree, Ring, Situation}, Playing.{MayRun, Runs}, Receiving.{event_on, fill_rx_of, pay_event_of, written}};
+ghost use Rattle.vs_device_parts.specs.{State.{DeviceEntry, DeviceState, new_device}, Streams.{Writing, pump_of, tick_of}, Transmitting.take_tx_of, Turns.{open_of, reset_of}};
+ghost use Rattle.vs_device_parts.specs.{Turns.table_shown, declared.answers.{Filled.Filled, Taken.Taken}};
+ghost use Rattle.laws_device.specs.{Named.Streams.FindsStreams, Honest.{Advertises, AgreesWith, IsClients, IsFitFlow, IsFresh, IsLeftOpen, IsWith, ends_of_state, port_after}};
+ghost use Rattle.laws_device.specs.{Packets.{HasAdded, HasTaken, HoldsLast, IsWholeAs, packet_with}, Streams.{AreStreamedWith, IsTabledWith, is_waiting_for_request}};
+ghost use Rattle.laws_device.specs.Worked.{asked_log, client_flow, client_host};
 ghost use Rattle.vs_proxy_parts.specs.State.{Handshake};
+ghost use Rattle.vs_ring_port.specs.declared.device_ring.Next.TheVariants as next;
+ghost use Rattle.vs_outside.specs.declared.host_net.StreamState.TheVariants as stream;
 
 /// Over a ring that tells its log the device holds the one chain that it keeps for the next packet, and after each call it does again.
 /// Over an honest ring each packet that it puts keeps the log fair, so it never exceeds the credit that was advertised, and a call that

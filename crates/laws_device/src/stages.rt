@@ -2,13 +2,11 @@
 
 ghost use Rattle.std.specs.Prelude.{◌≡◌, ◌≢◌, [], Bool, None, Ok, Result, false, true};
 ghost use Rattle.vs_contents.specs.Contents.{Relates};
-ghost use Rattle.vs_ring_port.specs.{Known.StopsAt, declared.failure.Failure.Failure};
-ghost use Rattle.vs_ring_port.specs.declared.queue.Queue.TheVariants.{Event, Rx, Tx};
-ghost use Rattle.vs_device_parts.specs.{Calls.Situation, Playing.Runs, State.DeviceState, Transmitting.take_tx_of};
-ghost use Rattle.vs_device_parts.specs.Receiving.{Filling, fill_rx_of, filled_of, pay_event_of};
+ghost use Rattle.vs_ring_port.specs.{Known.StopsAt, declared.{failure.Failure.Failure, queue.Queue.TheVariants.{Event, Rx, Tx}}};
+ghost use Rattle.vs_device_parts.specs.{Calls.Situation, Playing.Runs, State.DeviceState, Transmitting.take_tx_of, Receiving.{Filling, fill_rx_of, filled_of, pay_event_of}};
 ghost use Rattle.vs_device_parts.specs.declared.answers.{Filled.Filled, Taken.Taken};
-ghost use Rattle.vs_device_parts.specs.declared.answers.Taken.TheVariants as taken;
 ghost use Rattle.laws_device.specs.Named.Waiting.{filling_of};
+ghost use Rattle.vs_device_parts.specs.declared.answers.Taken.TheVariants as taken;
 
 /// Over a ring that tells what the device knows. A stage that ends for want of a page loaded the queue's index in that call, and the last
 /// load showed no page that isn't taken: so all pages that the device was told of are taken. `take_tx` says itself that no chain was

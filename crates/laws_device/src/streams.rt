@@ -4,12 +4,9 @@ ghost use Rattle.std.specs.Prelude.{ℕ, Bool, List, Result};
 ghost use Rattle.vs_flow.specs.declared.{flow.Flow.Flow, table.TableFault.TableFault};
 ghost use Rattle.vs_outside.specs.Host.{HostContents};
 ghost use Rattle.vs_ring_port.specs.declared.failure.Failure.{Failure};
-ghost use Rattle.vs_device_parts.specs.{Calls.DeviceTree, Calls.Situation, Playing.MayRun, Playing.Runs, Receiving.fill_rx_of};
-ghost use Rattle.vs_device_parts.specs.{Receiving.pay_event_of, State.DeviceState, Streams.Writing, Streams.pump_of, Streams.tick_of};
-ghost use Rattle.vs_device_parts.specs.{Transmitting.take_tx_of, State.new_device, Turns.open_of, Turns.reset_of};
-ghost use Rattle.vs_device_parts.specs.declared.answers.{Filled.Filled, Taken.Taken};
-ghost use Rattle.laws_device.specs.Named.{Split.MayPut, Split.MayReach, Streams.AreOpen, Streams.FindsFree, Streams.FindsStreams};
-ghost use Rattle.laws_device.specs.Named.Streams.{HasStreams};
+ghost use Rattle.vs_device_parts.specs.{Calls.{DeviceTree, Situation}, Playing.{MayRun, Runs}, Receiving.{fill_rx_of, pay_event_of}, State.{DeviceState, new_device}};
+ghost use Rattle.vs_device_parts.specs.{Streams.{Writing, pump_of, tick_of}, Transmitting.take_tx_of, Turns.{open_of, reset_of}, declared.answers.{Filled.Filled, Taken.Taken}};
+ghost use Rattle.laws_device.specs.Named.{Split.{MayPut, MayReach}, Streams.{AreOpen, FindsFree, FindsStreams, HasStreams}};
 
 /// Where the device has its streams, each of its calls may be made that puts no packet: all streams that it names are open. An opening needs a
 /// stream that is free. Of a call that puts packets the ring has to say what may be put.

@@ -1,30 +1,24 @@
 -- What each call of the driver keeps over an honest ring.
-use Rattle.std.proofs.Common.{◌≡◌, ℕ, ◌+◌, ◌<◌, ◌≤◌, ◌^◌, ◌==◌, Bool, true, false, cond, min, List, [], ◌∷◌, length, take, Option, Some}
-use Rattle.std.proofs.Common.{None, Result, Ok, Err, refl, sym, ap, subst, ◌∙◌, arith, length-take}
-use Rattle.std.specs.Prelude.{IsOkAnd}
+use Rattle.std.proofs.Common.{◌≡◌, ℕ, ◌+◌, ◌<◌, ◌≤◌, ◌^◌, ◌==◌, Bool, true, false, cond, min, List, [], ◌∷◌, length, take, Option, Some, None, Result, Ok, Err, refl, sym, ap}
+use Rattle.std.{proofs.Common.{subst, ◌∙◌, arith, length-take}, specs.Prelude.IsOkAnd}
 use Rattle.vs_contents.specs.CallTree.{Done, Ask, bind}
-use Rattle.vs_conn.specs.{End.CanSend, End.may_send_of, End.wanting_credit, End.with_payload_sent, declared.end.Stop.Stop}
+use Rattle.vs_conn.specs.{End.{CanSend, may_send_of, wanting_credit, with_payload_sent}, declared.end.Stop.Stop}
 use Rattle.vs_flow.specs.Table.{IsTable}
 use Rattle.vs_header.specs.declared.Kind.TheVariants.{Stream}
-use Rattle.vs_page.specs.Log.{Driver, Log}
-use Rattle.vs_page.specs.{Fair.IsFairLog, declared.log.LogEntry.TheVariants.PutPacket, declared.page.TheConstants.PAYLOAD_MAX}
-use Rattle.vs_ring_port.specs.declared.queue.Queue.TheVariants.{Rx, Tx, Event}
-use Rattle.vs_ring_port.specs.{declared.queue.Queue.Queue, Contents.RingContents, EndLog.EndLog}
-use Rattle.vs_ring_port.specs.{EndLog.entries_marked, EndLog.log_loaded, EndLog.log_published, EndLog.log_staged, DriverCalls.Publish}
-use Rattle.laws_tables.{specs.Matches.Matches, specs.Steps.payload_on, specs.Steps.request_on, proofs.Keeps.start_matches}
-use Rattle.vs_driver_parts.specs.Conversations.{DriverTree, connect_of, connect_with_page, has_page, load_cid, new_of, new_state, no_credit}
-use Rattle.vs_driver_parts.specs.Conversations.{not_sent, one_more_in_flight, payload_bytes, payload_of, poll_of, post_all, post_events}
-use Rattle.vs_driver_parts.specs.Conversations.{post_one, post_packet, posts, publish_of, reap_all, request_bytes, send_of, send_stopped}
-use Rattle.vs_driver_parts.specs.{Conversations.{send_with_page, stage_of}, Connections.{connect_refusal, connected, next_flow}}
-use Rattle.vs_driver_parts.specs.{declared.answers.ConnectError.ConnectError, declared.answers.Polled.Polled, declared.answers.Sent.Sent}
-use Rattle.vs_driver_parts.specs.{Playing.{MayPublishAll, Plays}, State.{DriverEntry, DriverState, entry_known_as}, Steps.{connects, sends}}
+use Rattle.vs_page.specs.{Log.{Driver, Log}, Fair.IsFairLog, declared.{log.LogEntry.TheVariants.PutPacket, page.TheConstants.PAYLOAD_MAX}}
+use Rattle.vs_ring_port.specs.{declared.queue.Queue.{TheVariants.{Rx, Tx, Event}, Queue}, Contents.RingContents, EndLog.{EndLog, entries_marked, log_loaded, log_published}}
+use Rattle.vs_ring_port.specs.{EndLog.log_staged, DriverCalls.Publish}
+use Rattle.laws_tables.{specs.{Matches.Matches, Steps.{payload_on, request_on}}, proofs.Keeps.start_matches}
+use Rattle.vs_driver_parts.specs.Conversations.{DriverTree, connect_of, connect_with_page, has_page, load_cid, new_of, new_state, no_credit, not_sent, one_more_in_flight}
+use Rattle.vs_driver_parts.specs.Conversations.{payload_bytes, payload_of, poll_of, post_all, post_events, post_one, post_packet, posts, publish_of, reap_all, request_bytes}
+use Rattle.vs_driver_parts.specs.{Conversations.{send_of, send_stopped, send_with_page, stage_of}, Connections.{connect_refusal, connected, next_flow}}
+use Rattle.vs_driver_parts.specs.{declared.answers.{ConnectError.ConnectError, Polled.Polled, Sent.Sent}, Playing.{MayPublishAll, Plays}, State.{DriverEntry, DriverState}}
+use Rattle.vs_driver_parts.specs.{State.entry_known_as, Steps.{connects, sends}}
 use Rattle.vs_limits.specs.declared.TheConstants.{LAST_PORT, STAGED_MAX}
-use Rattle.laws_driver.specs.Honest.{AgreesWith, IsFitState, IsFresh, IsHonestWith, ends_of_state}
-use Rattle.laws_driver.proofs.{Polling.{not_tx_event, not_tx_rx, poll_keeps}, Changing.{Changes, stands_known, wanting_changes}}
-use Rattle.laws_driver.proofs.{Keeping.{Keeps, keeps_bind, keeps_end, keeps_may, keeps_weaker, keeps_while}, Ringing.{IsAtRest, Tells}}
-use Rattle.laws_driver.proofs.{Ringing.{agrees, at_rest, can_publish_other, moves, tells_weaker, can_stage_other}, Carrying.{Fact, Holds}}
-use Rattle.laws_driver.proofs.{Carrying.{RestsWith, carries_nothing, nothing}, Staging.{Rests, SameBut, post_tx, reap_keeps}}
-use Rattle.laws_driver.{specs.Staged.IsLeft, proofs.Putting.connect_puts, proofs.Putting.send_puts, proofs.Tabling.Stands}
+use Rattle.laws_driver.{specs.{Honest.{AgreesWith, IsFitState, IsFresh, IsHonestWith, ends_of_state}, Staged.IsLeft}, proofs.Polling.{not_tx_event, not_tx_rx, poll_keeps}}
+use Rattle.laws_driver.proofs.{Changing.{Changes, stands_known, wanting_changes}, Keeping.{Keeps, keeps_bind, keeps_end, keeps_may, keeps_weaker, keeps_while}, Ringing.IsAtRest}
+use Rattle.laws_driver.proofs.{Ringing.{Tells, agrees, at_rest, can_publish_other, moves, tells_weaker, can_stage_other}, Carrying.{Fact, Holds, RestsWith, carries_nothing}}
+use Rattle.laws_driver.proofs.{Carrying.nothing, Staging.{Rests, SameBut, post_tx, reap_keeps}, Putting.{connect_puts, send_puts}, Tabling.Stands}
 use Rattle.vs_driver_parts.specs.declared.answers.ConnectError.TheVariants as refused
 use Rattle.vs_driver_parts.specs.declared.answers.Sent.TheVariants as sent
 use Rattle.vs_driver_parts.specs.Connections as connections

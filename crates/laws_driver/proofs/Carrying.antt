@@ -3,16 +3,12 @@
 use Rattle.std.proofs.Common.{◌≡◌, ℕ, ◌<◌, ◌^◌, List, ◌∷◌, Option, Some, None, refl, sym, subst}
 use Rattle.vs_conn.specs.{End.owes_of, declared.end.Owed.Owed}
 use Rattle.laws_history.specs.declared.packet.Packet.{Packet}
-use Rattle.vs_page.specs.declared.log.LogEntry.TheVariants.{GotEvent, GotPacket, Mark, PutPacket}
-use Rattle.vs_page.specs.{Fair.IsFairLog, Held.IsWhole, Log.Driver, Log.Log}
+use Rattle.vs_page.specs.{declared.log.LogEntry.TheVariants.{GotEvent, GotPacket, Mark, PutPacket}, Fair.IsFairLog, Held.IsWhole, Log.{Driver, Log}}
 use Rattle.vs_replies.specs.declared.Reply.{Reply}
-use Rattle.vs_ring_port.specs.EndLog.{EndLog, all_put, log_published, log_reaped, log_staged}
-use Rattle.vs_ring_port.specs.declared.queue.Queue.{Queue, TheVariants.Tx}
-use Rattle.laws_tables.specs.{Ends.Ends, Matches.Matches, Steps.owed_on, Steps.reply_on}
-use Rattle.vs_driver_parts.specs.Receiving.{after_reset, on_packet}
-use Rattle.vs_driver_parts.specs.{Conversations.after_paying, Playing.FitsPorts, State.DriverEntry, State.DriverState}
-use Rattle.laws_driver.proofs.Ringing.{IsAtRest, Puts, publishes, put_last, stages, tied}
-use Rattle.laws_driver.{specs.Honest.IsFitState, specs.Honest.ends_of_state, specs.Staged.IsTied, proofs.Tabling.Stands}
+use Rattle.vs_ring_port.specs.{EndLog.{EndLog, all_put, log_published, log_reaped, log_staged}, declared.queue.Queue.{Queue, TheVariants.Tx}}
+use Rattle.laws_tables.specs.{Ends.Ends, Matches.Matches, Steps.{owed_on, reply_on}}
+use Rattle.vs_driver_parts.specs.{Receiving.{after_reset, on_packet}, Conversations.after_paying, Playing.FitsPorts, State.{DriverEntry, DriverState}}
+use Rattle.laws_driver.{proofs.{Ringing.{IsAtRest, Puts, publishes, put_last, stages, tied}, Tabling.Stands}, specs.{Honest.{IsFitState, ends_of_state}, Staged.IsTied}}
 
 abbrev pub Fact : Type 1
 Fact = Ends → DriverState → Log → Type 0

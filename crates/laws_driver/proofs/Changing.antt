@@ -1,24 +1,19 @@
 -- Calls that make no use of the ring: the driver still matches its log.
-use Rattle.std.proofs.Common.{◌≡◌, ℕ, ◌≤◌, ◌==◌, Bool, true, false, cond, min, List, [], ◌∷◌, length, Option, Some, None, refl, sym, subst}
-use Rattle.std.proofs.Common.{◌∙◌, ap, arith}
-use Rattle.vs_conn.proofs.Steps.{abort_follows, ask_follows, forward_follows, grow_follows, shut_follows}
-use Rattle.vs_conn.specs.{End.ConnectionEnd, End.grown, End.wanting_credit, Follows.Follows, declared.end.State.State}
+use Rattle.std.proofs.Common.{◌≡◌, ℕ, ◌≤◌, ◌==◌, Bool, true, false, cond, min, List, [], ◌∷◌, length, Option, Some, None, refl, sym, subst, ◌∙◌, ap, arith}
+use Rattle.vs_conn.{proofs.Steps.{abort_follows, ask_follows, forward_follows, grow_follows, shut_follows}, specs.{End.{ConnectionEnd, grown, wanting_credit}, Follows.Follows}}
+use Rattle.vs_conn.specs.declared.end.State.{State}
 use Rattle.vs_credit.specs.Credit.{unread_of}
 use Rattle.laws_history.specs.History.{Side, gots, puts, History}
 use Rattle.vs_page.specs.Log.{Driver, Log, side_of}
-use Rattle.laws_tables.specs.Both.{Aborts, Decides, Decision, Forwards, Grows, MayDecide, Shuts, WantsCredit, decided}
-use Rattle.laws_tables.specs.{Ends.Ends, Heard.heard_of, Matches.Matches, Steps.with_end}
+use Rattle.laws_tables.specs.{Both.{Aborts, Decides, Decision, Forwards, Grows, MayDecide, Shuts, WantsCredit, decided}, Ends.Ends, Heard.heard_of, Matches.Matches, Steps.with_end}
 use Rattle.laws_tables.proofs.{Keeps.changes, Slots.found_by, Tables.driver_begun}
-use Rattle.vs_driver_parts.specs.State.{DriverConnection, DriverEntry, DriverState, GoneConnection, entry_known_as, gone_known_as}
-use Rattle.vs_driver_parts.specs.Connections.{after_close, after_closing, after_grow, after_read, after_recv, after_shut, after_shutdown}
-use Rattle.vs_driver_parts.specs.{Connections.entry_grow_answer, Connections.grown_by, declared.answers.Grown.Grown}
-use Rattle.vs_driver_parts.specs.Connections.{after_unlisten, all_closed, all_gone_after_read, entry_closed, entry_read, gone_closed}
-use Rattle.vs_driver_parts.specs.Listening.{after_accept, listening, next_accepted, with_waiting, without_id}
-use Rattle.vs_driver_parts.specs.Connections.{shut_in, waiting_on, with_connection, without_gone}
-use Rattle.vs_driver_parts.{specs.State.is_known_as, proofs.Growing.MayGrow, proofs.Growing.may_grow, proofs.Ids.found_under}
-use Rattle.laws_driver.specs.Honest.{IsFitState, ends_of_state}
-use Rattle.laws_driver.proofs.{Going.{Goes, at_log, goes_then, one_step, seat, stays}, Tabling.{Stands, connection_ends, connection_fits}}
-use Rattle.laws_driver.proofs.{Tabling.{entry_fits, has_end}, Fits.{IsHeldBy, closing_fits, grow_fits, holds_same, read_fits, shut_fits}}
+use Rattle.vs_driver_parts.specs.{State.{DriverConnection, DriverEntry, DriverState, GoneConnection, entry_known_as, gone_known_as, is_known_as}, Connections.after_close}
+use Rattle.vs_driver_parts.specs.Connections.{after_closing, after_grow, after_read, after_recv, after_shut, after_shutdown, entry_grow_answer, grown_by, after_unlisten}
+use Rattle.vs_driver_parts.specs.Connections.{all_closed, all_gone_after_read, entry_closed, entry_read, gone_closed, shut_in, waiting_on, with_connection, without_gone}
+use Rattle.vs_driver_parts.{specs.{declared.answers.Grown.Grown, Listening.{after_accept, listening, next_accepted, with_waiting, without_id}}, proofs.Growing.{MayGrow, may_grow}}
+use Rattle.vs_driver_parts.proofs.Ids.{found_under}
+use Rattle.laws_driver.{specs.Honest.{IsFitState, ends_of_state}, proofs.{Going.{Goes, at_log, goes_then, one_step, seat, stays}, Tabling.{Stands, connection_ends}}}
+use Rattle.laws_driver.proofs.{Tabling.{connection_fits, entry_fits, has_end}, Fits.{IsHeldBy, closing_fits, grow_fits, holds_same, read_fits, shut_fits}}
 use Rattle.vs_conn.specs.declared.end.State.TheVariants as state
 use Rattle.vs_driver_parts.specs.Connections as connections
 use Rattle.vs_driver_parts.specs.declared.answers.Grown.TheVariants as rise

@@ -1,15 +1,11 @@
 -- The step that takes the event page of a transport reset: whatever a ring answers besides, the driver's table is empty then.
-use Rattle.std.proofs.Common.{◌≡◌, ℕ, ◌+◌, ◌==◌, not, nat_lt, Bool, true, false, cond, List, [], ◌∷◌, length, Option, Some, refl}
-use Rattle.std.{proofs.Common.ap, proofs.Common.subst, proofs.Common.◌∙◌, specs.List.filter}
-use Rattle.vs_contents.specs.CallTree.{Ask, Done, Leads, bind}
-use Rattle.vs_contents.proofs.Leads.{AllEnds, end_of}
-use Rattle.vs_flow.{specs.Table.IsRising, specs.Table.IsTable, proofs.Entries.rising_tail}
+use Rattle.std.{proofs.Common.{◌≡◌, ℕ, ◌+◌, ◌==◌, not, nat_lt, Bool, true, false, cond, List, [], ◌∷◌, length, Option, Some, refl, ap, subst, ◌∙◌}, specs.List.filter}
+use Rattle.vs_contents.{specs.CallTree.{Ask, Done, Leads, bind}, proofs.Leads.{AllEnds, end_of}}
+use Rattle.vs_flow.{specs.Table.{IsRising, IsTable}, proofs.Entries.rising_tail}
 use Rattle.vs_limits.specs.declared.TheConstants.{DRIVER_REPLIES_FULL}
 use Rattle.vs_ring_port.specs.{DriverCalls.{DriverAnswer, DriverCall, LoadCid, Publish, Reap}, declared.queue.Queue.TheVariants.Event}
-use Rattle.vs_driver_parts.specs.Conversations.{DriverTree, Round, event_reaped, goes_on_with, staged_again, start}
-use Rattle.vs_driver_parts.specs.{Connections.after_leaving, State.DriverEntry, State.DriverState, Steps.takes_page}
-use Rattle.vs_driver_parts.specs.Receiving.{after_reset, all_left, is_reset_event, reset_reply, with_reply}
-use Rattle.vs_driver_parts.proofs.Packets.{others_left}
+use Rattle.vs_driver_parts.specs.{Conversations.{DriverTree, Round, event_reaped, goes_on_with, staged_again, start}, Connections.after_leaving, State.{DriverEntry, DriverState}}
+use Rattle.vs_driver_parts.{specs.{Steps.takes_page, Receiving.{after_reset, all_left, is_reset_event, reset_reply, with_reply}}, proofs.Packets.others_left}
 
 abbrev IsEmpty : DriverState → Type 0
 IsEmpty s = s.table.entries ≡ []

@@ -1,16 +1,15 @@
 -- The buffer of a connection holds what its end counts as unread, whatever the end does.
-use Rattle.std.proofs.Common.{◌≡◌, ℕ, ◌+◌, ◌-◌, ◌<◌, ◌≤◌, ◌^◌, Bool, true, false, cond, min, List, [], ◌++◌, length, drop, Option, Some}
-use Rattle.std.proofs.Common.{None, refl, sym, ap, subst, ◌∙◌, arith, length-append, length-drop, eq-eqb}
+use Rattle.std.proofs.Common.{◌≡◌, ℕ, ◌+◌, ◌-◌, ◌<◌, ◌≤◌, ◌^◌, Bool, true, false, cond, min, List, [], ◌++◌, length, drop, Option, Some, None, refl, sym, ap, subst, ◌∙◌, arith}
+use Rattle.std.proofs.Common.{length-append, length-drop, eq-eqb}
 use Rattle.vs_wrap.specs.Wrap.{difference32, sum32}
-use Rattle.vs_credit.specs.{Credit.room_of, Credit.with_taken, Credit.with_forwarded, Credit.with_heard, declared.Credit.Credit}
+use Rattle.vs_credit.specs.{Credit.{room_of, with_taken, with_forwarded, with_heard}, declared.Credit.Credit}
 use Rattle.vs_limits.specs.declared.TheConstants.{BUF_ALLOC_MAX}
 use Rattle.laws_history.specs.declared.packet.Packet.{Packet}
-use Rattle.vs_header.specs.{declared.Header.Header, declared.Op.Op, Op.op_named}
+use Rattle.vs_header.specs.{declared.{Header.Header, Op.Op}, Op.op_named}
 use Rattle.vs_page.specs.Held.{IsWhole}
-use Rattle.vs_conn.specs.{Shut.joined, Shut.shut_of, declared.end.Owed.Owed, declared.end.State.State, declared.end.Verdict.Verdict}
-use Rattle.vs_conn.specs.End.{ConnectionEnd, after_op, after_message, end_after, grown, verdict_of, all_forwarded, with_payload_sent}
-use Rattle.vs_driver_parts.specs.{Room.HasRoom, State.DriverConnection, Receiving.after_packet}
-use Rattle.vs_driver_parts.specs.Connections.{after_read, after_shut, after_closing, paid_connection}
+use Rattle.vs_conn.specs.{Shut.{joined, shut_of}, declared.end.{Owed.Owed, State.State, Verdict.Verdict}, End.{ConnectionEnd, after_op, after_message, end_after, grown}}
+use Rattle.vs_conn.specs.End.{verdict_of, all_forwarded, with_payload_sent}
+use Rattle.vs_driver_parts.specs.{Room.HasRoom, State.DriverConnection, Receiving.after_packet, Connections.{after_read, after_shut, after_closing, paid_connection}}
 use Rattle.vs_driver_parts.proofs.Delivers.{delivers, named_rw}
 use Rattle.vs_header.specs.declared.Op.TheVariants as op
 use Rattle.vs_conn.specs.declared.end.Owed.TheVariants as owed

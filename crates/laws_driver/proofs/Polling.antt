@@ -1,33 +1,26 @@
 -- What a poll keeps, part by part.
-use Rattle.std.proofs.Common.{◌≡◌, ℕ, ◌+◌, ◌<◌, ◌^◌, ◌==◌, nat_le, nat_lt, Bool, true, false, cond, List, [], ◌∷◌, length, Option, Some}
-use Rattle.std.proofs.{Common.{None, refl, sym, ap, subst, ◌∙◌, arith}, lemmas.Bool.Decides.nat_tests}
+use Rattle.std.proofs.Common.{◌≡◌, ℕ, ◌+◌, ◌<◌, ◌^◌, ◌==◌, nat_le, nat_lt, Bool, true, false, cond, List, [], ◌∷◌, length, Option, Some, None, refl, sym, ap, subst, ◌∙◌, arith}
+use Rattle.std.proofs.lemmas.Bool.Decides.{nat_tests}
 use Rattle.vs_contents.specs.CallTree.{Done, Ask, bind}
 use Rattle.vs_conn.specs.{End.owes_of, declared.end.Owed.Owed}
 use Rattle.vs_flow.specs.Table.{entry_under, slots}
 use Rattle.vs_header.specs.Packet.{header_bytes}
 use Rattle.laws_history.specs.declared.packet.Packet.{Packet}
-use Rattle.vs_page.specs.declared.log.LogEntry.TheVariants.{GotEvent, GotPacket, Mark}
-use Rattle.vs_page.specs.{Fair.IsFairLog, Held.event_held, Held.packet_held, Log.Driver, Log.Log}
+use Rattle.vs_page.specs.{declared.log.LogEntry.TheVariants.{GotEvent, GotPacket, Mark}, Fair.IsFairLog, Held.{event_held, packet_held}, Log.{Driver, Log}}
 use Rattle.vs_page.proofs.Holding.{packet_whole}
 use Rattle.vs_replies.specs.declared.Reply.{Reply}
-use Rattle.vs_ring_port.specs.EndLog.{EndLog, entries_marked, log_loaded, log_reaped, with_event, with_packet}
-use Rattle.vs_ring_port.specs.declared.queue.Queue.TheVariants.{Rx, Tx, Event}
-use Rattle.vs_ring_port.specs.{Contents.RingContents, DriverCalls.Reap, DriverCalls.LoadCid, declared.queue.Queue.Queue}
-use Rattle.laws_tables.{specs.Steps.owed_on, specs.Steps.reply_on, proofs.Keeps.takes_event, proofs.Slots.found_by}
-use Rattle.vs_driver_parts.specs.Conversations.{DriverTree, Round, after_paying, all_taken, event_reaped, event_taken, goes_on_with}
-use Rattle.vs_driver_parts.specs.Conversations.{has_page, one_put, owed_bytes, packet_reaped, pay_all, pay_and_publish, pay_slot, poll_of}
-use Rattle.vs_driver_parts.specs.Conversations.{poll_packets, poll_puts, poll_reaps, polled, publish_and_pay, publish_of, published}
-use Rattle.vs_driver_parts.specs.Conversations.{put_all, put_owed, put_owed_of, put_replies, put_reply, put_reply_of, reap_all}
-use Rattle.vs_driver_parts.specs.Conversations.{reply_header, stage_of, stage_packet, staged_again, start, take_all, take_event}
-use Rattle.vs_driver_parts.specs.{Conversations.{take_packet, with_state}, Receiving.{after_reset, is_reset_event, on_packet, on_page}}
-use Rattle.vs_driver_parts.specs.Playing.{BringsFit, RingAllows}
-use Rattle.vs_driver_parts.{specs.declared.answers.Polled.Polled, specs.State.DriverEntry, specs.State.DriverState, proofs.Ids.has_slot}
+use Rattle.vs_ring_port.specs.{EndLog.{EndLog, entries_marked, log_loaded, log_reaped, with_event, with_packet}, declared.queue.Queue.{TheVariants.{Rx, Tx, Event}, Queue}}
+use Rattle.vs_ring_port.specs.{Contents.RingContents, DriverCalls.{Reap, LoadCid}}
+use Rattle.laws_tables.{specs.Steps.{owed_on, reply_on}, proofs.{Keeps.takes_event, Slots.found_by}}
+use Rattle.vs_driver_parts.specs.Conversations.{DriverTree, Round, after_paying, all_taken, event_reaped, event_taken, goes_on_with, has_page, one_put, owed_bytes, packet_reaped}
+use Rattle.vs_driver_parts.specs.Conversations.{pay_all, pay_and_publish, pay_slot, poll_of, poll_packets, poll_puts, poll_reaps, polled, publish_and_pay, publish_of, published}
+use Rattle.vs_driver_parts.specs.Conversations.{put_all, put_owed, put_owed_of, put_replies, put_reply, put_reply_of, reap_all, reply_header, stage_of, stage_packet, staged_again}
+use Rattle.vs_driver_parts.specs.{Conversations.{start, take_all, take_event, take_packet, with_state}, Receiving.{after_reset, is_reset_event, on_packet, on_page}}
+use Rattle.vs_driver_parts.{specs.{Playing.{BringsFit, RingAllows}, declared.answers.Polled.Polled, State.{DriverEntry, DriverState}}, proofs.Ids.has_slot}
 use Rattle.vs_limits.specs.declared.TheConstants.{DRIVER_REPLIES_FULL, OWED_MAX}
-use Rattle.laws_driver.proofs.Keeping.{Keeps, keeps_bind, keeps_each, keeps_weaker, keeps_while}
-use Rattle.laws_driver.proofs.Staging.{Rests, SameBut, Ties, publish_other, publish_tx, reap_keeps, rests_tied, stage_other, stage_tx}
-use Rattle.laws_driver.proofs.{Putting.owed_puts, Putting.reply_puts, Resetting.resets, Tabling.Stands, Taking.gets_packet, Ringing.Tells}
-use Rattle.laws_driver.proofs.{Ringing.moves, Carrying.Carries, Carrying.Fact, Carrying.Holds, Carrying.RestsWith}
-use Rattle.laws_driver.specs.{Honest.IsFitState, Honest.ends_of_state, Staged.IsLeft}
+use Rattle.laws_driver.proofs.{Keeping.{Keeps, keeps_bind, keeps_each, keeps_weaker, keeps_while}, Staging.{Rests, SameBut, Ties, publish_other, publish_tx, reap_keeps}}
+use Rattle.laws_driver.proofs.{Staging.{rests_tied, stage_other, stage_tx}, Putting.{owed_puts, reply_puts}, Resetting.resets, Tabling.Stands, Taking.gets_packet, Ringing.Tells}
+use Rattle.laws_driver.{proofs.{Ringing.moves, Carrying.{Carries, Fact, Holds, RestsWith}}, specs.{Honest.{IsFitState, ends_of_state}, Staged.IsLeft}}
 
 pub not_tx_rx : Rx ≡ Tx → ⊥
 not_tx_rx is = absurd cc

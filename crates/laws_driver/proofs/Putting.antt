@@ -1,30 +1,21 @@
 -- The steps at which the driver puts a packet: a connection of its own is asked for, payload is sent, what is owed is paid.
-use Rattle.std.proofs.Common.{◌≡◌, ℕ, ◌+◌, ◌<◌, ◌≤◌, ◌^◌, Bool, false, List, [], ◌∷◌, length, Some, None, refl, inl, sym, ap, subst, ◌∙◌}
-use Rattle.std.{proofs.lemmas.Bool.Decides.nat_tests, proofs.lemmas.Grind.common_steps, proofs.lemmas.List.append-nil}
-use Rattle.std.{proofs.lemmas.List.Elements.All-head, proofs.lemmas.List.Elements.All-tail, proofs.Common.arith, specs.List.All}
-use Rattle.vs_conn.specs.Headers.{owed_flags, owed_header, owed_op, payload_header}
-use Rattle.vs_conn.specs.End.{CanSend, ConnectionEnd, asked, owes_of, paid_of, with_payload_sent}
-use Rattle.vs_conn.{specs.declared.end.Owed.Owed, specs.Follows.FitsMessage, proofs.Frames.paid_kind, proofs.Steps.stream_fits}
-use Rattle.vs_header.specs.{Packet.header_bytes, declared.Header.Header, declared.Kind.TheVariants.Stream}
+use Rattle.std.proofs.{Common.{◌≡◌, ℕ, ◌+◌, ◌<◌, ◌≤◌, ◌^◌, Bool, false, List, [], ◌∷◌, length, Some, None, refl, inl, sym, ap, subst, ◌∙◌, arith}, lemmas.Bool.Decides.nat_tests}
+use Rattle.std.{proofs.lemmas.{Grind.common_steps, List.{append-nil, Elements.{All-head, All-tail}}}, specs.List.All}
+use Rattle.vs_conn.specs.{Headers.{owed_flags, owed_header, owed_op, payload_header}, End.{CanSend, ConnectionEnd, asked, owes_of, paid_of, with_payload_sent}}
+use Rattle.vs_conn.{specs.{declared.end.Owed.Owed, Follows.FitsMessage}, proofs.{Frames.paid_kind, Steps.stream_fits}}
+use Rattle.vs_header.specs.{Packet.header_bytes, declared.{Header.Header, Kind.TheVariants.Stream}}
 use Rattle.laws_history.specs.History.{puts}
 use Rattle.vs_limits.specs.declared.TheConstants.{BUF_ALLOC, LAST_ID, LAST_PORT, DRIVER_CONNECTIONS}
-use Rattle.vs_flow.specs.{Flow.is_assigned, Table.entry_of, declared.flow.Flow.Flow}
-use Rattle.vs_flow.proofs.{Tables.IsAccepted, Entries.find_none}
-use Rattle.vs_page.specs.Log.{Driver, Log, history_of, side_by}
+use Rattle.vs_flow.{specs.{Flow.is_assigned, Table.entry_of, declared.flow.Flow.Flow}, proofs.{Tables.IsAccepted, Entries.find_none}}
+use Rattle.vs_page.specs.{Log.{Driver, Log, history_of, side_by}, Held.FitsWire, declared.{log.LogEntry.TheVariants.PutPacket, page.TheConstants.PAYLOAD_MAX}}
 use Rattle.vs_page.proofs.Packets.{held_alone, held_payload}
-use Rattle.vs_page.specs.{Held.FitsWire, declared.log.LogEntry.TheVariants.PutPacket, declared.page.TheConstants.PAYLOAD_MAX}
 use Rattle.vs_replies.specs.declared.Reply.{Reply}
-use Rattle.laws_tables.specs.Steps.{IsNextFlow, opened, owed_on, paid, payload_on, reply_on, request_on, with_end}
-use Rattle.laws_tables.proofs.Keeps.{opens, opens_fair, pays, pays_fair, replies, replies_fair, sends, sends_fair}
-use Rattle.laws_tables.specs.{Ends.Ends, Ends.FlowEnd, Matches.Matches}
-use Rattle.laws_tables.proofs.{Slots.added_slot, Steps.port_next, OwedFlags.owed_flags_fit}
-use Rattle.vs_driver_parts.specs.Connections.{connect_refusal, connected, next_flow, paid_connection, route_to_host, with_connection}
-use Rattle.vs_driver_parts.specs.Conversations.{after_paying, owed_bytes, payload_bytes, reply_header, request_bytes}
-use Rattle.vs_driver_parts.specs.State.{DriverConnection, DriverEntry, DriverState, slots_held}
-use Rattle.laws_driver.specs.Honest.{IsFitFlow, IsFitReply, IsFitState, end_in, ends_of_state}
-use Rattle.laws_driver.proofs.Fits.{IsHeldBy, paid_fits, sent_fits}
-use Rattle.laws_driver.proofs.Tabling.{Stands, connection_ends, connection_fits, entry_fits, has_end, leaves, opening_fits, replies_fit}
-use Rattle.laws_driver.proofs.{Bytes.header_fits, Bytes.reset_fits, Going.at_log, Ringing.Puts}
+use Rattle.laws_tables.{specs.{Steps.{IsNextFlow, opened, owed_on, paid, payload_on, reply_on, request_on, with_end}, Ends.{Ends, FlowEnd}, Matches.Matches}, proofs.Keeps.opens}
+use Rattle.laws_tables.proofs.{Keeps.{opens_fair, pays, pays_fair, replies, replies_fair, sends, sends_fair}, Slots.added_slot, Steps.port_next, OwedFlags.owed_flags_fit}
+use Rattle.vs_driver_parts.specs.{Connections.{connect_refusal, connected, next_flow, paid_connection, route_to_host, with_connection}, Conversations.{after_paying, owed_bytes}}
+use Rattle.vs_driver_parts.specs.{Conversations.{payload_bytes, reply_header, request_bytes}, State.{DriverConnection, DriverEntry, DriverState, slots_held}}
+use Rattle.laws_driver.{specs.Honest.{IsFitFlow, IsFitReply, IsFitState, end_in, ends_of_state}, proofs.{Fits.{IsHeldBy, paid_fits, sent_fits}, Tabling.{Stands, connection_ends}}}
+use Rattle.laws_driver.proofs.{Tabling.{connection_fits, entry_fits, has_end, leaves, opening_fits, replies_fit}, Bytes.{header_fits, reset_fits}, Going.at_log, Ringing.Puts}
 use Rattle.vs_conn.specs.declared.end.Owed.TheVariants as owed
 use Rattle.vs_header.specs.declared.Op.TheVariants as op
 use Rattle.vs_driver_parts.specs.Connections as connections

@@ -1,17 +1,13 @@
 -- A transport reset: all connections leave, and a reply is owed to each flow.
-use Rattle.std.proofs.Common.{◌≡◌, ℕ, ◌<◌, ◌^◌, ◌==◌, not, List, [], ◌∷◌, ◌++◌, map, Some, refl, sym, ap, subst, ◌∙◌, arith}
-use Rattle.std.proofs.lemmas.List.{append-nil, append_assoc}
-use Rattle.std.specs.{List.filter, List.slice_get, Prelude.Contains}
+use Rattle.std.proofs.{Common.{◌≡◌, ℕ, ◌<◌, ◌^◌, ◌==◌, not, List, [], ◌∷◌, ◌++◌, map, Some, refl, sym, ap, subst, ◌∙◌, arith}, lemmas.List.{append-nil, append_assoc}}
+use Rattle.std.specs.{List.{filter, slice_get}, Prelude.Contains}
 use Rattle.vs_flow.specs.Table.{IsRising}
-use Rattle.vs_page.specs.{Log.Driver, Log.Log, declared.log.LogEntry.TheVariants.Mark}
+use Rattle.vs_page.specs.{Log.{Driver, Log}, declared.log.LogEntry.TheVariants.Mark}
 use Rattle.vs_replies.specs.declared.Reply.{Reply}
-use Rattle.laws_tables.specs.{Ends.Ends, Ends.FlowEnd, Ends.replies_of, Matches.Matches, Steps.reset}
-use Rattle.laws_tables.proofs.Keeps.{takes_reset}
-use Rattle.vs_driver_parts.specs.{State.DriverEntry, State.DriverState, Connections.after_leaving}
-use Rattle.vs_driver_parts.specs.Receiving.{after_reset, all_left, reset_reply, with_reply}
+use Rattle.laws_tables.{specs.{Ends.{Ends, FlowEnd, replies_of}, Matches.Matches, Steps.reset}, proofs.Keeps.takes_reset}
+use Rattle.vs_driver_parts.specs.{State.{DriverEntry, DriverState}, Connections.after_leaving, Receiving.{after_reset, all_left, reset_reply, with_reply}}
 use Rattle.vs_driver_parts.proofs.Packets.{first_under, others_left}
-use Rattle.laws_driver.specs.Honest.{IsFitState, ends_of_state}
-use Rattle.laws_driver.proofs.{Tabling.Stands, Tabling.entry_fits, Tabling.leaves, Tabling.replies_fit, Taking.with_reply_fits}
+use Rattle.laws_driver.{specs.Honest.{IsFitState, ends_of_state}, proofs.{Tabling.{Stands, entry_fits, leaves, replies_fit}, Taking.with_reply_fits}}
 
 -- An entry as it counts among the ends.
 abbrev pub out : DriverEntry → FlowEnd

@@ -1,16 +1,13 @@
 -- What one call on an honest ring that tells its log keeps.
-use Rattle.std.proofs.Common.{◌≡◌, ℕ, true, List, [], ◌∷◌, ◌++◌, Option, Some, None, refl, sym, ap, subst, ◌∙◌}
-use Rattle.std.specs.{Prelude.IsSomeAnd, Option.ForSome}
+use Rattle.std.{proofs.Common.{◌≡◌, ℕ, true, List, [], ◌∷◌, ◌++◌, Option, Some, None, refl, sym, ap, subst, ◌∙◌}, specs.{Prelude.IsSomeAnd, Option.ForSome}}
 use Rattle.vs_contents.specs.Contents.{Exposes}
 use Rattle.laws_history.specs.{declared.packet.Packet.Packet, Packets.packet_bytes}
-use Rattle.vs_page.specs.{Fair.IsFairLog, Held.FitsWire, Held.packet_held, Log.Driver, Log.Log, declared.log.LogEntry.TheVariants.PutPacket}
-use Rattle.vs_ring_port.specs.EndLog.{EndLog, all_put, log_published, log_staged, with_packet}
-use Rattle.vs_ring_port.specs.DriverCalls.{CanPublish, CanStage, DriverAnswer, DriverCall, DriverMoves, HoldsPacket}
-use Rattle.vs_ring_port.specs.{Lists.Rings, declared.queue.Queue.Queue, declared.queue.Queue.TheVariants.Tx, Contents.RingContents}
-use Rattle.laws_tables.specs.{Both.Step, Both.after, Matches.Matches}
+use Rattle.vs_page.specs.{Fair.IsFairLog, Held.{FitsWire, packet_held}, Log.{Driver, Log}, declared.log.LogEntry.TheVariants.PutPacket}
+use Rattle.vs_ring_port.specs.{EndLog.{EndLog, all_put, log_published, log_staged, with_packet}, DriverCalls.{CanPublish, CanStage, DriverAnswer, DriverCall, DriverMoves}}
+use Rattle.vs_ring_port.specs.{DriverCalls.HoldsPacket, Lists.Rings, declared.queue.Queue.{Queue, TheVariants.Tx}, Contents.RingContents}
+use Rattle.laws_tables.specs.{Both.{Step, after}, Matches.Matches}
 use Rattle.vs_driver_parts.specs.State.{DriverState}
-use Rattle.laws_driver.proofs.Going.{MayDo, seat}
-use Rattle.laws_driver.specs.{Honest.AgreesWith, Honest.IsFitState, Honest.ends_of_state, Staged.IsLeft, Staged.IsTied, Resets.MarksResets}
+use Rattle.laws_driver.{proofs.Going.{MayDo, seat}, specs.{Honest.{AgreesWith, IsFitState, ends_of_state}, Staged.{IsLeft, IsTied}, Resets.MarksResets}}
 
 -- P holds of the log of an honest ring, where it tells it.
 abbrev pub Tells : (EndLog → Type 0) → RingContents → Type 0

@@ -2,11 +2,9 @@
 use Rattle.std.proofs.Common.{◌≡◌, ℕ, List, [], ◌∷◌, map, refl, sym, ap, ◌∙◌}
 use Rattle.vs_contents.specs.CallTree.{Done, Ask, Leads}
 use Rattle.vs_flow.specs.declared.flow.Flow.{Flow}
-use Rattle.vs_ring_port.specs.DriverCalls.{DriverCall, DriverAnswer, Stage, Reap, LoadCid, DriverAllows}
-use Rattle.vs_ring_port.specs.{Contents.RingContents, EndLog.EndLog}
-use Rattle.laws_tables.{specs.Ends.FlowEnd, specs.Ends.flows_of, specs.Ends.is_among, proofs.Tables.driver_open}
-use Rattle.vs_driver_parts.specs.Playing.{Plays, RingAllows}
-use Rattle.vs_driver_parts.specs.{State.DriverEntry, State.DriverState, Connections.table_shown, Conversations.DriverTree}
+use Rattle.vs_ring_port.specs.{DriverCalls.{DriverCall, DriverAnswer, Stage, Reap, LoadCid, DriverAllows}, Contents.RingContents, EndLog.EndLog}
+use Rattle.laws_tables.{specs.Ends.{FlowEnd, flows_of, is_among}, proofs.Tables.driver_open}
+use Rattle.vs_driver_parts.specs.{Playing.{Plays, RingAllows}, State.{DriverEntry, DriverState}, Connections.table_shown, Conversations.DriverTree}
 use Rattle.laws_driver.specs.Honest.{AgreesWith, IsLeftOpen, ends_of_state, flows_shown}
 
 same_flows : (es : List DriverEntry)

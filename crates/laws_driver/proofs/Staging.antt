@@ -2,15 +2,13 @@
 use Rattle.std.proofs.Common.{◌≡◌, ℕ, ◌+◌, ◌-◌, ◌==◌, Bool, true, false, cond, List, Option, Some, None, refl, ap}
 use Rattle.vs_contents.specs.CallTree.{Done, Ask}
 use Rattle.laws_history.specs.declared.packet.Packet.{Packet}
-use Rattle.vs_ring_port.specs.DriverCalls.{CanPublish, Publish, Reap}
-use Rattle.vs_ring_port.specs.{declared.queue.Queue.Queue, declared.queue.Queue.TheVariants.Tx}
-use Rattle.vs_ring_port.specs.{Contents.RingContents, EndLog.EndLog, EndLog.log_published, EndLog.log_reaped, EndLog.log_staged}
-use Rattle.vs_driver_parts.specs.Conversations.{one_more_in_flight, post_packet, publish_of, reap_all, reap_one, reaped, stage_of}
-use Rattle.vs_driver_parts.specs.{State.DriverState, Playing.RingAllows, Conversations.stage_packet}
-use Rattle.laws_driver.proofs.Carrying.{Fact, IsTiedBy, PutsWith, RestsWith, published_other, published_rest, reaped_same, rest_tied}
-use Rattle.laws_driver.proofs.Ringing.{IsAtRest, Tells, can_publish, can_publish_other, moves, tells_weaker, can_stage, can_stage_other}
+use Rattle.vs_ring_port.specs.{DriverCalls.{CanPublish, Publish, Reap}, declared.queue.Queue.{Queue, TheVariants.Tx}, Contents.RingContents, EndLog.{EndLog, log_published}}
+use Rattle.vs_ring_port.specs.EndLog.{log_reaped, log_staged}
+use Rattle.vs_driver_parts.specs.{Conversations.{one_more_in_flight, post_packet, publish_of, reap_all, reap_one, reaped, stage_of, stage_packet}, State.DriverState}
+use Rattle.vs_driver_parts.specs.Playing.{RingAllows}
+use Rattle.laws_driver.proofs.{Carrying.{Fact, IsTiedBy, PutsWith, RestsWith, published_other, published_rest, reaped_same, rest_tied, staged_other, staged_with}, Ringing.IsAtRest}
+use Rattle.laws_driver.proofs.{Ringing.{Tells, can_publish, can_publish_other, moves, tells_weaker, can_stage, can_stage_other}, Keeping.{Keeps, keeps_while}}
 use Rattle.laws_driver.specs.Staged.{IsTied}
-use Rattle.laws_driver.proofs.{Carrying.staged_other, Carrying.staged_with, Keeping.Keeps, Keeping.keeps_while}
 use Rattle.vs_limits.specs.declared.TheConstants.{STAGED_MAX}
 
 -- What holds of the driver that a conversation ends with, and while packets may be staged.

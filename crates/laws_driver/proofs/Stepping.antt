@@ -1,16 +1,13 @@
 -- What each single step of the driver keeps over an honest ring.
 use Rattle.std.proofs.Common.{ℕ, ◌<◌, ◌^◌, ◌==◌, Bool, true, false, cond, List, Option, Some, None, Result}
 use Rattle.vs_contents.specs.CallTree.{Done, Ask}
-use Rattle.vs_ring_port.specs.declared.queue.Queue.TheVariants.{Rx, Tx, Event}
-use Rattle.vs_ring_port.specs.{Contents.RingContents, DriverCalls.Reap, EndLog.EndLog, EndLog.log_reaped, declared.queue.Queue.Queue}
-use Rattle.vs_driver_parts.specs.Conversations.{publish_of, put_owed, put_reply, reap_one, reaped, start, take_event, take_packet}
-use Rattle.vs_driver_parts.specs.Steps.{connects, sends, stages_owed, stages_reply, takes_page}
-use Rattle.vs_driver_parts.specs.{declared.answers.ConnectError.ConnectError, declared.answers.Sent.Sent, State.DriverState}
-use Rattle.laws_driver.proofs.{Staging.{Rests, Ties, publish_other, publish_tx}, Calls.{connect_nothing, connects_with, honest_of}}
-use Rattle.laws_driver.proofs.{Calls.{rests_of, send_nothing, sends_with}, Carrying.{Carries, Fact, IsTiedBy, carries_nothing, nothing}}
-use Rattle.laws_driver.proofs.Polling.{not_tx_event, not_tx_rx, put_owed_keeps, put_reply_keeps, take_event_keeps, take_packet_keeps}
-use Rattle.laws_driver.proofs.{Keeping.{Keeps, keeps_bind, keeps_weaker}, Ringing.{moves, tells_weaker}}
-use Rattle.laws_driver.specs.{Honest.IsHonestWith, Staged.IsTied, Staged.IsTiedWith, Staged.IsWorkingWith}
+use Rattle.vs_ring_port.specs.{declared.queue.Queue.{TheVariants.{Rx, Tx, Event}, Queue}, Contents.RingContents, DriverCalls.Reap, EndLog.{EndLog, log_reaped}}
+use Rattle.vs_driver_parts.specs.{Conversations.{publish_of, put_owed, put_reply, reap_one, reaped, start, take_event, take_packet}, Steps.{connects, sends, stages_owed}}
+use Rattle.vs_driver_parts.specs.{Steps.{stages_reply, takes_page}, declared.answers.{ConnectError.ConnectError, Sent.Sent}, State.DriverState}
+use Rattle.laws_driver.proofs.{Staging.{Rests, Ties, publish_other, publish_tx}, Calls.{connect_nothing, connects_with, honest_of, rests_of, send_nothing, sends_with}}
+use Rattle.laws_driver.proofs.{Carrying.{Carries, Fact, IsTiedBy, carries_nothing, nothing}, Polling.{not_tx_event, not_tx_rx, put_owed_keeps, put_reply_keeps, take_event_keeps}}
+use Rattle.laws_driver.{proofs.{Polling.take_packet_keeps, Keeping.{Keeps, keeps_bind, keeps_weaker}, Ringing.{moves, tells_weaker}}, specs.{Honest.IsHonestWith, Staged.IsTied}}
+use Rattle.laws_driver.specs.Staged.{IsTiedWith, IsWorkingWith}
 
 -- What holds while a queue is worked on: on tx packets may be staged.
 abbrev pub Works : Queue → ℕ → Fact → DriverState → RingContents → Type 0

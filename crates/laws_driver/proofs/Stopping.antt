@@ -1,15 +1,13 @@
 -- Where a stage of a poll ends for want of a page: the last load showed none that isn't taken.
-use Rattle.std.proofs.Common.{◌≡◌, ◌<◌, ◌≤◌, ◌+◌, ◌==◌, ℕ, zero, suc, nat_lt, nat_le, Bool, true, false, cond, List, [], length, Option}
-use Rattle.std.proofs.{Common.{Some, None, refl, sym, subst, arith}, lemmas.Bool.{eqb-true, leb-true, ltb-true}}
-use Rattle.vs_contents.specs.{CallTree.Ask, CallTree.Done, CallTree.bind, CallTree.while_up_to, Contents.Relates}
+use Rattle.std.proofs.Common.{◌≡◌, ◌<◌, ◌≤◌, ◌+◌, ◌==◌, ℕ, zero, suc, nat_lt, nat_le, Bool, true, false, cond, List, [], length, Option, Some, None, refl, sym, subst, arith}
+use Rattle.std.proofs.lemmas.Bool.{eqb-true, leb-true, ltb-true}
+use Rattle.vs_contents.specs.{CallTree.{Ask, Done, bind, while_up_to}, Contents.Relates}
 use Rattle.vs_limits.specs.declared.TheConstants.{DRIVER_REPLIES_FULL, STAGED_MAX}
-use Rattle.vs_ring_port.specs.{Contents.RingContents, DriverCalls.{DriverAnswer, DriverCall}}
-use Rattle.vs_ring_port.specs.{DriverCalls.{DriverLearns, LoadCid, Publish, Reap, Stage}, Known.{Known, StopsAt, after_stores}}
-use Rattle.vs_ring_port.specs.declared.queue.Queue.{Queue, TheVariants.Event, TheVariants.Rx, TheVariants.Tx}
-use Rattle.vs_ring_port.proofs.{Knowing.driver_keeps, Stopping.NotFewer, Stopping.at_first, Stopping.grown_by, Stopping.stops_by}
-use Rattle.vs_driver_parts.specs.{Playing.{Plays, RingAllows}, Receiving.{after_reset, is_reset_event, on_page}, Conversations.DriverTree}
-use Rattle.vs_driver_parts.specs.Conversations.{Round, event_reaped, goes_on_with, packet_reaped, published, reap_all, reap_one, reaped}
-use Rattle.vs_driver_parts.specs.{Conversations.{staged_again, start, take_all, take_event, take_packet, all_taken}, State.DriverState}
+use Rattle.vs_ring_port.specs.{Contents.RingContents, DriverCalls.{DriverAnswer, DriverCall, DriverLearns, LoadCid, Publish, Reap, Stage}, Known.{Known, StopsAt, after_stores}}
+use Rattle.vs_ring_port.{specs.declared.queue.Queue.{Queue, TheVariants.{Event, Rx, Tx}}, proofs.{Knowing.driver_keeps, Stopping.{NotFewer, at_first, grown_by, stops_by}}}
+use Rattle.vs_driver_parts.specs.{Playing.{Plays, RingAllows}, Receiving.{after_reset, is_reset_event, on_page}, Conversations.{DriverTree, Round, event_reaped, goes_on_with}}
+use Rattle.vs_driver_parts.specs.Conversations.{packet_reaped, published, reap_all, reap_one, reaped, staged_again, start, take_all, take_event, take_packet, all_taken}
+use Rattle.vs_driver_parts.specs.State.{DriverState}
 use Rattle.laws_driver.proofs.Shown.{ring_allows}
 
 -- What holds at each end of a conversation.

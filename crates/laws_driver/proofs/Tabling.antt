@@ -1,19 +1,15 @@
 -- What steps on the table do to the driver's numbers, and to its connections as ends.
-use Rattle.std.proofs.Common.{◌≡◌, ℕ, ◌+◌, ◌<◌, ◌≤◌, ◌^◌, ◌==◌, Bool, true, false, cond, not, List, [], ◌∷◌, ◌++◌, get_or, refl, ap, ◌∙◌}
-use Rattle.std.proofs.lemmas.List.Elements.{All-map, All-push, All-filter}
-use Rattle.std.{proofs.Common.Some, proofs.Common.arith, specs.List.All, specs.Prelude.Contains}
+use Rattle.std.proofs.Common.{◌≡◌, ℕ, ◌+◌, ◌<◌, ◌≤◌, ◌^◌, ◌==◌, Bool, true, false, cond, not, List, [], ◌∷◌, ◌++◌, get_or, refl, ap, ◌∙◌, Some, arith}
+use Rattle.std.{proofs.lemmas.List.Elements.{All-map, All-push, All-filter}, specs.{List.All, Prelude.Contains}}
 use Rattle.vs_header.specs.declared.Kind.TheVariants.{Stream}
-use Rattle.vs_flow.specs.{Table.{Table, entry_under, with_entry, without, next_entry, revalued}, Flow.is_assigned, declared.flow.Flow.Flow}
-use Rattle.vs_flow.proofs.Tables.{revalued-flow, with_value_sound, without_sound, with_entry_sound, IsAccepted}
+use Rattle.vs_flow.{specs.{Table.{Table, entry_under, with_entry, without, next_entry, revalued}, Flow.is_assigned, declared.flow.Flow.Flow}, proofs.Tables.revalued-flow}
+use Rattle.vs_flow.proofs.Tables.{with_value_sound, without_sound, with_entry_sound, IsAccepted}
 use Rattle.vs_limits.specs.declared.TheConstants.{HOST_CID, LAST_PORT}
 use Rattle.vs_replies.specs.declared.Reply.{Reply}
-use Rattle.laws_tables.proofs.Slots.{changed_slot, one_end, removed_slot}
-use Rattle.laws_tables.specs.{Ends.Ends, Ends.FlowEnd, Ends.entries_of, Steps.HasEnd, Steps.with_end, Steps.left}
-use Rattle.vs_driver_parts.specs.State.{DriverConnection, DriverEntry, DriverState, GoneConnection}
-use Rattle.vs_driver_parts.specs.Connections.{with_connection, after_leaving, waits_no_more, is_let_go, gone_as}
-use Rattle.vs_driver_parts.proofs.Ids.{entry_has}
-use Rattle.laws_driver.specs.Honest.{IsFit, IsFitEntry, IsFitFlow, IsFitReply, IsFitState, end_in, ends_of_state}
-use Rattle.laws_driver.proofs.Fits.{IsHeldBy}
+use Rattle.laws_tables.{proofs.Slots.{changed_slot, one_end, removed_slot}, specs.{Ends.{Ends, FlowEnd, entries_of}, Steps.{HasEnd, with_end, left}}}
+use Rattle.vs_driver_parts.specs.{State.{DriverConnection, DriverEntry, DriverState, GoneConnection}, Connections.{with_connection, after_leaving, waits_no_more, is_let_go}}
+use Rattle.vs_driver_parts.{specs.Connections.gone_as, proofs.Ids.entry_has}
+use Rattle.laws_driver.{specs.Honest.{IsFit, IsFitEntry, IsFitFlow, IsFitReply, IsFitState, end_in, ends_of_state}, proofs.Fits.IsHeldBy}
 
 -- An entry that stands in the table.
 pub record Stands (s : DriverState) (e : DriverEntry) : Type 0 where

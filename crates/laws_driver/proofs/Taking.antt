@@ -1,32 +1,24 @@
 -- A packet that is got: the driver's connections are those that the log with it leaves, and a fair one is never refused.
-use Rattle.std.proofs.Common.{◌≡◌, ℕ, ◌<◌, ◌≤◌, ◌&&◌, Bool, true, false, cond, List, [], ◌∷◌, ◌++◌, Option, Some, None, refl, sym, ap}
-use Rattle.std.proofs.Common.{subst, ◌∙◌, arith, rules}
-use Rattle.std.proofs.lemmas.{Bool.Decides.nat_tests, Grind.common_steps, List.Elements.All-push, Bool.and_parts, Bool.eqb-true}
-use Rattle.vs_conn.specs.End.{ConnectionEnd, answering, end_after, is_of, is_refused, is_reset, verdict_of}
-use Rattle.vs_conn.{specs.declared.end.Verdict.Verdict, proofs.Frames.got_kind}
-use Rattle.vs_header.specs.declared.{Header.Header, Kind.Kind, Kind.TheVariants.Stream}
+use Rattle.std.proofs.Common.{◌≡◌, ℕ, ◌<◌, ◌≤◌, ◌&&◌, Bool, true, false, cond, List, [], ◌∷◌, ◌++◌, Option, Some, None, refl, sym, ap, subst, ◌∙◌, arith, rules}
+use Rattle.std.proofs.lemmas.{Bool.{Decides.nat_tests, and_parts, eqb-true}, Grind.common_steps, List.Elements.All-push}
+use Rattle.vs_conn.{specs.{End.{ConnectionEnd, answering, end_after, is_of, is_refused, is_reset, verdict_of}, declared.end.Verdict.Verdict}, proofs.Frames.got_kind}
+use Rattle.vs_header.specs.declared.{Header.Header, Kind.{Kind, TheVariants.Stream}}
 use Rattle.laws_history.specs.{Packets.is_rst, declared.packet.Packet.Packet}
 use Rattle.vs_limits.specs.declared.TheConstants.{BUF_ALLOC, HOST_CID, LAST_ID, DRIVER_CONNECTIONS}
-use Rattle.vs_flow.proofs.Tables.{IsAccepted}
-use Rattle.vs_flow.specs.{Flow.is_assigned, Flow.same_flow, Table.entry_of, declared.flow.Flow.Flow}
-use Rattle.vs_page.{specs.Fair.IsFairLog, specs.Held.IsWhole, specs.Log.Driver, specs.Log.Log, specs.Log.flow_got, specs.Log.flow_to_guest}
-use Rattle.vs_page.{specs.Log.side_of, specs.Open.is_dropped, specs.declared.log.LogEntry.TheVariants.GotPacket, proofs.Flows.same_is}
+use Rattle.vs_flow.{proofs.Tables.IsAccepted, specs.{Flow.{is_assigned, same_flow}, Table.entry_of, declared.flow.Flow.Flow}}
+use Rattle.vs_page.specs.{Fair.IsFairLog, Held.IsWhole, Log.{Driver, Log, flow_got, flow_to_guest, side_of}, Open.is_dropped, declared.log.LogEntry.TheVariants.GotPacket}
+use Rattle.vs_page.proofs.Flows.{same_is}
 use Rattle.vs_replies.specs.{Owed.reply_to, declared.Reply.Reply}
-use Rattle.laws_tables.specs.Ends.{Ends, FlowEnd, answer_kind, ends_of}
-use Rattle.laws_tables.specs.Steps.{HasEnd, HasNone, accepted, forgotten, is_kept, is_message, left, taken, with_clean, with_end}
-use Rattle.laws_tables.specs.{Both.after_taking, Both.answered, Heard.IsInOrder, Heard.heard_of, Matches.Matches}
-use Rattle.laws_tables.proofs.{Keeps.accepts, Keeps.drops, Keeps.forgets, Keeps.ignores, Keeps.refuses, Keeps.takes, Fair.got_in_order}
-use Rattle.laws_tables.proofs.{Fair.got_is_taken, Fair.got_not_refused, Fair.heard_all, Slots.added_slot, Slots.found_by, Slots.no_entry}
-use Rattle.vs_driver_parts.specs.Receiving.{after_packet, after_verdict, is_request, may_open, on_heard, on_known, on_packet, on_unknown}
-use Rattle.vs_driver_parts.specs.{Playing.FitsPorts, State.DriverConnection, State.DriverEntry, State.DriverState, State.slots_held}
-use Rattle.vs_driver_parts.specs.{Connections.after_leaving, Connections.with_connection, Connections.with_request, Receiving.with_reply}
-use Rattle.vs_driver_parts.proofs.{Ids.found_under, Packets.packet_known, Packets.packet_unknown}
-use Rattle.laws_driver.specs.Honest.{IsFitFlow, IsFitReply, IsFitState, end_in, ends_of_state}
-use Rattle.laws_driver.proofs.Tabling.{Stands, connection_ends, connection_fits, entry_fits, has_end, leaves, opening_fits, replies_fit}
-use Rattle.laws_driver.proofs.Fits.{IsHeldBy, packet_fits}
+use Rattle.laws_tables.specs.{Ends.{Ends, FlowEnd, answer_kind, ends_of}, Steps.{HasEnd, HasNone, accepted, forgotten, is_kept, is_message, left, taken, with_clean, with_end}}
+use Rattle.laws_tables.{specs.{Both.{after_taking, answered, after_packet as after_packet_on}, Heard.{IsInOrder, heard_of}, Matches.Matches}, proofs.Keeps.{accepts, drops}}
+use Rattle.laws_tables.proofs.{Keeps.{forgets, ignores, refuses, takes}, Fair.{got_in_order, got_is_taken, got_not_refused, heard_all}, Slots.{added_slot, found_by, no_entry}}
+use Rattle.vs_driver_parts.specs.{Receiving.{after_packet, after_verdict, is_request, may_open, on_heard, on_known, on_packet, on_unknown, with_reply}, Playing.FitsPorts}
+use Rattle.vs_driver_parts.specs.{State.{DriverConnection, DriverEntry, DriverState, slots_held}, Connections.{after_leaving, with_connection, with_request}}
+use Rattle.vs_driver_parts.proofs.{Ids.found_under, Packets.{packet_known, packet_unknown}}
+use Rattle.laws_driver.{specs.Honest.{IsFitFlow, IsFitReply, IsFitState, end_in, ends_of_state}, proofs.Tabling.{Stands, connection_ends, connection_fits, entry_fits, has_end}}
+use Rattle.laws_driver.proofs.{Tabling.{leaves, opening_fits, replies_fit}, Fits.{IsHeldBy, packet_fits}}
 use Rattle.vs_conn.specs.declared.end.Verdict.TheVariants as verdict
 use Rattle.laws_history.specs.Packets as packets
-use Rattle.laws_tables.specs.Both.{after_packet as after_packet_on}
 
 -- The driver t after it got a packet, whose log was this: it took the packet, and keeps no flow.
 pub record Gets (first : ℕ) (p : Packet) (s : DriverState) (log : Log) (t : DriverState) : Type 0 where

@@ -4,9 +4,8 @@ use Rattle.laws_history.specs.declared.packet.Packet.{Packet}
 use Rattle.vs_page.specs.{Log.Log, declared.log.LogEntry.TheVariants.PutPacket}
 use Rattle.laws_tables.specs.Both.{Forgets, Seat, Takes, TakesEvent, TakesReset}
 use Rattle.vs_driver_parts.specs.State.{DriverState}
-use Rattle.laws_driver.proofs.{Calls.CarriesConnect, Calls.CarriesSend, Carrying.Carries, Carrying.Fact, Changing.wanting_changes}
-use Rattle.laws_driver.proofs.{Going.Goes, Going.at_log, Going.goes_on, Going.goes_then, Going.seat, Putting.connect_puts}
-use Rattle.laws_driver.proofs.{Putting.owed_puts, Putting.reply_puts, Putting.send_puts, Resetting.resets, Ringing.Puts, Taking.gets_packet}
+use Rattle.laws_driver.proofs.{Calls.{CarriesConnect, CarriesSend}, Carrying.{Carries, Fact}, Changing.wanting_changes, Going.{Goes, at_log, goes_on, goes_then, seat}}
+use Rattle.laws_driver.proofs.{Putting.{connect_puts, owed_puts, reply_puts, send_puts}, Resetting.resets, Ringing.Puts, Taking.gets_packet}
 
 abbrev pub goes_from : Seat → Fact
 goes_from w part slots log = Goes w (record { part = part; log = log })

@@ -1,11 +1,10 @@
 -- The driver and its log between two steps of a call, where packets may be staged and not published.
-use Rattle.std.specs.{Prelude.◌≡◌, Prelude.ℕ, Prelude.true, Prelude.List, Option.ForSome}
-use Rattle.vs_page.specs.{Fair.IsFairLog, Log.Driver, Log.Log}
-use Rattle.vs_ring_port.specs.{Contents.RingContents, EndLog.EndLog, EndLog.all_put, declared.queue.Queue.Queue}
-use Rattle.vs_ring_port.specs.declared.queue.Queue.TheVariants.{Tx}
+use Rattle.std.specs.{Prelude.{◌≡◌, ℕ, true, List}, Option.ForSome}
+use Rattle.vs_page.specs.{Fair.IsFairLog, Log.{Driver, Log}}
+use Rattle.vs_ring_port.specs.{Contents.RingContents, EndLog.{EndLog, all_put}, declared.queue.Queue.{Queue, TheVariants.Tx}}
 use Rattle.laws_tables.specs.{Ends.Ends, Matches.Matches}
 use Rattle.vs_driver_parts.specs.State.{DriverState}
-use Rattle.laws_driver.specs.{Honest.IsFitState, Honest.IsHonestWith, Honest.ends_of_state, Resets.MarksResets}
+use Rattle.laws_driver.specs.{Honest.{IsFitState, IsHonestWith, ends_of_state}, Resets.MarksResets}
 
 -- The driver's connections are those that the log leaves with the packets that are staged, and it is fair with them.
 pub record IsLeft (first broken : ℕ) (part : Ends) (staged : List (List ℕ)) (entries : Log) : Type 0 where

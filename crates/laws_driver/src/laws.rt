@@ -3,16 +3,12 @@
 ghost use Rattle.std.specs.Prelude.{◌≡◌, ◌<◌, ◌≤◌, ◌^◌, ℕ, true, List, [], length, All, Result};
 ghost use Rattle.vs_contents.specs.CallTree.{Leads};
 ghost use Rattle.vs_flow.specs.Table.{IsTable};
-ghost use Rattle.vs_ring_port.specs.{Contents.RingContents, DriverCalls.DriverAllows, EndLog.EndLog};
-ghost use Rattle.vs_ring_port.specs.declared.queue.Queue.TheVariants.{Event};
-ghost use Rattle.vs_driver_parts.specs.declared.answers.{ConnectError.ConnectError, Polled.Polled, Sent.Sent};
+ghost use Rattle.vs_ring_port.specs.{Contents.RingContents, DriverCalls.DriverAllows, EndLog.EndLog, declared.queue.Queue.TheVariants.Event};
+ghost use Rattle.vs_driver_parts.specs.{declared.answers.{ConnectError.ConnectError, Polled.Polled, Sent.Sent}, State.DriverState, Connections.{after_close, after_grow}};
+ghost use Rattle.vs_driver_parts.specs.{Connections.{after_recv, after_shutdown, after_unlisten, table_shown}, Conversations.{DriverTree, connect_of, new_of, poll_of, send_of}};
+ghost use Rattle.vs_driver_parts.specs.{Listening.{after_accept, listening}, Playing.{MayPublishAll, Plays}, Receiving.is_reset_event, Steps.takes_page};
 ghost use Rattle.vs_limits.specs.declared.TheConstants.{BUF_ALLOC_MAX, DRIVER_REPLIES_FULL, LAST_PORT};
-ghost use Rattle.vs_driver_parts.specs.State.{DriverState};
-ghost use Rattle.vs_driver_parts.specs.Connections.{after_close, after_grow, after_recv, after_shutdown, after_unlisten, table_shown};
-ghost use Rattle.vs_driver_parts.specs.Conversations.{DriverTree, connect_of, new_of, poll_of, send_of};
-ghost use Rattle.vs_driver_parts.specs.{Listening.after_accept, Listening.listening, Playing.MayPublishAll, Playing.Plays};
-ghost use Rattle.vs_driver_parts.specs.{Receiving.is_reset_event, Steps.takes_page};
-ghost use Rattle.laws_driver.specs.{Honest.AgreesWith, Honest.IsFresh, Honest.IsHonestWith, Honest.IsLeftOpen, Resets.RingBrings};
+ghost use Rattle.laws_driver.specs.{Honest.{AgreesWith, IsFresh, IsHonestWith, IsLeftOpen}, Resets.RingBrings};
 
 /// Over an honest ring all that a call puts may be put: it keeps the log fair, so the driver never exceeds the credit that was advertised.
 /// After the call the driver's connections are again those that the log left (Virtio 1.2, section 5.10.6.3).

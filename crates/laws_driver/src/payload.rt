@@ -1,23 +1,17 @@
 //! Laws on the bytes of the driver's connections.
 
-ghost use Rattle.std.specs.Prelude.{◌≡◌, ◌<◌, ◌≤◌, ◌^◌, ◌++◌, ℕ, true, List, [], Result, Some};
-ghost use Rattle.std.specs.Option.{ForSome};
+ghost use Rattle.std.specs.{Prelude.{◌≡◌, ◌<◌, ◌≤◌, ◌^◌, ◌++◌, ℕ, true, List, [], Result, Some}, Option.ForSome};
 ghost use Rattle.vs_flow.specs.Connection.{Connection};
 ghost use Rattle.vs_page.specs.Log.{Driver};
 ghost use Rattle.laws_tables.specs.Later.{StaysShut};
 ghost use Rattle.vs_ring_port.specs.Contents.{IsSound, RingContents};
-ghost use Rattle.vs_driver_parts.specs.declared.answers.{ConnectError.ConnectError, Polled.Polled, Sent.Sent};
-ghost use Rattle.vs_driver_parts.specs.Conversations.{DriverTree, connect_of, new_of, poll_of, send_of};
-ghost use Rattle.vs_driver_parts.specs.{Playing.Plays, State.DriverEntry, State.DriverState, State.entry_known_as, Connections.after_close};
-ghost use Rattle.vs_driver_parts.specs.Connections.{after_grow, after_recv, after_shutdown, after_unlisten};
-ghost use Rattle.vs_driver_parts.specs.Listening.{after_accept, listening};
+ghost use Rattle.vs_driver_parts.specs.{declared.answers.{ConnectError.ConnectError, Polled.Polled, Sent.Sent}, Conversations.{DriverTree, connect_of, new_of, poll_of, send_of}};
+ghost use Rattle.vs_driver_parts.specs.{Playing.Plays, State.{DriverEntry, DriverState, entry_known_as}, Connections.{after_close, after_grow, after_recv, after_shutdown}};
+ghost use Rattle.vs_driver_parts.specs.{Connections.after_unlisten, Listening.{after_accept, listening}};
 ghost use Rattle.vs_limits.specs.declared.TheConstants.{LAST_PORT};
-ghost use Rattle.laws_driver.specs.Honest.{IsFresh, IsHonestWith};
-ghost use Rattle.laws_driver.specs.Carried.Calls.{GuestCall, IsJournaledWith, Journal, ReplyTo, account_of, is_right, makes_call, sent_of};
-ghost use Rattle.laws_driver.specs.Carried.Calls.{whole_call, with_call};
-ghost use Rattle.laws_driver.specs.Carried.Received.{Account, GoesOnWith, IsReceivedWith, after_receive, no_account};
-ghost use Rattle.laws_driver.specs.Carried.Senders.{GoesRightWith, IsRightWith};
-ghost use Rattle.laws_driver.specs.Carried.Sent.{PutsJust, TellsMore, none_on, took};
+ghost use Rattle.laws_driver.specs.{Honest.{IsFresh, IsHonestWith}, Carried.Calls.{GuestCall, IsJournaledWith, Journal, ReplyTo, account_of, is_right, makes_call, sent_of}};
+ghost use Rattle.laws_driver.specs.Carried.{Calls.{whole_call, with_call}, Received.{Account, GoesOnWith, IsReceivedWith, after_receive, no_account}, Senders.GoesRightWith};
+ghost use Rattle.laws_driver.specs.Carried.{Senders.IsRightWith, Sent.{PutsJust, TellsMore, none_on, took}};
 
 /// Over an honest ring that tells its log a call, whole or on the pages as they stand, puts just the bytes that its reply says a send took, on
 /// the connection of the send's id, and none on any other. A poll puts no payload (Virtio 1.2, section 5.10.6.3).

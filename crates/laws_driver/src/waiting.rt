@@ -3,10 +3,8 @@
 ghost use Rattle.std.specs.Prelude.{◌<◌, ◌≤◌, length};
 ghost use Rattle.vs_contents.specs.Contents.{Relates};
 ghost use Rattle.vs_limits.specs.declared.TheConstants.{DRIVER_REPLIES_FULL};
-ghost use Rattle.vs_ring_port.specs.{Contents.RingContents, Known.StopsAt};
-ghost use Rattle.vs_ring_port.specs.declared.queue.Queue.TheVariants.{Event, Rx, Tx};
-ghost use Rattle.vs_driver_parts.specs.Conversations.{Round, reap_all, take_all, take_event, take_packet};
-ghost use Rattle.vs_driver_parts.specs.{Playing.Plays, State.DriverState};
+ghost use Rattle.vs_ring_port.specs.{Contents.RingContents, Known.StopsAt, declared.queue.Queue.TheVariants.{Event, Rx, Tx}};
+ghost use Rattle.vs_driver_parts.specs.{Conversations.{Round, reap_all, take_all, take_event, take_packet}, Playing.Plays, State.DriverState};
 
 /// Over a ring that tells what the driver knows. Events and packets are taken until no page comes back, unless as many were taken as the
 /// ring has places, or too many replies are owed; and transmit pages while some are in flight. A stage that so ended for want of a page

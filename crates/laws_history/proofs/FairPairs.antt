@@ -1,9 +1,8 @@
 -- What a fair history says of the connections on its pair.
-use Rattle.std.proofs.Common.{◌≡◌, ℕ, ◌+◌, ◌-◌, ◌≤◌, Bool, true, false, nat_le, List, [], ◌∷◌, refl, sym, subst, arith}
-use Rattle.std.proofs.lemmas.Grind.{common_steps}
-use Rattle.laws_history.specs.{declared.packet.Packet.Packet, Packets.{has, is_clean_rst, is_request}, Again.{IsFairAll, MayPutNext, after}}
-use Rattle.laws_history.specs.{Again.{count, now_got, now_put, since_request}, History.{Answerer, Asker, Got, History, Put, gots, puts}}
-use Rattle.laws_history.proofs.{Fair.AllRise, Fair.put_rises, Lists.after_none, Lists.after_quiet, Lists.count_next, Lists.has_counts}
+use Rattle.std.proofs.{Common.{◌≡◌, ℕ, ◌+◌, ◌-◌, ◌≤◌, Bool, true, false, nat_le, List, [], ◌∷◌, refl, sym, subst, arith}, lemmas.Grind.common_steps}
+use Rattle.laws_history.specs.{declared.packet.Packet.Packet, Packets.{has, is_clean_rst, is_request}, Again.{IsFairAll, MayPutNext, after, count, now_got, now_put, since_request}}
+use Rattle.laws_history.{specs.History.{Answerer, Asker, Got, History, Put, gots, puts}, proofs.{Fair.{AllRise, put_rises}, Lists.{after_none, after_quiet, count_next}}}
+use Rattle.laws_history.proofs.Lists.{has_counts}
 
 -- The answerer puts nothing but on an open connection.
 pub answers_only : (put got : List Packet) (p : Packet) → MayPutNext Answerer put got p → is_request p ≡ false

@@ -1,8 +1,6 @@
 -- What a list of packets says when it grows.
-use Rattle.std.proofs.Common.{◌≡◌, ℕ, ◌+◌, ◌<◌, ◌≤◌, Bool, true, false, List, [], ◌∷◌, ◌++◌, refl, ap, ◌∙◌, arith}
-use Rattle.std.proofs.lemmas.Grind.{common_steps}
-use Rattle.laws_history.specs.{declared.packet.Packet.Packet, Packets.bytes, Packets.has, Packets.is_clean_rst, Packets.is_request}
-use Rattle.laws_history.specs.Again.{after, count, since_request}
+use Rattle.std.proofs.{Common.{◌≡◌, ℕ, ◌+◌, ◌<◌, ◌≤◌, Bool, true, false, List, [], ◌∷◌, ◌++◌, refl, ap, ◌∙◌, arith}, lemmas.Grind.common_steps}
+use Rattle.laws_history.specs.{declared.packet.Packet.Packet, Packets.{bytes, has, is_clean_rst, is_request}, Again.{after, count, since_request}}
 
 pub bytes_more : (more older : List Packet) → bytes older ≤ bytes (more ++ older)
 bytes_more [] older = grind arith

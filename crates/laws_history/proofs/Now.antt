@@ -1,11 +1,10 @@
 -- The rules of several connections are rules on the present one.
-use Rattle.std.proofs.Common.{◌≡◌, cond, ℕ, zero, suc, ◌+◌, ◌-◌, ◌≤◌, Bool, true, false, List, [], ◌∷◌, refl, sym, ap, ◌∙◌, subst₂, arith}
-use Rattle.std.proofs.{Common.{◌⊎◌, inl, inr}, lemmas.Grind.common_steps}
-use Rattle.laws_history.specs.{declared.packet.Packet.Packet, Packets.{has, is_clean_rst, is_request, is_rst}, History.{Answerer, Asker}}
-use Rattle.laws_history.specs.{History.{Entry, Got, History, MayPut, Put, Side, gots, peer, puts}, Again.{AllowsNext, AllowsNow, IsClean}}
-use Rattle.laws_history.specs.Again.{IsFairAll, MayOpen, MayOpenNow, MayPutNext, MayPutNow, after, count, present, since_request}
-use Rattle.laws_history.proofs.{Lists.after_quiet, Lists.has_counts, FairPairs.answers_only, FairPairs.counts_answerer, FairPairs.since_has}
-use Rattle.laws_history.proofs.Present.{is_present, mirror, mirror_fair, mirror_gots, mirror_puts}
+use Rattle.std.proofs.Common.{◌≡◌, cond, ℕ, zero, suc, ◌+◌, ◌-◌, ◌≤◌, Bool, true, false, List, [], ◌∷◌, refl, sym, ap, ◌∙◌, subst₂, arith, ◌⊎◌, inl, inr}
+use Rattle.std.proofs.lemmas.Grind.{common_steps}
+use Rattle.laws_history.specs.{declared.packet.Packet.Packet, Packets.{has, is_clean_rst, is_request, is_rst}, History.{Answerer, Asker, Entry, Got, History, MayPut, Put, Side}}
+use Rattle.laws_history.specs.{History.{gots, peer, puts}, Again.{AllowsNext, AllowsNow, IsClean, IsFairAll, MayOpen, MayOpenNow, MayPutNext, MayPutNow, after, count, present}}
+use Rattle.laws_history.{specs.Again.since_request, proofs.{Lists.{after_quiet, has_counts}, FairPairs.{answers_only, counts_answerer, since_has}, Present.{is_present, mirror}}}
+use Rattle.laws_history.proofs.Present.{mirror_fair, mirror_gots, mirror_puts}
 
 -- The answerer closed no more connections than the asker opened.
 pub clean_most : (h : History) → IsFairAll Asker h → count is_clean_rst (gots h) ≤ count is_request (puts h)

@@ -1,9 +1,8 @@
 -- The present connection's entries.
 use Rattle.std.proofs.Common.{◌≡◌, ◌+◌, ◌-◌, ◌≤◌, Bool, true, false, List, [], ◌∷◌, refl, sym, ap, ◌∙◌, subst, subst₂, arith}
-use Rattle.laws_history.specs.{declared.packet.Packet.Packet, Packets.is_clean_rst, Packets.is_request}
-use Rattle.laws_history.specs.History.{Answerer, Asker, Got, History, IsFair, MayPut, Put, Side, gots, peer, puts}
-use Rattle.laws_history.specs.Again.{IsFairAll, MayPutNext, after, count, now_got, now_put, present, since_request}
-use Rattle.laws_history.proofs.{Lists.after_step, Lists.since_step, FairPairs.answers_only, FairPairs.closed, FairPairs.counts_asker}
+use Rattle.laws_history.specs.{declared.packet.Packet.Packet, Packets.{is_clean_rst, is_request}, History.{Answerer, Asker, Got, History, IsFair, MayPut, Put, Side, gots, peer}}
+use Rattle.laws_history.{specs.{History.puts, Again.{IsFairAll, MayPutNext, after, count, now_got, now_put, present, since_request}}, proofs.Lists.{after_step, since_step}}
+use Rattle.laws_history.proofs.FairPairs.{answers_only, closed, counts_asker}
 
 -- The other end's view of a history: each rule reads the same from there.
 abbrev pub mirror : History → History

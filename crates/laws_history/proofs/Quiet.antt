@@ -1,11 +1,8 @@
 -- Where a connection is over cleanly at its asker, nothing of the pair is under way.
-use Rattle.std.proofs.Common.{◌≡◌, ℕ, ◌-◌, ◌≤◌, Bool, true, false, ◌||◌, List, [], ◌∷◌, ◌++◌, refl, sym, ap, ◌∙◌, subst, subst₂, arith}
-use Rattle.std.proofs.lemmas.Grind.{common_steps}
-use Rattle.laws_history.specs.History.{Answerer, Asker, Got, HasGot, History, IsFair, MayPut, Put, Side, gots, puts}
-use Rattle.laws_history.specs.{declared.packet.Packet.Packet, Packets.has, Packets.has_both, Packets.is_clean_rst, Packets.is_request}
-use Rattle.laws_history.specs.{Packets.is_rst, Again.IsClean, Again.IsFairAll, Again.after, Again.count, Again.present, Again.since_request}
-use Rattle.laws_history.proofs.{Lists.after_more, Lists.count_append, Lists.since_more, FairPairs.closed, FairPairs.counts_answerer}
-use Rattle.laws_history.proofs.{Now.clean_after, Now.clean_most, Present.fair_once, Present.is_present}
+use Rattle.std.proofs.{Common.{◌≡◌, ℕ, ◌-◌, ◌≤◌, Bool, true, false, ◌||◌, List, [], ◌∷◌, ◌++◌, refl, sym, ap, ◌∙◌, subst, subst₂, arith}, lemmas.Grind.common_steps}
+use Rattle.laws_history.specs.{History.{Answerer, Asker, Got, HasGot, History, IsFair, MayPut, Put, Side, gots, puts}, declared.packet.Packet.Packet, Packets.{has, has_both}}
+use Rattle.laws_history.{specs.{Packets.{is_clean_rst, is_request, is_rst}, Again.{IsClean, IsFairAll, after, count, present, since_request}}, proofs.Lists.after_more}
+use Rattle.laws_history.proofs.{Lists.{count_append, since_more}, FairPairs.{closed, counts_answerer}, Now.{clean_after, clean_most}, Present.{fair_once, is_present}}
 
 both_more : (p : Packet) (ps : List Packet) → has_both ps ≡ true → has_both (p ∷ ps) ≡ true
 both_more = grind (arith, common_steps)

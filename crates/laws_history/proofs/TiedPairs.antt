@@ -1,11 +1,9 @@
 -- Two ends: what the peer was allowed to put is allowed when it is got.
-use Rattle.std.proofs.Common.{◌≡◌, ◌+◌, ◌-◌, ◌≤◌, Bool, true, false, List, [], ◌∷◌, ◌++◌, refl, sym, ap, ◌∙◌, subst, subst₂, append_assoc}
-use Rattle.std.proofs.Common.{arith}
-use Rattle.laws_history.specs.History.{Answerer, Asker, Got, HasGot, History, IsNext, MayPut, Put, Side, gots, peer, puts}
-use Rattle.laws_history.specs.Again.{AllowsNext, IsFairAll, MayPutNext, after, count, now_got, now_put, since_request}
-use Rattle.laws_history.specs.{declared.packet.Packet.Packet, Packets.{allowance, bytes, is_clean_rst, is_request, is_rst, size}}
-use Rattle.laws_history.proofs.{Fair.AllRise, Ties.later, Ties.may_put_later, Lists.after_more, Lists.count_append, Lists.since_more}
-use Rattle.laws_history.proofs.FairPairs.{answers_only, counts_answerer, counts_asker, open_answerer, rises_answerer, rises_asker}
+use Rattle.std.proofs.Common.{◌≡◌, ◌+◌, ◌-◌, ◌≤◌, Bool, true, false, List, [], ◌∷◌, ◌++◌, refl, sym, ap, ◌∙◌, subst, subst₂, append_assoc, arith}
+use Rattle.laws_history.specs.{History.{Answerer, Asker, Got, HasGot, History, IsNext, MayPut, Put, Side, gots, peer, puts}, Again.{AllowsNext, IsFairAll, MayPutNext, after}}
+use Rattle.laws_history.specs.{Again.{count, now_got, now_put, since_request}, declared.packet.Packet.Packet, Packets.{allowance, bytes, is_clean_rst, is_request, is_rst, size}}
+use Rattle.laws_history.proofs.{Fair.AllRise, Ties.{later, may_put_later}, Lists.{after_more, count_append, since_more}, FairPairs.{answers_only, counts_answerer, counts_asker}}
+use Rattle.laws_history.proofs.FairPairs.{open_answerer, rises_answerer, rises_asker}
 
 -- The history as it was when a packet was put.
 record PutAt (side : Side) (h : History) (front : List Packet) (p : Packet) : Type 0 where

@@ -1,11 +1,9 @@
 -- Two ends: what the peer was allowed to put is allowed when it is got.
-use Rattle.std.proofs.Common.{◌≡◌, ◌≤◌, Bool, true, Option, List, [], ◌∷◌, ◌++◌, refl, sym, ap, ◌∙◌, subst, append_assoc, arith}
-use Rattle.std.proofs.lemmas.Grind.{common_steps}
+use Rattle.std.proofs.{Common.{◌≡◌, ◌≤◌, Bool, true, Option, List, [], ◌∷◌, ◌++◌, refl, sym, ap, ◌∙◌, subst, append_assoc, arith}, lemmas.Grind.common_steps}
 use Rattle.vs_header.specs.declared.Op.{Op}
-use Rattle.laws_history.specs.{Packets.{asked_kind, has_both, is_request, bytes, has, told_forwarded, told_alloc}, History.{History, Put}}
-use Rattle.laws_history.specs.History.{Got, Side, Asker, Answerer, peer, puts, gots, of_asker, is_begun, IsTimely, IsHonest, MayPut, Allows}
-use Rattle.laws_history.specs.{History.{IsFair, HasGot, IsNext}, declared.packet.Packet.Packet}
-use Rattle.laws_history.proofs.Fair.{AllRise, fair_rises}
+use Rattle.laws_history.specs.{Packets.{asked_kind, has_both, is_request, bytes, has, told_forwarded, told_alloc}, History.{History, Put, Got, Side, Asker, Answerer, peer, puts}}
+use Rattle.laws_history.{specs.{History.{gots, of_asker, is_begun, IsTimely, IsHonest, MayPut, Allows, IsFair, HasGot, IsNext}, declared.packet.Packet.Packet}, proofs.Fair.AllRise}
+use Rattle.laws_history.proofs.Fair.{fair_rises}
 
 -- What older packets say, more say too.
 pub record Later (older ps : List Packet) : Type 0 where

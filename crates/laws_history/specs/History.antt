@@ -1,9 +1,8 @@
 -- What passed at one end of a connection, and when that is fair. Histories run newest first.
 use Rattle.std.specs.Prelude.{◌≡◌, ◌+◌, ◌≤◌, Bool, true, false, ◌&&◌, List, [], ◌∷◌, ◌++◌, Option, Some, None}
-use Rattle.vs_header.specs.{Op.op_named, declared.Op.Op, declared.Op.TheVariants.{Invalid, Request, Response, Rst}}
-use Rattle.laws_history.specs.{declared.packet.Packet.Packet, Packets.{asked_kind, has_both, tells, is_clean_rst, is_piece, is_request}}
-use Rattle.laws_history.specs.Packets.{is_response, is_rst, is_rw, message_of, shuts_receive, shuts_send, has, size, bytes, forwarded_by}
-use Rattle.laws_history.specs.Packets.{told_alloc, allowance, IsFormed}
+use Rattle.vs_header.specs.{Op.op_named, declared.Op.{Op, TheVariants.{Invalid, Request, Response, Rst}}}
+use Rattle.laws_history.specs.{declared.packet.Packet.Packet, Packets.{asked_kind, has_both, tells, is_clean_rst, is_piece, is_request, is_response, is_rst, is_rw, message_of}}
+use Rattle.laws_history.specs.Packets.{shuts_receive, shuts_send, has, size, bytes, forwarded_by, told_alloc, allowance, IsFormed}
 use Rattle.vs_limits.specs.declared.TheConstants.{BUF_ALLOC, BUF_ALLOC_MAX, MESSAGE_MAX}
 
 -- An end put a packet, or got one.

@@ -1,9 +1,7 @@
 -- What the packets of one connection in one direction say. Lists of packets run newest first.
-use Rattle.std.specs.Prelude.{◌≡◌, ℕ, ◌+◌, ◌<◌, ◌/◌, ◌%◌, ◌^◌, ◌==◌, Bool, true, false, ◌&&◌, ◌||◌, if◌then◌else◌, not, is_some, List, []}
-use Rattle.std.specs.Prelude.{◌∷◌, ◌++◌, length}
-use Rattle.vs_header.specs.{Kind.kind_named, Kind.kind_number, Packet.header_bytes, Op.op_number, declared.Op.Op}
-use Rattle.vs_header.specs.{declared.TheConstants.CLEAN, declared.TheConstants.END_OF_MESSAGE, declared.Kind.TheVariants.Seqpacket}
-use Rattle.vs_header.specs.declared.Op.TheVariants.{Request, Response, Rst, Shutdown, Rw}
+use Rattle.std.specs.Prelude.{◌≡◌, ℕ, ◌+◌, ◌<◌, ◌/◌, ◌%◌, ◌^◌, ◌==◌, Bool, true, false, ◌&&◌, ◌||◌, if◌then◌else◌, not, is_some, List, [], ◌∷◌, ◌++◌, length}
+use Rattle.vs_header.specs.{Kind.{kind_named, kind_number}, Packet.header_bytes, Op.op_number, declared.Op.{Op, TheVariants.{Request, Response, Rst, Shutdown, Rw}}}
+use Rattle.vs_header.specs.declared.{TheConstants.{CLEAN, END_OF_MESSAGE}, Kind.TheVariants.Seqpacket}
 use Rattle.laws_history.specs.declared.packet.Packet.{Packet}
 use Rattle.vs_wrap.specs.Wrap.{unwrap32}
 

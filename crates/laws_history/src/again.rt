@@ -1,9 +1,8 @@
 //! Laws of connections that use one pair of ports one after another.
 
 ghost use Rattle.std.specs.Prelude.{◌≡◌, ◌∷◌};
-ghost use Rattle.laws_history.specs.Again.{AllowsNext, AllowsNow, IsClean, IsFairAll, now_got, now_put, present};
-ghost use Rattle.laws_history.specs.History.{Answerer, Asker, Entry, Got, HasGot, History, IsFair, IsNext, Side, gots, peer, puts};
-ghost use Rattle.laws_history.specs.declared.packet.Packet.{Packet};
+ghost use Rattle.laws_history.specs.{Again.{AllowsNext, AllowsNow, IsClean, IsFairAll, now_got, now_put, present}, History.{Answerer, Asker, Entry, Got, HasGot, History, IsFair}};
+ghost use Rattle.laws_history.specs.{History.{IsNext, Side, gots, peer, puts}, declared.packet.Packet.Packet};
 
 /// Two ends of a pair, of which one asks each time: the next packet of the other's keeps the history fair.
 pub fn law_of_two_ends_again()

@@ -1,10 +1,8 @@
 //! Laws of histories: what fairness gives, and the lemma of two ends.
 
 ghost use Rattle.std.specs.Prelude.{◌≡◌, ◌+◌, ◌<◌, ◌≤◌, true, false, List, [], ◌∷◌, ◌++◌};
-ghost use Rattle.laws_history.specs.{declared.packet.Packet.Packet, History.Allows, History.Entry, History.Got, History.HasGot};
-ghost use Rattle.laws_history.specs.History.{History, IsFair, IsNext, IsOpening, Put, Side, gots, peer, puts};
-ghost use Rattle.laws_history.specs.Packets.{allowance, bytes, forwarded_by, is_rst, is_rw, has, tells, shuts_send, size};
-ghost use Rattle.laws_history.specs.Packets.{told_alloc, told_forwarded};
+ghost use Rattle.laws_history.specs.{declared.packet.Packet.Packet, History.{Allows, Entry, Got, HasGot, History, IsFair, IsNext, IsOpening, Put, Side, gots, peer, puts}};
+ghost use Rattle.laws_history.specs.Packets.{allowance, bytes, forwarded_by, is_rst, is_rw, has, tells, shuts_send, size, told_alloc, told_forwarded};
 ghost use Rattle.vs_limits.specs.declared.TheConstants.{BUF_ALLOC, BUF_ALLOC_MAX};
 
 /// What fairness says of a connection's credit and order. Its first entry is its REQUEST. The payload put, at each packet put, is within the

@@ -1,18 +1,14 @@
 -- After the ring's failure a turn and a reset make no call.
-use Rattle.std.proofs.Common.{◌≡◌, ℕ, ◌≤◌, ◌&&◌, nat_le, Bool, true, cond, Option, Some, Result, Err, refl, sym, ap, subst, ◌∙◌, arith}
-use Rattle.std.proofs.lemmas.Bool.Decides.{nat_tests}
+use Rattle.std.proofs.{Common.{◌≡◌, ℕ, ◌≤◌, ◌&&◌, nat_le, Bool, true, cond, Option, Some, Result, Err, refl, sym, ap, subst, ◌∙◌, arith}, lemmas.Bool.Decides.nat_tests}
 use Rattle.vs_limits.specs.declared.TheConstants.{GUEST_CID_MIN, GUEST_CID_MAX}
 use Rattle.vs_contents.specs.CallTree.{Done}
 use Rattle.vs_ring_port.specs.declared.failure.Failure.{Failure}
 use Rattle.vs_device_parts.specs.Calls.{DeviceTree}
-use Rattle.vs_hostile.specs.Run.{GuestState, HasRings, HasTurned, HostileState, Said, WasReset, hostile_does, line_in, over}
-use Rattle.vs_proxy_parts.specs.{State.ProxyState, Turns.proxy_reset_of, Turns.turn_of, declared.answers.Turn.Turn}
-use Rattle.vs_script.specs.Outside.{Reset}
+use Rattle.vs_hostile.specs.Run.{GuestState, HasRings, HasTurned, HostileState, Said, WasReset, hostile_does, line_in, over, Done as IsDone}
+use Rattle.vs_proxy_parts.specs.{State.ProxyState, Turns.{proxy_reset_of, turn_of}, declared.answers.Turn.Turn}
+use Rattle.vs_script.specs.{Outside.{Reset, Turn as TakeTurn}, Hostile.Around as OfOutside}
 use Rattle.vs_ring_plain.specs.Device.{DeviceState as RingState}
-use Rattle.vs_hostile.specs.Run.{Done as IsDone}
 use Rattle.vs_proxy_parts.specs.declared.answers.Turn.TheVariants as turn
-use Rattle.vs_script.specs.Hostile.{Around as OfOutside}
-use Rattle.vs_script.specs.Outside.{Turn as TakeTurn}
 
 abbrev failing : Option Failure → ProxyState → ProxyState
 failing o s = record s { device = record s.device { failed = o } }

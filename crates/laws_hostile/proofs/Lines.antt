@@ -1,35 +1,28 @@
 -- Lines of a hostile guest's script, one after the other.
-use Rattle.std.proofs.Common.{◌≡◌, ℕ, ◌<◌, ◌≤◌, ◌^◌, arith, codes, decimal, zero, suc, ◌+◌, ◌-◌, ◌==◌, ◌&&◌, nat_le, Bool, true, false}
-use Rattle.std.proofs.Common.{cond, List, [], ◌∷◌, ◌++◌, length, slice_get, Option, Some, None, refl, sym, ap, subst, ◌∙◌}
-use Rattle.std.specs.Option.{option_and_then, option_map_or}
+use Rattle.std.proofs.Common.{◌≡◌, ℕ, ◌<◌, ◌≤◌, ◌^◌, arith, codes, decimal, zero, suc, ◌+◌, ◌-◌, ◌==◌, ◌&&◌, nat_le, Bool, true, false, cond, List, [], ◌∷◌, ◌++◌, length}
+use Rattle.std.{proofs.Common.{slice_get, Option, Some, None, refl, sym, ap, subst, ◌∙◌}, specs.Option.{option_and_then, option_map_or}}
 use Rattle.vs_flow.specs.declared.flow.Flow.{Flow}
 use Rattle.vs_limits.specs.declared.TheConstants.{ASSIGNED_LAST, GUEST_CID_MIN, GUEST_CID_MAX}
-use Rattle.vs_outside.specs.HostProgram.{after_client, after_host_write, allowed, client_stream, closed, ended, host_write_answer}
-use Rattle.vs_outside.specs.{HostProgram.with_bytes, Host.{HostContents, Stream, stream_at, waits, with_stream}, HostBytes.after_line}
-use Rattle.vs_outside.specs.{HostBytes.{read_after_ok, wrote_after_connect}, declared.mem_stream.HostWritten.HostWritten}
+use Rattle.vs_outside.specs.{HostProgram.{after_client, after_host_write, allowed, client_stream, closed, ended, host_write_answer, with_bytes}, Host.{HostContents, Stream}}
+use Rattle.vs_outside.specs.{Host.{stream_at, waits, with_stream}, HostBytes.{after_line, read_after_ok, wrote_after_connect}, declared.mem_stream.HostWritten.HostWritten}
 use Rattle.vs_page.specs.Fair.{IsPrefixOf}
-use Rattle.laws_device.{specs.Carried.Streamed.has_line, proofs.Carried.Lines.after_front, proofs.Carried.Lines.after_longer}
+use Rattle.laws_device.{specs.Carried.Streamed.has_line, proofs.Carried.Lines.{after_front, after_longer}}
 use Rattle.vs_uds.proofs.{Leading.has_lf-digits, Ports.WritesPort-decimal}
 use Rattle.vs_ring_plain.specs.Device.{DeviceState}
 use Rattle.vs_device_parts.specs.Calls.{DeviceTree}
-use Rattle.vs_hostile.specs.Run.{Done, GuestState, HasMemory, HasRings, HasTurned, HostileState, Nothing, Said, beginning, hostile_does}
-use Rattle.vs_hostile.specs.{Answer.state_after, Answers.Around, Run.line_in, Run.outside_does, Run.WasReset, Run.over, Run.over_rings}
-use Rattle.laws_hostile.specs.Recorded.{calls_of, made_in, made_over, outside_made, recorded}
-use Rattle.laws_hostile.specs.Isolated.{IsGivenOwn, IsIsolated, delivered_to}
-use Rattle.laws_hostile.proofs.Steps.{played_same, played_shows}
+use Rattle.vs_hostile.specs.Run.{Done, GuestState, HasMemory, HasRings, HasTurned, HostileState, Nothing, Said, beginning, hostile_does, line_in, outside_does, WasReset, over}
+use Rattle.vs_hostile.specs.{Run.over_rings, Answer.state_after, Answers.Around}
+use Rattle.laws_hostile.{specs.{Recorded.{calls_of, made_in, made_over, outside_made, recorded}, Isolated.{IsGivenOwn, IsIsolated, delivered_to}}, proofs.Steps.played_same}
+use Rattle.laws_hostile.proofs.Steps.{played_shows}
 use Rattle.vs_report.specs.HostLines.{host_played}
-use Rattle.laws_proxy.specs.Account.Tied.{AccountsFor, IsGiven, IsLine, IsRead, IsWhole, ok_line_of}
-use Rattle.laws_proxy.specs.Account.{Told.Shows, Told.ShowsAt, Told.ShowsIn, Made.Account, Made.Made, Made.account_of}
-use Rattle.laws_proxy.proofs.Account.Shown.{new_shows, none_there, unseen_shows}
-use Rattle.laws_proxy.proofs.Account.{Keeping.Keeps, Opening.new_agrees, Turning.keeps_proxy_reset, Turning.keeps_turn}
+use Rattle.laws_proxy.specs.Account.{Tied.{AccountsFor, IsGiven, IsLine, IsRead, IsWhole, ok_line_of}, Told.{Shows, ShowsAt, ShowsIn}, Made.{Account, Made, account_of}}
+use Rattle.laws_proxy.proofs.Account.{Shown.{new_shows, none_there, unseen_shows}, Keeping.Keeps, Opening.new_agrees, Turning.{keeps_proxy_reset, keeps_turn}}
 use Rattle.laws_proxy.proofs.Growing.{flow_grow_accounts, label_grow_by}
-use Rattle.vs_proxy_parts.specs.{Growing.label_at, State.ProxyState, Turns.proxy_reset_of, Turns.turn_of}
-use Rattle.vs_script.specs.Outside.{Client, Host, HostAllow, HostClosed, HostEnd, HostFail, HostListen, HostUnlisten, HostWrite, OfHost}
-use Rattle.vs_script.specs.Hostile.{Hostile, Write, WriteDesc, Give, Index, Packet, Before, Look}
-use Rattle.vs_script.specs.{Outside.Grow, Outside.Outside, Outside.Reset, Outside.Tick, Data.bytes_of}
+use Rattle.vs_proxy_parts.specs.{Growing.label_at, State.ProxyState, Turns.{proxy_reset_of, turn_of}}
+use Rattle.vs_script.specs.Outside.{Client, Host, HostAllow, HostClosed, HostEnd, HostFail, HostListen, HostUnlisten, HostWrite, OfHost, Grow, Outside, Reset, Tick}
+use Rattle.vs_script.specs.{Outside.Turn as TakeTurn, Hostile.{Hostile, Write, WriteDesc, Give, Index, Packet, Before, Look, Memory as SetMemory, Rings as SetRings}}
+use Rattle.vs_script.specs.{Hostile.Around as OfOutside, Data.bytes_of}
 use Rattle.vs_outside.specs.declared.mem_stream.HostWritten.TheVariants as written
-use Rattle.vs_script.specs.Hostile.{Memory as SetMemory, Rings as SetRings, Around as OfOutside}
-use Rattle.vs_script.specs.Outside.{Turn as TakeTurn}
 
 -- The calls made so far account for what the proxy holds, and show what the host holds.
 pub record Holds (s : HostileState) (calls : List Made) : Type 0 where

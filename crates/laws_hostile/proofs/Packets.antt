@@ -4,20 +4,16 @@ use Rattle.vs_limits.specs.declared.TheConstants.{GUEST_CID_MIN, GUEST_CID_MAX}
 use Rattle.vs_contents.specs.CallTree.{Leads, played}
 use Rattle.vs_ring_plain.specs.Device.{DeviceState}
 use Rattle.vs_device_parts.specs.Calls.{DeviceTree}
-use Rattle.vs_hostile.specs.{Answer.state_after, Answers.Around, Answers.answer_around, Run.Done, Run.GuestState, Run.HasMemory}
-use Rattle.vs_hostile.specs.Run.{HasRings, HostileState, Nothing, WasReset, hostile_does, line_in, over}
-use Rattle.laws_proxy.proofs.Growing.{label_grow_counts}
-use Rattle.vs_proxy_parts.specs.{Growing.label_at, State.ProxyState, Turns.proxy_reset_of, Turns.turn_of}
-use Rattle.laws_proxy.specs.Account.{Counts.DeviceCounts, Counts.counts_of, Counts.counts_shown, Made.Made, Made.Makes, Made.account_of}
-use Rattle.laws_proxy.specs.Account.{Packets.chains_taken, Tied.AccountsFor, Told.Shows}
-use Rattle.laws_proxy.proofs.Account.{Keeping.Keeps, Packets.reset_counts, Packets.reset_takes_none, Packets.turn_counts}
-use Rattle.laws_proxy.proofs.Account.{Packets.turn_is_judged, Turning.keeps_proxy_reset, Turning.keeps_turn}
-use Rattle.vs_script.specs.Hostile.{Hostile, Write, WriteDesc, Give, Index, Packet, Before, Look}
-use Rattle.vs_script.specs.Outside.{Client, Grow, OfHost, Outside, Reset, Tick}
-use Rattle.laws_hostile.specs.{Isolated.AreLinesJudged, Isolated.IsLineJudged, Recorded.calls_of, Recorded.made_in, Recorded.recorded}
-use Rattle.laws_hostile.proofs.{Lines.Holds, Lines.line_holds, Steps.played_makes, Steps.played_same}
-use Rattle.vs_script.specs.Hostile.{Memory as SetMemory, Rings as SetRings, Around as OfOutside}
-use Rattle.vs_script.specs.Outside.{Turn as TakeTurn}
+use Rattle.vs_hostile.specs.{Answer.state_after, Answers.{Around, answer_around}, Run.{Done, GuestState, HasMemory, HasRings, HostileState, Nothing, WasReset, hostile_does}}
+use Rattle.vs_hostile.specs.Run.{line_in, over}
+use Rattle.laws_proxy.proofs.{Growing.label_grow_counts, Account.{Keeping.Keeps, Packets.{reset_counts, reset_takes_none, turn_counts, turn_is_judged}, Turning.keeps_proxy_reset}}
+use Rattle.laws_proxy.{proofs.Account.Turning.keeps_turn, specs.Account.{Counts.{DeviceCounts, counts_of, counts_shown}, Made.{Made, Makes, account_of}, Packets.chains_taken}}
+use Rattle.laws_proxy.specs.Account.{Tied.AccountsFor, Told.Shows}
+use Rattle.vs_proxy_parts.specs.{Growing.label_at, State.ProxyState, Turns.{proxy_reset_of, turn_of}}
+use Rattle.vs_script.specs.{Hostile.{Hostile, Write, WriteDesc, Give, Index, Packet, Before, Look, Memory as SetMemory, Rings as SetRings, Around as OfOutside}, Outside.Client}
+use Rattle.vs_script.specs.Outside.{Grow, OfHost, Outside, Reset, Tick, Turn as TakeTurn}
+use Rattle.laws_hostile.{specs.{Isolated.{AreLinesJudged, IsLineJudged}, Recorded.{calls_of, made_in, recorded}}, proofs.{Lines.{Holds, line_holds}, Steps.played_makes}}
+use Rattle.laws_hostile.proofs.Steps.{played_same}
 
 -- What a conversation was played to, its calls led to.
 over_leads : {A : Type 0} (tree : DeviceTree (ProxyState × A)) (ring : DeviceState) (s : HostileState) (calls : List Made)

@@ -1,9 +1,8 @@
 -- Each list of lines of a hostile guest's script is safe.
 use Rattle.std.proofs.Common.{[], List, refl}
-use Rattle.vs_hostile.specs.{Answer.state_after, Run.HostileState, Run.beginning}
+use Rattle.vs_hostile.specs.{Answer.state_after, Run.{HostileState, beginning}}
 use Rattle.laws_proxy.{proofs.Account.Carrying.carries, specs.Account.Counts.counts_shown}
-use Rattle.laws_hostile.specs.{Isolated.IsSafe, Recorded.calls_of}
-use Rattle.laws_hostile.proofs.{Failing.reset_stays, Failing.turn_stays, Lines.beginning_holds, Lines.run_holds, Lines.run_isolated}
+use Rattle.laws_hostile.{specs.{Isolated.IsSafe, Recorded.calls_of}, proofs.{Failing.{reset_stays, turn_stays}, Lines.{beginning_holds, run_holds, run_isolated}}}
 use Rattle.laws_hostile.proofs.Packets.{lines_counted, lines_judged}
 use Rattle.vs_script.specs.Hostile.{Hostile}
 

@@ -1,19 +1,17 @@
 -- A conversation over rings in a guest's memory and a host: its calls account for the host, and it is the one that was played.
 use Rattle.std.proofs.Common.{◌≡◌, ℕ, ◌≤◌, List, ◌∷◌, length, refl, sym, arith}
 use Rattle.vs_contents.specs.CallTree.{Done, Ask, Leads, played}
-use Rattle.vs_outside.specs.Host.{HostContents, IsDialed, accept_answer, dial_answer, fails_now, read_answer, stream_at, write_answer}
-use Rattle.vs_outside.specs.declared.host_net.{Dialed.Dialed, StreamRead.StreamRead, StreamWrite.StreamWrite}
+use Rattle.vs_outside.specs.{Host.{HostContents, IsDialed, accept_answer, dial_answer, fails_now, read_answer, stream_at, write_answer}, declared.host_net.Dialed.Dialed}
+use Rattle.vs_outside.specs.declared.host_net.{StreamRead.StreamRead, StreamWrite.StreamWrite}
+use Rattle.vs_device_parts.specs.Calls.{Call, DeviceTree, IsReadOf, TakesWithin, Ring, Accept, Dial, Label, ReadStream, WriteStream, ShutWrite, CloseStream}
+use Rattle.vs_hostile.specs.Answers.{Around, answer_around, bytes_with}
+use Rattle.laws_hostile.specs.Recorded.{Recorded, recording}
+use Rattle.laws_proxy.{specs.Account.{Made.{Made, Makes, MayGet, account_of, made}, Told.Shows}, proofs.Account.{Keeping.{Asks, Keeps, keeps_answer}, Telling.accept_shows}}
+use Rattle.laws_proxy.proofs.Account.Telling.{close_shows, dial_shows, label_shows, read_shows, ring_shows, shut_shows, write_shows}
+use Rattle.laws_device.proofs.Carried.Short.{bytes_short, read_short, write_short}
 use Rattle.vs_outside.specs.declared.host_net.Dialed.TheVariants as dialed
 use Rattle.vs_outside.specs.declared.host_net.StreamRead.TheVariants as read
 use Rattle.vs_outside.specs.declared.host_net.StreamWrite.TheVariants as write
-use Rattle.vs_device_parts.specs.Calls.{Call, DeviceTree, IsReadOf, TakesWithin, Ring, Accept, Dial, Label, ReadStream, WriteStream}
-use Rattle.vs_device_parts.specs.Calls.{ShutWrite, CloseStream}
-use Rattle.vs_hostile.specs.Answers.{Around, answer_around, bytes_with}
-use Rattle.laws_hostile.specs.Recorded.{Recorded, recording}
-use Rattle.laws_proxy.specs.Account.{Made.Made, Made.Makes, Made.MayGet, Made.account_of, Made.made, Told.Shows}
-use Rattle.laws_device.proofs.Carried.Short.{bytes_short, read_short, write_short}
-use Rattle.laws_proxy.proofs.Account.{Keeping.Asks, Keeping.Keeps, Keeping.keeps_answer, Telling.accept_shows}
-use Rattle.laws_proxy.proofs.Account.Telling.{close_shows, dial_shows, label_shows, read_shows, ring_shows, shut_shows, write_shows}
 
 -- The answers of a host in memory are such as may be got.
 dial_is : (path : List ℕ) (c : HostContents) (a : Dialed) → dial_answer path c ≡ a → IsDialed path a c

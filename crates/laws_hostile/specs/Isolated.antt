@@ -2,16 +2,14 @@
 use Rattle.std.specs.{Prelude.{◌≡◌, ℕ, ◌≤◌, ◌++◌, List, [], ◌∷◌, Option, Some, None, Err}, Option.{option_map_or, option_and_then}}
 use Rattle.vs_limits.specs.declared.TheConstants.{GUEST_CID_MIN, GUEST_CID_MAX}
 use Rattle.vs_flow.specs.declared.flow.Flow.{Flow}
-use Rattle.vs_outside.specs.{Host.Stream, Host.stream_at, HostBytes.read_after_ok, HostBytes.wrote_after_connect}
+use Rattle.vs_outside.specs.{Host.{Stream, stream_at}, HostBytes.{read_after_ok, wrote_after_connect}}
 use Rattle.vs_page.specs.Fair.{IsPrefixOf}
 use Rattle.vs_ring_plain.specs.Device.{DeviceState}
 use Rattle.vs_ring_port.specs.declared.failure.Failure.{Failure}
 use Rattle.vs_proxy_parts.specs.declared.answers.Turn.{Turn as Turning, TheVariants.Failed}
-use Rattle.laws_proxy.specs.Account.{Carried.Carries, Counts.counts_of, Counts.counts_shown, Made.Made, Made.account_of, Packets.AreJudged}
-use Rattle.laws_proxy.specs.Account.{Packets.chains_taken, Tied.ok_line_of}
-use Rattle.vs_script.specs.{Hostile.Around, Hostile.Hostile, Outside.Reset, Outside.Turn}
-use Rattle.vs_hostile.specs.Run.{GuestState, HasRings, HasTurned, HostileState, WasReset, beginning, hostile_does, line_in}
-use Rattle.vs_hostile.specs.Answer.{state_after}
+use Rattle.laws_proxy.specs.Account.{Carried.Carries, Counts.{counts_of, counts_shown}, Made.{Made, account_of}, Packets.{AreJudged, chains_taken}, Tied.ok_line_of}
+use Rattle.vs_script.specs.{Hostile.{Around, Hostile}, Outside.{Reset, Turn}}
+use Rattle.vs_hostile.specs.{Run.{GuestState, HasRings, HasTurned, HostileState, WasReset, beginning, hostile_does, line_in}, Answer.state_after}
 use Rattle.laws_hostile.specs.Recorded.{calls_of, made_in}
 
 -- The payloads delivered on the connection of a stream, joined: those of packets of its flow, read while it had its label and wasn't

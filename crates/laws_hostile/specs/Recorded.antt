@@ -5,12 +5,10 @@ use Rattle.vs_contents.specs.CallTree.{played}
 use Rattle.vs_outside.specs.Host.{HostContents}
 use Rattle.vs_ring_plain.specs.Device.{DeviceState}
 use Rattle.vs_device_parts.specs.Calls.{Answer, Call, DeviceTree}
-use Rattle.vs_hostile.specs.{Answers.Around, Answers.answer_around, Run.GuestState, Run.HasRings, Run.HostileState, Run.hostile_does}
+use Rattle.vs_hostile.specs.{Answers.{Around, answer_around}, Run.{GuestState, HasRings, HostileState, hostile_does}}
 use Rattle.vs_proxy_parts.specs.Turns.{proxy_reset_of, turn_of}
 use Rattle.laws_proxy.specs.Account.Made.{Made}
-use Rattle.vs_script.specs.{Hostile.Hostile, Outside.Outside, Outside.Reset}
-use Rattle.vs_script.specs.Hostile.{Around as OfOutside}
-use Rattle.vs_script.specs.Outside.{Turn as TakeTurn}
+use Rattle.vs_script.specs.{Hostile.{Hostile, Around as OfOutside}, Outside.{Outside, Reset, Turn as TakeTurn}}
 
 -- What surrounds the device, and the calls that it made so far. A call is answered as before, and recorded.
 pub record Recorded : Type 0 where

@@ -3,8 +3,7 @@ use Rattle.std.specs.Prelude.{ℕ, List, [], ◌∷◌, ◌++◌}
 use Rattle.vs_limits.specs.declared.TheConstants.{BUF_ALLOC}
 use Rattle.vs_header.specs.declared.Header.{Header}
 use Rattle.vs_ring_port.specs.declared.queue.Queue.TheVariants.{Rx, Tx}
-use Rattle.vs_script.specs.{Data.Given, Outside.HostListen, Outside.OfHost, Outside.Turn}
-use Rattle.vs_script.specs.Hostile.{Hostile, Memory, Rings, WriteDesc, Give, Index, Packet, Before, Around}
+use Rattle.vs_script.specs.{Data.Given, Outside.{HostListen, OfHost, Turn}, Hostile.{Hostile, Memory, Rings, WriteDesc, Give, Index, Packet, Before, Around}}
 
 -- The length in the header of an RW is 1, and 2 once the device has read it. What it read decides: one byte is delivered.
 abbrev pub changed_lines : List Hostile

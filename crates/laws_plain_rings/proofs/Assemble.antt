@@ -2,15 +2,13 @@
 use Rattle.std.proofs.Common.{◌≡◌, ℕ, ◌+◌, ◌*◌, ◌<◌, ◌≤◌, false, List, Some, refl, sym, ap, ◌∙◌, subst, arith}
 use Rattle.vs_guest_mem.specs.Memory.{Memory, bytes_at}
 use Rattle.vs_page.specs.Log.{Log}
-use Rattle.vs_ring_port.specs.{Chains.Held, Chains.same_queue, EndLog.pages_at, EndLog.with_pages, Lists.Lists, Lists.queue_of}
-use Rattle.vs_ring_port.specs.{Lists.with_queue, declared.queue.Queue.Queue}
+use Rattle.vs_ring_port.specs.{Chains.{Held, same_queue}, EndLog.{pages_at, with_pages}, Lists.{Lists, queue_of, with_queue}, declared.queue.Queue.Queue}
 use Rattle.vs_ring_list.specs.{Ends.Ends, Sound.IsTied}
-use Rattle.vs_ring_plain.specs.{Device.HeldChain, Device.turns_at, Device.with_turns, declared.turns.Turns.Turns}
+use Rattle.vs_ring_plain.specs.{Device.{HeldChain, turns_at, with_turns}, declared.turns.Turns.Turns}
 use Rattle.vs_plain_driver.specs.Queue.{DriverQueueState}
-use Rattle.laws_plain_rings.specs.{Parts.{PartsState, driver_at, with_driver, with_parts_memory}, Queue.{IsQueueTied, times}, Shown.Shown}
-use Rattle.laws_plain_rings.specs.{Shown.shown, Tie.{AreHeldAs, AreTied, IsTiedAt, areas_of, heads_of, shown_of, start_in, start_of}}
-use Rattle.laws_plain_rings.proofs.{Held.held_kept, Held.held_moved, QueueSteps.tie_same, Queues.of_each, Queues.of_pairs, Spots.laid_same}
-use Rattle.laws_plain_rings.proofs.Spots.{Wrote, Spot, DiffersAll, PageOf}
+use Rattle.laws_plain_rings.specs.{Parts.{PartsState, driver_at, with_driver, with_parts_memory}, Queue.{IsQueueTied, times}, Shown.{Shown, shown}, Tie.{AreHeldAs, AreTied}}
+use Rattle.laws_plain_rings.{specs.Tie.{IsTiedAt, areas_of, heads_of, shown_of, start_in, start_of}, proofs.{Held.{held_kept, held_moved}, QueueSteps.tie_same, Queues.of_each}}
+use Rattle.laws_plain_rings.proofs.{Queues.of_pairs, Spots.{laid_same, Wrote, Spot, DiffersAll, PageOf}}
 
 -- one queue of both ends, as its tie sees it
 pub record QueueParts : Type 0 where

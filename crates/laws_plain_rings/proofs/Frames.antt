@@ -1,7 +1,6 @@
 -- What a write leaves in a memory.
-use Rattle.std.proofs.Common.{inl, inr, ◌≡◌, ◌⊎◌, ℕ, ◌+◌, ◌-◌, ◌≤◌, List, ◌++◌, length, take, drop, ap, ◌∙◌, subst, arith, length-append}
-use Rattle.std.proofs.{Common.{length-drop, length-take-le, append_assoc}, Math.Seq.{take-append_seam, drop-append_seam}}
-use Rattle.std.proofs.lemmas.{List.drop-take, List.take-take, List.take-append-le, List.drop-append-le, Slice.drop-append-drop}
+use Rattle.std.proofs.Common.{inl, inr, ◌≡◌, ◌⊎◌, ℕ, ◌+◌, ◌-◌, ◌≤◌, List, ◌++◌, length, take, drop, ap, ◌∙◌, subst, arith, length-append, length-drop, length-take-le, append_assoc}
+use Rattle.std.proofs.{Math.Seq.{take-append_seam, drop-append_seam}, lemmas.{List.{drop-take, take-take, take-append-le, drop-append-le}, Slice.drop-append-drop}}
 use Rattle.vs_guest_mem.specs.Memory.{Memory, after_write, bytes_at, overwritten}
 
 -- as many bytes as before

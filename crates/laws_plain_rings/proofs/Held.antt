@@ -1,13 +1,10 @@
 -- Chains that the device holds, with their bytes.
-use Rattle.std.proofs.Common.{◌≡◌, ℕ, zero, suc, ◌+◌, ◌*◌, ◌<◌, ◌≤◌, Bool, true, false, cond, not, ◌&&◌, ◌==◌, List, [], ◌∷◌, length, map}
-use Rattle.std.proofs.Common.{get_or, Some, Contains, refl, sym, ap, ◌∙◌, subst, arith}
-use Rattle.std.{specs.Prelude.count_by, proofs.lemmas.Bool.false≢true, proofs.lemmas.List.Sums.sum_by-cons}
+use Rattle.std.proofs.Common.{◌≡◌, ℕ, zero, suc, ◌+◌, ◌*◌, ◌<◌, ◌≤◌, Bool, true, false, cond, not, ◌&&◌, ◌==◌, List, [], ◌∷◌, length, map, get_or, Some, Contains, refl, sym, ap}
+use Rattle.std.{proofs.{Common.{◌∙◌, subst, arith}, lemmas.{Bool.false≢true, List.Sums.sum_by-cons}}, specs.Prelude.count_by}
 use Rattle.vs_ring_list.proofs.Held.{same_chain_is, same_chain_refl, same_queue_is, same_queue_refl}
-use Rattle.vs_ring_port.specs.Chains.{Held, bytes_in, held_of, same_chain, same_queue, with_bytes, without_held}
-use Rattle.vs_ring_port.specs.declared.{device_ring.Chain.Chain, queue.Queue.Queue}
-use Rattle.vs_ring_plain.specs.{Device.HeldChain, Device.hold_of, Device.without_hold, declared.piece.Piece.Piece}
-use Rattle.laws_plain_rings.specs.{Queue.times, Shown.Shown, Tie.AreHeldAs, Tie.IsHeldAs, Tie.heads_of}
-use Rattle.laws_plain_rings.proofs.{Counting.here, Counting.times-cons, Counting.times-self, Queues.turned}
+use Rattle.vs_ring_port.specs.{Chains.{Held, bytes_in, held_of, same_chain, same_queue, with_bytes, without_held}, declared.{device_ring.Chain.Chain, queue.Queue.Queue}}
+use Rattle.vs_ring_plain.specs.{Device.{HeldChain, hold_of, without_hold}, declared.piece.Piece.Piece}
+use Rattle.laws_plain_rings.{specs.{Queue.times, Shown.Shown, Tie.{AreHeldAs, IsHeldAs, heads_of}}, proofs.{Counting.{here, times-cons, times-self}, Queues.turned}}
 
 -- the first chain that is held, or a later one
 hold_first : (c : Chain) (h : HeldChain) (held : List HeldChain) (hold : HeldChain) → hold_of c (h ∷ held) ≡ Some hold

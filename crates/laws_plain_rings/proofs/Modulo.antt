@@ -1,8 +1,6 @@
 -- Places of a ring: indices modulo its size, which divides 2^16.
-use Rattle.std.proofs.Common.{inl, inr, ◌⊎◌, true, false, ◌≡◌, ℕ, ◌+◌, ◌*◌, ◌/◌, ◌%◌, ◌^◌, ◌<◌, ◌≤◌, sym, ap, ◌∙◌, subst, arith}
-use Rattle.std.proofs.Math.Nat.{add-mul, mul-add-mod_self_right, mul-le-mul_right}
-use Rattle.std.proofs.lemmas.{Bool.Decides.leb_tells, Nat.div-add-mod', Nat.mod-mul-add}
-use Rattle.std.specs.Prelude.{nat_le as leb}
+use Rattle.std.proofs.{Common.{inl, inr, ◌⊎◌, true, false, ◌≡◌, ℕ, ◌+◌, ◌*◌, ◌/◌, ◌%◌, ◌^◌, ◌<◌, ◌≤◌, sym, ap, ◌∙◌, subst, arith}, Math.Nat.{add-mul, mul-add-mod_self_right}}
+use Rattle.std.{proofs.{Math.Nat.mul-le-mul_right, lemmas.{Bool.Decides.leb_tells, Nat.{div-add-mod', mod-mul-add}}}, specs.Prelude.nat_le as leb}
 
 -- the index may run modulo 2^16
 pub wraps : (n a : ℕ) → 2 ^ 16 % n ≡ 0 → (a % 2 ^ 16) % n ≡ a % n

@@ -1,10 +1,8 @@
 -- Parts of a piece of memory.
-use Rattle.std.proofs.Common.{inl, inr, ◌⊎◌, true, false, ◌<◌, ◌≡◌, ℕ, ◌+◌, ◌-◌, ◌≤◌, List, ◌++◌, length, take, drop, refl, sym, ap, ◌∙◌}
-use Rattle.std.proofs.Common.{subst, arith, length-append, length-drop, length-take, length-take-le, append_assoc}
-use Rattle.std.proofs.lemmas.List.{drop-append-le, drop-drop, drop-take, take-take}
-use Rattle.std.proofs.{Math.ListN.drop_of_length-le, Math.Seq.take-append-add, lemmas.Bool.Decides.leb_tells}
+use Rattle.std.proofs.Common.{inl, inr, ◌⊎◌, true, false, ◌<◌, ◌≡◌, ℕ, ◌+◌, ◌-◌, ◌≤◌, List, ◌++◌, length, take, drop, refl, sym, ap, ◌∙◌, subst, arith, length-append, length-drop}
+use Rattle.std.proofs.{Common.{length-take, length-take-le, append_assoc}, lemmas.{List.{drop-append-le, drop-drop, drop-take, take-take}, Bool.Decides.leb_tells}}
+use Rattle.std.{proofs.Math.{ListN.drop_of_length-le, Seq.take-append-add}, specs.Prelude.nat_le as leb}
 use Rattle.vs_guest_mem.specs.Memory.{Memory, after_write, bytes_at, overwritten}
-use Rattle.std.specs.Prelude.{nat_le as leb}
 
 -- a part of what is read
 part : (xs : List ℕ) (place count long : ℕ) → place + count ≤ long → take count (drop place (take long xs)) ≡ take count (drop place xs)

@@ -1,11 +1,10 @@
 -- Where each call's answer is determined, so is a conversation's.
 use Rattle.std.proofs.Common.{◌≡◌, ℕ, ◌+◌, List, length, take, Option, Some, refl, sym, ap, ◌∙◌, subst}
-use Rattle.vs_contents.specs.{CallTree.Ask, CallTree.CallTree, CallTree.Done, CallTree.Leads, CallTree.played, Contents.Exposes}
-use Rattle.vs_ring_port.specs.{EndLog.EndLog, EndLog.log_loaded, EndLog.log_reaped, EndLog.log_taken, declared.device_ring.Next.Next}
-use Rattle.vs_ring_port.specs.Contents.{DeviceAnswer, DeviceCall, Given, PublishCid, Read, Return, RingContents, Take, Write}
-use Rattle.vs_ring_port.specs.DriverCalls.{DriverAllows, DriverAnswer, DriverCall, DriverMoves, LoadCid, Publish, Reap, Stage}
-use Rattle.vs_ring_port.specs.{DriverCalls.driver_answer, Lists.Rings, Lists.after_publish, Lists.after_return, Lists.next_at, Lists.oldest}
-use Rattle.vs_ring_port.specs.{Lists.queue_of, DeviceCalls.DeviceAllows, DeviceCalls.DeviceMoves, DeviceCalls.device_answer}
+use Rattle.vs_contents.specs.{CallTree.{Ask, CallTree, Done, Leads, played}, Contents.Exposes}
+use Rattle.vs_ring_port.specs.{EndLog.{EndLog, log_loaded, log_reaped, log_taken}, declared.device_ring.Next.Next, Contents.{DeviceAnswer, DeviceCall, Given, PublishCid, Read}}
+use Rattle.vs_ring_port.specs.{Contents.{Return, RingContents, Take, Write}, DriverCalls.{DriverAllows, DriverAnswer, DriverCall, DriverMoves, LoadCid, Publish, Reap, Stage}}
+use Rattle.vs_ring_port.specs.{DriverCalls.driver_answer, Lists.{Rings, after_publish, after_return, next_at, oldest, queue_of}, DeviceCalls.{DeviceAllows, DeviceMoves}}
+use Rattle.vs_ring_port.specs.DeviceCalls.{device_answer}
 use Rattle.vs_ring_list.specs.Ends.{Ends}
 use Rattle.laws_plain_rings.specs.Seen.{ShowsDevice, ShowsDriver}
 

@@ -1,19 +1,17 @@
 -- The staged pages of a queue are published, and the guest's CID is loaded.
-use Rattle.std.proofs.Common.{◌≡◌, ℕ, ◌+◌, ◌%◌, ◌^◌, Bool, true, false, cond, [], ◌∷◌, ◌++◌, refl, sym, ap, ◌∙◌, subst, arith}
-use Rattle.std.{specs.Prelude.◌==◌, proofs.lemmas.Bool.Decides.nat_tests}
+use Rattle.std.proofs.{Common.{◌≡◌, ℕ, ◌+◌, ◌%◌, ◌^◌, Bool, true, false, cond, [], ◌∷◌, ◌++◌, refl, sym, ap, ◌∙◌, subst, arith}, lemmas.Bool.Decides.nat_tests}
+use Rattle.std.specs.Prelude.{◌==◌}
 use Rattle.byteorder.specs.Endian.{little_bytes, little_number}
 use Rattle.vs_guest_mem.specs.Memory.{Memory, after_write}
 use Rattle.vs_header.proofs.RoundTrip.{little_number-little_bytes}
 use Rattle.vs_page.specs.{Fair.IsFairLog, Log.Driver}
-use Rattle.vs_ring_port.specs.DriverCalls.{LoadCid, Publish}
-use Rattle.vs_ring_port.specs.{EndLog.entries_published, EndLog.pages_at, Lists.Lists, Lists.queue_of, declared.queue.Queue.Queue}
-use Rattle.vs_ring_list.{specs.Ends.Ends, proofs.Ties.tied-load, proofs.Ties.tied-publish}
+use Rattle.vs_ring_port.specs.{DriverCalls.{LoadCid, Publish}, EndLog.{entries_published, pages_at}, Lists.{Lists, queue_of}, declared.queue.Queue.Queue}
+use Rattle.vs_ring_list.{specs.Ends.Ends, proofs.Ties.{tied-load, tied-publish}}
 use Rattle.vs_ring_plain.specs.Device.{turns_at}
 use Rattle.vs_plain_driver.specs.Queue.{DriverQueueState, published_memory, published_queue}
-use Rattle.laws_plain_rings.specs.Tie.{AreTied, areas_of, shown_of, start_of}
-use Rattle.laws_plain_rings.specs.{Calls.after_driver, Parts.PartsState, Parts.driver_at, Parts.published_parts, Shown.shown}
-use Rattle.laws_plain_rings.proofs.{Assemble.{driver_form_is, step, held_after, parts_form}, QueueSteps.tie_published, Spots.AvailIdx}
-use Rattle.laws_plain_rings.proofs.Spots.{Wrote, wrote, read_back, quietly_wrote, quietly_now}
+use Rattle.laws_plain_rings.specs.{Tie.{AreTied, areas_of, shown_of, start_of}, Calls.after_driver, Parts.{PartsState, driver_at, published_parts}, Shown.shown}
+use Rattle.laws_plain_rings.proofs.{Assemble.{driver_form_is, step, held_after, parts_form}, QueueSteps.tie_published, Spots.{AvailIdx, Wrote, wrote, read_back, quietly_wrote}}
+use Rattle.laws_plain_rings.proofs.Spots.{quietly_now}
 
 module _ (p : PartsState) (w : Ends) (tied : AreTied p w) where
   module _ (queue : Queue) (fair : IsFairLog Driver (entries_published queue (pages_at queue w.driver.staged) w.driver.entries)) where

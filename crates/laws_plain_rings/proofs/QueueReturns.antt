@@ -1,14 +1,12 @@
 -- One queue whose lists lie in its memory, as pages are taken, returned and reaped.
-use Rattle.std.proofs.Common.{◌≡◌, ℕ, zero, suc, ◌+◌, ◌%◌, ◌^◌, ◌<◌, ◌≤◌, List, [], ◌∷◌, ◌++◌, length, None, refl, sym, ap, ◌∙◌, subst}
-use Rattle.std.proofs.{Common.arith, lemmas.List.get_or-set_other, lemmas.List.length-set, lemmas.Nat.mod_below}
-use Rattle.std.specs.Prelude.{set}
+use Rattle.std.proofs.{Common.{◌≡◌, ℕ, zero, suc, ◌+◌, ◌%◌, ◌^◌, ◌<◌, ◌≤◌, List, [], ◌∷◌, ◌++◌, length, None, refl, sym, ap, ◌∙◌, subst, arith}, lemmas.List.get_or-set_other}
+use Rattle.std.{proofs.lemmas.{List.length-set, Nat.mod_below}, specs.Prelude.set}
 use Rattle.vs_ring_port.specs.{Lists.Lists, declared.queue.Queue.Queue}
 use Rattle.vs_ring_plain.specs.declared.turns.Turns.{Turns}
 use Rattle.vs_plain_driver.specs.Queue.{DriverQueueState}
-use Rattle.laws_plain_rings.proofs.{Counting.{times-cons, times-push, times-self}, Modulo.{apart, further, mod_small, wraps}, Rows.IsSameAt}
-use Rattle.laws_plain_rings.proofs.{Rows.{back_index, back_kept, back_push, out_index, out_kept}, QueueSteps.{back_count, push_length}}
-use Rattle.laws_plain_rings.proofs.Spots.{Elem, UsedIdx, Untouched}
-use Rattle.laws_plain_rings.specs.{Queue.AreBack, Queue.AreOut, Queue.HasPage, Queue.IsQueueTied, Queue.times, Shown.Shown}
+use Rattle.laws_plain_rings.proofs.{Counting.{times-cons, times-push, times-self}, Modulo.{apart, further, mod_small, wraps}, Rows.{IsSameAt, back_index, back_kept, back_push}}
+use Rattle.laws_plain_rings.{proofs.{Rows.{out_index, out_kept}, QueueSteps.{back_count, push_length}, Spots.{Elem, UsedIdx, Untouched}}, specs.Queue.{AreBack, AreOut, HasPage}}
+use Rattle.laws_plain_rings.specs.{Queue.{IsQueueTied, times}, Shown.Shown}
 
 module _ {queue : Queue} {n at : ℕ} (nonzero : 0 < n) (divides : 2 ^ 16 % n ≡ 0) {s : Shown} {q : DriverQueueState} {t : Turns}
     {heads : List ℕ} {staged : List (List ℕ)} {l : Lists} where

@@ -1,15 +1,13 @@
 -- What each call makes of one queue whose lists lie in its memory.
-use Rattle.std.proofs.lemmas.{Bool.Decides.eqb_tells, List.get_or-set_same, List.get_or-set_other, List.length-set, Nat.mod_below}
-use Rattle.std.proofs.Common.{◌≡◌, ◌⊎◌, inl, inr, ℕ, ◌+◌, ◌*◌, ◌%◌, ◌^◌, ◌<◌, ◌≤◌, true, false, List, [], ◌∷◌, ◌++◌, length, Some, None}
-use Rattle.std.proofs.Common.{refl, sym, ap, ◌∙◌, subst, arith, length-append, append_assoc, append-nil}
+use Rattle.std.proofs.{lemmas.{Bool.Decides.eqb_tells, List.{get_or-set_same, get_or-set_other, length-set}, Nat.mod_below}, Common.{◌≡◌, ◌⊎◌, inl, inr, ℕ, ◌+◌, ◌*◌, ◌%◌, ◌^◌}}
+use Rattle.std.proofs.Common.{◌<◌, ◌≤◌, true, false, List, [], ◌∷◌, ◌++◌, length, Some, None, refl, sym, ap, ◌∙◌, subst, arith, length-append, append_assoc, append-nil}
 use Rattle.std.specs.Prelude.{◌==◌, set, slice_index_or}
-use Rattle.vs_ring_port.specs.{DriverCalls.HoldsPacket, Lists.Lists, declared.queue.Queue.Queue, declared.queue.Queue.TheVariants.Tx}
+use Rattle.vs_ring_port.specs.{DriverCalls.HoldsPacket, Lists.Lists, declared.queue.Queue.{Queue, TheVariants.Tx}}
 use Rattle.vs_ring_plain.specs.declared.turns.Turns.{Turns}
 use Rattle.vs_plain_driver.specs.Queue.{DriverQueueState, desc_for, published_queue}
-use Rattle.laws_plain_rings.specs.{Queue.AreOut, Queue.HasPage, Queue.IsQueueTied, Queue.times, Shown.Shown, Shown.Word}
-use Rattle.laws_plain_rings.proofs.Rows.{IsSameAt, back_kept, back_length, out_kept, out_length, out_push}
-use Rattle.laws_plain_rings.proofs.{Counting.times-cons, Counting.times-other, Counting.times-push, Counting.times-self, Modulo.apart}
-use Rattle.laws_plain_rings.proofs.{Modulo.wraps_further, Spots.AvailIdx, Spots.Describing, Spots.Entry, Spots.PageOf, Spots.Untouched}
+use Rattle.laws_plain_rings.{specs.{Queue.{AreOut, HasPage, IsQueueTied, times}, Shown.{Shown, Word}}, proofs.Rows.{IsSameAt, back_kept, back_length, out_kept, out_length}}
+use Rattle.laws_plain_rings.proofs.{Rows.out_push, Counting.{times-cons, times-other, times-push, times-self}, Modulo.{apart, wraps_further}, Spots.{AvailIdx, Describing, Entry}}
+use Rattle.laws_plain_rings.proofs.Spots.{PageOf, Untouched}
 
 pub push_length : {A : Type 0} (xs : List A) (x : A) → length (xs ++ x ∷ []) ≡ length xs + 1
 push_length xs x = length-append xs (x ∷ [])

@@ -4,9 +4,8 @@ use Rattle.vs_guest_mem.specs.Memory.{Memory, accessed, after_access}
 use Rattle.vs_ring_port.specs.declared.queue.Queue.{Queue, TheVariants.Rx}
 use Rattle.vs_ring_list.specs.Ends.{Ends}
 use Rattle.vs_ring_plain.specs.Device.{with_memory}
-use Rattle.laws_plain_rings.specs.{Parts.PartsState, Shown.shown, Tie.AreTied, Tie.areas_of, Tie.shown_of, Tie.start_of}
-use Rattle.laws_plain_rings.proofs.Spots.{seen_same, quietly_wrote, quietly_now, quietly_after, IsQuietly}
-use Rattle.laws_plain_rings.proofs.{Assemble.step, Assemble.held_after, QueueSteps.tie_same}
+use Rattle.laws_plain_rings.{specs.{Parts.PartsState, Shown.shown, Tie.{AreTied, areas_of, shown_of, start_of}}, proofs.Spots.{seen_same, quietly_wrote, quietly_now}}
+use Rattle.laws_plain_rings.proofs.{Spots.{quietly_after, IsQuietly}, Assemble.{step, held_after}, QueueSteps.tie_same}
 
 pub quietly_accessed : (m : Memory) (k : ℕ) → m.changes ≡ [] → IsQuietly m (accessed m k)
 quietly_accessed m k still = by (k == 0)

@@ -1,21 +1,16 @@
 -- Bytes of a chain that is held are read, and written.
-use Rattle.std.proofs.Common.{◌≡◌, ℕ, ◌+◌, ◌-◌, ◌*◌, ◌<◌, ◌≤◌, Bool, true, false, cond, List, [], ◌∷◌, ◌++◌, length, take, drop, Contains}
-use Rattle.std.proofs.Common.{refl, sym, ap, ap₂, ◌∙◌, subst, arith, length-append, length-drop, length-take-le}
-use Rattle.std.{specs.Prelude.◌==◌, proofs.Math.Seq.take-length, proofs.lemmas.List.nil_from_length}
+use Rattle.std.proofs.Common.{◌≡◌, ℕ, ◌+◌, ◌-◌, ◌*◌, ◌<◌, ◌≤◌, Bool, true, false, cond, List, [], ◌∷◌, ◌++◌, length, take, drop, Contains, refl, sym, ap, ap₂, ◌∙◌, subst, arith}
+use Rattle.std.{proofs.{Common.{length-append, length-drop, length-take-le}, Math.Seq.take-length, lemmas.List.nil_from_length}, specs.Prelude.◌==◌}
 use Rattle.vs_guest_mem.specs.Memory.{Memory, accessed, after_write, bytes_at}
 use Rattle.vs_page.specs.Overwriting.{overwritten}
-use Rattle.vs_ring_port.specs.declared.queue.Queue.TheVariants.{Rx, Tx, Event}
-use Rattle.vs_ring_port.specs.{Chains.bytes_in, Chains.same_queue, Chains.with_bytes, Contents.Read, Contents.Write, EndLog.pages_at}
-use Rattle.vs_ring_port.specs.{Lists.queue_of, Lists.with_queue, declared.device_ring.Chain.Chain, declared.queue.Queue.Queue}
-use Rattle.vs_ring_list.{specs.Ends.Ends, specs.Sound.IsTied, proofs.Held.same_queue_refl}
-use Rattle.vs_ring_plain.specs.Device.{DeviceState, answer_to, chains_held, hold_of, pieces_of, turns_at, with_memory}
-use Rattle.vs_ring_plain.specs.{Accesses.over, Pieces.reading, Pieces.spans, Pieces.writing, declared.piece.Piece.Piece}
-use Rattle.vs_ring_plain.proofs.Moving.{is_zero, read_step, skipped, unwritten, used}
-use Rattle.laws_plain_rings.specs.Tie.{AreHeldAs, AreTied, areas_of, heads_of, shown_of, start_of}
-use Rattle.laws_plain_rings.specs.{Calls.after_device, Parts.PartsState, Parts.driver_at, Queue.times, Shown.shown}
-use Rattle.laws_plain_rings.proofs.{Spots.{PageOf, high, low, Wrote, wrote, wrote_then, quietly_wrote, IsQuietly}, Assemble.step}
-use Rattle.laws_plain_rings.proofs.{Assemble.{parts_form, ends_form}, Held.{Found, found, held_written}, Parts.{read_part, written_part}}
-use Rattle.laws_plain_rings.proofs.{QueueSteps.tie_written, Queues.of_each, Quiet.{quiet_step, quietly_accessed}}
+use Rattle.vs_ring_port.specs.{declared.{queue.Queue.{TheVariants.{Rx, Tx, Event}, Queue}, device_ring.Chain.Chain}, Chains.{bytes_in, same_queue, with_bytes}, Contents.Read}
+use Rattle.vs_ring_port.specs.{Contents.Write, EndLog.pages_at, Lists.{queue_of, with_queue}}
+use Rattle.vs_ring_list.{specs.{Ends.Ends, Sound.IsTied}, proofs.Held.same_queue_refl}
+use Rattle.vs_ring_plain.specs.{Device.{DeviceState, answer_to, chains_held, hold_of, pieces_of, turns_at, with_memory}, Accesses.over, Pieces.{reading, spans, writing}}
+use Rattle.vs_ring_plain.{specs.declared.piece.Piece.Piece, proofs.Moving.{is_zero, read_step, skipped, unwritten, used}}
+use Rattle.laws_plain_rings.specs.{Tie.{AreHeldAs, AreTied, areas_of, heads_of, shown_of, start_of}, Calls.after_device, Parts.{PartsState, driver_at}, Queue.times, Shown.shown}
+use Rattle.laws_plain_rings.proofs.{Spots.{PageOf, high, low, Wrote, wrote, wrote_then, quietly_wrote, IsQuietly}, Assemble.{step, parts_form, ends_form}, Held.{Found, found}}
+use Rattle.laws_plain_rings.proofs.{Held.held_written, Parts.{read_part, written_part}, QueueSteps.tie_written, Queues.of_each, Quiet.{quiet_step, quietly_accessed}}
 
 -- a part of one piece
 read_one : (p : Piece) (place count : ℕ) (m : Memory) → place + count ≤ p.len

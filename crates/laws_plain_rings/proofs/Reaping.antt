@@ -1,19 +1,16 @@
 -- A page is reaped, or none.
-use Rattle.std.proofs.Common.{◌≡◌, ℕ, ◌+◌, ◌*◌, ◌%◌, ◌^◌, ◌<◌, Bool, true, false, cond, List, [], ◌∷◌, ◌++◌, length, Option, None, Some}
-use Rattle.std.proofs.{Common.refl, Common.sym, Common.ap, Common.◌∙◌, Common.subst, Common.arith, lemmas.Bool.Decides.nat_tests}
-use Rattle.std.specs.Prelude.{◌-◌, ◌≤◌, ◌==◌, ◌||◌, min, nat_le, nat_lt, set, slice_index_or}
+use Rattle.std.proofs.Common.{◌≡◌, ℕ, ◌+◌, ◌*◌, ◌%◌, ◌^◌, ◌<◌, Bool, true, false, cond, List, [], ◌∷◌, ◌++◌, length, Option, None, Some, refl, sym, ap, ◌∙◌, subst, arith}
+use Rattle.std.{proofs.lemmas.Bool.Decides.nat_tests, specs.Prelude.{◌-◌, ◌≤◌, ◌==◌, ◌||◌, min, nat_le, nat_lt, set, slice_index_or}}
 use Rattle.vs_guest_mem.specs.Memory.{Memory, bytes_at}
 use Rattle.vs_layout.specs.{Entry.used_elem_of, Layout.used_elem, declared.entry.UsedElem.UsedElem}
-use Rattle.vs_ring_port.specs.Lists.{Lists, all_but_oldest, next_back, oldest, queue_of, with_queue}
-use Rattle.vs_ring_port.specs.declared.queue.Queue.TheVariants.{Rx, Tx, Event}
-use Rattle.vs_ring_port.specs.{DriverCalls.Reap, EndLog.entries_reaped, EndLog.pages_at, declared.queue.Queue.Queue}
+use Rattle.vs_ring_port.specs.{Lists.{Lists, all_but_oldest, next_back, oldest, queue_of, with_queue}, declared.queue.Queue.{TheVariants.{Rx, Tx, Event}, Queue}, DriverCalls.Reap}
+use Rattle.vs_ring_port.specs.EndLog.{entries_reaped, pages_at}
 use Rattle.vs_ring_list.{specs.Ends.Ends, proofs.Ties.tied-reap}
 use Rattle.vs_ring_plain.specs.{Chain.ahead, Device.turns_at}
 use Rattle.vs_plain_driver.specs.Queue.{DriverQueueState, flight_in, next_elem, numbered, page_back, reaped_page, reaped_queue, used_ahead}
-use Rattle.laws_plain_rings.specs.{Parts.{PartsState, driver_at, reaped_parts, used_in, with_driver}, Tie.{AreTied, areas_of, heads_of}}
-use Rattle.laws_plain_rings.specs.{Tie.{shown_of, start_of}, Calls.after_driver, Queue.{HasPage, IsBack, IsQueueTied}, Shown.Shown}
-use Rattle.laws_plain_rings.proofs.{QueueReturns.{id_has, row, tie_reaped}, Assemble.{ends_form, step, parts_form, driver_form_is}}
-use Rattle.laws_plain_rings.proofs.{QueueSteps.{out_count, back_count}, Taking.chosen, Spots.{quietly_wrote, quietly_now}}
+use Rattle.laws_plain_rings.specs.{Parts.{PartsState, driver_at, reaped_parts, used_in, with_driver}, Tie.{AreTied, areas_of, heads_of, shown_of, start_of}, Calls.after_driver}
+use Rattle.laws_plain_rings.{specs.{Queue.{HasPage, IsBack, IsQueueTied}, Shown.Shown}, proofs.{QueueReturns.{id_has, row, tie_reaped}, Assemble.{ends_form, step, parts_form}}}
+use Rattle.laws_plain_rings.proofs.{Assemble.driver_form_is, QueueSteps.{out_count, back_count}, Taking.chosen, Spots.{quietly_wrote, quietly_now}}
 
 first_of : {A : Type 0} (b : Bool) (x y : A) → b ≡ true → cond b x y ≡ x
 first_of b x y on = rw on refl

@@ -1,12 +1,11 @@
 -- The guest's CID is published.
 use Rattle.std.proofs.Common.{◌≡◌, ℕ, ◌+◌, ◌*◌, refl, sym, ap, ◌∙◌, Some, arith}
 use Rattle.vs_guest_mem.specs.Memory.{bytes_at}
-use Rattle.vs_ring_port.specs.{Contents.PublishCid, declared.queue.Queue.Queue, declared.queue.Queue.TheVariants.{Rx, Tx, Event}}
+use Rattle.vs_ring_port.specs.{Contents.PublishCid, declared.queue.Queue.{Queue, TheVariants.{Rx, Tx, Event}}}
 use Rattle.vs_ring_list.specs.Ends.{Ends}
 use Rattle.vs_plain_driver.specs.Queue.{DriverQueueState}
-use Rattle.laws_plain_rings.specs.{Calls.after_device, Parts.PartsState, Parts.driver_at, Tie.AreTied, Tie.IsTiedAt, Tie.areas_of}
-use Rattle.laws_plain_rings.specs.Tie.{shown_of, start_in, start_of}
-use Rattle.laws_plain_rings.proofs.{Spots.laid_same, Held.held_moved}
+use Rattle.laws_plain_rings.{specs.{Calls.after_device, Parts.{PartsState, driver_at}, Tie.{AreTied, IsTiedAt, areas_of, shown_of, start_in, start_of}}, proofs.Spots.laid_same}
+use Rattle.laws_plain_rings.proofs.Held.{held_moved}
 
 module _ (p : PartsState) (w : Ends) (tied : AreTied p w) (cid : ℕ) where
   abbrev new : PartsState

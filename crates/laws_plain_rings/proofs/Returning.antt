@@ -1,24 +1,20 @@
 -- A chain that is held is returned; the pages given are counted; the guest's CID is published.
-use Rattle.std.proofs.Common.{◌≡◌, ℕ, ◌+◌, ◌-◌, ◌*◌, ◌%◌, ◌^◌, ◌<◌, ◌≤◌, List, [], ◌∷◌, ◌++◌, length, take, drop, Contains, refl, sym, ap}
-use Rattle.std.proofs.Common.{◌∙◌, subst, arith, length-take-le}
-use Rattle.std.{specs.Prelude.min, proofs.lemmas.List.take-take, proofs.lemmas.Nat.mod_below}
+use Rattle.std.proofs.Common.{◌≡◌, ℕ, ◌+◌, ◌-◌, ◌*◌, ◌%◌, ◌^◌, ◌<◌, ◌≤◌, List, [], ◌∷◌, ◌++◌, length, take, drop, Contains, refl, sym, ap, ◌∙◌, subst, arith, length-take-le}
+use Rattle.std.{proofs.lemmas.{List.take-take, Nat.mod_below}, specs.Prelude.min}
 use Rattle.byteorder.specs.Endian.{little_bytes, little_number}
 use Rattle.vs_guest_mem.specs.Memory.{Memory, after_access, after_write, bytes_at}
 use Rattle.vs_header.proofs.RoundTrip.{little_number-little_bytes}
-use Rattle.vs_layout.specs.{Entry.used_elem_bytes, Entry.used_elem_of, declared.entry.UsedElem.UsedElem}
+use Rattle.vs_layout.specs.{Entry.{used_elem_bytes, used_elem_of}, declared.entry.UsedElem.UsedElem}
 use Rattle.vs_page.specs.{Fair.IsFairLog, Log.Device}
-use Rattle.vs_ring_port.specs.{Chains.{bytes_in, held_of, without_held}, Contents.{Given, Return}, EndLog.{entries_returned, pages_at}}
-use Rattle.vs_ring_port.specs.{Lists.{Lists, queue_of, after_return}, declared.device_ring.Chain.Chain, declared.queue.Queue.Queue}
+use Rattle.vs_ring_port.specs.{Chains.{bytes_in, held_of, without_held}, Contents.{Given, Return}, EndLog.{entries_returned, pages_at}, Lists.{Lists, queue_of, after_return}}
+use Rattle.vs_ring_port.specs.declared.{device_ring.Chain.Chain, queue.Queue.Queue}
 use Rattle.vs_ring_list.{specs.Ends.Ends, proofs.Ties.tied-return}
-use Rattle.vs_ring_plain.specs.Device.{DeviceState, HeldChain, answer_to, chains_held, head_of, hold_of, turns_at, without_hold, with_turns}
-use Rattle.vs_ring_plain.specs.{Chain.ahead, declared.turns.Turns.Turns}
-use Rattle.laws_plain_rings.proofs.Spots.{Elem, UsedIdx, Wrote, wrote, wrote_then, read_back, quietly_wrote, quietly_now, quietly_after}
-use Rattle.laws_plain_rings.proofs.Held.{fewer_heads, heads_beside, heads_without, held_count, held_without}
-use Rattle.laws_plain_rings.proofs.Assemble.{step, held_after, parts_form, ends_form, device_form_is}
-use Rattle.laws_plain_rings.proofs.{Encoded.elem_back, QueueReturns.tie_returned, QueueSteps.out_count, Quiet.quiet_step, Quiet.seen}
-use Rattle.laws_plain_rings.proofs.{Reading.below, Reading.bytes_there, Reading.f, Spots.IsQuietly}
-use Rattle.laws_plain_rings.specs.Tie.{AreHeldAs, AreTied, areas_of, shown_of, start_of}
-use Rattle.laws_plain_rings.specs.{Calls.after_device, Parts.PartsState, Parts.driver_at, Shown.Shown, Shown.shown}
+use Rattle.vs_ring_plain.specs.{Device.{DeviceState, HeldChain, answer_to, chains_held, head_of, hold_of, turns_at, without_hold, with_turns}, Chain.ahead}
+use Rattle.vs_ring_plain.specs.declared.turns.Turns.{Turns}
+use Rattle.laws_plain_rings.proofs.{Spots.{Elem, UsedIdx, Wrote, wrote, wrote_then, read_back, quietly_wrote, quietly_now, quietly_after, IsQuietly}, Held.fewer_heads}
+use Rattle.laws_plain_rings.proofs.{Held.{heads_beside, heads_without, held_count, held_without}, Assemble.{step, held_after, parts_form, ends_form, device_form_is}}
+use Rattle.laws_plain_rings.proofs.{Encoded.elem_back, QueueReturns.tie_returned, QueueSteps.out_count, Quiet.{quiet_step, seen}, Reading.{below, bytes_there, f}}
+use Rattle.laws_plain_rings.specs.{Tie.{AreHeldAs, AreTied, areas_of, shown_of, start_of}, Calls.after_device, Parts.{PartsState, driver_at}, Shown.{Shown, shown}}
 
 module _ (p : PartsState) (w : Ends) (tied : AreTied p w) where
   abbrev d : DeviceState

@@ -1,8 +1,7 @@
 -- Pages one after another in the available ring, and in the used ring.
 use Rattle.std.proofs.Common.{◌≡◌, ℕ, ◌+◌, ◌%◌, ◌<◌, ◌≤◌, List, [], ◌∷◌, ◌++◌, length, refl, ◌∙◌, subst, arith}
 use Rattle.vs_ring_port.specs.declared.queue.Queue.{Queue}
-use Rattle.laws_plain_rings.specs.{Queue.AreBack, Queue.AreOut, Queue.IsBack, Queue.IsOut, Queue.times, Shown.Shown}
-use Rattle.laws_plain_rings.proofs.{Counting.here, Counting.there, Modulo.further}
+use Rattle.laws_plain_rings.{specs.{Queue.{AreBack, AreOut, IsBack, IsOut, times}, Shown.Shown}, proofs.{Counting.{here, there}, Modulo.further}}
 
 -- a descriptor and its page are what they were
 pub record IsSameAt (s new : Shown) (id : ℕ) : Type 0 where

@@ -1,14 +1,12 @@
 -- The pieces of a queue's memory that are written as a whole, and what a write into one of them leaves alone.
-use Rattle.std.proofs.Common.{◌≡◌, ◌⊎◌, ℕ, ◌+◌, ◌*◌, ◌<◌, ◌≤◌, false, List, [], ◌∷◌, ◌++◌, length, refl, ap, ap₂, ◌∙◌, arith}
-use Rattle.std.{proofs.lemmas.Grind.common_steps, specs.Prelude.⊤}
+use Rattle.std.{proofs.{Common.{◌≡◌, ◌⊎◌, ℕ, ◌+◌, ◌*◌, ◌<◌, ◌≤◌, false, List, [], ◌∷◌, ◌++◌, length, refl, ap, ap₂, ◌∙◌, arith}, lemmas.Grind.common_steps}, specs.Prelude.⊤}
 use Rattle.byteorder.specs.Endian.{little_number}
 use Rattle.vs_guest_mem.specs.Memory.{Memory, after_access, after_write, bytes_at}
-use Rattle.vs_layout.specs.{Entry.desc_of, Entry.used_elem_of, declared.place.Areas.Areas}
+use Rattle.vs_layout.specs.{Entry.{desc_of, used_elem_of}, declared.place.Areas.Areas}
 use Rattle.vs_ring_plain.proofs.Still.{quiet, still_after, still_bytes}
 use Rattle.vs_ring_port.specs.{Chains.same_queue, declared.queue.Queue.Queue}
-use Rattle.laws_plain_rings.specs.Tie.{IsAreaLaid, IsLaid}
-use Rattle.laws_plain_rings.specs.Shown.{AvailEvent, AvailFlags, Shown, UsedEvent, UsedFlags, Word, shown, word_in}
-use Rattle.laws_plain_rings.proofs.Frames.{kept, length_written, written}
+use Rattle.laws_plain_rings.{specs.{Tie.{IsAreaLaid, IsLaid}, Shown.{AvailEvent, AvailFlags, Shown, UsedEvent, UsedFlags, Word, shown, word_in}}, proofs.Frames.kept}
+use Rattle.laws_plain_rings.proofs.Frames.{length_written, written}
 
 pub data Spot : Type 0 where
   Describing : ℕ → Spot

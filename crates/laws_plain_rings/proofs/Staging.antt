@@ -1,22 +1,17 @@
 -- A page is staged: what is written, and both ends after it.
-use Rattle.std.proofs.Common.{◌≡◌, ℕ, ◌+◌, ◌*◌, ◌%◌, ◌<◌, ◌≤◌, List, [], ◌∷◌, ◌++◌, length, Option, Some, refl, sym, ap, ap₂, ◌∙◌, subst}
-use Rattle.std.proofs.{Common.{arith, ◌^◌}, lemmas.Nat.mod_below}
+use Rattle.std.proofs.{Common.{◌≡◌, ℕ, ◌+◌, ◌*◌, ◌%◌, ◌<◌, ◌≤◌, List, [], ◌∷◌, ◌++◌, length, Option, Some, refl, sym, ap, ap₂, ◌∙◌, subst, arith, ◌^◌}, lemmas.Nat.mod_below}
 use Rattle.std.specs.Prelude.{drop, set, slice_index_or}
 use Rattle.byteorder.specs.Endian.{little_bytes, little_number}
 use Rattle.vs_guest_mem.specs.Memory.{Memory, after_write}
 use Rattle.vs_header.proofs.RoundTrip.{little_number-little_bytes}
-use Rattle.vs_layout.specs.{Entry.desc_bytes, Entry.desc_of, Layout.avail_entry, Layout.desc_entry, declared.entry.Desc.Desc}
-use Rattle.vs_layout.specs.declared.place.Areas.{Areas}
-use Rattle.vs_ring_port.specs.{DriverCalls.HoldsPacket, DriverCalls.Stage, EndLog.pages_at, Lists.Rings, Lists.queue_of, Lists.with_queue}
-use Rattle.vs_ring_port.specs.declared.queue.Queue.{Queue, TheVariants.Rx, TheVariants.Tx, TheVariants.Event}
+use Rattle.vs_layout.specs.{Entry.{desc_bytes, desc_of}, Layout.{avail_entry, desc_entry}, declared.{entry.Desc.Desc, place.Areas.Areas}}
+use Rattle.vs_ring_port.specs.{DriverCalls.{HoldsPacket, Stage}, EndLog.pages_at, Lists.{Rings, queue_of, with_queue}, declared.queue.Queue.{Queue, TheVariants.{Rx, Tx, Event}}}
 use Rattle.vs_ring_list.specs.{Ends.Ends, Sound.IsTied}
 use Rattle.vs_ring_plain.specs.Device.{turns_at}
 use Rattle.vs_plain_driver.specs.Queue.{DriverQueueState, desc_for, page_at, staged_memory, staged_queue, with_page}
-use Rattle.laws_plain_rings.specs.{Calls.after_driver, Shown.shown, Parts.PartsState, Parts.driver_at, Parts.staged_parts}
-use Rattle.laws_plain_rings.specs.{Parts.with_driver, Parts.with_parts_memory, Tie.AreTied, Tie.IsLaid, Tie.areas_of, Tie.start_of}
-use Rattle.laws_plain_rings.proofs.Assemble.{driver_form_is, ends_form, step, held_after, parts_form}
-use Rattle.laws_plain_rings.proofs.{Encoded.desc_back, QueueSteps.id_below, QueueSteps.not_id, QueueSteps.tie_staged, Spots.Describing}
-use Rattle.laws_plain_rings.proofs.Spots.{Entry, PageOf, Wrote, wrote, wrote_then, read_back}
+use Rattle.laws_plain_rings.specs.{Calls.after_driver, Shown.shown, Parts.{PartsState, driver_at, staged_parts, with_driver, with_parts_memory}, Tie.{AreTied, IsLaid, areas_of}}
+use Rattle.laws_plain_rings.{specs.Tie.start_of, proofs.{Assemble.{driver_form_is, ends_form, step, held_after, parts_form}, Encoded.desc_back, QueueSteps.{id_below, not_id}}}
+use Rattle.laws_plain_rings.proofs.{QueueSteps.tie_staged, Spots.{Describing, Entry, PageOf, Wrote, wrote, wrote_then, read_back}}
 
 -- the bytes, the descriptor and the entry are written
 module _ (n : ℕ) (areas : Queue → Areas) (at : Queue → ℕ) (m : Memory) (laid : IsLaid n areas at m) (still : m.changes ≡ [])

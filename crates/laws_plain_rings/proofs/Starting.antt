@@ -1,21 +1,19 @@
 -- Both ends before the first call.
-use Rattle.std.proofs.Common.{◌⊎◌, ◌≡◌, ℕ, zero, suc, ◌+◌, ◌-◌, ◌*◌, ◌%◌, ◌^◌, ◌<◌, ◌≤◌, Bool, true, false, cond, List, [], ◌∷◌, length}
-use Rattle.std.proofs.{Common.{Option, None, Some, refl, sym, ap, ◌∙◌, subst, arith}, lemmas.Bool.Decides.nat_tests}
-use Rattle.std.proofs.lemmas.{List.length-replicate, List.nil_from_length, Grind.common_steps, List.FromFn.length-range_with_len}
-use Rattle.std.specs.{List.range_with_len, Prelude.◌==◌, Prelude.◌&&◌, Prelude.is_some, Prelude.nat_le}
+use Rattle.std.proofs.Common.{◌⊎◌, ◌≡◌, ℕ, zero, suc, ◌+◌, ◌-◌, ◌*◌, ◌%◌, ◌^◌, ◌<◌, ◌≤◌, Bool, true, false, cond, List, [], ◌∷◌, length, Option, None, Some, refl, sym, ap, ◌∙◌}
+use Rattle.std.proofs.{Common.{subst, arith}, lemmas.{Bool.Decides.nat_tests, List.{length-replicate, nil_from_length, FromFn.length-range_with_len}, Grind.common_steps}}
+use Rattle.std.specs.{List.range_with_len, Prelude.{◌==◌, ◌&&◌, is_some, nat_le}}
 use Rattle.byteorder.specs.Endian.{little_number}
 use Rattle.vs_guest_mem.specs.Memory.{Memory, after_write, bytes_at}
-use Rattle.vs_layout.specs.{Layout.queue_areas_of, declared.place.Areas.Areas, declared.placement.QueueAreas.QueueAreas}
+use Rattle.vs_layout.specs.{Layout.queue_areas_of, declared.{place.Areas.Areas, placement.QueueAreas.QueueAreas}}
 use Rattle.vs_limits.specs.declared.TheConstants.{FIRST_CID}
-use Rattle.vs_ring_port.specs.{Chains.same_queue, declared.queue.Queue.Queue, declared.queue.Queue.TheVariants.{Rx, Tx, Event}}
+use Rattle.vs_ring_port.specs.{Chains.same_queue, declared.queue.Queue.{Queue, TheVariants.{Rx, Tx, Event}}}
 use Rattle.vs_ring_list.specs.Ends.{empty_ends}
 use Rattle.vs_ring_plain.specs.Device.{areas_at, cleared_used, new_device}
 use Rattle.vs_plain_driver.specs.Queue.{cleared_avail}
-use Rattle.laws_plain_rings.specs.{Parts.{PartsState, driver_at, new_parts, new_queue, pages_start, cleared}, Queue.{IsQueueTied, times}}
-use Rattle.laws_plain_rings.specs.{Shown.{AvailEvent, AvailFlags, Shown, UsedEvent, UsedFlags, Word, shown}, Tie.{AreTied, IsAreaLaid}}
-use Rattle.laws_plain_rings.specs.{Tie.{IsLaid, IsTiedAt, IsTiedTo, start_of}, Exposed.first_ends}
-use Rattle.laws_plain_rings.proofs.{Modulo.mod_small, Spots.{AvailIdx, Differs, DiffersAll, IsSpot, Spot, Untouched, UsedIdx, WordOf}}
-use Rattle.laws_plain_rings.proofs.{Spots.{laid_same, own, spot_at, spot_len, Wrote, wrote, wrote_then, read_back}, Queues.of_each}
+use Rattle.laws_plain_rings.specs.{Parts.{PartsState, driver_at, new_parts, new_queue, pages_start, cleared}, Queue.{IsQueueTied, times}, Shown.{AvailEvent, AvailFlags, Shown}}
+use Rattle.laws_plain_rings.specs.{Shown.{UsedEvent, UsedFlags, Word, shown}, Tie.{AreTied, IsAreaLaid, IsLaid, IsTiedAt, IsTiedTo, start_of}, Exposed.first_ends}
+use Rattle.laws_plain_rings.proofs.{Modulo.mod_small, Spots.{AvailIdx, Differs, DiffersAll, IsSpot, Spot, Untouched, UsedIdx, WordOf, laid_same, own, spot_at, spot_len, Wrote}}
+use Rattle.laws_plain_rings.proofs.{Spots.{wrote, wrote_then, read_back}, Queues.of_each}
 
 -- the numbers below n, each once
 no_less : (j a k : ℕ) → j < a → times j (range_with_len a k) ≡ 0

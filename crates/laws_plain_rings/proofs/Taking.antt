@@ -1,25 +1,20 @@
 -- The next chain is taken, or none.
-use Rattle.std.proofs.Common.{◌≡◌, ℕ, ◌+◌, ◌*◌, ◌%◌, ◌^◌, ◌<◌, ◌≤◌, Bool, true, false, cond, ◌||◌, List, [], ◌∷◌, length, refl, sym, ap}
-use Rattle.std.proofs.Common.{Some, ap₂, ◌∙◌, subst, arith}
-use Rattle.std.{proofs.lemmas.Bool.Decides.nat_tests, proofs.lemmas.Grind.common_steps, specs.Prelude.nat_le, specs.Prelude.nat_lt}
+use Rattle.std.proofs.Common.{◌≡◌, ℕ, ◌+◌, ◌*◌, ◌%◌, ◌^◌, ◌<◌, ◌≤◌, Bool, true, false, cond, ◌||◌, List, [], ◌∷◌, length, refl, sym, ap, Some, ap₂, ◌∙◌, subst, arith}
+use Rattle.std.{proofs.lemmas.{Bool.Decides.nat_tests, Grind.common_steps}, specs.Prelude.{nat_le, nat_lt}}
 use Rattle.vs_guest_mem.specs.Memory.{Memory, after_access, is_within}
 use Rattle.vs_layout.specs.declared.entry.Desc.{Desc}
-use Rattle.vs_ring_port.specs.{EndLog.{entries_taken, pages_at}, Lists.{Lists, chain_with, next_at, next_given, queue_of, to_read}}
-use Rattle.vs_ring_port.specs.{Lists.with_queue, declared.queue.Queue.TheVariants.{Rx, Tx, Event}, Chains.{Held, same_queue}, Contents.Take}
-use Rattle.vs_ring_port.specs.{DeviceCalls.IsTakenWhole, DriverCalls.HoldsPacket, declared.device_ring.Chain.Chain}
-use Rattle.vs_ring_port.specs.{declared.device_ring.Next.Next, declared.queue.Queue.Queue}
+use Rattle.vs_ring_port.specs.{EndLog.{entries_taken, pages_at}, Lists.{Lists, chain_with, next_at, next_given, queue_of, to_read, with_queue}, declared.queue.Queue.TheVariants.Rx}
+use Rattle.vs_ring_port.specs.{declared.{queue.Queue.{TheVariants.{Tx, Event}, Queue}, device_ring.{Chain.Chain, Next.Next}}, Chains.{Held, same_queue}, Contents.Take}
+use Rattle.vs_ring_port.specs.{DeviceCalls.IsTakenWhole, DriverCalls.HoldsPacket}
 use Rattle.vs_ring_list.{specs.Ends.Ends, proofs.Ties.tied-take}
-use Rattle.vs_ring_plain.specs.Device.{DeviceState, HeldChain, answer_found, answer_taken, answer_to, chain_at, is_busy, ring_at, turns_at}
-use Rattle.vs_ring_plain.specs.{Still.IsGiven, declared.piece.Piece.Piece, declared.turns.Turns.Turns, Chain.Taken, Chain.ahead, Chain.has}
-use Rattle.vs_ring_plain.specs.{Chain.piece_of, Chain.too_small, Chain.total_len, Chain.wrong_way, Device.with_memory, Device.with_turns}
+use Rattle.vs_ring_plain.specs.Device.{DeviceState, HeldChain, answer_found, answer_taken, answer_to, chain_at, is_busy, ring_at, turns_at, with_memory, with_turns}
+use Rattle.vs_ring_plain.specs.{Still.IsGiven, declared.{piece.Piece.Piece, turns.Turns.Turns}, Chain.{Taken, ahead, has, piece_of, too_small, total_len, wrong_way}}
 use Rattle.vs_ring_plain.proofs.Still.{none_still, taken_still}
 use Rattle.vs_plain_driver.specs.Queue.{desc_for}
-use Rattle.laws_plain_rings.proofs.Assemble.{step, held_after, parts_form, ends_form, device_form_is}
-use Rattle.laws_plain_rings.proofs.{QueueReturns.given_row, QueueReturns.id_held, QueueReturns.tie_taken, QueueSteps.out_count}
-use Rattle.laws_plain_rings.proofs.{QueueSteps.tie_same, Queues.turned, Held.all_whole, Held.count_heads, Held.heads_here, Quiet.quiet_step}
-use Rattle.laws_plain_rings.proofs.{Quiet.seen, Spots.Wrote, Spots.quietly_wrote, Spots.quietly_now, Spots.quietly_after, Spots.IsQuietly}
-use Rattle.laws_plain_rings.specs.{Calls.after_device, Parts.PartsState, Parts.driver_at, Queue.IsOut, Queue.IsQueueTied, Shown.Shown}
-use Rattle.laws_plain_rings.specs.{Shown.shown, Tie.AreTied, Tie.IsHeldAs, Tie.areas_of, Tie.heads_of, Tie.shown_of, Tie.start_of}
+use Rattle.laws_plain_rings.proofs.{Assemble.{step, held_after, parts_form, ends_form, device_form_is}, QueueReturns.{given_row, id_held, tie_taken}, QueueSteps.out_count}
+use Rattle.laws_plain_rings.proofs.{QueueSteps.tie_same, Queues.turned, Held.{all_whole, count_heads, heads_here}, Quiet.{quiet_step, seen}, Spots.{Wrote, quietly_wrote}}
+use Rattle.laws_plain_rings.{proofs.Spots.{quietly_now, quietly_after, IsQuietly}, specs.{Calls.after_device, Parts.{PartsState, driver_at}, Queue.{IsOut, IsQueueTied}}}
+use Rattle.laws_plain_rings.specs.{Shown.{Shown, shown}, Tie.{AreTied, IsHeldAs, areas_of, heads_of, shown_of, start_of}}
 use Rattle.vs_ring_port.specs.declared.device_ring.Next.TheVariants as next
 
 pub chosen : {A : Type 0} (b : Bool) (x y : A) → b ≡ false → cond b x y ≡ y

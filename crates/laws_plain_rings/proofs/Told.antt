@@ -1,20 +1,17 @@
 -- Each call keeps the ends tied, where they are known; and it is one that the ports allow.
-use Rattle.std.proofs.Common.{◌≡◌, ℕ, ◌+◌, ◌<◌, ◌≤◌, List, [], ◌∷◌, length, Option, None, Some, Contains, refl, sym, ap, ◌∙◌, subst, arith}
-use Rattle.std.{proofs.lemmas.Bool.false≢true, specs.Option.ForSome, specs.Prelude.option_map}
-use Rattle.vs_page.specs.{Fair.IsFairLog, Log.Device, Log.Driver, Log.Role}
-use Rattle.vs_ring_port.specs.DriverCalls.{CanPublish, CanStage, DriverAllows, DriverAnswer, DriverCall, DriverMoves, LoadCid, Publish}
-use Rattle.vs_ring_port.specs.{DriverCalls.{Reap, Stage}, Contents.{DeviceAnswer, DeviceCall, Given, PublishCid, Read, Return, Take, Write}}
-use Rattle.vs_ring_port.specs.{DeviceCalls.{CanReturn, DeviceAllows, DeviceMoves, IsTakenAs, IsWholePacket, LeavesNoGap}, EndLog.EndLog}
-use Rattle.vs_ring_port.specs.{EndLog.{entries_published, entries_returned, pages_at}, Lists.{Rings, next_at, next_back, next_given}}
-use Rattle.vs_ring_port.specs.{Lists.queue_of, declared.queue.Queue.TheVariants.{Rx, Tx, Event}, declared.device_ring.Chain.Chain}
-use Rattle.vs_ring_port.specs.{declared.device_ring.Next.Next, declared.queue.Queue.Queue, Chains.{bytes_in, held_of}}
+use Rattle.std.proofs.{Common.{◌≡◌, ℕ, ◌+◌, ◌<◌, ◌≤◌, List, [], ◌∷◌, length, Option, None, Some, Contains, refl, sym, ap, ◌∙◌, subst, arith}, lemmas.Bool.false≢true}
+use Rattle.std.specs.{Option.ForSome, Prelude.option_map}
+use Rattle.vs_page.specs.{Fair.IsFairLog, Log.{Device, Driver, Role}}
+use Rattle.vs_ring_port.specs.{DriverCalls.{CanPublish, CanStage, DriverAllows, DriverAnswer, DriverCall, DriverMoves, LoadCid, Publish, Reap, Stage}, Contents.DeviceAnswer}
+use Rattle.vs_ring_port.specs.{Contents.{DeviceCall, Given, PublishCid, Read, Return, Take, Write}, DeviceCalls.{CanReturn, DeviceAllows, DeviceMoves, IsTakenAs, IsWholePacket}}
+use Rattle.vs_ring_port.specs.{DeviceCalls.LeavesNoGap, EndLog.{EndLog, entries_published, entries_returned, pages_at}, Lists.{Rings, next_at, next_back, next_given, queue_of}}
+use Rattle.vs_ring_port.specs.{declared.{queue.Queue.{TheVariants.{Rx, Tx, Event}, Queue}, device_ring.{Chain.Chain, Next.Next}}, Chains.{bytes_in, held_of}}
 use Rattle.vs_ring_list.{specs.Ends.Ends, proofs.Ties.fair-return_event}
 use Rattle.vs_ring_plain.specs.Device.{DeviceState, answer_to, chains_held, plain_state}
 use Rattle.vs_plain_driver.specs.Queue.{flight_in, reaped_page}
-use Rattle.laws_plain_rings.specs.{Parts.{PartsState, driver_at, published_parts, reaped_parts, staged_parts, used_in}, Tie.AreTied}
-use Rattle.laws_plain_rings.specs.{Tie.{IsTiedTo, areas_of}, Calls.{after_device, after_driver}, Exposed.{device_told, driver_told}}
-use Rattle.laws_plain_rings.proofs.{Publishing.tied_loaded, Publishing.tied_published, Reaping.reaps, Reading.reads, Reading.tied_written}
-use Rattle.laws_plain_rings.proofs.{Resetting.tied_reset, Returning.counts, Returning.tied_returned, Staging.tied_staged, Taking.takes}
+use Rattle.laws_plain_rings.specs.{Parts.{PartsState, driver_at, published_parts, reaped_parts, staged_parts, used_in}, Tie.{AreTied, IsTiedTo, areas_of}, Calls.after_device}
+use Rattle.laws_plain_rings.{specs.{Calls.after_driver, Exposed.{device_told, driver_told}}, proofs.{Publishing.{tied_loaded, tied_published}, Reaping.reaps, Reading.reads}}
+use Rattle.laws_plain_rings.proofs.{Reading.tied_written, Resetting.tied_reset, Returning.{counts, tied_returned}, Staging.tied_staged, Taking.takes}
 
 abbrev pub drives : (ends : Option Ends) → (Ends → Ends) → Option Ends
 drives ends f = option_map f ends

@@ -1,14 +1,12 @@
 -- Both ends of standard rings as a plain value, and what each call makes of it.
-use Rattle.std.specs.Prelude.{ℕ, ◌+◌, ◌-◌, ◌*◌, ◌%◌, Bool, nat_le, List, length, replicate, Option, None, Some, if◌then◌else◌}
-use Rattle.std.specs.List.{range_with_len}
+use Rattle.std.specs.{Prelude.{ℕ, ◌+◌, ◌-◌, ◌*◌, ◌%◌, Bool, nat_le, List, length, replicate, Option, None, Some, if◌then◌else◌}, List.range_with_len}
 use Rattle.vs_guest_mem.specs.Memory.{Memory}
 use Rattle.vs_layout.specs.{Layout.queue_areas_of, declared.placement.QueueAreas.QueueAreas}
 use Rattle.vs_limits.specs.declared.TheConstants.{FIRST_CID}
 use Rattle.vs_page.specs.declared.page.TheConstants.{PAGE_LEN}
-use Rattle.vs_ring_port.specs.{Counts.Counts, declared.queue.Queue.Queue, declared.queue.Queue.TheVariants.{Rx, Tx, Event}}
+use Rattle.vs_ring_port.specs.{Counts.Counts, declared.queue.Queue.{Queue, TheVariants.{Rx, Tx, Event}}}
 use Rattle.vs_ring_plain.specs.Device.{DeviceState, areas_at, cleared_used, new_device, with_memory}
-use Rattle.vs_plain_driver.specs.Queue.{DriverQueueState, cleared_avail, flight_in, next_used, published_memory, published_queue}
-use Rattle.vs_plain_driver.specs.Queue.{reaped_queue, staged_memory, staged_queue}
+use Rattle.vs_plain_driver.specs.Queue.{DriverQueueState, cleared_avail, flight_in, next_used, published_memory, published_queue, reaped_queue, staged_memory, staged_queue}
 
 -- The device's end with the memory, the driver's end of each queue, and the guest's CID.
 pub record PartsState : Type 0 where

@@ -2,9 +2,8 @@
 use Rattle.std.specs.Prelude.{ℕ, ◌+◌, ◌*◌, List}
 use Rattle.byteorder.specs.Endian.{little_number}
 use Rattle.vs_guest_mem.specs.Memory.{Memory, bytes_at}
-use Rattle.vs_layout.specs.{Entry.{desc_of, used_elem_of}, Layout.{avail_entry, avail_event, avail_flags, avail_idx, desc_entry, used_elem}}
-use Rattle.vs_layout.specs.{Layout.{used_event, used_flags, used_idx}, declared.{entry.Desc.Desc, entry.TheConstants.DESC_LEN}}
-use Rattle.vs_layout.specs.{declared.{entry.UsedElem.UsedElem, place.Areas.Areas}, declared.span.Span.Span}
+use Rattle.vs_layout.specs.{Entry.{desc_of, used_elem_of}, Layout.{avail_entry, avail_event, avail_flags, avail_idx, desc_entry, used_elem, used_event, used_flags, used_idx}}
+use Rattle.vs_layout.specs.declared.{entry.{Desc.Desc, TheConstants.DESC_LEN, UsedElem.UsedElem}, place.Areas.Areas, span.Span.Span}
 use Rattle.vs_page.specs.declared.page.TheConstants.{PAGE_LEN}
 
 -- The words by which an end says of what it wants to be told: flags and used_event are the driver's, in the available ring, the other two

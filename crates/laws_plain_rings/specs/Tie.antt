@@ -1,14 +1,12 @@
 -- How the memory of standard rings holds the lists of pages in flight.
-use Rattle.std.specs.Prelude.{◌≡◌, ◌⊎◌, ℕ, ◌+◌, ◌*◌, ◌%◌, ◌^◌, ◌<◌, ◌≤◌, false, List, [], ◌∷◌, length, Option, None, Some, IfSome}
-use Rattle.std.specs.Prelude.{if◌then◌else◌, ⊤}
+use Rattle.std.specs.Prelude.{◌≡◌, ◌⊎◌, ℕ, ◌+◌, ◌*◌, ◌%◌, ◌^◌, ◌<◌, ◌≤◌, false, List, [], ◌∷◌, length, Option, None, Some, IfSome, if◌then◌else◌, ⊤}
 use Rattle.vs_guest_mem.specs.Memory.{Memory}
 use Rattle.vs_layout.specs.declared.place.Areas.{Areas}
 use Rattle.vs_page.specs.declared.page.TheConstants.{PAGE_LEN}
-use Rattle.vs_ring_port.specs.{Chains.Held, Chains.same_queue, EndLog.pages_at, Lists.queue_of}
-use Rattle.vs_ring_port.specs.declared.queue.{Queue.Queue, TheConstants.QUEUE_SIZE_MAX}
+use Rattle.vs_ring_port.specs.{Chains.{Held, same_queue}, EndLog.pages_at, Lists.queue_of, declared.queue.{Queue.Queue, TheConstants.QUEUE_SIZE_MAX}}
 use Rattle.vs_ring_list.specs.{Ends.Ends, Sound.IsTied}
-use Rattle.vs_ring_plain.specs.{Device.HeldChain, Device.areas_at, Device.turns_at, Still.IsStill}
-use Rattle.laws_plain_rings.specs.{Parts.PartsState, Parts.driver_at, Queue.IsQueueTied, Shown.Shown, Shown.Word, Shown.shown}
+use Rattle.vs_ring_plain.specs.{Device.{HeldChain, areas_at, turns_at}, Still.IsStill}
+use Rattle.laws_plain_rings.specs.{Parts.{PartsState, driver_at}, Queue.IsQueueTied, Shown.{Shown, Word, shown}}
 
 -- The three areas of a queue of n places, one after another.
 pub record IsAreaLaid (n : ℕ) (a : Areas) : Type 0 where

@@ -2,11 +2,10 @@
 ghost use Rattle.std.specs.Prelude.{◌≡◌, [], length, Some, None};
 ghost use Rattle.vs_guest_mem.specs.Memory.{Memory};
 ghost use Rattle.vs_contents.specs.CallTree.{CallTree, Leads, played};
-ghost use Rattle.vs_ring_port.specs.Contents.{DeviceAnswer, DeviceCall, RingContents};
-ghost use Rattle.vs_ring_port.specs.DeviceCalls.{DeviceAllows, device_answer};
-ghost use Rattle.vs_ring_port.specs.DriverCalls.{DriverAllows, DriverAnswer, DriverCall, driver_answer};
+ghost use Rattle.vs_ring_port.specs.{Contents.{DeviceAnswer, DeviceCall, RingContents}, DeviceCalls.{DeviceAllows, device_answer}, DriverCalls.{DriverAllows, DriverAnswer}};
+ghost use Rattle.vs_ring_port.specs.DriverCalls.{DriverCall, driver_answer};
 ghost use Rattle.vs_ring_list.specs.Ends.{Ends, empty_ends};
-ghost use Rattle.laws_plain_rings.specs.{Exposed.first_ends, Parts.pages_start, Seen.ShowsDevice, Seen.ShowsDriver};
+ghost use Rattle.laws_plain_rings.specs.{Exposed.first_ends, Parts.pages_start, Seen.{ShowsDevice, ShowsDriver}};
 
 /// Over a ring that exposes its lists and logs a conversation of either end has one outcome, which the lists and that end's log give:
 /// whichever ring it is. So it has the same one over standard rings as over list rings, and leaves the same lists and logs.

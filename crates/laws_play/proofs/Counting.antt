@@ -1,20 +1,16 @@
 -- What the calls of a play come to in the device's counts.
-use Rattle.std.proofs.Common.{◌≡◌, ℕ, ◌+◌, ◌≤◌, Bool, true, false, cond, List, [], ◌∷◌, length, refl, sym, ap, subst, ◌∙◌, Result, arith}
-use Rattle.std.proofs.Common.{length-append}
+use Rattle.std.proofs.Common.{◌≡◌, ℕ, ◌+◌, ◌≤◌, Bool, true, false, cond, List, [], ◌∷◌, length, refl, sym, ap, subst, ◌∙◌, Result, arith, length-append}
 use Rattle.vs_contents.specs.CallTree.{Ask, Done, played}
 use Rattle.vs_ring_port.specs.declared.failure.Failure.{Failure}
 use Rattle.vs_device_parts.specs.Calls.{DeviceTree}
-use Rattle.laws_proxy.proofs.Growing.{label_grow_counts}
-use Rattle.vs_proxy_parts.specs.{Growing.label_at, State.ProxyState, Turns.proxy_reset_of, Turns.turn_of, declared.answers.Turn.Turn}
-use Rattle.laws_proxy.specs.Account.{Counts.DeviceCounts, Counts.count_made, Counts.counts_of, Counts.counts_shown, Made.Made, Made.made}
-use Rattle.laws_proxy.proofs.Account.{Quiet.counts_reset, Quiet.counts_turn, Walks.Walks}
+use Rattle.laws_proxy.{proofs.{Growing.label_grow_counts, Account.{Quiet.{counts_reset, counts_turn}, Walks.Walks}}, specs.Account.Counts.{DeviceCounts, count_made, counts_of}}
+use Rattle.laws_proxy.specs.Account.{Counts.counts_shown, Made.{Made, made}}
+use Rattle.vs_proxy_parts.specs.{Growing.label_at, State.ProxyState, Turns.{proxy_reset_of, turn_of}, declared.answers.Turn.Turn}
 use Rattle.vs_script.specs.{Outside.Outside, Play.Event, Data.bytes_of}
-use Rattle.laws_world.proofs.Failing.{FailsWithin, reset_fails, turn_fails}
-use Rattle.laws_world.specs.{Answers.Around, Answers.answer_around, World.around}
-use Rattle.vs_play.specs.{Answer.world_after, Lines.PlayWorld, Lines.event_played}
+use Rattle.laws_world.{proofs.Failing.{FailsWithin, reset_fails, turn_fails}, specs.{Answers.{Around, answer_around}, World.around}}
+use Rattle.vs_play.specs.{Answer.world_after, Lines.{PlayWorld, event_played}}
 use Rattle.laws_play.specs.Recorded.{calls_of, fails_in, line_fails, made_in, outside_made, recording}
-use Rattle.vs_outside.specs.HostProgram.{after_host_write, host_write_answer}
-use Rattle.vs_outside.specs.{Host.HostContents, declared.mem_stream.HostWritten.HostWritten}
+use Rattle.vs_outside.specs.{HostProgram.{after_host_write, host_write_answer}, Host.HostContents, declared.mem_stream.HostWritten.HostWritten}
 use Rattle.vs_outside.specs.declared.mem_stream.HostWritten.TheVariants as written
 use Rattle.vs_script.specs.Outside as outside
 use Rattle.vs_script.specs.Play as script

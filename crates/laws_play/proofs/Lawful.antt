@@ -1,36 +1,25 @@
 -- What holds of each play.
-use Rattle.laws_world.proofs.Carried.{wrote_all}
-use Rattle.std.proofs.Common.{◌≡◌, ◌≢◌, ℕ, suc, ◌<◌, ◌≤◌, ◌^◌, ◌==◌, Bool, true, false, cond, List, [], ◌∷◌, ◌++◌, None, Some, Result, Ok}
-use Rattle.std.proofs.Common.{refl, sym, ap, subst, ◌∙◌, map, arith}
-use Rattle.std.proofs.lemmas.{Bool.Decides.nat_tests, List.Elements.All-head, List.Elements.All-tail}
-use Rattle.std.specs.List.{All, Contains}
+use Rattle.laws_world.proofs.{Carried.{wrote_all, sent_all, sent_stays, wrote_stays}, NamesStay.{IsTold, accept_told, connect_told, still_over, still_told}, Names.IsOver}
+use Rattle.laws_world.proofs.{Names.closed_unknown, CallRests.opening_rests, Opening.{opening_well, run_goes}, ResetTables.device_emptied, ScriptLines.{script_leads, script_rests}}
+use Rattle.laws_world.{proofs.Sound.{Goes, IsWell, tx_at_rest}, specs.{Events.is_at_rest, Sides.{both_of, device_ends, driver_ends}, Pipes.IsFresh, Steps.Leads, World.World}}
+use Rattle.laws_world.specs.{World.first_cid, Names.times_closed}
+use Rattle.std.proofs.Common.{◌≡◌, ◌≢◌, ℕ, suc, ◌<◌, ◌≤◌, ◌^◌, ◌==◌, Bool, true, false, cond, List, [], ◌∷◌, ◌++◌, None, Some, Result, Ok, refl, sym, ap, subst, ◌∙◌, map, arith}
+use Rattle.std.{proofs.lemmas.{Bool.Decides.nat_tests, List.Elements.{All-head, All-tail}}, specs.List.{All, Contains}}
 use Rattle.vs_flow.specs.{Connection.first_of, declared.flow.Flow.Flow}
-use Rattle.laws_history.specs.{History.puts, Packets.has, Packets.shuts_send}
-use Rattle.vs_driver_parts.specs.declared.answers.ConnectError.{ConnectError}
-use Rattle.vs_driver_parts.specs.{State.DriverEntry, Connections.flow_of, declared.answers.Accepted.Accepted}
-use Rattle.vs_device_parts.specs.{State.DeviceEntry, State.counters_of, declared.answers.Counters.Counters}
-use Rattle.laws_tables.{specs.Both.Both, specs.Both.at, specs.Later.IsShut, specs.Steps.HasEnd, proofs.Shutting.is_shut, proofs.Slots.one_end}
-use Rattle.vs_outside.specs.{HostBytes.host_wrote, Host.HostContents, HostProgram.new_host, HostProgram.plain}
-use Rattle.laws_tables.specs.Drains.{put_on}
+use Rattle.laws_history.specs.{History.puts, Packets.{has, shuts_send}}
+use Rattle.vs_driver_parts.specs.{declared.answers.{ConnectError.ConnectError, Accepted.Accepted}, State.DriverEntry, Connections.flow_of}
+use Rattle.vs_device_parts.specs.{State.{DeviceEntry, counters_of}, declared.answers.Counters.Counters}
+use Rattle.laws_tables.{specs.{Both.{Both, at}, Later.IsShut, Steps.HasEnd, Drains.put_on}, proofs.{Shutting.is_shut, Slots.one_end}}
+use Rattle.vs_outside.specs.{HostBytes.host_wrote, Host.HostContents, HostProgram.{new_host, plain}}
 use Rattle.vs_page.specs.Log.{Device, Driver, Log, Role, history_of}
-use Rattle.vs_script.{specs.Play.Event, specs.Script.Plays, specs.Script.parse_of, specs.Bounds.AreBounded, proofs.Bounded.all_bounded}
-use Rattle.vs_report.specs.Report.{counts_text, device_open_text, guest_open_text, stream_texts}
-use Rattle.vs_report.specs.GuestLines.{accept_text, connect_text, connection_text}
-use Rattle.laws_proxy.specs.Resets.{IsEmptied}
-use Rattle.laws_world.specs.{Events.is_at_rest, Sides.{both_of, device_ends, driver_ends}}
-use Rattle.laws_world.specs.{Pipes.IsFresh, Steps.Leads, World.{World, first_cid}, Names.times_closed}
-use Rattle.laws_world.proofs.{NamesStay.{IsTold, accept_told, connect_told, still_over, still_told}, Carried.{sent_all, sent_stays}}
-use Rattle.laws_world.proofs.{Carried.wrote_stays, Names.{IsOver, closed_unknown}, CallRests.opening_rests}
-use Rattle.laws_world.proofs.{Opening.{opening_well, run_goes}, ResetTables.device_emptied}
-use Rattle.laws_world.proofs.{ScriptLines.{script_leads, script_rests}, Sound.{Goes, IsWell, tx_at_rest}}
+use Rattle.vs_script.{specs.{Play.Event, Script.{Plays, parse_of}, Bounds.AreBounded}, proofs.Bounded.all_bounded}
+use Rattle.vs_report.specs.{Report.{counts_text, device_open_text, guest_open_text, stream_texts}, GuestLines.{accept_text, connect_text, connection_text}}
+use Rattle.laws_proxy.specs.{Resets.IsEmptied, Account.Counts.counts_shown}
 use Rattle.laws_driver.specs.Carried.Calls.{flow_accepted, flow_opened, sent_on}
-use Rattle.vs_play.specs.{Answer.base_path, Answer.opened_play, Answer.texts_of, Answer.world_after, Lines.PlayWorld, Lines.event_played}
-use Rattle.laws_play.proofs.PlayLines.{after_both, around_journal, front_bounded, lines_of, lines_receive, lines_right}
-use Rattle.laws_play.proofs.PlayLines.{lines_send, rest_bounded, world_is}
-use Rattle.laws_play.proofs.Reached.{carries, holds_open, holds_rest, keeps_credit, log_is, many_device, many_guest, own_streams, queued}
-use Rattle.laws_play.proofs.{Counting.lines_count, Counting.lines_within, Shutting.run_shut}
-use Rattle.laws_play.specs.{Headline.{IsLawful, IsNamedIn, StaysShut, world_of}, Said.{accept_answer, close_answer, connect_answer}}
-use Rattle.laws_proxy.specs.Account.Counts.{counts_shown}
+use Rattle.vs_play.specs.{Answer.{base_path, opened_play, texts_of, world_after}, Lines.{PlayWorld, event_played}}
+use Rattle.laws_play.proofs.{PlayLines.{after_both, around_journal, front_bounded, lines_of, lines_receive, lines_right, lines_send, rest_bounded, world_is}, Reached.carries}
+use Rattle.laws_play.proofs.{Reached.{holds_open, holds_rest, keeps_credit, log_is, many_device, many_guest, own_streams, queued}, Counting.{lines_count, lines_within}}
+use Rattle.laws_play.{proofs.Shutting.run_shut, specs.{Headline.{IsLawful, IsNamedIn, StaysShut, world_of}, Said.{accept_answer, close_answer, connect_answer}}}
 use Rattle.vs_driver_parts.specs.declared.answers.Accepted.TheVariants as accepted
 use Rattle.vs_driver_parts.specs.declared.answers.Closed.TheVariants as closed
 use Rattle.vs_script.specs.Outside as outside

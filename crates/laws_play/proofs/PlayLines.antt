@@ -1,14 +1,12 @@
 -- The lines of a script as lines of the world.
-use Rattle.std.proofs.Common.{◌≡◌, ◌≤◌, ◌^◌, ℕ, nat_lt, Bool, true, cond, List, [], ◌∷◌, ◌++◌, refl, sym, ap, ◌∙◌, arith, append_assoc}
-use Rattle.std.proofs.lemmas.Bool.Decides.{nat_tests}
+use Rattle.std.proofs.{Common.{◌≡◌, ◌≤◌, ◌^◌, ℕ, nat_lt, Bool, true, cond, List, [], ◌∷◌, ◌++◌, refl, sym, ap, ◌∙◌, arith, append_assoc}, lemmas.Bool.Decides.nat_tests}
 use Rattle.vs_limits.specs.declared.TheConstants.{GUEST_CID_MIN, GUEST_CID_MAX}
 use Rattle.vs_driver_parts.specs.Connections.{flow_of}
 use Rattle.vs_flow.specs.declared.flow.Flow.{Flow}
-use Rattle.vs_script.specs.{Data.bytes_of, Outside.Host, Outside.Outside, Play.Event, Bounds.AreBounded, Bounds.IsBounded}
-use Rattle.laws_world.specs.{Events.is_guest_cid, Plays.AreRight, Plays.Line, Plays.after, Plays.is_given_right, World.World}
+use Rattle.vs_script.specs.{Data.bytes_of, Outside.{Host, Outside}, Play.Event, Bounds.{AreBounded, IsBounded}}
+use Rattle.laws_world.{specs.{Events.is_guest_cid, Plays.{AreRight, Line, after, is_given_right}, World.World}, proofs.Journals.either_none}
 use Rattle.laws_driver.specs.Carried.Calls.{is_on, received_on, sent_on, flow_named}
-use Rattle.laws_world.proofs.Journals.{either_none}
-use Rattle.vs_play.specs.{Answer.world_after, Lines.PlayWorld, Lines.event_played, Lines.host_line}
+use Rattle.vs_play.specs.{Answer.world_after, Lines.{PlayWorld, event_played, host_line}}
 use Rattle.laws_play.specs.Said.{received_by, received_in, sent_by, sent_in}
 use Rattle.laws_tables.proofs.Logs.{nothing_more}
 use Rattle.vs_script.specs.Outside as outside

@@ -1,25 +1,19 @@
 -- What holds of a world in which nothing is staged, where it is well.
-use Rattle.laws_world.proofs.Carried.{its_first}
+use Rattle.laws_world.proofs.Carried.{its_first, carried, given_is, gone_of, one_stream, pending_of, received_is, sent_is, to_device, to_driver, unread_of, wrote_is}
+use Rattle.laws_world.{proofs.{Sound.IsWell, Waiting.{at_device, streams_among}}, specs.{Sides.{device_ends, driver_ends, log_with_staged}, Events.{is_at_rest, none_staged}}}
+use Rattle.laws_world.specs.World.{World, first_cid}
 use Rattle.vs_flow.specs.{Connection.first_of, declared.flow.Flow.Flow}
-use Rattle.std.proofs.Common.{[], ap, Bool, false, get_or, length, List, not, refl, subst, suc, sym, true, ℕ, ◌&&◌, ◌||◌, ◌++◌, ◌∷◌, ◌≡◌}
-use Rattle.std.proofs.lemmas.List.Elements.{All-map, Contains-get_or}
-use Rattle.std.proofs.{lemmas.List.length-map, lemmas.Bool.and_parts, lemmas.List.Kept.AllPairs-cons, Common.◌≢◌, Common.◌∙◌, Common.arith}
-use Rattle.std.specs.List.{AllPairs}
+use Rattle.std.proofs.Common.{[], ap, Bool, false, get_or, length, List, not, refl, subst, suc, sym, true, ℕ, ◌&&◌, ◌||◌, ◌++◌, ◌∷◌, ◌≡◌, ◌≢◌, ◌∙◌, arith}
+use Rattle.std.{proofs.lemmas.{List.{Elements.{All-map, Contains-get_or}, length-map, Kept.AllPairs-cons}, Bool.and_parts}, specs.List.AllPairs}
 use Rattle.laws_history.specs.{History.{History, IsFair, MayPut, Put, Side, gots, puts}, declared.packet.Packet.Packet}
-use Rattle.laws_tables.specs.{Ends.FlowEnd, Ends.flows_of, Ends.is_among, Ends.replied, Matches.Matches, Matches.MatchesFlows}
-use Rattle.laws_tables.proofs.{Fair.fair_now, Tables.driver_open, Tables.table_distinct}
-use Rattle.vs_page.specs.{Fair.{IsFairLog, IsPrefixOf, payload_got, payload_put}, Log.{Device, Driver, HasGotAll, Log, Role, side_of}}
-use Rattle.vs_page.{specs.Open.WasOpened, specs.Open.is_left_open, specs.Open.is_open, proofs.Opened.was_opened}
-use Rattle.laws_tables.specs.Drains.{Drains, receives}
-use Rattle.laws_world.proofs.Carried.{carried, given_is, gone_of, one_stream, pending_of, received_is, sent_is, to_device, to_driver}
-use Rattle.laws_world.proofs.Carried.{unread_of, wrote_is}
+use Rattle.laws_tables.{specs.{Ends.{FlowEnd, flows_of, is_among, replied}, Matches.{Matches, MatchesFlows}, Drains.{Drains, receives}}, proofs.{Fair.fair_now, Tables.driver_open}}
+use Rattle.laws_tables.proofs.Tables.{table_distinct}
+use Rattle.vs_page.specs.{Fair.{IsFairLog, IsPrefixOf, payload_got, payload_put}, Log.{Device, Driver, HasGotAll, Log, Role, side_of}, Open.{WasOpened, is_left_open, is_open}}
+use Rattle.vs_page.proofs.Opened.{was_opened}
 use Rattle.laws_rest.proofs.Hosts.{read_own, wrote_own}
-use Rattle.laws_world.proofs.{Sound.IsWell, Waiting.at_device, Waiting.streams_among}
-use Rattle.laws_world.specs.{Sides.{device_ends, driver_ends, log_with_staged}, Events.{is_at_rest, none_staged}, World.{World, first_cid}}
-use Rattle.laws_driver.specs.Resets.{MarksResets}
-use Rattle.laws_driver.specs.Carried.Calls.{received_on, sent_on}
-use Rattle.laws_play.specs.Headline.{Carries, HasOwnStreams, HoldsOpen, HoldsTheRest, IsQueued, KeepsCredit, PutsWithinCredit, device_flows}
-use Rattle.laws_play.specs.Headline.{device_log, device_replies, driver_log, guest_flows}
+use Rattle.laws_driver.specs.{Resets.MarksResets, Carried.Calls.{received_on, sent_on}}
+use Rattle.laws_play.specs.Headline.{Carries, HasOwnStreams, HoldsOpen, HoldsTheRest, IsQueued, KeepsCredit, PutsWithinCredit, device_flows, device_log, device_replies, driver_log}
+use Rattle.laws_play.specs.Headline.{guest_flows}
 use Rattle.laws_device.specs.Streams.{is_waiting_for_request}
 use Rattle.vs_ring_port.specs.EndLog.{all_put as with_pages}
 

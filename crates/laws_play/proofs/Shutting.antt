@@ -2,10 +2,9 @@
 use Rattle.std.proofs.Common.{◌≡◌, ℕ, List, [], ◌∷◌, refl, ◌∙◌}
 use Rattle.vs_flow.specs.declared.flow.Flow.{Flow}
 use Rattle.vs_page.specs.Log.{Device, Driver, Role}
-use Rattle.laws_tables.specs.{Both.{Both, Happening, IsSound, MayRun, Step, at, happens, run}, Drains.put_on, Later.{IsShut, StillShut, UsesOnce}}
-use Rattle.laws_tables.proofs.{Both.step_keeps, Shutting.step_shut}
-use Rattle.laws_world.specs.Sides.{RunsAnew}
-use Rattle.laws_world.proofs.{Once.AreOnce, Once.keeps_once, Once.uses_once, Runs.one_step}
+use Rattle.laws_tables.{specs.{Both.{Both, Happening, IsSound, MayRun, Step, at, happens, run}, Drains.put_on, Later.{IsShut, StillShut, UsesOnce}}, proofs.Both.step_keeps}
+use Rattle.laws_tables.proofs.Shutting.{step_shut}
+use Rattle.laws_world.{specs.Sides.RunsAnew, proofs.{Once.{AreOnce, keeps_once, uses_once}, Runs.one_step}}
 
 -- A step at either seat.
 happens_shut : (role other : Role) (f : Flow) (step : Step) (b : Both) → UsesOnce other step (at other b) → IsShut role f (at role b)

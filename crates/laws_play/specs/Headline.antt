@@ -1,32 +1,22 @@
 -- What holds of each play: bytes arrive in order and on their own connection alone, the tables hold just the connections left open, and
 -- nobody exceeds the credit that the peer gave (Virtio 1.2, section 5.10.6).
-use Rattle.std.specs.Prelude.{◌≡◌, ◌≢◌, ℕ, ◌+◌, ◌-◌, ◌^◌, ◌≤◌, min, ◌||◌, Bool, true, false, List, [], ◌∷◌, ◌++◌, length, Some, None, All}
-use Rattle.std.specs.Prelude.{AllPairs, Contains, Ok}
+use Rattle.std.specs.Prelude.{◌≡◌, ◌≢◌, ℕ, ◌+◌, ◌-◌, ◌^◌, ◌≤◌, min, ◌||◌, Bool, true, false, List, [], ◌∷◌, ◌++◌, length, Some, None, All, AllPairs, Contains, Ok}
 use Rattle.vs_flow.specs.{declared.flow.Flow.Flow, Connection.first_of}
 use Rattle.vs_limits.specs.declared.TheConstants.{BUF_ALLOC_MAX}
-use Rattle.laws_history.specs.{History.History, History.Put, History.gots, History.puts, Packets.allowance, Packets.bytes, Packets.has}
-use Rattle.laws_history.specs.{Packets.is_rst, Packets.shuts_send, Packets.size, declared.packet.Packet.Packet}
-use Rattle.vs_page.specs.{Log.Device, Log.Driver, Log.HasGotAll, Log.Log, Log.Role, Log.history_of, Open.WasOpened, Open.is_open}
-use Rattle.vs_page.specs.Fair.{IsFairLog, IsPrefixOf, payload_got, payload_put}
+use Rattle.laws_history.specs.{History.{History, Put, gots, puts}, Packets.{allowance, bytes, has, is_rst, shuts_send, size}, declared.packet.Packet.Packet}
+use Rattle.vs_page.specs.{Log.{Device, Driver, HasGotAll, Log, Role, history_of}, Open.{WasOpened, is_open}, Fair.{IsFairLog, IsPrefixOf, payload_got, payload_put}}
 use Rattle.vs_driver_parts.specs.{Connections.flow_of, State.DriverEntry}
-use Rattle.vs_device_parts.specs.{State.DeviceEntry, State.counters_of}
-use Rattle.laws_device.specs.{Dropped.dropped_in, Streams.has_open_stream, Streams.is_waiting_for_request}
-use Rattle.laws_tables.specs.Ends.{flows_of, is_among, replied}
+use Rattle.vs_device_parts.specs.State.{DeviceEntry, counters_of}
+use Rattle.laws_device.specs.{Dropped.dropped_in, Streams.{has_open_stream, is_waiting_for_request}, Carried.Streamed.{gives, line_for}}
+use Rattle.laws_tables.specs.{Ends.{flows_of, is_among, replied}, Drains.{Drains, receives}}
 use Rattle.vs_outside.specs.{HostBytes.{host_read, host_wrote, read_after_ok, wrote_after_connect}, Host.{Stream, stream_at}}
-use Rattle.laws_tables.specs.Drains.{Drains, receives}
-use Rattle.laws_device.specs.Carried.Streamed.{gives, line_for}
 use Rattle.vs_script.specs.{Data.Content, Play.Event}
-use Rattle.vs_report.specs.{Report.counts_text, Report.device_open_text, Report.guest_open_text, Report.stream_texts, GuestLines.recv_text}
-use Rattle.vs_report.specs.GuestLines.{opened_text, send_text}
-use Rattle.laws_proxy.specs.Account.Counts.{counts_of, counts_shown}
-use Rattle.laws_proxy.specs.Resets.{IsEmptied}
-use Rattle.laws_world.specs.{Names.HasFlow, Sides.device_ends, Sides.driver_ends, Steps.Leads}
-use Rattle.laws_world.specs.World.{World, first_cid}
-use Rattle.laws_driver.specs.Resets.{MarksResets}
-use Rattle.laws_driver.specs.Carried.Calls.{received_on, sent_on}
-use Rattle.vs_play.specs.{Answer.opened_play, Answer.printed, Answer.texts_of, Answer.world_after, Lines.event_played}
-use Rattle.laws_play.specs.{Recorded.calls_of, Recorded.fails_in, Said.accept_answer, Said.close_answer, Said.connect_answer, Said.received_in}
-use Rattle.laws_play.specs.Said.{recv_answer, recv_bytes, send_answer, sent_in}
+use Rattle.vs_report.specs.{Report.{counts_text, device_open_text, guest_open_text, stream_texts}, GuestLines.{recv_text, opened_text, send_text}}
+use Rattle.laws_proxy.specs.{Account.Counts.{counts_of, counts_shown}, Resets.IsEmptied}
+use Rattle.laws_world.specs.{Names.HasFlow, Sides.{device_ends, driver_ends}, Steps.Leads, World.{World, first_cid}}
+use Rattle.laws_driver.specs.{Resets.MarksResets, Carried.Calls.{received_on, sent_on}}
+use Rattle.vs_play.specs.{Answer.{opened_play, printed, texts_of, world_after}, Lines.event_played}
+use Rattle.laws_play.specs.{Recorded.{calls_of, fails_in}, Said.{accept_answer, close_answer, connect_answer, received_in, recv_answer, recv_bytes, send_answer, sent_in}}
 use Rattle.vs_driver_parts.specs.declared.answers.Accepted.TheVariants as accepted
 use Rattle.vs_driver_parts.specs.declared.answers.Closed.TheVariants as closed
 use Rattle.vs_script.specs.Outside as outside

@@ -1,10 +1,9 @@
 -- What a play's lines answered, and what they sent and received on a connection, by the answers that they printed.
 use Rattle.std.specs.Prelude.{ℕ, if◌then◌else◌, List, [], ◌∷◌, ◌++◌, Result}
 use Rattle.vs_flow.specs.declared.flow.Flow.{Flow}
-use Rattle.vs_driver_parts.specs.{Connections.{flow_of, recv_of, unread_of_id, close_of}, Conversations.{connect_of, send_of}}
-use Rattle.vs_driver_parts.specs.{Listening.accept_of, declared.answers.{Accepted.Accepted, Closed.Closed, ConnectError.ConnectError}}
-use Rattle.vs_driver_parts.specs.{declared.answers.Received.Received, declared.answers.Sent.Sent}
-use Rattle.vs_script.specs.{Data.Content, Data.bytes_of, Play.Event}
+use Rattle.vs_driver_parts.specs.{Connections.{flow_of, recv_of, unread_of_id, close_of}, Conversations.{connect_of, send_of}, Listening.accept_of}
+use Rattle.vs_driver_parts.specs.declared.answers.{Accepted.Accepted, Closed.Closed, ConnectError.ConnectError, Received.Received, Sent.Sent}
+use Rattle.vs_script.specs.{Data.{Content, bytes_of}, Play.Event}
 use Rattle.laws_world.specs.World.{driver_plays}
 use Rattle.laws_driver.specs.Carried.{Calls.is_on, Sent.took, Received.bytes_got}
 use Rattle.vs_play.specs.Lines.{PlayWorld, event_played}

@@ -3,15 +3,14 @@ use Rattle.std.specs.Prelude.{ℕ, Bool, true, false, List, [], map, codes, Opti
 use Rattle.vs_limits.specs.declared.TheConstants.{ASSIGNED_FIRST}
 use Rattle.vs_flow.specs.{declared.flow.Flow.Flow, Connection.first_of, Flow.host_flow}
 use Rattle.vs_outside.specs.HostBytes.{host_read, host_wrote}
-use Rattle.vs_page.specs.{Fair.payload_got, Fair.payload_put, Log.Device, Log.Driver, Open.is_open}
+use Rattle.vs_page.specs.{Fair.{payload_got, payload_put}, Log.{Device, Driver}, Open.is_open}
 use Rattle.laws_tables.specs.Ends.{is_among}
-use Rattle.vs_driver_parts.specs.{Connections.flow_of, Connections.state_of, declared.answers.ConnectionState.ConnectionState}
-use Rattle.vs_script.specs.{Play.Event, Script.Saying, Script.Plays, Script.parse_of, declared.fault.Refused.Refused}
+use Rattle.vs_driver_parts.specs.{Connections.{flow_of, state_of}, declared.answers.ConnectionState.ConnectionState}
+use Rattle.vs_script.specs.{Play.Event, Script.{Saying, Plays, parse_of}, declared.fault.Refused.Refused}
 use Rattle.laws_device.specs.Dropped.{dropped_in}
 use Rattle.laws_world.specs.World.{World, first_cid}
 use Rattle.vs_play.specs.Answer.{opened_play}
-use Rattle.laws_play.specs.Headline.{device_flows, device_log, driver_log, guest_flows, guest_replies, world_of}
-use Rattle.laws_play.specs.{Recorded.fails_in, Said.received_in, Said.sent_in}
+use Rattle.laws_play.specs.{Headline.{device_flows, device_log, driver_log, guest_flows, guest_replies, world_of}, Recorded.fails_in, Said.{received_in, sent_in}}
 use Rattle.vs_script.specs.declared.script.Command.TheVariants as command
 
 -- The lines that a text spells, where it is a script of a play.

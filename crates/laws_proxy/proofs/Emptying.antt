@@ -1,12 +1,10 @@
 -- A transport reset leaves nothing, whatever ring and host answer.
 use Rattle.std.proofs.Common.{◌≡◌, ℕ, [], Option, Some, None, Result, Ok, Err, refl}
-use Rattle.vs_contents.specs.CallTree.{Done, Ask, bind, for_each}
-use Rattle.vs_contents.proofs.Leads.{AllEnds, ends_bind}
+use Rattle.vs_contents.{specs.CallTree.{Done, Ask, bind, for_each}, proofs.Leads.{AllEnds, ends_bind}}
 use Rattle.vs_flow.specs.Table.{slots}
 use Rattle.vs_ring_port.specs.{Contents.PublishCid, declared.failure.Failure.Failure}
-use Rattle.vs_device_parts.specs.{Calls.DeviceTree, Calls.Ring, State.DeviceState, Turns.after_reset, Turns.close_slot}
-use Rattle.vs_proxy_parts.specs.{Handshakes.streams_of, State.ProxyState, State.with_device}
-use Rattle.vs_proxy_parts.specs.Turns.{close_handshake, proxy_reset_of, reset_with}
+use Rattle.vs_device_parts.specs.{Calls.{DeviceTree, Ring}, State.DeviceState, Turns.{after_reset, close_slot}}
+use Rattle.vs_proxy_parts.specs.{Handshakes.streams_of, State.{ProxyState, with_device}, Turns.{close_handshake, proxy_reset_of, reset_with}}
 use Rattle.laws_proxy.specs.Resets.{IsEmptied}
 
 all_ends : {A : Type 0} (P : A → Type 0) → ((x : A) → P x) → (tree : DeviceTree A) → AllEnds P tree

@@ -2,15 +2,13 @@
 use Rattle.std.proofs.Common.{◌≡◌, ℕ, List, Option, Some, None, refl, ap}
 use Rattle.vs_flow.specs.declared.flow.Flow.{Flow}
 use Rattle.vs_outside.specs.Host.{HostContents}
-use Rattle.vs_ring_port.specs.Contents.{RingContents}
+use Rattle.vs_ring_port.specs.{Contents.RingContents, declared.device_ring.Chain.Chain}
 use Rattle.vs_device_parts.specs.{Calls.Situation, Growing.{after_grow, grow_of, grown_by}, Playing.IsItsRing, State.{DeviceEntry, DeviceState, counters_of}}
 use Rattle.vs_device_parts.specs.declared.answers.Grown.{Grown}
-use Rattle.vs_ring_port.specs.declared.device_ring.Chain.{Chain}
-use Rattle.vs_proxy_parts.specs.{Growing.{after_flow_grow, after_label_grow, flow_grow_of, slot_of}, Handshakes.streams_of, State.ProxyState, State.with_device}
-use Rattle.laws_device.{specs.Named.Streams.HasStreams, proofs.Growing.{grow_keeps, grow_streamed, grow_streams, grow_with, grown_same}}
-use Rattle.laws_proxy.specs.{Account.{Counts.counts_shown, Made.Made, Tied.AccountsFor, Told.AreAccounted}, Honest.IsProxyStreamed, Honest.IsProxyWith, Order.IsInOrder}
-use Rattle.laws_proxy.proofs.{Account.Growing.grow_accounted, Account.Growing.grow_agrees, Turning.Proxied}
-use Rattle.laws_device.proofs.Seats.{Carried}
+use Rattle.vs_proxy_parts.specs.{Growing.{after_flow_grow, after_label_grow, flow_grow_of, slot_of}, Handshakes.streams_of, State.{ProxyState, with_device}}
+use Rattle.laws_device.{specs.Named.Streams.HasStreams, proofs.{Growing.{grow_keeps, grow_streamed, grow_streams, grow_with, grown_same}, Seats.Carried}}
+use Rattle.laws_proxy.specs.{Account.{Counts.counts_shown, Made.Made, Tied.AccountsFor, Told.AreAccounted}, Honest.{IsProxyStreamed, IsProxyWith}, Order.IsInOrder}
+use Rattle.laws_proxy.proofs.{Account.Growing.{grow_accounted, grow_agrees}, Turning.Proxied}
 use Rattle.laws_device.proofs.Growing as one
 use Rattle.vs_device_parts.specs.declared.answers.Grown.TheVariants as rise
 

@@ -1,21 +1,15 @@
 -- A proxy in order: its turn and its reset may be made, and what each keeps, from the conversation that it ran.
-use Rattle.std.proofs.Common.{[], ℕ, ◌<◌, ◌^◌, List, Result, ◌≡◌, refl, sym, subst}
-use Rattle.std.specs.Option.{ForSome}
+use Rattle.std.{proofs.Common.{[], ℕ, ◌<◌, ◌^◌, List, Result, ◌≡◌, refl, sym, subst}, specs.Option.ForSome}
 use Rattle.vs_ring_port.specs.declared.failure.Failure.{Failure}
-use Rattle.vs_device_parts.specs.{Calls.Allows, Calls.Situation, Playing.CanMake, Playing.MayRun, Playing.Runs}
-use Rattle.laws_device.specs.Named.{Split.CanReach, Streams.FindsStreams}
-use Rattle.laws_device.proofs.Named.{Conditions.may_where, Conditions.quiet_can, Keeping.keeps_may, Opening.new_has}
-use Rattle.laws_device.specs.Honest.{IsFresh}
-use Rattle.laws_device.proofs.{Carrying.ring_and_host, Carrying.ring_only, Keeping.keeps_end, Keeping.keeps_put}
-use Rattle.vs_proxy_parts.specs.Turns.{new_proxy, proxy_reset_of, turn_of}
-use Rattle.vs_proxy_parts.specs.{Handshakes.streams_of, State.ProxyState, declared.answers.Turn.Turn}
-use Rattle.laws_proxy.proofs.Named.{Lists.none_open, Turning.keeps_proxy_reset, Turning.keeps_turn}
-use Rattle.laws_proxy.proofs.Turning.{new_proxy_with, proxy_reset_keeps, turn_keeps, plain_proxied, proxied_ring, proxied_streams}
-use Rattle.laws_proxy.{specs.Honest.IsProxyWith, specs.Honest.IsProxyStreamed, specs.Order.IsInOrder, proofs.Turning.streamed_proxied}
-use Rattle.laws_device.{specs.Carried.Streamed.IsStreamed, proofs.Carried.Changing.no_streams}
+use Rattle.vs_device_parts.specs.{Calls.{Allows, Situation}, Playing.{CanMake, MayRun, Runs}}
+use Rattle.laws_device.{specs.{Named.{Split.CanReach, Streams.FindsStreams}, Honest.IsFresh, Carried.Streamed.IsStreamed}, proofs.Named.Conditions.{may_where, quiet_can}}
+use Rattle.laws_device.proofs.{Named.{Keeping.{keeps_may, keeps_end as streams_end}, Opening.new_has}, Carrying.{ring_and_host, ring_only}, Keeping.{keeps_end, keeps_put}}
+use Rattle.laws_device.proofs.Carried.Changing.{no_streams}
+use Rattle.vs_proxy_parts.specs.{Turns.{new_proxy, proxy_reset_of, turn_of}, Handshakes.streams_of, State.ProxyState, declared.answers.Turn.Turn}
+use Rattle.laws_proxy.proofs.{Named.{Lists.none_open, Turning.{keeps_proxy_reset, keeps_turn}}, Turning.{new_proxy_with, proxy_reset_keeps, turn_keeps, plain_proxied}}
+use Rattle.laws_proxy.{proofs.Turning.{proxied_ring, proxied_streams, streamed_proxied}, specs.{Honest.{IsProxyWith, IsProxyStreamed}, Order.IsInOrder}}
 use Rattle.vs_limits.specs.declared.TheConstants.{ASSIGNED_FIRST}
 use Rattle.vs_page.specs.Log.{Log}
-use Rattle.laws_device.proofs.Named.Keeping.{keeps_end as streams_end}
 
 pub new_in_order : (cid : ℕ) (base : List ℕ) (a : Situation) → cid < 2 ^ 64 → IsFresh a.ring → IsInOrder cid (new_proxy cid base) a
 new_in_order cid base a fits fresh = record {

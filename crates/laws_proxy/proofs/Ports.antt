@@ -1,15 +1,12 @@
 -- Where a connection may be opened the table takes it: its host port is the next one, which was never given.
-use Rattle.std.proofs.Common.{◌≡◌, ℕ, ◌≤◌, nat_le, true, [], ◌∷◌, Option, Some, None, refl, sym, ap, ◌∙◌, arith}
-use Rattle.std.proofs.lemmas.Bool.{Decides.nat_tests, and_parts}
-use Rattle.vs_flow.specs.{Flow.{host_flow, is_assigned, same_flow}, Table.{IsTable, Table, entry_of, has_place, refusal}}
-use Rattle.vs_flow.{specs.declared.flow.Flow.Flow, proofs.Entries.same_flow_true}
+use Rattle.std.proofs.{Common.{◌≡◌, ℕ, ◌≤◌, nat_le, true, [], ◌∷◌, Option, Some, None, refl, sym, ap, ◌∙◌, arith}, lemmas.Bool.{Decides.nat_tests, and_parts}}
+use Rattle.vs_flow.{specs.{Flow.{host_flow, is_assigned, same_flow}, Table.{IsTable, Table, entry_of, has_place, refusal}, declared.flow.Flow.Flow}, proofs.Entries.same_flow_true}
 use Rattle.vs_limits.specs.declared.TheConstants.{ASSIGNED_FIRST, ASSIGNED_LAST}
 use Rattle.vs_page.specs.Log.{Device, side_by}
 use Rattle.vs_ring_port.specs.EndLog.{EndLog}
-use Rattle.laws_tables.{specs.Ends.ends_of, specs.Ends.entries_of, proofs.Slots.found_by, proofs.Slots.one_end}
+use Rattle.laws_tables.{specs.Ends.{ends_of, entries_of}, proofs.Slots.{found_by, one_end}}
 use Rattle.vs_device_parts.specs.State.{DeviceConnection, DeviceEntry, DeviceState}
-use Rattle.laws_device.{specs.Honest.end_in, proofs.Seats.AgreesBy, proofs.Seats.Carried}
-use Rattle.laws_device.proofs.Walk.Turning.{may_assign}
+use Rattle.laws_device.{specs.Honest.end_in, proofs.{Seats.{AgreesBy, Carried}, Walk.Turning.may_assign}}
 
 -- A flow without an end has no entry.
 absent : (t : Table DeviceConnection) (f : Flow) → IsTable t → ends_of f (entries_of end_in t) ≡ [] → entry_of t f ≡ None

@@ -1,33 +1,21 @@
 -- Handshakes make no call on the ring. A whole line opens a connection under the next host port.
-use Rattle.vs_flow.proofs.Tables.{accepted}
-use Rattle.std.proofs.Common.{inl, ◌≡◌, ℕ, ◌+◌, ◌≤◌, Bool, true, false, List, ◌++◌}
-use Rattle.std.proofs.Common.{Some, None, refl, sym, ap, subst, arith, ◌≢◌, ◌∙◌, ◌∷◌, []}
-use Rattle.std.{proofs.lemmas.Bool.Decides.nat_tests, specs.List.All, specs.Option.ForSome}
-use Rattle.vs_flow.{specs.Flow.host_flow, specs.Flow.is_assigned, specs.Table.refusal, specs.Table.Table, specs.declared.flow.Flow.Flow}
-use Rattle.vs_flow.{specs.declared.table.TableFault.TableFault}
+use Rattle.vs_flow.{proofs.Tables.accepted, specs.{Flow.{host_flow, is_assigned}, Table.{refusal, Table}, declared.{flow.Flow.Flow, table.TableFault.TableFault}}}
+use Rattle.std.proofs.{Common.{inl, ◌≡◌, ℕ, ◌+◌, ◌≤◌, Bool, true, false, List, ◌++◌, Some, None, refl, sym, ap, subst, arith, ◌≢◌, ◌∙◌, ◌∷◌, []}, lemmas.Bool.Decides.nat_tests}
+use Rattle.std.specs.{List.All, Option.ForSome}
 use Rattle.vs_limits.specs.declared.TheConstants.{ASSIGNED_LAST, ASSIGNED_FIRST}
-use Rattle.vs_outside.specs.Host.{HostContents, accept_answer, after_accept, after_close, after_label, after_read, called}
-use Rattle.vs_outside.specs.{declared.host_net.Accepted.Accepted, declared.host_net.StreamRead.StreamRead, HostBytes.after_line}
+use Rattle.vs_outside.specs.{Host.{HostContents, accept_answer, after_accept, after_close, after_label, after_read, called}, declared.host_net.Accepted.Accepted}
+use Rattle.vs_outside.specs.{declared.host_net.StreamRead.StreamRead, HostBytes.after_line}
 use Rattle.vs_page.specs.Log.{Device, side_by, Log}
-use Rattle.vs_uds.proofs.Decided.{port_fits}
-use Rattle.vs_uds.specs.{ConnectLine.connect_step}
-use Rattle.vs_device_parts.specs.Calls.{Accept, Allows, CloseStream, HostMoves, IsReadOf, Label, ReadStream, Situation}
-use Rattle.vs_device_parts.specs.{Connections.with_client, State.DeviceState, State.DeviceConnection}
-use Rattle.laws_device.proofs.Walk.Turning.{AfterAccept, AfterByte, IsOn, Shakes, keeps_accept_one, keeps_read_byte, keeps_tick_handshake}
-use Rattle.laws_device.proofs.Walk.Turning.{may_assign}
-use Rattle.laws_device.proofs.Keeping.{Goes, Keeps, asking, keeps_weaker}
-use Rattle.laws_device.proofs.Carrying.{Fact, fact_called, fact_goes, IsHeldBy, IsToldBy, StreamedOver, With, streams_call}
-use Rattle.laws_device.proofs.{Turning.label_keeps, Ringing.tells_weaker, Seats.Carried}
-use Rattle.vs_proxy_parts.specs.Handshakes.{accept_one}
-use Rattle.vs_proxy_parts.specs.Handshakes.{read_byte, tick_handshake}
-use Rattle.vs_proxy_parts.specs.Handshakes.{with_line, without_stream}
-use Rattle.vs_proxy_parts.specs.State.{Handshake, Turning}
+use Rattle.vs_uds.{proofs.Decided.port_fits, specs.ConnectLine.connect_step}
+use Rattle.vs_device_parts.specs.{Calls.{Accept, Allows, CloseStream, HostMoves, IsReadOf, Label, ReadStream, Situation}, Connections.with_client, State.DeviceState}
+use Rattle.vs_device_parts.specs.State.{DeviceConnection}
+use Rattle.laws_device.proofs.{Walk.Turning.{AfterAccept, AfterByte, IsOn, Shakes, keeps_accept_one, keeps_read_byte, keeps_tick_handshake, may_assign}, Keeping.{Goes, Keeps}}
+use Rattle.laws_device.proofs.{Keeping.{asking, keeps_weaker}, Carrying.{Fact, fact_called, fact_goes, IsHeldBy, IsToldBy, StreamedOver, With, streams_call}, Turning.label_keeps}
+use Rattle.laws_device.proofs.{Ringing.tells_weaker, Seats.Carried, Carried.{HostCalls.{accepted_host, closed_host, some_seen}, Hands.{ends_by, no_line, without_after}}}
+use Rattle.laws_device.proofs.Carried.{Hands.without_none, Opens.{hand_of, label_host, line_more, line_now, line_over, one_byte, dropped_host}, Changing.{called_host, goes_on}}
+use Rattle.laws_device.{proofs.{Carried.Lines.{line_ends, line_whole}, Named.Tables.{some_after, some_from}}, specs.Carried.Streamed.{IsStreamed, Seen, has_line, look, reading}}
+use Rattle.vs_proxy_parts.specs.{Handshakes.{accept_one, read_byte, tick_handshake, with_line, without_stream}, State.{Handshake, Turning}}
 use Rattle.laws_proxy.proofs.Ports.{last_port, not_refused}
-use Rattle.laws_device.specs.Carried.Streamed.{IsStreamed, Seen, has_line, look, reading}
-use Rattle.laws_device.proofs.Carried.{HostCalls.{accepted_host, closed_host, some_seen}, Hands.{ends_by, no_line, without_after}}
-use Rattle.laws_device.proofs.Carried.{Hands.without_none, Opens.{hand_of, label_host, line_more, line_now, line_over, one_byte}}
-use Rattle.laws_device.proofs.Carried.{Opens.dropped_host, Changing.{called_host, goes_on}, Lines.{line_ends, line_whole}}
-use Rattle.laws_device.proofs.Named.Tables.{some_after, some_from}
 use Rattle.vs_outside.specs.declared.host_net.Accepted.TheVariants as accepted
 use Rattle.vs_outside.specs.declared.host_net.StreamRead.TheVariants as read
 use Rattle.vs_uds.specs.declared.scan.Step.TheVariants as step

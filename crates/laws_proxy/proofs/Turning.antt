@@ -3,21 +3,15 @@ use Rattle.std.proofs.Common.{ℕ, ◌<◌, ◌^◌, false, List, [], ◌∷◌,
 use Rattle.vs_contents.specs.CallTree.{Done, for_each}
 use Rattle.vs_limits.specs.declared.TheConstants.{ASSIGNED_FIRST}
 use Rattle.vs_ring_port.specs.{Contents.RingContents, declared.failure.Failure.Failure}
-use Rattle.vs_device_parts.specs.{Receiving.{fill_rx_of, pay_event_of}, Calls.{DeviceTree, Situation}}
-use Rattle.vs_device_parts.specs.{State.DeviceState, Streams.{pump_of, tick_of}, Transmitting.take_tx_of, Turns.reset_of}
-use Rattle.laws_device.proofs.Carrying.{Fact, StreamedOver, With, fact_called, held_with, streams_call, with_ring, with_streams}
-use Rattle.laws_device.proofs.Turning.{new_with, pay_keeps, pump_keeps, reset_keeps, tick_keeps}
-use Rattle.laws_device.proofs.Keeping.{Keeps, keeps_then, asking, keeps_weaker}
-use Rattle.laws_device.{specs.Honest.IsFresh, proofs.Filling.fill_keeps, proofs.Transmitting.take_keeps, proofs.Carrying.ring_only}
-use Rattle.laws_device.{proofs.Carrying.whole, proofs.Carrying.ring_and_host, proofs.Seats.Carried}
-use Rattle.vs_proxy_parts.specs.Turns.{close_handshake, new_proxy, proxy_reset_of}
-use Rattle.vs_proxy_parts.specs.State.{Handshake, ProxyState, with_device}
-use Rattle.vs_proxy_parts.specs.Turns.{reset_with, turn_of}
-use Rattle.vs_proxy_parts.specs.{declared.answers.Turn.Turn, Handshakes.streams_of}
-use Rattle.laws_proxy.{specs.Honest.IsProxyWith, specs.Honest.IsProxyStreamed, proofs.Shaking.At, proofs.Shaking.shaking}
-use Rattle.laws_device.proofs.Walk.Turning.{KeptBy, keeps_turn_by}
+use Rattle.vs_device_parts.specs.{Receiving.{fill_rx_of, pay_event_of}, Calls.{DeviceTree, Situation}, State.DeviceState, Streams.{pump_of, tick_of}, Transmitting.take_tx_of}
+use Rattle.vs_device_parts.specs.Turns.{reset_of}
+use Rattle.laws_device.proofs.Carrying.{Fact, StreamedOver, With, fact_called, held_with, streams_call, with_ring, with_streams, ring_only, whole, ring_and_host}
+use Rattle.laws_device.proofs.{Turning.{new_with, pay_keeps, pump_keeps, reset_keeps, tick_keeps}, Keeping.{Keeps, keeps_then, asking, keeps_weaker}, Filling.fill_keeps}
+use Rattle.laws_device.{proofs.{Transmitting.take_keeps, Seats.Carried, Walk.Turning.{KeptBy, keeps_turn_by}, Carried.Opens.first_dropped}, specs.Honest.IsFresh}
+use Rattle.vs_proxy_parts.specs.{Turns.{close_handshake, new_proxy, proxy_reset_of, reset_with, turn_of}, State.{Handshake, ProxyState, with_device}, declared.answers.Turn.Turn}
+use Rattle.vs_proxy_parts.specs.Handshakes.{streams_of}
+use Rattle.laws_proxy.{specs.Honest.{IsProxyWith, IsProxyStreamed}, proofs.Shaking.{At, shaking}}
 use Rattle.vs_outside.specs.Host.{after_close}
-use Rattle.laws_device.proofs.Carried.Opens.{first_dropped}
 
 pub new_proxy_with : (cid : ℕ) (base : List ℕ) (c : RingContents) → cid < 2 ^ 64 → IsFresh c → IsProxyWith cid (new_proxy cid base) c
 new_proxy_with cid base c fits fresh = (omega arith, new_with ASSIGNED_FIRST cid base c fits fresh)

@@ -2,12 +2,10 @@
 
 ghost use Rattle.std.specs.{Option.ForSome, Prelude.{◌≡◌, ◌<◌, ◌^◌, ℕ, List, [], None, Result}};
 ghost use Rattle.vs_ring_port.specs.{Contents.RingContents, declared.failure.Failure.Failure};
-ghost use Rattle.vs_device_parts.specs.{Calls.Situation, Playing.MayRun, Playing.Runs};
-ghost use Rattle.laws_device.specs.Named.Streams.{FindsStreams};
-ghost use Rattle.laws_device.specs.{Dropped.IsCountedWith, Honest.IsFresh, Streams.IsTabledWith};
-ghost use Rattle.vs_proxy_parts.specs.{Handshakes.streams_of, State.ProxyState, Turns.new_proxy, Turns.proxy_reset_of, Turns.turn_of};
-ghost use Rattle.vs_proxy_parts.specs.declared.answers.Turn.{Turn};
-ghost use Rattle.laws_proxy.specs.{Honest.IsProxyStreamed, Honest.IsProxyWith, Order.IsInOrder, Resets.IsEmptied};
+ghost use Rattle.vs_device_parts.specs.{Calls.Situation, Playing.{MayRun, Runs}};
+ghost use Rattle.laws_device.specs.{Named.Streams.FindsStreams, Dropped.IsCountedWith, Honest.IsFresh, Streams.IsTabledWith};
+ghost use Rattle.vs_proxy_parts.specs.{Handshakes.streams_of, State.ProxyState, Turns.{new_proxy, proxy_reset_of, turn_of}, declared.answers.Turn.Turn};
+ghost use Rattle.laws_proxy.specs.{Honest.{IsProxyStreamed, IsProxyWith}, Order.IsInOrder, Resets.IsEmptied};
 
 /// Over a ring that tells its log a turn and a reset leave the proxy with its ring: the device holds the one chain that it keeps for the
 /// next packet, and over an honest ring its connections are those that the log left. Each packet of a turn keeps the log fair, so a turn

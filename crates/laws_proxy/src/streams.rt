@@ -3,10 +3,9 @@
 ghost use Rattle.std.specs.Prelude.{ℕ, List, Result};
 ghost use Rattle.vs_outside.specs.Host.{HostContents};
 ghost use Rattle.vs_ring_port.specs.declared.failure.Failure.{Failure};
-ghost use Rattle.vs_device_parts.specs.{Calls.Situation, Playing.MayRun, Playing.Runs};
-ghost use Rattle.laws_device.specs.Named.{Split.MayPut, Streams.FindsStreams, Streams.HasStreams};
-ghost use Rattle.vs_proxy_parts.specs.{Handshakes.streams_of, State.ProxyState, Turns.new_proxy, Turns.proxy_reset_of, Turns.turn_of};
-ghost use Rattle.vs_proxy_parts.specs.declared.answers.Turn.{Turn};
+ghost use Rattle.vs_device_parts.specs.{Calls.Situation, Playing.{MayRun, Runs}};
+ghost use Rattle.laws_device.specs.Named.{Split.MayPut, Streams.{FindsStreams, HasStreams}};
+ghost use Rattle.vs_proxy_parts.specs.{Handshakes.streams_of, State.ProxyState, Turns.{new_proxy, proxy_reset_of, turn_of}, declared.answers.Turn.Turn};
 
 /// Where the streams of the handshakes are open, all different, and the device has its streams beside them, a transport reset may be made, and a
 /// turn where the ring lets it put its packets.

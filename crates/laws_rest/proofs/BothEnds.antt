@@ -1,25 +1,18 @@
 -- Bytes of both ends: what each put came first at the other, and the streams are of the same connections.
 use Rattle.std.proofs.Common.{◌≡◌, ℕ, ◌≤◌, List, refl, sym, ap, subst, ◌∙◌, arith}
-use Rattle.vs_flow.specs.{Connection.Connection, Connection.first_of, Flow.is_assigned, Table.Table, declared.flow.Flow.Flow}
-use Rattle.laws_history.specs.{Again.count, Packets.is_request, declared.packet.Packet.Packet, History.Answerer}
-use Rattle.laws_history.specs.History.{Asker, Side, gots, peer, puts}
-use Rattle.laws_history.proofs.Lists.{count_append}
-use Rattle.vs_outside.specs.{Host.HostContents, HostBytes.host_read, HostBytes.host_wrote}
-use Rattle.vs_page.specs.Fair.{IsPrefixOf, asked_by, instance_from, number_of, payload_got, payload_of, payload_put}
-use Rattle.vs_page.specs.Log.{Device, Driver, Role, flow_got, other_role, side_of, whole_of}
-use Rattle.vs_page.proofs.{Entries.got_on, Entries.on_flow, Flows.opposite_by, Payload.instance-append, Payload.payload_of-append}
+use Rattle.vs_flow.specs.{Connection.{Connection, first_of}, Flow.is_assigned, Table.Table, declared.flow.Flow.Flow}
+use Rattle.laws_history.{specs.{Again.count, Packets.is_request, declared.packet.Packet.Packet, History.{Answerer, Asker, Side, gots, peer, puts}}, proofs.Lists.count_append}
+use Rattle.vs_outside.specs.{Host.HostContents, HostBytes.{host_read, host_wrote}}
+use Rattle.vs_page.specs.{Fair.{IsPrefixOf, asked_by, instance_from, number_of, payload_got, payload_of, payload_put}, Log.{Device, Driver, Role, flow_got, other_role, side_of}}
+use Rattle.vs_page.{specs.Log.whole_of, proofs.{Entries.{got_on, on_flow}, Flows.opposite_by, Payload.{instance-append, payload_of-append}}}
 use Rattle.vs_ring_port.specs.{Contents.RingContents, EndLog.EndLog}
-use Rattle.laws_tables.specs.{Asked.AskOnce, Both.Both, Both.at}
-use Rattle.laws_tables.proofs.Logs.{prefix_then}
+use Rattle.laws_tables.{specs.{Asked.AskOnce, Both.{Both, at}}, proofs.Logs.prefix_then}
 use Rattle.vs_driver_parts.specs.{Held.HeldSlots, State.DriverState}
-use Rattle.laws_driver.specs.Honest.{slots_of}
-use Rattle.laws_driver.specs.Carried.{Calls.Journal, Calls.received_by, Senders.IsRightJournal, Senders.IsRightWith, Senders.sent_to}
+use Rattle.laws_driver.specs.{Honest.slots_of, Carried.{Calls.{Journal, received_by}, Senders.{IsRightJournal, IsRightWith, sent_to}}}
 use Rattle.vs_device_parts.specs.{Calls.Situation, State.DeviceConnection}
-use Rattle.laws_device.specs.Streams.{AreStreamedWith}
-use Rattle.laws_device.specs.Carried.Streamed.{IsStreamed}
+use Rattle.laws_device.specs.{Streams.AreStreamedWith, Carried.Streamed.IsStreamed}
 use Rattle.vs_proxy_parts.specs.State.{Handshake, ProxyState}
-use Rattle.laws_rest.specs.Bytes.{AreTied, AreTold, BothEnds, CarryBytes}
-use Rattle.laws_rest.proofs.Hosts.{read_is_got, wrote_is_put}
+use Rattle.laws_rest.{specs.Bytes.{AreTied, AreTold, BothEnds, CarryBytes}, proofs.Hosts.{read_is_got, wrote_is_put}}
 
 module _ (b : Both) (ends : BothEnds b) where
   -- The payload that an end got on a connection is a prefix of what the other put there.

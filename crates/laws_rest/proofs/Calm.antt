@@ -1,20 +1,18 @@
 -- A turn publishes no CID, and puts no event where none is owed.
-use Rattle.std.proofs.Common.{◌≡◌, ◌≢◌, ℕ, Bool, true, false, cond, List, [], ◌∷◌, Option, Some, None, refl, sym, ap, subst, ◌∙◌}
-use Rattle.std.specs.Option.{IfSome}
-use Rattle.vs_contents.specs.{CallTree.Ask, CallTree.Done, Contents.Exposes}
+use Rattle.std.{proofs.Common.{◌≡◌, ◌≢◌, ℕ, Bool, true, false, cond, List, [], ◌∷◌, Option, Some, None, refl, sym, ap, subst, ◌∙◌}, specs.Option.IfSome}
+use Rattle.vs_contents.specs.{CallTree.{Ask, Done}, Contents.Exposes}
 use Rattle.laws_history.specs.declared.packet.Packet.{Packet}
 use Rattle.vs_header.specs.declared.Header.{Header}
 use Rattle.vs_page.specs.{Held.packet_held, Log.{events_put, Log}, declared.log.LogEntry.TheVariants.{GotPacket, PutPacket}}
-use Rattle.vs_ring_port.specs.{Chains.chain_of, Contents.{DeviceAnswer, DeviceCall, Given, PublishCid, Read, Return, RingContents, Take}}
-use Rattle.vs_ring_port.specs.{Contents.Write, EndLog.{EndLog, entries_returned, log_returned, log_taken, log_written, with_packet}}
-use Rattle.vs_ring_port.specs.declared.{device_ring.Chain.Chain, device_ring.Next.Next, queue.Queue.Queue}
-use Rattle.vs_ring_port.specs.declared.queue.Queue.TheVariants.{Event, Rx, Tx}
-use Rattle.vs_ring_port.specs.declared.device_ring.Next.TheVariants as next
-use Rattle.vs_device_parts.specs.Calls.{Allows, Answer, Call, DeviceTree, IsFitChain, ReadStream, Ring}
-use Rattle.vs_device_parts.specs.{Calls.Situation, Calls.WriteStream, Playing.Runs, Receiving.written, State.DeviceState}
+use Rattle.vs_ring_port.specs.{Chains.chain_of, Contents.{DeviceAnswer, DeviceCall, Given, PublishCid, Read, Return, RingContents, Take, Write}, EndLog.{EndLog, entries_returned}}
+use Rattle.vs_ring_port.specs.{EndLog.{log_returned, log_taken, log_written, with_packet}, declared.{device_ring.{Chain.Chain, Next.Next}, queue.Queue.{Queue, TheVariants.Event}}}
+use Rattle.vs_ring_port.specs.declared.queue.Queue.TheVariants.{Rx, Tx}
+use Rattle.vs_device_parts.specs.{Calls.{Allows, Answer, Call, DeviceTree, IsFitChain, ReadStream, Ring, Situation, WriteStream}, Playing.Runs, Receiving.written}
+use Rattle.vs_device_parts.specs.State.{DeviceState}
 use Rattle.vs_proxy_parts.specs.{State.ProxyState, declared.answers.Turn.Turn, Turns.turn_of}
 use Rattle.laws_device.proofs.Walk.{Fields.{AfterTx, Calls, Fields, TxCalls, after_rx, fields_turn}, Keeping.{Asking, Keeps}}
-use Rattle.laws_rest.specs.{Calm.OwesNoEvent, Calm.resets_in, Rest.has_no_mark}
+use Rattle.laws_rest.specs.{Calm.{OwesNoEvent, resets_in}, Rest.has_no_mark}
+use Rattle.vs_ring_port.specs.declared.device_ring.Next.TheVariants as next
 
 -- Such a call, and a chain that fits its queue.
 abbrev IsCalm : Call → Type 0

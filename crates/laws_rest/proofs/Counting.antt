@@ -1,14 +1,11 @@
 -- Two tables with the same flows have as many connections.
-use Rattle.std.proofs.Common.{◌≡◌, ◌+◌, ◌==◌, ℕ, Bool, true, false, List, [], ◌∷◌, length, refl, sym, ap, ◌∙◌, subst, arith}
-use Rattle.std.proofs.lemmas.{Bool.eq-eqb, Bool.eqb-true, List.length-map}
+use Rattle.std.proofs.{Common.{◌≡◌, ◌+◌, ◌==◌, ℕ, Bool, true, false, List, [], ◌∷◌, length, refl, sym, ap, ◌∙◌, subst, arith}, lemmas.{Bool.{eq-eqb, eqb-true}, List.length-map}}
 use Rattle.vs_flow.specs.{Flow.same_flow, declared.flow.Flow.Flow}
 use Rattle.vs_limits.specs.declared.TheConstants.{HOST_CID}
-use Rattle.vs_page.specs.Log.{Device, Driver, Role}
-use Rattle.vs_page.proofs.Flows.{same_is, same_self}
-use Rattle.laws_tables.specs.{Both.Both, Both.at, Ends.AreDistinct, Ends.FlowEnd, Ends.flows_of, Ends.is_among, Ends.without}
-use Rattle.laws_tables.proofs.{Entries.{among_flows, without_distinct, without_none, without_own}, Tables.{IsOnce, once_rest, only_end, own_none}}
-use Rattle.laws_rest.specs.Rest.{IsAtRest, IsWithHost}
-use Rattle.laws_rest.proofs.Resting.{same_flows}
+use Rattle.vs_page.{specs.Log.{Device, Driver, Role}, proofs.Flows.{same_is, same_self}}
+use Rattle.laws_tables.{specs.{Both.{Both, at}, Ends.{AreDistinct, FlowEnd, flows_of, is_among, without}}, proofs.Entries.{among_flows, without_distinct, without_none}}
+use Rattle.laws_tables.proofs.{Entries.without_own, Tables.{IsOnce, once_rest, only_end, own_none}}
+use Rattle.laws_rest.{specs.Rest.{IsAtRest, IsWithHost}, proofs.Resting.same_flows}
 
 length_without : (f : Flow) (ys : List Flow) → AreDistinct ys → is_among f ys ≡ true → length ys ≡ length (without f ys) + 1
 length_without f [] once there = absurd cc

@@ -1,18 +1,15 @@
 -- What the host wrote and read of a connection, against the two logs.
-use Rattle.std.proofs.Common.{◌≡◌, ℕ, ◌-◌, ◌≤◌, ◌^◌, ◌<◌, Bool, true, false, cond, List, [], ◌++◌, codes, decimal, slice_get, Option}
-use Rattle.std.proofs.Common.{Some, None, refl, sym, ap, subst, ◌∙◌, arith, option_and_then}
-use Rattle.std.proofs.lemmas.{Bool.Decides.nat_tests, Option.slice_get_within}
-use Rattle.std.specs.{Option.option_map, Option.option_map_or}
-use Rattle.vs_flow.specs.{Connection.Connection, Connection.first_of, Flow.is_assigned, Table.Table, declared.flow.Flow.Flow}
-use Rattle.laws_history.specs.{History.puts, Packets.has, Packets.is_clean_rst}
+use Rattle.std.proofs.Common.{◌≡◌, ℕ, ◌-◌, ◌≤◌, ◌^◌, ◌<◌, Bool, true, false, cond, List, [], ◌++◌, codes, decimal, slice_get, Option, Some, None, refl, sym, ap, subst, ◌∙◌, arith}
+use Rattle.std.{proofs.{Common.option_and_then, lemmas.{Bool.Decides.nat_tests, Option.slice_get_within}}, specs.Option.{option_map, option_map_or}}
+use Rattle.vs_flow.specs.{Connection.{Connection, first_of}, Flow.is_assigned, Table.Table, declared.flow.Flow.Flow}
+use Rattle.laws_history.specs.{History.puts, Packets.{has, is_clean_rst}}
 use Rattle.vs_device_parts.specs.State.{DeviceConnection}
-use Rattle.vs_outside.specs.HostBytes.{after_line, host_read, host_wrote, labelled_with, read_after_ok, stream_of, wrote_after_connect}
-use Rattle.vs_outside.specs.Host.{HostContents, Stream, stream_at}
-use Rattle.vs_page.specs.{Fair.IsPrefixOf, Fair.number_of, Fair.payload_got, Fair.payload_put, Log.Device, Log.Log, Log.history_of}
+use Rattle.vs_outside.specs.{HostBytes.{after_line, host_read, host_wrote, labelled_with, read_after_ok, stream_of, wrote_after_connect}, Host.{HostContents, Stream, stream_at}}
+use Rattle.vs_page.specs.{Fair.{IsPrefixOf, number_of, payload_got, payload_put}, Log.{Device, Log, history_of}}
 use Rattle.vs_proxy_parts.specs.State.{Handshake}
-use Rattle.vs_uds.{proofs.Leading.has_lf-digits, proofs.Ports.WritesPort-decimal, specs.OkLine.ok_text}
-use Rattle.laws_device.specs.Carried.Streamed.{IsCounted, IsLabelled, IsStreamed, Seen, connection_in, count_in, has_line, line_for, look, seen}
-use Rattle.laws_device.proofs.Carried.{Hosts.label_here, Hosts.stream_is, Hosts.there, Lines.after_front}
+use Rattle.vs_uds.{proofs.{Leading.has_lf-digits, Ports.WritesPort-decimal}, specs.OkLine.ok_text}
+use Rattle.laws_device.{specs.Carried.Streamed.{IsCounted, IsLabelled, IsStreamed, Seen, connection_in, count_in, has_line, line_for, look, seen}, proofs.Carried.Hosts.label_here}
+use Rattle.laws_device.proofs.Carried.{Hosts.{stream_is, there}, Lines.after_front}
 
 -- An OK line has no LF but its last byte.
 ok_front : (port : ℕ) → is_assigned port ≡ true → has_line (codes "OK " ++ decimal port) ≡ false

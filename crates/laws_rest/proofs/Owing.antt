@@ -1,7 +1,6 @@
 -- What an end owes, under the slots of its table and of its entries.
-use Rattle.std.proofs.Common.{◌≡◌, ◌<◌, ◌==◌, ℕ, zero, suc, Bool, true, false, List, [], ◌∷◌, length, Option, Some, None, refl, ap, arith}
-use Rattle.std.proofs.lemmas.{Bool.eq-eqb, Bool.eqb-true, Grind.common_steps, List.Elements.All-map}
-use Rattle.std.specs.{List.All, List.AllPairs, Option.option_map, Prelude.find, Prelude.map, Prelude.slice_index_or}
+use Rattle.std.proofs.{Common.{◌≡◌, ◌<◌, ◌==◌, ℕ, zero, suc, Bool, true, false, List, [], ◌∷◌, length, Option, Some, None, refl, ap, arith}, lemmas.Bool.{eq-eqb, eqb-true}}
+use Rattle.std.{proofs.lemmas.{Grind.common_steps, List.Elements.All-map}, specs.{List.{All, AllPairs}, Option.option_map, Prelude.{find, map, slice_index_or}}}
 use Rattle.vs_conn.specs.End.{ConnectionEnd, owes_of}
 use Rattle.vs_flow.specs.{Table.{IsTable, Table, entry_under, revalued, slots, with_value}, declared.table.Entry.Entry}
 use Rattle.laws_tables.specs.Ends.{entries_of}

@@ -1,24 +1,18 @@
 -- A poll puts nothing only where nothing is owed, or no page is free.
-use Rattle.std.proofs.Common.{◌≡◌, ◌<◌, ◌+◌, ℕ, Bool, true, false, not, if◌then◌else◌, List, [], ◌∷◌, length, Option, Some, None, refl}
-use Rattle.std.proofs.Common.{arith}
-use Rattle.std.specs.Prelude.{nat_lt}
+use Rattle.std.{proofs.Common.{◌≡◌, ◌<◌, ◌+◌, ℕ, Bool, true, false, not, if◌then◌else◌, List, [], ◌∷◌, length, Option, Some, None, refl, arith}, specs.Prelude.nat_lt}
 use Rattle.vs_header.specs.Packet.{header_bytes}
-use Rattle.vs_contents.specs.CallTree.{Done, bind, while_up_to}
-use Rattle.vs_contents.proofs.Leads.{AllEnds, end_of, ends_bind, ends_weaker}
+use Rattle.vs_contents.{specs.CallTree.{Done, bind, while_up_to}, proofs.Leads.{AllEnds, end_of, ends_bind, ends_weaker}}
 use Rattle.vs_conn.specs.{End.owes_of, declared.end.Owed.Owed}
 use Rattle.vs_flow.specs.Table.{IsTable, entry_under, slots}
 use Rattle.vs_replies.specs.declared.Reply.{Reply}
 use Rattle.vs_ring_port.specs.{Contents.RingContents, declared.queue.Queue.TheVariants.{Event, Rx, Tx}}
-use Rattle.vs_driver_parts.specs.Conversations.{DriverTree, Round, after_paying, has_page, one_put, owed_bytes, pay_all, pay_and_publish}
-use Rattle.vs_driver_parts.specs.Conversations.{pay_slot, poll_of, poll_packets, poll_puts, poll_reaps, polled, publish_and_pay, published}
-use Rattle.vs_driver_parts.specs.Conversations.{put_all, put_owed, put_owed_of, put_replies, put_reply, put_reply_of, reap_all}
-use Rattle.vs_driver_parts.specs.Conversations.{reply_header, stage_packet, start, take_all, take_event, take_packet}
-use Rattle.vs_driver_parts.specs.{Playing.Plays, Playing.RingAllows, State.DriverEntry, State.DriverState, declared.answers.Polled.Polled}
+use Rattle.vs_driver_parts.specs.Conversations.{DriverTree, Round, after_paying, has_page, one_put, owed_bytes, pay_all, pay_and_publish, pay_slot, poll_of, poll_packets}
+use Rattle.vs_driver_parts.specs.Conversations.{poll_puts, poll_reaps, polled, publish_and_pay, published, put_all, put_owed, put_owed_of, put_replies, put_reply, put_reply_of}
+use Rattle.vs_driver_parts.specs.{Conversations.{reap_all, reply_header, stage_packet, start, take_all, take_event, take_packet}, Playing.{Plays, RingAllows}, State.DriverEntry}
+use Rattle.vs_driver_parts.specs.{State.DriverState, declared.answers.Polled.Polled}
 use Rattle.laws_driver.specs.Honest.{end_in, ends_of_state}
-use Rattle.laws_rest.specs.Rest.{OwesNothing}
-use Rattle.laws_rest.proofs.{Owing.all_owe_none, Owing.end_under, Owing.listed, Quiet.NoReplies, Quiet.NoneAt, Quiet.OwesNone}
-use Rattle.laws_rest.proofs.Quiet.{Relation, Same, Serves, Served, Sight, Steps, all_served, ends_any, ends_then, is_over, more, none_at}
-use Rattle.laws_rest.proofs.Quiet.{one_then, quiet_each, quiet_while, serves, some_at, still, touches_none, weaker}
+use Rattle.laws_rest.{specs.Rest.OwesNothing, proofs.{Owing.{all_owe_none, end_under, listed}, Quiet.{NoReplies, NoneAt, OwesNone, Relation, Same, Serves, Served, Sight, Steps}}}
+use Rattle.laws_rest.proofs.Quiet.{all_served, ends_any, ends_then, is_over, more, none_at, one_then, quiet_each, quiet_while, serves, some_at, still, touches_none, weaker}
 
 -- A stage is over early where no page is free.
 abbrev see : Round → Sight

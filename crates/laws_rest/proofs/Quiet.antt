@@ -1,8 +1,7 @@
 -- A stage that puts nothing: what is owed, as each of its steps sees it.
-use Rattle.std.proofs.Common.{◌≡◌, ◌≤◌, ◌+◌, ◌==◌, ◌||◌, ℕ, zero, suc, Bool, true, false, List, [], ◌∷◌, Option, Some, None, refl, sym, ap}
-use Rattle.std.proofs.{Common.subst, Common.◌∙◌, Common.arith, lemmas.Bool.eqb-true}
-use Rattle.vs_contents.specs.CallTree.{Ask, CallTree, Done, bind, for_each, while_up_to}
-use Rattle.vs_contents.proofs.Leads.{AllEnds, ends_bind, ends_weaker}
+use Rattle.std.proofs.Common.{◌≡◌, ◌≤◌, ◌+◌, ◌==◌, ◌||◌, ℕ, zero, suc, Bool, true, false, List, [], ◌∷◌, Option, Some, None, refl, sym, ap, subst, ◌∙◌, arith}
+use Rattle.std.proofs.lemmas.Bool.{eqb-true}
+use Rattle.vs_contents.{specs.CallTree.{Ask, CallTree, Done, bind, for_each, while_up_to}, proofs.Leads.{AllEnds, ends_bind, ends_weaker}}
 use Rattle.vs_conn.specs.End.{ConnectionEnd, owes_of}
 use Rattle.vs_replies.specs.declared.Reply.{Reply}
 

@@ -1,23 +1,18 @@
 -- Both ends at rest, flow by flow.
-use Rattle.std.proofs.Common.{◌≡◌, ℕ, ◌<◌, ◌≤◌, ◌^◌, ◌%◌, Bool, true, false, ◌||◌, if◌then◌else◌, List, [], ◌∷◌, Option, Some, None, refl}
-use Rattle.std.proofs.{Common.{sym, ap, ◌∙◌, subst, arith}, lemmas.{Grind.common_steps, List.Elements.All-head, List.Elements.All-tail}}
-use Rattle.std.specs.List.{All}
+use Rattle.std.proofs.Common.{◌≡◌, ℕ, ◌<◌, ◌≤◌, ◌^◌, ◌%◌, Bool, true, false, ◌||◌, if◌then◌else◌, List, [], ◌∷◌, Option, Some, None, refl, sym, ap, ◌∙◌, subst, arith}
+use Rattle.std.{proofs.lemmas.{Grind.common_steps, List.Elements.{All-head, All-tail}}, specs.List.All}
 use Rattle.vs_wrap.specs.Wrap.{difference32}
 use Rattle.vs_header.specs.{Kind.kind_number, declared.Kind.Kind}
-use Rattle.vs_conn.specs.{End.ConnectionEnd, End.asked, End.owes_of, Follows.Follows, Follows.IsLeftBy, Shut.is_both, Shut.is_within}
-use Rattle.vs_conn.specs.declared.{end.State.TheVariants.Live, shut.Shut.Shut}
-use Rattle.vs_flow.specs.{Flow.is_assigned, Flow.same_flow, declared.flow.Flow.Flow}
-use Rattle.laws_history.specs.History.{Answerer, Asker, Got, History, IsFair, MayPut, Put, Side, gots, of_asker, peer, puts}
-use Rattle.laws_history.specs.Packets.{asked_kind, bytes, has, is_response, is_rst, told_alloc, told_forwarded}
-use Rattle.laws_history.specs.declared.packet.Packet.{Packet}
+use Rattle.vs_conn.specs.{End.{ConnectionEnd, asked, owes_of}, Follows.{Follows, IsLeftBy}, Shut.{is_both, is_within}, declared.{end.State.TheVariants.Live, shut.Shut.Shut}}
+use Rattle.vs_flow.specs.{Flow.{is_assigned, same_flow}, declared.flow.Flow.Flow}
+use Rattle.laws_history.specs.{History.{Answerer, Asker, Got, History, IsFair, MayPut, Put, Side, gots, of_asker, peer, puts}, Packets.{asked_kind, bytes, has, is_response}}
+use Rattle.laws_history.specs.{Packets.{is_rst, told_alloc, told_forwarded}, declared.packet.Packet.Packet}
 use Rattle.vs_limits.specs.declared.TheConstants.{BUF_ALLOC, HOST_CID, UPDATE_AT}
-use Rattle.vs_page.specs.{Log.{Device, Driver, Role, history_of, other_role, packets_got, packets_put, side_of}, Open.left_kind}
-use Rattle.vs_page.proofs.Flows.{opposite_by, other_twice}
-use Rattle.laws_tables.specs.{Both.Both, Both.at, Ends.FlowEnd, Ends.ends_of, Ends.flows_of, Ends.is_among, Ends.replied, Heard.heard_of}
-use Rattle.laws_tables.specs.{Matches.IsBefore, Matches.IsHeld, Matches.IsLeftOn, Steps.HasEnd}
+use Rattle.vs_page.{specs.{Log.{Device, Driver, Role, history_of, other_role, packets_got, packets_put, side_of}, Open.left_kind}, proofs.Flows.{opposite_by, other_twice}}
+use Rattle.laws_tables.specs.{Both.{Both, at}, Ends.{FlowEnd, ends_of, flows_of, is_among, replied}, Heard.heard_of, Matches.{IsBefore, IsHeld, IsLeftOn}, Steps.HasEnd}
 use Rattle.laws_tables.proofs.Fair.{fair_now}
-use Rattle.laws_rest.specs.Rest.{ArePaired, HasWords, IsAtRest, Mirrors}
-use Rattle.laws_rest.proofs.Standing.{AreKept, AreTiedOn, device_kept, driver_kept, is_none, open_stands, stands, stands_both, tied}
+use Rattle.laws_rest.{specs.Rest.{ArePaired, HasWords, IsAtRest, Mirrors}, proofs.Standing.{AreKept, AreTiedOn, device_kept, driver_kept, is_none, open_stands, stands}}
+use Rattle.laws_rest.proofs.Standing.{stands_both, tied}
 
 abbrev pub OweNone : List ConnectionEnd → Type 0
 OweNone ends = (e : ConnectionEnd) (more : List ConnectionEnd) → ends ≡ e ∷ more → owes_of e ≡ None

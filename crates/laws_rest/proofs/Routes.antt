@@ -1,20 +1,17 @@
 -- Where the driver's packets go, carried along its calls.
-use Rattle.std.proofs.Common.{◌≡◌, ◌==◌, ◌&&◌, ◌≤◌, ◌<◌, ◌^◌, ℕ, Bool, true, false, not, List, [], ◌∷◌, take, Result, refl, ap, ◌∙◌}
-use Rattle.std.proofs.{Common.arith, lemmas.Grind.common_steps, lemmas.List.Elements.All-head, lemmas.List.Elements.All-tail}
-use Rattle.std.specs.List.{All}
+use Rattle.std.proofs.{Common.{◌≡◌, ◌==◌, ◌&&◌, ◌≤◌, ◌<◌, ◌^◌, ℕ, Bool, true, false, not, List, [], ◌∷◌, take, Result, refl, ap, ◌∙◌, arith}, lemmas.Grind.common_steps}
+use Rattle.std.{proofs.lemmas.List.Elements.{All-head, All-tail}, specs.List.All}
 use Rattle.vs_header.specs.declared.{Header.Header, Kind.TheVariants.Stream}
 use Rattle.vs_flow.specs.{Flow.same_flow, declared.flow.Flow.Flow}
 use Rattle.laws_history.specs.{declared.packet.Packet.Packet, History.{Answerer, Asker, History, Side, gots, is_begun, puts}}
 use Rattle.vs_limits.specs.declared.TheConstants.{HOST_CID, LAST_PORT}
-use Rattle.vs_page.specs.{Log.{Device, Driver, Log, flow_got, flow_put, history_of, packets_got, side_of}, Open.{cid_of, is_dropped}}
-use Rattle.vs_page.specs.declared.log.LogEntry.TheVariants.{GotPacket, PutPacket}
-use Rattle.vs_page.proofs.{Entries.one_put, Flows.same_is}
+use Rattle.vs_page.specs.{Log.{Device, Driver, Log, flow_got, flow_put, history_of, packets_got, side_of}, Open.{cid_of, is_dropped}, declared.log.LogEntry.TheVariants.GotPacket}
+use Rattle.vs_page.{specs.declared.log.LogEntry.TheVariants.PutPacket, proofs.{Entries.one_put, Flows.same_is}}
 use Rattle.vs_ring_port.specs.Contents.{RingContents}
-use Rattle.laws_tables.specs.{Heard.is_empty, Steps.owed_on, Steps.payload_on, Steps.reply_on, Steps.request_on}
-use Rattle.vs_driver_parts.specs.{Connections.next_flow, Conversations.{DriverTree, connect_of, new_of, poll_of, send_of}, Playing.Plays}
-use Rattle.vs_driver_parts.specs.{State.DriverState, declared.answers.{ConnectError.ConnectError, Polled.Polled, Sent.Sent}}
-use Rattle.laws_driver.specs.Honest.{IsFresh, IsHonestWith}
-use Rattle.laws_driver.proofs.{Calls.{CarriesConnect, CarriesSend, connect_keeps, new_keeps, rests_of, send_keeps}, Carrying.Carries}
+use Rattle.laws_tables.specs.{Heard.is_empty, Steps.{owed_on, payload_on, reply_on, request_on}}
+use Rattle.vs_driver_parts.specs.{Connections.next_flow, Conversations.{DriverTree, connect_of, new_of, poll_of, send_of}, Playing.Plays, State.DriverState}
+use Rattle.vs_driver_parts.specs.declared.answers.{ConnectError.ConnectError, Polled.Polled, Sent.Sent}
+use Rattle.laws_driver.{specs.Honest.{IsFresh, IsHonestWith}, proofs.{Calls.{CarriesConnect, CarriesSend, connect_keeps, new_keeps, rests_of, send_keeps}, Carrying.Carries}}
 use Rattle.laws_driver.proofs.{Carrying.Fact, Keeping.{Keeps, keeps_end}, Polling.poll_keeps, Staging.Rests, Tabling.entry_fits}
 use Rattle.laws_rest.specs.Rest.{AreRouted, IsRoutedLog, IsRoutedWith}
 

@@ -1,35 +1,25 @@
 -- A stage of filling that is not over puts nothing only where nothing is owed.
-use Rattle.std.proofs.Common.{◌≡◌, ◌+◌, ◌==◌, ◌&&◌, ◌||◌, not, ℕ, Bool, true, false, if◌then◌else◌, List, [], ◌∷◌, ◌++◌, length, Option}
-use Rattle.std.proofs.Common.{Some, None, Result, Ok, Err, ◌⊎◌, inl, inr, refl, sym, ap, subst, ◌∙◌, arith}
-use Rattle.std.proofs.lemmas.{Bool.eqb-true, Grind.common_steps}
-use Rattle.std.specs.Prelude.{filter, find, nat_le, nat_lt}
-use Rattle.vs_contents.specs.{CallTree.Ask, CallTree.Done, CallTree.bind, CallTree.for_each, CallTree.while_up_to, Contents.Relates}
-use Rattle.vs_contents.proofs.Leads.{AllEnds, end_of, ends_bind, ends_weaker}
-use Rattle.vs_conn.specs.{End.owes_of, End.wanting_credit, End.with_payload_sent, Headers.owed_header, Headers.payload_header}
-use Rattle.vs_conn.specs.declared.end.{Owed.Owed}
+use Rattle.std.proofs.Common.{◌≡◌, ◌+◌, ◌==◌, ◌&&◌, ◌||◌, not, ℕ, Bool, true, false, if◌then◌else◌, List, [], ◌∷◌, ◌++◌, length, Option, Some, None, Result, Ok, Err, ◌⊎◌, inl, inr}
+use Rattle.std.{proofs.{Common.{refl, sym, ap, subst, ◌∙◌, arith}, lemmas.{Bool.eqb-true, Grind.common_steps}}, specs.Prelude.{filter, find, nat_le, nat_lt}}
+use Rattle.vs_contents.{specs.{CallTree.{Ask, Done, bind, for_each, while_up_to}, Contents.Relates}, proofs.Leads.{AllEnds, end_of, ends_bind, ends_weaker}}
+use Rattle.vs_conn.specs.{End.{owes_of, wanting_credit, with_payload_sent}, Headers.{owed_header, payload_header}, declared.end.Owed.Owed}
 use Rattle.vs_credit.specs.Credit.{free_of}
 use Rattle.vs_flow.specs.Table.{IsTable, entry_under, slots, with_value}
 use Rattle.vs_header.specs.declared.Header.{Header}
 use Rattle.vs_outside.specs.declared.host_net.StreamRead.{StreamRead}
-use Rattle.vs_outside.specs.declared.host_net.StreamRead.TheVariants as read
 use Rattle.vs_replies.specs.declared.Reply.{Reply}
-use Rattle.vs_ring_port.specs.{Contents.Take, Known.StopsAt, declared.failure.Failure.Failure, declared.device_ring.Chain.Chain}
-use Rattle.vs_ring_port.specs.declared.{device_ring.Next.Next, queue.Queue.TheVariants.Rx}
-use Rattle.vs_ring_port.specs.declared.device_ring.Next.TheVariants as next
-use Rattle.vs_device_parts.specs.{Calls.{Allows, CloseStream, DeviceTree, ReadStream, Ring, Situation}, Connections.{after_shut, cut_off}}
-use Rattle.vs_device_parts.specs.{Connections.{route_to_guest, with_connection, with_fault}, Receiving.{Filling, after_paying, fill_rx_of}}
-use Rattle.vs_device_parts.specs.Receiving.{filled_of, hold, holding, may_read, put_on, put_owed, put_packet, put_reply, put_reply_of}
-use Rattle.vs_device_parts.specs.Receiving.{read_answered, read_room, read_stream, read_with_chain, reply_header, round_from, serve_slot}
-use Rattle.vs_device_parts.specs.{Receiving.written, Playing.Runs, State.{DeviceConnection, DeviceEntry, DeviceState}, Steps.filling}
-use Rattle.vs_device_parts.specs.{Streams.closing, declared.answers.Filled.Filled}
-use Rattle.laws_device.specs.Named.Waiting.{filling_of}
-use Rattle.laws_device.proofs.Named.Stopping.{is_stage, over_stops}
-use Rattle.laws_device.specs.Honest.{end_in, ends_of_state}
-use Rattle.laws_rest.specs.Rest.{OwesNothing}
-use Rattle.laws_rest.proofs.{Owing.{all_owe_none, end_under, listed, same_slots, same_under}, Quiet.{Any, NoReplies, NoneAt, OwesNone}}
-use Rattle.laws_rest.proofs.Quiet.{Relation, Same, Served, Serves, Sight, Steps, Touches, all_served, ends_any, ends_then, in_list, is_over}
-use Rattle.laws_rest.proofs.Quiet.{more, none_at, one_then, quiet_each, quiet_while, serves, some_at, still, touches_none}
+use Rattle.vs_ring_port.specs.{Contents.Take, Known.StopsAt, declared.{failure.Failure.Failure, device_ring.{Chain.Chain, Next.Next}, queue.Queue.TheVariants.Rx}}
+use Rattle.vs_device_parts.specs.{Calls.{Allows, CloseStream, DeviceTree, ReadStream, Ring, Situation}, Connections.{after_shut, cut_off, route_to_guest, with_connection}}
+use Rattle.vs_device_parts.specs.{Connections.with_fault, Receiving.{Filling, after_paying, fill_rx_of, filled_of, hold, holding, may_read, put_on, put_owed, put_packet}}
+use Rattle.vs_device_parts.specs.Receiving.{put_reply, put_reply_of, read_answered, read_room, read_stream, read_with_chain, reply_header, round_from, serve_slot, written}
+use Rattle.vs_device_parts.specs.{Playing.Runs, State.{DeviceConnection, DeviceEntry, DeviceState}, Steps.filling, Streams.closing, declared.answers.Filled.Filled}
+use Rattle.laws_device.{specs.{Named.Waiting.filling_of, Honest.{end_in, ends_of_state}}, proofs.Named.Stopping.{is_stage, over_stops}}
+use Rattle.laws_rest.{specs.Rest.OwesNothing, proofs.{Owing.{all_owe_none, end_under, listed, same_slots, same_under}, Quiet.{Any, NoReplies, NoneAt, OwesNone, Relation, Same}}}
+use Rattle.laws_rest.proofs.Quiet.{Served, Serves, Sight, Steps, Touches, all_served, ends_any, ends_then, in_list, is_over, more, none_at, one_then, quiet_each, quiet_while}
+use Rattle.laws_rest.proofs.Quiet.{serves, some_at, still, touches_none}
 use Rattle.vs_limits.specs.declared.TheConstants.{OWED_MAX}
+use Rattle.vs_outside.specs.declared.host_net.StreamRead.TheVariants as read
+use Rattle.vs_ring_port.specs.declared.device_ring.Next.TheVariants as next
 
 abbrev see : Filling → Sight
 see r = record {

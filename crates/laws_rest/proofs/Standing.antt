@@ -1,20 +1,14 @@
 -- Whether a flow stands, by the packets put and got on its present connection alone, in whatever order they passed.
-use Rattle.std.proofs.Common.{◌≡◌, ℕ, Bool, true, false, ◌&&◌, not, if◌then◌else◌, Option, Some, None, List, [], ◌∷◌, refl, sym, ap, ◌∙◌}
-use Rattle.std.proofs.{Common.{subst, arith}, lemmas.Grind.common_steps, lemmas.List.Elements.{All-cons, All-head, All-nil, All-tail}}
-use Rattle.std.specs.List.{All}
-use Rattle.vs_flow.specs.{Flow.is_assigned, Flow.same_flow, declared.flow.Flow.Flow}
-use Rattle.laws_history.specs.{Again.AllowsNow, Again.IsFairAll, Again.now_got, Again.now_put, History.Answerer, History.Asker, History.Got}
-use Rattle.laws_history.specs.History.{History, MayPut, Put, Side, gots, is_begun, of_asker, peer, puts}
-use Rattle.laws_history.specs.{Packets.asked_kind, Packets.has, Packets.is_request, Packets.is_rst, declared.packet.Packet.Packet}
-use Rattle.laws_history.proofs.Present.{is_present, swap, swap_back}
+use Rattle.std.proofs.{Common.{◌≡◌, ℕ, Bool, true, false, ◌&&◌, not, if◌then◌else◌, Option, Some, None, List, [], ◌∷◌, refl, sym, ap, ◌∙◌, subst, arith}, lemmas.Grind.common_steps}
+use Rattle.std.{proofs.lemmas.List.Elements.{All-cons, All-head, All-nil, All-tail}, specs.List.All}
+use Rattle.vs_flow.specs.{Flow.{is_assigned, same_flow}, declared.flow.Flow.Flow}
+use Rattle.laws_history.specs.{Again.{AllowsNow, IsFairAll, now_got, now_put}, History.{Answerer, Asker, Got, History, MayPut, Put, Side, gots, is_begun, of_asker, peer, puts}}
+use Rattle.laws_history.{specs.{Packets.{asked_kind, has, is_request, is_rst}, declared.packet.Packet.Packet}, proofs.Present.{is_present, swap, swap_back}}
 use Rattle.vs_limits.specs.declared.TheConstants.{HOST_CID}
-use Rattle.vs_page.specs.{Fair.IsFairOn, Log.{Device, Driver, Log, Role, and_then, flow_got, flow_put, history_of, other_role, packets_got}}
-use Rattle.vs_page.specs.{Log.{packets_put, side_of, whole_of}, Open.{cid_of, is_dropped, kind_ended, kind_got, kind_put, left_kind}}
-use Rattle.vs_page.specs.declared.log.LogEntry.TheVariants.{GotPacket, Mark, PutPacket}
-use Rattle.vs_page.proofs.{Entries.fair_got_on, Entries.fair_put_on, Entries.got_on, Entries.present_is, Flows.opposite_by, Flows.same_is}
-use Rattle.vs_page.proofs.{Flows.other_twice, Phases.kind_stays}
-use Rattle.laws_tables.specs.Heard.{IsAllHeard}
-use Rattle.laws_tables.proofs.{Fair.all_got, Fair.all_put, Frame.open_got, Frame.open_put}
+use Rattle.vs_page.specs.{Fair.IsFairOn, Log.{Device, Driver, Log, Role, and_then, flow_got, flow_put, history_of, other_role, packets_got, packets_put, side_of, whole_of}}
+use Rattle.vs_page.specs.{Open.{cid_of, is_dropped, kind_ended, kind_got, kind_put, left_kind}, declared.log.LogEntry.TheVariants.{GotPacket, Mark, PutPacket}}
+use Rattle.vs_page.proofs.{Entries.{fair_got_on, fair_put_on, got_on, present_is}, Flows.{opposite_by, same_is, other_twice}, Phases.kind_stays}
+use Rattle.laws_tables.{specs.Heard.IsAllHeard, proofs.{Fair.{all_got, all_put}, Frame.{open_got, open_put}}}
 use Rattle.laws_rest.specs.Rest.{AreRouted, has_no_mark}
 
 -- Something passed, and no RST.

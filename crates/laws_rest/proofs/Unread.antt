@@ -1,18 +1,16 @@
 -- Bytes are pending as they are unread, whatever the end does.
-use Rattle.std.proofs.Common.{◌≡◌, ◌+◌, ◌-◌, ◌<◌, ◌≤◌, ◌%◌, ◌^◌, ℕ, Bool, true, false, cond, List, [], ◌++◌, length, Option, Some, refl}
-use Rattle.std.proofs.Common.{sym, ap, ◌∙◌, arith, length-append, length-drop, length-take}
-use Rattle.std.proofs.lemmas.{Bool.Decides.nat_tests, Grind.common_steps}
-use Rattle.vs_conn.specs.End.{ConnectionEnd, after_message, after_op, owes_of, paid_of, verdict_of, with_shut}
-use Rattle.vs_conn.specs.declared.end.{Owed.Owed, State.State, State.TheVariants.Ended, Verdict.Verdict}
-use Rattle.vs_conn.specs.declared.end.Verdict.TheVariants as verdict
-use Rattle.vs_conn.proofs.Frames.{got_over, paid_credit}
+use Rattle.std.proofs.Common.{◌≡◌, ◌+◌, ◌-◌, ◌<◌, ◌≤◌, ◌%◌, ◌^◌, ℕ, Bool, true, false, cond, List, [], ◌++◌, length, Option, Some, refl, sym, ap, ◌∙◌, arith, length-append}
+use Rattle.std.proofs.{Common.{length-drop, length-take}, lemmas.{Bool.Decides.nat_tests, Grind.common_steps}}
+use Rattle.vs_conn.specs.{End.{ConnectionEnd, after_message, after_op, owes_of, paid_of, verdict_of, with_shut}, declared.end.{Owed.Owed, State.{State, TheVariants.Ended}}}
+use Rattle.vs_conn.{specs.declared.end.Verdict.Verdict, proofs.Frames.{got_over, paid_credit}}
 use Rattle.vs_credit.specs.Credit.{room_of, unread_of}
-use Rattle.vs_header.specs.{Op.op_named, declared.Header.Header, declared.Op.Op}
-use Rattle.vs_header.specs.declared.Op.TheVariants as op
+use Rattle.vs_header.specs.{Op.op_named, declared.{Header.Header, Op.Op}}
 use Rattle.vs_limits.specs.declared.TheConstants.{BUF_ALLOC_MAX}
 use Rattle.vs_device_parts.specs.{Connections.{after_shut, after_written}, State.DeviceConnection, Streams.to_write, Transmitting.heard}
 use Rattle.laws_device.specs.Honest.{HoldsBytes}
 use Rattle.laws_rest.specs.Pending.{IsExact, delivered}
+use Rattle.vs_conn.specs.declared.end.Verdict.TheVariants as verdict
+use Rattle.vs_header.specs.declared.Op.TheVariants as op
 
 forwards : (rx fwd n u : ℕ) → rx < 2 ^ 32 → fwd < 2 ^ 32 → n ≤ u → (rx + 2 ^ 32 - fwd) % 2 ^ 32 ≡ u
     → (rx + 2 ^ 32 - (fwd + n) % 2 ^ 32) % 2 ^ 32 ≡ u - n

@@ -2,16 +2,14 @@
 use Rattle.std.specs.Prelude.{◌≡◌, ℕ, ◌++◌, true, List, Some}
 use Rattle.vs_flow.specs.Connection.{Connection}
 use Rattle.laws_history.specs.declared.packet.Packet.{Packet}
-use Rattle.vs_outside.specs.{Host.HostContents, HostBytes.host_read, HostBytes.host_wrote}
-use Rattle.vs_page.specs.Fair.{IsFairLog, IsPrefixOf, payload_got, payload_put}
-use Rattle.vs_page.specs.Log.{Driver, Log, Role, other_role, packets_got, packets_put}
+use Rattle.vs_outside.specs.{Host.HostContents, HostBytes.{host_read, host_wrote}}
+use Rattle.vs_page.specs.{Fair.{IsFairLog, IsPrefixOf, payload_got, payload_put}, Log.{Driver, Log, Role, other_role, packets_got, packets_put}}
 use Rattle.vs_ring_port.specs.{Contents.RingContents, EndLog.EndLog}
 use Rattle.laws_tables.specs.Both.{Both, at}
 use Rattle.vs_driver_parts.specs.State.{DriverState}
 use Rattle.laws_driver.specs.Honest.{ends_of_state as driver_ends}
 use Rattle.vs_device_parts.specs.Calls.{Situation}
-use Rattle.laws_device.specs.Honest.{ends_of_state as device_ends}
-use Rattle.laws_device.specs.Streams.{AreHeard}
+use Rattle.laws_device.specs.{Honest.ends_of_state as device_ends, Streams.AreHeard}
 use Rattle.vs_proxy_parts.specs.State.{ProxyState}
 
 -- All packets that an end got are those that the other put first.

@@ -4,8 +4,7 @@ use Rattle.std.specs.Prelude.{List, [], ◌∷◌, ◌++◌, true}
 use Rattle.vs_header.specs.declared.Kind.TheVariants.{Stream}
 use Rattle.vs_limits.specs.declared.TheConstants.{ASSIGNED_FIRST}
 use Rattle.vs_page.specs.Log.{Device, Driver}
-use Rattle.laws_tables.specs.{Both.Both, Both.Happening, Both.Opens, Both.Takes, Both.TakesReset, Both.run, Both.start, Examples.closing}
-use Rattle.laws_tables.specs.{Examples.guest_cid, Examples.guest_flow, Examples.new_cid, Examples.opening, Steps.request_on}
+use Rattle.laws_tables.specs.{Both.{Both, Happening, Opens, Takes, TakesReset, run, start}, Examples.{closing, guest_cid, guest_flow, new_cid, opening}, Steps.request_on}
 
 abbrev pub losing : List Happening
 losing =

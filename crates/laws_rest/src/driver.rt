@@ -4,9 +4,8 @@ ghost use Rattle.std.specs.Prelude.{◌≡◌, ◌<◌, ◌≤◌, ◌^◌, ℕ,
 ghost use Rattle.vs_flow.specs.Table.{IsTable};
 ghost use Rattle.vs_ring_port.specs.Contents.{RingContents};
 ghost use Rattle.vs_limits.specs.declared.TheConstants.{LAST_PORT};
-ghost use Rattle.vs_driver_parts.specs.{Conversations.connect_of, Conversations.new_of, Conversations.poll_of, Conversations.send_of};
-ghost use Rattle.vs_driver_parts.specs.{Playing.Plays, State.DriverState};
-ghost use Rattle.vs_driver_parts.specs.declared.answers.{ConnectError.ConnectError, Polled.Polled, Sent.Sent};
+ghost use Rattle.vs_driver_parts.specs.{Conversations.{connect_of, new_of, poll_of, send_of}, Playing.Plays, State.DriverState, declared.answers.ConnectError.ConnectError};
+ghost use Rattle.vs_driver_parts.specs.declared.answers.{Polled.Polled, Sent.Sent};
 ghost use Rattle.laws_driver.specs.Honest.{IsFresh, IsHonestWith, ends_of_state};
 ghost use Rattle.laws_rest.specs.Rest.{IsRoutedWith, OwesNothing};
 

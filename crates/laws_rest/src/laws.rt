@@ -6,11 +6,9 @@ ghost use Rattle.vs_credit.specs.Credit.{free_of, unread_of};
 ghost use Rattle.vs_flow.specs.declared.flow.Flow.{Flow};
 ghost use Rattle.vs_limits.specs.declared.TheConstants.{HOST_CID};
 ghost use Rattle.vs_page.specs.Log.{Role, other_role, packets_got, packets_put};
-ghost use Rattle.laws_tables.specs.{Both.Both, Both.MayRun, Both.at, Ends.flows_of, Ends.is_among, Examples.guest_cid, Examples.guest_flow};
-ghost use Rattle.laws_tables.specs.Steps.{HasEnd};
-ghost use Rattle.laws_rest.specs.Examples.{fresh, losing, lost, opened_twice, resting};
-ghost use Rattle.laws_rest.specs.Pages.{AllGiven, AreTied, NoneInFlight, Queued};
-ghost use Rattle.laws_rest.specs.Rest.{ArePaired, IsAtRest, IsWithHost, OwesNothing, over_half};
+ghost use Rattle.laws_tables.specs.{Both.{Both, MayRun, at}, Ends.{flows_of, is_among}, Examples.{guest_cid, guest_flow}, Steps.HasEnd};
+ghost use Rattle.laws_rest.specs.{Examples.{fresh, losing, lost, opened_twice, resting}, Pages.{AllGiven, AreTied, NoneInFlight, Queued}, Rest.{ArePaired, IsAtRest, IsWithHost}};
+ghost use Rattle.laws_rest.specs.Rest.{OwesNothing, over_half};
 
 /// At rest both tables hold the same flows with the host, and each such connection is Live at both ends, which know of each other what each
 /// told, also where flows were used before. Where all connections are with the host, the tables have as many.

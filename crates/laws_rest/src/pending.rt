@@ -1,12 +1,10 @@
 //! What the device holds of a connection is what the connection's end counts as unread.
 
 ghost use Rattle.std.specs.Prelude.{◌≡◌, ◌≤◌, ◌++◌, ℕ, List, Some, false, length, true};
-ghost use Rattle.vs_conn.specs.{End.answering, End.asked, End.owes_of, End.paid_of, End.verdict_of, End.wanting_credit};
-ghost use Rattle.vs_conn.specs.{End.with_payload_sent, declared.end.Owed.Owed};
+ghost use Rattle.vs_conn.specs.{End.{answering, asked, owes_of, paid_of, verdict_of, wanting_credit, with_payload_sent}, declared.end.Owed.Owed};
 ghost use Rattle.vs_header.specs.declared.{Header.Header, Kind.Kind};
 ghost use Rattle.vs_limits.specs.declared.TheConstants.{BUF_ALLOC};
-ghost use Rattle.vs_device_parts.specs.Connections.{after_shut, after_written, cut_off, new_connection};
-ghost use Rattle.vs_device_parts.specs.{State.DeviceConnection, Streams.to_write, Transmitting.heard};
+ghost use Rattle.vs_device_parts.specs.{Connections.{after_shut, after_written, cut_off, new_connection}, State.DeviceConnection, Streams.to_write, Transmitting.heard};
 ghost use Rattle.laws_device.specs.Honest.{HoldsBytes};
 ghost use Rattle.laws_rest.specs.Pending.{IsExact, delivered};
 

@@ -1,10 +1,8 @@
 -- The calls on the two ends of a ring, and how the logic stores them.
-use Rattle.std.specs.Prelude.{◌≡◌, ℕ, List, [], ◌∷◌, Option, ◌==◌, cond, option_map, refl}
-use Rattle.std.specs.Coded.{Coded, code_by, coded×, coded_ℕ, coded_list, coded_option}
+use Rattle.std.specs.{Prelude.{◌≡◌, ℕ, List, [], ◌∷◌, Option, ◌==◌, cond, option_map, refl}, Coded.{Coded, code_by, coded×, coded_ℕ, coded_list, coded_option}}
 use mathlib.Core.Path.{ap}
-use Rattle.vs_ring_port.specs.{Contents.{DeviceCall, Take, Read, Write, Return, Given, PublishCid}, DriverCalls.{DriverCall, Stage}}
-use Rattle.vs_ring_port.specs.{DriverCalls.{Publish, Reap, LoadCid}, declared.{device_ring.Chain.Chain, queue.Queue.Queue}}
-use Rattle.vs_ring_port.specs.{declared.{queue.Queue.TheVariants.Rx, queue.Queue.TheVariants.Tx}, declared.queue.Queue.TheVariants.Event}
+use Rattle.vs_ring_port.specs.{Contents.{DeviceCall, Take, Read, Write, Return, Given, PublishCid}, DriverCalls.{DriverCall, Stage, Publish, Reap, LoadCid}}
+use Rattle.vs_ring_port.specs.declared.{device_ring.Chain.Chain, queue.Queue.{Queue, TheVariants.{Rx, Tx, Event}}}
 
 -- A call of the driver or of the device.
 pub data RingCall : Type 0 where

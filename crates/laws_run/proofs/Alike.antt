@@ -1,21 +1,17 @@
 -- Drivers whose connections differ in no more than what they ask for of credit.
 use Rattle.std.proofs.Common.{◌≡◌, ◌==◌, ◌||◌, ◌+◌, ℕ, nat_le, not, Bool, true, false, cond, List, [], ◌∷◌, map, length, Option, Some, None, refl, sym, ap, subst, ◌∙◌, arith}
-use Rattle.std.proofs.{Math.Path.fun_ext, lemmas.{Bool.eq-eqb, Grind.common_steps, List.length-map}}
-use Rattle.std.specs.{Option.option_map, Prelude.find, Prelude.is_some}
-use Rattle.vs_conn.specs.{End.ConnectionEnd, End.may_send_of, End.state_may_send, End.wanting_credit}
-use Rattle.vs_conn.specs.declared.end.State.{State, TheVariants.{Answering, Asked, Ended, Live}}
-use Rattle.vs_flow.specs.Table.{Table, revalued, slots}
-use Rattle.vs_flow.proofs.Lookups.{find-map_same}
+use Rattle.std.{proofs.{Math.Path.fun_ext, lemmas.{Bool.eq-eqb, Grind.common_steps, List.length-map}}, specs.{Option.option_map, Prelude.{find, is_some}}}
+use Rattle.vs_conn.specs.{End.{ConnectionEnd, may_send_of, state_may_send, wanting_credit}, declared.end.State.{State, TheVariants.{Answering, Asked, Ended, Live}}}
+use Rattle.vs_flow.{specs.Table.{Table, revalued, slots}, proofs.Lookups.find-map_same}
 use Rattle.vs_limits.specs.declared.TheConstants.{DRIVER_CONNECTIONS}
-use Rattle.vs_driver_parts.specs.Listening.{is_answered, listener_on, next_accepted}
-use Rattle.vs_driver_parts.specs.Connections.{entry_answer, gone_answer, is_full, recv_of, state_of, state_shown, with_end}
+use Rattle.vs_driver_parts.specs.{Listening.{is_answered, listener_on, next_accepted}, Connections.{entry_answer, gone_answer, is_full, recv_of, state_of, state_shown, with_end}}
 use Rattle.vs_driver_parts.specs.State.{DriverConnection, DriverEntry, DriverState, GoneConnection, Listener, entry_known_as, gone_known_as, is_known_as}
 use Rattle.vs_driver_parts.specs.declared.answers.{ConnectionState.ConnectionState, Received.Received}
-use Rattle.vs_driver_parts.specs.declared.answers.ConnectionState.TheVariants as seen
-use Rattle.vs_driver_parts.specs.declared.answers.Received.TheVariants as got
 use Rattle.laws_driver.specs.Honest.{end_in}
 use Rattle.laws_rest.proofs.{Owing.same_slots, Quiet.in_list}
 use Rattle.laws_run.proofs.Still.{SameCore}
+use Rattle.vs_driver_parts.specs.declared.answers.ConnectionState.TheVariants as seen
+use Rattle.vs_driver_parts.specs.declared.answers.Received.TheVariants as got
 
 -- An entry without what it asks for of credit.
 abbrev pub calmed : ConnectionEnd → ConnectionEnd

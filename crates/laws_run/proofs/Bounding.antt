@@ -1,23 +1,18 @@
 -- What an app's done instructions name was moved, where none of them was over early.
-use Rattle.std.proofs.Common.{◌≡◌, ◌⊎◌, inl, inr, ℕ, ◌+◌, ◌≤◌, ◌==◌, ◌||◌, ◌&&◌, not, nat_le, nat_lt, Bool, true, false, cond, List, []}
-use Rattle.std.proofs.Common.{◌∷◌, ◌++◌, Option, Some, None, slice_get, refl, sym, ap, subst, ◌∙◌, arith}
-use Rattle.std.{proofs.lemmas.Bool.Decides.nat_tests, proofs.lemmas.Bool.and_parts, proofs.lemmas.Bool.eq-eqb, proofs.lemmas.Bool.eqb-true}
-use Rattle.std.{specs.Option.option_or, specs.Option.unwrap_or}
-use Rattle.vs_script.specs.{App.Act, App.Drain, App.Exchange, App.Recv, App.Send, Data.Content, Data.size_of}
-use Rattle.vs_driver_parts.specs.{declared.answers.Received.Received, declared.answers.Sent.Sent}
+use Rattle.std.proofs.Common.{◌≡◌, ◌⊎◌, inl, inr, ℕ, ◌+◌, ◌≤◌, ◌==◌, ◌||◌, ◌&&◌, not, nat_le, nat_lt, Bool, true, false, cond, List, [], ◌∷◌, ◌++◌, Option, Some, None, slice_get}
+use Rattle.std.{proofs.{Common.{refl, sym, ap, subst, ◌∙◌, arith}, lemmas.Bool.{Decides.nat_tests, and_parts, eq-eqb, eqb-true}}, specs.Option.{option_or, unwrap_or}}
+use Rattle.vs_script.specs.{App.{Act, Drain, Exchange, Recv, Send}, Data.{Content, size_of}}
+use Rattle.vs_driver_parts.specs.declared.answers.{Received.Received, Sent.Sent}
+use Rattle.laws_driver.specs.Carried.Calls.{GuestCall, Journal, Made, ReplyTo, names}
+use Rattle.vs_apps_parts.specs.Scripts.{Follows, after_step, all_counted, all_noted, begun, calls_in, calls_next, counted, goes_to, id_of, is_complete, more, on_to_next, recv_next}
+use Rattle.vs_apps_parts.specs.{Scripts.{send_next, told_in, with_noted}, Journals.id_in, Told.{is_any_end, is_end, step_wait, told_by, told_of, wait_of, told_recv, told_send}}
+use Rattle.vs_apps_parts.specs.declared.{journal.WaitsFor.WaitsFor, progress.Progress.Progress, told.Told.Told}
+use Rattle.laws_apps.specs.Traces.{id_told, is_shut, shuts}
+use Rattle.laws_run.specs.Bounds.{done_at, done_by, exchanged_by, is_at, received_in, sent_by, step_on, total, went}
 use Rattle.vs_driver_parts.specs.declared.answers.Received.TheVariants as got
 use Rattle.vs_driver_parts.specs.declared.answers.Sent.TheVariants as sent
-use Rattle.laws_driver.specs.{Carried.Calls.GuestCall, Carried.Calls.Journal, Carried.Calls.Made, Carried.Calls.ReplyTo}
-use Rattle.laws_driver.specs.Carried.Calls.{names}
 use Rattle.laws_driver.specs.Carried.Calls as call
-use Rattle.vs_apps_parts.specs.Scripts.{Follows, after_step, all_counted, all_noted, begun, calls_in, calls_next, counted, goes_to, id_of}
-use Rattle.vs_apps_parts.specs.Scripts.{is_complete, more, on_to_next, recv_next, send_next, told_in, with_noted}
-use Rattle.vs_apps_parts.specs.{Journals.id_in, Told.is_any_end, Told.is_end, Told.step_wait, Told.told_by, Told.told_of, Told.wait_of}
-use Rattle.vs_apps_parts.specs.{Told.told_recv, Told.told_send, declared.journal.WaitsFor.WaitsFor, declared.progress.Progress.Progress}
-use Rattle.vs_apps_parts.specs.declared.told.Told.{Told}
 use Rattle.vs_apps_parts.specs.declared.told.Told.TheVariants as says
-use Rattle.laws_apps.specs.{Traces.id_told, Traces.is_shut, Traces.shuts}
-use Rattle.laws_run.specs.Bounds.{done_at, done_by, exchanged_by, is_at, received_in, sent_by, step_on, total, went}
 
 -- An instruction that sends or receives; and a call that does.
 abbrev moves : Act → Bool

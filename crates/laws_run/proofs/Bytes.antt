@@ -3,26 +3,21 @@ use Rattle.std.proofs.Common.{◌≡◌, ℕ, ◌≤◌, true, false, List, [], 
 use Rattle.vs_flow.specs.{Connection.Connection, declared.flow.Flow.Flow}
 use Rattle.vs_limits.specs.declared.TheConstants.{FIRST_CID}
 use Rattle.vs_outside.specs.Host.{HostContents}
-use Rattle.vs_page.specs.{Fair.number_of, Log.{Device, Driver, Log, Role, flow_got}}
-use Rattle.vs_page.specs.declared.log.LogEntry.TheVariants.{GotEvent, GotPacket, Mark, PutEvent, PutPacket}
+use Rattle.vs_page.specs.{Fair.number_of, Log.{Device, Driver, Log, Role, flow_got}, declared.log.LogEntry.TheVariants.{GotEvent, GotPacket, Mark, PutEvent, PutPacket}}
 use Rattle.vs_page.proofs.Flows.{same_self}
 use Rattle.vs_ring_port.specs.EndLog.{EndLog}
 use Rattle.vs_driver_parts.specs.State.{DriverState}
 use Rattle.vs_device_parts.specs.Playing.{situation}
 use Rattle.vs_ring_shared.specs.Sights.{DeviceSight, Sight, device_contents, device_log, driver_contents, driver_log}
 use Rattle.vs_proxy_parts.specs.State.{ProxyState}
-use Rattle.laws_tables.specs.Both.{at}
-use Rattle.laws_driver.specs.Carried.{Calls.Journal, Calls.account_of, Calls.received_by, Senders.IsRightJournal}
-use Rattle.laws_tables.specs.Asked.{AskOnce}
-use Rattle.laws_driver.specs.Honest.{slots_of}
+use Rattle.laws_tables.specs.{Both.at, Asked.AskOnce}
+use Rattle.laws_driver.specs.{Carried.{Calls.{Journal, account_of, received_by}, Senders.IsRightJournal}, Honest.slots_of}
 use Rattle.laws_device.specs.Streams.{AreHeard}
-use Rattle.laws_rest.specs.Bytes.{AreTold, BothEnds, CarryBytes}
-use Rattle.laws_rest.proofs.{BothEnds.carry_told, BothEnds.once, Standing.AreKept, Standing.device_kept}
+use Rattle.laws_rest.{specs.Bytes.{AreTold, BothEnds, CarryBytes}, proofs.{BothEnds.{carry_told, once}, Standing.{AreKept, device_kept}}}
 use Rattle.laws_proxy.specs.Honest.{IsProxyStreamed}
 use Rattle.laws_settled.specs.Settled.{IsSettled, ends_at_rest}
 use Rattle.vs_apps_parts.specs.{Journals.sent_as, declared.journal.Entry.Entry}
-use Rattle.laws_apps.specs.Accounts.{IsAccount}
-use Rattle.laws_apps.proofs.Naming.{sent_by_id}
+use Rattle.laws_apps.{specs.Accounts.IsAccount, proofs.Naming.sent_by_id}
 
 -- A device that dropped no packet dropped no payload.
 all_heard : (first : ℕ) (log : Log) → ((f : Flow) → AreKept Device first f log) → AreHeard first log

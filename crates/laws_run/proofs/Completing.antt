@@ -1,55 +1,43 @@
 -- From what a run ends in to a complete report.
-use Rattle.std.proofs.Common.{◌≡◌, ◌+◌, ◌<◌, ◌≤◌, ◌==◌, ◌||◌, ◌&&◌, inl, inr, ℕ, suc, Bool, true, false, cond, List, [], ◌∷◌, ◌++◌, Option, Some, None, Ok, length, map}
-use Rattle.std.proofs.Common.{Contains, nat_lt, slice_get, ◌⊎◌, slice_index_or, refl, sym, ap, subst, ◌∙◌, arith, append-nil, length-append, length-take, take}
-use Rattle.std.proofs.lemmas.{Bool.and_parts, Bool.Decides.nat_tests, Bool.eqb-true, Grind.common_steps, List.Elements.{All-cons, All-contains, All-tail}, List.length-map, Option.same_Some, Option.slice_get_read}
-use Rattle.std.specs.{List.{All, AllPairs, list_any}, Option.{option_map}, Option.unwrap_or, Prelude.not}
-use Rattle.vs_flow.specs.{Connection.Connection, Connection.first_of, Flow.same_flow, Table.IsTable, Table.entry_under, Table.value_under, declared.flow.Flow.Flow}
-use Rattle.vs_conn.specs.{End.ConnectionEnd, End.may_send_of, Shut.is_both, declared.end.State.{State, TheVariants.Ended, TheVariants.Live}}
+use Rattle.std.proofs.Common.{◌≡◌, ◌+◌, ◌<◌, ◌≤◌, ◌==◌, ◌||◌, ◌&&◌, inl, inr, ℕ, suc, Bool, true, false, cond, List, [], ◌∷◌, ◌++◌, Option, Some, None, Ok, length, map, Contains}
+use Rattle.std.proofs.{Common.{nat_lt, slice_get, ◌⊎◌, slice_index_or, refl, sym, ap, subst, ◌∙◌, arith, append-nil, length-append, length-take, take}, lemmas.Bool.and_parts}
+use Rattle.std.proofs.lemmas.{Bool.{Decides.nat_tests, eqb-true}, Grind.common_steps, List.{Elements.{All-cons, All-contains, All-tail}, length-map}, Option.same_Some}
+use Rattle.std.{proofs.lemmas.Option.slice_get_read, specs.{List.{All, AllPairs, list_any}, Option.{option_map, unwrap_or}, Prelude.not}}
+use Rattle.vs_flow.{specs.{Connection.{Connection, first_of}, Flow.same_flow, Table.{IsTable, entry_under, value_under}, declared.flow.Flow.Flow}, proofs.Entries.found_at}
+use Rattle.vs_conn.specs.{End.{ConnectionEnd, may_send_of}, Shut.is_both, declared.{end.State.{State, TheVariants.{Ended, Live}}, shut.Shut.Shut}}
 use Rattle.vs_limits.specs.declared.TheConstants.{FIRST_CID}
-use Rattle.vs_outside.specs.{Faults.one_more, Host.HostContents, Host.Stream, Host.stream_at, HostBytes.host_read, HostBytes.host_wrote}
-use Rattle.vs_page.specs.{Fair.current, Fair.number_of, Fair.payload_got, Log.Device, Log.Driver}
+use Rattle.vs_outside.specs.{Faults.one_more, Host.{HostContents, Stream, stream_at}, HostBytes.{host_read, host_wrote}}
+use Rattle.vs_page.{specs.{Fair.{current, number_of, payload_got}, Log.{Device, Driver}}, proofs.Flows.same_is}
 use Rattle.vs_ring_shared.specs.Sights.{DeviceSight, Sight, device_contents, device_log, driver_contents, driver_log}
-use Rattle.vs_driver_parts.specs.{Connections.is_at_end, Connections.table_shown as guest_shown, State.DriverConnection, State.DriverEntry, State.DriverState, State.entry_known_as, State.is_known_as}
+use Rattle.vs_driver_parts.specs.{Connections.{is_at_end, table_shown as guest_shown}, State.{DriverConnection, DriverEntry, DriverState, entry_known_as, is_known_as}}
 use Rattle.vs_driver_parts.specs.declared.answers.Polled.{Polled}
-use Rattle.vs_device_parts.specs.{Playing.situation, State.DeviceEntry, Turns.table_shown as device_shown}
+use Rattle.vs_device_parts.specs.{Playing.situation, State.DeviceEntry, Turns.table_shown as device_shown, Receiving.may_read}
 use Rattle.vs_proxy_parts.specs.State.{ProxyState}
-use Rattle.laws_tables.{specs.Ends.ends_of, specs.Ends.flows_of, specs.Ends.is_among, proofs.Slots.found_by, proofs.Slots.one_end}
-use Rattle.vs_page.proofs.Flows.{same_is}
-use Rattle.laws_driver.specs.Honest.{IsFitEntry, end_in as driver_end, slots_of}
-use Rattle.laws_device.specs.Honest.{end_in as device_end}
-use Rattle.laws_tables.{specs.Drains.receives, specs.Drains.receives_in}
-use Rattle.laws_driver.specs.Carried.{Calls.GuestCall, Calls.Journal, Calls.received_by, Received.ReceivesOn, Calls.account_of}
+use Rattle.laws_tables.{specs.{Ends.{ends_of, flows_of, is_among}, Drains.{receives, receives_in}}, proofs.Slots.{found_by, one_end}}
+use Rattle.laws_driver.specs.{Honest.{IsFitEntry, end_in as driver_end, slots_of}, Carried.{Calls.{GuestCall, Journal, received_by, account_of}, Received.ReceivesOn}}
+use Rattle.laws_device.{specs.{Honest.end_in as device_end, Streams.{has_open_stream, is_open_on}}, proofs.Waiting.open_among}
 use Rattle.laws_proxy.specs.Honest.{IsProxyStreamed}
-use Rattle.laws_rest.{specs.Rest.ArePaired, specs.Rest.over_half, proofs.Quiet.in_list, proofs.Waiting.credit_there, proofs.Waiting.unread_there}
+use Rattle.laws_rest.{specs.Rest.{ArePaired, over_half}, proofs.{Quiet.in_list, Waiting.{credit_there, unread_there}}}
 use Rattle.vs_credit.specs.Credit.{free_of, unread_of}
-use Rattle.vs_conn.specs.declared.shut.Shut.{Shut}
-use Rattle.vs_device_parts.specs.Receiving.{may_read}
-use Rattle.vs_flow.proofs.Entries.{found_at}
-use Rattle.laws_settled.specs.{Exact.HoldsExactly, Settled.IsSettled, Settled.IsSteady, Settled.ends_at_rest}
-use Rattle.vs_apps_parts.specs.{Journals.calls_of, Journals.calls_of_app, Journals.sent_as, Scripts.{RunScript, acts_of, calls_next, id_of, recv_next, send_next, slice_left, slice_of}, declared.{journal.Entry.Entry, journal.WaitsFor.WaitsFor, progress.AppState.AppState}}
-use Rattle.vs_apps_parts.specs.declared.progress.Progress.{Progress}
-use Rattle.vs_apps_parts.specs.declared.journal.WaitsFor.TheVariants as waits
-use Rattle.vs_script.specs.{App.Act, App.Exchange, Data.Content, Data.bytes_of, Data.size_of}
-use Rattle.laws_driver.specs.Carried.Calls as call
-use Rattle.laws_apps.proofs.Naming.{sent_by_id}
-use Rattle.laws_apps.specs.{Accounts.IsAccount, Calls.run_with, Rounds.AllStand, Runs.IsRunOf, Runs.PollsTo, Runs.Run, Runs.poll_moved}
+use Rattle.laws_settled.specs.{Exact.HoldsExactly, Settled.{IsSettled, IsSteady, ends_at_rest}, Shut.{GivesNoMore, IsShutBy}}
+use Rattle.vs_apps_parts.specs.{Journals.{calls_of, calls_of_app, sent_as}, Scripts.{RunScript, acts_of, calls_next, id_of, recv_next, send_next, slice_left, slice_of}}
+use Rattle.vs_apps_parts.specs.{declared.{journal.{Entry.Entry, WaitsFor.WaitsFor}, progress.{AppState.AppState, Progress.Progress}, told.Told.Told}, Told.told_of}
+use Rattle.vs_script.specs.{App.{Act, Exchange}, Data.{Content, bytes_of, size_of}}
+use Rattle.laws_apps.{proofs.Naming.sent_by_id, specs.{Accounts.IsAccount, Calls.run_with, Rounds.AllStand, Runs.{IsRunOf, PollsTo, Run, poll_moved}, Traces.{AllTell, AtId}}}
+use Rattle.laws_apps.specs.Traces.{IsClosing, IsDrained, IsStopped, IsTraced, TellsOf, is_shut, is_touched}
 use Rattle.vs_report.specs.declared.giving.Totals.{Totals}
-use Rattle.vs_run_report.specs.{Endings.ending_at, Endings.state_at, Endings.why_at, Report.ended_at, Right.IsRightReport, declared.ending.Ending.Ending}
+use Rattle.vs_run_report.specs.{Endings.{ending_at, state_at, why_at}, Report.ended_at, Right.IsRightReport, declared.ending.Ending.Ending}
+use Rattle.laws_run.specs.{Complete.{IsAtOpen, IsCompleteEnding, IsCompleteExchange, IsCompleteRun, IsCompleteWait, LacksCredit, open_labels}, Bounds.{AreShutDown, HasBounds}}
+use Rattle.laws_run.specs.{Bounds.{HasEnd, IsBounded, IsShutDown, TakesOn, calls_of_others, done_at, early, is_cut, total}, Dry.{AreDry, AreFull, AreIdle, IsDry, IsFull, reads_of}}
+use Rattle.laws_run.{specs.Dry.writes_of, proofs.{Bounding.{AreFree, ArePlain, Way, all_moved, receiving, sending, sending_all, tally}, Moved.{all_plain, app_early, app_free}}}
+use Rattle.laws_run.proofs.{Moved.{app_less, app_plain, drain_early, drained, free_moves, free_sends, stopped, received_enough, sent_enough}, Trying.{all_lined, all_tried, tried}}
+use Rattle.laws_run.proofs.{Alike.{AreApart, HasApart, Leaves, leaves_core}, Drying.under_at, Endings.{Ends, all_ends, ends_on}, Wrote.{is_first, same_number, same_payload}}
+use Rattle.laws_run.proofs.{Wrote.{streamed, to_device, to_driver, wrote_there}, Unread.{no_free, some_unread, to_read, unread_within}, Halting.{Halts, IsRoomy, Stops, first_call}}
+use Rattle.laws_run.proofs.{Open.{among_entry, among_open, as_many_open, one_is}, Reporting.{accounted, once, right_with}, Still.poll_still, Waiting.{credit_call, empty_call}}
+use Rattle.laws_run.proofs.Waiting.{not_open, recv_id, send_id}
+use Rattle.vs_apps_parts.specs.declared.journal.WaitsFor.TheVariants as waits
+use Rattle.laws_driver.specs.Carried.Calls as call
 use Rattle.vs_run_report.specs.declared.ending.Ending.TheVariants as ending
-use Rattle.laws_run.specs.Complete.{IsAtOpen, IsCompleteEnding, IsCompleteExchange, IsCompleteRun, IsCompleteWait, LacksCredit, open_labels}
-use Rattle.laws_device.{specs.Streams.has_open_stream, specs.Streams.is_open_on, proofs.Waiting.open_among}
-use Rattle.laws_apps.specs.Traces.{AllTell, AtId, IsClosing, IsDrained, IsStopped, IsTraced, TellsOf, is_shut, is_touched}
-use Rattle.vs_apps_parts.specs.{Told.told_of, declared.told.Told.Told}
-use Rattle.laws_run.specs.Bounds.{AreShutDown, HasBounds, HasEnd, IsBounded, IsShutDown, TakesOn, calls_of_others, done_at, early, is_cut, total}
-use Rattle.laws_run.proofs.Bounding.{AreFree, ArePlain, Way, all_moved, receiving, sending, sending_all, tally}
-use Rattle.laws_run.proofs.Moved.{all_plain, app_early, app_free, app_less, app_plain, drain_early, drained, free_moves, free_sends, stopped}
-use Rattle.laws_run.proofs.{Moved.{received_enough, sent_enough}, Trying.{all_lined, all_tried, tried}}
-use Rattle.laws_settled.specs.Shut.{GivesNoMore, IsShutBy}
-use Rattle.laws_run.specs.Dry.{AreDry, AreFull, AreIdle, IsDry, IsFull, reads_of, writes_of}
-use Rattle.laws_run.proofs.{Alike.AreApart, Alike.HasApart, Alike.Leaves, Alike.leaves_core, Drying.under_at, Endings.Ends, Wrote.{is_first, same_number, same_payload, streamed, to_device, to_driver, wrote_there}}
-use Rattle.laws_run.proofs.Unread.{no_free, some_unread, to_read, unread_within}
-use Rattle.laws_run.proofs.{Endings.all_ends, Endings.ends_on, Halting.{Halts, IsRoomy, Stops, first_call}, Open.among_entry, Open.among_open, Open.as_many_open, Open.one_is, Reporting.accounted, Reporting.once, Reporting.right_with}
-use Rattle.laws_run.proofs.{Still.poll_still, Waiting.credit_call, Waiting.empty_call, Waiting.not_open, Waiting.recv_id, Waiting.send_id}
 
 -- An entry of a flow among those of a table; no open stream among those of a host; and one that is.
 entry_among : (end_of : DriverConnection → ConnectionEnd) (f : Flow) (es : List DriverEntry)

@@ -1,33 +1,28 @@
 -- A stage of filling that puts nothing read each stream that may be read, and each gave Again.
-use Rattle.std.proofs.Common.{slice_get, slice_set, ◌-◌}
-use Rattle.std.proofs.Common.{◌≡◌, ◌≢◌, ◌≤◌, ◌+◌, ◌==◌, ◌&&◌, ◌||◌, not, ℕ, zero, suc, Bool, true, false, cond, List, [], ◌∷◌, ◌++◌, length, Option, Some, None, refl, sym, ap, subst, ◌∙◌, arith}
-use Rattle.std.proofs.lemmas.{Bool.eq-eqb, Bool.eqb-true, Option.same_Some}
-use Rattle.std.specs.{Option.ForSome, Option.option_map, Option.option_map_or, Prelude.{min, take}}
-use Rattle.vs_contents.specs.{CallTree.Ask, CallTree.Done, CallTree.bind, CallTree.for_each, CallTree.while_up_to, Contents.Exposes}
-use Rattle.vs_conn.specs.{End.ConnectionEnd, End.owes_of, End.wanting_credit, Headers.owed_header, Headers.payload_header, End.with_payload_sent, End.with_shut}
-use Rattle.vs_conn.specs.declared.end.{Owed.Owed, State.State, State.TheVariants.{Answering, Asked, Ended, Live}}
+use Rattle.std.proofs.Common.{slice_get, slice_set, ◌-◌, ◌≡◌, ◌≢◌, ◌≤◌, ◌+◌, ◌==◌, ◌&&◌, ◌||◌, not, ℕ, zero, suc, Bool, true, false, cond, List, [], ◌∷◌, ◌++◌, length, Option}
+use Rattle.std.{proofs.{Common.{Some, None, refl, sym, ap, subst, ◌∙◌, arith}, lemmas.{Bool.{eq-eqb, eqb-true}, Option.same_Some}}, specs.Option.{ForSome, option_map}}
+use Rattle.std.specs.{Option.option_map_or, Prelude.{min, take}}
+use Rattle.vs_contents.specs.{CallTree.{Ask, Done, bind, for_each, while_up_to}, Contents.Exposes}
+use Rattle.vs_conn.specs.{End.{ConnectionEnd, owes_of, wanting_credit, with_payload_sent, with_shut}, Headers.{owed_header, payload_header}, declared.end.{Owed.Owed, State.State}}
+use Rattle.vs_conn.specs.declared.end.State.TheVariants.{Answering, Asked, Ended, Live}
 use Rattle.vs_credit.specs.Credit.{free_of}
-use Rattle.vs_flow.specs.Table.{Table, entry_under, revalued, slots, with_value}
-use Rattle.vs_flow.proofs.Lookups.{entry_under-with_value}
+use Rattle.vs_flow.{specs.Table.{Table, entry_under, revalued, slots, with_value}, proofs.Lookups.entry_under-with_value}
 use Rattle.vs_header.specs.declared.Header.{Header}
 use Rattle.vs_outside.specs.{Host.{HostContents, Stream, with_stream, after_close, after_read, fails_now, read_failed, read_of, stream_at}, declared.host_net.StreamRead.StreamRead}
-use Rattle.vs_outside.specs.declared.host_net.StreamRead.TheVariants as read
-use Rattle.vs_outside.specs.declared.host_net.StreamState.TheVariants as state
 use Rattle.vs_outside.proofs.Frames.{keeps_others, stream_at-with_stream}
 use Rattle.vs_replies.specs.declared.Reply.{Reply}
-use Rattle.vs_ring_port.specs.{Contents.Take, declared.device_ring.Chain.Chain, declared.device_ring.Next.Next, declared.queue.Queue.TheVariants.Rx}
-use Rattle.vs_ring_port.specs.declared.device_ring.Next.TheVariants as next
+use Rattle.vs_ring_port.specs.{Contents.Take, declared.{device_ring.{Chain.Chain, Next.Next}, queue.Queue.TheVariants.Rx}}
 use Rattle.vs_device_parts.specs.{Calls.{Allows, Answer, CloseStream, DeviceTree, HostMoves, IsReadOf, ReadStream, Ring, Situation}, Connections.{after_shut, cut_off}}
-use Rattle.vs_device_parts.specs.{Connections.{route_to_guest, with_connection, with_fault}, Playing.Runs, Receiving.{Filling, after_paying, hold, holding, may_read}}
-use Rattle.vs_device_parts.specs.Receiving.{put_on, put_owed, put_packet, put_reply, put_reply_of, read_answered, read_room, read_stream, read_with_chain}
-use Rattle.vs_device_parts.specs.{Receiving.{reply_header, round_from, serve_slot, written}, State.{DeviceConnection, DeviceEntry, DeviceState}, Steps.filling, Streams.closing}
-use Rattle.vs_device_parts.proofs.Under.{has_slot}
-use Rattle.laws_device.specs.Named.Waiting.{filling_of}
-use Rattle.laws_device.proofs.Walk.Keeping.{Asking, Keeps, keeps_then}
-use Rattle.laws_device.specs.Honest.{end_in}
-use Rattle.laws_rest.proofs.{Owing.listed, Owing.same_slots, Quiet.in_list, Stages.in_round}
+use Rattle.vs_device_parts.specs.{Connections.{route_to_guest, with_connection, with_fault}, Playing.Runs, Receiving.{Filling, after_paying, hold, holding, may_read, put_on}}
+use Rattle.vs_device_parts.specs.Receiving.{put_owed, put_packet, put_reply, put_reply_of, read_answered, read_room, read_stream, read_with_chain, reply_header, round_from}
+use Rattle.vs_device_parts.{specs.{Receiving.{serve_slot, written}, State.{DeviceConnection, DeviceEntry, DeviceState}, Steps.filling, Streams.closing}, proofs.Under.has_slot}
+use Rattle.laws_device.{specs.{Named.Waiting.filling_of, Honest.end_in}, proofs.Walk.Keeping.{Asking, Keeps, keeps_then}}
+use Rattle.laws_rest.proofs.{Owing.{listed, same_slots}, Quiet.in_list, Stages.in_round}
 use Rattle.laws_run.specs.Dry.{IsDry, IsDryAt, IsFull, IsFullAt, IsToldDry, IsToldFull, reads_of, reads_under, writes_of, writes_under}
 use Rattle.vs_limits.specs.declared.TheConstants.{OWED_MAX}
+use Rattle.vs_outside.specs.declared.host_net.StreamRead.TheVariants as read
+use Rattle.vs_outside.specs.declared.host_net.StreamState.TheVariants as state
+use Rattle.vs_ring_port.specs.declared.device_ring.Next.TheVariants as next
 
 -- Whatever ring and host answer.
 abbrev pub allowed : Asking Situation

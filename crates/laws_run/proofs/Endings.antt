@@ -1,20 +1,17 @@
 -- In the last round each app found its instructions done, or noted that it waits; so it ended.
-use Rattle.std.proofs.Common.{◌≡◌, ◌≢◌, ◌⊎◌, inl, inr, ℕ, zero, suc, ◌+◌, ◌-◌, ◌<◌, ◌≤◌, ◌==◌, nat_lt, Bool, true, false, cond, List, []}
-use Rattle.std.proofs.Common.{◌∷◌, length, Option, Some, None, refl, sym, ap, subst, ◌∙◌, arith, slice_get, slice_set, get_or-set_other}
-use Rattle.std.proofs.{Common.{get_or-set_same, length-set}, lemmas.{Bool.Decides.nat_tests, Bool.eq-eqb, Bool.eqb-true}}
+use Rattle.std.proofs.Common.{◌≡◌, ◌≢◌, ◌⊎◌, inl, inr, ℕ, zero, suc, ◌+◌, ◌-◌, ◌<◌, ◌≤◌, ◌==◌, nat_lt, Bool, true, false, cond, List, [], ◌∷◌, length, Option, Some, None, refl}
+use Rattle.std.proofs.{Common.{sym, ap, subst, ◌∙◌, arith, slice_get, slice_set, get_or-set_other, get_or-set_same, length-set}, lemmas.Bool.{Decides.nat_tests, eq-eqb, eqb-true}}
 use Rattle.vs_driver_parts.specs.{State.DriverState, declared.answers.Polled.Polled}
 use Rattle.laws_driver.specs.Carried.Calls.{Made}
-use Rattle.vs_apps_parts.specs.{Journals.{wait_noted, wait_place}, Scripts.{RunScript, acts_of, told_in}, Told.{step_wait, told_of}}
-use Rattle.vs_apps_parts.specs.{Told.wait_of, declared.{journal.Entry.Entry, journal.WaitsFor.WaitsFor, progress.AppState.AppState}}
-use Rattle.vs_apps_parts.specs.declared.{progress.Stepped.Stepped, told.Told.Told}
-use Rattle.vs_apps_parts.specs.declared.progress.Stepped.TheVariants as stepped
+use Rattle.vs_apps_parts.specs.{Journals.{wait_noted, wait_place}, Scripts.{RunScript, acts_of, told_in}, Told.{step_wait, told_of, wait_of}, declared.journal.Entry.Entry}
+use Rattle.vs_apps_parts.specs.declared.{journal.WaitsFor.WaitsFor, progress.{AppState.AppState, Stepped.Stepped}, told.Told.Told}
 use Rattle.laws_apps.specs.{Rounds.{AllStand, Stands}, Runs.{MakesCalls, NotesCall, PollsTo, Run, Steps, Waits, no_app, poll_moved}}
-use Rattle.vs_run_report.specs.{Endings.ending_at, Endings.ending_of, Endings.state_at, Endings.why_at, Report.ended_at, Right.IsRightEnding}
-use Rattle.vs_run_report.specs.{declared.ending.Ending.Ending}
+use Rattle.vs_run_report.{specs.{Endings.{ending_at, ending_of, state_at, why_at}, Report.ended_at, Right.IsRightEnding, declared.ending.Ending.Ending}, proofs.Noted.kept}
+use Rattle.vs_run_report.proofs.{Noted.{noted_there, waits_on, waits_so}, Waiting.waits_right}
+use Rattle.laws_run.proofs.{Alike.{Leaves, leaves_core, leaves_none, leaves_then}, Halting.{Halts, calls_halt, first_call, first_waits, halts_on, last_of, rest_waits}}
+use Rattle.laws_run.proofs.Still.{HasRoom, poll_still, room_stays}
+use Rattle.vs_apps_parts.specs.declared.progress.Stepped.TheVariants as stepped
 use Rattle.vs_run_report.specs.declared.ending.Ending.TheVariants as ending
-use Rattle.laws_run.proofs.{Alike.Leaves, Alike.leaves_core, Alike.leaves_none, Alike.leaves_then, Halting.Halts, Halting.calls_halt, Halting.first_call, Halting.first_waits}
-use Rattle.laws_run.proofs.{Halting.halts_on, Halting.last_of, Halting.rest_waits, Still.HasRoom, Still.poll_still, Still.room_stays}
-use Rattle.vs_run_report.proofs.{Noted.kept, Noted.noted_there, Noted.waits_on, Noted.waits_so, Waiting.waits_right}
 
 -- Where this was the driver at first:
 module _ (first : DriverState) where

@@ -1,41 +1,36 @@
 -- A call that told an app to wait leaves the driver alike, and the driver answers it so again.
 use Rattle.std.proofs.Common.{◌≡◌, ◌<◌, ◌==◌, ℕ, nat_lt, Bool, true, false, cond, List, [], ◌∷◌, length, Option, Some, None, Result, Ok, Err, refl, sym, ap, subst, ◌∙◌, arith}
-use Rattle.std.proofs.lemmas.{Bool.Decides.nat_tests, Bool.eqb-true, Option.same_Some}
-use Rattle.std.specs.{Prelude.is_some, Prelude.slice_get}
-use Rattle.vs_contents.specs.CallTree.{Done, bind}
-use Rattle.vs_contents.proofs.Leads.{AllEnds, end_of}
-use Rattle.vs_conn.specs.{End.may_send_of, End.wanting_credit, End.with_payload_sent, declared.end.Stop.Stop}
-use Rattle.vs_conn.specs.declared.end.Stop.TheVariants as stop
+use Rattle.std.{proofs.lemmas.{Bool.{Decides.nat_tests, eqb-true}, Option.same_Some}, specs.Prelude.{is_some, slice_get}}
+use Rattle.vs_contents.{specs.CallTree.{Done, bind}, proofs.Leads.{AllEnds, end_of}}
+use Rattle.vs_conn.specs.{End.{may_send_of, wanting_credit, with_payload_sent}, declared.end.Stop.Stop}
 use Rattle.vs_credit.specs.declared.Credit.{Credit}
 use Rattle.vs_flow.specs.Flow.{is_assigned}
 use Rattle.vs_limits.specs.declared.TheConstants.{DRIVER_CONNECTIONS}
 use Rattle.vs_script.specs.App.{Act}
 use Rattle.vs_ring_port.specs.Contents.{RingContents}
 use Rattle.vs_driver_parts.specs.Connections.{after_read, after_recv, all_gone_after_read, connect_refusal, connected, is_full, is_spent, entry_answer, entry_read, gone_answer}
-use Rattle.vs_driver_parts.specs.Connections.{is_at_end, nothing_read, read_of, recv_of, state_of, unread_of_id, with_connection, with_end}
-use Rattle.vs_driver_parts.specs.Conversations.{connect_of, connect_with_page, has_page, payload_of, post_packet, reap_all, request_bytes, send_of, send_on}
-use Rattle.vs_driver_parts.specs.Conversations.{no_credit, not_sent, payload_bytes, send_stopped, send_with_credit, send_with_page}
-use Rattle.vs_driver_parts.specs.{Listening.next_accepted, Playing.Plays, Playing.RingAllows, State.DriverEntry, State.DriverState, State.GoneConnection, State.Listener}
-use Rattle.vs_driver_parts.specs.State.{entry_known_as, gone_known_as}
-use Rattle.vs_driver_parts.specs.Listening.{after_accept, accept_of, listener_on, with_waiting, without_id}
+use Rattle.vs_driver_parts.specs.{Connections.{is_at_end, nothing_read, read_of, recv_of, state_of, unread_of_id, with_connection, with_end}, Conversations.connect_of}
+use Rattle.vs_driver_parts.specs.Conversations.{connect_with_page, has_page, payload_of, post_packet, reap_all, request_bytes, send_of, send_on, no_credit, not_sent, payload_bytes}
+use Rattle.vs_driver_parts.specs.{Conversations.{send_stopped, send_with_credit, send_with_page}, Listening.{next_accepted, after_accept, accept_of, listener_on, with_waiting}}
+use Rattle.vs_driver_parts.specs.{Listening.without_id, Playing.{Plays, RingAllows}, State.{DriverEntry, DriverState, GoneConnection, Listener, entry_known_as, gone_known_as}}
 use Rattle.vs_driver_parts.specs.declared.answers.{Accepted.Accepted, ConnectError.ConnectError, ConnectionState.ConnectionState, Received.Received, Sent.Sent}
+use Rattle.laws_driver.specs.Carried.{Calls.{GuestCall, Made, ReplyTo, whole_call}, Received.bytes_got}
+use Rattle.laws_rest.proofs.Quiet.{ends_then}
+use Rattle.vs_apps_parts.specs.{Scripts.{RunScript, calls_in, calls_next, told_in}, Told.{step_wait, told_accept, told_by, told_connect, told_look, told_of, told_recv, told_send}}
+use Rattle.vs_apps_parts.specs.{Told.wait_of, declared.{journal.WaitsFor.WaitsFor, progress.Progress.Progress, told.Told.Told}}
+use Rattle.laws_apps.specs.Runs.{MakesCalls, Run}
+use Rattle.laws_run.proofs.Alike.{Alike, HasApart, Leaves, accepted_alike, full_alike, known_too, leaves_core, leaves_none, leaves_then, leaves_wanting, may_send_too, recv_alike}
+use Rattle.laws_run.proofs.{Alike.state_alike, Still.{HasRoom, SameCore, core_same, reaps_all, room_stays}}
+use Rattle.vs_run_report.specs.Right.{may_wait}
+use Rattle.vs_conn.specs.declared.end.Stop.TheVariants as stop
 use Rattle.vs_driver_parts.specs.declared.answers.Accepted.TheVariants as accepted
 use Rattle.vs_driver_parts.specs.declared.answers.ConnectError.TheVariants as refused
 use Rattle.vs_driver_parts.specs.declared.answers.ConnectionState.TheVariants as seen
 use Rattle.vs_driver_parts.specs.declared.answers.Received.TheVariants as got
 use Rattle.vs_driver_parts.specs.declared.answers.Sent.TheVariants as sent
-use Rattle.laws_driver.specs.Carried.Calls.{GuestCall, Made, ReplyTo, whole_call}
 use Rattle.laws_driver.specs.Carried.Calls as call
-use Rattle.laws_driver.specs.Carried.Received.{bytes_got}
-use Rattle.laws_rest.proofs.Quiet.{ends_then}
-use Rattle.vs_apps_parts.specs.{Scripts.{RunScript, calls_in, calls_next, told_in}, Told.{step_wait, told_accept, told_by, told_connect, told_look}}
-use Rattle.vs_apps_parts.specs.{Told.{told_of, told_recv, told_send, wait_of}, declared.{journal.WaitsFor.WaitsFor, progress.Progress.Progress, told.Told.Told}}
 use Rattle.vs_apps_parts.specs.declared.journal.WaitsFor.TheVariants as waits
 use Rattle.vs_apps_parts.specs.declared.told.Told.TheVariants as says
-use Rattle.laws_apps.specs.Runs.{MakesCalls, Run}
-use Rattle.laws_run.proofs.{Alike.{Alike, HasApart, Leaves, accepted_alike, full_alike, known_too, leaves_core, leaves_none, leaves_then, leaves_wanting, may_send_too, recv_alike}}
-use Rattle.laws_run.proofs.{Alike.state_alike, Still.{HasRoom, SameCore, core_same, reaps_all, room_stays}}
-use Rattle.vs_run_report.specs.Right.{may_wait}
 
 -- What an end says to a send on a connection.
 pub record SaysToSend (id : ℕ) (answer : Result ℕ Stop) (s : DriverState) : Type 0 where

@@ -1,48 +1,42 @@
 -- At rest a connect that waits finds all slots held, and an accept that waits finds each open stream of its port with a line.
-use Rattle.std.proofs.Common.{◌≡◌, ◌≢◌, ℕ, zero, suc, ◌+◌, ◌<◌, ◌≤◌, ◌==◌, ◌||◌, ◌&&◌, nat_le, not, Bool, true, false, cond, List, [], ◌∷◌, ◌++◌, Option, Some, None}
-use Rattle.std.proofs.Common.{Contains, find, filter, is_some, length, map, slice_get, slice_index_or, refl, sym, ap, subst, ◌∙◌, arith, inl, inr, length-append}
-use Rattle.std.proofs.lemmas.{Bool.Decides.nat_tests, Bool.and_parts, Bool.eq-eqb, Bool.eqb-true, List.Elements.{All-contains, All-head, All-tail, Contains-get_or}, List.Folds.list_any-append, List.length-map}
-use Rattle.std.proofs.lemmas.{Map.Made.length-le_from_is_member, Option.same_Some, Option.slice_get-get_or}
-use Rattle.std.specs.{List.All, List.AllByRecursion, List.AllPairs, List.IsDistinct, List.cons_option, List.filter_map, List.list_any, Option.option_map_or, Set.is_member}
-use Rattle.vs_conn.specs.{End.{ConnectionEnd, is_drained}, Shut.is_both, declared.{end.State.State, end.State.TheVariants.{Ended, Live}, shut.Shut.Shut}}
+use Rattle.std.proofs.Common.{◌≡◌, ◌≢◌, ℕ, zero, suc, ◌+◌, ◌<◌, ◌≤◌, ◌==◌, ◌||◌, ◌&&◌, nat_le, not, Bool, true, false, cond, List, [], ◌∷◌, ◌++◌, Option, Some, None, Contains}
+use Rattle.std.proofs.Common.{find, filter, is_some, length, map, slice_get, slice_index_or, refl, sym, ap, subst, ◌∙◌, arith, inl, inr, length-append}
+use Rattle.std.proofs.lemmas.{Bool.{Decides.nat_tests, and_parts, eq-eqb, eqb-true}, List.{Elements.{All-contains, All-head, All-tail, Contains-get_or}, Folds.list_any-append}}
+use Rattle.std.{proofs.lemmas.{List.length-map, Map.Made.length-le_from_is_member, Option.{same_Some, slice_get-get_or}}, specs.List.{All, AllByRecursion, AllPairs, IsDistinct}}
+use Rattle.std.specs.{List.{cons_option, filter_map, list_any}, Option.option_map_or, Set.is_member}
+use Rattle.vs_conn.specs.{End.{ConnectionEnd, is_drained}, Shut.is_both, declared.{end.State.{State, TheVariants.{Ended, Live}}, shut.Shut.Shut}}
 use Rattle.vs_credit.specs.Credit.{unread_of}
-use Rattle.vs_flow.specs.{Connection.Connection, Connection.first_of, Flow.is_assigned, Flow.same_flow, declared.flow.Flow.Flow}
-use Rattle.vs_flow.proofs.Entries.{none_found, same_flow_false}
+use Rattle.vs_flow.{specs.{Connection.{Connection, first_of}, Flow.{is_assigned, same_flow}, declared.flow.Flow.Flow}, proofs.Entries.{none_found, same_flow_false}}
 use Rattle.vs_limits.specs.declared.TheConstants.{DRIVER_CONNECTIONS, FIRST_CID}
 use Rattle.vs_outside.specs.Host.{HostContents, Stream}
-use Rattle.vs_page.{specs.Fair.{number_of}, specs.Log.{Device, side_of}, specs.Open.left_kind, proofs.Flows.{same_is, same_self}}
+use Rattle.vs_page.{specs.{Fair.number_of, Log.{Device, side_of}, Open.left_kind}, proofs.Flows.{same_is, same_self}}
 use Rattle.vs_ring_shared.specs.Sights.{DeviceSight, Sight, device_contents, driver_contents, driver_log}
 use Rattle.vs_script.specs.App.{Act, Accept}
-use Rattle.vs_driver_parts.specs.{Connections.is_full, Listening.{is_answered, listener_on, next_accepted}}
-use Rattle.vs_driver_parts.specs.State.{DriverEntry, DriverState, GoneConnection, Listener, entry_known_as, gone_known_as, is_known_as}
-use Rattle.vs_driver_parts.specs.declared.answers.{ConnectionState.ConnectionState, Polled.Polled, Received.Received}
-use Rattle.vs_driver_parts.specs.declared.answers.ConnectionState.TheVariants as seen
-use Rattle.vs_driver_parts.specs.declared.answers.Received.TheVariants as got
+use Rattle.vs_driver_parts.specs.{Connections.is_full, Listening.{is_answered, listener_on, next_accepted}, State.{DriverEntry, DriverState, GoneConnection, Listener}}
+use Rattle.vs_driver_parts.specs.{State.{entry_known_as, gone_known_as, is_known_as}, declared.answers.{ConnectionState.ConnectionState, Polled.Polled, Received.Received}}
 use Rattle.vs_device_parts.specs.{Playing.situation, State.DeviceEntry}
 use Rattle.vs_proxy_parts.specs.State.{ProxyState}
-use Rattle.laws_tables.{specs.Ends.{ends_of, entries_of, flows_of, is_among, replied}, specs.Heard.heard_of, proofs.Slots.one_end}
-use Rattle.laws_driver.specs.Honest.{end_in as driver_end, slots_of}
-use Rattle.laws_device.specs.{Honest.end_in as device_end, Streams.{has_open_stream, is_open_in, is_open_on}}
-use Rattle.laws_device.proofs.Waiting.{open_among}
-use Rattle.laws_device.{specs.Carried.Streamed.IsStreamed, specs.Carried.Streamed.connection_in, proofs.Carried.Hosts.label_here}
-use Rattle.laws_device.specs.Carried.Streamed.{seen as seen_in}
-use Rattle.laws_driver.specs.Carried.{Calls.{GuestCall, Journal, account_of}, Received.{ReceivedOn}}
-use Rattle.laws_driver.specs.Carried.Calls as call
+use Rattle.laws_tables.{specs.{Ends.{ends_of, entries_of, flows_of, is_among, replied}, Heard.heard_of}, proofs.Slots.one_end}
+use Rattle.laws_driver.specs.{Honest.{end_in as driver_end, slots_of}, Carried.{Calls.{GuestCall, Journal, account_of}, Received.ReceivedOn}}
+use Rattle.laws_device.specs.{Honest.end_in as device_end, Streams.{has_open_stream, is_open_in, is_open_on}, Carried.Streamed.{IsStreamed, connection_in, seen as seen_in}}
+use Rattle.laws_device.proofs.{Waiting.open_among, Carried.Hosts.label_here}
 use Rattle.laws_proxy.specs.Honest.{IsProxyStreamed}
-use Rattle.laws_settled.specs.{Exact.HoldsExactly, Settled.IsSettled, Settled.IsSteady, Settled.ends_at_rest}
-use Rattle.vs_apps_parts.specs.{Journals.calls_of, Scripts.{RunScript, acts_of, calls_next}, Told.{told_look, told_recv, wait_of}}
-use Rattle.vs_apps_parts.specs.declared.{journal.Entry.Entry, journal.WaitsFor.WaitsFor, progress.AppState.AppState, progress.Progress.Progress}
-use Rattle.vs_apps_parts.specs.declared.journal.WaitsFor.TheVariants as waits
-use Rattle.laws_apps.specs.{Accounts.HasOne, Accounts.IsAccount, Calls.run_with, Rounds.AllStand, Runs.IsRunOf, Runs.PollsTo, Runs.Run, Runs.poll_moved}
-use Rattle.laws_apps.specs.Placed.{AreOwned, ArePlaced, IsPlaced, IsPlacedEntry, IsPlacedGone, IsPlacedValue, stands_closed, stands_unanswered, waits_at, was_closed, was_given, was_listened}
+use Rattle.laws_settled.specs.{Exact.HoldsExactly, Settled.{IsSettled, IsSteady, ends_at_rest}}
+use Rattle.vs_apps_parts.specs.{Journals.calls_of, Scripts.{RunScript, acts_of, calls_next}, Told.{told_look, told_recv, wait_of}, declared.journal.Entry.Entry}
+use Rattle.vs_apps_parts.specs.declared.{journal.WaitsFor.WaitsFor, progress.{AppState.AppState, Progress.Progress}}
+use Rattle.laws_apps.specs.{Accounts.{HasOne, IsAccount}, Calls.run_with, Rounds.AllStand, Runs.{IsRunOf, PollsTo, Run, poll_moved}, Placed.{AreOwned, ArePlaced, IsPlaced}}
+use Rattle.laws_apps.specs.Placed.{IsPlacedEntry, IsPlacedGone, IsPlacedValue, stands_closed, stands_unanswered, waits_at, was_closed, was_given, was_listened}
 use Rattle.laws_apps.proofs.Placed.{one_of, or_first, or_second}
-use Rattle.vs_run_report.specs.{Connections.opened_all, Endings.ending_at, Endings.state_at, Endings.why_at, Report.ended_at, declared.connection.Opened.Opened, declared.ending.Ending.Ending}
+use Rattle.vs_run_report.specs.{Connections.opened_all, Endings.{ending_at, state_at, why_at}, Report.ended_at, declared.{connection.Opened.Opened, ending.Ending.Ending}}
+use Rattle.laws_run.specs.{Dry.AreIdle, Places.{ArePlaceWaits, IsPlaceEnding, IsPlaceWait, LacksClient, LacksPlace, has_label, has_line, holds_slot, is_full_on, is_unaccepted}}
+use Rattle.laws_run.{specs.Places.{is_unlabelled, takes_none}, proofs.{Alike.HasApart, Completing.{apart, at_device, contained, device_fits, ends, first_known, flow_open}}}
+use Rattle.laws_run.proofs.{Completing.{id_some, live, one, pending_full, still_open}, Endings.Ends, Halting.{Halts, Stops, last_of}, Lines.{closed_was_given, given_line}}
+use Rattle.laws_run.proofs.{Lines.listened_in, Open.{looked, same_flows}, Opening.all_opened, Reporting.accounted, Unread.followed, Wrote.{is_first, streamed}}
+use Rattle.vs_driver_parts.specs.declared.answers.ConnectionState.TheVariants as seen
+use Rattle.vs_driver_parts.specs.declared.answers.Received.TheVariants as got
+use Rattle.laws_driver.specs.Carried.Calls as call
+use Rattle.vs_apps_parts.specs.declared.journal.WaitsFor.TheVariants as waits
 use Rattle.vs_run_report.specs.declared.ending.Ending.TheVariants as ending
-use Rattle.laws_run.specs.{Dry.AreIdle}
-use Rattle.laws_run.specs.Places.{ArePlaceWaits, IsPlaceEnding, IsPlaceWait, LacksClient, LacksPlace, has_label, has_line, holds_slot, is_full_on, is_unaccepted, is_unlabelled, takes_none}
-use Rattle.laws_run.proofs.{Alike.HasApart, Completing.{apart, at_device, contained, device_fits, ends, first_known, flow_open, id_some, live, one, pending_full, still_open}}
-use Rattle.laws_run.proofs.{Endings.Ends, Halting.{Halts, Stops, last_of}, Lines.{closed_was_given, given_line, listened_in}, Open.{looked, same_flows}, Opening.all_opened}
-use Rattle.laws_run.proofs.{Reporting.accounted, Unread.followed, Wrote.is_first, Wrote.streamed}
 
 -- Which calls wait so.
 recv_waits : (r : Received) (why : WaitsFor) → wait_of (told_recv r) ≡ Some why → (why ≢ waits.Full) × (why ≢ waits.NoneWaiting)

@@ -1,21 +1,18 @@
 -- Which ids have a line: those that an app was given; and an id that was closed was given, and a port that is listened on stands in the script.
-use Rattle.std.proofs.Common.{◌≡◌, ℕ, zero, suc, ◌+◌, ◌<◌, ◌≤◌, ◌||◌, Bool, true, false, cond, List, [], ◌∷◌, length, get_or, Option, Some, None}
-use Rattle.std.proofs.Common.{Ok, Err, refl, sym, ap, subst, ◌∙◌, arith, slice_get}
-use Rattle.std.proofs.lemmas.{Bool.eq-eqb, Bool.eqb-true, List.Folds.list_any-append, List.FromFn.{get_or-range_with_len, length-range_with_len}}
+use Rattle.std.proofs.Common.{◌≡◌, ℕ, zero, suc, ◌+◌, ◌<◌, ◌≤◌, ◌||◌, Bool, true, false, cond, List, [], ◌∷◌, length, get_or, Option, Some, None, Ok, Err, refl, sym, ap, subst}
+use Rattle.std.proofs.{Common.{◌∙◌, arith, slice_get}, lemmas.{Bool.{eq-eqb, eqb-true}, List.{Folds.list_any-append, FromFn.{get_or-range_with_len, length-range_with_len}}}}
 use Rattle.std.specs.List.{flat_map, list_any, range_with_len}
 use Rattle.vs_flow.specs.Connection.{Connection}
 use Rattle.vs_script.specs.App.{Listen}
-use Rattle.vs_driver_parts.specs.declared.answers.Accepted.TheVariants as accepted
 use Rattle.laws_driver.specs.Carried.Calls.{GuestCall, Journal, ReplyTo, names}
-use Rattle.vs_apps_parts.specs.{Journals.{calls_of, calls_of_app, made_by, made_by_app, made_of}, Scripts.{RunScript, acts_of}}
-use Rattle.vs_apps_parts.specs.declared.journal.{Called.Called, Deed.Deed, Entry.Entry}
+use Rattle.vs_apps_parts.specs.{Journals.{calls_of, calls_of_app, made_by, made_by_app, made_of}, Scripts.{RunScript, acts_of}, declared.journal.{Called.Called, Deed.Deed}}
+use Rattle.vs_apps_parts.specs.declared.journal.Entry.{Entry}
+use Rattle.laws_apps.specs.{Accounts.{HasOne, TellFlows, TellsFlow}, Runs.{IsRunOf, Run, app_at}, Placed.{AreOwned, NamesFlow, NamesOne, given_by, some_did, was_closed, was_given}}
+use Rattle.laws_apps.{specs.Placed.was_listened, proofs.{Named.{app_did, closed_given, did_append, listened_there}, Placed.{one_of, or_first, or_second}}}
+use Rattle.vs_run_report.specs.{Connections.{listed, opened_all, opened_by, opened_in, opened_of}, declared.connection.Opened.Opened}
+use Rattle.vs_driver_parts.specs.declared.answers.Accepted.TheVariants as accepted
 use Rattle.vs_apps_parts.specs.declared.journal.Called.TheVariants as called
 use Rattle.vs_apps_parts.specs.declared.journal.Deed.TheVariants as deed
-use Rattle.laws_apps.specs.{Accounts.HasOne, Accounts.TellFlows, Accounts.TellsFlow, Runs.IsRunOf, Runs.Run, Runs.app_at}
-use Rattle.laws_apps.specs.Placed.{AreOwned, NamesFlow, NamesOne, given_by, some_did, was_closed, was_given, was_listened}
-use Rattle.laws_apps.proofs.{Named.{app_did, closed_given, did_append, listened_there}, Placed.one_of, Placed.or_first, Placed.or_second}
-use Rattle.vs_run_report.specs.Connections.{listed, opened_all, opened_by, opened_in, opened_of}
-use Rattle.vs_run_report.specs.declared.connection.Opened.{Opened}
 
 plain : (b : Bool) → (b || false) ≡ true → b ≡ true
 plain true is = refl

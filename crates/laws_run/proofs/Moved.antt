@@ -1,34 +1,25 @@
 -- What a journal tells of the calls by which an app moved bytes: what a reply tells is what was moved.
-use Rattle.std.proofs.Common.{◌≡◌, ◌⊎◌, inl, inr, ℕ, ◌+◌, ◌≤◌, ◌==◌, ◌||◌, ◌&&◌, not, nat_lt, Bool, true, false, cond, List, [], ◌∷◌, ◌++◌}
-use Rattle.std.proofs.Common.{Option, Some, None, Ok, Err, append_assoc, append-nil, length, length-append, length-drop, drop, length-take}
-use Rattle.std.proofs.Common.{slice_get, refl, sym, ap, subst, ◌∙◌, arith}
-use Rattle.std.{proofs.lemmas.Bool.Decides.nat_tests, proofs.lemmas.Bool.and_parts, proofs.lemmas.Bool.eq-eqb, proofs.lemmas.Bool.eqb-true}
-use Rattle.std.{proofs.lemmas.Option.same_Some, specs.List.list_any}
-use Rattle.vs_script.specs.{App.Act, App.Drain}
-use Rattle.vs_driver_parts.specs.{Connections.got_count, State.DriverConnection, State.DriverEntry, declared.answers.Received.Received}
-use Rattle.vs_driver_parts.specs.declared.answers.Sent.{Sent}
+use Rattle.std.proofs.Common.{◌≡◌, ◌⊎◌, inl, inr, ℕ, ◌+◌, ◌≤◌, ◌==◌, ◌||◌, ◌&&◌, not, nat_lt, Bool, true, false, cond, List, [], ◌∷◌, ◌++◌, Option, Some, None, Ok, Err}
+use Rattle.std.proofs.Common.{append_assoc, append-nil, length, length-append, length-drop, drop, length-take, slice_get, refl, sym, ap, subst, ◌∙◌, arith}
+use Rattle.std.{proofs.lemmas.{Bool.{Decides.nat_tests, and_parts, eq-eqb, eqb-true}, Option.same_Some}, specs.List.list_any}
+use Rattle.vs_script.specs.App.{Act, Drain}
+use Rattle.vs_driver_parts.specs.{Connections.got_count, State.{DriverConnection, DriverEntry}, declared.answers.{Received.Received, Sent.Sent}}
+use Rattle.laws_driver.specs.Carried.Calls.{GuestCall, Journal, Made, ReplyTo, bytes_received, bytes_sent, names, received_by}
+use Rattle.vs_apps_parts.specs.{Scripts.{Follows, RunScript, after_step, all_noted, begun, calls_in, calls_next, id_of, more, told_in, with_noted}, Journals.{AllStandIn, calls_of}}
+use Rattle.vs_apps_parts.specs.{Journals.{calls_of_app, ends_at, id_in, made_by, made_of, sent_as}, Told.{told_by, told_of, wait_of, told_recv, told_send}}
+use Rattle.vs_apps_parts.specs.declared.{journal.{Called.Called, Deed.Deed, Entry.Entry, WaitsFor.WaitsFor}, progress.{Progress.Progress, TheConstants.SLICE}, told.Told.Told}
+use Rattle.laws_apps.specs.Traces.{AllTell, AtId, IsDrained, IsStopped, TellsOf, id_told, is_shut, shuts}
+use Rattle.laws_run.proofs.Bounding.{is_send, is_recv, is_move, sent_told, got_told, sending, tally, AreFree, follows_went, no_received, ArePlain, at_parts}
+use Rattle.laws_run.specs.Bounds.{calls_of_others, done_at, done_by, early, is_at, is_cut, is_drain, is_over, receives_on, sends_on, was_over, went}
 use Rattle.vs_driver_parts.specs.declared.answers.Accepted.TheVariants as accepted
 use Rattle.vs_driver_parts.specs.declared.answers.ConnectError.TheVariants as refused
 use Rattle.vs_driver_parts.specs.declared.answers.ConnectionState.TheVariants as seen
 use Rattle.vs_driver_parts.specs.declared.answers.Received.TheVariants as got
 use Rattle.vs_driver_parts.specs.declared.answers.Sent.TheVariants as sent
-use Rattle.laws_driver.specs.Carried.Calls.{GuestCall, Journal, Made, ReplyTo, bytes_received, bytes_sent, names, received_by}
 use Rattle.laws_driver.specs.Carried.Calls as call
-use Rattle.vs_apps_parts.specs.Scripts.{Follows, RunScript, after_step, all_noted, begun, calls_in, calls_next, id_of, more, told_in}
-use Rattle.vs_apps_parts.specs.Scripts.{with_noted}
-use Rattle.vs_apps_parts.specs.{Journals.AllStandIn, Journals.calls_of, Journals.calls_of_app, Journals.ends_at, Journals.id_in}
-use Rattle.vs_apps_parts.specs.{Journals.made_by, Journals.made_of, Journals.sent_as, Told.told_by, Told.told_of, Told.wait_of}
-use Rattle.vs_apps_parts.specs.{Told.told_recv, Told.told_send, declared.journal.Called.Called, declared.journal.Deed.Deed}
-use Rattle.vs_apps_parts.specs.{declared.journal.Entry.Entry, declared.journal.WaitsFor.WaitsFor, declared.progress.Progress.Progress}
-use Rattle.vs_apps_parts.specs.{declared.told.Told.Told, declared.progress.TheConstants.SLICE}
 use Rattle.vs_apps_parts.specs.declared.journal.Called.TheVariants as called
 use Rattle.vs_apps_parts.specs.declared.journal.Deed.TheVariants as deed
 use Rattle.vs_apps_parts.specs.declared.told.Told.TheVariants as says
-use Rattle.laws_apps.specs.{Traces.AllTell, Traces.AtId, Traces.IsDrained, Traces.IsStopped, Traces.TellsOf, Traces.id_told, Traces.is_shut}
-use Rattle.laws_apps.specs.Traces.{shuts}
-use Rattle.laws_run.proofs.Bounding.{is_send, is_recv, is_move, sent_told, got_told, sending, tally, AreFree, follows_went, no_received}
-use Rattle.laws_run.proofs.Bounding.{ArePlain, at_parts}
-use Rattle.laws_run.specs.Bounds.{calls_of_others, done_at, done_by, early, is_at, is_cut, is_drain, is_over, receives_on, sends_on, was_over, went}
 
 -- What stands in a journal, and in an app's part of it.
 shut_after : (id : ℕ) (ms journal : Journal) → is_shut id (ms ++ journal) ≡ (is_shut id ms || is_shut id journal)

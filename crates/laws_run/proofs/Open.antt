@@ -1,23 +1,20 @@
 -- At rest the device has a connection for each stream with a label that its proxy hasn't closed, and no other.
-use Rattle.std.proofs.Common.{◌≡◌, ◌≢◌, ◌+◌, ◌-◌, ◌<◌, ◌==◌, ◌||◌, ◌&&◌, ℕ, zero, suc, Bool, true, false, cond, List, [], ◌∷◌, length, map, Option, Some, None}
-use Rattle.std.proofs.Common.{Contains, slice_get, slice_index_or, refl, sym, ap, subst, ◌∙◌, arith}
-use Rattle.std.proofs.lemmas.{Bool.Decides.nat_tests, Bool.and_parts, Option.slice_get-get_or, List.Elements.All-contains, List.length-map, Map.Made.length-from_same_keys}
-use Rattle.std.specs.{Cmp.IsEquivalence, List.All, List.AllByRecursion, List.AllPairs, List.IsDistinct, List.cons_option, List.filter_map, List.list_any, Option.ForSome, Option.option_map, Option.option_map_or}
-use Rattle.vs_flow.specs.{Connection.Connection, Flow.same_flow, Table.IsTable, Table.Table, Table.entry_of, declared.flow.Flow.Flow, declared.table.Entry.Entry}
-use Rattle.vs_flow.proofs.Lookups.{entry_under_found}
-use Rattle.laws_tables.proofs.{Changes.under_slot, Slots.found_by}
+use Rattle.std.proofs.Common.{◌≡◌, ◌≢◌, ◌+◌, ◌-◌, ◌<◌, ◌==◌, ◌||◌, ◌&&◌, ℕ, zero, suc, Bool, true, false, cond, List, [], ◌∷◌, length, map, Option, Some, None, Contains, slice_get}
+use Rattle.std.proofs.{Common.{slice_index_or, refl, sym, ap, subst, ◌∙◌, arith}, lemmas.{Bool.{Decides.nat_tests, and_parts}, Option.slice_get-get_or, List.Elements.All-contains}}
+use Rattle.std.{proofs.lemmas.{List.length-map, Map.Made.length-from_same_keys}, specs.{Cmp.IsEquivalence, List.{All, AllByRecursion, AllPairs, IsDistinct, cons_option}}}
+use Rattle.std.specs.{List.{filter_map, list_any}, Option.{ForSome, option_map, option_map_or}}
+use Rattle.vs_flow.{specs.{Connection.Connection, Flow.same_flow, Table.{IsTable, Table, entry_of}, declared.{flow.Flow.Flow, table.Entry.Entry}}, proofs.Lookups.entry_under_found}
+use Rattle.laws_tables.{proofs.{Changes.under_slot, Slots.found_by}, specs.Ends.{entries_of, flows_of, is_among}}
 use Rattle.vs_conn.specs.End.{ConnectionEnd}
 use Rattle.vs_outside.specs.{Host.{HostContents, Stream, stream_at, waits}, HostProgram.closes, declared.host_net.StreamState.StreamState}
-use Rattle.vs_outside.specs.declared.host_net.StreamState.TheVariants as state
-use Rattle.vs_page.{specs.Log.Log, proofs.Flows.same_is, proofs.Flows.same_self}
+use Rattle.vs_page.{specs.Log.Log, proofs.Flows.{same_is, same_self}}
 use Rattle.vs_device_parts.specs.State.{DeviceConnection, DeviceEntry}
 use Rattle.vs_proxy_parts.specs.State.{Handshake}
-use Rattle.laws_tables.specs.Ends.{entries_of, flows_of, is_among}
-use Rattle.laws_device.specs.{Honest.end_in, Streams.has_open_stream, Streams.is_open_in, Streams.is_open_on}
-use Rattle.laws_device.proofs.Waiting.{open_among}
-use Rattle.laws_device.specs.Carried.Streamed.{IsJoined, IsStreamed, Seen, client_waits, connection_in, connection_of, count_in, look, seen}
-use Rattle.laws_device.proofs.Carried.{Closing.is_under, Closing.named, Hosts.label_here, Hosts.label_there, Hosts.there}
+use Rattle.laws_device.specs.{Honest.end_in, Streams.{has_open_stream, is_open_in, is_open_on}, Carried.Streamed.{IsJoined, IsStreamed, Seen, client_waits, connection_in}}
+use Rattle.laws_device.{specs.Carried.Streamed.{connection_of, count_in, look, seen}, proofs.{Waiting.open_among, Carried.{Closing.{is_under, named}, Hosts.label_here}}}
+use Rattle.laws_device.proofs.Carried.Hosts.{label_there, there}
 use Rattle.laws_run.specs.Complete.{open_label, open_labels}
+use Rattle.vs_outside.specs.declared.host_net.StreamState.TheVariants as state
 
 pub same_flows : IsEquivalence same_flow
 same_flows = record {

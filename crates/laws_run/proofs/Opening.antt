@@ -1,16 +1,15 @@
 -- All connections that apps opened have the flows that the entries tell.
-use Rattle.std.proofs.Common.{ℕ, ◌==◌, Bool, true, false, cond, List, [], ◌∷◌, Option, Some, None, Result, Ok, Err}
-use Rattle.std.proofs.lemmas.List.Elements.{All-append, All-cons, All-nil}
+use Rattle.std.proofs.{Common.{ℕ, ◌==◌, Bool, true, false, cond, List, [], ◌∷◌, Option, Some, None, Result, Ok, Err}, lemmas.List.Elements.{All-append, All-cons, All-nil}}
 use Rattle.std.specs.List.{All, flat_map, range_with_len}
 use Rattle.vs_flow.specs.{Connection.Connection, declared.flow.Flow.Flow}
 use Rattle.vs_driver_parts.specs.declared.answers.{Accepted.Accepted, ConnectError.ConnectError}
-use Rattle.vs_driver_parts.specs.declared.answers.Accepted.TheVariants as accepted
 use Rattle.vs_apps_parts.specs.declared.journal.{Called.Called, Deed.Deed, Entry.Entry}
-use Rattle.vs_apps_parts.specs.declared.journal.Called.TheVariants as called
-use Rattle.vs_apps_parts.specs.declared.journal.Deed.TheVariants as deed
 use Rattle.laws_apps.specs.Accounts.{HasOne, IsAccepted, IsConnected, TellFlows, TellsFlow}
 use Rattle.vs_run_report.specs.Connections.{listed, opened_all, opened_as, opened_by, opened_by_accept, opened_by_connect, opened_in, opened_of}
 use Rattle.vs_run_report.specs.declared.connection.Opened.{Opened}
+use Rattle.vs_driver_parts.specs.declared.answers.Accepted.TheVariants as accepted
+use Rattle.vs_apps_parts.specs.declared.journal.Called.TheVariants as called
+use Rattle.vs_apps_parts.specs.declared.journal.Deed.TheVariants as deed
 
 flat_all : {A B : Type 0} (P : B → Type 0) (f : A → List B) (xs : List A) → ((x : A) → All P (f x)) → All P (flat_map f xs)
 flat_all P f [] each = All-nil P

@@ -1,27 +1,22 @@
 -- A stage of writing that wrote nothing tried each stream to which something is to be written, and each gave Again.
-use Rattle.std.proofs.Common.{◌≡◌, ◌≤◌, ◌==◌, ◌&&◌, ◌||◌, not, ◌⊎◌, inl, inr, ℕ, Bool, true, false, cond, List, [], ◌∷◌, ◌++◌, length, take, Option, Some, None}
-use Rattle.std.proofs.Common.{refl, sym, ap, subst, ◌∙◌, arith}
-use Rattle.std.proofs.lemmas.{Bool.Decides.nat_tests, Bool.eqb-true, Option.same_Some}
-use Rattle.std.specs.{Option.option_map, Option.option_map_or, Prelude.min}
-use Rattle.vs_contents.specs.{CallTree.Ask, CallTree.Done, CallTree.bind, CallTree.for_each, Contents.Exposes}
-use Rattle.vs_conn.specs.{End.with_shut}
+use Rattle.std.proofs.Common.{◌≡◌, ◌≤◌, ◌==◌, ◌&&◌, ◌||◌, not, ◌⊎◌, inl, inr, ℕ, Bool, true, false, cond, List, [], ◌∷◌, ◌++◌, length, take, Option, Some, None, refl, sym, ap}
+use Rattle.std.{proofs.{Common.{subst, ◌∙◌, arith}, lemmas.{Bool.{Decides.nat_tests, eqb-true}, Option.same_Some}}, specs.{Option.{option_map, option_map_or}, Prelude.min}}
+use Rattle.vs_contents.specs.{CallTree.{Ask, Done, bind, for_each}, Contents.Exposes}
+use Rattle.vs_conn.specs.End.{with_shut}
 use Rattle.vs_flow.specs.Table.{Table, entry_under, slots, with_value}
-use Rattle.vs_outside.specs.{Host.{HostContents, IsWritten, Stream, after_close, after_failed, after_shut_write, after_write, called, fails_now, stream_at, taken_of, with_shut_write_call, write_of}}
-use Rattle.vs_outside.specs.declared.host_net.StreamWrite.{StreamWrite}
+use Rattle.vs_outside.specs.Host.{HostContents, IsWritten, Stream, after_close, after_failed, after_shut_write, after_write, called, fails_now, stream_at, taken_of}
+use Rattle.vs_outside.specs.{Host.{with_shut_write_call, write_of}, declared.host_net.StreamWrite.StreamWrite}
+use Rattle.vs_device_parts.specs.{Calls.{Allows, CloseStream, DeviceTree, HostMoves, ShutWrite, Situation, WriteStream}, Playing.Runs, Connections.{after_shut, after_written}}
+use Rattle.vs_device_parts.specs.{Connections.{cut_off, with_connection, with_fault}, Streams.{Writing, closing, is_written_out, pump_of, pump_slot, shut_write, to_write}}
+use Rattle.vs_device_parts.{specs.{Streams.{write_answered, write_pending}, State.{DeviceConnection, DeviceEntry, DeviceState}}, proofs.Under.has_slot}
+use Rattle.vs_proxy_parts.specs.{State.ProxyState, Turns.turn_of, declared.answers.{Turn.Turn, Turned.Turned}}
+use Rattle.laws_device.{specs.Honest.end_in, proofs.Walk.Keeping.{Keeps, keeps_then}}
+use Rattle.laws_rest.proofs.{Owing.{listed, same_slots}, Quiet.in_list}
+use Rattle.laws_settled.{specs.Settled.LacksPages, proofs.Quieting.{LastFill, fill_lacks, last_fill}}
+use Rattle.laws_run.{specs.Dry.{AreIdle, IsFull, IsFullAt, IsToldFull, writes_of, writes_under}, proofs.Drying.{allowed, full_closed, host_moves, keeps_run, keeps_weaker, or_true}}
+use Rattle.laws_run.proofs.Drying.{stage_dry, stays_with, under_at, under_other, under_own}
 use Rattle.vs_outside.specs.declared.host_net.StreamWrite.TheVariants as write
-use Rattle.vs_device_parts.specs.{Calls.{Allows, CloseStream, DeviceTree, HostMoves, ShutWrite, Situation, WriteStream}, Playing.Runs}
-use Rattle.vs_device_parts.specs.Connections.{after_shut, after_written, cut_off, with_connection, with_fault}
-use Rattle.vs_device_parts.specs.Streams.{Writing, closing, is_written_out, pump_of, pump_slot, shut_write, to_write, write_answered, write_pending}
-use Rattle.vs_device_parts.specs.{State.DeviceConnection, State.DeviceEntry, State.DeviceState}
-use Rattle.vs_device_parts.proofs.Under.{has_slot}
-use Rattle.vs_proxy_parts.specs.{State.ProxyState, Turns.turn_of, declared.answers.Turn.Turn, declared.answers.Turned.Turned}
 use Rattle.vs_proxy_parts.specs.declared.answers.Turn.TheVariants as turn
-use Rattle.laws_device.specs.Honest.{end_in}
-use Rattle.laws_device.proofs.Walk.Keeping.{Keeps, keeps_then}
-use Rattle.laws_rest.proofs.{Owing.listed, Owing.same_slots, Quiet.in_list}
-use Rattle.laws_settled.{specs.Settled.LacksPages, proofs.Quieting.LastFill, proofs.Quieting.fill_lacks, proofs.Quieting.last_fill}
-use Rattle.laws_run.specs.Dry.{AreIdle, IsFull, IsFullAt, IsToldFull, writes_of, writes_under}
-use Rattle.laws_run.proofs.Drying.{allowed, full_closed, host_moves, keeps_run, keeps_weaker, or_true, stage_dry, stays_with, under_at, under_other, under_own}
 
 abbrev Relation : Type 1
 Relation = Writing → Situation → Writing → Situation → Type 0

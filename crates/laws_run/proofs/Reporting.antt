@@ -1,6 +1,5 @@
 -- From what a run ends in to a right report.
-use Rattle.std.proofs.Common.{◌≡◌, ℕ, ◌<◌, ◌≤◌, List, Some, length, refl, sym, ap, subst, ◌∙◌}
-use Rattle.std.specs.List.{All}
+use Rattle.std.{proofs.Common.{◌≡◌, ℕ, ◌<◌, ◌≤◌, List, Some, length, refl, sym, ap, subst, ◌∙◌}, specs.List.All}
 use Rattle.vs_flow.specs.{Connection.Connection, declared.flow.Flow.Flow}
 use Rattle.vs_limits.specs.declared.TheConstants.{FIRST_CID}
 use Rattle.vs_outside.specs.{Faults.one_more, Host.HostContents}
@@ -10,16 +9,14 @@ use Rattle.vs_driver_parts.specs.State.{DriverState}
 use Rattle.vs_device_parts.specs.Playing.{situation}
 use Rattle.vs_proxy_parts.specs.State.{ProxyState}
 use Rattle.laws_tables.specs.Asked.{AskOnce}
-use Rattle.laws_driver.specs.Honest.{slots_of}
-use Rattle.laws_driver.specs.Carried.Calls.{Journal}
+use Rattle.laws_driver.specs.{Honest.slots_of, Carried.Calls.Journal}
 use Rattle.laws_proxy.specs.Honest.{IsProxyStreamed}
 use Rattle.laws_settled.specs.Settled.{IsSettled, IsSteady, ends_at_rest}
 use Rattle.vs_apps_parts.specs.{Journals.calls_of, Scripts.{RunScript, acts_of}, declared.{journal.Entry.Entry, progress.AppState.AppState}}
 use Rattle.laws_apps.specs.{Accounts.IsAccount, Runs.{IsRunOf, Run}, Calls.run_with, Rounds.AllStand}
 use Rattle.vs_report.specs.declared.giving.Totals.{Totals}
-use Rattle.vs_run_report.specs.{Connections.opened_all, Report.ended_at, Right.IsRightConnection, Right.IsRightEnding, Right.IsRightReport}
-use Rattle.vs_run_report.specs.declared.connection.Opened.{Opened}
-use Rattle.laws_run.proofs.{Bytes.carried, Bytes.number_once, Endings.all_right, Opening.all_opened}
+use Rattle.vs_run_report.specs.{Connections.opened_all, Report.ended_at, Right.{IsRightConnection, IsRightEnding, IsRightReport}, declared.connection.Opened.Opened}
+use Rattle.laws_run.proofs.{Bytes.{carried, number_once}, Endings.all_right, Opening.all_opened}
 
 module _ (script : RunScript) (driver : DriverState) (end : Sight) (apps : List AppState) (entries : List Entry) (bytes : List ℕ) (p : ProxyState)
     (e : DeviceSight) (h : HostContents) (faults : ℕ)

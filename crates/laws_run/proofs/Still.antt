@@ -1,23 +1,18 @@
 -- A poll that moved nothing leaves the driver as it was, but for its pages in flight.
-use Rattle.std.proofs.Common.{◌≡◌, ◌≤◌, ◌<◌, ◌+◌, ◌==◌, ◌||◌, ℕ, zero, suc, nat_le, nat_lt, Bool, true, false, cond, List, [], ◌∷◌, length, Option, Some, None}
-use Rattle.std.proofs.Common.{refl, ap, ◌∙◌, arith}
-use Rattle.std.proofs.lemmas.{Bool.Decides.nat_tests, Grind.common_steps}
-use Rattle.vs_contents.specs.CallTree.{Ask, Done, bind, for_each, while_up_to}
-use Rattle.vs_contents.proofs.Leads.{AllEnds, end_of, ends_weaker}
+use Rattle.std.proofs.Common.{◌≡◌, ◌≤◌, ◌<◌, ◌+◌, ◌==◌, ◌||◌, ℕ, zero, suc, nat_le, nat_lt, Bool, true, false, cond, List, [], ◌∷◌, length, Option, Some, None, refl, ap, ◌∙◌}
+use Rattle.std.proofs.{Common.arith, lemmas.{Bool.Decides.nat_tests, Grind.common_steps}}
+use Rattle.vs_contents.{specs.CallTree.{Ask, Done, bind, for_each, while_up_to}, proofs.Leads.{AllEnds, end_of, ends_weaker}}
 use Rattle.vs_conn.specs.{End.owes_of, declared.end.Owed.Owed}
 use Rattle.vs_flow.specs.Table.{entry_under, slots}
 use Rattle.vs_header.specs.Packet.{header_bytes}
 use Rattle.vs_limits.specs.declared.TheConstants.{DRIVER_REPLIES_FULL, OWED_MAX, STAGED_MAX}
 use Rattle.vs_replies.specs.declared.Reply.{Reply}
-use Rattle.vs_ring_port.specs.{Contents.RingContents, DriverCalls.LoadCid, DriverCalls.Reap, declared.queue.Queue.Queue}
-use Rattle.vs_ring_port.specs.{declared.queue.Queue.TheVariants.{Event, Rx, Tx}}
-use Rattle.vs_driver_parts.specs.Conversations.{DriverTree, Round, after_paying, all_taken, event_reaped, event_taken, goes_on_with}
-use Rattle.vs_driver_parts.specs.Conversations.{has_page, one_put, owed_bytes, packet_reaped, pay_all, pay_and_publish, pay_slot, poll_of, poll_packets}
-use Rattle.vs_driver_parts.specs.Conversations.{poll_puts, poll_reaps, polled, publish_and_pay, published, put_all, put_owed, put_owed_of, put_replies}
-use Rattle.vs_driver_parts.specs.Conversations.{put_reply, put_reply_of, reap_all, reap_one, reaped, reply_header, stage_of, stage_packet, staged_again}
-use Rattle.vs_driver_parts.specs.Conversations.{start, take_all, take_event, take_packet}
-use Rattle.vs_driver_parts.specs.{Playing.Plays, Playing.RingAllows, Receiving.after_reset, Receiving.is_reset_event, Receiving.on_page, State.DriverEntry, State.DriverState}
-use Rattle.vs_driver_parts.specs.declared.answers.Polled.{Polled}
+use Rattle.vs_ring_port.specs.{Contents.RingContents, DriverCalls.{LoadCid, Reap}, declared.queue.Queue.{Queue, TheVariants.{Event, Rx, Tx}}}
+use Rattle.vs_driver_parts.specs.Conversations.{DriverTree, Round, after_paying, all_taken, event_reaped, event_taken, goes_on_with, has_page, one_put, owed_bytes, packet_reaped}
+use Rattle.vs_driver_parts.specs.Conversations.{pay_all, pay_and_publish, pay_slot, poll_of, poll_packets, poll_puts, poll_reaps, polled, publish_and_pay, published, put_all}
+use Rattle.vs_driver_parts.specs.Conversations.{put_owed, put_owed_of, put_replies, put_reply, put_reply_of, reap_all, reap_one, reaped, reply_header, stage_of, stage_packet}
+use Rattle.vs_driver_parts.specs.{Conversations.{staged_again, start, take_all, take_event, take_packet}, Playing.{Plays, RingAllows}, Receiving.{after_reset, is_reset_event}}
+use Rattle.vs_driver_parts.specs.{Receiving.on_page, State.{DriverEntry, DriverState}, declared.answers.Polled.Polled}
 use Rattle.laws_apps.specs.Runs.{poll_moved}
 use Rattle.laws_rest.proofs.Quiet.{ends_any, ends_then}
 

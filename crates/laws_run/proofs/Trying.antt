@@ -1,20 +1,19 @@
 -- Each connect and accept that an app carried out has a call of its own, which opened a connection that has a line, or was refused.
-use Rattle.std.proofs.Common.{◌≡◌, ◌+◌, ◌≤◌, ◌==◌, ◌||◌, ℕ, zero, suc, Bool, true, false, cond, List, [], ◌∷◌, ◌++◌, Option, Some, None, Ok, Err, length, length-append}
-use Rattle.std.proofs.Common.{refl, sym, ap, subst, ◌∙◌, arith, slice_get, take}
-use Rattle.std.proofs.lemmas.{Bool.eqb-true}
+use Rattle.std.proofs.Common.{◌≡◌, ◌+◌, ◌≤◌, ◌==◌, ◌||◌, ℕ, zero, suc, Bool, true, false, cond, List, [], ◌∷◌, ◌++◌, Option, Some, None, Ok, Err, length, length-append, refl, sym}
+use Rattle.std.proofs.{Common.{ap, subst, ◌∙◌, arith, slice_get, take}, lemmas.Bool.eqb-true}
 use Rattle.vs_script.specs.App.{Accept, Act, Connect}
-use Rattle.vs_driver_parts.specs.declared.answers.Accepted.TheVariants as accepted
 use Rattle.laws_driver.specs.Carried.Calls.{GuestCall, Journal, Made}
+use Rattle.vs_apps_parts.specs.{Journals.{calls_of_app, made_by, made_of}, Scripts.{Follows, RunScript, all_counted, all_noted, begun, calls_in, calls_next, goes_to, id_of}}
+use Rattle.vs_apps_parts.specs.{Scripts.{is_complete, on_to_next, told_in, with_noted}, Told.{is_any_end, step_wait, told_of, wait_of}, declared.journal.{Called.Called, Deed.Deed}}
+use Rattle.vs_apps_parts.specs.declared.{journal.{Entry.Entry, WaitsFor.WaitsFor}, progress.Progress.Progress, told.Told.Told}
+use Rattle.laws_apps.specs.Placed.{AreOwned, NamesFlow, NamesOne}
+use Rattle.vs_run_report.specs.Connections.{listed, opened_by, opened_in, opened_of}
+use Rattle.laws_run.{specs.Bounds.{opens, refusals, total}, proofs.Bounding.all_counted_at}
+use Rattle.vs_driver_parts.specs.declared.answers.Accepted.TheVariants as accepted
 use Rattle.laws_driver.specs.Carried.Calls as call
-use Rattle.vs_apps_parts.specs.{Journals.{calls_of_app, made_by, made_of}, Scripts.{Follows, RunScript, all_counted, all_noted, begun, calls_in, calls_next, goes_to, id_of, is_complete, on_to_next}}
-use Rattle.vs_apps_parts.specs.{Scripts.told_in, Scripts.with_noted, Told.{is_any_end, step_wait, told_of, wait_of}, declared.{journal.{Called.Called, Deed.Deed, Entry.Entry, WaitsFor.WaitsFor}, progress.Progress.Progress, told.Told.Told}}
 use Rattle.vs_apps_parts.specs.declared.journal.Called.TheVariants as called
 use Rattle.vs_apps_parts.specs.declared.journal.Deed.TheVariants as deed
 use Rattle.vs_apps_parts.specs.declared.told.Told.TheVariants as says
-use Rattle.laws_apps.specs.Placed.{AreOwned, NamesFlow, NamesOne}
-use Rattle.vs_run_report.specs.Connections.{listed, opened_by, opened_in, opened_of}
-use Rattle.laws_run.specs.Bounds.{opens, refusals, total}
-use Rattle.laws_run.proofs.Bounding.{all_counted_at}
 
 -- A call that is to open a connection, and how many of a journal are.
 abbrev pub tries : GuestCall → ℕ

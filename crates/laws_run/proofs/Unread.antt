@@ -1,24 +1,21 @@
 -- What of a connection's payload its host's program has still to read, where the device holds many bytes of it.
-use Rattle.std.proofs.Common.{◌≡◌, ◌⊎◌, inl, inr, ℕ, ◌+◌, ◌-◌, ◌≤◌, ◌<◌, ◌%◌, ◌^◌, ◌==◌, ◌&&◌, ◌||◌, not, Bool, true, false, cond, List, [], ◌∷◌, ◌++◌, length, Contains, Some}
-use Rattle.std.proofs.Common.{Ok, Err, None, Option, codes, decimal, refl, sym, ap, subst, ◌∙◌, arith, length-append}
-use Rattle.std.proofs.lemmas.{Bool.Decides.nat_tests, List.Elements.All-contains}
+use Rattle.std.proofs.Common.{◌≡◌, ◌⊎◌, inl, inr, ℕ, ◌+◌, ◌-◌, ◌≤◌, ◌<◌, ◌%◌, ◌^◌, ◌==◌, ◌&&◌, ◌||◌, not, Bool, true, false, cond, List, [], ◌∷◌, ◌++◌, length, Contains, Some, Ok}
+use Rattle.std.proofs.{Common.{Err, None, Option, codes, decimal, refl, sym, ap, subst, ◌∙◌, arith, length-append}, lemmas.{Bool.Decides.nat_tests, List.Elements.All-contains}}
 use Rattle.vs_credit.specs.Credit.{free_of, unread_of}
 use Rattle.vs_conn.specs.{End.{ConnectionEnd, may_send_of, state_may_send}, Follows.{Follows, IsLeftBy}, Shut.is_both, declared.end.State.{State, TheVariants.{Asked, Ended, Live}}}
-use Rattle.vs_conn.specs.declared.end.Stop.TheVariants as stop
 use Rattle.vs_flow.specs.{Connection.Connection, Flow.is_assigned, Table.Table, declared.flow.Flow.Flow}
-use Rattle.vs_outside.specs.{Host.HostContents, HostBytes.after_line, HostBytes.host_read}
-use Rattle.vs_uds.{proofs.Leading.has_lf-digits, proofs.Ports.WritesPort-decimal, specs.OkLine.ok_text}
-use Rattle.laws_history.specs.{History.{History, Side, gots, puts}, Packets.bytes, Packets.told_forwarded}
-use Rattle.vs_page.specs.{Fair.IsFairLog, Fair.current, Fair.number_of, Fair.payload_got, Log.{Device, Log, history_of, side_of}, Open.left_kind}
-use Rattle.vs_page.proofs.{Payload.length-payload_of, Present.present_got}
+use Rattle.vs_outside.specs.{Host.HostContents, HostBytes.{after_line, host_read}}
+use Rattle.vs_uds.{proofs.{Leading.has_lf-digits, Ports.WritesPort-decimal}, specs.OkLine.ok_text}
+use Rattle.laws_history.specs.{History.{History, Side, gots, puts}, Packets.{bytes, told_forwarded}}
+use Rattle.vs_page.{specs.{Fair.{IsFairLog, current, number_of, payload_got}, Log.{Device, Log, history_of, side_of}, Open.left_kind}, proofs.Payload.length-payload_of}
+use Rattle.vs_page.proofs.Present.{present_got}
 use Rattle.vs_device_parts.specs.State.{DeviceConnection, DeviceEntry}
 use Rattle.vs_proxy_parts.specs.State.{Handshake}
-use Rattle.laws_tables.specs.{Ends.Ends, Ends.ends_of, Ends.is_among, Ends.replied, Heard.heard_of, Matches.{IsBefore, IsLeftOn, Matches}, Steps.HasEnd}
-use Rattle.laws_tables.proofs.Fair.{heard_less}
-use Rattle.laws_tables.specs.Ends.{is_new_in}
-use Rattle.laws_device.specs.Carried.Streamed.{IsJoined, IsStreamed, connection_of, count_in, gives_in, has_line, look}
-use Rattle.laws_device.proofs.Carried.{Hosts.there, Lines.{after_is_rest, after_longer, line_ends, line_whole, rest_of}}
+use Rattle.laws_tables.{specs.{Ends.{Ends, ends_of, is_among, replied, is_new_in}, Heard.heard_of, Matches.{IsBefore, IsLeftOn, Matches}, Steps.HasEnd}, proofs.Fair.heard_less}
+use Rattle.laws_device.{specs.Carried.Streamed.{IsJoined, IsStreamed, connection_of, count_in, gives_in, has_line, look}, proofs.Carried.{Hosts.there, Lines.after_is_rest}}
+use Rattle.laws_device.proofs.Carried.Lines.{after_longer, line_ends, line_whole, rest_of}
 use Rattle.laws_rest.proofs.Hosts.{read_own}
+use Rattle.vs_conn.specs.declared.end.Stop.TheVariants as stop
 
 -- What an end that may send, but lacks credit.
 pub no_free : (e : ConnectionEnd) → e.state ≡ Live → may_send_of e ≡ Ok 0 → (free_of e.credit ≡ 0) × (e.peer.receive ≡ false)

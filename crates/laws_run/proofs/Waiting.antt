@@ -1,25 +1,21 @@
 -- What an app may wait for at rest, by the driver's answer to its next call.
-use Rattle.std.proofs.Common.{◌≡◌, ◌≢◌, ◌||◌, not, ℕ, Bool, true, false, cond, List, [], ◌∷◌, ◌++◌, Option, Some, None, Ok, Err}
-use Rattle.std.proofs.Common.{refl, sym, ap, ◌∙◌}
-use Rattle.std.proofs.lemmas.{Option.same_Some}
-use Rattle.std.specs.{Prelude.nat_lt, Prelude.is_some}
-use Rattle.vs_conn.specs.{End.ConnectionEnd, End.may_send_of, End.state_may_send, declared.end.State.State, declared.end.State.TheVariants.{Answering, Asked, Ended, Live}}
-use Rattle.vs_conn.specs.declared.end.Stop.TheVariants as stop
+use Rattle.std.proofs.{Common.{◌≡◌, ◌≢◌, ◌||◌, not, ℕ, Bool, true, false, cond, List, [], ◌∷◌, ◌++◌, Option, Some, None, Ok, Err, refl, sym, ap, ◌∙◌}, lemmas.Option.same_Some}
+use Rattle.std.specs.Prelude.{nat_lt, is_some}
+use Rattle.vs_conn.specs.{End.{ConnectionEnd, may_send_of, state_may_send}, declared.end.State.{State, TheVariants.{Answering, Asked, Ended, Live}}}
 use Rattle.vs_credit.specs.Credit.{free_of}
-use Rattle.vs_script.specs.App.{Act, Connect, Listen, Accept, Send, Recv, Drain, Exchange, Shutdown, Grow, Close}
-use Rattle.vs_script.specs.Data.{size_of}
-use Rattle.vs_driver_parts.specs.Connections.{entry_answer, gone_answer, is_at_end, nothing_read, read_of, recv_of, state_of, state_shown}
-use Rattle.vs_driver_parts.specs.State.{DriverEntry, DriverState, GoneConnection, entry_known_as, gone_known_as}
-use Rattle.vs_driver_parts.specs.declared.answers.{ConnectionState.ConnectionState, Received.Received}
+use Rattle.vs_script.specs.{App.{Act, Connect, Listen, Accept, Send, Recv, Drain, Exchange, Shutdown, Grow, Close}, Data.size_of}
+use Rattle.vs_driver_parts.specs.{Connections.{entry_answer, gone_answer, is_at_end, nothing_read, read_of, recv_of, state_of, state_shown}, State.{DriverEntry, DriverState}}
+use Rattle.vs_driver_parts.specs.{State.{GoneConnection, entry_known_as, gone_known_as}, declared.answers.{ConnectionState.ConnectionState, Received.Received}}
+use Rattle.laws_driver.specs.Carried.Calls.{GuestCall}
+use Rattle.laws_tables.specs.Drains.{receives, receives_in}
+use Rattle.vs_apps_parts.specs.{Scripts.{calls_next, id_of, recv_next, send_next}, Told.{told_look, told_recv, wait_of}, declared.journal.WaitsFor.WaitsFor}
+use Rattle.vs_apps_parts.specs.declared.progress.Progress.{Progress}
+use Rattle.laws_run.proofs.Halting.{SaysToSend, Stops, last_of}
+use Rattle.vs_conn.specs.declared.end.Stop.TheVariants as stop
 use Rattle.vs_driver_parts.specs.declared.answers.ConnectionState.TheVariants as seen
 use Rattle.vs_driver_parts.specs.declared.answers.Received.TheVariants as got
-use Rattle.laws_driver.specs.Carried.Calls.{GuestCall}
 use Rattle.laws_driver.specs.Carried.Calls as call
-use Rattle.laws_tables.specs.Drains.{receives, receives_in}
-use Rattle.vs_apps_parts.specs.{Scripts.{calls_next, id_of, recv_next, send_next}, Told.{told_look, told_recv, wait_of}}
-use Rattle.vs_apps_parts.specs.declared.{journal.WaitsFor.WaitsFor, progress.Progress.Progress}
 use Rattle.vs_apps_parts.specs.declared.journal.WaitsFor.TheVariants as waits
-use Rattle.laws_run.proofs.Halting.{SaysToSend, Stops, last_of}
 
 -- The connection of a call that waits: it isn't Live; or it is, and nothing is unread there, though more may come.
 pub record NotLive (s : DriverState) : Type 0 where

@@ -1,24 +1,20 @@
 -- What of both ends' bytes holds by flows: all payload arrived, and the host's streams took and gave it.
 use Rattle.std.proofs.Common.{◌≡◌, ℕ, ◌≤◌, true, false, List, [], ◌∷◌, Some, refl, sym, ap, ◌∙◌, arith}
-use Rattle.vs_flow.specs.{Connection.Connection, Connection.first_of, Flow.is_assigned, declared.flow.Flow.Flow}
+use Rattle.vs_flow.specs.{Connection.{Connection, first_of}, Flow.is_assigned, declared.flow.Flow.Flow}
 use Rattle.vs_limits.specs.declared.TheConstants.{FIRST_CID}
-use Rattle.laws_history.specs.{Again.count, Packets.is_request, declared.packet.Packet.Packet}
-use Rattle.laws_history.specs.History.{Answerer, Asker, Side, gots, peer, puts}
+use Rattle.laws_history.specs.{Again.count, Packets.is_request, declared.packet.Packet.Packet, History.{Answerer, Asker, Side, gots, peer, puts}}
 use Rattle.vs_outside.specs.{Host.HostContents, HostBytes.host_wrote}
-use Rattle.vs_page.specs.Fair.{asked_by, instance_from, number_of, payload_got, payload_of, payload_put}
-use Rattle.vs_page.specs.Log.{Device, Driver, Log, Role, flow_got, other_role, packets_got, packets_put, side_of, whole_of}
-use Rattle.vs_page.specs.declared.log.LogEntry.TheVariants.{GotEvent, GotPacket, Mark, PutEvent, PutPacket}
-use Rattle.vs_page.proofs.{Entries.got_on, Flows.opposite_by, Flows.same_self}
-use Rattle.vs_driver_parts.specs.{State.DriverState}
+use Rattle.vs_page.specs.{Fair.{asked_by, instance_from, number_of, payload_got, payload_of, payload_put}, Log.{Device, Driver, Log, Role, flow_got, other_role, packets_got}}
+use Rattle.vs_page.{specs.{Log.{packets_put, side_of, whole_of}, declared.log.LogEntry.TheVariants.{GotEvent, GotPacket, Mark, PutEvent, PutPacket}}, proofs.Entries.got_on}
+use Rattle.vs_page.proofs.Flows.{opposite_by, same_self}
+use Rattle.vs_driver_parts.specs.State.{DriverState}
 use Rattle.vs_device_parts.specs.Playing.{situation}
 use Rattle.vs_ring_shared.specs.Sights.{DeviceSight, Sight, device_contents, device_log}
 use Rattle.vs_proxy_parts.specs.State.{ProxyState}
-use Rattle.laws_device.specs.Streams.{AreHeard}
-use Rattle.laws_device.specs.Carried.Streamed.{IsStreamed}
-use Rattle.laws_rest.proofs.Standing.{AreKept, device_kept}
+use Rattle.laws_device.specs.{Streams.AreHeard, Carried.Streamed.IsStreamed}
+use Rattle.laws_rest.proofs.{Standing.{AreKept, device_kept}, Hosts.wrote_is_put}
 use Rattle.laws_proxy.specs.Honest.{IsProxyStreamed}
 use Rattle.laws_settled.specs.Settled.{IsSettled}
-use Rattle.laws_rest.proofs.Hosts.{wrote_is_put}
 
 -- Where an end got all that the other put, both have the same payload, and the same number of connections.
 module _ (role : Role) (mine other : Log) (all : packets_put other ≡ packets_got mine) where

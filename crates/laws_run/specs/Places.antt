@@ -1,18 +1,17 @@
 -- What a wait for a place and a wait for a client say, of a run that is at rest.
-use Rattle.std.specs.{List.filter, List.list_any, Option.option_map_or}
-use Rattle.std.specs.Prelude.{◌≡◌, ℕ, ◌+◌, ◌<◌, ◌≤◌, ◌==◌, ◌&&◌, ◌||◌, not, Bool, true, false, List, length, slice_get, Some}
-use Rattle.vs_flow.specs.{Flow.is_assigned, Flow.same_flow, declared.flow.Flow.Flow}
+use Rattle.std.specs.{List.{filter, list_any}, Option.option_map_or, Prelude.{◌≡◌, ℕ, ◌+◌, ◌<◌, ◌≤◌, ◌==◌, ◌&&◌, ◌||◌, not, Bool, true, false, List, length, slice_get, Some}}
+use Rattle.vs_flow.specs.{Flow.{is_assigned, same_flow}, declared.flow.Flow.Flow}
 use Rattle.vs_limits.specs.declared.TheConstants.{DRIVER_CONNECTIONS}
 use Rattle.vs_outside.specs.Host.{HostContents, Stream}
 use Rattle.vs_script.specs.App.{Act, Accept, Listen}
 use Rattle.vs_driver_parts.specs.State.{DriverState, GoneConnection}
 use Rattle.laws_device.specs.Streams.{has_open_stream, is_open_on}
 use Rattle.laws_driver.specs.Carried.Calls.{Journal}
-use Rattle.vs_apps_parts.specs.{Journals.calls_of, Scripts.RunScript, Scripts.acts_of, declared.{journal.Entry.Entry, journal.WaitsFor.WaitsFor, progress.AppState.AppState}}
+use Rattle.vs_apps_parts.specs.{Journals.calls_of, Scripts.{RunScript, acts_of}, declared.{journal.{Entry.Entry, WaitsFor.WaitsFor}, progress.AppState.AppState}}
 use Rattle.vs_apps_parts.specs.declared.progress.Progress.{Progress}
-use Rattle.vs_apps_parts.specs.declared.journal.WaitsFor.TheVariants as waits
 use Rattle.laws_apps.specs.Placed.{was_closed}
-use Rattle.vs_run_report.specs.{Connections.opened_all, Endings.state_at, Report.ended_at, declared.connection.Opened.Opened, declared.ending.Ending.Ending}
+use Rattle.vs_run_report.specs.{Connections.opened_all, Endings.state_at, Report.ended_at, declared.{connection.Opened.Opened, ending.Ending.Ending}}
+use Rattle.vs_apps_parts.specs.declared.journal.WaitsFor.TheVariants as waits
 use Rattle.vs_run_report.specs.declared.ending.Ending.TheVariants as ending
 
 -- An open stream with this label takes nothing now.

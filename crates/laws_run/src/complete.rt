@@ -10,9 +10,8 @@ ghost use Rattle.vs_device_parts.specs.{Playing.situation, Turns.table_shown as 
 ghost use Rattle.vs_proxy_parts.specs.State.{ProxyState};
 ghost use Rattle.laws_proxy.specs.Honest.{IsProxyStreamed};
 ghost use Rattle.laws_settled.specs.Settled.{IsSettled, IsSteady};
-ghost use Rattle.vs_apps_parts.specs.Scripts.{RunScript};
-ghost use Rattle.vs_apps_parts.specs.declared.{journal.Entry.Entry, progress.AppState.AppState};
-ghost use Rattle.laws_apps.specs.{Calls.run_with, Rounds.AllStand, Runs.IsRunOf, Runs.PollsTo, Runs.Run, Runs.poll_moved};
+ghost use Rattle.vs_apps_parts.specs.{Scripts.RunScript, declared.{journal.Entry.Entry, progress.AppState.AppState}};
+ghost use Rattle.laws_apps.specs.{Calls.run_with, Rounds.AllStand, Runs.{IsRunOf, PollsTo, Run, poll_moved}};
 ghost use Rattle.vs_report.specs.declared.giving.Totals.{Totals};
 ghost use Rattle.vs_run_report.specs.Right.{IsRightReport};
 ghost use Rattle.laws_run.specs.{Complete.IsCompleteRun, Dry.AreIdle};

@@ -11,11 +11,10 @@ ghost use Rattle.vs_device_parts.specs.Playing.{situation};
 ghost use Rattle.vs_proxy_parts.specs.State.{ProxyState};
 ghost use Rattle.laws_proxy.specs.Honest.{IsProxyStreamed};
 ghost use Rattle.laws_settled.specs.Settled.{IsSettled, IsSteady};
-ghost use Rattle.vs_apps_parts.specs.Scripts.{RunScript, acts_of};
-ghost use Rattle.vs_apps_parts.specs.declared.{journal.Entry.Entry, progress.AppState.AppState};
-ghost use Rattle.laws_apps.specs.{Calls.run_with, Rounds.AllStand, Runs.IsRunOf, Runs.Run};
+ghost use Rattle.vs_apps_parts.specs.{Scripts.{RunScript, acts_of}, declared.{journal.Entry.Entry, progress.AppState.AppState}};
+ghost use Rattle.laws_apps.specs.{Calls.run_with, Rounds.AllStand, Runs.{IsRunOf, Run}};
 ghost use Rattle.vs_report.specs.declared.giving.Totals.{Totals};
-ghost use Rattle.vs_run_report.specs.{Report.ended_at, Right.IsRightEnding, Right.IsRightReport};
+ghost use Rattle.vs_run_report.specs.{Report.ended_at, Right.{IsRightEnding, IsRightReport}};
 
 /// Where each app made a step that moved nothing, one after another, it found its instructions done, or noted a wait: so it is done, or waits
 /// for what the instruction that it is at may wait for.

@@ -9,9 +9,8 @@ ghost use Rattle.vs_device_parts.specs.Playing.{situation};
 ghost use Rattle.vs_proxy_parts.specs.State.{ProxyState};
 ghost use Rattle.laws_proxy.specs.Honest.{IsProxyStreamed};
 ghost use Rattle.laws_settled.specs.Settled.{IsSettled, IsSteady};
-ghost use Rattle.vs_apps_parts.specs.Scripts.{RunScript};
-ghost use Rattle.vs_apps_parts.specs.declared.{journal.Entry.Entry, progress.AppState.AppState};
-ghost use Rattle.laws_apps.specs.{Calls.run_with, Rounds.AllStand, Runs.IsRunOf, Runs.PollsTo, Runs.Run, Runs.poll_moved};
+ghost use Rattle.vs_apps_parts.specs.{Scripts.RunScript, declared.{journal.Entry.Entry, progress.AppState.AppState}};
+ghost use Rattle.laws_apps.specs.{Calls.run_with, Rounds.AllStand, Runs.{IsRunOf, PollsTo, Run, poll_moved}};
 ghost use Rattle.laws_run.specs.{Dry.AreIdle, Places.ArePlaceWaits};
 
 /// Of a run that is at rest, as in `law_of_complete_runs`: an app that waits for a place finds all of the driver's slots held, by connections that

@@ -2,14 +2,11 @@
 use Rattle.std.proofs.Common.{◌≡◌, ℕ, List, [], sym, subst}
 use Rattle.vs_page.specs.Log.{Device}
 use Rattle.vs_ring_port.specs.Chains.{Held}
-use Rattle.laws_tables.specs.Both.{Asks, Decides, Opens, Pays, Seat, Sends, Step}
-use Rattle.laws_tables.specs.Asked.{AskOnce, Does}
-use Rattle.laws_tables.proofs.Asking.{step_once}
+use Rattle.laws_tables.{specs.{Both.{Asks, Decides, Opens, Pays, Seat, Sends, Step}, Asked.{AskOnce, Does}}, proofs.Asking.step_once}
 use Rattle.vs_device_parts.specs.{Calls.Situation, Playing.Runs}
-use Rattle.laws_device.proofs.{Chains.Among, Chains.alone_so, Keeping.keeps_end, Seats.Carried, Seats.MayDo}
+use Rattle.laws_device.proofs.{Chains.{Among, alone_so}, Keeping.keeps_end, Seats.{Carried, MayDo}}
 use Rattle.vs_proxy_parts.specs.{State.ProxyState, Turns.turn_of, declared.answers.Turn.Turn}
-use Rattle.laws_proxy.specs.Honest.{IsProxyWith}
-use Rattle.laws_proxy.proofs.Turning.{Proxied, turn_keeps}
+use Rattle.laws_proxy.{specs.Honest.IsProxyWith, proofs.Turning.{Proxied, turn_keeps}}
 use Rattle.laws_settled.specs.Asked.{AsksOnceWith}
 
 does : (step : Step) (w : Seat) → MayDo step w → Does Device step w

@@ -1,24 +1,20 @@
 -- What a run began with, over its turns and where it comes to rest.
-use Rattle.std.proofs.Common.{◌≡◌, ◌==◌, ◌-◌, ℕ, zero, suc, Bool, true, false, cond, List, [], ◌∷◌, Option, Some, None, refl, sym, ap, subst, ◌∙◌}
-use Rattle.std.proofs.Common.{arith, slice_get}
-use Rattle.std.proofs.{lemmas.List.Elements.{All-cons, All-head, All-nil, All-tail}, lemmas.Option.same_Some}
-use Rattle.std.specs.{List.All, Option.option_map}
+use Rattle.std.proofs.Common.{◌≡◌, ◌==◌, ◌-◌, ℕ, zero, suc, Bool, true, false, cond, List, [], ◌∷◌, Option, Some, None, refl, sym, ap, subst, ◌∙◌, arith, slice_get}
+use Rattle.std.{proofs.lemmas.{List.Elements.{All-cons, All-head, All-nil, All-tail}, Option.same_Some}, specs.{List.All, Option.option_map}}
 use Rattle.vs_flow.specs.{Connection.Connection, Table.Table, declared.flow.Flow.Flow}
 use Rattle.vs_limits.specs.declared.TheConstants.{ASSIGNED_FIRST, FIRST_CID}
 use Rattle.vs_outside.specs.Host.{HostContents, Stream, is_waiting, stream_at}
-use Rattle.vs_page.specs.{Log.Device, Log.Driver, Log.Log, Log.events_put, Log.flow_got, Log.packets_got, Open.cid_of, Open.is_dropped}
-use Rattle.vs_page.specs.declared.log.LogEntry.TheVariants.{GotPacket, Mark}
+use Rattle.vs_page.specs.{Log.{Device, Driver, Log, events_put, flow_got, packets_got}, Open.{cid_of, is_dropped}, declared.log.LogEntry.TheVariants.{GotPacket, Mark}}
 use Rattle.vs_page.proofs.Flows.{same_self}
 use Rattle.vs_ring_port.specs.EndLog.{EndLog}
 use Rattle.vs_ring_shared.specs.Sights.{DeviceSight, Sight, device_contents, device_log}
 use Rattle.vs_driver_parts.specs.State.{DriverState}
 use Rattle.vs_device_parts.specs.{Calls.Situation, Playing.Runs, State.DeviceConnection}
 use Rattle.laws_device.{specs.Carried.Streamed.{IsStreamed, Seen, client_waits, connection_in, look, seen, seen_as}, proofs.Carried.Changing.no_labels}
-use Rattle.laws_rest.{specs.Calm.resets_in, specs.Rest.has_no_mark, proofs.Standing.AreKept, proofs.Standing.device_kept}
-use Rattle.vs_proxy_parts.specs.{State.ProxyState, Turns.new_proxy, Turns.turn_of, declared.answers.Turn.Turn}
+use Rattle.laws_rest.{specs.{Calm.resets_in, Rest.has_no_mark}, proofs.Standing.{AreKept, device_kept}}
+use Rattle.vs_proxy_parts.specs.{State.ProxyState, Turns.{new_proxy, turn_of}, declared.answers.Turn.Turn}
 use Rattle.laws_proxy.proofs.Ordered.{turn_streamed}
-use Rattle.laws_settled.specs.{Begun.{DropsNone, IsBegun, IsKept, IsUnlabelled, Start, start_with}, Settled.IsSettled, Settled.IsSteady}
-use Rattle.laws_settled.proofs.Tallying.{Drops, Tallies, turn_tallies}
+use Rattle.laws_settled.{specs.{Begun.{DropsNone, IsBegun, IsKept, IsUnlabelled, Start, start_with}, Settled.{IsSettled, IsSteady}}, proofs.Tallying.{Drops, Tallies, turn_tallies}}
 
 -- A HOST WITHOUT LABELS
 abbrev IsPlain : Stream → Type 0

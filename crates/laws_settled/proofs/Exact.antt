@@ -1,44 +1,39 @@
 -- Through a turn the device holds of each connection just the bytes that its end counts as unread, over a ring that tells its log.
-use Rattle.std.proofs.Common.{◌≡◌, ◌+◌, ◌-◌, ◌≤◌, ◌==◌, ◌&&◌, not, ℕ, nat_le, nat_lt, Bool, true, false, cond, List, [], ◌∷◌, ◌++◌, length, drop, take, get_or}
-use Rattle.std.proofs.Common.{Option, Some, None, refl, sym, ap, subst, ◌∙◌, arith, append-nil, length-append, length-drop, length-take}
-use Rattle.std.proofs.lemmas.{Bool.Decides.nat_tests, List.Elements.{All-contains, All-filter, All-map, All-push}}
-use Rattle.vs_contents.specs.{CallTree.Ask, CallTree.Done, CallTree.bind, Contents.Exposes}
-use Rattle.vs_conn.specs.{End.ConnectionEnd, End.answering, End.asked, End.is_of, End.is_reset, End.paid_of, End.verdict_of, End.wanting_credit, End.with_payload_sent}
-use Rattle.vs_conn.specs.{End.end_after, End.owes_of, End.with_shut, declared.end.Owed.Owed, declared.end.Verdict.Verdict}
-use Rattle.vs_conn.specs.declared.end.Verdict.TheVariants as verdict
-use Rattle.vs_conn.specs.declared.end.Why.TheVariants as why
+use Rattle.std.proofs.Common.{◌≡◌, ◌+◌, ◌-◌, ◌≤◌, ◌==◌, ◌&&◌, not, ℕ, nat_le, nat_lt, Bool, true, false, cond, List, [], ◌∷◌, ◌++◌, length, drop, take, get_or, Option, Some, None}
+use Rattle.std.proofs.{Common.{refl, sym, ap, subst, ◌∙◌, arith, append-nil, length-append, length-drop, length-take}, lemmas.{Bool.Decides.nat_tests, List.Elements.All-contains}}
+use Rattle.std.proofs.lemmas.List.Elements.{All-filter, All-map, All-push}
+use Rattle.vs_contents.specs.{CallTree.{Ask, Done, bind}, Contents.Exposes}
+use Rattle.vs_conn.specs.End.{ConnectionEnd, answering, asked, is_of, is_reset, paid_of, verdict_of, wanting_credit, with_payload_sent, end_after, owes_of, with_shut}
+use Rattle.vs_conn.specs.declared.end.{Owed.Owed, Verdict.Verdict}
 use Rattle.vs_flow.specs.{Flow.is_assigned, Table.{Table, entry_of, has_place, next_entry, revalued, with_entry, with_value, without}, declared.flow.Flow.Flow}
 use Rattle.vs_header.specs.{Op.op_number, Packet.header_of, declared.{Header.Header, Kind.TheVariants.Stream, Op.TheVariants.Request, TheConstants.HEADER_LEN}}
 use Rattle.vs_limits.specs.declared.TheConstants.{BUF_ALLOC, DEVICE_REPLIES}
 use Rattle.vs_outside.specs.declared.host_net.{Accepted.Accepted, Dialed.Dialed, StreamRead.StreamRead, StreamWrite.StreamWrite}
+use Rattle.vs_page.specs.{Log.{Device, flow_to_host}, Open.is_dropped}
+use Rattle.vs_ring_port.specs.{Chains.bytes_in, Contents.{DeviceAnswer, DeviceCall, Given, PublishCid, Read, Return, RingContents, Take, Write}, DeviceCalls.IsTakenAs}
+use Rattle.vs_ring_port.specs.{EndLog.{EndLog, log_reset, log_returned, log_taken, log_written}, declared.{device_ring.{Chain.Chain, Next.Next}, failure.Failure.Failure}}
+use Rattle.vs_ring_port.specs.declared.queue.Queue.TheVariants.{Tx}
+use Rattle.vs_device_parts.specs.{Calls.{Accept, Allows, Answer, Call, CloseStream, Label, ReadStream, Ring, ShutWrite, Situation, WriteStream}, Connections.after_shut}
+use Rattle.vs_device_parts.specs.{Connections.{after_written, cut_off, new_connection}, Playing.Runs, State.{DeviceConnection, DeviceEntry, DeviceState}, Streams.to_write}
+use Rattle.vs_device_parts.specs.Transmitting.{dial_answered, heard, on_header, on_known, on_next, on_packet, on_unknown, take_tx_of}
+use Rattle.vs_proxy_parts.specs.{State.{Handshake, ProxyState}, Turns.turn_of, declared.answers.Turn.Turn}
+use Rattle.laws_tables.proofs.Changes.{without_changed}
+use Rattle.laws_device.{specs.{Honest.HoldsBytes, Walk.Seen.Seen}, proofs.{Ringing.same_self, Fits.{fewer, fits_after, fits_forwarded, fits_paid, fits_sent, fits_shut}}}
+use Rattle.laws_device.proofs.{Named.Keeping.{asking, keeps_end}, Walk.{Keeping.{Asking, Keeps, keeps_if, keeps_some, keeps_then}, Serving.{AfterRead, AfterWrite, Closes, Fills}}}
+use Rattle.laws_device.proofs.Walk.{Serving.{IsIn, Writes, by_flow, keeps_fill_rx, keeps_leaving, keeps_pay_event, keeps_pump, keeps_tick}, Turning.{AfterAccept, AfterByte}}
+use Rattle.laws_device.proofs.Walk.Turning.{Between, Ends, Shakes, keeps_turn_by}
+use Rattle.laws_rest.{specs.Pending.{IsExact, delivered}, proofs.Unread.{hears, pays, shuts, writes}}
+use Rattle.laws_settled.specs.Exact.{AreExact, HoldsExactly}
+use Rattle.vs_conn.specs.declared.end.Verdict.TheVariants as verdict
+use Rattle.vs_conn.specs.declared.end.Why.TheVariants as why
 use Rattle.vs_outside.specs.declared.host_net.Accepted.TheVariants as accepted
 use Rattle.vs_outside.specs.declared.host_net.Dialed.TheVariants as dialed
 use Rattle.vs_outside.specs.declared.host_net.StreamRead.TheVariants as read
 use Rattle.vs_outside.specs.declared.host_net.StreamWrite.TheVariants as write
-use Rattle.vs_page.specs.{Log.Device, Log.flow_to_host, Open.is_dropped}
-use Rattle.vs_ring_port.specs.{Chains.bytes_in, Contents.{DeviceAnswer, DeviceCall, Given, PublishCid, Read, Return, RingContents, Take, Write}}
-use Rattle.vs_ring_port.specs.{DeviceCalls.IsTakenAs, EndLog.{EndLog, log_reset, log_returned, log_taken, log_written}}
-use Rattle.vs_ring_port.specs.declared.{device_ring.Chain.Chain, device_ring.Next.Next, failure.Failure.Failure, queue.Queue.TheVariants.Tx}
 use Rattle.vs_ring_port.specs.declared.device_ring.Next.TheVariants as next
-use Rattle.vs_device_parts.specs.Calls.{Accept, Allows, Answer, Call, CloseStream, Label, ReadStream, Ring, ShutWrite, Situation, WriteStream}
-use Rattle.vs_device_parts.specs.Connections.{after_shut, after_written, cut_off, new_connection}
-use Rattle.vs_device_parts.specs.{Playing.Runs, State.DeviceConnection, State.DeviceEntry, State.DeviceState, Streams.to_write}
-use Rattle.vs_device_parts.specs.Transmitting.{dial_answered, heard, on_header, on_known, on_next, on_packet, on_unknown, take_tx_of}
 use Rattle.vs_device_parts.specs.declared.answers.Taken.TheVariants as taken
-use Rattle.vs_proxy_parts.specs.{State.Handshake, State.ProxyState, Turns.turn_of, declared.answers.Turn.Turn}
-use Rattle.laws_tables.proofs.Changes.{without_changed}
-use Rattle.laws_device.specs.Honest.{HoldsBytes}
 use Rattle.laws_device.proofs.Fits as fits
-use Rattle.laws_device.proofs.{Ringing.same_self, Fits.{fewer, fits_after, fits_forwarded, fits_paid, fits_sent, fits_shut}}
-use Rattle.laws_device.proofs.Named.Keeping.{asking, keeps_end}
-use Rattle.laws_device.specs.Walk.Seen.{Seen}
-use Rattle.laws_device.proofs.Walk.Keeping.{Asking, Keeps, keeps_if, keeps_some, keeps_then}
-use Rattle.laws_device.proofs.Walk.Serving.{AfterRead, AfterWrite, Closes, Fills, IsIn, Writes, by_flow, keeps_fill_rx, keeps_leaving, keeps_pay_event, keeps_pump, keeps_tick}
 use Rattle.laws_device.proofs.Walk.Serving as serving
-use Rattle.laws_device.proofs.Walk.Turning.{AfterAccept, AfterByte, Between, Ends, Shakes, keeps_turn_by}
-use Rattle.laws_rest.specs.Pending.{IsExact, delivered}
-use Rattle.laws_settled.specs.Exact.{AreExact, HoldsExactly}
-use Rattle.laws_rest.proofs.Unread.{hears, pays, shuts, writes}
 
 -- CONNECTIONS
 new_holds : (e : ConnectionEnd) (stream : ℕ) (by_client : Bool) → HoldsBytes e.credit 0 → IsExact (new_connection e stream by_client)

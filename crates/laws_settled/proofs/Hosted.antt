@@ -2,12 +2,10 @@
 use Rattle.std.proofs.Common.{◌≡◌, ℕ, List, [], sym, subst}
 use Rattle.vs_ring_port.specs.Chains.{Held}
 use Rattle.vs_device_parts.specs.{Calls.Situation, Playing.Runs}
-use Rattle.laws_device.proofs.{Chains.Among, Chains.alone_so, Keeping.keeps_end, Seats.Carried}
+use Rattle.laws_device.proofs.{Chains.{Among, alone_so}, Keeping.keeps_end, Seats.Carried}
 use Rattle.vs_proxy_parts.specs.{State.ProxyState, Turns.turn_of, declared.answers.Turn.Turn}
-use Rattle.laws_proxy.specs.Honest.{IsProxyWith}
-use Rattle.laws_proxy.proofs.Turning.{Proxied, turn_keeps}
-use Rattle.laws_settled.specs.Hosts.{IsHosts, IsHostsWith}
-use Rattle.laws_settled.proofs.Hosting.{WithHost, step_hosts}
+use Rattle.laws_proxy.{specs.Honest.IsProxyWith, proofs.Turning.{Proxied, turn_keeps}}
+use Rattle.laws_settled.{specs.Hosts.{IsHosts, IsHostsWith}, proofs.Hosting.{WithHost, step_hosts}}
 
 abbrev hosts : Carried
 hosts = record {

@@ -1,22 +1,19 @@
 -- Each step of the device keeps its flows and its packets with the host, where it asks for no other flow.
-use Rattle.std.proofs.Common.{◌≡◌, ◌&&◌, ℕ, Bool, true, false, cond, List, [], ◌∷◌, ◌++◌, refl, ap, subst, ◌∙◌, arith}
-use Rattle.std.proofs.lemmas.{Grind.common_steps, List.Elements.All-cons}
+use Rattle.std.proofs.{Common.{◌≡◌, ◌&&◌, ℕ, Bool, true, false, cond, List, [], ◌∷◌, ◌++◌, refl, ap, subst, ◌∙◌, arith}, lemmas.{Grind.common_steps, List.Elements.All-cons}}
 use Rattle.std.specs.List.{All}
-use Rattle.vs_conn.specs.{End.ConnectionEnd, End.end_after, End.is_of, declared.end.Owed.Owed}
+use Rattle.vs_conn.specs.{End.{ConnectionEnd, end_after, is_of}, declared.end.Owed.Owed}
 use Rattle.vs_flow.specs.{Flow.same_flow, declared.flow.Flow.Flow}
 use Rattle.vs_header.specs.declared.{Header.Header, Kind.Kind}
-use Rattle.laws_history.specs.{Packets.is_request, Packets.is_rst, declared.packet.Packet.Packet}
+use Rattle.laws_history.specs.{Packets.{is_request, is_rst}, declared.packet.Packet.Packet}
 use Rattle.vs_limits.specs.declared.TheConstants.{HOST_CID}
-use Rattle.vs_page.specs.{Log.Device, Log.Log, Log.flow_got, Log.packets_put, Open.is_dropped}
-use Rattle.vs_page.proofs.Flows.{same_is}
+use Rattle.vs_page.{specs.{Log.{Device, Log, flow_got, packets_put}, Open.is_dropped}, proofs.Flows.same_is}
 use Rattle.vs_replies.specs.declared.Reply.{Reply}
-use Rattle.laws_tables.specs.Both.{Asks, Decides, Forgets, MakesReset, Opens, Pays, PutsEvent, Replies, Seat, Sends, Step, Takes}
-use Rattle.laws_tables.specs.Both.{TakesEvent, TakesReset, after, after_packet, answered}
-use Rattle.laws_tables.specs.Ends.{Ends, FlowEnd, answer_kind, ends_of, flows_of, replaced, replied, without_flow}
-use Rattle.laws_tables.specs.Steps.{is_kept, owed_on, paid, payload_on, reply_on, request_on, taken, with_clean}
-use Rattle.vs_conn.specs.declared.end.Owed.TheVariants as owed
+use Rattle.laws_tables.specs.Both.{Asks, Decides, Forgets, MakesReset, Opens, Pays, PutsEvent, Replies, Seat, Sends, Step, Takes, TakesEvent, TakesReset, after, after_packet}
+use Rattle.laws_tables.specs.{Both.answered, Ends.{Ends, FlowEnd, answer_kind, ends_of, flows_of, replaced, replied, without_flow}, Steps.{is_kept, owed_on, paid, payload_on}}
+use Rattle.laws_tables.specs.Steps.{reply_on, request_on, taken, with_clean}
 use Rattle.laws_device.proofs.Seats.{IsAsked, MayDo}
 use Rattle.laws_settled.specs.Hosts.{AreWithHost, IsHosts}
+use Rattle.vs_conn.specs.declared.end.Owed.TheVariants as owed
 
 abbrev pub WithHost : Flow → Type 0
 WithHost f = f.peer ≡ HOST_CID

@@ -1,22 +1,16 @@
 -- A turn that put nothing.
 use Rattle.std.proofs.Common.{◌≡◌, ◌+◌, ◌-◌, ◌≤◌, ◌&&◌, not, ◌⊎◌, inl, inr, ℕ, Bool, true, false, Option, Some, None, Ok, Err, refl, sym, ap, subst, ◌∙◌, arith}
-use Rattle.std.proofs.lemmas.Option.{same_Some}
-use Rattle.std.specs.Option.{ForSome}
-use Rattle.vs_contents.specs.{CallTree.Done, Contents.Relates}
-use Rattle.vs_contents.proofs.Leads.{leads_split}
+use Rattle.std.{proofs.lemmas.Option.same_Some, specs.Option.ForSome}
+use Rattle.vs_contents.{specs.{CallTree.Done, Contents.Relates}, proofs.Leads.leads_split}
 use Rattle.vs_flow.specs.Table.{IsTable}
-use Rattle.vs_ring_port.specs.{Known.{Known, StopsAt}, declared.failure.Failure.Failure, declared.queue.Queue.TheVariants.Rx}
-use Rattle.vs_device_parts.specs.{Calls.{Allows, Situation}, Playing.Runs, Receiving.{Filling, fill_rx_of, filled_of}, State.DeviceState, Streams.Writing, Streams.pump_of}
-use Rattle.laws_device.specs.Named.Waiting.{filling_of}
-use Rattle.laws_device.proofs.Named.Stopping.{is_stage, over_lacks}
-use Rattle.laws_device.specs.Honest.{ends_of_state}
-use Rattle.laws_rest.specs.Rest.{OwesNothing}
-use Rattle.laws_rest.proofs.Stages.{stage_owes_none}
-use Rattle.vs_proxy_parts.specs.State.{ProxyState, Turning, start}
-use Rattle.vs_proxy_parts.specs.Turns.{device_after, event_stage, fill_stage, filled, pump_stage, take_stage, tick_stage, turn_of, turned}
-use Rattle.vs_proxy_parts.specs.{Handshakes.shake_hands, Turns.unless_failed, declared.answers.Turn.Turn, declared.answers.Turned.Turned}
-use Rattle.vs_proxy_parts.specs.declared.answers.Turn.TheVariants as turn
+use Rattle.vs_ring_port.specs.{Known.{Known, StopsAt}, declared.{failure.Failure.Failure, queue.Queue.TheVariants.Rx}}
+use Rattle.vs_device_parts.specs.{Calls.{Allows, Situation}, Playing.Runs, Receiving.{Filling, fill_rx_of, filled_of}, State.DeviceState, Streams.{Writing, pump_of}}
+use Rattle.laws_device.{specs.{Named.Waiting.filling_of, Honest.ends_of_state}, proofs.Named.Stopping.{is_stage, over_lacks}}
+use Rattle.laws_rest.{specs.Rest.OwesNothing, proofs.Stages.stage_owes_none}
+use Rattle.vs_proxy_parts.specs.{State.{ProxyState, Turning, start}, Turns.{device_after, event_stage, fill_stage, filled, pump_stage, take_stage, tick_stage, turn_of, turned}}
+use Rattle.vs_proxy_parts.specs.{Turns.unless_failed, Handshakes.shake_hands, declared.answers.{Turn.Turn, Turned.Turned}}
 use Rattle.laws_settled.specs.Settled.{LacksPages}
+use Rattle.vs_proxy_parts.specs.declared.answers.Turn.TheVariants as turn
 
 -- The last two stages of a turn.
 record LastStage (s : ProxyState) (b : Situation) (x : ProxyState × Turn) : Type 0 where

@@ -1,23 +1,20 @@
 -- From what the last round tells to the ends at rest.
 use Rattle.std.proofs.Common.{◌≡◌, ◌≤◌, ◌+◌, ◌-◌, ◌⊎◌, ◌||◌, inl, inr, ℕ, Bool, true, false, List, [], ◌∷◌, ◌++◌, length, refl, sym, ap, subst, ◌∙◌, arith}
-use Rattle.std.proofs.lemmas.{List.Elements.All-head, List.Elements.All-tail}
-use Rattle.std.specs.{List.All, Prelude.map}
+use Rattle.std.{proofs.lemmas.List.Elements.{All-head, All-tail}, specs.{List.All, Prelude.map}}
 use Rattle.vs_flow.specs.{Flow.same_flow, declared.flow.Flow.Flow}
 use Rattle.vs_limits.specs.declared.TheConstants.{FIRST_CID, HOST_CID}
 use Rattle.laws_history.specs.declared.packet.Packet.{Packet}
-use Rattle.vs_page.specs.{Fair.IsFairLog, Held.held_in, Held.packet_held, Log.Device, Log.Driver, Log.Log, Log.Role, Log.events_got}
-use Rattle.vs_page.specs.Log.{events_put, other_role, packets_got, packets_put}
-use Rattle.vs_page.specs.declared.log.LogEntry.TheVariants.{GotEvent, GotPacket, Mark, PutEvent, PutPacket}
-use Rattle.vs_page.proofs.Flows.{same_is}
-use Rattle.vs_ring_port.specs.{Counts.Counts, declared.queue.Queue.TheVariants.Rx, declared.queue.Queue.TheVariants.Tx}
+use Rattle.vs_page.specs.{Fair.IsFairLog, Held.{held_in, packet_held}, Log.{Device, Driver, Log, Role, events_got, events_put, other_role, packets_got, packets_put}}
+use Rattle.vs_page.{specs.declared.log.LogEntry.TheVariants.{GotEvent, GotPacket, Mark, PutEvent, PutPacket}, proofs.Flows.same_is}
+use Rattle.vs_ring_port.specs.{Counts.Counts, declared.queue.Queue.TheVariants.{Rx, Tx}}
 use Rattle.vs_ring_shared.specs.Sights.{DeviceSight, Sight}
-use Rattle.laws_tables.specs.{Both.Both, Both.at, Ends.flows_of, Ends.is_among, Matches.Matches}
+use Rattle.laws_tables.specs.{Both.{Both, at}, Ends.{flows_of, is_among}, Matches.Matches}
 use Rattle.vs_driver_parts.specs.State.{DriverEntry, DriverState}
 use Rattle.laws_driver.specs.{Honest.IsFitEntry, Resets.MarksResets}
-use Rattle.laws_rest.specs.{Pages.Queued, Rest.{IsAtRest, IsWithHost, OwesNothing, has_no_mark}}
-use Rattle.laws_rest.proofs.{Counting.same_numbers, Pages.all_back, Pages.all_there, Resting.paired, Resting.same_flows}
+use Rattle.laws_rest.{specs.{Pages.Queued, Rest.{IsAtRest, IsWithHost, OwesNothing, has_no_mark}}, proofs.{Counting.same_numbers, Pages.{all_back, all_there}, Resting.paired}}
+use Rattle.laws_rest.proofs.Resting.{same_flows}
 use Rattle.vs_proxy_parts.specs.State.{ProxyState}
-use Rattle.laws_settled.specs.{Hosts.AreWithHost, Settled.AreOver, Settled.IsSettled, Settled.ends_at_rest}
+use Rattle.laws_settled.specs.{Hosts.AreWithHost, Settled.{AreOver, IsSettled, ends_at_rest}}
 
 -- A driver that was told of no event made no reset.
 unmarked : (log : Log) → MarksResets log → events_got log ≡ [] → has_no_mark log ≡ true

@@ -1,39 +1,35 @@
 -- Through a turn the device shuts the receiving of a connection only where the host's program closed its stream.
-use Rattle.std.proofs.Common.{◌≡◌, ℕ, zero, suc, ◌-◌, ◌==◌, ◌||◌, not, Bool, true, false, cond, List, [], ◌∷◌, ◌++◌, length, min, get_or, Option, Some, None, refl, sym, ap, subst, ◌∙◌, arith, drop, take}
-use Rattle.std.proofs.lemmas.{Bool.eq-eqb, Bool.eqb-true, List.Elements.{All-contains, All-filter, All-map, All-push}, Option.same_Some}
-use Rattle.std.specs.{Option.ForSome, Option.option_map_or, Prelude.slice_get}
+use Rattle.std.proofs.Common.{◌≡◌, ℕ, zero, suc, ◌-◌, ◌==◌, ◌||◌, not, Bool, true, false, cond, List, [], ◌∷◌, ◌++◌, length, min, get_or, Option, Some, None, refl, sym, ap, subst}
+use Rattle.std.proofs.{Common.{◌∙◌, arith, drop, take}, lemmas.{Bool.{eq-eqb, eqb-true}, List.Elements.{All-contains, All-filter, All-map, All-push}, Option.same_Some}}
+use Rattle.std.specs.{Option.{ForSome, option_map_or}, Prelude.slice_get}
 use Rattle.vs_contents.specs.Contents.{Exposes}
-use Rattle.vs_conn.specs.End.{answering, asked, paid_of, wanting_credit, with_payload_sent}
-use Rattle.vs_conn.specs.{Headers.payload_header, Shut.neither}
-use Rattle.vs_conn.proofs.Frames.{got_own, paid_own}
-use Rattle.vs_flow.specs.Table.{Table, next_entry, revalued, with_entry, with_value, without}
-use Rattle.vs_flow.specs.declared.flow.Flow.{Flow}
+use Rattle.vs_conn.{specs.{End.{answering, asked, paid_of, wanting_credit, with_payload_sent}, Headers.payload_header, Shut.neither}, proofs.Frames.{got_own, paid_own}}
+use Rattle.vs_flow.specs.{Table.{Table, next_entry, revalued, with_entry, with_value, without}, declared.flow.Flow.Flow}
 use Rattle.vs_header.specs.declared.{Header.Header, Kind.TheVariants.Stream}
 use Rattle.vs_limits.specs.declared.TheConstants.{BUF_ALLOC}
 use Rattle.vs_page.specs.Log.{flow_to_host}
 use Rattle.vs_uds.specs.OkLine.{ok_text}
-use Rattle.vs_outside.specs.Host.{HostContents, Stream as HostStream, after_accept, after_dial, after_read, after_write, called, dialed_stream}
-use Rattle.vs_outside.specs.Host.{fails_now, stream_at, taken_of, with_label_call, with_shut_write_call, with_stream, write_answer, write_of, give_bytes, read_answer, read_of, take_bytes}
-use Rattle.vs_outside.specs.declared.host_net.{Accepted.Accepted, Dialed.Dialed, StreamRead.StreamRead, StreamWrite.StreamWrite}
+use Rattle.vs_outside.specs.Host.{HostContents, Stream as HostStream, after_accept, after_dial, after_read, after_write, called, dialed_stream, fails_now, stream_at, taken_of}
+use Rattle.vs_outside.specs.Host.{with_label_call, with_shut_write_call, with_stream, write_answer, write_of, give_bytes, read_answer, read_of, take_bytes}
+use Rattle.vs_outside.{specs.declared.host_net.{Accepted.Accepted, Dialed.Dialed, StreamRead.StreamRead, StreamWrite.StreamWrite}, proofs.Frames.{keeps_others, slice_get-append}}
+use Rattle.vs_outside.proofs.Frames.{stream_at-with_stream, stream_place}
+use Rattle.vs_ring_port.specs.declared.device_ring.{Chain.Chain, Next.Next}
+use Rattle.vs_device_parts.specs.{Calls.{Allows, IsReadOf, ReadStream, Situation, WriteStream}, Connections.{after_shut, after_written, cut_off, new_connection, route_to_guest}}
+use Rattle.vs_device_parts.specs.{Connections.stream_closed, Playing.Runs, Receiving.written, State.{DeviceConnection, DeviceEntry, DeviceState}, Streams.to_write}
+use Rattle.vs_device_parts.specs.Transmitting.{heard}
+use Rattle.vs_proxy_parts.specs.{State.{Handshake, ProxyState}, Turns.turn_of, declared.answers.Turn.Turn}
+use Rattle.laws_tables.proofs.Changes.{without_changed}
+use Rattle.laws_device.{specs.Walk.Seen.Seen, proofs.Walk.{Keeping.Keeps, Serving.{AfterEvent, AfterRead, AfterWrite, Closes, Fills, Writes, by_flow}, Taking.{AfterDial, Takes}}}
+use Rattle.laws_device.proofs.Walk.Turning.{AfterAccept, AfterByte, Between, Shakes, keeps_turn}
+use Rattle.laws_settled.{specs.Shut.{AreShutBy, GivesNoMore, IsClosedAt, IsEndedAt, IsShutBy}, proofs.Tallying.{allowed, runs_end}}
 use Rattle.vs_outside.specs.declared.host_net.Accepted.TheVariants as accepted
 use Rattle.vs_outside.specs.declared.host_net.Dialed.TheVariants as dialed
 use Rattle.vs_outside.specs.declared.host_net.StreamRead.TheVariants as read
 use Rattle.vs_outside.specs.declared.host_net.StreamState.TheVariants as state
 use Rattle.vs_outside.specs.declared.host_net.StreamWrite.TheVariants as write
-use Rattle.vs_outside.proofs.Frames.{keeps_others, slice_get-append, stream_at-with_stream, stream_place}
-use Rattle.vs_ring_port.specs.declared.{device_ring.Chain.Chain, device_ring.Next.Next}
 use Rattle.vs_ring_port.specs.declared.device_ring.Next.TheVariants as next
-use Rattle.vs_device_parts.specs.Calls.{Allows, IsReadOf, ReadStream, Situation, WriteStream}
-use Rattle.vs_device_parts.specs.Connections.{after_shut, after_written, cut_off, new_connection, route_to_guest, stream_closed}
-use Rattle.vs_device_parts.specs.{Playing.Runs, Receiving.written, State.DeviceConnection, State.DeviceEntry, State.DeviceState, Streams.to_write, Transmitting.heard}
-use Rattle.vs_proxy_parts.specs.{State.Handshake, State.ProxyState, Turns.turn_of, declared.answers.Turn.Turn}
-use Rattle.laws_tables.proofs.Changes.{without_changed}
-use Rattle.laws_device.specs.Walk.Seen.{Seen}
-use Rattle.laws_device.proofs.Walk.{Keeping.Keeps, Serving.{AfterEvent, AfterRead, AfterWrite, Closes, Fills, Writes, by_flow}, Taking.{AfterDial, Takes}, Turning.{AfterAccept, AfterByte, Between, Shakes, keeps_turn}}
 use Rattle.laws_device.proofs.Walk.Serving as serving
 use Rattle.laws_device.proofs.Walk.Taking as taking
-use Rattle.laws_settled.specs.Shut.{AreShutBy, GivesNoMore, IsClosedAt, IsEndedAt, IsShutBy}
-use Rattle.laws_settled.proofs.Tallying.{allowed, runs_end}
 
 -- HOSTS: a stream that is closed, or gives no more, stays so.
 abbrev Stay : HostContents → HostContents → Type 0

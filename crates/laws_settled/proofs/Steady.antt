@@ -1,21 +1,17 @@
 -- A proxy that is steady stays so, and what its ring's end knows of the other one's only grows.
 use Rattle.std.proofs.{Common.{◌≡◌, ℕ, Bool, List, [], Option, Some, None, refl, sym, ap, subst, ◌∙◌, arith}, lemmas.Option.same_Some}
-use Rattle.vs_contents.specs.{CallTree.Ask, CallTree.Done, Contents.Relates}
+use Rattle.vs_contents.specs.{CallTree.{Ask, Done}, Contents.Relates}
 use Rattle.vs_limits.specs.declared.TheConstants.{ASSIGNED_FIRST, FIRST_CID}
-use Rattle.vs_ring_port.specs.{Contents.DeviceAnswer, Contents.DeviceCall, Contents.RingContents, DeviceCalls.DeviceAllows, EndLog.EndLog, Known.IsLater, Known.Known}
-use Rattle.vs_ring_port.specs.declared.queue.Queue.TheVariants.{Rx}
-use Rattle.vs_ring_port.proofs.Knowing.{device_keeps}
-use Rattle.vs_device_parts.specs.{Calls.DeviceTree, Calls.Situation, Playing.Runs}
-use Rattle.laws_rest.specs.Calm.{resets_in}
-use Rattle.laws_rest.proofs.Calm.{calm_turns}
+use Rattle.vs_ring_port.specs.{Contents.{DeviceAnswer, DeviceCall, RingContents}, DeviceCalls.DeviceAllows, EndLog.EndLog, Known.{IsLater, Known}}
+use Rattle.vs_ring_port.{specs.declared.queue.Queue.TheVariants.Rx, proofs.Knowing.device_keeps}
+use Rattle.vs_device_parts.specs.{Calls.{DeviceTree, Situation}, Playing.Runs}
+use Rattle.laws_rest.{specs.Calm.resets_in, proofs.Calm.calm_turns}
 use Rattle.vs_page.specs.Log.{Device, Log}
-use Rattle.vs_proxy_parts.specs.{State.ProxyState, Turns.new_proxy, Turns.turn_of, declared.answers.Turn.Turn}
+use Rattle.vs_proxy_parts.specs.{State.ProxyState, Turns.{new_proxy, turn_of}, declared.answers.Turn.Turn}
 use Rattle.laws_proxy.proofs.Ordered.{new_in_order, turn_honest, turn_streams}
-use Rattle.laws_settled.specs.{Hosts.IsHosts, Settled.IsSteady}
-use Rattle.laws_settled.proofs.{Asked.turn_asks, Exact.exact_turns, Hosted.turn_hosts, Shutting.turn_shuts}
-use Rattle.laws_tables.specs.Asked.{AskOnce}
-use Rattle.laws_tables.proofs.Asking.{begins_once}
-use Rattle.laws_device.{specs.Honest.ends_of_state, proofs.Logs.over_runs, proofs.Packets.joined}
+use Rattle.laws_settled.{specs.{Hosts.IsHosts, Settled.IsSteady}, proofs.{Asked.turn_asks, Exact.exact_turns, Hosted.turn_hosts, Shutting.turn_shuts}}
+use Rattle.laws_tables.{specs.Asked.AskOnce, proofs.Asking.begins_once}
+use Rattle.laws_device.{specs.Honest.ends_of_state, proofs.{Logs.over_runs, Packets.joined}}
 
 pub new_steady : (base : List ℕ) (a : Situation) (l : EndLog) → a.ring.log ≡ Some l → l.entries ≡ [] → l.held ≡ [] → IsSteady (new_proxy FIRST_CID base) a
 new_steady base a l told silent none = record {

@@ -1,22 +1,18 @@
 -- A poll counts each page of rx that it takes back.
-use Rattle.std.proofs.Common.{◌≡◌, ◌+◌, ◌==◌, ℕ, zero, suc, nat_le, nat_lt, Bool, true, false, cond, List, [], ◌∷◌, length, Option, Some, None}
-use Rattle.std.proofs.Common.{refl, sym, ap, subst, ◌∙◌, arith}
-use Rattle.vs_contents.specs.{CallTree.Ask, CallTree.Done, CallTree.bind, CallTree.for_each, CallTree.while_up_to, Contents.Relates}
+use Rattle.std.proofs.Common.{◌≡◌, ◌+◌, ◌==◌, ℕ, zero, suc, nat_le, nat_lt, Bool, true, false, cond, List, [], ◌∷◌, length, Option, Some, None, refl, sym, ap, subst, ◌∙◌, arith}
+use Rattle.vs_contents.specs.{CallTree.{Ask, Done, bind, for_each, while_up_to}, Contents.Relates}
 use Rattle.vs_conn.specs.{End.owes_of, declared.end.Owed.Owed}
 use Rattle.vs_flow.specs.Table.{entry_under, slots}
 use Rattle.vs_header.specs.Packet.{header_bytes}
 use Rattle.vs_limits.specs.declared.TheConstants.{DRIVER_REPLIES_FULL, OWED_MAX, STAGED_MAX}
 use Rattle.vs_replies.specs.declared.Reply.{Reply}
-use Rattle.vs_ring_port.specs.{Contents.RingContents, DriverCalls.{DriverAnswer, DriverCall, DriverLearns, LoadCid, Publish, Reap, Stage}}
-use Rattle.vs_ring_port.specs.{EndLog.EndLog, Known.{Finds, Known, after_stores, stores_for}, declared.queue.Queue.Queue}
-use Rattle.vs_ring_port.specs.{declared.queue.Queue.TheVariants.{Event, Rx, Tx}}
-use Rattle.vs_driver_parts.specs.Conversations.{DriverTree, Round, after_paying, all_taken, event_reaped, event_taken, goes_on_with, has_page}
-use Rattle.vs_driver_parts.specs.Conversations.{one_put, packet_reaped, pay_all, pay_and_publish, pay_slot, poll_of, poll_packets, poll_puts}
-use Rattle.vs_driver_parts.specs.Conversations.{poll_reaps, polled, publish_and_pay, published, put_all, put_owed, owed_bytes, put_owed_of, put_replies, reply_header}
-use Rattle.vs_driver_parts.specs.Conversations.{put_reply, put_reply_of, reap_all, reap_one, stage_of, stage_packet, staged_again}
-use Rattle.vs_driver_parts.specs.Conversations.{take_all, take_event, take_packet}
-use Rattle.vs_driver_parts.specs.{Playing.Plays, Playing.RingAllows, Receiving.is_reset_event, Receiving.on_page, State.DriverEntry, State.DriverState}
-use Rattle.vs_driver_parts.specs.declared.answers.Polled.{Polled}
+use Rattle.vs_ring_port.specs.{Contents.RingContents, DriverCalls.{DriverAnswer, DriverCall, DriverLearns, LoadCid, Publish, Reap, Stage}, EndLog.EndLog, Known.{Finds, Known}}
+use Rattle.vs_ring_port.specs.{Known.{after_stores, stores_for}, declared.queue.Queue.{Queue, TheVariants.{Event, Rx, Tx}}}
+use Rattle.vs_driver_parts.specs.Conversations.{DriverTree, Round, after_paying, all_taken, event_reaped, event_taken, goes_on_with, has_page, one_put, packet_reaped, pay_all}
+use Rattle.vs_driver_parts.specs.Conversations.{pay_and_publish, pay_slot, poll_of, poll_packets, poll_puts, poll_reaps, polled, publish_and_pay, published, put_all, put_owed}
+use Rattle.vs_driver_parts.specs.Conversations.{owed_bytes, put_owed_of, put_replies, reply_header, put_reply, put_reply_of, reap_all, reap_one, stage_of, stage_packet}
+use Rattle.vs_driver_parts.specs.{Conversations.{staged_again, take_all, take_event, take_packet}, Playing.{Plays, RingAllows}, Receiving.{is_reset_event, on_page}}
+use Rattle.vs_driver_parts.specs.{State.{DriverEntry, DriverState}, declared.answers.Polled.Polled}
 
 -- How many pages of rx were taken back, after a call.
 abbrev more : (call : DriverCall) → DriverAnswer call → ℕ → ℕ

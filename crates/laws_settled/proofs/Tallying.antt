@@ -1,37 +1,30 @@
 -- A turn counts a packet as dropped only where it is one, and a fault only where a call of the host failed.
 use Rattle.std.proofs.Common.{◌≡◌, ℕ, ◌+◌, ◌≤◌, Bool, true, false, List, [], ◌∷◌, length, take, IsSomeAnd, Option, Some, None, refl, sym, ap, subst, ◌∙◌, arith}
-use Rattle.std.proofs.{lemmas.Bool.Decides.nat_tests, lemmas.List.Elements.{All-head, All-tail}, lemmas.Option.same_Some}
-use Rattle.std.specs.{List.All, Option.ForSome}
+use Rattle.std.{proofs.lemmas.{Bool.Decides.nat_tests, List.Elements.{All-head, All-tail}, Option.same_Some}, specs.{List.All, Option.ForSome}}
 use Rattle.byteorder.specs.Endian.{little_bytes}
-use Rattle.vs_contents.specs.{CallTree.Ask, CallTree.Done, Contents.Exposes}
+use Rattle.vs_contents.specs.{CallTree.{Ask, Done}, Contents.Exposes}
 use Rattle.vs_conn.specs.Headers.{payload_header}
-use Rattle.laws_history.specs.Packets.{packet_bytes}
-use Rattle.vs_header.specs.{Packet.header_bytes, Packet.header_of, declared.Header.Header, declared.TheConstants.HEADER_LEN}
-use Rattle.laws_history.specs.declared.packet.Packet.{Packet}
-use Rattle.vs_outside.specs.{Faults.CountsFault, Faults.one_more, Host.accept_failed, Host.dial_failed, Host.read_failed, Host.write_failed}
-use Rattle.vs_outside.specs.declared.host_net.{Accepted.Accepted, Dialed.Dialed, StreamRead.StreamRead, StreamWrite.StreamWrite}
+use Rattle.laws_history.specs.{Packets.packet_bytes, declared.packet.Packet.Packet}
+use Rattle.vs_header.specs.{Packet.{header_bytes, header_of}, declared.{Header.Header, TheConstants.HEADER_LEN}}
+use Rattle.vs_outside.specs.{Faults.{CountsFault, one_more}, Host.{accept_failed, dial_failed, read_failed, write_failed}, declared.host_net.{Accepted.Accepted, Dialed.Dialed}}
+use Rattle.vs_outside.specs.declared.host_net.{StreamRead.StreamRead, StreamWrite.StreamWrite}
+use Rattle.vs_page.specs.{Held.{event_held, packet_held}, Log.{Device, Log, packets_got}, Open.is_dropped, declared.log.LogEntry.TheVariants.{GotPacket, PutEvent, PutPacket}}
+use Rattle.vs_ring_port.specs.{Chains.{bytes_in, chain_of}, Contents.{DeviceAnswer, DeviceCall, Given, PublishCid, Read, Return, RingContents, Take, Write}, DeviceCalls.IsTakenAs}
+use Rattle.vs_ring_port.specs.{DeviceCalls.IsTakenWhole, EndLog.{EndLog, entries_returned, log_returned, log_taken, log_reset, log_written, with_event, with_packet}}
+use Rattle.vs_ring_port.specs.declared.{device_ring.{Chain.Chain, Next.Next}, queue.Queue.{Queue, TheVariants.{Event, Rx, Tx}}}
+use Rattle.vs_device_parts.specs.{Calls.{Allows, Answer, DeviceTree, Ring, Situation}, Connections.route_to_guest, Playing.Runs, Receiving.written, State.DeviceEntry}
+use Rattle.vs_device_parts.specs.State.{DeviceState}
+use Rattle.vs_proxy_parts.specs.{State.{Handshake, ProxyState}, declared.answers.Turn.Turn, Turns.turn_of}
+use Rattle.laws_device.proofs.{Ringing.bytes_held, Transmitting.header_is, Walk.{Keeping.{Asking, Keeps}, Serving.{AfterEvent, AfterRead, AfterWrite, Closes, Fills, Writes}}}
+use Rattle.laws_device.{proofs.Walk.{Taking.{AfterDial, Takes}, Turning.{AfterAccept, AfterByte, Between, Shakes, keeps_turn}}, specs.Walk.Seen.{Seen, seen}}
+use Rattle.laws_settled.specs.Begun.{CountsFailed, IsKept}
 use Rattle.vs_outside.specs.declared.host_net.Accepted.TheVariants as accepted
 use Rattle.vs_outside.specs.declared.host_net.Dialed.TheVariants as dialed
 use Rattle.vs_outside.specs.declared.host_net.StreamRead.TheVariants as read
 use Rattle.vs_outside.specs.declared.host_net.StreamWrite.TheVariants as write
-use Rattle.vs_page.specs.{Held.event_held, Held.packet_held, Log.Device, Log.Log, Log.packets_got, Open.is_dropped}
-use Rattle.vs_page.specs.declared.log.LogEntry.TheVariants.{GotPacket, PutEvent, PutPacket}
-use Rattle.vs_ring_port.specs.{Chains.{bytes_in, chain_of}, Contents.{DeviceAnswer, DeviceCall, Given, PublishCid, Read, Return, RingContents, Take, Write}}
-use Rattle.vs_ring_port.specs.{DeviceCalls.{IsTakenAs, IsTakenWhole}, EndLog.{EndLog, entries_returned, log_returned, log_taken}}
-use Rattle.vs_ring_port.specs.EndLog.{log_reset, log_written, with_event, with_packet}
-use Rattle.vs_ring_port.specs.declared.{device_ring.Chain.Chain, device_ring.Next.Next, queue.Queue.Queue, queue.Queue.TheVariants.{Event, Rx, Tx}}
 use Rattle.vs_ring_port.specs.declared.device_ring.Next.TheVariants as next
-use Rattle.vs_device_parts.specs.Calls.{Allows, Answer, DeviceTree, Ring, Situation}
-use Rattle.vs_device_parts.specs.{Connections.route_to_guest, Playing.Runs, Receiving.written}
-use Rattle.vs_device_parts.specs.{State.DeviceEntry, State.DeviceState}
-use Rattle.vs_proxy_parts.specs.{State.Handshake, State.ProxyState, declared.answers.Turn.Turn, Turns.turn_of}
-use Rattle.laws_device.proofs.{Ringing.bytes_held, Transmitting.header_is}
-use Rattle.laws_device.specs.Walk.Seen.{Seen, seen}
-use Rattle.laws_device.proofs.Walk.{Keeping.{Asking, Keeps}, Serving.{AfterEvent, AfterRead, AfterWrite, Closes, Fills, Writes}, Taking.AfterDial}
-use Rattle.laws_device.proofs.Walk.{Taking.Takes, Turning.{AfterAccept, AfterByte, Between, Shakes, keeps_turn}}
 use Rattle.laws_device.proofs.Walk.Serving as serving
 use Rattle.laws_device.proofs.Walk.Taking as taking
-use Rattle.laws_settled.specs.Begun.{CountsFailed, IsKept}
 
 -- Of each call what ring and host allow.
 abbrev pub allowed : Asking Situation

@@ -6,16 +6,15 @@ use Rattle.vs_limits.specs.declared.TheConstants.{FIRST_CID, HOST_CID}
 use Rattle.vs_page.specs.Log.{Role, events_put, other_role}
 use Rattle.vs_ring_port.specs.{Chains.held_of, Contents.RingContents, declared.queue.Queue.Queue}
 use Rattle.vs_ring_shared.specs.{Meetings.AreOneTable, Sights.{DeviceSight, Sight, device_log, driver_log, flight_of, sight_in, staged_of}}
-use Rattle.laws_tables.specs.{Both.Both, Both.at, Ends.flows_of, Ends.is_among, Steps.HasEnd}
+use Rattle.laws_tables.specs.{Both.{Both, at}, Ends.{flows_of, is_among}, Steps.HasEnd}
 use Rattle.vs_driver_parts.specs.{Playing.IsRingOf, State.DriverState}
-use Rattle.laws_driver.specs.Honest.{AgreesWith}
-use Rattle.laws_driver.specs.Honest.{ends_of_state as driver_ends}
+use Rattle.laws_driver.specs.Honest.{AgreesWith, ends_of_state as driver_ends}
 use Rattle.vs_device_parts.specs.{Calls.Situation, State.DeviceState}
 use Rattle.laws_device.specs.Honest.{AgreesWith as DeviceAgreesWith, ends_of_state as device_ends}
 use Rattle.laws_rest.specs.{Calm.{OwesNoEvent, resets_in}, Rest.{ArePaired, IsAtRest, IsRoutedLog, IsWithHost, OwesNothing, has_no_mark}}
 use Rattle.vs_proxy_parts.specs.State.{ProxyState}
 use Rattle.laws_proxy.specs.Order.{IsInOrder}
-use Rattle.laws_settled.specs.{Asked.AsksOnceWith, Exact.AreExact, Hosts.IsHosts, Hosts.IsHostsWith, Shut.AreShutBy}
+use Rattle.laws_settled.specs.{Asked.AsksOnceWith, Exact.AreExact, Hosts.{IsHosts, IsHostsWith}, Shut.AreShutBy}
 
 -- A device that stopped for want of a page: it holds none, and took all that it was told of.
 pub record LacksPages (s : DeviceState) (ring : RingContents) : Type 0 where

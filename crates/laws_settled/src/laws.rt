@@ -1,7 +1,6 @@
 //! Laws of a driver and a device that settle.
 
-ghost use Rattle.std.specs.Prelude.{◌≡◌, ◌⊎◌, ℕ, List, []};
-ghost use Rattle.std.specs.Prelude.{Some};
+ghost use Rattle.std.specs.Prelude.{◌≡◌, ◌⊎◌, ℕ, List, [], Some};
 ghost use Rattle.vs_contents.specs.Contents.{Relates};
 ghost use Rattle.vs_flow.specs.Table.{IsTable};
 ghost use Rattle.vs_limits.specs.declared.TheConstants.{FIRST_CID};
@@ -11,11 +10,9 @@ ghost use Rattle.vs_driver_parts.specs.{Conversations.poll_of, Playing.Plays, St
 ghost use Rattle.vs_device_parts.specs.{Calls.Situation, Playing.Runs};
 ghost use Rattle.laws_device.specs.Honest.{ends_of_state};
 ghost use Rattle.laws_rest.specs.Rest.{OwesNothing};
-ghost use Rattle.vs_proxy_parts.specs.{State.ProxyState, Turns.new_proxy, Turns.turn_of, declared.answers.Turn.Turn};
-ghost use Rattle.vs_proxy_parts.specs.declared.answers.Turned.{Turned};
+ghost use Rattle.vs_proxy_parts.specs.{State.ProxyState, Turns.{new_proxy, turn_of}, declared.answers.{Turn.Turn, Turned.Turned}};
+ghost use Rattle.laws_settled.specs.{Begun.{DropsNone, IsBegun, Start, start_with}, Settled.{AreOver, IsSettled, IsSteady, LacksPages}};
 ghost use Rattle.vs_proxy_parts.specs.declared.answers.Turn.TheVariants as turn;
-ghost use Rattle.laws_settled.specs.{Begun.DropsNone, Begun.IsBegun, Begun.Start, Begun.start_with};
-ghost use Rattle.laws_settled.specs.Settled.{AreOver, IsSettled, IsSteady, LacksPages};
 
 /// A new proxy under the first CID of shared rings is steady, with rings on which nothing passed, and each turn leaves it so: no reset is made,
 /// all its packets come from the host, and it holds of each connection just the bytes that its end counts as unread.

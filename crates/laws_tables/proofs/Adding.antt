@@ -1,13 +1,11 @@
 -- What a packet adds to the payload of connections, where the log is fair with it: only the present connection of its flow gets any.
-use Rattle.std.proofs.Common.{◌≡◌, ℕ, ◌+◌, ◌==◌, ◌&&◌, Bool, true, false, cond, List, [], ◌∷◌, ◌++◌, length, refl, sym, ap, subst, ◌∙◌}
-use Rattle.std.proofs.{Common.arith, Common.length-append, lemmas.Bool.Decides.nat_tests}
+use Rattle.std.proofs.Common.{◌≡◌, ℕ, ◌+◌, ◌==◌, ◌&&◌, Bool, true, false, cond, List, [], ◌∷◌, ◌++◌, length, refl, sym, ap, subst, ◌∙◌, arith, length-append}
+use Rattle.std.proofs.lemmas.Bool.Decides.{nat_tests}
 use Rattle.vs_flow.specs.{Connection.Connection, Flow.same_flow, declared.flow.Flow.Flow}
-use Rattle.laws_history.specs.{declared.packet.Packet.Packet, Packets.is_clean_rst, Packets.is_request, Again.count, History.Answerer}
-use Rattle.laws_history.specs.History.{Asker, Got, History, Put, Side, gots, peer, puts}
-use Rattle.vs_page.specs.Fair.{IsFairLog, asked_by, current, instance_from, number_of, payload_got, payload_of, payload_put}
-use Rattle.vs_page.specs.Log.{Log, Role, and_then, flow_got, flow_put, history_of, side_of, whole_of}
-use Rattle.vs_page.specs.declared.log.LogEntry.TheVariants.{GotPacket, PutPacket}
-use Rattle.vs_page.proofs.{Flows.same_is, Flows.same_self, Present.present_got, Present.present_put}
+use Rattle.laws_history.specs.{declared.packet.Packet.Packet, Packets.{is_clean_rst, is_request}, Again.count, History.{Answerer, Asker, Got, History, Put, Side, gots, peer, puts}}
+use Rattle.vs_page.specs.{Fair.{IsFairLog, asked_by, current, instance_from, number_of, payload_got, payload_of, payload_put}, Log.{Log, Role, and_then, flow_got, flow_put}}
+use Rattle.vs_page.{specs.{Log.{history_of, side_of, whole_of}, declared.log.LogEntry.TheVariants.{GotPacket, PutPacket}}, proofs.{Flows.{same_is, same_self}, Present.present_got}}
+use Rattle.vs_page.proofs.Present.{present_put}
 use Rattle.laws_tables.{specs.Drains.only_on, proofs.Logs.nothing_more}
 
 -- The number of the connection that a packet behind these is of.

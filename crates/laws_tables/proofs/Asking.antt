@@ -1,24 +1,17 @@
 -- Each step of an end keeps that it asks once on a flow.
-use Rattle.std.proofs.{lemmas.Grind.common_steps, lemmas.Bool.Decides.nat_tests, Common.◌≡◌, Common.ℕ, Common.◌+◌, Common.◌≤◌, Common.Bool}
-use Rattle.std.proofs.Common.{true, false, cond, ◌&&◌, List, [], ◌∷◌, Some, refl, sym, ap, subst, ◌∙◌, arith}
+use Rattle.std.proofs.{lemmas.{Grind.common_steps, Bool.Decides.nat_tests}, Common.{◌≡◌, ℕ, ◌+◌, ◌≤◌, Bool, true, false, cond, ◌&&◌, List, [], ◌∷◌, Some, refl, sym, ap, subst}}
+use Rattle.std.proofs.Common.{◌∙◌, arith}
 use Rattle.vs_conn.specs.End.{ConnectionEnd, asked, end_after, is_of, owes_of, paid_of}
 use Rattle.vs_flow.specs.{Flow.same_flow, declared.flow.Flow.Flow}
 use Rattle.vs_header.specs.declared.{Header.Header, Kind.Kind}
-use Rattle.laws_history.specs.{Again.count, Packets.is_request, Packets.is_rst, declared.packet.Packet.Packet}
-use Rattle.laws_history.specs.History.{Got, History, Put, puts}
+use Rattle.laws_history.specs.{Again.count, Packets.{is_request, is_rst}, declared.packet.Packet.Packet, History.{Got, History, Put, puts}}
 use Rattle.vs_limits.specs.declared.TheConstants.{BUF_ALLOC}
-use Rattle.vs_page.specs.{Open.is_dropped, Log.Log, Log.Role, Log.flow_got, Log.flow_put, Log.whole_of}
-use Rattle.vs_page.specs.declared.log.LogEntry.TheVariants.{GotPacket, PutPacket}
-use Rattle.vs_page.proofs.Flows.{same_is}
-use Rattle.laws_tables.specs.Both.{Aborts, Asks, Decides, Decision, Forwards, Grows, Opens, Pays, Replies}
-use Rattle.laws_tables.specs.Both.{Seat, Sends, Shuts, Step, Takes, WantsCredit, after, after_packet, answered}
-use Rattle.laws_tables.specs.{Both.{decided, new_seat, part_after}, Heard.own_port, Ends.{Ends, ends_of, is_new, replaced}, Steps.asking}
-use Rattle.laws_tables.specs.Steps.{is_kept, left, opened, owed_on, payload_on, port_after, reply_on, request_on, with_clean}
-use Rattle.laws_tables.specs.Steps.{with_end}
-use Rattle.laws_tables.proofs.{Steps.owed_flow, Steps.request_flow, Keeps.paid_old}
+use Rattle.vs_page.{specs.{Open.is_dropped, Log.{Log, Role, flow_got, flow_put, whole_of}, declared.log.LogEntry.TheVariants.{GotPacket, PutPacket}}, proofs.Flows.same_is}
+use Rattle.laws_tables.specs.Both.{Aborts, Asks, Decides, Decision, Forwards, Grows, Opens, Pays, Replies, Seat, Sends, Shuts, Step, Takes, WantsCredit, after, after_packet}
+use Rattle.laws_tables.specs.{Both.{answered, decided, new_seat, part_after}, Heard.own_port, Ends.{Ends, ends_of, is_new, replaced}, Steps.{asking, is_kept, left, opened}}
+use Rattle.laws_tables.specs.{Steps.{owed_on, payload_on, port_after, reply_on, request_on, with_clean, with_end}, Asked.{AskOnce, AsksOnce, Does, asks_of, has_new}}
+use Rattle.laws_tables.proofs.{Steps.{owed_flow, request_flow}, Keeps.paid_old, News.{MakesNone, MakesOther, Stays, none_replaced, some_one, step_makes}}
 use Rattle.vs_conn.specs.declared.end.Owed.TheVariants as owed
-use Rattle.laws_tables.specs.Asked.{AskOnce, AsksOnce, Does, asks_of, has_new}
-use Rattle.laws_tables.proofs.News.{MakesNone, MakesOther, Stays, none_replaced, some_one, step_makes}
 
 -- A packet that is put, and one that is got.
 count_put : (b asks : Bool) (p : Packet) (h : History) → is_request p ≡ asks

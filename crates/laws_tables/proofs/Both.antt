@@ -1,24 +1,19 @@
 -- Each step at either seat keeps both sound.
-use Rattle.std.proofs.lemmas.Grind.{common_steps}
-use Rattle.std.proofs.Common.{arith, ◌≡◌, ℕ, Bool, true, false, if◌then◌else◌, is_some, List, [], ◌∷◌, refl, sym, ap, ◌∙◌}
-use Rattle.vs_conn.proofs.Steps.{abort_follows, ask_follows, forward_follows, grow_follows, shut_follows}
-use Rattle.vs_conn.specs.{End.ConnectionEnd, End.is_refused, End.verdict_of, Follows.Follows, Follows.IsTaken}
-use Rattle.laws_history.specs.{Packets.is_request, Packets.is_rst, History.{Side, gots, puts}, declared.packet.Packet.Packet}
+use Rattle.std.proofs.{lemmas.Grind.common_steps, Common.{arith, ◌≡◌, ℕ, Bool, true, false, if◌then◌else◌, is_some, List, [], ◌∷◌, refl, sym, ap, ◌∙◌}}
+use Rattle.vs_conn.{proofs.Steps.{abort_follows, ask_follows, forward_follows, grow_follows, shut_follows}, specs.{End.{ConnectionEnd, is_refused, verdict_of}, Follows.Follows}}
+use Rattle.vs_conn.specs.Follows.{IsTaken}
+use Rattle.laws_history.specs.{Packets.{is_request, is_rst}, History.{Side, gots, puts}, declared.packet.Packet.Packet}
 use Rattle.vs_header.specs.Kind.{kind_named}
-use Rattle.vs_page.specs.Log.{Driver, Device, HasGotAll, IsNextPacket, Log, Role, flow_got, other_role, side_of, whole_of}
-use Rattle.vs_page.specs.declared.log.LogEntry.TheVariants.{GotPacket, Mark, PutPacket}
-use Rattle.vs_page.{specs.Fair.IsFairLog, specs.Open.is_dropped, proofs.Entries.next_fair}
+use Rattle.vs_page.specs.{Log.{Driver, Device, HasGotAll, IsNextPacket, Log, Role, flow_got, other_role, side_of, whole_of}, declared.log.LogEntry.TheVariants.{GotPacket, Mark}}
+use Rattle.vs_page.{specs.{declared.log.LogEntry.TheVariants.PutPacket, Fair.IsFairLog, Open.is_dropped}, proofs.Entries.next_fair}
 use Rattle.vs_limits.specs.declared.TheConstants.{HOST_CID}
-use Rattle.laws_tables.specs.Both.{Aborts, Asks, Both, Decides, Decision, Forwards, Grows, Happening, IsSound, MakesReset, MayDecide}
-use Rattle.laws_tables.specs.Both.{MayHappen, MayRun, MayStep, MayStepAll, Opens, Pays, PutsEvent, Replies, Seat, Sends, Shuts, Step}
-use Rattle.laws_tables.specs.Both.{Takes, Forgets, TakesEvent, TakesReset, WantsCredit, after, after_all, after_packet, answered, at}
-use Rattle.laws_tables.specs.Both.{decided, happens, run, start, with_seat}
-use Rattle.laws_tables.specs.Steps.{HasEnd, is_overrun, owed_on, payload_on, reply_on, request_on}
-use Rattle.laws_tables.specs.{Ends.Ends, Ends.answer_kind, Ends.ends_of, Heard.{IsInOrder, IsOrderedLog, heard_of}, Matches.Matches}
-use Rattle.laws_tables.proofs.Keeps.{accepts, asks, changes, drops, has_room, ignores, makes_reset, named_kind, opens, opens_fair, pays}
-use Rattle.laws_tables.proofs.Keeps.{pays_fair, puts_event, refuses, replies, replies_fair, sends, sends_fair, start_matches, takes}
-use Rattle.laws_tables.proofs.Fair.{fair_ordered, got_formed, got_is_taken, got_not_refused, heard_all, older_ordered, ordered_in_order}
-use Rattle.laws_tables.proofs.{Keeps.takes_event, Keeps.forgets, Keeps.takes_reset, Tables.only_end}
+use Rattle.laws_tables.specs.Both.{Aborts, Asks, Both, Decides, Decision, Forwards, Grows, Happening, IsSound, MakesReset, MayDecide, MayHappen, MayRun, MayStep, MayStepAll, Opens}
+use Rattle.laws_tables.specs.Both.{Pays, PutsEvent, Replies, Seat, Sends, Shuts, Step, Takes, Forgets, TakesEvent, TakesReset, WantsCredit, after, after_all, after_packet}
+use Rattle.laws_tables.specs.{Both.{answered, at, decided, happens, run, start, with_seat}, Steps.{HasEnd, is_overrun, owed_on, payload_on, reply_on, request_on}, Ends.Ends}
+use Rattle.laws_tables.{specs.{Ends.{answer_kind, ends_of}, Heard.{IsInOrder, IsOrderedLog, heard_of}, Matches.Matches}, proofs.Keeps.{accepts, asks, changes, drops, has_room}}
+use Rattle.laws_tables.proofs.Keeps.{ignores, makes_reset, named_kind, opens, opens_fair, pays, pays_fair, puts_event, refuses, replies, replies_fair, sends, sends_fair}
+use Rattle.laws_tables.proofs.{Keeps.{start_matches, takes, takes_event, forgets, takes_reset}, Fair.{fair_ordered, got_formed, got_is_taken, got_not_refused, heard_all}}
+use Rattle.laws_tables.proofs.{Fair.{older_ordered, ordered_in_order}, Tables.only_end}
 
 by_role : (P : Role → Type 0) → P Driver → P Device → (role : Role) → P role
 by_role P a b Driver = a

@@ -1,10 +1,7 @@
 -- A table in which one entry changes, or leaves: what holds of each entry.
-use Rattle.std.proofs.Common.{◌≡◌, ◌≢◌, ℕ, ◌<◌, ◌==◌, nat_lt, Bool, true, false, not, List, [], ◌∷◌, length, filter, map, get_or, Contains}
-use Rattle.std.proofs.{Common.{Some, refl, sym, ap, subst, ◌∙◌, arith}, lemmas.List.Elements.{All-filter, All-map, filter_passes}}
-use Rattle.std.proofs.lemmas.{Bool.Decides.nat_tests, List.get_or_default, Option.slice_get-get_or}
-use Rattle.std.specs.List.{All}
-use Rattle.vs_flow.specs.Table.{entry_under, IsTable, Table, revalued, with_value, without}
-use Rattle.vs_flow.{proofs.Entries.found_at, proofs.Tables.revalued-slot, specs.declared.table.Entry.Entry}
+use Rattle.std.proofs.Common.{◌≡◌, ◌≢◌, ℕ, ◌<◌, ◌==◌, nat_lt, Bool, true, false, not, List, [], ◌∷◌, length, filter, map, get_or, Contains, Some, refl, sym, ap, subst, ◌∙◌, arith}
+use Rattle.std.{proofs.lemmas.{List.{Elements.{All-filter, All-map, filter_passes}, get_or_default}, Bool.Decides.nat_tests, Option.slice_get-get_or}, specs.List.All}
+use Rattle.vs_flow.{specs.{Table.{entry_under, IsTable, Table, revalued, with_value, without}, declared.table.Entry.Entry}, proofs.{Entries.found_at, Tables.revalued-slot}}
 
 -- A change of an entry that then leaves.
 module _ {T : Type 0} (slot : ℕ) (v : T) where

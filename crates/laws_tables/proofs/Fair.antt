@@ -1,29 +1,24 @@
 -- What is put keeps a log fair, and what a fair log says of the packets that are got.
-use Rattle.std.proofs.{lemmas.Grind.common_steps, Common.{rules, ◌≡◌, ◌≢◌, ℕ, ◌+◌, ◌≤◌, Bool, true, false, ◌||◌, if◌then◌else◌, is_some}}
-use Rattle.std.proofs.Common.{◌⊎◌, inl, inr, List, [], ◌∷◌, length, Some, refl, sym, ap, ◌∙◌, subst, arith}
+use Rattle.std.proofs.{lemmas.Grind.common_steps, Common.{rules, ◌≡◌, ◌≢◌, ℕ, ◌+◌, ◌≤◌, Bool, true, false, ◌||◌, if◌then◌else◌, is_some, ◌⊎◌, inl, inr, List, [], ◌∷◌, length}}
+use Rattle.std.proofs.Common.{Some, refl, sym, ap, ◌∙◌, subst, arith}
 use Rattle.vs_wrap.specs.Wrap.{unwrap32}
-use Rattle.vs_conn.specs.{End.CanSend, End.ConnectionEnd, End.is_refused, End.owes_of, End.verdict_of, Follows.FitsMessage, Follows.Follows}
-use Rattle.vs_conn.specs.{Follows.IsTaken, declared.end.Owed.Owed, declared.end.State.TheVariants.Ended}
+use Rattle.vs_conn.specs.{End.{CanSend, ConnectionEnd, is_refused, owes_of, verdict_of}, Follows.{FitsMessage, Follows, IsTaken}, declared.end.{Owed.Owed, State.TheVariants.Ended}}
+use Rattle.vs_conn.proofs.{Getting.get_taken, Steps.{opening_may, pay_may, room_plain, send_may, taken_of}}
 use Rattle.vs_credit.specs.Credit.{room_of}
-use Rattle.vs_conn.proofs.{Getting.get_taken, Steps.opening_may, Steps.pay_may, Steps.room_plain, Steps.send_may, Steps.taken_of}
 use Rattle.vs_flow.specs.{Flow.same_flow, declared.flow.Flow.Flow}
-use Rattle.vs_header.specs.{Kind.kind_named, Kind.kind_number, declared.Header.Header, declared.Kind.Kind}
-use Rattle.vs_header.specs.declared.Kind.TheVariants.{Stream, Seqpacket}
-use Rattle.laws_history.specs.{Again.AllowsNow, Again.IsClean, Again.IsFairAll, Again.present, declared.packet.Packet.Packet}
-use Rattle.laws_history.specs.History.{Allows, Answerer, Asker, Entry, Got, History, IsFair, MayPut, Put, Side, gots, is_begun, peer, puts}
-use Rattle.laws_history.specs.Packets.{IsFormed, allowance, bytes, has, is_clean_rst, is_request, is_rst, size, told_alloc, told_forwarded}
+use Rattle.vs_header.specs.{Kind.{kind_named, kind_number}, declared.{Header.Header, Kind.{Kind, TheVariants.{Stream, Seqpacket}}}}
+use Rattle.laws_history.specs.{Again.{AllowsNow, IsClean, IsFairAll, present}, declared.packet.Packet.Packet, History.{Allows, Answerer, Asker, Entry, Got, History, IsFair}}
+use Rattle.laws_history.specs.{History.{MayPut, Put, Side, gots, is_begun, peer, puts}, Packets.{IsFormed, allowance, bytes, has, is_clean_rst, is_request, is_rst, size}}
+use Rattle.laws_history.{specs.Packets.{told_alloc, told_forwarded}, proofs.{Present.fair_once, Now.now, Quiet.marked_both, Fair.{BothSound, sound}, Ties.{Later, may_put_later}}}
 use Rattle.vs_limits.specs.declared.TheConstants.{BUF_ALLOC, HOST_CID}
-use Rattle.laws_history.proofs.{Present.fair_once, Now.now, Quiet.marked_both, Fair.BothSound, Fair.sound, Ties.Later, Ties.may_put_later}
-use Rattle.vs_page.specs.{Fair.IsFairLog, Fair.IsFairOn, Open.cid_of, Open.is_dropped, Open.left_kind, declared.log.LogEntry.LogEntry}
-use Rattle.vs_page.specs.Log.{Log, Role, Driver, and_then, flow_put, flow_got, history_of, side_of, whole_of}
-use Rattle.vs_page.specs.declared.log.LogEntry.TheVariants.{PutPacket, GotPacket}
-use Rattle.vs_page.proofs.{Entries.{fair_got_on, fair_put_on, one_put, present_is}, Flows.{same_is, same_self}, Phases.kind_stays}
+use Rattle.vs_page.specs.{Fair.{IsFairLog, IsFairOn}, Open.{cid_of, is_dropped, left_kind}, declared.log.LogEntry.{LogEntry, TheVariants.{PutPacket, GotPacket}}, Log.{Log, Role}}
+use Rattle.vs_page.{specs.Log.{Driver, and_then, flow_put, flow_got, history_of, side_of, whole_of}, proofs.Entries.{fair_got_on, fair_put_on, one_put, present_is}}
+use Rattle.vs_page.proofs.{Flows.{same_is, same_self}, Phases.kind_stays}
 use Rattle.vs_replies.specs.declared.Reply.{Reply}
-use Rattle.laws_tables.specs.{Ends.{Ends, is_among, is_new, replied}, Matches.{IsOwed, IsReady, MatchesFlows}, Heard.IsAllHeard}
-use Rattle.laws_tables.specs.Heard.{IsInOrder, IsOrdered, IsOrderedLog, IsWithin, IsWithinCredit, heard_of, hears, is_awaiting, is_empty}
-use Rattle.laws_tables.specs.{Heard.{is_fresh, is_over, route_of}, Steps.{HasEnd, is_overrun, owed_on, payload_on, reply_on, request_on}}
-use Rattle.laws_tables.proofs.{Frame.heard_put, OnFlow.IsOne, OnFlow.end_follows}
-use Rattle.laws_tables.proofs.Steps.{can_old, known_goes_on, order_one, reply_flow, request_flow, then_put}
+use Rattle.laws_tables.specs.{Ends.{Ends, is_among, is_new, replied}, Matches.{IsOwed, IsReady, MatchesFlows}, Heard.{IsAllHeard, IsInOrder, IsOrdered, IsOrderedLog, IsWithin}}
+use Rattle.laws_tables.specs.{Heard.{IsWithinCredit, heard_of, hears, is_awaiting, is_empty, is_fresh, is_over, route_of}, Steps.{HasEnd, is_overrun, owed_on, payload_on}}
+use Rattle.laws_tables.{specs.Steps.{reply_on, request_on}, proofs.{Frame.heard_put, OnFlow.{IsOne, end_follows}, Steps.{can_old, known_goes_on, order_one, reply_flow}}}
+use Rattle.laws_tables.proofs.Steps.{request_flow, then_put}
 
 -- A fair history of one connection that has begun has the REQUEST.
 begun_by : (side : Side) (put got : List Packet) (p : Packet) (b : Bool) → is_request p ≡ b → MayPut side put got p

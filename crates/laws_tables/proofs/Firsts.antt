@@ -1,15 +1,11 @@
 -- Flows that are used once: all that passed on them is their present connection.
-use Rattle.vs_page.proofs.{Present.first_put, Entries.present_is}
+use Rattle.vs_page.{proofs.{Present.first_put, Entries.present_is}, specs.{Fair.{IsFairOn, asked_by, number_of, payload_of, payload_put}, Log.{Log, Role, history_of, side_of}}}
+use Rattle.vs_page.specs.Log.{whole_of}
 use Rattle.vs_flow.specs.{Connection.first_of, declared.flow.Flow.Flow}
-use Rattle.std.proofs.Common.{◌≡◌, ℕ, zero, suc, ◌+◌, ◌≤◌, Bool, true, false, cond, ◌||◌, List, [], ◌∷◌, refl, sym, ap, subst, ◌∙◌, arith}
-use Rattle.std.proofs.lemmas.Grind.{common_steps}
-use Rattle.laws_history.specs.{Again.IsFairAll, Again.count, Again.present, Packets.has, Packets.is_request, declared.packet.Packet.Packet}
-use Rattle.laws_history.specs.History.{Answerer, Asker, Got, History, IsFair, MayPut, Put, Side, gots, is_begun, puts}
-use Rattle.laws_history.proofs.Present.{fair_once}
-use Rattle.vs_page.specs.{Fair.{IsFairOn, asked_by, number_of, payload_of, payload_put}, Log.{Log, Role}}
-use Rattle.vs_page.specs.{Log.{history_of, side_of, whole_of}}
-use Rattle.laws_tables.specs.Heard.{heard_of}
-use Rattle.laws_tables.proofs.Fair.{fair_begun, fair_now, heard_puts}
+use Rattle.std.proofs.{Common.{◌≡◌, ℕ, zero, suc, ◌+◌, ◌≤◌, Bool, true, false, cond, ◌||◌, List, [], ◌∷◌, refl, sym, ap, subst, ◌∙◌, arith}, lemmas.Grind.common_steps}
+use Rattle.laws_history.specs.{Again.{IsFairAll, count, present}, Packets.{has, is_request}, declared.packet.Packet.Packet, History.{Answerer, Asker, Got, History, IsFair, MayPut}}
+use Rattle.laws_history.{specs.History.{Put, Side, gots, is_begun, puts}, proofs.Present.fair_once}
+use Rattle.laws_tables.{specs.Heard.heard_of, proofs.Fair.{fair_begun, fair_now, heard_puts}}
 
 -- A present connection without entries is that of a flow on which nothing passed.
 pub present_none : (w : History) → present w ≡ [] → w ≡ []

@@ -1,15 +1,13 @@
 -- What an entry does to its own flow, and to others; and what a step has to show.
-use Rattle.std.proofs.Common.{◌≡◌, ℕ, ◌≤◌, Bool, true, false, if◌then◌else◌, Option, List, [], ◌∷◌, refl, sym, ap, ◌∙◌, subst, arith}
-use Rattle.std.proofs.lemmas.Grind.{common_steps}
+use Rattle.std.proofs.{Common.{◌≡◌, ℕ, ◌≤◌, Bool, true, false, if◌then◌else◌, Option, List, [], ◌∷◌, refl, sym, ap, ◌∙◌, subst, arith}, lemmas.Grind.common_steps}
 use Rattle.vs_conn.specs.End.{ConnectionEnd}
 use Rattle.vs_flow.specs.{declared.flow.Flow.Flow, Flow.same_flow}
 use Rattle.laws_history.specs.{History.{History, Put, Got, Side, Asker, puts}, Packets.is_request, declared.packet.Packet.Packet}
-use Rattle.vs_page.specs.Log.{Log, Role, and_then, flow_put, flow_got, history_of, side_of}
-use Rattle.vs_page.specs.Open.{Phase, cid_of, is_clean_end, is_dropped, kind_got, kind_put, left_kind, open_kind, phase_heard, phase_of}
-use Rattle.vs_page.specs.declared.log.LogEntry.TheVariants.{PutPacket, GotPacket}
-use Rattle.vs_page.{specs.Frame.is_about, specs.declared.log.LogEntry.LogEntry, proofs.Flows.same_self, proofs.Flows.same_is}
-use Rattle.laws_tables.specs.{Ends.{Ends, FlowEnd, ends_of, is_among, replied}, Heard.{heard_of, hears, is_awaiting, own_port}}
-use Rattle.laws_tables.specs.Matches.{IsKept, IsLeftOn, IsUnused, MatchesFlows, MatchesOn}
+use Rattle.vs_page.specs.{Log.{Log, Role, and_then, flow_put, flow_got, history_of, side_of}, Open.{Phase, cid_of, is_clean_end, is_dropped, kind_got, kind_put, left_kind}}
+use Rattle.vs_page.{specs.{Open.{open_kind, phase_heard, phase_of}, declared.log.LogEntry.{TheVariants.{PutPacket, GotPacket}, LogEntry}, Frame.is_about}, proofs.Flows.same_self}
+use Rattle.vs_page.proofs.Flows.{same_is}
+use Rattle.laws_tables.specs.{Ends.{Ends, FlowEnd, ends_of, is_among, replied}, Heard.{heard_of, hears, is_awaiting, own_port}, Matches.{IsKept, IsLeftOn, IsUnused, MatchesFlows}}
+use Rattle.laws_tables.specs.Matches.{MatchesOn}
 use Rattle.vs_replies.specs.declared.Reply.{Reply}
 
 pub same_of : (f g : Flow) → g ≡ f → same_flow f g ≡ true

@@ -1,15 +1,13 @@
 -- What a connection's end does to the payload that it takes.
-use Rattle.std.proofs.Common.{◌≡◌, ℕ, Bool, true, false, List, [], ◌++◌, take, drop, cond, Some, refl, sym, ap, subst, ◌∙◌, append_assoc}
-use Rattle.std.proofs.{Common.{arith, take-append-drop}, lemmas.Bool.Decides.nat_tests, lemmas.Grind.common_steps, lemmas.List.append-nil}
-use Rattle.vs_conn.specs.End.{ConnectionEnd, end_after, is_refused, owes_of, paid_of, verdict_of, with_payload_forwarded, with_shut}
-use Rattle.vs_conn.specs.declared.end.{Owed.Owed, Verdict.Verdict}
-use Rattle.vs_conn.specs.declared.end.Owed.TheVariants as owed
-use Rattle.vs_conn.specs.declared.end.Verdict.TheVariants as verdict
+use Rattle.std.proofs.Common.{◌≡◌, ℕ, Bool, true, false, List, [], ◌++◌, take, drop, cond, Some, refl, sym, ap, subst, ◌∙◌, append_assoc, arith, take-append-drop}
+use Rattle.std.proofs.lemmas.{Bool.Decides.nat_tests, Grind.common_steps, List.append-nil}
+use Rattle.vs_conn.specs.{End.{ConnectionEnd, end_after, is_refused, owes_of, paid_of, verdict_of, with_payload_forwarded, with_shut}, declared.end.{Owed.Owed, Verdict.Verdict}}
 use Rattle.vs_header.specs.declared.Header.{Header}
 use Rattle.laws_history.specs.{Packets.is_rw, declared.packet.Packet.Packet}
 use Rattle.vs_page.specs.Fair.{IsPrefixOf}
-use Rattle.laws_tables.specs.Drains.{Drains, receives}
-use Rattle.laws_tables.proofs.Logs.{all_of, longer, nothing_more, shorter}
+use Rattle.laws_tables.{specs.Drains.{Drains, receives}, proofs.Logs.{all_of, longer, nothing_more, shorter}}
+use Rattle.vs_conn.specs.declared.end.Owed.TheVariants as owed
+use Rattle.vs_conn.specs.declared.end.Verdict.TheVariants as verdict
 
 -- Nothing moves; what was held is dropped; bytes come out; bytes come in.
 abbrev pub Goes : Bool → Bool → List ℕ → List ℕ → List ℕ → List ℕ → Type 0

@@ -1,38 +1,30 @@
 -- Each small step keeps an end of many connections matching its log, with what a fair log gives besides.
-use Rattle.std.proofs.Common.{◌≡◌, ◌≢◌, ◌≤◌, ℕ, Bool, true, false, ◌&&◌, if◌then◌else◌, is_some, ◌⊎◌, inl, inr, List, [], ◌∷◌, length, Some}
-use Rattle.std.proofs.{Common.{refl, sym, ap, ◌∙◌, subst, arith, None, ◌++◌}, lemmas.Grind.common_steps}
-use Rattle.vs_conn.specs.End.{CanSend, ConnectionEnd, answering, asked, end_after, is_of, owes_of, paid_of, verdict_of, with_payload_sent}
-use Rattle.vs_conn.specs.{Follows.Follows, Follows.IsTaken, Follows.FitsMessage, declared.end.Owed.Owed}
-use Rattle.vs_conn.proofs.{Frames.got_kind, Getting.get_follows, Steps.answer_follows, Steps.asked_follows, Steps.send_follows}
+use Rattle.std.proofs.Common.{◌≡◌, ◌≢◌, ◌≤◌, ℕ, Bool, true, false, ◌&&◌, if◌then◌else◌, is_some, ◌⊎◌, inl, inr, List, [], ◌∷◌, length, Some, refl, sym, ap, ◌∙◌, subst, arith, None}
+use Rattle.std.proofs.{Common.◌++◌, lemmas.Grind.common_steps}
+use Rattle.vs_conn.specs.{End.{CanSend, ConnectionEnd, answering, asked, end_after, is_of, owes_of, paid_of, verdict_of, with_payload_sent}, Follows.{Follows, IsTaken}}
+use Rattle.vs_conn.{specs.{Follows.FitsMessage, declared.end.Owed.Owed}, proofs.{Frames.got_kind, Getting.get_follows, Steps.{answer_follows, asked_follows, send_follows}}}
 use Rattle.vs_flow.specs.{CleanPairs.kept, Flow.same_flow, declared.flow.Flow.Flow}
-use Rattle.vs_header.specs.{Kind.kind_named, Kind.kind_number, declared.Header.Header, declared.Kind.Kind}
-use Rattle.laws_history.specs.History.{Asker, Entry, Got, History, IsFair, MayPut, Put, Side, gots, is_begun, of_asker, peer, puts}
-use Rattle.laws_history.specs.Packets.{asked_kind, has, is_clean_rst, is_request, is_rst}
-use Rattle.laws_history.{specs.declared.packet.Packet.Packet, specs.Again.AllowsNow, proofs.Quiet.marked_both, proofs.Ties.Later}
+use Rattle.vs_header.specs.{Kind.{kind_named, kind_number}, declared.{Header.Header, Kind.Kind}}
+use Rattle.laws_history.specs.{History.{Asker, Entry, Got, History, IsFair, MayPut, Put, Side, gots, is_begun, of_asker, peer, puts}, Packets.{asked_kind, has, is_clean_rst}}
+use Rattle.laws_history.{specs.{Packets.{is_request, is_rst}, declared.packet.Packet.Packet, Again.AllowsNow}, proofs.{Quiet.marked_both, Ties.Later}}
 use Rattle.vs_limits.specs.declared.TheConstants.{BUF_ALLOC, CLEAN_PAIRS}
-use Rattle.vs_page.specs.{Log.{Device, Driver, Log, Role, and_then, flow_got, flow_put, history_of, side_of}, Open.{Clean, Open, Phase}}
-use Rattle.vs_page.specs.Open.{is_dropped, open_kind, phase_of, phase_reset, cid_of, kind_got, kind_put, left_kind}
-use Rattle.vs_page.specs.{declared.log.LogEntry.TheVariants.{GotEvent, GotPacket, Mark, PutEvent, PutPacket}, Fair.{IsFairLog, IsFairOn}}
-use Rattle.vs_page.proofs.{Entries.one_got, Entries.one_put, Flows.same_is, Flows.same_self, Phases.phase_clean, Phases.phase_marked}
+use Rattle.vs_page.specs.{Log.{Device, Driver, Log, Role, and_then, flow_got, flow_put, history_of, side_of}, Open.{Clean, Open, Phase, is_dropped, open_kind, phase_of}}
+use Rattle.vs_page.specs.{Open.{phase_reset, cid_of, kind_got, kind_put, left_kind}, declared.log.LogEntry.TheVariants.{GotEvent, GotPacket, Mark, PutEvent, PutPacket}}
+use Rattle.vs_page.{specs.Fair.{IsFairLog, IsFairOn}, proofs.{Entries.{one_got, one_put}, Flows.{same_is, same_self}, Phases.{phase_clean, phase_marked}}}
 use Rattle.vs_replies.specs.declared.Reply.{Reply}
-use Rattle.laws_tables.specs.Ends.{Ends, FlowEnd, answer_kind, ends_of, is_among, is_new, replied, replies_of, AreDistinct, flows_of}
-use Rattle.laws_tables.specs.{Ends.{of_host, replaced, without, without_flow}, Steps.{HasEnd, HasNone, IsNextFlow, accepted}}
-use Rattle.laws_tables.specs.Steps.{asking, emptied, forgotten, is_kept, is_overrun, left, opened, owed_on, paid, payload_on, refused}
-use Rattle.laws_tables.specs.{Steps.{reply_on, request_on, reset, taken, with_clean, with_end, with_replies, port_after}, Matches.AllOwed}
-use Rattle.laws_tables.specs.Matches.{IsFairlyLeft, IsOwed, IsReady, Matches, MatchesFlows, IsKept, IsLeftOn, IsUnused, MatchesOn}
-use Rattle.laws_tables.specs.Heard.{IsInOrder, IsWithin, IsWithinCredit, heard_of, own_port, is_awaiting, is_fresh, route_of}
-use Rattle.laws_tables.proofs.OnFlow.{end_asks, end_follows, follows_old, asks_on, begins_on, changes_on, closed_on, drops_on, empties_on}
-use Rattle.laws_tables.proofs.{OnFlow.{fresh_closed, ignores_on, passes_on, refuses_on}, Entries.{added_same, host_among, replaced_same}}
-use Rattle.laws_tables.proofs.Entries.{without_own, without_same, added_other, among_flows, host_distinct, kept_among, kept_distinct}
-use Rattle.laws_tables.proofs.{Entries.{replaced_other, without_among, without_distinct, without_other}, Fair.{heard_less, fair_now}}
-use Rattle.laws_tables.proofs.Fair.{got_formed, got_in_order, got_no_overrun, got_within, open_within, own_got_fair, pay_may_on}
-use Rattle.laws_tables.proofs.Fair.{put_allowed, put_fair, put_keeps_within, reply_may, reply_within, request_allowed, send_may_on}
-use Rattle.laws_tables.proofs.{Fair.heard_puts, Steps.{next_free, next_owed, owed_flow, payload_flow, reply_flow, reply_stale}}
-use Rattle.laws_tables.proofs.{Steps.{request_flow, then_got, cid_heard, used_by_end, used_by_order, used_by_reply}, Frame.IsAlone}
-use Rattle.laws_tables.proofs.Frame.{IsUsed, flows_step, heard_dropped, heard_ended, heard_got, left_alone, own_or_other, phase_dropped}
-use Rattle.laws_tables.proofs.{Frame.still_flows, Tables.{IsOnce, driver_begun, end_begun, only_end, once_rest, own_none, reset_closed}}
-use Rattle.laws_tables.proofs.Owing.{IsDue, begun_got, kind_got_stays, owed_of, all_put, all_got, all_same, all_append}
-use Rattle.laws_tables.proofs.Opening.{got_closes, got_none, got_opens, got_stays, rst_asks_none, rst_of}
+use Rattle.laws_tables.specs.Ends.{Ends, FlowEnd, answer_kind, ends_of, is_among, is_new, replied, replies_of, AreDistinct, flows_of, of_host, replaced, without, without_flow}
+use Rattle.laws_tables.specs.Steps.{HasEnd, HasNone, IsNextFlow, accepted, asking, emptied, forgotten, is_kept, is_overrun, left, opened, owed_on, paid, payload_on, refused}
+use Rattle.laws_tables.specs.{Steps.{reply_on, request_on, reset, taken, with_clean, with_end, with_replies, port_after}, Matches.{AllOwed, IsFairlyLeft, IsOwed, IsReady, Matches}}
+use Rattle.laws_tables.specs.{Matches.{MatchesFlows, IsKept, IsLeftOn, IsUnused, MatchesOn}, Heard.{IsInOrder, IsWithin, IsWithinCredit, heard_of, own_port, is_awaiting, is_fresh}}
+use Rattle.laws_tables.{specs.Heard.route_of, proofs.OnFlow.{end_asks, end_follows, follows_old, asks_on, begins_on, changes_on, closed_on, drops_on, empties_on, fresh_closed}}
+use Rattle.laws_tables.proofs.{OnFlow.{ignores_on, passes_on, refuses_on}, Entries.{added_same, host_among, replaced_same, without_own, without_same, added_other, among_flows}}
+use Rattle.laws_tables.proofs.{Entries.{host_distinct, kept_among, kept_distinct, replaced_other, without_among, without_distinct, without_other}, Fair.{heard_less, fair_now}}
+use Rattle.laws_tables.proofs.Fair.{got_formed, got_in_order, got_no_overrun, got_within, open_within, own_got_fair, pay_may_on, put_allowed, put_fair, put_keeps_within, reply_may}
+use Rattle.laws_tables.proofs.{Fair.{reply_within, request_allowed, send_may_on, heard_puts}, Steps.{next_free, next_owed, owed_flow, payload_flow, reply_flow, reply_stale}}
+use Rattle.laws_tables.proofs.{Steps.{request_flow, then_got, cid_heard, used_by_end, used_by_order, used_by_reply}, Frame.{IsAlone, IsUsed, flows_step, heard_dropped}}
+use Rattle.laws_tables.proofs.{Frame.{heard_ended, heard_got, left_alone, own_or_other, phase_dropped, still_flows}, Tables.{IsOnce, driver_begun, end_begun, only_end, once_rest}}
+use Rattle.laws_tables.proofs.{Tables.{own_none, reset_closed}, Owing.{IsDue, begun_got, kind_got_stays, owed_of, all_put, all_got, all_same, all_append}, Opening.got_closes}
+use Rattle.laws_tables.proofs.Opening.{got_none, got_opens, got_stays, rst_asks_none, rst_of}
 use Rattle.vs_conn.specs.declared.end.Owed.TheVariants as owed
 use Rattle.laws_tables.proofs.Steps as steps
 

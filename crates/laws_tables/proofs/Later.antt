@@ -1,8 +1,7 @@
 -- Logs get more entries, and what was put on a connection that is shut stays.
-use Rattle.std.proofs.Common.{◌≡◌, ℕ, List, [], ◌∷◌, ◌++◌, refl, sym, ap, subst, ◌∙◌, append_assoc, arith}
-use Rattle.std.proofs.lemmas.Grind.{common_steps}
-use Rattle.vs_page.{specs.Fair.IsFairLog, specs.Fair.payload_put, specs.Log.{Device, Driver, Log, Role}, proofs.Shut.shut_put}
-use Rattle.laws_tables.specs.{Both.{Both, Happening, Step, at, happens, log_after, run}, Later.IsLater, Later.StaysShut}
+use Rattle.std.proofs.{Common.{◌≡◌, ℕ, List, [], ◌∷◌, ◌++◌, refl, sym, ap, subst, ◌∙◌, append_assoc, arith}, lemmas.Grind.common_steps}
+use Rattle.vs_page.{specs.{Fair.{IsFairLog, payload_put}, Log.{Device, Driver, Log, Role}}, proofs.Shut.shut_put}
+use Rattle.laws_tables.specs.{Both.{Both, Happening, Step, at, happens, log_after, run}, Later.{IsLater, StaysShut}}
 
 pub later_then : (a b c : Log) → IsLater a b → IsLater b c → IsLater a c
 later_then a b c first next =

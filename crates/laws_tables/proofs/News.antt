@@ -1,16 +1,13 @@
 -- Ends that pass a test, among those of a flow, when entries come, change and go, and over the steps of an end of many connections.
-use Rattle.std.proofs.Common.{◌≡◌, ℕ, Bool, true, false, cond, ◌&&◌, ◌||◌, ◌++◌, List, [], ◌∷◌, length, refl, sym, ap, subst, ◌∙◌, arith}
-use Rattle.std.proofs.lemmas.Grind.{common_steps}
-use Rattle.vs_conn.specs.End.{ConnectionEnd, answering, asked, end_after, is_of, paid_of, with_payload_sent}
-use Rattle.vs_conn.specs.declared.end.Owed.{Owed}
+use Rattle.std.proofs.{Common.{◌≡◌, ℕ, Bool, true, false, cond, ◌&&◌, ◌||◌, ◌++◌, List, [], ◌∷◌, length, refl, sym, ap, subst, ◌∙◌, arith}, lemmas.Grind.common_steps}
+use Rattle.vs_conn.specs.{End.{ConnectionEnd, answering, asked, end_after, is_of, paid_of, with_payload_sent}, declared.end.Owed.Owed}
 use Rattle.vs_flow.specs.{Flow.same_flow, declared.flow.Flow.Flow}
 use Rattle.vs_header.specs.declared.Header.{Header}
-use Rattle.laws_history.specs.{Packets.is_request, Packets.is_rst, declared.packet.Packet.Packet}
+use Rattle.laws_history.specs.{Packets.{is_request, is_rst}, declared.packet.Packet.Packet}
 use Rattle.vs_limits.specs.declared.TheConstants.{BUF_ALLOC}
-use Rattle.vs_page.{proofs.Flows.same_is, specs.Log.Role, specs.Log.flow_got, specs.Open.is_dropped}
-use Rattle.laws_tables.specs.Ends.{Ends, FlowEnd, answer_kind, ends_of, replaced, without_flow}
-use Rattle.laws_tables.specs.Both.{Asks, Decides, Decision, MakesReset, Opens, Pays, Sends, Step, Takes, TakesReset, after_packet, answered, decided, part_after}
-use Rattle.laws_tables.specs.{Asked.has_one, Steps.HasEnd, Steps.is_kept, Steps.left, Steps.with_clean, Steps.with_end}
+use Rattle.vs_page.{proofs.Flows.same_is, specs.{Log.{Role, flow_got}, Open.is_dropped}}
+use Rattle.laws_tables.specs.{Ends.{Ends, FlowEnd, answer_kind, ends_of, replaced, without_flow}, Both.{Asks, Decides, Decision, MakesReset, Opens, Pays, Sends, Step, Takes}}
+use Rattle.laws_tables.specs.{Both.{TakesReset, after_packet, answered, decided, part_after}, Asked.has_one, Steps.{HasEnd, is_kept, left, with_clean, with_end}}
 use Rattle.laws_tables.proofs.Entries.{replaced_other}
 use Rattle.vs_conn.specs.declared.end.Owed.TheVariants as owed
 

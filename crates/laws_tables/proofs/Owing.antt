@@ -1,14 +1,12 @@
 -- Replies that are owed may be put, over a log with one more packet.
-use Rattle.std.proofs.lemmas.Grind.{common_steps}
-use Rattle.std.proofs.Common.{arith, ◌≡◌, ℕ, Bool, true, false, if◌then◌else◌, List, [], ◌∷◌, ◌++◌, refl, sym, subst}
+use Rattle.std.proofs.{lemmas.Grind.common_steps, Common.{arith, ◌≡◌, ℕ, Bool, true, false, if◌then◌else◌, List, [], ◌∷◌, ◌++◌, refl, sym, subst}}
 use Rattle.vs_flow.specs.{Flow.same_flow, declared.flow.Flow.Flow}
 use Rattle.vs_header.specs.Kind.{kind_number}
-use Rattle.laws_history.specs.{History.{Answerer, Asker, Got, History, Put, Side, gots, is_begun, of_asker, puts}, Packets.asked_kind}
-use Rattle.laws_history.specs.{Packets.{has, is_clean_rst, is_request}, declared.packet.Packet.Packet, Again.AllowsNow}
-use Rattle.vs_page.specs.declared.log.LogEntry.TheVariants.{GotPacket, PutPacket}
-use Rattle.vs_page.specs.Log.{Log, Role, and_then, flow_got, flow_put, history_of, side_of}
-use Rattle.vs_page.{specs.Fair.IsFairLog, proofs.Entries.fair_got_on, proofs.Flows.same_is, proofs.Phases.kind_stays}
-use Rattle.laws_tables.{specs.Ends.is_among, specs.Ends.replied, specs.Matches.AllOwed, specs.Matches.IsOwed, proofs.Frame.same_of}
+use Rattle.laws_history.specs.{History.{Answerer, Asker, Got, History, Put, Side, gots, is_begun, of_asker, puts}, Packets.{asked_kind, has, is_clean_rst, is_request}}
+use Rattle.laws_history.specs.{declared.packet.Packet.Packet, Again.AllowsNow}
+use Rattle.vs_page.specs.{declared.log.LogEntry.TheVariants.{GotPacket, PutPacket}, Log.{Log, Role, and_then, flow_got, flow_put, history_of, side_of}, Fair.IsFairLog}
+use Rattle.vs_page.proofs.{Entries.fair_got_on, Flows.same_is, Phases.kind_stays}
+use Rattle.laws_tables.{specs.{Ends.{is_among, replied}, Matches.{AllOwed, IsOwed}}, proofs.Frame.same_of}
 use Rattle.vs_replies.specs.declared.Reply.{Reply}
 
 -- Replies that may be put, over a log with one more packet.

@@ -1,17 +1,14 @@
 -- Nothing of a flow is under way that is kept to be used again: neither ring holds a packet of it, and the other end owes it none.
-use Rattle.std.proofs.lemmas.Grind.{common_steps}
-use Rattle.std.proofs.Common.{arith, ◌≡◌, ℕ, ◌-◌, Bool, true, false, ◌||◌, List, [], ◌∷◌, ◌++◌, refl, sym, ap, ◌∙◌, subst}
+use Rattle.std.proofs.{lemmas.Grind.common_steps, Common.{arith, ◌≡◌, ℕ, ◌-◌, Bool, true, false, ◌||◌, List, [], ◌∷◌, ◌++◌, refl, sym, ap, ◌∙◌, subst}}
 use Rattle.vs_conn.specs.End.{ConnectionEnd}
-use Rattle.vs_flow.specs.{Flow.is_assigned, Flow.same_flow, declared.flow.Flow.Flow}
-use Rattle.laws_history.specs.{Packets.{has, is_clean_rst, is_request}, declared.packet.Packet.Packet, Again.{IsClean, IsFairAll, after}}
-use Rattle.laws_history.specs.{Again.{count, present}, History.{Answerer, Asker, HasGot, History, Side, gots, peer, puts}}
-use Rattle.laws_history.proofs.{Present.is_present, Quiet.IsQuiet, Quiet.quiet}
-use Rattle.vs_page.specs.{Fair.asked_by, Log.Log, Log.Role, Log.flow_got, Log.history_of, Log.other_role, Log.side_of, Log.whole_of}
-use Rattle.vs_page.proofs.{Entries.{got_on, on_flow, present_is}, Flows.{opposite_by, other_twice, same_is}, Phases.phase_clean}
-use Rattle.laws_tables.specs.{Ends.Ends, Ends.ends_of, Ends.is_among, Ends.is_new, Ends.replied, Heard.heard_of, Matches.AllOwed}
-use Rattle.laws_tables.specs.{Matches.Matches, Quiet.IsQuietOn, Steps.HasEnd, Both.Both, Both.IsSound, Both.at}
+use Rattle.vs_flow.specs.{Flow.{is_assigned, same_flow}, declared.flow.Flow.Flow}
+use Rattle.laws_history.specs.{Packets.{has, is_clean_rst, is_request}, declared.packet.Packet.Packet, Again.{IsClean, IsFairAll, after, count, present}, History.{Answerer, Asker}}
+use Rattle.laws_history.{specs.History.{HasGot, History, Side, gots, peer, puts}, proofs.{Present.is_present, Quiet.{IsQuiet, quiet}}}
+use Rattle.vs_page.{specs.{Fair.asked_by, Log.{Log, Role, flow_got, history_of, other_role, side_of, whole_of}}, proofs.{Entries.{got_on, on_flow, present_is}, Flows.opposite_by}}
+use Rattle.vs_page.proofs.{Flows.{other_twice, same_is}, Phases.phase_clean}
+use Rattle.laws_tables.specs.{Ends.{Ends, ends_of, is_among, is_new, replied}, Heard.heard_of, Matches.{AllOwed, Matches}, Quiet.IsQuietOn, Steps.HasEnd, Both.{Both, IsSound, at}}
+use Rattle.laws_tables.proofs.{Both.tie_back, Fair.heard_puts, Keeps.no_mark, Tables.{end_begun, end_new, only_end}}
 use Rattle.vs_replies.specs.declared.Reply.{Reply}
-use Rattle.laws_tables.proofs.{Both.tie_back, Fair.heard_puts, Keeps.no_mark, Tables.end_begun, Tables.end_new, Tables.only_end}
 
 -- The answerer put the marked RST on its present connection.
 theirs : (mine other : History) → IsFairAll Asker mine → IsFairAll Answerer other → IsQuiet mine other

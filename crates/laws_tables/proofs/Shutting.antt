@@ -1,17 +1,15 @@
 -- An end that decided to send no more on a connection puts no payload there.
 use Rattle.std.proofs.Common.{◌≡◌, ℕ, ◌&&◌, ◌||◌, not, Bool, true, false, cond, List, [], ◌∷◌, ◌++◌, length, refl, sym, ap, subst, ◌∙◌, append-nil, arith}
 use Rattle.std.proofs.lemmas.Grind.{common_steps}
-use Rattle.vs_conn.specs.End.{CanSend, ConnectionEnd}
-use Rattle.vs_conn.{proofs.Frames.got_own, proofs.Frames.paid_own}
+use Rattle.vs_conn.{specs.End.{CanSend, ConnectionEnd}, proofs.Frames.{got_own, paid_own}}
 use Rattle.vs_flow.specs.{Flow.same_flow, declared.flow.Flow.Flow}
 use Rattle.laws_history.specs.{Again.present, History.{Answerer, Asker, History, Put, Side, gots, is_begun, puts}, declared.packet.Packet.Packet}
-use Rattle.vs_page.specs.{Fair.payload_of, Log.{Log, Role, flow_got, flow_put, side_of, whole_of}, declared.log.LogEntry.LogEntry}
-use Rattle.vs_page.specs.declared.log.LogEntry.TheVariants.{GotPacket, PutPacket}
+use Rattle.vs_page.specs.{Fair.payload_of, Log.{Log, Role, flow_got, flow_put, side_of, whole_of}, declared.log.LogEntry.{LogEntry, TheVariants.{GotPacket, PutPacket}}}
 use Rattle.vs_page.proofs.{Entries.present_is, Flows.same_is}
-use Rattle.laws_tables.specs.{Asked.has_one, Drains.has_passed, Drains.put_on, Ends.{ends_of, is_new}, Heard.is_empty, Matches.MatchesFlows}
-use Rattle.laws_tables.specs.Both.{Asks, Decides, Decision, Opens, Pays, Replies, Seat, Sends, Shuts, Step, Takes, after, decided, log_after}
-use Rattle.laws_tables.specs.{Later.{IsShut, StillShut, UsesOnce, may_send_more}, Steps.{HasEnd, owed_on, payload_on, reply_on, request_on}}
-use Rattle.laws_tables.proofs.{Fair.heard_none, Later.step_adds, News.{MakesOther, Stays, step_makes}, Steps.payload_flow, Tables.end_begun, Tables.end_new}
+use Rattle.laws_tables.specs.{Asked.has_one, Drains.{has_passed, put_on}, Ends.{ends_of, is_new}, Heard.is_empty, Matches.MatchesFlows, Both.{Asks, Decides, Decision, Opens, Pays}}
+use Rattle.laws_tables.specs.{Both.{Replies, Seat, Sends, Shuts, Step, Takes, after, decided, log_after}, Later.{IsShut, StillShut, UsesOnce, may_send_more}, Steps.HasEnd}
+use Rattle.laws_tables.{specs.Steps.{owed_on, payload_on, reply_on, request_on}, proofs.{Fair.heard_none, Later.step_adds, News.{MakesOther, Stays, step_makes}}}
+use Rattle.laws_tables.proofs.{Steps.payload_flow, Tables.{end_begun, end_new}}
 
 -- What an end decided it keeps, and it may send nothing.
 decided_shut : (e : ConnectionEnd) (what : Decision) → may_send_more e ≡ false → may_send_more (decided e what) ≡ false

@@ -1,10 +1,9 @@
 -- A flow table and the entries that it has: a step under a slot is one on a flow.
-use Rattle.std.proofs.Common.{◌≡◌, ◌≢◌, ℕ, zero, suc, ◌<◌, ◌==◌, Bool, true, false, not, List, [], ◌∷◌, ◌++◌, length, map, filter, find}
-use Rattle.std.proofs.Common.{slice_index_or, Contains, Some, None, refl, sym, ap, ◌∙◌, subst, arith}
-use Rattle.std.{proofs.lemmas.Grind.common_steps, specs.List.AllPairs}
+use Rattle.std.proofs.Common.{◌≡◌, ◌≢◌, ℕ, zero, suc, ◌<◌, ◌==◌, Bool, true, false, not, List, [], ◌∷◌, ◌++◌, length, map, filter, find, slice_index_or, Contains, Some, None, refl}
+use Rattle.std.{proofs.{Common.{sym, ap, ◌∙◌, subst, arith}, lemmas.Grind.common_steps}, specs.List.AllPairs}
 use Rattle.vs_conn.specs.End.{ConnectionEnd}
-use Rattle.vs_flow.specs.Table.{IsRising, IsTable, Table, entry_of, revalued, with_entry, with_value, without}
-use Rattle.vs_flow.{specs.Flow.same_flow, specs.declared.flow.Flow.Flow, specs.declared.table.Entry.Entry, proofs.Entries.same_flow_false}
+use Rattle.vs_flow.specs.{Table.{IsRising, IsTable, Table, entry_of, revalued, with_entry, with_value, without}, Flow.same_flow, declared.{flow.Flow.Flow, table.Entry.Entry}}
+use Rattle.vs_flow.proofs.Entries.{same_flow_false}
 use Rattle.laws_tables.specs.Ends.{FlowEnd, ends_of, entries_of, replaced, without_flow}
 use Rattle.vs_page.proofs.Flows.{same_self}
 

@@ -1,24 +1,18 @@
 -- Each small step keeps an end of many connections matching its log.
-use Rattle.std.proofs.Common.{◌+◌, rules, ◌≡◌, ◌≢◌, ℕ, ◌≤◌, Bool, true, false, ◌||◌, ◌⊎◌, inl, inr, Option, Some, List, [], ◌∷◌, ◌++◌, refl}
-use Rattle.std.proofs.{Common.{sym, ap, ◌∙◌, subst, arith}, lemmas.{Grind.common_steps, Bool.Decides.nat_tests}}
-use Rattle.vs_conn.specs.End.{CanSend, ConnectionEnd, owes_of, paid_of}
-use Rattle.vs_conn.specs.{Follows.Follows, Follows.owed_packet, declared.end.Owed.Owed, declared.route.Route.Route}
-use Rattle.vs_conn.proofs.{Frames.paid_kind, Steps.pay_follows}
+use Rattle.std.proofs.Common.{◌+◌, rules, ◌≡◌, ◌≢◌, ℕ, ◌≤◌, Bool, true, false, ◌||◌, ◌⊎◌, inl, inr, Option, Some, List, [], ◌∷◌, ◌++◌, refl, sym, ap, ◌∙◌, subst, arith}
+use Rattle.std.proofs.lemmas.{Grind.common_steps, Bool.Decides.nat_tests}
+use Rattle.vs_conn.{specs.{End.{CanSend, ConnectionEnd, owes_of, paid_of}, Follows.{Follows, owed_packet}, declared.{end.Owed.Owed, route.Route.Route}}, proofs.Frames.paid_kind}
+use Rattle.vs_conn.proofs.Steps.{pay_follows}
 use Rattle.vs_flow.specs.{Flow.same_flow, declared.flow.Flow.Flow}
 use Rattle.vs_header.specs.{Kind.kind_number, declared.Kind.Kind}
-use Rattle.laws_history.specs.History.{History, Put, Got, Side, Asker, puts, gots}
-use Rattle.laws_history.specs.{Packets.has, Packets.is_clean_rst, Packets.is_request, Packets.is_rst, declared.packet.Packet.Packet}
-use Rattle.vs_page.specs.Open.{cid_of, is_dropped, kind_got, kind_put, left_kind}
-use Rattle.vs_page.specs.declared.log.LogEntry.TheVariants.{PutPacket, GotPacket}
-use Rattle.vs_page.specs.Log.{Log, Role, Driver, Device, and_then, flow_put, flow_got, side_of}
-use Rattle.vs_page.proofs.Flows.{same_self}
+use Rattle.laws_history.specs.{History.{History, Put, Got, Side, Asker, puts, gots}, Packets.{has, is_clean_rst, is_request, is_rst}, declared.packet.Packet.Packet}
+use Rattle.vs_page.specs.{Open.{cid_of, is_dropped, kind_got, kind_put, left_kind}, declared.log.LogEntry.TheVariants.{PutPacket, GotPacket}, Log.{Log, Role, Driver, Device}}
+use Rattle.vs_page.{specs.Log.{and_then, flow_put, flow_got, side_of}, proofs.Flows.same_self}
 use Rattle.vs_replies.specs.declared.Reply.{Reply}
-use Rattle.laws_tables.specs.{Ends.{Ends, ends_of, flows_of, is_among, is_new, replied, replies_of}, Heard.{IsInOrder, heard_of}}
-use Rattle.laws_tables.specs.{Heard.{is_awaiting, is_fresh, own_port}, Steps.{HasEnd, IsNextFlow, is_kept, owed_on, payload_on}}
-use Rattle.laws_tables.specs.{Steps.{port_after, reply_on, request_on}, Matches.{IsAsking, IsLeftOn, MatchesFlows, MatchesOn}}
-use Rattle.laws_tables.proofs.{Entries.{among_append, among_last, among_other, replied_append, replied_of}, Frame.{IsUsed, heard_got}}
-use Rattle.laws_tables.proofs.{Frame.{heard_put, left_alone, open_got, open_put}, OnFlow.{IsOne, begins_on, end_asks, end_follows}}
-use Rattle.laws_tables.proofs.{OnFlow.{fresh_closed, owed_stale, passes_on}, Opening.kind_stays}
+use Rattle.laws_tables.specs.{Ends.{Ends, ends_of, flows_of, is_among, is_new, replied, replies_of}, Heard.{IsInOrder, heard_of, is_awaiting, is_fresh, own_port}, Steps.HasEnd}
+use Rattle.laws_tables.specs.{Steps.{IsNextFlow, is_kept, owed_on, payload_on, port_after, reply_on, request_on}, Matches.{IsAsking, IsLeftOn, MatchesFlows, MatchesOn}}
+use Rattle.laws_tables.proofs.{Entries.{among_append, among_last, among_other, replied_append, replied_of}, Frame.{IsUsed, heard_got, heard_put, left_alone, open_got, open_put}}
+use Rattle.laws_tables.proofs.{OnFlow.{IsOne, begins_on, end_asks, end_follows, fresh_closed, owed_stale, passes_on}, Opening.kind_stays}
 use Rattle.vs_conn.specs.declared.end.Owed.TheVariants as owed
 
 -- The flows of the packets that an end puts.

@@ -1,15 +1,13 @@
 -- The table of an end that matches its log.
-use Rattle.std.proofs.Common.{◌≡◌, ◌≢◌, ℕ, zero, suc, ◌<◌, length, slice_index_or, is_some, Option, Some, None, Bool, true, false, ◌&&◌}
-use Rattle.std.proofs.Common.{◌||◌, not, List, [], ◌∷◌, refl, sym, ap, ◌∙◌, subst, arith}
-use Rattle.std.{proofs.lemmas.Grind.common_steps, proofs.lemmas.List.Kept.AllPairs-cons, specs.List.AllPairs}
+use Rattle.std.proofs.Common.{◌≡◌, ◌≢◌, ℕ, zero, suc, ◌<◌, length, slice_index_or, is_some, Option, Some, None, Bool, true, false, ◌&&◌, ◌||◌, not, List, [], ◌∷◌, refl, sym, ap}
+use Rattle.std.{proofs.{Common.{◌∙◌, subst, arith}, lemmas.{Grind.common_steps, List.Kept.AllPairs-cons}}, specs.List.AllPairs}
 use Rattle.vs_conn.specs.{End.ConnectionEnd, Follows.Follows}
 use Rattle.vs_flow.specs.{Flow.same_flow, declared.flow.Flow.Flow}
 use Rattle.laws_history.specs.History.{History, Side, puts, gots}
-use Rattle.vs_page.specs.{Log.{Log, Role, Driver, side_of}, Open.{Phase, is_open, left_kind, open_kind, phase_of, phase_reset}}
-use Rattle.vs_page.{specs.declared.log.LogEntry.TheVariants.Mark, proofs.Flows.same_self}
-use Rattle.laws_tables.specs.Ends.{Ends, FlowEnd, begun_flows, ends_of, flows_of, is_among, is_new, new_flows, replied}
-use Rattle.laws_tables.specs.{Heard.heard_of, Matches.IsLeftOn, Matches.MatchesFlows, Steps.HasEnd, Steps.HasNone}
-use Rattle.laws_tables.proofs.OnFlow.{IsFirst, at_most_one, owed_stale, end_asks, end_follows}
+use Rattle.vs_page.specs.{Log.{Log, Role, Driver, side_of}, Open.{Phase, is_open, left_kind, open_kind, phase_of, phase_reset}, declared.log.LogEntry.TheVariants.Mark}
+use Rattle.vs_page.proofs.Flows.{same_self}
+use Rattle.laws_tables.specs.{Ends.{Ends, FlowEnd, begun_flows, ends_of, flows_of, is_among, is_new, new_flows, replied}, Heard.heard_of, Matches.{IsLeftOn, MatchesFlows}}
+use Rattle.laws_tables.{specs.Steps.{HasEnd, HasNone}, proofs.OnFlow.{IsFirst, at_most_one, owed_stale, end_asks, end_follows}}
 
 abbrev any_begun : List ConnectionEnd → Bool
 any_begun [] = false

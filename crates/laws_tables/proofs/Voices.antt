@@ -1,25 +1,21 @@
 -- The CIDs of the packets of a flow: the driver puts all but RSTs from one CID, so that the device drops all of them or none.
-use Rattle.std.proofs.Common.{rules, ◌≡◌, ℕ, ◌==◌, Bool, true, false, ◌&&◌, not, if◌then◌else◌, is_some, List, [], ◌∷◌, ◌++◌, Option, Some}
-use Rattle.std.proofs.{Common.{refl, sym, ap, ◌∙◌, subst, arith}, lemmas.{Grind.common_steps, Bool.Decides.nat_tests}}
-use Rattle.laws_tables.specs.Both.{Asks, Both, Decides, Happening, IsSound, MakesReset, MayHappen, MayRun, Opens, Pays, PutsEvent, Replies}
-use Rattle.laws_tables.specs.Both.{Seat, Sends, Step, Takes, TakesEvent, TakesReset, after_packet, answered, decided, happens, Forgets, run}
-use Rattle.laws_tables.specs.{Both.start, Heard.{IsInOrder, heard_of, hears, is_fresh}, Steps.{HasEnd, is_kept, left, owed_on, paid}}
-use Rattle.laws_tables.specs.{Steps.{payload_on, reply_on, request_on, with_clean, with_end}, Ends.{Ends, ends_of}, Matches.MatchesFlows}
-use Rattle.laws_tables.proofs.Entries.{added_other, replaced_other, without_other}
-use Rattle.laws_tables.proofs.Both.{next_is_fair, run_keeps, start_sound, step_keeps}
-use Rattle.laws_tables.proofs.Fair.{fair_now, fair_order, got_fair, got_goes_on, got_one, heard_less, heard_puts, own_got_fair}
-use Rattle.laws_tables.proofs.{Frame.own_or_other, Frame.same_of, Keeps.asker_peer, Keeps.kind_by, Steps.cid_heard, Tables.only_end}
-use Rattle.vs_conn.specs.End.{ConnectionEnd, is_of, is_refused, paid_of, verdict_of}
-use Rattle.vs_conn.{specs.Follows.Follows, specs.declared.end.Owed.Owed, proofs.Getting.get_taken}
+use Rattle.std.proofs.Common.{rules, ◌≡◌, ℕ, ◌==◌, Bool, true, false, ◌&&◌, not, if◌then◌else◌, is_some, List, [], ◌∷◌, ◌++◌, Option, Some, refl, sym, ap, ◌∙◌, subst, arith}
+use Rattle.std.proofs.lemmas.{Grind.common_steps, Bool.Decides.nat_tests}
+use Rattle.laws_tables.specs.Both.{Asks, Both, Decides, Happening, IsSound, MakesReset, MayHappen, MayRun, Opens, Pays, PutsEvent, Replies, Seat, Sends, Step, Takes, TakesEvent}
+use Rattle.laws_tables.specs.{Both.{TakesReset, after_packet, answered, decided, happens, Forgets, run, start}, Heard.{IsInOrder, heard_of, hears, is_fresh}, Steps.HasEnd}
+use Rattle.laws_tables.specs.{Steps.{is_kept, left, owed_on, paid, payload_on, reply_on, request_on, with_clean, with_end}, Ends.{Ends, ends_of}, Matches.MatchesFlows}
+use Rattle.laws_tables.proofs.{Entries.{added_other, replaced_other, without_other}, Both.{next_is_fair, run_keeps, start_sound, step_keeps}, Fair.{fair_now, fair_order, got_fair}}
+use Rattle.laws_tables.proofs.{Fair.{got_goes_on, got_one, heard_less, heard_puts, own_got_fair}, Frame.{own_or_other, same_of}, Keeps.{asker_peer, kind_by}, Steps.cid_heard}
+use Rattle.laws_tables.proofs.Tables.{only_end}
+use Rattle.vs_conn.{specs.{End.{ConnectionEnd, is_of, is_refused, paid_of, verdict_of}, Follows.Follows, declared.end.Owed.Owed}, proofs.Getting.get_taken}
 use Rattle.vs_flow.specs.{Flow.same_flow, declared.flow.Flow.Flow}
 use Rattle.vs_limits.specs.declared.TheConstants.{HOST_CID}
 use Rattle.vs_header.specs.{Kind.kind_number, declared.Header.Header}
-use Rattle.laws_history.specs.{Packets.{asked_kind, has, is_clean_rst, is_request, is_rst}, History.{Got, History, Put, gots, peer, puts}}
-use Rattle.laws_history.specs.{Again.present, declared.packet.Packet.Packet}
-use Rattle.vs_page.specs.Open.{Phase, cid_of, is_clean_end, is_dropped, is_left_open, left_kind, open_kind, phase_got, phase_heard}
-use Rattle.vs_page.specs.{Open.{phase_of, phase_put, phase_reset}, declared.log.LogEntry.TheVariants.{GotPacket, PutPacket}, Log.Driver}
-use Rattle.vs_page.specs.{Log.{Device, IsNextPacket, Log, Role, and_then, flow_got, flow_put, history_of, side_of, whole_of}, Fair.IsFairOn}
-use Rattle.vs_page.proofs.{Entries.got_on, Entries.on_flow, Entries.present_is, Flows.same_self}
+use Rattle.laws_history.specs.{Packets.{asked_kind, has, is_clean_rst, is_request, is_rst}, History.{Got, History, Put, gots, peer, puts}, Again.present}
+use Rattle.laws_history.specs.declared.packet.Packet.{Packet}
+use Rattle.vs_page.specs.Open.{Phase, cid_of, is_clean_end, is_dropped, is_left_open, left_kind, open_kind, phase_got, phase_heard, phase_of, phase_put, phase_reset}
+use Rattle.vs_page.specs.{declared.log.LogEntry.TheVariants.{GotPacket, PutPacket}, Log.{Driver, Device, IsNextPacket, Log, Role, and_then, flow_got, flow_put, history_of}}
+use Rattle.vs_page.{specs.{Log.{side_of, whole_of}, Fair.IsFairOn}, proofs.{Entries.{got_on, on_flow, present_is}, Flows.same_self}}
 use Rattle.vs_conn.specs.declared.end.Owed.TheVariants as owed
 
 -- The device drops a packet on a flow with this peer exactly where the guest's CID isn't this, or the peer isn't the host.

@@ -2,10 +2,9 @@
 use Rattle.std.specs.Prelude.{◌≡◌, ℕ, ◌≤◌, Bool, true, false, ◌||◌, List, [], ◌∷◌, Some}
 use Rattle.vs_conn.specs.End.{ConnectionEnd, owes_of}
 use Rattle.vs_flow.specs.declared.flow.Flow.{Flow}
-use Rattle.laws_history.specs.{Again.count, History.Asker, History.puts, Packets.is_request}
+use Rattle.laws_history.specs.{Again.count, History.{Asker, puts}, Packets.is_request}
 use Rattle.vs_page.specs.Log.{Log, Role, side_of, whole_of}
-use Rattle.laws_tables.specs.Both.{Asks, Decides, Opens, Pays, Seat, Sends, Step}
-use Rattle.laws_tables.specs.{Ends.Ends, Ends.ends_of, Ends.is_new, Heard.own_port, Steps.HasEnd}
+use Rattle.laws_tables.specs.{Both.{Asks, Decides, Opens, Pays, Seat, Sends, Step}, Ends.{Ends, ends_of, is_new}, Heard.own_port, Steps.HasEnd}
 
 -- How many REQUESTs an end put on a flow; whether one of these ends passes a test, and whether one asks and has not put its own.
 abbrev pub asks_of : Role → Flow → Log → ℕ

@@ -1,18 +1,17 @@
 -- The driver and the device, each with its connections and its log, over any order of their steps.
 use Rattle.std.specs.Prelude.{◌≡◌, ℕ, ◌≤◌, Bool, true, false, if◌then◌else◌, is_some, List, [], ◌∷◌, length, Some}
-use Rattle.vs_conn.specs.{Follows.{FitsMessage, IsTaken}, declared.end.{Owed.Owed, State.TheVariants.Live}, End.CanSend, End.ConnectionEnd}
-use Rattle.vs_conn.specs.End.{aborted, grown, owes_of, wanting_credit, with_payload_forwarded, with_payload_sent, with_shut}
+use Rattle.vs_conn.specs.{Follows.{FitsMessage, IsTaken}, declared.end.{Owed.Owed, State.TheVariants.Live}, End.{CanSend, ConnectionEnd, aborted, grown, owes_of, wanting_credit}}
+use Rattle.vs_conn.specs.End.{with_payload_forwarded, with_payload_sent, with_shut}
 use Rattle.vs_credit.specs.Credit.{unread_of}
 use Rattle.vs_flow.specs.declared.flow.Flow.{Flow}
 use Rattle.vs_header.specs.{declared.Kind.Kind, Kind.kind_named}
-use Rattle.laws_history.specs.{History.puts, Packets.is_request, Packets.is_rst, declared.packet.Packet.Packet}
+use Rattle.laws_history.specs.{History.puts, Packets.{is_request, is_rst}, declared.packet.Packet.Packet}
 use Rattle.vs_limits.specs.declared.TheConstants.{BUF_ALLOC_MAX}
-use Rattle.vs_page.specs.{Fair.IsFairLog, Open.is_dropped, Log.{Driver, Device, HasGotAll, IsNextEvent, IsNextPacket, Log, Role, flow_got}}
-use Rattle.vs_page.specs.{Log.{history_of, other_role}, declared.log.LogEntry.TheVariants.{GotEvent, GotPacket, Mark, PutEvent, PutPacket}}
+use Rattle.vs_page.specs.{Fair.IsFairLog, Open.is_dropped, Log.{Driver, Device, HasGotAll, IsNextEvent, IsNextPacket, Log, Role, flow_got, history_of, other_role}}
+use Rattle.vs_page.specs.declared.log.LogEntry.TheVariants.{GotEvent, GotPacket, Mark, PutEvent, PutPacket}
 use Rattle.vs_replies.specs.declared.Reply.{Reply}
-use Rattle.laws_tables.specs.{Ends.Ends, Ends.answer_kind, Ends.ends_of, Ends.is_new, Matches.Matches, Steps.HasEnd, Steps.IsNextFlow}
-use Rattle.laws_tables.specs.Steps.{accepted, asking, emptied, forgotten, opened, owed_on, paid, payload_on, refused, reply_on, request_on}
-use Rattle.laws_tables.specs.Steps.{reset, taken, with_end, with_replies}
+use Rattle.laws_tables.specs.{Ends.{Ends, answer_kind, ends_of, is_new}, Matches.Matches, Steps.{HasEnd, IsNextFlow, accepted, asking, emptied, forgotten, opened, owed_on, paid}}
+use Rattle.laws_tables.specs.Steps.{payload_on, refused, reply_on, request_on, reset, taken, with_end, with_replies}
 
 -- What a connection decides, or forwards to its application.
 pub data Decision : Type 0 where

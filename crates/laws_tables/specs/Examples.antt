@@ -1,15 +1,13 @@
 -- Two connections of one flow, a connection over a transport reset, and packets and logs that show why the definitions say no less.
 use Rattle.std.specs.Prelude.{ℕ, ◌+◌, true, if◌then◌else◌, List, [], ◌∷◌}
-use Rattle.vs_conn.specs.End.{ConnectionEnd, answering, asked, end_after, paid_of, with_payload_forwarded, with_shut}
-use Rattle.vs_conn.specs.Follows.{owed_packet, payload_packet}
-use Rattle.vs_flow.specs.{Flow.host_flow, Flow.same_flow, declared.flow.Flow.Flow}
+use Rattle.vs_conn.specs.{End.{ConnectionEnd, answering, asked, end_after, paid_of, with_payload_forwarded, with_shut}, Follows.{owed_packet, payload_packet}}
+use Rattle.vs_flow.specs.{Flow.{host_flow, same_flow}, declared.flow.Flow.Flow}
 use Rattle.vs_limits.specs.declared.TheConstants.{ASSIGNED_FIRST, BUF_ALLOC}
 use Rattle.vs_header.specs.declared.Kind.TheVariants.{Stream}
-use Rattle.laws_history.specs.{History.Got, History.History, History.Put, declared.packet.Packet.Packet}
-use Rattle.vs_page.specs.{Log.Log, Log.Role, Log.Driver, Log.Device, Log.and_then, Log.flow_got, Log.flow_put, Open.cid_of, Open.is_dropped}
-use Rattle.vs_page.specs.declared.log.LogEntry.TheVariants.{GotPacket, Mark, PutPacket}
-use Rattle.laws_tables.specs.{Ends.Ends, Heard.route_of, Both.{Asks, Decides, Happening, MakesReset, Opens, Pays, PutsEvent, Replies}}
-use Rattle.laws_tables.specs.{Both.{Shuts, Takes, TakesEvent, TakesReset}, Steps.{accepted, owed_on, refused, reply_on, request_on, taken}}
+use Rattle.laws_history.specs.{History.{Got, History, Put}, declared.packet.Packet.Packet}
+use Rattle.vs_page.specs.{Log.{Log, Role, Driver, Device, and_then, flow_got, flow_put}, Open.{cid_of, is_dropped}, declared.log.LogEntry.TheVariants.{GotPacket, Mark, PutPacket}}
+use Rattle.laws_tables.specs.{Ends.Ends, Heard.route_of, Both.{Asks, Decides, Happening, MakesReset, Opens, Pays, PutsEvent, Replies, Shuts, Takes, TakesEvent, TakesReset}}
+use Rattle.laws_tables.specs.Steps.{accepted, owed_on, refused, reply_on, request_on, taken}
 use Rattle.vs_conn.specs.declared.end.Owed.TheVariants as owed
 
 abbrev pub guest_cid : ℕ

@@ -2,10 +2,9 @@
 use Rattle.std.specs.Prelude.{◌≡◌, ◌≤◌, Bool, not, false, true, [], length, ◌++◌}
 use Rattle.vs_conn.specs.End.{CanSend, ConnectionEnd}
 use Rattle.vs_flow.specs.{Connection.Connection, declared.flow.Flow.Flow}
-use Rattle.laws_history.specs.{History.puts, Packets.has, Packets.is_request, Packets.shuts_send}
-use Rattle.vs_page.specs.{Fair.number_of, Fair.payload_put, Log.Log, Log.Role, Log.flow_got, Log.history_of, Log.whole_of}
-use Rattle.laws_tables.specs.{Asked.has_one, Both.{Asks, Decides, Opens, Pays, Seat, Sends, Step, Takes}, Drains.has_passed, Drains.put_on}
-use Rattle.laws_tables.specs.{Ends.ends_of, Steps.HasEnd}
+use Rattle.laws_history.specs.{History.puts, Packets.{has, is_request, shuts_send}}
+use Rattle.vs_page.specs.{Fair.{number_of, payload_put}, Log.{Log, Role, flow_got, history_of, whole_of}}
+use Rattle.laws_tables.specs.{Asked.has_one, Both.{Asks, Decides, Opens, Pays, Seat, Sends, Step, Takes}, Drains.{has_passed, put_on}, Ends.ends_of, Steps.HasEnd}
 
 abbrev pub IsLater : Log → Log → Type 0
 IsLater old new = (newer : Log) × (new ≡ newer ++ old)

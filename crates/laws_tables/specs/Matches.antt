@@ -1,15 +1,13 @@
 -- The ends that a log leaves.
 use Rattle.std.specs.Prelude.{◌≡◌, ℕ, ◌≤◌, Bool, true, false, Option, Some, None, ◌⊎◌, List, [], ◌∷◌}
-use Rattle.vs_conn.specs.{End.ConnectionEnd, End.asked, Follows.Follows}
+use Rattle.vs_conn.specs.{End.{ConnectionEnd, asked}, Follows.Follows}
 use Rattle.vs_flow.specs.declared.flow.Flow.{Flow}
 use Rattle.vs_header.specs.Kind.{kind_number}
-use Rattle.laws_history.specs.{Packets.asked_kind, Packets.has, Packets.is_clean_rst, Again.IsClean, History.History, History.Side}
-use Rattle.laws_history.specs.History.{Asker, gots, is_begun, of_asker, puts}
+use Rattle.laws_history.specs.{Packets.{asked_kind, has, is_clean_rst}, Again.IsClean, History.{History, Side, Asker, gots, is_begun, of_asker, puts}}
 use Rattle.vs_limits.specs.declared.TheConstants.{BUF_ALLOC}
 use Rattle.vs_page.specs.{Fair.IsFairLog, Log.{Log, Role, Driver, Device, history_of, side_of}, Open.{Clean, cid_of, left_kind, phase_of}}
 use Rattle.vs_replies.specs.declared.Reply.{Reply}
-use Rattle.laws_tables.specs.{Ends.AreDistinct, Ends.Ends, Ends.ends_of, Ends.is_among, Ends.is_new, Ends.replied, Heard.IsWithinCredit}
-use Rattle.laws_tables.specs.Heard.{heard_of, is_awaiting, is_fresh, own_port}
+use Rattle.laws_tables.specs.{Ends.{AreDistinct, Ends, ends_of, is_among, is_new, replied}, Heard.{IsWithinCredit, heard_of, is_awaiting, is_fresh, own_port}}
 
 -- An end that asks for a connection, and has put nothing.
 pub record IsAsking (side : Side) (e : ConnectionEnd) : Type 0 where

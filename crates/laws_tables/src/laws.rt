@@ -1,37 +1,26 @@
 //! Laws of an end of many connections.
 
-ghost use Rattle.std.specs.Prelude.{◌≡◌, ◌≢◌, ℕ, ◌≤◌, ◌&&◌, ◌||◌, Bool, false, true, List, [], ◌∷◌, ◌++◌, length, find, AllPairs, Contains};
-ghost use Rattle.std.specs.Prelude.{Some, None};
-ghost use Rattle.vs_conn.specs.{Follows.FitsMessage, Follows.Follows, Follows.IsTaken, declared.end.Owed.Owed};
-ghost use Rattle.vs_conn.specs.{declared.end.Owed.TheVariants.Response, End.CanSend, End.ConnectionEnd, End.aborted, End.asked};
-ghost use Rattle.vs_conn.specs.End.{grown, is_of, is_refused, is_reset, owes_of, paid_of, verdict_of, wanting_credit};
-ghost use Rattle.vs_conn.specs.{End.with_payload_forwarded, End.with_payload_sent, End.with_shut, declared.end.State.TheVariants.Live};
-ghost use Rattle.vs_header.specs.{Kind.kind_number, declared.Kind.Kind, declared.Kind.TheVariants.Stream, declared.Header.Header};
+ghost use Rattle.std.specs.Prelude.{◌≡◌, ◌≢◌, ℕ, ◌≤◌, ◌&&◌, ◌||◌, Bool, false, true, List, [], ◌∷◌, ◌++◌, length, find, AllPairs, Contains, Some, None};
+ghost use Rattle.vs_conn.specs.{Follows.{FitsMessage, Follows, IsTaken}, declared.end.{Owed.{Owed, TheVariants.Response}, State.TheVariants.Live}, End.{CanSend, ConnectionEnd}};
+ghost use Rattle.vs_conn.specs.End.{aborted, asked, grown, is_of, is_refused, is_reset, owes_of, paid_of, verdict_of, wanting_credit, with_payload_forwarded, with_payload_sent};
+ghost use Rattle.vs_conn.specs.End.{with_shut};
+ghost use Rattle.vs_header.specs.{Kind.kind_number, declared.{Kind.{Kind, TheVariants.Stream}, Header.Header}};
 ghost use Rattle.vs_credit.specs.Credit.{unread_of};
-ghost use Rattle.vs_flow.specs.{Flow.same_flow, declared.flow.Flow.Flow, declared.table.Entry.Entry, Table.IsTable, Table.Table};
-ghost use Rattle.vs_flow.specs.Table.{entry_of, with_entry, with_value, without};
+ghost use Rattle.vs_flow.specs.{Flow.same_flow, declared.{flow.Flow.Flow, table.Entry.Entry}, Table.{IsTable, Table, entry_of, with_entry, with_value, without}};
 ghost use Rattle.vs_limits.specs.declared.TheConstants.{ASSIGNED_FIRST, HOST_CID, BUF_ALLOC_MAX};
-ghost use Rattle.laws_history.specs.{Again.IsClean, History.Asker, History.Got, History.Put, History.gots, History.puts};
-ghost use Rattle.laws_history.specs.{Packets.is_clean_rst, Packets.is_request, Packets.is_rst, declared.packet.Packet.Packet};
-ghost use Rattle.laws_tables.specs.{Asked.AskOnce, Asked.Does, Matches.IsAsking, Matches.Matches, Quiet.IsQuietOn, Both.Both};
-ghost use Rattle.laws_tables.specs.Both.{Happening, IsSound, MayRun, MayStep, MayStepAll, Seat, Step, after, after_all, after_packet, at};
-ghost use Rattle.laws_tables.specs.Both.{new_seat, run, start};
-ghost use Rattle.laws_tables.specs.Examples.{guest_mark, log_of_early, log_of_mark, no_ends, spoiled, after_two, asking_end, closing, guest_cid};
-ghost use Rattle.laws_tables.specs.Examples.{guest_flow, heard_on, host_end, assigned_flow, kept_falsely, live_end, log_of_false_mark};
-ghost use Rattle.laws_tables.specs.Examples.{log_of_return, log_of_two, log_over_reset, log_with_drop, lost_response, new_cid, opening};
-ghost use Rattle.laws_tables.specs.{Examples.payload_after, Examples.resetting, Examples.unput, Ends.AreDistinct, Ends.Ends};
-ghost use Rattle.laws_tables.specs.Ends.{answer_kind, begun_flows, ends_of, entries_of, flows_of, is_among, is_new, new_flows, replied};
-ghost use Rattle.laws_tables.specs.{Ends.replaced, Ends.without_flow, Heard.AsksOnce, Heard.AsksOnceLog, Heard.IsAllHeard, Heard.IsInOrder};
-ghost use Rattle.laws_tables.specs.{Heard.{IsOrderedLog, IsWithin, heard_of, is_awaiting, is_empty}, Later.{IsShut, StillShut, UsesOnce}};
-ghost use Rattle.laws_tables.specs.Steps.{HasEnd, HasNone, IsNextFlow, accepted, asking, emptied, is_message, is_overrun, left, opened};
-ghost use Rattle.laws_tables.specs.Steps.{owed_on, paid, payload_on, refused, reply_on, request_on, reset, taken, with_connection};
-ghost use Rattle.laws_tables.specs.Steps.{with_end, with_replies};
+ghost use Rattle.laws_history.specs.{Again.IsClean, History.{Asker, Got, Put, gots, puts}, Packets.{is_clean_rst, is_request, is_rst}, declared.packet.Packet.Packet};
+ghost use Rattle.laws_tables.specs.{Asked.{AskOnce, Does}, Matches.{IsAsking, Matches}, Quiet.IsQuietOn, Both.{Both, Happening, IsSound, MayRun, MayStep, MayStepAll, Seat, Step}};
+ghost use Rattle.laws_tables.specs.{Both.{after, after_all, after_packet, at, new_seat, run, start}, Examples.{guest_mark, log_of_early, log_of_mark, no_ends, spoiled, after_two}};
+ghost use Rattle.laws_tables.specs.Examples.{asking_end, closing, guest_cid, guest_flow, heard_on, host_end, assigned_flow, kept_falsely, live_end, log_of_false_mark};
+ghost use Rattle.laws_tables.specs.Examples.{log_of_return, log_of_two, log_over_reset, log_with_drop, lost_response, new_cid, opening, payload_after, resetting, unput};
+ghost use Rattle.laws_tables.specs.Ends.{AreDistinct, Ends, answer_kind, begun_flows, ends_of, entries_of, flows_of, is_among, is_new, new_flows, replied, replaced, without_flow};
+ghost use Rattle.laws_tables.specs.{Heard.{AsksOnce, AsksOnceLog, IsAllHeard, IsInOrder, IsOrderedLog, IsWithin, heard_of, is_awaiting, is_empty}, Later.{IsShut, StillShut}};
+ghost use Rattle.laws_tables.specs.{Later.UsesOnce, Steps.{HasEnd, HasNone, IsNextFlow, accepted, asking, emptied, is_message, is_overrun, left, opened, owed_on, paid}};
+ghost use Rattle.laws_tables.specs.Steps.{payload_on, refused, reply_on, request_on, reset, taken, with_connection, with_end, with_replies};
 ghost use Rattle.vs_replies.specs.declared.Reply.{Reply};
-ghost use Rattle.vs_page.specs.{Fair.IsFairLog, Fair.IsFairOn, Frame.is_about, Log.Device, Log.Driver, Log.IsNextPacket, Log.Log, Log.Role};
-ghost use Rattle.vs_page.specs.Log.{and_then, flow_got, flow_put, history_of, side_of, whole_of};
-ghost use Rattle.vs_page.specs.declared.log.LogEntry.TheVariants.{GotEvent, GotPacket, Mark, PutEvent, PutPacket};
-ghost use Rattle.vs_page.specs.Open.{Clean, Over, cid_of, is_dropped, is_open, phase_of};
-ghost use Rattle.vs_page.specs.declared.log.LogEntry.{LogEntry};
+ghost use Rattle.vs_page.specs.{Fair.{IsFairLog, IsFairOn}, Frame.is_about, Log.{Device, Driver, IsNextPacket, Log, Role, and_then, flow_got, flow_put, history_of, side_of}};
+ghost use Rattle.vs_page.specs.{Log.whole_of, declared.log.LogEntry.{TheVariants.{GotEvent, GotPacket, Mark, PutEvent, PutPacket}, LogEntry}, Open.{Clean, Over, cid_of}};
+ghost use Rattle.vs_page.specs.Open.{is_dropped, is_open, phase_of};
 
 /// An end without connections matches the empty log. It still matches after it opens a connection whose REQUEST it puts at once, after
 /// the device has one that asks, and after a REQUEST is accepted on a flow that has no connection.

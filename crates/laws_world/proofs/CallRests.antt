@@ -1,21 +1,18 @@
 -- Whole calls leave no page staged; nor does the opening of the world.
-use Rattle.std.proofs.Common.{◌≡◌, ℕ, zero, suc, ◌+◌, ◌==◌, Bool, true, false, cond, List, [], length, Option, Some, None, Result, Ok, Err}
-use Rattle.std.proofs.Common.{refl, ap, ◌∙◌}
+use Rattle.std.proofs.Common.{◌≡◌, ℕ, zero, suc, ◌+◌, ◌==◌, Bool, true, false, cond, List, [], length, Option, Some, None, Result, Ok, Err, refl, ap, ◌∙◌}
 use Rattle.vs_contents.specs.CallTree.{Done, Ask, bind, played, while_up_to}
-use Rattle.vs_conn.specs.{End.may_send_of, End.wanting_credit, End.with_payload_sent, declared.end.Stop.Stop}
+use Rattle.vs_conn.specs.{End.{may_send_of, wanting_credit, with_payload_sent}, declared.end.Stop.Stop}
 use Rattle.vs_outside.specs.Host.{HostContents}
 use Rattle.vs_ring_list.specs.Ends.{empty_ends}
-use Rattle.vs_ring_port.specs.{DriverCalls.Publish, DriverCalls.Stage, DriverCalls.driver_answer, EndLog.EndLog, EndLog.with_pages}
-use Rattle.vs_ring_port.specs.{Lists.Rings, declared.queue.Queue.Queue}
-use Rattle.vs_driver_parts.specs.{State.DriverEntry, State.DriverState, State.entry_known_as, declared.answers.ConnectError.ConnectError}
-use Rattle.vs_driver_parts.specs.{Connections.connect_refusal, Connections.connected, Connections.with_end, declared.answers.Sent.Sent}
-use Rattle.vs_driver_parts.specs.Conversations.{DriverTree, connect_with_page, has_page, load_cid, new_state, no_credit, not_sent}
-use Rattle.vs_driver_parts.specs.Conversations.{payload_bytes, payload_of, post_all, post_events, post_one, post_packet, posts, publish_of}
-use Rattle.vs_driver_parts.specs.Conversations.{reap_all, request_bytes, send_on, send_stopped, send_with_credit, send_with_page}
+use Rattle.vs_ring_port.specs.{DriverCalls.{Publish, Stage, driver_answer}, EndLog.{EndLog, with_pages}, Lists.Rings, declared.queue.Queue.Queue}
+use Rattle.vs_driver_parts.specs.{State.{DriverEntry, DriverState, entry_known_as}, declared.answers.{ConnectError.ConnectError, Sent.Sent}, Connections.connect_refusal}
+use Rattle.vs_driver_parts.specs.{Connections.{connected, with_end}, Conversations.{DriverTree, connect_with_page, has_page, load_cid, new_state, no_credit, not_sent}}
+use Rattle.vs_driver_parts.specs.Conversations.{payload_bytes, payload_of, post_all, post_events, post_one, post_packet, posts, publish_of, reap_all, request_bytes, send_on}
+use Rattle.vs_driver_parts.specs.Conversations.{send_stopped, send_with_credit, send_with_page}
 use Rattle.vs_limits.specs.declared.TheConstants.{FIRST_PORT}
-use Rattle.laws_world.specs.{Events.is_at_rest, Events.works_on, Plays.guest_line, World.World, World.opening}
+use Rattle.laws_world.{specs.{Events.{is_at_rest, works_on}, Plays.guest_line, World.{World, opening}}, proofs.{GuestLines.{played_bind, reaps_all}, Polls.published_rests}}
+use Rattle.laws_world.proofs.Polls.{rest_works}
 use Rattle.laws_driver.specs.Carried.Calls.{GuestCall, Connect, Send}
-use Rattle.laws_world.proofs.{GuestLines.played_bind, GuestLines.reaps_all, Polls.published_rests, Polls.rest_works}
 use Rattle.vs_ring_port.specs.declared.queue.Queue.TheVariants as q
 use Rattle.vs_driver_parts.specs.declared.answers.ConnectError.TheVariants as connect_refused
 use Rattle.vs_driver_parts.specs.declared.answers.Sent.TheVariants as sent

@@ -1,27 +1,18 @@
 -- What a world that is well says of the bytes of its connections. Packets that the driver staged count as put.
-use Rattle.std.proofs.Common.{arith}
-use Rattle.std.proofs.lemmas.Option.{same_Some}
-use Rattle.laws_device.proofs.Carried.Hosts.{label_there}
-use Rattle.laws_rest.proofs.Hosts.{first_label}
-use Rattle.std.proofs.Common.{◌≡◌, ℕ, ◌≤◌, ◌++◌, ◌⊎◌, inl, inr, true, List, [], Contains, Some, sym, ap, subst, ◌∙◌}
-use Rattle.std.{proofs.lemmas.List.Elements.All-contains, specs.Option.option_map}
+use Rattle.std.proofs.{Common.{arith, ◌≡◌, ℕ, ◌≤◌, ◌++◌, ◌⊎◌, inl, inr, true, List, [], Contains, Some, sym, ap, subst, ◌∙◌}, lemmas.{Option.same_Some, List.Elements.All-contains}}
+use Rattle.std.specs.Option.{option_map}
+use Rattle.laws_device.{proofs.Carried.Hosts.{label_there, there as is_there}, specs.Carried.Streamed.{IsJoined, Seen, connection_of, count_in, gives, line_for, look, seen}}
+use Rattle.laws_rest.{proofs.Hosts.first_label, specs.Bytes.{BothEnds, CarryBytes}}
 use Rattle.vs_driver_parts.specs.State.{DriverEntry, GoneConnection}
 use Rattle.vs_device_parts.specs.State.{DeviceEntry}
-use Rattle.vs_flow.specs.{Connection.Connection, Connection.first_of, declared.flow.Flow.Flow}
-use Rattle.laws_history.specs.{History.puts, Packets.has, Packets.shuts_send}
-use Rattle.vs_outside.specs.{Host.Stream, Host.stream_at, HostBytes.host_read, HostBytes.host_wrote}
+use Rattle.vs_flow.specs.{Connection.{Connection, first_of}, declared.flow.Flow.Flow}
+use Rattle.laws_history.specs.{History.puts, Packets.{has, shuts_send}}
+use Rattle.vs_outside.specs.{Host.{Stream, stream_at}, HostBytes.{host_read, host_wrote}}
 use Rattle.vs_page.specs.{Fair.{IsPrefixOf, payload_got, payload_put}, Log.{Device, Driver, Log, Role, history_of}}
-use Rattle.laws_tables.{specs.Both.Both, specs.Both.at, specs.Later.IsLater, proofs.Later.run_later, proofs.Later.stays_shut}
-use Rattle.laws_tables.specs.Drains.{Drains, put_on, receives}
-use Rattle.laws_tables.proofs.Firsts.{once_put, put_begun}
-use Rattle.laws_device.specs.Carried.Streamed.{IsJoined, Seen, connection_of, count_in, gives, line_for, look, seen}
-use Rattle.laws_world.specs.{Sides.both_of, World.World, World.first_cid}
-use Rattle.laws_rest.specs.Bytes.{BothEnds, CarryBytes}
-use Rattle.laws_rest.proofs.BothEnds as both
-use Rattle.laws_world.proofs.Once.{both_ends}
-use Rattle.laws_world.proofs.{Journals.by_flow, Journals.received_some, Journals.sent_flow, Sound.Goes, Sound.IsWell}
+use Rattle.laws_tables.{specs.{Both.{Both, at}, Later.IsLater, Drains.{Drains, put_on, receives}}, proofs.{Later.{run_later, stays_shut}, Firsts.{once_put, put_begun}}}
+use Rattle.laws_world.{specs.{Sides.both_of, World.{World, first_cid}}, proofs.{Once.both_ends, Journals.{by_flow, received_some, sent_flow}, Sound.{Goes, IsWell}}}
 use Rattle.laws_driver.specs.Carried.{Received.{ReceivedOn, ReceivesOn}, Calls.{account_of, received_by, received_on, sent_on}}
-use Rattle.laws_device.proofs.Carried.Hosts.{there as is_there}
+use Rattle.laws_rest.proofs.BothEnds as both
 
 abbrev pub CarriesOn : Flow → World → Type 0
 CarriesOn f w = CarryBytes (first_of f) (sent_on f w.journal) (received_on f w.journal) w.host

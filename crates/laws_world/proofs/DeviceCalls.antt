@@ -2,12 +2,11 @@
 use Rattle.std.proofs.Common.{◌≡◌, ℕ, Bool, true, false, Option, Some, None, refl, subst}
 use Rattle.vs_contents.specs.CallTree.{Done, played}
 use Rattle.vs_ring_port.specs.declared.failure.Failure.{Failure}
-use Rattle.vs_device_parts.specs.{Calls.DeviceTree, Receiving.fill_rx_of, Receiving.pay_event_of, State.DeviceState, Streams.pump_of}
-use Rattle.vs_device_parts.specs.{Streams.tick_of, Transmitting.take_tx_of, declared.answers.Taken.Taken}
-use Rattle.vs_proxy_parts.specs.{State.Turning, State.start, State.with_device, Turns.device_after, Turns.took_packet}
-use Rattle.laws_world.specs.{Answers.Around, Answers.answer_around, Steps.Leads, Steps.device_calls, World.World, World.around}
-use Rattle.laws_world.proofs.{DeviceLeads.{device_bind, plays, with_proxy}, FillStage.fill_does, GuestLines.leads_none}
-use Rattle.laws_world.proofs.{PumpStage.pump_all_does, TakeStage.{counts, event_does, take_goes}, TickStage.ticks_do}
+use Rattle.vs_device_parts.specs.{Calls.DeviceTree, Receiving.{fill_rx_of, pay_event_of}, State.DeviceState, Streams.{pump_of, tick_of}, Transmitting.take_tx_of}
+use Rattle.vs_device_parts.specs.declared.answers.Taken.{Taken}
+use Rattle.vs_proxy_parts.specs.{State.{Turning, start, with_device}, Turns.{device_after, took_packet}}
+use Rattle.laws_world.{specs.{Answers.{Around, answer_around}, Steps.{Leads, device_calls}, World.{World, around}}, proofs.DeviceLeads.{device_bind, plays, with_proxy}}
+use Rattle.laws_world.proofs.{FillStage.fill_does, GuestLines.leads_none, PumpStage.pump_all_does, TakeStage.{counts, event_does, take_goes}, TickStage.ticks_do}
 
 pub ticks_lead : (now : ℕ) (w : World) → w.proxy.device.failed ≡ None → Leads w (device_calls (λ d. d) (tick_of now w.proxy.device) w)
 ticks_lead now w fine = (ticks_do now w fine).leads

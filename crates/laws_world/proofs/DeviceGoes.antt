@@ -1,12 +1,9 @@
 -- What the device's conversations come to: steps of the two ends, where the device got just what the driver put first, and headers that fit.
 use Rattle.std.proofs.Common.{ℕ, subst}
-use Rattle.vs_page.specs.{Log.Device, Log.HasGotAll, Log.flow_got, declared.log.LogEntry.TheVariants.GotPacket}
-use Rattle.laws_tables.specs.Both.{Both, IsSound, Seat}
-use Rattle.laws_tables.proofs.{Fair.got_formed, Voices.AreVoiced, Voices.voices_run}
-use Rattle.laws_device.proofs.Seats.{Carried, PutsFit}
-use Rattle.laws_device.proofs.Carried.Cids.{dropped_empty}
-use Rattle.laws_world.proofs.Runs.{and_then, device_runs, got_before, keeps_sound, log_before}
-use Rattle.laws_world.specs.{Sides.Runs, World.first_cid}
+use Rattle.vs_page.specs.{Log.{Device, HasGotAll, flow_got}, declared.log.LogEntry.TheVariants.GotPacket}
+use Rattle.laws_tables.{specs.Both.{Both, IsSound, Seat}, proofs.{Fair.got_formed, Voices.{AreVoiced, voices_run}}}
+use Rattle.laws_device.proofs.{Seats.{Carried, PutsFit}, Carried.Cids.dropped_empty}
+use Rattle.laws_world.{proofs.Runs.{and_then, device_runs, got_before, keeps_sound, log_before}, specs.{Sides.Runs, World.first_cid}}
 
 -- The CIDs of packets stay as the two ends go on.
 pub cids_kept : (first : ℕ) (b c : Both) → Runs b c → IsSound first b → AreVoiced first b → AreVoiced first c

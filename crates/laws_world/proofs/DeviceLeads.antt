@@ -1,11 +1,9 @@
 -- Steps of the device and of the proxy as lists of events: how they are put together.
 use Rattle.std.proofs.Common.{◌≡◌, ℕ, zero, suc, Bool, true, false, cond, List, [], ◌∷◌, None, is_some, refl, sym, ap, subst, ◌∙◌}
-use Rattle.vs_contents.specs.CallTree.{Done, Ask, bind, for_each, played, while_up_to}
-use Rattle.vs_contents.proofs.Leads.{AllEnds}
-use Rattle.vs_device_parts.specs.{Calls.Answer, Calls.Call, Calls.DeviceTree, State.DeviceState}
+use Rattle.vs_contents.{specs.CallTree.{Done, Ask, bind, for_each, played, while_up_to}, proofs.Leads.AllEnds}
+use Rattle.vs_device_parts.specs.{Calls.{Answer, Call, DeviceTree}, State.DeviceState}
 use Rattle.vs_proxy_parts.specs.State.{ProxyState, Turning, start, with_device}
-use Rattle.laws_world.specs.{Answers.Around, Answers.answer_around, Events.Event, Events.device_step, Events.happens, Events.has_failed}
-use Rattle.laws_world.specs.{Events.proxy_step, Events.unless_failed, Steps.Leads, World.World, World.around}
+use Rattle.laws_world.specs.{Answers.{Around, answer_around}, Events.{Event, device_step, happens, has_failed, proxy_step, unless_failed}, Steps.Leads, World.{World, around}}
 use Rattle.laws_world.proofs.GuestLines.{leads_none, leads_one, leads_then}
 
 abbrev pub plays : {A : Type 0} → DeviceTree A → World → A × Around

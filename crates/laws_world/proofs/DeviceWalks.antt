@@ -1,31 +1,24 @@
 -- The device's conversations over list rings that are tied to the driver's log, and over a host in memory: whatever such a conversation keeps,
 -- it keeps here.
-use Rattle.std.proofs.Common.{◌≡◌, ℕ, zero, suc, ◌+◌, ◌<◌, ◌≤◌, ◌^◌, Bool, true, false, cond, List, [], ◌∷◌, length, take, drop, Option}
-use Rattle.std.proofs.Common.{Some, None, refl, sym, ap, subst, ◌∙◌, arith}
+use Rattle.std.proofs.Common.{◌≡◌, ℕ, zero, suc, ◌+◌, ◌<◌, ◌≤◌, ◌^◌, Bool, true, false, cond, List, [], ◌∷◌, length, take, drop, Option, Some, None, refl, sym, ap, subst, ◌∙◌}
+use Rattle.std.proofs.Common.{arith}
 use Rattle.vs_contents.specs.CallTree.{Ask, Done, played}
 use Rattle.vs_header.specs.{Packet.header_of, declared.TheConstants.HEADER_LEN}
 use Rattle.laws_history.specs.declared.packet.Packet.{Packet}
-use Rattle.vs_outside.specs.Host.{HostContents, IsDialed, IsWritten, accept_answer, accept_failed, after_accept, after_close, after_dial}
-use Rattle.vs_outside.specs.Host.{after_label, after_read, after_shut_write, after_write, dial_answer, dial_failed, fails_now, read_answer}
-use Rattle.vs_outside.specs.{Host.{read_failed, stream_at, write_answer, write_failed}, Faults.{CountsFault, one_more}}
-use Rattle.vs_outside.specs.declared.host_net.{Dialed.Dialed, StreamRead.StreamRead, StreamWrite.StreamWrite}
-use Rattle.vs_page.specs.{Fair.IsFairLog, Held.FitsWire, Held.held_in, Held.packet_held, Log.Device, Log.IsNextPacket, Log.Log}
-use Rattle.vs_page.specs.declared.log.LogEntry.TheVariants.{GotPacket, PutPacket}
-use Rattle.vs_ring_port.specs.{Chains.{Held, bytes_in, same_chain, with_bytes, without_held, held_of}, Contents.{DeviceAnswer, DeviceCall}}
-use Rattle.vs_ring_port.specs.{Contents.{Given, PublishCid, Read, Return, RingContents, Take, Write}, DeviceCalls.{DeviceMoves, IsTakenAs}}
-use Rattle.vs_ring_port.specs.{DeviceCalls.{IsTakenWhole, IsWholePacket, device_answer}, EndLog.{EndLog, entries_returned, log_reset}}
-use Rattle.vs_ring_port.specs.{EndLog.{log_returned, log_taken, log_written, with_packet}, Lists.{Rings, after_return, after_take}}
-use Rattle.vs_ring_port.specs.Lists.{all_but_oldest, next_at, next_given, oldest, place_after, queue_of, with_queue}
-use Rattle.vs_ring_port.specs.declared.{queue.Queue.Queue, queue.Queue.TheVariants.{Event, Rx, Tx}, device_ring.Chain.Chain}
-use Rattle.vs_ring_list.{specs.Ends.Ends, specs.Ends.device_contents, specs.Sound.IsTied, proofs.Held.same_chain_is}
-use Rattle.vs_ring_list.proofs.Ties.{fair-return_event, tied-return, tied-take}
-use Rattle.vs_device_parts.specs.Calls.{Accept, Call, CloseStream, DeviceTree, Dial, HostMoves, IsFitAnswer, IsReadOf, Label, ReadStream}
-use Rattle.vs_device_parts.specs.{Calls.Ring, Calls.ShutWrite, Calls.Situation, Calls.TakesWithin, Calls.WriteStream, Playing.situation}
-use Rattle.laws_device.proofs.Keeping.{Can, Keeps, Lets}
-use Rattle.laws_device.{specs.Honest.is_held, proofs.Seats.PutsFit, proofs.Transmitting.header_is}
-use Rattle.laws_device.proofs.Carried.Short.{bytes_short, read_short, write_short}
-use Rattle.laws_world.specs.{Answers.Around, Answers.answer_around, Answers.bytes_with, Pages.PageHolds}
-use Rattle.laws_world.proofs.{Rings.AreGiven, Rings.given_left, Wire.next_fits}
+use Rattle.vs_outside.specs.Host.{HostContents, IsDialed, IsWritten, accept_answer, accept_failed, after_accept, after_close, after_dial, after_label, after_read, after_shut_write}
+use Rattle.vs_outside.specs.{Host.{after_write, dial_answer, dial_failed, fails_now, read_answer, read_failed, stream_at, write_answer, write_failed}, Faults.CountsFault}
+use Rattle.vs_outside.specs.{Faults.one_more, declared.host_net.{Dialed.Dialed, StreamRead.StreamRead, StreamWrite.StreamWrite}}
+use Rattle.vs_page.specs.{Fair.IsFairLog, Held.{FitsWire, held_in, packet_held}, Log.{Device, IsNextPacket, Log}, declared.log.LogEntry.TheVariants.{GotPacket, PutPacket}}
+use Rattle.vs_ring_port.specs.{Chains.{Held, bytes_in, same_chain, with_bytes, without_held, held_of}, Contents.{DeviceAnswer, DeviceCall, Given, PublishCid, Read, Return}}
+use Rattle.vs_ring_port.specs.{Contents.{RingContents, Take, Write}, DeviceCalls.{DeviceMoves, IsTakenAs, IsTakenWhole, IsWholePacket, device_answer}, EndLog.EndLog}
+use Rattle.vs_ring_port.specs.{EndLog.{entries_returned, log_reset, log_returned, log_taken, log_written, with_packet}, Lists.{Rings, after_return, after_take, all_but_oldest}}
+use Rattle.vs_ring_port.specs.{Lists.{next_at, next_given, oldest, place_after, queue_of, with_queue}, declared.queue.Queue.{Queue, TheVariants.{Event, Rx, Tx}}}
+use Rattle.vs_ring_port.specs.declared.device_ring.Chain.{Chain}
+use Rattle.vs_ring_list.{specs.{Ends.{Ends, device_contents}, Sound.IsTied}, proofs.{Held.same_chain_is, Ties.{fair-return_event, tied-return, tied-take}}}
+use Rattle.vs_device_parts.specs.Calls.{Accept, Call, CloseStream, DeviceTree, Dial, HostMoves, IsFitAnswer, IsReadOf, Label, ReadStream, Ring, ShutWrite, Situation, TakesWithin}
+use Rattle.vs_device_parts.specs.{Calls.WriteStream, Playing.situation}
+use Rattle.laws_device.{proofs.{Keeping.{Can, Keeps, Lets}, Seats.PutsFit, Transmitting.header_is, Carried.Short.{bytes_short, read_short, write_short}}, specs.Honest.is_held}
+use Rattle.laws_world.{specs.{Answers.{Around, answer_around, bytes_with}, Pages.PageHolds}, proofs.{Rings.{AreGiven, given_left}, Wire.next_fits}}
 use Rattle.vs_outside.specs.declared.host_net.Dialed.TheVariants as dialed
 use Rattle.vs_outside.specs.declared.host_net.StreamRead.TheVariants as read
 use Rattle.vs_outside.specs.declared.host_net.StreamWrite.TheVariants as write

@@ -5,20 +5,15 @@ use Rattle.vs_flow.specs.Connection.{Connection}
 use Rattle.vs_page.specs.Log.{Log}
 use Rattle.vs_ring_port.specs.{Contents.RingContents, DriverCalls.driver_answer, EndLog.EndLog, Lists.Rings}
 use Rattle.laws_tables.specs.{Both.Seat, Ends.Ends}
-use Rattle.vs_driver_parts.specs.{Connections.{flow_of, recv_of}, Playing.Plays, State.DriverState}
-use Rattle.vs_driver_parts.specs.State.{entry_known_as, gone_known_as}
-use Rattle.laws_driver.proofs.Putting.{connect_puts, owed_puts, reply_puts, send_puts}
-use Rattle.laws_driver.{specs.Honest.slots_of, proofs.Carrying.Carries, proofs.Carrying.Fact, proofs.Going.Goes, proofs.Walking.poll_goes}
-use Rattle.laws_driver.specs.Carried.Calls.{Connect, GuestCall, Journal, LookAt, Recv, ReplyTo, Send, account_of, flow_named}
-use Rattle.laws_driver.specs.Carried.Calls.{id_named, is_right, makes_call, with_call}
+use Rattle.vs_driver_parts.specs.{Connections.{flow_of, recv_of}, Playing.Plays, State.{DriverState, entry_known_as, gone_known_as}}
+use Rattle.laws_driver.proofs.{Putting.{connect_puts, owed_puts, reply_puts, send_puts}, Carrying.{Carries, Fact}, Going.Goes, Walking.poll_goes, Carried.Making.CarriesCall}
+use Rattle.laws_driver.proofs.Carried.{Making.{account_after, at_first, call_goes, call_received, call_sent, further_as, further_journal, port_fits, sent_with}, Senders.sent_more}
+use Rattle.laws_driver.{proofs.Carried.{Senders.{step_says, still_sent}, Polling.{IsFurther, poll_carries}, Sending.{poll_puts, puts_as}}, specs.Honest.slots_of}
+use Rattle.laws_driver.specs.Carried.Calls.{Connect, GuestCall, Journal, LookAt, Recv, ReplyTo, Send, account_of, flow_named, id_named, is_right, makes_call, with_call}
 use Rattle.laws_driver.specs.Carried.{Received.Account, Senders.IsRightJournal, Sent.took}
-use Rattle.laws_driver.proofs.Carried.Making.{CarriesCall, account_after, at_first, call_goes, call_received, call_sent, further_as}
-use Rattle.laws_driver.proofs.Carried.{Making.further_journal, Making.port_fits, Making.sent_with, Senders.{sent_more, step_says, still_sent}}
-use Rattle.laws_driver.proofs.Carried.{Polling.IsFurther, Polling.poll_carries, Sending.poll_puts, Sending.puts_as}
 use Rattle.laws_device.proofs.Seats.{PutsFit}
-use Rattle.laws_world.proofs.Names.{Names, NamesFrom, NamesMay, StaysNamed, WaitsApart, call_named, flows, named_from, names_kept}
-use Rattle.laws_world.proofs.{Journals.{Agrees, AllAgree, MovesNone, agree_on}, Keeping.Sees, Keeping.call_kept, Keeping.poll_kept}
-use Rattle.laws_world.proofs.Names.{names_may, step_named}
+use Rattle.laws_world.proofs.{Names.{Names, NamesFrom, NamesMay, StaysNamed, WaitsApart, call_named, flows, named_from, names_kept, names_may, step_named}, Journals.Agrees}
+use Rattle.laws_world.proofs.{Journals.{AllAgree, MovesNone, agree_on}, Keeping.{Sees, call_kept, poll_kept}}
 
 module _ (first : ℕ) (old : Seat) where
   abbrev pub Walks : Account → Fact → Fact → Fact

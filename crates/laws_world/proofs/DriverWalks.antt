@@ -1,20 +1,16 @@
 -- The driver's conversations over list rings that are tied to the device's log: each is one that any ring may have.
-use Rattle.std.proofs.Common.{◌≡◌, ℕ, ◌<◌, ◌^◌, List, [], ◌∷◌, ◌++◌, length, Option, Some, None, refl, sym, ap, subst, ◌∙◌, arith, true}
-use Rattle.std.{proofs.Common.Bool, proofs.Common.false, specs.Prelude.IsSomeAnd}
+use Rattle.std.{proofs.Common.{◌≡◌, ℕ, ◌<◌, ◌^◌, List, [], ◌∷◌, ◌++◌, length, Option, Some, None, refl, sym, ap, subst, ◌∙◌, arith, true, Bool, false}, specs.Prelude.IsSomeAnd}
 use Rattle.vs_contents.specs.CallTree.{Ask, Done, played}
-use Rattle.laws_history.specs.History.{History, Put, Side}
-use Rattle.laws_history.specs.{Packets.IsFormed, Packets.is_request, Packets.packet_bytes, declared.packet.Packet.Packet, Again.AllowsNow}
-use Rattle.vs_page.specs.{Fair.IsFairLog, Held.held_in, Held.packet_held, Log.Driver, Log.Log, Log.flow_put, Log.history_of}
-use Rattle.vs_page.{specs.Log.side_of, specs.declared.log.LogEntry.TheVariants.{GotPacket, PutPacket}, proofs.Entries.one_put}
-use Rattle.vs_ring_port.specs.EndLog.{EndLog, all_put, entries_reaped, log_loaded, log_published, log_reaped, log_staged, pages_at}
-use Rattle.vs_ring_port.specs.DriverCalls.{DriverAnswer, DriverCall, DriverMoves, HoldsPacket, LoadCid, MayPublish, Publish, Reap, Stage}
-use Rattle.vs_ring_port.specs.{Contents.RingContents, DriverCalls.driver_answer, EndLog.with_packet, Lists.{Rings, after_publish}}
-use Rattle.vs_ring_port.specs.Lists.{after_reap, next_back}
-use Rattle.vs_ring_port.specs.declared.queue.Queue.{Queue, TheVariants.{Event, Rx, Tx}}
-use Rattle.vs_ring_list.{specs.Ends.driver_contents, specs.Sound.IsTied, proofs.Ties.{tied-load, tied-publish, tied-reap}}
+use Rattle.laws_history.specs.{History.{History, Put, Side}, Packets.{IsFormed, is_request, packet_bytes}, declared.packet.Packet.Packet, Again.AllowsNow}
+use Rattle.vs_page.specs.{Fair.IsFairLog, Held.{held_in, packet_held}, Log.{Driver, Log, flow_put, history_of, side_of}, declared.log.LogEntry.TheVariants.{GotPacket, PutPacket}}
+use Rattle.vs_page.proofs.Entries.{one_put}
+use Rattle.vs_ring_port.specs.{EndLog.{EndLog, all_put, entries_reaped, log_loaded, log_published, log_reaped, log_staged, pages_at, with_packet}, DriverCalls.DriverAnswer}
+use Rattle.vs_ring_port.specs.{DriverCalls.{DriverCall, DriverMoves, HoldsPacket, LoadCid, MayPublish, Publish, Reap, Stage, driver_answer}, Contents.RingContents, Lists.Rings}
+use Rattle.vs_ring_port.specs.{Lists.{after_publish, after_reap, next_back}, declared.queue.Queue.{Queue, TheVariants.{Event, Rx, Tx}}}
+use Rattle.vs_ring_list.{specs.{Ends.driver_contents, Sound.IsTied}, proofs.Ties.{tied-load, tied-publish, tied-reap}}
 use Rattle.vs_driver_parts.specs.{Conversations.DriverTree, Playing.{BringsFit, CanMake, FitsPorts, IsFitPage, Plays, RingAllows}}
 use Rattle.laws_driver.proofs.Keeping.{Keeps}
-use Rattle.laws_world.{specs.Pages.AllHold, specs.Pages.AllPacked, specs.Pages.PageHolds, specs.Pages.TxHolds, proofs.Wire.next_fits}
+use Rattle.laws_world.{specs.Pages.{AllHold, AllPacked, PageHolds, TxHolds}, proofs.Wire.next_fits}
 use Rattle.laws_device.proofs.Seats.{PutsFit}
 
 -- Pages that hold packets, put in a fair log, hold them with as many bytes as their headers tell.

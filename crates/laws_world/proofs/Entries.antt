@@ -1,10 +1,8 @@
 -- The flows of a table that lead to the host.
-use Rattle.std.proofs.Common.{◌≡◌, Bool, true, false, cond, List, [], ◌∷◌, map, refl, ap, suc, ◌∙◌, arith}
-use Rattle.std.specs.List.{All}
+use Rattle.std.{proofs.Common.{◌≡◌, Bool, true, false, cond, List, [], ◌∷◌, map, refl, ap, suc, ◌∙◌, arith}, specs.List.All}
 use Rattle.vs_conn.specs.End.{ConnectionEnd}
-use Rattle.vs_flow.specs.{declared.flow.Flow.Flow, declared.table.Entry.Entry, Table.Table, Flow.same_flow}
+use Rattle.vs_flow.{specs.{declared.{flow.Flow.Flow, table.Entry.Entry}, Table.Table, Flow.same_flow}, proofs.Entries.same_flow_true}
 use Rattle.vs_limits.specs.declared.TheConstants.{HOST_CID}
-use Rattle.vs_flow.proofs.Entries.{same_flow_true}
 use Rattle.laws_tables.specs.Ends.{ends_of, entries_of}
 
 module _ {T : Type 0} (end_of : T → ConnectionEnd) where

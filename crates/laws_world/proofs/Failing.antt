@@ -1,23 +1,18 @@
 -- Over list rings and a host in memory each call that failed is one that was to fail: a fault counted is one fewer to come.
-use Rattle.std.proofs.Common.{◌≡◌, ℕ, ◌+◌, ◌-◌, ◌≤◌, ◌==◌, ◌||◌, min, nat_lt, Bool, true, false, cond, List, [], ◌∷◌, length, map, filter}
-use Rattle.std.proofs.Common.{Option, Some, None, Result, refl, sym, subst, arith}
-use Rattle.std.{proofs.lemmas.Bool.Decides.nat_tests, specs.Option.option_map_or}
-use Rattle.vs_outside.specs.Host.{HostContents, Stream, accept_answer, after_accept, after_dial, after_failed, after_read, after_write}
-use Rattle.vs_outside.specs.Host.{accept_failed, called, dial_failed, read_failed, write_failed}
-use Rattle.vs_outside.specs.Host.{dial_answer, fails_now, is_listened, oldest_client, read_answer, read_of, stream_at, taken_of}
-use Rattle.vs_outside.specs.{Host.{write_answer, write_of}, Faults.{counted_down, fails_next}, declared.host_net.Accepted.Accepted}
-use Rattle.vs_outside.specs.declared.host_net.{Dialed.Dialed, StreamRead.StreamRead, StreamWrite.StreamWrite}
+use Rattle.std.proofs.Common.{◌≡◌, ℕ, ◌+◌, ◌-◌, ◌≤◌, ◌==◌, ◌||◌, min, nat_lt, Bool, true, false, cond, List, [], ◌∷◌, length, map, filter, Option, Some, None, Result, refl, sym}
+use Rattle.std.{proofs.{Common.{subst, arith}, lemmas.Bool.Decides.nat_tests}, specs.Option.option_map_or}
+use Rattle.vs_outside.specs.Host.{HostContents, Stream, accept_answer, after_accept, after_dial, after_failed, after_read, after_write, accept_failed, called, dial_failed}
+use Rattle.vs_outside.specs.Host.{read_failed, write_failed, dial_answer, fails_now, is_listened, oldest_client, read_answer, read_of, stream_at, taken_of, write_answer, write_of}
+use Rattle.vs_outside.specs.{Faults.{counted_down, fails_next}, declared.host_net.{Accepted.Accepted, Dialed.Dialed, StreamRead.StreamRead, StreamWrite.StreamWrite}}
 use Rattle.vs_header.specs.declared.Header.{Header}
-use Rattle.vs_ring_port.specs.declared.device_ring.{Chain.Chain, Next.Next}
+use Rattle.vs_ring_port.specs.{declared.{device_ring.{Chain.Chain, Next.Next}, queue.Queue.TheVariants.{Event, Rx}, failure.Failure.Failure}, Contents.Take}
 use Rattle.vs_flow.specs.declared.flow.Flow.{Flow}
 use Rattle.vs_wrap.specs.Wrap.{counted}
-use Rattle.vs_ring_port.specs.{Contents.Take, declared.queue.Queue.TheVariants.{Event, Rx}}
-use Rattle.vs_device_parts.specs.{Calls.DeviceTree, Calls.Ring, Receiving.written}
+use Rattle.vs_device_parts.specs.{Calls.{DeviceTree, Ring}, Receiving.written}
 use Rattle.vs_contents.specs.CallTree.{Ask, Done, played}
-use Rattle.vs_ring_port.specs.declared.failure.Failure.{Failure}
-use Rattle.vs_proxy_parts.specs.{State.ProxyState, Turns.proxy_reset_of, Turns.turn_of, declared.answers.Turn.Turn}
-use Rattle.laws_device.proofs.Walk.{Fields.{AfterEventPage, AfterTx, Calls, Fields, TxCalls, after_rx, faulted, fields_turn}, Keeping.Asking, Keeping.Keeps, Single.reset_keeps}
-use Rattle.laws_world.specs.{Answers.Around, Answers.answer_around, Plays.reset_line, Plays.turn_line, World.World, World.around}
+use Rattle.vs_proxy_parts.specs.{State.ProxyState, Turns.{proxy_reset_of, turn_of}, declared.answers.Turn.Turn}
+use Rattle.laws_device.proofs.Walk.{Fields.{AfterEventPage, AfterTx, Calls, Fields, TxCalls, after_rx, faulted, fields_turn}, Keeping.{Asking, Keeps}, Single.reset_keeps}
+use Rattle.laws_world.specs.{Answers.{Around, answer_around}, Plays.{reset_line, turn_line}, World.{World, around}}
 use Rattle.vs_outside.specs.declared.host_net.Accepted.TheVariants as accepted
 use Rattle.vs_outside.specs.declared.host_net.Dialed.TheVariants as dialed
 use Rattle.vs_outside.specs.declared.host_net.StreamRead.TheVariants as read

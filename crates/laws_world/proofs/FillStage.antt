@@ -1,30 +1,25 @@
 -- The packets and the event that the device puts in a turn are a list of events.
-use Rattle.std.proofs.Common.{◌≡◌, ℕ, ◌+◌, ◌==◌, not, Bool, true, false, cond, List, [], ◌∷◌, length, Option, Some, None, Result, Ok, Err}
-use Rattle.std.proofs.Common.{refl, sym, subst}
+use Rattle.std.proofs.Common.{◌≡◌, ℕ, ◌+◌, ◌==◌, not, Bool, true, false, cond, List, [], ◌∷◌, length, Option, Some, None, Result, Ok, Err, refl, sym, subst}
 use Rattle.vs_contents.specs.CallTree.{Done, Ask, bind, for_each, played, while_up_to}
-use Rattle.vs_conn.specs.{End.owes_of, End.wanting_credit, Headers.owed_header, declared.end.Owed.Owed}
-use Rattle.vs_conn.specs.declared.end.Owed.TheVariants as owed
+use Rattle.vs_conn.specs.{End.{owes_of, wanting_credit}, Headers.owed_header, declared.end.Owed.Owed}
 use Rattle.vs_credit.specs.Credit.{free_of}
 use Rattle.vs_flow.specs.Table.{entry_under, slots}
 use Rattle.vs_header.specs.declared.Header.{Header}
 use Rattle.vs_outside.specs.{Host.read_answer, declared.host_net.StreamRead.StreamRead}
-use Rattle.vs_outside.specs.declared.host_net.StreamRead.TheVariants as read
 use Rattle.vs_replies.specs.declared.Reply.{Reply}
-use Rattle.vs_ring_port.specs.{Contents.Take, Lists.chain_with, declared.device_ring.Chain.Chain, declared.failure.Failure.Failure}
-use Rattle.vs_ring_port.specs.declared.queue.Queue.TheVariants.{Rx}
-use Rattle.vs_device_parts.specs.{Calls.CloseStream, Calls.DeviceTree, Calls.ReadStream, Calls.Ring, Connections.after_leaving}
-use Rattle.vs_device_parts.specs.Connections.{cut_off, route_to_guest, stream_closed, with_connection, with_fault}
-use Rattle.vs_device_parts.specs.Receiving.{Filling, after_paying, fill_rx_of, filled_of, hold, may_read, put_on, put_owed, put_packet}
-use Rattle.vs_device_parts.specs.Receiving.{put_reply, read_answered, read_room, read_stream, read_with_chain, reply_header, round_from}
-use Rattle.vs_device_parts.specs.{Receiving.serve_slot, State.DeviceEntry, State.DeviceState, Steps.filling, Steps.puts_owed}
-use Rattle.vs_device_parts.specs.{Steps.puts_payload, Steps.puts_reply, Steps.reads, Steps.takes_chain, declared.answers.Filled.Filled}
-use Rattle.vs_proxy_parts.specs.{State.ProxyState, State.with_device, Turns.device_after, Turns.fill_stage, Turns.filled}
-use Rattle.laws_world.specs.{Answers.Around, Answers.answer_around, Answers.bytes_with, Events.DevicePays, Events.DeviceReads}
-use Rattle.laws_world.specs.{Events.DeviceReplies, Events.DeviceTakes, Steps.Leads, World.World, World.around}
-use Rattle.laws_world.proofs.DeviceLeads as leads
-use Rattle.laws_world.proofs.DeviceLeads.{Does, EndsFine, device_bind, device_event, does_nothing, does_then, fine_played, plays}
-use Rattle.laws_world.proofs.{DeviceLeads.with_proxy, GuestLines.leads_then, TickStage.TurnDoes, TickStage.turning_at}
+use Rattle.vs_ring_port.specs.{Contents.Take, Lists.chain_with, declared.{device_ring.Chain.Chain, failure.Failure.Failure, queue.Queue.TheVariants.Rx}}
+use Rattle.vs_device_parts.specs.{Calls.{CloseStream, DeviceTree, ReadStream, Ring}, Connections.{after_leaving, cut_off, route_to_guest, stream_closed, with_connection}}
+use Rattle.vs_device_parts.specs.{Connections.with_fault, Receiving.{Filling, after_paying, fill_rx_of, filled_of, hold, may_read, put_on, put_owed, put_packet, put_reply}}
+use Rattle.vs_device_parts.specs.{Receiving.{read_answered, read_room, read_stream, read_with_chain, reply_header, round_from, serve_slot}, State.{DeviceEntry, DeviceState}}
+use Rattle.vs_device_parts.specs.{Steps.{filling, puts_owed, puts_payload, puts_reply, reads, takes_chain}, declared.answers.Filled.Filled}
+use Rattle.vs_proxy_parts.specs.{State.{ProxyState, with_device}, Turns.{device_after, fill_stage, filled}}
+use Rattle.laws_world.specs.{Answers.{Around, answer_around, bytes_with}, Events.{DevicePays, DeviceReads, DeviceReplies, DeviceTakes}, Steps.Leads, World.{World, around}}
+use Rattle.laws_world.proofs.{DeviceLeads.{Does, EndsFine, device_bind, device_event, does_nothing, does_then, fine_played, plays, with_proxy}, GuestLines.leads_then}
+use Rattle.laws_world.proofs.TickStage.{TurnDoes, turning_at}
 use Rattle.vs_limits.specs.declared.TheConstants.{OWED_MAX}
+use Rattle.vs_conn.specs.declared.end.Owed.TheVariants as owed
+use Rattle.vs_outside.specs.declared.host_net.StreamRead.TheVariants as read
+use Rattle.laws_world.proofs.DeviceLeads as leads
 
 abbrev filling_at : World → Filling → Filling
 filling_at w x = record x { state = w.proxy.device }

@@ -1,19 +1,16 @@
 -- Each call of the guest's, whole, is a list of events.
-use Rattle.std.proofs.Common.{◌≡◌, ℕ, zero, suc, ◌==◌, ◌&&◌, Bool, true, false, cond, List, [], ◌∷◌, ◌++◌, length, Option, Some, None, refl}
-use Rattle.std.proofs.Common.{sym, ap, subst, ◌∙◌, Result, Ok, Err}
+use Rattle.std.proofs.Common.{◌≡◌, ℕ, zero, suc, ◌==◌, ◌&&◌, Bool, true, false, cond, List, [], ◌∷◌, ◌++◌, length, Option, Some, None, refl, sym, ap, subst, ◌∙◌, Result, Ok, Err}
 use Rattle.vs_contents.specs.CallTree.{Done, Ask, bind, played, while_up_to}
-use Rattle.vs_ring_port.specs.{DriverCalls.driver_answer, DriverCalls.Reap, EndLog.EndLog, EndLog.Pages, Lists.Rings, Lists.oldest}
-use Rattle.vs_driver_parts.specs.Conversations.{DriverTree, reap_all, reap_one, reaped, connect_with_page, no_credit, not_sent, payload_of}
-use Rattle.vs_driver_parts.specs.Conversations.{send_on, send_stopped, send_with_credit, send_with_page}
-use Rattle.vs_driver_parts.specs.Steps.{connects, sends, sends_on, sends_with_credit, takes_page}
-use Rattle.vs_driver_parts.specs.{State.DriverState, State.DriverEntry, State.entry_known_as, Connections.connect_refusal}
-use Rattle.vs_driver_parts.specs.{Connections.with_end, declared.answers.ConnectError.ConnectError, declared.answers.Sent.Sent}
-use Rattle.vs_conn.specs.{End.may_send_of, End.wanting_credit, declared.end.Stop.Stop}
+use Rattle.vs_ring_port.specs.{DriverCalls.{driver_answer, Reap}, EndLog.{EndLog, Pages}, Lists.{Rings, oldest}}
+use Rattle.vs_driver_parts.specs.Conversations.{DriverTree, reap_all, reap_one, reaped, connect_with_page, no_credit, not_sent, payload_of, send_on, send_stopped, send_with_credit}
+use Rattle.vs_driver_parts.specs.{Conversations.send_with_page, Steps.{connects, sends, sends_on, sends_with_credit, takes_page}, State.{DriverState, DriverEntry, entry_known_as}}
+use Rattle.vs_driver_parts.specs.{Connections.{connect_refusal, with_end}, declared.answers.{ConnectError.ConnectError, Sent.Sent}}
+use Rattle.vs_conn.specs.{End.{may_send_of, wanting_credit}, declared.end.Stop.Stop}
 use Rattle.vs_flow.specs.declared.flow.Flow.{Flow}
-use Rattle.laws_driver.specs.Carried.Calls.{GuestCall, ReplyTo, Connect, Listen, Unlisten, Accept, Send, Recv, Shutdown, Grow, Close, LookAt}
-use Rattle.laws_driver.specs.Carried.Calls.{is_right, flow_named, id_named, makes_call, with_call}
-use Rattle.laws_world.specs.Events.{call_made, Event, GuestCalls, GuestTakes, driver_step, happens, is_at_rest, none_staged, run}
-use Rattle.laws_world.specs.{Plays.guest_line, Events.where_possible, Events.works_on, Steps.Leads, World.World}
+use Rattle.laws_driver.specs.Carried.Calls.{GuestCall, ReplyTo, Connect, Listen, Unlisten, Accept, Send, Recv, Shutdown, Grow, Close, LookAt, is_right, flow_named, id_named}
+use Rattle.laws_driver.specs.Carried.Calls.{makes_call, with_call}
+use Rattle.laws_world.specs.{Events.{call_made, Event, GuestCalls, GuestTakes, driver_step, happens, is_at_rest, none_staged, run, where_possible, works_on}, Plays.guest_line}
+use Rattle.laws_world.specs.{Steps.Leads, World.World}
 use Rattle.vs_ring_port.specs.declared.queue.Queue.TheVariants as q
 use Rattle.vs_driver_parts.specs.declared.answers.Sent.TheVariants as sent
 

@@ -1,9 +1,8 @@
 -- Each chain that a conversation returns is held.
-use Rattle.std.proofs.Common.{◌≡◌, suc, ◌<◌, ◌≤◌, Bool, true, false, cond, List, [], ◌∷◌, length, Option, Some, None, Contains, refl, sym}
-use Rattle.std.proofs.Common.{arith}
+use Rattle.std.proofs.Common.{◌≡◌, suc, ◌<◌, ◌≤◌, Bool, true, false, cond, List, [], ◌∷◌, length, Option, Some, None, Contains, refl, sym, arith}
 use Rattle.vs_contents.specs.CallTree.{Done, Ask, bind, MayPlay}
-use Rattle.vs_ring_port.specs.Contents.{RingContents, DeviceCall, Take, Read, Write, Return, Given, PublishCid}
-use Rattle.vs_ring_port.specs.{Chains.Held, Chains.bytes_in, Chains.chains_of, Chains.same_chain, declared.device_ring.Chain.Chain}
+use Rattle.vs_ring_port.specs.{Contents.{RingContents, DeviceCall, Take, Read, Write, Return, Given, PublishCid}, Chains.{Held, bytes_in, chains_of, same_chain}}
+use Rattle.vs_ring_port.specs.declared.device_ring.Chain.{Chain}
 use Rattle.vs_ring_list.proofs.Held.{same_chain_is}
 use Rattle.vs_device_parts.specs.{Calls.{Call, Answer, Ring, Situation, DeviceTree, Allows}, Playing.{CanMake, MayRun}}
 use Rattle.laws_device.proofs.Keeping.{Can, HoldsChain, Keeps, lets}

@@ -1,9 +1,7 @@
 -- Who waits on the ports that are listened on, through each change of the driver's lists.
-use Rattle.std.proofs.Common.{◌≡◌, ◌≢◌, ℕ, ◌<◌, ◌==◌, Bool, true, false, not, cond, List, [], ◌∷◌, ◌++◌, filter, find, Option, Some, None}
-use Rattle.std.proofs.Common.{refl, sym, ap, subst, ◌∙◌, arith}
+use Rattle.std.proofs.Common.{◌≡◌, ◌≢◌, ℕ, ◌<◌, ◌==◌, Bool, true, false, not, cond, List, [], ◌∷◌, ◌++◌, filter, find, Option, Some, None, refl, sym, ap, subst, ◌∙◌, arith}
 use Rattle.std.{proofs.lemmas.Bool.Decides.nat_tests, specs.Option.option_map_or}
-use Rattle.vs_driver_parts.specs.Listening.{listener_on, with_port, with_waiting, without_id}
-use Rattle.vs_driver_parts.specs.{State.DriverState, State.Listener, Connections.without_listener, Connections.waiting_on}
+use Rattle.vs_driver_parts.specs.{Listening.{listener_on, with_port, with_waiting, without_id}, State.{DriverState, Listener}, Connections.{without_listener, waiting_on}}
 
 -- This holds of each id of a list; and, with the port, of each that waits on one.
 abbrev pub AllIds : (ℕ → Type 0) → List ℕ → Type 0

@@ -1,31 +1,23 @@
 -- What is known of an id, and who waits on ports, through each change of the driver.
-use Rattle.std.proofs.Common.{◌≡◌, ◌≢◌, ℕ, suc, ◌+◌, ◌-◌, ◌<◌, ◌≤◌, ◌==◌, ◌&&◌, ◌||◌, ◌⊎◌, inl, inr, Bool, true, false, not, cond, List, []}
-use Rattle.std.proofs.Common.{◌∷◌, ◌++◌, find, drop, is_some, Contains, get_or, Option, Some, None, refl, sym, ap, subst, ◌∙◌, arith}
-use Rattle.std.proofs.lemmas.List.Elements.{All-contains, All-filter, All-map, All-push, filter_passes}
-use Rattle.std.proofs.lemmas.{Bool.Decides.nat_tests, List.Folds.find-append, Option.get_or_from_slice_get, Option.slice_get_within}
-use Rattle.std.specs.{List.All, Option.option_map, Option.option_or}
-use Rattle.vs_flow.specs.Table.{IsTable, Table, entry_under, next_entry, revalued, without}
-use Rattle.vs_flow.specs.{declared.flow.Flow.Flow, Connection.Connection}
-use Rattle.vs_flow.proofs.Entries.{find_none, found_passes, none_found}
-use Rattle.vs_flow.proofs.Lookups.{entry_under-with_entry, entry_under-with_value, entry_under-without, find_place}
-use Rattle.vs_driver_parts.specs.State.{DriverConnection, DriverEntry, DriverState, GoneConnection, Listener, entry_known_as, gone_known_as}
-use Rattle.vs_driver_parts.specs.{State.is_known_as, Connections.{after_close, after_closing, all_gone_after_read, close_of, entry_closed}}
-use Rattle.vs_driver_parts.specs.Connections.{flow_of, gone_as, gone_closed, is_known, is_let_go, waiting_on, with_connection, with_opened}
-use Rattle.vs_driver_parts.specs.{Connections.without_gone, Listening.{is_answered, with_waiting, without_id}, SlotFields.AreNumbered}
-use Rattle.vs_driver_parts.proofs.Ids.{HasId, entry_has, found_under, has_slot}
-use Rattle.vs_driver_parts.proofs.{Known.flow_gone, Known.flow_known, SameIds.closing_closed, SameIds.closing_id}
-use Rattle.laws_driver.{specs.Honest.slots_of, proofs.Carrying.Fact}
-use Rattle.laws_driver.specs.Carried.Received.{Account, AreReceived, ReceivedOn, ReceivesOn}
-use Rattle.laws_driver.specs.Carried.Calls.{Close, GuestCall, Journal, LookAt, ReplyTo, with_call}
+use Rattle.std.proofs.Common.{◌≡◌, ◌≢◌, ℕ, suc, ◌+◌, ◌-◌, ◌<◌, ◌≤◌, ◌==◌, ◌&&◌, ◌||◌, ◌⊎◌, inl, inr, Bool, true, false, not, cond, List, [], ◌∷◌, ◌++◌, find, drop, is_some}
+use Rattle.std.proofs.{Common.{Contains, get_or, Option, Some, None, refl, sym, ap, subst, ◌∙◌, arith}, lemmas.List.Elements.{All-contains, All-filter, All-map, All-push}}
+use Rattle.std.{proofs.lemmas.{List.{Elements.filter_passes, Folds.find-append}, Bool.Decides.nat_tests, Option.{get_or_from_slice_get, slice_get_within}}, specs.List.All}
+use Rattle.std.specs.Option.{option_map, option_or}
+use Rattle.vs_flow.{specs.{Table.{IsTable, Table, entry_under, next_entry, revalued, without}, declared.flow.Flow.Flow, Connection.Connection}, proofs.Entries.find_none}
+use Rattle.vs_flow.proofs.{Entries.{found_passes, none_found}, Lookups.{entry_under-with_entry, entry_under-with_value, entry_under-without, find_place}}
+use Rattle.vs_driver_parts.specs.{State.{DriverConnection, DriverEntry, DriverState, GoneConnection, Listener, entry_known_as, gone_known_as, is_known_as}, Connections.after_close}
+use Rattle.vs_driver_parts.specs.Connections.{after_closing, all_gone_after_read, close_of, entry_closed, flow_of, gone_as, gone_closed, is_known, is_let_go, waiting_on}
+use Rattle.vs_driver_parts.specs.{Connections.{with_connection, with_opened, without_gone}, Listening.{is_answered, with_waiting, without_id}, SlotFields.AreNumbered}
+use Rattle.vs_driver_parts.proofs.{Ids.{HasId, entry_has, found_under, has_slot}, Known.{flow_gone, flow_known}, SameIds.{closing_closed, closing_id}}
+use Rattle.laws_driver.specs.{Honest.slots_of, Carried.{Received.{Account, AreReceived, ReceivedOn, ReceivesOn}, Calls.{Close, GuestCall, Journal, LookAt, ReplyTo, with_call}}}
+use Rattle.laws_driver.proofs.Carrying.{Fact}
 use Rattle.vs_conn.specs.End.{ConnectionEnd, answering}
 use Rattle.vs_header.specs.declared.Kind.TheVariants.{Stream}
 use Rattle.vs_limits.specs.declared.TheConstants.{BUF_ALLOC}
 use Rattle.laws_tables.{proofs.Slots.found_by, specs.Ends.Ends}
 use Rattle.vs_page.specs.Log.{Log}
-use Rattle.laws_world.proofs.Listeners.{AllIds, AllWait, IsOfPort, IsOther, any_ids, ids_weaker, wait_less, wait_listened, wait_more}
-use Rattle.laws_world.proofs.Listeners.{wait_unlistened, wait_weaker, waiting_all}
-use Rattle.laws_world.proofs.Keeping.{AllKept, IsKept, MayMake, Sees, Sight, StaysSame, gone_with}
-use Rattle.laws_world.specs.Names.{is_close, times_closed}
+use Rattle.laws_world.proofs.Listeners.{AllIds, AllWait, IsOfPort, IsOther, any_ids, ids_weaker, wait_less, wait_listened, wait_more, wait_unlistened, wait_weaker, waiting_all}
+use Rattle.laws_world.{proofs.Keeping.{AllKept, IsKept, MayMake, Sees, Sight, StaysSame, gone_with}, specs.Names.{is_close, times_closed}}
 use Rattle.vs_driver_parts.specs.declared.answers.Closed.TheVariants as closed
 
 -- Each id waits on one port.

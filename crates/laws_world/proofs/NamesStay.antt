@@ -1,25 +1,19 @@
 -- What the guest is told of an id, in a world: the flow of a connection that it was given, until it closes the id, and then none.
-use Rattle.std.proofs.Common.{◌≡◌, ℕ, ◌+◌, ◌<◌, ◌^◌, ◌==◌, ◌&&◌, inl, inr, Bool, true, false, not, cond, [], ◌∷◌, find, Option, Some, None}
-use Rattle.std.proofs.Common.{is_some, Result, Ok, refl, sym, ap, subst, ◌∙◌, arith}
-use Rattle.std.specs.{List.All, Option.option_map, Option.option_or}
-use Rattle.std.proofs.lemmas.{Bool.Decides.nat_tests, List.Folds.find-append}
+use Rattle.std.proofs.Common.{◌≡◌, ℕ, ◌+◌, ◌<◌, ◌^◌, ◌==◌, ◌&&◌, inl, inr, Bool, true, false, not, cond, [], ◌∷◌, find, Option, Some, None, is_some, Result, Ok, refl, sym, ap}
+use Rattle.std.{proofs.{Common.{subst, ◌∙◌, arith}, lemmas.{Bool.Decides.nat_tests, List.Folds.find-append}}, specs.{List.All, Option.{option_map, option_or}}}
 use Rattle.vs_contents.specs.CallTree.{played}
 use Rattle.vs_ring_port.specs.DriverCalls.{driver_answer}
-use Rattle.vs_flow.{specs.Table.next_entry, specs.declared.flow.Flow.Flow, proofs.Entries.find_none, proofs.Entries.found_passes}
+use Rattle.vs_flow.{specs.{Table.next_entry, declared.flow.Flow.Flow}, proofs.Entries.{find_none, found_passes}}
 use Rattle.vs_conn.specs.End.{ConnectionEnd, asked, paid_of}
 use Rattle.vs_header.specs.declared.Kind.TheVariants.{Stream}
 use Rattle.vs_limits.specs.declared.TheConstants.{BUF_ALLOC}
-use Rattle.vs_driver_parts.specs.Connections.{connected, flow_of, next_flow, with_opened}
-use Rattle.vs_driver_parts.specs.State.{DriverEntry, DriverState, Listener, gone_known_as, is_known_as}
-use Rattle.vs_driver_parts.specs.Listening.{accept_of, after_accept, is_answered, listener_on, next_accepted, with_waiting, without_id}
-use Rattle.vs_driver_parts.proofs.Ids.{HasId}
-use Rattle.vs_driver_parts.specs.{Conversations.connect_of, declared.answers.Accepted.Accepted, declared.answers.ConnectError.ConnectError}
-use Rattle.laws_driver.proofs.{Calls.connect_keeps, Carrying.Fact}
-use Rattle.laws_driver.specs.Carried.Calls.{account_of}
-use Rattle.laws_world.proofs.Listeners.{AllWait, IsOfPort, IsOther, accepted_other, ids_found, wait_found, wait_weaker}
-use Rattle.laws_world.proofs.Names.{IsOver, Stands, WaitsApart, answered_seen, flow_opened, flow_seen, seen, shown}
-use Rattle.laws_world.specs.{Names.HasFlow, Names.times_closed, Sides.log_with_staged, World.World, World.first_cid}
-use Rattle.laws_world.proofs.{Keeping.Sees, Carried.one_id, Sound.Goes, Sound.IsWell, Sound.rests_on}
+use Rattle.vs_driver_parts.specs.{Connections.{connected, flow_of, next_flow, with_opened}, State.{DriverEntry, DriverState, Listener, gone_known_as, is_known_as}}
+use Rattle.vs_driver_parts.specs.{Listening.{accept_of, after_accept, is_answered, listener_on, next_accepted, with_waiting, without_id}, Conversations.connect_of}
+use Rattle.vs_driver_parts.{specs.declared.answers.{Accepted.Accepted, ConnectError.ConnectError}, proofs.Ids.HasId}
+use Rattle.laws_driver.{proofs.{Calls.connect_keeps, Carrying.Fact}, specs.Carried.Calls.account_of}
+use Rattle.laws_world.proofs.{Listeners.{AllWait, IsOfPort, IsOther, accepted_other, ids_found, wait_found, wait_weaker}, Names.{IsOver, Stands, WaitsApart, answered_seen}}
+use Rattle.laws_world.{proofs.{Names.{flow_opened, flow_seen, seen, shown}, Keeping.Sees, Carried.one_id, Sound.{Goes, IsWell, rests_on}}, specs.Names.{HasFlow, times_closed}}
+use Rattle.laws_world.specs.{Sides.log_with_staged, World.{World, first_cid}}
 use Rattle.vs_conn.specs.declared.end.Owed.TheVariants as owed
 use Rattle.vs_driver_parts.specs.declared.answers.Accepted.TheVariants as accepted
 

@@ -1,19 +1,15 @@
 -- No flow is used twice: its asker puts one REQUEST at most.
 use Rattle.std.proofs.Common.{◌≡◌, ℕ, ◌+◌, ◌≤◌, List, [], ◌∷◌, true, refl, ap, subst, ◌∙◌, arith}
 use Rattle.vs_flow.specs.{Flow.is_assigned, declared.flow.Flow.Flow}
-use Rattle.laws_history.specs.{Again.count, Packets.is_request, declared.packet.Packet.Packet, History.Answerer}
-use Rattle.laws_history.specs.History.{Asker, History, Side, gots, peer, puts}
+use Rattle.laws_history.specs.{Again.count, Packets.is_request, declared.packet.Packet.Packet, History.{Answerer, Asker, History, Side, gots, peer, puts}}
 use Rattle.laws_history.proofs.Lists.{count_append}
-use Rattle.vs_page.specs.{Fair.asked_by, Log.{Device, Driver, IsNextPacket, Role, flow_got, other_role, side_of, whole_of}}
-use Rattle.vs_page.specs.declared.log.LogEntry.TheVariants.{GotPacket}
-use Rattle.vs_page.proofs.{Entries.got_on, Entries.on_flow, Flows.opposite_by, Flows.same_self}
-use Rattle.laws_tables.specs.Both.{Asks, Both, Decides, Happening, IsSound, MayHappen, MayRun, Opens, Pays, Sends, Step, Takes, at, happens, run}
-use Rattle.laws_tables.proofs.{Both.next_is_fair, Fair.own_got_fair}
+use Rattle.vs_page.specs.{Fair.asked_by, Log.{Device, Driver, IsNextPacket, Role, flow_got, other_role, side_of, whole_of}, declared.log.LogEntry.TheVariants.GotPacket}
+use Rattle.vs_page.proofs.{Entries.{got_on, on_flow}, Flows.{opposite_by, same_self}}
+use Rattle.laws_tables.specs.{Both.{Asks, Both, Decides, Happening, IsSound, MayHappen, MayRun, Opens, Pays, Sends, Step, Takes, at, happens, run, start}, Asked.{AskOnce, Does}}
+use Rattle.laws_tables.{specs.{Heard.own_port, Later.UsesOnce, Steps.IsNextFlow}, proofs.{Both.next_is_fair, Fair.own_got_fair, Asking.{begins_once, step_once}, Firsts.asker_asks}}
+use Rattle.laws_tables.proofs.Firsts.{none_begun, silent_whole}
 use Rattle.laws_rest.specs.Bytes.{BothEnds}
-use Rattle.laws_tables.specs.{Asked.AskOnce, Asked.Does, Both.start, Heard.own_port, Later.UsesOnce, Steps.IsNextFlow}
-use Rattle.laws_tables.proofs.Asking.{begins_once, step_once}
 use Rattle.laws_world.specs.Sides.{AsksAnew, Runs, RunsAnew}
-use Rattle.laws_tables.proofs.Firsts.{asker_asks, none_begun, silent_whole}
 
 abbrev pub AreOnce : Both → Type 0
 AreOnce b = (role : Role) → AskOnce role (at role b)

@@ -1,25 +1,19 @@
 -- The world in which nothing has happened yet.
-use Rattle.std.proofs.Common.{◌≡◌, ℕ, zero, suc, ◌+◌, ◌==◌, Bool, true, false, cond, List, [], ◌∷◌, refl, sym, ap, subst, ◌∙◌, arith}
-use Rattle.std.{proofs.Common.Some, specs.Option.ForSome}
+use Rattle.std.{proofs.Common.{◌≡◌, ℕ, zero, suc, ◌+◌, ◌==◌, Bool, true, false, cond, List, [], ◌∷◌, refl, sym, ap, subst, ◌∙◌, arith, Some}, specs.Option.ForSome}
 use Rattle.vs_contents.specs.CallTree.{Done, Ask, bind, while_up_to, played}
 use Rattle.vs_limits.specs.declared.TheConstants.{ASSIGNED_FIRST, FIRST_PORT}
 use Rattle.vs_outside.specs.Host.{HostContents}
 use Rattle.vs_page.specs.Log.{Log}
-use Rattle.laws_tables.{proofs.Voices.AreVoiced, proofs.Voices.voices_start, proofs.Both.start_sound, specs.Both.Both}
-use Rattle.laws_world.specs.{Pipes.IsFresh, Events.happens, Events.run, Sides.both_of, Sides.driver_ends}
-use Rattle.laws_world.specs.{Sides.log_with_staged, World.World, World.opening, World.first_cid}
-use Rattle.laws_world.proofs.{Once.AreOnce, Once.start_once, DriverWalks.{Ties, walk}, Runs.and_then, Sound.Goes, Sound.IsWell}
-use Rattle.laws_world.proofs.{Sound.goes_still, Sound.happens_goes, Listeners.AllWait, Listeners.IsOfPort, Names.named_then}
-use Rattle.vs_ring_port.specs.{DriverCalls.{driver_answer, Stage, Publish}, declared.queue.Queue.TheVariants.{Rx, Event}, EndLog.EndLog}
-use Rattle.vs_ring_port.specs.{EndLog.{all_put, entries_marked}, Lists.Rings}
+use Rattle.laws_tables.{proofs.{Voices.{AreVoiced, voices_start}, Both.start_sound}, specs.Both.Both}
+use Rattle.laws_world.{specs.{Pipes.IsFresh, Events.{happens, run}, Sides.{both_of, driver_ends, log_with_staged}, World.{World, opening, first_cid}}, proofs.Once.AreOnce}
+use Rattle.laws_world.proofs.{Once.start_once, DriverWalks.{Ties, walk}, Runs.and_then, Sound.{Goes, IsWell, goes_still, happens_goes}, Listeners.{AllWait, IsOfPort}}
+use Rattle.laws_world.proofs.Names.{named_then}
+use Rattle.vs_ring_port.specs.{DriverCalls.{driver_answer, Stage, Publish}, declared.queue.Queue.TheVariants.{Rx, Event}, EndLog.{EndLog, all_put, entries_marked}, Lists.Rings}
 use Rattle.vs_ring_list.specs.Ends.{Ends, empty_ends}
-use Rattle.vs_driver_parts.specs.Conversations.{DriverTree, load_cid, new_of, new_state, post_events, post_one, posts, publish_of}
-use Rattle.vs_driver_parts.specs.State.{DriverState}
-use Rattle.laws_driver.specs.{Honest.IsFitState, Honest.slots_of, Resets.MarksResets}
-use Rattle.laws_driver.proofs.{Calls.made_fits, Calls.new_keeps, Carrying.nothing, Staging.Rests}
-use Rattle.laws_driver.{specs.Carried.Received.no_account, specs.Carried.Senders.IsRightJournal, proofs.Carried.Ending.none_righted}
-use Rattle.laws_device.proofs.Seats.{PutsFit}
-use Rattle.laws_device.proofs.Carried.Changing.{no_streams}
+use Rattle.vs_driver_parts.specs.{Conversations.{DriverTree, load_cid, new_of, new_state, post_events, post_one, posts, publish_of}, State.DriverState}
+use Rattle.laws_driver.{specs.{Honest.{IsFitState, slots_of}, Resets.MarksResets, Carried.{Received.no_account, Senders.IsRightJournal}}, proofs.Calls.{made_fits, new_keeps}}
+use Rattle.laws_driver.proofs.{Carrying.nothing, Staging.Rests, Carried.Ending.none_righted}
+use Rattle.laws_device.proofs.{Seats.PutsFit, Carried.Changing.no_streams}
 use Rattle.laws_tables.specs.Both as both
 use Rattle.laws_world.specs.Events as events
 

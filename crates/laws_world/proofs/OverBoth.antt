@@ -1,19 +1,17 @@
 -- Over list rings with a host in memory that isn't starved each conversation of the device's has one end.
-use Rattle.std.proofs.Common.{◌≡◌, ℕ, ◌+◌, Bool, true, false, cond, List, length, Option, Some, None, unwrap_or, refl, sym, ap, ap₂, subst}
-use Rattle.std.{specs.Option.option_map_or, proofs.Common.◌∙◌}
-use Rattle.vs_contents.specs.{CallTree.Done, CallTree.Ask, CallTree.played, Contents.Exposes}
+use Rattle.std.{proofs.Common.{◌≡◌, ℕ, ◌+◌, Bool, true, false, cond, List, length, Option, Some, None, unwrap_or, refl, sym, ap, ap₂, subst, ◌∙◌}, specs.Option.option_map_or}
+use Rattle.vs_contents.specs.{CallTree.{Done, Ask, played}, Contents.Exposes}
 use Rattle.vs_flow.specs.declared.flow.Flow.{Flow}
-use Rattle.vs_outside.specs.Host.{HostContents, after_accept, after_dial, after_label, after_read, after_write, after_shut_write}
-use Rattle.vs_outside.specs.Host.{after_close, after_failed, called, fails_now, is_listened, IsDialed, IsWritten, stream_at, write_of}
-use Rattle.vs_outside.specs.declared.host_net.{Accepted.Accepted, Dialed.Dialed, StreamRead.StreamRead, StreamWrite.StreamWrite}
-use Rattle.vs_ring_port.specs.Contents.{RingContents, DeviceCall, DeviceAnswer, Read, Write, PublishCid}
-use Rattle.vs_ring_port.specs.{DeviceCalls.DeviceAllows, DeviceCalls.DeviceMoves, EndLog.EndLog, Lists.Rings}
-use Rattle.vs_ring_list.{specs.Ends.Ends, specs.Ends.device_contents, proofs.Determined.device_determined}
-use Rattle.vs_device_parts.specs.Calls.{Call, Answer, Ring, Accept, Dial, Label, ReadStream, WriteStream, ShutWrite, CloseStream, Situation}
-use Rattle.vs_device_parts.specs.{Calls.DeviceTree, Calls.Allows, Calls.HostMoves, Calls.IsReadOf, Playing.Runs, Playing.situation}
+use Rattle.vs_outside.specs.Host.{HostContents, after_accept, after_dial, after_label, after_read, after_write, after_shut_write, after_close, after_failed, called, fails_now}
+use Rattle.vs_outside.specs.{Host.{is_listened, IsDialed, IsWritten, stream_at, write_of}, declared.host_net.{Accepted.Accepted, Dialed.Dialed, StreamRead.StreamRead}}
+use Rattle.vs_outside.specs.declared.host_net.StreamWrite.{StreamWrite}
+use Rattle.vs_ring_port.specs.{Contents.{RingContents, DeviceCall, DeviceAnswer, Read, Write, PublishCid}, DeviceCalls.{DeviceAllows, DeviceMoves}, EndLog.EndLog, Lists.Rings}
+use Rattle.vs_ring_list.{specs.Ends.{Ends, device_contents}, proofs.Determined.device_determined}
+use Rattle.vs_device_parts.specs.Calls.{Call, Answer, Ring, Accept, Dial, Label, ReadStream, WriteStream, ShutWrite, CloseStream, Situation, DeviceTree, Allows, HostMoves}
+use Rattle.vs_device_parts.specs.{Calls.IsReadOf, Playing.{Runs, situation}}
 use Rattle.laws_device.proofs.Keeping.{Keeps}
-use Rattle.laws_world.proofs.{Flown.{LeavesDriver, leaves_stay, leaves_then, leaves_call}, Holding.{IsHeldFor, MayHold, kept_held}}
-use Rattle.laws_world.specs.{Answers.Around, Answers.answer_around, Answers.bytes_with, Over.beside, Over.over_both}
+use Rattle.laws_world.{proofs.{Flown.{LeavesDriver, leaves_stay, leaves_then, leaves_call}, Holding.{IsHeldFor, MayHold, kept_held}}, specs.Answers.{Around, answer_around}}
+use Rattle.laws_world.specs.{Answers.bytes_with, Over.{beside, over_both}}
 use Rattle.vs_outside.specs.declared.host_net.Accepted.TheVariants as accepted
 use Rattle.vs_outside.specs.declared.host_net.Dialed.TheVariants as dialed
 use Rattle.vs_outside.specs.declared.host_net.StreamRead.TheVariants as read

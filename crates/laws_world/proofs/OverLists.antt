@@ -1,10 +1,9 @@
 -- Over list rings each conversation of the driver's has one end.
 use Rattle.std.proofs.Common.{◌≡◌, Some, None, unwrap_or, refl, sym, ap, ap₂, subst, ◌∙◌}
 use Rattle.vs_contents.specs.CallTree.{Done, Ask, Leads, played}
-use Rattle.vs_ring_port.specs.DriverCalls.{DriverCall, DriverAnswer, Publish, DriverAllows, DriverMoves, driver_answer}
-use Rattle.vs_ring_port.specs.{Contents.RingContents, EndLog.EndLog, Lists.Rings}
-use Rattle.vs_ring_list.{specs.Ends.Ends, specs.Ends.driver_contents, proofs.Determined.driver_determined}
-use Rattle.vs_driver_parts.specs.{Conversations.DriverTree, Playing.RingAllows, Playing.Plays}
+use Rattle.vs_ring_port.specs.{DriverCalls.{DriverCall, DriverAnswer, Publish, DriverAllows, DriverMoves, driver_answer}, Contents.RingContents, EndLog.EndLog, Lists.Rings}
+use Rattle.vs_ring_list.{specs.Ends.{Ends, driver_contents}, proofs.Determined.driver_determined}
+use Rattle.vs_driver_parts.specs.{Conversations.DriverTree, Playing.{RingAllows, Plays}}
 use Rattle.laws_driver.proofs.Shown.{ring_allows}
 use Rattle.laws_world.specs.Over.{over_lists}
 

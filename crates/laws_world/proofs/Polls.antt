@@ -1,23 +1,20 @@
 -- A poll of the driver's is a list of events.
-use Rattle.std.proofs.Common.{◌≡◌, ℕ, zero, suc, ◌+◌, ◌==◌, ◌&&◌, nat_le, nat_lt, Bool, true, false, cond, List, [], ◌∷◌, length, Option}
-use Rattle.std.proofs.{Common.Some, Common.None, Common.refl, Common.sym, Common.ap, Common.subst, Common.◌∙◌, lemmas.Bool.and_parts}
+use Rattle.std.proofs.Common.{◌≡◌, ℕ, zero, suc, ◌+◌, ◌==◌, ◌&&◌, nat_le, nat_lt, Bool, true, false, cond, List, [], ◌∷◌, length, Option, Some, None, refl, sym, ap, subst, ◌∙◌}
+use Rattle.std.proofs.lemmas.Bool.{and_parts}
 use Rattle.vs_contents.specs.CallTree.{Done, Ask, bind, for_each, played, while_up_to}
 use Rattle.vs_conn.specs.{End.owes_of, declared.end.Owed.Owed}
 use Rattle.vs_flow.specs.Table.{entry_under, slots}
 use Rattle.vs_replies.specs.declared.Reply.{Reply}
-use Rattle.vs_ring_port.specs.{Lists.{Rings, after_reap, oldest}, declared.queue.Queue.Queue, DriverCalls.{driver_answer, LoadCid, Publish}}
-use Rattle.vs_ring_port.specs.{DriverCalls.{Reap, Stage}, EndLog.{EndLog, Pages, log_loaded, log_reaped, with_pages}}
+use Rattle.vs_ring_port.specs.{Lists.{Rings, after_reap, oldest}, declared.queue.Queue.Queue, DriverCalls.{driver_answer, LoadCid, Publish, Reap, Stage}, EndLog.{EndLog, Pages}}
+use Rattle.vs_ring_port.specs.EndLog.{log_loaded, log_reaped, with_pages}
 use Rattle.vs_header.specs.Packet.{header_bytes}
-use Rattle.vs_driver_parts.specs.{Receiving.after_reset, Receiving.is_reset_event, Receiving.on_page, State.DriverEntry, State.DriverState}
-use Rattle.vs_driver_parts.specs.Conversations.{all_taken, pay_all, pay_and_publish, pay_slot, poll_of, poll_packets, poll_puts, poll_reaps}
-use Rattle.vs_driver_parts.specs.Conversations.{polled, publish_and_pay, put_all, put_replies, reap_all, take_all, after_paying, has_page}
-use Rattle.vs_driver_parts.specs.Conversations.{one_more_in_flight, one_put, owed_bytes, put_owed_of, put_reply_of, reply_header}
-use Rattle.vs_driver_parts.specs.Conversations.{stage_packet, DriverTree, Round, event_reaped, goes_on_with, packet_reaped, publish_of}
-use Rattle.vs_driver_parts.specs.Conversations.{published, put_owed, put_reply, staged_again, start, take_event, take_packet}
+use Rattle.vs_driver_parts.specs.{Receiving.{after_reset, is_reset_event, on_page}, State.{DriverEntry, DriverState}, Conversations.{all_taken, pay_all, pay_and_publish, pay_slot}}
+use Rattle.vs_driver_parts.specs.Conversations.{poll_of, poll_packets, poll_puts, poll_reaps, polled, publish_and_pay, put_all, put_replies, reap_all, take_all, after_paying}
+use Rattle.vs_driver_parts.specs.Conversations.{has_page, one_more_in_flight, one_put, owed_bytes, put_owed_of, put_reply_of, reply_header, stage_packet, DriverTree, Round}
+use Rattle.vs_driver_parts.specs.Conversations.{event_reaped, goes_on_with, packet_reaped, publish_of, published, put_owed, put_reply, staged_again, start, take_event, take_packet}
 use Rattle.vs_driver_parts.specs.Steps.{stages_owed, stages_reply, takes_page}
 use Rattle.vs_limits.specs.declared.TheConstants.{DRIVER_REPLIES_FULL, OWED_MAX}
-use Rattle.laws_world.specs.{Steps.Leads, World.World, Events.Event, Events.GuestPays, Events.GuestPublishes, Events.GuestReplies}
-use Rattle.laws_world.specs.Events.{GuestTakes, driver_step, happens, is_at_rest, none_staged, works_on}
+use Rattle.laws_world.specs.{Steps.Leads, World.World, Events.{Event, GuestPays, GuestPublishes, GuestReplies, GuestTakes, driver_step, happens, is_at_rest, none_staged, works_on}}
 use Rattle.laws_world.proofs.GuestLines.{leads_none, leads_one, leads_then, played_bind, possible_is, reaps_all, with_driver}
 use Rattle.vs_ring_port.specs.declared.queue.Queue.TheVariants as q
 

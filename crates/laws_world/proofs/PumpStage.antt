@@ -3,14 +3,12 @@ use Rattle.std.proofs.Common.{◌≡◌, ℕ, ◌+◌, ◌==◌, Bool, true, fal
 use Rattle.vs_contents.specs.CallTree.{Done, Ask, bind, played}
 use Rattle.vs_flow.specs.Table.{entry_under, slots}
 use Rattle.vs_outside.specs.{Host.write_answer, declared.host_net.StreamWrite.StreamWrite}
-use Rattle.vs_device_parts.specs.Calls.{CloseStream, DeviceTree, ShutWrite, WriteStream}
-use Rattle.vs_device_parts.specs.Connections.{cut_off, with_connection, with_fault}
-use Rattle.vs_device_parts.specs.Streams.{Writing, is_written_out, pump_of, pump_slot, shut_write, to_write, write_answered, write_pending}
-use Rattle.vs_device_parts.specs.{State.DeviceEntry, State.DeviceState, Steps.shuts_write, Steps.writes, Steps.writes_on, Steps.writing}
-use Rattle.vs_proxy_parts.specs.{State.ProxyState, State.with_device, Turns.device_after, Turns.pump_stage}
-use Rattle.laws_world.proofs.DeviceLeads.{Does, device_event, does_nothing, does_then, plays, with_proxy}
-use Rattle.laws_world.{specs.Answers.Around, specs.Answers.answer_around, specs.Events.DeviceShutsWrite, specs.Events.DeviceWrites}
-use Rattle.laws_world.{specs.Steps.Leads, specs.World.World, specs.World.around, proofs.TickStage.TurnDoes, proofs.TickStage.turning_at}
+use Rattle.vs_device_parts.specs.{Calls.{CloseStream, DeviceTree, ShutWrite, WriteStream}, Connections.{cut_off, with_connection, with_fault}, Streams.{Writing, is_written_out}}
+use Rattle.vs_device_parts.specs.{Streams.{pump_of, pump_slot, shut_write, to_write, write_answered, write_pending}, State.{DeviceEntry, DeviceState}, Steps.{shuts_write, writes}}
+use Rattle.vs_device_parts.specs.Steps.{writes_on, writing}
+use Rattle.vs_proxy_parts.specs.{State.{ProxyState, with_device}, Turns.{device_after, pump_stage}}
+use Rattle.laws_world.{proofs.{DeviceLeads.{Does, device_event, does_nothing, does_then, plays, with_proxy}, TickStage.{TurnDoes, turning_at}}, specs.Answers.Around}
+use Rattle.laws_world.specs.{Answers.answer_around, Events.{DeviceShutsWrite, DeviceWrites}, Steps.Leads, World.{World, around}}
 use Rattle.vs_outside.specs.declared.host_net.StreamWrite.TheVariants as write
 use Rattle.laws_world.proofs.DeviceLeads as leads
 

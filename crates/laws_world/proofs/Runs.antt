@@ -1,9 +1,7 @@
 -- Small steps of the two ends, one after another.
 use Rattle.std.proofs.Common.{◌≡◌, List, [], ◌∷◌, ◌++◌, refl, sym, ap, subst, ◌∙◌, ℕ, append_assoc}
-use Rattle.vs_page.specs.Log.{Device, Driver, HasGotAll, Log, Role, packets_got, events_got}
-use Rattle.vs_page.specs.declared.log.LogEntry.{LogEntry, TheVariants.GotEvent, TheVariants.GotPacket}
-use Rattle.laws_tables.specs.Both.{Asks, Both, Happening, IsSound, MayHappen, MayRun, Opens, Seat, Step, Takes, TakesEvent, after, happens}
-use Rattle.laws_tables.{specs.Both.run, proofs.Both.run_keeps}
+use Rattle.vs_page.specs.{Log.{Device, Driver, HasGotAll, Log, Role, packets_got, events_got}, declared.log.LogEntry.{LogEntry, TheVariants.{GotEvent, GotPacket}}}
+use Rattle.laws_tables.{specs.Both.{Asks, Both, Happening, IsSound, MayHappen, MayRun, Opens, Seat, Step, Takes, TakesEvent, after, happens, run}, proofs.Both.run_keeps}
 use Rattle.laws_driver.proofs.Going.{Goes, MayDo, MayDoAll, done}
 use Rattle.laws_world.specs.Sides.{AsksAnew, Runs, RunsAnew}
 use Rattle.laws_device.proofs.Seats.{MayDo as DeviceMayDo}

@@ -3,14 +3,12 @@ use Rattle.std.proofs.{Common.{◌≡◌, ℕ, true, List, [], ◌∷◌, ◌++�
 use Rattle.vs_flow.specs.declared.flow.Flow.{Flow}
 use Rattle.vs_outside.specs.Host.{HostContents}
 use Rattle.vs_proxy_parts.specs.Growing.{label_at}
-use Rattle.laws_world.specs.Events.{ClientConnects, DeviceGrows, HostCloses, HostEnds, HostFails, HostListens, HostTakes, HostUnlistens, HostWrites}
-use Rattle.laws_world.specs.{Events.{Reset, is_at_rest, is_guest_cid, reset_made}, Plays.{Line, Guest, Poll, TurnAt, ResetTo, Grow, Client}}
-use Rattle.laws_world.specs.Plays.{HostListen, HostUnlisten, HostWrite, HostAllow, HostEnd, HostClosed, HostFail, AreRight, after, line}
-use Rattle.laws_world.specs.{Plays.{is_given_right, play, report, sent_by}, Steps.Leads, World.{World, opening}}
+use Rattle.laws_world.specs.Events.{ClientConnects, DeviceGrows, HostCloses, HostEnds, HostFails, HostListens, HostTakes, HostUnlistens, HostWrites, Reset, is_at_rest}
+use Rattle.laws_world.specs.{Events.{is_guest_cid, reset_made}, Plays.{Line, Guest, Poll, TurnAt, ResetTo, Grow, Client, HostListen, HostUnlisten, HostWrite, HostAllow, HostEnd}}
+use Rattle.laws_world.specs.{Plays.{HostClosed, HostFail, AreRight, after, line, is_given_right, play, report, sent_by}, Steps.Leads, World.{World, opening}}
+use Rattle.laws_world.proofs.{CallRests.{call_rests, opening_rests}, GuestLines.{call_leads, leads_none, leads_one, leads_then, possible_is}, Polls.poll_does, TurnLines.turn_leads}
 use Rattle.laws_driver.specs.Carried.Calls.{sent_on}
 use Rattle.laws_proxy.proofs.Growing.{label_grow_by}
-use Rattle.laws_world.proofs.{CallRests.call_rests, CallRests.opening_rests, GuestLines.call_leads, GuestLines.leads_none}
-use Rattle.laws_world.proofs.{GuestLines.leads_one, GuestLines.leads_then, GuestLines.possible_is, Polls.poll_does, TurnLines.turn_leads}
 
 pub line_leads : (l : Line) (w : World) → is_at_rest w.rings.driver.staged ≡ true → is_given_right l ≡ true → Leads w (line l w).0
 line_leads (Guest call) w rest may = call_leads w rest call may

@@ -1,57 +1,40 @@
 -- Each event is some of the steps of the two ends.
-use Rattle.std.proofs.Common.{◌≡◌, ℕ, ◌^◌, ◌<◌, ◌≤◌, ◌&&◌, nat_le, Bool, true, false, List, [], ◌∷◌, refl, sym, subst, arith, Some, IfSome}
-use Rattle.std.{proofs.Common.{None, Option, is_some, cond}, proofs.lemmas.Bool.{Decides.nat_tests, and_parts}, specs.Option.ForSome}
+use Rattle.std.proofs.Common.{◌≡◌, ℕ, ◌^◌, ◌<◌, ◌≤◌, ◌&&◌, nat_le, Bool, true, false, List, [], ◌∷◌, refl, sym, subst, arith, Some, IfSome, None, Option, is_some, cond}
+use Rattle.std.{proofs.lemmas.Bool.{Decides.nat_tests, and_parts}, specs.Option.ForSome}
 use Rattle.vs_contents.specs.CallTree.{played, Done}
-use Rattle.vs_outside.specs.HostProgram.{after_fail, after_host_write, after_listen, after_unlisten, allowed, closed, ended}
-use Rattle.vs_outside.specs.HostProgram.{host_write_answer, with_bytes}
-use Rattle.vs_outside.specs.{Host.HostContents, Host.with_stream, declared.mem_stream.HostWritten.HostWritten}
+use Rattle.vs_outside.specs.{HostProgram.{after_fail, after_host_write, after_listen, after_unlisten, allowed, closed, ended, host_write_answer, with_bytes}, Host.HostContents}
+use Rattle.vs_outside.specs.{Host.with_stream, declared.mem_stream.HostWritten.HostWritten}
 use Rattle.vs_page.specs.Log.{Device, Driver, Log}
-use Rattle.vs_ring_port.specs.{DriverCalls.driver_answer, declared.queue.Queue.Queue, Contents.RingContents, EndLog.EndLog, EndLog.Pages}
-use Rattle.vs_ring_port.specs.{EndLog.all_put, Lists.Rings, Chains.Held, declared.device_ring.Chain.Chain}
-use Rattle.laws_tables.{specs.Both.IsSound, specs.Both.Seat, specs.Ends.Ends, proofs.Voices.AreVoiced}
+use Rattle.vs_ring_port.specs.{DriverCalls.driver_answer, declared.{queue.Queue.Queue, device_ring.Chain.Chain}, Contents.RingContents, EndLog.{EndLog, Pages, all_put}}
+use Rattle.vs_ring_port.specs.{Lists.Rings, Chains.Held}
+use Rattle.laws_tables.{specs.{Both.{IsSound, Seat}, Ends.Ends}, proofs.Voices.AreVoiced}
 use Rattle.vs_driver_parts.specs.{Conversations.{DriverTree, publish_of}, Playing.Plays, State.DriverState, Steps.{takes_page, stages_reply, stages_owed}}
-use Rattle.vs_device_parts.specs.Steps.{takes_chain, returns, puts_event, puts_reply, puts_owed, puts_payload, writes, shuts_write}
-use Rattle.vs_device_parts.specs.Playing.{IsRxChain, situation}
-use Rattle.vs_device_parts.specs.{Calls.DeviceTree, Calls.Situation, State.DeviceState, State.DeviceConnection, Streams.tick_slot}
-use Rattle.vs_proxy_parts.specs.State.{ProxyState, Turning, start, with_device, Handshake}
-use Rattle.vs_proxy_parts.specs.{Turns.proxy_reset_of, Handshakes.accept_one, Handshakes.tick_handshake, Handshakes.read_byte}
+use Rattle.vs_device_parts.specs.{Steps.{takes_chain, returns, puts_event, puts_reply, puts_owed, puts_payload, writes, shuts_write}, Playing.{IsRxChain, situation}}
+use Rattle.vs_device_parts.specs.{Calls.{DeviceTree, Situation}, State.{DeviceState, DeviceConnection}, Streams.tick_slot}
+use Rattle.vs_proxy_parts.specs.{State.{ProxyState, Turning, start, with_device, Handshake}, Turns.proxy_reset_of, Handshakes.{accept_one, tick_handshake, read_byte}}
 use Rattle.vs_proxy_parts.specs.Growing.{after_flow_grow}
-use Rattle.laws_world.specs.Events.{Event, GuestCalls, GuestTakes, GuestReplies, GuestPays, GuestPublishes, DeviceTakes, DeviceReturns}
-use Rattle.laws_world.specs.Events.{DevicePutsEvent, DeviceReplies, DeviceReads, DevicePays, DeviceWrites, DeviceShutsWrite, DeviceGrows, ProxyAccepts}
-use Rattle.laws_world.specs.Events.{ProxyReads, Moment, TimesOut, HandshakeTimesOut, Reset, HostListens, HostUnlistens, ClientConnects}
-use Rattle.laws_world.specs.Events.{HostWrites, HostTakes, HostEnds, HostCloses, HostFails, at_moment, call_made, device_step, driver_step}
-use Rattle.laws_world.specs.Events.{happens, has_failed, holds, holds_event, is_at_rest, is_guest_cid, line_read, none_staged, proxy_step}
-use Rattle.laws_world.specs.World.{World, around, device_plays, driver_plays, first_cid}
-use Rattle.laws_world.specs.{Answers.answer_around, Pages.TxHolds, Events.reset_made, Events.unless_failed}
-use Rattle.laws_world.specs.{Events.where_possible, Events.works_on, Sides.Runs, Sides.both_of, Sides.log_with_staged}
-use Rattle.laws_world.proofs.{DriverGoes.{After, Before, Left, Walks, call_left, call_walks, poll_left, poll_walks}, DeviceGoes.carried}
-use Rattle.laws_world.proofs.{DeviceGoes.cids_kept, DeviceWalks.AllHeads, DriverWalks.{Ties, shown, walk}, Journals.AllAgree}
-use Rattle.laws_world.proofs.{Runs.{goes_run, keeps_sound, stays}, Once.{AreOnce, keeps_once}}
-use Rattle.laws_world.proofs.{Wire.first_fit, Keeping.Sees, Names.{StaysNamed, WaitsApart, named_from, named_still}}
-use Rattle.laws_driver.specs.Carried.Calls.{Journal, LookAt, is_right, makes_call, GuestCall, ReplyTo, account_of, with_call}
-use Rattle.laws_driver.specs.Carried.{Received.Account, Senders.IsRightJournal}
-use Rattle.laws_driver.proofs.Carried.{Making.made_with, Polling.IsFurther, Sending.puts_as}
+use Rattle.laws_world.specs.Events.{Event, GuestCalls, GuestTakes, GuestReplies, GuestPays, GuestPublishes, DeviceTakes, DeviceReturns, DevicePutsEvent, DeviceReplies, DeviceReads}
+use Rattle.laws_world.specs.Events.{DevicePays, DeviceWrites, DeviceShutsWrite, DeviceGrows, ProxyAccepts, ProxyReads, Moment, TimesOut, HandshakeTimesOut, Reset, HostListens}
+use Rattle.laws_world.specs.Events.{HostUnlistens, ClientConnects, HostWrites, HostTakes, HostEnds, HostCloses, HostFails, at_moment, call_made, device_step, driver_step, happens}
+use Rattle.laws_world.specs.Events.{has_failed, holds, holds_event, is_at_rest, is_guest_cid, line_read, none_staged, proxy_step, reset_made, unless_failed, where_possible}
+use Rattle.laws_world.specs.{Events.works_on, World.{World, around, device_plays, driver_plays, first_cid}, Answers.answer_around, Pages.TxHolds, Sides.{Runs, both_of}}
+use Rattle.laws_world.{specs.Sides.log_with_staged, proofs.{DriverGoes.{After, Before, Left, Walks, call_left, call_walks, poll_left, poll_walks}, DeviceGoes.{carried, cids_kept}}}
+use Rattle.laws_world.proofs.{DeviceWalks.{AllHeads, walk as device_walk}, DriverWalks.{Ties, shown, walk}, Journals.AllAgree, Runs.{goes_run, keeps_sound, stays}, Once.AreOnce}
+use Rattle.laws_world.proofs.{Once.keeps_once, Wire.first_fit, Keeping.Sees, Names.{StaysNamed, WaitsApart, named_from, named_still}}
+use Rattle.laws_driver.specs.Carried.{Calls.{Journal, LookAt, is_right, makes_call, GuestCall, ReplyTo, account_of, with_call}, Received.Account, Senders.IsRightJournal}
+use Rattle.laws_driver.{specs.{Honest.{IsFitState, ends_of_state, slots_of}, Resets.MarksResets, Staged.IsLeft}, proofs.Carried.{Making.made_with, Polling.IsFurther}}
+use Rattle.laws_driver.proofs.{Carried.Sending.puts_as, Carrying.{Carries, Fact, Holds, IsTiedBy, RestsWith}, Stepping.{Works, owed_with, publish_with, reply_with, takes_with}}
+use Rattle.laws_driver.proofs.{Keeping.{Keeps, keeps_end, keeps_weaker}, Staging.{Rests, rests_tied, Ties as DriverTies}, Going.stays as seat_stays}
 use Rattle.vs_flow.specs.{Connection.Connection, Table.Table}
-use Rattle.laws_device.specs.Carried.Streamed.{IsStreamed}
-use Rattle.laws_device.proofs.Carried.{Changing.StreamedIf, HostCalls.client_host, HostCalls.same_host, Hosts.counts_still, Hosts.unseen}
+use Rattle.laws_device.{specs.{Carried.Streamed.IsStreamed, Honest.{is_held, IsFitState as IsFitDevice}, Dropped.IsCounted}, proofs.Carried.Changing.StreamedIf}
+use Rattle.laws_device.proofs.{Carried.{HostCalls.{client_host, same_host}, Hosts.{counts_still, unseen}}, Carrying.{IsToldBy, StreamedOver, With}, Chains.Among, Seats.Carried}
+use Rattle.laws_device.proofs.{Seats.PutsFit, Keeping.{keeps_then, Keeps as DeviceKeeps, keeps_weaker as device_weaker}, Turning.tick_slot_keeps, Dropping.{P, alone, calls}}
+use Rattle.laws_device.proofs.{Dropping.{keeps_both, moving, publishes, tx_calls}, Walk.Fields.fields}
 use Rattle.vs_limits.specs.declared.TheConstants.{GUEST_CID_MIN, GUEST_CID_MAX, ASSIGNED_FIRST}
-use Rattle.laws_driver.proofs.{Carrying.{Carries, Fact, Holds, IsTiedBy, RestsWith}, Stepping.{Works, owed_with, publish_with, reply_with}}
-use Rattle.laws_driver.proofs.{Stepping.takes_with, Keeping.{Keeps, keeps_end, keeps_weaker}, Staging.{Rests, rests_tied}}
-use Rattle.laws_driver.specs.{Honest.IsFitState, Honest.ends_of_state, Honest.slots_of, Resets.MarksResets, Staged.IsLeft}
-use Rattle.vs_ring_list.proofs.{Held.same_queue_is, Ties.{device_got, driver_got, tied-publish}}
-use Rattle.laws_device.proofs.Carrying.{IsToldBy, StreamedOver, With}
-use Rattle.laws_device.proofs.{Chains.Among, Seats.Carried, Seats.PutsFit, Keeping.keeps_then, Turning.tick_slot_keeps}
-use Rattle.laws_proxy.proofs.{Growing.flow_grow_proxied, Growing.flow_grow_stays, Shaking.{Goes-on, Turns, accepts, reads_byte, ticks}, Turning.{Proxied, proxy_reset_keeps}}
-use Rattle.vs_ring_list.specs.{Ends.device_contents, Sound.IsTied}
-use Rattle.laws_device.specs.Honest.{is_held, IsFitState as IsFitDevice}
-use Rattle.laws_device.proofs.Keeping.{Keeps as DeviceKeeps, keeps_weaker as device_weaker}
-use Rattle.laws_world.proofs.DeviceWalks.{walk as device_walk}
-use Rattle.laws_device.specs.Dropped.{IsCounted}
-use Rattle.laws_device.proofs.{Dropping.{P, alone, calls, keeps_both, moving, publishes, tx_calls}, Walk.Fields.fields}
+use Rattle.vs_ring_list.{proofs.{Held.same_queue_is, Ties.{device_got, driver_got, tied-publish}}, specs.{Ends.device_contents, Sound.IsTied}}
+use Rattle.laws_proxy.proofs.{Growing.{flow_grow_proxied, flow_grow_stays}, Shaking.{Goes-on, Turns, accepts, reads_byte, ticks}, Turning.{Proxied, proxy_reset_keeps}}
 use Rattle.laws_device.proofs.Walk.Keeping as moved
 use Rattle.laws_device.proofs.Walk.Single as one
-use Rattle.laws_driver.proofs.Staging.{Ties as DriverTies}
-use Rattle.laws_driver.proofs.Going.{stays as seat_stays}
 use Rattle.laws_device.proofs.Stepping as device_steps
 use Rattle.vs_ring_port.specs.declared.queue.Queue.TheVariants as q
 use Rattle.vs_header.specs.declared.Kind.TheVariants as kind

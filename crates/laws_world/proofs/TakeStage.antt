@@ -1,30 +1,27 @@
 -- The packets that the device takes in a turn, and the event that it puts, are a list of events.
-use Rattle.std.proofs.Common.{◌≡◌, ℕ, zero, suc, ◌+◌, ◌-◌, ◌==◌, ◌&&◌, nat_le, nat_lt, Bool, true, false, cond, List, [], ◌∷◌, length, take}
-use Rattle.std.proofs.Common.{Option, Some, None, refl, sym, ap, subst, ◌∙◌}
+use Rattle.std.proofs.Common.{◌≡◌, ℕ, zero, suc, ◌+◌, ◌-◌, ◌==◌, ◌&&◌, nat_le, nat_lt, Bool, true, false, cond, List, [], ◌∷◌, length, take, Option, Some, None, refl, sym, ap}
+use Rattle.std.proofs.Common.{subst, ◌∙◌}
 use Rattle.vs_contents.specs.CallTree.{Done, Ask, bind, played, while_up_to}
-use Rattle.vs_conn.specs.{End.is_of, End.is_reset, End.verdict_of, declared.end.Verdict.Verdict}
-use Rattle.vs_flow.specs.{Flow.is_assigned, Table.entry_of, Table.has_place}
-use Rattle.vs_header.specs.declared.Kind.TheVariants.{Stream}
-use Rattle.vs_header.specs.{Op.op_number, Packet.header_of, declared.Header.Header, declared.Op.TheVariants.Request}
+use Rattle.vs_conn.specs.{End.{is_of, is_reset, verdict_of}, declared.end.Verdict.Verdict}
+use Rattle.vs_flow.specs.{Flow.is_assigned, Table.{entry_of, has_place}}
+use Rattle.vs_header.specs.{declared.{Kind.TheVariants.Stream, Header.Header, Op.TheVariants.Request}, Op.op_number, Packet.header_of}
 use Rattle.vs_outside.specs.declared.host_net.Dialed.{Dialed}
-use Rattle.vs_page.specs.{Log.Device, Log.flow_to_host, Open.is_dropped}
+use Rattle.vs_page.specs.{Log.{Device, flow_to_host}, Open.is_dropped}
 use Rattle.vs_replies.specs.Owed.{reply_to}
-use Rattle.vs_ring_port.specs.{Chains.bytes_in, Contents.{Given, PublishCid, Read, Return, Take, Write}, EndLog.EndLog, Lists.chain_with}
-use Rattle.vs_ring_port.specs.{declared.device_ring.Chain.Chain, declared.failure.Failure.Failure}
+use Rattle.vs_ring_port.specs.{Chains.bytes_in, Contents.{Given, PublishCid, Read, Return, Take, Write}, EndLog.EndLog, Lists.chain_with, declared.device_ring.Chain.Chain}
+use Rattle.vs_ring_port.specs.declared.failure.Failure.{Failure}
 use Rattle.vs_uds.specs.Path.{path_of}
 use Rattle.vs_wrap.specs.Wrap.{counted}
-use Rattle.vs_device_parts.specs.Transmitting.{dial_answered, failing, heard, on_known, on_next, on_packet, on_unknown, refused}
-use Rattle.vs_device_parts.specs.{Transmitting.{try_request, unknown_why}, Steps.{chain_came, puts_event, returns, takes_chain}}
-use Rattle.vs_device_parts.specs.{Calls.{Answer, Call, CloseStream, DeviceTree, Dial, Ring}, Connections.{after_leaving, stream_closed}}
-use Rattle.vs_device_parts.specs.{Connections.{with_connection, with_reply}, Receiving.pay_event_of, State.{DeviceEntry, DeviceState}}
-use Rattle.vs_device_parts.specs.{Streams.leaving, declared.answers.Taken.Taken}
+use Rattle.vs_device_parts.specs.{Transmitting.{dial_answered, failing, heard, on_known, on_next, on_packet, on_unknown, refused, try_request, unknown_why}, Steps.chain_came}
+use Rattle.vs_device_parts.specs.{Steps.{puts_event, returns, takes_chain}, Calls.{Answer, Call, CloseStream, DeviceTree, Dial, Ring}, Connections.{after_leaving, stream_closed}}
+use Rattle.vs_device_parts.specs.{Connections.{with_connection, with_reply}, Receiving.pay_event_of, State.{DeviceEntry, DeviceState}, Streams.leaving}
+use Rattle.vs_device_parts.specs.declared.answers.Taken.{Taken}
 use Rattle.vs_limits.specs.declared.TheConstants.{DEVICE_REPLIES}
 use Rattle.vs_proxy_parts.specs.{Turns.{device_after, event_stage, take_one, take_stage, took_packet}, State.{Turning, with_device}}
 use Rattle.laws_device.{specs.Honest.is_held, proofs.Ringing.same_self}
-use Rattle.laws_world.specs.Events.{DevicePutsEvent, DeviceReturns, DeviceTakes, device_step, holds, holds_event}
-use Rattle.laws_world.specs.{Answers.Around, Answers.answer_around, Steps.Leads, World.World, World.around}
-use Rattle.laws_world.proofs.DeviceLeads.{Does, device_bind, device_event, does_nothing, does_then, leads_bind, plays, with_proxy}
-use Rattle.laws_world.proofs.{GuestLines.{leads_none, leads_one, leads_then, possible_is}, TickStage.{TurnDoes, turning_at}}
+use Rattle.laws_world.specs.{Events.{DevicePutsEvent, DeviceReturns, DeviceTakes, device_step, holds, holds_event}, Answers.{Around, answer_around}, Steps.Leads, World.World}
+use Rattle.laws_world.{specs.World.around, proofs.{DeviceLeads.{Does, device_bind, device_event, does_nothing, does_then, leads_bind, plays, with_proxy}, GuestLines.leads_none}}
+use Rattle.laws_world.proofs.{GuestLines.{leads_one, leads_then, possible_is}, TickStage.{TurnDoes, turning_at}}
 use Rattle.vs_conn.specs.declared.end.Verdict.TheVariants as verdict
 use Rattle.vs_conn.specs.declared.end.Why.TheVariants as why
 use Rattle.vs_outside.specs.declared.host_net.Dialed.TheVariants as dialed

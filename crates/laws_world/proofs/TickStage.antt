@@ -1,22 +1,17 @@
 -- Timeouts, and the handshakes of a turn, are lists of events.
-use Rattle.std.proofs.Common.{◌≡◌, ℕ, ◌+◌, nat_lt, Bool, true, false, cond, List, ◌++◌, length, Option, Some, None, Result, Ok, Err, refl}
-use Rattle.std.proofs.Common.{ap, ◌∙◌}
+use Rattle.std.proofs.Common.{◌≡◌, ℕ, ◌+◌, nat_lt, Bool, true, false, cond, List, ◌++◌, length, Option, Some, None, Result, Ok, Err, refl, ap, ◌∙◌}
 use Rattle.vs_contents.specs.CallTree.{Done, Ask, bind, for_each, played, while_up_to}
-use Rattle.vs_flow.specs.{Flow.host_flow, Table.entry_under, Table.refusal, Table.slots, declared.table.TableFault.TableFault}
-use Rattle.vs_outside.specs.{Host.accept_answer, Host.read_answer, declared.host_net.Accepted.Accepted}
-use Rattle.vs_outside.specs.declared.host_net.StreamRead.{StreamRead}
-use Rattle.vs_uds.specs.{ConnectLine.connect_step, declared.connect.TheConstants.CONNECT_MAX, declared.scan.Step.Step}
-use Rattle.vs_device_parts.specs.{State.DeviceEntry, State.DeviceState, Streams.closing, Streams.tick_of, Streams.tick_slot}
-use Rattle.vs_device_parts.specs.Connections.{cut_off, is_late, is_timed_out, with_client, with_connection}
-use Rattle.vs_device_parts.specs.Calls.{Accept, CloseStream, DeviceTree, Label, ReadStream}
-use Rattle.vs_proxy_parts.specs.Handshakes.{accept_answered, accept_one, byte_read, dropping, handshake_on, line_decided, may_open, opening}
-use Rattle.vs_proxy_parts.specs.Handshakes.{read_byte, read_line, shake_hands, streams_of, tick_handshake, tick_handshakes, with_line}
-use Rattle.vs_proxy_parts.specs.{Handshakes.without_handshake, Turns.device_after, Turns.tick_stage, State.Handshake, State.ProxyState}
-use Rattle.vs_proxy_parts.specs.State.{Turning, start, with_device}
+use Rattle.vs_flow.specs.{Flow.host_flow, Table.{entry_under, refusal, slots}, declared.table.TableFault.TableFault}
+use Rattle.vs_outside.specs.{Host.{accept_answer, read_answer}, declared.host_net.{Accepted.Accepted, StreamRead.StreamRead}}
+use Rattle.vs_uds.specs.{ConnectLine.connect_step, declared.{connect.TheConstants.CONNECT_MAX, scan.Step.Step}}
+use Rattle.vs_device_parts.specs.{State.{DeviceEntry, DeviceState}, Streams.{closing, tick_of, tick_slot}, Connections.{cut_off, is_late, is_timed_out, with_client}}
+use Rattle.vs_device_parts.specs.{Connections.with_connection, Calls.{Accept, CloseStream, DeviceTree, Label, ReadStream}}
+use Rattle.vs_proxy_parts.specs.Handshakes.{accept_answered, accept_one, byte_read, dropping, handshake_on, line_decided, may_open, opening, read_byte, read_line, shake_hands}
+use Rattle.vs_proxy_parts.specs.{Handshakes.{streams_of, tick_handshake, tick_handshakes, with_line, without_handshake}, Turns.{device_after, tick_stage}, State.Handshake}
+use Rattle.vs_proxy_parts.specs.State.{ProxyState, Turning, start, with_device}
 use Rattle.vs_limits.specs.declared.TheConstants.{HANDSHAKES}
-use Rattle.laws_world.specs.{Answers.Around, Answers.answer_around, Answers.bytes_with, Steps.Leads, World.World, World.around}
-use Rattle.laws_world.specs.Events.{HandshakeTimesOut, Moment, ProxyAccepts, ProxyReads, TimesOut, at_moment, line_read}
-use Rattle.laws_world.proofs.DeviceLeads.{Does, EndsFine, device_event, does_then, fine_played, plays, proxy_event, with_proxy}
+use Rattle.laws_world.specs.{Answers.{Around, answer_around, bytes_with}, Steps.Leads, World.{World, around}, Events.{HandshakeTimesOut, Moment, ProxyAccepts, ProxyReads}}
+use Rattle.laws_world.{specs.Events.{TimesOut, at_moment, line_read}, proofs.DeviceLeads.{Does, EndsFine, device_event, does_then, fine_played, plays, proxy_event, with_proxy}}
 use Rattle.laws_world.proofs.GuestLines.{leads_one, leads_then}
 use Rattle.vs_outside.specs.declared.host_net.Accepted.TheVariants as accepted
 use Rattle.vs_outside.specs.declared.host_net.StreamRead.TheVariants as read

@@ -3,12 +3,10 @@ use Rattle.std.proofs.Common.{◌≡◌, ℕ, Option, Some, None, refl}
 use Rattle.vs_contents.specs.CallTree.{Done, bind}
 use Rattle.vs_ring_port.specs.declared.failure.Failure.{Failure}
 use Rattle.vs_device_parts.specs.Calls.{DeviceTree}
-use Rattle.vs_proxy_parts.specs.Turns.{event_stage, fill_stage, pump_stage, take_stage, tick_stage, turned, unless_failed}
-use Rattle.vs_proxy_parts.specs.{Handshakes.shake_hands, State.ProxyState, State.Turning, State.start, declared.answers.Turn.Turn}
-use Rattle.laws_world.proofs.DeviceLeads.{leads_bind, plays, with_proxy}
-use Rattle.laws_world.specs.{Plays.turn_line, Steps.Leads, World.World}
-use Rattle.laws_world.proofs.{FillStage.fill_stage_does, GuestLines.leads_none, PumpStage.pump_stage_does, TakeStage.event_stage_does}
-use Rattle.laws_world.proofs.{TakeStage.take_stage_leads, TickStage.shake_does, TickStage.tick_stage_does, TickStage.turning_at}
+use Rattle.vs_proxy_parts.specs.{Turns.{event_stage, fill_stage, pump_stage, take_stage, tick_stage, turned, unless_failed}, Handshakes.shake_hands, State.{ProxyState, Turning}}
+use Rattle.vs_proxy_parts.specs.{State.start, declared.answers.Turn.Turn}
+use Rattle.laws_world.proofs.{DeviceLeads.{leads_bind, plays, with_proxy}, FillStage.fill_stage_does, GuestLines.leads_none, PumpStage.pump_stage_does, TakeStage.event_stage_does}
+use Rattle.laws_world.{proofs.{TakeStage.take_stage_leads, TickStage.{shake_does, tick_stage_does, turning_at}}, specs.{Plays.turn_line, Steps.Leads, World.World}}
 
 -- A stage, which is left out after a failure.
 abbrev StageLeads : (Turning → DeviceTree Turning) → World → Turning → Type 0

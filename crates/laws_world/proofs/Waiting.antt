@@ -5,13 +5,10 @@ use Rattle.std.proofs.Common.{◌≡◌, ℕ, ◌==◌, ◌&&◌, ◌||◌, Bool
 use Rattle.vs_device_parts.specs.State.{DeviceEntry}
 use Rattle.vs_flow.specs.declared.flow.Flow.{Flow}
 use Rattle.laws_history.specs.History.{Asker, Side, gots, puts}
-use Rattle.vs_page.specs.{Fair.asked_by, Fair.number_of, Log.Device, Log.Log, Log.side_of, Log.whole_of, Open.is_open}
-use Rattle.laws_tables.specs.Asked.{has_new}
-use Rattle.laws_tables.specs.Ends.{flows_of, is_among, is_new, new_flows, replied}
-use Rattle.laws_tables.{specs.Steps.HasEnd, proofs.Slots.one_end, proofs.Tables.all_open, proofs.Tables.end_new}
-use Rattle.laws_device.specs.Streams.{has_open_stream, is_waiting_for_request}
-use Rattle.laws_device.proofs.Waiting.{new_on, new_open, open_among, tied_by}
-use Rattle.laws_world.{specs.Sides.device_ends, specs.World.World, specs.World.first_cid, proofs.Sound.IsWell}
+use Rattle.vs_page.specs.{Fair.{asked_by, number_of}, Log.{Device, Log, side_of, whole_of}, Open.is_open}
+use Rattle.laws_tables.{specs.{Asked.has_new, Ends.{flows_of, is_among, is_new, new_flows, replied}, Steps.HasEnd}, proofs.{Slots.one_end, Tables.{all_open, end_new}}}
+use Rattle.laws_device.{specs.Streams.{has_open_stream, is_waiting_for_request}, proofs.Waiting.{new_on, new_open, open_among, tied_by}}
+use Rattle.laws_world.{specs.{Sides.device_ends, World.{World, first_cid}}, proofs.Sound.IsWell}
 
 module _ {fresh : Type 0} (w : World) (well : IsWell fresh w) where
   abbrev log : Log

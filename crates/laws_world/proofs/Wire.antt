@@ -1,8 +1,7 @@
 -- The header of the next packet that is got fits the wire, as those of all packets that the other end put do.
 use Rattle.std.proofs.Common.{ℕ, List, [], ◌∷◌, ◌++◌, Option, Some, None, subst}
 use Rattle.laws_history.specs.declared.packet.Packet.{Packet}
-use Rattle.vs_page.specs.{Held.FitsWire, Held.packet_held, Log.IsNextPacket, Log.Log, Log.packets_got}
-use Rattle.vs_page.specs.declared.log.LogEntry.TheVariants.{PutPacket}
+use Rattle.vs_page.specs.{Held.{FitsWire, packet_held}, Log.{IsNextPacket, Log, packets_got}, declared.log.LogEntry.TheVariants.PutPacket}
 use Rattle.vs_ring_port.specs.EndLog.{all_put, with_packet}
 use Rattle.laws_device.proofs.Seats.{AllFit, PutsFit}
 

@@ -1,11 +1,10 @@
 -- What list rings and a host in memory answer to the device: each answer, and what both are after it.
 use Rattle.std.specs.Prelude.{ℕ, List, [], length}
-use Rattle.vs_outside.specs.Host.{HostContents, accept_answer, after_accept, dial_answer, after_dial, after_label, read_answer, after_read}
-use Rattle.vs_outside.specs.Host.{next_bytes, write_answer, after_write, after_shut_write, after_close}
-use Rattle.vs_outside.specs.declared.host_net.StreamRead.{StreamRead}
-use Rattle.vs_outside.specs.declared.host_net.StreamRead.TheVariants as read
+use Rattle.vs_outside.specs.Host.{HostContents, accept_answer, after_accept, dial_answer, after_dial, after_label, read_answer, after_read, next_bytes, write_answer, after_write}
+use Rattle.vs_outside.specs.{Host.{after_shut_write, after_close}, declared.host_net.StreamRead.StreamRead}
 use Rattle.vs_ring_port.specs.{DeviceCalls.device_answer, EndLog.EndLog, Lists.Rings}
 use Rattle.vs_device_parts.specs.Calls.{Call, Answer, Ring, Accept, Dial, Label, ReadStream, WriteStream, ShutWrite, CloseStream}
+use Rattle.vs_outside.specs.declared.host_net.StreamRead.TheVariants as read
 
 -- The device's side: the pages in flight, what the device did so far, and the host.
 pub record Around : Type 0 where

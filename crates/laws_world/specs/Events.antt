@@ -3,16 +3,15 @@ use Rattle.std.specs.Prelude.{ℕ, ◌&&◌, nat_le, Bool, true, false, if◌the
 use Rattle.vs_flow.specs.declared.flow.Flow.{Flow}
 use Rattle.vs_limits.specs.declared.TheConstants.{GUEST_CID_MIN, GUEST_CID_MAX}
 use Rattle.vs_contents.specs.CallTree.{Done, bind}
-use Rattle.vs_outside.specs.HostProgram.{after_listen, after_unlisten, after_client, after_host_write, host_write_answer, allowed, ended}
-use Rattle.vs_outside.specs.{HostProgram.closed, HostProgram.after_fail, Host.HostContents, Host.with_stream}
-use Rattle.vs_ring_port.specs.{Chains.same_queue, EndLog.Pages, declared.device_ring.Chain.Chain, declared.queue.Queue.Queue}
+use Rattle.vs_outside.specs.{HostProgram.{after_listen, after_unlisten, after_client, after_host_write, host_write_answer, allowed, ended, closed, after_fail}, Host.HostContents}
+use Rattle.vs_outside.specs.Host.{with_stream}
+use Rattle.vs_ring_port.specs.{Chains.same_queue, EndLog.Pages, declared.{device_ring.Chain.Chain, queue.Queue.Queue}}
 use Rattle.vs_driver_parts.specs.{Conversations.{DriverTree, publish_of}, State.DriverState, Steps.{takes_page, stages_reply, stages_owed}}
-use Rattle.vs_device_parts.specs.{Calls.DeviceTree, State.DeviceState, Streams.tick_slot, Steps.takes_chain, Steps.returns}
-use Rattle.vs_device_parts.specs.Steps.{puts_event, puts_reply, puts_owed, puts_payload, writes, shuts_write}
-use Rattle.vs_proxy_parts.specs.{State.Turning, State.start, State.with_device, Turns.proxy_reset_of, Handshakes.tick_handshake}
-use Rattle.vs_proxy_parts.specs.{Growing.after_flow_grow, Handshakes.accept_one, Handshakes.read_byte}
+use Rattle.vs_device_parts.specs.{Calls.DeviceTree, State.DeviceState, Streams.tick_slot, Steps.{takes_chain, returns, puts_event, puts_reply, puts_owed, puts_payload, writes}}
+use Rattle.vs_device_parts.specs.Steps.{shuts_write}
+use Rattle.vs_proxy_parts.specs.{State.{Turning, start, with_device}, Turns.proxy_reset_of, Handshakes.{tick_handshake, accept_one, read_byte}, Growing.after_flow_grow}
 use Rattle.laws_device.specs.Honest.{is_held}
-use Rattle.laws_world.specs.{World.World, World.driver_plays, World.device_plays}
+use Rattle.laws_world.specs.World.{World, driver_plays, device_plays}
 use Rattle.laws_driver.specs.Carried.Calls.{GuestCall, ReplyTo, is_right, makes_call, with_call}
 use Rattle.vs_header.specs.declared.Kind.TheVariants as kind
 use Rattle.vs_ring_port.specs.declared.queue.Queue.TheVariants as q

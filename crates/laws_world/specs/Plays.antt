@@ -1,15 +1,13 @@
 -- Whole calls, one line of a script each, and what each answers.
 use Rattle.std.specs.Prelude.{◌≡◌, ℕ, ◌+◌, Bool, true, if◌then◌else◌, List, [], ◌∷◌, length, map, Option, Result}
 use Rattle.vs_flow.specs.declared.flow.Flow.{Flow}
-use Rattle.vs_outside.specs.{Host.{HostContents, with_stream}, HostBytes.{wrote_after_connect, read_after_ok}, HostProgram.after_listen}
-use Rattle.vs_outside.specs.HostProgram.{after_unlisten, after_client, after_host_write, host_write_answer, has_stream, allowed, ended}
-use Rattle.vs_outside.specs.{HostProgram.{closed, after_fail}, declared.mem_stream.HostWritten.HostWritten}
+use Rattle.vs_outside.specs.{Host.{HostContents, with_stream}, HostBytes.{wrote_after_connect, read_after_ok}, HostProgram.{after_listen, after_unlisten, after_client}}
+use Rattle.vs_outside.specs.{HostProgram.{after_host_write, host_write_answer, has_stream, allowed, ended, closed, after_fail}, declared.mem_stream.HostWritten.HostWritten}
 use Rattle.vs_ring_port.specs.declared.failure.Failure.{Failure}
 use Rattle.vs_driver_parts.specs.{declared.answers.Polled.Polled, Conversations.poll_of}
 use Rattle.vs_device_parts.specs.declared.answers.Grown.{Grown}
-use Rattle.vs_proxy_parts.specs.{Growing.after_label_grow, Growing.label_at, Growing.label_grow_of}
-use Rattle.vs_proxy_parts.specs.{Turns.turn_of, Turns.proxy_reset_of, declared.answers.Turn.Turn}
-use Rattle.laws_world.specs.{Events.is_guest_cid, World.World, World.driver_plays, World.device_plays}
+use Rattle.vs_proxy_parts.specs.{Growing.{after_label_grow, label_at, label_grow_of}, Turns.{turn_of, proxy_reset_of}, declared.answers.Turn.Turn}
+use Rattle.laws_world.specs.{Events.is_guest_cid, World.{World, driver_plays, device_plays}}
 use Rattle.laws_driver.specs.Carried.Calls.{GuestCall, ReplyTo, bytes_sent, flow_named, is_on, is_right, whole_call, with_call}
 use Rattle.vs_header.specs.declared.Kind.TheVariants as kind
 

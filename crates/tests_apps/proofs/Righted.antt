@@ -1,6 +1,5 @@
 -- Scripts of right apps.
-use Rattle.std.proofs.{Common.{List, [], ◌∷◌, ◌++◌, map, sym, subst}, lemmas.List.map-append, lemmas.List.Elements.All-push}
-use Rattle.std.specs.List.{All}
+use Rattle.std.{proofs.{Common.{List, [], ◌∷◌, ◌++◌, map, sym, subst}, lemmas.List.{map-append, Elements.All-push}}, specs.List.All}
 use Rattle.vs_script.specs.{App.app_view, declared.app.App.App}
 use Rattle.vs_apps_parts.specs.Scripts.{AreRight, IsRight, RunScript, script_of}
 use Rattle.tests_apps.specs.Apps.{IsRightApp}

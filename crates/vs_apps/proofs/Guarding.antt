@@ -1,24 +1,19 @@
 -- What keeps guests a run of their script.
-use Rattle.std.proofs.Common.{◌≡◌, ◌<◌, ℕ, zero, suc, Bool, List, [], ◌∷◌, ◌++◌, length, get_or, refl, sym, ap, subst, ◌∙◌, arith, Option}
-use Rattle.std.proofs.{Common.{Some, None}, lemmas.{List.length-map, List.length-replicate, Option.same_Some}}
-use Rattle.std.specs.Prelude.{replicate}
+use Rattle.std.proofs.{Common.{◌≡◌, ◌<◌, ℕ, zero, suc, Bool, List, [], ◌∷◌, ◌++◌, length, get_or, refl, sym, ap, subst, ◌∙◌, arith, Option, Some, None}, lemmas.List.length-map}
+use Rattle.std.{proofs.lemmas.{List.length-replicate, Option.same_Some}, specs.Prelude.replicate}
 use Rattle.vs_limits.specs.declared.TheConstants.{FIRST_CID, FIRST_PORT}
-use Rattle.vs_contents.specs.Contents.{Relates}
-use Rattle.vs_contents.proofs.Leads.{leads_split}
+use Rattle.vs_contents.{specs.Contents.Relates, proofs.Leads.leads_split}
 use Rattle.vs_page.specs.{Log.Log, Open.cid_of}
 use Rattle.vs_script.specs.{App.app_view, declared.app.App.App}
-use Rattle.vs_ring_port.specs.{Contents.RingContents, Known.{IsOlder, Known, LoadsCid}, declared.queue.Queue.TheVariants.{Event, Rx}}
-use Rattle.vs_ring_port.specs.EndLog.{EndLog}
-use Rattle.vs_driver_parts.specs.Conversations.{load_cid, new_of, new_state, post_all, post_events}
-use Rattle.vs_driver_parts.specs.{Playing.IsRingOf, Playing.Plays, Playing.RingAllows, State.DriverState, declared.answers.Polled.Polled}
+use Rattle.vs_ring_port.specs.{Contents.RingContents, Known.{IsOlder, Known, LoadsCid}, declared.queue.Queue.TheVariants.{Event, Rx}, EndLog.EndLog}
+use Rattle.vs_driver_parts.specs.{Conversations.{load_cid, new_of, new_state, post_all, post_events}, Playing.{IsRingOf, Plays, RingAllows}, State.DriverState}
+use Rattle.vs_driver_parts.specs.declared.answers.Polled.{Polled}
 use Rattle.vs_ring_rule.specs.declared.view.Past.{Past}
-use Rattle.vs_ring_shared.specs.{Meetings.after_hearing, Sights.Sight, Sights.driver_contents, Sights.driver_log, Sights.empty_sight, Sights.known_of}
-use Rattle.vs_ring_shared.specs.Sights.{flight_of, staged_of}
+use Rattle.vs_ring_shared.specs.{Meetings.after_hearing, Sights.{Sight, driver_contents, driver_log, empty_sight, known_of, flight_of, staged_of}}
 use Rattle.atomic_table.specs.Seated.{TableId}
 use Rattle.laws_driver.specs.Honest.{IsFresh}
 use Rattle.vs_apps_parts.specs.{Scripts.{AreRight, RunScript, script_of}, declared.progress.{AppState.AppState, Stepped.Stepped}}
-use Rattle.laws_apps.specs.Runs.{IsRunOf, PollsTo, Steps, no_app}
-use Rattle.laws_apps.proofs.{Beginning.begins_run, Keeping.{polls_keep, steps_keep}}
+use Rattle.laws_apps.{specs.Runs.{IsRunOf, PollsTo, Steps, no_app}, proofs.{Beginning.begins_run, Keeping.{polls_keep, steps_keep}}}
 use Rattle.vs_apps.specs.Guests.{AreGuests, GuestsState, run_in}
 
 abbrev OwnRing : GuestsState → Type 0

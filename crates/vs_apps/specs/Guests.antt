@@ -3,8 +3,7 @@ use Rattle.std.specs.Prelude.{ℕ, List}
 use Rattle.vs_limits.specs.declared.TheConstants.{FIRST_CID}
 use Rattle.vs_driver_parts.specs.{Playing.IsRingOf, State.DriverState}
 use Rattle.vs_ring_shared.specs.Sights.{Sight, driver_contents, flight_of, staged_of}
-use Rattle.vs_apps_parts.specs.{Scripts.AreRight, Scripts.RunScript, declared.journal.Entry.Entry, declared.journal.Journal.Journal}
-use Rattle.vs_apps_parts.specs.declared.progress.AppState.{AppState}
+use Rattle.vs_apps_parts.specs.{Scripts.{AreRight, RunScript}, declared.{journal.{Entry.Entry, Journal.Journal}, progress.AppState.AppState}}
 use Rattle.laws_apps.specs.{Runs.{IsRunOf, Run}, Calls.run_with}
 
 pub record GuestsState : Type 0 where

@@ -3,12 +3,10 @@
 ghost use Rattle.std.specs.Prelude.{◌≡◌, ◌+◌, ◌<◌, ◌≤◌, ℕ, List, length, vec_capacity, vec_len};
 ghost use Rattle.vs_ring_port.specs.{Contents.RingContents, Counts.Counts};
 ghost use Rattle.vs_driver_parts.specs.Playing.{IsRingOf};
-ghost use Rattle.laws_driver.specs.Honest.{IsHonest, IsHonestWith};
-ghost use Rattle.laws_driver.specs.Carried.Calls.{flow_accepted, flow_opened};
-ghost use Rattle.laws_driver.specs.Carried.Calls as call;
-ghost use Rattle.vs_apps_parts.specs.{Journals.data_at, Scripts.RunScript, Scripts.acts_of, Scripts.slice_of};
-ghost use Rattle.vs_apps_parts.specs.{declared.progress.AppState.AppState};
+ghost use Rattle.laws_driver.specs.{Honest.{IsHonest, IsHonestWith}, Carried.Calls.{flow_accepted, flow_opened}};
+ghost use Rattle.vs_apps_parts.specs.{Journals.data_at, Scripts.{RunScript, acts_of, slice_of}, declared.progress.AppState.AppState};
 ghost use Rattle.laws_apps.specs.Calls.{CallsAs, run_with};
+ghost use Rattle.laws_driver.specs.Carried.Calls as call;
 
 use vs_apps_parts::journal::{Called, Entry, note_called};
 use vs_apps_parts::told::Told;

@@ -6,8 +6,7 @@ ghost use Rattle.vs_ring_port.specs.declared.queue.Queue.{Queue};
 ghost use Rattle.vs_driver_parts.specs.Playing.{IsRingOf};
 ghost use Rattle.vs_apps_parts.specs.Scripts.{AreRight, script_of};
 ghost use Rattle.vs_ring_rule.specs.declared.view.Past.{Past};
-ghost use Rattle.vs_ring_shared.specs.{Countings.met_between, Meetings.AreOneTable, Meetings.after_hearing, Meetings.what_it_did};
-ghost use Rattle.vs_ring_shared.specs.Sights.{empty_sight, flight_of, sight_in, staged_of};
+ghost use Rattle.vs_ring_shared.specs.{Countings.met_between, Meetings.{AreOneTable, after_hearing, what_it_did}, Sights.{empty_sight, flight_of, sight_in, staged_of}};
 ghost use Rattle.laws_apps.specs.Runs.{IsRunOf, PollsTo, Steps};
 ghost use Rattle.vs_apps.specs.Guests.{run_in};
 

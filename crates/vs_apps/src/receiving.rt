@@ -3,12 +3,11 @@
 ghost use Rattle.std.specs.Prelude.{◌≡◌, ◌+◌, ◌<◌, ◌≤◌, ℕ, List, length, take, vec_capacity, vec_len};
 ghost use Rattle.vs_contents.specs.CallTree.{Done};
 ghost use Rattle.vs_ring_port.specs.{Contents.RingContents, Counts.Counts};
-ghost use Rattle.vs_driver_parts.specs.{Connections.got_count, Playing.IsRingOf, Playing.SamePages};
-ghost use Rattle.laws_driver.specs.Honest.{IsHonestWith};
-ghost use Rattle.laws_driver.specs.Carried.Calls.{makes_call};
-ghost use Rattle.laws_driver.specs.Carried.Calls as call;
-ghost use Rattle.vs_apps_parts.specs.{Scripts.RunScript, declared.progress.AppState.AppState, declared.progress.TheConstants.SLICE};
+ghost use Rattle.vs_driver_parts.specs.{Connections.got_count, Playing.{IsRingOf, SamePages}};
+ghost use Rattle.laws_driver.specs.{Honest.IsHonestWith, Carried.Calls.makes_call};
+ghost use Rattle.vs_apps_parts.specs.{Scripts.RunScript, declared.progress.{AppState.AppState, TheConstants.SLICE}};
 ghost use Rattle.laws_apps.specs.Calls.{CallsAs, Receives, run_with};
+ghost use Rattle.laws_driver.specs.Carried.Calls as call;
 
 use vs_apps_parts::journal::{Called, Entry, note_called};
 use vs_apps_parts::progress::SLICE;

@@ -4,8 +4,7 @@ ghost use Rattle.std.specs.Prelude.{◌≡◌, ◌+◌, ◌<◌, ◌≤◌, ℕ,
 ghost use Rattle.vs_script.specs.Data.{bytes_of, content_of};
 ghost use Rattle.vs_driver_parts.specs.Playing.{IsRingOf};
 ghost use Rattle.laws_driver.specs.Honest.{IsHonest, IsHonestWith};
-ghost use Rattle.vs_apps_parts.specs.{Journals.data_at, Scripts.RunScript, Scripts.acts_of, Scripts.send_next};
-ghost use Rattle.vs_apps_parts.specs.declared.progress.{AppState.AppState};
+ghost use Rattle.vs_apps_parts.specs.{Journals.data_at, Scripts.{RunScript, acts_of, send_next}, declared.progress.AppState.AppState};
 ghost use Rattle.laws_apps.specs.Calls.{CallsAs, run_with};
 
 use crate::calls::send;

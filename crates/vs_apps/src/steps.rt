@@ -1,18 +1,14 @@
 //! A step of an app: a poll, and then the calls of the instruction that the app is at.
 
-ghost use Rattle.std.specs.Prelude.{◌≡◌, ◌+◌, ◌<◌, ◌≤◌, ◌^◌, ℕ, nat_lt, if◌then◌else◌, OnOk, Some, List, [], ◌∷◌, slice_get};
-ghost use Rattle.std.specs.Prelude.{slice_index_or};
-ghost use Rattle.std.specs.Prelude.{vec_capacity, vec_len};
-ghost use Rattle.vs_script.specs.{App.instruction_view, Data.bytes_of, Data.content_of, Data.size_of};
+ghost use Rattle.std.specs.Prelude.{◌≡◌, ◌+◌, ◌<◌, ◌≤◌, ◌^◌, ℕ, nat_lt, if◌then◌else◌, OnOk, Some, List, [], ◌∷◌, slice_get, slice_index_or, vec_capacity, vec_len};
+ghost use Rattle.vs_script.specs.{App.instruction_view, Data.{bytes_of, content_of, size_of}};
 ghost use Rattle.vs_ring_port.specs.{Contents.RingContents, Counts.Counts};
 ghost use Rattle.vs_driver_parts.specs.Playing.{IsRingOf};
 ghost use Rattle.laws_driver.specs.Honest.{IsHonest, IsHonestWith};
+ghost use Rattle.vs_apps_parts.specs.{Scripts.{AreRight, IsRight, RunScript, acts_of, calls_next, id_of, recv_next, script_of, send_next}, Journals.data_at, Told.listed};
+ghost use Rattle.vs_apps_parts.specs.{Told.told_list, declared.progress.{AppState.AppState, TheConstants.SLICE}};
+ghost use Rattle.laws_apps.specs.{Runs.{Acts, Steps, no_app, poll_moved}, Calls.{CallsAs, HasRoom, MakesAll, run_of, run_with}};
 ghost use Rattle.laws_driver.specs.Carried.Calls as call;
-ghost use Rattle.vs_apps_parts.specs.Scripts.{AreRight, IsRight, RunScript, acts_of, calls_next, id_of, recv_next, script_of, send_next};
-ghost use Rattle.vs_apps_parts.specs.{Journals.data_at, Told.listed, Told.told_list};
-ghost use Rattle.vs_apps_parts.specs.declared.progress.{AppState.AppState, TheConstants.SLICE};
-ghost use Rattle.laws_apps.specs.Runs.{Acts, Steps, no_app, poll_moved};
-ghost use Rattle.laws_apps.specs.Calls.{CallsAs, HasRoom, MakesAll, run_of, run_with};
 
 use crate::calls::{accept, close, connect, grow, listen, look_at, shutdown};
 use crate::receiving::recv;

@@ -2,11 +2,10 @@
 use Rattle.std.specs.Prelude.{ℕ, false, List, [], ◌∷◌, codes, Ok, Err, Some}
 use Rattle.vs_flow.specs.Flow.{host_flow}
 use Rattle.vs_script.specs.{App.Act, Data.Given}
-use Rattle.vs_script.specs.App as act
 use Rattle.laws_driver.specs.Carried.Calls.{Made}
+use Rattle.vs_apps_parts.specs.{Journals.{entry_called, entry_waited, made_as}, Scripts.RunScript, declared.{journal.Entry.Entry, progress.Progress.Progress}}
+use Rattle.vs_script.specs.App as act
 use Rattle.laws_driver.specs.Carried.Calls as call
-use Rattle.vs_apps_parts.specs.{Journals.entry_called, Journals.entry_waited, Journals.made_as, Scripts.RunScript}
-use Rattle.vs_apps_parts.specs.declared.{journal.Entry.Entry, progress.Progress.Progress}
 use Rattle.vs_apps_parts.specs.declared.journal.Called.TheVariants as called
 use Rattle.vs_apps_parts.specs.declared.journal.WaitsFor.TheVariants as waits
 use Rattle.vs_driver_parts.specs.declared.answers.Accepted.TheVariants as accepted

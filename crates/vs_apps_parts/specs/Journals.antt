@@ -1,12 +1,11 @@
 -- The journal: which calls on the driver its entries tell of, and what they sent and received.
-use Rattle.std.specs.Prelude.{ℕ, ◌+◌, ◌==◌, ◌≤◌, ◌-◌, ◌^◌, min, if◌then◌else◌, List, [], ◌∷◌, ◌++◌, length}
-use Rattle.std.specs.{Option.unwrap_or, Prelude.Option, Prelude.Some, Prelude.None, Prelude.slice_get, Prelude.slice_set}
+use Rattle.std.specs.{Prelude.{ℕ, ◌+◌, ◌==◌, ◌≤◌, ◌-◌, ◌^◌, min, if◌then◌else◌, List, [], ◌∷◌, ◌++◌, length, Option, Some, None, slice_get, slice_set}, Option.unwrap_or}
 use Rattle.vs_script.specs.{App.Act, Data.bytes_of}
-use Rattle.vs_script.specs.App as act
 use Rattle.vs_driver_parts.specs.Connections.{got_count}
-use Rattle.laws_driver.specs.Carried.{Calls.GuestCall, Calls.Journal, Calls.Made, Calls.ReplyTo, Calls.bytes_sent, Calls.names}
-use Rattle.laws_driver.specs.Carried.Calls as call
+use Rattle.laws_driver.specs.Carried.Calls.{GuestCall, Journal, Made, ReplyTo, bytes_sent, names}
 use Rattle.vs_apps_parts.specs.{Scripts.{RunScript, acts_of, slice_of}, declared.journal.{Called.Called, Entry.Entry, WaitsFor.WaitsFor}}
+use Rattle.vs_script.specs.App as act
+use Rattle.laws_driver.specs.Carried.Calls as call
 use Rattle.vs_apps_parts.specs.declared.journal.Called.TheVariants as called
 use Rattle.vs_apps_parts.specs.declared.journal.Deed.TheVariants as deed
 

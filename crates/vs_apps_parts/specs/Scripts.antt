@@ -1,12 +1,11 @@
 -- The script of a run, and how apps go along it.
-use Rattle.std.specs.Prelude.{◌≡◌, ℕ, ◌+◌, ◌-◌, ◌≤◌, ◌^◌, min, nat_le, nat_lt, ◌&&◌, ◌||◌, Bool, true, false, if◌then◌else◌, List, [], ◌∷◌}
-use Rattle.std.specs.{Prelude.{◌++◌, map, take, drop, slice_get, slice_index_or, Some, None}, List.All, Option.unwrap_or}
-use Rattle.vs_script.specs.{Data.Content, Data.bytes_of, Data.size_of, declared.app.App.App, App.Act, App.app_view, App.Connect, App.Listen}
-use Rattle.vs_script.specs.App.{Accept, Send, Recv, Drain, Exchange, Shutdown, Grow, Close}
+use Rattle.std.specs.Prelude.{◌≡◌, ℕ, ◌+◌, ◌-◌, ◌≤◌, ◌^◌, min, nat_le, nat_lt, ◌&&◌, ◌||◌, Bool, true, false, if◌then◌else◌, List, [], ◌∷◌, ◌++◌, map, take, drop, slice_get}
+use Rattle.std.specs.{Prelude.{slice_index_or, Some, None}, List.All, Option.unwrap_or}
+use Rattle.vs_script.specs.{Data.{Content, bytes_of, size_of}, declared.app.App.App, App.{Act, app_view, Connect, Listen, Accept, Send, Recv, Drain, Exchange, Shutdown, Grow}}
+use Rattle.vs_script.specs.App.{Close}
 use Rattle.laws_driver.specs.Carried.Calls.{GuestCall, Journal, Made}
+use Rattle.vs_apps_parts.specs.{Told.{is_any_end, step_wait, told_of, wait_of}, declared.{progress.{Progress.Progress, TheConstants.SLICE}, told.Told.Told}}
 use Rattle.laws_driver.specs.Carried.Calls as call
-use Rattle.vs_apps_parts.specs.{Told.is_any_end, Told.step_wait, Told.told_of, Told.wait_of, declared.progress.Progress.Progress}
-use Rattle.vs_apps_parts.specs.declared.{progress.TheConstants.SLICE, told.Told.Told}
 use Rattle.vs_apps_parts.specs.declared.told.Told.TheVariants as told
 
 -- What each app is to do.

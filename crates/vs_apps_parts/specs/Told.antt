@@ -1,9 +1,8 @@
 -- What a reply tells an app: to wait, or how it goes on.
 use Rattle.std.specs.Prelude.{ℕ, ◌||◌, Bool, true, false, List, [], ◌∷◌, ◌++◌, Option, Some, None, Result, Ok, Err}
-use Rattle.vs_driver_parts.specs.declared.answers.{Accepted.Accepted, ConnectError.ConnectError, ConnectionState.ConnectionState}
-use Rattle.vs_driver_parts.specs.declared.answers.{Received.Received, Sent.Sent}
+use Rattle.vs_driver_parts.specs.declared.answers.{Accepted.Accepted, ConnectError.ConnectError, ConnectionState.ConnectionState, Received.Received, Sent.Sent}
 use Rattle.laws_driver.specs.Carried.Calls.{GuestCall, Made, ReplyTo, Connect, Accept, Send, Recv, LookAt}
-use Rattle.vs_apps_parts.specs.declared.{journal.WaitsFor.WaitsFor, told.Heard.Heard, told.Told.Told}
+use Rattle.vs_apps_parts.specs.declared.{journal.WaitsFor.WaitsFor, told.{Heard.Heard, Told.Told}}
 use Rattle.vs_apps_parts.specs.declared.journal.WaitsFor.TheVariants as waits
 use Rattle.vs_apps_parts.specs.declared.told.Told.TheVariants as told
 use Rattle.vs_driver_parts.specs.declared.answers.Accepted.TheVariants as accepted

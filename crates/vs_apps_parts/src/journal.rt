@@ -1,8 +1,7 @@
 //! The journal of a run: the calls that its apps made, with what they answered, and their waits.
 
 ghost use Rattle.std.specs.Prelude.{◌≡◌, ◌+◌, ◌<◌, ◌≤◌, IfSome, List, ℕ, vec_capacity, vec_len};
-ghost use Rattle.vs_apps_parts.specs.{Journals.called_noted, Journals.made_of, Journals.times_at, Journals.wait_noted, Journals.wait_place};
-ghost use Rattle.vs_apps_parts.specs.{Scripts.RunScript, Told.told_of, Told.wait_of};
+ghost use Rattle.vs_apps_parts.specs.{Journals.{called_noted, made_of, times_at, wait_noted, wait_place}, Scripts.RunScript, Told.{told_of, wait_of}};
 
 use crate::told::Told;
 use vs_driver_parts::answers::{

@@ -2,13 +2,11 @@
 
 ghost use Rattle.std.specs.Prelude.{◌≡◌, [], ◌∷◌, codes, None, Some, true};
 ghost use Rattle.laws_driver.specs.Carried.Calls.{received_by};
-ghost use Rattle.vs_script.specs.{App.Accept, App.Close, App.Connect, App.Drain, App.Exchange, App.Recv, App.Send, Data.Given};
-ghost use Rattle.vs_apps_parts.specs.Examples.{accepted_one, answered, asked, at_next, bad_port, both_wait, closed_it, drained, full};
-ghost use Rattle.vs_apps_parts.specs.Examples.{greeters, greeting, heard_nothing, heard_unknown, hi, looked, no_credit, none_waiting};
-ghost use Rattle.vs_apps_parts.specs.Examples.{opened, said, sent_he, sent_hello, sent_llo, sent_nothing, shut_down};
-ghost use Rattle.vs_apps_parts.specs.Journals.{calls_of, calls_of_app, last_wait, sent_as};
-ghost use Rattle.vs_apps_parts.specs.Scripts.{Goes, begun, on_to_next, told_in, with_noted};
-ghost use Rattle.vs_apps_parts.specs.{Told.step_wait, Scripts.IsPlayed, Scripts.acts_of};
+ghost use Rattle.vs_script.specs.{App.{Accept, Close, Connect, Drain, Exchange, Recv, Send}, Data.Given};
+ghost use Rattle.vs_apps_parts.specs.Examples.{accepted_one, answered, asked, at_next, bad_port, both_wait, closed_it, drained, full, greeters, greeting, heard_nothing};
+ghost use Rattle.vs_apps_parts.specs.Examples.{heard_unknown, hi, looked, no_credit, none_waiting, opened, said, sent_he, sent_hello, sent_llo, sent_nothing, shut_down};
+ghost use Rattle.vs_apps_parts.specs.{Journals.{calls_of, calls_of_app, last_wait, sent_as}, Scripts.{Goes, begun, on_to_next, told_in, with_noted, IsPlayed, acts_of}};
+ghost use Rattle.vs_apps_parts.specs.Told.{step_wait};
 ghost use Rattle.vs_apps_parts.specs.declared.journal.WaitsFor.TheVariants as waits;
 
 /// Steps of an app, each with the instruction that it is at.

@@ -2,8 +2,7 @@
 
 ghost use Rattle.std.specs.Prelude.{◌≡◌, ◌+◌, ◌<◌, ◌≤◌, ◌^◌, None};
 ghost use Rattle.vs_script.specs.App.{instruction_view};
-ghost use Rattle.vs_apps_parts.specs.Scripts.{after_step, begun, counted, id_of, is_complete, on_to_next, slice_left};
-ghost use Rattle.vs_apps_parts.specs.Told.{step_wait, told_list};
+ghost use Rattle.vs_apps_parts.specs.{Scripts.{after_step, begun, counted, id_of, is_complete, on_to_next, slice_left}, Told.{step_wait, told_list}};
 
 use crate::journal::WaitsFor;
 use crate::told::{Heard, Told};

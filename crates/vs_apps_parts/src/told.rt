@@ -1,9 +1,8 @@
 //! What a reply tells an app.
 
 ghost use Rattle.std.specs.Prelude.{◌≡◌, [], ◌∷◌, List, ℕ};
-ghost use Rattle.vs_apps_parts.specs.{Journals.made_of, Scripts.RunScript, Told.is_any_end, Told.is_end, Told.step_wait, Told.told_of};
-ghost use Rattle.vs_apps_parts.specs.{Told.wait_of};
-ghost use Rattle.vs_apps_parts.specs.Told.{told_accept, told_connect, told_list, told_look, told_recv, told_send, waits_on};
+ghost use Rattle.vs_apps_parts.specs.{Journals.made_of, Scripts.RunScript, Told.{is_any_end, is_end, step_wait, told_of, wait_of, told_accept, told_connect, told_list, told_look}};
+ghost use Rattle.vs_apps_parts.specs.Told.{told_recv, told_send, waits_on};
 
 use crate::journal::{Called, WaitsFor};
 use vs_driver_parts::answers::{Accepted, ConnId, ConnectError, ConnectionState, Received, Sent};

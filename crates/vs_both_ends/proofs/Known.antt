@@ -1,11 +1,10 @@
 -- Standard rings whose ends are known.
-use Rattle.std.proofs.Common.{◌≡◌, ℕ, length, Option, Some, refl, sym, ap, ◌∙◌, subst}
-use Rattle.std.{proofs.lemmas.List.length-replicate, specs.Option.ForSome}
+use Rattle.std.{proofs.{Common.{◌≡◌, ℕ, length, Option, Some, refl, sym, ap, ◌∙◌, subst}, lemmas.List.length-replicate}, specs.Option.ForSome}
 use Rattle.vs_guest_mem.specs.Memory.{Memory, zeroed}
 use Rattle.vs_ring_list.specs.Ends.{Ends, IsQueueSize, empty_ends}
 use Rattle.laws_plain_rings.specs.Exposed.{BothEnds, first_ends}
 use Rattle.vs_plain_rings.specs.Counted.{AreCounted}
-use Rattle.vs_both_ends.{specs.Standard.memory_size, specs.View.known, proofs.Memory.known_at}
+use Rattle.vs_both_ends.{specs.{Standard.memory_size, View.known}, proofs.Memory.known_at}
 
 -- What both ends count.
 pub counted_as : (b : BothEnds) (now : Ends) → known b.ends ≡ now → b.ends ≡ Some (known b.ends) → ForSome b.ends (AreCounted b.parts)

@@ -1,9 +1,8 @@
 -- The marks of bytes that come together, and the newest one.
-use Rattle.std.proofs.Common.{◌≡◌, ℕ, zero, suc, ◌+◌, ◌-◌, ◌<◌, ◌≤◌, ◌==◌, Bool, true, false, cond, List, [], ◌∷◌, ◌++◌, length, take, drop}
-use Rattle.std.proofs.{Common.{Option, Some, None, refl, ap, ◌∙◌, arith, length-append, length-take}, lemmas.Bool.Decides.nat_tests}
-use Rattle.std.specs.Option.{IfSome, option_map}
+use Rattle.std.proofs.Common.{◌≡◌, ℕ, zero, suc, ◌+◌, ◌-◌, ◌<◌, ◌≤◌, ◌==◌, Bool, true, false, cond, List, [], ◌∷◌, ◌++◌, length, take, drop, Option, Some, None, refl, ap, ◌∙◌}
+use Rattle.std.{proofs.{Common.{arith, length-append, length-take}, lemmas.Bool.Decides.nat_tests}, specs.Option.{IfSome, option_map}}
 use Rattle.circular_buffer.specs.Buffer.{keep_last}
-use Rattle.vs_buffer.specs.{declared.messages.Mark.Mark, Messages.first_message, Messages.marks_of, Messages.with_last}
+use Rattle.vs_buffer.specs.{declared.messages.Mark.Mark, Messages.{first_message, marks_of, with_last}}
 use Rattle.vs_buffer.specs.declared.messages.Mark.TheVariants as mark
 
 first_of_more : (n : ℕ) (last : Mark) → marks_of (suc n) last ≡ cond (n == 0) last mark.None ∷ marks_of n last

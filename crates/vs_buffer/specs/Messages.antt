@@ -1,6 +1,5 @@
 -- What a contract sees of a `MessageFifo`.
-use Rattle.std.specs.Prelude.{ℕ, zero, suc, ◌+◌, Bool, true, false, if◌then◌else◌, List, [], ◌∷◌, ◌++◌, length, take, drop, Option, Some}
-use Rattle.std.specs.{Prelude.None, Option.option_map}
+use Rattle.std.specs.{Prelude.{ℕ, zero, suc, ◌+◌, Bool, true, false, if◌then◌else◌, List, [], ◌∷◌, ◌++◌, length, take, drop, Option, Some, None}, Option.option_map}
 use Rattle.vs_buffer.specs.declared.messages.Mark.{Mark}
 use Rattle.vs_buffer.specs.declared.messages.Mark.TheVariants as mark
 

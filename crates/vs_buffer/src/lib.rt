@@ -2,8 +2,7 @@
 //! yet (the receive buffer of Virtio 1.2, section 5.10.6.3, whose size is `buf_alloc`); and such a queue that knows where messages end.
 #![tactic(auto)]
 
-ghost use Rattle.std.specs.Prelude.{◌≡◌, ◌+◌, ◌-◌, ◌≤◌, ◌==◌, [], ◌++◌, IfOk, drop, length, min, take};
-ghost use Rattle.std.specs.Vec.{vec_capacity};
+ghost use Rattle.std.specs.{Prelude.{◌≡◌, ◌+◌, ◌-◌, ◌≤◌, ◌==◌, [], ◌++◌, IfOk, drop, length, min, take}, Vec.vec_capacity};
 
 pub mod messages;
 
@@ -23,8 +22,7 @@ pub struct ByteFifo {
 }
 
 impl Model for ByteFifo {
-    ghost use Rattle.std.specs.Prelude.{drop, take};
-    ghost use Rattle.std.specs.Vec.{vec_capacity};
+    ghost use Rattle.std.specs.{Prelude.{drop, take}, Vec.vec_capacity};
     ghost use Rattle.vs_buffer.specs.Fifo.{Fifo, IsSound};
 
     ghost Value = { Fifo };

@@ -1,7 +1,6 @@
 //! A bounded queue of the bytes that came in on a connection and were not read yet, which of a seqpacket socket knows where messages end
 //! (Virtio 1.2, section 5.10.6.6.1).
-ghost use Rattle.std.specs.Prelude.{◌≡◌, ◌+◌, ◌-◌, ◌<◌, ◌≤◌, ◌==◌, if◌then◌else◌, [], ◌++◌, IfOk, IfSome, drop, length, min, take};
-ghost use Rattle.std.specs.Option.{option_map_or};
+ghost use Rattle.std.specs.{Prelude.{◌≡◌, ◌+◌, ◌-◌, ◌<◌, ◌≤◌, ◌==◌, if◌then◌else◌, [], ◌++◌, IfOk, IfSome, drop, length, min, take}, Option.option_map_or};
 ghost use Rattle.vs_buffer.specs.Messages.{marks_of, first_message, with_last, with_bytes, dropped};
 
 use crate::ByteFifo;

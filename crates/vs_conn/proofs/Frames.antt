@@ -1,7 +1,6 @@
 -- What a packet that is got, and one that is paid, leave of an end as it was. States go forward alone.
 use Rattle.std.proofs.{Common.{◌≡◌, Some, arith}, lemmas.Grind.common_steps}
-use Rattle.vs_conn.specs.{End.ConnectionEnd, End.end_after, End.owes_of, End.paid_of, declared.end.Owed.Owed}
-use Rattle.vs_conn.specs.declared.end.State.TheVariants.{Asked, Answering, Ended}
+use Rattle.vs_conn.specs.{End.{ConnectionEnd, end_after, owes_of, paid_of}, declared.end.{Owed.Owed, State.TheVariants.{Asked, Answering, Ended}}}
 use Rattle.vs_header.specs.declared.Header.{Header}
 
 -- A packet got.

@@ -1,7 +1,6 @@
 -- Conversations that repeat a step: whatever completes the rest completes the whole.
 use Rattle.std.proofs.Common.{◌≡◌, ℕ, suc, ◌+◌, ◌-◌, ◌<◌, ◌≤◌, Bool, true, false, refl, ap, subst, arith}
-use Rattle.vs_contents.specs.CallTree.{CallTree, Done, bind, while_up_to, Leads, MayPlay}
-use Rattle.vs_contents.proofs.{Leads.leads_of, Leads.leads_bind, Conditions.may_first, Conditions.may_rest, Conditions.may_of}
+use Rattle.vs_contents.{specs.CallTree.{CallTree, Done, bind, while_up_to, Leads, MayPlay}, proofs.{Leads.{leads_of, leads_bind}, Conditions.{may_first, may_rest, may_of}}}
 
 module _ {Call : Type 0} {Answer : Call → Type 0} {S A : Type 0} (Allows : (call : Call) → Answer call → S → S → Type 0) (step : A → CallTree Call Answer (A × Bool)) where
   -- what a step that goes on, or doesn't, leaves to be done

@@ -1,25 +1,19 @@
 -- What the device, the proxy and the host's programs do is an event of the world.
-use Rattle.std.proofs.Common.{◌≡◌, ℕ, suc, ◌+◌, ◌&&◌, Bool, true, false, cond, List, [], ◌∷◌, Option, Some, Result, is_some, Contains, refl}
-use Rattle.std.proofs.{Common.{sym, ap, subst, ◌∙◌, arith}, lemmas.{Iterator.Adapters.position_from-zero, Bool.and_parts}}
-use Rattle.std.specs.{Option.ForSome, List.position, List.position_from}
+use Rattle.std.proofs.Common.{◌≡◌, ℕ, suc, ◌+◌, ◌&&◌, Bool, true, false, cond, List, [], ◌∷◌, Option, Some, Result, is_some, Contains, refl, sym, ap, subst, ◌∙◌, arith}
+use Rattle.std.{proofs.lemmas.{Iterator.Adapters.position_from-zero, Bool.and_parts}, specs.{Option.ForSome, List.{position, position_from}}}
 use Rattle.vs_flow.specs.declared.flow.Flow.{Flow}
 use Rattle.vs_outside.specs.Host.{HostContents}
-use Rattle.vs_ring_port.specs.Chains.{Held, chains_of, same_chain, same_queue}
-use Rattle.vs_ring_port.specs.declared.{device_ring.Chain.Chain, failure.Failure.Failure, queue.Queue.Queue}
-use Rattle.vs_ring_list.{specs.Ends.Ends, proofs.Held.same_chain_is, proofs.Held.same_queue_is}
+use Rattle.vs_ring_port.specs.{Chains.{Held, chains_of, same_chain, same_queue}, declared.{device_ring.Chain.Chain, failure.Failure.Failure, queue.Queue.Queue}}
+use Rattle.vs_ring_list.{specs.Ends.Ends, proofs.Held.{same_chain_is, same_queue_is}}
 use Rattle.vs_device_parts.specs.{Calls.DeviceTree, Playing.IsAmong, State.DeviceState}
-use Rattle.laws_device.specs.Named.Streams.{HasStreams}
-use Rattle.vs_proxy_parts.specs.{State.{ProxyState, Turning, start, with_device}, Handshakes.{read_byte, streams_of}, Turns.proxy_reset_of}
-use Rattle.vs_proxy_parts.specs.Growing.{after_flow_grow}
+use Rattle.laws_device.specs.{Named.Streams.HasStreams, Honest.is_held}
+use Rattle.vs_proxy_parts.specs.{State.{ProxyState, Turning, start, with_device}, Handshakes.{read_byte, streams_of}, Turns.proxy_reset_of, Growing.after_flow_grow}
 use Rattle.laws_proxy.proofs.Growing.{flow_grow_stays, flow_grow_streams}
-use Rattle.laws_device.specs.Honest.{is_held}
-use Rattle.laws_world.specs.Events.{DeviceGrows, Event, Moment, device_step, happens, has_failed, host_step, line_read, proxy_step, reset_made, run}
-use Rattle.laws_world.specs.Events.{is_guest_cid, unless_failed, where_possible}
-use Rattle.laws_world.specs.{Over.device_after, Over.proxy_after, Over.reset_after, Pipes.IsFresh, World.World, World.opening}
-use Rattle.laws_world.proofs.{Opening.run_well, Sound.IsWell, Flown.LeavesDriver, OverBoth.IsPlayed, StayOpen.StayOpen, StayOpen.still_has}
-use Rattle.vs_core.specs.Ready.{Happens, IsReached, IsReady, IsServedAtWork, WorldState, shown, with_journal}
-use Rattle.vs_core.proofs.Happening.{happened, where_is}
-use Rattle.vs_core.proofs.Stepped.{driven_still, line_after, reset_played, step_after, step_serves, turn_after, turn_serves}
+use Rattle.laws_world.specs.Events.{DeviceGrows, Event, Moment, device_step, happens, has_failed, host_step, line_read, proxy_step, reset_made, run, is_guest_cid, unless_failed}
+use Rattle.laws_world.{specs.{Events.where_possible, Over.{device_after, proxy_after, reset_after}, Pipes.IsFresh, World.{World, opening}}, proofs.{Opening.run_well, Sound.IsWell}}
+use Rattle.laws_world.proofs.{Flown.LeavesDriver, OverBoth.IsPlayed, StayOpen.{StayOpen, still_has}}
+use Rattle.vs_core.{specs.Ready.{Happens, IsReached, IsReady, IsServedAtWork, WorldState, shown, with_journal}, proofs.{Happening.{happened, where_is}, Stepped.driven_still}}
+use Rattle.vs_core.proofs.Stepped.{line_after, reset_played, step_after, step_serves, turn_after, turn_serves}
 
 -- The test of the rings says what the events' says.
 found_from : (chain : Chain) (held : List Held) (i : ℕ)

@@ -1,16 +1,12 @@
 -- The rings stay the driver's over its steps and its calls.
-use Rattle.std.proofs.Common.{◌≡◌, ℕ, ◌<◌, true, [], length, Option, Some, unwrap_or, refl, sym, ap, subst, ◌∙◌, rules}
-use Rattle.std.proofs.lemmas.Bool.{and_parts}
-use Rattle.vs_ring_port.specs.{Contents.RingContents, Counts.at, Counts.no_counts, Counts.with_count, EndLog.EndLog, EndLog.Pages}
-use Rattle.vs_ring_port.specs.{EndLog.pages_at, declared.queue.Queue.Queue}
-use Rattle.vs_ring_port.specs.declared.queue.Queue.TheVariants.{Rx, Tx, Event}
+use Rattle.std.proofs.{Common.{◌≡◌, ℕ, ◌<◌, true, [], length, Option, Some, unwrap_or, refl, sym, ap, subst, ◌∙◌, rules}, lemmas.Bool.and_parts}
+use Rattle.vs_ring_port.specs.{Contents.RingContents, Counts.{at, no_counts, with_count}, EndLog.{EndLog, Pages, pages_at}, declared.queue.Queue.{Queue, TheVariants.{Rx, Tx}}}
+use Rattle.vs_ring_port.specs.declared.queue.Queue.TheVariants.{Event}
 use Rattle.vs_ring_list.specs.Ends.{Ends, driver_contents, flight_of, staged_of}
-use Rattle.vs_driver_parts.specs.{Playing.IsAtWork, Playing.IsRingOf, Playing.SamePages, State.DriverState}
-use Rattle.laws_driver.specs.{Honest.AgreesWith, Honest.IsHonest, Honest.IsHonestWith, Honest.ends_of_state, Staged.IsAtWorkWith}
-use Rattle.laws_driver.specs.Staged.{IsLeft, IsTied, IsWorkingWith}
-use Rattle.laws_driver.proofs.Ringing.{agrees, at_rest, tied}
-use Rattle.laws_world.specs.{Events.is_at_rest, Events.none_staged, Events.works_on, World.first_cid}
-use Rattle.laws_world.proofs.{Polls.rest_works, Sound.nothing_staged}
+use Rattle.vs_driver_parts.specs.{Playing.{IsAtWork, IsRingOf, SamePages}, State.DriverState}
+use Rattle.laws_driver.{specs.{Honest.{AgreesWith, IsHonest, IsHonestWith, ends_of_state}, Staged.{IsAtWorkWith, IsLeft, IsTied, IsWorkingWith}}, proofs.Ringing.{agrees, at_rest}}
+use Rattle.laws_driver.proofs.Ringing.{tied}
+use Rattle.laws_world.{specs.{Events.{is_at_rest, none_staged, works_on}, World.first_cid}, proofs.{Polls.rest_works, Sound.nothing_staged}}
 use Rattle.vs_core.specs.Ready.{IsDrivenAtWork}
 use Rattle.vs_limits.specs.declared.TheConstants.{STAGED_MAX}
 

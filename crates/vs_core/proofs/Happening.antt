@@ -1,25 +1,21 @@
 -- What an event leads to, and that the next one may happen.
-use Rattle.std.proofs.Common.{◌≡◌, ℕ, ◌<◌, ◌^◌, ◌&&◌, ◌↔◌, nat_lt, Bool, true, false, List, [], ◌∷◌, ◌++◌, is_some, Result, Ok, Err, OnOk}
-use Rattle.std.proofs.{Common.{OnErr, IsOk, IsTrue, is_ok, refl, sym, ap, subst, ◌∙◌, arith, rules}, lemmas.Bool.Decides.nat_tests}
+use Rattle.std.proofs.Common.{◌≡◌, ℕ, ◌<◌, ◌^◌, ◌&&◌, ◌↔◌, nat_lt, Bool, true, false, List, [], ◌∷◌, ◌++◌, is_some, Result, Ok, Err, OnOk, OnErr, IsOk, IsTrue, is_ok, refl, sym}
+use Rattle.std.proofs.{Common.{ap, subst, ◌∙◌, arith, rules}, lemmas.Bool.Decides.nat_tests}
 use Rattle.vs_contents.specs.CallTree.{Done}
 use Rattle.vs_outside.specs.Host.{HostContents}
 use Rattle.vs_ring_port.specs.{Chains.chains_of, Contents.RingContents, EndLog.EndLog, declared.queue.Queue.Queue}
 use Rattle.vs_ring_list.specs.Ends.{Ends, driver_contents, flight_of, staged_of}
-use Rattle.vs_driver_parts.specs.Playing.{IsAtWork, IsRingOf, Plays, SamePages}
-use Rattle.vs_driver_parts.specs.{Conversations.DriverTree, Conversations.publish_of, Connections.after_unlisten, Listening.listen_of}
-use Rattle.vs_driver_parts.specs.{Listening.listener_on, Listening.listening, State.DriverState, Steps.stages_owed, Steps.stages_reply}
-use Rattle.vs_driver_parts.specs.{Steps.takes_page, declared.answers.ListenError.ListenError, declared.answers.NotListening.NotListening}
-use Rattle.laws_driver.specs.{Honest.IsHonestWith, Staged.IsWorkingWith}
-use Rattle.vs_device_parts.specs.Steps.{takes_chain, returns, puts_event, puts_reply, puts_owed, puts_payload, writes, shuts_write}
-use Rattle.vs_device_parts.specs.{Calls.DeviceTree, Playing.IsAmong, State.DeviceState, Streams.tick_slot}
-use Rattle.vs_proxy_parts.specs.{Handshakes.accept_one, Handshakes.tick_handshake, State.ProxyState}
-use Rattle.laws_world.specs.Events.{Event, call_made, device_step, driver_step, happens, has_failed, holds, is_at_rest, is_guest_cid}
-use Rattle.laws_world.specs.Events.{line_read, proxy_step, reset_made, run, unless_failed, where_possible, works_on}
-use Rattle.laws_world.{specs.World.World, specs.World.first_cid, specs.World.opening, specs.Over.over_lists, proofs.OverLists.over}
-use Rattle.laws_driver.specs.Carried.Calls.{GuestCall, ReplyTo, is_right, makes_call}
-use Rattle.vs_core.proofs.Driven.{driven_stays, honest_rest, rested, stepped, works_with}
-use Rattle.vs_core.specs.Ready.{Happens, IsDrivenAtWork, IsReached, IsReady, IsServedAtWork, WorldState, shown, with_journal}
-use Rattle.vs_core.specs.{Views.Steps, Views.Tells, Views.TellsWhere, declared.event.Reply.Reply}
+use Rattle.vs_driver_parts.specs.{Playing.{IsAtWork, IsRingOf, Plays, SamePages}, Conversations.{DriverTree, publish_of}, Connections.after_unlisten, Listening.listen_of}
+use Rattle.vs_driver_parts.specs.{Listening.{listener_on, listening}, State.DriverState, Steps.{stages_owed, stages_reply, takes_page}, declared.answers.ListenError.ListenError}
+use Rattle.vs_driver_parts.specs.declared.answers.NotListening.{NotListening}
+use Rattle.laws_driver.specs.{Honest.IsHonestWith, Staged.IsWorkingWith, Carried.Calls.{GuestCall, ReplyTo, is_right, makes_call}}
+use Rattle.vs_device_parts.specs.{Steps.{takes_chain, returns, puts_event, puts_reply, puts_owed, puts_payload, writes, shuts_write}, Calls.DeviceTree, Playing.IsAmong}
+use Rattle.vs_device_parts.specs.{State.DeviceState, Streams.tick_slot}
+use Rattle.vs_proxy_parts.specs.{Handshakes.{accept_one, tick_handshake}, State.ProxyState}
+use Rattle.laws_world.specs.Events.{Event, call_made, device_step, driver_step, happens, has_failed, holds, is_at_rest, is_guest_cid, line_read, proxy_step, reset_made, run}
+use Rattle.laws_world.{specs.{Events.{unless_failed, where_possible, works_on}, World.{World, first_cid, opening}, Over.over_lists}, proofs.OverLists.over}
+use Rattle.vs_core.{proofs.Driven.{driven_stays, honest_rest, rested, stepped, works_with}, specs.Ready.{Happens, IsDrivenAtWork, IsReached, IsReady, IsServedAtWork, WorldState}}
+use Rattle.vs_core.specs.{Ready.{shown, with_journal}, Views.{Steps, Tells, TellsWhere}, declared.event.Reply.Reply}
 use Rattle.vs_ring_port.specs.declared.queue.Queue.TheVariants as q
 use Rattle.laws_driver.specs.Carried.Calls as call
 use Rattle.laws_world.specs.Events as event

@@ -1,19 +1,16 @@
 -- Each single step of the device and of the proxy may be made in a world that events lead to.
-use Rattle.std.proofs.Common.{◌≡◌, ℕ, nat_le, true, Option, None, Some, unwrap_or, ap, subst, arith, sym}
-use Rattle.std.proofs.lemmas.Bool.{Decides.nat_tests, and_parts}
+use Rattle.std.proofs.{Common.{◌≡◌, ℕ, nat_le, true, Option, None, Some, unwrap_or, ap, subst, arith, sym}, lemmas.Bool.{Decides.nat_tests, and_parts}}
 use Rattle.vs_outside.specs.Host.{HostContents}
-use Rattle.vs_ring_port.specs.{Chains.same_queue, declared.{device_ring.Chain.Chain, queue.Queue.Queue, queue.Queue.TheVariants.Event}}
+use Rattle.vs_ring_port.specs.{Chains.same_queue, declared.{device_ring.Chain.Chain, queue.Queue.{Queue, TheVariants.Event}}}
 use Rattle.vs_ring_list.{specs.Ends.device_contents, proofs.Held.same_queue_is}
-use Rattle.vs_device_parts.specs.Steps.{puts_event, puts_owed, puts_payload, puts_reply, shuts_write, takes_chain, writes}
-use Rattle.vs_device_parts.specs.{Calls.Situation, Calls.Allows, Playing.CanMake, Playing.MayRun, Playing.situation, Streams.tick_slot}
-use Rattle.laws_device.proofs.Named.Stepping.{puts_event_keeps, shuts_at, takes_at, writes_at, puts_owed_keeps, puts_payload_keeps}
-use Rattle.laws_device.{specs.Named.Split.CanReach, specs.Named.Streams.HasStreams, proofs.Named.Conditions.may_where, proofs.Named.Conditions.quiet_can}
-use Rattle.laws_device.{proofs.Named.Keeping.keeps_may, proofs.Named.Stepping.puts_reply_keeps, proofs.Named.Closing.keeps_tick_slot}
-use Rattle.vs_proxy_parts.specs.{Handshakes.read_byte, Handshakes.streams_of, Handshakes.tick_handshake, State.start, Turns.proxy_reset_of}
-use Rattle.laws_proxy.proofs.Named.{Shaking.FindsAll, Shaking.keeps_read_byte, Shaking.keeps_tick_handshake, Turning.keeps_proxy_reset}
-use Rattle.laws_device.{specs.Honest.is_held, proofs.Carrying.With, proofs.Keeping.keeps_put}
-use Rattle.laws_world.proofs.Sound.{IsWell, all, carry, held_there, proxied}
-use Rattle.laws_world.specs.{Events.holds, World.World, World.first_cid}
+use Rattle.vs_device_parts.specs.{Steps.{puts_event, puts_owed, puts_payload, puts_reply, shuts_write, takes_chain, writes}, Calls.{Situation, Allows}, Playing.{CanMake, MayRun}}
+use Rattle.vs_device_parts.specs.{Playing.situation, Streams.tick_slot}
+use Rattle.laws_device.proofs.Named.{Stepping.{puts_event_keeps, shuts_at, takes_at, writes_at, puts_owed_keeps, puts_payload_keeps, puts_reply_keeps}, Conditions.may_where}
+use Rattle.laws_device.{proofs.{Named.{Conditions.quiet_can, Keeping.keeps_may, Closing.keeps_tick_slot}, Carrying.With, Keeping.keeps_put}, specs.Named.Split.CanReach}
+use Rattle.laws_device.specs.{Named.Streams.HasStreams, Honest.is_held}
+use Rattle.vs_proxy_parts.specs.{Handshakes.{read_byte, streams_of, tick_handshake}, State.start, Turns.proxy_reset_of}
+use Rattle.laws_proxy.proofs.Named.{Shaking.{FindsAll, keeps_read_byte, keeps_tick_handshake}, Turning.keeps_proxy_reset}
+use Rattle.laws_world.{proofs.Sound.{IsWell, all, carry, held_there, proxied}, specs.{Events.holds, World.{World, first_cid}}}
 use Rattle.laws_device.proofs.Stepping as steps
 
 -- What the device finds in the world, where n calls of the host failed so far.

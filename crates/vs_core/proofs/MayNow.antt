@@ -1,15 +1,14 @@
 -- Each step of the device and of the proxy may be made in a world that is ready.
 use Rattle.std.proofs.Common.{◌≡◌, ℕ, ◌&&◌, nat_le, false, true, None, Some, is_some}
-use Rattle.vs_ring_port.specs.{Chains.same_queue, declared.{device_ring.Chain.Chain, queue.Queue.Queue, queue.Queue.TheVariants.Event}}
+use Rattle.vs_ring_port.specs.{Chains.same_queue, declared.{device_ring.Chain.Chain, queue.Queue.{Queue, TheVariants.Event}}}
 use Rattle.vs_ring_list.specs.Ends.{device_contents}
-use Rattle.vs_device_parts.specs.Steps.{puts_event, puts_owed, puts_payload, puts_reply, shuts_write, takes_chain, writes}
-use Rattle.vs_device_parts.specs.{Calls.DeviceTree, Playing.MayRun, Playing.situation, Streams.tick_slot, State.DeviceState}
-use Rattle.vs_proxy_parts.specs.{Handshakes.read_byte, Handshakes.tick_handshake, State.ProxyState, State.start, Turns.proxy_reset_of}
+use Rattle.vs_device_parts.specs.{Steps.{puts_event, puts_owed, puts_payload, puts_reply, shuts_write, takes_chain, writes}, Calls.DeviceTree, Playing.{MayRun, situation}}
+use Rattle.vs_device_parts.specs.{Streams.tick_slot, State.DeviceState}
+use Rattle.vs_proxy_parts.specs.{Handshakes.{read_byte, tick_handshake}, State.{ProxyState, start}, Turns.proxy_reset_of}
 use Rattle.laws_device.specs.Honest.{is_held}
-use Rattle.laws_world.{specs.World.World, proofs.Sound.IsWell, proofs.Sound.none_failed}
-use Rattle.vs_core.proofs.May.{here, may_event, may_line, may_pay, may_read, may_reply, may_reset, may_shut, may_take, may_tick}
-use Rattle.vs_core.proofs.{DeviceHappening.of_reached, May.may_tick_line, May.may_write}
-use Rattle.vs_core.specs.Ready.{IsReady, IsServedAtWork, WorldState}
+use Rattle.laws_world.{specs.World.World, proofs.Sound.{IsWell, none_failed}}
+use Rattle.vs_core.proofs.May.{here, may_event, may_line, may_pay, may_read, may_reply, may_reset, may_shut, may_take, may_tick, may_tick_line, may_write}
+use Rattle.vs_core.{proofs.DeviceHappening.of_reached, specs.Ready.{IsReady, IsServedAtWork, WorldState}}
 
 abbrev pub MayNow : {A : Type 0} → (ProxyState → DeviceTree A) → WorldState → ℕ → Type 0
 MayNow tree s n = MayRun (tree s.proxy) (situation (device_contents s.rings) (Some s.host) n)

@@ -1,6 +1,6 @@
 -- The world in which nothing has happened yet.
 use Rattle.std.proofs.Common.{◌≡◌, ℕ, List, [], sym, ap, subst, ◌∙◌}
-use Rattle.vs_outside.specs.{Host.HostContents, HostProgram.HostMemory, HostProgram.new_host, HostProgram.plain}
+use Rattle.vs_outside.specs.{Host.HostContents, HostProgram.{HostMemory, new_host, plain}}
 use Rattle.vs_ring_list.specs.Ends.{Ends, empty_ends}
 use Rattle.laws_tables.specs.Both.{Both}
 use Rattle.vs_driver_parts.specs.{Conversations.new_of, State.DriverState}
@@ -8,10 +8,8 @@ use Rattle.vs_limits.specs.declared.TheConstants.{FIRST_PORT}
 use Rattle.laws_device.proofs.Named.Opening.{new_has}
 use Rattle.vs_proxy_parts.specs.{State.ProxyState, Turns.new_proxy}
 use Rattle.laws_proxy.proofs.Named.Lists.{none_open}
-use Rattle.laws_world.specs.{World.first_cid, World.opened_host, World.opening, Over.over_lists}
-use Rattle.laws_world.proofs.Opening.{opening_is}
-use Rattle.vs_core.specs.Ready.{IsDrivenAtWork, IsReady, IsServedAtWork, WorldState, shown}
-use Rattle.vs_core.proofs.Happening.{device_stays, served_rings}
+use Rattle.laws_world.{specs.{World.{first_cid, opened_host, opening}, Over.over_lists}, proofs.Opening.opening_is}
+use Rattle.vs_core.{specs.Ready.{IsDrivenAtWork, IsReady, IsServedAtWork, WorldState, shown}, proofs.Happening.{device_stays, served_rings}}
 
 -- A driver just made loads the first CID.
 pub cid_of : (n : ℕ) (w : Ends) (s : DriverState) → over_lists (new_of n FIRST_PORT 1) (empty_ends n) ≡ (s, w) → s.cid ≡ first_cid

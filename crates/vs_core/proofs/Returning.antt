@@ -1,30 +1,22 @@
 -- No step of the device's or the proxy's but one returns a chain with nothing.
-use Rattle.std.proofs.Common.{ℕ, ◌-◌, ◌==◌, ◌&&◌, not, nat_lt, nat_le, Bool, true, false, cond, List, [], ◌∷◌, ◌++◌, length, Some, Result}
-use Rattle.std.proofs.Common.{Ok, Err, arith}
+use Rattle.std.proofs.Common.{ℕ, ◌-◌, ◌==◌, ◌&&◌, not, nat_lt, nat_le, Bool, true, false, cond, List, [], ◌∷◌, ◌++◌, length, Some, Result, Ok, Err, arith}
 use Rattle.vs_contents.specs.CallTree.{Done, bind, for_each}
-use Rattle.vs_conn.specs.End.{owes_of, is_reset, is_of, verdict_of, wanting_credit}
-use Rattle.vs_conn.specs.{Headers.owed_header, Headers.payload_header, declared.end.Owed.Owed, declared.end.Verdict.Verdict}
-use Rattle.vs_flow.specs.{Flow.host_flow, Flow.is_assigned, Table.entry_of, Table.entry_under, Table.has_place, Table.refusal, Table.slots}
-use Rattle.vs_header.specs.{Op.op_number, Packet.header_of, declared.Header.Header, declared.TheConstants.HEADER_LEN}
-use Rattle.vs_header.specs.{declared.Op.TheVariants.Request, declared.Kind.TheVariants.Stream}
+use Rattle.vs_conn.specs.{End.{owes_of, is_reset, is_of, verdict_of, wanting_credit}, Headers.{owed_header, payload_header}, declared.end.{Owed.Owed, Verdict.Verdict}}
+use Rattle.vs_flow.specs.{Flow.{host_flow, is_assigned}, Table.{entry_of, entry_under, has_place, refusal, slots}}
+use Rattle.vs_header.specs.{Op.op_number, Packet.header_of, declared.{Header.Header, TheConstants.HEADER_LEN, Op.TheVariants.Request, Kind.TheVariants.Stream}}
 use Rattle.vs_outside.specs.declared.host_net.{StreamRead.StreamRead, StreamWrite.StreamWrite}
-use Rattle.vs_page.specs.{Log.flow_to_host, Log.Device, Open.is_dropped}
+use Rattle.vs_page.specs.{Log.{flow_to_host, Device}, Open.is_dropped}
 use Rattle.vs_replies.specs.declared.Reply.{Reply}
-use Rattle.vs_ring_port.specs.declared.queue.Queue.TheVariants.{Rx, Tx, Event}
-use Rattle.vs_ring_port.specs.declared.{device_ring.Chain.Chain, device_ring.Next.Next, failure.Failure.Failure, queue.Queue.Queue}
+use Rattle.vs_ring_port.specs.declared.{queue.Queue.{TheVariants.{Rx, Tx, Event}, Queue}, device_ring.{Chain.Chain, Next.Next}, failure.Failure.Failure}
 use Rattle.vs_uds.specs.{ConnectLine.connect_step, declared.scan.Step.Step}
-use Rattle.vs_device_parts.specs.Receiving.{Filling, after_paying, hold, may_read, put_owed, put_packet, put_reply_of, read_answered}
-use Rattle.vs_device_parts.specs.Steps.{chain_came, filling, puts_event, puts_owed, puts_payload, puts_reply, reads, shuts_write}
-use Rattle.vs_device_parts.specs.Streams.{Writing, closing, is_written_out, leaving, shut_write, tick_slot, to_write, write_answered}
-use Rattle.vs_device_parts.specs.Connections.{cut_off, is_late, is_timed_out, route_to_guest, stream_closed, with_connection, with_fault}
-use Rattle.vs_device_parts.specs.Transmitting.{heard, on_known, on_packet, on_unknown}
-use Rattle.vs_device_parts.specs.{Calls.DeviceTree, State.DeviceConnection, State.DeviceEntry, State.DeviceState, Receiving.read_with_chain}
-use Rattle.vs_device_parts.specs.{Receiving.written, Receiving.put_on, Receiving.reply_header, Steps.takes_chain, Steps.writes}
-use Rattle.vs_device_parts.specs.{Steps.writes_on, Steps.writing, Streams.write_pending, Turns.close_slot, Turns.open_of, Turns.reset_of}
+use Rattle.vs_device_parts.specs.Receiving.{Filling, after_paying, hold, may_read, put_owed, put_packet, put_reply_of, read_answered, read_with_chain, written, put_on}
+use Rattle.vs_device_parts.specs.{Receiving.reply_header, Steps.{chain_came, filling, puts_event, puts_owed, puts_payload, puts_reply, reads, shuts_write, takes_chain, writes}}
+use Rattle.vs_device_parts.specs.{Steps.{writes_on, writing}, Streams.{Writing, closing, is_written_out, leaving, shut_write, tick_slot, to_write, write_answered, write_pending}}
+use Rattle.vs_device_parts.specs.{Connections.{cut_off, is_late, is_timed_out, route_to_guest, stream_closed, with_connection, with_fault}, Transmitting.{heard, on_known}}
+use Rattle.vs_device_parts.specs.{Transmitting.{on_packet, on_unknown}, Calls.DeviceTree, State.{DeviceConnection, DeviceEntry, DeviceState}, Turns.{close_slot, open_of, reset_of}}
 use Rattle.vs_limits.specs.declared.TheConstants.{DEVICE_REPLIES, HANDSHAKES}
-use Rattle.vs_proxy_parts.specs.Handshakes.{accept_one, byte_read, handshake_on, line_decided, may_open, opening, read_byte, streams_of}
-use Rattle.vs_proxy_parts.specs.State.{Handshake, ProxyState, Turning}
-use Rattle.vs_proxy_parts.specs.{Handshakes.tick_handshake, Turns.close_handshake, Turns.proxy_reset_of, Turns.reset_with}
+use Rattle.vs_proxy_parts.specs.{Handshakes.{accept_one, byte_read, handshake_on, line_decided, may_open, opening, read_byte, streams_of, tick_handshake}, State.Handshake}
+use Rattle.vs_proxy_parts.specs.{State.{ProxyState, Turning}, Turns.{close_handshake, proxy_reset_of, reset_with}}
 use Rattle.laws_world.proofs.Holding.{AllReturnSome, bind_some, cond_some, option_some}
 use Rattle.vs_conn.specs.declared.end.Owed.TheVariants as owed
 use Rattle.vs_conn.specs.declared.end.Verdict.TheVariants as verdict

@@ -1,22 +1,18 @@
 -- What a step of the device's or the proxy's leads to, and what it keeps.
-use Rattle.std.proofs.Common.{◌≡◌, ℕ, nat_lt, Bool, true, false, cond, List, length, Option, Some, Result, unwrap_or, Contains, refl, sym}
-use Rattle.std.{proofs.Common.ap, proofs.Common.subst, proofs.Common.◌∙◌, specs.Option.ForSome, specs.Option.IfSome}
+use Rattle.std.{proofs.Common.{◌≡◌, ℕ, nat_lt, Bool, true, false, cond, List, length, Option, Some, Result, unwrap_or, Contains, refl, sym, ap, subst, ◌∙◌}, specs.Option.ForSome}
+use Rattle.std.specs.Option.{IfSome}
 use Rattle.vs_contents.specs.CallTree.{Done, Ask, bind, played}
 use Rattle.vs_outside.specs.Host.{HostContents}
-use Rattle.vs_ring_port.specs.{Chains.chains_of, EndLog.EndLog, declared.failure.Failure.Failure, declared.device_ring.Chain.Chain}
+use Rattle.vs_ring_port.specs.{Chains.chains_of, EndLog.EndLog, declared.{failure.Failure.Failure, device_ring.Chain.Chain}}
 use Rattle.vs_ring_list.specs.Ends.{Ends, device_contents, staged_of}
 use Rattle.laws_driver.specs.Staged.{IsTied}
 use Rattle.vs_driver_parts.specs.{Playing.all_flown, State.DriverState}
-use Rattle.laws_device.specs.Named.Streams.{HasStreams}
-use Rattle.vs_device_parts.specs.Playing.{IsAmong, IsRxChain, MayRun, Runs, situation}
-use Rattle.vs_device_parts.specs.{State.DeviceState, Calls.Accept, Calls.DeviceTree, Calls.Situation, Steps.returns}
-use Rattle.laws_device.proofs.Keeping.{HoldsChain}
-use Rattle.vs_proxy_parts.specs.Handshakes.{accept_answered, accept_one, read_byte, streams_of}
-use Rattle.vs_proxy_parts.specs.{State.ProxyState, State.Turning, State.start, State.with_device, Turns.proxy_reset_of}
+use Rattle.laws_device.{specs.Named.Streams.HasStreams, proofs.Keeping.HoldsChain}
+use Rattle.vs_device_parts.specs.{Playing.{IsAmong, IsRxChain, MayRun, Runs, situation}, State.DeviceState, Calls.{Accept, DeviceTree, Situation}, Steps.returns}
+use Rattle.vs_proxy_parts.specs.{Handshakes.{accept_answered, accept_one, read_byte, streams_of}, State.{ProxyState, Turning, start, with_device}, Turns.proxy_reset_of}
 use Rattle.vs_limits.specs.declared.TheConstants.{HANDSHAKES}
-use Rattle.laws_world.specs.Over.{beside, device_after, proxy_after, reset_after}
-use Rattle.laws_world.specs.{Answers.Around, Answers.answer_around, Events.line_read, World.first_cid}
-use Rattle.laws_world.proofs.{Flown.LeavesDriver, Holding.AllReturnSome, Holding.some_held, OverBoth.IsPlayed, OverBoth.over_held}
+use Rattle.laws_world.{specs.{Over.{beside, device_after, proxy_after, reset_after}, Answers.{Around, answer_around}, Events.line_read, World.first_cid}, proofs.Flown.LeavesDriver}
+use Rattle.laws_world.proofs.{Holding.{AllReturnSome, some_held}, OverBoth.{IsPlayed, over_held}}
 use Rattle.vs_core.specs.Ready.{IsDrivenAtWork, IsServedAtWork}
 
 -- The rings stay the driver's.

@@ -1,15 +1,14 @@
 -- What a world holds between two events, and what it is for an event to happen in it.
 use Rattle.std.specs.Prelude.{◌≡◌, ◌<◌, ℕ, List, []}
-use Rattle.vs_ring_port.specs.{Chains.chains_of, Counts.no_counts, Counts.with_count, declared.queue.Queue.Queue}
+use Rattle.vs_ring_port.specs.{Chains.chains_of, Counts.{no_counts, with_count}, declared.queue.Queue.Queue}
 use Rattle.vs_ring_list.specs.Ends.{Ends, flight_of, staged_of}
 use Rattle.vs_outside.specs.Host.{HostContents}
 use Rattle.vs_driver_parts.specs.{Playing.all_flown, State.DriverState}
-use Rattle.laws_driver.specs.Staged.{IsTied}
+use Rattle.laws_driver.specs.{Staged.IsTied, Carried.Calls.Journal}
 use Rattle.vs_device_parts.specs.Playing.{IsAmong}
 use Rattle.laws_device.specs.Named.Streams.{HasStreams}
 use Rattle.vs_proxy_parts.specs.{Handshakes.streams_of, State.ProxyState}
-use Rattle.laws_world.specs.{Events.Event, Events.happens, Events.run, World.World, World.first_cid, World.opening}
-use Rattle.laws_driver.specs.Carried.Calls.{Journal}
+use Rattle.laws_world.specs.{Events.{Event, happens, run}, World.{World, first_cid, opening}}
 use Rattle.vs_limits.specs.declared.TheConstants.{STAGED_MAX}
 
 -- A world without the journal of the calls that the guest made.

@@ -3,12 +3,11 @@
 
 ghost use Rattle.std.specs.Prelude.{◌≡◌, ◌&&◌, OnOk, false, nat_le};
 ghost use Rattle.vs_ring_port.specs.Chains.{same_queue};
-ghost use Rattle.vs_ring_port.specs.declared.queue.Queue.TheVariants as q;
-ghost use Rattle.laws_world.specs.Events.{DeviceGrows, DevicePays, DevicePutsEvent, DeviceReads, DeviceReplies, DeviceReturns, DeviceShutsWrite};
-ghost use Rattle.laws_world.specs.Events.{DeviceTakes, DeviceWrites, HandshakeTimesOut, Moment, ProxyAccepts, ProxyReads, Reset, TimesOut};
+ghost use Rattle.laws_world.specs.Events.{DeviceGrows, DevicePays, DevicePutsEvent, DeviceReads, DeviceReplies, DeviceReturns, DeviceShutsWrite, DeviceTakes, DeviceWrites};
+ghost use Rattle.laws_world.specs.Events.{HandshakeTimesOut, Moment, ProxyAccepts, ProxyReads, Reset, TimesOut, is_guest_cid};
 ghost use Rattle.laws_device.specs.Honest.{is_held};
-ghost use Rattle.laws_world.specs.Events.{is_guest_cid};
 ghost use Rattle.vs_core.specs.Ready.{Happens, IsReady};
+ghost use Rattle.vs_ring_port.specs.declared.queue.Queue.TheVariants as q;
 
 use crate::world::World;
 use std::alloc::AllocError;

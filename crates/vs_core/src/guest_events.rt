@@ -4,11 +4,10 @@ ghost use Rattle.std.specs.Prelude.{◌≡◌, ◌≤◌, IfOk, true};
 ghost use Rattle.vs_contents.specs.CallTree.{Done};
 ghost use Rattle.vs_ring_port.specs.EndLog.{pages_at};
 ghost use Rattle.vs_ring_list.specs.Ends.{Ends};
-ghost use Rattle.laws_driver.specs.Carried.Calls as call;
-ghost use Rattle.laws_world.specs.Events.{GuestCalls, GuestPays, GuestPublishes, GuestReplies, GuestTakes, is_at_rest, none_staged};
-ghost use Rattle.laws_world.specs.Events.{works_on};
+ghost use Rattle.laws_world.specs.Events.{GuestCalls, GuestPays, GuestPublishes, GuestReplies, GuestTakes, is_at_rest, none_staged, works_on};
 ghost use Rattle.laws_driver.specs.Carried.Calls.{makes_call};
-ghost use Rattle.vs_core.specs.{Ready.Happens, Ready.IsDrivenAtWork, Ready.IsReady, Views.HasBits, Views.Steps, Views.call_view};
+ghost use Rattle.vs_core.specs.{Ready.{Happens, IsDrivenAtWork, IsReady}, Views.{HasBits, Steps, call_view}};
+ghost use Rattle.laws_driver.specs.Carried.Calls as call;
 
 use crate::event::{GuestCall, Reply};
 use crate::world::World;

@@ -1,8 +1,7 @@
 //! What the programs of the host do in the world, one event at a time. The only error is want of memory, and then all is as before.
 
 ghost use Rattle.std.specs.Prelude.{OnOk};
-ghost use Rattle.laws_world.specs.Events.{ClientConnects, HostCloses, HostEnds, HostFails, HostListens, HostTakes, HostUnlistens};
-ghost use Rattle.laws_world.specs.Events.{HostWrites};
+ghost use Rattle.laws_world.specs.Events.{ClientConnects, HostCloses, HostEnds, HostFails, HostListens, HostTakes, HostUnlistens, HostWrites};
 ghost use Rattle.vs_core.specs.Ready.{Happens, IsReady};
 
 use crate::world::World;

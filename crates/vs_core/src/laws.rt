@@ -1,22 +1,19 @@
 //! Laws of the world, over every list of events.
 
-ghost use Rattle.vs_flow.specs.{Connection.Connection, Connection.first_of, declared.flow.Flow.Flow};
+ghost use Rattle.vs_flow.specs.{Connection.{Connection, first_of}, declared.flow.Flow.Flow};
 ghost use Rattle.std.specs.Prelude.{◌≡◌, ℕ, ◌-◌, ◌^◌, ◌≤◌, ◌||◌, min, false, true, List, [], ◌∷◌, length, All, None};
 ghost use Rattle.vs_limits.specs.declared.TheConstants.{BUF_ALLOC_MAX, FIRST_PORT, ASSIGNED_FIRST};
 ghost use Rattle.vs_conn.specs.End.{ConnectionEnd, is_refused, verdict_of};
 ghost use Rattle.laws_history.specs.declared.packet.Packet.{Packet};
-ghost use Rattle.laws_tables.specs.{Both.start, Ends.begun_flows, Ends.flows_of, Ends.is_among, Ends.new_flows, Ends.replied};
-ghost use Rattle.laws_tables.specs.{Matches.Matches, Steps.HasEnd, Steps.is_overrun};
+ghost use Rattle.laws_tables.specs.{Both.start, Ends.{begun_flows, flows_of, is_among, new_flows, replied}, Matches.Matches, Steps.{HasEnd, is_overrun}};
 ghost use Rattle.vs_outside.specs.Host.{HostContents};
-ghost use Rattle.vs_page.specs.{Fair.IsFairLog, Fair.IsPrefixOf, Fair.payload_got, Fair.payload_put, Log.Device, Log.Driver, Log.HasGotAll};
-ghost use Rattle.vs_page.specs.{Log.IsNextPacket, Log.Log, Log.flow_got, Open.is_dropped, Open.is_open};
+ghost use Rattle.vs_page.specs.{Fair.{IsFairLog, IsPrefixOf, payload_got, payload_put}, Log.{Device, Driver, HasGotAll, IsNextPacket, Log, flow_got}, Open.{is_dropped, is_open}};
 ghost use Rattle.vs_page.specs.declared.log.LogEntry.TheVariants.{Mark};
 ghost use Rattle.vs_ring_list.specs.Sound.{IsTied};
-ghost use Rattle.laws_world.specs.{Events.Event, Events.happens, Events.is_at_rest};
+ghost use Rattle.laws_world.specs.{Events.{Event, happens, is_at_rest, is_guest_cid, run}, Pipes.IsFresh, Plays.{guest_line, poll_line, reset_line}, Steps.Leads, Sides.Runs};
+ghost use Rattle.laws_world.specs.{Sides.both_of, World.{World, first_cid, opening}};
 ghost use Rattle.laws_driver.specs.Carried.Calls.{GuestCall, is_right, sent_on};
 ghost use Rattle.laws_device.specs.{Dropped.dropped_in, Streams.is_waiting_for_request};
-ghost use Rattle.laws_world.specs.{Events.is_guest_cid, Events.run, Pipes.IsFresh, Plays.guest_line, Plays.poll_line, Plays.reset_line};
-ghost use Rattle.laws_world.specs.{Steps.Leads, Sides.Runs, Sides.both_of, World.World, World.first_cid, World.opening};
 
 /// After any list of events what each end got is what the other put first, packets on tx and on rx and ids of events; and what was put and
 /// not got is just what the pages between them hold. So the payload that an end got on a connection is a prefix of the payload that the

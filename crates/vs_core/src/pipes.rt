@@ -4,16 +4,15 @@ ghost use Rattle.std.specs.Prelude.{◌≡◌, ℕ, ◌++◌, true, List, Contai
 ghost use Rattle.vs_device_parts.specs.State.{DeviceEntry};
 ghost use Rattle.vs_driver_parts.specs.State.{DriverEntry, GoneConnection};
 ghost use Rattle.vs_flow.specs.{Connection.first_of, declared.flow.Flow.Flow};
-ghost use Rattle.laws_history.specs.{History.puts, Packets.has, Packets.shuts_send};
-ghost use Rattle.vs_outside.specs.{Host.HostContents, Host.Stream, Host.stream_at, HostBytes.host_read, HostBytes.host_wrote};
-ghost use Rattle.vs_page.specs.{Fair.IsPrefixOf, Fair.payload_got, Fair.payload_put, Log.Device, Log.Driver, Log.history_of};
+ghost use Rattle.laws_history.specs.{History.puts, Packets.{has, shuts_send}};
+ghost use Rattle.vs_outside.specs.{Host.{HostContents, Stream, stream_at}, HostBytes.{host_read, host_wrote}};
+ghost use Rattle.vs_page.specs.{Fair.{IsPrefixOf, payload_got, payload_put}, Log.{Device, Driver, history_of}};
 ghost use Rattle.laws_tables.specs.Drains.{Drains, receives};
 ghost use Rattle.laws_device.specs.Carried.Streamed.{gives, line_for};
 ghost use Rattle.vs_proxy_parts.specs.State.{Handshake};
-ghost use Rattle.laws_world.specs.{Events.Event, Events.run, Pipes.IsFresh};
+ghost use Rattle.laws_world.specs.{Events.{Event, run}, Pipes.IsFresh, Plays.{AreRight, Line, after}, Sides.both_of, World.opening};
 ghost use Rattle.laws_driver.specs.Carried.Calls.{received_on, sent_on};
 ghost use Rattle.laws_rest.specs.Bytes.{CarryBytes};
-ghost use Rattle.laws_world.specs.{Plays.AreRight, Plays.Line, Plays.after, Sides.both_of, World.opening};
 
 /// After any list of events the bytes that the guest received on a connection, and then the unread ones, are the payload that the driver
 /// got there, while the connection takes payload; what it received is a prefix of that in any case, so of the payload that the device put

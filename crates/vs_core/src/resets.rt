@@ -5,10 +5,9 @@ ghost use Rattle.vs_driver_parts.specs.Receiving.{is_reset_event};
 ghost use Rattle.vs_limits.specs.declared.TheConstants.{DRIVER_REPLIES_FULL};
 ghost use Rattle.vs_outside.specs.Host.{HostContents};
 ghost use Rattle.vs_ring_port.specs.Lists.{oldest};
-ghost use Rattle.vs_ring_port.specs.declared.queue.Queue.TheVariants as queue;
 ghost use Rattle.laws_proxy.specs.Resets.{IsEmptied};
-ghost use Rattle.laws_world.specs.Events.{Event, GuestTakes, Reset, happens, is_guest_cid, run, works_on};
-ghost use Rattle.laws_world.specs.World.{World, opening};
+ghost use Rattle.laws_world.specs.{Events.{Event, GuestTakes, Reset, happens, is_guest_cid, run, works_on}, World.{World, opening}};
+ghost use Rattle.vs_ring_port.specs.declared.queue.Queue.TheVariants as queue;
 
 /// A transport reset of a device whose ring didn't fail leaves its table, its owed replies and the proxy's handshakes empty. After any list
 /// of events the driver's table is empty right after the step that takes the event of a transport reset (Virtio 1.2, section 5.10.6.7).

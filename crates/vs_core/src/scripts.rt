@@ -1,14 +1,12 @@
 //! The lines of a script as lists of events, so that each law of every list of events is one of every script.
 
 ghost use Rattle.std.specs.Prelude.{◌≡◌, ℕ, ◌++◌, true, List, None};
-ghost use Rattle.vs_device_parts.specs.{Receiving.fill_rx_of, Receiving.pay_event_of, Streams.pump_of, Streams.tick_of};
-ghost use Rattle.vs_device_parts.specs.Transmitting.{take_tx_of};
+ghost use Rattle.vs_device_parts.specs.{Receiving.{fill_rx_of, pay_event_of}, Streams.{pump_of, tick_of}, Transmitting.take_tx_of};
 ghost use Rattle.vs_flow.specs.declared.flow.Flow.{Flow};
 ghost use Rattle.vs_outside.specs.Host.{HostContents};
-ghost use Rattle.laws_world.specs.Events.{is_at_rest};
+ghost use Rattle.laws_world.specs.{Events.is_at_rest, Plays.{AreRight, Line, after, is_given_right, line, play, report, sent_by, turn_line}, Steps.{Leads, device_calls}};
+ghost use Rattle.laws_world.specs.World.{World, opening};
 ghost use Rattle.laws_driver.specs.Carried.Calls.{sent_on};
-ghost use Rattle.laws_world.specs.Plays.{AreRight, Line, after, is_given_right, line, play, report, sent_by, turn_line};
-ghost use Rattle.laws_world.specs.{Steps.Leads, Steps.device_calls, World.World, World.opening};
 
 /// Each call of the device's that a turn is made of, whole, is a list of events: a tick, taking a transmit packet, the owed event, the
 /// writes to the streams, and the receive packets. A tick and the writes are so while the ring didn't fail; the others do nothing after a

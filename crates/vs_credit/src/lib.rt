@@ -3,8 +3,7 @@
 #![tactic(auto)]
 
 ghost use Rattle.std.specs.Prelude.{◌≡◌, ℕ, ◌+◌, ◌-◌, ◌%◌, ◌^◌, ◌<◌, ◌≤◌, ◌↔◌, IfErr, IsErr, OnErr, OnOk};
-ghost use Rattle.vs_credit.specs.Credit.{free_of, in_transit_of, new_credit, room_of, unread_of, with_forwarded, with_heard, with_sent};
-ghost use Rattle.vs_credit.specs.Credit.{with_taken};
+ghost use Rattle.vs_credit.specs.Credit.{free_of, in_transit_of, new_credit, room_of, unread_of, with_forwarded, with_heard, with_sent, with_taken};
 
 use vs_wrap::{add32, sub32};
 

@@ -3,13 +3,11 @@
 use Rattle.std.proofs.Common.{ℕ, Bool, List, [], Result}
 use Rattle.vs_flow.specs.declared.{flow.Flow.Flow, table.TableFault.TableFault}
 use Rattle.vs_ring_port.specs.declared.failure.Failure.{Failure}
-use Rattle.vs_device_parts.specs.{Calls.Situation, Playing.Runs, Receiving.fill_rx_of, Receiving.pay_event_of, State.DeviceState}
-use Rattle.vs_device_parts.specs.{Streams.Writing, Streams.pump_of, Streams.tick_of, Transmitting.take_tx_of, Turns.open_of, Turns.reset_of}
-use Rattle.vs_device_parts.specs.declared.answers.{Filled.Filled, Taken.Taken}
+use Rattle.vs_device_parts.specs.{Calls.Situation, Playing.Runs, Receiving.{fill_rx_of, pay_event_of}, State.DeviceState, Streams.{Writing, pump_of, tick_of}}
+use Rattle.vs_device_parts.specs.{Transmitting.take_tx_of, Turns.{open_of, reset_of}, declared.answers.{Filled.Filled, Taken.Taken}}
 use Rattle.vs_proxy_parts.specs.State.{Handshake}
-use Rattle.laws_proxy.specs.Account.{Made.Made, Told.AreAccounted, Told.IsAsking, Told.StayAccounted}
-use Rattle.laws_proxy.proofs.Account.{Closing.keeps_tick, Opening.keeps_open, Opening.keeps_reset_alone, Receiving.keeps_fill_rx}
-use Rattle.laws_proxy.proofs.Account.{Receiving.keeps_pay_event, Telling.stay_accounted, Transmitting.keeps_take_tx, Writing.keeps_pump}
+use Rattle.laws_proxy.{specs.Account.{Made.Made, Told.{AreAccounted, IsAsking, StayAccounted}}, proofs.Account.{Closing.keeps_tick, Opening.{keeps_open, keeps_reset_alone}}}
+use Rattle.laws_proxy.proofs.Account.{Receiving.{keeps_fill_rx, keeps_pay_event}, Telling.stay_accounted, Transmitting.keeps_take_tx, Writing.keeps_pump}
 
 module _ (s : DeviceState) (a b : Situation) where
   pub take_accounted : (x : DeviceState × Taken) → Runs (take_tx_of s) a x b → (calls : List Made) (hands : List Handshake)

@@ -1,8 +1,7 @@
 -- The receive chain that a device holds, among all chains that were taken of its ring.
-use Rattle.std.proofs.Common.{◌≡◌, zero, suc, ◌<◌, Bool, true, false, cond, List, [], ◌∷◌, Option, Some, None, Contains, sym, ap, subst}
-use Rattle.std.{proofs.Common.◌∙◌, proofs.Common.arith, specs.Option.IfSome}
-use Rattle.vs_ring_port.specs.{Chains.same_chain, Chains.without, declared.device_ring.Chain.Chain}
-use Rattle.vs_device_parts.specs.{State.DeviceState, Playing.IsAmong, Playing.IsRingOf, Playing.IsRxChain, Playing.beside, Playing.held_by}
+use Rattle.std.{proofs.Common.{◌≡◌, zero, suc, ◌<◌, Bool, true, false, cond, List, [], ◌∷◌, Option, Some, None, Contains, sym, ap, subst, ◌∙◌, arith}, specs.Option.IfSome}
+use Rattle.vs_ring_port.specs.{Chains.{same_chain, without}, declared.device_ring.Chain.Chain}
+use Rattle.vs_device_parts.specs.{State.DeviceState, Playing.{IsAmong, IsRingOf, IsRxChain, beside, held_by}}
 use Rattle.vs_device.proofs.Takings.{newest_held, without_newest}
 
 -- where it is the only one

@@ -1,11 +1,10 @@
 -- What paying the owed event comes to.
 use Rattle.std.proofs.Common.{◌≡◌, Bool, true, false, cond, Option, Some, None, Result, Ok, Err, refl, sym, ap, subst, ◌∙◌, arith}
 use Rattle.byteorder.specs.Endian.{little_bytes}
-use Rattle.vs_contents.{specs.CallTree.Done, specs.CallTree.Ask, proofs.Leads.leads_of, proofs.Conditions.may_of}
-use Rattle.vs_ring_port.specs.{Contents.{Take, Write, Return}, declared.device_ring.Chain.Chain, declared.device_ring.Next.Next}
-use Rattle.vs_ring_port.specs.{declared.failure.Failure.Failure, declared.queue.Queue.TheVariants.Event, DeviceCalls.CanReturn}
-use Rattle.vs_device_parts.specs.{Calls.Situation, Calls.DeviceTree, Calls.Allows, Calls.Ring, Playing.CanMake, Playing.MayRun}
-use Rattle.vs_device_parts.specs.{Playing.Runs, Receiving.event_on, Receiving.pay_event_of, State.DeviceState}
+use Rattle.vs_contents.{specs.CallTree.{Done, Ask}, proofs.{Leads.leads_of, Conditions.may_of}}
+use Rattle.vs_ring_port.specs.{Contents.{Take, Write, Return}, declared.{device_ring.{Chain.Chain, Next.Next}, failure.Failure.Failure, queue.Queue.TheVariants.Event}}
+use Rattle.vs_ring_port.specs.DeviceCalls.{CanReturn}
+use Rattle.vs_device_parts.specs.{Calls.{Situation, DeviceTree, Allows, Ring}, Playing.{CanMake, MayRun, Runs}, Receiving.{event_on, pay_event_of}, State.DeviceState}
 use Rattle.vs_ring_port.specs.declared.device_ring.Next.TheVariants as next
 
 module _ (s : DeviceState) (sound : s.failed ≡ None) (owed : s.event_owed ≡ true) where

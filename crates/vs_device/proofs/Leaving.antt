@@ -1,14 +1,10 @@
 -- What closing a stream comes to, and leaving the table.
-use Rattle.std.proofs.Common.{◌≡◌, ℕ, ◌==◌, Bool, true, false, not, cond, List, [], ◌∷◌, map, refl, sym, ap, subst, ◌∙◌}
-use Rattle.std.specs.List.{filter}
-use Rattle.vs_contents.specs.CallTree.{Done, Ask, bind}
-use Rattle.vs_contents.proofs.{Leads.leads_of, Leads.leads_bind, Conditions.may_of}
-use Rattle.vs_flow.{specs.Table.Table, specs.Table.with_value, specs.Table.without, specs.Table.revalued, proofs.Tables.revalued-slot}
+use Rattle.std.{proofs.Common.{◌≡◌, ℕ, ◌==◌, Bool, true, false, not, cond, List, [], ◌∷◌, map, refl, sym, ap, subst, ◌∙◌}, specs.List.filter}
+use Rattle.vs_contents.{specs.CallTree.{Done, Ask, bind}, proofs.{Leads.{leads_of, leads_bind}, Conditions.may_of}}
+use Rattle.vs_flow.{specs.Table.{Table, with_value, without, revalued}, proofs.Tables.revalued-slot}
 use Rattle.vs_wrap.specs.Wrap.{counted}
-use Rattle.vs_device_parts.specs.{Calls.{Situation, DeviceTree, Allows, CloseStream}, Connections.{with_connection, stream_closed}}
-use Rattle.vs_device_parts.specs.{Connections.after_leaving, Playing.{CanMake, MayRun, MayClose, Runs}, State.DeviceConnection}
-use Rattle.vs_device_parts.specs.{State.{DeviceEntry, DeviceState}, Streams.{closing, leaving}}
-use Rattle.vs_device_parts.proofs.Under.{with_value_twice}
+use Rattle.vs_device_parts.specs.{Calls.{Situation, DeviceTree, Allows, CloseStream}, Connections.{with_connection, stream_closed, after_leaving}, Playing.{CanMake, MayRun}}
+use Rattle.vs_device_parts.{specs.{Playing.{MayClose, Runs}, State.{DeviceConnection, DeviceEntry, DeviceState}, Streams.{closing, leaving}}, proofs.Under.with_value_twice}
 
 -- a stream is closed, or was
 module _ (e : DeviceEntry) (f : DeviceConnection → DeviceConnection) (s : DeviceState) where

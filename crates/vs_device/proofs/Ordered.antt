@@ -1,23 +1,17 @@
 -- What a call keeps, from the conversation that it ran: the open streams of the connections, and the connections that the log left.
-use Rattle.std.proofs.Common.{◌≡◌, ℕ, ◌<◌, ◌^◌, Bool, false, List, Option, Some, None, Result, refl, subst, []}
-use Rattle.std.specs.Option.{ForSome}
+use Rattle.std.{proofs.Common.{◌≡◌, ℕ, ◌<◌, ◌^◌, Bool, false, List, Option, Some, None, Result, refl, subst, []}, specs.Option.ForSome}
 use Rattle.vs_outside.specs.Host.{HostContents}
 use Rattle.vs_ring_port.specs.{Contents.RingContents, declared.failure.Failure.Failure}
 use Rattle.vs_flow.specs.declared.{flow.Flow.Flow, table.TableFault.TableFault}
 use Rattle.laws_tables.specs.Steps.{IsNextFlow}
 use Rattle.vs_page.specs.Log.{Device}
-use Rattle.vs_device_parts.specs.{Receiving.fill_rx_of, Receiving.pay_event_of, State.DeviceState, Streams.Writing, Streams.pump_of}
-use Rattle.vs_device_parts.specs.{Streams.tick_of, Transmitting.take_tx_of, Turns.open_of, Turns.reset_of, declared.answers.Filled.Filled}
-use Rattle.vs_device_parts.specs.{declared.answers.Taken.Taken, Calls.Allows, Calls.DeviceTree, Calls.Situation, Playing.CanMake}
-use Rattle.vs_device_parts.specs.Playing.{Runs, RunsOnHost, RunsOnRing, situation}
-use Rattle.laws_device.specs.Named.{Split.CanReach, Streams.FindsFree, Streams.FindsStreams, Streams.HasStreams}
-use Rattle.laws_device.proofs.Named.{Closing.keeps_tick, Conditions.quiet_can, Keeping.Keeps, Opening.both_found, Opening.keeps_open}
-use Rattle.laws_device.proofs.Named.{Opening.keeps_reset, Receiving.keeps_fill_rx, Transmitting.keeps_take_tx, Writing.keeps_pump}
-use Rattle.laws_device.specs.{Honest.IsFitFlow, Honest.IsWith, Honest.ends_of_state, Honest.port_after, Streams.AreStreamedWith}
-use Rattle.laws_device.proofs.{Filling.fill_keeps, Keeping.keeps_end, Transmitting.take_keeps, Turning.{pay_keeps, pump_keeps, reset_keeps}}
-use Rattle.laws_device.proofs.{Turning.{tick_keeps, opens_plain}, Carrying.{ring_end, with_ring, ring_and_host, ring_only, streamed_end}}
+use Rattle.vs_device_parts.specs.{Receiving.{fill_rx_of, pay_event_of}, State.DeviceState, Streams.{Writing, pump_of, tick_of}, Transmitting.take_tx_of, Turns.{open_of, reset_of}}
+use Rattle.vs_device_parts.specs.{declared.answers.{Filled.Filled, Taken.Taken}, Calls.{Allows, DeviceTree, Situation}, Playing.{CanMake, Runs, RunsOnHost, RunsOnRing, situation}}
+use Rattle.laws_device.specs.{Named.{Split.CanReach, Streams.{FindsFree, FindsStreams, HasStreams}}, Honest.{IsFitFlow, IsWith, ends_of_state, port_after}, Streams.AreStreamedWith}
+use Rattle.laws_device.proofs.Named.{Closing.keeps_tick, Conditions.quiet_can, Keeping.{Keeps, keeps_end as streams_end}, Opening.{both_found, keeps_open, keeps_reset}}
+use Rattle.laws_device.proofs.{Named.{Receiving.keeps_fill_rx, Transmitting.keeps_take_tx, Writing.keeps_pump}, Filling.fill_keeps, Keeping.keeps_end, Transmitting.take_keeps}
+use Rattle.laws_device.proofs.{Turning.{pay_keeps, pump_keeps, reset_keeps, tick_keeps, opens_plain}, Carrying.{ring_end, with_ring, ring_and_host, ring_only, streamed_end}}
 use Rattle.vs_proxy_parts.specs.State.{Handshake}
-use Rattle.laws_device.proofs.Named.Keeping.{keeps_end as streams_end}
 
 module _ (s : DeviceState) (a b : Situation) where
   pub take_streams : (x : DeviceState × Taken) → Runs (take_tx_of s) a x b → (others : List ℕ) → FindsStreams others s a

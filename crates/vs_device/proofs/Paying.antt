@@ -1,10 +1,9 @@
 -- What a packet comes to that a connection owed and that was put.
-use Rattle.std.proofs.Common.{◌≡◌, ℕ, true, false, Option, Some, None, refl, sym, ap, subst, ◌∙◌}
-use Rattle.std.specs.Option.{IsSomeAnd, option_map}
+use Rattle.std.{proofs.Common.{◌≡◌, ℕ, true, false, Option, Some, None, refl, sym, ap, subst, ◌∙◌}, specs.Option.{IsSomeAnd, option_map}}
 use Rattle.vs_conn.specs.declared.end.Owed.{Owed}
+use Rattle.vs_device_parts.specs.{Calls.Situation, Connections.with_connection, Filling.is_rst, Paid.paid_connection, Playing.Runs, Receiving.after_paying, State.DeviceEntry}
+use Rattle.vs_device_parts.specs.{State.DeviceState, Streams.leaving}
 use Rattle.vs_conn.specs.declared.end.Owed.TheVariants as owed
-use Rattle.vs_device_parts.specs.{Calls.Situation, Connections.with_connection, Filling.is_rst, Paid.paid_connection, Playing.Runs}
-use Rattle.vs_device_parts.specs.{Receiving.after_paying, State.DeviceEntry, State.DeviceState, Streams.leaving}
 
 pub paid_leaves : (what : Owed) (e : DeviceEntry) (slot : ℕ) (s m t : DeviceState) (x y : Situation) → is_rst what ≡ true → e.slot ≡ slot → m ≡ record s { last_put = Some slot }
     → Runs (leaving e m) x t y → Runs (after_paying what e s) x t y

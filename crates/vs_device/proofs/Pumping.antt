@@ -1,15 +1,12 @@
 -- What writing to the host's streams comes to.
-use Rattle.std.proofs.Common.{◌≡◌, ◌≢◌, ℕ, ◌+◌, ◌≤◌, ◌==◌, Bool, true, false, not, length, Option, Some, None, refl, sym, ap, subst, arith}
-use Rattle.std.{specs.Prelude.◌&&◌, specs.Option.ForSome, specs.Option.option_map_or, proofs.lemmas.Bool.Decides.nat_tests}
-use Rattle.vs_contents.specs.CallTree.{Done, Ask, bind}
-use Rattle.vs_contents.proofs.{Leads.leads_of, Leads.leads_bind, Conditions.may_rest, Conditions.may_of}
+use Rattle.std.proofs.{Common.{◌≡◌, ◌≢◌, ℕ, ◌+◌, ◌≤◌, ◌==◌, Bool, true, false, not, length, Option, Some, None, refl, sym, ap, subst, arith}, lemmas.Bool.Decides.nat_tests}
+use Rattle.std.specs.{Prelude.◌&&◌, Option.{ForSome, option_map_or}}
+use Rattle.vs_contents.{specs.CallTree.{Done, Ask, bind}, proofs.{Leads.{leads_of, leads_bind}, Conditions.{may_rest, may_of}}}
 use Rattle.vs_flow.specs.Table.{entry_under}
-use Rattle.vs_outside.specs.{Host.IsOpen, Host.TakesSome, InOut.MovesSome, declared.host_net.StreamWrite.StreamWrite}
-use Rattle.vs_device_parts.specs.Calls.{Situation, DeviceTree, Allows, WriteStream, ShutWrite}
-use Rattle.vs_device_parts.specs.Connections.{with_connection, with_fault, after_shut, after_written, cut_off}
-use Rattle.vs_device_parts.specs.Streams.{Writing, closing, pump_slot, shut_write, to_write, write_answered, write_pending, is_written_out}
-use Rattle.vs_device_parts.specs.{State.{DeviceConnection, DeviceEntry, DeviceState}, Playing.CanMake, Playing.MayRun, Playing.Runs, Watched.has_to_write}
-use Rattle.vs_device_parts.specs.Written.{writing}
+use Rattle.vs_outside.specs.{Host.{IsOpen, TakesSome}, InOut.MovesSome, declared.host_net.StreamWrite.StreamWrite}
+use Rattle.vs_device_parts.specs.{Calls.{Situation, DeviceTree, Allows, WriteStream, ShutWrite}, Connections.{with_connection, with_fault, after_shut, after_written, cut_off}}
+use Rattle.vs_device_parts.specs.{Streams.{Writing, closing, pump_slot, shut_write, to_write, write_answered, write_pending, is_written_out}, State.{DeviceConnection, DeviceEntry}}
+use Rattle.vs_device_parts.specs.{State.DeviceState, Playing.{CanMake, MayRun, Runs}, Watched.has_to_write, Written.writing}
 use Rattle.vs_outside.specs.declared.host_net.StreamWrite.TheVariants as write
 
 -- a write's answer

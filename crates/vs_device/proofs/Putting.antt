@@ -1,16 +1,13 @@
 -- Packets put on the receive queue: what a packet comes to that was put, or wasn't for want of a chain.
-use Rattle.std.proofs.Common.{◌≡◌, ℕ, ◌+◌, Bool, true, false, not, List, [], ◌∷◌, drop, Option, Some, None, refl, sym, ap, subst, ◌∙◌}
-use Rattle.std.specs.List.{slice_get}
-use Rattle.vs_contents.specs.CallTree.{Done, bind}
-use Rattle.vs_contents.proofs.{Leads.leads_of, Leads.leads_bind, Conditions.may_first, Conditions.may_rest, Conditions.may_of}
+use Rattle.std.{proofs.Common.{◌≡◌, ℕ, ◌+◌, Bool, true, false, not, List, [], ◌∷◌, drop, Option, Some, None, refl, sym, ap, subst, ◌∙◌}, specs.List.slice_get}
+use Rattle.vs_contents.{specs.CallTree.{Done, bind}, proofs.{Leads.{leads_of, leads_bind}, Conditions.{may_first, may_rest, may_of}}}
 use Rattle.vs_header.specs.declared.Header.{Header}
 use Rattle.vs_replies.specs.declared.Reply.{Reply}
 use Rattle.vs_ring_port.specs.declared.device_ring.Chain.{Chain}
 use Rattle.vs_conn.specs.{End.owes_of, Headers.owed_header, declared.end.Owed.Owed}
 use Rattle.vs_flow.specs.Table.{entry_under}
-use Rattle.vs_device_parts.specs.{Calls.{DeviceTree, Situation, Allows}, Connections.route_to_guest, Filling.put_header, Playing.CanMake}
-use Rattle.vs_device_parts.specs.{Playing.{MayRun, Runs}, Receiving.{Filling, hold, written, put_on, put_packet, reply_header, put_reply}}
-use Rattle.vs_device_parts.specs.{Receiving.{put_reply_of, put_owed, after_paying}, State.{DeviceState, DeviceEntry}}
+use Rattle.vs_device_parts.specs.{Calls.{DeviceTree, Situation, Allows}, Connections.route_to_guest, Filling.put_header, Playing.{CanMake, MayRun, Runs}, Receiving.{Filling, hold}}
+use Rattle.vs_device_parts.specs.{Receiving.{written, put_on, put_packet, reply_header, put_reply, put_reply_of, put_owed, after_paying}, State.{DeviceState, DeviceEntry}}
 use Rattle.vs_device.proofs.Trees.{bind_same, bind_assoc}
 
 -- what follows the packet that was put

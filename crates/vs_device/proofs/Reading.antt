@@ -1,24 +1,19 @@
 -- What reading a stream comes to, for the packet that it puts.
-use Rattle.std.proofs.Common.{◌≡◌, ℕ, ◌+◌, ◌≤◌, ◌<◌, arith, Bool, true, false, cond, List, length, take, Option, Some, None, refl, sym, ap}
-use Rattle.std.proofs.{lemmas.List.length-take-le, lemmas.Bool.Decides.nat_tests, Common.subst, Common.◌∙◌}
-use Rattle.std.specs.{Prelude.if◌then◌else◌, Prelude.◌==◌, Option.IfSome, Option.IsSomeAnd, Option.option_map}
-use Rattle.vs_contents.specs.CallTree.{Done, Ask, bind, while_up_to}
-use Rattle.vs_contents.proofs.{Leads.leads_of, Leads.leads_bind, Conditions.may_first, Conditions.may_rest, Conditions.may_of}
-use Rattle.vs_conn.specs.End.{ConnectionEnd, owes_of, with_payload_sent, wanting_credit}
-use Rattle.vs_conn.specs.{Headers.payload_header}
+use Rattle.std.proofs.Common.{◌≡◌, ℕ, ◌+◌, ◌≤◌, ◌<◌, arith, Bool, true, false, cond, List, length, take, Option, Some, None, refl, sym, ap, subst, ◌∙◌}
+use Rattle.std.{proofs.lemmas.{List.length-take-le, Bool.Decides.nat_tests}, specs.{Prelude.{if◌then◌else◌, ◌==◌}, Option.{IfSome, IsSomeAnd, option_map}}}
+use Rattle.vs_contents.{specs.CallTree.{Done, Ask, bind, while_up_to}, proofs.{Leads.{leads_of, leads_bind}, Conditions.{may_first, may_rest, may_of}}}
+use Rattle.vs_conn.specs.{End.{ConnectionEnd, owes_of, with_payload_sent, wanting_credit}, Headers.payload_header}
 use Rattle.vs_header.specs.declared.{TheConstants.HEADER_LEN, Header.Header}
 use Rattle.vs_page.specs.declared.page.TheConstants.{PAYLOAD_MAX}
 use Rattle.vs_credit.specs.Credit.{free_of}
 use Rattle.vs_flow.specs.Table.{Table, entry_under, value_under}
 use Rattle.vs_outside.specs.{Host.ReadsSome, InOut.MovesSome, declared.host_net.StreamRead.StreamRead}
-use Rattle.vs_outside.specs.declared.host_net.StreamRead.TheVariants as read
 use Rattle.vs_ring_port.specs.declared.device_ring.Chain.{Chain}
-use Rattle.vs_device_parts.specs.Receiving.{Filling, hold, written, put_on, put_owed, put_payload, may_read, read_room, read_answered}
-use Rattle.vs_device_parts.specs.{Receiving.{read_with_chain, read_stream, serve_slot}, Calls.{DeviceTree, Situation, Allows, ReadStream}}
-use Rattle.vs_device_parts.specs.{Connections.{with_connection, route_to_guest}, Filling.read_slot, Playing.{CanMake, MayRun, Runs}}
-use Rattle.vs_device_parts.specs.{State.{DeviceConnection, DeviceEntry, DeviceState}, Steps.{filling, puts_payload, reads, to_read}}
-use Rattle.vs_device_parts.specs.Served.{OnlyReads, Reads, Rests}
+use Rattle.vs_device_parts.specs.Receiving.{Filling, hold, written, put_on, put_owed, put_payload, may_read, read_room, read_answered, read_with_chain, read_stream, serve_slot}
+use Rattle.vs_device_parts.specs.{Calls.{DeviceTree, Situation, Allows, ReadStream}, Connections.{with_connection, route_to_guest}, Filling.read_slot, Playing.{CanMake, MayRun}}
+use Rattle.vs_device_parts.specs.{Playing.Runs, State.{DeviceConnection, DeviceEntry, DeviceState}, Steps.{filling, puts_payload, reads, to_read}, Served.{OnlyReads, Reads, Rests}}
 use Rattle.vs_limits.specs.declared.TheConstants.{OWED_MAX}
+use Rattle.vs_outside.specs.declared.host_net.StreamRead.TheVariants as read
 
 -- payload is put
 module _ (chain : Chain) (e : DeviceEntry) (payload : List ℕ) (r : Filling) where

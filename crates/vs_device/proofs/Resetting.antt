@@ -1,12 +1,10 @@
 -- What opening a connection and a transport reset come to.
 use Rattle.std.proofs.Common.{◌≡◌, ℕ, Option, Some, None, Result, Ok, Err, refl, sym, ap, ◌∙◌}
-use Rattle.vs_contents.specs.CallTree.{Done, Ask, bind, for_each}
-use Rattle.vs_contents.proofs.{Leads.leads_of, Leads.leads_bind, Conditions.may_first, Conditions.may_of}
-use Rattle.vs_flow.specs.{Table.entry_under, Table.refusal, Table.slots, declared.flow.Flow.Flow, declared.table.TableFault.TableFault}
+use Rattle.vs_contents.{specs.CallTree.{Done, Ask, bind, for_each}, proofs.{Leads.{leads_of, leads_bind}, Conditions.{may_first, may_of}}}
+use Rattle.vs_flow.specs.{Table.{entry_under, refusal, slots}, declared.{flow.Flow.Flow, table.TableFault.TableFault}}
 use Rattle.vs_ring_port.specs.{declared.failure.Failure.Failure, Contents.PublishCid}
-use Rattle.vs_device_parts.specs.{Calls.Situation, Calls.DeviceTree, Calls.Allows, Calls.Ring, Calls.Label, Connections.stream_closed}
-use Rattle.vs_device_parts.specs.{Connections.with_client, Playing.CanMake, Playing.MayRun, Playing.Runs, State.DeviceEntry}
-use Rattle.vs_device_parts.specs.{State.DeviceState, Streams.closing, Turns.after_reset, Turns.close_slot, Turns.open_of, Turns.reset_of}
+use Rattle.vs_device_parts.specs.{Calls.{Situation, DeviceTree, Allows, Ring, Label}, Connections.{stream_closed, with_client}, Playing.{CanMake, MayRun, Runs}, State.DeviceEntry}
+use Rattle.vs_device_parts.specs.{State.DeviceState, Streams.closing, Turns.{after_reset, close_slot, open_of, reset_of}}
 
 -- a slot whose stream is closed
 module _ (slot : ℕ) (s : DeviceState) where

@@ -1,13 +1,12 @@
 -- A stage that is left out, since it would do nothing on any connection.
-use Rattle.std.proofs.Common.{◌≡◌, ℕ, ◌==◌, Bool, true, false, cond, not, List, [], ◌∷◌, ◌++◌, length, take, Option, Some, None, refl, sym, arith}
-use Rattle.std.specs.{Prelude.◌&&◌, Prelude.◌||◌, List.All, List.find, Option.IfSome, Option.option_map_or}
-use Rattle.std.proofs.{Common.length-append, lemmas.Bool.Decides.nat_tests, lemmas.List.length-take, lemmas.List.Elements.{All-head, All-tail}}
+use Rattle.std.proofs.Common.{◌≡◌, ℕ, ◌==◌, Bool, true, false, cond, not, List, [], ◌∷◌, ◌++◌, length, take, Option, Some, None, refl, sym, arith, length-append}
+use Rattle.std.{proofs.lemmas.{Bool.Decides.nat_tests, List.{length-take, Elements.{All-head, All-tail}}}, specs.{Prelude.{◌&&◌, ◌||◌}, List.{All, find}, Option.IfSome}}
+use Rattle.std.specs.Option.{option_map_or}
 use Rattle.vs_limits.specs.declared.TheConstants.{WRITE_MAX}
 use Rattle.vs_contents.specs.CallTree.{Done, for_each}
 use Rattle.vs_flow.specs.Table.{Table, entry_under, slots}
-use Rattle.vs_device_parts.specs.{Calls.DeviceTree, Connections.is_timed_out, State.DeviceConnection, State.DeviceEntry, State.DeviceState}
-use Rattle.vs_device_parts.specs.Streams.{Writing, is_written_out, pump_slot, shut_write, tick_slot, to_write, write_pending}
-use Rattle.vs_device_parts.specs.Watched.{has_to_write}
+use Rattle.vs_device_parts.specs.{Calls.DeviceTree, Connections.is_timed_out, State.{DeviceConnection, DeviceEntry, DeviceState}, Streams.{Writing, is_written_out, pump_slot}}
+use Rattle.vs_device_parts.specs.{Streams.{shut_write, tick_slot, to_write, write_pending}, Watched.has_to_write}
 
 -- what holds of all entries holds of one that is found
 module _ (P : DeviceEntry → Type 0) (p : DeviceEntry → Bool) where

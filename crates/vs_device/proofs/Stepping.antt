@@ -1,21 +1,16 @@
 -- What single steps come to.
-use Rattle.std.proofs.Common.{◌≡◌, ℕ, zero, suc, ◌<◌, Bool, true, false, not, cond, List, [], ◌∷◌, length, nat_le, nat_lt, ◌-◌, get_or}
-use Rattle.std.proofs.Common.{Option, Some, None, is_some, Result, Ok, Err, Contains, refl, sym, ap, subst, ◌∙◌, arith}
-use Rattle.std.{proofs.Math.Path.fun_ext, specs.Option.IfSome, specs.Option.option_map_or}
+use Rattle.std.proofs.Common.{◌≡◌, ℕ, zero, suc, ◌<◌, Bool, true, false, not, cond, List, [], ◌∷◌, length, nat_le, nat_lt, ◌-◌, get_or, Option, Some, None, is_some, Result, Ok}
+use Rattle.std.{proofs.{Common.{Err, Contains, refl, sym, ap, subst, ◌∙◌, arith}, Math.Path.fun_ext}, specs.Option.{IfSome, option_map_or}}
 use Rattle.byteorder.specs.Endian.{little_bytes}
-use Rattle.vs_contents.specs.CallTree.{Done, Ask, bind}
-use Rattle.vs_contents.proofs.{Leads.leads_of, Leads.leads_bind, Conditions.may_first, Conditions.may_of}
+use Rattle.vs_contents.{specs.CallTree.{Done, Ask, bind}, proofs.{Leads.{leads_of, leads_bind}, Conditions.{may_first, may_of}}}
 use Rattle.vs_device.proofs.{Trees.bind_assoc, Takings.Heard}
 use Rattle.vs_flow.specs.Table.{entry_under}
-use Rattle.vs_header.specs.{Packet.header_of, declared.TheConstants.HEADER_LEN, declared.Header.Header}
-use Rattle.vs_ring_port.specs.{Contents.{Read, Return, Take, Write}, Chains.{held_after, same_chain, same_queue, without}}
-use Rattle.vs_ring_port.specs.{declared.queue.Queue.TheVariants.{Rx, Tx, Event}, declared.{device_ring.Chain.Chain, device_ring.Next.Next}}
-use Rattle.vs_ring_port.specs.declared.{queue.Queue.Queue, failure.Failure.Failure}
-use Rattle.vs_device_parts.specs.Steps.{chain_came, filling, heard_chain, puts_event, puts_owed, puts_reply, shuts_write, takes_chain}
-use Rattle.vs_device_parts.specs.{Steps.{writes, writes_on, writing}, Calls.{Allows, DeviceTree, Ring, Situation}, Playing.CanMake}
-use Rattle.vs_device_parts.specs.{Playing.{IsAmong, IsRxChain, MayRun, Runs}, Receiving.{Filling, event_on, hold, put_owed, put_reply}}
-use Rattle.vs_device_parts.specs.{State.{DeviceEntry, DeviceState}, Streams.{Writing, shut_write, write_pending}, Transmitting.failing}
-use Rattle.vs_device_parts.specs.Transmitting.{on_packet}
+use Rattle.vs_header.specs.{Packet.header_of, declared.{TheConstants.HEADER_LEN, Header.Header}}
+use Rattle.vs_ring_port.specs.{Contents.{Read, Return, Take, Write}, Chains.{held_after, same_chain, same_queue, without}, declared.queue.Queue.TheVariants.{Rx, Tx, Event}}
+use Rattle.vs_ring_port.specs.declared.{queue.Queue.Queue, device_ring.{Chain.Chain, Next.Next}, failure.Failure.Failure}
+use Rattle.vs_device_parts.specs.{Steps.{chain_came, filling, heard_chain, puts_event, puts_owed, puts_reply, shuts_write, takes_chain, writes, writes_on, writing}, Calls.Allows}
+use Rattle.vs_device_parts.specs.{Calls.{DeviceTree, Ring, Situation}, Playing.{CanMake, IsAmong, IsRxChain, MayRun, Runs}, Receiving.{Filling, event_on, hold, put_owed}}
+use Rattle.vs_device_parts.specs.{Receiving.put_reply, State.{DeviceEntry, DeviceState}, Streams.{Writing, shut_write, write_pending}, Transmitting.{failing, on_packet}}
 use Rattle.vs_limits.specs.declared.TheConstants.{DEVICE_REPLIES}
 use Rattle.vs_ring_port.specs.declared.device_ring.Next.TheVariants as next
 use Rattle.vs_ring_port.specs.declared.failure.Failure.TheVariants as failure

@@ -1,23 +1,19 @@
 -- What taking a packet comes to.
-use Rattle.std.proofs.Common.{◌≡◌, ℕ, ◌-◌, Bool, true, false, cond, List, ◌∷◌, length, nat_lt, nat_le, Option, Some, None, Result, Ok, Err}
-use Rattle.std.proofs.{Common.refl, Common.sym, Common.ap, Common.subst, Common.◌∙◌, Common.arith, Math.Path.fun_ext}
-use Rattle.std.specs.List.{Contains}
-use Rattle.vs_contents.specs.CallTree.{Done, Ask, bind}
+use Rattle.std.proofs.Common.{◌≡◌, ℕ, ◌-◌, Bool, true, false, cond, List, ◌∷◌, length, nat_lt, nat_le, Option, Some, None, Result, Ok, Err, refl, sym, ap, subst, ◌∙◌, arith}
+use Rattle.std.{proofs.Math.Path.fun_ext, specs.List.Contains}
+use Rattle.vs_contents.{specs.CallTree.{Done, Ask, bind}, proofs.{Leads.{leads_of, leads_bind}, Conditions.{may_first, may_of}}}
 use Rattle.vs_device.proofs.Trees.{bind_assoc}
-use Rattle.vs_contents.proofs.{Leads.leads_of, Leads.leads_bind, Conditions.may_first, Conditions.may_of}
 use Rattle.vs_conn.specs.declared.end.Verdict.{Verdict}
-use Rattle.vs_flow.specs.{Flow.is_assigned, Table.entry_of, Table.has_place}
-use Rattle.vs_header.specs.{Packet.header_of, declared.Header.Header, declared.TheConstants.HEADER_LEN}
+use Rattle.vs_flow.specs.{Flow.is_assigned, Table.{entry_of, has_place}}
+use Rattle.vs_header.specs.{Packet.header_of, declared.{Header.Header, TheConstants.HEADER_LEN}}
 use Rattle.vs_outside.specs.declared.host_net.Dialed.{Dialed}
 use Rattle.vs_page.specs.Log.{flow_to_host}
-use Rattle.vs_ring_port.specs.declared.{device_ring.Chain.Chain, device_ring.Next.Next, failure.Failure.Failure}
-use Rattle.vs_ring_port.specs.{Chains.same_queue, Chains.same_chain, Chains.without, Contents.Take, Contents.Read, Contents.Return}
-use Rattle.vs_ring_port.specs.declared.queue.Queue.{Queue, TheVariants.Rx, TheVariants.Tx, TheVariants.Event}
+use Rattle.vs_ring_port.specs.{declared.{device_ring.{Chain.Chain, Next.Next}, failure.Failure.Failure, queue.Queue.{Queue, TheVariants.{Rx, Tx, Event}}}, Chains.same_queue}
+use Rattle.vs_ring_port.specs.{Chains.{same_chain, without}, Contents.{Take, Read, Return}}
 use Rattle.vs_uds.specs.Path.{path_of}
-use Rattle.vs_device_parts.specs.{declared.answers.Taken.Taken, Calls.Situation, Calls.DeviceTree, Calls.Allows, Calls.Ring, Calls.Dial}
-use Rattle.vs_device_parts.specs.{State.DeviceEntry, State.DeviceState, Playing.CanMake, Playing.MayRun, Playing.Runs, Steps.heard_chain}
-use Rattle.vs_device_parts.specs.{Steps.heard_header, Taking.is_not_for_host, Taking.known_packet, Transmitting.dial_answered}
-use Rattle.vs_device_parts.specs.Transmitting.{failing, on_next, on_packet, on_unknown, take_tx_of, try_request}
+use Rattle.vs_device_parts.specs.{declared.answers.Taken.Taken, Calls.{Situation, DeviceTree, Allows, Ring, Dial}, State.{DeviceEntry, DeviceState}, Playing.{CanMake, MayRun}}
+use Rattle.vs_device_parts.specs.{Playing.Runs, Steps.{heard_chain, heard_header}, Taking.{is_not_for_host, known_packet}, Transmitting.{dial_answered, failing, on_next}}
+use Rattle.vs_device_parts.specs.Transmitting.{on_packet, on_unknown, take_tx_of, try_request}
 use Rattle.vs_limits.specs.declared.TheConstants.{DEVICE_REPLIES}
 use Rattle.vs_ring_port.specs.declared.device_ring.Next.TheVariants as next
 use Rattle.vs_ring_port.specs.declared.failure.Failure.TheVariants as failure

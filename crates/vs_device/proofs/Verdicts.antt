@@ -1,15 +1,13 @@
 -- What the verdict on a packet of a connection comes to.
 use Rattle.std.proofs.Common.{◌≡◌, ℕ, true, Some, refl, sym, ap, subst, ◌∙◌}
-use Rattle.vs_contents.specs.CallTree.{Done, bind}
-use Rattle.vs_contents.proofs.{Leads.leads_of, Leads.leads_bind, Conditions.may_first, Conditions.may_of}
+use Rattle.vs_contents.{specs.CallTree.{Done, bind}, proofs.{Leads.{leads_of, leads_bind}, Conditions.{may_first, may_of}}}
 use Rattle.vs_header.specs.declared.Header.{Header}
-use Rattle.vs_conn.specs.{End.is_reset, End.verdict_of, declared.end.Verdict.Verdict, declared.end.Why.Why}
+use Rattle.vs_conn.specs.{End.{is_reset, verdict_of}, declared.end.{Verdict.Verdict, Why.Why}}
 use Rattle.vs_flow.specs.Table.{entry_under}
 use Rattle.vs_ring_port.specs.declared.device_ring.Chain.{Chain}
-use Rattle.vs_device_parts.proofs.Under.{has_slot, under_changed, with_its}
-use Rattle.vs_device_parts.specs.{Connections.{with_connection, stream_closed, after_leaving}, Calls.{Situation, DeviceTree, Allows}}
-use Rattle.vs_device_parts.specs.{State.{DeviceConnection, DeviceEntry, DeviceState}, Playing.{CanMake, MayRun, MayClose, Runs}}
-use Rattle.vs_device_parts.specs.{Streams.{leaving, closing}, Taking.{after_refusal, known_packet}, Transmitting.{heard, on_known}}
+use Rattle.vs_device_parts.{proofs.Under.{has_slot, under_changed, with_its}, specs.{Connections.{with_connection, stream_closed, after_leaving}, Calls.{Situation, DeviceTree}}}
+use Rattle.vs_device_parts.specs.{Calls.Allows, State.{DeviceConnection, DeviceEntry, DeviceState}, Playing.{CanMake, MayRun, MayClose, Runs}, Streams.{leaving, closing}}
+use Rattle.vs_device_parts.specs.{Taking.{after_refusal, known_packet}, Transmitting.{heard, on_known}}
 use Rattle.vs_device.proofs.Leaving.{may_close}
 use Rattle.vs_conn.specs.declared.end.Verdict.TheVariants as verdict
 use Rattle.vs_conn.specs.declared.end.Why.TheVariants as why

@@ -2,8 +2,7 @@
 
 ghost use Rattle.std.specs.Prelude.{◌≡◌, Some};
 ghost use Rattle.vs_flow.specs.Table.{entry_under};
-ghost use Rattle.vs_device_parts.specs.Connections.{cut_off, stream_closed, with_connection};
-ghost use Rattle.vs_device_parts.specs.{Playing.MayClose, Playing.RunsOnHost, State.DeviceConnection, State.DeviceEntry, State.DeviceState};
+ghost use Rattle.vs_device_parts.specs.{Connections.{cut_off, stream_closed, with_connection}, Playing.{MayClose, RunsOnHost}, State.{DeviceConnection, DeviceEntry, DeviceState}};
 ghost use Rattle.vs_device_parts.specs.Streams.{closing, leaving};
 
 use crate::device::Device;

@@ -4,11 +4,10 @@ ghost use Rattle.std.specs.Prelude.{◌≡◌, ◌≤◌, ℕ, List, [], Some, I
 ghost use Rattle.vs_limits.specs.declared.TheConstants.{GUEST_CID_MIN, GUEST_CID_MAX};
 ghost use Rattle.vs_outside.specs.Host.{HostContents};
 ghost use Rattle.vs_ring_port.specs.{Contents.RingContents, EndLog.EndLog};
-ghost use Rattle.laws_device.specs.Named.Streams.{AreOpen, HasStreams};
-ghost use Rattle.laws_device.specs.Honest.{AgreesWith, IsFresh, IsWith};
-ghost use Rattle.laws_proxy.specs.Account.{Made.account_of, Told.AreAccounted, Told.Shows};
+ghost use Rattle.laws_device.specs.{Named.Streams.{AreOpen, HasStreams}, Honest.{AgreesWith, IsFresh, IsWith}};
+ghost use Rattle.laws_proxy.specs.Account.{Made.account_of, Told.{AreAccounted, Shows}};
 ghost use Rattle.vs_uds.specs.declared.path.TheConstants.{BASE_MAX};
-ghost use Rattle.vs_device_parts.specs.{Connections.with_fault, Transmitting.failing, State.counters_of, State.new_device};
+ghost use Rattle.vs_device_parts.specs.{Connections.with_fault, Transmitting.failing, State.{counters_of, new_device}};
 
 use std::alloc::{AllocError, Global};
 use std::marker::Model;
@@ -43,8 +42,7 @@ pub struct Device {
 }
 
 impl Model for Device {
-    ghost use Rattle.std.specs.Prelude.{◌≡◌, ◌≤◌, length};
-    ghost use Rattle.std.specs.String.{string_bytes};
+    ghost use Rattle.std.specs.{Prelude.{◌≡◌, ◌≤◌, length}, String.string_bytes};
     ghost use Rattle.vs_device_parts.specs.State.{DeviceState};
     ghost use Rattle.vs_device.specs.DeviceFields.{AreSound};
 

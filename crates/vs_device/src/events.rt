@@ -3,15 +3,13 @@
 ghost use Rattle.std.specs.Prelude.{◌≡◌, ◌≤◌, ◌&&◌, ℕ, not, true, false, List, Contains, Option, Some, Ok, Err, IfOk, IfErr};
 ghost use Rattle.vs_contents.specs.CallTree.{Leads};
 ghost use Rattle.byteorder.specs.Endian.{little_bytes};
-ghost use Rattle.vs_ring_port.specs.{Chains.without, Contents.Write, Contents.Return, DeviceCalls.CanReturn, DeviceCalls.LeavesNoGap};
-ghost use Rattle.vs_ring_port.specs.declared.device_ring.Next.TheVariants as next;
-ghost use Rattle.vs_ring_port.specs.declared.failure.Failure.{Failure};
-ghost use Rattle.vs_device_parts.specs.Playing.{AllowsOnRing, IsItsRing, MayRunOnRing, RunsOnRing};
-ghost use Rattle.vs_device_parts.specs.Receiving.{event_on, pay_event_of};
+ghost use Rattle.vs_ring_port.specs.{Chains.without, Contents.{Write, Return}, DeviceCalls.{CanReturn, LeavesNoGap}, declared.failure.Failure.Failure};
+ghost use Rattle.vs_device_parts.specs.{Playing.{AllowsOnRing, IsItsRing, MayRunOnRing, RunsOnRing}, Receiving.{event_on, pay_event_of}};
 ghost use Rattle.laws_device.specs.Honest.{IsWith};
 ghost use Rattle.vs_outside.specs.Host.{HostContents};
-ghost use Rattle.laws_proxy.specs.Account.{Judged.AreUnmoved, Made.Made, Made.Makes, Told.AreAccounted, Told.StayAccounted};
+ghost use Rattle.laws_proxy.specs.Account.{Judged.AreUnmoved, Made.{Made, Makes}, Told.{AreAccounted, StayAccounted}};
 ghost use Rattle.vs_proxy_parts.specs.State.{Handshake};
+ghost use Rattle.vs_ring_port.specs.declared.device_ring.Next.TheVariants as next;
 
 use crate::device::Device;
 use vs_device_parts::ring_calls::take;

@@ -4,8 +4,7 @@ ghost use Rattle.std.specs.Prelude.{◌≡◌, ◌≢◌, ℕ, List, Option, tru
 ghost use Rattle.vs_conn.specs.declared.end.Owed.TheVariants.{CreditUpdate};
 ghost use Rattle.vs_outside.specs.Host.{HostContents};
 ghost use Rattle.vs_ring_port.specs.Contents.{RingContents};
-ghost use Rattle.vs_device_parts.specs.{Calls.Situation, Growing.after_grow, Growing.grow_of, Growing.owed_in, Growing.rises};
-ghost use Rattle.vs_device_parts.specs.declared.answers.Grown.TheVariants.{Done};
+ghost use Rattle.vs_device_parts.specs.{Calls.Situation, Growing.{after_grow, grow_of, owed_in, rises}, declared.answers.Grown.TheVariants.Done};
 ghost use Rattle.vs_proxy_parts.specs.State.{Handshake};
 ghost use Rattle.laws_device.specs.{Honest.IsWith, Named.Streams.HasStreams, Streams.AreStreamedWith};
 ghost use Rattle.laws_proxy.specs.Account.{Made.Made, Told.AreAccounted};

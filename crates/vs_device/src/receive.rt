@@ -1,29 +1,26 @@
 //! The last stage of a turn: packets are put on the receive queue, what is owed to unknown flows first, and then, connection by connection,
 //! what is read of the host's streams and what each owes (Virtio 1.2, sections 5.10.6.1 to 5.10.6.5).
 
-ghost use Rattle.std.specs.Prelude.{◌≡◌, ◌≤◌, ◌<◌, ◌+◌, ◌*◌, ◌^◌, ℕ, List, not, length, false, true, Some, None, is_some, IfSome, IsSomeAnd, Err};
-ghost use Rattle.std.specs.{Prelude.IfErr, Prelude.IfOk, Prelude.OnOk, Option.ForSome};
-ghost use Rattle.vs_conn.specs.{End.CanSend, End.owes_of, Headers.reset_header};
-ghost use Rattle.vs_conn.specs.declared.end.Owed.TheVariants as owed;
+ghost use Rattle.std.specs.Prelude.{◌≡◌, ◌≤◌, ◌<◌, ◌+◌, ◌*◌, ◌^◌, ℕ, List, not, length, false, true, Some, None, is_some, IfSome, IsSomeAnd, Err, IfErr, IfOk, OnOk};
+ghost use Rattle.std.specs.Option.{ForSome};
+ghost use Rattle.vs_conn.specs.{End.{CanSend, owes_of}, Headers.reset_header};
 ghost use Rattle.vs_contents.specs.CallTree.{while_up_to};
 ghost use Rattle.vs_credit.specs.Credit.{free_of};
 ghost use Rattle.vs_flow.specs.Table.{entry_under, value_under};
 ghost use Rattle.vs_header.specs.declared.TheConstants.{HEADER_LEN};
-ghost use Rattle.vs_outside.specs.declared.host_net.StreamRead.TheVariants as read;
-ghost use Rattle.vs_outside.specs.{Host.ReadsSome};
+ghost use Rattle.vs_outside.specs.Host.{ReadsSome};
 ghost use Rattle.vs_page.specs.declared.page.TheConstants.{PAYLOAD_MAX};
 ghost use Rattle.vs_ring_port.specs.declared.{device_ring.Chain.Chain, failure.Failure.Failure};
-ghost use Rattle.laws_device.specs.Named.Streams.{HasStreams};
-ghost use Rattle.laws_device.specs.Honest.{IsWith};
-ghost use Rattle.laws_proxy.specs.Account.{Made.Made, Told.AreAccounted, Told.StayAccounted};
+ghost use Rattle.laws_device.specs.{Named.Streams.HasStreams, Honest.IsWith};
+ghost use Rattle.laws_proxy.specs.Account.{Made.Made, Told.{AreAccounted, StayAccounted}};
 ghost use Rattle.vs_proxy_parts.specs.State.{Handshake};
-ghost use Rattle.vs_device_parts.specs.{Connections.route_to_guest, Filling.bytes_read, Filling.filling_of, Filling.is_rst, Filling.put_header};
-ghost use Rattle.vs_device_parts.specs.{Filling.read_slot, Filling.serve_all, Filling.serve_rest, Playing.IsAmong, Playing.IsItsRing};
-ghost use Rattle.vs_device_parts.specs.Playing.{IsRingOf, MayRun, MayRunOnHost, MayRunOnRing, Runs, RunsOnHost, RunsOnRing, beside};
-ghost use Rattle.vs_device_parts.specs.{Playing.situation, Receiving.after_paying, Receiving.fill_rx_of, Receiving.filled_of};
-ghost use Rattle.vs_device_parts.specs.Receiving.{hold, may_read, put_owed, put_payload, put_reply, read_answered, read_room, read_with_chain, serve_slot};
-ghost use Rattle.vs_device_parts.specs.{Served.IsServedSo, Served.OnlyReads, Served.Reads, State.DeviceEntry, Steps.to_read};
+ghost use Rattle.vs_device_parts.specs.{Connections.route_to_guest, Filling.{bytes_read, filling_of, is_rst, put_header, read_slot, serve_all, serve_rest}, Playing.IsAmong};
+ghost use Rattle.vs_device_parts.specs.{Playing.{IsItsRing, IsRingOf, MayRun, MayRunOnHost, MayRunOnRing, Runs, RunsOnHost, RunsOnRing, beside, situation}, Receiving.after_paying};
+ghost use Rattle.vs_device_parts.specs.Receiving.{fill_rx_of, filled_of, hold, may_read, put_owed, put_payload, put_reply, read_answered, read_room, read_with_chain, serve_slot};
+ghost use Rattle.vs_device_parts.specs.{Served.{IsServedSo, OnlyReads, Reads}, State.DeviceEntry, Steps.to_read};
 ghost use Rattle.vs_limits.specs.declared.TheConstants.{DEVICE_CONNECTIONS, DEVICE_REPLIES, OWED_MAX};
+ghost use Rattle.vs_conn.specs.declared.end.Owed.TheVariants as owed;
+ghost use Rattle.vs_outside.specs.declared.host_net.StreamRead.TheVariants as read;
 
 use crate::device::Device;
 use vs_conn::Owed;

@@ -1,13 +1,12 @@
 //! Single steps of the device, each of which moves one page at most or makes one call on the host: what the device does in one event of the
 //! world. Chains that were taken stay held until they are returned.
 
-ghost use Rattle.std.specs.{Prelude.◌≡◌, Prelude.◌≤◌, Prelude.ℕ, Prelude.List, Prelude.Contains, Option.ForSome};
+ghost use Rattle.std.specs.{Prelude.{◌≡◌, ◌≤◌, ℕ, List, Contains}, Option.ForSome};
 ghost use Rattle.vs_outside.specs.Host.{HostContents};
 ghost use Rattle.vs_ring_port.specs.declared.queue.Queue.TheVariants.{Event, Rx, Tx};
 ghost use Rattle.laws_device.specs.Named.Streams.{HasStreams};
-ghost use Rattle.vs_device_parts.specs.Playing.{IsAmong, MayRun, MayRunOnHost, MayRunOnRing, Runs, RunsOnHost, RunsOnRing, situation};
-ghost use Rattle.vs_device_parts.specs.Steps.{puts_event, puts_owed, puts_payload, puts_reply, returns, shuts_write, takes_chain, writes};
-ghost use Rattle.vs_device_parts.specs.Streams.{tick_slot};
+ghost use Rattle.vs_device_parts.specs.{Playing.{IsAmong, MayRun, MayRunOnHost, MayRunOnRing, Runs, RunsOnHost, RunsOnRing, situation}, Steps.{puts_event, puts_owed}};
+ghost use Rattle.vs_device_parts.specs.{Steps.{puts_payload, puts_reply, returns, shuts_write, takes_chain, writes}, Streams.tick_slot};
 
 use crate::device::Device;
 use vs_device_parts::fill::Fill;

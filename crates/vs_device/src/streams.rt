@@ -1,20 +1,17 @@
 //! What the device does with the host's streams at a moment, and with the bytes that are pending for them.
 
-ghost use Rattle.std.specs.Prelude.{◌≡◌, ◌≤◌, ◌<◌, ◌+◌, ◌^◌, ℕ, List, true, false, not, Some, length};
-ghost use Rattle.std.specs.{List.All, Option.ForSome, Option.option_map_or};
+ghost use Rattle.std.specs.{Prelude.{◌≡◌, ◌≤◌, ◌<◌, ◌+◌, ◌^◌, ℕ, List, true, false, not, Some, length}, List.All, Option.{ForSome, option_map_or}};
 ghost use Rattle.vs_conn.specs.End.{may_shut};
 ghost use Rattle.vs_contents.specs.CallTree.{for_each};
 ghost use Rattle.vs_flow.specs.Table.{entry_under, slots};
-ghost use Rattle.vs_outside.specs.{Host.IsOpen, Host.TakesSome, declared.host_net.StreamWrite.TheVariants.Closed};
+ghost use Rattle.vs_outside.specs.{Host.{IsOpen, TakesSome}, declared.host_net.StreamWrite.TheVariants.Closed};
 ghost use Rattle.vs_ring_port.specs.Contents.{RingContents};
-ghost use Rattle.laws_device.specs.Named.Streams.{HasStreams};
-ghost use Rattle.laws_device.specs.Honest.{IsWith};
-ghost use Rattle.laws_proxy.specs.Account.{Made.Made, Told.AreAccounted, Told.StayAccounted};
+ghost use Rattle.laws_device.specs.{Named.Streams.HasStreams, Honest.IsWith};
+ghost use Rattle.laws_proxy.specs.Account.{Made.Made, Told.{AreAccounted, StayAccounted}};
 ghost use Rattle.vs_proxy_parts.specs.State.{Handshake};
 ghost use Rattle.vs_limits.specs.declared.TheConstants.{WRITE_MAX};
-ghost use Rattle.vs_device_parts.specs.{Connections.is_timed_out, Playing.MayRunOnHost, Playing.RunsOnHost, State.DeviceEntry};
-ghost use Rattle.vs_device_parts.specs.Streams.{tick_of, tick_slot, pump_of, pump_slot, write_pending, write_answered, to_write};
-ghost use Rattle.vs_device_parts.specs.{Streams.shut_write, Streams.is_written_out, Watched.has_to_write, Written.writing};
+ghost use Rattle.vs_device_parts.specs.{Connections.is_timed_out, Playing.{MayRunOnHost, RunsOnHost}, State.DeviceEntry, Streams.{tick_of, tick_slot, pump_of, pump_slot}};
+ghost use Rattle.vs_device_parts.specs.{Streams.{write_pending, write_answered, to_write, shut_write, is_written_out}, Watched.has_to_write, Written.writing};
 
 use crate::device::Device;
 use vs_device_parts::host_calls::{shut_write, write};

@@ -1,29 +1,23 @@
 //! Packets that the device takes from the guest (Virtio 1.2, sections 5.10.6.1 to 5.10.6.5).
 
-ghost use Rattle.std.specs.Prelude.{◌≡◌, ◌≤◌, ◌<◌, ◌+◌, ◌-◌, ◌∷◌, ◌++◌, [], ℕ, List, true, Some, None, Contains, IfSome, IfErr, length};
-ghost use Rattle.std.specs.{Prelude.nat_lt, Option.ForSome};
-ghost use Rattle.vs_conn.specs.{End.is_reset, End.may_shut, declared.end.Verdict.TheVariants.Accept};
-ghost use Rattle.vs_conn.specs.declared.end.Verdict.TheVariants.{Deliver, Peer};
+ghost use Rattle.std.specs.{Prelude.{◌≡◌, ◌≤◌, ◌<◌, ◌+◌, ◌-◌, ◌∷◌, ◌++◌, [], ℕ, List, true, Some, None, Contains, IfSome, IfErr, length, nat_lt}, Option.ForSome};
+ghost use Rattle.vs_conn.specs.{End.{is_reset, may_shut}, declared.end.Verdict.TheVariants.{Accept, Deliver, Peer}};
 ghost use Rattle.vs_contents.specs.CallTree.{Leads};
 ghost use Rattle.vs_credit.specs.Credit.{unread_of};
 ghost use Rattle.vs_flow.specs.Table.{entry_of, entry_under, has_place, value_under, with_value};
 ghost use Rattle.vs_header.specs.declared.TheConstants.{HEADER_LEN};
 ghost use Rattle.vs_limits.specs.declared.TheConstants.{BUF_ALLOC_MAX, DEVICE_REPLIES};
 ghost use Rattle.vs_page.specs.Log.{flow_to_host};
-ghost use Rattle.vs_ring_port.specs.{Chains.IsLongEnough, Contents.Read, declared.device_ring.Chain.Chain};
-ghost use Rattle.vs_ring_port.specs.declared.{failure.Failure.Failure, queue.Queue.TheVariants.Tx};
+ghost use Rattle.vs_ring_port.specs.{Chains.IsLongEnough, Contents.Read, declared.{device_ring.Chain.Chain, failure.Failure.Failure, queue.Queue.TheVariants.Tx}};
+ghost use Rattle.vs_device_parts.specs.{Connections.{with_connection, with_reply}, Playing.{AllowsOnRing, IsItsRing, IsRxChain, MayClose, MayRun, Runs, RunsOnHost, held_by}};
+ghost use Rattle.vs_device_parts.specs.{Playing.situation, State.{DeviceConnection, DeviceEntry, DeviceState}, Steps.heard_chain, Taking.{after_refusal, asks_for_stream}};
+ghost use Rattle.vs_device_parts.specs.{Taking.{is_not_for_host, known_packet}, Transmitting.{dial_answered, heard, on_known, on_next, on_packet, on_unknown, refused, take_tx_of}};
+ghost use Rattle.vs_device_parts.specs.Transmitting.{op_why, try_request, unknown_why};
+ghost use Rattle.laws_device.specs.{Named.Streams.HasStreams, Honest.IsWith};
+ghost use Rattle.laws_proxy.specs.Account.{Judged.IsJudged, Made.{Made, Makes}, Told.{AreAccounted, StayAccounted}};
+ghost use Rattle.vs_proxy_parts.specs.State.{Handshake};
 ghost use Rattle.vs_ring_port.specs.declared.device_ring.Next.TheVariants as next;
 ghost use Rattle.vs_device_parts.specs.declared.answers.Taken.TheVariants as taken;
-ghost use Rattle.vs_device_parts.specs.{Connections.with_connection, Connections.with_reply, Playing.AllowsOnRing, Playing.IsItsRing};
-ghost use Rattle.vs_device_parts.specs.Playing.{IsRxChain, MayClose, MayRun, Runs, RunsOnHost, held_by, situation};
-ghost use Rattle.vs_device_parts.specs.{State.DeviceConnection, State.DeviceEntry, State.DeviceState, Steps.heard_chain};
-ghost use Rattle.vs_device_parts.specs.Taking.{after_refusal, asks_for_stream, is_not_for_host, known_packet};
-ghost use Rattle.vs_device_parts.specs.Transmitting.{dial_answered, heard, on_known, on_next, on_packet, on_unknown, refused, take_tx_of};
-ghost use Rattle.vs_device_parts.specs.Transmitting.{op_why, try_request, unknown_why};
-ghost use Rattle.laws_device.specs.Named.Streams.{HasStreams};
-ghost use Rattle.laws_device.specs.Honest.{IsWith};
-ghost use Rattle.laws_proxy.specs.Account.{Judged.IsJudged, Made.Made, Made.Makes, Told.AreAccounted, Told.StayAccounted};
-ghost use Rattle.vs_proxy_parts.specs.State.{Handshake};
 
 use crate::device::Device;
 use vs_conn::{Verdict, Why};

@@ -1,21 +1,18 @@
 //! Connections that clients of the host ask for, transport resets, and what the device shows of its connections.
 
-ghost use Rattle.std.specs.Prelude.{◌≡◌, ◌≤◌, ◌<◌, ◌^◌, ℕ, List, Contains, [], true, Some, IfOk, IfErr, OnErr, OnOk, Err, length};
-ghost use Rattle.std.specs.{Iterator.YieldsFirst, Iterator.item_count, Option.ForSome};
+ghost use Rattle.std.specs.{Prelude.{◌≡◌, ◌≤◌, ◌<◌, ◌^◌, ℕ, List, Contains, [], true, Some, IfOk, IfErr, OnErr, OnOk, Err, length}, Iterator.{YieldsFirst, item_count}};
+ghost use Rattle.std.specs.Option.{ForSome};
 ghost use Rattle.vs_contents.specs.CallTree.{for_each};
 ghost use Rattle.vs_flow.specs.Table.{refusal, slots};
 ghost use Rattle.vs_ring_port.specs.{declared.failure.Failure.Failure, Contents.RingContents, EndLog.EndLog};
 ghost use Rattle.vs_limits.specs.declared.TheConstants.{BUF_ALLOC_MAX, GUEST_CID_MIN, GUEST_CID_MAX};
 ghost use Rattle.laws_tables.specs.Steps.{IsNextFlow};
-ghost use Rattle.vs_page.specs.Log as log;
-ghost use Rattle.laws_device.specs.Named.Streams.{HasStreams, IsFree};
-ghost use Rattle.laws_device.specs.Streams.{AreStreamedWith};
-ghost use Rattle.laws_device.specs.Honest.{AgreesWith, IsLeftOpen, IsWith, ends_of_state, port_after};
-ghost use Rattle.laws_proxy.specs.Account.{Made.Made, Told.AreAccounted, Told.IsAsking, Told.StayAccounted};
+ghost use Rattle.laws_device.specs.{Named.Streams.{HasStreams, IsFree}, Streams.AreStreamedWith, Honest.{AgreesWith, IsLeftOpen, IsWith, ends_of_state, port_after}};
+ghost use Rattle.laws_proxy.specs.Account.{Made.Made, Told.{AreAccounted, IsAsking, StayAccounted}};
 ghost use Rattle.vs_proxy_parts.specs.State.{Handshake};
-ghost use Rattle.vs_device_parts.specs.{State.DeviceEntry, Playing.IsItsRing, Playing.MayRun, Playing.MayRunOnHost, Playing.Runs};
-ghost use Rattle.vs_device_parts.specs.{Playing.RunsOnHost, Playing.situation, Turns.after_reset, Turns.close_slot, Turns.open_of};
+ghost use Rattle.vs_device_parts.specs.{State.DeviceEntry, Playing.{IsItsRing, MayRun, MayRunOnHost, Runs, RunsOnHost, situation}, Turns.{after_reset, close_slot, open_of}};
 ghost use Rattle.vs_device_parts.specs.Turns.{reset_of, table_shown};
+ghost use Rattle.vs_page.specs.Log as log;
 
 use crate::device::Device;
 use std::marker::Model;

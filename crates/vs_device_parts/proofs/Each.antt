@@ -1,9 +1,7 @@
 -- One step for each of a list's elements: whatever completes the rest completes the whole.
-use Rattle.std.proofs.Common.{◌≡◌, ℕ, ◌+◌, ◌<◌, ◌≤◌, List, length, drop, get_or, drop-cons, add-one, refl, sym, ap}
-use Rattle.std.proofs.Math.ListN.{drop_of_length-le}
-use Rattle.vs_contents.specs.CallTree.{Done, bind, for_each}
-use Rattle.vs_contents.proofs.{Leads.leads_of, Leads.leads_bind, Conditions.may_first, Conditions.may_rest, Conditions.may_of}
-use Rattle.vs_device_parts.specs.{Calls.Situation, Calls.DeviceTree, Calls.Allows, Playing.CanMake, Playing.MayRun, Playing.Runs}
+use Rattle.std.proofs.{Common.{◌≡◌, ℕ, ◌+◌, ◌<◌, ◌≤◌, List, length, drop, get_or, drop-cons, add-one, refl, sym, ap}, Math.ListN.drop_of_length-le}
+use Rattle.vs_contents.{specs.CallTree.{Done, bind, for_each}, proofs.{Leads.{leads_of, leads_bind}, Conditions.{may_first, may_rest, may_of}}}
+use Rattle.vs_device_parts.specs.{Calls.{Situation, DeviceTree, Allows}, Playing.{CanMake, MayRun, Runs}}
 
 module _ {A : Type 0} (step : ℕ → A → DeviceTree A) where
   module _ (xs : List ℕ) (i d : ℕ) (x : A) (lt : i < length xs) where

@@ -1,12 +1,11 @@
 -- What it takes that a buffer space is raised, and what the connection owes then.
-use Rattle.std.proofs.Common.{◌≡◌, ℕ, ◌≤◌, ◌&&◌, not, nat_lt, Bool, true, false, Option, Some, None, refl, sym, ap, subst, ◌∙◌, arith}
-use Rattle.std.proofs.lemmas.{Bool.Decides.nat_tests, Grind.common_steps}
-use Rattle.vs_conn.specs.{End.{ConnectionEnd, grown, live_owes, owes_of, state_owes}, Shut.is_both, declared.end.Owed.Owed, declared.end.State.State}
+use Rattle.std.proofs.{Common.{◌≡◌, ℕ, ◌≤◌, ◌&&◌, not, nat_lt, Bool, true, false, Option, Some, None, refl, sym, ap, subst, ◌∙◌, arith}, lemmas.Bool.Decides.nat_tests}
+use Rattle.std.proofs.lemmas.Grind.{common_steps}
+use Rattle.vs_conn.specs.{End.{ConnectionEnd, grown, live_owes, owes_of, state_owes}, Shut.is_both, declared.end.{Owed.Owed, State.State}}
 use Rattle.vs_flow.specs.Table.{entry_under}
 use Rattle.vs_limits.specs.declared.TheConstants.{BUF_ALLOC_MAX}
-use Rattle.vs_device_parts.specs.Growing.{after_grow, entry_grow_answer, grow_answer, grow_of, grown_by, live_grow_answer, owed_in, rises}
-use Rattle.vs_device_parts.specs.{Connections.with_connection, State.DeviceConnection, State.DeviceEntry, State.DeviceState}
-use Rattle.vs_device_parts.{proofs.Under.has_slot, proofs.Under.under_changed, specs.declared.answers.Grown.Grown}
+use Rattle.vs_device_parts.specs.{Growing.{after_grow, entry_grow_answer, grow_answer, grow_of, grown_by, live_grow_answer, owed_in, rises}, Connections.with_connection}
+use Rattle.vs_device_parts.{specs.{State.{DeviceConnection, DeviceEntry, DeviceState}, declared.answers.Grown.Grown}, proofs.Under.{has_slot, under_changed}}
 use Rattle.vs_conn.specs.declared.end.Owed.TheVariants as owed
 use Rattle.vs_conn.specs.declared.end.State.TheVariants as state
 use Rattle.vs_device_parts.specs.declared.answers.Grown.TheVariants as rise

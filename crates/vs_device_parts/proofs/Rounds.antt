@@ -1,7 +1,6 @@
 -- The order in which connections are served: slots that rise are parted by one of them.
-use Rattle.std.proofs.Common.{◌≡◌, ℕ, zero, suc, ◌<◌, ◌≤◌, Bool, true, false, List, [], ◌∷◌, length, take, drop, get_or, refl, ap, arith}
-use Rattle.std.proofs.lemmas.Bool.Decides.{nat_tests}
-use Rattle.std.specs.{Prelude.nat_lt, Prelude.nat_le, List.{AllPairs, AllWithin, filter}, List.Sorted.IsPartitionedBy}
+use Rattle.std.proofs.{Common.{◌≡◌, ℕ, zero, suc, ◌<◌, ◌≤◌, Bool, true, false, List, [], ◌∷◌, length, take, drop, get_or, refl, ap, arith}, lemmas.Bool.Decides.nat_tests}
+use Rattle.std.specs.{Prelude.{nat_lt, nat_le}, List.{AllPairs, AllWithin, filter, Sorted.IsPartitionedBy}}
 
 -- those that are at most one come first
 pub parted_by : (last : ℕ) (slots : List ℕ) → AllPairs (λ j k. j < k) slots → IsPartitionedBy (λ slot. nat_le slot last) slots

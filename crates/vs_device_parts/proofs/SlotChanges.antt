@@ -1,15 +1,12 @@
 -- What always holds of the slots after a change of the table.
-use Rattle.std.proofs.Common.{◌≡◌, ℕ, zero, suc, ◌+◌, ◌<◌, ◌≤◌, ◌==◌, Bool, true, false, cond, not, List, ◌∷◌, [], ◌++◌, length, map, get_or, Option, Some, None, refl, sym, ap, subst}
-use Rattle.std.proofs.Common.{◌∙◌, arith}
-use Rattle.std.proofs.{Common.length-append, lemmas.Bool.Decides.nat_tests, lemmas.{List.get_or-map, List.length-map, List.get_or_append_left}}
-use Rattle.std.proofs.{lemmas.Option.{get_or_from_slice_get, slice_get_within}, lemmas.List.{Edits.length-remove, Elements.{All-filter, All-map, All-push, All-weaker, AllWithin-more}}}
-use Rattle.std.specs.List.{All, AllPairs, AllWithin, filter, remove, slice_get}
-use Rattle.vs_flow.specs.{Table.{Table, IsTable, entry_of, entry_under, value_under, has_place, next_entry, slots, with_entry, with_value, without, revalued}, declared.flow.Flow.Flow}
-use Rattle.vs_flow.proofs.{Entries.all_others, Entries.found_at, Entries.remove_at, Lookups.find_place, Tables.IsAccepted, Tables.revalued-slot, Tables.with_value_sound}
-use Rattle.vs_device_parts.specs.{State.DeviceConnection, State.DeviceEntry, SlotFields.AreKept, declared.slots.Slots.TheInside.Inside}
-use Rattle.vs_device_parts.specs.{Connections.is_timed_out, Watched.{AreWatched, IsWatched, has_to_write}, declared.watch.Watch.Watch}
-use Rattle.vs_device_parts.proofs.Under.{none_under, under, value_of}
-use Rattle.vs_device_parts.specs.{Served.IsServedSo, declared.service.Service.Service}
+use Rattle.std.proofs.Common.{◌≡◌, ℕ, zero, suc, ◌+◌, ◌<◌, ◌≤◌, ◌==◌, Bool, true, false, cond, not, List, ◌∷◌, [], ◌++◌, length, map, get_or, Option, Some, None, refl, sym, ap}
+use Rattle.std.proofs.{Common.{subst, ◌∙◌, arith, length-append}, lemmas.{Bool.Decides.nat_tests, List.{get_or-map, length-map, get_or_append_left, Edits.length-remove}}}
+use Rattle.std.{proofs.lemmas.{List.Elements.{All-filter, All-map, All-push, All-weaker, AllWithin-more}, Option.{get_or_from_slice_get, slice_get_within}}, specs.List.All}
+use Rattle.std.specs.List.{AllPairs, AllWithin, filter, remove, slice_get}
+use Rattle.vs_flow.specs.Table.{Table, IsTable, entry_of, entry_under, value_under, has_place, next_entry, slots, with_entry, with_value, without, revalued}
+use Rattle.vs_flow.{specs.declared.flow.Flow.Flow, proofs.{Entries.{all_others, found_at, remove_at}, Lookups.find_place, Tables.{IsAccepted, revalued-slot, with_value_sound}}}
+use Rattle.vs_device_parts.specs.{State.{DeviceConnection, DeviceEntry}, SlotFields.AreKept, declared.{slots.Slots.TheInside.Inside, watch.Watch.Watch, service.Service.Service}}
+use Rattle.vs_device_parts.{specs.{Connections.is_timed_out, Watched.{AreWatched, IsWatched, has_to_write}, Served.IsServedSo}, proofs.Under.{none_under, under, value_of}}
 
 -- what is known after one more thing was noted
 module _ (w new : Watch) (still : (c : DeviceConnection) → IsWatched w c → IsWatched new c) (t : Table DeviceConnection) (all : AreWatched w t) where

@@ -1,9 +1,8 @@
 -- The entry under a slot, and the table with another value there.
-use Rattle.std.proofs.Common.{◌≡◌, ℕ, ◌==◌, Bool, true, false, List, [], ◌∷◌, map, Option, Some, None, is_some, refl, sym, ap, ◌∙◌, arith}
+use Rattle.std.proofs.{Common.{◌≡◌, ℕ, ◌==◌, Bool, true, false, List, [], ◌∷◌, map, Option, Some, None, is_some, refl, sym, ap, ◌∙◌, arith}, lemmas.Bool.Decides.nat_tests}
 use Rattle.std.specs.{Option.option_map, List.slice_get}
-use Rattle.std.proofs.lemmas.Bool.Decides.{nat_tests}
-use Rattle.vs_flow.specs.Table.{Table, IsTable, entry_under, value_under, with_value, revalued, emptied}
-use Rattle.vs_flow.proofs.{Entries.found_at, Entries.found_passes, Tables.revalued-slot, Lookups.entry_under-with_value}
+use Rattle.vs_flow.{specs.Table.{Table, IsTable, entry_under, value_under, with_value, revalued, emptied}, proofs.{Entries.{found_at, found_passes}, Tables.revalued-slot}}
+use Rattle.vs_flow.proofs.Lookups.{entry_under-with_value}
 use Rattle.vs_device_parts.specs.State.{DeviceConnection, DeviceEntry}
 
 pub has_slot : (t : Table DeviceConnection) (slot : ℕ) (e : DeviceEntry) → entry_under t slot ≡ Some e → e.slot ≡ slot

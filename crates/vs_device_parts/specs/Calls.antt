@@ -2,14 +2,13 @@
 use Rattle.std.specs.Prelude.{◌≡◌, ℕ, ◌<◌, ◌≤◌, Bool, false, List, [], length, slice_index, Option, IfSome}
 use Rattle.vs_contents.specs.{CallTree.CallTree, Contents.Exposes}
 use Rattle.vs_flow.specs.declared.flow.Flow.{Flow}
-use Rattle.vs_outside.specs.{Faults.CountsFault, Host.HostContents, Host.accept_answer, Host.after_accept, Host.IsDialed, Host.after_dial}
-use Rattle.vs_outside.specs.Host.{after_label, after_read, IsWritten, after_write, after_shut_write, after_close, accept_failed}
-use Rattle.vs_outside.specs.Host.{dial_failed, read_failed, write_failed, read_answer, next_bytes}
+use Rattle.vs_outside.specs.{Faults.CountsFault, Host.{HostContents, accept_answer, after_accept, IsDialed, after_dial, after_label, after_read, IsWritten, after_write}}
+use Rattle.vs_outside.specs.Host.{after_shut_write, after_close, accept_failed, dial_failed, read_failed, write_failed, read_answer, next_bytes}
 use Rattle.vs_outside.specs.declared.host_net.{Accepted.Accepted, Dialed.Dialed, StreamRead.StreamRead, StreamWrite.StreamWrite}
+use Rattle.vs_ring_port.specs.{Chains.{IsLongEnough, chain_of}, Contents.{RingContents, DeviceCall, DeviceAnswer, Take, Read}, DeviceCalls.DeviceAllows}
+use Rattle.vs_ring_port.specs.declared.{device_ring.Chain.Chain, queue.Queue.Queue}
 use Rattle.vs_outside.specs.declared.host_net.StreamRead.TheVariants as read
 use Rattle.vs_outside.specs.declared.host_net.StreamWrite.TheVariants as write
-use Rattle.vs_ring_port.specs.{Chains.{IsLongEnough, chain_of}, Contents.{RingContents, DeviceCall, DeviceAnswer, Take, Read}}
-use Rattle.vs_ring_port.specs.{DeviceCalls.DeviceAllows, declared.device_ring.Chain.Chain, declared.queue.Queue.Queue}
 
 -- A call on the ring or on the host. A read of a stream is into a buffer of so many bytes.
 pub data Call : Type 0 where

@@ -1,10 +1,8 @@
 -- Small steps on a device's connections, apart from ring and host.
-use Rattle.std.specs.Prelude.{ℕ, ◌+◌, ◌-◌, ◌&&◌, ◌||◌, nat_le, Bool, true, false, if◌then◌else◌, List, [], ◌∷◌, ◌++◌, length, drop, Option}
-use Rattle.std.specs.Prelude.{Some, None}
-use Rattle.vs_conn.specs.{Shut.is_both, declared.end.State.State, declared.route.Route.Route}
-use Rattle.vs_conn.specs.End.{ConnectionEnd, asked, answering, aborted, with_shut, with_payload_forwarded}
-use Rattle.vs_flow.specs.{Table.with_entry, Table.with_value, Table.without, declared.flow.Flow.Flow}
-use Rattle.vs_header.specs.{declared.Header.Header, declared.Kind.TheVariants.Stream}
+use Rattle.std.specs.Prelude.{ℕ, ◌+◌, ◌-◌, ◌&&◌, ◌||◌, nat_le, Bool, true, false, if◌then◌else◌, List, [], ◌∷◌, ◌++◌, length, drop, Option, Some, None}
+use Rattle.vs_conn.specs.{Shut.is_both, declared.{end.State.State, route.Route.Route}, End.{ConnectionEnd, asked, answering, aborted, with_shut, with_payload_forwarded}}
+use Rattle.vs_flow.specs.{Table.{with_entry, with_value, without}, declared.flow.Flow.Flow}
+use Rattle.vs_header.specs.declared.{Header.Header, Kind.TheVariants.Stream}
 use Rattle.vs_limits.specs.declared.TheConstants.{BUF_ALLOC, TIMEOUT}
 use Rattle.vs_replies.specs.declared.Reply.{Reply}
 use Rattle.vs_wrap.specs.Wrap.{counted}

@@ -2,13 +2,12 @@
 use Rattle.std.specs.Prelude.{ℕ, Bool, true, false, if◌then◌else◌, List, [], take, Some, None}
 use Rattle.vs_contents.specs.CallTree.{Done, bind, for_each}
 use Rattle.vs_conn.specs.declared.end.Owed.{Owed}
-use Rattle.vs_conn.specs.declared.end.Owed.TheVariants as owed
 use Rattle.vs_flow.specs.Table.{entry_under, slots}
 use Rattle.vs_header.specs.declared.Header.{Header}
 use Rattle.vs_outside.specs.declared.host_net.StreamRead.{StreamRead}
+use Rattle.vs_device_parts.specs.{declared.fill.Fill.Fill, Calls.DeviceTree, Receiving.{Filling, hold, put_on, read_stream, round_from, serve_slot}, State.DeviceState}
+use Rattle.vs_conn.specs.declared.end.Owed.TheVariants as owed
 use Rattle.vs_outside.specs.declared.host_net.StreamRead.TheVariants as read
-use Rattle.vs_device_parts.specs.{declared.fill.Fill.Fill, Calls.DeviceTree, Receiving.Filling, Receiving.hold, Receiving.put_on}
-use Rattle.vs_device_parts.specs.{Receiving.read_stream, Receiving.round_from, Receiving.serve_slot, State.DeviceState}
 
 -- The device, and what was done so far.
 abbrev pub filling_of : DeviceState → Fill → Filling

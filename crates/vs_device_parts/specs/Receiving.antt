@@ -1,26 +1,24 @@
 -- Packets and events that the device puts to the guest.
-use Rattle.std.specs.Prelude.{ℕ, ◌+◌, ◌-◌, ◌==◌, ◌&&◌, not, min, nat_lt, nat_le, Bool, true, false, if◌then◌else◌, List, [], ◌∷◌, ◌++◌}
-use Rattle.std.specs.Prelude.{length, filter, Option, Some, None, Result, Ok, Err}
+use Rattle.std.specs.Prelude.{ℕ, ◌+◌, ◌-◌, ◌==◌, ◌&&◌, not, min, nat_lt, nat_le, Bool, true, false, if◌then◌else◌, List, [], ◌∷◌, ◌++◌, length, filter, Option, Some, None, Result}
+use Rattle.std.specs.Prelude.{Ok, Err}
 use Rattle.byteorder.specs.Endian.{little_bytes}
 use Rattle.vs_contents.specs.CallTree.{Done, Ask, bind, for_each, while_up_to}
-use Rattle.vs_header.specs.{Packet.header_bytes, declared.Header.Header, declared.TheConstants.HEADER_LEN}
+use Rattle.vs_header.specs.{Packet.header_bytes, declared.{Header.Header, TheConstants.HEADER_LEN}}
 use Rattle.vs_credit.specs.Credit.{free_of}
-use Rattle.vs_conn.specs.{Headers.{owed_header, payload_header, reset_header}, declared.end.Owed.Owed, declared.end.State.State}
-use Rattle.vs_conn.specs.{End.{ConnectionEnd, owes_of, paid_of, with_payload_sent, wanting_credit}}
+use Rattle.vs_conn.specs.{Headers.{owed_header, payload_header, reset_header}, declared.end.{Owed.Owed, State.State}, End.{ConnectionEnd, owes_of, paid_of, with_payload_sent}}
+use Rattle.vs_conn.specs.End.{wanting_credit}
 use Rattle.vs_flow.specs.Table.{entry_under, slots}
 use Rattle.vs_outside.specs.declared.host_net.StreamRead.{StreamRead}
 use Rattle.vs_page.specs.declared.page.TheConstants.{PAYLOAD_MAX}
 use Rattle.vs_replies.specs.declared.Reply.{Reply}
-use Rattle.vs_ring_port.specs.declared.{device_ring.Chain.Chain, device_ring.Next.Next, failure.Failure.Failure, queue.Queue.TheVariants.Rx}
-use Rattle.vs_ring_port.specs.{declared.queue.Queue.TheVariants.Event, Contents.Take, Contents.Write, Contents.Return}
-use Rattle.vs_device_parts.specs.{declared.answers.Filled.Filled, Calls.DeviceTree, Calls.Ring, Calls.ReadStream, State.DeviceState}
-use Rattle.vs_device_parts.specs.{State.DeviceEntry, Streams.closing, Streams.leaving, Transmitting.failing, Connections.with_connection}
-use Rattle.vs_device_parts.specs.Connections.{with_fault, route_to_guest, cut_off, after_shut}
+use Rattle.vs_ring_port.specs.{declared.{device_ring.{Chain.Chain, Next.Next}, failure.Failure.Failure, queue.Queue.TheVariants.{Rx, Event}}, Contents.{Take, Write, Return}}
+use Rattle.vs_device_parts.specs.{declared.answers.Filled.Filled, Calls.{DeviceTree, Ring, ReadStream}, State.{DeviceState, DeviceEntry}, Streams.{closing, leaving}}
+use Rattle.vs_device_parts.specs.{Transmitting.failing, Connections.{with_connection, with_fault, route_to_guest, cut_off, after_shut}}
+use Rattle.vs_limits.specs.declared.TheConstants.{OWED_MAX}
 use Rattle.vs_conn.specs.declared.end.Owed.TheVariants as owed
 use Rattle.vs_conn.specs.declared.end.State.TheVariants as state
 use Rattle.vs_outside.specs.declared.host_net.StreamRead.TheVariants as read
 use Rattle.vs_ring_port.specs.declared.device_ring.Next.TheVariants as next
-use Rattle.vs_limits.specs.declared.TheConstants.{OWED_MAX}
 
 -- The owed event: the id 0 of a transport reset, where an event chain is there.
 abbrev pub event_on : Next → DeviceState → DeviceTree (DeviceState × Result Bool Failure)

@@ -5,13 +5,11 @@ use Rattle.vs_contents.specs.CallTree.{Done, Ask, bind}
 use Rattle.vs_credit.specs.Credit.{free_of}
 use Rattle.vs_conn.specs.{End.wanting_credit, declared.end.Verdict.Verdict}
 use Rattle.vs_flow.specs.Table.{entry_under}
-use Rattle.vs_header.specs.{Packet.header_of, declared.Header.Header, declared.TheConstants.HEADER_LEN}
-use Rattle.vs_ring_port.specs.{Contents.Take, Contents.Read, Contents.Write, Contents.Return, declared.device_ring.Chain.Chain}
-use Rattle.vs_ring_port.specs.{declared.device_ring.Next.Next, declared.failure.Failure.Failure, declared.queue.Queue.Queue}
-use Rattle.vs_ring_port.specs.declared.queue.Queue.TheVariants.{Rx, Tx, Event}
-use Rattle.vs_device_parts.specs.{Calls.DeviceTree, Calls.Ring, Connections.with_connection, State.DeviceState, State.DeviceEntry}
-use Rattle.vs_device_parts.specs.{Streams.Writing, Streams.write_pending, Streams.shut_write, Transmitting.failing, Transmitting.on_packet}
-use Rattle.vs_device_parts.specs.Receiving.{Filling, hold, put_reply, put_owed, may_read, read_with_chain}
+use Rattle.vs_header.specs.{Packet.header_of, declared.{Header.Header, TheConstants.HEADER_LEN}}
+use Rattle.vs_ring_port.specs.{Contents.{Take, Read, Write, Return}, declared.{device_ring.{Chain.Chain, Next.Next}, failure.Failure.Failure, queue.Queue.{Queue, TheVariants.Rx}}}
+use Rattle.vs_ring_port.specs.declared.queue.Queue.TheVariants.{Tx, Event}
+use Rattle.vs_device_parts.specs.{Calls.{DeviceTree, Ring}, Connections.with_connection, State.{DeviceState, DeviceEntry}, Streams.{Writing, write_pending, shut_write}}
+use Rattle.vs_device_parts.specs.{Transmitting.{failing, on_packet}, Receiving.{Filling, hold, put_reply, put_owed, may_read, read_with_chain}}
 use Rattle.vs_limits.specs.declared.TheConstants.{DEVICE_REPLIES}
 use Rattle.vs_ring_port.specs.declared.device_ring.Next.TheVariants as next
 use Rattle.vs_ring_port.specs.declared.failure.Failure.TheVariants as failure

@@ -1,18 +1,17 @@
 -- Packets that the device takes from the guest.
 use Rattle.std.specs.Prelude.{◌-◌, ◌==◌, ◌&&◌, nat_lt, nat_le, if◌then◌else◌, [], ◌++◌, length, Option, Some, None}
 use Rattle.vs_contents.specs.CallTree.{Done, Ask, bind}
-use Rattle.vs_header.specs.{Op.op_named, Op.op_number, Packet.header_of, declared.Header.Header, declared.TheConstants.HEADER_LEN}
-use Rattle.vs_header.specs.{declared.Kind.TheVariants.Stream, declared.Op.Op, declared.Op.TheVariants.Invalid, declared.Op.TheVariants.Request}
-use Rattle.vs_conn.specs.{End.verdict_of, End.end_after, End.is_of, End.is_reset, declared.end.Verdict.Verdict, declared.end.Why.Why}
-use Rattle.vs_flow.specs.{Flow.is_assigned, Table.entry_of, Table.has_place}
+use Rattle.vs_header.specs.{Op.{op_named, op_number}, Packet.header_of, declared.{Header.Header, TheConstants.HEADER_LEN, Kind.TheVariants.Stream, Op.{Op, TheVariants.Invalid}}}
+use Rattle.vs_header.specs.declared.Op.TheVariants.{Request}
+use Rattle.vs_conn.specs.{End.{verdict_of, end_after, is_of, is_reset}, declared.end.{Verdict.Verdict, Why.Why}}
+use Rattle.vs_flow.specs.{Flow.is_assigned, Table.{entry_of, has_place}}
 use Rattle.vs_outside.specs.declared.host_net.Dialed.{Dialed}
-use Rattle.vs_page.specs.{Log.flow_to_host, Log.Device, Open.is_dropped}
+use Rattle.vs_page.specs.{Log.{flow_to_host, Device}, Open.is_dropped}
 use Rattle.vs_replies.specs.Owed.{reply_to}
 use Rattle.vs_uds.specs.{OkLine.ok_text, Path.path_of}
-use Rattle.vs_ring_port.specs.{declared.device_ring.Chain.Chain, declared.device_ring.Next.Next, declared.failure.Failure.Failure}
-use Rattle.vs_ring_port.specs.{declared.queue.Queue.TheVariants.Tx, Contents.Take, Contents.Read, Contents.Return}
-use Rattle.vs_device_parts.specs.{declared.answers.Taken.Taken, Calls.{DeviceTree, Ring, Dial}, State.{DeviceConnection, DeviceState}}
-use Rattle.vs_device_parts.specs.{State.DeviceEntry, Streams.leaving, Connections.{with_connection, with_reply, with_fault, with_dialed}}
+use Rattle.vs_ring_port.specs.{declared.{device_ring.{Chain.Chain, Next.Next}, failure.Failure.Failure, queue.Queue.TheVariants.Tx}, Contents.{Take, Read, Return}}
+use Rattle.vs_device_parts.specs.{declared.answers.Taken.Taken, Calls.{DeviceTree, Ring, Dial}, State.{DeviceConnection, DeviceState, DeviceEntry}, Streams.leaving}
+use Rattle.vs_device_parts.specs.Connections.{with_connection, with_reply, with_fault, with_dialed}
 use Rattle.vs_limits.specs.declared.TheConstants.{DEVICE_REPLIES}
 use Rattle.vs_wrap.specs.Wrap.{counted}
 use Rattle.vs_conn.specs.declared.end.Verdict.TheVariants as verdict

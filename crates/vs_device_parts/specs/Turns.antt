@@ -1,11 +1,10 @@
 -- Reset and opening.
 use Rattle.std.specs.Prelude.{ℕ, true, List, [], Some, None, Result, Ok, Err, map}
 use Rattle.vs_contents.specs.CallTree.{Done, Ask, bind, for_each}
-use Rattle.vs_flow.specs.{Table.{entry_under, slots, emptied, refusal}, declared.flow.Flow.Flow, declared.table.TableFault.TableFault}
+use Rattle.vs_flow.specs.{Table.{entry_under, slots, emptied, refusal}, declared.{flow.Flow.Flow, table.TableFault.TableFault}}
 use Rattle.vs_conn.specs.declared.end.State.{State}
 use Rattle.vs_ring_port.specs.{declared.failure.Failure.Failure, Contents.PublishCid}
-use Rattle.vs_device_parts.specs.{Calls.DeviceTree, Calls.Ring, Calls.Label, Connections.with_client, Connections.stream_closed}
-use Rattle.vs_device_parts.specs.{State.DeviceState, Streams.closing}
+use Rattle.vs_device_parts.specs.{Calls.{DeviceTree, Ring, Label}, Connections.{with_client, stream_closed}, State.DeviceState, Streams.closing}
 
 -- reset: all streams are closed, by rising slot; table and owed replies are empty; the CID is published, and an event is owed.
 abbrev pub close_slot : ℕ → DeviceState → DeviceTree DeviceState

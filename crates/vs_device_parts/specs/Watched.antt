@@ -1,7 +1,6 @@
 -- What is known of all connections at once: when the first of them may time out, whether one may have something
 -- for its stream, and whether one may owe a packet.
-use Rattle.std.specs.{Prelude.◌≡◌, Prelude.ℕ, Prelude.◌<◌, Prelude.◌==◌, Prelude.◌&&◌, Prelude.◌||◌, Prelude.not, Prelude.Bool, Prelude.false, Prelude.length, Prelude.None}
-use Rattle.std.specs.List.{All}
+use Rattle.std.specs.{Prelude.{◌≡◌, ℕ, ◌<◌, ◌==◌, ◌&&◌, ◌||◌, not, Bool, false, length, None}, List.All}
 use Rattle.vs_conn.specs.End.{owes_of}
 use Rattle.vs_flow.specs.Table.{Table}
 use Rattle.vs_device_parts.specs.{Connections.is_timed_out, State.DeviceConnection, declared.watch.Watch.Watch}

@@ -2,8 +2,7 @@
 
 ghost use Rattle.std.specs.{Prelude.length, Option.ForSome};
 ghost use Rattle.vs_outside.specs.Host.{IsOpen, TakesSome};
-ghost use Rattle.vs_device_parts.specs.Calls.{Label, Dial, WriteStream, ShutWrite, CloseStream};
-ghost use Rattle.vs_device_parts.specs.Playing.{AllowsOnHost};
+ghost use Rattle.vs_device_parts.specs.{Calls.{Label, Dial, WriteStream, ShutWrite, CloseStream}, Playing.AllowsOnHost};
 
 use vs_flow::Flow;
 use vs_outside::{Dialed, HostNet, StreamWrite};

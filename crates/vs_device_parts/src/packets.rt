@@ -1,12 +1,11 @@
 //! A packet in a chain of the receive queue, and the read of a stream that gives its payload.
 
-ghost use Rattle.std.specs.{Prelude.◌≡◌, Prelude.◌≤◌, Prelude.◌+◌, Prelude.length, Prelude.Contains, Option.ForSome};
+ghost use Rattle.std.specs.{Prelude.{◌≡◌, ◌≤◌, ◌+◌, length, Contains}, Option.ForSome};
 ghost use Rattle.vs_header.specs.declared.TheConstants.{HEADER_LEN};
 ghost use Rattle.vs_outside.specs.Host.{IsOpen, ReadsSome};
 ghost use Rattle.vs_page.specs.declared.page.TheConstants.{PAYLOAD_MAX};
 ghost use Rattle.vs_ring_port.specs.Chains.{without};
-ghost use Rattle.vs_device_parts.specs.{Calls.ReadStream, Filling.bytes_read};
-ghost use Rattle.vs_device_parts.specs.{Playing.AllowsOnHost, Playing.MayRunOnRing, Playing.RunsOnRing, Receiving.written};
+ghost use Rattle.vs_device_parts.specs.{Calls.ReadStream, Filling.bytes_read, Playing.{AllowsOnHost, MayRunOnRing, RunsOnRing}, Receiving.written};
 
 use vs_header::{HEADER_LEN, Header};
 use vs_outside::{HostNet, StreamRead};

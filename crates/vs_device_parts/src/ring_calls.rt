@@ -3,8 +3,7 @@
 ghost use Rattle.std.specs.Prelude.{◌≡◌, ◌<◌, ◌≤◌, ◌+◌, List, ℕ, IfSome, Contains, length, slice_index, take};
 ghost use Rattle.vs_limits.specs.declared.TheConstants.{GUEST_CID_MIN, GUEST_CID_MAX};
 ghost use Rattle.vs_header.specs.{Packet.header_of, declared.TheConstants.HEADER_LEN};
-ghost use Rattle.vs_ring_port.specs.{Chains.chain_of, Chains.held_after, Chains.IsLongEnough, Chains.without, Contents.Take, Contents.Read};
-ghost use Rattle.vs_ring_port.specs.{Contents.Return, Contents.PublishCid, DeviceCalls.CanReturn};
+ghost use Rattle.vs_ring_port.specs.{Chains.{chain_of, held_after, IsLongEnough, without}, Contents.{Take, Read, Return, PublishCid}, DeviceCalls.CanReturn};
 ghost use Rattle.vs_device_parts.specs.Playing.{AllowsOnRing};
 
 use vs_header::{HEADER_LEN, Header};

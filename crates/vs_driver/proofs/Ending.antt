@@ -1,15 +1,13 @@
 -- What send leaves with each answer, read off its conversation.
-use Rattle.std.proofs.Common.{◌≡◌, ℕ, zero, suc, ◌+◌, ◌-◌, ◌≤◌, ◌==◌, Bool, true, false, cond, min, List, length, Option, Some, None}
-use Rattle.std.proofs.{Common.{Result, Ok, Err, refl, ap, ◌∙◌, arith, length-take}, lemmas.Bool.Decides.nat_tests}
-use Rattle.vs_contents.specs.CallTree.{Done, Ask, bind, while_up_to}
-use Rattle.vs_contents.proofs.Leads.{AllEnds, end_of, ends_bind, ends_weaker}
-use Rattle.vs_conn.specs.{End.may_send_of, End.wanting_credit, End.with_payload_sent, declared.end.Stop.Stop}
+use Rattle.std.proofs.Common.{◌≡◌, ℕ, zero, suc, ◌+◌, ◌-◌, ◌≤◌, ◌==◌, Bool, true, false, cond, min, List, length, Option, Some, None, Result, Ok, Err, refl, ap, ◌∙◌, arith}
+use Rattle.std.proofs.{Common.length-take, lemmas.Bool.Decides.nat_tests}
+use Rattle.vs_contents.{specs.CallTree.{Done, Ask, bind, while_up_to}, proofs.Leads.{AllEnds, end_of, ends_bind, ends_weaker}}
+use Rattle.vs_conn.specs.{End.{may_send_of, wanting_credit, with_payload_sent}, declared.end.Stop.Stop}
 use Rattle.vs_page.specs.declared.page.TheConstants.{PAYLOAD_MAX}
 use Rattle.vs_ring_port.specs.{declared.queue.Queue.TheVariants.Tx, Contents.RingContents, DriverCalls.Reap}
-use Rattle.vs_driver_parts.specs.Conversations.{DriverTree, has_page, no_credit, not_sent, payload_bytes, payload_of, post_packet, reap_all}
-use Rattle.vs_driver_parts.specs.State.{DriverEntry, DriverState, entry_known_as}
-use Rattle.vs_driver_parts.specs.Conversations.{reap_one, reaped, send_of, send_on, send_stopped, send_with_credit, send_with_page}
-use Rattle.vs_driver_parts.specs.{declared.answers.Sent.Sent, Connections.with_end, Playing.Plays, Playing.RingAllows}
+use Rattle.vs_driver_parts.specs.Conversations.{DriverTree, has_page, no_credit, not_sent, payload_bytes, payload_of, post_packet, reap_all, reap_one, reaped, send_of, send_on}
+use Rattle.vs_driver_parts.specs.{Conversations.{send_stopped, send_with_credit, send_with_page}, State.{DriverEntry, DriverState, entry_known_as}, declared.answers.Sent.Sent}
+use Rattle.vs_driver_parts.specs.{Connections.with_end, Playing.{Plays, RingAllows}}
 use Rattle.vs_driver.specs.Outcomes.{KeepsAllButPages, Sends, SendsBy, SendsFront, SendsOn, SendsWith, sent_at_most}
 use Rattle.vs_driver_parts.specs.declared.answers.Sent.TheVariants as sent
 

@@ -1,13 +1,11 @@
 -- What raising a buffer space leaves of the connection, and of all others.
 use Rattle.std.proofs.Common.{◌≡◌, ℕ, ◌&&◌, not, nat_lt, true, Some, refl, sym, ap, subst, ◌∙◌}
-use Rattle.vs_conn.specs.{End.ConnectionEnd, End.grown, End.owes_of, End.view_of, Shut.is_both, declared.end.EndView.EndView}
+use Rattle.vs_conn.specs.{End.{ConnectionEnd, grown, owes_of, view_of}, Shut.is_both, declared.end.EndView.EndView}
 use Rattle.vs_flow.specs.Table.{IsTable}
-use Rattle.vs_driver_parts.specs.State.{DriverConnection, DriverEntry, DriverState, entry_known_as}
-use Rattle.vs_driver_parts.specs.Connections.{after_grow, entry_grow_answer, grow_answer, grow_of, grown_by, unread_of_id, with_connection}
-use Rattle.vs_driver_parts.specs.declared.answers.Grown.{Grown}
-use Rattle.vs_driver_parts.proofs.{Growing.{MayGrow, may_grow, owes_update}, Known.{after_grow_known, grow_known, unread_known}}
-use Rattle.vs_driver.specs.Pipes.{IfGrown, KeepsOthers, UnlessGrown, owed_by, rises}
-use Rattle.vs_driver.proofs.Pipes.{keeps_others, known_after, unread_after}
+use Rattle.vs_driver_parts.specs.{State.{DriverConnection, DriverEntry, DriverState, entry_known_as}, Connections.{after_grow, entry_grow_answer, grow_answer, grow_of, grown_by}}
+use Rattle.vs_driver_parts.{specs.{Connections.{unread_of_id, with_connection}, declared.answers.Grown.Grown}, proofs.Growing.{MayGrow, may_grow, owes_update}}
+use Rattle.vs_driver_parts.proofs.Known.{after_grow_known, grow_known, unread_known}
+use Rattle.vs_driver.{specs.Pipes.{IfGrown, KeepsOthers, UnlessGrown, owed_by, rises}, proofs.Pipes.{keeps_others, known_after, unread_after}}
 use Rattle.vs_conn.specs.declared.end.Owed.TheVariants as owed
 use Rattle.vs_driver_parts.specs.declared.answers.Grown.TheVariants as rise
 

@@ -1,17 +1,14 @@
 -- What putting replies and what connections owe comes to.
-use Rattle.std.proofs.Common.{◌≡◌, ℕ, Bool, true, false, List, [], ◌∷◌, length, drop, Option, Some, None, ◌+◌, ◌<◌, ◌≤◌, get_or, drop-cons}
-use Rattle.std.proofs.Common.{add-one, refl, sym, ap, subst, ◌∙◌}
-use Rattle.std.{specs.List.slice_get, specs.Option.IsSomeAnd, proofs.Math.ListN.drop_of_length-le}
-use Rattle.vs_contents.specs.CallTree.{Done, bind, for_each}
-use Rattle.vs_contents.proofs.{Leads.leads_of, Leads.leads_bind, Conditions.may_first, Conditions.may_rest, Conditions.may_of}
+use Rattle.std.proofs.Common.{◌≡◌, ℕ, Bool, true, false, List, [], ◌∷◌, length, drop, Option, Some, None, ◌+◌, ◌<◌, ◌≤◌, get_or, drop-cons, add-one, refl, sym, ap, subst, ◌∙◌}
+use Rattle.std.{proofs.Math.ListN.drop_of_length-le, specs.{List.slice_get, Option.IsSomeAnd}}
+use Rattle.vs_contents.{specs.CallTree.{Done, bind, for_each}, proofs.{Leads.{leads_of, leads_bind}, Conditions.{may_first, may_rest, may_of}}}
 use Rattle.vs_header.specs.{Packet.header_bytes, declared.Header.Header}
 use Rattle.vs_conn.specs.{End.owes_of, Headers.owed_header, declared.end.Owed.Owed}
 use Rattle.vs_flow.specs.Table.{entry_under}
 use Rattle.vs_replies.specs.declared.Reply.{Reply}
 use Rattle.vs_ring_port.specs.Contents.{RingContents}
-use Rattle.vs_driver_parts.specs.Conversations.{DriverTree, Round, after_paying, has_page, is_rst, one_put, pay_slot, put_owed, put_reply}
-use Rattle.vs_driver_parts.specs.{Conversations.{put_reply_of, reply_header, round_of, stage_packet}, Connections.with_connection}
-use Rattle.vs_driver_parts.specs.{Connections.{paid_connection, route_to_host}, Playing.{CanMake, MayPublishAll, Plays, RingAllows}}
+use Rattle.vs_driver_parts.specs.Conversations.{DriverTree, Round, after_paying, has_page, is_rst, one_put, pay_slot, put_owed, put_reply, put_reply_of, reply_header, round_of}
+use Rattle.vs_driver_parts.specs.{Conversations.stage_packet, Connections.{with_connection, paid_connection, route_to_host}, Playing.{CanMake, MayPublishAll, Plays, RingAllows}}
 use Rattle.vs_driver_parts.specs.{State.{DriverEntry, DriverState}, declared.tally.Tally.Tally}
 use Rattle.vs_driver.proofs.Rest.{left_as, may_next, then}
 use Rattle.vs_conn.specs.declared.end.Owed.TheVariants as owed

@@ -1,22 +1,15 @@
 -- What a call on one connection leaves of it, and of all others.
-use Rattle.std.proofs.Common.{◌≡◌, ◌≢◌, ℕ, zero, suc, ◌<◌, ◌==◌, Bool, true, false, not, cond, List, [], ◌∷◌, ◌++◌, map, length, get_or}
-use Rattle.std.proofs.Common.{drop, take, min, Option, Some, None, Ok, Err, Result, refl, sym, ap, subst, ◌∙◌, arith}
-use Rattle.std.proofs.lemmas.List.{length-take, take_at, take_min, take-append-drop}
-use Rattle.std.proofs.lemmas.{Bool.Decides.nat_tests, Option.get_or_from_slice_get, Option.slice_get_within}
-use Rattle.std.specs.{List.All, List.find, Option.option_map, Option.option_map_or}
-use Rattle.vs_conn.specs.End.{ConnectionEnd, may_send_of, with_payload_sent, wanting_credit}
-use Rattle.vs_conn.specs.{Shut.shut_of, declared.end.State.State, declared.end.Stop.Stop}
-use Rattle.vs_flow.{specs.Table.IsRising, specs.Table.IsTable, specs.Table.revalued, proofs.Entries.found_passes, proofs.Lookups.find_place}
-use Rattle.vs_driver_parts.specs.State.{DriverConnection, DriverEntry, DriverState, GoneConnection, is_known_as, entry_known_as}
-use Rattle.vs_driver_parts.specs.{State.gone_known_as, Connections.{with_connection, with_end, recv_of, read_of, unread_of_id, after_recv}}
-use Rattle.vs_driver_parts.specs.Connections.{after_read, gone_answer, all_gone_after_read, bytes_read, nothing_read, is_at_end}
-use Rattle.vs_driver_parts.specs.Connections.{after_shutdown, after_shut, shut_in, shut_answer, shutdown_of, after_close, after_closing}
-use Rattle.vs_driver_parts.specs.{Connections.{gone_closed, without_gone, state_of}, declared.answers.Received.Received}
-use Rattle.vs_driver_parts.specs.{declared.answers.Sent.Sent, declared.answers.Shut.Shut, Listening.{with_waiting, without_id}}
-use Rattle.vs_driver_parts.proofs.Known.{after_recv_gone, after_recv_known, recv_known, unread_known, shutdown_known, after_shutdown_known}
-use Rattle.vs_driver_parts.proofs.{Known.after_close_known, SameIds.closing_id}
-use Rattle.vs_driver.specs.Outcomes.{Sends, SendsBy, SendsOn, SendsWith, SendsFront, sent_at_most}
-use Rattle.vs_driver.specs.Pipes.{KeepsOthers, bytes_given, connection_of, receives, IfShut, UnlessShut}
+use Rattle.std.proofs.Common.{◌≡◌, ◌≢◌, ℕ, zero, suc, ◌<◌, ◌==◌, Bool, true, false, not, cond, List, [], ◌∷◌, ◌++◌, map, length, get_or, drop, take, min, Option, Some, None, Ok}
+use Rattle.std.proofs.{Common.{Err, Result, refl, sym, ap, subst, ◌∙◌, arith}, lemmas.{List.{length-take, take_at, take_min, take-append-drop}, Bool.Decides.nat_tests}}
+use Rattle.std.{proofs.lemmas.Option.{get_or_from_slice_get, slice_get_within}, specs.{List.{All, find}, Option.{option_map, option_map_or}}}
+use Rattle.vs_conn.specs.{End.{ConnectionEnd, may_send_of, with_payload_sent, wanting_credit}, Shut.shut_of, declared.end.{State.State, Stop.Stop}}
+use Rattle.vs_flow.{specs.Table.{IsRising, IsTable, revalued}, proofs.{Entries.found_passes, Lookups.find_place}}
+use Rattle.vs_driver_parts.specs.{State.{DriverConnection, DriverEntry, DriverState, GoneConnection, is_known_as, entry_known_as, gone_known_as}, Connections.with_connection}
+use Rattle.vs_driver_parts.specs.Connections.{with_end, recv_of, read_of, unread_of_id, after_recv, after_read, gone_answer, all_gone_after_read, bytes_read, nothing_read}
+use Rattle.vs_driver_parts.specs.Connections.{is_at_end, after_shutdown, after_shut, shut_in, shut_answer, shutdown_of, after_close, after_closing, gone_closed, without_gone}
+use Rattle.vs_driver_parts.specs.{Connections.state_of, declared.answers.{Received.Received, Sent.Sent, Shut.Shut}, Listening.{with_waiting, without_id}}
+use Rattle.vs_driver_parts.proofs.{Known.{after_recv_gone, after_recv_known, recv_known, unread_known, shutdown_known, after_shutdown_known, after_close_known}, SameIds.closing_id}
+use Rattle.vs_driver.specs.{Outcomes.{Sends, SendsBy, SendsOn, SendsWith, SendsFront, sent_at_most}, Pipes.{KeepsOthers, bytes_given, connection_of, receives, IfShut, UnlessShut}}
 use Rattle.vs_conn.specs.declared.end.State.TheVariants as state
 use Rattle.vs_driver_parts.specs.declared.answers.Received.TheVariants as got
 use Rattle.vs_driver_parts.specs.declared.answers.Sent.TheVariants as sent

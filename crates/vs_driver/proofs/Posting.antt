@@ -1,11 +1,8 @@
 -- What posting all receive and event pages comes to.
 use Rattle.std.proofs.Common.{◌≡◌, ℕ, ◌+◌, Bool, true, List, [], refl, sym, ap, subst}
-use Rattle.vs_contents.specs.CallTree.{Done}
-use Rattle.vs_contents.proofs.{Leads.leads_bind, Conditions.may_first}
-use Rattle.vs_ring_port.specs.declared.queue.Queue.{Queue, TheVariants.Rx, TheVariants.Tx, TheVariants.Event}
-use Rattle.vs_ring_port.specs.{Counts.Counts, Counts.at, Counts.one_more, Counts.with_count, Counts.no_counts, Contents.RingContents}
-use Rattle.vs_driver_parts.specs.{State.DriverState, Conversations.DriverTree, Conversations.stage_of, Conversations.post_one}
-use Rattle.vs_driver_parts.specs.Playing.{CanMake, MayPublishAll, Plays, RingAllows}
+use Rattle.vs_contents.{specs.CallTree.Done, proofs.{Leads.leads_bind, Conditions.may_first}}
+use Rattle.vs_ring_port.specs.{declared.queue.Queue.{Queue, TheVariants.{Rx, Tx, Event}}, Counts.{Counts, at, one_more, with_count, no_counts}, Contents.RingContents}
+use Rattle.vs_driver_parts.specs.{State.DriverState, Conversations.{DriverTree, stage_of, post_one}, Playing.{CanMake, MayPublishAll, Plays, RingAllows}}
 
 pub at_count : (queue : Queue) (n : ℕ) (f : Counts) → at queue (with_count queue n f) ≡ n
 at_count Rx n f = refl

@@ -1,13 +1,10 @@
 -- What reading, shutting and closing come to in each case.
-use Rattle.std.proofs.Common.{◌≡◌, ℕ, suc, ◌==◌, Bool, true, false, List, [], ◌∷◌, Option, Some, None, length, min, cond, refl, sym, ap}
-use Rattle.std.proofs.Common.{◌∙◌, arith, drop, get_or, ◌<◌, ◌≤◌, ◌+◌, drop-cons, add-one}
-use Rattle.std.{proofs.lemmas.Bool.Decides.nat_tests, specs.List.find, specs.Option.option_map_or, proofs.Math.ListN.drop_of_length-le}
+use Rattle.std.proofs.Common.{◌≡◌, ℕ, suc, ◌==◌, Bool, true, false, List, [], ◌∷◌, Option, Some, None, length, min, cond, refl, sym, ap, ◌∙◌, arith, drop, get_or, ◌<◌, ◌≤◌, ◌+◌}
+use Rattle.std.{proofs.{Common.{drop-cons, add-one}, lemmas.Bool.Decides.nat_tests, Math.ListN.drop_of_length-le}, specs.{List.find, Option.option_map_or}}
 use Rattle.vs_flow.specs.declared.flow.Flow.{Flow}
-use Rattle.vs_driver_parts.specs.Connections.{read_of, gone_answer, is_at_end, entry_read, after_read, with_connection, shut_in, after_shut}
-use Rattle.vs_driver_parts.specs.Listening.{with_waiting, without_id, next_accepted, is_answered, listener_on}
-use Rattle.vs_driver_parts.specs.declared.answers.Received.{Received}
-use Rattle.vs_driver_parts.specs.State.{DriverConnection, DriverEntry, DriverState, GoneConnection, gone_known_as, Listener}
-use Rattle.vs_driver_parts.specs.Connections.{after_closing, entry_closed, gone_closed, waiting_on, all_closed, after_close}
+use Rattle.vs_driver_parts.specs.Connections.{read_of, gone_answer, is_at_end, entry_read, after_read, with_connection, shut_in, after_shut, after_closing, entry_closed}
+use Rattle.vs_driver_parts.specs.{Connections.{gone_closed, waiting_on, all_closed, after_close}, Listening.{with_waiting, without_id, next_accepted, is_answered, listener_on}}
+use Rattle.vs_driver_parts.specs.{declared.answers.Received.Received, State.{DriverConnection, DriverEntry, DriverState, GoneConnection, gone_known_as, Listener}}
 use Rattle.vs_conn.specs.declared.end.State.{State}
 use Rattle.vs_conn.specs.declared.end.State.TheVariants as state
 use Rattle.vs_driver_parts.specs.declared.answers.Received.TheVariants as got

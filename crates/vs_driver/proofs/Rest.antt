@@ -1,9 +1,8 @@
 -- What is left of a conversation with the ring, once a part of it was had.
 use Rattle.std.proofs.Common.{◌≡◌}
-use Rattle.vs_contents.specs.CallTree.{bind}
-use Rattle.vs_contents.proofs.{Conditions.may_first, Conditions.may_of, Conditions.may_rest, Leads.leads_bind, Leads.leads_of}
+use Rattle.vs_contents.{specs.CallTree.bind, proofs.{Conditions.{may_first, may_of, may_rest}, Leads.{leads_bind, leads_of}}}
 use Rattle.vs_ring_port.specs.Contents.{RingContents}
-use Rattle.vs_driver_parts.specs.{Conversations.DriverTree, Playing.CanMake, Playing.MayPublishAll, Playing.Plays, Playing.RingAllows}
+use Rattle.vs_driver_parts.specs.{Conversations.DriverTree, Playing.{CanMake, MayPublishAll, Plays, RingAllows}}
 
 -- Whatever completes the rest completes the whole, and the rest may be had where the whole may.
 pub record IsLeft {A : Type 0} (whole : DriverTree A) (from : RingContents) (rest : DriverTree A) (now : RingContents) : Type 0 where

@@ -1,22 +1,17 @@
 -- What send comes to in each case.
-use Rattle.std.proofs.Common.{◌≡◌, ℕ, ◌==◌, Bool, true, false, cond, min, List, length, take, Option, Some, None, Result, Ok, Err, is_some}
-use Rattle.std.proofs.Common.{refl, sym, ap, subst, ◌∙◌, ◌≤◌, IsOkAnd, arith, length-take}
-use Rattle.std.{proofs.lemmas.List.take_min, specs.Option.IfSome}
-use Rattle.vs_contents.{specs.CallTree.Done, specs.CallTree.bind, proofs.Leads.leads_of, proofs.Conditions.may_of}
-use Rattle.vs_conn.specs.End.{CanSend, ConnectionEnd, may_send_of, state_may_send, wanting_credit, with_payload_sent}
-use Rattle.vs_conn.specs.declared.end.{State.State, Stop.Stop}
+use Rattle.std.proofs.Common.{◌≡◌, ℕ, ◌==◌, Bool, true, false, cond, min, List, length, take, Option, Some, None, Result, Ok, Err, is_some, refl, sym, ap, subst, ◌∙◌, ◌≤◌, IsOkAnd}
+use Rattle.std.{proofs.{Common.{arith, length-take}, lemmas.List.take_min}, specs.Option.IfSome}
+use Rattle.vs_contents.{specs.CallTree.{Done, bind}, proofs.{Leads.leads_of, Conditions.may_of}}
+use Rattle.vs_conn.specs.{End.{CanSend, ConnectionEnd, may_send_of, state_may_send, wanting_credit, with_payload_sent}, declared.end.{State.State, Stop.Stop}}
 use Rattle.vs_credit.specs.Credit.{free_of}
 use Rattle.vs_flow.specs.Table.{Table, entry_under, value_under}
 use Rattle.vs_ring_port.specs.Contents.{RingContents}
-use Rattle.vs_driver_parts.specs.Conversations.{DriverTree, send_of, send_on, send_stopped, send_with_credit, send_with_page, no_credit}
-use Rattle.vs_driver_parts.specs.State.{DriverConnection, DriverEntry, DriverState, entry_known_as}
-use Rattle.vs_driver_parts.specs.Conversations.{not_sent, payload_of, payload_bytes, post_packet, reap_all, has_page}
-use Rattle.vs_driver_parts.specs.Playing.{CanMake, MayPublishAll, Plays, RingAllows}
-use Rattle.vs_driver_parts.specs.{declared.answers.Sent.Sent, Connections.with_end, Steps.sends, Steps.sends_on, Steps.sends_with_credit}
+use Rattle.vs_driver_parts.specs.Conversations.{DriverTree, send_of, send_on, send_stopped, send_with_credit, send_with_page, no_credit, not_sent, payload_of, payload_bytes}
+use Rattle.vs_driver_parts.specs.{Conversations.{post_packet, reap_all, has_page}, State.{DriverConnection, DriverEntry, DriverState, entry_known_as}, Playing.CanMake}
+use Rattle.vs_driver_parts.specs.{Playing.{MayPublishAll, Plays, RingAllows}, declared.answers.Sent.Sent, Connections.with_end, Steps.{sends, sends_on, sends_with_credit}}
 use Rattle.vs_driver_parts.proofs.{Ids.value_of, Known.some_inj}
 use Rattle.vs_page.specs.declared.page.TheConstants.{PAYLOAD_MAX}
-use Rattle.vs_driver.specs.Outcomes.{NeedsPage, Readies}
-use Rattle.vs_driver.proofs.Rest.{IsLeft, left_as, may_next, then}
+use Rattle.vs_driver.{specs.Outcomes.{NeedsPage, Readies}, proofs.Rest.{IsLeft, left_as, may_next, then}}
 use Rattle.vs_conn.specs.declared.end.State.TheVariants as state
 use Rattle.vs_conn.specs.declared.end.Stop.TheVariants as stop
 use Rattle.vs_driver_parts.specs.declared.answers.Sent.TheVariants as sent

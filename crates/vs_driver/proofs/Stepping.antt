@@ -1,13 +1,10 @@
 -- What single steps come to.
 use Rattle.std.proofs.Common.{◌≡◌, ℕ, Bool, false, None, Result, refl, sym, subst}
-use Rattle.vs_contents.specs.CallTree.{Done, bind}
-use Rattle.vs_contents.proofs.{Leads.leads_of, Leads.leads_bind, Conditions.may_first, Conditions.may_of}
-use Rattle.vs_ring_port.specs.{declared.queue.Queue.Queue, declared.queue.Queue.TheVariants.Tx, Contents.RingContents}
-use Rattle.vs_driver_parts.specs.{Conversations.{DriverTree, Round, connect_with_page, reap_one, round_of, start}, Playing.CanMake}
-use Rattle.vs_driver_parts.specs.{Playing.{MayPublishAll, Plays, RingAllows}, declared.answers.ConnectError.ConnectError}
-use Rattle.vs_driver_parts.specs.{declared.tally.Tally.Tally, State.DriverState, Connections.connect_refusal, Steps.{connects, takes_page}}
-use Rattle.laws_driver.specs.Staged.{IsAtWorkWith, IsWorkingWith}
-use Rattle.laws_driver.proofs.{Keeping.keeps_end, Keeping.keeps_may, Stepping.takes_keeps}
+use Rattle.vs_contents.{specs.CallTree.{Done, bind}, proofs.{Leads.{leads_of, leads_bind}, Conditions.{may_first, may_of}}}
+use Rattle.vs_ring_port.specs.{declared.queue.Queue.{Queue, TheVariants.Tx}, Contents.RingContents}
+use Rattle.vs_driver_parts.specs.{Conversations.{DriverTree, Round, connect_with_page, reap_one, round_of, start}, Playing.{CanMake, MayPublishAll, Plays, RingAllows}}
+use Rattle.vs_driver_parts.specs.{declared.{answers.ConnectError.ConnectError, tally.Tally.Tally}, State.DriverState, Connections.connect_refusal, Steps.{connects, takes_page}}
+use Rattle.laws_driver.{specs.Staged.{IsAtWorkWith, IsWorkingWith}, proofs.{Keeping.{keeps_end, keeps_may}, Stepping.takes_keeps}}
 
 -- A step of a round in which nothing was done yet.
 module _ (take : Round → DriverTree (Round × Bool)) (s : DriverState) (tally : Tally) (none : tally ≡ record { count = 0; reset = false }) where

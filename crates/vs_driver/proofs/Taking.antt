@@ -1,12 +1,10 @@
 -- What taking events comes to.
 use Rattle.std.proofs.Common.{◌≡◌, ℕ, Bool, true, false, List, [], length, nat_le, nat_lt, ◌+◌, Some, None, refl, subst}
-use Rattle.vs_contents.{specs.CallTree.Ask, proofs.Leads.leads_of, proofs.Leads.leads_bind, proofs.Conditions.may_first}
-use Rattle.vs_ring_port.specs.declared.queue.Queue.TheVariants.{Event, Rx}
-use Rattle.vs_ring_port.specs.{declared.queue.Queue.Queue, Contents.RingContents, DriverCalls.Reap, DriverCalls.DriverAllows}
+use Rattle.vs_contents.{specs.CallTree.Ask, proofs.{Leads.{leads_of, leads_bind}, Conditions.may_first}}
+use Rattle.vs_ring_port.specs.{declared.queue.Queue.{TheVariants.{Event, Rx}, Queue}, Contents.RingContents, DriverCalls.{Reap, DriverAllows}}
 use Rattle.vs_limits.specs.declared.TheConstants.{DRIVER_REPLIES_FULL}
-use Rattle.vs_driver_parts.specs.Conversations.{Round, take_event, take_packet, packet_reaped, event_reaped, event_taken, staged_again}
-use Rattle.vs_driver_parts.specs.{Conversations.{goes_on_with, stage_of, publish_of, published, with_state}, Playing.{BringsFit, CanMake}}
-use Rattle.vs_driver_parts.specs.{Playing.{MayPublishAll, Plays, RingAllows}, State.DriverState, Receiving.on_page}
+use Rattle.vs_driver_parts.specs.Conversations.{Round, take_event, take_packet, packet_reaped, event_reaped, event_taken, staged_again, goes_on_with, stage_of, publish_of}
+use Rattle.vs_driver_parts.specs.{Conversations.{published, with_state}, Playing.{BringsFit, CanMake, MayPublishAll, Plays, RingAllows}, State.DriverState, Receiving.on_page}
 
 reaps_event : (r : Round) → nat_lt DRIVER_REPLIES_FULL (length r.state.replies) ≡ false → take_event r ≡ Ask (Reap Event) (event_reaped r)
 reaps_event r few = rw (few, take_event) refl

@@ -1,13 +1,12 @@
 -- What connect and send leave, for each answer.
 use Rattle.std.specs.Prelude.{◌≡◌, ℕ, ◌==◌, ◌≤◌, Bool, true, false, List, length, min, take, Option, Some, None, Result, Ok, Err}
 use Rattle.vs_contents.specs.CallTree.{Done, bind}
-use Rattle.vs_conn.specs.{End.CanSend, End.may_send_of, End.with_payload_sent, End.wanting_credit, declared.end.Stop.Stop}
+use Rattle.vs_conn.specs.{End.{CanSend, may_send_of, with_payload_sent, wanting_credit}, declared.end.Stop.Stop}
 use Rattle.vs_flow.specs.Table.{entry_under}
-use Rattle.vs_driver_parts.specs.{declared.answers.ConnectError.ConnectError, declared.answers.Sent.Sent, State.{DriverEntry, DriverState}}
-use Rattle.vs_driver_parts.specs.{State.entry_known_as, Connections.{connect_refusal, connected, with_end}, Conversations.DriverTree}
-use Rattle.vs_driver_parts.specs.Conversations.{no_credit, not_sent, reap_all, send_stopped, send_with_page}
-use Rattle.vs_driver_parts.specs.declared.answers.ConnectError.TheVariants as refused
+use Rattle.vs_driver_parts.specs.{declared.answers.{ConnectError.ConnectError, Sent.Sent}, State.{DriverEntry, DriverState, entry_known_as}, Connections.connect_refusal}
+use Rattle.vs_driver_parts.specs.{Connections.{connected, with_end}, Conversations.{DriverTree, no_credit, not_sent, reap_all, send_stopped, send_with_page}}
 use Rattle.vs_page.specs.declared.page.TheConstants.{PAYLOAD_MAX}
+use Rattle.vs_driver_parts.specs.declared.answers.ConnectError.TheVariants as refused
 use Rattle.vs_driver_parts.specs.declared.answers.Sent.TheVariants as sent
 
 -- Nothing changes, but that transmit pages may have come back.

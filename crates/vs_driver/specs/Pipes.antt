@@ -1,8 +1,7 @@
 -- Each connection is a pipe: what came in on it is read in its order, and a call on one connection leaves all others alone.
 use Rattle.std.specs.Prelude.{◌≡◌, ◌≢◌, ◌&&◌, ℕ, nat_lt, Bool, false, not, List, [], take, Option, Some, None}
 use Rattle.vs_conn.specs.{End.owes_of, Shut.is_both, declared.end.Owed.Owed}
-use Rattle.vs_driver_parts.specs.{declared.answers.Grown.Grown, declared.answers.Received.Received, declared.answers.Shut.Shut}
-use Rattle.vs_driver_parts.specs.State.{DriverEntry, DriverState, GoneConnection, entry_known_as, gone_known_as}
+use Rattle.vs_driver_parts.specs.{declared.answers.{Grown.Grown, Received.Received, Shut.Shut}, State.{DriverEntry, DriverState, GoneConnection, entry_known_as, gone_known_as}}
 use Rattle.vs_driver_parts.specs.declared.answers.Grown.TheVariants as rise
 use Rattle.vs_driver_parts.specs.declared.answers.Received.TheVariants as got
 use Rattle.vs_driver_parts.specs.declared.answers.Shut.TheVariants as shut

@@ -3,14 +3,13 @@
 ghost use Rattle.std.specs.Prelude.{◌≡◌, ℕ, ◌≤◌, [], true, false, Some, is_some, if◌then◌else◌, OnOk, OnErr, IsOk, ◌↔◌, IsTrue};
 ghost use Rattle.vs_conn.specs.Shut.{shut_of};
 ghost use Rattle.vs_flow.specs.Table.{entry_under};
-ghost use Rattle.vs_driver_parts.specs.declared.answers.Closed.TheVariants as closed;
-ghost use Rattle.vs_driver_parts.specs.declared.answers.ConnectionState.TheVariants as seen;
-ghost use Rattle.vs_driver_parts.specs.{State.DriverEntry, State.gone_known_as, Listening.listener_on};
-ghost use Rattle.vs_driver_parts.specs.Connections.{state_of, unread_of_id, shutdown_of, after_shutdown, after_close, close_of};
-ghost use Rattle.vs_driver_parts.specs.Connections.{after_unlisten, shut_answer, shut_in, entry_closed, gone_closed};
+ghost use Rattle.vs_driver_parts.specs.{State.{DriverEntry, gone_known_as}, Listening.listener_on, Connections.{state_of, unread_of_id, shutdown_of, after_shutdown, after_close}};
+ghost use Rattle.vs_driver_parts.specs.Connections.{close_of, after_unlisten, shut_answer, shut_in, entry_closed, gone_closed};
 ghost use Rattle.vs_driver.specs.Pipes.{IfShut, KeepsOthers, UnlessShut, receives};
 ghost use Rattle.vs_ring_port.specs.Contents.{RingContents};
 ghost use Rattle.laws_driver.specs.Honest.{IsHonestWith};
+ghost use Rattle.vs_driver_parts.specs.declared.answers.Closed.TheVariants as closed;
+ghost use Rattle.vs_driver_parts.specs.declared.answers.ConnectionState.TheVariants as seen;
 
 use crate::driver::Driver;
 use vs_conn::State;

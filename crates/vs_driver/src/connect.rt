@@ -2,15 +2,14 @@
 
 ghost use Rattle.std.specs.Prelude.{◌≡◌, ℕ, ◌||◌, ◌<◌, Some, None, Err, IfOk, IfErr};
 ghost use Rattle.vs_conn.specs.{End.asked, Headers.owed_header};
-ghost use Rattle.vs_conn.specs.declared.end.Owed.TheVariants as owed;
 ghost use Rattle.vs_header.specs.declared.Kind.TheVariants.{Stream};
 ghost use Rattle.vs_flow.specs.declared.flow.Flow.{Flow};
 ghost use Rattle.vs_limits.specs.declared.TheConstants.{BUF_ALLOC};
-ghost use Rattle.vs_driver_parts.specs.{declared.answers.ConnectError.ConnectError, Connections.connect_refusal, Connections.connected};
-ghost use Rattle.vs_driver_parts.specs.{Connections.next_flow, Connections.route_to_host, Conversations.connect_of};
-ghost use Rattle.vs_driver_parts.specs.{Conversations.connect_with_page, Playing.IsRingOf, Playing.MayPublishAll, Playing.Plays};
+ghost use Rattle.vs_driver_parts.specs.{declared.answers.ConnectError.ConnectError, Connections.{connect_refusal, connected, next_flow, route_to_host}, Conversations.connect_of};
+ghost use Rattle.vs_driver_parts.specs.{Conversations.connect_with_page, Playing.{IsRingOf, MayPublishAll, Plays}};
 ghost use Rattle.vs_driver.specs.Outcomes.{Opens, Refuses, FindsNoPage};
 ghost use Rattle.laws_driver.specs.Honest.{IsHonest, IsHonestWith};
+ghost use Rattle.vs_conn.specs.declared.end.Owed.TheVariants as owed;
 
 use crate::driver::Driver;
 use vs_conn::{End, Owed};

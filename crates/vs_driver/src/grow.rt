@@ -1,10 +1,9 @@
 //! Raising the buffer space of a connection (Virtio 1.2, section 5.10.6.3).
 
 ghost use Rattle.std.specs.Prelude.{◌≡◌, ℕ, true, Some};
-ghost use Rattle.vs_conn.specs.{End.ConnectionEnd, End.view_of, declared.end.Owed.TheVariants.CreditUpdate};
+ghost use Rattle.vs_conn.specs.{End.{ConnectionEnd, view_of}, declared.end.Owed.TheVariants.CreditUpdate};
 ghost use Rattle.vs_flow.specs.Table.{entry_under};
-ghost use Rattle.vs_driver_parts.specs.State.{DriverEntry};
-ghost use Rattle.vs_driver_parts.specs.Connections.{after_grow, entry_grow_answer, grow_answer, grow_of, grown_by, live_grow_answer, unread_of_id};
+ghost use Rattle.vs_driver_parts.specs.{State.DriverEntry, Connections.{after_grow, entry_grow_answer, grow_answer, grow_of, grown_by, live_grow_answer, unread_of_id}};
 ghost use Rattle.vs_driver.specs.Pipes.{IfGrown, KeepsOthers, UnlessGrown, owed_by, rises};
 ghost use Rattle.vs_ring_port.specs.Contents.{RingContents};
 ghost use Rattle.laws_driver.specs.Honest.{IsHonestWith};

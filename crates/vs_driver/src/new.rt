@@ -1,12 +1,9 @@
 //! Making a driver: its memory first, then all receive and event pages are posted (Virtio 1.2, section 5.10.6.1).
 
-ghost use Rattle.std.specs.Prelude.{◌≡◌, ◌≢◌, ◌<◌, ◌≤◌, [], length, IfOk, OnErr};
-ghost use Rattle.std.specs.List.{All};
-ghost use Rattle.vs_ring_port.specs.declared.queue.Queue.TheVariants.{Rx, Tx, Event};
-ghost use Rattle.vs_ring_port.specs.Counts.{at, no_counts, with_count};
+ghost use Rattle.std.specs.{Prelude.{◌≡◌, ◌≢◌, ◌<◌, ◌≤◌, [], length, IfOk, OnErr}, List.All};
+ghost use Rattle.vs_ring_port.specs.{declared.queue.Queue.TheVariants.{Rx, Tx, Event}, Counts.{at, no_counts, with_count}};
 ghost use Rattle.vs_limits.specs.declared.TheConstants.{FIRST_PORT, LAST_PORT};
-ghost use Rattle.vs_driver_parts.specs.Conversations.{new_of, new_state, post_all, posts};
-ghost use Rattle.vs_driver_parts.specs.Playing.{IsRingOf, MayPublishAll, Plays};
+ghost use Rattle.vs_driver_parts.specs.{Conversations.{new_of, new_state, post_all, posts}, Playing.{IsRingOf, MayPublishAll, Plays}};
 ghost use Rattle.laws_driver.specs.Honest.{IsFresh, IsHonestWith};
 
 use crate::driver::Driver;

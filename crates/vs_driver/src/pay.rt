@@ -1,14 +1,13 @@
 //! The last stages of a poll: owed replies are put, and then what each connection owes (Virtio 1.2, sections 5.10.6.3 to 5.10.6.5).
 
 ghost use Rattle.std.specs.Prelude.{◌≡◌, ◌+◌, ◌-◌, ◌<◌, ◌≤◌, ◌^◌, false, true, Some};
-ghost use Rattle.vs_conn.specs.{End.owes_of};
-ghost use Rattle.vs_conn.specs.declared.end.Owed.TheVariants as owed;
+ghost use Rattle.vs_conn.specs.End.{owes_of};
 ghost use Rattle.vs_flow.specs.Table.{entry_under};
 ghost use Rattle.vs_ring_port.specs.declared.queue.Queue.TheVariants.{Tx};
 ghost use Rattle.vs_limits.specs.declared.TheConstants.{DRIVER_REPLIES, HOST_CID, OWED_MAX};
-ghost use Rattle.vs_driver_parts.specs.{State.DriverEntry, Conversations.put_all, Conversations.put_replies, Conversations.put_reply};
-ghost use Rattle.vs_driver_parts.specs.Conversations.{pay_all, pay_slot, put_owed, after_paying, is_rst, reply_header, round_of};
-ghost use Rattle.vs_driver_parts.specs.Playing.{IsRingOf, IsAtWork, MayPublishAll, Plays, SamePages};
+ghost use Rattle.vs_driver_parts.specs.{State.DriverEntry, Conversations.{put_all, put_replies, put_reply, pay_all, pay_slot, put_owed, after_paying, is_rst, reply_header}};
+ghost use Rattle.vs_driver_parts.specs.{Conversations.round_of, Playing.{IsRingOf, IsAtWork, MayPublishAll, Plays, SamePages}};
+ghost use Rattle.vs_conn.specs.declared.end.Owed.TheVariants as owed;
 
 use crate::driver::Driver;
 use vs_conn::{Owed, Route};

@@ -2,16 +2,14 @@
 
 ghost use Rattle.std.specs.Prelude.{◌≡◌, ℕ, List, ◌<◌, ◌≤◌, ◌==◌, ◌&&◌, ◌^◌, [], true, length, Some, None};
 ghost use Rattle.vs_conn.specs.End.{is_refused};
-ghost use Rattle.vs_flow.specs.{Table.entry_of, Table.entry_under, declared.flow.Flow.Flow};
+ghost use Rattle.vs_flow.specs.{Table.{entry_of, entry_under}, declared.flow.Flow.Flow};
 ghost use Rattle.laws_history.specs.declared.packet.Packet.{Packet};
 ghost use Rattle.vs_page.specs.{Held.IsWhole, Log.flow_to_guest, Open.is_dropped};
-ghost use Rattle.vs_page.specs.Log as log;
 ghost use Rattle.vs_limits.specs.declared.TheConstants.{DRIVER_REPLIES, DRIVER_REPLIES_FULL};
-ghost use Rattle.vs_driver_parts.specs.{State.DriverEntry, Connections.after_leaving, Connections.leaves_list, Connections.with_request};
-ghost use Rattle.vs_driver_parts.specs.{Playing.BringsFit, Playing.FitsPorts, Playing.SamePages, Receiving.ends_connection};
-ghost use Rattle.vs_driver_parts.specs.Receiving.{on_page, on_packet, on_heard, on_known, on_unknown, is_request, may_open, with_reply};
-ghost use Rattle.vs_driver_parts.specs.Receiving.{after_reset};
+ghost use Rattle.vs_driver_parts.specs.{State.DriverEntry, Connections.{after_leaving, leaves_list, with_request}, Playing.{BringsFit, FitsPorts, SamePages}};
+ghost use Rattle.vs_driver_parts.specs.Receiving.{ends_connection, on_page, on_packet, on_heard, on_known, on_unknown, is_request, may_open, with_reply, after_reset};
 ghost use Rattle.vs_wrap.specs.Wrap.{counted};
+ghost use Rattle.vs_page.specs.Log as log;
 
 use crate::driver::Driver;
 use vs_conn::Verdict;

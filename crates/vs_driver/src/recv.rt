@@ -1,16 +1,14 @@
 //! Reading what came in on a connection (Virtio 1.2, section 5.10.6.3).
 
-ghost use Rattle.std.specs.{Option.option_map_or, Prelude.◌≡◌, Prelude.ℕ, Prelude.◌++◌, Prelude.◌||◌, Prelude.[], Prelude.length};
-ghost use Rattle.std.specs.Prelude.{Some, if◌then◌else◌};
-ghost use Rattle.vs_conn.specs.{End.ConnectionEnd, End.view_of, Shut.shut_of};
+ghost use Rattle.std.specs.{Option.option_map_or, Prelude.{◌≡◌, ℕ, ◌++◌, ◌||◌, [], length, Some, if◌then◌else◌}};
+ghost use Rattle.vs_conn.specs.{End.{ConnectionEnd, view_of}, Shut.shut_of};
 ghost use Rattle.vs_flow.specs.Table.{entry_under};
-ghost use Rattle.vs_driver_parts.specs.declared.answers.Received.TheVariants as got;
-ghost use Rattle.vs_driver_parts.specs.State.{DriverEntry, gone_known_as};
-ghost use Rattle.vs_driver_parts.specs.Connections.{recv_of, unread_of_id, after_recv, is_at_end, nothing_read, all_gone_after_read};
+ghost use Rattle.vs_driver_parts.specs.{State.{DriverEntry, gone_known_as}, Connections.{recv_of, unread_of_id, after_recv, is_at_end, nothing_read, all_gone_after_read}};
 ghost use Rattle.vs_driver_parts.specs.Connections.{gone_answer, entry_answer, entry_read, bytes_read};
 ghost use Rattle.vs_driver.specs.Pipes.{KeepsOthers, UnlessGot, bytes_given};
 ghost use Rattle.vs_ring_port.specs.Contents.{RingContents};
 ghost use Rattle.laws_driver.specs.Honest.{IsHonestWith};
+ghost use Rattle.vs_driver_parts.specs.declared.answers.Received.TheVariants as got;
 
 use crate::driver::Driver;
 use vs_conn::{EndView, Shut, State};

@@ -3,10 +3,9 @@
 ghost use Rattle.std.specs.Prelude.{◌≡◌, ◌+◌, ◌-◌, ◌<◌, ◌≤◌, ◌++◌, [], length, true};
 ghost use Rattle.vs_header.specs.Packet.{header_bytes};
 ghost use Rattle.vs_page.specs.declared.page.TheConstants.{PAYLOAD_MAX};
-ghost use Rattle.vs_ring_port.specs.{declared.queue.Queue.TheVariants.Tx, Counts.at, Counts.no_counts, Counts.one_more, Counts.with_count};
-ghost use Rattle.vs_driver_parts.specs.Conversations.{reap_one, reap_all, stage_of, after_stage, publish_of, stage_packet, post_packet};
-ghost use Rattle.vs_driver_parts.specs.{Conversations.one_more_in_flight, Conversations.has_page, Playing.IsRingOf, Playing.IsAtWork};
-ghost use Rattle.vs_driver_parts.specs.Playing.{MayPublishAll, Plays};
+ghost use Rattle.vs_ring_port.specs.{declared.queue.Queue.TheVariants.Tx, Counts.{at, no_counts, one_more, with_count}};
+ghost use Rattle.vs_driver_parts.specs.Conversations.{reap_one, reap_all, stage_of, after_stage, publish_of, stage_packet, post_packet, one_more_in_flight, has_page};
+ghost use Rattle.vs_driver_parts.specs.Playing.{IsRingOf, IsAtWork, MayPublishAll, Plays};
 ghost use Rattle.vs_limits.specs.declared.TheConstants.{STAGED_MAX};
 
 use crate::driver::Driver;

@@ -4,11 +4,9 @@ ghost use Rattle.std.specs.Prelude.{◌≡◌, ℕ, ◌≤◌, ◌<◌, ◌==◌
 ghost use Rattle.vs_conn.specs.End.{CanSend, may_send_of, wanting_credit};
 ghost use Rattle.vs_flow.specs.Table.{IsTable, entry_under};
 ghost use Rattle.vs_page.specs.declared.page.TheConstants.{PAYLOAD_MAX};
-ghost use Rattle.vs_driver_parts.specs.{State.DriverEntry, Connections.unread_of_id, Connections.with_end};
-ghost use Rattle.vs_driver_parts.specs.Conversations.{send_of, send_on, send_with_credit, send_with_page, send_stopped, no_credit, not_sent};
-ghost use Rattle.vs_driver_parts.specs.Steps.{sends, sends_on, sends_with_credit};
-ghost use Rattle.vs_driver_parts.specs.Playing.{IsRingOf, MayPublishAll, Plays, SamePages};
-ghost use Rattle.vs_driver.specs.{Outcomes.Readies, Outcomes.Sends, Pipes.KeepsOthers};
+ghost use Rattle.vs_driver_parts.specs.{State.DriverEntry, Connections.{unread_of_id, with_end}, Conversations.{send_of, send_on, send_with_credit, send_with_page, send_stopped}};
+ghost use Rattle.vs_driver_parts.specs.{Conversations.{no_credit, not_sent}, Steps.{sends, sends_on, sends_with_credit}, Playing.{IsRingOf, MayPublishAll, Plays, SamePages}};
+ghost use Rattle.vs_driver.specs.{Outcomes.{Readies, Sends}, Pipes.KeepsOthers};
 ghost use Rattle.laws_driver.specs.Honest.{IsHonest, IsHonestWith};
 
 use crate::driver::Driver;

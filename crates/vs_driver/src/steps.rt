@@ -2,9 +2,8 @@
 
 ghost use Rattle.std.specs.Prelude.{◌≡◌, ℕ};
 ghost use Rattle.vs_ring_port.specs.declared.queue.Queue.TheVariants.{Tx};
-ghost use Rattle.vs_driver_parts.specs.{Conversations.publish_of, Playing.IsAtWork, Playing.IsRingOf, Playing.Plays};
-ghost use Rattle.vs_driver_parts.specs.Steps.{connects, sends, stages_owed, stages_reply, takes_page};
-ghost use Rattle.laws_driver.specs.{Honest.IsHonest, Honest.IsHonestWith, Staged.IsAtWorkWith, Staged.IsWorkingWith};
+ghost use Rattle.vs_driver_parts.specs.{Conversations.publish_of, Playing.{IsAtWork, IsRingOf, Plays}, Steps.{connects, sends, stages_owed, stages_reply, takes_page}};
+ghost use Rattle.laws_driver.specs.{Honest.{IsHonest, IsHonestWith}, Staged.{IsAtWorkWith, IsWorkingWith}};
 
 use crate::driver::Driver;
 use vs_driver_parts::answers::{ConnId, ConnectError, Sent};

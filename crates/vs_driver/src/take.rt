@@ -1,11 +1,9 @@
 //! The first stages of a poll: events and packets are taken from the ring, and their pages given back to it.
 
 ghost use Rattle.std.specs.Prelude.{◌≡◌, ◌+◌, ◌-◌, ◌<◌, ◌≤◌, ◌==◌, [], length, false, true, ◌^◌};
-ghost use Rattle.vs_ring_port.specs.declared.queue.Queue.TheVariants.{Rx, Tx, Event};
-ghost use Rattle.vs_driver_parts.specs.Conversations.{take_all, all_taken, take_event, take_packet, event_taken, stage_of, round_of};
-ghost use Rattle.vs_driver_parts.specs.Receiving.{is_reset_event};
-ghost use Rattle.vs_driver_parts.specs.Playing.{IsRingOf, IsAtWork, MayPublishAll, Plays, SamePages};
-ghost use Rattle.vs_ring_port.specs.Counts.{at, no_counts, one_more, with_count};
+ghost use Rattle.vs_ring_port.specs.{declared.queue.Queue.TheVariants.{Rx, Tx, Event}, Counts.{at, no_counts, one_more, with_count}};
+ghost use Rattle.vs_driver_parts.specs.{Conversations.{take_all, all_taken, take_event, take_packet, event_taken, stage_of, round_of}, Receiving.is_reset_event, Playing.IsRingOf};
+ghost use Rattle.vs_driver_parts.specs.Playing.{IsAtWork, MayPublishAll, Plays, SamePages};
 ghost use Rattle.vs_limits.specs.declared.TheConstants.{DRIVER_REPLIES_FULL, STAGED_MAX};
 
 use crate::driver::Driver;

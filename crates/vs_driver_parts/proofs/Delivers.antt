@@ -1,10 +1,9 @@
 -- What it takes that an end delivers a packet: an RW that fits its room.
 use Rattle.std.proofs.{Common.{◌≡◌, ℕ, ◌≤◌, Bool, true, false, cond, Option, Some, None, refl, arith}, lemmas.Bool.Decides.nat_tests}
-use Rattle.vs_conn.specs.{declared.end.State.State, declared.end.Verdict.Verdict, declared.end.Why.Why, End.ConnectionEnd, End.verdict_of}
-use Rattle.vs_conn.specs.End.{state_verdict, op_verdict, payload_verdict, response_verdict, live_verdict, is_of, is_reset}
-use Rattle.vs_conn.specs.declared.end.Why.TheVariants.{BadKind}
+use Rattle.vs_conn.specs.{declared.end.{State.State, Verdict.Verdict, Why.{Why, TheVariants.BadKind}}, End.{ConnectionEnd, verdict_of, state_verdict, op_verdict, payload_verdict}}
+use Rattle.vs_conn.specs.End.{response_verdict, live_verdict, is_of, is_reset}
 use Rattle.vs_credit.specs.Credit.{room_of}
-use Rattle.vs_header.specs.{Op.op_named, declared.Header.Header, declared.Op.Op}
+use Rattle.vs_header.specs.{Op.op_named, declared.{Header.Header, Op.Op}}
 use Rattle.vs_conn.specs.declared.end.State.TheVariants as state
 use Rattle.vs_conn.specs.declared.end.Verdict.TheVariants as verdict
 use Rattle.vs_header.specs.declared.Op.TheVariants as op

@@ -1,10 +1,8 @@
 -- How the connections that are gone change at the place of an id.
-use Rattle.std.proofs.Common.{◌≡◌, ◌≢◌, ℕ, zero, suc, ◌==◌, Bool, true, false, cond, Option, List, [], ◌∷◌, drop, map, get_or, set, Some}
-use Rattle.std.proofs.Common.{None, refl, sym, ap, ap₂, ◌∙◌}
+use Rattle.std.proofs.Common.{◌≡◌, ◌≢◌, ℕ, zero, suc, ◌==◌, Bool, true, false, cond, Option, List, [], ◌∷◌, drop, map, get_or, set, Some, None, refl, sym, ap, ap₂, ◌∙◌}
 use Rattle.std.specs.List.{AllPairs, find, remove, position}
-use Rattle.vs_driver_parts.specs.{State.GoneConnection, Connections.{all_gone_after_read, gone_after_read, without_gone}}
-use Rattle.vs_driver_parts.proofs.Lists.{AtMostOnePasses, IsFirst, element_at, place_within, first_at, found_nowhere, passes_nowhere}
-use Rattle.vs_driver_parts.proofs.Lists.{passes_there, one_passes, changed_none, changed_one, kept_none, removed_one}
+use Rattle.vs_driver_parts.{specs.{State.GoneConnection, Connections.{all_gone_after_read, gone_after_read, without_gone}}, proofs.Lists.{AtMostOnePasses, IsFirst, element_at}}
+use Rattle.vs_driver_parts.proofs.Lists.{place_within, first_at, found_nowhere, passes_nowhere, passes_there, one_passes, changed_none, changed_one, kept_none, removed_one}
 
 abbrev gone_read : ℕ → GoneConnection → GoneConnection
 gone_read n g = record g { unread = drop n g.unread }

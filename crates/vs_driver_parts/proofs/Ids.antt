@@ -1,9 +1,7 @@
 -- Connections by id: a slot and an id are given together.
-use Rattle.std.proofs.Common.{◌≡◌, ℕ, suc, ◌+◌, ◌<◌, ◌==◌, ◌&&◌, Bool, true, false, not, cond, List, [], ◌∷◌, Option, Some, None, refl, sym}
-use Rattle.std.proofs.{Common.{ap, ◌∙◌, arith}, lemmas.Bool.Decides.nat_tests}
-use Rattle.std.specs.{List.All, List.find, Option.option_and_then, Option.option_map}
-use Rattle.vs_flow.specs.Table.{Table, IsTable, IsRising, entry_under, value_under}
-use Rattle.vs_flow.proofs.{Entries.All_at, Entries.find_none, Entries.found_at, Entries.found_passes, Lookups.find_place}
+use Rattle.std.proofs.Common.{◌≡◌, ℕ, suc, ◌+◌, ◌<◌, ◌==◌, ◌&&◌, Bool, true, false, not, cond, List, [], ◌∷◌, Option, Some, None, refl, sym, ap, ◌∙◌, arith}
+use Rattle.std.{proofs.lemmas.Bool.Decides.nat_tests, specs.{List.{All, find}, Option.{option_and_then, option_map}}}
+use Rattle.vs_flow.{specs.Table.{Table, IsTable, IsRising, entry_under, value_under}, proofs.{Entries.{All_at, find_none, found_at, found_passes}, Lookups.find_place}}
 use Rattle.vs_driver_parts.specs.State.{DriverConnection, DriverEntry, is_known_as}
 
 abbrev pub unless_closed : DriverEntry → Option DriverEntry

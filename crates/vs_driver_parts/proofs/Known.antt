@@ -1,15 +1,11 @@
 -- A connection by the id that the application knows it by.
-use Rattle.std.proofs.{Common.{◌≡◌, ℕ, true, not, Option, Some, None, refl, sym, ap, ◌∙◌, arith}, lemmas.Bool.Decides.nat_tests}
-use Rattle.std.specs.Option.{option_map}
-use Rattle.vs_flow.specs.Table.{IsTable, entry_under}
-use Rattle.vs_flow.proofs.Entries.{found_passes}
-use Rattle.vs_driver_parts.specs.State.{DriverEntry, DriverState, GoneConnection, is_known_as, entry_known_as, gone_known_as}
-use Rattle.vs_driver_parts.specs.{Listening.is_answered, Connections.close_of, Connections.is_known, Connections.after_close}
-use Rattle.vs_driver_parts.specs.Connections.{entry_closed, shutdown_of, shut_answer, after_shutdown, shut_in, recv_of, entry_answer}
-use Rattle.vs_driver_parts.specs.Connections.{after_grow, entry_grow_answer, grow_of, grown_by}
-use Rattle.vs_driver_parts.specs.Connections.{gone_answer, unread_of_id, after_recv, entry_read, all_gone_after_read, flow_of}
-use Rattle.vs_driver_parts.specs.declared.answers.Closed.TheVariants as closed
+use Rattle.std.{proofs.{Common.{◌≡◌, ℕ, true, not, Option, Some, None, refl, sym, ap, ◌∙◌, arith}, lemmas.Bool.Decides.nat_tests}, specs.Option.option_map}
+use Rattle.vs_flow.{specs.Table.{IsTable, entry_under}, proofs.Entries.found_passes}
+use Rattle.vs_driver_parts.specs.{State.{DriverEntry, DriverState, GoneConnection, is_known_as, entry_known_as, gone_known_as}, Listening.is_answered, Connections.close_of}
+use Rattle.vs_driver_parts.specs.Connections.{is_known, after_close, entry_closed, shutdown_of, shut_answer, after_shutdown, shut_in, recv_of, entry_answer, after_grow}
+use Rattle.vs_driver_parts.specs.Connections.{entry_grow_answer, grow_of, grown_by, gone_answer, unread_of_id, after_recv, entry_read, all_gone_after_read, flow_of}
 use Rattle.vs_driver_parts.proofs.Ids.{found_under}
+use Rattle.vs_driver_parts.specs.declared.answers.Closed.TheVariants as closed
 
 pub record IsMapped {X Y : Type 0} (f : X → Y) (o : Option X) (y : Y) : Type 0 where
   pub from : X

@@ -1,15 +1,12 @@
 -- The listeners of a map's entries: what is found of a port, and what changes of the entries leave.
-use Rattle.std.proofs.{lemmas.Bool.Decides.nat_tests, lemmas.List.{get_or-map}, lemmas.List.Kept.AllPairs-filter}
-use Rattle.std.proofs.lemmas.{Map.{NonePasses, none_passes_from_lookup}, Map.Keys.{IsDistinct-tail, apart_from_distinct}, Map.Entries.{length-keys_of, none_past_head}}
-use Rattle.std.proofs.lemmas.List.Sums.{length-filter, count_by-le-length}
-use Rattle.std.proofs.Common.{◌≡◌, ◌≢◌, ℕ, ◌≤◌, nat_eq, ◌==◌, true, false, not, List, [], ◌∷◌, ◌++◌, length}
-use Rattle.std.proofs.Common.{Some, None, is_some, refl, arith}
-use Rattle.std.specs.{List.AllPairs, List.IsDistinct, Map.keys_of, Map.lookup, Map.set_value, Option.option_map, Cmp.nat_eq_equiv}
+use Rattle.std.proofs.lemmas.{Bool.Decides.nat_tests, List.{get_or-map, Kept.AllPairs-filter, Sums.{length-filter, count_by-le-length}}, Map.{NonePasses, none_passes_from_lookup}}
+use Rattle.std.proofs.{lemmas.Map.{Keys.{IsDistinct-tail, apart_from_distinct}, Entries.{length-keys_of, none_past_head}}, Common.{◌≡◌, ◌≢◌, ℕ, ◌≤◌, nat_eq, ◌==◌, true, false}}
+use Rattle.std.{proofs.Common.{not, List, [], ◌∷◌, ◌++◌, length, Some, None, is_some, refl, arith}, specs.{List.{AllPairs, IsDistinct}, Map.{keys_of, lookup, set_value}}}
+use Rattle.std.specs.{Option.option_map, Cmp.nat_eq_equiv}
 use Rattle.arrayvec.specs.ArrayVec.{ArrayVec}
 use Rattle.indexmap.specs.IndexMap.{insert_entry}
 use Rattle.vs_flow.proofs.Keys.{IsNextPair, next_pair}
-use Rattle.vs_driver_parts.specs.{ListenerFields.{listener_of, listeners_of, others}}
-use Rattle.vs_driver_parts.specs.{Listening.{listener_on, with_waiting, with_port}, Connections.without_listener}
+use Rattle.vs_driver_parts.specs.{ListenerFields.{listener_of, listeners_of, others}, Listening.{listener_on, with_waiting, with_port}, Connections.without_listener}
 
 -- keys are distinct
 apart : (es : List (ℕ × ArrayVec ℕ)) → IsDistinct nat_eq (keys_of es) → AllPairs (λ a b. nat_eq b.0 a.0 ≡ false) es

@@ -1,9 +1,8 @@
 -- Places in lists: code finds the one element with a property by its place, and writes there or removes it.
-use Rattle.std.proofs.Common.{◌≡◌, ◌≢◌, ℕ, zero, suc, ◌+◌, ◌<◌, ◌==◌, Bool, true, false, not, cond, List, [], ◌∷◌, length, map, get_or, set}
-use Rattle.std.proofs.Common.{ltb, drop, Some, None, refl, sym, ap, ◌∙◌, arith, drop-cons, add-one}
-use Rattle.std.proofs.{lemmas.List.Folds.find_at, lemmas.Option.{slice_get_read, slice_get_past, slice_get-get_or, slice_get_within}}
-use Rattle.std.proofs.{lemmas.Option.{get_or_from_slice_get, cond_some}, lemmas.Bool.Decides.nat_tests}
-use Rattle.std.specs.List.{All, AllPairs, find, filter, remove, position, position_or_len, slice_get}
+use Rattle.std.proofs.Common.{◌≡◌, ◌≢◌, ℕ, zero, suc, ◌+◌, ◌<◌, ◌==◌, Bool, true, false, not, cond, List, [], ◌∷◌, length, map, get_or, set, ltb, drop, Some, None, refl, sym, ap}
+use Rattle.std.proofs.{Common.{◌∙◌, arith, drop-cons, add-one}, lemmas.{List.Folds.find_at, Option.{slice_get_read, slice_get_past, slice_get-get_or, slice_get_within}}}
+use Rattle.std.{proofs.lemmas.{Option.{get_or_from_slice_get, cond_some}, Bool.Decides.nat_tests}, specs.List.{All, AllPairs, find, filter, remove, position, position_or_len}}
+use Rattle.std.specs.List.{slice_get}
 use borrow.Author.Tests.{ltb-true}
 use Rattle.vs_flow.proofs.Entries.{found_passes, none_found}
 

@@ -1,14 +1,10 @@
 -- The numbers of connections after each change of the slots.
-use Rattle.std.proofs.Common.{◌≡◌, ◌≢◌, ℕ, suc, take, drop, ◌+◌, ◌<◌, ◌≤◌, ◌==◌, Bool, true, false, not, List, [], ◌∷◌, ◌++◌, length}
-use Rattle.std.proofs.{Common.{get_or, Option, Some, None, refl, sym, ap, ◌∙◌, arith}, lemmas.Bool.Decides.nat_tests}
-use Rattle.std.proofs.lemmas.List.Elements.{All-append, All-drop, All-map, All-push, All-take, All-filter, filter_passes}
-use Rattle.std.proofs.lemmas.List.{Kept.AllPairs-filter, Quantifiers.all_pairs_push, Quantifiers.all_pairs_remove}
-use Rattle.std.specs.{List.All, List.filter, List.remove, Option.option_map_or}
-use Rattle.vs_flow.specs.{Flow.is_assigned, Table.Table, Table.IsTable, Table.entry_under, Table.value_under, Table.with_value}
-use Rattle.vs_flow.specs.{Table.with_entry, Table.without, Table.next_entry, Table.revalued, declared.flow.Flow.Flow}
-use Rattle.vs_flow.proofs.{Entries.none_found, Tables.revalued-slot, Tables.revalued-flow}
-use Rattle.vs_driver_parts.specs.{State.DriverConnection, State.DriverEntry, State.GoneConnection, SlotFields.AreNumbered}
-use Rattle.vs_driver_parts.proofs.{Ids.HasId, Ids.under, Ids.entry_has, Known.unmapped}
+use Rattle.std.proofs.Common.{◌≡◌, ◌≢◌, ℕ, suc, take, drop, ◌+◌, ◌<◌, ◌≤◌, ◌==◌, Bool, true, false, not, List, [], ◌∷◌, ◌++◌, length, get_or, Option, Some, None, refl, sym, ap}
+use Rattle.std.proofs.{Common.{◌∙◌, arith}, lemmas.{Bool.Decides.nat_tests, List.Elements.{All-append, All-drop, All-map, All-push, All-take, All-filter, filter_passes}}}
+use Rattle.std.{proofs.lemmas.List.{Kept.AllPairs-filter, Quantifiers.{all_pairs_push, all_pairs_remove}}, specs.{List.{All, filter, remove}, Option.option_map_or}}
+use Rattle.vs_flow.specs.{Flow.is_assigned, Table.{Table, IsTable, entry_under, value_under, with_value, with_entry, without, next_entry, revalued}, declared.flow.Flow.Flow}
+use Rattle.vs_flow.proofs.{Entries.none_found, Tables.{revalued-slot, revalued-flow}}
+use Rattle.vs_driver_parts.{specs.{State.{DriverConnection, DriverEntry, GoneConnection}, SlotFields.AreNumbered}, proofs.{Ids.{HasId, under, entry_has}, Known.unmapped}}
 
 All_remove : {X : Type 0} (P : X → Type 0) (xs : List X) (i : ℕ) → All P xs → All P (remove xs i)
 All_remove P xs i all = All-append P (take i xs) (drop (suc i) xs) (All-take P i xs all) (All-drop P (suc i) xs all)

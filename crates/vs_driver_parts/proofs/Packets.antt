@@ -1,17 +1,15 @@
 -- What a packet of a connection, and a transport reset, come to.
-use Rattle.std.proofs.Common.{◌≡◌, ◌≢◌, ℕ, ◌+◌, ◌<◌, ◌==◌, Bool, true, false, not, cond, List, [], ◌∷◌, ◌++◌, length, map, Some, None, refl}
-use Rattle.std.proofs.Common.{sym, ap, subst, ◌∙◌, arith, eq-eqb, length-append}
-use Rattle.std.specs.{List.AllPairs, List.filter, List.slice_get, Option.option_map}
+use Rattle.std.proofs.Common.{◌≡◌, ◌≢◌, ℕ, ◌+◌, ◌<◌, ◌==◌, Bool, true, false, not, cond, List, [], ◌∷◌, ◌++◌, length, map, Some, None, refl, sym, ap, subst, ◌∙◌, arith, eq-eqb}
+use Rattle.std.{proofs.Common.length-append, specs.{List.{AllPairs, filter, slice_get}, Option.option_map}}
 use Rattle.vs_conn.specs.{End.is_refused, declared.end.Verdict.Verdict}
-use Rattle.vs_flow.specs.Table.{Table, IsTable, entry_of, entry_under, with_value, without, revalued}
-use Rattle.vs_flow.proofs.{Entries.found_at, Tables.revalued-slot, Lookups.entry_under-with_value}
+use Rattle.vs_flow.{specs.Table.{Table, IsTable, entry_of, entry_under, with_value, without, revalued}, proofs.{Entries.found_at, Tables.revalued-slot}}
+use Rattle.vs_flow.proofs.Lookups.{entry_under-with_value}
 use Rattle.laws_history.specs.declared.packet.Packet.{Packet}
 use Rattle.vs_page.specs.Log.{flow_to_guest}
-use Rattle.vs_driver_parts.specs.Connections.{with_connection, leaves_list, after_leaving, waits_no_more, is_let_go, gone_as}
-use Rattle.vs_driver_parts.specs.Receiving.{on_heard, on_known, on_unknown, after_verdict, after_packet, ends_connection, with_reply}
-use Rattle.vs_driver_parts.specs.{Receiving.reset_reply, Receiving.all_left, State.DriverConnection, State.DriverEntry, State.DriverState}
-use Rattle.vs_wrap.specs.Wrap.{counted}
+use Rattle.vs_driver_parts.specs.{Connections.{with_connection, leaves_list, after_leaving, waits_no_more, is_let_go, gone_as}, Receiving.{on_heard, on_known, on_unknown}}
+use Rattle.vs_driver_parts.specs.{Receiving.{after_verdict, after_packet, ends_connection, with_reply, reset_reply, all_left}, State.{DriverConnection, DriverEntry, DriverState}}
 use Rattle.vs_driver_parts.proofs.Lists.{AtMostOnePasses, one_passes, kept_none}
+use Rattle.vs_wrap.specs.Wrap.{counted}
 use Rattle.vs_conn.specs.declared.end.Verdict.TheVariants as verdict
 
 -- an entry with another value

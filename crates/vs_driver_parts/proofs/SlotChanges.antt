@@ -1,17 +1,12 @@
 -- What always holds of the slots after a change of the table.
-use Rattle.std.proofs.{lemmas.Option.{slice_get_within, get_or_from_slice_get}, Math.Seq.get_or-append_seam, lemmas.Bool.Decides.nat_tests}
-use Rattle.std.proofs.{lemmas.List.Edits.length-remove, Common.{◌≡◌, ◌≢◌, ℕ, ◌+◌, ◌<◌, ◌==◌, Bool, true, false, cond, List, [], ◌∷◌, ◌++◌}}
-use Rattle.std.proofs.{Common.{length, get_or, Some, None, sym, ap, subst, ◌∙◌, arith, length-append}, lemmas.List.length-map}
-use Rattle.std.proofs.lemmas.List.{get_or_append_left}
-use Rattle.std.specs.{List.All, List.AllPairs, List.find, Option.option_and_then, Option.option_map}
-use Rattle.vs_flow.specs.{Flow.host_flow, Flow.is_assigned, Flow.same_flow, declared.flow.Flow.Flow}
-use Rattle.vs_flow.specs.Table.{Table, IsTable, entry_of, entry_under, value_under, with_value, without, revalued}
-use Rattle.vs_flow.proofs.{Lookups.find_place, Lookups.entry_under-with_value, Tables.with_value_sound}
-use Rattle.vs_flow.proofs.Entries.{find_none, found_passes, same_flow_false}
-use Rattle.vs_driver_parts.specs.{Connections.{gone_as, is_let_go}, Held.{HeldSlots, left_in}, SlotFields.{AreKept, AreNumbered}}
-use Rattle.vs_driver_parts.specs.{declared.slots.Slots.TheInside.Inside, State.{DriverConnection, DriverEntry, GoneConnection, is_known_as}}
-use Rattle.vs_driver_parts.proofs.{Lists.{one_passes, removed_one}, Numbers.{id_in, id_there, id_under, numbers_with_value}, Ids.value_of}
-use Rattle.vs_driver_parts.proofs.Ids.{has_slot, under, known_by_slot, unless_closed, entry_has}
+use Rattle.std.proofs.lemmas.{Option.{slice_get_within, get_or_from_slice_get}, Bool.Decides.nat_tests, List.{Edits.length-remove, length-map, get_or_append_left}}
+use Rattle.std.proofs.{Math.Seq.get_or-append_seam, Common.{◌≡◌, ◌≢◌, ℕ, ◌+◌, ◌<◌, ◌==◌, Bool, true, false, cond, List, [], ◌∷◌, ◌++◌, length, get_or, Some, None, sym, ap, subst}}
+use Rattle.std.{proofs.Common.{◌∙◌, arith, length-append}, specs.{List.{All, AllPairs, find}, Option.{option_and_then, option_map}}}
+use Rattle.vs_flow.specs.{Flow.{host_flow, is_assigned, same_flow}, declared.flow.Flow.Flow, Table.{Table, IsTable, entry_of, entry_under, value_under, with_value, without}}
+use Rattle.vs_flow.{specs.Table.revalued, proofs.{Lookups.{find_place, entry_under-with_value}, Tables.with_value_sound, Entries.{find_none, found_passes, same_flow_false}}}
+use Rattle.vs_driver_parts.specs.{Connections.{gone_as, is_let_go}, Held.{HeldSlots, left_in}, SlotFields.{AreKept, AreNumbered}, declared.slots.Slots.TheInside.Inside}
+use Rattle.vs_driver_parts.{specs.State.{DriverConnection, DriverEntry, GoneConnection, is_known_as}, proofs.{Lists.{one_passes, removed_one}, Numbers.{id_in, id_there, id_under}}}
+use Rattle.vs_driver_parts.proofs.{Numbers.numbers_with_value, Ids.{value_of, has_slot, under, known_by_slot, unless_closed, entry_has}}
 
 pub kept_with_connection : (s : Inside) (slot : ℕ) (d : DriverConnection) → AreKept s → id_in s.table slot d.id ≡ d.id
     → AreKept (record s { table = with_value s.table slot d })

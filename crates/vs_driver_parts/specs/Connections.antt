@@ -1,15 +1,14 @@
 -- What the driver's calls do to its connections, apart from the ring.
-use Rattle.std.specs.Prelude.{ℕ, ◌+◌, ◌==◌, ◌||◌, not, min, nat_lt, nat_le, Bool, true, false, if◌then◌else◌, List, [], ◌∷◌, ◌++◌, length}
-use Rattle.std.specs.{Prelude.{map, filter, take, drop, Option, Some, None, is_some}, Option.{option_map, option_map_or}}
-use Rattle.vs_flow.specs.{Flow.host_flow, Flow.is_assigned, Table.with_entry, Table.with_value, Table.without, declared.flow.Flow.Flow}
+use Rattle.std.specs.Prelude.{ℕ, ◌+◌, ◌==◌, ◌||◌, not, min, nat_lt, nat_le, Bool, true, false, if◌then◌else◌, List, [], ◌∷◌, ◌++◌, length, map, filter, take, drop, Option, Some}
+use Rattle.std.specs.{Prelude.{None, is_some}, Option.{option_map, option_map_or}}
+use Rattle.vs_flow.specs.{Flow.{host_flow, is_assigned}, Table.{with_entry, with_value, without}, declared.flow.Flow.Flow}
 use Rattle.vs_header.specs.declared.{Header.Header, Kind.TheVariants.Stream}
 use Rattle.vs_limits.specs.declared.TheConstants.{BUF_ALLOC, BUF_ALLOC_MAX, LAST_PORT, LAST_ID, DRIVER_CONNECTIONS}
-use Rattle.vs_conn.specs.{declared.end.Owed.Owed, declared.end.State.State, declared.route.Route.Route, End.ConnectionEnd, End.asked}
-use Rattle.vs_conn.specs.End.{answering, grown, paid_of, with_payload_forwarded, with_shut, aborted}
-use Rattle.vs_driver_parts.specs.declared.answers.{ConnectionState.ConnectionState, ConnectError.ConnectError, Closed.Closed, Grown.Grown}
-use Rattle.vs_driver_parts.specs.{declared.answers.Received.Received, declared.answers.Shut.Shut, State.DriverConnection}
-use Rattle.vs_driver_parts.specs.State.{GoneConnection, Listener, DriverState, DriverEntry, slots_held, entry_known_as, gone_known_as}
-use Rattle.vs_driver_parts.specs.Listening.{with_waiting, without_id, listener_on}
+use Rattle.vs_conn.specs.{declared.{end.{Owed.Owed, State.State}, route.Route.Route}, End.{ConnectionEnd, asked, answering, grown, paid_of, with_payload_forwarded, with_shut}}
+use Rattle.vs_conn.specs.End.{aborted}
+use Rattle.vs_driver_parts.specs.declared.answers.{ConnectionState.ConnectionState, ConnectError.ConnectError, Closed.Closed, Grown.Grown, Received.Received, Shut.Shut}
+use Rattle.vs_driver_parts.specs.{State.{DriverConnection, GoneConnection, Listener, DriverState, DriverEntry, slots_held, entry_known_as, gone_known_as}, Listening.with_waiting}
+use Rattle.vs_driver_parts.specs.Listening.{without_id, listener_on}
 use Rattle.vs_conn.specs.declared.end.Owed.TheVariants as owed
 use Rattle.vs_conn.specs.declared.end.State.TheVariants as state
 use Rattle.vs_driver_parts.specs.declared.answers.ConnectionState.TheVariants as seen

@@ -1,20 +1,18 @@
 -- The driver's calls on its ring, in their order, and what each call of the driver answers (Virtio 1.2, section 5.10.6).
-use Rattle.std.specs.Prelude.{ℕ, ◌+◌, ◌-◌, ◌==◌, min, nat_lt, nat_le, Bool, true, false, if◌then◌else◌, List, [], ◌∷◌, ◌++◌, length, take}
-use Rattle.std.specs.Prelude.{Option, Some, None, is_some, Result, Ok, Err}
+use Rattle.std.specs.Prelude.{ℕ, ◌+◌, ◌-◌, ◌==◌, min, nat_lt, nat_le, Bool, true, false, if◌then◌else◌, List, [], ◌∷◌, ◌++◌, length, take, Option, Some, None, is_some, Result, Ok}
+use Rattle.std.specs.Prelude.{Err}
 use Rattle.vs_contents.specs.CallTree.{CallTree, Done, Ask, bind, for_each, while_up_to}
-use Rattle.vs_header.specs.{Packet.header_bytes, declared.Header.Header, declared.Kind.TheVariants.Stream}
-use Rattle.vs_conn.specs.{Headers.owed_header, Headers.payload_header, Headers.reset_header, declared.end.Owed.Owed, declared.end.Stop.Stop}
-use Rattle.vs_conn.specs.End.{ConnectionEnd, may_send_of, owes_of, with_payload_sent, wanting_credit, asked}
+use Rattle.vs_header.specs.{Packet.header_bytes, declared.{Header.Header, Kind.TheVariants.Stream}}
+use Rattle.vs_conn.specs.{Headers.{owed_header, payload_header, reset_header}, declared.end.{Owed.Owed, Stop.Stop}, End.{ConnectionEnd, may_send_of, owes_of, with_payload_sent}}
+use Rattle.vs_conn.specs.End.{wanting_credit, asked}
 use Rattle.vs_flow.specs.Table.{entry_under, slots}
 use Rattle.vs_limits.specs.declared.TheConstants.{BUF_ALLOC, DRIVER_CONNECTIONS, DRIVER_REPLIES_FULL, OWED_MAX, STAGED_MAX}
 use Rattle.vs_page.specs.declared.page.TheConstants.{PAYLOAD_MAX}
 use Rattle.vs_replies.specs.declared.Reply.{Reply}
-use Rattle.vs_ring_port.specs.{declared.queue.Queue.Queue, DriverCalls.{DriverCall, DriverAnswer}}
-use Rattle.vs_ring_port.specs.{DriverCalls.{Stage, Publish, Reap, LoadCid}, declared.queue.Queue.TheVariants.{Rx, Tx, Event}}
-use Rattle.vs_driver_parts.specs.declared.{answers.ConnectError.ConnectError, answers.Polled.Polled, answers.Sent.Sent, tally.Tally.Tally}
-use Rattle.vs_driver_parts.specs.{Receiving.on_page, Receiving.is_reset_event, Receiving.after_reset, State.DriverState, State.DriverEntry}
-use Rattle.vs_driver_parts.specs.{State.entry_known_as, State.gone_known_as, Connections.with_end, Connections.with_connection}
-use Rattle.vs_driver_parts.specs.Connections.{route_to_host, next_flow, connect_refusal, connected, after_leaving, paid_connection}
+use Rattle.vs_ring_port.specs.{declared.queue.Queue.{Queue, TheVariants.{Rx, Tx, Event}}, DriverCalls.{DriverCall, DriverAnswer, Stage, Publish, Reap, LoadCid}}
+use Rattle.vs_driver_parts.specs.{declared.{answers.{ConnectError.ConnectError, Polled.Polled, Sent.Sent}, tally.Tally.Tally}, Receiving.{on_page, is_reset_event, after_reset}}
+use Rattle.vs_driver_parts.specs.{State.{DriverState, DriverEntry, entry_known_as, gone_known_as}, Connections.{with_end, with_connection, route_to_host, next_flow}}
+use Rattle.vs_driver_parts.specs.Connections.{connect_refusal, connected, after_leaving, paid_connection}
 use Rattle.vs_conn.specs.declared.end.Owed.TheVariants as owed
 use Rattle.vs_conn.specs.declared.end.Stop.TheVariants as stop
 use Rattle.vs_driver_parts.specs.declared.answers.ConnectError.TheVariants as refused

@@ -3,8 +3,7 @@ use Rattle.std.specs.Prelude.{◌+◌, ◌≤◌, ◌==◌, not, ℕ, List, map,
 use Rattle.arrayvec.specs.ArrayVec.{ArrayVec}
 use Rattle.indexmap.specs.IndexMap.{index_map_len, spare, IsEmpty}
 use Rattle.vs_limits.specs.declared.TheConstants.{LISTENERS}
-use Rattle.vs_driver_parts.specs.State.{Listener}
-use Rattle.vs_driver_parts.specs.declared.listeners.Listeners.TheInside.{Inside}
+use Rattle.vs_driver_parts.specs.{State.Listener, declared.listeners.Listeners.TheInside.Inside}
 
 abbrev pub listener_of : ℕ × ArrayVec ℕ → Listener
 listener_of e = record { port = e.0; waiting = e.1.items }

@@ -1,8 +1,6 @@
 -- Ports that are listened on, and who waits there.
-use Rattle.std.specs.Prelude.{ℕ, ◌==◌, not, nat_lt, nat_le, Bool, false, if◌then◌else◌, List, [], ◌∷◌, ◌++◌, length, filter, find, Option}
-use Rattle.std.specs.Prelude.{Some, None, is_some, Result, Ok, Err}
-use Rattle.vs_driver_parts.specs.{declared.answers.Accepted.Accepted, declared.answers.ListenError.ListenError}
-use Rattle.vs_driver_parts.specs.State.{DriverState, Listener, entry_known_as, gone_known_as}
+use Rattle.std.specs.Prelude.{ℕ, ◌==◌, not, nat_lt, nat_le, Bool, false, if◌then◌else◌, List, [], ◌∷◌, ◌++◌, length, filter, find, Option, Some, None, is_some, Result, Ok, Err}
+use Rattle.vs_driver_parts.specs.{declared.answers.{Accepted.Accepted, ListenError.ListenError}, State.{DriverState, Listener, entry_known_as, gone_known_as}}
 use Rattle.vs_limits.specs.declared.TheConstants.{LISTENERS, WAITING}
 use Rattle.vs_driver_parts.specs.declared.answers.Accepted.TheVariants as accepted
 use Rattle.vs_driver_parts.specs.declared.answers.ListenError.TheVariants as refused

@@ -1,11 +1,10 @@
 -- How a driver and its ring belong together, and what it takes to make a call.
-use Rattle.std.specs.{Prelude.◌≡◌, Prelude.ℕ, Prelude.◌<◌, Prelude.◌^◌, Prelude.List, Prelude.Option, Prelude.Some, Option.ForSome}
+use Rattle.std.specs.{Prelude.{◌≡◌, ℕ, ◌<◌, ◌^◌, List, Option, Some}, Option.ForSome}
 use Rattle.vs_contents.specs.CallTree.{Leads, MayPlay}
 use Rattle.vs_header.specs.declared.Header.{Header}
 use Rattle.vs_page.specs.Held.{packet_held}
-use Rattle.vs_ring_port.specs.{declared.queue.Queue.Queue, declared.queue.Queue.TheVariants.Rx}
-use Rattle.vs_ring_port.specs.{Contents.RingContents, Counts.Counts, Counts.no_counts, Counts.with_count}
-use Rattle.vs_ring_port.specs.DriverCalls.{DriverCall, DriverAnswer, Stage, Publish, Reap, LoadCid, DriverAllows, CanPublish, CanStage}
+use Rattle.vs_ring_port.specs.{declared.queue.Queue.{Queue, TheVariants.Rx}, Contents.RingContents, Counts.{Counts, no_counts, with_count}, DriverCalls.{DriverCall, DriverAnswer}}
+use Rattle.vs_ring_port.specs.DriverCalls.{Stage, Publish, Reap, LoadCid, DriverAllows, CanPublish, CanStage}
 use Rattle.vs_driver_parts.specs.{State.DriverState, Conversations.DriverTree}
 use Rattle.vs_limits.specs.declared.TheConstants.{STAGED_MAX}
 

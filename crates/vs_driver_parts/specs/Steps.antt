@@ -2,11 +2,10 @@
 use Rattle.std.specs.Prelude.{ℕ, ◌==◌, if◌then◌else◌, List, length, Some, None, Result, Ok, Err}
 use Rattle.vs_contents.specs.CallTree.{Done, bind}
 use Rattle.vs_conn.specs.End.{may_send_of, wanting_credit}
-use Rattle.vs_ring_port.specs.declared.queue.Queue.{Queue, TheVariants.Rx, TheVariants.Tx, TheVariants.Event}
-use Rattle.vs_driver_parts.specs.{declared.answers.ConnectError.ConnectError, declared.answers.Sent.Sent, State.{DriverState, DriverEntry}}
-use Rattle.vs_driver_parts.specs.{State.entry_known_as, Conversations.{DriverTree, start, reap_one, take_event, take_packet, put_reply}}
-use Rattle.vs_driver_parts.specs.Conversations.{put_owed, connect_with_page, send_with_page, payload_of, no_credit, send_stopped, not_sent}
-use Rattle.vs_driver_parts.specs.Connections.{connect_refusal, with_end}
+use Rattle.vs_ring_port.specs.declared.queue.Queue.{Queue, TheVariants.{Rx, Tx, Event}}
+use Rattle.vs_driver_parts.specs.{declared.answers.{ConnectError.ConnectError, Sent.Sent}, State.{DriverState, DriverEntry, entry_known_as}, Conversations.{DriverTree, start}}
+use Rattle.vs_driver_parts.specs.Conversations.{reap_one, take_event, take_packet, put_reply, put_owed, connect_with_page, send_with_page, payload_of, no_credit, send_stopped}
+use Rattle.vs_driver_parts.specs.{Conversations.not_sent, Connections.{connect_refusal, with_end}}
 use Rattle.vs_driver_parts.specs.declared.answers.Sent.TheVariants as sent
 
 -- It takes one page of a queue, where it still takes any, does what the page asks of it, and stages the page again. A transmit page just

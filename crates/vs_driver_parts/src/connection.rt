@@ -1,17 +1,15 @@
 //! A connection of the driver's table: its end, and the bytes that came in on it and weren't read.
 
 ghost use Rattle.std.specs.Prelude.{◌≡◌, ◌≤◌, ◌==◌, ◌+◌, ◌++◌, [], true, false, Some, length, min, take, drop};
-ghost use Rattle.vs_conn.specs.End.{CanSend, asked, answering, grown, may_send_of, may_shut, owes_of, paid_of, verdict_of, view_of};
-ghost use Rattle.vs_conn.specs.{End.wanting_credit, End.with_payload_sent, Headers.owed_header, Headers.payload_header};
-ghost use Rattle.vs_conn.specs.declared.end.Owed.TheVariants as owed;
-ghost use Rattle.vs_conn.specs.declared.end.State.TheVariants.{Live};
+ghost use Rattle.vs_conn.specs.End.{CanSend, asked, answering, grown, may_send_of, may_shut, owes_of, paid_of, verdict_of, view_of, wanting_credit, with_payload_sent};
+ghost use Rattle.vs_conn.specs.{Headers.{owed_header, payload_header}, declared.end.State.TheVariants.Live};
 ghost use Rattle.vs_credit.specs.Credit.{free_of};
 ghost use Rattle.vs_header.specs.declared.Kind.TheVariants.{Stream};
 ghost use Rattle.vs_limits.specs.declared.TheConstants.{BUF_ALLOC, BUF_ALLOC_MAX};
 ghost use Rattle.laws_history.specs.declared.packet.Packet.{Packet};
 ghost use Rattle.vs_page.specs.Held.{IsWhole};
-ghost use Rattle.vs_driver_parts.specs.Connections.{after_read, after_shut, after_closing, paid_connection, is_let_go};
-ghost use Rattle.vs_driver_parts.specs.{Receiving.after_packet, Room.IsSpare};
+ghost use Rattle.vs_driver_parts.specs.{Connections.{after_read, after_shut, after_closing, paid_connection, is_let_go}, Receiving.after_packet, Room.IsSpare};
+ghost use Rattle.vs_conn.specs.declared.end.Owed.TheVariants as owed;
 
 use crate::answers::ConnId;
 use std::marker::Model;
@@ -31,8 +29,7 @@ pub struct Connection {
 }
 
 impl Model for Connection {
-    ghost use Rattle.vs_driver_parts.specs.State.{DriverConnection};
-    ghost use Rattle.vs_driver_parts.specs.Room.{HasRoom};
+    ghost use Rattle.vs_driver_parts.specs.{State.DriverConnection, Room.HasRoom};
 
     ghost Value = { DriverConnection };
 

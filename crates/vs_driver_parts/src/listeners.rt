@@ -1,11 +1,9 @@
 //! The ports that are listened on, and the connections that wait there to be accepted.
 
-ghost use Rattle.std.specs.Prelude.{◌≡◌, ◌+◌, ◌≤◌, [], true, false, length, nat_le, is_some, IfOk};
-ghost use Rattle.std.specs.Option.{option_map_or};
+ghost use Rattle.std.specs.{Prelude.{◌≡◌, ◌+◌, ◌≤◌, [], true, false, length, nat_le, is_some, IfOk}, Option.option_map_or};
 ghost use Rattle.indexmap.specs.IndexMap.{index_map_len, spare, IsEmpty};
 ghost use Rattle.vs_limits.specs.declared.TheConstants.{LISTENERS, WAITING};
-ghost use Rattle.vs_driver_parts.specs.Listening.{listener_on, with_waiting, waiting_too, without_id, has_place, with_port};
-ghost use Rattle.vs_driver_parts.specs.{Connections.without_listener, ListenerFields.others};
+ghost use Rattle.vs_driver_parts.specs.{Listening.{listener_on, with_waiting, waiting_too, without_id, has_place, with_port}, Connections.without_listener, ListenerFields.others};
 
 use crate::answers::ConnId;
 use arrayvec::ArrayVec;

@@ -1,7 +1,6 @@
 //! The driver's transmit pages: those that are free, how many are in flight, and how many pages of the queue in work are staged.
 
-ghost use Rattle.std.specs.Prelude.{◌≡◌, [], ◌+◌, ◌-◌, ◌<◌, ◌≤◌, ◌==◌, length, vec_capacity, nat_lt, IfOk};
-ghost use Rattle.std.specs.List.{All};
+ghost use Rattle.std.specs.{Prelude.{◌≡◌, [], ◌+◌, ◌-◌, ◌<◌, ◌≤◌, ◌==◌, length, vec_capacity, nat_lt, IfOk}, List.All};
 ghost use Rattle.vs_driver_parts.specs.PageCounts.{PageCounts};
 ghost use Rattle.vs_limits.specs.declared.TheConstants.{STAGED_MAX};
 

@@ -1,21 +1,17 @@
 //! The driver's slots: connections of the table, those that are gone and not closed, and the buffers of free slots.
 
-ghost use Rattle.std.specs.Prelude.{◌≡◌, ◌<◌, ◌≤◌, ◌++◌, ◌==◌, [], true, false, length, min, take, drop, find, Some, None, IfOk, IfSome};
-ghost use Rattle.std.specs.Prelude.{IfNone, IsSomeAnd, option_copied, position, remove, slice_get, ◌^◌, vec_capacity};
-ghost use Rattle.std.specs.{List.All, Option.option_map};
-ghost use Rattle.vs_conn.specs.Headers.{owed_header, payload_header};
-ghost use Rattle.vs_conn.specs.End.{CanSend, answering, grown, may_send_of, owes_of, verdict_of, may_shut, with_payload_sent, wanting_credit};
-ghost use Rattle.vs_conn.specs.declared.end.State.TheVariants.{Live};
+ghost use Rattle.std.specs.Prelude.{◌≡◌, ◌<◌, ◌≤◌, ◌++◌, ◌==◌, [], true, false, length, min, take, drop, find, Some, None, IfOk, IfSome, IfNone, IsSomeAnd, option_copied};
+ghost use Rattle.std.specs.{Prelude.{position, remove, slice_get, ◌^◌, vec_capacity}, List.All, Option.option_map};
+ghost use Rattle.vs_conn.specs.{Headers.{owed_header, payload_header}, End.{CanSend, answering, grown, may_send_of, owes_of, verdict_of, may_shut, with_payload_sent}};
+ghost use Rattle.vs_conn.specs.{End.wanting_credit, declared.end.State.TheVariants.Live};
 ghost use Rattle.vs_credit.specs.Credit.{free_of};
-ghost use Rattle.vs_flow.specs.Flow.{is_assigned};
-ghost use Rattle.vs_flow.specs.Table.{IsTable, entry_of, entry_under, slots, value_under, with_entry};
+ghost use Rattle.vs_flow.specs.{Flow.is_assigned, Table.{IsTable, entry_of, entry_under, slots, value_under, with_entry}};
 ghost use Rattle.laws_history.specs.declared.packet.Packet.{Packet};
 ghost use Rattle.vs_page.specs.Held.{IsWhole};
 ghost use Rattle.vs_limits.specs.declared.TheConstants.{BUF_ALLOC_MAX, LAST_PORT, LAST_ID, DRIVER_CONNECTIONS};
-ghost use Rattle.vs_driver_parts.specs.State.{DriverEntry, DriverConnection, GoneConnection, is_known_as};
-ghost use Rattle.vs_driver_parts.specs.Connections.{route_to_host, after_read, after_shut, after_closing, paid_connection, without_gone};
-ghost use Rattle.vs_driver_parts.specs.{Connections.all_gone_after_read, Receiving.after_packet, Receiving.reset_reply, Room.IsSpare};
-ghost use Rattle.vs_driver_parts.specs.Held.{KnowsNone, no_slots, held_in, with_asked_in, with_answering_in, with_connection_in, left_in};
+ghost use Rattle.vs_driver_parts.specs.{State.{DriverEntry, DriverConnection, GoneConnection, is_known_as}, Connections.{route_to_host, after_read, after_shut, after_closing}};
+ghost use Rattle.vs_driver_parts.specs.{Connections.{paid_connection, without_gone, all_gone_after_read}, Receiving.{after_packet, reset_reply}, Room.IsSpare, Held.KnowsNone};
+ghost use Rattle.vs_driver_parts.specs.Held.{no_slots, held_in, with_asked_in, with_answering_in, with_connection_in, left_in};
 
 use crate::answers::ConnId;
 use crate::connection::Connection;

@@ -1,15 +1,13 @@
 -- A stream that echoes, after bytes of it were taken; and the ids of streams.
-use Rattle.std.proofs.Common.{◌≡◌, ◌≤◌, ℕ, zero, suc, ◌+◌, ◌-◌, if◌then◌else◌, Bool, true, false, List, [], ◌∷◌, ◌++◌, length, take, drop}
-use Rattle.std.proofs.{Common.{set, ltb, None, Some, refl, sym, ap, ◌∙◌, arith}, lemmas.Bool.Decides.nat_tests, lemmas.List.length-drop}
-use Rattle.std.proofs.{lemmas.List.length-set, lemmas.List.Elements.{All-append, All-cons, All-nil}}
-use Rattle.std.specs.List.{All, position_or_len, range_with_len}
+use Rattle.std.proofs.Common.{◌≡◌, ◌≤◌, ℕ, zero, suc, ◌+◌, ◌-◌, if◌then◌else◌, Bool, true, false, List, [], ◌∷◌, ◌++◌, length, take, drop, set, ltb, None, Some, refl, sym, ap, ◌∙◌}
+use Rattle.std.{proofs.{Common.arith, lemmas.{Bool.Decides.nat_tests, List.{length-drop, length-set, Elements.{All-append, All-cons, All-nil}}}}, specs.List.{All, position_or_len}}
+use Rattle.std.specs.List.{range_with_len}
 use Rattle.vs_flow.specs.declared.flow.Flow.{Flow}
-use Rattle.vs_outside.proofs.Bytes.{drop_more, take_more}
-use Rattle.vs_outside.specs.{Faults.counted_down, Host.{accept_answer, after_start, called, start_answer, HostContents, Stream}}
-use Rattle.vs_outside.specs.{Host.{dialed_stream, is_waiting, oldest_client, take_bytes}, declared.host_net.Started.TheVariants.Ready}
-use Rattle.vs_outside.specs.{HostProgram.adds_dialed, declared.host_net.StreamState.TheVariants.{Closed, Open}}
-use Rattle.vs_outside.specs.declared.host_net.Accepted.TheVariants as accepted
+use Rattle.vs_outside.{proofs.Bytes.{drop_more, take_more}, specs.{Faults.counted_down, Host.{accept_answer, after_start, called, start_answer, HostContents, Stream}}}
+use Rattle.vs_outside.specs.{Host.{dialed_stream, is_waiting, oldest_client, take_bytes}, declared.host_net.{Started.TheVariants.Ready, StreamState.TheVariants.{Closed, Open}}}
+use Rattle.vs_outside.specs.HostProgram.{adds_dialed}
 use Rattle.vs_echo.specs.{Echo.IsEcho, declared.echo_stream.TheConstants.ECHO_ROOM}
+use Rattle.vs_outside.specs.declared.host_net.Accepted.TheVariants as accepted
 
 -- the stream that was given these bytes, of which the first were taken again
 abbrev pub echo_at : Flow → Bool → Bool → List ℕ → ℕ → Stream

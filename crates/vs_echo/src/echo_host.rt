@@ -1,12 +1,9 @@
 //! A host in memory whose streams are echoes.
 
-ghost use Rattle.std.specs.Prelude.{◌≡◌, ◌<◌, ◌+◌, ◌↔◌, [], IfOk, IsTrue, MatchOption, None, OnErr, Some, length, string_bytes};
-ghost use Rattle.std.specs.List.{All};
+ghost use Rattle.std.specs.{Prelude.{◌≡◌, ◌<◌, ◌+◌, ◌↔◌, [], IfOk, IsTrue, MatchOption, None, OnErr, Some, length, string_bytes}, List.All};
 ghost use Rattle.vs_header.specs.declared.Kind.TheVariants.{Stream};
-ghost use Rattle.vs_outside.specs.Faults.{CountsFault, one_more};
-ghost use Rattle.vs_outside.specs.Host.{IsOpen, IsRead, IsWritten, ReadsSome, TakesSome, after_close, after_label, after_read};
-ghost use Rattle.vs_outside.specs.Host.{after_shut_write, after_write, is_listened, oldest_client, read_failed, stream_at, write_failed};
-ghost use Rattle.vs_outside.specs.HostProgram.{adds_dialed, port_path, starves};
+ghost use Rattle.vs_outside.specs.{Faults.{CountsFault, one_more}, Host.{IsOpen, IsRead, IsWritten, ReadsSome, TakesSome, after_close, after_label, after_read, after_shut_write}};
+ghost use Rattle.vs_outside.specs.{Host.{after_write, is_listened, oldest_client, read_failed, stream_at, write_failed}, HostProgram.{adds_dialed, port_path, starves}};
 ghost use Rattle.vs_echo.specs.Echo.{IsEcho, new_echo};
 
 use crate::echo_stream::EchoStream;
@@ -30,8 +27,7 @@ pub struct EchoHost {
 }
 
 impl Model for EchoHost {
-    ghost use Rattle.std.specs.Prelude.{[], ◌∷◌, length, string_bytes};
-    ghost use Rattle.std.specs.List.{All, range_with_len};
+    ghost use Rattle.std.specs.{Prelude.{[], ◌∷◌, length, string_bytes}, List.{All, range_with_len}};
     ghost use Rattle.vs_outside.specs.HostProgram.{HostMemory};
     ghost use Rattle.vs_echo.specs.Echo.{IsEcho, echoing};
 

@@ -1,9 +1,8 @@
 //! A stream whose program gives back what it is given.
 
 ghost use Rattle.std.specs.Prelude.{◌≡◌, IfOk, OnErr, Some, length, min, take, true, IsTrue, ◌↔◌};
-ghost use Rattle.vs_outside.specs.Host.{dialed_stream, read_of, write_of};
-ghost use Rattle.vs_outside.specs.HostProgram.{ReadsStream, stream_after_write};
-ghost use Rattle.vs_outside.specs.declared.host_net.StreamState.TheVariants.{Closed, Open};
+ghost use Rattle.vs_outside.specs.{Host.{dialed_stream, read_of, write_of}, HostProgram.{ReadsStream, stream_after_write}, declared.host_net.StreamState.TheVariants.Closed};
+ghost use Rattle.vs_outside.specs.declared.host_net.StreamState.TheVariants.{Open};
 ghost use Rattle.vs_echo.specs.Echo.{IsEcho, echoing};
 
 use std::alloc::{AllocError, Global};
@@ -27,8 +26,7 @@ pub struct EchoStream {
 
 impl Model for EchoStream {
     ghost use Rattle.std.specs.Prelude.{◌≤◌, ◌-◌, ◌+◌, if◌then◌else◌, true, false, take, drop, length, Some, vec_len};
-    ghost use Rattle.vs_outside.specs.Host.{Stream};
-    ghost use Rattle.vs_outside.specs.declared.host_net.StreamState.TheVariants.{Closed, Open};
+    ghost use Rattle.vs_outside.specs.{Host.Stream, declared.host_net.StreamState.TheVariants.{Closed, Open}};
     ghost use Rattle.vs_echo.specs.declared.echo_stream.TheConstants.{ECHO_ROOM};
 
     ghost Value = { Stream };

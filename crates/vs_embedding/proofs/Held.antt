@@ -1,10 +1,8 @@
 -- The first chain of a list that is a given one, found by its place.
-use Rattle.std.proofs.Common.{inl, inr, refl, ◌≡◌, ℕ, zero, suc, ◌<◌, true, false, List, [], ◌∷◌, length, get_or, Some, Contains, sym, ap}
-use Rattle.std.proofs.{Common.{◌∙◌, arith}, lemmas.List.{Sums.fails_before_first, Quantifiers.position-Some}, lemmas.Bool.false≢true}
-use Rattle.std.proofs.lemmas.Bool.{cases_lt, lt-ltb}
-use Rattle.std.specs.{List.position, List.remove, List.position_or_len, Option.IsSome}
-use Rattle.vs_ring_port.specs.{declared.device_ring.Chain.Chain, Chains.same_chain, Chains.same_queue, Chains.without}
-use Rattle.vs_ring_port.specs.declared.queue.Queue.{Queue, TheVariants.Rx, TheVariants.Tx, TheVariants.Event}
+use Rattle.std.proofs.Common.{inl, inr, refl, ◌≡◌, ℕ, zero, suc, ◌<◌, true, false, List, [], ◌∷◌, length, get_or, Some, Contains, sym, ap, ◌∙◌, arith}
+use Rattle.std.{proofs.lemmas.{List.{Sums.fails_before_first, Quantifiers.position-Some}, Bool.{false≢true, cases_lt, lt-ltb}}, specs.List.{position, remove, position_or_len}}
+use Rattle.std.specs.Option.{IsSome}
+use Rattle.vs_ring_port.specs.{declared.{device_ring.Chain.Chain, queue.Queue.{Queue, TheVariants.{Rx, Tx, Event}}}, Chains.{same_chain, same_queue, without}}
 
 same_queue_refl : (q : Queue) → same_queue q q ≡ true
 same_queue_refl Rx = refl

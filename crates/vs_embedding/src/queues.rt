@@ -1,9 +1,7 @@
 //! A monitor's own virtqueues as the device's end of the rings.
 
-ghost use Rattle.std.specs.Prelude.{◌≡◌, ◌<◌, ◌≤◌, ◌*◌, ℕ, [], length, IfOk, IfSome, IsNone, Contains};
-ghost use Rattle.std.specs.List.{position};
-ghost use Rattle.vs_ring_port.specs.declared.queue.TheConstants.{QUEUE_SIZE_MAX};
-ghost use Rattle.vs_ring_port.specs.Chains.{chain_of, held_after, IsLongEnough, same_chain, without};
+ghost use Rattle.std.specs.{Prelude.{◌≡◌, ◌<◌, ◌≤◌, ◌*◌, ℕ, [], length, IfOk, IfSome, IsNone, Contains}, List.position};
+ghost use Rattle.vs_ring_port.specs.{declared.queue.TheConstants.QUEUE_SIZE_MAX, Chains.{chain_of, held_after, IsLongEnough, same_chain, without}};
 
 use std::alloc::{AllocError, Global};
 use std::collections::VecDeque;
@@ -58,8 +56,7 @@ pub struct MonitorRing<V> {
 }
 
 impl<V> Model for MonitorRing<V> {
-    ghost use Rattle.std.specs.Prelude.{◌<◌, ◌≤◌, ◌*◌};
-    ghost use Rattle.std.specs.VecDeque.{deque_capacity};
+    ghost use Rattle.std.specs.{Prelude.{◌<◌, ◌≤◌, ◌*◌}, VecDeque.deque_capacity};
     ghost use Rattle.vs_ring_port.specs.declared.queue.TheConstants.{QUEUE_SIZE_MAX};
     ghost use Rattle.vs_embedding.specs.Ring.{RingState};
 

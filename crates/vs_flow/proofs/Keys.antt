@@ -1,19 +1,14 @@
 -- Slots whose keys lead to entries: what is found by a slot and by a place, and what insertions, removals and writes leave.
-use Rattle.std.proofs.lemmas.{Bool.Decides.nat_tests, List.Edits.length-remove, List.Elements.All-cons, List.Elements.All-map}
-use Rattle.std.proofs.{lemmas.List.{Folds.map_fixed, append_assoc, Kept.AllPairs-cons, Sums.sum_by-set}, lemmas.Option.slice_get_within}
-use Rattle.std.proofs.{lemmas.Option.{slice_get_cases, slice_get_read}, Math.ListN.get_or-append, Common.{◌≡◌, ◌≢◌, ℕ, zero, suc, ◌+◌, ◌<◌}}
-use Rattle.std.proofs.Common.{◌≤◌, Bool, false, not, cond, ◌==◌, List, [], ◌∷◌, ◌++◌, length, map, get_or, Option, Some, None, is_some, inl}
-use Rattle.std.proofs.{Common.{inr, refl, ap, sym, subst, ◌∙◌, arith, length-append}, Math.Seq.get_or-append_seam}
-use Rattle.std.specs.{List.{All, AllPairs, AllWithin, find, filter, position, position_or_len, remove, slice_get}, Map.lookup}
+use Rattle.std.proofs.lemmas.{Bool.Decides.nat_tests, List.{Edits.length-remove, Elements.{All-cons, All-map}, Folds.map_fixed, append_assoc, Kept.AllPairs-cons, Sums.sum_by-set}}
+use Rattle.std.proofs.{lemmas.Option.{slice_get_within, slice_get_cases, slice_get_read}, Math.{ListN.get_or-append, Seq.get_or-append_seam}, Common.{◌≡◌, ◌≢◌, ℕ, zero, suc, ◌+◌}}
+use Rattle.std.proofs.Common.{◌<◌, ◌≤◌, Bool, false, not, cond, ◌==◌, List, [], ◌∷◌, ◌++◌, length, map, get_or, Option, Some, None, is_some, inl, inr, refl, ap, sym, subst, ◌∙◌}
+use Rattle.std.{proofs.Common.{arith, length-append}, specs.{List.{All, AllPairs, AllWithin, find, filter, position, position_or_len, remove, slice_get}, Map.lookup}}
 use Rattle.std.specs.Option.{option_and_then}
-use Rattle.indexmap.specs.IndexMap.{insert_entry}
-use Rattle.indexmap.proofs.MapLemmas.{absent_from_lookup, insert_entry-absent}
-use Rattle.slab.specs.Slab.{ContainsKey, Slab, Updates, get, slab_len, with_value}
-use Rattle.slab.proofs.SlabLemmas.{ContainsKey-within, Updates-with_value}
-use Rattle.vs_flow.specs.{declared.flow.Flow.Flow, declared.table.Entry.Entry, Flow.same_flow, Entries.entries_of, Entries.slots_by_flow}
-use Rattle.vs_flow.specs.{Entries.AreLedTo, Table.IsRising, Table.revalued}
-use Rattle.vs_flow.proofs.Entries.{All_at, above_head, find_position, found_passes, position_within, remove_at, rising_tail, same_flow_false}
-use Rattle.vs_flow.proofs.Lookups.{others_differ, tail_distinct}
+use Rattle.indexmap.{specs.IndexMap.insert_entry, proofs.MapLemmas.{absent_from_lookup, insert_entry-absent}}
+use Rattle.slab.{specs.Slab.{ContainsKey, Slab, Updates, get, slab_len, with_value}, proofs.SlabLemmas.{ContainsKey-within, Updates-with_value}}
+use Rattle.vs_flow.specs.{declared.{flow.Flow.Flow, table.Entry.Entry}, Flow.same_flow, Entries.{entries_of, slots_by_flow, AreLedTo}, Table.{IsRising, revalued}}
+use Rattle.vs_flow.proofs.{Entries.{All_at, above_head, find_position, found_passes, position_within, remove_at, rising_tail, same_flow_false}, Lookups.others_differ}
+use Rattle.vs_flow.proofs.Lookups.{tail_distinct}
 
 module _ {T : Type 0} (under : ℕ → Option (Entry T)) where
   pub led_is : (keys : List (ℕ × ℕ)) (es : List (Entry T)) → AreLedTo under keys es → entries_of under keys ≡ es

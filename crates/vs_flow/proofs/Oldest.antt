@@ -1,7 +1,6 @@
 -- What the place of the first element that passes says of it, and of the others.
-use Rattle.std.proofs.Common.{◌≡◌, ℕ, suc, ◌+◌, ◌<◌, Bool, true, false, cond, List, [], ◌∷◌, length, nat_lt, Option, Some, None, refl, ap}
-use Rattle.std.proofs.{Common.{sym, subst, arith}, lemmas.Bool.Decides.nat_tests}
-use Rattle.std.specs.{List.find, List.position, List.position_or_len, List.remove, List.slice_get, Option.option_map}
+use Rattle.std.proofs.Common.{◌≡◌, ℕ, suc, ◌+◌, ◌<◌, Bool, true, false, cond, List, [], ◌∷◌, length, nat_lt, Option, Some, None, refl, ap, sym, subst, arith}
+use Rattle.std.{proofs.lemmas.Bool.Decides.nat_tests, specs.{List.{find, position, position_or_len, remove, slice_get}, Option.option_map}}
 use Rattle.vs_flow.specs.{declared.flow.Flow.Flow, CleanPairs.without_oldest}
 
 module _ (p : Flow → Bool) where

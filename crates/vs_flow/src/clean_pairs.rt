@@ -1,8 +1,7 @@
 //! Flows whose ports may be used again, since both ends closed the connection cleanly.
 ghost use Rattle.std.specs.Prelude.{◌≡◌, ◌≤◌, ◌==◌, [], IfOk, position};
 ghost use Rattle.vs_limits.specs.declared.TheConstants.{CLEAN_PAIRS};
-ghost use Rattle.vs_flow.specs.{CleanPairs.comes_from, CleanPairs.goes_to, CleanPairs.kept, CleanPairs.oldest, CleanPairs.without_oldest};
-ghost use Rattle.vs_flow.specs.Flow.{same_flow};
+ghost use Rattle.vs_flow.specs.{CleanPairs.{comes_from, goes_to, kept, oldest, without_oldest}, Flow.same_flow};
 
 use crate::flow::Flow;
 use std::alloc::{AllocError, Global};

@@ -1,6 +1,5 @@
 -- What an access leaves of the changes to come.
-use Rattle.std.proofs.Common.{◌≡◌, Bool, true, false, cond, List, [], ◌∷◌, length, All, IsTrue}
-use Rattle.std.proofs.lemmas.List.Elements.{All-nil, All-cons, All-head, All-tail}
+use Rattle.std.proofs.{Common.{◌≡◌, Bool, true, false, cond, List, [], ◌∷◌, length, All, IsTrue}, lemmas.List.Elements.{All-nil, All-cons, All-head, All-tail}}
 use Rattle.std.specs.List.{retain_mut}
 use Rattle.vs_guest_mem.specs.Memory.{Change, Memory, IsSound, is_inside, is_later, nearer}
 

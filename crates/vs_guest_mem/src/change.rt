@@ -1,6 +1,5 @@
 //! Writes that somebody else makes before one of a device's accesses.
-ghost use Rattle.std.specs.Prelude.{◌≡◌, ◌-◌, ◌+◌, ◌<◌, IfOk, IsTrue, length, filter, All};
-ghost use Rattle.std.specs.List.{retain_mut};
+ghost use Rattle.std.specs.{Prelude.{◌≡◌, ◌-◌, ◌+◌, ◌<◌, IfOk, IsTrue, length, filter, All}, List.retain_mut};
 ghost use Rattle.vs_guest_mem.specs.Memory.{Change, after_changes, is_due, is_later, is_within, nearer, overwritten};
 
 use std::alloc::{AllocError, Global};

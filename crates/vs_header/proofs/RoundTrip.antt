@@ -1,10 +1,9 @@
 -- A number's bytes and the number of bytes undo each other, and so do a header's bytes and the header of bytes.
-use Rattle.std.proofs.Common.{◌≡◌, ℕ, zero, suc, ◌+◌, ◌/◌, ◌%◌, ◌^◌, ◌<◌, ◌≤◌, List, [], ◌∷◌, ◌++◌, length, take, drop, slice_index, refl}
-use Rattle.std.proofs.{Common.{sym, ap, ◌∙◌, arith, length-drop, get_or-drop}, Math.Nat.{div-div-eq-div-mul, div-one, pow-succ'}}
-use Rattle.std.proofs.lemmas.List.{append-nil, drop-drop, take-append-drop, take_all}
-use Rattle.std.specs.Int.{byte_at, bytes_low_first}
+use Rattle.std.proofs.Common.{◌≡◌, ℕ, zero, suc, ◌+◌, ◌/◌, ◌%◌, ◌^◌, ◌<◌, ◌≤◌, List, [], ◌∷◌, ◌++◌, length, take, drop, slice_index, refl, sym, ap, ◌∙◌, arith, length-drop}
+use Rattle.std.{proofs.{Common.get_or-drop, Math.Nat.{div-div-eq-div-mul, div-one, pow-succ'}, lemmas.List.{append-nil, drop-drop, take-append-drop, take_all}}, specs.Int.byte_at}
+use Rattle.std.specs.Int.{bytes_low_first}
 use Rattle.byteorder.specs.{Endian.{little_bytes, little_from, little_number}, Numbers.{little_from-cons, little_number-reads_back}}
-use Rattle.vs_header.specs.{declared.Header.Header, Packet.field_at, Packet.header_bytes, Packet.header_of}
+use Rattle.vs_header.specs.{declared.Header.Header, Packet.{field_at, header_bytes, header_of}}
 
 -- a byte of a number, by its place
 byte_at-pow : (i x : ℕ) → byte_at i x ≡ x / 256 ^ i % 256

@@ -1,7 +1,6 @@
 -- The operations of the socket device and their numbers (Virtio 1.2, section 5.10.6).
 use Rattle.std.specs.Prelude.{ℕ, [], ◌∷◌, Option, slice_get}
-use Rattle.vs_header.specs.declared.Op.{Op}
-use Rattle.vs_header.specs.declared.Op.TheVariants.{Invalid, Request, Response, Rst, Shutdown, Rw, CreditUpdate, CreditRequest}
+use Rattle.vs_header.specs.declared.Op.{Op, TheVariants.{Invalid, Request, Response, Rst, Shutdown, Rw, CreditUpdate, CreditRequest}}
 
 -- The operation of a number: the operations count up from 0.
 abbrev pub op_named : ℕ → Option Op

@@ -1,14 +1,12 @@
 -- How the lines of a run add up.
-use Rattle.std.proofs.Common.{◌≡◌, ◌<◌, ℕ, ◌+◌, List, [], ◌∷◌, ◌++◌, length, map, drop, get_or, Option, None, Result, Ok, Err, sym, ap, ◌∙◌}
-use Rattle.std.proofs.{Common.subst, Common.append_assoc, lemmas.List.drop_more, lemmas.List.drop-map, lemmas.List.length-map}
+use Rattle.std.proofs.Common.{◌≡◌, ◌<◌, ℕ, ◌+◌, List, [], ◌∷◌, ◌++◌, length, map, drop, get_or, Option, None, Result, Ok, Err, sym, ap, ◌∙◌, subst, append_assoc}
+use Rattle.std.proofs.lemmas.List.{drop_more, drop-map, length-map}
 use Rattle.vs_device_parts.specs.{State.counters_of, Turns.table_shown}
 use Rattle.vs_outside.specs.Host.{Stream}
-use Rattle.vs_report.{specs.Gives.GivesLines, specs.Report.counts_text, specs.Report.device_open_text, specs.Report.stream_texts}
-use Rattle.vs_report.{specs.declared.giving.GiveError.GiveError, proofs.LinesGiven.gives_next, proofs.LinesGiven.gives_less}
-use Rattle.vs_script.specs.Hostile.{Hostile, hostile_view}
-use Rattle.vs_script.specs.{Script.numbered_hostile, declared.hostile.HostileLine.HostileLine, declared.script.Numbered.Numbered}
-use Rattle.vs_hostile.specs.Answer.{attack_of, given, lines_of, report_texts, said_text, state_after, texts_of}
-use Rattle.vs_hostile.specs.Run.{HostileState, beginning, hostile_does}
+use Rattle.vs_report.{specs.{Gives.GivesLines, Report.{counts_text, device_open_text, stream_texts}, declared.giving.GiveError.GiveError}, proofs.LinesGiven.gives_next}
+use Rattle.vs_report.proofs.LinesGiven.{gives_less}
+use Rattle.vs_script.specs.{Hostile.{Hostile, hostile_view}, Script.numbered_hostile, declared.{hostile.HostileLine.HostileLine, script.Numbered.Numbered}}
+use Rattle.vs_hostile.specs.{Answer.{attack_of, given, lines_of, report_texts, said_text, state_after, texts_of}, Run.{HostileState, beginning, hostile_does}}
 
 -- The lines of a script, as the program holds them.
 abbrev pub held_lines : List (Numbered HostileLine) → List Hostile

@@ -1,23 +1,20 @@
 -- Over rings in a guest's memory and a host in memory each conversation has one end, unless the host found no memory.
-use Rattle.std.proofs.Common.{◌≡◌, ℕ, Bool, true, false, cond, nat_le, List, length, Option, Some, None, Result, unwrap_or, refl, sym, ap}
-use Rattle.std.proofs.{lemmas.Bool.false≢true, lemmas.Bool.Decides.nat_tests, Common.subst, Common.◌∙◌, Common.arith}
-use Rattle.std.specs.Prelude.{◌<◌, ◌≤◌}
+use Rattle.std.proofs.Common.{◌≡◌, ℕ, Bool, true, false, cond, nat_le, List, length, Option, Some, None, Result, unwrap_or, refl, sym, ap, subst, ◌∙◌, arith}
+use Rattle.std.{proofs.lemmas.Bool.{false≢true, Decides.nat_tests}, specs.Prelude.{◌<◌, ◌≤◌}}
 use Rattle.vs_contents.specs.CallTree.{Done, Ask, played}
 use Rattle.vs_flow.specs.declared.flow.Flow.{Flow}
-use Rattle.vs_outside.specs.Host.{HostContents, IsDialed, IsWritten, after_accept, after_close, after_dial, after_failed, after_label}
-use Rattle.vs_outside.specs.Host.{after_read, after_shut_write, after_write, called, dial_answer, fails_now, write_answer}
-use Rattle.vs_outside.specs.declared.host_net.{Accepted.Accepted, Dialed.Dialed, StreamRead.StreamRead, StreamWrite.StreamWrite}
-use Rattle.vs_ring_port.specs.DeviceCalls.{DeviceAllows, DeviceMoves}
-use Rattle.vs_ring_port.specs.Contents.{RingContents, DeviceCall, DeviceAnswer, PlainState, Take, Read, Write, Return, Given, PublishCid}
+use Rattle.vs_outside.specs.Host.{HostContents, IsDialed, IsWritten, after_accept, after_close, after_dial, after_failed, after_label, after_read, after_shut_write, after_write}
+use Rattle.vs_outside.specs.{Host.{called, dial_answer, fails_now, write_answer}, declared.host_net.{Accepted.Accepted, Dialed.Dialed, StreamRead.StreamRead}}
+use Rattle.vs_outside.specs.declared.host_net.StreamWrite.{StreamWrite}
+use Rattle.vs_ring_port.specs.{DeviceCalls.{DeviceAllows, DeviceMoves}, Contents.{RingContents, DeviceCall, DeviceAnswer, PlainState, Take, Read, Write, Return, Given, PublishCid}}
 use Rattle.vs_ring_port.specs.{EndLog.EndLog, Known.Known, Lists.Rings, declared.failure.Failure.Failure}
 use Rattle.vs_ring_plain.specs.Device.{DeviceState, answer_to}
-use Rattle.vs_device_parts.specs.Calls.{Call, Answer, DeviceTree, HostMoves, IsReadOf, Situation, Allows, Ring, Accept, Dial, Label}
-use Rattle.vs_device_parts.specs.{Calls.{ReadStream, WriteStream, ShutWrite, CloseStream}, Playing.{CanMake, MayRun, Runs, situation}}
-use Rattle.vs_proxy_parts.specs.{State.ProxyState, Turns.proxy_reset_of, Turns.turn_of, declared.answers.Turn.Turn}
+use Rattle.vs_device_parts.specs.Calls.{Call, Answer, DeviceTree, HostMoves, IsReadOf, Situation, Allows, Ring, Accept, Dial, Label, ReadStream, WriteStream, ShutWrite}
+use Rattle.vs_device_parts.specs.{Calls.CloseStream, Playing.{CanMake, MayRun, Runs, situation}}
+use Rattle.vs_proxy_parts.specs.{State.ProxyState, Turns.{proxy_reset_of, turn_of}, declared.answers.Turn.Turn}
 use Rattle.laws_proxy.specs.Order.{IsInOrder}
-use Rattle.vs_hostile.specs.Answers.{Around, answer_around, bytes_with, with_host}
-use Rattle.vs_hostile.specs.{Ready.IsServing, Whole.is_made, Whole.whole_contents, Whole.whole_state}
-use Rattle.vs_hostile.proofs.Seen.{after_made, exposed}
+use Rattle.vs_hostile.{specs.{Answers.{Around, answer_around, bytes_with, with_host}, Ready.IsServing, Whole.{is_made, whole_contents, whole_state}}, proofs.Seen.after_made}
+use Rattle.vs_hostile.proofs.Seen.{exposed}
 use Rattle.vs_outside.specs.declared.host_net.Accepted.TheVariants as accepted
 use Rattle.vs_outside.specs.declared.host_net.Dialed.TheVariants as dialed
 use Rattle.vs_outside.specs.declared.host_net.StreamRead.TheVariants as read

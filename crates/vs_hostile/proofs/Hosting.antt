@@ -1,19 +1,18 @@
 -- Streams that are open stay so, whatever the host's programs do.
-use Rattle.std.proofs.Common.{◌≡◌, ℕ, Bool, true, false, cond, List, ◌++◌, Option, unwrap_or, refl, sym, ap, subst, ◌∙◌}
-use Rattle.std.specs.Prelude.{◌&&◌, nat_lt, length}
+use Rattle.std.{proofs.Common.{◌≡◌, ℕ, Bool, true, false, cond, List, ◌++◌, Option, unwrap_or, refl, sym, ap, subst, ◌∙◌}, specs.Prelude.{◌&&◌, nat_lt, length}}
 use Rattle.vs_flow.specs.Table.{Table}
 use Rattle.vs_outside.specs.Host.{HostContents}
-use Rattle.vs_device_parts.specs.{Playing.IsItsRing, State.DeviceConnection, State.DeviceState}
+use Rattle.vs_device_parts.specs.{Playing.IsItsRing, State.{DeviceConnection, DeviceState}}
 use Rattle.laws_device.specs.Named.Streams.{HasStreams}
 use Rattle.vs_proxy_parts.specs.{Handshakes.streams_of, State.ProxyState}
 use Rattle.vs_script.specs.{Outside.Host, Data.bytes_of, Hostile.Hostile}
 use Rattle.byteorder.specs.Endian.{little_bytes}
 use Rattle.vs_header.specs.Packet.{header_bytes}
-use Rattle.vs_layout.specs.{Entry.desc_bytes, Layout.avail_entry, Layout.avail_idx, Layout.desc_entry}
+use Rattle.vs_layout.specs.{Entry.desc_bytes, Layout.{avail_entry, avail_idx, desc_entry}}
 use Rattle.vs_guest_mem.specs.Memory.{after_write, is_inside}
 use Rattle.vs_ring_port.specs.declared.device_ring.Chain.{Chain}
-use Rattle.vs_hostile.specs.{Guest.guest_writes, Guest.poked, Guest.poked_at, Ready.IsServing}
-use Rattle.vs_report.{specs.HostLines.host_played, proofs.HostPrograms.Opens, proofs.HostPrograms.host_opens}
+use Rattle.vs_hostile.specs.{Guest.{guest_writes, poked, poked_at}, Ready.IsServing}
+use Rattle.vs_report.{specs.HostLines.host_played, proofs.HostPrograms.{Opens, host_opens}}
 use Rattle.vs_ring_plain.specs.Device.{DeviceState as Side, areas_at, chains_held, with_change, with_memory}
 use Rattle.vs_script.specs.Hostile as hostile
 

@@ -1,13 +1,12 @@
 -- What a hostile guest's script prints, and the status that it ends with, as a function of its bytes.
 use Rattle.std.specs.Prelude.{ℕ, List, [], ◌∷◌, ◌++◌, length, map, codes, Option, Some, None, Result, Ok, Err}
 use Rattle.vs_device_parts.specs.State.{counters_of}
-use Rattle.vs_report.specs.{Answers.Answer, Answers.refusal, Bytes.data_text, DeviceLines.turn_text, DeviceLines.reset_text}
-use Rattle.vs_report.specs.{HostLines.ok_text, HostLines.client_text, Report.counts_text, Report.device_open_text, Report.stream_texts}
-use Rattle.vs_report.specs.declared.giving.GiveError.{GiveError}
+use Rattle.vs_report.specs.{Answers.{Answer, refusal}, Bytes.data_text, DeviceLines.{turn_text, reset_text}, HostLines.{ok_text, client_text}, Report.counts_text}
+use Rattle.vs_report.specs.{Report.{device_open_text, stream_texts}, declared.giving.GiveError.GiveError}
 use Rattle.vs_ring_port.specs.declared.failure.Failure.{Failure}
-use Rattle.vs_script.specs.{Hostile.Hostile, Script.Saying, Script.Attacks, Script.parse_of, declared.fault.Refused.Refused}
-use Rattle.vs_script.specs.declared.script.Command.TheVariants as command
+use Rattle.vs_script.specs.{Hostile.Hostile, Script.{Saying, Attacks, parse_of}, declared.fault.Refused.Refused}
 use Rattle.vs_hostile.specs.Run.{HostileState, Said, Done, Bytes, HasTurned, WasReset, StreamIs, HostPrints, beginning, hostile_does}
+use Rattle.vs_script.specs.declared.script.Command.TheVariants as command
 
 -- What a line prints.
 abbrev pub looked_text : List ℕ → List ℕ

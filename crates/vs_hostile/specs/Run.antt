@@ -3,17 +3,15 @@ use Rattle.std.specs.Prelude.{ℕ, ◌+◌, ◌&&◌, nat_le, min, if◌then◌e
 use Rattle.vs_limits.specs.declared.TheConstants.{FIRST_CID, GUEST_CID_MIN, GUEST_CID_MAX}
 use Rattle.vs_contents.specs.CallTree.{played}
 use Rattle.vs_layout.specs.declared.span.Span.{Span}
-use Rattle.vs_outside.specs.{Host.HostContents, HostProgram.after_client, HostProgram.new_host, HostProgram.plain}
+use Rattle.vs_outside.specs.{Host.HostContents, HostProgram.{after_client, new_host, plain}}
 use Rattle.vs_ring_port.specs.declared.failure.Failure.{Failure}
 use Rattle.vs_ring_plain.specs.Device.{DeviceState}
 use Rattle.vs_device_parts.specs.Calls.{DeviceTree}
-use Rattle.vs_proxy_parts.specs.{State.ProxyState, Turns.new_proxy, Turns.turn_of, Turns.proxy_reset_of, declared.answers.Turn.Turn}
-use Rattle.vs_proxy_parts.specs.Growing.{after_label_grow, label_at, label_grow_of}
+use Rattle.vs_proxy_parts.specs.{State.ProxyState, Turns.{new_proxy, turn_of, proxy_reset_of}, declared.answers.Turn.Turn, Growing.{after_label_grow, label_at, label_grow_of}}
 use Rattle.vs_report.specs.{DeviceLines.growth_text, HostLines.host_played}
-use Rattle.vs_script.specs.{Hostile.Hostile, Hostile.Look, Outside.Outside, Outside.Reset, Outside.Tick, Outside.Grow, Outside.Client, Outside.OfHost}
-use Rattle.vs_hostile.specs.{Answers.answer_around, Guest.guest_writes, Guest.looked, Rings.rings_of}
-use Rattle.vs_script.specs.Hostile.{Memory as SetMemory, Rings as SetRings, Around as OfOutside}
+use Rattle.vs_script.specs.{Hostile.{Hostile, Look, Memory as SetMemory, Rings as SetRings, Around as OfOutside}, Outside.{Outside, Reset, Tick, Grow, Client, OfHost}}
 use Rattle.vs_script.specs.Outside.{Turn as TakeTurn}
+use Rattle.vs_hostile.specs.{Answers.answer_around, Guest.{guest_writes, looked}, Rings.rings_of}
 
 -- The guest's memory as far as the script has set it up: nothing, where it lies, or the rings in it.
 pub data GuestState : Type 0 where

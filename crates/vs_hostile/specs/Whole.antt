@@ -4,9 +4,8 @@
 use Rattle.std.specs.Prelude.{ℕ, zero, suc, Bool, true, false, nat_le, if◌then◌else◌, List, [], ◌∷◌, Some, None}
 use Rattle.vs_guest_mem.specs.Memory.{Change}
 use Rattle.vs_layout.specs.declared.place.Areas.{Areas}
-use Rattle.vs_ring_port.specs.Contents.{RingContents, DeviceCall, DeviceAnswer, Read, Return}
-use Rattle.vs_ring_port.specs.declared.queue.Queue.{Queue, TheVariants.Rx, TheVariants.Tx, TheVariants.Event}
-use Rattle.vs_ring_plain.specs.{declared.piece.Piece.Piece, declared.turns.Turns.Turns, Device.{DeviceState, HeldChain, answer_to}}
+use Rattle.vs_ring_port.specs.{Contents.{RingContents, DeviceCall, DeviceAnswer, Read, Return}, declared.queue.Queue.{Queue, TheVariants.{Rx, Tx, Event}}}
+use Rattle.vs_ring_plain.specs.{declared.{piece.Piece.Piece, turns.Turns.Turns}, Device.{DeviceState, HeldChain, answer_to}}
 
 -- The parts as numbers.
 abbrev pub number_of_bool : Bool → ℕ

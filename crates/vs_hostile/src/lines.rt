@@ -5,9 +5,8 @@ ghost use Rattle.vs_ring_plain.specs.Device.{chains_held};
 ghost use Rattle.vs_device_parts.specs.{Playing.IsItsRing, State.DeviceState};
 ghost use Rattle.vs_report.specs.HostLines.{ok_text};
 ghost use Rattle.vs_script.specs.{Hostile.hostile_view, Outside.outside_view};
+ghost use Rattle.vs_hostile.specs.{Answer.{looked_text, said_text}, Guest.{guest_writes, looked}, Ready.{IsServing, with_rings}, Run.{outside_does, over_rings}};
 ghost use Rattle.vs_script.specs.Outside as outside;
-ghost use Rattle.vs_hostile.specs.{Answer.looked_text, Answer.said_text, Guest.guest_writes, Guest.looked, Ready.IsServing};
-ghost use Rattle.vs_hostile.specs.{Ready.with_rings, Run.outside_does, Run.over_rings};
 
 use crate::guest::write_line;
 use crate::turns::{reset_all, take_turn};

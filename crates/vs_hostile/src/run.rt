@@ -25,8 +25,7 @@ pub struct HostileRun {
 impl Model for HostileRun {
     ghost use Rattle.std.specs.Prelude.{drop, map};
     ghost use Rattle.vs_script.specs.Script.{numbered_hostile};
-    ghost use Rattle.vs_hostile.specs.Answer.{lines_of};
-    ghost use Rattle.vs_hostile.specs.Ready.{RunState};
+    ghost use Rattle.vs_hostile.specs.{Answer.lines_of, Ready.RunState};
 
     ghost Value = { RunState };
 

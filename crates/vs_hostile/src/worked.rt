@@ -1,9 +1,8 @@
 //! Worked runs: what the definitions compute for some scripts.
 
 ghost use Rattle.std.specs.Prelude.{◌≡◌, ◌++◌, codes};
-ghost use Rattle.vs_hostile.specs.{Answer.hostile_of, Rows.available_index_jumps, Rows.available_index_jumps_answer};
-ghost use Rattle.vs_hostile.specs.Rows.{address_out_of_memory, address_out_of_memory_answer, attack, failing, unknown_flow, length_changed};
-ghost use Rattle.vs_hostile.specs.Rows.{length_changed_answer, wrong_flows, wrong_flows_answer, pending_bytes, pending_bytes_answer};
+ghost use Rattle.vs_hostile.specs.{Answer.hostile_of, Rows.{available_index_jumps, available_index_jumps_answer, address_out_of_memory, address_out_of_memory_answer, attack}};
+ghost use Rattle.vs_hostile.specs.Rows.{failing, unknown_flow, length_changed, length_changed_answer, wrong_flows, wrong_flows_answer, pending_bytes, pending_bytes_answer};
 ghost use Rattle.vs_hostile.specs.Rows.{failure_stays, failure_stays_answer};
 
 /// Whole scripts, from their bytes to what they print: an available index that jumps, and an address outside the memory.

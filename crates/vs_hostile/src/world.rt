@@ -3,8 +3,7 @@
 ghost use Rattle.std.specs.Prelude.{◌≡◌, IfOk, OnOk, length, string_bytes};
 ghost use Rattle.vs_device_parts.specs.{State.counters_of, Turns.table_shown};
 ghost use Rattle.vs_script.specs.Hostile.{hostile_view};
-ghost use Rattle.vs_hostile.specs.{Ready.IsReady, Ready.Steps, Run.beginning, Run.first_set_up, Run.rings_in, Run.second_set_up};
-ghost use Rattle.vs_hostile.specs.{Rings.rings_of, World.guest_view};
+ghost use Rattle.vs_hostile.specs.{Ready.{IsReady, Steps}, Run.{beginning, first_set_up, rings_in, second_set_up}, Rings.rings_of, World.guest_view};
 
 use crate::lines::rings_line;
 use crate::rings::make_rings;
@@ -45,8 +44,7 @@ pub struct HostileWorld {
 }
 
 impl Model for HostileWorld {
-    ghost use Rattle.vs_hostile.specs.Run.{HostileState};
-    ghost use Rattle.vs_hostile.specs.World.{guest_view};
+    ghost use Rattle.vs_hostile.specs.{Run.HostileState, World.guest_view};
 
     ghost Value = { HostileState };
 

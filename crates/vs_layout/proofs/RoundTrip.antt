@@ -1,9 +1,8 @@
 -- 16 bytes come back from the descriptor that they hold.
-use Rattle.std.proofs.Common.{◌≡◌, ℕ, ◌+◌, ◌<◌, ◌≤◌, List, ◌++◌, length, take, drop, slice_index, refl, arith, length-drop, get_or-drop}
-use Rattle.std.proofs.{Common.◌∙◌, lemmas.List.{drop-drop, take-append-drop, take_all}}
+use Rattle.std.proofs.{Common.{◌≡◌, ℕ, ◌+◌, ◌<◌, ◌≤◌, List, ◌++◌, length, take, drop, slice_index, refl, arith, length-drop, get_or-drop, ◌∙◌}, lemmas.List.drop-drop}
+use Rattle.std.proofs.lemmas.List.{take-append-drop, take_all}
 use Rattle.byteorder.specs.Endian.{little_bytes}
-use Rattle.vs_header.specs.Packet.{field_at}
-use Rattle.vs_header.proofs.RoundTrip.{little_bytes-little_number}
+use Rattle.vs_header.{specs.Packet.field_at, proofs.RoundTrip.little_bytes-little_number}
 use Rattle.vs_layout.specs.Entry.{desc_bytes, desc_of}
 
 -- the n bytes from a place, and what stands after them

@@ -1,7 +1,6 @@
 -- The split ring's three areas, and what lies in them (Virtio 1.2, sections 2.7.5, 2.7.6 and 2.7.8).
-use Rattle.std.specs.{Prelude.◌≡◌, Prelude.ℕ, Prelude.◌+◌, Prelude.◌*◌, Prelude.◌%◌, Int.next_multiple_of}
-use Rattle.vs_layout.specs.{Span.IsApart, Span.LiesIn, declared.place.Areas.Areas, declared.placement.QueueAreas.QueueAreas}
-use Rattle.vs_layout.specs.declared.span.Span.{Span}
+use Rattle.std.specs.{Prelude.{◌≡◌, ℕ, ◌+◌, ◌*◌, ◌%◌}, Int.next_multiple_of}
+use Rattle.vs_layout.specs.{Span.{IsApart, LiesIn}, declared.{place.Areas.Areas, placement.QueueAreas.QueueAreas, span.Span.Span}}
 
 -- n descriptors of 16 bytes
 abbrev pub desc_area : Areas → ℕ → Span

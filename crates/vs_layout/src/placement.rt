@@ -1,7 +1,6 @@
 //! Where this project places queues: the areas of a queue one after another, and the three queues likewise.
-ghost use Rattle.std.specs.{Prelude.◌≡◌, Prelude.◌≤◌, Prelude.◌<◌, Prelude.◌+◌, Prelude.◌%◌, Prelude.◌^◌, Int.next_multiple_of};
-ghost use Rattle.vs_layout.specs.Layout.{areas_of, queue_areas_of, desc_area, avail_area, used_area, IsPlaced};
-ghost use Rattle.vs_layout.specs.Span.{span_end};
+ghost use Rattle.std.specs.{Prelude.{◌≡◌, ◌≤◌, ◌<◌, ◌+◌, ◌%◌, ◌^◌}, Int.next_multiple_of};
+ghost use Rattle.vs_layout.specs.{Layout.{areas_of, queue_areas_of, desc_area, avail_area, used_area, IsPlaced}, Span.span_end};
 
 use crate::place::Areas;
 

@@ -1,10 +1,9 @@
 -- The apps of a load, one after another.
-use Rattle.std.proofs.{Common.{◌≡◌, ℕ, ◌+◌, ◌*◌, ◌%◌, get_or, List, [], ◌∷◌, ◌++◌, map, sym, ap, ◌∙◌, arith}, lemmas.List.map-append}
-use Rattle.std.proofs.{lemmas.List.FromFn.map-range_with_len_more, lemmas.List.Elements.{All-cons, All-map, All-nil}}
-use Rattle.std.specs.List.{All, range_with_len}
+use Rattle.std.proofs.{Common.{◌≡◌, ℕ, ◌+◌, ◌*◌, ◌%◌, get_or, List, [], ◌∷◌, ◌++◌, map, sym, ap, ◌∙◌, arith}, lemmas.List.{map-append, FromFn.map-range_with_len_more}}
+use Rattle.std.{proofs.lemmas.List.Elements.{All-cons, All-map, All-nil}, specs.List.{All, range_with_len}}
 use Rattle.vs_script.specs.{App.{Act, Close, Connect, Exchange, app_view}, Data.Fill, declared.app.App.App}
 use Rattle.vs_apps_parts.specs.Scripts.{AreRight, IsRight, script_of}
-use Rattle.vs_run_report.specs.{Load.load_app, Load.load_script, declared.load.TheConstants.LOAD_PORT}
+use Rattle.vs_run_report.specs.{Load.{load_app, load_script}, declared.load.TheConstants.LOAD_PORT}
 
 pub apps_next : (number bytes c : ℕ) (old new : List App) (app : App) → script_of old ≡ map (load_app number bytes) (range_with_len 0 c)
     → app_view app ≡ load_app number bytes c → new ≡ old ++ app ∷ []

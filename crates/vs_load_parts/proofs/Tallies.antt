@@ -1,8 +1,6 @@
 -- How the counts of a load add up, and how matches do.
-use Rattle.std.proofs.Common.{◌≡◌, ◌≤◌, ◌<◌, ℕ, ◌+◌, ◌==◌, min, if◌then◌else◌, List, [], ◌∷◌, ◌++◌, length, drop, get_or, refl, sym, ap}
-use Rattle.std.proofs.{Common.{◌∙◌, arith}, lemmas.List.{drop_more, flat_map_more, length-drop}, lemmas.List.Sums.fold-append}
-use Rattle.std.proofs.lemmas.Bool.Decides.{nat_tests}
-use Rattle.std.specs.List.{flat_map, fold}
+use Rattle.std.proofs.{Common.{◌≡◌, ◌≤◌, ◌<◌, ℕ, ◌+◌, ◌==◌, min, if◌then◌else◌, List, [], ◌∷◌, ◌++◌, length, drop, get_or, refl, sym, ap, ◌∙◌, arith}, lemmas.List.drop_more}
+use Rattle.std.{proofs.lemmas.{List.{flat_map_more, length-drop, Sums.fold-append}, Bool.Decides.nat_tests}, specs.List.{flat_map, fold}}
 use Rattle.vs_run_report.specs.Load.{matches}
 
 -- One place more, and no place more.

@@ -1,14 +1,13 @@
 -- The line that a load prints, by the journal of its run.
 use Rattle.std.specs.{Prelude.{ℕ, ◌+◌, ◌==◌, if◌then◌else◌, min, List, [], length}, List.fold}
 use Rattle.laws_driver.specs.Carried.Calls.{Journal, received_by}
-use Rattle.vs_apps_parts.specs.{Journals.calls_of, Journals.data_at, Journals.sent_as, Scripts.RunScript, Scripts.acts_of, Scripts.slice_of}
-use Rattle.vs_apps_parts.specs.declared.journal.{Called.Called, Entry.Entry}
-use Rattle.vs_apps_parts.specs.declared.journal.Called.TheVariants as called
-use Rattle.vs_apps_parts.specs.declared.journal.Deed.TheVariants as deed
+use Rattle.vs_apps_parts.specs.{Journals.{calls_of, data_at, sent_as}, Scripts.{RunScript, acts_of, slice_of}, declared.journal.{Called.Called, Entry.Entry}}
 use Rattle.vs_driver_parts.specs.declared.answers.Sent.{Sent}
-use Rattle.vs_driver_parts.specs.declared.answers.Sent.TheVariants as sent
 use Rattle.vs_run_report.specs.{Connections.{capped, opened_all}, Load.{load_text, matches}, declared.connection.Opened.Opened}
 use Rattle.vs_load_parts.specs.declared.tally.Tally.{Tally}
+use Rattle.vs_apps_parts.specs.declared.journal.Called.TheVariants as called
+use Rattle.vs_apps_parts.specs.declared.journal.Deed.TheVariants as deed
+use Rattle.vs_driver_parts.specs.declared.answers.Sent.TheVariants as sent
 
 -- Nothing is counted yet; and what one connection adds: the bytes that were sent on it, and the places where the byte that came back is the one
 -- that was sent. Each count stands still at the last number of 64 bits.

@@ -2,8 +2,7 @@
 
 ghost use Rattle.std.specs.Prelude.{◌≡◌, ◌++◌, OnOk};
 ghost use Rattle.vs_script.specs.App.{instruction_view};
-ghost use Rattle.vs_apps_parts.specs.{Journals.calls_of, Journals.data_at, Journals.data_in, Journals.sent_as, Scripts.acts_of};
-ghost use Rattle.vs_apps_parts.specs.{Scripts.script_of, Scripts.slice_of};
+ghost use Rattle.vs_apps_parts.specs.{Journals.{calls_of, data_at, data_in, sent_as}, Scripts.{acts_of, script_of, slice_of}};
 ghost use Rattle.vs_load_parts.specs.Line.{piece_by, piece_in, took_count};
 
 use std::alloc::AllocError;

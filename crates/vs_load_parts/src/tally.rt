@@ -1,9 +1,8 @@
 //! How many bytes the apps of a load sent, and how many came back.
 
-ghost use Rattle.std.specs.Prelude.{◌≡◌, ◌+◌, ◌==◌, if◌then◌else◌, IfOk, string_bytes};
-ghost use Rattle.std.specs.List.{fold};
+ghost use Rattle.std.specs.{Prelude.{◌≡◌, ◌+◌, ◌==◌, if◌then◌else◌, IfOk, string_bytes}, List.fold};
 ghost use Rattle.vs_apps_parts.specs.{Journals.calls_of, Scripts.script_of};
-ghost use Rattle.vs_run_report.specs.{Connections.listed, Connections.opened_of, Load.matches};
+ghost use Rattle.vs_run_report.specs.{Connections.{listed, opened_of}, Load.matches};
 ghost use Rattle.vs_load_parts.specs.Line.{adds, load_line, tally_of};
 
 use crate::pieces::sent_on;

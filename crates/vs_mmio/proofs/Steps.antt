@@ -1,9 +1,8 @@
 -- What each call does: it keeps registers in order, their limits, a queue that stays ready, and the features while FEATURES_OK stands.
-use Rattle.std.proofs.Common.{rules, arith, refl, ◌≡◌, ◌∙◌, ℕ, ◌==◌, Bool, true, false, cond, Option, Some, List, [], ◌∷◌}
-use Rattle.std.specs.{List.AllByRecursion, Map.lookup, Option.unwrap_or}
-use Rattle.vs_mmio.specs.{Queue.queue_after, Queue.written, Registers.IsInOrder, Registers.IsReadyRightly, declared.queue.Limits.Limits}
-use Rattle.vs_mmio.specs.Registers.{Call, Failed, Read, SetCid, Used, Write, after, after_write, at_selected, led_to, writes}
-use Rattle.vs_mmio.specs.declared.{queue.QueueRegs.QueueRegs, queue.ReadyQueue.ReadyQueue, regs.RegisterState.RegisterState}
+use Rattle.std.{proofs.Common.{rules, arith, refl, ◌≡◌, ◌∙◌, ℕ, ◌==◌, Bool, true, false, cond, Option, Some, List, [], ◌∷◌}, specs.{List.AllByRecursion, Map.lookup}}
+use Rattle.std.specs.Option.{unwrap_or}
+use Rattle.vs_mmio.specs.{Queue.{queue_after, written}, Registers.{IsInOrder, IsReadyRightly, Call, Failed, Read, SetCid, Used, Write, after, after_write, at_selected, led_to}}
+use Rattle.vs_mmio.specs.{Registers.writes, declared.{queue.{Limits.Limits, QueueRegs.QueueRegs, ReadyQueue.ReadyQueue}, regs.RegisterState.RegisterState}}
 
 pub record IsStep (r s : RegisterState) : Type 0 where
   pub order : IsInOrder r → IsInOrder s

@@ -1,15 +1,12 @@
 -- The registers of the socket device as a plain machine (Virtio 1.2, sections 2.1, 2.2, 4.2.2 and 5.10.4): what each call of the
 -- device's monitor answers, and what it leaves.
-use Rattle.std.specs.Prelude.{◌≡◌, ℕ, ◌+◌, ◌-◌, ◌*◌, ◌/◌, ◌%◌, ◌^◌, ◌==◌, ◌&&◌, ◌||◌, not, nat_le, nat_lt, Bool, true, false, IsTrue, List}
-use Rattle.std.specs.{Prelude.{[], ◌∷◌, Option, None, Some, bit_and, bit_or, if◌then◌else◌}, Map.lookup, Option.unwrap_or}
-use Rattle.vs_mmio.specs.Queue.{may_be_ready, queue_after, with_half}
-use Rattle.vs_mmio.specs.declared.{queue.Limits.Limits, queue.QueueRegs.QueueRegs, queue.ReadyQueue.ReadyQueue, queue.Virtqueue.Virtqueue}
-use Rattle.vs_mmio.specs.declared.{regs.RegisterState.RegisterState, regs.Wrote.Wrote, status.Status.Status, queue.Virtqueue.TheVariants.Rx}
-use Rattle.vs_mmio.specs.declared.{queue.Virtqueue.TheVariants.Tx, queue.Virtqueue.TheVariants.Event, queue.TheConstants.READY_AT}
-use Rattle.vs_mmio.specs.declared.{regs.Wrote.TheVariants.Done, regs.Wrote.TheVariants.Renew}
-use Rattle.vs_mmio.specs.declared.regs.TheConstants.{CONFIG_AT, CONFIG_LEN, DEVICE_ID, MAGIC, QUEUES, STATUS_AT, VENDOR_ID, VERSION}
-use Rattle.vs_mmio.specs.declared.status.TheConstants.{ACKNOWLEDGE, DRIVER, DRIVER_OK, FEATURES_OK, DEVICE_NEEDS_RESET, FAILED}
-use Rattle.vs_mmio.specs.declared.status.TheConstants.{CONFIGURATION_CHANGE, OFFERED, USED_BUFFER, VERSION_1}
+use Rattle.std.specs.Prelude.{◌≡◌, ℕ, ◌+◌, ◌-◌, ◌*◌, ◌/◌, ◌%◌, ◌^◌, ◌==◌, ◌&&◌, ◌||◌, not, nat_le, nat_lt, Bool, true, false, IsTrue, List, [], ◌∷◌, Option, None, Some, bit_and}
+use Rattle.std.specs.{Prelude.{bit_or, if◌then◌else◌}, Map.lookup, Option.unwrap_or}
+use Rattle.vs_mmio.specs.{Queue.{may_be_ready, queue_after, with_half}, declared.queue.{Limits.Limits, QueueRegs.QueueRegs, ReadyQueue.ReadyQueue, Virtqueue.Virtqueue}}
+use Rattle.vs_mmio.specs.declared.{queue.{Virtqueue.TheVariants.{Rx, Tx, Event}, TheConstants.READY_AT}, regs.{RegisterState.RegisterState, Wrote.{Wrote, TheVariants.Done}}}
+use Rattle.vs_mmio.specs.declared.regs.{Wrote.TheVariants.Renew, TheConstants.{CONFIG_AT, CONFIG_LEN, DEVICE_ID, MAGIC, QUEUES, STATUS_AT, VENDOR_ID, VERSION}}
+use Rattle.vs_mmio.specs.declared.status.{Status.Status, TheConstants.{ACKNOWLEDGE, DRIVER, DRIVER_OK, FEATURES_OK, DEVICE_NEEDS_RESET, FAILED, CONFIGURATION_CHANGE, OFFERED}}
+use Rattle.vs_mmio.specs.declared.status.TheConstants.{USED_BUFFER, VERSION_1}
 
 abbrev pub has : ℕ → ℕ → Bool
 has value bit = not (bit_and value bit == 0)

@@ -1,12 +1,9 @@
 //! Laws of the registers, over every list of calls: accesses of the driver, and what the device's monitor tells.
 #![tactic(auto, using(crate::proofs::Steps::in_order, crate::proofs::Steps::limits_stay, crate::proofs::Steps::step))]
 
-ghost use Rattle.std.specs.{Prelude.◌≡◌, Prelude.ℕ, Prelude.◌==◌, Prelude.true, Prelude.false, Prelude.IfSome, Prelude.IsTrue};
-ghost use Rattle.std.specs.{Prelude.List, Prelude.None, List.AllByRecursion};
-ghost use Rattle.vs_mmio.specs.Registers.{Call, Write, after, after_write, are_accepted, fresh, led_to, may_run_of, queue_in, read_of};
-ghost use Rattle.vs_mmio.specs.{Queue.may_be_ready, Registers.read_only, Registers.shown, Registers.writable, Registers.write_only};
-ghost use Rattle.vs_mmio.specs.declared.{queue.Limits.Limits, queue.Virtqueue.Virtqueue, regs.RegisterState.RegisterState};
-ghost use Rattle.vs_mmio.specs.declared.regs.TheConstants.{STATUS_AT};
+ghost use Rattle.std.specs.{Prelude.{◌≡◌, ℕ, ◌==◌, true, false, IfSome, IsTrue, List, None}, List.AllByRecursion};
+ghost use Rattle.vs_mmio.specs.Registers.{Call, Write, after, after_write, are_accepted, fresh, led_to, may_run_of, queue_in, read_of, read_only, shown, writable, write_only};
+ghost use Rattle.vs_mmio.specs.{Queue.may_be_ready, declared.{queue.{Limits.Limits, Virtqueue.Virtqueue}, regs.{RegisterState.RegisterState, TheConstants.STATUS_AT}}};
 
 /// The standard's columns R and W. What the driver only writes reads 0, and what it only reads stays when it is written, as does
 /// everything at an offset that isn't to be written. 0 in the status makes the registers as at first.

@@ -1,7 +1,6 @@
 //! The registers, and the calls of a device's monitor on them.
-ghost use Rattle.std.specs.{Prelude.◌≡◌, Prelude.◌<◌, Prelude.◌≤◌, Prelude.true, Prelude.IfSome, Prelude.IsTrue, Int.is_power_of_two};
-ghost use Rattle.vs_mmio.specs.Registers.{Failed, IsInOrder, SetCid, Used, Write, after, after_write, features_of};
-ghost use Rattle.vs_mmio.specs.Registers.{fresh, may_run_of, queue_at, queue_in, read_of, shown, wrote_of};
+ghost use Rattle.std.specs.{Prelude.{◌≡◌, ◌<◌, ◌≤◌, true, IfSome, IsTrue}, Int.is_power_of_two};
+ghost use Rattle.vs_mmio.specs.Registers.{Failed, IsInOrder, SetCid, Used, Write, after, after_write, features_of, fresh, may_run_of, queue_at, queue_in, read_of, shown, wrote_of};
 ghost use Rattle.vs_mmio.specs.{Queue.is_placed, declared.regs.Wrote.TheVariants.Renew};
 
 use crate::queue::{Limits, QueueRegs, READY_AT, ReadyQueue, Virtqueue, with_half};

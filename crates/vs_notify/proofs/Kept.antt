@@ -1,8 +1,7 @@
 -- What every access keeps.
 use Rattle.std.proofs.Common.{◌≡◌, ℕ, ◌+◌, ◌^◌, ◌<◌, ◌≤◌, ◌⊎◌, true, false, List, [], ◌∷◌, arith}
-use Rattle.vs_notify.specs.{Words.{needs_kick, asks_for_next, may_rest}, Machine.{Free, Index, Event, Publish, LoadWord, Take, StoreWord}}
-use Rattle.vs_notify.specs.Machine.{Look, Wake, happens, run, start, owes, rests, word_of, may_publish, LosesNone}
-use Rattle.vs_notify.specs.{declared.Suppression.Suppression, declared.Suppression.TheVariants.{Flags, EventIndex}}
+use Rattle.vs_notify.specs.{Words.{needs_kick, asks_for_next, may_rest}, Machine.{Free, Index, Event, Publish, LoadWord, Take, StoreWord, Look, Wake, happens, run, start, owes}}
+use Rattle.vs_notify.specs.{Machine.{rests, word_of, may_publish, LosesNone}, declared.Suppression.{Suppression, TheVariants.{Flags, EventIndex}}}
 
 -- The counts lie as close together as their words tell.
 pub record AreNear (size : ℕ) (i : Index) : Type 0 where

@@ -1,10 +1,8 @@
 -- One index of a split virtqueue: the publisher that stores it, the consumer that loads it, and the consumer's word, its event index or its
 -- flags, which the publisher loads. Each event is one access to the memory that both share. The accesses of the two ends come in any order,
 -- but in one order for both: they are sequentially consistent.
-use Rattle.std.specs.Prelude.{◌≡◌, ℕ, ◌+◌, ◌%◌, ◌^◌, ◌<◌, ◌==◌, ◌⊎◌, nat_lt, nat_le, Bool, true, false, not, ◌&&◌, ◌||◌, if◌then◌else◌}
-use Rattle.std.specs.Prelude.{List, [], ◌∷◌}
-use Rattle.vs_notify.specs.declared.{Consumer.Consumer, Suppression.Suppression, Consumer.TheVariants.Working, Consumer.TheVariants.Asked}
-use Rattle.vs_notify.specs.{declared.Consumer.TheVariants.Resting, Words.needs_kick, Words.asks_for_next, Words.may_rest}
+use Rattle.std.specs.Prelude.{◌≡◌, ℕ, ◌+◌, ◌%◌, ◌^◌, ◌<◌, ◌==◌, ◌⊎◌, nat_lt, nat_le, Bool, true, false, not, ◌&&◌, ◌||◌, if◌then◌else◌, List, [], ◌∷◌}
+use Rattle.vs_notify.specs.{declared.{Consumer.{Consumer, TheVariants.{Working, Asked, Resting}}, Suppression.Suppression}, Words.{needs_kick, asks_for_next, may_rest}}
 
 -- Where the publisher stands: it owes nothing, or is between its store of the index and its load of the consumer's word.
 pub data Publisher : Type 0 where

@@ -1,11 +1,9 @@
 //! No wake-up is lost: laws of one index, over every list of accesses of its publisher and its consumer.
 
 ghost use Rattle.std.specs.Prelude.{◌≡◌, ℕ, ◌+◌, ◌^◌, ◌<◌, ◌≤◌, true, false, List, [], ◌∷◌};
-ghost use Rattle.vs_notify.specs.Machine.{Event, LoadWord, Look, Publish, StoreWord, Take, Wake, Free, Index, LosesNone, Owing};
-ghost use Rattle.vs_notify.specs.{Machine.may_publish, Machine.run, Machine.run_unlooked, Machine.start, Words.vring_need_event};
-ghost use Rattle.vs_notify.specs.declared.Consumer.TheVariants.{Resting, Working};
-ghost use Rattle.vs_notify.specs.declared.{Suppression.Suppression, TheConstants.VIRTQ_USED_F_NO_NOTIFY};
-ghost use Rattle.vs_notify.specs.declared.Suppression.TheVariants.{EventIndex, Flags};
+ghost use Rattle.vs_notify.specs.Machine.{Event, LoadWord, Look, Publish, StoreWord, Take, Wake, Free, Index, LosesNone, Owing, may_publish, run, run_unlooked, start};
+ghost use Rattle.vs_notify.specs.{Words.vring_need_event, declared.{Consumer.TheVariants.{Resting, Working}, Suppression.{Suppression, TheVariants.{EventIndex, Flags}}}};
+ghost use Rattle.vs_notify.specs.declared.TheConstants.{VIRTQ_USED_F_NO_NOTIFY};
 
 /// After any list of accesses, in any order, no wake-up is lost: where the consumer rests, and something is published that it hasn't taken,
 /// the publisher still has to load the word, or found since the consumer's look that a kick is needed. A ring has at most 32,768 entries;

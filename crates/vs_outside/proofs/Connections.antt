@@ -1,7 +1,6 @@
 -- The connections that streams are: each has one stream.
-use Rattle.std.proofs.{lemmas.Bool.Decides.nat_tests, lemmas.List.Quantifiers.position-Some, lemmas.Option.slice_get-get_or}
-use Rattle.std.proofs.Common.{◌≡◌, ℕ, ◌+◌, ◌-◌, List, get_or, Option, Some, None, refl, sym, ap, subst, ◌∙◌, arith}
-use Rattle.std.specs.{Prelude.option_and_then, Prelude.position, Prelude.slice_get, Prelude.◌==◌, Option.option_map}
+use Rattle.std.proofs.{lemmas.{Bool.Decides.nat_tests, List.Quantifiers.position-Some, Option.slice_get-get_or}, Common.{◌≡◌, ℕ, ◌+◌, ◌-◌, List, get_or, Option, Some, None, refl}}
+use Rattle.std.{proofs.Common.{sym, ap, subst, ◌∙◌, arith}, specs.{Prelude.{option_and_then, position, slice_get, ◌==◌}, Option.option_map}}
 use Rattle.vs_flow.specs.{Connection.Connection, declared.flow.Flow.Flow}
 use Rattle.vs_outside.specs.{Host.{HostContents, Stream, stream_at}, HostBytes.{connection_at, labelled_with, numbered_in, stream_of}}
 

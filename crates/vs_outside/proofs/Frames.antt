@@ -1,15 +1,12 @@
 -- What a call of the proxy does to the streams: its own stream is changed as the call says, and the others stay.
-use Rattle.std.proofs.lemmas.{Bool.Decides.nat_tests, Option.slice_get_past, List.Quantifiers.position-Some}
-use Rattle.std.proofs.Common.{◌≡◌, ◌≢◌, ℕ, zero, suc, ◌+◌, ◌-◌, ◌≤◌, Bool, true, false, cond, eqb, List, [], ◌∷◌, ◌++◌, length, get_or, set}
-use Rattle.std.proofs.Common.{Option, None, Some, refl, ap, ◌∙◌, arith}
-use Rattle.std.specs.{Prelude.slice_get, Prelude.IsSomeAnd, Prelude.position, Option.option_map, Option.option_map_or}
+use Rattle.std.proofs.{lemmas.{Bool.Decides.nat_tests, Option.slice_get_past, List.Quantifiers.position-Some}, Common.{◌≡◌, ◌≢◌, ℕ, zero, suc, ◌+◌, ◌-◌, ◌≤◌, Bool, true, false}}
+use Rattle.std.{proofs.Common.{cond, eqb, List, [], ◌∷◌, ◌++◌, length, get_or, set, Option, None, Some, refl, ap, ◌∙◌, arith}, specs.Prelude.{slice_get, IsSomeAnd, position}}
+use Rattle.std.specs.Option.{option_map, option_map_or}
 use Rattle.vs_flow.specs.declared.flow.Flow.{Flow}
-use Rattle.vs_outside.specs.{HostProgram.client_stream, declared.host_net.StreamState.StreamState, declared.host_net.Dialed.Dialed}
-use Rattle.vs_outside.specs.{declared.host_net.StreamRead.StreamRead, declared.host_net.StreamWrite.StreamWrite, Host.Stream}
-use Rattle.vs_outside.specs.Host.{HostContents, stream_at, with_stream, IsOpen, KeepsOthers, called, fails_now, after_failed, is_waiting}
-use Rattle.vs_outside.specs.Host.{waits, take_bytes, give_bytes, accept_answer, after_accept, dialed_stream, after_dial, with_label_call}
-use Rattle.vs_outside.specs.Host.{after_label, after_read, after_write, with_shut_write_call, after_shut_write, after_close}
-use Rattle.vs_outside.proofs.Streams.{stream_there}
+use Rattle.vs_outside.specs.{HostProgram.client_stream, declared.host_net.{StreamState.StreamState, Dialed.Dialed, StreamRead.StreamRead, StreamWrite.StreamWrite}, Host.Stream}
+use Rattle.vs_outside.specs.Host.{HostContents, stream_at, with_stream, IsOpen, KeepsOthers, called, fails_now, after_failed, is_waiting, waits, take_bytes, give_bytes}
+use Rattle.vs_outside.specs.Host.{accept_answer, after_accept, dialed_stream, after_dial, with_label_call, after_label, after_read, after_write, with_shut_write_call}
+use Rattle.vs_outside.{specs.Host.{after_shut_write, after_close}, proofs.Streams.stream_there}
 use Rattle.vs_outside.specs.declared.host_net.StreamState.TheVariants as state
 use Rattle.vs_outside.specs.declared.host_net.Accepted.TheVariants as accepted
 use Rattle.vs_outside.specs.declared.host_net.Dialed.TheVariants as dialed

@@ -1,13 +1,10 @@
 -- The streams of a host, by id: where they stand, and what a call does to one of them and to the others.
-use Rattle.std.proofs.Common.{◌≡◌, ℕ, zero, suc, ◌+◌, ◌-◌, ◌<◌, Bool, true, false, cond, eqb, List, [], ◌∷◌, ◌++◌, length, min, get_or, set}
-use Rattle.std.proofs.{Common.{Option, None, Some, refl, sym, ap, ◌∙◌, arith}, lemmas.List.Sums.sum_by-set, lemmas.Option.slice_get-get_or}
-use Rattle.std.proofs.{lemmas.Option.{slice_get_within, get_or_from_slice_get}, lemmas.Bool.Decides.nat_tests}
-use Rattle.std.specs.{Prelude.slice_get, Prelude.IsSomeAnd, Option.is_none, Option.is_some}
-use Rattle.vs_outside.specs.{declared.host_net.StreamRead.StreamRead, declared.host_net.StreamWrite.StreamWrite, Host.Stream}
-use Rattle.vs_outside.specs.Host.{HostContents, stream_at, IsOpen, called, fails_now, ReadsFrom, IsRead, read_of, read_failed, after_read}
-use Rattle.vs_outside.specs.Host.{taken_of, write_of, write_answer, write_failed, IsWritten, after_write, after_label}
-use Rattle.vs_outside.specs.{Faults.CountsFault, Faults.one_more, HostProgram.changed, HostProgram.unlabelled, HostProgram.ReadsStream}
-use Rattle.vs_outside.specs.{HostProgram.stream_after_write, declared.mem_stream.StreamChange.StreamChange}
+use Rattle.std.proofs.Common.{◌≡◌, ℕ, zero, suc, ◌+◌, ◌-◌, ◌<◌, Bool, true, false, cond, eqb, List, [], ◌∷◌, ◌++◌, length, min, get_or, set, Option, None, Some, refl, sym, ap, ◌∙◌}
+use Rattle.std.proofs.{Common.arith, lemmas.{List.Sums.sum_by-set, Option.{slice_get-get_or, slice_get_within, get_or_from_slice_get}, Bool.Decides.nat_tests}}
+use Rattle.std.specs.{Prelude.{slice_get, IsSomeAnd}, Option.{is_none, is_some}}
+use Rattle.vs_outside.specs.{declared.{host_net.{StreamRead.StreamRead, StreamWrite.StreamWrite}, mem_stream.StreamChange.StreamChange}, Host.{Stream, HostContents, stream_at}}
+use Rattle.vs_outside.specs.Host.{IsOpen, called, fails_now, ReadsFrom, IsRead, read_of, read_failed, after_read, taken_of, write_of, write_answer, write_failed, IsWritten}
+use Rattle.vs_outside.specs.{Host.{after_write, after_label}, Faults.{CountsFault, one_more}, HostProgram.{changed, unlabelled, ReadsStream, stream_after_write}}
 use Rattle.vs_flow.specs.declared.flow.Flow.{Flow}
 use Rattle.vs_outside.specs.declared.host_net.StreamState.TheVariants as state
 use Rattle.vs_outside.specs.declared.host_net.StreamRead.TheVariants as read

@@ -1,12 +1,10 @@
 -- A host and its streams, as far as it exposes them to contracts: what each call of the proxy is answered by, and what it changes.
 -- (The mapping of sockets is that of Firecracker's vsock documentation.)
-use Rattle.std.specs.{List.list_any, Option.is_some, Option.option_map, Option.option_map_or, Str.bytes_eq}
-use Rattle.std.specs.Prelude.{◌≡◌, ◌≢◌, ℕ, ◌+◌, ◌-◌, min, ◌==◌, Bool, true, false, if◌then◌else◌, List, [], ◌∷◌, ◌++◌, length, take, drop}
-use Rattle.std.specs.Prelude.{position, slice_get, slice_set, Option, None, Some, IsSomeAnd}
+use Rattle.std.specs.{List.list_any, Option.{is_some, option_map, option_map_or}, Str.bytes_eq, Prelude.{◌≡◌, ◌≢◌, ℕ, ◌+◌, ◌-◌, min, ◌==◌, Bool, true, false, if◌then◌else◌, List}}
+use Rattle.std.specs.Prelude.{[], ◌∷◌, ◌++◌, length, take, drop, position, slice_get, slice_set, Option, None, Some, IsSomeAnd}
 use Rattle.vs_flow.specs.declared.flow.Flow.{Flow}
-use Rattle.vs_outside.specs.{Faults.fails_next, Faults.counted_down, Faults.one_more, InOut.MovesSome}
-use Rattle.vs_outside.specs.declared.host_net.{StreamState.StreamState, Started.Started, Accepted.Accepted, Dialed.Dialed}
-use Rattle.vs_outside.specs.declared.host_net.{StreamRead.StreamRead, StreamWrite.StreamWrite}
+use Rattle.vs_outside.specs.{Faults.{fails_next, counted_down, one_more}, InOut.MovesSome, declared.host_net.{StreamState.StreamState, Started.Started, Accepted.Accepted}}
+use Rattle.vs_outside.specs.declared.host_net.{Dialed.Dialed, StreamRead.StreamRead, StreamWrite.StreamWrite}
 use Rattle.vs_outside.specs.declared.host_net.StreamState.TheVariants as state
 use Rattle.vs_outside.specs.declared.host_net.Started.TheVariants as started
 use Rattle.vs_outside.specs.declared.host_net.Accepted.TheVariants as accepted

@@ -1,10 +1,9 @@
 -- What the programs of a host in memory do: listeners, clients, and the other ends of the streams.
-use Rattle.std.specs.Prelude.{◌≡◌, ℕ, ◌+◌, min, Bool, true, false, not, ◌||◌, if◌then◌else◌, List, [], ◌∷◌, ◌++◌, filter, None, Some}
-use Rattle.std.specs.{Prelude.{is_some, is_none, unwrap_or, count_by, take, codes, decimal, bytes_eq}, Option.option_map_or}
-use Rattle.vs_outside.specs.{Faults.one_more, declared.host_net.StreamRead.StreamRead, declared.host_net.StreamWrite.StreamWrite}
-use Rattle.vs_outside.specs.{declared.host_net.StreamState.StreamState, declared.mem_stream.HostWritten.HostWritten}
-use Rattle.vs_outside.specs.Host.{Stream, Prepared, HostContents, called, stream_at, with_stream, take_bytes, give_bytes, dialed_stream}
-use Rattle.vs_outside.specs.declared.mem_stream.StreamChange.{StreamChange}
+use Rattle.std.specs.Prelude.{◌≡◌, ℕ, ◌+◌, min, Bool, true, false, not, ◌||◌, if◌then◌else◌, List, [], ◌∷◌, ◌++◌, filter, None, Some, is_some, is_none, unwrap_or, count_by, take}
+use Rattle.std.specs.{Prelude.{codes, decimal, bytes_eq}, Option.option_map_or}
+use Rattle.vs_outside.specs.{Faults.one_more, declared.{host_net.{StreamRead.StreamRead, StreamWrite.StreamWrite, StreamState.StreamState}, mem_stream.HostWritten.HostWritten}}
+use Rattle.vs_outside.specs.{declared.mem_stream.StreamChange.StreamChange, Host.{Stream, Prepared, HostContents, called, stream_at, with_stream, take_bytes, give_bytes}}
+use Rattle.vs_outside.specs.Host.{dialed_stream}
 use Rattle.vs_flow.specs.declared.flow.Flow.{Flow}
 use Rattle.vs_header.specs.declared.Kind.{Kind}
 use Rattle.vs_header.specs.declared.Kind.TheVariants as kind

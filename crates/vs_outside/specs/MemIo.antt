@@ -1,7 +1,6 @@
 -- A source and a sink in memory.
 use Rattle.std.specs.Prelude.{◌≡◌, ℕ, ◌==◌, min, if◌then◌else◌, List, [], length}
-use Rattle.vs_outside.specs.{Faults.one_more, Faults.fails_next, Faults.counted_down, InOut.left_after, InOut.written_after}
-use Rattle.vs_outside.specs.declared.in_out.{SourceRead.SourceRead, SinkWrite.SinkWrite}
+use Rattle.vs_outside.specs.{Faults.{one_more, fails_next, counted_down}, InOut.{left_after, written_after}, declared.in_out.{SourceRead.SourceRead, SinkWrite.SinkWrite}}
 use Rattle.vs_outside.specs.declared.in_out.SourceRead.TheVariants as source_read
 use Rattle.vs_outside.specs.declared.in_out.SinkWrite.TheVariants as sink_write
 

@@ -1,10 +1,9 @@
 //! A host's streams, as the proxy uses them (Firecracker's vsock documentation).
-ghost use Rattle.std.specs.{Prelude.◌≡◌, Prelude.ℕ, Prelude.Option, Prelude.length, Bool.⊤, Option.ForSome};
+ghost use Rattle.std.specs.{Prelude.{◌≡◌, ℕ, Option, length}, Bool.⊤, Option.ForSome};
 ghost use Rattle.vs_contents.specs.Contents.{Exposes};
-ghost use Rattle.vs_outside.specs.Faults.{CountsFault};
-ghost use Rattle.vs_outside.specs.Host.{HostContents, IsOpen, start_failed, start_answer, after_start, accept_failed, accept_answer};
-ghost use Rattle.vs_outside.specs.Host.{after_accept, dial_failed, IsDialed, after_dial, after_label, read_failed, ReadsSome, IsRead};
-ghost use Rattle.vs_outside.specs.Host.{after_read, write_failed, TakesSome, IsWritten, after_write, after_shut_write, after_close};
+ghost use Rattle.vs_outside.specs.{Faults.CountsFault, Host.{HostContents, IsOpen, start_failed, start_answer, after_start, accept_failed, accept_answer, after_accept}};
+ghost use Rattle.vs_outside.specs.Host.{dial_failed, IsDialed, after_dial, after_label, read_failed, ReadsSome, IsRead, after_read, write_failed, TakesSome, IsWritten};
+ghost use Rattle.vs_outside.specs.Host.{after_write, after_shut_write, after_close};
 
 use vs_flow::Flow;
 

@@ -1,8 +1,7 @@
 //! Where bytes are read from and written to, the clock, and the gate.
-ghost use Rattle.std.specs.{Prelude.◌≡◌, Prelude.◌≤◌, Prelude.ℕ, Prelude.Option, Prelude.List, Prelude.length, Bool.⊤};
+ghost use Rattle.std.specs.{Prelude.{◌≡◌, ◌≤◌, ℕ, Option, List, length}, Bool.⊤};
 ghost use Rattle.vs_contents.specs.Contents.{Exposes};
-ghost use Rattle.vs_outside.specs.Faults.{CountsFault, one_more};
-ghost use Rattle.vs_outside.specs.InOut.{read_failed, ReadsSome, ReadsNext, left_after, write_failed, TakesSome, written_after};
+ghost use Rattle.vs_outside.specs.{Faults.{CountsFault, one_more}, InOut.{read_failed, ReadsSome, ReadsNext, left_after, write_failed, TakesSome, written_after}};
 
 /// What a read of a source is answered by.
 #[derive(Clone, Copy, Debug, PartialEq, Eq)]

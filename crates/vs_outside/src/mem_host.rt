@@ -1,12 +1,10 @@
 //! A host in memory, whose programs are played by calls of its own.
-ghost use Rattle.std.specs.Prelude.{◌≡◌, ◌<◌, ◌+◌, ◌∷◌, [], not, length, filter, bytes_eq, string_bytes, MatchOption, None, Some, IsTrue};
-ghost use Rattle.std.specs.{Prelude.◌↔◌, Prelude.position, Prelude.IfSome, Prelude.IfOk, Prelude.OnOk, Prelude.OnErr, List.list_any};
-ghost use Rattle.vs_outside.specs.Faults.{CountsFault, one_more};
-ghost use Rattle.vs_outside.specs.Host.{IsOpen, fails_now, is_waiting, stream_at, with_stream, after_label, read_failed, ReadsSome, IsRead};
-ghost use Rattle.vs_outside.specs.Host.{after_read, write_failed, TakesSome, IsWritten, after_write, after_shut_write, after_close};
-ghost use Rattle.vs_outside.specs.HostProgram.{plain, new_host, port_path, after_listen, after_unlisten, after_client, has_stream};
-ghost use Rattle.vs_outside.specs.HostProgram.{host_write_answer, after_host_write, allowed, ended, closed, after_fail, after_fail_start};
-ghost use Rattle.vs_outside.specs.HostProgram.{changed, after_call, starves, adds_dialed};
+ghost use Rattle.std.specs.Prelude.{◌≡◌, ◌<◌, ◌+◌, ◌∷◌, [], not, length, filter, bytes_eq, string_bytes, MatchOption, None, Some, IsTrue, ◌↔◌, position, IfSome, IfOk, OnOk, OnErr};
+ghost use Rattle.std.specs.List.{list_any};
+ghost use Rattle.vs_outside.specs.{Faults.{CountsFault, one_more}, Host.{IsOpen, fails_now, is_waiting, stream_at, with_stream, after_label, read_failed, ReadsSome, IsRead}};
+ghost use Rattle.vs_outside.specs.{Host.{after_read, write_failed, TakesSome, IsWritten, after_write, after_shut_write, after_close}, HostProgram.{plain, new_host, port_path}};
+ghost use Rattle.vs_outside.specs.HostProgram.{after_listen, after_unlisten, after_client, has_stream, host_write_answer, after_host_write, allowed, ended, closed, after_fail};
+ghost use Rattle.vs_outside.specs.HostProgram.{after_fail_start, changed, after_call, starves, adds_dialed};
 
 use crate::fail_list::FailList;
 use crate::host_net::{Accepted, Dialed, HostNet, Started, StreamRead, StreamState, StreamWrite};

@@ -1,7 +1,6 @@
 //! A source, a sink, a clock and a gate in memory.
 ghost use Rattle.std.specs.Prelude.{◌≡◌, ◌≤◌, ◌+◌, ◌++◌, ◌∷◌, [], min, length, Some, OnOk, OnErr};
-ghost use Rattle.vs_outside.specs.InOut.{ReadsSome, ReadsNext, TakesSome};
-ghost use Rattle.vs_outside.specs.MemIo.{new_source, read_answer, after_read, new_sink, IsWritten, after_write};
+ghost use Rattle.vs_outside.specs.{InOut.{ReadsSome, ReadsNext, TakesSome}, MemIo.{new_source, read_answer, after_read, new_sink, IsWritten, after_write}};
 
 use crate::fail_list::FailList;
 use crate::in_out::{Clock, Gate, Sink, SinkWrite, Source, SourceRead};

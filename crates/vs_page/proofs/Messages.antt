@@ -1,13 +1,11 @@
 -- The messages of longer lists of packets begin by those of shorter ones.
-use Rattle.std.proofs.Common.{◌≡◌, ◌&&◌, ℕ, Bool, true, false, if◌then◌else◌, not, List, [], ◌∷◌, ◌++◌, refl, sym, ap, ◌∙◌, subst}
-use Rattle.std.proofs.{Common.append_assoc, lemmas.List.append-nil}
+use Rattle.std.proofs.{Common.{◌≡◌, ◌&&◌, ℕ, Bool, true, false, if◌then◌else◌, not, List, [], ◌∷◌, ◌++◌, refl, sym, ap, ◌∙◌, subst, append_assoc}, lemmas.List.append-nil}
 use Rattle.vs_flow.specs.{Flow.is_assigned, Connection.Connection}
-use Rattle.vs_header.specs.declared.Kind.{Kind, TheVariants.Seqpacket, TheVariants.Stream}
+use Rattle.vs_header.specs.declared.Kind.{Kind, TheVariants.{Seqpacket, Stream}}
 use Rattle.laws_history.specs.{Packets.{bytes, ends_message}, History.{Side, gots, peer, puts}, declared.packet.Packet.Packet}
-use Rattle.vs_page.specs.Messages.{AreFirstOf, MessageEnd, ends_got, ends_of, ends_put, ends_record, form, is_nothing, unfinished, whole_by}
-use Rattle.vs_page.specs.{Fair.{IsPrefixOf, instance_from}, Log.{HasGotAll, Log, Role, flow_got, other_role, side_of, whole_of}}
-use Rattle.vs_page.proofs.{Entries.got_on, Entries.on_flow, Flows.opposite_by, Payload.gots-append, Payload.instance-append}
-use Rattle.vs_page.proofs.{Payload.puts-append, PayloadLogs.history-append}
+use Rattle.vs_page.specs.{Messages.{AreFirstOf, MessageEnd, ends_got, ends_of, ends_put, ends_record, form, is_nothing, unfinished, whole_by}, Fair.{IsPrefixOf, instance_from}}
+use Rattle.vs_page.{specs.Log.{HasGotAll, Log, Role, flow_got, other_role, side_of, whole_of}, proofs.{Entries.{got_on, on_flow}, Flows.opposite_by, Payload.gots-append}}
+use Rattle.vs_page.proofs.{Payload.{instance-append, puts-append}, PayloadLogs.history-append}
 
 more_ends : (b : Bool) (e : MessageEnd) (whole front : List MessageEnd) → AreFirstOf front whole
     → AreFirstOf front (if b then whole ++ e ∷ [] else whole)

@@ -2,8 +2,7 @@
 use Rattle.std.specs.Prelude.{if◌then◌else◌, List, []}
 use Rattle.vs_flow.specs.declared.flow.Flow.{Flow}
 use Rattle.laws_history.specs.{declared.packet.Packet.Packet, History.{Entry, Got, History, Put, Side, gots, peer, puts}}
-use Rattle.vs_page.specs.Log.{Log, Role, asks, flow_got, flow_put, history_of, side_of}
-use Rattle.vs_page.specs.declared.log.LogEntry.{LogEntry, TheVariants.GotPacket, TheVariants.PutPacket}
+use Rattle.vs_page.specs.{Log.{Log, Role, asks, flow_got, flow_put, history_of, side_of}, declared.log.LogEntry.{LogEntry, TheVariants.{GotPacket, PutPacket}}}
 
 -- The entry in a log, its packet, and its flow.
 abbrev pub logged : Entry → LogEntry

@@ -1,11 +1,9 @@
 -- The OK line comes byte by byte.
-use Rattle.std.proofs.Common.{◌≡◌, ◌≤◌, ◌<◌, ℕ, zero, suc, Bool, true, false, cond, List, [], ◌∷◌, ◌++◌, length, get_or, take, Option, refl}
-use Rattle.std.proofs.Common.{ap, sym, ◌∙◌, arith}
+use Rattle.std.proofs.Common.{◌≡◌, ◌≤◌, ◌<◌, ℕ, zero, suc, Bool, true, false, cond, List, [], ◌∷◌, ◌++◌, length, get_or, take, Option, refl, ap, sym, ◌∙◌, arith}
 use Rattle.vs_contents.specs.Contents.{Relates}
 use Rattle.vs_outside.specs.Host.{HostContents}
-use Rattle.vs_uds.specs.{Reading.fed, Reading.is_decided, declared.ok.TheConstants.OK_MAX}
-use Rattle.vs_peer.specs.Passing.{Moves}
-use Rattle.vs_peer.proofs.Streams.{relates_as, relates_then}
+use Rattle.vs_uds.specs.{Reading.{fed, is_decided}, declared.ok.TheConstants.OK_MAX}
+use Rattle.vs_peer.{specs.Passing.Moves, proofs.Streams.{relates_as, relates_then}}
 
 one_byte : (out : List ℕ) (n : ℕ) → length out ≡ 1 → (n ≤ length out) × (0 < length out → 1 ≤ n) → take n out ≡ get_or out 0 0 ∷ []
 one_byte [] n one some = absurd (omega (arith, one))

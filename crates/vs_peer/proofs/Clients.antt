@@ -1,13 +1,11 @@
 -- A client's stream, from its dial on.
-use Rattle.std.proofs.Common.{◌≡◌, ◌≢◌, ℕ, zero, suc, Bool, true, false, cond, ◌||◌, List, [], ◌∷◌, ◌++◌, length, Option, Some, None, refl}
-use Rattle.std.proofs.Common.{sym, ap, subst, ◌∙◌}
-use Rattle.std.specs.{Prelude.slice_get, Prelude.IsSomeAnd, Option.ForSome}
+use Rattle.std.proofs.Common.{◌≡◌, ◌≢◌, ℕ, zero, suc, Bool, true, false, cond, ◌||◌, List, [], ◌∷◌, ◌++◌, length, Option, Some, None, refl, sym, ap, subst, ◌∙◌}
+use Rattle.std.specs.{Prelude.{slice_get, IsSomeAnd}, Option.ForSome}
 use Rattle.vs_contents.specs.Contents.{Relates}
 use Rattle.vs_flow.specs.declared.flow.Flow.{Flow}
-use Rattle.vs_outside.specs.Host.{Stream, HostContents, stream_at, after_dial}
+use Rattle.vs_outside.{specs.Host.{Stream, HostContents, stream_at, after_dial}, proofs.Frames.stream_at-after_failed}
+use Rattle.vs_peer.specs.{Passing.{Moves, SameStreams}, Client.HasClient}
 use Rattle.vs_outside.specs.declared.host_net.Dialed.TheVariants as dialed
-use Rattle.vs_outside.proofs.Frames.{stream_at-after_failed}
-use Rattle.vs_peer.specs.{Passing.Moves, Passing.SameStreams, Client.HasClient}
 
 -- A relation that follows from another.
 pub relates_map : (R S : HostContents → HostContents → Type 0) (a b : Option HostContents) → ((x y : HostContents) → R x y → S x y) →

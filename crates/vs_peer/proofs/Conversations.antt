@@ -1,18 +1,15 @@
 -- What a client carries that was answered, and how its conversation ends.
-use Rattle.std.proofs.Common.{◌≡◌, ◌≢◌, ◌≤◌, ◌<◌, ◌⊎◌, inl, inr, ℕ, true, false, Bool, ◌||◌, List, [], ◌++◌, length, take, Option, Some}
-use Rattle.std.proofs.{Common.{Result, Ok, Err, refl, sym, ap, subst, ◌∙◌, arith}, lemmas.List.append-nil}
-use Rattle.std.specs.Prelude.{IsSomeAnd}
+use Rattle.std.proofs.Common.{◌≡◌, ◌≢◌, ◌≤◌, ◌<◌, ◌⊎◌, inl, inr, ℕ, true, false, Bool, ◌||◌, List, [], ◌++◌, length, take, Option, Some, Result, Ok, Err, refl, sym, ap, subst, ◌∙◌}
+use Rattle.std.{proofs.{Common.arith, lemmas.List.append-nil}, specs.Prelude.IsSomeAnd}
 use Rattle.vs_contents.specs.Contents.{Relates}
 use Rattle.vs_outside.specs.Host.{Stream, HostContents, stream_at}
 use Rattle.vs_uds.specs.ConnectLine.{connect_text}
-use Rattle.vs_peer.specs.{Client.{IsAnswered, IsUnanswered, IsUnopened, Opens}, Conversing.{Carries, Converses, Failed, HasSent, IsDone}}
-use Rattle.vs_peer.specs.{Conversing.{IsFailed, IsStuckNow, IsWaiting, Stuck, Unanswered, Unopened}, Exchanging.{Exchanges, IsStuck}}
-use Rattle.vs_peer.specs.{Passing.{IsClosed, Moves, ReadsAgain, ReadsEnd, WritesAgain}, Pieces.Emits, Sending.{IsSending, IsStill, is_shut}}
-use Rattle.vs_peer.specs.{Text.{port_text, GivesPort}, declared.send.Sending.Sending, declared.send.Side.Side, declared.stop.Stop.Stop}
+use Rattle.vs_peer.specs.{Client.{IsAnswered, IsUnanswered, IsUnopened, Opens}, Conversing.{Carries, Converses, Failed, HasSent, IsDone, IsFailed, IsStuckNow, IsWaiting, Stuck}}
+use Rattle.vs_peer.specs.{Conversing.{Unanswered, Unopened}, Exchanging.{Exchanges, IsStuck}, Passing.{IsClosed, Moves, ReadsAgain, ReadsEnd, WritesAgain}, Pieces.Emits}
+use Rattle.vs_peer.specs.{Sending.{IsSending, IsStill, is_shut}, Text.{port_text, GivesPort}, declared.{send.{Sending.Sending, Side.Side}, stop.Stop.Stop}}
+use Rattle.vs_peer.proofs.{Clients.{client_then, relates_both, relates_map, relates_now}, Pieces.{emits_append, emits_none, emits_then_some}}
 use Rattle.vs_peer.specs.declared.send.Side.TheVariants as side
 use Rattle.vs_peer.specs.declared.stop.Stop.TheVariants as stop
-use Rattle.vs_peer.proofs.{Clients.client_then, Clients.relates_both, Clients.relates_map, Clients.relates_now, Pieces.emits_append}
-use Rattle.vs_peer.proofs.Pieces.{emits_none, emits_then_some}
 
 -- The client wasn't answered.
 pub open_fails : (base : List ℕ) (port : ℕ) (source : List ℕ) (host host' : Option HostContents) (out : Option (List ℕ)) (e : Stop) →

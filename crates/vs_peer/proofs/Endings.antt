@@ -1,10 +1,9 @@
 -- The last line, behind what was written before.
 use Rattle.std.proofs.Common.{◌≡◌, inl, inr, ℕ, true, List, ◌++◌, Option, Result, Err, refl, subst, ◌∙◌}
 use Rattle.vs_outside.specs.{Faults.CountsFault, Host.HostContents}
-use Rattle.vs_peer.specs.{Conversing.Converses, Ends.{EndsAs, HostFails, Meets, Waits}, Failing.{host_failed, sink_failed}, Pieces.Emits}
-use Rattle.vs_peer.specs.{Text.{host_fault_text, waited_text}, Waiting.{Paused, pauses_of}, declared.stop.Stop.Stop}
+use Rattle.vs_peer.specs.{Conversing.Converses, Ends.{EndsAs, HostFails, Meets, Waits}, Failing.{host_failed, sink_failed}, Pieces.Emits, Text.{host_fault_text, waited_text}}
+use Rattle.vs_peer.{specs.{Waiting.{Paused, pauses_of}, declared.stop.Stop.Stop}, proofs.Pieces.{emits_append, emits_then_some}}
 use Rattle.vs_peer.specs.declared.stop.Stop.TheVariants as stop
-use Rattle.vs_peer.proofs.Pieces.{emits_append, emits_then_some}
 
 ends_then : (out out' out'' : Option (List ℕ)) (f f' f'' : ℕ) (written text : List ℕ) (status result : ℕ) → Emits out out' written →
     f' ≡ f →

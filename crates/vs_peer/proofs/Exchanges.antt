@@ -1,19 +1,16 @@
 -- Steps of an exchange, one after another.
-use Rattle.std.proofs.Common.{◌≡◌, inl, inr, ℕ, Bool, true, false, ◌||◌, List, [], ◌++◌, take, Option, Some, None, Ok, Err, refl, sym}
-use Rattle.std.proofs.Common.{subst, ◌∙◌, append-nil, arith}
-use Rattle.std.specs.{Prelude.IsSomeAnd}
+use Rattle.std.proofs.Common.{◌≡◌, inl, inr, ℕ, Bool, true, false, ◌||◌, List, [], ◌++◌, take, Option, Some, None, Ok, Err, refl, sym, subst, ◌∙◌, append-nil, arith}
+use Rattle.std.specs.Prelude.{IsSomeAnd}
 use Rattle.vs_contents.specs.Contents.{Relates}
-use Rattle.vs_outside.specs.{Host.Stream, Host.HostContents, Host.stream_at, Faults.CountsFault}
-use Rattle.vs_peer.specs.{Failing.sink_failed, Passing.{Moves, Now, ReadsAgain, ReadsEnd, WritesAgain, SameStreams}, Pieces.Emits}
-use Rattle.vs_peer.specs.{Receiving.Receives, Sending.{IsSending, IsStill, GoesOn, Sends, between, is_shut, shuts}, Exchanging.Exchanges}
-use Rattle.vs_peer.specs.Exchanging.{Exchanged, ExchangedCut, Leaves, Stepped, SteppedCut, Steps, comes_to, still}
-use Rattle.vs_peer.specs.declared.{exchange.Progress.Progress, receive.Came.Came, send.Sending.Sending, send.Side.Side, stop.Stop.Stop}
+use Rattle.vs_outside.specs.{Host.{Stream, HostContents, stream_at}, Faults.CountsFault}
+use Rattle.vs_peer.specs.{Failing.sink_failed, Passing.{Moves, Now, ReadsAgain, ReadsEnd, WritesAgain, SameStreams}, Pieces.Emits, Receiving.Receives, Sending.{IsSending, IsStill}}
+use Rattle.vs_peer.specs.{Sending.{GoesOn, Sends, between, is_shut, shuts}, Exchanging.{Exchanges, Exchanged, ExchangedCut, Leaves, Stepped, SteppedCut, Steps, comes_to, still}}
+use Rattle.vs_peer.{specs.declared.{exchange.Progress.Progress, receive.Came.Came, send.{Sending.Sending, Side.Side}, stop.Stop.Stop}, proofs.Pieces.{emits_none, emits_append}}
+use Rattle.vs_peer.proofs.{Pieces.emits_then_some, Sends.joined_between, Streams.{moves_not, relates_as, relates_not, relates_then}}
 use Rattle.vs_peer.specs.declared.exchange.Progress.TheVariants as progress
 use Rattle.vs_peer.specs.declared.receive.Came.TheVariants as came
 use Rattle.vs_peer.specs.declared.send.Side.TheVariants as side
 use Rattle.vs_peer.specs.declared.stop.Stop.TheVariants as stop
-use Rattle.vs_peer.proofs.{Pieces.emits_none, Pieces.emits_append, Pieces.emits_then_some, Sends.joined_between}
-use Rattle.vs_peer.proofs.Streams.{moves_not, relates_as, relates_not, relates_then}
 
 -- A call that changes no stream passes nothing.
 pub relates_same : (id : ℕ) (a b : Option HostContents) → Relates a b SameStreams → Relates a b (Moves id [] [] false)

@@ -1,15 +1,13 @@
 -- How a client is answered, or isn't.
-use Rattle.std.proofs.{Common.{ℕ, false, List, [], ◌++◌, take, Option, Ok, Err, refl, inl, inr}, lemmas.List.append-nil}
-use Rattle.std.specs.Prelude.{IsSomeAnd}
+use Rattle.std.{proofs.{Common.{ℕ, false, List, [], ◌++◌, take, Option, Ok, Err, refl, inl, inr}, lemmas.List.append-nil}, specs.Prelude.IsSomeAnd}
 use Rattle.vs_contents.specs.Contents.{Relates}
 use Rattle.vs_outside.specs.Host.{Stream, HostContents, stream_at}
 use Rattle.vs_uds.specs.ConnectLine.{connect_text}
-use Rattle.vs_peer.specs.{Asking.{Answers, AnswersBad, AnswersPort, AnswersSome, Asks, AsksSome}, Client.{Asked, Asking, Closed, Dials}}
-use Rattle.vs_peer.specs.Client.{Ended, HasClient, IsAnswered, IsAsked, IsAsking, IsRefused, IsUnanswered, IsUnheard, IsUnopened, Misheard}
-use Rattle.vs_peer.specs.{Client.{Opens, Unasked, Undialed, Unheard, Untold}, Passing.{IsClosed, Moves, Now, ReadsAgain, ReadsEnd}}
-use Rattle.vs_peer.specs.{Passing.{WritesAgain, SameStreams}, declared.stop.Stop.Stop}
+use Rattle.vs_peer.specs.{Asking.{Answers, AnswersBad, AnswersPort, AnswersSome, Asks, AsksSome}, Client.{Asked, Asking, Closed, Dials, Ended, HasClient, IsAnswered, IsAsked}}
+use Rattle.vs_peer.specs.{Client.{IsAsking, IsRefused, IsUnanswered, IsUnheard, IsUnopened, Misheard, Opens, Unasked, Undialed, Unheard, Untold}, Passing.{IsClosed, Moves, Now}}
+use Rattle.vs_peer.{specs.{Passing.{ReadsAgain, ReadsEnd, WritesAgain, SameStreams}, declared.stop.Stop.Stop}, proofs.Clients.{client_now, client_then, client_as, relates_both}}
+use Rattle.vs_peer.proofs.Clients.{relates_map, relates_now}
 use Rattle.vs_peer.specs.declared.stop.Stop.TheVariants as stop
-use Rattle.vs_peer.proofs.Clients.{client_now, client_then, client_as, relates_both, relates_map, relates_now}
 
 module _ (base : List ℕ) (port : ℕ) (host : Option HostContents) where
   -- the dial failed

@@ -1,8 +1,6 @@
 -- How reading and writing in pieces add up.
-use Rattle.std.proofs.Common.{◌≡◌, ℕ, suc, ◌+◌, ◌-◌, ◌<◌, List, [], ◌++◌, length, take, drop, Option, Some, None, refl, sym, ap, ◌∙◌, subst}
-use Rattle.std.proofs.{Common.append_assoc, Common.append-nil, Common.length-append, Common.◌∷◌, Common.arith, Math.Seq.take-add}
-use Rattle.std.proofs.lemmas.List.{take_rest, length-drop}
-use Rattle.std.specs.Bool.{⊤}
+use Rattle.std.proofs.Common.{◌≡◌, ℕ, suc, ◌+◌, ◌-◌, ◌<◌, List, [], ◌++◌, length, take, drop, Option, Some, None, refl, sym, ap, ◌∙◌, subst, append_assoc, append-nil}
+use Rattle.std.{proofs.{Common.{length-append, ◌∷◌, arith}, Math.Seq.take-add, lemmas.List.{take_rest, length-drop}}, specs.Bool.⊤}
 use Rattle.vs_contents.specs.Contents.{Exposes}
 use Rattle.vs_peer.specs.Pieces.{Emits, EmitsSome}
 

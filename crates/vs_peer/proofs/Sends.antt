@@ -1,10 +1,8 @@
 -- The slices that are sent one after another.
-use Rattle.std.proofs.Common.{◌≡◌, ℕ, zero, suc, ◌+◌, ◌≤◌, false, List, [], ◌∷◌, ◌++◌, length, take, drop, Option, refl, sym, ap, ◌∙◌}
-use Rattle.std.proofs.{Common.arith, lemmas.List.take-take, lemmas.List.drop-take}
+use Rattle.std.proofs.{Common.{◌≡◌, ℕ, zero, suc, ◌+◌, ◌≤◌, false, List, [], ◌∷◌, ◌++◌, length, take, drop, Option, refl, sym, ap, ◌∙◌, arith}, lemmas.List.{take-take, drop-take}}
 use Rattle.vs_contents.specs.Contents.{Relates}
 use Rattle.vs_outside.specs.Host.{HostContents}
-use Rattle.vs_peer.specs.Passing.{Moves, SameStreams}
-use Rattle.vs_peer.proofs.Streams.{relates_as, same_moves}
+use Rattle.vs_peer.{specs.Passing.{Moves, SameStreams}, proofs.Streams.{relates_as, same_moves}}
 
 -- what lies between two places, and the pieces that a write takes of it
 pub piece_of : (xs : List ℕ) (a n m : ℕ) → n ≤ m → take n (take m (drop a xs)) ≡ drop a (take (a + n) xs)

@@ -1,13 +1,11 @@
 -- What each status of a client says follows from how it ends.
-use Rattle.std.proofs.Common.{◌⊎◌, ◌≡◌, ◌≤◌, ◌<◌, ◌-◌, ◌^◌, inl, inr, ℕ, true, List, length, take, Option, Some, None, refl, ap, subst, ◌∙◌}
-use Rattle.std.proofs.{Common.arith, lemmas.List.length-take, lemmas.Bool.Decides.nat_tests}
-use Rattle.std.specs.Option.{ForSome}
+use Rattle.std.proofs.{Common.{◌⊎◌, ◌≡◌, ◌≤◌, ◌<◌, ◌-◌, ◌^◌, inl, inr, ℕ, true, List, length, take, Option, Some, None, refl, ap, subst, ◌∙◌, arith}, lemmas.List.length-take}
+use Rattle.std.{proofs.lemmas.Bool.Decides.nat_tests, specs.Option.ForSome}
 use Rattle.vs_outside.specs.Faults.{CountsFault}
+use Rattle.vs_peer.specs.{Ends.{Lent, Meets, PeerEnds}, Pieces.{Emits, EmitsSome, IsReading, ReadsAll}, Statuses.{Belongs, Came, Done, HostFault, IsSource, Line, NoFault}}
+use Rattle.vs_peer.specs.{Statuses.{NoMemory, Refused, Says, SinkFault, SourceFault, TooLong, Waited, is_faultless}, Text.{no_memory_text, read_fault_text, too_long_text}}
+use Rattle.vs_peer.specs.declared.source.TheConstants.{SOURCE_MAX}
 use Rattle.vs_peer.specs.Ends as ends
-use Rattle.vs_peer.specs.{Ends.Lent, Ends.Meets, Ends.PeerEnds, Pieces.Emits, Pieces.EmitsSome, Pieces.IsReading, Pieces.ReadsAll}
-use Rattle.vs_peer.specs.Statuses.{Belongs, Came, Done, HostFault, IsSource, Line, NoFault, NoMemory, Refused, Says, SinkFault, SourceFault}
-use Rattle.vs_peer.specs.{Statuses.TooLong, Statuses.Waited, Statuses.is_faultless, Text.no_memory_text, Text.read_fault_text}
-use Rattle.vs_peer.specs.{Text.too_long_text, declared.source.TheConstants.SOURCE_MAX}
 
 -- A fault shows in a count that can rise.
 fault_shows : (old new : ℕ) → CountsFault true old new → old < 2 ^ 64 - 1 → new ≡ old → ⊥

@@ -1,14 +1,10 @@
 -- What each call does to the client's stream.
-use Rattle.std.proofs.Common.{◌≡◌, ℕ, zero, suc, ◌≤◌, Bool, true, false, cond, ◌||◌, List, [], ◌∷◌, ◌++◌, length, take, min, ◌==◌, ◌≢◌}
-use Rattle.std.proofs.Common.{Option, Some, None, refl, sym, ap, ◌∙◌, subst, append_assoc, append-nil, arith}
-use Rattle.std.proofs.lemmas.Bool.Decides.{nat_tests}
-use Rattle.std.specs.{Prelude.IsSomeAnd, Option.ForSome, Option.option_map_or}
+use Rattle.std.proofs.Common.{◌≡◌, ℕ, zero, suc, ◌≤◌, Bool, true, false, cond, ◌||◌, List, [], ◌∷◌, ◌++◌, length, take, min, ◌==◌, ◌≢◌, Option, Some, None, refl, sym, ap, ◌∙◌}
+use Rattle.std.{proofs.{Common.{subst, append_assoc, append-nil, arith}, lemmas.Bool.Decides.nat_tests}, specs.{Prelude.IsSomeAnd, Option.{ForSome, option_map_or}}}
 use Rattle.vs_contents.specs.Contents.{Exposes, Relates}
-use Rattle.vs_outside.specs.{declared.host_net.StreamRead.StreamRead, declared.host_net.StreamWrite.StreamWrite}
-use Rattle.vs_outside.specs.Host.{Stream, HostContents, stream_at, KeepsOthers, IsOpen, called, fails_now, read_of, write_of, read_answer}
-use Rattle.vs_outside.specs.Host.{write_answer, after_read, after_write, after_shut_write, take_bytes, give_bytes, ReadsFrom, next_bytes}
-use Rattle.vs_outside.specs.Host.{IsRead, IsWritten, with_shut_write_call}
-use Rattle.vs_outside.proofs.Frames.{stream_at-with_stream, keeps_others, stream_at-after_failed, open_of}
+use Rattle.vs_outside.specs.{declared.host_net.{StreamRead.StreamRead, StreamWrite.StreamWrite}, Host.{Stream, HostContents, stream_at, KeepsOthers, IsOpen, called, fails_now}}
+use Rattle.vs_outside.specs.Host.{read_of, write_of, read_answer, write_answer, after_read, after_write, after_shut_write, take_bytes, give_bytes, ReadsFrom, next_bytes, IsRead}
+use Rattle.vs_outside.{specs.Host.{IsWritten, with_shut_write_call}, proofs.Frames.{stream_at-with_stream, keeps_others, stream_at-after_failed, open_of}}
 use Rattle.vs_peer.specs.Passing.{IsMoved, Moves, IsClosed, WritesAgain, ReadsAgain, ReadsEnd, SameStreams, ReadPasses, WritePasses}
 use Rattle.vs_outside.specs.declared.host_net.StreamState.TheVariants as state
 use Rattle.vs_outside.specs.declared.host_net.StreamRead.TheVariants as read

@@ -4,8 +4,7 @@ use Rattle.vs_contents.specs.Contents.{Relates}
 use Rattle.vs_flow.specs.{Flow.host_flow, declared.flow.Flow.Flow}
 use Rattle.vs_outside.specs.Host.{Stream, HostContents, stream_at, is_listened, KeepsOthers}
 use Rattle.vs_uds.specs.{ConnectLine.connect_text, OkLine.{IsOkLine, ok_step}, declared.scan.Step.TheVariants.{More, Bad}}
-use Rattle.vs_peer.specs.{declared.converse.Opened.Opened, declared.stop.Stop.Stop}
-use Rattle.vs_peer.specs.Passing.{IsClosed, ReadsAgain, ReadsEnd, WritesAgain, SameStreams}
+use Rattle.vs_peer.specs.{declared.{converse.Opened.Opened, stop.Stop.Stop}, Passing.{IsClosed, ReadsAgain, ReadsEnd, WritesAgain, SameStreams}}
 use Rattle.vs_peer.specs.declared.stop.Stop.TheVariants as stop
 
 -- The flow of a client that asks for that port: no host port is known before the answer.

@@ -2,9 +2,8 @@
 use Rattle.std.specs.Prelude.{◌≡◌, ◌≤◌, ◌<◌, ◌⊎◌, ℕ, true, List, ◌++◌, length, Option}
 use Rattle.vs_contents.specs.Contents.{Relates}
 use Rattle.vs_outside.specs.{Faults.CountsFault, Host.HostContents}
-use Rattle.vs_peer.specs.{Client.IsRefused, Conversing.{Carries, IsDone, IsFailed, IsWaiting}, Pieces.{Emits, EmitsSome, ReadsAll}}
-use Rattle.vs_peer.specs.{Text.{host_fault_text, no_memory_text, read_fault_text, refused_text, too_long_text, waited_text}, Waiting.Paused}
-use Rattle.vs_peer.specs.{declared.source.ReadError.ReadError, declared.source.TheConstants.SOURCE_MAX}
+use Rattle.vs_peer.specs.{Client.IsRefused, Conversing.{Carries, IsDone, IsFailed, IsWaiting}, Pieces.{Emits, EmitsSome, ReadsAll}, Text.{host_fault_text, no_memory_text}}
+use Rattle.vs_peer.specs.{Text.{read_fault_text, refused_text, too_long_text, waited_text}, Waiting.Paused, declared.source.{ReadError.ReadError, TheConstants.SOURCE_MAX}}
 use Rattle.vs_peer.specs.declared.source.ReadError.TheVariants as read_error
 
 -- All that a client is lent, at one moment: what source, host and sink expose, how many of their calls failed, and how many pauses its gate

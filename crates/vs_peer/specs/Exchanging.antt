@@ -2,9 +2,8 @@
 use Rattle.std.specs.Prelude.{◌≡◌, ◌≢◌, ◌⊎◌, ℕ, Bool, true, false, List, take, Option, Result, Ok, Err}
 use Rattle.vs_contents.specs.Contents.{Relates}
 use Rattle.vs_outside.specs.Host.{HostContents}
-use Rattle.vs_peer.specs.{Passing.Moves, Passing.Now, Passing.ReadsAgain, Passing.ReadsEnd, Pieces.Emits, Pieces.EmitsSome}
-use Rattle.vs_peer.specs.Sending.{IsSending, IsStill, between, is_shut, shuts}
-use Rattle.vs_peer.specs.declared.{exchange.Progress.Progress, receive.Came.Came, send.Sending.Sending, send.Side.Side, stop.Stop.Stop}
+use Rattle.vs_peer.specs.{Passing.{Moves, Now, ReadsAgain, ReadsEnd}, Pieces.{Emits, EmitsSome}, Sending.{IsSending, IsStill, between, is_shut, shuts}}
+use Rattle.vs_peer.specs.declared.{exchange.Progress.Progress, receive.Came.Came, send.{Sending.Sending, Side.Side}, stop.Stop.Stop}
 use Rattle.vs_peer.specs.declared.exchange.Progress.TheVariants as progress
 use Rattle.vs_peer.specs.declared.receive.Came.TheVariants as came
 use Rattle.vs_peer.specs.declared.send.Side.TheVariants as side

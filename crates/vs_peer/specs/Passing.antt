@@ -1,8 +1,7 @@
 -- What passes at a client's end of its stream.
 use Rattle.std.specs.{Prelude.{◌≡◌, ℕ, Bool, true, false, ◌||◌, List, [], ◌++◌, take, Option, Some, IsSomeAnd}, Option.ForSome}
 use Rattle.vs_contents.specs.Contents.{Relates}
-use Rattle.vs_outside.specs.{Host.Stream, Host.HostContents, Host.stream_at, Host.KeepsOthers, declared.host_net.StreamRead.StreamRead}
-use Rattle.vs_outside.specs.declared.host_net.StreamWrite.{StreamWrite}
+use Rattle.vs_outside.specs.{Host.{Stream, HostContents, stream_at, KeepsOthers}, declared.host_net.{StreamRead.StreamRead, StreamWrite.StreamWrite}}
 use Rattle.vs_outside.specs.declared.host_net.StreamRead.TheVariants as read
 use Rattle.vs_outside.specs.declared.host_net.StreamWrite.TheVariants as write
 

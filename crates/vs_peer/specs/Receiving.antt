@@ -2,8 +2,7 @@
 use Rattle.std.specs.Prelude.{◌≡◌, ℕ, false, List, [], Option, Result, Ok, Err}
 use Rattle.vs_contents.specs.Contents.{Relates}
 use Rattle.vs_outside.specs.Host.{HostContents}
-use Rattle.vs_peer.specs.{Passing.Moves, Passing.Now, Passing.ReadsAgain, Passing.ReadsEnd, Passing.SameStreams, Pieces.Emits}
-use Rattle.vs_peer.specs.{Pieces.EmitsSome, declared.receive.Came.Came, declared.stop.Stop.Stop}
+use Rattle.vs_peer.specs.{Passing.{Moves, Now, ReadsAgain, ReadsEnd, SameStreams}, Pieces.{Emits, EmitsSome}, declared.{receive.Came.Came, stop.Stop.Stop}}
 use Rattle.vs_peer.specs.declared.receive.Came.TheVariants as came
 use Rattle.vs_peer.specs.declared.stop.Stop.TheVariants as stop
 

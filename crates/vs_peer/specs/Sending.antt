@@ -1,8 +1,7 @@
 -- How far a client is with what it sends.
 use Rattle.std.specs.Prelude.{◌≡◌, ◌≢◌, ◌≤◌, ◌<◌, ◌⊎◌, ℕ, Bool, true, false, ◌||◌, List, length, take, drop, Option, Result, Ok, Err}
 use Rattle.vs_outside.specs.Host.{HostContents}
-use Rattle.vs_peer.specs.{Passing.Now, Passing.IsClosed, Passing.WritesAgain, declared.send.Sending.Sending, declared.send.Side.Side}
-use Rattle.vs_peer.specs.declared.stop.Stop.{Stop}
+use Rattle.vs_peer.specs.{Passing.{Now, IsClosed, WritesAgain}, declared.{send.{Sending.Sending, Side.Side}, stop.Stop.Stop}}
 use Rattle.vs_peer.specs.declared.send.Side.TheVariants as side
 use Rattle.vs_peer.specs.declared.stop.Stop.TheVariants as stop
 

@@ -2,9 +2,8 @@
 use Rattle.std.specs.{Prelude.{◌≡◌, ◌<◌, ◌⊎◌, ◌-◌, ◌^◌, ◌==◌, ◌||◌, ℕ, Bool, true, List, ◌++◌, length, Option}, Option.ForSome}
 use Rattle.vs_contents.specs.Contents.{Relates}
 use Rattle.vs_outside.specs.Faults.{CountsFault}
-use Rattle.vs_peer.specs.{Client.IsRefused, Conversing.Carries, Conversing.IsDone, Conversing.IsFailed, Conversing.IsWaiting, Ends.Lent}
-use Rattle.vs_peer.specs.{Ends.Means, Pieces.Emits, Pieces.EmitsSome, Text.host_fault_text, Text.no_memory_text, Text.read_fault_text}
-use Rattle.vs_peer.specs.{Text.refused_text, Text.too_long_text, Text.waited_text, Waiting.Paused, declared.source.TheConstants.SOURCE_MAX}
+use Rattle.vs_peer.specs.{Client.IsRefused, Conversing.{Carries, IsDone, IsFailed, IsWaiting}, Ends.{Lent, Means}, Pieces.{Emits, EmitsSome}, Text.host_fault_text}
+use Rattle.vs_peer.specs.{Text.{no_memory_text, read_fault_text, refused_text, too_long_text, waited_text}, Waiting.Paused, declared.source.TheConstants.SOURCE_MAX}
 
 -- These are the bytes that the source had.
 abbrev pub IsSource : Option (List ℕ) → List ℕ → Type 0

@@ -1,7 +1,6 @@
 //! A client of the mapping, from its source's first byte to its status.
 ghost use Rattle.std.specs.Prelude.{◌≡◌, true};
-ghost use Rattle.vs_peer.specs.Statuses.{NoFault, Says, is_faultless};
-ghost use Rattle.vs_peer.specs.Ends.{EndsAs, EndsUnread, Meets, PeerEnds};
+ghost use Rattle.vs_peer.specs.{Statuses.{NoFault, Says, is_faultless}, Ends.{EndsAs, EndsUnread, Meets, PeerEnds}};
 
 use crate::converse::converse;
 use crate::sink::{SinkFault, emit};

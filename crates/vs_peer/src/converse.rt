@@ -1,8 +1,7 @@
 //! A client's whole conversation with a host.
 ghost use Rattle.std.specs.{Option.ForSome, Prelude.IfOk};
 ghost use Rattle.vs_outside.specs.{Faults.CountsFault, Host.IsOpen};
-ghost use Rattle.vs_peer.specs.{Client.Dials, Client.Opens, Conversing.Converses, Failing.host_failed, Failing.sink_failed, Text.GivesPort};
-ghost use Rattle.vs_peer.specs.Waiting.{Paused, pauses_of};
+ghost use Rattle.vs_peer.specs.{Client.{Dials, Opens}, Conversing.Converses, Failing.{host_failed, sink_failed}, Text.GivesPort, Waiting.{Paused, pauses_of}};
 
 use crate::ask::{answer, ask};
 use crate::exchange::exchange;

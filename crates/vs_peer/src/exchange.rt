@@ -1,8 +1,7 @@
 //! What passes once a client was answered: the bytes of its source one way, and what comes to its sink the other.
 ghost use Rattle.std.specs.{Prelude.◌≡◌, Option.ForSome};
 ghost use Rattle.vs_outside.specs.{Faults.CountsFault, Host.IsOpen};
-ghost use Rattle.vs_peer.specs.{Failing.host_failed, Failing.sink_failed, Exchanging.Exchanges, Exchanging.Steps, Exchanging.comes_to};
-ghost use Rattle.vs_peer.specs.{Sending.GoesOn, Sending.IsSending, Waiting.Paused, Waiting.pauses_of};
+ghost use Rattle.vs_peer.specs.{Failing.{host_failed, sink_failed}, Exchanging.{Exchanges, Steps, comes_to}, Sending.{GoesOn, IsSending}, Waiting.{Paused, pauses_of}};
 
 use crate::receive::{Came, receive};
 use crate::send::{Sending, Side};

@@ -1,9 +1,8 @@
 //! What a client sends once it was answered: the bytes of its source, and then the end of its side.
-ghost use Rattle.std.specs.{Prelude.◌≡◌, Prelude.[], Prelude.false, Option.ForSome};
+ghost use Rattle.std.specs.{Prelude.{◌≡◌, [], false}, Option.ForSome};
 ghost use Rattle.vs_contents.specs.Contents.{Relates};
 ghost use Rattle.vs_outside.specs.{Host.IsOpen, Faults.CountsFault};
-ghost use Rattle.vs_peer.specs.Sending.{IsSending, GoesOn, between, Sends, Writes, shuts};
-ghost use Rattle.vs_peer.specs.{Passing.Moves, Failing.host_failed};
+ghost use Rattle.vs_peer.specs.{Sending.{IsSending, GoesOn, between, Sends, Writes, shuts}, Passing.Moves, Failing.host_failed};
 
 use crate::stop::Stop;
 use crate::stream::write;

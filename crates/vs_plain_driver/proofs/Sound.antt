@@ -1,7 +1,6 @@
 -- Each call keeps the driver's end of a queue sound.
-use Rattle.std.proofs.Common.{ℕ, ◌<◌, ◌≤◌, Option, None, replicate, arith}
+use Rattle.std.proofs.{Common.{ℕ, ◌<◌, ◌≤◌, Option, None, replicate, arith}, lemmas.List.{length-replicate, FromFn.{get_or-range_with_len, length-range_with_len}}}
 use Rattle.std.specs.List.{range_with_len}
-use Rattle.std.proofs.lemmas.List.{length-replicate, FromFn.get_or-range_with_len, FromFn.length-range_with_len}
 use Rattle.vs_plain_driver.specs.View.{IsSound}
 
 pub sound_new : (n : ℕ) (at : Option ℕ) → 0 < n → n ≤ 32768

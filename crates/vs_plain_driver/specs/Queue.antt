@@ -1,12 +1,11 @@
 -- The driver's end of a queue as a plain value, and what each of its calls makes of it and of the memory (Virtio 1.2, section 2.7). A
 -- page lies in the memory at the place of its descriptor, which names it.
-use Rattle.std.specs.Prelude.{ℕ, ◌+◌, ◌-◌, ◌*◌, ◌%◌, ◌^◌, ◌==◌, ◌||◌, nat_le, nat_lt, List, [], ◌∷◌, ◌++◌, length, drop, take, min, set}
-use Rattle.std.specs.Prelude.{slice_index_or, Option, None, Some, if◌then◌else◌}
+use Rattle.std.specs.Prelude.{ℕ, ◌+◌, ◌-◌, ◌*◌, ◌%◌, ◌^◌, ◌==◌, ◌||◌, nat_le, nat_lt, List, [], ◌∷◌, ◌++◌, length, drop, take, min, set, slice_index_or, Option, None, Some}
+use Rattle.std.specs.Prelude.{if◌then◌else◌}
 use Rattle.byteorder.specs.Endian.{little_bytes, little_number}
 use Rattle.vs_guest_mem.specs.Memory.{Memory, after_write, bytes_at}
-use Rattle.vs_layout.specs.{declared.entry.Desc.Desc, declared.entry.TheConstants.WRITE, declared.entry.UsedElem.UsedElem, Entry.desc_bytes}
-use Rattle.vs_layout.specs.{Entry.used_elem_of, Layout.avail_entry, Layout.avail_flags, Layout.avail_idx, Layout.desc_entry}
-use Rattle.vs_layout.specs.{Layout.used_elem, Layout.used_event, Layout.used_idx, declared.place.Areas.Areas}
+use Rattle.vs_layout.specs.{declared.{entry.{Desc.Desc, TheConstants.WRITE, UsedElem.UsedElem}, place.Areas.Areas}, Entry.{desc_bytes, used_elem_of}, Layout.avail_entry}
+use Rattle.vs_layout.specs.Layout.{avail_flags, avail_idx, desc_entry, used_elem, used_event, used_idx}
 use Rattle.vs_page.specs.declared.page.TheConstants.{PAGE_LEN}
 use Rattle.vs_ring_plain.specs.Chain.{ahead}
 use Rattle.vs_ring_port.specs.declared.queue.Queue.{Queue, TheVariants.Tx}

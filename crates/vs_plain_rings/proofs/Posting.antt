@@ -1,17 +1,15 @@
 -- A page that the driver posts is the chain that the device takes.
-use Rattle.std.proofs.Common.{inr, ◌≡◌, ◌⊎◌, ℕ, ◌+◌, ◌*◌, ◌%◌, ◌^◌, ◌<◌, ◌≤◌, Bool, true, false, List, [], ◌∷◌, length, Option, refl, sym}
-use Rattle.std.proofs.{lemmas.Bool.Decides.nat_tests, lemmas.Nat.mod_below, Common.ap, Common.◌∙◌, Common.subst, Common.arith}
+use Rattle.std.proofs.Common.{inr, ◌≡◌, ◌⊎◌, ℕ, ◌+◌, ◌*◌, ◌%◌, ◌^◌, ◌<◌, ◌≤◌, Bool, true, false, List, [], ◌∷◌, length, Option, refl, sym, ap, ◌∙◌, subst, arith}
+use Rattle.std.proofs.lemmas.{Bool.Decides.nat_tests, Nat.mod_below}
 use Rattle.byteorder.specs.Endian.{little_bytes, little_number}
 use Rattle.vs_guest_mem.specs.Memory.{Memory, after_access, after_write, bytes_at, is_within}
 use Rattle.vs_header.proofs.RoundTrip.{little_number-little_bytes}
-use Rattle.vs_layout.specs.Layout.{avail_entry, avail_idx, desc_entry}
-use Rattle.vs_layout.specs.{Entry.desc_bytes, Entry.desc_of, declared.entry.Desc.Desc, declared.place.Areas.Areas}
-use Rattle.vs_ring_plain.specs.Chain.{Chain, ahead, has, piece_of, taking, too_small, total_len, wrong_way}
-use Rattle.vs_ring_plain.{specs.Accesses.over, specs.Still.IsGiven, specs.Still.IsStill, proofs.Still.taken_still}
-use Rattle.vs_ring_port.specs.declared.queue.Queue.{Queue, TheVariants.Rx, TheVariants.Tx, TheVariants.Event}
+use Rattle.vs_layout.specs.{Layout.{avail_entry, avail_idx, desc_entry}, Entry.{desc_bytes, desc_of}, declared.{entry.Desc.Desc, place.Areas.Areas}}
+use Rattle.vs_ring_plain.{specs.{Chain.{Chain, ahead, has, piece_of, taking, too_small, total_len, wrong_way}, Accesses.over, Still.{IsGiven, IsStill}}, proofs.Still.taken_still}
+use Rattle.vs_ring_port.specs.declared.queue.Queue.{Queue, TheVariants.{Rx, Tx, Event}}
 use Rattle.vs_plain_driver.specs.Queue.{desc_for}
 use Rattle.vs_plain_rings.specs.Posting.{CanPost, idle_queue, posted, ring_of}
-use Rattle.laws_plain_rings.proofs.{Frames.inner, Frames.kept, Frames.length_written, Frames.written, Encoded.desc_back}
+use Rattle.laws_plain_rings.proofs.{Frames.{inner, kept, length_written, written}, Encoded.desc_back}
 
 -- one more than it was, modulo 2^16
 pub one_ahead : (p : ℕ) → p < 2 ^ 16 → ahead ((p + 1) % 2 ^ 16) p ≡ 1

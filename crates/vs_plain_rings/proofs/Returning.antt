@@ -1,17 +1,15 @@
 -- A chain that the device returns is the page that the driver gets back.
-use Rattle.std.proofs.Common.{inr, ◌≡◌, ◌⊎◌, ℕ, ◌+◌, ◌*◌, ◌%◌, ◌^◌, ◌<◌, ◌≤◌, Bool, false, cond, List, length, Option, None, Some, refl}
-use Rattle.std.specs.Prelude.{◌-◌, ◌==◌, ◌||◌, nat_le, nat_lt, min, slice_index_or}
-use Rattle.std.proofs.{lemmas.Bool.Decides.nat_tests, lemmas.Nat.mod_below, Common.sym, Common.ap, Common.◌∙◌, Common.subst, Common.arith}
+use Rattle.std.proofs.Common.{inr, ◌≡◌, ◌⊎◌, ℕ, ◌+◌, ◌*◌, ◌%◌, ◌^◌, ◌<◌, ◌≤◌, Bool, false, cond, List, length, Option, None, Some, refl, sym, ap, ◌∙◌, subst, arith}
+use Rattle.std.{proofs.lemmas.{Bool.Decides.nat_tests, Nat.mod_below}, specs.Prelude.{◌-◌, ◌==◌, ◌||◌, nat_le, nat_lt, min, slice_index_or}}
 use Rattle.byteorder.specs.Endian.{little_bytes, little_number}
 use Rattle.vs_guest_mem.specs.Memory.{Memory, after_access, after_write, bytes_at}
 use Rattle.vs_header.proofs.RoundTrip.{little_number-little_bytes}
-use Rattle.vs_layout.specs.Layout.{used_elem, used_idx}
-use Rattle.vs_layout.specs.{Entry.used_elem_bytes, Entry.used_elem_of, declared.entry.UsedElem.UsedElem, declared.place.Areas.Areas}
-use Rattle.vs_ring_plain.{specs.Chain.ahead, specs.Still.IsStill, proofs.Still.is_quiet, proofs.Still.quiet}
+use Rattle.vs_layout.specs.{Layout.{used_elem, used_idx}, Entry.{used_elem_bytes, used_elem_of}, declared.{entry.UsedElem.UsedElem, place.Areas.Areas}}
+use Rattle.vs_ring_plain.{specs.{Chain.ahead, Still.IsStill}, proofs.Still.{is_quiet, quiet}}
 use Rattle.vs_ring_port.specs.declared.queue.Queue.{Queue}
 use Rattle.vs_plain_driver.specs.Queue.{DriverQueueState, flight_in, next_elem, next_used, numbered, page_back, reaped_page, used_ahead}
-use Rattle.vs_plain_rings.{specs.Posting.CanReap, specs.Posting.returned, specs.Posting.ring_of, proofs.Posting.one_ahead}
-use Rattle.laws_plain_rings.proofs.{Frames.inner, Frames.kept, Frames.length_written, Frames.written, Encoded.elem_back, Reaping.or_false}
+use Rattle.vs_plain_rings.{specs.Posting.{CanReap, returned, ring_of}, proofs.Posting.one_ahead}
+use Rattle.laws_plain_rings.proofs.{Frames.{inner, kept, length_written, written}, Encoded.elem_back, Reaping.or_false}
 
 module _ (q : DriverQueueState) (at head len base accesses : ℕ) (bytes : List ℕ) (areas : Areas) (page : List ℕ)
     (can : CanReap q at head len areas page (quiet base bytes accesses)) where

@@ -1,17 +1,14 @@
 -- Each call keeps standard rings tied to their memory, and is one that the ports allow.
-use Rattle.std.proofs.Common.{◌≡◌, ℕ, ◌+◌, ◌<◌, ◌≤◌, List, [], length, Option, None, Some, Contains, Bool, true, false, cond, refl, sym, ap}
-use Rattle.std.{proofs.Common.ap₂, proofs.Common.◌∙◌, proofs.Common.subst, specs.Option.ForSome}
-use Rattle.vs_ring_port.specs.{DeviceCalls.{CanReturn, DeviceAllows, LeavesNoGap}, DriverCalls.{CanPublish, CanStage, DriverAllows}}
-use Rattle.vs_ring_port.specs.{DriverCalls.{LoadCid, Publish, Reap, Stage}, Contents.{Given, PublishCid, Read, Return, Take, Write}}
-use Rattle.vs_ring_port.specs.{declared.queue.Queue.TheVariants.{Rx, Tx, Event}, declared.{device_ring.Chain.Chain, device_ring.Next.Next}}
-use Rattle.vs_ring_port.specs.declared.queue.Queue.{Queue}
+use Rattle.std.proofs.Common.{◌≡◌, ℕ, ◌+◌, ◌<◌, ◌≤◌, List, [], length, Option, None, Some, Contains, Bool, true, false, cond, refl, sym, ap, ap₂, ◌∙◌, subst}
+use Rattle.std.specs.Option.{ForSome}
+use Rattle.vs_ring_port.specs.{DeviceCalls.{CanReturn, DeviceAllows, LeavesNoGap}, DriverCalls.{CanPublish, CanStage, DriverAllows, LoadCid, Publish, Reap, Stage}, Contents.Given}
+use Rattle.vs_ring_port.specs.{Contents.{PublishCid, Read, Return, Take, Write}, declared.{queue.Queue.{TheVariants.{Rx, Tx, Event}, Queue}, device_ring.{Chain.Chain, Next.Next}}}
 use Rattle.laws_ring_journal.specs.History.{ByDevice, ByDriver, History, RingCall, then}
 use Rattle.vs_ring_list.specs.Ends.{Ends, empty_ends}
 use Rattle.vs_ring_plain.specs.Device.{DeviceState, answer_to, chains_held}
 use Rattle.vs_plain_driver.specs.Queue.{DriverQueueState, flight_in, reaped_page}
-use Rattle.laws_plain_rings.specs.Exposed.{BothEnds, device_contents, device_told, driver_contents, driver_told}
-use Rattle.laws_plain_rings.specs.Parts.{PartsState, driver_at, published_parts, reaped_parts, staged_parts, used_in, with_driver}
-use Rattle.laws_plain_rings.specs.{Calls.after_call, Calls.ends_by, Tie.AreTied, Tie.IsTiedTo, Tie.areas_of}
+use Rattle.laws_plain_rings.specs.{Exposed.{BothEnds, device_contents, device_told, driver_contents, driver_told}, Parts.{PartsState, driver_at, published_parts, reaped_parts}}
+use Rattle.laws_plain_rings.specs.{Parts.{staged_parts, used_in, with_driver}, Calls.{after_call, ends_by}, Tie.{AreTied, IsTiedTo, areas_of}}
 use Rattle.vs_ring_plain.proofs.Calls as plain
 use Rattle.laws_plain_rings.proofs.Told as told
 

@@ -1,13 +1,11 @@
 //! Standard rings as both traits.
-ghost use Rattle.std.specs.Prelude.{◌≡◌, ◌<◌, ◌≤◌, ◌+◌, ◌^◌, [], length, if◌then◌else◌, None, Some, IfOk, IfErr, OnOk, OnErr, IsTrue};
-ghost use Rattle.std.specs.{Prelude.is_ok, Option.ForSome};
+ghost use Rattle.std.specs.{Prelude.{◌≡◌, ◌<◌, ◌≤◌, ◌+◌, ◌^◌, [], length, if◌then◌else◌, None, Some, IfOk, IfErr, OnOk, OnErr, IsTrue, is_ok}, Option.ForSome};
 ghost use Rattle.vs_guest_mem.specs.Memory.{after_write, is_inside};
 ghost use Rattle.vs_layout.specs.Layout.{queue_areas_of};
 ghost use Rattle.vs_ring_port.specs.{declared.queue.TheConstants.QUEUE_SIZE_MAX, DriverCalls.page_of};
 ghost use Rattle.vs_ring_plain.specs.Device.{with_change};
-ghost use Rattle.laws_plain_rings.specs.{Exposed.are_alone, Exposed.first_ends, Parts.new_parts, Parts.with_parts_memory, Tie.AreWordsZero};
-ghost use Rattle.laws_plain_rings.specs.Tie.{IsLaid, areas_of, start_of};
-ghost use Rattle.vs_page.specs.{Fair.IsFairLog, Log.Device, Log.Driver, Log.HasGotAll};
+ghost use Rattle.laws_plain_rings.specs.{Exposed.{are_alone, first_ends}, Parts.{new_parts, with_parts_memory}, Tie.{AreWordsZero, IsLaid, areas_of, start_of}};
+ghost use Rattle.vs_page.specs.{Fair.IsFairLog, Log.{Device, Driver, HasGotAll}};
 ghost use Rattle.vs_plain_rings.specs.Counted.{AreCounted};
 
 use crate::parts::{Parts, pages_from};
@@ -172,13 +170,10 @@ fn reaped(page: Option<Page>) -> Reaped
 impl DriverRing for PlainRings {
     ghost use Rattle.std.specs.Prelude.{IfNone, OnSome, true};
     ghost use Rattle.vs_header.specs.declared.TheConstants.{HEADER_LEN};
-    ghost use Rattle.vs_ring_port.specs.Counts.{at, one_more, without_queue};
-    ghost use Rattle.vs_ring_port.specs.DriverCalls.{Stage, Publish, Reap, LoadCid, DriverAllows, CanPublish, CanStage};
+    ghost use Rattle.vs_ring_port.specs.{Counts.{at, one_more, without_queue}, DriverCalls.{Stage, Publish, Reap, LoadCid, DriverAllows, CanPublish, CanStage}};
     ghost use Rattle.vs_ring_port.specs.declared.queue.Queue.{Queue};
     ghost use Rattle.vs_plain_driver.specs.Queue.{reaped_page};
-    ghost use Rattle.laws_plain_rings.specs.Exposed.{driver_contents};
-    ghost use Rattle.laws_plain_rings.specs.Parts.{driver_at, parts_flight, parts_staged, published_parts, reaped_parts, staged_parts};
-    ghost use Rattle.laws_plain_rings.specs.Parts.{used_in};
+    ghost use Rattle.laws_plain_rings.specs.{Exposed.driver_contents, Parts.{driver_at, parts_flight, parts_staged, published_parts, reaped_parts, staged_parts, used_in}};
 
     ghost size = { λ r. r.parts.device.size };
 
@@ -271,9 +266,8 @@ impl DriverRing for PlainRings {
 impl DeviceRing for PlainRings {
     ghost use Rattle.std.specs.Prelude.{Contains, IfSome, true};
     ghost use Rattle.vs_limits.specs.declared.TheConstants.{GUEST_CID_MIN, GUEST_CID_MAX};
-    ghost use Rattle.vs_ring_port.specs.Chains.{IsLongEnough, chain_of, held_after, without};
-    ghost use Rattle.vs_ring_port.specs.Contents.{Take, Read, Write, Return, Given, PublishCid};
-    ghost use Rattle.vs_ring_port.specs.DeviceCalls.{CanReturn, DeviceAllows, LeavesNoGap};
+    ghost use Rattle.vs_ring_port.specs.{Chains.{IsLongEnough, chain_of, held_after, without}, Contents.{Take, Read, Write, Return, Given, PublishCid}, DeviceCalls.CanReturn};
+    ghost use Rattle.vs_ring_port.specs.DeviceCalls.{DeviceAllows, LeavesNoGap};
     ghost use Rattle.vs_ring_plain.specs.Device.{answer_to, chains_held};
     ghost use Rattle.laws_plain_rings.specs.Exposed.{device_contents};
 

@@ -1,21 +1,18 @@
 -- A turn and a reset over list rings with a host in memory.
-use Rattle.std.proofs.Common.{◌≡◌, ℕ, ◌<◌, ◌≤◌, ◌^◌, false, List, [], ◌++◌, Option, Result, Some, unwrap_or, arith, refl, sym, ap, subst}
-use Rattle.std.proofs.Common.{◌∙◌}
+use Rattle.std.proofs.Common.{◌≡◌, ℕ, ◌<◌, ◌≤◌, ◌^◌, false, List, [], ◌++◌, Option, Result, Some, unwrap_or, arith, refl, sym, ap, subst, ◌∙◌}
 use Rattle.vs_limits.specs.declared.TheConstants.{GUEST_CID_MAX}
 use Rattle.vs_ring_port.specs.{Counts.Counts, EndLog.EndLog, Chains.chains_of, declared.failure.Failure.Failure}
 use Rattle.vs_ring_list.specs.Ends.{Ends, device_contents, driver_contents, empty_ends, staged_of}
 use Rattle.vs_outside.specs.Host.{HostContents}
 use Rattle.vs_driver_parts.specs.State.{DriverState}
 use Rattle.laws_driver.specs.Honest.{IsHonestWith}
-use Rattle.vs_device_parts.specs.{Calls.Situation, Playing.IsItsRing, Playing.Runs, Playing.situation}
-use Rattle.laws_device.proofs.Named.Opening.{new_has}
-use Rattle.vs_proxy_parts.specs.{State.ProxyState, Turns.new_proxy, Turns.proxy_reset_of, Turns.turn_of, declared.answers.Turn.Turn}
-use Rattle.laws_proxy.proofs.Named.Lists.{none_open}
-use Rattle.laws_device.proofs.Carrying.{ring_only}
-use Rattle.laws_proxy.proofs.Turning.{new_proxy_with, proxy_reset_keeps, turn_keeps, plain_proxied}
-use Rattle.laws_proxy.proofs.Ordered.{reset_honest, reset_streams, turn_honest, turn_streams}
-use Rattle.laws_world.{specs.World.first_cid, proofs.Flown.LeavesDriver, proofs.OverBoth.IsPlayed, proofs.OverBoth.over}
-use Rattle.vs_play.specs.{Answer.base_path, Ready.IsDriven, Ready.IsServed, Told.Serves}
+use Rattle.vs_device_parts.specs.{Calls.Situation, Playing.{IsItsRing, Runs, situation}}
+use Rattle.laws_device.proofs.{Named.Opening.new_has, Carrying.ring_only}
+use Rattle.vs_proxy_parts.specs.{State.ProxyState, Turns.{new_proxy, proxy_reset_of, turn_of}, declared.answers.Turn.Turn}
+use Rattle.laws_proxy.proofs.{Named.Lists.none_open, Turning.{new_proxy_with, proxy_reset_keeps, turn_keeps, plain_proxied}, Ordered.{reset_honest, reset_streams, turn_honest}}
+use Rattle.laws_proxy.proofs.Ordered.{turn_streams}
+use Rattle.laws_world.{specs.World.first_cid, proofs.{Flown.LeavesDriver, OverBoth.{IsPlayed, over}}}
+use Rattle.vs_play.specs.{Answer.base_path, Ready.{IsDriven, IsServed}, Told.Serves}
 use Rattle.vs_report.specs.DeviceLines.{reset_text, turn_text}
 
 -- The rings stay the driver's.

@@ -3,11 +3,9 @@ use Rattle.std.proofs.Common.{◌≡◌, ℕ, List, ◌++◌, Result, Ok, Err, O
 use Rattle.vs_contents.specs.CallTree.{Done}
 use Rattle.vs_ring_port.specs.Contents.{RingContents}
 use Rattle.vs_ring_list.specs.Ends.{Ends, driver_contents, flight_of, staged_of}
-use Rattle.vs_driver_parts.specs.{Playing.IsRingOf, Playing.SamePages, State.DriverState, Listening.listen_of, Listening.listening}
-use Rattle.vs_driver_parts.specs.declared.answers.ListenError.{ListenError}
-use Rattle.laws_driver.specs.Honest.{IsHonestWith}
+use Rattle.vs_driver_parts.specs.{Playing.{IsRingOf, SamePages}, State.DriverState, Listening.{listen_of, listening}, declared.answers.ListenError.ListenError}
+use Rattle.laws_driver.specs.{Honest.IsHonestWith, Carried.Calls.{GuestCall, ReplyTo, whole_call}}
 use Rattle.laws_world.specs.Over.{over_lists}
-use Rattle.laws_driver.specs.Carried.Calls.{GuestCall, ReplyTo, whole_call}
 use Rattle.vs_play.specs.{Lines.reply_text, Ready.IsDriven, Told.Replies}
 use Rattle.laws_driver.specs.Carried.Calls as call
 

@@ -1,9 +1,8 @@
 -- What a line does, and what it prints, doesn't look at the journal of the calls that the guest made.
 use Rattle.std.proofs.Common.{◌≡◌, ℕ, List, [], ◌∷◌, refl, sym, ap, ◌∙◌}
-use Rattle.vs_script.specs.{Data.bytes_of, Outside.Outside, Outside.OfHost, Play.Event}
+use Rattle.vs_script.specs.{Data.bytes_of, Outside.{Outside, OfHost}, Play.Event}
 use Rattle.laws_world.specs.Plays.{Line}
-use Rattle.vs_play.specs.{Answer.report_of, Answer.texts_of, Answer.world_after, Lines.PlayWorld, Lines.event_played, Lines.host_line}
-use Rattle.vs_play.specs.{Lines.outside_played, Lines.played_line, Ready.PlayState, Ready.shown, Ready.world_in}
+use Rattle.vs_play.specs.{Answer.{report_of, texts_of, world_after}, Lines.{PlayWorld, event_played, host_line, outside_played, played_line}, Ready.{PlayState, shown, world_in}}
 use Rattle.vs_script.specs.Outside as outside
 use Rattle.vs_script.specs.Play as script
 use Rattle.laws_driver.specs.Carried.Calls as call

@@ -1,14 +1,10 @@
 -- How the lines of a play add up.
-use Rattle.std.proofs.Common.{◌≡◌, ◌<◌, ℕ, zero, suc, ◌+◌, List, [], ◌∷◌, ◌++◌, length, map, drop, slice_get, get_or, Option, Some, Result}
-use Rattle.std.proofs.Common.{Ok, Err, refl, sym, ap, ◌∙◌, subst, append_assoc}
-use Rattle.std.{proofs.lemmas.List.drop_more, proofs.lemmas.List.drop-map, specs.List.AllByRecursion}
-use Rattle.vs_script.specs.Play.{Event, play_view}
-use Rattle.vs_script.specs.{Script.numbered_event, declared.play.PlayLine.PlayLine, declared.script.Numbered.Numbered}
-use Rattle.vs_report.proofs.LinesGiven.{gives_next, gives_less}
-use Rattle.vs_report.specs.{Gives.GivesLines, declared.giving.GiveError.GiveError}
-use Rattle.vs_play.specs.Answer.{events_in, opened_play, printed, report_of, texts_of, world_after}
+use Rattle.std.proofs.Common.{◌≡◌, ◌<◌, ℕ, zero, suc, ◌+◌, List, [], ◌∷◌, ◌++◌, length, map, drop, slice_get, get_or, Option, Some, Result, Ok, Err, refl, sym, ap, ◌∙◌, subst}
+use Rattle.std.{proofs.{Common.append_assoc, lemmas.List.{drop_more, drop-map}}, specs.List.AllByRecursion}
+use Rattle.vs_script.specs.{Play.{Event, play_view}, Script.numbered_event, declared.{play.PlayLine.PlayLine, script.Numbered.Numbered}}
+use Rattle.vs_report.{proofs.LinesGiven.{gives_next, gives_less}, specs.{Gives.GivesLines, declared.giving.GiveError.GiveError}}
+use Rattle.vs_play.specs.{Answer.{events_in, opened_play, printed, report_of, texts_of, world_after}, Lines.event_played, Ready.{IsPlayable, PlayState, shown, world_in}}
 use Rattle.vs_play.proofs.Journal.{after_alike, report_alike, texts_alike}
-use Rattle.vs_play.specs.{Lines.event_played, Ready.IsPlayable, Ready.PlayState, Ready.shown, Ready.world_in}
 
 -- The event lines of a script, as the program holds them.
 abbrev event_of : Numbered PlayLine → Event

@@ -1,23 +1,19 @@
 -- What a line does on one end of the rings, the host or the moment is a line of the play.
 use Rattle.std.proofs.Common.{◌≡◌, ℕ, ◌+◌, min, List, ◌++◌, length, Option, Result, Ok, Err, OnOk, refl, sym, ap, ap₂, subst, ◌∙◌}
 use Rattle.vs_ring_list.specs.Ends.{Ends, empty_ends}
-use Rattle.vs_driver_parts.specs.{Conversations.DriverTree, Conversations.new_of, State.DriverState}
+use Rattle.vs_driver_parts.specs.{Conversations.{DriverTree, new_of}, State.DriverState}
 use Rattle.vs_limits.specs.declared.TheConstants.{FIRST_PORT}
 use Rattle.vs_ring_port.specs.declared.device_ring.Chain.{Chain}
 use Rattle.vs_device_parts.specs.{Calls.{DeviceTree, Situation}, Playing.IsItsRing, declared.answers.Grown.Grown}
 use Rattle.vs_outside.specs.{Host.HostContents, HostProgram.after_client}
-use Rattle.vs_proxy_parts.specs.{State.ProxyState, Turns.new_proxy, Turns.proxy_reset_of, Turns.turn_of}
-use Rattle.vs_proxy_parts.specs.Growing.{after_label_grow, label_at, label_grow_of}
+use Rattle.vs_proxy_parts.specs.{State.ProxyState, Turns.{new_proxy, proxy_reset_of, turn_of}, Growing.{after_label_grow, label_at, label_grow_of}}
 use Rattle.laws_proxy.specs.Order.{IsInOrder}
-use Rattle.vs_report.specs.{DeviceLines.growth_text, DeviceLines.reset_text, DeviceLines.turn_text, HostLines.client_text, HostLines.host_played, HostLines.ok_text}
-use Rattle.vs_report.proofs.HostPrograms.{client_opens, host_opens}
-use Rattle.vs_script.specs.{Play.Event, Play.Around, Play.play_view, declared.outside.OutsideLine.OutsideLine, Outside.Client, Outside.Host}
-use Rattle.vs_script.specs.{Outside.Grow, Outside.OfHost, Outside.Outside, Outside.Reset, Outside.Tick, Outside.Turn, declared.play.PlayLine.PlayLine}
-use Rattle.laws_world.specs.{Over.over_both, Over.over_lists, World.first_cid, World.opened_host}
-use Rattle.laws_world.proofs.StayOpen.{StayOpen}
-use Rattle.vs_play.specs.{Answer.base_path, Answer.opened_play, Lines.event_played, Told.Answers, Told.Drives, Told.Serves, Ready.IsDriven}
-use Rattle.vs_play.specs.Ready.{IsOpened, IsReady, IsServed, PlayState, Plays, shown, world_in}
-use Rattle.vs_play.proofs.{Devices.served_new, Served.served_host, Served.served_rings}
+use Rattle.vs_report.{specs.{DeviceLines.{growth_text, reset_text, turn_text}, HostLines.{client_text, host_played, ok_text}}, proofs.HostPrograms.{client_opens, host_opens}}
+use Rattle.vs_script.specs.{Play.{Event, Around, play_view}, declared.{outside.OutsideLine.OutsideLine, play.PlayLine.PlayLine}, Outside.{Client, Host, Grow, OfHost, Outside}}
+use Rattle.vs_script.specs.Outside.{Reset, Tick, Turn}
+use Rattle.laws_world.{specs.{Over.{over_both, over_lists}, World.{first_cid, opened_host}}, proofs.StayOpen.StayOpen}
+use Rattle.vs_play.specs.{Answer.{base_path, opened_play}, Lines.event_played, Told.{Answers, Drives, Serves}, Ready.{IsDriven, IsOpened, IsReady, IsServed, PlayState, Plays}}
+use Rattle.vs_play.{specs.Ready.{shown, world_in}, proofs.{Devices.served_new, Served.{served_host, served_rings}}}
 use Rattle.vs_script.specs.Outside as outside
 use Rattle.vs_script.specs.Play as script
 use Rattle.vs_script.specs.declared.play.PlayLine.TheVariants as lines

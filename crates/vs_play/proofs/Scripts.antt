@@ -1,12 +1,10 @@
 -- Each line of a script may be played.
-use Rattle.std.proofs.Common.{◌≡◌, ℕ, List, [], ◌∷◌, Ok}
-use Rattle.std.specs.List.{AllByRecursion}
-use Rattle.vs_script.specs.{Bounds.AreBounded, Bounds.IsBounded, Outside.Outside, Play.Event, Script.Plays, Script.parse_of}
+use Rattle.std.{proofs.Common.{◌≡◌, ℕ, List, [], ◌∷◌, Ok}, specs.List.AllByRecursion}
+use Rattle.vs_script.{specs.{Bounds.{AreBounded, IsBounded}, Outside.Outside, Play.Event, Script.{Plays, parse_of}}, proofs.Bounded.all_bounded}
+use Rattle.vs_play.specs.{Answer.events_in, Ready.IsPlayable}
 use Rattle.vs_script.specs.Outside as outside
 use Rattle.vs_script.specs.Play as script
 use Rattle.vs_script.specs.declared.script.Command.TheVariants as command
-use Rattle.vs_script.proofs.Bounded.{all_bounded}
-use Rattle.vs_play.specs.{Answer.events_in, Ready.IsPlayable}
 
 may_outside : (line : Outside) → IsBounded (script.Around line) → IsPlayable (script.Around line)
 may_outside outside.Turn b = tt

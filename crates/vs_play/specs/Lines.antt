@@ -1,12 +1,11 @@
 -- The lines of a play: what each does to the world, and what it prints.
 use Rattle.std.specs.Prelude.{ℕ, ◌+◌, min, List}
 use Rattle.vs_driver_parts.specs.State.{DriverState}
-use Rattle.vs_script.specs.{Data.bytes_of, Outside.Outside, Outside.Host, Play.Event}
-use Rattle.laws_world.specs.{Plays.Line, Plays.Said, Plays.line, World.World}
+use Rattle.vs_script.specs.{Data.bytes_of, Outside.{Outside, Host}, Play.Event}
+use Rattle.laws_world.specs.{Plays.{Line, Said, line}, World.World}
 use Rattle.laws_driver.specs.Carried.Calls.{GuestCall, ReplyTo, flow_accepted, flow_opened}
-use Rattle.vs_report.specs.GuestLines.{connect_text, listen_text, unlisten_text, accept_text, send_text, recv_text, shutdown_text}
-use Rattle.vs_report.specs.{GuestLines.{close_text, grow_text, state_text, poll_text}, DeviceLines.{growth_text, turn_text, reset_text}, HostLines.ok_text}
-use Rattle.vs_report.specs.HostLines.{client_text, write_text, stream_there_text}
+use Rattle.vs_report.specs.GuestLines.{connect_text, listen_text, unlisten_text, accept_text, send_text, recv_text, shutdown_text, close_text, grow_text, state_text, poll_text}
+use Rattle.vs_report.specs.{DeviceLines.{growth_text, turn_text, reset_text}, HostLines.{ok_text, client_text, write_text, stream_there_text}}
 use Rattle.vs_script.specs.Outside as outside
 use Rattle.vs_script.specs.Play as script
 use Rattle.laws_driver.specs.Carried.Calls as call

@@ -3,15 +3,14 @@
 ghost use Rattle.std.specs.Prelude.{◌≡◌, ◌≤◌, ℕ, IfOk, OnOk, length, string_bytes, take};
 ghost use Rattle.vs_contents.specs.CallTree.{Done};
 ghost use Rattle.vs_ring_list.specs.Ends.{Ends, empty_ends};
-ghost use Rattle.vs_driver_parts.specs.{Conversations.new_of, Conversations.poll_of, Connections.table_shown};
+ghost use Rattle.vs_driver_parts.specs.{Conversations.{new_of, poll_of}, Connections.table_shown};
 ghost use Rattle.vs_limits.specs.declared.TheConstants.{FIRST_PORT};
 ghost use Rattle.vs_report.specs.GuestLines.{poll_text};
-ghost use Rattle.vs_script.specs.{Data.bytes_of, Data.content_of, Play.play_view};
-ghost use Rattle.laws_driver.specs.Carried.Calls as call;
+ghost use Rattle.vs_script.specs.{Data.{bytes_of, content_of}, Play.play_view};
 ghost use Rattle.laws_world.specs.Over.{over_lists};
 ghost use Rattle.laws_driver.specs.Carried.Calls.{flow_accepted, flow_opened, makes_call};
-ghost use Rattle.vs_play.specs.{Ready.IsBits, Ready.IsDriven, Ready.IsPlayable};
-ghost use Rattle.vs_play.specs.Told.{Answers, Drives, Replies};
+ghost use Rattle.vs_play.specs.{Ready.{IsBits, IsDriven, IsPlayable}, Told.{Answers, Drives, Replies}};
+ghost use Rattle.laws_driver.specs.Carried.Calls as call;
 
 use std::alloc::{AllocError, Global};
 use vs_both_ends::BothEnds;

@@ -1,13 +1,11 @@
 //! Playing a script: what each line prints, and then the report, given to a sink line by line.
 
-ghost use Rattle.std.specs.Prelude.{◌≡◌, ◌∷◌, [], ℕ, List, Ok, OnOk, map};
-ghost use Rattle.std.specs.List.{AllByRecursion};
+ghost use Rattle.std.specs.{Prelude.{◌≡◌, ◌∷◌, [], ℕ, List, Ok, OnOk, map}, List.AllByRecursion};
 ghost use Rattle.vs_ring_list.specs.Ends.{empty_ends};
-ghost use Rattle.vs_script.specs.{Play.Event, Play.play_view, Script.Plays as Saying, Script.numbered_event, Script.parse_of};
-ghost use Rattle.vs_script.specs.declared.script.Command.TheVariants as command;
+ghost use Rattle.vs_script.specs.{Play.{Event, play_view}, Script.{Plays as Saying, numbered_event, parse_of}};
 ghost use Rattle.vs_report.specs.Gives.{GivesLines};
-ghost use Rattle.vs_play.specs.Answer.{events_in, printed, report_of, texts_of, world_after};
-ghost use Rattle.vs_play.specs.{Lines.event_played, Ready.IsPlayable, Ready.IsReady, Ready.shown, Ready.world_in};
+ghost use Rattle.vs_play.specs.{Answer.{events_in, printed, report_of, texts_of, world_after}, Lines.event_played, Ready.{IsPlayable, IsReady, shown, world_in}};
+ghost use Rattle.vs_script.specs.declared.script.Command.TheVariants as command;
 
 use crate::play::Play;
 use std::alloc::Global;

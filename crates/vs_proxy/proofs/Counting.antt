@@ -1,16 +1,13 @@
 -- How many connections may come and leave in the device's calls.
-use Rattle.std.proofs.Common.{◌≡◌, ℕ, zero, suc, ◌+◌, ◌≤◌, Bool, true, false, cond, List, [], ◌∷◌, length, ◌==◌, Option, Some, None, refl}
-use Rattle.std.proofs.Common.{arith}
-use Rattle.vs_contents.specs.CallTree.{Done, bind, for_each, while_up_to}
-use Rattle.vs_contents.proofs.Leads.{AllEnds, ends_bind, ends_weaker}
-use Rattle.vs_flow.specs.{Table.entry_under, Table.slots, Table.refusal, declared.flow.Flow.Flow}
+use Rattle.std.proofs.Common.{◌≡◌, ℕ, zero, suc, ◌+◌, ◌≤◌, Bool, true, false, cond, List, [], ◌∷◌, length, ◌==◌, Option, Some, None, refl, arith}
+use Rattle.vs_contents.{specs.CallTree.{Done, bind, for_each, while_up_to}, proofs.Leads.{AllEnds, ends_bind, ends_weaker}}
+use Rattle.vs_flow.specs.{Table.{entry_under, slots, refusal}, declared.flow.Flow.Flow}
 use Rattle.vs_outside.specs.declared.host_net.StreamWrite.{StreamWrite}
 use Rattle.vs_ring_port.specs.declared.device_ring.Next.{Next}
 use Rattle.vs_wrap.specs.Wrap.{counted}
-use Rattle.vs_device_parts.specs.Streams.{closing, leaving, tick_slot, tick_of, Writing, pump_of, pump_slot, write_answered, write_pending}
-use Rattle.vs_device_parts.specs.Connections.{is_timed_out, cut_off, stream_closed, with_fault, after_leaving}
-use Rattle.vs_device_parts.specs.{Calls.DeviceTree, State.DeviceConnection, State.DeviceState, State.DeviceEntry, Streams.shut_write}
-use Rattle.vs_device_parts.specs.{Streams.to_write, Streams.is_written_out, Receiving.event_on, Receiving.pay_event_of, Turns.open_of}
+use Rattle.vs_device_parts.specs.Streams.{closing, leaving, tick_slot, tick_of, Writing, pump_of, pump_slot, write_answered, write_pending, shut_write, to_write, is_written_out}
+use Rattle.vs_device_parts.specs.{Connections.{is_timed_out, cut_off, stream_closed, with_fault, after_leaving}, Calls.DeviceTree, State.{DeviceConnection, DeviceState}}
+use Rattle.vs_device_parts.specs.{State.DeviceEntry, Receiving.{event_on, pay_event_of}, Turns.open_of}
 use Rattle.vs_proxy_parts.specs.Turning.{CountsFew}
 use Rattle.vs_outside.specs.declared.host_net.StreamWrite.TheVariants as write
 use Rattle.vs_ring_port.specs.declared.device_ring.Next.TheVariants as next

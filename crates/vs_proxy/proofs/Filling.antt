@@ -1,27 +1,23 @@
 -- How many connections may leave while packets are put: each leaves with its RST.
-use Rattle.std.specs.Prelude.{if◌then◌else◌, not, Result, Ok, Err}
-use Rattle.std.proofs.Common.{◌≡◌, ℕ, ◌+◌, ◌≤◌, ◌==◌, false, List, [], ◌∷◌, length, Option, Some, None, refl, arith}
-use Rattle.vs_contents.specs.CallTree.{Done, bind, for_each, while_up_to}
-use Rattle.vs_contents.proofs.Leads.{ends_bind, ends_weaker}
-use Rattle.vs_conn.specs.Headers.{owed_header, payload_header}
-use Rattle.vs_conn.specs.{End.owes_of, End.with_payload_sent, declared.end.Owed.Owed}
+use Rattle.std.{specs.Prelude.{if◌then◌else◌, not, Result, Ok, Err}, proofs.Common.{◌≡◌, ℕ, ◌+◌, ◌≤◌, ◌==◌, false, List, [], ◌∷◌, length, Option, Some, None, refl, arith}}
+use Rattle.vs_contents.{specs.CallTree.{Done, bind, for_each, while_up_to}, proofs.Leads.{ends_bind, ends_weaker}}
+use Rattle.vs_conn.specs.{Headers.{owed_header, payload_header}, End.{owes_of, with_payload_sent}, declared.end.Owed.Owed}
 use Rattle.vs_credit.specs.Credit.{free_of}
 use Rattle.vs_flow.specs.Table.{entry_under, slots}
 use Rattle.vs_header.specs.declared.Header.{Header}
 use Rattle.vs_outside.specs.declared.host_net.StreamRead.{StreamRead}
 use Rattle.vs_replies.specs.declared.Reply.{Reply}
-use Rattle.vs_ring_port.specs.declared.{device_ring.Chain.Chain, device_ring.Next.Next, failure.Failure.Failure}
-use Rattle.vs_device_parts.specs.Receiving.{Filling, after_paying, fill_rx_of, filled_of, hold, holding, may_read, put_on, put_owed}
-use Rattle.vs_device_parts.specs.Receiving.{put_packet, put_payload, put_reply, put_reply_of, read_answered, read_stream, read_with_chain}
-use Rattle.vs_device_parts.specs.Connections.{with_connection, with_fault, route_to_guest, cut_off}
-use Rattle.vs_device_parts.specs.Receiving.{reply_header, round_from, serve_slot}
-use Rattle.vs_device_parts.specs.{declared.answers.Filled.Filled, Calls.DeviceTree, State.DeviceEntry, State.DeviceState, Streams.closing}
+use Rattle.vs_ring_port.specs.declared.{device_ring.{Chain.Chain, Next.Next}, failure.Failure.Failure}
+use Rattle.vs_device_parts.specs.Receiving.{Filling, after_paying, fill_rx_of, filled_of, hold, holding, may_read, put_on, put_owed, put_packet, put_payload, put_reply}
+use Rattle.vs_device_parts.specs.{Receiving.{put_reply_of, read_answered, read_stream, read_with_chain, reply_header, round_from, serve_slot}, Connections.with_connection}
+use Rattle.vs_device_parts.specs.{Connections.{with_fault, route_to_guest, cut_off}, declared.answers.Filled.Filled, Calls.DeviceTree, State.{DeviceEntry, DeviceState}}
+use Rattle.vs_device_parts.specs.Streams.{closing}
 use Rattle.vs_proxy_parts.specs.Turning.{CountsFew}
 use Rattle.vs_proxy.proofs.Counting.{Ends, closing_few, ends_if, ends_option, keeps_bind, keeps_each, keeps_while, leaving_few}
+use Rattle.vs_limits.specs.declared.TheConstants.{OWED_MAX}
 use Rattle.vs_conn.specs.declared.end.Owed.TheVariants as owed
 use Rattle.vs_outside.specs.declared.host_net.StreamRead.TheVariants as read
 use Rattle.vs_ring_port.specs.declared.device_ring.Next.TheVariants as next
-use Rattle.vs_limits.specs.declared.TheConstants.{OWED_MAX}
 
 -- no more left than packets were put
 record Puts (r q : Filling) : Type 0 where

@@ -1,16 +1,13 @@
 -- What the steps of handshakes come to.
-use Rattle.std.proofs.Common.{◌≡◌, ℕ, ◌+◌, ◌==◌, Bool, true, false, cond, List, [], ◌∷◌, ◌++◌, length, Some, refl, sym, ap, ◌∙◌}
-use Rattle.std.{specs.Prelude.if◌then◌else◌, specs.Prelude.nat_lt, specs.Prelude.Result, specs.List.find, proofs.lemmas.Bool.eqb-true}
-use Rattle.vs_contents.specs.CallTree.{Done, Ask, bind}
-use Rattle.vs_contents.proofs.{Leads.leads_of, Leads.leads_bind, Conditions.may_first, Conditions.may_of}
+use Rattle.std.proofs.{Common.{◌≡◌, ℕ, ◌+◌, ◌==◌, Bool, true, false, cond, List, [], ◌∷◌, ◌++◌, length, Some, refl, sym, ap, ◌∙◌}, lemmas.Bool.eqb-true}
+use Rattle.std.specs.{Prelude.{if◌then◌else◌, nat_lt, Result}, List.find}
+use Rattle.vs_contents.{specs.CallTree.{Done, Ask, bind}, proofs.{Leads.{leads_of, leads_bind}, Conditions.{may_first, may_of}}}
 use Rattle.vs_outside.specs.declared.host_net.{Accepted.Accepted, StreamRead.StreamRead}
 use Rattle.vs_uds.specs.{ConnectLine.connect_step, declared.scan.Step.Step}
 use Rattle.vs_flow.specs.{Flow.host_flow, declared.table.TableFault.TableFault}
-use Rattle.vs_device_parts.specs.Calls.{DeviceTree, Situation, Allows, Accept, ReadStream, CloseStream}
-use Rattle.vs_device_parts.specs.{Playing.CanMake, Playing.MayRun, Playing.Runs, State.DeviceState, Turns.open_of}
-use Rattle.vs_proxy_parts.specs.Handshakes.{accept_answered, accept_one, byte_read, dropping, handshake_on, line_decided, may_open}
-use Rattle.vs_proxy_parts.specs.{Handshakes.{read_byte, with_line, without_handshake, without_stream}, Turning.{closing_client, connecting}}
-use Rattle.vs_proxy_parts.specs.{Turning.{opening_client, without_it}, State.{Handshake, Turning, with_device}}
+use Rattle.vs_device_parts.specs.{Calls.{DeviceTree, Situation, Allows, Accept, ReadStream, CloseStream}, Playing.{CanMake, MayRun, Runs}, State.DeviceState, Turns.open_of}
+use Rattle.vs_proxy_parts.specs.Handshakes.{accept_answered, accept_one, byte_read, dropping, handshake_on, line_decided, may_open, read_byte, with_line, without_handshake}
+use Rattle.vs_proxy_parts.specs.{Handshakes.without_stream, Turning.{closing_client, connecting, opening_client, without_it}, State.{Handshake, Turning, with_device}}
 use Rattle.vs_limits.specs.declared.TheConstants.{HANDSHAKES}
 use Rattle.vs_outside.specs.declared.host_net.StreamRead.TheVariants as read
 use Rattle.vs_uds.specs.declared.scan.Step.TheVariants as step

@@ -1,12 +1,9 @@
 -- A transport reset of the proxy.
-use Rattle.std.specs.Prelude.{Result, Ok}
-use Rattle.std.proofs.Common.{◌≡◌, ℕ, [], refl, sym, ap}
-use Rattle.vs_contents.specs.CallTree.{Done, for_each}
-use Rattle.vs_contents.proofs.{Leads.leads_bind, Conditions.may_first, Conditions.may_rest}
+use Rattle.std.{specs.Prelude.{Result, Ok}, proofs.Common.{◌≡◌, ℕ, [], refl, sym, ap}}
+use Rattle.vs_contents.{specs.CallTree.{Done, for_each}, proofs.{Leads.leads_bind, Conditions.{may_first, may_rest}}}
 use Rattle.vs_ring_port.specs.declared.failure.Failure.{Failure}
 use Rattle.vs_device_parts.specs.{Calls.{DeviceTree, Situation, Allows}, Playing.{CanMake, MayRun, Runs}, State.DeviceState, Turns.reset_of}
-use Rattle.vs_proxy_parts.specs.{Handshakes.streams_of, State.ProxyState, State.with_device}
-use Rattle.vs_proxy_parts.specs.Turns.{close_handshake, proxy_reset_of, reset_with}
+use Rattle.vs_proxy_parts.specs.{Handshakes.streams_of, State.{ProxyState, with_device}, Turns.{close_handshake, proxy_reset_of, reset_with}}
 
 module _ (cid : ℕ) (s : ProxyState) where
   abbrev then_close : DeviceState × Result (Unit {0}) Failure → DeviceTree (ProxyState × Result (Unit {0}) Failure)

@@ -1,14 +1,11 @@
 -- Stages that are left out once the ring failed.
-use Rattle.std.specs.Prelude.{Result}
-use Rattle.std.proofs.Common.{◌≡◌, ℕ, ◌+◌, Bool, true, false, Option, Some, None, is_some, refl, sym, ap}
-use Rattle.vs_contents.specs.CallTree.{Done}
-use Rattle.vs_contents.proofs.{Leads.leads_bind, Leads.leads_of, Conditions.may_first, Conditions.may_of, Conditions.may_rest}
+use Rattle.std.{specs.Prelude.Result, proofs.Common.{◌≡◌, ℕ, ◌+◌, Bool, true, false, Option, Some, None, is_some, refl, sym, ap}}
+use Rattle.vs_contents.{specs.CallTree.Done, proofs.{Leads.{leads_bind, leads_of}, Conditions.{may_first, may_of, may_rest}}}
 use Rattle.vs_ring_port.specs.declared.failure.Failure.{Failure}
-use Rattle.vs_device_parts.specs.{Calls.DeviceTree, Calls.Situation, Calls.Allows, Playing.CanMake, Playing.MayRun, Playing.Runs}
-use Rattle.vs_device_parts.specs.{Receiving.fill_rx_of, Receiving.pay_event_of, State.DeviceState, Streams.Writing, Streams.pump_of}
-use Rattle.vs_device_parts.specs.{Streams.tick_of, Transmitting.take_tx_of, declared.answers.Filled.Filled, declared.answers.Taken.Taken}
-use Rattle.vs_proxy_parts.specs.{Handshakes.tick_handshakes, State.Turning, Turns.device_after, Turns.event_stage, Turns.fill_stage}
-use Rattle.vs_proxy_parts.specs.Turns.{filled, pump_stage, take_one, tick_stage, took_packet, unless_failed}
+use Rattle.vs_device_parts.specs.{Calls.{DeviceTree, Situation, Allows}, Playing.{CanMake, MayRun, Runs}, Receiving.{fill_rx_of, pay_event_of}, State.DeviceState, Streams.Writing}
+use Rattle.vs_device_parts.specs.{Streams.{pump_of, tick_of}, Transmitting.take_tx_of, declared.answers.{Filled.Filled, Taken.Taken}}
+use Rattle.vs_proxy_parts.specs.{Handshakes.tick_handshakes, State.Turning, Turns.{device_after, event_stage, fill_stage, filled, pump_stage, take_one, tick_stage, took_packet}}
+use Rattle.vs_proxy_parts.specs.Turns.{unless_failed}
 
 no_failure : (o : Option Failure) → is_some o ≡ false → o ≡ None
 no_failure None is = refl

@@ -1,11 +1,9 @@
 -- What single steps of the proxy keep of the streams.
-use Rattle.std.proofs.Common.{◌≡◌, ℕ, Bool, true, false, Option, None, subst}
-use Rattle.std.specs.Option.{ForSome}
+use Rattle.std.{proofs.Common.{◌≡◌, ℕ, Bool, true, false, Option, None, subst}, specs.Option.ForSome}
 use Rattle.vs_outside.specs.Host.{HostContents}
 use Rattle.vs_ring_port.specs.Contents.{RingContents}
-use Rattle.vs_device_parts.specs.{Calls.Allows, Calls.Call, Calls.DeviceTree, Calls.Situation, Playing.RunsOnHost, Playing.situation}
-use Rattle.laws_device.specs.Named.{Split.CanReach, Split.is_quiet, Streams.HasStreams}
-use Rattle.laws_device.proofs.Named.Keeping.{Keeps, keeps_end}
+use Rattle.vs_device_parts.specs.{Calls.{Allows, Call, DeviceTree, Situation}, Playing.{RunsOnHost, situation}}
+use Rattle.laws_device.{specs.Named.{Split.{CanReach, is_quiet}, Streams.HasStreams}, proofs.Named.Keeping.{Keeps, keeps_end}}
 use Rattle.vs_proxy_parts.specs.{Handshakes.{accept_one, read_byte, streams_of, tick_handshake}, State.{ProxyState, Turning, start}}
 use Rattle.laws_proxy.proofs.Named.Shaking.{FindsAll, Turns, TurnsFirst, keeps_accept_one, keeps_read_byte, keeps_tick_handshake}
 

@@ -1,17 +1,14 @@
 -- How many connections may come and leave when a packet is taken.
-use Rattle.std.specs.Prelude.{nat_lt, nat_le}
-use Rattle.std.proofs.Common.{◌≡◌, ◌-◌, ◌==◌, ◌&&◌, length, None, refl, arith}
-use Rattle.vs_contents.{specs.CallTree.Done, specs.CallTree.Ask, proofs.Leads.ends_bind, proofs.Leads.ends_weaker}
-use Rattle.vs_conn.specs.{End.verdict_of, End.is_of, End.is_reset, declared.end.Verdict.Verdict}
-use Rattle.vs_flow.specs.{Flow.is_assigned, Table.entry_of, Table.has_place}
-use Rattle.vs_header.specs.{Op.op_number, Packet.header_of, declared.Header.Header, declared.TheConstants.HEADER_LEN}
-use Rattle.vs_header.specs.{declared.Op.TheVariants.Request, declared.Kind.TheVariants.Stream}
+use Rattle.std.{specs.Prelude.{nat_lt, nat_le}, proofs.Common.{◌≡◌, ◌-◌, ◌==◌, ◌&&◌, length, None, refl, arith}}
+use Rattle.vs_contents.{specs.CallTree.{Done, Ask}, proofs.Leads.{ends_bind, ends_weaker}}
+use Rattle.vs_conn.specs.{End.{verdict_of, is_of, is_reset}, declared.end.Verdict.Verdict}
+use Rattle.vs_flow.specs.{Flow.is_assigned, Table.{entry_of, has_place}}
+use Rattle.vs_header.specs.{Op.op_number, Packet.header_of, declared.{Header.Header, TheConstants.HEADER_LEN, Op.TheVariants.Request, Kind.TheVariants.Stream}}
 use Rattle.vs_outside.specs.declared.host_net.Dialed.{Dialed}
-use Rattle.vs_page.specs.{Log.flow_to_host, Log.Device, Open.is_dropped}
-use Rattle.vs_ring_port.specs.{Contents.Return, declared.device_ring.Chain.Chain, declared.device_ring.Next.Next}
-use Rattle.vs_device_parts.specs.Transmitting.{dial_answered, heard, on_header, on_known, on_next, on_packet, on_unknown, take_tx_of}
-use Rattle.vs_device_parts.specs.State.{DeviceEntry, DeviceState}
-use Rattle.vs_device_parts.specs.{declared.answers.Taken.Taken, Calls.DeviceTree, Calls.Ring, Transmitting.try_request, Streams.leaving}
+use Rattle.vs_page.specs.{Log.{flow_to_host, Device}, Open.is_dropped}
+use Rattle.vs_ring_port.specs.{Contents.Return, declared.device_ring.{Chain.Chain, Next.Next}}
+use Rattle.vs_device_parts.specs.{Transmitting.{dial_answered, heard, on_header, on_known, on_next, on_packet, on_unknown, take_tx_of, try_request}, State.DeviceEntry}
+use Rattle.vs_device_parts.specs.{State.DeviceState, declared.answers.Taken.Taken, Calls.{DeviceTree, Ring}, Streams.leaving}
 use Rattle.vs_limits.specs.declared.TheConstants.{DEVICE_REPLIES}
 use Rattle.vs_proxy_parts.specs.Turning.{CountsFew}
 use Rattle.vs_proxy.proofs.Counting.{Ends, ends_if, ends_option, few_more, leaving_few, one_more, same_few}

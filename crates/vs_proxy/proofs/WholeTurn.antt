@@ -1,11 +1,10 @@
 -- A turn is its six stages.
 use Rattle.std.proofs.Common.{◌≡◌, ℕ, ◌-◌, ◌&&◌, not, Option, Some, None, ap, ◌∙◌}
-use Rattle.vs_contents.specs.CallTree.{Done, bind}
-use Rattle.vs_contents.proofs.{Leads.leads_bind, Conditions.may_first, Conditions.may_rest}
+use Rattle.vs_contents.{specs.CallTree.{Done, bind}, proofs.{Leads.leads_bind, Conditions.{may_first, may_rest}}}
 use Rattle.vs_ring_port.specs.declared.failure.Failure.{Failure}
-use Rattle.vs_device_parts.specs.{Calls.DeviceTree, Calls.Situation, Calls.Allows, Playing.CanMake, Playing.MayRun, Playing.Runs}
-use Rattle.vs_proxy_parts.specs.Turns.{event_stage, fill_stage, pump_stage, take_stage, tick_stage, turn_of, turned, unless_failed}
-use Rattle.vs_proxy_parts.specs.{Handshakes.shake_hands, State.ProxyState, State.Turning, State.start, declared.answers.Turn.Turn}
+use Rattle.vs_device_parts.specs.{Calls.{DeviceTree, Situation, Allows}, Playing.{CanMake, MayRun, Runs}}
+use Rattle.vs_proxy_parts.specs.{Turns.{event_stage, fill_stage, pump_stage, take_stage, tick_stage, turn_of, turned, unless_failed}, Handshakes.shake_hands, State.ProxyState}
+use Rattle.vs_proxy_parts.specs.{State.{Turning, start}, declared.answers.Turn.Turn}
 use Rattle.vs_proxy_parts.specs.declared.answers.Turn.TheVariants as turn
 
 module _ (size now : ℕ) (s : ProxyState) where

@@ -3,15 +3,11 @@
 ghost use Rattle.std.specs.Prelude.{◌≡◌, ◌≢◌, ℕ, List, Option, true, Some};
 ghost use Rattle.vs_conn.specs.declared.end.Owed.TheVariants.{CreditUpdate};
 ghost use Rattle.vs_outside.specs.Host.{HostContents};
-ghost use Rattle.vs_ring_port.specs.Contents.{RingContents};
-ghost use Rattle.vs_ring_port.specs.declared.device_ring.Chain.{Chain};
-ghost use Rattle.vs_device_parts.specs.{Calls.Situation, Growing.owed_in, Growing.rises, Playing.IsItsRing, State.counters_of};
-ghost use Rattle.vs_device_parts.specs.declared.answers.Grown.TheVariants.{Done};
-ghost use Rattle.vs_proxy_parts.specs.Growing.{after_flow_grow, after_label_grow, flow_grow_of, label_at, label_grow_of, slot_of};
-ghost use Rattle.vs_proxy_parts.specs.Handshakes.{streams_of};
+ghost use Rattle.vs_ring_port.specs.{Contents.RingContents, declared.device_ring.Chain.Chain};
+ghost use Rattle.vs_device_parts.specs.{Calls.Situation, Growing.{owed_in, rises}, Playing.IsItsRing, State.counters_of, declared.answers.Grown.TheVariants.Done};
+ghost use Rattle.vs_proxy_parts.specs.{Growing.{after_flow_grow, after_label_grow, flow_grow_of, label_at, label_grow_of, slot_of}, Handshakes.streams_of};
 ghost use Rattle.laws_device.specs.Named.Streams.{HasStreams};
-ghost use Rattle.laws_proxy.specs.{Honest.IsProxyStreamed, Honest.IsProxyWith, Order.IsInOrder};
-ghost use Rattle.laws_proxy.specs.Account.{Made.Made, Told.AreAccounted};
+ghost use Rattle.laws_proxy.specs.{Honest.{IsProxyStreamed, IsProxyWith}, Order.IsInOrder, Account.{Made.Made, Told.AreAccounted}};
 
 use crate::proxy::Proxy;
 use vs_device::Grown;

@@ -1,14 +1,13 @@
 //! The lines `CONNECT PORT` of the host's clients, which are read byte by byte (Firecracker's vsock documentation).
 
-ghost use Rattle.std.specs.Prelude.{◌≡◌, ◌≤◌, ◌<◌, ◌+◌, ◌*◌, ◌^◌, ◌∷◌, [], Some, true};
-ghost use Rattle.std.specs.Option.{ForSome, is_some};
+ghost use Rattle.std.specs.{Prelude.{◌≡◌, ◌≤◌, ◌<◌, ◌+◌, ◌*◌, ◌^◌, ◌∷◌, [], Some, true}, Option.{ForSome, is_some}};
 ghost use Rattle.vs_outside.specs.Host.{IsOpen};
-ghost use Rattle.vs_outside.specs.declared.host_net.StreamRead.TheVariants as read;
 ghost use Rattle.vs_uds.specs.declared.connect.TheConstants.{CONNECT_MAX};
-ghost use Rattle.vs_device_parts.specs.{Calls.CloseStream, Playing.AllowsOnHost, Playing.MayRunOnHost, Playing.RunsOnHost};
+ghost use Rattle.vs_device_parts.specs.{Calls.CloseStream, Playing.{AllowsOnHost, MayRunOnHost, RunsOnHost}};
 ghost use Rattle.vs_limits.specs.declared.TheConstants.{HANDSHAKES};
-ghost use Rattle.vs_proxy_parts.specs.Handshakes.{byte_read, handshake_on, may_open, read_byte, read_line, shake_hands};
-ghost use Rattle.vs_proxy_parts.specs.{State.Handshake, Turning.CountsFew, Turning.connecting, Turning.read_lines, Turning.turning_of};
+ghost use Rattle.vs_proxy_parts.specs.{Handshakes.{byte_read, handshake_on, may_open, read_byte, read_line, shake_hands}, State.Handshake, Turning.{CountsFew, connecting}};
+ghost use Rattle.vs_proxy_parts.specs.Turning.{read_lines, turning_of};
+ghost use Rattle.vs_outside.specs.declared.host_net.StreamRead.TheVariants as read;
 
 use crate::proxy::Proxy;
 use vs_flow::Flow;

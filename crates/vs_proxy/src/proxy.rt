@@ -7,8 +7,7 @@ ghost use Rattle.vs_ring_port.specs.EndLog.{EndLog};
 ghost use Rattle.vs_uds.specs.declared.path.TheConstants.{BASE_MAX};
 ghost use Rattle.vs_device_parts.specs.{Calls.Situation, State.counters_of};
 ghost use Rattle.laws_device.specs.Honest.{AgreesWith, IsFresh};
-ghost use Rattle.laws_proxy.specs.Account.{Made.account_of, Told.AreAccounted, Told.Shows};
-ghost use Rattle.laws_proxy.specs.Order.{IsInOrder};
+ghost use Rattle.laws_proxy.specs.{Account.{Made.account_of, Told.{AreAccounted, Shows}}, Order.IsInOrder};
 ghost use Rattle.vs_proxy_parts.specs.Turns.{new_proxy};
 
 use std::alloc::{AllocError, Global};

@@ -1,11 +1,9 @@
 //! Handshakes: clients of the host are accepted, and those that wait too long end (Firecracker's vsock documentation).
 
-ghost use Rattle.std.specs.Prelude.{◌≡◌, ◌≤◌, ◌<◌, ◌+◌, ◌^◌, Some, false};
-ghost use Rattle.std.specs.Option.{option_map_or};
-ghost use Rattle.vs_device_parts.specs.{Playing.MayRunOnHost, Playing.RunsOnHost, Connections.is_late};
+ghost use Rattle.std.specs.{Prelude.{◌≡◌, ◌≤◌, ◌<◌, ◌+◌, ◌^◌, Some, false}, Option.option_map_or};
+ghost use Rattle.vs_device_parts.specs.{Playing.{MayRunOnHost, RunsOnHost}, Connections.is_late};
 ghost use Rattle.vs_limits.specs.declared.TheConstants.{HANDSHAKES};
-ghost use Rattle.vs_proxy_parts.specs.Handshakes.{accept_one, dropping, handshake_on, tick_handshake, tick_handshakes};
-ghost use Rattle.vs_proxy_parts.specs.Turning.{CountsFew, turning_of};
+ghost use Rattle.vs_proxy_parts.specs.{Handshakes.{accept_one, dropping, handshake_on, tick_handshake, tick_handshakes}, Turning.{CountsFew, turning_of}};
 
 use crate::proxy::Proxy;
 use vs_limits::{HANDSHAKES, TIMEOUT};

@@ -5,9 +5,8 @@ ghost use Rattle.vs_ring_port.specs.declared.device_ring.Chain.{Chain};
 ghost use Rattle.vs_uds.specs.declared.connect.TheConstants.{CONNECT_MAX};
 ghost use Rattle.vs_limits.specs.declared.TheConstants.{DEVICE_CONNECTIONS, DEVICE_REPLIES, HANDSHAKES, OWED_MAX};
 ghost use Rattle.vs_device_parts.specs.Playing.{IsItsRing, MayRun, MayRunOnHost, MayRunOnRing, Runs, RunsOnHost, RunsOnRing, situation};
-ghost use Rattle.vs_proxy_parts.specs.{Handshakes.shake_hands, Turning.CountsFew, Turning.turning_of, Turns.event_stage, Turns.fill_stage};
-ghost use Rattle.vs_proxy_parts.specs.Turns.{pump_stage, take_one, take_stage, tick_stage, took_packet, unless_failed};
-ghost use Rattle.vs_proxy_parts.specs.declared.tally.Tally.{Tally};
+ghost use Rattle.vs_proxy_parts.specs.{Handshakes.shake_hands, Turning.{CountsFew, turning_of}, Turns.{event_stage, fill_stage, pump_stage, take_one, take_stage, tick_stage}};
+ghost use Rattle.vs_proxy_parts.specs.{Turns.{took_packet, unless_failed}, declared.tally.Tally.Tally};
 
 use crate::proxy::Proxy;
 use vs_device::Taken;

@@ -1,19 +1,14 @@
 //! The turn of a proxy, and a transport reset.
 
-ghost use Rattle.std.specs.Prelude.{◌≡◌, ◌≤◌, ◌<◌, ◌+◌, ◌^◌, ◌&&◌, not, ℕ, List, Contains, length, [], true, Some, None, IfErr, OnErr, OnOk, Err};
-ghost use Rattle.std.specs.Option.{ForSome};
+ghost use Rattle.std.specs.{Prelude.{◌≡◌, ◌≤◌, ◌<◌, ◌+◌, ◌^◌, ◌&&◌, not, ℕ, List, Contains, length, [], true, Some, None, IfErr, OnErr, OnOk, Err}, Option.ForSome};
 ghost use Rattle.vs_contents.specs.CallTree.{Leads, for_each};
 ghost use Rattle.vs_limits.specs.declared.TheConstants.{BUF_ALLOC_MAX, GUEST_CID_MIN, GUEST_CID_MAX};
 ghost use Rattle.vs_ring_port.specs.{EndLog.EndLog, declared.failure.Failure.Failure};
-ghost use Rattle.vs_device_parts.specs.Playing.{IsItsRing, MayRun, MayRunOnHost, Runs, RunsOnHost, situation};
-ghost use Rattle.vs_device_parts.specs.{State.counters_of, Turns.table_shown, State.DeviceEntry};
-ghost use Rattle.laws_device.specs.Named.Streams.{HasStreams};
-ghost use Rattle.laws_device.specs.Honest.{AgreesWith, IsLeftOpen};
-ghost use Rattle.laws_proxy.specs.{Honest.IsProxyStreamed, Honest.IsProxyWith, Order.IsInOrder};
-ghost use Rattle.vs_proxy_parts.specs.{Handshakes.streams_of, State.ProxyState, Turning.turning_of, Turns.close_handshake};
-ghost use Rattle.vs_proxy_parts.specs.Turns.{proxy_reset_of, turn_of, turned};
-ghost use Rattle.laws_proxy.specs.Account.{Counts.CountsFaults, Counts.DeviceCounts, Counts.counts_of, Counts.counts_shown, Events.TellsEvent, Made.Made};
-ghost use Rattle.laws_proxy.specs.Account.{Made.Makes, Packets.AreJudged, Packets.chains_taken, Told.AreAccounted, Told.StayAccounted};
+ghost use Rattle.vs_device_parts.specs.{Playing.{IsItsRing, MayRun, MayRunOnHost, Runs, RunsOnHost, situation}, State.{counters_of, DeviceEntry}, Turns.table_shown};
+ghost use Rattle.laws_device.specs.{Named.Streams.HasStreams, Honest.{AgreesWith, IsLeftOpen}};
+ghost use Rattle.laws_proxy.specs.{Honest.{IsProxyStreamed, IsProxyWith}, Order.IsInOrder, Account.Counts.{CountsFaults, DeviceCounts, counts_of, counts_shown}};
+ghost use Rattle.laws_proxy.specs.Account.{Events.TellsEvent, Made.{Made, Makes}, Packets.{AreJudged, chains_taken}, Told.{AreAccounted, StayAccounted}};
+ghost use Rattle.vs_proxy_parts.specs.{Handshakes.streams_of, State.ProxyState, Turning.turning_of, Turns.{close_handshake, proxy_reset_of, turn_of, turned}};
 ghost use Rattle.vs_proxy_parts.specs.declared.answers.Turn.TheVariants as turn;
 
 use crate::proxy::Proxy;

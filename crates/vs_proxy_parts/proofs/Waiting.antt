@@ -1,11 +1,9 @@
 -- The handshake on a stream, by its place.
-use Rattle.std.proofs.Common.{◌≡◌, ℕ, zero, suc, ◌<◌, ◌==◌, Bool, true, false, cond, List, [], ◌∷◌, ◌++◌, length, get_or, set, ltb, Option}
-use Rattle.std.proofs.Common.{Some, None, refl, sym, ap, ◌∙◌, arith}
-use Rattle.std.specs.List.{All, find, remove, position, position_or_len}
-use Rattle.std.proofs.lemmas.{List.Folds.find_at, List.Quantifiers.position-Some, Option.slice_get_past, Bool.Decides.nat_tests}
-use Rattle.vs_uds.specs.Reading.{fed, is_decided, port_or_bad}
-use Rattle.vs_uds.specs.{ConnectLine.connect_port, ConnectLine.connect_step, declared.connect.TheConstants.CONNECT_MAX}
-use Rattle.vs_proxy_parts.specs.{State.Handshake, Handshakes.with_line, Handshakes.without_stream}
+use Rattle.std.proofs.Common.{◌≡◌, ℕ, zero, suc, ◌<◌, ◌==◌, Bool, true, false, cond, List, [], ◌∷◌, ◌++◌, length, get_or, set, ltb, Option, Some, None, refl, sym, ap, ◌∙◌, arith}
+use Rattle.std.{proofs.lemmas.{List.{Folds.find_at, Quantifiers.position-Some}, Option.slice_get_past, Bool.Decides.nat_tests}, specs.List.{All, find, remove, position}}
+use Rattle.std.specs.List.{position_or_len}
+use Rattle.vs_uds.specs.{Reading.{fed, is_decided, port_or_bad}, ConnectLine.{connect_port, connect_step}, declared.connect.TheConstants.CONNECT_MAX}
+use Rattle.vs_proxy_parts.specs.{State.Handshake, Handshakes.{with_line, without_stream}}
 use Rattle.vs_uds.specs.declared.scan.Step.TheVariants as step
 
 abbrev is_on : ℕ → Handshake → Bool

@@ -1,9 +1,8 @@
 -- A turn in progress, as its steps count it.
 use Rattle.std.specs.Prelude.{ℕ, ◌+◌, ◌≤◌, if◌then◌else◌}
 use Rattle.vs_contents.specs.CallTree.{Done, Ask, bind, for_each}
-use Rattle.vs_device_parts.specs.{Calls.DeviceTree, Calls.CloseStream, State.DeviceState, Turns.open_of}
-use Rattle.vs_proxy_parts.specs.{declared.tally.Tally.Tally, State.ProxyState, State.Turning, State.with_device}
-use Rattle.vs_proxy_parts.specs.Handshakes.{may_open, read_line, streams_of, without_handshake}
+use Rattle.vs_device_parts.specs.{Calls.{DeviceTree, CloseStream}, State.DeviceState, Turns.open_of}
+use Rattle.vs_proxy_parts.specs.{declared.tally.Tally.Tally, State.{ProxyState, Turning, with_device}, Handshakes.{may_open, read_line, streams_of, without_handshake}}
 use Rattle.vs_flow.specs.Flow.{host_flow}
 
 abbrev pub turning_of : ProxyState → Tally → Turning

@@ -3,11 +3,9 @@ use Rattle.std.specs.Prelude.{ℕ, ◌+◌, ◌-◌, ◌&&◌, not, Bool, true, 
 use Rattle.vs_contents.specs.CallTree.{Done, Ask, bind, for_each, while_up_to}
 use Rattle.vs_limits.specs.declared.TheConstants.{ASSIGNED_FIRST}
 use Rattle.vs_ring_port.specs.declared.failure.Failure.{Failure}
-use Rattle.vs_device_parts.specs.{Calls.DeviceTree, Calls.CloseStream, State.DeviceState, Streams.tick_of, Streams.pump_of}
-use Rattle.vs_device_parts.specs.{Transmitting.take_tx_of, Receiving.pay_event_of, Receiving.fill_rx_of, State.new_device, Turns.reset_of}
-use Rattle.vs_device_parts.specs.{declared.answers.Filled.Filled, declared.answers.Taken.Taken}
-use Rattle.vs_proxy_parts.specs.{Handshakes.streams_of, Handshakes.tick_handshakes, Handshakes.shake_hands, declared.answers.Turn.Turn}
-use Rattle.vs_proxy_parts.specs.State.{ProxyState, Turning, start, with_device}
+use Rattle.vs_device_parts.specs.{Calls.{DeviceTree, CloseStream}, State.{DeviceState, new_device}, Streams.{tick_of, pump_of}, Transmitting.take_tx_of, Receiving.pay_event_of}
+use Rattle.vs_device_parts.specs.{Receiving.fill_rx_of, Turns.reset_of, declared.answers.{Filled.Filled, Taken.Taken}}
+use Rattle.vs_proxy_parts.specs.{Handshakes.{streams_of, tick_handshakes, shake_hands}, declared.answers.Turn.Turn, State.{ProxyState, Turning, start, with_device}}
 use Rattle.vs_device_parts.specs.declared.answers.Taken.TheVariants as taken
 use Rattle.vs_proxy_parts.specs.declared.answers.Turn.TheVariants as turn
 

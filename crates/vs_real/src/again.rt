@@ -1,6 +1,5 @@
 //! Calls that a signal interrupted are made again.
-ghost use Rattle.std.specs.Prelude.{length};
-ghost use Rattle.std.specs.Io.{ReadsAtMost, WritesAtMost};
+ghost use Rattle.std.specs.{Prelude.length, Io.{ReadsAtMost, WritesAtMost}};
 
 use mio::net::{UnixListener, UnixStream};
 use std::io::{self, ErrorKind, Read, Write};

@@ -3,8 +3,7 @@
 //! put (section 5.10.6.1).
 #![tactic(auto)]
 
-ghost use Rattle.std.specs.Prelude.{◌≡◌, ◌+◌, ◌-◌, ◌<◌, ◌≤◌, ◌==◌, ◌↔◌, [], ◌∷◌, ◌++◌, IfErr, IfOk, IsErr, OnErr, OnOk, drop, length};
-ghost use Rattle.std.specs.Prelude.{slice_get};
+ghost use Rattle.std.specs.Prelude.{◌≡◌, ◌+◌, ◌-◌, ◌<◌, ◌≤◌, ◌==◌, ◌↔◌, [], ◌∷◌, ◌++◌, IfErr, IfOk, IsErr, OnErr, OnOk, drop, length, slice_get};
 ghost use Rattle.vs_replies.specs.Owed.{reply_to};
 
 use circular_buffer::HeapCircularBuffer;

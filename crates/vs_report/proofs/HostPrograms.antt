@@ -1,11 +1,9 @@
 -- Streams that are open stay so, whatever the host's programs do.
-use Rattle.std.proofs.Common.{◌≡◌, ◌≢◌, ℕ, zero, suc, ◌==◌, Bool, true, false, cond, List, [], ◌∷◌, ◌++◌, Option, Some, None, IsSomeAnd}
-use Rattle.std.proofs.Common.{refl, sym, ap, subst, ◌∙◌, arith}
-use Rattle.std.{proofs.lemmas.Bool.Decides.nat_tests, specs.Prelude.◌-◌, specs.Prelude.slice_get}
-use Rattle.vs_outside.specs.HostProgram.{after_client, after_host_write, allowed, client_stream, closed, ended, host_write_answer}
-use Rattle.vs_outside.specs.Host.{HostContents, IsOpen, Stream, stream_at, with_stream}
-use Rattle.vs_outside.specs.{HostProgram.with_bytes, declared.mem_stream.HostWritten.HostWritten}
-use Rattle.vs_outside.proofs.Frames.{keeps_others, open_of, stays_open, stream_at-with_stream, stream_place}
+use Rattle.std.proofs.Common.{◌≡◌, ◌≢◌, ℕ, zero, suc, ◌==◌, Bool, true, false, cond, List, [], ◌∷◌, ◌++◌, Option, Some, None, IsSomeAnd, refl, sym, ap, subst, ◌∙◌, arith}
+use Rattle.std.{proofs.lemmas.Bool.Decides.nat_tests, specs.Prelude.{◌-◌, slice_get}}
+use Rattle.vs_outside.specs.{HostProgram.{after_client, after_host_write, allowed, client_stream, closed, ended, host_write_answer, with_bytes}, Host.{HostContents, IsOpen}}
+use Rattle.vs_outside.{specs.{Host.{Stream, stream_at, with_stream}, declared.mem_stream.HostWritten.HostWritten}, proofs.Frames.{keeps_others, open_of, stays_open}}
+use Rattle.vs_outside.proofs.Frames.{stream_at-with_stream, stream_place}
 use Rattle.vs_script.specs.{Data.bytes_of, Outside.{Host, HostListen, HostUnlisten, HostWrite, HostAllow, HostEnd, HostClosed, HostFail}}
 use Rattle.vs_report.specs.HostLines.{host_played}
 use Rattle.vs_outside.specs.declared.host_net.StreamState.TheVariants as state

@@ -1,10 +1,9 @@
 -- How giving lines to a sink adds up.
-use Rattle.std.proofs.Common.{◌≡◌, arith, ℕ, ◌+◌, true, List, [], ◌∷◌, ◌++◌, length, take, Option, Some, None, Result, Ok, Err, refl, sym}
-use Rattle.std.proofs.Common.{ap, ◌∙◌, subst, append_assoc, append-nil, OnOk}
-use Rattle.std.proofs.{Math.Seq.take-append-add, lemmas.List.length-append, lemmas.List.take-append-le}
+use Rattle.std.proofs.Common.{◌≡◌, arith, ℕ, ◌+◌, true, List, [], ◌∷◌, ◌++◌, length, take, Option, Some, None, Result, Ok, Err, refl, sym, ap, ◌∙◌, subst, append_assoc, append-nil}
+use Rattle.std.proofs.{Common.OnOk, Math.Seq.take-append-add, lemmas.List.{length-append, take-append-le}}
 use Rattle.vs_outside.specs.Faults.{CountsFault}
-use Rattle.vs_peer.{specs.Pieces.Emits, specs.Pieces.EmitsSome, proofs.Pieces.emits_append}
-use Rattle.vs_report.specs.{Gives.EmitsLines, Gives.GivesLines, Gives.joined, declared.giving.GiveError.GiveError}
+use Rattle.vs_peer.{specs.Pieces.{Emits, EmitsSome}, proofs.Pieces.emits_append}
+use Rattle.vs_report.specs.{Gives.{EmitsLines, GivesLines, joined}, declared.giving.GiveError.GiveError}
 use Rattle.vs_report.specs.declared.giving.GiveError.TheVariants as fault
 
 pub joined_append : (xs ys : List (List ℕ)) → joined (xs ++ ys) ≡ joined xs ++ joined ys

@@ -1,10 +1,9 @@
 -- How the lines of a report add up.
-use Rattle.std.proofs.Common.{◌≡◌, ◌<◌, arith, ℕ, ◌+◌, List, [], ◌∷◌, ◌++◌, length, take, drop, get_or, Option, Result, Ok, Err, sym, ap}
-use Rattle.std.proofs.{Common.{◌∙◌, Some, subst}, lemmas.List.{take_more, length-take-le, take-append-drop}}
+use Rattle.std.proofs.{Common.{◌≡◌, ◌<◌, arith, ℕ, ◌+◌, List, [], ◌∷◌, ◌++◌, length, take, drop, get_or, Option, Result, Ok, Err, sym, ap, ◌∙◌, Some, subst}, lemmas.List.take_more}
+use Rattle.std.proofs.lemmas.List.{length-take-le, take-append-drop}
 use Rattle.vs_outside.specs.Host.{Stream}
-use Rattle.vs_report.specs.{Gives.GivesLines, Report.guest_open_text, Report.device_open_text, Report.counts_text, Report.stream_text}
-use Rattle.vs_report.specs.{Report.stream_texts, Report.report, declared.giving.GiveError.GiveError, declared.giving.Totals.Totals}
-use Rattle.vs_report.proofs.LinesGiven.{gives_next, gives_less}
+use Rattle.vs_report.specs.{Gives.GivesLines, Report.{guest_open_text, device_open_text, counts_text, stream_text, stream_texts, report}, declared.giving.GiveError.GiveError}
+use Rattle.vs_report.{specs.declared.giving.Totals.Totals, proofs.LinesGiven.{gives_next, gives_less}}
 
 texts_append : (n : ℕ) (xs ys : List Stream) → stream_texts n (xs ++ ys) ≡ stream_texts n xs ++ stream_texts (n + length xs) ys
 texts_append n [] ys = ap (λ k. stream_texts k ys) (omega arith)

@@ -1,9 +1,9 @@
 -- What the lines print that are calls of the guest's driver, each with its LF.
 use Rattle.std.specs.Prelude.{ℕ, Bool, true, false, List, ◌++◌, codes, decimal, Option, Some, None, Result, Ok, Err}
 use Rattle.vs_flow.specs.declared.flow.Flow.{Flow}
-use Rattle.vs_driver_parts.specs.declared.answers.{Accepted.Accepted, Closed.Closed, ConnectError.ConnectError}
-use Rattle.vs_driver_parts.specs.declared.answers.{ConnectionState.ConnectionState, ListenError.ListenError, Polled.Polled}
-use Rattle.vs_driver_parts.specs.declared.answers.{Grown.Grown, Received.Received, Sent.Sent, Shut.Shut}
+use Rattle.vs_driver_parts.specs.declared.answers.{Accepted.Accepted, Closed.Closed, ConnectError.ConnectError, ConnectionState.ConnectionState, ListenError.ListenError}
+use Rattle.vs_driver_parts.specs.declared.answers.{Polled.Polled, Grown.Grown, Received.Received, Sent.Sent, Shut.Shut}
+use Rattle.vs_report.specs.Bytes.{data_text}
 use Rattle.vs_driver_parts.specs.declared.answers.Accepted.TheVariants as accepted
 use Rattle.vs_driver_parts.specs.declared.answers.Closed.TheVariants as closed
 use Rattle.vs_driver_parts.specs.declared.answers.ConnectError.TheVariants as refused
@@ -13,7 +13,6 @@ use Rattle.vs_driver_parts.specs.declared.answers.Received.TheVariants as receiv
 use Rattle.vs_driver_parts.specs.declared.answers.Sent.TheVariants as sent
 use Rattle.vs_driver_parts.specs.declared.answers.Shut.TheVariants as shut
 use Rattle.vs_driver_parts.specs.declared.answers.Grown.TheVariants as rise
-use Rattle.vs_report.specs.Bytes.{data_text}
 
 -- A connection: its number, its guest port and its host port.
 abbrev pub opened_text : ℕ → Flow → List ℕ

@@ -1,8 +1,7 @@
 -- What the host's programs do on a line, and what that prints, each with its LF; and what a line on the moment prints.
 use Rattle.std.specs.Prelude.{ℕ, Bool, true, false, List, ◌++◌, codes, decimal}
-use Rattle.vs_outside.specs.{Host.HostContents, Host.with_stream, declared.mem_stream.HostWritten.HostWritten}
-use Rattle.vs_outside.specs.HostProgram.{after_fail, after_host_write, after_listen, after_unlisten, allowed, closed, ended, has_stream}
-use Rattle.vs_outside.specs.HostProgram.{host_write_answer}
+use Rattle.vs_outside.specs.{Host.{HostContents, with_stream}, declared.mem_stream.HostWritten.HostWritten, HostProgram.{after_fail, after_host_write, after_listen}}
+use Rattle.vs_outside.specs.HostProgram.{after_unlisten, allowed, closed, ended, has_stream, host_write_answer}
 use Rattle.vs_script.specs.{Outside.{Host, HostListen, HostUnlisten, HostWrite, HostAllow, HostEnd, HostClosed, HostFail}, Data.bytes_of}
 use Rattle.vs_header.specs.declared.Kind.TheVariants as kind
 use Rattle.vs_outside.specs.declared.mem_stream.HostWritten.TheVariants as written

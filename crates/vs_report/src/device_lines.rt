@@ -1,8 +1,7 @@
 //! What the lines print that are the device's turns, resets and growths.
 
 ghost use Rattle.std.specs.Prelude.{◌≡◌, ◌++◌, OnOk, string_bytes};
-ghost use Rattle.vs_report.specs.DeviceLines.{one_value_text, two_values_text, failure_text, moved_text, turn_text, turned_text};
-ghost use Rattle.vs_report.specs.DeviceLines.{growth_text, reset_text};
+ghost use Rattle.vs_report.specs.DeviceLines.{one_value_text, two_values_text, failure_text, moved_text, turn_text, turned_text, growth_text, reset_text};
 
 use crate::number::{push_last, push_number};
 use std::alloc::AllocError;

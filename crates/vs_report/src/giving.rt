@@ -1,8 +1,7 @@
 //! Giving lines to a sink, each by itself, and the report of a play.
 
 ghost use Rattle.std.specs.Prelude.{◌≡◌, ◌∷◌, [], string_bytes};
-ghost use Rattle.vs_report.specs.Gives.{GivesLines};
-ghost use Rattle.vs_report.specs.Report.{guest_open_text, device_open_text, stream_text, stream_texts, counts_text, report};
+ghost use Rattle.vs_report.specs.{Gives.GivesLines, Report.{guest_open_text, device_open_text, stream_text, stream_texts, counts_text, report}};
 
 use crate::report::{push_counts, push_device_open, push_guest_open, push_stream};
 use std::alloc::AllocError;

@@ -1,10 +1,9 @@
 //! What the lines print that are calls of the guest's driver (Virtio 1.2, section 5.10.6).
 
 ghost use Rattle.std.specs.Prelude.{◌≡◌, ◌++◌, OnOk, string_bytes, codes, decimal};
-ghost use Rattle.vs_report.specs.Bytes.{data_text};
+ghost use Rattle.vs_report.specs.{Bytes.data_text, GuestLines.{opened_text, connection_text, connect_text, refused_text, listen_text, unlisten_text, accept_text, send_text}};
+ghost use Rattle.vs_report.specs.GuestLines.{recv_text, shutdown_text, grow_text, close_text, state_text, reset_text, poll_text};
 ghost use Rattle.vs_driver_parts.specs.declared.answers.Sent.TheVariants.{NoCredit};
-ghost use Rattle.vs_report.specs.GuestLines.{opened_text, connection_text, connect_text, refused_text, listen_text, unlisten_text};
-ghost use Rattle.vs_report.specs.GuestLines.{accept_text, send_text, recv_text, shutdown_text, grow_text, close_text, state_text, reset_text, poll_text};
 
 use crate::bytes::push_data;
 use crate::number::{push_last, push_number};

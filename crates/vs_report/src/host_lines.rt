@@ -2,8 +2,7 @@
 
 ghost use Rattle.std.specs.Prelude.{◌≡◌, ◌+◌, ◌++◌, OnOk, length, string_bytes};
 ghost use Rattle.vs_outside.specs.HostProgram.{after_client};
-ghost use Rattle.vs_script.specs.Data.{content_of};
-ghost use Rattle.vs_script.specs.Outside.{HostAllow, HostClosed, HostEnd, HostFail, HostListen, HostUnlisten, HostWrite, host_view};
+ghost use Rattle.vs_script.specs.{Data.content_of, Outside.{HostAllow, HostClosed, HostEnd, HostFail, HostListen, HostUnlisten, HostWrite, host_view}};
 ghost use Rattle.vs_report.specs.HostLines.{client_text, host_played, ok_text, stream_there_text, write_text};
 
 use crate::number::push_last;

@@ -1,8 +1,7 @@
 //! The report behind the last line of a play.
 
 ghost use Rattle.std.specs.Prelude.{◌≡◌, ◌++◌, OnOk, string_bytes, codes};
-ghost use Rattle.vs_report.specs.Bytes.{counted_text};
-ghost use Rattle.vs_report.specs.Report.{guest_open_text, device_open_text, stream_text, flow_bytes_text, labelled_text, broken_text, counts_text};
+ghost use Rattle.vs_report.specs.{Bytes.counted_text, Report.{guest_open_text, device_open_text, stream_text, flow_bytes_text, labelled_text, broken_text, counts_text}};
 
 use crate::bytes::push_counted;
 use crate::number::{push_last, push_number};

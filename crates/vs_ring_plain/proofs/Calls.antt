@@ -1,16 +1,13 @@
 -- Each call of the device over its plain state is one that the ring's port allows.
-use Rattle.std.proofs.Common.{◌≡◌, ℕ, Bool, true, false, cond, List, [], ◌∷◌, map, None, Some, refl, sym, ap, ◌∙◌, subst, arith}
-use Rattle.std.{proofs.lemmas.Bool.false≢true, proofs.lemmas.Bool.Decides.nat_tests, specs.Prelude.◌%◌, specs.Prelude.IfSome}
-use Rattle.vs_ring_port.specs.{Contents.{DeviceCall, DeviceAnswer, Take, Read, Write, Return, Given, PublishCid}, Chains.chain_of}
-use Rattle.vs_ring_port.specs.{Chains.{held_after, IsLongEnough, same_chain, without}, declared.queue.Queue.TheVariants.{Rx, Tx, Event}}
-use Rattle.vs_ring_port.specs.{DeviceCalls.{DeviceAllows, DeviceMoves}, EndLog.EndLog, Lists.Rings, declared.device_ring.Chain.Chain}
-use Rattle.vs_ring_port.specs.{declared.device_ring.Next.Next, declared.queue.Queue.Queue}
-use Rattle.vs_ring_plain.specs.Device.{DeviceState, HeldChain, answer_found, answer_taken, is_busy, answer_to, chain_at, chains_held}
-use Rattle.vs_ring_plain.specs.Chain.{Ring, Taken, taking, too_small, total_len, NoChain, Failed}
-use Rattle.vs_ring_plain.specs.Device.{contents_of, plain_state, ring_at, turns_at, with_memory, without_hold}
-use Rattle.vs_ring_plain.{specs.declared.piece.Piece.Piece, specs.Accesses.over, proofs.Outcomes.IsGoodTaken, proofs.Outcomes.good_taken}
+use Rattle.std.proofs.{Common.{◌≡◌, ℕ, Bool, true, false, cond, List, [], ◌∷◌, map, None, Some, refl, sym, ap, ◌∙◌, subst, arith}, lemmas.Bool.{false≢true, Decides.nat_tests}}
+use Rattle.std.specs.Prelude.{◌%◌, IfSome}
+use Rattle.vs_ring_port.specs.{Contents.{DeviceCall, DeviceAnswer, Take, Read, Write, Return, Given, PublishCid}, Chains.{chain_of, held_after, IsLongEnough, same_chain, without}}
+use Rattle.vs_ring_port.specs.{declared.{queue.Queue.{TheVariants.{Rx, Tx, Event}, Queue}, device_ring.{Chain.Chain, Next.Next}}, DeviceCalls.{DeviceAllows, DeviceMoves}}
+use Rattle.vs_ring_port.specs.{EndLog.EndLog, Lists.Rings}
+use Rattle.vs_ring_plain.specs.Device.{DeviceState, HeldChain, answer_found, answer_taken, is_busy, answer_to, chain_at, chains_held, contents_of, plain_state, ring_at, turns_at}
+use Rattle.vs_ring_plain.specs.{Device.{with_memory, without_hold}, Chain.{Ring, Taken, taking, too_small, total_len, NoChain, Failed, Chain as Found}, declared.piece.Piece.Piece}
+use Rattle.vs_ring_plain.{specs.Accesses.over, proofs.Outcomes.{IsGoodTaken, good_taken}}
 use Rattle.vs_ring_port.specs.declared.device_ring.Next.TheVariants as next
-use Rattle.vs_ring_plain.specs.Chain.{Chain as Found}
 
 -- where the plain state alone is exposed, a call and its answer by that state are allowed
 moves : (call : DeviceCall) (answer : DeviceAnswer call) (P : Rings → Type 0) (f : Rings → Rings) (Q : EndLog → Type 0)

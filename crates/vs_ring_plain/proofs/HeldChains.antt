@@ -1,22 +1,16 @@
 -- The chains that are held, and their pieces.
-use Rattle.std.proofs.Common.{inl, inr, ◌≡◌, ℕ, zero, suc, ◌+◌, ◌*◌, ◌<◌, ◌≤◌, ◌==◌, ◌&&◌, ◌||◌, Bool, true, false, cond, not, List, []}
-use Rattle.std.proofs.Common.{◌∷◌, length, map, get_or, take, drop, Some, Contains, All, IsTrue, refl, sym, ap, ap₂, ◌∙◌, subst, arith}
-use Rattle.std.proofs.lemmas.Bool.{false≢true, cases_lt, lt-ltb, eqb-true}
-use Rattle.std.proofs.lemmas.List.Elements.{All-cons, All-head, All-tail, All-append, All-take, All-drop, All-nil}
-use Rattle.std.proofs.lemmas.List.Sums.{fails_before_first, passes_at_first, position_or_len_is, sum_by-cons}
-use Rattle.std.proofs.lemmas.{List.get_or-map, List.length-map, List.Quantifiers.position-Some, Bool.Decides.nat_tests}
-use Rattle.std.specs.{Prelude.{count_by, nat_le, nat_lt}, List.{position, position_or_len, remove}, Option.IsSome, VecDeque.deque_capacity}
+use Rattle.std.proofs.Common.{inl, inr, ◌≡◌, ℕ, zero, suc, ◌+◌, ◌*◌, ◌<◌, ◌≤◌, ◌==◌, ◌&&◌, ◌||◌, Bool, true, false, cond, not, List, [], ◌∷◌, length, map, get_or, take, drop, Some}
+use Rattle.std.proofs.{Common.{Contains, All, IsTrue, refl, sym, ap, ap₂, ◌∙◌, subst, arith}, lemmas.Bool.{false≢true, cases_lt, lt-ltb, eqb-true, Decides.nat_tests}}
+use Rattle.std.proofs.lemmas.List.{Elements.{All-cons, All-head, All-tail, All-append, All-take, All-drop, All-nil}, Sums.{fails_before_first, passes_at_first, position_or_len_is}}
+use Rattle.std.{proofs.lemmas.List.{Sums.sum_by-cons, get_or-map, length-map, Quantifiers.position-Some}, specs.{Prelude.{count_by, nat_le, nat_lt}, List.position}}
+use Rattle.std.specs.{List.{position_or_len, remove}, Option.IsSome, VecDeque.deque_capacity}
 use Rattle.vs_guest_mem.specs.Memory.{Memory, is_inside}
-use Rattle.vs_ring_port.specs.declared.queue.Queue.TheVariants.{Rx, Tx, Event}
-use Rattle.vs_ring_port.specs.{Chains.same_chain, Chains.same_queue, declared.device_ring.Chain.Chain, declared.queue.Queue.Queue}
-use Rattle.vs_ring_plain.specs.declared.holds.HeldPieces.TheVariants.{One, Listed}
-use Rattle.vs_ring_plain.specs.Device.{HeldChain, chain_at, hold_of, is_busy, pieces_of, readable_in, without_hold, writable_in}
-use Rattle.vs_ring_plain.specs.PieceTable.{HeldState, PieceTable, is_listed, keeping, list_at, pieces_in, with_list}
-use Rattle.vs_ring_plain.specs.{declared.holds.Hold.Hold, declared.holds.HeldPieces.HeldPieces, declared.piece.Piece.Piece}
-use Rattle.vs_ring_plain.specs.{declared.take.PlainQueue.PlainQueue, Accesses.over, Held.IsKept, Held.KeepsAll, Held.all_held, Held.held_as}
-use Rattle.vs_ring_plain.specs.{Held.held_in, Held.is_busy_with, Side.IsSoundHold, Take.ring_in, declared.holds.HeldChains.TheInside.Inside}
+use Rattle.vs_ring_port.specs.{declared.{queue.Queue.{TheVariants.{Rx, Tx, Event}, Queue}, device_ring.Chain.Chain}, Chains.{same_chain, same_queue}}
+use Rattle.vs_ring_plain.specs.declared.{holds.{HeldPieces.{TheVariants.{One, Listed}, HeldPieces}, Hold.Hold, HeldChains.TheInside.Inside}, piece.Piece.Piece}
+use Rattle.vs_ring_plain.specs.{declared.take.PlainQueue.PlainQueue, Device.{HeldChain, chain_at, hold_of, is_busy, pieces_of, readable_in, without_hold, writable_in}}
+use Rattle.vs_ring_plain.specs.{PieceTable.{HeldState, PieceTable, is_listed, keeping, list_at, pieces_in, with_list}, Accesses.over, Held.{IsKept, KeepsAll, all_held, held_as}}
+use Rattle.vs_ring_plain.specs.{Held.{held_in, is_busy_with}, Side.IsSoundHold, Take.ring_in, Chain.{Taken, taking, total_len, NoChain, Failed, Chain as Found}}
 use Rattle.vs_ring_plain.proofs.Outcomes.{IsGood, IsGoodTaken, good_taken}
-use Rattle.vs_ring_plain.specs.Chain.{Taken, taking, total_len, NoChain, Failed, Chain as Found}
 
 same_queue_refl : (q : Queue) → same_queue q q ≡ true
 same_queue_refl Rx = refl

@@ -1,10 +1,8 @@
 -- Reading and writing a chain piece by piece.
-use Rattle.std.proofs.Common.{◌≡◌, ℕ, ◌+◌, ◌-◌, ◌≤◌, ◌==◌, Bool, true, false, cond, List, [], ◌∷◌, ◌++◌, length, take, drop, refl, sym, ap}
-use Rattle.std.proofs.Common.{◌∙◌, arith}
-use Rattle.std.specs.Prelude.{min}
-use Rattle.std.proofs.lemmas.{Bool.Decides.nat_tests, List.append-nil, List.drop-drop, List.take-append-drop, List.Sums.sum_by-cons}
+use Rattle.std.proofs.Common.{◌≡◌, ℕ, ◌+◌, ◌-◌, ◌≤◌, ◌==◌, Bool, true, false, cond, List, [], ◌∷◌, ◌++◌, length, take, drop, refl, sym, ap, ◌∙◌, arith}
+use Rattle.std.{proofs.lemmas.{Bool.Decides.nat_tests, List.{append-nil, drop-drop, take-append-drop, Sums.sum_by-cons}}, specs.Prelude.min}
 use Rattle.vs_guest_mem.specs.Memory.{Memory, accessed, after_access, after_write, bytes_at}
-use Rattle.vs_ring_plain.specs.{declared.piece.Piece.Piece, Accesses.over, Chain.total_len, Pieces.reading, Pieces.spans, Pieces.writing}
+use Rattle.vs_ring_plain.specs.{declared.piece.Piece.Piece, Accesses.over, Chain.total_len, Pieces.{reading, spans, writing}}
 
 -- how much of a piece is skipped, and how much is used
 abbrev pub skipped : Piece → ℕ → ℕ

@@ -1,12 +1,10 @@
 -- What comes of accesses: they leave the memory where it begins, and a chain that is taken has pieces that lie in it.
-use Rattle.std.proofs.Common.{◌≡◌, ℕ, zero, suc, ◌+◌, ◌≤◌, Bool, true, false, cond, not, List, [], ◌∷◌, ◌++◌, length, refl, arith}
-use Rattle.std.specs.{Bool.⊤, Prelude.◌==◌, Prelude.◌||◌, Prelude.◌%◌, Prelude.◌/◌, Prelude.nat_le, Prelude.nat_lt}
-use Rattle.std.proofs.{Common.length-append, Common.All, Common.IsTrue, lemmas.List.Elements.All-nil, lemmas.List.Elements.All-push}
+use Rattle.std.proofs.Common.{◌≡◌, ℕ, zero, suc, ◌+◌, ◌≤◌, Bool, true, false, cond, not, List, [], ◌∷◌, ◌++◌, length, refl, arith, length-append, All, IsTrue}
+use Rattle.std.{proofs.lemmas.List.Elements.{All-nil, All-push}, specs.{Bool.⊤, Prelude.{◌==◌, ◌||◌, ◌%◌, ◌/◌, nat_le, nat_lt}}}
 use Rattle.vs_guest_mem.specs.Memory.{Memory, accessed, after_write, bytes_at, is_within}
-use Rattle.vs_layout.specs.{Entry.desc_of, declared.entry.Desc.Desc, declared.entry.TheConstants.INDIRECT, declared.entry.TheConstants.NEXT}
-use Rattle.vs_ring_plain.specs.Chain.{Ring, Taken, NoChain, Chain, Failed, ahead, unless, piece, piece_of, in_table, in_queue, taking, has}
-use Rattle.vs_ring_plain.specs.Accesses.{Accesses, Done, Read, Write, over}
-use Rattle.vs_ring_plain.specs.{declared.piece.Piece.Piece, Chain.too_small, Chain.total_len, Chain.wrong_way}
+use Rattle.vs_layout.specs.{Entry.desc_of, declared.entry.{Desc.Desc, TheConstants.{INDIRECT, NEXT}}}
+use Rattle.vs_ring_plain.specs.Chain.{Ring, Taken, NoChain, Chain, Failed, ahead, unless, piece, piece_of, in_table, in_queue, taking, has, too_small, total_len, wrong_way}
+use Rattle.vs_ring_plain.specs.{Accesses.{Accesses, Done, Read, Write, over}, declared.piece.Piece.Piece}
 use Rattle.byteorder.specs.Endian.{little_number}
 
 -- P holds of whatever comes of it

@@ -1,12 +1,10 @@
 -- Taking a chain of one descriptor from a memory that nobody else changes.
-use Rattle.std.proofs.Common.{◌≡◌, ℕ, suc, ◌-◌, ◌/◌, ◌<◌, Bool, true, false, cond, not, List, [], ◌∷◌, refl, sym, ap, ◌∙◌, subst, arith}
-use Rattle.std.{specs.Prelude.◌==◌, specs.Prelude.nat_le, specs.Prelude.nat_lt, proofs.lemmas.Bool.Decides.nat_tests}
+use Rattle.std.proofs.{Common.{◌≡◌, ℕ, suc, ◌-◌, ◌/◌, ◌<◌, Bool, true, false, cond, not, List, [], ◌∷◌, refl, sym, ap, ◌∙◌, subst, arith}, lemmas.Bool.Decides.nat_tests}
+use Rattle.std.specs.Prelude.{◌==◌, nat_le, nat_lt}
 use Rattle.vs_guest_mem.specs.Memory.{Change, Memory, after_access, bytes_at, is_within}
-use Rattle.vs_layout.specs.declared.entry.TheConstants.{DESC_LEN, INDIRECT, NEXT}
-use Rattle.vs_layout.specs.{Entry.desc_of, Layout.desc_entry, declared.entry.Desc.Desc}
-use Rattle.vs_ring_plain.specs.Chain.{Ring, Taken, Chain, Failed, NoChain, ahead, has, in_queue, in_table, piece, piece_of, table_faults}
-use Rattle.vs_ring_plain.specs.{declared.piece.Piece.Piece, Accesses.Accesses, Accesses.Done, Accesses.over, Chain.taking, Chain.too_small}
-use Rattle.vs_ring_plain.specs.{Chain.total_len, Chain.unless, Chain.wrong_way, Still.IsGiven, Still.IsStill, Still.index_in}
+use Rattle.vs_layout.specs.{declared.entry.{TheConstants.{DESC_LEN, INDIRECT, NEXT}, Desc.Desc}, Entry.desc_of, Layout.desc_entry}
+use Rattle.vs_ring_plain.specs.Chain.{Ring, Taken, Chain, Failed, NoChain, ahead, has, in_queue, in_table, piece, piece_of, table_faults, taking, too_small, total_len, unless}
+use Rattle.vs_ring_plain.specs.{Chain.wrong_way, declared.piece.Piece.Piece, Accesses.{Accesses, Done, over}, Still.{IsGiven, IsStill, index_in}}
 use Rattle.vs_ring_port.specs.declared.failure.Failure.{Failure, TheVariants.HeadRange}
 
 -- the memory of these parts, to which no change is to come

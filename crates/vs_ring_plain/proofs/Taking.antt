@@ -1,16 +1,12 @@
 -- Taking a chain makes few accesses, and none outside the memory.
-use Rattle.std.proofs.Common.{◌≡◌, ℕ, zero, suc, ◌+◌, ◌*◌, ◌/◌, ◌%◌, ◌<◌, ◌≤◌, ◌==◌, ◌||◌, Bool, true, false, cond, not, IsTrue, List, []}
-use Rattle.std.proofs.{Common.◌∷◌, Common.refl, Common.arith, lemmas.Bool.Decides.nat_tests}
-use Rattle.std.specs.Prelude.{◌^◌, nat_le, nat_lt}
+use Rattle.std.proofs.Common.{◌≡◌, ℕ, zero, suc, ◌+◌, ◌*◌, ◌/◌, ◌%◌, ◌<◌, ◌≤◌, ◌==◌, ◌||◌, Bool, true, false, cond, not, IsTrue, List, [], ◌∷◌, refl, arith}
+use Rattle.std.{proofs.lemmas.Bool.Decides.nat_tests, specs.Prelude.{◌^◌, nat_le, nat_lt}}
 use Rattle.byteorder.specs.Endian.{little_number}
 use Rattle.vs_guest_mem.specs.Memory.{is_within}
-use Rattle.vs_layout.specs.declared.entry.TheConstants.{INDIRECT, NEXT}
-use Rattle.vs_layout.specs.{Entry.desc_of, Layout.AreInside, Layout.avail_entry, Layout.desc_entry, declared.entry.Desc.Desc}
-use Rattle.vs_ring_plain.specs.Chain.{Ring, Taken, Chain, NoChain, Failed, unless, piece, in_table, table_faults, in_queue, taking, has}
-use Rattle.vs_ring_plain.specs.{Chain.{ahead, too_small, total_len}, Accesses.{Accesses, Done, Read, MakesAtMost}}
-use Rattle.vs_ring_plain.{specs.declared.piece.Piece.Piece, proofs.Outcomes.choice}
-use Rattle.vs_ring_port.specs.declared.failure.Failure.TheVariants.{AddrRange, AvailJump, HeadRange, Indirect, IndirectLen, IndirectNested}
-use Rattle.vs_ring_port.specs.declared.failure.Failure.{Failure, TheVariants.IndirectNext, TheVariants.NextRange}
+use Rattle.vs_layout.specs.{declared.entry.{TheConstants.{INDIRECT, NEXT}, Desc.Desc}, Entry.desc_of, Layout.{AreInside, avail_entry, desc_entry}}
+use Rattle.vs_ring_plain.specs.Chain.{Ring, Taken, Chain, NoChain, Failed, unless, piece, in_table, table_faults, in_queue, taking, has, ahead, too_small, total_len}
+use Rattle.vs_ring_plain.{specs.{Accesses.{Accesses, Done, Read, MakesAtMost}, declared.piece.Piece.Piece}, proofs.Outcomes.choice}
+use Rattle.vs_ring_port.specs.declared.failure.Failure.{TheVariants.{AddrRange, AvailJump, HeadRange, Indirect, IndirectLen, IndirectNested, IndirectNext, NextRange}, Failure}
 
 done : {A : Type 0} (k : ℕ) (P : ℕ → ℕ → Type 0) (a : A) → MakesAtMost k P (Done a)
 unfolding MakesAtMost

@@ -1,13 +1,11 @@
 -- Reading the descriptors of a chain one after another.
-use Rattle.std.proofs.Common.{◌≡◌, ℕ, suc, ◌+◌, ◌-◌, ◌*◌, ◌/◌, ◌<◌, ◌≤◌, Bool, true, false, not, List, [], ◌∷◌, ◌++◌, length, Ok, Err, refl}
-use Rattle.std.specs.Prelude.{◌≢◌, ◌==◌, bit_and, nat_le, if◌then◌else◌}
-use Rattle.std.proofs.{Common.sym, Common.ap, Common.◌∙◌, Common.arith, Common.length-append, lemmas.Bool.Decides.nat_tests}
+use Rattle.std.proofs.Common.{◌≡◌, ℕ, suc, ◌+◌, ◌-◌, ◌*◌, ◌/◌, ◌<◌, ◌≤◌, Bool, true, false, not, List, [], ◌∷◌, ◌++◌, length, Ok, Err, refl, sym, ap, ◌∙◌, arith, length-append}
+use Rattle.std.{proofs.lemmas.Bool.Decides.nat_tests, specs.Prelude.{◌≢◌, ◌==◌, bit_and, nat_le, if◌then◌else◌}}
 use Rattle.vs_guest_mem.specs.Memory.{Memory, after_access, bytes_at}
-use Rattle.vs_layout.specs.{Entry.desc_of, declared.entry.Desc.Desc, declared.entry.TheConstants.INDIRECT, declared.entry.TheConstants.NEXT}
-use Rattle.vs_ring_plain.specs.Chain.{Ring, Taken, Failed, checked, unless, has, piece, piece_faults, piece_of, table_faults, in_queue}
-use Rattle.vs_ring_plain.specs.Accesses.{Accesses, Done, over}
-use Rattle.vs_ring_plain.specs.{declared.piece.Piece.Piece, Chain.in_table, Take.ring_in, declared.take.PlainQueue.PlainQueue}
-use Rattle.vs_ring_port.specs.declared.failure.Failure.{Failure, TheVariants.ChainLong, TheVariants.IndirectNested, TheVariants.NextRange}
+use Rattle.vs_layout.specs.{Entry.desc_of, declared.entry.{Desc.Desc, TheConstants.{INDIRECT, NEXT}}}
+use Rattle.vs_ring_plain.specs.{Chain.{Ring, Taken, Failed, checked, unless, has, piece, piece_faults, piece_of, table_faults, in_queue, in_table}, Accesses.{Accesses, Done, over}}
+use Rattle.vs_ring_plain.specs.{declared.{piece.Piece.Piece, take.PlainQueue.PlainQueue}, Take.ring_in}
+use Rattle.vs_ring_port.specs.declared.failure.Failure.{Failure, TheVariants.{ChainLong, IndirectNested, NextRange}}
 
 -- what comes where no test is true
 unless-Ok : (tests : List (Bool × Failure)) (next : Accesses Taken) → checked tests ≡ Ok tt → unless tests next ≡ next

@@ -1,17 +1,16 @@
 -- Taking a chain from a queue (Virtio 1.2, section 2.7): which pieces of memory are read, in which order, each once, and what comes
 -- of the values read: no chain, a chain, or the first rule that the driver broke. What lies in the memory plays no other part.
-use Rattle.std.specs.Prelude.{ℕ, zero, suc, ◌+◌, ◌-◌, ◌*◌, ◌/◌, ◌%◌, ◌^◌, ◌==◌, ◌||◌, Bool, not, nat_le, nat_lt, List, [], ◌∷◌, ◌++◌}
-use Rattle.std.specs.Prelude.{sum_by, Result, Ok, Err, if◌then◌else◌, bit_and}
+use Rattle.std.specs.Prelude.{ℕ, zero, suc, ◌+◌, ◌-◌, ◌*◌, ◌/◌, ◌%◌, ◌^◌, ◌==◌, ◌||◌, Bool, not, nat_le, nat_lt, List, [], ◌∷◌, ◌++◌, sum_by, Result, Ok, Err, if◌then◌else◌}
+use Rattle.std.specs.Prelude.{bit_and}
 use Rattle.byteorder.specs.Endian.{little_number}
 use Rattle.vs_guest_mem.specs.Memory.{is_within}
 use Rattle.vs_header.specs.declared.TheConstants.{HEADER_LEN}
-use Rattle.vs_layout.specs.{Entry.desc_of, Layout.{avail_entry, avail_idx, desc_entry}, declared.entry.Desc.Desc}
-use Rattle.vs_layout.specs.{declared.entry.TheConstants.{DESC_LEN, INDIRECT, NEXT, WRITE}, declared.place.Areas.Areas}
-use Rattle.vs_ring_plain.specs.{declared.piece.Piece.Piece, Accesses.Accesses, Accesses.Done, Accesses.Read}
-use Rattle.vs_ring_port.specs.declared.failure.Failure.{Failure, TheVariants.AvailJump, TheVariants.HeadRange, TheVariants.Indirect}
-use Rattle.vs_ring_port.specs.declared.failure.Failure.TheVariants.{TxWritable, RxReadable, AddrRange, ChainLong, NextRange, TxShort}
-use Rattle.vs_ring_port.specs.declared.failure.Failure.TheVariants.{RxSmall, EventSmall, IndirectNested, IndirectNext, IndirectLen}
-use Rattle.vs_ring_port.specs.declared.queue.Queue.{Queue, TheVariants.Rx, TheVariants.Tx, TheVariants.Event}
+use Rattle.vs_layout.specs.{Entry.desc_of, Layout.{avail_entry, avail_idx, desc_entry}, declared.entry.{Desc.Desc, TheConstants.{DESC_LEN, INDIRECT, NEXT, WRITE}}}
+use Rattle.vs_layout.specs.declared.place.Areas.{Areas}
+use Rattle.vs_ring_plain.specs.{declared.piece.Piece.Piece, Accesses.{Accesses, Done, Read}}
+use Rattle.vs_ring_port.specs.declared.failure.Failure.{Failure, TheVariants.{AvailJump, HeadRange, Indirect, TxWritable, RxReadable, AddrRange, ChainLong, NextRange, TxShort}}
+use Rattle.vs_ring_port.specs.declared.{failure.Failure.TheVariants.{RxSmall, EventSmall, IndirectNested, IndirectNext, IndirectLen}, queue.Queue.{Queue, TheVariants.{Rx, Tx}}}
+use Rattle.vs_ring_port.specs.declared.queue.Queue.TheVariants.{Event}
 
 -- A queue of n places, in size bytes of memory from base on. `indirect`: whether indirect descriptors were agreed on.
 pub record Ring : Type 0 where

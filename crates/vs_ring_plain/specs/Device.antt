@@ -1,18 +1,14 @@
 -- The device's end of the three queues in a guest's memory, as a plain value: each call's answer and what is left are functions of it
 -- (Virtio 1.2, section 2.7).
-use Rattle.std.specs.Prelude.{◌≡◌, ℕ, ◌+◌, ◌%◌, ◌^◌, Bool, false, List, [], ◌∷◌, ◌++◌, length, map, Option, None, Some, if◌then◌else◌, ◌&&◌}
-use Rattle.std.specs.Prelude.{◌||◌, ◌==◌, not, nat_le, nat_lt, count_by}
+use Rattle.std.specs.Prelude.{◌≡◌, ℕ, ◌+◌, ◌%◌, ◌^◌, Bool, false, List, [], ◌∷◌, ◌++◌, length, map, Option, None, Some, if◌then◌else◌, ◌&&◌, ◌||◌, ◌==◌, not, nat_le, nat_lt}
+use Rattle.std.specs.Prelude.{count_by}
 use Rattle.vs_guest_mem.specs.Memory.{Change, Memory, after_write}
-use Rattle.vs_layout.specs.{declared.place.Areas.Areas, declared.placement.QueueAreas.QueueAreas, Layout.avail_event, Layout.used_flags}
-use Rattle.vs_layout.specs.Layout.{used_idx}
-use Rattle.vs_ring_port.specs.{Chains.same_chain, Chains.same_queue, declared.device_ring.Chain.Chain, declared.device_ring.Next.Next}
+use Rattle.vs_layout.specs.{declared.{place.Areas.Areas, placement.QueueAreas.QueueAreas}, Layout.{avail_event, used_flags, used_idx}}
+use Rattle.vs_ring_port.specs.{Chains.{same_chain, same_queue}, declared.{device_ring.{Chain.Chain, Next.Next}, queue.Queue.{Queue, TheVariants.{Rx, Tx, Event}}}}
 use Rattle.vs_ring_port.specs.Contents.{RingContents, PlainState, DeviceCall, DeviceAnswer, Take, Read, Write, Return, Given, PublishCid}
-use Rattle.vs_ring_port.specs.declared.queue.Queue.{Queue, TheVariants.Rx, TheVariants.Tx, TheVariants.Event}
-use Rattle.vs_ring_plain.specs.{declared.piece.Piece.Piece, Accesses.Accesses, Accesses.over, Pieces.given, Pieces.reading}
-use Rattle.vs_ring_plain.specs.{Pieces.returning, Pieces.spans, Pieces.writing, declared.turns.Turns.Turns, Chain.Ring, Chain.Taken}
-use Rattle.vs_ring_plain.specs.{Chain.NoChain, Chain.Failed, Chain.taking, Chain.total_len, declared.turns.QueueTurns.QueueTurns}
+use Rattle.vs_ring_plain.specs.{declared.{piece.Piece.Piece, turns.{Turns.Turns, QueueTurns.QueueTurns}}, Accesses.{Accesses, over}, Pieces.{given, reading, returning, spans}}
+use Rattle.vs_ring_plain.specs.{Pieces.writing, Chain.{Ring, Taken, NoChain, Failed, taking, total_len, Chain as Found}}
 use Rattle.vs_ring_port.specs.declared.device_ring.Next.TheVariants as next
-use Rattle.vs_ring_plain.specs.Chain.{Chain as Found}
 
 -- A chain that the device holds, the number of its first descriptor, and its pieces.
 pub record HeldChain : Type 0 where

@@ -1,9 +1,7 @@
 -- How the device's end keeps the chains that it holds.
-use Rattle.std.specs.Prelude.{◌≡◌, ℕ, ◌≤◌, ◌*◌, All, map, Bool, ◌&&◌, ◌||◌, ◌==◌, not, nat_le, nat_lt, List, count_by, length}
-use Rattle.std.specs.VecDeque.{deque_capacity}
+use Rattle.std.specs.{Prelude.{◌≡◌, ℕ, ◌≤◌, ◌*◌, All, map, Bool, ◌&&◌, ◌||◌, ◌==◌, not, nat_le, nat_lt, List, count_by, length}, VecDeque.deque_capacity}
 use Rattle.vs_ring_port.specs.{Chains.same_queue, declared.queue.Queue.Queue}
-use Rattle.vs_ring_plain.specs.{declared.holds.HeldChains.TheInside.Inside, declared.holds.Hold.Hold, Device.HeldChain}
-use Rattle.vs_ring_plain.specs.PieceTable.{HeldState, PieceTable, is_listed, list_at, pieces_in}
+use Rattle.vs_ring_plain.specs.{declared.holds.{HeldChains.TheInside.Inside, Hold.Hold}, Device.HeldChain, PieceTable.{HeldState, PieceTable, is_listed, list_at, pieces_in}}
 
 -- Either n chains of a queue are held, or one whose pieces are in its list.
 abbrev pub is_busy_with : Queue → ℕ → List Hold → Bool

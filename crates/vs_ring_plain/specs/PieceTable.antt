@@ -1,9 +1,8 @@
 -- The pieces of chains that are held.
 use Rattle.std.specs.Prelude.{ℕ, Bool, true, false, List, [], ◌∷◌, Option, None, Some, Result, Ok, Err}
-use Rattle.vs_ring_port.specs.declared.queue.Queue.{Queue, TheVariants.Rx, TheVariants.Tx, TheVariants.Event}
-use Rattle.vs_ring_port.specs.declared.{device_ring.Chain.Chain, failure.Failure.Failure}
-use Rattle.vs_ring_plain.specs.{Chain.Taken, Chain.NoChain, Chain.Failed, Chain.Chain as Found, Device.HeldChain, Device.chain_at}
-use Rattle.vs_ring_plain.specs.{declared.holds.HeldPieces.{HeldPieces, TheVariants.One, TheVariants.Listed}, declared.piece.Piece.Piece}
+use Rattle.vs_ring_port.specs.declared.{queue.Queue.{Queue, TheVariants.{Rx, Tx, Event}}, device_ring.Chain.Chain, failure.Failure.Failure}
+use Rattle.vs_ring_plain.specs.{Chain.{Taken, NoChain, Failed, Chain as Found}, Device.{HeldChain, chain_at}, declared.holds.HeldPieces.{HeldPieces, TheVariants.{One, Listed}}}
+use Rattle.vs_ring_plain.specs.declared.piece.Piece.{Piece}
 
 -- For each queue a list of pieces, with room for so many.
 pub record PieceTable : Type 0 where

@@ -3,8 +3,7 @@ use Rattle.std.specs.Prelude.{◌≡◌, ◌<◌, ◌≤◌, All, IsTrue}
 use Rattle.vs_guest_mem.specs.Memory.{Memory, is_inside}
 use Rattle.vs_layout.specs.Layout.{AreInside}
 use Rattle.vs_ring_port.specs.declared.queue.{Queue.Queue, TheConstants.QUEUE_SIZE_MAX}
-use Rattle.vs_ring_plain.specs.{declared.device.DeviceSide.TheInside.Inside, declared.piece.Piece.Piece, Device.DeviceState}
-use Rattle.vs_ring_plain.specs.{Device.HeldChain, Device.areas_at, Device.readable_in, Device.writable_in, Take.whole}
+use Rattle.vs_ring_plain.specs.{declared.{device.DeviceSide.TheInside.Inside, piece.Piece.Piece}, Device.{DeviceState, HeldChain, areas_at, readable_in, writable_in}, Take.whole}
 
 abbrev pub state_in : Inside → DeviceState
 state_in d = record {

@@ -2,8 +2,7 @@
 use Rattle.std.specs.Prelude.{◌≡◌, ℕ, ◌%◌, ◌<◌, ◌≤◌, true, false, [], ◌∷◌}
 use Rattle.byteorder.specs.Endian.{little_number}
 use Rattle.vs_guest_mem.specs.Memory.{Memory, bytes_at, is_within}
-use Rattle.vs_layout.specs.{Entry.desc_of, Layout.avail_entry, Layout.avail_idx, Layout.desc_entry}
-use Rattle.vs_layout.specs.declared.entry.{Desc.Desc, TheConstants.DESC_LEN, TheConstants.INDIRECT, TheConstants.NEXT}
+use Rattle.vs_layout.specs.{Entry.desc_of, Layout.{avail_entry, avail_idx, desc_entry}, declared.entry.{Desc.Desc, TheConstants.{DESC_LEN, INDIRECT, NEXT}}}
 use Rattle.vs_ring_plain.specs.Chain.{Ring, ahead, has, piece_of, too_small, total_len, wrong_way}
 
 -- Nobody else writes into the memory before an access to come.

@@ -2,8 +2,7 @@
 use Rattle.std.specs.Prelude.{ℕ, List, length, Option, None, Some, Result, Ok, Err}
 use Rattle.vs_guest_mem.specs.Memory.{Memory}
 use Rattle.vs_layout.specs.declared.span.Span.{Span}
-use Rattle.vs_ring_plain.specs.{declared.piece.Piece.Piece, Accesses.Accesses, Accesses.over, Chain.Ring, Chain.Taken, Chain.NoChain}
-use Rattle.vs_ring_plain.specs.{Chain.Chain, Chain.Failed, declared.take.PlainQueue.PlainQueue}
+use Rattle.vs_ring_plain.specs.{declared.{piece.Piece.Piece, take.PlainQueue.PlainQueue}, Accesses.{Accesses, over}, Chain.{Ring, Taken, NoChain, Chain, Failed}}
 use Rattle.vs_ring_port.specs.declared.failure.Failure.{Failure}
 
 -- A queue in a memory.

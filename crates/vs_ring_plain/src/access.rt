@@ -3,8 +3,7 @@ ghost use Rattle.std.specs.Prelude.{◌≡◌, ◌+◌, ◌<◌, ◌≤◌, All,
 ghost use Rattle.byteorder.specs.Endian.{little_bytes};
 ghost use Rattle.vs_guest_mem.specs.Memory.{accessed, after_access, after_write, bytes_at, is_inside};
 ghost use Rattle.vs_layout.specs.Layout.{AreInside};
-ghost use Rattle.vs_ring_plain.specs.{Accesses.over, Chain.total_len, Pieces.given, Pieces.reading, Pieces.returning, Pieces.spans};
-ghost use Rattle.vs_ring_plain.specs.{Pieces.writing, Take.ring_in, Take.whole};
+ghost use Rattle.vs_ring_plain.specs.{Accesses.over, Chain.total_len, Pieces.{given, reading, returning, spans, writing}, Take.{ring_in, whole}};
 
 use crate::piece::Piece;
 use crate::take::{PlainQueue, load_u16};

@@ -1,11 +1,9 @@
 //! The device's end of the three queues in a guest's memory.
 ghost use Rattle.std.specs.Prelude.{◌≡◌, ◌<◌, ◌≤◌, IfOk, Contains, length, ◌+◌, ◌^◌, IsTrue, IfErr, OnErr, OnOk, is_ok};
 ghost use Rattle.vs_guest_mem.specs.Memory.{after_write, bytes_at, is_inside};
-ghost use Rattle.vs_ring_port.specs.{declared.queue.Queue.Queue, declared.queue.TheConstants.QUEUE_SIZE_MAX, Contents.Take, Contents.Read};
-ghost use Rattle.vs_ring_port.specs.Contents.{Write, Return, Given};
+ghost use Rattle.vs_ring_port.specs.{declared.queue.{Queue.Queue, TheConstants.QUEUE_SIZE_MAX}, Contents.{Take, Read, Write, Return, Given}};
 ghost use Rattle.vs_layout.specs.Layout.{AreInside};
-ghost use Rattle.vs_ring_plain.specs.Device.{SamePlace, answer_to, areas_at, chains_held, cleared_used, new_device, with_change};
-ghost use Rattle.vs_ring_plain.specs.{Device.with_memory, Take.whole};
+ghost use Rattle.vs_ring_plain.specs.{Device.{SamePlace, answer_to, areas_at, chains_held, cleared_used, new_device, with_change, with_memory}, Take.whole};
 
 use crate::access::{count_given, read_pieces, return_chain, write_pieces};
 use crate::holds::HeldChains;

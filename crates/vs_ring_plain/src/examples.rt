@@ -2,13 +2,11 @@
 ghost use Rattle.std.specs.Prelude.{codes, ◌≡◌, ℕ, ◌+◌, [], ◌∷◌, false, IsTrue, Some};
 ghost use Rattle.vs_guest_mem.specs.Memory.{is_within};
 ghost use Rattle.vs_layout.specs.Layout.{AreInside};
-ghost use Rattle.vs_ring_plain.specs.{Accesses.MakesAtMost, Accesses.with_values, Chain.Ring, Chain.taking, Chain.Chain, Chain.NoChain};
-ghost use Rattle.vs_ring_plain.specs.{Chain.Failed, Chain.total_len, Examples.ring, Examples.word, Examples.desc, Examples.first_chain};
-ghost use Rattle.vs_ring_plain.specs.{Examples.first_chain_indirect, Pieces.reading, Pieces.spans};
-ghost use Rattle.vs_ring_port.specs.declared.failure.Failure.TheVariants.{AvailJump, HeadRange, Indirect, TxWritable, RxReadable};
-ghost use Rattle.vs_ring_port.specs.declared.failure.Failure.TheVariants.{AddrRange, ChainLong, NextRange, TxShort, RxSmall, EventSmall};
-ghost use Rattle.vs_ring_port.specs.declared.failure.Failure.TheVariants.{IndirectNested, IndirectNext, IndirectLen};
-ghost use Rattle.vs_ring_port.specs.declared.queue.Queue.TheVariants.{Rx, Tx, Event};
+ghost use Rattle.vs_ring_plain.specs.{Accesses.{MakesAtMost, with_values}, Chain.{Ring, taking, Chain, NoChain, Failed, total_len}, Examples.{ring, word, desc, first_chain}};
+ghost use Rattle.vs_ring_plain.specs.{Examples.first_chain_indirect, Pieces.{reading, spans}};
+ghost use Rattle.vs_ring_port.specs.declared.failure.Failure.TheVariants.{AvailJump, HeadRange, Indirect, TxWritable, RxReadable, AddrRange, ChainLong, NextRange, TxShort};
+ghost use Rattle.vs_ring_port.specs.declared.{failure.Failure.TheVariants.{RxSmall, EventSmall, IndirectNested, IndirectNext, IndirectLen}, queue.Queue.TheVariants.{Rx, Tx}};
+ghost use Rattle.vs_ring_port.specs.declared.queue.Queue.TheVariants.{Event};
 
 /// Where a queue of n places lies in the memory, taking a chain makes n + 3 accesses at most, and each of them lies there too.
 pub fn taking_ends_inside_the_memory()

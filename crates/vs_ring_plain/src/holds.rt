@@ -1,12 +1,9 @@
 //! The chains that the device holds, and their pieces.
-ghost use Rattle.std.specs.Prelude.{◌≡◌, ◌<◌, ◌≤◌, ◌^◌, ◌%◌, false, ◌&&◌, ◌==◌, not, count_by, length, position, Contains, IfOk, Some, []};
-ghost use Rattle.std.specs.Prelude.{map};
+ghost use Rattle.std.specs.Prelude.{◌≡◌, ◌<◌, ◌≤◌, ◌^◌, ◌%◌, false, ◌&&◌, ◌==◌, not, count_by, length, position, Contains, IfOk, Some, [], map};
 ghost use Rattle.vs_layout.specs.Layout.{AreInside};
-ghost use Rattle.vs_ring_port.specs.{Chains.same_chain, Chains.same_queue, declared.queue.TheConstants.QUEUE_SIZE_MAX};
-ghost use Rattle.vs_ring_plain.specs.{Accesses.over, Chain.taking, Device.chain_at, Device.head_of, Device.hold_of, Device.is_busy};
-ghost use Rattle.vs_ring_plain.specs.{Device.pieces_of, Device.without_hold, Held.is_busy_with, PieceTable.is_listed, PieceTable.keeping};
-ghost use Rattle.vs_ring_plain.specs.{PieceTable.list_at, PieceTable.pieces_in, PieceTable.with_list, Take.ring_in, Take.taken_of};
-ghost use Rattle.vs_ring_plain.specs.Take.{whole};
+ghost use Rattle.vs_ring_port.specs.{Chains.{same_chain, same_queue}, declared.queue.TheConstants.QUEUE_SIZE_MAX};
+ghost use Rattle.vs_ring_plain.specs.{Accesses.over, Chain.taking, Device.{chain_at, head_of, hold_of, is_busy, pieces_of, without_hold}, Held.is_busy_with, PieceTable.is_listed};
+ghost use Rattle.vs_ring_plain.specs.{PieceTable.{keeping, list_at, pieces_in, with_list}, Take.{ring_in, taken_of, whole}};
 
 use crate::piece::Piece;
 use crate::take::{PlainQueue, take_chain, total_len};

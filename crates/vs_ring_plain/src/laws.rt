@@ -2,8 +2,7 @@
 ghost use Rattle.std.specs.Prelude.{◌≡◌, ℕ, [], ◌∷◌};
 ghost use Rattle.vs_guest_mem.specs.Memory.{Memory, after_access};
 ghost use Rattle.vs_layout.specs.declared.entry.Desc.{Desc};
-ghost use Rattle.vs_ring_plain.specs.{Accesses.over, Chain.Chain, Chain.NoChain, Chain.Ring, Chain.ahead, Chain.piece_of, Chain.taking};
-ghost use Rattle.vs_ring_plain.specs.Still.{IsGiven, IsStill, index_in};
+ghost use Rattle.vs_ring_plain.specs.{Accesses.over, Chain.{Chain, NoChain, Ring, ahead, piece_of, taking}, Still.{IsGiven, IsStill, index_in}};
 
 /// An access of a memory that nobody else changes leaves its bytes as they are.
 pub fn law_of_still_memory()

@@ -1,11 +1,8 @@
 -- Chains that were held go back to the front of what was given.
-use Rattle.std.proofs.Common.{◌≡◌, ◌<◌, ◌+◌, ◌-◌, ◌%◌, ℕ, Bool, true, false, if◌then◌else◌, cond, List, [], ◌∷◌, ◌++◌, length, arith}
-use Rattle.std.proofs.Common.{refl, sym, ap, ◌∙◌, append_assoc}
-use Rattle.std.proofs.{Math.Nat.add-mod_right, Math.Nat.mod-add-mod, Math.Nat.mod-eq_of_lt, lemmas.List.Sums.sum_by-cons}
-use Rattle.std.proofs.lemmas.List.{length-append}
-use Rattle.vs_ring_port.specs.Chains.{Held, bytes_held, held_of, same_queue}
-use Rattle.vs_ring_port.specs.Lists.{Lists, Rings, after_renewal, after_take, all_given_back, given_back, queue_of}
-use Rattle.vs_ring_port.specs.declared.queue.Queue.{Queue, TheVariants.Rx, TheVariants.Tx, TheVariants.Event}
+use Rattle.std.proofs.Common.{◌≡◌, ◌<◌, ◌+◌, ◌-◌, ◌%◌, ℕ, Bool, true, false, if◌then◌else◌, cond, List, [], ◌∷◌, ◌++◌, length, arith, refl, sym, ap, ◌∙◌, append_assoc}
+use Rattle.std.proofs.{Math.Nat.{add-mod_right, mod-add-mod, mod-eq_of_lt}, lemmas.List.{Sums.sum_by-cons, length-append}}
+use Rattle.vs_ring_port.specs.{Chains.{Held, bytes_held, held_of, same_queue}, Lists.{Lists, Rings, after_renewal, after_take, all_given_back, given_back, queue_of}}
+use Rattle.vs_ring_port.specs.declared.queue.Queue.{Queue, TheVariants.{Rx, Tx, Event}}
 
 -- A fact of one queue's lists.
 pub at_each : (P : Lists → Lists → Type 0) (queue : Queue) (held : List Held) (w : Rings)

@@ -1,8 +1,7 @@
 -- What an end knows from one moment on, up to the load that shows it no page.
 use Rattle.std.proofs.Common.{◌≤◌, Option, Some, None, refl, ap, ◌∙◌, arith}
 use Rattle.vs_contents.specs.Contents.{Relates}
-use Rattle.vs_ring_port.specs.{Known.{Finds, Index, IsLater, Known, StopsAt, after_look, index_of}, declared.queue.Queue.Queue}
-use Rattle.vs_ring_port.proofs.Knowing.{index_there}
+use Rattle.vs_ring_port.{specs.{Known.{Finds, Index, IsLater, Known, StopsAt, after_look, index_of}, declared.queue.Queue.Queue}, proofs.Knowing.index_there}
 
 -- The index was loaded as often, or more.
 abbrev pub NotFewer : Queue → Known → Known → Type 0

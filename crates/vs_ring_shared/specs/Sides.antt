@@ -1,6 +1,5 @@
 -- The sides of shared rings as others see them.
-use Rattle.vs_ring_shared.specs.{Countings.CountsDevice, Countings.CountsDriver, DeviceStates.IsDevice, DriverStates.IsDriver}
-use Rattle.vs_ring_shared.specs.{Holdings.all_held, Sights.DeviceSight, Sights.Sight, Sights.sight_of}
+use Rattle.vs_ring_shared.specs.{Countings.{CountsDevice, CountsDriver}, DeviceStates.IsDevice, DriverStates.IsDriver, Holdings.all_held, Sights.{DeviceSight, Sight, sight_of}}
 use Rattle.vs_ring_shared.specs.declared.device_side.DeviceSide as device
 use Rattle.vs_ring_shared.specs.declared.driver_side.DriverSide as driver
 

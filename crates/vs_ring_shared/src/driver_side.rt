@@ -1,8 +1,7 @@
 //! The driver's side of shared rings: what an end of a name, and rings on one thread, stand on.
 ghost use Rattle.std.specs.Prelude.{◌≡◌, ◌+◌, ◌<◌, ◌≤◌, length, OnOk, OnErr, IfErr, IfNone, IfSome};
 ghost use Rattle.vs_page.specs.Fair.{IsFairLog};
-ghost use Rattle.vs_ring_port.specs.{Counts.at, DriverCalls.HoldsPacket, EndLog.entries_published};
-ghost use Rattle.vs_ring_port.specs.declared.queue.{Queue.Queue, TheConstants.QUEUE_SIZE_MAX};
+ghost use Rattle.vs_ring_port.specs.{Counts.at, DriverCalls.HoldsPacket, EndLog.entries_published, declared.queue.{Queue.Queue, TheConstants.QUEUE_SIZE_MAX}};
 ghost use Rattle.vs_ring_shared.specs.Sights.{ReapsNone, ReapsOne, LoadsNewest, after_publishing, after_staging, flight_of, sight_in};
 ghost use Rattle.vs_page.specs.Log as log;
 

@@ -2,9 +2,8 @@
 //! that `make`.
 ghost use Rattle.std.specs.Prelude.{◌≡◌, ◌+◌, ◌<◌, ◌≤◌, [], IfOk, length};
 ghost use Rattle.vs_page.specs.Fair.{IsFairLog};
-ghost use Rattle.vs_ring_port.specs.{Chains.held_of, declared.queue.Queue.Queue, declared.queue.TheConstants.QUEUE_SIZE_MAX};
-ghost use Rattle.vs_ring_shared.specs.{Countings.met_between, Meetings.AreOneTable, Meetings.after_hearing, Meetings.what_it_did};
-ghost use Rattle.vs_ring_shared.specs.{Ports.IsRingSize, Sights.empty_sight, Sights.sight_in};
+ghost use Rattle.vs_ring_port.specs.{Chains.held_of, declared.queue.{Queue.Queue, TheConstants.QUEUE_SIZE_MAX}};
+ghost use Rattle.vs_ring_shared.specs.{Countings.met_between, Meetings.{AreOneTable, after_hearing, what_it_did}, Ports.IsRingSize, Sights.{empty_sight, sight_in}};
 ghost use Rattle.vs_page.specs.Log as log;
 
 use crate::counters::Met;

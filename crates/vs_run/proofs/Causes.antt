@@ -1,26 +1,23 @@
 -- From what a command did to what each of its clauses says.
-use Rattle.std.proofs.Common.{◌≡◌, ◌≢◌, ◌⊎◌, inl, inr, ◌∙◌, ◌<◌, ◌-◌, ◌^◌, arith, ℕ, Bool, cond, true, false, nat_le, List, [], ◌∷◌, length}
-use Rattle.std.proofs.Common.{Option, Some, None, Result, Ok, Err, refl, sym, ap, subst}
-use Rattle.std.proofs.lemmas.{Bool.Decides.nat_tests, List.length-take}
+use Rattle.std.proofs.Common.{◌≡◌, ◌≢◌, ◌⊎◌, inl, inr, ◌∙◌, ◌<◌, ◌-◌, ◌^◌, arith, ℕ, Bool, cond, true, false, nat_le, List, [], ◌∷◌, length, Option, Some, None, Result, Ok, Err}
+use Rattle.std.proofs.{Common.{refl, sym, ap, subst}, lemmas.{Bool.Decides.nat_tests, List.length-take}}
 use Rattle.vs_hostile.specs.Answer.{answer_to as hostile_answer, hostile_of, status_of}
 use Rattle.vs_outside.specs.Faults.{CountsFault}
-use Rattle.vs_peer.specs.{Ends.EndsAs, Ends.Lent, Pieces.IsReading, Pieces.ReadsAll, Statuses.Says, Text.no_memory_text, Text.read_fault_text}
-use Rattle.vs_peer.specs.declared.source.TheConstants.{SOURCE_MAX}
-use Rattle.vs_peer.specs.Statuses as statuses
+use Rattle.vs_peer.specs.{Ends.{EndsAs, Lent}, Pieces.{IsReading, ReadsAll}, Statuses.Says, Text.{no_memory_text, read_fault_text}, declared.source.TheConstants.SOURCE_MAX}
 use Rattle.vs_play.specs.Answer.{answer_to as play_answer, play_of}
 use Rattle.vs_ring_port.specs.declared.failure.Failure.{Failure}
-use Rattle.vs_script.specs.{Field.named, Hostile.Hostile, Play.Event, Script.Attacks, Script.Plays, Script.Runs, Script.Saying}
-use Rattle.vs_script.specs.Script.{add_event, add_hostile, add_lines, lines_from, parse_of, unless_refused, IsRefused}
-use Rattle.vs_script.specs.{Text.words_of, declared.fault.Why.Why, declared.fault.Refused.Refused, declared.fault.ParseFault.ParseFault}
-use Rattle.vs_script.specs.declared.{fault.Why.TheVariants.TooLong, script.Command.Command}
+use Rattle.vs_script.specs.{Field.named, Hostile.Hostile, Play.Event, Script.{Attacks, Plays, Runs, Saying, add_event, add_hostile, add_lines, lines_from, parse_of}}
+use Rattle.vs_script.specs.{Script.{unless_refused, IsRefused}, Text.words_of, declared.fault.{Why.{Why, TheVariants.TooLong}, Refused.Refused, ParseFault.ParseFault}}
+use Rattle.vs_script.specs.declared.script.Command.{Command}
+use Rattle.vs_apps_parts.specs.Scripts.{RunScript}
+use Rattle.vs_words.specs.declared.command.Rings.{Rings}
+use Rattle.vs_run.specs.{Ends.{EndsAnswer, EndsAnswering, EndsParsed, EndsRefused, EndsScript, EndsWith, NoMemory, Read, SourceFails, refusal_text, usage_text}, Does.Does}
+use Rattle.vs_run.{specs.{Does.{IsNoScript, KeepsHost, KeepsSource, is_client, uses_host}, Runs.{EndsOver, EndsRun}}, proofs.Endings.{HasLine, gave_none, has_line_behind}}
+use Rattle.vs_run.proofs.{Endings.{not_seven, not_two, one_line}, Ran.{load_two, run_two}}
+use Rattle.vs_peer.specs.Statuses as statuses
 use Rattle.vs_script.specs.declared.fault.ParseFault.TheVariants as fault
 use Rattle.vs_script.specs.declared.script.Command.TheVariants as script_of
-use Rattle.vs_apps_parts.specs.Scripts.{RunScript}
 use Rattle.vs_words.specs.Command as words
-use Rattle.vs_words.specs.declared.command.Rings.{Rings}
-use Rattle.vs_run.specs.Ends.{EndsAnswer, EndsAnswering, EndsParsed, EndsRefused, EndsScript, EndsWith, NoMemory, Read, SourceFails, refusal_text, usage_text}
-use Rattle.vs_run.specs.{Does.Does, Does.IsNoScript, Does.KeepsHost, Does.KeepsSource, Does.is_client, Does.uses_host, Runs.EndsOver, Runs.EndsRun}
-use Rattle.vs_run.proofs.{Endings.HasLine, Endings.gave_none, Endings.has_line_behind, Endings.not_seven, Endings.not_two, Endings.one_line, Ran.load_two, Ran.run_two}
 
 -- a fault shows in a count that can rise
 fault_shows : (old new : ℕ) → CountsFault true old new → old < 2 ^ 64 - 1 → new ≡ old → ⊥

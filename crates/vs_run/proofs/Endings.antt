@@ -1,12 +1,10 @@
 -- From how lines were given to how a command ends.
 use Rattle.std.proofs.Common.{◌≡◌, inl, inr, ◌∙◌, arith, ℕ, true, List, [], ◌∷◌, ◌++◌, Option, Some, None, Ok, Err, refl, sym, subst, append-nil}
 use Rattle.vs_outside.specs.Faults.{CountsFault}
-use Rattle.vs_peer.specs.{Ends.EndsAs, Pieces.Emits, Text.no_memory_text}
-use Rattle.vs_peer.proofs.Pieces.{emits_none, emits_append}
-use Rattle.vs_report.specs.{Gives.GivesLines, Gives.joined, declared.giving.GiveError.GiveError}
-use Rattle.vs_report.specs.declared.giving.GiveError.TheVariants as fault
-use Rattle.vs_report.proofs.LinesGiven.{some_append}
+use Rattle.vs_peer.{specs.{Ends.EndsAs, Pieces.Emits, Text.no_memory_text}, proofs.Pieces.{emits_none, emits_append}}
+use Rattle.vs_report.{specs.{Gives.{GivesLines, joined}, declared.giving.GiveError.GiveError}, proofs.LinesGiven.some_append}
 use Rattle.vs_run.specs.Ends.{EndsAnswer, EndsWith}
+use Rattle.vs_report.specs.declared.giving.GiveError.TheVariants as fault
 
 -- there is a line
 abbrev pub HasLine : List (List ℕ) → Type 0

@@ -1,21 +1,18 @@
 -- What the status of a run says, and of a load.
-use Rattle.std.proofs.Common.{◌≡◌, ◌⊎◌, inl, inr, arith, ℕ, Bool, cond, true, false, List, [], ◌∷◌, length, map, Option, Result, Ok, Err, refl, subst}
-use Rattle.std.specs.List.{range_with_len}
+use Rattle.std.{proofs.Common.{◌≡◌, ◌⊎◌, inl, inr, arith, ℕ, Bool, cond, true, false, List, [], ◌∷◌, length, map, Option, Result, Ok, Err, refl, subst}, specs.List.range_with_len}
 use Rattle.vs_outside.specs.Host.{HostContents}
-use Rattle.vs_peer.specs.{Ends.EndsAs, Text.host_fault_text, Text.no_memory_text}
+use Rattle.vs_peer.specs.{Ends.EndsAs, Text.{host_fault_text, no_memory_text}}
 use Rattle.vs_ring_shared.specs.Ports.{IsRingSize}
-use Rattle.vs_script.specs.{Script.Attacks, Script.Plays, Script.Runs, Script.Saying, declared.fault.Refused.Refused}
-use Rattle.vs_apps_parts.specs.Scripts.{RunScript}
-use Rattle.vs_apps_parts.specs.declared.{journal.Entry.Entry, progress.AppState.AppState}
+use Rattle.vs_script.specs.{Script.{Attacks, Plays, Runs, Saying}, declared.fault.Refused.Refused}
+use Rattle.vs_apps_parts.specs.{Scripts.RunScript, declared.{journal.Entry.Entry, progress.AppState.AppState}}
 use Rattle.vs_run_report.specs.{Endings.is_done, Report.{ended_at, run_status, status_of}, declared.ending.Ending.Ending}
 use Rattle.vs_report.specs.Gives.{joined}
-use Rattle.vs_report.specs.declared.giving.GiveError.TheVariants as give
 use Rattle.laws_settled.specs.Begun.{start_with}
 use Rattle.vs_run_apps.specs.{Printed.{Answers, texts_of}, declared.whole.RunError.RunError}
-use Rattle.vs_run_apps.specs.declared.whole.RunError.TheVariants as error
 use Rattle.vs_words.specs.Command.{IsQueueSize}
-use Rattle.vs_run.specs.{Ends.EndsWith, Runs.EndsLoad, Runs.EndsOver, Runs.EndsRun}
-use Rattle.vs_run.proofs.Endings.{not_two}
+use Rattle.vs_run.{specs.{Ends.EndsWith, Runs.{EndsLoad, EndsOver, EndsRun}}, proofs.Endings.not_two}
+use Rattle.vs_report.specs.declared.giving.GiveError.TheVariants as give
+use Rattle.vs_run_apps.specs.declared.whole.RunError.TheVariants as error
 
 -- the status of a run that was over
 zero_or_five : (es : List Ending) → (status_of es ≡ 0) ⊎ (status_of es ≡ 5)

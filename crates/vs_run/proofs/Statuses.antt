@@ -3,19 +3,18 @@ use Rattle.std.proofs.Common.{◌≡◌, ◌⊎◌, [], inl, inr, ◌∙◌, ℕ
 use Rattle.vs_hostile.specs.Answer.{answer_to as hostile_answer, status_of}
 use Rattle.vs_outside.specs.Faults.{CountsFault}
 use Rattle.vs_peer.specs.{Ends.{EndsAs, Lent}, Statuses.Says, Text.{host_fault_text, no_memory_text, read_fault_text}}
-use Rattle.vs_peer.specs.Statuses as statuses
 use Rattle.vs_play.specs.Answer.{answer_to as play_answer}
 use Rattle.vs_ring_port.specs.declared.failure.Failure.{Failure}
-use Rattle.vs_script.specs.{Script.{Attacks, Plays, Runs, Saying}, declared.fault.Refused.Refused, declared.script.Command.Command}
-use Rattle.vs_script.specs.declared.script.Command.TheVariants as script_of
+use Rattle.vs_script.specs.{Script.{Attacks, Plays, Runs, Saying}, declared.{fault.Refused.Refused, script.Command.Command}}
 use Rattle.vs_apps_parts.specs.Scripts.{RunScript}
 use Rattle.vs_report.specs.Gives.{joined}
 use Rattle.vs_run_report.specs.Report.{run_status}
 use Rattle.vs_run_apps.specs.Printed.{texts_of}
+use Rattle.vs_run.specs.{Does.{Does, KeepsHost, is_client, is_status, uses_host}, Runs.{EndsLoad, EndsOver, EndsRun}, Ends.{EndsAnswer, EndsAnswering, EndsParsed, EndsScript}}
+use Rattle.vs_run.{specs.Ends.{EndsWith, NoMemory, Read, SourceFails, refusal_text, usage_text}, proofs.Ran.run_zero_or_five}
+use Rattle.vs_peer.specs.Statuses as statuses
+use Rattle.vs_script.specs.declared.script.Command.TheVariants as script_of
 use Rattle.vs_words.specs.Command as words
-use Rattle.vs_run.specs.{Does.{Does, KeepsHost, is_client, is_status, uses_host}, Runs.{EndsLoad, EndsOver, EndsRun}, Ends.EndsAnswer}
-use Rattle.vs_run.specs.Ends.{EndsAnswering, EndsParsed, EndsScript, EndsWith, NoMemory, Read, SourceFails, refusal_text, usage_text}
-use Rattle.vs_run.proofs.Ran.{run_zero_or_five}
 
 -- A status with its cause.
 data Cause (command : Option words.Command) (old new : Lent) (r : ℕ) : Type 0 where

@@ -1,10 +1,9 @@
 -- How the command ends: the line that it writes last, and its status.
 use Rattle.std.specs.Prelude.{◌≡◌, ◌⊎◌, ℕ, true, List, ◌∷◌, ◌++◌, codes, Option, Result, Ok, Err}
 use Rattle.vs_outside.specs.Faults.{CountsFault}
-use Rattle.vs_peer.specs.{Ends.EndsAs, Pieces.ReadsAll, Text.no_memory_text, Text.read_fault_text}
+use Rattle.vs_peer.specs.{Ends.EndsAs, Pieces.ReadsAll, Text.{no_memory_text, read_fault_text}}
 use Rattle.vs_report.specs.Gives.{joined}
-use Rattle.vs_script.specs.{Fault.refused_text, declared.fault.ParseFault.ParseFault, Script.Saying, Script.parse_of}
-use Rattle.vs_script.specs.declared.{fault.Refused.Refused, script.Command.Command}
+use Rattle.vs_script.specs.{Fault.refused_text, declared.{fault.{ParseFault.ParseFault, Refused.Refused}, script.Command.Command}, Script.{Saying, parse_of}}
 use Rattle.vs_script.specs.declared.fault.ParseFault.TheVariants as fault
 
 abbrev pub usage_text : List ℕ

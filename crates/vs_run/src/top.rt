@@ -2,20 +2,18 @@
 
 ghost use Rattle.std.specs.Prelude.{◌≡◌, ◌≢◌, ◌<◌, ◌-◌, ◌^◌, ℕ, List, [], Some, None, Ok, Err, true, false, map, string_bytes};
 ghost use Rattle.vs_outside.specs.Faults.{CountsFault};
-ghost use Rattle.vs_peer.specs.{Pieces.Emits, Statuses.NoFault, Statuses.Says, Statuses.is_faultless, Text.read_fault_text};
+ghost use Rattle.vs_peer.specs.{Pieces.Emits, Statuses.{NoFault, Says, is_faultless}, Text.read_fault_text};
 ghost use Rattle.vs_play.specs.Answer.{play_of};
 ghost use Rattle.laws_play.specs.Headline.{IsLawful};
 ghost use Rattle.vs_hostile.specs.Answer.{hostile_of};
 ghost use Rattle.laws_hostile.specs.Isolated.{IsSafe};
 ghost use Rattle.vs_report.specs.Gives.{joined};
-ghost use Rattle.vs_script.specs.{Play.Event, Hostile.Hostile as Attack, Script.Attacks, Script.Plays, Script.Runs, Script.parse_of};
-ghost use Rattle.vs_script.specs.declared.script.Command.TheVariants as script_of;
-ghost use Rattle.vs_script.specs.declared.fault.Refused.{Refused};
-ghost use Rattle.vs_words.specs.Command.{Play, Run, Hostile, Load, Peer, command_of};
-ghost use Rattle.vs_words.specs.declared.command.Rings.{Rings};
+ghost use Rattle.vs_script.specs.{Play.Event, Hostile.Hostile as Attack, Script.{Attacks, Plays, Runs, parse_of}, declared.fault.Refused.Refused};
+ghost use Rattle.vs_words.specs.{Command.{Play, Run, Hostile, Load, Peer, command_of}, declared.command.Rings.Rings};
 ghost use Rattle.vs_apps_parts.specs.Scripts.{RunScript};
-ghost use Rattle.vs_run.specs.{Ends.EndsAnswer, Ends.EndsWith, Ends.refusal_text, Ends.usage_text, Does.Does, Does.IsNoScript};
-ghost use Rattle.vs_run.specs.{Does.is_client, Does.is_status, Does.lent, Does.runs_apps, Does.uses_host, Runs.EndsLoad, Runs.EndsOver};
+ghost use Rattle.vs_run.specs.{Ends.{EndsAnswer, EndsWith, refusal_text, usage_text}, Does.{Does, IsNoScript, is_client, is_status, lent, runs_apps, uses_host}, Runs.EndsLoad};
+ghost use Rattle.vs_run.specs.Runs.{EndsOver};
+ghost use Rattle.vs_script.specs.declared.script.Command.TheVariants as script_of;
 
 use crate::ending::{ended, no_memory};
 use crate::hostile::hostile_script;

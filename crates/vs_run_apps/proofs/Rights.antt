@@ -1,25 +1,23 @@
 -- What a run that is over reports is right.
-use Rattle.std.proofs.Common.{◌≡◌, ℕ, List, Option, Some, None, Result, Ok, Err, IfOk, refl, sym, ap, subst, ◌∙◌}
-use Rattle.std.proofs.lemmas.Option.{same_Some}
-use Rattle.std.specs.Option.{ForSome}
+use Rattle.std.{proofs.{Common.{◌≡◌, ℕ, List, Option, Some, None, Result, Ok, Err, IfOk, refl, sym, ap, subst, ◌∙◌}, lemmas.Option.same_Some}, specs.Option.ForSome}
 use Rattle.vs_contents.specs.Contents.{Exposes}
 use Rattle.vs_limits.specs.declared.TheConstants.{FIRST_CID}
-use Rattle.vs_outside.specs.{Host.HostContents, Host.after_start}
+use Rattle.vs_outside.specs.Host.{HostContents, after_start}
 use Rattle.vs_ring_port.specs.Chains.{Held, chains_of}
 use Rattle.vs_device_parts.specs.{Calls.Situation, Playing.situation}
 use Rattle.vs_ring_shared.specs.{Countings.met_between, Meetings.after_hearing, Sights.{DeviceSight, device_contents, device_log}, declared.counters.Met.Met}
 use Rattle.vs_apps_parts.specs.Scripts.{RunScript}
 use Rattle.laws_apps.specs.Runs.{IsRunOf, Run}
 use Rattle.laws_proxy.specs.Honest.{IsProxyStreamed}
-use Rattle.laws_settled.specs.{Begun.{CountsFailed, IsBegun, IsUnlabelled, Start, start_with}, Settled.{IsSettled, IsSteady}}
-use Rattle.laws_settled.proofs.{Beginning.dropped_none, Beginning.new_begun, Steady.new_steady}
-use Rattle.laws_run.{specs.Dry.AreIdle, proofs.Completing.complete_report, proofs.Holding.place_waits}
+use Rattle.laws_settled.{specs.{Begun.{CountsFailed, IsBegun, IsUnlabelled, Start, start_with}, Settled.{IsSettled, IsSteady}}, proofs.Beginning.{dropped_none, new_begun}}
+use Rattle.laws_settled.proofs.Steady.{new_steady}
+use Rattle.laws_run.{specs.Dry.AreIdle, proofs.{Completing.complete_report, Holding.place_waits}}
 use Rattle.vs_apps.specs.Guests.{GuestsState, run_in}
 use Rattle.vs_settle.specs.Rounds.{LastRound}
 use Rattle.vs_report.specs.declared.giving.GiveError.{GiveError}
-use Rattle.vs_report.specs.declared.giving.GiveError.TheVariants as give
 use Rattle.vs_proxy_parts.specs.{State.ProxyState, Turns.new_proxy}
-use Rattle.vs_run_apps.specs.{Printed.IsOver, Printed.Reports, Runs.{HasRightReport, HasRun, totals_of}, Sides.{IsReady, IsSilent, SideState, around}}
+use Rattle.vs_run_apps.specs.{Printed.{IsOver, Reports}, Runs.{HasRightReport, HasRun, totals_of}, Sides.{IsReady, IsSilent, SideState, around}}
+use Rattle.vs_report.specs.declared.giving.GiveError.TheVariants as give
 
 module _ (script : RunScript) (start : Start) (g : GuestsState) (s : SideState) where
   -- No step, turn or poll of the last round, and nothing after it, changed an app or an entry.

@@ -1,8 +1,7 @@
 -- A text that is given piece by piece.
-use Rattle.std.proofs.Common.{◌≡◌, ℕ, ◌+◌, ◌-◌, List, ◌++◌, length, take, drop, Option, Result, Ok, Err, OnErr, sym, ap, ◌∙◌, subst}
-use Rattle.std.proofs.{Math.Seq.take-add, lemmas.List.{take_rest, take-append-drop}}
-use Rattle.vs_peer.specs.Pieces.{Emits, EmitsSome}
-use Rattle.vs_peer.proofs.Pieces.{emits_append}
+use Rattle.std.proofs.{Common.{◌≡◌, ℕ, ◌+◌, ◌-◌, List, ◌++◌, length, take, drop, Option, Result, Ok, Err, OnErr, sym, ap, ◌∙◌, subst}, Math.Seq.take-add, lemmas.List.take_rest}
+use Rattle.std.proofs.lemmas.List.{take-append-drop}
+use Rattle.vs_peer.{specs.Pieces.{Emits, EmitsSome}, proofs.Pieces.emits_append}
 use Rattle.vs_report.proofs.LinesGiven.{some_append, some_more}
 
 module _ (old mid new : Option (List ℕ)) (text : List ℕ) (at n : ℕ) where

@@ -1,11 +1,8 @@
 -- How the lines of a report add up.
-use Rattle.std.proofs.Common.{◌≡◌, ℕ, zero, suc, ◌+◌, if◌then◌else◌, Bool, true, false, List, [], ◌∷◌, ◌++◌, map, Result, Ok, Err, OnOk}
-use Rattle.std.proofs.{Common.{refl, sym, ap, ◌∙◌, arith, append_assoc, append-nil}, lemmas.List.{flat_map_more, map-append}}
-use Rattle.std.specs.List.{flat_map, range_with_len}
-use Rattle.vs_report.specs.Gives.{joined}
-use Rattle.vs_report.proofs.LinesGiven.{joined_append}
-use Rattle.vs_run_report.specs.{Endings.is_done, Report.status_after, Report.status_of, declared.ending.Ending.Ending}
-use Rattle.vs_run_report.specs.{declared.report.TheConstants.WAITED}
+use Rattle.std.proofs.Common.{◌≡◌, ℕ, zero, suc, ◌+◌, if◌then◌else◌, Bool, true, false, List, [], ◌∷◌, ◌++◌, map, Result, Ok, Err, OnOk, refl, sym, ap, ◌∙◌, arith, append_assoc}
+use Rattle.std.{proofs.{Common.append-nil, lemmas.List.{flat_map_more, map-append}}, specs.List.{flat_map, range_with_len}}
+use Rattle.vs_report.{specs.Gives.joined, proofs.LinesGiven.joined_append}
+use Rattle.vs_run_report.specs.{Endings.is_done, Report.{status_after, status_of}, declared.{ending.Ending.Ending, report.TheConstants.WAITED}}
 
 -- numbers from a on, and the next one
 range_from : (a n : ℕ) → range_with_len a (n + 1) ≡ range_with_len a n ++ (a + n) ∷ []

@@ -1,11 +1,10 @@
 -- What a noted wait says of how apps end.
-use Rattle.std.proofs.Common.{◌≡◌, ◌<◌, ℕ, zero, suc, ◌+◌, ◌==◌, nat_lt, Bool, true, false, cond, List, [], ◌∷◌, ◌++◌, length, Option, Some}
-use Rattle.std.proofs.{Common.{None, refl, sym, ap, ◌∙◌, arith, slice_set}, lemmas.Bool.Decides.nat_tests, lemmas.Bool.eq-eqb}
-use Rattle.std.specs.{Option.unwrap_or, Prelude.slice_get}
-use Rattle.vs_apps_parts.specs.Journals.{entry_waited, one_more, times_at, times_in, wait_noted, wait_place, waited_before}
-use Rattle.vs_apps_parts.specs.declared.{journal.Entry.Entry, journal.WaitsFor.WaitsFor, progress.AppState.AppState}
+use Rattle.std.proofs.Common.{◌≡◌, ◌<◌, ℕ, zero, suc, ◌+◌, ◌==◌, nat_lt, Bool, true, false, cond, List, [], ◌∷◌, ◌++◌, length, Option, Some, None, refl, sym, ap, ◌∙◌, arith}
+use Rattle.std.{proofs.{Common.slice_set, lemmas.Bool.{Decides.nat_tests, eq-eqb}}, specs.{Option.unwrap_or, Prelude.slice_get}}
+use Rattle.vs_apps_parts.specs.{Journals.{entry_waited, one_more, times_at, times_in, wait_noted, wait_place, waited_before}, declared.journal.{Entry.Entry, WaitsFor.WaitsFor}}
+use Rattle.vs_apps_parts.specs.declared.progress.AppState.{AppState}
+use Rattle.vs_run_report.specs.Endings.{ending_at, ending_of, why_at, why_in}
 use Rattle.vs_apps_parts.specs.declared.journal.Deed.TheVariants as deed
-use Rattle.vs_run_report.specs.{Endings.ending_at, Endings.ending_of, Endings.why_at, Endings.why_in}
 use Rattle.vs_run_report.specs.declared.ending.Ending.TheVariants as ending
 
 -- Places of a list that gets one more, or another one at a place.

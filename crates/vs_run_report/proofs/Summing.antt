@@ -1,16 +1,15 @@
 -- What the entries of a journal add to what was sent and received on a connection.
-use Rattle.std.proofs.Common.{◌≡◌, ℕ, ◌+◌, ◌-◌, ◌==◌, ◌^◌, min, if◌then◌else◌, Bool, true, false, List, [], ◌∷◌, ◌++◌, length, take, drop}
-use Rattle.std.proofs.{Common.{refl, sym, ap, ◌∙◌, arith, append_assoc, append-nil}, lemmas.List.{length-append, length-drop, length-take}}
-use Rattle.std.proofs.lemmas.List.FromFn.{length-map-range_with_len}
+use Rattle.std.proofs.Common.{◌≡◌, ℕ, ◌+◌, ◌-◌, ◌==◌, ◌^◌, min, if◌then◌else◌, Bool, true, false, List, [], ◌∷◌, ◌++◌, length, take, drop, refl, sym, ap, ◌∙◌, arith, append_assoc}
+use Rattle.std.proofs.{Common.append-nil, lemmas.List.{length-append, length-drop, length-take, FromFn.length-map-range_with_len}}
 use Rattle.vs_script.specs.Data.{Content, Fill, Given, bytes_of, filled, size_of}
-use Rattle.laws_driver.specs.Carried.{Calls.Journal, Calls.bytes_received, Calls.bytes_sent, Calls.names, Calls.received_by, Sent.took}
-use Rattle.vs_apps_parts.specs.{Journals.{calls_of, data_at, gathered, made_by, made_of, sent_as}, Scripts.{RunScript, acts_of, slice_of}}
-use Rattle.vs_apps_parts.specs.declared.journal.{Called.Called, Deed.Deed, Entry.Entry}
+use Rattle.laws_driver.specs.Carried.{Calls.{Journal, bytes_received, bytes_sent, names, received_by}, Sent.took}
+use Rattle.vs_apps_parts.specs.{Journals.{calls_of, data_at, gathered, made_by, made_of, sent_as}, Scripts.{RunScript, acts_of, slice_of}, declared.journal.Called.Called}
+use Rattle.vs_apps_parts.specs.declared.journal.{Deed.Deed, Entry.Entry}
+use Rattle.vs_driver_parts.specs.declared.answers.Sent.{Sent}
+use Rattle.vs_run_report.specs.{Connections.capped, Sums.{given_by, given_in, sent_by, sent_number, took_number}}
 use Rattle.vs_apps_parts.specs.declared.journal.Called.TheVariants as called
 use Rattle.vs_apps_parts.specs.declared.journal.Deed.TheVariants as deed
-use Rattle.vs_driver_parts.specs.declared.answers.Sent.{Sent}
 use Rattle.vs_driver_parts.specs.declared.answers.Sent.TheVariants as sent
-use Rattle.vs_run_report.specs.{Connections.capped, Sums.given_by, Sums.given_in, Sums.sent_by, Sums.sent_number, Sums.took_number}
 
 pub size_is : (c : Content) → size_of c ≡ length (bytes_of c)
 size_is (Given bytes) = refl

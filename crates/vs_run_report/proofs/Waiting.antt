@@ -1,22 +1,19 @@
 -- A step that waits does so for what its instruction may wait for.
-use Rattle.std.proofs.Common.{◌≡◌, ◌||◌, ℕ, nat_lt, if◌then◌else◌, Bool, true, false, List, [], ◌∷◌, ◌++◌, length, Option, Some, None}
-use Rattle.std.proofs.Common.{Result, Ok, Err, refl, ap, subst, arith}
-use Rattle.vs_script.specs.{App.Act, Data.Content, Data.size_of}
-use Rattle.vs_script.specs.App as act
+use Rattle.std.proofs.Common.{◌≡◌, ◌||◌, ℕ, nat_lt, if◌then◌else◌, Bool, true, false, List, [], ◌∷◌, ◌++◌, length, Option, Some, None, Result, Ok, Err, refl, ap, subst, arith}
+use Rattle.vs_script.specs.{App.Act, Data.{Content, size_of}}
 use Rattle.laws_driver.specs.Carried.Calls.{GuestCall, Made, ReplyTo}
+use Rattle.vs_apps_parts.specs.{Scripts.{calls_in, calls_next, id_of, recv_next, send_next, told_in}, Told.{step_wait, told_accept, told_by, told_connect, told_look, told_of}}
+use Rattle.vs_apps_parts.specs.{Told.{told_recv, told_send}, declared.{journal.WaitsFor.WaitsFor, progress.Progress.Progress, told.Told.Told}}
+use Rattle.vs_driver_parts.specs.declared.answers.{Accepted.Accepted, ConnectError.ConnectError, ConnectionState.ConnectionState, Received.Received, Sent.Sent}
+use Rattle.vs_run_report.specs.Right.{may_wait, waits_to_accept, waits_to_connect, waits_to_receive, waits_to_send}
+use Rattle.vs_script.specs.App as act
 use Rattle.laws_driver.specs.Carried.Calls as call
-use Rattle.vs_apps_parts.specs.Scripts.{calls_in, calls_next, id_of, recv_next, send_next, told_in}
-use Rattle.vs_apps_parts.specs.Told.{step_wait, told_accept, told_by, told_connect, told_look, told_of, told_recv, told_send}
-use Rattle.vs_apps_parts.specs.declared.{journal.WaitsFor.WaitsFor, progress.Progress.Progress, told.Told.Told}
 use Rattle.vs_apps_parts.specs.declared.told.Told.TheVariants as told
-use Rattle.vs_driver_parts.specs.declared.answers.{Accepted.Accepted, ConnectError.ConnectError, ConnectionState.ConnectionState}
-use Rattle.vs_driver_parts.specs.declared.answers.{Received.Received, Sent.Sent}
 use Rattle.vs_driver_parts.specs.declared.answers.Accepted.TheVariants as accepted
 use Rattle.vs_driver_parts.specs.declared.answers.ConnectError.TheVariants as refused
 use Rattle.vs_driver_parts.specs.declared.answers.ConnectionState.TheVariants as seen
 use Rattle.vs_driver_parts.specs.declared.answers.Received.TheVariants as got
 use Rattle.vs_driver_parts.specs.declared.answers.Sent.TheVariants as sent
-use Rattle.vs_run_report.specs.Right.{may_wait, waits_to_accept, waits_to_connect, waits_to_receive, waits_to_send}
 
 -- What a reply tells to wait for passes a test; and what a step waits for.
 abbrev Tells : (WaitsFor → Bool) → Told → Type 0

@@ -1,13 +1,11 @@
 -- A worked report is right.
-use Rattle.std.proofs.Common.{◌<◌, ℕ, zero, suc, [], ◌∷◌, Some, None, length, codes, refl, ap, arith, true}
-use Rattle.std.proofs.lemmas.List.Elements.{All-cons, All-nil}
+use Rattle.std.proofs.{Common.{◌<◌, ℕ, zero, suc, [], ◌∷◌, Some, None, length, codes, refl, ap, arith, true}, lemmas.List.Elements.{All-cons, All-nil}}
 use Rattle.vs_flow.specs.{Connection.Connection, Flow.host_flow}
 use Rattle.vs_script.specs.Data.{Given}
+use Rattle.vs_apps_parts.specs.{Examples.{asked, at_next, closed_it, opened, sent_hello}, Journals.{calls_of, calls_of_app}, Scripts.{IsPlayed, acts_of, begun}}
+use Rattle.vs_run_report.specs.{Endings.state_at, Report.ended_at, Right.{IsRightConnection, IsRightEnding}, Examples.{app_at, first_opened, hello, hello_entries, hello_host}}
+use Rattle.vs_run_report.specs.Examples.{hello_is_right}
 use Rattle.vs_script.specs.App as act
-use Rattle.vs_apps_parts.specs.{Examples.asked, Examples.at_next, Examples.closed_it, Examples.opened, Examples.sent_hello}
-use Rattle.vs_apps_parts.specs.{Journals.calls_of, Journals.calls_of_app, Scripts.IsPlayed, Scripts.acts_of, Scripts.begun}
-use Rattle.vs_run_report.specs.{Endings.state_at, Report.ended_at, Right.IsRightConnection, Right.IsRightEnding}
-use Rattle.vs_run_report.specs.Examples.{app_at, first_opened, hello, hello_entries, hello_host, hello_is_right}
 
 greets : (k : ℕ) → k < length hello
     → IsPlayed (acts_of k hello) (calls_of_app k hello [] hello_entries) (state_at k (app_at 3 None ∷ [])).progress

@@ -1,10 +1,9 @@
 -- How each app of a run ended, as it is printed.
-use Rattle.std.specs.Prelude.{ℕ, ◌+◌, nat_lt, if◌then◌else◌, Bool, true, false, List, ◌++◌, codes, decimal, slice_get, slice_index_or}
-use Rattle.std.specs.Prelude.{Option, Some, None}
-use Rattle.vs_apps_parts.specs.{Scripts.begun, declared.{journal.Entry.Entry, journal.WaitsFor.WaitsFor, progress.AppState.AppState}}
+use Rattle.std.specs.Prelude.{ℕ, ◌+◌, nat_lt, if◌then◌else◌, Bool, true, false, List, ◌++◌, codes, decimal, slice_get, slice_index_or, Option, Some, None}
+use Rattle.vs_apps_parts.specs.{Scripts.begun, declared.{journal.{Entry.Entry, WaitsFor.WaitsFor}, progress.AppState.AppState}}
+use Rattle.vs_run_report.specs.declared.ending.Ending.{Ending}
 use Rattle.vs_apps_parts.specs.declared.journal.Deed.TheVariants as deed
 use Rattle.vs_apps_parts.specs.declared.journal.WaitsFor.TheVariants as waits
-use Rattle.vs_run_report.specs.declared.ending.Ending.{Ending}
 use Rattle.vs_run_report.specs.declared.ending.Ending.TheVariants as ending
 
 -- The word for what an app waits for.

@@ -2,10 +2,12 @@
 use Rattle.std.specs.Prelude.{ℕ, false, List, [], ◌∷◌, codes, Option, None, Some, Ok}
 use Rattle.vs_flow.specs.{Connection.Connection, Flow.host_flow}
 use Rattle.vs_outside.specs.Host.{HostContents, Stream}
+use Rattle.vs_script.specs.{App.{Accept, Close, Connect, Listen, Recv, Send}, Data.Given}
+use Rattle.vs_apps_parts.specs.{Examples.at_next, Journals.{entry_called, entry_waited}, Scripts.RunScript, declared.{journal.Entry.Entry, progress.AppState.AppState}}
+use Rattle.vs_device_parts.specs.State.{counters_of, new_device}
+use Rattle.vs_report.specs.{declared.giving.Totals.Totals, Report.nothing_counted}
+use Rattle.vs_run_report.specs.{Report.{run_status, run_texts}, Right.IsRightReport}
 use Rattle.vs_outside.specs.declared.host_net.StreamState.TheVariants as state
-use Rattle.vs_script.specs.{App.Accept, App.Close, App.Connect, App.Listen, App.Recv, App.Send, Data.Given}
-use Rattle.vs_apps_parts.specs.{Examples.at_next, Journals.entry_called, Journals.entry_waited, Scripts.RunScript}
-use Rattle.vs_apps_parts.specs.declared.{journal.Entry.Entry, progress.AppState.AppState}
 use Rattle.vs_apps_parts.specs.declared.journal.Called.TheVariants as called
 use Rattle.vs_apps_parts.specs.declared.journal.WaitsFor.TheVariants as waits
 use Rattle.vs_driver_parts.specs.declared.answers.Accepted.TheVariants as accepted
@@ -13,9 +15,6 @@ use Rattle.vs_driver_parts.specs.declared.answers.Closed.TheVariants as closed
 use Rattle.vs_driver_parts.specs.declared.answers.ConnectionState.TheVariants as seen
 use Rattle.vs_driver_parts.specs.declared.answers.Received.TheVariants as got
 use Rattle.vs_driver_parts.specs.declared.answers.Sent.TheVariants as sent
-use Rattle.vs_device_parts.specs.State.{counters_of, new_device}
-use Rattle.vs_report.specs.{declared.giving.Totals.Totals, Report.nothing_counted}
-use Rattle.vs_run_report.specs.{Report.run_status, Report.run_texts, Right.IsRightReport}
 
 -- How far an app is whose connection is 1, and where its last entry is a wait.
 abbrev pub app_at : ℕ → Option ℕ → AppState

@@ -2,15 +2,14 @@
 use Rattle.std.specs.{Prelude.{◌≡◌, ℕ, ◌-◌, ◌<◌, ◌≤◌, ◌||◌, Bool, true, false, List, length, slice_get, Some}, List.All}
 use Rattle.vs_flow.specs.Connection.{Connection}
 use Rattle.vs_page.specs.Fair.{IsPrefixOf}
-use Rattle.vs_outside.specs.{Faults.one_more, Host.HostContents, HostBytes.host_read, HostBytes.host_wrote}
+use Rattle.vs_outside.specs.{Faults.one_more, Host.HostContents, HostBytes.{host_read, host_wrote}}
 use Rattle.vs_script.specs.App.{Act, Connect, Accept, Send, Recv, Drain, Exchange}
 use Rattle.laws_driver.specs.Carried.Calls.{Journal, received_by}
-use Rattle.vs_apps_parts.specs.{Journals.{calls_of, calls_of_app, sent_as}, Scripts.{IsPlayed, RunScript, acts_of}}
-use Rattle.vs_apps_parts.specs.declared.{journal.Entry.Entry, journal.WaitsFor.WaitsFor, progress.AppState.AppState}
-use Rattle.vs_apps_parts.specs.declared.journal.WaitsFor.TheVariants as waits
+use Rattle.vs_apps_parts.specs.{Journals.{calls_of, calls_of_app, sent_as}, Scripts.{IsPlayed, RunScript, acts_of}, declared.journal.{Entry.Entry, WaitsFor.WaitsFor}}
+use Rattle.vs_apps_parts.specs.declared.progress.AppState.{AppState}
 use Rattle.vs_report.specs.declared.giving.Totals.{Totals}
-use Rattle.vs_run_report.specs.{Connections.opened_all, Endings.state_at, Report.ended_at}
-use Rattle.vs_run_report.specs.declared.{connection.Opened.Opened, ending.Ending.Ending}
+use Rattle.vs_run_report.specs.{Connections.opened_all, Endings.state_at, Report.ended_at, declared.{connection.Opened.Opened, ending.Ending.Ending}}
+use Rattle.vs_apps_parts.specs.declared.journal.WaitsFor.TheVariants as waits
 use Rattle.vs_run_report.specs.declared.ending.Ending.TheVariants as ending
 
 -- What each instruction may wait for.

@@ -3,8 +3,7 @@
 ghost use Rattle.std.specs.Prelude.{◌≡◌, ◌++◌, OnOk, codes, map, string_bytes};
 ghost use Rattle.vs_apps_parts.specs.{Journals.calls_of, Scripts.script_of};
 ghost use Rattle.vs_report.specs.{Bytes.counted_text, Gives.joined};
-ghost use Rattle.vs_run_report.specs.Connections.{connection_text, listed, opened_as, opened_by, opened_by_accept, opened_by_connect};
-ghost use Rattle.vs_run_report.specs.Connections.{opened_in, opened_of, opened_text};
+ghost use Rattle.vs_run_report.specs.Connections.{connection_text, listed, opened_as, opened_by, opened_by_accept, opened_by_connect, opened_in, opened_of, opened_text};
 
 use crate::sums::add_up;
 use std::alloc::AllocError;

@@ -1,8 +1,7 @@
 //! How each app of a run ended.
 
 ghost use Rattle.std.specs.Prelude.{◌≡◌, ◌++◌, OnOk, string_bytes};
-ghost use Rattle.vs_run_report.specs.Endings.{app_text, ending_of, ending_text, is_done, why_at, why_text};
-ghost use Rattle.vs_run_report.specs.declared.ending.Ending.TheVariants.{Waited};
+ghost use Rattle.vs_run_report.specs.{Endings.{app_text, ending_of, ending_text, is_done, why_at, why_text}, declared.ending.Ending.TheVariants.Waited};
 
 use std::alloc::AllocError;
 use vs_apps_parts::journal::{Deed, Entry, WaitsFor};

@@ -1,16 +1,12 @@
 //! What an app may wait for; worked reports of runs, and worked lines of loads.
 
 ghost use Rattle.std.specs.Prelude.{◌≡◌, ◌<◌, ◌+◌, ◌==◌, ℕ, true, false, List, [], ◌∷◌, Option, Some, codes, slice_get};
-ghost use Rattle.vs_script.specs.{App.Act, App.Close, App.Connect, App.Exchange, Data.Fill};
+ghost use Rattle.vs_script.specs.{App.{Act, Close, Connect, Exchange}, Data.Fill};
 ghost use Rattle.laws_driver.specs.Carried.Calls.{Made};
-ghost use Rattle.vs_apps_parts.specs.{Scripts.calls_in, Scripts.calls_next, Scripts.told_in, Told.step_wait};
-ghost use Rattle.vs_apps_parts.specs.{Journals.wait_noted, Journals.wait_place};
-ghost use Rattle.vs_apps_parts.specs.declared.{journal.Entry.Entry, journal.WaitsFor.WaitsFor, progress.AppState.AppState};
-ghost use Rattle.vs_apps_parts.specs.declared.progress.Progress.{Progress};
-ghost use Rattle.vs_run_report.specs.{Endings.ending_of, Right.may_wait, declared.ending.Ending.TheVariants.Waited};
-ghost use Rattle.vs_run_report.specs.Examples.{hello_is_right, hello_printed, hello_says, hello_status, served_printed, served_says};
-ghost use Rattle.vs_run_report.specs.Examples.{silent_printed, silent_says, silent_status};
-ghost use Rattle.vs_run_report.specs.Load.{all_matched, load_script, matches};
+ghost use Rattle.vs_apps_parts.specs.{Scripts.{calls_in, calls_next, told_in}, Told.step_wait, Journals.{wait_noted, wait_place}, declared.journal.Entry.Entry};
+ghost use Rattle.vs_apps_parts.specs.declared.{journal.WaitsFor.WaitsFor, progress.{AppState.AppState, Progress.Progress}};
+ghost use Rattle.vs_run_report.specs.{Endings.ending_of, Right.may_wait, declared.ending.Ending.TheVariants.Waited, Examples.{hello_is_right, hello_printed, hello_says}};
+ghost use Rattle.vs_run_report.specs.{Examples.{hello_status, served_printed, served_says, silent_printed, silent_says, silent_status}, Load.{all_matched, load_script, matches}};
 
 /// A step that waits does so for what its instruction may wait for.
 pub fn law_of_waits()

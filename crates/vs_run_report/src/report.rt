@@ -3,9 +3,7 @@
 ghost use Rattle.std.specs.Prelude.{◌≡◌, ◌++◌, ◌<◌, IfOk, OnOk, length, string_bytes};
 ghost use Rattle.vs_apps_parts.specs.Scripts.{acts_of, script_of};
 ghost use Rattle.vs_report.specs.Gives.{joined};
-ghost use Rattle.vs_run_report.specs.Report.{app_line, app_lines, connection_lines, ended_at, run_status, run_texts};
-ghost use Rattle.vs_run_report.specs.Report.{status_after, total_lines};
-ghost use Rattle.vs_run_report.specs.Endings.{state_at};
+ghost use Rattle.vs_run_report.specs.{Report.{app_line, app_lines, connection_lines, ended_at, run_status, run_texts, status_after, total_lines}, Endings.state_at};
 
 use crate::connection::push_connections_of;
 use crate::ending::{Ending, ending_of, push_app};

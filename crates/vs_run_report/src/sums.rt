@@ -3,9 +3,8 @@
 ghost use Rattle.std.specs.Prelude.{◌≡◌, IfOk, List, ℕ, length};
 ghost use Rattle.laws_driver.specs.Carried.Calls.{received_by};
 ghost use Rattle.vs_script.specs.App.{instruction_view};
-ghost use Rattle.vs_apps_parts.specs.{Journals.calls_of, Journals.data_at, Journals.data_in, Journals.sent_as, Scripts.acts_of};
-ghost use Rattle.vs_apps_parts.specs.{Scripts.script_of, Scripts.slice_of};
-ghost use Rattle.vs_run_report.specs.{Connections.capped, Sums.given_by, Sums.given_in, Sums.sent_by, Sums.sent_number, Sums.took_number};
+ghost use Rattle.vs_apps_parts.specs.{Journals.{calls_of, data_at, data_in, sent_as}, Scripts.{acts_of, script_of, slice_of}};
+ghost use Rattle.vs_run_report.specs.{Connections.capped, Sums.{given_by, given_in, sent_by, sent_number, took_number}};
 
 use std::alloc::AllocError;
 use vs_apps_parts::journal::{Called, Deed, Entry};

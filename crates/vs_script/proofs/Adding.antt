@@ -1,10 +1,8 @@
 -- One more behind others, and an instruction behind those of the last app.
-use Rattle.std.proofs.Common.{◌≡◌, ℕ, suc, zero, Bool, true, false, if◌then◌else◌, nat_lt, List, [], ◌∷◌, ◌++◌, length, map, Result, Ok}
-use Rattle.std.proofs.{Common.{Err, refl, sym, ap, ◌∙◌, arith, slice_index_or, slice_set}, lemmas.List.{length-map, map-append}}
-use Rattle.std.specs.Prelude.{IfOk, IfErr}
-use Rattle.vs_script.specs.{App.Act, App.app_view, Script.pushed, Script.add_act, Field.named, Field.IsFault, declared.app.App.App}
-use Rattle.vs_script.specs.declared.fault.{LineFault.LineFault, Why.Why, LineFault.TheVariants.Refused, LineFault.TheVariants.OutOfMemory}
-use Rattle.vs_script.specs.declared.{fault.Why.TheVariants.TooMany, script.TheConstants.MAX_INSTRUCTIONS}
+use Rattle.std.proofs.Common.{◌≡◌, ℕ, suc, zero, Bool, true, false, if◌then◌else◌, nat_lt, List, [], ◌∷◌, ◌++◌, length, map, Result, Ok, Err, refl, sym, ap, ◌∙◌, arith}
+use Rattle.std.{proofs.{Common.{slice_index_or, slice_set}, lemmas.List.{length-map, map-append}}, specs.Prelude.{IfOk, IfErr}}
+use Rattle.vs_script.specs.{App.{Act, app_view}, Script.{pushed, add_act}, Field.{named, IsFault}, declared.{app.App.App, fault.LineFault.{LineFault, TheVariants.Refused}}}
+use Rattle.vs_script.specs.declared.{fault.{LineFault.TheVariants.OutOfMemory, Why.{Why, TheVariants.TooMany}}, script.TheConstants.MAX_INSTRUCTIONS}
 
 module _ {X Y : Type 0} (view : X → Y) (most : ℕ) (xs : List X) (x : X) where
   -- it is the same before and after a view of each

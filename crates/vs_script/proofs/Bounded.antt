@@ -1,14 +1,12 @@
 -- Each line of a play that is read is within the bounds of its fields.
-use Rattle.std.proofs.Common.{◌≡◌, ◌≤◌, ◌&&◌, if◌then◌else◌, ℕ, nat_le, nat_lt, Bool, true, false, List, [], ◌∷◌, ◌++◌, map, length, Option}
-use Rattle.std.proofs.{Common.{Some, None, Result, Ok, Err, codes, bytes_eq, refl, subst, arith}, lemmas.Bool.Decides.nat_tests}
+use Rattle.std.proofs.Common.{◌≡◌, ◌≤◌, ◌&&◌, if◌then◌else◌, ℕ, nat_le, nat_lt, Bool, true, false, List, [], ◌∷◌, ◌++◌, map, length, Option, Some, None, Result, Ok, Err, codes}
+use Rattle.std.proofs.{Common.{bytes_eq, refl, subst, arith}, lemmas.Bool.Decides.nat_tests}
 use Rattle.vs_limits.specs.declared.TheConstants.{GUEST_CID_MIN, GUEST_CID_MAX}
-use Rattle.vs_script.specs.{Bounds.{AreBounded, IsBounded}, Text.{is_empty, words_of}, Outside.{Outside, around_host, host_line, outside_line}}
-use Rattle.vs_script.specs.{Play.{Event, named_line, play_line}, declared.fault.Refused.Refused, declared.fault.Why.Why}
-use Rattle.vs_script.specs.{declared.fault.Why.TheVariants.BadNumber, declared.outside.TheConstants.MAX_FILL}
-use Rattle.vs_script.specs.{declared.words.TheConstants.MAX_BITS, Field.{Read, after, held, ending, word, is_numeral, number_in, number}}
-use Rattle.vs_script.specs.{Field.{id, content, only, named}, Script.{Saying, Plays, Runs, Attacks, chained, pushed, add_event}}
-use Rattle.vs_script.specs.Script.{add_run, add_hostile, add_words, add_lines, lines_from, add_line, unless_refused, parse_of}
-use Rattle.vs_script.specs.declared.script.TheConstants.{MAX_SCRIPT, MAX_LINE, MAX_EVENTS}
+use Rattle.vs_script.specs.{Bounds.{AreBounded, IsBounded}, Text.{is_empty, words_of}, Outside.{Outside, around_host, host_line, outside_line}, Play.{Event, named_line, play_line}}
+use Rattle.vs_script.specs.declared.{fault.{Refused.Refused, Why.{Why, TheVariants.BadNumber}}, outside.TheConstants.MAX_FILL, words.TheConstants.MAX_BITS}
+use Rattle.vs_script.specs.{declared.script.TheConstants.{MAX_SCRIPT, MAX_LINE, MAX_EVENTS}, Field.{Read, after, held, ending, word, is_numeral, number_in, number, id, content}}
+use Rattle.vs_script.specs.{Field.{only, named}, Script.{Saying, Plays, Runs, Attacks, chained, pushed, add_event, add_run, add_hostile, add_words, add_lines, lines_from}}
+use Rattle.vs_script.specs.Script.{add_line, unless_refused, parse_of}
 use Rattle.vs_script.specs.Outside as outside
 use Rattle.vs_script.specs.Play as script
 use Rattle.vs_script.specs.declared.script.Command.TheVariants as command

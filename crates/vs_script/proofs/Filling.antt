@@ -1,9 +1,6 @@
 -- Bytes by a rule, run by run.
-use Rattle.std.proofs.Common.{◌≡◌, ◌≤◌, ◌<◌, ℕ, zero, suc, ◌+◌, ◌*◌, ◌-◌, ◌/◌, ◌%◌, min, List, [], ◌∷◌, ◌++◌, length, map, take, drop}
-use Rattle.std.proofs.Common.{ap, sym, refl, ◌∙◌, arith}
-use Rattle.std.proofs.lemmas.{List.drop-drop, List.length-drop, List.FromFn.{length-map-range_with_len, take-map-range_with_len}}
-use Rattle.std.proofs.{Math.Seq.take-add}
-use Rattle.std.specs.List.{range_with_len}
+use Rattle.std.proofs.Common.{◌≡◌, ◌≤◌, ◌<◌, ℕ, zero, suc, ◌+◌, ◌*◌, ◌-◌, ◌/◌, ◌%◌, min, List, [], ◌∷◌, ◌++◌, length, map, take, drop, ap, sym, refl, ◌∙◌, arith}
+use Rattle.std.{proofs.{lemmas.List.{drop-drop, length-drop, FromFn.{length-map-range_with_len, take-map-range_with_len}}, Math.Seq.take-add}, specs.List.range_with_len}
 use Rattle.vs_script.specs.{declared.data.TheConstants.SEVENS, Data.{Content, Fill, Given, bytes_of, filled, filled_bytes, size_of}}
 
 abbrev seven : ℕ → ℕ

@@ -1,9 +1,8 @@
 -- The bytes that hex digits write are those that the crate `hex` decodes.
-use Rattle.std.proofs.Common.{◌≡◌, ◌+◌, ◌*◌, ◌%◌, ◌==◌, ◌∷◌, ℕ, List, [], length, Option, Some, None, Result, Ok, Err, refl, arith, inl}
-use Rattle.std.proofs.{Common.{inr, eqb-true, le-leb, ◌≤◌}, lemmas.Bool.cases_Bool}
-use Rattle.std.specs.Result.{result_ok}
+use Rattle.std.proofs.Common.{◌≡◌, ◌+◌, ◌*◌, ◌%◌, ◌==◌, ◌∷◌, ℕ, List, [], length, Option, Some, None, Result, Ok, Err, refl, arith, inl, inr, eqb-true, le-leb, ◌≤◌}
+use Rattle.std.{proofs.lemmas.Bool.cases_Bool, specs.Result.result_ok}
 use Rattle.hex.specs.{Hex.{decode_of, decode_pairs, digit_or_error, hex_digit_value, ◌>>=◌}, declared.error.FromHexError.FromHexError}
-use Rattle.vs_script.specs.{Field.of_both, Field.bytes_of_digits, Field.hex_of, declared.hex_word.TheConstants.MAX_HEX}
+use Rattle.vs_script.specs.{Field.{of_both, bytes_of_digits, hex_of}, declared.hex_word.TheConstants.MAX_HEX}
 
 -- one byte and those behind it
 pair_then : (a b i : ℕ) (high low : Option ℕ) (rest : Result (List ℕ) FromHexError)

@@ -1,11 +1,9 @@
 -- Numbers as words write them, and what `parse` makes of them.
-use Rattle.std.proofs.Common.{◌≡◌, ◌<◌, ◌^◌, ◌&&◌, ℕ, true, nat_le, List, [], ◌∷◌, length, Some, None, Result, Ok, Err, refl, arith, inl}
-use Rattle.std.proofs.Common.{inr, subst, leb-true}
-use Rattle.std.proofs.lemmas.{Bool.lt-leb, Bool.and_right, Bool.and_parts, Bool.cases_lt, Str.IsUtf8-from_ascii, Fmt.IsAscii-from_digits}
-use Rattle.std.specs.{Prelude.MatchResult, Result.result_ok, List.list_all, Char.is_ascii_digit, Str.IsUtf8, Str.all_ascii_digits}
-use Rattle.std.specs.Str.Parse.{digits_value, ParsesUnsigned}
-use Rattle.std.proofs.lemmas.Str.Parse.{IsNumeralModel, numerals_by_value, tells_all_ascii_digits, parse_digits}
-use Rattle.vs_script.specs.{Field.is_numeral, Field.number_in, declared.number.TheConstants.MAX_DIGITS}
+use Rattle.std.proofs.Common.{◌≡◌, ◌<◌, ◌^◌, ◌&&◌, ℕ, true, nat_le, List, [], ◌∷◌, length, Some, None, Result, Ok, Err, refl, arith, inl, inr, subst, leb-true}
+use Rattle.std.proofs.lemmas.{Bool.{lt-leb, and_right, and_parts, cases_lt}, Str.{IsUtf8-from_ascii, Parse.{IsNumeralModel, numerals_by_value, tells_all_ascii_digits}}}
+use Rattle.std.{proofs.lemmas.{Str.Parse.parse_digits, Fmt.IsAscii-from_digits}, specs.{Prelude.MatchResult, Result.result_ok, List.list_all, Char.is_ascii_digit, Str.IsUtf8}}
+use Rattle.std.specs.Str.{all_ascii_digits, Parse.{digits_value, ParsesUnsigned}}
+use Rattle.vs_script.specs.{Field.{is_numeral, number_in}, declared.number.TheConstants.MAX_DIGITS}
 
 -- the test of each byte in turn
 pub all_ascii_digits-is : (word : List ℕ) → list_all is_ascii_digit word ≡ all_ascii_digits word

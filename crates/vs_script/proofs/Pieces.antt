@@ -1,8 +1,7 @@
 -- The first line of a text and the first word of a line, by the place where each ends.
-use Rattle.std.proofs.Common.{◌≡◌, ◌==◌, ◌<◌, ◌≤◌, ◌+◌, ℕ, suc, Bool, false, not, List, [], ◌∷◌, length, take, drop, arith, unwrap_or, sym}
-use Rattle.std.proofs.{Common.{subst, refl, inl, inr, one-add, suc-add}, lemmas.Bool.{cases_lt, cases_Bool, lt-ltb, le-ltb}}
-use Rattle.std.proofs.lemmas.List.Sums.{prefix_len-le-length}
-use Rattle.std.specs.{Prelude.filter, Prelude.position, Prelude.◌≢◌, List.position_or_len, List.slice_split}
+use Rattle.std.proofs.Common.{◌≡◌, ◌==◌, ◌<◌, ◌≤◌, ◌+◌, ℕ, suc, Bool, false, not, List, [], ◌∷◌, length, take, drop, arith, unwrap_or, sym, subst, refl, inl, inr, one-add, suc-add}
+use Rattle.std.{proofs.lemmas.{Bool.{cases_lt, cases_Bool, lt-ltb, le-ltb}, List.Sums.prefix_len-le-length}, specs.{Prelude.{filter, position, ◌≢◌}, List.position_or_len}}
+use Rattle.std.specs.List.{slice_split}
 use Rattle.vs_script.specs.Text.{is_empty, words_of, lines_of}
 
 -- the place that `position` finds, or the length

@@ -1,9 +1,7 @@
 -- Apps of a run: the instructions that each carries out in turn.
 use Rattle.std.specs.Prelude.{ℕ, if◌then◌else◌, Bool, List, map, codes, bytes_eq, Result, Err}
-use Rattle.vs_script.specs.{Data.{Content, content_of}, Field.{after, ending, word, number, port, bits, content, only, named}}
-use Rattle.vs_script.specs.{declared.fault.Why.Why, declared.fault.Why.TheVariants.BadWord, declared.app.{App.App, Instruction.Instruction}}
-use Rattle.vs_script.specs.{declared.app.{RunLine.RunLine, TheConstants.MAX_APP_FILL}, declared.app.TheConstants.MAX_APP_RECV}
-use Rattle.vs_script.specs.declared.outside.TheConstants.{MAX_GROW}
+use Rattle.vs_script.specs.{Data.{Content, content_of}, Field.{after, ending, word, number, port, bits, content, only, named}, declared.fault.Why.{Why, TheVariants.BadWord}}
+use Rattle.vs_script.specs.declared.{app.{App.App, Instruction.Instruction, RunLine.RunLine, TheConstants.{MAX_APP_FILL, MAX_APP_RECV}}, outside.TheConstants.MAX_GROW}
 use Rattle.vs_script.specs.declared.app.Instruction.TheVariants as code
 use Rattle.vs_script.specs.declared.app.RunLine.TheVariants as run
 

@@ -1,8 +1,7 @@
 -- Worked scripts.
 use Rattle.std.specs.Prelude.{ℕ, List, [], ◌∷◌, codes, Result, Err}
 use Rattle.vs_ring_port.specs.declared.queue.Queue.TheVariants.{Tx}
-use Rattle.vs_script.specs.{Data.Given, Data.Fill, Outside.Turn, Outside.OfHost, Outside.HostListen, Outside.HostWrite, Script.Saying}
-use Rattle.vs_script.specs.{Script.Plays, Script.Runs, Script.Attacks, declared.fault.Refused.Refused, declared.fault.Why.Why}
+use Rattle.vs_script.specs.{Data.{Given, Fill}, Outside.{Turn, OfHost, HostListen, HostWrite}, Script.{Saying, Plays, Runs, Attacks}, declared.fault.{Refused.Refused, Why.Why}}
 use Rattle.vs_script.specs.Play as play
 use Rattle.vs_script.specs.App as app
 use Rattle.vs_script.specs.Hostile as hostile

@@ -1,7 +1,6 @@
 -- What a script is refused for.
 use Rattle.std.specs.Prelude.{ℕ, List, ◌++◌, codes, decimal}
-use Rattle.vs_script.specs.{declared.fault.{Why.Why, Refused.Refused, LineFault.LineFault}, declared.fault.Why.TheVariants.TooLong}
-use Rattle.vs_script.specs.{declared.fault.Why.TheVariants.{BadWord, BadNumber, BadHex, TooMany}, declared.fault.ParseFault.ParseFault}
+use Rattle.vs_script.specs.declared.fault.{Why.{Why, TheVariants.{TooLong, BadWord, BadNumber, BadHex, TooMany}}, Refused.Refused, LineFault.LineFault, ParseFault.ParseFault}
 use Rattle.vs_script.specs.declared.fault.LineFault.TheVariants as line_fault
 use Rattle.vs_script.specs.declared.fault.ParseFault.TheVariants as parse_fault
 

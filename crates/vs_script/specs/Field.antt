@@ -1,11 +1,9 @@
 -- The fields of a line, each read from the words that are left of it.
-use Rattle.std.specs.Prelude.{◌≡◌, ℕ, ◌+◌, ◌*◌, ◌&&◌, nat_le, if◌then◌else◌, Bool, List, [], ◌∷◌, length, codes, bytes_eq, Option, Some}
-use Rattle.std.specs.{Prelude.{None, option_map, Result, Ok, Err}, List.list_all, Str.all_ascii_digits, Str.Parse.digits_value}
+use Rattle.std.specs.Prelude.{◌≡◌, ℕ, ◌+◌, ◌*◌, ◌&&◌, nat_le, if◌then◌else◌, Bool, List, [], ◌∷◌, length, codes, bytes_eq, Option, Some, None, option_map, Result, Ok, Err}
+use Rattle.std.specs.{List.list_all, Str.{all_ascii_digits, Parse.digits_value}}
 use Rattle.hex.specs.Hex.{hex_digit_value}
-use Rattle.vs_script.specs.{Text.is_empty, Text.is_graphic, Data.Content, Data.Given, Data.Fill, declared.fault.Why.Why}
-use Rattle.vs_script.specs.declared.fault.{LineFault.LineFault, Why.TheVariants.BadWord, Why.TheVariants.BadNumber, Why.TheVariants.BadHex}
-use Rattle.vs_script.specs.declared.fault.LineFault.TheVariants.{Refused, OutOfMemory}
-use Rattle.vs_script.specs.declared.{number.TheConstants.MAX_DIGITS, words.TheConstants.MAX_BITS, hex_word.TheConstants.MAX_HEX}
+use Rattle.vs_script.specs.{Text.{is_empty, is_graphic}, Data.{Content, Given, Fill}, declared.fault.{Why.{Why, TheVariants.{BadWord, BadNumber, BadHex}}, LineFault.LineFault}}
+use Rattle.vs_script.specs.declared.{fault.LineFault.TheVariants.{Refused, OutOfMemory}, number.TheConstants.MAX_DIGITS, words.TheConstants.MAX_BITS, hex_word.TheConstants.MAX_HEX}
 
 -- What reading a field of the words left of a line gives: its value and the words behind it, or the line's fault.
 abbrev pub Read : Type 0 → Type 0

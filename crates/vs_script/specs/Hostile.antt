@@ -1,16 +1,13 @@
 -- Lines of a hostile guest: what it writes into the device's memory, and the turns that the device takes.
-use Rattle.std.specs.Prelude.{ℕ, ◌+◌, ◌%◌, ◌==◌, ◌&&◌, ◌||◌, nat_le, nat_lt, if◌then◌else◌, Bool, List, [], ◌∷◌, codes, bytes_eq, Option}
-use Rattle.std.specs.{Prelude.Some, Prelude.None, Prelude.Result, Prelude.Ok, Prelude.Err, List.list_any}
+use Rattle.std.specs.Prelude.{ℕ, ◌+◌, ◌%◌, ◌==◌, ◌&&◌, ◌||◌, nat_le, nat_lt, if◌then◌else◌, Bool, List, [], ◌∷◌, codes, bytes_eq, Option, Some, None, Result, Ok, Err}
+use Rattle.std.specs.List.{list_any}
 use Rattle.vs_header.specs.declared.{Header.Header, TheConstants.HEADER_LEN}
-use Rattle.vs_layout.specs.{Layout.queue_areas_of, Span.span_end, declared.entry.Desc.Desc, declared.span.Span.Span}
-use Rattle.vs_ring_port.specs.declared.queue.Queue.{Queue, TheVariants.Rx, TheVariants.Tx, TheVariants.Event}
-use Rattle.vs_script.specs.{Data.Content, Data.content_of, Data.size_of, Field.Field, Field.after, Field.held, Field.word, Field.keyword}
-use Rattle.vs_script.specs.Field.{number, number16, number32, number64, content, only, named, tested}
-use Rattle.vs_script.specs.{Outside.Outside, Outside.outside_view, Outside.outside_line, declared.fault.Why.Why}
-use Rattle.vs_script.specs.declared.{fault.Why.TheVariants.BadWord, fault.Why.TheVariants.BadNumber, outside.TheConstants.MAX_FILL}
-use Rattle.vs_script.specs.declared.hostile.{HostileLine.HostileLine, Stage.Stage, TheConstants.BASE_ALIGN, TheConstants.MAX_BASE}
-use Rattle.vs_script.specs.declared.hostile.TheConstants.{MIN_MEMORY, MAX_MEMORY, MAX_BEFORE, MAX_LOOK}
-use Rattle.vs_script.specs.declared.hostile.Stage.TheVariants.{NoMemory, NoRings, Ready}
+use Rattle.vs_layout.specs.{Layout.queue_areas_of, Span.span_end, declared.{entry.Desc.Desc, span.Span.Span}}
+use Rattle.vs_ring_port.specs.declared.queue.Queue.{Queue, TheVariants.{Rx, Tx, Event}}
+use Rattle.vs_script.specs.{Data.{Content, content_of, size_of}, Field.{Field, after, held, word, keyword, number, number16, number32, number64, content, only, named, tested}}
+use Rattle.vs_script.specs.{Outside.{Outside, outside_view, outside_line}, declared.{fault.Why.{Why, TheVariants.{BadWord, BadNumber}}, outside.TheConstants.MAX_FILL}}
+use Rattle.vs_script.specs.declared.hostile.{HostileLine.HostileLine, Stage.{Stage, TheVariants.{NoMemory, NoRings, Ready}}, TheConstants.{BASE_ALIGN, MAX_BASE, MIN_MEMORY}}
+use Rattle.vs_script.specs.declared.hostile.TheConstants.{MAX_MEMORY, MAX_BEFORE, MAX_LOOK}
 use Rattle.vs_script.specs.declared.hostile.HostileLine.TheVariants as code
 
 -- What a hostile guest does, or what happens around it.

@@ -1,8 +1,7 @@
 -- Lines on what surrounds the guest's driver: the device, the moment, and the programs of the host.
 use Rattle.std.specs.Prelude.{ℕ, if◌then◌else◌, List, codes, bytes_eq, Result, Err}
-use Rattle.vs_script.specs.declared.{fault.Why.Why, fault.Why.TheVariants.BadWord, outside.HostLine.HostLine, outside.TheConstants.{MAX_FILL, MAX_GROW}}
-use Rattle.vs_script.specs.{declared.outside.TheConstants.{MAX_TICK, MAX_ALLOW, MAX_FAIL}, Data.{Content, content_of}, Field.after}
-use Rattle.vs_script.specs.{Field.{ending, word, number, port, id, content, only, named}, declared.outside.OutsideLine.OutsideLine}
+use Rattle.vs_script.specs.declared.{fault.Why.{Why, TheVariants.BadWord}, outside.{HostLine.HostLine, TheConstants.{MAX_FILL, MAX_GROW, MAX_TICK, MAX_ALLOW, MAX_FAIL}}}
+use Rattle.vs_script.specs.{declared.outside.OutsideLine.OutsideLine, Data.{Content, content_of}, Field.{after, ending, word, number, port, id, content, only, named}}
 use Rattle.vs_limits.specs.declared.TheConstants.{GUEST_CID_MIN, GUEST_CID_MAX}
 use Rattle.vs_script.specs.declared.outside.HostLine.TheVariants as host
 use Rattle.vs_script.specs.declared.outside.OutsideLine.TheVariants as outside

@@ -1,8 +1,7 @@
 -- Event lines of a play: what the guest does, and what happens around it.
 use Rattle.std.specs.Prelude.{ℕ, if◌then◌else◌, List, codes, bytes_eq, Result}
-use Rattle.vs_script.specs.{Data.Content, Data.content_of, Field.after, Field.ending, Field.word, Field.number, Field.port, Field.id}
-use Rattle.vs_script.specs.{Field.bits, Field.content, Field.only, Field.named, Outside.Outside, Outside.outside_view, Outside.outside_line}
-use Rattle.vs_script.specs.declared.{fault.Why.Why, outside.TheConstants.{MAX_FILL, MAX_GROW}, play.PlayLine.PlayLine, play.TheConstants.MAX_RECV}
+use Rattle.vs_script.specs.{Data.{Content, content_of}, Field.{after, ending, word, number, port, id, bits, content, only, named}, Outside.{Outside, outside_view, outside_line}}
+use Rattle.vs_script.specs.declared.{fault.Why.Why, outside.TheConstants.{MAX_FILL, MAX_GROW}, play.{PlayLine.PlayLine, TheConstants.MAX_RECV}}
 use Rattle.vs_script.specs.declared.play.PlayLine.TheVariants as code
 
 -- What the guest does, or what happens around it.

@@ -1,15 +1,10 @@
 -- Scripts: what a text says, or the line that it is refused for.
-use Rattle.std.specs.Prelude.{◌≡◌, ℕ, nat_le, nat_lt, if◌then◌else◌, not, List, [], ◌∷◌, ◌++◌, map, filter, length, Result, Ok, Err}
-use Rattle.std.specs.List.{enumerate_from}
+use Rattle.std.specs.{Prelude.{◌≡◌, ℕ, nat_le, nat_lt, if◌then◌else◌, not, List, [], ◌∷◌, ◌++◌, map, filter, length, Result, Ok, Err}, List.enumerate_from}
 use Rattle.vs_layout.specs.declared.span.Span.{Span}
-use Rattle.vs_script.specs.{Text.lines_of, Text.words_of, Text.is_empty, Text.is_skipped, Field.named, Play.Event, Play.play_view}
-use Rattle.vs_script.specs.{Play.play_line, App.Act, App.RunStep, App.Begin, App.Do, App.app_view, App.run_line, Hostile.Hostile}
-use Rattle.vs_script.specs.{Hostile.Memory, Hostile.Rings, Hostile.hostile_view, Hostile.hostile_line, declared.fault.Why.Why}
-use Rattle.vs_script.specs.declared.fault.{Refused.Refused, ParseFault.ParseFault, Why.TheVariants.TooLong, Why.TheVariants.BadWord}
-use Rattle.vs_script.specs.declared.{fault.Why.TheVariants.TooMany, hostile.HostileLine.HostileLine, hostile.Stage.Stage}
-use Rattle.vs_script.specs.declared.hostile.Stage.TheVariants.{NoMemory, NoRings, Ready}
-use Rattle.vs_script.specs.declared.{play.PlayLine.PlayLine, script.Command.Command, script.Numbered.Numbered, script.Script.Script}
-use Rattle.vs_script.specs.declared.script.TheConstants.{MAX_SCRIPT, MAX_LINE, MAX_EVENTS, MAX_APPS, MAX_INSTRUCTIONS}
+use Rattle.vs_script.specs.{Text.{lines_of, words_of, is_empty, is_skipped}, Field.named, Play.{Event, play_view, play_line}, App.{Act, RunStep, Begin, Do, app_view, run_line}}
+use Rattle.vs_script.specs.{Hostile.{Hostile, Memory, Rings, hostile_view, hostile_line}, declared.fault.{Why.{Why, TheVariants.{TooLong, BadWord, TooMany}}, Refused.Refused}}
+use Rattle.vs_script.specs.declared.{fault.ParseFault.ParseFault, hostile.{HostileLine.HostileLine, Stage.{Stage, TheVariants.{NoMemory, NoRings, Ready}}}, play.PlayLine.PlayLine}
+use Rattle.vs_script.specs.declared.script.{Command.Command, Numbered.Numbered, Script.Script, TheConstants.{MAX_SCRIPT, MAX_LINE, MAX_EVENTS, MAX_APPS, MAX_INSTRUCTIONS}}
 use Rattle.vs_script.specs.declared.fault.ParseFault.TheVariants as fault
 use Rattle.vs_script.specs.declared.script.Command.TheVariants as command
 use Rattle.vs_script.specs.declared.script.Script.TheVariants as script

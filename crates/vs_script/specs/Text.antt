@@ -1,6 +1,5 @@
 -- Lines of a text, and words of a line.
-use Rattle.std.specs.Prelude.{ℕ, ◌==◌, ◌&&◌, ◌||◌, nat_le, if◌then◌else◌, Bool, true, false, not, List, [], ◌∷◌, filter, slice_index}
-use Rattle.std.specs.List.{onto_first, slice_split}
+use Rattle.std.specs.{Prelude.{ℕ, ◌==◌, ◌&&◌, ◌||◌, nat_le, if◌then◌else◌, Bool, true, false, not, List, [], ◌∷◌, filter, slice_index}, List.{onto_first, slice_split}}
 
 -- The lines of a text: LF (10) ends each, and may be missing after the last.
 abbrev pub lines_of : List ℕ → List (List ℕ)

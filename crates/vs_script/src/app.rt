@@ -1,8 +1,7 @@
 //! Apps of a run: the instructions that each carries out in turn.
 
 ghost use Rattle.std.specs.Prelude.{◌≡◌, IfOk, IfErr, Ok, Err};
-ghost use Rattle.vs_script.specs.Field.{IsFault};
-ghost use Rattle.vs_script.specs.App.{instruction_view, run_view, instruction_line, connection_instruction, run_line, run_line_named};
+ghost use Rattle.vs_script.specs.{Field.IsFault, App.{instruction_view, run_view, instruction_line, connection_instruction, run_line, run_line_named}};
 
 use crate::data::Data;
 use crate::fault::{LineFault, Why};

@@ -2,10 +2,8 @@
 
 ghost use Rattle.std.specs.Prelude.{◌≡◌, IfOk, IfErr, Ok, Err, ◌≤◌};
 ghost use Rattle.vs_layout.specs.Layout.{queue_areas_of};
-ghost use Rattle.vs_script.specs.Field.{IsFault};
-ghost use Rattle.vs_script.specs.Hostile.{hostile_view, queue, base, queue_size, header, descriptor, memory_line, rings_fit, rings_line};
-ghost use Rattle.vs_script.specs.Hostile.{place, write_line, desc_line, give_line, index_line, packet_line, before_line, look_line};
-ghost use Rattle.vs_script.specs.Hostile.{guest_line, touched, is_inside, inside_line, hostile_line};
+ghost use Rattle.vs_script.specs.{Field.IsFault, Hostile.{hostile_view, queue, base, queue_size, header, descriptor, memory_line, rings_fit, rings_line, place, write_line}};
+ghost use Rattle.vs_script.specs.Hostile.{desc_line, give_line, index_line, packet_line, before_line, look_line, guest_line, touched, is_inside, inside_line, hostile_line};
 
 use crate::data::Data;
 use crate::fault::{LineFault, Why};

@@ -1,14 +1,11 @@
 //! Laws of the grammar: its limits, and worked scripts.
 ghost use Rattle.std.specs.Prelude.{◌≡◌, ◌^◌, ◌-◌, Ok, codes};
-ghost use Rattle.vs_script.specs.Examples.{greeting, greeting_says, two_apps, two_apps_say, attack, attack_says, refused_at};
-ghost use Rattle.vs_script.specs.{Script.parse_of, declared.fault.Why.TheVariants.BadWord, declared.fault.Why.TheVariants.BadNumber};
-ghost use Rattle.vs_script.specs.declared.{fault.Why.TheVariants.BadHex, script.Command.TheVariants.Play, script.Command.TheVariants.Run};
-ghost use Rattle.vs_script.specs.declared.script.{Command.TheVariants.Hostile, TheConstants.MAX_SCRIPT, TheConstants.MAX_LINE};
-ghost use Rattle.vs_script.specs.declared.script.TheConstants.{MAX_EVENTS, MAX_APPS, MAX_INSTRUCTIONS};
-ghost use Rattle.vs_script.specs.declared.{number.TheConstants.MAX_DIGITS, words.TheConstants.MAX_BITS, hex_word.TheConstants.MAX_HEX};
-ghost use Rattle.vs_script.specs.declared.outside.TheConstants.{MAX_FILL, MAX_TICK, MAX_ALLOW, MAX_FAIL};
-ghost use Rattle.vs_script.specs.declared.{play.TheConstants.MAX_RECV, app.TheConstants.MAX_APP_FILL, app.TheConstants.MAX_APP_RECV};
-ghost use Rattle.vs_script.specs.declared.hostile.TheConstants.{BASE_ALIGN, MAX_BASE, MIN_MEMORY, MAX_MEMORY, MAX_BEFORE, MAX_LOOK};
+ghost use Rattle.vs_script.specs.{Examples.{greeting, greeting_says, two_apps, two_apps_say, attack, attack_says, refused_at}, Script.parse_of};
+ghost use Rattle.vs_script.specs.declared.{fault.Why.TheVariants.{BadWord, BadNumber, BadHex}, script.{Command.TheVariants.{Play, Run, Hostile}, TheConstants.MAX_SCRIPT}};
+ghost use Rattle.vs_script.specs.declared.{script.TheConstants.{MAX_LINE, MAX_EVENTS, MAX_APPS, MAX_INSTRUCTIONS}, number.TheConstants.MAX_DIGITS, words.TheConstants.MAX_BITS};
+ghost use Rattle.vs_script.specs.declared.{hex_word.TheConstants.MAX_HEX, outside.TheConstants.{MAX_FILL, MAX_TICK, MAX_ALLOW, MAX_FAIL}, play.TheConstants.MAX_RECV};
+ghost use Rattle.vs_script.specs.declared.{app.TheConstants.{MAX_APP_FILL, MAX_APP_RECV}, hostile.TheConstants.{BASE_ALIGN, MAX_BASE, MIN_MEMORY, MAX_MEMORY, MAX_BEFORE}};
+ghost use Rattle.vs_script.specs.declared.hostile.TheConstants.{MAX_LOOK};
 ghost use Rattle.vs_limits.specs.declared.TheConstants.{GUEST_CID_MIN, GUEST_CID_MAX};
 
 /// The limits of scripts.

@@ -1,8 +1,7 @@
 //! Lines on what surrounds the guest's driver: the device, the moment, and the programs of the host.
 
 ghost use Rattle.std.specs.Prelude.{◌≡◌, IfOk, IfErr, Ok, Err};
-ghost use Rattle.vs_script.specs.Field.{IsFault};
-ghost use Rattle.vs_script.specs.Outside.{around_host, host_view, outside_view, host_line, stream_line, host_write, host_allow, outside_line};
+ghost use Rattle.vs_script.specs.{Field.IsFault, Outside.{around_host, host_view, outside_view, host_line, stream_line, host_write, host_allow, outside_line}};
 
 use crate::data::Data;
 use crate::fault::{LineFault, Why};

@@ -1,8 +1,7 @@
 //! Event lines of a play: what the guest does, and what happens around it.
 
 ghost use Rattle.std.specs.Prelude.{◌≡◌, IfOk, IfErr, Ok};
-ghost use Rattle.vs_script.specs.Field.{IsFault};
-ghost use Rattle.vs_script.specs.Play.{play_view, play_line, named_line, connection_line, grow_line, send_line, recv_line, shutdown_line};
+ghost use Rattle.vs_script.specs.{Field.IsFault, Play.{play_view, play_line, named_line, connection_line, grow_line, send_line, recv_line, shutdown_line}};
 
 use crate::data::Data;
 use crate::fault::LineFault;

@@ -1,9 +1,8 @@
 //! Whole scripts: the limits, and the lines in order.
 
 ghost use Rattle.std.specs.Prelude.{◌≡◌, ◌<◌, ◌∷◌, [], IfOk, IfErr, Ok, length, map, not};
-ghost use Rattle.vs_script.specs.{Field.IsFault, App.app_view, App.instruction_view, Text.lines_of, Text.is_empty, Text.is_skipped};
-ghost use Rattle.vs_script.specs.Script.{script_view, numbered_event, numbered_hostile, empty, pushed, add_event, add_act, add_run};
-ghost use Rattle.vs_script.specs.Script.{stage_of, add_hostile, add_words, add_line, parse_of, IsRefused};
+ghost use Rattle.vs_script.specs.{Field.IsFault, App.{app_view, instruction_view}, Text.{lines_of, is_empty, is_skipped}, Script.{script_view, numbered_event, numbered_hostile}};
+ghost use Rattle.vs_script.specs.Script.{empty, pushed, add_event, add_act, add_run, stage_of, add_hostile, add_words, add_line, parse_of, IsRefused};
 ghost use Rattle.vs_script.specs.declared.fault.Why.TheVariants.{TooMany};
 
 use crate::app::{App, Instruction, RunLine, run_line};

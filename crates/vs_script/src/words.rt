@@ -1,10 +1,9 @@
 //! The words of a line, and the fields that they write, read from left to right.
 
-ghost use Rattle.std.specs.Prelude.{true, false, ◌≡◌, ◌≤◌, ◌<◌, ◌∷◌, [], ◌==◌, ℕ, bytes_eq, not, length, drop, IfOk, IfErr, MatchOption};
-ghost use Rattle.std.specs.{Prelude.Ok, Prelude.Err, List.list_all, List.position_or_len};
-ghost use Rattle.vs_script.specs.{Text.words_of, Text.is_empty, Text.is_graphic, Data.content_of};
-ghost use Rattle.vs_script.specs.Field.{word, keyword, number, number16, number32, number64, port, id, fill, content, only, IsFault};
-ghost use Rattle.vs_script.specs.declared.fault.Why.TheVariants.{BadWord};
+ghost use Rattle.std.specs.{Prelude.{true, false, ◌≡◌, ◌≤◌, ◌<◌, ◌∷◌, [], ◌==◌, ℕ, bytes_eq, not, length, drop, IfOk, IfErr, MatchOption, Ok, Err}, List.list_all};
+ghost use Rattle.std.specs.List.{position_or_len};
+ghost use Rattle.vs_script.specs.{Text.{words_of, is_empty, is_graphic}, Data.content_of, Field.{word, keyword, number, number16, number32, number64, port, id, fill, content}};
+ghost use Rattle.vs_script.specs.{Field.{only, IsFault}, declared.fault.Why.TheVariants.BadWord};
 
 use crate::data::{Data, Fill};
 use crate::fault::{LineFault, Why};

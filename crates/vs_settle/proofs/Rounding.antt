@@ -1,34 +1,29 @@
 -- From a round that moved nothing to ends at rest.
-use Rattle.std.proofs.Common.{◌≡◌, ◌≤◌, ◌<◌, ◌+◌, ◌-◌, ◌||◌, ◌⊎◌, inl, inr, ℕ, nat_lt, Bool, true, false, List, [], ◌∷◌, length, Option, Some, None, Result, Ok, Err, IfOk}
-use Rattle.std.proofs.Common.{refl, sym, ap, subst, ◌∙◌, arith}
-use Rattle.std.proofs.lemmas.{Bool.Decides.nat_tests, Grind.common_steps, Option.same_Some}
-use Rattle.std.specs.Option.{ForSome}
+use Rattle.std.proofs.Common.{◌≡◌, ◌≤◌, ◌<◌, ◌+◌, ◌-◌, ◌||◌, ◌⊎◌, inl, inr, ℕ, nat_lt, Bool, true, false, List, [], ◌∷◌, length, Option, Some, None, Result, Ok, Err, IfOk, refl}
+use Rattle.std.{proofs.{Common.{sym, ap, subst, ◌∙◌, arith}, lemmas.{Bool.Decides.nat_tests, Grind.common_steps, Option.same_Some}}, specs.Option.ForSome}
 use Rattle.vs_contents.specs.Contents.{Exposes, Relates}
 use Rattle.vs_flow.specs.Table.{IsTable}
 use Rattle.vs_limits.specs.declared.TheConstants.{FIRST_CID}
 use Rattle.vs_outside.specs.Host.{HostContents}
 use Rattle.vs_page.specs.Log.{Log, events_put}
-use Rattle.vs_ring_port.specs.{Chains.Held, Chains.chains_of, Chains.held_of, Contents.Given, Contents.RingContents, Counts.Counts, EndLog.EndLog}
-use Rattle.vs_ring_port.specs.{DeviceCalls.DeviceAllows, DeviceCalls.DeviceLearns, Known.Known, declared.queue.Queue.Queue}
-use Rattle.vs_ring_port.specs.declared.queue.Queue.TheVariants.{Event, Rx, Tx}
+use Rattle.vs_ring_port.specs.{Chains.{Held, chains_of, held_of}, Contents.{Given, RingContents}, Counts.Counts, EndLog.EndLog, DeviceCalls.{DeviceAllows, DeviceLearns}}
+use Rattle.vs_ring_port.specs.{Known.Known, declared.queue.Queue.{Queue, TheVariants.{Event, Rx, Tx}}}
 use Rattle.vs_ring_rule.specs.{Rule.IsFront, declared.view.Past.Past}
-use Rattle.vs_ring_shared.specs.Meetings.{AreOneTable, SawNoMore, TookFirst, after_hearing, what_it_did}
-use Rattle.vs_ring_shared.specs.Sights.{DeviceSight, QueueSight, Sight, device_contents, device_log, driver_contents, driver_log, flight_of, known_of, sight_in, staged_of}
+use Rattle.vs_ring_shared.specs.{Meetings.{AreOneTable, SawNoMore, TookFirst, after_hearing, what_it_did}, Sights.{DeviceSight, QueueSight, Sight, device_contents, device_log}}
+use Rattle.vs_ring_shared.specs.Sights.{driver_contents, driver_log, flight_of, known_of, sight_in, staged_of}
 use Rattle.vs_driver_parts.specs.{Playing.IsRingOf, State.DriverState, declared.answers.Polled.Polled}
-use Rattle.vs_device_parts.specs.{Calls.Situation, Playing.IsItsRing, Playing.Runs, Playing.held_by, Playing.situation, State.DeviceState}
-use Rattle.laws_driver.specs.Honest.{AgreesWith}
-use Rattle.laws_driver.specs.Honest.{ends_of_state as driver_ends}
+use Rattle.vs_device_parts.specs.{Calls.Situation, Playing.{IsItsRing, Runs, held_by, situation}, State.DeviceState}
+use Rattle.laws_driver.specs.Honest.{AgreesWith, ends_of_state as driver_ends}
 use Rattle.laws_device.specs.Honest.{AgreesWith as DeviceAgreesWith, ends_of_state}
-use Rattle.laws_rest.specs.{Calm.resets_in, Rest.OwesNothing, Rest.has_no_mark}
-use Rattle.laws_rest.proofs.Polls.{poll_owes_none}
-use Rattle.vs_proxy_parts.specs.{State.ProxyState, Turns.turn_of, declared.answers.Turn.Turn, declared.answers.Turned.Turned}
-use Rattle.vs_proxy_parts.specs.declared.answers.Turn.TheVariants as turn
+use Rattle.laws_rest.{specs.{Calm.resets_in, Rest.{OwesNothing, has_no_mark}}, proofs.Polls.poll_owes_none}
+use Rattle.vs_proxy_parts.specs.{State.ProxyState, Turns.turn_of, declared.answers.{Turn.Turn, Turned.Turned}}
 use Rattle.vs_apps_parts.specs.{Scripts.RunScript, declared.progress.Stepped.Stepped}
 use Rattle.laws_apps.specs.{Runs.{IsRunOf, PollsTo, Run, Steps, poll_moved}, Rounds.{AllStand, Stands, StandsOnce}}
-use Rattle.laws_settled.specs.{Begun.{IsBegun, Start, StaysBegun}, Settled.{AreOver, IsSettled, IsSteady, LacksPages}}
-use Rattle.laws_settled.proofs.{Quieting.turn_owes_none, Quieting.turn_sound, Resting.settled, Steady.told_runs, Taking.poll_takes_none}
+use Rattle.laws_settled.{specs.{Begun.{IsBegun, Start, StaysBegun}, Settled.{AreOver, IsSettled, IsSteady, LacksPages}}, proofs.Quieting.{turn_owes_none, turn_sound}}
+use Rattle.laws_settled.proofs.{Resting.settled, Steady.told_runs, Taking.poll_takes_none}
 use Rattle.vs_apps.specs.Guests.{GuestsState, run_in}
 use Rattle.vs_settle.specs.Rounds.{IsCounted, IsSameEnd, LastRound, no_turn, turn_moved}
+use Rattle.vs_proxy_parts.specs.declared.answers.Turn.TheVariants as turn
 
 -- None of several.
 pub neither : (a b : Bool) → (a || b) ≡ false → (a ≡ false) × (b ≡ false)

@@ -5,12 +5,11 @@ ghost use Rattle.vs_ring_port.specs.Chains.{chains_of};
 ghost use Rattle.vs_ring_shared.specs.Sights.{device_contents};
 ghost use Rattle.vs_device_parts.specs.Playing.{IsItsRing, Runs, situation};
 ghost use Rattle.vs_proxy_parts.specs.Turns.{turn_of};
-ghost use Rattle.vs_proxy_parts.specs.declared.answers.Turn.TheVariants as turn;
-ghost use Rattle.laws_apps.specs.Runs.{poll_moved};
+ghost use Rattle.laws_apps.specs.{Runs.poll_moved, Rounds.{AllStand, Stands, StandsOnce}};
 ghost use Rattle.laws_settled.specs.{Begun.StaysBegun, Settled.IsSteady};
 ghost use Rattle.vs_apps.specs.Guests.{run_in};
-ghost use Rattle.laws_apps.specs.Rounds.{AllStand, Stands, StandsOnce};
 ghost use Rattle.vs_settle.specs.Rounds.{LastRound, no_turn, turn_moved};
+ghost use Rattle.vs_proxy_parts.specs.declared.answers.Turn.TheVariants as turn;
 
 use vs_apps::guests::{Guests, RunName, laws_of_guests};
 use vs_apps::threads::OutOfMemory;

@@ -1,16 +1,13 @@
 -- A line with a word and a port is what `word_port` reads, and it is answered at its last byte.
-use Rattle.std.proofs.Common.{◌≡◌, ◌↔◌, ◌≤◌, ◌<◌, ◌+◌, ◌^◌, ◌==◌, ◌&&◌, ℕ, zero, suc, true, false, List, [], ◌∷◌, ◌++◌, length, take, drop}
-use Rattle.std.proofs.Common.{map, replicate, slice_index, Some, refl, sym, ap, ◌∙◌, inl, inr, arith, codes, decimal, append_assoc}
-use Rattle.std.proofs.{Common.{append-nil, take-append-drop, length-append}, lemmas.Bool.{and_parts, cases_Bool, cases_lt, eqb-true}}
-use Rattle.std.proofs.{lemmas.Bool.{false_from_ne_true, le-ltb, lt-ltb}, lemmas.{Fmt.length-decimal-le, List.drop_at, List.length-map}}
-use Rattle.std.proofs.{lemmas.List.take_at, lemmas.Slice.Eq.bytes_eq-Decides}
-use Rattle.std.specs.{Char.is_ascii_digit, Char.to_ascii_lowercase, List.list_all, List.prefix_len, Str.bytes_eq}
-use Rattle.vs_uds.specs.ConnectLine.{IsConnectLine, IsWordLine, connect_answers, connect_port, connect_step, connect_text, connect_word}
-use Rattle.vs_uds.specs.{ConnectLine.is_line_end, ConnectLine.is_word, ConnectLine.word_port, Port.port_in, Reading.port_at_end}
-use Rattle.vs_uds.specs.{Scan.after_digits, Scan.leading_digits, Scan.without_leading_spaces, declared.scan.Step.TheVariants.Port}
-use Rattle.vs_uds.proofs.Leading.{after_digits-append, chosen, digit_no_space, leading_digits-append, has_lf-digits, spaces_and_rest}
-use Rattle.vs_uds.proofs.{Leading.without_leading_spaces-append, Ports.{WritesPort-decimal, WritesPort-port_in, port_in-WritesPort}}
-use Rattle.vs_uds.proofs.Readings.{answers_to-line, has_lf, none_append, none_replicate, port-step_of, step_of-port}
+use Rattle.std.proofs.Common.{◌≡◌, ◌↔◌, ◌≤◌, ◌<◌, ◌+◌, ◌^◌, ◌==◌, ◌&&◌, ℕ, zero, suc, true, false, List, [], ◌∷◌, ◌++◌, length, take, drop, map, replicate, slice_index, Some, refl}
+use Rattle.std.proofs.{Common.{sym, ap, ◌∙◌, inl, inr, arith, codes, decimal, append_assoc, append-nil, take-append-drop, length-append}, lemmas.Bool.{and_parts, cases_Bool}}
+use Rattle.std.proofs.lemmas.{Bool.{cases_lt, eqb-true, false_from_ne_true, le-ltb, lt-ltb}, Fmt.length-decimal-le, List.{drop_at, length-map, take_at}, Slice.Eq.bytes_eq-Decides}
+use Rattle.std.specs.{Char.{is_ascii_digit, to_ascii_lowercase}, List.{list_all, prefix_len}, Str.bytes_eq}
+use Rattle.vs_uds.specs.ConnectLine.{IsConnectLine, IsWordLine, connect_answers, connect_port, connect_step, connect_text, connect_word, is_line_end, is_word, word_port}
+use Rattle.vs_uds.specs.{Port.port_in, Reading.port_at_end, Scan.{after_digits, leading_digits, without_leading_spaces}, declared.scan.Step.TheVariants.Port}
+use Rattle.vs_uds.proofs.Leading.{after_digits-append, chosen, digit_no_space, leading_digits-append, has_lf-digits, spaces_and_rest, without_leading_spaces-append}
+use Rattle.vs_uds.proofs.{Ports.{WritesPort-decimal, WritesPort-port_in, port_in-WritesPort}, Readings.{answers_to-line, has_lf, none_append, none_replicate, port-step_of}}
+use Rattle.vs_uds.proofs.Readings.{step_of-port}
 
 -- what stands after the digits begins with none
 stops : (after returns : ℕ) → prefix_len is_ascii_digit (replicate after 32 ++ (replicate returns 13 ++ 10 ∷ [])) ≡ 0

@@ -1,10 +1,8 @@
 -- A port of a CONNECT line has 32 bits.
-use Rattle.std.proofs.Common.{◌≡◌, ℕ, ◌<◌, ◌^◌, ◌==◌, ◌&&◌, true, false, cond, Bool, List, length, take, drop, slice_index, Option, Some}
-use Rattle.std.proofs.Common.{None, ap}
-use Rattle.vs_uds.specs.{ConnectLine.{connect_port, connect_step, connect_word, is_line_end, is_word}, Port.port_in, Reading.is_decided}
-use Rattle.vs_uds.specs.{Reading.port_or_bad, Scan.{after_digits, leading_digits, without_leading_spaces}}
+use Rattle.std.proofs.Common.{◌≡◌, ℕ, ◌<◌, ◌^◌, ◌==◌, ◌&&◌, true, false, cond, Bool, List, length, take, drop, slice_index, Option, Some, None, ap}
+use Rattle.vs_uds.specs.{ConnectLine.{connect_port, connect_step, connect_word, is_line_end, is_word}, Port.port_in, Reading.{is_decided, port_or_bad}, Scan.after_digits}
+use Rattle.vs_uds.{specs.Scan.{leading_digits, without_leading_spaces}, proofs.{Leading.chosen, Ports.WritesPort-port_in}}
 use Rattle.vs_uds.specs.declared.scan.Step.TheVariants as step
-use Rattle.vs_uds.proofs.{Leading.chosen, Ports.WritesPort-port_in}
 
 pub decided : (d : Bool) (o : Option ℕ) (port : ℕ) → cond d (port_or_bad o) step.More ≡ step.Port port → o ≡ Some port
 decided true None port is = absurd cc

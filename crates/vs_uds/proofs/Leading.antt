@@ -1,11 +1,8 @@
 -- The spaces and the digits that a text begins with, and the rest.
-use Rattle.std.proofs.Common.{◌≡◌, ◌==◌, ℕ, zero, suc, Bool, true, false, cond, List, [], ◌∷◌, ◌++◌, length, replicate, Option, Some, None}
-use Rattle.std.proofs.{Common.{refl, sym, inl, inr, arith, eqb-true, leb-true, nat_le}, lemmas.{Bool.and_parts, Bool.cases_Bool}}
-use Rattle.std.proofs.{lemmas.{Bool.false_from_ne_true, List.drop_at, List.take_at, List.take_rest}, Math.Numerals.one-add}
-use Rattle.std.proofs.lemmas.List.Sums.{prefix_len-le-length}
-use Rattle.std.specs.{Char.is_ascii_digit, List.list_all, List.prefix_len}
-use Rattle.vs_uds.specs.Scan.{after_digits, leading_digits, without_leading_spaces}
-use Rattle.vs_uds.proofs.Readings.{has_lf}
+use Rattle.std.proofs.Common.{◌≡◌, ◌==◌, ℕ, zero, suc, Bool, true, false, cond, List, [], ◌∷◌, ◌++◌, length, replicate, Option, Some, None, refl, sym, inl, inr, arith, eqb-true}
+use Rattle.std.proofs.{Common.{leb-true, nat_le}, lemmas.{Bool.{and_parts, cases_Bool, false_from_ne_true}, List.{drop_at, take_at, take_rest, Sums.prefix_len-le-length}}}
+use Rattle.std.{proofs.Math.Numerals.one-add, specs.{Char.is_ascii_digit, List.{list_all, prefix_len}}}
+use Rattle.vs_uds.{specs.Scan.{after_digits, leading_digits, without_leading_spaces}, proofs.Readings.has_lf}
 
 -- a front is no longer than the text
 pub ruleset leading = (prefix_len-le-length, take_rest)

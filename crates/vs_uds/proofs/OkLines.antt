@@ -1,13 +1,9 @@
 -- An OK line is what `ok_port` reads, and it is answered at its last byte.
-use Rattle.std.proofs.Common.{◌≡◌, ◌↔◌, ◌≤◌, ◌<◌, ◌^◌, ℕ, false, List, [], ◌∷◌, ◌++◌, length, take, drop, Some, refl, sym, ap, ◌∙◌, arith}
-use Rattle.std.proofs.{Common.{codes, decimal, take-append-drop, length-append}, lemmas.{Bool.and_parts, Fmt.length-decimal-le}}
-use Rattle.std.proofs.lemmas.Slice.Eq.{bytes_eq-Decides}
-use Rattle.std.specs.Str.{bytes_eq}
-use Rattle.vs_uds.specs.{OkLine.IsOkLine, OkLine.ok_answers, OkLine.ok_port, OkLine.ok_step, OkLine.ok_text, Port.port_in}
-use Rattle.vs_uds.specs.{Reading.port_at_end, Scan.after_digits, Scan.leading_digits, declared.scan.Step.TheVariants.Port}
-use Rattle.vs_uds.proofs.Leading.{after_digits-append, chosen, leading_digits-append, has_lf-digits}
-use Rattle.vs_uds.proofs.Ports.{WritesPort-decimal, WritesPort-port_in, length-decimal_ten, port_in-WritesPort}
-use Rattle.vs_uds.proofs.Readings.{answers_to-line, has_lf, port-step_of, step_of-port}
+use Rattle.std.proofs.Common.{◌≡◌, ◌↔◌, ◌≤◌, ◌<◌, ◌^◌, ℕ, false, List, [], ◌∷◌, ◌++◌, length, take, drop, Some, refl, sym, ap, ◌∙◌, arith, codes, decimal, take-append-drop}
+use Rattle.std.{proofs.{Common.length-append, lemmas.{Bool.and_parts, Fmt.length-decimal-le, Slice.Eq.bytes_eq-Decides}}, specs.Str.bytes_eq}
+use Rattle.vs_uds.specs.{OkLine.{IsOkLine, ok_answers, ok_port, ok_step, ok_text}, Port.port_in, Reading.port_at_end, Scan.{after_digits, leading_digits}}
+use Rattle.vs_uds.{specs.declared.scan.Step.TheVariants.Port, proofs.{Leading.{after_digits-append, chosen, leading_digits-append, has_lf-digits}, Ports.WritesPort-decimal}}
+use Rattle.vs_uds.proofs.{Ports.{WritesPort-port_in, length-decimal_ten, port_in-WritesPort}, Readings.{answers_to-line, has_lf, port-step_of, step_of-port}}
 
 -- the port of an OK line is read
 pub ok_port-IsOkLine : (line : List ℕ) (port : ℕ) → IsOkLine line port → ok_port line ≡ Some port

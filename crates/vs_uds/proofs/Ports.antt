@@ -1,11 +1,9 @@
 -- Digits that write a port, and the port that a text writes.
-use Rattle.std.proofs.Common.{◌≡◌, ◌≤◌, ◌<◌, ◌^◌, ◌&&◌, ℕ, true, nat_le, nat_lt, List, length, Some, None, Result, Ok, Err, refl, subst}
-use Rattle.std.proofs.{Common.{inl, inr, arith, rules, decimal, le-leb, leb-true, ltb-true}, lemmas.{Bool.and_parts, Bool.cases_lt}}
-use Rattle.std.proofs.{lemmas.{Bool.le-ltb, Bool.lt-ltb, Option.cond_some}, lemmas.Fmt.{IsAscii-from_digits, decimal_nonempty}}
-use Rattle.std.proofs.{lemmas.Fmt.{digits_decimal, digits_value-decimal, length-decimal-le}, lemmas.Str.IsUtf8-from_ascii}
-use Rattle.std.proofs.lemmas.Str.Parse.{IsNumeralModel, digits_value_short, numerals_by_value, parse_digits}
-use Rattle.std.specs.{Prelude.MatchResult, Result.result_ok, Str.IsUtf8, Char.is_ascii_digit, List.list_all}
-use Rattle.std.specs.Str.Parse.{ParsesUnsigned, digits_value}
+use Rattle.std.proofs.Common.{◌≡◌, ◌≤◌, ◌<◌, ◌^◌, ◌&&◌, ℕ, true, nat_le, nat_lt, List, length, Some, None, Result, Ok, Err, refl, subst, inl, inr, arith, rules, decimal, le-leb}
+use Rattle.std.proofs.{Common.{leb-true, ltb-true}, lemmas.{Bool.{and_parts, cases_lt, le-ltb, lt-ltb}, Option.cond_some, Fmt.{IsAscii-from_digits, decimal_nonempty}}}
+use Rattle.std.proofs.lemmas.{Fmt.{digits_decimal, digits_value-decimal, length-decimal-le}, Str.{IsUtf8-from_ascii, Parse.{IsNumeralModel, digits_value_short, numerals_by_value}}}
+use Rattle.std.{proofs.lemmas.Str.Parse.parse_digits, specs.{Prelude.MatchResult, Result.result_ok, Str.{IsUtf8, Parse.{ParsesUnsigned, digits_value}}, Char.is_ascii_digit}}
+use Rattle.std.specs.List.{list_all}
 use Rattle.vs_uds.specs.Port.{WritesPort, is_numeral, port_in}
 
 -- the test of each byte, and the value of digits

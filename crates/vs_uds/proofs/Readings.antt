@@ -1,10 +1,7 @@
 -- What a reader answers to the bytes of a line.
-use Rattle.std.proofs.Common.{◌≡◌, ◌≤◌, ◌<◌, ◌-◌, ◌==◌, ◌||◌, ℕ, zero, suc, Bool, true, false, cond, List, [], ◌∷◌, ◌++◌, length, replicate}
-use Rattle.std.proofs.{Common.{Option, Some, None, refl, sym, ap, ◌∙◌, arith, append-nil, append_assoc, length-append}, lemmas.Bool.lt-leb}
-use Rattle.std.proofs.lemmas.List.Folds.{list_any-append}
-use Rattle.std.specs.List.{list_any}
-use Rattle.vs_uds.specs.Reading.{answers_to, fed, is_decided, port_at_end, port_or_bad, step_of}
-use Rattle.vs_uds.specs.declared.scan.Step.{Step, TheVariants.More, TheVariants.Port}
+use Rattle.std.proofs.Common.{◌≡◌, ◌≤◌, ◌<◌, ◌-◌, ◌==◌, ◌||◌, ℕ, zero, suc, Bool, true, false, cond, List, [], ◌∷◌, ◌++◌, length, replicate, Option, Some, None, refl, sym, ap, ◌∙◌}
+use Rattle.std.{proofs.{Common.{arith, append-nil, append_assoc, length-append}, lemmas.{Bool.lt-leb, List.Folds.list_any-append}}, specs.List.list_any}
+use Rattle.vs_uds.specs.{Reading.{answers_to, fed, is_decided, port_at_end, port_or_bad, step_of}, declared.scan.Step.{Step, TheVariants.{More, Port}}}
 
 -- whether an LF stands in a text
 abbrev pub has_lf : List ℕ → Bool

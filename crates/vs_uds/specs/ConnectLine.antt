@@ -1,9 +1,8 @@
 -- The line `CONNECT PORT` (Firecracker's vsock documentation).
-use Rattle.std.specs.Prelude.{ℕ, ◌≡◌, ◌≤◌, ◌==◌, ◌&&◌, ◌||◌, Bool, if◌then◌else◌, List, [], ◌∷◌, ◌++◌, length, take, drop, map, replicate}
-use Rattle.std.specs.{Prelude.{slice_index, codes, decimal, Option, None}, Char.to_ascii_lowercase, Str.bytes_eq}
-use Rattle.vs_uds.specs.{Port.WritesPort, Port.port_in, Reading.answers_to, Reading.step_of, Scan.after_digits, Scan.leading_digits}
-use Rattle.vs_uds.specs.{Scan.without_leading_spaces, declared.connect.TheConstants.CONNECT_MAX, declared.scan.TheConstants.CR}
-use Rattle.vs_uds.specs.declared.scan.{TheConstants.LF, TheConstants.SPACE, Step.Step}
+use Rattle.std.specs.Prelude.{ℕ, ◌≡◌, ◌≤◌, ◌==◌, ◌&&◌, ◌||◌, Bool, if◌then◌else◌, List, [], ◌∷◌, ◌++◌, length, take, drop, map, replicate, slice_index, codes, decimal, Option}
+use Rattle.std.specs.{Prelude.None, Char.to_ascii_lowercase, Str.bytes_eq}
+use Rattle.vs_uds.specs.{Port.{WritesPort, port_in}, Reading.{answers_to, step_of}, Scan.{after_digits, leading_digits, without_leading_spaces}}
+use Rattle.vs_uds.specs.declared.{connect.TheConstants.CONNECT_MAX, scan.{TheConstants.{CR, LF, SPACE}, Step.Step}}
 
 -- A line with this word and this port: the word's letters in any case, one or more spaces, digits, any number of spaces,
 -- at most one CR, LF.

@@ -1,8 +1,7 @@
 -- The line `OK PORT` (Firecracker's vsock documentation).
-use Rattle.std.specs.Prelude.{ℕ, ◌≡◌, ◌≤◌, ◌&&◌, if◌then◌else◌, List, [], ◌∷◌, ◌++◌, length, take, drop, codes, decimal, Option, None}
-use Rattle.std.specs.Str.{bytes_eq}
-use Rattle.vs_uds.specs.{Port.WritesPort, Port.port_in, Reading.answers_to, Reading.step_of, Scan.after_digits, Scan.leading_digits}
-use Rattle.vs_uds.specs.declared.{ok.TheConstants.OK_MAX, scan.TheConstants.LF, scan.Step.Step}
+use Rattle.std.specs.{Prelude.{ℕ, ◌≡◌, ◌≤◌, ◌&&◌, if◌then◌else◌, List, [], ◌∷◌, ◌++◌, length, take, drop, codes, decimal, Option, None}, Str.bytes_eq}
+use Rattle.vs_uds.specs.{Port.{WritesPort, port_in}, Reading.{answers_to, step_of}, Scan.{after_digits, leading_digits}, declared.{ok.TheConstants.OK_MAX, scan.TheConstants.LF}}
+use Rattle.vs_uds.specs.declared.scan.Step.{Step}
 
 -- An OK line with this port: `OK `, digits, LF.
 pub record IsOkLine (line : List ℕ) (port : ℕ) : Type 0 where

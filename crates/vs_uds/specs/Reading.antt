@@ -1,7 +1,6 @@
 -- Lines that are read byte by byte: when a line is decided, and what its reader answers.
-use Rattle.std.specs.Prelude.{ℕ, ◌==◌, ◌||◌, ◌-◌, Bool, nat_le, if◌then◌else◌, List, [], ◌∷◌, ◌++◌, length, replicate, Option, Some, None}
-use Rattle.std.specs.List.{list_any}
-use Rattle.vs_uds.specs.declared.scan.{TheConstants.LF, Step.Step, Step.TheVariants.More, Step.TheVariants.Port, Step.TheVariants.Bad}
+use Rattle.std.specs.{Prelude.{ℕ, ◌==◌, ◌||◌, ◌-◌, Bool, nat_le, if◌then◌else◌, List, [], ◌∷◌, ◌++◌, length, replicate, Option, Some, None}, List.list_any}
+use Rattle.vs_uds.specs.declared.scan.{TheConstants.LF, Step.{Step, TheVariants.{More, Port, Bad}}}
 
 -- Whether a line is decided: an LF has come, or the most bytes that it may have.
 abbrev pub is_decided : ℕ → List ℕ → Bool

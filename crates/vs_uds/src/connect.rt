@@ -1,7 +1,6 @@
 //! The line `CONNECT PORT`, by which a client of the host asks for a port of the guest (Firecracker's vsock documentation).
 ghost use Rattle.std.specs.Prelude.{◌≡◌, ◌↔◌, ℕ, [], false};
-ghost use Rattle.vs_uds.specs.ConnectLine.{IsConnectLine, connect_answers, connect_step, connect_text, word_port, is_line_end};
-ghost use Rattle.vs_uds.specs.Reading.{fed, is_decided, port_at_end};
+ghost use Rattle.vs_uds.specs.{ConnectLine.{IsConnectLine, connect_answers, connect_step, connect_text, word_port, is_line_end}, Reading.{fed, is_decided, port_at_end}};
 
 use crate::scan::{
     CR, DIGITS_MAX, LF, SPACE, Step, feed, is_decided, port_in, split_digits,

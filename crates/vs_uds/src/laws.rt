@@ -1,7 +1,6 @@
 //! Laws of the two lines, which the reader of either keeps: each line is read, nothing else is, and each has one port.
 ghost use Rattle.std.specs.Prelude.{◌≡◌, ◌≤◌, ℕ, List, [], ◌∷◌, ◌++◌, length, replicate, codes};
-ghost use Rattle.vs_uds.specs.ConnectLine.{IsConnectLine, connect_answers, connect_step};
-ghost use Rattle.vs_uds.specs.{OkLine.IsOkLine, OkLine.ok_answers, OkLine.ok_step, Reading.port_at_end};
+ghost use Rattle.vs_uds.specs.{ConnectLine.{IsConnectLine, connect_answers, connect_step}, OkLine.{IsOkLine, ok_answers, ok_step}, Reading.port_at_end};
 
 use crate::connect::CONNECT_MAX;
 use crate::ok::OK_MAX;

@@ -1,7 +1,6 @@
 //! The line `OK PORT`, by which the host answers a client whose connection stands (Firecracker's vsock documentation).
 ghost use Rattle.std.specs.Prelude.{◌≡◌, ◌^◌, ◌≤◌, ◌↔◌, ℕ, [], length, false};
-ghost use Rattle.vs_uds.specs.OkLine.{IsOkLine, ok_answers, ok_port, ok_step, ok_text};
-ghost use Rattle.vs_uds.specs.Reading.{fed, is_decided, port_at_end};
+ghost use Rattle.vs_uds.specs.{OkLine.{IsOkLine, ok_answers, ok_port, ok_step, ok_text}, Reading.{fed, is_decided, port_at_end}};
 
 use crate::scan::{LF, Step, feed, is_decided, port_in, split_digits};
 use crate::text::Text;

@@ -1,7 +1,6 @@
 //! What both lines share: a reader that is fed bytes, and the digits of a port.
-ghost use Rattle.std.specs.{Prelude.◌≡◌, Prelude.◌==◌, List.prefix_len, Char.is_ascii_digit};
-ghost use Rattle.vs_uds.specs.{Port.is_numeral, Port.port_in, Reading.fed, Reading.is_decided, Reading.port_or_bad};
-ghost use Rattle.vs_uds.specs.Scan.{after_digits, leading_digits, without_leading_spaces};
+ghost use Rattle.std.specs.{Prelude.{◌≡◌, ◌==◌}, List.prefix_len, Char.is_ascii_digit};
+ghost use Rattle.vs_uds.specs.{Port.{is_numeral, port_in}, Reading.{fed, is_decided, port_or_bad}, Scan.{after_digits, leading_digits, without_leading_spaces}};
 
 use arrayvec::ArrayVec;
 use std::str;

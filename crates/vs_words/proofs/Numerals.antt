@@ -1,8 +1,7 @@
 -- Numbers as words write them, and what `parse` makes of them.
-use Rattle.std.proofs.Common.{◌≡◌, ◌<◌, ◌^◌, ℕ, true, nat_le, List, [], ◌∷◌, length, None, Result, Ok, Err, refl, arith, inl, inr, leb-true}
-use Rattle.std.proofs.lemmas.Bool.{lt-leb, and_right, and_parts, cases_lt}
-use Rattle.std.proofs.lemmas.Str.Parse.{IsNumeralModel, numerals_by_value, tells_all_ascii_digits, parse_digits}
-use Rattle.std.specs.{Result.result_ok, List.list_all, Char.is_ascii_digit, Str.all_ascii_digits, Str.Parse.{digits_value, ParsesUnsigned}}
+use Rattle.std.proofs.{Common.{◌≡◌, ◌<◌, ◌^◌, ℕ, true, nat_le, List, [], ◌∷◌, length, None, Result, Ok, Err, refl, arith, inl, inr, leb-true}, lemmas.Bool.{lt-leb, and_right}}
+use Rattle.std.{proofs.lemmas.{Bool.{and_parts, cases_lt}, Str.Parse.{IsNumeralModel, numerals_by_value, tells_all_ascii_digits, parse_digits}}, specs.Result.result_ok}
+use Rattle.std.specs.{List.list_all, Char.is_ascii_digit, Str.{all_ascii_digits, Parse.{digits_value, ParsesUnsigned}}}
 use Rattle.vs_words.specs.Numbers.{is_digits, within}
 
 -- the test of each byte in turn

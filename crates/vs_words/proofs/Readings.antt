@@ -1,13 +1,10 @@
 -- From the contract of a parse to what it reads.
-use Rattle.std.proofs.Common.{◌≡◌, ◌∙◌, ◌&&◌, inl, inr, Bool, true, false, refl, sym, ap, subst, List, [], ◌∷◌, map, drop, Option, Some}
-use Rattle.std.proofs.{Common.{None, Result, Ok, Err}, lemmas.Str.IsUtf8-string_bytes}
-use Rattle.std.specs.{Prelude.String, Prelude.string_bytes, Str.bytes_eq}
-use Rattle.clap.specs.Words.{App, FailsBy, HasKind, HasMatchesOf, Text, fault_of, first_of, found_of, is_simple, is_simple_and_free}
-use Rattle.clap.specs.{Words.kind_of, Words.matches_of, declared.error.Error.Error, declared.parser.matches.ArgMatches.ArgMatches}
-use Rattle.clap.proofs.WalkLemmas.{first_value-rows}
-use Rattle.vs_words.specs.{Errors.error_of, Options.Given, Options.is_empty, Options.options_of, Options.value_of, Reading.Reads, Reading.app_with}
-use Rattle.vs_words.specs.declared.error.WordsError.{WordsError, TheVariants.Usage, TheVariants.OutOfMemory}
-use Rattle.vs_words.proofs.{Rules.given_row, Walks.AreTexts, Walks.Parses, Walks.parsed}
+use Rattle.std.proofs.Common.{◌≡◌, ◌∙◌, ◌&&◌, inl, inr, Bool, true, false, refl, sym, ap, subst, List, [], ◌∷◌, map, drop, Option, Some, None, Result, Ok, Err}
+use Rattle.std.{proofs.lemmas.Str.IsUtf8-string_bytes, specs.{Prelude.{String, string_bytes}, Str.bytes_eq}}
+use Rattle.clap.specs.Words.{App, FailsBy, HasKind, HasMatchesOf, Text, fault_of, first_of, found_of, is_simple, is_simple_and_free, kind_of, matches_of}
+use Rattle.clap.{specs.declared.{error.Error.Error, parser.matches.ArgMatches.ArgMatches}, proofs.WalkLemmas.first_value-rows}
+use Rattle.vs_words.specs.{Errors.error_of, Options.{Given, is_empty, options_of, value_of}, Reading.{Reads, app_with}, declared.error.WordsError.{WordsError, TheVariants.Usage}}
+use Rattle.vs_words.{specs.declared.error.WordsError.TheVariants.OutOfMemory, proofs.{Rules.given_row, Walks.{AreTexts, Parses, parsed}}}
 
 -- the words of the program are texts
 pub texts_of : {Z : Type 0} (words : List (String Z)) → AreTexts (map string_bytes words)

@@ -1,12 +1,10 @@
 -- What a parse reads of a command whose options each take one value, and what it finds of them.
-use Rattle.std.proofs.Common.{◌≡◌, ◌∙◌, ◌||◌, ℕ, Bool, true, false, cond, refl, sym, ap, List, [], ◌∷◌, ◌++◌, map, Some, None}
-use Rattle.std.specs.{List.list_any, Str.bytes_eq}
-use Rattle.clap.specs.Walk.{Row, Rule, Text, arg_by_id, arg_by_index, arg_by_long, arg_by_short, has_row, reading_by, used, with_values}
-use Rattle.clap.specs.{Walk.without, Simple.App, Simple.Shape, Simple.built, Simple.filled, Simple.filled_from, Simple.with_rule}
-use Rattle.clap.specs.{Simple.new_shape, Faults.use_fault, declared.parser.matches.ValueSource.TheVariants.CommandLine}
+use Rattle.std.proofs.{Common.{◌≡◌, ◌∙◌, ◌||◌, ℕ, Bool, true, false, cond, refl, sym, ap, List, [], ◌∷◌, ◌++◌, map, Some, None}, lemmas.List.map-append}
+use Rattle.std.{proofs.lemmas.Slice.Eq.bytes_eq-Decides, specs.{List.list_any, Str.bytes_eq}}
+use Rattle.clap.specs.{Walk.{Row, Rule, Text, arg_by_id, arg_by_index, arg_by_long, arg_by_short, has_row, reading_by, used, with_values, without}, Simple.{App, Shape, built}}
+use Rattle.clap.specs.{Simple.{filled, filled_from, with_rule, new_shape}, Faults.use_fault, declared.parser.matches.ValueSource.TheVariants.CommandLine}
+use Rattle.vs_words.specs.{Options.{Given, is_given}, Reading.{app_with, option_rule}}
 use Rattle.clap.specs.declared.error.kind.ErrorKind.TheVariants as kind
-use Rattle.std.proofs.lemmas.{List.map-append, Slice.Eq.bytes_eq-Decides}
-use Rattle.vs_words.specs.{Options.Given, Options.is_given, Reading.app_with, Reading.option_rule}
 
 -- an option as a parse reads it
 abbrev pub built_rule : Text → Rule

@@ -1,13 +1,9 @@
 -- What one word does to a parse of a command whose options each take one value.
-use Rattle.std.proofs.Common.{◌≡◌, ◌∙◌, ◌==◌, ℕ, Bool, true, false, refl, sym, ap, arith, List, [], ◌∷◌, ◌++◌, map, length, Option, Some}
-use Rattle.std.proofs.{Common.None, lemmas.Str.{chars_past_char, encodes-chars}, Math.Utf8.{encode, encodes}}
-use Rattle.std.proofs.lemmas.Bool.Decides.{Decides-eqb}
-use Rattle.std.specs.{Prelude.slice_get, Str.IsUtf8, Str.bytes_eq, Str.chars}
-use Rattle.clap.specs.{Lexer.long_of, Lexer.name_and_value, Lexer.short_of, Walk.Held, Walk.Text, Walk.Waiting, Walk.Walk, Walk.idle}
-use Rattle.clap.specs.{Walk.option, Walk.settled_rows, Walk.used, Walk.walked, Simple.Shape, Kinds.Kinds, Kinds.or_else, Faults.flags_fault}
-use Rattle.clap.specs.Faults.{settle_fault, turn_fault, use_fault, word_fault}
-use Rattle.vs_words.specs.Options.{Given, is_empty, is_value}
-use Rattle.vs_words.proofs.Rules.{built_rule, by_id, by_long, given_row, is_known, no_index, no_short, rules, shape_with}
+use Rattle.std.proofs.{Common.{◌≡◌, ◌∙◌, ◌==◌, ℕ, Bool, true, false, refl, sym, ap, arith, List, [], ◌∷◌, ◌++◌, map, length, Option, Some, None}, lemmas.Str.chars_past_char}
+use Rattle.std.{proofs.{lemmas.{Str.encodes-chars, Bool.Decides.Decides-eqb}, Math.Utf8.{encode, encodes}}, specs.{Prelude.slice_get, Str.{IsUtf8, bytes_eq, chars}}}
+use Rattle.clap.specs.{Lexer.{long_of, name_and_value, short_of}, Walk.{Held, Text, Waiting, Walk, idle, option, settled_rows, used, walked}, Simple.Shape, Kinds.{Kinds, or_else}}
+use Rattle.clap.specs.Faults.{flags_fault, settle_fault, turn_fault, use_fault, word_fault}
+use Rattle.vs_words.{specs.Options.{Given, is_empty, is_value}, proofs.Rules.{built_rule, by_id, by_long, given_row, is_known, no_index, no_short, rules, shape_with}}
 
 abbrev pub dashes : Text
 dashes = 45 ∷ 45 ∷ []

@@ -1,17 +1,15 @@
 -- A parse of a command whose options each take one value gives the options that its words give, or it has a fault.
-use Rattle.std.proofs.Common.{◌≡◌, ◌∙◌, ◌&&◌, ◌⊎◌, inl, inr, Bool, true, false, not, cond, refl, sym, ap, subst, List, [], ◌∷◌, ◌++◌, map}
-use Rattle.std.proofs.{Common.{fold, drop, Option, Some, None, append-nil, append_assoc}, lemmas.Slice.Eq.bytes_eq-Decides}
-use Rattle.std.specs.{Prelude.{if◌then◌else◌, option_map, option_and_then, is_some}, List.list_any, Str.{IsUtf8, bytes_eq}}
-use Rattle.clap.specs.{Lexer.long_of, Walk.{Held, Row, Rule, Text, Waiting, Walk, finished, has_row, idle, nothing_held, option, settled}}
-use Rattle.clap.specs.{Walk.{rows_after, settled_rows, used, walk, walk_from, walked, with_default}, Simple.{App, entered, matches_of}}
-use Rattle.clap.specs.{Simple.names_of, Kinds.{Kinds, or_else}, Faults.{built_fault, check_fault, defaults_fault, entered_fault, fault_of}}
-use Rattle.clap.specs.Faults.{level_fault, settle_fault, turn_fault, use_fault, walk_fault}
-use Rattle.vs_words.specs.{Options.{Given, given_by, have_names, is_empty, is_given, is_value, options_of}, Reading.app_with}
-use Rattle.vs_words.proofs.Rules.{built_is, built_rule, given_row, is_known, rules, shape_with, use_again, use_new, used_new}
-use Rattle.vs_words.proofs.Steps.{Look, Plain, Dashes, Long, Short, dashes, look, chars_some, or_left, or_right, or_nil, or_assoc, held_at}
-use Rattle.vs_words.proofs.Steps.{walk_at, trailing_at, plain_idle, short_idle, short_waits, unknown_idle, unknown_waits, whole_fault}
-use Rattle.vs_words.proofs.Steps.{whole_walked, name_fault, name_walked, long_waits, value_fault, value_walked, end_fault, end_walked}
-use Rattle.vs_words.proofs.Steps.{behind_end, settle_given, settled_given, settle_name}
+use Rattle.std.proofs.Common.{◌≡◌, ◌∙◌, ◌&&◌, ◌⊎◌, inl, inr, Bool, true, false, not, cond, refl, sym, ap, subst, List, [], ◌∷◌, ◌++◌, map, fold, drop, Option, Some, None}
+use Rattle.std.{proofs.{Common.{append-nil, append_assoc}, lemmas.Slice.Eq.bytes_eq-Decides}, specs.{Prelude.{if◌then◌else◌, option_map, option_and_then, is_some}, List.list_any}}
+use Rattle.std.specs.Str.{IsUtf8, bytes_eq}
+use Rattle.clap.specs.{Lexer.long_of, Walk.{Held, Row, Rule, Text, Waiting, Walk, finished, has_row, idle, nothing_held, option, settled, rows_after, settled_rows, used, walk}}
+use Rattle.clap.specs.{Walk.{walk_from, walked, with_default}, Simple.{App, entered, matches_of, names_of}, Kinds.{Kinds, or_else}, Faults.{built_fault, check_fault}}
+use Rattle.clap.specs.Faults.{defaults_fault, entered_fault, fault_of, level_fault, settle_fault, turn_fault, use_fault, walk_fault}
+use Rattle.vs_words.{specs.{Options.{Given, given_by, have_names, is_empty, is_given, is_value, options_of}, Reading.app_with}, proofs.Rules.{built_is, built_rule, given_row}}
+use Rattle.vs_words.proofs.{Rules.{is_known, rules, shape_with, use_again, use_new, used_new}, Steps.{Look, Plain, Dashes, Long, Short, dashes, look, chars_some, or_left}}
+use Rattle.vs_words.proofs.Steps.{or_right, or_nil, or_assoc, held_at, walk_at, trailing_at, plain_idle, short_idle, short_waits, unknown_idle, unknown_waits, whole_fault}
+use Rattle.vs_words.proofs.Steps.{whole_walked, name_fault, name_walked, long_waits, value_fault, value_walked, end_fault, end_walked, behind_end, settle_given, settled_given}
+use Rattle.vs_words.proofs.Steps.{settle_name}
 
 -- the words are texts
 abbrev pub AreTexts : List Text → Type 0

@@ -1,8 +1,7 @@
 -- The command that words ask for.
-use Rattle.std.specs.Prelude.{◌≡◌, ◌⊎◌, ℕ, ◌≤◌, ◌&&◌, nat_le, if◌then◌else◌, List, [], ◌∷◌, length, codes, bytes_eq, drop, Option, Some, None}
-use Rattle.std.specs.Prelude.{option_map, option_and_then}
+use Rattle.std.specs.Prelude.{◌≡◌, ◌⊎◌, ℕ, ◌≤◌, ◌&&◌, nat_le, if◌then◌else◌, List, [], ◌∷◌, length, codes, bytes_eq, drop, Option, Some, None, option_map, option_and_then}
 use Rattle.vs_uds.specs.declared.path.TheConstants.{BASE_MAX}
-use Rattle.vs_words.specs.{Numbers.number_in, Options.Given, Options.options_of, Options.value_of, declared.command.Rings.Rings}
+use Rattle.vs_words.specs.{Numbers.number_in, Options.{Given, options_of, value_of}, declared.command.Rings.Rings}
 use Rattle.vs_words.specs.declared.command.Command as code
 use Rattle.vs_words.specs.declared.command.Command.TheVariants as variant
 use Rattle.vs_words.specs.declared.command.Rings.TheVariants as rings

@@ -1,6 +1,5 @@
 -- Numbers of the command line.
-use Rattle.std.specs.Prelude.{ℕ, ◌==◌, ◌&&◌, nat_le, if◌then◌else◌, Bool, false, not, List, [], ◌∷◌, length, Option, Some, None}
-use Rattle.std.specs.{Str.all_ascii_digits, Str.Parse.digits_value}
+use Rattle.std.specs.{Prelude.{ℕ, ◌==◌, ◌&&◌, nat_le, if◌then◌else◌, Bool, false, not, List, [], ◌∷◌, length, Option, Some, None}, Str.{all_ascii_digits, Parse.digits_value}}
 
 -- Whether a word is decimal digits.
 abbrev pub is_digits : List ℕ → Bool

@@ -1,9 +1,7 @@
 -- What a parse of a command's words gives.
 use Rattle.std.specs.Prelude.{◌≡◌, ℕ, true, List, [], map, drop, Some, None, Result, Ok, Err}
-use Rattle.clap.specs.{Simple.App, Simple.new_rule, Simple.new_shape, Walk.Rule, Words.first_value, Words.found_of}
-use Rattle.clap.specs.declared.parser.matches.ArgMatches.{ArgMatches}
-use Rattle.vs_words.specs.{Options.Given, Options.options_of, Options.value_of, declared.error.WordsError.WordsError}
-use Rattle.vs_words.specs.declared.error.WordsError.TheVariants.{Usage, OutOfMemory}
+use Rattle.clap.specs.{Simple.{App, new_rule, new_shape}, Walk.Rule, Words.{first_value, found_of}, declared.parser.matches.ArgMatches.ArgMatches}
+use Rattle.vs_words.specs.{Options.{Given, options_of, value_of}, declared.error.WordsError.{WordsError, TheVariants.{Usage, OutOfMemory}}}
 
 -- An option `--NAME VALUE`, as the program adds it, and the command with options of these names.
 abbrev pub option_rule : List ℕ → Rule

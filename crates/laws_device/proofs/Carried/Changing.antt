@@ -1,42 +1,30 @@
 -- What the host's streams took and gave, through the small changes of the device.
-use Rattle.vs_flow.specs.{Table.{IsTable, Table, entry_of, with_value, without}, Flow.{is_assigned, same_flow}, declared.flow.Flow.Flow}
-use Rattle.vs_flow.specs.Connection.{Connection}
+use Rattle.vs_flow.specs.{Table.{IsTable, Table, entry_of, with_value, without}, Flow.{is_assigned, same_flow}, declared.flow.Flow.Flow, Connection.Connection}
 use Rattle.vs_flow.proofs.Entries.{same_flow_true}
-use Rattle.std.proofs.Common.{◌≡◌, ◌≢◌, ℕ, ◌+◌, ◌-◌, ◌≤◌, ◌==◌, ◌&&◌, nat_le, Bool, true, false, cond, List, [], ◌∷◌, ◌++◌, length, take, drop}
-use Rattle.std.proofs.Common.{Contains, Option, Some, None, refl, sym, ap, subst, ◌∙◌, arith, slice_get, get_or, ◌⊎◌, inl, inr}
-use Rattle.std.{proofs.lemmas.Bool.Decides.nat_tests, proofs.lemmas.Grind.common_steps, proofs.lemmas.List.append-nil}
-use Rattle.std.{proofs.Math.Seq.drop-nil, proofs.Math.Seq.take-nil, specs.List.All, specs.List.filter, specs.Option.option_map, specs.Option.option_map_or}
-use Rattle.vs_conn.specs.End.{ConnectionEnd, end_after, is_of, is_reset, verdict_of, with_shut, with_payload_sent}
-use Rattle.vs_conn.{specs.declared.end.Verdict.Verdict, proofs.Frames.got_asked}
-use Rattle.vs_device_parts.specs.Connections.{after_shut, after_written, cut_off}
-use Rattle.vs_device_parts.specs.{State.DeviceConnection, State.DeviceEntry, Transmitting.heard, Streams.to_write}
-use Rattle.laws_device.proofs.Carried.Gives.{drop_both, first_of, forwards_asked, forwards_gives, accepted_other, accepts_asked}
-use Rattle.laws_device.proofs.Carried.Gives.{accepts_response, answered_host, comes_behind, delivered_other, delivers_gives, gives_delivered}
-use Rattle.laws_device.proofs.Carried.Gives.{goes_host, hears_gives, kept_empty, response_empty, shut_gives, shuts_asked, unanswered_got}
-use Rattle.laws_device.proofs.Carried.{HostCalls.{read_host, write_host, closed_left, same_ends, same_host}, Streamed.{join_of, left_streamed}}
-use Rattle.laws_device.proofs.Carried.{Streamed.{StaysStill, passed_streamed, same_connection_of, same_streamed}, Opens.none_apart}
-use Rattle.laws_device.proofs.Carried.Hosts.{counts_kept, counts_still, look_kept, unseen}
-use Rattle.laws_device.proofs.Carried.Counted.{comes_on, counted_asks, counted_got, counted_put, number_elsewhere, number_put_elsewhere, put_still}
-use Rattle.laws_device.proofs.Carried.{Counted.request_put, Gives.forwards_old, Gives.shuts_old, Gives.stays_old}
-use Rattle.laws_device.specs.Carried.Streamed.{client_waits}
-use Rattle.laws_device.specs.Carried.Streamed.{AreCounted, IsCounted, IsJoined, IsStreamed, connection_of, count_in, gives, line_for, look, seen, Seen}
-use Rattle.laws_history.specs.{Packets.{has, is_clean_rst, is_request, is_response, is_rw}, History.{Answerer, Asker, Got, History, IsFair, Side, gots}}
-use Rattle.laws_history.specs.{History.{puts, MayPut, peer}, declared.packet.Packet.Packet, Again.AllowsNow}
-use Rattle.laws_tables.{specs.Steps.payload_on, proofs.Fair.fair_now, proofs.Fair.own_got_fair}
-use Rattle.laws_tables.proofs.Adding.{got_over_put, number_got, number_put, put_adds, put_nothing, put_over_got}
-use Rattle.laws_tables.proofs.{Logs.none_on_any, Goes.comes_out, Goes.Goes, Goes.drops, Goes.stays_still, Changes.without_changed}
-use Rattle.laws_tables.specs.{Drains.Drains, Drains.only_on, Ends.is_new}
-use Rattle.vs_outside.specs.Host.{after_close, after_failed, after_read, after_shut_write, after_write, called, dial_answer, fails_now}
-use Rattle.vs_outside.specs.{Host.{is_listened, next_bytes, HostContents, with_shut_write_call, Stream}, HostBytes.is_labelled}
-use Rattle.vs_outside.proofs.Frames.{stream_at-after_failed}
-use Rattle.vs_page.specs.{Held.{IsWhole, packet_held, packet_with, payload_held}, Log.{Device, Log, flow_got, flow_put, history_of}}
-use Rattle.vs_page.specs.{Log.{side_of}, declared.log.LogEntry.TheVariants.{GotPacket, Mark, PutEvent, PutPacket}}
-use Rattle.vs_page.specs.Fair.{IsFairLog, IsFairOn, asked_by, current, instance_from, number_of, payload_got, payload_of, payload_put}
-use Rattle.vs_page.{specs.Log.side_by, proofs.Flows.same_self, proofs.Present.present_got}
-use Rattle.vs_header.specs.{Packet.header_of, declared.Header.Header, declared.Kind.Kind}
+use Rattle.std.proofs.Common.{◌≡◌, ◌≢◌, ℕ, ◌+◌, ◌-◌, ◌≤◌, ◌==◌, ◌&&◌, nat_le, Bool, true, false, cond, List, [], ◌∷◌, ◌++◌, length, take, drop, Contains, Option, Some, None, refl}
+use Rattle.std.proofs.{Common.{sym, ap, subst, ◌∙◌, arith, slice_get, get_or, ◌⊎◌, inl, inr}, lemmas.{Bool.Decides.nat_tests, Grind.common_steps, List.append-nil}}
+use Rattle.std.{proofs.Math.Seq.{drop-nil, take-nil}, specs.{List.{All, filter}, Option.{option_map, option_map_or}}}
+use Rattle.vs_conn.{specs.{End.{ConnectionEnd, end_after, is_of, is_reset, verdict_of, with_shut, with_payload_sent}, declared.end.Verdict.Verdict}, proofs.Frames.got_asked}
+use Rattle.vs_device_parts.specs.{Connections.{after_shut, after_written, cut_off}, State.{DeviceConnection, DeviceEntry}, Transmitting.heard, Streams.to_write}
+use Rattle.laws_device.proofs.Carried.Gives.{drop_both, first_of, forwards_asked, forwards_gives, accepted_other, accepts_asked, accepts_response, answered_host, comes_behind}
+use Rattle.laws_device.proofs.Carried.Gives.{delivered_other, delivers_gives, gives_delivered, goes_host, hears_gives, kept_empty, response_empty, shut_gives, shuts_asked}
+use Rattle.laws_device.proofs.Carried.{Gives.{unanswered_got, forwards_old, shuts_old, stays_old}, HostCalls.{read_host, write_host, closed_left, same_ends, same_host}}
+use Rattle.laws_device.proofs.Carried.{Streamed.{join_of, left_streamed, StaysStill, passed_streamed, same_connection_of, same_streamed}, Opens.none_apart, Hosts.counts_kept}
+use Rattle.laws_device.proofs.Carried.{Hosts.{counts_still, look_kept, unseen}, Counted.{comes_on, counted_asks, counted_got, counted_put, number_elsewhere, number_put_elsewhere}}
+use Rattle.laws_device.{proofs.Carried.Counted.{put_still, request_put}, specs.Carried.Streamed.{client_waits, AreCounted, IsCounted, IsJoined, IsStreamed, connection_of}}
+use Rattle.laws_device.specs.Carried.Streamed.{count_in, gives, line_for, look, seen, Seen}
+use Rattle.laws_history.specs.{Packets.{has, is_clean_rst, is_request, is_response, is_rw}, History.{Answerer, Asker, Got, History, IsFair, Side, gots, puts, MayPut, peer}}
+use Rattle.laws_history.specs.{declared.packet.Packet.Packet, Again.AllowsNow}
+use Rattle.laws_tables.{specs.{Steps.payload_on, Drains.{Drains, only_on}, Ends.is_new}, proofs.{Fair.{fair_now, own_got_fair}, Adding.{got_over_put, number_got, number_put}}}
+use Rattle.laws_tables.proofs.{Adding.{put_adds, put_nothing, put_over_got}, Logs.none_on_any, Goes.{comes_out, Goes, drops, stays_still}, Changes.without_changed}
+use Rattle.vs_outside.specs.Host.{after_close, after_failed, after_read, after_shut_write, after_write, called, dial_answer, fails_now, is_listened, next_bytes, HostContents}
+use Rattle.vs_outside.{specs.{Host.{with_shut_write_call, Stream}, HostBytes.is_labelled}, proofs.Frames.stream_at-after_failed}
+use Rattle.vs_page.specs.{Held.{IsWhole, packet_held, packet_with, payload_held}, Log.{Device, Log, flow_got, flow_put, history_of, side_of, side_by}}
+use Rattle.vs_page.specs.{declared.log.LogEntry.TheVariants.{GotPacket, Mark, PutEvent, PutPacket}, Fair.{IsFairLog, IsFairOn, asked_by, current, instance_from, number_of}}
+use Rattle.vs_page.{specs.Fair.{payload_got, payload_of, payload_put}, proofs.{Flows.same_self, Present.present_got}}
+use Rattle.vs_header.specs.{Packet.header_of, declared.{Header.Header, Kind.Kind}}
 use Rattle.vs_proxy_parts.specs.State.{Handshake}
-use Rattle.vs_uds.specs.ConnectLine.{connect_port, connect_step}
-use Rattle.vs_uds.specs.{Reading.is_decided, Reading.port_or_bad, declared.connect.TheConstants.CONNECT_MAX, OkLine.ok_text}
+use Rattle.vs_uds.specs.{ConnectLine.{connect_port, connect_step}, Reading.{is_decided, port_or_bad}, declared.connect.TheConstants.CONNECT_MAX, OkLine.ok_text}
 use Rattle.vs_outside.specs.declared.host_net.Dialed.TheVariants as dialed
 use Rattle.vs_conn.specs.declared.end.State.TheVariants as state
 use Rattle.vs_conn.specs.declared.end.Verdict.TheVariants as verdict

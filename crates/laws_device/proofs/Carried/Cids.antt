@@ -1,17 +1,15 @@
 -- A packet with payload is not dropped where its connection's stream is given payload.
-use Rattle.std.proofs.{lemmas.Bool.Decides.nat_tests, lemmas.Grind.common_steps, Common.◌≡◌, Common.◌≢◌, Common.ℕ, Common.◌==◌, Common.◌&&◌}
-use Rattle.std.proofs.Common.{Bool, true, false, not, is_some, List, [], ◌∷◌, ◌++◌, refl, sym, ap, ◌∙◌, subst, arith}
+use Rattle.std.proofs.{lemmas.{Bool.Decides.nat_tests, Grind.common_steps}, Common.{◌≡◌, ◌≢◌, ℕ, ◌==◌, ◌&&◌, Bool, true, false, not, is_some, List, [], ◌∷◌, ◌++◌, refl, sym, ap}}
+use Rattle.std.proofs.Common.{◌∙◌, subst, arith}
 use Rattle.vs_conn.specs.{End.ConnectionEnd, Follows.Follows, declared.end.State.TheVariants.Ended}
 use Rattle.vs_flow.specs.declared.flow.Flow.{Flow}
 use Rattle.vs_limits.specs.declared.TheConstants.{HOST_CID}
-use Rattle.laws_history.specs.{Again.present, History.{Answerer, Asker, Got, History, Side, gots, puts}, Packets.{has, is_clean_rst}}
-use Rattle.laws_history.specs.{Packets.{is_request, is_rst, is_rw}, declared.packet.Packet.Packet}
-use Rattle.vs_page.specs.{Open.cid_of, Open.is_dropped, declared.log.LogEntry.TheVariants.GotPacket, Log.Device, Log.Driver}
-use Rattle.vs_page.specs.Log.{IsNextPacket, Log, flow_got, history_of, side_of, whole_of}
-use Rattle.vs_page.proofs.{Entries.got_on, Entries.on_flow, Entries.present_is, Flows.same_self}
-use Rattle.laws_tables.specs.{Both.Both, Both.IsSound, Heard.heard_of, Steps.HasEnd}
-use Rattle.laws_tables.proofs.{Both.next_is_fair, Fair.got_fair, Fair.got_one, Steps.cid_heard, Voices.AllSpeak, Voices.AreVoiced}
-use Rattle.laws_tables.proofs.Voices.{IsOneVoice, keep, one_older, speak_present}
+use Rattle.laws_history.specs.{Again.present, History.{Answerer, Asker, Got, History, Side, gots, puts}, Packets.{has, is_clean_rst, is_request, is_rst, is_rw}}
+use Rattle.laws_history.specs.declared.packet.Packet.{Packet}
+use Rattle.vs_page.specs.{Open.{cid_of, is_dropped}, declared.log.LogEntry.TheVariants.GotPacket, Log.{Device, Driver, IsNextPacket, Log, flow_got, history_of, side_of, whole_of}}
+use Rattle.vs_page.proofs.{Entries.{got_on, on_flow, present_is}, Flows.same_self}
+use Rattle.laws_tables.{specs.{Both.{Both, IsSound}, Heard.heard_of, Steps.HasEnd}, proofs.{Both.next_is_fair, Fair.{got_fair, got_one}, Steps.cid_heard, Voices.AllSpeak}}
+use Rattle.laws_tables.proofs.Voices.{AreVoiced, IsOneVoice, keep, one_older, speak_present}
 use Rattle.laws_device.specs.Carried.Streamed.{gives}
 
 -- Packets of another CID are all dropped.

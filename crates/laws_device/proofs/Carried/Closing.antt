@@ -1,17 +1,14 @@
 -- A reset: the streams of all connections are closed, one after another.
-use Rattle.std.proofs.Common.{◌≡◌, ◌≢◌, ℕ, zero, suc, ◌==◌, Bool, true, false, cond, List, [], ◌∷◌, map, get_or, Contains, Option, Some}
-use Rattle.std.proofs.Common.{None, refl, sym, ap, ◌∙◌, arith}
-use Rattle.std.{proofs.lemmas.Bool.Decides.nat_tests, proofs.lemmas.List.Elements.All-contains, specs.List.All, specs.List.find}
-use Rattle.vs_device_parts.{specs.Connections.stream_closed, specs.State.DeviceConnection, specs.State.DeviceEntry, proofs.Under.has_slot}
-use Rattle.vs_flow.specs.{Table.Table, Table.emptied, Table.entry_under, Table.slots, Table.with_value, Connection.Connection}
+use Rattle.std.proofs.Common.{◌≡◌, ◌≢◌, ℕ, zero, suc, ◌==◌, Bool, true, false, cond, List, [], ◌∷◌, map, get_or, Contains, Option, Some, None, refl, sym, ap, ◌∙◌, arith}
+use Rattle.std.{proofs.lemmas.{Bool.Decides.nat_tests, List.Elements.All-contains}, specs.List.{All, find}}
+use Rattle.vs_device_parts.{specs.{Connections.stream_closed, State.{DeviceConnection, DeviceEntry}}, proofs.Under.has_slot}
+use Rattle.vs_flow.specs.{Table.{Table, emptied, entry_under, slots, with_value}, Connection.Connection}
 use Rattle.vs_outside.specs.Host.{HostContents, after_close}
 use Rattle.vs_page.specs.Log.{Log}
 use Rattle.vs_proxy_parts.specs.State.{Handshake}
 use Rattle.laws_tables.proofs.Slots.{found_by}
-use Rattle.laws_device.specs.Named.Streams.{joined_stream, stream_under}
-use Rattle.laws_device.proofs.Named.Tables.{joined_in, stream_closed_under, value_in}
-use Rattle.laws_device.specs.Carried.Streamed.{AreLabelled, IsJoined, IsStreamed, Seen, connection_of, count_in, look, reading}
-use Rattle.laws_device.proofs.Carried.HostCalls.{open_before, shut_labels, some_seen}
+use Rattle.laws_device.specs.{Named.Streams.{joined_stream, stream_under}, Carried.Streamed.{AreLabelled, IsJoined, IsStreamed, Seen, connection_of, count_in, look, reading}}
+use Rattle.laws_device.proofs.{Named.Tables.{joined_in, stream_closed_under, value_in}, Carried.HostCalls.{open_before, shut_labels, some_seen}}
 
 -- A stream with a label that isn't closed is that of a connection under one of these slots. No line is of such a stream.
 pub record IsClosing (rest : List ℕ) (t : Table DeviceConnection) (c : HostContents) (log : Log) (port : ℕ)

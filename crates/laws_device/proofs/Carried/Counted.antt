@@ -1,22 +1,14 @@
 -- The streams with a flow as label against the REQUESTs of a log, entry by entry.
-use Rattle.std.proofs.Common.{◌≡◌, ◌≢◌, ℕ, ◌+◌, ◌≤◌, ◌||◌, Bool, true, false, cond, List, [], ◌∷◌, ◌++◌, refl, sym, ap, subst, ◌∙◌, arith}
-use Rattle.std.proofs.Common.{◌⊎◌, inl, inr}
-use Rattle.vs_flow.specs.{Connection.Connection, Flow.is_assigned, Flow.same_flow, declared.flow.Flow.Flow}
-use Rattle.vs_flow.proofs.Entries.{same_flow_false, same_flow_true}
-use Rattle.laws_history.specs.{Again.MayPutNow, Again.count, Again.IsClean, Packets.has, Packets.is_clean_rst, Packets.is_request}
-use Rattle.laws_history.specs.Packets.{is_rw}
+use Rattle.std.proofs.Common.{◌≡◌, ◌≢◌, ℕ, ◌+◌, ◌≤◌, ◌||◌, Bool, true, false, cond, List, [], ◌∷◌, ◌++◌, refl, sym, ap, subst, ◌∙◌, arith, ◌⊎◌, inl, inr}
 use Rattle.std.proofs.lemmas.{Bool.Decides.nat_tests, Grind.common_steps}
-use Rattle.laws_history.specs.{History.{Asker, Got, History, Put, Side, gots, peer, puts}, declared.packet.Packet.Packet}
-use Rattle.vs_page.specs.{Fair.IsFairLog, Fair.asked_by, Fair.current, Fair.number_of, Fair.payload_got, Held.IsWhole}
-use Rattle.vs_page.specs.Log.{Device, Log, and_then, flow_got, flow_put, history_of, side_by, side_of, whole_of}
-use Rattle.vs_page.specs.declared.log.LogEntry.TheVariants.{GotPacket, PutPacket}
-use Rattle.vs_page.proofs.Flows.{same_self}
-use Rattle.laws_tables.specs.Drains.{only_on}
-use Rattle.laws_tables.proofs.{Adding.got_adds, Adding.got_nothing, Adding.number_put, Adding.put_nothing}
-use Rattle.laws_tables.proofs.{Adding.got_over_put, Fair.own_got_fair, Firsts.asker_asks, Firsts.no_present}
+use Rattle.vs_flow.{specs.{Connection.Connection, Flow.{is_assigned, same_flow}, declared.flow.Flow.Flow}, proofs.Entries.{same_flow_false, same_flow_true}}
+use Rattle.laws_history.specs.{Again.{MayPutNow, count, IsClean}, Packets.{has, is_clean_rst, is_request, is_rw}, History.{Asker, Got, History, Put, Side, gots, peer, puts}}
+use Rattle.laws_history.specs.declared.packet.Packet.{Packet}
+use Rattle.vs_page.specs.{Fair.{IsFairLog, asked_by, current, number_of, payload_got}, Held.IsWhole, Log.{Device, Log, and_then, flow_got, flow_put, history_of, side_by, side_of}}
+use Rattle.vs_page.{specs.{Log.whole_of, declared.log.LogEntry.TheVariants.{GotPacket, PutPacket}}, proofs.Flows.same_self}
+use Rattle.laws_tables.{specs.Drains.only_on, proofs.{Adding.{got_adds, got_nothing, number_put, put_nothing, got_over_put}, Fair.own_got_fair, Firsts.{asker_asks, no_present}}}
 use Rattle.laws_tables.proofs.Logs.{none_on_any}
-use Rattle.laws_device.specs.Carried.Streamed.{AreCounted, IsCounted}
-use Rattle.laws_device.proofs.Carried.Streamed.{StaysStill}
+use Rattle.laws_device.{specs.Carried.Streamed.{AreCounted, IsCounted}, proofs.Carried.Streamed.StaysStill}
 
 -- The same, by what passed on a flow, and what did on its present connection.
 abbrev AreIn : Bool → ℕ → History → History → Type 0

@@ -1,24 +1,20 @@
 -- What the end of a device's connection does to the payload that its stream is given.
-use Rattle.std.proofs.Common.{◌≡◌, ◌≢◌, ℕ, zero, suc, ◌-◌, ◌≤◌, Bool, true, false, cond, List, [], ◌∷◌, ◌++◌, length, take, drop, Contains, Some}
-use Rattle.std.proofs.Common.{refl, sym, ap, subst, ◌∙◌, append_assoc, arith}
-use Rattle.std.proofs.lemmas.{Bool.Decides.nat_tests, Grind.common_steps, List.append-nil, List.length-take, List.take-take}
-use Rattle.vs_conn.specs.End.{ConnectionEnd, end_after, owes_of, paid_of, verdict_of, with_payload_forwarded, with_shut}
-use Rattle.vs_conn.specs.declared.end.{Owed.Owed, Verdict.Verdict}
+use Rattle.std.proofs.Common.{◌≡◌, ◌≢◌, ℕ, zero, suc, ◌-◌, ◌≤◌, Bool, true, false, cond, List, [], ◌∷◌, ◌++◌, length, take, drop, Contains, Some, refl, sym, ap, subst, ◌∙◌}
+use Rattle.std.proofs.{Common.{append_assoc, arith}, lemmas.{Bool.Decides.nat_tests, Grind.common_steps, List.{append-nil, length-take, take-take}}}
+use Rattle.vs_conn.specs.{End.{ConnectionEnd, end_after, owes_of, paid_of, verdict_of, with_payload_forwarded, with_shut}, declared.end.{Owed.Owed, Verdict.Verdict}}
+use Rattle.vs_device_parts.specs.State.{DeviceConnection, DeviceEntry}
+use Rattle.vs_flow.specs.{Connection.Connection, Table.{IsTable, Table, with_value}, declared.flow.Flow.Flow}
+use Rattle.vs_header.specs.declared.Header.{Header}
+use Rattle.laws_history.specs.{Packets.{has, is_response, is_rw}, History.{Asker, Got, History, IsFair, Put, gots}, declared.packet.Packet.Packet}
+use Rattle.vs_outside.specs.Host.{HostContents}
+use Rattle.vs_page.specs.{Fair.{number_of, payload_got, payload_of, payload_put}, Log.{Device, Log}}
+use Rattle.vs_proxy_parts.specs.State.{Handshake}
+use Rattle.laws_tables.{specs.{Drains.{Drains, only_on}, Ends.is_new}, proofs.{Logs.{all_of, there_on}, Goes.{Goes, comes_in, drops, stays_still}}}
+use Rattle.laws_device.{specs.Carried.Streamed.{AreCounted, IsJoined, IsStreamed, connection_of, count_in, gives, line_for, look}, proofs.Carried.Streamed.changed_streamed}
+use Rattle.laws_device.proofs.Carried.Streamed.{join_of}
 use Rattle.vs_conn.specs.declared.end.Owed.TheVariants as owed
 use Rattle.vs_conn.specs.declared.end.State.TheVariants as state
 use Rattle.vs_conn.specs.declared.end.Verdict.TheVariants as verdict
-use Rattle.vs_device_parts.specs.State.{DeviceConnection, DeviceEntry}
-use Rattle.vs_flow.specs.{Connection.Connection, Table.IsTable, Table.Table, Table.with_value, declared.flow.Flow.Flow}
-use Rattle.vs_header.specs.declared.Header.{Header}
-use Rattle.laws_history.specs.{Packets.has, Packets.is_response, Packets.is_rw, History.Asker, History.Got, History.History, History.IsFair}
-use Rattle.laws_history.specs.{History.Put, History.gots, declared.packet.Packet.Packet}
-use Rattle.vs_outside.specs.Host.{HostContents}
-use Rattle.vs_page.specs.{Fair.number_of, Fair.payload_got, Fair.payload_of, Fair.payload_put, Log.Device, Log.Log}
-use Rattle.vs_proxy_parts.specs.State.{Handshake}
-use Rattle.laws_tables.specs.{Drains.Drains, Drains.only_on, Ends.is_new}
-use Rattle.laws_device.specs.Carried.Streamed.{AreCounted, IsJoined, IsStreamed, connection_of, count_in, gives, line_for, look}
-use Rattle.laws_tables.proofs.{Logs.all_of, Logs.there_on, Goes.Goes, Goes.comes_in, Goes.drops, Goes.stays_still}
-use Rattle.laws_device.proofs.Carried.Streamed.{changed_streamed, join_of}
 
 -- An end whose stream is given all was such an end before.
 pub forwards_gives : (e : ConnectionEnd) (n : ℕ) → gives (with_payload_forwarded e n) ≡ true → gives e ≡ true

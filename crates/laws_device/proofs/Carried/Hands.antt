@@ -1,11 +1,9 @@
 -- Lines that are read: a byte more, and a line that ends.
-use Rattle.std.proofs.Common.{◌≡◌, ◌≢◌, ℕ, zero, suc, ◌<◌, ◌==◌, nat_le, ◌||◌, Bool, true, false, cond, List, [], ◌∷◌, ◌++◌, length, get_or}
-use Rattle.std.proofs.Common.{Some, refl, sym, ap, ◌∙◌, arith, length-append, append_assoc, replicate}
-use Rattle.std.specs.List.{All, AllPairs, list_any}
-use Rattle.std.proofs.lemmas.{Bool.Decides.nat_tests, List.same_from_push}
-use Rattle.vs_proxy_parts.specs.{Handshakes.with_line, Handshakes.without_stream, State.Handshake}
-use Rattle.vs_uds.{specs.ConnectLine.connect_port, specs.ConnectLine.connect_step, specs.ConnectLine.connect_word, specs.Reading.is_decided}
-use Rattle.vs_uds.{specs.declared.connect.TheConstants.CONNECT_MAX, proofs.ConnectLines.IsWordLine-word_port, proofs.Decided.decided}
+use Rattle.std.proofs.Common.{◌≡◌, ◌≢◌, ℕ, zero, suc, ◌<◌, ◌==◌, nat_le, ◌||◌, Bool, true, false, cond, List, [], ◌∷◌, ◌++◌, length, get_or, Some, refl, sym, ap, ◌∙◌, arith}
+use Rattle.std.{proofs.{Common.{length-append, append_assoc, replicate}, lemmas.{Bool.Decides.nat_tests, List.same_from_push}}, specs.List.{All, AllPairs, list_any}}
+use Rattle.vs_proxy_parts.specs.{Handshakes.{with_line, without_stream}, State.Handshake}
+use Rattle.vs_uds.specs.{ConnectLine.{connect_port, connect_step, connect_word}, Reading.is_decided, declared.connect.TheConstants.CONNECT_MAX}
+use Rattle.vs_uds.proofs.{ConnectLines.IsWordLine-word_port, Decided.decided}
 use Rattle.laws_device.specs.Carried.Streamed.{has_line}
 use Rattle.vs_uds.specs.declared.scan.Step.TheVariants as step
 

@@ -1,25 +1,20 @@
 -- What the host's streams took and gave, through the calls of the proxy and of the host's programs.
-use Rattle.std.proofs.Common.{◌≡◌, ◌≢◌, ℕ, Bool, true, false, cond, List, [], ◌∷◌, ◌++◌, take, get_or, ◌+◌}
-use Rattle.std.proofs.Common.{length, Contains, Option, Some, None, refl, sym, ap, subst, ◌∙◌, ◌⊎◌, inl, inr}
-use Rattle.std.proofs.lemmas.List.{append-nil, Elements.All-push, Elements.All-weaker, Quantifiers.all_pairs_push}
-use Rattle.std.specs.{List.All, Option.option_map, Option.option_map_or}
-use Rattle.vs_outside.specs.Host.{HostContents, Stream, accept_answer, after_accept, after_close, after_read, after_write, called}
-use Rattle.vs_outside.specs.{Host.{give_bytes, next_bytes, stream_at, take_bytes, waits}, HostProgram.{after_client, client_stream}}
-use Rattle.vs_outside.{specs.HostBytes.after_line, proofs.Frames.accepts_waiting}
+use Rattle.std.proofs.Common.{◌≡◌, ◌≢◌, ℕ, Bool, true, false, cond, List, [], ◌∷◌, ◌++◌, take, get_or, ◌+◌, length, Contains, Option, Some, None, refl, sym, ap, subst, ◌∙◌, ◌⊎◌}
+use Rattle.std.{proofs.{Common.{inl, inr}, lemmas.List.{append-nil, Elements.{All-push, All-weaker}, Quantifiers.all_pairs_push}}, specs.{List.All, Option.option_map}}
+use Rattle.std.specs.Option.{option_map_or}
+use Rattle.vs_outside.specs.Host.{HostContents, Stream, accept_answer, after_accept, after_close, after_read, after_write, called, give_bytes, next_bytes, stream_at, take_bytes}
+use Rattle.vs_outside.{specs.{Host.waits, HostProgram.{after_client, client_stream}, HostBytes.after_line}, proofs.Frames.accepts_waiting}
 use Rattle.vs_conn.specs.declared.end.State.TheVariants.{Asked}
-use Rattle.vs_device_parts.specs.{Connections.cut_off, State.DeviceConnection, State.DeviceEntry}
-use Rattle.vs_flow.specs.{Connection.Connection, Table.IsTable, Table.Table, Table.with_value, Table.without, declared.flow.Flow.Flow}
-use Rattle.vs_page.specs.{Fair.number_of, Fair.payload_got, Fair.payload_put, Log.Device, Log.Log}
+use Rattle.vs_device_parts.specs.{Connections.cut_off, State.{DeviceConnection, DeviceEntry}}
+use Rattle.vs_flow.specs.{Connection.Connection, Table.{IsTable, Table, with_value, without}, declared.flow.Flow.Flow}
+use Rattle.vs_page.specs.{Fair.{number_of, payload_got, payload_put}, Log.{Device, Log}}
 use Rattle.vs_proxy_parts.specs.State.{Handshake}
 use Rattle.vs_uds.specs.{Reading.is_decided, declared.connect.TheConstants.CONNECT_MAX}
-use Rattle.laws_tables.specs.{Drains.{Drains, only_on}, Ends.is_new}
-use Rattle.laws_tables.proofs.{Changes.others_left, Logs.none_on_any, Goes.drops}
-use Rattle.laws_device.specs.Carried.Streamed.{AreCounted, AreLabelled, AreStreamed, IsJoined, IsLabelled, IsStreamed, Seen}
-use Rattle.laws_device.specs.Carried.Streamed.{client_waits, connection_of, count_in, gives, has_line, line_for, look, reading, seen, seen_as, taken_of}
-use Rattle.laws_device.proofs.Carried.{Streamed.one_seen, Tabled.stream_stays}
-use Rattle.laws_device.proofs.Carried.Streamed.{is_or_not, join_moves, join_of, moved_streamed, no_entry, one_streamed, recounted, recounted_labels}
-use Rattle.laws_device.proofs.Carried.{Streamed.same_streamed, Streamed.unlabelled_streamed, Lines.after_longer}
-use Rattle.laws_device.proofs.Carried.Hosts.{changed_seen, counts_more, counts_still, new_look, none_there, others_look, others_seen, there, unseen_none}
+use Rattle.laws_tables.{specs.{Drains.{Drains, only_on}, Ends.is_new}, proofs.{Changes.others_left, Logs.none_on_any, Goes.drops}}
+use Rattle.laws_device.specs.Carried.Streamed.{AreCounted, AreLabelled, AreStreamed, IsJoined, IsLabelled, IsStreamed, Seen, client_waits, connection_of, count_in, gives, has_line}
+use Rattle.laws_device.{specs.Carried.Streamed.{line_for, look, reading, seen, seen_as, taken_of}, proofs.Carried.Streamed.{one_seen, is_or_not, join_moves, join_of}}
+use Rattle.laws_device.proofs.Carried.{Streamed.{moved_streamed, no_entry, one_streamed, recounted, recounted_labels, same_streamed, unlabelled_streamed}, Tabled.stream_stays}
+use Rattle.laws_device.proofs.Carried.{Lines.after_longer, Hosts.{changed_seen, counts_more, counts_still, new_look, none_there, others_look, others_seen, there, unseen_none}}
 use Rattle.vs_outside.specs.declared.host_net.Accepted.TheVariants as accepted
 use Rattle.vs_outside.specs.declared.host_net.StreamRead.TheVariants as read
 use Rattle.vs_outside.specs.declared.host_net.StreamState.TheVariants as state

@@ -1,16 +1,12 @@
 -- What each call of the proxy and each program changes of a host's streams, as they are seen.
-use Rattle.std.proofs.Common.{◌≡◌, ◌≢◌, ℕ, zero, suc, ◌+◌, ◌-◌, ◌==◌, not, nat_lt, Bool, true, false, cond, List, [], ◌∷◌, ◌++◌, length}
-use Rattle.std.proofs.Common.{slice_get, slice_set, Contains, Option, Some, None, refl, sym, ap, subst, ◌∙◌, arith, length-append, option_and_then, ◌≤◌}
-use Rattle.std.specs.{List.filter, List.prefix_len, Option.option_map, Option.option_map_or}
-use Rattle.std.proofs.lemmas.{Bool.Decides.nat_tests, List.append-nil, List.Elements.filter-append}
-use Rattle.std.proofs.lemmas.List.Elements.{filter_agree}
-use Rattle.vs_flow.{specs.Connection.Connection, specs.Flow.same_flow, specs.declared.flow.Flow.Flow}
-use Rattle.vs_outside.specs.{Host.{HostContents, Stream, stream_at, with_stream}, HostBytes.is_labelled, HostBytes.labelled_with}
-use Rattle.vs_outside.specs.HostBytes.{stream_of}
-use Rattle.vs_outside.proofs.Frames.{keeps_others, stream_at-with_stream}
+use Rattle.std.proofs.Common.{◌≡◌, ◌≢◌, ℕ, zero, suc, ◌+◌, ◌-◌, ◌==◌, not, nat_lt, Bool, true, false, cond, List, [], ◌∷◌, ◌++◌, length, slice_get, slice_set, Contains, Option}
+use Rattle.std.proofs.{Common.{Some, None, refl, sym, ap, subst, ◌∙◌, arith, length-append, option_and_then, ◌≤◌}, lemmas.{Bool.Decides.nat_tests, List.append-nil}}
+use Rattle.std.{proofs.lemmas.List.Elements.{filter-append, filter_agree}, specs.{List.{filter, prefix_len}, Option.{option_map, option_map_or}}}
+use Rattle.vs_flow.specs.{Connection.Connection, Flow.same_flow, declared.flow.Flow.Flow}
+use Rattle.vs_outside.{specs.{Host.{HostContents, Stream, stream_at, with_stream}, HostBytes.{is_labelled, labelled_with, stream_of}}, proofs.Frames.keeps_others}
+use Rattle.vs_outside.proofs.Frames.{stream_at-with_stream}
 use Rattle.vs_page.proofs.Flows.{same_self}
-use Rattle.laws_device.specs.Carried.Streamed.{Seen, connection_in, count_in, look, number_in, seen, seen_as}
-use Rattle.laws_device.proofs.Carried.Streamed.{is_or_not}
+use Rattle.laws_device.{specs.Carried.Streamed.{Seen, connection_in, count_in, look, number_in, seen, seen_as}, proofs.Carried.Streamed.is_or_not}
 
 -- The stream of an id as it is seen.
 pub record IsThere (id : ℕ) (c : HostContents) (s : Seen) : Type 0 where

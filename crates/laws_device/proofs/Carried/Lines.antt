@@ -1,7 +1,6 @@
 -- What stands behind the first line of some bytes.
-use Rattle.std.proofs.Common.{◌≡◌, ℕ, suc, ◌+◌, ◌==◌, ◌||◌, not, nat_lt, Bool, true, false, cond, List, [], ◌∷◌, ◌++◌, length, drop, Some}
-use Rattle.std.proofs.Common.{None, refl, sym, ap, subst, ◌∙◌, arith}
-use Rattle.std.{specs.List.prefix_len, specs.Option.option_map_or, proofs.lemmas.Bool.Decides.nat_tests}
+use Rattle.std.proofs.Common.{◌≡◌, ℕ, suc, ◌+◌, ◌==◌, ◌||◌, not, nat_lt, Bool, true, false, cond, List, [], ◌∷◌, ◌++◌, length, drop, Some, None, refl, sym, ap, subst, ◌∙◌, arith}
+use Rattle.std.{proofs.lemmas.Bool.Decides.nat_tests, specs.{List.prefix_len, Option.option_map_or}}
 use Rattle.vs_outside.specs.HostBytes.{after_line}
 use Rattle.vs_page.specs.Fair.{IsPrefixOf}
 use Rattle.laws_device.specs.Carried.Streamed.{has_line}

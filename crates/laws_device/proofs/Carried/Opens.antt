@@ -1,32 +1,26 @@
 -- What the host's streams took and gave, as a line is read and a connection opens.
-use Rattle.std.proofs.Common.{◌≡◌, ◌≢◌, ℕ, zero, suc, ◌+◌, ◌≤◌, ◌==◌, min, Bool, true, false, cond, List, [], ◌∷◌, ◌++◌, length, take}
-use Rattle.std.proofs.Common.{get_or, Contains, Option, Some, None, is_some, refl, sym, ap, subst, ◌∙◌, arith}
-use Rattle.std.proofs.lemmas.{Bool.Decides.nat_tests, Option.get_or_from_slice_get, Option.slice_get_within}
-use Rattle.std.specs.{List.All, List.find, Option.option_map, Option.option_map_or}
+use Rattle.std.proofs.Common.{◌≡◌, ◌≢◌, ℕ, zero, suc, ◌+◌, ◌≤◌, ◌==◌, min, Bool, true, false, cond, List, [], ◌∷◌, ◌++◌, length, take, get_or, Contains, Option, Some, None}
+use Rattle.std.{proofs.{Common.{is_some, refl, sym, ap, subst, ◌∙◌, arith}, lemmas.{Bool.Decides.nat_tests, Option.{get_or_from_slice_get, slice_get_within}}}, specs.List.All}
+use Rattle.std.specs.{List.find, Option.{option_map, option_map_or}}
 use Rattle.vs_conn.specs.End.{answering, asked}
-use Rattle.vs_device_parts.specs.{Connections.new_connection, State.DeviceConnection, State.DeviceEntry}
-use Rattle.vs_flow.specs.{Connection.Connection, Flow.host_flow, Flow.is_assigned, Flow.same_flow, declared.flow.Flow.Flow}
-use Rattle.vs_flow.specs.Table.{IsTable, Table, entry_of, next_entry, with_entry}
-use Rattle.vs_flow.proofs.{Entries.found_passes, Entries.none_found, Entries.same_flow_true, Lookups.find_place}
+use Rattle.vs_device_parts.specs.{Connections.new_connection, State.{DeviceConnection, DeviceEntry}}
+use Rattle.vs_flow.specs.{Connection.Connection, Flow.{host_flow, is_assigned, same_flow}, declared.flow.Flow.Flow, Table.{IsTable, Table, entry_of, next_entry, with_entry}}
+use Rattle.vs_flow.proofs.{Entries.{found_passes, none_found, same_flow_true}, Lookups.find_place}
 use Rattle.vs_header.specs.declared.Header.{Header}
 use Rattle.laws_history.specs.{History.{Got, gots, puts}, Packets.{has, is_clean_rst, is_request}, declared.packet.Packet.Packet}
 use Rattle.vs_limits.specs.declared.TheConstants.{BUF_ALLOC}
-use Rattle.vs_outside.specs.Host.{HostContents, Stream, after_close, after_dial, after_label, after_read, called, dialed_stream, fails_now}
-use Rattle.vs_outside.specs.Host.{has_label, next_bytes, read_answer, read_of, stream_at, take_bytes, with_label_call}
-use Rattle.vs_outside.{specs.HostBytes.after_line, proofs.Frames.keeps_others, proofs.Frames.stream_at-with_stream}
-use Rattle.vs_page.specs.Fair.{IsFairLog, current, number_of, payload_got, payload_of, payload_put}
-use Rattle.vs_page.specs.{Log.{Device, Log, and_then, flow_got, history_of}, declared.log.LogEntry.TheVariants.GotPacket}
-use Rattle.vs_page.proofs.{Flows.same_self, Present.present_got}
-use Rattle.vs_proxy_parts.specs.{Handshakes.with_line, Handshakes.without_stream, State.Handshake}
+use Rattle.vs_outside.specs.Host.{HostContents, Stream, after_close, after_dial, after_label, after_read, called, dialed_stream, fails_now, has_label, next_bytes, read_answer}
+use Rattle.vs_outside.{specs.{Host.{read_of, stream_at, take_bytes, with_label_call}, HostBytes.after_line}, proofs.Frames.{keeps_others, stream_at-with_stream}}
+use Rattle.vs_page.specs.{Fair.{IsFairLog, current, number_of, payload_got, payload_of, payload_put}, Log.{Device, Log, and_then, flow_got, history_of}}
+use Rattle.vs_page.{specs.declared.log.LogEntry.TheVariants.GotPacket, proofs.{Flows.same_self, Present.present_got}}
+use Rattle.vs_proxy_parts.specs.{Handshakes.{with_line, without_stream}, State.Handshake}
 use Rattle.vs_uds.specs.{OkLine.ok_text, Reading.is_decided, declared.connect.TheConstants.CONNECT_MAX}
-use Rattle.laws_tables.{specs.Drains.Drains, proofs.Adding.got_nothing, proofs.Adding.put_over_got}
-use Rattle.laws_device.specs.Carried.Streamed.{AreCounted, AreLines, AreStreamed, IsCounted, IsStreamed, Seen, connection_of, count_in}
-use Rattle.laws_device.specs.Carried.Streamed.{has_line, line_for, look, reading, seen, seen_as}
-use Rattle.laws_device.proofs.Carried.Hosts.{changed_seen, counts_still, counts_then, here_then, new_there, none_there, others_seen, others_then}
-use Rattle.laws_device.proofs.Carried.{Hosts.none_labelled, Hosts.others_there, Hosts.there, HostCalls.closed_host, HostCalls.some_seen}
-use Rattle.laws_device.proofs.Carried.Counted.{IsAsked, counted_got, number_elsewhere, request_asks}
-use Rattle.laws_device.proofs.Carried.{Streamed.{one_streamed, opened_streamed, recounted}, Hands.with_all}
-use Rattle.laws_device.proofs.Carried.Hands.{with_apart, without_all, without_none, without_pairs}
+use Rattle.laws_tables.{specs.Drains.Drains, proofs.Adding.{got_nothing, put_over_got}}
+use Rattle.laws_device.specs.Carried.Streamed.{AreCounted, AreLines, AreStreamed, IsCounted, IsStreamed, Seen, connection_of, count_in, has_line, line_for, look, reading, seen}
+use Rattle.laws_device.{specs.Carried.Streamed.seen_as, proofs.Carried.Hosts.{changed_seen, counts_still, counts_then, here_then, new_there, none_there, others_seen, others_then}}
+use Rattle.laws_device.proofs.Carried.{Hosts.{none_labelled, others_there, there}, HostCalls.{closed_host, some_seen}, Counted.{IsAsked, counted_got, number_elsewhere}}
+use Rattle.laws_device.proofs.Carried.{Counted.request_asks, Streamed.{one_streamed, opened_streamed, recounted}, Hands.{with_all, with_apart, without_all, without_none}}
+use Rattle.laws_device.proofs.Carried.Hands.{without_pairs}
 use Rattle.vs_header.specs.declared.Kind.TheVariants as kind
 use Rattle.vs_outside.specs.declared.host_net.Dialed.TheVariants as dialed
 use Rattle.vs_outside.specs.declared.host_net.StreamRead.TheVariants as read

@@ -1,21 +1,18 @@
 -- What the host's streams took and gave, through each change of them.
-use Rattle.std.proofs.Common.{◌≡◌, ◌≢◌, ℕ, ◌+◌, ◌≤◌, ◌==◌, Bool, true, false, cond, List, [], ◌∷◌, ◌++◌, get_or, Contains, Option, Some, None}
-use Rattle.std.proofs.Common.{refl, sym, ap, subst, ◌∙◌, append_assoc, arith, ◌⊎◌, inl, inr}
-use Rattle.std.proofs.lemmas.List.Elements.{All-contains, All-push, All-weaker, Contains-push_cases}
-use Rattle.std.{proofs.lemmas.Bool.Decides.nat_tests, proofs.lemmas.List.append-nil, specs.List.All}
+use Rattle.std.proofs.Common.{◌≡◌, ◌≢◌, ℕ, ◌+◌, ◌≤◌, ◌==◌, Bool, true, false, cond, List, [], ◌∷◌, ◌++◌, get_or, Contains, Option, Some, None, refl, sym, ap, subst, ◌∙◌}
+use Rattle.std.proofs.{Common.{append_assoc, arith, ◌⊎◌, inl, inr}, lemmas.List.{Elements.{All-contains, All-push, All-weaker, Contains-push_cases}, append-nil}}
+use Rattle.std.{proofs.lemmas.Bool.Decides.nat_tests, specs.List.All}
 use Rattle.vs_conn.specs.declared.end.State.TheVariants.{Asked}
 use Rattle.vs_device_parts.specs.State.{DeviceConnection, DeviceEntry}
-use Rattle.vs_flow.specs.Table.{IsTable, Table, next_entry, with_entry, with_value, without}
-use Rattle.vs_flow.{specs.Connection.Connection, specs.Flow.same_flow, specs.declared.flow.Flow.Flow}
+use Rattle.vs_flow.specs.{Table.{IsTable, Table, next_entry, with_entry, with_value, without}, Connection.Connection, Flow.same_flow, declared.flow.Flow.Flow}
 use Rattle.vs_flow.proofs.Entries.{same_flow_false, same_flow_true}
-use Rattle.vs_page.specs.{Fair.IsPrefixOf, Fair.number_of, Fair.payload_got, Fair.payload_put, Log.Device, Log.Log}
+use Rattle.vs_page.specs.{Fair.{IsPrefixOf, number_of, payload_got, payload_put}, Log.{Device, Log}}
 use Rattle.vs_proxy_parts.specs.State.{Handshake}
-use Rattle.laws_tables.specs.{Drains.{Drains, is_same, only_on}, Ends.is_new}
-use Rattle.laws_tables.proofs.{Changes.{changed, others_left}, Logs.{longer, none_on_any, not_on, same_connection, shorter, there_on}}
-use Rattle.laws_device.specs.Carried.Streamed.{AreCounted, AreLabelled, AreLines, AreStreamed, HasLabel, IsJoined, IsLabelled, Seen}
-use Rattle.laws_device.specs.Carried.Streamed.{client_waits, connection_of, gives, line_for, reading, taken_of}
-use Rattle.laws_device.proofs.Carried.{Lines.line_longer, Tabled.{stream_comes, stream_kept, stream_now, stream_other, stream_stays}}
-use Rattle.laws_device.specs.Named.Streams.{stream_under}
+use Rattle.laws_tables.{specs.{Drains.{Drains, is_same, only_on}, Ends.is_new}, proofs.{Changes.{changed, others_left}, Logs.{longer, none_on_any, not_on, same_connection}}}
+use Rattle.laws_tables.proofs.Logs.{shorter, there_on}
+use Rattle.laws_device.specs.Carried.Streamed.{AreCounted, AreLabelled, AreLines, AreStreamed, HasLabel, IsJoined, IsLabelled, Seen, client_waits, connection_of, gives, line_for}
+use Rattle.laws_device.{specs.{Carried.Streamed.{reading, taken_of}, Named.Streams.stream_under}, proofs.Carried.{Lines.line_longer, Tabled.{stream_comes, stream_kept}}}
+use Rattle.laws_device.proofs.Carried.Tabled.{stream_now, stream_other, stream_stays}
 
 some_inj : {X : Type 0} (x y : X) → ◌≡◌ {A = Option X} (Some x) (Some y) → x ≡ y
 some_inj x y is = cc

@@ -1,13 +1,11 @@
 -- The streams of a table's connections, as one of these changes, leaves or comes.
-use Rattle.std.proofs.Common.{◌≡◌, ◌≢◌, ℕ, zero, suc, ◌<◌, ◌==◌, Bool, true, false, cond, List, [], ◌∷◌, length, map, Contains, Option}
-use Rattle.std.proofs.Common.{Some, None, refl, sym, ap, ◌∙◌, arith, slice_index_or}
-use Rattle.std.{proofs.lemmas.Bool.Decides.nat_tests, specs.Option.option_map, specs.Option.option_or}
+use Rattle.std.proofs.Common.{◌≡◌, ◌≢◌, ℕ, zero, suc, ◌<◌, ◌==◌, Bool, true, false, cond, List, [], ◌∷◌, length, map, Contains, Option, Some, None, refl, sym, ap, ◌∙◌, arith}
+use Rattle.std.{proofs.{Common.slice_index_or, lemmas.Bool.Decides.nat_tests}, specs.Option.{option_map, option_or}}
 use Rattle.vs_device_parts.specs.State.{DeviceConnection, DeviceEntry}
-use Rattle.vs_flow.specs.Table.{IsTable, Table, entry_under, revalued, value_under, with_entry, with_value, without, next_entry}
-use Rattle.vs_flow.{specs.declared.flow.Flow.Flow, proofs.Entries.find_none, proofs.Lookups.entry_under-with_entry}
+use Rattle.vs_flow.specs.{Table.{IsTable, Table, entry_under, revalued, value_under, with_entry, with_value, without, next_entry}, declared.flow.Flow.Flow}
+use Rattle.vs_flow.proofs.{Entries.find_none, Lookups.entry_under-with_entry}
 use Rattle.laws_tables.proofs.Changes.{under_slot}
-use Rattle.laws_device.specs.Named.Streams.{stream_under}
-use Rattle.laws_device.proofs.Named.Tables.{joined_in, value_after, value_by_entry, value_in, value_without}
+use Rattle.laws_device.{specs.Named.Streams.stream_under, proofs.Named.Tables.{joined_in, value_after, value_by_entry, value_in, value_without}}
 
 module _ (t : Table DeviceConnection) (sound : IsTable t) (e : DeviceEntry) (is : Contains t.entries e) where
   value_here : value_under t e.slot ≡ Some e.value

@@ -1,16 +1,12 @@
 -- Streams that are closed: by a timeout, by a packet that ends a connection, by a failed call, by a reset.
-use Rattle.laws_device.{specs.Walk.Seen.Seen, proofs.Walk.Serving.Closes, proofs.Walk.Serving.IsIn}
+use Rattle.laws_device.{specs.{Walk.Seen.Seen, Named.{Split.{CanReach, is_quiet}, Streams.{FindsStreams, HasStreams, joined_stream}}}, proofs.Walk.Serving.{Closes, IsIn}}
+use Rattle.laws_device.proofs.Named.{Tables.{IsEntry, has_changed, has_closed, has_left, has_left_closing, some_after, some_from, stream_by_entry}, Keeping.{asking, Keeps}}
 use Rattle.vs_ring_port.specs.declared.device_ring.Chain.{Chain}
-use Rattle.laws_device.proofs.Named.Tables.{IsEntry, has_changed, has_closed, has_left, has_left_closing, some_after, some_from}
-use Rattle.laws_device.specs.Named.{Split.CanReach, Split.is_quiet, Streams.FindsStreams, Streams.HasStreams, Streams.joined_stream}
-use Rattle.laws_device.proofs.Named.{Keeping.asking, Keeping.Keeps, Tables.stream_by_entry}
-use Rattle.std.proofs.Common.{◌≡◌, ℕ, true, false, List, Option, None, refl, sym, subst, ◌∙◌}
-use Rattle.std.specs.Option.{ForSome}
+use Rattle.std.{proofs.Common.{◌≡◌, ℕ, true, false, List, Option, None, refl, sym, subst, ◌∙◌}, specs.Option.ForSome}
 use Rattle.vs_flow.specs.Table.{Table, IsTable, with_value, without}
 use Rattle.vs_outside.specs.Host.{HostContents, IsOpen, after_close}
-use Rattle.vs_device_parts.specs.Calls.{Call, CloseStream, Situation, Allows}
-use Rattle.vs_device_parts.specs.Connections.{after_leaving, cut_off, stream_closed, with_connection}
-use Rattle.vs_device_parts.specs.{State.DeviceConnection, State.DeviceEntry, State.DeviceState, Streams.tick_of, Streams.tick_slot}
+use Rattle.vs_device_parts.specs.{Calls.{Call, CloseStream, Situation, Allows}, Connections.{after_leaving, cut_off, stream_closed, with_connection}, State.DeviceConnection}
+use Rattle.vs_device_parts.specs.{State.{DeviceEntry, DeviceState}, Streams.{tick_of, tick_slot}}
 use Rattle.laws_device.proofs.Walk.Serving as walked
 
 -- no call on the ring, and none on the host that fails, changes what is open

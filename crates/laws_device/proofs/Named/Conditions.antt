@@ -1,10 +1,8 @@
 -- What a call asks for, of the host and of the ring apart.
-use Rattle.std.proofs.{Common.◌≡◌, Common.◌==◌, Common.true, Common.arith, lemmas.Bool.Decides.nat_tests}
+use Rattle.std.proofs.{Common.{◌≡◌, ◌==◌, true, arith}, lemmas.Bool.Decides.nat_tests}
 use Rattle.vs_ring_port.specs.Contents.{Write, Return}
-use Rattle.vs_device_parts.specs.Calls.{Call, Ring, Accept, Dial, Situation}
-use Rattle.vs_device_parts.specs.{Calls.DeviceTree, Calls.Allows, Playing.CanMake, Playing.MayRun}
-use Rattle.laws_device.specs.Named.Split.{CanPut, CanReach, MayPut, MayReach, is_quiet}
-use Rattle.laws_device.proofs.Named.Keeping.{may_both}
+use Rattle.vs_device_parts.specs.{Calls.{Call, Ring, Accept, Dial, Situation, DeviceTree, Allows}, Playing.{CanMake, MayRun}}
+use Rattle.laws_device.{specs.Named.Split.{CanPut, CanReach, MayPut, MayReach, is_quiet}, proofs.Named.Keeping.may_both}
 
 -- a call that puts nothing asks nothing of the ring
 pub quiet_can : (call : Call) (s : Situation) → is_quiet call ≡ true → CanReach call s → CanMake call s

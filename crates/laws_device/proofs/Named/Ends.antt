@@ -1,8 +1,7 @@
 -- An end that is over stays so.
 use Rattle.std.proofs.Common.{◌≡◌, ℕ, Bool, true, false, cond, refl}
-use Rattle.vs_conn.specs.End.{ConnectionEnd, is_drained, settled_state, shut_credit, with_payload_forwarded, with_shut}
-use Rattle.vs_conn.specs.declared.end.State.TheVariants.{Live, Ended}
-use Rattle.vs_conn.specs.{Shut.joined, Shut.shut_of, declared.end.State.State, declared.shut.Shut.Shut}
+use Rattle.vs_conn.specs.{End.{ConnectionEnd, is_drained, settled_state, shut_credit, with_payload_forwarded, with_shut}, declared.end.State.{TheVariants.{Live, Ended}, State}}
+use Rattle.vs_conn.specs.{declared.shut.Shut.Shut, Shut.{joined, shut_of}}
 use Rattle.vs_credit.specs.{Credit.with_forwarded, declared.Credit.Credit}
 use Rattle.vs_device_parts.specs.Receiving.{may_read}
 

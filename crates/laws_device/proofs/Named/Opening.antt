@@ -1,25 +1,18 @@
 -- A new device, connections that clients ask for, and transport resets.
-use Rattle.std.proofs.Common.{◌≡◌, ℕ, ◌^◌, ◌≤◌, true, List, [], Option, Some, None, Result, Ok, Err, refl, sym, subst, ◌∙◌, arith}
-use Rattle.std.specs.Option.{ForSome}
+use Rattle.std.{proofs.Common.{◌≡◌, ℕ, ◌^◌, ◌≤◌, true, List, [], Option, Some, None, Result, Ok, Err, refl, sym, subst, ◌∙◌, arith}, specs.Option.ForSome}
 use Rattle.vs_conn.specs.End.{asked}
 use Rattle.vs_contents.specs.CallTree.{Done, Ask, bind, for_each}
-use Rattle.vs_flow.specs.{declared.flow.Flow.Flow, declared.table.TableFault.TableFault}
-use Rattle.vs_flow.specs.Table.{Table, IsTable, emptied, entry_under, refusal, slots, with_entry, with_value}
+use Rattle.vs_flow.specs.{declared.{flow.Flow.Flow, table.TableFault.TableFault}, Table.{Table, IsTable, emptied, entry_under, refusal, slots, with_entry, with_value}}
 use Rattle.vs_flow.proofs.Tables.{accepted, with_entry_sound, with_value_sound}
 use Rattle.vs_header.specs.declared.Kind.TheVariants.{Stream}
 use Rattle.vs_limits.specs.declared.TheConstants.{BUF_ALLOC}
-use Rattle.vs_outside.specs.Host.{HostContents, IsOpen, after_close, after_label}
-use Rattle.vs_outside.proofs.Frames.{open-after_label, others-after_label}
+use Rattle.vs_outside.{specs.Host.{HostContents, IsOpen, after_close, after_label}, proofs.Frames.{open-after_label, others-after_label}}
 use Rattle.vs_ring_port.specs.{Contents.PublishCid, declared.failure.Failure.Failure}
-use Rattle.vs_device_parts.specs.{State.{DeviceConnection, DeviceState}, Streams.closing, Calls.{Call, CloseStream, Label, Ring, Situation}}
-use Rattle.vs_device_parts.specs.{Calls.{DeviceTree, Allows}, Connections.{new_connection, stream_closed, with_client}, Turns.after_reset}
-use Rattle.vs_device_parts.specs.{State.new_device, Turns.close_slot, Turns.open_of, Turns.reset_of}
-use Rattle.laws_device.specs.Named.Streams.{AreOpen, FindsFree, FindsStreams, HasStreams, IsFree, JoinsStreams}
-use Rattle.laws_device.specs.Named.Split.{CanReach, is_quiet}
-use Rattle.laws_device.proofs.Walk.Keeping.{keeps_if, keeps_some}
-use Rattle.laws_device.proofs.Named.{Keeping.Keeps, Keeping.asking, Keeping.keeps_each, Keeping.keeps_then, Writing.all_stay}
-use Rattle.laws_device.proofs.Named.Tables.{IsEntry, closed_at, entry_by_slot, fewer, has_added, some_after, some_from, stream_by_entry}
-use Rattle.laws_device.proofs.Named.Tables.{stream_changed, stream_closed_under, value_by_entry}
+use Rattle.vs_device_parts.specs.{State.{DeviceConnection, DeviceState, new_device}, Streams.closing, Calls.{Call, CloseStream, Label, Ring, Situation, DeviceTree, Allows}}
+use Rattle.vs_device_parts.specs.{Connections.{new_connection, stream_closed, with_client}, Turns.{after_reset, close_slot, open_of, reset_of}}
+use Rattle.laws_device.{specs.Named.{Streams.{AreOpen, FindsFree, FindsStreams, HasStreams, IsFree, JoinsStreams}, Split.{CanReach, is_quiet}}, proofs.Walk.Keeping.keeps_if}
+use Rattle.laws_device.proofs.{Walk.Keeping.keeps_some, Named.{Keeping.{Keeps, asking, keeps_each, keeps_then}, Writing.all_stay, Tables.{IsEntry, closed_at, entry_by_slot}}}
+use Rattle.laws_device.proofs.Named.Tables.{fewer, has_added, some_after, some_from, stream_by_entry, stream_changed, stream_closed_under, value_by_entry}
 
 -- No connection, no stream.
 pub empty_sound : (room given : ℕ) → given ≤ 2 ^ 64 → IsTable {T = DeviceConnection} (record { room = room; entries = []; given = given })

@@ -1,23 +1,17 @@
 -- Packets to the guest, and the reads of the host's streams that give their payload.
 use Rattle.vs_flow.specs.Table.{with_value, Table}
-use Rattle.laws_device.proofs.Walk.{Serving.AfterEvent, Serving.AfterRead, Serving.Closes, Serving.Fills, Serving.IsIn, Keeping.Asking}
-use Rattle.laws_device.proofs.Named.Tables.{has_moved, some_after, some_from, stream_by_entry, value_by_entry}
-use Rattle.laws_device.specs.Named.{Split.CanReach, Streams.FindsStreams, Streams.HasStreams}
-use Rattle.laws_device.proofs.Named.{Closing.D, Closing.closes, Closing.stays, Keeping.asking, Keeping.Keeps, Ends.reads_not}
-use Rattle.laws_device.proofs.Named.{Ends.shut_over, Writing.all_stay, Writing.finds_changed}
-use Rattle.std.proofs.Common.{◌≡◌, ℕ, Bool, true, false, List, [], ◌∷◌, length, refl}
-use Rattle.std.specs.Option.{ForSome}
-use Rattle.vs_conn.specs.End.{paid_of, wanting_credit, with_payload_sent}
-use Rattle.vs_conn.{specs.Headers.payload_header, proofs.Frames.paid_over}
+use Rattle.laws_device.proofs.{Walk.{Serving.{AfterEvent, AfterRead, Closes, Fills, IsIn}, Keeping.Asking}, Named.Tables.{has_moved, some_after, some_from, stream_by_entry}}
+use Rattle.laws_device.proofs.Named.{Tables.value_by_entry, Closing.{D, closes, stays}, Keeping.{asking, Keeps}, Ends.{reads_not, shut_over}, Writing.{all_stay, finds_changed}}
+use Rattle.laws_device.specs.Named.{Split.CanReach, Streams.{FindsStreams, HasStreams}}
+use Rattle.std.{proofs.Common.{◌≡◌, ℕ, Bool, true, false, List, [], ◌∷◌, length, refl}, specs.Option.ForSome}
+use Rattle.vs_conn.{specs.{End.{paid_of, wanting_credit, with_payload_sent}, Headers.payload_header}, proofs.Frames.paid_over}
 use Rattle.vs_credit.specs.Credit.{free_of}
 use Rattle.vs_header.specs.declared.Header.{Header}
-use Rattle.vs_outside.proofs.Frames.{open-after_read, others-after_read}
-use Rattle.vs_outside.specs.{Host.HostContents, Host.IsOpen, Host.after_read, declared.host_net.StreamRead.StreamRead}
+use Rattle.vs_outside.{proofs.Frames.{open-after_read, others-after_read}, specs.{Host.{HostContents, IsOpen, after_read}, declared.host_net.StreamRead.StreamRead}}
 use Rattle.vs_replies.specs.declared.Reply.{Reply}
 use Rattle.vs_ring_port.specs.declared.device_ring.{Chain.Chain, Next.Next}
-use Rattle.vs_device_parts.specs.Receiving.{Filling, fill_rx_of, may_read, pay_event_of, put_owed, put_reply_of, read_room, read_with_chain}
-use Rattle.vs_device_parts.specs.{Calls.ReadStream, Calls.Situation, Calls.Allows, Connections.after_shut, Connections.route_to_guest}
-use Rattle.vs_device_parts.specs.{Receiving.written, State.DeviceConnection, State.DeviceEntry, State.DeviceState}
+use Rattle.vs_device_parts.specs.{Receiving.{Filling, fill_rx_of, may_read, pay_event_of, put_owed, put_reply_of, read_room, read_with_chain, written}, Calls.ReadStream}
+use Rattle.vs_device_parts.specs.{Calls.{Situation, Allows}, Connections.{after_shut, route_to_guest}, State.{DeviceConnection, DeviceEntry, DeviceState}}
 use Rattle.laws_device.proofs.Walk.Serving as walked
 use Rattle.vs_outside.specs.declared.host_net.StreamRead.TheVariants as read
 use Rattle.vs_ring_port.specs.declared.device_ring.Next.TheVariants as next

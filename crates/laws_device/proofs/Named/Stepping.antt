@@ -1,15 +1,11 @@
 -- What each single step of the device keeps of the host's streams.
-use Rattle.laws_device.proofs.Walk.{Keeping.keeps_if, Keeping.keeps_some, Serving.by_slot}
-use Rattle.laws_device.proofs.Named.{Keeping.{asking, Keeps, keeps_then}, Receiving.{FillsFirst, Filled, keeps_put_owed}}
-use Rattle.laws_device.proofs.Named.{Receiving.{keeps_put_reply_of, keeps_read_with_chain}, Writing.{finds_changed, keeps_shut_write}}
-use Rattle.laws_device.proofs.Named.{Writing.keeps_write_pending, Closing.{keeps_tick_slot, stays}, Transmitting.keeps_on_packet}
-use Rattle.laws_device.specs.Named.{Split.CanReach, Split.is_quiet, Streams.FindsStreams}
-use Rattle.vs_ring_port.specs.{Contents.{Read, Take}, declared.queue.Queue.TheVariants.{Rx, Tx, Event}, declared.device_ring.Chain.Chain}
-use Rattle.vs_ring_port.specs.declared.{device_ring.Next.Next, queue.Queue.Queue}
-use Rattle.vs_device_parts.specs.Steps.{with_chain, chain_came, filling, puts_event, puts_owed, puts_payload, puts_reply, reads}
-use Rattle.vs_device_parts.specs.{Steps.{shuts_write, takes_chain, writes, writes_on, writing}, Calls.{DeviceTree, Call, Ring, Situation}}
-use Rattle.vs_device_parts.specs.{Calls.Allows, Receiving.{Filling, holding, hold, may_read, put_owed, put_reply, read_with_chain}}
-use Rattle.vs_device_parts.specs.{State.DeviceState, Streams.{shut_write, tick_slot, write_pending}, Transmitting.on_packet}
+use Rattle.laws_device.proofs.{Walk.{Keeping.{keeps_if, keeps_some}, Serving.by_slot}, Named.{Keeping.{asking, Keeps, keeps_then}, Receiving.{FillsFirst, Filled, keeps_put_owed}}}
+use Rattle.laws_device.proofs.Named.{Receiving.{keeps_put_reply_of, keeps_read_with_chain}, Writing.{finds_changed, keeps_shut_write, keeps_write_pending}, Closing.keeps_tick_slot}
+use Rattle.laws_device.{proofs.Named.{Closing.stays, Transmitting.keeps_on_packet}, specs.Named.{Split.{CanReach, is_quiet}, Streams.FindsStreams}}
+use Rattle.vs_ring_port.specs.{Contents.{Read, Take}, declared.{queue.Queue.{TheVariants.{Rx, Tx, Event}, Queue}, device_ring.{Chain.Chain, Next.Next}}}
+use Rattle.vs_device_parts.specs.Steps.{with_chain, chain_came, filling, puts_event, puts_owed, puts_payload, puts_reply, reads, shuts_write, takes_chain, writes, writes_on}
+use Rattle.vs_device_parts.specs.{Steps.writing, Calls.{DeviceTree, Call, Ring, Situation, Allows}, Receiving.{Filling, holding, hold, may_read, put_owed, put_reply}}
+use Rattle.vs_device_parts.specs.{Receiving.read_with_chain, State.DeviceState, Streams.{shut_write, tick_slot, write_pending}, Transmitting.on_packet}
 use Rattle.std.proofs.Common.{◌≡◌, ℕ, ◌-◌, ◌==◌, nat_lt, nat_le, Bool, true, List, length, Option, Some, None, refl}
 use Rattle.vs_contents.specs.CallTree.{Done, Ask, bind}
 use Rattle.vs_conn.specs.End.{wanting_credit}

@@ -1,29 +1,23 @@
 -- Where a stage ends for want of a page: the last load showed none that isn't taken.
-use Rattle.std.proofs.Common.{◌≡◌, ◌≢◌, ◌+◌, ◌-◌, ◌==◌, ℕ, zero, suc, nat_lt, nat_le, Bool, true, false, not, cond, List, [], ◌∷◌, length}
-use Rattle.std.proofs.Common.{Option, Some, None, Result, Err, refl, sym, ap, subst, ◌∙◌}
+use Rattle.std.proofs.Common.{◌≡◌, ◌≢◌, ◌+◌, ◌-◌, ◌==◌, ℕ, zero, suc, nat_lt, nat_le, Bool, true, false, not, cond, List, [], ◌∷◌, length, Option, Some, None, Result, Err, refl}
+use Rattle.std.proofs.Common.{sym, ap, subst, ◌∙◌}
 use Rattle.vs_conn.specs.{Headers.{owed_header, payload_header}, End.owes_of, declared.end.Owed.Owed}
-use Rattle.vs_contents.specs.CallTree.{Ask, Done, bind, for_each, while_up_to}
-use Rattle.vs_contents.{specs.Contents.Relates, proofs.Leads.leads_bind, proofs.Leads.leads_split}
+use Rattle.vs_contents.{specs.{CallTree.{Ask, Done, bind, for_each, while_up_to}, Contents.Relates}, proofs.Leads.{leads_bind, leads_split}}
 use Rattle.vs_credit.specs.Credit.{free_of}
 use Rattle.vs_flow.specs.Table.{entry_under, slots}
-use Rattle.vs_header.specs.{declared.Header.Header, Packet.header_bytes, Packet.header_of, declared.TheConstants.HEADER_LEN}
+use Rattle.vs_header.specs.{declared.{Header.Header, TheConstants.HEADER_LEN}, Packet.{header_bytes, header_of}}
 use Rattle.vs_outside.specs.declared.host_net.StreamRead.{StreamRead}
 use Rattle.vs_replies.specs.declared.Reply.{Reply}
-use Rattle.vs_ring_port.specs.{Contents.{DeviceAnswer, DeviceCall, Return, RingContents, Take, Write}, Known.{Known, StopsAt}}
-use Rattle.vs_ring_port.specs.{declared.queue.Queue.TheVariants.{Rx, Tx}, declared.{device_ring.Chain.Chain, device_ring.Next.Next}}
-use Rattle.vs_ring_port.specs.declared.{failure.Failure.Failure, queue.Queue.Queue}
-use Rattle.vs_ring_port.proofs.{Knowing.device_keeps, Stopping.NotFewer, Stopping.at_first, Stopping.grown_by, Stopping.stops_by}
+use Rattle.vs_ring_port.specs.{Contents.{DeviceAnswer, DeviceCall, Return, RingContents, Take, Write}, Known.{Known, StopsAt}, declared.queue.Queue.{TheVariants.{Rx, Tx}, Queue}}
+use Rattle.vs_ring_port.{specs.declared.{device_ring.{Chain.Chain, Next.Next}, failure.Failure.Failure}, proofs.{Knowing.device_keeps, Stopping.{NotFewer, at_first, grown_by}}}
+use Rattle.vs_ring_port.proofs.Stopping.{stops_by}
 use Rattle.vs_limits.specs.declared.TheConstants.{DEVICE_REPLIES, OWED_MAX}
-use Rattle.vs_device_parts.specs.Receiving.{Filling, after_paying, fill_rx_of, filled_of, hold, holding, may_read, put_on, put_owed}
-use Rattle.vs_device_parts.specs.Receiving.{put_packet, put_reply, put_reply_of, read_answered, read_room, read_stream, read_with_chain}
-use Rattle.vs_device_parts.specs.{Receiving.{reply_header, round_from, serve_slot, written}, Calls.{Allows, Call, DeviceTree, ReadStream}}
-use Rattle.vs_device_parts.specs.{Calls.{Ring, Situation}, Connections.{cut_off, route_to_guest, stream_closed, with_fault}}
-use Rattle.vs_device_parts.specs.{Transmitting.{on_header, on_next, on_packet, take_tx_of}, declared.answers.Filled.Filled}
-use Rattle.vs_device_parts.specs.{declared.answers.Taken.Taken, State.{DeviceConnection, DeviceEntry, DeviceState}, Steps.filling}
-use Rattle.vs_device_parts.specs.{Streams.{closing, leaving}, Playing.Runs}
-use Rattle.laws_device.specs.Named.Waiting.{filling_of}
-use Rattle.laws_device.proofs.Named.Keeping.{Keeps, asking, keeps_each, keeps_end, keeps_then}
-use Rattle.laws_device.proofs.Walk.Keeping.{keeps_if, keeps_some}
+use Rattle.vs_device_parts.specs.Receiving.{Filling, after_paying, fill_rx_of, filled_of, hold, holding, may_read, put_on, put_owed, put_packet, put_reply, put_reply_of}
+use Rattle.vs_device_parts.specs.{Receiving.{read_answered, read_room, read_stream, read_with_chain, reply_header, round_from, serve_slot, written}, Calls.{Allows, Call}}
+use Rattle.vs_device_parts.specs.{Calls.{DeviceTree, ReadStream, Ring, Situation}, Connections.{cut_off, route_to_guest, stream_closed, with_fault}, Transmitting.on_header}
+use Rattle.vs_device_parts.specs.{Transmitting.{on_next, on_packet, take_tx_of}, declared.answers.{Filled.Filled, Taken.Taken}, State.{DeviceConnection, DeviceEntry, DeviceState}}
+use Rattle.vs_device_parts.specs.{Steps.filling, Streams.{closing, leaving}, Playing.Runs}
+use Rattle.laws_device.{specs.Named.Waiting.filling_of, proofs.{Named.Keeping.{Keeps, asking, keeps_each, keeps_end, keeps_then}, Walk.Keeping.{keeps_if, keeps_some}}}
 use Rattle.vs_conn.specs.declared.end.Owed.TheVariants as owed
 use Rattle.vs_outside.specs.declared.host_net.StreamRead.TheVariants as read
 use Rattle.vs_ring_port.specs.declared.device_ring.Next.TheVariants as next

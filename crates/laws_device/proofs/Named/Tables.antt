@@ -1,15 +1,12 @@
 -- The streams of a table, and what a change of the table or of the host does to them.
-use Rattle.std.proofs.Common.{◌≡◌, ◌≢◌, ℕ, ◌==◌, Bool, true, false, cond, List, Option, Some, None, Contains, ◌⊎◌, inl, inr, refl, sym, ap}
-use Rattle.std.specs.Option.{ForSome, option_map, option_and_then, option_or}
-use Rattle.std.proofs.{Common.subst, Common.◌∙◌, Common.arith, lemmas.Bool.Decides.nat_tests}
+use Rattle.std.proofs.Common.{◌≡◌, ◌≢◌, ℕ, ◌==◌, Bool, true, false, cond, List, Option, Some, None, Contains, ◌⊎◌, inl, inr, refl, sym, ap, subst, ◌∙◌, arith}
+use Rattle.std.{proofs.lemmas.Bool.Decides.nat_tests, specs.Option.{ForSome, option_map, option_and_then, option_or}}
 use Rattle.vs_conn.specs.declared.end.State.TheVariants.{Ended}
 use Rattle.vs_contents.specs.Contents.{Exposes}
-use Rattle.vs_flow.specs.Table.{Table, IsTable, entry_under, value_under, next_entry, with_entry, with_value, without, revalued}
-use Rattle.vs_flow.proofs.Lookups.{entry_under-with_entry, entry_under-with_value, entry_under-without}
-use Rattle.vs_flow.{specs.declared.flow.Flow.Flow, proofs.Tables.with_value_sound, proofs.Tables.without_sound}
-use Rattle.vs_outside.specs.Host.{HostContents, IsOpen, after_close}
-use Rattle.vs_outside.proofs.Frames.{others-after_close, stays_open}
-use Rattle.vs_device_parts.{specs.State.DeviceConnection, specs.State.DeviceEntry, proofs.Under.has_slot}
+use Rattle.vs_flow.specs.{Table.{Table, IsTable, entry_under, value_under, next_entry, with_entry, with_value, without, revalued}, declared.flow.Flow.Flow}
+use Rattle.vs_flow.proofs.{Lookups.{entry_under-with_entry, entry_under-with_value, entry_under-without}, Tables.{with_value_sound, without_sound}}
+use Rattle.vs_outside.{specs.Host.{HostContents, IsOpen, after_close}, proofs.Frames.{others-after_close, stays_open}}
+use Rattle.vs_device_parts.{specs.State.{DeviceConnection, DeviceEntry}, proofs.Under.has_slot}
 use Rattle.laws_device.specs.Named.Streams.{AreOver, HasStreams, JoinsStreams, joined_stream, stream_under}
 
 -- the entry stands under its slot

@@ -1,24 +1,19 @@
 -- Packets of the guest.
-use Rattle.std.proofs.Common.{◌≡◌, ℕ, ◌+◌, Bool, true, false, cond, List, [], ◌++◌, length, Option, Some, None, IsSomeAnd, refl, sym, ap}
-use Rattle.std.{specs.Option.ForSome, proofs.Common.◌∙◌}
-use Rattle.laws_device.{specs.Walk.Seen.Seen, proofs.Walk.Keeping.Asking, proofs.Walk.Serving.by_flow, proofs.Walk.Taking.AfterDial, proofs.Walk.Taking.Takes}
-use Rattle.laws_device.proofs.Named.Tables.{has_added, has_moved, some_after}
-use Rattle.laws_device.proofs.Named.{Closing.D, Closing.closes, Closing.stays, Keeping.asking, Keeping.Keeps, Writing.finds_changed}
-use Rattle.laws_device.specs.Named.{Split.CanReach, Split.is_quiet, Streams.FindsStreams, Streams.HasStreams, Streams.joined_stream}
-use Rattle.vs_conn.{specs.End.answering, specs.End.end_after, proofs.Frames.got_over}
-use Rattle.vs_flow.proofs.Tables.{accepted, with_entry_sound}
-use Rattle.vs_flow.specs.{Table.Table, Table.entry_of, Table.has_place, Table.with_entry, declared.flow.Flow.Flow}
+use Rattle.std.{proofs.Common.{◌≡◌, ℕ, ◌+◌, Bool, true, false, cond, List, [], ◌++◌, length, Option, Some, None, IsSomeAnd, refl, sym, ap, ◌∙◌}, specs.Option.ForSome}
+use Rattle.laws_device.{specs.{Walk.Seen.Seen, Named.{Split.{CanReach, is_quiet}, Streams.{FindsStreams, HasStreams, joined_stream}}}, proofs.Walk.Keeping.Asking}
+use Rattle.laws_device.proofs.{Walk.{Serving.by_flow, Taking.{AfterDial, Takes}}, Named.{Tables.{has_added, has_moved, some_after}, Closing.{D, closes, stays}, Keeping.asking}}
+use Rattle.laws_device.proofs.Named.{Keeping.Keeps, Writing.finds_changed}
+use Rattle.vs_conn.{specs.End.{answering, end_after}, proofs.Frames.got_over}
+use Rattle.vs_flow.{proofs.Tables.{accepted, with_entry_sound}, specs.{Table.{Table, entry_of, has_place, with_entry}, declared.flow.Flow.Flow}}
 use Rattle.vs_header.specs.declared.{Header.Header, TheConstants.HEADER_LEN}
 use Rattle.vs_limits.specs.declared.TheConstants.{BUF_ALLOC}
-use Rattle.vs_outside.specs.Host.{HostContents, IsDialed, IsOpen, Stream, after_dial, dial_answer, dialed_stream, fails_now, is_listened}
-use Rattle.vs_outside.specs.{Host.stream_at, declared.host_net.Dialed.Dialed}
-use Rattle.vs_outside.proofs.Frames.{open-dialed, open_of, stream_at-after_dial}
+use Rattle.vs_outside.specs.Host.{HostContents, IsDialed, IsOpen, Stream, after_dial, dial_answer, dialed_stream, fails_now, is_listened, stream_at}
+use Rattle.vs_outside.{specs.declared.host_net.Dialed.Dialed, proofs.Frames.{open-dialed, open_of, stream_at-after_dial}}
 use Rattle.vs_page.specs.Log.{flow_to_host}
-use Rattle.vs_ring_port.specs.Contents.{Read, Return, Take}
-use Rattle.vs_ring_port.specs.declared.{device_ring.Chain.Chain, device_ring.Next.Next, queue.Queue.TheVariants.Tx}
+use Rattle.vs_ring_port.specs.{Contents.{Read, Return, Take}, declared.{device_ring.{Chain.Chain, Next.Next}, queue.Queue.TheVariants.Tx}}
 use Rattle.vs_uds.specs.{OkLine.ok_text, Path.path_of}
-use Rattle.vs_device_parts.specs.{Transmitting.{heard, on_packet, take_tx_of}, State.{DeviceConnection, DeviceEntry, DeviceState}}
-use Rattle.vs_device_parts.specs.{Calls.{Call, Dial, Ring, Situation, Allows}, Connections.{new_connection, with_connection}}
+use Rattle.vs_device_parts.specs.{Transmitting.{heard, on_packet, take_tx_of}, State.{DeviceConnection, DeviceEntry, DeviceState}, Calls.{Call, Dial, Ring, Situation, Allows}}
+use Rattle.vs_device_parts.specs.Connections.{new_connection, with_connection}
 use Rattle.laws_device.proofs.Walk.Taking as walked
 use Rattle.vs_header.specs.declared.Kind.TheVariants as kind
 use Rattle.vs_outside.specs.declared.host_net.Dialed.TheVariants as dialed

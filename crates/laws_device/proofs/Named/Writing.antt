@@ -1,17 +1,14 @@
 -- What is written to the host's streams.
-use Rattle.laws_device.proofs.Walk.Serving.{AfterWrite, IsIn, Writes}
-use Rattle.laws_device.proofs.Named.{Closing.{D, closes, IsFound, stream_open}, Tables.{has_changed, has_moved, some_after, some_from}}
-use Rattle.laws_device.proofs.Named.{Tables.value_by_entry, Keeping.{asking, Keeps}, Ends.{forwarded_over, shut_over}}
-use Rattle.laws_device.specs.Named.{Split.CanReach, Split.is_quiet, Streams.FindsStreams, Streams.HasStreams, Streams.joined_stream}
+use Rattle.laws_device.proofs.{Walk.Serving.{AfterWrite, IsIn, Writes}, Named.{Closing.{D, closes, IsFound, stream_open}, Tables.{has_changed, has_moved, some_after, some_from}}}
+use Rattle.laws_device.{proofs.Named.{Tables.value_by_entry, Keeping.{asking, Keeps}, Ends.{forwarded_over, shut_over}}, specs.Named.Split.{CanReach, is_quiet}}
+use Rattle.laws_device.specs.Named.Streams.{FindsStreams, HasStreams, joined_stream}
 use Rattle.std.proofs.{Common.{◌≡◌, ◌≢◌, ℕ, ◌==◌, Bool, true, false, List, refl, sym, subst, ◌∙◌, arith}, lemmas.Bool.Decides.nat_tests}
 use Rattle.vs_conn.specs.declared.end.State.TheVariants.{Ended}
 use Rattle.vs_flow.specs.Table.{with_value}
-use Rattle.vs_outside.specs.Host.{HostContents, IsOpen, KeepsOthers, after_shut_write, after_write}
-use Rattle.vs_outside.specs.declared.host_net.StreamWrite.{StreamWrite}
+use Rattle.vs_outside.specs.{Host.{HostContents, IsOpen, KeepsOthers, after_shut_write, after_write}, declared.host_net.StreamWrite.StreamWrite}
 use Rattle.vs_outside.proofs.Frames.{open-after_shut_write, open-after_write, others-after_shut_write, others-after_write, stays_open}
-use Rattle.vs_device_parts.specs.{Calls.{Call, ShutWrite, Situation, WriteStream, Allows}, Connections.{after_shut, after_written}}
-use Rattle.vs_device_parts.specs.{Connections.with_connection, State.{DeviceConnection, DeviceEntry, DeviceState}, Streams.Writing}
-use Rattle.vs_device_parts.specs.Streams.{is_written_out, pump_of, shut_write, to_write, write_pending}
+use Rattle.vs_device_parts.specs.{Calls.{Call, ShutWrite, Situation, WriteStream, Allows}, Connections.{after_shut, after_written, with_connection}, State.DeviceConnection}
+use Rattle.vs_device_parts.specs.{State.{DeviceEntry, DeviceState}, Streams.{Writing, is_written_out, pump_of, shut_write, to_write, write_pending}}
 use Rattle.laws_device.proofs.Walk.Serving as walked
 use Rattle.vs_outside.specs.declared.host_net.StreamWrite.TheVariants as write
 

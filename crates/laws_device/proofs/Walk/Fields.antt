@@ -3,18 +3,17 @@ use Rattle.std.proofs.Common.{◌≡◌, ℕ, ◌-◌, nat_lt, Bool, true, false
 use Rattle.byteorder.specs.Endian.{little_bytes}
 use Rattle.vs_conn.specs.Headers.{payload_header}
 use Rattle.vs_flow.specs.declared.flow.Flow.{Flow}
-use Rattle.vs_header.specs.{Packet.header_of, declared.Header.Header, declared.TheConstants.HEADER_LEN}
-use Rattle.vs_outside.specs.Host.{accept_failed, dial_failed, read_failed, write_failed}
-use Rattle.vs_outside.specs.declared.host_net.{Accepted.Accepted, Dialed.Dialed, StreamRead.StreamRead, StreamWrite.StreamWrite}
+use Rattle.vs_header.specs.{Packet.header_of, declared.{Header.Header, TheConstants.HEADER_LEN}}
+use Rattle.vs_outside.specs.{Host.{accept_failed, dial_failed, read_failed, write_failed}, declared.host_net.{Accepted.Accepted, Dialed.Dialed, StreamRead.StreamRead}}
+use Rattle.vs_outside.specs.declared.host_net.StreamWrite.{StreamWrite}
 use Rattle.vs_page.specs.{Log.Device, Open.is_dropped}
-use Rattle.vs_ring_port.specs.{Contents.{Read, Return, Take, Write}, declared.queue.Queue.TheVariants.{Event, Rx, Tx}}
-use Rattle.vs_ring_port.specs.declared.{device_ring.Chain.Chain, device_ring.Next.Next, failure.Failure.Failure}
+use Rattle.vs_ring_port.specs.{Contents.{Read, Return, Take, Write}, declared.{queue.Queue.TheVariants.{Event, Rx, Tx}, device_ring.{Chain.Chain, Next.Next}}}
+use Rattle.vs_ring_port.specs.declared.failure.Failure.{Failure}
 use Rattle.vs_wrap.specs.Wrap.{counted}
-use Rattle.vs_device_parts.specs.Calls.{Accept, CloseStream, Dial, Label, ReadStream, Ring, ShutWrite, WriteStream}
-use Rattle.vs_device_parts.specs.{Connections.route_to_guest, Receiving.written, State.DeviceEntry, State.DeviceState}
-use Rattle.vs_proxy_parts.specs.{State.Handshake, State.ProxyState, Turns.turn_of}
-use Rattle.laws_device.specs.Walk.Seen.{Seen, seen}
-use Rattle.laws_device.proofs.Walk.{Keeping.{Asking, Keeps}, Turning.{AfterAccept, AfterByte, Between, Ends, Shakes, keeps_turn}}
+use Rattle.vs_device_parts.specs.{Calls.{Accept, CloseStream, Dial, Label, ReadStream, Ring, ShutWrite, WriteStream}, Connections.route_to_guest, Receiving.written}
+use Rattle.vs_device_parts.specs.State.{DeviceEntry, DeviceState}
+use Rattle.vs_proxy_parts.specs.{State.{Handshake, ProxyState}, Turns.turn_of}
+use Rattle.laws_device.{specs.Walk.Seen.{Seen, seen}, proofs.Walk.{Keeping.{Asking, Keeps}, Turning.{AfterAccept, AfterByte, Between, Ends, Shakes, keeps_turn}}}
 use Rattle.laws_device.proofs.Walk.{Serving.{AfterEvent, AfterRead, AfterWrite, Closes, Fills, Writes}, Taking.{AfterDial, AfterHeader, Takes}}
 use Rattle.vs_outside.specs.declared.host_net.Accepted.TheVariants as accepted
 use Rattle.vs_outside.specs.declared.host_net.Dialed.TheVariants as dialed

@@ -1,35 +1,27 @@
 -- The device's conversations beside packets that it takes: timeouts, writes to the host's streams, its event, packets that it puts.
-use Rattle.std.proofs.Common.{◌≡◌, ℕ, ◌+◌, ◌==◌, not, Bool, true, false, cond, List, [], ◌∷◌, length, Contains, Option, Some, None, Ok, Err}
-use Rattle.std.proofs.Common.{refl, sym, ap, subst, ◌∙◌}
+use Rattle.std.proofs.Common.{◌≡◌, ℕ, ◌+◌, ◌==◌, not, Bool, true, false, cond, List, [], ◌∷◌, length, Contains, Option, Some, None, Ok, Err, refl, sym, ap, subst, ◌∙◌}
 use Rattle.byteorder.specs.Endian.{little_bytes}
-use Rattle.vs_conn.specs.End.{owes_of, paid_of, wanting_credit, with_payload_sent}
-use Rattle.vs_conn.specs.{Headers.owed_header, Headers.payload_header, declared.end.Owed.Owed}
+use Rattle.vs_conn.specs.{End.{owes_of, paid_of, wanting_credit, with_payload_sent}, Headers.{owed_header, payload_header}, declared.end.Owed.Owed}
 use Rattle.vs_contents.specs.CallTree.{Done, Ask, bind, for_each, while_up_to}
 use Rattle.vs_credit.specs.Credit.{free_of}
-use Rattle.vs_flow.specs.Table.{IsTable, Table, entry_of, entry_under, slots}
-use Rattle.vs_flow.{specs.declared.flow.Flow.Flow, proofs.Lookups.entry_of_found, specs.Flow.same_flow}
+use Rattle.vs_flow.{specs.{Table.{IsTable, Table, entry_of, entry_under, slots}, declared.flow.Flow.Flow, Flow.same_flow}, proofs.Lookups.entry_of_found}
 use Rattle.laws_tables.proofs.Slots.{found_by}
 use Rattle.vs_header.specs.declared.Header.{Header}
 use Rattle.vs_outside.specs.declared.host_net.{StreamRead.StreamRead, StreamWrite.StreamWrite}
 use Rattle.vs_replies.specs.declared.Reply.{Reply}
-use Rattle.vs_ring_port.specs.{Contents.{Return, Take, Write}, declared.queue.Queue.TheVariants.{Event, Rx}}
-use Rattle.vs_ring_port.specs.declared.{device_ring.Chain.Chain, device_ring.Next.Next, failure.Failure.Failure}
-use Rattle.vs_device_parts.specs.Connections.{after_leaving, after_shut, after_written, cut_off, is_timed_out, route_to_guest}
-use Rattle.vs_device_parts.specs.Receiving.{Filling, after_paying, event_on, fill_rx_of, filled_of, hold, holding, may_read, pay_event_of}
-use Rattle.vs_device_parts.specs.Receiving.{put_on, put_owed, put_packet, put_payload, put_reply, put_reply_of, read_answered, read_room}
-use Rattle.vs_device_parts.specs.Streams.{Writing, closing, is_written_out, leaving, pump_of, pump_slot, shut_write, tick_of, tick_slot}
-use Rattle.vs_device_parts.specs.Calls.{CloseStream, DeviceTree, ReadStream, Ring, ShutWrite, WriteStream}
-use Rattle.vs_device_parts.specs.Connections.{stream_closed, with_connection, with_fault}
-use Rattle.vs_device_parts.specs.Receiving.{read_stream, read_with_chain, reply_header, round_from, serve_slot, written}
-use Rattle.vs_device_parts.{proofs.Under.has_slot, specs.State.DeviceConnection, specs.State.DeviceEntry, specs.State.DeviceState}
-use Rattle.vs_device_parts.{specs.Streams.to_write, specs.Streams.write_answered, specs.Streams.write_pending, specs.Transmitting.failing}
-use Rattle.laws_device.specs.Walk.Seen.{Seen, seen}
-use Rattle.laws_device.proofs.Walk.Keeping.{Asking, Keeps, keeps_each, keeps_if, keeps_some, keeps_then, keeps_while}
+use Rattle.vs_ring_port.specs.{Contents.{Return, Take, Write}, declared.{queue.Queue.TheVariants.{Event, Rx}, device_ring.{Chain.Chain, Next.Next}, failure.Failure.Failure}}
+use Rattle.vs_device_parts.specs.Connections.{after_leaving, after_shut, after_written, cut_off, is_timed_out, route_to_guest, stream_closed, with_connection, with_fault}
+use Rattle.vs_device_parts.specs.Receiving.{Filling, after_paying, event_on, fill_rx_of, filled_of, hold, holding, may_read, pay_event_of, put_on, put_owed, put_packet}
+use Rattle.vs_device_parts.specs.Receiving.{put_payload, put_reply, put_reply_of, read_answered, read_room, read_stream, read_with_chain, reply_header, round_from, serve_slot}
+use Rattle.vs_device_parts.specs.{Receiving.written, Streams.{Writing, closing, is_written_out, leaving, pump_of, pump_slot, shut_write, tick_of, tick_slot, to_write}}
+use Rattle.vs_device_parts.specs.{Streams.{write_answered, write_pending}, Calls.{CloseStream, DeviceTree, ReadStream, Ring, ShutWrite, WriteStream}, State.DeviceConnection}
+use Rattle.vs_device_parts.{specs.{State.{DeviceEntry, DeviceState}, Transmitting.failing}, proofs.Under.has_slot}
+use Rattle.laws_device.{specs.Walk.Seen.{Seen, seen}, proofs.Walk.Keeping.{Asking, Keeps, keeps_each, keeps_if, keeps_some, keeps_then, keeps_while}}
+use Rattle.vs_limits.specs.declared.TheConstants.{OWED_MAX}
 use Rattle.vs_conn.specs.declared.end.Owed.TheVariants as owed
 use Rattle.vs_outside.specs.declared.host_net.StreamRead.TheVariants as read
 use Rattle.vs_outside.specs.declared.host_net.StreamWrite.TheVariants as write
 use Rattle.vs_ring_port.specs.declared.device_ring.Next.TheVariants as next
-use Rattle.vs_limits.specs.declared.TheConstants.{OWED_MAX}
 
 -- An entry of a table, found by its slot or by its flow.
 pub record IsIn (t : Table DeviceConnection) (e : DeviceEntry) : Type 0 where

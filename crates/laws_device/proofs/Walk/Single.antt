@@ -6,18 +6,15 @@ use Rattle.vs_flow.specs.Table.{entry_under, slots}
 use Rattle.vs_header.specs.{Packet.header_of, declared.TheConstants.HEADER_LEN}
 use Rattle.vs_limits.specs.declared.TheConstants.{DEVICE_REPLIES}
 use Rattle.byteorder.specs.Endian.{little_bytes}
-use Rattle.vs_ring_port.specs.{Contents.{PublishCid, Return, Take, Write}, declared.queue.Queue.Queue, declared.queue.Queue.TheVariants.{Event, Rx, Tx}}
-use Rattle.vs_ring_port.specs.declared.{device_ring.Chain.Chain, device_ring.Next.Next, failure.Failure.Failure}
-use Rattle.vs_device_parts.specs.{Calls.{DeviceTree, Ring}, Connections.stream_closed, State.DeviceState, Streams.closing, Streams.shut_write}
-use Rattle.vs_device_parts.specs.Receiving.{Filling, hold, may_read, put_owed, put_reply, read_with_chain}
-use Rattle.vs_device_parts.specs.Steps.{chain_came, filling, puts_event, puts_owed, puts_payload, puts_reply, reads, returns, shuts_write}
-use Rattle.vs_device_parts.specs.Steps.{takes_chain, with_chain, writes, writes_on, writing}
-use Rattle.vs_device_parts.specs.{Streams.tick_slot, Streams.write_pending, Transmitting.on_packet, Turns.after_reset, Turns.close_slot, Turns.reset_of}
-use Rattle.vs_proxy_parts.specs.{Handshakes.accept_one, Handshakes.read_byte, Handshakes.streams_of, Handshakes.tick_handshake, State.ProxyState}
-use Rattle.vs_proxy_parts.specs.{State.Turning, Turns.close_handshake, Turns.proxy_reset_of, Turns.reset_with}
-use Rattle.laws_device.proofs.Walk.{Fields.{AfterTx, Calls, D, Fields, TxCalls, U, fields, taken}, Keeping.{Asking, Keeps, keeps_each, keeps_if, keeps_some}}
-use Rattle.laws_device.proofs.Walk.{Keeping.keeps_then, Serving.{by_slot, keeps_hold, keeps_put_owed, keeps_put_reply_of, keeps_read_with_chain}}
-use Rattle.laws_device.proofs.Walk.Serving.{keeps_shut_write, keeps_tick_slot, keeps_write_pending}
+use Rattle.vs_ring_port.specs.{Contents.{PublishCid, Return, Take, Write}, declared.{queue.Queue.{Queue, TheVariants.{Event, Rx, Tx}}, device_ring.{Chain.Chain, Next.Next}}}
+use Rattle.vs_ring_port.specs.declared.failure.Failure.{Failure}
+use Rattle.vs_device_parts.specs.{Calls.{DeviceTree, Ring}, Connections.stream_closed, State.DeviceState, Streams.{closing, shut_write, tick_slot, write_pending}}
+use Rattle.vs_device_parts.specs.{Receiving.{Filling, hold, may_read, put_owed, put_reply, read_with_chain}, Steps.{chain_came, filling, puts_event, puts_owed, puts_payload}}
+use Rattle.vs_device_parts.specs.{Steps.{puts_reply, reads, returns, shuts_write, takes_chain, with_chain, writes, writes_on, writing}, Transmitting.on_packet, Turns.after_reset}
+use Rattle.vs_device_parts.specs.Turns.{close_slot, reset_of}
+use Rattle.vs_proxy_parts.specs.{Handshakes.{accept_one, read_byte, streams_of, tick_handshake}, State.{ProxyState, Turning}, Turns.{close_handshake, proxy_reset_of, reset_with}}
+use Rattle.laws_device.proofs.Walk.{Fields.{AfterTx, Calls, D, Fields, TxCalls, U, fields, taken}, Keeping.{Asking, Keeps, keeps_each, keeps_if, keeps_some, keeps_then}}
+use Rattle.laws_device.proofs.Walk.Serving.{by_slot, keeps_hold, keeps_put_owed, keeps_put_reply_of, keeps_read_with_chain, keeps_shut_write, keeps_tick_slot, keeps_write_pending}
 use Rattle.laws_device.proofs.Walk.{Taking.keeps_on_packet, Turning.{Between, keeps_accept_one, keeps_read_byte, keeps_tick_handshake}}
 use Rattle.laws_device.proofs.Walk.Fields as walk
 use Rattle.vs_ring_port.specs.declared.device_ring.Next.TheVariants as next

@@ -1,22 +1,18 @@
 -- The packets that the device takes. U says what holds once the header of one was read, until it is heard.
 use Rattle.std.proofs.Common.{◌≡◌, ◌-◌, ◌==◌, ◌&&◌, nat_lt, nat_le, true, false, cond, [], ◌++◌, length, Option, Some, None, refl}
-use Rattle.vs_conn.specs.{End.is_of, End.is_reset, End.verdict_of, declared.end.Verdict.Verdict}
+use Rattle.vs_conn.specs.{End.{is_of, is_reset, verdict_of}, declared.end.Verdict.Verdict}
 use Rattle.vs_contents.specs.CallTree.{Done, Ask, bind}
-use Rattle.vs_flow.specs.{Flow.is_assigned, Table.entry_of, Table.has_place}
-use Rattle.vs_header.specs.{Op.op_number, Packet.header_of, declared.Header.Header, declared.Kind.TheVariants.Stream}
-use Rattle.vs_header.specs.{declared.Op.TheVariants.Request, declared.TheConstants.HEADER_LEN}
+use Rattle.vs_flow.specs.{Flow.is_assigned, Table.{entry_of, has_place}}
+use Rattle.vs_header.specs.{Op.op_number, Packet.header_of, declared.{Header.Header, Kind.TheVariants.Stream, Op.TheVariants.Request, TheConstants.HEADER_LEN}}
 use Rattle.vs_limits.specs.declared.TheConstants.{DEVICE_REPLIES}
 use Rattle.vs_outside.specs.declared.host_net.Dialed.{Dialed}
-use Rattle.vs_page.specs.{Log.Device, Log.flow_to_host, Open.is_dropped}
-use Rattle.vs_ring_port.specs.Contents.{Read, Return, Take}
-use Rattle.vs_ring_port.specs.declared.{device_ring.Chain.Chain, device_ring.Next.Next, failure.Failure.Failure, queue.Queue.TheVariants.Tx}
+use Rattle.vs_page.specs.{Log.{Device, flow_to_host}, Open.is_dropped}
+use Rattle.vs_ring_port.specs.{Contents.{Read, Return, Take}, declared.{device_ring.{Chain.Chain, Next.Next}, failure.Failure.Failure, queue.Queue.TheVariants.Tx}}
 use Rattle.vs_uds.specs.{OkLine.ok_text, Path.path_of}
 use Rattle.vs_wrap.specs.Wrap.{counted}
-use Rattle.vs_device_parts.specs.Transmitting.{dial_answered, failing, heard, on_header, on_known, on_next, on_packet, on_unknown}
-use Rattle.vs_device_parts.specs.Connections.{with_connection, with_dialed, with_fault}
-use Rattle.vs_device_parts.specs.{Calls.Dial, Calls.Ring, State.DeviceEntry, State.DeviceState, Transmitting.take_tx_of}
-use Rattle.laws_device.proofs.Walk.Keeping.{Asking, Keeps, keeps_if, keeps_some, keeps_then}
-use Rattle.laws_device.{specs.Walk.Seen.Seen, specs.Walk.Seen.seen, proofs.Walk.Serving.Closes, proofs.Walk.Serving.by_flow, proofs.Walk.Serving.keeps_leaving}
+use Rattle.vs_device_parts.specs.{Transmitting.{dial_answered, failing, heard, on_header, on_known, on_next, on_packet, on_unknown, take_tx_of}, Connections.with_connection}
+use Rattle.vs_device_parts.specs.{Connections.{with_dialed, with_fault}, Calls.{Dial, Ring}, State.{DeviceEntry, DeviceState}}
+use Rattle.laws_device.{proofs.Walk.{Keeping.{Asking, Keeps, keeps_if, keeps_some, keeps_then}, Serving.{Closes, by_flow, keeps_leaving}}, specs.Walk.Seen.{Seen, seen}}
 use Rattle.vs_conn.specs.declared.end.Verdict.TheVariants as verdict
 use Rattle.vs_conn.specs.declared.end.Why.TheVariants as why
 use Rattle.vs_outside.specs.declared.host_net.Dialed.TheVariants as dialed

@@ -1,16 +1,15 @@
 -- What the host's streams took and gave, against the packets of their connections.
-use Rattle.std.specs.Prelude.{◌≡◌, ◌≢◌, ℕ, ◌+◌, ◌<◌, ◌≤◌, ◌++◌, ◌==◌, not, Bool, true, false, if◌then◌else◌, List, [], Option, Some, None}
-use Rattle.std.specs.{Prelude.{AllPairs, Contains, length, position}, List.All, List.list_any, Option.option_map, Option.option_map_or}
-use Rattle.vs_conn.specs.{End.ConnectionEnd, declared.end.State.State, declared.end.State.TheVariants.{Answering, Asked, Live}}
+use Rattle.std.specs.Prelude.{◌≡◌, ◌≢◌, ℕ, ◌+◌, ◌<◌, ◌≤◌, ◌++◌, ◌==◌, not, Bool, true, false, if◌then◌else◌, List, [], Option, Some, None, AllPairs, Contains, length, position}
+use Rattle.std.specs.{List.{All, list_any}, Option.{option_map, option_map_or}}
+use Rattle.vs_conn.specs.{End.ConnectionEnd, declared.end.State.{State, TheVariants.{Answering, Asked, Live}}}
 use Rattle.vs_device_parts.specs.State.{DeviceConnection, DeviceEntry}
 use Rattle.vs_flow.specs.{Connection.Connection, Flow.is_assigned, Table.Table, declared.flow.Flow.Flow}
-use Rattle.vs_outside.specs.{Host.HostContents, Host.Stream, Host.stream_at, Host.waits, HostBytes.after_line, HostBytes.labelled_with}
-use Rattle.vs_outside.specs.HostProgram.{is_closed}
+use Rattle.vs_outside.specs.{Host.{HostContents, Stream, stream_at, waits}, HostBytes.{after_line, labelled_with}, HostProgram.is_closed}
 use Rattle.laws_device.specs.Named.Streams.{stream_under}
-use Rattle.vs_uds.specs.{declared.scan.TheConstants.LF, OkLine.ok_text, Reading.is_decided, declared.connect.TheConstants.CONNECT_MAX}
-use Rattle.vs_page.specs.{Fair.IsPrefixOf, Fair.number_of, Fair.payload_got, Fair.payload_put, Log.Device, Log.Log, Log.history_of}
+use Rattle.vs_uds.specs.{declared.{scan.TheConstants.LF, connect.TheConstants.CONNECT_MAX}, OkLine.ok_text, Reading.is_decided}
+use Rattle.vs_page.specs.{Fair.{IsPrefixOf, number_of, payload_got, payload_put}, Log.{Device, Log, history_of}}
 use Rattle.vs_proxy_parts.specs.State.{Handshake}
-use Rattle.laws_history.specs.{History.puts, Packets.has, Packets.is_clean_rst}
+use Rattle.laws_history.specs.{History.puts, Packets.{has, is_clean_rst}}
 use Rattle.laws_tables.specs.{Drains.Drains, Ends.is_new}
 
 -- What counts of a stream: the connection that it is by its label, who made it, whether it waits to be accepted, whether the proxy closed

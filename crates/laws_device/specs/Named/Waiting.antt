@@ -2,8 +2,7 @@
 use Rattle.std.specs.Prelude.{if◌then◌else◌, length}
 use Rattle.vs_contents.specs.CallTree.{Done, bind, for_each, while_up_to}
 use Rattle.vs_flow.specs.Table.{slots}
-use Rattle.vs_device_parts.specs.{Calls.DeviceTree, State.DeviceState, Steps.filling}
-use Rattle.vs_device_parts.specs.Receiving.{Filling, put_reply, round_from, serve_slot}
+use Rattle.vs_device_parts.specs.{Calls.DeviceTree, State.DeviceState, Steps.filling, Receiving.{Filling, put_reply, round_from, serve_slot}}
 
 -- The stage of filling, with what it comes to: whether it is over before all is put that was owed.
 abbrev pub filling_of : DeviceState → DeviceTree Filling

@@ -1,25 +1,18 @@
 -- Calls that read nothing keep the account: those that make no use of the ring, and a send.
-use Rattle.laws_tables.proofs.Adding.{number_put}
-use Rattle.laws_tables.proofs.Adding.{got_over_put}
-use Rattle.std.proofs.Common.{◌≡◌, ℕ, ◌==◌, not, Bool, true, false, cond, List, [], ◌∷◌, take, length, Option, Some, None, refl, Contains}
-use Rattle.std.proofs.{Common.Result, Common.Ok, Common.Err, Common.◌∙◌, lemmas.List.Elements.All-filter}
-use Rattle.vs_conn.specs.{End.grown, End.with_payload_sent, End.wanting_credit, declared.end.State.State}
+use Rattle.laws_tables.{proofs.{Adding.{number_put, got_over_put}, Slots.found_by, Goes.{Goes, ended_goes, shut_goes, stays_still}}, specs.{Steps.payload_on, Drains.receives}}
+use Rattle.std.proofs.Common.{◌≡◌, ℕ, ◌==◌, not, Bool, true, false, cond, List, [], ◌∷◌, take, length, Option, Some, None, refl, Contains, Result, Ok, Err, ◌∙◌}
+use Rattle.std.proofs.lemmas.List.Elements.{All-filter}
+use Rattle.vs_conn.specs.{End.{grown, with_payload_sent, wanting_credit}, declared.end.State.State}
 use Rattle.vs_flow.specs.{Flow.same_flow, Table.IsTable, declared.flow.Flow.Flow}
 use Rattle.laws_history.specs.{History.{Got, History, Put, Side, gots, puts}, declared.packet.Packet.Packet, Packets.is_request}
-use Rattle.vs_page.specs.{Fair.{asked_by, number_of, payload_got}, Log.{Driver, Log, Role, flow_got, flow_put, side_of, whole_of}}
-use Rattle.vs_page.specs.declared.log.LogEntry.TheVariants.{GotPacket, PutPacket}
-use Rattle.vs_driver_parts.specs.State.{DriverConnection, DriverEntry, DriverState, GoneConnection, entry_known_as, gone_known_as}
-use Rattle.vs_driver_parts.specs.Connections.{after_close, after_closing, after_grow, after_shut, after_shutdown, after_unlisten, all_closed}
-use Rattle.vs_driver_parts.specs.{Connections.entry_grow_answer, Connections.grown_by, declared.answers.Grown.Grown}
-use Rattle.vs_driver_parts.specs.Listening.{after_accept, listening, next_accepted, with_waiting, without_id}
-use Rattle.vs_driver_parts.specs.Connections.{entry_closed, gone_closed, shut_in, waiting_on, without_gone}
-use Rattle.vs_driver_parts.specs.{Held.with_connection_in, State.is_known_as, declared.answers.ListenError.ListenError}
-use Rattle.vs_driver_parts.proofs.Numbers.{numbers_gone_without}
-use Rattle.laws_tables.{proofs.Slots.found_by, specs.Steps.payload_on}
-use Rattle.laws_tables.{specs.Drains.receives, proofs.Goes.Goes, proofs.Goes.ended_goes, proofs.Goes.shut_goes, proofs.Goes.stays_still}
-use Rattle.laws_driver.{specs.Honest.IsFitState, specs.Honest.slots_of, proofs.Calls.CarriesSend, proofs.Changing.close_changes}
-use Rattle.laws_driver.specs.Carried.Received.{Account, AreReceived, ReceivedOn}
-use Rattle.laws_driver.proofs.Carried.{Reading.given_none, Receiving.changed_received, Receiving.in_slots}
+use Rattle.vs_page.specs.{Fair.{asked_by, number_of, payload_got}, Log.{Driver, Log, Role, flow_got, flow_put, side_of, whole_of}, declared.log.LogEntry.TheVariants.GotPacket}
+use Rattle.vs_page.specs.declared.log.LogEntry.TheVariants.{PutPacket}
+use Rattle.vs_driver_parts.specs.{State.{DriverConnection, DriverEntry, DriverState, GoneConnection, entry_known_as, gone_known_as, is_known_as}, Connections.after_close}
+use Rattle.vs_driver_parts.specs.Connections.{after_closing, after_grow, after_shut, after_shutdown, after_unlisten, all_closed, entry_grow_answer, grown_by, entry_closed}
+use Rattle.vs_driver_parts.specs.{Connections.{gone_closed, shut_in, waiting_on, without_gone}, declared.answers.{Grown.Grown, ListenError.ListenError}, Listening.after_accept}
+use Rattle.vs_driver_parts.{specs.{Listening.{listening, next_accepted, with_waiting, without_id}, Held.with_connection_in}, proofs.Numbers.numbers_gone_without}
+use Rattle.laws_driver.{specs.{Honest.{IsFitState, slots_of}, Carried.Received.{Account, AreReceived, ReceivedOn}}, proofs.{Calls.CarriesSend, Changing.close_changes}}
+use Rattle.laws_driver.proofs.Carried.{Reading.given_none, Receiving.{changed_received, in_slots}}
 use Rattle.vs_conn.specs.declared.end.State.TheVariants as state
 use Rattle.vs_driver_parts.specs.declared.answers.Grown.TheVariants as rise
 

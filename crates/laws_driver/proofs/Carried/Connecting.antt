@@ -1,25 +1,16 @@
 -- A connect opens a connection on which nothing was delivered; and the account of a driver that was just made.
-use Rattle.laws_tables.proofs.Adding.{got_over_put}
-use Rattle.std.proofs.Common.{◌≡◌, ◌≢◌, ℕ, ◌+◌, ◌<◌, Bool, true, false, cond, None, List, [], ◌∷◌, refl, ap, ◌∙◌, arith}
-use Rattle.std.specs.List.{All}
+use Rattle.laws_tables.{proofs.Adding.got_over_put, specs.Steps.request_on}
+use Rattle.std.{proofs.Common.{◌≡◌, ◌≢◌, ℕ, ◌+◌, ◌<◌, Bool, true, false, cond, None, List, [], ◌∷◌, refl, ap, ◌∙◌, arith}, specs.List.All}
 use Rattle.vs_conn.specs.End.{asked, paid_of}
-use Rattle.vs_flow.{specs.Connection.Connection, specs.Flow.is_assigned, specs.declared.flow.Flow.Flow, proofs.Entries.same_flow_false}
+use Rattle.vs_flow.{specs.{Connection.Connection, Flow.is_assigned, declared.flow.Flow.Flow}, proofs.Entries.same_flow_false}
 use Rattle.vs_header.specs.declared.Kind.TheVariants.{Stream}
 use Rattle.vs_limits.specs.declared.TheConstants.{BUF_ALLOC}
-use Rattle.laws_history.specs.History.{Answerer, Asker, Put, Side, gots, puts}
-use Rattle.laws_history.specs.{declared.packet.Packet.Packet, Again.count, Packets.is_request}
-use Rattle.vs_page.specs.Fair.{IsFairLog, asked_by, current, number_of, payload_got, payload_of}
-use Rattle.vs_page.specs.Log.{Driver, Log, and_then, history_of, side_by, side_of, whole_of}
-use Rattle.vs_page.{specs.declared.log.LogEntry.TheVariants.PutPacket, proofs.Flows.same_self, proofs.Present.present_got}
-use Rattle.laws_tables.specs.Steps.{request_on}
-use Rattle.vs_driver_parts.specs.Connections.{connect_refusal, connected, next_flow}
-use Rattle.vs_driver_parts.specs.{Held.HeldSlots, State.DriverConnection, State.DriverState, Conversations.new_state}
-use Rattle.laws_driver.{specs.Honest.IsFitState, specs.Honest.slots_of, proofs.Calls.CarriesConnect, proofs.Putting.may_connect}
-use Rattle.laws_driver.specs.Carried.Received.{Account, AreReceived, no_account, with_opened}
-use Rattle.laws_driver.proofs.Carried.Polling.{Further, IsFurther, goes_then}
-use Rattle.laws_driver.proofs.Carried.Logging.{opened_goes_on}
-use Rattle.laws_driver.proofs.Carried.Logging.{opened_received}
-use Rattle.laws_driver.proofs.Carried.Receiving.{in_slots}
+use Rattle.laws_history.specs.{History.{Answerer, Asker, Put, Side, gots, puts}, declared.packet.Packet.Packet, Again.count, Packets.is_request}
+use Rattle.vs_page.specs.{Fair.{IsFairLog, asked_by, current, number_of, payload_got, payload_of}, Log.{Driver, Log, and_then, history_of, side_by, side_of, whole_of}}
+use Rattle.vs_page.{specs.declared.log.LogEntry.TheVariants.PutPacket, proofs.{Flows.same_self, Present.present_got}}
+use Rattle.vs_driver_parts.specs.{Connections.{connect_refusal, connected, next_flow}, Held.HeldSlots, State.{DriverConnection, DriverState}, Conversations.new_state}
+use Rattle.laws_driver.{specs.{Honest.{IsFitState, slots_of}, Carried.Received.{Account, AreReceived, no_account, with_opened}}, proofs.{Calls.CarriesConnect, Putting.may_connect}}
+use Rattle.laws_driver.proofs.Carried.{Polling.{Further, IsFurther, goes_then}, Logging.{opened_goes_on, opened_received}, Receiving.in_slots}
 use Rattle.vs_conn.specs.declared.end.Owed.TheVariants as owed
 
 -- The numbers given last don't count.

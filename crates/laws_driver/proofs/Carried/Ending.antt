@@ -2,16 +2,13 @@
 use Rattle.std.proofs.Common.{◌≡◌, ℕ, ◌<◌, ◌≤◌, ◌^◌, List, [], Result, refl}
 use Rattle.vs_limits.specs.declared.TheConstants.{LAST_PORT}
 use Rattle.laws_history.specs.History.{Answerer, Asker, Side}
-use Rattle.vs_page.specs.{Fair.instance_from, Fair.payload_of, Log.Driver, Log.side_of}
+use Rattle.vs_page.specs.{Fair.{instance_from, payload_of}, Log.{Driver, side_of}}
 use Rattle.vs_ring_port.specs.Contents.{RingContents}
-use Rattle.vs_driver_parts.specs.{declared.answers.{ConnectError.ConnectError, Polled.Polled, Sent.Sent}, Conversations.connect_of}
-use Rattle.vs_driver_parts.specs.{Conversations.{new_of, new_state, poll_of, send_of}, Playing.Plays, State.DriverState}
-use Rattle.laws_driver.proofs.{Polling.poll_keeps, Calls.connect_keeps, Calls.new_keeps, Calls.send_keeps, Carrying.Fact, Keeping.keeps_end}
-use Rattle.laws_driver.proofs.{Ringing.at_rest, Staging.Rests}
-use Rattle.laws_driver.proofs.Carried.{Connecting.{connect_carries, none_received}, Polling.{Further, poll_carries}, Changing.send_receives}
-use Rattle.laws_driver.specs.Honest.{IsFresh, IsHonestWith, slots_of}
-use Rattle.laws_driver.specs.Carried.Received.{Account, AreReceived, GoesOnWith, IsReceivedWith, no_account}
-use Rattle.laws_driver.specs.Carried.Senders.{IsRightJournal, IsRightWith}
+use Rattle.vs_driver_parts.specs.{declared.answers.{ConnectError.ConnectError, Polled.Polled, Sent.Sent}, Conversations.{connect_of, new_of, new_state, poll_of, send_of}}
+use Rattle.vs_driver_parts.specs.{Playing.Plays, State.DriverState}
+use Rattle.laws_driver.proofs.{Polling.poll_keeps, Calls.{connect_keeps, new_keeps, send_keeps}, Carrying.Fact, Keeping.keeps_end, Ringing.at_rest, Staging.Rests}
+use Rattle.laws_driver.{proofs.Carried.{Connecting.{connect_carries, none_received}, Polling.{Further, poll_carries}, Changing.send_receives}, specs.Honest.{IsFresh, IsHonestWith}}
+use Rattle.laws_driver.specs.{Honest.slots_of, Carried.{Received.{Account, AreReceived, GoesOnWith, IsReceivedWith, no_account}, Senders.{IsRightJournal, IsRightWith}}}
 
 abbrev pub received_by : Account → Fact
 received_by a part s log = AreReceived a log (slots_of s)

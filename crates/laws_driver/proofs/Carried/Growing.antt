@@ -1,16 +1,13 @@
 -- Over any ring a conversation leaves it as honest as it was and its log fair, and adds to the log that it tells.
-use Rattle.std.proofs.Common.{◌≡◌, ℕ, true, Option, Some, None, List, [], ◌∷◌, refl, sym, subst, ◌∙◌}
-use Rattle.std.specs.Option.{ForSome}
-use Rattle.vs_contents.specs.{CallTree.Ask, CallTree.Done, Contents.Exposes}
+use Rattle.std.{proofs.Common.{◌≡◌, ℕ, true, Option, Some, None, List, [], ◌∷◌, refl, sym, subst, ◌∙◌}, specs.Option.ForSome}
+use Rattle.vs_contents.specs.{CallTree.{Ask, Done}, Contents.Exposes}
 use Rattle.laws_history.specs.declared.packet.Packet.{Packet}
-use Rattle.vs_page.specs.{Held.event_held, Held.packet_held, Log.Driver, Log.Log, declared.log.LogEntry.LogEntry}
-use Rattle.vs_page.specs.declared.log.LogEntry.TheVariants.{GotEvent, GotPacket, Mark, PutPacket}
-use Rattle.vs_ring_port.specs.{Contents.{IsSound, RingContents}, DriverCalls.{DriverAnswer, DriverCall, DriverMoves, LoadCid, Publish, Reap, Stage}}
-use Rattle.vs_ring_port.specs.EndLog.{EndLog, all_put, entries_marked, entries_published, entries_reaped, log_loaded, log_published, log_reaped}
-use Rattle.vs_ring_port.specs.{EndLog.{log_staged, pages_at, with_event, with_packet}, Lists.Rings, declared.queue.Queue.Queue}
-use Rattle.vs_ring_port.specs.declared.queue.Queue.TheVariants.{Event, Rx, Tx}
-use Rattle.vs_driver_parts.specs.{Conversations.DriverTree, Playing.Plays, Playing.RingAllows}
-use Rattle.laws_tables.{specs.Later.IsLater, specs.Later.StaysShut, proofs.Later.later_then, proofs.Later.stays_shut}
+use Rattle.vs_page.specs.{Held.{event_held, packet_held}, Log.{Driver, Log}, declared.log.LogEntry.{LogEntry, TheVariants.{GotEvent, GotPacket, Mark, PutPacket}}}
+use Rattle.vs_ring_port.specs.{Contents.{IsSound, RingContents}, DriverCalls.{DriverAnswer, DriverCall, DriverMoves, LoadCid, Publish, Reap, Stage}, EndLog.{EndLog, all_put}}
+use Rattle.vs_ring_port.specs.EndLog.{entries_marked, entries_published, entries_reaped, log_loaded, log_published, log_reaped, log_staged, pages_at, with_event, with_packet}
+use Rattle.vs_ring_port.specs.{Lists.Rings, declared.queue.Queue.{Queue, TheVariants.{Event, Rx, Tx}}}
+use Rattle.vs_driver_parts.specs.{Conversations.DriverTree, Playing.{Plays, RingAllows}}
+use Rattle.laws_tables.{specs.Later.{IsLater, StaysShut}, proofs.Later.{later_then, stays_shut}}
 use Rattle.laws_driver.specs.Carried.Sent.{TellsMore}
 
 -- Entries that come behind others.

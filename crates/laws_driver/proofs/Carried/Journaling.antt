@@ -3,12 +3,10 @@ use Rattle.std.proofs.Common.{ℕ, refl, ◌∙◌}
 use Rattle.vs_flow.specs.Connection.{Connection}
 use Rattle.vs_ring_port.specs.Contents.{RingContents}
 use Rattle.vs_driver_parts.specs.{Conversations.DriverTree, Playing.Plays, State.DriverState}
-use Rattle.laws_driver.specs.Honest.{IsHonestWith}
-use Rattle.laws_driver.proofs.{Carrying.Fact, Keeping.Keeps, Keeping.keeps_end, Staging.Rests}
-use Rattle.laws_driver.specs.Carried.Calls.{GuestCall, IsJournaledWith, Journal, ReplyTo, account_of, sent_of, with_call}
-use Rattle.laws_driver.proofs.Carried.Making.{CarriesCall, account_after, at_first, call_received, call_sent, further_journal, sent_with}
-use Rattle.laws_driver.specs.Carried.{Received.Account, Received.IsReceivedWith, Sent.PutsJust}
-use Rattle.laws_driver.proofs.Carried.{Ending.further_from, Growing.honest_stays, Polling.Further, Sending.begins}
+use Rattle.laws_driver.specs.{Honest.IsHonestWith, Carried.{Calls.{GuestCall, IsJournaledWith, Journal, ReplyTo, account_of, sent_of, with_call}, Received.Account}}
+use Rattle.laws_driver.{specs.Carried.{Received.IsReceivedWith, Sent.PutsJust}, proofs.{Carrying.Fact, Keeping.{Keeps, keeps_end}, Staging.Rests, Carried.Making.CarriesCall}}
+use Rattle.laws_driver.proofs.Carried.{Making.{account_after, at_first, call_received, call_sent, further_journal, sent_with}, Ending.further_from, Growing.honest_stays}
+use Rattle.laws_driver.proofs.Carried.{Polling.Further, Sending.begins}
 
 -- A conversation that carries what the call carries.
 abbrev pub Carried : ℕ → (call : GuestCall) → DriverTree (DriverState × ReplyTo call) → DriverState → RingContents → Type 1

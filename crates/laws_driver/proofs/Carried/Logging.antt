@@ -1,21 +1,14 @@
 -- The account where entries are added to the log, and where connections leave the table or open.
-use Rattle.std.proofs.Common.{◌≡◌, ◌≢◌, ℕ, ◌+◌, ◌<◌, ◌≤◌, ◌==◌, Bool, true, false, cond, List, [], ◌∷◌, ◌++◌, length, get_or, Contains}
-use Rattle.std.proofs.Common.{refl, sym, ap, subst, ◌∙◌, arith}
-use Rattle.std.specs.List.{All}
-use Rattle.std.proofs.lemmas.{List.Elements.All-contains, List.Elements.All-push, Bool.Decides.nat_tests}
-use Rattle.vs_flow.{specs.Connection.Connection, specs.Flow.is_assigned, specs.Flow.same_flow, specs.Table.IsTable, specs.Table.next_entry}
-use Rattle.vs_flow.{specs.Table.with_entry, specs.Table.without, specs.declared.flow.Flow.Flow, proofs.Entries.same_flow_false}
-use Rattle.laws_history.specs.History.{Answerer, Asker, Got, History, Side, gots, puts}
-use Rattle.laws_history.specs.{declared.packet.Packet.Packet, Packets.is_request, Again.count}
-use Rattle.vs_page.specs.Fair.{IsPrefixOf, asked_by, current, number_of, payload_got}
-use Rattle.vs_page.specs.{Log.Driver, Log.Log, Log.flow_got, Log.side_of, Log.whole_of, declared.log.LogEntry.TheVariants.GotPacket}
-use Rattle.vs_page.proofs.{Flows.same_is, Flows.same_self, Flows.still, PayloadLogs.got_stays}
-use Rattle.vs_driver_parts.proofs.Numbers.{numbers_left, numbers_with_entry, numbers_without}
-use Rattle.vs_driver_parts.specs.{Held.HeldSlots, State.DriverConnection, State.DriverEntry, State.GoneConnection}
-use Rattle.laws_tables.specs.Drains.{Drains, receives}
-use Rattle.laws_tables.proofs.{Changes.others_left, Changes.under_slot, Logs.all_of, Logs.nothing_more, Logs.prefix_then}
-use Rattle.laws_driver.specs.Carried.Received.{Account, AreReceived, GoesOn, ReceivedOn, ReceivesOn, with_opened}
-use Rattle.laws_driver.proofs.Carried.Receiving.{apart_by, in_slots, number_same}
+use Rattle.std.proofs.Common.{◌≡◌, ◌≢◌, ℕ, ◌+◌, ◌<◌, ◌≤◌, ◌==◌, Bool, true, false, cond, List, [], ◌∷◌, ◌++◌, length, get_or, Contains, refl, sym, ap, subst, ◌∙◌, arith}
+use Rattle.std.{proofs.lemmas.{List.Elements.{All-contains, All-push}, Bool.Decides.nat_tests}, specs.List.All}
+use Rattle.vs_flow.specs.{Connection.Connection, Flow.{is_assigned, same_flow}, Table.{IsTable, next_entry, with_entry, without}, declared.flow.Flow.Flow}
+use Rattle.vs_flow.proofs.Entries.{same_flow_false}
+use Rattle.laws_history.specs.{History.{Answerer, Asker, Got, History, Side, gots, puts}, declared.packet.Packet.Packet, Packets.is_request, Again.count}
+use Rattle.vs_page.specs.{Fair.{IsPrefixOf, asked_by, current, number_of, payload_got}, Log.{Driver, Log, flow_got, side_of, whole_of}, declared.log.LogEntry.TheVariants.GotPacket}
+use Rattle.vs_page.proofs.{Flows.{same_is, same_self, still}, PayloadLogs.got_stays}
+use Rattle.vs_driver_parts.{proofs.Numbers.{numbers_left, numbers_with_entry, numbers_without}, specs.{Held.HeldSlots, State.{DriverConnection, DriverEntry, GoneConnection}}}
+use Rattle.laws_tables.{specs.Drains.{Drains, receives}, proofs.{Changes.{others_left, under_slot}, Logs.{all_of, nothing_more, prefix_then}}}
+use Rattle.laws_driver.{specs.Carried.Received.{Account, AreReceived, GoesOn, ReceivedOn, ReceivesOn, with_opened}, proofs.Carried.Receiving.{apart_by, in_slots, number_same}}
 
 -- What more entries leave: the payload of each connection grows, and so do the numbers; on the flows of the table nothing is new.
 pub record Leaves (log new : Log) (e : DriverEntry) : Type 0 where

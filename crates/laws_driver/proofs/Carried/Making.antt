@@ -1,26 +1,21 @@
 -- The guest's calls on the pages as they stand: what each carries to its end.
-use Rattle.std.proofs.Common.{◌≡◌, ℕ, ◌≤◌, ◌<◌, ◌^◌, ◌==◌, Bool, true, false, cond, List, [], ◌++◌, Result, Ok, Err, is_some, refl, sym, ap}
-use Rattle.std.proofs.{Common.subst, Common.◌∙◌, Common.append-nil, Common.arith, Math.Path.fun_ext, lemmas.Bool.Decides.nat_tests}
+use Rattle.std.proofs.Common.{◌≡◌, ℕ, ◌≤◌, ◌<◌, ◌^◌, ◌==◌, Bool, true, false, cond, List, [], ◌++◌, Result, Ok, Err, is_some, refl, sym, ap, subst, ◌∙◌, append-nil, arith}
+use Rattle.std.proofs.{Math.Path.fun_ext, lemmas.Bool.Decides.nat_tests}
 use Rattle.vs_contents.specs.CallTree.{Ask, Done}
 use Rattle.vs_flow.specs.Connection.{Connection}
 use Rattle.vs_header.specs.declared.Kind.TheVariants.{Stream}
-use Rattle.vs_page.{specs.Fair.payload_put, specs.Log.Driver, specs.Log.Log, proofs.PayloadLogs.put_none}
+use Rattle.vs_page.{specs.{Fair.payload_put, Log.{Driver, Log}}, proofs.PayloadLogs.put_none}
 use Rattle.vs_ring_port.specs.Contents.{RingContents}
 use Rattle.laws_tables.specs.{Both.Seat, Matches.Matches, Steps.request_on}
-use Rattle.vs_driver_parts.specs.Connections.{after_unlisten, close_of, grow_of, next_flow, recv_of, shutdown_of, state_of, unread_of_id}
-use Rattle.vs_driver_parts.specs.Listening.{accept_of, listen_of, listener_on, listening}
-use Rattle.vs_driver_parts.specs.{declared.answers.ListenError.ListenError, Conversations.DriverTree, Held.HeldSlots, State.DriverState}
-use Rattle.laws_driver.proofs.Changing.{Changes, accept_changes, close_changes, grow_changes, listen_changes, recv_changes, same}
-use Rattle.laws_driver.specs.Honest.{IsFitState, ends_of_state, slots_of}
-use Rattle.laws_driver.proofs.Calls.{CarriesConnect, CarriesSend, changed_rests, connect_keeps, send_keeps, connects_with, sends_with}
-use Rattle.laws_driver.proofs.Walking.{connect_goes, goes_from, send_goes}
-use Rattle.laws_driver.proofs.{Carrying.Fact, Carrying.Holds, Changing.shutdown_changes, Changing.unlisten_changes, Going.goes_then, Keeping.Keeps, Staging.Rests}
-use Rattle.laws_driver.specs.Carried.Calls.{GuestCall, ReplyTo, Connect, Listen, Unlisten, Accept, Send, Recv, Shutdown, Grow, Close, LookAt}
-use Rattle.laws_driver.specs.Carried.Calls.{Journal, account_of, id_named, is_right, makes_call, names, received_by, sent_of, whole_call}
-use Rattle.laws_driver.proofs.Carried.Changing.{accept_slots, listen_slots, close_received, grow_received, send_receives, shutdown_received}
-use Rattle.laws_driver.specs.Carried.Received.{Account, AreReceived, GoesOn, bytes_got, with_received}
-use Rattle.laws_driver.{specs.Carried.Calls.with_call, proofs.Carried.Changing.unlisten_received, proofs.Carried.Connecting.connect_carries}
-use Rattle.laws_driver.{proofs.Carried.Polling.Further, proofs.Carried.Polling.IsFurther, proofs.Carried.Reading.given_none, proofs.Carried.Reading.recv_received}
+use Rattle.vs_driver_parts.specs.{Connections.{after_unlisten, close_of, grow_of, next_flow, recv_of, shutdown_of, state_of, unread_of_id}, Listening.{accept_of, listen_of}}
+use Rattle.vs_driver_parts.specs.{Listening.{listener_on, listening}, declared.answers.ListenError.ListenError, Conversations.DriverTree, Held.HeldSlots, State.DriverState}
+use Rattle.laws_driver.proofs.Changing.{Changes, accept_changes, close_changes, grow_changes, listen_changes, recv_changes, same, shutdown_changes, unlisten_changes}
+use Rattle.laws_driver.proofs.{Calls.{CarriesConnect, CarriesSend, changed_rests, connect_keeps, send_keeps, connects_with, sends_with}, Walking.{connect_goes, goes_from}}
+use Rattle.laws_driver.proofs.{Walking.send_goes, Carrying.{Fact, Holds}, Going.goes_then, Keeping.Keeps, Staging.Rests, Carried.Changing.{accept_slots, listen_slots}}
+use Rattle.laws_driver.proofs.Carried.{Changing.{close_received, grow_received, send_receives, shutdown_received, unlisten_received}, Connecting.connect_carries, Polling.Further}
+use Rattle.laws_driver.{proofs.Carried.{Polling.IsFurther, Reading.{given_none, recv_received}}, specs.{Honest.{IsFitState, ends_of_state, slots_of}, Carried.Calls.GuestCall}}
+use Rattle.laws_driver.specs.Carried.Calls.{ReplyTo, Connect, Listen, Unlisten, Accept, Send, Recv, Shutdown, Grow, Close, LookAt, Journal, account_of, id_named, is_right}
+use Rattle.laws_driver.specs.Carried.{Calls.{makes_call, names, received_by, sent_of, whole_call, with_call}, Received.{Account, AreReceived, GoesOn, bytes_got, with_received}}
 use Rattle.laws_driver.proofs.Carried.Sending as sending
 
 -- A conversation that makes no call on the ring.

@@ -1,43 +1,26 @@
 -- A poll keeps the account, with the ids of the connections that it opens.
-use Rattle.laws_tables.proofs.Adding.{number_got}
-use Rattle.laws_tables.proofs.Adding.{number_put}
-use Rattle.laws_tables.proofs.Adding.{got_over_put}
-use Rattle.laws_tables.proofs.Adding.{got_adds}
-use Rattle.laws_tables.specs.Drains.{only_on}
-use Rattle.std.proofs.Common.{◌≡◌, ◌≢◌, ℕ, ◌+◌, ◌<◌, ◌≤◌, ◌==◌, ◌&&◌, not, Bool, true, false, cond, List, [], ◌∷◌, ◌++◌, Contains, Option}
-use Rattle.std.proofs.{Common.{Some, None, refl, sym, ap, subst, ◌∙◌, arith}, lemmas.{Bool.Decides.nat_tests, Grind.common_steps}}
-use Rattle.std.specs.List.{All, filter, slice_get}
-use Rattle.vs_conn.specs.End.{ConnectionEnd, answering, end_after, is_refused, is_reset, owes_of, paid_of, verdict_of}
-use Rattle.vs_conn.specs.declared.end.{Owed.Owed, Verdict.Verdict}
-use Rattle.vs_flow.specs.{Connection.Connection, Flow.is_assigned, Flow.same_flow, Table.IsRising, Table.IsTable, Table.entry_of}
-use Rattle.vs_flow.specs.{Table.without, declared.flow.Flow.Flow}
-use Rattle.vs_flow.proofs.Entries.{none_found, same_flow_false}
+use Rattle.laws_tables.proofs.{Adding.{number_got, number_put, got_over_put, got_adds}, Fair.{got_goes_on, got_not_refused, heard_all}, Slots.found_by, Tables.driver_begun}
+use Rattle.laws_tables.{proofs.Goes.{Goes, comes_in, delivers_to, hears_less, only_delivered, pays_less, stays_still}, specs.{Drains.{only_on, receives}, Ends.is_new}}
+use Rattle.laws_tables.specs.{Matches.Matches, Steps.{HasEnd, owed_on, reply_on}}
+use Rattle.std.proofs.Common.{◌≡◌, ◌≢◌, ℕ, ◌+◌, ◌<◌, ◌≤◌, ◌==◌, ◌&&◌, not, Bool, true, false, cond, List, [], ◌∷◌, ◌++◌, Contains, Option, Some, None, refl, sym, ap, subst, ◌∙◌}
+use Rattle.std.{proofs.{Common.arith, lemmas.{Bool.Decides.nat_tests, Grind.common_steps}}, specs.List.{All, filter, slice_get}}
+use Rattle.vs_conn.specs.{End.{ConnectionEnd, answering, end_after, is_refused, is_reset, owes_of, paid_of, verdict_of}, declared.end.{Owed.Owed, Verdict.Verdict}}
+use Rattle.vs_flow.{specs.{Connection.Connection, Flow.{is_assigned, same_flow}, Table.{IsRising, IsTable, entry_of, without}, declared.flow.Flow.Flow}, proofs.Entries.none_found}
+use Rattle.vs_flow.proofs.Entries.{same_flow_false}
 use Rattle.vs_limits.specs.declared.TheConstants.{BUF_ALLOC, HOST_CID}
 use Rattle.laws_history.specs.{declared.packet.Packet.Packet, Packets.is_rw, Again.count, History.{Answerer, Asker, Got, Side, gots, puts}}
-use Rattle.vs_page.specs.{Fair.{IsFairLog, asked_by, current, number_of, payload_got, payload_of}, Held.IsWhole, Log.{Driver, Log}}
-use Rattle.vs_page.specs.{Log.{and_then, flow_got, history_of, side_by, side_of, whole_of}, Open.is_dropped}
-use Rattle.vs_page.specs.declared.log.LogEntry.TheVariants.{GotEvent, GotPacket, Mark, PutPacket}
-use Rattle.vs_page.proofs.{Flows.same_is, Flows.same_self, PayloadLogs.got_none, Present.present_got}
+use Rattle.vs_page.specs.{Fair.{IsFairLog, asked_by, current, number_of, payload_got, payload_of}, Held.IsWhole, Log.{Driver, Log, and_then, flow_got, history_of, side_by}}
+use Rattle.vs_page.{specs.{Log.{side_of, whole_of}, Open.is_dropped, declared.log.LogEntry.TheVariants.{GotEvent, GotPacket, Mark, PutPacket}}, proofs.Flows.{same_is, same_self}}
+use Rattle.vs_page.proofs.{PayloadLogs.got_none, Present.present_got}
 use Rattle.vs_replies.specs.Owed.{reply_to}
-use Rattle.laws_tables.specs.{Ends.is_new, Matches.Matches, Steps.HasEnd, Steps.owed_on, Steps.reply_on}
-use Rattle.laws_tables.proofs.{Fair.got_goes_on, Fair.got_not_refused, Fair.heard_all, Slots.found_by, Tables.driver_begun}
-use Rattle.vs_driver_parts.specs.{Conversations.after_paying, Held.HeldSlots, State.DriverConnection, State.DriverEntry, State.DriverState}
-use Rattle.vs_driver_parts.specs.Connections.{after_leaving, gone_as, is_let_go, paid_connection, with_connection, with_request}
-use Rattle.vs_driver_parts.specs.{Connections.waits_no_more, Receiving.after_packet, Receiving.after_verdict, Receiving.all_left}
-use Rattle.vs_driver_parts.specs.Receiving.{is_request, may_open, on_heard, on_known, on_packet, on_unknown, reset_reply, with_reply}
-use Rattle.vs_driver_parts.proofs.{Ids.found_under, Packets.first_under, Packets.others_left, Packets.packet_known, Packets.packet_unknown}
-use Rattle.laws_tables.specs.Drains.{receives}
-use Rattle.laws_tables.proofs.Goes.{Goes, comes_in, delivers_to, hears_less, only_delivered, pays_less, stays_still}
-use Rattle.laws_driver.specs.Honest.{IsFitState, ends_of_state, slots_of}
-use Rattle.laws_driver.proofs.{Carrying.Carries, Carrying.Fact, Tabling.Stands, Tabling.entry_fits, Tabling.has_end, Tabling.leaves}
-use Rattle.laws_driver.proofs.{Resetting.first_contained, Resetting.with_cid, Taking.with_reply_fits}
-use Rattle.laws_driver.specs.Carried.Received.{Account}
-use Rattle.laws_driver.specs.Carried.Received.{AreReceived}
-use Rattle.laws_driver.specs.Carried.Received.{GoesOn}
-use Rattle.laws_driver.specs.Carried.Received.{with_opened}
+use Rattle.vs_driver_parts.specs.{Conversations.after_paying, Held.HeldSlots, State.{DriverConnection, DriverEntry, DriverState}, Connections.{after_leaving, gone_as, is_let_go}}
+use Rattle.vs_driver_parts.specs.{Connections.{paid_connection, with_connection, with_request, waits_no_more}, Receiving.{after_packet, after_verdict, all_left, is_request}}
+use Rattle.vs_driver_parts.{specs.Receiving.{may_open, on_heard, on_known, on_packet, on_unknown, reset_reply, with_reply}, proofs.{Ids.found_under, Packets.first_under}}
+use Rattle.vs_driver_parts.proofs.Packets.{others_left, packet_known, packet_unknown}
+use Rattle.laws_driver.{specs.{Honest.{IsFitState, ends_of_state, slots_of}, Carried.Received.{Account, AreReceived, GoesOn, with_opened}}, proofs.Carrying.{Carries, Fact}}
+use Rattle.laws_driver.proofs.{Tabling.{Stands, entry_fits, has_end, leaves}, Resetting.{first_contained, with_cid}, Taking.with_reply_fits, Carried.Changing.puts_and_alters}
+use Rattle.laws_driver.proofs.Carried.{Logging.{leaves_received, opened_goes_on, opened_received, passes_by, same_received}, Reading.given_none, Receiving.changed_received}
 use Rattle.vs_header.specs.declared.Kind.TheVariants.{Stream}
-use Rattle.laws_driver.proofs.Carried.{Changing.puts_and_alters, Logging.leaves_received, Logging.opened_goes_on, Logging.opened_received}
-use Rattle.laws_driver.proofs.Carried.{Logging.passes_by, Logging.same_received, Reading.given_none, Receiving.changed_received}
 use Rattle.vs_conn.specs.declared.end.Owed.TheVariants as owed
 use Rattle.vs_conn.specs.declared.end.Verdict.TheVariants as verdict
 use Rattle.laws_history.specs.Packets as packets

@@ -1,29 +1,17 @@
 -- A receive: the bytes that it gives are of the unread ones the first.
-use Rattle.laws_tables.specs.Drains.{only_on}
-use Rattle.std.proofs.Common.{◌≡◌, ◌≢◌, ℕ, zero, suc, ◌<◌, ◌==◌, nat_lt, min, Bool, true, false, cond, List, [], ◌∷◌, ◌++◌, length, take}
-use Rattle.std.proofs.Common.{drop, get_or, Option, Some, None, refl, sym, ap, subst, ◌∙◌, arith, append-nil, append_assoc}
-use Rattle.std.proofs.{lemmas.List.{get_or_default, take_min}, lemmas.Option.{get_or_from_slice_get, slice_get_within}}
-use Rattle.std.{proofs.Common.take-append-drop, proofs.lemmas.Bool.Decides.nat_tests, proofs.Math.Seq.take-nil, specs.List.All}
+use Rattle.laws_tables.{specs.Drains.{only_on, Drains, receives}, proofs.{Slots.found_by, Logs.{nothing_more, shorter}, Goes.{comes_out, forwards_less}}}
+use Rattle.std.proofs.Common.{◌≡◌, ◌≢◌, ℕ, zero, suc, ◌<◌, ◌==◌, nat_lt, min, Bool, true, false, cond, List, [], ◌∷◌, ◌++◌, length, take, drop, get_or, Option, Some, None, refl}
+use Rattle.std.proofs.{Common.{sym, ap, subst, ◌∙◌, arith, append-nil, append_assoc, take-append-drop}, lemmas.{List.{get_or_default, take_min}, Option.get_or_from_slice_get}}
+use Rattle.std.{proofs.{lemmas.{Option.slice_get_within, Bool.Decides.nat_tests}, Math.Seq.take-nil}, specs.List.All}
 use Rattle.vs_conn.specs.declared.end.State.{State}
-use Rattle.vs_flow.{specs.Connection.Connection, specs.Table.IsTable, proofs.Entries.found_passes, proofs.Lookups.find_place}
-use Rattle.vs_page.specs.{Fair.IsPrefixOf, Fair.current, Fair.payload_got, Log.Driver, Log.Log}
-use Rattle.laws_tables.proofs.Slots.{found_by}
-use Rattle.vs_driver_parts.specs.Connections.{after_read, after_recv, all_gone_after_read, entry_answer, entry_read, gone_answer, is_at_end}
-use Rattle.vs_driver_parts.specs.State.{DriverEntry, DriverState, GoneConnection, entry_known_as, gone_known_as, is_known_as}
-use Rattle.vs_driver_parts.specs.Connections.{nothing_read, read_of, recv_of, unread_of_id, with_connection}
-use Rattle.vs_driver_parts.specs.{declared.answers.Received.Received, Held.HeldSlots, SlotFields.AreNumbered}
-use Rattle.vs_driver_parts.proofs.GoneChanges.{read_none}
-use Rattle.vs_driver_parts.proofs.Known.{after_recv_gone, after_recv_known, recv_gone_some, recv_known, unread_gone_some, unread_known}
-use Rattle.laws_tables.specs.Drains.{Drains, receives}
-use Rattle.laws_tables.proofs.{Logs.nothing_more, Logs.shorter, Goes.comes_out, Goes.forwards_less}
-use Rattle.laws_driver.specs.Honest.{slots_of}
-use Rattle.laws_driver.specs.Carried.Received.{Account}
-use Rattle.laws_driver.specs.Carried.Received.{AreReceived}
-use Rattle.laws_driver.specs.Carried.Received.{ReceivedOn}
-use Rattle.laws_driver.specs.Carried.Received.{after_receive}
-use Rattle.laws_driver.specs.Carried.Received.{bytes_got}
-use Rattle.laws_driver.specs.Carried.Received.{with_received}
-use Rattle.laws_driver.proofs.Carried.Receiving.{apart_by, changed_received, number_same, same_account}
+use Rattle.vs_flow.{specs.{Connection.Connection, Table.IsTable}, proofs.{Entries.found_passes, Lookups.find_place}}
+use Rattle.vs_page.specs.{Fair.{IsPrefixOf, current, payload_got}, Log.{Driver, Log}}
+use Rattle.vs_driver_parts.specs.Connections.{after_read, after_recv, all_gone_after_read, entry_answer, entry_read, gone_answer, is_at_end, nothing_read, read_of, recv_of}
+use Rattle.vs_driver_parts.specs.{Connections.{unread_of_id, with_connection}, State.{DriverEntry, DriverState, GoneConnection, entry_known_as, gone_known_as, is_known_as}}
+use Rattle.vs_driver_parts.{specs.{declared.answers.Received.Received, Held.HeldSlots, SlotFields.AreNumbered}, proofs.{GoneChanges.read_none, Known.after_recv_gone}}
+use Rattle.vs_driver_parts.proofs.Known.{after_recv_known, recv_gone_some, recv_known, unread_gone_some, unread_known}
+use Rattle.laws_driver.{specs.{Honest.slots_of, Carried.Received.{Account, AreReceived, ReceivedOn, after_receive, bytes_got, with_received}}, proofs.Carried.Receiving.apart_by}
+use Rattle.laws_driver.proofs.Carried.Receiving.{changed_received, number_same, same_account}
 use Rattle.vs_conn.specs.declared.end.State.TheVariants as state
 use Rattle.vs_driver_parts.specs.declared.answers.Received.TheVariants as got
 

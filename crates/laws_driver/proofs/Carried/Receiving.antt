@@ -1,20 +1,12 @@
 -- What an application received, through each change of a connection.
-use Rattle.laws_tables.specs.Drains.{only_on}
-use Rattle.std.proofs.Common.{◌≡◌, ◌≢◌, ℕ, ◌<◌, ◌≤◌, ◌==◌, ◌&&◌, Bool, true, false, cond, List, [], ◌++◌, length, get_or, Contains, refl}
-use Rattle.std.proofs.Common.{sym, ap, subst, ◌∙◌, arith, append-nil}
-use Rattle.std.{proofs.Math.Path.fun_ext, proofs.lemmas.Bool.Decides.nat_tests, proofs.lemmas.List.Elements.All-contains, specs.List.All}
-use Rattle.vs_flow.{specs.Connection.Connection, specs.Table.IsTable, specs.declared.flow.Flow.Flow, proofs.Entries.same_flow_false}
-use Rattle.vs_page.specs.Fair.{IsPrefixOf, current, number_of, payload_got}
-use Rattle.vs_page.{proofs.Flows.same_self, specs.Log.Driver, specs.Log.Log}
-use Rattle.vs_driver_parts.specs.State.{DriverConnection, DriverEntry, GoneConnection}
-use Rattle.vs_driver_parts.specs.{Held.HeldSlots, Held.with_connection_in, SlotFields.AreNumbered}
-use Rattle.vs_driver_parts.proofs.{Ids.HasId, Ids.value_of, Numbers.id_there, Numbers.numbers_with_value}
-use Rattle.laws_tables.specs.Drains.{Drains, receives}
-use Rattle.laws_tables.proofs.{Changes.changed, Changes.under_slot, Logs.longer, Logs.shorter, Goes.Goes}
-use Rattle.laws_driver.specs.Carried.Received.{Account}
-use Rattle.laws_driver.specs.Carried.Received.{AreReceived}
-use Rattle.laws_driver.specs.Carried.Received.{ReceivedOn}
-use Rattle.laws_driver.specs.Carried.Received.{ReceivesOn}
+use Rattle.laws_tables.{specs.Drains.{only_on, Drains, receives}, proofs.{Changes.{changed, under_slot}, Logs.{longer, shorter}, Goes.Goes}}
+use Rattle.std.proofs.Common.{◌≡◌, ◌≢◌, ℕ, ◌<◌, ◌≤◌, ◌==◌, ◌&&◌, Bool, true, false, cond, List, [], ◌++◌, length, get_or, Contains, refl, sym, ap, subst, ◌∙◌, arith, append-nil}
+use Rattle.std.{proofs.{Math.Path.fun_ext, lemmas.{Bool.Decides.nat_tests, List.Elements.All-contains}}, specs.List.All}
+use Rattle.vs_flow.{specs.{Connection.Connection, Table.IsTable, declared.flow.Flow.Flow}, proofs.Entries.same_flow_false}
+use Rattle.vs_page.{specs.{Fair.{IsPrefixOf, current, number_of, payload_got}, Log.{Driver, Log}}, proofs.Flows.same_self}
+use Rattle.vs_driver_parts.{specs.{State.{DriverConnection, DriverEntry, GoneConnection}, Held.{HeldSlots, with_connection_in}, SlotFields.AreNumbered}, proofs.Ids.HasId}
+use Rattle.vs_driver_parts.proofs.{Ids.value_of, Numbers.{id_there, numbers_with_value}}
+use Rattle.laws_driver.specs.Carried.Received.{Account, AreReceived, ReceivedOn, ReceivesOn}
 
 -- Other slots, of which the next one has the same id.
 pub in_slots : (a : Account) (log : Log) (slots new : HeldSlots) → AreReceived a log slots → new.next_id ≡ slots.next_id

@@ -4,11 +4,10 @@ use Rattle.vs_flow.specs.Connection.{Connection}
 use Rattle.vs_page.specs.Log.{Log}
 use Rattle.vs_ring_port.specs.{Contents.RingContents, EndLog.EndLog}
 use Rattle.vs_driver_parts.specs.{Conversations.{DriverTree, poll_of}, Playing.Plays, State.DriverState, declared.answers.Polled.Polled}
-use Rattle.laws_driver.specs.Honest.{IsHonestWith, slots_of}
-use Rattle.laws_driver.specs.Carried.Calls.{GuestCall, Journal, ReplyTo, account_of, is_right, makes_call, received_by, whole_call, with_call}
-use Rattle.laws_driver.specs.Carried.{Received.Account, Received.AreReceived, Senders.GoesRightWith, Senders.IsRightWith, Sent.TellsMore}
-use Rattle.laws_driver.proofs.Carried.{Ending.poll_ends, Growing.{goes_on, honest_stays}, Journaling.{Carried, journaled, sent_just}, Making.{further_as, made_with, whole_with}}
-use Rattle.laws_driver.proofs.Carried.{Senders.{Says, call_says, sent_more, step_says, still_sent}, Sending.poll_sent}
+use Rattle.laws_driver.specs.{Honest.{IsHonestWith, slots_of}, Carried.Calls.{GuestCall, Journal, ReplyTo, account_of, is_right, makes_call, received_by, whole_call, with_call}}
+use Rattle.laws_driver.{specs.Carried.{Received.{Account, AreReceived}, Senders.{GoesRightWith, IsRightWith}, Sent.TellsMore}, proofs.Carried.{Ending.poll_ends, Growing.goes_on}}
+use Rattle.laws_driver.proofs.Carried.{Growing.honest_stays, Journaling.{Carried, journaled, sent_just}, Making.{further_as, made_with, whole_with}, Senders.{Says, call_says}}
+use Rattle.laws_driver.proofs.Carried.{Senders.{sent_more, step_says, still_sent}, Sending.poll_sent}
 
 -- A log that is told after a conversation was told before it.
 pub told_before : {A : Type 0} (tree : DriverTree A) (c d : RingContents) (x : A) → Plays tree c x d → (m : EndLog) → d.log ≡ Some m

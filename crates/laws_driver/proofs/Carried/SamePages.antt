@@ -1,15 +1,12 @@
 -- What the guest's calls leave of the pages in flight.
-use Rattle.std.proofs.Common.{◌≡◌, ℕ, ◌==◌, Bool, true, false, cond, List, [], ◌∷◌, length, Option, Some, None, Result, Ok, Err, OnOk}
-use Rattle.std.proofs.Common.{OnErr, refl, sym, subst, ◌∙◌}
+use Rattle.std.proofs.Common.{◌≡◌, ℕ, ◌==◌, Bool, true, false, cond, List, [], ◌∷◌, length, Option, Some, None, Result, Ok, Err, OnOk, OnErr, refl, sym, subst, ◌∙◌}
 use Rattle.vs_conn.specs.declared.end.State.{State}
+use Rattle.vs_driver_parts.specs.Connections.{after_recv, entry_read, after_read, with_connection, after_shutdown, shut_in, after_close, after_grow, entry_grow_answer, grown_by}
+use Rattle.vs_driver_parts.specs.{Connections.{entry_closed, gone_closed, without_gone, all_closed, waiting_on, after_unlisten, all_gone_after_read}, declared.answers.Grown.Grown}
+use Rattle.vs_driver_parts.specs.{declared.answers.{ListenError.ListenError, NotListening.NotListening}, Listening.{listening, after_accept, next_accepted, with_waiting}}
+use Rattle.vs_driver_parts.specs.{Listening.without_id, Playing.SamePages, State.{DriverState, DriverEntry, GoneConnection, entry_known_as, gone_known_as}}
 use Rattle.vs_conn.specs.declared.end.State.TheVariants as state
-use Rattle.vs_driver_parts.specs.Connections.{after_recv, entry_read, after_read, with_connection, after_shutdown, shut_in, after_close}
-use Rattle.vs_driver_parts.specs.{Connections.{after_grow, entry_grow_answer, grown_by}, declared.answers.Grown.Grown}
 use Rattle.vs_driver_parts.specs.declared.answers.Grown.TheVariants as rise
-use Rattle.vs_driver_parts.specs.Connections.{entry_closed, gone_closed, without_gone, all_closed, waiting_on, after_unlisten}
-use Rattle.vs_driver_parts.specs.{Connections.all_gone_after_read, Listening.{listening, after_accept, next_accepted, with_waiting}}
-use Rattle.vs_driver_parts.specs.{Listening.without_id, Playing.SamePages, State.{DriverState, DriverEntry, GoneConnection, entry_known_as}}
-use Rattle.vs_driver_parts.specs.{State.gone_known_as, declared.answers.ListenError.ListenError, declared.answers.NotListening.NotListening}
 
 -- The pages stay.
 stay : (s : DriverState) → SamePages s s

@@ -1,25 +1,16 @@
 -- What was sent on each connection, by the ids that calls named.
-use Rattle.laws_tables.specs.Drains.{is_same}
-use Rattle.laws_tables.specs.Drains.{only_on}
-use Rattle.std.proofs.Common.{◌≡◌, inl, inr, ℕ, ◌≤◌, Bool, true, false, cond, List, [], ◌∷◌, ◌++◌, Option, Some, None, refl, sym, ap, subst}
-use Rattle.std.proofs.{Common.◌∙◌, Common.arith, lemmas.Bool.Decides.nat_tests, lemmas.List.Elements.All-contains}
-use Rattle.std.specs.Prelude.{is_some}
+use Rattle.laws_tables.{specs.Drains.{is_same, only_on}, proofs.Slots.found_by}
+use Rattle.std.proofs.Common.{◌≡◌, inl, inr, ℕ, ◌≤◌, Bool, true, false, cond, List, [], ◌∷◌, ◌++◌, Option, Some, None, refl, sym, ap, subst, ◌∙◌, arith}
+use Rattle.std.{proofs.lemmas.{Bool.Decides.nat_tests, List.Elements.All-contains}, specs.Prelude.is_some}
 use Rattle.vs_contents.specs.CallTree.{Done}
-use Rattle.vs_flow.specs.Connection.{Connection}
-use Rattle.vs_flow.proofs.Entries.{found_passes}
-use Rattle.vs_page.specs.{Fair.current, Fair.payload_put, Log.Driver, Log.Log}
+use Rattle.vs_flow.{specs.Connection.Connection, proofs.Entries.found_passes}
+use Rattle.vs_page.specs.{Fair.{current, payload_put}, Log.{Driver, Log}}
 use Rattle.vs_ring_port.specs.Contents.{RingContents}
-use Rattle.vs_driver_parts.specs.{declared.answers.Sent.Sent, Conversations.{DriverTree, not_sent, send_on}, Playing.Plays, Steps.sends_on}
-use Rattle.vs_driver_parts.specs.State.{DriverEntry, DriverState, entry_known_as, gone_known_as, is_known_as}
+use Rattle.vs_driver_parts.specs.{declared.answers.Sent.Sent, Conversations.{DriverTree, not_sent, send_on}, Playing.Plays, Steps.sends_on, State.{DriverEntry, DriverState}}
+use Rattle.vs_driver_parts.specs.State.{entry_known_as, gone_known_as, is_known_as}
+use Rattle.laws_driver.specs.{Honest.slots_of, Carried.Calls.{GuestCall, Journal, ReplyTo, Send, bytes_sent, id_named, makes_call, sent_of, whole_call, with_call}}
+use Rattle.laws_driver.specs.Carried.{Received.{Account, AreReceived, ReceivesOn}, Sent.took, Senders.{AreSenders, IsSender, IsSent, sent_there, sent_to}}
 use Rattle.vs_driver_parts.specs.declared.answers.Sent.TheVariants as sent
-use Rattle.laws_tables.proofs.Slots.{found_by}
-use Rattle.laws_driver.specs.Honest.{slots_of}
-use Rattle.laws_driver.specs.Carried.Calls.{GuestCall, Journal, ReplyTo, Send, bytes_sent, id_named, makes_call, sent_of, whole_call, with_call}
-use Rattle.laws_driver.specs.Carried.Received.{Account}
-use Rattle.laws_driver.specs.Carried.Received.{AreReceived}
-use Rattle.laws_driver.specs.Carried.Received.{ReceivesOn}
-use Rattle.laws_driver.specs.Carried.Sent.{took}
-use Rattle.laws_driver.specs.Carried.Senders.{AreSenders, IsSender, IsSent, sent_there, sent_to}
 
 pub only_none : (at c : Connection) (bytes : List ℕ) → bytes ≡ [] → only_on at bytes c ≡ []
 only_none at c bytes none = by (is_same c at)

@@ -1,29 +1,17 @@
 -- The payload that the driver's calls put.
-use Rattle.laws_tables.proofs.Adding.{put_over_got}
-use Rattle.laws_tables.proofs.Adding.{put_adds}
-use Rattle.laws_tables.specs.Drains.{only_on}
-use Rattle.std.proofs.Common.{◌≡◌, ℕ, zero, suc, Bool, true, false, cond, List, [], ◌∷◌, ◌++◌, length, take, Option, Some, None, Result, Ok}
-use Rattle.std.proofs.Common.{Err, ◌||◌, refl, sym, ap, subst, ◌∙◌, append-nil}
-use Rattle.std.specs.Prelude.{find, is_some}
+use Rattle.laws_tables.{proofs.Adding.{put_over_got, put_adds}, specs.{Drains.only_on, Steps.payload_on}}
+use Rattle.std.proofs.Common.{◌≡◌, ℕ, zero, suc, Bool, true, false, cond, List, [], ◌∷◌, ◌++◌, length, take, Option, Some, None, Result, Ok, Err, ◌||◌, refl, sym, ap, subst, ◌∙◌}
+use Rattle.std.{proofs.Common.append-nil, specs.Prelude.{find, is_some}}
 use Rattle.vs_contents.specs.CallTree.{Done}
-use Rattle.vs_conn.specs.{End.ConnectionEnd, End.state_may_send, declared.end.State.State, declared.end.Stop.Stop}
+use Rattle.vs_conn.specs.{End.{ConnectionEnd, state_may_send}, declared.end.{State.State, Stop.Stop}}
 use Rattle.vs_credit.specs.Credit.{free_of}
 use Rattle.vs_flow.specs.{Connection.Connection, Table.Table}
-use Rattle.vs_page.proofs.PayloadLogs.{put_none}
-use Rattle.vs_page.specs.{Fair.IsFairLog, Fair.current, Fair.payload_put, Log.Driver, Log.Log, declared.log.LogEntry.TheVariants.PutPacket}
+use Rattle.vs_page.{proofs.PayloadLogs.put_none, specs.{Fair.{IsFairLog, current, payload_put}, Log.{Driver, Log}, declared.log.LogEntry.TheVariants.PutPacket}}
 use Rattle.vs_ring_port.specs.{Contents.RingContents, EndLog.EndLog}
-use Rattle.laws_tables.specs.Steps.{payload_on}
-use Rattle.vs_driver_parts.specs.Conversations.{DriverTree, no_credit, not_sent, poll_of, send_of, send_on, send_stopped, send_with_credit}
-use Rattle.vs_driver_parts.specs.State.{DriverEntry, DriverState, entry_known_as, DriverConnection, gone_known_as, is_known_as}
-use Rattle.vs_driver_parts.specs.{declared.answers.Polled.Polled, declared.answers.Sent.Sent, Playing.Plays}
-use Rattle.laws_driver.specs.Honest.{IsHonestWith}
-use Rattle.laws_driver.proofs.Carrying.{Carries, Fact, Holds}
-use Rattle.laws_driver.proofs.{Calls.CarriesSend, Keeping.keeps_end, Polling.poll_keeps, Ringing.at_rest, Staging.Rests}
-use Rattle.laws_driver.specs.Carried.Sent.{PutsJust}
-use Rattle.laws_driver.specs.Carried.Sent.{none_on}
-use Rattle.laws_driver.specs.Carried.Sent.{sent_by}
-use Rattle.laws_driver.specs.Carried.Sent.{took}
-use Rattle.laws_driver.proofs.Carried.Growing.{honest_stays}
+use Rattle.vs_driver_parts.specs.{Conversations.{DriverTree, no_credit, not_sent, poll_of, send_of, send_on, send_stopped, send_with_credit}, State.{DriverEntry, DriverState}}
+use Rattle.vs_driver_parts.specs.{State.{entry_known_as, DriverConnection, gone_known_as, is_known_as}, declared.answers.{Polled.Polled, Sent.Sent}, Playing.Plays}
+use Rattle.laws_driver.{specs.{Honest.IsHonestWith, Carried.Sent.{PutsJust, none_on, sent_by, took}}, proofs.{Carrying.{Carries, Fact, Holds}, Calls.CarriesSend}}
+use Rattle.laws_driver.proofs.{Keeping.keeps_end, Polling.poll_keeps, Ringing.at_rest, Staging.Rests, Carried.Growing.honest_stays}
 use Rattle.vs_conn.specs.declared.end.State.TheVariants as state
 use Rattle.vs_conn.specs.declared.end.Stop.TheVariants as stop
 use Rattle.vs_driver_parts.specs.declared.answers.Sent.TheVariants as sent

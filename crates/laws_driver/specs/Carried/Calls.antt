@@ -1,20 +1,16 @@
 -- The guest's own calls, each with what it answers; and the journal of those that were made.
-use Rattle.std.specs.Prelude.{◌≡◌, ℕ, ◌≤◌, ◌^◌, ◌==◌, nat_lt, Bool, true, false, if◌then◌else◌, List, [], ◌∷◌, ◌++◌, Option, Some, None}
-use Rattle.std.specs.{Prelude.Result, Prelude.Ok, Prelude.Err, Prelude.is_some, Option.ForSome, Option.option_map_or}
+use Rattle.std.specs.{Prelude.{◌≡◌, ℕ, ◌≤◌, ◌^◌, ◌==◌, nat_lt, Bool, true, false, if◌then◌else◌, List, [], ◌∷◌, ◌++◌, Option, Some, None, Result, Ok, Err, is_some}, Option.ForSome}
+use Rattle.std.specs.Option.{option_map_or}
 use Rattle.vs_contents.specs.CallTree.{Done}
 use Rattle.vs_flow.specs.{Connection.Connection, Flow.same_flow, declared.flow.Flow.Flow}
-use Rattle.vs_driver_parts.specs.declared.answers.{Accepted.Accepted, Closed.Closed, ConnectError.ConnectError}
-use Rattle.vs_driver_parts.specs.declared.answers.{ConnectionState.ConnectionState, ListenError.ListenError, Received.Received, Sent.Sent}
-use Rattle.vs_driver_parts.specs.{declared.answers.Shut.Shut, State.DriverState, Connections.{recv_of, unread_of_id, after_recv}}
-use Rattle.vs_driver_parts.specs.{Connections.after_grow, Connections.grow_of, declared.answers.Grown.Grown}
-use Rattle.vs_driver_parts.specs.Connections.{shutdown_of, after_shutdown, close_of, after_close, after_unlisten, state_of, flow_of}
-use Rattle.vs_driver_parts.specs.{Connections.next_flow, Conversations.{DriverTree, connect_of, send_of}, Listening.listener_on}
-use Rattle.vs_driver_parts.specs.{Listening.{listen_of, listening, accept_of, after_accept}, Steps.{connects, sends}}
+use Rattle.vs_driver_parts.specs.declared.answers.{Accepted.Accepted, Closed.Closed, ConnectError.ConnectError, ConnectionState.ConnectionState, ListenError.ListenError}
+use Rattle.vs_driver_parts.specs.{declared.answers.{Received.Received, Sent.Sent, Shut.Shut, Grown.Grown}, State.DriverState, Connections.{recv_of, unread_of_id, after_recv}}
+use Rattle.vs_driver_parts.specs.Connections.{after_grow, grow_of, shutdown_of, after_shutdown, close_of, after_close, after_unlisten, state_of, flow_of, next_flow}
+use Rattle.vs_driver_parts.specs.{Conversations.{DriverTree, connect_of, send_of}, Listening.{listener_on, listen_of, listening, accept_of, after_accept}, Steps.{connects, sends}}
 use Rattle.vs_page.specs.Log.{Log}
 use Rattle.vs_ring_port.specs.Contents.{RingContents}
-use Rattle.laws_driver.specs.Honest.{slots_of}
+use Rattle.laws_driver.specs.{Honest.slots_of, Carried.{Received.{Account, AreReceived, bytes_got}, Sent.{sent_by, took}}}
 use Rattle.vs_driver_parts.specs.declared.answers.Accepted.TheVariants as accepted
-use Rattle.laws_driver.specs.Carried.{Received.Account, Received.AreReceived, Received.bytes_got, Sent.sent_by, Sent.took}
 
 -- A call on the driver, a poll aside. A receive is into a buffer of so many bytes.
 pub data GuestCall : Type 0 where

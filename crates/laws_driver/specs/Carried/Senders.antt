@@ -2,14 +2,10 @@
 use Rattle.laws_tables.specs.Drains.{only_on}
 use Rattle.std.specs.{Option.ForSome, Prelude.{◌≡◌, ◌⊎◌, ℕ, ◌≤◌, ◌++◌, true, List, [], ◌∷◌, Option, Some, None}}
 use Rattle.vs_flow.specs.Connection.{Connection}
-use Rattle.vs_page.specs.{Fair.payload_put, Log.Driver, Log.Log}
+use Rattle.vs_page.specs.{Fair.payload_put, Log.{Driver, Log}}
 use Rattle.vs_ring_port.specs.Contents.{RingContents}
 use Rattle.vs_driver_parts.specs.{Held.HeldSlots, State.DriverState}
-use Rattle.laws_driver.specs.Honest.{slots_of}
-use Rattle.laws_driver.specs.Carried.Calls.{Journal}
-use Rattle.laws_driver.specs.Carried.Calls.{account_of}
-use Rattle.laws_driver.specs.Carried.Calls.{bytes_sent}
-use Rattle.laws_driver.specs.Carried.Received.{AreReceived}
+use Rattle.laws_driver.specs.{Honest.slots_of, Carried.{Calls.{Journal, account_of, bytes_sent}, Received.AreReceived}}
 
 -- What was sent on a connection, where ids were given to these.
 abbrev pub sent_there : (ℕ → Connection) → Connection → Option ℕ → List ℕ → List ℕ

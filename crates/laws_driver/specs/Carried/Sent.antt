@@ -1,22 +1,11 @@
 -- The payload that the driver puts, connection by connection.
-use Rattle.laws_tables.specs.Drains.{only_on}
-use Rattle.std.specs.Option.{ForSome}
-use Rattle.std.specs.Prelude.{◌≡◌}
-use Rattle.std.specs.Prelude.{ℕ}
-use Rattle.std.specs.Prelude.{true}
-use Rattle.std.specs.Prelude.{List}
-use Rattle.std.specs.Prelude.{[]}
-use Rattle.std.specs.Prelude.{◌++◌}
-use Rattle.std.specs.Prelude.{take}
-use Rattle.std.specs.Prelude.{Option}
-use Rattle.std.specs.Prelude.{Some}
-use Rattle.std.specs.Prelude.{None}
+use Rattle.laws_tables.specs.{Drains.only_on, Later.IsLater}
+use Rattle.std.specs.{Option.ForSome, Prelude.{◌≡◌, ℕ, true, List, [], ◌++◌, take, Option, Some, None}}
 use Rattle.vs_flow.specs.Connection.{Connection}
-use Rattle.laws_tables.specs.Later.{IsLater}
-use Rattle.vs_page.specs.{Fair.current, Fair.payload_put, Log.Driver, Log.Log}
+use Rattle.vs_page.specs.{Fair.{current, payload_put}, Log.{Driver, Log}}
 use Rattle.vs_contents.specs.Contents.{Relates}
 use Rattle.vs_ring_port.specs.{Contents.RingContents, EndLog.EndLog}
-use Rattle.vs_driver_parts.specs.{declared.answers.Sent.Sent, State.DriverState, State.entry_known_as}
+use Rattle.vs_driver_parts.specs.{declared.answers.Sent.Sent, State.{DriverState, entry_known_as}}
 use Rattle.vs_driver_parts.specs.declared.answers.Sent.TheVariants as sent
 
 -- No bytes on any connection.

@@ -3,8 +3,7 @@ use Rattle.std.proofs.Common.{List}
 use Rattle.vs_flow.specs.Table.{Table}
 use Rattle.vs_device_parts.specs.State.{DeviceConnection}
 use Rattle.vs_proxy_parts.specs.State.{Handshake}
-use Rattle.laws_proxy.specs.Account.{Carried.Carries, Made.Made, Made.account_of, Tied.AgreesWith}
-use Rattle.laws_proxy.proofs.Account.Entries.{join_of, streams_apart}
+use Rattle.laws_proxy.{specs.Account.{Carried.Carries, Made.{Made, account_of}, Tied.AgreesWith}, proofs.Account.Entries.{join_of, streams_apart}}
 
 pub carries : (calls : List Made) (t : Table DeviceConnection) (hands : List Handshake) → AgreesWith calls t hands → Carries calls t
 carries calls t hands x = record {

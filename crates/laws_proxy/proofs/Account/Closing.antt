@@ -1,19 +1,17 @@
 -- Connections whose end changes, streams that are closed, connections that leave.
-use Rattle.laws_device.{specs.Walk.Seen.Seen, proofs.Walk.Serving.Closes, proofs.Walk.Serving.IsIn}
+use Rattle.laws_device.{specs.Walk.Seen.Seen, proofs.Walk.Serving.{Closes, IsIn}}
 use Rattle.vs_ring_port.specs.declared.device_ring.Chain.{Chain}
-use Rattle.laws_proxy.specs.Account.Made.{Account, Made, account_of, made, payload_put, payload_taken, shut}
-use Rattle.laws_proxy.specs.Account.Tied.{Agree, AgreesWith, IsLawful, IsOver, IsTied, IsTiedTo}
-use Rattle.laws_proxy.proofs.Account.{Keeping.asking, Keeping.Keeps, Accounts.Changes, Accounts.changes, Accounts.changing, Accounts.stays}
-use Rattle.laws_proxy.proofs.Account.{Entries.given_of, Entries.given_shut, Entries.join_of, Entries.left, Entries.moved, Ties.closed_before}
+use Rattle.laws_proxy.specs.Account.{Made.{Account, Made, account_of, made, payload_put, payload_taken, shut}, Tied.{Agree, AgreesWith, IsLawful, IsOver, IsTied, IsTiedTo}}
+use Rattle.laws_proxy.proofs.Account.{Keeping.{asking, Keeps}, Accounts.{Changes, changes, changing, stays}, Entries.{given_of, given_shut, join_of, left, moved}}
+use Rattle.laws_proxy.proofs.Account.Ties.{closed_before, closes as closes_tie}
 use Rattle.std.proofs.{Common.{◌≡◌, ℕ, true, List, ◌∷◌, Contains, Option, refl, sym, subst, ◌∙◌}, lemmas.List.Elements.All-contains}
-use Rattle.vs_flow.specs.{Table.Table, Table.with_value, Table.without, declared.flow.Flow.Flow}
-use Rattle.vs_device_parts.specs.Connections.{after_leaving, cut_off, stream_closed, with_connection}
-use Rattle.vs_device_parts.specs.{Calls.CloseStream, State.DeviceConnection, State.DeviceEntry, State.DeviceState, Streams.tick_of}
+use Rattle.vs_flow.specs.{Table.{Table, with_value, without}, declared.flow.Flow.Flow}
+use Rattle.vs_device_parts.specs.{Connections.{after_leaving, cut_off, stream_closed, with_connection}, Calls.CloseStream, State.{DeviceConnection, DeviceEntry, DeviceState}}
+use Rattle.vs_device_parts.specs.Streams.{tick_of}
 use Rattle.vs_conn.specs.End.{aborted}
 use Rattle.vs_proxy_parts.specs.State.{Handshake}
 use Rattle.laws_tables.proofs.Changes.{changed, others_left, without_changed}
 use Rattle.laws_device.proofs.Walk.Serving as walked
-use Rattle.laws_proxy.proofs.Account.{Ties.closes as closes_tie}
 use Rattle.vs_conn.specs.declared.end.State.TheVariants as state
 
 -- A connection and its stream's account change, or the connection leaves.

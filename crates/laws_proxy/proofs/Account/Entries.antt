@@ -1,19 +1,16 @@
 -- Connections and handshakes with the accounts of their streams, through each change of them.
-use Rattle.std.proofs.Common.{◌≡◌, ◌≢◌, ℕ, ◌==◌, ◌&&◌, not, Bool, true, false, cond, List, [], ◌++◌, Contains, Option, Some, None, refl}
-use Rattle.std.proofs.Common.{sym, ap, subst, ◌∙◌, arith}
-use Rattle.std.specs.{List.All, List.AllPairs, Option.option_map, Option.option_map_or, Option.option_and_then, Option.option_or}
-use Rattle.std.proofs.lemmas.{Bool.Decides.nat_tests, List.Elements.All-contains, List.Elements.All-push, List.Elements.All-weaker}
-use Rattle.vs_flow.specs.Table.{IsTable, Table, entry_of, entry_under, next_entry, revalued, with_entry, with_value, without}
-use Rattle.vs_flow.proofs.Lookups.{entry_of-with_entry, entry_of-with_value, entry_of-without, entry_of_found, entry_under_found}
-use Rattle.vs_flow.proofs.Tables.{IsAccepted, with_entry_sound, with_value_sound, without_sound}
-use Rattle.vs_flow.{specs.Flow.same_flow, specs.declared.flow.Flow.Flow, proofs.Entries.same_flow_true}
+use Rattle.std.proofs.Common.{◌≡◌, ◌≢◌, ℕ, ◌==◌, ◌&&◌, not, Bool, true, false, cond, List, [], ◌++◌, Contains, Option, Some, None, refl, sym, ap, subst, ◌∙◌, arith}
+use Rattle.std.{proofs.lemmas.{Bool.Decides.nat_tests, List.Elements.{All-contains, All-push, All-weaker}}, specs.{List.{All, AllPairs}, Option.{option_map, option_map_or}}}
+use Rattle.std.specs.Option.{option_and_then, option_or}
+use Rattle.vs_flow.specs.{Table.{IsTable, Table, entry_of, entry_under, next_entry, revalued, with_entry, with_value, without}, Flow.same_flow, declared.flow.Flow.Flow}
+use Rattle.vs_flow.proofs.{Lookups.{entry_of-with_entry, entry_of-with_value, entry_of-without, entry_of_found, entry_under_found}, Tables.{IsAccepted, with_entry_sound}}
+use Rattle.vs_flow.proofs.{Tables.{with_value_sound, without_sound}, Entries.same_flow_true}
 use Rattle.vs_page.{proofs.Flows.same_self, specs.Fair.IsPrefixOf}
 use Rattle.vs_device_parts.specs.State.{DeviceConnection, DeviceEntry}
 use Rattle.vs_proxy_parts.specs.State.{Handshake}
-use Rattle.laws_tables.proofs.{Changes.changed, Changes.others_left, Changes.under_slot, Logs.shorter}
+use Rattle.laws_tables.proofs.{Changes.{changed, others_left, under_slot}, Logs.shorter}
 use Rattle.laws_device.proofs.Carried.Streamed.{is_or_not}
-use Rattle.laws_proxy.specs.Account.Made.{Account, is_on, shut, took, with_taken}
-use Rattle.laws_proxy.specs.Account.Tied.{AreTied, IsLawful, IsTied, IsTiedTo, ok_line_of, reading_account, stream_of}
+use Rattle.laws_proxy.specs.Account.{Made.{Account, is_on, shut, took, with_taken}, Tied.{AreTied, IsLawful, IsTied, IsTiedTo, ok_line_of, reading_account, stream_of}}
 use Rattle.laws_proxy.proofs.Account.Accounts.{Changes, changing}
 use Rattle.vs_uds.specs.{Reading.is_decided, declared.connect.TheConstants.CONNECT_MAX}
 

@@ -1,16 +1,14 @@
 -- A turn tells whether it put an event.
-use Rattle.std.proofs.Common.{◌≡◌, ℕ, ◌+◌, ◌-◌, ◌≤◌, ◌==◌, ◌&&◌, not, Bool, true, false, cond, List, [], ◌∷◌, length, Option, Some, None}
-use Rattle.std.proofs.{Common.{refl, sym, ap, subst, arith}, lemmas.Bool.Decides.nat_tests}
-use Rattle.vs_contents.specs.CallTree.{Done, Ask, Leads, bind}
-use Rattle.vs_contents.proofs.Leads.{AllEnds, end_of, ends_bind}
-use Rattle.vs_header.specs.{declared.Header.Header, declared.TheConstants.HEADER_LEN}
-use Rattle.vs_ring_port.specs.declared.{device_ring.Chain.Chain, device_ring.Next.Next, failure.Failure.Failure}
+use Rattle.std.proofs.Common.{◌≡◌, ℕ, ◌+◌, ◌-◌, ◌≤◌, ◌==◌, ◌&&◌, not, Bool, true, false, cond, List, [], ◌∷◌, length, Option, Some, None, refl, sym, ap, subst, arith}
+use Rattle.std.proofs.lemmas.Bool.Decides.{nat_tests}
+use Rattle.vs_contents.{specs.CallTree.{Done, Ask, Leads, bind}, proofs.Leads.{AllEnds, end_of, ends_bind}}
+use Rattle.vs_header.specs.declared.{Header.Header, TheConstants.HEADER_LEN}
+use Rattle.vs_ring_port.specs.declared.{device_ring.{Chain.Chain, Next.Next}, failure.Failure.Failure}
 use Rattle.vs_device_parts.specs.{Calls.{Answer, DeviceTree}, Receiving.written}
-use Rattle.vs_proxy_parts.specs.Turns.{event_stage, fill_stage, pump_stage, take_stage, tick_stage, turn_of, unless_failed}
-use Rattle.vs_proxy_parts.specs.{Handshakes.shake_hands, State.ProxyState, State.Turning, State.start}
-use Rattle.vs_proxy_parts.specs.declared.answers.{Turn.Turn, Turned.Turned}
-use Rattle.laws_device.proofs.Walk.{Fields.{AfterEventPage, AfterTx, Calls, Fields, TxCalls, after_rx, fields, fields_turn}, Keeping.Asking, Keeping.Keeps}
-use Rattle.laws_proxy.specs.Account.{Events.TellsEvent, Events.event_put, Events.events_put, Made.Made, Made.Makes}
+use Rattle.vs_proxy_parts.specs.{Turns.{event_stage, fill_stage, pump_stage, take_stage, tick_stage, turn_of, unless_failed}, Handshakes.shake_hands, State.{ProxyState, Turning}}
+use Rattle.vs_proxy_parts.specs.{State.start, declared.answers.{Turn.Turn, Turned.Turned}}
+use Rattle.laws_device.proofs.Walk.{Fields.{AfterEventPage, AfterTx, Calls, Fields, TxCalls, after_rx, fields, fields_turn}, Keeping.{Asking, Keeps}}
+use Rattle.laws_proxy.specs.Account.{Events.{TellsEvent, event_put, events_put}, Made.{Made, Makes}}
 use Rattle.vs_proxy_parts.specs.declared.answers.Turn.TheVariants as turn
 use Rattle.vs_ring_port.specs.declared.device_ring.Next.TheVariants as next
 

@@ -1,18 +1,14 @@
 -- The packets of a turn are judged, and counted where they are dropped, as the host's faults are.
-use Rattle.std.proofs.Common.{◌≡◌, ℕ, ◌+◌, zero, suc, Bool, true, false, cond, List, length, nat_le, Option, Some, None, Result, refl, sym}
-use Rattle.std.proofs.Common.{subst, ◌∙◌}
-use Rattle.vs_contents.specs.CallTree.{Done, Ask, bind, while_up_to, Leads}
-use Rattle.vs_contents.proofs.Leads.{leads_bind, leads_split}
-use Rattle.vs_ring_port.specs.{Contents.Take, declared.failure.Failure.Failure, declared.queue.Queue.TheVariants.Tx}
-use Rattle.vs_device_parts.specs.{Calls.DeviceTree, Calls.Ring, Calls.Situation, Playing.Runs, State.DeviceState, Transmitting.on_next}
-use Rattle.vs_device_parts.specs.{Transmitting.take_tx_of, declared.answers.Taken.Taken}
+use Rattle.std.proofs.Common.{◌≡◌, ℕ, ◌+◌, zero, suc, Bool, true, false, cond, List, length, nat_le, Option, Some, None, Result, refl, sym, subst, ◌∙◌}
+use Rattle.vs_contents.{specs.CallTree.{Done, Ask, bind, while_up_to, Leads}, proofs.Leads.{leads_bind, leads_split}}
+use Rattle.vs_ring_port.specs.{Contents.Take, declared.{failure.Failure.Failure, queue.Queue.TheVariants.Tx}}
+use Rattle.vs_device_parts.specs.{Calls.{DeviceTree, Ring, Situation}, Playing.Runs, State.DeviceState, Transmitting.{on_next, take_tx_of}, declared.answers.Taken.Taken}
 use Rattle.vs_limits.specs.declared.TheConstants.{DEVICE_REPLIES}
-use Rattle.vs_proxy_parts.specs.Turns.{device_after, event_stage, proxy_reset_of, take_one, take_stage, tick_stage, took_packet, turn_of}
-use Rattle.vs_proxy_parts.specs.{State.ProxyState, State.Turning, State.start, declared.answers.Turn.Turn, Turns.unless_failed}
-use Rattle.laws_proxy.specs.Account.Packets.{AreJudged, AreTaken, after_packets, before_packets, chains_taken}
-use Rattle.laws_proxy.proofs.Account.Quiet.{counts_after, counts_before, counts_reset, counts_turn}
-use Rattle.laws_proxy.specs.Account.{Counts.CountsFaults, Counts.DeviceCounts, Counts.counts_of, Counts.counts_shown, Made.Made, Made.Makes}
-use Rattle.laws_proxy.proofs.Account.{Judging.take_judged, Walks.counts_made, Walks.faults_alike, Walks.none_in}
+use Rattle.vs_proxy_parts.specs.{Turns.{device_after, event_stage, proxy_reset_of, take_one, take_stage, tick_stage, took_packet, turn_of, unless_failed}, State.ProxyState}
+use Rattle.vs_proxy_parts.specs.{State.{Turning, start}, declared.answers.Turn.Turn}
+use Rattle.laws_proxy.specs.Account.{Packets.{AreJudged, AreTaken, after_packets, before_packets, chains_taken}, Counts.{CountsFaults, DeviceCounts, counts_of, counts_shown}}
+use Rattle.laws_proxy.{specs.Account.Made.{Made, Makes}, proofs.Account.{Quiet.{counts_after, counts_before, counts_reset, counts_turn}, Judging.take_judged, Walks.counts_made}}
+use Rattle.laws_proxy.proofs.Account.Walks.{faults_alike, none_in}
 use Rattle.vs_device_parts.specs.declared.answers.Taken.TheVariants as taken
 
 -- The packets of a transmit stage.

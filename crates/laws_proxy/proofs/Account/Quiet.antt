@@ -1,21 +1,16 @@
 -- A device and a proxy, and the counts that their calls come to.
 use Rattle.std.proofs.Common.{◌≡◌, ℕ, ◌-◌, ◌&&◌, not, nat_lt, Bool, true, false, cond, List, [], ◌∷◌, Option, Result, refl, sym, ap, subst, ◌∙◌}
-use Rattle.vs_header.specs.{Packet.header_of, declared.Header.Header, declared.TheConstants.HEADER_LEN}
+use Rattle.vs_header.specs.{Packet.header_of, declared.{Header.Header, TheConstants.HEADER_LEN}}
 use Rattle.vs_page.specs.{Log.Device, Open.is_dropped}
-use Rattle.vs_ring_port.specs.{Contents.Read, declared.device_ring.Chain.Chain, declared.device_ring.Next.Next, declared.failure.Failure.Failure}
+use Rattle.vs_ring_port.specs.{Contents.Read, declared.{device_ring.{Chain.Chain, Next.Next}, failure.Failure.Failure}}
 use Rattle.vs_wrap.specs.Wrap.{counted}
-use Rattle.vs_device_parts.specs.Receiving.{written}
-use Rattle.vs_device_parts.specs.Calls.{Accept, DeviceTree, Dial, ReadStream, Ring, WriteStream}
-use Rattle.vs_proxy_parts.specs.Turns.{event_stage, fill_stage, proxy_reset_of, pump_stage, tick_stage}
-use Rattle.vs_proxy_parts.specs.{Handshakes.shake_hands, State.Handshake, State.ProxyState, State.Turning, State.start, Turns.turn_of, Turns.unless_failed}
-use Rattle.vs_proxy_parts.specs.declared.answers.Turn.{Turn}
+use Rattle.vs_device_parts.specs.{Receiving.written, Calls.{Accept, DeviceTree, Dial, ReadStream, Ring, WriteStream}}
+use Rattle.vs_proxy_parts.specs.{Turns.{event_stage, fill_stage, proxy_reset_of, pump_stage, tick_stage, turn_of, unless_failed}, Handshakes.shake_hands, State.Handshake}
+use Rattle.vs_proxy_parts.specs.{State.{ProxyState, Turning, start}, declared.answers.Turn.Turn}
 use Rattle.laws_device.proofs.Walk.{Fields.{AfterEventPage, AfterTx, Calls, Fields, HeaderRead, TxCalls, after_rx}, Keeping.{Asking, Keeps, keeps_then}, Single.reset_keeps}
-use Rattle.laws_device.specs.Walk.Seen.{Seen}
-use Rattle.laws_device.proofs.Walk.Serving.{Closes, Fills, keeps_fill_rx, keeps_pay_event, keeps_pump, keeps_tick}
-use Rattle.laws_device.proofs.Walk.Turning.{Between, Turns, keeps_event_stage, keeps_fill_stage, keeps_pump_stage, keeps_shake_hands, keeps_tick_stage}
-use Rattle.laws_device.proofs.Walk.Turning.{keeps_unless}
-use Rattle.laws_proxy.specs.Account.Counts.{DeviceCounts, count_made, counts_shown}
-use Rattle.laws_proxy.{specs.Account.Packets.after_packets, specs.Account.Packets.before_packets, proofs.Account.Walks.Walks, proofs.Account.Walks.counting}
+use Rattle.laws_device.proofs.Walk.{Serving.{Closes, Fills, keeps_fill_rx, keeps_pay_event, keeps_pump, keeps_tick}, Turning.{Between, Turns, keeps_event_stage, keeps_fill_stage}}
+use Rattle.laws_device.{proofs.Walk.Turning.{keeps_pump_stage, keeps_shake_hands, keeps_tick_stage, keeps_unless}, specs.Walk.Seen.Seen}
+use Rattle.laws_proxy.{specs.Account.{Counts.{DeviceCounts, count_made, counts_shown}, Packets.{after_packets, before_packets}}, proofs.Account.Walks.{Walks, counting}}
 use Rattle.vs_ring_port.specs.declared.device_ring.Next.TheVariants as next
 use Rattle.laws_device.proofs.Walk.Fields as walk
 

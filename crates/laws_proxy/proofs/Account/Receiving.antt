@@ -1,24 +1,19 @@
 -- Packets to the guest, and the reads of the host's streams that give their payload: no stream is given a byte.
-use Rattle.vs_flow.specs.{Table.with_value, Table.Table, declared.flow.Flow.Flow}
-use Rattle.laws_device.proofs.Walk.Serving.{AfterEvent, AfterRead, Fills, IsIn}
-use Rattle.laws_proxy.proofs.Account.{Closing.{D, closes, Has, agree_same, join, over_there}, Accounts.{Changes, changes, changing, stays}}
-use Rattle.laws_proxy.proofs.Account.{Keeping.{asking, Keeps}, Entries.{hand_other, taken_tied}, Ties.{end_changes, shuts}}
-use Rattle.laws_proxy.specs.Account.Made.{Account, Made, account_of, is_for, is_of, made, payload_put, payload_taken, ports_of, with_taken}
-use Rattle.laws_proxy.specs.Account.Tied.{Agree, AgreesWith, IsTied, reading_account}
-use Rattle.std.proofs.Common.{◌≡◌, ℕ, Bool, true, false, cond, List, [], ◌∷◌, ◌++◌, length, bytes_eq, Option, Some, refl, sym, ap}
-use Rattle.std.{proofs.Common.◌∙◌, proofs.lemmas.List.append-nil, proofs.lemmas.List.Elements.All-weaker, specs.Option.option_map_or}
-use Rattle.vs_conn.specs.declared.end.State.TheVariants.{Asked, Ended}
-use Rattle.vs_conn.specs.{End.paid_of, End.wanting_credit, End.with_payload_sent, Headers.payload_header}
-use Rattle.vs_conn.proofs.Frames.{paid_asked, paid_over}
+use Rattle.vs_flow.specs.{Table.{with_value, Table}, declared.flow.Flow.Flow}
+use Rattle.laws_device.{proofs.{Walk.Serving.{AfterEvent, AfterRead, Fills, IsIn}, Carried.Gives.pays_gives, Named.Ends.shut_over}, specs.Carried.Streamed.gives}
+use Rattle.laws_proxy.proofs.Account.{Closing.{D, closes, Has, agree_same, join, over_there}, Accounts.{Changes, changes, changing, stays}, Keeping.{asking, Keeps}}
+use Rattle.laws_proxy.{proofs.Account.{Entries.{hand_other, taken_tied}, Ties.{end_changes, shuts}}, specs.Account.Made.{Account, Made, account_of, is_for, is_of, made}}
+use Rattle.laws_proxy.specs.Account.{Made.{payload_put, payload_taken, ports_of, with_taken}, Tied.{Agree, AgreesWith, IsTied, reading_account}}
+use Rattle.std.proofs.{Common.{◌≡◌, ℕ, Bool, true, false, cond, List, [], ◌∷◌, ◌++◌, length, bytes_eq, Option, Some, refl, sym, ap, ◌∙◌}, lemmas.List.append-nil}
+use Rattle.std.{proofs.lemmas.List.Elements.All-weaker, specs.Option.option_map_or}
+use Rattle.vs_conn.{specs.{declared.end.State.TheVariants.{Asked, Ended}, End.{paid_of, wanting_credit, with_payload_sent}, Headers.payload_header}, proofs.Frames.paid_asked}
+use Rattle.vs_conn.proofs.Frames.{paid_over}
 use Rattle.vs_credit.specs.Credit.{free_of}
 use Rattle.vs_header.specs.{Packet.header_bytes, declared.Header.Header}
 use Rattle.vs_outside.specs.declared.host_net.StreamRead.{StreamRead}
-use Rattle.laws_device.{specs.Carried.Streamed.gives, proofs.Carried.Gives.pays_gives}
-use Rattle.vs_ring_port.specs.declared.queue.Queue.TheVariants.{Event, Rx}
-use Rattle.vs_ring_port.specs.{Contents.Take, declared.device_ring.Chain.Chain, declared.device_ring.Next.Next}
-use Rattle.vs_device_parts.specs.{Receiving.{fill_rx_of, pay_event_of, read_room, written}, State.{DeviceConnection, DeviceEntry}}
-use Rattle.vs_device_parts.specs.{State.DeviceState, Calls.{ReadStream, Ring}, Connections.{after_shut, route_to_guest}}
-use Rattle.laws_device.proofs.Named.Ends.{shut_over}
+use Rattle.vs_ring_port.specs.{declared.{queue.Queue.TheVariants.{Event, Rx}, device_ring.{Chain.Chain, Next.Next}}, Contents.Take}
+use Rattle.vs_device_parts.specs.{Receiving.{fill_rx_of, pay_event_of, read_room, written}, State.{DeviceConnection, DeviceEntry, DeviceState}, Calls.{ReadStream, Ring}}
+use Rattle.vs_device_parts.specs.Connections.{after_shut, route_to_guest}
 use Rattle.vs_proxy_parts.specs.State.{Handshake}
 use Rattle.laws_device.proofs.Walk.Serving as walked
 use Rattle.vs_outside.specs.declared.host_net.StreamRead.TheVariants as read

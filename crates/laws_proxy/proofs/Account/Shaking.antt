@@ -1,23 +1,17 @@
 -- Handshakes: their clients' streams are given nothing before they have a connection.
 use Rattle.vs_device_parts.specs.{Calls.{Label, Accept, CloseStream, ReadStream}, State.DeviceState, Connections.with_client}
-use Rattle.laws_device.proofs.Walk.Turning.{AfterAccept, AfterByte, AfterLine, Between, IsOn, Shakes, may_assign}
-use Rattle.laws_proxy.specs.Account.Made.{Account, Made, MayGet, account_of, is_of, made, new_account, payload_put, payload_taken, shut}
-use Rattle.laws_proxy.specs.Account.{Made.with_taken, Tied.IsWhole, Tied.reading_account}
-use Rattle.laws_proxy.proofs.Account.{Closing.D, Closing.Has, Keeping.asking, Opening.opens, Opening.waits_unlabelled, Accounts.Changes}
-use Rattle.laws_proxy.proofs.Account.{Accounts.changes, Accounts.comes, Entries.hands_changed, Entries.taken_tied, Entries.waiting_kept}
-use Rattle.std.proofs.Common.{◌≡◌, ◌≢◌, ℕ, subst, get_or, ◌≤◌, nat_le, ◌==◌, Bool, true, false, cond, List, [], ◌∷◌, ◌++◌, length}
-use Rattle.std.proofs.Common.{Option, Some, None, refl, sym, ap, ◌∙◌, arith}
-use Rattle.std.{proofs.lemmas.Bool.and_parts, proofs.lemmas.List.Elements.All-push, proofs.lemmas.List.Quantifiers.all_pairs_push}
-use Rattle.std.{proofs.lemmas.Bool.Decides.nat_tests, proofs.lemmas.List.append-nil, specs.List.All}
-use Rattle.vs_flow.specs.{Flow.host_flow, Table.has_place, declared.flow.Flow.Flow}
-use Rattle.vs_flow.proofs.{Entries.All_at, Lookups.find_place}
+use Rattle.laws_device.proofs.{Walk.Turning.{AfterAccept, AfterByte, AfterLine, Between, IsOn, Shakes, may_assign}, Carried.Hands.{ends_by, no_line, with_all, with_apart}}
+use Rattle.laws_device.proofs.Carried.{Hands.{without_after, without_all, without_none, without_pairs}, Lines.{line_ends, line_whole}}
+use Rattle.laws_proxy.specs.Account.{Made.{Account, Made, MayGet, account_of, is_of, made, new_account, payload_put, payload_taken, shut, with_taken}, Tied.IsWhole}
+use Rattle.laws_proxy.{specs.Account.Tied.reading_account, proofs.Account.{Closing.{D, Has}, Keeping.asking, Opening.{opens, waits_unlabelled}, Accounts.{Changes, changes, comes}}}
+use Rattle.laws_proxy.proofs.Account.Entries.{hands_changed, taken_tied, waiting_kept}
+use Rattle.std.proofs.Common.{◌≡◌, ◌≢◌, ℕ, subst, get_or, ◌≤◌, nat_le, ◌==◌, Bool, true, false, cond, List, [], ◌∷◌, ◌++◌, length, Option, Some, None, refl, sym, ap, ◌∙◌, arith}
+use Rattle.std.{proofs.lemmas.{Bool.{and_parts, Decides.nat_tests}, List.{Elements.All-push, Quantifiers.all_pairs_push, append-nil}}, specs.List.All}
+use Rattle.vs_flow.{specs.{Flow.host_flow, Table.has_place, declared.flow.Flow.Flow}, proofs.{Entries.All_at, Lookups.find_place}}
 use Rattle.vs_limits.specs.declared.TheConstants.{ASSIGNED_LAST}
 use Rattle.vs_outside.specs.declared.host_net.{Accepted.Accepted, StreamRead.StreamRead}
-use Rattle.laws_device.proofs.Carried.Hands.{ends_by, no_line, with_all, with_apart, without_after, without_all, without_none, without_pairs}
-use Rattle.laws_device.proofs.Carried.Lines.{line_ends, line_whole}
-use Rattle.vs_uds.specs.ConnectLine.{connect_port, connect_step}
-use Rattle.vs_uds.specs.{declared.connect.TheConstants.CONNECT_MAX, Reading.is_decided, Reading.port_or_bad}
-use Rattle.vs_proxy_parts.specs.{Handshakes.with_line, Handshakes.without_stream, State.Handshake}
+use Rattle.vs_uds.specs.{ConnectLine.{connect_port, connect_step}, declared.connect.TheConstants.CONNECT_MAX, Reading.{is_decided, port_or_bad}}
+use Rattle.vs_proxy_parts.specs.{Handshakes.{with_line, without_stream}, State.Handshake}
 use Rattle.vs_outside.specs.declared.host_net.Accepted.TheVariants as accepted
 use Rattle.vs_outside.specs.declared.host_net.StreamRead.TheVariants as read
 use Rattle.vs_uds.specs.declared.scan.Step.TheVariants as step

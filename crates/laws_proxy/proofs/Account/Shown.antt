@@ -1,14 +1,12 @@
 -- A host in memory, and the accounts of its streams, through each call of the proxy.
-use Rattle.std.proofs.Common.{◌≡◌, ◌≢◌, ℕ, ◌+◌, ◌-◌, ◌==◌, Bool, true, false, cond, List, [], ◌∷◌, ◌++◌, length, slice_set}
-use Rattle.std.proofs.Common.{Option, Some, None, refl, sym, ap, subst, ◌∙◌}
-use Rattle.std.{specs.Option.option_map, specs.Option.option_map_or}
+use Rattle.std.proofs.Common.{◌≡◌, ◌≢◌, ℕ, ◌+◌, ◌-◌, ◌==◌, Bool, true, false, cond, List, [], ◌∷◌, ◌++◌, length, slice_set, Option, Some, None, refl, sym, ap, subst, ◌∙◌}
+use Rattle.std.specs.Option.{option_map, option_map_or}
 use Rattle.vs_flow.specs.declared.flow.Flow.{Flow}
 use Rattle.vs_header.specs.declared.Header.{Header}
-use Rattle.vs_outside.specs.Host.{HostContents, Stream, stream_at, with_stream}
-use Rattle.vs_outside.proofs.Frames.{keeps_others, stream_at-with_stream}
+use Rattle.vs_outside.{specs.Host.{HostContents, Stream, stream_at, with_stream}, proofs.Frames.{keeps_others, stream_at-with_stream}}
 use Rattle.vs_page.specs.Log.{flow_to_host}
 use Rattle.laws_proxy.specs.Account.{Made.{Account, delivering, is_on, with_delivery}, Tied.{IsLine, IsRead}, Told.{Shows, ShowsAt, ShowsIn}}
-use Rattle.laws_device.proofs.Carried.{Hosts.new_there, Hosts.none_there as past_end, Hosts.others_there, Streamed.is_or_not}
+use Rattle.laws_device.proofs.Carried.{Hosts.{new_there, none_there as past_end, others_there}, Streamed.is_or_not}
 
 -- What is read of a stream stays lawful where nothing of it changes.
 pub read_same : (o : Option Flow) (a b : Account) → b.by_client ≡ a.by_client → b.line ≡ a.line → b.taken ≡ a.taken → IsRead o a

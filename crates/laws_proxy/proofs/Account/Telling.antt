@@ -1,25 +1,21 @@
 -- Each call of the proxy on a host in memory: its answer may be got, and the accounts show the host after it.
-use Rattle.std.proofs.Common.{◌≡◌, ℕ, ◌+◌, ◌≤◌, ◌==◌, Bool, true, false, cond, List, ◌∷◌, ◌++◌, length, take, Option, Some, None, refl, sym}
-use Rattle.std.proofs.Common.{ap, subst, ◌∙◌, append_assoc, []}
-use Rattle.std.{proofs.lemmas.List.append-nil, specs.Option.option_map, specs.Option.option_map_or}
-use Rattle.vs_contents.specs.{CallTree.Done, CallTree.Ask, CallTree.Leads, Contents.Exposes}
+use Rattle.std.proofs.Common.{◌≡◌, ℕ, ◌+◌, ◌≤◌, ◌==◌, Bool, true, false, cond, List, ◌∷◌, ◌++◌, length, take, Option, Some, None, refl, sym, ap, subst, ◌∙◌, append_assoc, []}
+use Rattle.std.{proofs.lemmas.List.append-nil, specs.Option.{option_map, option_map_or}}
+use Rattle.vs_contents.specs.{CallTree.{Done, Ask, Leads}, Contents.Exposes}
 use Rattle.vs_flow.specs.{declared.flow.Flow.Flow, Table.Table}
 use Rattle.vs_limits.specs.declared.TheConstants.{ASSIGNED_LAST}
 use Rattle.vs_header.specs.declared.TheConstants.{HEADER_LEN}
-use Rattle.vs_outside.specs.Host.{HostContents, Stream, accept_answer, after_accept, after_close, after_dial, after_failed, after_label}
-use Rattle.vs_outside.specs.Host.{after_read, after_shut_write, after_write, called, dial_answer, dialed_stream, fails_now, give_bytes}
-use Rattle.vs_outside.specs.Host.{is_listened, stream_at, take_bytes, waits, IsDialed, IsWritten, with_label_call, with_shut_write_call}
-use Rattle.vs_outside.specs.declared.host_net.{Accepted.Accepted, Dialed.Dialed, StreamRead.StreamRead, StreamWrite.StreamWrite}
+use Rattle.vs_outside.specs.Host.{HostContents, Stream, accept_answer, after_accept, after_close, after_dial, after_failed, after_label, after_read, after_shut_write, after_write}
+use Rattle.vs_outside.specs.Host.{called, dial_answer, dialed_stream, fails_now, give_bytes, is_listened, stream_at, take_bytes, waits, IsDialed, IsWritten, with_label_call}
+use Rattle.vs_outside.specs.{Host.with_shut_write_call, declared.host_net.{Accepted.Accepted, Dialed.Dialed, StreamRead.StreamRead, StreamWrite.StreamWrite}}
 use Rattle.vs_outside.proofs.Frames.{accepts_waiting}
 use Rattle.vs_ring_port.specs.Contents.{DeviceAnswer, DeviceCall, Read, PublishCid}
-use Rattle.vs_device_parts.specs.Calls.{Answer, Call, DeviceTree, Ring, Accept, Dial, Label, ReadStream, WriteStream, ShutWrite}
-use Rattle.vs_device_parts.specs.{Calls.{CloseStream, Allows, IsReadOf, Situation, TakesWithin}, Playing.Runs, State.DeviceConnection}
-use Rattle.laws_proxy.specs.Account.Made.{Account, Made, MayGet, account_of, delivering, header_in, labelled, made, new_account, shut}
-use Rattle.laws_proxy.specs.Account.{Made.with_given, Made.took, Made.with_taken, Tied.IsRead, Tied.IsWhole, Tied.reading_account}
-use Rattle.laws_proxy.specs.Account.{Tied.AgreesWith, Told.AreAccounted, Told.Shows, Told.ShowsAt, Told.ShowsIn, Told.StayAccounted}
-use Rattle.laws_proxy.proofs.Account.Shown.{change_shows, delivers_same, new_shows, none_there, read_same, same_seen, unseen_shows}
-use Rattle.laws_proxy.proofs.Account.Accounts.{Changes, changes, changing, comes, differs, self_is}
-use Rattle.laws_proxy.proofs.Account.{Carrying.carries, Keeping.Asks, Keeping.Keeps, Keeping.keeps_answer}
+use Rattle.vs_device_parts.specs.Calls.{Answer, Call, DeviceTree, Ring, Accept, Dial, Label, ReadStream, WriteStream, ShutWrite, CloseStream, Allows, IsReadOf, Situation}
+use Rattle.vs_device_parts.specs.{Calls.TakesWithin, Playing.Runs, State.DeviceConnection}
+use Rattle.laws_proxy.specs.Account.{Made.{Account, Made, MayGet, account_of, delivering, header_in, labelled, made, new_account, shut, with_given, took, with_taken}, Tied.IsRead}
+use Rattle.laws_proxy.{specs.Account.{Tied.{IsWhole, reading_account, AgreesWith}, Told.{AreAccounted, Shows, ShowsAt, ShowsIn, StayAccounted}}, proofs.Account.Shown.change_shows}
+use Rattle.laws_proxy.proofs.Account.{Shown.{delivers_same, new_shows, none_there, read_same, same_seen, unseen_shows}, Accounts.{Changes, changes, changing, comes, differs}}
+use Rattle.laws_proxy.proofs.Account.{Accounts.self_is, Carrying.carries, Keeping.{Asks, Keeps, keeps_answer}}
 use Rattle.vs_proxy_parts.specs.State.{Handshake}
 use Rattle.vs_outside.specs.declared.host_net.Accepted.TheVariants as accepted
 use Rattle.vs_outside.specs.declared.host_net.Dialed.TheVariants as dialed

@@ -1,19 +1,16 @@
 -- A connection and the account of its stream, through each small step of the connection.
-use Rattle.std.proofs.Common.{◌≡◌, ℕ, ◌-◌, ◌≤◌, ◌&&◌, not, Bool, true, false, cond, List, [], ◌++◌, length, take, drop, refl, sym, ap}
-use Rattle.std.proofs.{Common.subst, Common.◌∙◌, Common.append_assoc, Common.take-append-drop, Common.arith, lemmas.Grind.common_steps}
-use Rattle.std.proofs.{lemmas.List.append-nil, Math.Seq.drop-nil, Math.Seq.take-nil}
+use Rattle.std.proofs.Common.{◌≡◌, ℕ, ◌-◌, ◌≤◌, ◌&&◌, not, Bool, true, false, cond, List, [], ◌++◌, length, take, drop, refl, sym, ap, subst, ◌∙◌, append_assoc, take-append-drop}
+use Rattle.std.proofs.{Common.arith, lemmas.{Grind.common_steps, List.append-nil}, Math.Seq.{drop-nil, take-nil}}
 use Rattle.vs_conn.specs.End.{ConnectionEnd, verdict_of, with_shut}
-use Rattle.vs_conn.specs.declared.end.State.TheVariants as state
-use Rattle.vs_conn.specs.declared.end.Verdict.TheVariants as verdict
 use Rattle.vs_header.specs.declared.Header.{Header}
 use Rattle.vs_page.specs.Fair.{IsPrefixOf}
-use Rattle.vs_device_parts.specs.{Connections.after_shut, Connections.after_written, Connections.stream_closed, State.DeviceConnection}
-use Rattle.vs_device_parts.specs.{State.DeviceEntry, Streams.to_write, Transmitting.heard}
-use Rattle.laws_device.specs.Carried.Streamed.{gives}
-use Rattle.laws_device.proofs.Carried.Gives.{accepted_other, accepts_asked, delivered_other, delivers_gives, drop_both, first_of}
-use Rattle.laws_device.proofs.Carried.Gives.{forwards_asked, forwards_gives, shuts_asked, shuts_gives}
+use Rattle.vs_device_parts.specs.{Connections.{after_shut, after_written, stream_closed}, State.{DeviceConnection, DeviceEntry}, Streams.to_write, Transmitting.heard}
+use Rattle.laws_device.{specs.Carried.Streamed.gives, proofs.Carried.Gives.{accepted_other, accepts_asked, delivered_other, delivers_gives, drop_both, first_of, forwards_asked}}
+use Rattle.laws_device.proofs.Carried.Gives.{forwards_gives, shuts_asked, shuts_gives}
 use Rattle.laws_tables.proofs.Logs.{all_of, shorter}
-use Rattle.laws_proxy.specs.Account.{Made.Account, Tied.IsTiedTo, Tied.gives_all, Tied.ok_line_of}
+use Rattle.laws_proxy.specs.Account.{Made.Account, Tied.{IsTiedTo, gives_all, ok_line_of}}
+use Rattle.vs_conn.specs.declared.end.State.TheVariants as state
+use Rattle.vs_conn.specs.declared.end.Verdict.TheVariants as verdict
 
 -- The bytes that came for a connection.
 abbrev pub came : Account → DeviceEntry → List ℕ

@@ -1,26 +1,22 @@
 -- Packets of the guest: payload goes to the stream of its own flow.
-use Rattle.laws_proxy.specs.Account.Made.{Account, Made, MayGet, account_of, delivering, header_in, made, new_account, payload_put}
-use Rattle.laws_proxy.specs.Account.Tied.{AgreesWith, Agree, IsOver, IsTied, IsTiedTo, ok_line_of, stream_of}
-use Rattle.laws_proxy.specs.Account.Made.{payload_taken, with_delivery}
-use Rattle.laws_proxy.proofs.Account.{Closing.{D, closes, Has, agree_moved, agree_same, join, over_there}, Accounts.{Changes, comes}}
-use Rattle.laws_proxy.proofs.Account.{Accounts.{is_delivered, not_delivered, self_is}, Ties.{answers, delivers, end_changes}, Keeping.asking}
+use Rattle.laws_proxy.specs.Account.{Made.{Account, Made, MayGet, account_of, delivering, header_in, made, new_account, payload_put, payload_taken, with_delivery}, Tied.AgreesWith}
+use Rattle.laws_proxy.{specs.Account.Tied.{Agree, IsOver, IsTied, IsTiedTo, ok_line_of, stream_of}, proofs.Account.Closing.{D, closes, Has, agree_moved, agree_same, join}}
+use Rattle.laws_proxy.proofs.Account.{Closing.over_there, Accounts.{Changes, comes, is_delivered, not_delivered, self_is}, Ties.{answers, delivers, end_changes}, Keeping.asking}
 use Rattle.laws_proxy.proofs.Account.{Keeping.Keeps, Entries.{added, waiting_kept}}
-use Rattle.laws_device.{specs.Walk.Seen.Seen, proofs.Walk.Serving.by_flow, proofs.Walk.Taking.AfterDial, proofs.Walk.Taking.Takes}
-use Rattle.std.proofs.Common.{◌≡◌, ℕ, Bool, true, false, cond, List, [], ◌∷◌, ◌++◌, Contains, Option, Some, None, refl, sym, ap, subst, ◌∙◌}
-use Rattle.std.{proofs.lemmas.List.Elements.All-push, specs.Option.option_map}
-use Rattle.vs_conn.{specs.End.answering, specs.End.verdict_of, specs.declared.end.State.State, specs.declared.end.Verdict.Verdict}
-use Rattle.vs_conn.{specs.declared.end.State.TheVariants.Ended, proofs.Frames.got_asked, proofs.Frames.got_over}
-use Rattle.vs_flow.specs.Table.{Table, entry_of, has_place, next_entry, with_value}
-use Rattle.vs_flow.{specs.declared.flow.Flow.Flow, proofs.Entries.same_flow_true, proofs.Lookups.entry_of_found, proofs.Tables.accepted}
+use Rattle.laws_device.{specs.{Walk.Seen.Seen, Carried.Streamed.gives_in}, proofs.{Walk.{Serving.by_flow, Taking.{AfterDial, Takes}}, Carried.Gives.{delivers_gives, hears_gives}}}
+use Rattle.std.proofs.{Common.{◌≡◌, ℕ, Bool, true, false, cond, List, [], ◌∷◌, ◌++◌, Contains, Option, Some, None, refl, sym, ap, subst, ◌∙◌}, lemmas.List.Elements.All-push}
+use Rattle.std.specs.Option.{option_map}
+use Rattle.vs_conn.{specs.{End.{answering, verdict_of}, declared.end.{State.{State, TheVariants.Ended}, Verdict.Verdict}}, proofs.Frames.{got_asked, got_over}}
+use Rattle.vs_flow.{specs.{Table.{Table, entry_of, has_place, next_entry, with_value}, declared.flow.Flow.Flow}, proofs.{Entries.same_flow_true, Lookups.entry_of_found}}
+use Rattle.vs_flow.proofs.Tables.{accepted}
 use Rattle.vs_header.specs.declared.{Header.Header, TheConstants.HEADER_LEN, Kind.TheVariants.Stream}
 use Rattle.vs_limits.specs.declared.TheConstants.{BUF_ALLOC}
 use Rattle.vs_outside.specs.declared.host_net.Dialed.{Dialed}
 use Rattle.vs_page.specs.Log.{flow_to_host}
-use Rattle.laws_device.{specs.Carried.Streamed.gives_in, proofs.Carried.Gives.delivers_gives, proofs.Carried.Gives.hears_gives}
-use Rattle.vs_ring_port.specs.{Contents.{Read, Take}, declared.{device_ring.Chain.Chain, device_ring.Next.Next, queue.Queue.TheVariants.Tx}}
+use Rattle.vs_ring_port.specs.{Contents.{Read, Take}, declared.{device_ring.{Chain.Chain, Next.Next}, queue.Queue.TheVariants.Tx}}
 use Rattle.vs_uds.specs.Path.{path_of}
-use Rattle.vs_device_parts.specs.{State.DeviceConnection, State.DeviceEntry, State.DeviceState, Calls.Dial, Calls.Ring, Transmitting.heard}
-use Rattle.vs_device_parts.specs.{Transmitting.take_tx_of, Connections.new_connection, Connections.with_connection}
+use Rattle.vs_device_parts.specs.{State.{DeviceConnection, DeviceEntry, DeviceState}, Calls.{Dial, Ring}, Transmitting.{heard, take_tx_of}, Connections.new_connection}
+use Rattle.vs_device_parts.specs.Connections.{with_connection}
 use Rattle.vs_proxy_parts.specs.State.{Handshake}
 use Rattle.laws_device.proofs.Walk.Taking as walked
 use Rattle.vs_conn.specs.declared.end.Verdict.TheVariants as verdict

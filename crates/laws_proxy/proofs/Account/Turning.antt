@@ -1,17 +1,14 @@
 -- A turn and a reset.
 use Rattle.laws_device.proofs.Walk.Keeping.{keeps_each, keeps_then}
-use Rattle.laws_proxy.specs.Account.Made.{Made, account_of, payload_put, payload_taken}
-use Rattle.laws_proxy.proofs.Account.Opening.{AreReset, ResetEnds, keeps_reset, new_agrees, reset_agrees, reset_closes}
-use Rattle.laws_proxy.specs.Account.{Tied.AccountsFor, Told.AreAccounted, Told.Shows, Told.StayAccounted}
-use Rattle.laws_proxy.proofs.Account.{Closing.D, Closing.closes, Keeping.asking, Keeping.Keeps, Receiving.fills, Shaking.shakes}
-use Rattle.laws_proxy.proofs.Account.{Transmitting.U, Transmitting.takes, Writing.writes, Carrying.carries, Telling.stay_accounted}
+use Rattle.laws_proxy.specs.Account.{Made.{Made, account_of, payload_put, payload_taken}, Tied.AccountsFor, Told.{AreAccounted, Shows, StayAccounted}}
+use Rattle.laws_proxy.proofs.Account.{Opening.{AreReset, ResetEnds, keeps_reset, new_agrees, reset_agrees, reset_closes}, Closing.{D, closes}, Keeping.{asking, Keeps}}
+use Rattle.laws_proxy.proofs.Account.{Receiving.fills, Shaking.shakes, Transmitting.{U, takes}, Writing.writes, Carrying.carries, Telling.stay_accounted}
 use Rattle.std.proofs.Common.{ℕ, List, [], Some, Result, Ok, Err, refl}
 use Rattle.vs_contents.specs.CallTree.{Done, for_each}
 use Rattle.vs_ring_port.specs.declared.failure.Failure.{Failure}
 use Rattle.vs_device_parts.specs.{Calls.Situation, Playing.Runs, State.DeviceState, Turns.reset_of}
 use Rattle.vs_outside.specs.Host.{HostContents}
-use Rattle.vs_proxy_parts.specs.Turns.{close_handshake, proxy_reset_of, reset_with, turn_of}
-use Rattle.vs_proxy_parts.specs.{Handshakes.streams_of, State.ProxyState, State.with_device, declared.answers.Turn.Turn}
+use Rattle.vs_proxy_parts.specs.{Turns.{close_handshake, proxy_reset_of, reset_with, turn_of}, Handshakes.streams_of, State.{ProxyState, with_device}, declared.answers.Turn.Turn}
 use Rattle.laws_device.proofs.Walk.Turning as walked
 
 pub keeps_turn : (size now : ℕ) (s : ProxyState) (calls : List Made) → AccountsFor s calls

@@ -1,16 +1,12 @@
 -- What the calls of a conversation come to in a device's counts, and that some take no chain of tx.
-use Rattle.std.proofs.Common.{◌≡◌, ℕ, ◌<◌, ◌^◌, Bool, true, false, cond, List, refl, sym, ap, subst, ◌∙◌, arith}
-use Rattle.std.proofs.lemmas.Bool.Decides.{nat_tests}
+use Rattle.std.proofs.{Common.{◌≡◌, ℕ, ◌<◌, ◌^◌, Bool, true, false, cond, List, refl, sym, ap, subst, ◌∙◌, arith}, lemmas.Bool.Decides.nat_tests}
 use Rattle.vs_contents.specs.CallTree.{Done, Ask, Leads}
-use Rattle.vs_outside.specs.{Faults.CountsFault, Host.accept_failed, Host.dial_failed, Host.read_failed, Host.write_failed}
-use Rattle.vs_ring_port.specs.{Contents.{Take}, declared.device_ring.Chain.Chain}
-use Rattle.vs_ring_port.specs.{declared.queue.Queue.TheVariants.Tx}
+use Rattle.vs_outside.specs.{Faults.CountsFault, Host.{accept_failed, dial_failed, read_failed, write_failed}}
+use Rattle.vs_ring_port.specs.{Contents.Take, declared.{device_ring.Chain.Chain, queue.Queue.TheVariants.Tx}}
 use Rattle.vs_wrap.specs.Wrap.{counted}
-use Rattle.vs_device_parts.specs.Calls.{Accept, Allows, Answer, Call, DeviceTree, Dial, ReadStream, Ring}
-use Rattle.vs_device_parts.specs.Calls.{Situation, WriteStream}
+use Rattle.vs_device_parts.specs.Calls.{Accept, Allows, Answer, Call, DeviceTree, Dial, ReadStream, Ring, Situation, WriteStream}
 use Rattle.laws_device.proofs.Walk.Keeping.{Asking, Keeps}
-use Rattle.laws_proxy.specs.Account.{Counts.CountsFaults, Counts.DeviceCounts, Counts.count_made, Counts.counts_of, Made.Made, Made.Makes}
-use Rattle.laws_proxy.specs.Account.Packets.{chains_taken, taken_by}
+use Rattle.laws_proxy.specs.Account.{Counts.{CountsFaults, DeviceCounts, count_made, counts_of}, Made.{Made, Makes}, Packets.{chains_taken, taken_by}}
 
 -- Calls that come to these counts; where chains of tx are left out, none is taken.
 abbrev pub leaves_out : Bool → Call → Bool

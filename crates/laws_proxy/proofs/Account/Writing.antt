@@ -1,18 +1,15 @@
 -- What is written to the host's streams.
-use Rattle.laws_device.proofs.Walk.Serving.{AfterWrite, IsIn, Writes}
-use Rattle.laws_proxy.proofs.Account.Closing.{D, closes, Has, agree_moved, agree_same, join}
-use Rattle.laws_proxy.specs.Account.Made.{Made, MayGet, account_of, made, payload_put, payload_taken, with_given}
-use Rattle.laws_proxy.{proofs.Account.Keeping.asking, specs.Account.Tied.IsTied, proofs.Account.Accounts.changes}
+use Rattle.laws_device.proofs.{Walk.Serving.{AfterWrite, IsIn, Writes}, Named.Ends.{forwarded_over, shut_over}}
+use Rattle.laws_proxy.proofs.Account.{Closing.{D, closes, Has, agree_moved, agree_same, join, over_there}, Keeping.{asking, Keeps}, Accounts.changes, Ties.{end_changes, shuts}}
+use Rattle.laws_proxy.{proofs.Account.Ties.writes as writes_tie, specs.Account.{Made.{Made, MayGet, account_of, made, payload_put, payload_taken, with_given}, Tied.IsTied}}
 use Rattle.std.proofs.Common.{◌≡◌, ◌-◌, true, List, ◌∷◌, refl, length, take}
 use Rattle.vs_conn.specs.declared.end.State.TheVariants.{Ended}
 use Rattle.vs_outside.specs.declared.host_net.StreamWrite.{StreamWrite}
-use Rattle.vs_device_parts.specs.{Calls.WriteStream, Connections.after_shut, Connections.after_written, Connections.with_connection}
-use Rattle.vs_device_parts.specs.{State.DeviceEntry, State.DeviceState, Streams.Writing, Streams.pump_of, Streams.to_write}
-use Rattle.laws_device.proofs.Named.Ends.{forwarded_over, shut_over}
+use Rattle.vs_device_parts.specs.{Calls.WriteStream, Connections.{after_shut, after_written, with_connection}, State.{DeviceEntry, DeviceState}, Streams.{Writing, pump_of}}
+use Rattle.vs_device_parts.specs.Streams.{to_write}
 use Rattle.vs_proxy_parts.specs.State.{Handshake}
 use Rattle.laws_device.proofs.Walk.Serving as walked
 use Rattle.vs_outside.specs.declared.host_net.StreamWrite.TheVariants as write
-use Rattle.laws_proxy.proofs.Account.{Closing.over_there, Keeping.Keeps, Ties.end_changes, Ties.shuts, Ties.writes as writes_tie}
 
 module _ (hands : List Handshake) where
   module _ (e : DeviceEntry) (s : DeviceState) (calls : List Made) (is : IsIn s.table e) (x : Has hands s calls) where

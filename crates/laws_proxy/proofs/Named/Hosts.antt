@@ -1,14 +1,13 @@
 -- Streams of handshakes that are accepted and closed.
-use Rattle.std.proofs.Common.{◌≡◌, ◌≢◌, ℕ, List, [], ◌∷◌, ◌++◌, Some, Contains, IsSomeAnd, ◌⊎◌, inl, inr, refl, sym, subst, ◌∙◌}
-use Rattle.std.proofs.lemmas.List.Elements.{Contains-push_cases}
+use Rattle.std.proofs.{Common.{◌≡◌, ◌≢◌, ℕ, List, [], ◌∷◌, ◌++◌, Some, Contains, IsSomeAnd, ◌⊎◌, inl, inr, refl, sym, subst, ◌∙◌}, lemmas.List.Elements.Contains-push_cases}
 use Rattle.vs_flow.specs.Table.{Table}
-use Rattle.vs_outside.specs.Host.{HostContents, IsOpen, accept_answer, after_accept, after_close}
-use Rattle.vs_outside.specs.declared.host_net.Accepted.TheVariants as accepted
-use Rattle.vs_outside.specs.declared.host_net.StreamState.TheVariants as state
-use Rattle.vs_outside.proofs.Frames.{accepts_waiting, open_of, others-after_accept, others-after_close, stays_open}
+use Rattle.vs_outside.{specs.Host.{HostContents, IsOpen, accept_answer, after_accept, after_close}, proofs.Frames.{accepts_waiting, open_of, others-after_accept}}
+use Rattle.vs_outside.proofs.Frames.{others-after_close, stays_open}
 use Rattle.vs_device_parts.specs.State.{DeviceConnection}
 use Rattle.laws_device.specs.Named.Streams.{AreApart, HasStreams, IsFree, stream_under}
 use Rattle.laws_proxy.proofs.Named.Lists.{push_apart}
+use Rattle.vs_outside.specs.declared.host_net.Accepted.TheVariants as accepted
+use Rattle.vs_outside.specs.declared.host_net.StreamState.TheVariants as state
 
 module _ (others : List ℕ) (t : Table DeviceConnection) (h : HostContents) (has : HasStreams others t h) where
   -- fewer others

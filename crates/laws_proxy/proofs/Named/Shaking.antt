@@ -1,23 +1,16 @@
 -- Handshakes: each call names a stream that is open.
-use Rattle.laws_device.proofs.Walk.Turning.{AfterAccept, AfterByte, AfterLine, Between, Shakes}
-use Rattle.laws_device.{specs.Walk.Seen.Seen, proofs.Walk.Keeping.Asking}
-use Rattle.std.proofs.Common.{Result, Ok, Err, ◌≡◌, ℕ, Bool, true, List, [], ◌∷◌, ◌++◌, Option, Some, None, Contains, refl, sym, subst}
-use Rattle.std.specs.Option.{ForSome}
-use Rattle.vs_flow.specs.{Table.refusal, declared.table.TableFault.TableFault, Flow.host_flow, declared.flow.Flow.Flow}
+use Rattle.laws_device.proofs.{Walk.{Turning.{AfterAccept, AfterByte, AfterLine, Between, Shakes}, Keeping.Asking}, Named.Tables.{has_moved, some_after, some_from}}
+use Rattle.laws_device.{proofs.Named.{Keeping.{asking, Keeps}, Opening.keeps_open, Writing.all_stay}, specs.{Walk.Seen.Seen, Named.Split.{CanReach, is_quiet}}}
+use Rattle.laws_device.specs.Named.Streams.{FindsStreams, HasStreams, IsFree}
+use Rattle.std.{proofs.Common.{Result, Ok, Err, ◌≡◌, ℕ, Bool, true, List, [], ◌∷◌, ◌++◌, Option, Some, None, Contains, refl, sym, subst}, specs.Option.ForSome}
+use Rattle.vs_flow.specs.{Table.refusal, declared.{table.TableFault.TableFault, flow.Flow.Flow}, Flow.host_flow}
 use Rattle.vs_ring_port.specs.declared.device_ring.Chain.{Chain}
-use Rattle.vs_device_parts.specs.Calls.{Label, Accept, Call, CloseStream, ReadStream, Situation, Allows}
-use Rattle.vs_device_parts.specs.{Connections.with_client, State.DeviceState}
-use Rattle.laws_device.proofs.Named.Tables.{has_moved, some_after, some_from}
-use Rattle.laws_device.specs.Named.{Split.CanReach, Split.is_quiet, Streams.FindsStreams, Streams.HasStreams, Streams.IsFree}
-use Rattle.laws_device.proofs.Named.{Keeping.asking, Keeping.Keeps, Opening.keeps_open, Writing.all_stay}
-use Rattle.laws_proxy.proofs.Named.Lists.{found_on, ids, ids-push, ids-with_line, left_among, left_apart, not_left}
-use Rattle.laws_proxy.proofs.Named.Hosts.{has_accepted, has_dropped, has_of, is_free}
+use Rattle.vs_device_parts.specs.{Calls.{Label, Accept, Call, CloseStream, ReadStream, Situation, Allows}, Connections.with_client, State.DeviceState}
+use Rattle.laws_proxy.proofs.Named.{Lists.{found_on, ids, ids-push, ids-with_line, left_among, left_apart, not_left}, Hosts.{has_accepted, has_dropped, has_of, is_free}}
 use Rattle.vs_contents.specs.CallTree.{Done, Ask}
-use Rattle.vs_outside.specs.Host.{IsOpen, accept_answer, after_accept, after_close, after_read}
+use Rattle.vs_outside.specs.{Host.{IsOpen, accept_answer, after_accept, after_close, after_read}, declared.host_net.{Accepted.Accepted, StreamRead.StreamRead}}
 use Rattle.vs_outside.proofs.Frames.{open-after_read, others-after_read}
-use Rattle.vs_outside.specs.declared.host_net.{Accepted.Accepted, StreamRead.StreamRead}
-use Rattle.vs_proxy_parts.specs.Handshakes.{accept_one, read_byte, streams_of, tick_handshake, with_line, without_stream}
-use Rattle.vs_proxy_parts.specs.State.{Handshake, ProxyState, Turning}
+use Rattle.vs_proxy_parts.specs.{Handshakes.{accept_one, read_byte, streams_of, tick_handshake, with_line, without_stream}, State.{Handshake, ProxyState, Turning}}
 use Rattle.laws_device.proofs.Walk.Turning as walked
 use Rattle.vs_outside.specs.declared.host_net.Accepted.TheVariants as accepted
 use Rattle.vs_outside.specs.declared.host_net.StreamRead.TheVariants as read

@@ -1,21 +1,17 @@
 -- What one packet of the guest does: a packet that is invalid is answered by RST, or dropped and counted, or it is the ring's failure.
-use Rattle.std.specs.Prelude.{◌≡◌, ℕ, ◌-◌, ◌<◌, ◌≤◌, ◌++◌, true, false, if◌then◌else◌, List, [], ◌∷◌, length, Option, Some, None}
-use Rattle.std.specs.Option.{option_map_or}
-use Rattle.vs_conn.specs.{End.is_reset, End.owes_of, End.verdict_of, declared.end.Owed.TheVariants.Rst, declared.end.Verdict.Verdict}
-use Rattle.vs_conn.specs.declared.end.Why.{Why}
-use Rattle.vs_flow.specs.{Flow.is_assigned, Table.entry_of, Table.has_place, Table.with_value}
-use Rattle.vs_header.specs.{Packet.header_of, declared.Header.Header, declared.TheConstants.HEADER_LEN}
+use Rattle.std.specs.{Prelude.{◌≡◌, ℕ, ◌-◌, ◌<◌, ◌≤◌, ◌++◌, true, false, if◌then◌else◌, List, [], ◌∷◌, length, Option, Some, None}, Option.option_map_or}
+use Rattle.vs_conn.specs.{End.{is_reset, owes_of, verdict_of}, declared.end.{Owed.TheVariants.Rst, Verdict.Verdict, Why.Why}}
+use Rattle.vs_flow.specs.{Flow.is_assigned, Table.{entry_of, has_place, with_value}}
+use Rattle.vs_header.specs.{Packet.header_of, declared.{Header.Header, TheConstants.HEADER_LEN}}
 use Rattle.vs_limits.specs.declared.TheConstants.{DEVICE_REPLIES}
 use Rattle.vs_outside.specs.declared.host_net.Dialed.{Dialed}
-use Rattle.vs_page.specs.{Log.Device, Log.flow_to_host, Open.is_dropped}
+use Rattle.vs_page.specs.{Log.{Device, flow_to_host}, Open.is_dropped}
 use Rattle.vs_replies.specs.Owed.{reply_to}
-use Rattle.vs_ring_port.specs.{Contents.Read, Contents.Return, Contents.Take, declared.device_ring.Chain.Chain}
-use Rattle.vs_ring_port.specs.declared.{failure.Failure.Failure, queue.Queue.TheVariants.Tx}
+use Rattle.vs_ring_port.specs.{Contents.{Read, Return, Take}, declared.{device_ring.Chain.Chain, failure.Failure.Failure, queue.Queue.TheVariants.Tx}}
 use Rattle.vs_uds.specs.Path.{path_of}
 use Rattle.vs_wrap.specs.Wrap.{counted}
-use Rattle.vs_device_parts.specs.{Calls.{CloseStream, Dial, Ring}, Connections.{with_dialed, with_fault, with_reply}}
-use Rattle.vs_device_parts.specs.{State.{DeviceConnection, DeviceEntry, DeviceState}, Taking.asks_for_stream, Transmitting.{failing, heard}}
-use Rattle.vs_device_parts.specs.{Transmitting.unknown_why, declared.answers.Taken.Taken}
+use Rattle.vs_device_parts.specs.{Calls.{CloseStream, Dial, Ring}, Connections.{with_dialed, with_fault, with_reply}, State.{DeviceConnection, DeviceEntry, DeviceState}}
+use Rattle.vs_device_parts.specs.{Taking.asks_for_stream, Transmitting.{failing, heard, unknown_why}, declared.answers.Taken.Taken}
 use Rattle.laws_proxy.specs.Account.Made.{Account, Made, account_of, made}
 use Rattle.vs_conn.specs.declared.end.Verdict.TheVariants as verdict
 use Rattle.vs_conn.specs.declared.end.Why.TheVariants as why

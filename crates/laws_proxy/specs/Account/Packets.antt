@@ -1,12 +1,11 @@
 -- The packets of the guest in a turn: its transmit stage, and the stages before and after it.
 use Rattle.std.specs.Prelude.{◌≡◌, ℕ, zero, suc, ◌+◌, true, false, List, [], ◌∷◌}
 use Rattle.vs_contents.specs.CallTree.{Done, Leads, bind}
-use Rattle.vs_ring_port.specs.{Contents.Take, declared.device_ring.Chain.Chain, declared.queue.Queue.TheVariants.Tx}
-use Rattle.vs_device_parts.specs.Calls.{Answer, Call, DeviceTree, Ring}
-use Rattle.vs_device_parts.specs.{State.DeviceState, Transmitting.take_tx_of, declared.answers.Taken.Taken}
-use Rattle.vs_proxy_parts.specs.Turns.{device_after, event_stage, fill_stage, pump_stage, tick_stage, took_packet, turned, unless_failed}
-use Rattle.vs_proxy_parts.specs.{Handshakes.shake_hands, State.ProxyState, State.Turning, State.start, declared.answers.Turn.Turn}
-use Rattle.laws_proxy.specs.Account.{Judged.IsJudged, Made.Made, Made.Makes}
+use Rattle.vs_ring_port.specs.{Contents.Take, declared.{device_ring.Chain.Chain, queue.Queue.TheVariants.Tx}}
+use Rattle.vs_device_parts.specs.{Calls.{Answer, Call, DeviceTree, Ring}, State.DeviceState, Transmitting.take_tx_of, declared.answers.Taken.Taken}
+use Rattle.vs_proxy_parts.specs.{Turns.{device_after, event_stage, fill_stage, pump_stage, tick_stage, took_packet, turned, unless_failed}, Handshakes.shake_hands}
+use Rattle.vs_proxy_parts.specs.{State.{ProxyState, Turning, start}, declared.answers.Turn.Turn}
+use Rattle.laws_proxy.specs.Account.{Judged.IsJudged, Made.{Made, Makes}}
 use Rattle.vs_ring_port.specs.declared.device_ring.Next.TheVariants as next
 
 -- The chains of tx that were taken, newest first.

@@ -1,8 +1,7 @@
 -- What the host's streams were given, against the payloads delivered on their connections.
-use Rattle.std.specs.Prelude.{◌≡◌, ◌≢◌, ℕ, ◌++◌, ◌&&◌, not, Bool, true, false, if◌then◌else◌, List, [], Option, Some, None, AllPairs}
-use Rattle.std.specs.{List.All, Option.option_map}
+use Rattle.std.specs.{Prelude.{◌≡◌, ◌≢◌, ℕ, ◌++◌, ◌&&◌, not, Bool, true, false, if◌then◌else◌, List, [], Option, Some, None, AllPairs}, List.All, Option.option_map}
 use Rattle.vs_conn.specs.declared.end.State.TheVariants.{Asked, Ended}
-use Rattle.vs_flow.specs.{Table.Table, Table.IsTable, Table.entry_of, declared.flow.Flow.Flow}
+use Rattle.vs_flow.specs.{Table.{Table, IsTable, entry_of}, declared.flow.Flow.Flow}
 use Rattle.vs_page.specs.Fair.{IsPrefixOf}
 use Rattle.vs_outside.specs.HostBytes.{after_line}
 use Rattle.vs_uds.specs.{OkLine.ok_text, Reading.is_decided, declared.connect.TheConstants.CONNECT_MAX}

@@ -6,8 +6,7 @@ use Rattle.vs_limits.specs.declared.TheConstants.{ASSIGNED_LAST}
 use Rattle.vs_outside.specs.Host.{HostContents, Stream, stream_at, waits}
 use Rattle.vs_device_parts.specs.{Calls.DeviceTree, State.DeviceConnection}
 use Rattle.vs_proxy_parts.specs.State.{Handshake}
-use Rattle.laws_proxy.specs.Account.{Carried.Carries, Made.Account, Made.Made, Made.Makes, Made.account_of}
-use Rattle.laws_proxy.specs.Account.Tied.{AgreesWith, IsRead, IsWhole, reading_account}
+use Rattle.laws_proxy.specs.Account.{Carried.Carries, Made.{Account, Made, Makes, account_of}, Tied.{AgreesWith, IsRead, IsWhole, reading_account}}
 
 -- The port of a client's connection is one that is assigned, or one below.
 abbrev pub IsPorted : Account → Type 0

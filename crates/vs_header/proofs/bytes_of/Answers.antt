@@ -1,6 +1,5 @@
 use Rattle.std.proofs.Common.{ap, ◌∙◌, arith, rules}
-use Rattle.vs_header.specs.Packet.{header_of}
-use Rattle.vs_header.proofs.RoundTrip.{header_of-header_bytes}
+use Rattle.vs_header.{specs.Packet.header_of, proofs.RoundTrip.header_of-header_bytes}
 use Rattle.vs_header.proofs.bytes_of.Goals as goal
 
 pub returns-clause-bytes : goal.returns-clause-bytes

@@ -1,7 +1,6 @@
 use Rattle.std.proofs.Common.{◌∙◌}
 use Rattle.laws_driver.specs.Carried.Calls.{account_of}
-use Rattle.laws_apps.proofs.Calling.{call_accounted, call_honest, entry_accounted, poll_accounted}
-use Rattle.laws_apps.proofs.{Naming.sent_by_id, Noting.call_noted, Noting.same_accounted}
+use Rattle.laws_apps.proofs.{Calling.{call_accounted, call_honest, entry_accounted, poll_accounted}, Naming.sent_by_id, Noting.{call_noted, same_accounted}}
 use Rattle.laws_apps.proofs.laws.law_of_accounts.Goals as goal
 
 pub returns-clause-call : goal.returns-clause-call

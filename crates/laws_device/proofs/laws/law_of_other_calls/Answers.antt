@@ -1,6 +1,5 @@
-use Rattle.vs_device_parts.specs.{Streams.pump_of, Streams.tick_of, Turns.open_of}
-use Rattle.laws_device.{proofs.Carrying.ring_only, proofs.Carrying.with_ring, proofs.Carrying.ring_end, proofs.Keeping.keeps_end}
-use Rattle.laws_device.{proofs.Turning.opens_plain, proofs.Turning.pump_keeps, proofs.Turning.tick_keeps, specs.Honest.port_after}
+use Rattle.vs_device_parts.specs.{Streams.{pump_of, tick_of}, Turns.open_of}
+use Rattle.laws_device.{proofs.{Carrying.{ring_only, with_ring, ring_end}, Keeping.keeps_end, Turning.{opens_plain, pump_keeps, tick_keeps}}, specs.Honest.port_after}
 use Rattle.std.proofs.Common.{[]}
 use Rattle.laws_device.proofs.laws.law_of_other_calls.Goals as goal
 

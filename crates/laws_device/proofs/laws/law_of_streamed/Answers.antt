@@ -1,6 +1,5 @@
 use Rattle.vs_device_parts.specs.{Receiving.{fill_rx_of, pay_event_of}, Streams.{pump_of, tick_of}, Transmitting.take_tx_of, Turns.reset_of}
-use Rattle.laws_device.proofs.Turning.{pay_keeps, pump_keeps, reset_keeps, tick_keeps}
-use Rattle.laws_device.proofs.{Carrying.ring_and_host, Carrying.streamed_end, Filling.fill_keeps, Transmitting.take_keeps}
+use Rattle.laws_device.proofs.{Turning.{pay_keeps, pump_keeps, reset_keeps, tick_keeps}, Carrying.{ring_and_host, streamed_end}, Filling.fill_keeps, Transmitting.take_keeps}
 use Rattle.laws_device.proofs.laws.law_of_streamed.Goals as goal
 
 pub returns-clause-take_tx : goal.returns-clause-take_tx

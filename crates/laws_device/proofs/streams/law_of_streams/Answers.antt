@@ -1,9 +1,7 @@
-use Rattle.vs_device_parts.specs.{Calls.Allows, Playing.CanMake, Receiving.fill_rx_of, Receiving.pay_event_of, Streams.pump_of}
-use Rattle.vs_device_parts.specs.{Streams.tick_of, Transmitting.take_tx_of, Turns.open_of, Turns.reset_of}
-use Rattle.laws_device.specs.Named.Split.{CanReach}
-use Rattle.laws_device.proofs.Named.{Closing.keeps_tick, Conditions.quiet_can, Keeping.keeps_end}
-use Rattle.laws_device.proofs.Named.Opening.{both_found, keeps_open, keeps_reset, new_has}
-use Rattle.laws_device.proofs.Named.{Receiving.keeps_fill_rx, Receiving.keeps_pay_event, Transmitting.keeps_take_tx, Writing.keeps_pump}
+use Rattle.vs_device_parts.specs.{Calls.Allows, Playing.CanMake, Receiving.{fill_rx_of, pay_event_of}, Streams.{pump_of, tick_of}, Transmitting.take_tx_of, Turns.open_of}
+use Rattle.vs_device_parts.specs.Turns.{reset_of}
+use Rattle.laws_device.{specs.Named.Split.CanReach, proofs.Named.{Closing.keeps_tick, Conditions.quiet_can, Keeping.keeps_end, Opening.{both_found, keeps_open, keeps_reset}}}
+use Rattle.laws_device.proofs.Named.{Opening.new_has, Receiving.{keeps_fill_rx, keeps_pay_event}, Transmitting.keeps_take_tx, Writing.keeps_pump}
 use Rattle.laws_device.proofs.streams.law_of_streams.Goals as goal
 
 pub returns-clause-new : goal.returns-clause-new

@@ -1,8 +1,5 @@
-use Rattle.vs_driver_parts.specs.Connections.{after_close, after_grow, after_recv, after_shutdown, after_unlisten}
-use Rattle.vs_driver_parts.specs.Listening.{after_accept, listening}
-use Rattle.laws_driver.proofs.Calls.{still_honest}
-use Rattle.laws_driver.proofs.Changing.{accept_changes, close_changes, grow_changes, listen_changes, recv_changes, shutdown_changes}
-use Rattle.laws_driver.proofs.Changing.{unlisten_changes}
+use Rattle.vs_driver_parts.specs.{Connections.{after_close, after_grow, after_recv, after_shutdown, after_unlisten}, Listening.{after_accept, listening}}
+use Rattle.laws_driver.proofs.{Calls.still_honest, Changing.{accept_changes, close_changes, grow_changes, listen_changes, recv_changes, shutdown_changes, unlisten_changes}}
 use Rattle.laws_driver.proofs.laws.law_of_other_calls.Goals as goal
 
 pub returns-clause-recv : goal.returns-clause-recv

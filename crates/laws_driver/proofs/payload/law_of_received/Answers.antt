@@ -1,8 +1,7 @@
 use Rattle.std.proofs.Common.{subst, sym}
 use Rattle.vs_driver_parts.specs.Held.{HeldSlots}
-use Rattle.laws_driver.specs.Carried.Received.{AreReceived}
-use Rattle.laws_driver.proofs.Carried.Changing.{accept_slots, close_received, grow_received, shutdown_received, unlisten_received}
-use Rattle.laws_driver.proofs.Carried.{Ending.connect_ends, Ending.new_righted, Ending.poll_ends, Ending.send_ends, Reading.recv_received}
+use Rattle.laws_driver.{specs.Carried.Received.AreReceived, proofs.Carried.Changing.{accept_slots, close_received, grow_received, shutdown_received, unlisten_received}}
+use Rattle.laws_driver.proofs.Carried.{Ending.{connect_ends, new_righted, poll_ends, send_ends}, Reading.recv_received}
 use Rattle.laws_driver.proofs.payload.law_of_received.Goals as goal
 
 pub returns-clause-new : goal.returns-clause-new

@@ -1,5 +1,4 @@
-use Rattle.laws_driver.specs.Carried.Calls.{makes_call, whole_call}
-use Rattle.laws_driver.proofs.Carried.{Journaling.sent_just, Making.made_with, Making.whole_with, Sending.poll_sent, Sending.shut_sent}
+use Rattle.laws_driver.{specs.Carried.Calls.{makes_call, whole_call}, proofs.Carried.{Journaling.sent_just, Making.{made_with, whole_with}, Sending.{poll_sent, shut_sent}}}
 use Rattle.laws_driver.proofs.payload.law_of_sent.Goals as goal
 
 pub returns-clause-call : goal.returns-clause-call

@@ -1,5 +1,4 @@
-use Rattle.std.proofs.Common.{◌≡◌, ℕ, zero, suc, ◌-◌, ◌==◌, Bool, true, false, cond, List, [], slice_get, Option, None, refl, sym, ap}
-use Rattle.std.proofs.Common.{subst, ◌∙◌}
+use Rattle.std.proofs.Common.{◌≡◌, ℕ, zero, suc, ◌-◌, ◌==◌, Bool, true, false, cond, List, [], slice_get, Option, None, refl, sym, ap, subst, ◌∙◌}
 use Rattle.vs_outside.specs.Host.{HostContents, Stream, stream_at}
 use Rattle.laws_proxy.specs.Account.Told.{ShowsAt}
 use Rattle.laws_proxy.proofs.payload.law_of_new_hosts.Goals as goal

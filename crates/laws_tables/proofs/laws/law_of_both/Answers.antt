@@ -1,5 +1,4 @@
-use Rattle.laws_tables.proofs.Both.{device_has_room, driver_accepts, run_keeps, start_sound}
-use Rattle.laws_tables.{specs.Both.run, specs.Both.start, proofs.Tables.driver_open, proofs.Tables.table_open, proofs.Voices.device_takes}
+use Rattle.laws_tables.{proofs.{Both.{device_has_room, driver_accepts, run_keeps, start_sound}, Tables.{driver_open, table_open}, Voices.device_takes}, specs.Both.{run, start}}
 use Rattle.vs_page.specs.Log.{Device, Driver}
 use Rattle.laws_tables.proofs.laws.law_of_both.Goals as goal
 

@@ -1,5 +1,4 @@
-use Rattle.laws_tables.proofs.Frame.{heard_dropped, heard_ended, heard_got, heard_other, heard_put}
-use Rattle.laws_tables.proofs.Fair.{all_got, all_put, heard_all, heard_puts}
+use Rattle.laws_tables.proofs.{Frame.{heard_dropped, heard_ended, heard_got, heard_other, heard_put}, Fair.{all_got, all_put, heard_all, heard_puts}}
 use Rattle.laws_tables.proofs.laws.law_of_hearing.Goals as goal
 
 pub returns-clause-driver : goal.returns-clause-driver

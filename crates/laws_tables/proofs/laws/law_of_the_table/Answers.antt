@@ -1,5 +1,4 @@
-use Rattle.laws_tables.proofs.Tables.{all_open, driver_begun, driver_open, end_begun, end_new, none_open, reset_empty, table_distinct}
-use Rattle.laws_tables.proofs.Tables.{table_open}
+use Rattle.laws_tables.proofs.Tables.{all_open, driver_begun, driver_open, end_begun, end_new, none_open, reset_empty, table_distinct, table_open}
 use Rattle.laws_tables.proofs.laws.law_of_the_table.Goals as goal
 
 pub returns-clause-once : goal.returns-clause-once

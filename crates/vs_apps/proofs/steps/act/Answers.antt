@@ -1,10 +1,8 @@
-use Rattle.std.proofs.Common.{◌≡◌, ◌<◌, ◌≤◌, ℕ, List, length, get_or, None, arith, refl, subst, sym}
-use Rattle.std.proofs.lemmas.{Bool.Decides.nat_tests, Option.get_or_from_slice_get, Option.slice_get_read}
-use Rattle.std.specs.Prelude.{slice_get}
+use Rattle.std.proofs.{Common.{◌≡◌, ◌<◌, ◌≤◌, ℕ, List, length, get_or, None, arith, refl, subst, sym}, lemmas.{Bool.Decides.nat_tests, Option.get_or_from_slice_get}}
+use Rattle.std.{proofs.lemmas.Option.slice_get_read, specs.Prelude.slice_get}
 use Rattle.vs_script.specs.App.{instruction_view}
-use Rattle.vs_apps_parts.specs.{Scripts.acts_of, Scripts.script_of, declared.progress.AppState.AppState}
-use Rattle.laws_apps.specs.Runs.{no_app}
-use Rattle.laws_apps.proofs.Stepping.{act_at, no_act_at, right_at}
+use Rattle.vs_apps_parts.specs.{Scripts.{acts_of, script_of}, declared.progress.AppState.AppState}
+use Rattle.laws_apps.{specs.Runs.no_app, proofs.Stepping.{act_at, no_act_at, right_at}}
 use Rattle.vs_apps.proofs.steps.act.Goals as goal
 
 state_at : (apps : List AppState) (k : ℕ) (state : AppState) → k < length apps → state ≡ get_or apps k state → state ≡ get_or apps k no_app

@@ -1,8 +1,7 @@
 use Rattle.std.proofs.Common.{sym, ◌∙◌}
 use Rattle.vs_script.specs.App.{instruction_view}
 use Rattle.vs_apps_parts.specs.Told.{told_list}
-use Rattle.laws_apps.specs.Calls.{run_of}
-use Rattle.laws_apps.proofs.Stepping.{moves_as, waits_as}
+use Rattle.laws_apps.{specs.Calls.run_of, proofs.Stepping.{moves_as, waits_as}}
 use Rattle.vs_apps.proofs.steps.carry_out.Goals as goal
 
 pub returns-in-Some-clause-acts : goal.returns-in-Some-clause-acts

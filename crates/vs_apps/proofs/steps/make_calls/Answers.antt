@@ -1,11 +1,10 @@
-use Rattle.std.proofs.Common.{ℕ, List, [], ◌∷◌, if◌then◌else◌, refl, ap, subst, sym}
-use Rattle.std.specs.Prelude.{nat_lt}
+use Rattle.std.{proofs.Common.{ℕ, List, [], ◌∷◌, if◌then◌else◌, refl, ap, subst, sym}, specs.Prelude.nat_lt}
 use Rattle.vs_script.specs.App.{instruction_view}
-use Rattle.vs_script.specs.declared.app.Instruction.TheVariants as code
 use Rattle.laws_driver.specs.Carried.Calls.{GuestCall}
-use Rattle.laws_driver.specs.Carried.Calls as call
 use Rattle.vs_apps_parts.specs.{Scripts.{IsRight, recv_next}, declared.progress.TheConstants.SLICE}
 use Rattle.laws_apps.proofs.Stepping.{both_made, data_of, made_for, made_same, one_made}
+use Rattle.vs_script.specs.declared.app.Instruction.TheVariants as code
+use Rattle.laws_driver.specs.Carried.Calls as call
 use Rattle.vs_apps.proofs.steps.make_calls.Goals as goal
 
 pub returns-in-Connect-clause-calls : goal.returns-in-Connect-clause-calls

@@ -1,5 +1,4 @@
-use Rattle.std.proofs.{Common.arith, lemmas.Bool.Decides.nat_tests}
-use Rattle.std.specs.Prelude.{nat_lt}
+use Rattle.std.{proofs.{Common.arith, lemmas.Bool.Decides.nat_tests}, specs.Prelude.nat_lt}
 use Rattle.laws_apps.proofs.Stepping.{one_if}
 use Rattle.vs_apps.proofs.steps.recv_left.Goals as goal
 

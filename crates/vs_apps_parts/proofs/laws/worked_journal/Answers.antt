@@ -1,8 +1,7 @@
-use Rattle.std.proofs.Common.{[], ◌∷◌, refl}
-use Rattle.vs_script.specs.App as act
+use Rattle.std.{proofs.Common.{[], ◌∷◌, refl}, specs.Prelude.{Some, codes, true}}
 use Rattle.vs_script.specs.Data.{Given}
-use Rattle.std.specs.Prelude.{Some, codes, true}
 use Rattle.vs_apps_parts.specs.{Examples.{asked, at_next, closed_it, opened, sent_he, sent_llo}, Scripts.begun}
+use Rattle.vs_script.specs.App as act
 use Rattle.vs_apps_parts.proofs.laws.worked_journal.Goals as goal
 
 pub returns-clause-done : goal.returns-clause-done

@@ -1,8 +1,5 @@
-use Rattle.std.proofs.Common.{◌≡◌, ap, ◌∙◌, length, take, drop, ◌++◌, ◌-◌, ◌≤◌, arith, List, ℕ}
-use Rattle.std.proofs.lemmas.List.{with_items_is}
-use Rattle.vs_buffer.specs.Fifo.{Fifo}
-use Rattle.vs_buffer.proofs.Pieces.{longer}
-use Rattle.vs_buffer.proofs.ByteFifo.put.Goals.{then-capacity-self, else-capacity-self}
+use Rattle.std.proofs.{Common.{◌≡◌, ap, ◌∙◌, length, take, drop, ◌++◌, ◌-◌, ◌≤◌, arith, List, ℕ}, lemmas.List.with_items_is}
+use Rattle.vs_buffer.{specs.Fifo.Fifo, proofs.{Pieces.longer, ByteFifo.put.Goals.{then-capacity-self, else-capacity-self}}}
 use Rattle.vs_buffer.proofs.ByteFifo.put.Goals as goal
 
 pub returns : goal.returns

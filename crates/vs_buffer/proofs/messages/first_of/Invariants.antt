@@ -1,5 +1,4 @@
-use Rattle.std.proofs.Common.{◌≡◌, ◌+◌, length}
-use Rattle.std.specs.Option.{option_map}
+use Rattle.std.{proofs.Common.{◌≡◌, ◌+◌, length}, specs.Option.option_map}
 use Rattle.vs_buffer.specs.Messages.{first_message}
 use Rattle.vs_buffer.proofs.messages.first_of.Given as goal
 

@@ -1,6 +1,5 @@
 use Rattle.std.proofs.Common.{◌≡◌, ◌++◌, ◌∷◌, [], ◌+◌, ◌-◌, append_assoc, length, ap, sym, ◌∙◌, arith, length-append}
-use Rattle.vs_buffer.specs.Messages.{marks_of}
-use Rattle.vs_buffer.proofs.Marks.{kept_whole, mark_next}
+use Rattle.vs_buffer.{specs.Messages.marks_of, proofs.Marks.{kept_whole, mark_next}}
 use Rattle.vs_buffer.proofs.messages.put_marks.Goals as goal
 
 pub loop-place-preserved : goal.loop-place-preserved

@@ -1,5 +1,4 @@
-use Rattle.vs_conn.proofs.Frames.{got_answering, got_asked, got_kind, got_over, paid_answering, paid_asked, paid_credit, paid_kind}
-use Rattle.vs_conn.proofs.Frames.{paid_message, paid_over, paid_own, paid_peer}
+use Rattle.vs_conn.proofs.Frames.{got_answering, got_asked, got_kind, got_over, paid_answering, paid_asked, paid_credit, paid_kind, paid_message, paid_over, paid_own, paid_peer}
 use Rattle.vs_conn.proofs.laws.law_of_frames.Goals as goal
 
 pub returns-clause-got_kind : goal.returns-clause-got_kind

@@ -1,5 +1,4 @@
-use Rattle.laws_world.specs.{Events.run, World.opening, Pipes.IsFresh}
-use Rattle.laws_world.proofs.{Opening.opening_is, Opening.reached, Opening.run_well, Runs.and_then, Runs.stays, Sound.happens_goes}
+use Rattle.laws_world.{specs.{Events.run, World.opening, Pipes.IsFresh}, proofs.{Opening.{opening_is, reached, run_well}, Runs.{and_then, stays}, Sound.happens_goes}}
 use Rattle.vs_core.proofs.laws.law_of_events.Goals as goal
 
 pub returns-clause-each : goal.returns-clause-each

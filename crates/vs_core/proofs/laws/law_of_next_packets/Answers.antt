@@ -1,12 +1,10 @@
 use Rattle.std.proofs.Common.{◌≡◌, false, subst}
 use Rattle.vs_conn.specs.End.{is_refused, verdict_of}
 use Rattle.vs_limits.specs.declared.TheConstants.{FIRST_PORT, ASSIGNED_FIRST}
-use Rattle.laws_tables.specs.{Both.Both, Steps.HasEnd}
-use Rattle.laws_tables.proofs.{Both.device_has_room, Both.driver_accepts, Voices.device_takes}
-use Rattle.vs_page.specs.{Log.Device, Log.Driver, Log.IsNextPacket, Log.flow_got, Open.is_dropped}
-use Rattle.laws_world.specs.{Events.run, Sides.both_of, World.first_cid, World.opening}
+use Rattle.laws_tables.{specs.{Both.Both, Steps.HasEnd}, proofs.{Both.{device_has_room, driver_accepts}, Voices.device_takes}}
+use Rattle.vs_page.specs.{Log.{Device, Driver, IsNextPacket, flow_got}, Open.is_dropped}
+use Rattle.laws_world.{specs.{Events.run, Sides.both_of, World.{first_cid, opening}}, proofs.{Entries.host_of, Opening.{opening_is, reached, run_well}, Runs.{and_then, stays}}}
 use Rattle.laws_driver.specs.Honest.{end_in}
-use Rattle.laws_world.proofs.{Entries.host_of, Opening.opening_is, Opening.reached, Opening.run_well, Runs.and_then, Runs.stays}
 use Rattle.vs_core.proofs.laws.law_of_next_packets.Goals as goal
 
 pub returns-clause-driver : goal.returns-clause-driver

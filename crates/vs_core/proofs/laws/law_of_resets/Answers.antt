@@ -1,5 +1,4 @@
-use Rattle.laws_world.specs.Events.{Reset, is_guest_cid, reset_made}
-use Rattle.laws_world.proofs.GuestLines.{leads_one, possible_is}
+use Rattle.laws_world.{specs.Events.{Reset, is_guest_cid, reset_made}, proofs.GuestLines.{leads_one, possible_is}}
 use Rattle.vs_core.proofs.laws.law_of_resets.Goals as goal
 
 pub returns : goal.returns

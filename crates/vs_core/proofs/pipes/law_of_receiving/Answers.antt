@@ -1,6 +1,5 @@
 use Rattle.laws_tables.proofs.Logs.{prefix_then}
-use Rattle.laws_world.specs.{Events.run, World.opening}
-use Rattle.laws_world.proofs.{Carried.gone_of, Carried.received_is, Carried.to_driver, Carried.unread_of, Opening.run_well}
+use Rattle.laws_world.{specs.{Events.run, World.opening}, proofs.{Carried.{gone_of, received_is, to_driver, unread_of}, Opening.run_well}}
 use Rattle.vs_core.proofs.pipes.law_of_receiving.Goals as goal
 
 pub returns-clause-received : goal.returns-clause-received

@@ -1,6 +1,5 @@
 use Rattle.std.proofs.Common.{subst}
-use Rattle.laws_world.proofs.Carried.{CarriesOn, carried}
-use Rattle.laws_world.{specs.Events.run, specs.World.World, specs.World.opening, proofs.Opening.run_well, proofs.ScriptLines.opened_leads}
+use Rattle.laws_world.{proofs.{Carried.{CarriesOn, carried}, Opening.run_well, ScriptLines.opened_leads}, specs.{Events.run, World.{World, opening}}}
 use Rattle.vs_core.proofs.pipes.law_of_script_bytes.Goals as goal
 
 pub returns : goal.returns

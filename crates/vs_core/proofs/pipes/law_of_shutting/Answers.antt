@@ -1,5 +1,4 @@
-use Rattle.laws_world.specs.{Events.run, Pipes.IsFresh, World.opening}
-use Rattle.laws_world.proofs.{Carried.sent_stays, Carried.wrote_stays, Opening.run_goes, Opening.run_well}
+use Rattle.laws_world.{specs.{Events.run, Pipes.IsFresh, World.opening}, proofs.{Carried.{sent_stays, wrote_stays}, Opening.{run_goes, run_well}}}
 use Rattle.vs_core.proofs.pipes.law_of_shutting.Goals as goal
 
 pub returns-clause-sent : goal.returns-clause-sent

@@ -1,10 +1,7 @@
-use Rattle.std.proofs.{Common.◌≡◌, Common.Some, Common.ap, lemmas.List.Elements.All-contains}
+use Rattle.std.proofs.{Common.{◌≡◌, Some, ap}, lemmas.List.Elements.All-contains}
 use Rattle.vs_proxy_parts.specs.State.{Handshake}
-use Rattle.laws_device.specs.Carried.Streamed.{Seen, look, reading}
-use Rattle.laws_world.specs.{Events.run, World.opening}
-use Rattle.laws_world.proofs.{Carried.given_is, Carried.one_stream, Carried.pending_of, Carried.wrote_is, Opening.run_well}
-use Rattle.laws_device.proofs.Carried.Hosts.{none_labelled}
-use Rattle.laws_device.proofs.Carried.Hosts.{there as is_there}
+use Rattle.laws_device.{specs.Carried.Streamed.{Seen, look, reading}, proofs.Carried.Hosts.{none_labelled, there as is_there}}
+use Rattle.laws_world.{specs.{Events.run, World.opening}, proofs.{Carried.{given_is, one_stream, pending_of, wrote_is}, Opening.run_well}}
 use Rattle.vs_core.proofs.pipes.law_of_streams.Goals as goal
 
 pub returns-clause-put : goal.returns-clause-put

@@ -1,5 +1,4 @@
-use Rattle.laws_world.specs.World.{opening}
-use Rattle.laws_world.proofs.{CallRests.opening_rests, ScriptLines.opened_leads, ScriptLines.reported, ScriptLines.script_rests}
+use Rattle.laws_world.{specs.World.opening, proofs.{CallRests.opening_rests, ScriptLines.{opened_leads, reported, script_rests}}}
 use Rattle.vs_core.proofs.scripts.law_of_scripts.Goals as goal
 
 pub returns-clause-events : goal.returns-clause-events

@@ -2,11 +2,9 @@ use Rattle.std.proofs.{Common.{◌≡◌, ◌<◌, true, false, Some, sym, ap, s
 use Rattle.vs_contents.proofs.Leads.{leads_of}
 use Rattle.vs_credit.specs.Credit.{free_of}
 use Rattle.vs_flow.specs.Table.{entry_under, value_under}
-use Rattle.vs_device_parts.specs.{Calls.Allows, Filling.filling_of, Playing.{MayRun, Runs, situation}, Receiving.{Filling, may_read}}
-use Rattle.vs_device_parts.specs.{Receiving.read_with_chain, State.{DeviceConnection, DeviceEntry, DeviceState}, declared.fill.Fill.Fill}
-use Rattle.vs_device_parts.proofs.Under.{value_of}
-use Rattle.vs_device.proofs.{Among.same_among, Reading.IsToRead, Reading.if_some, Reading.may_step_read, Reading.read_stepped}
-use Rattle.vs_device.proofs.{Reading.reads_stream, Reading.same_entry, Reading.step_not_read, Ordered.step_streams}
+use Rattle.vs_device_parts.specs.{Calls.Allows, Filling.filling_of, Playing.{MayRun, Runs, situation}, Receiving.{Filling, may_read, read_with_chain}, State.DeviceConnection}
+use Rattle.vs_device_parts.{specs.{State.{DeviceEntry, DeviceState}, declared.fill.Fill.Fill}, proofs.Under.value_of}
+use Rattle.vs_device.proofs.{Among.same_among, Reading.{IsToRead, if_some, may_step_read, read_stepped, reads_stream, same_entry, step_not_read}, Ordered.step_streams}
 use Rattle.laws_device.proofs.Named.Stepping.{puts_payload_keeps}
 use Rattle.vs_device.proofs.steps.put_payload.Goals as goal
 

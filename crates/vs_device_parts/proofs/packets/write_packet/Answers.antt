@@ -1,8 +1,6 @@
 use Rattle.std.proofs.{Common.{arith, ◌≡◌, ◌<◌, ℕ, List, length, refl, subst, ◌∙◌}, lemmas.Bool.Decides.nat_tests}
 use Rattle.vs_ring_port.specs.{Contents.Write, DeviceCalls.DeviceAllows}
-use Rattle.vs_device_parts.specs.Playing.{situation}
-use Rattle.vs_device_parts.proofs.Held.{still_held}
-use Rattle.vs_device_parts.proofs.Writes.{may_return_header, may_write_payload, may_return_packet, header_written, packet_written}
+use Rattle.vs_device_parts.{specs.Playing.situation, proofs.{Held.still_held, Writes.{may_return_header, may_write_payload, may_return_packet, header_written, packet_written}}}
 use Rattle.vs_device_parts.proofs.packets.write_packet.Goals as goal
 
 pub done-requires-clause-written : goal.done-requires-clause-written

@@ -1,5 +1,4 @@
-use Rattle.std.proofs.Common.{◌≡◌, length, vec_capacity}
-use Rattle.std.specs.List.{All}
+use Rattle.std.{proofs.Common.{◌≡◌, length, vec_capacity}, specs.List.All}
 use Rattle.vs_limits.specs.declared.TheConstants.{DEVICE_CONNECTIONS}
 use Rattle.vs_device_parts.specs.Room.{IsSpare}
 use Rattle.vs_device_parts.proofs.slots.all_buffers.Given as goal

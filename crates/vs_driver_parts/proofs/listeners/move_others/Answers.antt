@@ -1,9 +1,7 @@
 use Rattle.std.proofs.Common.{◌≡◌, ◌++◌, ◌∙◌, ap, arith, length, rules, nat_eq}
 use Rattle.indexmap.specs.{Drain.drain_rest, IndexMap.insert_entry}
 use Rattle.vs_flow.proofs.Keys.{IsNextPair}
-use Rattle.vs_driver_parts.specs.ListenerFields.{others}
-use Rattle.vs_driver_parts.proofs.ListenerChanges.{next_other, no_more}
-use Rattle.vs_driver_parts.proofs.listeners.move_others.Goals.{After-insert}
+use Rattle.vs_driver_parts.{specs.ListenerFields.others, proofs.{ListenerChanges.{next_other, no_more}, listeners.move_others.Goals.After-insert}}
 use Rattle.vs_driver_parts.proofs.listeners.move_others.Goals as goal
 
 next : (c : After-insert) → IsNextPair nat_eq c.loop-listened.to.entries (others c.args.port (drain_rest c.next.new.self))

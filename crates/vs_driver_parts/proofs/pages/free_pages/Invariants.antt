@@ -1,5 +1,4 @@
-use Rattle.std.proofs.Common.{◌≡◌, [], length, vec_capacity}
-use Rattle.std.specs.List.{All}
+use Rattle.std.{proofs.Common.{◌≡◌, [], length, vec_capacity}, specs.List.All}
 use Rattle.vs_driver_parts.proofs.pages.free_pages.Given as goal
 
 abbrev pub invariant-loop : goal.invariant-loop

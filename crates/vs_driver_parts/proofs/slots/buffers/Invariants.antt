@@ -1,5 +1,4 @@
-use Rattle.std.proofs.Common.{◌≡◌, length, vec_capacity}
-use Rattle.std.specs.List.{All}
+use Rattle.std.{proofs.Common.{◌≡◌, length, vec_capacity}, specs.List.All}
 use Rattle.vs_limits.specs.declared.TheConstants.{DRIVER_CONNECTIONS}
 use Rattle.vs_driver_parts.specs.Room.{IsSpare}
 use Rattle.vs_driver_parts.proofs.slots.buffers.Given as goal

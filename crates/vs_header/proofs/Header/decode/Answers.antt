@@ -1,7 +1,6 @@
 use Rattle.std.proofs.Common.{ap, ◌∙◌, drop, lit≤, rules}
 use Rattle.byteorder.specs.Numbers.{little_from-take}
-use Rattle.vs_header.specs.Packet.{header_bytes}
-use Rattle.vs_header.proofs.RoundTrip.{header_bytes-header_of, same_header}
+use Rattle.vs_header.{specs.Packet.header_bytes, proofs.RoundTrip.{header_bytes-header_of, same_header}}
 use Rattle.vs_header.proofs.Header.decode.Goals as goal
 
 pub returns-clause-fields : goal.returns-clause-fields

@@ -1,6 +1,5 @@
 use Rattle.std.proofs.Common.{[], arith}
-use Rattle.vs_report.proofs.LinesGiven.{at_any_end, at_no_end, given_as, nothing_given}
-use Rattle.vs_report.specs.declared.giving.GiveError.TheVariants.{OutOfMemory}
+use Rattle.vs_report.{proofs.LinesGiven.{at_any_end, at_no_end, given_as, nothing_given}, specs.declared.giving.GiveError.TheVariants.OutOfMemory}
 use Rattle.vs_script.specs.Hostile.{hostile_view}
 use Rattle.vs_hostile.specs.{Answer.said_text, Run.hostile_does}
 use Rattle.vs_hostile.proofs.run.give_line.Goals as goal

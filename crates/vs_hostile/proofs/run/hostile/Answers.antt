@@ -1,6 +1,5 @@
 use Rattle.std.proofs.Common.{Ok, Err, ap, ◌≡◌, map, arith}
-use Rattle.vs_hostile.proofs.Attacks.{attack_given, attack_less, attack_until}
-use Rattle.vs_hostile.specs.{Answer.given, Answer.lines_of, Answer.texts_of, Run.beginning}
+use Rattle.vs_hostile.{proofs.Attacks.{attack_given, attack_less, attack_until}, specs.{Answer.{given, lines_of, texts_of}, Run.beginning}}
 use Rattle.vs_report.{proofs.LinesGiven.nothing_behind, specs.declared.giving.GiveError.TheVariants.OutOfMemory}
 use Rattle.vs_script.specs.Script.{numbered_hostile}
 use Rattle.vs_hostile.proofs.run.hostile.Goals as goal

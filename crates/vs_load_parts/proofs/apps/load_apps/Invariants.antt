@@ -1,5 +1,4 @@
-use Rattle.std.proofs.Common.{◌≡◌, map}
-use Rattle.std.specs.List.{range_with_len}
+use Rattle.std.{proofs.Common.{◌≡◌, map}, specs.List.range_with_len}
 use Rattle.vs_apps_parts.specs.Scripts.{script_of}
 use Rattle.vs_run_report.specs.Load.{load_app}
 use Rattle.vs_load_parts.proofs.apps.load_apps.Given as goal

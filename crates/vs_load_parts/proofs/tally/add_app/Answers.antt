@@ -1,9 +1,7 @@
-use Rattle.std.proofs.{Common.{◌+◌, Option, ap, ◌∙◌, take}, lemmas.List.take_more}
-use Rattle.std.specs.List.{fold}
+use Rattle.std.{proofs.{Common.{◌+◌, Option, ap, ◌∙◌, take}, lemmas.List.take_more}, specs.List.fold}
 use Rattle.vs_apps_parts.specs.{Journals.calls_of, Scripts.script_of}
-use Rattle.vs_run_report.specs.{Connections.listed, Connections.opened_by, declared.connection.Opened.Opened}
-use Rattle.vs_load_parts.specs.Line.{adds}
-use Rattle.vs_load_parts.proofs.Tallies.{fold_next}
+use Rattle.vs_run_report.specs.{Connections.{listed, opened_by}, declared.connection.Opened.Opened}
+use Rattle.vs_load_parts.{specs.Line.adds, proofs.Tallies.fold_next}
 use Rattle.vs_load_parts.proofs.tally.add_app.Goals as goal
 
 pub loop-entry-preserved : goal.loop-entry-preserved

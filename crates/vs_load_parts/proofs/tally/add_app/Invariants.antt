@@ -1,5 +1,4 @@
-use Rattle.std.proofs.Common.{◌≡◌, take}
-use Rattle.std.specs.List.{fold}
+use Rattle.std.{proofs.Common.{◌≡◌, take}, specs.List.fold}
 use Rattle.vs_apps_parts.specs.{Journals.calls_of, Scripts.script_of}
 use Rattle.vs_run_report.specs.Connections.{opened_of}
 use Rattle.vs_load_parts.specs.Line.{adds}

@@ -1,10 +1,7 @@
-use Rattle.std.proofs.Common.{◌+◌}
-use Rattle.std.specs.List.{range_with_len}
+use Rattle.std.{proofs.Common.◌+◌, specs.List.range_with_len}
 use Rattle.vs_apps_parts.specs.{Journals.calls_of, Scripts.script_of}
-use Rattle.vs_run_report.specs.Connections.{opened_of}
-use Rattle.vs_run_report.proofs.Lines.{range_more}
-use Rattle.vs_load_parts.specs.Line.{adds, no_tally}
-use Rattle.vs_load_parts.proofs.Tallies.{fold_next}
+use Rattle.vs_run_report.{specs.Connections.opened_of, proofs.Lines.range_more}
+use Rattle.vs_load_parts.{specs.Line.{adds, no_tally}, proofs.Tallies.fold_next}
 use Rattle.vs_load_parts.proofs.tally.tally_of.Goals as goal
 
 pub loop-k-preserved : goal.loop-k-preserved

@@ -1,5 +1,4 @@
-use Rattle.vs_notify.specs.Machine.{start, run}
-use Rattle.vs_notify.proofs.Kept.{near, told, loses_none, free_may_publish, start_near, start_told}
+use Rattle.vs_notify.{specs.Machine.{start, run}, proofs.Kept.{near, told, loses_none, free_may_publish, start_near, start_told}}
 use Rattle.vs_notify.proofs.laws.law_of_wake_ups.Goals as goal
 
 pub returns-clause-loses_none : goal.returns-clause-loses_none

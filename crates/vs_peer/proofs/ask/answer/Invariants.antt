@@ -1,8 +1,7 @@
-use Rattle.std.proofs.Common.{◌≡◌, [], false, length}
-use Rattle.std.specs.Option.{ForSome}
+use Rattle.std.{proofs.Common.{◌≡◌, [], false, length}, specs.Option.ForSome}
 use Rattle.vs_contents.specs.Contents.{Relates}
 use Rattle.vs_outside.specs.Host.{IsOpen}
-use Rattle.vs_uds.specs.{OkLine.ok_step, Reading.is_decided, declared.ok.TheConstants.OK_MAX, declared.scan.Step.TheVariants.More}
+use Rattle.vs_uds.specs.{OkLine.ok_step, Reading.is_decided, declared.{ok.TheConstants.OK_MAX, scan.Step.TheVariants.More}}
 use Rattle.vs_peer.specs.{Passing.Moves, Waiting.Paused}
 use Rattle.vs_peer.proofs.ask.answer.Given as goal
 

@@ -1,5 +1,4 @@
-use Rattle.std.proofs.Common.{◌≡◌, [], false, ◌+◌, ◌-◌, ◌++◌, length, take, drop, refl, ap, sym, ◌∙◌, arith}
-use Rattle.std.proofs.{Math.Seq.take-add, lemmas.List.take_all, lemmas.List.take_rest}
+use Rattle.std.proofs.{Common.{◌≡◌, [], false, ◌+◌, ◌-◌, ◌++◌, length, take, drop, refl, ap, sym, ◌∙◌, arith}, Math.Seq.take-add, lemmas.List.{take_all, take_rest}}
 use Rattle.vs_peer.proofs.{Pieces.rest_length, Streams.{relates_as, relates_then, still_moves}, Waits.{paused_before, paused_once}}
 use Rattle.vs_peer.proofs.ask.ask.Goals as goal
 

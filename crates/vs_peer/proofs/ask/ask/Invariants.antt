@@ -1,5 +1,4 @@
-use Rattle.std.proofs.Common.{◌≡◌, ◌≤◌, [], false, length, take}
-use Rattle.std.specs.Option.{ForSome}
+use Rattle.std.{proofs.Common.{◌≡◌, ◌≤◌, [], false, length, take}, specs.Option.ForSome}
 use Rattle.vs_contents.specs.Contents.{Relates}
 use Rattle.vs_outside.specs.Host.{IsOpen}
 use Rattle.vs_peer.specs.{Passing.Moves, Waiting.Paused}

@@ -1,6 +1,5 @@
 use Rattle.std.proofs.Common.{◌≡◌, Err, Result, sym, subst, arith}
-use Rattle.vs_peer.specs.{Conversing.Converses, declared.stop.Stop.Stop}
-use Rattle.vs_peer.proofs.Conversations.{exchange_ends, open_fails, port_fails}
+use Rattle.vs_peer.{specs.{Conversing.Converses, declared.stop.Stop.Stop}, proofs.Conversations.{exchange_ends, open_fails, port_fails}}
 use Rattle.vs_peer.proofs.converse.converse.Goals as goal
 
 pub returns-in_err-opened-clause-converses : goal.returns-in_err-opened-clause-converses

@@ -1,5 +1,4 @@
-use Rattle.std.proofs.Common.{◌≡◌}
-use Rattle.std.specs.Option.{ForSome}
+use Rattle.std.{proofs.Common.◌≡◌, specs.Option.ForSome}
 use Rattle.vs_outside.specs.Host.{IsOpen}
 use Rattle.vs_peer.specs.{Exchanging.Exchanged, Waiting.Paused}
 use Rattle.vs_peer.proofs.exchange.exchange.Given as goal

@@ -1,8 +1,7 @@
 use Rattle.std.proofs.Common.{◌≡◌, Err, Result, subst, sym, arith}
 use Rattle.vs_outside.specs.Faults.{CountsFault}
-use Rattle.vs_peer.specs.{Failing.sink_failed, Exchanging.Steps, Exchanging.Leaves, Exchanging.Stepped, declared.exchange.Progress.Progress}
-use Rattle.vs_peer.specs.declared.stop.Stop.{Stop}
-use Rattle.vs_peer.proofs.Exchanges.{sink_kept, step_fails, step_goes, write_fails}
+use Rattle.vs_peer.{specs.{Failing.sink_failed, Exchanging.{Steps, Leaves, Stepped}, declared.{exchange.Progress.Progress, stop.Stop.Stop}}, proofs.Exchanges.sink_kept}
+use Rattle.vs_peer.proofs.Exchanges.{step_fails, step_goes, write_fails}
 use Rattle.vs_peer.proofs.exchange.step.Goals as goal
 
 pub returns-in_err-sent-clause-steps : goal.returns-in_err-sent-clause-steps

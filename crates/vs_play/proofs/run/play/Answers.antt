@@ -1,8 +1,7 @@
 use Rattle.std.proofs.Common.{map, arith}
 use Rattle.vs_report.proofs.LinesGiven.{nothing_behind}
 use Rattle.vs_script.specs.Script.{numbered_event}
-use Rattle.vs_play.specs.Answer.{events_in, opened_play, texts_of}
-use Rattle.vs_play.proofs.LinesPlayed.{events_of, run_until, run_given}
+use Rattle.vs_play.{specs.Answer.{events_in, opened_play, texts_of}, proofs.LinesPlayed.{events_of, run_until, run_given}}
 use Rattle.vs_play.proofs.run.play.Goals as goal
 
 pub returns-in_err-play_lines : goal.returns-in_err-play_lines

@@ -1,6 +1,5 @@
 use Rattle.std.proofs.Common.{[], arith}
-use Rattle.vs_report.proofs.LinesGiven.{at_any_end, at_no_end, given_as, nothing_given}
-use Rattle.vs_report.specs.declared.giving.GiveError.TheVariants.{OutOfMemory}
+use Rattle.vs_report.{proofs.LinesGiven.{at_any_end, at_no_end, given_as, nothing_given}, specs.declared.giving.GiveError.TheVariants.OutOfMemory}
 use Rattle.vs_script.specs.Play.{play_view}
 use Rattle.vs_play.specs.{Lines.event_played, Ready.world_in}
 use Rattle.vs_play.proofs.run.play_line.Goals as goal

@@ -1,6 +1,5 @@
-use Rattle.std.proofs.Common.{◌≡◌, ℕ, ◌+◌, rules, arith, length, take, ap, ◌∙◌, List, ◌++◌, slice_index_or}
+use Rattle.std.proofs.{Common.{◌≡◌, ℕ, ◌+◌, rules, arith, length, take, ap, ◌∙◌, List, ◌++◌, slice_index_or}, lemmas.{Slice.take-put_mid, List.drop_more}}
 use Rattle.vs_guest_mem.specs.Memory.{accessed, bytes_at}
-use Rattle.std.proofs.lemmas.{Slice.take-put_mid, List.drop_more}
 use Rattle.vs_ring_plain.proofs.Moving.{reads_more}
 use Rattle.vs_ring_plain.proofs.access.read_pieces.Goals as goal
 

@@ -1,7 +1,6 @@
 use Rattle.std.proofs.Common.{◌≡◌, List, Result, Err, arith, sym, ap, ◌∙◌}
-use Rattle.vs_ring_plain.specs.{declared.piece.Piece.Piece, Accesses.over, Take.comes_to}
+use Rattle.vs_ring_plain.{specs.{declared.piece.Piece.Piece, Accesses.over, Take.comes_to}, proofs.Walk.{along_table, exit_range, exit_nested, exit_fault, exit_ends, goes_on}}
 use Rattle.vs_ring_port.specs.declared.failure.Failure.{Failure}
-use Rattle.vs_ring_plain.proofs.Walk.{along_table, exit_range, exit_nested, exit_fault, exit_ends, goes_on}
 use Rattle.vs_ring_plain.proofs.take.walk_table.Goals as goal
 
 pub returns-then-number-entries-clause-exact : goal.returns-then-number-entries-clause-exact

@@ -1,6 +1,5 @@
 use Rattle.std.proofs.Common.{◌≡◌, ◌+◌, ◌++◌, length}
-use Rattle.vs_ring_port.specs.{Chains.bytes_held, Chains.held_of, Lists.queue_of}
-use Rattle.vs_ring_port.proofs.Renewing.{at_each, back_stays, count_given, given_again, take_again}
+use Rattle.vs_ring_port.{specs.{Chains.{bytes_held, held_of}, Lists.queue_of}, proofs.Renewing.{at_each, back_stays, count_given, given_again, take_again}}
 use Rattle.vs_ring_port.proofs.laws.law_of_renewal.Goals as goal
 
 pub returns-clause-given : goal.returns-clause-given

@@ -1,9 +1,7 @@
 use Rattle.std.proofs.Common.{Ok, List, map, subst, sym}
 use Rattle.vs_hostile.specs.Answer.{answer_to, attack_of}
-use Rattle.vs_script.specs.{Script.numbered_hostile, Script.script_view, declared.hostile.HostileLine.HostileLine}
-use Rattle.vs_script.specs.declared.script.{Numbered.Numbered, Script.Script}
-use Rattle.vs_run.specs.Ends.{EndsAnswer}
-use Rattle.vs_run.proofs.Endings.{gave_nothing}
+use Rattle.vs_script.specs.{Script.{numbered_hostile, script_view}, declared.{hostile.HostileLine.HostileLine, script.{Numbered.Numbered, Script.Script}}}
+use Rattle.vs_run.{specs.Ends.EndsAnswer, proofs.Endings.gave_nothing}
 use Rattle.vs_run.proofs.hostile.hostile_parsed.Goals as goal
 
 pub returns-in-Run : goal.returns-in-Run

@@ -1,9 +1,7 @@
 use Rattle.std.proofs.Common.{Ok, List, map, subst, sym}
 use Rattle.vs_play.specs.Answer.{answer_to, events_in, printed}
-use Rattle.vs_script.specs.{Script.numbered_event, Script.script_view, declared.play.PlayLine.PlayLine, declared.script.Numbered.Numbered}
-use Rattle.vs_script.specs.declared.script.Script.{Script}
-use Rattle.vs_run.specs.Ends.{EndsAnswer}
-use Rattle.vs_run.proofs.Endings.{gave_nothing}
+use Rattle.vs_script.specs.{Script.{numbered_event, script_view}, declared.{play.PlayLine.PlayLine, script.{Numbered.Numbered, Script.Script}}}
+use Rattle.vs_run.{specs.Ends.EndsAnswer, proofs.Endings.gave_nothing}
 use Rattle.vs_run.proofs.play.play_parsed.Goals as goal
 
 pub returns-in-Run : goal.returns-in-Run

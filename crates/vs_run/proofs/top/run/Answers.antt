@@ -1,7 +1,6 @@
 use Rattle.std.proofs.Common.{◌≡◌, ◌∙◌, Some, ap, map, refl, subst, string_bytes, sym}
 use Rattle.vs_words.specs.Command.{Hostile, Load, Play, Run, command_of, command_view}
-use Rattle.vs_run.specs.Does.{Does, lent}
-use Rattle.vs_run.proofs.Causes.{starved}
+use Rattle.vs_run.{specs.Does.{Does, lent}, proofs.Causes.starved}
 use Rattle.vs_run.proofs.top.run.Goals as goal
 
 pub returns-in-Ok-Play-clause-does : goal.returns-in-Ok-Play-clause-does

@@ -1,8 +1,7 @@
 use Rattle.std.proofs.Common.{◌≡◌, Option, Some, map, string_bytes}
 use Rattle.vs_peer.specs.Ends.{Lent}
 use Rattle.vs_words.specs.Command.{Command, Hostile, command_of}
-use Rattle.vs_run.specs.Does.{lent}
-use Rattle.vs_run.proofs.Causes.{attack_written, device_failed, fault_written, host_kept, no_script_at_2, play_written, run_refused, run_written}
+use Rattle.vs_run.{specs.Does.lent, proofs.Causes.{attack_written, device_failed, fault_written, host_kept, no_script_at_2, play_written, run_refused, run_written}}
 use Rattle.vs_run.proofs.Statuses.{cause_at, is_known}
 use Rattle.laws_hostile.proofs.Safe.{each_safe}
 use Rattle.laws_play.proofs.Lawful.{each_script}

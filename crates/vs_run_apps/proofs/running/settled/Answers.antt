@@ -1,5 +1,4 @@
-use Rattle.vs_run_apps.specs.Sides.{SideState}
-use Rattle.vs_run_apps.proofs.{Reading.all_idle, Rights.has_run}
+use Rattle.vs_run_apps.{specs.Sides.SideState, proofs.{Reading.all_idle, Rights.has_run}}
 use Rattle.vs_run_apps.proofs.running.settled.Goals as goal
 
 pub returns : goal.returns

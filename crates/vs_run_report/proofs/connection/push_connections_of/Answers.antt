@@ -1,8 +1,7 @@
 use Rattle.std.proofs.{Common.{◌∙◌, ◌+◌, ◌++◌, Option, ap, map, string_bytes, take}, lemmas.List.take_more}
 use Rattle.vs_apps_parts.specs.{Journals.calls_of, Scripts.script_of}
 use Rattle.vs_report.specs.Gives.{joined}
-use Rattle.vs_run_report.specs.{Connections.listed, Connections.opened_by, Connections.opened_text, declared.connection.Opened.Opened}
-use Rattle.vs_run_report.proofs.Lines.{lines_next}
+use Rattle.vs_run_report.{specs.{Connections.{listed, opened_by, opened_text}, declared.connection.Opened.Opened}, proofs.Lines.lines_next}
 use Rattle.vs_run_report.proofs.connection.push_connections_of.Goals as goal
 
 pub loop-entry-preserved : goal.loop-entry-preserved

@@ -1,6 +1,5 @@
 -- All are computed.
-use Rattle.std.proofs.Common.{refl}
-use Rattle.std.specs.Fmt.{digits}
+use Rattle.std.{proofs.Common.refl, specs.Fmt.digits}
 use Rattle.vs_run_report.proofs.laws.worked_loads.Goals as goal
 
 pub returns-clause-sixteen : goal.returns-clause-sixteen

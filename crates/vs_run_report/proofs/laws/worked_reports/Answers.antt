@@ -1,6 +1,5 @@
 -- All are computed.
-use Rattle.std.proofs.Common.{refl}
-use Rattle.std.specs.Fmt.{digits}
+use Rattle.std.{proofs.Common.refl, specs.Fmt.digits}
 use Rattle.hex.specs.Hex.{encode_with}
 use Rattle.vs_run_report.proofs.Worked.{hello_right}
 use Rattle.vs_run_report.proofs.laws.worked_reports.Goals as goal

@@ -1,7 +1,6 @@
 use Rattle.std.proofs.Common.{string_bytes}
 use Rattle.vs_apps_parts.specs.Scripts.{script_of}
-use Rattle.vs_run_report.specs.Report.{app_line}
-use Rattle.vs_run_report.proofs.Lines.{line_next}
+use Rattle.vs_run_report.{specs.Report.app_line, proofs.Lines.line_next}
 use Rattle.vs_run_report.proofs.report.push_apps.Goals as goal
 
 pub loop-k-preserved : goal.loop-k-preserved

@@ -1,5 +1,4 @@
-use Rattle.std.proofs.Common.{◌≡◌, ◌++◌, map, string_bytes}
-use Rattle.std.specs.List.{range_with_len}
+use Rattle.std.{proofs.Common.{◌≡◌, ◌++◌, map, string_bytes}, specs.List.range_with_len}
 use Rattle.vs_apps_parts.specs.Scripts.{script_of}
 use Rattle.vs_report.specs.Gives.{joined}
 use Rattle.vs_run_report.specs.Report.{app_line}

@@ -1,8 +1,6 @@
-use Rattle.std.proofs.Common.{◌+◌, string_bytes}
-use Rattle.std.specs.List.{range_with_len}
+use Rattle.std.{proofs.Common.{◌+◌, string_bytes}, specs.List.range_with_len}
 use Rattle.vs_apps_parts.specs.{Journals.calls_of, Scripts.script_of}
-use Rattle.vs_run_report.specs.Connections.{opened_of, opened_text}
-use Rattle.vs_run_report.proofs.Lines.{lines_next, range_more}
+use Rattle.vs_run_report.{specs.Connections.{opened_of, opened_text}, proofs.Lines.{lines_next, range_more}}
 use Rattle.vs_run_report.proofs.report.push_connections.Goals as goal
 
 pub loop-k-preserved : goal.loop-k-preserved

@@ -1,7 +1,6 @@
 use Rattle.std.proofs.Common.{string_bytes}
 use Rattle.vs_apps_parts.specs.Scripts.{script_of}
-use Rattle.vs_run_report.specs.Report.{app_lines, connection_lines, total_lines}
-use Rattle.vs_run_report.proofs.Lines.{ok_parts}
+use Rattle.vs_run_report.{specs.Report.{app_lines, connection_lines, total_lines}, proofs.Lines.ok_parts}
 use Rattle.vs_run_report.proofs.report.push_run.Goals as goal
 
 pub returns : goal.returns

@@ -1,6 +1,5 @@
 use Rattle.vs_apps_parts.specs.Scripts.{script_of}
-use Rattle.vs_run_report.specs.Report.{ended_at}
-use Rattle.vs_run_report.proofs.Lines.{status_next}
+use Rattle.vs_run_report.{specs.Report.ended_at, proofs.Lines.status_next}
 use Rattle.vs_run_report.proofs.report.run_status.Goals as goal
 
 pub loop-k-preserved : goal.loop-k-preserved

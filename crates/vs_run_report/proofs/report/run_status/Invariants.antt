@@ -1,5 +1,4 @@
-use Rattle.std.proofs.Common.{◌≡◌, map}
-use Rattle.std.specs.List.{range_with_len}
+use Rattle.std.{proofs.Common.{◌≡◌, map}, specs.List.range_with_len}
 use Rattle.vs_apps_parts.specs.Scripts.{script_of}
 use Rattle.vs_run_report.specs.Report.{ended_at, status_of}
 use Rattle.vs_run_report.proofs.report.run_status.Given as goal

@@ -1,6 +1,5 @@
-use Rattle.std.proofs.{Common.{◌≡◌, rules, tests, ◌∙◌, ◌≤◌, length, refl, le-leb, sym, arith}, lemmas.Bool.eqb-false}
-use Rattle.std.proofs.{lemmas.Iterator.YieldsList-from_slice, lemmas.Iterator.Search.all_from_yields_List}
-use Rattle.std.specs.{Char.is_ascii_digit, Str.all_ascii_digits}
+use Rattle.std.proofs.{Common.{◌≡◌, rules, tests, ◌∙◌, ◌≤◌, length, refl, le-leb, sym, arith}, lemmas.{Bool.eqb-false, Iterator.YieldsList-from_slice}}
+use Rattle.std.{proofs.lemmas.Iterator.Search.all_from_yields_List, specs.{Char.is_ascii_digit, Str.all_ascii_digits}}
 use Rattle.vs_script.proofs.Numerals.{all_ascii_digits-is}
 use Rattle.vs_script.proofs.number.is_numeral.Goals as goal
 

@@ -1,7 +1,5 @@
-use Rattle.std.proofs.Common.{◌≡◌, sym, ◌∙◌, true, arith}
-use Rattle.std.specs.Str.Parse.{ParsesUnsigned}
-use Rattle.vs_script.specs.Field.{is_numeral}
-use Rattle.vs_script.proofs.Numerals.{IsUtf8-numeral, no_err-text, text_from-some, number_in-err}
+use Rattle.std.{proofs.Common.{◌≡◌, sym, ◌∙◌, true, arith}, specs.Str.Parse.ParsesUnsigned}
+use Rattle.vs_script.{specs.Field.is_numeral, proofs.Numerals.{IsUtf8-numeral, no_err-text, text_from-some, number_in-err}}
 use Rattle.vs_script.proofs.number.number_in.Goals as goal
 
 pub returns-in_err-ok : goal.returns-in_err-ok

@@ -1,6 +1,5 @@
 use Rattle.std.proofs.Common.{◌≡◌, Ok, IfOk, IfErr, [], map, rules, subst}
-use Rattle.vs_script.specs.{App.app_view, App.instruction_view, Field.IsFault, Script.pushed, declared.script.TheConstants.MAX_APPS}
-use Rattle.vs_script.proofs.Adding.{pushed-ok, pushed-fault}
+use Rattle.vs_script.{specs.{App.{app_view, instruction_view}, Field.IsFault, Script.pushed, declared.script.TheConstants.MAX_APPS}, proofs.Adding.{pushed-ok, pushed-fault}}
 use Rattle.vs_script.proofs.script.add_app.Goals as goal
 
 pub returns-clause-ok : goal.returns-clause-ok

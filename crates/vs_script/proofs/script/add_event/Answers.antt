@@ -1,5 +1,4 @@
-use Rattle.vs_script.specs.{Script.numbered_event, declared.script.TheConstants.MAX_EVENTS}
-use Rattle.vs_script.proofs.Adding.{pushed-ok, pushed-fault}
+use Rattle.vs_script.{specs.{Script.numbered_event, declared.script.TheConstants.MAX_EVENTS}, proofs.Adding.{pushed-ok, pushed-fault}}
 use Rattle.vs_script.proofs.script.add_event.Goals as goal
 
 pub returns-clause-ok : goal.returns-clause-ok

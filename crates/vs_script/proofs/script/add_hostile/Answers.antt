@@ -1,6 +1,5 @@
 use Rattle.std.proofs.Common.{◌≡◌, Ok, IfOk, IfErr, map, ap, rules, sym, subst, ◌∙◌}
-use Rattle.vs_script.specs.{Field.IsFault, Hostile.hostile_line, Script.numbered_hostile, Script.stage_of, Script.chained, Script.pushed}
-use Rattle.vs_script.specs.declared.script.TheConstants.{MAX_EVENTS}
+use Rattle.vs_script.specs.{Field.IsFault, Hostile.hostile_line, Script.{numbered_hostile, stage_of, chained, pushed}, declared.script.TheConstants.MAX_EVENTS}
 use Rattle.vs_script.proofs.Adding.{pushed-ok, pushed-fault}
 use Rattle.vs_script.proofs.script.add_hostile.Goals as goal
 

@@ -1,7 +1,5 @@
-use Rattle.std.proofs.Common.{◌≡◌, ◌-◌, suc, length, map, Err, IfErr, arith, subst, sym}
-use Rattle.std.specs.Vec.{vec_len}
-use Rattle.vs_script.specs.{App.app_view, App.instruction_view, Field.IsFault, Script.add_act}
-use Rattle.vs_script.proofs.Adding.{add_act-ok, add_act-fault}
+use Rattle.std.{proofs.Common.{◌≡◌, ◌-◌, suc, length, map, Err, IfErr, arith, subst, sym}, specs.Vec.vec_len}
+use Rattle.vs_script.{specs.{App.{app_view, instruction_view}, Field.IsFault, Script.add_act}, proofs.Adding.{add_act-ok, add_act-fault}}
 use Rattle.vs_script.proofs.script.add_instruction.Goals as goal
 
 pub returns-in_err-add-clause-fault : goal.returns-in_err-add-clause-fault

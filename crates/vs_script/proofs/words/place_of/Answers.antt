@@ -1,6 +1,4 @@
-use Rattle.std.proofs.{Common.{◌≡◌, ◌==◌, rules, tests}, lemmas.Iterator.YieldsList-from_slice}
-use Rattle.std.proofs.lemmas.Iterator.Search.{position_from_yields_List}
-use Rattle.std.specs.List.{position}
+use Rattle.std.{proofs.{Common.{◌≡◌, ◌==◌, rules, tests}, lemmas.Iterator.{YieldsList-from_slice, Search.position_from_yields_List}}, specs.List.position}
 use Rattle.vs_script.proofs.Pieces.{unwrap_or-position}
 use Rattle.vs_script.proofs.words.place_of.Goals as goal
 

@@ -1,5 +1,4 @@
-use Rattle.std.proofs.{Common.{◌≡◌, ◌==◌, not, rules, tests, refl}, lemmas.{Iterator.YieldsList-from_slice, List.take_rest}}
-use Rattle.std.proofs.lemmas.Iterator.Search.{position_from_yields_List}
+use Rattle.std.proofs.{Common.{◌≡◌, ◌==◌, not, rules, tests, refl}, lemmas.{Iterator.{YieldsList-from_slice, Search.position_from_yields_List}, List.take_rest}}
 use Rattle.std.specs.List.{position, position_or_len}
 use Rattle.vs_script.proofs.Pieces.{unwrap_or-position}
 use Rattle.vs_script.proofs.words.trimmed.Goals as goal

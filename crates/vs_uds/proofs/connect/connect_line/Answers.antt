@@ -1,6 +1,5 @@
 use Rattle.std.proofs.Common.{ℕ, List, subst, sym, arith, rules}
-use Rattle.vs_uds.specs.ConnectLine.{IsConnectLine}
-use Rattle.vs_uds.proofs.ConnectLines.{IsConnectLine-connect_text, connect_answers-IsConnectLine}
+use Rattle.vs_uds.{specs.ConnectLine.IsConnectLine, proofs.ConnectLines.{IsConnectLine-connect_text, connect_answers-IsConnectLine}}
 use Rattle.vs_uds.proofs.connect.connect_line.Goals as goal
 
 pub returns-clause-bytes : goal.returns-clause-bytes

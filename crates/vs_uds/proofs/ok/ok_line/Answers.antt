@@ -1,6 +1,5 @@
 use Rattle.std.proofs.Common.{ℕ, List, ap, subst, sym, ◌∙◌, arith, rules, length}
-use Rattle.vs_uds.specs.OkLine.{IsOkLine}
-use Rattle.vs_uds.proofs.OkLines.{IsOkLine-ok_text, ok_answers-IsOkLine, length-ok_text}
+use Rattle.vs_uds.{specs.OkLine.IsOkLine, proofs.OkLines.{IsOkLine-ok_text, ok_answers-IsOkLine, length-ok_text}}
 use Rattle.vs_uds.proofs.ok.ok_line.Goals as goal
 
 pub returns-clause-bytes : goal.returns-clause-bytes

@@ -1,6 +1,5 @@
-use Rattle.std.proofs.{Common.{◌≡◌, ◌≤◌, length, rules, tests, refl, sym, ◌∙◌, arith, le-leb}, lemmas.Bool.eqb-false}
-use Rattle.std.proofs.{lemmas.Iterator.YieldsList-from_slice, lemmas.Iterator.Search.all_from_yields_List}
-use Rattle.std.specs.{Char.is_ascii_digit, List.list_all}
+use Rattle.std.proofs.{Common.{◌≡◌, ◌≤◌, length, rules, tests, refl, sym, ◌∙◌, arith, le-leb}, lemmas.{Bool.eqb-false, Iterator.YieldsList-from_slice}}
+use Rattle.std.{proofs.lemmas.Iterator.Search.all_from_yields_List, specs.{Char.is_ascii_digit, List.list_all}}
 use Rattle.vs_uds.proofs.scan.is_numeral.Goals as goal
 
 pub returns-then-text-le-DIGITS_MAX : goal.returns-then-text-le-DIGITS_MAX

@@ -1,7 +1,5 @@
-use Rattle.std.proofs.Common.{◌≡◌, sym, ◌∙◌, true}
-use Rattle.std.specs.Str.Parse.{ParsesUnsigned}
-use Rattle.vs_uds.specs.Port.{is_numeral}
-use Rattle.vs_uds.proofs.Ports.{IsUtf8-numeral, no_err-text, result_ok-parse, text_from-some}
+use Rattle.std.{proofs.Common.{◌≡◌, sym, ◌∙◌, true}, specs.Str.Parse.ParsesUnsigned}
+use Rattle.vs_uds.{specs.Port.is_numeral, proofs.Ports.{IsUtf8-numeral, no_err-text, result_ok-parse, text_from-some}}
 use Rattle.vs_uds.proofs.scan.port_in.Goals as goal
 
 pub returns-in_err-ok : goal.returns-in_err-ok

@@ -1,7 +1,5 @@
-use Rattle.std.proofs.Common.{◌≡◌, sym, ◌∙◌, false, true, arith}
-use Rattle.std.specs.Str.Parse.{ParsesUnsigned}
-use Rattle.vs_words.specs.Numbers.{is_digits, has_leading_zero}
-use Rattle.vs_words.proofs.Numerals.{within-err}
+use Rattle.std.{proofs.Common.{◌≡◌, sym, ◌∙◌, false, true, arith}, specs.Str.Parse.ParsesUnsigned}
+use Rattle.vs_words.{specs.Numbers.{is_digits, has_leading_zero}, proofs.Numerals.within-err}
 use Rattle.vs_words.proofs.number.number_in.Goals as goal
 
 pub returns-in_err-value-clause-value : goal.returns-in_err-value-clause-value

@@ -1,7 +1,6 @@
 use Rattle.std.proofs.Common.{◌≡◌, map, arith, Err}
 use Rattle.clap.specs.Words.{app_of, kind_of}
-use Rattle.vs_words.specs.Errors.{error_of}
-use Rattle.vs_words.proofs.Readings.{err_said, ok_reads, texts_behind}
+use Rattle.vs_words.{specs.Errors.error_of, proofs.Readings.{err_said, ok_reads, texts_behind}}
 use Rattle.vs_words.proofs.options.options.Goals as goal
 
 pub returns : goal.returns

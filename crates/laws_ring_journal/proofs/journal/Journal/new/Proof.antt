@@ -3,20 +3,16 @@ use Rattle.std.proofs.Common.{[], ◌∷◌, Some, refl}
 use seplogic.Ra.Ura.{Ura}
 use mir.{Syntax.Fn, Val.Val}
 use base.Logic.{SProp, ent}
-use prog.{Memory.Memory, Routine.Routine, Wp.Calls, Wp.Loops, Wp.WpFn, Wp.Tables}
-use contract.{Monad.Fun, Running.tables, Running.tables_of}
+use prog.{Memory.Memory, Routine.Routine, Wp.{Calls, Loops, WpFn, Tables}}
+use contract.{Monad.Fun, Running.{tables, tables_of}}
 use sound.WpLaws.{WpFn-mono}
-use types.Logic.{Logic}
-use types.Kit.{‵, raw, ◌⊛◌, ◌$◌, ◌∵◌, !, qed, move, keep, drop, split, fjoin, suffices, done}
-use types.{Part.agg, Run.enter, Run.returns, Run.no_more}
-use types.ByLocal.{alloc_all, pass_all, free_all, look_at, sets}
-use denote.{RattleType.owns, Signature.types_at, Steps.nothing}
-use denote.Triple.{Clauses.Clauses, Clauses.Ended, Clauses.closing, Entry.alive, Spec.Meets, Spec.triple_of, Table.entered}
-use denote.Triple.Walked.{says, Stays, walk_of, ends_at, walk_Meets}
-use Rattle.laws_ring_journal.proofs.Walks.{none, none_made}
+use types.{Logic.Logic, Kit.{‵, raw, ◌⊛◌, ◌$◌, ◌∵◌, !, qed, move, keep, drop, split, fjoin, suffices, done}, Part.agg, Run.{enter, returns, no_more}, ByLocal.{alloc_all, pass_all}}
+use types.ByLocal.{free_all, look_at, sets}
+use denote.{RattleType.owns, Signature.types_at, Steps.nothing, Triple.{Clauses.{Clauses, Ended, closing}, Entry.alive, Spec.{Meets, triple_of}, Table.entered, Walked.says}}
+use denote.Triple.Walked.{Stays, walk_of, ends_at, walk_Meets}
+use Rattle.laws_ring_journal.{proofs.Walks.{none, none_made}, specs.contracts.journal.Journal.new.Key.name as #self}
 use Rattle.laws_ring_journal.specs.contracts.journal.Journal as Journal
 use Rattle.laws_ring_journal.specs.contracts.journal.Journal.new as F
-use Rattle.laws_ring_journal.specs.contracts.journal.Journal.new.Key.{name as #self}
 use Rattle.laws_ring_journal.proofs.journal.Journal.new.Statement as stated
 use Rattle.laws_ring_journal.proofs.journal.Journal.new.Code as code
 

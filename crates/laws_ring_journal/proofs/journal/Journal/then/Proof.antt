@@ -1,24 +1,19 @@
 -- `then` picks the calls of the new journal. Assumes `Logic`.
 use Rattle.std.proofs.Common.{List, [], ◌∷◌, ◌++◌, refl}
 use seplogic.Ra.Ura.{Ura}
-use mir.{Syntax.Fn, Val.Val, Val.vptr}
+use mir.{Syntax.Fn, Val.{Val, vptr}}
 use base.Logic.{SProp, ent}
-use prog.{Memory.Memory, Routine.Routine, Wp.Calls, Wp.Loops, Wp.WpFn, Wp.Tables}
-use contract.{Monad.Fun, Running.tables, Running.tables_of}
+use prog.{Memory.Memory, Routine.Routine, Wp.{Calls, Loops, WpFn, Tables}}
+use contract.{Monad.Fun, Running.{tables, tables_of}}
 use sound.WpLaws.{WpFn-mono}
-use types.Logic.{Logic}
-use types.Kit.{‵, raw, ◌⊛◌, prop, ◌$◌, ◌∵◌, !, qed, move, keep, drop, split, fsplit, fjoin, feq_l, regoal, suffices, done}
-use types.{Part.agg, Run.enter, Run.returns, Run.no_more}
+use types.{Logic.Logic, Kit.{‵, raw, ◌⊛◌, prop, ◌$◌, ◌∵◌, !, qed, move, keep, drop, split, fsplit, fjoin, feq_l, regoal, suffices, done}, Part.agg, Run.{enter, returns, no_more}}
 use types.ByLocal.{alloc_all, pass_all, free_all, look_at, sets}
-use denote.{Exit.yes, RattleType.owns, Builtin.RefOf, Signature.plain, Signature.types_at, Signature.named_lft, Steps.nothing}
-use denote.Triple.{Clauses.Clauses, Clauses.Ended, Clauses.closing, Entry.alive, Spec.Meets, Spec.triple_of, Table.entered}
-use denote.Triple.Walked.{says, Stays, stay_dropped, walk_of, ends_at, walk_Meets, Goes-dropped}
-use Rattle.laws_ring_journal.proofs.Walks.{none, none_made}
+use denote.{Exit.yes, RattleType.owns, Builtin.RefOf, Signature.{plain, types_at, named_lft}, Steps.nothing, Triple.{Clauses.{Clauses, Ended, closing}, Entry.alive, Spec.Meets}}
+use denote.Triple.{Spec.triple_of, Table.entered, Walked.{says, Stays, stay_dropped, walk_of, ends_at, walk_Meets, Goes-dropped}}
+use Rattle.laws_ring_journal.{proofs.Walks.{none, none_made}, specs.{Noted.noted, contracts.journal.Journal.then.Key.name as #self}}
 use Rattle.laws_ring_journal.specs.contracts.journal.Journal as Journal
 use Rattle.laws_ring_journal.specs.contracts.journal.Call as Call
-use Rattle.laws_ring_journal.specs.Noted.{noted}
 use Rattle.laws_ring_journal.specs.contracts.journal.Journal.then as F
-use Rattle.laws_ring_journal.specs.contracts.journal.Journal.then.Key.{name as #self}
 use Rattle.laws_ring_journal.proofs.journal.Journal.then.Statement as stated
 use Rattle.laws_ring_journal.proofs.journal.Journal.then.Code as code
 

@@ -1,8 +1,7 @@
 use Rattle.std.proofs.Common.{◌∷◌, subst, sym}
 use Rattle.vs_header.specs.declared.Header.{Header}
 use Rattle.vs_page.specs.{Fair.IsFairLog, Log.Driver, declared.log.LogEntry.TheVariants.PutPacket}
-use Rattle.tests_rings.specs.Senders.{bare}
-use Rattle.tests_rings.proofs.Senders.{fair_reset}
+use Rattle.tests_rings.{specs.Senders.bare, proofs.Senders.fair_reset}
 use Rattle.tests_rings.proofs.packets.Sender.send.Goals as goal
 
 pub put-requires-clause-fair : goal.put-requires-clause-fair

@@ -1,11 +1,10 @@
 use Rattle.std.proofs.{Common.{◌≡◌, ℕ, List, [], length, sym, ap, subst, ◌∙◌, arith, refl, rules, None}, lemmas.List.length-map}
 use Rattle.vs_limits.specs.declared.TheConstants.{FIRST_CID, FIRST_PORT}
 use Rattle.vs_script.specs.App.{app_view}
-use Rattle.vs_ring_shared.specs.{Meetings.what_it_did, Sights.Sight, Sights.driver_contents}
+use Rattle.vs_ring_shared.specs.{Meetings.what_it_did, Sights.{Sight, driver_contents}}
 use Rattle.laws_driver.specs.Honest.{IsFresh}
-use Rattle.vs_apps_parts.specs.{Scripts.RunScript, declared.journal.Entry.Entry, declared.progress.{AppState.AppState, Progress.Progress}}
-use Rattle.vs_apps.specs.Guests.{AreGuests}
-use Rattle.vs_apps.proofs.Guarding.{first_loaded, fresh_end, guests_hear, new_guests}
+use Rattle.vs_apps_parts.specs.{Scripts.RunScript, declared.{journal.Entry.Entry, progress.{AppState.AppState, Progress.Progress}}}
+use Rattle.vs_apps.{specs.Guests.AreGuests, proofs.Guarding.{first_loaded, fresh_end, guests_hear, new_guests}}
 use Rattle.vs_apps.proofs.guests.Guests.new.Goals as goal
 
 pub returns-in_err-driver-clause-told : goal.returns-in_err-driver-clause-told

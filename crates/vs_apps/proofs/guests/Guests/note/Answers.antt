@@ -1,7 +1,6 @@
 use Rattle.std.proofs.Common.{subst, sym}
 use Rattle.vs_ring_shared.specs.{Meetings.what_it_did, Sights.Sight}
-use Rattle.vs_apps.specs.Guests.{AreGuests, guests_with}
-use Rattle.vs_apps.proofs.Guarding.{guests_hear}
+use Rattle.vs_apps.{specs.Guests.{AreGuests, guests_with}, proofs.Guarding.guests_hear}
 use Rattle.vs_apps.proofs.guests.Guests.note.Goals as goal
 
 pub invariant_of-self : goal.invariant_of-self

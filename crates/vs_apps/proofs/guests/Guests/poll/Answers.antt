@@ -1,7 +1,6 @@
 use Rattle.std.proofs.Common.{refl}
 use Rattle.vs_limits.specs.declared.TheConstants.{FIRST_CID}
-use Rattle.vs_apps.specs.Guests.{guests_with}
-use Rattle.vs_apps.proofs.Guarding.{guests_poll}
+use Rattle.vs_apps.{specs.Guests.guests_with, proofs.Guarding.guests_poll}
 use Rattle.vs_apps.proofs.guests.Guests.poll.Goals as goal
 
 pub poll-requires-clause-honest : goal.poll-requires-clause-honest

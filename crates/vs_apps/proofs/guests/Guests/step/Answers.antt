@@ -2,8 +2,7 @@ use Rattle.std.proofs.{Common.{◌≡◌, length, arith, sym, subst}, lemmas.Gri
 use Rattle.vs_apps_parts.specs.Scripts.{AreRight, RunScript}
 use Rattle.laws_apps.specs.Runs.{Steps}
 use Rattle.vs_limits.specs.declared.TheConstants.{FIRST_CID}
-use Rattle.vs_apps.specs.Guests.{guests_with, run_in}
-use Rattle.vs_apps.proofs.Guarding.{guests_step, script_long}
+use Rattle.vs_apps.{specs.Guests.{guests_with, run_in}, proofs.Guarding.{guests_step, script_long}}
 use Rattle.vs_apps.proofs.guests.Guests.step.Goals as goal
 
 pub step-requires-clause-right : goal.step-requires-clause-right

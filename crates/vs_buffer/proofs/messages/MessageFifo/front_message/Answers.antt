@@ -1,6 +1,5 @@
 use Rattle.std.proofs.{Common.arith, lemmas.Option.IfSome_then}
-use Rattle.vs_buffer.specs.Messages.{first_message}
-use Rattle.vs_buffer.proofs.Marks.{message_within, no_more_marks}
+use Rattle.vs_buffer.{specs.Messages.first_message, proofs.Marks.{message_within, no_more_marks}}
 use Rattle.vs_buffer.proofs.messages.MessageFifo.front_message.Goals as goal
 
 pub returns-clause-within : goal.returns-clause-within

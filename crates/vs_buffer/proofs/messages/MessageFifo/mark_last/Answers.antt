@@ -1,7 +1,6 @@
 use Rattle.std.proofs.Common.{◌≡◌, ◌++◌, ◌∷◌, [], length, take, ◌-◌, ap, ◌∙◌, arith}
 use Rattle.circular_buffer.specs.Buffer.{keep_last}
-use Rattle.vs_buffer.specs.Messages.{with_last}
-use Rattle.vs_buffer.proofs.Marks.{kept_whole, remarked}
+use Rattle.vs_buffer.{specs.Messages.with_last, proofs.Marks.{kept_whole, remarked}}
 use Rattle.vs_buffer.proofs.messages.MessageFifo.mark_last.Goals as goal
 
 new : (c : goal.After-push_back) → c.push_back.new.self.items ≡ with_last c.args.mark c.self.inside.marks.items

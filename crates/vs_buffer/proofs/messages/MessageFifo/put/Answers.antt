@@ -1,6 +1,5 @@
 use Rattle.std.proofs.Common.{ap, sym, ◌∙◌, length, arith, length-append}
-use Rattle.vs_buffer.specs.Messages.{marks_of}
-use Rattle.vs_buffer.proofs.Marks.{as_many}
+use Rattle.vs_buffer.{specs.Messages.marks_of, proofs.Marks.as_many}
 use Rattle.vs_buffer.proofs.messages.MessageFifo.put.Goals as goal
 
 pub invariant_of-self : goal.invariant_of-self

@@ -1,7 +1,6 @@
 use Rattle.std.proofs.Common.{◌≡◌, true, refl, sym, subst}
 use Rattle.laws_world.specs.Events.{is_at_rest}
-use Rattle.vs_core.specs.Ready.{IsReady, WorldState}
-use Rattle.vs_core.proofs.{Driven.is_honest, Driven.resting, Happening.right_port, Happening.sends_on}
+use Rattle.vs_core.{specs.Ready.{IsReady, WorldState}, proofs.{Driven.{is_honest, resting}, Happening.{right_port, sends_on}}}
 use Rattle.laws_driver.specs.Carried.Calls as call
 use Rattle.vs_core.proofs.world.World.connect.Goals as goal
 

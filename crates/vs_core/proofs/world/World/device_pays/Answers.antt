@@ -1,8 +1,7 @@
-use Rattle.std.proofs.{Common.refl, Common.sym, Common.subst, lemmas.Result.on_ok_weaker}
+use Rattle.std.proofs.{Common.{refl, sym, subst}, lemmas.Result.on_ok_weaker}
 use Rattle.vs_device_parts.specs.Steps.{puts_owed}
 use Rattle.laws_world.specs.Events.{DevicePays}
-use Rattle.vs_core.specs.Ready.{IsReady}
-use Rattle.vs_core.proofs.{DeviceHappening.device_did, MayNow.pay_now, Returning.pays_some, Stepped.run_played}
+use Rattle.vs_core.{specs.Ready.IsReady, proofs.{DeviceHappening.device_did, MayNow.pay_now, Returning.pays_some, Stepped.run_played}}
 use Rattle.vs_core.proofs.world.World.device_pays.Goals as goal
 
 pub put_owed-requires-clause-ring : goal.put_owed-requires-clause-ring

@@ -1,11 +1,9 @@
-use Rattle.std.proofs.Common.{◌≡◌, ◌&&◌, nat_le, true, List, Some, refl, sym, subst, arith}
-use Rattle.std.proofs.lemmas.{Bool.Decides.nat_tests, Result.on_ok_weaker, Bool.and_parts}
-use Rattle.vs_ring_port.specs.{Chains.Held, Chains.same_queue, declared.device_ring.Chain.Chain, declared.queue.Queue.TheVariants.Event}
+use Rattle.std.proofs.{Common.{◌≡◌, ◌&&◌, nat_le, true, List, Some, refl, sym, subst, arith}, lemmas.{Bool.{Decides.nat_tests, and_parts}, Result.on_ok_weaker}}
+use Rattle.vs_ring_port.specs.{Chains.{Held, same_queue}, declared.{device_ring.Chain.Chain, queue.Queue.TheVariants.Event}}
 use Rattle.vs_device_parts.specs.Steps.{puts_event}
 use Rattle.laws_device.specs.Honest.{is_held}
 use Rattle.laws_world.{specs.Events.DevicePutsEvent, proofs.OverBoth.IsPlayed}
-use Rattle.vs_core.proofs.DeviceHappening.{chain_did, held_of_queue, of_queue, same_held}
-use Rattle.vs_core.{specs.Ready.IsReady, proofs.MayNow.event_now, proofs.Returning.event_some, proofs.Stepped.run_played}
+use Rattle.vs_core.{proofs.{DeviceHappening.{chain_did, held_of_queue, of_queue, same_held}, MayNow.event_now, Returning.event_some, Stepped.run_played}, specs.Ready.IsReady}
 use Rattle.vs_core.proofs.world.World.device_puts_event.Goals as goal
 
 -- The chain is held on the event queue, and has room.

@@ -1,8 +1,7 @@
-use Rattle.std.proofs.{Common.refl, Common.sym, Common.subst, lemmas.Result.on_ok_weaker}
+use Rattle.std.proofs.{Common.{refl, sym, subst}, lemmas.Result.on_ok_weaker}
 use Rattle.vs_device_parts.specs.Steps.{puts_payload}
 use Rattle.laws_world.specs.Events.{DeviceReads}
-use Rattle.vs_core.specs.Ready.{IsReady}
-use Rattle.vs_core.proofs.{DeviceHappening.device_did, MayNow.read_now, Returning.payload_some, Stepped.run_played}
+use Rattle.vs_core.{specs.Ready.IsReady, proofs.{DeviceHappening.device_did, MayNow.read_now, Returning.payload_some, Stepped.run_played}}
 use Rattle.vs_core.proofs.world.World.device_reads.Goals as goal
 
 pub put_payload-requires-clause-ring : goal.put_payload-requires-clause-ring

@@ -1,8 +1,7 @@
-use Rattle.std.proofs.{Common.Some, Common.refl, Common.sym, Common.subst, lemmas.Result.on_ok_weaker}
+use Rattle.std.proofs.{Common.{Some, refl, sym, subst}, lemmas.Result.on_ok_weaker}
 use Rattle.vs_device_parts.specs.Steps.{puts_reply}
 use Rattle.laws_world.specs.Events.{DeviceReplies}
-use Rattle.vs_core.specs.Ready.{IsReady}
-use Rattle.vs_core.proofs.{DeviceHappening.device_did, MayNow.reply_now, Returning.reply_some, Stepped.run_played}
+use Rattle.vs_core.{specs.Ready.IsReady, proofs.{DeviceHappening.device_did, MayNow.reply_now, Returning.reply_some, Stepped.run_played}}
 use Rattle.vs_core.proofs.world.World.device_replies.Goals as goal
 
 pub put_reply-requires-clause-ring : goal.put_reply-requires-clause-ring

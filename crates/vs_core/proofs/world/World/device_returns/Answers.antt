@@ -1,8 +1,7 @@
-use Rattle.std.proofs.{Common.Some, Common.refl, Common.sym, Common.subst, lemmas.Result.on_ok_weaker}
+use Rattle.std.proofs.{Common.{Some, refl, sym, subst}, lemmas.Result.on_ok_weaker}
 use Rattle.vs_ring_port.specs.declared.queue.Queue.TheVariants.{Tx}
 use Rattle.laws_world.{specs.Events.DeviceReturns, proofs.OverBoth.IsPlayed}
-use Rattle.vs_core.proofs.DeviceHappening.{chain_did, held_of_queue, of_queue, same_held}
-use Rattle.vs_core.{specs.Ready.IsReady, proofs.Stepped.returned_played}
+use Rattle.vs_core.{proofs.{DeviceHappening.{chain_did, held_of_queue, of_queue, same_held}, Stepped.returned_played}, specs.Ready.IsReady}
 use Rattle.vs_device_parts.specs.Steps as steps
 use Rattle.vs_core.proofs.world.World.device_returns.Goals as goal
 

@@ -1,9 +1,8 @@
-use Rattle.std.proofs.{Common.refl, Common.sym, Common.subst, lemmas.Result.on_ok_weaker}
+use Rattle.std.proofs.{Common.{refl, sym, subst}, lemmas.Result.on_ok_weaker}
 use Rattle.vs_ring_list.specs.Ends.{device_contents}
 use Rattle.vs_device_parts.specs.Steps.{shuts_write}
 use Rattle.laws_world.specs.Events.{DeviceShutsWrite}
-use Rattle.vs_core.specs.Ready.{IsReady}
-use Rattle.vs_core.proofs.{DeviceHappening.device_did, MayNow.shut_now, Returning.shuts_some, Stepped.run_played, Stepped.still_among}
+use Rattle.vs_core.{specs.Ready.IsReady, proofs.{DeviceHappening.device_did, MayNow.shut_now, Returning.shuts_some, Stepped.{run_played, still_among}}}
 use Rattle.vs_core.proofs.world.World.device_shuts_write.Goals as goal
 
 pub shut_write-requires : goal.shut_write-requires

@@ -1,9 +1,8 @@
-use Rattle.std.proofs.{Common.Some, Common.refl, Common.sym, Common.subst, lemmas.Result.on_ok_weaker}
+use Rattle.std.proofs.{Common.{Some, refl, sym, subst}, lemmas.Result.on_ok_weaker}
 use Rattle.vs_ring_port.specs.declared.queue.Queue.TheVariants.{Rx, Tx, Event}
 use Rattle.vs_device_parts.specs.Steps.{takes_chain}
 use Rattle.laws_world.{specs.Events.DeviceTakes, proofs.OverBoth.IsPlayed}
-use Rattle.vs_core.specs.Ready.{IsReady}
-use Rattle.vs_core.proofs.{DeviceHappening.device_did, MayNow.take_now, Returning.takes_some, Stepped.run_played}
+use Rattle.vs_core.{specs.Ready.IsReady, proofs.{DeviceHappening.device_did, MayNow.take_now, Returning.takes_some, Stepped.run_played}}
 use Rattle.vs_core.proofs.world.World.device_takes.Goals as goal
 
 pub hold_chain-requires : goal.hold_chain-requires

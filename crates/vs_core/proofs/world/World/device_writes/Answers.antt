@@ -1,9 +1,8 @@
-use Rattle.std.proofs.{Common.refl, Common.sym, Common.subst, lemmas.Result.on_ok_weaker}
+use Rattle.std.proofs.{Common.{refl, sym, subst}, lemmas.Result.on_ok_weaker}
 use Rattle.vs_ring_list.specs.Ends.{device_contents}
 use Rattle.vs_device_parts.specs.Steps.{writes}
 use Rattle.laws_world.specs.Events.{DeviceWrites}
-use Rattle.vs_core.specs.Ready.{IsReady}
-use Rattle.vs_core.proofs.{DeviceHappening.device_did, MayNow.write_now, Returning.writes_some, Stepped.run_played, Stepped.still_among}
+use Rattle.vs_core.{specs.Ready.IsReady, proofs.{DeviceHappening.device_did, MayNow.write_now, Returning.writes_some, Stepped.{run_played, still_among}}}
 use Rattle.vs_core.proofs.world.World.device_writes.Goals as goal
 
 pub write-requires : goal.write-requires

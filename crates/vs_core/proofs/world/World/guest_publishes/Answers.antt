@@ -1,8 +1,7 @@
 use Rattle.std.proofs.Common.{refl, sym, subst}
 use Rattle.vs_driver_parts.specs.Conversations.{publish_of}
 use Rattle.laws_world.specs.Events.{GuestPublishes}
-use Rattle.vs_core.specs.Ready.{IsReady}
-use Rattle.vs_core.proofs.{Driven.at_work_with, Driven.working, Happening.publishes_on, Happening.works_elsewhere}
+use Rattle.vs_core.{specs.Ready.IsReady, proofs.{Driven.{at_work_with, working}, Happening.{publishes_on, works_elsewhere}}}
 use Rattle.vs_core.proofs.world.World.guest_publishes.Goals as goal
 
 pub publish-requires-clause-ring : goal.publish-requires-clause-ring

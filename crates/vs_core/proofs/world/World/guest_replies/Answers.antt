@@ -2,8 +2,7 @@ use Rattle.std.proofs.Common.{refl, sym, subst}
 use Rattle.vs_ring_port.specs.declared.queue.Queue.TheVariants.{Tx}
 use Rattle.vs_driver_parts.specs.Steps.{stages_reply}
 use Rattle.laws_world.specs.Events.{GuestReplies}
-use Rattle.vs_core.specs.Ready.{IsReady}
-use Rattle.vs_core.proofs.{Driven.at_work_with, Driven.working, Happening.stages_on, Happening.works_elsewhere}
+use Rattle.vs_core.{specs.Ready.IsReady, proofs.{Driven.{at_work_with, working}, Happening.{stages_on, works_elsewhere}}}
 use Rattle.vs_core.proofs.world.World.guest_replies.Goals as goal
 
 pub stage_reply-requires-clause-ring : goal.stage_reply-requires-clause-ring

@@ -1,8 +1,7 @@
 use Rattle.std.proofs.Common.{refl, sym, subst}
 use Rattle.vs_driver_parts.specs.Steps.{takes_page}
 use Rattle.laws_world.specs.Events.{GuestTakes}
-use Rattle.vs_core.specs.Ready.{IsReady}
-use Rattle.vs_core.proofs.{Driven.at_work_with, Driven.working, Happening.stages_on, Happening.works_elsewhere}
+use Rattle.vs_core.{specs.Ready.IsReady, proofs.{Driven.{at_work_with, working}, Happening.{stages_on, works_elsewhere}}}
 use Rattle.vs_core.proofs.world.World.guest_takes.Goals as goal
 
 pub take_page-requires-clause-ring : goal.take_page-requires-clause-ring

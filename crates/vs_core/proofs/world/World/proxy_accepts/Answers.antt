@@ -1,9 +1,8 @@
-use Rattle.std.proofs.{Common.refl, Common.sym, Common.subst, lemmas.Result.on_ok_weaker}
+use Rattle.std.proofs.{Common.{refl, sym, subst}, lemmas.Result.on_ok_weaker}
 use Rattle.vs_ring_list.specs.Ends.{device_contents}
 use Rattle.vs_proxy_parts.specs.{Handshakes.accept_one, State.start}
 use Rattle.laws_world.specs.Events.{ProxyAccepts}
-use Rattle.vs_core.specs.Ready.{IsReady}
-use Rattle.vs_core.proofs.{DeviceHappening.turn_did, Returning.accept_some, Stepped.may_accept, Stepped.run_played, Stepped.still_among}
+use Rattle.vs_core.{specs.Ready.IsReady, proofs.{DeviceHappening.turn_did, Returning.accept_some, Stepped.{may_accept, run_played, still_among}}}
 use Rattle.vs_core.proofs.world.World.proxy_accepts.Goals as goal
 
 pub returns : goal.returns

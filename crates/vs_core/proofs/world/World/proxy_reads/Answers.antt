@@ -1,9 +1,8 @@
-use Rattle.std.proofs.{Common.refl, Common.sym, Common.subst, lemmas.Result.on_ok_weaker}
+use Rattle.std.proofs.{Common.{refl, sym, subst}, lemmas.Result.on_ok_weaker}
 use Rattle.vs_ring_list.specs.Ends.{device_contents}
 use Rattle.vs_proxy_parts.specs.{Handshakes.read_byte, State.start}
 use Rattle.laws_world.specs.Events.{ProxyReads}
-use Rattle.vs_core.specs.Ready.{IsReady}
-use Rattle.vs_core.proofs.{DeviceHappening.line_did, MayNow.line_now, Returning.line_some, Stepped.run_played, Stepped.still_among}
+use Rattle.vs_core.{specs.Ready.IsReady, proofs.{DeviceHappening.line_did, MayNow.line_now, Returning.line_some, Stepped.{run_played, still_among}}}
 use Rattle.vs_core.proofs.world.World.proxy_reads.Goals as goal
 
 pub read_line-requires : goal.read_line-requires

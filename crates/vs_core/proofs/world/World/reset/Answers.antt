@@ -1,8 +1,7 @@
-use Rattle.std.proofs.{Common.refl, Common.sym, Common.subst, lemmas.Result.on_ok_weaker}
+use Rattle.std.proofs.{Common.{refl, sym, subst}, lemmas.Result.on_ok_weaker}
 use Rattle.vs_proxy_parts.specs.Turns.{proxy_reset_of}
 use Rattle.laws_world.specs.Events.{Reset}
-use Rattle.vs_core.specs.Ready.{IsReady}
-use Rattle.vs_core.proofs.{DeviceHappening.reset_did, MayNow.reset_now, Returning.reset_some, Stepped.run_played}
+use Rattle.vs_core.{specs.Ready.IsReady, proofs.{DeviceHappening.reset_did, MayNow.reset_now, Returning.reset_some, Stepped.run_played}}
 use Rattle.vs_core.proofs.world.World.reset.Goals as goal
 
 pub reset-answer-requires-clause-ring : goal.reset-answer-requires-clause-ring

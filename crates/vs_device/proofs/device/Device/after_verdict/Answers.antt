@@ -1,9 +1,8 @@
 use Rattle.std.proofs.Common.{◌≡◌, ◌++◌, [], cond, Some, refl, sym, ◌∙◌, rules}
 use Rattle.vs_flow.specs.Table.{entry_under, with_value}
 use Rattle.vs_uds.specs.OkLine.{ok_text}
-use Rattle.vs_device_parts.{specs.State.DeviceConnection, specs.Transmitting.heard, proofs.Under.value_of, proofs.Under.with_its}
-use Rattle.vs_device.proofs.Verdicts.{heard_in, refuses, counted_refusal}
-use Rattle.vs_device.{specs.contracts.device.Device.the_view, proofs.Leaving.changed_twice}
+use Rattle.vs_device_parts.{specs.{State.DeviceConnection, Transmitting.heard}, proofs.Under.{value_of, with_its}}
+use Rattle.vs_device.{proofs.{Verdicts.{heard_in, refuses, counted_refusal}, Leaving.changed_twice}, specs.contracts.device.Device.the_view}
 use Rattle.vs_device.proofs.device.Device.after_verdict.Goals as goal
 
 pub returns-in-Accept-clause-calls : goal.returns-in-Accept-clause-calls

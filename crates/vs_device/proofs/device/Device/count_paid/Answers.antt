@@ -1,9 +1,7 @@
 use Rattle.std.proofs.Common.{◌≡◌, true, false, Some, refl, sym, ap, ◌∙◌}
 use Rattle.vs_flow.specs.Table.{Table, entry_under}
-use Rattle.vs_device_parts.specs.{Filling.is_rst, State.DeviceConnection, State.DeviceState}
-use Rattle.vs_device.specs.contracts.device.Device.{the_view}
-use Rattle.vs_device_parts.proofs.Under.{has_slot, value_of}
-use Rattle.vs_device.proofs.Paying.{after_other, paid_leaves, paid_stays}
+use Rattle.vs_device_parts.{specs.{Filling.is_rst, State.{DeviceConnection, DeviceState}}, proofs.Under.{has_slot, value_of}}
+use Rattle.vs_device.{specs.contracts.device.Device.the_view, proofs.Paying.{after_other, paid_leaves, paid_stays}}
 use Rattle.vs_device.proofs.device.Device.count_paid.Goals as goal
 
 pub returns-then-is_rst-clause-calls : goal.returns-then-is_rst-clause-calls

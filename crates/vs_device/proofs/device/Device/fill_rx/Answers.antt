@@ -1,11 +1,8 @@
-use Rattle.std.specs.Prelude.{Result, Err, false}
-use Rattle.std.proofs.Common.{◌≡◌, length, Option, Some, None, refl, sym, ap, rules}
-use Rattle.vs_contents.specs.CallTree.{Done, bind, while_up_to}
-use Rattle.vs_contents.proofs.{Leads.leads_of, Leads.leads_bind, Conditions.may_first, Conditions.may_rest, Conditions.may_of}
+use Rattle.std.{specs.Prelude.{Result, Err, false}, proofs.Common.{◌≡◌, length, Option, Some, None, refl, sym, ap, rules}}
+use Rattle.vs_contents.{specs.CallTree.{Done, bind, while_up_to}, proofs.{Leads.{leads_of, leads_bind}, Conditions.{may_first, may_rest, may_of}}}
 use Rattle.vs_ring_port.specs.declared.failure.Failure.{Failure}
-use Rattle.vs_device_parts.specs.{Calls.DeviceTree, Filling.serve_rest, Receiving.Filling, Receiving.filled_of, Receiving.fill_rx_of}
-use Rattle.vs_device_parts.specs.{Receiving.put_reply, State.DeviceState, declared.answers.Filled.Filled}
-use Rattle.vs_device.proofs.{Ordered.fill_honest, Ordered.fill_streams, Accounted.fill_accounted}
+use Rattle.vs_device_parts.specs.{Calls.DeviceTree, Filling.serve_rest, Receiving.{Filling, filled_of, fill_rx_of, put_reply}, State.DeviceState, declared.answers.Filled.Filled}
+use Rattle.vs_device.proofs.{Ordered.{fill_honest, fill_streams}, Accounted.fill_accounted}
 use Rattle.vs_device.proofs.device.Device.fill_rx.Goals as goal
 
 abbrev start : DeviceState → Filling

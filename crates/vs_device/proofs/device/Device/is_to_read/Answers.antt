@@ -1,11 +1,9 @@
-use Rattle.std.proofs.Common.{◌≡◌, true, false, Some, Bool, sym, ap, ◌∙◌, arith}
-use Rattle.std.{specs.Prelude.◌==◌, proofs.lemmas.Bool.Decides.nat_tests}
+use Rattle.std.{proofs.{Common.{◌≡◌, true, false, Some, Bool, sym, ap, ◌∙◌, arith}, lemmas.Bool.Decides.nat_tests}, specs.Prelude.◌==◌}
 use Rattle.vs_conn.specs.End.{wanting_credit}
 use Rattle.vs_credit.specs.Credit.{free_of}
 use Rattle.vs_flow.specs.Table.{entry_under, with_value}
-use Rattle.vs_device_parts.specs.State.{DeviceConnection, DeviceEntry, DeviceState}
-use Rattle.vs_device_parts.{specs.Receiving.may_read, proofs.Under.under}
-use Rattle.vs_device.{specs.contracts.device.Device.the_view, proofs.Leaving.changed, proofs.Reading.wants_is}
+use Rattle.vs_device_parts.{specs.{State.{DeviceConnection, DeviceEntry, DeviceState}, Receiving.may_read}, proofs.Under.under}
+use Rattle.vs_device.{specs.contracts.device.Device.the_view, proofs.{Leaving.changed, Reading.wants_is}}
 use Rattle.vs_device.proofs.device.Device.is_to_read.Goals as goal
 
 pub returns-then-free-eq0-clause-read : goal.returns-then-free-eq0-clause-read

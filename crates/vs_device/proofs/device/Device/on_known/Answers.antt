@@ -1,9 +1,8 @@
 use Rattle.std.proofs.Common.{◌≡◌, Some, sym, ap, subst, ◌∙◌}
 use Rattle.vs_flow.specs.Table.{Table, value_under}
-use Rattle.vs_device_parts.{specs.State.DeviceConnection, specs.State.DeviceState, specs.Connections.with_connection}
-use Rattle.vs_device_parts.{specs.Playing.MayClose, specs.Transmitting.heard, proofs.Under.value_of, proofs.Under.value_changed}
-use Rattle.vs_device.proofs.Verdicts.{known, may_leave}
-use Rattle.vs_device.{specs.contracts.device.Device.the_view, proofs.device.Device.on_known.Goals.After-on_packet-verdict}
+use Rattle.vs_device_parts.{specs.{State.{DeviceConnection, DeviceState}, Connections.with_connection, Playing.MayClose, Transmitting.heard}, proofs.Under.value_of}
+use Rattle.vs_device_parts.proofs.Under.{value_changed}
+use Rattle.vs_device.{proofs.{Verdicts.{known, may_leave}, device.Device.on_known.Goals.After-on_packet-verdict}, specs.contracts.device.Device.the_view}
 use Rattle.vs_device.proofs.device.Device.on_known.Goals as goal
 
 -- the connection, before its end heard the packet and after it

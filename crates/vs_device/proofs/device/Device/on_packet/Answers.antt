@@ -1,9 +1,8 @@
 use Rattle.std.proofs.Common.{rules, ◌≡◌, ℕ, Some, None, sym, ap, subst, ◌∙◌}
-use Rattle.vs_flow.{specs.Table.entry_of, specs.Table.entry_under, specs.declared.flow.Flow.Flow, proofs.Lookups.entry_of_found}
+use Rattle.vs_flow.{specs.{Table.{entry_of, entry_under}, declared.flow.Flow.Flow}, proofs.Lookups.entry_of_found}
 use Rattle.vs_page.specs.Log.{flow_to_host}
-use Rattle.vs_device_parts.proofs.Under.{IsMapped, mapped}
-use Rattle.vs_device_parts.specs.{Playing.MayRun, Playing.situation, State.DeviceEntry, State.DeviceState, Taking.known_packet}
-use Rattle.vs_device.proofs.{Takings.may_be_known, Takings.was_known, Takings.was_unknown, Reading.same_entry, device.Device.on_packet.Goals.In-Some}
+use Rattle.vs_device_parts.{proofs.Under.{IsMapped, mapped}, specs.{Playing.{MayRun, situation}, State.{DeviceEntry, DeviceState}, Taking.known_packet}}
+use Rattle.vs_device.proofs.{Takings.{may_be_known, was_known, was_unknown}, Reading.same_entry, device.Device.on_packet.Goals.In-Some}
 use Rattle.vs_device.proofs.device.Device.on_packet.Goals as goal
 
 -- the connection that was found, by its slot and by its flow

@@ -1,8 +1,7 @@
 use Rattle.std.proofs.Common.{◌≡◌, None, rules}
 use Rattle.vs_flow.specs.Table.{refusal}
 use Rattle.vs_device_parts.specs.{Connections.with_client, State.DeviceState}
-use Rattle.vs_device.specs.contracts.device.Device.{the_view}
-use Rattle.vs_device.proofs.{Resetting.opened, Ordered.open_honest, Ordered.open_streams, Accounted.open_accounted}
+use Rattle.vs_device.{specs.contracts.device.Device.the_view, proofs.{Resetting.opened, Ordered.{open_honest, open_streams}, Accounted.open_accounted}}
 use Rattle.vs_device.proofs.device.Device.open.Goals as goal
 
 pub returns-clause-calls : goal.returns-clause-calls

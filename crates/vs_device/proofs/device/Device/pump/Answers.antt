@@ -1,7 +1,6 @@
 use Rattle.std.proofs.Common.{◌≤◌, ◌<◌, length, refl, ◌∙◌, rules, arith}
 use Rattle.vs_contents.proofs.Leads.{leads_of}
-use Rattle.vs_device_parts.specs.{Streams.Writing, Streams.pump_slot, Written.writing}
-use Rattle.vs_device_parts.proofs.Each.{each_more, may_each_step, may_each_more, each_end}
+use Rattle.vs_device_parts.{specs.{Streams.{Writing, pump_slot}, Written.writing}, proofs.Each.{each_more, may_each_step, may_each_more, each_end}}
 use Rattle.vs_device.proofs.Skipped.{none_writes}
 use Rattle.vs_device.proofs.device.Device.pump.Goals as goal
 

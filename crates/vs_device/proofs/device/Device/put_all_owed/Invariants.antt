@@ -1,9 +1,8 @@
 use Rattle.std.proofs.Common.{◌≡◌, ◌+◌, ◌-◌, ◌≤◌, false}
 use Rattle.vs_contents.specs.CallTree.{while_up_to}
-use Rattle.vs_device_parts.specs.{Calls.Situation, Filling.filling_of, Playing.IsRingOf, Playing.MayRun, Playing.Runs, Playing.situation}
-use Rattle.vs_device_parts.specs.Receiving.{Filling, put_owed}
-use Rattle.vs_device.proofs.device.Device.put_all_owed.Given as goal
+use Rattle.vs_device_parts.specs.{Calls.Situation, Filling.filling_of, Playing.{IsRingOf, MayRun, Runs, situation}, Receiving.{Filling, put_owed}}
 use Rattle.vs_limits.specs.declared.TheConstants.{OWED_MAX}
+use Rattle.vs_device.proofs.device.Device.put_all_owed.Given as goal
 
 -- whatever completes the rest completes the whole
 abbrev pub invariant-loop : goal.invariant-loop

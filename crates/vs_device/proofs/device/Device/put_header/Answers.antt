@@ -3,8 +3,7 @@ use Rattle.vs_header.specs.declared.TheConstants.{HEADER_LEN}
 use Rattle.vs_contents.proofs.Leads.{leads_to}
 use Rattle.vs_ring_port.specs.declared.device_ring.Chain.{Chain}
 use Rattle.vs_device_parts.specs.{Filling.filling_of, Playing.beside, Receiving.Filling, State.DeviceState}
-use Rattle.vs_device.proofs.Putting.{header_put, header_waits, may_write}
-use Rattle.vs_device.{specs.contracts.device.Device.the_view, proofs.Among.beside_one, proofs.Among.held_one, proofs.Among.none_among}
+use Rattle.vs_device.{proofs.{Putting.{header_put, header_waits, may_write}, Among.{beside_one, held_one, none_among}}, specs.contracts.device.Device.the_view}
 use Rattle.vs_device.proofs.device.Device.put_header.Goals as goal
 
 pub returns-in_default-clause-calls : goal.returns-in_default-clause-calls

@@ -2,10 +2,8 @@ use Rattle.std.proofs.Common.{◌≡◌, true, false, Some, sym, ap, subst, ◌�
 use Rattle.vs_header.specs.declared.Header.{Header}
 use Rattle.vs_conn.specs.{End.owes_of, Headers.owed_header}
 use Rattle.vs_flow.specs.Table.{entry_under}
-use Rattle.vs_device_parts.specs.Playing.{MayRun, RunsOnRing, situation}
-use Rattle.vs_device_parts.specs.{Connections.route_to_guest, Filling.filling_of, Filling.put_header, State.DeviceEntry, State.DeviceState}
-use Rattle.vs_device.proofs.Putting.{owed_put, owed_waits, may_owed, may_pay}
-use Rattle.vs_device.proofs.{Paying.HoldsOf, Paying.some_and, Reading.same_entry, device.Device.put_owed.Goals.In-Some}
+use Rattle.vs_device_parts.specs.{Playing.{MayRun, RunsOnRing, situation}, Connections.route_to_guest, Filling.{filling_of, put_header}, State.{DeviceEntry, DeviceState}}
+use Rattle.vs_device.proofs.{Putting.{owed_put, owed_waits, may_owed, may_pay}, Paying.{HoldsOf, some_and}, Reading.same_entry, device.Device.put_owed.Goals.In-Some}
 use Rattle.vs_device.proofs.device.Device.put_owed.Goals as goal
 
 -- the connection, and what it owes

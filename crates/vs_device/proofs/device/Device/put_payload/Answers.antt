@@ -4,12 +4,10 @@ use Rattle.vs_conn.specs.{End.with_payload_sent, Headers.payload_header}
 use Rattle.vs_flow.specs.Table.{Table, entry_under, with_value}
 use Rattle.vs_header.specs.declared.Header.{Header}
 use Rattle.vs_ring_port.specs.declared.device_ring.Chain.{Chain}
-use Rattle.vs_device_parts.specs.{Calls.Allows, Connections.with_connection, Connections.route_to_guest, Filling.filling_of, Playing.MayRun}
-use Rattle.vs_device_parts.specs.{Playing.Runs, Playing.beside, Playing.situation, Receiving.Filling, Receiving.written}
-use Rattle.vs_device_parts.specs.{Receiving.put_payload, State.DeviceConnection, State.DeviceEntry, State.DeviceState}
-use Rattle.vs_device.specs.contracts.device.Device.{the_view}
-use Rattle.vs_device.proofs.{Among.{beside_one, held_one, none_among}, Paying.mapped, Reading.{header, after_payload, payload_put, may_put}}
-use Rattle.vs_device_parts.proofs.Under.{has_slot, value_of}
+use Rattle.vs_device_parts.specs.{Calls.Allows, Connections.{with_connection, route_to_guest}, Filling.filling_of, Playing.{MayRun, Runs, beside, situation}, Receiving.Filling}
+use Rattle.vs_device_parts.{specs.{Receiving.{written, put_payload}, State.{DeviceConnection, DeviceEntry, DeviceState}}, proofs.Under.{has_slot, value_of}}
+use Rattle.vs_device.{specs.contracts.device.Device.the_view, proofs.{Among.{beside_one, held_one, none_among}, Paying.mapped, Reading.{header, after_payload, payload_put}}}
+use Rattle.vs_device.proofs.Reading.{may_put}
 use Rattle.vs_device.proofs.device.Device.put_payload.Goals as goal
 
 pub write_packet-requires-clause-may : goal.write_packet-requires-clause-may

@@ -1,8 +1,7 @@
 use Rattle.std.proofs.Common.{◌≡◌, ◌-◌, ◌≤◌, ℕ, false, length, Option}
 use Rattle.vs_contents.specs.CallTree.{while_up_to}
 use Rattle.vs_outside.specs.Host.{HostContents}
-use Rattle.vs_device_parts.specs.{Calls.Situation, Filling.filling_of, Playing.IsRingOf, Playing.MayRunOnRing, Playing.Runs}
-use Rattle.vs_device_parts.specs.{Playing.situation, Receiving.Filling, Receiving.put_reply}
+use Rattle.vs_device_parts.specs.{Calls.Situation, Filling.filling_of, Playing.{IsRingOf, MayRunOnRing, Runs, situation}, Receiving.{Filling, put_reply}}
 use Rattle.vs_limits.specs.declared.TheConstants.{DEVICE_REPLIES}
 use Rattle.vs_device.proofs.device.Device.put_replies.Given as goal
 

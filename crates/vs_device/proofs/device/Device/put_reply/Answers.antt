@@ -1,12 +1,10 @@
-use Rattle.std.proofs.Common.{◌≡◌, true, false, Some, List, drop, sym, ap, subst, ◌∙◌}
-use Rattle.std.specs.List.{slice_get}
+use Rattle.std.{proofs.Common.{◌≡◌, true, false, Some, List, drop, sym, ap, subst, ◌∙◌}, specs.List.slice_get}
 use Rattle.vs_contents.proofs.Leads.{leads_to}
 use Rattle.vs_header.specs.declared.Header.{Header}
 use Rattle.vs_replies.specs.{Owed.OwedReplies, declared.Reply.Reply}
-use Rattle.vs_device_parts.specs.{Calls.Allows, Filling.filling_of, Filling.put_header, Playing.situation, Playing.MayRun, Playing.Runs}
-use Rattle.vs_device_parts.specs.{Receiving.Filling, Receiving.put_reply, Receiving.reply_header, State.DeviceState}
-use Rattle.vs_device.specs.contracts.device.Device.{the_view}
-use Rattle.vs_device.proofs.Putting.{reply_put, reply_waits, may_reply}
+use Rattle.vs_device_parts.specs.{Calls.Allows, Filling.{filling_of, put_header}, Playing.{situation, MayRun, Runs}, Receiving.{Filling, put_reply, reply_header}}
+use Rattle.vs_device_parts.specs.State.{DeviceState}
+use Rattle.vs_device.{specs.contracts.device.Device.the_view, proofs.Putting.{reply_put, reply_waits, may_reply}}
 use Rattle.vs_device.proofs.device.Device.put_reply.Goals as goal
 
 pub put_header-requires-clause-may : goal.put_header-requires-clause-may

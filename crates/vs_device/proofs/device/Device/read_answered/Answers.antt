@@ -3,15 +3,12 @@ use Rattle.vs_contents.proofs.{Leads.leads_bind, Conditions.may_first}
 use Rattle.vs_conn.specs.End.{CanSend}
 use Rattle.vs_flow.specs.Table.{entry_under}
 use Rattle.vs_header.specs.declared.TheConstants.{HEADER_LEN}
-use Rattle.vs_outside.specs.{declared.host_net.StreamRead.StreamRead}
+use Rattle.vs_outside.specs.declared.host_net.StreamRead.{StreamRead}
 use Rattle.vs_ring_port.specs.declared.device_ring.Chain.{Chain}
 use Rattle.vs_wrap.specs.Wrap.{counted}
-use Rattle.vs_device_parts.specs.Connections.{with_fault, after_shut, cut_off, with_connection}
-use Rattle.vs_device_parts.proofs.Under.{has_slot, value_of}
-use Rattle.vs_device_parts.specs.{Filling.bytes_read, Filling.filling_of, Playing.MayRun, Playing.RunsOnHost, Playing.situation, Receiving.Filling}
-use Rattle.vs_device_parts.specs.{Receiving.read_answered, State.DeviceConnection, State.DeviceState, Streams.closing}
-use Rattle.vs_device.proofs.Reading.{fits, got_some, if_some, none_read, was_read}
-use Rattle.vs_device.{specs.contracts.device.Device.the_view, proofs.Leaving.changed, proofs.Leaving.may_close, proofs.Among.held_one}
+use Rattle.vs_device_parts.specs.{Connections.{with_fault, after_shut, cut_off, with_connection}, Filling.{bytes_read, filling_of}, Playing.{MayRun, RunsOnHost, situation}}
+use Rattle.vs_device_parts.{specs.{Receiving.{Filling, read_answered}, State.{DeviceConnection, DeviceState}, Streams.closing}, proofs.Under.{has_slot, value_of}}
+use Rattle.vs_device.{proofs.{Reading.{fits, got_some, if_some, none_read, was_read}, Leaving.{changed, may_close}, Among.held_one}, specs.contracts.device.Device.the_view}
 use Rattle.laws_device.proofs.Filling.{can_send}
 use Rattle.vs_device.proofs.device.Device.read_answered.Goals as goal
 

@@ -2,11 +2,10 @@ use Rattle.std.proofs.{Common.{◌≡◌, ◌<◌, true, Some, ap, subst, refl, 
 use Rattle.vs_contents.proofs.Leads.{leads_of}
 use Rattle.vs_credit.specs.Credit.{free_of}
 use Rattle.vs_flow.specs.Table.{entry_under}
-use Rattle.vs_device_parts.specs.Receiving.{Filling, hold, may_read, read_with_chain}
-use Rattle.vs_device_parts.{specs.Filling.filling_of, specs.Playing.MayRun, specs.Playing.RunsOnRing, specs.Playing.situation}
-use Rattle.vs_device_parts.{specs.State.DeviceConnection, specs.State.DeviceEntry, specs.State.DeviceState, proofs.Under.value_of}
-use Rattle.vs_device.proofs.Reading.{IsToRead, if_some, may_read_then, not_read, read_then, reads_stream, same_entry}
-use Rattle.vs_device.proofs.{Among.among, Among.ring_of, Among.same_ring, device.Device.read_slot.Goals.After-hold}
+use Rattle.vs_device_parts.specs.{Receiving.{Filling, hold, may_read, read_with_chain}, Filling.filling_of, Playing.{MayRun, RunsOnRing, situation}, State.DeviceConnection}
+use Rattle.vs_device_parts.{specs.State.{DeviceEntry, DeviceState}, proofs.Under.value_of}
+use Rattle.vs_device.proofs.{Reading.{IsToRead, if_some, may_read_then, not_read, read_then, reads_stream, same_entry}, Among.{among, ring_of, same_ring}}
+use Rattle.vs_device.proofs.device.Device.read_slot.Goals.{After-hold}
 use Rattle.vs_device.proofs.device.Device.read_slot.Goals as goal
 
 -- the connection whose stream is to be read, with the chain that is held then

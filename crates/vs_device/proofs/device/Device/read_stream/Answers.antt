@@ -1,14 +1,11 @@
-use Rattle.std.proofs.Common.{◌≡◌, true, Some, refl, subst}
-use Rattle.std.specs.Option.{IsSomeAnd}
+use Rattle.std.{proofs.Common.{◌≡◌, true, Some, refl, subst}, specs.Option.IsSomeAnd}
 use Rattle.vs_credit.specs.Credit.{free_of}
 use Rattle.vs_flow.specs.Table.{entry_under, value_under}
 use Rattle.vs_outside.specs.{Host.ReadsSome, declared.host_net.StreamRead.StreamRead}
 use Rattle.vs_ring_port.specs.declared.device_ring.Chain.{Chain}
-use Rattle.vs_device_parts.proofs.Under.{value_of}
-use Rattle.vs_device_parts.specs.{Calls.ReadStream, Filling.bytes_read, Filling.filling_of, Playing.AllowsOnHost, Playing.MayRun, Playing.situation, Receiving.Filling}
-use Rattle.vs_device_parts.specs.{Receiving.may_read, Receiving.read_answered, Receiving.read_room, State.DeviceConnection, State.DeviceEntry}
-use Rattle.vs_device.proofs.Reading.{answered, known, known_read, may_answered, may_ask, none_read, same_chain, some_and}
-use Rattle.vs_device.proofs.device.Device.read_stream.Goals.{After-read_into-answer}
+use Rattle.vs_device_parts.{proofs.Under.value_of, specs.{Calls.ReadStream, Filling.{bytes_read, filling_of}, Playing.{AllowsOnHost, MayRun, situation}, Receiving.Filling}}
+use Rattle.vs_device_parts.specs.{Receiving.{may_read, read_answered, read_room}, State.{DeviceConnection, DeviceEntry}}
+use Rattle.vs_device.proofs.{Reading.{answered, known, known_read, may_answered, may_ask, none_read, same_chain, some_and}, device.Device.read_stream.Goals.After-read_into-answer}
 use Rattle.vs_device.proofs.device.Device.read_stream.Goals as goal
 
 -- the read, as one of the connection in the slot

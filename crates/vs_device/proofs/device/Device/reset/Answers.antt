@@ -1,7 +1,6 @@
 use Rattle.std.proofs.Common.{◌≡◌, None, ap, ◌∙◌, rules, arith}
 use Rattle.vs_device_parts.specs.State.{DeviceState}
-use Rattle.vs_device.proofs.{Among.same_ring, Resetting.may_close_all, Resetting.was_reset, Ordered.reset_honest, Ordered.reset_streamed}
-use Rattle.vs_device.proofs.{Ordered.reset_streams, Accounted.reset_accounted}
+use Rattle.vs_device.proofs.{Among.same_ring, Resetting.{may_close_all, was_reset}, Ordered.{reset_honest, reset_streamed, reset_streams}, Accounted.reset_accounted}
 use Rattle.vs_device.proofs.device.Device.reset.Goals as goal
 
 pub close_all-requires : goal.close_all-requires

@@ -1,8 +1,7 @@
-use Rattle.std.proofs.Common.{◌≡◌, ℕ, List, ◌<◌, ◌≤◌, length, sym, ap, subst, ◌∙◌, rules, arith}
-use Rattle.std.specs.List.{AllPairs}
+use Rattle.std.{proofs.Common.{◌≡◌, ℕ, List, ◌<◌, ◌≤◌, length, sym, ap, subst, ◌∙◌, rules, arith}, specs.List.AllPairs}
 use Rattle.vs_flow.specs.Table.{slots}
-use Rattle.vs_device_parts.proofs.Each.{each_more, may_each_step, may_each_more, each_end}
-use Rattle.vs_device_parts.specs.{Filling.filling_of, Receiving.Filling, Receiving.serve_slot, Receiving.round_from, State.DeviceState}
+use Rattle.vs_device_parts.{proofs.Each.{each_more, may_each_step, may_each_more, each_end}, specs.{Filling.filling_of, Receiving.{Filling, serve_slot, round_from}}}
+use Rattle.vs_device_parts.specs.State.{DeviceState}
 use Rattle.vs_device.proofs.device.Device.serve_all.Goals as goal
 
 pub round_from-round-requires-clause-rising : goal.round_from-round-requires-clause-rising

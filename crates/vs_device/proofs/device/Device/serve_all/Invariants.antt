@@ -1,8 +1,7 @@
 use Rattle.std.proofs.Common.{◌+◌, ◌*◌, ◌≤◌, length, drop}
 use Rattle.vs_contents.specs.CallTree.{for_each}
 use Rattle.vs_page.specs.declared.page.TheConstants.{PAYLOAD_MAX}
-use Rattle.vs_device_parts.specs.{Calls.Situation, Filling.filling_of, Filling.serve_all, Playing.IsRingOf, Playing.MayRun, Playing.Runs}
-use Rattle.vs_device_parts.specs.{Playing.situation, Receiving.Filling, Receiving.serve_slot}
+use Rattle.vs_device_parts.specs.{Calls.Situation, Filling.{filling_of, serve_all}, Playing.{IsRingOf, MayRun, Runs, situation}, Receiving.{Filling, serve_slot}}
 use Rattle.vs_limits.specs.declared.TheConstants.{DEVICE_CONNECTIONS}
 use Rattle.vs_device.proofs.device.Device.serve_all.Given as goal
 

@@ -1,10 +1,9 @@
 use Rattle.std.proofs.Common.{◌≡◌, Some, ap, refl, subst, ◌∙◌}
 use Rattle.vs_flow.specs.Table.{entry_under}
-use Rattle.vs_device_parts.specs.{Filling.filling_of, Playing.IsRingOf, Playing.MayRun, Playing.situation, Receiving.Filling}
-use Rattle.vs_device_parts.specs.{Receiving.read_with_chain, Served.Reads, State.DeviceEntry, State.DeviceState}
+use Rattle.vs_device_parts.specs.{Filling.filling_of, Playing.{IsRingOf, MayRun, situation}, Receiving.{Filling, read_with_chain}, Served.Reads, State.{DeviceEntry, DeviceState}}
 use Rattle.vs_device_parts.proofs.Under.{value_of}
-use Rattle.vs_device.proofs.Reading.{Owing, known_was_read, may_read_known, may_serve_then, owing, same_entry, served, served_none_owed, served_over, some_and}
-use Rattle.vs_device.proofs.{Among.among, Among.ring_of, device.Device.serve_reading.Goals.After-hold}
+use Rattle.vs_device.proofs.{Reading.{Owing, known_was_read, may_read_known, may_serve_then, owing, same_entry, served, served_none_owed, served_over, some_and}, Among.among}
+use Rattle.vs_device.proofs.{Among.ring_of, device.Device.serve_reading.Goals.After-hold}
 use Rattle.vs_device.proofs.device.Device.serve_reading.Goals as goal
 
 -- the connection, with the chain that is held then

@@ -1,9 +1,7 @@
 use Rattle.std.proofs.Common.{◌≡◌, ℕ, true, sym, ap, subst, ◌∙◌, rules}
 use Rattle.vs_flow.specs.Table.{Table, with_value}
-use Rattle.vs_device_parts.specs.State.{DeviceConnection, DeviceEntry, DeviceState}
-use Rattle.vs_device_parts.proofs.Under.{under, value_of}
-use Rattle.vs_device_parts.specs.{Calls.Allows, Calls.ShutWrite, Connections.with_connection, Playing.Runs, Playing.situation}
-use Rattle.vs_device_parts.specs.{Streams.shut_write, Streams.is_written_out, Written.writing}
+use Rattle.vs_device_parts.specs.{State.{DeviceConnection, DeviceEntry, DeviceState}, Calls.{Allows, ShutWrite}, Connections.with_connection, Playing.{Runs, situation}}
+use Rattle.vs_device_parts.{specs.{Streams.{shut_write, is_written_out}, Written.writing}, proofs.Under.{under, value_of}}
 use Rattle.vs_device.{specs.contracts.device.Device.the_view, proofs.Pumping.was_shut}
 use Rattle.vs_device.proofs.device.Device.shut_write.Goals as goal
 

@@ -1,7 +1,6 @@
 use Rattle.std.proofs.Common.{◌≤◌, ◌<◌, length, refl, ◌∙◌, rules}
 use Rattle.vs_contents.proofs.Leads.{leads_of}
-use Rattle.vs_device_parts.specs.Streams.{tick_slot}
-use Rattle.vs_device_parts.proofs.Each.{each_more, may_each_step, may_each_more, each_end}
+use Rattle.vs_device_parts.{specs.Streams.tick_slot, proofs.Each.{each_more, may_each_step, may_each_more, each_end}}
 use Rattle.vs_device.proofs.Skipped.{none_times_out}
 use Rattle.vs_device.proofs.device.Device.time_out.Goals as goal
 

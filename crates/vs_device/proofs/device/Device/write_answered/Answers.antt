@@ -1,9 +1,7 @@
 use Rattle.std.proofs.Common.{◌≡◌, length, Some, ap, ◌∙◌, rules}
 use Rattle.vs_flow.specs.Table.{entry_under}
-use Rattle.vs_device_parts.specs.Connections.{with_connection, after_shut, after_written}
-use Rattle.vs_device_parts.{specs.State.DeviceState, specs.Streams.to_write, proofs.Under.has_slot, proofs.Under.value_of}
-use Rattle.vs_device.specs.contracts.device.Device.{the_view}
-use Rattle.vs_device.proofs.{Leaving.changed, Pumping.write_failed, Pumping.took_within, Written.written_within}
+use Rattle.vs_device_parts.{specs.{Connections.{with_connection, after_shut, after_written}, State.DeviceState, Streams.to_write}, proofs.Under.{has_slot, value_of}}
+use Rattle.vs_device.{specs.contracts.device.Device.the_view, proofs.{Leaving.changed, Pumping.{write_failed, took_within}, Written.written_within}}
 use Rattle.vs_device.proofs.device.Device.write_answered.Goals as goal
 
 pub written-requires : goal.written-requires

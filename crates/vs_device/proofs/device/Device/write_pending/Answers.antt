@@ -1,8 +1,7 @@
 use Rattle.std.proofs.Common.{◌≡◌, ◌≢◌, length, Some, sym, ap, ◌∙◌, rules}
 use Rattle.vs_flow.specs.Table.{entry_under}
-use Rattle.vs_device_parts.{specs.Calls.WriteStream, specs.State.DeviceConnection, specs.State.DeviceEntry, specs.Playing.AllowsOnHost}
-use Rattle.vs_device_parts.{specs.Streams.to_write, specs.Written.writing, proofs.Under.value_is}
-use Rattle.vs_device.proofs.{Pumping.may_be_answered, Pumping.wrote, device.Device.write_pending.Goals.After-write-answer}
+use Rattle.vs_device_parts.{specs.{Calls.WriteStream, State.{DeviceConnection, DeviceEntry}, Playing.AllowsOnHost, Streams.to_write, Written.writing}, proofs.Under.value_is}
+use Rattle.vs_device.proofs.{Pumping.{may_be_answered, wrote}, device.Device.write_pending.Goals.After-write-answer}
 use Rattle.vs_device.proofs.device.Device.write_pending.Goals as goal
 
 -- what was written is what was pending on the connection in the slot

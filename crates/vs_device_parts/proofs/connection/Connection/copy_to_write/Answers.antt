@@ -1,6 +1,5 @@
 use Rattle.std.proofs.Common.{rules, arith, ◌≡◌, ◌≤◌, ◌-◌, length, min, ap, ◌∙◌}
-use Rattle.vs_device_parts.specs.{State.DeviceConnection, Streams.to_write}
-use Rattle.vs_device_parts.proofs.Copying.{count_is, copied}
+use Rattle.vs_device_parts.{specs.{State.DeviceConnection, Streams.to_write}, proofs.Copying.{count_is, copied}}
 use Rattle.vs_device_parts.proofs.connection.Connection.copy_to_write.Goals as goal
 
 pub returns-clause-count : goal.returns-clause-count

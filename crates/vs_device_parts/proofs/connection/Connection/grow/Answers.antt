@@ -1,7 +1,6 @@
 -- What it takes that a buffer space is raised follows from the answer.
 use Rattle.std.proofs.Common.{◌≡◌, ℕ, sym, subst}
-use Rattle.vs_device_parts.proofs.Growing.{MayGrow, may_grow}
-use Rattle.vs_device_parts.specs.{Growing.grow_answer, State.DeviceConnection}
+use Rattle.vs_device_parts.{proofs.Growing.{MayGrow, may_grow}, specs.{Growing.grow_answer, State.DeviceConnection}}
 use Rattle.vs_device_parts.proofs.connection.Connection.grow.Goals as goal
 use Rattle.vs_device_parts.specs.declared.answers.Grown.TheVariants as rise
 

@@ -1,7 +1,6 @@
 use Rattle.std.proofs.Common.{◌≡◌, length, ap, ◌∙◌, arith, rules}
 use Rattle.vs_flow.specs.Table.{Table, without, emptied}
-use Rattle.vs_device_parts.specs.State.{DeviceConnection, DeviceEntry}
-use Rattle.vs_device_parts.proofs.{SlotChanges.one_fewer, Under.first_under, Under.none_left, Under.value_of}
+use Rattle.vs_device_parts.{specs.State.{DeviceConnection, DeviceEntry}, proofs.{SlotChanges.one_fewer, Under.{first_under, none_left, value_of}}}
 use Rattle.vs_device_parts.proofs.slots.Slots.clear.Goals as goal
 
 pub loop-slot-smaller : goal.loop-slot-smaller

@@ -1,7 +1,6 @@
 use Rattle.std.proofs.{Common.{◌≡◌, length, Some, None, sym, ap, subst, ◌∙◌, arith, rules}, lemmas.List.Elements.All-push}
 use Rattle.vs_flow.specs.Table.{Table, value_under, without}
-use Rattle.vs_device_parts.specs.{State.DeviceConnection, Room.IsSpare, SlotFields.AreKept}
-use Rattle.vs_device_parts.proofs.SlotChanges.{none_leaves, one_fewer, watched_without}
+use Rattle.vs_device_parts.{specs.{State.DeviceConnection, Room.IsSpare, SlotFields.AreKept}, proofs.SlotChanges.{none_leaves, one_fewer, watched_without}}
 use Rattle.vs_device_parts.proofs.slots.Slots.leave.Goals as goal
 
 pub invariant_of-self : goal.invariant_of-self

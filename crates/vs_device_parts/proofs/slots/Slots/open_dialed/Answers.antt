@@ -1,8 +1,6 @@
 use Rattle.std.proofs.Common.{◌≡◌, ◌∷◌, [], length, ap, ◌∙◌, arith, length-append, true, None}
-use Rattle.vs_flow.specs.Table.{Table, with_entry, next_entry, has_place, entry_of}
-use Rattle.vs_flow.proofs.Tables.{with_entry_sound}
-use Rattle.vs_device_parts.specs.{State.DeviceConnection, Room.IsSpare}
-use Rattle.vs_device_parts.proofs.SlotChanges.{accepts, all_front, watched_with_entry}
+use Rattle.vs_flow.{specs.Table.{Table, with_entry, next_entry, has_place, entry_of}, proofs.Tables.with_entry_sound}
+use Rattle.vs_device_parts.{specs.{State.DeviceConnection, Room.IsSpare}, proofs.SlotChanges.{accepts, all_front, watched_with_entry}}
 use Rattle.vs_device_parts.proofs.slots.Slots.open_dialed.Goals as goal
 
 pub invariant_of-self : goal.invariant_of-self

@@ -1,5 +1,4 @@
-use Rattle.std.proofs.Common.{◌≡◌, Some, sym}
-use Rattle.std.specs.List.{slice_get}
+use Rattle.std.{proofs.Common.{◌≡◌, Some, sym}, specs.List.slice_get}
 use Rattle.vs_device_parts.proofs.SlotChanges.{entry_within, past_all, watched_all, watched_more}
 use Rattle.vs_device_parts.proofs.slots.Slots.watch_anew.Goals as goal
 

@@ -1,5 +1,4 @@
-use Rattle.std.proofs.Common.{◌-◌, ◌≤◌, length}
-use Rattle.std.specs.List.{AllWithin}
+use Rattle.std.{proofs.Common.{◌-◌, ◌≤◌, length}, specs.List.AllWithin}
 use Rattle.vs_device_parts.specs.Watched.{IsWatched}
 use Rattle.vs_device_parts.proofs.slots.Slots.watch_anew.Given as goal
 

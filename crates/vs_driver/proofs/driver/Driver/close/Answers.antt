@@ -1,9 +1,8 @@
 use Rattle.std.proofs.Common.{◌≡◌, None, is_some, sym, ap, ◌∙◌, rules}
-use Rattle.vs_driver_parts.specs.{State.DriverEntry, State.DriverState, State.entry_known_as, Connections.after_close, Connections.state_of}
-use Rattle.vs_driver.specs.contracts.driver.Driver.{the_view}
-use Rattle.vs_driver_parts.proofs.Known.{KnownAt, known_at, close_known, after_close_known, unmapped}
+use Rattle.vs_driver_parts.{specs.{State.{DriverEntry, DriverState, entry_known_as}, Connections.{after_close, state_of}}, proofs.Known.{KnownAt, known_at, close_known}}
+use Rattle.vs_driver_parts.proofs.Known.{after_close_known, unmapped}
+use Rattle.vs_driver.{specs.contracts.driver.Driver.the_view, proofs.{Kept.kept, Pipes.{gone_close_others, gone_close_unknown, known_close_others, others_by}}}
 use Rattle.laws_driver.proofs.Changing.{close_changes}
-use Rattle.vs_driver.proofs.{Kept.kept, Pipes.gone_close_others, Pipes.gone_close_unknown, Pipes.known_close_others, Pipes.others_by}
 use Rattle.vs_flow.specs.Table.{IsTable}
 use Rattle.vs_driver.proofs.driver.Driver.close.Goals as goal
 

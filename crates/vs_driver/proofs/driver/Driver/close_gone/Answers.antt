@@ -1,6 +1,5 @@
 use Rattle.std.proofs.Common.{◌≡◌, None, sym, ap, subst, ◌∙◌}
-use Rattle.vs_driver_parts.proofs.Known.{unmapped}
-use Rattle.vs_driver_parts.specs.{State.DriverState, State.GoneConnection, State.gone_known_as, Held.HeldSlots, Connections.gone_closed}
+use Rattle.vs_driver_parts.{proofs.Known.unmapped, specs.{State.{DriverState, GoneConnection, gone_known_as}, Held.HeldSlots, Connections.gone_closed}}
 use Rattle.vs_driver.{specs.contracts.driver.Driver.the_view, proofs.Reading.gone_closed_none}
 use Rattle.vs_driver.proofs.driver.Driver.close_gone.Goals as goal
 

@@ -1,10 +1,8 @@
-use Rattle.std.proofs.Common.{◌≡◌, ℕ, List, Some, ap, subst, ◌∙◌}
-use Rattle.std.specs.Option.{option_map}
+use Rattle.std.{proofs.Common.{◌≡◌, ℕ, List, Some, ap, subst, ◌∙◌}, specs.Option.option_map}
 use Rattle.vs_flow.specs.Table.{entry_under}
-use Rattle.vs_driver_parts.specs.Connections.{with_connection, after_closing}
-use Rattle.vs_driver_parts.proofs.Ids.{value_of, has_slot}
-use Rattle.vs_driver_parts.specs.{State.DriverEntry, State.DriverState, State.Listener, Held.HeldSlots, Held.KnowsNone}
-use Rattle.vs_driver.{specs.contracts.driver.Driver.the_view, proofs.Reading.closed_entry, proofs.Pipes.known_to_none}
+use Rattle.vs_driver_parts.{specs.{Connections.{with_connection, after_closing}, State.{DriverEntry, DriverState, Listener}, Held.{HeldSlots, KnowsNone}}, proofs.Ids.value_of}
+use Rattle.vs_driver_parts.proofs.Ids.{has_slot}
+use Rattle.vs_driver.{specs.contracts.driver.Driver.the_view, proofs.{Reading.closed_entry, Pipes.known_to_none}}
 use Rattle.vs_driver.proofs.driver.Driver.close_in.Goals as goal
 
 pub returns-clause-state : goal.returns-clause-state

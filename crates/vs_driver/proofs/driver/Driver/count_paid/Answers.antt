@@ -1,6 +1,5 @@
 use Rattle.std.proofs.Common.{◌≡◌, false, Some, sym, ap, ◌∙◌}
-use Rattle.vs_driver_parts.proofs.Ids.{value_of, has_slot}
-use Rattle.vs_driver_parts.specs.{State.DriverState, Held.HeldSlots, Conversations.is_rst}
+use Rattle.vs_driver_parts.{proofs.Ids.{value_of, has_slot}, specs.{State.DriverState, Held.HeldSlots, Conversations.is_rst}}
 use Rattle.vs_driver.{specs.contracts.driver.Driver.the_view, proofs.Paying.paid_other}
 use Rattle.vs_flow.specs.Table.{entry_under}
 use Rattle.vs_driver.proofs.driver.Driver.count_paid.Goals as goal

@@ -1,9 +1,7 @@
-use Rattle.std.proofs.Common.{◌≡◌, Some, sym, ap, subst, ◌∙◌}
-use Rattle.std.specs.Option.{option_map}
+use Rattle.std.{proofs.Common.{◌≡◌, Some, sym, ap, subst, ◌∙◌}, specs.Option.option_map}
 use Rattle.vs_flow.specs.declared.flow.Flow.{Flow}
-use Rattle.vs_driver_parts.specs.{State.DriverEntry, State.DriverState, State.entry_known_as, Connections.flow_of}
+use Rattle.vs_driver_parts.{specs.{State.{DriverEntry, DriverState, entry_known_as}, Connections.flow_of}, proofs.Known.{unmapped, known_at, flow_known, flow_gone}}
 use Rattle.vs_driver.specs.contracts.driver.Driver.{the_view}
-use Rattle.vs_driver_parts.proofs.Known.{unmapped, known_at, flow_known, flow_gone}
 use Rattle.vs_driver.proofs.driver.Driver.flow.Goals as goal
 
 pub returns-in-Some : goal.returns-in-Some

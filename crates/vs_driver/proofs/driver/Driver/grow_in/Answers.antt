@@ -1,10 +1,8 @@
-use Rattle.std.proofs.Common.{◌≡◌, ◌≤◌, Option, Some, ap, subst, ◌∙◌, rules}
-use Rattle.std.specs.Prelude.{IfSome}
+use Rattle.std.{proofs.Common.{◌≡◌, ◌≤◌, Option, Some, ap, subst, ◌∙◌, rules}, specs.Prelude.IfSome}
 use Rattle.vs_conn.specs.End.{view_of}
 use Rattle.vs_flow.specs.Table.{entry_under}
-use Rattle.vs_driver_parts.proofs.Ids.{value_of, has_slot}
-use Rattle.vs_driver_parts.specs.{State.DriverConnection, State.DriverState, Held.HeldSlots}
-use Rattle.vs_driver.{specs.contracts.driver.Driver.the_view, proofs.Growing.grown_there, proofs.Growing.may_by}
+use Rattle.vs_driver_parts.{proofs.Ids.{value_of, has_slot}, specs.{State.{DriverConnection, DriverState}, Held.HeldSlots}}
+use Rattle.vs_driver.{specs.contracts.driver.Driver.the_view, proofs.Growing.{grown_there, may_by}}
 use Rattle.vs_conn.specs.declared.end.State.TheVariants as state
 use Rattle.vs_driver_parts.specs.declared.answers.Grown.TheVariants as rise
 use Rattle.vs_driver.proofs.driver.Driver.grow_in.Goals as goal

@@ -1,7 +1,6 @@
 use Rattle.std.proofs.Common.{◌≡◌, not, sym, ap, subst, ◌∙◌}
-use Rattle.vs_driver_parts.specs.{State.DriverConnection, State.DriverEntry, State.DriverState, State.entry_known_as, Listening.is_answered}
+use Rattle.vs_driver_parts.{specs.{State.{DriverConnection, DriverEntry, DriverState, entry_known_as}, Listening.is_answered}, proofs.Known.{mapped, answered_known}}
 use Rattle.vs_driver.specs.contracts.driver.Driver.{the_view}
-use Rattle.vs_driver_parts.proofs.Known.{mapped, answered_known}
 use Rattle.vs_driver.proofs.driver.Driver.is_answered.Goals as goal
 
 pub returns-in-Some : goal.returns-in-Some

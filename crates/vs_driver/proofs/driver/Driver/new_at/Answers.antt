@@ -1,10 +1,8 @@
 use Rattle.std.proofs.Common.{◌≡◌, ℕ, refl, sym, ap, subst, ◌∙◌, rules}
-use Rattle.vs_ring_port.specs.{Contents.RingContents, declared.queue.Queue.TheVariants.Event, declared.queue.Queue.TheVariants.Rx}
-use Rattle.vs_driver_parts.specs.{State.DriverState, Playing.MayPublishAll, Playing.Plays}
-use Rattle.vs_driver_parts.specs.Conversations.{load_cid, new_of, new_state, post_all, post_events}
-use Rattle.vs_driver.specs.contracts.driver.Driver.{the_view}
+use Rattle.vs_ring_port.specs.{Contents.RingContents, declared.queue.Queue.TheVariants.{Event, Rx}}
+use Rattle.vs_driver_parts.specs.{State.DriverState, Playing.{MayPublishAll, Plays}, Conversations.{load_cid, new_of, new_state, post_all, post_events}}
+use Rattle.vs_driver.{specs.contracts.driver.Driver.the_view, proofs.Rest.{IsLeft, all_left, may_next, then}}
 use Rattle.laws_driver.proofs.Calls.{new_honest, new_may}
-use Rattle.vs_driver.proofs.Rest.{IsLeft, all_left, may_next, then}
 use Rattle.vs_driver.proofs.driver.Driver.new_at.Goals as goal
 
 -- The driver begins with what it knows of its ring. Once the receive pages are posted, the event pages are left.

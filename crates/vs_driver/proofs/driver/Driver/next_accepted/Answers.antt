@@ -1,6 +1,5 @@
-use Rattle.std.proofs.Common.{◌≡◌, sym, ap, subst, ◌∙◌, rules, tests}
-use Rattle.std.proofs.lemmas.{Iterator.Search.find_from_yields_List, Iterator.YieldsList-from_slice}
-use Rattle.std.specs.{List.find, Option.option_copied}
+use Rattle.std.{proofs.{Common.{◌≡◌, sym, ap, subst, ◌∙◌, rules, tests}, lemmas.Iterator.{Search.find_from_yields_List, YieldsList-from_slice}}, specs.List.find}
+use Rattle.std.specs.Option.{option_copied}
 use Rattle.vs_driver_parts.specs.{State.DriverState, Listening.is_answered, Connections.waiting_on}
 use Rattle.vs_driver.proofs.Reading.{next_is}
 use Rattle.vs_driver.proofs.driver.Driver.next_accepted.Goals as goal

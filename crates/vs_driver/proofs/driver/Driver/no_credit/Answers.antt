@@ -1,7 +1,6 @@
 use Rattle.std.proofs.Common.{◌≡◌, ℕ, Some, sym, ap, ◌∙◌}
-use Rattle.vs_driver_parts.proofs.Ids.{value_of, has_slot}
-use Rattle.vs_driver_parts.specs.{State.DriverConnection, State.DriverEntry, State.DriverState, Held.HeldSlots, Connections.with_connection}
-use Rattle.vs_driver.{specs.contracts.driver.Driver.the_view, proofs.Sending.there, proofs.Sending.may_send_live, proofs.Sending.if_there}
+use Rattle.vs_driver_parts.{proofs.Ids.{value_of, has_slot}, specs.{State.{DriverConnection, DriverEntry, DriverState}, Held.HeldSlots, Connections.with_connection}}
+use Rattle.vs_driver.{specs.contracts.driver.Driver.the_view, proofs.Sending.{there, may_send_live, if_there}}
 use Rattle.vs_flow.specs.Table.{entry_under}
 use Rattle.vs_conn.specs.End.{wanting_credit}
 use Rattle.vs_credit.specs.Credit.{free_of}

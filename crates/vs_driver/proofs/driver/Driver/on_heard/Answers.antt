@@ -1,7 +1,6 @@
 use Rattle.std.proofs.Common.{◌≡◌, ℕ, Some, None, sym, ap, ◌∙◌}
-use Rattle.vs_flow.specs.{Table.entry_under, Table.Table, Table.entry_of, Flow.same_flow, declared.flow.Flow.Flow}
-use Rattle.vs_driver_parts.specs.State.{DriverConnection, DriverEntry, DriverState}
-use Rattle.vs_driver_parts.proofs.{Known.mapped, Known.unmapped, Ids.found_under, Packets.packet_known, Packets.packet_unknown}
+use Rattle.vs_flow.specs.{Table.{entry_under, Table, entry_of}, Flow.same_flow, declared.flow.Flow.Flow}
+use Rattle.vs_driver_parts.{specs.State.{DriverConnection, DriverEntry, DriverState}, proofs.{Known.{mapped, unmapped}, Ids.found_under, Packets.{packet_known, packet_unknown}}}
 use Rattle.laws_history.specs.declared.packet.Packet.{Packet}
 use Rattle.vs_page.specs.Log.{flow_to_guest}
 use Rattle.vs_driver.proofs.driver.Driver.on_heard.Goals as goal

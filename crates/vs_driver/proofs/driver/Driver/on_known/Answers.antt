@@ -1,10 +1,9 @@
 use Rattle.std.proofs.Common.{◌≡◌, true, false, Some, sym, ap, ◌∙◌}
 use Rattle.vs_flow.specs.Table.{entry_under}
-use Rattle.vs_driver_parts.proofs.Packets.{with_its, under_changed, refused, over, stays}
-use Rattle.vs_driver_parts.{specs.State.DriverState, specs.Held.HeldSlots, specs.Connections.with_connection, specs.Receiving.after_packet}
-use Rattle.vs_driver_parts.{specs.Receiving.ends_connection, proofs.Ids.value_of, proofs.Ids.has_slot}
+use Rattle.vs_driver_parts.{proofs.{Packets.{with_its, under_changed, refused, over, stays}, Ids.{value_of, has_slot}}, specs.{State.DriverState, Held.HeldSlots}}
+use Rattle.vs_driver_parts.specs.{Connections.with_connection, Receiving.{after_packet, ends_connection}}
 use Rattle.vs_driver.specs.contracts.driver.Driver.{the_view}
-use Rattle.vs_conn.specs.{End.verdict_of, End.is_refused, declared.end.Verdict.Verdict}
+use Rattle.vs_conn.specs.{End.{verdict_of, is_refused}, declared.end.Verdict.Verdict}
 use Rattle.laws_history.specs.declared.packet.Packet.{Packet}
 use Rattle.vs_driver.proofs.driver.Driver.on_known.Goals as goal
 

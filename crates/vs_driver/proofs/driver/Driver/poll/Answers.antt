@@ -1,7 +1,6 @@
 use Rattle.std.proofs.Common.{refl}
-use Rattle.vs_ring_port.specs.{Contents.RingContents, declared.queue.Queue.TheVariants.Event, declared.queue.Queue.TheVariants.Rx}
-use Rattle.vs_driver_parts.specs.Conversations.{Round, poll_of, poll_packets, poll_puts, poll_reaps, polled, put_all, reap_all, round_of}
-use Rattle.vs_driver_parts.specs.Conversations.{take_all, take_event, take_packet}
+use Rattle.vs_ring_port.specs.{Contents.RingContents, declared.queue.Queue.TheVariants.{Event, Rx}}
+use Rattle.vs_driver_parts.specs.Conversations.{Round, poll_of, poll_packets, poll_puts, poll_reaps, polled, put_all, reap_all, round_of, take_all, take_event, take_packet}
 use Rattle.vs_driver_parts.specs.{State.DriverState, Playing.Plays, declared.answers.Polled.Polled}
 use Rattle.laws_driver.proofs.Calls.{poll_honest, poll_may}
 use Rattle.vs_driver.proofs.Rest.{IsLeft, all_left, may_next, then}

@@ -1,7 +1,6 @@
 use Rattle.std.proofs.Common.{◌≡◌, None, is_some, ap, rules}
-use Rattle.vs_driver_parts.specs.State.{DriverEntry, entry_known_as}
-use Rattle.vs_driver_parts.proofs.Known.{KnownAt, known_at, unmapped}
-use Rattle.vs_driver.{specs.contracts.driver.Driver.the_view, proofs.Sending.ready_known, proofs.Sending.ready_unknown}
+use Rattle.vs_driver_parts.{specs.State.{DriverEntry, entry_known_as}, proofs.Known.{KnownAt, known_at, unmapped}}
+use Rattle.vs_driver.{specs.contracts.driver.Driver.the_view, proofs.Sending.{ready_known, ready_unknown}}
 use Rattle.vs_driver.proofs.driver.Driver.ready_to_send.Goals as goal
 
 pub ready_in-requires : goal.ready_in-requires

@@ -1,9 +1,7 @@
 use Rattle.std.proofs.Common.{◌≡◌, ℕ, List, None, length, sym, ap, ◌∙◌, rules}
-use Rattle.vs_driver_parts.specs.State.{DriverEntry, DriverState, entry_known_as}
-use Rattle.vs_driver_parts.specs.Connections.{bytes_read, after_recv, recv_of, unread_of_id}
-use Rattle.vs_driver_parts.proofs.Known.{KnownAt, known_at, recv_known, unread_known, after_recv_known, unmapped}
-use Rattle.vs_driver.proofs.Pipes.{others_by, pipe_by, known_recv_others, known_recv_pipe, gone_recv_others, gone_recv_pipe}
-use Rattle.vs_driver.{specs.contracts.driver.Driver.the_view, proofs.Kept.kept}
+use Rattle.vs_driver_parts.{specs.{State.{DriverEntry, DriverState, entry_known_as}, Connections.{bytes_read, after_recv, recv_of, unread_of_id}}, proofs.Known.{KnownAt, known_at}}
+use Rattle.vs_driver_parts.proofs.Known.{recv_known, unread_known, after_recv_known, unmapped}
+use Rattle.vs_driver.{proofs.{Pipes.{others_by, pipe_by, known_recv_others, known_recv_pipe, gone_recv_others, gone_recv_pipe}, Kept.kept}, specs.contracts.driver.Driver.the_view}
 use Rattle.vs_flow.specs.Table.{IsTable}
 use Rattle.laws_driver.proofs.Changing.{recv_changes}
 use Rattle.vs_driver.proofs.driver.Driver.recv.Goals as goal

@@ -1,9 +1,7 @@
-use Rattle.std.proofs.Common.{◌≡◌, ℕ, List, Some, None, length, take, drop, ◌++◌, ◌==◌, sym, ap, ◌∙◌, rules}
-use Rattle.std.specs.List.{find}
-use Rattle.vs_driver_parts.{specs.State.DriverState, specs.State.GoneConnection, specs.Connections.is_at_end, proofs.GoneChanges.read_none}
-use Rattle.vs_driver.specs.contracts.driver.Driver.{the_view}
-use Rattle.vs_driver.proofs.Reading.{gone_some, gone_ended, gone_reset}
-use Rattle.vs_driver.proofs.driver.Driver.recv_gone.Goals.{then-not-is_empty, else-not-is_empty+then-at_end, else-not-is_empty+else-at_end}
+use Rattle.std.{proofs.Common.{◌≡◌, ℕ, List, Some, None, length, take, drop, ◌++◌, ◌==◌, sym, ap, ◌∙◌, rules}, specs.List.find}
+use Rattle.vs_driver_parts.{specs.{State.{DriverState, GoneConnection}, Connections.is_at_end}, proofs.GoneChanges.read_none}
+use Rattle.vs_driver.{specs.contracts.driver.Driver.the_view, proofs.{Reading.{gone_some, gone_ended, gone_reset}, driver.Driver.recv_gone.Goals.then-not-is_empty}}
+use Rattle.vs_driver.proofs.driver.Driver.recv_gone.Goals.{else-not-is_empty+then-at_end, else-not-is_empty+else-at_end}
 use Rattle.vs_driver_parts.specs.declared.answers.Received.TheVariants as got
 use Rattle.vs_driver.proofs.driver.Driver.recv_gone.Goals as goal
 

@@ -1,7 +1,6 @@
 use Rattle.std.proofs.Common.{◌≡◌, false, Some, length, ◌==◌, sym, ap, ◌∙◌, rules}
 use Rattle.vs_flow.specs.Table.{entry_under}
-use Rattle.vs_driver_parts.proofs.Ids.{value_of, has_slot}
-use Rattle.vs_driver_parts.specs.{State.DriverConnection, State.DriverState, Held.HeldSlots}
+use Rattle.vs_driver_parts.{proofs.Ids.{value_of, has_slot}, specs.{State.{DriverConnection, DriverState}, Held.HeldSlots}}
 use Rattle.vs_driver.{specs.contracts.driver.Driver.the_view, proofs.Reading.entry_read_some}
 use Rattle.vs_driver.proofs.driver.Driver.recv_in.Goals as goal
 

@@ -1,10 +1,8 @@
-use Rattle.std.proofs.Common.{◌≡◌, ℕ, Some, None, length, ◌<◌, sym, ap, subst, ◌∙◌, rules, arith}
-use Rattle.std.{proofs.lemmas.Option.slice_get_within, specs.List.slice_get}
+use Rattle.std.{proofs.{Common.{◌≡◌, ℕ, Some, None, length, ◌<◌, sym, ap, subst, ◌∙◌, rules, arith}, lemmas.Option.slice_get_within}, specs.List.slice_get}
 use Rattle.vs_flow.specs.Table.{entry_under, Table, IsTable}
 use Rattle.vs_replies.specs.declared.Reply.{Reply}
-use Rattle.vs_driver_parts.specs.State.{DriverConnection, DriverEntry, DriverState}
-use Rattle.vs_driver_parts.proofs.Packets.{leaving-replies, first_left, first_under, none_left}
-use Rattle.vs_driver_parts.{specs.Connections.after_leaving, specs.Receiving.with_reply, specs.Receiving.reset_reply, proofs.Known.mapped}
+use Rattle.vs_driver_parts.specs.{State.{DriverConnection, DriverEntry, DriverState}, Connections.after_leaving, Receiving.{with_reply, reset_reply}}
+use Rattle.vs_driver_parts.proofs.{Packets.{leaving-replies, first_left, first_under, none_left}, Known.mapped}
 use Rattle.vs_driver.proofs.driver.Driver.reset.Goals as goal
 
 pub owe-requires : goal.owe-requires

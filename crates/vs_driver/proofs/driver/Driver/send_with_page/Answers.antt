@@ -1,14 +1,10 @@
-use Rattle.std.proofs.Common.{◌≡◌, ℕ, true, Some, ◌++◌, length, sym, ap, subst, ◌∙◌, rules}
-use Rattle.std.specs.Option.{option_map}
+use Rattle.std.{proofs.Common.{◌≡◌, ℕ, true, Some, ◌++◌, length, sym, ap, subst, ◌∙◌, rules}, specs.Option.option_map}
 use Rattle.vs_header.specs.{Packet.header_bytes, declared.Header.Header}
 use Rattle.vs_conn.specs.{End.with_payload_sent, Headers.payload_header}
 use Rattle.vs_flow.specs.Table.{entry_under}
-use Rattle.vs_driver_parts.specs.{State.DriverConnection, State.DriverEntry, State.DriverState, Playing.MayPublishAll, Playing.Plays}
-use Rattle.vs_driver_parts.specs.{Conversations.post_packet, Conversations.one_more_in_flight, Conversations.has_page, Held.HeldSlots}
-use Rattle.vs_driver_parts.specs.Connections.{with_connection, with_end, route_to_host}
-use Rattle.vs_driver_parts.proofs.{Ids.value_of, Ids.has_slot, Known.some_inj}
-use Rattle.vs_driver.specs.contracts.driver.Driver.{the_view}
-use Rattle.vs_driver.proofs.Sending.{there, may_post_payload, payload_posted}
+use Rattle.vs_driver_parts.specs.{State.{DriverConnection, DriverEntry, DriverState}, Playing.{MayPublishAll, Plays}, Conversations.{post_packet, one_more_in_flight, has_page}}
+use Rattle.vs_driver_parts.{specs.{Held.HeldSlots, Connections.{with_connection, with_end, route_to_host}}, proofs.{Ids.{value_of, has_slot}, Known.some_inj}}
+use Rattle.vs_driver.{specs.contracts.driver.Driver.the_view, proofs.Sending.{there, may_post_payload, payload_posted}}
 use Rattle.vs_driver.proofs.driver.Driver.send_with_page.Goals as goal
 
 header_is : (e : DriverEntry) (h : Header) (d s : DriverState) (slot len : ℕ) → d ≡ s → entry_under s.table slot ≡ Some e

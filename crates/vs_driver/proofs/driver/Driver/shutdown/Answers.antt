@@ -1,8 +1,6 @@
 use Rattle.std.proofs.Common.{sym, ap, ◌∙◌}
-use Rattle.vs_driver.proofs.Pipes.{dropped_by, known_dropped, known_kept, known_shutdown_others, others_by, unchanged_by}
-use Rattle.vs_driver.{specs.contracts.driver.Driver.the_view, proofs.Kept.kept}
-use Rattle.vs_driver_parts.proofs.Known.{KnownAt, known_at, shutdown_known, after_shutdown_known}
-use Rattle.vs_driver_parts.specs.{Connections.unread_of_id, State.DriverState}
+use Rattle.vs_driver.{proofs.{Pipes.{dropped_by, known_dropped, known_kept, known_shutdown_others, others_by, unchanged_by}, Kept.kept}, specs.contracts.driver.Driver.the_view}
+use Rattle.vs_driver_parts.{proofs.Known.{KnownAt, known_at, shutdown_known, after_shutdown_known}, specs.{Connections.unread_of_id, State.DriverState}}
 use Rattle.laws_driver.proofs.Changing.{shutdown_changes}
 use Rattle.vs_flow.specs.Table.{IsTable}
 use Rattle.vs_driver.proofs.driver.Driver.shutdown.Goals as goal

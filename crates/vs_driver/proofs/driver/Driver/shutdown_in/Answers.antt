@@ -1,7 +1,6 @@
 use Rattle.std.proofs.Common.{◌≡◌, Some, sym, ap, ◌∙◌, rules}
 use Rattle.vs_flow.specs.Table.{entry_under}
-use Rattle.vs_driver_parts.proofs.Ids.{value_of, has_slot}
-use Rattle.vs_driver_parts.specs.{State.DriverConnection, State.DriverState, Held.HeldSlots}
+use Rattle.vs_driver_parts.{proofs.Ids.{value_of, has_slot}, specs.{State.{DriverConnection, DriverState}, Held.HeldSlots}}
 use Rattle.vs_driver.{specs.contracts.driver.Driver.the_view, proofs.Reading.shut_in_live}
 use Rattle.vs_conn.specs.declared.end.State.TheVariants as state
 use Rattle.vs_driver.proofs.driver.Driver.shutdown_in.Goals as goal

@@ -1,8 +1,6 @@
 use Rattle.std.proofs.Common.{◌≡◌, ℕ, List, [], true, ◌-◌, refl, sym, ap, subst, ◌∙◌, arith}
-use Rattle.vs_contents.proofs.Loops.{while_more, while_end, may_step, may_more}
-use Rattle.vs_contents.specs.CallTree.{while_up_to}
-use Rattle.vs_driver_parts.specs.Playing.{CanMake, MayPublishAll, Plays, RingAllows}
-use Rattle.vs_driver_parts.{specs.State.DriverState, specs.Conversations.post_one, proofs.SlotChanges.all_front, proofs.SlotChanges.last_of}
+use Rattle.vs_contents.{proofs.Loops.{while_more, while_end, may_step, may_more}, specs.CallTree.while_up_to}
+use Rattle.vs_driver_parts.{specs.{Playing.{CanMake, MayPublishAll, Plays, RingAllows}, State.DriverState, Conversations.post_one}, proofs.SlotChanges.{all_front, last_of}}
 use Rattle.vs_ring_port.specs.Counts.{Counts, at, no_counts, one_more, with_count}
 use Rattle.vs_driver.proofs.Posting.{at_count, none_at, one_more_count, count_is, may_stage_one, one_staged}
 use Rattle.vs_driver.proofs.driver.Driver.stage_all.Goals as goal

@@ -1,10 +1,9 @@
-use Rattle.std.proofs.Common.{◌≡◌, ◌+◌, ◌-◌, ◌<◌, [], length}
-use Rattle.std.specs.List.{All}
+use Rattle.std.{proofs.Common.{◌≡◌, ◌+◌, ◌-◌, ◌<◌, [], length}, specs.List.All}
 use Rattle.vs_contents.specs.CallTree.{while_up_to}
-use Rattle.vs_ring_port.specs.{Counts.no_counts, Counts.with_count, Contents.RingContents}
-use Rattle.vs_driver_parts.specs.{State.DriverState, Conversations.posts, Conversations.post_one, Playing.MayPublishAll, Playing.Plays}
-use Rattle.vs_driver.proofs.driver.Driver.stage_all.Given as goal
+use Rattle.vs_ring_port.specs.{Counts.{no_counts, with_count}, Contents.RingContents}
+use Rattle.vs_driver_parts.specs.{State.DriverState, Conversations.{posts, post_one}, Playing.{MayPublishAll, Plays}}
 use Rattle.vs_limits.specs.declared.TheConstants.{STAGED_MAX}
+use Rattle.vs_driver.proofs.driver.Driver.stage_all.Given as goal
 
 -- whatever completes the rest completes the whole
 abbrev pub invariant-loop : goal.invariant-loop

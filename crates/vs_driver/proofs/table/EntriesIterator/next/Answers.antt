@@ -1,5 +1,4 @@
-use Rattle.std.proofs.Common.{◌≡◌, List, ◌∷◌, ◌+◌, map, drop, Some, sym, ap, ◌∙◌, rules}
-use Rattle.std.specs.List.{slice_get}
+use Rattle.std.{proofs.Common.{◌≡◌, List, ◌∷◌, ◌+◌, map, drop, Some, sym, ap, ◌∙◌, rules}, specs.List.slice_get}
 use Rattle.vs_conn.specs.declared.end.State.{State}
 use Rattle.vs_flow.specs.declared.flow.Flow.{Flow}
 use Rattle.vs_driver_parts.{specs.State.DriverEntry, proofs.Lists.drop_next}

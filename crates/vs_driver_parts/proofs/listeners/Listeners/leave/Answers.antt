@@ -1,7 +1,6 @@
 use Rattle.std.proofs.Common.{ap, sym, ◌∙◌, ◌≡◌, ◌==◌, ℕ, not, rules}
 use Rattle.arrayvec.proofs.ArrayVecLemmas.{filter-from_retain}
-use Rattle.vs_driver_parts.specs.{Listening.without_id, ListenerFields.listeners_of}
-use Rattle.vs_driver_parts.proofs.ListenerChanges.{waiting_there, waiting_nowhere}
+use Rattle.vs_driver_parts.{specs.{Listening.without_id, ListenerFields.listeners_of}, proofs.ListenerChanges.{waiting_there, waiting_nowhere}}
 use Rattle.vs_driver_parts.proofs.listeners.Listeners.leave.Goals.{in-Some, in-None}
 use Rattle.vs_driver_parts.proofs.listeners.Listeners.leave.Goals as goal
 

@@ -1,8 +1,6 @@
-use Rattle.std.proofs.Common.{◌≡◌, ◌∙◌, ap, arith, length, length-append, [], ◌∷◌, is_some, false, nat_le, ◌+◌}
-use Rattle.std.proofs.{lemmas.Bool.Decides.nat_tests, lemmas.List.length-map}
+use Rattle.std.proofs.{Common.{◌≡◌, ◌∙◌, ap, arith, length, length-append, [], ◌∷◌, is_some, false, nat_le, ◌+◌}, lemmas.{Bool.Decides.nat_tests, List.length-map}}
 use Rattle.vs_limits.specs.declared.TheConstants.{LISTENERS}
-use Rattle.vs_driver_parts.specs.{Listening.listener_on, Listening.with_port, ListenerFields.listener_of, ListenerFields.listeners_of}
-use Rattle.vs_driver_parts.proofs.ListenerChanges.{listened}
+use Rattle.vs_driver_parts.{specs.{Listening.{listener_on, with_port}, ListenerFields.{listener_of, listeners_of}}, proofs.ListenerChanges.listened}
 use Rattle.vs_driver_parts.proofs.listeners.Listeners.listen.Goals as goal
 
 grown : (c : goal.After-unwrap) → listeners_of c.insert.new.self.entries ≡ with_port c.args.port (listeners_of c.self.inside.ports.entries)

@@ -1,6 +1,5 @@
 use Rattle.std.proofs.Common.{ap, arith, length, sym, ◌∙◌}
-use Rattle.vs_driver_parts.specs.ListenerFields.{listeners_of}
-use Rattle.vs_driver_parts.proofs.ListenerChanges.{unlistened, no_more}
+use Rattle.vs_driver_parts.{specs.ListenerFields.listeners_of, proofs.ListenerChanges.{unlistened, no_more}}
 use Rattle.vs_driver_parts.proofs.listeners.Listeners.unlisten.Goals as goal
 
 pub invariant_of-self : goal.invariant_of-self

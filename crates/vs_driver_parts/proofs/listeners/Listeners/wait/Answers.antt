@@ -1,6 +1,5 @@
 use Rattle.std.proofs.Common.{ap, sym, ◌∙◌}
-use Rattle.vs_driver_parts.specs.{Listening.waiting_too, ListenerFields.listeners_of}
-use Rattle.vs_driver_parts.proofs.ListenerChanges.{waiting_there, waiting_nowhere}
+use Rattle.vs_driver_parts.{specs.{Listening.waiting_too, ListenerFields.listeners_of}, proofs.ListenerChanges.{waiting_there, waiting_nowhere}}
 use Rattle.vs_driver_parts.proofs.listeners.Listeners.wait.Goals.{in-Some, in-None}
 use Rattle.vs_driver_parts.proofs.listeners.Listeners.wait.Goals as goal
 

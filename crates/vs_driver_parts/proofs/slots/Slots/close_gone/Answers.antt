@@ -1,7 +1,6 @@
-use Rattle.std.proofs.Common.{◌≡◌, List, ◌==◌, Some, None, refl, sym, ap, ◌∙◌, rules}
-use Rattle.std.specs.{List.position, Option.option_map}
-use Rattle.vs_driver_parts.specs.{State.GoneConnection, Held.HeldSlots, contracts.slots.Slots.the_view}
-use Rattle.vs_driver_parts.proofs.{Lists.found_nowhere, Lists.found_slice, GoneChanges.closed_at, GoneChanges.closed_nowhere}
+use Rattle.std.{proofs.Common.{◌≡◌, List, ◌==◌, Some, None, refl, sym, ap, ◌∙◌, rules}, specs.{List.position, Option.option_map}}
+use Rattle.vs_driver_parts.{specs.{State.GoneConnection, Held.HeldSlots, contracts.slots.Slots.the_view}, proofs.{Lists.{found_nowhere, found_slice}, GoneChanges.closed_at}}
+use Rattle.vs_driver_parts.proofs.GoneChanges.{closed_nowhere}
 use Rattle.vs_driver_parts.proofs.slots.Slots.close_gone.Goals as goal
 
 pub returns-in-Some-clause-flow : goal.returns-in-Some-clause-flow

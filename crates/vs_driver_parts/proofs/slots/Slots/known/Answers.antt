@@ -1,8 +1,6 @@
-use Rattle.std.proofs.Common.{◌≡◌, ℕ, Some, sym, ap, ◌∙◌}
-use Rattle.std.specs.{Option.option_map, List.find}
+use Rattle.std.{proofs.Common.{◌≡◌, ℕ, Some, sym, ap, ◌∙◌}, specs.{Option.option_map, List.find}}
 use Rattle.vs_flow.specs.Table.{entry_under, value_under}
-use Rattle.vs_driver_parts.specs.State.{DriverEntry, is_known_as}
-use Rattle.vs_driver_parts.proofs.{Ids.found_under, Known.mapped}
+use Rattle.vs_driver_parts.{specs.State.{DriverEntry, is_known_as}, proofs.{Ids.found_under, Known.mapped}}
 use Rattle.vs_driver_parts.proofs.slots.Slots.known.Goals as goal
 
 pub returns : goal.returns

@@ -1,8 +1,6 @@
-use Rattle.std.proofs.Common.{◌≡◌, ◌+◌, ◌<◌, Some, None, refl, sym, ap, ◌∙◌, true, false, rules}
-use Rattle.std.specs.Option.{option_map}
+use Rattle.std.{proofs.Common.{◌≡◌, ◌+◌, ◌<◌, Some, None, refl, sym, ap, ◌∙◌, true, false, rules}, specs.Option.option_map}
 use Rattle.vs_flow.specs.Table.{value_under}
-use Rattle.vs_driver_parts.specs.State.{DriverEntry}
-use Rattle.vs_driver_parts.proofs.Ids.{known_slot, known_below}
+use Rattle.vs_driver_parts.{specs.State.DriverEntry, proofs.Ids.{known_slot, known_below}}
 use Rattle.vs_driver_parts.proofs.slots.Slots.known_as.Goals as goal
 
 pub returns-in_err-slot-clause-slot : goal.returns-in_err-slot-clause-slot

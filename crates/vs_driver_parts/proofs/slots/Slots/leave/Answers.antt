@@ -1,9 +1,7 @@
 use Rattle.std.proofs.{Common.{◌≡◌, ℕ, List, length, Some, true, false, sym, ap, ◌∙◌, rules, arith}, lemmas.List.Elements.All-push}
 use Rattle.vs_flow.specs.Table.{Table, entry_under, without}
-use Rattle.vs_driver_parts.specs.{Room.IsSpare, State.DriverConnection, State.GoneConnection, Connections.is_let_go, Held.HeldSlots}
-use Rattle.vs_driver_parts.specs.contracts.slots.Slots.{the_view}
-use Rattle.vs_driver_parts.proofs.{Ids.IsUnder, Ids.under, Numbers.numbers_without, Numbers.numbers_left}
-use Rattle.vs_driver_parts.proofs.SlotChanges.{left_free, left_kept, one_fewer}
+use Rattle.vs_driver_parts.specs.{Room.IsSpare, State.{DriverConnection, GoneConnection}, Connections.is_let_go, Held.HeldSlots, contracts.slots.Slots.the_view}
+use Rattle.vs_driver_parts.proofs.{Ids.{IsUnder, under}, Numbers.{numbers_without, numbers_left}, SlotChanges.{left_free, left_kept, one_fewer}}
 use Rattle.vs_driver_parts.proofs.slots.Slots.leave.Goals as goal
 
 pub invariant_of-self-then-let_go : goal.invariant_of-self-then-let_go

@@ -1,8 +1,6 @@
 use Rattle.std.proofs.Common.{◌≡◌, ◌+◌, ◌<◌, ◌≤◌, length, ◌∷◌, [], ap, ◌∙◌, rules, arith, length-append}
-use Rattle.vs_flow.specs.Table.{Table, with_entry, next_entry}
-use Rattle.vs_flow.proofs.Tables.{with_entry_sound}
-use Rattle.vs_driver_parts.specs.{Room.IsSpare, State.DriverConnection}
-use Rattle.vs_driver_parts.proofs.{Numbers.numbers_with_entry, SlotChanges.all_front}
+use Rattle.vs_flow.{specs.Table.{Table, with_entry, next_entry}, proofs.Tables.with_entry_sound}
+use Rattle.vs_driver_parts.{specs.{Room.IsSpare, State.DriverConnection}, proofs.{Numbers.numbers_with_entry, SlotChanges.all_front}}
 use Rattle.vs_limits.specs.declared.TheConstants.{LAST_ID}
 use Rattle.vs_driver_parts.proofs.slots.Slots.open_answering.Goals as goal
 

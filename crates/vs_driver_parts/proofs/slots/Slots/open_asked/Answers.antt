@@ -1,8 +1,6 @@
 use Rattle.std.proofs.Common.{◌≡◌, ◌+◌, ◌<◌, ◌≤◌, length, ◌∷◌, [], ap, ◌∙◌, rules, arith, length-append}
-use Rattle.vs_flow.specs.{Flow.host_flow, Table.Table, Table.entry_of, Table.with_entry, Table.next_entry, declared.flow.Flow.Flow}
-use Rattle.vs_flow.proofs.Tables.{with_entry_sound}
-use Rattle.vs_driver_parts.specs.{Room.IsSpare, State.DriverConnection}
-use Rattle.vs_driver_parts.proofs.{Numbers.numbers_with_entry, SlotChanges.new_flow, SlotChanges.all_front}
+use Rattle.vs_flow.{specs.{Flow.host_flow, Table.{Table, entry_of, with_entry, next_entry}, declared.flow.Flow.Flow}, proofs.Tables.with_entry_sound}
+use Rattle.vs_driver_parts.{specs.{Room.IsSpare, State.DriverConnection}, proofs.{Numbers.numbers_with_entry, SlotChanges.{new_flow, all_front}}}
 use Rattle.vs_limits.specs.declared.TheConstants.{LAST_PORT, LAST_ID}
 use Rattle.vs_driver_parts.proofs.slots.Slots.open_asked.Goals as goal
 

@@ -1,7 +1,6 @@
-use Rattle.std.proofs.Common.{◌≡◌, List, ◌==◌, Some, None, min, length, take, drop, ◌++◌, sym, ap, ◌∙◌, rules}
-use Rattle.std.specs.List.{position, find}
-use Rattle.vs_driver_parts.specs.{State.GoneConnection, Held.HeldSlots, contracts.slots.Slots.the_view}
-use Rattle.vs_driver_parts.proofs.{Lists.{found_nowhere, one_passes}, GoneChanges.{first_gone, read_empty, read_there, read_nowhere}}
+use Rattle.std.{proofs.Common.{◌≡◌, List, ◌==◌, Some, None, min, length, take, drop, ◌++◌, sym, ap, ◌∙◌, rules}, specs.List.{position, find}}
+use Rattle.vs_driver_parts.{specs.{State.GoneConnection, Held.HeldSlots, contracts.slots.Slots.the_view}, proofs.{Lists.{found_nowhere, one_passes}, GoneChanges.first_gone}}
+use Rattle.vs_driver_parts.proofs.GoneChanges.{read_empty, read_there, read_nowhere}
 use Rattle.vs_driver_parts.proofs.slots.Slots.read_gone.Goals as goal
 
 pub returns-in-Some-clause-count : goal.returns-in-Some-clause-count

@@ -1,8 +1,6 @@
-use Rattle.std.proofs.{Common.{◌≡◌, ◌<◌, length, Some, refl, ap, arith}, lemmas.List.Elements.All-push, lemmas.Option.slice_get_read}
-use Rattle.std.specs.List.{slice_get}
+use Rattle.std.{proofs.{Common.{◌≡◌, ◌<◌, length, Some, refl, ap, arith}, lemmas.{List.Elements.All-push, Option.slice_get_read}}, specs.List.slice_get}
 use Rattle.vs_flow.specs.declared.flow.Flow.{Flow}
-use Rattle.vs_driver_parts.specs.Room.{IsSpare}
-use Rattle.vs_driver_parts.proofs.Numbers.{numbers_gone_removed}
+use Rattle.vs_driver_parts.{specs.Room.IsSpare, proofs.Numbers.numbers_gone_removed}
 use Rattle.vs_driver_parts.proofs.slots.Slots.release.Goals as goal
 
 pub invariant_of-self : goal.invariant_of-self

@@ -1,8 +1,6 @@
-use Rattle.std.proofs.{Common.{◌≡◌, ℕ, List, ◌+◌, ◌∷◌, [], ◌++◌, length, ap, sym, ◌∙◌, arith}, lemmas.List.length-append}
-use Rattle.std.specs.List.{range_with_len}
-use Rattle.vs_outside.specs.{Host.HostContents, Host.Stream, HostProgram.HostMemory}
-use Rattle.vs_echo.specs.contracts.echo_host.EchoHost.{the_view}
-use Rattle.vs_echo.proofs.Echoes.{all_more, dials, ids_more}
+use Rattle.std.{proofs.{Common.{◌≡◌, ℕ, List, ◌+◌, ◌∷◌, [], ◌++◌, length, ap, sym, ◌∙◌, arith}, lemmas.List.length-append}, specs.List.range_with_len}
+use Rattle.vs_outside.specs.{Host.{HostContents, Stream}, HostProgram.HostMemory}
+use Rattle.vs_echo.{specs.contracts.echo_host.EchoHost.the_view, proofs.Echoes.{all_more, dials, ids_more}}
 use Rattle.vs_echo.proofs.echo_host.EchoHost.add_dialed.Goals as goal
 
 pub invariant_of-self-2 : goal.invariant_of-self-2

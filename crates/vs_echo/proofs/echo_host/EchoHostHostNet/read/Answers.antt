@@ -1,8 +1,6 @@
 use Rattle.std.proofs.{Common.{◌-◌, refl, sym, subst, ◌∙◌}, lemmas.List.Elements.All-set}
-use Rattle.vs_outside.specs.{Host.IsOpen, HostProgram.HostMemory}
-use Rattle.vs_outside.proofs.Streams.{after_reads, is_read}
-use Rattle.vs_echo.specs.{contracts.echo_host.EchoHost.the_view, Echo.IsEcho}
-use Rattle.vs_echo.proofs.Echoes.{same_ids}
+use Rattle.vs_outside.{specs.{Host.IsOpen, HostProgram.HostMemory}, proofs.Streams.{after_reads, is_read}}
+use Rattle.vs_echo.{specs.{contracts.echo_host.EchoHost.the_view, Echo.IsEcho}, proofs.Echoes.same_ids}
 use Rattle.vs_echo.proofs.echo_host.EchoHostHostNet.read.Goals as goal
 
 pub returns-clause-after : goal.returns-clause-after

@@ -1,8 +1,6 @@
 use Rattle.std.proofs.Common.{◌-◌, sym, subst, ◌∙◌}
-use Rattle.vs_outside.specs.{Host.IsOpen, HostProgram.HostMemory}
-use Rattle.vs_outside.proofs.Streams.{after_writes}
-use Rattle.vs_echo.specs.contracts.echo_host.EchoHost.{the_view}
-use Rattle.vs_echo.proofs.Echoes.{same_ids}
+use Rattle.vs_outside.{specs.{Host.IsOpen, HostProgram.HostMemory}, proofs.Streams.after_writes}
+use Rattle.vs_echo.{specs.contracts.echo_host.EchoHost.the_view, proofs.Echoes.same_ids}
 use Rattle.vs_echo.proofs.echo_host.EchoHostHostNet.write.Goals as goal
 
 pub returns-in-Ok-clause-after : goal.returns-in-Ok-clause-after

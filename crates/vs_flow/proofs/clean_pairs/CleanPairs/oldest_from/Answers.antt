@@ -1,7 +1,5 @@
-use Rattle.std.proofs.{Common.{◌≡◌, length, Some, None, refl, sym, subst, ◌∙◌, rules}, lemmas.Option.slice_get_read}
-use Rattle.std.specs.List.{position}
-use Rattle.vs_flow.specs.CleanPairs.{comes_from}
-use Rattle.vs_flow.proofs.Oldest.{IsPlaceOfOldest, oldest_at}
+use Rattle.std.{proofs.{Common.{◌≡◌, length, Some, None, refl, sym, subst, ◌∙◌, rules}, lemmas.Option.slice_get_read}, specs.List.position}
+use Rattle.vs_flow.{specs.CleanPairs.comes_from, proofs.Oldest.{IsPlaceOfOldest, oldest_at}}
 use Rattle.vs_flow.proofs.clean_pairs.CleanPairs.oldest_from.Goals as goal
 
 pub returns-in_err-place : goal.returns-in_err-place

@@ -1,8 +1,6 @@
-use Rattle.std.proofs.{Common.{ap, arith, length, refl, sym, ◌∙◌}, lemmas.Option.{slice_get_past, slice_get_read}}
-use Rattle.std.specs.Option.{option_and_then, option_copied}
+use Rattle.std.{proofs.{Common.{ap, arith, length, refl, sym, ◌∙◌}, lemmas.Option.{slice_get_past, slice_get_read}}, specs.Option.{option_and_then, option_copied}}
 use Rattle.slab.specs.Slab.{get}
-use Rattle.vs_flow.specs.TableFields.{table_of}
-use Rattle.vs_flow.proofs.Keys.{led_at, led_long}
+use Rattle.vs_flow.{specs.TableFields.table_of, proofs.Keys.{led_at, led_long}}
 use Rattle.vs_flow.proofs.table.FlowTable.at.Goals as goal
 
 pub returns-in_err-_slot-clause-entry : goal.returns-in_err-_slot-clause-entry

@@ -1,7 +1,6 @@
 use Rattle.std.proofs.Common.{◌∙◌}
 use Rattle.slab.specs.Slab.{get}
-use Rattle.vs_flow.specs.TableFields.{table_of}
-use Rattle.vs_flow.proofs.Keys.{led_long}
+use Rattle.vs_flow.{specs.TableFields.table_of, proofs.Keys.led_long}
 use Rattle.vs_flow.proofs.table.FlowTable.len.Goals as goal
 
 pub returns-clause-len : goal.returns-clause-len

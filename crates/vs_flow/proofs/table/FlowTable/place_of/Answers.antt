@@ -1,7 +1,6 @@
 use Rattle.std.proofs.Common.{subst, sym, ◌∙◌}
 use Rattle.slab.specs.Slab.{get}
-use Rattle.vs_flow.specs.{Entries.AreLedTo, TableFields.table_of}
-use Rattle.vs_flow.proofs.Keys.{led_position, slots_rise}
+use Rattle.vs_flow.{specs.{Entries.AreLedTo, TableFields.table_of}, proofs.Keys.{led_position, slots_rise}}
 use Rattle.vs_flow.proofs.table.FlowTable.place_of.Goals as goal
 
 pub place_in-requires : goal.place_in-requires

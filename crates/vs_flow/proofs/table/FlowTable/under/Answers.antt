@@ -1,5 +1,4 @@
-use Rattle.std.proofs.Common.{ap, ◌==◌, ◌∙◌}
-use Rattle.std.specs.{List.slice_get, Option.option_and_then, Option.option_copied}
+use Rattle.std.{proofs.Common.{ap, ◌==◌, ◌∙◌}, specs.{List.slice_get, Option.{option_and_then, option_copied}}}
 use Rattle.vs_flow.proofs.Entries.{find_position}
 use Rattle.vs_flow.proofs.table.FlowTable.under.Goals as goal
 

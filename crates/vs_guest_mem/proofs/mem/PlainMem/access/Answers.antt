@@ -1,6 +1,5 @@
 use Rattle.std.proofs.{Common.{refl, arith}, lemmas.Grind.common_steps}
-use Rattle.vs_guest_mem.specs.Plain.{memory_of}
-use Rattle.vs_guest_mem.proofs.Sound.{sound_access}
+use Rattle.vs_guest_mem.{specs.Plain.memory_of, proofs.Sound.sound_access}
 use Rattle.vs_guest_mem.proofs.mem.PlainMem.access.Goals as goal
 
 pub invariant_of-self : goal.invariant_of-self

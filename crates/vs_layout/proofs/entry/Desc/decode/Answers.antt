@@ -1,6 +1,5 @@
 use Rattle.std.proofs.Common.{ap, ◌∙◌, rules}
-use Rattle.vs_layout.specs.Entry.{desc_bytes}
-use Rattle.vs_layout.proofs.RoundTrip.{desc_bytes-desc_of}
+use Rattle.vs_layout.{specs.Entry.desc_bytes, proofs.RoundTrip.desc_bytes-desc_of}
 use Rattle.vs_layout.proofs.entry.Desc.decode.Goals as goal
 
 pub returns-clause-fields : goal.returns-clause-fields

@@ -1,6 +1,5 @@
 use Rattle.std.proofs.Common.{◌<◌, length, ap, arith}
-use Rattle.vs_outside.specs.HostProgram.{HostMemory}
-use Rattle.vs_outside.proofs.Streams.{as_many_unlabelled}
+use Rattle.vs_outside.{specs.HostProgram.HostMemory, proofs.Streams.as_many_unlabelled}
 use Rattle.vs_outside.proofs.mem_host.MemHost.change.Goals as goal
 
 pub invariant_of-self : goal.invariant_of-self

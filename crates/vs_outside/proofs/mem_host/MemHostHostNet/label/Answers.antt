@@ -1,7 +1,5 @@
-use Rattle.std.proofs.Common.{◌≡◌, true, sym, refl, ap, subst, ◌∙◌, arith}
-use Rattle.std.specs.Prelude.{is_none}
-use Rattle.vs_outside.specs.{Host.HostContents, Host.IsOpen, HostProgram.HostMemory, contracts.mem_host.MemHost.the_view}
-use Rattle.vs_outside.proofs.Streams.{labels_one, after_labels}
+use Rattle.std.{proofs.Common.{◌≡◌, true, sym, refl, ap, subst, ◌∙◌, arith}, specs.Prelude.is_none}
+use Rattle.vs_outside.{specs.{Host.{HostContents, IsOpen}, HostProgram.HostMemory, contracts.mem_host.MemHost.the_view}, proofs.Streams.{labels_one, after_labels}}
 use Rattle.vs_outside.proofs.mem_host.MemHostHostNet.label.Goals as goal
 
 pub push_reserved-requires : goal.push_reserved-requires

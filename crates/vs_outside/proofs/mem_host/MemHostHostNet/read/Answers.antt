@@ -1,6 +1,5 @@
 use Rattle.std.proofs.Common.{Bool, ◌-◌, length, get_or, set, ap, sym, ◌∙◌}
-use Rattle.vs_outside.specs.HostProgram.{HostMemory, after_call}
-use Rattle.vs_outside.proofs.Streams.{after_reads, is_read, read_counts_none}
+use Rattle.vs_outside.{specs.HostProgram.{HostMemory, after_call}, proofs.Streams.{after_reads, is_read, read_counts_none}}
 use Rattle.vs_outside.proofs.mem_host.MemHostHostNet.read.Goals as goal
 
 pub returns-clause-exact : goal.returns-clause-exact

@@ -1,6 +1,5 @@
 use Rattle.std.proofs.Common.{Bool, ◌-◌, length, get_or, set, ap, sym, ◌∙◌}
-use Rattle.vs_outside.specs.HostProgram.{HostMemory, after_call}
-use Rattle.vs_outside.proofs.Streams.{after_writes, write_counts_none, is_written}
+use Rattle.vs_outside.{specs.HostProgram.{HostMemory, after_call}, proofs.Streams.{after_writes, write_counts_none, is_written}}
 use Rattle.vs_outside.proofs.mem_host.MemHostHostNet.write.Goals as goal
 
 pub returns-in-Ok-clause-after : goal.returns-in-Ok-clause-after

@@ -1,7 +1,6 @@
 use Rattle.std.proofs.Common.{◌≡◌, [], true, false, ◌++◌, refl, sym, ap, rules, append-nil}
-use Rattle.vs_peer.specs.{Passing.Moves, Sending.shuts, Sending.between, declared.send.Side.Side}
+use Rattle.vs_peer.{specs.{Passing.Moves, Sending.{shuts, between}, declared.send.Side.Side}, proofs.Streams.{exposed_relates, relates_as, relates_then, shut_writes}}
 use Rattle.vs_peer.specs.declared.send.Side.TheVariants as side
-use Rattle.vs_peer.proofs.Streams.{exposed_relates, relates_as, relates_then, shut_writes}
 use Rattle.vs_peer.proofs.send.Sending.step.Goals as goal
 
 pub returns-then-self-bytes-clause-passes : goal.returns-then-self-bytes-clause-passes

@@ -1,5 +1,4 @@
-use Rattle.std.proofs.{lemmas.Bool.Decides.nat_tests, lemmas.List.length-set, lemmas.List.Elements.All-push}
-use Rattle.std.proofs.Common.{rules, ◌∙◌, ap, ℕ, ◌<◌, length, arith}
+use Rattle.std.proofs.{lemmas.{Bool.Decides.nat_tests, List.{length-set, Elements.All-push}}, Common.{rules, ◌∙◌, ap, ℕ, ◌<◌, length, arith}}
 use Rattle.vs_plain_driver.proofs.driver_queue.DriverQueue.reap.Goals as goal
 
 pub invariant_of-self-2 : goal.invariant_of-self-2

@@ -1,5 +1,4 @@
-use Rattle.std.proofs.Common.{rules, ◌≡◌, ◌∷◌, ◌∙◌, Some, ap, ℕ, ◌<◌, List, length, All, subst, arith}
-use Rattle.std.proofs.lemmas.List.{length-set, Elements.All-tail}
+use Rattle.std.proofs.{Common.{rules, ◌≡◌, ◌∷◌, ◌∙◌, Some, ap, ℕ, ◌<◌, List, length, All, subst, arith}, lemmas.List.{length-set, Elements.All-tail}}
 use Rattle.vs_plain_driver.proofs.driver_queue.DriverQueue.stage.Goals as goal
 
 pub invariant_of-self-2 : goal.invariant_of-self-2

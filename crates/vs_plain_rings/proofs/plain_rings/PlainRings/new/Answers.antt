@@ -1,7 +1,6 @@
 use Rattle.std.proofs.Common.{◌≡◌, cond, Some, None, ap, ◌∙◌, sym, subst}
 use Rattle.vs_ring_list.specs.Ends.{empty_ends}
-use Rattle.laws_plain_rings.specs.{Calls.ends_by, Exposed.first_ends, Parts.PartsState, Parts.new_parts, Tie.IsTiedTo}
-use Rattle.laws_plain_rings.proofs.Starting.{told_new}
+use Rattle.laws_plain_rings.{specs.{Calls.ends_by, Exposed.first_ends, Parts.{PartsState, new_parts}, Tie.IsTiedTo}, proofs.Starting.told_new}
 use Rattle.vs_plain_rings.proofs.Rings.{first_is}
 use Rattle.vs_plain_rings.proofs.plain_rings.PlainRings.new.Goals as goal
 

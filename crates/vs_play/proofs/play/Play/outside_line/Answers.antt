@@ -1,7 +1,6 @@
-use Rattle.std.proofs.{Common.sym, Common.subst, lemmas.Result.on_ok_weaker}
+use Rattle.std.proofs.{Common.{sym, subst}, lemmas.Result.on_ok_weaker}
 use Rattle.vs_script.specs.Outside.{host_view}
-use Rattle.vs_play.specs.Ready.{IsReady, PlayState}
-use Rattle.vs_play.proofs.Playing.{client_plays, grow_plays, host_plays, on_ok_both, reset_plays, tick_plays, turn_plays}
+use Rattle.vs_play.{specs.Ready.{IsReady, PlayState}, proofs.Playing.{client_plays, grow_plays, host_plays, on_ok_both, reset_plays, tick_plays, turn_plays}}
 use Rattle.vs_play.proofs.play.Play.outside_line.Goals as goal
 
 pub returns-in-Turn : goal.returns-in-Turn

@@ -1,7 +1,6 @@
-use Rattle.std.proofs.Common.{◌≡◌, ℕ, ◌+◌, ◌<◌, ◌∷◌, [], ◌++◌, List, length, true, refl, ap, ◌∙◌, arith}
-use Rattle.std.{specs.Prelude.nat_lt, proofs.lemmas.Bool.Decides.nat_tests}
+use Rattle.std.{proofs.{Common.{◌≡◌, ℕ, ◌+◌, ◌<◌, ◌∷◌, [], ◌++◌, List, length, true, refl, ap, ◌∙◌, arith}, lemmas.Bool.Decides.nat_tests}, specs.Prelude.nat_lt}
 use Rattle.vs_device_parts.specs.State.{DeviceState}
-use Rattle.vs_proxy_parts.specs.{State.Handshake, State.Turning, Turning.turning_of}
+use Rattle.vs_proxy_parts.specs.{State.{Handshake, Turning}, Turning.turning_of}
 use Rattle.vs_limits.specs.declared.TheConstants.{HANDSHAKES}
 use Rattle.vs_proxy.{specs.contracts.proxy.Proxy.the_view, proofs.Handshaking.accepts}
 use Rattle.vs_outside.specs.declared.host_net.Accepted.TheVariants as accepted

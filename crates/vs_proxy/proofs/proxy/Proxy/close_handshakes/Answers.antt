@@ -1,7 +1,6 @@
 use Rattle.std.proofs.Common.{◌≡◌, ◌<◌, ◌≤◌, length, refl, ap, ◌∙◌, rules}
 use Rattle.vs_ring_port.specs.Contents.{RingContents}
-use Rattle.vs_device_parts.specs.Playing.{situation}
-use Rattle.vs_device_parts.proofs.Each.{each_more, may_each_step, may_each_more, each_end}
+use Rattle.vs_device_parts.{specs.Playing.situation, proofs.Each.{each_more, may_each_step, may_each_more, each_end}}
 use Rattle.vs_proxy_parts.specs.{Handshakes.streams_of, Turns.close_handshake}
 use Rattle.vs_proxy.proofs.proxy.Proxy.close_handshakes.Goals as goal
 

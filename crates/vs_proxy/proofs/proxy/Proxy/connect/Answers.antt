@@ -1,11 +1,9 @@
-use Rattle.std.specs.Prelude.{Result}
-use Rattle.std.proofs.Common.{◌≡◌, ℕ, ◌+◌, false, true, sym, ap, subst, ◌∙◌}
+use Rattle.std.{specs.Prelude.Result, proofs.Common.{◌≡◌, ℕ, ◌+◌, false, true, sym, ap, subst, ◌∙◌}}
 use Rattle.vs_contents.proofs.Leads.{end_of}
-use Rattle.vs_flow.specs.{Flow.host_flow, declared.flow.Flow.Flow, declared.table.TableFault.TableFault}
-use Rattle.vs_device_parts.specs.{Calls.Allows, Playing.Runs, Playing.situation, State.DeviceState, Turns.open_of}
+use Rattle.vs_flow.specs.{Flow.host_flow, declared.{flow.Flow.Flow, table.TableFault.TableFault}}
+use Rattle.vs_device_parts.specs.{Calls.Allows, Playing.{Runs, situation}, State.DeviceState, Turns.open_of}
 use Rattle.vs_proxy_parts.specs.{Handshakes.may_open, State.{ProxyState, Turning, with_device}, Turning.{CountsFew, turning_of}}
-use Rattle.vs_proxy.specs.contracts.proxy.Proxy.{the_view}
-use Rattle.vs_proxy.proofs.{Counting.open_few, Handshaking.let_in, Handshaking.turned_away}
+use Rattle.vs_proxy.{specs.contracts.proxy.Proxy.the_view, proofs.{Counting.open_few, Handshaking.{let_in, turned_away}}}
 use Rattle.vs_proxy.proofs.proxy.Proxy.connect.Goals as goal
 
 pub returns-then-not-may_open-clause-calls : goal.returns-then-not-may_open-clause-calls

@@ -1,10 +1,9 @@
-use Rattle.std.specs.Prelude.{Result}
-use Rattle.std.proofs.Common.{◌≡◌, Bool, false, is_some, sym, ap, subst, ◌∙◌}
+use Rattle.std.{specs.Prelude.Result, proofs.Common.{◌≡◌, Bool, false, is_some, sym, ap, subst, ◌∙◌}}
 use Rattle.vs_contents.proofs.Leads.{end_of}
 use Rattle.vs_ring_port.specs.declared.failure.Failure.{Failure}
-use Rattle.vs_device_parts.specs.{Calls.Allows, Playing.MayRun, Playing.Runs, Playing.situation, Receiving.pay_event_of, State.DeviceState}
-use Rattle.vs_proxy_parts.specs.{State.ProxyState, State.Turning, State.with_device, Turning.CountsFew, Turning.turning_of}
-use Rattle.vs_proxy.{specs.contracts.proxy.Proxy.the_view, proofs.Counting.event_few, proofs.Staging.may_event, proofs.Staging.paid}
+use Rattle.vs_device_parts.specs.{Calls.Allows, Playing.{MayRun, Runs, situation}, Receiving.pay_event_of, State.DeviceState}
+use Rattle.vs_proxy_parts.specs.{State.{ProxyState, Turning, with_device}, Turning.{CountsFew, turning_of}}
+use Rattle.vs_proxy.{specs.contracts.proxy.Proxy.the_view, proofs.{Counting.event_few, Staging.{may_event, paid}}}
 use Rattle.vs_proxy.proofs.proxy.Proxy.event_stage.Goals as goal
 
 pub pay_event-paid-requires-clause-may : goal.pay_event-paid-requires-clause-may

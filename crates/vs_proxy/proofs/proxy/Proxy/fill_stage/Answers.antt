@@ -1,12 +1,9 @@
-use Rattle.std.specs.Prelude.{Result, Ok, Err}
-use Rattle.std.proofs.Common.{◌≡◌, ◌+◌, false, is_some, sym, ap, subst, ◌∙◌, arith}
+use Rattle.std.{specs.Prelude.{Result, Ok, Err}, proofs.Common.{◌≡◌, ◌+◌, false, is_some, sym, ap, subst, ◌∙◌, arith}}
 use Rattle.vs_contents.proofs.Leads.{end_of}
 use Rattle.vs_ring_port.specs.declared.failure.Failure.{Failure}
-use Rattle.vs_device_parts.specs.{Calls.Allows, Playing.MayRun, Playing.Runs, Playing.situation, Receiving.fill_rx_of, State.DeviceState}
-use Rattle.vs_device_parts.specs.declared.answers.Filled.{Filled}
+use Rattle.vs_device_parts.specs.{Calls.Allows, Playing.{MayRun, Runs, situation}, Receiving.fill_rx_of, State.DeviceState, declared.answers.Filled.Filled}
 use Rattle.vs_proxy_parts.specs.{State.{ProxyState, Turning, with_device}, Turning.{CountsFew, turning_of}, declared.tally.Tally.Tally}
-use Rattle.vs_proxy.specs.contracts.proxy.Proxy.{the_view}
-use Rattle.vs_proxy.proofs.{Counting.few_more, Filling.FewFilled, Filling.fill_few, Staging.filled_up, Staging.may_fill}
+use Rattle.vs_proxy.{specs.contracts.proxy.Proxy.the_view, proofs.{Counting.few_more, Filling.{FewFilled, fill_few}, Staging.{filled_up, may_fill}}}
 use Rattle.vs_proxy.proofs.proxy.Proxy.fill_stage.Goals as goal
 
 pub fill_rx-requires-clause-may : goal.fill_rx-requires-clause-may

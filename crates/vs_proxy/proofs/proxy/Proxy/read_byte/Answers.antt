@@ -1,13 +1,10 @@
 use Rattle.std.proofs.Common.{◌≡◌, ℕ, Bool, true, false, [], ◌∷◌, Option, Some, None, is_some, refl, sym, ap, subst, ◌∙◌, arith}
-use Rattle.vs_contents.{specs.CallTree.Done, proofs.Leads.leads_bind, proofs.Conditions.may_first}
+use Rattle.vs_contents.{specs.CallTree.Done, proofs.{Leads.leads_bind, Conditions.may_first}}
 use Rattle.vs_outside.specs.{Host.ReadsSome, declared.host_net.StreamRead.StreamRead}
 use Rattle.vs_ring_port.specs.Contents.{RingContents}
-use Rattle.vs_device_parts.specs.{Calls.Allows, Calls.DeviceTree, Calls.ReadStream, Connections.with_fault, Filling.bytes_read}
-use Rattle.vs_device_parts.specs.{Playing.CanMake, Playing.MayRun, Playing.Runs, Playing.situation, State.DeviceState}
-use Rattle.vs_proxy_parts.specs.Handshakes.{byte_read, dropping, handshake_on, host_fault}
-use Rattle.vs_proxy_parts.specs.{State.Handshake, State.ProxyState, State.Turning, Turning.turning_of}
-use Rattle.vs_proxy.specs.contracts.proxy.Proxy.{the_view}
-use Rattle.vs_proxy.proofs.Handshaking.{answered, is_on, may_answered}
+use Rattle.vs_device_parts.specs.{Calls.{Allows, DeviceTree, ReadStream}, Connections.with_fault, Filling.bytes_read, Playing.{CanMake, MayRun, Runs, situation}, State.DeviceState}
+use Rattle.vs_proxy_parts.specs.{Handshakes.{byte_read, dropping, handshake_on, host_fault}, State.{Handshake, ProxyState, Turning}, Turning.turning_of}
+use Rattle.vs_proxy.{specs.contracts.proxy.Proxy.the_view, proofs.Handshaking.{answered, is_on, may_answered}}
 use Rattle.vs_outside.specs.declared.host_net.StreamRead.TheVariants as read
 use Rattle.vs_proxy.proofs.proxy.Proxy.read_byte.Goals as goal
 

@@ -1,7 +1,6 @@
 use Rattle.std.proofs.Common.{◌≡◌, ◌<◌, ◌≤◌, length, refl, ap, ◌∙◌, rules, arith}
 use Rattle.vs_device_parts.proofs.Each.{each_more, may_each_step, may_each_more, each_end}
-use Rattle.vs_proxy_parts.specs.{Handshakes.read_line, Handshakes.streams_of, State.ProxyState, State.Turning, Turning.turning_of}
-use Rattle.vs_proxy_parts.specs.declared.tally.Tally.{Tally}
+use Rattle.vs_proxy_parts.specs.{Handshakes.{read_line, streams_of}, State.{ProxyState, Turning}, Turning.turning_of, declared.tally.Tally.Tally}
 use Rattle.vs_proxy.proofs.Counting.{few_more, few_then, none_came}
 use Rattle.vs_proxy.proofs.proxy.Proxy.read_lines.Goals as goal
 

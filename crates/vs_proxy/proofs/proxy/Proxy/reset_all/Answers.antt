@@ -1,10 +1,8 @@
-use Rattle.std.specs.Prelude.{Ok}
-use Rattle.std.proofs.Common.{◌≡◌, List, [], sym, ap, subst, ◌∙◌}
+use Rattle.std.{specs.Prelude.Ok, proofs.Common.{◌≡◌, List, [], sym, ap, subst, ◌∙◌}}
 use Rattle.vs_contents.specs.CallTree.{for_each}
-use Rattle.vs_device_parts.specs.{Playing.MayRun, Playing.Runs, Playing.situation, State.DeviceState, Turns.reset_of}
-use Rattle.vs_proxy_parts.specs.{Handshakes.streams_of, State.Handshake, State.ProxyState, State.with_device, Turns.close_handshake}
-use Rattle.vs_proxy.specs.contracts.proxy.Proxy.{the_view}
-use Rattle.vs_proxy.proofs.Resetting.{may_close_all, may_reset, was_reset}
+use Rattle.vs_device_parts.specs.{Playing.{MayRun, Runs, situation}, State.DeviceState, Turns.reset_of}
+use Rattle.vs_proxy_parts.specs.{Handshakes.streams_of, State.{Handshake, ProxyState, with_device}, Turns.close_handshake}
+use Rattle.vs_proxy.{specs.contracts.proxy.Proxy.the_view, proofs.Resetting.{may_close_all, may_reset, was_reset}}
 use Rattle.vs_proxy.proofs.proxy.Proxy.reset_all.Goals as goal
 
 pub reset-requires-clause-may : goal.reset-requires-clause-may

@@ -1,10 +1,9 @@
 use Rattle.std.proofs.Common.{◌≡◌, ℕ, ◌+◌, List, [], ◌∷◌, ◌++◌, Some, refl, sym, ap, subst, ◌∙◌}
+use Rattle.vs_device_parts.specs.{Calls.{Allows, CloseStream}, Playing.{CanMake, MayRun, Runs, situation}}
+use Rattle.vs_proxy_parts.specs.{Handshakes.{handshake_on, with_line, without_handshake, without_stream}, State.{Handshake, ProxyState, Turning}, Turning.{connecting, turning_of}}
+use Rattle.vs_proxy_parts.specs.declared.tally.Tally.{Tally}
+use Rattle.vs_proxy.{specs.contracts.proxy.Proxy.the_view, proofs.Handshaking.{goes_on, is_on, may_close, may_connect, was_closed, was_connected, without_client}}
 use Rattle.vs_uds.specs.declared.scan.Step.TheVariants as step
-use Rattle.vs_device_parts.specs.{Calls.Allows, Calls.CloseStream, Playing.CanMake, Playing.MayRun, Playing.Runs, Playing.situation}
-use Rattle.vs_proxy_parts.specs.{Handshakes.{handshake_on, with_line, without_handshake, without_stream}, State.{Handshake, ProxyState}}
-use Rattle.vs_proxy_parts.specs.{State.Turning, Turning.{connecting, turning_of}, declared.tally.Tally.Tally}
-use Rattle.vs_proxy.specs.contracts.proxy.Proxy.{the_view}
-use Rattle.vs_proxy.proofs.Handshaking.{goes_on, is_on, may_close, may_connect, was_closed, was_connected, without_client}
 use Rattle.vs_proxy.proofs.proxy.Proxy.take_byte.Goals as goal
 
 bad_is_no_more : step.Bad ≡ step.More → ⊥

@@ -1,9 +1,8 @@
 use Rattle.std.proofs.Common.{◌+◌, Bool, true, false, sym, ap, subst, ◌∙◌}
 use Rattle.vs_contents.proofs.Leads.{end_of}
-use Rattle.vs_device_parts.specs.Playing.{MayRun, Runs, situation}
-use Rattle.vs_device_parts.specs.{Calls.Allows, State.DeviceState, Transmitting.take_tx_of, declared.answers.Taken.Taken}
+use Rattle.vs_device_parts.specs.{Playing.{MayRun, Runs, situation}, Calls.Allows, State.DeviceState, Transmitting.take_tx_of, declared.answers.Taken.Taken}
 use Rattle.vs_proxy_parts.specs.{State.{ProxyState, Turning, with_device}, Turning.{CountsFew, turning_of}, declared.tally.Tally.Tally}
-use Rattle.vs_proxy.{specs.contracts.proxy.Proxy.the_view, proofs.Staging.may_take_one, proofs.Staging.took, proofs.Taking.take_few}
+use Rattle.vs_proxy.{specs.contracts.proxy.Proxy.the_view, proofs.{Staging.{may_take_one, took}, Taking.take_few}}
 use Rattle.vs_proxy.proofs.proxy.Proxy.take_one.Goals as goal
 
 pub take_tx-taken-requires-clause-may : goal.take_tx-taken-requires-clause-may

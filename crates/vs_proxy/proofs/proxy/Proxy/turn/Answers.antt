@@ -1,12 +1,10 @@
 use Rattle.std.proofs.Common.{◌≡◌, ℕ, refl, sym, ap, subst, ◌∙◌}
-use Rattle.vs_device_parts.specs.{Calls.DeviceTree, Playing.MayRun, Playing.Runs, Playing.situation, State.counters_of}
-use Rattle.vs_proxy_parts.specs.{Handshakes.shake_hands, State.ProxyState, State.Turning, State.start, Turning.turning_of}
-use Rattle.vs_proxy_parts.specs.Turns.{event_stage, fill_stage, pump_stage, take_stage, tick_stage, turn_of, turned, unless_failed}
-use Rattle.vs_proxy_parts.specs.declared.{answers.Turn.Turn, tally.Tally.Tally}
-use Rattle.laws_proxy.proofs.Ordered.{turn_honest, turn_may, turn_streamed, turn_streams}
-use Rattle.laws_proxy.proofs.Account.{Events.turn_tells_event, Packets.turn_counts, Packets.turn_faults, Packets.turn_is_judged, Turning.turn_accounted}
-use Rattle.vs_proxy.proofs.WholeTurn.{from_end, from_event, from_fill, from_hands, from_pump, from_take, may_event, may_now, may_then}
-use Rattle.vs_proxy.proofs.WholeTurn.{may_tick, nothing, stage_then, ticks}
+use Rattle.vs_device_parts.specs.{Calls.DeviceTree, Playing.{MayRun, Runs, situation}, State.counters_of}
+use Rattle.vs_proxy_parts.specs.{Handshakes.shake_hands, State.{ProxyState, Turning, start}, Turning.turning_of, Turns.{event_stage, fill_stage, pump_stage, take_stage}}
+use Rattle.vs_proxy_parts.specs.{Turns.{tick_stage, turn_of, turned, unless_failed}, declared.{answers.Turn.Turn, tally.Tally.Tally}}
+use Rattle.laws_proxy.proofs.{Ordered.{turn_honest, turn_may, turn_streamed, turn_streams}, Account.{Events.turn_tells_event, Packets.{turn_counts, turn_faults, turn_is_judged}}}
+use Rattle.laws_proxy.proofs.Account.Turning.{turn_accounted}
+use Rattle.vs_proxy.proofs.WholeTurn.{from_end, from_event, from_fill, from_hands, from_pump, from_take, may_event, may_now, may_then, may_tick, nothing, stage_then, ticks}
 use Rattle.vs_proxy.proofs.proxy.Proxy.turn.Goals as goal
 
 -- the turn starts with nothing done

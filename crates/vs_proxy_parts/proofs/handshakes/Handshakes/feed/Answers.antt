@@ -1,8 +1,6 @@
-use Rattle.std.proofs.Common.{◌≡◌, List, ◌==◌, false, Some, None, sym, ap, ◌∙◌, rules, arith}
-use Rattle.std.{specs.List.find, specs.List.position, proofs.lemmas.List.length-set, proofs.lemmas.List.Elements.All-set}
+use Rattle.std.{proofs.{Common.{◌≡◌, List, ◌==◌, false, Some, None, sym, ap, ◌∙◌, rules, arith}, lemmas.List.{length-set, Elements.All-set}}, specs.List.{find, position}}
 use Rattle.vs_uds.specs.{ConnectLine.connect_step, Reading.is_decided, declared.connect.TheConstants.CONNECT_MAX}
-use Rattle.vs_proxy_parts.specs.State.{Handshake}
-use Rattle.vs_proxy_parts.proofs.Waiting.{found_nowhere, undecided, fed_line, fed_more, fed_over}
+use Rattle.vs_proxy_parts.{specs.State.Handshake, proofs.Waiting.{found_nowhere, undecided, fed_line, fed_more, fed_over}}
 use Rattle.vs_proxy_parts.proofs.handshakes.Handshakes.feed.Goals as goal
 
 pub returns-in_default-clause-step : goal.returns-in_default-clause-step

@@ -1,7 +1,5 @@
-use Rattle.std.proofs.Common.{◌≡◌, List, ◌==◌, Some, None, sym, ◌∙◌, rules}
-use Rattle.std.specs.List.{position}
-use Rattle.vs_proxy_parts.specs.State.{Handshake}
-use Rattle.vs_proxy_parts.proofs.Waiting.{found_nowhere, none_without, first_at, without_first}
+use Rattle.std.{proofs.Common.{◌≡◌, List, ◌==◌, Some, None, sym, ◌∙◌, rules}, specs.List.position}
+use Rattle.vs_proxy_parts.{specs.State.Handshake, proofs.Waiting.{found_nowhere, none_without, first_at, without_first}}
 use Rattle.vs_proxy_parts.proofs.handshakes.Handshakes.remove.Goals as goal
 
 pub returns-in-Some : goal.returns-in-Some

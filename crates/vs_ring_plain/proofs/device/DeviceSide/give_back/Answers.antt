@@ -1,6 +1,5 @@
 use Rattle.std.proofs.Common.{All, ap, subst, sym}
-use Rattle.vs_ring_plain.specs.{PieceTable.HeldState, Side.IsSoundHold}
-use Rattle.vs_ring_plain.proofs.{DeviceOrder.order_with, HeldChains.sound_in, HeldChains.sound_left}
+use Rattle.vs_ring_plain.{specs.{PieceTable.HeldState, Side.IsSoundHold}, proofs.{DeviceOrder.order_with, HeldChains.{sound_in, sound_left}}}
 use Rattle.vs_ring_plain.proofs.device.DeviceSide.give_back.Goals as goal
 
 pub invariant_of-self : goal.invariant_of-self

@@ -1,8 +1,7 @@
 use Rattle.std.proofs.Common.{◌≡◌, ◌≤◌, ℕ, List, [], length, refl, sym, ap, ◌∙◌, subst, arith}
 use Rattle.vs_guest_mem.specs.Memory.{Memory}
 use Rattle.vs_ring_port.specs.Contents.{Read}
-use Rattle.vs_ring_plain.specs.{declared.piece.Piece.Piece, Accesses.over, Chain.total_len, Device.DeviceState, Device.answer_to}
-use Rattle.vs_ring_plain.specs.{Device.with_memory, Pieces.reading, Pieces.spans, Side.state_in}
+use Rattle.vs_ring_plain.specs.{declared.piece.Piece.Piece, Accesses.over, Chain.total_len, Device.{DeviceState, answer_to, with_memory}, Pieces.{reading, spans}, Side.state_in}
 use Rattle.vs_ring_plain.proofs.{DeviceOrder.{held_of, order_with}, HeldChains.{held_inside, held_readable, sound_in}}
 use Rattle.vs_ring_plain.proofs.device.DeviceSide.read_chain.Goals as goal
 

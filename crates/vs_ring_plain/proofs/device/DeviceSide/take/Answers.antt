@@ -1,7 +1,6 @@
 use Rattle.std.proofs.Common.{◌%◌, ◌∙◌, All, Option, Result, refl, subst, sym, List}
 use Rattle.vs_ring_port.specs.declared.{device_ring.Chain.Chain, failure.Failure.Failure}
-use Rattle.vs_ring_plain.specs.{Accesses.over, Chain.taking, Device.HeldChain, Side.IsSoundHold, Take.ring_in}
-use Rattle.vs_ring_plain.proofs.{DeviceOrder.order_with, HeldChains.sound_kept}
+use Rattle.vs_ring_plain.{specs.{Accesses.over, Chain.taking, Device.HeldChain, Side.IsSoundHold, Take.ring_in}, proofs.{DeviceOrder.order_with, HeldChains.sound_kept}}
 use Rattle.vs_ring_plain.proofs.device.DeviceSide.take.Goals as goal
 
 pub take-requires-clause-free : goal.take-requires-clause-free

@@ -1,7 +1,6 @@
 use Rattle.std.proofs.Common.{◌≡◌, List, Contains, map, sym, ap, ◌∙◌, subst}
 use Rattle.vs_ring_port.specs.declared.device_ring.Chain.{Chain}
-use Rattle.vs_ring_plain.specs.{declared.holds.HeldPieces.HeldPieces, Device.HeldChain, Device.hold_of, Device.pieces_of}
-use Rattle.vs_ring_plain.specs.PieceTable.{HeldState, list_at, pieces_in}
+use Rattle.vs_ring_plain.specs.{declared.holds.HeldPieces.HeldPieces, Device.{HeldChain, hold_of, pieces_of}, PieceTable.{HeldState, list_at, pieces_in}}
 use Rattle.vs_ring_plain.proofs.HeldChains.{IsFound, chains-all_held, pieces_found}
 use Rattle.vs_ring_plain.proofs.holds.HeldChains.pieces.Goals as goal
 

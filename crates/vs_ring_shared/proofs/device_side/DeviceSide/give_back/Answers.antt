@@ -1,9 +1,8 @@
 use Rattle.std.proofs.Common.{ℕ, ◌+◌, ◌%◌, ◌∙◌, ap, sym, subst, Contains, take}
 use Rattle.vs_page.specs.Fair.{IsFairLog}
-use Rattle.vs_ring_port.specs.{Chains.bytes_in, Chains.chains_of, EndLog.entries_returned, declared.queue.Queue.Queue}
+use Rattle.vs_ring_port.specs.{Chains.{bytes_in, chains_of}, EndLog.entries_returned, declared.queue.Queue.Queue}
 use Rattle.vs_ring_rule.specs.{Steps.removed, Rule.queue_in}
-use Rattle.vs_ring_shared.specs.{Countings.CountsDevice, Countings.entries_in, Holdings.all_held, Sights.DeviceSight, Sights.returned_queue}
-use Rattle.vs_ring_shared.specs.declared.counters.DeviceCounters.{DeviceCounters}
+use Rattle.vs_ring_shared.specs.{Countings.{CountsDevice, entries_in}, Holdings.all_held, Sights.{DeviceSight, returned_queue}, declared.counters.DeviceCounters.DeviceCounters}
 use Rattle.vs_ring_shared.proofs.{Countings.{count_notice, count_put, counts_turn}, DeviceCalls.{returns_rx, returns_tx, returns_event}}
 use Rattle.vs_page.specs.Log as log
 use Rattle.vs_ring_shared.proofs.device_side.DeviceSide.give_back.Goals as goal

@@ -1,12 +1,10 @@
-use Rattle.std.proofs.Common.{◌≡◌, ℕ, ◌+◌, ◌%◌, ◌∷◌, length, refl, ap, subst, sym}
-use Rattle.std.{proofs.lemmas.Option.IfSome_then, specs.Prelude.IfSome}
+use Rattle.std.{proofs.{Common.{◌≡◌, ℕ, ◌+◌, ◌%◌, ◌∷◌, length, refl, ap, subst, sym}, lemmas.Option.IfSome_then}, specs.Prelude.IfSome}
 use Rattle.vs_page.specs.Held.{listed, packet_held}
 use Rattle.vs_ring_port.specs.{EndLog.entries_taken, declared.queue.Queue.Queue}
-use Rattle.vs_ring_rule.specs.{OneQueue.HoldsWhole, Rule.flags_of, Rule.queue_in}
-use Rattle.vs_ring_shared.specs.{Holdings.all_held, Sights.{DeviceSight, TakesOne, sight_of, took_queue}}
-use Rattle.vs_ring_shared.specs.{Countings.CountsDevice, DeviceStates.DeviceTakesChain, declared.counters.DeviceCounters.DeviceCounters}
-use Rattle.vs_ring_shared.proofs.DeviceCalls.{room_to_hold, seen_chain, takes_tx}
-use Rattle.vs_ring_shared.proofs.{DriverCalls.same_table, Countings.{count_taken, counts_turn, one_packet}}
+use Rattle.vs_ring_rule.specs.{OneQueue.HoldsWhole, Rule.{flags_of, queue_in}}
+use Rattle.vs_ring_shared.specs.{Holdings.all_held, Sights.{DeviceSight, TakesOne, sight_of, took_queue}, Countings.CountsDevice, DeviceStates.DeviceTakesChain}
+use Rattle.vs_ring_shared.{specs.declared.counters.DeviceCounters.DeviceCounters, proofs.{DeviceCalls.{room_to_hold, seen_chain, takes_tx}, DriverCalls.same_table}}
+use Rattle.vs_ring_shared.proofs.Countings.{count_taken, counts_turn, one_packet}
 use Rattle.vs_ring_shared.proofs.device_side.DeviceSide.take_next.Goals as goal
 
 pub take_chain-requires-clause-room : goal.take_chain-requires-clause-room

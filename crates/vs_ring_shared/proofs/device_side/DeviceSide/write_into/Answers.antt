@@ -1,7 +1,6 @@
 use Rattle.std.proofs.Common.{◌≤◌, sym, arith, subst, length, Contains}
 use Rattle.vs_ring_port.specs.Chains.{bytes_in, chains_of}
-use Rattle.vs_ring_shared.specs.{Holdings.all_held, Sights.DeviceSight}
-use Rattle.vs_ring_shared.proofs.{DeviceCalls.writes, HeldSlots.in_pages-written, HeldSlots.writable_in}
+use Rattle.vs_ring_shared.{specs.{Holdings.all_held, Sights.DeviceSight}, proofs.{DeviceCalls.writes, HeldSlots.{in_pages-written, writable_in}}}
 use Rattle.vs_ring_shared.proofs.device_side.DeviceSide.write_into.Goals as goal
 
 pub write-requires-clause-in_page : goal.write-requires-clause-in_page

@@ -1,10 +1,9 @@
 use Rattle.std.proofs.Common.{refl, sym, subst}
 use Rattle.vs_page.specs.Fair.{IsFairLog}
-use Rattle.vs_ring_port.specs.{EndLog.entries_published, declared.queue.Queue.Queue, declared.queue.Queue.TheVariants.Tx}
+use Rattle.vs_ring_port.specs.{EndLog.entries_published, declared.queue.Queue.{Queue, TheVariants.Tx}}
 use Rattle.vs_ring_rule.specs.Rule.{queue_in}
-use Rattle.vs_ring_shared.specs.{DriverStates.Goes, Sights.QueueSight, Sights.Sight, Sights.gave_queue, Sights.sight_in}
-use Rattle.vs_ring_shared.specs.declared.counters.DriverCounters.{DriverCounters}
-use Rattle.vs_ring_shared.proofs.{Countings.count_published, Countings.counts_tx, DriverCalls.goes_tx, DriverCalls.seen_queue}
+use Rattle.vs_ring_shared.specs.{DriverStates.Goes, Sights.{QueueSight, Sight, gave_queue, sight_in}, declared.counters.DriverCounters.DriverCounters}
+use Rattle.vs_ring_shared.proofs.{Countings.{count_published, counts_tx}, DriverCalls.{goes_tx, seen_queue}}
 use Rattle.vs_page.specs.Log as log
 use Rattle.vs_ring_shared.proofs.driver_side.DriverSide.publish_staged.Goals as goal
 

@@ -1,11 +1,8 @@
-use Rattle.std.proofs.{Common.Some, Common.ℕ, Common.◌+◌, Common.◌%◌, Common.refl, Common.subst, lemmas.Option.IfSome_then}
-use Rattle.std.specs.Prelude.{IfSome}
+use Rattle.std.{proofs.{Common.{Some, ℕ, ◌+◌, ◌%◌, refl, subst}, lemmas.Option.IfSome_then}, specs.Prelude.IfSome}
 use Rattle.vs_page.specs.Fair.{IsFairLog}
-use Rattle.vs_ring_port.specs.{EndLog.entries_reaped, declared.queue.Queue.Queue, declared.queue.Queue.TheVariants.{Event, Rx}}
-use Rattle.vs_ring_shared.specs.{DriverStates.Goes, Sights.ReapsOne, Sights.Sight, Sights.sight_of, Sights.took_queue}
-use Rattle.vs_ring_shared.specs.declared.counters.DriverCounters.{DriverCounters}
-use Rattle.vs_ring_shared.proofs.Countings.{count_event, count_got, counts_event, counts_rx}
-use Rattle.vs_ring_shared.proofs.DriverCalls.{goes_event, goes_rx, same_table, seen_back}
+use Rattle.vs_ring_port.specs.{EndLog.entries_reaped, declared.queue.Queue.{Queue, TheVariants.{Event, Rx}}}
+use Rattle.vs_ring_shared.{specs.{DriverStates.Goes, Sights.{ReapsOne, Sight, sight_of, took_queue}, declared.counters.DriverCounters.DriverCounters}, proofs.Countings.count_event}
+use Rattle.vs_ring_shared.proofs.{Countings.{count_got, counts_event, counts_rx}, DriverCalls.{goes_event, goes_rx, same_table, seen_back}}
 use Rattle.vs_page.specs.Log as log
 use Rattle.vs_ring_shared.proofs.driver_side.DriverSide.reap_page.Goals as goal
 

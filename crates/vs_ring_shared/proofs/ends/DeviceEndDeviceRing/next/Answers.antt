@@ -1,7 +1,6 @@
 use Rattle.std.proofs.Common.{subst, ◌∙◌}
 use Rattle.vs_ring_port.specs.{Contents.Take, DeviceCalls.DeviceAllows}
-use Rattle.vs_ring_shared.specs.Sights.{DeviceSight, device_contents}
-use Rattle.vs_ring_shared.proofs.Exposed.{allows_none, allows_take, taken_table}
+use Rattle.vs_ring_shared.{specs.Sights.{DeviceSight, device_contents}, proofs.Exposed.{allows_none, allows_take, taken_table}}
 use Rattle.vs_ring_port.specs.declared.device_ring.Next.TheVariants as next
 use Rattle.vs_ring_shared.proofs.ends.DeviceEndDeviceRing.next.Goals as goal
 

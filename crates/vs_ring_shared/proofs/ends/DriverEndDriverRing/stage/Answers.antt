@@ -1,7 +1,6 @@
 use Rattle.std.proofs.Common.{refl, ap, ◌∙◌, subst}
-use Rattle.vs_ring_port.specs.{Counts.one_more, DriverCalls.DriverAllows, DriverCalls.Stage}
-use Rattle.vs_ring_shared.specs.Sights.{Sight, driver_contents, driver_log, flight_of}
-use Rattle.vs_ring_shared.proofs.Exposed.{allows_stage, flight_staged}
+use Rattle.vs_ring_port.specs.{Counts.one_more, DriverCalls.{DriverAllows, Stage}}
+use Rattle.vs_ring_shared.{specs.Sights.{Sight, driver_contents, driver_log, flight_of}, proofs.Exposed.{allows_stage, flight_staged}}
 use Rattle.vs_ring_shared.proofs.ends.DriverEndDriverRing.stage.Goals as goal
 
 pub stage_page-requires : goal.stage_page-requires

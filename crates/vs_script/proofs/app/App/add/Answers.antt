@@ -1,5 +1,4 @@
-use Rattle.vs_script.specs.{App.instruction_view, declared.script.TheConstants.MAX_INSTRUCTIONS}
-use Rattle.vs_script.proofs.Adding.{pushed-ok, pushed-fault}
+use Rattle.vs_script.{specs.{App.instruction_view, declared.script.TheConstants.MAX_INSTRUCTIONS}, proofs.Adding.{pushed-ok, pushed-fault}}
 use Rattle.vs_script.proofs.app.App.add.Goals as goal
 
 pub returns-clause-ok : goal.returns-clause-ok

@@ -1,7 +1,5 @@
-use Rattle.std.proofs.Common.{◌++◌, take, ap, ◌∙◌, arith}
-use Rattle.std.proofs.lemmas.List.{take_all}
-use Rattle.vs_script.specs.Data.{bytes_of, content_of}
-use Rattle.vs_script.proofs.Filling.{is_long}
+use Rattle.std.proofs.{Common.{◌++◌, take, ap, ◌∙◌, arith}, lemmas.List.take_all}
+use Rattle.vs_script.{specs.Data.{bytes_of, content_of}, proofs.Filling.is_long}
 use Rattle.vs_script.proofs.data.Data.to_vec.Goals as goal
 
 pub returns : goal.returns

@@ -1,7 +1,5 @@
-use Rattle.std.proofs.Common.{◌≡◌, ◌≤◌, ◌+◌, ◌++◌, length, take, drop, ap, sym, ◌∙◌, arith, rules}
-use Rattle.std.proofs.lemmas.{List.drop-drop, Slice.drop-put_mid, Slice.take-put_mid}
-use Rattle.vs_script.specs.Data.{filled_bytes}
-use Rattle.vs_script.proofs.Filling.{more_of_them}
+use Rattle.std.proofs.{Common.{◌≡◌, ◌≤◌, ◌+◌, ◌++◌, length, take, drop, ap, sym, ◌∙◌, arith, rules}, lemmas.{List.drop-drop, Slice.{drop-put_mid, take-put_mid}}}
+use Rattle.vs_script.{specs.Data.filled_bytes, proofs.Filling.more_of_them}
 use Rattle.vs_script.proofs.data.Fill.copy_to.Goals as goal
 
 pub loop-done-preserved : goal.loop-done-preserved

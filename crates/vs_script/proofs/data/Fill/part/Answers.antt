@@ -1,6 +1,5 @@
 use Rattle.std.proofs.Common.{◌+◌, ◌*◌, ◌-◌, ◌/◌, ◌%◌, take, drop, ap, arith}
-use Rattle.vs_script.specs.declared.data.TheConstants.{SEVENS}
-use Rattle.vs_script.proofs.Filling.{in_run}
+use Rattle.vs_script.{specs.declared.data.TheConstants.SEVENS, proofs.Filling.in_run}
 use Rattle.vs_script.proofs.data.Fill.part.Goals as goal
 
 pub returns-clause-bytes : goal.returns-clause-bytes

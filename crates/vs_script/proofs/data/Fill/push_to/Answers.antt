@@ -1,6 +1,5 @@
 use Rattle.std.proofs.Common.{◌≡◌, ◌++◌, if◌then◌else◌, is_ok, length, take, drop, ap, subst, ◌∙◌, append_assoc, arith}
-use Rattle.vs_script.specs.Data.{filled_bytes}
-use Rattle.vs_script.proofs.Filling.{all_of_them, more_of_them}
+use Rattle.vs_script.{specs.Data.filled_bytes, proofs.Filling.{all_of_them, more_of_them}}
 use Rattle.vs_script.proofs.data.Fill.push_to.Goals as goal
 
 pub loop-done-preserved : goal.loop-done-preserved

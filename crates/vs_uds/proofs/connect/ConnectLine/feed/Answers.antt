@@ -1,6 +1,5 @@
 use Rattle.std.proofs.Common.{◌≡◌, ◌≤◌, ◌↔◌, ℕ, List, length, subst, sym}
-use Rattle.vs_uds.specs.{declared.scan.Step.Step, declared.scan.Step.TheVariants.Port, ConnectLine.IsConnectLine, ConnectLine.connect_step}
-use Rattle.vs_uds.proofs.ConnectLines.{connect_step-IsConnectLine}
+use Rattle.vs_uds.{specs.{declared.scan.Step.{Step, TheVariants.Port}, ConnectLine.{IsConnectLine, connect_step}}, proofs.ConnectLines.connect_step-IsConnectLine}
 use Rattle.vs_uds.proofs.connect.ConnectLine.feed.Goals as goal
 
 pub returns-clause-port : goal.returns-clause-port

@@ -1,6 +1,5 @@
 use Rattle.std.proofs.Common.{◌≡◌, ◌≤◌, ◌↔◌, ℕ, List, length, subst, sym}
-use Rattle.vs_uds.specs.{declared.scan.Step.Step, declared.scan.Step.TheVariants.Port, OkLine.IsOkLine, OkLine.ok_step}
-use Rattle.vs_uds.proofs.OkLines.{ok_step-IsOkLine}
+use Rattle.vs_uds.{specs.{declared.scan.Step.{Step, TheVariants.Port}, OkLine.{IsOkLine, ok_step}}, proofs.OkLines.ok_step-IsOkLine}
 use Rattle.vs_uds.proofs.ok.OkLine.feed.Goals as goal
 
 pub returns-clause-port : goal.returns-clause-port
