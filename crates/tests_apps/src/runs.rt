@@ -8,7 +8,8 @@ use std::alloc::{AllocError, AllocGlobal};
 use std::sync::Wait;
 use std::test::Fail;
 use std::thread::Threads;
-use vs_outside::FreeGate;
+use vs_load::load;
+use vs_outside::{FreeGate, StepClock};
 use vs_run_apps::whole::RunError;
 
 /// What the report of a run says of which no connection is left.
@@ -45,6 +46,31 @@ fn is_held_up<R: AllocGlobal + Threads + Wait + Sync>(
     Ok(matches!(ended, Ok(0)) && told.came())
 }
 
+/// The same of a load of two apps, which each get back what they send.
+fn is_load_held_up<R: AllocGlobal + Threads + Wait + Sync>(
+    rt: &R,
+    waits_for: WaitsFor,
+) -> Result<bool, AllocError> {
+    let told = Told::new();
+    let mut gates = Vec::new(rt.alloc());
+    for _ in 0..2 {
+        gates.push(HoldingGate::new(&told, waits_for))?;
+    }
+    let gate = HoldingGate::new(&told, waits_for);
+    let line = load(
+        rt,
+        rt.alloc(),
+        1,
+        2,
+        100,
+        8,
+        &mut StepClock::new(),
+        gates,
+        gate,
+    )?;
+    Ok(told.came() && line.as_str() == "conns 2 bytes 200 matched 200\n")
+}
+
 /// Whether a run ends without a report because the host doesn't start.
 fn is_refused<R: AllocGlobal + Threads + Wait + Sync>(rt: &R) -> Result<bool, AllocError> {
     let gates = Vec::new(rt.alloc());
@@ -55,12 +81,14 @@ fn is_refused<R: AllocGlobal + Threads + Wait + Sync>(rt: &R) -> Result<bool, Al
 #[test]
 fn call_one_waits_for_call_two(rt: HostRuntime) -> Result<(), Fail> {
     assert!(rt; is_held_up(&rt, WaitsFor::SecondApp)?);
+    assert!(rt; is_load_held_up(&rt, WaitsFor::SecondApp)?);
     Ok(())
 }
 
 #[test]
 fn device_turns_while_a_guest_call_holds_the_lock(rt: HostRuntime) -> Result<(), Fail> {
     assert!(rt; is_held_up(&rt, WaitsFor::Turn)?);
+    assert!(rt; is_load_held_up(&rt, WaitsFor::Turn)?);
     Ok(())
 }
 

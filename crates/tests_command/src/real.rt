@@ -9,6 +9,7 @@ use std::os::unix::net::{UnixListener, UnixStream};
 use std::sync::Wait;
 use std::test::Fail;
 use std::thread::{self, Threads};
+use std::time::Duration;
 use std::{process, time};
 use vs_flow::Flow;
 use vs_outside::{
@@ -16,7 +17,7 @@ use vs_outside::{
     Started, StreamRead, StreamWrite,
 };
 use vs_peer::{DONE, REFUSED, WAITED};
-use vs_real::{BackoffGate, MachineClock, ReadSource, UnixHost, WriteSink};
+use vs_real::{BackoffGate, MachineClock, ReadSource, StartError, UnixHost, WriteSink};
 
 /// Steps in a row in which nothing moves, where the other end answers at last.
 const PATIENT: u32 = 1_000_000;
@@ -191,6 +192,34 @@ fn a_host_accepts_its_own_dial(rt: HostRuntime) -> Result<(), Fail> {
     assert!(rt; fs::exists(&rt, path.as_str())?);
     drop(host);
     assert!(rt; !fs::exists(&rt, path.as_str())?);
+    Ok(())
+}
+
+#[test]
+fn a_start_tells_what_is_in_its_way(rt: HostRuntime) -> Result<(), Fail> {
+    let path = format!(in rt.alloc(); "/tmp/vs_real-{}-start", process::id(rt.process()))?;
+    let lost = format!(in rt.alloc(); "/tmp/vs_real-{}-none/v.sock", process::id(rt.process()))?;
+    let mut first = UnixHost::new(rt.clone()?)?;
+    let mut second = UnixHost::new(rt.clone()?)?;
+    assert!(rt; first.start(path.as_str()) == Started::Ready);
+    assert!(rt; second.start(path.as_str()) == Started::Failed);
+    assert!(rt; second.start_error() == Some(StartError::PathExists));
+    assert!(rt; second.start(lost.as_str()) == Started::Failed);
+    assert!(rt; second.start_error() == Some(StartError::NoFolder));
+
+    // What another host made stays.
+    drop(second);
+    assert!(rt; fs::exists(&rt, path.as_str())?);
+    Ok(())
+}
+
+#[test]
+fn a_client_that_came_in_a_wait_is_accepted_at_once(rt: HostRuntime) -> Result<(), Fail> {
+    let path = format!(in rt.alloc(); "/tmp/vs_real-{}-wait", process::id(rt.process()))?;
+    let mut host = UnixHost::new(rt.clone()?)?;
+    assert!(rt; connected(&mut host, path.as_str()));
+    host.wait(Duration::from_secs(1));
+    assert!(rt; host.accept() == Accepted::Stream(2));
     Ok(())
 }
 

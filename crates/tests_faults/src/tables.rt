@@ -10,15 +10,16 @@ use tests_support::{COUNTED, FAULT_COUNTED};
 /// So many calls; the status of a command of which one of these fails, and what it prints, in two parts.
 type Row = (u64, u8, &'static str, &'static str);
 
-/// Whether a command ends as these rows say, whichever call fails: those of the first row are its first calls, and so on. The last row is
-/// that of a call that isn't made.
+/// Whether a command ends as these rows say, whichever call fails: those of the first row are its first calls behind so many, and so on. The
+/// last row is that of a call that isn't made, where all calls are there.
 fn ends<R: AllocGlobal + Wait + Threads + Sync>(
     rt: &R,
     command: &Command,
     called: Called,
+    before: u64,
     rows: &[Row],
 ) -> Result<bool, AllocError> {
-    let mut n = 0u64;
+    let mut n = before;
     for (calls, status, printed, last) in rows {
         for _ in 0..*calls {
             n = n.saturating_add(1);
@@ -55,77 +56,117 @@ fn is_cut_off<R: AllocGlobal + Wait + Threads + Sync>(
 
 const PLAY: Command = Command {
     line: "vsock play",
-    source: "host listen 52\nconnect 52\nturn\npoll\nhost write 1 7969\nsend 1 6869\nturn\npoll\nrecv 1 9\n",
+    source: "listen 1234\nclient\nhost write 1 434f4e4e45435420313233340a616263\nturn\npoll\naccept 1234\nsend 1 78\nturn\npoll\nrecv 1 10\n",
     path: "v.sock",
 };
 
-const PLAY_PIECES: [&str; 13] = [
+const PLAY_PIECES: [&str; 14] = [
     "ok\n",
-    "conn 1 on 1024 52\n",
-    "turned 1 1 0 0 1 0\n",
-    "polled 1 0 0\n",
+    "stream 1\n",
     "ok\n",
-    "took 2\n",
-    "turned 1 1 2 2 0 0\n",
+    "turned 0 1 13 0 1 0\n",
+    "polled 1 1 0\n",
+    "conn 1 on 1234 1073741824\n",
+    "took 1\n",
+    "turned 2 1 3 15 0 0\n",
     "polled 1 0 0\n",
-    "got 2 7969\n",
+    "got 3 616263\n",
     "guest open 1\n",
     "device open 1\n",
-    "stream 1 1024 52 wrote 2 7969 read 2 6869\n",
+    "stream 1 1234 1073741824 wrote 3 616263 read 1 78\n",
     COUNTED,
 ];
 
 const PLAY_READS: [Row; 2] = [
-    (7, 3, "read fault\n", ""),
+    (9, 3, "read fault\n", ""),
     (
         1,
         0,
-        "ok\nconn 1 on 1024 52\nturned 1 1 0 0 1 0\npolled 1 0 0\nok\ntook 2\nturned 1 1 2 2 0 0\npolled 1 0 0\ngot 2 7969\n\
-         guest open 1\ndevice open 1\nstream 1 1024 52 wrote 2 7969 read 2 6869\n",
+        "ok\nstream 1\nok\nturned 0 1 13 0 1 0\npolled 1 1 0\nconn 1 on 1234 1073741824\ntook 1\nturned 2 1 3 15 0 0\npolled 1 0 0\n\
+         got 3 616263\nguest open 1\ndevice open 1\nstream 1 1234 1073741824 wrote 3 616263 read 1 78\n",
         COUNTED,
     ),
 ];
 
 /// What the play prints behind the answer of `host fail`, where no stream fails.
 const PLAY_WHOLE: &str =
-    "ok\nok\nconn 1 on 1024 52\nturned 1 1 0 0 1 0\npolled 1 0 0\nok\ntook 2\nturned 1 1 2 2 0 0\npolled 1 0 0\ngot 2 7969\n\
-     guest open 1\ndevice open 1\nstream 1 1024 52 wrote 2 7969 read 2 6869\n";
+    "ok\nok\nstream 1\nok\nturned 0 1 13 0 1 0\npolled 1 1 0\nconn 1 on 1234 1073741824\ntook 1\nturned 2 1 3 15 0 0\npolled 1 0 0\n\
+     got 3 616263\nguest open 1\ndevice open 1\nstream 1 1234 1073741824 wrote 3 616263 read 1 78\n";
 
-const PLAY_HOST: [Row; 5] = [
-    // The dial.
+const PLAY_ACCEPT: [Row; 1] = [
+    // The accept of the client, who is accepted in the next turn.
     (
         1,
         0,
-        "ok\nok\nconn 1 on 1024 52\nturned 1 1 0 0 0 0\npolled 1 0 0\nno stream\nreset\nturned 0 0 0 0 0 0\npolled 0 0 0\nreset\n\
-         guest open 0\ndevice open 0\n",
+        "ok\nok\nstream 1\nok\nturned 0 0 0 0 0 0\npolled 0 0 0\nnone\nunknown\nturned 0 1 13 0 1 0\npolled 1 1 0\nempty\n\
+         guest open 1\ndevice open 1\nstream 1 1234 1073741824 wrote 0 - read 0 -\n",
         FAULT_COUNTED,
     ),
-    // The accepts of both turns.
-    (2, 0, PLAY_WHOLE, FAULT_COUNTED),
-    // The write.
+];
+
+const PLAY_HOST: [Row; 4] = [
+    // The accept of the second turn.
+    (1, 0, PLAY_WHOLE, FAULT_COUNTED),
+    // The write of the OK line.
     (
         1,
         0,
-        "ok\nok\nconn 1 on 1024 52\nturned 1 1 0 0 1 0\npolled 1 0 0\nok\ntook 2\nturned 1 1 0 0 0 1\npolled 1 0 0\nreset\n\
-         guest open 0\ndevice open 0\nstream 1 1024 52 wrote 0 - read 0 -\n",
+        "ok\nok\nstream 1\nok\nturned 0 1 13 0 1 0\npolled 1 1 0\nconn 1 on 1234 1073741824\ntook 1\nturned 2 1 0 0 0 1\npolled 1 0 0\n\
+         reset\nguest open 0\ndevice open 0\nstream 1 1234 1073741824 wrote 0 - read 0 -\n",
         FAULT_COUNTED,
     ),
-    // The read.
+    // The read behind the line.
     (
         1,
         0,
-        "ok\nok\nconn 1 on 1024 52\nturned 1 1 0 0 1 0\npolled 1 0 0\nok\ntook 2\nturned 1 1 0 2 0 1\npolled 1 0 0\nreset\n\
-         guest open 0\ndevice open 0\nstream 1 1024 52 wrote 0 - read 2 6869\n",
+        "ok\nok\nstream 1\nok\nturned 0 1 13 0 1 0\npolled 1 1 0\nconn 1 on 1234 1073741824\ntook 1\nturned 2 1 0 15 0 1\npolled 1 0 0\n\
+         reset\nguest open 0\ndevice open 0\nstream 1 1234 1073741824 wrote 0 - read 1 78\n",
         FAULT_COUNTED,
     ),
     (1, 0, PLAY_WHOLE, COUNTED),
 ];
 
+const DIAL: Command = Command {
+    line: "vsock play",
+    source: "host listen 52\nconnect 52\nturn\npoll\nsend 1 6869\n",
+    path: "v.sock",
+};
+
+const DIAL_HOST: [Row; 1] = [
+    // The dial.
+    (
+        1,
+        0,
+        "ok\nok\nconn 1 on 1024 52\nturned 1 1 0 0 0 0\npolled 1 0 0\nreset\nguest open 0\ndevice open 0\n",
+        FAULT_COUNTED,
+    ),
+];
+
+/// Whether a client whose line can't be read further, once these many bytes of it came, gets no connection.
+fn is_line_cut<R: AllocGlobal + Wait + Threads + Sync>(
+    rt: &R,
+    came: u64,
+) -> Result<bool, AllocError>
+    requires { came < 13 }
+{
+    let text = format!(in rt.alloc();
+        "ok\nok\nstream 1\nok\nturned 0 0 {came} 0 0 0\npolled 0 0 0\nnone\nunknown\nturned 0 0 0 0 0 0\npolled 0 0 0\nunknown\n\
+         guest open 0\ndevice open 0\nstream 1 - - wrote 0 - read 0 -\n{FAULT_COUNTED}"
+    )?;
+    let (ended, sink) = failing(rt, &PLAY, Called::OwnHost, came + 2)?;
+    Ok(ended == 0 && sink.bytes() == text.as_bytes())
+}
+
 #[test]
 fn each_call_of_a_play_fails_once(rt: HostRuntime) -> Result<(), Fail> {
-    assert!(rt; ends(&rt, &PLAY, Called::Source, &PLAY_READS)?);
+    assert!(rt; ends(&rt, &PLAY, Called::Source, 0, &PLAY_READS)?);
     assert!(rt; is_cut_off(&rt, &PLAY, &PLAY_PIECES)?);
-    assert!(rt; ends(&rt, &PLAY, Called::OwnHost, &PLAY_HOST)?);
+    assert!(rt; ends(&rt, &PLAY, Called::OwnHost, 0, &PLAY_ACCEPT)?);
+    for came in 0..13 {
+        assert!(rt; is_line_cut(&rt, came)?);
+    }
+    assert!(rt; ends(&rt, &PLAY, Called::OwnHost, 14, &PLAY_HOST)?);
+    assert!(rt; ends(&rt, &DIAL, Called::OwnHost, 0, &DIAL_HOST)?);
     Ok(())
 }
 
@@ -170,10 +211,10 @@ const RUN_HOST: [Row; 6] = [
 
 #[test]
 fn each_call_of_a_run_fails_once(rt: HostRuntime) -> Result<(), Fail> {
-    assert!(rt; ends(&rt, &RUN, Called::Source, &RUN_READS)?);
+    assert!(rt; ends(&rt, &RUN, Called::Source, 0, &RUN_READS)?);
     assert!(rt; is_cut_off(&rt, &RUN, &RUN_PIECES)?);
-    assert!(rt; ends(&rt, &RUN, Called::Start, &RUN_START)?);
-    assert!(rt; ends(&rt, &RUN, Called::Host, &RUN_HOST)?);
+    assert!(rt; ends(&rt, &RUN, Called::Start, 0, &RUN_START)?);
+    assert!(rt; ends(&rt, &RUN, Called::Host, 0, &RUN_HOST)?);
     Ok(())
 }
 
@@ -202,8 +243,8 @@ const PEER_HOST: [Row; 4] = [
 
 #[test]
 fn each_call_of_a_client_fails_once(rt: HostRuntime) -> Result<(), Fail> {
-    assert!(rt; ends(&rt, &PEER, Called::Source, &PEER_READS)?);
+    assert!(rt; ends(&rt, &PEER, Called::Source, 0, &PEER_READS)?);
     assert!(rt; is_cut_off(&rt, &PEER, &PEER_PIECES)?);
-    assert!(rt; ends(&rt, &PEER, Called::Host, &PEER_HOST)?);
+    assert!(rt; ends(&rt, &PEER, Called::Host, 0, &PEER_HOST)?);
     Ok(())
 }
