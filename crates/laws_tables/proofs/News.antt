@@ -1,5 +1,6 @@
 -- Ends that pass a test, among those of a flow, when entries come, change and go, and over the steps of an end of many connections.
-use Rattle.std.proofs.{Common.{◌≡◌, ℕ, Bool, true, false, cond, ◌&&◌, ◌||◌, ◌++◌, List, [], ◌∷◌, length, refl, sym, ap, subst, ◌∙◌, arith}, lemmas.Grind.common_steps}
+use Rattle.std.{specs.List.list_any, proofs.Common.{◌≡◌, ℕ, Bool, true, false, cond, ◌&&◌, ◌||◌, ◌++◌, List, [], ◌∷◌, length, refl, sym, ap, subst, ◌∙◌, arith}}
+use Rattle.std.proofs.lemmas.Grind.{common_steps}
 use Rattle.vs_conn.specs.{End.{ConnectionEnd, answering, asked, end_after, is_of, paid_of, with_payload_sent}, declared.end.Owed.Owed}
 use Rattle.vs_flow.specs.{Flow.same_flow, declared.flow.Flow.Flow}
 use Rattle.vs_header.specs.declared.Header.{Header}
@@ -7,19 +8,18 @@ use Rattle.laws_history.specs.{Packets.{is_request, is_rst}, declared.packet.Pac
 use Rattle.vs_limits.specs.declared.TheConstants.{BUF_ALLOC}
 use Rattle.vs_page.{proofs.Flows.same_is, specs.{Log.{Role, flow_got}, Open.is_dropped}}
 use Rattle.laws_tables.specs.{Ends.{Ends, FlowEnd, answer_kind, ends_of, replaced, without_flow}, Both.{Asks, Decides, Decision, MakesReset, Opens, Pays, Sends, Step, Takes}}
-use Rattle.laws_tables.specs.{Both.{TakesReset, after_packet, answered, decided, part_after}, Asked.has_one, Steps.{HasEnd, is_kept, left, with_clean, with_end}}
-use Rattle.laws_tables.proofs.Entries.{replaced_other}
+use Rattle.laws_tables.{specs.{Both.{TakesReset, after_packet, answered, decided, part_after}, Steps.{HasEnd, is_kept, left, with_clean, with_end}}, proofs.Entries.replaced_other}
 use Rattle.vs_conn.specs.declared.end.Owed.TheVariants as owed
 
 module _ (test : ConnectionEnd → Bool) where
   pub added_one : (f g : Flow) (e : ConnectionEnd) (xs : List FlowEnd)
-      → has_one test (ends_of f (xs ++ record { flow = g; end = e } ∷ [])) ≡ (has_one test (ends_of f xs) || (same_flow f g && test e))
+      → list_any test (ends_of f (xs ++ record { flow = g; end = e } ∷ [])) ≡ (list_any test (ends_of f xs) || (same_flow f g && test e))
   added_one f g e [] = grind (arith, common_steps)
   added_one f g e (x ∷ xs) = let rest = added_one f g e xs in grind (arith, common_steps)
 
   -- Where one passes it after this, one did before.
   abbrev pub MakesNone : Flow → List FlowEnd → List FlowEnd → Type 0
-  MakesNone f old new = has_one test (ends_of f new) ≡ true → has_one test (ends_of f old) ≡ true
+  MakesNone f old new = list_any test (ends_of f new) ≡ true → list_any test (ends_of f old) ≡ true
 
   pub leaves : (f g : Flow) (xs : List FlowEnd) → MakesNone f xs (without_flow g xs)
   leaves f g [] is = absurd cc
@@ -28,22 +28,22 @@ module _ (test : ConnectionEnd → Bool) where
   -- An end that comes passes it on another flow at most.
   pub comes : (f g : Flow) (e : ConnectionEnd) (xs : List FlowEnd) → (same_flow f g && test e) ≡ false
       → MakesNone f xs (xs ++ record { flow = g; end = e } ∷ [])
-  comes f g e xs none is = by (has_one test (ends_of f xs)) (same_flow f g && test e) none (sym (added_one f g e xs) ∙ is)
+  comes f g e xs none is = by (list_any test (ends_of f xs)) (same_flow f g && test e) none (sym (added_one f g e xs) ∙ is)
     where
       by : (h b : Bool) → b ≡ false → (h || b) ≡ true → h ≡ true
       by = grind (arith, common_steps)
 
   -- A flow with an end that passes it, and one whose end changes to one that doesn't.
   pub some_one : (g : Flow) (e : ConnectionEnd) (es : List ConnectionEnd) (xs : List FlowEnd) → ends_of g xs ≡ e ∷ es → test e ≡ true
-      → has_one test (ends_of g xs) ≡ true
-  some_one g e es xs is one = ap (has_one test) is ∙ ap (λ (b : Bool). b || has_one test es) one
+      → list_any test (ends_of g xs) ≡ true
+  some_one g e es xs is one = ap (list_any test) is ∙ ap (λ (b : Bool). b || list_any test es) one
 
-  pub none_replaced : (g : Flow) (now : ConnectionEnd) (xs : List FlowEnd) → test now ≡ false → has_one test (ends_of g (replaced g now xs)) ≡ false
+  pub none_replaced : (g : Flow) (now : ConnectionEnd) (xs : List FlowEnd) → test now ≡ false → list_any test (ends_of g (replaced g now xs)) ≡ false
   none_replaced g now [] none = refl
   none_replaced g now (x ∷ xs) none = by (same_flow g x.flow) refl (none_replaced g now xs none)
     where
-      by : (a : Bool) → same_flow g x.flow ≡ a → has_one test (ends_of g (replaced g now xs)) ≡ false
-          → has_one test (ends_of g ((cond a (record x { end = now }) x) ∷ replaced g now xs)) ≡ false
+      by : (a : Bool) → same_flow g x.flow ≡ a → list_any test (ends_of g (replaced g now xs)) ≡ false
+          → list_any test (ends_of g ((cond a (record x { end = now }) x) ∷ replaced g now xs)) ≡ false
       by true same rest = rw same (rw none rest)
       by false other rest = rw other rest
 
@@ -54,12 +54,12 @@ module _ (test : ConnectionEnd → Bool) where
       was : (old new : Bool) → (old ≡ false → new ≡ false) → new ≡ true → old ≡ true
       was = grind (arith, common_steps)
 
-      by : (b : Bool) → same_flow f g ≡ b → (n : Bool) → test now ≡ n → has_one test (ends_of f xs) ≡ true
-      by false other n at = sym (ap (has_one test) (replaced_other g f now xs other)) ∙ is
+      by : (b : Bool) → same_flow f g ≡ b → (n : Bool) → test now ≡ n → list_any test (ends_of f xs) ≡ true
+      by false other n at = sym (ap (list_any test) (replaced_other g f now xs other)) ∙ is
       by true same true at =
-          subst (λ (k : Flow). has_one test (ends_of k xs) ≡ true) (sym (same_is f g same)) (some_one g e more xs has (was (test e) (test now) keeps at))
+          subst (λ (k : Flow). list_any test (ends_of k xs) ≡ true) (sym (same_is f g same)) (some_one g e more xs has (was (test e) (test now) keeps at))
       by true same false at =
-          let none = subst (λ (k : Flow). has_one test (ends_of k (replaced g now xs)) ≡ false) (sym (same_is f g same)) (none_replaced g now xs at) in
+          let none = subst (λ (k : Flow). list_any test (ends_of k (replaced g now xs)) ≡ false) (sym (same_is f g same)) (none_replaced g now xs at) in
           absurd (let no : true ≡ false = sym is ∙ none in cc)
 
   -- Nothing that an end does makes it pass.

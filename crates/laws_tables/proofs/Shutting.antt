@@ -1,15 +1,15 @@
 -- An end that decided to send no more on a connection puts no payload there.
-use Rattle.std.proofs.Common.{◌≡◌, ℕ, ◌&&◌, ◌||◌, not, Bool, true, false, cond, List, [], ◌∷◌, ◌++◌, length, refl, sym, ap, subst, ◌∙◌, append-nil, arith}
+use Rattle.std.{specs.List.list_any, proofs.Common.{◌≡◌, ℕ, ◌&&◌, ◌||◌, not, Bool, true, false, cond, List, [], ◌∷◌, ◌++◌, length, refl, sym, ap, subst, ◌∙◌, append-nil, arith}}
 use Rattle.std.proofs.lemmas.Grind.{common_steps}
 use Rattle.vs_conn.{specs.End.{CanSend, ConnectionEnd}, proofs.Frames.{got_own, paid_own}}
 use Rattle.vs_flow.specs.{Flow.same_flow, declared.flow.Flow.Flow}
 use Rattle.laws_history.specs.{Again.present, History.{Answerer, Asker, History, Put, Side, gots, is_begun, puts}, declared.packet.Packet.Packet}
 use Rattle.vs_page.specs.{Fair.payload_of, Log.{Log, Role, flow_got, flow_put, side_of, whole_of}, declared.log.LogEntry.{LogEntry, TheVariants.{GotPacket, PutPacket}}}
 use Rattle.vs_page.proofs.{Entries.present_is, Flows.same_is}
-use Rattle.laws_tables.specs.{Asked.has_one, Drains.{has_passed, put_on}, Ends.{ends_of, is_new}, Heard.is_empty, Matches.MatchesFlows, Both.{Asks, Decides, Decision, Opens, Pays}}
-use Rattle.laws_tables.specs.{Both.{Replies, Seat, Sends, Shuts, Step, Takes, after, decided, log_after}, Later.{IsShut, StillShut, UsesOnce, may_send_more}, Steps.HasEnd}
-use Rattle.laws_tables.{specs.Steps.{owed_on, payload_on, reply_on, request_on}, proofs.{Fair.heard_none, Later.step_adds, News.{MakesOther, Stays, step_makes}}}
-use Rattle.laws_tables.proofs.{Steps.payload_flow, Tables.{end_begun, end_new}}
+use Rattle.laws_tables.specs.{Drains.{has_passed, put_on}, Ends.{ends_of, is_new}, Heard.is_empty, Matches.MatchesFlows, Both.{Asks, Decides, Decision, Opens, Pays, Replies, Seat}}
+use Rattle.laws_tables.specs.{Both.{Sends, Shuts, Step, Takes, after, decided, log_after}, Later.{IsShut, StillShut, UsesOnce, may_send_more}, Steps.{HasEnd, owed_on, payload_on}}
+use Rattle.laws_tables.{specs.Steps.{reply_on, request_on}, proofs.{Fair.heard_none, Later.step_adds, News.{MakesOther, Stays, step_makes}, Steps.payload_flow, Tables.end_begun}}
+use Rattle.laws_tables.proofs.Tables.{end_new}
 
 -- What an end decided it keeps, and it may send nothing.
 decided_shut : (e : ConnectionEnd) (what : Decision) → may_send_more e ≡ false → may_send_more (decided e what) ≡ false
@@ -24,7 +24,7 @@ shut_stays = record {
   decided = decided_shut;
 }
 
-cannot : (e : ConnectionEnd) (n : ℕ) → has_one may_send_more (e ∷ []) ≡ false → CanSend e n → ⊥
+cannot : (e : ConnectionEnd) (n : ℕ) → list_any may_send_more (e ∷ []) ≡ false → CanSend e n → ⊥
 cannot = grind (arith, common_steps)
 
 -- What an entry of the log adds.
@@ -69,7 +69,7 @@ module _ (role : Role) (f : Flow) (w : Seat) (x : IsShut role f w) where
       → b ≡ false
   sends_other g e payload has can false is = refl
   sends_other g e payload has can true is = absurd (cannot e (length payload)
-      (ap (has_one may_send_more) (sym has) ∙ ap (λ (h : Flow). has_one may_send_more (ends_of h w.part.entries)) (sym (same_is f g is)) ∙ x.shut) can)
+      (ap (list_any may_send_more) (sym has) ∙ ap (λ (h : Flow). list_any may_send_more (ends_of h w.part.entries)) (sym (same_is f g is)) ∙ x.shut) can)
 
   puts_none : (step : Step) → UsesOnce role step w → put_on role f (after role step w).log ≡ put_on role f w.log
   puts_none (Opens g kind) once = put_none role f (request_on role w.part.cid g kind) w.log refl
@@ -86,12 +86,12 @@ module _ (role : Role) (f : Flow) (w : Seat) (x : IsShut role f w) where
     is = record {
       passed = subst (λ (log : Log). has_passed role f log ≡ true) (sym (step_adds role w.part.cid step w.log))
           (all_passed role f (log_after role w.part.cid step []) w.log x.passed);
-      shut = none (has_one may_send_more (ends_of f (after role step w).part.entries)) refl;
+      shut = none (list_any may_send_more (ends_of f (after role step w).part.entries)) refl;
     };
     put = puts_none step once;
   }
     where
-      none : (b : Bool) → has_one may_send_more (ends_of f (after role step w).part.entries) ≡ b → b ≡ false
+      none : (b : Bool) → list_any may_send_more (ends_of f (after role step w).part.entries) ≡ b → b ≡ false
       none false is = refl
       none true is = absurd (let no : true ≡ false = sym (step_makes may_send_more shut_stays f step role w.part (makes step once) is) ∙ x.shut in cc)
 
@@ -118,5 +118,5 @@ module _ (role : Role) (first : ℕ) (f : Flow) (w : Seat) (e : ConnectionEnd) (
   pub is_shut : IsShut role f w
   is_shut = record {
     passed = some_passed (whole_of role f w.log) refl;
-    shut = ap (has_one may_send_more) has ∙ ap (λ (b : Bool). not b || false) shut;
+    shut = ap (list_any may_send_more) has ∙ ap (λ (b : Bool). not b || false) shut;
   }

@@ -1,21 +1,17 @@
 -- Connections that an end asks for: one at most on each flow.
-use Rattle.std.specs.Prelude.{◌≡◌, ℕ, ◌≤◌, Bool, true, false, ◌||◌, List, [], ◌∷◌, Some}
+use Rattle.std.specs.{Prelude.{◌≡◌, ℕ, ◌≤◌, Bool, true, false, List, [], ◌∷◌, Some}, List.list_any}
 use Rattle.vs_conn.specs.End.{ConnectionEnd, owes_of}
 use Rattle.vs_flow.specs.declared.flow.Flow.{Flow}
 use Rattle.laws_history.specs.{Again.count, History.{Asker, puts}, Packets.is_request}
 use Rattle.vs_page.specs.Log.{Log, Role, side_of, whole_of}
 use Rattle.laws_tables.specs.{Both.{Asks, Decides, Opens, Pays, Seat, Sends, Step}, Ends.{Ends, ends_of, is_new}, Heard.own_port, Steps.HasEnd}
 
--- How many REQUESTs an end put on a flow; whether one of these ends passes a test, and whether one asks and has not put its own.
+-- How many REQUESTs an end put on a flow; whether one of these ends asks and has not put its own.
 abbrev pub asks_of : Role → Flow → Log → ℕ
 asks_of role f log = count is_request (puts (whole_of role f log))
 
-abbrev pub has_one : (ConnectionEnd → Bool) → List ConnectionEnd → Bool
-has_one test [] = false
-has_one test (e ∷ es) = test e || has_one test es
-
 abbrev pub has_new : List ConnectionEnd → Bool
-has_new = has_one is_new
+has_new = list_any is_new
 
 -- One at most was put, and none where an end is still to put it. There is neither on a flow whose port is still to be given.
 pub record AsksOnce (role : Role) (f : Flow) (part : Ends) (log : Log) : Type 0 where

@@ -2,7 +2,7 @@
 use Rattle.std.specs.Prelude.{ℕ, ◌+◌, true, if◌then◌else◌, List, [], ◌∷◌}
 use Rattle.vs_conn.specs.{End.{ConnectionEnd, answering, asked, end_after, paid_of, with_payload_forwarded, with_shut}, Follows.{owed_packet, payload_packet}}
 use Rattle.vs_flow.specs.{Flow.{host_flow, same_flow}, declared.flow.Flow.Flow}
-use Rattle.vs_limits.specs.declared.TheConstants.{ASSIGNED_FIRST, BUF_ALLOC}
+use Rattle.vs_limits.specs.declared.TheConstants.{ASSIGNED_FIRST, BUF_ALLOC, FIRST_PORT}
 use Rattle.vs_header.specs.declared.Kind.TheVariants.{Stream}
 use Rattle.laws_history.specs.{History.{Got, History, Put}, declared.packet.Packet.Packet}
 use Rattle.vs_page.specs.{Log.{Log, Role, Driver, Device, and_then, flow_got, flow_put}, Open.{cid_of, is_dropped}, declared.log.LogEntry.TheVariants.{GotPacket, Mark, PutPacket}}
@@ -16,7 +16,7 @@ guest_cid = 3
 -- A connection that the host asked for. The guest answers from another CID, so that its RESPONSE is dropped, and then puts payload from
 -- its own.
 abbrev pub assigned_flow : Flow
-assigned_flow = host_flow 1024 ASSIGNED_FIRST
+assigned_flow = host_flow FIRST_PORT ASSIGNED_FIRST
 
 abbrev pub asking_end : ConnectionEnd
 asking_end = paid_of (asked Stream BUF_ALLOC) owed.Request
@@ -38,7 +38,7 @@ log_with_drop = GotPacket lost_response ∷ PutPacket host_request ∷ []
 
 -- Two REQUESTs on one flow: the first is refused, and the second accepted while the RST of the first is owed.
 abbrev pub guest_flow : Flow
-guest_flow = host_flow 1024 52
+guest_flow = host_flow FIRST_PORT 52
 
 abbrev pub request : Packet
 request = request_on Driver guest_cid guest_flow Stream

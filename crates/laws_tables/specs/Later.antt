@@ -1,10 +1,10 @@
 -- A log with more entries, and a connection that is shut.
-use Rattle.std.specs.Prelude.{◌≡◌, ◌≤◌, Bool, not, false, true, [], length, ◌++◌}
+use Rattle.std.specs.{List.list_any, Prelude.{◌≡◌, ◌≤◌, Bool, not, false, true, [], length, ◌++◌}}
 use Rattle.vs_conn.specs.End.{CanSend, ConnectionEnd}
 use Rattle.vs_flow.specs.{Connection.Connection, declared.flow.Flow.Flow}
 use Rattle.laws_history.specs.{History.puts, Packets.{has, is_request, shuts_send}}
 use Rattle.vs_page.specs.{Fair.{number_of, payload_put}, Log.{Log, Role, flow_got, history_of, whole_of}}
-use Rattle.laws_tables.specs.{Asked.has_one, Both.{Asks, Decides, Opens, Pays, Seat, Sends, Step, Takes}, Drains.{has_passed, put_on}, Ends.ends_of, Steps.HasEnd}
+use Rattle.laws_tables.specs.{Both.{Asks, Decides, Opens, Pays, Seat, Sends, Step, Takes}, Drains.{has_passed, put_on}, Ends.ends_of, Steps.HasEnd}
 
 abbrev pub IsLater : Log → Log → Type 0
 IsLater old new = (newer : Log) × (new ≡ newer ++ old)
@@ -20,7 +20,7 @@ may_send_more e = not e.own.send
 
 pub record IsShut (role : Role) (f : Flow) (w : Seat) : Type 0 where
   pub passed : has_passed role f w.log ≡ true
-  pub shut : has_one may_send_more (ends_of f w.part.entries) ≡ false
+  pub shut : list_any may_send_more (ends_of f w.part.entries) ≡ false
 
 -- What is asked of a step: a flow is asked for, or a REQUEST taken, only where nothing passed there before, and where a flow has a connection
 -- its end is named, which sends as it may.

@@ -7,7 +7,7 @@ ghost use Rattle.vs_conn.specs.End.{with_shut};
 ghost use Rattle.vs_header.specs.{Kind.kind_number, declared.{Kind.{Kind, TheVariants.Stream}, Header.Header}};
 ghost use Rattle.vs_credit.specs.Credit.{unread_of};
 ghost use Rattle.vs_flow.specs.{Flow.same_flow, declared.{flow.Flow.Flow, table.Entry.Entry}, Table.{IsTable, Table, entry_of, with_entry, with_value, without}};
-ghost use Rattle.vs_limits.specs.declared.TheConstants.{ASSIGNED_FIRST, HOST_CID, BUF_ALLOC_MAX};
+ghost use Rattle.vs_limits.specs.declared.TheConstants.{ASSIGNED_FIRST, FIRST_PORT, HOST_CID, BUF_ALLOC_MAX};
 ghost use Rattle.laws_history.specs.{Again.IsClean, History.{Asker, Got, Put, gots, puts}, Packets.{is_clean_rst, is_request, is_rst}, declared.packet.Packet.Packet};
 ghost use Rattle.laws_tables.specs.{Asked.{AskOnce, Does}, Matches.{IsAsking, Matches}, Quiet.IsQuietOn, Both.{Both, Happening, IsSound, MayRun, MayStep, MayStepAll, Seat, Step}};
 ghost use Rattle.laws_tables.specs.{Both.{after, after_all, after_packet, at, new_seat, run, start}, Examples.{guest_mark, log_of_early, log_of_mark, no_ends, spoiled, after_two}};
@@ -126,15 +126,15 @@ pub fn law_of_order()
 {}
 
 /// One seat by itself, over any ring that tells its log, whatever the peer puts: that the log is fair isn't asked. A step keeps it matching
-/// its log where packets come in order. So from a new seat on, over a log in which each flow's first packet is its only REQUEST, the flows
-/// of the table are those that the log left open, less those to which an RST is owed as a reply, and those whose REQUEST isn't put yet.
+/// its log where packets come in order. So from a new seat on, over a log in which they do, the flows of the table are those that the log
+/// left open, less those to which an RST is owed as a reply, and those whose REQUEST isn't put yet.
 pub fn law_of_one_seat()
     ensures keeps { (role : Role) (first : ℕ) (step : Step) (w : Seat) → MayStep role step w → Matches role first w.part w.log
         → let v = after role step w in IsOrderedLog role v.log → Matches role first v.part v.log }
     ensures matches { (role : Role) (first port : ℕ) (steps : List Step) → MayStepAll role steps (new_seat first port)
-        → let w = after_all role steps (new_seat first port) in AsksOnceLog role w.log → Matches role first w.part w.log }
+        → let w = after_all role steps (new_seat first port) in IsOrderedLog role w.log → Matches role first w.part w.log }
     ensures table { (role : Role) (first port : ℕ) (steps : List Step) (f : Flow) → MayStepAll role steps (new_seat first port)
-        → let w = after_all role steps (new_seat first port) in AsksOnceLog role w.log
+        → let w = after_all role steps (new_seat first port) in IsOrderedLog role w.log
         → is_among f (flows_of w.part.entries)
         ≡ (is_open role first f w.log (is_among f (replied w.part.replies)) || is_among f (new_flows w.part.entries)) }
 {}
@@ -315,17 +315,17 @@ pub fn law_of_asking()
 /// A connection of the guest's may open and stand in both tables, and after a transport reset it stands in neither, and nothing is owed.
 /// Where it is over cleanly instead, the guest keeps its flow and asks for it again, though its port was given.
 pub fn example()
-    ensures may { MayRun (opening ++ resetting) (start guest_cid 1024 ASSIGNED_FIRST) }
-    ensures driver_has { HasEnd guest_flow live_end (run opening (start guest_cid 1024 ASSIGNED_FIRST)).driver.part }
-    ensures device_has { HasEnd guest_flow (paid_of host_end Response) (run opening (start guest_cid 1024 ASSIGNED_FIRST)).device.part }
-    ensures driver_left { (run (opening ++ resetting) (start guest_cid 1024 ASSIGNED_FIRST)).driver.part
+    ensures may { MayRun (opening ++ resetting) (start guest_cid FIRST_PORT ASSIGNED_FIRST) }
+    ensures driver_has { HasEnd guest_flow live_end (run opening (start guest_cid FIRST_PORT ASSIGNED_FIRST)).driver.part }
+    ensures device_has { HasEnd guest_flow (paid_of host_end Response) (run opening (start guest_cid FIRST_PORT ASSIGNED_FIRST)).device.part }
+    ensures driver_left { (run (opening ++ resetting) (start guest_cid FIRST_PORT ASSIGNED_FIRST)).driver.part
         ≡ record { entries = []; replies = []; clean = []; next_port = 1025; cid = new_cid } }
-    ensures device_left { (run (opening ++ resetting) (start guest_cid 1024 ASSIGNED_FIRST)).device.part
+    ensures device_left { (run (opening ++ resetting) (start guest_cid FIRST_PORT ASSIGNED_FIRST)).device.part
         ≡ record { entries = []; replies = []; clean = []; next_port = ASSIGNED_FIRST; cid = new_cid } }
-    ensures again { MayRun (opening ++ closing ++ opening) (start guest_cid 1024 ASSIGNED_FIRST) }
-    ensures kept { (run (opening ++ closing) (start guest_cid 1024 ASSIGNED_FIRST)).driver.part
+    ensures again { MayRun (opening ++ closing ++ opening) (start guest_cid FIRST_PORT ASSIGNED_FIRST) }
+    ensures kept { (run (opening ++ closing) (start guest_cid FIRST_PORT ASSIGNED_FIRST)).driver.part
         ≡ record { entries = []; replies = []; clean = guest_flow ∷ []; next_port = 1025; cid = guest_cid } }
-    ensures again_driver { (run (opening ++ closing ++ opening) (start guest_cid 1024 ASSIGNED_FIRST)).driver.part
+    ensures again_driver { (run (opening ++ closing ++ opening) (start guest_cid FIRST_PORT ASSIGNED_FIRST)).driver.part
         ≡ record {
           entries = record { flow = guest_flow; end = live_end } ∷ [];
           replies = [];
@@ -334,7 +334,7 @@ pub fn example()
           cid = guest_cid;
         } }
     ensures again_device { HasEnd guest_flow (paid_of host_end Response)
-        (run (opening ++ closing ++ opening) (start guest_cid 1024 ASSIGNED_FIRST)).device.part }
+        (run (opening ++ closing ++ opening) (start guest_cid FIRST_PORT ASSIGNED_FIRST)).device.part }
 {}
 
 /// Why the definitions say no less, by example. An end that has not put its REQUEST follows no history. Where a RESPONSE was dropped, the
@@ -354,8 +354,8 @@ pub fn counterexamples()
     ensures return_fair { IsFairOn Device guest_flow log_of_return }
     ensures return_beyond { IsWithin (heard_on Device guest_cid guest_flow log_of_return) → ⊥ }
     ensures return_within { IsWithin (heard_of Device guest_cid guest_flow log_of_return) }
-    ensures unput_may { MayRun unput (start guest_cid 1024 ASSIGNED_FIRST) }
-    ensures unput { IsNextFlow Device assigned_flow (run unput (start guest_cid 1024 ASSIGNED_FIRST)).device.part → ⊥ }
+    ensures unput_may { MayRun unput (start guest_cid FIRST_PORT ASSIGNED_FIRST) }
+    ensures unput { IsNextFlow Device assigned_flow (run unput (start guest_cid FIRST_PORT ASSIGNED_FIRST)).device.part → ⊥ }
     ensures kept_falsely { is_among assigned_flow kept_falsely.clean ≡ true }
     ensures false_mark { phase_of Device guest_cid assigned_flow log_of_false_mark ≡ Over }
     ensures reset_fair { IsFairOn Driver guest_flow log_over_reset }
