@@ -75,7 +75,7 @@ impl Driver {
         true
     }
 
-    // Stages what each connection owes, by rising slot. Where none owes a packet, none is looked at.
+    // Stages what each connection owes, by rising slot. Where none may owe a packet, none is looked at.
     fn pay_all<R: DriverRing>(&mut self, ring: &mut R, tally: &mut Tally)
         requires ring { IsRingOf (R.size ring.old) (R.flight ring.old) (R.staged ring.old) self.old }
         requires few { tally.old.count ≤ DRIVER_REPLIES }

@@ -22,7 +22,7 @@ loop-slot-init g c =
           let Q : List ℕ → Type 0 = λ xs. Plays (for_each pay_slot xs r) from x t in
           subst P state (subst Q is rest);
       may = let P : List ℕ → Type 0 = λ xs. MayPublishAll (for_each pay_slot xs r) from in subst P (sym is) may;
-      ring = let P : DriverState → Type 0 = IsAtWork Tx (g.R.DriverRing.size c.args.ring.now) (g.R.DriverRing.flight c.args.ring.now) (g.R.DriverRing.staged c.args.ring.now) in subst P (sym state) (record {
+      ring = subst (IsAtWork Tx (g.R.DriverRing.size c.args.ring.now) (g.R.DriverRing.flight c.args.ring.now) (g.R.DriverRing.staged c.args.ring.now)) (sym state) (record {
         size = c.requires.ring.size;
         flight = c.requires.ring.flight;
         staged = c.requires.ring.staged ∙ ap (λ (n : ℕ). with_count Tx n no_counts) (sym c.requires.ring.none);
