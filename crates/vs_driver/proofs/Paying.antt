@@ -1,5 +1,5 @@
 -- What putting replies and what connections owe comes to.
-use Rattle.std.proofs.Common.{◌≡◌, ℕ, Bool, true, false, List, [], ◌∷◌, length, drop, Option, Some, None, ◌+◌, ◌<◌, ◌≤◌, get_or, drop-cons, add-one, refl, sym, ap, subst, ◌∙◌}
+use Rattle.std.proofs.Common.{◌≡◌, ◌==◌, ℕ, Bool, true, false, List, [], ◌∷◌, length, drop, Option, Some, None, ◌+◌, ◌<◌, ◌≤◌, get_or, drop-cons, add-one, refl, sym, ap, subst, ◌∙◌}
 use Rattle.std.{proofs.Math.ListN.drop_of_length-le, specs.{List.slice_get, Option.IsSomeAnd}}
 use Rattle.vs_contents.{specs.CallTree.{Done, bind, for_each}, proofs.{Leads.{leads_of, leads_bind}, Conditions.{may_first, may_rest, may_of}}}
 use Rattle.vs_header.specs.{Packet.header_bytes, declared.Header.Header}
@@ -8,8 +8,8 @@ use Rattle.vs_flow.specs.Table.{entry_under}
 use Rattle.vs_replies.specs.declared.Reply.{Reply}
 use Rattle.vs_ring_port.specs.Contents.{RingContents}
 use Rattle.vs_driver_parts.specs.Conversations.{DriverTree, Round, after_paying, has_page, is_rst, one_put, pay_slot, put_owed, put_reply, put_reply_of, reply_header, round_of}
-use Rattle.vs_driver_parts.specs.{Conversations.stage_packet, Connections.{with_connection, paid_connection, route_to_host}, Playing.{CanMake, MayPublishAll, Plays, RingAllows}}
-use Rattle.vs_driver_parts.specs.{State.{DriverEntry, DriverState}, declared.tally.Tally.Tally}
+use Rattle.vs_driver_parts.specs.{Conversations.stage_packet, Connections.{OweNothing, with_connection, paid_connection, route_to_host}, Playing.{CanMake, MayPublishAll, Plays, RingAllows}}
+use Rattle.vs_driver_parts.{specs.{State.{DriverEntry, DriverState}, declared.tally.Tally.Tally}, proofs.Ids.entry_has}
 use Rattle.vs_driver.proofs.Rest.{left_as, may_next, then}
 use Rattle.vs_conn.specs.declared.end.Owed.TheVariants as owed
 
@@ -97,3 +97,15 @@ module _ (xs : List ℕ) (i d : ℕ) (x : Round) (lt : i < length xs) where
 
 pub each_end : (xs : List ℕ) (i : ℕ) (x : Round) (r : RingContents) → length xs ≤ i → Plays (for_each pay_slot (drop i xs) x) r x r
 each_end xs i x r ends = let same : for_each pay_slot (drop i xs) x ≡ Done x = rw (drop_of_length-le xs ends) refl in leads_of RingAllows _ _ r r x same (refl, refl)
+
+-- no connection owes a packet
+pays_not : (slot : ℕ) (r : Round) (o : Option DriverEntry) → entry_under r.state.table slot ≡ o → ((e : DriverEntry) → o ≡ Some e → owes_of e.value.end ≡ None)
+    → pay_slot slot r ≡ Done r
+pays_not slot r None is none = rw (is, put_owed) refl
+pays_not slot r (Some e) is none = rw (is, none e refl, put_owed) refl
+
+pub pays_none : (r : Round) → OweNothing r.state.table → (xs : List ℕ) → for_each pay_slot xs r ≡ Done r
+pays_none r none [] = refl
+pays_none r none (slot ∷ xs) =
+    rw (pays_not slot r (entry_under r.state.table slot) refl (λ e is.
+    entry_has (λ (x : DriverEntry). owes_of x.value.end ≡ None) (λ (x : DriverEntry). x.slot == slot) r.state.table.entries e none is)) (pays_none r none xs)

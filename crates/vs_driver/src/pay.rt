@@ -75,7 +75,7 @@ impl Driver {
         true
     }
 
-    // Stages what each connection owes, by rising slot.
+    // Stages what each connection owes, by rising slot. Where none may owe a packet, none is looked at.
     fn pay_all<R: DriverRing>(&mut self, ring: &mut R, tally: &mut Tally)
         requires ring { IsRingOf (R.size ring.old) (R.flight ring.old) (R.staged ring.old) self.old }
         requires few { tally.old.count ≤ DRIVER_REPLIES }
@@ -83,6 +83,9 @@ impl Driver {
         ensures ring { IsAtWork Tx (R.size ring.new) (R.flight ring.new) (R.staged ring.new) self.new }
         ensures calls { Plays (pay_all (round_of self.old tally.old)) (R.contents ring.old) (round_of self.new tally.new) (R.contents ring.new) }
     {
+        if !self.slots.may_owe() {
+            return;
+        }
         let slots = self.slots.all();
         for slot in slots.as_slice() {
             self.pay_slot(ring, *slot, tally);

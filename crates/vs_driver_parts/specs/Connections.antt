@@ -1,11 +1,11 @@
 -- What the driver's calls do to its connections, apart from the ring.
-use Rattle.std.specs.Prelude.{ℕ, ◌+◌, ◌==◌, ◌||◌, not, min, nat_lt, nat_le, Bool, true, false, if◌then◌else◌, List, [], ◌∷◌, ◌++◌, length, map, filter, take, drop, Option, Some}
-use Rattle.std.specs.{Prelude.{None, is_some}, Option.{option_map, option_map_or}}
-use Rattle.vs_flow.specs.{Flow.{host_flow, is_assigned}, Table.{with_entry, with_value, without}, declared.flow.Flow.Flow}
+use Rattle.std.specs.Prelude.{◌≡◌, ℕ, ◌+◌, ◌==◌, ◌||◌, not, min, nat_lt, nat_le, Bool, true, false, if◌then◌else◌, List, [], ◌∷◌, ◌++◌, length, map, filter, take, drop, Option, Some}
+use Rattle.std.specs.{Prelude.{All, None, is_some}, Option.{option_map, option_map_or}}
+use Rattle.vs_flow.specs.{Flow.{host_flow, is_assigned}, Table.{Table, with_entry, with_value, without}, declared.flow.Flow.Flow}
 use Rattle.vs_header.specs.declared.{Header.Header, Kind.TheVariants.Stream}
 use Rattle.vs_limits.specs.declared.TheConstants.{BUF_ALLOC, BUF_ALLOC_MAX, LAST_PORT, LAST_ID, DRIVER_CONNECTIONS}
 use Rattle.vs_conn.specs.{declared.{end.{Owed.Owed, State.State}, route.Route.Route}, End.{ConnectionEnd, asked, answering, grown, paid_of, with_payload_forwarded, with_shut}}
-use Rattle.vs_conn.specs.End.{aborted}
+use Rattle.vs_conn.specs.End.{aborted, owes_of}
 use Rattle.vs_driver_parts.specs.declared.answers.{ConnectionState.ConnectionState, ConnectError.ConnectError, Closed.Closed, Grown.Grown, Received.Received, Shut.Shut}
 use Rattle.vs_driver_parts.specs.{State.{DriverConnection, GoneConnection, Listener, DriverState, DriverEntry, slots_held, entry_known_as, gone_known_as}, Listening.with_waiting}
 use Rattle.vs_driver_parts.specs.Listening.{without_id, listener_on}
@@ -24,6 +24,10 @@ with_connection slot c s = record s { table = with_value s.table slot c }
 
 abbrev pub with_end : ConnectionEnd → DriverEntry → DriverState → DriverState
 with_end end e s = with_connection e.slot (record e.value { end = end }) s
+
+-- No connection owes a packet.
+abbrev pub OweNothing : Table DriverConnection → Type 0
+OweNothing t = All (λ e. owes_of e.value.end ≡ None) t.entries
 
 -- The route of the guest's packets on a flow.
 abbrev pub route_to_host : ℕ → Flow → Route

@@ -1,8 +1,9 @@
 -- What always holds of the fields of the driver's slots. No public clause cites this module.
-use Rattle.std.specs.{Prelude.{◌≡◌, ◌≢◌, ℕ, false, ◌+◌, ◌<◌, ◌≤◌, AllPairs, List, length, vec_capacity}, List.All}
+use Rattle.std.specs.{Prelude.{◌≡◌, ◌≢◌, ℕ, Bool, false, None, ◌+◌, ◌<◌, ◌≤◌, AllPairs, List, length, vec_capacity}, List.All}
+use Rattle.vs_conn.specs.End.{owes_of}
 use Rattle.vs_flow.specs.{Flow.is_assigned, Table.Table, Table.IsTable}
 use Rattle.vs_limits.specs.declared.TheConstants.{DRIVER_CONNECTIONS, LAST_ID, LAST_PORT}
-use Rattle.vs_driver_parts.specs.{declared.slots.Slots.TheInside.Inside, Room.IsSpare, State.DriverConnection, State.GoneConnection}
+use Rattle.vs_driver_parts.specs.{declared.slots.Slots.TheInside.Inside, Connections.OweNothing, Room.IsSpare, State.DriverConnection, State.GoneConnection}
 
 -- A slot and an id are given together, from the first id on; an id that is gone is none of the table's, and is there once. The flow of a
 -- connection that this side opened has a guest port below the next.
@@ -14,7 +15,12 @@ pub record AreNumbered (first port next : ℕ) (table : Table DriverConnection) 
   pub distinct : AllPairs (λ g h. g.id ≢ h.id) gone
   pub ports : All (λ e. is_assigned e.flow.host ≡ false → e.flow.guest < port) table.entries
 
--- There are buffers for all slots, and room for all connections.
+-- What is noted of all, once this connection has changed or was added: where none is noted to owe a packet, none was before, and it owes none.
+pub record IsNoted (old new : Bool) (c : DriverConnection) : Type 0 where
+  pub still : new ≡ false → old ≡ false
+  pub none : new ≡ false → owes_of c.end ≡ None
+
+-- There are buffers for all slots, and room for all connections. A connection owes a packet only where it was noted that one may.
 pub record AreKept (s : Inside) : Type 0 where
   pub numbers : AreNumbered s.first_id s.next_port s.next_id s.table s.gone.items
   pub last_port : s.next_port ≤ LAST_PORT + 1
@@ -25,3 +31,4 @@ pub record AreKept (s : Inside) : Type 0 where
   pub buffers : length s.spare.items + (length s.table.entries + length s.gone.items) ≡ DRIVER_CONNECTIONS
   pub buffer_room : DRIVER_CONNECTIONS ≤ vec_capacity s.spare
   pub spare : All IsSpare s.spare.items
+  pub noted : s.owes ≡ false → OweNothing s.table

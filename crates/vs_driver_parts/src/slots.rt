@@ -10,8 +10,8 @@ ghost use Rattle.laws_history.specs.declared.packet.Packet.{Packet};
 ghost use Rattle.vs_page.specs.Held.{IsWhole};
 ghost use Rattle.vs_limits.specs.declared.TheConstants.{BUF_ALLOC_MAX, LAST_PORT, LAST_ID, DRIVER_CONNECTIONS};
 ghost use Rattle.vs_driver_parts.specs.{State.{DriverEntry, DriverConnection, GoneConnection, is_known_as}, Connections.{route_to_host, after_read, after_shut, after_closing}};
-ghost use Rattle.vs_driver_parts.specs.{Connections.{paid_connection, without_gone, all_gone_after_read}, Receiving.{after_packet, reset_reply}, Room.IsSpare, Held.KnowsNone};
-ghost use Rattle.vs_driver_parts.specs.Held.{no_slots, held_in, with_asked_in, with_answering_in, with_connection_in, left_in};
+ghost use Rattle.vs_driver_parts.specs.{Connections.{OweNothing, paid_connection, without_gone, all_gone_after_read}, Receiving.{after_packet, reset_reply}, Room.IsSpare};
+ghost use Rattle.vs_driver_parts.specs.{Held.{KnowsNone, no_slots, held_in, with_asked_in, with_answering_in, with_connection_in, left_in}, SlotFields.IsNoted};
 
 use crate::answers::ConnId;
 use crate::connection::Connection;
@@ -44,6 +44,8 @@ pub struct Slots {
     gone: Vec<Gone>,
     // The buffers of the free slots.
     spare: Vec<ByteFifo>,
+    // A connection may owe a packet.
+    owes: bool,
 }
 
 impl Model for Slots {
@@ -81,6 +83,7 @@ impl Slots {
             table: FlowTable::new(alloc, DRIVER_CONNECTIONS)?,
             gone: Vec::with_capacity(alloc, DRIVER_CONNECTIONS)?,
             spare: buffers(alloc)?,
+            owes: false,
         })
     }
 
@@ -191,6 +194,29 @@ impl Slots {
         Some((what, connection.owed_header(route_to_host(cid, flow), what)))
     }
 
+    /// Whether a connection may owe a packet. All are looked at where one may have owed one.
+    pub fn may_owe(&mut self) -> bool
+        ensures same { self.new ≡ self.old }
+        ensures none { result ≡ false → OweNothing self.old.table }
+    {
+        self.owes = self.owes && self.one_owes();
+        self.owes
+    }
+
+    // Whether a connection owes a packet.
+    fn one_owes(&self) -> bool
+        ensures { result ≡ false → OweNothing self.now.table }
+    {
+        let mut place = 0;
+        while let Some(entry) = self.table.at(place) {
+            if entry.value.owes().is_some() {
+                return true;
+            }
+            place += 1;
+        }
+        false
+    }
+
     /// All slots of the table, by rising slot.
     pub fn all(&self) -> ArrayVec<Slot, DRIVER_CONNECTIONS>
         ensures all { result.items ≡ slots self.now.table }
@@ -245,6 +271,7 @@ impl Slots {
         let id = self.next_id as u32;
         let flow = Flow::to_host(self.next_port, host);
         let connection = Connection::asked(id, self.spare.take_last());
+        self.owes = noted(self.owes, &connection);
         insert(&mut self.table, flow, connection);
         self.last_port = self.next_port;
         self.last_id = id;
@@ -264,6 +291,7 @@ impl Slots {
     {
         let id = self.next_id as u32;
         let connection = Connection::answering(id, request, self.spare.take_last());
+        self.owes = noted(self.owes, &connection);
         insert(&mut self.table, flow, connection);
         self.last_id = id;
         self.next_id += 1;
@@ -344,7 +372,9 @@ impl Slots {
         let Some(connection) = self.table.get_mut(slot) else {
             return Verdict::Ignore;
         };
-        connection.on_packet(header, payload)
+        let verdict = connection.on_packet(header, payload);
+        self.owes = noted(self.owes, connection);
+        verdict
     }
 
     /// Counts a packet that the connection in a slot owed as put.
@@ -356,6 +386,7 @@ impl Slots {
             return;
         };
         connection.paid(what);
+        self.owes = noted(self.owes, connection);
     }
 
     /// Counts `n` bytes as sent on the connection in a slot.
@@ -367,6 +398,7 @@ impl Slots {
             return;
         };
         connection.sent(n);
+        self.owes = noted(self.owes, connection);
     }
 
     /// Notes that the connection in a slot had no credit for what was to be sent.
@@ -379,6 +411,7 @@ impl Slots {
             return;
         };
         connection.want_credit();
+        self.owes = noted(self.owes, connection);
     }
 
     /// Moves the first unread bytes of the connection in a slot to the front of `out`, as many as it holds. The rest of `out` stays.
@@ -390,7 +423,9 @@ impl Slots {
         let Some(connection) = self.table.get_mut(slot) else {
             return 0;
         };
-        connection.read(out)
+        let count = connection.read(out);
+        self.owes = noted(self.owes, connection);
+        count
     }
 
     /// Shuts directions of the connection in a slot.
@@ -403,6 +438,7 @@ impl Slots {
             return;
         };
         connection.shutdown(bits);
+        self.owes = noted(self.owes, connection);
     }
 
     /// Raises the buffer space of the connection in a slot to `alloc` bytes.
@@ -416,6 +452,7 @@ impl Slots {
             return;
         };
         connection.grow(alloc);
+        self.owes = noted(self.owes, connection);
     }
 
     /// Closes the connection in a slot: the application knows it no more.
@@ -427,7 +464,15 @@ impl Slots {
             return;
         };
         connection.close();
+        self.owes = noted(self.owes, connection);
     }
+}
+
+// Whether a connection may owe a packet, with one more connection or with one that has changed.
+fn noted(owes: bool, connection: &Connection) -> bool
+    ensures { IsNoted owes result connection.now }
+{
+    owes || connection.owes().is_some()
 }
 
 // The place of a connection that is gone.

@@ -1,7 +1,7 @@
 use Rattle.std.proofs.{Common.{◌≡◌, ℕ, List, length, Some, true, false, sym, ap, ◌∙◌, rules, arith}, lemmas.List.Elements.All-push}
 use Rattle.vs_flow.specs.Table.{Table, entry_under, without}
 use Rattle.vs_driver_parts.specs.{Room.IsSpare, State.{DriverConnection, GoneConnection}, Connections.is_let_go, Held.HeldSlots, contracts.slots.Slots.the_view}
-use Rattle.vs_driver_parts.proofs.{Ids.{IsUnder, under}, Numbers.{numbers_without, numbers_left}, SlotChanges.{left_free, left_kept, one_fewer}}
+use Rattle.vs_driver_parts.proofs.{Ids.{IsUnder, under}, Numbers.{numbers_without, numbers_left}, SlotChanges.{left_free, left_kept, noted_without, one_fewer}}
 use Rattle.vs_driver_parts.proofs.slots.Slots.leave.Goals as goal
 
 pub invariant_of-self-then-let_go : goal.invariant_of-self-then-let_go
@@ -21,6 +21,7 @@ invariant_of-self-then-let_go c =
       buffers = omega (arith, kept.buffers, entries, one_fewer s.table c.args.slot u.entry kept.table u.found, c.push_reserved.ensures.len);
       buffer_room = omega (arith, kept.buffer_room, c.push_reserved.ensures.capacity);
       spare = rw c.push_reserved.ensures.items (All-push IsSpare s.spare.items c.clear.new.self kept.spare (search rules));
+      noted = rw table (noted_without s.owes s.table c.args.slot kept.noted);
     }
 
 pub returns-then-let_go : goal.returns-then-let_go
@@ -53,6 +54,7 @@ invariant_of-self-2 c =
       buffers = omega (arith, kept.buffers, entries, one_fewer s.table c.args.slot u.entry kept.table u.found, c.push_reserved-2.ensures.len);
       buffer_room = kept.buffer_room;
       spare = kept.spare;
+      noted = rw table (noted_without s.owes s.table c.args.slot kept.noted);
     }
 
 pub returns : goal.returns

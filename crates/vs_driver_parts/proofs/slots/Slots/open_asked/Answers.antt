@@ -1,6 +1,6 @@
 use Rattle.std.proofs.Common.{◌≡◌, ◌+◌, ◌<◌, ◌≤◌, length, ◌∷◌, [], ap, ◌∙◌, rules, arith, length-append}
 use Rattle.vs_flow.{specs.{Flow.host_flow, Table.{Table, entry_of, with_entry, next_entry}, declared.flow.Flow.Flow}, proofs.Tables.with_entry_sound}
-use Rattle.vs_driver_parts.{specs.{Room.IsSpare, State.DriverConnection}, proofs.{Numbers.numbers_with_entry, SlotChanges.{new_flow, all_front}}}
+use Rattle.vs_driver_parts.{specs.{Room.IsSpare, State.DriverConnection}, proofs.{Numbers.numbers_with_entry, SlotChanges.{new_flow, all_front, noted_with_entry}}}
 use Rattle.vs_limits.specs.declared.TheConstants.{LAST_PORT, LAST_ID}
 use Rattle.vs_driver_parts.proofs.slots.Slots.open_asked.Goals as goal
 
@@ -32,4 +32,5 @@ invariant_of-self c =
       buffers = omega (arith, kept.buffers, entries, length-append s.table.entries (next_entry s.table (host_flow s.next_port c.args.host) c.asked-connection.result ∷ []), c.take_last.ensures.len);
       buffer_room = omega (arith, kept.buffer_room, c.take_last.ensures.capacity);
       spare = all_front IsSpare c.take_last.new.self.items c.take_last.result s.spare.items c.take_last.ensures.items kept.spare;
+      noted = rw table (noted_with_entry s.owes c.noted-self-inside.result c.asked-connection.result c.noted-self-inside.ensures s.table (host_flow s.next_port c.args.host) kept.noted);
     }

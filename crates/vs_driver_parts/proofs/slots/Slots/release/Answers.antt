@@ -18,6 +18,7 @@ invariant_of-self c =
       buffers = omega (arith, kept.buffers, c.remove-gone.ensures.len, c.push_reserved.ensures.len);
       buffer_room = omega (arith, kept.buffer_room, c.push_reserved.ensures.capacity);
       spare = rw c.push_reserved.ensures.items (All-push IsSpare s.spare.items c.into_spare.result kept.spare c.into_spare.ensures);
+      noted = kept.noted;
     }
 
 pub returns-clause-flow : goal.returns-clause-flow
