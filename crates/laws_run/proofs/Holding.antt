@@ -34,7 +34,7 @@ use Rattle.vs_run_report.specs.declared.{connection.Opened.Opened, ending.Ending
 use Rattle.laws_run.specs.{Complete.IsCompleteRun, Dry.{AreIdle, stream_open}}
 use Rattle.laws_run.specs.Places.{ArePlaceWaits, IsPlaceEnding, IsPlaceWait, LacksClient, LacksPlace, has_line, holds_slot, is_unaccepted, is_unlabelled, takes_none}
 use Rattle.laws_run.proofs.{Alike.HasApart, Completing.{apart, closing_full, complete_run, contained, ends, entry_for, flow_known, id_open, id_some, live, on, some_known}}
-use Rattle.laws_run.proofs.{Endings.Ends, Halting.{Halts, Stops, last_of}, Lines.{closed_was_given, given_line, listened_in}, Open.{equivalence, open_stream}, Reporting.{accounted, right_with}}
+use Rattle.laws_run.proofs.{Endings.Ends, Halting.{Halts, Stops, last_of}, Lines.{closed_was_given, given_line, listened_in}, Open.{equivalence, open_stream, pairs_map, pairs_of}, Reporting.{accounted, right_with}}
 use Rattle.vs_driver_parts.specs.declared.answers.ConnectionState.TheVariants as seen
 use Rattle.vs_driver_parts.specs.declared.answers.Received.TheVariants as got
 use Rattle.laws_driver.specs.Carried.Calls as call
@@ -70,7 +70,7 @@ full_call (call.Shutdown id bits) s stops = absurd stops
 full_call (call.Grow id alloc) s stops = absurd stops
 full_call (call.Close id) s stops = absurd stops
 
--- Connections: one is itself; where all of one list, which differ, are in another, those are no fewer; and what is kept of a list, and seen as a connection.
+-- Connections: one is itself; where all of one list, which differ, are in another, those are no fewer; and what is kept of a list, seen as connections.
 same_or_not : (c d : Connection) → Decides (is_same c d) (c ≡ d)
 same_or_not c d = (same_connection c d, λ is. ap (is_same c) (sym is) ∙ self_same c)
 
@@ -79,22 +79,11 @@ few xs ys differ all =
     length-le_from_is_member (equivalence same_or_not) xs ys (IsDistinct-from_AllPairs same_or_not xs differ)
     (λ c is. (is_member-Decides same_or_not ys c).1 (All-contains (Contains ys) xs c all ((is_member-Decides same_or_not xs c).0 is)))
 
+seen_more : (c : Connection) (o : Option Connection) (cs : List Connection) → Contains cs c → Contains (cons_option o cs) c
+seen_more c None cs within = within
+seen_more c (Some d) cs within = Contains-append_right (d ∷ []) cs c within
+
 module _ {A : Type 0} where
-  pairs_of : (key : A → Connection) (xs : List A) (rest : List Connection) → AllPairs (λ x y. key x ≢ key y) xs → AllPairs (λ c d. c ≢ d) rest
-      → All (λ x. All (λ d. key x ≢ d) rest) xs → AllPairs (λ c d. c ≢ d) (map key xs ++ rest)
-  pairs_of key [] rest own others apart = others
-  pairs_of key (x ∷ xs) rest own others apart =
-      AllPairs-cons (λ c d. c ≢ d) (key x) (map key xs ++ rest)
-      (All-append (λ d. key x ≢ d) (map key xs) rest
-      (All-map (λ d. key x ≢ d) key xs (λ k d less. own 0 (suc k) d (omega arith) (omega (arith, less))))
-      (All-head (λ y. All (λ d. key y ≢ d) rest) x xs apart))
-      (pairs_of key xs rest (λ i j d before within. own (suc i) (suc j) d (omega (arith, before)) (omega (arith, within))) others
-      (All-tail (λ y. All (λ d. key y ≢ d) rest) x xs apart))
-
-  seen_more : (c : Connection) (o : Option Connection) (cs : List Connection) → Contains cs c → Contains (cons_option o cs) c
-  seen_more c None cs within = within
-  seen_more c (Some d) cs within = Contains-append_right (d ∷ []) cs c within
-
   within_seen : (f : A → Option Connection) (keep : A → Bool) (xs : List A) (x : A) (c : Connection) → Contains xs x → keep x ≡ true → f x ≡ Some c
       → Contains (filter_map f (filter keep xs)) c
   within_seen f keep [] x c (k, less, at) kept is = absurd (omega (arith, less))
@@ -397,37 +386,30 @@ module _ (script : RunScript) (driver : DriverState) (end : Sight) (apps : List 
 
     -- They differ.
     abbrev holders : List Connection
-    holders = map (λ x. opened x.value.id) driver.table.entries ++ (map (λ g. opened g.id) driver.gone ++ [])
+    holders = map (λ x. opened x.value.id) driver.table.entries ++ map (λ g. opened g.id) driver.gone
 
     holders_differ : AllPairs (λ c d. c ≢ d) holders
     holders_differ =
-        pairs_of (λ x. opened x.value.id) driver.table.entries (map (λ g. opened g.id) driver.gone ++ [])
+        pairs_of (λ x. opened x.value.id) driver.table.entries (map (λ g. opened g.id) driver.gone)
         (λ i j d before less same. (run.kept.honest refl (driver_log end) refl).fits.sound.distinct i j d before less
         (sym (flow_of _ (Contains-get_or driver.table.entries i d (omega (arith, before, less)))) ∙ ap (λ (c : Connection). c.flow) same
         ∙ flow_of _ (Contains-get_or driver.table.entries j d less)))
-        (pairs_of (λ g. opened g.id) driver.gone []
-        (λ i j d before less same. placed.numbers.distinct i j d before less
-        (account.right.received.once _ _ (in_gone _ (Contains-get_or driver.gone i d (omega (arith, before, less)))).0 same))
-        (λ i j d before less. absurd (omega (arith, less))) (λ k d less i c within. absurd (omega (arith, within))))
-        (λ k d less. All-append (λ c. opened (slice_index_or driver.table.entries k d).value.id ≢ c) (map (λ g. opened g.id) driver.gone) []
-        (All-map (λ c. opened (slice_index_or driver.table.entries k d).value.id ≢ c) (λ g. opened g.id) driver.gone
+        (pairs_map (λ g. opened g.id) driver.gone (λ i j d before less same. placed.numbers.distinct i j d before less
+        (account.right.received.once _ _ (in_gone _ (Contains-get_or driver.gone i d (omega (arith, before, less)))).0 same)))
+        (λ k d less. All-map (λ c. opened (slice_index_or driver.table.entries k d).value.id ≢ c) (λ g. opened g.id) driver.gone
         (λ i g within same. placed.numbers.apart i g within k d less
         (account.right.received.once _ _ (in_table _ (Contains-get_or driver.table.entries k d less)) same)))
-        (λ i c within. absurd (omega (arith, within))))
 
     holders_count : All (Contains counted) holders
     holders_count =
         All-append (Contains counted) (map (λ x. opened x.value.id) driver.table.entries) _
         (All-map (Contains counted) (λ x. opened x.value.id) driver.table.entries (λ k d less. entry_counts _ (Contains-get_or driver.table.entries k d less)))
-        (All-append (Contains counted) (map (λ g. opened g.id) driver.gone) []
         (All-map (Contains counted) (λ g. opened g.id) driver.gone (λ k d less. left_counts _ (Contains-get_or driver.gone k d less)))
-        (λ k d less. absurd (omega (arith, less))))
 
     lacks_place : is_full driver ≡ true → LacksPlace opened journal lines driver h
     lacks_place full =
         let all_held = few holders counted holders_differ holders_count in
-        let held = length-append (map (λ x. opened x.value.id) driver.table.entries) (map (λ g. opened g.id) driver.gone ++ []) in
-        let more_held = length-append (map (λ g. opened g.id) driver.gone) [] in
+        let held = length-append (map (λ x. opened x.value.id) driver.table.entries) (map (λ g. opened g.id) driver.gone) in
         let first = length-map driver.table.entries (λ x. opened x.value.id) in
         let second = length-map driver.gone (λ g. opened g.id) in
         let many = length-append (filter_map line_of lined_ones) (filter_map its_stream_of unaccepted_ones ++ filter_map left_of unlabelled_ones) in
@@ -435,7 +417,7 @@ module _ (script : RunScript) (driver : DriverState) (end : Sight) (apps : List 
         let own = few_seen line_of lined_ones in
         let its = few_seen its_stream_of unaccepted_ones in
         let rest = few_seen left_of unlabelled_ones in
-        most (length driver.table.entries + length driver.gone) full (omega (arith, all_held, held, more_held, first, second, many, more, own, its, rest))
+        most (length driver.table.entries + length driver.gone) full (omega (arith, all_held, held, first, second, many, more, own, its, rest))
       where
         most : (n : ℕ) → nat_le DRIVER_CONNECTIONS n ≡ true → n ≤ length lined_ones + (length unaccepted_ones + length unlabelled_ones)
             → LacksPlace opened journal lines driver h

@@ -1,7 +1,9 @@
 -- At rest the device has a connection for each stream with a label that its proxy hasn't closed, and no other.
 use Rattle.std.proofs.Common.{◌≡◌, ◌≢◌, ◌+◌, ◌-◌, ◌<◌, ◌==◌, ◌||◌, ◌&&◌, ℕ, zero, suc, Bool, true, false, cond, List, [], ◌∷◌, length, map, Option, Some, None, Contains, slice_get}
-use Rattle.std.proofs.{Common.{slice_index_or, refl, sym, ap, subst, ◌∙◌, arith, ◌≤◌}, lemmas.{Bool.{Decides.nat_tests, and_parts}, Option.same_Some, List.Elements.All-contains}}
-use Rattle.std.{proofs.lemmas.{List.length-map, Map.Made.length-from_same_keys}, specs.{Bool.{Decides, one_answer}, Cmp.IsEquivalence, List.{All, AllByRecursion, AllPairs, IsDistinct, cons_option}}}
+use Rattle.std.proofs.{Common.{slice_index_or, refl, sym, ap, subst, ◌∙◌, arith, ◌≤◌}, lemmas.Bool.{Decides.nat_tests, and_parts}}
+use Rattle.std.proofs.{Common.{◌++◌, append-nil}, lemmas.Option.{get_or_from_slice_get, same_Some, slice_get-get_or, slice_get_within}}
+use Rattle.std.proofs.lemmas.List.{Elements.{All-append, All-contains, All-head, All-map, All-tail}, Folds.{Any-from_list_any, list_any-from_Any}, Kept.AllPairs-cons}
+use Rattle.std.{proofs.lemmas.{List.length-map, Map.Made.{IsDistinct-from_AllPairs, length-from_same_keys}}, specs.{Bool.{Decides, one_answer}, Cmp.IsEquivalence, List.{All, AllByRecursion, AllPairs, IsDistinct, cons_option}}}
 use Rattle.std.specs.{List.{filter_map, list_any}, Option.{ForSome, option_map, option_map_or}}
 use Rattle.vs_flow.{specs.{Connection.Connection, Flow.same_flow, Table.{IsTable, Table, entry_of}, declared.{flow.Flow.Flow, table.Entry.Entry}}, proofs.Lookups.entry_under_found}
 use Rattle.laws_tables.{proofs.Slots.found_by, specs.Ends.{entries_of, flows_of, is_among}}
@@ -25,8 +27,8 @@ equivalence {eq = eq} same = record {
   congr = λ a b c is. ap (λ x. eq x c) ((same a b).0 is);
 }
 
-same_flows : IsEquivalence same_flow
-same_flows = equivalence (λ f g. (same_is f g, λ is. ap (same_flow f) (sym is) ∙ same_self f))
+flow_or_not : (f g : Flow) → Decides (same_flow f g) (f ≡ g)
+flow_or_not f g = (same_is f g, λ is. ap (same_flow f) (sym is) ∙ same_self f)
 
 -- A connection whose stream is open.
 pub open_stream : (c : Connection) (h : HostContents) → stream_open c h ≡ true → (s : Stream) × (stream_of c h ≡ Some s) × (is_open_in s.state ≡ true)
@@ -49,38 +51,6 @@ label_open f (x ∷ xs) = by (is_open_in x.state) x.label (label_open f xs)
     by true None rest = rest
     by true (Some g) rest = ap (λ (c : Bool). same_flow f g || c) rest
 
-pub record IsPlaced (f : Flow) (xs : List Stream) : Type 0 where
-  pub place : ℕ
-  pub stream : Stream
-  pub at : slice_get xs place ≡ Some stream
-  pub label : stream.label ≡ Some f
-  pub passes : is_open_on f stream ≡ true
-
-pub placed_in : (f : Flow) (xs : List Stream) → list_any (is_open_on f) xs ≡ true → IsPlaced f xs
-placed_in f [] is = absurd cc
-placed_in f (x ∷ xs) is = by (is_open_in x.state) refl x.label refl is (placed_in f xs)
-  where
-    later : IsPlaced f xs → IsPlaced f (x ∷ xs)
-    later r = record { place = suc r.place; stream = r.stream; at = r.at; label = r.label; passes = r.passes }
-
-    own : (g : Flow) (c : Bool) → same_flow f g ≡ c → is_open_in x.state ≡ true → x.label ≡ Some g → (c || list_any (is_open_on f) xs) ≡ true
-        → (list_any (is_open_on f) xs ≡ true → IsPlaced f xs) → IsPlaced f (x ∷ xs)
-    own g true same opened label is rest = record {
-      place = 0;
-      stream = x;
-      at = refl;
-      label = label ∙ ap (λ (h : Flow). let o : Option Flow = Some h in o) (sym (same_is f g same));
-      passes = ap (λ (b : Bool). b && option_map_or (same_flow f) x.label false) opened ∙ ap (λ (o : Option Flow). option_map_or (same_flow f) o false) label
-          ∙ same;
-    }
-    own g false other opened label is rest = later (rest is)
-
-    by : (b : Bool) → is_open_in x.state ≡ b → (o : Option Flow) → x.label ≡ o → ((b && option_map_or (same_flow f) o false) || list_any (is_open_on f) xs) ≡ true
-        → (list_any (is_open_on f) xs ≡ true → IsPlaced f xs) → IsPlaced f (x ∷ xs)
-    by false opened o label is rest = later (rest is)
-    by true opened None label is rest = later (rest is)
-    by true opened (Some g) label is rest = own g (same_flow f g) refl opened label is rest
-
 none_apart : (f : Flow) (gs : List Flow) → list_any (same_flow f) gs ≡ false → AllByRecursion (λ g. same_flow f g ≡ false) gs
 none_apart f [] is = tt
 none_apart f (g ∷ gs) is = by (same_flow f g) refl is (none_apart f gs)
@@ -90,25 +60,21 @@ none_apart f (g ∷ gs) is = by (same_flow f g) refl is (none_apart f gs)
     by true own is rest = absurd cc
     by false other is rest = (other, rest is)
 
--- The flows of a table.
-table_distinct : (es : List DeviceEntry) → AllPairs (λ d e. d.flow ≢ e.flow) es → IsDistinct same_flow (map (λ e. e.flow) es)
-unfolding IsDistinct
-table_distinct [] apart = tt
-table_distinct (e ∷ es) apart = (
-  first es (λ k d less. apart 0 (suc k) d (omega arith) (omega (arith, less))),
-  table_distinct es
-      (λ i j d before within. apart (suc i) (suc j) d (omega (arith, before)) (omega (arith, within))),
-)
-  where
-    first : (xs : List DeviceEntry) → ((k : ℕ) (d : DeviceEntry) → k < length xs → e.flow ≢ (slice_index_or xs k d).flow)
-        → AllByRecursion (λ g. same_flow e.flow g ≡ false) (map (λ x. x.flow) xs)
-    first [] differ = tt
-    first (x ∷ xs) differ = (by (same_flow e.flow x.flow) refl, first xs (λ k d less. differ (suc k) d (omega (arith, less))))
-      where
-        by : (b : Bool) → same_flow e.flow x.flow ≡ b → same_flow e.flow x.flow ≡ false
-        by false other = other
-        by true same = absurd (differ 0 x (omega arith) (same_is e.flow x.flow same))
+-- Keys that differ, before others.
+pub pairs_of : {A K : Type 0} (key : A → K) (xs : List A) (rest : List K) → AllPairs (λ x y. key x ≢ key y) xs → AllPairs (λ c d. c ≢ d) rest
+    → All (λ x. All (λ d. key x ≢ d) rest) xs → AllPairs (λ c d. c ≢ d) (map key xs ++ rest)
+pairs_of key [] rest own others apart = others
+pairs_of key (x ∷ xs) rest own others apart =
+    AllPairs-cons (λ c d. c ≢ d) (key x) (map key xs ++ rest)
+    (All-append (λ d. key x ≢ d) (map key xs) rest
+    (All-map (λ d. key x ≢ d) key xs (λ k d less. own 0 (suc k) d (omega arith) (omega (arith, less))))
+    (All-head (λ y. All (λ d. key y ≢ d) rest) x xs apart))
+    (pairs_of key xs rest (λ i j d before within. own (suc i) (suc j) d (omega (arith, before)) (omega (arith, within))) others
+    (All-tail (λ y. All (λ d. key y ≢ d) rest) x xs apart))
 
+pub pairs_map : {A K : Type 0} (key : A → K) (xs : List A) → AllPairs (λ x y. key x ≢ key y) xs → AllPairs (λ c d. c ≢ d) (map key xs)
+pairs_map key xs own = subst (λ cs. AllPairs (λ c d. c ≢ d) cs) (append-nil (map key xs))
+    (pairs_of key xs [] own (λ i j d before less. absurd (omega (arith, less))) (λ k d less i c within. absurd (omega (arith, within))))
 record HasFlow (f : Flow) (es : List DeviceEntry) : Type 0 where
   entry : DeviceEntry
   within : Contains es entry
@@ -238,10 +204,9 @@ module _ (h : HostContents) (log : Log) (port : ℕ) (t : Table DeviceConnection
       differs : (f : Flow) → is_open_on f x ≡ true → (b : Bool) → list_any (is_open_on f) xs ≡ b → b ≡ false
       differs f opened false is = refl
       differs f opened true is =
-          let other = placed_in f xs is in
-          let place = other.place in
-          let same = open_alone h log port t hands streamed table f (n + 0) (n + suc place) x other.stream (at 0 x refl) (at (suc place) other.stream other.at)
-          opened other.passes in
+          let one = Any-from_list_any (is_open_on f) xs is in
+          let there : slice_get xs one.0 ≡ Some one.1 = slice_get-get_or xs one.0 one.1 one.2 ∙ ap (λ (s : Stream). Some s) one.3 in
+          let same = open_alone h log port t hands streamed table f (n + 0) (n + suc one.0) x one.1 (at 0 x refl) (at (suc one.0) one.1 there) opened one.4 in
           absurd (omega (arith, same))
 
       by : IsDistinct same_flow (filter_map open_label xs) → (b : Bool) → is_open_in x.state ≡ b → (o : Option Flow) → x.label ≡ o
@@ -258,15 +223,6 @@ module _ (h : HostContents) (log : Log) (port : ℕ) (t : Table DeviceConnection
   opens_by state.Waiting a b = absurd cc
   opens_by state.Open a b = refl
   opens_by state.Closed a b = absurd cc
-
-  any_has : (test : Stream → Bool) (xs : List Stream) (k : ℕ) (x : Stream) → slice_get xs k ≡ Some x → test x ≡ true → list_any test xs ≡ true
-  any_has test [] k x at is = absurd cc
-  any_has test (y ∷ ys) zero x at is = let same : y ≡ x = cc in ap (λ (b : Bool). b || list_any test ys) (ap test same ∙ is)
-  any_has test (y ∷ ys) (suc k) x at is = by (test y) (any_has test ys k x at is)
-    where
-      by : (b : Bool) → list_any test ys ≡ true → (b || list_any test ys) ≡ true
-      by true rest = refl
-      by false rest = rest
 
   pub has_stream : (e : DeviceEntry) → Contains t.entries e → HasStream h log e
   has_stream e is =
@@ -305,7 +261,9 @@ module _ (h : HostContents) (log : Log) (port : ℕ) (t : Table DeviceConnection
       let passes : is_open_on e.flow st.stream ≡ true =
       ap (λ (b : Bool). b && option_map_or (same_flow e.flow) st.stream.label false) st.opened
       ∙ ap (λ (o : Option Flow). option_map_or (same_flow e.flow) o false) st.label ∙ same_self e.flow in
-      any_has (is_open_on e.flow) h.streams (e.value.stream - 1) st.stream (placed (e.value.stream == 0) e.value.stream st.stream st.at) passes
+      let at = placed (e.value.stream == 0) e.value.stream st.stream st.at in
+      list_any-from_Any (is_open_on e.flow) h.streams (e.value.stream - 1, st.stream, slice_get_within h.streams (e.value.stream - 1) st.stream at,
+      get_or_from_slice_get h.streams (e.value.stream - 1) st.stream st.stream at, passes)
     where
       placed : (b : Bool) (id : ℕ) (st : Stream) → cond b None (slice_get h.streams (id - 1)) ≡ Some st → slice_get h.streams (id - 1) ≡ Some st
       placed true id st at = absurd cc
@@ -330,5 +288,6 @@ module _ (h : HostContents) (log : Log) (port : ℕ) (t : Table DeviceConnection
   pub as_many_open : length t.entries ≡ length (open_labels h)
   as_many_open =
       sym (length-map t.entries (λ e. e.flow))
-      ∙ length-from_same_keys same_flows (map (λ e. e.flow) t.entries) (open_labels h) (table_distinct t.entries table.distinct)
+      ∙ length-from_same_keys (equivalence flow_or_not) (map (λ e. e.flow) t.entries) (open_labels h)
+      (IsDistinct-from_AllPairs flow_or_not (map (λ e. e.flow) t.entries) (pairs_map (λ e. e.flow) t.entries table.distinct))
       (labels_distinct 0 h.streams (λ k s at. subst (λ (i : ℕ). slice_get h.streams i ≡ Some s) (from_none k) at)) (λ f. up f _ _ refl refl)
