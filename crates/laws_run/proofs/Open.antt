@@ -1,10 +1,10 @@
 -- At rest the device has a connection for each stream with a label that its proxy hasn't closed, and no other.
 use Rattle.std.proofs.Common.{◌≡◌, ◌≢◌, ◌+◌, ◌-◌, ◌<◌, ◌==◌, ◌||◌, ◌&&◌, ℕ, zero, suc, Bool, true, false, cond, List, [], ◌∷◌, length, map, Option, Some, None, Contains, slice_get}
-use Rattle.std.proofs.{Common.{slice_index_or, refl, sym, ap, subst, ◌∙◌, arith, ◌≤◌}, lemmas.Bool.{Decides.nat_tests, and_parts}}
-use Rattle.std.proofs.{Common.{◌++◌, append-nil}, lemmas.Option.{get_or_from_slice_get, same_Some, slice_get-get_or, slice_get_within}}
-use Rattle.std.proofs.lemmas.List.{Elements.{All-append, All-contains, All-head, All-map, All-tail}, Folds.{Any-from_list_any, list_any-from_Any}, Kept.AllPairs-cons}
-use Rattle.std.{proofs.lemmas.{List.length-map, Map.Made.{IsDistinct-from_AllPairs, length-from_same_keys}}, specs.{Bool.{Decides, one_answer}, Cmp.IsEquivalence, List.{All, AllByRecursion, AllPairs, IsDistinct, cons_option}}}
-use Rattle.std.specs.{List.{filter_map, list_any}, Option.{ForSome, option_map, option_map_or}}
+use Rattle.std.proofs.{Common.{slice_index_or, refl, sym, ap, subst, ◌∙◌, arith, ◌≤◌, ◌++◌, append-nil}, lemmas.{Bool.{Decides.nat_tests, and_parts}, Option.get_or_from_slice_get}}
+use Rattle.std.proofs.lemmas.{Option.{same_Some, slice_get-get_or, slice_get_within}, List.Elements.{All-append, All-contains, All-head, All-map, All-tail}}
+use Rattle.std.proofs.lemmas.{List.{Folds.{Any-from_list_any, list_any-from_Any}, Kept.AllPairs-cons, length-map}, Map.Made.{IsDistinct-from_AllPairs, length-from_same_keys}}
+use Rattle.std.specs.{Bool.{Decides, one_answer}, Cmp.IsEquivalence, List.{All, AllByRecursion, AllPairs, IsDistinct, cons_option, filter_map, list_any}, Option.ForSome}
+use Rattle.std.specs.Option.{option_map, option_map_or}
 use Rattle.vs_flow.{specs.{Connection.Connection, Flow.same_flow, Table.{IsTable, Table, entry_of}, declared.{flow.Flow.Flow, table.Entry.Entry}}, proofs.Lookups.entry_under_found}
 use Rattle.laws_tables.{proofs.Slots.found_by, specs.Ends.{entries_of, flows_of, is_among}}
 use Rattle.vs_conn.specs.End.{ConnectionEnd}
@@ -12,9 +12,8 @@ use Rattle.vs_outside.specs.{Host.{HostContents, Stream, stream_at, waits}, Host
 use Rattle.vs_page.{specs.Log.Log, proofs.Flows.{same_is, same_self}}
 use Rattle.vs_device_parts.specs.State.{DeviceConnection, DeviceEntry}
 use Rattle.vs_proxy_parts.specs.State.{Handshake}
-use Rattle.laws_device.specs.{Honest.end_in, Streams.{is_open_in, is_open_on}, Carried.Streamed.{IsJoined, IsStreamed, Seen, client_waits, connection_in}}
-use Rattle.laws_device.{specs.Carried.Streamed.{connection_of, count_in, look, seen}, proofs.{Waiting.open_among, Carried.{Closing.{is_under, named}, Hosts.label_here}}}
-use Rattle.laws_device.proofs.Carried.Hosts.{label_there, stream_is, there}
+use Rattle.laws_device.specs.{Honest.end_in, Streams.{is_open_in, is_open_on}, Carried.Streamed.{IsJoined, IsStreamed, Seen, client_waits, connection_in, connection_of, count_in}}
+use Rattle.laws_device.{specs.Carried.Streamed.{look, seen}, proofs.{Waiting.open_among, Carried.{Closing.{is_under, named}, Hosts.{label_here, label_there, stream_is, there}}}}
 use Rattle.laws_rest.proofs.Hosts.{stream_seen}
 use Rattle.laws_run.specs.{Complete.{open_label, open_labels}, Dry.{OfOpen, stream_open}}
 use Rattle.vs_outside.specs.declared.host_net.StreamState.TheVariants as state
