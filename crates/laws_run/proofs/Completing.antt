@@ -28,13 +28,13 @@ use Rattle.laws_apps.specs.Traces.{IsClosing, IsDrained, IsStopped, IsTraced, Te
 use Rattle.vs_report.specs.declared.giving.Totals.{Totals}
 use Rattle.vs_run_report.specs.{Endings.{ending_at, state_at, why_at}, Report.ended_at, Right.IsRightReport, declared.ending.Ending.Ending}
 use Rattle.laws_run.specs.{Complete.{IsAtOpen, IsCompleteEnding, IsCompleteExchange, IsCompleteRun, IsCompleteWait, LacksCredit, open_labels}, Bounds.{AreShutDown, HasBounds}}
-use Rattle.laws_run.specs.{Bounds.{HasEnd, IsBounded, IsShutDown, TakesOn, calls_of_others, done_at, early, is_cut, total}, Dry.{AreIdle, IsDry, IsFull, IsFullAt, OfOpen, reads_of, stream_open}}
-use Rattle.laws_run.{specs.Dry.writes_of, proofs.{Bounding.{AreFree, ArePlain, Way, all_moved, receiving, sending, sending_all, tally}, Moved.{all_plain, app_early, app_free}}}
-use Rattle.laws_run.proofs.{Moved.{app_less, app_plain, drain_early, drained, free_moves, free_sends, stopped, received_enough, sent_enough}, Trying.{all_lined, all_tried, tried}}
-use Rattle.laws_run.proofs.{Alike.{AreApart, HasApart, Leaves, leaves_core}, Drying.under_at, Endings.{Ends, all_ends, ends_on}, Wrote.{same_current, same_payload}}
-use Rattle.laws_run.proofs.{Wrote.{streamed, to_device, to_driver, wrote_there}, Unread.{live_connection, no_free, some_unread, to_read, unread_within}, Halting.{Halts, IsRoomy, Stops, first_call}}
-use Rattle.laws_run.proofs.{Open.{among_entry, as_many_open, entry_of_open, one_is, open_stream, stream_there}, Still.poll_still, Waiting.{credit_call, empty_call}}
-use Rattle.laws_run.proofs.Waiting.{not_open, recv_id, send_id}
+use Rattle.laws_run.specs.{Bounds.{HasEnd, IsBounded, IsShutDown, TakesOn, calls_of_others, done_at, early, is_cut, total}, Dry.{AreIdle, IsDry, IsFull, IsFullAt, OfOpen}}
+use Rattle.laws_run.{specs.Dry.{reads_of, stream_open, writes_of}, proofs.{Bounding.{AreFree, ArePlain, Way, all_moved, receiving, sending, sending_all, tally}, Moved.all_plain}}
+use Rattle.laws_run.proofs.{Moved.{app_early, app_free, app_less, app_plain, drain_early, drained, free_moves, free_sends, stopped, received_enough, sent_enough}, Trying.all_lined}
+use Rattle.laws_run.proofs.{Trying.{all_tried, tried}, Alike.{AreApart, HasApart, Leaves, leaves_core}, Drying.under_at, Endings.{Ends, all_ends, ends_on}, Wrote.same_current}
+use Rattle.laws_run.proofs.{Wrote.{same_payload, streamed, to_device, to_driver, wrote_there}, Unread.{live_connection, no_free, some_unread, to_read, unread_within}}
+use Rattle.laws_run.proofs.{Halting.{Halts, IsRoomy, Stops, first_call}, Open.{among_entry, as_many_open, entry_of_open, one_is, open_stream, stream_there}, Still.poll_still}
+use Rattle.laws_run.proofs.Waiting.{credit_call, empty_call, not_open, recv_id, send_id}
 use Rattle.vs_apps_parts.specs.declared.journal.WaitsFor.TheVariants as waits
 use Rattle.laws_driver.specs.Carried.Calls as call
 use Rattle.vs_run_report.specs.declared.ending.Ending.TheVariants as ending

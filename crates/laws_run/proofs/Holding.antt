@@ -1,40 +1,40 @@
 -- At rest a connect that waits finds all slots held, and an accept that waits finds each connection of its port whose stream is open with a line; and the report.
 use Rattle.std.proofs.Common.{◌≡◌, ◌≢◌, ℕ, zero, suc, ◌+◌, ◌-◌, ◌<◌, ◌≤◌, ◌==◌, ◌||◌, ◌&&◌, nat_le, not, Bool, true, false, cond, List, [], ◌∷◌, ◌++◌, Option, Some, None, Contains}
 use Rattle.std.proofs.Common.{find, filter, is_some, length, map, option_and_then, slice_get, slice_index_or, refl, sym, ap, subst, ◌∙◌, arith, inl, inr, length-append}
-use Rattle.std.proofs.lemmas.Bool.{Decides.nat_tests, and_parts, eq-eqb, eqb-true}
-use Rattle.std.proofs.lemmas.List.Elements.{All-append, All-contains, All-head, All-map, All-tail, Contains-append_left, Contains-append_right, Contains-get_or}
-use Rattle.std.proofs.lemmas.{List.{Folds.Any-from_list_any, FromFn.{get_or-range_with_len, length-range_with_len}, Kept.AllPairs-cons, length-map}}
-use Rattle.std.proofs.lemmas.{Map.Made.{IsDistinct-from_AllPairs, is_member-Decides, length-le_from_is_member}, Option.{same_Some, slice_get_within}}
-use Rattle.std.specs.{Bool.Decides, List.{All, AllPairs, cons_option, filter_map, list_any, range_with_len}, Option.{option_map, option_map_or}, Prelude.position}
-use Rattle.vs_conn.specs.declared.{end.State.{State, TheVariants.Live}}
+use Rattle.std.proofs.lemmas.{Bool.{Decides.nat_tests, and_parts, eq-eqb, eqb-true}, List.Elements.{All-append, All-contains, All-head, All-map, All-tail, Contains-append_left}}
+use Rattle.std.proofs.lemmas.List.{Elements.{Contains-append_right, Contains-get_or}, Folds.Any-from_list_any, FromFn.{get_or-range_with_len, length-range_with_len}}
+use Rattle.std.proofs.lemmas.{List.{Kept.AllPairs-cons, length-map}, Map.Made.{IsDistinct-from_AllPairs, is_member-Decides, length-le_from_is_member}, Option.same_Some}
+use Rattle.std.{proofs.lemmas.Option.slice_get_within, specs.{Bool.Decides, List.{All, AllPairs, cons_option, filter_map, list_any, range_with_len}, Option.option_map}}
+use Rattle.std.specs.{Option.option_map_or, Prelude.position}
+use Rattle.vs_conn.specs.declared.end.State.{State, TheVariants.Live}
 use Rattle.vs_flow.{specs.{Connection.Connection, Flow.is_assigned, declared.flow.Flow.Flow}, proofs.Entries.none_found}
 use Rattle.vs_limits.specs.declared.TheConstants.{DRIVER_CONNECTIONS, FIRST_CID}
 use Rattle.vs_outside.specs.{Faults.one_more, Host.{HostContents, Stream, stream_at}, HostBytes.{connection_at, labelled_with, numbered_in, stream_of}}
 use Rattle.vs_ring_shared.specs.Sights.{DeviceSight, Sight, device_contents, driver_contents, driver_log}
 use Rattle.vs_script.specs.App.{Act, Accept}
-use Rattle.vs_driver_parts.specs.{Connections.{is_full, table_shown as guest_shown}, Listening.{is_answered, listener_on, next_accepted}}
-use Rattle.vs_driver_parts.specs.State.{DriverEntry, DriverState, GoneConnection, Listener, entry_known_as, gone_known_as, is_known_as}
-use Rattle.vs_driver_parts.specs.declared.answers.{ConnectionState.ConnectionState, Polled.Polled, Received.Received}
+use Rattle.vs_driver_parts.specs.{Connections.{is_full, table_shown as guest_shown}, Listening.{is_answered, listener_on, next_accepted}, State.{DriverEntry, DriverState}}
+use Rattle.vs_driver_parts.specs.{State.{GoneConnection, Listener, entry_known_as, gone_known_as, is_known_as}, declared.answers.{ConnectionState.ConnectionState, Polled.Polled}}
+use Rattle.vs_driver_parts.specs.declared.answers.Received.{Received}
 use Rattle.vs_device_parts.specs.{Playing.situation, Turns.table_shown as device_shown}
 use Rattle.vs_proxy_parts.specs.State.{ProxyState}
 use Rattle.laws_tables.{specs.Drains.is_same, proofs.Logs.same_connection}
 use Rattle.laws_driver.specs.{Honest.slots_of, Carried.{Calls.{GuestCall, Journal, account_of}, Received.ReceivedOn}}
-use Rattle.laws_device.{specs.{Streams.is_open_in, Carried.Streamed.{seen as seen_in}}, proofs.Carried.Hosts.label_there}
+use Rattle.laws_device.{specs.{Streams.is_open_in, Carried.Streamed.seen as seen_in}, proofs.Carried.Hosts.label_there}
 use Rattle.laws_rest.proofs.Hosts.{stream_seen}
 use Rattle.laws_proxy.specs.Honest.{IsProxyStreamed}
 use Rattle.laws_settled.specs.Settled.{IsSettled, IsSteady}
 use Rattle.vs_apps_parts.specs.{Journals.calls_of, Scripts.{RunScript, acts_of, calls_next}, Told.{told_look, told_recv, wait_of}, declared.journal.Entry.Entry}
 use Rattle.vs_apps_parts.specs.declared.{journal.WaitsFor.WaitsFor, progress.{AppState.AppState, Progress.Progress}}
-use Rattle.laws_apps.specs.{Accounts.IsAccount, Calls.run_with, Rounds.AllStand, Runs.{IsRunOf, PollsTo, Run, poll_moved}, Placed.{AreOwned, ArePlaced, IsPlaced}}
-use Rattle.laws_apps.specs.Placed.{IsPlacedEntry, IsPlacedGone, IsPlacedValue, stands_closed, stands_unanswered, waits_at, was_closed, was_given, was_listened}
-use Rattle.laws_apps.proofs.{Naming.self_same, Placed.{one_of, or_first, or_second}}
+use Rattle.laws_apps.specs.{Accounts.IsAccount, Calls.run_with, Rounds.AllStand, Runs.{IsRunOf, PollsTo, Run, poll_moved}, Placed.{AreOwned, ArePlaced, IsPlaced, IsPlacedEntry}}
+use Rattle.laws_apps.{specs.Placed.{IsPlacedGone, IsPlacedValue, stands_closed, stands_unanswered, waits_at, was_closed, was_given, was_listened}, proofs.Naming.self_same}
+use Rattle.laws_apps.proofs.Placed.{one_of, or_first, or_second}
 use Rattle.vs_report.specs.declared.giving.Totals.{Totals}
-use Rattle.vs_run_report.specs.{Connections.opened_all, Endings.{ending_at, state_at, why_at}, Report.ended_at, Right.IsRightReport}
-use Rattle.vs_run_report.specs.declared.{connection.Opened.Opened, ending.Ending.Ending}
-use Rattle.laws_run.specs.{Complete.IsCompleteRun, Dry.{AreIdle, stream_open}}
-use Rattle.laws_run.specs.Places.{ArePlaceWaits, IsPlaceEnding, IsPlaceWait, LacksClient, LacksPlace, has_line, holds_slot, is_unaccepted, is_unlabelled, takes_none}
-use Rattle.laws_run.proofs.{Alike.HasApart, Completing.{apart, closing_full, complete_run, contained, ends, entry_for, flow_known, id_open, id_some, live, on, some_known}}
-use Rattle.laws_run.proofs.{Endings.Ends, Halting.{Halts, Stops, last_of}, Lines.{closed_was_given, given_line, listened_in}, Open.{equivalence, open_stream, pairs_map, pairs_of}, Reporting.{accounted, right_with}}
+use Rattle.vs_run_report.specs.{Connections.opened_all, Endings.{ending_at, state_at, why_at}, Report.ended_at, Right.IsRightReport, declared.connection.Opened.Opened}
+use Rattle.vs_run_report.specs.declared.ending.Ending.{Ending}
+use Rattle.laws_run.specs.{Complete.IsCompleteRun, Dry.{AreIdle, stream_open}, Places.{ArePlaceWaits, IsPlaceEnding, IsPlaceWait, LacksClient, LacksPlace, has_line, holds_slot}}
+use Rattle.laws_run.{specs.Places.{is_unaccepted, is_unlabelled, takes_none}, proofs.{Alike.HasApart, Completing.{apart, closing_full, complete_run, contained, ends, entry_for}}}
+use Rattle.laws_run.proofs.{Completing.{flow_known, id_open, id_some, live, on, some_known}, Endings.Ends, Halting.{Halts, Stops, last_of}, Lines.{closed_was_given, given_line}}
+use Rattle.laws_run.proofs.{Lines.listened_in, Open.{equivalence, open_stream, pairs_map, pairs_of}, Reporting.{accounted, right_with}}
 use Rattle.vs_driver_parts.specs.declared.answers.ConnectionState.TheVariants as seen
 use Rattle.vs_driver_parts.specs.declared.answers.Received.TheVariants as got
 use Rattle.laws_driver.specs.Carried.Calls as call
@@ -161,13 +161,21 @@ module _ (script : RunScript) (driver : DriverState) (end : Sight) (apps : List 
   owned : AreOwned (length script) entries
   owned = (run.kept.places refl (driver_log end) refl).1
 
+  joined : HasApart driver
+  joined =
+      apart script driver end apps entries bytes p e h faults run settled steady old stood all
+      room same_apps same_entries polled told past heard polls still same_driver streams idle
+
   alive : (x : DriverEntry) → Contains driver.table.entries x → x.value.end.state ≡ Live
-  alive = live script driver end apps entries bytes p e h faults run settled steady old stood all room same_apps same_entries polled told past heard polls still same_driver streams idle
+  alive =
+      live script driver end apps entries bytes p e h faults run settled steady old stood all
+      room same_apps same_entries polled told past heard polls still same_driver streams idle
 
   module _ (opened : ℕ → Connection) (account : IsAccount 1 opened journal entries end.log (slots_of driver)) where
     its_own : (x : DriverEntry) → Contains driver.table.entries x → (s : Stream) × (stream_of (opened x.value.id) h ≡ Some s) × (is_open_in s.state ≡ true)
     its_own x within = open_stream (opened x.value.id) h
-        (id_open script driver end apps entries bytes p e h faults run settled steady old stood all room same_apps same_entries polled told past heard polls still same_driver streams idle
+        (id_open script driver end apps entries bytes p e h faults run settled steady old stood all
+        room same_apps same_entries polled told past heard polls still same_driver streams idle
         opened account x.value.id x within refl)
 
     -- A connection whose id was closed is shut both ways, so its stream takes nothing.
@@ -177,7 +185,8 @@ module _ (script : RunScript) (driver : DriverState) (end : Sight) (apps : List 
         ap (λ (st : State). stands_closed st x.value.end.own) (sym (alive x within))
         ∙ (All-contains (IsPlacedEntry journal driver.listeners) driver.table.entries x placed.entries within).value.shut closed in
         let shut = and_parts x.value.end.own.send x.value.end.own.receive over in
-        let full = closing_full script driver end apps entries bytes p e h faults run settled steady old stood all room same_apps same_entries polled told past heard polls still same_driver streams idle
+        let full = closing_full script driver end apps entries bytes p e h faults run settled steady old stood all
+        room same_apps same_entries polled told past heard polls still same_driver streams idle
         opened account x.value.id x within refl shut.0 shut.1 in
         let s = its_own x within in
         ap (λ (o : Option Stream). option_map_or (λ y. is_open_in y.state && option_map_or (λ n. n == 0) y.room false) o false) s.1
@@ -193,17 +202,20 @@ module _ (script : RunScript) (driver : DriverState) (end : Sight) (apps : List 
 
     in_table : (x : DriverEntry) → Contains driver.table.entries x → 1 ≤ (opened x.value.id).number
     in_table =
-        some_known script driver end apps entries bytes p e h faults run settled steady old stood all room same_apps same_entries polled told past heard polls still same_driver streams idle
+        some_known script driver end apps entries bytes p e h faults run settled steady old stood all
+        room same_apps same_entries polled told past heard polls still same_driver streams idle
         opened account
 
     flow_of : (x : DriverEntry) → Contains driver.table.entries x → (opened x.value.id).flow ≡ x.flow
     flow_of =
-        flow_known script driver end apps entries bytes p e h faults run settled steady old stood all room same_apps same_entries polled told past heard polls still same_driver streams idle
+        flow_known script driver end apps entries bytes p e h faults run settled steady old stood all
+        room same_apps same_entries polled told past heard polls still same_driver streams idle
         opened account
 
     some_id : (x : DriverEntry) → Contains driver.table.entries x → 1 ≤ x.value.id
     some_id =
-        id_some script driver end apps entries bytes p e h faults run settled steady old stood all room same_apps same_entries polled told past heard polls still same_driver streams idle
+        id_some script driver end apps entries bytes p e h faults run settled steady old stood all
+        room same_apps same_entries polled told past heard polls still same_driver streams idle
         opened account
 
     in_gone : (g : GoneConnection) → Contains driver.gone g → (1 ≤ (opened g.id).number) × ((opened g.id).flow ≡ g.flow)
@@ -236,7 +248,8 @@ module _ (script : RunScript) (driver : DriverState) (end : Sight) (apps : List 
             (none_found (is_known_as x.value.id) driver.table.entries is) within in
             let no_way : true ≡ false = sym passes ∙ fails in absurd cc
         by (Some y) is =
-            settled_one y (contained script driver end apps entries bytes p e h faults run settled steady old stood all room same_apps same_entries polled told past heard polls still same_driver streams idle x.value.id y is).0
+            settled_one y (contained script driver end apps entries bytes p e h faults run settled steady old stood all
+            room same_apps same_entries polled told past heard polls still same_driver streams idle x.value.id y is).0
 
     lined : (port : ℕ) → next_accepted port driver ≡ None → (c : Connection) → c.flow.guest ≡ port → 1 ≤ c.number → stream_open c h ≡ true
         → has_line opened lines c ≡ true
@@ -244,7 +257,9 @@ module _ (script : RunScript) (driver : DriverState) (end : Sight) (apps : List 
         subst (λ (d : Connection). has_line opened lines d ≡ true) r.2 (is_lined (was_closed x.value.id journal) refl)
       where
         r : (y : DriverEntry) × Contains driver.table.entries y × (opened y.value.id ≡ c)
-        r = entry_for script driver end apps entries bytes p e h faults run settled steady old stood all room same_apps same_entries polled told past heard polls still same_driver streams idle
+        r =
+            entry_for script driver end apps entries bytes p e h faults run settled steady old stood all
+            room same_apps same_entries polled told past heard polls still same_driver streams idle
             opened account c some opens
 
         x : DriverEntry
@@ -326,7 +341,8 @@ module _ (script : RunScript) (driver : DriverState) (end : Sight) (apps : List 
         → Contains counted c
     stream_counts c some assigned none s is =
         let it = stream_seen h e.sight.log p.next_port p.device.table p.handshakes
-        (on script driver end apps entries bytes p e h faults run settled steady old stood all room same_apps same_entries polled told past heard polls still same_driver streams idle)
+        (on script driver end apps entries bytes p e h faults run settled steady old stood all
+        room same_apps same_entries polled told past heard polls still same_driver streams idle)
         c some s is in
         let here = connection_seen it.id s c h some it.at it.label in
         Contains-append_right (filter_map line_of lined_ones) _ c (Contains-append_left (filter_map its_stream_of unaccepted_ones) _ c
@@ -427,9 +443,6 @@ module _ (script : RunScript) (driver : DriverState) (end : Sight) (apps : List 
     halts_so : (k : ℕ) (why : WaitsFor) → Halts old.driver (acts_of k script) (state_at k apps).progress why driver
         → IsPlaceWait script opened journal lines driver h (acts_of k script) (state_at k apps).progress why
     halts_so k waits.Full halts = lacks_place (full_call halts.call driver (halts.stops joined))
-      where
-        joined : HasApart driver
-        joined = apart script driver end apps entries bytes p e h faults run settled steady old stood all room same_apps same_entries polled told past heard polls still same_driver streams idle
     halts_so k waits.NoneWaiting halts = λ port at.
         let q : Progress = (state_at k apps).progress in
         let act : halts.act ≡ Accept port = same_Some halts.act (Accept port) (sym halts.next ∙ at) in
@@ -437,9 +450,6 @@ module _ (script : RunScript) (driver : DriverState) (end : Sight) (apps : List 
         same_Some halts.call (call.Accept port) (sym halts.last ∙ ap (λ (a : Act). last_of (calls_next a q)) act) in
         let stops : Stops (call.Accept port) waits.NoneWaiting driver = subst (λ (c : GuestCall). Stops c waits.NoneWaiting driver) own (halts.stops joined) in
         lacks_client port stops.0 stops.1
-      where
-        joined : HasApart driver
-        joined = apart script driver end apps entries bytes p e h faults run settled steady old stood all room same_apps same_entries polled told past heard polls still same_driver streams idle
     halts_so k (waits.NoDescriptor n) halts = tt
     halts_so k (waits.NoCredit tx alloc fwd) halts = tt
     halts_so k waits.Empty halts = tt
@@ -451,7 +461,8 @@ module _ (script : RunScript) (driver : DriverState) (end : Sight) (apps : List 
         subst (λ (b : Bool). IsPlaceEnding script opened journal lines driver h (acts_of k script) (state_at k apps).progress
         (cond b (ending_at ((state_at k apps).progress.at + 1) (why_at (state_at k apps).waiting entries)) ending.Done)) (sym done) tt
     ends_so k (inr rests) =
-        subst (λ (x : Ending). IsPlaceEnding script opened journal lines driver h (acts_of k script) (state_at k apps).progress x) (sym rests.ended) (halts_so k rests.why rests.halts)
+        subst (λ (x : Ending). IsPlaceEnding script opened journal lines driver h (acts_of k script) (state_at k apps).progress x) (sym rests.ended)
+        (halts_so k rests.why rests.halts)
 
   -- The report, with all that is so of it.
   pub complete_report : (opened : ℕ → Connection)
@@ -464,7 +475,9 @@ module _ (script : RunScript) (driver : DriverState) (end : Sight) (apps : List 
       let of = accounted script driver end apps entries bytes p e h faults run settled steady old stood all same_apps same_entries streams in (
         of.0,
         right_with script driver end apps entries bytes p e h faults run settled steady old stood all same_apps same_entries streams of.0 of.1,
-        complete_run script driver end apps entries bytes p e h faults run settled steady old stood all room same_apps same_entries polled told past heard polls still same_driver streams idle of.0 of.1,
+        complete_run script driver end apps entries bytes p e h faults run settled steady old stood all
+            room same_apps same_entries polled told past heard polls still same_driver streams idle of.0 of.1,
         λ k less. ends_so of.0 of.1 k
-            (ends script driver end apps entries bytes p e h faults run settled steady old stood all room same_apps same_entries polled told past heard polls still same_driver streams idle k less),
+            (ends script driver end apps entries bytes p e h faults run settled steady old stood all
+            room same_apps same_entries polled told past heard polls still same_driver streams idle k less),
       )

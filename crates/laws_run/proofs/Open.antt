@@ -74,6 +74,7 @@ pairs_of key (x ∷ xs) rest own others apart =
 pub pairs_map : {A K : Type 0} (key : A → K) (xs : List A) → AllPairs (λ x y. key x ≢ key y) xs → AllPairs (λ c d. c ≢ d) (map key xs)
 pairs_map key xs own = subst (λ cs. AllPairs (λ c d. c ≢ d) cs) (append-nil (map key xs))
     (pairs_of key xs [] own (λ i j d before less. absurd (omega (arith, less))) (λ k d less i c within. absurd (omega (arith, within))))
+
 record HasFlow (f : Flow) (es : List DeviceEntry) : Type 0 where
   entry : DeviceEntry
   within : Contains es entry
@@ -261,8 +262,13 @@ module _ (h : HostContents) (log : Log) (port : ℕ) (t : Table DeviceConnection
       ap (λ (b : Bool). b && option_map_or (same_flow e.flow) st.stream.label false) st.opened
       ∙ ap (λ (o : Option Flow). option_map_or (same_flow e.flow) o false) st.label ∙ same_self e.flow in
       let at = placed (e.value.stream == 0) e.value.stream st.stream st.at in
-      list_any-from_Any (is_open_on e.flow) h.streams (e.value.stream - 1, st.stream, slice_get_within h.streams (e.value.stream - 1) st.stream at,
-      get_or_from_slice_get h.streams (e.value.stream - 1) st.stream st.stream at, passes)
+      list_any-from_Any (is_open_on e.flow) h.streams (
+        e.value.stream - 1,
+        st.stream,
+        slice_get_within h.streams (e.value.stream - 1) st.stream at,
+        get_or_from_slice_get h.streams (e.value.stream - 1) st.stream st.stream at,
+        passes,
+      )
     where
       placed : (b : Bool) (id : ℕ) (st : Stream) → cond b None (slice_get h.streams (id - 1)) ≡ Some st → slice_get h.streams (id - 1) ≡ Some st
       placed true id st at = absurd cc

@@ -4,9 +4,9 @@ use Rattle.vs_flow.specs.{Connection.Connection, Flow.is_assigned, declared.flow
 use Rattle.vs_limits.specs.declared.TheConstants.{FIRST_CID}
 use Rattle.laws_history.specs.{Again.count, Packets.is_request, declared.packet.Packet.Packet, History.{Answerer, Asker, Side, gots, peer, puts}}
 use Rattle.vs_outside.specs.{Host.HostContents, HostBytes.host_wrote}
-use Rattle.vs_page.specs.{Fair.{asked_by, current, instance_from, number_of, payload_got, payload_of, payload_put}, Log.{Device, Driver, Log, Role, flow_got, other_role, packets_got}}
-use Rattle.vs_page.{specs.{Log.{packets_put, side_of, whole_of}, declared.log.LogEntry.TheVariants.{GotEvent, GotPacket, Mark, PutEvent, PutPacket}}, proofs.Entries.got_on}
-use Rattle.vs_page.proofs.Flows.{opposite_by, same_self}
+use Rattle.vs_page.specs.{Fair.{asked_by, current, instance_from, number_of, payload_got, payload_of, payload_put}, Log.{Device, Driver, Log, Role, flow_got, other_role}}
+use Rattle.vs_page.specs.{Log.{packets_got, packets_put, side_of, whole_of}, declared.log.LogEntry.TheVariants.{GotEvent, GotPacket, Mark, PutEvent, PutPacket}}
+use Rattle.vs_page.proofs.{Entries.got_on, Flows.{opposite_by, same_self}}
 use Rattle.vs_driver_parts.specs.State.{DriverState}
 use Rattle.vs_device_parts.specs.Playing.{situation}
 use Rattle.vs_ring_shared.specs.Sights.{DeviceSight, Sight, device_contents, device_log}

@@ -1,18 +1,18 @@
 -- Bounds of a complete run: what was sent at least on a connection, by the instructions that its app carried out there; and what became of one that was closed.
-use Rattle.std.specs.Prelude.{◌≡◌, ℕ, ◌+◌, ◌<◌, ◌≤◌, ◌==◌, ◌&&◌, ◌||◌, not, nat_lt, Bool, true, false, if◌then◌else◌, List, [], ◌∷◌, ◌++◌, length, slice_get, Some, None, is_some, take}
-use Rattle.std.specs.List.{list_any}
+use Rattle.std.specs.Prelude.{◌≡◌, ℕ, ◌+◌, ◌<◌, ◌≤◌, ◌==◌, ◌&&◌, ◌||◌, not, nat_lt, Bool, true, false, if◌then◌else◌, List, [], ◌∷◌, ◌++◌, length, slice_get, Some, None, is_some}
+use Rattle.std.specs.{Prelude.take, List.list_any}
 use Rattle.vs_flow.specs.Connection.{Connection}
 use Rattle.vs_outside.specs.{Host.HostContents, HostBytes.host_wrote}
 use Rattle.vs_script.specs.{App.{Accept, Act, Connect, Drain, Exchange, Recv, Send}, Data.size_of}
 use Rattle.laws_driver.specs.Carried.Calls.{Close, GuestCall, Journal, Made, ReplyTo, names, received_by}
-use Rattle.laws_driver.specs.Carried.Calls as call
 use Rattle.vs_apps_parts.specs.{Journals.{calls_of, calls_of_app, gathered, made_by, sent_as}, Scripts.{Follows, RunScript, acts_of, after_step, all_noted, begun, told_in}}
-use Rattle.vs_apps_parts.specs.{Told.told_of, declared.{journal.Entry.Entry, progress.AppState.AppState, progress.Progress.Progress, told.Told.Told}}
-use Rattle.vs_apps_parts.specs.declared.told.Told.TheVariants as told
-use Rattle.laws_apps.specs.{Placed.accepted_as, Placed.asked_as, Traces.is_shut}
+use Rattle.vs_apps_parts.specs.{Told.told_of, declared.{journal.Entry.Entry, progress.{AppState.AppState, Progress.Progress}, told.Told.Told}}
+use Rattle.laws_apps.specs.{Placed.{accepted_as, asked_as}, Traces.is_shut}
 use Rattle.vs_run_report.specs.{Connections.opened_of, Endings.state_at}
 use Rattle.laws_settled.specs.Shut.{GivesNoMore}
 use Rattle.laws_run.specs.Dry.{IsFull, OfOpen, stream_open}
+use Rattle.laws_driver.specs.Carried.Calls as call
+use Rattle.vs_apps_parts.specs.declared.told.Told.TheVariants as told
 
 -- How many bytes an instruction names, by kinds: a send's, an exchange's, and those to be received; and all of a list.
 abbrev pub sent_by : Act → ℕ

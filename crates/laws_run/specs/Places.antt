@@ -1,5 +1,6 @@
 -- What a wait for a place and a wait for a client say, of a run that is at rest.
-use Rattle.std.specs.{List.{filter, list_any, range_with_len}, Option.option_map_or, Prelude.{◌≡◌, ℕ, ◌+◌, ◌<◌, ◌≤◌, ◌==◌, ◌&&◌, ◌||◌, is_some, not, Bool, true, false, List, length, slice_get, Some}}
+use Rattle.std.specs.{List.{filter, list_any, range_with_len}, Option.option_map_or, Prelude.{◌≡◌, ℕ, ◌+◌, ◌<◌, ◌≤◌, ◌==◌, ◌&&◌, ◌||◌, is_some, not, Bool, true, false, List}}
+use Rattle.std.specs.Prelude.{length, slice_get, Some}
 use Rattle.vs_flow.specs.{Connection.Connection, Flow.is_assigned}
 use Rattle.vs_limits.specs.declared.TheConstants.{DRIVER_CONNECTIONS}
 use Rattle.vs_outside.specs.{Host.{HostContents, stream_at}, HostBytes.{connection_at, stream_of}}
