@@ -1,12 +1,12 @@
 -- From what a run ends in to a complete report.
 use Rattle.std.proofs.Common.{◌≡◌, ◌+◌, ◌<◌, ◌≤◌, ◌==◌, ◌||◌, ◌&&◌, inl, inr, ℕ, suc, Bool, true, false, cond, List, [], ◌∷◌, ◌++◌, Option, Some, None, Ok, length, map, Contains}
 use Rattle.std.proofs.{Common.{nat_lt, slice_get, ◌⊎◌, slice_index_or, refl, sym, ap, subst, ◌∙◌, arith, append-nil, length-append, length-take, take}, lemmas.Bool.and_parts}
-use Rattle.std.proofs.lemmas.{Bool.{Decides.nat_tests, eqb-true}, Grind.common_steps, List.{Elements.{All-cons, All-contains, All-tail}, length-map}, Option.same_Some}
-use Rattle.std.{proofs.lemmas.Option.slice_get_read, specs.{List.{All, AllPairs}, Option.{ForSome, option_map, option_map_or, unwrap_or}, Prelude.not}}
+use Rattle.std.proofs.lemmas.{Bool.{Decides.nat_tests, eqb-true}, Grind.common_steps, List.{Elements.{All-contains}, length-map}, Option.same_Some}
+use Rattle.std.{proofs.lemmas.Option.slice_get_read, specs.{List.{AllPairs}, Option.{ForSome, option_map, option_map_or, unwrap_or}, Prelude.not}}
 use Rattle.vs_flow.{specs.{Connection.Connection, Flow.same_flow, Table.{IsTable, entry_under, value_under}, declared.flow.Flow.Flow}, proofs.Entries.found_at}
 use Rattle.vs_conn.specs.{End.{ConnectionEnd, may_send_of}, Shut.is_both, declared.{end.State.{State, TheVariants.{Ended, Live}}, shut.Shut.Shut}}
 use Rattle.vs_limits.specs.declared.TheConstants.{FIRST_CID}
-use Rattle.vs_outside.specs.{Faults.one_more, Host.{HostContents, Stream, stream_at}, HostBytes.{host_read, host_wrote}}
+use Rattle.vs_outside.specs.{Host.{HostContents, Stream, stream_at}, HostBytes.{host_read, host_wrote}}
 use Rattle.vs_page.{specs.{Fair.{current, payload_got}, Log.{Device, Driver}}, proofs.Flows.same_is}
 use Rattle.vs_ring_shared.specs.Sights.{DeviceSight, Sight, device_contents, device_log, driver_contents, driver_log}
 use Rattle.vs_driver_parts.specs.{Connections.{is_at_end, table_shown as guest_shown}, State.{DriverConnection, DriverEntry, DriverState, entry_known_as, is_known_as}}
@@ -26,13 +26,13 @@ use Rattle.vs_script.specs.{App.{Act, Exchange}, Data.{Content, bytes_of, size_o
 use Rattle.laws_apps.{proofs.Naming.sent_by_id, specs.{Accounts.IsAccount, Calls.run_with, Rounds.AllStand, Runs.{IsRunOf, PollsTo, Run, poll_moved}, Traces.{AllTell, AtId}}}
 use Rattle.laws_apps.specs.Traces.{IsClosing, IsDrained, IsStopped, IsTraced, TellsOf, is_shut, is_touched}
 use Rattle.vs_report.specs.declared.giving.Totals.{Totals}
-use Rattle.vs_run_report.specs.{Endings.{ending_at, state_at, why_at}, Report.ended_at, Right.IsRightReport, declared.ending.Ending.Ending}
+use Rattle.vs_run_report.specs.{Endings.{ending_at, state_at, why_at}, Report.ended_at, declared.ending.Ending.Ending}
 use Rattle.laws_run.specs.{Complete.{IsAtOpen, IsCompleteEnding, IsCompleteExchange, IsCompleteRun, IsCompleteWait, LacksCredit, open_labels}, Bounds.{AreShutDown, HasBounds}}
 use Rattle.laws_run.specs.{Bounds.{HasEnd, IsBounded, IsShutDown, TakesOn, calls_of_others, done_at, early, is_cut, total}, Dry.{AreIdle, IsDry, IsFull, IsFullAt, OfOpen}}
 use Rattle.laws_run.{specs.Dry.{reads_of, stream_open, writes_of}, proofs.{Bounding.{AreFree, ArePlain, Way, all_moved, receiving, sending, sending_all, tally}, Moved.all_plain}}
 use Rattle.laws_run.proofs.{Moved.{app_early, app_free, app_less, app_plain, drain_early, drained, free_moves, free_sends, stopped, received_enough, sent_enough}, Trying.all_lined}
 use Rattle.laws_run.proofs.{Trying.{all_tried, tried}, Alike.{AreApart, HasApart, Leaves, leaves_core}, Drying.under_at, Endings.{Ends, all_ends, ends_on}, Wrote.same_current}
-use Rattle.laws_run.proofs.{Wrote.{same_payload, streamed, to_device, to_driver, wrote_there}, Unread.{live_connection, no_free, some_unread, to_read, unread_within}}
+use Rattle.laws_run.proofs.{Wrote.{same_payload, streamed, to_device, wrote_there}, Unread.{live_connection, no_free, some_unread, to_read, unread_within}}
 use Rattle.laws_run.proofs.{Halting.{Halts, IsRoomy, Stops, first_call}, Open.{among_entry, as_many_open, entry_of_open, one_is, open_stream, stream_there}, Still.poll_still}
 use Rattle.laws_run.proofs.Waiting.{credit_call, empty_call, not_open, recv_id, send_id}
 use Rattle.vs_apps_parts.specs.declared.journal.WaitsFor.TheVariants as waits

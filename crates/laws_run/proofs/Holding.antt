@@ -3,7 +3,7 @@ use Rattle.std.proofs.Common.{◌≡◌, ◌≢◌, ℕ, zero, suc, ◌+◌, ◌
 use Rattle.std.proofs.Common.{find, filter, is_some, length, map, option_and_then, slice_get, slice_index_or, refl, sym, ap, subst, ◌∙◌, arith, inl, inr, length-append}
 use Rattle.std.proofs.lemmas.{Bool.{Decides.nat_tests, and_parts, eq-eqb, eqb-true}, List.Elements.{All-append, All-contains, All-head, All-map, All-tail, Contains-append_left}}
 use Rattle.std.proofs.lemmas.List.{Elements.{Contains-append_right, Contains-get_or}, Folds.Any-from_list_any, FromFn.{get_or-range_with_len, length-range_with_len}}
-use Rattle.std.proofs.lemmas.{List.{Kept.AllPairs-cons, length-map}, Map.Made.{IsDistinct-from_AllPairs, is_member-Decides, length-le_from_is_member}, Option.same_Some}
+use Rattle.std.proofs.lemmas.{List.{length-map}, Map.Made.{IsDistinct-from_AllPairs, is_member-Decides, length-le_from_is_member}, Option.same_Some}
 use Rattle.std.{proofs.lemmas.Option.slice_get_within, specs.{Bool.Decides, List.{All, AllPairs, cons_option, filter_map, list_any, range_with_len}, Option.option_map}}
 use Rattle.std.specs.{Option.option_map_or, Prelude.position}
 use Rattle.vs_conn.specs.declared.end.State.{State, TheVariants.Live}

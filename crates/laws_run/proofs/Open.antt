@@ -6,7 +6,7 @@ use Rattle.std.proofs.lemmas.{List.{Folds.{Any-from_list_any, list_any-from_Any}
 use Rattle.std.specs.{Bool.{Decides, one_answer}, Cmp.IsEquivalence, List.{All, AllByRecursion, AllPairs, IsDistinct, cons_option, filter_map, list_any}, Option.ForSome}
 use Rattle.std.specs.Option.{option_map, option_map_or}
 use Rattle.vs_flow.{specs.{Connection.Connection, Flow.same_flow, Table.{IsTable, Table, entry_of}, declared.{flow.Flow.Flow, table.Entry.Entry}}, proofs.Lookups.entry_under_found}
-use Rattle.laws_tables.{proofs.Slots.found_by, specs.Ends.{entries_of, flows_of, is_among}}
+use Rattle.laws_tables.{proofs.Slots.found_by, specs.Ends.{flows_of, is_among}}
 use Rattle.vs_conn.specs.End.{ConnectionEnd}
 use Rattle.vs_outside.specs.{Host.{HostContents, Stream, stream_at, waits}, HostBytes.stream_of, HostProgram.closes, declared.host_net.StreamState.StreamState}
 use Rattle.vs_page.{specs.Log.Log, proofs.Flows.{same_is, same_self}}
