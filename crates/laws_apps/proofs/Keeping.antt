@@ -10,7 +10,7 @@ use Rattle.laws_apps.specs.Runs.{IsKept, IsRunOf, MakesCall, MakesCalls, Moves, 
 use Rattle.laws_apps.{specs.{Runs.{moved_state, no_app}, Given.AreGivenWith, Traces.IsTracedWith}, proofs.Answering.{NamesIt, call_answered, call_named, poll_answered}}
 use Rattle.laws_apps.proofs.{Giving.{AreApps, next_apps}, Named.{app_did, conn_given, still_did}, Tracing.{IsApps, call_traced, poll_traced}, Waiting.{called_waits, moved_waits}}
 use Rattle.laws_apps.proofs.{Waiting.{wait_waits, waited_waits, waits_noted}, Calling.{call_accounted, call_honest, call_routed, entry_accounted, poll_accounted, told_accounted}}
-use Rattle.laws_apps.proofs.{Asked.{call_asks, poll_asks}, Placing.{IsOfApps, call_placed, poll_placed}, Noting.{call_noted, same_accounted}, Entries.{SameCalls, app_calls_stay}}
+use Rattle.laws_apps.proofs.{Placing.{IsOfApps, call_placed, poll_placed}, Noting.{call_noted, same_accounted}, Entries.{SameCalls, app_calls_stay}}
 use Rattle.laws_apps.proofs.Entries.{called_owned, called_stand, calls_stay, gathered_snoc, more_stand, wait_same}
 use Rattle.vs_flow.specs.declared.flow.Flow.{Flow}
 use Rattle.vs_apps_parts.specs.declared.{journal.{Called.Called, Entry.Entry, WaitsFor.WaitsFor}, progress.{AppState.AppState, Progress.Progress, Stepped.Stepped}, told.Told.Told}
@@ -168,7 +168,6 @@ module _ (first : ℕ) (script : RunScript) (k : ℕ) (less : k < length script)
         accounted = subst (λ (js : Journal). IsAccounted 1 js new.entries new.driver new.ring) journals
             (flows_after script k m old new (with_noted (made_as m.call m.reply ∷ []) all) (wait_of (told_of m)) makes.notes noted);
         stands = stand_after script k m old new kept.stands (wait_of (told_of m)) makes.notes;
-        asks = call_asks first old.driver old.ring new.ring kept.honest kept.asks m.call x makes.right makes.plays;
         places = λ on l is.
             let now = call_placed first (length script) all old.entries old.driver old.ring new.ring kept.honest kept.places m.call x
             (of_apps script k m.call m.reply old new (subst (λ (y : Made). NotesCall script k y (wait_of (told_of y)) old new) makes.plain makes.notes))
@@ -292,7 +291,6 @@ module _ (first : ℕ) (script : RunScript) (k : ℕ) (mid new : Run) (less : k 
       routed = left.kept.routed;
       accounted = left.kept.accounted;
       stands = left.kept.stands;
-      asks = left.kept.asks;
       places = left.kept.places;
       traced = left.kept.traced;
       given = left.kept.given;
@@ -345,7 +343,6 @@ module _ (first : ℕ) (script : RunScript) (k : ℕ) (mid new : Run) (less : k 
           (told_accounted 1 (journal_of script over) over.entries (wait_noted k why (app_at k mid).waiting over.entries) over.driver over.ring same.flows
           left.kept.accounted);
       stands = same.stands (length over.bytes) left.kept.stands;
-      asks = left.kept.asks;
       places = λ on l is. let was = left.kept.places on l is in
           (subst (λ (js : Journal). ArePlaced js over.driver) (sym same.calls) was.0, same.owned (length script) less was.1);
       traced = subst (λ (js : Journal). IsTracedWith js over.driver over.ring) (sym same.calls) left.kept.traced;
@@ -401,7 +398,6 @@ module _ (first : ℕ) (script : RunScript) (old : Run) (run : IsRunOf first scr
       honest = poll_honest first old.driver old.ring mid.ring (mid.driver, polled) run.kept.honest polls.polls;
       accounted = poll_accounted first 1 (journal_of script old) old.entries old.driver old.ring mid.ring (mid.driver, polled) run.kept.honest run.kept.accounted polls.polls;
       stands = run.kept.stands;
-      asks = poll_asks first old.driver old.ring mid.ring run.kept.honest run.kept.asks (mid.driver, polled) polls.polls;
       places = poll_placed first (length script) (journal_of script old) old.entries old.driver old.ring mid.ring run.kept.honest run.kept.places (mid.driver, polled) polls.polls;
       traced = poll_traced first old.driver old.ring mid.ring (journal_of script old) (mid.driver, polled) run.kept.honest run.kept.traced polls.polls;
       given = poll_answered first (journal_of script old) old.driver old.ring mid.ring run.kept.honest run.kept.given (mid.driver, polled) polls.polls;

@@ -14,7 +14,6 @@ pub mod Slices
 pub mod Stepping
 pub mod Parsing
 pub mod Opening
-pub mod Asked
 pub mod Placed
 pub mod Placing
 pub mod Answering

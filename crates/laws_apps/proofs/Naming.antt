@@ -1,23 +1,15 @@
 -- What was sent on a connection is what was sent on its id, since no two ids have one connection.
-use Rattle.laws_tables.specs.Drains.{is_same, only_on}
+use Rattle.laws_tables.{specs.Drains.{is_same, only_on}, proofs.Logs.same_connection}
 use Rattle.std.proofs.{Common.{◌≡◌, inl, inr, ℕ, ◌≤◌, ◌==◌, ◌&&◌, Bool, true, false, cond, List, [], ◌∷◌, ◌++◌, Option, Some, None, refl, sym, ap, ◌∙◌}, lemmas.Bool.eqb-true}
 use Rattle.std.proofs.lemmas.Bool.{eq-eqb}
-use Rattle.vs_flow.specs.{Connection.Connection, Flow.same_flow}
-use Rattle.vs_page.{specs.Log.Log, proofs.Flows.{same_is, same_self}}
+use Rattle.vs_flow.specs.{Connection.Connection}
+use Rattle.vs_page.{specs.Log.Log, proofs.Flows.{same_self}}
 use Rattle.vs_driver_parts.specs.Held.{HeldSlots}
 use Rattle.laws_driver.specs.Carried.{Calls.{Journal, bytes_sent, names}, Received.{Account, AreReceived}, Senders.{AreSenders, IsSender, sent_there, sent_to}}
 use Rattle.laws_driver.proofs.Carried.Senders.{only_none}
 use Rattle.vs_apps_parts.specs.Journals.{sent_as}
 
-whole_same : (c d : Connection) → is_same c d ≡ true → c ≡ d
-whole_same c d is = by (same_flow c.flow d.flow) refl (c.number == d.number) refl is
-  where
-    by : (a : Bool) → same_flow c.flow d.flow ≡ a → (b : Bool) → (c.number == d.number) ≡ b → (a && b) ≡ true → c ≡ d
-    by true flows true numbers both = λ i. record { flow = same_is c.flow d.flow flows i; number = eqb-true c.number d.number numbers i }
-    by true flows false numbers both = absurd cc
-    by false flows b numbers both = absurd cc
-
-self_same : (c : Connection) → is_same c c ≡ true
+pub self_same : (c : Connection) → is_same c c ≡ true
 self_same c = ap (λ (b : Bool). b && (c.number == c.number)) (same_self c.flow) ∙ eq-eqb c.number c.number refl
 
 none_either : (b : Bool) (bytes : List ℕ) → bytes ≡ [] → cond b bytes [] ≡ []
@@ -31,7 +23,7 @@ module _ (a : Account) (log : Log) (slots : HeldSlots) (account : AreReceived a 
     where
       apart : (b : Bool) → is_same (a.opened id) (a.opened other) ≡ b → (id == other) ≡ false → cond b bytes [] ≡ []
       apart true is differ =
-          let same : id ≡ other = account.once id other some (whole_same (a.opened id) (a.opened other) is) in
+          let same : id ≡ other = account.once id other some (same_connection (a.opened id) (a.opened other) is) in
           let e : true ≡ false = sym (eq-eqb id other same) ∙ differ in absurd cc
       apart false is differ = refl
 

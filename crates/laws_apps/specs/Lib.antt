@@ -2,7 +2,6 @@ pub mod Accounts
 pub mod Traces
 pub mod Runs
 pub mod Calls
-pub mod Asked
 pub mod Rounds
 pub mod Placed
 pub mod Given

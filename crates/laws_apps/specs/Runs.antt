@@ -8,7 +8,7 @@ use Rattle.vs_apps_parts.specs.{Journals.{AllStandIn, calls_of, calls_of_app, en
 use Rattle.vs_apps_parts.specs.{Scripts.{RunScript, acts_of, after_step, begun, calls_in, calls_next, told_in}, Told.{step_wait, told_of, wait_of, waits_on}}
 use Rattle.vs_apps_parts.specs.declared.{journal.{Called.Called, Entry.Entry, WaitsFor.WaitsFor}, progress.{AppState.AppState, Stepped.Stepped}}
 use Rattle.laws_rest.specs.Rest.{IsRoutedWith}
-use Rattle.laws_apps.specs.{Accounts.IsAccounted, Asked.AsksOnceWith, Given.AreGivenWith, Placed.ArePlacedWith, Traces.IsTracedWith}
+use Rattle.laws_apps.specs.{Accounts.IsAccounted, Given.AreGivenWith, Placed.ArePlacedWith, Traces.IsTracedWith}
 use Rattle.vs_apps_parts.specs.declared.progress.Stepped.TheVariants as stepped
 use Rattle.vs_apps_parts.specs.declared.journal.Called.TheVariants as called
 
@@ -32,15 +32,14 @@ abbrev pub journal_of_app : ℕ → RunScript → Run → Journal
 journal_of_app k script run = calls_of_app k script run.bytes run.entries
 
 -- Where an honest ring tells the log: the driver is the one that the log left, where this was the guest's CID at first; its packets go where
--- they belong, as long as all that it got come from the host; the journal's account is right, from the id 1 on, and tells the flows of ids; the driver asked once on each
--- flow; its connections and listeners are those that the journal's calls left, are what the calls' replies tell, and were given once. Each entry is an app's of
--- the script, and has its connection's flow.
+-- they belong, as long as all that it got come from the host; the journal's account is right, from the id 1 on, and tells the flows of ids; its
+-- connections and listeners are those that the journal's calls left, are what the calls' replies tell, and were given once. Each entry is an app's of the script,
+-- and has its connection's flow.
 pub record IsKept (first : ℕ) (script : RunScript) (run : Run) : Type 0 where
   pub honest : IsHonestWith first run.driver run.ring
   pub routed : IsRoutedWith first run.ring
   pub accounted : IsAccounted 1 (journal_of script run) run.entries run.driver run.ring
   pub stands : AllStandIn (length run.bytes) run.entries
-  pub asks : AsksOnceWith run.driver run.ring
   pub places : ArePlacedWith (length script) (journal_of script run) run.entries run.driver run.ring
   pub traced : IsTracedWith (journal_of script run) run.driver run.ring
   pub given : AreGivenWith (journal_of script run) run.driver run.ring

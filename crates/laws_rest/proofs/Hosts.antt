@@ -31,7 +31,27 @@ module _ (c : HostContents) (log : Log) (port : ℕ) (t : Table DeviceConnection
       by None at is = absurd cc
       by (Some id) at is = let less = slice_get_within (labelled_with k.flow c) (k.number - 1) id at in omega (arith, less, some)
 
-  -- Its stream, if it has one.
+  -- Its stream is seen as it.
+  pub record IsSeenAs (st : Stream) : Type 0 where
+    pub id : ℕ
+    pub at : stream_at id c ≡ Some st
+    pub label : (seen c id st).label ≡ Some k
+    pub own : IsLabelled (seen c id st) k (count_in c) log port
+
+  pub stream_seen : (st : Stream) → stream_of k c ≡ Some st → IsSeenAs st
+  stream_seen st is =
+      let one = x.streams.every k some (within st is) in
+      let found = there one.0 c one.1 one.2 in
+      let label : (seen c one.0 found.stream).label ≡ Some k = ap (λ (y : Seen). y.label) found.is ∙ one.3 in
+      let same : found.stream ≡ st = some_stream found.stream st (sym (stream_is c one.0 found.stream k some found.at label) ∙ is) in
+      subst IsSeenAs same (record {
+        id = one.0;
+        at = found.at;
+        label = label;
+        own = subst (λ (y : Seen). IsLabelled y k (count_in c) log port) (sym found.is) (x.streams.labels one.0 one.1 k one.2 one.3);
+      })
+
+  -- If it has one.
   one_stream : (o : Option Stream) → stream_of k c ≡ o
       → (payload_put Device k log ≡ option_map_or wrote_after_connect o []) × IsPrefixOf (option_map_or read_after_ok o []) (payload_got Device k log)
   one_stream None is = (x.streams.none k none, (payload_got Device k log, refl))
@@ -41,14 +61,7 @@ module _ (c : HostContents) (log : Log) (port : ℕ) (t : Table DeviceConnection
           let st = there id c s at in
           let found = stream_is c id st.stream k some st.at (ap (λ (y : Seen). y.label) st.is ∙ on) in
           let both : None ≡ Some st.stream = sym is ∙ found in absurd cc
-  one_stream (Some st) is =
-      let one = x.streams.every k some (within st is) in
-      let found = there one.0 c one.1 one.2 in
-      let label : (seen c one.0 found.stream).label ≡ Some k = ap (λ (y : Seen). y.label) found.is ∙ one.3 in
-      let same : found.stream ≡ st = some_stream found.stream st (sym (stream_is c one.0 found.stream k some found.at label) ∙ is) in
-      let l = subst (λ (y : Seen). IsLabelled y k (count_in c) log port) (sym found.is) (x.streams.labels one.0 one.1 k one.2 one.3) in
-      subst (λ (y : Stream). (payload_put Device k log ≡ wrote_after_connect y) × IsPrefixOf (read_after_ok y) (payload_got Device k log)) same
-      (l.took, read_front found.stream found.stream.by_client refl l.client l.gave)
+  one_stream (Some st) is = let l = (stream_seen st is).own in (l.took, read_front st st.by_client refl l.client l.gave)
     where
       read_front : (st : Stream) (b : Bool) → st.by_client ≡ b → st.by_client ≡ is_assigned k.flow.host
           → IsPrefixOf st.given (line_for k.flow ++ payload_got Device k log)

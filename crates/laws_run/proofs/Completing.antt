@@ -1,13 +1,13 @@
 -- From what a run ends in to a complete report.
 use Rattle.std.proofs.Common.{◌≡◌, ◌+◌, ◌<◌, ◌≤◌, ◌==◌, ◌||◌, ◌&&◌, inl, inr, ℕ, suc, Bool, true, false, cond, List, [], ◌∷◌, ◌++◌, Option, Some, None, Ok, length, map, Contains}
 use Rattle.std.proofs.{Common.{nat_lt, slice_get, ◌⊎◌, slice_index_or, refl, sym, ap, subst, ◌∙◌, arith, append-nil, length-append, length-take, take}, lemmas.Bool.and_parts}
-use Rattle.std.proofs.lemmas.{Bool.{Decides.nat_tests, eqb-true}, Grind.common_steps, List.{Elements.{All-cons, All-contains, All-tail}, length-map}, Option.same_Some}
-use Rattle.std.{proofs.lemmas.Option.slice_get_read, specs.{List.{All, AllPairs, list_any}, Option.{option_map, unwrap_or}, Prelude.not}}
-use Rattle.vs_flow.{specs.{Connection.{Connection, first_of}, Flow.same_flow, Table.{IsTable, entry_under, value_under}, declared.flow.Flow.Flow}, proofs.Entries.found_at}
+use Rattle.std.proofs.lemmas.{Bool.{Decides.nat_tests, eqb-true}, Grind.common_steps, List.{Elements.{All-contains}, length-map}, Option.same_Some}
+use Rattle.std.{proofs.lemmas.Option.slice_get_read, specs.{List.{AllPairs}, Option.{ForSome, option_map, option_map_or, unwrap_or}, Prelude.not}}
+use Rattle.vs_flow.{specs.{Connection.Connection, Flow.same_flow, Table.{IsTable, entry_under, value_under}, declared.flow.Flow.Flow}, proofs.Entries.found_at}
 use Rattle.vs_conn.specs.{End.{ConnectionEnd, may_send_of}, Shut.is_both, declared.{end.State.{State, TheVariants.{Ended, Live}}, shut.Shut.Shut}}
 use Rattle.vs_limits.specs.declared.TheConstants.{FIRST_CID}
-use Rattle.vs_outside.specs.{Faults.one_more, Host.{HostContents, Stream, stream_at}, HostBytes.{host_read, host_wrote}}
-use Rattle.vs_page.{specs.{Fair.{current, number_of, payload_got}, Log.{Device, Driver}}, proofs.Flows.same_is}
+use Rattle.vs_outside.specs.{Host.{HostContents, Stream, stream_at}, HostBytes.{host_read, host_wrote}}
+use Rattle.vs_page.{specs.{Fair.{current, payload_got}, Log.{Device, Driver}}, proofs.Flows.same_is}
 use Rattle.vs_ring_shared.specs.Sights.{DeviceSight, Sight, device_contents, device_log, driver_contents, driver_log}
 use Rattle.vs_driver_parts.specs.{Connections.{is_at_end, table_shown as guest_shown}, State.{DriverConnection, DriverEntry, DriverState, entry_known_as, is_known_as}}
 use Rattle.vs_driver_parts.specs.declared.answers.Polled.{Polled}
@@ -15,7 +15,7 @@ use Rattle.vs_device_parts.specs.{Playing.situation, State.DeviceEntry, Turns.ta
 use Rattle.vs_proxy_parts.specs.State.{ProxyState}
 use Rattle.laws_tables.{specs.{Ends.{ends_of, flows_of, is_among}, Drains.{receives, receives_in}}, proofs.Slots.{found_by, one_end}}
 use Rattle.laws_driver.specs.{Honest.{IsFitEntry, end_in as driver_end, slots_of}, Carried.{Calls.{GuestCall, Journal, received_by, account_of}, Received.ReceivesOn}}
-use Rattle.laws_device.{specs.{Honest.end_in as device_end, Streams.{has_open_stream, is_open_on}}, proofs.Waiting.open_among}
+use Rattle.laws_device.specs.{Honest.end_in as device_end, Streams.is_open_in, Carried.Streamed.{IsStreamed, connection_of}}
 use Rattle.laws_proxy.specs.Honest.{IsProxyStreamed}
 use Rattle.laws_rest.{specs.Rest.{ArePaired, over_half}, proofs.{Quiet.in_list, Waiting.{credit_there, unread_there}}}
 use Rattle.vs_credit.specs.Credit.{free_of, unread_of}
@@ -26,20 +26,20 @@ use Rattle.vs_script.specs.{App.{Act, Exchange}, Data.{Content, bytes_of, size_o
 use Rattle.laws_apps.{proofs.Naming.sent_by_id, specs.{Accounts.IsAccount, Calls.run_with, Rounds.AllStand, Runs.{IsRunOf, PollsTo, Run, poll_moved}, Traces.{AllTell, AtId}}}
 use Rattle.laws_apps.specs.Traces.{IsClosing, IsDrained, IsStopped, IsTraced, TellsOf, is_shut, is_touched}
 use Rattle.vs_report.specs.declared.giving.Totals.{Totals}
-use Rattle.vs_run_report.specs.{Endings.{ending_at, state_at, why_at}, Report.ended_at, Right.IsRightReport, declared.ending.Ending.Ending}
+use Rattle.vs_run_report.specs.{Endings.{ending_at, state_at, why_at}, Report.ended_at, declared.ending.Ending.Ending}
 use Rattle.laws_run.specs.{Complete.{IsAtOpen, IsCompleteEnding, IsCompleteExchange, IsCompleteRun, IsCompleteWait, LacksCredit, open_labels}, Bounds.{AreShutDown, HasBounds}}
-use Rattle.laws_run.specs.{Bounds.{HasEnd, IsBounded, IsShutDown, TakesOn, calls_of_others, done_at, early, is_cut, total}, Dry.{AreDry, AreFull, AreIdle, IsDry, IsFull, reads_of}}
-use Rattle.laws_run.{specs.Dry.writes_of, proofs.{Bounding.{AreFree, ArePlain, Way, all_moved, receiving, sending, sending_all, tally}, Moved.{all_plain, app_early, app_free}}}
-use Rattle.laws_run.proofs.{Moved.{app_less, app_plain, drain_early, drained, free_moves, free_sends, stopped, received_enough, sent_enough}, Trying.{all_lined, all_tried, tried}}
-use Rattle.laws_run.proofs.{Alike.{AreApart, HasApart, Leaves, leaves_core}, Drying.under_at, Endings.{Ends, all_ends, ends_on}, Wrote.{is_first, same_number, same_payload}}
-use Rattle.laws_run.proofs.{Wrote.{streamed, to_device, to_driver, wrote_there}, Unread.{no_free, some_unread, to_read, unread_within}, Halting.{Halts, IsRoomy, Stops, first_call}}
-use Rattle.laws_run.proofs.{Open.{among_entry, among_open, as_many_open, one_is}, Reporting.{accounted, once, right_with}, Still.poll_still, Waiting.{credit_call, empty_call}}
-use Rattle.laws_run.proofs.Waiting.{not_open, recv_id, send_id}
+use Rattle.laws_run.specs.{Bounds.{HasEnd, IsBounded, IsShutDown, TakesOn, calls_of_others, done_at, early, is_cut, total}, Dry.{AreIdle, IsDry, IsFull, IsFullAt, OfOpen}}
+use Rattle.laws_run.{specs.Dry.{reads_of, stream_open, writes_of}, proofs.{Bounding.{AreFree, ArePlain, Way, all_moved, receiving, sending, sending_all, tally}, Moved.all_plain}}
+use Rattle.laws_run.proofs.{Moved.{app_early, app_free, app_less, app_plain, drain_early, drained, free_moves, free_sends, stopped, received_enough, sent_enough}, Trying.all_lined}
+use Rattle.laws_run.proofs.{Trying.{all_tried, tried}, Alike.{AreApart, HasApart, Leaves, leaves_core}, Drying.under_at, Endings.{Ends, all_ends, ends_on}, Wrote.same_current}
+use Rattle.laws_run.proofs.{Wrote.{same_payload, streamed, to_device, wrote_there}, Unread.{live_connection, no_free, some_unread, to_read, unread_within}}
+use Rattle.laws_run.proofs.{Halting.{Halts, IsRoomy, Stops, first_call}, Open.{among_entry, as_many_open, entry_of_open, one_is, open_stream, stream_there}, Still.poll_still}
+use Rattle.laws_run.proofs.Waiting.{credit_call, empty_call, not_open, recv_id, send_id}
 use Rattle.vs_apps_parts.specs.declared.journal.WaitsFor.TheVariants as waits
 use Rattle.laws_driver.specs.Carried.Calls as call
 use Rattle.vs_run_report.specs.declared.ending.Ending.TheVariants as ending
 
--- An entry of a flow among those of a table; no open stream among those of a host; and one that is.
+-- An entry of a flow among those of a table.
 entry_among : (end_of : DriverConnection → ConnectionEnd) (f : Flow) (es : List DriverEntry)
     → is_among f (flows_of (map (λ (y : DriverEntry). record { flow = y.flow; end = end_of y.value }) es)) ≡ true → (x : DriverEntry) × Contains es x × (f ≡ x.flow)
 entry_among end_of f [] is = absurd cc
@@ -52,26 +52,6 @@ entry_among end_of f (y ∷ es) is = by (same_flow f y.flow) refl is (entry_amon
     by false other is rest =
         let r = rest is in
         let less = r.1.1 in (r.0, (suc r.1.0, omega (arith, less), r.1.2), r.2)
-
-none_open : (p : Stream → Bool) (xs : List Stream) → list_any p xs ≡ false → All (λ s. p s ≡ true → ⊥) xs
-none_open p [] none = λ k d less. absurd (omega (arith, less))
-none_open p (x ∷ xs) none = All-cons (λ s. p s ≡ true → ⊥) x xs (λ is. let no = ap (λ (b : Bool). b || list_any p xs) is in absurd (let both : true ≡ false = sym no ∙ none in cc))
-    (none_open p xs (by (p x) none))
-  where
-    by : (b : Bool) → (b || list_any p xs) ≡ false → list_any p xs ≡ false
-    by true is = absurd cc
-    by false is = is
-
-any_both : (f : Flow) (told : Stream → Bool) (xs : List Stream) → list_any (is_open_on f) xs ≡ true → All (λ s. is_open_on f s ≡ true → told s ≡ true) xs
-    → All (λ s. is_open_on f s ≡ true → told s ≡ false) xs → ⊥
-any_both f told [] is all none = absurd cc
-any_both f told (x ∷ xs) is all none =
-    by (is_open_on f x) refl is (λ rest. any_both f told xs rest (All-tail (λ s. is_open_on f s ≡ true → told s ≡ true) x xs all)
-    (All-tail (λ s. is_open_on f s ≡ true → told s ≡ false) x xs none))
-  where
-    by : (b : Bool) → is_open_on f x ≡ b → (b || list_any (is_open_on f) xs) ≡ true → (list_any (is_open_on f) xs ≡ true → ⊥) → ⊥
-    by true own so rest = let both : true ≡ false = sym (all 0 x (omega arith) own) ∙ none 0 x (omega arith) own in cc
-    by false other so rest = rest so
 
 -- The slots of a table are apart.
 listed_below : (slot : ℕ) (es : List DriverEntry) → ((k : ℕ) (d : DriverEntry) → k < length es → slot < (slice_index_or es k d).slot)
@@ -99,8 +79,8 @@ module _ (script : RunScript) (driver : DriverState) (end : Sight) (apps : List 
   abbrev journal : Journal
   journal = calls_of script bytes entries
 
-  pub one : (f : Flow) → number_of Device f e.sight.log ≤ 1
-  one = once script driver end apps entries bytes p e h faults run settled steady
+  pub on : IsStreamed h e.sight.log p.next_port p.device.table p.handshakes
+  on = streamed driver end p e settled h faults streams
 
   pub apart : HasApart driver
   apart = slots_apart driver.table.entries (run.kept.honest refl (driver_log end) refl).fits.sound.rising
@@ -135,28 +115,32 @@ module _ (script : RunScript) (driver : DriverState) (end : Sight) (apps : List 
       found_at p.device.table.entries within.0 x device_fits.rising
       (slice_get_read p.device.table.entries (length p.device.table.entries) within.0 x refl within.1 (sym within.2))
 
-  pub still_open : (x : DeviceEntry) → Contains p.device.table.entries x → x.value.closed ≡ false
+  live_there : (x : DeviceEntry) → Contains p.device.table.entries x → x.value.end.state ≡ Live
+  live_there x within =
+      let peer = settled.with_host Device x.flow (among_entry device_end p.device.table.entries x within) in
+      (settled.paired Device x.flow x.value.end peer (one_end device_end p.device.table x device_fits within)).2.here.live
+
+  still_open : (x : DeviceEntry) → Contains p.device.table.entries x → x.value.closed ≡ false
   still_open x within = by x.value.closed refl
     where
       there : value_under p.device.table x.slot ≡ Some x.value
       there = ap (option_map (λ (y : DeviceEntry). y.value)) (found_there x within)
 
-      alive : x.value.end.state ≡ Live
-      alive =
-          let peer = settled.with_host Device x.flow (among_entry device_end p.device.table.entries x within) in
-          (settled.paired Device x.flow x.value.end peer (one_end device_end p.device.table x device_fits within)).2.here.live
-
       by : (b : Bool) → x.value.closed ≡ b → x.value.closed ≡ false
       by false other = other
       by true closed =
           let over = (steady.order.streams h refl).over x.slot x.value there closed in
-          let no : Ended ≡ Live = sym over ∙ alive in absurd cc
+          let no : Ended ≡ Live = sym over ∙ live_there x within in cc
+
+  -- The stream of an entry.
+  of_its : (P : Stream → Type 0) (y : DeviceEntry) → Contains p.device.table.entries y → ForSome (stream_at y.value.stream h) P
+      → OfOpen (connection_of y e.sight.log) h P
+  of_its = one_is h e.sight.log p.next_port p.device.table p.handshakes on device_fits still_open
 
   device_open : length (device_shown p.device) ≡ length (open_labels h)
   device_open =
       length-map p.device.table.entries (λ x. (x.flow, x.value.end.state))
-      ∙ as_many_open h e.sight.log p.next_port p.device.table p.handshakes
-      (streamed driver end p e settled one h faults streams) device_fits still_open
+      ∙ as_many_open h e.sight.log p.next_port p.device.table p.handshakes on device_fits still_open
 
   guest_open : length (guest_shown driver) ≡ length (open_labels h)
   guest_open =
@@ -164,13 +148,6 @@ module _ (script : RunScript) (driver : DriverState) (end : Sight) (apps : List 
       ∙ sym (length-map driver.table.entries (λ (x : DriverEntry). record { flow = x.flow; end = driver_end x.value })) ∙ settled.as_many
       ∙ length-map p.device.table.entries (λ (x : DeviceEntry). record { flow = x.flow; end = device_end x.value })
       ∙ sym (length-map p.device.table.entries (λ x. (x.flow, x.value.end.state))) ∙ device_open
-
-  -- The flow of a connection of the driver's has an open stream.
-  pub flow_open : (x : DriverEntry) → Contains driver.table.entries x → has_open_stream x.flow h ≡ true
-  flow_open x within =
-      let fit = All-contains IsFitEntry driver.table.entries x (run.kept.honest refl (driver_log end) refl).fits.entries within in
-      among_open h e.sight.log p.next_port p.device.table p.handshakes (streamed driver end p e settled one h faults streams) device_fits still_open x.flow
-      (sym (settled.same_flows x.flow fit.peer) ∙ among_entry driver_end driver.table.entries x within)
 
   -- A connection of the driver's is one of the device's too.
   pub record AtDevice (x : DriverEntry) : Type 0 where
@@ -229,84 +206,102 @@ module _ (script : RunScript) (driver : DriverState) (end : Sight) (apps : List 
       ap (λ (b : Bool). cond (b && not (free_of v.credit == 0)) (Some at.entry.value.stream) None) may
       ∙ ap (λ (b : Bool). cond (not b) (Some at.entry.value.stream) None) (not_zero (free_of v.credit) (omega (arith, least)))
 
-  all_dry : (x : DriverEntry) → Contains driver.table.entries x → x.value.unread ≡ [] → is_at_end x.value.end ≡ false → AreDry x.flow h
-  all_dry x within unread more =
-      let at = at_device x within in
-      let y = at.entry in
-      let dry = idle.0 y.slot y.value.stream (under_at reads_of p.device.table y.slot (Some y) (found_there y at.within) ∙ reads_there x within unread more at) in
-      subst (λ (f : Flow). AreDry f h) (sym at.flow)
-      (one_is h e.sight.log p.next_port p.device.table p.handshakes (streamed driver end p e settled one h faults streams) device_fits IsDry y at.within (dry h refl))
-
   -- One that has bytes pending has something to write, so that its stream is full.
   some_left : (line pending : List ℕ) → 1 ≤ length pending → (length (take 4096 (line ++ pending)) == 0) ≡ false
   some_left line pending some =
       let few = length-take 4096 (line ++ pending) in
       let both = length-append line pending in not_zero (length (take 4096 (line ++ pending))) (omega (arith, few, both, some))
 
-  pub pending_full : (y : DeviceEntry) → Contains p.device.table.entries y → 1 ≤ length y.value.pending → AreFull y.flow h
+  pending_full : (y : DeviceEntry) → Contains p.device.table.entries y → 1 ≤ length y.value.pending → IsFullAt y.value.stream h
   pending_full y within some =
       let writes : writes_of y ≡ Some y.value.stream =
       ap (λ (b : Bool). cond (not b && not (length (take 4096 (y.value.ok_line ++ y.value.pending)) == 0)) (Some y.value.stream) None) (still_open y within)
       ∙ ap (λ (b : Bool). cond (not b) (Some y.value.stream) None) (some_left y.value.ok_line y.value.pending some) in
-      one_is h e.sight.log p.next_port p.device.table p.handshakes (streamed driver end p e settled one h faults streams) device_fits IsFull y within
-      (idle.1 y.slot y.value.stream (under_at writes_of p.device.table y.slot (Some y) (found_there y within) ∙ writes) h refl)
+      idle.1 y.slot y.value.stream (under_at writes_of p.device.table y.slot (Some y) (found_there y within) ∙ writes) h refl
 
-  -- One that is known by an id, on which nothing is unread.
+  -- One that is known by an id: its connection is the present one of its flow, and that of the device's entry.
   module _ (opened : ℕ → Connection) (account : IsAccount 1 opened journal entries end.log (slots_of driver)) where
-    pub first_known : (id : ℕ) (x : DriverEntry) → Contains driver.table.entries x → x.value.id ≡ id → (1 ≤ (opened id).number) × (opened id ≡ first_of x.flow)
-    first_known id x within named =
-        let on = All-contains (ReceivesOn (account_of 1 opened journal) end.log) driver.table.entries x account.right.received.held within in
-        let present : opened id ≡ current Driver x.flow end.log = subst (λ (i : ℕ). opened i ≡ current Driver x.flow end.log) named on.present in
-        let some = subst (λ (c : Connection). 1 ≤ c.number) (sym present) on.some in (
-          some,
-          is_first driver end p e settled one h faults streams (opened id) x.flow some (account.right.received.passed id) (ap (λ (c : Connection). c.flow) present),
-        )
+    on_id : (x : DriverEntry) → Contains driver.table.entries x → ReceivesOn (account_of 1 opened journal) end.log x
+    on_id x within = All-contains (ReceivesOn (account_of 1 opened journal) end.log) driver.table.entries x account.right.received.held within
+
+    pub flow_known : (x : DriverEntry) → Contains driver.table.entries x → (opened x.value.id).flow ≡ x.flow
+    flow_known x within = ap (λ (c : Connection). c.flow) (on_id x within).present
+
+    pub some_known : (x : DriverEntry) → Contains driver.table.entries x → 1 ≤ (opened x.value.id).number
+    some_known x within = let held = on_id x within in subst (λ (c : Connection). 1 ≤ c.number) (sym held.present) held.some
+
+    present_there : (x : DriverEntry) → Contains driver.table.entries x → opened x.value.id ≡ current Device x.flow e.sight.log
+    present_there x within = (on_id x within).present ∙ same_current driver end p e settled x.flow
+
+    pub is_its : (id : ℕ) (x : DriverEntry) (within : Contains driver.table.entries x) → x.value.id ≡ id
+        → opened id ≡ connection_of (at_device x within).entry e.sight.log
+    is_its id x within named =
+        let at = at_device x within in
+        ap opened (sym named) ∙ present_there x within ∙ ap (λ (f : Flow). current Device f e.sight.log) at.flow
+        ∙ sym (live_connection at.entry e.sight.log at.paired.there.live)
+
+    -- So its stream is the one of the id, which is open.
+    of_id : (P : Stream → Type 0) (id : ℕ) (x : DriverEntry) (within : Contains driver.table.entries x) → x.value.id ≡ id
+        → ForSome (stream_at (at_device x within).entry.value.stream h) P → OfOpen (opened id) h P
+    of_id P id x within named so =
+        let at = at_device x within in
+        subst (λ (c : Connection). OfOpen c h P) (sym (is_its id x within named)) (of_its P at.entry at.within so)
+
+    pub id_open : (id : ℕ) (x : DriverEntry) → Contains driver.table.entries x → x.value.id ≡ id → stream_open (opened id) h ≡ true
+    id_open id x within named =
+        let at = at_device x within in
+        ap (λ (c : Connection). stream_open c h) (is_its id x within named)
+        ∙ stream_there h e.sight.log p.next_port p.device.table p.handshakes on device_fits still_open at.entry at.within
+
+    -- One on which nothing is unread.
+    all_dry : (id : ℕ) (x : DriverEntry) → Contains driver.table.entries x → x.value.id ≡ id → x.value.unread ≡ [] → is_at_end x.value.end ≡ false
+        → OfOpen (opened id) h IsDry
+    all_dry id x within named unread more =
+        let at = at_device x within in
+        let y = at.entry in
+        of_id IsDry id x within named
+        (idle.0 y.slot y.value.stream (under_at reads_of p.device.table y.slot (Some y) (found_there y at.within) ∙ reads_there x within unread more at) h refl)
 
     all_received : (id : ℕ) (x : DriverEntry) → Contains driver.table.entries x → x.value.id ≡ id → x.value.unread ≡ [] → receives x.value.end ≡ true
         → received_by id journal ≡ host_wrote (opened id) h
     all_received id x within named unread gets =
-        let on = All-contains (ReceivesOn (account_of 1 opened journal) end.log) driver.table.entries x account.right.received.held within in
-        let present : opened id ≡ current Driver x.flow end.log = subst (λ (i : ℕ). opened i ≡ current Driver x.flow end.log) named on.present in
-        let some = subst (λ (c : Connection). 1 ≤ c.number) (sym present) on.some in
-        let came : received_by x.value.id journal ++ x.value.unread ≡ payload_got Driver (current Driver x.flow end.log) end.log = on.drains.whole gets in
+        let held = on_id x within in
+        let present : opened id ≡ current Driver x.flow end.log = subst (λ (i : ℕ). opened i ≡ current Driver x.flow end.log) named held.present in
+        let some = subst (λ (c : Connection). 1 ≤ c.number) (sym present) held.some in
+        let came : received_by x.value.id journal ++ x.value.unread ≡ payload_got Driver (current Driver x.flow end.log) end.log = held.drains.whole gets in
         subst (λ (i : ℕ). received_by id journal ≡ received_by i journal) (sym named) refl
         ∙ sym (append-nil (received_by x.value.id journal)) ∙ ap (λ (bs : List ℕ). received_by x.value.id journal ++ bs) (sym unread) ∙ came
         ∙ ap (λ (c : Connection). payload_got Driver c end.log) (sym present)
-        ∙ wrote_there driver end p e settled one h faults streams (opened id) some
+        ∙ wrote_there driver end p e settled h faults streams (opened id) some
 
     -- One that lacks credit: the device holds many bytes of it, which are what its host's program has still to read, and its stream is full.
     unread_by_host : (id : ℕ) (x : DriverEntry) → Contains driver.table.entries x → x.value.id ≡ id → may_send_of x.value.end ≡ Ok 0
-        → (over_half + length (host_read (opened id) h) ≤ length (sent_as id journal)) × AreFull (opened id).flow h
+        → (over_half + length (host_read (opened id) h) ≤ length (sent_as id journal)) × OfOpen (opened id) h IsFull
     unread_by_host id x within named says =
         let at = at_device x within in
         let y = at.entry in
-        let live_there = at.paired.there.live in
+        let alive = at.paired.there.live in
         let none = no_free x.value.end (live x within) says in
         let goes_on : y.value.end.own.receive ≡ false = ap (λ (s : Shut). s.receive) (sym at.paired.here.peer) ∙ none.1 in
         let least = unread_there x.value.end y.value.end at.paired none.0 (ap (λ (b : Bool). b && y.value.end.own.send) goes_on) in
         let exact = (All-contains (λ (z : DeviceEntry). HoldsExactly z.value) p.device.table.entries y steady.exact at.within).exact (λ over. absurd cc) in
-        let on = streamed driver end p e settled one h faults streams in
         let got = unread_within FIRST_CID (ends_at_rest driver end p e).device.part e.sight.log (settled.at_rest.matches Device) (settled.at_rest.fair Device)
-        y.flow y.value.end (one_end device_end p.device.table y device_fits at.within) live_there in
+        y.flow y.value.end (one_end device_end p.device.table y device_fits at.within) alive in
         let its : Connection = current Device y.flow e.sight.log in
         let least_got : over_half ≤ length (payload_got Device its e.sight.log) = omega (arith, least, got) in
         let many : over_half ≤ length y.value.pending = omega (arith, least, exact) in
-        let still = to_read h e.sight.log p.next_port p.device.table p.handshakes on y at.within live_there goes_on over_half many least_got in
-        let known = first_known id x within named in
-        let held = All-contains (ReceivesOn (account_of 1 opened journal) end.log) driver.table.entries x account.right.received.held within in
-        let present : opened id ≡ current Driver x.flow end.log = subst (λ (i : ℕ). opened i ≡ current Driver x.flow end.log) named held.present in
-        let same : opened id ≡ its = present
-        ∙ ap (λ (n : ℕ). let c : Connection = record { flow = x.flow; number = n } in c)
-        (same_number end.log e.sight.log x.flow (to_device driver end p e settled) (to_driver driver end p e settled))
-        ∙ ap (λ (f : Flow). current Device f e.sight.log) at.flow in
+        let still = to_read h e.sight.log p.next_port p.device.table p.handshakes on y at.within alive goes_on over_half many least_got in
+        let some = subst (λ (i : ℕ). 1 ≤ (opened i).number) named (some_known x within) in
+        let same : opened id ≡ its =
+        ap opened (sym named) ∙ present_there x within ∙ ap (λ (f : Flow). current Device f e.sight.log) at.flow in
         let came : sent_as id journal ≡ payload_got Device its e.sight.log =
-        sym (sent_by_id (account_of 1 opened journal) end.log (slots_of driver) account.right.received id known.0 journal account.right.sent.senders)
+        sym (sent_by_id (account_of 1 opened journal) end.log (slots_of driver) account.right.received id some journal account.right.sent.senders)
         ∙ sym (account.right.sent.puts (opened id))
         ∙ same_payload Device e.sight.log end.log (to_device driver end p e settled) (opened id)
-        ∙ ap (λ (c : Connection). payload_got Device c e.sight.log) same in
-        subst (λ (c : Connection). (over_half + length (host_read c h) ≤ length (sent_as id journal)) × AreFull c.flow h) (sym same) (
-          subst (λ (bs : List ℕ). over_half + length (host_read its h) ≤ length bs) (sym came) still,
-          pending_full y at.within (omega (arith, many)),
+        ∙ ap (λ (c : Connection). payload_got Device c e.sight.log) same in (
+          subst (λ (c : Connection). over_half + length (host_read c h) ≤ length (sent_as id journal)) (sym same)
+              (subst (λ (bs : List ℕ). over_half + length (host_read its h) ≤ length bs) (sym came) still),
+          of_id IsFull id x within named (pending_full y at.within (omega (arith, many))),
         )
 
     -- No connection has the id 0.
@@ -318,86 +313,82 @@ module _ (script : RunScript) (driver : DriverState) (end : Sight) (apps : List 
     conn_of None id is some = absurd (omega (arith, is, some))
     conn_of (Some n) id is some = ap (λ (m : ℕ). let q : Option ℕ = Some m in q) is
 
-    flow_of_id : (id : ℕ) (x : DriverEntry) → Contains driver.table.entries x → x.value.id ≡ id → (opened id).flow ≡ x.flow
-    flow_of_id id x within named =
-        let on = All-contains (ReceivesOn (account_of 1 opened journal) end.log) driver.table.entries x account.right.received.held within in
-        ap (λ (i : ℕ). (opened i).flow) (sym named) ∙ ap (λ (c : Connection). c.flow) on.present
-
     -- It has an open stream.
     at_open : (k id : ℕ) (x : DriverEntry) → Contains driver.table.entries x → x.value.id ≡ id → id_of (state_at k apps).progress ≡ id
         → IsAtOpen opened h (state_at k apps).progress.conn id
     at_open k id x within named own =
-        let flow = flow_of_id id x within named in (
-          conn_of (state_at k apps).progress.conn id own (subst (λ (i : ℕ). 1 ≤ i) named (id_some x within)),
-          ap (λ (f : Flow). has_open_stream f h) flow ∙ flow_open x within,
+        (conn_of (state_at k apps).progress.conn id own (subst (λ (i : ℕ). 1 ≤ i) named (id_some x within)), id_open id x within named)
+
+    -- One with an open stream is in the driver's table.
+    pub entry_for : (c : Connection) → 1 ≤ c.number → stream_open c h ≡ true → (x : DriverEntry) × Contains driver.table.entries x × (opened x.value.id ≡ c)
+    entry_for c some opens =
+        let there = entry_of_open h e.sight.log p.next_port p.device.table p.handshakes on device_fits c some opens in
+        let y = there.0 in
+        let among = among_entry device_end p.device.table.entries y there.1 in
+        let found = entry_among driver_end y.flow driver.table.entries (settled.same_flows y.flow (settled.with_host Device y.flow among) ∙ among) in (
+          found.0,
+          found.1,
+          present_there found.0 found.1 ∙ ap (λ (f : Flow). current Device f e.sight.log) (sym found.2)
+              ∙ sym (live_connection y e.sight.log (live_there y there.1)) ∙ there.2,
         )
 
-    -- One whose flow has an open stream is in the driver's table.
-    open_entry : (id : ℕ) → 1 ≤ (opened id).number → has_open_stream (opened id).flow h ≡ true → (x : DriverEntry) × Contains driver.table.entries x × (x.value.id ≡ id)
+    open_entry : (id : ℕ) → 1 ≤ (opened id).number → stream_open (opened id) h ≡ true → (x : DriverEntry) × Contains driver.table.entries x × (x.value.id ≡ id)
     open_entry id some opens =
-        let f = (opened id).flow in
-        let there = open_among h e.sight.log p.next_port p.device.table p.handshakes (streamed driver end p e settled one h faults streams) f opens in
-        let found = entry_among driver_end f driver.table.entries (settled.same_flows f (settled.with_host Device f there) ∙ there) in
-        let known = first_known found.0.value.id found.0 found.1 refl in
-        let first = is_first driver end p e settled one h faults streams (opened id) found.0.flow some (account.right.received.passed id) found.2 in
-        (found.0, found.1, account.right.received.once found.0.value.id id known.0 (known.1 ∙ sym first))
+        let x = entry_for (opened id) some opens in (x.0, x.1, account.right.received.once x.0.value.id id (some_known x.0 x.1) x.2)
 
     -- One of which both directions are shut: its stream is full.
-    closing_full : (x : DriverEntry) → Contains driver.table.entries x → x.value.end.own.send ≡ true → x.value.end.own.receive ≡ true → AreFull x.flow h
-    closing_full x within sends gets =
+    pub closing_full : (id : ℕ) (x : DriverEntry) → Contains driver.table.entries x → x.value.id ≡ id → x.value.end.own.send ≡ true
+        → x.value.end.own.receive ≡ true → OfOpen (opened id) h IsFull
+    closing_full id x within named sends gets =
         let at = at_device x within in
         let y = at.entry in
-        let live_there = at.paired.there.live in
+        let alive = at.paired.there.live in
         let both : is_both y.value.end.peer ≡ true =
         ap is_both at.paired.there.peer ∙ ap (λ (b : Bool). b && x.value.end.own.send) gets ∙ sends in
         let some = some_unread FIRST_CID (ends_at_rest driver end p e).device.part e.sight.log (settled.at_rest.matches Device) (settled.at_rest.fair Device)
-        y.flow y.value.end (one_end device_end p.device.table y device_fits at.within) live_there both in
+        y.flow y.value.end (one_end device_end p.device.table y device_fits at.within) alive both in
         let exact = (All-contains (λ (z : DeviceEntry). HoldsExactly z.value) p.device.table.entries y steady.exact at.within).exact (λ over. absurd cc) in
-        subst (λ (f : Flow). AreFull f h) (sym at.flow) (pending_full y at.within (omega (arith, some, exact)))
+        of_id IsFull id x within named (pending_full y at.within (omega (arith, some, exact)))
 
-    closes_full : (id : ℕ) → AtId IsClosing id driver.next_id driver.table.entries → 1 ≤ (opened id).number → AreFull (opened id).flow h
-    closes_full id at some = by (has_open_stream (opened id).flow h) refl
+    closes_full : (id : ℕ) → AtId IsClosing id driver.next_id driver.table.entries → 1 ≤ (opened id).number → OfOpen (opened id) h IsFull
+    closes_full id at some = λ s is opens.
+        let x = open_entry id some (ap (λ (o : Option Stream). option_map_or (λ y. is_open_in y.state) o false) is ∙ opens) in
+        closing x.0 x.1 x.2 (All-contains (λ (y : DriverEntry). y.value.id ≡ id → IsClosing y.value) driver.table.entries x.0 at.1 x.1 x.2) s is opens
       where
-        closing : (x : DriverEntry) → Contains driver.table.entries x → x.value.id ≡ id → IsClosing x.value → AreFull (opened id).flow h
+        closing : (x : DriverEntry) → Contains driver.table.entries x → x.value.id ≡ id → IsClosing x.value → OfOpen (opened id) h IsFull
         closing x within named (inl over) = absurd (let no : Ended ≡ Live = sym over ∙ live x within in cc)
-        closing x within named (inr shut) = subst (λ (f : Flow). AreFull f h) (sym (flow_of_id id x within named)) (closing_full x within shut.0 shut.1)
-
-        by : (b : Bool) → has_open_stream (opened id).flow h ≡ b → AreFull (opened id).flow h
-        by true opens =
-            let x = open_entry id some opens in
-            closing x.0 x.1 x.2 (All-contains (λ (y : DriverEntry). y.value.id ≡ id → IsClosing y.value) driver.table.entries x.0 at.1 x.1 x.2)
-        by false none = λ k s less opens. absurd (none_open (is_open_on (opened id).flow) h.streams none k s less opens)
+        closing x within named (inr shut) = closing_full id x within named shut.0 shut.1
 
     -- One that takes on isn't stopped; one that is drained was ended, and all was received, where nobody shut it.
-    at_rest : (P : DriverConnection → Type 0) (id : ℕ) → 1 ≤ (opened id).number → has_open_stream (opened id).flow h ≡ true → AtId P id driver.next_id driver.table.entries
+    at_rest : (P : DriverConnection → Type 0) (id : ℕ) → 1 ≤ (opened id).number → stream_open (opened id) h ≡ true → AtId P id driver.next_id driver.table.entries
         → (x : DriverEntry) × Contains driver.table.entries x × (x.value.id ≡ id) × P x.value
     at_rest P id some opens at =
         let x = open_entry id some opens in (x.0, x.1, x.2, All-contains (λ (y : DriverEntry). y.value.id ≡ id → P y.value) driver.table.entries x.0 at.1 x.1 x.2)
 
     shut_there : (id : ℕ) (x : DriverEntry) (within : Contains driver.table.entries x) → x.value.id ≡ id → (P : Stream → Type 0)
         → ((y : DeviceEntry) → y.value.end.own ≡ x.value.end.peer → IsShutBy y.value h → (s : Stream) × (stream_at y.value.stream h ≡ Some s) × P s)
-        → All (λ s. is_open_on (opened id).flow s ≡ true → P s) h.streams
+        → OfOpen (opened id) h P
     shut_there id x within named P gives =
         let there = at_device x within in
         let y = there.entry in
         let is = gives y (sym there.paired.here.peer) (All-contains (λ (z : DeviceEntry). IsShutBy z.value h) p.device.table.entries y (steady.shut h refl) there.within) in
-        subst (λ (f : Flow). All (λ s. is_open_on f s ≡ true → P s) h.streams) (sym there.flow ∙ sym (flow_of_id id x within named))
-        (one_is h e.sight.log p.next_port p.device.table p.handshakes (streamed driver end p e settled one h faults streams) device_fits P y there.within
-        (λ s at. subst P (same_Some is.0 s (sym is.1 ∙ at)) is.2))
+        of_id P id x within named (λ s at. subst P (same_Some is.0 s (sym is.1 ∙ at)) is.2)
 
-    takes_on : (id : ℕ) → 1 ≤ (opened id).number → TakesOn (opened id).flow h → AtId IsStopped id driver.next_id driver.table.entries → ⊥
+    takes_on : (id : ℕ) → 1 ≤ (opened id).number → TakesOn (opened id) h → AtId IsStopped id driver.next_id driver.table.entries → ⊥
     takes_on id some takes at = let x = at_rest IsStopped id some takes.0 at in by x.0 x.1 x.2 x.3
       where
         by : (x : DriverEntry) → Contains driver.table.entries x → x.value.id ≡ id → IsStopped x.value → ⊥
         by x within named (inl over) = let no : Ended ≡ Live = sym over ∙ live x within in cc
-        by x within named (inr peer) = any_both (opened id).flow (λ s. s.host_closed) h.streams takes.0
-            (shut_there id x within named (λ s. s.host_closed ≡ true) (λ y own is. is.receives (ap (λ (s : Shut). s.receive) own ∙ peer))) takes.1
+        by x within named (inr peer) =
+            let s = open_stream (opened id) h takes.0 in
+            let closed = shut_there id x within named (λ y. y.host_closed ≡ true) (λ y own is. is.receives (ap (λ (z : Shut). z.receive) own ∙ peer)) in
+            let both : true ≡ false = sym (closed s.0 s.1 s.2) ∙ takes.1 s.0 s.1 s.2 in cc
 
     ended_there : (id : ℕ) (x : DriverEntry) (within : Contains driver.table.entries x) → x.value.id ≡ id → x.value.end.peer.send ≡ true
-        → All (λ s. is_open_on (opened id).flow s ≡ true → GivesNoMore s) h.streams
+        → OfOpen (opened id) h GivesNoMore
     ended_there id x within named peer = shut_there id x within named (λ s. GivesNoMore s) (λ y own is. is.sends (ap (λ (s : Shut). s.send) own ∙ peer))
 
-    has_all : (id : ℕ) → 1 ≤ (opened id).number → has_open_stream (opened id).flow h ≡ true
+    has_all : (id : ℕ) → 1 ≤ (opened id).number → stream_open (opened id) h ≡ true
         → IsTraced journal journal driver.next_id driver.table.entries → AtId IsDrained id driver.next_id driver.table.entries → HasEnd opened journal h id
     has_all id some opens traced at = let x = at_rest IsDrained id some opens at in by x.0 x.1 x.2 x.3
       where
@@ -436,11 +427,11 @@ module _ (script : RunScript) (driver : DriverState) (end : Sight) (apps : List 
         plain : ArePlain journal
         plain = all_plain script bytes entries
 
-        uncut : (id : ℕ) → 1 ≤ (opened id).number → TakesOn (opened id).flow h → (b : Bool) → is_cut id journal ≡ b → is_cut id journal ≡ false
+        uncut : (id : ℕ) → 1 ≤ (opened id).number → TakesOn (opened id) h → (b : Bool) → is_cut id journal ≡ b → is_cut id journal ≡ false
         uncut id some takes false none = none
         uncut id some takes true cut = absurd (takes_on id some takes (stopped id driver.next_id driver.table.entries journal traced.tell cut))
 
-        ended : (id : ℕ) → 1 ≤ (opened id).number → has_open_stream (opened id).flow h ≡ true → early id journal ≡ true → HasEnd opened journal h id
+        ended : (id : ℕ) → 1 ≤ (opened id).number → stream_open (opened id) h ≡ true → early id journal ≡ true → HasEnd opened journal h id
         ended id some opens over = has_all id some opens traced (drained id driver.next_id driver.table.entries journal traced.tell over)
 
         bounds : (k : ℕ) → k < length script → HasBounds (acts_of k script) k script bytes entries (state_at k apps).progress
@@ -503,7 +494,7 @@ module _ (script : RunScript) (driver : DriverState) (end : Sight) (apps : List 
           is.id,
           at_open k is.id x found.0 named own,
           all_received is.id x found.0 named is.none.unread is.none.receives,
-          subst (λ (f : Flow). AreDry f h) (sym (flow_of_id is.id x found.0 named)) (all_dry x found.0 is.none.unread is.none.more),
+          all_dry is.id x found.0 named is.none.unread is.none.more,
         )
 
     -- A send that stops where it waits for bytes: its connection lacks credit.
@@ -566,23 +557,14 @@ module _ (script : RunScript) (driver : DriverState) (end : Sight) (apps : List 
     ending_complete k (inr rests) =
         subst (λ (x : Ending). IsCompleteEnding opened journal h (state_at k apps).progress.conn x) (sym rests.ended) (wait_complete k rests.why rests.halts)
 
-  -- The report, with all that is so of it.
-  pub complete_report : (opened : ℕ → Connection)
-      × ((t : Totals) (before after : ℕ) → t.broken ≡ driver.broken → t.counters.overrun ≡ p.device.overrun → t.counters.dropped ≡ 0
-      → (1 ≤ t.counters.faults → one_more before ≤ after) → IsRightReport script apps entries bytes t opened h before after)
-      × ((t : Totals) → t.guest_open ≡ length (guest_shown driver) → t.device_open ≡ length (device_shown p.device)
-      → IsCompleteRun script apps entries bytes t opened h)
-  complete_report =
-      let told = accounted script driver end apps entries bytes p e h faults run settled steady old stood all same_apps same_entries streams in (
-        told.0,
-        right_with script driver end apps entries bytes p e h faults run settled steady old stood all same_apps same_entries streams told.0 told.1,
-        λ t guest device. record {
-          guest_open = guest ∙ guest_open;
-          device_open = device ∙ device_open;
-          waits = λ k less. ending_complete told.0 told.1 k (ends k less);
-          exchanges = λ k less. exchanged told.0 told.1 k (ends k less);
-          bounded = bounded_run told.0 told.1;
-          given = (run.kept.given refl (driver_log end) refl).all;
-          owned = (run.kept.places refl (driver_log end) refl).1;
-        },
-      )
+    pub complete_run : (t : Totals) → t.guest_open ≡ length (guest_shown driver) → t.device_open ≡ length (device_shown p.device)
+        → IsCompleteRun script apps entries bytes t opened h
+    complete_run t guest device = record {
+      guest_open = guest ∙ guest_open;
+      device_open = device ∙ device_open;
+      waits = λ k less. ending_complete k (ends k less);
+      exchanges = λ k less. exchanged k (ends k less);
+      bounded = bounded_run;
+      given = (run.kept.given refl (driver_log end) refl).all;
+      owned = (run.kept.places refl (driver_log end) refl).1;
+    }

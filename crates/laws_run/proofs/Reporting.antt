@@ -1,22 +1,20 @@
 -- From what a run ends in to a right report.
 use Rattle.std.{proofs.Common.{◌≡◌, ℕ, ◌<◌, ◌≤◌, List, Some, length, refl, sym, ap, subst, ◌∙◌}, specs.List.All}
-use Rattle.vs_flow.specs.{Connection.Connection, declared.flow.Flow.Flow}
+use Rattle.vs_flow.specs.Connection.{Connection}
 use Rattle.vs_limits.specs.declared.TheConstants.{FIRST_CID}
 use Rattle.vs_outside.specs.{Faults.one_more, Host.HostContents}
-use Rattle.vs_page.specs.{Fair.number_of, Log.{Device, Driver}}
 use Rattle.vs_ring_shared.specs.Sights.{DeviceSight, Sight, device_contents, device_log, driver_contents, driver_log}
 use Rattle.vs_driver_parts.specs.State.{DriverState}
 use Rattle.vs_device_parts.specs.Playing.{situation}
 use Rattle.vs_proxy_parts.specs.State.{ProxyState}
-use Rattle.laws_tables.specs.Asked.{AskOnce}
 use Rattle.laws_driver.specs.{Honest.slots_of, Carried.Calls.Journal}
 use Rattle.laws_proxy.specs.Honest.{IsProxyStreamed}
-use Rattle.laws_settled.specs.Settled.{IsSettled, IsSteady, ends_at_rest}
+use Rattle.laws_settled.specs.Settled.{IsSettled, IsSteady}
 use Rattle.vs_apps_parts.specs.{Journals.calls_of, Scripts.{RunScript, acts_of}, declared.{journal.Entry.Entry, progress.AppState.AppState}}
 use Rattle.laws_apps.specs.{Accounts.IsAccount, Runs.{IsRunOf, Run}, Calls.run_with, Rounds.AllStand}
 use Rattle.vs_report.specs.declared.giving.Totals.{Totals}
 use Rattle.vs_run_report.specs.{Connections.opened_all, Report.ended_at, Right.{IsRightConnection, IsRightEnding, IsRightReport}, declared.connection.Opened.Opened}
-use Rattle.laws_run.proofs.{Bytes.{carried, number_once}, Endings.all_right, Opening.all_opened}
+use Rattle.laws_run.proofs.{Bytes.carried, Endings.all_right, Opening.all_opened}
 
 module _ (script : RunScript) (driver : DriverState) (end : Sight) (apps : List AppState) (entries : List Entry) (bytes : List ℕ) (p : ProxyState)
     (e : DeviceSight) (h : HostContents) (faults : ℕ)
@@ -27,15 +25,6 @@ module _ (script : RunScript) (driver : DriverState) (end : Sight) (apps : List 
     (run.kept.honest refl (driver_log end) refl).none_refused,
     ((steady.order.ring.1.1 (device_log e) refl).1 refl).none_overrun,
   )
-
-  guest : AskOnce Driver (ends_at_rest driver end p e).driver
-  guest = run.kept.asks refl (driver_log end) refl
-
-  host : AskOnce Device (ends_at_rest driver end p e).device
-  host = steady.asks refl (device_log e) refl
-
-  pub once : (f : Flow) → number_of Device f e.sight.log ≤ 1
-  once = number_once driver end p e settled guest host
 
   -- Nothing after the last round changed an app or an entry.
   module _ (old stood : Run) (all : AllStand script (length script) old stood) (same_apps : apps ≡ stood.apps) (same_entries : entries ≡ stood.entries)

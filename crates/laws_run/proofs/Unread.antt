@@ -26,6 +26,11 @@ no_free e live says = by e.own.send e.peer.receive refl (sym (ap (λ (st : State
     by false true is says = absurd cc
     by false false is says = ((let same : free_of e.credit ≡ 0 = cc in same), is)
 
+-- The connection of an entry whose end is Live.
+pub live_connection : (y : DeviceEntry) (log : Log) → y.value.end.state ≡ Live → connection_of y log ≡ current Device y.flow log
+live_connection y log live = ap (λ (st : State). let n = number_of Device y.flow log in
+    let c : Connection = record { flow = y.flow; number = cond (is_new_in st y.value.end.request_put) (n + 1) n } in c) live
+
 -- An end has no more unread than it got on its flow.
 pub followed : (side : Side) (h : History) (kind : Option ℕ) (owed : Bool) (ends : List ConnectionEnd) (e : ConnectionEnd) → IsLeftOn Device side h kind owed ends
     → ends ≡ e ∷ [] → e.state ≡ Live → Follows side (puts h) (gots h) e
@@ -112,10 +117,6 @@ module _ (h : HostContents) (log : Log) (port : ℕ) (t : Table DeviceConnection
   abbrev its : Connection
   its = current Device y.flow log
 
-  its_is : connection_of y log ≡ its
-  its_is = ap (λ (st : State). let n = number_of Device y.flow log in
-      let c : Connection = record { flow = y.flow; number = cond (is_new_in st y.value.end.request_put) (n + 1) n } in c) live
-
   pub read_less : Within (host_read its h) y.value.pending (payload_got Device its log)
   read_less =
       let joined = All-contains (IsJoined (look h) (count_in h) log) t.entries y streamed.joined within in
@@ -124,7 +125,7 @@ module _ (h : HostContents) (log : Log) (port : ℕ) (t : Table DeviceConnection
       let label = ap (λ s. s.label) here.is ∙ joined.label in
       let client = ap (λ s. s.by_client) here.is ∙ labels.client in
       let all = joined.drains.whole (ap (λ (st : State). gives_in st y.value.end.own.receive) live ∙ ap (λ (b : Bool). not b) goes_on) in
-      subst (λ (c : Connection). Within (host_read c h) y.value.pending (payload_got Device c log)) its_is
+      subst (λ (c : Connection). Within (host_read c h) y.value.pending (payload_got Device c log)) (live_connection y log live)
       (subst (λ (bs : List ℕ). Within bs y.value.pending (payload_got Device (connection_of y log) log))
       (ap (λ (b : Bool). cond b (after_line here.stream.given) here.stream.given) (sym client)
       ∙ read_own h log port t hands streamed (connection_of y log) labels.some y.value.stream here.stream here.at label)

@@ -1,12 +1,12 @@
--- What of both ends' bytes holds by flows: all payload arrived, and the host's streams took and gave it.
-use Rattle.std.proofs.Common.{◌≡◌, ℕ, ◌≤◌, true, false, List, [], ◌∷◌, Some, refl, sym, ap, ◌∙◌, arith}
-use Rattle.vs_flow.specs.{Connection.{Connection, first_of}, Flow.is_assigned, declared.flow.Flow.Flow}
+-- What of both ends' bytes holds at rest: all payload arrived, and the host's streams took and gave it.
+use Rattle.std.proofs.Common.{◌≡◌, ℕ, ◌≤◌, true, false, List, [], ◌∷◌, Some, refl, sym, ap, ◌∙◌}
+use Rattle.vs_flow.specs.{Connection.Connection, Flow.is_assigned, declared.flow.Flow.Flow}
 use Rattle.vs_limits.specs.declared.TheConstants.{FIRST_CID}
 use Rattle.laws_history.specs.{Again.count, Packets.is_request, declared.packet.Packet.Packet, History.{Answerer, Asker, Side, gots, peer, puts}}
 use Rattle.vs_outside.specs.{Host.HostContents, HostBytes.host_wrote}
-use Rattle.vs_page.specs.{Fair.{asked_by, instance_from, number_of, payload_got, payload_of, payload_put}, Log.{Device, Driver, Log, Role, flow_got, other_role, packets_got}}
-use Rattle.vs_page.{specs.{Log.{packets_put, side_of, whole_of}, declared.log.LogEntry.TheVariants.{GotEvent, GotPacket, Mark, PutEvent, PutPacket}}, proofs.Entries.got_on}
-use Rattle.vs_page.proofs.Flows.{opposite_by, same_self}
+use Rattle.vs_page.specs.{Fair.{asked_by, current, instance_from, number_of, payload_got, payload_of, payload_put}, Log.{Device, Driver, Log, Role, flow_got, other_role}}
+use Rattle.vs_page.specs.{Log.{packets_got, packets_put, side_of, whole_of}, declared.log.LogEntry.TheVariants.{GotEvent, GotPacket, Mark, PutEvent, PutPacket}}
+use Rattle.vs_page.proofs.{Entries.got_on, Flows.{opposite_by, same_self}}
 use Rattle.vs_driver_parts.specs.State.{DriverState}
 use Rattle.vs_device_parts.specs.Playing.{situation}
 use Rattle.vs_ring_shared.specs.Sights.{DeviceSight, Sight, device_contents, device_log}
@@ -26,7 +26,7 @@ module _ (role : Role) (mine other : Log) (all : packets_put other ≡ packets_g
       ap (λ (side : Side). payload_of (instance_from side c.number (puts (whole_of (other_role role) c.flow other)))) (opposite_by role (is_assigned c.flow.host))
       ∙ ap (λ (ps : List Packet). payload_of (instance_from (peer (side_of role c.flow)) c.number ps)) (there c.flow)
 
-pub same_number : (driver device : Log) (f : Flow) → packets_put driver ≡ packets_got device → packets_put device ≡ packets_got driver
+same_number : (driver device : Log) (f : Flow) → packets_put driver ≡ packets_got device → packets_put device ≡ packets_got driver
     → number_of Driver f driver ≡ number_of Device f device
 same_number driver device f to_device to_driver =
     ap (λ (side : Side). asked_by side (puts (whole_of Driver f driver)) (gots (whole_of Driver f driver))) (opposite_by Device (is_assigned f.host))
@@ -57,11 +57,15 @@ module _ (d : DriverState) (driver : Sight) (p : ProxyState) (device : DeviceSig
   pub to_driver : packets_put device.sight.log ≡ packets_got driver.log
   to_driver = settled.at_rest.got Driver
 
-  module _ (once : (f : Flow) → number_of Device f device.sight.log ≤ 1) (h : HostContents) (faults : ℕ) (streams : IsProxyStreamed FIRST_CID p (situation (device_contents device) (Some h) faults)) where
-    pub heard : AreHeard FIRST_CID device.sight.log
-    heard = all_heard FIRST_CID device.sight.log (λ f. device_kept FIRST_CID f driver.log device.sight.log (settled.at_rest.no_reset Driver)
-        (settled.at_rest.no_reset Device) settled.at_rest.routed to_device)
+  -- The present connection of a flow is the same one at both ends.
+  pub same_current : (f : Flow) → current Driver f driver.log ≡ current Device f device.sight.log
+  same_current f = ap (λ (n : ℕ). let c : Connection = record { flow = f; number = n } in c) (same_number driver.log device.sight.log f to_device to_driver)
 
+  pub heard : AreHeard FIRST_CID device.sight.log
+  heard = all_heard FIRST_CID device.sight.log (λ f. device_kept FIRST_CID f driver.log device.sight.log (settled.at_rest.no_reset Driver)
+      (settled.at_rest.no_reset Device) settled.at_rest.routed to_device)
+
+  module _ (h : HostContents) (faults : ℕ) (streams : IsProxyStreamed FIRST_CID p (situation (device_contents device) (Some h) faults)) where
     pub streamed : IsStreamed h device.sight.log p.next_port p.device.table p.handshakes
     streamed = streams refl (device_log device) refl heard h refl
 
@@ -69,11 +73,3 @@ module _ (d : DriverState) (driver : Sight) (p : ProxyState) (device : DeviceSig
     wrote_there c some =
         sym (same_payload Driver driver.log device.sight.log to_driver c)
         ∙ wrote_is_put h device.sight.log p.next_port p.device.table p.handshakes streamed c some
-
-    -- A connection of a flow is its only one.
-    pub is_first : (c : Connection) (f : Flow) → 1 ≤ c.number → c.number ≤ number_of Driver c.flow driver.log → c.flow ≡ f → c ≡ first_of f
-    is_first c f some past flow =
-        let few = once c.flow in
-        let same = same_number driver.log device.sight.log c.flow to_device to_driver in
-        let one : c.number ≡ 1 = omega (arith, past, few, same, some) in
-        ap (λ (n : ℕ). let k : Connection = record { flow = c.flow; number = n } in k) one ∙ ap (λ (g : Flow). first_of g) flow

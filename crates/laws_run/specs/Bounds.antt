@@ -1,19 +1,18 @@
 -- Bounds of a complete run: what was sent at least on a connection, by the instructions that its app carried out there; and what became of one that was closed.
-use Rattle.std.specs.Prelude.{◌≡◌, ℕ, ◌+◌, ◌<◌, ◌≤◌, ◌==◌, ◌&&◌, ◌||◌, not, nat_lt, Bool, true, false, if◌then◌else◌, List, [], ◌∷◌, ◌++◌, length, slice_get, Some, None, is_some, take}
-use Rattle.std.specs.List.{All, list_any}
-use Rattle.vs_flow.specs.{Connection.Connection, declared.flow.Flow.Flow}
+use Rattle.std.specs.Prelude.{◌≡◌, ℕ, ◌+◌, ◌<◌, ◌≤◌, ◌==◌, ◌&&◌, ◌||◌, not, nat_lt, Bool, true, false, if◌then◌else◌, List, [], ◌∷◌, ◌++◌, length, slice_get, Some, None, is_some}
+use Rattle.std.specs.{Prelude.take, List.list_any}
+use Rattle.vs_flow.specs.Connection.{Connection}
 use Rattle.vs_outside.specs.{Host.HostContents, HostBytes.host_wrote}
 use Rattle.vs_script.specs.{App.{Accept, Act, Connect, Drain, Exchange, Recv, Send}, Data.size_of}
-use Rattle.laws_device.specs.Streams.{has_open_stream, is_open_on}
 use Rattle.laws_driver.specs.Carried.Calls.{Close, GuestCall, Journal, Made, ReplyTo, names, received_by}
-use Rattle.laws_driver.specs.Carried.Calls as call
 use Rattle.vs_apps_parts.specs.{Journals.{calls_of, calls_of_app, gathered, made_by, sent_as}, Scripts.{Follows, RunScript, acts_of, after_step, all_noted, begun, told_in}}
-use Rattle.vs_apps_parts.specs.{Told.told_of, declared.{journal.Entry.Entry, progress.AppState.AppState, progress.Progress.Progress, told.Told.Told}}
-use Rattle.vs_apps_parts.specs.declared.told.Told.TheVariants as told
-use Rattle.laws_apps.specs.{Placed.accepted_as, Placed.asked_as, Traces.is_shut}
+use Rattle.vs_apps_parts.specs.{Told.told_of, declared.{journal.Entry.Entry, progress.{AppState.AppState, Progress.Progress}, told.Told.Told}}
+use Rattle.laws_apps.specs.{Placed.{accepted_as, asked_as}, Traces.is_shut}
 use Rattle.vs_run_report.specs.{Connections.opened_of, Endings.state_at}
 use Rattle.laws_settled.specs.Shut.{GivesNoMore}
-use Rattle.laws_run.specs.Dry.{AreFull}
+use Rattle.laws_run.specs.Dry.{IsFull, OfOpen, stream_open}
+use Rattle.laws_driver.specs.Carried.Calls as call
+use Rattle.vs_apps_parts.specs.declared.told.Told.TheVariants as told
 
 -- How many bytes an instruction names, by kinds: a send's, an exchange's, and those to be received; and all of a list.
 abbrev pub sent_by : Act → ℕ
@@ -65,14 +64,14 @@ made_by_others k script bytes e = if e.app == k then [] else made_by script byte
 abbrev pub calls_of_others : ℕ → RunScript → List ℕ → List Entry → Journal
 calls_of_others k script bytes es = gathered (made_by_others k script bytes) es
 
--- The proxy hasn't closed the flow's stream, and the host's program hasn't either: no write of it was answered Closed.
-abbrev pub TakesOn : Flow → HostContents → Type 0
-TakesOn f h = (has_open_stream f h ≡ true) × All (λ s. is_open_on f s ≡ true → s.host_closed ≡ false) h.streams
+-- The proxy hasn't closed the connection's stream, and the host's program hasn't either: no write of it was answered Closed.
+abbrev pub TakesOn : Connection → HostContents → Type 0
+TakesOn c h = (stream_open c h ≡ true) × OfOpen c h (λ s. s.host_closed ≡ false)
 
--- It ended each open stream of the flow, nothing is left to be taken, and all that was taken was received on the id, unless a call shut that.
+-- It ended the open stream of the id's connection, nothing is left to be taken, and all that was taken was received on the id, unless a call shut that.
 abbrev pub HasEnd : (ℕ → Connection) → Journal → HostContents → ℕ → Type 0
 HasEnd opened journal h id =
-    (is_shut id journal ≡ false → received_by id journal ≡ host_wrote (opened id) h) × All (λ s. is_open_on (opened id).flow s ≡ true → GivesNoMore s) h.streams
+    (is_shut id journal ≡ false → received_by id journal ≡ host_wrote (opened id) h) × OfOpen (opened id) h GivesNoMore
 
 -- Whether a send on an id was over, whatever it moved, before a call shut the id; and whether a receive was.
 abbrev pub is_over : Told → Bool
@@ -132,9 +131,9 @@ pub record HasBounds (acts : List Act) (k : ℕ) (script : RunScript) (bytes : L
   pub drains : (id : ℕ) → is_shut id (calls_of_others k script bytes entries) ≡ false → list_any is_drain (done_at id acts steps) ≡ true
       → early id (calls_of script bytes entries) ≡ true
 
--- A close: each stream of the flow of the connection whose id was closed that the proxy hasn't closed takes nothing now.
+-- A close: the stream of the connection whose id was closed takes nothing now, unless the proxy closed it.
 abbrev pub IsShutDown : (ℕ → Connection) → HostContents → GuestCall → Type 0
-IsShutDown opened h (Close id) = 1 ≤ (opened id).number → AreFull (opened id).flow h
+IsShutDown opened h (Close id) = 1 ≤ (opened id).number → OfOpen (opened id) h IsFull
 IsShutDown opened h call = Unit {0}
 
 abbrev pub AreShutDown : (ℕ → Connection) → HostContents → Journal → Type 0
@@ -145,7 +144,7 @@ AreShutDown opened h (m ∷ older) = IsShutDown opened h m.call × AreShutDown o
 pub record IsBounded (script : RunScript) (apps : List AppState) (entries : List Entry) (bytes : List ℕ) (opened : ℕ → Connection) (h : HostContents)
     : Type 0 where
   pub bounds : (k : ℕ) → k < length script → HasBounds (acts_of k script) k script bytes entries (state_at k apps).progress
-  pub uncut : (id : ℕ) → 1 ≤ (opened id).number → TakesOn (opened id).flow h → is_cut id (calls_of script bytes entries) ≡ false
-  pub ended : (id : ℕ) → 1 ≤ (opened id).number → has_open_stream (opened id).flow h ≡ true → early id (calls_of script bytes entries) ≡ true
+  pub uncut : (id : ℕ) → 1 ≤ (opened id).number → TakesOn (opened id) h → is_cut id (calls_of script bytes entries) ≡ false
+  pub ended : (id : ℕ) → 1 ≤ (opened id).number → stream_open (opened id) h ≡ true → early id (calls_of script bytes entries) ≡ true
       → HasEnd opened (calls_of script bytes entries) h id
   pub closes : AreShutDown opened h (calls_of script bytes entries)

@@ -1,18 +1,18 @@
 -- A complete run: what more the report of a run that is at rest says, and the streams of its host.
 use Rattle.std.specs.{List.filter_map, Prelude.{◌≡◌, ℕ, ◌+◌, ◌<◌, ◌≤◌, ◌⊎◌, true, if◌then◌else◌, List, length, slice_get, Option, Some, None}}
 use Rattle.vs_flow.specs.{Connection.Connection, declared.flow.Flow.Flow}
-use Rattle.vs_outside.specs.{Host.HostContents, Host.Stream, HostBytes.host_read, HostBytes.host_wrote}
-use Rattle.laws_device.specs.Streams.{has_open_stream, is_open_in}
+use Rattle.vs_outside.specs.{Host.{HostContents, Stream}, HostBytes.{host_read, host_wrote}}
+use Rattle.laws_device.specs.Streams.{is_open_in}
 use Rattle.laws_driver.specs.Carried.Calls.{Journal, received_by}
-use Rattle.vs_apps_parts.specs.{Journals.calls_of, Journals.sent_as, Scripts.RunScript, Scripts.acts_of, declared.{journal.Entry.Entry, journal.WaitsFor.WaitsFor, progress.AppState.AppState}}
+use Rattle.vs_apps_parts.specs.{Journals.{calls_of, sent_as}, Scripts.{RunScript, acts_of}, declared.{journal.{Entry.Entry, WaitsFor.WaitsFor}, progress.AppState.AppState}}
 use Rattle.vs_apps_parts.specs.declared.progress.Progress.{Progress}
-use Rattle.vs_script.specs.{App.Act, App.Exchange, Data.Content, Data.size_of}
-use Rattle.vs_apps_parts.specs.declared.journal.WaitsFor.TheVariants as waits
+use Rattle.vs_script.specs.{App.{Act, Exchange}, Data.{Content, size_of}}
 use Rattle.laws_apps.specs.{Given.AllGiven, Placed.AreOwned}
 use Rattle.laws_rest.specs.Rest.{over_half}
-use Rattle.laws_run.specs.{Bounds.IsBounded, Dry.AreDry, Dry.AreFull}
+use Rattle.laws_run.specs.{Bounds.IsBounded, Dry.{IsDry, IsFull, OfOpen, stream_open}}
 use Rattle.vs_report.specs.declared.giving.Totals.{Totals}
 use Rattle.vs_run_report.specs.{Endings.state_at, Report.ended_at, declared.ending.Ending.Ending}
+use Rattle.vs_apps_parts.specs.declared.journal.WaitsFor.TheVariants as waits
 use Rattle.vs_run_report.specs.declared.ending.Ending.TheVariants as ending
 
 -- The labels of the streams that have one and that the proxy hasn't closed.
@@ -27,15 +27,15 @@ open_labels h = filter_map open_label h.streams
 -- credit: it is open, takes nothing now, and of what was sent there that program has at least so many bytes still to read, more than half of the buffer
 -- space.
 abbrev pub IsAtOpen : (ℕ → Connection) → HostContents → Option ℕ → ℕ → Type 0
-IsAtOpen opened h conn id = (conn ≡ Some id) × (has_open_stream (opened id).flow h ≡ true)
+IsAtOpen opened h conn id = (conn ≡ Some id) × (stream_open (opened id) h ≡ true)
 
 abbrev pub LacksBytes : (ℕ → Connection) → Journal → HostContents → Option ℕ → Type 0
 LacksBytes opened journal h conn =
-    (id : ℕ) × IsAtOpen opened h conn id × (received_by id journal ≡ host_wrote (opened id) h) × AreDry (opened id).flow h
+    (id : ℕ) × IsAtOpen opened h conn id × (received_by id journal ≡ host_wrote (opened id) h) × OfOpen (opened id) h IsDry
 
 abbrev pub LacksCredit : (ℕ → Connection) → Journal → HostContents → Option ℕ → Type 0
 LacksCredit opened journal h conn =
-    (id : ℕ) × IsAtOpen opened h conn id × (over_half + length (host_read (opened id) h) ≤ length (sent_as id journal)) × AreFull (opened id).flow h
+    (id : ℕ) × IsAtOpen opened h conn id × (over_half + length (host_read (opened id) h) ≤ length (sent_as id journal)) × OfOpen (opened id) h IsFull
 
 -- What is so of each wait, where the app is at this connection. None waits for a connection to open, or for a page.
 abbrev pub IsCompleteWait : (ℕ → Connection) → Journal → HostContents → Option ℕ → WaitsFor → Type 0

@@ -1,10 +1,17 @@
--- Streams of the host that are at rest: from which nothing is to be taken now, though more may come; and which take nothing now.
-use Rattle.std.specs.{List.All, Option.ForSome, Prelude.{◌≡◌, ℕ, ◌==◌, ◌&&◌, not, true, false, if◌then◌else◌, [], length, Option, Some, None}}
+-- Streams of the host that are at rest: from which nothing is to be taken now, though more may come; and which take nothing now. By connections.
+use Rattle.std.specs.{Option.{ForSome, option_map_or}, Prelude.{◌≡◌, ℕ, ◌==◌, ◌&&◌, not, Bool, true, false, if◌then◌else◌, [], length, Option, Some, None}}
 use Rattle.vs_credit.specs.Credit.{free_of}
-use Rattle.vs_flow.specs.{Table.Table, Table.entry_under, declared.flow.Flow.Flow}
-use Rattle.laws_device.specs.Streams.{is_open_on}
-use Rattle.vs_outside.specs.Host.{HostContents, Stream, stream_at}
+use Rattle.vs_flow.specs.{Connection.Connection, Table.Table, Table.entry_under}
+use Rattle.laws_device.specs.Streams.{is_open_in}
+use Rattle.vs_outside.specs.{Host.{HostContents, Stream, stream_at}, HostBytes.stream_of}
 use Rattle.vs_device_parts.specs.{Receiving.may_read, State.DeviceConnection, State.DeviceEntry, Streams.to_write}
+
+-- A connection has a stream that the proxy hasn't closed; and what is so of that one.
+abbrev pub stream_open : Connection → HostContents → Bool
+stream_open c h = option_map_or (λ s. is_open_in s.state) (stream_of c h) false
+
+abbrev pub OfOpen : Connection → HostContents → (Stream → Type 0) → Type 0
+OfOpen c h P = ForSome (stream_of c h) (λ s. is_open_in s.state ≡ true → P s)
 
 -- A read of it gives Again.
 pub record IsDry (s : Stream) : Type 0 where
@@ -13,10 +20,6 @@ pub record IsDry (s : Stream) : Type 0 where
 
 abbrev pub IsDryAt : ℕ → HostContents → Type 0
 IsDryAt id h = ForSome (stream_at id h) IsDry
-
--- So are all streams of a flow that the proxy hasn't closed.
-abbrev pub AreDry : Flow → HostContents → Type 0
-AreDry f h = All (λ s. is_open_on f s ≡ true → IsDry s) h.streams
 
 abbrev pub IsToldDry : ℕ → Option HostContents → Type 0
 IsToldDry id host = ForSome host (IsDryAt id)
@@ -34,9 +37,6 @@ IsFull s = s.room ≡ Some 0
 
 abbrev pub IsFullAt : ℕ → HostContents → Type 0
 IsFullAt id h = ForSome (stream_at id h) IsFull
-
-abbrev pub AreFull : Flow → HostContents → Type 0
-AreFull f h = All (λ s. is_open_on f s ≡ true → IsFull s) h.streams
 
 abbrev pub IsToldFull : ℕ → Option HostContents → Type 0
 IsToldFull id host = ForSome host (IsFullAt id)

@@ -1,4 +1,4 @@
-//! A law of complete runs.
+//! A law of complete runs, and of waits for a place and for a client.
 
 ghost use Rattle.std.specs.Prelude.{◌≡◌, ◌<◌, ◌≤◌, ℕ, List, Some, false, length};
 ghost use Rattle.vs_flow.specs.Connection.{Connection};
@@ -14,7 +14,7 @@ ghost use Rattle.vs_apps_parts.specs.{Scripts.RunScript, declared.{journal.Entry
 ghost use Rattle.laws_apps.specs.{Calls.run_with, Rounds.AllStand, Runs.{IsRunOf, PollsTo, Run, poll_moved}};
 ghost use Rattle.vs_report.specs.declared.giving.Totals.{Totals};
 ghost use Rattle.vs_run_report.specs.Right.{IsRightReport};
-ghost use Rattle.laws_run.specs.{Complete.IsCompleteRun, Dry.AreIdle};
+ghost use Rattle.laws_run.specs.{Complete.IsCompleteRun, Dry.AreIdle, Places.ArePlaceWaits};
 
 /// What is reported of a run that is at rest is right, and the run is complete, where each app's last step moved nothing, one after another, and the
 /// poll after them moved nothing either: an app that waits for bytes received all that the host's program wrote on its connection and the proxy took,
@@ -23,7 +23,10 @@ ghost use Rattle.laws_run.specs.{Complete.IsCompleteRun, Dry.AreIdle};
 /// waits for a connection to open, or for a page, where a page could be put at first; both tables have as many entries as there are streams with a label
 /// that the proxy hasn't closed; each connect and accept that an app carried out opened a connection of its own, or was refused; on each connection
 /// what the instructions name that the app carried out before it shut that was moved, unless one of them was over early, which where its stream is open is
-/// where that ended or was closed; and one that an app closed is closed or takes nothing (Virtio 1.2, section 5.10.6.5).
+/// where that ended or was closed; and one that an app closed is closed or takes nothing (Virtio 1.2, section 5.10.6.5). An app that waits for a place
+/// finds all of the driver's slots held, by connections that an app opened and no close found, or whose stream takes nothing now, and by connections of
+/// the host's clients that no app accepted; one that waits for a client does so on a port on which the script listens, and each connection on it whose
+/// stream is open was given to an app.
 pub fn law_of_complete_runs()
     ensures { (script : RunScript) (driver : DriverState) (end : Sight) (apps : List AppState) (entries : List Entry) (bytes : List ℕ)
         (p : ProxyState) (e : DeviceSight) (h : HostContents) (faults : ℕ)
@@ -37,5 +40,5 @@ pub fn law_of_complete_runs()
         → (opened : ℕ → Connection) × ((t : Totals) (before after : ℕ) → t.broken ≡ driver.broken → t.counters.overrun ≡ p.device.overrun
         → t.counters.dropped ≡ 0 → (1 ≤ t.counters.faults → one_more before ≤ after) → IsRightReport script apps entries bytes t opened h before after)
         × ((t : Totals) → t.guest_open ≡ length (guest_shown driver) → t.device_open ≡ length (device_shown p.device)
-        → IsCompleteRun script apps entries bytes t opened h) }
+        → IsCompleteRun script apps entries bytes t opened h) × ArePlaceWaits script apps entries bytes driver opened h }
 {}

@@ -1,10 +1,9 @@
 //! Laws of what a run of apps reports.
 
 ghost use Rattle.std.specs.Prelude.{◌≡◌, ◌<◌, ◌≤◌, ℕ, List, Some, length};
-ghost use Rattle.vs_flow.specs.{Connection.Connection, declared.flow.Flow.Flow};
+ghost use Rattle.vs_flow.specs.Connection.{Connection};
 ghost use Rattle.vs_limits.specs.declared.TheConstants.{FIRST_CID};
 ghost use Rattle.vs_outside.specs.{Faults.one_more, Host.HostContents};
-ghost use Rattle.vs_page.specs.{Fair.number_of, Log.Device};
 ghost use Rattle.vs_ring_shared.specs.Sights.{DeviceSight, Sight, device_contents, driver_contents};
 ghost use Rattle.vs_driver_parts.specs.State.{DriverState};
 ghost use Rattle.vs_device_parts.specs.Playing.{situation};
@@ -27,9 +26,9 @@ pub fn law_of_endings()
 /// changed since each app's last step moved nothing: ids were given to connections with which the calls of each app are its instructions, each
 /// app ended right, and on each connection that an app opened a prefix of what was sent was read by the host's program, and a prefix of what
 /// that program wrote was received (Virtio 1.2, section 5.10.6). No payload went beyond its room and no packet broke a connection; that no
-/// packet was dropped, and which faults were counted, the report has to know. Each flow was used once.
+/// packet was dropped, and which faults were counted, the report has to know.
 pub fn law_of_reports()
-    ensures report { (script : RunScript) (driver : DriverState) (end : Sight) (apps : List AppState) (entries : List Entry) (bytes : List ℕ)
+    ensures { (script : RunScript) (driver : DriverState) (end : Sight) (apps : List AppState) (entries : List Entry) (bytes : List ℕ)
         (p : ProxyState) (e : DeviceSight) (h : HostContents) (faults : ℕ)
         → IsRunOf FIRST_CID script (run_with driver (driver_contents end) apps entries bytes) → IsSettled driver end p e
         → IsSteady p (situation (device_contents e) (Some h) faults)
@@ -37,8 +36,4 @@ pub fn law_of_reports()
         → IsProxyStreamed FIRST_CID p (situation (device_contents e) (Some h) faults)
         → (opened : ℕ → Connection) × ((t : Totals) (before after : ℕ) → t.broken ≡ driver.broken → t.counters.overrun ≡ p.device.overrun
         → t.counters.dropped ≡ 0 → (1 ≤ t.counters.faults → one_more before ≤ after) → IsRightReport script apps entries bytes t opened h before after) }
-    ensures once { (script : RunScript) (driver : DriverState) (end : Sight) (apps : List AppState) (entries : List Entry) (bytes : List ℕ)
-        (p : ProxyState) (e : DeviceSight) (h : HostContents) (faults : ℕ)
-        → IsRunOf FIRST_CID script (run_with driver (driver_contents end) apps entries bytes) → IsSettled driver end p e
-        → IsSteady p (situation (device_contents e) (Some h) faults) → (f : Flow) → number_of Device f e.sight.log ≤ 1 }
 {}

@@ -3,4 +3,3 @@
 
 pub mod complete;
 pub mod laws;
-pub mod places;

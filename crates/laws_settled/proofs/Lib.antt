@@ -1,6 +1,5 @@
 pub mod Hosting
 pub mod Hosted
-pub mod Asked
 pub mod Taking
 pub mod Quieting
 pub mod Shutting

@@ -1,16 +1,15 @@
 -- A proxy that is steady stays so, and what its ring's end knows of the other one's only grows.
 use Rattle.std.proofs.{Common.{◌≡◌, ℕ, Bool, List, [], Option, Some, None, refl, sym, ap, subst, ◌∙◌, arith}, lemmas.Option.same_Some}
 use Rattle.vs_contents.specs.{CallTree.{Ask, Done}, Contents.Relates}
-use Rattle.vs_limits.specs.declared.TheConstants.{ASSIGNED_FIRST, FIRST_CID}
+use Rattle.vs_limits.specs.declared.TheConstants.{FIRST_CID}
 use Rattle.vs_ring_port.specs.{Contents.{DeviceAnswer, DeviceCall, RingContents}, DeviceCalls.DeviceAllows, EndLog.EndLog, Known.{IsLater, Known}}
 use Rattle.vs_ring_port.{specs.declared.queue.Queue.TheVariants.Rx, proofs.Knowing.device_keeps}
 use Rattle.vs_device_parts.specs.{Calls.{DeviceTree, Situation}, Playing.Runs}
 use Rattle.laws_rest.{specs.Calm.resets_in, proofs.Calm.calm_turns}
-use Rattle.vs_page.specs.Log.{Device, Log}
+use Rattle.vs_page.specs.Log.{Log}
 use Rattle.vs_proxy_parts.specs.{State.ProxyState, Turns.{new_proxy, turn_of}, declared.answers.Turn.Turn}
 use Rattle.laws_proxy.proofs.Ordered.{new_in_order, turn_honest, turn_streams}
-use Rattle.laws_settled.{specs.{Hosts.IsHosts, Settled.IsSteady}, proofs.{Asked.turn_asks, Exact.exact_turns, Hosted.turn_hosts, Shutting.turn_shuts}}
-use Rattle.laws_tables.{specs.Asked.AskOnce, proofs.Asking.begins_once}
+use Rattle.laws_settled.{specs.{Hosts.IsHosts, Settled.IsSteady}, proofs.{Exact.exact_turns, Hosted.turn_hosts, Shutting.turn_shuts}}
 use Rattle.laws_device.{specs.Honest.ends_of_state, proofs.{Logs.over_runs, Packets.joined}}
 
 pub new_steady : (base : List ℕ) (a : Situation) (l : EndLog) → a.ring.log ≡ Some l → l.entries ≡ [] → l.held ≡ [] → IsSteady (new_proxy FIRST_CID base) a
@@ -25,10 +24,6 @@ new_steady base a l told silent none = record {
       subst (λ (log : Log). IsHosts (ends_of_state (new_proxy FIRST_CID base).next_port (new_proxy FIRST_CID base).device) log)
       (sym (ap (λ (x : EndLog). x.entries) (sym same) ∙ silent))
       (record { entries = tt; replies = tt; puts = λ i d within. absurd (omega (arith, within)) });
-  asks = λ honest m is.
-      let same = same_Some l m (sym told ∙ is) in
-      subst (λ (log : Log). AskOnce Device (record { part = ends_of_state (new_proxy FIRST_CID base).next_port (new_proxy FIRST_CID base).device; log = log }))
-      (sym (ap (λ (x : EndLog). x.entries) (sym same) ∙ silent)) (begins_once Device FIRST_CID ASSIGNED_FIRST);
   exact = λ i d within. absurd (omega (arith, within));
   shut = λ h is i d within. absurd (omega (arith, within));
 }
@@ -51,7 +46,6 @@ turn_steady size now s a b x steady runs =
       no_reset = calm.1 ∙ steady.no_reset;
       no_event = calm.0;
       hosts = turn_hosts FIRST_CID size now s a b x steady.order.ring steady.hosts runs;
-      asks = turn_asks FIRST_CID size now s a b x steady.order.ring steady.asks runs;
       exact = exact_turns size now s a b x told.0 told.1 steady.exact runs;
       shut = turn_shuts size now s a b x steady.shut runs;
     }

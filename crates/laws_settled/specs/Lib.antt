@@ -1,6 +1,5 @@
 pub mod Shut
 pub mod Exact
 pub mod Hosts
-pub mod Asked
 pub mod Begun
 pub mod Settled

@@ -14,21 +14,20 @@ use Rattle.laws_device.specs.Honest.{AgreesWith as DeviceAgreesWith, ends_of_sta
 use Rattle.laws_rest.specs.{Calm.{OwesNoEvent, resets_in}, Rest.{ArePaired, IsAtRest, IsRoutedLog, IsWithHost, OwesNothing, has_no_mark}}
 use Rattle.vs_proxy_parts.specs.State.{ProxyState}
 use Rattle.laws_proxy.specs.Order.{IsInOrder}
-use Rattle.laws_settled.specs.{Asked.AsksOnceWith, Exact.AreExact, Hosts.{IsHosts, IsHostsWith}, Shut.AreShutBy}
+use Rattle.laws_settled.specs.{Exact.AreExact, Hosts.{IsHosts, IsHostsWith}, Shut.AreShutBy}
 
 -- A device that stopped for want of a page: it holds none, and took all that it was told of.
 pub record LacksPages (s : DeviceState) (ring : RingContents) : Type 0 where
   pub chain : s.chain ≡ None
   pub taken : ForSome ring.known (λ k. k.rx.told ≤ k.rx.taken)
 
--- A proxy that is in order, whose guest keeps the CID of shared rings, whose packets come from the host, which asked once on each flow, which holds
--- of each connection just the bytes that its end counts as unread, and shuts a direction only where the host's program closed or ended the stream.
+-- A proxy that is in order, whose guest keeps the CID of shared rings, whose packets come from the host, which holds of each connection just the
+-- bytes that its end counts as unread, and shuts a direction only where the host's program closed or ended the stream.
 pub record IsSteady (s : ProxyState) (a : Situation) : Type 0 where
   pub order : IsInOrder FIRST_CID s a
   pub no_reset : resets_in a.ring.log ≡ Some (true, [])
   pub no_event : OwesNoEvent s.device
   pub hosts : IsHostsWith s a.ring
-  pub asks : AsksOnceWith s a.ring
   pub exact : AreExact s.device.table
   pub shut : AreShutBy s.device.table a.host
 

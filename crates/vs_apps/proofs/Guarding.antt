@@ -49,7 +49,6 @@ module _ (script : RunScript) (g : GuestsState) (are : AreGuests script g) where
             routed = run.kept.routed;
             accounted = run.kept.accounted;
             stands = run.kept.stands;
-            asks = run.kept.asks;
             traced = run.kept.traced;
             given = run.kept.given;
             places = run.kept.places;

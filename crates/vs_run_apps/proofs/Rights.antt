@@ -11,7 +11,7 @@ use Rattle.laws_apps.specs.Runs.{IsRunOf, Run}
 use Rattle.laws_proxy.specs.Honest.{IsProxyStreamed}
 use Rattle.laws_settled.{specs.{Begun.{CountsFailed, IsBegun, IsUnlabelled, Start, start_with}, Settled.{IsSettled, IsSteady}}, proofs.Beginning.{dropped_none, new_begun}}
 use Rattle.laws_settled.proofs.Steady.{new_steady}
-use Rattle.laws_run.{specs.Dry.AreIdle, proofs.{Completing.complete_report, Holding.place_waits}}
+use Rattle.laws_run.{specs.Dry.AreIdle, proofs.Holding.complete_report}
 use Rattle.vs_apps.specs.Guests.{GuestsState, run_in}
 use Rattle.vs_settle.specs.Rounds.{LastRound}
 use Rattle.vs_report.specs.declared.giving.GiveError.{GiveError}
@@ -48,9 +48,7 @@ module _ (script : RunScript) (start : Start) (g : GuestsState) (s : SideState) 
         told.0,
         told.1 (totals_of g s.proxy) start.faults s.faults refl refl (dropped_none g.driver g.end s.proxy s.ring rest begun.drops) begun.failed.more,
         told.2 (totals_of g s.proxy) refl refl,
-        place_waits script g.driver g.end g.apps g.entries g.bytes s.proxy s.ring h s.faults run rest now (run_in last.first) (stood last)
-            last.steps last.room (same_apps last) (same_entries last) last.polled heard (run_in last.past) refl last.polls last.still
-            (ap (λ (x : GuestsState). x.driver) last.ends) streams still,
+        told.3,
       )
 
   pub has_run : (met : Met) → IsRunOf FIRST_CID script (run_in g) → IsSettled g.driver g.end s.proxy s.ring

@@ -81,7 +81,6 @@ steady_log s c d host faults log honest steady = record {
   no_reset = ap resets_in log ∙ steady.no_reset;
   no_event = steady.no_event;
   hosts = λ on l is. steady.hosts (sym honest ∙ on) l (sym log ∙ is);
-  asks = λ on l is. steady.asks (sym honest ∙ on) l (sym log ∙ is);
   exact = steady.exact;
   shut = steady.shut;
 }

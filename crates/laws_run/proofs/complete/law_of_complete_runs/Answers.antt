@@ -1,4 +1,4 @@
-use Rattle.laws_run.proofs.Completing.{complete_report}
+use Rattle.laws_run.proofs.Holding.{complete_report}
 use Rattle.laws_run.proofs.complete.law_of_complete_runs.Goals as goal
 
 pub returns : goal.returns
