@@ -1,8 +1,6 @@
 pub mod Runs
-pub mod Once
 pub mod Entries
 pub mod Wire
-pub mod Journals
 pub mod DriverWalks
 pub mod DriverGoes
 pub mod DeviceWalks
