@@ -1,7 +1,8 @@
 -- What a world that is well says of the bytes of its connections. Packets that the driver staged count as put.
-use Rattle.std.proofs.{Common.{arith, ◌≡◌, ℕ, ◌+◌, ◌≤◌, ◌==◌, ◌++◌, Bool, true, false, cond, List, [], ◌∷◌, Contains, position, Option, Some, None, refl, sym, ap, subst, ◌∙◌, option_and_then}, lemmas.{Bool.Decides.nat_tests, List.Elements.All-contains}}
-use Rattle.std.specs.Option.{option_map, option_map_or}
-use Rattle.laws_device.{proofs.Carried.Hosts.{label_here, label_there, there as is_there}, specs.Carried.Streamed.{IsCounted, IsJoined, Seen, connection_in, connection_of, count_in, gives, line_for, look, number_in, seen}}
+use Rattle.std.proofs.Common.{arith, ◌≡◌, ℕ, ◌+◌, ◌≤◌, ◌==◌, ◌++◌, Bool, true, false, cond, List, [], ◌∷◌, Contains, position, Option, Some, None, refl, sym, ap, subst, ◌∙◌}
+use Rattle.std.{proofs.{Common.option_and_then, lemmas.{Bool.Decides.nat_tests, List.Elements.All-contains}}, specs.Option.{option_map, option_map_or}}
+use Rattle.laws_device.{proofs.Carried.Hosts.{label_here, label_there, there as is_there}, specs.Carried.Streamed.{IsCounted, IsJoined, Seen, connection_in, connection_of}}
+use Rattle.laws_device.specs.Carried.Streamed.{count_in, gives, line_for, look, number_in, seen}
 use Rattle.laws_rest.specs.Bytes.{BothEnds, CarryBytes}
 use Rattle.vs_device_parts.specs.State.{DeviceEntry}
 use Rattle.vs_flow.specs.{Connection.Connection, Flow.is_assigned, declared.flow.Flow.Flow}

@@ -1,11 +1,13 @@
 -- The device's table by its log and by the host's streams: the connections whose REQUEST isn't put have streams, and no other open stream
 -- has a label.
-use Rattle.std.proofs.{Common.{◌≡◌, ◌+◌, ◌<◌, ◌&&◌, ◌||◌, nat_lt, Bool, true, cond, Contains, ap, subst, ◌∙◌, arith}, lemmas.{Bool.{Decides.nat_tests, and_parts}, List.Elements.All-contains}}
+use Rattle.std.proofs.{Common.{◌≡◌, ◌+◌, ◌<◌, ◌&&◌, ◌||◌, nat_lt, Bool, true, cond, Contains, ap, subst, ◌∙◌, arith}, lemmas.Bool.{Decides.nat_tests, and_parts}}
+use Rattle.std.proofs.lemmas.List.Elements.{All-contains}
 use Rattle.vs_device_parts.specs.State.{DeviceEntry}
 use Rattle.vs_flow.specs.declared.flow.Flow.{Flow}
 use Rattle.vs_page.specs.{Fair.number_of, Log.{Device, Log}, Open.is_open}
 use Rattle.laws_tables.{specs.Ends.{flows_of, is_among, is_new, new_flows, replied}, proofs.Tables.all_open}
-use Rattle.laws_device.{specs.{Carried.Streamed.{IsJoined, connection_of, count_in, look}, Streams.{has_open_stream, is_waiting_for_request}}, proofs.Waiting.{new_on, new_open, open_among, tied_by}}
+use Rattle.laws_device.{specs.{Carried.Streamed.{IsJoined, connection_of, count_in, look}, Streams.{has_open_stream, is_waiting_for_request}}, proofs.Waiting.{new_on, new_open}}
+use Rattle.laws_device.proofs.Waiting.{open_among, tied_by}
 use Rattle.laws_world.{specs.{Sides.device_ends, World.{World, first_cid}}, proofs.Sound.IsWell}
 
 module _ {fresh : Type 0} (w : World) (well : IsWell fresh w) where
