@@ -1,14 +1,15 @@
 -- The lines of a script as lines of the world.
-use Rattle.std.proofs.{Common.{◌≡◌, ◌≤◌, ◌^◌, ℕ, nat_lt, Bool, true, cond, List, [], ◌∷◌, ◌++◌, refl, sym, ap, ◌∙◌, arith, append_assoc}, lemmas.Bool.Decides.nat_tests}
+use Rattle.std.proofs.Common.{◌≡◌, ◌≤◌, ◌^◌, ◌==◌, ◌&&◌, ℕ, inl, inr, nat_lt, Bool, true, false, cond, List, [], ◌∷◌, ◌++◌, Some, refl, sym, ap, subst, ◌∙◌, arith, append_assoc}
+use Rattle.std.proofs.lemmas.Bool.{Decides.nat_tests, and_parts}
 use Rattle.vs_limits.specs.declared.TheConstants.{GUEST_CID_MIN, GUEST_CID_MAX}
-use Rattle.vs_driver_parts.specs.Connections.{flow_of}
-use Rattle.vs_flow.specs.declared.flow.Flow.{Flow}
+use Rattle.vs_flow.specs.{Connection.Connection, Flow.same_flow, declared.flow.Flow.Flow}
+use Rattle.vs_page.proofs.Flows.{same_is, same_self}
 use Rattle.vs_script.specs.{Data.bytes_of, Outside.{Host, Outside}, Play.Event, Bounds.{AreBounded, IsBounded}}
-use Rattle.laws_world.{specs.{Events.is_guest_cid, Plays.{AreRight, Line, after, is_given_right}, World.World}, proofs.Journals.either_none}
-use Rattle.laws_driver.specs.Carried.Calls.{is_on, received_on, sent_on, flow_named}
+use Rattle.laws_world.specs.{Events.is_guest_cid, Plays.{AreRight, Line, after, is_given_right}, World.World}
+use Rattle.laws_driver.{specs.Carried.{Calls.{Journal, received_by as journaled}, Senders.{AreSenders, IsSender, sent_to}}, proofs.Carried.Senders.{only_none, there_none}}
 use Rattle.vs_play.specs.{Answer.world_after, Lines.{PlayWorld, event_played, host_line}}
 use Rattle.laws_play.specs.Said.{received_by, received_in, sent_by, sent_in}
-use Rattle.laws_tables.proofs.Logs.{nothing_more}
+use Rattle.laws_tables.{specs.Drains.{is_same, only_on}, proofs.Logs.nothing_more}
 use Rattle.vs_script.specs.Outside as outside
 use Rattle.vs_script.specs.Play as script
 use Rattle.laws_driver.specs.Carried.Calls as call
@@ -119,47 +120,100 @@ around_journal (outside.OfHost host) p = by host
     by (outside.HostListen port) = refl
     by x = refl
 
--- A call that moves no bytes, on the flow or not.
+-- A call that moves no bytes.
 none_moved : (bytes : List ℕ) (b : Bool) → bytes ++ cond b [] [] ≡ bytes ++ []
-none_moved bytes b = ap (λ (more : List ℕ). bytes ++ more) (either_none b [] refl)
+none_moved bytes true = refl
+none_moved bytes false = refl
 
-event_sends : (e : Event) (p : PlayWorld) (f : Flow) → sent_on f (event_played e p).0.world.journal
-    ≡ sent_on f p.world.journal ++ sent_by f e p
-event_sends (script.Connect port) p f = none_moved (sent_on f p.world.journal) (is_on f (flow_named (call.Connect port) p.world.driver))
-event_sends (script.Recv id len) p f = none_moved (sent_on f p.world.journal) (is_on f (flow_of id p.world.driver))
-event_sends (script.Shutdown id bits) p f = none_moved (sent_on f p.world.journal) (is_on f (flow_of id p.world.driver))
-event_sends (script.Grow id alloc) p f = none_moved (sent_on f p.world.journal) (is_on f (flow_of id p.world.driver))
-event_sends (script.Close id) p f = none_moved (sent_on f p.world.journal) (is_on f (flow_of id p.world.driver))
-event_sends (script.State id) p f = none_moved (sent_on f p.world.journal) (is_on f (flow_of id p.world.driver))
-event_sends script.Poll p f = nothing_more (sent_on f p.world.journal)
-event_sends (script.Around line) p f = ap (sent_on f) (around_journal line p) ∙ nothing_more (sent_on f p.world.journal)
-event_sends x p f = refl
+-- The calls of a journal's older part sent on ids that have connections too.
+module _ (opened : ℕ → Connection) where
+  senders_one : (e : Event) (p : PlayWorld) → AreSenders opened (event_played e p).0.world.journal → AreSenders opened p.world.journal
+  senders_one script.Poll p are = are
+  senders_one (script.Around line) p are = subst (AreSenders opened) (around_journal line p) are
+  senders_one x p are = are.1
 
-event_receives : (e : Event) (p : PlayWorld) (f : Flow)
-    → received_on f (event_played e p).0.world.journal ≡ received_on f p.world.journal ++ received_by f e p
-event_receives (script.Connect port) p f = none_moved (received_on f p.world.journal) (is_on f (flow_named
-    (call.Connect port) p.world.driver))
-event_receives (script.Send id content) p f = none_moved (received_on f p.world.journal) (is_on f (flow_of id p.world.driver))
-event_receives (script.Shutdown id bits) p f = none_moved (received_on f p.world.journal) (is_on f (flow_of id p.world.driver))
-event_receives (script.Grow id alloc) p f = none_moved (received_on f p.world.journal) (is_on f (flow_of id p.world.driver))
-event_receives (script.Close id) p f = none_moved (received_on f p.world.journal) (is_on f (flow_of id p.world.driver))
-event_receives (script.State id) p f = none_moved (received_on f p.world.journal) (is_on f (flow_of id p.world.driver))
-event_receives script.Poll p f = nothing_more (received_on f p.world.journal)
-event_receives (script.Around line) p f = ap (received_on f) (around_journal line p) ∙ nothing_more (received_on f p.world.journal)
-event_receives x p f = refl
+  senders_before : (es : List Event) (p : PlayWorld) → AreSenders opened (world_after es p).world.journal → AreSenders opened p.world.journal
+  senders_before [] p are = are
+  senders_before (e ∷ es) p are = senders_one e p (senders_before es (event_played e p).0 are)
 
-pub lines_send : (es : List Event) (p : PlayWorld) (f : Flow)
-    → sent_on f (world_after es p).world.journal ≡ sent_on f p.world.journal ++ sent_in f es p
-lines_send [] p f = nothing_more (sent_on f p.world.journal)
-lines_send (e ∷ es) p f =
-    lines_send es (event_played e p).0 f
-    ∙ ap (λ (bytes : List ℕ). bytes ++ sent_in f es (event_played e p).0) (event_sends e p f)
-    ∙ append_assoc (sent_on f p.world.journal) (sent_by f e p) (sent_in f es (event_played e p).0)
+-- The same connection, by the test.
+is_one : (c d : Connection) → is_same c d ≡ true → c ≡ d
+is_one c d is =
+    let parts = and_parts (same_flow c.flow d.flow) (c.number == d.number) is in
+    let test = parts.1 in
+    let number : c.number ≡ d.number = grind (arith, nat_tests, test) in
+    ap (λ (f : Flow). let k : Connection = record { flow = f; number = c.number } in k) (same_is c.flow d.flow parts.0)
+    ∙ ap (λ (n : ℕ). let k : Connection = record { flow = d.flow; number = n } in k) number
 
-pub lines_receive : (es : List Event) (p : PlayWorld) (f : Flow)
-    → received_on f (world_after es p).world.journal ≡ received_on f p.world.journal ++ received_in f es p
-lines_receive [] p f = nothing_more (received_on f p.world.journal)
-lines_receive (e ∷ es) p f =
-    lines_receive es (event_played e p).0 f
-    ∙ ap (λ (bytes : List ℕ). bytes ++ received_in f es (event_played e p).0) (event_receives e p f)
-    ∙ append_assoc (received_on f p.world.journal) (received_by f e p) (received_in f es (event_played e p).0)
+same_one : (c : Connection) → is_same c c ≡ true
+same_one c =
+    let number : (c.number == c.number) ≡ true = grind arith in ap (λ (b : Bool). b && (c.number == c.number)) (same_self c.flow) ∙ number
+
+module _ (id : ℕ) where
+  event_receives : (e : Event) (p : PlayWorld)
+      → journaled id (event_played e p).0.world.journal ≡ journaled id p.world.journal ++ received_by id e p
+  event_receives (script.Connect port) p = none_moved (journaled id p.world.journal) (id == p.world.driver.next_id)
+  event_receives (script.Send other content) p = none_moved (journaled id p.world.journal) (id == other)
+  event_receives (script.Shutdown other bits) p = none_moved (journaled id p.world.journal) (id == other)
+  event_receives (script.Grow other alloc) p = none_moved (journaled id p.world.journal) (id == other)
+  event_receives (script.Close other) p = none_moved (journaled id p.world.journal) (id == other)
+  event_receives (script.State other) p = none_moved (journaled id p.world.journal) (id == other)
+  event_receives script.Poll p = nothing_more (journaled id p.world.journal)
+  event_receives (script.Around line) p = ap (journaled id) (around_journal line p) ∙ nothing_more (journaled id p.world.journal)
+  event_receives x p = refl
+
+  pub lines_receive : (es : List Event) (p : PlayWorld)
+      → journaled id (world_after es p).world.journal ≡ journaled id p.world.journal ++ received_in id es p
+  lines_receive [] p = nothing_more (journaled id p.world.journal)
+  lines_receive (e ∷ es) p =
+      lines_receive es (event_played e p).0
+      ∙ ap (λ (bytes : List ℕ). bytes ++ received_in id es (event_played e p).0) (event_receives e p)
+      ∙ append_assoc (journaled id p.world.journal) (received_by id e p) (received_in id es (event_played e p).0)
+
+  -- By connections: no two ids have one.
+  module _ (opened : ℕ → Connection) (once : (i j : ℕ) → 1 ≤ (opened i).number → opened i ≡ opened j → i ≡ j) where
+    abbrev sent : Journal → List ℕ
+    sent journal = sent_to opened (opened id) journal
+
+    same_tests : (other : ℕ) → 1 ≤ (opened other).number → (a b : Bool) → is_same (opened id) (opened other) ≡ a → (id == other) ≡ b → a ≡ b
+    same_tests other some true true same is = refl
+    same_tests other some false false same is = refl
+    same_tests other some true false same is =
+        let at : other ≡ id = once other id some (sym (is_one (opened id) (opened other) same)) in absurd (grind (arith, nat_tests, at, is))
+    same_tests other some false true same is =
+        let at : id ≡ other = grind (arith, nat_tests, is) in
+        let both : true ≡ false = sym (same_one (opened id)) ∙ ap (λ (k : ℕ). is_same (opened id) (opened k)) at ∙ same in absurd cc
+
+    there_is : (other : ℕ) (bytes : List ℕ) → IsSender opened (Some other) bytes → only_on (opened other) bytes (opened id) ≡ cond (id == other) bytes []
+    there_is other bytes (inl none) = only_none (opened other) (opened id) bytes none ∙ sym (by (id == other))
+      where
+        by : (b : Bool) → cond b bytes [] ≡ []
+        by true = none
+        by false = refl
+    there_is other bytes (inr some) =
+        ap (λ (b : Bool). cond b bytes []) (same_tests other some (is_same (opened id) (opened other)) (id == other) refl refl)
+
+    more : (journal : Journal) (xs ys : List ℕ) → xs ≡ ys → sent journal ++ xs ≡ sent journal ++ ys
+    more journal xs ys is = ap (λ (zs : List ℕ). sent journal ++ zs) is
+
+    event_sends : (e : Event) (p : PlayWorld) → AreSenders opened (event_played e p).0.world.journal
+        → sent (event_played e p).0.world.journal ≡ sent p.world.journal ++ sent_by id e p
+    event_sends (script.Send other content) p are = more p.world.journal _ _ (there_is other _ are.0)
+    event_sends (script.Connect port) p are = more p.world.journal _ _ (there_none opened (opened id) (Some p.world.driver.next_id) [] refl)
+    event_sends (script.Recv other len) p are = more p.world.journal _ _ (there_none opened (opened id) (Some other) [] refl)
+    event_sends (script.Shutdown other bits) p are = more p.world.journal _ _ (there_none opened (opened id) (Some other) [] refl)
+    event_sends (script.Grow other alloc) p are = more p.world.journal _ _ (there_none opened (opened id) (Some other) [] refl)
+    event_sends (script.Close other) p are = more p.world.journal _ _ (there_none opened (opened id) (Some other) [] refl)
+    event_sends (script.State other) p are = more p.world.journal _ _ (there_none opened (opened id) (Some other) [] refl)
+    event_sends script.Poll p are = nothing_more (sent p.world.journal)
+    event_sends (script.Around line) p are = ap sent (around_journal line p) ∙ nothing_more (sent p.world.journal)
+    event_sends x p are = refl
+
+    pub lines_send : (es : List Event) (p : PlayWorld) → AreSenders opened (world_after es p).world.journal
+        → sent (world_after es p).world.journal ≡ sent p.world.journal ++ sent_in id es p
+    lines_send [] p are = nothing_more (sent p.world.journal)
+    lines_send (e ∷ es) p are =
+        lines_send es (event_played e p).0 are
+        ∙ ap (λ (bytes : List ℕ). bytes ++ sent_in id es (event_played e p).0)
+        (event_sends e p (senders_before opened es (event_played e p).0 are))
+        ∙ append_assoc (sent p.world.journal) (sent_by id e p) (sent_in id es (event_played e p).0)

@@ -1,20 +1,21 @@
 -- What holds of each play: bytes arrive in order and on their own connection alone, the tables hold just the connections left open, and
 -- nobody exceeds the credit that the peer gave (Virtio 1.2, section 5.10.6).
 use Rattle.std.specs.Prelude.{◌≡◌, ◌≢◌, ℕ, ◌+◌, ◌-◌, ◌^◌, ◌≤◌, min, ◌||◌, Bool, true, false, List, [], ◌∷◌, ◌++◌, length, Some, None, All, AllPairs, Contains, Ok}
-use Rattle.vs_flow.specs.{declared.flow.Flow.Flow, Connection.first_of}
+use Rattle.vs_flow.specs.{declared.flow.Flow.Flow, Connection.Connection}
 use Rattle.vs_limits.specs.declared.TheConstants.{BUF_ALLOC_MAX}
 use Rattle.laws_history.specs.{History.{History, Put, gots, puts}, Packets.{allowance, bytes, has, is_rst, shuts_send, size}, declared.packet.Packet.Packet}
-use Rattle.vs_page.specs.{Log.{Device, Driver, HasGotAll, Log, Role, history_of}, Open.{WasOpened, is_open}, Fair.{IsFairLog, IsPrefixOf, payload_got, payload_put}}
+use Rattle.vs_page.specs.{Log.{Device, Driver, HasGotAll, Log, Role, history_of}, Open.{WasOpened, is_open}, Fair.{IsFairLog, IsPrefixOf, current, number_of, payload_got}}
+use Rattle.vs_page.specs.Fair.{payload_put}
 use Rattle.vs_driver_parts.specs.{Connections.flow_of, State.DriverEntry}
 use Rattle.vs_device_parts.specs.State.{DeviceEntry, counters_of}
-use Rattle.laws_device.specs.{Dropped.dropped_in, Streams.{has_open_stream, is_waiting_for_request}, Carried.Streamed.{gives, line_for}}
-use Rattle.laws_tables.specs.{Ends.{flows_of, is_among, replied}, Drains.{Drains, receives}}
-use Rattle.vs_outside.specs.{HostBytes.{host_read, host_wrote, read_after_ok, wrote_after_connect}, Host.{Stream, stream_at}}
+use Rattle.laws_device.specs.{Dropped.dropped_in, Streams.{has_open_stream, is_waiting_for_request}, Carried.Streamed.{connection_of, gives, line_for}}
+use Rattle.laws_tables.specs.{Ends.{flows_of, is_among, replied}, Drains.Drains}
+use Rattle.vs_outside.specs.{HostBytes.{connection_at, host_read, host_wrote, read_after_ok, wrote_after_connect}, Host.{Stream, stream_at}}
 use Rattle.vs_script.specs.{Data.Content, Play.Event}
 use Rattle.vs_report.specs.{Report.{counts_text, device_open_text, guest_open_text, stream_texts}, GuestLines.{recv_text, opened_text, send_text}}
 use Rattle.laws_proxy.specs.{Account.Counts.{counts_of, counts_shown}, Resets.IsEmptied}
-use Rattle.laws_world.specs.{Names.HasFlow, Sides.{device_ends, driver_ends}, Steps.Leads, World.{World, first_cid}}
-use Rattle.laws_driver.specs.{Resets.MarksResets, Carried.Calls.{received_on, sent_on}}
+use Rattle.laws_world.specs.{Pipes.IsNumbered, Sides.{device_ends, driver_ends}, Steps.Leads, World.{World, first_cid}}
+use Rattle.laws_driver.specs.{Honest.slots_of, Resets.MarksResets, Carried.{Calls.received_by, Senders.{IsRightJournal, IsSent, sent_to}}}
 use Rattle.vs_play.specs.{Answer.{opened_play, printed, texts_of, world_after}, Lines.event_played}
 use Rattle.laws_play.specs.{Recorded.{calls_of, fails_in}, Said.{accept_answer, close_answer, connect_answer, received_in, recv_answer, recv_bytes, send_answer, sent_in}}
 use Rattle.vs_driver_parts.specs.declared.answers.Accepted.TheVariants as accepted
@@ -45,47 +46,42 @@ guest_replies w = replied (driver_ends w.driver).replies
 abbrev pub device_replies : World → List Flow
 device_replies w = replied (device_ends w.proxy).replies
 
--- Bytes of a connection, in order, both ways. The host's program wrote behind a CONNECT line, and reads behind an OK line.
-pub record Carries (w : World) (f : Flow) : Type 0 where
-  -- What the guest received is a prefix of what the host's program wrote.
-  pub to_guest : IsPrefixOf (received_on f w.journal) (host_wrote (first_of f) w.host)
+-- Bytes of a connection, in order, both ways, where ids were given to these. The host's program wrote behind a CONNECT line, and reads behind
+-- an OK line.
+pub record Carries (opened : ℕ → Connection) (w : World) (c : Connection) : Type 0 where
+  -- What the guest received on its id is a prefix of what the host's program wrote.
+  pub to_guest : (id : ℕ) → opened id ≡ c → IsPrefixOf (received_by id w.journal) (host_wrote c w.host)
   -- What the host's program read is a prefix of what the guest sent.
-  pub to_host : IsPrefixOf (host_read (first_of f) w.host) (sent_on f w.journal)
-  -- On the way to the guest: what was taken of the stream is the payload that the device put, the driver got a prefix of that, and the
-  -- guest received a prefix of what its driver got.
-  pub device_put : payload_put Device (first_of f) (device_log w) ≡ host_wrote (first_of f) w.host
-  pub driver_got : IsPrefixOf (payload_got Driver (first_of f) (driver_log w)) (payload_put Device (first_of f) (device_log w))
-  pub received : IsPrefixOf (received_on f w.journal) (payload_got Driver (first_of f) (driver_log w))
-  -- On the way to the host: what the sends took is the payload that the driver put, the device got a prefix of that, and the stream was
-  -- given a prefix of what the device got.
-  pub driver_put : payload_put Driver (first_of f) (driver_log w) ≡ sent_on f w.journal
-  pub device_got : IsPrefixOf (payload_got Device (first_of f) (device_log w)) (payload_put Driver (first_of f) (driver_log w))
-  pub given : IsPrefixOf (host_read (first_of f) w.host) (payload_got Device (first_of f) (device_log w))
+  pub to_host : IsPrefixOf (host_read c w.host) (sent_to opened c w.journal)
+  -- On the way to the guest: what was taken of the stream is the payload that the device put, and the driver got a prefix of that.
+  pub device_put : payload_put Device c (device_log w) ≡ host_wrote c w.host
+  pub driver_got : IsPrefixOf (payload_got Driver c (driver_log w)) (payload_put Device c (device_log w))
+  -- On the way to the host: the device got a prefix of the payload that the driver put, and the stream was given a prefix of that.
+  pub device_got : IsPrefixOf (payload_got Device c (device_log w)) (payload_put Driver c (driver_log w))
+  pub given : IsPrefixOf (host_read c w.host) (payload_got Device c (device_log w))
 
--- What is still unread of a connection comes next: at the guest of the payload that its driver got, at the device of what it owes the
--- stream; and it is all that is left, while the connection takes payload.
-pub record HoldsTheRest (w : World) : Type 0 where
-  pub unread : All (λ e. Drains (receives e.value.end) (received_on e.flow w.journal) e.value.unread
-      (payload_got Driver (first_of e.flow) (driver_log w))) w.driver.table.entries
-  -- Of a connection that is gone.
-  pub gone : All (λ g. IsPrefixOf (received_on g.flow w.journal ++ g.unread) (payload_got Driver (first_of g.flow) (driver_log w))) w.driver.gone
-  pub pending : All (λ e. (s : Stream) × (stream_at e.value.stream w.host ≡ Some s) × (s.label ≡ Some e.flow)
-      × Drains (gives e.value.end) s.given (e.value.ok_line ++ e.value.pending)
-      (line_for e.flow ++ payload_got Device (first_of e.flow) (device_log w))) w.proxy.device.table.entries
+-- What is pending of a connection of the device's table comes next on its own stream, of the payload that the device got; and it is all that is
+-- left, while the connection takes payload.
+abbrev pub HoldsTheRest : World → Type 0
+HoldsTheRest w = All (λ e. let c = connection_of e (device_log w) in (s : Stream) × (stream_at e.value.stream w.host ≡ Some s)
+    × (connection_at e.value.stream w.host ≡ Some c)
+    × Drains (gives e.value.end) s.given (e.value.ok_line ++ e.value.pending) (line_for e.flow ++ payload_got Device c (device_log w)))
+    w.proxy.device.table.entries
 
--- A stream is of one connection, no other stream is of that one, and what the report shows of it is what the host wrote and read there.
+-- A stream with a label is of one connection, no other stream is of that one, and what the report shows of it is what the host wrote and read
+-- there.
 pub record HasOwnStreams (w : World) : Type 0 where
-  pub one : (f : Flow) (i j : ℕ) (s t : Stream) → stream_at i w.host ≡ Some s → stream_at j w.host ≡ Some t → s.label ≡ Some f
-      → t.label ≡ Some f → i ≡ j
-  pub wrote : (f : Flow) (i : ℕ) (s : Stream) → stream_at i w.host ≡ Some s → s.label ≡ Some f
-      → wrote_after_connect s ≡ host_wrote (first_of f) w.host
-  pub read : (f : Flow) (i : ℕ) (s : Stream) → stream_at i w.host ≡ Some s → s.label ≡ Some f
-      → read_after_ok s ≡ host_read (first_of f) w.host
+  pub numbered : (f : Flow) (i : ℕ) (s : Stream) → stream_at i w.host ≡ Some s → s.label ≡ Some f → IsNumbered w i f
+  pub one : (i j : ℕ) (c : Connection) → connection_at i w.host ≡ Some c → connection_at j w.host ≡ Some c → i ≡ j
+  pub wrote : (i : ℕ) (s : Stream) (c : Connection) → stream_at i w.host ≡ Some s → connection_at i w.host ≡ Some c
+      → wrote_after_connect s ≡ host_wrote c w.host
+  pub read : (i : ℕ) (s : Stream) (c : Connection) → stream_at i w.host ≡ Some s → connection_at i w.host ≡ Some c
+      → read_after_ok s ≡ host_read c w.host
 
 -- The bytes of the journal are those that the lines' answers say.
-pub record IsAsPrinted (n : ℕ) (lines : List Event) : Type 0 where
-  pub sent : (f : Flow) → sent_on f (world_of n lines).journal ≡ sent_in f lines (opened_play n)
-  pub received : (f : Flow) → received_on f (world_of n lines).journal ≡ received_in f lines (opened_play n)
+pub record IsAsPrinted (opened : ℕ → Connection) (n : ℕ) (lines : List Event) : Type 0 where
+  pub sent : (id : ℕ) → sent_to opened (opened id) (world_of n lines).journal ≡ sent_in id lines (opened_play n)
+  pub received : (id : ℕ) → received_by id (world_of n lines).journal ≡ received_in id lines (opened_play n)
   -- These answers are printed.
   pub send_printed : (before after : List Event) (id : ℕ) (content : Content) → lines ≡ before ++ script.Send id content ∷ after
       → let p = world_after before (opened_play n) in (event_played (script.Send id content) p).1 ≡ send_text (send_answer id content p)
@@ -93,35 +89,43 @@ pub record IsAsPrinted (n : ℕ) (lines : List Event) : Type 0 where
       → let p = world_after before (opened_play n) in
       (event_played (script.Recv id len) p).1 ≡ recv_text (recv_answer id len p) (recv_bytes id len p)
 
--- A line told an id: what it printed names a flow, which is the id's in this world, and no other id's.
-abbrev pub IsNamedIn : World → ℕ → List ℕ → Type 0
-IsNamedIn w id text = (f : Flow) × (text ≡ opened_text id f) × HasFlow id f w.driver
+-- After these lines the connection of an id in the driver's table is the present one of its flow, and what was sent so far is what the driver
+-- put.
+pub record KeepsIds (opened : ℕ → Connection) (w : World) : Type 0 where
+  pub present : All (λ e. opened e.value.id ≡ current Driver e.flow (driver_log w)) w.driver.table.entries
+  pub sent : IsSent opened w.journal (driver_log w)
+
+-- A line told an id: what it printed names the flow of the id's connection, which is the id's in this world.
+abbrev pub IsNamedIn : (ℕ → Connection) → World → ℕ → List ℕ → Type 0
+IsNamedIn opened w id text = let f = (opened id).flow in (text ≡ opened_text id f) × (flow_of id w.driver ≡ Some f) × (1 ≤ (opened id).number)
 
 -- What a connect printed that gave an id, and an accept that gave one, stays true until a line closes the id: also where its connection is
 -- reset, by the peer or by the transport.
-pub record KeepsNames (n : ℕ) (lines : List Event) : Type 0 where
+pub record KeepsNames (opened : ℕ → Connection) (n : ℕ) (lines : List Event) : Type 0 where
   pub connected : (before after : List Event) (port id : ℕ) → lines ≡ before ++ script.Connect port ∷ after
       → let p = world_after before (opened_play n) in
       connect_answer port p ≡ Ok id → All (λ e. e ≢ script.Close id) after
-      → IsNamedIn (world_of n lines) id (event_played (script.Connect port) p).1
+      → IsNamedIn opened (world_of n lines) id (event_played (script.Connect port) p).1
   pub accepted : (before after : List Event) (port id : ℕ) → lines ≡ before ++ script.Accept port ∷ after
       → let p = world_after before (opened_play n) in
       accept_answer port p ≡ accepted.Conn id → All (λ e. e ≢ script.Close id) after
-      → IsNamedIn (world_of n lines) id (event_played (script.Accept port) p).1
+      → IsNamedIn opened (world_of n lines) id (event_played (script.Accept port) p).1
   -- From a close that knew the id on it has no flow.
   pub closed : (before after : List Event) (id : ℕ) → lines ≡ before ++ script.Close id ∷ after
       → close_answer id (world_after before (opened_play n)) ≡ closed.Done → flow_of id (world_of n lines).driver ≡ None
 
--- Shutting is for good: where an end decided before that it sends no more, or told so, what its writer wrote is what it was then. The guest
--- decides so by a shutdown, and the device once its stream ended.
-pub record StaysShut (f : Flow) (before w : World) : Type 0 where
-  pub sent : has shuts_send (puts (history_of Driver f (driver_log before))) ≡ true → sent_on f w.journal ≡ sent_on f before.journal
-  pub wrote : has shuts_send (puts (history_of Device f (device_log before))) ≡ true
-      → host_wrote (first_of f) w.host ≡ host_wrote (first_of f) before.host
-  pub guest_shut : (e : DriverEntry) → Contains before.driver.table.entries e → e.flow ≡ f → e.value.end.own.send ≡ true
-      → sent_on f w.journal ≡ sent_on f before.journal
-  pub stream_ended : (e : DeviceEntry) → Contains before.proxy.device.table.entries e → e.flow ≡ f → e.value.end.own.send ≡ true
-      → host_wrote (first_of f) w.host ≡ host_wrote (first_of f) before.host
+-- Shutting is for good: where an end decided before that it sends no more, or told so, what its writer wrote is what it was then, of each
+-- connection of the flow up to then. The guest decides so by a shutdown, and the device once its stream ended.
+pub record StaysShut (opened : ℕ → Connection) (c : Connection) (before w : World) : Type 0 where
+  pub sent : c.number ≤ number_of Driver c.flow (driver_log before) → has shuts_send (puts (history_of Driver c.flow (driver_log before))) ≡ true
+      → sent_to opened c w.journal ≡ sent_to opened c before.journal
+  pub wrote : 1 ≤ c.number → c.number ≤ number_of Device c.flow (device_log before)
+      → has shuts_send (puts (history_of Device c.flow (device_log before))) ≡ true → host_wrote c w.host ≡ host_wrote c before.host
+  pub guest_shut : c.number ≤ number_of Driver c.flow (driver_log before) → (e : DriverEntry) → Contains before.driver.table.entries e
+      → e.flow ≡ c.flow → e.value.end.own.send ≡ true → sent_to opened c w.journal ≡ sent_to opened c before.journal
+  pub stream_ended : 1 ≤ c.number → c.number ≤ number_of Device c.flow (device_log before) → (e : DeviceEntry)
+      → Contains before.proxy.device.table.entries e → e.flow ≡ c.flow → e.value.end.own.send ≡ true
+      → host_wrote c w.host ≡ host_wrote c before.host
 
 -- These flows are just those that pass a test, each once.
 pub record AreJust (test : Flow → Bool) (flows : List Flow) : Type 0 where
@@ -129,7 +133,7 @@ pub record AreJust (test : Flow → Bool) (flows : List Flow) : Type 0 where
   pub these : (f : Flow) → is_among f flows ≡ test f
 
 -- Each table holds just the connections that its end's log left open. The device's has those of the host's clients too whose REQUEST isn't
--- put yet: those flows that an open stream has as its label and on which the log began no connection.
+-- put yet: those flows that an open stream has as its label and on which the log began fewer connections than there are streams.
 pub record HoldsOpen (w : World) : Type 0 where
   pub guest : AreJust (λ f. is_open Driver first_cid f (driver_log w) (is_among f (guest_replies w))) (guest_flows w)
   pub device : AreJust (λ f. is_open Device first_cid f (device_log w) (is_among f (device_replies w))
@@ -182,12 +186,20 @@ Reports n lines = let w = world_of n lines in printed n lines ≡ texts_of lines
 pub record IsLawful (n : ℕ) (lines : List Event) : Type 0 where
   -- It is one of the world's runs: calls of the guest's, steps of driver and device, the host's programs, in some order.
   pub events : Leads (opened_play n).world (world_of n lines)
-  pub bytes : (f : Flow) → Carries (world_of n lines) f
+  -- Ids were given to these connections, no two to one, and the guest's journal is right: what it sent on a connection is the payload that the
+  -- driver put there, what it received on an id is a prefix of what the driver got on its connection, what is unread of it comes next; and
+  -- that is all that is left, while the connection takes payload.
+  pub opened : ℕ → Connection
+  pub right : let w = world_of n lines in IsRightJournal 1 opened w.journal (driver_log w) (slots_of w.driver)
+  pub ids : (before after : List Event) → lines ≡ before ++ after → KeepsIds opened (world_of n before)
+  -- An id without a connection received nothing.
+  pub silent : (id : ℕ) → (opened id).number ≡ 0 → received_by id (world_of n lines).journal ≡ []
+  pub bytes : (c : Connection) → 1 ≤ c.number → Carries opened (world_of n lines) c
   pub rest : HoldsTheRest (world_of n lines)
   pub streams : HasOwnStreams (world_of n lines)
-  pub answers : IsAsPrinted n lines
-  pub names : KeepsNames n lines
-  pub shut : (before after : List Event) (f : Flow) → lines ≡ before ++ after → StaysShut f (world_of n before) (world_of n lines)
+  pub answers : IsAsPrinted opened n lines
+  pub names : KeepsNames opened n lines
+  pub shut : (before after : List Event) (c : Connection) → lines ≡ before ++ after → StaysShut opened c (world_of n before) (world_of n lines)
   pub tables : HoldsOpen (world_of n lines)
   pub reset : EmptiesDevice n lines
   -- The device's ring never failed.

@@ -1,7 +1,7 @@
 -- Worked examples: what the laws say of scripts, computed.
 use Rattle.std.specs.Prelude.{ℕ, Bool, true, false, List, [], map, codes, Option, Result, Ok}
 use Rattle.vs_limits.specs.declared.TheConstants.{ASSIGNED_FIRST}
-use Rattle.vs_flow.specs.{declared.flow.Flow.Flow, Connection.first_of, Flow.host_flow}
+use Rattle.vs_flow.specs.{declared.flow.Flow.Flow, Connection.{Connection, first_of}, Flow.host_flow}
 use Rattle.vs_outside.specs.HostBytes.{host_read, host_wrote}
 use Rattle.vs_page.specs.{Fair.{payload_got, payload_put}, Log.{Device, Driver}, Open.is_open}
 use Rattle.laws_tables.specs.Ends.{is_among}
@@ -33,21 +33,22 @@ pub record Told : Type 0 where
   pub received : List ℕ
   pub left_open : Bool
 
-abbrev pub told_of : List Event → Flow → World → Told
-told_of lines f w = record {
-  sent = sent_in f lines (opened_play 64);
-  driver_put = payload_put Driver (first_of f) (driver_log w);
-  device_got = payload_got Device (first_of f) (device_log w);
-  read = host_read (first_of f) w.host;
-  wrote = host_wrote (first_of f) w.host;
-  device_put = payload_put Device (first_of f) (device_log w);
-  driver_got = payload_got Driver (first_of f) (driver_log w);
-  received = received_in f lines (opened_play 64);
-  left_open = is_open Driver first_cid f (driver_log w) (is_among f (guest_replies w));
+abbrev pub told_of : List Event → ℕ → Connection → World → Told
+told_of lines id c w = record {
+  sent = sent_in id lines (opened_play 64);
+  driver_put = payload_put Driver c (driver_log w);
+  device_got = payload_got Device c (device_log w);
+  read = host_read c w.host;
+  wrote = host_wrote c w.host;
+  device_put = payload_put Device c (device_log w);
+  driver_got = payload_got Driver c (driver_log w);
+  received = received_in id lines (opened_play 64);
+  left_open = is_open Driver first_cid c.flow (driver_log w) (is_among c.flow (guest_replies w));
 }
 
-abbrev pub told_on : List ℕ → Flow → Told
-told_on text f = told_of (lines_in text) f (world_of 64 (lines_in text))
+-- Of the first connection of a flow, and of its id.
+abbrev pub told_on : List ℕ → ℕ → Flow → Told
+told_on text id f = told_of (lines_in text) id (first_of f) (world_of 64 (lines_in text))
 
 -- A client of the host writes `abc`, and the guest answers `x`.
 abbrev pub client_flow : Flow

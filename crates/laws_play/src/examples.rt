@@ -10,9 +10,9 @@ ghost use Rattle.vs_driver_parts.specs.declared.answers.ConnectionState.TheVaria
 /// Ids and their flows: of a connection that was refused, and after a close. A packet that is late for a reset is dropped, and a call of the
 /// host fails: each is counted once.
 pub fn worked_examples()
-    ensures client { told_on client client_flow ≡ client_told }
+    ensures client { told_on client 1 client_flow ≡ client_told }
     ensures client_tables { flows_after client ≡ (client_flow ∷ [], client_flow ∷ []) }
-    ensures resets { told_on resets first_flow ≡ first_told }
+    ensures resets { told_on resets 1 first_flow ≡ first_told }
     ensures named { first_names refused ≡ (Some first_flow, None, seen.Gone) }
     ensures named_again { first_names closed_between ≡ (None, Some second_flow, seen.Unknown) }
     ensures reset_tables { flows_after resets ≡ (last_flow ∷ [], last_flow ∷ []) }

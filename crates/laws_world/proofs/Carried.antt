@@ -1,21 +1,61 @@
 -- What a world that is well says of the bytes of its connections. Packets that the driver staged count as put.
-use Rattle.std.proofs.{Common.{arith, ◌≡◌, ℕ, ◌≤◌, ◌++◌, ◌⊎◌, inl, inr, true, List, [], Contains, Some, sym, ap, subst, ◌∙◌}, lemmas.{Option.same_Some, List.Elements.All-contains}}
-use Rattle.std.specs.Option.{option_map}
-use Rattle.laws_device.{proofs.Carried.Hosts.{label_there, there as is_there}, specs.Carried.Streamed.{IsJoined, Seen, connection_of, count_in, gives, line_for, look, seen}}
-use Rattle.laws_rest.{proofs.Hosts.first_label, specs.Bytes.{BothEnds, CarryBytes}}
-use Rattle.vs_driver_parts.specs.State.{DriverEntry, GoneConnection}
+use Rattle.std.proofs.Common.{arith, ◌≡◌, ℕ, ◌+◌, ◌≤◌, ◌==◌, ◌++◌, Bool, true, false, cond, List, [], ◌∷◌, Contains, position, Option, Some, None, refl, sym, ap, subst, ◌∙◌}
+use Rattle.std.{proofs.{Common.option_and_then, lemmas.{Bool.Decides.nat_tests, List.Elements.All-contains}}, specs.Option.{option_map, option_map_or}}
+use Rattle.laws_device.{proofs.Carried.Hosts.{label_here, label_there, there as is_there}, specs.Carried.Streamed.{IsCounted, IsJoined, Seen, connection_in, connection_of}}
+use Rattle.laws_device.specs.Carried.Streamed.{count_in, gives, line_for, look, number_in, seen}
+use Rattle.laws_rest.specs.Bytes.{BothEnds, CarryBytes}
 use Rattle.vs_device_parts.specs.State.{DeviceEntry}
-use Rattle.vs_flow.specs.{Connection.{Connection, first_of}, declared.flow.Flow.Flow}
-use Rattle.laws_history.specs.{History.puts, Packets.{has, shuts_send}}
-use Rattle.vs_outside.specs.{Host.{Stream, stream_at}, HostBytes.{host_read, host_wrote}}
-use Rattle.vs_page.specs.{Fair.{IsPrefixOf, payload_got, payload_put}, Log.{Device, Driver, Log, Role, history_of}}
-use Rattle.laws_tables.{specs.{Both.{Both, at}, Later.IsLater, Drains.{Drains, put_on, receives}}, proofs.{Later.{run_later, stays_shut}, Firsts.{once_put, put_begun}}}
-use Rattle.laws_world.{specs.{Sides.both_of, World.{World, first_cid}}, proofs.{Once.both_ends, Journals.{by_flow, received_some, sent_flow}, Sound.{Goes, IsWell}}}
-use Rattle.laws_driver.specs.Carried.{Received.{ReceivedOn, ReceivesOn}, Calls.{account_of, received_by, received_on, sent_on}}
+use Rattle.vs_flow.specs.{Connection.Connection, Flow.is_assigned, declared.flow.Flow.Flow}
+use Rattle.laws_history.specs.{Again.{IsFairAll, count}, History.{Answerer, Asker, Got, History, Put, Side, gots, peer, puts}, Packets.{has, is_clean_rst, is_request, shuts_send}}
+use Rattle.vs_outside.specs.{Host.{HostContents, Stream, stream_at}, HostBytes.{connection_at, host_read, host_wrote, labelled_with, numbered_in}}
+use Rattle.vs_page.specs.{Fair.{IsPrefixOf, instance_from, number_of, payload_got, payload_of, payload_put}, Log.{Device, Driver, Log, Role, history_of, side_of, whole_of}}
+use Rattle.laws_tables.{specs.{Both.{Both, at}, Later.IsLater, Drains.Drains}, proofs.{Logs.prefix_then, Later.{run_later, stays_shut}, Firsts.none_begun}}
+use Rattle.laws_world.{specs.{Pipes.{IsNumbered, IsRightIn, IsSentIn}, Sides.both_of, World.World}, proofs.Sound.{Goes, IsWell}}
+use Rattle.laws_driver.specs.Carried.{Calls.received_by, Senders.sent_to}
 use Rattle.laws_rest.proofs.BothEnds as both
 
-abbrev pub CarriesOn : Flow → World → Type 0
-CarriesOn f w = CarryBytes (first_of f) (sent_on f w.journal) (received_on f w.journal) w.host
+-- A stream that is seen with a label is of that connection.
+numbered_by : (ids : List ℕ) (id : ℕ) (f : Flow) → 1 ≤ number_in ids id → numbered_in ids id f ≡ Some (record { flow = f; number = number_in ids id })
+numbered_by ids id f = by (position (λ other. other == id) ids)
+  where
+    by : (o : Option ℕ) → 1 ≤ option_map_or (λ place. place + 1) o 0
+        → option_map (λ place. let k : Connection = record { flow = f; number = place + 1 } in k) o
+        ≡ Some (record { flow = f; number = option_map_or (λ place. place + 1) o 0 })
+    by None some = absurd (omega (arith, some))
+    by (Some place) some = refl
+
+seen_at : (h : HostContents) (id : ℕ) (s : Stream) (k : Connection) → stream_at id h ≡ Some s → (seen h id s).label ≡ Some k → 1 ≤ k.number
+    → connection_at id h ≡ Some k
+seen_at h id s k at label some =
+    let its = label_there h id s.label k label in
+    ap (option_and_then (λ (t : Stream). option_and_then (λ f. numbered_in (labelled_with f h) id f) t.label)) at
+    ∙ ap (option_and_then (λ f. numbered_in (labelled_with f h) id f)) its.0
+    ∙ numbered_by (labelled_with k.flow h) id k.flow (subst (λ (d : Connection). 1 ≤ d.number) its.1 some)
+    ∙ ap (λ (d : Connection). Some d) (sym its.1)
+
+-- Nothing was got on a flow before its first connection.
+none_before : (side : Side) (w : History) → IsFairAll side w → instance_from (peer side) 0 (gots w) ≡ []
+none_before side [] fair = by side
+  where
+    by : (s : Side) → instance_from (peer s) 0 [] ≡ []
+    by Asker = refl
+    by Answerer = refl
+none_before side (Put p ∷ w) fair = none_before side w fair.1
+none_before Asker (Got p ∷ w) fair =
+    let later : (count is_clean_rst (gots w) + 1 == 0) ≡ false = grind (arith, nat_tests) in
+    ap (λ (b : Bool). cond b (p ∷ instance_from Answerer 0 (gots w)) (instance_from Answerer 0 (gots w))) later ∙ none_before Asker w fair.1
+none_before Answerer (Got p ∷ w) fair = by (count is_request (p ∷ gots w) == 0) refl (none_before Answerer w fair.1)
+  where
+    by : (b : Bool) → (count is_request (p ∷ gots w) == 0) ≡ b → instance_from Asker 0 (gots w) ≡ []
+        → cond b (p ∷ instance_from Asker 0 (gots w)) (instance_from Asker 0 (gots w)) ≡ []
+    by true is rest =
+        let none : count is_request (p ∷ gots w) ≡ 0 = grind (arith, nat_tests, is) in
+        let empty : Got p ∷ w ≡ [] = none_begun Answerer (Got p ∷ w) fair none in absurd cc
+    by false some rest = rest
+
+front_none : (xs ys : List ℕ) → IsPrefixOf xs ys → ys ≡ [] → xs ≡ []
+front_none [] ys front none = refl
+front_none (x ∷ xs) ys front none = let both : [] ≡ (x ∷ xs) ++ front.0 = sym none ∙ front.1 in absurd cc
 
 module _ {fresh : Type 0} (w : World) (well : IsWell fresh w) where
   abbrev guest : Log
@@ -25,119 +65,103 @@ module _ {fresh : Type 0} (w : World) (well : IsWell fresh w) where
   device = (both_of w).device.log
 
   ends : BothEnds (both_of w)
-  ends = both_ends first_cid (both_of w) well.sound
+  ends = record { fair = well.sound.fair; got = λ role. (well.sound.ties role).packets }
 
-  -- The connection of an id is the first of its flow, and what was received on the flow was received on the id.
-  is_first : (id : ℕ) → 1 ≤ (well.opened id).number → well.opened id ≡ first_of (well.opened id).flow
-  is_first id some = both.first_is (both_of w) ends well.once Driver (well.opened id) some (well.right.received.passed id)
+  pub to_driver : (c : Connection) → IsPrefixOf (payload_got Driver c guest) (payload_put Device c device)
+  to_driver c = both.arrives (both_of w) ends Driver c
 
-  pub one_id : (i j : ℕ) → 1 ≤ (well.opened i).number → 1 ≤ (well.opened j).number → (well.opened i).flow ≡ (well.opened j).flow → i ≡ j
-  one_id i j some also same = well.right.received.once i j some (is_first i some ∙ ap (λ (g : Flow). first_of g) same ∙ sym (is_first j also))
+  pub to_device : (c : Connection) → IsPrefixOf (payload_got Device c device) (payload_put Driver c guest)
+  to_device c = both.arrives (both_of w) ends Device c
 
-  named : (id : ℕ) (f : Flow) → (well.opened id).flow ≡ f → 1 ≤ (well.opened id).number
-      → (received_by id w.journal ≡ received_on f w.journal) × (well.opened id ≡ first_of f)
-  named id f flow some = (
-    sym (by_flow well.opened one_id id some w.journal well.agrees) ∙ ap (λ (g : Flow). received_on g w.journal) flow,
-    is_first id some ∙ ap (λ (g : Flow). first_of g) flow,
-  )
+  -- By a journal that is right.
+  module _ (opened : ℕ → Connection) (right : IsRightIn opened w) where
+    pub sent_to_device : (c : Connection) → IsPrefixOf (payload_got Device c device) (sent_to opened c w.journal)
+    sent_to_device c = subst (λ (bytes : List ℕ). IsPrefixOf (payload_got Device c device) bytes) (right.sent.puts c) (to_device c)
 
-  -- What the sends took is what the driver put. What was received is a prefix of what it got.
-  pub sent_is : (f : Flow) → payload_put Driver (first_of f) guest ≡ sent_on f w.journal
-  sent_is f =
-      well.right.sent.puts (first_of f) ∙ sym (sent_flow well.opened f (λ id some. ap (λ (c : Connection). c.number) (is_first id some)) w.journal well.agrees)
+    pub received_from_device : (id : ℕ) → IsPrefixOf (received_by id w.journal) (payload_put Device (opened id) device)
+    received_from_device id = prefix_then _ _ _ (right.received.front id) (to_driver (opened id))
 
-  pub sent_all : (f : Flow) → sent_on f w.journal ≡ put_on Driver f guest
-  sent_all f = sym (sent_is f) ∙ once_put Driver f guest (well.sound.fair Driver f) (both.once (both_of w) ends well.once Driver f)
-
-  pub received_is : (f : Flow) → IsPrefixOf (received_on f w.journal) (payload_got Driver (first_of f) guest)
-  received_is f = by (received_some well.opened f w.journal well.agrees)
-    where
-      by : (received_on f w.journal ≡ []) ⊎ ((id : ℕ) × (1 ≤ (well.opened id).number) × ((well.opened id).flow ≡ f))
-          → IsPrefixOf (received_on f w.journal) (payload_got Driver (first_of f) guest)
-      by (inl none) = (payload_got Driver (first_of f) guest, ap (λ (bytes : List ℕ). bytes ++ payload_got Driver (first_of f) guest) (sym none))
-      by (inr (id, some, flow)) =
-          let n = named id f flow some in
-          subst (λ (bytes : List ℕ). IsPrefixOf bytes (payload_got Driver (first_of f) guest)) n.0
-          (subst (λ (c : Connection). IsPrefixOf (received_by id w.journal) (payload_got Driver c guest)) n.1 (well.right.received.front id))
-
-  pub unread_of : (e : DriverEntry) → Contains w.driver.table.entries e
-      → Drains (receives e.value.end) (received_on e.flow w.journal) e.value.unread (payload_got Driver (first_of e.flow) guest)
-  unread_of e there =
-      let on = All-contains (ReceivesOn (account_of 1 well.opened w.journal) guest) w.driver.table.entries e well.right.received.held there in
-      let n = named e.value.id e.flow (ap (λ (c : Connection). c.flow) on.present) (subst (λ (c : Connection). 1 ≤ c.number) (sym on.present) on.some) in
-      subst (λ (bytes : List ℕ). Drains (receives e.value.end) bytes e.value.unread (payload_got Driver (first_of e.flow) guest)) n.0
-      (subst (λ (c : Connection). Drains (receives e.value.end) (received_by e.value.id w.journal) e.value.unread (payload_got Driver c guest))
-      (sym on.present ∙ n.1) on.drains)
-
-  pub gone_of : (g : GoneConnection) → Contains w.driver.gone g
-      → IsPrefixOf (received_on g.flow w.journal ++ g.unread) (payload_got Driver (first_of g.flow) guest)
-  gone_of g there =
-      let on = All-contains (ReceivedOn (account_of 1 well.opened w.journal) guest) w.driver.gone g well.right.received.left there in
-      let n = named g.id g.flow on.flow on.some in
-      subst (λ (bytes : List ℕ). IsPrefixOf (bytes ++ g.unread) (payload_got Driver (first_of g.flow) guest)) n.0
-      (subst (λ (c : Connection). IsPrefixOf (received_by g.id w.journal ++ g.unread) (payload_got Driver c guest)) n.1 on.front)
-
-  pub to_driver : (f : Flow) → IsPrefixOf (payload_got Driver (first_of f) guest) (payload_put Device (first_of f) device)
-  to_driver f = both.arrives (both_of w) ends Driver (first_of f)
-
-  pub to_device : (f : Flow) → IsPrefixOf (payload_got Device (first_of f) device) (payload_put Driver (first_of f) guest)
-  to_device f = both.arrives (both_of w) ends Device (first_of f)
+    -- An id without a connection received nothing.
+    pub none_received : (id : ℕ) → (opened id).number ≡ 0 → received_by id w.journal ≡ []
+    none_received id none =
+        let f = (opened id).flow in
+        front_none _ _ (right.received.front id)
+        (ap (λ (n : ℕ). payload_of (instance_from (peer (side_of Driver f)) n (gots (whole_of Driver f guest)))) none
+        ∙ ap payload_of (none_before (side_of Driver f) (whole_of Driver f guest) (well.sound.fair Driver f)))
 
   -- The streams of a host that had none at first.
   module _ (new : fresh) where
-    pub wrote_is : (f : Flow) → payload_put Device (first_of f) device ≡ host_wrote (first_of f) w.host
-    wrote_is f = both.wrote_is (both_of w) ends w.host _ _ _ (well.streams new) (first_of f) (omega arith)
+    pub wrote_is : (c : Connection) → 1 ≤ c.number → payload_put Device c device ≡ host_wrote c w.host
+    wrote_is c some = both.wrote_is (both_of w) ends w.host _ _ _ (well.streams new) c some
 
-    pub given_is : (f : Flow) → IsPrefixOf (host_read (first_of f) w.host) (payload_got Device (first_of f) device)
-    given_is f = both.read_is (both_of w) ends w.host _ _ _ (well.streams new) (first_of f) (omega arith)
+    pub given_is : (c : Connection) → 1 ≤ c.number → IsPrefixOf (host_read c w.host) (payload_got Device c device)
+    given_is c some = both.read_is (both_of w) ends w.host _ _ _ (well.streams new) c some
 
-    -- That is all that the device put on the flow.
-    pub wrote_all : (f : Flow) → host_wrote (first_of f) w.host ≡ put_on Device f device
-    wrote_all f = sym (wrote_is f) ∙ once_put Device f device (well.sound.fair Device f) (both.once (both_of w) ends well.once Device f)
+    module _ (opened : ℕ → Connection) (right : IsRightIn opened w) where
+      pub read_front : (c : Connection) → 1 ≤ c.number → IsPrefixOf (host_read c w.host) (sent_to opened c w.journal)
+      read_front c some = prefix_then _ _ _ (given_is c some) (sent_to_device opened right c)
 
-    -- A stream with a label is the first connection of its flow.
-    pub its_first : (f : Flow) (i : ℕ) (s : Stream) → stream_at i w.host ≡ Some s → s.label ≡ Some f → (seen w.host i s).label ≡ Some (first_of f)
-    its_first f i s at label = first_label w.host _ _ _ _ (well.streams new) (λ g. both.once (both_of w) ends well.once Device g) f i s at label
+      pub received_front : (id : ℕ) → 1 ≤ (opened id).number → IsPrefixOf (received_by id w.journal) (host_wrote (opened id) w.host)
+      received_front id some =
+          subst (λ (bytes : List ℕ). IsPrefixOf (received_by id w.journal) bytes) (wrote_is (opened id) some) (received_from_device opened right id)
 
-    pub carried : (f : Flow) → CarriesOn f w
-    carried f = both.carry (both_of w) ends w.host _ _ _ (well.streams new) (first_of f) (omega arith) _ _ (record { puts = sent_is f; gets = received_is f })
+      pub carried : (id : ℕ) → 1 ≤ (opened id).number → CarryBytes (opened id) (sent_to opened (opened id) w.journal) (received_by id w.journal) w.host
+      carried id some = record { to_host = read_front (opened id) some; to_guest = received_front id some }
 
-    pub one_stream : (f : Flow) (i j : ℕ) (s t : Stream) → stream_at i w.host ≡ Some s → stream_at j w.host ≡ Some t → s.label ≡ Some f → t.label ≡ Some f
-        → i ≡ j
-    one_stream f i j s t here there label other =
-        (well.streams new).streams.unique i j (seen w.host i s) (seen w.host j t) (first_of f) (ap (option_map (seen w.host i)) here)
-        (ap (option_map (seen w.host j)) there) (its_first f i s here label) (its_first f j t there other)
+    pub numbered : (f : Flow) (id : ℕ) (s : Stream) → stream_at id w.host ≡ Some s → s.label ≡ Some f → IsNumbered w id f
+    numbered f id s at label =
+        let here = label_here w.host id s f label in
+        let l = (well.streams new).streams.labels id (seen w.host id s) (connection_in w.host id f) (ap (option_map (seen w.host id)) at) here in
+        record {
+          connection = connection_in w.host id f;
+          at = seen_at w.host id s (connection_in w.host id f) at here l.some;
+          flow = refl;
+          most = by (is_assigned f.host) ((well.streams new).streams.counted f) l.most;
+        }
+      where
+        by : (b : Bool) → IsCounted b (count_in w.host f) (number_of Device f device) (has is_clean_rst (puts (history_of Device f device)))
+            → (connection_in w.host id f).number ≤ count_in w.host f
+            → (connection_in w.host id f).number ≤ number_of Device f device + cond b 1 0
+        by true counted most = let one = counted.0 in omega (arith, one, most)
+        by false counted most = let less = counted.0 in omega (arith, less, most)
 
     pub pending_of : (e : DeviceEntry) → Contains w.proxy.device.table.entries e
-        → (s : Stream) × (stream_at e.value.stream w.host ≡ Some s) × (s.label ≡ Some e.flow)
-        × Drains (gives e.value.end) s.given (e.value.ok_line ++ e.value.pending) (line_for e.flow ++ payload_got Device (first_of e.flow) device)
+        → (s : Stream) × (stream_at e.value.stream w.host ≡ Some s) × (connection_at e.value.stream w.host ≡ Some (connection_of e device))
+        × Drains (gives e.value.end) s.given (e.value.ok_line ++ e.value.pending) (line_for e.flow ++ payload_got Device (connection_of e device) device)
     pending_of e there =
         let j = All-contains (IsJoined (look w.host) (count_in w.host) device) w.proxy.device.table.entries e (well.streams new).joined there in
         let st = is_there e.value.stream w.host j.stream j.there in
-        let its = ap (λ (s : Seen). s.label) st.is ∙ j.label in
-        let label = (label_there w.host e.value.stream st.stream.label (connection_of e device) its).0 in
-        let first = same_Some (connection_of e device) (first_of e.flow) (sym its ∙ its_first e.flow e.value.stream st.stream st.at label) in (
+        let l = (well.streams new).streams.labels e.value.stream j.stream (connection_of e device) j.there j.label in (
           st.stream,
           st.at,
-          label,
+          seen_at w.host e.value.stream st.stream (connection_of e device) st.at (ap (λ (s : Seen). s.label) st.is ∙ j.label) l.some,
           subst (λ (given : List ℕ). Drains (gives e.value.end) given (e.value.ok_line ++ e.value.pending)
-              (line_for e.flow ++ payload_got Device (first_of e.flow) device)) (ap (λ (s : Seen). s.given) (sym st.is))
-              (subst (λ (c : Connection). Drains (gives e.value.end) j.stream.given (e.value.ok_line ++ e.value.pending)
-              (line_for e.flow ++ payload_got Device c device)) first j.drains),
+              (line_for e.flow ++ payload_got Device (connection_of e device) device)) (ap (λ (s : Seen). s.given) (sym st.is)) j.drains,
         )
 
--- What an end put stays once it told that it sends no more.
-module _ {fresh : Type 0} (w v : World) (well : IsWell fresh w) (goes : Goes fresh w v) (f : Flow) where
-  kept : (role : Role) → has shuts_send (puts (history_of role f (at role (both_of w)).log)) ≡ true
-      → payload_put role (first_of f) (at role (both_of v)).log ≡ payload_put role (first_of f) (at role (both_of w)).log
-  kept role shut =
+-- What an end put on the connections of a flow so far stays once it told that it sends no more.
+module _ {fresh : Type 0} (w v : World) (well : IsWell fresh w) (goes : Goes well v) (c : Connection) where
+  kept : (role : Role) → c.number ≤ number_of role c.flow (at role (both_of w)).log
+      → has shuts_send (puts (history_of role c.flow (at role (both_of w)).log)) ≡ true
+      → payload_put role c (at role (both_of v)).log ≡ payload_put role c (at role (both_of w)).log
+  kept role past shut =
       let old = (at role (both_of w)).log in
       let later = subst (λ (b : Both). IsLater old (at role b).log) goes.runs.ends (run_later role goes.runs.steps (both_of w)) in
-      stays_shut role old _ later (goes.well.sound.fair role) (first_of f) shut (put_begun role f old shuts_send (well.sound.fair role f) shut)
+      stays_shut role old _ later (goes.well.sound.fair role) c shut past
 
-  pub sent_stays : has shuts_send (puts (history_of Driver f (both_of w).driver.log)) ≡ true → sent_on f v.journal ≡ sent_on f w.journal
-  sent_stays shut = sym (sent_is v goes.well f) ∙ kept Driver shut ∙ sent_is w well f
+  -- So it is of what was sent and written.
+  pub sent_as_put : (opened now : ℕ → Connection) → IsSentIn opened w → IsSentIn now v
+      → payload_put Driver c (both_of v).driver.log ≡ payload_put Driver c (both_of w).driver.log → sent_to now c v.journal ≡ sent_to opened c w.journal
+  sent_as_put opened now sent later same = sym (later.puts c) ∙ same ∙ sent.puts c
 
-  pub wrote_stays : fresh → has shuts_send (puts (history_of Device f (both_of w).device.log)) ≡ true
-      → host_wrote (first_of f) v.host ≡ host_wrote (first_of f) w.host
-  wrote_stays new shut = sym (wrote_is v goes.well new f) ∙ kept Device shut ∙ wrote_is w well new f
+  pub wrote_as_put : fresh → 1 ≤ c.number → payload_put Device c (both_of v).device.log ≡ payload_put Device c (both_of w).device.log
+      → host_wrote c v.host ≡ host_wrote c w.host
+  wrote_as_put new some same = sym (wrote_is v goes.well new c some) ∙ same ∙ wrote_is w well new c some
+
+  pub sent_stays : (opened now : ℕ → Connection) → IsSentIn opened w → IsSentIn now v → c.number ≤ number_of Driver c.flow (both_of w).driver.log
+      → has shuts_send (puts (history_of Driver c.flow (both_of w).driver.log)) ≡ true → sent_to now c v.journal ≡ sent_to opened c w.journal
+  sent_stays opened now sent later past shut = sent_as_put opened now sent later (kept Driver past shut)
+
+  pub wrote_stays : fresh → 1 ≤ c.number → c.number ≤ number_of Device c.flow (both_of w).device.log
+      → has shuts_send (puts (history_of Device c.flow (both_of w).device.log)) ≡ true → host_wrote c v.host ≡ host_wrote c w.host
+  wrote_stays new some past shut = wrote_as_put new some (kept Device past shut)

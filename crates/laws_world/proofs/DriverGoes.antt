@@ -1,19 +1,19 @@
 -- What the driver's conversations come to: steps of its seat, headers that fit, the account, and the payload that was put.
-use Rattle.std.proofs.Common.{◌≡◌, ℕ, ◌≤◌, ◌⊎◌, inl, inr, true, take, None, Some, refl}
+use Rattle.std.proofs.Common.{◌≡◌, ℕ, ◌≤◌, true, take, None, refl}
 use Rattle.vs_contents.specs.CallTree.{played}
 use Rattle.vs_flow.specs.Connection.{Connection}
 use Rattle.vs_page.specs.Log.{Log}
 use Rattle.vs_ring_port.specs.{Contents.RingContents, DriverCalls.driver_answer, EndLog.EndLog, Lists.Rings}
 use Rattle.laws_tables.specs.{Both.Seat, Ends.Ends}
-use Rattle.vs_driver_parts.specs.{Connections.{flow_of, recv_of}, Playing.Plays, State.{DriverState, entry_known_as, gone_known_as}}
+use Rattle.vs_driver_parts.specs.{Playing.Plays, State.{DriverState}}
 use Rattle.laws_driver.proofs.{Putting.{connect_puts, owed_puts, reply_puts, send_puts}, Carrying.{Carries, Fact}, Going.Goes, Walking.poll_goes, Carried.Making.CarriesCall}
 use Rattle.laws_driver.proofs.Carried.{Making.{account_after, at_first, call_goes, call_received, call_sent, further_as, further_journal, port_fits, sent_with}, Senders.sent_more}
 use Rattle.laws_driver.{proofs.Carried.{Senders.{step_says, still_sent}, Polling.{IsFurther, poll_carries}, Sending.{poll_puts, puts_as}}, specs.Honest.slots_of}
-use Rattle.laws_driver.specs.Carried.Calls.{Connect, GuestCall, Journal, LookAt, Recv, ReplyTo, Send, account_of, flow_named, id_named, is_right, makes_call, with_call}
-use Rattle.laws_driver.specs.Carried.{Received.Account, Senders.IsRightJournal, Sent.took}
+use Rattle.laws_driver.specs.Carried.Calls.{Connect, GuestCall, Journal, LookAt, ReplyTo, Send, account_of, is_right, makes_call, with_call}
+use Rattle.laws_driver.specs.Carried.{Received.Account, Senders.IsRightJournal}
 use Rattle.laws_device.proofs.Seats.{PutsFit}
-use Rattle.laws_world.proofs.{Names.{Names, NamesFrom, NamesMay, StaysNamed, WaitsApart, call_named, flows, named_from, names_kept, names_may, step_named}, Journals.Agrees}
-use Rattle.laws_world.proofs.{Journals.{AllAgree, MovesNone, agree_on}, Keeping.{Sees, call_kept, poll_kept}}
+use Rattle.laws_world.proofs.{Names.{Names, NamesFrom, NamesMay, StaysNamed, WaitsApart, call_named, named_from, names_kept, names_may, step_named}}
+use Rattle.laws_world.proofs.Keeping.{Sees, call_kept, poll_kept}
 
 module _ (first : ℕ) (old : Seat) where
   abbrev pub Walks : Account → Fact → Fact → Fact
@@ -126,10 +126,9 @@ pub record Left (old : Seat) (was : ℕ → Connection) (from : DriverState) (be
   pub right : IsRightJournal 1 opened journal log (slots_of s)
   pub waiting : Sees WaitsApart s
   pub named : StaysNamed from before s journal
-  pub agrees : AllAgree opened journal
 
 module _ (first : ℕ) (old : Seat) (opened : ℕ → Connection) (journal : Journal) (s : DriverState) (base : Log)
-    (was : IsRightJournal 1 opened journal base (slots_of s)) (agrees : AllAgree opened journal) where
+    (was : IsRightJournal 1 opened journal base (slots_of s)) where
   abbrev account : Account
   account = account_of 1 opened journal
 
@@ -146,28 +145,12 @@ module _ (first : ℕ) (old : Seat) (opened : ℕ → Connection) (journal : Jou
     };
     waiting = x.3 None tt;
     named = step_named s journal part t log x.3;
-    agrees = agree_on opened x.2.0.opened x.2.1.opened journal agrees;
   }
 
   -- A call that was made.
   module _ (r : Rings × EndLog) where
     abbrev pub reply_of : (call : GuestCall) → ReplyTo call
     reply_of call = (played driver_answer (makes_call call s) r).0.1
-
-    -- A call that moves bytes names the connection of its id.
-    of_id : (id : ℕ) (call : GuestCall) → ((entry_known_as id s ≡ None) × (gone_known_as id s ≡ None) → MovesNone call (reply_of call))
-        → Agrees opened (record { call = call; id = Some id; flow = flow_of id s; reply = reply_of call })
-    of_id id call unknown = by (flows account base s was.received id)
-      where
-        by : ((entry_known_as id s ≡ None) × (gone_known_as id s ≡ None)) ⊎ ((flow_of id s ≡ Some (opened id).flow) × (1 ≤ (opened id).number))
-            → Agrees opened (record { call = call; id = Some id; flow = flow_of id s; reply = reply_of call })
-        by (inl none) = inl (unknown none)
-        by (inr on) = inr (id, refl, on.0, on.1)
-
-    reply_agrees : (call : GuestCall) → Agrees opened (record { call = call; id = id_named call s; flow = flow_named call s; reply = reply_of call })
-    reply_agrees (Recv id n) = of_id id (Recv id n) (λ none. rw (none.0, none.1, recv_of) (refl, refl))
-    reply_agrees (Send id bytes) = of_id id (Send id bytes) (λ none. rw (none.0, none.1, played, took) (refl, refl))
-    reply_agrees call = inl (refl, refl)
 
     pub call_left : (call : GuestCall) (c d : RingContents) → Plays (makes_call call s) c (played driver_answer (makes_call call s) r).0 d
         → (part : Ends) (t : DriverState) (log : Log) → After first old account s base call (reply_of call) part t log
@@ -184,5 +167,4 @@ module _ (first : ℕ) (old : Seat) (opened : ℕ → Connection) (journal : Jou
       };
       waiting = x.3 None tt;
       named = call_named call (reply_of call) s journal part t log x.3;
-      agrees = agree_on opened now.0 now.1 (with_call call s (reply_of call) journal) (reply_agrees call, agrees);
     }

@@ -1,8 +1,6 @@
 pub mod Runs
-pub mod Once
 pub mod Entries
 pub mod Wire
-pub mod Journals
 pub mod DriverWalks
 pub mod DriverGoes
 pub mod DeviceWalks
@@ -12,6 +10,7 @@ pub mod Sound
 pub mod Opening
 pub mod Failing
 pub mod Carried
+pub mod Shutting
 pub mod GuestLines
 pub mod Polls
 pub mod DeviceLeads

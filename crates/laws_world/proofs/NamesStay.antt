@@ -10,10 +10,9 @@ use Rattle.vs_limits.specs.declared.TheConstants.{BUF_ALLOC}
 use Rattle.vs_driver_parts.specs.{Connections.{connected, flow_of, next_flow, with_opened}, State.{DriverEntry, DriverState, Listener, gone_known_as, is_known_as}}
 use Rattle.vs_driver_parts.specs.{Listening.{accept_of, after_accept, is_answered, listener_on, next_accepted, with_waiting, without_id}, Conversations.connect_of}
 use Rattle.vs_driver_parts.{specs.declared.answers.{Accepted.Accepted, ConnectError.ConnectError}, proofs.Ids.HasId}
-use Rattle.laws_driver.{proofs.{Calls.connect_keeps, Carrying.Fact}, specs.Carried.Calls.account_of}
+use Rattle.laws_driver.proofs.{Calls.connect_keeps, Carrying.Fact}
 use Rattle.laws_world.proofs.{Listeners.{AllWait, IsOfPort, IsOther, accepted_other, ids_found, wait_found, wait_weaker}, Names.{IsOver, Stands, WaitsApart, answered_seen}}
-use Rattle.laws_world.{proofs.{Names.{flow_opened, flow_seen, seen, shown}, Keeping.Sees, Carried.one_id, Sound.{Goes, IsWell, rests_on}}, specs.Names.{HasFlow, times_closed}}
-use Rattle.laws_world.specs.{Sides.log_with_staged, World.{World, first_cid}}
+use Rattle.laws_world.{proofs.{Names.{flow_seen, seen, shown}, Keeping.Sees, Sound.{Goes, IsWell, rests_on}}, specs.{Names.times_closed, World.{World, first_cid}}}
 use Rattle.vs_conn.specs.declared.end.Owed.TheVariants as owed
 use Rattle.vs_driver_parts.specs.declared.answers.Accepted.TheVariants as accepted
 
@@ -37,7 +36,7 @@ module _ {fresh : Type 0} (w : World) (well : IsWell fresh w) (id : ℕ) where
   unknown_stands : id < s.next_id → seen id s.table s.gone ≡ None → Sees (Stands id None) s
   unknown_stands given is = record { given = given; next_is = well.right.received.numbers.given; ids = well.right.received.numbers.slots; is = is; waits = inl refl }
 
-  -- The flow that the driver tells, and tells of no other id.
+  -- The flow that the driver tells.
   stands_flow : (o : Option Flow) → Sees (Stands id o) s → flow_of id s ≡ o
   stands_flow o x = flow_seen s.next_port id s well.driver.sound well.right.received.numbers ∙ ap (option_map (λ (y : Bool × Flow). y.1)) x.is ∙ by o
     where
@@ -45,23 +44,13 @@ module _ {fresh : Type 0} (w : World) (well : IsWell fresh w) (id : ℕ) where
       by None = refl
       by (Some f) = refl
 
-  told_flow : (f : Flow) → Sees (Stands id (Some f)) s → HasFlow id f s
-  told_flow f x =
-      let a = account_of 1 well.opened w.journal in
-      let log = log_with_staged w.rings.driver in
-      let flow = stands_flow (Some f) x in
-      let mine = flow_opened a log s well.right.received id f flow in (
-        flow,
-        λ other is. let theirs = flow_opened a log s well.right.received other f is in one_id w well other id theirs.1 mine.1 (theirs.0 ∙ sym mine.0),
-      )
-
 -- So it is in each world that this one leads to: where the id isn't closed, and where it was.
-module _ {fresh : Type 0} (w v : World) (well : IsWell fresh w) (goes : Goes fresh w v) (id : ℕ) where
+module _ {fresh : Type 0} (w v : World) (well : IsWell fresh w) (goes : Goes well v) (id : ℕ) where
   pub still_told : times_closed id v.journal ≡ times_closed id w.journal → IsTold id w.driver
-      → (f : Flow) × (flow_of id w.driver ≡ Some f) × HasFlow id f v.driver
+      → (f : Flow) × (flow_of id w.driver ≡ Some f) × (flow_of id v.driver ≡ Some f)
   still_told same told =
       let x = told_stands w well id told in
-      (x.0, stands_flow w well id (Some x.0) x.1, told_flow v goes.well id x.0 (goes.named.stays id (Some x.0) (inr same) x.1))
+      (x.0, stands_flow w well id (Some x.0) x.1, stands_flow v goes.well id (Some x.0) (goes.named.stays id (Some x.0) (inr same) x.1))
 
   pub still_over : IsOver id w.driver → flow_of id v.driver ≡ None
   still_over over = stands_flow v goes.well id None (goes.named.stays id None (inl refl) (unknown_stands w well id over.0 over.1))

@@ -1,13 +1,13 @@
 -- The world in which nothing has happened yet.
-use Rattle.std.{proofs.Common.{◌≡◌, ℕ, zero, suc, ◌+◌, ◌==◌, Bool, true, false, cond, List, [], ◌∷◌, refl, sym, ap, subst, ◌∙◌, arith, Some}, specs.Option.ForSome}
+use Rattle.std.{proofs.Common.{◌≡◌, ℕ, zero, suc, ◌+◌, ◌≤◌, ◌==◌, Bool, true, false, cond, List, [], ◌∷◌, refl, sym, ap, subst, ◌∙◌, arith, Some}, specs.Option.ForSome}
 use Rattle.vs_contents.specs.CallTree.{Done, Ask, bind, while_up_to, played}
 use Rattle.vs_limits.specs.declared.TheConstants.{ASSIGNED_FIRST, FIRST_PORT}
 use Rattle.vs_outside.specs.Host.{HostContents}
+use Rattle.vs_flow.specs.Connection.{Connection}
 use Rattle.vs_page.specs.Log.{Log}
 use Rattle.laws_tables.{proofs.{Voices.{AreVoiced, voices_start}, Both.start_sound}, specs.Both.Both}
-use Rattle.laws_world.{specs.{Pipes.IsFresh, Events.{happens, run}, Sides.{both_of, driver_ends, log_with_staged}, World.{World, opening, first_cid}}, proofs.Once.AreOnce}
-use Rattle.laws_world.proofs.{Once.start_once, DriverWalks.{Ties, walk}, Runs.and_then, Sound.{Goes, IsWell, goes_still, happens_goes}, Listeners.{AllWait, IsOfPort}}
-use Rattle.laws_world.proofs.Names.{named_then}
+use Rattle.laws_world.{specs.{Pipes.IsFresh, Events.{happens, run}, Sides.{both_of, driver_ends, log_with_staged}, World.{World, opening, first_cid}}, proofs.DriverWalks.Ties}
+use Rattle.laws_world.proofs.{DriverWalks.walk, Runs.and_then, Sound.{Goes, IsWell, goes_still, happens_goes}, Listeners.{AllWait, IsOfPort}, Names.named_then}
 use Rattle.vs_ring_port.specs.{DriverCalls.{driver_answer, Stage, Publish}, declared.queue.Queue.TheVariants.{Rx, Event}, EndLog.{EndLog, all_put, entries_marked}, Lists.Rings}
 use Rattle.vs_ring_list.specs.Ends.{Ends, empty_ends}
 use Rattle.vs_driver_parts.specs.{Conversations.{DriverTree, load_cid, new_of, new_state, post_events, post_one, posts, publish_of}, State.DriverState}
@@ -155,24 +155,27 @@ module _ (n : ℕ) (host : HostContents) where
     overrun = refl;
     counted = record { cid_is = refl; dropped_is = refl; unfailed = refl };
     cids = subst (AreVoiced first_cid) opening_is (voices_start first_cid FIRST_PORT ASSIGNED_FIRST);
-    once = subst AreOnce opening_is (start_once first_cid FIRST_PORT ASSIGNED_FIRST);
     streams = λ fresh. no_streams host (opening n host).proxy.next_port (opening n host).proxy.device.table refl fresh.streams fresh.labelled;
     opened = (no_account 1).opened;
     right = subst (λ (log : Log). IsRightJournal 1 (no_account 1).opened [] log (slots_of (opening n host).driver)) (sym log_empty)
         (subst (λ (s : DriverState). IsRightJournal 1 (no_account 1).opened [] [] (slots_of s)) (sym new.state) (none_righted n FIRST_PORT 1));
-    agrees = tt;
     waiting = ((λ id. 0), subst (λ (s : DriverState). AllWait (IsOfPort s.next_id (λ id. 0)) s.listeners) (sym new.state) tt);
   }
 
 -- After any list of events.
-pub run_goes : (fresh : Type 0) (es : List events.Event) (w : World) → IsWell fresh w → Goes fresh w (run es w)
+pub run_goes : (fresh : Type 0) (es : List events.Event) (w : World) (well : IsWell fresh w) → Goes well (run es w)
 run_goes fresh [] w well = goes_still fresh w well
 run_goes fresh (e ∷ es) w well =
     let one = happens_goes fresh w well e in
     let rest = run_goes fresh es (happens e w) one.well in
-    record { well = rest.well; runs = and_then _ _ _ one.runs rest.runs; named = named_then _ _ _ _ _ _ one.named rest.named }
+    record {
+      well = rest.well;
+      runs = and_then _ _ _ one.runs rest.runs;
+      named = named_then _ _ _ _ _ _ one.named rest.named;
+      on = λ id some. let same = one.on id some in rest.on id (subst (λ (c : Connection). 1 ≤ c.number) (sym same) some) ∙ same;
+    }
 
-pub reached : (n : ℕ) (host : HostContents) (es : List events.Event) → Goes (IsFresh host) (opening n host) (run es (opening n host))
+pub reached : (n : ℕ) (host : HostContents) (es : List events.Event) → Goes (opening_well n host) (run es (opening n host))
 reached n host es = run_goes (IsFresh host) es (opening n host) (opening_well n host)
 
 pub run_well : (n : ℕ) (host : HostContents) (es : List events.Event) → IsWell (IsFresh host) (run es (opening n host))

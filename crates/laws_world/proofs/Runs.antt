@@ -3,7 +3,7 @@ use Rattle.std.proofs.Common.{◌≡◌, List, [], ◌∷◌, ◌++◌, refl, sy
 use Rattle.vs_page.specs.{Log.{Device, Driver, HasGotAll, Log, Role, packets_got, events_got}, declared.log.LogEntry.{LogEntry, TheVariants.{GotEvent, GotPacket}}}
 use Rattle.laws_tables.{specs.Both.{Asks, Both, Happening, IsSound, MayHappen, MayRun, Opens, Seat, Step, Takes, TakesEvent, after, happens, run}, proofs.Both.run_keeps}
 use Rattle.laws_driver.proofs.Going.{Goes, MayDo, MayDoAll, done}
-use Rattle.laws_world.specs.Sides.{AsksAnew, Runs, RunsAnew}
+use Rattle.laws_world.specs.Sides.{Runs}
 use Rattle.laws_device.proofs.Seats.{MayDo as DeviceMayDo}
 
 may_append : (xs ys : List Happening) (b : Both) → MayRun xs b → MayRun ys (run xs b) → MayRun (xs ++ ys) b
@@ -14,21 +14,16 @@ run_append : (xs ys : List Happening) (b : Both) → run (xs ++ ys) b ≡ run ys
 run_append [] ys b = refl
 run_append (x ∷ xs) ys b = run_append xs ys (happens x.role x.step b)
 
-anew_append : (xs ys : List Happening) (b : Both) → RunsAnew xs b → RunsAnew ys (run xs b) → RunsAnew (xs ++ ys) b
-anew_append [] ys b first then_ = then_
-anew_append (x ∷ xs) ys b first then_ = (first.0, anew_append xs ys (happens x.role x.step b) first.1 then_)
-
 pub stays : (b c : Both) → b ≡ c → Runs b c
-stays b c is = record { steps = []; may = tt; anew = tt; ends = is }
+stays b c is = record { steps = []; may = tt; ends = is }
 
-pub one_step : (role : Role) (step : Step) (b c : Both) → MayHappen role step b → AsksAnew role step b → happens role step b ≡ c → Runs b c
-one_step role step b c may anew is = record { steps = record { role = role; step = step } ∷ []; may = (may, tt); anew = (anew, tt); ends = is }
+pub one_step : (role : Role) (step : Step) (b c : Both) → MayHappen role step b → happens role step b ≡ c → Runs b c
+one_step role step b c may is = record { steps = record { role = role; step = step } ∷ []; may = (may, tt); ends = is }
 
 pub and_then : (b c d : Both) → Runs b c → Runs c d → Runs b d
 and_then b c d x y = record {
   steps = x.steps ++ y.steps;
   may = may_append x.steps y.steps b x.may (subst (λ e. MayRun y.steps e) (sym x.ends) y.may);
-  anew = anew_append x.steps y.steps b x.anew (subst (λ e. RunsAnew y.steps e) (sym x.ends) y.anew);
   ends = run_append x.steps y.steps b ∙ ap (run y.steps) x.ends ∙ y.ends;
 }
 
@@ -55,11 +50,11 @@ got_before role other step w got = record { packets = got.packets; events = got.
 -- A step of the device's, where it got just what the driver put first.
 pub device_runs : (driver : Seat) (step : Step) (w : Seat) → DeviceMayDo step w → HasGotAll (after Device step w).log driver.log
     → Runs (record { driver = driver; device = w }) (record { driver = driver; device = after Device step w })
-device_runs driver (Takes p answer) w may got = one_step Device (Takes p answer) _ _ got.packets tt refl
-device_runs driver (Opens f kind) w may got = one_step Device (Opens f kind) _ _ may.0 may.1 refl
-device_runs driver (Asks f kind) w may got = one_step Device (Asks f kind) _ _ (refl, may.0) may.1 refl
+device_runs driver (Takes p answer) w may got = one_step Device (Takes p answer) _ _ got.packets refl
+device_runs driver (Opens f kind) w may got = one_step Device (Opens f kind) _ _ may.0 refl
+device_runs driver (Asks f kind) w may got = one_step Device (Asks f kind) _ _ (refl, may.0) refl
 device_runs driver (TakesEvent id) w may got = let no = may.0 in absurd cc
-device_runs driver step w may got = one_step Device step _ _ may tt refl
+device_runs driver step w may got = one_step Device step _ _ may refl
 
 -- Steps of the driver's, where it got just what the device put first.
 module _ (device : Seat) where
@@ -68,11 +63,11 @@ module _ (device : Seat) where
 
   one_runs : (step : Step) (w : Seat) → MayDo step w → HasGotAll (after Driver step w).log device.log
       → Runs (beside_device w) (beside_device (after Driver step w))
-  one_runs (Takes p answer) w may got = one_step Driver (Takes p answer) _ _ got.packets tt refl
-  one_runs (TakesEvent id) w may got = one_step Driver (TakesEvent id) _ _ (refl, got.events) tt refl
-  one_runs (Opens f kind) w may got = one_step Driver (Opens f kind) _ _ may.0 may.1 refl
+  one_runs (Takes p answer) w may got = one_step Driver (Takes p answer) _ _ got.packets refl
+  one_runs (TakesEvent id) w may got = one_step Driver (TakesEvent id) _ _ (refl, got.events) refl
+  one_runs (Opens f kind) w may got = one_step Driver (Opens f kind) _ _ may.0 refl
   one_runs (Asks f kind) w may got = let no = may.0 in absurd cc
-  one_runs step w may got = one_step Driver step _ _ may tt refl
+  one_runs step w may got = one_step Driver step _ _ may refl
 
   all_run : (v : Seat) (steps : List Step) → MayDoAll steps v → HasGotAll (done steps v).log device.log
       → Runs (beside_device v) (beside_device (done steps v))

@@ -1,13 +1,13 @@
 -- Each line of a script, and so each script, is a list of events.
 use Rattle.std.proofs.{Common.{◌≡◌, ℕ, true, List, [], ◌∷◌, ◌++◌, refl, sym}, lemmas.List.append-nil}
-use Rattle.vs_flow.specs.declared.flow.Flow.{Flow}
+use Rattle.vs_flow.specs.Connection.{Connection}
 use Rattle.vs_outside.specs.Host.{HostContents}
 use Rattle.vs_proxy_parts.specs.Growing.{label_at}
 use Rattle.laws_world.specs.Events.{ClientConnects, DeviceGrows, HostCloses, HostEnds, HostFails, HostListens, HostTakes, HostUnlistens, HostWrites, Reset, is_at_rest}
 use Rattle.laws_world.specs.{Events.{is_guest_cid, reset_made}, Plays.{Line, Guest, Poll, TurnAt, ResetTo, Grow, Client, HostListen, HostUnlisten, HostWrite, HostAllow, HostEnd}}
 use Rattle.laws_world.specs.{Plays.{HostClosed, HostFail, AreRight, after, line, is_given_right, play, report, sent_by}, Steps.Leads, World.{World, opening}}
 use Rattle.laws_world.proofs.{CallRests.{call_rests, opening_rests}, GuestLines.{call_leads, leads_none, leads_one, leads_then, possible_is}, Polls.poll_does, TurnLines.turn_leads}
-use Rattle.laws_driver.specs.Carried.Calls.{sent_on}
+use Rattle.laws_driver.specs.Carried.Senders.{sent_to}
 use Rattle.laws_proxy.proofs.Growing.{label_grow_by}
 
 pub line_leads : (l : Line) (w : World) → is_at_rest w.rings.driver.staged ≡ true → is_given_right l ≡ true → Leads w (line l w).0
@@ -31,9 +31,10 @@ line_rests (Guest call) w rest = call_rests w rest call
 line_rests Poll w rest = (poll_does w rest).rest
 line_rests x w rest = rest
 
-pub line_sends : (l : Line) (w : World) (f : Flow) → sent_on f (line l w).0.journal ≡ sent_on f w.journal ++ sent_by f l w
-line_sends (Guest call) w f = refl
-line_sends x w f = sym (append-nil (sent_on f w.journal))
+pub line_sends : (opened : ℕ → Connection) (c : Connection) (l : Line) (w : World)
+    → sent_to opened c (line l w).0.journal ≡ sent_to opened c w.journal ++ sent_by opened c l w
+line_sends opened c (Guest call) w = refl
+line_sends opened c x w = sym (append-nil (sent_to opened c w.journal))
 
 pub script_leads : (ls : List Line) (w : World) → is_at_rest w.rings.driver.staged ≡ true → AreRight ls → Leads w (after ls w)
 script_leads [] w rest may = leads_none w w refl

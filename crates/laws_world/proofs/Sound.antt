@@ -19,8 +19,8 @@ use Rattle.laws_world.specs.Events.{HostUnlistens, ClientConnects, HostWrites, H
 use Rattle.laws_world.specs.Events.{has_failed, holds, holds_event, is_at_rest, is_guest_cid, line_read, none_staged, proxy_step, reset_made, unless_failed, where_possible}
 use Rattle.laws_world.specs.{Events.works_on, World.{World, around, device_plays, driver_plays, first_cid}, Answers.answer_around, Pages.TxHolds, Sides.{Runs, both_of}}
 use Rattle.laws_world.{specs.Sides.log_with_staged, proofs.{DriverGoes.{After, Before, Left, Walks, call_left, call_walks, poll_left, poll_walks}, DeviceGoes.{carried, cids_kept}}}
-use Rattle.laws_world.proofs.{DeviceWalks.{AllHeads, walk as device_walk}, DriverWalks.{Ties, shown, walk}, Journals.AllAgree, Runs.{goes_run, keeps_sound, stays}, Once.AreOnce}
-use Rattle.laws_world.proofs.{Once.keeps_once, Wire.first_fit, Keeping.Sees, Names.{StaysNamed, WaitsApart, named_from, named_still}}
+use Rattle.laws_world.proofs.{DeviceWalks.{AllHeads, walk as device_walk}, DriverWalks.{Ties, shown, walk}, Runs.{goes_run, keeps_sound, stays}}
+use Rattle.laws_world.proofs.{Wire.first_fit, Keeping.Sees, Names.{StaysNamed, WaitsApart, named_from, named_still}}
 use Rattle.laws_driver.specs.Carried.{Calls.{Journal, LookAt, is_right, makes_call, GuestCall, ReplyTo, account_of, with_call}, Received.Account, Senders.IsRightJournal}
 use Rattle.laws_driver.{specs.{Honest.{IsFitState, ends_of_state, slots_of}, Resets.MarksResets, Staged.IsLeft}, proofs.Carried.{Making.made_with, Polling.IsFurther}}
 use Rattle.laws_driver.proofs.{Carried.Sending.puts_as, Carrying.{Carries, Fact, Holds, IsTiedBy, RestsWith}, Stepping.{Works, owed_with, publish_with, reply_with, takes_with}}
@@ -72,24 +72,23 @@ pub record IsWell (fresh : Type 0) (w : World) : Type 0 where
   -- Ids were given to these connections.
   pub opened : ℕ → Connection
   pub right : IsRightJournal 1 opened w.journal (log_with_staged w.rings.driver) (slots_of w.driver)
-  pub agrees : AllAgree opened w.journal
   -- Each id waits on one port.
   pub waiting : Sees WaitsApart w.driver
   pub overrun : w.proxy.device.overrun ≡ 0
   pub counted : IsCounted first_cid w.proxy.device.cid w.proxy.device.dropped w.proxy.device.failed w.rings.device.entries
   pub cids : AreVoiced first_cid (both_of w)
-  -- No flow is used twice.
-  pub once : AreOnce (both_of w)
   -- Of a host that had no streams at first.
   pub streams : StreamedIf fresh w.host w.rings.device.entries w.proxy.next_port w.proxy.device.table w.proxy.handshakes
 
-pub record Goes (fresh : Type 0) (w v : World) : Type 0 where
+-- From such a world to another: ids keep their connections.
+pub record Goes {fresh : Type 0} {w : World} (was : IsWell fresh w) (v : World) : Type 0 where
   pub well : IsWell fresh v
   pub runs : Runs (both_of w) (both_of v)
   pub named : StaysNamed w.driver w.journal v.driver v.journal
+  pub on : (id : ℕ) → 1 ≤ (was.opened id).number → well.opened id ≡ was.opened id
 
-pub goes_still : (fresh : Type 0) (w : World) → IsWell fresh w → Goes fresh w w
-goes_still fresh w well = record { well = well; runs = stays _ _ refl; named = named_still w.driver w.journal }
+pub goes_still : (fresh : Type 0) (w : World) (well : IsWell fresh w) → Goes well w
+goes_still fresh w well = record { well = well; runs = stays _ _ refl; named = named_still w.driver w.journal; on = λ id some. refl }
 
 -- Nothing is staged.
 pub nothing_staged : (pages : List (List ℕ)) → none_staged pages ≡ true → pages ≡ []
@@ -143,7 +142,7 @@ module _ (fresh : Type 0) (w : World) (well : IsWell fresh w) where
       → Keeps (λ x d. DriverTies first_cid (fact x) (state_of x) d) tree (exposed rings)
       → (let r = played driver_answer tree rings in Plays tree (exposed rings) r.0 (exposed r.1) → (part : Ends) (s : DriverState) (log : Log)
       → fact r.0 part s log → Left guest well.opened w.driver w.journal journal part s log)
-      → Goes fresh w (record (driver_plays tree w).1 { driver = state_of (driver_plays tree w).0; journal = journal })
+      → Goes well (record (driver_plays tree w).1 { driver = state_of (driver_plays tree w).0; journal = journal })
   driver_goes tree state_of fact journal keeps left =
       let r = played driver_answer tree rings in
       let ends = walk w.rings.device well.device_puts (λ x d. DriverTies first_cid (fact x) (state_of x) d) tree rings tie keeps in
@@ -167,16 +166,15 @@ module _ (fresh : Type 0) (w : World) (well : IsWell fresh w) where
           marks = now.0.1.marks;
           opened = after.opened;
           right = after.right;
-          agrees = after.agrees;
           waiting = after.waiting;
           overrun = well.overrun;
           counted = well.counted;
           cids = cids_kept first_cid _ _ runs well.sound well.cids;
-          once = keeps_once first_cid _ _ runs well.sound well.once;
           streams = well.streams;
         };
         runs = runs;
         named = record { closed = after.named.closed; stays = after.named.stays };
+        on = after.on;
       }
 
   -- What a conversation carries from a driver of which no packet is staged.
@@ -208,9 +206,9 @@ module _ (fresh : Type 0) (w : World) (well : IsWell fresh w) where
   steps = poll_walks first_cid guest account w.driver guest.log
 
   step_goes : (step : DriverState → DriverTree DriverState) → Keeps (DriverTies first_cid step_fact) (step w.driver) (exposed rings)
-      → Goes fresh w (driver_step step w)
+      → Goes well (driver_step step w)
   step_goes step keeps = driver_goes (step w.driver) (λ s. s) (λ s. step_fact) w.journal keeps
-      (λ plays. poll_left first_cid guest well.opened w.journal w.driver guest.log well.right well.agrees)
+      (λ plays. poll_left first_cid guest well.opened w.journal w.driver guest.log well.right)
 
   works_at : (queue : Queue) → works_on queue w.rings.driver.staged ≡ true → Works queue first_cid step_fact w.driver (exposed rings)
   works_at q.Tx may = ties_at step_fact at_step
@@ -221,24 +219,24 @@ module _ (fresh : Type 0) (w : World) (well : IsWell fresh w) where
   works_ties q.Tx s c works = works
   works_ties x s c works = rests_tied first_cid step_fact s c works
 
-  takes_goes : (queue : Queue) → works_on queue w.rings.driver.staged ≡ true → Goes fresh w (driver_step (takes_page queue) w)
+  takes_goes : (queue : Queue) → works_on queue w.rings.driver.staged ≡ true → Goes well (driver_step (takes_page queue) w)
   takes_goes queue may = step_goes (takes_page queue)
       (keeps_weaker (Works queue first_cid step_fact) (DriverTies first_cid step_fact) (works_ties queue) (takes_page queue w.driver) (exposed rings)
       (takes_with first_cid step_fact steps queue w.driver (exposed rings) (works_at queue may)))
 
-  publishes_goes : (queue : Queue) → works_on queue w.rings.driver.staged ≡ true → Goes fresh w (driver_step (publish_of queue) w)
+  publishes_goes : (queue : Queue) → works_on queue w.rings.driver.staged ≡ true → Goes well (driver_step (publish_of queue) w)
   publishes_goes queue may = step_goes (publish_of queue)
       (keeps_weaker (Rests first_cid step_fact) (DriverTies first_cid step_fact) (rests_tied first_cid step_fact) (publish_of queue w.driver) (exposed rings)
       (publish_with first_cid step_fact steps queue w.driver (exposed rings) (works_at queue may)))
 
-  replies_goes : Goes fresh w (driver_step stages_reply w)
+  replies_goes : Goes well (driver_step stages_reply w)
   replies_goes = step_goes stages_reply (reply_with first_cid step_fact steps w.driver (exposed rings) (ties_at step_fact at_step))
 
-  pays_goes : (slot : ℕ) → Goes fresh w (driver_step (stages_owed slot) w)
+  pays_goes : (slot : ℕ) → Goes well (driver_step (stages_owed slot) w)
   pays_goes slot = step_goes (stages_owed slot) (owed_with first_cid step_fact steps slot w.driver (exposed rings) (ties_at step_fact at_step))
 
   -- A call of the guest's.
-  calls_goes : (call : GuestCall) → is_right call ≡ true → w.rings.driver.staged.tx ≡ [] → Goes fresh w (call_made call w).0
+  calls_goes : (call : GuestCall) → is_right call ≡ true → w.rings.driver.staged.tx ≡ [] → Goes well (call_made call w).0
   calls_goes call right none =
       let before : Fact = Before first_cid guest account w.driver guest.log call in
       let after : ReplyTo call → Fact = After first_cid guest account w.driver guest.log call in
@@ -247,7 +245,7 @@ module _ (fresh : Type 0) (w : World) (well : IsWell fresh w) where
       (makes_call call w.driver) (exposed rings)
       (made_with first_cid w.driver (exposed rings) call before after right (call_walks first_cid guest account w.driver guest.log call right)
       (rests_at before none (seat_stays guest guest refl, well.driver_puts, further, from_here call, (refl, refl)))))
-      (call_left first_cid guest well.opened w.journal w.driver guest.log well.right well.agrees rings call _ _)
+      (call_left first_cid guest well.opened w.journal w.driver guest.log well.right rings call _ _)
 
 -- The device plays one, and so does the proxy.
 module _ (fresh : Type 0) (w : World) (well : IsWell fresh w) where
@@ -294,7 +292,7 @@ module _ (fresh : Type 0) (w : World) (well : IsWell fresh w) where
 
   device_goes : {A : Type 0} (tree : DeviceTree A) (state_of : A → ProxyState) → DeviceKeeps (λ x d. Proxied carry first_cid (state_of x) d) tree (around_it 0)
       → moved.Keeps moving (λ x d. P first_cid None (fields (state_of x).device) d) tree (around_it 0)
-      → Goes fresh w (record (device_plays tree w).1 { proxy = state_of (device_plays tree w).0 })
+      → Goes well (record (device_plays tree w).1 { proxy = state_of (device_plays tree w).0 })
   device_goes {A} tree state_of keeps counting =
       let r = played answer_around tree (around w) in
       let Both_kept : A → Situation → Type 0 = λ x d. Proxied carry first_cid (state_of x) d × P first_cid None (fields (state_of x).device) d in
@@ -326,16 +324,15 @@ module _ (fresh : Type 0) (w : World) (well : IsWell fresh w) where
           marks = well.marks;
           opened = well.opened;
           right = well.right;
-          agrees = well.agrees;
           waiting = well.waiting;
           overrun = now.0.none_overrun;
           counted = ends.1.1 r.1.log refl refl;
           cids = cids_kept first_cid _ _ runs well.sound well.cids;
-          once = keeps_once first_cid _ _ runs well.sound well.once;
           streams = λ ok. now.1 ok got r.1.host refl;
         };
         runs = runs;
         named = named_still w.driver w.journal;
+        on = λ id some. refl;
       }
 
   pub all : (held : List Held) → Unit {0}
@@ -345,16 +342,16 @@ module _ (fresh : Type 0) (w : World) (well : IsWell fresh w) where
   device_with = With carry w.proxy.handshakes first_cid w.proxy.next_port
 
   device_step_goes : (step : DeviceState → DeviceTree DeviceState) → one.Keeping moving (P first_cid) step
-      → DeviceKeeps device_with (step w.proxy.device) (around_it 0) → Goes fresh w (device_step step w)
+      → DeviceKeeps device_with (step w.proxy.device) (around_it 0) → Goes well (device_step step w)
   device_step_goes step counting keeps = device_goes (step w.proxy.device) (λ s. with_device s w.proxy)
       (device_weaker device_with (λ x d. Proxied carry first_cid (with_device x w.proxy) d) (λ x d kept. (well.device.port, kept)) (step w.proxy.device) (around_it 0) keeps)
       (counting w.proxy.device (around_it 0) (counted_now 0))
 
   proxy_step_goes : (step : Turning → DeviceTree Turning) → one.Turns moving (P first_cid) step
-      → DeviceKeeps (Turns carry first_cid) (step (start w.proxy)) (around_it 0) → Goes fresh w (proxy_step step w)
+      → DeviceKeeps (Turns carry first_cid) (step (start w.proxy)) (around_it 0) → Goes well (proxy_step step w)
   proxy_step_goes step counting keeps = device_goes (step (start w.proxy)) (λ t. t.state) keeps (counting (start w.proxy) (around_it 0) (counted_now 0))
 
-possible : (fresh : Type 0) (b : Bool) (step : World → World) (w : World) → IsWell fresh w → (b ≡ true → Goes fresh w (step w)) → Goes fresh w (where_possible b step w)
+possible : (fresh : Type 0) (b : Bool) (step : World → World) (w : World) (well : IsWell fresh w) → (b ≡ true → Goes well (step w)) → Goes well (where_possible b step w)
 possible fresh true step w well goes = goes refl
 possible fresh false step w well goes = goes_still fresh w well
 
@@ -362,11 +359,11 @@ pub none_failed : {A : Type 0} (o : Option A) → is_some o ≡ false → o ≡ 
 none_failed None is = refl
 none_failed (Some x) is = absurd cc
 
-unfailed : (fresh : Type 0) (step : World → World) (w : World) → IsWell fresh w → (w.proxy.device.failed ≡ None → Goes fresh w (step w))
-    → Goes fresh w (unless_failed step w)
+unfailed : (fresh : Type 0) (step : World → World) (w : World) (well : IsWell fresh w) → (w.proxy.device.failed ≡ None → Goes well (step w))
+    → Goes well (unless_failed step w)
 unfailed fresh step w well goes = by (has_failed w) refl
   where
-    by : (b : Bool) → has_failed w ≡ b → Goes fresh w (cond b w (step w))
+    by : (b : Bool) → has_failed w ≡ b → Goes well (cond b w (step w))
     by true is = goes_still fresh w well
     by false is = goes (none_failed w.proxy.device.failed is)
 
@@ -382,11 +379,11 @@ module _ (fresh : Type 0) (w : World) (well : IsWell fresh w) where
 
   device_goes_on : (step : DeviceState → DeviceTree DeviceState) → one.Keeping moving (P first_cid) step
       → (w.proxy.device.failed ≡ None → DeviceKeeps (device_with fresh w well) (step w.proxy.device) here)
-      → Goes fresh w (unless_failed (device_step step) w)
+      → Goes well (unless_failed (device_step step) w)
   device_goes_on step counting keeps = unfailed fresh (device_step step) w well (λ going. device_step_goes fresh w well step counting (keeps going))
 
   proxy_goes_on : (step : Turning → DeviceTree Turning) → one.Turns moving (P first_cid) step
-      → DeviceKeeps (Turns kept first_cid) (step (start w.proxy)) here → Goes fresh w (unless_failed (proxy_step step) w)
+      → DeviceKeeps (Turns kept first_cid) (step (start w.proxy)) here → Goes well (unless_failed (proxy_step step) w)
   proxy_goes_on step counting keeps = unfailed fresh (proxy_step step) w well (λ going. proxy_step_goes fresh w well step counting keeps)
 
   pub held_there : (chain : Chain) → is_held chain w.rings.device.held ≡ true → ForSome (Some w.rings.device) (λ l. is_held chain l.held ≡ true)
@@ -395,7 +392,7 @@ module _ (fresh : Type 0) (w : World) (well : IsWell fresh w) where
   -- The moment and the host change.
   outside_goes : (now : ℕ) (host : HostContents)
       → StreamedIf fresh host w.rings.device.entries w.proxy.next_port w.proxy.device.table w.proxy.handshakes
-      → Goes fresh w (at_moment now (record w { host = host }))
+      → Goes well (at_moment now (record w { host = host }))
   outside_goes now host streams = record {
     well = record {
       tied = well.tied;
@@ -412,20 +409,19 @@ module _ (fresh : Type 0) (w : World) (well : IsWell fresh w) where
       marks = well.marks;
       opened = well.opened;
       right = well.right;
-      agrees = well.agrees;
       waiting = well.waiting;
       overrun = well.overrun;
       counted = well.counted;
       cids = well.cids;
-      once = well.once;
       streams = streams;
     };
     runs = stays _ _ refl;
     named = named_still w.driver w.journal;
+    on = λ id some. refl;
   }
 
   host_goes : (host : HostContents)
-      → StreamedIf fresh host w.rings.device.entries w.proxy.next_port w.proxy.device.table w.proxy.handshakes → Goes fresh w (record w { host = host })
+      → StreamedIf fresh host w.rings.device.entries w.proxy.next_port w.proxy.device.table w.proxy.handshakes → Goes well (record w { host = host })
   host_goes host streams = outside_goes w.proxy.device.now host streams
 
   guest_cid_fits : (cid : ℕ) → is_guest_cid cid ≡ true → cid < 2 ^ 64
@@ -433,7 +429,7 @@ module _ (fresh : Type 0) (w : World) (well : IsWell fresh w) where
       let below : nat_le cid GUEST_CID_MAX ≡ true = (and_parts (nat_le GUEST_CID_MIN cid) (nat_le cid GUEST_CID_MAX) is).1 in
       let less : cid ≤ GUEST_CID_MAX = grind (arith, nat_tests, below) in omega (arith, less)
 
-  pub happens_goes : (e : Event) → Goes fresh w (happens e w)
+  pub happens_goes : (e : Event) → Goes well (happens e w)
   happens_goes (GuestCalls call) =
       possible fresh (is_at_rest w.rings.driver.staged && is_right call) (λ v. (call_made call v).0) w well
       (λ may. let parts = and_parts _ _ may in calls_goes fresh w well call parts.1 (tx_at_rest w.rings.driver.staged parts.0))

@@ -1,12 +1,6 @@
--- Ids and their flows: what the driver tells of an id, and how often its guest closed it.
-use Rattle.std.specs.Prelude.{◌≡◌, ℕ, suc, ◌==◌, Bool, false, if◌then◌else◌, [], ◌∷◌, Some}
-use Rattle.vs_flow.specs.declared.flow.Flow.{Flow}
-use Rattle.vs_driver_parts.specs.{Connections.flow_of, State.DriverState}
+-- How often a guest closed an id.
+use Rattle.std.specs.Prelude.{ℕ, suc, ◌==◌, Bool, false, if◌then◌else◌, [], ◌∷◌}
 use Rattle.laws_driver.specs.Carried.Calls.{Close, GuestCall, Journal}
-
--- The id has this flow, and no other id has it.
-abbrev pub HasFlow : ℕ → Flow → DriverState → Type 0
-HasFlow id f s = (flow_of id s ≡ Some f) × ((other : ℕ) → flow_of other s ≡ Some f → other ≡ id)
 
 -- How many calls of a journal close an id.
 abbrev pub is_close : ℕ → GuestCall → Bool

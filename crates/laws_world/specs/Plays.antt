@@ -1,6 +1,6 @@
 -- Whole calls, one line of a script each, and what each answers.
-use Rattle.std.specs.Prelude.{◌≡◌, ℕ, ◌+◌, Bool, true, if◌then◌else◌, List, [], ◌∷◌, length, map, Option, Result}
-use Rattle.vs_flow.specs.declared.flow.Flow.{Flow}
+use Rattle.std.specs.Prelude.{◌≡◌, ℕ, ◌+◌, Bool, true, List, [], ◌∷◌, length, map, Option, Result}
+use Rattle.vs_flow.specs.{Connection.Connection, declared.flow.Flow.Flow}
 use Rattle.vs_outside.specs.{Host.{HostContents, with_stream}, HostBytes.{wrote_after_connect, read_after_ok}, HostProgram.{after_listen, after_unlisten, after_client}}
 use Rattle.vs_outside.specs.{HostProgram.{after_host_write, host_write_answer, has_stream, allowed, ended, closed, after_fail}, declared.mem_stream.HostWritten.HostWritten}
 use Rattle.vs_ring_port.specs.declared.failure.Failure.{Failure}
@@ -8,7 +8,7 @@ use Rattle.vs_driver_parts.specs.{declared.answers.Polled.Polled, Conversations.
 use Rattle.vs_device_parts.specs.declared.answers.Grown.{Grown}
 use Rattle.vs_proxy_parts.specs.{Growing.{after_label_grow, label_at, label_grow_of}, Turns.{turn_of, proxy_reset_of}, declared.answers.Turn.Turn}
 use Rattle.laws_world.specs.{Events.is_guest_cid, World.{World, driver_plays, device_plays}}
-use Rattle.laws_driver.specs.Carried.Calls.{GuestCall, ReplyTo, bytes_sent, flow_named, is_on, is_right, whole_call, with_call}
+use Rattle.laws_driver.specs.Carried.{Calls.{GuestCall, ReplyTo, bytes_sent, id_named, is_right, whole_call, with_call}, Senders.sent_there}
 use Rattle.vs_header.specs.declared.Kind.TheVariants as kind
 
 pub data Line : Type 0 where
@@ -105,11 +105,11 @@ abbrev pub play : List Line → World → List Said × Report
 play [] w = ([], report w)
 play (l ∷ ls) w = let r = line l w in let rest = play ls r.0 in (r.1 ∷ rest.0, rest.1)
 
--- The bytes that a line sends on a flow: those that the answer says.
-abbrev pub sent_by : Flow → Line → World → List ℕ
-sent_by f (Guest call) w =
-    if is_on f (flow_named call w.driver) then bytes_sent call (driver_plays (whole_call call w.driver) w).0.1 else []
-sent_by f _ w = []
+-- The bytes that a line sends on a connection, where ids were given to these: those that the answer says.
+abbrev pub sent_by : (ℕ → Connection) → Connection → Line → World → List ℕ
+sent_by opened c (Guest call) w =
+    sent_there opened c (id_named call w.driver) (bytes_sent call (driver_plays (whole_call call w.driver) w).0.1)
+sent_by opened c _ w = []
 
 -- A line that may be given: a port has 32 bits, and a CID is one that a guest may have.
 abbrev pub is_given_right : Line → Bool

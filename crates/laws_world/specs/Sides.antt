@@ -1,7 +1,7 @@
 -- The two ends of the world as their connections and their logs, and what it is for one to come of another by their small steps.
-use Rattle.std.specs.Prelude.{◌≡◌, ◌≤◌, List, [], ◌∷◌}
-use Rattle.laws_tables.specs.{Ends.{Ends, entries_of}, Heard.own_port, Both.{Asks, Both, Happening, MayRun, Opens, Step, at, happens, run}}
-use Rattle.vs_page.specs.Log.{Log, Role}
+use Rattle.std.specs.Prelude.{◌≡◌, List, []}
+use Rattle.laws_tables.specs.{Ends.{Ends, entries_of}, Both.{Both, Happening, MayRun, run}}
+use Rattle.vs_page.specs.Log.{Log}
 use Rattle.vs_ring_port.specs.EndLog.{EndLog, all_put}
 use Rattle.vs_driver_parts.specs.State.{DriverState}
 use Rattle.vs_proxy_parts.specs.State.{ProxyState}
@@ -36,19 +36,8 @@ both_of w = record {
   device = record { part = device_ends w.proxy; log = w.rings.device.entries };
 }
 
--- A step asks for no flow whose port was given before.
-abbrev pub AsksAnew : Role → Step → Both → Type 0
-AsksAnew role (Opens f kind) b = let part = (at role b).part in part.next_port ≤ own_port role f
-AsksAnew role (Asks f kind) b = let part = (at role b).part in part.next_port ≤ own_port role f
-AsksAnew role _ b = Unit {0}
-
-abbrev pub RunsAnew : List Happening → Both → Type 0
-RunsAnew [] b = Unit {0}
-RunsAnew (x ∷ xs) b = AsksAnew x.role x.step b × RunsAnew xs (happens x.role x.step b)
-
--- Small steps, each where it may happen, lead from one to the other. No flow is used twice.
+-- Small steps, each where it may happen, lead from one to the other.
 pub record Runs (b c : Both) : Type 0 where
   pub steps : List Happening
   pub may : MayRun steps b
-  pub anew : RunsAnew steps b
   pub ends : run steps b ≡ c

@@ -1,6 +1,6 @@
 //! Laws of the world, over every list of events.
 
-ghost use Rattle.vs_flow.specs.{Connection.{Connection, first_of}, declared.flow.Flow.Flow};
+ghost use Rattle.vs_flow.specs.{Connection.Connection, declared.flow.Flow.Flow};
 ghost use Rattle.std.specs.Prelude.{◌≡◌, ℕ, ◌-◌, ◌^◌, ◌≤◌, ◌||◌, min, false, true, List, [], ◌∷◌, length, All, None};
 ghost use Rattle.vs_limits.specs.declared.TheConstants.{BUF_ALLOC_MAX, FIRST_PORT, ASSIGNED_FIRST};
 ghost use Rattle.vs_conn.specs.End.{ConnectionEnd, is_refused, verdict_of};
@@ -12,7 +12,7 @@ ghost use Rattle.vs_page.specs.declared.log.LogEntry.TheVariants.{Mark};
 ghost use Rattle.vs_ring_list.specs.Sound.{IsTied};
 ghost use Rattle.laws_world.specs.{Events.{Event, happens, is_at_rest, is_guest_cid, run}, Pipes.IsFresh, Plays.{guest_line, poll_line, reset_line}, Steps.Leads, Sides.Runs};
 ghost use Rattle.laws_world.specs.{Sides.both_of, World.{World, first_cid, opening}};
-ghost use Rattle.laws_driver.specs.Carried.Calls.{GuestCall, is_right, sent_on};
+ghost use Rattle.laws_driver.specs.Carried.Calls.{GuestCall, is_right};
 ghost use Rattle.laws_device.specs.{Dropped.dropped_in, Streams.is_waiting_for_request};
 
 /// After any list of events what each end got is what the other put first, packets on tx and on rx and ids of events; and what was put and
@@ -31,9 +31,9 @@ pub fn law_of_queues()
         IsPrefixOf (payload_got Device k r.device.entries) (payload_put Driver k r.driver.entries) }
 {}
 
-/// Each event is some of the small steps of two ends of many connections, each where it may happen, and none that asks for a flow whose port
-/// was given: one that puts or takes a packet is among them just where the event does. So what holds over every order of these steps holds
-/// after any list of events. Packets that the driver staged count as put.
+/// Each event is some of the small steps of two ends of many connections, each where it may happen: one that puts or takes a packet is among them
+/// just where the event does. So what holds over every order of these steps holds after any list of events. Packets that the driver staged
+/// count as put.
 pub fn law_of_events()
     ensures each { (n : ℕ) (host : HostContents) (es : List Event) (e : Event) → let w = run es (opening n host) in
         Runs (both_of w) (both_of (happens e w)) }
@@ -54,8 +54,8 @@ pub fn law_of_logs()
 
 /// After any list of events each table holds just the connections that the log of its end left open: of the device's those that have
 /// begun, the others ask for their flow and have not put their REQUEST: where the host had no streams at first, the flows of its open streams
-/// on which the log began no connection. None is from before a transport reset: where the newest entry of a log is one, none has begun (Virtio
-/// 1.2, section 5.10.6.7).
+/// on which the log began fewer connections than there are streams. None is from before a transport reset: where the newest entry of a log is
+/// one, none has begun (Virtio 1.2, section 5.10.6.7).
 pub fn law_of_tables()
     ensures driver { (n : ℕ) (host : HostContents) (es : List Event) (f : Flow) → let b = both_of (run es (opening n host)) in
         is_among f (flows_of b.driver.part.entries) ≡ is_open Driver first_cid f b.driver.log (is_among f (replied b.driver.part.replies)) }
@@ -104,15 +104,6 @@ pub fn law_of_counts()
     ensures dropped { (n : ℕ) (host : HostContents) (es : List Event) → let w = run es (opening n host) in
         w.proxy.device.dropped ≡ min (dropped_in first_cid w.rings.device.entries) (2 ^ 64 - 1) }
     ensures unfailed { (n : ℕ) (host : HostContents) (es : List Event) → (run es (opening n host)).proxy.device.failed ≡ None }
-{}
-
-/// After any list of events the payload that the driver put on a connection is just what its sends took, in order. So the payload that
-/// the device got there is a prefix of that.
-pub fn law_of_sending()
-    ensures put { (n : ℕ) (host : HostContents) (es : List Event) (f : Flow) → let w = run es (opening n host) in
-        payload_put Driver (first_of f) (both_of w).driver.log ≡ sent_on f w.journal }
-    ensures got { (n : ℕ) (host : HostContents) (es : List Event) (f : Flow) → let w = run es (opening n host) in
-        IsPrefixOf (payload_got Device (first_of f) w.rings.device.entries) (sent_on f w.journal) }
 {}
 
 /// Each call of the guest's, whole, is a list of events, with that reply in the journal: a connect and a send take back the pages that the

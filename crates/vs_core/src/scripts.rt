@@ -2,11 +2,11 @@
 
 ghost use Rattle.std.specs.Prelude.{◌≡◌, ℕ, ◌++◌, true, List, None};
 ghost use Rattle.vs_device_parts.specs.{Receiving.{fill_rx_of, pay_event_of}, Streams.{pump_of, tick_of}, Transmitting.take_tx_of};
-ghost use Rattle.vs_flow.specs.declared.flow.Flow.{Flow};
+ghost use Rattle.vs_flow.specs.Connection.{Connection};
 ghost use Rattle.vs_outside.specs.Host.{HostContents};
 ghost use Rattle.laws_world.specs.{Events.is_at_rest, Plays.{AreRight, Line, after, is_given_right, line, play, report, sent_by, turn_line}, Steps.{Leads, device_calls}};
 ghost use Rattle.laws_world.specs.World.{World, opening};
-ghost use Rattle.laws_driver.specs.Carried.Calls.{sent_on};
+ghost use Rattle.laws_driver.specs.Carried.Senders.{sent_to};
 
 /// Each call of the device's that a turn is made of, whole, is a list of events: a tick, taking a transmit packet, the owed event, the
 /// writes to the streams, and the receive packets. A tick and the writes are so while the ring didn't fail; the others do nothing after a
@@ -27,10 +27,11 @@ pub fn law_of_turns()
 {}
 
 /// Each line of a script is a list of events: a call of the guest's, a poll, a turn, a reset, what the host's programs do. Over them the
-/// guest sends just what the answer says. Between two lines no page is staged.
+/// guest sends on each connection just what the answer says. Between two lines no page is staged.
 pub fn law_of_lines()
     ensures events { (l : Line) (w : World) → is_at_rest w.rings.driver.staged ≡ true → is_given_right l ≡ true → Leads w (line l w).0 }
-    ensures sends { (l : Line) (w : World) (f : Flow) → sent_on f (line l w).0.journal ≡ sent_on f w.journal ++ sent_by f l w }
+    ensures sends { (opened : ℕ → Connection) (c : Connection) (l : Line) (w : World)
+        → sent_to opened c (line l w).0.journal ≡ sent_to opened c w.journal ++ sent_by opened c l w }
     ensures rests { (l : Line) (w : World) → is_at_rest w.rings.driver.staged ≡ true → is_at_rest (line l w).0.rings.driver.staged ≡ true }
 {}
 

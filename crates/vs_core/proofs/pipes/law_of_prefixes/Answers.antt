@@ -1,5 +1,8 @@
-use Rattle.laws_world.{specs.Events.run, specs.World.opening, proofs.Carried.carried, proofs.Opening.run_well}
+use Rattle.laws_world.{specs.{Events.run, World.opening}, proofs.{Carried.{carried, read_front}, Opening.run_well}}
 use Rattle.vs_core.proofs.pipes.law_of_prefixes.Goals as goal
 
-pub returns : goal.returns
-returns c = λ n host es f fresh. carried (run es (opening n host)) (run_well n host es) fresh f
+pub returns-clause-to_host : goal.returns-clause-to_host
+returns-clause-to_host c = λ n host es opened k fresh some right. read_front (run es (opening n host)) (run_well n host es) fresh opened right k some
+
+pub returns-clause-ids : goal.returns-clause-ids
+returns-clause-ids c = λ n host es opened id fresh some right. carried (run es (opening n host)) (run_well n host es) fresh opened right id some

@@ -1,17 +1,17 @@
 use Rattle.std.proofs.{Common.{◌≡◌, Some, ap}, lemmas.List.Elements.All-contains}
 use Rattle.vs_proxy_parts.specs.State.{Handshake}
 use Rattle.laws_device.{specs.Carried.Streamed.{Seen, look, reading}, proofs.Carried.Hosts.{none_labelled, there as is_there}}
-use Rattle.laws_world.{specs.{Events.run, World.opening}, proofs.{Carried.{given_is, one_stream, pending_of, wrote_is}, Opening.run_well}}
+use Rattle.laws_world.{specs.{Events.run, World.opening}, proofs.{Carried.{given_is, numbered, pending_of, wrote_is}, Opening.run_well}}
 use Rattle.vs_core.proofs.pipes.law_of_streams.Goals as goal
 
 pub returns-clause-put : goal.returns-clause-put
-returns-clause-put c = λ n host es f fresh. wrote_is (run es (opening n host)) (run_well n host es) fresh f
+returns-clause-put c = λ n host es k fresh some. wrote_is (run es (opening n host)) (run_well n host es) fresh k some
 
 pub returns-clause-given : goal.returns-clause-given
-returns-clause-given c = λ n host es f fresh. given_is (run es (opening n host)) (run_well n host es) fresh f
+returns-clause-given c = λ n host es k fresh some. given_is (run es (opening n host)) (run_well n host es) fresh k some
 
-pub returns-clause-one : goal.returns-clause-one
-returns-clause-one c = λ n host es f i j s t fresh. one_stream (run es (opening n host)) (run_well n host es) fresh f i j s t
+pub returns-clause-numbered : goal.returns-clause-numbered
+returns-clause-numbered c = λ n host es f id s fresh. numbered (run es (opening n host)) (run_well n host es) fresh f id s
 
 pub returns-clause-pending : goal.returns-clause-pending
 returns-clause-pending c = λ n host es e fresh there. pending_of (run es (opening n host)) (run_well n host es) fresh e there

@@ -8,4 +8,4 @@ pub returns-clause-rests : goal.returns-clause-rests
 returns-clause-rests c = λ l w rest. line_rests l w rest
 
 pub returns-clause-sends : goal.returns-clause-sends
-returns-clause-sends c = λ l w f. line_sends l w f
+returns-clause-sends c = λ opened k l w. line_sends opened k l w
