@@ -51,30 +51,6 @@ module _ (b : Both) (ends : BothEnds b) where
         carry (opened id) some (sent_to opened (opened id) journal) (received_by id journal)
         (record { puts = right.sent.puts (opened id); gets = right.received.front id })
 
--- Where neither asked twice on a flow.
-module _ (b : Both) (ends : BothEnds b) (asked : (role : Role) → AskOnce role (at role b)) where
-  -- Each end counts one connection at most: the asker put one REQUEST, and the other got no more.
-  pub once : (role : Role) (f : Flow) → number_of role f (at role b).log ≤ 1
-  once role f = by (side_of role f) refl
-    where
-      by : (side : Side) → side_of role f ≡ side → (let w = whole_of role f (at role b).log in asked_by (side_of role f) (puts w) (gots w)) ≤ 1
-      by Asker is =
-          subst (λ (side : Side). (let w = whole_of role f (at role b).log in asked_by side (puts w) (gots w)) ≤ 1) (sym is) (asked role f is).few
-      by Answerer is =
-          let few = (asked (other_role role) f (opposite_by role (is_assigned f.host) ∙ ap peer is)).few in
-          let rest = ends.got role in
-          let tie = got_on role f (at role b).log (at (other_role role) b).log rest.0 rest.1 in
-          let all = count_append is_request (on_flow (flow_got role) f rest.0) (gots (whole_of role f (at role b).log)) in
-          subst (λ (side : Side). (let w = whole_of role f (at role b).log in asked_by side (puts w) (gots w)) ≤ 1) (sym is)
-          (omega (arith, few, ap (count is_request) tie, all))
-
-  -- A connection that has passed is the first of its flow.
-  pub first_is : (role : Role) (c : Connection) → 1 ≤ c.number → c.number ≤ number_of role c.flow (at role b).log → c ≡ first_of c.flow
-  first_is role c some past =
-      let most = once role c.flow in
-      let one : c.number ≡ 1 = omega (arith, some, past, most) in
-      ap (λ (n : ℕ). let d : Connection = record { flow = c.flow; number = n } in d) one
-
 -- Over any rings and any host.
 pub carry_told : (first : ℕ) (d : DriverState) (c : RingContents) (p : ProxyState) (a : Situation) (l m : EndLog) (h : HostContents) (first_id : ℕ)
     (opened : ℕ → Connection) (journal : Journal) (id : ℕ) → AreTold first d c p a l m h → IsRightWith first_id opened journal d c

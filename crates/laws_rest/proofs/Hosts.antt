@@ -89,21 +89,3 @@ module _ (c : HostContents) (log : Log) (port : ℕ) (t : Table DeviceConnection
 
     pub read_own : read_after_ok s ≡ host_read k c
     read_own = ap (λ (o : Option Stream). option_map_or read_after_ok o []) (sym (stream_is c id s k some at label))
-
--- Where no flow is used twice, a stream with a label is its flow's first connection.
-module _ (c : HostContents) (log : Log) (port : ℕ) (t : Table DeviceConnection) (hands : List Handshake) (x : IsStreamed c log port t hands)
-    (once : (f : Flow) → number_of Device f log ≤ 1) where
-  few_streams : (f : Flow) → count_in c f ≤ 1
-  few_streams f = by (is_assigned f.host) (x.streams.counted f)
-    where
-      by : (b : Bool) → IsCounted b (count_in c f) (number_of Device f log) (has is_clean_rst (puts (history_of Device f log))) → count_in c f ≤ 1
-      by true counted = counted.0
-      by false counted = let most = once f in let less = counted.0 in omega (arith, most, less)
-
-  pub first_label : (f : Flow) (id : ℕ) (s : Stream) → stream_at id c ≡ Some s → s.label ≡ Some f → (seen c id s).label ≡ Some (first_of f)
-  first_label f id s at label =
-      let here = label_here c id s f label in
-      let l = x.streams.labels id (seen c id s) (connection_in c id f) (ap (option_map (seen c id)) at) here in
-      let few = few_streams f in
-      let one : (connection_in c id f).number ≡ 1 = omega (arith, l.some, l.most, few) in
-      here ∙ ap (λ (n : ℕ). let d : Connection = record { flow = f; number = n } in Some d) one

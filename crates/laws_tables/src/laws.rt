@@ -9,7 +9,7 @@ ghost use Rattle.vs_credit.specs.Credit.{unread_of};
 ghost use Rattle.vs_flow.specs.{Flow.same_flow, declared.{flow.Flow.Flow, table.Entry.Entry}, Table.{IsTable, Table, entry_of, with_entry, with_value, without}};
 ghost use Rattle.vs_limits.specs.declared.TheConstants.{ASSIGNED_FIRST, FIRST_PORT, HOST_CID, BUF_ALLOC_MAX};
 ghost use Rattle.laws_history.specs.{Again.IsClean, History.{Asker, Got, Put, gots, puts}, Packets.{is_clean_rst, is_request, is_rst}, declared.packet.Packet.Packet};
-ghost use Rattle.laws_tables.specs.{Asked.{AskOnce, Does}, Matches.{IsAsking, Matches}, Quiet.IsQuietOn, Both.{Both, Happening, IsSound, MayRun, MayStep, MayStepAll, Seat, Step}};
+ghost use Rattle.laws_tables.specs.{Matches.{IsAsking, Matches}, Quiet.IsQuietOn, Both.{Both, Happening, IsSound, MayRun, MayStep, MayStepAll, Seat, Step}};
 ghost use Rattle.laws_tables.specs.{Both.{after, after_all, after_packet, at, new_seat, run, start}, Examples.{guest_mark, log_of_early, log_of_mark, no_ends, spoiled, after_two}};
 ghost use Rattle.laws_tables.specs.Examples.{asking_end, closing, guest_cid, guest_flow, heard_on, host_end, assigned_flow, kept_falsely, live_end, log_of_false_mark};
 ghost use Rattle.laws_tables.specs.Examples.{log_of_return, log_of_two, log_over_reset, log_with_drop, lost_response, new_cid, opening, payload_after, resetting, unput};
@@ -303,13 +303,6 @@ pub fn law_of_kept_flows()
     ensures clean { (first guest_port host_port : ℕ) (xs : List Happening) (role : Role) (f : Flow)
         → MayRun xs (start first guest_port host_port) → let b = run xs (start first guest_port host_port) in
         is_among f (at role b).part.clean ≡ true → phase_of role first f (at role b).log ≡ Clean }
-{}
-
-/// An end whose ports rise asks once on each flow: nothing was asked at first, and each step keeps it that asks for no flow whose port was
-/// given before (Virtio 1.2, section 5.10.6.5).
-pub fn law_of_asking()
-    ensures begins { (role : Role) (first port : ℕ) → AskOnce role (new_seat first port) }
-    ensures step { (role : Role) (step : Step) (w : Seat) → Does role step w → AskOnce role w → AskOnce role (after role step w) }
 {}
 
 /// A connection of the guest's may open and stand in both tables, and after a transport reset it stands in neither, and nothing is owed.
