@@ -107,7 +107,7 @@ module _ (script : RunScript) (driver : DriverState) (end : Sight) (apps : List 
       (settled.paired Driver x.flow x.value.end fit.peer (one_end driver_end driver.table x fits.sound within)).2.here.live
 
   -- Both tables.
-  pub device_fits : IsTable p.device.table
+  device_fits : IsTable p.device.table
   device_fits = ((steady.order.ring.1.1 (device_log e) refl).1 refl).fits.sound
 
   found_there : (x : DeviceEntry) → Contains p.device.table.entries x → entry_under p.device.table x.slot ≡ Some x
@@ -233,7 +233,7 @@ module _ (script : RunScript) (driver : DriverState) (end : Sight) (apps : List 
     present_there : (x : DriverEntry) → Contains driver.table.entries x → opened x.value.id ≡ current Device x.flow e.sight.log
     present_there x within = (on_id x within).present ∙ same_current driver end p e settled x.flow
 
-    pub is_its : (id : ℕ) (x : DriverEntry) (within : Contains driver.table.entries x) → x.value.id ≡ id
+    is_its : (id : ℕ) (x : DriverEntry) (within : Contains driver.table.entries x) → x.value.id ≡ id
         → opened id ≡ connection_of (at_device x within).entry e.sight.log
     is_its id x within named =
         let at = at_device x within in
