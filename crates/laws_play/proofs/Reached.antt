@@ -1,7 +1,7 @@
 -- What holds of a world in which nothing is staged, where it is well.
-use Rattle.laws_world.proofs.{Carried.{given_is, numbered, pending_of, read_front, received_front, to_device, to_driver, wrote_is}, Sound.IsWell, Waiting.at_device}
-use Rattle.laws_world.{proofs.Waiting.streams_among, specs.{Sides.{device_ends, driver_ends, log_with_staged}, Events.{is_at_rest, none_staged}, Pipes.IsRightIn, World.World}}
-use Rattle.laws_world.specs.World.{first_cid}
+use Rattle.laws_world.proofs.{Carried.{given_is, numbered, pending_of, read_front, received_front, to_device, to_driver, wrote_is}, Names.flow_opened, Sound.IsWell}
+use Rattle.laws_world.{proofs.Waiting.{at_device, streams_among}, specs.{Sides.{device_ends, driver_ends, log_with_staged}, Events.{is_at_rest, none_staged}, Pipes.IsRightIn}}
+use Rattle.laws_world.specs.World.{World, first_cid}
 use Rattle.vs_flow.specs.{Connection.Connection, declared.flow.Flow.Flow}
 use Rattle.std.proofs.Common.{[], ap, Bool, false, get_or, length, List, not, refl, subst, suc, sym, true, Option, ℕ, ◌≤◌, ◌&&◌, ◌||◌, ◌++◌, ◌∷◌, ◌≡◌, ◌≢◌, ◌∙◌, arith}
 use Rattle.std.{proofs.lemmas.{List.{Elements.{All-map, Contains-get_or}, length-map, Kept.AllPairs-cons}, Bool.and_parts}, specs.{List.AllPairs, Option.option_map_or}}
@@ -10,7 +10,7 @@ use Rattle.laws_tables.{specs.{Ends.{FlowEnd, flows_of, is_among, replied}, Matc
 use Rattle.vs_page.specs.{Fair.{IsFairLog, IsPrefixOf, current, payload_got, payload_put}, Log.{Device, Driver, HasGotAll, Log, Role, side_of}, Open.{WasOpened, is_left_open}}
 use Rattle.vs_page.{specs.Open.is_open, proofs.Opened.was_opened}
 use Rattle.vs_outside.{specs.{Host.Stream, HostBytes.{host_wrote, read_after_ok, wrote_after_connect}}, proofs.Connections.{its_stream, one_id}}
-use Rattle.laws_driver.{specs.{Honest.slots_of, Resets.MarksResets, Carried.{Calls.received_by, Senders.{IsRightJournal, IsSent}}}, proofs.Carried.Senders.still_sent}
+use Rattle.laws_driver.{specs.{Honest.slots_of, Resets.MarksResets, Carried.{Calls.{account_of, received_by}, Senders.{IsRightJournal, IsSent}}}, proofs.Carried.Senders.still_sent}
 use Rattle.laws_play.specs.Headline.{Carries, HasOwnStreams, HoldsOpen, HoldsTheRest, IsQueued, KeepsCredit, KeepsIds, PutsWithinCredit, device_flows, device_log, device_replies}
 use Rattle.laws_play.specs.Headline.{driver_log, guest_flows}
 use Rattle.laws_device.specs.Streams.{is_waiting_for_request}
@@ -92,6 +92,9 @@ module _ {fresh : Type 0} (w : World) (well : IsWell fresh w) (yes : fresh) (res
   -- And by ids that got their connections later.
   pub keeps_ids : (opened : ℕ → Connection) → ((id : ℕ) → 1 ≤ (well.opened id).number → opened id ≡ well.opened id) → KeepsIds opened w
   keeps_ids opened on = record {
+    flows = λ id f is.
+        let own = flow_opened (account_of 1 well.opened w.journal) (log_with_staged w.rings.driver) w.driver well.right.received id f is in
+        let same = on id own.1 in (ap (λ (k : Connection). k.flow) same ∙ own.0, subst (λ (k : Connection). 1 ≤ k.number) (sym same) own.1);
     present = λ i d less. let e = get_or w.driver.table.entries i d in let held = well.right.received.held i d less in
         at_rest (λ log. opened e.value.id ≡ current Driver e.flow log)
         (on e.value.id (subst (λ (k : Connection). 1 ≤ k.number) (sym held.present) held.some) ∙ held.present);

@@ -89,9 +89,10 @@ pub record IsAsPrinted (opened : ℕ → Connection) (n : ℕ) (lines : List Eve
       → let p = world_after before (opened_play n) in
       (event_played (script.Recv id len) p).1 ≡ recv_text (recv_answer id len p) (recv_bytes id len p)
 
--- After these lines the connection of an id in the driver's table is the present one of its flow, and what was sent so far is what the driver
--- put.
+-- After these lines the flow that the driver tells of an id is that of its connection, which is the flow's present one where it stands in the
+-- table; and what was sent so far is what the driver put.
 pub record KeepsIds (opened : ℕ → Connection) (w : World) : Type 0 where
+  pub flows : (id : ℕ) (f : Flow) → flow_of id w.driver ≡ Some f → ((opened id).flow ≡ f) × (1 ≤ (opened id).number)
   pub present : All (λ e. opened e.value.id ≡ current Driver e.flow (driver_log w)) w.driver.table.entries
   pub sent : IsSent opened w.journal (driver_log w)
 

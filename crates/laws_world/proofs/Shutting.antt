@@ -9,9 +9,9 @@ use Rattle.vs_limits.specs.declared.TheConstants.{BUF_ALLOC}
 use Rattle.laws_history.specs.{Again.count, History.{Answerer, Asker, Got, History, Put, Side, gots, puts}, Packets.{is_request, is_rst}, declared.packet.Packet.Packet}
 use Rattle.vs_page.specs.{Fair.{IsFairLog, asked_by, current, number_of, payload_put}, Log.{Device, Driver, Log, Role, flow_got, flow_put, side_of, whole_of}, Open.is_dropped}
 use Rattle.vs_page.{specs.declared.log.LogEntry.{LogEntry, TheVariants.{GotPacket, PutPacket}}, proofs.Flows.same_is}
-use Rattle.laws_tables.specs.{Asked.has_one, Both.{Asks, Both, Decides, Decision, Happening, IsSound, MakesReset, MayHappen, MayRun, MayStep, Opens, Pays, Replies, Seat, Sends}}
-use Rattle.laws_tables.specs.{Both.{Shuts, Step, Takes, TakesEvent, TakesReset, after, after_packet, answered, at, decided, happens, log_after, part_after, run}, Drains.is_same}
-use Rattle.laws_tables.specs.{Drains.only_on, Ends.{answer_kind, ends_of, is_new, replaced}, Later.may_send_more, Matches.Matches, Steps.{HasEnd, is_kept, left, owed_on}}
+use Rattle.laws_tables.specs.{Asked.has_one, Both.{Asks, Both, Decides, Decision, Happening, IsSound, MakesReset, MayHappen, MayRun, Opens, Pays, Replies, Seat, Sends}}
+use Rattle.laws_tables.specs.{Both.{Shuts, Step, Takes, TakesReset, after, after_packet, answered, at, decided, happens, log_after, part_after, run}, Drains.is_same}
+use Rattle.laws_tables.specs.{Drains.only_on, Ends.{answer_kind, ends_of, is_new, replaced}, Later.may_send_more, Matches.MatchesFlows, Steps.{HasEnd, is_kept, left, owed_on}}
 use Rattle.laws_tables.{specs.Steps.{payload_on, reply_on, request_on, with_clean, with_end}, proofs.{Adding.{put_adds, put_nothing, put_over_got}, Both.step_keeps}}
 use Rattle.laws_tables.proofs.{Fair.got_in_order, Entries.replaced_other, Later.step_adds, News.{MakesNone, changes, comes, leaves}, Steps.{can_old, order_old, owed_flow}}
 use Rattle.laws_tables.proofs.{Steps.{payload_flow, pays_new, request_flow}, Tables.{end_new, only_end}}
@@ -87,18 +87,13 @@ got_asks : (role : Role) (f : Flow) (p : Packet) (log : Log) → same_flow f (fl
 got_asks role f p log same own asks =
     got_by (side_of role f) p (whole_of role f log) (same_flow f (flow_got role p)) same (ap (side_of role) (same_is f (flow_got role p) same) ∙ own) asks
 
--- What a step says of its own seat.
-abbrev MayHere : Role → Step → Seat → Type 0
-MayHere role (Takes p answer) w = Unit {0}
-MayHere role (TakesEvent id) w = Unit {0}
-MayHere role step w = MayStep role step w
+module _ (role : Role) (first : ℕ) (b : Both) (s : IsSound first b) where
+  abbrev w : Seat
+  w = at role b
 
-may_here : (role : Role) (step : Step) (b : Both) → MayHappen role step b → MayHere role step (at role b)
-may_here role (Takes p answer) b may = tt
-may_here role (TakesEvent id) b may = tt
-may_here role step b may = may
+  abbrev m : MatchesFlows role first w.part w.log
+  m = (s.matches role).flows
 
-module _ (role : Role) (first : ℕ) (w : Seat) (m : Matches role first w.part w.log) (was : IsFairLog role w.log) where
   module _ (f : Flow) where
     -- An end that comes, where no connection of the flow began.
     elsewhere : (g : Flow) (b : Bool) → (same_flow f g ≡ true → ⊥) → (same_flow f g && b) ≡ false
@@ -114,7 +109,7 @@ module _ (role : Role) (first : ℕ) (w : Seat) (m : Matches role first w.part w
       on_other : (b : Bool) → same_flow f g ≡ b → is_new e ≡ true → MakesNone may_put f w.part.entries (replaced g (paid_of e what) w.part.entries)
       on_other false other new = λ is. sym (ap (has_one may_put) (replaced_other g f (paid_of e what) w.part.entries other)) ∙ is
       on_other true is new =
-          let asking = (end_new role first w.part w.log g e m.flows has new).asking in
+          let asking = (end_new role first w.part w.log g e m has new).asking in
           let request = pays_new (side_of role g) e what asking owes in
           let more = put_asks role f g (owed_on role w.part.cid g e what) w.log (owed_flow role w.part.cid g e what) is asking.asker
           (ap (λ (x : Owed). is_request (owed_on role w.part.cid g e x)) request) in
@@ -146,8 +141,8 @@ module _ (role : Role) (first : ℕ) (w : Seat) (m : Matches role first w.part w
       known true true e more has = leaves may_put f g w.part.entries
       known true false e more has = leaves may_put f g w.part.entries
       known false k e more has =
-          let one : HasEnd g e w.part = has ∙ ap (λ (es : List ConnectionEnd). e ∷ es) (only_end role first w.part w.log g e more m.flows has) in
-          let old = order_old role first p e w.part w.log m.flows one (got_in_order role first p w.log (fair g)) (is_new e) refl in
+          let one : HasEnd g e w.part = has ∙ ap (λ (es : List ConnectionEnd). e ∷ es) (only_end role first w.part w.log g e more m has) in
+          let old = order_old role first p e w.part w.log m one (got_in_order role first p w.log (fair g)) (is_new e) refl in
           changes may_put f g e (end_after e p.header) more w.part.entries has
           (keeps e (end_after e p.header) old (λ shut. ap (λ o. not o.send) (got_own e p.header) ∙ shut))
 
@@ -160,13 +155,14 @@ module _ (role : Role) (first : ℕ) (w : Seat) (m : Matches role first w.part w
       takes false = heard_by (ends_of g w.part.entries) refl
 
     -- Where no connection of the flow begins, no end of it comes to be one that may put.
-    makes : (step : Step) → MayHere role step w → IsFairLog role (after role step w).log → number_of role f (after role step w).log ≡ number_of role f w.log
+    makes : (step : Step) → MayHappen role step b → IsFairLog role (after role step w).log → number_of role f (after role step w).log ≡ number_of role f w.log
         → MakesNone may_put f w.part.entries (part_after role step w.part).entries
     makes (Opens g kind) may fair same = comes may_put f g (paid_of (asked kind BUF_ALLOC) owed.Request) w.part.entries (elsewhere g _ (λ is.
         let more = put_asks role f g (request_on role w.part.cid g kind) w.log (request_flow role w.part.cid g kind) is may.asker refl in omega (arith, more, same)))
     makes (Asks g kind) may fair same = comes may_put f g (asked kind BUF_ALLOC) w.part.entries (second_none (same_flow f g) _ refl)
     makes (Sends g e payload) may fair same =
-        changes may_put f g e (with_payload_sent e (length payload)) [] w.part.entries may.0 (keeps e (with_payload_sent e (length payload)) (can_old e (length payload) may.1) (λ shut. shut))
+        let now = with_payload_sent e (length payload) in
+        changes may_put f g e now [] w.part.entries may.0 (keeps e now (can_old e (length payload) may.1) (λ shut. shut))
     makes (Pays g e owed.Rst) may fair same = leaves may_put f g w.part.entries
     makes (Pays g e what) may fair same = pays g e what may.0 may.1 same (is_new e) refl
     makes (Decides g e what) may fair same = changes may_put f g e (decided e what) [] w.part.entries may.0 (keeps e (decided e what) may.1 (decided_shut e what))
@@ -188,11 +184,11 @@ module _ (role : Role) (first : ℕ) (w : Seat) (m : Matches role first w.part w
         absurd (cannot e (length payload) (sym (ap (has_one may_put) (ap (λ (h : Flow). ends_of h w.part.entries) flow ∙ has))
         ∙ x.shut (number ∙ ap (λ (h : Flow). number_of role h w.log) (sym flow))) can)
 
-    puts_none : (step : Step) → MayHere role step w → IsFairLog role (after role step w).log → payload_put role c (after role step w).log ≡ payload_put role c w.log
+    puts_none : (step : Step) → MayHappen role step b → IsFairLog role (after role step w).log → payload_put role c (after role step w).log ≡ payload_put role c w.log
     puts_none (Opens g kind) may fair = sym (put_nothing role (request_on role w.part.cid g kind) w.log refl c)
     puts_none (Sends g e payload) may fair =
         let p : Packet = payload_on role w.part.cid g e payload in
-        put_adds role p w.log refl was fair c
+        put_adds role p w.log refl (s.fair role) fair c
         ∙ ap (λ (h : Flow). payload_put role c w.log ++ only_on (current role h w.log) payload c) (payload_flow role w.part.cid g e payload)
         ∙ ap (λ (bytes : List ℕ). payload_put role c w.log ++ bytes)
         (sends_none g e payload may.0 may.1 (is_same c (current role g w.log)) refl) ∙ append-nil (payload_put role c w.log)
@@ -201,7 +197,7 @@ module _ (role : Role) (first : ℕ) (w : Seat) (m : Matches role first w.part w
     puts_none (Takes p answer) may fair = put_over_got role p w.log c
     puts_none step may fair = refl
 
-    step_past : (step : Step) → MayHere role step w → IsFairLog role (after role step w).log
+    step_past : (step : Step) → MayHappen role step b → IsFairLog role (after role step w).log
         → IsPast role c (after role step w) × (payload_put role c (after role step w).log ≡ payload_put role c w.log)
     step_past step may fair = (
       record {
@@ -227,10 +223,8 @@ module _ (first : ℕ) (c : Connection) where
 
   happens_past : (role other : Role) (step : Step) (b : Both) → IsSound first b → MayHappen other step b → IsPast role c (at role b)
       → StillPast role b (happens other step b)
-  happens_past Driver Driver step b s may x = step_past Driver first b.driver (s.matches Driver) (s.fair Driver) c x step (may_here Driver step b may)
-      ((step_keeps Driver first step b s may).fair Driver)
-  happens_past Device Device step b s may x = step_past Device first b.device (s.matches Device) (s.fair Device) c x step (may_here Device step b may)
-      ((step_keeps Device first step b s may).fair Device)
+  happens_past Driver Driver step b s may x = step_past Driver first b s c x step may ((step_keeps Driver first step b s may).fair Driver)
+  happens_past Device Device step b s may x = step_past Device first b s c x step may ((step_keeps Device first step b s may).fair Device)
   happens_past Driver Device step b s may x = (x, refl)
   happens_past Device Driver step b s may x = (x, refl)
 
