@@ -1,19 +1,17 @@
 -- What holds of a world in which nothing is staged, where it is well.
-use Rattle.laws_world.proofs.Carried.{its_first, carried, given_is, gone_of, one_stream, pending_of, received_is, sent_is, to_device, to_driver, unread_of, wrote_is}
-use Rattle.laws_world.{proofs.{Sound.IsWell, Waiting.{at_device, streams_among}}, specs.{Sides.{device_ends, driver_ends, log_with_staged}, Events.{is_at_rest, none_staged}}}
-use Rattle.laws_world.specs.World.{World, first_cid}
-use Rattle.vs_flow.specs.{Connection.first_of, declared.flow.Flow.Flow}
-use Rattle.std.proofs.Common.{[], ap, Bool, false, get_or, length, List, not, refl, subst, suc, sym, true, ℕ, ◌&&◌, ◌||◌, ◌++◌, ◌∷◌, ◌≡◌, ◌≢◌, ◌∙◌, arith}
-use Rattle.std.{proofs.lemmas.{List.{Elements.{All-map, Contains-get_or}, length-map, Kept.AllPairs-cons}, Bool.and_parts}, specs.List.AllPairs}
+use Rattle.laws_world.proofs.{Carried.{given_is, numbered, pending_of, read_front, received_front, to_device, to_driver, wrote_is}, Sound.IsWell, Waiting.{at_device, streams_among}}
+use Rattle.laws_world.specs.{Sides.{device_ends, driver_ends, log_with_staged}, Events.{is_at_rest, none_staged}, Pipes.IsRightIn, World.{World, first_cid}}
+use Rattle.vs_flow.specs.{Connection.Connection, declared.flow.Flow.Flow}
+use Rattle.std.proofs.Common.{[], ap, Bool, false, get_or, length, List, not, refl, subst, suc, sym, true, Option, ℕ, ◌≤◌, ◌&&◌, ◌||◌, ◌++◌, ◌∷◌, ◌≡◌, ◌≢◌, ◌∙◌, arith}
+use Rattle.std.{proofs.lemmas.{List.{Elements.{All-map, Contains-get_or}, length-map, Kept.AllPairs-cons}, Bool.and_parts}, specs.{List.AllPairs, Option.option_map_or}}
 use Rattle.laws_history.specs.{History.{History, IsFair, MayPut, Put, Side, gots, puts}, declared.packet.Packet.Packet}
-use Rattle.laws_tables.{specs.{Ends.{FlowEnd, flows_of, is_among, replied}, Matches.{Matches, MatchesFlows}, Drains.{Drains, receives}}, proofs.{Fair.fair_now, Tables.driver_open}}
-use Rattle.laws_tables.proofs.Tables.{table_distinct}
-use Rattle.vs_page.specs.{Fair.{IsFairLog, IsPrefixOf, payload_got, payload_put}, Log.{Device, Driver, HasGotAll, Log, Role, side_of}, Open.{WasOpened, is_left_open, is_open}}
+use Rattle.laws_tables.{specs.{Ends.{FlowEnd, flows_of, is_among, replied}, Matches.{Matches, MatchesFlows}}, proofs.{Fair.fair_now, Tables.{driver_open, table_distinct}}}
+use Rattle.vs_page.specs.{Fair.{IsFairLog, IsPrefixOf, current, payload_got, payload_put}, Log.{Device, Driver, HasGotAll, Log, Role, side_of}, Open.{WasOpened, is_left_open, is_open}}
 use Rattle.vs_page.proofs.Opened.{was_opened}
-use Rattle.laws_rest.proofs.Hosts.{read_own, wrote_own}
-use Rattle.laws_driver.specs.{Resets.MarksResets, Carried.Calls.{received_on, sent_on}}
-use Rattle.laws_play.specs.Headline.{Carries, HasOwnStreams, HoldsOpen, HoldsTheRest, IsQueued, KeepsCredit, PutsWithinCredit, device_flows, device_log, device_replies, driver_log}
-use Rattle.laws_play.specs.Headline.{guest_flows}
+use Rattle.vs_outside.{specs.{Host.Stream, HostBytes.{host_wrote, read_after_ok, wrote_after_connect}}, proofs.Connections.{its_stream, one_id}}
+use Rattle.laws_driver.{specs.{Honest.slots_of, Resets.MarksResets, Carried.{Calls.received_by, Senders.{IsRightJournal, IsSent}}}, proofs.Carried.Senders.still_sent}
+use Rattle.laws_play.specs.Headline.{Carries, HasOwnStreams, HoldsOpen, HoldsTheRest, IsQueued, KeepsCredit, KeepsIds, PutsWithinCredit, device_flows, device_log, device_replies}
+use Rattle.laws_play.specs.Headline.{driver_log, guest_flows}
 use Rattle.laws_device.specs.Streams.{is_waiting_for_request}
 use Rattle.vs_ring_port.specs.EndLog.{all_put as with_pages}
 
@@ -74,34 +72,41 @@ module _ {fresh : Type 0} (w : World) (well : IsWell fresh w) (yes : fresh) (res
   at_rest : (P : Log → Type 0) → P (log_with_staged w.rings.driver) → P (driver_log w)
   at_rest P of_staged = subst P log_is of_staged
 
-  pub carries : (f : Flow) → Carries w f
-  carries f = record {
-    to_guest = (carried w well yes f).to_guest;
-    to_host = (carried w well yes f).to_host;
-    device_put = wrote_is w well yes f;
-    driver_got = at_rest (λ log. IsPrefixOf (payload_got Driver (first_of f) log) (payload_put Device (first_of f) (device_log w))) (to_driver w well f);
-    received = at_rest (λ log. IsPrefixOf (received_on f w.journal) (payload_got Driver (first_of f) log)) (received_is w well f);
-    driver_put = at_rest (λ log. payload_put Driver (first_of f) log ≡ sent_on f w.journal) (sent_is w well f);
-    device_got = at_rest (λ log. IsPrefixOf (payload_got Device (first_of f) (device_log w)) (payload_put Driver (first_of f) log)) (to_device w well f);
-    given = given_is w well yes f;
+  -- By a journal that is right.
+  module _ (opened : ℕ → Connection) (right : IsRightIn opened w) where
+    pub rightly : IsRightJournal 1 opened w.journal (driver_log w) (slots_of w.driver)
+    rightly = at_rest (λ log. IsRightJournal 1 opened w.journal log (slots_of w.driver)) right
+
+    pub carries : (c : Connection) → 1 ≤ c.number → Carries opened w c
+    carries c some = record {
+      to_guest = λ id is. subst (λ (k : Connection). IsPrefixOf (received_by id w.journal) (host_wrote k w.host)) is
+          (received_front w well yes opened right id (subst (λ (k : Connection). 1 ≤ k.number) (sym is) some));
+      to_host = read_front w well yes opened right c some;
+      device_put = wrote_is w well yes c some;
+      driver_got = at_rest (λ log. IsPrefixOf (payload_got Driver c log) (payload_put Device c (device_log w))) (to_driver w well c);
+      device_got = at_rest (λ log. IsPrefixOf (payload_got Device c (device_log w)) (payload_put Driver c log)) (to_device w well c);
+      given = given_is w well yes c some;
+    }
+
+  -- And by ids that got their connections later.
+  pub keeps_ids : (opened : ℕ → Connection) → ((id : ℕ) → 1 ≤ (well.opened id).number → opened id ≡ well.opened id) → KeepsIds opened w
+  keeps_ids opened on = record {
+    present = λ i d less. let e = get_or w.driver.table.entries i d in let held = well.right.received.held i d less in
+        at_rest (λ log. opened e.value.id ≡ current Driver e.flow log)
+        (on e.value.id (subst (λ (k : Connection). 1 ≤ k.number) (sym held.present) held.some) ∙ held.present);
+    sent = at_rest (λ log. IsSent opened w.journal log)
+        (still_sent well.opened opened on w.journal (log_with_staged w.rings.driver) (log_with_staged w.rings.driver) (λ k. refl) well.right.sent);
   }
 
   pub holds_rest : HoldsTheRest w
-  holds_rest = record {
-    unread = λ i d less. let e = get_or w.driver.table.entries i d in
-        at_rest (λ log. Drains (receives e.value.end) (received_on e.flow w.journal) e.value.unread (payload_got Driver (first_of e.flow) log))
-        (unread_of w well e (Contains-get_or w.driver.table.entries i d less));
-    gone = λ i d less. let g = get_or w.driver.gone i d in
-        at_rest (λ log. IsPrefixOf (received_on g.flow w.journal ++ g.unread) (payload_got Driver (first_of g.flow) log))
-        (gone_of w well g (Contains-get_or w.driver.gone i d less));
-    pending = λ i d less. pending_of w well yes _ (Contains-get_or w.proxy.device.table.entries i d less);
-  }
+  holds_rest = λ i d less. pending_of w well yes _ (Contains-get_or w.proxy.device.table.entries i d less)
 
   pub own_streams : HasOwnStreams w
   own_streams = record {
-    one = one_stream w well yes;
-    wrote = λ f i s at label. wrote_own w.host _ _ _ _ (well.streams yes) (first_of f) (omega arith) i s at (its_first w well yes f i s at label);
-    read = λ f i s at label. read_own w.host _ _ _ _ (well.streams yes) (first_of f) (omega arith) i s at (its_first w well yes f i s at label);
+    numbered = numbered w well yes;
+    one = λ i j c. one_id i j c w.host;
+    wrote = λ i s c at is. ap (λ (o : Option Stream). option_map_or wrote_after_connect o []) (sym (its_stream i c w.host is ∙ at));
+    read = λ i s c at is. ap (λ (o : Option Stream). option_map_or read_after_ok o []) (sym (its_stream i c w.host is ∙ at));
   }
 
   -- The tables.
