@@ -43,7 +43,20 @@ first_cid = FIRST_CID
 abbrev pub opened_host : List ℕ → HostContents
 opened_host base = (new_host base [] plain).contents
 
--- How a world begins: with so many pages of each queue, and the guest's first port.
+-- The world in which nothing has happened yet: a driver and a proxy just made over empty rings of n pages each, where this is the guest's
+-- first port.
+abbrev pub opened : ℕ → ℕ → HostContents → World
+opened n first host =
+    let made = played driver_answer (new_of n first 1) ((empty_ends n).lists, (empty_ends n).driver) in
+    record {
+      driver = made.0;
+      proxy = new_proxy first_cid host.base;
+      rings = record (empty_ends n) { lists = made.1.0; driver = made.1.1 };
+      host = host;
+      journal = [];
+    }
+
+-- How a world begins: with so many pages of each queue, and the guest's first port, none above its last one.
 pub record Beginning : Type 0 where
   pub pages : ℕ
   pub first : ℕ
@@ -53,14 +66,5 @@ pub record Beginning : Type 0 where
 abbrev pub from_lowest : ℕ → Beginning
 from_lowest n = record { pages = n; first = FIRST_PORT; within = refl }
 
--- The world in which nothing has happened yet: a driver and a proxy just made over empty rings.
 abbrev pub opening : Beginning → HostContents → World
-opening b host =
-    let made = played driver_answer (new_of b.pages b.first 1) ((empty_ends b.pages).lists, (empty_ends b.pages).driver) in
-    record {
-      driver = made.0;
-      proxy = new_proxy first_cid host.base;
-      rings = record (empty_ends b.pages) { lists = made.1.0; driver = made.1.1 };
-      host = host;
-      journal = [];
-    }
+opening how host = opened how.pages how.first host
