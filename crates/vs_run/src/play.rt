@@ -41,7 +41,14 @@ pub fn play_script<S: Source, K: Sink>(
 }
 
 // Plays the script that bytes spell.
-fn play_bytes<K: Sink>(alloc: Global, rings: Rings, queue: u16, first: u32, bytes: &[u8], out: &mut K) -> u8
+fn play_bytes<K: Sink>(
+    alloc: Global,
+    rings: Rings,
+    queue: u16,
+    first: u32,
+    bytes: &[u8],
+    out: &mut K,
+) -> u8
     requires queue { IsQueueSize queue }
     requires first { IsFirst first }
     ensures { EndsParsed (λ said. (answer_to queue first said).lines) (λ said. (answer_to queue first said).status)
@@ -55,7 +62,14 @@ fn play_bytes<K: Sink>(alloc: Global, rings: Rings, queue: u16, first: u32, byte
 }
 
 // Plays a script. One of another command has no lines.
-fn play_parsed<K: Sink>(alloc: Global, rings: Rings, queue: u16, first: u32, script: &Script, out: &mut K) -> u8
+fn play_parsed<K: Sink>(
+    alloc: Global,
+    rings: Rings,
+    queue: u16,
+    first: u32,
+    script: &Script,
+    out: &mut K,
+) -> u8
     requires queue { IsQueueSize queue }
     requires first { IsFirst first }
     requires playable { IsPlayed (script_view script.now) }

@@ -108,7 +108,9 @@ fn run_parsed<W: Threads + Wait + Sync, H: HostNet, C: Clock, G: Gate + Send + D
         (K.contents out.old) (K.contents out.new) (K.faults out.old) (K.faults out.new) result (Ok (script_view script)) }
 {
     match script {
-        Script::Run(apps) => run_apps(rt, alloc, base, queue, idle, first, apps, host, clock, gates, out),
+        Script::Run(apps) => run_apps(
+            rt, alloc, base, queue, idle, first, apps, host, clock, gates, out,
+        ),
         Script::Play(_) => DONE,
         Script::Hostile(_) => DONE,
     }
