@@ -92,8 +92,9 @@ fn run_on<
     }
 }
 
-/// A run of the script of a name, over new rings of its identity, by a guest with this first port, with a host that has started: the apps run, each on a thread of its own,
-/// beside the device on the caller's (`run_all`); then they settle: both ends are at rest, and each app is done or waits.
+/// A run of the script of a name, over new rings of its identity, by a guest with this first port, with a host that has started: the apps run,
+/// each on a thread of its own, beside the device on the caller's (`run_all`); then they settle: both ends are at rest, and each app is done or
+/// waits.
 ///
 /// The only error is want of memory.
 pub fn run_under<
