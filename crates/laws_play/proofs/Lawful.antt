@@ -1,8 +1,8 @@
 -- What holds of each play.
 use Rattle.laws_world.proofs.{Carried.{none_received, sent_as_put, sent_stays, wrote_as_put, wrote_stays}, NamesStay.{IsTold, accept_told, connect_told, still_over, still_told}}
 use Rattle.laws_world.proofs.{Names.{IsOver, closed_unknown, flow_opened}, CallRests.opening_rests, Opening.{opening_well, run_goes}, ResetTables.device_emptied}
-use Rattle.laws_world.proofs.{ScriptLines.{script_leads, script_rests}, Shutting.{IsPast, is_past, run_past}, Sound.{Goes, IsWell, tx_at_rest}}
-use Rattle.laws_world.specs.{Events.is_at_rest, Sides.{both_of, device_ends, driver_ends, log_with_staged}, Pipes.{IsFresh, IsRightIn, IsSentIn}, Steps.Leads, World.{World, first_cid}}
+use Rattle.laws_world.{proofs.{ScriptLines.{script_leads, script_rests}, Shutting.{IsPast, is_past, run_past}, Sound.{Goes, IsWell, tx_at_rest}}, specs.Events.is_at_rest}
+use Rattle.laws_world.specs.{Sides.{both_of, device_ends, driver_ends, log_with_staged}, Pipes.{IsFresh, IsRightIn, IsSentIn}, Steps.Leads, World.{World, first_cid}}
 use Rattle.laws_world.specs.Names.{times_closed}
 use Rattle.std.proofs.Common.{◌≡◌, ◌≢◌, ℕ, suc, ◌<◌, ◌≤◌, ◌^◌, ◌==◌, Bool, true, false, cond, List, [], ◌∷◌, ◌++◌, None, Some, Result, Ok, refl, sym, ap, subst, ◌∙◌, map, arith}
 use Rattle.std.{proofs.lemmas.{Bool.Decides.nat_tests, List.Elements.{All-head, All-tail}}, specs.List.All}
@@ -18,9 +18,10 @@ use Rattle.vs_report.specs.{Report.{counts_text, device_open_text, guest_open_te
 use Rattle.laws_proxy.specs.{Resets.IsEmptied, Account.Counts.counts_shown}
 use Rattle.laws_driver.specs.Carried.{Calls.{account_of, flow_accepted, flow_opened as flow_after_connect}, Senders.IsSent}
 use Rattle.vs_play.specs.{Answer.{base_path, opened_play, texts_of, world_after}, Lines.{PlayWorld, event_played}}
-use Rattle.laws_play.proofs.{PlayLines.{after_both, around_journal, front_bounded, lines_of, lines_receive, lines_right, lines_send, rest_bounded, world_is}}
-use Rattle.laws_play.proofs.{Reached.{carries, holds_open, holds_rest, keeps_credit, keeps_ids, log_is, many_device, many_guest, own_streams, queued, rightly}, Counting.{lines_count, lines_within}}
-use Rattle.laws_play.specs.{Headline.{IsLawful, IsNamedIn, KeepsIds, StaysShut, driver_log, world_of}, Said.{accept_answer, close_answer, connect_answer}}
+use Rattle.laws_play.proofs.{PlayLines.{after_both, around_journal, front_bounded, lines_of, lines_receive, lines_right, lines_send, rest_bounded, world_is}, Reached.carries}
+use Rattle.laws_play.proofs.{Reached.{holds_open, holds_rest, keeps_credit, keeps_ids, log_is, many_device, many_guest, own_streams, queued, rightly}, Counting.lines_count}
+use Rattle.laws_play.{proofs.Counting.lines_within, specs.{Headline.{IsLawful, IsNamedIn, KeepsIds, StaysShut, driver_log, world_of}, Said.{accept_answer, close_answer}}}
+use Rattle.laws_play.specs.Said.{connect_answer}
 use Rattle.vs_driver_parts.specs.declared.answers.Accepted.TheVariants as accepted
 use Rattle.vs_driver_parts.specs.declared.answers.Closed.TheVariants as closed
 use Rattle.vs_script.specs.Outside as outside

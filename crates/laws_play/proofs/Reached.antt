@@ -1,13 +1,14 @@
 -- What holds of a world in which nothing is staged, where it is well.
-use Rattle.laws_world.proofs.{Carried.{given_is, numbered, pending_of, read_front, received_front, to_device, to_driver, wrote_is}, Sound.IsWell, Waiting.{at_device, streams_among}}
-use Rattle.laws_world.specs.{Sides.{device_ends, driver_ends, log_with_staged}, Events.{is_at_rest, none_staged}, Pipes.IsRightIn, World.{World, first_cid}}
+use Rattle.laws_world.proofs.{Carried.{given_is, numbered, pending_of, read_front, received_front, to_device, to_driver, wrote_is}, Sound.IsWell, Waiting.at_device}
+use Rattle.laws_world.{proofs.Waiting.streams_among, specs.{Sides.{device_ends, driver_ends, log_with_staged}, Events.{is_at_rest, none_staged}, Pipes.IsRightIn, World.World}}
+use Rattle.laws_world.specs.World.{first_cid}
 use Rattle.vs_flow.specs.{Connection.Connection, declared.flow.Flow.Flow}
 use Rattle.std.proofs.Common.{[], ap, Bool, false, get_or, length, List, not, refl, subst, suc, sym, true, Option, ℕ, ◌≤◌, ◌&&◌, ◌||◌, ◌++◌, ◌∷◌, ◌≡◌, ◌≢◌, ◌∙◌, arith}
 use Rattle.std.{proofs.lemmas.{List.{Elements.{All-map, Contains-get_or}, length-map, Kept.AllPairs-cons}, Bool.and_parts}, specs.{List.AllPairs, Option.option_map_or}}
 use Rattle.laws_history.specs.{History.{History, IsFair, MayPut, Put, Side, gots, puts}, declared.packet.Packet.Packet}
 use Rattle.laws_tables.{specs.{Ends.{FlowEnd, flows_of, is_among, replied}, Matches.{Matches, MatchesFlows}}, proofs.{Fair.fair_now, Tables.{driver_open, table_distinct}}}
-use Rattle.vs_page.specs.{Fair.{IsFairLog, IsPrefixOf, current, payload_got, payload_put}, Log.{Device, Driver, HasGotAll, Log, Role, side_of}, Open.{WasOpened, is_left_open, is_open}}
-use Rattle.vs_page.proofs.Opened.{was_opened}
+use Rattle.vs_page.specs.{Fair.{IsFairLog, IsPrefixOf, current, payload_got, payload_put}, Log.{Device, Driver, HasGotAll, Log, Role, side_of}, Open.{WasOpened, is_left_open}}
+use Rattle.vs_page.{specs.Open.is_open, proofs.Opened.was_opened}
 use Rattle.vs_outside.{specs.{Host.Stream, HostBytes.{host_wrote, read_after_ok, wrote_after_connect}}, proofs.Connections.{its_stream, one_id}}
 use Rattle.laws_driver.{specs.{Honest.slots_of, Resets.MarksResets, Carried.{Calls.received_by, Senders.{IsRightJournal, IsSent}}}, proofs.Carried.Senders.still_sent}
 use Rattle.laws_play.specs.Headline.{Carries, HasOwnStreams, HoldsOpen, HoldsTheRest, IsQueued, KeepsCredit, KeepsIds, PutsWithinCredit, device_flows, device_log, device_replies}

@@ -4,7 +4,8 @@ use Rattle.std.specs.Prelude.{◌≡◌, ◌≢◌, ℕ, ◌+◌, ◌-◌, ◌^�
 use Rattle.vs_flow.specs.{declared.flow.Flow.Flow, Connection.Connection}
 use Rattle.vs_limits.specs.declared.TheConstants.{BUF_ALLOC_MAX}
 use Rattle.laws_history.specs.{History.{History, Put, gots, puts}, Packets.{allowance, bytes, has, is_rst, shuts_send, size}, declared.packet.Packet.Packet}
-use Rattle.vs_page.specs.{Log.{Device, Driver, HasGotAll, Log, Role, history_of}, Open.{WasOpened, is_open}, Fair.{IsFairLog, IsPrefixOf, current, number_of, payload_got, payload_put}}
+use Rattle.vs_page.specs.{Log.{Device, Driver, HasGotAll, Log, Role, history_of}, Open.{WasOpened, is_open}, Fair.{IsFairLog, IsPrefixOf, current, number_of, payload_got}}
+use Rattle.vs_page.specs.Fair.{payload_put}
 use Rattle.vs_driver_parts.specs.{Connections.flow_of, State.DriverEntry}
 use Rattle.vs_device_parts.specs.State.{DeviceEntry, counters_of}
 use Rattle.laws_device.specs.{Dropped.dropped_in, Streams.{has_open_stream, is_waiting_for_request}, Carried.Streamed.{connection_of, gives, line_for}}

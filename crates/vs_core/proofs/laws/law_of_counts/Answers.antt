@@ -1,4 +1,4 @@
-use Rattle.laws_world.{specs.Events.run, specs.World.opening, proofs.Opening.run_well}
+use Rattle.laws_world.{proofs.Opening.run_well}
 use Rattle.vs_core.proofs.laws.law_of_counts.Goals as goal
 
 pub returns-clause-dropped : goal.returns-clause-dropped
