@@ -2,7 +2,7 @@
 use Rattle.laws_world.proofs.{Carried.{none_received, sent_as_put, sent_stays, wrote_as_put, wrote_stays}, NamesStay.{IsTold, accept_told, connect_told, still_over, still_told}}
 use Rattle.laws_world.proofs.{Names.{IsOver, closed_unknown, flow_opened}, CallRests.opening_rests, Opening.{opening_well, run_goes}, ResetTables.device_emptied}
 use Rattle.laws_world.{proofs.{ScriptLines.{script_leads, script_rests}, Shutting.{IsPast, is_past, run_past}, Sound.{Goes, IsWell, tx_at_rest}}, specs.Events.is_at_rest}
-use Rattle.laws_world.specs.{Sides.{both_of, device_ends, driver_ends, log_with_staged}, Pipes.{IsFresh, IsRightIn, IsSentIn}, Steps.Leads, World.{World, first_cid}}
+use Rattle.laws_world.specs.{Sides.{both_of, device_ends, driver_ends, log_with_staged}, Pipes.{IsFresh, IsRightIn, IsSentIn}, Steps.Leads, World.{Beginning, World, first_cid}}
 use Rattle.laws_world.specs.Names.{times_closed}
 use Rattle.std.proofs.Common.{◌≡◌, ◌≢◌, ℕ, suc, ◌<◌, ◌≤◌, ◌^◌, ◌==◌, Bool, true, false, cond, List, [], ◌∷◌, ◌++◌, None, Some, Result, Ok, refl, sym, ap, subst, ◌∙◌, map, arith}
 use Rattle.std.{proofs.lemmas.{Bool.Decides.nat_tests, List.Elements.{All-head, All-tail}}, specs.List.All}
@@ -17,10 +17,10 @@ use Rattle.vs_script.{specs.{Play.Event, Script.{Plays, parse_of}, Bounds.AreBou
 use Rattle.vs_report.specs.{Report.{counts_text, device_open_text, guest_open_text, stream_texts}, GuestLines.{accept_text, connect_text, connection_text, opened_text}}
 use Rattle.laws_proxy.specs.{Resets.IsEmptied, Account.Counts.counts_shown}
 use Rattle.laws_driver.specs.Carried.{Calls.{account_of, flow_accepted, flow_opened as flow_after_connect}, Senders.IsSent}
-use Rattle.vs_play.specs.{Answer.{base_path, opened_play, texts_of, world_after}, Lines.{PlayWorld, event_played}}
+use Rattle.vs_play.specs.{Answer.{base_path, texts_of, world_after}, Lines.{PlayWorld, event_played}}
 use Rattle.laws_play.proofs.{PlayLines.{after_both, around_journal, front_bounded, lines_of, lines_receive, lines_right, lines_send, rest_bounded, world_is}, Reached.carries}
 use Rattle.laws_play.proofs.{Reached.{holds_open, holds_rest, keeps_credit, keeps_ids, log_is, many_device, many_guest, own_streams, queued, rightly}, Counting.lines_count}
-use Rattle.laws_play.{proofs.Counting.lines_within, specs.{Headline.{IsLawful, IsNamedIn, KeepsIds, StaysShut, driver_log, world_of}, Said.{accept_answer, close_answer}}}
+use Rattle.laws_play.{proofs.Counting.lines_within, specs.{Headline.{begun_play, IsLawful, IsNamedIn, KeepsIds, StaysShut, driver_log, world_of}, Said.{accept_answer, close_answer}}}
 use Rattle.laws_play.specs.Said.{connect_answer}
 use Rattle.vs_driver_parts.specs.declared.answers.Accepted.TheVariants as accepted
 use Rattle.vs_driver_parts.specs.declared.answers.Closed.TheVariants as closed
@@ -165,51 +165,51 @@ says_so : (texts streams : List (List ℕ)) (g g' d d' b : ℕ) (c : Counters) �
     ≡ texts ++ (guest_open_text g' ∷ device_open_text d' ∷ (streams ++ counts_text (record c { overrun = 0 }) (Some 0) ∷ []))
 says_so texts streams g g' d d' b c gs ds none nor = rw gs (rw ds (rw none (rw nor refl)))
 
-module _ (n : ℕ) where
-  at_rest : is_at_rest (opened_play n).world.rings.driver.staged ≡ true
-  at_rest = opening_rests n play_host
+module _ (how : Beginning) where
+  at_rest : is_at_rest (begun_play how).world.rings.driver.staged ≡ true
+  at_rest = opening_rests how play_host
 
-  world_rests : (es : List Event) → is_at_rest (world_of n es).rings.driver.staged ≡ true
-  world_rests es = lines_rest es (opened_play n) at_rest
+  world_rests : (es : List Event) → is_at_rest (world_of how es).rings.driver.staged ≡ true
+  world_rests es = lines_rest es (begun_play how) at_rest
 
-  world_well : (es : List Event) → AreBounded es → IsWell Fresh (world_of n es)
-  world_well es bounded = (lines_go es (opened_play n) at_rest bounded (opening_well n play_host)).well
+  world_well : (es : List Event) → AreBounded es → IsWell Fresh (world_of how es)
+  world_well es bounded = (lines_go es (begun_play how) at_rest bounded (opening_well how play_host)).well
 
-  shut_both : (es more : List Event) (c : Connection) (opened : ℕ → Connection) → AreBounded (es ++ more) → IsSent opened (world_of n es).journal (driver_log (world_of n es))
-      → IsSentIn opened (world_of n (es ++ more)) → StaysShut opened c (world_of n es) (world_of n (es ++ more))
+  shut_both : (es more : List Event) (c : Connection) (opened : ℕ → Connection) → AreBounded (es ++ more) → IsSent opened (world_of how es).journal (driver_log (world_of how es))
+      → IsSentIn opened (world_of how (es ++ more)) → StaysShut opened c (world_of how es) (world_of how (es ++ more))
   shut_both es more c opened bounded sent =
-      let p = world_after es (opened_play n) in
+      let p = world_after es (begun_play how) in
       let well = world_well es (front_bounded es more bounded) in
-      subst (λ (q : PlayWorld). IsSentIn opened q.world → StaysShut opened c p.world q.world) (sym (after_both es more (opened_play n)))
+      subst (λ (q : PlayWorld). IsSentIn opened q.world → StaysShut opened c p.world q.world) (sym (after_both es more (begun_play how)))
       (λ after. stays_shut p.world (world_after more p).world c well (lines_go more p (world_rests es) (rest_bounded es more bounded) well) opened
       (subst (IsSent opened p.world.journal) (sym (log_is p.world well fresh (world_rests es))) sent) after (world_rests es))
 
   emptied_after : (es more : List Event) (cid : ℕ) → AreBounded (es ++ script.Around (outside.Reset cid) ∷ more)
-      → IsEmptied (world_of n (es ++ script.Around (outside.Reset cid) ∷ [])).proxy
+      → IsEmptied (world_of how (es ++ script.Around (outside.Reset cid) ∷ [])).proxy
   emptied_after es more cid bounded =
-      let p = world_after es (opened_play n) in
+      let p = world_after es (begun_play how) in
       let well = world_well es (front_bounded es (script.Around (outside.Reset cid) ∷ more) bounded) in
-      subst (λ (q : PlayWorld). IsEmptied q.world.proxy) (sym (after_both es (script.Around (outside.Reset cid) ∷ []) (opened_play n)))
+      subst (λ (q : PlayWorld). IsEmptied q.world.proxy) (sym (after_both es (script.Around (outside.Reset cid) ∷ []) (begun_play how)))
       (device_emptied cid p.world well.counted.unfailed)
 
   -- A line that told an id.
   named_after : (before more : List Event) (e : Event) (id : ℕ) → AreBounded (before ++ e ∷ more) → All (λ x. x ≢ script.Close id) more
-      → let p = world_after before (opened_play n) in
+      → let p = world_after before (begun_play how) in
       (IsWell Fresh p.world → IsTold id (event_played e p).0.world.driver)
       → (event_played e p).1 ≡ connection_text id (flow_of id (event_played e p).0.world.driver)
-      → IsToldIn (world_of n (before ++ e ∷ more)) id (event_played e p).1
+      → IsToldIn (world_of how (before ++ e ∷ more)) id (event_played e p).1
   named_after before more e id bounded apart told is =
-      let p = world_after before (opened_play n) in
+      let p = world_after before (begun_play how) in
       let well = world_well before (front_bounded before (e ∷ more) bounded) in
-      subst (λ (q : PlayWorld). IsToldIn q.world id (event_played e p).1) (sym (after_both before (e ∷ more) (opened_play n)))
+      subst (λ (q : PlayWorld). IsToldIn q.world id (event_played e p).1) (sym (after_both before (e ∷ more) (begun_play how)))
       (still_named e p (world_rests before) well id more (rest_bounded before (e ∷ more) bounded) apart (told well) (event_played e p).1 is)
 
   connect_named : (before more : List Event) (port id : ℕ) → AreBounded (before ++ script.Connect port ∷ more)
-      → let p = world_after before (opened_play n) in
+      → let p = world_after before (begun_play how) in
       connect_answer port p ≡ Ok id → All (λ x. x ≢ script.Close id) more
-      → IsToldIn (world_of n (before ++ script.Connect port ∷ more)) id (event_played (script.Connect port) p).1
+      → IsToldIn (world_of how (before ++ script.Connect port ∷ more)) id (event_played (script.Connect port) p).1
   connect_named before more port id bounded is apart =
-      let p = world_after before (opened_play n) in
+      let p = world_after before (begun_play how) in
       let below : port ≤ 4294967295 = (rest_bounded before (script.Connect port ∷ more) bounded).0 in
       let port_fits : port < 2 ^ 32 = omega (arith, below) in
       named_after before more (script.Connect port) id bounded apart
@@ -217,33 +217,33 @@ module _ (n : ℕ) where
       (ap (λ (r : Result ℕ ConnectError). connect_text r (flow_after_connect r (event_played (script.Connect port) p).0.world.driver)) is)
 
   accept_named : (before more : List Event) (port id : ℕ) → AreBounded (before ++ script.Accept port ∷ more)
-      → let p = world_after before (opened_play n) in
+      → let p = world_after before (begun_play how) in
       accept_answer port p ≡ accepted.Conn id → All (λ x. x ≢ script.Close id) more
-      → IsToldIn (world_of n (before ++ script.Accept port ∷ more)) id (event_played (script.Accept port) p).1
+      → IsToldIn (world_of how (before ++ script.Accept port ∷ more)) id (event_played (script.Accept port) p).1
   accept_named before more port id bounded is apart =
-      let p = world_after before (opened_play n) in
+      let p = world_after before (begun_play how) in
       named_after before more (script.Accept port) id bounded apart (λ well. accept_told id port p.world.driver well.waiting is)
       (ap (λ (r : Accepted). accept_text r (flow_accepted r (event_played (script.Accept port) p).0.world.driver)) is)
 
   close_named : (before more : List Event) (id : ℕ) → AreBounded (before ++ script.Close id ∷ more)
-      → close_answer id (world_after before (opened_play n)) ≡ closed.Done
-      → flow_of id (world_of n (before ++ script.Close id ∷ more)).driver ≡ None
+      → close_answer id (world_after before (begun_play how)) ≡ closed.Done
+      → flow_of id (world_of how (before ++ script.Close id ∷ more)).driver ≡ None
   close_named before more id bounded is =
-      let p = world_after before (opened_play n) in
+      let p = world_after before (begun_play how) in
       let well = world_well before (front_bounded before (script.Close id ∷ more) bounded) in
       let over = closed_unknown p.world.driver.next_port id p.world.driver well.driver.sound well.right.received.numbers is in
-      subst (λ (q : PlayWorld). flow_of id q.world.driver ≡ None) (sym (after_both before (script.Close id ∷ more) (opened_play n)))
+      subst (λ (q : PlayWorld). flow_of id q.world.driver ≡ None) (sym (after_both before (script.Close id ∷ more) (begun_play how)))
       (still_closed (script.Close id) p (world_rests before) well id more (rest_bounded before (script.Close id ∷ more) bounded)
       over)
 
-  pub each_play : (lines : List Event) → AreBounded lines → IsLawful n lines
+  pub each_play : (lines : List Event) → AreBounded lines → IsLawful how lines
   each_play lines bounded =
-      let w = world_of n lines in
+      let w = world_of how lines in
       let well = world_well lines bounded in
       let rest = world_rests lines in
-      let kept = lines_keep lines (opened_play n) at_rest bounded (opening_well n play_host) in
+      let kept = lines_keep lines (begun_play how) at_rest bounded (opening_well how play_host) in
       record {
-        events = lines_lead lines (opened_play n) at_rest bounded;
+        events = lines_lead lines (begun_play how) at_rest bounded;
         opened = kept.opened;
         right = rightly w well fresh rest kept.opened kept.right;
         ids = kept.ids;
@@ -252,39 +252,39 @@ module _ (n : ℕ) where
         rest = holds_rest w well fresh rest;
         streams = own_streams w well fresh rest;
         answers = record {
-          sent = λ id. lines_send id kept.opened kept.right.received.once lines (opened_play n) kept.right.sent.senders;
-          received = λ id. lines_receive id lines (opened_play n);
+          sent = λ id. lines_send id kept.opened kept.right.received.once lines (begun_play how) kept.right.sent.senders;
+          received = λ id. lines_receive id lines (begun_play how);
           send_printed = λ before after id content is. refl;
           recv_printed = λ before after id len is. refl;
         };
         names = record {
-          connected = λ before more port id is answer apart. let p = world_after before (opened_play n) in
-              named_in kept.opened w kept.right id _ (subst (λ (es : List Event). IsToldIn (world_of n es) id (event_played (script.Connect port) p).1) (sym is)
+          connected = λ before more port id is answer apart. let p = world_after before (begun_play how) in
+              named_in kept.opened w kept.right id _ (subst (λ (es : List Event). IsToldIn (world_of how es) id (event_played (script.Connect port) p).1) (sym is)
               (connect_named before more port id (subst AreBounded is bounded) answer apart));
-          accepted = λ before more port id is answer apart. let p = world_after before (opened_play n) in
-              named_in kept.opened w kept.right id _ (subst (λ (es : List Event). IsToldIn (world_of n es) id (event_played (script.Accept port) p).1) (sym is)
+          accepted = λ before more port id is answer apart. let p = world_after before (begun_play how) in
+              named_in kept.opened w kept.right id _ (subst (λ (es : List Event). IsToldIn (world_of how es) id (event_played (script.Accept port) p).1) (sym is)
               (accept_named before more port id (subst AreBounded is bounded) answer apart));
-          closed = λ before more id is. subst (λ (es : List Event). close_answer id (world_after before (opened_play n)) ≡ closed.Done
-              → flow_of id (world_of n es).driver ≡ None) (sym is) (close_named before more id (subst AreBounded is bounded));
+          closed = λ before more id is. subst (λ (es : List Event). close_answer id (world_after before (begun_play how)) ≡ closed.Done
+              → flow_of id (world_of how es).driver ≡ None) (sym is) (close_named before more id (subst AreBounded is bounded));
         };
         shut = λ before more c is.
-            subst (λ (es : List Event). IsSentIn kept.opened (world_of n es) → StaysShut kept.opened c (world_of n before) (world_of n es)) (sym is)
+            subst (λ (es : List Event). IsSentIn kept.opened (world_of how es) → StaysShut kept.opened c (world_of how before) (world_of how es)) (sym is)
             (shut_both before more c kept.opened (subst AreBounded is bounded) (kept.ids before more is).sent) kept.right.sent;
         tables = holds_open w well fresh rest;
         reset = λ before more cid is. emptied_after before more cid (subst AreBounded is bounded);
         unfailed = well.counted.unfailed;
         dropped = well.counted.dropped_is;
-        counts = lines_count (counts_shown (opened_play n).world.proxy.device) lines (opened_play n) [] refl;
-        faults = (let told = lines_within lines (opened_play n) 0 (omega arith) in omega (arith, told));
+        counts = lines_count (counts_shown (begun_play how).world.proxy.device) lines (begun_play how) [] refl;
+        faults = (let told = lines_within lines (begun_play how) 0 (omega arith) in omega (arith, told));
         credit = keeps_credit w well fresh rest;
         queues = queued w well fresh rest;
         report =
-            says_so (texts_of lines (opened_play n))
+            says_so (texts_of lines (begun_play how))
             (stream_texts 1 w.host.streams) _ _ _ _ _ (counters_of w.proxy.device)
             (many_guest w well fresh rest) (many_device w well fresh rest) well.overrun well.broken;
       }
 
 -- And of each script.
-pub each_script : (n : ℕ) (text : List ℕ) (lines : List (ℕ × Event)) → parse_of command.Play text ≡ Ok (Plays lines)
-    → IsLawful n (map (λ l. l.1) lines)
-each_script n text lines is = each_play n (map (λ l. l.1) lines) (all_bounded text lines is)
+pub each_script : (how : Beginning) (text : List ℕ) (lines : List (ℕ × Event)) → parse_of command.Play text ≡ Ok (Plays lines)
+    → IsLawful how (map (λ l. l.1) lines)
+each_script how text lines is = each_play how (map (λ l. l.1) lines) (all_bounded text lines is)

@@ -14,19 +14,23 @@ use Rattle.vs_outside.specs.{HostBytes.{connection_at, host_read, host_wrote, re
 use Rattle.vs_script.specs.{Data.Content, Play.Event}
 use Rattle.vs_report.specs.{Report.{counts_text, device_open_text, guest_open_text, stream_texts}, GuestLines.{recv_text, opened_text, send_text}}
 use Rattle.laws_proxy.specs.{Account.Counts.{counts_of, counts_shown}, Resets.IsEmptied}
-use Rattle.laws_world.specs.{Pipes.IsNumbered, Sides.{device_ends, driver_ends}, Steps.Leads, World.{World, first_cid}}
+use Rattle.laws_world.specs.{Pipes.IsNumbered, Sides.{device_ends, driver_ends}, Steps.Leads, World.{Beginning, World, first_cid}}
 use Rattle.laws_driver.specs.{Honest.slots_of, Resets.MarksResets, Carried.{Calls.received_by, Senders.{IsRightJournal, IsSent, sent_to}}}
-use Rattle.vs_play.specs.{Answer.{opened_play, printed, texts_of, world_after}, Lines.event_played}
+use Rattle.vs_play.specs.{Answer.{opened_play, printed, texts_of, world_after}, Lines.{PlayWorld, event_played}}
 use Rattle.laws_play.specs.{Recorded.{calls_of, fails_in}, Said.{accept_answer, close_answer, connect_answer, received_in, recv_answer, recv_bytes, send_answer, sent_in}}
 use Rattle.vs_driver_parts.specs.declared.answers.Accepted.TheVariants as accepted
 use Rattle.vs_driver_parts.specs.declared.answers.Closed.TheVariants as closed
 use Rattle.vs_script.specs.Outside as outside
 use Rattle.vs_script.specs.Play as script
 
--- The world that lines lead to, over queues of n pages; and in it the log of each end, the flows of each table, and the flows to which
+-- A play that begins so.
+abbrev pub begun_play : Beginning → PlayWorld
+begun_play how = opened_play how.pages how.first
+
+-- The world that lines lead to; and in it the log of each end, the flows of each table, and the flows to which
 -- an RST is owed as a reply.
-abbrev pub world_of : ℕ → List Event → World
-world_of n lines = (world_after lines (opened_play n)).world
+abbrev pub world_of : Beginning → List Event → World
+world_of how lines = (world_after lines (begun_play how)).world
 
 abbrev pub driver_log : World → Log
 driver_log w = w.rings.driver.entries
@@ -79,14 +83,14 @@ pub record HasOwnStreams (w : World) : Type 0 where
       → read_after_ok s ≡ host_read c w.host
 
 -- The bytes of the journal are those that the lines' answers say.
-pub record IsAsPrinted (opened : ℕ → Connection) (n : ℕ) (lines : List Event) : Type 0 where
-  pub sent : (id : ℕ) → sent_to opened (opened id) (world_of n lines).journal ≡ sent_in id lines (opened_play n)
-  pub received : (id : ℕ) → received_by id (world_of n lines).journal ≡ received_in id lines (opened_play n)
+pub record IsAsPrinted (opened : ℕ → Connection) (how : Beginning) (lines : List Event) : Type 0 where
+  pub sent : (id : ℕ) → sent_to opened (opened id) (world_of how lines).journal ≡ sent_in id lines (begun_play how)
+  pub received : (id : ℕ) → received_by id (world_of how lines).journal ≡ received_in id lines (begun_play how)
   -- These answers are printed.
   pub send_printed : (before after : List Event) (id : ℕ) (content : Content) → lines ≡ before ++ script.Send id content ∷ after
-      → let p = world_after before (opened_play n) in (event_played (script.Send id content) p).1 ≡ send_text (send_answer id content p)
+      → let p = world_after before (begun_play how) in (event_played (script.Send id content) p).1 ≡ send_text (send_answer id content p)
   pub recv_printed : (before after : List Event) (id len : ℕ) → lines ≡ before ++ script.Recv id len ∷ after
-      → let p = world_after before (opened_play n) in
+      → let p = world_after before (begun_play how) in
       (event_played (script.Recv id len) p).1 ≡ recv_text (recv_answer id len p) (recv_bytes id len p)
 
 -- After these lines the flow that the driver tells of an id is that of its connection, which is the flow's present one where it stands in the
@@ -102,18 +106,18 @@ IsNamedIn opened w id text = let f = (opened id).flow in (text ≡ opened_text i
 
 -- What a connect printed that gave an id, and an accept that gave one, stays true until a line closes the id: also where its connection is
 -- reset, by the peer or by the transport.
-pub record KeepsNames (opened : ℕ → Connection) (n : ℕ) (lines : List Event) : Type 0 where
+pub record KeepsNames (opened : ℕ → Connection) (how : Beginning) (lines : List Event) : Type 0 where
   pub connected : (before after : List Event) (port id : ℕ) → lines ≡ before ++ script.Connect port ∷ after
-      → let p = world_after before (opened_play n) in
+      → let p = world_after before (begun_play how) in
       connect_answer port p ≡ Ok id → All (λ e. e ≢ script.Close id) after
-      → IsNamedIn opened (world_of n lines) id (event_played (script.Connect port) p).1
+      → IsNamedIn opened (world_of how lines) id (event_played (script.Connect port) p).1
   pub accepted : (before after : List Event) (port id : ℕ) → lines ≡ before ++ script.Accept port ∷ after
-      → let p = world_after before (opened_play n) in
+      → let p = world_after before (begun_play how) in
       accept_answer port p ≡ accepted.Conn id → All (λ e. e ≢ script.Close id) after
-      → IsNamedIn opened (world_of n lines) id (event_played (script.Accept port) p).1
+      → IsNamedIn opened (world_of how lines) id (event_played (script.Accept port) p).1
   -- From a close that knew the id on it has no flow.
   pub closed : (before after : List Event) (id : ℕ) → lines ≡ before ++ script.Close id ∷ after
-      → close_answer id (world_after before (opened_play n)) ≡ closed.Done → flow_of id (world_of n lines).driver ≡ None
+      → close_answer id (world_after before (begun_play how)) ≡ closed.Done → flow_of id (world_of how lines).driver ≡ None
 
 -- Shutting is for good: where an end decided before that it sends no more, or told so, what its writer wrote is what it was then, of each
 -- connection of the flow up to then. The guest decides so by a shutdown, and the device once its stream ended.
@@ -149,9 +153,9 @@ pub record HoldsOpen (w : World) : Type 0 where
   pub marks : MarksResets (driver_log w)
 
 -- A transport reset leaves the device's table, its owed replies and its handshakes empty.
-abbrev pub EmptiesDevice : ℕ → List Event → Type 0
-EmptiesDevice n lines = (before after : List Event) (cid : ℕ) → lines ≡ before ++ script.Around (outside.Reset cid) ∷ after
-    → IsEmptied (world_of n (before ++ script.Around (outside.Reset cid) ∷ [])).proxy
+abbrev pub EmptiesDevice : Beginning → List Event → Type 0
+EmptiesDevice how lines = (before after : List Event) (cid : ℕ) → lines ≡ before ++ script.Around (outside.Reset cid) ∷ after
+    → IsEmptied (world_of how (before ++ script.Around (outside.Reset cid) ∷ [])).proxy
 
 -- At each packet that an end put on a connection, RST aside, the payload put so far is within the credit that the newest packet got gives:
 -- what its sender forwarded, and its buffer space.
@@ -178,41 +182,41 @@ pub record IsQueued (w : World) : Type 0 where
 
 -- The report counts just the connections of the tables. It tells of no payload beyond the room for it, and of no packet that broke a
 -- connection of the guest.
-abbrev pub Reports : ℕ → List Event → Type 0
-Reports n lines = let w = world_of n lines in printed n lines ≡ texts_of lines (opened_play n)
+abbrev pub Reports : Beginning → List Event → Type 0
+Reports how lines = let w = world_of how lines in printed how.pages how.first lines ≡ texts_of lines (begun_play how)
     ++ guest_open_text (length (guest_flows w)) ∷ device_open_text (length (device_flows w))
     ∷ (stream_texts 1 w.host.streams ++ counts_text (record (counters_of w.proxy.device) { overrun = 0 }) (Some 0) ∷ [])
 
--- A play of these lines, over queues of n pages.
-pub record IsLawful (n : ℕ) (lines : List Event) : Type 0 where
+-- A play of these lines, however it begins.
+pub record IsLawful (how : Beginning) (lines : List Event) : Type 0 where
   -- It is one of the world's runs: calls of the guest's, steps of driver and device, the host's programs, in some order.
-  pub events : Leads (opened_play n).world (world_of n lines)
+  pub events : Leads (begun_play how).world (world_of how lines)
   -- Ids were given to these connections, no two to one, and the guest's journal is right: what it sent on a connection is the payload that the
   -- driver put there, what it received on an id is a prefix of what the driver got on its connection, what is unread of it comes next; and
   -- that is all that is left, while the connection takes payload.
   pub opened : ℕ → Connection
-  pub right : let w = world_of n lines in IsRightJournal 1 opened w.journal (driver_log w) (slots_of w.driver)
-  pub ids : (before after : List Event) → lines ≡ before ++ after → KeepsIds opened (world_of n before)
+  pub right : let w = world_of how lines in IsRightJournal 1 opened w.journal (driver_log w) (slots_of w.driver)
+  pub ids : (before after : List Event) → lines ≡ before ++ after → KeepsIds opened (world_of how before)
   -- An id without a connection received nothing.
-  pub silent : (id : ℕ) → (opened id).number ≡ 0 → received_by id (world_of n lines).journal ≡ []
-  pub bytes : (c : Connection) → 1 ≤ c.number → Carries opened (world_of n lines) c
-  pub rest : HoldsTheRest (world_of n lines)
-  pub streams : HasOwnStreams (world_of n lines)
-  pub answers : IsAsPrinted opened n lines
-  pub names : KeepsNames opened n lines
-  pub shut : (before after : List Event) (c : Connection) → lines ≡ before ++ after → StaysShut opened c (world_of n before) (world_of n lines)
-  pub tables : HoldsOpen (world_of n lines)
-  pub reset : EmptiesDevice n lines
+  pub silent : (id : ℕ) → (opened id).number ≡ 0 → received_by id (world_of how lines).journal ≡ []
+  pub bytes : (c : Connection) → 1 ≤ c.number → Carries opened (world_of how lines) c
+  pub rest : HoldsTheRest (world_of how lines)
+  pub streams : HasOwnStreams (world_of how lines)
+  pub answers : IsAsPrinted opened how lines
+  pub names : KeepsNames opened how lines
+  pub shut : (before after : List Event) (c : Connection) → lines ≡ before ++ after → StaysShut opened c (world_of how before) (world_of how lines)
+  pub tables : HoldsOpen (world_of how lines)
+  pub reset : EmptiesDevice how lines
   -- The device's ring never failed.
-  pub unfailed : (world_of n lines).proxy.device.failed ≡ None
+  pub unfailed : (world_of how lines).proxy.device.failed ≡ None
   -- The device counted just the packets of its log that it drops, each by the guest's CID of then. (The count stands still at the last
   -- number of 64 bits.)
-  pub dropped : (world_of n lines).proxy.device.dropped ≡ min (dropped_in first_cid (device_log (world_of n lines))) (2 ^ 64 - 1)
+  pub dropped : (world_of how lines).proxy.device.dropped ≡ min (dropped_in first_cid (device_log (world_of how lines))) (2 ^ 64 - 1)
   -- Packets dropped and faults are counted as the calls made say: so many headers from a wrong CID were read, so many calls failed.
-  pub counts : counts_shown (world_of n lines).proxy.device
-      ≡ counts_of (counts_shown (opened_play n).world.proxy.device) (calls_of lines (opened_play n) [])
+  pub counts : counts_shown (world_of how lines).proxy.device
+      ≡ counts_of (counts_shown (begun_play how).world.proxy.device) (calls_of lines (begun_play how) [])
   -- No more calls failed than lines told the host to fail.
-  pub faults : (world_of n lines).proxy.device.faults ≤ fails_in lines
-  pub credit : KeepsCredit (world_of n lines)
-  pub queues : IsQueued (world_of n lines)
-  pub report : Reports n lines
+  pub faults : (world_of how lines).proxy.device.faults ≤ fails_in lines
+  pub credit : KeepsCredit (world_of how lines)
+  pub queues : IsQueued (world_of how lines)
+  pub report : Reports how lines

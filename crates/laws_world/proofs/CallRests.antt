@@ -9,8 +9,7 @@ use Rattle.vs_driver_parts.specs.{State.{DriverEntry, DriverState, entry_known_a
 use Rattle.vs_driver_parts.specs.{Connections.{connected, with_end}, Conversations.{DriverTree, connect_with_page, has_page, load_cid, new_state, no_credit, not_sent}}
 use Rattle.vs_driver_parts.specs.Conversations.{payload_bytes, payload_of, post_all, post_events, post_one, post_packet, posts, publish_of, reap_all, request_bytes, send_on}
 use Rattle.vs_driver_parts.specs.Conversations.{send_stopped, send_with_credit, send_with_page}
-use Rattle.vs_limits.specs.declared.TheConstants.{FIRST_PORT}
-use Rattle.laws_world.{specs.{Events.{is_at_rest, works_on}, Plays.guest_line, World.{World, opening}}, proofs.{GuestLines.{played_bind, reaps_all}, Polls.published_rests}}
+use Rattle.laws_world.{specs.{Events.{is_at_rest, works_on}, Plays.guest_line, World.{Beginning, World, opening}}, proofs.{GuestLines.{played_bind, reaps_all}, Polls.published_rests}}
 use Rattle.laws_world.proofs.Polls.{rest_works}
 use Rattle.laws_driver.specs.Carried.Calls.{GuestCall, Connect, Send}
 use Rattle.vs_ring_port.specs.declared.queue.Queue.TheVariants as q
@@ -124,10 +123,10 @@ post_all_rests queue s r rest =
     ap (λ y. is_at_rest y.1.1.staged) (played_bind (posts queue s) (publish_of queue) r)
     ∙ published_rests queue x.1.1.staged (posts_work queue s.size s r (rest_works queue r.1.staged rest))
 
-pub opening_rests : (n : ℕ) (host : HostContents) → is_at_rest (opening n host).rings.driver.staged ≡ true
-opening_rests n host =
-    let s = new_state n FIRST_PORT 1 0 in
-    let r : Rings × EndLog = ((empty_ends n).lists, (empty_ends n).driver) in
+pub opening_rests : (b : Beginning) (host : HostContents) → is_at_rest (opening b host).rings.driver.staged ≡ true
+opening_rests b host =
+    let s = new_state b.pages b.first 1 0 in
+    let r : Rings × EndLog = ((empty_ends b.pages).lists, (empty_ends b.pages).driver) in
     let x = played driver_answer (post_all q.Rx s) r in
     ap (λ y. is_at_rest y.1.1.staged) (played_bind (post_all q.Rx s) post_events r)
     ∙ ap (λ y. is_at_rest y.1.1.staged) (played_bind (post_all q.Event x.0) load_cid x.1)

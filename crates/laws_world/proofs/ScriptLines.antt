@@ -5,7 +5,7 @@ use Rattle.vs_outside.specs.Host.{HostContents}
 use Rattle.vs_proxy_parts.specs.Growing.{label_at}
 use Rattle.laws_world.specs.Events.{ClientConnects, DeviceGrows, HostCloses, HostEnds, HostFails, HostListens, HostTakes, HostUnlistens, HostWrites, Reset, is_at_rest}
 use Rattle.laws_world.specs.{Events.{is_guest_cid, reset_made}, Plays.{Line, Guest, Poll, TurnAt, ResetTo, Grow, Client, HostListen, HostUnlisten, HostWrite, HostAllow, HostEnd}}
-use Rattle.laws_world.specs.{Plays.{HostClosed, HostFail, AreRight, after, line, is_given_right, play, report, sent_by}, Steps.Leads, World.{World, opening}}
+use Rattle.laws_world.specs.{Plays.{HostClosed, HostFail, AreRight, after, line, is_given_right, play, report, sent_by}, Steps.Leads, World.{Beginning, World, opening}}
 use Rattle.laws_world.proofs.{CallRests.{call_rests, opening_rests}, GuestLines.{call_leads, leads_none, leads_one, leads_then, possible_is}, Polls.poll_does, TurnLines.turn_leads}
 use Rattle.laws_driver.specs.Carried.Senders.{sent_to}
 use Rattle.laws_proxy.proofs.Growing.{label_grow_by}
@@ -50,6 +50,6 @@ pub reported : (ls : List Line) (w : World) → (play ls w).1 ≡ report (after 
 reported [] w = refl
 reported (l ∷ ls) w = reported ls (line l w).0
 
-pub opened_leads : (n : ℕ) (host : HostContents) (ls : List Line) → AreRight ls
-    → Leads (opening n host) (after ls (opening n host))
-opened_leads n host ls may = script_leads ls (opening n host) (opening_rests n host) may
+pub opened_leads : (b : Beginning) (host : HostContents) (ls : List Line) → AreRight ls
+    → Leads (opening b host) (after ls (opening b host))
+opened_leads b host ls may = script_leads ls (opening b host) (opening_rests b host) may

@@ -1,11 +1,11 @@
 -- The world of one thread: a driver, a device with its proxy, what is in flight between them, the host, and the calls that the guest made.
-use Rattle.std.specs.Prelude.{ℕ, List, []}
+use Rattle.std.specs.Prelude.{◌≡◌, refl, ℕ, nat_le, true, List, []}
 use Rattle.vs_contents.specs.CallTree.{played}
 use Rattle.vs_ring_port.specs.DriverCalls.{driver_answer}
 use Rattle.vs_ring_list.specs.Ends.{Ends, empty_ends}
 use Rattle.vs_outside.specs.{Host.HostContents, HostProgram.new_host, HostProgram.plain}
 use Rattle.vs_driver_parts.specs.{State.DriverState, Conversations.DriverTree, Conversations.new_of}
-use Rattle.vs_limits.specs.declared.TheConstants.{FIRST_CID, FIRST_PORT}
+use Rattle.vs_limits.specs.declared.TheConstants.{FIRST_CID, FIRST_PORT, LAST_PORT}
 use Rattle.vs_device_parts.specs.Calls.{DeviceTree}
 use Rattle.vs_proxy_parts.specs.{State.ProxyState, Turns.new_proxy}
 use Rattle.laws_world.specs.Answers.{Around, answer_around}
@@ -43,10 +43,11 @@ first_cid = FIRST_CID
 abbrev pub opened_host : List ℕ → HostContents
 opened_host base = (new_host base [] plain).contents
 
--- The world in which nothing has happened yet: a driver and a proxy just made over empty rings of n pages each.
-abbrev pub opening : ℕ → HostContents → World
-opening n host =
-    let made = played driver_answer (new_of n FIRST_PORT 1) ((empty_ends n).lists, (empty_ends n).driver) in
+-- The world in which nothing has happened yet: a driver and a proxy just made over empty rings of n pages each, where this is the guest's
+-- first port.
+abbrev pub opened : ℕ → ℕ → HostContents → World
+opened n first host =
+    let made = played driver_answer (new_of n first 1) ((empty_ends n).lists, (empty_ends n).driver) in
     record {
       driver = made.0;
       proxy = new_proxy first_cid host.base;
@@ -54,3 +55,16 @@ opening n host =
       host = host;
       journal = [];
     }
+
+-- How a world begins: with so many pages of each queue, and the guest's first port, none above its last one.
+pub record Beginning : Type 0 where
+  pub pages : ℕ
+  pub first : ℕ
+  pub within : nat_le first LAST_PORT ≡ true
+
+-- The guest has all of its ports to give.
+abbrev pub from_lowest : ℕ → Beginning
+from_lowest n = record { pages = n; first = FIRST_PORT; within = refl }
+
+abbrev pub opening : Beginning → HostContents → World
+opening how host = opened how.pages how.first host

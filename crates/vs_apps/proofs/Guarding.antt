@@ -1,7 +1,7 @@
 -- What keeps guests a run of their script.
 use Rattle.std.proofs.{Common.{◌≡◌, ◌<◌, ℕ, zero, suc, Bool, List, [], ◌∷◌, ◌++◌, length, get_or, refl, sym, ap, subst, ◌∙◌, arith, Option, Some, None}, lemmas.List.length-map}
 use Rattle.std.{proofs.lemmas.{List.length-replicate, Option.same_Some}, specs.Prelude.replicate}
-use Rattle.vs_limits.specs.declared.TheConstants.{FIRST_CID, FIRST_PORT}
+use Rattle.vs_limits.specs.declared.TheConstants.{FIRST_CID, LAST_PORT}
 use Rattle.vs_contents.{specs.Contents.Relates, proofs.Leads.leads_split}
 use Rattle.vs_page.specs.{Log.Log, Open.cid_of}
 use Rattle.vs_script.specs.{App.app_view, declared.app.App.App}
@@ -103,14 +103,14 @@ first_loaded size port id c e s log plays older none =
     let is = subst (λ (l : Log). IsOlder e.loaded l) none older in
     new_loads size port id c e s plays ∙ ap (cid_of FIRST_CID) (none_older e.loaded is.0 is.1)
 
-pub new_guests : (script : RunScript) (size n : ℕ) (d e : Sight) (driver : DriverState) (apps : List AppState) (state : AppState) → AreRight script
-    → driver.cid ≡ FIRST_CID → IsFresh (driver_contents d) → Plays (new_of size FIRST_PORT 1) (driver_contents d) driver (driver_contents e)
+pub new_guests : (script : RunScript) (size port n : ℕ) (d e : Sight) (driver : DriverState) (apps : List AppState) (state : AppState) → AreRight script
+    → port ≤ LAST_PORT → driver.cid ≡ FIRST_CID → IsFresh (driver_contents d) → Plays (new_of size port 1) (driver_contents d) driver (driver_contents e)
     → IsRingOf e.size (flight_of e) (staged_of e) driver → n ≡ length script → apps ≡ replicate n state → state ≡ no_app
     → AreGuests script (record { driver = driver; end = e; apps = apps; entries = []; bytes = [] })
-new_guests script size n d e driver apps state right cid fresh plays ring many are is = record {
+new_guests script size port n d e driver apps state right own cid fresh plays ring many are is = record {
   right = right;
   ring = ring;
   run = subst (λ (first : ℕ). IsRunOf first script (run_in (record { driver = driver; end = e; apps = apps; entries = []; bytes = [] }))) cid
-      (begins_run size FIRST_PORT (driver_contents d) (driver_contents e) driver script apps (omega arith) fresh plays
+      (begins_run size port (driver_contents d) (driver_contents e) driver script apps own fresh plays
       (ap (λ (xs : List AppState). length xs) are ∙ length-replicate n state ∙ many) (λ k. all_begun n k apps state are is));
 }

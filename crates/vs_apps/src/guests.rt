@@ -1,7 +1,7 @@
 //! The guests of a run, which a lock keeps: their type names the rings and the script.
 
 ghost use Rattle.std.specs.Prelude.{◌≡◌, ◌<◌, ◌≤◌, [], IfOk, length};
-ghost use Rattle.vs_limits.specs.declared.TheConstants.{FIRST_CID};
+ghost use Rattle.vs_limits.specs.declared.TheConstants.{FIRST_CID, FIRST_PORT, LAST_PORT};
 ghost use Rattle.vs_ring_port.specs.declared.queue.Queue.{Queue};
 ghost use Rattle.vs_driver_parts.specs.Playing.{IsRingOf};
 ghost use Rattle.vs_apps_parts.specs.Scripts.{AreRight, script_of};
@@ -72,8 +72,8 @@ pub fn laws_of_guests<N: RunName>(guests: &Guests<N>)
 }
 
 impl<N: RunName> Guests<N> {
-    /// Guests that did nothing yet, over an end of rings in which nothing was put. The device's end, in whose log nothing stands, is told what
-    /// the driver did.
+    /// Guests that did nothing yet, over an end of rings in which nothing was put, with the guest's first port, which is 1,024 to
+    /// 1,073,741,823. The device's end, in whose log nothing stands, is told what the driver did.
     ///
     /// The only error is want of memory.
     pub fn new(
@@ -81,7 +81,9 @@ impl<N: RunName> Guests<N> {
         script: Vec<App>,
         end: DriverEnd<N>,
         device: &mut DeviceEnd<N>,
+        first: u32,
     ) -> Result<Guests<N>, AllocError>
+        requires first { (FIRST_PORT ≤ first) × (first ≤ LAST_PORT) }
         requires script { script_of script.items ≡ N.script }
         requires right { AreRight N.script }
         requires fresh { end ≡ empty_sight N.ring end.size }
@@ -91,7 +93,7 @@ impl<N: RunName> Guests<N> {
         ensures bytes { IfOk result (λ guests. guests.bytes ≡ []) }
     {
         let mut end = end;
-        let driver = Driver::new(alloc, &mut end)?;
+        let driver = Driver::new_at(alloc, &mut end, first, 1)?;
         note(&mut end, device);
         let begun = AppState {
             progress: Progress::begun(),

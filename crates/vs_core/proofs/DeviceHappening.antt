@@ -33,7 +33,7 @@ is_found chain held =
 -- Of a world that events lead to what is true of all of them.
 pub of_reached : (P : WorldState → Type 0) (s : WorldState) → IsReached s → ((fresh : Type 0) (w : World) → IsWell fresh w → P (shown w))
     → P s
-of_reached P s (n, host, es, is) all = subst P (sym is) (all (IsFresh host) (run es (opening n host)) (run_well n host es))
+of_reached P s (how, host, es, is) all = subst P (sym is) (all (IsFresh host) (run es (opening how host)) (run_well how host es))
 
 -- The world once the device or the proxy made a step.
 abbrev pub Left : Type 0

@@ -86,13 +86,13 @@ run_more [] e w = refl
 run_more (x ∷ es) e w = run_more es e (happens x w)
 
 reached_next : (e : Event) (s : WorldState) → IsReached s → IsReached (shown (happens e (with_journal [] s)))
-reached_next e s (n, host, es, is) =
-    let w = run es (opening n host) in (
-      n,
+reached_next e s (how, host, es, is) =
+    let w = run es (opening how host) in (
+      how,
       host,
       es ++ e ∷ [],
       ap (λ (x : WorldState). shown (happens e (with_journal [] x))) is
-          ∙ (sym (blind w e) ∙ ap shown (sym (run_more es e (opening n host)))),
+          ∙ (sym (blind w e) ∙ ap shown (sym (run_more es e (opening how host)))),
     )
 
 -- An event happened, and what it left is ready.

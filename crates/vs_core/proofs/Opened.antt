@@ -1,4 +1,5 @@
 -- The world in which nothing has happened yet.
+use Rattle.laws_world.{specs.{World.{from_lowest, first_cid, opened_host, opening}, Over.over_lists}, proofs.Opening.opening_is}
 use Rattle.std.proofs.Common.{◌≡◌, ℕ, List, [], sym, ap, subst, ◌∙◌}
 use Rattle.vs_outside.specs.{Host.HostContents, HostProgram.{HostMemory, new_host, plain}}
 use Rattle.vs_ring_list.specs.Ends.{Ends, empty_ends}
@@ -8,7 +9,6 @@ use Rattle.vs_limits.specs.declared.TheConstants.{FIRST_PORT}
 use Rattle.laws_device.proofs.Named.Opening.{new_has}
 use Rattle.vs_proxy_parts.specs.{State.ProxyState, Turns.new_proxy}
 use Rattle.laws_proxy.proofs.Named.Lists.{none_open}
-use Rattle.laws_world.{specs.{World.{first_cid, opened_host, opening}, Over.over_lists}, proofs.Opening.opening_is}
 use Rattle.vs_core.{specs.Ready.{IsDrivenAtWork, IsReady, IsServedAtWork, WorldState, shown}, proofs.Happening.{device_stays, served_rings}}
 
 -- A driver just made loads the first CID.
@@ -25,7 +25,7 @@ begun s x w h = record { driver = s; proxy = x; rings = w; host = h }
 
 module _ (n : ℕ) (base : List ℕ) (w : Ends) (s : DriverState) (x : ProxyState) (h : HostMemory)
     (played : over_lists (new_of n FIRST_PORT 1) (empty_ends n) ≡ (s, w)) (made : x ≡ new_proxy first_cid base) (host : h ≡ new_host base [] plain) where
-  pub begun_as : begun s x w h.contents ≡ shown (opening n (opened_host base))
+  pub begun_as : begun s x w h.contents ≡ shown (opening (from_lowest n) (opened_host base))
   begun_as =
       let first = over_lists (new_of n FIRST_PORT 1) (empty_ends n) in
       ap (λ (r : DriverState × Ends). begun r.0 x r.1 h.contents) (sym played)
@@ -34,7 +34,7 @@ module _ (n : ℕ) (base : List ℕ) (w : Ends) (s : DriverState) (x : ProxyStat
 
   pub begun_ready : IsDrivenAtWork s w → IsReady (begun s x w h.contents)
   begun_ready driven = record {
-    reached = (n, opened_host base, [], begun_as);
+    reached = (from_lowest n, opened_host base, [], begun_as);
     driven = driven;
     served =
         subst (λ y. IsServedAtWork y w h.contents) (sym made)

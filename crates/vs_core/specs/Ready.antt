@@ -41,7 +41,7 @@ pub record IsServedAtWork (s : ProxyState) (e : Ends) (h : HostContents) : Type 
 
 -- Events lead to it from an opening world.
 abbrev pub IsReached : WorldState → Type 0
-IsReached s = (n : ℕ) × (host : HostContents) × (es : List Event) × (s ≡ shown (run es (opening n host)))
+IsReached s = (how : Beginning) × (host : HostContents) × (es : List Event) × (s ≡ shown (run es (opening how host)))
 
 -- The next event may happen.
 pub record IsReady (s : WorldState) : Type 0 where

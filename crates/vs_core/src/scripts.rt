@@ -1,11 +1,11 @@
 //! The lines of a script as lists of events, so that each law of every list of events is one of every script.
 
+ghost use Rattle.laws_world.specs.{World.{Beginning, World, opening}, Events.is_at_rest, Plays.{AreRight, Line, after, is_given_right, line, play, report, sent_by, turn_line}};
+ghost use Rattle.laws_world.specs.Steps.{Leads, device_calls};
 ghost use Rattle.std.specs.Prelude.{◌≡◌, ℕ, ◌++◌, true, List, None};
 ghost use Rattle.vs_device_parts.specs.{Receiving.{fill_rx_of, pay_event_of}, Streams.{pump_of, tick_of}, Transmitting.take_tx_of};
 ghost use Rattle.vs_flow.specs.Connection.{Connection};
 ghost use Rattle.vs_outside.specs.Host.{HostContents};
-ghost use Rattle.laws_world.specs.{Events.is_at_rest, Plays.{AreRight, Line, after, is_given_right, line, play, report, sent_by, turn_line}, Steps.{Leads, device_calls}};
-ghost use Rattle.laws_world.specs.World.{World, opening};
 ghost use Rattle.laws_driver.specs.Carried.Senders.{sent_to};
 
 /// Each call of the device's that a turn is made of, whole, is a list of events: a tick, taking a transmit packet, the owed event, the
@@ -38,8 +38,8 @@ pub fn law_of_lines()
 /// A script, from the world in which nothing has happened yet, is a list of events. So each law of every list of events is one of every
 /// script, and of what it reports at its end.
 pub fn law_of_scripts()
-    ensures events { (n : ℕ) (host : HostContents) (ls : List Line) → AreRight ls →
-        Leads (opening n host) (after ls (opening n host)) }
-    ensures rests { (n : ℕ) (host : HostContents) (ls : List Line) → is_at_rest (after ls (opening n host)).rings.driver.staged ≡ true }
+    ensures events { (how : Beginning) (host : HostContents) (ls : List Line) → AreRight ls →
+        Leads (opening how host) (after ls (opening how host)) }
+    ensures rests { (how : Beginning) (host : HostContents) (ls : List Line) → is_at_rest (after ls (opening how host)).rings.driver.staged ≡ true }
     ensures reported { (ls : List Line) (w : World) → (play ls w).1 ≡ report (after ls w) }
 {}

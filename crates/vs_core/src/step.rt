@@ -1,10 +1,10 @@
 //! Events, one after another.
 
-ghost use Rattle.std.specs.{Prelude.◌≡◌, Prelude.◌≤◌, Prelude.IfOk, Prelude.Ok, Prelude.length, Prelude.map, List.All};
+ghost use Rattle.laws_world.specs.{World.{from_lowest, opened_host, opening}, Events.run};
+ghost use Rattle.std.specs.{Prelude.{◌≡◌, ◌≤◌, IfOk, Ok, length, map}, List.All};
 ghost use Rattle.vs_ring_list.specs.Ends.{IsQueueSize};
 ghost use Rattle.vs_uds.specs.declared.path.TheConstants.{BASE_MAX};
-ghost use Rattle.laws_world.specs.{Events.run, World.opened_host, World.opening};
-ghost use Rattle.vs_core.specs.{Ready.IsReady, Ready.shown, Views.HasBits, Views.Steps, Views.event_view};
+ghost use Rattle.vs_core.specs.{Ready.{IsReady, shown}, Views.{HasBits, Steps, event_view}};
 ghost use Rattle.vs_core.specs.declared.event.Reply.TheVariants as reply;
 
 use crate::event::{Event, Reply};
@@ -67,7 +67,7 @@ pub fn run(alloc: Global, n: u16, base: &str, events: &[Event]) -> Result<World,
     requires size { IsQueueSize n }
     requires base { (1 ≤ length base.now) × (length base.now ≤ BASE_MAX) }
     requires bits { All (λ e. HasBits (event_view e)) events.now }
-    ensures world { IfOk result (λ world. world ≡ shown (run (map event_view events.now) (opening n (opened_host base.now)))) }
+    ensures world { IfOk result (λ world. world ≡ shown (run (map event_view events.now) (opening (from_lowest n) (opened_host base.now)))) }
     ensures ready { IfOk result IsReady }
 {
     let mut world = World::new(alloc, n, base)?;

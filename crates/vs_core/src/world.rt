@@ -1,5 +1,6 @@
 //! The world: a driver, a device with its proxy, list rings and a host in memory.
 
+ghost use Rattle.laws_world.specs.{World.{from_lowest, first_cid, opened_host, opening}, Over.over_lists};
 ghost use Rattle.std.specs.Prelude.{◌≡◌, ◌≤◌, IfOk, [], length};
 ghost use Rattle.vs_outside.specs.HostProgram.{new_host, plain};
 ghost use Rattle.vs_ring_list.specs.Ends.{IsQueueSize, empty_ends};
@@ -7,7 +8,6 @@ ghost use Rattle.vs_driver_parts.specs.Conversations.{new_of};
 ghost use Rattle.vs_limits.specs.declared.TheConstants.{FIRST_PORT};
 ghost use Rattle.vs_proxy_parts.specs.Turns.{new_proxy};
 ghost use Rattle.vs_uds.specs.declared.path.TheConstants.{BASE_MAX};
-ghost use Rattle.laws_world.specs.{Over.over_lists, World.first_cid, World.opened_host, World.opening};
 ghost use Rattle.vs_core.specs.Ready.{IsDrivenAtWork, IsReady, shown};
 
 use std::alloc::{AllocError, Global};
@@ -41,7 +41,7 @@ impl World {
     pub fn new(alloc: Global, n: u16, base: &str) -> Result<World, AllocError>
         requires size { IsQueueSize n }
         requires base { (1 ≤ length base.now) × (length base.now ≤ BASE_MAX) }
-        ensures opened { IfOk result (λ world. world ≡ shown (opening n (opened_host base.now))) }
+        ensures opened { IfOk result (λ world. world ≡ shown (opening (from_lowest n) (opened_host base.now))) }
         ensures ready { IfOk result IsReady }
     {
         let (rings, driver) = guest_end(alloc, n)?;

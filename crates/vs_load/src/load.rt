@@ -15,6 +15,7 @@ use std::sync::Wait;
 use std::thread::Threads;
 use vs_apps::guests::{Guests, RunName};
 use vs_echo::EchoHost;
+use vs_limits::FIRST_PORT;
 use vs_load_parts::apps::{law_of_loads, load_apps};
 use vs_load_parts::tally::load_line;
 use vs_outside::{Clock, Gate};
@@ -69,7 +70,7 @@ fn load_under<W: Threads + Wait + Sync, N: StartName + Send, C: Clock, G: Gate +
     ensures { IfOk result (λ line. IsOver conns N.script N.start (Some host.new.contents) host.new.faults (string_bytes line)) }
 {
     match run_under::<W, N, EchoHost, C, G>(
-        rt, alloc, script, rings, proxy, host, clock, LOAD_IDLE, gates, gate,
+        rt, alloc, script, rings, FIRST_PORT, proxy, host, clock, LOAD_IDLE, gates, gate,
     ) {
         Ok(ran) => line_of(alloc, conns, &ran.guests),
         Err(_) => Err(AllocError),

@@ -75,22 +75,22 @@ module _ (lines : List (Numbered PlayLine)) (place : ℕ) (line : Numbered PlayL
       (gives_next old mid new f m g p.done (one ∷ others) (Err e) p.given (gives_less mid new m g (one ∷ []) others e given)))
 
 -- A play whose lines end with an error ends there; one whose lines are all played ends with its report.
-module _ (n : ℕ) (es : List Event) (w : PlayState) (old mid new : Option (List ℕ)) (f m g : ℕ) (r : Result (Unit {0}) GiveError)
-    (opened : w ≡ shown (opened_play n)) where
-  from_start : texts_of es (world_in w) ≡ texts_of es (opened_play n)
-  from_start = ap (λ x. texts_of es (world_in x)) opened ∙ sym (texts_alike es (opened_play n))
+module _ (n first : ℕ) (es : List Event) (w : PlayState) (old mid new : Option (List ℕ)) (f m g : ℕ) (r : Result (Unit {0}) GiveError)
+    (opened : w ≡ shown (opened_play n first)) where
+  from_start : texts_of es (world_in w) ≡ texts_of es (opened_play n first)
+  from_start = ap (λ x. texts_of es (world_in x)) opened ∙ sym (texts_alike es (opened_play n first))
 
-  pub run_until : (e : GiveError) → r ≡ Err e → GivesLines old new f g (texts_of es (world_in w)) (Err e) → GivesLines old new f g (printed n es) r
+  pub run_until : (e : GiveError) → r ≡ Err e → GivesLines old new f g (texts_of es (world_in w)) (Err e) → GivesLines old new f g (printed n first es) r
   run_until e failed h =
-      subst (λ x. GivesLines old new f g (printed n es) x) (sym failed)
-      (gives_less old new f g (texts_of es (opened_play n)) (report_of (world_after es (opened_play n)).world) e
+      subst (λ x. GivesLines old new f g (printed n first es) x) (sym failed)
+      (gives_less old new f g (texts_of es (opened_play n first)) (report_of (world_after es (opened_play n first)).world) e
       (subst (λ ts. GivesLines old new f g ts (Err e)) from_start h))
 
   pub run_given : (v : PlayState) → v ≡ shown (world_after es (world_in w)) → GivesLines old mid f m (texts_of es (world_in w)) (Ok tt)
-      → GivesLines mid new m g (report_of (world_in v).world) r → GivesLines old new f g (printed n es) r
+      → GivesLines mid new m g (report_of (world_in v).world) r → GivesLines old new f g (printed n first es) r
   run_given v after h told =
-      let last : v ≡ shown (world_after es (opened_play n)) =
-      after ∙ (ap (λ x. shown (world_after es (world_in x))) opened ∙ sym (after_alike es (opened_play n))) in
-      gives_next old mid new f m g (texts_of es (opened_play n)) (report_of (world_after es (opened_play n)).world) r
+      let last : v ≡ shown (world_after es (opened_play n first)) =
+      after ∙ (ap (λ x. shown (world_after es (world_in x))) opened ∙ sym (after_alike es (opened_play n first))) in
+      gives_next old mid new f m g (texts_of es (opened_play n first)) (report_of (world_after es (opened_play n first)).world) r
       (subst (λ ts. GivesLines old mid f m ts (Ok tt)) from_start h)
-      (subst (λ ls. GivesLines mid new m g ls r) (ap (λ x. report_of (world_in x).world) last ∙ report_alike (world_after es (opened_play n))) told)
+      (subst (λ ls. GivesLines mid new m g ls r) (ap (λ x. report_of (world_in x).world) last ∙ report_alike (world_after es (opened_play n first))) told)

@@ -2,7 +2,6 @@
 use Rattle.std.proofs.Common.{◌≡◌, ℕ, ◌+◌, min, List, ◌++◌, length, Option, Result, Ok, Err, OnOk, refl, sym, ap, ap₂, subst, ◌∙◌}
 use Rattle.vs_ring_list.specs.Ends.{Ends, empty_ends}
 use Rattle.vs_driver_parts.specs.{Conversations.{DriverTree, new_of}, State.DriverState}
-use Rattle.vs_limits.specs.declared.TheConstants.{FIRST_PORT}
 use Rattle.vs_ring_port.specs.declared.device_ring.Chain.{Chain}
 use Rattle.vs_device_parts.specs.{Calls.{DeviceTree, Situation}, Playing.IsItsRing, declared.answers.Grown.Grown}
 use Rattle.vs_outside.specs.{Host.HostContents, HostProgram.after_client}
@@ -175,30 +174,30 @@ begun s x w h = record { driver = s; proxy = x; rings = w; host = h; moment = 0 
 own_size : (n : ℕ) (v : Ends) → v ≡ empty_ends n → v ≡ empty_ends v.lists.size
 own_size n v empty = subst (λ e. e ≡ empty_ends e.lists.size) (sym empty) refl
 
-begun_same : (n : ℕ) (v w : Ends) (s : DriverState) (x : ProxyState) (h : HostContents) → v ≡ empty_ends n
-    → over_lists (new_of v.lists.size FIRST_PORT 1) v ≡ (s, w) → x ≡ new_proxy first_cid base_path → h ≡ opened_host base_path
-    → begun s x w h ≡ shown (opened_play n)
-begun_same n v w s x h empty played made host =
-    let there : over_lists (new_of n FIRST_PORT 1) (empty_ends n) ≡ (s, w) = subst (λ e. over_lists (new_of e.lists.size FIRST_PORT 1) e ≡ (s, w)) empty played in
+begun_same : (n first : ℕ) (v w : Ends) (s : DriverState) (x : ProxyState) (h : HostContents) → v ≡ empty_ends n
+    → over_lists (new_of v.lists.size first 1) v ≡ (s, w) → x ≡ new_proxy first_cid base_path → h ≡ opened_host base_path
+    → begun s x w h ≡ shown (opened_play n first)
+begun_same n first v w s x h empty played made host =
+    let there : over_lists (new_of n first 1) (empty_ends n) ≡ (s, w) = subst (λ e. over_lists (new_of e.lists.size first 1) e ≡ (s, w)) empty played in
     let start : ProxyState → HostContents → DriverState × Ends → PlayState = λ y g r. begun r.0 y r.1 g in
     ap (start x h) (sym there)
-    ∙ (ap (λ y. start y h (over_lists (new_of n FIRST_PORT 1) (empty_ends n))) made
-    ∙ ap (λ g. start (new_proxy first_cid base_path) g (over_lists (new_of n FIRST_PORT 1) (empty_ends n))) host)
+    ∙ (ap (λ y. start y h (over_lists (new_of n first 1) (empty_ends n))) made
+    ∙ ap (λ g. start (new_proxy first_cid base_path) g (over_lists (new_of n first 1) (empty_ends n))) host)
 
-begun_ready : (n : ℕ) (v w : Ends) (s : DriverState) (x : ProxyState) (h : HostContents) → v ≡ empty_ends n
-    → over_lists (new_of v.lists.size FIRST_PORT 1) v ≡ (s, w) → x ≡ new_proxy first_cid base_path → IsDriven s w → IsReady (begun s x w h)
-begun_ready n v w s x h empty played made driven = record {
+begun_ready : (n first : ℕ) (v w : Ends) (s : DriverState) (x : ProxyState) (h : HostContents) → v ≡ empty_ends n
+    → over_lists (new_of v.lists.size first 1) v ≡ (s, w) → x ≡ new_proxy first_cid base_path → IsDriven s w → IsReady (begun s x w h)
+begun_ready n first v w s x h empty played made driven = record {
   driven = driven;
   served =
       subst (λ y. IsServed y w h) (sym made)
-      (served_rings (new_proxy first_cid base_path) v w h (device_stays (new_of v.lists.size FIRST_PORT 1) v w s played)
+      (served_rings (new_proxy first_cid base_path) v w h (device_stays (new_of v.lists.size first 1) v w s played)
       (subst (λ e. IsServed (new_proxy first_cid base_path) e h) (sym empty) (served_new n h)));
 }
 
-pub opens : (n : ℕ) (v w : Ends) (s : DriverState) (x : ProxyState) (h : HostContents) (p : PlayState) → v ≡ empty_ends n
-    → over_lists (new_of v.lists.size FIRST_PORT 1) v ≡ (s, w) → x ≡ new_proxy first_cid base_path → h ≡ opened_host base_path → IsDriven s w
-    → p ≡ begun s x w h → IsOpened v.lists.size p
-opens n v w s x h p empty played made host driven is = subst (IsOpened v.lists.size) (sym is) (record {
-  world = begun_same v.lists.size v w s x h (own_size n v empty) played made host;
-  ready = begun_ready n v w s x h empty played made driven;
+pub opens : (n first : ℕ) (v w : Ends) (s : DriverState) (x : ProxyState) (h : HostContents) (p : PlayState) → v ≡ empty_ends n
+    → over_lists (new_of v.lists.size first 1) v ≡ (s, w) → x ≡ new_proxy first_cid base_path → h ≡ opened_host base_path → IsDriven s w
+    → p ≡ begun s x w h → IsOpened v.lists.size first p
+opens n first v w s x h p empty played made host driven is = subst (IsOpened v.lists.size first) (sym is) (record {
+  world = begun_same v.lists.size first v w s x h (own_size n v empty) played made host;
+  ready = begun_ready n first v w s x h empty played made driven;
 })

@@ -58,9 +58,9 @@ pub record IsReady (p : PlayState) : Type 0 where
   pub driven : IsDriven p.driver p.rings
   pub served : IsServed p.proxy p.rings p.host
 
--- A play just begun over empty rings with queues of n pages.
-pub record IsOpened (n : ℕ) (p : PlayState) : Type 0 where
-  pub world : p ≡ shown (opened_play n)
+-- A play just begun over empty rings with queues of n pages, where this is the guest's first port.
+pub record IsOpened (n first : ℕ) (p : PlayState) : Type 0 where
+  pub world : p ≡ shown (opened_play n first)
   pub ready : IsReady p
 
 -- A line was played: the world is the one that it leads to, its text stands behind what stood there, and the next line may be played.

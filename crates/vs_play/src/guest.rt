@@ -4,7 +4,7 @@ ghost use Rattle.std.specs.Prelude.{◌≡◌, ◌≤◌, ℕ, IfOk, OnOk, lengt
 ghost use Rattle.vs_contents.specs.CallTree.{Done};
 ghost use Rattle.vs_ring_list.specs.Ends.{Ends, empty_ends};
 ghost use Rattle.vs_driver_parts.specs.{Conversations.{new_of, poll_of}, Connections.table_shown};
-ghost use Rattle.vs_limits.specs.declared.TheConstants.{FIRST_PORT};
+ghost use Rattle.vs_limits.specs.declared.TheConstants.{FIRST_PORT, LAST_PORT};
 ghost use Rattle.vs_report.specs.GuestLines.{poll_text};
 ghost use Rattle.vs_script.specs.{Data.{bytes_of, content_of}, Play.play_view};
 ghost use Rattle.laws_world.specs.Over.{over_lists};
@@ -22,13 +22,14 @@ use vs_report::guest_lines::{
 };
 use vs_script::{Data, PlayLine};
 
-/// A driver just made over empty rings. The only error is want of memory.
-pub fn new<R: BothEnds>(alloc: Global, rings: &mut R) -> Result<Driver, AllocError>
+/// A driver just made over empty rings, with its first port. The only error is want of memory.
+pub fn new<R: BothEnds>(alloc: Global, rings: &mut R, first: u32) -> Result<Driver, AllocError>
     requires empty { (n : ℕ) × (R.ends rings.old ≡ empty_ends n) }
-    ensures played { IfOk result (λ driver. over_lists (new_of (R.ends rings.old).lists.size FIRST_PORT 1) (R.ends rings.old) ≡ (driver, R.ends rings.new)) }
+    requires first { (FIRST_PORT ≤ first) × (first ≤ LAST_PORT) }
+    ensures played { IfOk result (λ driver. over_lists (new_of (R.ends rings.old).lists.size first 1) (R.ends rings.old) ≡ (driver, R.ends rings.new)) }
     ensures driven { IfOk result (λ driver. IsDriven driver (R.ends rings.new)) }
 {
-    let driver = Driver::new(alloc, rings)?;
+    let driver = Driver::new_at(alloc, rings, first, 1)?;
     Ok(driver)
 }
 

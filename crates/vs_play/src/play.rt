@@ -1,6 +1,7 @@
 //! A play: a guest's driver and the device with its proxy on one thread, over rings of any kind, with a host in memory.
 
-ghost use Rattle.std.specs.Prelude.{◌≡◌, ℕ, IfOk, OnOk, string_bytes};
+ghost use Rattle.std.specs.Prelude.{◌≡◌, ◌≤◌, ℕ, IfOk, OnOk, string_bytes};
+ghost use Rattle.vs_limits.specs.declared.TheConstants.{FIRST_PORT, LAST_PORT};
 ghost use Rattle.vs_ring_list.specs.Ends.{empty_ends};
 ghost use Rattle.vs_script.specs.Play as script;
 ghost use Rattle.vs_script.specs.{Outside.outside_view, Play.play_view};
@@ -40,13 +41,14 @@ impl<R: BothEnds> Model for Play<R> {
 }
 
 impl<R: BothEnds + Drop> Play<R> {
-    /// A play just begun over empty rings, with a host at which nobody listens. The only error is want of memory.
-    pub fn new(alloc: Global, rings: R) -> Result<Play<R>, AllocError>
-        requires { (n : ℕ) × (R.ends rings ≡ empty_ends n) }
-        ensures { IfOk result (IsOpened (R.ends rings).lists.size) }
+    /// A play just begun over empty rings, with the guest's first port and a host at which nobody listens. The only error is want of memory.
+    pub fn new(alloc: Global, rings: R, first: u32) -> Result<Play<R>, AllocError>
+        requires empty { (n : ℕ) × (R.ends rings ≡ empty_ends n) }
+        requires first { (FIRST_PORT ≤ first) × (first ≤ LAST_PORT) }
+        ensures { IfOk result (IsOpened (R.ends rings).lists.size first) }
     {
         let mut rings = rings;
-        let driver = guest::new(alloc, &mut rings)?;
+        let driver = guest::new(alloc, &mut rings, first)?;
         let proxy = device::new(alloc)?;
         let host = device::new_host(alloc)?;
         Ok(Play::at_start(alloc, rings, driver, proxy, host))

@@ -1,6 +1,7 @@
 //! Playing a script: what each line prints, and then the report, given to a sink line by line.
 
-ghost use Rattle.std.specs.{Prelude.{◌≡◌, ◌∷◌, [], ℕ, List, Ok, OnOk, map}, List.AllByRecursion};
+ghost use Rattle.vs_limits.specs.declared.TheConstants.{FIRST_PORT, LAST_PORT};
+ghost use Rattle.std.specs.{Prelude.{◌≡◌, ◌≤◌, ◌∷◌, [], ℕ, List, Ok, OnOk, map}, List.AllByRecursion};
 ghost use Rattle.vs_ring_list.specs.Ends.{empty_ends};
 ghost use Rattle.vs_script.specs.{Play.{Event, play_view}, Script.{Plays as Saying, numbered_event, parse_of}};
 ghost use Rattle.vs_report.specs.Gives.{GivesLines};
@@ -14,22 +15,24 @@ use vs_outside::Sink;
 use vs_report::giving::{GiveError, give_report, give_text};
 use vs_script::{Numbered, PlayLine};
 
-/// Plays the lines of a script in order over empty rings, and then reports: how many entries each table has, what each stream's program
+/// Plays the lines of a script in order over empty rings, of a guest that has this first port, and then reports: how many entries each table has, what each stream's program
 /// wrote and read, and what was counted. What a line prints is given to the sink before the next line is played, and each line of the
 /// report by itself. It ends with an error where a call of the sink fails, and where memory runs out, also in the host, which then found
 /// none for a dial or a write: the line at which that is found prints nothing.
 pub fn play<R: BothEnds + Drop, K: Sink>(
     alloc: Global,
     rings: R,
+    first: u32,
     lines: &[Numbered<PlayLine>],
     out: &mut K,
 ) -> Result<(), GiveError>
     requires empty { (n : ℕ) × (R.ends rings ≡ empty_ends n) }
+    requires first { (FIRST_PORT ≤ first) × (first ≤ LAST_PORT) }
     requires playable { AllByRecursion IsPlayable (events_in (map numbered_event lines.now)) }
     ensures { GivesLines (K.contents out.old) (K.contents out.new) (K.faults out.old) (K.faults out.new)
-        (printed (R.ends rings).lists.size (events_in (map numbered_event lines.now))) result }
+        (printed (R.ends rings).lists.size first (events_in (map numbered_event lines.now))) result }
 {
-    let mut play = Play::new(alloc, rings)?;
+    let mut play = Play::new(alloc, rings, first)?;
     let mut text = String::new(alloc);
     play_lines(&mut play, lines, &mut text, out)?;
     report(&play, &mut text, out)

@@ -106,8 +106,9 @@ module _ (c : Command) (lines : Result Saying Refused → List (List ℕ)) (own 
   answered_seven source is (NoMemory unread kept h) seven = absurd (omega (arith, not_seven out out' f g no_memory_text 9 r h seven))
 
 -- the refusals of each command's answers, and the statuses of what is no refusal
-pub play_refusals : (queue : ℕ) (e : Refused) → ((play_answer queue (Err e)).lines ≡ refusal_text e ∷ []) × ((play_answer queue (Err e)).status ≡ 2)
-play_refusals queue e = (refl, refl)
+pub play_refusals : (queue first : ℕ) (e : Refused)
+    → ((play_answer queue first (Err e)).lines ≡ refusal_text e ∷ []) × ((play_answer queue first (Err e)).status ≡ 2)
+play_refusals queue first e = (refl, refl)
 
 pub hostile_refusals : (e : Refused) → ((hostile_answer (Err e)).lines ≡ refusal_text e ∷ []) × ((hostile_answer (Err e)).status ≡ 2)
 hostile_refusals e = (refl, refl)
@@ -147,11 +148,11 @@ stays_attack [] lines = tt
 stays_attack (line ∷ rest) lines =
     attacks_on line.0 (nat_le (length line.1) 4200) (add_hostile lines line.0 (words_of line.1)) rest (stays_attack rest)
 
-pub play_some : (queue : ℕ) (p : Result Saying Refused) → IsPlay p → HasLine (play_answer queue p).lines
-play_some queue (Ok (Plays lines)) h = has_line_behind _ _ _
-play_some queue (Ok (Runs apps)) h = absurd h
-play_some queue (Ok (Attacks lines)) h = absurd h
-play_some queue (Err e) h = (refusal_text e, [], refl)
+pub play_some : (queue first : ℕ) (p : Result Saying Refused) → IsPlay p → HasLine (play_answer queue first p).lines
+play_some queue first (Ok (Plays lines)) h = has_line_behind _ _ _
+play_some queue first (Ok (Runs apps)) h = absurd h
+play_some queue first (Ok (Attacks lines)) h = absurd h
+play_some queue first (Err e) h = (refusal_text e, [], refl)
 
 pub attack_some : (p : Result Saying Refused) → IsAttack p → HasLine (hostile_answer p).lines
 attack_some (Ok (Attacks lines)) h = has_line_behind _ _ _
@@ -173,10 +174,10 @@ is_attack text = go (nat_le (length text) 1048576) refl
     go true e = rw e (stays_attack (lines_from 1 text) [])
     go false e = rw e tt
 
-play_never : (queue : ℕ) (s : Saying) → (play_answer queue (Ok s)).status ≡ 2 → ⊥
-play_never queue (Plays lines) e = absurd (omega (arith, e))
-play_never queue (Runs apps) e = absurd (omega (arith, e))
-play_never queue (Attacks lines) e = absurd (omega (arith, e))
+play_never : (queue first : ℕ) (s : Saying) → (play_answer queue first (Ok s)).status ≡ 2 → ⊥
+play_never queue first (Plays lines) e = absurd (omega (arith, e))
+play_never queue first (Runs apps) e = absurd (omega (arith, e))
+play_never queue first (Attacks lines) e = absurd (omega (arith, e))
 
 no_two : (f : Option Failure) → status_of f ≡ 2 → ⊥
 no_two None e = absurd (omega (arith, e))
@@ -209,10 +210,10 @@ no_script_at_2 None old new r text (inl h, source, host) two is =
     absurd (omega (arith, not_two old.out new.out old.sink_faults new.sink_faults usage_text 1 r h two))
 no_script_at_2 None old new r text (inr h, source, host) two is =
     absurd (omega (arith, not_two old.out new.out old.sink_faults new.sink_faults no_memory_text 9 r h two))
-no_script_at_2 (Some (words.Play kind queue)) old new r text h two is =
-    answer_refused script_of.Play (λ said. (play_answer queue said).lines) (λ said. (play_answer queue said).status) text old.source_faults new.source_faults
-    old.out new.out old.sink_faults new.sink_faults r old.source is (play_never queue) h.0 two
-no_script_at_2 (Some (words.Run base queue idle)) old new r text h two is =
+no_script_at_2 (Some (words.Play kind queue first)) old new r text h two is =
+    answer_refused script_of.Play (λ said. (play_answer queue first said).lines) (λ said. (play_answer queue first said).status) text old.source_faults new.source_faults
+    old.out new.out old.sink_faults new.sink_faults r old.source is (play_never queue first) h.0 two
+no_script_at_2 (Some (words.Run base queue idle first)) old new r text h two is =
     refused_at_2 script_of.Run (KeepsHost old new) (ran_in idle old new r) text old.source_faults new.source_faults old.out new.out
     old.sink_faults new.sink_faults r old.source is
     (run_two old.out new.out old.sink_faults new.sink_faults r idle old.host new.host old.host_faults new.host_faults) h two
@@ -223,13 +224,13 @@ no_script_at_2 (Some (words.Load number conns bytes queue)) old new r text h two
     absurd (load_two old.out new.out old.sink_faults new.sink_faults r number conns bytes h.0 two)
 no_script_at_2 (Some (words.Peer base port idle)) old new r text h two is = says_two base port idle old new r text h.0 two is
 
-pub play_written : (command : Option words.Command) (old new : Lent) (r : ℕ) (kind : Rings) (queue : ℕ) (text : List ℕ) → command ≡ Some (words.Play kind queue)
+pub play_written : (command : Option words.Command) (old new : Lent) (r : ℕ) (kind : Rings) (queue first : ℕ) (text : List ℕ) → command ≡ Some (words.Play kind queue first)
     → Does command old new r → old.source_faults < 2 ^ 64 - 1 → new.source_faults ≡ old.source_faults → old.source ≡ Some text
-    → EndsAnswer old.out new.out old.sink_faults new.sink_faults (play_of queue text).lines (play_of queue text).status r
-play_written command old new r kind queue text is h few same told =
-    answered script_of.Play (λ said. (play_answer queue said).lines) (λ said. (play_answer queue said).status) text old.source_faults new.source_faults
-    old.out new.out old.sink_faults new.sink_faults r old.source told (play_refusals queue)
-    (play_some queue (parse_of script_of.Play text) (is_play text)) (subst (λ k. Does k old new r) is h).0 few same
+    → EndsAnswer old.out new.out old.sink_faults new.sink_faults (play_of queue first text).lines (play_of queue first text).status r
+play_written command old new r kind queue first text is h few same told =
+    answered script_of.Play (λ said. (play_answer queue first said).lines) (λ said. (play_answer queue first said).status) text old.source_faults new.source_faults
+    old.out new.out old.sink_faults new.sink_faults r old.source told (play_refusals queue first)
+    (play_some queue first (parse_of script_of.Play text) (is_play text)) (subst (λ k. Does k old new r) is h).0 few same
 
 pub attack_written : (command : Option words.Command) (old new : Lent) (r : ℕ) (text : List ℕ) → command ≡ Some words.Hostile
     → Does command old new r → old.source_faults < 2 ^ 64 - 1 → new.source_faults ≡ old.source_faults → old.source ≡ Some text
@@ -245,8 +246,8 @@ device_failed command old new r does is seven text told =
     answered_seven script_of.Hostile (λ said. (hostile_answer said).lines) (λ said. (hostile_answer said).status) text old.source_faults new.source_faults
     old.out new.out old.sink_faults new.sink_faults r old.source told (subst (λ k. Does k old new r) is does).0 seven
 
-module _ (command : Option words.Command) (old new : Lent) (r : ℕ) (base : List ℕ) (queue idle : ℕ) (text : List ℕ)
-    (is : command ≡ Some (words.Run base queue idle)) (does : Does command old new r) (few : old.source_faults < 2 ^ 64 - 1)
+module _ (command : Option words.Command) (old new : Lent) (r : ℕ) (base : List ℕ) (queue idle first : ℕ) (text : List ℕ)
+    (is : command ≡ Some (words.Run base queue idle first)) (does : Does command old new r) (few : old.source_faults < 2 ^ 64 - 1)
     (same : new.source_faults ≡ old.source_faults) (source : old.source ≡ Some text) where
   told_run : ran_in idle old new r (parse_of script_of.Run text)
       ⊎ (KeepsHost old new × EndsAs old.out new.out old.sink_faults new.sink_faults no_memory_text 9 r)
@@ -297,8 +298,8 @@ no_answer c lines own text out out' f g r e some is h =
 pub starved : (command : Option words.Command) (old new : Lent) (r : ℕ) → KeepsSource old new → KeepsHost old new
     → EndsAs old.out new.out old.sink_faults new.sink_faults no_memory_text 9 r → Does command old new r
 starved None old new r source host h = (inr h, source, host)
-starved (Some (words.Play kind queue)) old new r source host h = (NoMemory tt source.1 h, host)
-starved (Some (words.Run base queue idle)) old new r source host h = NoMemory host source.1 h
+starved (Some (words.Play kind queue first)) old new r source host h = (NoMemory tt source.1 h, host)
+starved (Some (words.Run base queue idle first)) old new r source host h = NoMemory host source.1 h
 starved (Some words.Hostile) old new r source host h = (NoMemory tt source.1 h, host)
 starved (Some (words.Load number conns bytes queue)) old new r source host h = (inr h, source, host)
 starved (Some (words.Peer base port idle)) old new r source host (inl h) =
@@ -311,8 +312,8 @@ starved (Some (words.Peer base port idle)) old new r source host (inr h) = (
 -- a host that isn't used
 pub host_kept : (command : Option words.Command) (old new : Lent) (r : ℕ) → Does command old new r → uses_host command ≡ false → KeepsHost old new
 host_kept None old new r h none = h.2
-host_kept (Some (words.Play kind queue)) old new r h none = h.1
-host_kept (Some (words.Run base queue idle)) old new r h none = let no : true ≡ false = none in absurd cc
+host_kept (Some (words.Play kind queue first)) old new r h none = h.1
+host_kept (Some (words.Run base queue idle first)) old new r h none = let no : true ≡ false = none in absurd cc
 host_kept (Some words.Hostile) old new r h none = h.1
 host_kept (Some (words.Load number conns bytes queue)) old new r h none = h.2
 host_kept (Some (words.Peer base port idle)) old new r h none = let no : true ≡ false = none in absurd cc
@@ -328,8 +329,8 @@ source_failed (NoMemory unread kept h) differs = absurd (differs kept)
 pub fault_written : (command : Option words.Command) (old new : Lent) (r : ℕ) → Does command old new r → is_client command ≡ false
     → new.source_faults ≢ old.source_faults → EndsWith old.out new.out old.sink_faults new.sink_faults read_fault_text 3 r × KeepsHost old new
 fault_written None old new r h none differs = absurd (differs h.1.1)
-fault_written (Some (words.Play kind queue)) old new r h none differs = (inl (source_failed h.0 differs).0, h.1)
-fault_written (Some (words.Run base queue idle)) old new r h none differs = let s = source_failed h differs in (inl s.0, s.1)
+fault_written (Some (words.Play kind queue first)) old new r h none differs = (inl (source_failed h.0 differs).0, h.1)
+fault_written (Some (words.Run base queue idle first)) old new r h none differs = let s = source_failed h differs in (inl s.0, s.1)
 fault_written (Some words.Hostile) old new r h none differs = (inl (source_failed h.0 differs).0, h.1)
 fault_written (Some (words.Load number conns bytes queue)) old new r h none differs = absurd (differs h.1.1)
 fault_written (Some (words.Peer base port idle)) old new r h none differs = let no : true ≡ false = none in absurd cc

@@ -108,10 +108,10 @@ module _ (command : Option words.Command) (old new : Lent) (r : ℕ) where
         → Cause command old new r
     answering_cause c h = script_cause c (Unit {0}) (EndsParsed lines own old.out new.out old.sink_faults new.sink_faults r) parsed_cause h
 
-  play_status : (queue : ℕ) (s : Saying) → r ≡ (play_answer queue (Ok s)).status → Cause command old new r
-  play_status queue (Plays lines) e = Done e
-  play_status queue (Runs apps) e = Done e
-  play_status queue (Attacks lines) e = Done e
+  play_status : (queue first : ℕ) (s : Saying) → r ≡ (play_answer queue first (Ok s)).status → Cause command old new r
+  play_status queue first (Plays lines) e = Done e
+  play_status queue first (Runs apps) e = Done e
+  play_status queue first (Attacks lines) e = Done e
 
   failed_status : command ≡ Some words.Hostile → (f : Option Failure) → r ≡ status_of f → Cause command old new r
   failed_status is None e = Done e
@@ -159,13 +159,13 @@ module _ (command : Option words.Command) (old new : Lent) (r : ℕ) where
 
 cause : (command : Option words.Command) (old new : Lent) (r : ℕ) → Does command old new r → Cause command old new r
 cause None old new r h = with_cause None old new r usage_text 1 (λ e. Usage e refl) h.0
-cause (Some (words.Play kind queue)) old new r h =
-    answering_cause (Some (words.Play kind queue)) old new r (λ said. (play_answer queue said).lines) (λ said. (play_answer queue said).status)
-    (play_status (Some (words.Play kind queue)) old new r queue) script_of.Play h.0
-cause (Some (words.Run base queue idle)) old new r h =
-    script_cause (Some (words.Run base queue idle)) old new r script_of.Run (KeepsHost old new)
+cause (Some (words.Play kind queue first)) old new r h =
+    answering_cause (Some (words.Play kind queue first)) old new r (λ said. (play_answer queue first said).lines) (λ said. (play_answer queue first said).status)
+    (play_status (Some (words.Play kind queue first)) old new r queue first) script_of.Play h.0
+cause (Some (words.Run base queue idle first)) old new r h =
+    script_cause (Some (words.Run base queue idle first)) old new r script_of.Run (KeepsHost old new)
     (EndsRun idle old.host new.host old.host_faults new.host_faults old.out new.out old.sink_faults new.sink_faults r)
-    (run_cause (Some (words.Run base queue idle)) old new r refl idle) h
+    (run_cause (Some (words.Run base queue idle first)) old new r refl idle) h
 cause (Some words.Hostile) old new r h =
     answering_cause (Some words.Hostile) old new r (λ said. (hostile_answer said).lines) (λ said. (hostile_answer said).status)
     (hostile_status (Some words.Hostile) old new r refl) script_of.Hostile h.0

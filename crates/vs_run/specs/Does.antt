@@ -29,20 +29,20 @@ is_client _ = false
 
 -- Whether a command runs apps, and whether it uses the host that it is lent.
 abbrev pub runs_apps : Option Command → Bool
-runs_apps (Some (Run base queue idle)) = true
+runs_apps (Some (Run base queue idle first)) = true
 runs_apps (Some (Load number conns bytes queue)) = true
 runs_apps _ = false
 
 abbrev pub uses_host : Option Command → Bool
-uses_host (Some (Run base queue idle)) = true
+uses_host (Some (Run base queue idle first)) = true
 uses_host (Some (Peer base port idle)) = true
 uses_host _ = false
 
 -- A text is no script of the command; a load reads none, and a client takes any, of so many bytes.
 abbrev pub IsNoScript : Option Command → List ℕ → Type 0
 IsNoScript None text = ⊥
-IsNoScript (Some (Play kind queue)) text = (r : Refused) × (parse_of script_of.Play text ≡ Err r)
-IsNoScript (Some (Run base queue idle)) text = (r : Refused) × (parse_of script_of.Run text ≡ Err r)
+IsNoScript (Some (Play kind queue first)) text = (r : Refused) × (parse_of script_of.Play text ≡ Err r)
+IsNoScript (Some (Run base queue idle first)) text = (r : Refused) × (parse_of script_of.Run text ≡ Err r)
 IsNoScript (Some Hostile) text = (r : Refused) × (parse_of script_of.Hostile text ≡ Err r)
 IsNoScript (Some (Load number conns bytes queue)) text = ⊥
 IsNoScript (Some (Peer base port idle)) text = SOURCE_MAX < length text
@@ -62,10 +62,10 @@ KeepsHost old new = (new.host ≡ old.host) × (new.host_faults ≡ old.host_fau
 abbrev pub Does : Option Command → Lent → Lent → ℕ → Type 0
 Does None old new result =
     EndsWith old.out new.out old.sink_faults new.sink_faults usage_text 1 result × KeepsSource old new × KeepsHost old new
-Does (Some (Play kind queue)) old new result =
-    EndsAnswering script_of.Play (λ said. (play_answer queue said).lines) (λ said. (play_answer queue said).status) old.source
+Does (Some (Play kind queue first)) old new result =
+    EndsAnswering script_of.Play (λ said. (play_answer queue first said).lines) (λ said. (play_answer queue first said).status) old.source
     old.source_faults new.source_faults old.out new.out old.sink_faults new.sink_faults result × KeepsHost old new
-Does (Some (Run base queue idle)) old new result =
+Does (Some (Run base queue idle first)) old new result =
     EndsScript script_of.Run (KeepsHost old new) (EndsRun idle old.host new.host old.host_faults new.host_faults old.out new.out old.sink_faults
     new.sink_faults result) old.source old.source_faults new.source_faults old.out new.out old.sink_faults new.sink_faults result
 Does (Some Hostile) old new result =

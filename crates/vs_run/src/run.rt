@@ -1,6 +1,6 @@
 //! The command `run`.
 ghost use Rattle.std.specs.Prelude.{Ok};
-ghost use Rattle.vs_words.specs.Command.{IsBase, IsQueueSize};
+ghost use Rattle.vs_words.specs.Command.{IsBase, IsFirst, IsQueueSize};
 ghost use Rattle.vs_script.specs.Script.{parse_of, script_view};
 ghost use Rattle.vs_script.specs.declared.script.Command.TheVariants as command;
 ghost use Rattle.vs_apps_parts.specs.Scripts.{AreRight, script_of};
@@ -18,7 +18,7 @@ use vs_run_apps::whole::{RunError, run};
 use vs_script::{App, Command, Script, parse};
 
 /// Runs the apps of the script that the source holds, over queues of so many pages, with the host's sockets under the base path. An app gives up
-/// after `idle` steps in a row in which it waits. The thread that turns the device has the last of the gates, and each app's one of the others;
+/// after `idle` steps in a row in which it waits, and the guest's first port is `first`. The thread that turns the device has the last of the gates, and each app's one of the others;
 /// where there is none, nothing holds a run up.
 pub fn run_script<
     W: Threads + Wait + Sync,
@@ -33,6 +33,7 @@ pub fn run_script<
     base: &str,
     queue: u16,
     idle: u32,
+    first: u32,
     script: &mut S,
     host: &mut H,
     clock: &mut C,
@@ -41,6 +42,7 @@ pub fn run_script<
 ) -> u8
     requires base { IsBase base.now }
     requires queue { IsQueueSize queue }
+    requires first { IsFirst first }
     ensures { EndsScript command.Run (IsUntouched (H.contents host.old) (H.contents host.new) (H.faults host.old) (H.faults host.new))
         (EndsRun idle (H.contents host.old) (H.contents host.new) (H.faults host.old) (H.faults host.new)
         (K.contents out.old) (K.contents out.new) (K.faults out.old) (K.faults out.new) result)
@@ -49,7 +51,7 @@ pub fn run_script<
 {
     match read_source(alloc, script) {
         Ok(bytes) => run_bytes(
-            rt, alloc, base, queue, idle, &bytes, host, clock, gates, out,
+            rt, alloc, base, queue, idle, first, &bytes, host, clock, gates, out,
         ),
         Err(error) => unread(out, error),
     }
@@ -62,6 +64,7 @@ fn run_bytes<W: Threads + Wait + Sync, H: HostNet, C: Clock, G: Gate + Send + Dr
     base: &str,
     queue: u16,
     idle: u32,
+    first: u32,
     bytes: &[u8],
     host: &mut H,
     clock: &mut C,
@@ -70,13 +73,14 @@ fn run_bytes<W: Threads + Wait + Sync, H: HostNet, C: Clock, G: Gate + Send + Dr
 ) -> u8
     requires base { IsBase base.now }
     requires queue { IsQueueSize queue }
+    requires first { IsFirst first }
     ensures { EndsRun idle (H.contents host.old) (H.contents host.new) (H.faults host.old) (H.faults host.new)
         (K.contents out.old) (K.contents out.new) (K.faults out.old) (K.faults out.new) result (parse_of command.Run bytes.now) }
 {
     law_of_scripts();
     match parse(alloc, Command::Run, bytes) {
         Ok(script) => run_parsed(
-            rt, alloc, base, queue, idle, script, host, clock, gates, out,
+            rt, alloc, base, queue, idle, first, script, host, clock, gates, out,
         ),
         Err(fault) => refused(alloc, fault, out),
     }
@@ -89,6 +93,7 @@ fn run_parsed<W: Threads + Wait + Sync, H: HostNet, C: Clock, G: Gate + Send + D
     base: &str,
     queue: u16,
     idle: u32,
+    first: u32,
     script: Script,
     host: &mut H,
     clock: &mut C,
@@ -97,12 +102,15 @@ fn run_parsed<W: Threads + Wait + Sync, H: HostNet, C: Clock, G: Gate + Send + D
 ) -> u8
     requires base { IsBase base.now }
     requires queue { IsQueueSize queue }
+    requires first { IsFirst first }
     requires right { IsRight (script_view script) }
     ensures { EndsRun idle (H.contents host.old) (H.contents host.new) (H.faults host.old) (H.faults host.new)
         (K.contents out.old) (K.contents out.new) (K.faults out.old) (K.faults out.new) result (Ok (script_view script)) }
 {
     match script {
-        Script::Run(apps) => run_apps(rt, alloc, base, queue, idle, apps, host, clock, gates, out),
+        Script::Run(apps) => run_apps(
+            rt, alloc, base, queue, idle, first, apps, host, clock, gates, out,
+        ),
         Script::Play(_) => DONE,
         Script::Hostile(_) => DONE,
     }
@@ -115,6 +123,7 @@ fn run_apps<W: Threads + Wait + Sync, H: HostNet, C: Clock, G: Gate + Send + Dro
     base: &str,
     queue: u16,
     idle: u32,
+    first: u32,
     apps: Vec<App>,
     host: &mut H,
     clock: &mut C,
@@ -123,6 +132,7 @@ fn run_apps<W: Threads + Wait + Sync, H: HostNet, C: Clock, G: Gate + Send + Dro
 ) -> u8
     requires base { IsBase base.now }
     requires queue { IsQueueSize queue }
+    requires first { IsFirst first }
     requires right { AreRight (script_of apps.items) }
     ensures { EndsOver idle (script_of apps.items) (H.contents host.old) (H.contents host.new) (H.faults host.old) (H.faults host.new)
         (K.contents out.old) (K.contents out.new) (K.faults out.old) (K.faults out.new) result }
@@ -130,13 +140,13 @@ fn run_apps<W: Threads + Wait + Sync, H: HostNet, C: Clock, G: Gate + Send + Dro
     let mut gates = gates;
     match gates.pop() {
         Some(gate) => run_gated(
-            rt, alloc, base, queue, idle, apps, host, clock, gates, gate, out,
+            rt, alloc, base, queue, idle, first, apps, host, clock, gates, gate, out,
         ),
         None => {
             let none = Vec::new(alloc);
             let gate = FreeGate::new();
             run_gated(
-                rt, alloc, base, queue, idle, apps, host, clock, none, gate, out,
+                rt, alloc, base, queue, idle, first, apps, host, clock, none, gate, out,
             )
         }
     }
@@ -149,6 +159,7 @@ fn run_gated<W: Threads + Wait + Sync, H: HostNet, C: Clock, G: Gate + Send + Dr
     base: &str,
     queue: u16,
     idle: u32,
+    first: u32,
     apps: Vec<App>,
     host: &mut H,
     clock: &mut C,
@@ -158,12 +169,13 @@ fn run_gated<W: Threads + Wait + Sync, H: HostNet, C: Clock, G: Gate + Send + Dr
 ) -> u8
     requires base { IsBase base.now }
     requires queue { IsQueueSize queue }
+    requires first { IsFirst first }
     requires right { AreRight (script_of apps.items) }
     ensures { EndsOver idle (script_of apps.items) (H.contents host.old) (H.contents host.new) (H.faults host.old) (H.faults host.new)
         (K.contents out.old) (K.contents out.new) (K.faults out.old) (K.faults out.new) result }
 {
     match run(
-        rt, alloc, apps, queue, base, host, clock, idle, gates, gate, out,
+        rt, alloc, apps, queue, first, base, host, clock, idle, gates, gate, out,
     ) {
         Ok(status) => status,
         Err(RunError::NotStarted) => host_fault(out),

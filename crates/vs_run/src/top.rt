@@ -4,6 +4,7 @@ ghost use Rattle.std.specs.Prelude.{◌≡◌, ◌≢◌, ◌<◌, ◌-◌, ◌^
 ghost use Rattle.vs_outside.specs.Faults.{CountsFault};
 ghost use Rattle.vs_peer.specs.{Pieces.Emits, Statuses.{NoFault, Says, is_faultless}, Text.read_fault_text};
 ghost use Rattle.vs_play.specs.Answer.{play_of};
+ghost use Rattle.laws_world.specs.World.{Beginning};
 ghost use Rattle.laws_play.specs.Headline.{IsLawful};
 ghost use Rattle.vs_hostile.specs.Answer.{hostile_of};
 ghost use Rattle.laws_hostile.specs.Isolated.{IsSafe};
@@ -79,7 +80,7 @@ pub fn vsock_main<
         → EndsWith (K.contents out.old) (K.contents out.new) (K.faults out.old) (K.faults out.new) read_fault_text 3 result
         × (H.contents host.new ≡ H.contents host.old) × (H.faults host.new ≡ H.faults host.old) }
     // The source exposed a text that is no script, and no call of it failed, which its count shows as long as it can rise.
-    ensures refused { (kind : Rings) (queue : ℕ) (text : List ℕ) (r : Refused) → command_of (map string_bytes words.now) ≡ Some (Play kind queue)
+    ensures refused { (kind : Rings) (queue first : ℕ) (text : List ℕ) (r : Refused) → command_of (map string_bytes words.now) ≡ Some (Play kind queue first)
         → S.faults script.old < 2 ^ 64 - 1 → S.faults script.new ≡ S.faults script.old
         → S.contents script.old ≡ Some text → parse_of script_of.Play text ≡ Err r
         → EndsWith (K.contents out.old) (K.contents out.new) (K.faults out.old) (K.faults out.new) (refusal_text r) 2 result }
@@ -87,25 +88,25 @@ pub fn vsock_main<
         → S.faults script.old < 2 ^ 64 - 1 → S.faults script.new ≡ S.faults script.old
         → S.contents script.old ≡ Some text → parse_of script_of.Hostile text ≡ Err r
         → EndsWith (K.contents out.old) (K.contents out.new) (K.faults out.old) (K.faults out.new) (refusal_text r) 2 result }
-    ensures refused_run { (base : List ℕ) (queue idle : ℕ) (text : List ℕ) (r : Refused)
-        → command_of (map string_bytes words.now) ≡ Some (Run base queue idle)
+    ensures refused_run { (base : List ℕ) (queue idle first : ℕ) (text : List ℕ) (r : Refused)
+        → command_of (map string_bytes words.now) ≡ Some (Run base queue idle first)
         → S.faults script.old < 2 ^ 64 - 1 → S.faults script.new ≡ S.faults script.old
         → S.contents script.old ≡ Some text → parse_of script_of.Run text ≡ Err r
         → EndsWith (K.contents out.old) (K.contents out.new) (K.faults out.old) (K.faults out.new) (refusal_text r) 2 result
         × (H.contents host.new ≡ H.contents host.old) × (H.faults host.new ≡ H.faults host.old) }
     // The same of any text: the answer of its play is written, whatever the pieces in which it is read and written.
-    ensures plays { (kind : Rings) (queue : ℕ) (text : List ℕ) → command_of (map string_bytes words.now) ≡ Some (Play kind queue)
+    ensures plays { (kind : Rings) (queue first : ℕ) (text : List ℕ) → command_of (map string_bytes words.now) ≡ Some (Play kind queue first)
         → S.faults script.old < 2 ^ 64 - 1 → S.faults script.new ≡ S.faults script.old → S.contents script.old ≡ Some text
         → EndsAnswer (K.contents out.old) (K.contents out.new) (K.faults out.old) (K.faults out.new)
-        (play_of queue text).lines (play_of queue text).status result }
+        (play_of queue first text).lines (play_of queue first text).status result }
     // That of a hostile guest's run.
     ensures attacks { (text : List ℕ) → command_of (map string_bytes words.now) ≡ Some Hostile
         → S.faults script.old < 2 ^ 64 - 1 → S.faults script.new ≡ S.faults script.old → S.contents script.old ≡ Some text
         → EndsAnswer (K.contents out.old) (K.contents out.new) (K.faults out.old) (K.faults out.new)
         (hostile_of text).lines (hostile_of text).status result }
     // The apps of a script run until both ends are at rest, and the right report of that run is written; or the host didn't start, or memory ran out.
-    ensures runs { (base : List ℕ) (queue idle : ℕ) (text : List ℕ) (apps : RunScript)
-        → command_of (map string_bytes words.now) ≡ Some (Run base queue idle)
+    ensures runs { (base : List ℕ) (queue idle first : ℕ) (text : List ℕ) (apps : RunScript)
+        → command_of (map string_bytes words.now) ≡ Some (Run base queue idle first)
         → S.faults script.old < 2 ^ 64 - 1 → S.faults script.new ≡ S.faults script.old
         → S.contents script.old ≡ Some text → parse_of script_of.Run text ≡ Ok (Runs apps)
         → EndsOver idle apps (H.contents host.old) (H.contents host.new) (H.faults host.old) (H.faults host.new)
@@ -126,9 +127,9 @@ pub fn vsock_main<
         (lent (S.contents script.new) (H.contents host.new) (K.contents out.new) (S.faults script.new) (H.faults host.new) (K.faults out.new) (G.pauses gate.new))
         → is_faultless result ≡ true }
     // Each status has its cause.
-    ensures status_0 { (kind : Rings) (queue : ℕ) (text : List ℕ) → command_of (map string_bytes words.now) ≡ Some (Play kind queue)
+    ensures status_0 { (kind : Rings) (queue first : ℕ) (text : List ℕ) → command_of (map string_bytes words.now) ≡ Some (Play kind queue first)
         → result ≡ 0 → S.contents script.old ≡ Some text
-        → ((play_of queue text).status ≡ 0) × Emits (K.contents out.old) (K.contents out.new) (joined (play_of queue text).lines) }
+        → ((play_of queue first text).status ≡ 0) × Emits (K.contents out.old) (K.contents out.new) (joined (play_of queue first text).lines) }
     ensures status_1 { result ≡ 1 → command_of (map string_bytes words.now) ≡ None }
     ensures status_2 { result ≡ 2 → (text : List ℕ) → S.contents script.old ≡ Some text
         → IsNoScript (command_of (map string_bytes words.now)) text }
@@ -141,8 +142,8 @@ pub fn vsock_main<
     ensures status_8 { result ≡ 8 → is_client (command_of (map string_bytes words.now)) ≡ true }
     ensures statuses { is_status result ≡ true }
     // The headline's first three parts hold of the world that a play reaches, over every script.
-    ensures headline { (n : ℕ) (text : List ℕ) (lines : List (ℕ × Event)) → parse_of script_of.Play text ≡ Ok (Plays lines)
-        → IsLawful n (map (λ l. l.1) lines) }
+    ensures headline { (how : Beginning) (text : List ℕ) (lines : List (ℕ × Event)) → parse_of script_of.Play text ≡ Ok (Plays lines)
+        → IsLawful how (map (λ l. l.1) lines) }
     // Its fourth part, of what a hostile guest's run reaches: no stream is given another connection's bytes, and a failure is kept.
     ensures isolated { (text : List ℕ) (lines : List (ℕ × Attack)) → parse_of script_of.Hostile text ≡ Ok (Attacks lines)
         → IsSafe (map (λ l. l.1) lines) }
@@ -175,13 +176,27 @@ fn run<
     ensures clock { runs_apps (command_of (map string_bytes words.now)) ≡ false → clock.new ≡ clock.old }
 {
     match command_of(rt.alloc(), words) {
-        Ok(Command::Play { rings, queue }) => play_script(rt.alloc(), rings, queue, script, out),
-        Ok(Command::Run { base, queue, idle }) => run_script(
+        Ok(
+            Command::Play {
+                rings,
+                queue,
+                first,
+            },
+        ) => play_script(rt.alloc(), rings, queue, first, script, out),
+        Ok(
+            Command::Run {
+                base,
+                queue,
+                idle,
+                first,
+            },
+        ) => run_script(
             rt,
             rt.alloc(),
             base,
             queue,
             idle,
+            first,
             script,
             host,
             clock,

@@ -1,6 +1,7 @@
 //! Both sides of a run before its first step.
 
 ghost use Rattle.std.specs.Prelude.{◌≡◌, ◌≤◌, ℕ, Option, [], IfOk, length};
+ghost use Rattle.vs_limits.specs.declared.TheConstants.{FIRST_PORT, LAST_PORT};
 ghost use Rattle.vs_outside.specs.Host.{HostContents};
 ghost use Rattle.vs_uds.specs.declared.path.TheConstants.{BASE_MAX};
 ghost use Rattle.vs_ring_shared.specs.Sights.{DeviceSight};
@@ -15,20 +16,22 @@ use vs_proxy::Proxy;
 use vs_ring_shared::{DeviceEnd, NewRings, named};
 use vs_script::App;
 
-/// The guests of a run and the device's end, over new rings. The only error is want of memory.
+/// The guests of a run and the device's end, over new rings, with the guest's first port. The only error is want of memory.
 pub fn new_guests<N: RunName>(
     alloc: Global,
     script: Vec<App>,
     rings: NewRings,
+    first: u32,
 ) -> Result<(Guests<N>, DeviceEnd<N>), AllocError>
     requires script { script_of script.items ≡ N.script }
     requires right { AreRight N.script }
     requires rings { rings.table ≡ N.ring }
+    requires first { (FIRST_PORT ≤ first) × (first ≤ LAST_PORT) }
     ensures silent { IfOk result (λ x. IsSilent x.1) }
     ensures entries { IfOk result (λ x. x.0.entries ≡ []) }
 {
     let (driver, mut device) = named(rings);
-    let guests = Guests::new(alloc, script, driver, &mut device)?;
+    let guests = Guests::new(alloc, script, driver, &mut device, first)?;
     Ok((guests, device))
 }
 

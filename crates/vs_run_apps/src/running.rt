@@ -1,6 +1,7 @@
 //! A run of apps under a name, until both ends are at rest.
 
-ghost use Rattle.std.specs.Prelude.{◌≡◌, ℕ, IfOk, Option};
+ghost use Rattle.std.specs.Prelude.{◌≡◌, ◌≤◌, ℕ, IfOk, Option};
+ghost use Rattle.vs_limits.specs.declared.TheConstants.{FIRST_PORT, LAST_PORT};
 ghost use Rattle.vs_outside.specs.Host.{HostContents};
 ghost use Rattle.vs_ring_shared.specs.Sights.{DeviceSight};
 ghost use Rattle.laws_settled.specs.Begun.{start_with};
@@ -91,8 +92,9 @@ fn run_on<
     }
 }
 
-/// A run of the script of a name, over new rings of its identity, with a host that has started: the apps run, each on a thread of its own,
-/// beside the device on the caller's (`run_all`); then they settle: both ends are at rest, and each app is done or waits.
+/// A run of the script of a name, over new rings of its identity, by a guest with this first port, with a host that has started: the apps run,
+/// each on a thread of its own, beside the device on the caller's (`run_all`); then they settle: both ends are at rest, and each app is done or
+/// waits.
 ///
 /// The only error is want of memory.
 pub fn run_under<
@@ -106,6 +108,7 @@ pub fn run_under<
     alloc: Global,
     script: Vec<App>,
     rings: NewRings,
+    first: u32,
     proxy: Proxy,
     host: &mut H,
     clock: &mut C,
@@ -116,13 +119,14 @@ pub fn run_under<
     requires script { script_of script.items ≡ N.script }
     requires right { AreRight N.script }
     requires rings { rings.table ≡ N.ring }
+    requires first { (FIRST_PORT ≤ first) × (first ≤ LAST_PORT) }
     requires ready { (ring : DeviceSight) (contents : Option HostContents) (faults : ℕ) → IsSilent ring
         → IsReady (start_with contents faults) (record { proxy = proxy; ring = ring; contents = contents; faults = faults }) }
     requires start { N.start ≡ start_with (H.contents host.old) (H.faults host.old) }
     ensures ran { IfOk result (λ r. HasRun N.script N.start r.guests
         (record { proxy = r.proxy; ring = r.ring; contents = H.contents host.new; faults = H.faults host.new }) r.met) }
 {
-    let Ok((guests, ring)) = new_guests::<N>(alloc, script, rings) else {
+    let Ok((guests, ring)) = new_guests::<N>(alloc, script, rings, first) else {
         return Err(OutOfMemory);
     };
     run_on(

@@ -1,6 +1,7 @@
 //! A run of a script, and its report.
 
 ghost use Rattle.std.specs.Prelude.{◌≡◌, ◌≤◌, ℕ, Option, length};
+ghost use Rattle.vs_limits.specs.declared.TheConstants.{FIRST_PORT, LAST_PORT};
 ghost use Rattle.vs_uds.specs.declared.path.TheConstants.{BASE_MAX};
 ghost use Rattle.vs_outside.specs.Host.{HostContents};
 ghost use Rattle.vs_ring_shared.specs.{Ports.IsRingSize, Sights.DeviceSight};
@@ -45,6 +46,7 @@ fn run_and_report<
     alloc: Global,
     script: Vec<App>,
     rings: NewRings,
+    first: u32,
     proxy: Proxy,
     host: &mut H,
     clock: &mut C,
@@ -56,6 +58,7 @@ fn run_and_report<
     requires script { script_of script.items ≡ N.script }
     requires right { AreRight N.script }
     requires rings { rings.table ≡ N.ring }
+    requires first { (FIRST_PORT ≤ first) × (first ≤ LAST_PORT) }
     requires ready { (ring : DeviceSight) (contents : Option HostContents) (faults : ℕ) → IsSilent ring
         → IsReady (start_with contents faults) (record { proxy = proxy; ring = ring; contents = contents; faults = faults }) }
     requires start { N.start ≡ start_with (H.contents host.old) (H.faults host.old) }
@@ -63,7 +66,7 @@ fn run_and_report<
         (K.faults out.new) result }
 {
     match run_under::<W, N, H, C, G>(
-        rt, alloc, script, rings, proxy, host, clock, idle, gates, gate,
+        rt, alloc, script, rings, first, proxy, host, clock, idle, gates, gate,
     ) {
         Ok(ran) => give_report(alloc, &ran, idle, out),
         Err(_) => Err(GiveError::OutOfMemory),
@@ -76,6 +79,7 @@ fn run_started<W: Threads + Wait + Sync, H: HostNet, C: Clock, G: Gate + Send + 
     alloc: Global,
     script: Vec<App>,
     queue: u16,
+    first: u32,
     base: &str,
     host: &mut H,
     clock: &mut C,
@@ -86,6 +90,7 @@ fn run_started<W: Threads + Wait + Sync, H: HostNet, C: Clock, G: Gate + Send + 
 ) -> Result<u8, GiveError>
     requires right { AreRight (script_of script.items) }
     requires queue { IsRingSize queue }
+    requires first { (FIRST_PORT ≤ first) × (first ≤ LAST_PORT) }
     requires base { (1 ≤ length base.now) × (length base.now ≤ BASE_MAX) }
     ensures { Reports idle (script_of script.items) (start_with (H.contents host.old) (H.faults host.old)) (H.contents host.new) (H.faults host.new) (K.contents out.old) (K.contents out.new)
         (K.faults out.old) (K.faults out.new) result }
@@ -97,15 +102,16 @@ fn run_started<W: Threads + Wait + Sync, H: HostNet, C: Clock, G: Gate + Send + 
         return Err(GiveError::OutOfMemory);
     };
     run_and_report::<W, Brand, H, C, G, K>(
-        rt, alloc, script, rings, proxy, host, clock, idle, gates, gate, out,
+        rt, alloc, script, rings, first, proxy, host, clock, idle, gates, gate, out,
     )
 }
 
-/// A run of a script whose shutdowns have the bits 1 to 3, over new shared rings of `queue` descriptors each, a power of two from 1 to 32,768.
-/// The host starts at the base path, of 1 to 90 bytes; the apps run, each on a thread of its own with a gate off the end of `gates`, beside the
-/// device on the caller's, with `gate`; an app that has no gate, or of which no thread could be started, is stepped by the caller between turns.
-/// An app gives up for a while where it waited `idle` steps in a row. When all have ended they settle: both ends are at rest, and each app is done
-/// or waits. Then the report is given to the sink, each line by itself, LF included.
+/// A run of a script whose shutdowns have the bits 1 to 3, over new shared rings of `queue` descriptors each, a power of two from 1 to 32,768,
+/// by a guest whose first port is `first`, 1,024 to 1,073,741,823. The host starts at the base path, of 1 to 90 bytes; the apps run, each on a
+/// thread of its own with a gate off the end of `gates`, beside the device on the caller's, with `gate`; an app that has no gate, or of which no
+/// thread could be started, is stepped by the caller between turns. An app gives up for a while where it waited `idle` steps in a row. When all
+/// have ended they settle: both ends are at rest, and each app is done or waits. Then the report is given to the sink, each line by itself, LF
+/// included.
 ///
 /// Answers the run's status: 0, or 5 where an app isn't done. The errors are a host that didn't start, want of memory, and a call of the sink
 /// that failed.
@@ -114,6 +120,7 @@ pub fn run<W: Threads + Wait + Sync, H: HostNet, C: Clock, G: Gate + Send + Drop
     alloc: Global,
     script: Vec<App>,
     queue: u16,
+    first: u32,
     base: &str,
     host: &mut H,
     clock: &mut C,
@@ -124,6 +131,7 @@ pub fn run<W: Threads + Wait + Sync, H: HostNet, C: Clock, G: Gate + Send + Drop
 ) -> Result<u8, RunError>
     requires right { AreRight (script_of script.items) }
     requires queue { IsRingSize queue }
+    requires first { (FIRST_PORT ≤ first) × (first ≤ LAST_PORT) }
     requires base { (1 ≤ length base.now) × (length base.now ≤ BASE_MAX) }
     ensures { Answers idle (script_of script.items) (start_with (H.contents host.old) (H.faults host.old)) (H.contents host.new) (H.faults host.new) (K.contents out.old)
         (K.contents out.new) (K.faults out.old) (K.faults out.new) result }
@@ -131,7 +139,7 @@ pub fn run<W: Threads + Wait + Sync, H: HostNet, C: Clock, G: Gate + Send + Drop
     match host.start(base) {
         Started::Failed => Err(RunError::NotStarted),
         Started::Ready => match run_started(
-            rt, alloc, script, queue, base, host, clock, idle, gates, gate, out,
+            rt, alloc, script, queue, first, base, host, clock, idle, gates, gate, out,
         ) {
             Ok(status) => Ok(status),
             Err(error) => Err(RunError::NotGiven(error)),

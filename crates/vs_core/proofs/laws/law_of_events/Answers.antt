@@ -2,7 +2,7 @@ use Rattle.laws_world.{specs.{Events.run, World.opening, Pipes.IsFresh}, proofs.
 use Rattle.vs_core.proofs.laws.law_of_events.Goals as goal
 
 pub returns-clause-each : goal.returns-clause-each
-returns-clause-each c = λ n host es e. (happens_goes (IsFresh host) (run es (opening n host)) (run_well n host es) e).runs
+returns-clause-each c = λ how host es e. (happens_goes (IsFresh host) (run es (opening how host)) (run_well how host es) e).runs
 
 pub returns-clause-all : goal.returns-clause-all
-returns-clause-all c = λ n host es. and_then _ _ _ (stays _ _ (opening_is n host)) (reached n host es).runs
+returns-clause-all c = λ how host es. and_then _ _ _ (stays _ _ (opening_is n host)) (reached how host es).runs

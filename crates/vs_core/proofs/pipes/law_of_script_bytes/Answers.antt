@@ -6,9 +6,9 @@ use Rattle.laws_world.{proofs.{Carried.carried, Opening.run_well, ScriptLines.op
 use Rattle.vs_core.proofs.pipes.law_of_script_bytes.Goals as goal
 
 pub returns : goal.returns
-returns c = λ n host ls right fresh.
-    let leads = opened_leads n host ls right in
-    let well = run_well n host leads.0 in
+returns c = λ how host ls right fresh.
+    let leads = opened_leads how host ls right in
+    let well = run_well how host leads.0 in
     subst (λ (w : World). (opened : ℕ → Connection) × IsRightIn opened w × ((id : ℕ) → 1 ≤ (opened id).number
     → CarryBytes (opened id) (sent_to opened (opened id) w.journal) (received_by id w.journal) w.host)) leads.1
-    (well.opened, well.right, carried (run leads.0 (opening n host)) well fresh well.opened well.right)
+    (well.opened, well.right, carried (run leads.0 (opening how host)) well fresh well.opened well.right)

@@ -9,4 +9,4 @@ returns-clause-device c = λ cid w right fine.
     subst (λ (v : World). IsEmptied v.proxy) (sym (possible_is (is_guest_cid cid) (reset_made cid) w right)) (device_emptied cid w fine)
 
 pub returns-clause-driver : goal.returns-clause-driver
-returns-clause-driver c = λ n host es page. driver_emptied (run es (opening n host)) (run_well n host es) page
+returns-clause-driver c = λ how host es page. driver_emptied (run es (opening how host)) (run_well how host es) page

@@ -2,10 +2,10 @@ use Rattle.laws_world.{specs.World.opening, proofs.{CallRests.opening_rests, Scr
 use Rattle.vs_core.proofs.scripts.law_of_scripts.Goals as goal
 
 pub returns-clause-events : goal.returns-clause-events
-returns-clause-events c = λ n host ls may. opened_leads n host ls may
+returns-clause-events c = λ how host ls may. opened_leads how host ls may
 
 pub returns-clause-rests : goal.returns-clause-rests
-returns-clause-rests c = λ n host ls. script_rests ls (opening n host) (opening_rests n host)
+returns-clause-rests c = λ how host ls. script_rests ls (opening how host) (opening_rests how host)
 
 pub returns-clause-reported : goal.returns-clause-reported
 returns-clause-reported c = λ ls w. reported ls w

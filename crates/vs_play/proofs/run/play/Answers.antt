@@ -6,7 +6,7 @@ use Rattle.vs_play.proofs.run.play.Goals as goal
 
 pub returns-in_err-play_lines : goal.returns-in_err-play_lines
 returns-in_err-play_lines g c =
-    run_until (g.R.BothEnds.ends c.args.rings).lists.size (events_of c.args.lines.now) c.in_ok-play.play
+    run_until (g.R.BothEnds.ends c.args.rings).lists.size c.args.first (events_of c.args.lines.now) c.in_ok-play.play
     (g.K.Sink.contents c.args.out.now) (g.K.Sink.contents c.play_lines.new.out) (g.K.Sink.contents c.play_lines.new.out)
     (g.K.Sink.faults c.args.out.now) (g.K.Sink.faults c.play_lines.new.out) (g.K.Sink.faults c.play_lines.new.out)
     c.from_residual-in_err-play_lines.result c.in_ok-play.ensures.world c.in_err-play_lines.field-0.0
@@ -14,7 +14,7 @@ returns-in_err-play_lines g c =
 
 pub returns : goal.returns
 returns g c =
-    run_given (g.R.BothEnds.ends c.args.rings).lists.size (events_of c.args.lines.now) c.in_ok-play.play
+    run_given (g.R.BothEnds.ends c.args.rings).lists.size c.args.first (events_of c.args.lines.now) c.in_ok-play.play
     (g.K.Sink.contents c.args.out.now) (g.K.Sink.contents c.play_lines.new.out) (g.K.Sink.contents c.report.new.out)
     (g.K.Sink.faults c.args.out.now) (g.K.Sink.faults c.play_lines.new.out) (g.K.Sink.faults c.report.new.out)
     c.report.result c.in_ok-play.ensures.world c.play_lines.new.play c.in_ok-play_lines.ensures.world c.in_ok-play_lines.ensures.printed
@@ -23,5 +23,5 @@ returns g c =
 pub returns-in_err-play : goal.returns-in_err-play
 returns-in_err-play g c =
     nothing_behind (g.K.Sink.contents c.args.out.now) (g.K.Sink.faults c.args.out.now)
-    (texts_of (events_in (map numbered_event c.args.lines.now)) (opened_play (g.R.BothEnds.ends c.args.rings).lists.size)) _ _
+    (texts_of (events_in (map numbered_event c.args.lines.now)) (opened_play (g.R.BothEnds.ends c.args.rings).lists.size c.args.first)) _ _
     c.from_residual.result (grind (arith, c.from_residual.ensures))

@@ -6,6 +6,6 @@ use Rattle.vs_run.proofs.play.play_bytes.Goals as goal
 
 pub returns-in-Err : goal.returns-in-Err
 returns-in-Err g c =
-    no_answer command.Play (λ said. (answer_to c.args.queue said).lines) (λ said. (answer_to c.args.queue said).status) c.args.bytes.now
+    no_answer command.Play (λ said. (answer_to c.args.queue c.args.first said).lines) (λ said. (answer_to c.args.queue c.args.first said).status) c.args.bytes.now
     (g.K.Sink.contents c.args.out.now) (g.K.Sink.contents c.refused.new.out) (g.K.Sink.faults c.args.out.now) (g.K.Sink.faults c.refused.new.out)
-    c.refused.result c.in-Err.fault (play_some c.args.queue (parse_of command.Play c.args.bytes.now) (is_play c.args.bytes.now)) c.in-Err.ensures.refused c.refused.ensures
+    c.refused.result c.in-Err.fault (play_some c.args.queue c.args.first (parse_of command.Play c.args.bytes.now) (is_play c.args.bytes.now)) c.in-Err.ensures.refused c.refused.ensures

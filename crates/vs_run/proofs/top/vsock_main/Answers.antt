@@ -20,8 +20,8 @@ is_now g c = lent (g.S.Source.contents c.run.new.script) (g.H.HostNet.contents c
     (g.S.Source.faults c.run.new.script) (g.H.HostNet.faults c.run.new.host) (g.K.Sink.faults c.run.new.out) (g.G.Gate.pauses c.run.new.gate)
 
 pub returns-clause-plays : goal.returns-clause-plays
-returns-clause-plays g c = λ kind queue text is few same told.
-    play_written (said g c) (was g c) (is_now g c) c.run.result kind queue text is c.run.ensures.does few same told
+returns-clause-plays g c = λ kind queue first text is few same told.
+    play_written (said g c) (was g c) (is_now g c) c.run.result kind queue first text is c.run.ensures.does few same told
 
 pub returns-clause-attacks : goal.returns-clause-attacks
 returns-clause-attacks g c = λ text is few same told.
@@ -59,12 +59,12 @@ returns-clause-statuses g c =
     is_known (said g c) (was g c) (is_now g c) c.run.result c.run.ensures.does
 
 pub returns-clause-runs : goal.returns-clause-runs
-returns-clause-runs g c = λ base queue idle text apps is few same told parsed.
-    run_written (said g c) (was g c) (is_now g c) c.run.result base queue idle text is c.run.ensures.does few same told apps parsed
+returns-clause-runs g c = λ base queue idle first text apps is few same told parsed.
+    run_written (said g c) (was g c) (is_now g c) c.run.result base queue idle first text is c.run.ensures.does few same told apps parsed
 
 pub returns-clause-refused_run : goal.returns-clause-refused_run
-returns-clause-refused_run g c = λ base queue idle text r is few same told parsed.
-    let refused = run_refused (said g c) (was g c) (is_now g c) c.run.result base queue idle text is c.run.ensures.does few same told r parsed in
+returns-clause-refused_run g c = λ base queue idle first text r is few same told parsed.
+    let refused = run_refused (said g c) (was g c) (is_now g c) c.run.result base queue idle first text is c.run.ensures.does few same told r parsed in
     (refused.0, refused.1.0, refused.1.1)
 
 pub returns-clause-host : goal.returns-clause-host

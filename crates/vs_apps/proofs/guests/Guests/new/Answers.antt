@@ -1,5 +1,5 @@
 use Rattle.std.proofs.{Common.{◌≡◌, ℕ, List, [], length, sym, ap, subst, ◌∙◌, arith, refl, rules, None}, lemmas.List.length-map}
-use Rattle.vs_limits.specs.declared.TheConstants.{FIRST_CID, FIRST_PORT}
+use Rattle.vs_limits.specs.declared.TheConstants.{FIRST_CID}
 use Rattle.vs_script.specs.App.{app_view}
 use Rattle.vs_ring_shared.specs.{Meetings.what_it_did, Sights.{Sight, driver_contents}}
 use Rattle.laws_driver.specs.Honest.{IsFresh}
@@ -21,15 +21,15 @@ invariant_of-result g c =
     let driver = c.in_ok-driver.driver in
     let apps = c.in_ok-apps.apps.items in
     let cid : driver.cid ≡ FIRST_CID =
-    first_loaded c.args.end.size FIRST_PORT 1 (driver_contents c.args.end) c.new.new.ring driver c.args.device.now.sight.log
+    first_loaded c.args.end.size c.args.first 1 (driver_contents c.args.end) c.new_at.new.ring driver c.args.device.now.sight.log
     c.in_ok-driver.ensures.calls c.note.ensures.fits.saw_cid c.requires.silent in
-    let all = new_guests script c.args.end.size c.len.result c.args.end c.new.new.ring driver apps
-    (record { progress = c.begun.result; waiting = None }) c.requires.right cid fresh c.in_ok-driver.ensures.calls c.in_ok-driver.ensures.ring many
+    let all = new_guests script c.args.end.size c.args.first c.len.result c.args.end c.new_at.new.ring driver apps
+    (record { progress = c.begun.result; waiting = None }) c.requires.right c.requires.first.1 cid fresh c.in_ok-driver.ensures.calls c.in_ok-driver.ensures.ring many
     (c.in_ok-apps.ensures.items_if_clones_equal (λ y is. first_of (search (rules, is), cc)))
     (ap (λ (p : Progress). let s : AppState = record { progress = p; waiting = None } in s) c.begun.ensures) in
     let heard : AreGuests script (record { driver = driver; end = c.note.new.driver; apps = apps; entries = []; bytes = [] }) =
     subst (λ (s : Sight). AreGuests script (record { driver = driver; end = s; apps = apps; entries = []; bytes = [] })) (sym c.note.ensures.driver)
-    (guests_hear script (record { driver = driver; end = c.new.new.ring; apps = apps; entries = []; bytes = [] }) all
+    (guests_hear script (record { driver = driver; end = c.new_at.new.ring; apps = apps; entries = []; bytes = [] }) all
     (what_it_did c.args.device.now.sight)) in
     let with_entries : AreGuests script (record { driver = driver; end = c.note.new.driver; apps = apps; entries = c.new-2.result.items; bytes = [] }) =
     subst (λ (es : List Entry). AreGuests script (record { driver = driver; end = c.note.new.driver; apps = apps; entries = es; bytes = [] }))
