@@ -1,5 +1,6 @@
 -- The command that words ask for.
 use Rattle.std.specs.Prelude.{◌≡◌, ◌⊎◌, ℕ, ◌≤◌, ◌&&◌, nat_le, if◌then◌else◌, List, [], ◌∷◌, length, codes, bytes_eq, drop, Option, Some, None, option_map, option_and_then}
+use Rattle.vs_limits.specs.declared.TheConstants.{FIRST_PORT, LAST_PORT}
 use Rattle.vs_uds.specs.declared.path.TheConstants.{BASE_MAX}
 use Rattle.vs_words.specs.{Numbers.number_in, Options.{Given, options_of, value_of}, declared.command.Rings.Rings}
 use Rattle.vs_words.specs.declared.command.Command as code
@@ -7,10 +8,11 @@ use Rattle.vs_words.specs.declared.command.Command.TheVariants as variant
 use Rattle.vs_words.specs.declared.command.Rings.TheVariants as rings
 
 pub data Command : Type 0 where
-  -- a play over rings of that kind, with so many pages of each queue
-  Play : (kind : Rings) → (queue : ℕ) → Command
-  -- a run of apps: the base path of the host's sockets, how many pages each queue has, and after how many steps in a row an app gives up
-  Run : (base : List ℕ) → (queue : ℕ) → (idle : ℕ) → Command
+  -- a play over rings of that kind, with so many pages of each queue, whose guest gives ports from the first one on
+  Play : (kind : Rings) → (queue first : ℕ) → Command
+  -- a run of apps: the base path of the host's sockets, how many pages each queue has, after how many steps in a row an app gives up, and
+  -- the guest's first port
+  Run : (base : List ℕ) → (queue idle first : ℕ) → Command
   -- a hostile guest's run
   Hostile : Command
   -- a load: the number that its bytes begin from, how many apps there are, how many bytes each exchanges, and the pages of each queue
@@ -20,8 +22,8 @@ pub data Command : Type 0 where
 
 -- The same, as the program holds it.
 abbrev pub command_view : code.Command → Command
-command_view (variant.Play kind queue) = Play kind queue
-command_view (variant.Run base queue idle) = Run base.now queue idle
+command_view (variant.Play kind queue first) = Play kind queue first
+command_view (variant.Run base queue idle first) = Run base.now queue idle first
 command_view variant.Hostile = Hostile
 command_view (variant.Load number conns bytes queue) = Load number conns bytes queue
 command_view (variant.Peer base port idle) = Peer base.now port idle
@@ -56,10 +58,15 @@ IsQueueSize n = (n ≡ 8) ⊎ (n ≡ 16) ⊎ (n ≡ 32) ⊎ (n ≡ 64) ⊎ (n �
 abbrev pub IsBase : List ℕ → Type 0
 IsBase base = (1 ≤ length base) × (length base ≤ BASE_MAX)
 
--- What a command takes is in its range: the size of a queue, the length of a base path, how many apps and bytes a load has.
+-- A guest's ports have numbers of their own.
+abbrev pub IsFirst : ℕ → Type 0
+IsFirst port = (FIRST_PORT ≤ port) × (port ≤ LAST_PORT)
+
+-- What a command takes is in its range: the size of a queue, the length of a base path, the guest's first port, how many apps and bytes a
+-- load has.
 abbrev pub IsInRange : code.Command → Type 0
-IsInRange (variant.Play kind queue) = IsQueueSize queue
-IsInRange (variant.Run base queue idle) = IsBase base.now × IsQueueSize queue
+IsInRange (variant.Play kind queue first) = IsQueueSize queue × IsFirst first
+IsInRange (variant.Run base queue idle first) = IsBase base.now × IsQueueSize queue × IsFirst first
 IsInRange (variant.Load number conns bytes queue) = (1 ≤ conns) × (conns ≤ 64) × (bytes ≤ 1000000) × IsQueueSize queue
 IsInRange _ = Unit {0}
 
@@ -82,17 +89,24 @@ abbrev pub idle_of : Option (List ℕ) → Option ℕ
 idle_of None = Some 10000
 idle_of (Some word) = number_in 1 1000000 word
 
--- A command of its parts, where all are there.
-abbrev pub play_of : Option Rings → Option ℕ → Option Command
-play_of (Some kind) (Some queue) = Some (Play kind queue)
-play_of (Some kind) None = None
-play_of None queue = None
+-- `--first PORT`, of the guest's own; the lowest is the default
+abbrev pub first_of : Option (List ℕ) → Option ℕ
+first_of None = Some FIRST_PORT
+first_of (Some word) = number_in FIRST_PORT LAST_PORT word
 
-abbrev pub run_of : Option (List ℕ) → Option ℕ → Option ℕ → Option Command
-run_of (Some base) (Some queue) (Some idle) = Some (Run base queue idle)
-run_of (Some base) (Some queue) None = None
-run_of (Some base) None idle = None
-run_of None queue idle = None
+-- A command of its parts, where all are there.
+abbrev pub play_of : Option Rings → Option ℕ → Option ℕ → Option Command
+play_of (Some kind) (Some queue) (Some first) = Some (Play kind queue first)
+play_of (Some kind) (Some queue) None = None
+play_of (Some kind) None first = None
+play_of None queue first = None
+
+abbrev pub run_of : Option (List ℕ) → Option ℕ → Option ℕ → Option ℕ → Option Command
+run_of (Some base) (Some queue) (Some idle) (Some first) = Some (Run base queue idle first)
+run_of (Some base) (Some queue) (Some idle) None = None
+run_of (Some base) (Some queue) None first = None
+run_of (Some base) None idle first = None
+run_of None queue idle first = None
 
 abbrev pub load_of : Option ℕ → Option ℕ → Option ℕ → Option ℕ → Option Command
 load_of (Some number) (Some conns) (Some bytes) (Some queue) = Some (Load number conns bytes queue)
@@ -109,12 +123,14 @@ peer_of None port idle = None
 
 -- The command of options.
 abbrev pub play_with : List Given → Option Command
-play_with options = play_of (rings_of (value_of (codes "rings") options)) (queue_of (value_of (codes "queue") options))
+play_with options =
+    play_of (rings_of (value_of (codes "rings") options)) (queue_of (value_of (codes "queue") options))
+    (first_of (value_of (codes "first") options))
 
 abbrev pub run_with : List Given → Option Command
 run_with options =
     run_of (base_of (value_of (codes "base") options)) (queue_of (value_of (codes "queue") options))
-    (idle_of (value_of (codes "idle") options))
+    (idle_of (value_of (codes "idle") options)) (first_of (value_of (codes "first") options))
 
 abbrev pub load_with : List Given → Option Command
 load_with options =
@@ -128,10 +144,11 @@ peer_with options =
 
 -- The command of words, of which the first is its name.
 abbrev pub play_words : List (List ℕ) → Option Command
-play_words words = option_and_then play_with (options_of (codes "rings" ∷ codes "queue" ∷ []) (drop 1 words))
+play_words words = option_and_then play_with (options_of (codes "rings" ∷ codes "queue" ∷ codes "first" ∷ []) (drop 1 words))
 
 abbrev pub run_words : List (List ℕ) → Option Command
-run_words words = option_and_then run_with (options_of (codes "base" ∷ codes "queue" ∷ codes "idle" ∷ []) (drop 1 words))
+run_words words =
+    option_and_then run_with (options_of (codes "base" ∷ codes "queue" ∷ codes "idle" ∷ codes "first" ∷ []) (drop 1 words))
 
 abbrev pub hostile_words : List (List ℕ) → Option Command
 hostile_words words = option_map (λ options. Hostile) (options_of [] (drop 1 words))

@@ -1,12 +1,13 @@
 //! What words ask for.
 ghost use Rattle.std.specs.{Prelude.{◌≡◌, ◌≤◌, Some, None, Err, IfOk, map, option_map, string_bytes}, Option.IfSome};
-ghost use Rattle.vs_words.specs.Command.{IsBase, IsInRange, IsQueueSize, command_view, command_of, named_command, play_words, run_words, hostile_words, load_words, peer_words};
-ghost use Rattle.vs_words.specs.{Command.{rings_of, queue_of, base_of, number_of, idle_of}, declared.error.WordsError.TheVariants.Usage};
+ghost use Rattle.vs_words.specs.Command.{IsBase, IsFirst, IsInRange, IsQueueSize, command_view, command_of, named_command, play_words, run_words, hostile_words, load_words, peer_words};
+ghost use Rattle.vs_words.specs.{Command.{rings_of, queue_of, base_of, number_of, idle_of, first_of}, declared.error.WordsError.TheVariants.Usage};
 
 use crate::error::WordsError;
 use crate::number::number_in;
 use crate::options::{hostile_options, load_options, peer_options, play_options, run_options};
 use std::alloc::Global;
+use vs_limits::{FIRST_PORT, LAST_PORT};
 use vs_uds::BASE_MAX;
 
 /// The rings that a play's driver and device share.
@@ -23,17 +24,19 @@ pub enum Rings {
 /// What the words ask for.
 #[derive(Clone, Copy, Debug, PartialEq, Eq)]
 pub enum Command<'a> {
-    /// A play of the script, over queues of so many pages.
+    /// A play of the script, over queues of so many pages. The guest's first port is `first`.
     Play {
         rings: Rings,
         queue: u16,
+        first: u32,
     },
     /// A run of the script's apps, over queues of so many pages, with the host's sockets under the base path. An app gives up after so many
-    /// steps in a row in which it waits.
+    /// steps in a row in which it waits. The guest's first port is `first`.
     Run {
         base: &'a str,
         queue: u16,
         idle: u32,
+        first: u32,
     },
     /// A run of a hostile guest's script.
     Hostile,
@@ -97,7 +100,14 @@ fn play<'a>(alloc: Global, words: &'a [String]) -> Result<Command<'a>, WordsErro
     let Some(queue) = queue_of(options.get_str("queue")) else {
         return Err(WordsError::Usage);
     };
-    Ok(Command::Play { rings, queue })
+    let Some(first) = first_of(options.get_str("first")) else {
+        return Err(WordsError::Usage);
+    };
+    Ok(Command::Play {
+        rings,
+        queue,
+        first,
+    })
 }
 
 // The command of words whose first is `run`.
@@ -116,7 +126,15 @@ fn run<'a>(alloc: Global, words: &'a [String]) -> Result<Command<'a>, WordsError
     let Some(idle) = idle_of(options.get_str("idle")) else {
         return Err(WordsError::Usage);
     };
-    Ok(Command::Run { base, queue, idle })
+    let Some(first) = first_of(options.get_str("first")) else {
+        return Err(WordsError::Usage);
+    };
+    Ok(Command::Run {
+        base,
+        queue,
+        idle,
+        first,
+    })
 }
 
 // The command of words whose first is `hostile`.
@@ -233,5 +251,16 @@ fn idle_of(value: Option<&str>) -> Option<u32>
     match value {
         None => Some(10_000),
         Some(word) => number_in(word, 1, 1_000_000),
+    }
+}
+
+// The guest's first port; the lowest, where that isn't given.
+fn first_of(value: Option<&str>) -> Option<u32>
+    ensures value { result ≡ first_of (option_map (λ s. s.now) value.entry) }
+    ensures range { IfSome result IsFirst }
+{
+    match value {
+        None => Some(FIRST_PORT),
+        Some(word) => number_in(word, FIRST_PORT, LAST_PORT),
     }
 }

@@ -1,8 +1,8 @@
 //! The command line: what the words behind the program's name ask for.
 //!
 //! ```text
-//! play [--rings list|plain|shared] [--queue Q]
-//! run --base PATH [--queue Q] [--idle I]
+//! play [--rings list|plain|shared] [--queue Q] [--first F]
+//! run --base PATH [--queue Q] [--idle I] [--first F]
 //! hostile
 //! load --number N --conns N --bytes N [--queue Q]
 //! peer --base PATH --port N [--idle I]
@@ -10,6 +10,7 @@
 //! Q        8, 16, 32, 64, 128 or 256; 64, where none is given
 //! PATH     1 to 90 bytes
 //! I        1 to 1,000,000; 10,000, where none is given
+//! F        1,024 to 1,073,741,823; 1,024, where none is given
 //! number   0 to 4,294,967,295
 //! conns    1 to 64
 //! bytes    0 to 1,000,000

@@ -9,16 +9,16 @@ use std::alloc::{AllocError, Global};
 
 /// The options of `play`, whose name is the first of the words.
 pub fn play_options<'a>(alloc: Global, words: &'a [String]) -> Result<ArgMatches<'a>, WordsError>
-    ensures { Reads (codes "rings" ∷ codes "queue" ∷ []) (map string_bytes words.entry.now) result }
+    ensures { Reads (codes "rings" ∷ codes "queue" ∷ codes "first" ∷ []) (map string_bytes words.entry.now) result }
 {
-    options(alloc, "play", &["rings", "queue"], words)
+    options(alloc, "play", &["rings", "queue", "first"], words)
 }
 
 /// The options of `run`, whose name is the first of the words.
 pub fn run_options<'a>(alloc: Global, words: &'a [String]) -> Result<ArgMatches<'a>, WordsError>
-    ensures { Reads (codes "base" ∷ codes "queue" ∷ codes "idle" ∷ []) (map string_bytes words.entry.now) result }
+    ensures { Reads (codes "base" ∷ codes "queue" ∷ codes "idle" ∷ codes "first" ∷ []) (map string_bytes words.entry.now) result }
 {
-    options(alloc, "run", &["base", "queue", "idle"], words)
+    options(alloc, "run", &["base", "queue", "idle", "first"], words)
 }
 
 /// The options of `hostile`, whose name is the first of the words: it has none.
