@@ -5,4 +5,4 @@ pub returns-clause-each : goal.returns-clause-each
 returns-clause-each c = λ how host es e. (happens_goes (IsFresh host) (run es (opening how host)) (run_well how host es) e).runs
 
 pub returns-clause-all : goal.returns-clause-all
-returns-clause-all c = λ how host es. and_then _ _ _ (stays _ _ (opening_is n host)) (reached how host es).runs
+returns-clause-all c = λ how host es. and_then _ _ _ (stays _ _ (opening_is how host)) (reached how host es).runs

@@ -13,13 +13,13 @@ pub returns-clause-tied : goal.returns-clause-tied
 returns-clause-tied c = tied
 
 pub returns-clause-driver_got : goal.returns-clause-driver_got
-returns-clause-driver_got c = λ how host es. driver_got _ _ _ (tied n host es)
+returns-clause-driver_got c = λ how host es. driver_got _ _ _ (tied how host es)
 
 pub returns-clause-device_got : goal.returns-clause-device_got
-returns-clause-device_got c = λ how host es. device_got _ _ _ (tied n host es)
+returns-clause-device_got c = λ how host es. device_got _ _ _ (tied how host es)
 
 pub returns-clause-payload_to_guest : goal.returns-clause-payload_to_guest
-returns-clause-payload_to_guest c = λ how host es k. prefix Driver _ _ k (driver_got _ _ _ (tied n host es))
+returns-clause-payload_to_guest c = λ how host es k. prefix Driver _ _ k (driver_got _ _ _ (tied how host es))
 
 pub returns-clause-payload_to_host : goal.returns-clause-payload_to_host
-returns-clause-payload_to_host c = λ how host es k. prefix Device _ _ k (device_got _ _ _ (tied n host es))
+returns-clause-payload_to_host c = λ how host es k. prefix Device _ _ k (device_got _ _ _ (tied how host es))
