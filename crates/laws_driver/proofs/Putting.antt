@@ -1,5 +1,5 @@
 -- The steps at which the driver puts a packet: a connection of its own is asked for, payload is sent, what is owed is paid.
-use Rattle.std.proofs.Common.{◌≡◌, ℕ, ◌+◌, ◌<◌, ◌≤◌, ◌^◌, Bool, false, List, [], ◌∷◌, length, Some, None, refl, sym, ap, subst, ◌∙◌, arith, nat_le, true, cond}
+use Rattle.std.proofs.Common.{◌≡◌, ℕ, ◌<◌, ◌≤◌, ◌^◌, Bool, false, List, [], ◌∷◌, length, Some, None, refl, sym, ap, subst, ◌∙◌, arith, nat_le, true, cond}
 use Rattle.std.{proofs.lemmas.{Bool.Decides.nat_tests, List.{append-nil, Elements.{All-head, All-tail, All-cons}}}, specs.List.{All, find}}
 use Rattle.vs_conn.specs.{Headers.{owed_flags, owed_header, owed_op, payload_header}, End.{CanSend, ConnectionEnd, asked, owes_of, paid_of, with_payload_sent}}
 use Rattle.vs_conn.{specs.{declared.end.Owed.Owed, Follows.FitsMessage}, proofs.{Frames.paid_kind, Steps.stream_fits}}
