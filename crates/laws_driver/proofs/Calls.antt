@@ -13,7 +13,7 @@ use Rattle.vs_driver_parts.specs.Conversations.{DriverTree, connect_of, connect_
 use Rattle.vs_driver_parts.specs.Conversations.{payload_bytes, payload_of, poll_of, post_all, post_events, post_one, post_packet, posts, publish_of, reap_all, request_bytes}
 use Rattle.vs_driver_parts.specs.{Conversations.{send_of, send_stopped, send_with_page, stage_of}, Connections.{connect_refusal, connected, next_flow}}
 use Rattle.vs_driver_parts.specs.{declared.answers.{ConnectError.ConnectError, Polled.Polled, Sent.Sent}, Playing.{MayPublishAll, Plays}, State.{DriverEntry, DriverState}}
-use Rattle.vs_driver_parts.specs.{State.entry_known_as, Steps.{connects, sends}}
+use Rattle.vs_driver_parts.{specs.{State.entry_known_as, Steps.{connects, sends}}, proofs.Clean.none_clean}
 use Rattle.vs_limits.specs.declared.TheConstants.{LAST_PORT, STAGED_MAX}
 use Rattle.laws_driver.{specs.{Honest.{AgreesWith, IsFitState, IsFresh, IsHonestWith, ends_of_state}, Staged.IsLeft}, proofs.Polling.{not_tx_event, not_tx_rx, poll_keeps}}
 use Rattle.laws_driver.proofs.{Changing.{Changes, stands_known, wanting_changes}, Keeping.{Keeps, keeps_bind, keeps_end, keeps_may, keeps_weaker, keeps_while}, Ringing.IsAtRest}
@@ -325,6 +325,8 @@ module _ (size port id : ℕ) (port_fits : port ≤ LAST_PORT) where
     entries = λ i d within. absurd (omega (arith, within));
     ports = λ i d within. absurd (omega (arith, within));
     owed = λ i d within. absurd (omega (arith, within));
+    clean_fit = λ i d within. absurd (omega (arith, within));
+    clean_sound = none_clean made.next_port made.table;
   }
 
   loaded : (cid : ℕ) (l : EndLog) → cid < 2 ^ 64 → Fresh l → IsAtRest cid (record made { cid = cid }) (log_loaded cid l)

@@ -1,8 +1,8 @@
 -- The driver's steps, one after another: each is a step of its seat (its connections and its log). Which packets and events come is for the
 -- other end to say.
-use Rattle.std.proofs.Common.{◌≡◌, ◌≤◌, List, [], ◌∷◌, refl, sym, ap, subst, ◌∙◌}
+use Rattle.std.proofs.Common.{◌≡◌, List, [], ◌∷◌, refl, sym, ap, subst, ◌∙◌}
 use Rattle.vs_page.specs.Log.{Driver, Log}
-use Rattle.laws_tables.specs.{Ends.Ends, Heard.own_port, Steps.IsNextFlow, Both.{MayHappen, Opens, Seat, Step, Takes, TakesEvent, after}}
+use Rattle.laws_tables.specs.{Ends.Ends, Both.{MayHappen, Seat, Step, Takes, TakesEvent, after}}
 use Rattle.vs_driver_parts.specs.State.{DriverState}
 use Rattle.laws_driver.specs.Honest.{ends_of_state}
 
@@ -12,9 +12,8 @@ seat s log = record { part = ends_of_state s; log = log }
 pub at_log : (log : Log) (old new : Ends) → old ≡ new → (let w : Seat = record { part = old; log = log } in w) ≡ record { part = new; log = log }
 at_log log old new = ap (λ (part : Ends). let w : Seat = record { part = part; log = log } in w)
 
--- A step that may happen there, whatever the other end did. No flow is asked for whose port was given before.
+-- A step that may happen there, whatever the other end did.
 abbrev pub MayDo : Step → Seat → Type 0
-MayDo (Opens f kind) w = IsNextFlow Driver f w.part × (w.part.next_port ≤ own_port Driver f)
 MayDo (Takes p answer) w = Unit {0}
 MayDo (TakesEvent id) w = Unit {0}
 MayDo step w = MayHappen Driver step (record { driver = w; device = w })

@@ -1,21 +1,24 @@
 -- The steps at which the driver puts a packet: a connection of its own is asked for, payload is sent, what is owed is paid.
-use Rattle.std.proofs.{Common.{◌≡◌, ℕ, ◌+◌, ◌<◌, ◌≤◌, ◌^◌, Bool, false, List, [], ◌∷◌, length, Some, None, refl, inl, sym, ap, subst, ◌∙◌, arith}, lemmas.Bool.Decides.nat_tests}
-use Rattle.std.{proofs.lemmas.{Grind.common_steps, List.{append-nil, Elements.{All-head, All-tail}}}, specs.List.All}
+use Rattle.std.proofs.Common.{◌≡◌, ℕ, ◌<◌, ◌≤◌, ◌^◌, Bool, false, List, [], ◌∷◌, length, Some, None, refl, sym, ap, subst, ◌∙◌, arith, nat_le, true, cond}
+use Rattle.std.{proofs.lemmas.{Bool.Decides.nat_tests, List.{append-nil, Elements.{All-head, All-tail, All-cons}}}, specs.List.{All, find}}
 use Rattle.vs_conn.specs.{Headers.{owed_flags, owed_header, owed_op, payload_header}, End.{CanSend, ConnectionEnd, asked, owes_of, paid_of, with_payload_sent}}
 use Rattle.vs_conn.{specs.{declared.end.Owed.Owed, Follows.FitsMessage}, proofs.{Frames.paid_kind, Steps.stream_fits}}
 use Rattle.vs_header.specs.{Packet.header_bytes, declared.{Header.Header, Kind.TheVariants.Stream}}
 use Rattle.laws_history.specs.History.{puts}
-use Rattle.vs_limits.specs.declared.TheConstants.{BUF_ALLOC, LAST_ID, LAST_PORT, DRIVER_CONNECTIONS}
-use Rattle.vs_flow.{specs.{Flow.is_assigned, Table.entry_of, declared.flow.Flow.Flow}, proofs.{Tables.IsAccepted, Entries.find_none}}
+use Rattle.vs_limits.specs.declared.TheConstants.{BUF_ALLOC, LAST_PORT}
+use Rattle.vs_flow.{specs.{Flow.{is_assigned, same_flow}, declared.flow.Flow.Flow, CleanPairs.goes_to}, proofs.{Tables.IsAccepted, Entries.All_at, Lookups.find_place}}
 use Rattle.vs_page.specs.{Log.{Driver, Log, history_of, side_by}, Held.FitsWire, declared.{log.LogEntry.TheVariants.PutPacket, page.TheConstants.PAYLOAD_MAX}}
 use Rattle.vs_page.proofs.Packets.{held_alone, held_payload}
 use Rattle.vs_replies.specs.declared.Reply.{Reply}
-use Rattle.laws_tables.{specs.{Steps.{IsNextFlow, opened, owed_on, paid, payload_on, reply_on, request_on, with_end}, Ends.{Ends, FlowEnd}, Matches.Matches}, proofs.Keeps.opens}
-use Rattle.laws_tables.proofs.{Keeps.{opens_fair, pays, pays_fair, replies, replies_fair, sends, sends_fair}, Slots.added_slot, Steps.port_next, OwedFlags.owed_flags_fit}
-use Rattle.vs_driver_parts.specs.{Connections.{connect_refusal, connected, next_flow, paid_connection, route_to_host, with_connection}, Conversations.{after_paying, owed_bytes}}
-use Rattle.vs_driver_parts.specs.{Conversations.{payload_bytes, reply_header, request_bytes}, State.{DriverConnection, DriverEntry, DriverState, slots_held}}
-use Rattle.laws_driver.{specs.Honest.{IsFitFlow, IsFitReply, IsFitState, end_in, ends_of_state}, proofs.{Fits.{IsHeldBy, paid_fits, sent_fits}, Tabling.{Stands, connection_ends}}}
-use Rattle.laws_driver.proofs.{Tabling.{connection_fits, entry_fits, has_end, leaves, opening_fits, replies_fit}, Bytes.{header_fits, reset_fits}, Going.at_log, Ringing.Puts}
+use Rattle.laws_tables.specs.{Steps.{IsNextFlow, opened, owed_on, paid, payload_on, reply_on, request_on, with_end, port_after}, Ends.{Ends, FlowEnd, without as flows_without}}
+use Rattle.laws_tables.{specs.Matches.Matches, proofs.{Keeps.{opens, opens_fair, pays, pays_fair, replies, replies_fair, sends, sends_fair}, Slots.added_slot}}
+use Rattle.laws_tables.proofs.OwedFlags.{owed_flags_fit}
+use Rattle.vs_driver_parts.specs.{Connections.{connect_refusal, connected, next_flow, paid_connection, route_to_host, with_connection, free_flow}, Conversations.after_paying}
+use Rattle.vs_driver_parts.specs.{Conversations.{owed_bytes, payload_bytes, reply_header, request_bytes}, State.{DriverConnection, DriverEntry, DriverState}}
+use Rattle.vs_driver_parts.proofs.Clean.{again_is, fresh_is, given_absent, given_clean, given_from, given_host, given_within, may_connect, port_below, port_rises}
+use Rattle.laws_driver.{specs.Honest.{IsFitFlow, IsFitReply, IsFitState, end_in, ends_of_state, IsFitClean}, proofs.{Fits.{IsHeldBy, paid_fits, sent_fits}, Tabling.Stands}}
+use Rattle.laws_driver.proofs.{Tabling.{connection_ends, connection_fits, entry_fits, has_end, leaves, opening_fits, replies_fit}, Bytes.{header_fits, reset_fits}, Going.at_log}
+use Rattle.laws_driver.proofs.Ringing.{Puts}
 use Rattle.vs_conn.specs.declared.end.Owed.TheVariants as owed
 use Rattle.vs_header.specs.declared.Op.TheVariants as op
 use Rattle.vs_driver_parts.specs.Connections as connections
@@ -115,22 +118,26 @@ send_puts e payload s fits stands can few =
     }
 
 -- A connection is asked for.
-pub record MayConnect (host : ℕ) (s : DriverState) : Type 0 where
-  pub own : is_assigned host ≡ false
-  pub place : slots_held s < DRIVER_CONNECTIONS
-  pub port : s.next_port ≤ LAST_PORT
-  pub id : s.next_id ≤ LAST_ID
+found_has : (Q : Flow → Type 0) (test : Flow → Bool) (fs : List Flow) (f : Flow) → All Q fs → find test fs ≡ Some f → Q f
+found_has Q test fs f all found = let place = find_place test fs f found in All_at Q fs place.0 f all place.1
 
-pub may_connect : (host : ℕ) (s : DriverState) → connect_refusal host s ≡ None → MayConnect host s
-may_connect host s is = record {
-  own = grind (arith, nat_tests, common_steps, is);
-  place = grind (arith, nat_tests, common_steps, is);
-  port = grind (arith, nat_tests, common_steps, is);
-  id = grind (arith, nat_tests, common_steps, is);
-}
+next_fits : (host : ℕ) (s : DriverState) → host < 2 ^ 32 → IsFitState s → (f : Flow) → free_flow host s.next_port s.clean ≡ Some f → IsFitClean f
+next_fits host s host_fits fits f is = by (nat_le s.next_port LAST_PORT) refl
+  where
+    by : (b : Bool) → nat_le s.next_port LAST_PORT ≡ b → IsFitClean f
+    by true left =
+        let below : s.next_port ≤ LAST_PORT = grind (arith, nat_tests, left) in
+        subst (λ (g : Flow). IsFitClean g) (sym (fresh_is host s.next_port s.clean f left is))
+        (record { ports = record { guest = omega (arith, below); host = host_fits; peer = omega arith }; peer = refl })
+    by false spent = found_has IsFitClean (goes_to host) s.clean f fits.clean_fit (again_is host s.next_port s.clean f spent is)
 
-new_flow : (host : ℕ) (s : DriverState) → IsFitState s → is_assigned host ≡ false → entry_of s.table (next_flow host s) ≡ None
-new_flow host s fits own = find_none _ s.table.entries (λ i d lt. let below = fits.ports i d lt in grind (arith, nat_tests, below, own))
+fit_without : (f : Flow) (fs : List Flow) → All IsFitClean fs → All IsFitClean (flows_without f fs)
+fit_without f [] all = all
+fit_without f (g ∷ gs) all = by (same_flow f g) (fit_without f gs (All-tail IsFitClean g gs all))
+  where
+    by : (b : Bool) → All IsFitClean (flows_without f gs) → All IsFitClean (cond b (flows_without f gs) (g ∷ flows_without f gs))
+    by true rest = rest
+    by false rest = All-cons IsFitClean g (flows_without f gs) (All-head IsFitClean g gs all) rest
 
 asked_held : IsHeldBy (record { id = 0; end = paid_of (asked Stream BUF_ALLOC) owed.Request; unread = []; unanswered = false; closed = false })
 asked_held = record { unread = refl; fits = omega arith; space = omega arith; least = omega arith; alloc = omega arith; rx_cnt = omega arith; fwd_cnt = omega arith }
@@ -140,23 +147,34 @@ pub connect_puts : (host : ℕ) (s : DriverState) → host < 2 ^ 32 → IsFitSta
 connect_puts host s host_fits fits free =
     let may = may_connect host s free in
     let f : Flow = next_flow host s in
-    let ports : IsFitFlow f = record { guest = omega (arith, may.port); host = host_fits; peer = omega arith } in
+    let fit = next_fits host s host_fits fits f may.flow in
+    let ports : IsFitFlow f = fit.ports in
+    let to : f.host ≡ host = given_host host s.next_port s.clean f may.flow in
+    let own : is_assigned f.host ≡ false = ap is_assigned to ∙ may.own in
+    let given : free_flow f.host s.next_port s.clean ≡ Some f = ap (λ (n : ℕ). free_flow n s.next_port s.clean) to ∙ may.flow in
     let h : Header = owed_header (asked Stream BUF_ALLOC) (route_to_host s.cid f) owed.Request in
     let wire : FitsWire h = header_fits s.cid f (asked Stream BUF_ALLOC) op.Request 0 0 fits.cid_fits ports (omega arith) (omega arith) (omega arith) (omega arith) in
-    let next : IsNextFlow Driver f (ends_of_state s) = record { asker = ap (λ (b : Bool). side_by Driver b) may.own; port = inl (omega arith) } in
+    let next : IsNextFlow Driver f (ends_of_state s) =
+    record { asker = ap (λ (b : Bool). side_by Driver b) own; port = given_from host s.next_port s.clean f may.flow } in
     let c : DriverConnection = record { id = s.next_id; end = paid_of (asked Stream BUF_ALLOC) owed.Request; unread = []; unanswered = false; closed = false } in
     let accepted : IsAccepted s.table f = record {
-      absent = new_flow host s fits may.own;
+      absent = given_absent s.next_port s.table s.clean fits.clean_sound f fits.ports own given;
       place = omega (arith, may.place, fits.places);
       slot = omega (arith, fits.given, may.id);
     } in
     let ends : ends_of_state (connected host s) ≡ opened Driver f Stream (ends_of_state s) =
-    ap (λ (es : List FlowEnd). let part : Ends = record (ends_of_state s) { entries = es; next_port = s.next_port + 1 } in part) (added_slot end_in s.table f c)
-    ∙ ap (λ (n : ℕ). let part : Ends = record (opened Driver f Stream (ends_of_state s)) { next_port = n } in part) (sym (port_next s.next_port)) in
+    ap (λ (es : List FlowEnd). let part : Ends = record (ends_of_state s) {
+      entries = es;
+      next_port = port_after s.next_port f.guest;
+      clean = flows_without f s.clean;
+    } in part) (added_slot end_in s.table f c) in
     record {
       held = held_alone h wire refl;
       bytes = sym (append-nil (header_bytes h));
-      fits = opening_fits s f c (s.next_port + 1) fits accepted ports refl asked_held refl (omega (arith, may.port)) (omega arith) (λ own. omega arith);
+      fits = opening_fits s f c (port_after s.next_port f.guest) (flows_without f s.clean) fits accepted ports fit.peer asked_held refl
+          (given_within s.next_port s.table s.clean fits.clean_sound f given fits.port_left) (port_rises s.next_port f.guest)
+          (λ mine. port_below s.next_port f.guest) (fit_without f s.clean fits.clean_fit)
+          (given_clean s.next_port s.table s.clean fits.clean_sound f c);
       broken = refl;
       matches = λ first log m.
           subst (λ (part : Ends). Matches Driver first part (PutPacket (request_on Driver s.cid f Stream) ∷ log)) (sym ends)
@@ -164,6 +182,6 @@ connect_puts host s host_fits fits free =
       fair = λ first log m fair. opens_fair Driver first s.cid f Stream (ends_of_state s) log m fair next;
       wire = wire;
       step = seats.Opens f Stream;
-      may = λ log. (next, omega arith);
+      may = λ log. next;
       leads = λ log. at_log (PutPacket (request_on Driver s.cid f Stream) ∷ log) _ _ (sym ends);
     }

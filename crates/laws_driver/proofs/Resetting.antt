@@ -1,13 +1,13 @@
 -- A transport reset: all connections leave, and a reply is owed to each flow.
-use Rattle.std.proofs.{Common.{◌≡◌, ℕ, ◌<◌, ◌^◌, ◌==◌, not, List, [], ◌∷◌, ◌++◌, map, Some, refl, sym, ap, subst, ◌∙◌, arith}, lemmas.List.{append-nil, append_assoc}}
-use Rattle.std.specs.{List.{filter, slice_get}, Prelude.Contains}
-use Rattle.vs_flow.specs.Table.{IsRising}
+use Rattle.std.proofs.{Common.{◌≡◌, ℕ, ◌<◌, ◌^◌, ◌==◌, not, List, [], ◌∷◌, ◌++◌, map, Some, refl, sym, ap, subst, ◌∙◌, arith, true}, lemmas.List.{append-nil, append_assoc}}
+use Rattle.std.{proofs.lemmas.{List.Elements.{All-head, All-tail}, Bool.Decides.nat_tests}, specs.{List.{filter, slice_get, All}, Prelude.Contains}}
+use Rattle.vs_flow.specs.{Table.IsRising, Flow.is_host, declared.flow.Flow.Flow}
 use Rattle.vs_page.specs.{Log.{Driver, Log}, declared.log.LogEntry.TheVariants.Mark}
 use Rattle.vs_replies.specs.declared.Reply.{Reply}
-use Rattle.laws_tables.{specs.{Ends.{Ends, FlowEnd, replies_of}, Matches.Matches, Steps.reset}, proofs.Keeps.takes_reset}
+use Rattle.laws_tables.{specs.{Ends.{Ends, FlowEnd, replies_of, of_host}, Matches.Matches, Steps.reset}, proofs.Keeps.takes_reset}
 use Rattle.vs_driver_parts.specs.{State.{DriverEntry, DriverState}, Connections.after_leaving, Receiving.{after_reset, all_left, reset_reply, with_reply}}
 use Rattle.vs_driver_parts.proofs.Packets.{first_under, others_left}
-use Rattle.laws_driver.{specs.Honest.{IsFitState, ends_of_state}, proofs.{Tabling.{Stands, entry_fits, leaves, replies_fit}, Taking.with_reply_fits}}
+use Rattle.laws_driver.{specs.Honest.{IsFitState, ends_of_state, IsFitClean}, proofs.{Tabling.{Stands, entry_fits, leaves, replies_fit}, Taking.with_reply_fits}}
 
 -- An entry as it counts among the ends.
 abbrev pub out : DriverEntry → FlowEnd
@@ -61,12 +61,27 @@ pub record Resets (cid : ℕ) (s t : DriverState) : Type 0 where
 pub with_cid : (cid : ℕ) (s : DriverState) → cid < 2 ^ 64 → IsFitState s → IsFitState (record s { cid = cid })
 with_cid cid s less fits = replies_fit cid s.replies s fits less fits.owed
 
+-- All flows that are kept are with the host.
+kept_host : (fs : List Flow) → All IsFitClean fs → of_host fs ≡ fs
+kept_host [] fit = refl
+kept_host (f ∷ fs) fit =
+    let peer = (All-head IsFitClean f fs fit).peer in
+    let host : is_host f ≡ true = grind (arith, nat_tests, peer) in
+    rw host (ap (λ (gs : List Flow). f ∷ gs) (kept_host fs (All-tail IsFitClean f fs fit)))
+
 pub resets : (cid : ℕ) (s : DriverState) → cid < 2 ^ 64 → IsFitState s → Resets cid s (after_reset cid s)
 resets cid s less fits =
     let all = all_leave s.table.entries (record s { cid = cid }) refl (with_cid cid s less fits) in
+    let ends : ends_of_state (after_reset cid s) ≡ reset cid (ends_of_state s) =
+    all.ends ∙ ap (λ (fs : List Flow). let part : Ends = record (ends_of_state s) {
+      entries = [];
+      replies = s.replies ++ replies_of (map out s.table.entries);
+      clean = fs;
+      cid = cid;
+    } in part) (sym (kept_host s.clean fits.clean_fit)) in
     record {
-      matches = λ first log m. subst (λ (x : Ends). Matches Driver first x (Mark cid ∷ log)) (sym all.ends) (takes_reset first cid (ends_of_state s) log m);
+      matches = λ first log m. subst (λ (x : Ends). Matches Driver first x (Mark cid ∷ log)) (sym ends) (takes_reset first cid (ends_of_state s) log m);
       fits = all.fits;
       broken = all.broken;
-      ends = all.ends;
+      ends = ends;
     }

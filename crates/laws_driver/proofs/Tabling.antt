@@ -1,15 +1,15 @@
 -- What steps on the table do to the driver's numbers, and to its connections as ends.
-use Rattle.std.proofs.Common.{◌≡◌, ℕ, ◌+◌, ◌<◌, ◌≤◌, ◌^◌, ◌==◌, Bool, true, false, cond, not, List, [], ◌∷◌, ◌++◌, get_or, refl, ap, ◌∙◌, Some, arith}
-use Rattle.std.{proofs.lemmas.List.Elements.{All-map, All-push, All-filter}, specs.{List.All, Prelude.Contains}}
+use Rattle.std.proofs.Common.{◌≡◌, ℕ, ◌+◌, ◌<◌, ◌≤◌, ◌^◌, ◌==◌, Bool, true, false, cond, not, List, [], ◌∷◌, ◌++◌, get_or, refl, ap, ◌∙◌, Some, arith, ◌-◌, drop, length}
+use Rattle.std.{proofs.lemmas.List.Elements.{All-map, All-push, All-filter, All-drop}, specs.{List.All, Prelude.Contains}}
 use Rattle.vs_header.specs.declared.Kind.TheVariants.{Stream}
 use Rattle.vs_flow.{specs.{Table.{Table, entry_under, with_entry, without, next_entry, revalued}, Flow.is_assigned, declared.flow.Flow.Flow}, proofs.Tables.revalued-flow}
 use Rattle.vs_flow.proofs.Tables.{with_value_sound, without_sound, with_entry_sound, IsAccepted}
-use Rattle.vs_limits.specs.declared.TheConstants.{HOST_CID, LAST_PORT}
+use Rattle.vs_limits.specs.declared.TheConstants.{HOST_CID, LAST_PORT, CLEAN_PAIRS}
 use Rattle.vs_replies.specs.declared.Reply.{Reply}
-use Rattle.laws_tables.{proofs.Slots.{changed_slot, one_end, removed_slot}, specs.{Ends.{Ends, FlowEnd, entries_of}, Steps.{HasEnd, with_end, left}}}
+use Rattle.laws_tables.{proofs.Slots.{changed_slot, one_end, removed_slot}, specs.{Ends.{Ends, FlowEnd, entries_of}, Steps.{HasEnd, with_end, left, with_clean}}}
 use Rattle.vs_driver_parts.specs.{State.{DriverConnection, DriverEntry, DriverState, GoneConnection}, Connections.{with_connection, after_leaving, waits_no_more, is_let_go}}
-use Rattle.vs_driver_parts.{specs.Connections.gone_as, proofs.Ids.entry_has}
-use Rattle.laws_driver.{specs.Honest.{IsFit, IsFitEntry, IsFitFlow, IsFitReply, IsFitState, end_in, ends_of_state}, proofs.Fits.IsHeldBy}
+use Rattle.vs_driver_parts.{specs.{Connections.{gone_as, keeping, kept_if}, SlotFields.AreClean}, proofs.{Ids.entry_has, Clean.{clean_left, clean_value, clean_without}}}
+use Rattle.laws_driver.{specs.Honest.{IsFit, IsFitEntry, IsFitFlow, IsFitReply, IsFitState, end_in, ends_of_state, IsFitClean}, proofs.Fits.IsHeldBy}
 
 -- An entry that stands in the table.
 pub record Stands (s : DriverState) (e : DriverEntry) : Type 0 where
@@ -41,6 +41,8 @@ connection_fits s slot c fits held kind = record {
   entries = All-map IsFitEntry (revalued slot c) s.table.entries (λ k d lt. revalued_fits slot c (get_or s.table.entries k d) held kind (fits.entries k d lt));
   ports = All-map (λ x. is_assigned x.flow.host ≡ false → x.flow.guest < s.next_port) (revalued slot c) s.table.entries (λ k d lt. rw (revalued-flow slot c (get_or s.table.entries k d)) (fits.ports k d lt));
   owed = fits.owed;
+  clean_fit = fits.clean_fit;
+  clean_sound = clean_value s.next_port s.table s.clean slot c fits.clean_sound;
 }
 
 pub connection_ends : (s : DriverState) (e : DriverEntry) (c : DriverConnection) → IsFitState s → Stands s e
@@ -59,13 +61,15 @@ replies_fit cid rs s fits less owed = record {
   entries = fits.entries;
   ports = fits.ports;
   owed = owed;
+  clean_fit = fits.clean_fit;
+  clean_sound = fits.clean_sound;
 }
 
 -- It leaves the table.
 left_by : (b : Bool) (s : DriverState) (e : DriverEntry) (t : Table DriverConnection) (gone : List GoneConnection)
     → let s' : DriverState = record (cond b (waits_no_more e s) s) { table = t; gone = gone } in
     (ends_of_state s' ≡ record (ends_of_state s) { entries = entries_of end_in t }) × (s'.replies ≡ s.replies) × (s'.broken ≡ s.broken)
-    × (IsFit s.cid s.next_port s.next_id t s.replies → IsFitState s')
+    × (IsFit s.cid s.next_port s.next_id t s.replies s.clean → IsFitState s')
 left_by true s e t gone = (refl, refl, refl, λ fits. fits)
 left_by false s e t gone = (refl, refl, refl, λ fits. fits)
 
@@ -91,17 +95,67 @@ leaves s e c fits stands =
         entries = All-filter (λ x. not (x.slot == e.slot)) IsFitEntry s.table.entries fits.entries;
         ports = All-filter (λ x. not (x.slot == e.slot)) (λ x. is_assigned x.flow.host ≡ false → x.flow.guest < s.next_port) s.table.entries fits.ports;
         owed = fits.owed;
+        clean_fit = fits.clean_fit;
+        clean_sound = clean_without s.next_port s.table s.clean e.slot fits.sound fits.clean_sound;
       });
       broken = by.2;
       replies = by.1;
     }
 
--- A connection more.
-pub opening_fits : (s : DriverState) (f : Flow) (c : DriverConnection) (port : ℕ) → IsFitState s → IsAccepted s.table f → IsFitFlow f → f.peer ≡ HOST_CID → IsHeldBy c
-    → c.end.kind ≡ Stream
+-- And its flow is kept, or not.
+kept_by : (b k : Bool) (f : Flow) (s : DriverState) (e : DriverEntry) (t : Table DriverConnection) (gone : List GoneConnection)
+    → let s' : DriverState = keeping k f (record (cond b (waits_no_more e s) s) { table = t; gone = gone }) in
+    (ends_of_state s' ≡ with_clean k f (record (ends_of_state s) { entries = entries_of end_in t })) × (s'.broken ≡ s.broken)
+    × (IsFit s.cid s.next_port s.next_id t s.replies (kept_if k f s.clean) → IsFitState s')
+kept_by true true f s e t gone = (refl, refl, λ fits. fits)
+kept_by true false f s e t gone = (refl, refl, λ fits. fits)
+kept_by false true f s e t gone = (refl, refl, λ fits. fits)
+kept_by false false f s e t gone = (refl, refl, λ fits. fits)
+
+kept_fit : (k : Bool) (f : Flow) (fs : List Flow) → IsFitClean f → All IsFitClean fs → All IsFitClean (kept_if k f fs)
+kept_fit true f fs one all =
+    let n : ℕ = length fs + 1 - CLEAN_PAIRS in All-push IsFitClean (drop n fs) f (All-drop IsFitClean n fs all) one
+kept_fit false f fs one all = all
+
+pub record LeavesKept (k : Bool) (s : DriverState) (e : DriverEntry) (t : DriverState) : Type 0 where
+  pub ends : ends_of_state t ≡ with_clean k e.flow (left e.flow (ends_of_state s))
+  pub fits : IsFitState t
+  pub broken : t.broken ≡ s.broken
+
+pub leaves_kept : (k : Bool) (s : DriverState) (e : DriverEntry) (c : DriverConnection) → IsFitState s → Stands s e → (k ≡ true → is_assigned e.flow.host ≡ false)
+    → LeavesKept k s e (keeping k e.flow (after_leaving (record e { value = c }) s))
+leaves_kept k s e c fits stands own =
+    let t = without s.table e.slot in
+    let now : DriverEntry = record e { value = c } in
+    let l = leaves s e c fits stands in
+    let entry = entry_fits s e fits stands in
+    let by = kept_by c.unanswered k e.flow s now t (cond (is_let_go c) s.gone (s.gone ++ gone_as now ∷ [])) in
+    let below = entry_has (λ x. is_assigned x.flow.host ≡ false → x.flow.guest < s.next_port) (λ x. x.slot == e.slot) s.table.entries e fits.ports stands.under in
+    record {
+      ends = by.0 ∙ ap (λ (es : List FlowEnd). let part : Ends = record (ends_of_state s) { entries = es } in with_clean k e.flow part)
+          (removed_slot end_in s.table e fits.sound stands.contains);
+      fits = by.2 (record {
+        cid_fits = fits.cid_fits;
+        port_left = fits.port_left;
+        sound = without_sound s.table e.slot fits.sound;
+        places = fits.places;
+        given = fits.given;
+        entries = All-filter (λ x. not (x.slot == e.slot)) IsFitEntry s.table.entries fits.entries;
+        ports = All-filter (λ x. not (x.slot == e.slot)) (λ x. is_assigned x.flow.host ≡ false → x.flow.guest < s.next_port) s.table.entries fits.ports;
+        owed = fits.owed;
+        clean_fit = kept_fit k e.flow s.clean (record { ports = entry.ports; peer = entry.peer }) fits.clean_fit;
+        clean_sound = clean_left k s.next_port s.table s.clean e.slot e fits.sound stands.under own below fits.clean_sound;
+      });
+      broken = by.1;
+    }
+
+-- A connection more, and these flows are kept.
+pub opening_fits : (s : DriverState) (f : Flow) (c : DriverConnection) (port : ℕ) (clean : List Flow) → IsFitState s → IsAccepted s.table f → IsFitFlow f
+    → f.peer ≡ HOST_CID → IsHeldBy c → c.end.kind ≡ Stream
     → port ≤ LAST_PORT + 1 → s.next_port ≤ port → (is_assigned f.host ≡ false → f.guest < port)
-    → IsFit s.cid port (s.next_id + 1) (with_entry s.table f c) s.replies
-opening_fits s f c port fits free ports peer held kind left more below = record {
+    → All IsFitClean clean → AreClean port (with_entry s.table f c) clean
+    → IsFit s.cid port (s.next_id + 1) (with_entry s.table f c) s.replies clean
+opening_fits s f c port clean fits free ports peer held kind left more below fit sound = record {
   cid_fits = fits.cid_fits;
   port_left = left;
   sound = with_entry_sound s.table f c fits.sound free;
@@ -111,4 +165,6 @@ opening_fits s f c port fits free ports peer held kind left more below = record 
   ports = All-push (λ e. is_assigned e.flow.host ≡ false → e.flow.guest < port) s.table.entries (next_entry s.table f c)
       (λ k d lt mine. let less = fits.ports k d lt mine in omega (arith, less, more)) below;
   owed = fits.owed;
+  clean_fit = fit;
+  clean_sound = sound;
 }

@@ -1,40 +1,40 @@
 -- A packet that is got: the driver's connections are those that the log with it leaves, and a fair one is never refused.
 use Rattle.std.proofs.Common.{◌≡◌, ℕ, ◌<◌, ◌≤◌, ◌&&◌, Bool, true, false, cond, List, [], ◌∷◌, ◌++◌, Option, Some, None, refl, sym, ap, subst, ◌∙◌, arith, rules}
 use Rattle.std.proofs.lemmas.{Bool.{Decides.nat_tests, and_parts, eqb-true}, Grind.common_steps, List.Elements.All-push}
-use Rattle.vs_conn.{specs.{End.{ConnectionEnd, answering, end_after, is_of, is_refused, is_reset, verdict_of}, declared.end.Verdict.Verdict}, proofs.Frames.got_kind}
+use Rattle.vs_conn.{specs.{End.{ConnectionEnd, answering, end_after, is_of, is_refused, is_reset, verdict_of}, declared.end.Verdict.Verdict, Shut.is_both}, proofs.Frames.got_kind}
 use Rattle.vs_header.specs.declared.{Header.Header, Kind.{Kind, TheVariants.Stream}}
-use Rattle.laws_history.specs.{Packets.is_rst, declared.packet.Packet.Packet}
+use Rattle.laws_history.specs.{Packets.{is_rst, is_clean_rst}, declared.packet.Packet.Packet}
 use Rattle.vs_limits.specs.declared.TheConstants.{BUF_ALLOC, HOST_CID, LAST_ID, DRIVER_CONNECTIONS}
 use Rattle.vs_flow.{proofs.Tables.IsAccepted, specs.{Flow.{is_assigned, same_flow}, Table.entry_of, declared.flow.Flow.Flow}}
-use Rattle.vs_page.specs.{Fair.IsFairLog, Held.IsWhole, Log.{Driver, Log, flow_got, flow_to_guest, side_of}, Open.is_dropped, declared.log.LogEntry.TheVariants.GotPacket}
-use Rattle.vs_page.proofs.Flows.{same_is}
+use Rattle.vs_page.specs.{Fair.IsFairLog, Held.IsWhole, Log.{Driver, Log, flow_got, flow_to_guest, side_of, side_by}, Open.{is_dropped, asks_for}}
+use Rattle.vs_page.{specs.declared.log.LogEntry.TheVariants.GotPacket, proofs.Flows.same_is}
 use Rattle.vs_replies.specs.{Owed.reply_to, declared.Reply.Reply}
-use Rattle.laws_tables.specs.{Ends.{Ends, FlowEnd, answer_kind, ends_of}, Steps.{HasEnd, HasNone, accepted, forgotten, is_kept, is_message, left, taken, with_clean, with_end}}
+use Rattle.laws_tables.specs.{Ends.{Ends, FlowEnd, answer_kind, ends_of}, Steps.{HasEnd, HasNone, accepted, is_kept, is_message, left, taken, with_clean, with_end}}
 use Rattle.laws_tables.{specs.{Both.{after_taking, answered, after_packet as after_packet_on}, Heard.{IsInOrder, heard_of}, Matches.Matches}, proofs.Keeps.{accepts, drops}}
-use Rattle.laws_tables.proofs.{Keeps.{forgets, ignores, refuses, takes}, Fair.{got_in_order, got_is_taken, got_not_refused, heard_all}, Slots.{added_slot, found_by, no_entry}}
+use Rattle.laws_tables.proofs.{Keeps.{ignores, refuses, takes}, Fair.{got_in_order, got_is_taken, got_not_refused, heard_all}, Slots.{added_slot, found_by, no_entry}}
 use Rattle.vs_driver_parts.specs.{Receiving.{after_packet, after_verdict, is_request, may_open, on_heard, on_known, on_packet, on_unknown, with_reply}, Playing.FitsPorts}
-use Rattle.vs_driver_parts.specs.{State.{DriverConnection, DriverEntry, DriverState, slots_held}, Connections.{after_leaving, with_connection, with_request}}
-use Rattle.vs_driver_parts.proofs.{Ids.found_under, Packets.{packet_known, packet_unknown}}
+use Rattle.vs_driver_parts.specs.{State.{DriverConnection, DriverEntry, DriverState, slots_held}, Connections.{after_leaving, with_connection, with_request, keeping}}
+use Rattle.vs_driver_parts.proofs.{Ids.found_under, Packets.{packet_known, packet_unknown}, Clean.{clean_entry, none_assigned}}
 use Rattle.laws_driver.{specs.Honest.{IsFitFlow, IsFitReply, IsFitState, end_in, ends_of_state}, proofs.Tabling.{Stands, connection_ends, connection_fits, entry_fits, has_end}}
-use Rattle.laws_driver.proofs.{Tabling.{leaves, opening_fits, replies_fit}, Fits.{IsHeldBy, packet_fits}}
+use Rattle.laws_driver.proofs.{Tabling.{opening_fits, replies_fit, leaves_kept}, Fits.{IsHeldBy, packet_fits}}
 use Rattle.vs_conn.specs.declared.end.Verdict.TheVariants as verdict
 use Rattle.laws_history.specs.Packets as packets
 
--- The driver t after it got a packet, whose log was this: it took the packet, and keeps no flow.
+-- The driver t after it got a packet, whose log was this: it took the packet.
 pub record Gets (first : ℕ) (p : Packet) (s : DriverState) (log : Log) (t : DriverState) : Type 0 where
   pub matches : Matches Driver first (ends_of_state t) (GotPacket p ∷ log)
   pub fits : IsFitState t
   pub broken : t.broken ≡ s.broken
   pub answer : Bool
-  pub ends : ends_of_state t ≡ forgotten (after_taking Driver p answer (ends_of_state s))
+  pub ends : ends_of_state t ≡ after_taking Driver p answer (ends_of_state s)
 
 -- A packet that isn't dropped, by the ends of its flow.
 by_ends : (p : Packet) (answer : Bool) (part : Ends) (es : List ConnectionEnd) → is_dropped Driver part.cid p.header ≡ false
     → ends_of (flow_got Driver p) part.entries ≡ es
-    → forgotten (after_packet_on Driver es p (flow_got Driver p) answer part) ≡ forgotten (after_taking Driver p answer part)
+    → after_packet_on Driver es p (flow_got Driver p) answer part ≡ after_taking Driver p answer part
 by_ends p answer part es kept are =
-    ap (λ (xs : List ConnectionEnd). forgotten (after_packet_on Driver xs p (flow_got Driver p) answer part)) (sym are)
-    ∙ ap (λ (b : Bool). forgotten (cond b part (after_packet_on Driver (ends_of (flow_got Driver p) part.entries) p (flow_got Driver p) answer part))) (sym kept)
+    ap (λ (xs : List ConnectionEnd). after_packet_on Driver xs p (flow_got Driver p) answer part) (sym are)
+    ∙ ap (λ (b : Bool). cond b part (after_packet_on Driver (ends_of (flow_got Driver p) part.entries) p (flow_got Driver p) answer part)) (sym kept)
 
 module _ (p : Packet) (e : DriverEntry) (s : DriverState) (fits : IsFitState s) (stands : Stands s e) where
   stays : (c : DriverConnection) → c.end ≡ end_after e.value.end p.header → IsHeldBy c
@@ -45,16 +45,24 @@ module _ (p : Packet) (e : DriverEntry) (s : DriverState) (fits : IsFitState s) 
         (ap (λ (x : ConnectionEnd). x.kind) is ∙ got_kind e.value.end p.header ∙ (entry_fits s e fits stands).kind),
   )
 
+  abbrev keeps : Bool
+  keeps = is_kept Driver e.flow e.value.end p
+
+  own_by : (assigned own marked : Bool) → (asks_for (side_by Driver assigned) && own && marked) ≡ true → assigned ≡ false
+  own_by false own marked is = refl
+  own_by true own marked is = absurd cc
+
   -- A state that a connection leaves or in which it stays.
   peer_by : (b : Bool) (c : DriverConnection) → c.end ≡ end_after e.value.end p.header → IsHeldBy c
-      → let t : DriverState = cond b (after_leaving (record e { value = c }) s) (with_connection e.slot c s) in
-      (ends_of_state t ≡ cond b (left e.flow (ends_of_state s)) (with_end e.flow (end_after e.value.end p.header) (ends_of_state s)))
+      → let t : DriverState = cond b (keeping keeps e.flow (after_leaving (record e { value = c }) s)) (with_connection e.slot c s) in
+      (ends_of_state t ≡ cond b (with_clean keeps e.flow (left e.flow (ends_of_state s))) (with_end e.flow (end_after e.value.end p.header) (ends_of_state s)))
       × IsFitState t × (t.broken ≡ s.broken)
-  peer_by true c is held = let l = leaves s e c fits stands in (l.ends, l.fits, l.broken)
+  peer_by true c is held =
+      let l = leaves_kept keeps s e c fits stands (own_by (is_assigned e.flow.host) (is_both e.value.end.own) (is_clean_rst p)) in (l.ends, l.fits, l.broken)
   peer_by false c is held = let l = stays c is held in (l.0, l.1, refl)
 
   pub takes_by : (v : Verdict) → verdict_of e.value.end p.header ≡ v → is_refused v ≡ false → IsWhole p → IsHeldBy e.value
-      → (ends_of_state (after_verdict v p e s) ≡ cond (is_message v && is_reset p.header) (left e.flow (ends_of_state s))
+      → (ends_of_state (after_verdict v p e s) ≡ cond (is_message v && is_reset p.header) (with_clean keeps e.flow (left e.flow (ends_of_state s)))
       (with_end e.flow (end_after e.value.end p.header) (ends_of_state s))) × IsFitState (after_verdict v p e s) × ((after_verdict v p e s).broken ≡ s.broken)
   takes_by (verdict.Rst why) is kept whole held = absurd cc
   takes_by verdict.Peer is kept whole held =
@@ -64,19 +72,12 @@ module _ (p : Packet) (e : DriverEntry) (s : DriverState) (fits : IsFitState s) 
       let l = stays (after_packet v p e.value) refl (subst (λ (w : Verdict). IsHeldBy (after_packet w p e.value)) is (packet_fits p e.value whole held)) in
       (l.0, l.1, refl)
 
-  -- A connection leaves at an RST of its type, exactly; and the driver keeps no flow.
+  -- A connection leaves at an RST of its type, exactly.
   leaves_by : (v : Verdict) → (is_message v && is_reset p.header) ≡ (is_rst p && is_of e.value.end.kind p.header)
-      → cond (is_message v && is_reset p.header) (left e.flow (ends_of_state s)) (with_end e.flow (end_after e.value.end p.header) (ends_of_state s))
-      ≡ forgotten (taken Driver e.flow e.value.end p (ends_of_state s))
-  leaves_by v same =
-      ap (λ (b : Bool). cond b (left e.flow (ends_of_state s)) (with_end e.flow (end_after e.value.end p.header) (ends_of_state s))) same
-      ∙ kept_none (is_rst p && is_of e.value.end.kind p.header) (is_kept Driver e.flow e.value.end p)
-    where
-      kept_none : (b k : Bool) → cond b (left e.flow (ends_of_state s)) (with_end e.flow (end_after e.value.end p.header) (ends_of_state s))
-          ≡ forgotten (cond b (with_clean k e.flow (left e.flow (ends_of_state s))) (with_end e.flow (end_after e.value.end p.header) (ends_of_state s)))
-      kept_none true true = refl
-      kept_none true false = refl
-      kept_none false k = refl
+      → cond (is_message v && is_reset p.header) (with_clean keeps e.flow (left e.flow (ends_of_state s)))
+      (with_end e.flow (end_after e.value.end p.header) (ends_of_state s)) ≡ taken Driver e.flow e.value.end p (ends_of_state s)
+  leaves_by v same = ap (λ (b : Bool). cond b (with_clean keeps e.flow (left e.flow (ends_of_state s)))
+      (with_end e.flow (end_after e.value.end p.header) (ends_of_state s))) same
 
 leaving : (e : ConnectionEnd) (h : Header) → (is_message (verdict_of e h) && is_reset h) ≡ (is_reset h && is_of e.kind h)
 leaving = search rules
@@ -93,11 +94,10 @@ known first p e s log fits stands same whole kept_in m fair =
     let kept : is_refused (verdict_of end p.header) ≡ false = got_not_refused Driver first p end part log m.flows has (fair f) (heard_all first f log host) in
     let held = (entry_fits s e fits stands).buffer in
     let by = takes_by p e s fits stands (verdict_of end p.header) refl kept whole held in
-    let ends : ends_of_state (on_known p e s) ≡ forgotten (taken Driver e.flow end p part) = by.0 ∙ leaves_by p e s fits stands (verdict_of end p.header) (leaving end p.header) in
-    let now : Matches Driver first (forgotten (taken Driver f end p part)) (GotPacket p ∷ log) =
-    forgets Driver first (taken Driver f end p part) (GotPacket p ∷ log)
-    (takes Driver first p end part log m kept_in has (got_in_order Driver first p log (fair f)) (got_is_taken Driver p log (fair f))) in
-    let at : forgotten (taken Driver f end p part) ≡ ends_of_state (on_known p e s) = ap (λ (g : Flow). forgotten (taken Driver g end p part)) same ∙ sym ends in
+    let ends : ends_of_state (on_known p e s) ≡ taken Driver e.flow end p part = by.0 ∙ leaves_by p e s fits stands (verdict_of end p.header) (leaving end p.header) in
+    let now : Matches Driver first (taken Driver f end p part) (GotPacket p ∷ log) =
+    takes Driver first p end part log m kept_in has (got_in_order Driver first p log (fair f)) (got_is_taken Driver p log (fair f)) in
+    let at : taken Driver f end p part ≡ ends_of_state (on_known p e s) = ap (λ (g : Flow). taken Driver g end p part) same ∙ sym ends in
     record {
       matches = subst (λ (x : Ends). Matches Driver first x (GotPacket p ∷ log)) at now;
       fits = by.1;
@@ -146,12 +146,12 @@ module _ (first : ℕ) (p : Packet) (s : DriverState) (log : Log) (fits : IsFitS
     broken = refl;
     answer = false;
     ends = refused_by (packets.is_request p)
-        ∙ ap (λ (b : Bool). forgotten (cond b (ends_of_state s) (answered (packets.is_request p) false p (flow_got Driver p) (ends_of_state s)))) (sym other)
+        ∙ ap (λ (b : Bool). cond b (ends_of_state s) (answered (packets.is_request p) false p (flow_got Driver p) (ends_of_state s))) (sym other)
         ∙ by_ends p false (ends_of_state s) [] kept_in no_end;
   }
     where
       refused_by : (b : Bool) → ends_of_state (with_reply (reply_to (flow_to_guest p.header) p.header) s)
-          ≡ forgotten (answered b false p (flow_got Driver p) (ends_of_state s))
+          ≡ answered b false p (flow_got Driver p) (ends_of_state s)
       refused_by true = refl
       refused_by false = refl
 
@@ -161,7 +161,7 @@ module _ (first : ℕ) (p : Packet) (s : DriverState) (log : Log) (fits : IsFitS
     fits = fits;
     broken = refl;
     answer = false;
-    ends = ap (λ (b : Bool). forgotten (cond b (ends_of_state s) (answered (packets.is_request p) false p (flow_got Driver p) (ends_of_state s)))) (sym rst)
+    ends = ap (λ (b : Bool). cond b (ends_of_state s) (answered (packets.is_request p) false p (flow_got Driver p) (ends_of_state s))) (sym rst)
         ∙ by_ends p false (ends_of_state s) [] kept_in no_end;
   }
 
@@ -179,14 +179,16 @@ module _ (first : ℕ) (p : Packet) (s : DriverState) (log : Log) (fits : IsFitS
         matches = subst (λ (x : Ends). Matches Driver first x (GotPacket p ∷ log)) (sym ends)
             (accepts Driver first Stream p (ends_of_state s) log m kept_in no_end order (got_is_taken Driver p log (fair (flow_got Driver p))) request
             (eqb-true p.header.kind 1 asks_for.0));
-        fits = opening_fits s f c s.next_port fits free flow_fits room.peer (answering_held p.header s.next_id) refl fits.port_left (omega arith)
-            (λ own. let both : true ≡ false = sym room.assigned ∙ own in absurd cc);
+        fits = opening_fits s f c s.next_port s.clean fits free flow_fits room.peer (answering_held p.header s.next_id) refl fits.port_left (omega arith)
+            (λ own. let both : true ≡ false = sym room.assigned ∙ own in absurd cc) fits.clean_fit
+            (clean_entry s.next_port s.next_port s.table f c s.clean fits.clean_sound
+            (none_assigned s.next_port s.table f s.clean fits.clean_sound room.assigned) (omega arith));
         broken = refl;
         answer = true;
         ends = ends
-            ∙ ap (λ (k : Kind). forgotten (accepted f k p.header (ends_of_state s))) (sym (ap answer_kind (eqb-true p.header.kind 1 asks_for.0)))
-            ∙ ap (λ (b : Bool). forgotten (answered b true p f (ends_of_state s))) (sym request)
-            ∙ ap (λ (b : Bool). forgotten (cond b (ends_of_state s) (answered (packets.is_request p) true p f (ends_of_state s)))) (sym (not_rst request))
+            ∙ ap (λ (k : Kind). accepted f k p.header (ends_of_state s)) (sym (ap answer_kind (eqb-true p.header.kind 1 asks_for.0)))
+            ∙ ap (λ (b : Bool). answered b true p f (ends_of_state s)) (sym request)
+            ∙ ap (λ (b : Bool). cond b (ends_of_state s) (answered (packets.is_request p) true p f (ends_of_state s))) (sym (not_rst request))
             ∙ by_ends p true (ends_of_state s) [] kept_in no_end;
       }
     where
@@ -224,7 +226,7 @@ gets_packet first p s log fits ports whole m fair = drop_by (is_dropped Driver s
       fits = fits;
       broken = refl;
       answer = false;
-      ends = ap (λ (b : Bool). forgotten (cond b (ends_of_state s)
-          (after_packet_on Driver (ends_of (flow_got Driver p) (ends_of_state s).entries) p (flow_got Driver p) false (ends_of_state s)))) (sym dropped);
+      ends = ap (λ (b : Bool). cond b (ends_of_state s)
+          (after_packet_on Driver (ends_of (flow_got Driver p) (ends_of_state s).entries) p (flow_got Driver p) false (ends_of_state s))) (sym dropped);
     }
     drop_by false kept_in = by (entry_of s.table (flow_to_guest p.header)) refl kept_in

@@ -2,7 +2,7 @@
 use Rattle.std.proofs.Common.{ℕ, ◌<◌, ◌^◌, List, ◌∷◌, take, refl, sym}
 use Rattle.laws_history.specs.declared.packet.Packet.{Packet}
 use Rattle.vs_page.specs.{Log.Log, declared.log.LogEntry.TheVariants.PutPacket}
-use Rattle.laws_tables.specs.Both.{Forgets, Seat, Takes, TakesEvent, TakesReset}
+use Rattle.laws_tables.specs.Both.{Seat, Takes, TakesEvent, TakesReset}
 use Rattle.vs_driver_parts.specs.State.{DriverState}
 use Rattle.laws_driver.proofs.{Calls.{CarriesConnect, CarriesSend}, Carrying.{Carries, Fact}, Changing.wanting_changes, Going.{Goes, at_log, goes_on, goes_then, seat}}
 use Rattle.laws_driver.proofs.{Putting.{connect_puts, owed_puts, reply_puts, send_puts}, Resetting.resets, Ringing.Puts, Taking.gets_packet}
@@ -21,7 +21,7 @@ module _ (first : ℕ) (w : Seat) where
     reply = λ r rest s log fits is m fair goes. puts_goes _ s _ (record s { replies = rest }) log (reply_puts r rest s fits is) goes;
     got = λ p s log fits ports whole m was fair goes.
         let g = gets_packet first p s log fits ports whole m fair in
-        goes_on w _ _ Forgets tt (at_log _ _ _ (sym g.ends)) (goes_on w (seat s log) _ (Takes p g.answer) tt refl goes);
+        goes_on w (seat s log) _ (Takes p g.answer) tt (at_log _ _ _ (sym g.ends)) goes;
     event = λ id s log goes. goes_on w (seat s log) _ (TakesEvent id) tt refl goes;
     reset = λ cid s log less fits goes. goes_on w (seat s log) _ (TakesReset cid) refl (at_log _ _ _ (sym (resets cid s less fits).ends)) goes;
   }

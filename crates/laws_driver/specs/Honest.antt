@@ -1,24 +1,24 @@
 -- Where an honest ring tells the driver's log: the driver's connections are those that the log left open, and the log is fair.
 use Rattle.std.specs.{List.All, Option.ForSome, Prelude.{◌≡◌, ℕ, ◌+◌, ◌<◌, ◌≤◌, ◌^◌, false, true, List, [], ◌∷◌}}
 use Rattle.vs_conn.specs.{End.ConnectionEnd, declared.end.State.State}
-use Rattle.vs_flow.specs.{Flow.is_assigned, Table.IsTable, Table.Table, declared.flow.Flow.Flow}
+use Rattle.vs_flow.specs.{Flow.is_assigned, Table.{IsTable, Table}, declared.flow.Flow.Flow}
 use Rattle.vs_header.specs.declared.Kind.TheVariants.{Stream}
 use Rattle.vs_limits.specs.declared.TheConstants.{HOST_CID, BUF_ALLOC_MAX, LAST_PORT, DRIVER_CONNECTIONS}
 use Rattle.vs_page.specs.{Fair.IsFairLog, Log.Driver, Open.is_open}
 use Rattle.vs_replies.specs.declared.Reply.{Reply}
 use Rattle.vs_ring_port.specs.{Contents.RingContents, EndLog.EndLog}
-use Rattle.laws_tables.specs.{Ends.Ends, Ends.entries_of, Ends.is_among, Ends.replied, Matches.Matches}
+use Rattle.laws_tables.specs.{Ends.{Ends, entries_of, is_among, replied}, Matches.Matches}
 use Rattle.laws_driver.specs.Resets.{MarksResets}
-use Rattle.vs_driver_parts.specs.{Held.HeldSlots, Room.HasRoom, State.DriverConnection, State.DriverEntry, State.DriverState}
+use Rattle.vs_driver_parts.specs.{Held.HeldSlots, Room.HasRoom, State.{DriverConnection, DriverEntry, DriverState}, SlotFields.AreClean}
 
--- The driver's connections, the replies that it owes, its next port, and the guest's CID. It keeps no flow to be used again.
+-- The driver's connections, the replies that it owes, the flows that it keeps to be used again, its next port, and the guest's CID.
 abbrev pub end_in : DriverConnection → ConnectionEnd
 end_in c = c.end
 
 abbrev pub ends_of_state : DriverState → Ends
-ends_of_state s = record { entries = entries_of end_in s.table; replies = s.replies; clean = []; next_port = s.next_port; cid = s.cid }
+ends_of_state s = record { entries = entries_of end_in s.table; replies = s.replies; clean = s.clean; next_port = s.next_port; cid = s.cid }
 
--- Its slots: the connections of its table and those that are gone, with the numbers that the next ones get.
+-- Its slots: the connections of its table and those that are gone, with the numbers that the next ones get, and the flows that it keeps.
 abbrev pub slots_of : DriverState → HeldSlots
 slots_of s = record {
   next_port = s.next_port;
@@ -27,6 +27,7 @@ slots_of s = record {
   last_id = s.last_id;
   table = s.table;
   gone = s.gone;
+  clean = s.clean;
 }
 
 -- Ports have 32 bits, and the peer's CID has 64.
@@ -46,8 +47,14 @@ pub record IsFitEntry (e : DriverEntry) : Type 0 where
 abbrev pub IsFitReply : Reply → Type 0
 IsFitReply r = IsFitFlow r.flow
 
--- The driver's numbers fit their widths, its table has its places, and the ports of its own connections are below the next.
-pub record IsFit (cid next_port next_id : ℕ) (table : Table DriverConnection) (replies : List Reply) : Type 0 where
+-- A flow that is kept is one with the host.
+pub record IsFitClean (f : Flow) : Type 0 where
+  pub ports : IsFitFlow f
+  pub peer : f.peer ≡ HOST_CID
+
+-- The driver's numbers fit their widths, its table has its places, and the ports of its own connections are below the next, of those that
+-- stand and of those whose flows are kept.
+pub record IsFit (cid next_port next_id : ℕ) (table : Table DriverConnection) (replies : List Reply) (clean : List Flow) : Type 0 where
   pub cid_fits : cid < 2 ^ 64
   pub port_left : next_port ≤ LAST_PORT + 1
   pub sound : IsTable table
@@ -56,9 +63,11 @@ pub record IsFit (cid next_port next_id : ℕ) (table : Table DriverConnection) 
   pub entries : All IsFitEntry table.entries
   pub ports : All (λ e. is_assigned e.flow.host ≡ false → e.flow.guest < next_port) table.entries
   pub owed : All IsFitReply replies
+  pub clean_fit : All IsFitClean clean
+  pub clean_sound : AreClean next_port table clean
 
 abbrev pub IsFitState : DriverState → Type 0
-IsFitState s = IsFit s.cid s.next_port s.next_id s.table s.replies
+IsFitState s = IsFit s.cid s.next_port s.next_id s.table s.replies s.clean
 
 -- The driver and its log, where this was the guest's CID at first: no page is left unpublished, no packet was refused, each connection is
 -- the one that the log left, the log is fair, and each reset of the transport that the driver was told of has its Mark.

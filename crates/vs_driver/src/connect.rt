@@ -17,7 +17,7 @@ use vs_driver_parts::answers::{ConnId, ConnectError};
 use vs_driver_parts::route::route_to_host;
 use vs_flow::{Flow, is_assigned};
 use vs_header::{Header, Kind};
-use vs_limits::{BUF_ALLOC, DRIVER_CONNECTIONS, LAST_ID, LAST_PORT};
+use vs_limits::{BUF_ALLOC, DRIVER_CONNECTIONS, LAST_ID};
 use vs_ring_port::DriverRing;
 
 impl Driver {
@@ -25,8 +25,8 @@ impl Driver {
     /// the device returned are taken back before one is needed.
     ///
     /// In this order: `BadPort` comes exactly where the device assigns the port itself, `Full` exactly where 64 slots are held, `PortsSpent`
-    /// exactly where the last guest port or the last id was given, and `NoDescriptor` exactly where as many transmit pages are in flight as
-    /// the queue has descriptors.
+    /// exactly where the last guest port was given and no connection to the host port may be followed by another on its ports, or the last id
+    /// was given, and `NoDescriptor` exactly where as many transmit pages are in flight as the queue has descriptors.
     pub fn connect<R: DriverRing>(
         &mut self,
         ring: &mut R,
@@ -59,7 +59,7 @@ impl Driver {
                 slots: DRIVER_CONNECTIONS as u32,
             });
         }
-        if self.slots.next_port() > LAST_PORT || self.slots.next_id() > LAST_ID as u64 {
+        if self.slots.next_flow(host_port).is_none() || self.slots.next_id() > LAST_ID as u64 {
             let (port, id) = self.slots.last();
             return Some(ConnectError::PortsSpent { port, id });
         }
@@ -97,14 +97,27 @@ impl Driver {
         ensures opened { self.new ≡ connected host_port self.old }
         ensures id { result ≡ self.old.next_id }
     {
-        self.slots.open_asked(host_port)
+        let flow = self.next_flow(host_port);
+        self.slots.open_asked(flow)
+    }
+
+    // The flow of the next connection to a host port, where there is one.
+    fn next_flow(&self, host_port: u32) -> Flow
+        requires free { connect_refusal host_port self.now ≡ None }
+        ensures { result ≡ next_flow host_port self.now }
+    {
+        match self.slots.next_flow(host_port) {
+            Some(flow) => flow,
+            None => unreachable!(),
+        }
     }
 
     // The header of the REQUEST of the next connection.
     fn request_header(&self, host_port: u32) -> Header
+        requires free { connect_refusal host_port self.now ≡ None }
         ensures { result ≡ owed_header (asked Stream BUF_ALLOC) (route_to_host self.now.cid (next_flow host_port self.now)) owed.Request }
     {
-        let flow = Flow::to_host(self.slots.next_port(), host_port);
+        let flow = self.next_flow(host_port);
         End::ask(Kind::Stream, BUF_ALLOC).owed_header(route_to_host(self.cid, flow), Owed::Request)
     }
 }

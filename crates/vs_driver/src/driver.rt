@@ -34,6 +34,7 @@ impl Model for Driver {
       last_id = d.slots.last_id;
       table = d.slots.table;
       gone = d.slots.gone;
+      clean = d.slots.clean;
       listeners = d.listeners;
       replies = d.replies.owed;
       broken = d.broken;

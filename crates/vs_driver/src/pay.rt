@@ -142,7 +142,7 @@ impl Driver {
         ensures pages { SamePages self.old self.new }
     {
         if is_rst(what) {
-            self.leave(slot);
+            self.leave(slot, false);
         } else {
             self.slots.paid(slot, what);
         }

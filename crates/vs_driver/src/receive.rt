@@ -1,12 +1,12 @@
 //! What the driver does with the packets that it takes, and at a transport reset (Virtio 1.2, sections 5.10.6.4 to 5.10.6.7).
 
-ghost use Rattle.std.specs.Prelude.{◌≡◌, ℕ, List, ◌<◌, ◌≤◌, ◌==◌, ◌&&◌, ◌^◌, [], true, length, Some, None};
+ghost use Rattle.std.specs.Prelude.{◌≡◌, ℕ, List, ◌<◌, ◌≤◌, ◌==◌, ◌&&◌, ◌^◌, [], true, length, Some, None, not};
 ghost use Rattle.vs_conn.specs.End.{is_refused};
-ghost use Rattle.vs_flow.specs.{Table.{entry_of, entry_under}, declared.flow.Flow.Flow};
+ghost use Rattle.vs_flow.specs.{Table.{entry_of, entry_under}, declared.flow.Flow.Flow, Flow.is_assigned};
 ghost use Rattle.laws_history.specs.declared.packet.Packet.{Packet};
 ghost use Rattle.vs_page.specs.{Held.IsWhole, Log.flow_to_guest, Open.is_dropped};
 ghost use Rattle.vs_limits.specs.declared.TheConstants.{DRIVER_REPLIES, DRIVER_REPLIES_FULL};
-ghost use Rattle.vs_driver_parts.specs.{State.DriverEntry, Connections.{after_leaving, leaves_list, with_request}, Playing.{BringsFit, FitsPorts, SamePages}};
+ghost use Rattle.vs_driver_parts.specs.{State.DriverEntry, Connections.{after_leaving, leaves_list, with_request, keeping}, Playing.{BringsFit, FitsPorts, SamePages}};
 ghost use Rattle.vs_driver_parts.specs.Receiving.{ends_connection, on_page, on_packet, on_heard, on_known, on_unknown, is_request, may_open, with_reply, after_reset};
 ghost use Rattle.vs_wrap.specs.Wrap.{counted};
 ghost use Rattle.vs_page.specs.Log as log;
@@ -71,11 +71,12 @@ impl Driver {
         ensures state { (e : DriverEntry) → entry_under self.old.table slot ≡ Some e → let p : Packet = record { header = header.now; payload = payload.now } in self.new ≡ on_known p e self.old }
         ensures pages { SamePages self.old self.new }
     {
+        let cleanly = self.slots.ends_cleanly(slot, header);
         let verdict = self.slots.on_packet(slot, header, payload);
         if is_refused(verdict) {
             self.refuse(slot);
         } else if ends_connection(verdict, header) {
-            self.leave(slot);
+            self.leave(slot, cleanly);
         }
     }
 
@@ -103,13 +104,13 @@ impl Driver {
         }
     }
 
-    /// The connection in a slot leaves the table.
-    pub(crate) fn leave(&mut self, slot: Slot)
-        ensures state { (e : DriverEntry) → entry_under self.old.table slot ≡ Some e → self.new ≡ after_leaving e self.old }
+    /// The connection in a slot leaves the table. Its flow may be used again where it ended cleanly and the guest opened it.
+    pub(crate) fn leave(&mut self, slot: Slot, cleanly: bool)
+        ensures state { (e : DriverEntry) → entry_under self.old.table slot ≡ Some e → self.new ≡ keeping (cleanly && not (is_assigned e.flow.host)) e.flow (after_leaving e self.old) }
         ensures pages { SamePages self.old self.new }
     {
         self.leave_list(slot);
-        self.slots.leave(slot);
+        self.slots.leave(slot, cleanly);
     }
 
     // Takes a packet of an unknown flow.
@@ -174,7 +175,7 @@ impl Driver {
         prove!(connections <= DRIVER_CONNECTIONS);
         self.cid = cid;
         while let Some((slot, reply)) = self.slots.first() {
-            self.leave(slot);
+            self.leave(slot, false);
             self.owe(reply);
         }
     }

@@ -4,6 +4,7 @@ pub mod ListenerChanges
 pub mod Ids
 pub mod Numbers
 pub mod SlotChanges
+pub mod Clean
 pub mod SameIds
 pub mod GoneChanges
 pub mod Known

@@ -1,15 +1,16 @@
 -- What a packet of a connection, and a transport reset, come to.
 use Rattle.std.proofs.Common.{◌≡◌, ◌≢◌, ℕ, ◌+◌, ◌<◌, ◌==◌, Bool, true, false, not, cond, List, [], ◌∷◌, ◌++◌, length, map, Some, None, refl, sym, ap, subst, ◌∙◌, arith, eq-eqb}
-use Rattle.std.{proofs.Common.length-append, specs.{List.{AllPairs, filter, slice_get}, Option.option_map}}
-use Rattle.vs_conn.specs.{End.is_refused, declared.end.Verdict.Verdict}
-use Rattle.vs_flow.{specs.Table.{Table, IsTable, entry_of, entry_under, with_value, without, revalued}, proofs.{Entries.found_at, Tables.revalued-slot}}
+use Rattle.std.{proofs.Common.{length-append, ◌&&◌}, specs.{List.{AllPairs, filter, slice_get}, Option.option_map}}
+use Rattle.vs_conn.specs.{End.is_refused, declared.end.Verdict.Verdict, Shut.is_both}
+use Rattle.vs_flow.{specs.{Table.{Table, IsTable, entry_of, entry_under, with_value, without, revalued}, Flow.is_assigned}, proofs.{Entries.found_at, Tables.revalued-slot}}
 use Rattle.vs_flow.proofs.Lookups.{entry_under-with_value}
-use Rattle.laws_history.specs.declared.packet.Packet.{Packet}
-use Rattle.vs_page.specs.Log.{flow_to_guest}
-use Rattle.vs_driver_parts.specs.{Connections.{with_connection, leaves_list, after_leaving, waits_no_more, is_let_go, gone_as}, Receiving.{on_heard, on_known, on_unknown}}
+use Rattle.laws_history.specs.{declared.packet.Packet.Packet, Packets.is_clean_rst}
+use Rattle.vs_page.specs.{Log.{flow_to_guest, Driver, side_by}, Open.asks_for}
+use Rattle.vs_driver_parts.specs.{Connections.{with_connection, leaves_list, after_leaving, waits_no_more, is_let_go, gone_as, keeping}, Receiving.{on_heard, on_known, on_unknown}}
 use Rattle.vs_driver_parts.specs.{Receiving.{after_verdict, after_packet, ends_connection, with_reply, reset_reply, all_left}, State.{DriverConnection, DriverEntry, DriverState}}
 use Rattle.vs_driver_parts.proofs.Lists.{AtMostOnePasses, one_passes, kept_none}
 use Rattle.vs_wrap.specs.Wrap.{counted}
+use Rattle.laws_tables.specs.Steps.{is_kept}
 use Rattle.vs_conn.specs.declared.end.Verdict.TheVariants as verdict
 
 -- an entry with another value
@@ -62,12 +63,28 @@ module _ (p : Packet) (e : DriverEntry) (s : DriverState) (slot : ℕ) (at : e.s
       ap (λ (x : DriverState). after_leaving (with_its e c) x) (mid ∙ ap (λ (n : ℕ). with_connection n c s) (sym at))
       ∙ left_by c.unanswered (with_its e c) c s
 
-  pub over : (v : Verdict) (m new : DriverState) → ends_connection v p.header ≡ true → m ≡ with_connection slot (after_packet v p e.value) s
-      → new ≡ after_leaving (with_its e (after_packet v p e.value)) m → new ≡ after_verdict v p e s
-  over verdict.Peer m new true_is mid is =
+  -- what is kept of a connection that ended cleanly, or not
+  kept_as : (assigned own marked : Bool) → ((own && marked) && not assigned) ≡ (asks_for (side_by Driver assigned) && own && marked)
+  kept_as true true true = refl
+  kept_as true true false = refl
+  kept_as true false marked = refl
+  kept_as false true true = refl
+  kept_as false true false = refl
+  kept_as false false marked = refl
+
+  abbrev keeps : Bool
+  keeps = is_kept Driver e.flow e.value.end p
+
+  pub over : (v : Verdict) (m new : DriverState) (cleanly : Bool) → cleanly ≡ (is_both e.value.end.own && is_clean_rst p)
+      → ends_connection v p.header ≡ true → m ≡ with_connection slot (after_packet v p e.value) s
+      → new ≡ keeping (cleanly && not (is_assigned e.flow.host)) e.flow (after_leaving (with_its e (after_packet v p e.value)) m) → new ≡ after_verdict v p e s
+  over verdict.Peer m new cleanly clean true_is mid is =
       let c : DriverConnection = after_packet verdict.Peer p e.value in
-      is ∙ (left c m mid ∙ ap (λ (b : Bool). cond b (after_leaving (with_its e c) s) (with_connection e.slot c s)) (sym true_is))
-  over _ m new true_is mid is = absurd (cc)
+      let kept : (cleanly && not (is_assigned e.flow.host)) ≡ keeps =
+      ap (λ (b : Bool). b && not (is_assigned e.flow.host)) clean ∙ kept_as (is_assigned e.flow.host) (is_both e.value.end.own) (is_clean_rst p) in
+      is ∙ (ap (λ (b : Bool). keeping b e.flow (after_leaving (with_its e c) m)) kept ∙ (ap (λ (x : DriverState). keeping keeps e.flow x) (left c m mid)
+      ∙ ap (λ (b : Bool). cond b (keeping keeps e.flow (after_leaving (with_its e c) s)) (with_connection e.slot c s)) (sym true_is)))
+  over _ m new cleanly clean true_is mid is = absurd (cc)
 
   pub stays : (v : Verdict) (m : DriverState) → is_refused v ≡ false → ends_connection v p.header ≡ false → m ≡ with_connection slot (after_packet v p e.value) s
       → m ≡ after_verdict v p e s
@@ -75,7 +92,7 @@ module _ (p : Packet) (e : DriverEntry) (s : DriverState) (slot : ℕ) (at : e.s
   stays verdict.Peer m false_is goes_on mid =
       let c : DriverConnection = after_packet verdict.Peer p e.value in
       mid ∙ (ap (λ (n : ℕ). with_connection n c s) (sym at)
-      ∙ ap (λ (b : Bool). cond b (after_leaving (with_its e c) s) (with_connection e.slot c s)) (sym goes_on))
+      ∙ ap (λ (b : Bool). cond b (keeping keeps e.flow (after_leaving (with_its e c) s)) (with_connection e.slot c s)) (sym goes_on))
   stays v m false_is goes_on mid = mid ∙ ap (λ (n : ℕ). with_connection n (after_packet v p e.value) s) (sym at)
 
 pub packet_known : (p : Packet) (s : DriverState) (e : DriverEntry) → entry_of s.table (flow_to_guest p.header) ≡ Some e → on_heard p s ≡ on_known p e s

@@ -1,13 +1,14 @@
 -- What always holds of the slots after a change of the table.
-use Rattle.std.proofs.lemmas.{Option.{slice_get_within, get_or_from_slice_get}, Bool.Decides.nat_tests, List.{Edits.length-remove, Elements.{All-filter, All-map, All-push}, length-map, get_or_append_left}}
-use Rattle.std.proofs.{Math.Seq.get_or-append_seam, Common.{◌≡◌, ◌≢◌, ℕ, ◌+◌, ◌<◌, ◌==◌, Bool, true, false, cond, List, [], ◌∷◌, ◌++◌, length, get_or, Some, None, sym, ap, subst}}
-use Rattle.std.{proofs.Common.{◌∙◌, arith, length-append, not}, specs.{List.{All, AllPairs, find}, Option.{option_and_then, option_map}}}
+use Rattle.std.proofs.lemmas.{Option.{slice_get_within, get_or_from_slice_get}, Bool.Decides.nat_tests, List.{Edits.length-remove, Elements.{All-filter, All-map, All-push}}}
+use Rattle.std.proofs.{lemmas.List.{length-map, get_or_append_left}, Math.Seq.get_or-append_seam, Common.{◌≡◌, ◌≢◌, ℕ, ◌+◌, ◌<◌, ◌==◌, Bool, true, false, cond, List, [], ◌∷◌}}
+use Rattle.std.{proofs.Common.{◌++◌, length, get_or, Some, None, sym, ap, subst, ◌∙◌, arith, length-append, not}, specs.{List.{All, AllPairs, find}, Option.option_and_then}}
+use Rattle.std.specs.Option.{option_map}
 use Rattle.vs_conn.specs.End.{owes_of}
-use Rattle.vs_flow.specs.{Flow.{host_flow, is_assigned, same_flow}, declared.flow.Flow.Flow, Table.{Table, IsTable, entry_of, entry_under, value_under, with_value, without}}
-use Rattle.vs_flow.{specs.Table.{next_entry, revalued, with_entry}, proofs.{Lookups.{find_place, entry_under-with_value}, Tables.with_value_sound, Entries.{find_none, found_passes, same_flow_false}}}
-use Rattle.vs_driver_parts.specs.{Connections.{gone_as, is_let_go, OweNothing}, Held.{HeldSlots, left_in}, SlotFields.{AreKept, AreNumbered, IsNoted}, declared.slots.Slots.TheInside.Inside}
+use Rattle.vs_flow.specs.{declared.flow.Flow.Flow, Table.{Table, IsTable, entry_under, value_under, with_value, without, next_entry, revalued, with_entry}}
+use Rattle.vs_flow.proofs.{Lookups.{find_place, entry_under-with_value}, Tables.with_value_sound, Entries.{find_none, found_passes}}
+use Rattle.vs_driver_parts.specs.{Connections.{gone_as, is_let_go, OweNothing}, Held.{HeldSlots, left_in}, SlotFields.{AreKept, IsNoted}, declared.slots.Slots.TheInside.Inside}
 use Rattle.vs_driver_parts.{specs.State.{DriverConnection, DriverEntry, GoneConnection, is_known_as}, proofs.{Lists.{one_passes, removed_one}, Numbers.{id_in, id_there, id_under}}}
-use Rattle.vs_driver_parts.proofs.{Numbers.numbers_with_value, Ids.{value_of, has_slot, under, known_by_slot, unless_closed, entry_has}}
+use Rattle.vs_driver_parts.proofs.{Numbers.numbers_with_value, Ids.{value_of, has_slot, under, known_by_slot, unless_closed, entry_has}, Clean.clean_value}
 
 -- What is noted with a connection that has changed, and with one more.
 module _ (old new : Bool) (d : DriverConnection) (noted : IsNoted old new d) (t : Table DriverConnection) where
@@ -32,6 +33,7 @@ pub kept_with_connection : (s : Inside) (slot : ℕ) (d : DriverConnection) (new
     → IsNoted s.owes new d → AreKept (record s { table = with_value s.table slot d; owes = new })
 kept_with_connection s slot d new kept id noted = record {
   numbers = numbers_with_value s.first_id s.next_port s.next_id s.table s.gone.items kept.numbers slot d id;
+  clean = clean_value s.next_port s.table s.clean slot d kept.clean;
   last_port = kept.last_port;
   last_id = kept.last_id;
   table = with_value_sound s.table slot d kept.table;
@@ -111,16 +113,6 @@ one_fewer t slot e sound found =
     let removed = removed_one here t.entries place.0 e (one_passes (λ (x : DriverEntry). x.slot) slot t.entries (rising_differ t.entries sound.rising)) within passes in
     let fewer = length-remove t.entries place.0 within in
     rw removed fewer
-
-pub new_flow : (first port next : ℕ) (t : Table DriverConnection) (gone : List GoneConnection) (host : ℕ) → AreNumbered first port next t gone
-    → is_assigned host ≡ false → entry_of t (host_flow port host) ≡ None
-new_flow first port next t gone host kept mine =
-    let flow : Flow = host_flow port host in
-    find_none (λ (e : DriverEntry). same_flow flow e.flow) t.entries (λ k d lt. same_flow_false flow (get_or t.entries k d).flow (λ same.
-    let host_is : host ≡ (get_or t.entries k d).flow.host = ap (λ (f : Flow). f.host) same in
-    let guest_is : port ≡ (get_or t.entries k d).flow.guest = ap (λ (f : Flow). f.guest) same in
-    let less = kept.ports k d lt (ap is_assigned (sym host_is) ∙ mine) in
-    absurd (omega (arith, less, guest_is))))
 
 pub all_front : {X : Type 0} (P : X → Type 0) (xs : List X) (x : X) (ys : List X) → ys ≡ xs ++ x ∷ [] → All P ys → All P xs
 all_front {X} P xs x ys is all k d lt =

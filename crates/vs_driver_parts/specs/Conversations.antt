@@ -69,6 +69,7 @@ new_state size port id cid = record {
   last_id = 0;
   table = record { room = DRIVER_CONNECTIONS; entries = []; given = 0 };
   gone = [];
+  clean = [];
   listeners = [];
   replies = [];
   broken = 0;

@@ -1,13 +1,15 @@
 -- The slots of the driver, apart from the rest of it.
 use Rattle.std.specs.Prelude.{◌≡◌, ℕ, ◌+◌, ◌==◌, Bool, false, true, List, [], ◌∷◌, ◌++◌, length, find, None, if◌then◌else◌}
 use Rattle.vs_conn.specs.End.{ConnectionEnd, asked, answering, paid_of}
-use Rattle.vs_header.specs.{declared.Header.Header, declared.Kind.TheVariants.Stream}
+use Rattle.vs_header.specs.declared.{Header.Header, Kind.TheVariants.Stream}
 use Rattle.vs_limits.specs.declared.TheConstants.{BUF_ALLOC, DRIVER_CONNECTIONS}
-use Rattle.vs_flow.specs.{Flow.host_flow, Table.Table, Table.with_value, Table.with_entry, Table.without, declared.flow.Flow.Flow}
-use Rattle.vs_driver_parts.specs.{State.{DriverConnection, DriverEntry, GoneConnection, is_known_as}, Connections.{gone_as, is_let_go}}
+use Rattle.vs_flow.specs.{Table.{Table, with_value, with_entry, without}, declared.flow.Flow.Flow}
+use Rattle.vs_driver_parts.specs.{State.{DriverConnection, DriverEntry, GoneConnection, is_known_as}, Connections.{gone_as, is_let_go, kept_if}}
+use Rattle.laws_tables.specs.{Ends.without as flows_without, Steps.port_after}
 use Rattle.vs_conn.specs.declared.end.Owed.TheVariants as owed
 
--- The numbers that the next connections get, and those given last; the table, and the connections that are gone.
+-- The numbers that the next connections get, and those given last; the table, the connections that are gone, and the flows that may be used
+-- again.
 pub record HeldSlots : Type 0 where
   pub next_port : ℕ
   pub next_id : ℕ
@@ -15,6 +17,7 @@ pub record HeldSlots : Type 0 where
   pub last_id : ℕ
   pub table : Table DriverConnection
   pub gone : List GoneConnection
+  pub clean : List Flow
 
 abbrev pub no_slots : ℕ → ℕ → HeldSlots
 no_slots port id = record {
@@ -24,6 +27,7 @@ no_slots port id = record {
   last_id = 0;
   table = record { room = DRIVER_CONNECTIONS; entries = []; given = 0 };
   gone = [];
+  clean = [];
 }
 
 -- How many slots are held.
@@ -46,17 +50,21 @@ with_opening flow end unanswered s = record s {
   table = with_entry s.table flow (record { id = s.next_id; end = end; unread = []; unanswered = unanswered; closed = false });
 }
 
--- It is one whose REQUEST is put, with the next guest port, or one that answers a REQUEST.
-abbrev pub with_asked_in : ℕ → HeldSlots → HeldSlots
-with_asked_in host s =
-    record (with_opening (host_flow s.next_port host) (paid_of (asked Stream BUF_ALLOC) owed.Request) false s) {
-      next_port = s.next_port + 1;
-      last_port = s.next_port;
+-- It is one whose REQUEST is put, on the next flow, or one that answers a REQUEST.
+abbrev pub with_asked_in : Flow → HeldSlots → HeldSlots
+with_asked_in f s =
+    record (with_opening f (paid_of (asked Stream BUF_ALLOC) owed.Request) false s) {
+      next_port = port_after s.next_port f.guest;
+      last_port = f.guest;
+      clean = flows_without f s.clean;
     }
 
 abbrev pub with_answering_in : Flow → Header → HeldSlots → HeldSlots
 with_answering_in flow request s = with_opening flow (answering Stream BUF_ALLOC request) true s
 
--- A connection leaves the table.
+-- A connection leaves the table, and its flow may be used again, or not.
 abbrev pub left_in : DriverEntry → HeldSlots → HeldSlots
 left_in e s = record s { table = without s.table e.slot; gone = if is_let_go e.value then s.gone else s.gone ++ gone_as e ∷ [] }
+
+abbrev pub kept_in : Bool → Flow → HeldSlots → HeldSlots
+kept_in keep f s = record s { clean = kept_if keep f s.clean }

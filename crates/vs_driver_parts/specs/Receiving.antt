@@ -1,22 +1,24 @@
 -- What the driver does with the packets and events that it takes.
 use Rattle.std.specs.Prelude.{ℕ, ◌==◌, ◌&&◌, not, nat_le, Bool, false, if◌then◌else◌, List, [], ◌∷◌, ◌++◌, Some, None}
-use Rattle.vs_header.specs.{Op.op_number, declared.Header.Header, declared.Kind.TheVariants.Stream, declared.Op.TheVariants.Request}
+use Rattle.vs_header.specs.{Op.op_number, declared.{Header.Header, Kind.TheVariants.Stream, Op.TheVariants.Request}}
 use Rattle.laws_history.specs.declared.packet.Packet.{Packet}
-use Rattle.vs_conn.specs.{End.verdict_of, End.end_after, End.is_of, End.is_reset, declared.end.Verdict.Verdict}
-use Rattle.vs_flow.specs.{Flow.is_assigned, Flow.is_host, Table.entry_of, declared.flow.Flow.Flow}
-use Rattle.vs_page.specs.{Held.packet_held, Held.event_held, Log.Driver, Log.flow_to_guest, Open.is_dropped}
+use Rattle.vs_conn.specs.{End.{verdict_of, end_after, is_of, is_reset}, declared.end.Verdict.Verdict}
+use Rattle.vs_flow.specs.{Flow.{is_assigned, is_host}, Table.entry_of, declared.flow.Flow.Flow}
+use Rattle.vs_page.specs.{Held.{packet_held, event_held}, Log.{Driver, flow_to_guest}, Open.is_dropped}
 use Rattle.vs_replies.specs.{Owed.reply_to, declared.Reply.Reply}
 use Rattle.vs_limits.specs.declared.TheConstants.{LAST_ID}
-use Rattle.vs_driver_parts.specs.{State.DriverConnection, State.DriverState, State.DriverEntry, Listening.has_place}
-use Rattle.vs_driver_parts.specs.Connections.{with_connection, with_request, is_full, leaves_list, after_leaving}
+use Rattle.vs_driver_parts.specs.{State.{DriverConnection, DriverState, DriverEntry}, Listening.has_place, Connections.{with_connection, with_request, is_full, leaves_list}}
+use Rattle.vs_driver_parts.specs.Connections.{after_leaving, keeping}
 use Rattle.vs_wrap.specs.Wrap.{counted}
+use Rattle.laws_tables.specs.Steps.{is_kept}
 use Rattle.vs_conn.specs.declared.end.Verdict.TheVariants as verdict
 
 abbrev pub with_reply : Reply → DriverState → DriverState
 with_reply reply s = record s { replies = s.replies ++ reply ∷ [] }
 
--- A packet of a connection of the table, by the verdict of its end. RST takes it out of the table; payload that is delivered is unread; a
--- packet that is refused is counted, and a connection whose RESPONSE isn't put waits no more.
+-- A packet of a connection of the table, by the verdict of its end. RST takes it out of the table, and a marked one may leave its flow to be
+-- used again; payload that is delivered is unread; a packet that is refused is counted, and a connection whose RESPONSE isn't put waits no
+-- more.
 abbrev pub after_packet : Verdict → Packet → DriverConnection → DriverConnection
 after_packet verdict.Deliver p c = record c { end = end_after c.end p.header; unread = c.unread ++ p.payload }
 after_packet _ p c = record c { end = end_after c.end p.header }
@@ -29,7 +31,8 @@ abbrev pub after_verdict : Verdict → Packet → DriverEntry → DriverState �
 after_verdict (verdict.Rst why) p e s =
     leaves_list e (with_connection e.slot (after_packet (verdict.Rst why) p e.value) (record s { broken = counted s.broken }))
 after_verdict v p e s =
-    if ends_connection v p.header then after_leaving (record e { value = after_packet v p e.value }) s
+    if ends_connection v p.header then
+    keeping (is_kept Driver e.flow e.value.end p) e.flow (after_leaving (record e { value = after_packet v p e.value }) s)
     else with_connection e.slot (after_packet v p e.value) s
 
 abbrev pub on_known : Packet → DriverEntry → DriverState → DriverState

@@ -1,7 +1,7 @@
 -- What the driver holds, as plain lists.
 use Rattle.std.specs.Prelude.{ℕ, ◌+◌, ◌==◌, ◌&&◌, not, Bool, List, length, find, Option}
 use Rattle.vs_conn.specs.End.{ConnectionEnd}
-use Rattle.vs_flow.specs.{Table.Table, declared.flow.Flow.Flow, declared.table.Entry.Entry}
+use Rattle.vs_flow.specs.{Table.Table, declared.{flow.Flow.Flow, table.Entry.Entry}}
 use Rattle.vs_replies.specs.declared.Reply.{Reply}
 
 -- A connection of the table: its id, its end, and the bytes that came in and aren't read.
@@ -38,6 +38,8 @@ pub record DriverState : Type 0 where
   pub table : Table DriverConnection
   -- In the order in which they left.
   pub gone : List GoneConnection
+  -- The flows that may be used again, oldest first.
+  pub clean : List Flow
   pub listeners : List Listener
   -- RSTs owed to unknown flows, oldest first.
   pub replies : List Reply

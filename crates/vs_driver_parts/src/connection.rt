@@ -1,12 +1,12 @@
 //! A connection of the driver's table: its end, and the bytes that came in on it and weren't read.
 
-ghost use Rattle.std.specs.Prelude.{◌≡◌, ◌≤◌, ◌==◌, ◌+◌, ◌++◌, [], true, false, Some, length, min, take, drop};
+ghost use Rattle.std.specs.Prelude.{◌≡◌, ◌≤◌, ◌==◌, ◌+◌, ◌++◌, [], true, false, Some, length, min, take, drop, ℕ, List, ◌&&◌};
 ghost use Rattle.vs_conn.specs.End.{CanSend, asked, answering, grown, may_send_of, may_shut, owes_of, paid_of, verdict_of, view_of, wanting_credit, with_payload_sent};
-ghost use Rattle.vs_conn.specs.{Headers.{owed_header, payload_header}, declared.end.State.TheVariants.Live};
+ghost use Rattle.vs_conn.specs.{Headers.{owed_header, payload_header}, declared.end.State.TheVariants.Live, Shut.is_both};
 ghost use Rattle.vs_credit.specs.Credit.{free_of};
 ghost use Rattle.vs_header.specs.declared.Kind.TheVariants.{Stream};
 ghost use Rattle.vs_limits.specs.declared.TheConstants.{BUF_ALLOC, BUF_ALLOC_MAX};
-ghost use Rattle.laws_history.specs.declared.packet.Packet.{Packet};
+ghost use Rattle.laws_history.specs.{declared.packet.Packet.Packet, Packets.is_clean_rst};
 ghost use Rattle.vs_page.specs.Held.{IsWhole};
 ghost use Rattle.vs_driver_parts.specs.{Connections.{after_read, after_shut, after_closing, paid_connection, is_let_go}, Receiving.after_packet, Room.IsSpare};
 ghost use Rattle.vs_conn.specs.declared.end.Owed.TheVariants as owed;
@@ -15,7 +15,7 @@ use crate::answers::ConnId;
 use std::marker::Model;
 use vs_buffer::ByteFifo;
 use vs_conn::{End, EndView, Owed, Route, State, Stop, Verdict};
-use vs_header::{Header, Kind};
+use vs_header::{CLEAN, Header, Kind, Op};
 use vs_limits::BUF_ALLOC;
 
 /// A connection of the table.
@@ -101,6 +101,20 @@ impl Connection {
         ensures { result ≡ self.now.closed }
     {
         self.closed
+    }
+
+    /// Whether a packet ends it cleanly: a marked RST, where its end decided to shut both directions.
+    pub fn ends_cleanly(&self, header: &Header) -> bool
+        ensures { (payload : List ℕ) → let p : Packet = record { header = header.now; payload = payload } in result ≡ (is_both self.now.end.own && is_clean_rst p) }
+    {
+        self.has_shut() && is_marked(header)
+    }
+
+    // Whether its end decided to shut both directions.
+    fn has_shut(&self) -> bool
+        ensures { result ≡ is_both self.now.end.own }
+    {
+        self.end.view().put == 3
     }
 
     /// What its end shows.
@@ -253,4 +267,11 @@ impl Connection {
     {
         (self.end, self.unread)
     }
+}
+
+// Whether a packet is a marked RST.
+fn is_marked(header: &Header) -> bool
+    ensures { (payload : List ℕ) → let p : Packet = record { header = header.now; payload = payload } in result ≡ is_clean_rst p }
+{
+    header.op == Op::Rst.number() && header.flags == CLEAN
 }

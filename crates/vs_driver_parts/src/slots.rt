@@ -1,17 +1,19 @@
 //! The driver's slots: connections of the table, those that are gone and not closed, and the buffers of free slots.
 
 ghost use Rattle.std.specs.Prelude.{◌≡◌, ◌<◌, ◌≤◌, ◌++◌, ◌==◌, [], true, false, length, min, take, drop, find, Some, None, IfOk, IfSome, IfNone, IsSomeAnd, option_copied};
-ghost use Rattle.std.specs.{Prelude.{position, remove, slice_get, ◌^◌, vec_capacity}, List.All, Option.option_map};
+ghost use Rattle.std.specs.{Prelude.{position, remove, slice_get, ◌^◌, vec_capacity, ◌+◌, ◌&&◌, not, ℕ, List}, List.All, Option.option_map};
 ghost use Rattle.vs_conn.specs.{Headers.{owed_header, payload_header}, End.{CanSend, answering, grown, may_send_of, owes_of, verdict_of, may_shut, with_payload_sent}};
-ghost use Rattle.vs_conn.specs.{End.wanting_credit, declared.end.State.TheVariants.Live};
+ghost use Rattle.vs_conn.specs.{End.wanting_credit, declared.end.State.TheVariants.Live, Shut.is_both};
 ghost use Rattle.vs_credit.specs.Credit.{free_of};
 ghost use Rattle.vs_flow.specs.{Flow.is_assigned, Table.{IsTable, entry_of, entry_under, slots, value_under, with_entry}};
-ghost use Rattle.laws_history.specs.declared.packet.Packet.{Packet};
+ghost use Rattle.laws_history.specs.{declared.packet.Packet.Packet, Packets.is_clean_rst};
 ghost use Rattle.vs_page.specs.Held.{IsWhole};
 ghost use Rattle.vs_limits.specs.declared.TheConstants.{BUF_ALLOC_MAX, LAST_PORT, LAST_ID, DRIVER_CONNECTIONS};
 ghost use Rattle.vs_driver_parts.specs.{State.{DriverEntry, DriverConnection, GoneConnection, is_known_as}, Connections.{route_to_host, after_read, after_shut, after_closing}};
-ghost use Rattle.vs_driver_parts.specs.{Connections.{OweNothing, paid_connection, without_gone, all_gone_after_read}, Receiving.{after_packet, reset_reply}, Room.IsSpare};
-ghost use Rattle.vs_driver_parts.specs.{Held.{KnowsNone, no_slots, held_in, with_asked_in, with_answering_in, with_connection_in, left_in}, SlotFields.IsNoted};
+ghost use Rattle.vs_driver_parts.specs.{Connections.{OweNothing, paid_connection, without_gone, all_gone_after_read, free_flow, kept_if}, Receiving.{after_packet, reset_reply}};
+ghost use Rattle.vs_driver_parts.specs.{Room.IsSpare, Held.{KnowsNone, no_slots, held_in, with_asked_in, with_answering_in, with_connection_in, left_in, kept_in}};
+ghost use Rattle.vs_driver_parts.specs.SlotFields.{IsNoted};
+ghost use Rattle.laws_tables.specs.Steps.{port_after};
 
 use crate::answers::ConnId;
 use crate::connection::Connection;
@@ -22,9 +24,9 @@ use std::alloc::{AllocError, Global};
 use std::marker::Model;
 use vs_buffer::ByteFifo;
 use vs_conn::{Owed, Stop, Verdict};
-use vs_flow::{Entry, Flow, FlowTable, Slot};
+use vs_flow::{CleanPairs, Entry, Flow, FlowTable, Slot, is_assigned};
 use vs_header::Header;
-use vs_limits::{BUF_ALLOC_MAX, DRIVER_CONNECTIONS};
+use vs_limits::{BUF_ALLOC_MAX, DRIVER_CONNECTIONS, LAST_PORT};
 use vs_replies::Reply;
 
 /// Bytes of a connection's receive buffer: all that its buffer space may be raised to.
@@ -42,6 +44,7 @@ pub struct Slots {
     last_id: u32,
     table: FlowTable<Connection>,
     gone: Vec<Gone>,
+    clean: CleanPairs,
     // The buffers of the free slots.
     spare: Vec<ByteFifo>,
     // A connection may owe a packet.
@@ -62,6 +65,7 @@ impl Model for Slots {
       last_id = s.last_id;
       table = s.table;
       gone = s.gone.items;
+      clean = s.clean;
     } };
 
     ghost invariant = { AreKept };
@@ -70,6 +74,7 @@ impl Model for Slots {
 impl Slots {
     /// The slots of a driver that has no connection yet, and gives guest ports from `port` on and ids from `id` on. All memory is taken
     /// here.
+    #[tactic(auto, unfolding(crate::specs::SlotFields::AreClean))]
     pub fn new(alloc: Global, port: u32, id: ConnId) -> Result<Slots, AllocError>
         requires port { port ≤ LAST_PORT }
         ensures { IfOk result (λ s. s ≡ no_slots port id) }
@@ -82,6 +87,7 @@ impl Slots {
             last_id: 0,
             table: FlowTable::new(alloc, DRIVER_CONNECTIONS)?,
             gone: Vec::with_capacity(alloc, DRIVER_CONNECTIONS)?,
+            clean: CleanPairs::new(alloc)?,
             spare: buffers(alloc)?,
             owes: false,
         })
@@ -103,11 +109,15 @@ impl Slots {
         self.table.len()
     }
 
-    /// The guest port that the next connection of this side gets.
-    pub fn next_port(&self) -> u32
-        ensures { result ≡ self.now.next_port }
+    /// The flow of the next connection of this side to a host port. `None` comes exactly where the last guest port was given and no flow to that
+    /// port may be used again.
+    pub fn next_flow(&self, host: u32) -> Option<Flow>
+        ensures { result ≡ free_flow host self.now.next_port self.now.clean }
     {
-        self.next_port
+        if self.next_port <= LAST_PORT {
+            return Some(Flow::to_host(self.next_port, host));
+        }
+        self.clean.oldest_to(host)
     }
 
     /// The id that the next connection gets, up to 2^32.
@@ -217,6 +227,16 @@ impl Slots {
         false
     }
 
+    /// Whether a packet ends the connection in a slot cleanly: a marked RST, where both directions were shut.
+    pub fn ends_cleanly(&self, slot: Slot, header: &Header) -> bool
+        ensures { (e : DriverEntry) (payload : List ℕ) → entry_under self.now.table slot ≡ Some e → let p : Packet = record { header = header.now; payload = payload } in result ≡ (is_both e.value.end.own && is_clean_rst p) }
+    {
+        match self.table.get(slot) {
+            Some(connection) => connection.ends_cleanly(header),
+            None => false,
+        }
+    }
+
     /// All slots of the table, by rising slot.
     pub fn all(&self) -> ArrayVec<Slot, DRIVER_CONNECTIONS>
         ensures all { result.items ≡ slots self.now.table }
@@ -259,23 +279,24 @@ impl Slots {
         self.gone.iter().find(|gone| gone.has_id(id))
     }
 
-    /// A connection to a host port opens, whose REQUEST is put. It gets the next guest port, and its id is returned.
-    pub fn open_asked(&mut self, host: u32) -> ConnId
+    /// A connection opens on the next flow to its host port, and its REQUEST is put. Its id is returned.
+    pub fn open_asked(&mut self, flow: Flow) -> ConnId
         requires free { held_in self.old < DRIVER_CONNECTIONS }
-        requires port { self.old.next_port ≤ LAST_PORT }
+        requires next { free_flow flow.host self.old.next_port self.old.clean ≡ Some flow }
         requires id { self.old.next_id ≤ LAST_ID }
-        requires host { is_assigned host ≡ false }
-        ensures opened { self.new ≡ with_asked_in host self.old }
+        requires host { is_assigned flow.host ≡ false }
+        ensures opened { self.new ≡ with_asked_in flow self.old }
         ensures id { result ≡ self.old.next_id }
     {
         let id = self.next_id as u32;
-        let flow = Flow::to_host(self.next_port, host);
         let connection = Connection::asked(id, self.spare.take_last());
         self.owes = noted(self.owes, &connection);
         insert(&mut self.table, flow, connection);
-        self.last_port = self.next_port;
+        let next = port_after(self.next_port, flow.guest);
+        self.next_port = next;
+        self.clean.remove(flow);
+        self.last_port = flow.guest;
         self.last_id = id;
-        self.next_port += 1;
         self.next_id += 1;
         id
     }
@@ -298,9 +319,10 @@ impl Slots {
         id
     }
 
-    /// The connection in a slot leaves the table. It is gone then, or its slot is free where it was closed or never answered.
-    pub fn leave(&mut self, slot: Slot)
-        ensures { (e : DriverEntry) → entry_under self.old.table slot ≡ Some e → self.new ≡ left_in e self.old }
+    /// The connection in a slot leaves the table. It is gone then, or its slot is free where it was closed or never answered. Its flow may be
+    /// used again where it ended cleanly and this side opened it.
+    pub fn leave(&mut self, slot: Slot, cleanly: bool)
+        ensures { (e : DriverEntry) → entry_under self.old.table slot ≡ Some e → self.new ≡ kept_in (cleanly && not (is_assigned e.flow.host)) e.flow (left_in e self.old) }
     {
         let Some(flow) = self.table.flow_of(slot) else {
             return;
@@ -308,6 +330,7 @@ impl Slots {
         let Some(connection) = self.table.remove(slot) else {
             return;
         };
+        keep_own(&mut self.clean, cleanly, flow);
         let id = connection.id();
         let let_go = connection.is_let_go();
         let (end, mut unread) = connection.into_parts();
@@ -361,7 +384,6 @@ impl Slots {
     }
 }
 
-#[tactic(auto, using(crate::proofs::SlotChanges::kept_with_connection, crate::proofs::SameIds::packet_id, crate::proofs::SameIds::paid_id, crate::proofs::SameIds::closing_id))]
 impl Slots {
     /// Takes a packet of the connection in a slot, and says what its end says to it.
     pub fn on_packet(&mut self, slot: Slot, header: &Header, payload: &[u8]) -> Verdict
@@ -473,6 +495,26 @@ fn noted(owes: bool, connection: &Connection) -> bool
     ensures { IsNoted owes result connection.now }
 {
     owes || connection.owes().is_some()
+}
+
+// The guest port that is given next, once this one was given.
+fn port_after(next: u32, port: u32) -> u32
+    requires left { port ≤ LAST_PORT }
+    ensures { result ≡ port_after next port }
+{
+    if next <= port {
+        return port + 1;
+    }
+    next
+}
+
+// Keeps the flow of a connection that this side opened, where it ended cleanly.
+fn keep_own(clean: &mut CleanPairs, cleanly: bool, flow: Flow)
+    ensures { clean.new ≡ kept_if (cleanly && not (is_assigned flow.host)) flow clean.old }
+{
+    if cleanly && !is_assigned(flow.host) {
+        clean.keep(flow);
+    }
 }
 
 // The place of a connection that is gone.

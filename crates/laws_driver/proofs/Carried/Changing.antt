@@ -1,12 +1,11 @@
 -- Calls that read nothing keep the account: those that make no use of the ring, and a send.
 use Rattle.laws_tables.{proofs.{Adding.{number_put, got_over_put}, Slots.found_by, Goes.{Goes, ended_goes, shut_goes, stays_still}}, specs.{Steps.payload_on, Drains.receives}}
-use Rattle.std.proofs.Common.{◌≡◌, ℕ, ◌==◌, not, Bool, true, false, cond, List, [], ◌∷◌, take, length, Option, Some, None, refl, Contains, Result, Ok, Err, ◌∙◌}
+use Rattle.std.proofs.Common.{◌≡◌, ℕ, ◌==◌, not, Bool, false, List, [], ◌∷◌, take, length, Option, Some, None, refl, Contains, Result, Ok, Err, ◌∙◌}
 use Rattle.std.proofs.lemmas.List.Elements.{All-filter}
 use Rattle.vs_conn.specs.{End.{grown, with_payload_sent, wanting_credit}, declared.end.State.State}
-use Rattle.vs_flow.specs.{Flow.same_flow, Table.IsTable, declared.flow.Flow.Flow}
-use Rattle.laws_history.specs.{History.{Got, History, Put, Side, gots, puts}, declared.packet.Packet.Packet, Packets.is_request}
-use Rattle.vs_page.specs.{Fair.{asked_by, number_of, payload_got}, Log.{Driver, Log, Role, flow_got, flow_put, side_of, whole_of}, declared.log.LogEntry.TheVariants.GotPacket}
-use Rattle.vs_page.specs.declared.log.LogEntry.TheVariants.{PutPacket}
+use Rattle.vs_flow.specs.Table.{IsTable}
+use Rattle.laws_history.specs.{declared.packet.Packet.Packet, Packets.is_request}
+use Rattle.vs_page.specs.{Fair.payload_got, Log.{Driver, Log}, declared.log.LogEntry.TheVariants.PutPacket}
 use Rattle.vs_driver_parts.specs.{State.{DriverConnection, DriverEntry, DriverState, GoneConnection, entry_known_as, gone_known_as, is_known_as}, Connections.after_close}
 use Rattle.vs_driver_parts.specs.Connections.{after_closing, after_grow, after_shut, after_shutdown, after_unlisten, all_closed, entry_grow_answer, grown_by, entry_closed}
 use Rattle.vs_driver_parts.specs.{Connections.{gone_closed, shut_in, waiting_on, without_gone}, declared.answers.{Grown.Grown, ListenError.ListenError}, Listening.after_accept}

@@ -1,6 +1,6 @@
 -- A connect opens a connection on which nothing was delivered; and the account of a driver that was just made.
-use Rattle.laws_tables.{proofs.Adding.got_over_put, specs.Steps.request_on}
-use Rattle.std.{proofs.Common.{◌≡◌, ◌≢◌, ℕ, ◌+◌, ◌<◌, Bool, true, false, cond, None, List, [], ◌∷◌, refl, ap, ◌∙◌, arith}, specs.List.All}
+use Rattle.laws_tables.{proofs.Adding.got_over_put, specs.Steps.{request_on, port_after}}
+use Rattle.std.{proofs.Common.{◌≡◌, ◌≢◌, ℕ, ◌+◌, ◌<◌, Bool, true, false, cond, None, List, [], ◌∷◌, refl, ap, ◌∙◌, arith, Some}, specs.List.All}
 use Rattle.vs_conn.specs.End.{asked, paid_of}
 use Rattle.vs_flow.{specs.{Connection.Connection, Flow.is_assigned, declared.flow.Flow.Flow}, proofs.Entries.same_flow_false}
 use Rattle.vs_header.specs.declared.Kind.TheVariants.{Stream}
@@ -8,15 +8,17 @@ use Rattle.vs_limits.specs.declared.TheConstants.{BUF_ALLOC}
 use Rattle.laws_history.specs.{History.{Answerer, Asker, Put, Side, gots, puts}, declared.packet.Packet.Packet, Again.count, Packets.is_request}
 use Rattle.vs_page.specs.{Fair.{IsFairLog, asked_by, current, number_of, payload_got, payload_of}, Log.{Driver, Log, and_then, history_of, side_by, side_of, whole_of}}
 use Rattle.vs_page.{specs.declared.log.LogEntry.TheVariants.PutPacket, proofs.{Flows.same_self, Present.present_got}}
-use Rattle.vs_driver_parts.specs.{Connections.{connect_refusal, connected, next_flow}, Held.HeldSlots, State.{DriverConnection, DriverState}, Conversations.new_state}
-use Rattle.laws_driver.{specs.{Honest.{IsFitState, slots_of}, Carried.Received.{Account, AreReceived, no_account, with_opened}}, proofs.{Calls.CarriesConnect, Putting.may_connect}}
-use Rattle.laws_driver.proofs.Carried.{Polling.{Further, IsFurther, goes_then}, Logging.{opened_goes_on, opened_received}, Receiving.in_slots}
+use Rattle.vs_driver_parts.specs.{Connections.{connect_refusal, connected, next_flow, free_flow}, Held.HeldSlots, State.{DriverConnection, DriverState}, Conversations.new_state}
+use Rattle.vs_driver_parts.proofs.Clean.{given_absent, given_host, may_connect, port_below, port_rises}
+use Rattle.laws_driver.{specs.{Honest.{IsFitState, slots_of}, Carried.Received.{Account, AreReceived, no_account, with_opened}}, proofs.Calls.CarriesConnect}
+use Rattle.laws_driver.proofs.Carried.{Polling.{Further, IsFurther, goes_then, not_there}, Logging.{opened_goes_on, opened_received}, Receiving.in_slots}
 use Rattle.vs_conn.specs.declared.end.Owed.TheVariants as owed
 
--- The numbers given last don't count.
-with_last : (a : Account) (log : Log) (slots : HeldSlots) (port id : ℕ) → AreReceived a log slots
-    → AreReceived a log (record slots { last_port = port; last_id = id })
-with_last a log slots port id x = in_slots a log slots (record slots { last_port = port; last_id = id }) x refl x.numbers x.held x.left
+-- The numbers given last don't count, nor do the flows that are kept.
+with_last : (a : Account) (log : Log) (slots : HeldSlots) (port id : ℕ) (clean : List Flow) → AreReceived a log slots
+    → AreReceived a log (record slots { last_port = port; last_id = id; clean = clean })
+with_last a log slots port id clean x =
+    in_slots a log slots (record slots { last_port = port; last_id = id; clean = clean }) x refl x.numbers x.held x.left
 
 number_rises : (side : Side) (put got : List Packet) (p : Packet) → side ≡ Asker → is_request p ≡ true
     → asked_by side (p ∷ put) got ≡ asked_by side put got + 1
@@ -30,7 +32,10 @@ connected_received a host s log fits free fair x =
     let f : Flow = next_flow host s in
     let p : Packet = request_on Driver s.cid f Stream in
     let new : Log = PutPacket p ∷ log in
-    let own = (may_connect host s free).own in
+    let may = may_connect host s free in
+    let to : f.host ≡ host = given_host host s.next_port s.clean f may.flow in
+    let own : is_assigned f.host ≡ false = ap is_assigned to ∙ may.own in
+    let given : free_flow f.host s.next_port s.clean ≡ Some f = ap (λ (n : ℕ). free_flow n s.next_port s.clean) to ∙ may.flow in
     let side : side_of Driver f ≡ Asker = ap (λ (b : Bool). side_by Driver b) own in
     let w = whole_of Driver f log in
     let next : number_of Driver f new ≡ number_of Driver f log + 1 =
@@ -43,19 +48,19 @@ connected_received a host s log fits free fair x =
     let others : (g : Flow) → g ≢ f → number_of Driver g new ≡ number_of Driver g log =
     λ g apart. ap (λ (b : Bool). let v = cond b (Put p ∷ whole_of Driver g log) (whole_of Driver g log) in asked_by (side_of Driver g) (puts v) (gots v))
     (same_flow_false g f apart) in
-    let absent : All (λ e. e.flow ≢ f) s.table.entries = λ i d within on.
-    let below = fits.ports i d within (ap (λ (g : Flow). is_assigned g.host) on ∙ own) in
-    let port = ap (λ (g : Flow). g.guest) on in
-    absurd (omega (arith, below, port)) in
+    let absent : All (λ e. e.flow ≢ f) s.table.entries =
+    not_there s.table f (given_absent s.next_port s.table s.clean fits.clean_sound f fits.ports own given) in
     let c : DriverConnection = record { id = s.next_id; end = paid_of (asked Stream BUF_ALLOC) owed.Request; unread = []; unanswered = false; closed = false } in
-    let below : is_assigned f.host ≡ false → f.guest < s.next_port + 1 = λ mine. omega arith in
+    let port : ℕ = port_after s.next_port f.guest in
+    let below : is_assigned f.host ≡ false → f.guest < port = λ mine. port_below s.next_port f.guest in
     let b : Account = with_opened s.next_id (current Driver f new) x.0 in (
       b,
       goes_then a x.0 b x.1
-          (opened_goes_on x.0 log new (slots_of s) f c (s.next_port + 1) x.2 got nothing next others refl refl absent (omega arith) below),
-      with_last b new (record (slots_of s) { next_port = s.next_port + 1; next_id = s.next_id + 1; table = (connected host s).table }) s.next_port s.next_id
-          (with_last b new _ s.last_port s.last_id
-          (opened_received x.0 log new (slots_of s) f c (s.next_port + 1) x.2 got nothing next others refl refl absent (omega arith) below)),
+          (opened_goes_on x.0 log new (slots_of s) f c port x.2 got nothing next others refl refl absent (port_rises s.next_port f.guest) below),
+      with_last b new (record (slots_of s) { next_port = port; next_id = s.next_id + 1; table = (connected host s).table }) f.guest s.next_id
+          (connected host s).clean
+          (with_last b new _ s.last_port s.last_id s.clean
+          (opened_received x.0 log new (slots_of s) f c port x.2 got nothing next others refl refl absent (port_rises s.next_port f.guest) below)),
     )
 
 pub connect_carries : (first host : ℕ) (a : Account) → CarriesConnect first host (Further a) (λ answer. Further a)

@@ -1,12 +1,12 @@
 -- A poll keeps the account, with the ids of the connections that it opens.
 use Rattle.laws_tables.proofs.{Adding.{number_got, number_put, got_over_put, got_adds}, Fair.{got_goes_on, got_not_refused, heard_all}, Slots.found_by, Tables.driver_begun}
 use Rattle.laws_tables.{proofs.Goes.{Goes, comes_in, delivers_to, hears_less, only_delivered, pays_less, stays_still}, specs.{Drains.{only_on, receives}, Ends.is_new}}
-use Rattle.laws_tables.specs.{Matches.Matches, Steps.{HasEnd, owed_on, reply_on}}
+use Rattle.laws_tables.specs.{Matches.Matches, Steps.{HasEnd, owed_on, reply_on, is_kept}}
 use Rattle.std.proofs.Common.{◌≡◌, ◌≢◌, ℕ, ◌+◌, ◌<◌, ◌≤◌, ◌==◌, ◌&&◌, not, Bool, true, false, cond, List, [], ◌∷◌, ◌++◌, Contains, Option, Some, None, refl, sym, ap, subst, ◌∙◌}
 use Rattle.std.{proofs.{Common.arith, lemmas.{Bool.Decides.nat_tests, Grind.common_steps}}, specs.List.{All, filter, slice_get}}
 use Rattle.vs_conn.specs.{End.{ConnectionEnd, answering, end_after, is_refused, is_reset, owes_of, paid_of, verdict_of}, declared.end.{Owed.Owed, Verdict.Verdict}}
-use Rattle.vs_flow.{specs.{Connection.Connection, Flow.{is_assigned, same_flow}, Table.{IsRising, IsTable, entry_of, without}, declared.flow.Flow.Flow}, proofs.Entries.none_found}
-use Rattle.vs_flow.proofs.Entries.{same_flow_false}
+use Rattle.vs_flow.specs.{Connection.Connection, Flow.{is_assigned, same_flow}, Table.{IsRising, IsTable, entry_of, without, Table}, declared.flow.Flow.Flow}
+use Rattle.vs_flow.proofs.Entries.{none_found, same_flow_false}
 use Rattle.vs_limits.specs.declared.TheConstants.{BUF_ALLOC, HOST_CID}
 use Rattle.laws_history.specs.{declared.packet.Packet.Packet, Packets.is_rw, Again.count, History.{Answerer, Asker, Got, Side, gots, puts}}
 use Rattle.vs_page.specs.{Fair.{IsFairLog, asked_by, current, number_of, payload_got, payload_of}, Held.IsWhole, Log.{Driver, Log, and_then, flow_got, history_of, side_by}}
@@ -14,12 +14,13 @@ use Rattle.vs_page.{specs.{Log.{side_of, whole_of}, Open.is_dropped, declared.lo
 use Rattle.vs_page.proofs.{PayloadLogs.got_none, Present.present_got}
 use Rattle.vs_replies.specs.Owed.{reply_to}
 use Rattle.vs_driver_parts.specs.{Conversations.after_paying, Held.HeldSlots, State.{DriverConnection, DriverEntry, DriverState}, Connections.{after_leaving, gone_as, is_let_go}}
-use Rattle.vs_driver_parts.specs.{Connections.{paid_connection, with_connection, with_request, waits_no_more}, Receiving.{after_packet, after_verdict, all_left, is_request}}
-use Rattle.vs_driver_parts.{specs.Receiving.{may_open, on_heard, on_known, on_packet, on_unknown, reset_reply, with_reply}, proofs.{Ids.found_under, Packets.first_under}}
-use Rattle.vs_driver_parts.proofs.Packets.{others_left, packet_known, packet_unknown}
+use Rattle.vs_driver_parts.specs.{Connections.{paid_connection, with_connection, with_request, waits_no_more, keeping}, Receiving.{after_packet, after_verdict, all_left}}
+use Rattle.vs_driver_parts.{specs.Receiving.{is_request, may_open, on_heard, on_known, on_packet, on_unknown, reset_reply, with_reply}, proofs.Ids.found_under}
+use Rattle.vs_driver_parts.proofs.Packets.{first_under, others_left, packet_known, packet_unknown}
 use Rattle.laws_driver.{specs.{Honest.{IsFitState, ends_of_state, slots_of}, Carried.Received.{Account, AreReceived, GoesOn, with_opened}}, proofs.Carrying.{Carries, Fact}}
 use Rattle.laws_driver.proofs.{Tabling.{Stands, entry_fits, has_end, leaves}, Resetting.{first_contained, with_cid}, Taking.with_reply_fits, Carried.Changing.puts_and_alters}
 use Rattle.laws_driver.proofs.Carried.{Logging.{leaves_received, opened_goes_on, opened_received, passes_by, same_received}, Reading.given_none, Receiving.changed_received}
+use Rattle.laws_driver.proofs.Carried.Receiving.{in_clean}
 use Rattle.vs_header.specs.declared.Kind.TheVariants.{Stream}
 use Rattle.vs_conn.specs.declared.end.Owed.TheVariants as owed
 use Rattle.vs_conn.specs.declared.end.Verdict.TheVariants as verdict
@@ -108,12 +109,14 @@ module _ (first : ℕ) (a : Account) (p : Packet) (e : DriverEntry) (s : DriverS
 
   peers : (b : Bool) → verdict_of e.value.end p.header ≡ verdict.Peer → is_reset p.header ≡ b
       → let c = after_packet verdict.Peer p e.value in
-      AreReceived a (GotPacket p ∷ log) (slots_of (cond b (after_leaving (record e { value = c }) s) (with_connection e.slot c s)))
+      AreReceived a (GotPacket p ∷ log) (slots_of (cond b (keeping (is_kept Driver e.flow e.value.end p) e.flow (after_leaving (record e { value = c }) s))
+      (with_connection e.slot c s)))
   peers false is reset = hears (after_packet verdict.Peer p e.value) refl (unmoved verdict.Peer is refl (λ (q : verdict.Peer ≡ verdict.Deliver). cc))
   peers true is reset =
-      leaving_received a (GotPacket p ∷ log) s e (after_packet verdict.Peer p e.value) fits.sound stands.contains refl refl
+      in_clean a (GotPacket p ∷ log) _ _
+      (leaving_received a (GotPacket p ∷ log) s e (after_packet verdict.Peer p e.value) fits.sound stands.contains refl refl
       (same_received a log (GotPacket p ∷ log) (slots_of s) (λ k. got_none Driver log p k (whole.none (empty_rst reset)))
-      (λ f. number_got Driver p log f plain) x)
+      (λ f. number_got Driver p log f plain) x))
 
   by_verdict : (v : Verdict) → verdict_of e.value.end p.header ≡ v → is_refused v ≡ false → AreReceived a (GotPacket p ∷ log) (slots_of (after_verdict v p e s))
   by_verdict (verdict.Rst why) is taken = absurd cc
@@ -200,21 +203,22 @@ module _ (a : Account) (p : Packet) (s : DriverState) (log : Log) (whole : IsWho
       by false true false asks may = passes
       by false false o asks may = passes
 
+-- A flow without an entry.
+pub not_there : (t : Table DriverConnection) (f : Flow) → entry_of t f ≡ None → All (λ e. e.flow ≢ f) t.entries
+not_there t f none i d within on =
+    let fails = none_found (λ (y : DriverEntry). same_flow f y.flow) t.entries none i d within in
+    let both : true ≡ false = sym (same_self f) ∙ ap (λ (g : Flow). same_flow f g) (sym on) ∙ fails in
+    cc
+
 -- A packet.
 heard_received : (first : ℕ) (a : Account) (p : Packet) (s : DriverState) (log : Log) → IsFitState s → IsWhole p → Matches Driver first (ends_of_state s) log
     → IsFairLog Driver log → IsFairLog Driver (GotPacket p ∷ log) → IsFurther a (slots_of s) log → IsFurther a (slots_of (on_packet p s)) (GotPacket p ∷ log)
 heard_received first a p s log fits whole m was fair x = drop_by (is_dropped Driver s.cid p.header) refl
   where
-    absent_of : entry_of s.table (flow_got Driver p) ≡ None → All (λ e. e.flow ≢ flow_got Driver p) s.table.entries
-    absent_of none i d within on =
-        let fails = none_found (λ (y : DriverEntry). same_flow (flow_got Driver p) y.flow) s.table.entries none i d within in
-        let both : true ≡ false = sym (same_self (flow_got Driver p)) ∙ ap (λ (f : Flow). same_flow (flow_got Driver p) f) (sym on) ∙ fails in
-        cc
-
     found : (o : Option DriverEntry) → entry_of s.table (flow_got Driver p) ≡ o → IsFurther a (slots_of (on_heard p s)) (GotPacket p ∷ log)
     found None none =
         subst (λ (t : DriverState). IsFurther a (slots_of t) (GotPacket p ∷ log)) (sym (packet_unknown p s none))
-        (unknown_received a p s log whole fair (absent_of none) x)
+        (unknown_received a p s log whole fair (not_there s.table (flow_got Driver p) none) x)
     found (Some e) is =
         let passes = found_by (λ (y : DriverEntry). same_flow (flow_got Driver p) y.flow) s.table.entries e is in
         let stands : Stands s e = record { under = found_under _ s.table e fits.sound is; contains = passes.0 } in

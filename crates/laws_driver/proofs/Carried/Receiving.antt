@@ -22,6 +22,11 @@ in_slots a log slots new x next numbers held left = record {
   fresh = λ id less. x.fresh id (omega (arith, less, next));
 }
 
+-- Other flows are kept.
+pub in_clean : (a : Account) (log : Log) (slots : HeldSlots) (clean : List Flow) → AreReceived a log slots
+    → AreReceived a log (record slots { clean = clean })
+in_clean a log slots clean x = in_slots a log slots (record slots { clean = clean }) x refl x.numbers x.held x.left
+
 -- The same bytes, said otherwise.
 pub same_account : (a : Account) (q : ℕ → List ℕ) (log : Log) (slots : HeldSlots) → ((id : ℕ) → a.received id ≡ q id) → AreReceived a log slots
     → AreReceived (record a { received = q }) log slots

@@ -39,7 +39,8 @@ returns-then-ends_connection-clause-state c = λ e is.
     let there : entry_under m.table c.args.slot ≡ Some (with_its e (after_packet v p e.value)) =
     ap (λ (s : DriverState). entry_under s.table c.args.slot) mid ∙ under_changed c.args.self.now.table c.args.slot e (after_packet v p e.value) is slot in
     let ends : ends_connection v c.args.header.now ≡ true = ap (λ (x : Verdict). ends_connection x c.args.header.now) (sym verdict) ∙ (sym c.ends_connection.ensures ∙ c.if-ends_connection.true) in
-    over p e c.args.self.now c.args.slot slot v m c.leave.new.self ends mid (c.leave.ensures.state (with_its e (after_packet v p e.value)) there)
+    over p e c.args.self.now c.args.slot slot v m c.leave.new.self c.ends_cleanly-cleanly.result (c.ends_cleanly-cleanly.ensures e c.args.payload.now found) ends mid
+    (c.leave.ensures.state (with_its e (after_packet v p e.value)) there)
 
 pub returns-else-ends_connection-clause-state : goal.returns-else-ends_connection-clause-state
 returns-else-ends_connection-clause-state c = λ e is.

@@ -1,7 +1,7 @@
 use Rattle.std.proofs.Common.{◌≡◌, ℕ, Some, sym, ap, subst, ◌∙◌, rules}
 use Rattle.vs_flow.specs.Table.{value_under, with_value}
 use Rattle.vs_driver_parts.specs.{State.DriverConnection, Held.HeldSlots, Held.KnowsNone, contracts.slots.Slots.the_view}
-use Rattle.vs_driver_parts.proofs.{SameIds.closing_id, SameIds.closing_closed, SlotChanges.knows_none}
+use Rattle.vs_driver_parts.proofs.{SameIds.closing_id, SameIds.closing_closed, SlotChanges.{kept_with_connection, knows_none}}
 use Rattle.vs_driver_parts.proofs.slots.Slots.close.Goals as goal
 
 pub returns-clause-unknown : goal.returns-clause-unknown
@@ -17,3 +17,6 @@ returns-clause-unknown c = λ x found.
     let slots : HeldSlots = the_view c.self.inside in
     let closed : HeldSlots = record slots { table = with_value slots.table c.args.slot c.close.new.self } in
     subst (λ (id : ℕ). KnowsNone id closed) same none
+
+pub invariant_of-self-2 : goal.invariant_of-self-2
+invariant_of-self-2 c = kept_with_connection _ _ _ _ c.self.invariant (search (rules, closing_id)) c.noted-self-inside.ensures

@@ -1,7 +1,8 @@
-use Rattle.std.proofs.{Common.{◌≡◌, ℕ, List, length, Some, true, false, sym, ap, ◌∙◌, rules, arith}, lemmas.List.Elements.All-push}
-use Rattle.vs_flow.specs.Table.{Table, entry_under, without}
-use Rattle.vs_driver_parts.specs.{Room.IsSpare, State.{DriverConnection, GoneConnection}, Connections.is_let_go, Held.HeldSlots, contracts.slots.Slots.the_view}
-use Rattle.vs_driver_parts.proofs.{Ids.{IsUnder, under}, Numbers.{numbers_without, numbers_left}, SlotChanges.{left_free, left_kept, noted_without, one_fewer}}
+use Rattle.std.proofs.{Common.{◌≡◌, ℕ, List, length, Some, true, false, sym, ap, ◌∙◌, rules, arith, ◌&&◌, not, [], ◌∷◌, ◌++◌}, lemmas.List.Elements.All-push}
+use Rattle.vs_flow.specs.{Table.{Table, entry_under, without}, Flow.is_assigned, declared.flow.Flow.Flow}
+use Rattle.vs_driver_parts.specs.{Room.IsSpare, State.{DriverConnection, GoneConnection}, Connections.{is_let_go, kept_if}, Held.HeldSlots}
+use Rattle.vs_driver_parts.{specs.contracts.slots.Slots.the_view, proofs.{Ids.{IsUnder, under}, Numbers.{numbers_without, numbers_left}, SlotChanges.{left_free, left_kept}}}
+use Rattle.vs_driver_parts.proofs.{SlotChanges.{noted_without, one_fewer}, Clean.{flow_there, left_clean}}
 use Rattle.vs_driver_parts.proofs.slots.Slots.leave.Goals as goal
 
 pub invariant_of-self-then-let_go : goal.invariant_of-self-then-let_go
@@ -13,6 +14,7 @@ invariant_of-self-then-let_go c =
     let entries = ap (λ (t : Table DriverConnection). length t.entries) table in
     record {
       numbers = rw table (numbers_without s.first_id s.next_port s.next_id s.table s.gone.items kept.numbers c.args.slot);
+      clean = rw (table, c.keep_own.ensures) (left_clean s c.args.slot u.entry c.in-Some.flow c.args.cleanly kept u.found c.in-Some.ensures.flow);
       last_port = kept.last_port;
       last_id = kept.last_id;
       table = c.in-Some-remove.ensures.sound;
@@ -30,8 +32,11 @@ returns-then-let_go c = λ e found.
     let table : c.remove.new.self ≡ without s.table c.args.slot = c.in-Some-remove.ensures.removed in
     let go : is_let_go c.in-Some-remove.connection ≡ true = search rules in
     let there : entry_under s.table c.args.slot ≡ Some e = rw (← c.self.view_is) at found in
-    rw (← c.self.view_is) (ap (λ (t : Table DriverConnection). let h : HeldSlots = the_view s in record h { table = t }) table
-    ∙ left_free (the_view s) c.args.slot e c.in-Some-remove.connection there c.in-Some-remove.ensures.value go)
+    rw (← c.self.view_is) (ap (λ (t : Table DriverConnection). let h : HeldSlots = the_view s in record h { table = t; clean = c.keep_own.new.clean }) table
+    ∙ (ap (λ (fs : List Flow). let h : HeldSlots = the_view s in record h { table = without s.table c.args.slot; clean = fs }) (c.keep_own.ensures
+    ∙ ap (λ (f : Flow). kept_if (c.args.cleanly && not (is_assigned f.host)) f s.clean) (flow_there s.table c.args.slot e c.in-Some.flow there c.in-Some.ensures.flow))
+    ∙ ap (λ (h : HeldSlots). record h { clean = kept_if (c.args.cleanly && not (is_assigned e.flow.host)) e.flow s.clean })
+    (left_free (the_view s) c.args.slot e c.in-Some-remove.connection there c.in-Some-remove.ensures.value go)))
 
 pub invariant_of-self-2 : goal.invariant_of-self-2
 invariant_of-self-2 c =
@@ -46,6 +51,7 @@ invariant_of-self-2 c =
     record {
       numbers = rw (table, ← u.slot_is, c.push_reserved-2.ensures.items)
           (numbers_left s.first_id s.next_port s.next_id s.table s.gone.items kept.numbers u.entry c.new.result kept.table there (id ∙ sym value));
+      clean = rw (table, c.keep_own.ensures) (left_clean s c.args.slot u.entry c.in-Some.flow c.args.cleanly kept u.found c.in-Some.ensures.flow);
       last_port = kept.last_port;
       last_id = kept.last_id;
       table = c.in-Some-remove.ensures.sound;
@@ -64,6 +70,12 @@ returns c = λ e found.
     let stays : is_let_go c.in-Some-remove.connection ≡ false = search rules in
     let there : entry_under s.table c.args.slot ≡ Some e = rw (← c.self.view_is) at found in
     let new : c.new.result ≡ record { id = c.in-Some-remove.connection.id; flow = c.in-Some.flow; end = c.in-Some-remove.connection.end; unread = c.in-Some-remove.connection.unread } = search rules in
-    rw (← c.self.view_is) (ap (λ (t : Table DriverConnection). let h : HeldSlots = the_view s in record h { table = t; gone = c.push_reserved-2.new.self.items }) table
-    ∙ (ap (λ (gone : List GoneConnection). let h : HeldSlots = the_view s in record h { table = without s.table c.args.slot; gone = gone }) c.push_reserved-2.ensures.items
-    ∙ left_kept (the_view s) c.args.slot e c.in-Some-remove.connection there c.in-Some-remove.ensures.value c.in-Some.flow c.new.result stays c.in-Some.ensures.flow new))
+    rw (← c.self.view_is) (ap (λ (t : Table DriverConnection). let h : HeldSlots = the_view s in
+    record h { table = t; gone = c.push_reserved-2.new.self.items; clean = c.keep_own.new.clean }) table
+    ∙ (ap (λ (gone : List GoneConnection). let h : HeldSlots = the_view s in
+    record h { table = without s.table c.args.slot; gone = gone; clean = c.keep_own.new.clean }) c.push_reserved-2.ensures.items
+    ∙ (ap (λ (fs : List Flow). let h : HeldSlots = the_view s in
+    record h { table = without s.table c.args.slot; gone = s.gone.items ++ c.new.result ∷ []; clean = fs }) (c.keep_own.ensures
+    ∙ ap (λ (f : Flow). kept_if (c.args.cleanly && not (is_assigned f.host)) f s.clean) (flow_there s.table c.args.slot e c.in-Some.flow there c.in-Some.ensures.flow))
+    ∙ ap (λ (h : HeldSlots). record h { clean = kept_if (c.args.cleanly && not (is_assigned e.flow.host)) e.flow s.clean })
+    (left_kept (the_view s) c.args.slot e c.in-Some-remove.connection there c.in-Some-remove.ensures.value c.in-Some.flow c.new.result stays c.in-Some.ensures.flow new))))

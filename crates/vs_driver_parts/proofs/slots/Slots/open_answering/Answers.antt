@@ -1,6 +1,7 @@
 use Rattle.std.proofs.Common.{◌≡◌, ◌+◌, ◌<◌, ◌≤◌, length, ◌∷◌, [], ap, ◌∙◌, rules, arith, length-append}
 use Rattle.vs_flow.{specs.Table.{Table, with_entry, next_entry}, proofs.Tables.with_entry_sound}
-use Rattle.vs_driver_parts.{specs.{Room.IsSpare, State.DriverConnection}, proofs.{Numbers.numbers_with_entry, SlotChanges.{all_front, noted_with_entry}}}
+use Rattle.vs_driver_parts.{specs.{Room.IsSpare, State.DriverConnection}, proofs.{Numbers.numbers_with_entry, SlotChanges.{all_front, noted_with_entry}, Clean.clean_entry}}
+use Rattle.vs_driver_parts.proofs.Clean.{none_assigned}
 use Rattle.vs_limits.specs.declared.TheConstants.{LAST_ID}
 use Rattle.vs_driver_parts.proofs.slots.Slots.open_answering.Goals as goal
 
@@ -15,6 +16,8 @@ invariant_of-self c =
     let last : s.next_id ≤ LAST_ID = rw (← c.self.view_is) at c.requires.id in
     record {
       numbers = rw table (numbers_with_entry s.first_id s.next_port s.next_id s.table s.gone.items kept.numbers c.args.flow c.answering-connection.result _ id (omega arith) (λ mine. absurd (cc (mine, c.requires.host))));
+      clean = rw table (clean_entry s.next_port s.next_port s.table c.args.flow c.answering-connection.result s.clean kept.clean
+          (none_assigned s.next_port s.table c.args.flow s.clean kept.clean c.requires.host) (omega arith));
       last_port = kept.last_port;
       last_id = omega (arith, last);
       table = rw table (with_entry_sound s.table c.args.flow c.answering-connection.result kept.table

@@ -10,6 +10,7 @@ invariant_of-self c =
     let within : c.args.place < length s.gone.items = rw (← c.self.view_is) at c.requires in
     record {
       numbers = rw c.remove-gone.ensures.items (numbers_gone_removed s.first_id s.next_port s.next_id s.table s.gone.items kept.numbers c.args.place within);
+      clean = kept.clean;
       last_port = kept.last_port;
       last_id = kept.last_id;
       table = kept.table;

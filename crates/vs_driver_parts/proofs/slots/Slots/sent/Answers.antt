@@ -1,0 +1,6 @@
+use Rattle.std.proofs.Common.{rules}
+use Rattle.vs_driver_parts.proofs.SlotChanges.{kept_with_connection}
+use Rattle.vs_driver_parts.proofs.slots.Slots.sent.Goals as goal
+
+pub invariant_of-self-2 : goal.invariant_of-self-2
+invariant_of-self-2 c = kept_with_connection _ _ _ _ c.self.invariant (search rules) c.noted-self-inside.ensures
