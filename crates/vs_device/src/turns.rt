@@ -59,6 +59,7 @@ impl Device {
         }
         label(host, stream, flow);
         let slot = self.slots.open_client(flow, stream);
+        self.clean.remove(flow);
         self.opened = self.opened.saturating_add(1);
         Ok(slot)
     }

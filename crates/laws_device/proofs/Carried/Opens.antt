@@ -81,7 +81,7 @@ without_lines at id hands x = record {
 }
 
 -- Other lines are read.
-other_lines : (c : HostContents) (log : Log) (port : ℕ) (t : Table DeviceConnection) (hands lines : List Handshake)
+other_lines : (c : HostContents) (log : Log) (port : Ports) (t : Table DeviceConnection) (hands lines : List Handshake)
     → IsStreamed c log port t hands
     → AreLines (look c) lines → IsStreamed c log port t lines
 other_lines c log port t hands lines x reads = record {
@@ -99,20 +99,20 @@ other_lines c log port t hands lines x reads = record {
   };
 }
 
-pub without_host : (c : HostContents) (log : Log) (port : ℕ) (t : Table DeviceConnection) (hands : List Handshake) (id : ℕ)
+pub without_host : (c : HostContents) (log : Log) (port : Ports) (t : Table DeviceConnection) (hands : List Handshake) (id : ℕ)
     → IsStreamed c log port t hands → IsStreamed c log port t (without_stream id hands)
 without_host c log port t hands id x = other_lines c log port t hands (without_stream id hands) x
     (without_lines (look c) id hands x.streams.lines)
 
 -- It ends, and its stream is closed.
-pub dropped_host : (c : HostContents) (log : Log) (port : ℕ) (t : Table DeviceConnection) (hands : List Handshake) (id : ℕ) (h : Handshake)
+pub dropped_host : (c : HostContents) (log : Log) (port : Ports) (t : Table DeviceConnection) (hands : List Handshake) (id : ℕ) (h : Handshake)
     → IsStreamed c log port t hands → IsHand (look c) id h → IsStreamed (after_close id c) log port t (without_stream id hands)
 dropped_host c log port t hands id h x hand =
     closed_host id c log port t (without_stream id hands) (without_host c log port t hands id x)
     (λ s seen_now. ap (λ (y : Seen). y.label) (sym (some_seen (reading h.line) s (sym hand.there ∙ seen_now))))
     (without_none id hands x.streams.lines.apart)
 
-pub first_dropped : (c : HostContents) (log : Log) (port : ℕ) (t : Table DeviceConnection) (h : Handshake) (hands : List Handshake)
+pub first_dropped : (c : HostContents) (log : Log) (port : Ports) (t : Table DeviceConnection) (h : Handshake) (hands : List Handshake)
     → IsStreamed c log port t (h ∷ hands) → IsStreamed (after_close h.stream c) log port t hands
 first_dropped c log port t h hands x =
     let here : (h.stream == h.stream) ≡ true = grind arith in
@@ -124,7 +124,7 @@ first_dropped c log port t h hands x =
     }))
 
 -- A byte more of a line.
-module _ (c : HostContents) (log : Log) (port : ℕ) (t : Table DeviceConnection) (hands : List Handshake) (x : IsStreamed c log port t hands)
+module _ (c : HostContents) (log : Log) (port : Ports) (t : Table DeviceConnection) (hands : List Handshake) (x : IsStreamed c log port t hands)
     (id n : ℕ) (h : Handshake) (hand : IsHand (look c) id h) (bytes : List ℕ) (next : bytes ≡ next_bytes id n c) where
   abbrev pub read_on : HostContents
   read_on = after_read id (read.Got n) c
@@ -167,7 +167,7 @@ module _ (c : HostContents) (log : Log) (port : ℕ) (t : Table DeviceConnection
   })
 
 -- The flow of a connection that is to open has none in the table, and the host lists no stream that has no label.
-module _ (c : HostContents) (log : Log) (port : ℕ) (t : Table DeviceConnection) (hands : List Handshake) (x : IsStreamed c log port t hands) where
+module _ (c : HostContents) (log : Log) (port : Ports) (t : Table DeviceConnection) (hands : List Handshake) (x : IsStreamed c log port t hands) where
   pub unlisted : (id : ℕ) → ((b : Seen) → look c id ≡ Some b → b.label ≡ None) → Contains c.labelled id → ⊥
   unlisted id free within =
       let h = x.streams.listed id within in
@@ -191,7 +191,7 @@ none_apart t f none i e within same =
     let both : true ≡ false = sym (same_self f) ∙ ap (λ (g : Flow). same_flow f g) (sym same) ∙ fails in absurd cc
 
 -- LABEL: a whole line opens a connection.
-module _ (c : HostContents) (log : Log) (port : ℕ) (t : Table DeviceConnection) (lines : List Handshake) (x : IsStreamed c log port t lines)
+module _ (c : HostContents) (log : Log) (port : Ports) (t : Table DeviceConnection) (lines : List Handshake) (x : IsStreamed c log port t lines)
     (id guest : ℕ) (line : List ℕ) (here : look c id ≡ Some (reading line)) (away : All (λ h. h.stream ≢ id) lines)
     (whole : has_line line ≡ true) (none_behind : after_line line ≡ []) (inside : is_assigned port ≡ true) (sound : IsTable t)
     (alone : entry_of t (host_flow guest port) ≡ None) where
@@ -315,7 +315,7 @@ module _ (c : HostContents) (log : Log) (port : ℕ) (t : Table DeviceConnection
       }))
 
 -- DIAL: a connection opens with a new stream, on a REQUEST after which the log stays fair.
-module _ (c : HostContents) (log : Log) (port : ℕ) (t : Table DeviceConnection) (hands : List Handshake) (x : IsStreamed c log port t hands)
+module _ (c : HostContents) (log : Log) (port : Ports) (t : Table DeviceConnection) (hands : List Handshake) (x : IsStreamed c log port t hands)
     (sound : IsTable t) (p : Packet) (fair : IsFairLog Device (GotPacket p ∷ log)) (asks : is_request p ≡ true) (empty : p.payload ≡ [])
     (alone : entry_of t (flow_got Device p) ≡ None) where
   abbrev g : Flow
