@@ -1,4 +1,6 @@
 -- The device's table by the log and by the host's streams.
+use Rattle.laws_device.specs.Carried.Streamed.{Ports}
+use Rattle.laws_device.specs.Carried.Streamed.{ports_of}
 use Rattle.std.proofs.Common.{◌≡◌, ℕ, zero, suc, ◌+◌, ◌-◌, ◌<◌, ◌==◌, ◌&&◌, ◌||◌, Bool, true, false, cond, List, [], ◌∷◌, length, map, Contains, slice_get, slice_index_or, Option}
 use Rattle.std.{proofs.{Common.{Some, None, refl, sym, ap, subst, ◌∙◌, arith}, lemmas.{Bool.{Decides.nat_tests, and_parts}, List.Elements.All-contains}}, specs.List.list_any}
 use Rattle.std.specs.Option.{option_map, option_map_or}
@@ -109,7 +111,7 @@ tied_by among false true waits is up down = is ∙ sym (up refl)
 tied_by among false false true is up down = down refl
 tied_by among false false false is up down = is
 
-module _ (c : HostContents) (log : Log) (port : ℕ) (t : Table DeviceConnection) (hands : List Handshake)
+module _ (c : HostContents) (log : Log) (port : Ports) (t : Table DeviceConnection) (hands : List Handshake)
     (x : IsStreamed c log port t hands) where
   -- The stream of a connection whose REQUEST isn't put is open.
   pub new_open : (e : DeviceEntry) → Contains t.entries e → is_new e.value.end ≡ true → has_open_stream e.flow c ≡ true
@@ -180,8 +182,8 @@ module _ (c : HostContents) (log : Log) (port : ℕ) (t : Table DeviceConnection
 
 -- By a ring that tells its log and a host that exposes its streams.
 pub tabled_with : (first port : ℕ) (lines : List Handshake) (s : DeviceState) (a : Situation) → IsWith first port s a.ring
-    → AreStreamedWith first port lines s.table a → IsTabledWith first s a
+    → AreStreamedWith first port lines s a → IsTabledWith first s a
 tabled_with first port lines s a holds streams honest l is few h there f =
     let x = streams honest l is few h there in
-    tied_by _ _ _ _ (left_open first port s l ((holds.1 l is).1 honest) f) (new_streams h l.entries port s.table lines x f)
-    (λ opened. ap (is_among f) (same_flows s.table.entries) ∙ open_among h l.entries port s.table lines x f opened)
+    tied_by _ _ _ _ (left_open first port s l ((holds.1 l is).1 honest) f) (new_streams h l.entries (ports_of port s) s.table lines x f)
+    (λ opened. ap (is_among f) (same_flows s.table.entries) ∙ open_among h l.entries (ports_of port s) s.table lines x f opened)

@@ -1,21 +1,21 @@
 -- What the host's streams took and gave, through the small changes of the device.
-use Rattle.vs_flow.specs.{Table.{IsTable, Table, entry_of, with_value, without}, Flow.{is_assigned, same_flow}, declared.flow.Flow.Flow, Connection.Connection}
+use Rattle.vs_flow.specs.{CleanPairs.kept, Table.{IsTable, Table, entry_of, with_value, without}, Flow.{is_assigned, same_flow}, declared.flow.Flow.Flow, Connection.Connection}
 use Rattle.vs_flow.proofs.Entries.{same_flow_true}
 use Rattle.std.proofs.Common.{◌≡◌, ◌≢◌, ℕ, ◌+◌, ◌-◌, ◌≤◌, ◌==◌, ◌&&◌, nat_le, Bool, true, false, cond, List, [], ◌∷◌, ◌++◌, length, take, drop, Contains, Option, Some, None, refl}
 use Rattle.std.proofs.{Common.{sym, ap, subst, ◌∙◌, arith, slice_get, get_or, ◌⊎◌, inl, inr}, lemmas.{Bool.Decides.nat_tests, Grind.common_steps, List.append-nil}}
 use Rattle.std.{proofs.Math.Seq.{drop-nil, take-nil}, specs.{List.{All, filter}, Option.{option_map, option_map_or}}}
 use Rattle.vs_conn.{specs.{End.{ConnectionEnd, end_after, is_of, is_reset, verdict_of, with_shut, with_payload_sent}, declared.end.Verdict.Verdict}, proofs.Frames.got_asked}
-use Rattle.vs_device_parts.specs.{Connections.{after_shut, after_written, cut_off}, State.{DeviceConnection, DeviceEntry}, Transmitting.heard, Streams.to_write}
+use Rattle.vs_device_parts.specs.{Connections.{after_shut, after_written, cut_off, kept_if}, State.{DeviceConnection, DeviceEntry}, Transmitting.heard, Streams.to_write}
 use Rattle.laws_device.proofs.Carried.Gives.{drop_both, first_of, forwards_asked, forwards_gives, accepted_other, accepts_asked, accepts_response, answered_host, comes_behind}
 use Rattle.laws_device.proofs.Carried.Gives.{delivered_other, delivers_gives, gives_delivered, goes_host, hears_gives, kept_empty, response_empty, shut_gives, shuts_asked}
 use Rattle.laws_device.proofs.Carried.{Gives.{unanswered_got, forwards_old, shuts_old, stays_old}, HostCalls.{read_host, write_host, closed_left, same_ends, same_host}}
-use Rattle.laws_device.proofs.Carried.{Streamed.{join_of, left_streamed, StaysStill, passed_streamed, same_connection_of, same_streamed}, Opens.none_apart, Hosts.counts_kept}
-use Rattle.laws_device.proofs.Carried.{Hosts.{counts_still, look_kept, unseen}, Counted.{comes_on, counted_asks, counted_got, counted_put, number_elsewhere, number_put_elsewhere}}
-use Rattle.laws_device.{proofs.Carried.Counted.{put_still, request_put}, specs.Carried.Streamed.{client_waits, AreCounted, IsCounted, IsJoined, IsStreamed, connection_of}}
+use Rattle.laws_device.proofs.Carried.{Streamed.{join_of, kept_streamed, left_streamed, StaysStill, passed_streamed, same_connection_of, same_streamed}, Opens.none_apart, Hosts.counts_kept}
+use Rattle.laws_device.proofs.Carried.{Hosts.{counts_still, look_kept, unseen}, Counted.{comes_on, counted_asks, counted_got, counted_put, kept_less, number_elsewhere, number_put_elsewhere}}
+use Rattle.laws_device.{proofs.Carried.Counted.{put_still, request_put}, specs.Carried.Streamed.{client_waits, AreCounted, IsCounted, IsJoined, IsStreamed, Ports, connection_of}}
 use Rattle.laws_device.specs.Carried.Streamed.{count_in, gives, line_for, look, seen, Seen}
 use Rattle.laws_history.specs.{Packets.{has, is_clean_rst, is_request, is_response, is_rw}, History.{Answerer, Asker, Got, History, IsFair, Side, gots, puts, MayPut, peer}}
 use Rattle.laws_history.specs.{declared.packet.Packet.Packet, Again.AllowsNow}
-use Rattle.laws_tables.{specs.{Steps.payload_on, Drains.{Drains, only_on}, Ends.is_new}, proofs.{Fair.{fair_now, own_got_fair}, Adding.{got_over_put, number_got, number_put}}}
+use Rattle.laws_tables.{specs.{Steps.payload_on, Drains.{Drains, only_on}, Ends.{is_among, is_new}}, proofs.{Entries.kept_among, Fair.{fair_now, own_got_fair}, Adding.{got_over_put, number_got, number_put}}}
 use Rattle.laws_tables.proofs.{Adding.{put_adds, put_nothing, put_over_got}, Logs.none_on_any, Goes.{comes_out, Goes, drops, stays_still}, Changes.without_changed}
 use Rattle.vs_outside.specs.Host.{after_close, after_failed, after_read, after_shut_write, after_write, called, dial_answer, fails_now, is_listened, next_bytes, HostContents}
 use Rattle.vs_outside.{specs.{Host.{with_shut_write_call, Stream}, HostBytes.is_labelled}, proofs.Frames.stream_at-after_failed}
@@ -23,6 +23,7 @@ use Rattle.vs_page.specs.{Held.{IsWhole, packet_held, packet_with, payload_held}
 use Rattle.vs_page.specs.{declared.log.LogEntry.TheVariants.{GotPacket, Mark, PutEvent, PutPacket}, Fair.{IsFairLog, IsFairOn, asked_by, current, instance_from, number_of}}
 use Rattle.vs_page.{specs.Fair.{payload_got, payload_of, payload_put}, proofs.{Flows.same_self, Present.present_got}}
 use Rattle.vs_header.specs.{Packet.header_of, declared.{Header.Header, Kind.Kind}}
+use Rattle.vs_limits.specs.declared.TheConstants.{CLEAN_PAIRS}
 use Rattle.vs_proxy_parts.specs.State.{Handshake}
 use Rattle.vs_uds.specs.{ConnectLine.{connect_port, connect_step}, Reading.{is_decided, port_or_bad}, declared.connect.TheConstants.CONNECT_MAX, OkLine.ok_text}
 use Rattle.vs_outside.specs.declared.host_net.Dialed.TheVariants as dialed
@@ -292,6 +293,35 @@ module _ (c : HostContents) (log : Log) (port : Ports) (t : Table DeviceConnecti
 
     pub empty_streams : is_rw p ≡ false → is_request p ≡ false → IsStreamed c (GotPacket p ∷ log) port t hands
     empty_streams other plain = passes_streams (λ i e within on given. whole.none other) (λ i e within on. plain)
+
+  -- Its flow is kept to be used again, or not: each of its streams has a REQUEST.
+  pub keeps_streams : (e : DeviceEntry) → Contains t.entries e → is_new e.value.end ≡ false → (keep : Bool)
+      → IsStreamed c log (record port { clean = kept_if keep e.flow port.clean }) t hands
+  keeps_streams e is old keep = kept_streamed (look c) c.labelled (count_in c) log port t hands x (kept_if keep e.flow port.clean)
+      (λ f y. by keep f y)
+    where
+      all : count_in c e.flow ≡ number_of Device e.flow log
+      all = sym (join_of (look c) c.labelled (count_in c) log port t hands x e is).newest
+          ∙ ap (λ (b : Bool). cond b (number_of Device e.flow log + 1) (number_of Device e.flow log)) old
+
+      own : (b k : Bool) (f : Flow) (marked : Bool) → count_in c f ≡ number_of Device f log
+          → IsCounted b (count_in c f) (number_of Device f log) (is_among f port.clean) marked
+          → IsCounted b (count_in c f) (number_of Device f log) k marked
+      own true k f marked every y = (y.0, y.1, λ is. every)
+      own false k f marked every y = y
+
+      by : (keep : Bool) (f : Flow) → AreCounted (count_in c) port.clean log f → AreCounted (count_in c) (kept_if keep e.flow port.clean) log f
+      by false f y = y
+      by true f y = of (same_flow f e.flow) refl
+        where
+          marks : Bool
+          marks = has is_clean_rst (puts (history_of Device f log))
+
+          of : (s : Bool) → same_flow f e.flow ≡ s → AreCounted (count_in c) (kept CLEAN_PAIRS e.flow port.clean) log f
+          of true same = own (is_assigned f.host) (is_among f (kept CLEAN_PAIRS e.flow port.clean)) f marks
+              (subst (λ (g : Flow). count_in c g ≡ number_of Device g log) (sym (same_flow_true f e.flow same)) all) y
+          of false other = kept_less (is_assigned f.host) (count_in c f) (number_of Device f log) (is_among f port.clean)
+              (is_among f (kept CLEAN_PAIRS e.flow port.clean)) marks (λ is. kept_among e.flow f port.clean is other) y
 
   -- A connection leaves, whose stream is closed or closes.
   pub leaves_streams : (e : DeviceEntry) → Contains t.entries e → e.value.closed ≡ true → (k : DeviceConnection)

@@ -10,6 +10,12 @@ use Rattle.laws_tables.{specs.{Drains.only_on, Ends.is_among}, proofs.{Adding.{g
 use Rattle.laws_tables.proofs.Logs.{none_on_any}
 use Rattle.laws_device.{specs.Carried.Streamed.{AreCounted, IsCounted}, proofs.Carried.Streamed.StaysStill}
 
+-- No other flow is kept.
+pub kept_less : (b : Bool) (count number : ℕ) (was now marked : Bool) → (now ≡ true → was ≡ true) → IsCounted b count number was marked
+    → IsCounted b count number now marked
+kept_less true count number was now marked less x = (x.0, x.1, λ is. x.2 (less is))
+kept_less false count number was now marked less x = x
+
 -- The same, by what passed on a flow, and what did on its present connection.
 abbrev AreIn : Bool → ℕ → Bool → History → History → Type 0
 AreIn b n k w h = IsCounted b n (asked_by (side_by Device b) (puts w) (gots w)) k (has is_clean_rst (puts h))

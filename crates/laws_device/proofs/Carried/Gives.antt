@@ -10,7 +10,7 @@ use Rattle.vs_outside.specs.Host.{HostContents}
 use Rattle.vs_page.specs.{Fair.{number_of, payload_got, payload_of, payload_put}, Log.{Device, Log}}
 use Rattle.vs_proxy_parts.specs.State.{Handshake}
 use Rattle.laws_tables.{specs.{Drains.{Drains, only_on}, Ends.is_new}, proofs.{Logs.{all_of, there_on}, Goes.{Goes, comes_in, drops, stays_still}}}
-use Rattle.laws_device.{specs.Carried.Streamed.{AreCounted, IsJoined, IsStreamed, connection_of, count_in, gives, line_for, look}, proofs.Carried.Streamed.changed_streamed}
+use Rattle.laws_device.{specs.Carried.Streamed.{AreCounted, IsJoined, IsStreamed, Ports, connection_of, count_in, gives, line_for, look}, proofs.Carried.Streamed.changed_streamed}
 use Rattle.laws_device.proofs.Carried.Streamed.{join_of}
 use Rattle.vs_conn.specs.declared.end.Owed.TheVariants as owed
 use Rattle.vs_conn.specs.declared.end.State.TheVariants as state
