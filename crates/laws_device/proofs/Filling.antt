@@ -11,7 +11,7 @@ use Rattle.vs_contents.specs.CallTree.{Ask, Done, bind, for_each, while_up_to}
 use Rattle.vs_conn.specs.{End.{CanSend, ConnectionEnd, owes_of, paid_of, state_may_send, wanting_credit, with_payload_sent}, Headers.{owed_header, payload_header}}
 use Rattle.vs_conn.{specs.declared.end.{Owed.Owed, State.State, Stop.TheVariants.ShutDown}, proofs.Frames.paid_asked}
 use Rattle.vs_credit.specs.Credit.{free_of}
-use Rattle.vs_flow.specs.Table.{IsTable, entry_under, slots, Table, with_value}
+use Rattle.vs_flow.specs.Table.{IsTable, entry_under, slots, with_value}
 use Rattle.vs_header.specs.declared.Header.{Header}
 use Rattle.vs_outside.specs.{declared.host_net.StreamRead.StreamRead, Host.{HostContents, after_close, after_read, called}}
 use Rattle.vs_replies.specs.declared.Reply.{Reply}

@@ -10,7 +10,7 @@ use Rattle.std.proofs.{Common.{◌∙◌, arith, length-append, length-take, get
 use Rattle.std.specs.List.{All}
 use Rattle.vs_contents.specs.CallTree.{Done, bind}
 use Rattle.vs_conn.specs.{End.{ConnectionEnd, after_op, end_after, is_reset, is_of, verdict_of}, declared.end.{Verdict.Verdict, Why.Why}}
-use Rattle.vs_flow.{specs.{Table.{entry_of, has_place, with_value, Table}, Flow.{is_assigned, same_flow}, declared.flow.Flow.Flow}, proofs.Entries.same_flow_true}
+use Rattle.vs_flow.{specs.{Table.{entry_of, has_place}, Flow.{is_assigned, same_flow}, declared.flow.Flow.Flow}, proofs.Entries.same_flow_true}
 use Rattle.vs_header.specs.{declared.{Kind.{Kind, TheVariants.Stream}, Header.Header, TheConstants.HEADER_LEN}, Op.op_named}
 use Rattle.laws_history.specs.{Packets.is_request, declared.packet.Packet.Packet}
 use Rattle.vs_outside.specs.{declared.host_net.Dialed.Dialed, Host.{HostContents, IsDialed, after_dial, after_failed, after_close, called}}

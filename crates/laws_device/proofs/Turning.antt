@@ -1,6 +1,6 @@
 -- What the owed event, a reset, a tick, a round of writing and an opening keep.
-use Rattle.std.proofs.Common.{◌≡◌, ℕ, ◌+◌, ◌<◌, ◌≤◌, ◌^◌, ◌==◌, ◌&&◌, ◌||◌, Bool, true, false, cond, if◌then◌else◌, List, [], ◌∷◌, ◌++◌, length, take, Contains, Option, Some, None}
-use Rattle.std.proofs.{Common.{Result, Ok, Err, refl, sym, ap, subst, ◌∙◌, arith, nat_le, ◌⊎◌, inl, inr, length-append, length-take}, lemmas.{Bool.Decides.nat_tests, List.Elements.All-tail}}
+use Rattle.std.proofs.Common.{◌≡◌, ℕ, ◌<◌, ◌≤◌, ◌^◌, ◌==◌, ◌&&◌, ◌||◌, Bool, true, false, cond, if◌then◌else◌, List, [], ◌∷◌, ◌++◌, length, take, Contains, Option, Some, None}
+use Rattle.std.proofs.{Common.{Result, Ok, Err, refl, sym, ap, subst, ◌∙◌, arith, length-append, length-take}, lemmas.{Bool.Decides.nat_tests, List.Elements.All-tail}}
 use Rattle.std.specs.{List.All, Option.ForSome}
 use Rattle.byteorder.specs.Endian.{little_bytes}
 use Rattle.vs_contents.specs.{CallTree.{Done, Ask, bind, for_each}, Contents.Exposes}
@@ -121,6 +121,13 @@ empty_table t sound = record {
   were_given = λ i d within. absurd (omega (arith, within));
   slots_left = sound.slots_left;
 }
+
+-- A flow that the device may ask for, and the port that is given next then.
+pub record Gives (carry : Carried) (port : ℕ) (s : DeviceState) (flow : Flow) (onward : ℕ) : Type 0 where
+  pub next : IsNextFlow Device flow (ends_of_state port s)
+  pub ports : IsFitFlow flow
+  pub wanted : carry.asks flow
+  pub port_is : steps.port_after port flow.host ≡ onward
 
 module _ (carry : Carried) (lines : List Handshake) (first port : ℕ) where
   abbrev Now : DeviceState → Situation → Type 0
@@ -405,12 +412,7 @@ module _ (carry : Carried) (lines : List Handshake) (first port : ℕ) where
             (close_all (slots s.table) s c first_closing) publishes
 
   -- A client's connection.
-  module _ (flow : Flow) (stream : ℕ) (s : DeviceState) (next : IsNextFlow Device flow (ends_of_state port s))
-      (ports : IsFitFlow flow) (wanted : carry.asks flow) where
-    -- The port that is given next then.
-    abbrev onward : ℕ
-    onward = steps.port_after port flow.host
-
+  module _ (flow : Flow) (stream : ℕ) (s : DeviceState) (onward : ℕ) (gives : (l : EndLog) → AgreesBy carry first port s l → Gives carry port s flow onward) where
     -- What is known before, and what the label leaves of it.
     module _ (F : Fact)
         (labels : (o n : Option HostContents) (l : EndLog) → AgreesBy carry first port s l → Exposes o n (λ h. Unit {0}) (after_label stream flow)
@@ -422,13 +424,15 @@ module _ (carry : Carried) (lines : List Handshake) (first port : ℕ) where
         was.0,
         λ honest.
             let p = (was.1 honest).0 in
+            let g = gives l p in
             let c : DeviceConnection = new_connection (asked Stream BUF_ALLOC) stream true in
             let part_is =
-            ap (λ (fs : List Flow). let part : Ends = record (asking Device flow Stream (ends_of_state port s)) { clean = fs } in part)
+            ap (λ (n : ℕ). let part : Ends = record (asking Device flow Stream (ends_of_state port s)) { next_port = n } in part) g.port_is
+            ∙ ap (λ (fs : List Flow). let part : Ends = record (asking Device flow Stream (ends_of_state port s)) { next_port = onward; clean = fs } in part)
             (sym (removed_flow flow s.clean p.matches.flows.once))
             ∙ ap (λ (es : List FlowEnd). let part : Ends = record (ends_of_state onward (with_client flow stream s)) { entries = es } in part)
             (sym (added_slot end_in s.table flow c)) in
-            let fits = opening_fits s p.fits flow c (accepted s.table flow free) ports (record {
+            let fits = opening_fits s p.fits flow c (accepted s.table flow free) g.ports (record {
               bytes = record { unread = omega arith; within = omega arith; alloc = omega arith; rx = omega arith; fwd = omega arith };
               new = λ new. record { by_client = refl; ok_line = refl; pending = refl; asked_at = refl; shut_at = refl };
             }) refl in (
@@ -442,10 +446,10 @@ module _ (carry : Carried) (lines : List Handshake) (first port : ℕ) where
                 };
                 none_overrun = p.none_overrun;
                 matches = subst (λ (part : Ends). Matches Device first part l.entries) part_is
-                    (asks first flow Stream (ends_of_state port s) l.entries p.matches next);
+                    (asks first flow Stream (ends_of_state port s) l.entries p.matches g.next);
                 fair = p.fair;
                 seated = subst (λ (w : Seat). carry.holds w) (at_log l.entries _ _ part_is)
-                    (carry.step (Asks flow Stream) (seat port s l.entries) next wanted (λ all. all) p.seated);
+                    (carry.step (Asks flow Stream) (seat port s l.entries) g.next g.wanted (λ all. all) p.seated);
               },
               labels o n l p exposes (was.1 honest).1,
             ),
@@ -467,7 +471,8 @@ pub opens_plain : (first port : ℕ) (flow : Flow) (stream : ℕ) (s : DeviceSta
     → (c : Situation) → IsWith first port s c.ring → Keeps (λ x d. With ring_only [] first (port_after flow port x.1) x.0 d) (open_of flow stream s) c
 opens_plain first port flow stream s next ports c holds =
     keeps_some asked_of (λ x d. With ring_only [] first (port_after flow port x.1) x.0 d) (refusal s.table flow) _ _ c
-    (λ free. label_keeps ring_only [] first port flow stream s next ports tt (StreamedOver ring_only [] first port s)
+    (λ free. label_keeps ring_only [] first port flow stream s (steps.port_after port flow.host)
+    (λ l p. record { next = next; ports = ports; wanted = tt; port_is = refl }) (StreamedOver ring_only [] first port s)
     (λ o n l p made x no. absurd no) c free held) (λ fault full. held)
   where
     held : With ring_only [] first port s c

@@ -1,12 +1,12 @@
 -- The host's streams, where an honest ring tells the log.
-use Rattle.std.specs.{List.list_any, Option.{ForSome, option_map_or}, Prelude.{◌≡◌, ℕ, ◌==◌, ◌&&◌, ◌||◌, Bool, true, false, List, [], ◌∷◌}}
+use Rattle.std.specs.{List.list_any, Option.{ForSome, option_map_or}, Prelude.{◌≡◌, ℕ, nat_lt, ◌&&◌, ◌||◌, Bool, true, false, List, [], ◌∷◌}}
 use Rattle.vs_flow.specs.{Flow.same_flow, declared.flow.Flow.Flow}
 use Rattle.vs_outside.specs.{Host.{HostContents, Stream}, declared.host_net.StreamState.{StreamState, TheVariants.Open}}
 use Rattle.vs_page.specs.{Fair.number_of, Log.{Device, Log, flow_got}, Open.{cid_of, is_dropped, is_left_open, is_open}, declared.log.LogEntry.TheVariants.GotPacket}
 use Rattle.vs_proxy_parts.specs.State.{Handshake}
 use Rattle.vs_device_parts.specs.{Calls.Situation, State.DeviceState, Turns.table_shown}
 use Rattle.laws_tables.specs.Ends.{is_among, replied}
-use Rattle.laws_device.specs.{Honest.flows_shown, Carried.Streamed.{IsStreamed, ports_of}}
+use Rattle.laws_device.specs.{Honest.flows_shown, Carried.Streamed.{IsStreamed, count_in, ports_of}}
 
 -- No packet with payload of an open connection was dropped.
 abbrev pub AreHeard : ℕ → Log → Type 0
@@ -33,9 +33,9 @@ is_open_on f s = is_open_in s.state && option_map_or (same_flow f) s.label false
 abbrev pub has_open_stream : Flow → HostContents → Bool
 has_open_stream f c = list_any (is_open_on f) c.streams
 
--- A client's connection whose REQUEST isn't put: it has its stream, and the log began no connection on its flow.
+-- A client's connection whose REQUEST isn't put: it has its stream, and the log began fewer connections on its flow than there are streams.
 abbrev pub is_waiting_for_request : Flow → HostContents → Log → Bool
-is_waiting_for_request f c log = has_open_stream f c && (number_of Device f log == 0)
+is_waiting_for_request f c log = has_open_stream f c && nat_lt (number_of Device f log) (count_in c f)
 
 -- The device's table has the flows that the log left open, and those of the host's open streams.
 abbrev pub IsTabledBy : ℕ → DeviceState → HostContents → Log → Type 0
