@@ -29,7 +29,8 @@ module _ {S : Type 0} (K : Asking S) (At : List Handshake → ℕ → DeviceStat
   pub record AfterLine (h : Handshake) (line : List ℕ) (hands : List Handshake) (port : ℕ) (s : DeviceState) (d : S) : Type 0 where
     pub more : connect_step line ≡ step.More → At (with_line h.stream line hands) port s d
     pub ends : K.asks (CloseStream h.stream) d (λ a e. At (without_stream h.stream (with_line h.stream line hands)) port s e)
-    pub refused : (guest : ℕ) (flow : Flow) (fault : TableFault) → next_flow guest port s ≡ Some flow → refusal s.table flow ≡ Some fault
+    pub refused : (guest : ℕ) (flow : Flow) (fault : TableFault) → connect_step line ≡ step.Port guest → next_flow guest port s ≡ Some flow
+        → refusal s.table flow ≡ Some fault
         → At (without_stream h.stream (with_line h.stream line hands)) (next_after port) s d
     pub opens : (guest : ℕ) (flow : Flow) → connect_step line ≡ step.Port guest → next_flow guest port s ≡ Some flow
         → refusal s.table flow ≡ None → K.asks (Label h.stream flow) d
@@ -111,7 +112,7 @@ module _ {S : Type 0} (K : Asking S) (At : List Handshake → ℕ → DeviceStat
           keeps_then K Turns Opened (open_of flow h.stream t.state.device) _ c
           (keeps_some K Opened (refusal t.state.device.table flow)
           (Ask (Label h.stream flow) (λ a. Done (with_client flow h.stream t.state.device, Ok t.state.device.table.given)))
-          (λ fault. Done (t.state.device, Err fault)) c (after.opens port flow is given) (λ fault. after.refused port flow fault given))
+          (λ fault. Done (t.state.device, Err fault)) c (after.opens port flow is given) (λ fault. after.refused port flow fault is given))
           (λ r d kept. kept))) (λ v d kept. kept)
         where
           u : Turning

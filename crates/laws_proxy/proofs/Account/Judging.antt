@@ -1,4 +1,6 @@
 -- What one packet of the guest does, step by step.
+use Rattle.vs_device_parts.specs.Transmitting.{keeps_flow}
+use Rattle.vs_device_parts.specs.Connections.{keeping}
 use Rattle.std.proofs.Common.{◌≡◌, ℕ, ◌-◌, ◌==◌, ◌&&◌, Bool, true, false, cond, List, [], ◌∷◌, ◌++◌, length, nat_le, nat_lt, Option, Some, None, refl, sym, ap, subst, ◌∙◌, arith}
 use Rattle.std.{proofs.lemmas.Bool.Decides.nat_tests, specs.Option.option_map}
 use Rattle.vs_conn.specs.{End.{after_op, is_reset, is_of, owes_of, verdict_of}, declared.end.{Verdict.Verdict, Why.Why}}
@@ -123,7 +125,7 @@ module _ (chain : Chain) (h : Header) (s : DeviceState) (calls : List Made) (kep
         (λ no. absurd (no refl))
     known_answers verdict.Peer says = message (is_reset h) refl
       where
-        closed_by : is_reset h ≡ true → (b : Bool) → e.value.closed ≡ b → Keeps (λ t later. Now verdict.Peer (after_leaving e.slot t) later)
+        closed_by : is_reset h ≡ true → (b : Bool) → e.value.closed ≡ b → Keeps (λ t later. Now verdict.Peer (keeping (keeps_flow h e) e.flow (after_leaving e.slot t)) later)
             (cond b (Done (with_connection e.slot (stream_closed (heard h e.value)) s))
             (Ask (CloseStream e.value.stream) (λ _. Done (with_connection e.slot (stream_closed (heard h e.value)) s)))) calls
         closed_by reset true is =
@@ -133,11 +135,11 @@ module _ (chain : Chain) (h : Header) (s : DeviceState) (calls : List Made) (kep
             (λ no id. shut_delivers (e.value.stream == id) (account_of calls id))
 
         message : (b : Bool) → is_reset h ≡ b → Keeps (λ t later. Now verdict.Peer t later)
-            (cond b (leaving (record e { value = heard h e.value }) s) (Done (with_connection e.slot (heard h e.value) s))) calls
+            (cond b (leaving (keeps_flow h e) (record e { value = heard h e.value }) s) (Done (with_connection e.slot (heard h e.value) s))) calls
         message true is =
             keeps_then asking (λ t later. Now verdict.Peer t later)
-            (λ t later. Now verdict.Peer (after_leaving e.slot t) later)
-            (closing (record e { value = heard h e.value }) stream_closed s) (λ t. Done (after_leaving e.slot t)) calls
+            (λ t later. Now verdict.Peer (keeping (keeps_flow h e) e.flow (after_leaving e.slot t)) later)
+            (closing (record e { value = heard h e.value }) stream_closed s) (λ t. Done (keeping (keeps_flow h e) e.flow (after_leaving e.slot t))) calls
             (closed_by is e.value.closed refl) (λ t later is. is)
         message false is =
             other_answer verdict.Peer _ [] refl says (done_is false e.value.closed is refl) (λ w is. absurd cc) (λ no id. refl)

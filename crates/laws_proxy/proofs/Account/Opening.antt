@@ -70,8 +70,8 @@ module _ (hands after : List Handshake) (flow : Flow) (stream : ℕ) (line : Lis
         carried = x.carried;
       }
 
-  pub keeps_open : flow.host ≤ ASSIGNED_LAST → Keeps (λ y later. Has after y.0 later) (open_of flow stream s) calls
-  keeps_open last = by (refusal s.table flow) refl
+  pub keeps_open : Keeps (λ y later. Has after y.0 later) (open_of flow stream s) calls
+  keeps_open = by (refusal s.table flow) refl
     where
       asks : DeviceTree (DeviceState × Result ℕ TableFault)
       asks = Ask (Label stream flow) (λ a. Done (with_client flow stream s, Ok s.table.given))
@@ -85,7 +85,7 @@ module _ (hands after : List Handshake) (flow : Flow) (stream : ℕ) (line : Lis
         over = x.over;
         carried = x.carried;
       }
-      by None is = ((line, waits, whole), last, λ answer fit. opens is answer)
+      by None is = ((line, waits, whole), λ answer fit. opens is answer)
 
 -- While connections are closed for a reset, what the streams were given stays.
 pub record AreClosing (at : ℕ → Option Account) (put taken : Flow → List ℕ) (t : Table DeviceConnection) : Type 0 where

@@ -90,8 +90,8 @@ module _ (Can : Call → Situation → Type 0) (reaches : (call : Call) (s : Sit
     line_read line d has = record {
       more = λ is. still;
       ends = dropped h.stream (with_line h.stream line hs) s d among still;
-      refused = λ guest fault may is. refused h.stream (with_line h.stream line hs) s d among still;
-      opens = λ guest is may none. opens h.stream (with_line h.stream line hs) s d among still (host_flow guest port) none;
+      refused = λ guest flow fault is given full. refused h.stream (with_line h.stream line hs) s d among still;
+      opens = λ guest flow is given none. opens h.stream (with_line h.stream line hs) s d among still flow none;
     }
       where
         same : ids hs ≡ ids (with_line h.stream line hs)
