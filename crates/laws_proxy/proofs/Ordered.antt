@@ -1,6 +1,6 @@
 -- A proxy in order: its turn and its reset may be made, and what each keeps, from the conversation that it ran.
 use Rattle.laws_device.specs.Carried.Streamed.{ports_of}
-use Rattle.std.{proofs.Common.{[], ℕ, ◌<◌, ◌^◌, List, Result, ◌≡◌, refl, sym, subst}, specs.Option.ForSome}
+use Rattle.std.{proofs.Common.{[], ℕ, ◌<◌, ◌≤◌, ◌^◌, List, Result, ◌≡◌, refl, sym, subst}, specs.Option.ForSome}
 use Rattle.vs_ring_port.specs.declared.failure.Failure.{Failure}
 use Rattle.vs_device_parts.specs.{Calls.{Allows, Situation}, Playing.{CanMake, MayRun, Runs}}
 use Rattle.laws_device.{specs.{Named.{Split.CanReach, Streams.FindsStreams}, Honest.IsFresh, Carried.Streamed.IsStreamed}, proofs.Named.Conditions.{may_where, quiet_can}}

@@ -1,11 +1,10 @@
 -- The flow that a client's connection gets is one of the device's own, and the table takes it.
-use Rattle.std.proofs.Common.{◌≡◌, ℕ, ◌+◌, ◌<◌, ◌≤◌, ◌^◌, ◌||◌, nat_le, Bool, true, false, cond, List, [], ◌∷◌, Option, Some, None, refl, sym, ap, subst, ◌∙◌, arith, inl, inr}
+use Rattle.std.proofs.Common.{◌≡◌, ℕ, ◌<◌, ◌≤◌, ◌^◌, ◌||◌, nat_le, Bool, true, false, cond, List, [], ◌∷◌, Option, Some, None, refl, sym, ap, subst, ◌∙◌, arith, inl, inr}
 use Rattle.std.{proofs.lemmas.{Bool.Decides.nat_tests, List.Elements.All-tail}, specs.List.{All, find}}
 use Rattle.vs_flow.specs.{CleanPairs.{comes_from, oldest}, Flow.{host_flow, is_assigned, same_flow}, Table.{IsTable, Table, entry_of, has_place, refusal}, declared.flow.Flow.Flow}
-use Rattle.vs_flow.proofs.Entries.{found_passes, same_flow_true}
+use Rattle.vs_flow.proofs.Entries.{same_flow_true}
 use Rattle.vs_limits.specs.declared.TheConstants.{ASSIGNED_FIRST, ASSIGNED_LAST}
-use Rattle.laws_history.specs.History.{Asker}
-use Rattle.vs_page.{specs.Log.{Device, side_by, side_of}, proofs.Flows.same_self}
+use Rattle.vs_page.{specs.Log.{Device, side_by}, proofs.Flows.same_self}
 use Rattle.vs_ring_port.specs.EndLog.{EndLog}
 use Rattle.laws_tables.{specs.{Ends.{ends_of, entries_of, is_among}, Steps.port_after}, proofs.Slots.{found_by, one_end}}
 use Rattle.vs_device_parts.specs.State.{DeviceConnection, DeviceEntry, DeviceState}
@@ -101,7 +100,7 @@ module _ (carry : Carried) (first port : ℕ) (s : DeviceState) (guest : ℕ) (f
         port_is = onward;
       })
     where
-      own : (b : Bool) → side_by Device b ≡ Asker → b ≡ true
+      own : (b : Bool) → side_by Device b ≡ side_by Device true → b ≡ true
       own true is = refl
       own false is = absurd cc
 

@@ -5,13 +5,13 @@ use Rattle.vs_proxy_parts.specs.Handshakes.{next_after}
 use Rattle.vs_proxy_parts.specs.Handshakes.{next_flow}
 use Rattle.laws_device.specs.Carried.Streamed.{Ports}
 use Rattle.laws_device.specs.Carried.Streamed.{ports_of}
-use Rattle.vs_flow.{proofs.Tables.accepted, specs.{Flow.{host_flow, is_assigned}, Table.{refusal, Table}, declared.{flow.Flow.Flow, table.TableFault.TableFault}}}
-use Rattle.std.proofs.{Common.{inl, ◌≡◌, ℕ, ◌+◌, ◌≤◌, Bool, true, false, List, ◌++◌, Some, None, refl, sym, ap, subst, arith, ◌≢◌, ◌∙◌, ◌∷◌, []}, lemmas.Bool.Decides.nat_tests}
+use Rattle.vs_flow.{proofs.Tables.accepted, specs.{Table.{refusal, Table}, declared.{flow.Flow.Flow, table.TableFault.TableFault}}}
+use Rattle.std.proofs.{Common.{◌≡◌, ℕ, ◌≤◌, Bool, true, false, List, ◌++◌, Some, None, sym, ap, subst, ◌≢◌, ◌∙◌, ◌∷◌, []}}
 use Rattle.std.specs.{List.All, Option.ForSome}
-use Rattle.vs_limits.specs.declared.TheConstants.{ASSIGNED_LAST, ASSIGNED_FIRST}
+use Rattle.vs_limits.specs.declared.TheConstants.{ASSIGNED_FIRST}
 use Rattle.vs_outside.specs.{Host.{HostContents, accept_answer, after_accept, after_close, after_label, after_read, called}, declared.host_net.Accepted.Accepted}
 use Rattle.vs_outside.specs.{declared.host_net.StreamRead.StreamRead, HostBytes.after_line}
-use Rattle.vs_page.specs.Log.{Device, side_by, Log}
+use Rattle.vs_page.specs.Log.{Log}
 use Rattle.vs_uds.{proofs.Decided.port_fits, specs.ConnectLine.connect_step}
 use Rattle.vs_device_parts.specs.{Calls.{Accept, Allows, CloseStream, HostMoves, IsReadOf, Label, ReadStream, Situation}, Connections.with_client, State.DeviceState}
 use Rattle.vs_device_parts.specs.State.{DeviceConnection}

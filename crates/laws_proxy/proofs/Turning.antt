@@ -1,6 +1,6 @@
 -- A turn, stage by stage, and a reset.
 use Rattle.laws_device.specs.Carried.Streamed.{ports_of}
-use Rattle.std.proofs.Common.{ℕ, ◌<◌, ◌^◌, false, List, [], ◌∷◌, map, Result, Ok, Err, arith, ◌≤◌}
+use Rattle.std.proofs.Common.{ℕ, ◌<◌, ◌^◌, false, List, [], ◌∷◌, map, Result, Ok, Err, ◌≤◌}
 use Rattle.vs_contents.specs.CallTree.{Done, for_each}
 use Rattle.vs_limits.specs.declared.TheConstants.{ASSIGNED_FIRST}
 use Rattle.vs_ring_port.specs.{Contents.RingContents, declared.failure.Failure.Failure}

@@ -5,10 +5,9 @@ use Rattle.laws_device.proofs.Carried.{Hands.{without_after, without_all, withou
 use Rattle.laws_proxy.specs.Account.{Made.{Account, Made, MayGet, account_of, is_of, made, new_account, payload_put, payload_taken, shut, with_taken}, Tied.IsWhole}
 use Rattle.laws_proxy.{specs.Account.Tied.reading_account, proofs.Account.{Closing.{D, Has}, Keeping.asking, Opening.{opens, waits_unlabelled}, Accounts.{Changes, changes, comes}}}
 use Rattle.laws_proxy.proofs.Account.Entries.{hands_changed, taken_tied, waiting_kept}
-use Rattle.std.proofs.Common.{◌≡◌, ◌≢◌, ℕ, subst, get_or, ◌≤◌, nat_le, ◌==◌, Bool, true, false, cond, List, [], ◌∷◌, ◌++◌, length, Option, Some, None, refl, sym, ap, ◌∙◌, arith}
-use Rattle.std.{proofs.lemmas.{Bool.{and_parts, Decides.nat_tests}, List.{Elements.All-push, Quantifiers.all_pairs_push, append-nil}}, specs.List.All}
-use Rattle.vs_flow.{specs.{Flow.host_flow, Table.has_place, declared.flow.Flow.Flow}, proofs.{Entries.All_at, Lookups.find_place}}
-use Rattle.vs_limits.specs.declared.TheConstants.{ASSIGNED_LAST}
+use Rattle.std.proofs.Common.{◌≡◌, ◌≢◌, ℕ, subst, get_or, ◌≤◌, ◌==◌, Bool, true, false, cond, List, [], ◌∷◌, ◌++◌, length, Option, Some, None, refl, sym, ap, ◌∙◌, arith}
+use Rattle.std.{proofs.lemmas.{List.{Elements.All-push, Quantifiers.all_pairs_push, append-nil}}, specs.List.All}
+use Rattle.vs_flow.{specs.{declared.flow.Flow.Flow}, proofs.{Entries.All_at, Lookups.find_place}}
 use Rattle.vs_outside.specs.declared.host_net.{Accepted.Accepted, StreamRead.StreamRead}
 use Rattle.vs_uds.specs.{ConnectLine.{connect_port, connect_step}, declared.connect.TheConstants.CONNECT_MAX, Reading.{is_decided, port_or_bad}}
 use Rattle.vs_proxy_parts.specs.{Handshakes.{with_line, without_stream}, State.Handshake}

@@ -3,7 +3,6 @@ use Rattle.std.proofs.Common.{◌≡◌, ℕ, ◌+◌, ◌≤◌, ◌==◌, Bool
 use Rattle.std.{proofs.lemmas.List.append-nil, specs.Option.{option_map, option_map_or}}
 use Rattle.vs_contents.specs.{CallTree.{Done, Ask, Leads}, Contents.Exposes}
 use Rattle.vs_flow.specs.{declared.flow.Flow.Flow, Table.Table}
-use Rattle.vs_limits.specs.declared.TheConstants.{ASSIGNED_LAST}
 use Rattle.vs_header.specs.declared.TheConstants.{HEADER_LEN}
 use Rattle.vs_outside.specs.Host.{HostContents, Stream, accept_answer, after_accept, after_close, after_dial, after_failed, after_label, after_read, after_shut_write, after_write}
 use Rattle.vs_outside.specs.Host.{called, dial_answer, dialed_stream, fails_now, give_bytes, is_listened, stream_at, take_bytes, waits, IsDialed, IsWritten, with_label_call}
@@ -91,7 +90,7 @@ module _ (c : HostContents) (calls : List Made) (shows : Shows (account_of calls
             (λ st at in_it.
             let s : ShowsIn st None = subst (ShowsIn st) none in_it in
             subst (ShowsIn (record st { state = state.Open })) (sym ch.here)
-            (refl, s.0, s.1, s.2, (λ flow client label. absurd cc), s.3, refl)),
+            (refl, s.0, s.1, s.2, s.3, refl)),
       )
 
   pub dial_shows : (path : List ℕ) (flow : Flow) (a : Dialed) → IsDialed path a c → Shown (Dial path flow) a (after_dial flow a c)
@@ -244,7 +243,7 @@ step_told (Dial path flow) a old new h calls P asks is shows allowed =
     after_told (Dial path flow) a old new h calls (IsDialed path a) (after_dial flow a) is allowed.host (dial_shows h calls shows path flow a)
 step_told (Label stream flow) a old new h calls P asks is shows allowed =
     after_told (Label stream flow) a old new h calls (λ c. Unit {0}) (after_label stream flow) is allowed.host
-    (λ e. label_shows h calls shows stream flow a asks.1 asks.0)
+    (λ e. label_shows h calls shows stream flow a asks.0)
 step_told (ReadStream stream n) a old new h calls P asks is shows allowed =
     after_told (ReadStream stream n) a old new h calls (IsReadOf stream n a) (after_read stream a.0) is allowed.0.host
     (λ e. read_shows h calls shows stream n a.0 a.1 e allowed.1 asks.0)

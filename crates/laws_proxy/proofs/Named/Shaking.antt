@@ -3,7 +3,7 @@ use Rattle.laws_device.proofs.{Walk.{Turning.{AfterAccept, AfterByte, AfterLine,
 use Rattle.laws_device.{proofs.Named.{Keeping.{asking, Keeps}, Opening.keeps_open, Writing.all_stay}, specs.{Walk.Seen.Seen, Named.Split.{CanReach, is_quiet}}}
 use Rattle.laws_device.specs.Named.Streams.{FindsStreams, HasStreams, IsFree}
 use Rattle.std.{proofs.Common.{Result, Ok, Err, ◌≡◌, ℕ, Bool, true, List, [], ◌∷◌, ◌++◌, Option, Some, None, Contains, refl, sym, subst}, specs.Option.ForSome}
-use Rattle.vs_flow.specs.{Table.refusal, declared.{table.TableFault.TableFault, flow.Flow.Flow}, Flow.host_flow}
+use Rattle.vs_flow.specs.{Table.refusal, declared.{table.TableFault.TableFault, flow.Flow.Flow}}
 use Rattle.vs_ring_port.specs.declared.device_ring.Chain.{Chain}
 use Rattle.vs_device_parts.specs.{Calls.{Label, Accept, Call, CloseStream, ReadStream, Situation, Allows}, Connections.with_client, State.DeviceState}
 use Rattle.laws_proxy.proofs.Named.{Lists.{found_on, ids, ids-push, ids-with_line, left_among, left_apart, not_left}, Hosts.{has_accepted, has_dropped, has_of, is_free}}

@@ -1,8 +1,7 @@
 -- A host in memory, and the accounts of its streams.
-use Rattle.std.specs.{Prelude.{◌≡◌, ◌≢◌, ℕ, ◌≤◌, ◌++◌, true, false, List, [], Option, Some, None}, List.All}
+use Rattle.std.specs.{Prelude.{◌≡◌, ◌≢◌, ℕ, ◌++◌, true, false, List, [], Option, Some, None}, List.All}
 use Rattle.vs_contents.specs.CallTree.{Leads}
-use Rattle.vs_flow.specs.{declared.flow.Flow.Flow, Table.Table}
-use Rattle.vs_limits.specs.declared.TheConstants.{ASSIGNED_LAST}
+use Rattle.vs_flow.specs.{Table.Table}
 use Rattle.vs_outside.specs.Host.{HostContents, Stream, stream_at, waits}
 use Rattle.vs_device_parts.specs.{Calls.DeviceTree, State.DeviceConnection}
 use Rattle.vs_proxy_parts.specs.State.{Handshake}
