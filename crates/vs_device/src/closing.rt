@@ -2,13 +2,13 @@
 
 ghost use Rattle.std.specs.Prelude.{◌≡◌, ◌&&◌, Some};
 ghost use Rattle.vs_flow.specs.{Flow.is_assigned, Table.entry_under};
-ghost use Rattle.vs_device_parts.specs.{Connections.{cut_off, keeping, stream_closed, with_connection}, Playing.{MayClose, RunsOnHost}, State.{DeviceConnection, DeviceEntry, DeviceState}};
+ghost use Rattle.vs_device_parts.specs.{Connections.{cut_off, kept_if, stream_closed, with_connection}, Playing.{MayClose, RunsOnHost}, State.{DeviceConnection, DeviceEntry, DeviceState}};
 ghost use Rattle.vs_device_parts.specs.Streams.{closing, leaving};
 
 use crate::device::Device;
 use vs_device_parts::connection::Connection;
 use vs_device_parts::host_calls::close;
-use vs_flow::{Slot, is_assigned};
+use vs_flow::{CleanPairs, Flow, Slot, is_assigned};
 use vs_outside::HostNet;
 
 impl Device {
@@ -39,22 +39,13 @@ impl Device {
         ensures calls { (e : DeviceEntry) → entry_under self.old.table slot ≡ Some e → (c : DeviceConnection) → c.closed ≡ e.value.closed → c.stream ≡ e.value.stream → RunsOnHost (leaving (cleanly && is_assigned e.flow.host) (record e { value = c }) self.old) (H.contents host.old) (H.faults host.old) self.new (H.contents host.new) (H.faults host.new) }
         ensures chain { self.new.chain ≡ self.old.chain }
     {
-        self.close_stream(host, slot);
-        self.keep_own(slot, cleanly);
-        self.slots.leave(slot);
-        self.closed = self.closed.saturating_add(1);
-    }
-
-    // Keeps the flow of the connection in a slot to be used again, where it ended cleanly and a client of the host opened it.
-    fn keep_own(&mut self, slot: Slot, cleanly: bool)
-        ensures { (e : DeviceEntry) → entry_under self.old.table slot ≡ Some e → self.new ≡ keeping (cleanly && is_assigned e.flow.host) e.flow self.old }
-    {
         let Some(flow) = self.slots.flow_of(slot) else {
             return;
         };
-        if cleanly && is_assigned(flow.host) {
-            self.clean.keep(flow);
-        }
+        self.close_stream(host, slot);
+        keep_own(&mut self.clean, cleanly, flow);
+        self.slots.leave(slot);
+        self.closed = self.closed.saturating_add(1);
     }
 
     // Closes the stream of the connection in a slot, where it isn't closed yet. The connection doesn't know of it.
@@ -66,6 +57,15 @@ impl Device {
             return;
         };
         close_unless_closed(host, connection);
+    }
+}
+
+// Keeps the flow of a connection that a client of the host opened, where it ended cleanly.
+fn keep_own(clean: &mut CleanPairs, cleanly: bool, flow: Flow)
+    ensures { clean.new ≡ kept_if (cleanly && is_assigned flow.host) flow clean.old }
+{
+    if cleanly && is_assigned(flow.host) {
+        clean.keep(flow);
     }
 }
 
