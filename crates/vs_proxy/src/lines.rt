@@ -155,13 +155,12 @@ impl Proxy {
         ensures chain { self.new.device.chain ≡ self.old.device.chain }
         ensures calls { RunsOnHost (connecting stream port (turning_of self.old tally.old)) (H.contents host.old) (H.faults host.old) (turning_of self.new tally.new) (H.contents host.new) (H.faults host.new) }
     {
-        match self.next_flow(port) {
-            Some(flow) => {
-                let _slot = self.device.open(host, flow, stream);
-                self.next_port = next_after(self.next_port);
-            }
-            None => close_client(host, stream, tally),
-        }
+        let Some(flow) = self.next_flow(port) else {
+            close_client(host, stream, tally);
+            return;
+        };
+        let _slot = self.device.open(host, flow, stream);
+        self.next_port = next_after(self.next_port);
     }
 
     // The flow of the next connection to a guest port: `None` comes where the table is full, and where the last host port was given and no
