@@ -1,10 +1,12 @@
 -- What filling the receive queue keeps, part by part.
-use Rattle.laws_device.proofs.Tabling.{has_end}
-use Rattle.laws_tables.specs.Ends.{is_among}
-use Rattle.vs_ring_port.specs.EndLog.{EndLog}
-use Rattle.laws_device.proofs.Seats.{LeftBy}
-use Rattle.laws_device.proofs.Seats.{AgreesBy}
-use Rattle.laws_device.specs.Carried.Streamed.{ports_of}
+use Rattle.laws_device.proofs.{Tabling.{has_end, entry_fits}, Seats.{LeftBy, AgreesBy, Carried}, Carrying.{Fact, IsHeldBy, StreamedOver, With, closed_held, fact_called, put_goes}}
+use Rattle.laws_device.proofs.{Carrying.{streams_call, streams_go}, Changing.{cuts, shuts, wants, same}, Keeping.{Goes, Keeps, asking, Lets, keeps_bind, keeps_each, keeps_then}}
+use Rattle.laws_device.proofs.{Keeping.keeps_while, Putting.{Puts, owed_puts, reply_puts, rst_puts, send_puts}, Steps.{Filled, Open, changed, closing_keeps, cut_with, goes_on}}
+use Rattle.laws_device.proofs.{Steps.{hold_keeps, open_filled, called_with}, Writing.{writes_first, written_keeps}, Walk.Keeping.{keeps_if, keeps_some}, Carried.Changing.MayFollow}
+use Rattle.laws_device.proofs.Carried.Changing.{asks_streams, called_host, closes_streams, ends_streams, leaves_streams, put_empty, reads_streams, shuts_streams}
+use Rattle.laws_device.{proofs.Carried.{Tabled.value_contained, Gives.pays_gives}, specs.{Carried.Streamed.{ports_of, IsStreamed}, Honest.IsFitState}}
+use Rattle.laws_tables.{specs.{Ends.{is_among, is_new}, Steps.payload_on}, proofs.{Keeps.owed_old, Slots.found_by}}
+use Rattle.vs_ring_port.specs.{EndLog.EndLog, declared.{device_ring.Chain.Chain, failure.Failure.Failure}}
 use Rattle.std.proofs.Common.{◌≡◌, ℕ, ◌+◌, ◌≤◌, ◌==◌, ◌&&◌, ◌||◌, not, Bool, true, false, cond, if◌then◌else◌, List, [], ◌∷◌, length, Contains, Option, Some, None, Result, Ok, Err}
 use Rattle.std.proofs.{Common.{refl, sym, subst, ◌∙◌, arith, IfSome, IsOkAnd, inl, inr}, lemmas.Grind.common_steps}
 use Rattle.vs_contents.specs.CallTree.{Ask, Done, bind, for_each, while_up_to}
@@ -15,19 +17,11 @@ use Rattle.vs_flow.specs.Table.{IsTable, entry_under, slots, with_value}
 use Rattle.vs_header.specs.declared.Header.{Header}
 use Rattle.vs_outside.specs.{declared.host_net.StreamRead.StreamRead, Host.{HostContents, after_close, after_read, called}}
 use Rattle.vs_replies.specs.declared.Reply.{Reply}
-use Rattle.vs_ring_port.specs.declared.{device_ring.Chain.Chain, failure.Failure.Failure}
-use Rattle.laws_tables.{specs.{Ends.is_new, Steps.payload_on}, proofs.{Keeps.owed_old, Slots.found_by}}
 use Rattle.laws_history.specs.Packets.{is_request}
 use Rattle.vs_device_parts.specs.{Connections.{after_leaving, after_shut, cut_off, route_to_guest, stream_closed, with_connection, with_fault}, Receiving.{Filling, after_paying}}
 use Rattle.vs_device_parts.specs.Receiving.{fill_rx_of, filled_of, hold, may_read, put_on, put_owed, put_packet, put_payload, put_reply, put_reply_of, read_answered, read_room}
 use Rattle.vs_device_parts.specs.{Receiving.{read_stream, read_with_chain, reply_header, round_from, serve_slot}, Calls.{DeviceTree, IsReadOf, ReadStream, Situation}}
 use Rattle.vs_device_parts.specs.{Streams.closing, Playing.IsRxChain, State.{DeviceConnection, DeviceEntry, DeviceState}, declared.answers.Filled.Filled as FilledAnswer}
-use Rattle.laws_device.proofs.{Carrying.{Fact, IsHeldBy, StreamedOver, With, closed_held, fact_called, put_goes, streams_call, streams_go}, Changing.{cuts, shuts, wants, same}}
-use Rattle.laws_device.proofs.{Keeping.{Goes, Keeps, asking, Lets, keeps_bind, keeps_each, keeps_then, keeps_while}, Putting.{Puts, owed_puts, reply_puts, rst_puts, send_puts}}
-use Rattle.laws_device.proofs.{Steps.{Filled, Open, changed, closing_keeps, cut_with, goes_on, hold_keeps, open_filled, called_with}, Seats.Carried, Writing.writes_first}
-use Rattle.laws_device.proofs.{Writing.written_keeps, Walk.Keeping.{keeps_if, keeps_some}, Carried.Changing.{MayFollow, asks_streams, called_host, closes_streams, ends_streams}}
-use Rattle.laws_device.proofs.{Carried.{Changing.{leaves_streams, put_empty, reads_streams, shuts_streams}, Tabled.value_contained, Gives.pays_gives}, Tabling.entry_fits}
-use Rattle.laws_device.specs.{Honest.IsFitState, Carried.Streamed.IsStreamed}
 use Rattle.vs_proxy_parts.specs.State.{Handshake}
 use Rattle.vs_page.specs.{Fair.IsFairLog, Log.{Log, Device, flow_to_guest}, declared.log.LogEntry.TheVariants.PutPacket}
 use Rattle.vs_limits.specs.declared.TheConstants.{OWED_MAX}

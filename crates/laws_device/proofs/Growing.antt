@@ -1,5 +1,7 @@
 -- The buffer space of a connection is raised: no packet passes, and no call is made.
-use Rattle.laws_device.specs.Carried.Streamed.{ports_of}
+use Rattle.laws_device.{specs.{Carried.Streamed.ports_of, Honest.IsWith, Named.Streams.HasStreams, Streams.AreStreamedWith}, proofs.Carrying.{With, held_with, plain_with}}
+use Rattle.laws_device.proofs.{Carrying.{ring_and_host, ring_only, with_ring, with_streams}, Changing.grows, Carried.Changing.ends_streams, Named.Tables.entry_by_slot}
+use Rattle.laws_device.proofs.{Named.Tables.{has_changed, value_by_entry}, Steps.changed, Seats.Carried, Walk.Serving.by_slot}
 use Rattle.std.proofs.Common.{◌≡◌, ℕ, List, [], Option, Some, None, refl}
 use Rattle.vs_conn.specs.End.{grown}
 use Rattle.vs_flow.specs.Table.{entry_under}
@@ -8,9 +10,6 @@ use Rattle.vs_ring_port.specs.Contents.{RingContents}
 use Rattle.vs_device_parts.specs.{Calls.Situation, Growing.{after_grow, entry_grow_answer, grow_of, grown_by}, State.{DeviceEntry, DeviceState}, Playing.situation}
 use Rattle.vs_device_parts.{specs.declared.answers.Grown.Grown, proofs.Growing.may_grow}
 use Rattle.vs_proxy_parts.specs.State.{Handshake}
-use Rattle.laws_device.{specs.{Honest.IsWith, Named.Streams.HasStreams, Streams.AreStreamedWith}, proofs.Carrying.{With, held_with, plain_with, ring_and_host, ring_only}}
-use Rattle.laws_device.proofs.{Carrying.{with_ring, with_streams}, Changing.grows, Carried.Changing.ends_streams, Named.Tables.{entry_by_slot, has_changed, value_by_entry}}
-use Rattle.laws_device.proofs.{Steps.changed, Seats.Carried, Walk.Serving.by_slot}
 use Rattle.vs_device_parts.specs.declared.answers.Grown.TheVariants as rise
 
 module _ (slot alloc : ℕ) (s : DeviceState) where

@@ -1,10 +1,14 @@
 -- What the device keeps as it takes a packet, whose page stands in the log: each verdict, and each end of a REQUEST.
-use Rattle.laws_device.proofs.Carried.Changing.{keeps_streams}
-use Rattle.vs_device_parts.specs.Transmitting.{keeps_flow}
-use Rattle.vs_device_parts.specs.Connections.{keeping}
-use Rattle.vs_device_parts.specs.Connections.{kept_if}
-use Rattle.laws_device.specs.Carried.Streamed.{Ports}
-use Rattle.laws_device.specs.Carried.Streamed.{ports_of}
+use Rattle.laws_device.proofs.Carried.Changing.{keeps_streams, accepts_streams, called_host, closes_streams, delivered_rw, delivers_streams, dialed_id, empty_streams, failed_host}
+use Rattle.laws_device.proofs.Carried.{Changing.{hears_streams, leaves_streams, passes_streams, payload_in, reset_empty, unknown_streams}, Counted.request_empty, Streamed.join_of}
+use Rattle.laws_device.proofs.{Carried.Opens.dial_host, Ringing.{Tells, moves, tells_weaker, host_moves, Telling, bytes_held}, Taking.{drops_it, has_its_room, ignores_it}}
+use Rattle.laws_device.proofs.{Taking.{leaves_with, opens, replies_to, stays_with}, Tabling.{IsFitConnection, begun_fits, entry_fits, has_end}, Carrying.{Fact, Closes}}
+use Rattle.laws_device.proofs.{Carrying.{StreamedOver, streams_call, streams_go}, Chains.Behind, Seats.{AgreesBy, Carried, LeftBy, seat}, Fits.{delivered, fewer, fits_after}}
+use Rattle.laws_device.{proofs.{Keeping.{Keeps, asking, Lets, keeps_bind}, Steps.closing_keeps, Walk.Keeping.{keeps_if, keeps_some}}, specs.Carried.Streamed.{Ports, ports_of}}
+use Rattle.laws_device.specs.{Carried.Streamed.{IsStreamed, count_in, gives, look}, Honest.{HoldsBytes, ends_of_state}}
+use Rattle.vs_device_parts.specs.{Transmitting.{keeps_flow, dial_answered, heard, on_known, on_packet, on_unknown, refused, unknown_why}, Connections.{keeping, kept_if}}
+use Rattle.vs_device_parts.specs.{Connections.{after_leaving, stream_closed, with_connection, with_dialed, with_fault, with_reply}, Calls.{DeviceTree, Dial, HostMoves, Situation}}
+use Rattle.vs_device_parts.specs.{State.{DeviceConnection, DeviceEntry, DeviceState}, Streams.{closing, leaving}}
 use Rattle.std.proofs.Common.{◌≡◌, ℕ, ◌+◌, ◌≤◌, ◌==◌, ◌&&◌, Bool, true, false, cond, List, [], ◌∷◌, ◌++◌, length, take, drop, Contains, Option, Some, None, refl, sym, ap, subst}
 use Rattle.std.proofs.{Common.{◌∙◌, arith, length-append, length-take, get_or, inl, inr}, lemmas.{Bool.Decides.nat_tests, Grind.common_steps, List.get_or_default}}
 use Rattle.std.specs.List.{All}
@@ -19,17 +23,7 @@ use Rattle.vs_page.specs.declared.log.LogEntry.TheVariants.{GotPacket}
 use Rattle.vs_replies.specs.Owed.{reply_to}
 use Rattle.vs_ring_port.specs.{Chains.bytes_in, EndLog.EndLog, declared.device_ring.Chain.Chain}
 use Rattle.laws_tables.{specs.{Ends.is_new, Steps.{is_overrun, HasEnd}, Heard.heard_of}, proofs.{Slots.found_by, Fair.{got_goes_on, got_one}, OnFlow.follows_old}}
-use Rattle.vs_device_parts.specs.{Calls.{DeviceTree, Dial, HostMoves, Situation}, Connections.{after_leaving, stream_closed, with_connection, with_dialed, with_fault, with_reply}}
-use Rattle.vs_device_parts.specs.{Transmitting.{dial_answered, heard, on_known, on_packet, on_unknown, refused, unknown_why}, State.{DeviceConnection, DeviceEntry, DeviceState}}
-use Rattle.vs_device_parts.specs.Streams.{closing, leaving}
 use Rattle.vs_wrap.specs.Wrap.{counted}
-use Rattle.laws_device.proofs.{Ringing.{Tells, moves, tells_weaker, host_moves, Telling, bytes_held}, Taking.{drops_it, has_its_room, ignores_it, leaves_with, opens, replies_to}}
-use Rattle.laws_device.proofs.{Taking.stays_with, Tabling.{IsFitConnection, begun_fits, entry_fits, has_end}, Carrying.{Fact, Closes, StreamedOver, streams_call, streams_go}}
-use Rattle.laws_device.proofs.{Chains.Behind, Seats.{AgreesBy, Carried, LeftBy, seat}, Fits.{delivered, fewer, fits_after}, Keeping.{Keeps, asking, Lets, keeps_bind}}
-use Rattle.laws_device.proofs.{Steps.closing_keeps, Walk.Keeping.{keeps_if, keeps_some}, Carried.Changing.{accepts_streams, called_host, closes_streams, delivered_rw}}
-use Rattle.laws_device.proofs.Carried.Changing.{delivers_streams, dialed_id, empty_streams, failed_host, hears_streams, leaves_streams, passes_streams, payload_in, reset_empty}
-use Rattle.laws_device.{proofs.Carried.{Changing.unknown_streams, Counted.request_empty, Streamed.join_of, Opens.dial_host}, specs.Honest.{HoldsBytes, ends_of_state}}
-use Rattle.laws_device.specs.Carried.Streamed.{IsStreamed, count_in, gives, look}
 use Rattle.vs_proxy_parts.specs.State.{Handshake}
 use Rattle.vs_uds.specs.OkLine.{ok_text}
 use Rattle.vs_conn.specs.declared.end.Verdict.TheVariants as verdict

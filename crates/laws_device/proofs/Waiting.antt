@@ -1,6 +1,7 @@
 -- The device's table by the log and by the host's streams.
-use Rattle.laws_device.specs.Carried.Streamed.{Ports}
-use Rattle.laws_device.specs.Carried.Streamed.{ports_of}
+use Rattle.laws_device.specs.Carried.Streamed.{Ports, ports_of, IsJoined, IsStreamed, Seen, client_waits, connection_in, connection_of, count_in, look, seen}
+use Rattle.laws_device.{specs.{Streams.{AreStreamedWith, IsTabledWith, has_open_stream, is_open_in, is_open_on}, Honest.IsWith}, proofs.Carried.Closing.{is_under, named}}
+use Rattle.laws_device.proofs.{Carried.{HostCalls.some_seen, Hosts.{label_here, label_there, there}}, Shown.{left_open, same_flows}}
 use Rattle.std.proofs.Common.{◌≡◌, ℕ, zero, suc, ◌+◌, ◌-◌, ◌<◌, ◌==◌, ◌&&◌, ◌||◌, Bool, true, false, cond, List, [], ◌∷◌, length, map, Contains, slice_get, slice_index_or, Option}
 use Rattle.std.{proofs.{Common.{Some, None, refl, sym, ap, subst, ◌∙◌, arith}, lemmas.{Bool.{Decides.nat_tests, and_parts}, List.Elements.All-contains}}, specs.List.list_any}
 use Rattle.std.specs.Option.{option_map, option_map_or}
@@ -11,9 +12,6 @@ use Rattle.vs_outside.specs.{Host.{HostContents, Stream, stream_at, waits}, Host
 use Rattle.vs_page.{specs.Log.Log, proofs.Flows.same_self}
 use Rattle.vs_proxy_parts.specs.State.{Handshake}
 use Rattle.laws_tables.{specs.Ends.{FlowEnd, flows_of, is_among, is_new, is_new_in, new_flows}, proofs.Slots.found_by}
-use Rattle.laws_device.specs.{Carried.Streamed.{IsJoined, IsStreamed, Seen, client_waits, connection_in, connection_of, count_in, look, seen}, Streams.AreStreamedWith}
-use Rattle.laws_device.{specs.{Streams.{IsTabledWith, has_open_stream, is_open_in, is_open_on}, Honest.IsWith}, proofs.Carried.{Closing.{is_under, named}, HostCalls.some_seen}}
-use Rattle.laws_device.proofs.{Carried.Hosts.{label_here, label_there, there}, Shown.{left_open, same_flows}}
 use Rattle.vs_outside.specs.declared.host_net.StreamState.TheVariants as state
 
 -- A test that an element passes, and one that passes.

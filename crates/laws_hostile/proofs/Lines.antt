@@ -163,14 +163,15 @@ plain_glyph d = grind (arith, nat_tests)
 
 plain_digits : (k n : ℕ) (acc : List ℕ) → has_line acc ≡ false → has_line (digits_onto k 10 false n acc) ≡ false
 plain_digits zero n acc none = none
-plain_digits (suc k) n acc none = by (n / 10 == 0)
+plain_digits (suc k) n acc none =
+    let one : has_line (digit_glyph false (n % 10) ∷ acc) ≡ false = rw (plain_glyph (n % 10)) none in
+    by (n / 10 == 0) one (plain_digits k (n / 10) (digit_glyph false (n % 10) ∷ acc) one)
   where
-    one : has_line (digit_glyph false (n % 10) ∷ acc) ≡ false
-    one = rw (plain_glyph (n % 10)) none
-
-    by : (b : Bool) → has_line (cond b (digit_glyph false (n % 10) ∷ acc) (digits_onto k 10 false (n / 10) (digit_glyph false (n % 10) ∷ acc))) ≡ false
-    by true = one
-    by false = plain_digits k (n / 10) (digit_glyph false (n % 10) ∷ acc) one
+    by : (b : Bool) → has_line (digit_glyph false (n % 10) ∷ acc) ≡ false
+        → has_line (digits_onto k 10 false (n / 10) (digit_glyph false (n % 10) ∷ acc)) ≡ false
+        → has_line (cond b (digit_glyph false (n % 10) ∷ acc) (digits_onto k 10 false (n / 10) (digit_glyph false (n % 10) ∷ acc))) ≡ false
+    by true one rest = one
+    by false one rest = rest
 
 ok_front : (port : ℕ) → has_line (codes "OK " ++ decimal port) ≡ false
 unfolding digits

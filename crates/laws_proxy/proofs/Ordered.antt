@@ -1,11 +1,10 @@
 -- A proxy in order: its turn and its reset may be made, and what each keeps, from the conversation that it ran.
-use Rattle.laws_device.specs.Carried.Streamed.{ports_of}
+use Rattle.laws_device.{specs.{Carried.Streamed.{ports_of, IsStreamed}, Named.{Split.CanReach, Streams.FindsStreams}, Honest.IsFresh}, proofs.Named.Conditions.may_where}
+use Rattle.laws_device.proofs.{Named.{Conditions.quiet_can, Keeping.{keeps_may, keeps_end as streams_end}, Opening.new_has}, Carrying.{ring_and_host, ring_only}, Keeping.keeps_end}
+use Rattle.laws_device.proofs.{Keeping.keeps_put, Carried.Changing.no_streams}
 use Rattle.std.{proofs.Common.{[], ℕ, ◌<◌, ◌≤◌, ◌^◌, List, Result, ◌≡◌, refl, sym, subst}, specs.Option.ForSome}
 use Rattle.vs_ring_port.specs.declared.failure.Failure.{Failure}
 use Rattle.vs_device_parts.specs.{Calls.{Allows, Situation}, Playing.{CanMake, MayRun, Runs}}
-use Rattle.laws_device.{specs.{Named.{Split.CanReach, Streams.FindsStreams}, Honest.IsFresh, Carried.Streamed.IsStreamed}, proofs.Named.Conditions.{may_where, quiet_can}}
-use Rattle.laws_device.proofs.{Named.{Keeping.{keeps_may, keeps_end as streams_end}, Opening.new_has}, Carrying.{ring_and_host, ring_only}, Keeping.{keeps_end, keeps_put}}
-use Rattle.laws_device.proofs.Carried.Changing.{no_streams}
 use Rattle.vs_proxy_parts.specs.{Turns.{new_proxy_at, proxy_reset_of, turn_of}, Handshakes.streams_of, State.ProxyState, declared.answers.Turn.Turn}
 use Rattle.laws_proxy.proofs.{Named.{Lists.none_open, Turning.{keeps_proxy_reset, keeps_turn}}, Turning.{new_proxy_with, proxy_reset_keeps, turn_keeps, plain_proxied}}
 use Rattle.laws_proxy.{proofs.Turning.{proxied_ring, proxied_streams, streamed_proxied}, specs.{Honest.{IsProxyWith, IsProxyStreamed}, Order.IsInOrder}}

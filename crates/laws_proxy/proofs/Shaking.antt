@@ -1,13 +1,14 @@
 -- Handshakes make no call on the ring. A whole line opens a connection under the next host port.
 use Rattle.vs_ring_port.specs.EndLog.{EndLog}
-use Rattle.laws_device.proofs.Seats.{AgreesBy}
-use Rattle.vs_proxy_parts.specs.Handshakes.{next_after}
-use Rattle.vs_proxy_parts.specs.Handshakes.{next_flow}
-use Rattle.laws_device.specs.Carried.Streamed.{Ports}
-use Rattle.laws_device.specs.Carried.Streamed.{ports_of}
+use Rattle.laws_device.proofs.{Seats.{AgreesBy, Carried}, Walk.Turning.{AfterAccept, AfterByte, IsOn, Shakes, keeps_accept_one, keeps_read_byte, keeps_tick_handshake}}
+use Rattle.laws_device.proofs.{Keeping.{Goes, Keeps, asking, keeps_weaker}, Carrying.{Fact, fact_called, fact_goes, IsHeldBy, IsToldBy, StreamedOver, With, streams_call}}
+use Rattle.laws_device.proofs.{Turning.label_keeps, Ringing.tells_weaker, Carried.{HostCalls.{accepted_host, closed_host, some_seen}, Hands.{ends_by, no_line, without_after}}}
+use Rattle.laws_device.proofs.Carried.{Hands.without_none, Opens.{hand_of, label_host, line_more, line_now, line_over, one_byte, dropped_host}, Changing.{called_host, goes_on}}
+use Rattle.laws_device.{proofs.{Carried.Lines.{line_ends, line_whole}, Named.Tables.{some_after, some_from}}, specs.Carried.Streamed.{Ports, ports_of, IsStreamed, Seen, has_line}}
+use Rattle.laws_device.specs.Carried.Streamed.{look, reading}
+use Rattle.vs_proxy_parts.specs.{Handshakes.{next_after, next_flow, accept_one, read_byte, tick_handshake, with_line, without_stream}, State.{Handshake, Turning}}
 use Rattle.vs_flow.{proofs.Tables.accepted, specs.{Table.{refusal, Table}, declared.{flow.Flow.Flow, table.TableFault.TableFault}}}
-use Rattle.std.proofs.{Common.{◌≡◌, ℕ, ◌≤◌, Bool, true, false, List, ◌++◌, Some, None, sym, ap, subst, ◌≢◌, ◌∙◌, ◌∷◌, []}}
-use Rattle.std.specs.{List.All, Option.ForSome}
+use Rattle.std.{proofs.Common.{◌≡◌, ℕ, ◌≤◌, Bool, true, false, List, ◌++◌, Some, None, sym, ap, subst, ◌≢◌, ◌∙◌, ◌∷◌, []}, specs.{List.All, Option.ForSome}}
 use Rattle.vs_limits.specs.declared.TheConstants.{ASSIGNED_FIRST}
 use Rattle.vs_outside.specs.{Host.{HostContents, accept_answer, after_accept, after_close, after_label, after_read, called}, declared.host_net.Accepted.Accepted}
 use Rattle.vs_outside.specs.{declared.host_net.StreamRead.StreamRead, HostBytes.after_line}
@@ -15,12 +16,6 @@ use Rattle.vs_page.specs.Log.{Log}
 use Rattle.vs_uds.{proofs.Decided.port_fits, specs.ConnectLine.connect_step}
 use Rattle.vs_device_parts.specs.{Calls.{Accept, Allows, CloseStream, HostMoves, IsReadOf, Label, ReadStream, Situation}, Connections.with_client, State.DeviceState}
 use Rattle.vs_device_parts.specs.State.{DeviceConnection}
-use Rattle.laws_device.proofs.{Walk.Turning.{AfterAccept, AfterByte, IsOn, Shakes, keeps_accept_one, keeps_read_byte, keeps_tick_handshake}, Keeping.{Goes, Keeps}}
-use Rattle.laws_device.proofs.{Keeping.{asking, keeps_weaker}, Carrying.{Fact, fact_called, fact_goes, IsHeldBy, IsToldBy, StreamedOver, With, streams_call}, Turning.label_keeps}
-use Rattle.laws_device.proofs.{Ringing.tells_weaker, Seats.Carried, Carried.{HostCalls.{accepted_host, closed_host, some_seen}, Hands.{ends_by, no_line, without_after}}}
-use Rattle.laws_device.proofs.Carried.{Hands.without_none, Opens.{hand_of, label_host, line_more, line_now, line_over, one_byte, dropped_host}, Changing.{called_host, goes_on}}
-use Rattle.laws_device.{proofs.{Carried.Lines.{line_ends, line_whole}, Named.Tables.{some_after, some_from}}, specs.Carried.Streamed.{IsStreamed, Seen, has_line, look, reading}}
-use Rattle.vs_proxy_parts.specs.{Handshakes.{accept_one, read_byte, tick_handshake, with_line, without_stream}, State.{Handshake, Turning}}
 use Rattle.laws_proxy.proofs.Ports.{IsTaken, above_then, next_taken}
 use Rattle.vs_outside.specs.declared.host_net.Accepted.TheVariants as accepted
 use Rattle.vs_outside.specs.declared.host_net.StreamRead.TheVariants as read

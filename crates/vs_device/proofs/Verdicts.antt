@@ -2,14 +2,13 @@
 use Rattle.std.proofs.{Common.{◌≡◌, ℕ, ◌&&◌, Bool, true, Some, refl, sym, ap, subst, ◌∙◌, arith}, lemmas.Grind.common_steps}
 use Rattle.vs_contents.{specs.CallTree.{Done, bind}, proofs.{Leads.{leads_of, leads_bind}, Conditions.{may_first, may_of}}}
 use Rattle.vs_header.specs.declared.Header.{Header}
-use Rattle.vs_conn.{specs.Shut.is_both, proofs.Frames.got_own}
+use Rattle.vs_conn.{specs.{Shut.is_both, End.{is_reset, verdict_of}, declared.end.{Verdict.Verdict, Why.Why}}, proofs.Frames.got_own}
 use Rattle.vs_page.specs.{Log.{Device, side_by, side_of}, Open.asks_for}
-use Rattle.vs_conn.specs.{End.{is_reset, verdict_of}, declared.end.{Verdict.Verdict, Why.Why}}
 use Rattle.vs_flow.specs.{Flow.is_assigned, Table.entry_under}
 use Rattle.vs_ring_port.specs.declared.device_ring.Chain.{Chain}
-use Rattle.vs_device_parts.{proofs.Under.{has_slot, under_changed, with_its}, specs.{Connections.{with_connection, stream_closed, after_leaving, keeping}, Calls.{Situation, DeviceTree}}}
-use Rattle.vs_device_parts.specs.{Calls.Allows, State.{DeviceConnection, DeviceEntry, DeviceState}, Playing.{CanMake, MayRun, MayClose, Runs}, Streams.{leaving, closing}}
-use Rattle.vs_device_parts.specs.{Taking.{after_refusal, known_packet}, Transmitting.{heard, keeps_flow, on_known}}
+use Rattle.vs_device_parts.{proofs.Under.{has_slot, under_changed, with_its}, specs.{Connections.{with_connection, stream_closed, after_leaving, keeping}, Calls.Situation}}
+use Rattle.vs_device_parts.specs.{Calls.{DeviceTree, Allows}, State.{DeviceConnection, DeviceEntry, DeviceState}, Playing.{CanMake, MayRun, MayClose, Runs}, Streams.leaving}
+use Rattle.vs_device_parts.specs.{Streams.closing, Taking.{after_refusal, known_packet}, Transmitting.{heard, keeps_flow, on_known}}
 use Rattle.vs_device.proofs.Leaving.{may_close}
 use Rattle.vs_conn.specs.declared.end.Verdict.TheVariants as verdict
 use Rattle.vs_conn.specs.declared.end.Why.TheVariants as why

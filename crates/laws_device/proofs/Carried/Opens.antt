@@ -1,11 +1,11 @@
 -- What the host's streams took and gave, as a line is read and a connection opens.
 use Rattle.std.proofs.Common.{◌≡◌, ◌≢◌, ℕ, zero, suc, ◌+◌, ◌≤◌, ◌==◌, min, Bool, true, false, cond, List, [], ◌∷◌, ◌++◌, length, take, get_or, Contains, Option, Some, None}
-use Rattle.std.{proofs.{Common.{is_some, refl, sym, ap, subst, ◌∙◌, arith, ◌⊎◌, inl, inr}, lemmas.{Bool.Decides.nat_tests, Option.{get_or_from_slice_get, slice_get_within}}}, specs.List.All}
-use Rattle.std.specs.{List.find, Option.{option_map, option_map_or}}
+use Rattle.std.proofs.{Common.{is_some, refl, sym, ap, subst, ◌∙◌, arith, ◌⊎◌, inl, inr}, lemmas.{Bool.Decides.nat_tests, Option.{get_or_from_slice_get, slice_get_within}}}
+use Rattle.std.specs.{List.{All, find}, Option.{option_map, option_map_or}}
 use Rattle.vs_conn.specs.End.{answering, asked}
 use Rattle.vs_device_parts.specs.{Connections.new_connection, State.{DeviceConnection, DeviceEntry}}
-use Rattle.vs_flow.specs.{Connection.Connection, CleanPairs.without_oldest, Flow.{is_assigned, same_flow}, declared.flow.Flow.Flow, Table.{IsTable, Table, entry_of, next_entry, with_entry}}
-use Rattle.vs_flow.proofs.{Entries.{found_passes, none_found, same_flow_true}, Lookups.find_place}
+use Rattle.vs_flow.specs.{Connection.Connection, CleanPairs.without_oldest, Flow.{is_assigned, same_flow}, declared.flow.Flow.Flow, Table.{IsTable, Table, entry_of, next_entry}}
+use Rattle.vs_flow.{specs.Table.with_entry, proofs.{Entries.{found_passes, none_found, same_flow_true}, Lookups.find_place}}
 use Rattle.vs_header.specs.declared.Header.{Header}
 use Rattle.laws_history.specs.{History.{Got, gots, puts}, Packets.{has, is_clean_rst, is_request}, declared.packet.Packet.Packet}
 use Rattle.vs_limits.specs.declared.TheConstants.{BUF_ALLOC}
@@ -16,12 +16,11 @@ use Rattle.vs_page.{specs.declared.log.LogEntry.TheVariants.GotPacket, proofs.{F
 use Rattle.vs_proxy_parts.specs.{Handshakes.{with_line, without_stream}, State.Handshake}
 use Rattle.vs_uds.specs.{OkLine.ok_text, Reading.is_decided, declared.connect.TheConstants.CONNECT_MAX}
 use Rattle.laws_tables.{specs.{Drains.Drains, Ends.{AreDistinct, is_among}, Steps.port_after}, proofs.Adding.{got_nothing, put_over_got}}
-use Rattle.laws_device.specs.Carried.Streamed.{AreCounted, AreLines, AreStreamed, IsCounted, IsStreamed, Ports, Seen, connection_of, count_in, has_line, line_for, look, reading, seen}
-use Rattle.laws_device.{specs.Carried.Streamed.seen_as, proofs.Carried.Hosts.{changed_seen, counts_still, counts_then, here_then, new_there, none_there, others_seen, others_then}}
-use Rattle.laws_device.proofs.Carried.{Hosts.{none_labelled, others_there, there}, HostCalls.{closed_host, some_seen}, Counted.{IsAsked, counted_got, kept_less, number_elsewhere}}
-use Rattle.laws_device.proofs.Carried.{Counted.request_asks, Streamed.{one_streamed, opened_streamed, recounted}, Hands.{with_all, with_apart, without_all, without_none}}
-use Rattle.laws_device.proofs.Carried.Hands.{without_pairs}
-use Rattle.laws_device.proofs.Clean.{port_below, port_rises, removed_among, removed_own}
+use Rattle.laws_device.specs.Carried.Streamed.{AreCounted, AreLines, AreStreamed, IsCounted, IsStreamed, Ports, Seen, connection_of, count_in, has_line, line_for, look, reading}
+use Rattle.laws_device.{specs.Carried.Streamed.{seen, seen_as}, proofs.Carried.Hosts.{changed_seen, counts_still, counts_then, here_then, new_there, none_there, others_seen}}
+use Rattle.laws_device.proofs.Carried.{Hosts.{others_then, none_labelled, others_there, there}, HostCalls.{closed_host, some_seen}, Counted.{IsAsked, counted_got, kept_less}}
+use Rattle.laws_device.proofs.Carried.{Counted.{number_elsewhere, request_asks}, Streamed.{one_streamed, opened_streamed, recounted}, Hands.{with_all, with_apart, without_all}}
+use Rattle.laws_device.proofs.{Carried.Hands.{without_none, without_pairs}, Clean.{port_below, port_rises, removed_among, removed_own}}
 use Rattle.vs_header.specs.declared.Kind.TheVariants as kind
 use Rattle.vs_outside.specs.declared.host_net.Dialed.TheVariants as dialed
 use Rattle.vs_outside.specs.declared.host_net.StreamRead.TheVariants as read

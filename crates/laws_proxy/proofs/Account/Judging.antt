@@ -1,6 +1,7 @@
 -- What one packet of the guest does, step by step.
-use Rattle.vs_device_parts.specs.Transmitting.{keeps_flow}
-use Rattle.vs_device_parts.specs.Connections.{keeping}
+use Rattle.vs_device_parts.specs.Transmitting.{keeps_flow, dial_answered, heard, on_header, on_known, on_next, on_packet, on_unknown, refused, take_tx_of, try_request, unknown_why}
+use Rattle.vs_device_parts.specs.{Connections.{keeping, after_leaving, stream_closed, with_connection, with_reply}, Calls.{CloseStream, Dial, DeviceTree, Ring}, State.DeviceEntry}
+use Rattle.vs_device_parts.specs.{State.DeviceState, Streams.{closing, leaving}, Taking.asks_for_stream, declared.answers.Taken.Taken}
 use Rattle.std.proofs.Common.{◌≡◌, ℕ, ◌-◌, ◌==◌, ◌&&◌, Bool, true, false, cond, List, [], ◌∷◌, ◌++◌, length, nat_le, nat_lt, Option, Some, None, refl, sym, ap, subst, ◌∙◌, arith}
 use Rattle.std.{proofs.lemmas.Bool.Decides.nat_tests, specs.Option.option_map}
 use Rattle.vs_conn.specs.{End.{after_op, is_reset, is_of, owes_of, verdict_of}, declared.end.{Verdict.Verdict, Why.Why}}
@@ -12,9 +13,6 @@ use Rattle.vs_page.specs.{Log.{Device, flow_to_host}, Open.is_dropped}
 use Rattle.vs_replies.specs.Owed.{reply_to}
 use Rattle.vs_ring_port.specs.{Contents.{Read, Return, Take}, declared.{device_ring.{Chain.Chain, Next.Next}, failure.Failure.Failure, queue.Queue.TheVariants.Tx}}
 use Rattle.vs_uds.specs.Path.{path_of}
-use Rattle.vs_device_parts.specs.Transmitting.{dial_answered, heard, on_header, on_known, on_next, on_packet, on_unknown, refused, take_tx_of, try_request, unknown_why}
-use Rattle.vs_device_parts.specs.{Connections.{after_leaving, stream_closed, with_connection, with_reply}, Calls.{CloseStream, Dial, DeviceTree, Ring}, State.DeviceEntry}
-use Rattle.vs_device_parts.specs.{State.DeviceState, Streams.{closing, leaving}, Taking.asks_for_stream, declared.answers.Taken.Taken}
 use Rattle.vs_limits.specs.declared.TheConstants.{DEVICE_REPLIES}
 use Rattle.laws_proxy.specs.Account.Judged.{AreUnmoved, AtLength, AtTake, Before, IsAnswered, IsDialedAs, IsDone, IsJudged, IsTried, IsUnknown, OwesReset, delivered_in, read_of}
 use Rattle.laws_proxy.{specs.Account.Made.{Account, Made, Makes, MayGet, account_of, made, new_account, shut}, proofs.Account.Keeping.{Keeps, asking, keeps_end}}
