@@ -83,3 +83,6 @@ leaving_twice keep e a s m t x y is runs =
     let P : DeviceState → Type 0 = λ u. Runs (leaving keep e u) x t y in
     let Q : DeviceTree DeviceState → Type 0 = λ p. Runs (bind p (λ u. Done (keeping keep e.flow (after_leaving e.slot u)))) x t y in
     subst Q (closing_twice e stream_closed a s) (subst P is runs)
+
+pub kept_as_is : (b k : Bool) (e : DeviceEntry) (s t : DeviceState) (x y : Situation) → b ≡ k → Runs (leaving b e s) x t y → Runs (leaving k e s) x t y
+kept_as_is b k e s t x y is runs = let P : Bool → Type 0 = λ c. Runs (leaving c e s) x t y in subst P is runs
