@@ -1,7 +1,6 @@
 -- What a walk over the device's conversations carries besides: what the host's streams took and gave.
 use Rattle.std.{proofs.Common.{◌≡◌, ℕ, Bool, true, false, List, [], ◌∷◌, Option, None, IfSome, ◌⊎◌, inl, inr, sym, subst, is_some, ap, ◌∙◌}, specs.Option.ForSome}
 use Rattle.laws_history.specs.declared.packet.Packet.{Packet}
-use Rattle.vs_flow.specs.Table.{Table}
 use Rattle.vs_page.specs.{declared.log.LogEntry.{TheVariants.{GotPacket, PutPacket}, LogEntry}, Log.{Device, Log, flow_got}, Open.is_dropped}
 use Rattle.vs_contents.specs.Contents.{Exposes}
 use Rattle.vs_outside.specs.Host.{HostContents, after_close}
@@ -9,15 +8,15 @@ use Rattle.vs_proxy_parts.specs.State.{Handshake}
 use Rattle.vs_ring_port.specs.{Chains.Held, EndLog.EndLog}
 use Rattle.vs_device_parts.specs.{Calls.{HostMoves, Situation, DeviceTree}, Playing.{IsRxChain, Runs}, State.{DeviceConnection, DeviceState}}
 use Rattle.laws_device.proofs.{Named.Tables.{some_after, some_from}, Ringing.{Telling, Tells, host_moves, tells_weaker}, Chains.{Among, alone, alone_so}, Seats.{AgreesBy, Carried}}
-use Rattle.laws_device.{proofs.Keeping.{Keeps, keeps_end}, specs.{Carried.Streamed.IsStreamed, Honest.{IsFitState, IsWith}, Streams.{AreHeard, AreStreamedWith}}}
+use Rattle.laws_device.{proofs.Keeping.{Keeps, keeps_end}, specs.{Carried.Streamed.{IsStreamed, ports_of}, Honest.{IsFitState, IsWith}, Streams.{AreHeard, AreStreamedWith}}}
 use Rattle.laws_tables.proofs.Fair.{got_one}
 
 abbrev pub Fact : Type 1
 Fact = Option HostContents → Log → Type 0
 
--- The streams of a table, where they are carried.
-abbrev pub StreamedOver : Carried → List Handshake → ℕ → ℕ → Table DeviceConnection → Fact
-StreamedOver carry lines first port table host log = carry.ok → carry.plain first log → ForSome host (λ h. IsStreamed h log port table lines)
+-- The streams of a device, where they are carried.
+abbrev pub StreamedOver : Carried → List Handshake → ℕ → ℕ → DeviceState → Fact
+StreamedOver carry lines first port s host log = carry.ok → carry.plain first log → ForSome host (λ h. IsStreamed h log (ports_of port s) s.table lines)
 
 abbrev pub IsToldBy : Carried → Fact → ℕ → ℕ → DeviceState → Telling
 IsToldBy carry fact first port s honest host l =
@@ -27,29 +26,29 @@ abbrev pub IsHeldBy : Carried → Fact → ℕ → ℕ → DeviceState → Situa
 IsHeldBy carry fact first port s c = IfSome s.chain IsRxChain × Tells (IsToldBy carry fact first port s) c
 
 abbrev pub With : Carried → List Handshake → ℕ → ℕ → DeviceState → Situation → Type 0
-With carry lines first port s c = IsHeldBy carry (StreamedOver carry lines first port s.table) first port s c
+With carry lines first port s c = IsHeldBy carry (StreamedOver carry lines first port s) first port s c
 
 pub heard_before : (first : ℕ) (entry : LogEntry) (log : Log) → AreHeard first (entry ∷ log) → AreHeard first log
 heard_before first (GotPacket p) log heard = heard.1
 heard_before first _ log heard = heard
 
 -- A step on streams, without a call on the host and with one.
-module _ (carry : Carried) (first : ℕ) (hands lines : List Handshake) (port next : ℕ) (t u : Table DeviceConnection) (log new : Log) (once : carry.plain first new → carry.plain first log) where
-  pub streams_go : ((h : HostContents) → carry.plain first new → IsStreamed h log port t hands → IsStreamed h new next u lines) → (o : Option HostContents)
-      → StreamedOver carry hands first port t o log → StreamedOver carry lines first next u o new
+module _ (carry : Carried) (first : ℕ) (hands lines : List Handshake) (port next : ℕ) (s t : DeviceState) (log new : Log) (once : carry.plain first new → carry.plain first log) where
+  pub streams_go : ((h : HostContents) → carry.plain first new → IsStreamed h log (ports_of port s) s.table hands → IsStreamed h new (ports_of next t) t.table lines) → (o : Option HostContents)
+      → StreamedOver carry hands first port s o log → StreamedOver carry lines first next t o new
   streams_go step o was = λ is few.
-      some_from o (λ h. IsStreamed h log port t hands) (λ h. IsStreamed h new next u lines) (λ h x. step h few x) (was is (once few))
+      some_from o (λ h. IsStreamed h log (ports_of port s) s.table hands) (λ h. IsStreamed h new (ports_of next t) t.table lines) (λ h x. step h few x) (was is (once few))
 
-  pub streams_call : (A : HostContents → Type 0) (f : HostContents → HostContents) → ((h : HostContents) → A h → carry.plain first new → IsStreamed h log port t hands
-      → IsStreamed (f h) new next u lines) → (o n : Option HostContents) → Exposes o n A f → StreamedOver carry hands first port t o log → StreamedOver carry lines first next u n new
+  pub streams_call : (A : HostContents → Type 0) (f : HostContents → HostContents) → ((h : HostContents) → A h → carry.plain first new → IsStreamed h log (ports_of port s) s.table hands
+      → IsStreamed (f h) new (ports_of next t) t.table lines) → (o n : Option HostContents) → Exposes o n A f → StreamedOver carry hands first port s o log → StreamedOver carry lines first next t n new
   streams_call A f step o n made was = λ is few.
-      some_after o n A f (λ h. IsStreamed h log port t hands) (λ h. IsStreamed h new next u lines) made (λ h answers x. step h answers few x) (was is (once few))
+      some_after o n A f (λ h. IsStreamed h log (ports_of port s) s.table hands) (λ h. IsStreamed h new (ports_of next t) t.table lines) made (λ h answers x. step h answers few x) (was is (once few))
 
-pub put_goes : (carry : Carried) (first : ℕ) (lines : List Handshake) (port : ℕ) (t u : Table DeviceConnection) (log : Log) (p : Packet)
-    → ((h : HostContents) → IsStreamed h log port t lines → IsStreamed h (PutPacket p ∷ log) port u lines) → (o : Option HostContents)
-    → StreamedOver carry lines first port t o log → StreamedOver carry lines first port u o (PutPacket p ∷ log)
-put_goes carry first lines port t u log p step =
-    streams_go carry first lines lines port port t u log (PutPacket p ∷ log) (carry.before first (PutPacket p) log) (λ h few x. step h x)
+pub put_goes : (carry : Carried) (first : ℕ) (lines : List Handshake) (port : ℕ) (s t : DeviceState) (log : Log) (p : Packet)
+    → ((h : HostContents) → IsStreamed h log (ports_of port s) s.table lines → IsStreamed h (PutPacket p ∷ log) (ports_of port t) t.table lines) → (o : Option HostContents)
+    → StreamedOver carry lines first port s o log → StreamedOver carry lines first port t o (PutPacket p ∷ log)
+put_goes carry first lines port s t log p step =
+    streams_go carry first lines lines port port s t log (PutPacket p ∷ log) (carry.before first (PutPacket p) log) (λ h few x. step h x)
 
 -- What is known at first of a whole call, and what follows.
 abbrev pub whole : Type 0 → Carried
@@ -68,7 +67,7 @@ whole ok = record {
 }
 
 module _ (ok : Type 0) (lines : List Handshake) (first port : ℕ) (s : DeviceState) (c : Situation) where
-  pub held_with : IsWith first port s c.ring → (ok → AreStreamedWith first port lines s.table c) → With (whole ok) lines first port s c
+  pub held_with : IsWith first port s c.ring → (ok → AreStreamedWith first port lines s c) → With (whole ok) lines first port s c
   held_with holds streams = (
     holds.0,
     λ l is. let was = holds.1 l is in (
@@ -89,7 +88,7 @@ module _ (ok : Type 0) (lines : List Handshake) (first port : ℕ) (s : DeviceSt
     ),
   )
 
-  pub with_streams : With (whole ok) lines first port s c → ok → AreStreamedWith first port lines s.table c
+  pub with_streams : With (whole ok) lines first port s c → ok → AreStreamedWith first port lines s c
   with_streams holds good honest l is few = ((holds.1 l is).1 honest).1 good few
 
 -- Of the ring alone, and of the host too.
@@ -104,9 +103,9 @@ plain_with first port s c holds = held_with ⊥ [] first port s c holds (λ no. 
 
 -- What a whole conversation leaves.
 pub streamed_end : {A : Type 0} (first port : ℕ) (lines : List Handshake) (state_of : A → DeviceState) (s : DeviceState) (tree : DeviceTree A)
-    (a b : Situation) (x : A) → IsWith first port s a.ring → AreStreamedWith first port lines s.table a
+    (a b : Situation) (x : A) → IsWith first port s a.ring → AreStreamedWith first port lines s a
     → (With ring_and_host lines first port s a → Keeps (λ y d. With ring_and_host lines first port (state_of y) d) tree a) → Runs tree a x b
-    → AreStreamedWith first port lines (state_of x).table b
+    → AreStreamedWith first port lines (state_of x) b
 streamed_end first port lines state_of s tree a b x holds streams keeps runs =
     with_streams (Unit {0}) lines first port (state_of x) b
     (keeps_end (λ y d. With ring_and_host lines first port (state_of y) d) tree a b x (keeps (held_with (Unit {0}) lines first port s a holds (λ ok. streams))) runs) tt
@@ -158,14 +157,14 @@ module _ (carry : Carried) (first port : ℕ) (s : DeviceState) (v : DeviceConne
       fact_called carry first port s F G false (λ h. Unit {0}) (after_close v.stream) (λ o n l exposes p.
       now still p.fits o n l.entries exposes) c d made holds
 
-  pub closed_with : (lines : List Handshake) (t u : Table DeviceConnection)
-      → (v.closed ≡ true → IsFitState s → (h : HostContents) (log : Log) → IsStreamed h log port t lines → IsStreamed h log port u lines)
-      → (IsFitState s → (h : HostContents) (log : Log) → IsStreamed h log port t lines
-      → IsStreamed (after_close v.stream h) log port u lines)
-      → Closes v c d → IsHeldBy carry (StreamedOver carry lines first port t) first port s c
-      → IsHeldBy carry (StreamedOver carry lines first port u) first port s d
-  closed_with lines t u was now = closed_held (StreamedOver carry lines first port t) (StreamedOver carry lines first port u)
-      (λ shut fits o log. streams_go carry first lines lines port port t u log log (λ few. few) (λ h few x. was shut fits h log x) o)
-      (λ still fits o n log exposes. streams_call carry first lines lines port port t u log log (λ few. few) (λ h. Unit {0})
+  pub closed_with : (lines : List Handshake) (r t : DeviceState)
+      → (v.closed ≡ true → IsFitState s → (h : HostContents) (log : Log) → IsStreamed h log (ports_of port r) r.table lines → IsStreamed h log (ports_of port t) t.table lines)
+      → (IsFitState s → (h : HostContents) (log : Log) → IsStreamed h log (ports_of port r) r.table lines
+      → IsStreamed (after_close v.stream h) log (ports_of port t) t.table lines)
+      → Closes v c d → IsHeldBy carry (StreamedOver carry lines first port r) first port s c
+      → IsHeldBy carry (StreamedOver carry lines first port t) first port s d
+  closed_with lines r t was now = closed_held (StreamedOver carry lines first port r) (StreamedOver carry lines first port t)
+      (λ shut fits o log. streams_go carry first lines lines port port r t log log (λ few. few) (λ h few x. was shut fits h log x) o)
+      (λ still fits o n log exposes. streams_call carry first lines lines port port r t log log (λ few. few) (λ h. Unit {0})
       (after_close v.stream)
       (λ h any few x. now fits h log x) o n exposes)

@@ -15,18 +15,17 @@ use Rattle.vs_device_parts.specs.{Connections.{after_shut, after_written, cut_of
 use Rattle.vs_device_parts.proofs.Growing.{MayGrow}
 
 -- What a step does that puts and gets nothing.
-pub record ChangesTo (carry : Carried) (port cid overrun : ℕ) (table : Table DeviceConnection) (replies : List Reply) (cid' overrun' : ℕ)
-    (table' : Table DeviceConnection)
-    (replies' : List Reply) : Type 0 where
-  pub matches : (first : ℕ) (log : Log) → Matches Device first (ends_with port cid table replies) log
-      → Matches Device first (ends_with port cid' table' replies') log
-  pub fits : IsFit cid' table' replies'
+pub record ChangesTo (carry : Carried) (port cid overrun : ℕ) (table : Table DeviceConnection) (replies : List Reply) (clean : List Flow)
+    (cid' overrun' : ℕ) (table' : Table DeviceConnection) (replies' : List Reply) (clean' : List Flow) : Type 0 where
+  pub matches : (first : ℕ) (log : Log) → Matches Device first (ends_with port cid table replies clean) log
+      → Matches Device first (ends_with port cid' table' replies' clean') log
+  pub fits : IsFit cid' table' replies' clean'
   pub overrun_is : overrun' ≡ overrun
-  pub goes : (log : Log) → carry.holds (record { part = ends_with port cid table replies; log = log })
-      → carry.holds (record { part = ends_with port cid' table' replies'; log = log })
+  pub goes : (log : Log) → carry.holds (record { part = ends_with port cid table replies clean; log = log })
+      → carry.holds (record { part = ends_with port cid' table' replies' clean'; log = log })
 
 abbrev pub Changes : Carried → ℕ → DeviceState → DeviceState → Type 0
-Changes carry port s t = ChangesTo carry port s.cid s.overrun s.table s.replies t.cid t.overrun t.table t.replies
+Changes carry port s t = ChangesTo carry port s.cid s.overrun s.table s.replies s.clean t.cid t.overrun t.table t.replies t.clean
 
 -- Whatever follows what the end before it followed.
 abbrev pub FollowsAs : ConnectionEnd → ConnectionEnd → Type 0

@@ -1,27 +1,27 @@
 -- What filling the receive queue keeps, part by part.
+use Rattle.laws_device.proofs.{Tabling.{has_end, entry_fits}, Seats.{LeftBy, AgreesBy, Carried}, Carrying.{Fact, IsHeldBy, StreamedOver, With, closed_held, fact_called, put_goes}}
+use Rattle.laws_device.proofs.{Carrying.{streams_call, streams_go}, Changing.{cuts, shuts, wants, same}, Keeping.{Goes, Keeps, asking, Lets, keeps_bind, keeps_each, keeps_then}}
+use Rattle.laws_device.proofs.{Keeping.keeps_while, Putting.{Puts, owed_puts, reply_puts, rst_puts, send_puts}, Steps.{Filled, Open, changed, closing_keeps, cut_with, goes_on}}
+use Rattle.laws_device.proofs.{Steps.{hold_keeps, open_filled, called_with}, Writing.{writes_first, written_keeps}, Walk.Keeping.{keeps_if, keeps_some}, Carried.Changing.MayFollow}
+use Rattle.laws_device.proofs.Carried.Changing.{asks_streams, called_host, closes_streams, ends_streams, leaves_streams, put_empty, reads_streams, shuts_streams}
+use Rattle.laws_device.{proofs.Carried.{Tabled.value_contained, Gives.pays_gives}, specs.{Carried.Streamed.{ports_of, IsStreamed}, Honest.IsFitState}}
+use Rattle.laws_tables.{specs.{Ends.{is_among, is_new}, Steps.payload_on}, proofs.{Keeps.owed_old, Slots.found_by}}
+use Rattle.vs_ring_port.specs.{EndLog.EndLog, declared.{device_ring.Chain.Chain, failure.Failure.Failure}}
 use Rattle.std.proofs.Common.{◌≡◌, ℕ, ◌+◌, ◌≤◌, ◌==◌, ◌&&◌, ◌||◌, not, Bool, true, false, cond, if◌then◌else◌, List, [], ◌∷◌, length, Contains, Option, Some, None, Result, Ok, Err}
 use Rattle.std.proofs.{Common.{refl, sym, subst, ◌∙◌, arith, IfSome, IsOkAnd, inl, inr}, lemmas.Grind.common_steps}
 use Rattle.vs_contents.specs.CallTree.{Ask, Done, bind, for_each, while_up_to}
 use Rattle.vs_conn.specs.{End.{CanSend, ConnectionEnd, owes_of, paid_of, state_may_send, wanting_credit, with_payload_sent}, Headers.{owed_header, payload_header}}
 use Rattle.vs_conn.{specs.declared.end.{Owed.Owed, State.State, Stop.TheVariants.ShutDown}, proofs.Frames.paid_asked}
 use Rattle.vs_credit.specs.Credit.{free_of}
-use Rattle.vs_flow.specs.Table.{IsTable, entry_under, slots, Table, with_value}
+use Rattle.vs_flow.specs.Table.{IsTable, entry_under, slots, with_value}
 use Rattle.vs_header.specs.declared.Header.{Header}
 use Rattle.vs_outside.specs.{declared.host_net.StreamRead.StreamRead, Host.{HostContents, after_close, after_read, called}}
 use Rattle.vs_replies.specs.declared.Reply.{Reply}
-use Rattle.vs_ring_port.specs.declared.{device_ring.Chain.Chain, failure.Failure.Failure}
-use Rattle.laws_tables.{specs.{Ends.is_new, Steps.payload_on}, proofs.{Keeps.owed_old, Slots.found_by}}
 use Rattle.laws_history.specs.Packets.{is_request}
 use Rattle.vs_device_parts.specs.{Connections.{after_leaving, after_shut, cut_off, route_to_guest, stream_closed, with_connection, with_fault}, Receiving.{Filling, after_paying}}
 use Rattle.vs_device_parts.specs.Receiving.{fill_rx_of, filled_of, hold, may_read, put_on, put_owed, put_packet, put_payload, put_reply, put_reply_of, read_answered, read_room}
 use Rattle.vs_device_parts.specs.{Receiving.{read_stream, read_with_chain, reply_header, round_from, serve_slot}, Calls.{DeviceTree, IsReadOf, ReadStream, Situation}}
 use Rattle.vs_device_parts.specs.{Streams.closing, Playing.IsRxChain, State.{DeviceConnection, DeviceEntry, DeviceState}, declared.answers.Filled.Filled as FilledAnswer}
-use Rattle.laws_device.proofs.{Carrying.{Fact, IsHeldBy, StreamedOver, With, closed_held, fact_called, put_goes, streams_call, streams_go}, Changing.{cuts, shuts, wants, same}}
-use Rattle.laws_device.proofs.{Keeping.{Goes, Keeps, asking, Lets, keeps_bind, keeps_each, keeps_then, keeps_while}, Putting.{Puts, owed_puts, reply_puts, rst_puts, send_puts}}
-use Rattle.laws_device.proofs.{Steps.{Filled, Open, changed, closing_keeps, cut_with, goes_on, hold_keeps, open_filled, called_with}, Seats.Carried, Writing.writes_first}
-use Rattle.laws_device.proofs.{Writing.written_keeps, Walk.Keeping.{keeps_if, keeps_some}, Carried.Changing.{MayFollow, asks_streams, called_host, closes_streams, ends_streams}}
-use Rattle.laws_device.proofs.{Carried.{Changing.{leaves_streams, put_empty, reads_streams, shuts_streams}, Tabled.value_contained, Gives.pays_gives}, Tabling.entry_fits}
-use Rattle.laws_device.specs.{Honest.IsFitState, Carried.Streamed.IsStreamed}
 use Rattle.vs_proxy_parts.specs.State.{Handshake}
 use Rattle.vs_page.specs.{Fair.IsFairLog, Log.{Log, Device, flow_to_guest}, declared.log.LogEntry.TheVariants.PutPacket}
 use Rattle.vs_limits.specs.declared.TheConstants.{OWED_MAX}
@@ -72,7 +72,7 @@ module _ (carry : Carried) (lines : List Handshake) (first port : ℕ) where
   abbrev pub Over : Filling → Situation → Type 0
   Over = Filled carry lines first port
 
-  abbrev Streamed : Table DeviceConnection → Fact
+  abbrev Streamed : DeviceState → Fact
   Streamed t = StreamedOver carry lines first port t
 
   abbrev Now : DeviceState → Situation → Type 0
@@ -81,8 +81,8 @@ module _ (carry : Carried) (lines : List Handshake) (first port : ℕ) where
   -- A packet without payload, put where a chain is or becomes held: what is known of the host then. The rest is with the host.
   put_packet_keeps : (h : Header) (f : DeviceState → DeviceTree DeviceState) (r : Filling) (t : DeviceState) (F : Fact)
       → (IsFitState r.state → Puts carry port r.state h [] t)
-      → (IsFitState r.state → (o : Option HostContents) (log : Log) → Streamed r.state.table o log
-      → F o (PutPacket (record { header = h; payload = [] }) ∷ log))
+      → ((o : Option HostContents) (l : EndLog) → AgreesBy carry first port r.state l → Streamed r.state o l.entries
+      → F o (PutPacket (record { header = h; payload = [] }) ∷ l.entries))
       → t.chain ≡ None → t.failed ≡ None
       → ((R : DeviceState → Situation → Type 0) (c : Situation) → IsHeldBy carry F first port t c → ((d : Situation) → Now t d → R t d)
       → Keeps R (f (record r.state { chain = None })) c)
@@ -98,9 +98,9 @@ module _ (carry : Carried) (lines : List Handshake) (first port : ℕ) where
       let p : Filling = record q { state = record r.state { chain = None }; put = q.put + 1 } in
       let finish : DeviceState → DeviceTree Filling = λ s. Done (record p { state = s }) in
       keeps_bind Over (put_on chain h [] q) (λ x. bind (f x.state) (λ s. Done (record x { state = s }))) d
-      (written_keeps carry first port r.state (Streamed r.state.table) (λ x e. Keeps Over (bind (f x.state) (λ s. Done (record x { state = s }))) e)
+      (written_keeps carry first port r.state (Streamed r.state) (λ x e. Keeps Over (bind (f x.state) (λ s. Done (record x { state = s }))) e)
       (Done p) t h [] puts F carries chain holds.0.0
-      (omega (arith, holds.0.1)) none d (writes_first carry first port (record r.state { chain = Some chain }) (Streamed r.state.table) chain d refl ready.1 holds.1)
+      (omega (arith, holds.0.1)) none d (writes_first carry first port (record r.state { chain = Some chain }) (Streamed r.state) chain d refl ready.1 holds.1)
       (λ e told. keeps_bind Over (f (record r.state { chain = None })) finish e
       (goes (λ s x. Keeps Over (finish s) x) e (subst (λ (o : Option Chain). IfSome o IsRxChain) (sym none) tt, told)
       (λ x held. (held, λ going. still))))))
@@ -112,11 +112,12 @@ module _ (carry : Carried) (lines : List Handshake) (first port : ℕ) where
   -- The same, where the streams are as the table says then, and no call on the host follows.
   empty_put : (h : Header) (s t : DeviceState) → is_request (record { header = h; payload = [] }) ≡ false
       → (IsFitState s → MayFollow t.table (record { header = h; payload = [] }))
-      → (IsFitState s → (c : HostContents) (log : Log) → IsStreamed c log port s.table lines → IsStreamed c log port t.table lines)
-      → IsFitState s → (o : Option HostContents) (log : Log) → Streamed s.table o log
-      → Streamed t.table o (PutPacket (record { header = h; payload = [] }) ∷ log)
-  empty_put h s t plain may carries fits o log x = put_goes carry first lines port s.table t.table log (record { header = h; payload = [] })
-      (λ c y. put_empty c log port t.table lines (record { header = h; payload = [] }) refl plain (may fits) (carries fits c log y)) o x
+      → (IsFitState s → (c : HostContents) (log : Log) → IsStreamed c log (ports_of port s) s.table lines → IsStreamed c log (ports_of port t) t.table lines)
+      → (o : Option HostContents) (l : EndLog) → AgreesBy carry first port s l → Streamed s o l.entries
+      → Streamed t o (PutPacket (record { header = h; payload = [] }) ∷ l.entries)
+  empty_put h s t plain may carries o l p x = put_goes carry first lines port s t l.entries (record { header = h; payload = [] })
+      (λ c y. put_empty c l.entries (ports_of port t) t.table lines (record { header = h; payload = [] }) refl plain (may p.fits)
+      (carries p.fits c l.entries y)) o x
 
   one_put : (q : Filling) (c : Situation) → Over q c → Goes Ready Over (q, not q.over) c
   one_put q c filled = goes_on carry lines first port q c filled
@@ -130,7 +131,7 @@ module _ (carry : Carried) (lines : List Handshake) (first port : ℕ) where
       let f : DeviceState → DeviceTree DeviceState = λ s. Done (record s { replies = rest }) in
       let again : Filling → DeviceTree (Filling × Bool) = λ q. Done (q, not q.over) in
       keeps_then Over (Goes Ready Over) (put_packet h f r) again c
-      (put_packet_keeps h f r (record r.state { chain = None; replies = rest }) (Streamed r.state.table)
+      (put_packet_keeps h f r (record r.state { chain = None; replies = rest }) (Streamed r.state)
       (λ fits. reply_puts carry port r.state fits reply rest is) (empty_put h r.state r.state refl (λ fits. inl refl) (λ fits c log x. x)) refl ready.1
       (λ R d held holds. holds d held) c ready)
       one_put
@@ -147,13 +148,23 @@ module _ (carry : Carried) (lines : List Handshake) (first port : ℕ) where
     -- The connection, which stays.
     stays_by : (what : Owed) (v : DeviceConnection) → owes_of e.value.end ≡ Some what → is_new e.value.end ≡ false
         → v ≡ record e.value { end = paid_of e.value.end what; asked_at = v.asked_at }
-        → (IsFitState r.state → (c : HostContents) (log : Log) → IsStreamed c log port r.state.table lines
-        → IsStreamed c log port (with_value r.state.table e.slot v) lines)
-    stays_by what v owes begun is fits h log x = subst (λ (w : DeviceConnection). IsStreamed h log port (with_value r.state.table e.slot w) lines)
+        → (IsFitState r.state → (c : HostContents) (log : Log) → IsStreamed c log (ports_of port r.state) r.state.table lines
+        → IsStreamed c log (ports_of port r.state) (with_value r.state.table e.slot v) lines)
+    stays_by what v owes begun is fits h log x = subst (λ (w : DeviceConnection). IsStreamed h log (ports_of port r.state) (with_value r.state.table e.slot w) lines)
         (sym is)
-        (ends_streams h log port r.state.table lines x fits.sound e there (record
+        (ends_streams h log (ports_of port r.state) r.state.table lines x fits.sound e there (record
         e.value { end = paid_of e.value.end what; asked_at = v.asked_at })
         refl refl refl (owed_old e.value.end what owes ∙ sym begun) refl refl (pays_gives e.value.end what owes) (paid_asked e.value.end what))
+
+    -- Its flow isn't kept.
+    unkept : {log : Log} → LeftBy carry first port r.state.cid r.state.overrun r.state.table r.state.replies r.state.clean log
+        → is_among e.flow r.state.clean ≡ false
+    unkept p = by (is_among e.flow r.state.clean) refl
+      where
+        by : (b : Bool) → is_among e.flow r.state.clean ≡ b → b ≡ false
+        by false is = refl
+        by true is =
+            let both : [] ≡ e.value.end ∷ [] = sym (p.matches.flows.kept e.flow is).no_end ∙ has_end r.state p.fits e there port in absurd cc
 
     -- The packet that it owes is of its flow.
     of_it : (v : DeviceConnection) (h : Header) → flow_to_guest h ≡ e.flow → IsFitState r.state
@@ -165,40 +176,40 @@ module _ (carry : Carried) (lines : List Handshake) (first port : ℕ) where
     owed_by owed.Request owes c ready =
         let v : DeviceConnection = record e.value { end = paid_of e.value.end owed.Request; asked_at = Some r.state.now } in
         let t : DeviceState = record (with_connection e.slot v spent) { last_put = Some e.slot } in
-        put_packet_keeps _ (after_paying owed.Request e) r t (Streamed t.table)
+        put_packet_keeps _ (after_paying owed.Request e) r t (Streamed t)
         (λ fits. owed_puts carry port r.state fits e there owed.Request owes v refl refl refl)
-        (λ fits o log y. put_goes carry first lines port r.state.table t.table log
+        (λ o l p y. put_goes carry first lines port r.state t l.entries
         (record { header = owed_header e.value.end (route_to_guest r.state.cid e.flow) owed.Request; payload = [] })
-        (λ h x. asks_streams h log port r.state.table lines x fits.sound e there v refl refl refl (request_new e.value.end owes)
+        (λ h x. asks_streams h l.entries (ports_of port r.state) r.state.table lines x p.fits.sound e there v refl refl refl (request_new e.value.end owes)
         (owed_old e.value.end owed.Request owes) refl refl (pays_gives e.value.end owed.Request owes) (paid_asked e.value.end owed.Request)
         (record { header = owed_header e.value.end (route_to_guest r.state.cid e.flow) owed.Request; payload = [] }) refl refl refl
-        ((entry_fits r.state fits e there).new (request_new e.value.end owes)).by_client) o y)
+        ((entry_fits r.state p.fits e there).new (request_new e.value.end owes)).by_client (unkept p)) o y)
         refl ready.1 (λ R d held holds. holds d held) c ready
     owed_by owed.Rst owes c ready =
         let gone : DeviceState = record spent { last_put = Some e.slot } in
         let t : DeviceState = after_leaving e.slot (with_connection e.slot (stream_closed e.value) gone) in
-        let F : Fact = λ o log. IsTable r.state.table × Streamed r.state.table o log in
+        let F : Fact = λ o log. IsTable r.state.table × Streamed r.state o log in
         put_packet_keeps _ (after_paying owed.Rst e) r t F
         (λ fits. rst_puts carry port r.state fits e there owed.Rst owes refl (stream_closed e.value))
-        (λ fits o log x. (
-          fits.sound,
+        (λ o l p x. (
+          p.fits.sound,
           empty_put (owed_header e.value.end (route_to_guest r.state.cid e.flow) owed.Rst) r.state r.state refl (λ fits. inr (e, there, refl))
-              (λ fits c log x. x) fits o log x,
+              (λ fits c log x. x) o l p x,
         ))
         refl ready.1
         (λ R d held holds. keeps_bind R (closing e stream_closed gone) (λ t. Done (after_leaving e.slot t)) d
         (closing_keeps (λ u. R (after_leaving e.slot u)) e stream_closed gone d
-        (λ x closes. holds x (closed_held carry first port t e.value d x F (Streamed t.table)
-        (λ shut fits o log y. streams_go carry first lines lines port port r.state.table t.table log log (λ few. few)
-        (λ h few z. leaves_streams h log port r.state.table lines z y.0 e there shut (stream_closed e.value)) o y.1)
-        (λ still fits o n log exposes y. streams_call carry first lines lines port port r.state.table t.table log log (λ few. few)
-        (λ h. Unit {0}) (after_close e.value.stream) (λ h any few z. closes_streams h log port r.state.table lines z y.0 e there
+        (λ x closes. holds x (closed_held carry first port t e.value d x F (Streamed t)
+        (λ shut fits o log y. streams_go carry first lines lines port port r.state t log log (λ few. few)
+        (λ h few z. leaves_streams h log (ports_of port r.state) r.state.table lines z y.0 e there shut (stream_closed e.value)) o y.1)
+        (λ still fits o n log exposes y. streams_call carry first lines lines port port r.state t log log (λ few. few)
+        (λ h. Unit {0}) (after_close e.value.stream) (λ h any few z. closes_streams h log (ports_of port r.state) r.state.table lines z y.0 e there
         (stream_closed e.value)) o n exposes y.1)
         closes held)))) c ready
     owed_by what owes c ready =
         let v : DeviceConnection = record e.value { end = paid_of e.value.end what } in
         let t : DeviceState = record (with_connection e.slot v spent) { last_put = Some e.slot } in
-        put_packet_keeps _ (after_paying what e) r t (Streamed t.table)
+        put_packet_keeps _ (after_paying what e) r t (Streamed t)
         (λ fits. owed_puts carry port r.state fits e there what owes v refl refl refl)
         (empty_put (owed_header e.value.end (route_to_guest r.state.cid e.flow) what) r.state t refl
         (of_it v (owed_header e.value.end (route_to_guest r.state.cid e.flow) what) refl)
@@ -235,7 +246,7 @@ module _ (carry : Carried) (lines : List Handshake) (first port : ℕ) where
 
       abbrev Read : List ℕ → Fact
       Read payload host log =
-          Streamed (with_value r.state.table e.slot (sent payload)) host (PutPacket (payload_on Device r.state.cid e.flow e.value.end payload) ∷ log)
+          Streamed (with_connection e.slot (sent payload) r.state) host (PutPacket (payload_on Device r.state.cid e.flow e.value.end payload) ∷ log)
 
       payload_keeps : (payload : List ℕ) → length payload ≤ read_room (free_of e.value.end.credit) chain → (c : Situation)
           → IsHeldBy carry (Read payload) first port (record r.state { chain = Some chain }) c → Keeps Over (put_payload chain e payload chained) c
@@ -255,7 +266,7 @@ module _ (carry : Carried) (lines : List Handshake) (first port : ℕ) where
           (written_keeps carry first port r.state (Read payload) (λ x d. Keeps Over (after x) d) (Done p) t h payload
           (λ fits. send_puts carry port r.state fits e there payload
           (can_send e.value.end (length payload) may (omega (arith, short))) (omega (arith, short)) old)
-          (Streamed t.table) (λ fits o log x. x)
+          (Streamed t) (λ o l p x. x)
           chain holds.0.0 (omega (arith, short, holds.0.1)) refl c
           (writes_first carry first port (record r.state { chain = Some chain }) (Read payload) chain c refl going holds.1)
           (λ d told. ((tt, told), λ still. going)))
@@ -269,29 +280,29 @@ module _ (carry : Carried) (lines : List Handshake) (first port : ℕ) where
       answered_keeps : (answer : StreamRead) (payload : List ℕ) (c d : Situation) → Lets (ReadStream e.value.stream room) (answer, payload) c d
           → Now with_it c → Keeps Over (read_answered chain e answer payload chained) d
       answered_keeps (read.Got n) payload c d made holds = payload_keeps payload made.1 d
-          (fact_called carry first port with_it (Streamed r.state.table) (Read payload) false (IsReadOf e.value.stream room (read.Got n, payload))
+          (fact_called carry first port with_it (Streamed r.state) (Read payload) false (IsReadOf e.value.stream room (read.Got n, payload))
           (after_read e.value.stream (read.Got n)) (λ o k l exposes p.
-          streams_call carry first lines lines port port r.state.table (with_value r.state.table e.slot (sent payload)) l.entries
+          streams_call carry first lines lines port port r.state (with_connection e.slot (sent payload) r.state) l.entries
           (PutPacket (payload_on Device r.state.cid e.flow e.value.end payload) ∷ l.entries)
           (carry.before first (PutPacket (payload_on Device r.state.cid e.flow e.value.end payload)) l.entries)
           (IsReadOf e.value.stream room (read.Got n, payload)) (after_read e.value.stream (read.Got n)) (λ h is few x.
           subst (λ (bytes : List ℕ). IsStreamed (after_read e.value.stream (read.Got n) h)
-          (PutPacket (payload_on Device r.state.cid e.flow e.value.end bytes) ∷ l.entries) port (with_value r.state.table e.slot (sent bytes)) lines)
-          (sym is.1) (reads_streams h l.entries port r.state.table lines x p.fits.sound p.fair e there old n r.state.cid
+          (PutPacket (payload_on Device r.state.cid e.flow e.value.end bytes) ∷ l.entries) (ports_of port r.state) (with_value r.state.table e.slot (sent bytes)) lines)
+          (sym is.1) (reads_streams h l.entries (ports_of port r.state) r.state.table lines x p.fits.sound p.fair e there old n r.state.cid
           (subst (λ (bytes : List ℕ). IsFairLog Device (PutPacket (payload_on Device r.state.cid e.flow e.value.end bytes) ∷ l.entries)) is.1
           ((send_puts carry port with_it p.fits e there payload (can_send e.value.end (length payload) may (omega (arith, made.1)))
           (omega (arith, made.1)) old).fair first l.entries p.matches p.fair)))) o k exposes) c d made.0 holds)
       answered_keeps read.Again payload c d made holds = (
         called_with carry lines first port with_it with_it refl refl (λ fits. same carry port with_it fits) false
             (IsReadOf e.value.stream room (read.Again, payload)) called
-            (λ fits h log is x. called_host h log port r.state.table lines x) c d made.0 holds,
+            (λ fits h log is x. called_host h log (ports_of port r.state) r.state.table lines x) c d made.0 holds,
         λ still. going,
       )
       answered_keeps read.End payload c d made holds = (
         called_with carry lines first port with_it (with_connection e.slot (after_shut 2 with_it.now e.value) with_it) refl refl
             (λ fits. shuts carry port with_it fits e there 2 with_it.now old) false (IsReadOf e.value.stream room (read.End, payload)) called
-            (λ fits h log is x. called_host h log port (with_value r.state.table e.slot (after_shut 2 with_it.now e.value)) lines
-            (shuts_streams h log port r.state.table lines x fits.sound e 2 with_it.now there old)) c d made.0 holds,
+            (λ fits h log is x. called_host h log (ports_of port r.state) (with_value r.state.table e.slot (after_shut 2 with_it.now e.value)) lines
+            (shuts_streams h log (ports_of port r.state) r.state.table lines x fits.sound e 2 with_it.now there old)) c d made.0 holds,
         λ still. going,
       )
       answered_keeps read.Failed payload c d made holds =
@@ -301,7 +312,7 @@ module _ (carry : Carried) (lines : List Handshake) (first port : ℕ) where
                 (λ fits. cuts carry port with_it fits e there old) d x closes
                 (called_with carry lines first port with_it with_it refl refl (λ fits. same carry port with_it fits) true
                 (IsReadOf e.value.stream room (read.Failed, payload)) called
-                (λ fits h log is y. called_host h log port r.state.table lines y) c d made.0 holds),
+                (λ fits h log is y. called_host h log (ports_of port r.state) r.state.table lines y) c d made.0 holds),
             λ still. going,
           )))
 
@@ -321,7 +332,7 @@ module _ (carry : Carried) (lines : List Handshake) (first port : ℕ) where
         (bind (hold r) (read_with_chain e))) c
     read_by true c ready = (
       changed carry lines first port r.state (with_connection e.slot (record e.value { end = wanting_credit e.value.end }) r.state) refl refl
-          (λ fits. wants carry port r.state fits e there old) (λ fits h log x. ends_streams h log port r.state.table lines x fits.sound e there
+          (λ fits. wants carry port r.state fits e there old) (λ fits h log x. ends_streams h log (ports_of port r.state) r.state.table lines x fits.sound e there
           (record e.value { end = wanting_credit e.value.end }) refl refl refl refl refl refl (λ on. on) (λ on. on)) c ready.0,
       λ going. ready.1,
     )

@@ -1,4 +1,7 @@
 -- The buffer space of a connection is raised: no packet passes, and no call is made.
+use Rattle.laws_device.{specs.{Carried.Streamed.ports_of, Honest.IsWith, Named.Streams.HasStreams, Streams.AreStreamedWith}, proofs.Carrying.{With, held_with, plain_with}}
+use Rattle.laws_device.proofs.{Carrying.{ring_and_host, ring_only, with_ring, with_streams}, Changing.grows, Carried.Changing.ends_streams, Named.Tables.entry_by_slot}
+use Rattle.laws_device.proofs.{Named.Tables.{has_changed, value_by_entry}, Steps.changed, Seats.Carried, Walk.Serving.by_slot}
 use Rattle.std.proofs.Common.{◌≡◌, ℕ, List, [], Option, Some, None, refl}
 use Rattle.vs_conn.specs.End.{grown}
 use Rattle.vs_flow.specs.Table.{entry_under}
@@ -7,9 +10,6 @@ use Rattle.vs_ring_port.specs.Contents.{RingContents}
 use Rattle.vs_device_parts.specs.{Calls.Situation, Growing.{after_grow, entry_grow_answer, grow_of, grown_by}, State.{DeviceEntry, DeviceState}, Playing.situation}
 use Rattle.vs_device_parts.{specs.declared.answers.Grown.Grown, proofs.Growing.may_grow}
 use Rattle.vs_proxy_parts.specs.State.{Handshake}
-use Rattle.laws_device.{specs.{Honest.IsWith, Named.Streams.HasStreams, Streams.AreStreamedWith}, proofs.Carrying.{With, held_with, plain_with, ring_and_host, ring_only}}
-use Rattle.laws_device.proofs.{Carrying.{with_ring, with_streams}, Changing.grows, Carried.Changing.ends_streams, Named.Tables.{entry_by_slot, has_changed, value_by_entry}}
-use Rattle.laws_device.proofs.{Steps.changed, Seats.Carried, Walk.Serving.by_slot}
 use Rattle.vs_device_parts.specs.declared.answers.Grown.TheVariants as rise
 
 module _ (slot alloc : ℕ) (s : DeviceState) where
@@ -39,7 +39,7 @@ module _ (slot alloc : ℕ) (s : DeviceState) where
       let is = by_slot s.table slot e found in
       changed carry lines first port s (grown_by rise.Done alloc e s) refl refl
       (λ fits. grows carry port s fits e is.among alloc (may_grow e.value.end alloc done))
-      (λ fits h log x. ends_streams h log port s.table lines x fits.sound e is.among (record e.value { end = grown e.value.end alloc })
+      (λ fits h log x. ends_streams h log (ports_of port s) s.table lines x fits.sound e is.among (record e.value { end = grown e.value.end alloc })
       refl refl refl refl refl refl (λ on. on) (λ on. on)) c holds)
 
   pub grow_with : (first port : ℕ) (c : RingContents) → IsWith first port s c → IsWith first port (after_grow slot alloc s) c
@@ -49,7 +49,7 @@ module _ (slot alloc : ℕ) (s : DeviceState) where
       (grow_keeps ring_only [] first port a (plain_with first port s a holds))
 
   pub grow_streamed : (first port : ℕ) (lines : List Handshake) (a : Situation) → IsWith first port s a.ring
-      → AreStreamedWith first port lines s.table a → AreStreamedWith first port lines (after_grow slot alloc s).table a
+      → AreStreamedWith first port lines s a → AreStreamedWith first port lines (after_grow slot alloc s) a
   grow_streamed first port lines a holds streams =
       with_streams (Unit {0}) lines first port (after_grow slot alloc s) a
       (grow_keeps ring_and_host lines first port a (held_with (Unit {0}) lines first port s a holds (λ ok. streams))) tt

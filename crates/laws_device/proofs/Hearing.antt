@@ -1,10 +1,20 @@
 -- What the device keeps as it takes a packet, whose page stands in the log: each verdict, and each end of a REQUEST.
+use Rattle.laws_device.proofs.Carried.Changing.{keeps_streams, accepts_streams, called_host, closes_streams, delivered_rw, delivers_streams, dialed_id, empty_streams, failed_host}
+use Rattle.laws_device.proofs.Carried.{Changing.{hears_streams, leaves_streams, passes_streams, payload_in, reset_empty, unknown_streams}, Counted.request_empty, Streamed.join_of}
+use Rattle.laws_device.proofs.{Carried.Opens.dial_host, Ringing.{Tells, moves, tells_weaker, host_moves, Telling, bytes_held}, Taking.{drops_it, has_its_room, ignores_it}}
+use Rattle.laws_device.proofs.{Taking.{leaves_with, opens, replies_to, stays_with}, Tabling.{IsFitConnection, begun_fits, entry_fits, has_end}, Carrying.{Fact, Closes}}
+use Rattle.laws_device.proofs.{Carrying.{StreamedOver, streams_call, streams_go}, Chains.Behind, Seats.{AgreesBy, Carried, LeftBy, seat}, Fits.{delivered, fewer, fits_after}}
+use Rattle.laws_device.{proofs.{Keeping.{Keeps, asking, Lets, keeps_bind}, Steps.closing_keeps, Walk.Keeping.{keeps_if, keeps_some}}, specs.Carried.Streamed.{Ports, ports_of}}
+use Rattle.laws_device.specs.{Carried.Streamed.{IsStreamed, count_in, gives, look}, Honest.{HoldsBytes, ends_of_state}}
+use Rattle.vs_device_parts.specs.{Transmitting.{keeps_flow, dial_answered, heard, on_known, on_packet, on_unknown, refused, unknown_why}, Connections.{keeping, kept_if}}
+use Rattle.vs_device_parts.specs.{Connections.{after_leaving, stream_closed, with_connection, with_dialed, with_fault, with_reply}, Calls.{DeviceTree, Dial, HostMoves, Situation}}
+use Rattle.vs_device_parts.specs.{State.{DeviceConnection, DeviceEntry, DeviceState}, Streams.{closing, leaving}}
 use Rattle.std.proofs.Common.{◌≡◌, ℕ, ◌+◌, ◌≤◌, ◌==◌, ◌&&◌, Bool, true, false, cond, List, [], ◌∷◌, ◌++◌, length, take, drop, Contains, Option, Some, None, refl, sym, ap, subst}
 use Rattle.std.proofs.{Common.{◌∙◌, arith, length-append, length-take, get_or, inl, inr}, lemmas.{Bool.Decides.nat_tests, Grind.common_steps, List.get_or_default}}
 use Rattle.std.specs.List.{All}
 use Rattle.vs_contents.specs.CallTree.{Done, bind}
 use Rattle.vs_conn.specs.{End.{ConnectionEnd, after_op, end_after, is_reset, is_of, verdict_of}, declared.end.{Verdict.Verdict, Why.Why}}
-use Rattle.vs_flow.{specs.{Table.{entry_of, has_place, with_value, Table}, Flow.{is_assigned, same_flow}, declared.flow.Flow.Flow}, proofs.Entries.same_flow_true}
+use Rattle.vs_flow.{specs.{Table.{entry_of, has_place}, Flow.{is_assigned, same_flow}, declared.flow.Flow.Flow}, proofs.Entries.same_flow_true}
 use Rattle.vs_header.specs.{declared.{Kind.{Kind, TheVariants.Stream}, Header.Header, TheConstants.HEADER_LEN}, Op.op_named}
 use Rattle.laws_history.specs.{Packets.is_request, declared.packet.Packet.Packet}
 use Rattle.vs_outside.specs.{declared.host_net.Dialed.Dialed, Host.{HostContents, IsDialed, after_dial, after_failed, after_close, called}}
@@ -13,17 +23,7 @@ use Rattle.vs_page.specs.declared.log.LogEntry.TheVariants.{GotPacket}
 use Rattle.vs_replies.specs.Owed.{reply_to}
 use Rattle.vs_ring_port.specs.{Chains.bytes_in, EndLog.EndLog, declared.device_ring.Chain.Chain}
 use Rattle.laws_tables.{specs.{Ends.is_new, Steps.{is_overrun, HasEnd}, Heard.heard_of}, proofs.{Slots.found_by, Fair.{got_goes_on, got_one}, OnFlow.follows_old}}
-use Rattle.vs_device_parts.specs.{Calls.{DeviceTree, Dial, HostMoves, Situation}, Connections.{after_leaving, stream_closed, with_connection, with_dialed, with_fault, with_reply}}
-use Rattle.vs_device_parts.specs.{Transmitting.{dial_answered, heard, on_known, on_packet, on_unknown, refused, unknown_why}, State.{DeviceConnection, DeviceEntry, DeviceState}}
-use Rattle.vs_device_parts.specs.Streams.{closing, leaving}
 use Rattle.vs_wrap.specs.Wrap.{counted}
-use Rattle.laws_device.proofs.{Ringing.{Tells, moves, tells_weaker, host_moves, Telling, bytes_held}, Taking.{drops_it, has_its_room, ignores_it, leaves_with, opens, replies_to}}
-use Rattle.laws_device.proofs.{Taking.stays_with, Tabling.{IsFitConnection, begun_fits, entry_fits, has_end}, Carrying.{Fact, Closes, StreamedOver, streams_call, streams_go}}
-use Rattle.laws_device.proofs.{Chains.Behind, Seats.{AgreesBy, Carried, LeftBy, seat}, Fits.{delivered, fewer, fits_after}, Keeping.{Keeps, asking, Lets, keeps_bind}}
-use Rattle.laws_device.proofs.{Steps.closing_keeps, Walk.Keeping.{keeps_if, keeps_some}, Carried.Changing.{accepts_streams, called_host, closes_streams, delivered_rw}}
-use Rattle.laws_device.proofs.Carried.Changing.{delivers_streams, dialed_id, empty_streams, failed_host, hears_streams, leaves_streams, passes_streams, payload_in, reset_empty}
-use Rattle.laws_device.{proofs.Carried.{Changing.unknown_streams, Counted.request_empty, Streamed.join_of, Opens.dial_host}, specs.Honest.{HoldsBytes, ends_of_state}}
-use Rattle.laws_device.specs.Carried.Streamed.{IsStreamed, count_in, gives, look}
 use Rattle.vs_proxy_parts.specs.State.{Handshake}
 use Rattle.vs_uds.specs.OkLine.{ok_text}
 use Rattle.vs_conn.specs.declared.end.Verdict.TheVariants as verdict
@@ -51,7 +51,7 @@ pub deliver_old : (e : ConnectionEnd) (h : Header) → verdict_of e h ≡ verdic
 deliver_old e h is = grind (arith, common_steps, is)
 
 module _ (carry : Carried) (lines : List Handshake) (first port : ℕ) (s : DeviceState) (chain : Chain) (h : Header) (wire : FitsWire h) where
-  abbrev Streamed : Table DeviceConnection → Fact
+  abbrev Streamed : DeviceState → Fact
   Streamed t = StreamedOver carry lines first port t
 
   -- The packet with this header came, and its payload is this.
@@ -63,9 +63,9 @@ module _ (carry : Carried) (lines : List Handshake) (first port : ℕ) (s : Devi
     pub payload : List ℕ
     pub log : Log
     pub entries_are : l.entries ≡ GotPacket (record { header = h; payload = payload }) ∷ log
-    pub was : LeftBy carry first port s.cid s.overrun s.table s.replies log
+    pub was : LeftBy carry first port s.cid s.overrun s.table s.replies s.clean log
     pub fair : IsFairLog Device (GotPacket (record { header = h; payload = payload }) ∷ log)
-    pub streams : Streamed s.table host log
+    pub streams : Streamed s host log
     pub whole : IsWhole (packet payload)
     pub held : packet_held page ≡ Some (packet payload)
 
@@ -75,32 +75,32 @@ module _ (carry : Carried) (lines : List Handshake) (first port : ℕ) (s : Devi
   -- The device t took the packet.
   abbrev pub After : DeviceState → Telling
   After t honest host l =
-      (page : List ℕ) × Behind carry.others chain page t.chain l.held × (honest ≡ true → AgreesBy carry first port t l × Streamed t.table host l.entries)
+      (page : List ℕ) × Behind carry.others chain page t.chain l.held × (honest ≡ true → AgreesBy carry first port t l × Streamed t host l.entries)
 
   abbrev pub Heard : DeviceState × Verdict → Situation → Type 0
   Heard x c = (x.0.failed ≡ s.failed) × (x.0.chain ≡ s.chain) × Tells (After x.0) c
 
   abbrev Hears : DeviceState → Type 0
-  Hears t = (payload : List ℕ) (log : Log) → LeftBy carry first port s.cid s.overrun s.table s.replies log → IsFairLog Device (GotPacket (packet payload) ∷ log)
-      → LeftBy carry first port t.cid t.overrun t.table t.replies (GotPacket (packet payload) ∷ log)
+  Hears t = (payload : List ℕ) (log : Log) → LeftBy carry first port s.cid s.overrun s.table s.replies s.clean log → IsFairLog Device (GotPacket (packet payload) ∷ log)
+      → LeftBy carry first port t.cid t.overrun t.table t.replies t.clean (GotPacket (packet payload) ∷ log)
 
   -- What comes to the streams, of which one may be made or closed.
   abbrev Streams : (HostContents → HostContents) → DeviceState → Type 0
-  Streams f t = (payload : List ℕ) (log : Log) → LeftBy carry first port s.cid s.overrun s.table s.replies log → IsFairLog Device (GotPacket (packet payload) ∷ log)
-      → IsWhole (packet payload) → carry.plain first (GotPacket (packet payload) ∷ log) → (c : HostContents) → IsStreamed c log port s.table lines
-      → IsStreamed (f c) (GotPacket (packet payload) ∷ log) port t.table lines
+  Streams f t = (payload : List ℕ) (log : Log) → LeftBy carry first port s.cid s.overrun s.table s.replies s.clean log → IsFairLog Device (GotPacket (packet payload) ∷ log)
+      → IsWhole (packet payload) → carry.plain first (GotPacket (packet payload) ∷ log) → (c : HostContents) → IsStreamed c log (ports_of port s) s.table lines
+      → IsStreamed (f c) (GotPacket (packet payload) ∷ log) (ports_of port t) t.table lines
 
   agrees_by : (t : DeviceState) (page : List ℕ) (o n : Option HostContents) (l : EndLog) → Hears t → (come : IsCome page o l)
-      → (Streamed s.table o come.log → Streamed t.table n (GotPacket (packet come.payload) ∷ come.log)) → AgreesBy carry first port t l × Streamed t.table n l.entries
+      → (Streamed s o come.log → Streamed t n (GotPacket (packet come.payload) ∷ come.log)) → AgreesBy carry first port t l × Streamed t n l.entries
   agrees_by t page o n l step come streams = (
-    subst (λ (log : Log). LeftBy carry first port t.cid t.overrun t.table t.replies log) (sym come.entries_are)
+    subst (λ (log : Log). LeftBy carry first port t.cid t.overrun t.table t.replies t.clean log) (sym come.entries_are)
         (step come.payload come.log come.was come.fair),
-    subst (λ (log : Log). Streamed t.table n log) (sym come.entries_are) (streams come.streams),
+    subst (λ (log : Log). Streamed t n log) (sym come.entries_are) (streams come.streams),
   )
 
   stays_so : (t : DeviceState) (page : List ℕ) (o : Option HostContents) (l : EndLog) → Streams (λ c. c) t → (come : IsCome page o l)
-      → Streamed s.table o come.log → Streamed t.table o (GotPacket (packet come.payload) ∷ come.log)
-  stays_so t page o l streams come = streams_go carry first lines lines port port s.table t.table come.log (GotPacket (packet come.payload) ∷ come.log)
+      → Streamed s o come.log → Streamed t o (GotPacket (packet come.payload) ∷ come.log)
+  stays_so t page o l streams come = streams_go carry first lines lines port port s t come.log (GotPacket (packet come.payload) ∷ come.log)
       (carry.before first (GotPacket (packet come.payload)) come.log) (λ c few x. streams come.payload come.log come.was come.fair come.whole few c x) o
 
   behind : (t : DeviceState) (page : List ℕ) (l : EndLog) → t.chain ≡ s.chain → Behind carry.others chain page s.chain l.held
@@ -122,9 +122,9 @@ module _ (carry : Carried) (lines : List Handshake) (first port : ℕ) (s : Devi
   -- With a call on the host.
   calls : (t : DeviceState) (v : Verdict) (c d : Situation) (faults : Bool) (A : HostContents → Type 0) (f : HostContents → HostContents)
       → t.failed ≡ s.failed → t.chain ≡ s.chain → Hears t
-      → ((payload : List ℕ) (log : Log) → LeftBy carry first port s.cid s.overrun s.table s.replies log → IsFairLog Device (GotPacket (packet payload) ∷ log)
-      → IsWhole (packet payload) → carry.plain first (GotPacket (packet payload) ∷ log) → (h : HostContents) → A h → IsStreamed h log port s.table lines
-      → IsStreamed (f h) (GotPacket (packet payload) ∷ log) port t.table lines)
+      → ((payload : List ℕ) (log : Log) → LeftBy carry first port s.cid s.overrun s.table s.replies s.clean log → IsFairLog Device (GotPacket (packet payload) ∷ log)
+      → IsWhole (packet payload) → carry.plain first (GotPacket (packet payload) ∷ log) → (h : HostContents) → A h → IsStreamed h log (ports_of port s) s.table lines
+      → IsStreamed (f h) (GotPacket (packet payload) ∷ log) (ports_of port t) t.table lines)
       → HostMoves faults A f c d → Tells Came c → Heard (t, v) d
   calls t v c d faults A f failed chain_is step streams made tells = (
     failed,
@@ -133,14 +133,14 @@ module _ (carry : Carried) (lines : List Handshake) (first port : ℕ) (s : Devi
       came.0,
       behind t came.0 l chain_is came.1,
       λ honest. let come = came.2 honest in agrees_by t came.0 o n l step come
-          (streams_call carry first lines lines port port s.table t.table come.log (GotPacket (packet come.payload) ∷ come.log)
+          (streams_call carry first lines lines port port s t come.log (GotPacket (packet come.payload) ∷ come.log)
           (carry.before first (GotPacket (packet come.payload)) come.log) A f
           (λ h answers few x. streams come.payload come.log come.was come.fair come.whole few h answers x) o n exposes),
     )) tells,
   )
 
   -- No connection that gives its stream payload misses some of a packet that is dropped.
-  idle : (payload : List ℕ) (log : Log) → LeftBy carry first port s.cid s.overrun s.table s.replies log → IsFairLog Device (GotPacket (packet payload) ∷ log)
+  idle : (payload : List ℕ) (log : Log) → LeftBy carry first port s.cid s.overrun s.table s.replies s.clean log → IsFairLog Device (GotPacket (packet payload) ∷ log)
       → carry.plain first (GotPacket (packet payload) ∷ log) → is_dropped Device s.cid h ≡ true
       → All (λ e. e.flow ≡ flow_to_host h → gives e.value.end ≡ true → payload ≡ []) s.table.entries
   idle payload log was fair plain dropped i d within flow given =
@@ -151,7 +151,7 @@ module _ (carry : Carried) (lines : List Handshake) (first port : ℕ) (s : Devi
       carry.idle first (packet payload) (seat port s log) was.seated was.matches fair plain dropped e.value.end has given
 
   -- A REQUEST comes on no flow that has a connection.
-  no_asking : (payload : List ℕ) (log : Log) → LeftBy carry first port s.cid s.overrun s.table s.replies log → IsFairLog Device (GotPacket (packet payload) ∷ log)
+  no_asking : (payload : List ℕ) (log : Log) → LeftBy carry first port s.cid s.overrun s.table s.replies s.clean log → IsFairLog Device (GotPacket (packet payload) ∷ log)
       → All (λ e. e.flow ≡ flow_to_host h → is_request (packet payload) ≡ false) s.table.entries
   no_asking payload log was fair i d within flow =
       let e : DeviceEntry = get_or s.table.entries i d in
@@ -165,7 +165,7 @@ module _ (carry : Carried) (lines : List Handshake) (first port : ℕ) (s : Devi
       goes_on : (v : Verdict) → verdict_of e.value.end h ≡ v → peer_resets v h ≡ false → (is_reset h && is_of e.value.end.kind h) ≡ false
       goes_on v is other = sym (rst_leaves e.value.end h) ∙ ap (λ (w : Verdict). peer_resets w h) is ∙ other
 
-      module _ (payload : List ℕ) (log : Log) (was : LeftBy carry first port s.cid s.overrun s.table s.replies log)
+      module _ (payload : List ℕ) (log : Log) (was : LeftBy carry first port s.cid s.overrun s.table s.replies s.clean log)
           (fair : IsFairLog Device (GotPacket (packet payload) ∷ log)) where
         after : (v : Verdict) → verdict_of e.value.end h ≡ v
             → HoldsBytes (end_after e.value.end h).credit (length e.value.pending + delivered v h.len)
@@ -183,13 +183,13 @@ module _ (carry : Carried) (lines : List Handshake) (first port : ℕ) (s : Devi
         }
 
         hears : (v : Verdict) → verdict_of e.value.end h ≡ v → peer_resets v h ≡ false
-            → LeftBy carry first port s.cid s.overrun (with_connection e.slot (heard h e.value) s).table s.replies
+            → LeftBy carry first port s.cid s.overrun (with_connection e.slot (heard h e.value) s).table s.replies s.clean
             (GotPacket (packet payload) ∷ log)
         hears v is other = stays_with carry first port s (packet payload) log was fair wire kept e there flow (heard h e.value) refl heard_fits
             (goes_on v is other)
 
         accepts : (line : List ℕ) → verdict_of e.value.end h ≡ verdict.Accept
-            → LeftBy carry first port s.cid s.overrun (with_connection e.slot (record (heard h e.value) { ok_line = line }) s).table s.replies
+            → LeftBy carry first port s.cid s.overrun (with_connection e.slot (record (heard h e.value) { ok_line = line }) s).table s.replies s.clean
             (GotPacket (packet payload) ∷ log)
         accepts line is =
             let c : DeviceConnection = record (heard h e.value) { ok_line = line } in
@@ -198,7 +198,7 @@ module _ (carry : Carried) (lines : List Handshake) (first port : ℕ) (s : Devi
 
         delivers : (bytes : List ℕ) → length bytes ≤ h.len → verdict_of e.value.end h ≡ verdict.Deliver
             → LeftBy carry first port s.cid s.overrun (with_connection e.slot
-            (record (heard h e.value) { pending = e.value.pending ++ bytes }) s).table s.replies (GotPacket (packet payload) ∷ log)
+            (record (heard h e.value) { pending = e.value.pending ++ bytes }) s).table s.replies s.clean (GotPacket (packet payload) ∷ log)
         delivers bytes short is =
             let c : DeviceConnection = record (heard h e.value) { pending = e.value.pending ++ bytes } in
             stays_with carry first port s (packet payload) log was fair wire kept e there flow c refl
@@ -208,7 +208,8 @@ module _ (carry : Carried) (lines : List Handshake) (first port : ℕ) (s : Devi
 
         leaves : verdict_of e.value.end h ≡ verdict.Peer → is_reset h ≡ true
             → LeftBy carry first port s.cid s.overrun (after_leaving e.slot
-            (with_connection e.slot (stream_closed (heard h e.value)) s)).table s.replies (GotPacket (packet payload) ∷ log)
+            (with_connection e.slot (stream_closed (heard h e.value)) s)).table s.replies (kept_if (keeps_flow h e) e.flow s.clean)
+            (GotPacket (packet payload) ∷ log)
         leaves is reset = leaves_with carry first port s (packet payload) log was fair wire kept e there flow (stream_closed (heard h e.value))
             (sym (rst_leaves e.value.end h) ∙ ap (λ (w : Verdict). peer_resets w h) is ∙ reset)
 
@@ -219,7 +220,7 @@ module _ (carry : Carried) (lines : List Handshake) (first port : ℕ) (s : Devi
             cc
 
       -- It is no REQUEST, and the connection's was put or got.
-      known : (payload : List ℕ) (log : Log) → LeftBy carry first port s.cid s.overrun s.table s.replies log → IsFairLog Device (GotPacket (packet payload) ∷ log)
+      known : (payload : List ℕ) (log : Log) → LeftBy carry first port s.cid s.overrun s.table s.replies s.clean log → IsFairLog Device (GotPacket (packet payload) ∷ log)
           → (is_request (packet payload) ≡ false) × (is_new e.value.end ≡ false)
       known payload log was fair =
           let has : HasEnd (flow_to_host h) e.value.end (ends_of_state port s) =
@@ -236,41 +237,44 @@ module _ (carry : Carried) (lines : List Handshake) (first port : ℕ) (s : Devi
           → Streams (λ c. c) (with_connection e.slot (heard h e.value) s)
       heard_on v is other undelivered payload log was fair whole few c x =
           let o = known payload log was fair in
-          hears_streams c log port s.table lines x was.fits.sound (packet payload) whole was.fair fair e there flow o.0 o.1 v is other undelivered
+          hears_streams c log (ports_of port s) s.table lines x was.fits.sound (packet payload) whole was.fair fair e there flow o.0 o.1 v is other undelivered
 
       module _ (c : Situation) (tells : Tells Came c) where
         peers : (b : Bool) → is_reset h ≡ b → verdict_of e.value.end h ≡ verdict.Peer
-            → Keeps Heard (with_verdict verdict.Peer (cond b (leaving (record e { value = heard h e.value }) s)
+            → Keeps Heard (with_verdict verdict.Peer (cond b (leaving (keeps_flow h e) (record e { value = heard h e.value }) s)
             (Done (with_connection e.slot (heard h e.value) s)))) c
         peers false reset is = quiet (with_connection e.slot (heard h e.value) s) verdict.Peer c refl refl
             (λ payload log was fair. hears payload log was fair verdict.Peer is reset) (heard_on verdict.Peer is
             (λ (q : verdict.Peer ≡ verdict.Accept). cc) (λ (q : verdict.Peer ≡ verdict.Deliver). cc)) tells
         peers true reset is =
             let x : DeviceEntry = record e { value = heard h e.value } in
-            let gone : DeviceState = after_leaving e.slot (with_connection e.slot (stream_closed (heard h e.value)) s) in
-            let next : DeviceState → DeviceTree DeviceState = λ t. Done (after_leaving e.slot t) in
+            let keep : Bool = keeps_flow h e in
+            let gone : DeviceState = keeping keep e.flow (after_leaving e.slot (with_connection e.slot (stream_closed (heard h e.value)) s)) in
+            let next : DeviceState → DeviceTree DeviceState = λ t. Done (keeping keep e.flow (after_leaving e.slot t)) in
+            let kept_ports : Ports = record { next = port; clean = kept_if keep e.flow s.clean } in
             let empty = reset_empty e.value.end.kind in
-            let leaving_now = λ (payload : List ℕ) (log : Log) (was : LeftBy carry first port s.cid s.overrun s.table s.replies log)
+            let leaving_now = λ (payload : List ℕ) (log : Log) (was : LeftBy carry first port s.cid s.overrun s.table s.replies s.clean log)
             (fair : IsFairLog Device (GotPacket (packet payload) ∷ log)). leaves payload log was fair is reset in
             let ends = sym (rst_leaves e.value.end h) ∙ ap (λ (w : Verdict). peer_resets w h) is ∙ reset in
-            let heard_streams = λ (payload : List ℕ) (log : Log) (was : LeftBy carry first port s.cid s.overrun s.table s.replies log)
+            let heard_streams = λ (payload : List ℕ) (log : Log) (was : LeftBy carry first port s.cid s.overrun s.table s.replies s.clean log)
             (fair : IsFairLog Device (GotPacket (packet payload) ∷ log)) (whole : IsWhole (packet payload)) (g : HostContents)
-            (y : IsStreamed g log port s.table lines).
-            empty_streams g log port s.table lines y was.fits.sound (packet payload) whole was.fair fair (empty (packet payload) ends)
-            (reset_plain e.value.end.kind (packet payload) ends) in
+            (y : IsStreamed g log (ports_of port s) s.table lines).
+            keeps_streams g (GotPacket (packet payload) ∷ log) (ports_of port s) s.table lines
+            (empty_streams g log (ports_of port s) s.table lines y was.fits.sound (packet payload) whole was.fair fair (empty (packet payload) ends)
+            (reset_plain e.value.end.kind (packet payload) ends)) was.fits.sound e there (known payload log was fair).1 keep in
             let by : (d : Situation) → Closes x.value c d → Heard (gone, verdict.Peer) d = λ d closes. elim closes as
             (λ z. Heard (gone, verdict.Peer) d) [
               | inl shut ↦
                   subst (λ (z : Situation). Heard (gone, verdict.Peer) z) (sym shut.1) (quiet gone verdict.Peer c refl refl leaving_now
-                  (λ payload log was fair whole few g y. leaves_streams g (GotPacket (packet payload) ∷ log) port s.table lines
+                  (λ payload log was fair whole few g y. leaves_streams g (GotPacket (packet payload) ∷ log) kept_ports s.table lines
                   (heard_streams payload log was fair whole g y) was.fits.sound e there shut.0 (stream_closed (heard h e.value))) tells)
               | inr made ↦
                   calls gone verdict.Peer c d false (λ g. Unit {0}) (after_close e.value.stream) refl refl leaving_now
-                  (λ payload log was fair whole few g any y. closes_streams g (GotPacket (packet payload) ∷ log) port s.table lines
+                  (λ payload log was fair whole few g any y. closes_streams g (GotPacket (packet payload) ∷ log) kept_ports s.table lines
                   (heard_streams payload log was fair whole g y) was.fits.sound e there (stream_closed (heard h e.value))) made.1 tells
             ] in
-            keeps_bind Heard (leaving x s) (λ t. Done (t, verdict.Peer)) c (keeps_bind (λ t d. Heard (t, verdict.Peer) d)
-            (closing x stream_closed s) next c (closing_keeps (λ t. Heard (after_leaving e.slot t, verdict.Peer)) x stream_closed s c by))
+            keeps_bind Heard (leaving keep x s) (λ t. Done (t, verdict.Peer)) c (keeps_bind (λ t d. Heard (t, verdict.Peer) d)
+            (closing x stream_closed s) next c (closing_keeps (λ t. Heard (keeping keep e.flow (after_leaving e.slot t), verdict.Peer)) x stream_closed s c by))
 
         refuses : (w : Why) → verdict_of e.value.end h ≡ verdict.Rst w → Keeps Heard
             (with_verdict (verdict.Rst w) (on_known (verdict.Rst w) chain h e s)) c
@@ -287,8 +291,8 @@ module _ (carry : Carried) (lines : List Handshake) (first port : ℕ) (s : Devi
         accepted line written is = quiet (with_connection e.slot (record (heard h e.value) { ok_line = line }) s) verdict.Accept c refl refl
             (λ payload log was fair. accepts payload log was fair line is) (λ payload log was fair whole few c y.
             let o = known payload log was fair in
-            accepts_streams c log port s.table lines y was.fits.sound (packet payload) whole was.fair fair e there flow o.0 o.1
-            (join_of (look c) c.labelled (count_in c) log port s.table lines y e there).client line written is) tells
+            accepts_streams c log (ports_of port s) s.table lines y was.fits.sound (packet payload) whole was.fair fair e there flow o.0 o.1
+            (join_of (look c) c.labelled (count_in c) log (ports_of port s) s.table lines y e there).client line written is) tells
 
         by_verdict : (v : Verdict) → verdict_of e.value.end h ≡ v → Keeps Heard (with_verdict v (on_known v chain h e s)) c
         by_verdict verdict.Accept is = accepted _ refl is
@@ -310,10 +314,10 @@ module _ (carry : Carried) (lines : List Handshake) (first port : ℕ) (s : Devi
                       let same : length bytes ≡ length (take h.len (drop HEADER_LEN (bytes_in chain l.held))) = ap length asked in
                       agrees_by (with_connection e.slot (record (heard h e.value) { pending = e.value.pending ++ bytes }) s) came.0 o o l
                       (λ payload log was fair. delivers payload log was fair bytes (omega (arith, few, same)) is) come
-                      (streams_go carry first lines lines port port s.table (with_value s.table e.slot (record (heard h e.value) { pending = e.value.pending ++ bytes }))
+                      (streams_go carry first lines lines port port s (with_connection e.slot (record (heard h e.value) { pending = e.value.pending ++ bytes }) s)
                       come.log (GotPacket (packet come.payload) ∷ come.log) (carry.before first (GotPacket (packet come.payload)) come.log) (λ c some x.
                       let known_now = known come.payload come.log come.was come.fair in
-                      delivers_streams c come.log port s.table lines x come.was.fits.sound (packet come.payload) come.whole come.was.fair come.fair e there flow
+                      delivers_streams c come.log (ports_of port s) s.table lines x come.was.fits.sound (packet come.payload) come.whole come.was.fair come.fair e there flow
                       known_now.0 known_now.1 bytes
                       (read ∙ payload_in came.0 (packet come.payload) come.held (delivered_rw e.value.end (packet come.payload) is)) is) o),
                 )) tells,
@@ -331,24 +335,24 @@ module _ (carry : Carried) (lines : List Handshake) (first port : ℕ) (s : Devi
     -- A packet of another flow.
     module _ (none : entry_of s.table (flow_to_host h) ≡ None) (c : Situation) (tells : Tells Came c) where
       passes : Streams (λ c. c) s
-      passes payload log was fair whole few c x = unknown_streams c log port s.table lines x was.fits.sound (packet payload) whole was.fair fair none
+      passes payload log was fair whole few c x = unknown_streams c log (ports_of port s) s.table lines x was.fits.sound (packet payload) whole was.fair fair none
 
       replied : (t : DeviceState) (v : Verdict) → (t.failed ≡ s.failed) × (t.chain ≡ s.chain) × (t.cid ≡ s.cid) × (t.overrun ≡ s.overrun)
-          × (t.table ≡ s.table)
+          × (t.table ≡ s.table) × (t.clean ≡ s.clean)
           × (t.replies ≡ s.replies ++ reply_to (flow_to_host h) h ∷ []) → is_reset h ≡ false → Heard (t, v) c
-      replied t v (failed, chain_is, cid, overrun, table, replies) plain = quiet t v c failed chain_is (λ payload log was fair.
-          rw (cid, overrun, table, replies) (replies_to carry first port s (packet payload) log was fair wire kept none plain))
-          (λ payload log was fair whole few c x. rw table (passes payload log was fair whole few c x)) tells
+      replied t v (failed, chain_is, cid, overrun, table, clean, replies) plain = quiet t v c failed chain_is (λ payload log was fair.
+          rw (cid, overrun, table, clean, replies) (replies_to carry first port s (packet payload) log was fair wire kept none plain))
+          (λ payload log was fair whole few c x. rw (table, clean) (passes payload log was fair whole few c x)) tells
 
       -- The REQUEST is the first packet of its flow.
       dials : (path : List ℕ) (a : Dialed) (d : Situation) (f : HostContents → HostContents) (t : DeviceState) (faults : Bool) → (t.failed ≡ s.failed) × (t.chain ≡ s.chain)
-          × (t.cid ≡ s.cid) × (t.overrun ≡ s.overrun) × (t.table ≡ s.table) × (t.replies ≡ s.replies ++ reply_to (flow_to_host h) h ∷ []) → is_reset h ≡ false
+          × (t.cid ≡ s.cid) × (t.overrun ≡ s.overrun) × (t.table ≡ s.table) × (t.clean ≡ s.clean) × (t.replies ≡ s.replies ++ reply_to (flow_to_host h) h ∷ []) → is_reset h ≡ false
           → HostMoves faults (IsDialed path a) f c d
-          → ((g : HostContents) (log : Log) → IsStreamed g log port s.table lines → IsStreamed (f g) log port s.table lines) → Heard (t, verdict.Rst why.NotLive) d
-      dials path a d f t faults (failed, chain_is, cid, overrun, table, replies) plain made carries =
+          → ((g : HostContents) (log : Log) → IsStreamed g log (ports_of port s) s.table lines → IsStreamed (f g) log (ports_of port s) s.table lines) → Heard (t, verdict.Rst why.NotLive) d
+      dials path a d f t faults (failed, chain_is, cid, overrun, table, clean, replies) plain made carries =
           calls t (verdict.Rst why.NotLive) c d faults (IsDialed path a) f failed chain_is (λ payload log was fair.
-          rw (cid, overrun, table, replies) (replies_to carry first port s (packet payload) log was fair wire kept none plain))
-          (λ payload log was fair whole few g is x. rw table (carries g (GotPacket (packet payload) ∷ log) (passes payload log was fair whole few g x))) made tells
+          rw (cid, overrun, table, clean, replies) (replies_to carry first port s (packet payload) log was fair wire kept none plain))
+          (λ payload log was fair whole few g is x. rw (table, clean) (carries g (GotPacket (packet payload) ∷ log) (passes payload log was fair whole few g x))) made tells
 
       dial_by : (path : List ℕ) (a : Dialed) (d : Situation) → Lets (Dial path (flow_to_host h)) a c d → is_assigned h.dst_port ≡ false → is_reset h ≡ false
           → is_request (packet []) ≡ true → h.kind ≡ 1 → has_place s.table ≡ true → Heard (dial_answered h a s) d
@@ -357,17 +361,17 @@ module _ (carry : Carried) (lines : List Handshake) (first port : ℕ) (s : Devi
           (after_dial (flow_to_host h) (dialed.Stream stream)) refl refl
           (λ payload log was fair. opens carry first port s (packet payload) log was fair wire kept none stream request kind place)
           (λ payload log was fair whole few g is x.
-          subst (λ (n : ℕ). IsStreamed (after_dial (flow_to_host h) (dialed.Stream n) g) (GotPacket (packet payload) ∷ log) port
+          subst (λ (n : ℕ). IsStreamed (after_dial (flow_to_host h) (dialed.Stream n) g) (GotPacket (packet payload) ∷ log) (ports_of port s)
           (with_dialed (flow_to_host h) h n s).table lines) (sym (dialed_id path stream g (sym is)))
-          (dial_host g log port s.table lines x was.fits.sound (packet payload) fair request (whole.none (request_empty (packet payload) request)) none h))
+          (dial_host g log (ports_of port s) s.table lines x was.fits.sound (packet payload) fair request (whole.none (request_empty (packet payload) request)) none h))
           made tells
       dial_by path dialed.Refused d made outside plain request kind place = dials path dialed.Refused d called (with_reply (reply_to (flow_to_host h) h) s) false
-          (refl, refl, refl, refl, refl, refl) plain made (λ g log x. called_host g log port s.table lines x)
+          (refl, refl, refl, refl, refl, refl, refl) plain made (λ g log x. called_host g log (ports_of port s) s.table lines x)
       dial_by path dialed.Failed d made outside plain request kind place = dials path dialed.Failed d after_failed (with_reply (reply_to (flow_to_host h) h) (with_fault s)) true
-          (refl, refl, refl, refl, refl, refl) plain made (λ g log x. failed_host g log port s.table lines x)
+          (refl, refl, refl, refl, refl, refl, refl) plain made (λ g log x. failed_host g log (ports_of port s) s.table lines x)
 
       refused_keeps : is_reset h ≡ false → Heard (refused h s) c
-      refused_keeps plain = replied (with_reply (reply_to (flow_to_host h) h) s) (verdict.Rst why.NotLive) (refl, refl, refl, refl, refl, refl) plain
+      refused_keeps plain = replied (with_reply (reply_to (flow_to_host h) h) s) (verdict.Rst why.NotLive) (refl, refl, refl, refl, refl, refl, refl) plain
 
       asked_by : (is_of Stream h && (h.op == 1)) ≡ true → is_request (packet []) ≡ true
       asked_by is = grind (arith, nat_tests, common_steps, is)
@@ -383,13 +387,13 @@ module _ (carry : Carried) (lines : List Handshake) (first port : ℕ) (s : Devi
           keeps_if asking Heard (is_assigned h.dst_port) _ _ c (λ mine. refused_keeps plain) (λ outside.
           keeps_if asking Heard (has_place s.table) _ _ c
           (λ place. (tt, λ a d made. dial_by _ a d made outside plain (asked_by asks) (of_stream asks) place)) (λ full. refused_keeps plain)))
-          (λ other. replied (with_reply (reply_to (flow_to_host h) h) s) (verdict.Rst (unknown_why h)) (refl, refl, refl, refl, refl, refl) plain))
+          (λ other. replied (with_reply (reply_to (flow_to_host h) h) s) (verdict.Rst (unknown_why h)) (refl, refl, refl, refl, refl, refl, refl) plain))
 
   pub packet_keeps : (c : Situation) → Tells Came c → Keeps Heard (on_packet chain h s) c
   packet_keeps c tells =
       keeps_if asking Heard (is_dropped Device s.cid h) _ _ c (λ is. quiet (record s { dropped = counted s.dropped }) verdict.Ignore c refl refl
       (λ payload log was fair. drops_it carry first port s (packet payload) log was fair wire is) (λ payload log was fair whole few g x.
-      passes_streams g log port s.table lines x was.fits.sound (packet payload) whole was.fair fair (idle payload log was fair few is)
+      passes_streams g log (ports_of port s) s.table lines x was.fits.sound (packet payload) whole was.fair fair (idle payload log was fair few is)
       (no_asking payload log was fair)) tells) (λ kept.
       keeps_some asking Heard (entry_of s.table (flow_to_host h)) (on_unknown h s)
       (λ e. bind (on_known (verdict_of e.value.end h) chain h e s) (λ t. Done (t, verdict_of e.value.end h))) c

@@ -3,6 +3,7 @@ pub mod Seats
 pub mod Shown
 pub mod Fits
 pub mod Bytes
+pub mod Clean
 pub mod Tabling
 pub mod Chains
 pub mod Changing

@@ -5,7 +5,7 @@ use Rattle.vs_conn.specs.{Headers.{owed_flags, owed_header, owed_op, payload_hea
 use Rattle.vs_conn.{specs.Follows.FitsMessage, proofs.{Frames.paid_kind, Steps.stream_fits}}
 use Rattle.vs_header.specs.{Packet.header_bytes, declared.Header.Header}
 use Rattle.laws_history.specs.{History.puts, declared.packet.Packet.Packet}
-use Rattle.vs_flow.specs.Table.{Table, with_value, without}
+use Rattle.vs_flow.specs.{Table.{Table, with_value, without}, declared.flow.Flow.Flow}
 use Rattle.vs_page.{specs.{Log.{Device, Log, history_of}, Fair.IsFairLog, Held.{FitsWire, packet_held}, declared.log.LogEntry.TheVariants.PutPacket}, proofs.Packets.held_alone}
 use Rattle.vs_page.proofs.Packets.{held_payload}
 use Rattle.vs_replies.specs.declared.Reply.{Reply}
@@ -19,19 +19,19 @@ use Rattle.vs_header.specs.declared.Op.TheVariants as op
 
 -- What a step does that puts the packet with this header and payload.
 pub record PutsTo (carry : Carried) (port : ℕ) (h : Header) (payload : List ℕ) (cid overrun : ℕ) (table : Table DeviceConnection) (replies : List Reply)
-    (cid' overrun' : ℕ) (table' : Table DeviceConnection) (replies' : List Reply) : Type 0 where
+    (clean : List Flow) (cid' overrun' : ℕ) (table' : Table DeviceConnection) (replies' : List Reply) (clean' : List Flow) : Type 0 where
   pub held : packet_held (header_bytes h ++ payload) ≡ (let p : Packet = record { header = h; payload = payload } in Some p)
-  pub fits : IsFit cid' table' replies'
+  pub fits : IsFit cid' table' replies' clean'
   pub overrun_is : overrun' ≡ overrun
-  pub matches : (first : ℕ) (log : Log) → Matches Device first (ends_with port cid table replies) log
-      → Matches Device first (ends_with port cid' table' replies') (PutPacket (record { header = h; payload = payload }) ∷ log)
-  pub fair : (first : ℕ) (log : Log) → Matches Device first (ends_with port cid table replies) log → IsFairLog Device log
+  pub matches : (first : ℕ) (log : Log) → Matches Device first (ends_with port cid table replies clean) log
+      → Matches Device first (ends_with port cid' table' replies' clean') (PutPacket (record { header = h; payload = payload }) ∷ log)
+  pub fair : (first : ℕ) (log : Log) → Matches Device first (ends_with port cid table replies clean) log → IsFairLog Device log
       → IsFairLog Device (PutPacket (record { header = h; payload = payload }) ∷ log)
-  pub goes : (log : Log) → carry.holds (record { part = ends_with port cid table replies; log = log })
-      → carry.holds (record { part = ends_with port cid' table' replies'; log = PutPacket (record { header = h; payload = payload }) ∷ log })
+  pub goes : (log : Log) → carry.holds (record { part = ends_with port cid table replies clean; log = log })
+      → carry.holds (record { part = ends_with port cid' table' replies' clean'; log = PutPacket (record { header = h; payload = payload }) ∷ log })
 
 abbrev pub Puts : Carried → ℕ → DeviceState → Header → List ℕ → DeviceState → Type 0
-Puts carry port s h payload t = PutsTo carry port h payload s.cid s.overrun s.table s.replies t.cid t.overrun t.table t.replies
+Puts carry port s h payload t = PutsTo carry port h payload s.cid s.overrun s.table s.replies s.clean t.cid t.overrun t.table t.replies t.clean
 
 held_empty : (h : Header) → FitsWire h → h.len ≡ 0 → packet_held (header_bytes h ++ []) ≡
     (let p : Packet = record { header = h; payload = [] } in Some p)
@@ -52,6 +52,7 @@ module _ (carry : Carried) (port : ℕ) (s : DeviceState) (fits : IsFitState s) 
           entries = fits.entries;
           owed = λ i d less. owed (suc i) d
               (omega (arith, less));
+          clean_fit = fits.clean_fit;
         };
         overrun_is = refl;
         matches = λ first log m. replies Device first s.cid reply rest (ends_of_state port s) log m is;
@@ -140,5 +141,5 @@ module _ (carry : Carried) (port : ℕ) (s : DeviceState) (fits : IsFitState s) 
       pub rst_puts : what ≡ owed.Rst → (c : DeviceConnection)
           → Puts carry port s (owed_header e.value.end (route_to_guest s.cid e.flow) what) []
           (record s { table = without (with_value s.table e.slot c) e.slot })
-      rst_puts rst c = pays_to (record s { table = without (with_value s.table e.slot c) e.slot }) (left_fits s fits e there c) refl
-          (ap (λ (w : Owed). paid e.flow e.value.end w (ends_of_state port s)) rst ∙ sym (left_ends s fits e there port c))
+      rst_puts rst c = pays_to (record s { table = without (with_value s.table e.slot c) e.slot }) (left_fits s fits e there c false (λ no. absurd cc)) refl
+          (ap (λ (w : Owed). paid e.flow e.value.end w (ends_of_state port s)) rst ∙ sym (left_ends s fits e there port c false))

@@ -1,10 +1,10 @@
 -- The device's steps as those of its seat, and what a walk over its conversations carries.
-use Rattle.std.proofs.Common.{◌≡◌, ℕ, ◌≤◌, true, List, [], ◌∷◌, ap}
+use Rattle.std.proofs.Common.{◌≡◌, ℕ, true, List, [], ◌∷◌, ap}
 use Rattle.vs_conn.specs.End.{ConnectionEnd}
 use Rattle.vs_flow.specs.{declared.flow.Flow.Flow, Table.Table}
 use Rattle.vs_limits.specs.declared.TheConstants.{HOST_CID}
 use Rattle.vs_page.specs.{Log.{flow_got, Device, Log, packets_put}, Open.is_dropped, declared.log.LogEntry.{LogEntry, TheVariants.GotPacket}, Fair.IsFairLog, Held.FitsWire}
-use Rattle.laws_tables.specs.{Steps.{HasEnd, IsNextFlow}, Both.{Asks, MayHappen, Opens, Seat, Step, Takes, after}, Ends.Ends, Heard.own_port, Matches.Matches}
+use Rattle.laws_tables.specs.{Steps.{HasEnd, IsNextFlow}, Both.{Asks, MayHappen, Opens, Seat, Step, Takes, after}, Ends.Ends, Matches.Matches}
 use Rattle.laws_device.specs.{Carried.Streamed.gives, Honest.{IsFit, ends_of_state, ends_with}}
 use Rattle.laws_history.specs.declared.packet.Packet.{Packet}
 use Rattle.vs_ring_port.specs.{Chains.Held, EndLog.EndLog}
@@ -17,10 +17,10 @@ seat port s log = record { part = ends_of_state port s; log = log }
 pub at_log : (log : Log) (old new : Ends) → old ≡ new → (let w : Seat = record { part = old; log = log } in w) ≡ record { part = new; log = log }
 at_log log old new = ap (λ (part : Ends). let w : Seat = record { part = part; log = log } in w)
 
--- A step that may happen there, whatever the other end did. No flow is asked for whose port was given before.
+-- A step that may happen there, whatever the other end did.
 abbrev pub MayDo : Step → Seat → Type 0
-MayDo (Opens f kind) w = IsNextFlow Device f w.part × (w.part.next_port ≤ own_port Device f)
-MayDo (Asks f kind) w = IsNextFlow Device f w.part × (w.part.next_port ≤ own_port Device f)
+MayDo (Opens f kind) w = IsNextFlow Device f w.part
+MayDo (Asks f kind) w = IsNextFlow Device f w.part
 MayDo (Takes p answer) w = Unit {0}
 MayDo step w = MayHappen Device step (record { driver = w; device = w })
 
@@ -55,12 +55,13 @@ pub record Carried : Type 1 where
       → gives e ≡ true → p.payload ≡ []
 
 -- The device agrees with its log, as `AgreesWith` says, and its seat is carried.
-pub record LeftBy (carry : Carried) (first port cid overrun : ℕ) (table : Table DeviceConnection) (replies : List Reply) (entries : Log) : Type 0 where
-  pub fits : IsFit cid table replies
+pub record LeftBy (carry : Carried) (first port cid overrun : ℕ) (table : Table DeviceConnection) (replies : List Reply)
+    (clean : List Flow) (entries : Log) : Type 0 where
+  pub fits : IsFit cid table replies clean
   pub none_overrun : overrun ≡ 0
-  pub matches : Matches Device first (ends_with port cid table replies) entries
+  pub matches : Matches Device first (ends_with port cid table replies clean) entries
   pub fair : IsFairLog Device entries
-  pub seated : carry.holds (record { part = ends_with port cid table replies; log = entries })
+  pub seated : carry.holds (record { part = ends_with port cid table replies clean; log = entries })
 
 abbrev pub AgreesBy : Carried → ℕ → ℕ → DeviceState → EndLog → Type 0
-AgreesBy carry first port s l = LeftBy carry first port s.cid s.overrun s.table s.replies l.entries
+AgreesBy carry first port s l = LeftBy carry first port s.cid s.overrun s.table s.replies s.clean l.entries

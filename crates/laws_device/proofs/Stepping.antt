@@ -24,7 +24,7 @@ module _ (carry : Carried) (all : (held : List Held) → carry.others held) (lin
   Now = With carry lines first port
 
   abbrev Told : DeviceState → Bool → Option HostContents → EndLog → Type 0
-  Told s = IsToldBy carry (StreamedOver carry lines first port s.table) first port s
+  Told s = IsToldBy carry (StreamedOver carry lines first port s) first port s
 
   -- The chain is held.
   abbrev IsThere : Chain → Situation → Type 0
@@ -110,7 +110,7 @@ module _ (carry : Carried) (all : (held : List Held) → carry.others held) (lin
         holds.0,
         moves _ _ _ _ _ (log_returned chain 0) c d made.0.1 made.1 (Told s) (Told s) (λ hon o l asked was fair. (
           λ still. among_without carry.others all chain (other chain Tx queue refl) s.chain l.held holds.0 (was.0 still),
-          λ honest. subst (λ (log : Log). LeftBy carry first port s.cid s.overrun s.table s.replies log × StreamedOver carry lines first port s.table o log)
+          λ honest. subst (λ (log : Log). LeftBy carry first port s.cid s.overrun s.table s.replies s.clean log × StreamedOver carry lines first port s o log)
               (sym (ap (λ (q : Queue). entries_returned q (take 0 (bytes_in chain l.held)) l.entries) queue)) (was.1 honest),
         )) holds.1,
       ),

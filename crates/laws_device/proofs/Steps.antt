@@ -6,13 +6,12 @@ use Rattle.vs_ring_port.specs.{EndLog.{EndLog, log_taken}, Contents.Take, Device
 use Rattle.vs_ring_port.specs.declared.{queue.Queue.Queue, failure.Failure.Failure}
 use Rattle.vs_device_parts.specs.{Calls.{DeviceTree, HostMoves, Ring, Situation}, Receiving.{Filling, hold, holding}, Connections.{cut_off, with_connection}, Playing.IsRxChain}
 use Rattle.vs_device_parts.specs.{State.{DeviceConnection, DeviceEntry, DeviceState}, Streams.closing, Transmitting.failing}
-use Rattle.laws_device.{specs.{Honest.IsFitState, Carried.Streamed.IsStreamed}, proofs.Carrying.{Closes, Fact, IsHeldBy, IsToldBy, StreamedOver, With, closed_with, streams_call}}
+use Rattle.laws_device.{specs.{Honest.IsFitState, Carried.Streamed.{IsStreamed, ports_of}}, proofs.Carrying.{Closes, Fact, IsHeldBy, IsToldBy, StreamedOver, With, closed_with, streams_call}}
 use Rattle.laws_device.proofs.{Carrying.streams_go, Chains.{Among, is_unwritten, taken_holds}, Seats.Carried, Changing.Changes, Keeping.{Goes, Keeps, asking, Lets}, Ringing.moves}
 use Rattle.laws_device.proofs.{Ringing.{host_moves, tells_weaker}, Walk.Keeping.keeps_if, Carried.{Changing.cuts_streams, HostCalls.cut_host}}
 use Rattle.vs_proxy_parts.specs.State.{Handshake}
 use Rattle.vs_outside.specs.Host.{HostContents}
 use Rattle.vs_page.specs.Log.{Log}
-use Rattle.vs_flow.specs.Table.{Table, with_value}
 use Rattle.vs_ring_port.specs.declared.device_ring.Next.TheVariants as next
 
 -- The host closes a stream, and the ring stays.
@@ -23,7 +22,7 @@ closing_keeps Q e f s c keeps =
     keeps_if asking Q e.value.closed _ _ c (λ shut. keeps c (inl (shut, refl))) (λ still. (tt, λ a d made. keeps d (inr (still, made))))
 
 module _ (carry : Carried) (lines : List Handshake) (first port : ℕ) where
-  abbrev Streamed : Table DeviceConnection → Fact
+  abbrev Streamed : DeviceState → Fact
   Streamed t = StreamedOver carry lines first port t
 
   pub told_changed : (s t : DeviceState) (F G : Fact) (hon : Bool) (o n : Option HostContents) (l : EndLog) → t.chain ≡ s.chain → t.failed ≡ s.failed
@@ -44,24 +43,24 @@ module _ (carry : Carried) (lines : List Handshake) (first port : ℕ) where
 
   -- A step that puts and gets nothing, without a call on the host and with one.
   pub changed : (s t : DeviceState) → t.chain ≡ s.chain → t.failed ≡ s.failed → (IsFitState s → Changes carry port s t)
-      → (IsFitState s → (h : HostContents) (log : Log) → IsStreamed h log port s.table lines → IsStreamed h log port t.table lines) → (c : Situation)
+      → (IsFitState s → (h : HostContents) (log : Log) → IsStreamed h log (ports_of port s) s.table lines → IsStreamed h log (ports_of port t) t.table lines) → (c : Situation)
       → With carry lines first port s c → With carry lines first port t c
   changed s t chain failed step carries c holds = (
     subst (λ (o : Option Chain). IfSome o IsRxChain) (sym chain) holds.0,
-    tells_weaker (IsToldBy carry (Streamed s.table) first port s) (IsToldBy carry (Streamed t.table) first port t) (λ hon o l was.
-        told_changed s t (Streamed s.table) (Streamed t.table) hon o o l chain failed step (λ fits x.
-        streams_go carry first lines lines port port s.table t.table l.entries l.entries (λ few. few) (λ h few y. carries fits h l.entries y) o x) was) c holds.1,
+    tells_weaker (IsToldBy carry (Streamed s) first port s) (IsToldBy carry (Streamed t) first port t) (λ hon o l was.
+        told_changed s t (Streamed s) (Streamed t) hon o o l chain failed step (λ fits x.
+        streams_go carry first lines lines port port s t l.entries l.entries (λ few. few) (λ h few y. carries fits h l.entries y) o x) was) c holds.1,
   )
 
   pub called_with : (s t : DeviceState) → t.chain ≡ s.chain → t.failed ≡ s.failed → (IsFitState s → Changes carry port s t) → (failed : Bool)
       (A : HostContents → Type 0) (f : HostContents → HostContents)
-      → (IsFitState s → (h : HostContents) (log : Log) → A h → IsStreamed h log port s.table lines → IsStreamed (f h) log port t.table lines) → (c d : Situation)
+      → (IsFitState s → (h : HostContents) (log : Log) → A h → IsStreamed h log (ports_of port s) s.table lines → IsStreamed (f h) log (ports_of port t) t.table lines) → (c d : Situation)
       → HostMoves failed A f c d → With carry lines first port s c → With carry lines first port t d
   called_with s t chain failed step faults A f carries c d made holds = (
     subst (λ (o : Option Chain). IfSome o IsRxChain) (sym chain) holds.0,
-    host_moves faults A f c d made (IsToldBy carry (Streamed s.table) first port s) (IsToldBy carry (Streamed t.table) first port t) (λ hon o n l exposes was.
-        told_changed s t (Streamed s.table) (Streamed t.table) hon o n l chain failed step (λ fits x.
-        streams_call carry first lines lines port port s.table t.table l.entries l.entries (λ few. few) A f (λ h answers few y. carries fits h l.entries answers y) o n exposes x) was)
+    host_moves faults A f c d made (IsToldBy carry (Streamed s) first port s) (IsToldBy carry (Streamed t) first port t) (λ hon o n l exposes was.
+        told_changed s t (Streamed s) (Streamed t) hon o n l chain failed step (λ fits x.
+        streams_call carry first lines lines port port s t l.entries l.entries (λ few. few) A f (λ h answers few y. carries fits h l.entries answers y) o n exposes x) was)
         holds.1,
   )
 
@@ -70,16 +69,16 @@ module _ (carry : Carried) (lines : List Handshake) (first port : ℕ) where
       → With carry lines first port s c → With carry lines first port s d
   none_came queue s c d made holds = (
     holds.0,
-    moves _ _ _ _ _ (log_taken queue next.None made.0.0) c d made.0.1 made.1 (IsToldBy carry (Streamed s.table) first port s)
-        (IsToldBy carry (Streamed s.table) first port s) (λ hon o l asked was fair. was) holds.1,
+    moves _ _ _ _ _ (log_taken queue next.None made.0.0) c d made.0.1 made.1 (IsToldBy carry (Streamed s) first port s)
+        (IsToldBy carry (Streamed s) first port s) (λ hon o l asked was fair. was) holds.1,
   )
 
   pub it_failed : (queue : Queue) (f : Failure) (s : DeviceState) (c d : Situation) → s.failed ≡ None
       → Lets (Ring (Take queue)) (next.Failed f) c d → With carry lines first port s c → With carry lines first port (failing f s) d
   it_failed queue f s c d going made holds = (
     holds.0,
-    moves _ _ _ _ _ (log_taken queue (next.Failed f) made.0.0) c d made.0.1 made.1 (IsToldBy carry (Streamed s.table) first port s)
-        (IsToldBy carry (Streamed s.table) first port (failing f s)) (λ hon o l asked was fair. (λ still. was.0 going, was.1)) holds.1,
+    moves _ _ _ _ _ (log_taken queue (next.Failed f) made.0.0) c d made.0.1 made.1 (IsToldBy carry (Streamed s) first port s)
+        (IsToldBy carry (Streamed s) first port (failing f s)) (λ hon o l asked was fair. (λ still. was.0 going, was.1)) holds.1,
   )
 
   -- The seat alone changes.
@@ -95,12 +94,12 @@ module _ (carry : Carried) (lines : List Handshake) (first port : ℕ) where
   -- A connection is over, and its stream closes.
   pub cut_with : (e : DeviceEntry) (s t : DeviceState) → Contains s.table.entries e → t.chain ≡ s.chain → t.failed ≡ s.failed
       → (IsFitState s → is_new e.value.end ≡ false) → (IsFitState s → Changes carry port s t) → (c d : Situation) → Closes e.value c d
-      → With carry lines first port s c → IsHeldBy carry (Streamed (with_value s.table e.slot (cut_off e.value))) first port t d
+      → With carry lines first port s c → IsHeldBy carry (Streamed (with_connection e.slot (cut_off e.value) s)) first port t d
   cut_with e s t there chain failed old step c d closes holds =
-      let u : Table DeviceConnection = with_value s.table e.slot (cut_off e.value) in
-      seat_changed s t (Streamed u) chain failed step d (closed_with carry first port s e.value c d lines s.table u
-      (λ shut fits h log x. cuts_streams h log port s.table lines x fits.sound e there (old fits) shut)
-      (λ fits h log x. cut_host h log port s.table lines x fits.sound e there (sym (old fits))) closes holds)
+      let u : DeviceState = with_connection e.slot (cut_off e.value) s in
+      seat_changed s t (Streamed u) chain failed step d (closed_with carry first port s e.value c d lines s u
+      (λ shut fits h log x. cuts_streams h log (ports_of port s) s.table lines x fits.sound e there (old fits) shut)
+      (λ fits h log x. cut_host h log (ports_of port s) s.table lines x fits.sound e there (sym (old fits))) closes holds)
 
   -- A stage that goes on, and one that may be over.
   abbrev pub Open : Filling → Situation → Type 0
@@ -129,13 +128,13 @@ module _ (carry : Carried) (lines : List Handshake) (first port : ℕ) where
       let P : DeviceState → Type 0 = λ x. With carry lines first port (record x { chain = Some chain }) d in
       subst P (sym is) (
         (made.3.queue_is, made.3.long),
-        moves _ _ _ _ _ (log_taken Rx (next.Chain chain) made.0.0) c d made.0.1 made.1 (IsToldBy carry (Streamed s.table) first port s)
-            (IsToldBy carry (Streamed s.table) first port (record s { chain = Some chain }))
+        moves _ _ _ _ _ (log_taken Rx (next.Chain chain) made.0.0) c d made.0.1 made.1 (IsToldBy carry (Streamed s) first port s)
+            (IsToldBy carry (Streamed s) first port (record s { chain = Some chain }))
             (λ h o l asked was fair. taken_by made.0.0 h o l asked.0 was) holds.1,
       )
     where
-      taken_by : (page : Option (List ℕ)) (h : Bool) (o : Option HostContents) (l : EndLog) → IsTakenAs Rx (next.Chain chain) page → IsToldBy carry (Streamed s.table) first port s h o l
-          → IsToldBy carry (Streamed s.table) first port (record s { chain = Some chain }) h o (log_taken Rx (next.Chain chain) page l)
+      taken_by : (page : Option (List ℕ)) (h : Bool) (o : Option HostContents) (l : EndLog) → IsTakenAs Rx (next.Chain chain) page → IsToldBy carry (Streamed s) first port s h o l
+          → IsToldBy carry (Streamed s) first port (record s { chain = Some chain }) h o (log_taken Rx (next.Chain chain) page l)
       taken_by None h o l asked was = absurd asked
       taken_by (Some page) h o l asked was = (
         λ still. taken_holds chain [] is_unwritten carry.others l.held refl (subst (λ (x : Option Chain). Among carry.others x l.held) none (was.0 going)),

@@ -3,29 +3,26 @@ use Rattle.std.proofs.{Common.{◌≡◌, ℕ, ◌&&◌, Bool, true, false, cond
 use Rattle.std.proofs.lemmas.{Bool.Decides.nat_tests, Grind.common_steps}
 use Rattle.vs_conn.{specs.{End.{ConnectionEnd, answering, end_after, is_reset, is_of, verdict_of}, Follows.IsTaken}, proofs.Frames.got_kind}
 use Rattle.laws_history.specs.{Packets.{is_request, is_rst}, declared.packet.Packet.Packet}
-use Rattle.vs_limits.specs.declared.TheConstants.{BUF_ALLOC}
+use Rattle.vs_limits.specs.declared.TheConstants.{BUF_ALLOC, HOST_CID}
 use Rattle.vs_flow.{specs.{Table.{entry_of, has_place, refusal, with_value, without}, declared.flow.Flow.Flow}, proofs.Tables.accepted}
 use Rattle.vs_page.specs.{Log.{Device, Log, flow_to_host, side_of}, Fair.IsFairLog, Held.FitsWire, Open.is_dropped, declared.log.LogEntry.TheVariants.GotPacket}
 use Rattle.vs_replies.specs.Owed.{reply_to}
-use Rattle.laws_tables.specs.{Steps.{HasEnd, HasNone, forgotten, is_kept, is_overrun, left, taken, with_clean, with_end, accepted as accepted_as}, Both.{Forgets, Seat, Takes}}
-use Rattle.laws_tables.specs.{Both.{after, after_packet, after_taking, answered}, Ends.{Ends, FlowEnd, answer_kind, ends_of}, Heard.{IsInOrder, heard_of}, Matches.Matches}
-use Rattle.laws_tables.proofs.{Keeps.{accepts, drops, forgets, has_room, ignores, refuses, takes}, Fair.{got_in_order, got_is_taken}, Slots.{added_slot, no_entry}}
-use Rattle.vs_device_parts.specs.{Connections.{new_connection, with_connection, with_dialed, with_reply}, State.{DeviceConnection, DeviceEntry, DeviceState}}
+use Rattle.laws_tables.specs.{Steps.{HasEnd, HasNone, is_kept, is_overrun, left, taken, with_clean, with_end, accepted as accepted_as}, Both.{Seat, Takes, after_packet}}
+use Rattle.laws_tables.{specs.{Both.{after_taking, answered}, Ends.{Ends, FlowEnd, answer_kind, ends_of}, Heard.{IsInOrder, heard_of}, Matches.Matches}, proofs.Keeps.accepts}
+use Rattle.laws_tables.proofs.{Keeps.{drops, has_room, ignores, refuses, takes}, Fair.{got_in_order, got_is_taken}, Slots.{added_slot, no_entry}}
+use Rattle.vs_device_parts.specs.{Connections.{kept_if, new_connection, with_connection, with_dialed, with_reply}, State.{DeviceConnection, DeviceEntry, DeviceState}}
 use Rattle.laws_device.proofs.{Tabling.{IsFitConnection, begun_fits, connection_ends, connection_fits, has_end, left_ends, left_fits, entry_fits, opening_fits}, Seats.Carried}
 use Rattle.laws_device.{proofs.Seats.{LeftBy, at_log, seat}, specs.Honest.{IsFitFlow, IsFitReply, ends_of_state, end_in}}
-use Rattle.vs_header.specs.declared.Kind.TheVariants.{Stream}
+use Rattle.vs_header.specs.declared.{Header.Header, Kind.TheVariants.Stream}
 
--- What an RST leaves of an end that keeps no flow.
-pub forgotten_taken : (f : Flow) (after : ConnectionEnd) (part : Ends) → part.clean ≡ [] → (b kept : Bool)
-    → forgotten (cond b (with_clean kept f (left f part)) (with_end f after part)) ≡ cond b (left f part) (with_end f after part)
-forgotten_taken f after part none true true = ap (λ (fs : List Flow). let x : Ends = record (left f part) { clean = fs } in x) (sym none)
-forgotten_taken f after part none true false = ap (λ (fs : List Flow). let x : Ends = record (left f part) { clean = fs } in x) (sym none)
-forgotten_taken f after part none false kept = ap (λ (fs : List Flow). let x : Ends = record (with_end f after part) { clean = fs } in x) (sym none)
+-- A packet that isn't dropped goes to the host.
+to_host : (cid : ℕ) (h : Header) → is_dropped Device cid h ≡ false → h.dst_cid ≡ HOST_CID
+to_host cid h is = grind (arith, nat_tests, common_steps, is)
 
-module _ (carry : Carried) (first port : ℕ) (s : DeviceState) (p : Packet) (log : Log) (was : LeftBy carry first port s.cid s.overrun s.table s.replies log)
+module _ (carry : Carried) (first port : ℕ) (s : DeviceState) (p : Packet) (log : Log) (was : LeftBy carry first port s.cid s.overrun s.table s.replies s.clean log)
     (fair : IsFairLog Device (GotPacket p ∷ log)) (wire : FitsWire p.header) where
   abbrev pub Goes : DeviceState → Type 0
-  Goes t = LeftBy carry first port t.cid t.overrun t.table t.replies (GotPacket p ∷ log)
+  Goes t = LeftBy carry first port t.cid t.overrun t.table t.replies t.clean (GotPacket p ∷ log)
 
   order : IsInOrder (side_of Device (flow_to_host p.header)) (heard_of Device first (flow_to_host p.header) log) p
   order = got_in_order Device first p log (fair (flow_to_host p.header))
@@ -39,12 +36,11 @@ module _ (carry : Carried) (first port : ℕ) (s : DeviceState) (p : Packet) (lo
   abbrev flow_is : Flow
   flow_is = flow_to_host p.header
 
-  -- It is a step of the seat, which keeps no flow to be used again.
-  goes_to : (t : DeviceState) (answer : Bool) → forgotten (after_taking Device p answer part) ≡ ends_of_state port t
+  -- It is a step of the seat.
+  goes_to : (t : DeviceState) (answer : Bool) → after_taking Device p answer part ≡ ends_of_state port t
       → carry.holds (seat port t (GotPacket p ∷ log))
   goes_to t answer is = subst (λ (w : Seat). carry.holds w) (at_log (GotPacket p ∷ log) _ _ is)
-      (carry.step Forgets (after Device (Takes p answer) (seat port s log)) tt tt (λ all. all)
-      (carry.step (Takes p answer) (seat port s log) tt tt (λ all. all) was.seated))
+      (carry.step (Takes p answer) (seat port s log) tt tt (λ all. all) was.seated)
 
   -- A packet whose source isn't the guest, or whose destination isn't the host.
   pub drops_it : is_dropped Device s.cid p.header ≡ true → Goes s
@@ -53,16 +49,16 @@ module _ (carry : Carried) (first port : ℕ) (s : DeviceState) (p : Packet) (lo
     none_overrun = was.none_overrun;
     matches = drops Device first p (ends_of_state port s) log was.matches dropped (λ request. order);
     fair = fair;
-    seated = goes_to s false (ap (λ (b : Bool). forgotten (cond b part (after_packet Device (ends_of flow_is part.entries) p flow_is false part))) dropped);
+    seated = goes_to s false (ap (λ (b : Bool). cond b part (after_packet Device (ends_of flow_is part.entries) p flow_is false part)) dropped);
   }
 
   module _ (kept : is_dropped Device s.cid p.header ≡ false) where
     -- What it does by the ends of its flow.
     taken_as : (ends : List ConnectionEnd) (answer : Bool) → ends_of flow_is part.entries ≡ ends
-        → forgotten (after_taking Device p answer part) ≡ forgotten (after_packet Device ends p flow_is answer part)
+        → after_taking Device p answer part ≡ after_packet Device ends p flow_is answer part
     taken_as ends answer is =
-        ap (λ (b : Bool). forgotten (cond b part (after_packet Device (ends_of flow_is part.entries) p flow_is answer part))) kept
-        ∙ ap (λ (es : List ConnectionEnd). forgotten (after_packet Device es p flow_is answer part)) is
+        ap (λ (b : Bool). cond b part (after_packet Device (ends_of flow_is part.entries) p flow_is answer part)) kept
+        ∙ ap (λ (es : List ConnectionEnd). after_packet Device es p flow_is answer part) is
 
     -- A packet of a connection of the table.
     module _ (e : DeviceEntry) (there : Contains s.table.entries e) (flow : flow_to_host p.header ≡ e.flow) where
@@ -72,28 +68,22 @@ module _ (carry : Carried) (first port : ℕ) (s : DeviceState) (p : Packet) (lo
       pub has_its_room : is_overrun (verdict_of e.value.end p.header) ≡ false
       has_its_room = has_room Device first p e.value.end (ends_of_state port s) log was.matches has fair
 
-      -- The device keeps no flow to be used again.
-      now : Matches Device first (cond (is_rst p && is_of e.value.end.kind p.header) (left e.flow (ends_of_state port s))
-          (with_end e.flow (end_after e.value.end p.header) (ends_of_state port s))) (GotPacket p ∷ log)
-      now = subst (λ (part : Ends). Matches Device first part (GotPacket p ∷ log))
-          (forgotten_taken e.flow (end_after e.value.end p.header) (ends_of_state port s) refl (is_rst p && is_of e.value.end.kind p.header)
-          (is_kept Device e.flow e.value.end p))
-          (forgets Device first (taken Device e.flow e.value.end p (ends_of_state port s)) (GotPacket p ∷ log)
-          (subst (λ (f : Flow). Matches Device first (taken Device f e.value.end p (ends_of_state port s)) (GotPacket p ∷ log)) flow
-          (takes Device first p e.value.end (ends_of_state port s) log was.matches kept has order comes)))
+      -- Its flow may be used again where it leaves cleanly.
+      abbrev pub keeps : Bool
+      keeps = is_kept Device e.flow e.value.end p
 
-      taken_is : forgotten (after_taking Device p false part) ≡ cond (is_rst p && is_of e.value.end.kind p.header) (left e.flow part)
-          (with_end e.flow (end_after e.value.end p.header) part)
-      taken_is =
-          taken_as (e.value.end ∷ []) false has ∙ ap (λ (f : Flow). forgotten (taken Device f e.value.end p part)) flow
-          ∙ forgotten_taken e.flow (end_after e.value.end p.header) part refl (is_rst p && is_of e.value.end.kind p.header) (is_kept Device e.flow e.value.end p)
+      now : Matches Device first (taken Device e.flow e.value.end p part) (GotPacket p ∷ log)
+      now = subst (λ (f : Flow). Matches Device first (taken Device f e.value.end p part) (GotPacket p ∷ log)) flow
+          (takes Device first p e.value.end part log was.matches kept has order comes)
+
+      taken_is : after_taking Device p false part ≡ taken Device e.flow e.value.end p part
+      taken_is = taken_as (e.value.end ∷ []) false has ∙ ap (λ (f : Flow). taken Device f e.value.end p part) flow
 
       pub stays_with : (c : DeviceConnection) → c.end ≡ end_after e.value.end p.header → IsFitConnection c
           → (is_reset p.header && is_of e.value.end.kind p.header) ≡ false → Goes (with_connection e.slot c s)
       stays_with c is held goes_on =
-          let stays_is : cond (is_rst p && is_of e.value.end.kind p.header) (left e.flow part) (with_end e.flow (end_after e.value.end p.header) part)
-          ≡ ends_of_state port (with_connection e.slot c s) =
-          ap (λ (b : Bool). cond b (left e.flow part) (with_end e.flow (end_after e.value.end p.header) part)) goes_on
+          let stays_is : taken Device e.flow e.value.end p part ≡ ends_of_state port (with_connection e.slot c s) =
+          ap (λ (b : Bool). cond b (with_clean keeps e.flow (left e.flow part)) (with_end e.flow (end_after e.value.end p.header) part)) goes_on
           ∙ ap (λ (x : ConnectionEnd). with_end e.flow x part) (sym is) ∙ sym (connection_ends s was.fits e there port c) in record {
             fits = connection_fits s was.fits e.slot c held
                 (ap (λ (x : ConnectionEnd). x.kind) is ∙ got_kind e.value.end p.header ∙ (entry_fits s was.fits e there).kind);
@@ -104,17 +94,20 @@ module _ (carry : Carried) (first port : ℕ) (s : DeviceState) (p : Packet) (lo
           }
 
       pub leaves_with : (c : DeviceConnection) → (is_reset p.header && is_of e.value.end.kind p.header) ≡ true
-          → Goes (record s { table = without (with_value s.table e.slot c) e.slot })
+          → Goes (record s { table = without (with_value s.table e.slot c) e.slot; clean = kept_if keeps e.flow s.clean })
       leaves_with c over =
-          let left_is : cond (is_rst p && is_of e.value.end.kind p.header) (left e.flow part) (with_end e.flow (end_after e.value.end p.header) part)
-          ≡ ends_of_state port (record s { table = without (with_value s.table e.slot c) e.slot }) =
-          ap (λ (b : Bool). cond b (left e.flow part) (with_end e.flow (end_after e.value.end p.header) part)) over
-          ∙ sym (left_ends s was.fits e there port c) in record {
-            fits = left_fits s was.fits e there c;
+          let t : DeviceState = record s { table = without (with_value s.table e.slot c) e.slot; clean = kept_if keeps e.flow s.clean } in
+          let left_is : taken Device e.flow e.value.end p part ≡ ends_of_state port t =
+          ap (λ (b : Bool). cond b (with_clean keeps e.flow (left e.flow part)) (with_end e.flow (end_after e.value.end p.header) part)) over
+          ∙ sym (left_ends s was.fits e there port c keeps) in record {
+            fits = left_fits s was.fits e there c keeps (λ own. record {
+              ports = (entry_fits s was.fits e there).ports;
+              peer = ap (λ (f : Flow). f.peer) (sym flow) ∙ to_host s.cid p.header kept;
+            });
             none_overrun = was.none_overrun;
             matches = subst (λ (part : Ends). Matches Device first part (GotPacket p ∷ log)) left_is now;
             fair = fair;
-            seated = goes_to (record s { table = without (with_value s.table e.slot c) e.slot }) false (taken_is ∙ left_is);
+            seated = goes_to t false (taken_is ∙ left_is);
           }
 
     -- A packet of another flow.
@@ -142,9 +135,9 @@ module _ (carry : Carried) (first port : ℕ) (s : DeviceState) (p : Packet) (lo
             fair = fair;
             seated = goes_to (with_dialed f p.header stream s) true
                 (taken_as [] true no_end
-                ∙ ap (λ (b : Bool). forgotten (cond b part (answered (is_request p) true p f part))) (not_both request)
-                ∙ ap (λ (b : Bool). forgotten (answered b true p f part)) request
-                ∙ ap (λ (n : ℕ). forgotten (accepted_as f (answer_kind n) p.header part)) kind
+                ∙ ap (λ (b : Bool). cond b part (answered (is_request p) true p f part)) (not_both request)
+                ∙ ap (λ (b : Bool). answered b true p f part) request
+                ∙ ap (λ (n : ℕ). accepted_as f (answer_kind n) p.header part) kind
                 ∙ ap (λ (es : List FlowEnd). let x : Ends = record part { entries = es } in x) (sym (added_slot end_in s.table f c)));
           }
         where
@@ -158,16 +151,17 @@ module _ (carry : Carried) (first port : ℕ) (s : DeviceState) (p : Packet) (lo
           sound = was.fits.sound;
           entries = was.fits.entries;
           owed = All-push IsFitReply s.replies (reply_to (flow_to_host p.header) p.header) was.fits.owed flow_fits;
+          clean_fit = was.fits.clean_fit;
         };
         none_overrun = was.none_overrun;
         matches = refuses Device first p (ends_of_state port s) log was.matches kept no_end plain order;
         fair = fair;
         seated = goes_to (with_reply (reply_to flow_is p.header) s) false
-            (taken_as [] false no_end ∙ ap (λ (b : Bool). forgotten (cond b part (answered (is_request p) false p flow_is part))) plain
+            (taken_as [] false no_end ∙ ap (λ (b : Bool). cond b part (answered (is_request p) false p flow_is part)) plain
             ∙ answered_none (is_request p));
       }
         where
-          answered_none : (b : Bool) → forgotten (answered b false p flow_is part) ≡ ends_of_state port (with_reply (reply_to flow_is p.header) s)
+          answered_none : (b : Bool) → answered b false p flow_is part ≡ ends_of_state port (with_reply (reply_to flow_is p.header) s)
           answered_none true = refl
           answered_none false = refl
 
@@ -177,5 +171,5 @@ module _ (carry : Carried) (first port : ℕ) (s : DeviceState) (p : Packet) (lo
         none_overrun = was.none_overrun;
         matches = ignores Device first p (ends_of_state port s) log was.matches kept no_end rst order;
         fair = fair;
-        seated = goes_to s false (taken_as [] false no_end ∙ ap (λ (b : Bool). forgotten (cond b part (answered (is_request p) false p flow_is part))) rst);
+        seated = goes_to s false (taken_as [] false no_end ∙ ap (λ (b : Bool). cond b part (answered (is_request p) false p flow_is part)) rst);
       }

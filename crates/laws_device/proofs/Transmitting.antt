@@ -58,7 +58,7 @@ held_there page long fits none =
 
 module _ (carry : Carried) (lines : List Handshake) (first port : ℕ) (s : DeviceState) where
   abbrev Streamed : Fact
-  Streamed = StreamedOver carry lines first port s.table
+  Streamed = StreamedOver carry lines first port s
 
   abbrev Now : DeviceState → Situation → Type 0
   Now = With carry lines first port
@@ -71,7 +71,7 @@ module _ (carry : Carried) (lines : List Handshake) (first port : ℕ) (s : Devi
     pub record IsTaken (page : List ℕ) (host : Option HostContents) (l : EndLog) : Type 0 where
       pub log : Log
       pub entries_are : l.entries ≡ with_packet (λ p. GotPacket p) (packet_held page) log
-      pub was : LeftBy carry first port s.cid s.overrun s.table s.replies log
+      pub was : LeftBy carry first port s.cid s.overrun s.table s.replies s.clean log
       pub fair : IsFairLog Device (with_packet (λ p. GotPacket p) (packet_held page) log)
       pub streams : Streamed host log
 
@@ -89,8 +89,8 @@ module _ (carry : Carried) (lines : List Handshake) (first port : ℕ) (s : Devi
     -- Its len is above what follows the header: then it is no packet.
     short_by : (host : Option HostContents) (h : Header) (page : List ℕ) (log : Log) (o : Option Packet) → packet_held page ≡ o → chain.readable ≡ length page
         → h ≡ header_of (take HEADER_LEN page) → nat_lt (chain.readable - HEADER_LEN) h.len ≡ true
-        → LeftBy carry first port s.cid s.overrun s.table s.replies log × Streamed host log → IsFairLog Device (with_packet (λ p. GotPacket p) o log)
-        → LeftBy carry first port s.cid s.overrun s.table s.replies (with_packet (λ p. GotPacket p) o log) × Streamed host (with_packet (λ p. GotPacket p) o log)
+        → LeftBy carry first port s.cid s.overrun s.table s.replies s.clean log × Streamed host log → IsFairLog Device (with_packet (λ p. GotPacket p) o log)
+        → LeftBy carry first port s.cid s.overrun s.table s.replies s.clean (with_packet (λ p. GotPacket p) o log) × Streamed host (with_packet (λ p. GotPacket p) o log)
     short_by host h page log None held readable head short was fair = was
     short_by host h page log (Some p) held readable head short was fair =
         let formed = got_formed Device p log (fair (flow_got Device p)) in
@@ -107,7 +107,7 @@ module _ (carry : Carried) (lines : List Handshake) (first port : ℕ) (s : Devi
         λ still. absurd cc,
         λ honest.
             let k = read.4 honest in
-            subst (λ (log : Log). LeftBy carry first port s.cid s.overrun s.table s.replies log × Streamed o log) (sym k.entries_are)
+            subst (λ (log : Log). LeftBy carry first port s.cid s.overrun s.table s.replies s.clean log × Streamed o log) (sym k.entries_are)
             (short_by o h read.0 k.log (packet_held read.0) refl read.2 read.3 short (k.was, k.streams) k.fair),
       )) c tells,
     )
@@ -117,7 +117,7 @@ module _ (carry : Carried) (lines : List Handshake) (first port : ℕ) (s : Devi
         → chain.readable ≡ length page
         → h ≡ header_of (take HEADER_LEN page) → nat_lt (chain.readable - HEADER_LEN) h.len ≡ false
         → l.entries ≡ with_packet (λ p. GotPacket p) o log
-        → LeftBy carry first port s.cid s.overrun s.table s.replies log → IsFairLog Device (with_packet (λ p. GotPacket p) o log) → Streamed host log
+        → LeftBy carry first port s.cid s.overrun s.table s.replies s.clean log → IsFairLog Device (with_packet (λ p. GotPacket p) o log) → Streamed host log
         → IsCome carry lines first port s chain h wire page host l
     come_by host h page l wire log None held readable head fits entries was fair streams =
         let len : (header_of (take HEADER_LEN page)).len ≡ h.len = ap (λ (x : Header). x.len) (sym head) in
@@ -182,10 +182,10 @@ module _ (carry : Carried) (lines : List Handshake) (first port : ℕ) (s : Devi
       λ a d made. (
         subst (λ (o : Option Chain). IfSome o IsRxChain) (sym chain_is) rx,
         moves _ _ _ _ _ (log_returned chain 0) c d made.0.1 made.1 (After carry lines first port s chain h wire x.0)
-            (IsToldBy carry (StreamedOver carry lines first port x.0.table) first port x.0)
+            (IsToldBy carry (StreamedOver carry lines first port x.0) first port x.0)
             (λ hon o l asked was fair. (
               λ still. subst (λ (held : List Held). Among carry.others x.0.chain held) (sym (returned_held chain was.0 0 was.1.0 l was.1.1)) was.1.2,
-              λ honest. subst (λ (log : Log). LeftBy carry first port x.0.cid x.0.overrun x.0.table x.0.replies log × StreamedOver carry lines first port x.0.table o log)
+              λ honest. subst (λ (log : Log). LeftBy carry first port x.0.cid x.0.overrun x.0.table x.0.replies x.0.clean log × StreamedOver carry lines first port x.0 o log)
                   (sym (returned_entries chain Tx was.0 0 was.1.0 l queue was.1.1)) (was.2 honest),
             )) tells,
       ),

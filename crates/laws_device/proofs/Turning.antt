@@ -1,11 +1,11 @@
 -- What the owed event, a reset, a tick, a round of writing and an opening keep.
-use Rattle.std.proofs.Common.{◌≡◌, ℕ, ◌+◌, ◌<◌, ◌≤◌, ◌^◌, ◌==◌, ◌&&◌, ◌||◌, Bool, true, false, cond, if◌then◌else◌, List, [], ◌∷◌, ◌++◌, length, take, Contains, Option, Some, None}
-use Rattle.std.proofs.{Common.{Result, Ok, Err, refl, sym, ap, subst, ◌∙◌, arith, nat_le, ◌⊎◌, inl, inr, length-append, length-take}, lemmas.Bool.Decides.nat_tests}
-use Rattle.std.specs.Option.{ForSome}
+use Rattle.std.proofs.Common.{◌≡◌, ℕ, ◌<◌, ◌≤◌, ◌^◌, ◌==◌, ◌&&◌, ◌||◌, Bool, true, false, cond, if◌then◌else◌, List, [], ◌∷◌, ◌++◌, length, take, Contains, Option, Some, None}
+use Rattle.std.proofs.{Common.{Result, Ok, Err, refl, sym, ap, subst, ◌∙◌, arith, length-append, length-take}, lemmas.{Bool.Decides.nat_tests, List.Elements.All-tail}}
+use Rattle.std.specs.{List.All, Option.ForSome}
 use Rattle.byteorder.specs.Endian.{little_bytes}
 use Rattle.vs_contents.specs.{CallTree.{Done, Ask, bind, for_each}, Contents.Exposes}
 use Rattle.vs_conn.specs.End.{asked}
-use Rattle.vs_flow.{specs.{Table.{IsTable, Table, emptied, entry_under, refusal, slots, with_value}, declared.flow.Flow.Flow}, proofs.Tables.accepted}
+use Rattle.vs_flow.{specs.{Flow.is_host, Table.{IsTable, Table, emptied, entry_under, refusal, slots, with_value}, declared.flow.Flow.Flow}, proofs.Tables.accepted}
 use Rattle.vs_limits.specs.declared.TheConstants.{BUF_ALLOC}
 use Rattle.vs_outside.specs.{declared.host_net.StreamWrite.StreamWrite, Host.{HostContents, IsWritten, after_failed, after_close, after_label, after_shut_write, after_write}}
 use Rattle.vs_outside.specs.Host.{called}
@@ -13,7 +13,7 @@ use Rattle.vs_page.specs.{declared.log.LogEntry.TheVariants.{Mark, PutEvent}, Lo
 use Rattle.vs_ring_port.specs.{Contents.{RingContents, PublishCid, Return, Take, Write}, EndLog.{EndLog, log_reset, log_returned, log_taken, entries_returned, with_event}}
 use Rattle.vs_ring_port.specs.{Chains.{Held, bytes_in}, declared.{device_ring.{Chain.Chain, Next.Next}, failure.Failure.Failure, queue.Queue.{Queue, TheVariants.{Event, Tx}}}}
 use Rattle.vs_ring_port.specs.DeviceCalls.{IsTakenAs, IsWholePacket}
-use Rattle.laws_tables.{specs.{Both.{Asks, MakesReset, PutsEvent, Seat}, Ends.{Ends, FlowEnd, is_new}, Matches.Matches, Steps.{IsNextFlow, asking}}, proofs.Keeps.asks}
+use Rattle.laws_tables.{specs.{Both.{Asks, MakesReset, PutsEvent, Seat}, Ends.{Ends, FlowEnd, is_new, of_host}, Matches.Matches, Steps.{IsNextFlow, asking}}, proofs.Keeps.asks}
 use Rattle.laws_tables.proofs.{Keeps.{makes_reset, puts_event, start_matches}, Slots.{added_slot, found_by}}
 use Rattle.vs_device_parts.specs.Connections.{after_shut, after_written, cut_off, is_timed_out, new_connection, stream_closed, with_client, with_connection, with_fault}
 use Rattle.vs_device_parts.specs.Streams.{Writing, closing, is_written_out, pump_of, pump_slot, shut_write, tick_of, tick_slot, to_write, write_answered, write_pending}
@@ -21,12 +21,13 @@ use Rattle.vs_device_parts.specs.{Calls.{DeviceTree, Label, Ring, ShutWrite, Wri
 use Rattle.vs_device_parts.specs.{State.{DeviceConnection, DeviceEntry, DeviceState}, Receiving.{event_on, pay_event_of}}
 use Rattle.laws_device.proofs.{Carrying.{ring_only, Fact, IsHeldBy, fact_goes, IsToldBy, StreamedOver, With, closed_held, streams_go, plain_with}, Chains.{Among, first_written}}
 use Rattle.laws_device.proofs.{Chains.{held_there, is_unwritten, taken_holds}, Changing.{cuts, shuts, unseen, writes, same}, Ringing.{Tells, moves, host_moves}, Keeping.Lets}
-use Rattle.laws_device.proofs.{Keeping.{Keeps, asking as asked_of, keeps_each, keeps_then}, Seats.{Carried, LeftBy, at_log, seat}, Writing.{write_keeps, Writes}}
+use Rattle.laws_device.proofs.{Keeping.{Keeps, asking as asked_of, keeps_each, keeps_then}, Seats.{AgreesBy, Carried, LeftBy, at_log, seat}, Writing.{write_keeps, Writes}}
 use Rattle.laws_device.proofs.{Filling.under_there, Steps.{it_failed, none_came, cut_with, seat_changed, closing_keeps, called_with}, Tabling.{IsFitConnection, entry_fits}}
-use Rattle.laws_device.proofs.{Tabling.opening_fits, Walk.Keeping.{keeps_if, keeps_some}, Carried.Changing.{called_host, ends_streams, event_streams, failed_host, mark_streams}}
+use Rattle.laws_device.proofs.{Clean.removed_flow, Tabling.{opening_fits, removed_fit}, Walk.Keeping.{keeps_if, keeps_some}, Carried.Changing.{called_host, ends_streams, event_streams, failed_host, mark_streams}}
 use Rattle.laws_device.proofs.Carried.{Changing.{shut_write_host, shuts_streams, writes_streams}, Closing.{IsClosing, closing_done as all_closed, closing_from, closing_now}}
-use Rattle.laws_device.{proofs.{Carried.Closing.{closing_passes, closing_was}, Named.Tables.{some_after, some_from}}, specs.Honest.{IsFitFlow, IsFitState, IsFresh, IsLeft, IsWith}}
-use Rattle.laws_device.specs.{Honest.{end_in, ends_of_state, port_after}, Carried.Streamed.IsStreamed}
+use Rattle.laws_device.{proofs.{Carried.Closing.{closing_passes, closing_was}, Named.Tables.{some_after, some_from}}, specs.Honest.{IsFitClean, IsFitFlow, IsFitState, IsFresh, IsLeft, IsWith}}
+use Rattle.laws_device.specs.{Honest.{end_in, ends_of_state, port_after}, Carried.Streamed.{IsStreamed, ports_of}}
+use Rattle.laws_tables.specs.Steps as steps
 use Rattle.vs_header.specs.declared.Kind.TheVariants.{Stream}
 use Rattle.vs_proxy_parts.specs.State.{Handshake}
 use Rattle.vs_outside.specs.declared.host_net.StreamWrite.TheVariants as write
@@ -100,6 +101,18 @@ shut_fits e s fits there =
       };
     }
 
+-- All flows that are kept are with the host.
+of_host_fit : (fs : List Flow) → All IsFitClean fs → of_host fs ≡ fs
+of_host_fit [] each = refl
+of_host_fit (f ∷ fs) each = by (is_host f) host (of_host_fit fs (All-tail IsFitClean f fs each))
+  where
+    host : is_host f ≡ true
+    host = let is = (each 0 f (omega arith)).peer in grind (arith, nat_tests, is)
+
+    by : (b : Bool) → b ≡ true → of_host fs ≡ fs → cond b (f ∷ of_host fs) (of_host fs) ≡ f ∷ fs
+    by true is rest = ap (λ (gs : List Flow). f ∷ gs) rest
+    by false is rest = absurd cc
+
 empty_table : (t : Table DeviceConnection) → IsTable t → IsTable (emptied t)
 empty_table t sound = record {
   within = omega arith;
@@ -109,11 +122,18 @@ empty_table t sound = record {
   slots_left = sound.slots_left;
 }
 
+-- A flow that the device may ask for, and the port that is given next then.
+pub record Gives (carry : Carried) (port : ℕ) (s : DeviceState) (flow : Flow) (onward : ℕ) : Type 0 where
+  pub next : IsNextFlow Device flow (ends_of_state port s)
+  pub ports : IsFitFlow flow
+  pub wanted : carry.asks flow
+  pub port_is : steps.port_after port flow.host ≡ onward
+
 module _ (carry : Carried) (lines : List Handshake) (first port : ℕ) where
   abbrev Now : DeviceState → Situation → Type 0
   Now = With carry lines first port
 
-  abbrev Streamed : Table DeviceConnection → Fact
+  abbrev Streamed : DeviceState → Fact
   Streamed t = StreamedOver carry lines first port t
 
   -- The event that is owed: it is written into a chain, which is returned.
@@ -127,8 +147,8 @@ module _ (carry : Carried) (lines : List Handshake) (first port : ℕ) where
     event_long : (bytes : List ℕ) → Bytes bytes → 4 ≤ length bytes
     event_long bytes is = let few = length-take 4 bytes in let four : length (take 4 bytes) ≡ 4 = ap length is in omega (arith, few, four)
 
-    event_returned : (c : Situation) → Tells (Writes carry first port s (Streamed s.table) chain Bytes Rest) c
-        → ((d : Situation) → Tells (IsToldBy carry (Streamed s.table) first port s) d → Keeps Q next d) → Keeps Q (Ask (Ring (Return chain 4)) (λ _. next)) c
+    event_returned : (c : Situation) → Tells (Writes carry first port s (Streamed s) chain Bytes Rest) c
+        → ((d : Situation) → Tells (IsToldBy carry (Streamed s) first port s) d → Keeps Q next d) → Keeps Q (Ask (Ring (Return chain 4)) (λ _. next)) c
     event_returned c tells goes = (
       (
         λ some. record {
@@ -139,12 +159,12 @@ module _ (carry : Carried) (lines : List Handshake) (first port : ℕ) where
         },
         λ l is. held_there chain l.held (tells l is).0.0,
       ),
-      λ a d made. goes d (moves _ _ _ _ _ (log_returned chain 4) c d made.0.1 made.1 (Writes carry first port s (Streamed s.table) chain Bytes Rest) (IsToldBy carry (Streamed s.table) first port s)
+      λ a d made. goes d (moves _ _ _ _ _ (log_returned chain 4) c d made.0.1 made.1 (Writes carry first port s (Streamed s) chain Bytes Rest) (IsToldBy carry (Streamed s) first port s)
           (λ hon o l asked was fair. (
             was.0.2,
             λ honest.
                 let p = (was.1 honest).0 in
-                subst (λ (log : Log). LeftBy carry first port s.cid s.overrun s.table s.replies log × Streamed s.table o log)
+                subst (λ (log : Log). LeftBy carry first port s.cid s.overrun s.table s.replies s.clean log × Streamed s o log)
                 (sym (ap (λ (q : Queue). entries_returned q (take 4 (bytes_in chain l.held)) l.entries) queue
                 ∙ ap (λ (bytes : List ℕ). with_event (λ id. PutEvent id) (event_held bytes) l.entries) was.0.1)) (
                   record {
@@ -154,17 +174,17 @@ module _ (carry : Carried) (lines : List Handshake) (first port : ℕ) where
                     fair = p.fair;
                     seated = carry.step (PutsEvent 0) (seat port s l.entries) refl tt (λ all. all) p.seated;
                   },
-                  streams_go carry first lines lines port port s.table s.table l.entries (PutEvent 0 ∷ l.entries) (carry.before first (PutEvent 0) l.entries)
-                      (λ h few x. event_streams h l.entries 0 port s.table lines x) o (was.1 honest).1,
+                  streams_go carry first lines lines port port s s l.entries (PutEvent 0 ∷ l.entries) (carry.before first (PutEvent 0) l.entries)
+                      (λ h few x. event_streams h l.entries 0 (ports_of port s) s.table lines x) o (was.1 honest).1,
                 ),
           )) tells),
     )
 
-    pub event_put : (B : List ℕ → Type 0) (c : Situation) → Tells (Writes carry first port s (Streamed s.table) chain B Rest) c
-        → ((d : Situation) → Tells (IsToldBy carry (Streamed s.table) first port s) d → Keeps Q next d)
+    pub event_put : (B : List ℕ → Type 0) (c : Situation) → Tells (Writes carry first port s (Streamed s) chain B Rest) c
+        → ((d : Situation) → Tells (IsToldBy carry (Streamed s) first port s) d → Keeps Q next d)
         → Keeps Q (Ask (Ring (Write chain 0 (little_bytes 4 0))) (λ _. Ask (Ring (Return chain 4)) (λ _. next))) c
     event_put B c tells goes =
-        write_keeps carry first port s (Streamed s.table) Q (Ask (Ring (Return chain 4)) (λ _. next)) chain B Bytes Rest (little_bytes 4 0) 0 c
+        write_keeps carry first port s (Streamed s) Q (Ask (Ring (Return chain 4)) (λ _. next)) chain B Bytes Rest (little_bytes 4 0) 0 c
         (λ tx. let both : Event ≡ Tx = sym queue ∙ tx in cc) (λ bytes b. omega arith) (λ bytes b. first_written bytes (little_bytes 4 0) 4 refl) tells
         (λ d now. event_returned d now goes)
 
@@ -175,13 +195,13 @@ module _ (carry : Carried) (lines : List Handshake) (first port : ℕ) where
     event_keeps : (answer : Next) (c d : Situation) → s.failed ≡ None → Lets (Ring (Take Event)) answer c d → Now s c → Keeps PayEnds (event_on answer s) d
     event_keeps (next.Chain chain) c d going made holds =
         event_put s PayEnds (Done (record s { event_owed = false }, Ok true)) chain made.3.queue_is made.3.long is_unwritten d
-        (moves _ _ _ _ _ (log_taken Event (next.Chain chain) made.0.0) c d made.0.1 made.1 (IsToldBy carry (Streamed s.table) first port s)
-        (Writes carry first port s (Streamed s.table) chain is_unwritten (λ held. s.failed ≡ None → Among carry.others s.chain held))
+        (moves _ _ _ _ _ (log_taken Event (next.Chain chain) made.0.0) c d made.0.1 made.1 (IsToldBy carry (Streamed s) first port s)
+        (Writes carry first port s (Streamed s) chain is_unwritten (λ held. s.failed ≡ None → Among carry.others s.chain held))
         (λ hon o l asked was fair. by made.0.0 hon o l asked.0 was) holds.1) (λ e told. (holds.0, told))
       where
         by : (page : Option (List ℕ)) (hon : Bool) (o : Option HostContents) (l : EndLog) → IsTakenAs Event (next.Chain chain) page
-            → IsToldBy carry (Streamed s.table) first port s hon o l
-            → Writes carry first port s (Streamed s.table) chain is_unwritten (λ held. s.failed ≡ None → Among carry.others s.chain held) hon o (log_taken Event (next.Chain chain) page l)
+            → IsToldBy carry (Streamed s) first port s hon o l
+            → Writes carry first port s (Streamed s) chain is_unwritten (λ held. s.failed ≡ None → Among carry.others s.chain held) hon o (log_taken Event (next.Chain chain) page l)
         by None hon o l asked was = absurd asked
         by (Some page) hon o l asked was =
             (taken_holds chain [] is_unwritten (λ held. s.failed ≡ None → Among carry.others s.chain held) l.held refl was.0, was.1)
@@ -231,15 +251,15 @@ module _ (carry : Carried) (lines : List Handshake) (first port : ℕ) where
         called_with carry lines first port w.state (with_connection e.slot (after_written n e.value) w.state) refl refl
         (λ fits. writes carry port w.state fits e there n made.1 (begun fits)) false (IsWritten e.value.stream (length (to_write e.value)) (write.Took n))
         (after_write e.value.stream (to_write e.value) (write.Took n))
-        (λ fits h log is x. writes_streams h log port w.state.table lines x fits.sound e there (begun fits) n made.1) c d made.0 holds
+        (λ fits h log is x. writes_streams h log (ports_of port w.state) w.state.table lines x fits.sound e there (begun fits) n made.1) c d made.0 holds
     answered_keeps write.Again c d made holds =
         called_with carry lines first port w.state w.state refl refl (λ fits. same carry port w.state fits) false
-        (IsWritten e.value.stream (length (to_write e.value)) write.Again) called (λ fits h log is x. called_host h log port w.state.table lines x) c d made.0 holds
+        (IsWritten e.value.stream (length (to_write e.value)) write.Again) called (λ fits h log is x. called_host h log (ports_of port w.state) w.state.table lines x) c d made.0 holds
     answered_keeps write.Closed c d made holds =
         let t : DeviceState = with_connection e.slot (after_shut 1 w.state.now e.value) w.state in
         called_with carry lines first port w.state t refl refl (λ fits. shuts carry port w.state fits e there 1 w.state.now (begun fits)) false
-        (IsWritten e.value.stream (length (to_write e.value)) write.Closed) called (λ fits h log is x. called_host h log port t.table lines
-        (shuts_streams h log port w.state.table lines x fits.sound e 1 w.state.now there (begun fits))) c d made.0 holds
+        (IsWritten e.value.stream (length (to_write e.value)) write.Closed) called (λ fits h log is x. called_host h log (ports_of port t) t.table lines
+        (shuts_streams h log (ports_of port w.state) w.state.table lines x fits.sound e 1 w.state.now there (begun fits))) c d made.0 holds
     answered_keeps write.Failed c d made holds =
         keeps_then Now WritingWith (closing e cut_off (with_fault w.state)) (λ s. Done (record w { state = s })) d
         (closing_keeps Now e cut_off (with_fault w.state) d (λ x closes.
@@ -247,7 +267,7 @@ module _ (carry : Carried) (lines : List Handshake) (first port : ℕ) where
         (λ fits. cuts carry port w.state fits e there (begun fits)) d x closes
         (called_with carry lines first port w.state w.state refl refl (λ fits. same carry port w.state fits) true
         (IsWritten e.value.stream (length (to_write e.value)) write.Failed) after_failed
-        (λ fits h log is y. failed_host h log port w.state.table lines y) c d made.0 holds))) (λ s x kept. kept)
+        (λ fits h log is y. failed_host h log (ports_of port w.state) w.state.table lines y) c d made.0 holds))) (λ s x kept. kept)
 
   pub write_keeps_all : (e : DeviceEntry) (w : Writing) → Contains w.state.table.entries e → (c : Situation) → WritingWith w c
       → Keeps WritingWith (write_pending e w) c
@@ -269,8 +289,8 @@ module _ (carry : Carried) (lines : List Handshake) (first port : ℕ) where
           subst (λ (n : ℕ). Now (with_connection n v w.state) d) same
           (called_with carry lines first port w.state (with_connection e.slot v w.state) refl refl
           (λ fits. unseen carry port w.state fits e there v refl (shut_fits e w.state fits there)) false (λ h. Unit {0}) (after_shut_write e.value.stream)
-          (λ fits h log any x. shut_write_host e.value.stream h log port (with_value w.state.table e.slot v) lines
-          (ends_streams h log port w.state.table lines x fits.sound e there v refl refl refl refl refl refl (λ on. on) (λ on. on))) c d made
+          (λ fits h log any x. shut_write_host e.value.stream h log (ports_of port w.state) (with_value w.state.table e.slot v) lines
+          (ends_streams h log (ports_of port w.state) w.state.table lines x fits.sound e there v refl refl refl refl refl refl (λ on. on) (λ on. on))) c d made
           holds)
 
       if_out : DeviceEntry → DeviceTree Writing
@@ -291,35 +311,35 @@ module _ (carry : Carried) (lines : List Handshake) (first port : ℕ) where
   pump_keeps s c holds = keeps_each WritingWith pump_slot pump_slot_keeps (slots s.table) (record { state = s; wrote = 0 }) c holds
 
   -- A reset. Of the streams is said what is left of them once those of the connections under these slots are closed.
-  abbrev Closing : List ℕ → Table DeviceConnection → Fact
-  Closing rest t host log = carry.ok → carry.plain first log → ForSome host (λ h. IsClosing rest t h log port lines)
+  abbrev Closing : List ℕ → DeviceState → Fact
+  Closing rest s host log = carry.ok → carry.plain first log → ForSome host (λ h. IsClosing rest s.table h log (ports_of port s) lines)
 
   abbrev ClosingWith : List ℕ → DeviceState → Situation → Type 0
-  ClosingWith rest s c = IsHeldBy carry (Closing rest s.table) first port s c
+  ClosingWith rest s c = IsHeldBy carry (Closing rest s) first port s c
 
   close_keeps : (slot : ℕ) (rest : List ℕ) (s : DeviceState) (c : Situation) → ClosingWith (slot ∷ rest) s c
       → Keeps (ClosingWith rest) (close_slot slot s) c
   close_keeps slot rest s c holds =
       keeps_some asked_of (ClosingWith rest) (entry_under s.table slot) (Done s) (λ e. closing e stream_closed s) c passes (λ e under.
       let t : DeviceState = with_connection e.slot (stream_closed e.value) s in
-      let G : Fact = Closing rest t.table in
+      let G : Fact = Closing rest t in
       closing_keeps (ClosingWith rest) e stream_closed s c (λ d closes.
       seat_changed carry lines first port s t G refl refl
       (λ fits. unseen carry port s fits e (under_there s slot e under) (stream_closed e.value) refl
       (closed_fits e s fits (under_there s slot e under))) d
-      (closed_held carry first port s e.value c d (Closing (slot ∷ rest) s.table) G
-      (λ shut fits o log x ok few. some_from o (λ h. IsClosing (slot ∷ rest) s.table h log port lines)
-      (λ h. IsClosing rest t.table h log port lines)
-      (λ h y. closing_was h log port s.table lines slot rest y e under shut) (x ok few))
+      (closed_held carry first port s e.value c d (Closing (slot ∷ rest) s) G
+      (λ shut fits o log x ok few. some_from o (λ h. IsClosing (slot ∷ rest) s.table h log (ports_of port s) lines)
+      (λ h. IsClosing rest t.table h log (ports_of port t) lines)
+      (λ h y. closing_was h log (ports_of port s) s.table lines slot rest y e under shut) (x ok few))
       (λ still fits o n log exposes x ok few. some_after o n (λ h. Unit {0}) (after_close e.value.stream)
-      (λ h. IsClosing (slot ∷ rest) s.table h log port lines) (λ h. IsClosing rest t.table h log port lines) exposes
-      (λ h any y. closing_now h log port s.table lines slot rest y e under still) (x ok few)) closes holds)))
+      (λ h. IsClosing (slot ∷ rest) s.table h log (ports_of port s) lines) (λ h. IsClosing rest t.table h log (ports_of port t) lines) exposes
+      (λ h any y. closing_now h log (ports_of port s) s.table lines slot rest y e under still) (x ok few)) closes holds)))
     where
       passes : entry_under s.table slot ≡ None → ClosingWith rest s c
       passes under =
-          fact_goes carry first port s (Closing (slot ∷ rest) s.table) (Closing rest s.table) (λ o l p x ok few.
-          some_from o (λ h. IsClosing (slot ∷ rest) s.table h l.entries port lines) (λ h. IsClosing rest s.table h l.entries port lines)
-          (λ h y. closing_passes h l.entries port s.table lines slot rest y under) (x ok few)) c holds
+          fact_goes carry first port s (Closing (slot ∷ rest) s) (Closing rest s) (λ o l p x ok few.
+          some_from o (λ h. IsClosing (slot ∷ rest) s.table h l.entries (ports_of port s) lines) (λ h. IsClosing rest s.table h l.entries (ports_of port s) lines)
+          (λ h y. closing_passes h l.entries (ports_of port s) s.table lines slot rest y under) (x ok few)) c holds
 
   close_all : (rest : List ℕ) (s : DeviceState) (c : Situation) → ClosingWith rest s c
       → Keeps (ClosingWith []) (for_each close_slot rest s) c
@@ -330,28 +350,31 @@ module _ (carry : Carried) (lines : List Handshake) (first port : ℕ) where
 
   module _ (cid : ℕ) (cid_fits : cid < 2 ^ 64) where
     emptied_with : (t : DeviceState) (hon : Bool) (o : Option HostContents) (l : EndLog)
-        → IsToldBy carry (Closing [] t.table) first port t hon o l
-        → IsToldBy carry (Streamed (emptied t.table)) first port (after_reset cid t) hon o (log_reset cid l)
+        → IsToldBy carry (Closing [] t) first port t hon o l
+        → IsToldBy carry (Streamed (after_reset cid t)) first port (after_reset cid t) hon o (log_reset cid l)
     emptied_with t hon o l was = (
       was.0,
-      λ honest. let p = (was.1 honest).0 in (
+      λ honest. let p = (was.1 honest).0 in let all_host = of_host_fit t.clean p.fits.clean_fit in (
         record {
           fits = record {
             cid_fits = cid_fits;
             sound = empty_table t.table p.fits.sound;
             entries = λ i d within. absurd (omega (arith, within));
             owed = λ i d within. absurd (omega (arith, within));
+            clean_fit = p.fits.clean_fit;
           };
           none_overrun = p.none_overrun;
-          matches = makes_reset Device first cid (ends_of_state port t) l.entries p.matches;
+          matches = subst (λ (fs : List Flow). Matches Device first (record (ends_of_state port (after_reset cid t)) { clean = fs }) (Mark cid ∷ l.entries)) all_host
+              (makes_reset Device first cid (ends_of_state port t) l.entries p.matches);
           fair = p.fair;
-          seated = carry.step (MakesReset cid) (seat port t l.entries) refl tt (λ all. all) p.seated;
+          seated = subst (λ (fs : List Flow). carry.holds (record { part = record (ends_of_state port (after_reset cid t)) { clean = fs }; log = Mark cid ∷ l.entries })) all_host
+              (carry.step (MakesReset cid) (seat port t l.entries) refl tt (λ all. all) p.seated);
         },
-        streams_go carry first lines lines port port (emptied t.table) (emptied t.table) l.entries (Mark cid ∷ l.entries) (carry.before first (Mark cid) l.entries)
-            (λ h few x. mark_streams h l.entries cid port (emptied t.table) lines x) o
-            (λ ok few. some_from o (λ h. IsClosing [] t.table h l.entries port lines)
-            (λ h. IsStreamed h l.entries port (emptied t.table) lines)
-            (λ h x. all_closed h l.entries port t.table lines x) ((was.1 honest).1 ok few)),
+        streams_go carry first lines lines port port (after_reset cid t) (after_reset cid t) l.entries (Mark cid ∷ l.entries) (carry.before first (Mark cid) l.entries)
+            (λ h few x. mark_streams h l.entries cid (ports_of port t) (emptied t.table) lines x) o
+            (λ ok few. some_from o (λ h. IsClosing [] t.table h l.entries (ports_of port t) lines)
+            (λ h. IsStreamed h l.entries (ports_of port t) (emptied t.table) lines)
+            (λ h x. all_closed h l.entries (ports_of port t) t.table lines x) ((was.1 honest).1 ok few)),
       ),
     )
 
@@ -364,8 +387,8 @@ module _ (carry : Carried) (lines : List Handshake) (first port : ℕ) where
       cid_fits,
       λ a d made. (
         holds.0,
-        moves _ _ _ _ _ (log_reset cid) c d made.0 made.1 (IsToldBy carry (Closing [] t.table) first port t)
-            (IsToldBy carry (Streamed (emptied t.table)) first port (after_reset cid t)) (λ hon o l asked was fair. emptied_with t hon o l was) holds.1,
+        moves _ _ _ _ _ (log_reset cid) c d made.0 made.1 (IsToldBy carry (Closing [] t) first port t)
+            (IsToldBy carry (Streamed (after_reset cid t)) first port (after_reset cid t)) (λ hon o l asked was fair. emptied_with t hon o l was) holds.1,
       ),
     )
 
@@ -374,9 +397,9 @@ module _ (carry : Carried) (lines : List Handshake) (first port : ℕ) where
       where
         first_closing : ClosingWith (slots s.table) s c
         first_closing =
-            fact_goes carry first port s (Streamed s.table) (Closing (slots s.table) s.table) (λ o l p x ok few.
-            some_from o (λ h. IsStreamed h l.entries port s.table lines) (λ h. IsClosing (slots s.table) s.table h l.entries port lines)
-            (λ h y. closing_from h l.entries port s.table lines y) (x ok few)) c holds
+            fact_goes carry first port s (Streamed s) (Closing (slots s.table) s) (λ o l p x ok few.
+            some_from o (λ h. IsStreamed h l.entries (ports_of port s) s.table lines) (λ h. IsClosing (slots s.table) s.table h l.entries (ports_of port s) lines)
+            (λ h y. closing_from h l.entries (ports_of port s) s.table lines y) (x ok few)) c holds
 
         by : (o : Option Failure) → Keeps ResetEnds (elim o [
           | Some f ↦ Done (s, Err f)
@@ -389,56 +412,57 @@ module _ (carry : Carried) (lines : List Handshake) (first port : ℕ) where
             (close_all (slots s.table) s c first_closing) publishes
 
   -- A client's connection.
-  module _ (flow : Flow) (stream : ℕ) (s : DeviceState) (next : IsNextFlow Device flow (ends_of_state port s))
-      (ports : IsFitFlow flow) (wanted : carry.asks flow) where
-    given : (port ≤ flow.host) ⊎ (false ≡ true) → cond (nat_le port flow.host) (flow.host + 1) port ≡ flow.host + 1
-    given (inl later) = grind (arith, nat_tests, later)
-    given (inr kept) = absurd cc
-
-    later : (port ≤ flow.host) ⊎ (false ≡ true) → port ≤ flow.host
-    later (inl less) = less
-    later (inr kept) = absurd cc
-
+  module _ (flow : Flow) (stream : ℕ) (s : DeviceState) (onward : ℕ) (gives : (l : EndLog) → AgreesBy carry first port s l → Gives carry port s flow onward) where
     -- What is known before, and what the label leaves of it.
     module _ (F : Fact)
-        (labels : IsFitState s → (o n : Option HostContents) (log : Log) → Exposes o n (λ h. Unit {0}) (after_label stream flow) → F o log
-        → StreamedOver carry lines first (flow.host + 1) (with_client flow stream s).table n log) where
+        (labels : (o n : Option HostContents) (l : EndLog) → AgreesBy carry first port s l → Exposes o n (λ h. Unit {0}) (after_label stream flow)
+        → F o l.entries → StreamedOver carry lines first onward (with_client flow stream s) n l.entries) where
       opened_with : refusal s.table flow ≡ None → (hon : Bool) (o n : Option HostContents) (l : EndLog) → Exposes o n (λ h. Unit {0}) (after_label stream flow)
           → IsToldBy carry F first port s hon o l
-          → IsToldBy carry (StreamedOver carry lines first (flow.host + 1) (with_client flow stream s).table) first (flow.host + 1) (with_client flow stream s) hon n l
+          → IsToldBy carry (StreamedOver carry lines first onward (with_client flow stream s)) first onward (with_client flow stream s) hon n l
       opened_with free hon o n l exposes was = (
         was.0,
         λ honest.
             let p = (was.1 honest).0 in
+            let g = gives l p in
             let c : DeviceConnection = new_connection (asked Stream BUF_ALLOC) stream true in
             let part_is =
-            ap (λ (n : ℕ). let part : Ends = record (asking Device flow Stream (ends_of_state port s)) { next_port = n } in part) (given next.port)
-            ∙ ap (λ (es : List FlowEnd). let part : Ends = record (ends_of_state (flow.host + 1) s) { entries = es } in part)
-            (sym (added_slot end_in s.table flow c)) in (
+            ap (λ (n : ℕ). let part : Ends = record (asking Device flow Stream (ends_of_state port s)) { next_port = n } in part) g.port_is
+            ∙ ap (λ (fs : List Flow). let part : Ends = record (asking Device flow Stream (ends_of_state port s)) { next_port = onward; clean = fs } in part)
+            (sym (removed_flow flow s.clean p.matches.flows.once))
+            ∙ ap (λ (es : List FlowEnd). let part : Ends = record (ends_of_state onward (with_client flow stream s)) { entries = es } in part)
+            (sym (added_slot end_in s.table flow c)) in
+            let fits = opening_fits s p.fits flow c (accepted s.table flow free) g.ports (record {
+              bytes = record { unread = omega arith; within = omega arith; alloc = omega arith; rx = omega arith; fwd = omega arith };
+              new = λ new. record { by_client = refl; ok_line = refl; pending = refl; asked_at = refl; shut_at = refl };
+            }) refl in (
               record {
-                fits = opening_fits s p.fits flow c (accepted s.table flow free) ports (record {
-                  bytes = record { unread = omega arith; within = omega arith; alloc = omega arith; rx = omega arith; fwd = omega arith };
-                  new = λ new. record { by_client = refl; ok_line = refl; pending = refl; asked_at = refl; shut_at = refl };
-                }) refl;
+                fits = record {
+                  cid_fits = fits.cid_fits;
+                  sound = fits.sound;
+                  entries = fits.entries;
+                  owed = fits.owed;
+                  clean_fit = removed_fit flow s.clean fits.clean_fit;
+                };
                 none_overrun = p.none_overrun;
                 matches = subst (λ (part : Ends). Matches Device first part l.entries) part_is
-                    (asks first flow Stream (ends_of_state port s) l.entries p.matches next);
+                    (asks first flow Stream (ends_of_state port s) l.entries p.matches g.next);
                 fair = p.fair;
                 seated = subst (λ (w : Seat). carry.holds w) (at_log l.entries _ _ part_is)
-                    (carry.step (Asks flow Stream) (seat port s l.entries) (next, later next.port) wanted (λ all. all) p.seated);
+                    (carry.step (Asks flow Stream) (seat port s l.entries) g.next g.wanted (λ all. all) p.seated);
               },
-              labels p.fits o n l.entries exposes (was.1 honest).1,
+              labels o n l p exposes (was.1 honest).1,
             ),
       )
 
       pub label_keeps : (c : Situation) → refusal s.table flow ≡ None → IsHeldBy carry F first port s c
-          → asked_of.asks (Label stream flow) c (λ a d. With carry lines first (flow.host + 1) (with_client flow stream s) d)
+          → asked_of.asks (Label stream flow) c (λ a d. With carry lines first onward (with_client flow stream s) d)
       label_keeps c free holds = (
         tt,
         λ a d made. (
           holds.0,
           host_moves false (λ h. Unit {0}) (after_label stream flow) c d made (IsToldBy carry F first port s)
-              (IsToldBy carry (StreamedOver carry lines first (flow.host + 1) (with_client flow stream s).table) first (flow.host + 1) (with_client flow stream s))
+              (IsToldBy carry (StreamedOver carry lines first onward (with_client flow stream s)) first onward (with_client flow stream s))
               (opened_with free) holds.1,
         ),
       )
@@ -447,8 +471,9 @@ pub opens_plain : (first port : ℕ) (flow : Flow) (stream : ℕ) (s : DeviceSta
     → (c : Situation) → IsWith first port s c.ring → Keeps (λ x d. With ring_only [] first (port_after flow port x.1) x.0 d) (open_of flow stream s) c
 opens_plain first port flow stream s next ports c holds =
     keeps_some asked_of (λ x d. With ring_only [] first (port_after flow port x.1) x.0 d) (refusal s.table flow) _ _ c
-    (λ free. label_keeps ring_only [] first port flow stream s next ports tt (StreamedOver ring_only [] first port s.table)
-    (λ fits o n log made x no. absurd no) c free held) (λ fault full. held)
+    (λ free. label_keeps ring_only [] first port flow stream s (steps.port_after port flow.host)
+    (λ l p. record { next = next; ports = ports; wanted = tt; port_is = refl }) (StreamedOver ring_only [] first port s)
+    (λ o n l p made x no. absurd no) c free held) (λ fault full. held)
   where
     held : With ring_only [] first port s c
     held = plain_with first port s c holds
@@ -459,7 +484,7 @@ new_with port cid base c less fresh = (
   tt,
   λ l is. let was = fresh l is in (
     λ still. was.1,
-    λ honest. subst (λ (log : Log). IsLeft cid port cid 0 (new_device cid base).table [] log) (sym was.0) (record {
+    λ honest. subst (λ (log : Log). IsLeft cid port cid 0 (new_device cid base).table [] [] log) (sym was.0) (record {
       fits = record {
         cid_fits = less;
         sound = record {
@@ -471,6 +496,7 @@ new_with port cid base c less fresh = (
         };
         entries = λ i d within. absurd (omega (arith, within));
         owed = λ i d within. absurd (omega (arith, within));
+        clean_fit = λ i d within. absurd (omega (arith, within));
       };
       none_overrun = refl;
       matches = start_matches Device cid port;

@@ -1,4 +1,7 @@
 -- The device's table by the log and by the host's streams.
+use Rattle.laws_device.specs.Carried.Streamed.{Ports, ports_of, IsJoined, IsStreamed, Seen, client_waits, connection_in, connection_of, count_in, look, seen}
+use Rattle.laws_device.{specs.{Streams.{AreStreamedWith, IsTabledWith, has_open_stream, is_open_in, is_open_on}, Honest.IsWith}, proofs.Carried.Closing.{is_under, named}}
+use Rattle.laws_device.proofs.{Carried.{HostCalls.some_seen, Hosts.{label_here, label_there, there}}, Shown.{left_open, same_flows}}
 use Rattle.std.proofs.Common.{◌≡◌, ℕ, zero, suc, ◌+◌, ◌-◌, ◌<◌, ◌==◌, ◌&&◌, ◌||◌, Bool, true, false, cond, List, [], ◌∷◌, length, map, Contains, slice_get, slice_index_or, Option}
 use Rattle.std.{proofs.{Common.{Some, None, refl, sym, ap, subst, ◌∙◌, arith}, lemmas.{Bool.{Decides.nat_tests, and_parts}, List.Elements.All-contains}}, specs.List.list_any}
 use Rattle.std.specs.Option.{option_map, option_map_or}
@@ -9,9 +12,6 @@ use Rattle.vs_outside.specs.{Host.{HostContents, Stream, stream_at, waits}, Host
 use Rattle.vs_page.{specs.Log.Log, proofs.Flows.same_self}
 use Rattle.vs_proxy_parts.specs.State.{Handshake}
 use Rattle.laws_tables.{specs.Ends.{FlowEnd, flows_of, is_among, is_new, is_new_in, new_flows}, proofs.Slots.found_by}
-use Rattle.laws_device.specs.{Carried.Streamed.{IsJoined, IsStreamed, Seen, client_waits, connection_in, connection_of, count_in, look, seen}, Streams.AreStreamedWith}
-use Rattle.laws_device.{specs.{Streams.{IsTabledWith, has_open_stream, is_open_in, is_open_on}, Honest.IsWith}, proofs.Carried.{Closing.{is_under, named}, HostCalls.some_seen}}
-use Rattle.laws_device.proofs.{Carried.Hosts.{label_here, label_there, there}, Shown.{left_open, same_flows}}
 use Rattle.vs_outside.specs.declared.host_net.StreamState.TheVariants as state
 
 -- A test that an element passes, and one that passes.
@@ -109,7 +109,7 @@ tied_by among false true waits is up down = is ∙ sym (up refl)
 tied_by among false false true is up down = down refl
 tied_by among false false false is up down = is
 
-module _ (c : HostContents) (log : Log) (port : ℕ) (t : Table DeviceConnection) (hands : List Handshake)
+module _ (c : HostContents) (log : Log) (port : Ports) (t : Table DeviceConnection) (hands : List Handshake)
     (x : IsStreamed c log port t hands) where
   -- The stream of a connection whose REQUEST isn't put is open.
   pub new_open : (e : DeviceEntry) → Contains t.entries e → is_new e.value.end ≡ true → has_open_stream e.flow c ≡ true
@@ -180,8 +180,8 @@ module _ (c : HostContents) (log : Log) (port : ℕ) (t : Table DeviceConnection
 
 -- By a ring that tells its log and a host that exposes its streams.
 pub tabled_with : (first port : ℕ) (lines : List Handshake) (s : DeviceState) (a : Situation) → IsWith first port s a.ring
-    → AreStreamedWith first port lines s.table a → IsTabledWith first s a
+    → AreStreamedWith first port lines s a → IsTabledWith first s a
 tabled_with first port lines s a holds streams honest l is few h there f =
     let x = streams honest l is few h there in
-    tied_by _ _ _ _ (left_open first port s l ((holds.1 l is).1 honest) f) (new_streams h l.entries port s.table lines x f)
-    (λ opened. ap (is_among f) (same_flows s.table.entries) ∙ open_among h l.entries port s.table lines x f opened)
+    tied_by _ _ _ _ (left_open first port s l ((holds.1 l is).1 honest) f) (new_streams h l.entries (ports_of port s) s.table lines x f)
+    (λ opened. ap (is_among f) (same_flows s.table.entries) ∙ open_among h l.entries (ports_of port s) s.table lines x f opened)

@@ -40,7 +40,8 @@ module _ (carry : Carried) (first port : ℕ) (s : DeviceState) (F : Fact) where
   -- A packet is returned, with the step on the device that puts it.
   module _ (t : DeviceState) (h : Header) (payload : List ℕ) (puts : IsFitState s → Puts carry port s h payload t) (chain : Chain)
       (rx : chain.queue ≡ Rx)
-      (G : Fact) (carries : IsFitState s → (o : Option HostContents) (log : Log) → F o log → G o (PutPacket (record { header = h; payload = payload }) ∷ log))
+      (G : Fact) (carries : (o : Option HostContents) (l : EndLog) → AgreesBy carry first port s l → F o l.entries
+      → G o (PutPacket (record { header = h; payload = payload }) ∷ l.entries))
       (len : ℕ) (B : List ℕ → Type 0) (page_is : (bytes : List ℕ) → B bytes → take len bytes ≡ header_bytes h ++ payload)
       (enough : (bytes : List ℕ) → B bytes → len ≤ length bytes) where
     entries_are : (l : EndLog) → AgreesBy carry first port s l → (bytes : List ℕ) → B bytes
@@ -74,7 +75,7 @@ module _ (carry : Carried) (first port : ℕ) (s : DeviceState) (F : Fact) where
               fair = subst (λ (log : Log). IsFairLog Device log) (sym now) (step.fair first l.entries p.matches p.fair);
               seated = subst (λ (log : Log). carry.holds (seat port t log)) (sym now) (step.goes l.entries p.seated);
             },
-            subst (λ (log : Log). G o log) (sym now) (carries p.fits o l.entries (was.1 honest).1),
+            subst (λ (log : Log). G o log) (sym now) (carries o l p (was.1 honest).1),
           ),
     )
 
@@ -99,7 +100,8 @@ module _ (carry : Carried) (first port : ℕ) (s : DeviceState) (F : Fact) where
   -- The whole packet.
   pub written_keeps : {A : Type 0} (Q : A → Situation → Type 0) (next : DeviceTree A) (t : DeviceState) (h : Header) (payload : List ℕ)
       → (IsFitState s → Puts carry port s h payload t) → (G : Fact)
-      → (IsFitState s → (o : Option HostContents) (log : Log) → F o log → G o (PutPacket (record { header = h; payload = payload }) ∷ log)) → (chain : Chain) → chain.queue ≡ Rx → HEADER_LEN + length payload ≤ chain.writable
+      → ((o : Option HostContents) (l : EndLog) → AgreesBy carry first port s l → F o l.entries
+      → G o (PutPacket (record { header = h; payload = payload }) ∷ l.entries)) → (chain : Chain) → chain.queue ≡ Rx → HEADER_LEN + length payload ≤ chain.writable
       → t.chain ≡ None
       → (c : Situation) → Tells (Writes chain is_unwritten carry.others) c → ((d : Situation) → Tells (IsToldBy carry G first port t) d → Keeps Q next d)
       → Keeps Q (bind (written chain h payload) (λ _. next)) c
@@ -109,7 +111,8 @@ module _ (carry : Carried) (first port : ℕ) (s : DeviceState) (F : Fact) where
       other tx = let both : Rx ≡ Tx = sym rx ∙ tx in cc
 
       by : (payload : List ℕ) → (IsFitState s → Puts carry port s h payload t)
-          → (IsFitState s → (o : Option HostContents) (log : Log) → F o log → G o (PutPacket (record { header = h; payload = payload }) ∷ log))
+          → ((o : Option HostContents) (l : EndLog) → AgreesBy carry first port s l → F o l.entries
+          → G o (PutPacket (record { header = h; payload = payload }) ∷ l.entries))
           → HEADER_LEN + length payload ≤ chain.writable → Keeps Q (bind (written chain h payload) (λ _. next)) c
       by [] puts carries room =
           write_keeps Q (Ask (Ring (Return chain HEADER_LEN)) (λ _. next)) chain is_unwritten (IsHeaded h) carry.others (header_bytes h) 0 c other

@@ -1,34 +1,35 @@
 -- Where a ring tells the device's log: the chains that the device holds, and over an honest ring its connections and the log.
-use Rattle.std.specs.{List.All, Option.ForSome, Prelude.◌≡◌, Prelude.ℕ, Prelude.◌+◌, Prelude.◌<◌, Prelude.◌≤◌, Prelude.◌^◌, Prelude.◌||◌}
+use Rattle.std.specs.{List.All, Option.ForSome, Prelude.◌≡◌, Prelude.ℕ, Prelude.◌<◌, Prelude.◌≤◌, Prelude.◌^◌, Prelude.◌||◌}
 use Rattle.std.specs.Prelude.{Bool, false, true, if◌then◌else◌, List, [], ◌∷◌, length, Option, Some, None, Result, Ok, Err, IfSome}
 use Rattle.vs_conn.specs.{End.ConnectionEnd, declared.end.State.State}
 use Rattle.vs_header.specs.declared.Kind.TheVariants.{Stream}
 use Rattle.vs_credit.specs.{Credit.unread_of, declared.Credit.Credit}
 use Rattle.vs_flow.specs.{Table.IsTable, Table.Table, declared.flow.Flow.Flow, declared.table.TableFault.TableFault}
 use Rattle.laws_history.specs.{History.Asker, Packets.is_rst, declared.packet.Packet.Packet}
-use Rattle.vs_limits.specs.declared.TheConstants.{BUF_ALLOC, BUF_ALLOC_MAX}
+use Rattle.vs_limits.specs.declared.TheConstants.{BUF_ALLOC, BUF_ALLOC_MAX, HOST_CID}
 use Rattle.vs_page.specs.{Fair.IsFairLog, Log.Device, Log.Log, Log.side_of, Open.is_open}
 use Rattle.vs_replies.specs.declared.Reply.{Reply}
 use Rattle.vs_ring_port.specs.{Chains.Held, Chains.same_chain, Contents.RingContents, EndLog.EndLog, declared.device_ring.Chain.Chain}
 use Rattle.laws_tables.specs.{Ends.Ends, Ends.entries_of, Ends.is_among, Ends.is_new, Ends.new_flows, Ends.replied, Matches.Matches}
+use Rattle.laws_tables.specs.Steps as steps
 use Rattle.vs_device_parts.specs.{Playing.IsRxChain, State.DeviceConnection, State.DeviceEntry, State.DeviceState}
 
--- The device's connections, the replies that it owes, the next host port that is assigned, and the guest's CID. It keeps no flow to be used
--- again.
+-- The device's connections, the replies that it owes, the flows that it keeps to be used again, the next host port that is assigned, and the
+-- guest's CID.
 abbrev pub end_in : DeviceConnection → ConnectionEnd
 end_in c = c.end
 
-abbrev pub ends_with : ℕ → ℕ → Table DeviceConnection → List Reply → Ends
-ends_with port cid table replies = record {
+abbrev pub ends_with : ℕ → ℕ → Table DeviceConnection → List Reply → List Flow → Ends
+ends_with port cid table replies clean = record {
   entries = entries_of end_in table;
   replies = replies;
-  clean = [];
+  clean = clean;
   next_port = port;
   cid = cid;
 }
 
 abbrev pub ends_of_state : ℕ → DeviceState → Ends
-ends_of_state port s = ends_with port s.cid s.table s.replies
+ends_of_state port s = ends_with port s.cid s.table s.replies s.clean
 
 -- Ports have 32 bits, CIDs have 64.
 pub record IsFitFlow (f : Flow) : Type 0 where
@@ -63,26 +64,33 @@ pub record IsFitEntry (e : DeviceEntry) : Type 0 where
 abbrev pub IsFitReply : Reply → Type 0
 IsFitReply r = IsFitFlow r.flow
 
+-- A flow that is kept is one with the host.
+pub record IsFitClean (f : Flow) : Type 0 where
+  pub ports : IsFitFlow f
+  pub peer : f.peer ≡ HOST_CID
+
 -- The device's numbers fit their widths, and its table is one.
-pub record IsFit (cid : ℕ) (table : Table DeviceConnection) (replies : List Reply) : Type 0 where
+pub record IsFit (cid : ℕ) (table : Table DeviceConnection) (replies : List Reply) (clean : List Flow) : Type 0 where
   pub cid_fits : cid < 2 ^ 64
   pub sound : IsTable table
   pub entries : All IsFitEntry table.entries
   pub owed : All IsFitReply replies
+  pub clean_fit : All IsFitClean clean
 
 abbrev pub IsFitState : DeviceState → Type 0
-IsFitState s = IsFit s.cid s.table s.replies
+IsFitState s = IsFit s.cid s.table s.replies s.clean
 
 -- The device and its log, where this was the guest's CID at first and this is the next host port: each connection is the one that the log
 -- left, no packet held more payload than there was room for, and the log is fair.
-pub record IsLeft (first port cid overrun : ℕ) (table : Table DeviceConnection) (replies : List Reply) (entries : Log) : Type 0 where
-  pub fits : IsFit cid table replies
+pub record IsLeft (first port cid overrun : ℕ) (table : Table DeviceConnection) (replies : List Reply) (clean : List Flow) (entries : Log)
+    : Type 0 where
+  pub fits : IsFit cid table replies clean
   pub none_overrun : overrun ≡ 0
-  pub matches : Matches Device first (ends_with port cid table replies) entries
+  pub matches : Matches Device first (ends_with port cid table replies clean) entries
   pub fair : IsFairLog Device entries
 
 abbrev pub AgreesWith : ℕ → ℕ → DeviceState → EndLog → Type 0
-AgreesWith first port s l = IsLeft first port s.cid s.overrun s.table s.replies l.entries
+AgreesWith first port s l = IsLeft first port s.cid s.overrun s.table s.replies s.clean l.entries
 
 -- A chain is held.
 abbrev pub is_held : Chain → List Held → Bool
@@ -118,9 +126,9 @@ IsLeftOpen first s shown l =
 abbrev pub IsFresh : RingContents → Type 0
 IsFresh c = ForSome c.log (λ l. (l.entries ≡ []) × (l.held ≡ []))
 
--- The next host port, after a client's connection was asked for on a flow: it stays where that was refused.
+-- The next host port, after a client's connection was asked for on a flow: it stays where that was refused, and where the flow is used again.
 abbrev pub port_after : Flow → ℕ → Result ℕ TableFault → ℕ
-port_after flow port (Ok slot) = flow.host + 1
+port_after flow port (Ok slot) = steps.port_after port flow.host
 port_after flow port (Err fault) = port
 
 -- A packet tells the usual buffer space or more. RST tells none.

@@ -1,12 +1,12 @@
 -- The host's streams, where an honest ring tells the log.
-use Rattle.std.specs.{List.list_any, Option.{ForSome, option_map_or}, Prelude.{◌≡◌, ℕ, ◌&&◌, ◌||◌, nat_lt, Bool, true, false, List, [], ◌∷◌}}
-use Rattle.vs_flow.specs.{Flow.same_flow, Table.Table, declared.flow.Flow.Flow}
+use Rattle.std.specs.{List.list_any, Option.{ForSome, option_map_or}, Prelude.{◌≡◌, ℕ, nat_lt, ◌&&◌, ◌||◌, Bool, true, false, List, [], ◌∷◌}}
+use Rattle.vs_flow.specs.{Flow.same_flow, declared.flow.Flow.Flow}
 use Rattle.vs_outside.specs.{Host.{HostContents, Stream}, declared.host_net.StreamState.{StreamState, TheVariants.Open}}
 use Rattle.vs_page.specs.{Fair.number_of, Log.{Device, Log, flow_got}, Open.{cid_of, is_dropped, is_left_open, is_open}, declared.log.LogEntry.TheVariants.GotPacket}
 use Rattle.vs_proxy_parts.specs.State.{Handshake}
-use Rattle.vs_device_parts.specs.{Calls.Situation, State.{DeviceConnection, DeviceState}, Turns.table_shown}
+use Rattle.vs_device_parts.specs.{Calls.Situation, State.DeviceState, Turns.table_shown}
 use Rattle.laws_tables.specs.Ends.{is_among, replied}
-use Rattle.laws_device.specs.{Honest.flows_shown, Carried.Streamed.{IsStreamed, count_in}}
+use Rattle.laws_device.specs.{Honest.flows_shown, Carried.Streamed.{IsStreamed, count_in, ports_of}}
 
 -- No packet with payload of an open connection was dropped.
 abbrev pub AreHeard : ℕ → Log → Type 0
@@ -17,9 +17,10 @@ AreHeard first (_ ∷ log) = AreHeard first log
 
 -- Where an honest ring tells the log, none of whose connections missed payload, and the host exposes its streams, these took and gave just
 -- the payload of their connections; these lines are being read.
-abbrev pub AreStreamedWith : ℕ → ℕ → List Handshake → Table DeviceConnection → Situation → Type 0
-AreStreamedWith first port lines table a =
-    a.ring.honest ≡ true → ForSome a.ring.log (λ l. AreHeard first l.entries → ForSome a.host (λ h. IsStreamed h l.entries port table lines))
+abbrev pub AreStreamedWith : ℕ → ℕ → List Handshake → DeviceState → Situation → Type 0
+AreStreamedWith first port lines s a =
+    a.ring.honest ≡ true
+    → ForSome a.ring.log (λ l. AreHeard first l.entries → ForSome a.host (λ h. IsStreamed h l.entries (ports_of port s) s.table lines))
 
 -- A stream of the host has this flow as its label, and the proxy hasn't closed it.
 abbrev pub is_open_in : StreamState → Bool

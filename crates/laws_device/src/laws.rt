@@ -64,27 +64,27 @@ pub fn law_of_other_calls()
 /// (Virtio 1.2, section 5.10.6).
 pub fn law_of_streamed()
     ensures take_tx { (first port : ℕ) (lines : List Handshake) (s : DeviceState) (a b : Situation) (x : DeviceState × Taken) → IsWith first port s a.ring
-        → AreStreamedWith first port lines s.table a → Runs (take_tx_of s) a x b → AreStreamedWith first port lines x.0.table b }
+        → AreStreamedWith first port lines s a → Runs (take_tx_of s) a x b → AreStreamedWith first port lines x.0 b }
     ensures pay_event { (first port : ℕ) (lines : List Handshake) (s : DeviceState) (a b : Situation) (x : DeviceState × Result Bool Failure)
-        → IsWith first port s a.ring → AreStreamedWith first port lines s.table a → Runs (pay_event_of s) a x b
-        → AreStreamedWith first port lines x.0.table b }
+        → IsWith first port s a.ring → AreStreamedWith first port lines s a → Runs (pay_event_of s) a x b
+        → AreStreamedWith first port lines x.0 b }
     ensures fill_rx { (first port : ℕ) (lines : List Handshake) (s : DeviceState) (a b : Situation) (x : DeviceState × Result Filled Failure)
-        → IsWith first port s a.ring → AreStreamedWith first port lines s.table a → Runs (fill_rx_of s) a x b
-        → AreStreamedWith first port lines x.0.table b }
+        → IsWith first port s a.ring → AreStreamedWith first port lines s a → Runs (fill_rx_of s) a x b
+        → AreStreamedWith first port lines x.0 b }
     ensures reset { (first port cid : ℕ) (lines : List Handshake) (s : DeviceState) (a b : Situation) (x : DeviceState × Result (Unit {0}) Failure)
-        → cid < 2 ^ 64 → IsWith first port s a.ring → AreStreamedWith first port lines s.table a → Runs (reset_of cid s) a x b
-        → AreStreamedWith first port lines x.0.table b }
+        → cid < 2 ^ 64 → IsWith first port s a.ring → AreStreamedWith first port lines s a → Runs (reset_of cid s) a x b
+        → AreStreamedWith first port lines x.0 b }
     ensures tick { (first port now : ℕ) (lines : List Handshake) (s t : DeviceState) (a b : Situation) → IsWith first port s a.ring
-        → AreStreamedWith first port lines s.table a → Runs (tick_of now s) a t b → AreStreamedWith first port lines t.table b }
+        → AreStreamedWith first port lines s a → Runs (tick_of now s) a t b → AreStreamedWith first port lines t b }
     ensures pump_out { (first port : ℕ) (lines : List Handshake) (s : DeviceState) (a b : Situation) (w : Writing) → IsWith first port s a.ring
-        → AreStreamedWith first port lines s.table a → Runs (pump_of s) a w b → AreStreamedWith first port lines w.state.table b }
+        → AreStreamedWith first port lines s a → Runs (pump_of s) a w b → AreStreamedWith first port lines w.state b }
 {}
 
 /// Over such a ring and such a host the device's table has exactly the flows that the log left open and those of the host's open streams:
 /// those that have a flow as their label, until the device closes them.
 pub fn law_of_open_streams()
     ensures table { (first port : ℕ) (lines : List Handshake) (s : DeviceState) (a : Situation) → IsWith first port s a.ring
-        → AreStreamedWith first port lines s.table a → IsTabledWith first s a }
+        → AreStreamedWith first port lines s a → IsTabledWith first s a }
 {}
 
 /// A client's connection waits for its REQUEST to be put: it does while its stream is open and no REQUEST was put, and not once one was, or

@@ -2,12 +2,12 @@
 use Rattle.std.proofs.Common.{◌≡◌, ℕ, ◌<◌, ◌≤◌, ◌^◌, arith, codes, decimal, zero, suc, ◌+◌, ◌-◌, ◌==◌, ◌&&◌, nat_le, Bool, true, false, cond, List, [], ◌∷◌, ◌++◌, length}
 use Rattle.std.{proofs.Common.{slice_get, Option, Some, None, refl, sym, ap, subst, ◌∙◌}, specs.Option.{option_and_then, option_map_or}}
 use Rattle.vs_flow.specs.declared.flow.Flow.{Flow}
-use Rattle.vs_limits.specs.declared.TheConstants.{ASSIGNED_LAST, GUEST_CID_MIN, GUEST_CID_MAX}
+use Rattle.vs_limits.specs.declared.TheConstants.{GUEST_CID_MIN, GUEST_CID_MAX}
 use Rattle.vs_outside.specs.{HostProgram.{after_client, after_host_write, allowed, client_stream, closed, ended, host_write_answer, with_bytes}, Host.{HostContents, Stream}}
 use Rattle.vs_outside.specs.{Host.{stream_at, waits, with_stream}, HostBytes.{after_line, read_after_ok, wrote_after_connect}, declared.mem_stream.HostWritten.HostWritten}
 use Rattle.vs_page.specs.Fair.{IsPrefixOf}
 use Rattle.laws_device.{specs.Carried.Streamed.has_line, proofs.Carried.Lines.{after_front, after_longer}}
-use Rattle.vs_uds.proofs.{Leading.has_lf-digits, Ports.WritesPort-decimal}
+use Rattle.std.{proofs.lemmas.Bool.Decides.nat_tests, specs.{Fmt.{digit_glyph, digits, digits_onto}, Prelude.{◌/◌, ◌%◌}}}
 use Rattle.vs_ring_plain.specs.Device.{DeviceState}
 use Rattle.vs_device_parts.specs.Calls.{DeviceTree}
 use Rattle.vs_hostile.specs.Run.{Done, GuestState, HasMemory, HasRings, HasTurned, HostileState, Nothing, Said, beginning, hostile_does, line_in, outside_does, WasReset, over}
@@ -43,10 +43,8 @@ changed at h stream f shows same = unseen_shows stream f h at shows (λ st o in_
       s.1 ∙ in_it.1,
       s.2 ∙ in_it.2,
       s.3 ∙ in_it.3,
-      in_it.4,
-      s.4
-          ∙ in_it.5,
-      in_it.6,
+      s.4 ∙ in_it.4,
+      in_it.5,
     )
 
 written_shows : (at : ℕ → Option Account) (h : HostContents) (stream : ℕ) (bytes : List ℕ) (a : HostWritten) → Shows at h
@@ -160,26 +158,37 @@ pub run_holds : (lines : List Hostile) → Holds (state_after lines beginning) (
 run_holds lines = lines_hold lines beginning [] beginning_holds
 
 -- Behind its OK line a stream was given what was delivered.
-ok_front : (port : ℕ) → port ≤ ASSIGNED_LAST → has_line (codes "OK " ++ decimal port) ≡ false
-ok_front port last =
-    let fits : port < 2 ^ 32 = omega (arith, last) in
-    has_lf-digits (decimal port) (WritesPort-decimal port fits).each
+plain_glyph : (d : ℕ) → (digit_glyph false d == 10) ≡ false
+plain_glyph d = grind (arith, nat_tests)
 
-read_front : (o : Option Flow) (st : Stream) (delivered : List ℕ) → ((flow : Flow) → st.by_client ≡ true → o ≡ Some flow
-    → flow.host ≤ ASSIGNED_LAST)
-    → IsGivenOwn o st delivered → IsPrefixOf (read_after_ok st) delivered
-read_front o st delivered ported given = by o st.by_client refl ported given
+plain_digits : (k n : ℕ) (acc : List ℕ) → has_line acc ≡ false → has_line (digits_onto k 10 false n acc) ≡ false
+plain_digits zero n acc none = none
+plain_digits (suc k) n acc none =
+    let one : has_line (digit_glyph false (n % 10) ∷ acc) ≡ false = rw (plain_glyph (n % 10)) none in
+    by (n / 10 == 0) one (plain_digits k (n / 10) (digit_glyph false (n % 10) ∷ acc) one)
   where
-    by : (o : Option Flow) (b : Bool) → st.by_client ≡ b → ((flow : Flow) → st.by_client ≡ true → o ≡ Some flow → flow.host ≤ ASSIGNED_LAST)
-        → IsGivenOwn o st delivered → IsPrefixOf (cond st.by_client (after_line st.given) st.given) delivered
-    by None true is ported nothing = rw is (subst (λ (bytes : List ℕ). IsPrefixOf (after_line bytes) delivered) (sym nothing)
-        (delivered, refl))
-    by None false is ported nothing = rw is (subst (λ (bytes : List ℕ). IsPrefixOf bytes delivered) (sym nothing) (delivered, refl))
-    by (Some flow) true is ported front =
+    by : (b : Bool) → has_line (digit_glyph false (n % 10) ∷ acc) ≡ false
+        → has_line (digits_onto k 10 false (n / 10) (digit_glyph false (n % 10) ∷ acc)) ≡ false
+        → has_line (cond b (digit_glyph false (n % 10) ∷ acc) (digits_onto k 10 false (n / 10) (digit_glyph false (n % 10) ∷ acc))) ≡ false
+    by true one rest = one
+    by false one rest = rest
+
+ok_front : (port : ℕ) → has_line (codes "OK " ++ decimal port) ≡ false
+unfolding digits
+ok_front port = plain_digits 64 port [] refl
+
+read_front : (o : Option Flow) (st : Stream) (delivered : List ℕ) → IsGivenOwn o st delivered → IsPrefixOf (read_after_ok st) delivered
+read_front o st delivered given = by o st.by_client refl given
+  where
+    by : (o : Option Flow) (b : Bool) → st.by_client ≡ b → IsGivenOwn o st delivered
+        → IsPrefixOf (cond st.by_client (after_line st.given) st.given) delivered
+    by None true is nothing = rw is (subst (λ (bytes : List ℕ). IsPrefixOf (after_line bytes) delivered) (sym nothing) (delivered, refl))
+    by None false is nothing = rw is (subst (λ (bytes : List ℕ). IsPrefixOf bytes delivered) (sym nothing) (delivered, refl))
+    by (Some flow) true is front =
         let line : IsPrefixOf st.given (ok_line_of true flow ++ delivered) =
         subst (λ (b : Bool). IsPrefixOf st.given (ok_line_of b flow ++ delivered)) is front in
-        rw is (after_front (codes "OK " ++ decimal flow.host) delivered st.given (ok_front flow.host (ported flow is refl)) line)
-    by (Some flow) false is ported front =
+        rw is (after_front (codes "OK " ++ decimal flow.host) delivered st.given (ok_front flow.host) line)
+    by (Some flow) false is front =
         let line : IsPrefixOf st.given (ok_line_of false flow ++ delivered) =
         subst (λ (b : Bool). IsPrefixOf st.given (ok_line_of b flow ++ delivered)) is front in
         rw is line
@@ -197,13 +206,13 @@ wrote_own : (flow : Flow) (st : Stream) (a : Account) → a.label ≡ Some flow 
 wrote_own flow st a label in_it = by st.by_client refl
   where
     was : IsRead (Some flow) a
-    was = subst (λ (o : Option Flow). IsRead o a) label in_it.6
+    was = subst (λ (o : Option Flow). IsRead o a) label in_it.5
 
     by : (b : Bool) → st.by_client ≡ b → cond st.by_client (after_line st.taken) st.taken ≡ a.taken
     by true is =
         let whole : IsWhole a.line = subst (λ (c : Bool). IsLine c a.line) (sym in_it.1 ∙ is) was in
-        rw is (ap after_line in_it.5 ∙ after_longer a.line a.taken whole.0 ∙ ap (λ (bytes : List ℕ). bytes ++ a.taken) whole.1)
-    by false is = rw is (in_it.5 ∙ ap (λ (bytes : List ℕ). bytes ++ a.taken) (subst (λ (c : Bool). IsLine c a.line) (sym in_it.1 ∙ is) was))
+        rw is (ap after_line in_it.4 ∙ after_longer a.line a.taken whole.0 ∙ ap (λ (bytes : List ℕ). bytes ++ a.taken) whole.1)
+    by false is = rw is (in_it.4 ∙ ap (λ (bytes : List ℕ). bytes ++ a.taken) (subst (λ (c : Bool). IsLine c a.line) (sym in_it.1 ∙ is) was))
 
 shown_isolated : (id : ℕ) (st : Stream) (calls : List Made) (given : (a : Account) → account_of calls id ≡ Some a → IsGiven a.label a)
     → ShowsIn st (account_of calls id) → IsIsolated id st calls
@@ -227,8 +236,7 @@ shown_isolated id st calls given shows = by (account_of calls id) refl shows
         (own_given a.label st a in_it.1 in_it.3 (given a is))) in record {
           label = in_it.2 ∙ ap (λ (o : Option Account). option_and_then (λ a. a.label) o) (sym is);
           given = own;
-          read = read_front st.label st (delivered_to id calls) (λ flow client label. in_it.4 flow (sym in_it.1 ∙ client) (sym in_it.2
-              ∙ label)) own;
+          read = read_front st.label st (delivered_to id calls) own;
           wrote = λ flow label. wrote_own flow st a (sym in_it.2 ∙ label) in_it
               ∙ ap (λ (o : Option Account). option_map_or (λ a. a.taken) o []) (sym is);
         }

@@ -1,5 +1,6 @@
 -- A turn, stage by stage, and a reset.
-use Rattle.std.proofs.Common.{ℕ, ◌<◌, ◌^◌, false, List, [], ◌∷◌, map, Result, Ok, Err, arith, ◌≤◌}
+use Rattle.laws_device.specs.Carried.Streamed.{ports_of}
+use Rattle.std.proofs.Common.{ℕ, ◌<◌, ◌^◌, false, List, [], ◌∷◌, map, Result, Ok, Err, ◌≤◌}
 use Rattle.vs_contents.specs.CallTree.{Done, for_each}
 use Rattle.vs_limits.specs.declared.TheConstants.{ASSIGNED_FIRST}
 use Rattle.vs_ring_port.specs.{Contents.RingContents, declared.failure.Failure.Failure}
@@ -8,13 +9,14 @@ use Rattle.vs_device_parts.specs.Turns.{reset_of}
 use Rattle.laws_device.proofs.Carrying.{Fact, StreamedOver, With, fact_called, held_with, streams_call, with_ring, with_streams, ring_only, whole, ring_and_host}
 use Rattle.laws_device.proofs.{Turning.{new_with, pay_keeps, pump_keeps, reset_keeps, tick_keeps}, Keeping.{Keeps, keeps_then, asking, keeps_weaker}, Filling.fill_keeps}
 use Rattle.laws_device.{proofs.{Transmitting.take_keeps, Seats.Carried, Walk.Turning.{KeptBy, keeps_turn_by}, Carried.Opens.first_dropped}, specs.Honest.IsFresh}
-use Rattle.vs_proxy_parts.specs.{Turns.{close_handshake, new_proxy, proxy_reset_of, reset_with, turn_of}, State.{Handshake, ProxyState, with_device}, declared.answers.Turn.Turn}
+use Rattle.vs_proxy_parts.specs.{Turns.{close_handshake, new_proxy_at, proxy_reset_of, reset_with, turn_of}, State.{Handshake, ProxyState, with_device}, declared.answers.Turn.Turn}
 use Rattle.vs_proxy_parts.specs.Handshakes.{streams_of}
 use Rattle.laws_proxy.{specs.Honest.{IsProxyWith, IsProxyStreamed}, proofs.Shaking.{At, shaking}}
 use Rattle.vs_outside.specs.Host.{after_close}
 
-pub new_proxy_with : (cid : ℕ) (base : List ℕ) (c : RingContents) → cid < 2 ^ 64 → IsFresh c → IsProxyWith cid (new_proxy cid base) c
-new_proxy_with cid base c fits fresh = (omega arith, new_with ASSIGNED_FIRST cid base c fits fresh)
+pub new_proxy_with : (cid : ℕ) (base : List ℕ) (port : ℕ) (c : RingContents) → cid < 2 ^ 64 → ASSIGNED_FIRST ≤ port → IsFresh c
+    → IsProxyWith cid (new_proxy_at cid base port) c
+new_proxy_with cid base port c fits above fresh = (above, new_with port cid base c fits fresh)
 
 module _ (carry : Carried) (first : ℕ) where
   abbrev pub Proxied : ProxyState → Situation → Type 0
@@ -52,13 +54,13 @@ module _ (carry : Carried) (first : ℕ) where
         → Keeps (ResetOn hands) (close_handshake h.stream s) c
     closes h hands s c holds =
         let port : ℕ = s.next_port in
-        let F : List Handshake → Fact = λ hs. StreamedOver carry hs first port device.table in (
+        let F : List Handshake → Fact = λ hs. StreamedOver carry hs first port device in (
           tt,
           λ a d made. (
             holds.0,
             fact_called carry first port device (F (h ∷ hands)) (F hands) false (λ g. Unit {0}) (after_close h.stream) (λ o n l exposes p.
-                streams_call carry first (h ∷ hands) hands port port device.table device.table l.entries l.entries (λ few. few)
-                (λ g. Unit {0}) (after_close h.stream) (λ g any few x. first_dropped g l.entries port device.table h hands x) o n exposes) c d made holds.1,
+                streams_call carry first (h ∷ hands) hands port port device device l.entries l.entries (λ few. few)
+                (λ g. Unit {0}) (after_close h.stream) (λ g any few x. first_dropped g l.entries (ports_of port device) device.table h hands x) o n exposes) c d made holds.1,
           ),
         )
 

@@ -12,4 +12,4 @@ IsProxyWith first s c = (ASSIGNED_FIRST ≤ s.next_port) × IsWith first s.next_
 
 -- Its lines and its device's connections are what the host's streams took and gave.
 abbrev pub IsProxyStreamed : ℕ → ProxyState → Situation → Type 0
-IsProxyStreamed first s a = AreStreamedWith first s.next_port s.handshakes s.device.table a
+IsProxyStreamed first s a = AreStreamedWith first s.next_port s.handshakes s.device a

@@ -1,17 +1,19 @@
 //! Laws of the proxy over a ring that tells the device's log.
 
-ghost use Rattle.std.specs.{Option.ForSome, Prelude.{◌≡◌, ◌<◌, ◌^◌, ℕ, List, [], None, Result}};
+ghost use Rattle.std.specs.{Option.ForSome, Prelude.{◌≡◌, ◌<◌, ◌≤◌, ◌^◌, ℕ, List, [], None, Result}};
+ghost use Rattle.vs_limits.specs.declared.TheConstants.{ASSIGNED_FIRST};
 ghost use Rattle.vs_ring_port.specs.{Contents.RingContents, declared.failure.Failure.Failure};
 ghost use Rattle.vs_device_parts.specs.{Calls.Situation, Playing.{MayRun, Runs}};
 ghost use Rattle.laws_device.specs.{Named.Streams.FindsStreams, Dropped.IsCountedWith, Honest.IsFresh, Streams.IsTabledWith};
-ghost use Rattle.vs_proxy_parts.specs.{Handshakes.streams_of, State.ProxyState, Turns.{new_proxy, proxy_reset_of, turn_of}, declared.answers.Turn.Turn};
+ghost use Rattle.vs_proxy_parts.specs.{Handshakes.streams_of, State.ProxyState, Turns.{new_proxy_at, proxy_reset_of, turn_of}, declared.answers.Turn.Turn};
 ghost use Rattle.laws_proxy.specs.{Honest.{IsProxyStreamed, IsProxyWith}, Order.IsInOrder, Resets.IsEmptied};
 
 /// Over a ring that tells its log a turn and a reset leave the proxy with its ring: the device holds the one chain that it keeps for the
 /// next packet, and over an honest ring its connections are those that the log left. Each packet of a turn keeps the log fair, so a turn
 /// may be made where the streams are open (Virtio 1.2, section 5.10.6.3).
 pub fn law_of_turns()
-    ensures new { (cid : ℕ) (base : List ℕ) (c : RingContents) → cid < 2 ^ 64 → IsFresh c → IsProxyWith cid (new_proxy cid base) c }
+    ensures new { (cid : ℕ) (base : List ℕ) (port : ℕ) (c : RingContents) → cid < 2 ^ 64 → ASSIGNED_FIRST ≤ port → IsFresh c
+        → IsProxyWith cid (new_proxy_at cid base port) c }
     ensures turn_may { (first size now : ℕ) (s : ProxyState) (a : Situation) → FindsStreams (streams_of s) s.device a
         → IsProxyWith first s a.ring → MayRun (turn_of size now s) a }
     ensures turn { (first size now : ℕ) (s : ProxyState) (a b : Situation) (x : ProxyState × Turn) → IsProxyWith first s a.ring
@@ -27,8 +29,8 @@ pub fn law_of_turns()
 /// client whose line is being read just this line was taken. The table has exactly the flows that the log left open and those of the host's open
 /// streams (Virtio 1.2, section 5.10.6).
 pub fn law_of_streamed()
-    ensures new { (cid : ℕ) (base : List ℕ) (a : Situation) → IsFresh a.ring → ForSome a.host (λ h. (h.streams ≡ []) × (h.labelled ≡ []))
-        → IsProxyStreamed cid (new_proxy cid base) a }
+    ensures new { (cid : ℕ) (base : List ℕ) (port : ℕ) (a : Situation) → IsFresh a.ring → ForSome a.host (λ h. (h.streams ≡ []) × (h.labelled ≡ []))
+        → IsProxyStreamed cid (new_proxy_at cid base port) a }
     ensures turn { (first size now : ℕ) (s : ProxyState) (a b : Situation) (x : ProxyState × Turn) → IsProxyWith first s a.ring
         → IsProxyStreamed first s a → Runs (turn_of size now s) a x b → IsProxyStreamed first x.0 b }
     ensures reset { (first cid : ℕ) (s : ProxyState) (a b : Situation) (x : ProxyState × Result (Unit {0}) Failure) → cid < 2 ^ 64
@@ -40,7 +42,8 @@ pub fn law_of_streamed()
 /// A new proxy is in order, with rings on which nothing passed. One that is in order may make a turn and a reset, over any ring that tells its
 /// log or tells nothing and any host that exposes its streams or nothing, and is in order after it.
 pub fn law_of_order()
-    ensures new { (cid : ℕ) (base : List ℕ) (a : Situation) → cid < 2 ^ 64 → IsFresh a.ring → IsInOrder cid (new_proxy cid base) a }
+    ensures new { (cid : ℕ) (base : List ℕ) (port : ℕ) (a : Situation) → cid < 2 ^ 64 → ASSIGNED_FIRST ≤ port → IsFresh a.ring
+        → IsInOrder cid (new_proxy_at cid base port) a }
     ensures turn_may { (first size now : ℕ) (s : ProxyState) (a : Situation) → IsInOrder first s a → MayRun (turn_of size now s) a }
     ensures turn { (first size now : ℕ) (s : ProxyState) (a b : Situation) (x : ProxyState × Turn) → IsInOrder first s a
         → Runs (turn_of size now s) a x b → IsInOrder first x.0 b }
@@ -52,7 +55,7 @@ pub fn law_of_order()
 /// Over an honest ring that tells its log, and any host, the ring doesn't fail, and the device counts just the packets of the log that it drops, each
 /// by the guest's CID of then. The count stands still at the last number of 64 bits.
 pub fn law_of_counts()
-    ensures new { (cid : ℕ) (base : List ℕ) (c : RingContents) → IsFresh c → IsCountedWith cid (new_proxy cid base).device c }
+    ensures new { (cid : ℕ) (base : List ℕ) (port : ℕ) (c : RingContents) → IsFresh c → IsCountedWith cid (new_proxy_at cid base port).device c }
     ensures turn { (first size now : ℕ) (s : ProxyState) (a b : Situation) (x : ProxyState × Turn) → IsCountedWith first s.device a.ring
         → Runs (turn_of size now s) a x b → IsCountedWith first x.0.device b.ring }
     ensures reset { (first cid : ℕ) (s : ProxyState) (a b : Situation) (x : ProxyState × Result (Unit {0}) Failure) → IsCountedWith first s.device a.ring

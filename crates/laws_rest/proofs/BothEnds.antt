@@ -1,4 +1,5 @@
 -- Bytes of both ends: what each put came first at the other, and the streams are of the same connections.
+use Rattle.laws_device.specs.{Carried.Streamed.{ports_of, Ports, IsStreamed}, Streams.AreStreamedWith}
 use Rattle.std.proofs.Common.{◌≡◌, ℕ, ◌≤◌, List, refl, sym, ap, subst, ◌∙◌, arith}
 use Rattle.vs_flow.specs.{Connection.{Connection, first_of}, Flow.is_assigned, Table.Table, declared.flow.Flow.Flow}
 use Rattle.laws_history.{specs.{Again.count, Packets.is_request, declared.packet.Packet.Packet, History.{Answerer, Asker, Side, gots, peer, puts}}, proofs.Lists.count_append}
@@ -10,7 +11,6 @@ use Rattle.laws_tables.{specs.{Asked.AskOnce, Both.{Both, at}}, proofs.Logs.pref
 use Rattle.vs_driver_parts.specs.{Held.HeldSlots, State.DriverState}
 use Rattle.laws_driver.specs.{Honest.slots_of, Carried.{Calls.{Journal, received_by}, Senders.{IsRightJournal, IsRightWith, sent_to}}}
 use Rattle.vs_device_parts.specs.{Calls.Situation, State.DeviceConnection}
-use Rattle.laws_device.specs.{Streams.AreStreamedWith, Carried.Streamed.IsStreamed}
 use Rattle.vs_proxy_parts.specs.State.{Handshake, ProxyState}
 use Rattle.laws_rest.{specs.Bytes.{AreTied, AreTold, BothEnds, CarryBytes}, proofs.Hosts.{read_is_got, wrote_is_put}}
 
@@ -30,7 +30,7 @@ module _ (b : Both) (ends : BothEnds b) where
             ∙ ap payload_of split.1 ∙ payload_of-append split.0 (instance_from side c.number came),
       )
 
-  module _ (h : HostContents) (port : ℕ) (table : Table DeviceConnection) (hands : List Handshake) (streams : IsStreamed h b.device.log port table hands) where
+  module _ (h : HostContents) (port : Ports) (table : Table DeviceConnection) (hands : List Handshake) (streams : IsStreamed h b.device.log port table hands) where
     -- What the host's program wrote is what the device put, and what it read is a prefix of what the device got.
     pub wrote_is : (c : Connection) → 1 ≤ c.number → payload_put Device c b.device.log ≡ host_wrote c h
     wrote_is c some = wrote_is_put h b.device.log port table hands streams c some
@@ -54,9 +54,9 @@ module _ (b : Both) (ends : BothEnds b) where
 -- Over any rings and any host.
 pub carry_told : (first : ℕ) (d : DriverState) (c : RingContents) (p : ProxyState) (a : Situation) (l m : EndLog) (h : HostContents) (first_id : ℕ)
     (opened : ℕ → Connection) (journal : Journal) (id : ℕ) → AreTold first d c p a l m h → IsRightWith first_id opened journal d c
-    → AreStreamedWith first p.next_port p.handshakes p.device.table a → 1 ≤ (opened id).number
+    → AreStreamedWith first p.next_port p.handshakes p.device a → 1 ≤ (opened id).number
     → CarryBytes (opened id) (sent_to opened (opened id) journal) (received_by id journal) h
 carry_told first d c p a l m h first_id opened journal id told right streams some =
-    carry_id _ told.ends h p.next_port p.device.table p.handshakes
+    carry_id _ told.ends h (ports_of p.next_port p.device) p.device.table p.handshakes
     (streams told.device_honest m told.device_log told.heard h told.host)
     first_id opened journal (slots_of d) id (right told.driver_honest l told.driver_log) some

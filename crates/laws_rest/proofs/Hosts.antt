@@ -1,4 +1,6 @@
 -- What the host wrote and read of a connection, against the two logs.
+use Rattle.laws_device.specs.Carried.Streamed.{Ports, IsCounted, IsLabelled, IsStreamed, Seen, connection_in, count_in, has_line, line_for, look, seen}
+use Rattle.laws_device.proofs.Carried.{Hosts.{label_here, stream_is, there}, Lines.after_front}
 use Rattle.std.proofs.Common.{◌≡◌, ℕ, ◌-◌, ◌≤◌, ◌^◌, ◌<◌, Bool, true, false, cond, List, [], ◌++◌, codes, decimal, slice_get, Option, Some, None, refl, sym, ap, subst, ◌∙◌, arith}
 use Rattle.std.{proofs.{Common.option_and_then, lemmas.{Bool.Decides.nat_tests, Option.slice_get_within}}, specs.Option.{option_map, option_map_or}}
 use Rattle.vs_flow.specs.{Connection.{Connection, first_of}, Flow.is_assigned, Table.Table, declared.flow.Flow.Flow}
@@ -8,8 +10,6 @@ use Rattle.vs_outside.specs.{HostBytes.{after_line, host_read, host_wrote, label
 use Rattle.vs_page.specs.{Fair.{IsPrefixOf, number_of, payload_got, payload_put}, Log.{Device, Log, history_of}}
 use Rattle.vs_proxy_parts.specs.State.{Handshake}
 use Rattle.vs_uds.{proofs.{Leading.has_lf-digits, Ports.WritesPort-decimal}, specs.OkLine.ok_text}
-use Rattle.laws_device.{specs.Carried.Streamed.{IsCounted, IsLabelled, IsStreamed, Seen, connection_in, count_in, has_line, line_for, look, seen}, proofs.Carried.Hosts.label_here}
-use Rattle.laws_device.proofs.Carried.{Hosts.{stream_is, there}, Lines.after_front}
 
 -- An OK line has no LF but its last byte.
 ok_front : (port : ℕ) → is_assigned port ≡ true → has_line (codes "OK " ++ decimal port) ≡ false
@@ -20,7 +20,7 @@ ok_front port is =
 some_stream : (a b : Stream) → ◌≡◌ {A = Option Stream} (Some a) (Some b) → a ≡ b
 some_stream a b is = cc
 
-module _ (c : HostContents) (log : Log) (port : ℕ) (t : Table DeviceConnection) (hands : List Handshake) (x : IsStreamed c log port t hands) (k : Connection)
+module _ (c : HostContents) (log : Log) (port : Ports) (t : Table DeviceConnection) (hands : List Handshake) (x : IsStreamed c log port t hands) (k : Connection)
     (some : 1 ≤ k.number) where
   -- A stream of the connection has one of the numbers of its flow.
   within : (st : Stream) → stream_of k c ≡ Some st → k.number ≤ count_in c k.flow

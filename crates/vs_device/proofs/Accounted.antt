@@ -47,10 +47,10 @@ module _ (s : DeviceState) (a b : Situation) where
       (keeps_reset_alone hands cid s calls was.accounts) was runs
 
   pub open_accounted : (flow : Flow) (stream : ℕ) (x : DeviceState × Result ℕ TableFault) → Runs (open_of flow stream s) a x b
-      → (calls : List Made) (hands : List Handshake) → AreAccounted calls s.table hands a.host → IsAsking stream flow calls hands
+      → (calls : List Made) (hands : List Handshake) → AreAccounted calls s.table hands a.host → IsAsking stream calls hands
       → StayAccounted (open_of flow stream s) calls x x.0.table hands b.host
   open_accounted flow stream x runs calls hands was asking =
       stay_accounted (λ y. y.0.table) (λ y. hands) (open_of flow stream s) calls a b x s.table hands
       (keeps_open hands hands flow stream asking.line s calls asking.whole asking.waits was.accounts.tied.undecided
       was.accounts.tied.waiting
-      asking.apart was.accounts.tied.apart was.accounts asking.port) was runs
+      asking.apart was.accounts.tied.apart was.accounts) was runs

@@ -62,8 +62,8 @@ module _ (s : DeviceState) (a b : Situation) where
       ring_end first port (λ x. x.0) s (reset_of cid s) a b x holds (reset_keeps ring_only [] first port cid fits s a) runs
 
   pub reset_streamed : (cid : ℕ) (x : DeviceState × Result (Unit {0}) Failure) → cid < 2 ^ 64 → Runs (reset_of cid s) a x b
-      → (first port : ℕ) (lines : List Handshake) → IsWith first port s a.ring → AreStreamedWith first port lines s.table a
-      → AreStreamedWith first port lines x.0.table b
+      → (first port : ℕ) (lines : List Handshake) → IsWith first port s a.ring → AreStreamedWith first port lines s a
+      → AreStreamedWith first port lines x.0 b
   reset_streamed cid x fits runs first port lines holds streams =
       streamed_end first port lines (λ x. x.0) s (reset_of cid s) a b x holds streams (reset_keeps ring_and_host lines first port cid fits s a) runs
 

@@ -6,9 +6,9 @@ use Rattle.vs_device_parts.specs.{State.DeviceState, Streams.leaving}
 use Rattle.vs_conn.specs.declared.end.Owed.TheVariants as owed
 
 pub paid_leaves : (what : Owed) (e : DeviceEntry) (slot : ℕ) (s m t : DeviceState) (x y : Situation) → is_rst what ≡ true → e.slot ≡ slot → m ≡ record s { last_put = Some slot }
-    → Runs (leaving e m) x t y → Runs (after_paying what e s) x t y
+    → Runs (leaving false e m) x t y → Runs (after_paying what e s) x t y
 paid_leaves owed.Rst e slot s m t x y rst at is leaves =
-    let P : DeviceState → Type 0 = λ u. Runs (leaving e u) x t y in
+    let P : DeviceState → Type 0 = λ u. Runs (leaving false e u) x t y in
     subst P (is ∙ ap (λ (n : ℕ). record s { last_put = Some n }) (sym at)) leaves
 paid_leaves _ e slot s m t x y rst at is leaves = absurd (cc)
 

@@ -1,14 +1,14 @@
 //! Closing the host's streams, and connections that leave the table.
 
-ghost use Rattle.std.specs.Prelude.{◌≡◌, Some};
-ghost use Rattle.vs_flow.specs.Table.{entry_under};
-ghost use Rattle.vs_device_parts.specs.{Connections.{cut_off, stream_closed, with_connection}, Playing.{MayClose, RunsOnHost}, State.{DeviceConnection, DeviceEntry, DeviceState}};
+ghost use Rattle.std.specs.Prelude.{◌≡◌, ◌&&◌, Some};
+ghost use Rattle.vs_flow.specs.{Flow.is_assigned, Table.entry_under};
+ghost use Rattle.vs_device_parts.specs.{Connections.{cut_off, kept_if, stream_closed, with_connection}, Playing.{MayClose, RunsOnHost}, State.{DeviceConnection, DeviceEntry, DeviceState}};
 ghost use Rattle.vs_device_parts.specs.Streams.{closing, leaving};
 
 use crate::device::Device;
 use vs_device_parts::connection::Connection;
 use vs_device_parts::host_calls::close;
-use vs_flow::Slot;
+use vs_flow::{CleanPairs, Flow, Slot, is_assigned};
 use vs_outside::HostNet;
 
 impl Device {
@@ -32,13 +32,18 @@ impl Device {
         self.slots.stream_closed(slot);
     }
 
-    /// The connection in a slot leaves the table, and its stream is closed, where it isn't yet.
-    pub(crate) fn leave<H: HostNet>(&mut self, host: &mut H, slot: Slot)
+    /// The connection in a slot leaves the table, and its stream is closed, where it isn't yet. Its flow may be used again where it ended
+    /// cleanly and a client of the host opened it.
+    pub(crate) fn leave<H: HostNet>(&mut self, host: &mut H, slot: Slot, cleanly: bool)
         requires may { (e : DeviceEntry) → entry_under self.old.table slot ≡ Some e → MayClose e.value (H.contents host.old) }
-        ensures calls { (e : DeviceEntry) → entry_under self.old.table slot ≡ Some e → (c : DeviceConnection) → c.closed ≡ e.value.closed → c.stream ≡ e.value.stream → RunsOnHost (leaving (record e { value = c }) self.old) (H.contents host.old) (H.faults host.old) self.new (H.contents host.new) (H.faults host.new) }
+        ensures calls { (e : DeviceEntry) → entry_under self.old.table slot ≡ Some e → (c : DeviceConnection) → c.closed ≡ e.value.closed → c.stream ≡ e.value.stream → RunsOnHost (leaving (cleanly && is_assigned e.flow.host) (record e { value = c }) self.old) (H.contents host.old) (H.faults host.old) self.new (H.contents host.new) (H.faults host.new) }
         ensures chain { self.new.chain ≡ self.old.chain }
     {
+        let Some(flow) = self.slots.flow_of(slot) else {
+            return;
+        };
         self.close_stream(host, slot);
+        keep_own(&mut self.clean, cleanly, flow);
         self.slots.leave(slot);
         self.closed = self.closed.saturating_add(1);
     }
@@ -52,6 +57,15 @@ impl Device {
             return;
         };
         close_unless_closed(host, connection);
+    }
+}
+
+// Keeps the flow of a connection that a client of the host opened, where it ended cleanly.
+fn keep_own(clean: &mut CleanPairs, cleanly: bool, flow: Flow)
+    ensures { clean.new ≡ kept_if (cleanly && is_assigned flow.host) flow clean.old }
+{
+    if cleanly && is_assigned(flow.host) {
+        clean.keep(flow);
     }
 }
 

@@ -1,6 +1,7 @@
-//! The device: its connections, what it owes to unknown flows, the event that it owes, the chain that it holds, and what it counted.
+//! The device: its connections, what it owes to unknown flows, the flows that may be used again, the event that it owes, the chain that it holds, and what it counted.
 
 ghost use Rattle.std.specs.Prelude.{◌≡◌, ◌≤◌, ℕ, List, [], Some, IfOk, length};
+ghost use Rattle.vs_flow.specs.CleanPairs.{comes_from, oldest};
 ghost use Rattle.vs_limits.specs.declared.TheConstants.{GUEST_CID_MIN, GUEST_CID_MAX};
 ghost use Rattle.vs_outside.specs.Host.{HostContents};
 ghost use Rattle.vs_ring_port.specs.{Contents.RingContents, EndLog.EndLog};
@@ -14,7 +15,7 @@ use std::marker::Model;
 use vs_device_parts::answers::Counters;
 use vs_device_parts::slots::{BUFFER_LEN, Slots};
 use vs_event::OwedEvent;
-use vs_flow::Slot;
+use vs_flow::{CleanPairs, Flow, Slot};
 use vs_limits::DEVICE_REPLIES;
 use vs_replies::Replies;
 use vs_ring_port::{Chain, Failure};
@@ -28,6 +29,7 @@ pub struct Device {
     pub(crate) moment: u64,
     pub(crate) slots: Slots,
     pub(crate) replies: Replies,
+    pub(crate) clean: CleanPairs,
     pub(crate) event: OwedEvent,
     pub(crate) chain: Option<Chain>,
     pub(crate) last_put: Option<Slot>,
@@ -54,6 +56,7 @@ impl Model for Device {
       now = d.moment;
       table = d.slots;
       replies = d.replies.owed;
+      clean = d.clean;
       event_owed = d.event;
       chain = d.chain;
       last_put = d.last_put;
@@ -88,6 +91,7 @@ impl Device {
             moment: 0,
             slots: Slots::new(alloc)?,
             replies: Replies::new(alloc, DEVICE_REPLIES)?,
+            clean: CleanPairs::new(alloc)?,
             event: OwedEvent::new(),
             chain: None,
             last_put: None,
@@ -114,6 +118,13 @@ impl Device {
             opened: self.opened,
             closed: self.closed,
         }
+    }
+
+    /// The oldest flow from a guest port that may be used again, or `None` where there is none.
+    pub fn oldest_from(&self, guest: u32) -> Option<Flow>
+        ensures { result ≡ oldest (comes_from guest) self.now.clean }
+    {
+        self.clean.oldest_from(guest)
     }
 
     /// Counts a call on the host that failed.

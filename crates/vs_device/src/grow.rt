@@ -32,7 +32,7 @@ impl Device {
         ensures honest { (first port : ℕ) (ring : RingContents) → IsWith first port self.old ring → IsWith first port self.new ring }
         // What the host's streams took and gave stays in step with that log.
         ensures streamed { (first port : ℕ) (lines : List Handshake) (a : Situation) → IsWith first port self.old a.ring
-            → AreStreamedWith first port lines self.old.table a → AreStreamedWith first port lines self.new.table a }
+            → AreStreamedWith first port lines self.old a → AreStreamedWith first port lines self.new a }
         // The calls made account for the host's streams, as they did before.
         ensures bytes { (calls : List Made) (hands : List Handshake) (host : Option HostContents)
             → AreAccounted calls self.old.table hands host → AreAccounted calls self.new.table hands host }

@@ -520,7 +520,7 @@ impl Device {
     {
         self.last_put = Some(slot);
         if is_rst(what) {
-            self.leave(host, slot);
+            self.leave(host, slot, false);
         } else {
             self.slots.paid(slot, what, self.moment);
         }

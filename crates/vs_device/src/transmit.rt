@@ -229,7 +229,8 @@ impl Device {
         ensures chain { self.new.chain ≡ self.old.chain }
     {
         if is_reset(header) {
-            self.leave(host, slot);
+            let cleanly = self.slots.ends_cleanly(slot, header);
+            self.leave(host, slot, cleanly);
         }
     }
 

@@ -51,7 +51,7 @@ impl Device {
             → IsWith first port self.old ring → IsWith first (port_after flow port result) self.new ring }
         // The calls made account for the host's streams, as they did before, where the stream is that of a client whose line is whole.
         ensures bytes { (calls : List Made) (hands : List Handshake) → AreAccounted calls self.old.table hands (H.contents host.old)
-            → IsAsking stream flow calls hands
+            → IsAsking stream calls hands
             → StayAccounted (open_of flow stream self.old) calls (self.new, result) self.new.table hands (H.contents host.new) }
     {
         if let Some(fault) = self.slots.refusal(flow) {
@@ -59,6 +59,7 @@ impl Device {
         }
         label(host, stream, flow);
         let slot = self.slots.open_client(flow, stream);
+        self.clean.remove(flow);
         self.opened = self.opened.saturating_add(1);
         Ok(slot)
     }
@@ -92,8 +93,8 @@ impl Device {
         // Where no payload of an open connection is dropped for its CIDs, the payload put on each connection is what was taken of its
         // stream, and its stream was given a prefix of its OK line and the payload got there; a guest may use a pair of ports again.
         ensures streamed { (first port : ℕ) (lines : List Handshake) → IsWith first port self.old (R.contents ring.old)
-            → AreStreamedWith first port lines self.old.table (situation (R.contents ring.old) (H.contents host.old) (H.faults host.old))
-            → AreStreamedWith first port lines self.new.table (situation (R.contents ring.new) (H.contents host.new) (H.faults host.new)) }
+            → AreStreamedWith first port lines self.old (situation (R.contents ring.old) (H.contents host.old) (H.faults host.old))
+            → AreStreamedWith first port lines self.new (situation (R.contents ring.new) (H.contents host.new) (H.faults host.new)) }
         // The calls made account for the host's streams, as they did before; handshakes are forgotten.
         ensures bytes { (calls : List Made) (hands : List Handshake) → AreAccounted calls self.old.table hands (H.contents host.old)
             → StayAccounted (reset_of cid self.old) calls (self.new, result) self.new.table [] (H.contents host.new) }

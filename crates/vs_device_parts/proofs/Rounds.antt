@@ -1,5 +1,5 @@
 -- The order in which connections are served: slots that rise are parted by one of them.
-use Rattle.std.proofs.{Common.{◌≡◌, ℕ, zero, suc, ◌<◌, ◌≤◌, Bool, true, false, List, [], ◌∷◌, length, take, drop, get_or, refl, ap, arith}, lemmas.Bool.Decides.nat_tests}
+use Rattle.std.proofs.{Common.{◌≡◌, ℕ, zero, suc, ◌<◌, ◌≤◌, true, false, List, [], ◌∷◌, length, take, drop, get_or, refl, ap, arith}, lemmas.Bool.Decides.nat_tests}
 use Rattle.std.specs.{Prelude.{nat_lt, nat_le}, List.{AllPairs, AllWithin, filter, Sorted.IsPartitionedBy}}
 
 -- those that are at most one come first

@@ -123,7 +123,7 @@ read_stream e r =
 
 -- A connection puts what it owes, while it owes something and chains are there. RST takes it out of the table.
 abbrev pub after_paying : Owed → DeviceEntry → DeviceState → DeviceTree DeviceState
-after_paying owed.Rst e s = leaving e (record s { last_put = Some e.slot })
+after_paying owed.Rst e s = leaving false e (record s { last_put = Some e.slot })
 after_paying owed.Request e s =
     Done (record (with_connection e.slot (record e.value { end = paid_of e.value.end owed.Request; asked_at = Some s.now }) s) { last_put = Some e.slot })
 after_paying what e s =

@@ -2,7 +2,7 @@
 use Rattle.std.specs.Prelude.{ℕ, Bool, false, List, [], Option, None}
 use Rattle.vs_conn.specs.End.{ConnectionEnd}
 use Rattle.vs_device_parts.specs.declared.answers.Counters.{Counters}
-use Rattle.vs_flow.specs.{Table.Table, declared.table.Entry.Entry}
+use Rattle.vs_flow.specs.{Table.Table, declared.{flow.Flow.Flow, table.Entry.Entry}}
 use Rattle.vs_replies.specs.declared.Reply.{Reply}
 use Rattle.vs_limits.specs.declared.TheConstants.{DEVICE_CONNECTIONS}
 use Rattle.vs_ring_port.specs.declared.{device_ring.Chain.Chain, failure.Failure.Failure}
@@ -35,6 +35,8 @@ pub record DeviceState : Type 0 where
   pub table : Table DeviceConnection
   -- RSTs owed to unknown flows, oldest first.
   pub replies : List Reply
+  -- The flows that may be used again, oldest first.
+  pub clean : List Flow
   pub event_owed : Bool
   -- The rx chain that is held for the next packet.
   pub chain : Option Chain
@@ -56,6 +58,7 @@ new_device cid base = record {
   now = 0;
   table = record { room = DEVICE_CONNECTIONS; entries = []; given = 0 };
   replies = [];
+  clean = [];
   event_owed = false;
   chain = None;
   last_put = None;

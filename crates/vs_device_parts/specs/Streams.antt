@@ -3,7 +3,7 @@ use Rattle.std.specs.Prelude.{ℕ, ◌+◌, ◌==◌, ◌&&◌, not, Bool, true,
 use Rattle.vs_contents.specs.CallTree.{Done, Ask, bind, for_each}
 use Rattle.vs_flow.specs.Table.{entry_under, slots}
 use Rattle.vs_outside.specs.declared.host_net.StreamWrite.{StreamWrite}
-use Rattle.vs_device_parts.specs.{Connections.{with_connection, with_fault, stream_closed, cut_off, after_shut, after_written, is_timed_out, after_leaving}, Calls.DeviceTree}
+use Rattle.vs_device_parts.specs.{Connections.{with_connection, with_fault, stream_closed, cut_off, after_shut, after_written, is_timed_out, after_leaving, keeping}, Calls.DeviceTree}
 use Rattle.vs_device_parts.specs.{Calls.{WriteStream, ShutWrite, CloseStream}, State.{DeviceConnection, DeviceState, DeviceEntry}}
 use Rattle.vs_limits.specs.declared.TheConstants.{WRITE_MAX}
 use Rattle.vs_outside.specs.declared.host_net.StreamWrite.TheVariants as write
@@ -14,9 +14,9 @@ closing e f s =
     if e.value.closed then Done (with_connection e.slot (f e.value) s)
     else Ask (CloseStream e.value.stream) (λ _. Done (with_connection e.slot (f e.value) s))
 
--- A connection leaves the table, and its stream is closed.
-abbrev pub leaving : DeviceEntry → DeviceState → DeviceTree DeviceState
-leaving e s = bind (closing e stream_closed s) (λ t. Done (after_leaving e.slot t))
+-- A connection leaves the table, and its stream is closed. Its flow may be used again, or not.
+abbrev pub leaving : Bool → DeviceEntry → DeviceState → DeviceTree DeviceState
+leaving keep e s = bind (closing e stream_closed s) (λ t. Done (keeping keep e.flow (after_leaving e.slot t)))
 
 -- Timeouts, by rising slot.
 abbrev pub tick_slot : ℕ → DeviceState → DeviceTree DeviceState

@@ -1,5 +1,5 @@
 -- Packets that the device takes from the guest.
-use Rattle.std.specs.Prelude.{◌-◌, ◌==◌, ◌&&◌, nat_lt, nat_le, if◌then◌else◌, [], ◌++◌, length, Option, Some, None}
+use Rattle.std.specs.Prelude.{◌-◌, ◌==◌, ◌&&◌, nat_lt, nat_le, Bool, if◌then◌else◌, [], ◌++◌, length, Option, Some, None}
 use Rattle.vs_contents.specs.CallTree.{Done, Ask, bind}
 use Rattle.vs_header.specs.{Op.{op_named, op_number}, Packet.header_of, declared.{Header.Header, TheConstants.HEADER_LEN, Kind.TheVariants.Stream, Op.{Op, TheVariants.Invalid}}}
 use Rattle.vs_header.specs.declared.Op.TheVariants.{Request}
@@ -13,6 +13,8 @@ use Rattle.vs_ring_port.specs.{declared.{device_ring.{Chain.Chain, Next.Next}, f
 use Rattle.vs_device_parts.specs.{declared.answers.Taken.Taken, Calls.{DeviceTree, Ring, Dial}, State.{DeviceConnection, DeviceState, DeviceEntry}, Streams.leaving}
 use Rattle.vs_device_parts.specs.Connections.{with_connection, with_reply, with_fault, with_dialed}
 use Rattle.vs_limits.specs.declared.TheConstants.{DEVICE_REPLIES}
+use Rattle.laws_history.specs.declared.packet.Packet.{Packet}
+use Rattle.laws_tables.specs.Steps.{is_kept}
 use Rattle.vs_wrap.specs.Wrap.{counted}
 use Rattle.vs_conn.specs.declared.end.Verdict.TheVariants as verdict
 use Rattle.vs_conn.specs.declared.end.Why.TheVariants as why
@@ -25,9 +27,16 @@ use Rattle.vs_device_parts.specs.declared.answers.Taken.TheVariants as taken
 abbrev pub failing : Failure → DeviceState → DeviceState
 failing failure s = record s { failed = Some failure }
 
--- A packet of a connection of the table, by the verdict of its end. With RESPONSE the OK line is pending.
+-- A packet of a connection of the table, by the verdict of its end. With RESPONSE the OK line is pending; RST takes it out of the table, and
+-- a marked one may leave its flow to be used again.
 abbrev pub heard : Header → DeviceConnection → DeviceConnection
 heard h c = record c { end = end_after c.end h }
+
+abbrev pub without_payload : Header → Packet
+without_payload h = record { header = h; payload = [] }
+
+abbrev pub keeps_flow : Header → DeviceEntry → Bool
+keeps_flow h e = is_kept Device e.flow e.value.end (without_payload h)
 
 abbrev pub on_known : Verdict → Chain → Header → DeviceEntry → DeviceState → DeviceTree DeviceState
 on_known verdict.Accept chain h e s =
@@ -36,7 +45,7 @@ on_known verdict.Deliver chain h e s =
     Ask (Ring (Read chain HEADER_LEN h.len)) (λ payload.
     Done (with_connection e.slot (record (heard h e.value) { pending = e.value.pending ++ payload }) s))
 on_known verdict.Peer chain h e s =
-    if is_reset h then leaving (record e { value = heard h e.value }) s else Done (with_connection e.slot (heard h e.value) s)
+    if is_reset h then leaving (keeps_flow h e) (record e { value = heard h e.value }) s else Done (with_connection e.slot (heard h e.value) s)
 on_known (verdict.Rst (why.Overrun o)) chain h e s = Done (with_connection e.slot (heard h e.value) (record s { overrun = counted s.overrun }))
 on_known _ chain h e s = Done (with_connection e.slot (heard h e.value) s)
 

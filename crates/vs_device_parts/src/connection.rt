@@ -1,14 +1,15 @@
 //! A connection of the device's table: its end, the host's stream that it is joined to, and what is left to write to that stream.
 
-ghost use Rattle.std.specs.Prelude.{◌≡◌, ◌≤◌, ◌<◌, ◌==◌, ◌+◌, ◌-◌, ◌++◌, ℕ, [], true, false, Some, if◌then◌else◌, length, take};
-ghost use Rattle.vs_conn.specs.{End.{CanSend, asked, answering, grown, may_shut, owes_of, verdict_of, view_of, wanting_credit, with_payload_sent}, Headers.owed_header};
+ghost use Rattle.std.specs.Prelude.{◌≡◌, ◌≤◌, ◌<◌, ◌==◌, ◌&&◌, ◌+◌, ◌-◌, ◌++◌, ℕ, [], true, false, Some, if◌then◌else◌, length, take};
+ghost use Rattle.vs_conn.specs.{End.{CanSend, asked, answering, grown, may_shut, owes_of, verdict_of, view_of, wanting_credit, with_payload_sent}, Headers.owed_header, Shut.is_both};
 ghost use Rattle.vs_conn.specs.{Headers.payload_header, declared.end.{State.TheVariants.Live, Verdict.TheVariants.{Deliver, Accept}}};
 ghost use Rattle.vs_credit.specs.Credit.{free_of, unread_of};
+ghost use Rattle.laws_history.specs.Packets.{is_clean_rst};
 ghost use Rattle.vs_header.specs.declared.Kind.TheVariants.{Stream};
 ghost use Rattle.vs_limits.specs.declared.TheConstants.{BUF_ALLOC, BUF_ALLOC_MAX, WRITE_MAX};
 ghost use Rattle.vs_uds.specs.OkLine.{ok_text};
 ghost use Rattle.vs_device_parts.specs.{Connections.{after_shut, after_written, cut_off, is_late, is_timed_out, new_connection, stream_closed}, Paid.paid_connection};
-ghost use Rattle.vs_device_parts.specs.{Receiving.may_read, Room.IsSpare, Streams.{to_write, is_written_out}, Transmitting.heard, Watched.has_to_write, Growing.grow_answer};
+ghost use Rattle.vs_device_parts.specs.{Receiving.may_read, Room.IsSpare, Streams.{to_write, is_written_out}, Transmitting.{heard, without_payload}, Watched.has_to_write, Growing.grow_answer};
 ghost use Rattle.vs_device_parts.specs.{Served.IsServedSo, declared.answers.Grown.TheVariants.Done};
 
 use crate::answers::Grown;
@@ -16,7 +17,7 @@ use crate::service::Service;
 use std::marker::Model;
 use vs_buffer::ByteFifo;
 use vs_conn::{End, EndView, Owed, Route, Shut, State, Verdict};
-use vs_header::{Header, Kind};
+use vs_header::{CLEAN, Header, Kind, Op};
 use vs_limits::{BUF_ALLOC, BUF_ALLOC_MAX, TIMEOUT, WRITE_MAX};
 use vs_uds::ok_line;
 
@@ -116,6 +117,20 @@ impl Connection {
         ensures { result ≡ self.now.closed }
     {
         self.closed
+    }
+
+    /// Whether a packet ends it cleanly: a marked RST, where its end decided to shut both directions.
+    pub fn ends_cleanly(&self, header: &Header) -> bool
+        ensures { result ≡ (is_both self.now.end.own && is_clean_rst (without_payload header.now)) }
+    {
+        self.has_shut() && is_marked(header)
+    }
+
+    // Whether its end decided to shut both directions.
+    fn has_shut(&self) -> bool
+        ensures { result ≡ is_both self.now.end.own }
+    {
+        self.end.view().put == 3
     }
 
     /// What its end shows.
@@ -381,6 +396,13 @@ impl Connection {
         buffers.pending.clear();
         buffers
     }
+}
+
+// Whether a packet is a marked RST.
+fn is_marked(header: &Header) -> bool
+    ensures { result ≡ is_clean_rst (without_payload header.now) }
+{
+    header.op == Op::Rst.number() && header.flags == CLEAN
 }
 
 // The moment that comes `TIMEOUT` milliseconds after another one, and the last one of all where there is none.

@@ -6,7 +6,7 @@ use Rattle.vs_outside.specs.declared.host_net.StreamWrite.{StreamWrite}
 use Rattle.vs_ring_port.specs.declared.device_ring.Next.{Next}
 use Rattle.vs_wrap.specs.Wrap.{counted}
 use Rattle.vs_device_parts.specs.Streams.{closing, leaving, tick_slot, tick_of, Writing, pump_of, pump_slot, write_answered, write_pending, shut_write, to_write, is_written_out}
-use Rattle.vs_device_parts.specs.{Connections.{is_timed_out, cut_off, stream_closed, with_fault, after_leaving}, Calls.DeviceTree, State.{DeviceConnection, DeviceState}}
+use Rattle.vs_device_parts.specs.{Connections.{is_timed_out, cut_off, stream_closed, with_fault, after_leaving, keeping}, Calls.DeviceTree, State.{DeviceConnection, DeviceState}}
 use Rattle.vs_device_parts.specs.{State.DeviceEntry, Receiving.{event_on, pay_event_of}, Turns.open_of}
 use Rattle.vs_proxy_parts.specs.Turning.{CountsFew}
 use Rattle.vs_outside.specs.declared.host_net.StreamWrite.TheVariants as write
@@ -69,8 +69,9 @@ pub closing_few : (e : DeviceEntry) (f : DeviceConnection → DeviceConnection) 
 closing_few e f s = ends_if _ e.value.closed _ _ (none_came s _ refl refl) (λ a. none_came s _ refl refl)
 
 -- one leaves
-pub leaving_few : (e : DeviceEntry) (s : DeviceState) → Ends (CountsFew 0 1 s) (leaving e s)
-leaving_few e s = keeps_bind (CountsFew 0 0) same_few then_few (CountsFew 0 1 s) (closing e stream_closed s) (λ t. Done (after_leaving e.slot t)) s (closing_few e stream_closed s)
+pub leaving_few : (keep : Bool) (e : DeviceEntry) (s : DeviceState) → Ends (CountsFew 0 1 s) (leaving keep e s)
+leaving_few keep e s = keeps_bind (CountsFew 0 0) same_few then_few (CountsFew 0 1 s) (closing e stream_closed s)
+    (λ t. Done (keeping keep e.flow (after_leaving e.slot t))) s (closing_few e stream_closed s)
     (λ t f. record { opened = omega (arith, f.opened); closed = omega (arith, f.closed, one_more t.closed) })
 
 -- timeouts

@@ -77,7 +77,7 @@ put_reply_few r = by r.state.replies
         (put_packet_few (reply_header reply r.state) (λ s. Done (record s { replies = replies })) (λ s. record { opened = omega arith; closed = omega arith }) r)
 
 paying_few : (what : Owed) (e : DeviceEntry) (s : DeviceState) → Ends (CountsFew 0 1 s) (after_paying what e s)
-paying_few owed.Rst e s = ends_weaker (CountsFew 0 1 (record s { last_put = Some e.slot })) (CountsFew 0 1 s) (λ t f. record { opened = f.opened; closed = f.closed }) _ (leaving_few e (record s { last_put = Some e.slot }))
+paying_few owed.Rst e s = ends_weaker (CountsFew 0 1 (record s { last_put = Some e.slot })) (CountsFew 0 1 s) (λ t f. record { opened = f.opened; closed = f.closed }) _ (leaving_few false e (record s { last_put = Some e.slot }))
 paying_few owed.Request e s = record { opened = omega arith; closed = omega arith }
 paying_few what e s = record { opened = omega arith; closed = omega arith }
 

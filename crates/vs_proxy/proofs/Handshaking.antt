@@ -1,12 +1,12 @@
 -- What the steps of handshakes come to.
-use Rattle.std.proofs.{Common.{◌≡◌, ℕ, ◌+◌, ◌==◌, Bool, true, false, cond, List, [], ◌∷◌, ◌++◌, length, Some, refl, sym, ap, ◌∙◌}, lemmas.Bool.eqb-true}
+use Rattle.std.proofs.{Common.{◌≡◌, ℕ, ◌+◌, ◌==◌, Bool, true, false, cond, List, [], ◌∷◌, ◌++◌, length, Option, Some, None, refl, sym, ap, ◌∙◌}, lemmas.Bool.eqb-true}
 use Rattle.std.specs.{Prelude.{if◌then◌else◌, nat_lt, Result}, List.find}
 use Rattle.vs_contents.{specs.CallTree.{Done, Ask, bind}, proofs.{Leads.{leads_of, leads_bind}, Conditions.{may_first, may_of}}}
 use Rattle.vs_outside.specs.declared.host_net.{Accepted.Accepted, StreamRead.StreamRead}
 use Rattle.vs_uds.specs.{ConnectLine.connect_step, declared.scan.Step.Step}
-use Rattle.vs_flow.specs.{Flow.host_flow, declared.table.TableFault.TableFault}
+use Rattle.vs_flow.specs.declared.{flow.Flow.Flow, table.TableFault.TableFault}
 use Rattle.vs_device_parts.specs.{Calls.{DeviceTree, Situation, Allows, Accept, ReadStream, CloseStream}, Playing.{CanMake, MayRun, Runs}, State.DeviceState, Turns.open_of}
-use Rattle.vs_proxy_parts.specs.Handshakes.{accept_answered, accept_one, byte_read, dropping, handshake_on, line_decided, may_open, read_byte, with_line, without_handshake}
+use Rattle.vs_proxy_parts.specs.Handshakes.{accept_answered, accept_one, byte_read, dropping, handshake_on, line_decided, next_after, next_flow, read_byte, with_line, without_handshake}
 use Rattle.vs_proxy_parts.specs.{Handshakes.without_stream, Turning.{closing_client, connecting, opening_client, without_it}, State.{Handshake, Turning, with_device}}
 use Rattle.vs_limits.specs.declared.TheConstants.{HANDSHAKES}
 use Rattle.vs_outside.specs.declared.host_net.StreamRead.TheVariants as read
@@ -106,18 +106,27 @@ module _ (byte : ℕ) (t : Turning) (h : Handshake) where
 
 -- a client whose handshake is over
 module _ (stream port : ℕ) (t : Turning) where
-  abbrev connect_on : Bool → DeviceTree Turning
-  connect_on b = if b then opening_client stream port t else closing_client stream t
+  abbrev connect_on : Option Flow → DeviceTree Turning
+  connect_on o = elim o [ None ↦ closing_client stream t | Some flow ↦ opening_client stream flow t ]
 
-  pub turned_away : (u : Turning) (c m : Situation) → may_open t.state ≡ false → Allows (CloseStream stream) tt c m → u ≡ record t { hands = t.hands + 1 } → Runs (connecting stream port t) c u m
-  turned_away u c m test allowed end = leads_of Allows _ _ c m u (ap connect_on test) (tt, m, allowed, (sym end, refl))
+  abbrev pub given : Option Flow
+  given = next_flow port t.state.next_port t.state.device
+
+  pub may_turn_away : (c : Situation) → given ≡ None → MayRun (connecting stream port t) c → CanMake (CloseStream stream) c
+  may_turn_away c none may = (may_of CanMake Allows _ _ c (ap connect_on none) may).0
+
+  pub turned_away : (u : Turning) (c m : Situation) → given ≡ None → Allows (CloseStream stream) tt c m → u ≡ record t { hands = t.hands + 1 } → Runs (connecting stream port t) c u m
+  turned_away u c m none allowed end = leads_of Allows _ _ c m u (ap connect_on none) (tt, m, allowed, (sym end, refl))
 
   abbrev opened_by : DeviceState × Result ℕ TableFault → Turning
-  opened_by r = record t { state = record (with_device r.0 t.state) { next_port = t.state.next_port + 1 } }
+  opened_by r = record t { state = record (with_device r.0 t.state) { next_port = next_after t.state.next_port } }
 
-  abbrev opens : DeviceTree (DeviceState × Result ℕ TableFault)
-  opens = open_of (host_flow port t.state.next_port) stream t.state.device
+  pub may_let_in : (flow : Flow) (c : Situation) → given ≡ Some flow → MayRun (connecting stream port t) c → MayRun (open_of flow stream t.state.device) c
+  may_let_in flow c some may =
+      may_first CanMake Allows (open_of flow stream t.state.device) (λ x. Done (opened_by x)) c (may_of CanMake Allows _ _ c (ap connect_on some) may)
 
-  pub let_in : (r : DeviceState × Result ℕ TableFault) (u : Turning) (c m : Situation) → may_open t.state ≡ true → Runs opens c r m → u ≡ opened_by r → Runs (connecting stream port t) c u m
-  let_in r u c m test runs end =
-      leads_of Allows _ _ c m u (ap connect_on test) (leads_bind Allows opens (λ x. Done (opened_by x)) c m m r u runs (sym end, refl))
+  pub let_in : (flow : Flow) (r : DeviceState × Result ℕ TableFault) (u : Turning) (c m : Situation) → given ≡ Some flow
+      → Runs (open_of flow stream t.state.device) c r m → u ≡ opened_by r → Runs (connecting stream port t) c u m
+  let_in flow r u c m some runs end =
+      leads_of Allows _ _ c m u (ap connect_on some)
+      (leads_bind Allows (open_of flow stream t.state.device) (λ x. Done (opened_by x)) c m m r u runs (sym end, refl))

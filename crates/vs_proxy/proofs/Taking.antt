@@ -7,7 +7,7 @@ use Rattle.vs_header.specs.{Op.op_number, Packet.header_of, declared.{Header.Hea
 use Rattle.vs_outside.specs.declared.host_net.Dialed.{Dialed}
 use Rattle.vs_page.specs.{Log.{flow_to_host, Device}, Open.is_dropped}
 use Rattle.vs_ring_port.specs.{Contents.Return, declared.device_ring.{Chain.Chain, Next.Next}}
-use Rattle.vs_device_parts.specs.{Transmitting.{dial_answered, heard, on_header, on_known, on_next, on_packet, on_unknown, take_tx_of, try_request}, State.DeviceEntry}
+use Rattle.vs_device_parts.specs.{Transmitting.{dial_answered, heard, keeps_flow, on_header, on_known, on_next, on_packet, on_unknown, take_tx_of, try_request}, State.DeviceEntry}
 use Rattle.vs_device_parts.specs.{State.DeviceState, declared.answers.Taken.Taken, Calls.{DeviceTree, Ring}, Streams.leaving}
 use Rattle.vs_limits.specs.declared.TheConstants.{DEVICE_REPLIES}
 use Rattle.vs_proxy_parts.specs.Turning.{CountsFew}
@@ -36,7 +36,7 @@ module _ (s : DeviceState) where
   known_few verdict.Deliver chain h e = λ payload. as_before _ refl refl
   known_few verdict.Peer chain h e =
       let left : DeviceEntry = record e { value = heard h e.value } in
-      ends_if _ (is_reset h) _ _ (ends_weaker (CountsFew 0 1 s) (CountsFew 1 1 s) (λ t f. few_more 0 1 1 1 s t (omega arith) (omega arith) f) (leaving left s) (leaving_few left s))
+      ends_if _ (is_reset h) _ _ (ends_weaker (CountsFew 0 1 s) (CountsFew 1 1 s) (λ t f. few_more 0 1 1 1 s t (omega arith) (omega arith) f) (leaving (keeps_flow h e) left s) (leaving_few (keeps_flow h e) left s))
       (as_before _ refl refl)
   known_few (verdict.Rst (why.Overrun o)) chain h e = as_before _ refl refl
   known_few (verdict.Rst why.NotLive) chain h e = as_before _ refl refl

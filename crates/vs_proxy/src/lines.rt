@@ -5,7 +5,7 @@ ghost use Rattle.vs_outside.specs.Host.{IsOpen};
 ghost use Rattle.vs_uds.specs.declared.connect.TheConstants.{CONNECT_MAX};
 ghost use Rattle.vs_device_parts.specs.{Calls.CloseStream, Playing.{AllowsOnHost, MayRunOnHost, RunsOnHost}};
 ghost use Rattle.vs_limits.specs.declared.TheConstants.{HANDSHAKES};
-ghost use Rattle.vs_proxy_parts.specs.{Handshakes.{byte_read, handshake_on, may_open, read_byte, read_line, shake_hands}, State.Handshake, Turning.{CountsFew, connecting}};
+ghost use Rattle.vs_proxy_parts.specs.{Handshakes.{byte_read, handshake_on, next_after, next_flow, read_byte, read_line, shake_hands}, State.Handshake, Turning.{CountsFew, connecting}};
 ghost use Rattle.vs_proxy_parts.specs.Turning.{read_lines, turning_of};
 ghost use Rattle.vs_outside.specs.declared.host_net.StreamRead.TheVariants as read;
 
@@ -144,8 +144,8 @@ impl Proxy {
         }
     }
 
-    // A client asked for a port of the guest, and its handshake is over: its connection is opened under the next host port, where the table
-    // has a place and a port is left; else its stream is closed.
+    // A client asked for a port of the guest, and its handshake is over: its connection is opened on the next flow, where there is one; else
+    // its stream is closed.
     fn connect<H: HostNet>(&mut self, host: &mut H, stream: u64, port: u32, tally: &mut Tally)
         requires few { tally.old.hands < 2 ^ 20 }
         requires may { MayRunOnHost (connecting stream port (turning_of self.old tally.old)) (H.contents host.old) (H.faults host.old) }
@@ -155,21 +155,37 @@ impl Proxy {
         ensures chain { self.new.device.chain ≡ self.old.device.chain }
         ensures calls { RunsOnHost (connecting stream port (turning_of self.old tally.old)) (H.contents host.old) (H.faults host.old) (turning_of self.new tally.new) (H.contents host.new) (H.faults host.new) }
     {
-        if !self.may_open() {
+        let Some(flow) = self.next_flow(port) else {
             close_client(host, stream, tally);
             return;
-        }
-        let flow = Flow::to_host(port, self.next_port);
+        };
         let _slot = self.device.open(host, flow, stream);
-        self.next_port += 1;
+        self.next_port = next_after(self.next_port);
     }
 
-    // Whether a client's connection may be opened: the table has a place, and a host port is left.
-    fn may_open(&self) -> bool
-        ensures { result ≡ may_open self.now }
+    // The flow of the next connection to a guest port: `None` comes where the table is full, and where the last host port was given and no
+    // flow from that port may be used again.
+    fn next_flow(&self, guest: u32) -> Option<Flow>
+        ensures { result ≡ next_flow guest self.now.next_port self.now.device }
     {
-        self.device.has_place() && self.next_port <= ASSIGNED_LAST
+        if !self.device.has_place() {
+            return None;
+        }
+        if self.next_port <= ASSIGNED_LAST {
+            return Some(Flow::to_host(guest, self.next_port));
+        }
+        self.device.oldest_from(guest)
     }
+}
+
+// The next host port, once it was given.
+fn next_after(port: u32) -> u32
+    ensures { result ≡ next_after port }
+{
+    if port <= ASSIGNED_LAST {
+        return port + 1;
+    }
+    port
 }
 
 // Closes the stream of a client whose handshake is over.

@@ -1,14 +1,14 @@
 //! The proxy: the device, the handshakes of the host's clients, and the host ports that it gives.
 
-ghost use Rattle.std.specs.Prelude.{◌≡◌, ◌≤◌, ℕ, [], Some, IfOk, length};
-ghost use Rattle.vs_limits.specs.declared.TheConstants.{GUEST_CID_MIN, GUEST_CID_MAX};
+ghost use Rattle.std.specs.Prelude.{◌≡◌, ◌≤◌, ◌+◌, ℕ, [], Some, IfOk, length};
+ghost use Rattle.vs_limits.specs.declared.TheConstants.{ASSIGNED_FIRST, ASSIGNED_LAST, GUEST_CID_MIN, GUEST_CID_MAX};
 ghost use Rattle.vs_outside.specs.Host.{HostContents};
 ghost use Rattle.vs_ring_port.specs.EndLog.{EndLog};
 ghost use Rattle.vs_uds.specs.declared.path.TheConstants.{BASE_MAX};
 ghost use Rattle.vs_device_parts.specs.{Calls.Situation, State.counters_of};
 ghost use Rattle.laws_device.specs.Honest.{AgreesWith, IsFresh};
 ghost use Rattle.laws_proxy.specs.{Account.{Made.account_of, Told.{AreAccounted, Shows}}, Order.IsInOrder};
-ghost use Rattle.vs_proxy_parts.specs.Turns.{new_proxy};
+ghost use Rattle.vs_proxy_parts.specs.Turns.{new_proxy, new_proxy_at};
 
 use std::alloc::{AllocError, Global};
 use std::marker::Model;
@@ -50,10 +50,23 @@ impl Proxy {
         ensures bytes { IfOk result (λ proxy. (host : HostContents) → Shows (account_of []) host
             → AreAccounted [] proxy.device.table proxy.handshakes (Some host)) }
     {
+        Proxy::new_at(alloc, cid, base, ASSIGNED_FIRST)
+    }
+
+    /// The same of a proxy that gives host ports from `port` on, 1,073,741,824 to 2,147,483,648. The last of these says that all were given.
+    pub fn new_at(alloc: Global, cid: u64, base: &str, port: u32) -> Result<Proxy, AllocError>
+        requires cid { (GUEST_CID_MIN ≤ cid) × (cid ≤ GUEST_CID_MAX) }
+        requires base { (1 ≤ length base.now) × (length base.now ≤ BASE_MAX) }
+        requires port { (ASSIGNED_FIRST ≤ port) × (port ≤ ASSIGNED_LAST + 1) }
+        ensures state { IfOk result (λ proxy. proxy ≡ new_proxy_at cid base.now port) }
+        ensures order { IfOk result (λ proxy. (a : Situation) → IsFresh a.ring → IsInOrder cid proxy a) }
+        ensures bytes { IfOk result (λ proxy. (host : HostContents) → Shows (account_of []) host
+            → AreAccounted [] proxy.device.table proxy.handshakes (Some host)) }
+    {
         Ok(Proxy {
             device: Device::new(alloc, cid, base)?,
             handshakes: Handshakes::new(alloc)?,
-            next_port: ASSIGNED_FIRST,
+            next_port: port,
         })
     }
 

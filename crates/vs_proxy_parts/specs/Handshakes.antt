@@ -1,11 +1,11 @@
 -- Handshakes: a client of the host writes `CONNECT PORT` (Firecracker's vsock documentation).
-use Rattle.std.specs.Prelude.{ℕ, ◌+◌, ◌==◌, ◌&&◌, nat_lt, nat_le, Bool, true, false, if◌then◌else◌, List, [], ◌∷◌, ◌++◌, length, map, find, Option, Some, None}
+use Rattle.std.specs.Prelude.{ℕ, ◌+◌, ◌==◌, nat_lt, nat_le, Bool, true, false, if◌then◌else◌, List, [], ◌∷◌, ◌++◌, length, map, find, Option, Some, None}
 use Rattle.vs_contents.specs.CallTree.{Done, Ask, bind, for_each, while_up_to}
-use Rattle.vs_flow.specs.{Flow.host_flow, Table.has_place}
+use Rattle.vs_flow.specs.{CleanPairs.{comes_from, oldest}, Flow.host_flow, Table.has_place, declared.flow.Flow.Flow}
 use Rattle.vs_limits.specs.declared.TheConstants.{ASSIGNED_LAST, HANDSHAKES}
 use Rattle.vs_outside.specs.declared.host_net.{Accepted.Accepted, StreamRead.StreamRead}
 use Rattle.vs_uds.specs.{ConnectLine.connect_step, declared.{connect.TheConstants.CONNECT_MAX, scan.Step.Step}}
-use Rattle.vs_device_parts.specs.{Connections.{with_fault, is_late}, Turns.open_of, Calls.{DeviceTree, Accept, ReadStream, CloseStream}}
+use Rattle.vs_device_parts.specs.{Connections.{with_fault, is_late}, State.DeviceState, Turns.open_of, Calls.{DeviceTree, Accept, ReadStream, CloseStream}}
 use Rattle.vs_proxy_parts.specs.State.{Handshake, ProxyState, Turning, with_device}
 use Rattle.vs_outside.specs.declared.host_net.Accepted.TheVariants as accepted
 use Rattle.vs_outside.specs.declared.host_net.StreamRead.TheVariants as read
@@ -60,20 +60,30 @@ abbrev pub accept_one : Turning → DeviceTree Turning
 accept_one t =
     if nat_lt (length t.state.handshakes) HANDSHAKES then Ask Accept (λ answer. Done (accept_answered answer t)) else Done t
 
--- A whole line opens a connection under the next host port, where the table has a place and a port is left.
-abbrev pub opening : ℕ → ℕ → Turning → DeviceTree Turning
-opening stream port t =
-    bind (open_of (host_flow port t.state.next_port) stream t.state.device) (λ r.
-    Done (record t { state = record (with_device r.0 (without_handshake stream t.state)) { next_port = t.state.next_port + 1 } }))
+-- The flow of the next connection to a guest port, where the host port comes next and these flows may be used again: a fresh one, and once
+-- the last port was given the oldest of these from that port.
+abbrev pub free_flow : ℕ → ℕ → List Flow → Option Flow
+free_flow guest port clean = if nat_le port ASSIGNED_LAST then Some (host_flow guest port) else oldest (comes_from guest) clean
 
-abbrev pub may_open : ProxyState → Bool
-may_open s = has_place s.device.table && nat_le s.next_port ASSIGNED_LAST
+-- So it is where the table has a place. The next host port, once it was given: it stays where the last one was given before.
+abbrev pub next_flow : ℕ → ℕ → DeviceState → Option Flow
+next_flow guest port s = if has_place s.table then free_flow guest port s.clean else None
+
+abbrev pub next_after : ℕ → ℕ
+next_after port = if nat_le port ASSIGNED_LAST then port + 1 else port
+
+-- A whole line opens a connection on the next flow, where there is one.
+abbrev pub opening : ℕ → Flow → Turning → DeviceTree Turning
+opening stream flow t =
+    bind (open_of flow stream t.state.device) (λ r.
+    Done (record t { state = record (with_device r.0 (without_handshake stream t.state)) { next_port = next_after t.state.next_port } }))
 
 abbrev pub line_decided : ℕ → Step → Turning → DeviceTree (Turning × Bool)
 line_decided stream step.More t = Done (t, true)
 line_decided stream step.Bad t = bind (dropping stream t) (λ u. Done (u, false))
 line_decided stream (step.Port port) t =
-    bind (if may_open t.state then opening stream port t else dropping stream t) (λ u. Done (u, false))
+    bind (elim (next_flow port t.state.next_port t.state.device) [ None ↦ dropping stream t | Some flow ↦ opening stream flow t ]) (λ u.
+    Done (u, false))
 
 -- One byte of a line. Nothing past its LF is read.
 abbrev pub byte_read : Handshake → StreamRead → List ℕ → Turning → DeviceTree (Turning × Bool)

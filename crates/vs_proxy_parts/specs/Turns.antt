@@ -9,8 +9,12 @@ use Rattle.vs_proxy_parts.specs.{Handshakes.{streams_of, tick_handshakes, shake_
 use Rattle.vs_device_parts.specs.declared.answers.Taken.TheVariants as taken
 use Rattle.vs_proxy_parts.specs.declared.answers.Turn.TheVariants as turn
 
+-- A proxy before its first call, that gives host ports from this one on; and one that gives all of them.
+abbrev pub new_proxy_at : ℕ → List ℕ → ℕ → ProxyState
+new_proxy_at cid base port = record { device = new_device cid base; handshakes = []; next_port = port }
+
 abbrev pub new_proxy : ℕ → List ℕ → ProxyState
-new_proxy cid base = record { device = new_device cid base; handshakes = []; next_port = ASSIGNED_FIRST }
+new_proxy cid base = new_proxy_at cid base ASSIGNED_FIRST
 
 abbrev pub device_after : DeviceState → Turning → Turning
 device_after d t = record t { state = with_device d t.state }

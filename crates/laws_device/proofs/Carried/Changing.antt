@@ -1,21 +1,21 @@
 -- What the host's streams took and gave, through the small changes of the device.
-use Rattle.vs_flow.specs.{Table.{IsTable, Table, entry_of, with_value, without}, Flow.{is_assigned, same_flow}, declared.flow.Flow.Flow, Connection.Connection}
+use Rattle.vs_flow.specs.{CleanPairs.kept, Table.{IsTable, Table, entry_of, with_value, without}, Flow.{is_assigned, same_flow}, declared.flow.Flow.Flow, Connection.Connection}
 use Rattle.vs_flow.proofs.Entries.{same_flow_true}
 use Rattle.std.proofs.Common.{◌≡◌, ◌≢◌, ℕ, ◌+◌, ◌-◌, ◌≤◌, ◌==◌, ◌&&◌, nat_le, Bool, true, false, cond, List, [], ◌∷◌, ◌++◌, length, take, drop, Contains, Option, Some, None, refl}
 use Rattle.std.proofs.{Common.{sym, ap, subst, ◌∙◌, arith, slice_get, get_or, ◌⊎◌, inl, inr}, lemmas.{Bool.Decides.nat_tests, Grind.common_steps, List.append-nil}}
 use Rattle.std.{proofs.Math.Seq.{drop-nil, take-nil}, specs.{List.{All, filter}, Option.{option_map, option_map_or}}}
 use Rattle.vs_conn.{specs.{End.{ConnectionEnd, end_after, is_of, is_reset, verdict_of, with_shut, with_payload_sent}, declared.end.Verdict.Verdict}, proofs.Frames.got_asked}
-use Rattle.vs_device_parts.specs.{Connections.{after_shut, after_written, cut_off}, State.{DeviceConnection, DeviceEntry}, Transmitting.heard, Streams.to_write}
+use Rattle.vs_device_parts.specs.{Connections.{after_shut, after_written, cut_off, kept_if}, State.{DeviceConnection, DeviceEntry}, Transmitting.heard, Streams.to_write}
 use Rattle.laws_device.proofs.Carried.Gives.{drop_both, first_of, forwards_asked, forwards_gives, accepted_other, accepts_asked, accepts_response, answered_host, comes_behind}
 use Rattle.laws_device.proofs.Carried.Gives.{delivered_other, delivers_gives, gives_delivered, goes_host, hears_gives, kept_empty, response_empty, shut_gives, shuts_asked}
 use Rattle.laws_device.proofs.Carried.{Gives.{unanswered_got, forwards_old, shuts_old, stays_old}, HostCalls.{read_host, write_host, closed_left, same_ends, same_host}}
-use Rattle.laws_device.proofs.Carried.{Streamed.{join_of, left_streamed, StaysStill, passed_streamed, same_connection_of, same_streamed}, Opens.none_apart, Hosts.counts_kept}
-use Rattle.laws_device.proofs.Carried.{Hosts.{counts_still, look_kept, unseen}, Counted.{comes_on, counted_asks, counted_got, counted_put, number_elsewhere, number_put_elsewhere}}
-use Rattle.laws_device.{proofs.Carried.Counted.{put_still, request_put}, specs.Carried.Streamed.{client_waits, AreCounted, IsCounted, IsJoined, IsStreamed, connection_of}}
+use Rattle.laws_device.proofs.Carried.{Streamed.{join_of, kept_streamed, left_streamed, StaysStill, passed_streamed, same_connection_of, same_streamed}, Opens.none_apart, Hosts.counts_kept}
+use Rattle.laws_device.proofs.Carried.{Hosts.{counts_still, look_kept, unseen}, Counted.{comes_on, counted_asks, counted_got, counted_put, kept_less, number_elsewhere, number_put_elsewhere}}
+use Rattle.laws_device.{proofs.Carried.Counted.{put_still, request_put}, specs.Carried.Streamed.{client_waits, AreCounted, IsCounted, IsJoined, IsStreamed, Ports, connection_of}}
 use Rattle.laws_device.specs.Carried.Streamed.{count_in, gives, line_for, look, seen, Seen}
 use Rattle.laws_history.specs.{Packets.{has, is_clean_rst, is_request, is_response, is_rw}, History.{Answerer, Asker, Got, History, IsFair, Side, gots, puts, MayPut, peer}}
 use Rattle.laws_history.specs.{declared.packet.Packet.Packet, Again.AllowsNow}
-use Rattle.laws_tables.{specs.{Steps.payload_on, Drains.{Drains, only_on}, Ends.is_new}, proofs.{Fair.{fair_now, own_got_fair}, Adding.{got_over_put, number_got, number_put}}}
+use Rattle.laws_tables.{specs.{Steps.payload_on, Drains.{Drains, only_on}, Ends.{is_among, is_new}}, proofs.{Entries.kept_among, Fair.{fair_now, own_got_fair}, Adding.{got_over_put, number_got, number_put}}}
 use Rattle.laws_tables.proofs.{Adding.{put_adds, put_nothing, put_over_got}, Logs.none_on_any, Goes.{comes_out, Goes, drops, stays_still}, Changes.without_changed}
 use Rattle.vs_outside.specs.Host.{after_close, after_failed, after_read, after_shut_write, after_write, called, dial_answer, fails_now, is_listened, next_bytes, HostContents}
 use Rattle.vs_outside.{specs.{Host.{with_shut_write_call, Stream}, HostBytes.is_labelled}, proofs.Frames.stream_at-after_failed}
@@ -23,6 +23,7 @@ use Rattle.vs_page.specs.{Held.{IsWhole, packet_held, packet_with, payload_held}
 use Rattle.vs_page.specs.{declared.log.LogEntry.TheVariants.{GotPacket, Mark, PutEvent, PutPacket}, Fair.{IsFairLog, IsFairOn, asked_by, current, instance_from, number_of}}
 use Rattle.vs_page.{specs.Fair.{payload_got, payload_of, payload_put}, proofs.{Flows.same_self, Present.present_got}}
 use Rattle.vs_header.specs.{Packet.header_of, declared.{Header.Header, Kind.Kind}}
+use Rattle.vs_limits.specs.declared.TheConstants.{CLEAN_PAIRS}
 use Rattle.vs_proxy_parts.specs.State.{Handshake}
 use Rattle.vs_uds.specs.{ConnectLine.{connect_port, connect_step}, Reading.{is_decided, port_or_bad}, declared.connect.TheConstants.CONNECT_MAX, OkLine.ok_text}
 use Rattle.vs_outside.specs.declared.host_net.Dialed.TheVariants as dialed
@@ -33,7 +34,7 @@ use Rattle.vs_outside.specs.declared.host_net.StreamWrite.TheVariants as write
 use Rattle.vs_uds.specs.declared.scan.Step.TheVariants as step
 
 -- Where the host was fresh at first.
-abbrev pub StreamedIf : Type 0 → HostContents → Log → ℕ → Table DeviceConnection → List Handshake → Type 0
+abbrev pub StreamedIf : Type 0 → HostContents → Log → Ports → Table DeviceConnection → List Handshake → Type 0
 StreamedIf fresh c log port t hands = fresh → IsStreamed c log port t hands
 
 -- What packets carry payload.
@@ -70,7 +71,7 @@ no_request : (p : Packet) → is_response p ≡ true → is_request p ≡ false
 no_request p is = grind (arith, nat_tests, common_steps, is)
 
 -- Calls on the host that fail, and the id of a stream that is dialed.
-pub failed_host : (c : HostContents) (log : Log) (port : ℕ) (t : Table DeviceConnection) (hands : List Handshake) → IsStreamed c log port t hands
+pub failed_host : (c : HostContents) (log : Log) (port : Ports) (t : Table DeviceConnection) (hands : List Handshake) → IsStreamed c log port t hands
     → IsStreamed (after_failed c) log port t hands
 failed_host c log port t hands x = same_host c (after_failed c) log port t hands
     (λ j. look_kept c (after_failed c) list_is same_labels j (stream_at-after_failed j c)) list_is (counts_kept c (after_failed c) list_is same_labels) x
@@ -98,7 +99,7 @@ dialed_id path stream c is = by (fails_now c) (is_listened path c) is
 abbrev pub MayFollow : Table DeviceConnection → Packet → Type 0
 MayFollow t p = (is_clean_rst p ≡ false) ⊎ ((e : DeviceEntry) × Contains t.entries e × (flow_put Device p ≡ e.flow))
 
-pub put_empty : (c : HostContents) (log : Log) (port : ℕ) (t : Table DeviceConnection) (hands : List Handshake) (p : Packet) → p.payload ≡ []
+pub put_empty : (c : HostContents) (log : Log) (port : Ports) (t : Table DeviceConnection) (hands : List Handshake) (p : Packet) → p.payload ≡ []
     → is_request p ≡ false → MayFollow t p → IsStreamed c log port t hands → IsStreamed c (PutPacket p ∷ log) port t hands
 put_empty c log port t hands p none plain may x = same_streamed (look c) (look c) c.labelled (count_in c) log (PutPacket p ∷ log) port (λ id. refl)
     (put_still_by may) t hands x
@@ -111,7 +112,7 @@ put_empty c log port t hands p none plain may x = same_streamed (look c) (look c
     counted_by : (b : Bool) (f : Flow) (new : Bool) → is_assigned f.host ≡ b → cond new (number_of Device f log + 1) (number_of Device f log) ≡ count_in c f
         → (is_assigned f.host ≡ false → count_in c f ≡ number_of Device f log)
     counted_by b f new is newest outside =
-        let counted = subst (λ (b : Bool). IsCounted b (count_in c f) (number_of Device f log) (has is_clean_rst (puts (history_of Device f log)))) outside
+        let counted = subst (λ (b : Bool). IsCounted b (count_in c f) (number_of Device f log) (is_among f port.clean) (has is_clean_rst (puts (history_of Device f log)))) outside
         (x.streams.counted f) in
         all_by new (count_in c f) (number_of Device f log) newest counted.0
 
@@ -145,7 +146,7 @@ number_kept p log f plain = by (same_flow f (flow_got Device p)) refl
         never : true ≡ false → ⊥
         never is = cc
 
-module _ (c : HostContents) (log : Log) (port : ℕ) (t : Table DeviceConnection) (hands : List Handshake) (x : IsStreamed c log port t hands) (sound : IsTable t) where
+module _ (c : HostContents) (log : Log) (port : Ports) (t : Table DeviceConnection) (hands : List Handshake) (x : IsStreamed c log port t hands) (sound : IsTable t) where
   -- A connection decides something.
   pub decides_streams : (e : DeviceEntry) → Contains t.entries e → (k : DeviceConnection) → k.stream ≡ e.value.stream → k.by_client ≡ e.value.by_client
       → k.closed ≡ e.value.closed → is_new k.end ≡ is_new e.value.end → Goes (gives e.value.end) (gives k.end) (e.value.ok_line ++ e.value.pending)
@@ -185,9 +186,9 @@ module _ (c : HostContents) (log : Log) (port : ℕ) (t : Table DeviceConnection
   pub asks_streams : (e : DeviceEntry) → Contains t.entries e → (k : DeviceConnection) → k.stream ≡ e.value.stream → k.by_client ≡ e.value.by_client
       → k.closed ≡ e.value.closed → is_new e.value.end ≡ true → is_new k.end ≡ false → (k.ok_line ≡ e.value.ok_line) → k.pending ≡ e.value.pending
       → (gives k.end ≡ true → gives e.value.end ≡ true) → (k.end.state ≡ state.Asked → e.value.end.state ≡ state.Asked)
-      → (p : Packet) → is_request p ≡ true → p.payload ≡ [] → flow_put Device p ≡ e.flow → e.value.by_client ≡ true
+      → (p : Packet) → is_request p ≡ true → p.payload ≡ [] → flow_put Device p ≡ e.flow → e.value.by_client ≡ true → is_among e.flow port.clean ≡ false
       → IsStreamed c (PutPacket p ∷ log) port (with_value t e.slot k) hands
-  asks_streams e is k stream client closed was now ok pending less asks p request none flow by_client =
+  asks_streams e is k stream client closed was now ok pending less asks p request none flow by_client unkept =
       let its : Connection = connection_of e log in
       let j = join_of (look c) c.labelled (count_in c) log port t hands x e is in
       let own : is_assigned e.flow.host ≡ true = sym j.client ∙ by_client in
@@ -201,8 +202,9 @@ module _ (c : HostContents) (log : Log) (port : ℕ) (t : Table DeviceConnection
       goes_host c log (PutPacket p ∷ log) port t hands x sound e is k stream client closed [] (put_nothing Device p log none)
       (λ d. got_over_put Device p log d ∙ sym (none_on_any its d (payload_got Device d log))) after
       (λ f other. number_put_elsewhere p log f (λ same. other (same ∙ flow)))
-      (counted_asks p log (count_in c) request (subst (λ (f : Flow). is_assigned f.host ≡ true) (sym flow) own)
-      (subst (λ (f : Flow). number_of Device f log + 1 ≤ count_in c f) (sym flow) (omega (arith, next))))
+      (counted_asks p log (count_in c) port.clean request (subst (λ (f : Flow). is_assigned f.host ≡ true) (sym flow) own)
+      (subst (λ (f : Flow). number_of Device f log + 1 ≤ count_in c f) (sym flow) (omega (arith, next)))
+      (subst (λ (f : Flow). is_among f port.clean ≡ false) (sym flow) unkept))
       (subst (λ (line : List ℕ). Goes (gives e.value.end) (gives k.end) (e.value.ok_line ++ e.value.pending) (line ++ k.pending) [] []) (sym ok)
       (subst (λ (bytes : List ℕ). Goes (gives e.value.end) (gives k.end) (e.value.ok_line ++ e.value.pending) (e.value.ok_line ++ bytes) [] []) (sym pending)
       (stays_still (gives e.value.end) (gives k.end) (e.value.ok_line ++ e.value.pending) [] less (λ on. refl))))
@@ -228,7 +230,7 @@ module _ (c : HostContents) (log : Log) (port : ℕ) (t : Table DeviceConnection
           → IsStreamed c (GotPacket p ∷ log) port (with_value t e.slot (heard p.header e.value)) hands
       hears_streams v now other undelivered = goes_host c log (GotPacket p ∷ log) port t hands x sound e is
           (heard p.header e.value) refl refl refl p.payload put_same
-          got_here (heard_here (heard p.header e.value) refl) (λ f apart. number_same f) (counted_got p log (count_in c))
+          got_here (heard_here (heard p.header e.value) refl) (λ f apart. number_same f) (counted_got p log (count_in c) port.clean)
           (stays_still (gives e.value.end) (gives (end_after e.value.end p.header)) (e.value.ok_line ++ e.value.pending) p.payload
           (hears_gives e.value.end p.header v now other) (λ on. whole.none (gives_delivered e.value.end p v now undelivered on)))
           (λ on. (got_asked e.value.end p.header on, (λ none. none), λ none. none))
@@ -237,7 +239,7 @@ module _ (c : HostContents) (log : Log) (port : ℕ) (t : Table DeviceConnection
           → IsStreamed c (GotPacket p ∷ log) port (with_value t e.slot (record (heard p.header e.value) { pending = e.value.pending ++ payload })) hands
       delivers_streams payload same now = goes_host c log (GotPacket p ∷ log) port t hands x sound e is
           (record (heard p.header e.value) { pending = e.value.pending ++ payload }) refl refl refl p.payload put_same got_here
-          (heard_here (record (heard p.header e.value) { pending = e.value.pending ++ payload }) refl) (λ f apart. number_same f) (counted_got p log (count_in c))
+          (heard_here (record (heard p.header e.value) { pending = e.value.pending ++ payload }) refl) (λ f apart. number_same f) (counted_got p log (count_in c) port.clean)
           (subst (λ (bytes : List ℕ). Goes (gives e.value.end) (gives (end_after e.value.end p.header)) (e.value.ok_line ++ e.value.pending)
           (e.value.ok_line ++ (e.value.pending ++ bytes)) [] p.payload) (sym same)
           (comes_behind (gives e.value.end) (gives (end_after e.value.end p.header)) e.value.ok_line e.value.pending p.payload
@@ -251,7 +253,7 @@ module _ (c : HostContents) (log : Log) (port : ℕ) (t : Table DeviceConnection
       accepts_streams client line written now =
           answered_host c log (GotPacket p ∷ log) port t hands x sound e is (record (heard p.header e.value) { ok_line = line }) refl refl
           refl p.payload put_same got_here
-          (heard_here (record (heard p.header e.value) { ok_line = line }) refl) (λ f apart. number_same f) (counted_got p log (count_in c))
+          (heard_here (record (heard p.header e.value) { ok_line = line }) refl) (λ f apart. number_same f) (counted_got p log (count_in c) port.clean)
           (accepts_asked e.value.end p.header now)
           (ap (λ (k : Connection). payload_got Device k log) (sym (present_old log e old)) ∙ present_got Device e.flow log (was e.flow)
           ∙ nothing (side_of Device e.flow) (history_of Device e.flow log) (accepts_response e.value.end p now) older fair_here)
@@ -283,7 +285,7 @@ module _ (c : HostContents) (log : Log) (port : ℕ) (t : Table DeviceConnection
         → All (λ e. e.flow ≡ flow_got Device p → is_request p ≡ false) t.entries → IsStreamed c (GotPacket p ∷ log) port t hands
     passes_streams idle plain = passed_streamed (look c) c.labelled (count_in c) log (GotPacket p ∷ log) port t hands x (current Device (flow_got Device p) log)
         p.payload put_same (comes_on p log whole was fair) (λ i e within. number_kept p log (get_or t.entries i e).flow (plain i e within))
-        (counted_got p log (count_in c)) idle
+        (counted_got p log (count_in c) port.clean) idle
 
     pub unknown_streams : entry_of t (flow_got Device p) ≡ None → IsStreamed c (GotPacket p ∷ log) port t hands
     unknown_streams none = passes_streams (λ i e within on. absurd (none_apart t (flow_got Device p) none i e within on))
@@ -291,6 +293,35 @@ module _ (c : HostContents) (log : Log) (port : ℕ) (t : Table DeviceConnection
 
     pub empty_streams : is_rw p ≡ false → is_request p ≡ false → IsStreamed c (GotPacket p ∷ log) port t hands
     empty_streams other plain = passes_streams (λ i e within on given. whole.none other) (λ i e within on. plain)
+
+  -- Its flow is kept to be used again, or not: each of its streams has a REQUEST.
+  pub keeps_streams : (e : DeviceEntry) → Contains t.entries e → is_new e.value.end ≡ false → (keep : Bool)
+      → IsStreamed c log (record port { clean = kept_if keep e.flow port.clean }) t hands
+  keeps_streams e is old keep = kept_streamed (look c) c.labelled (count_in c) log port t hands x (kept_if keep e.flow port.clean)
+      (λ f y. by keep f y)
+    where
+      all : count_in c e.flow ≡ number_of Device e.flow log
+      all = sym (join_of (look c) c.labelled (count_in c) log port t hands x e is).newest
+          ∙ ap (λ (b : Bool). cond b (number_of Device e.flow log + 1) (number_of Device e.flow log)) old
+
+      own : (b k : Bool) (f : Flow) (marked : Bool) → count_in c f ≡ number_of Device f log
+          → IsCounted b (count_in c f) (number_of Device f log) (is_among f port.clean) marked
+          → IsCounted b (count_in c f) (number_of Device f log) k marked
+      own true k f marked every y = (y.0, y.1, λ is. every)
+      own false k f marked every y = y
+
+      by : (keep : Bool) (f : Flow) → AreCounted (count_in c) port.clean log f → AreCounted (count_in c) (kept_if keep e.flow port.clean) log f
+      by false f y = y
+      by true f y = of (same_flow f e.flow) refl
+        where
+          marks : Bool
+          marks = has is_clean_rst (puts (history_of Device f log))
+
+          of : (s : Bool) → same_flow f e.flow ≡ s → AreCounted (count_in c) (kept CLEAN_PAIRS e.flow port.clean) log f
+          of true same = own (is_assigned f.host) (is_among f (kept CLEAN_PAIRS e.flow port.clean)) f marks
+              (subst (λ (g : Flow). count_in c g ≡ number_of Device g log) (sym (same_flow_true f e.flow same)) all) y
+          of false other = kept_less (is_assigned f.host) (count_in c f) (number_of Device f log) (is_among f port.clean)
+              (is_among f (kept CLEAN_PAIRS e.flow port.clean)) marks (λ is. kept_among e.flow f port.clean is other) y
 
   -- A connection leaves, whose stream is closed or closes.
   pub leaves_streams : (e : DeviceEntry) → Contains t.entries e → e.value.closed ≡ true → (k : DeviceConnection)
@@ -319,7 +350,7 @@ module _ (c : HostContents) (log : Log) (port : ℕ) (t : Table DeviceConnection
       (λ d. sym (got_over_put Device p log d))
       (both_old log (PutPacket p ∷ log) e v old old (sym (number_put Device p log e.flow refl)))
       (λ f. sym (number_put Device p log f refl))
-      (counted_put p log (count_in c) refl (λ guest. inl refl)) j.drains j.asked
+      (counted_put p log (count_in c) port.clean refl (λ guest. inl refl)) j.drains j.asked
 
   pub writes_streams : (e : DeviceEntry) → Contains t.entries e → is_new e.value.end ≡ false → (n : ℕ) → n ≤ length (to_write e.value)
       → IsStreamed (after_write e.value.stream (to_write e.value) (write.Took n) c) log port (with_value t e.slot (after_written n e.value)) hands
@@ -353,26 +384,26 @@ module _ (c : HostContents) (log : Log) (port : ℕ) (t : Table DeviceConnection
       )
 
 -- Calls on the host that change no bytes.
-pub called_host : (c : HostContents) (log : Log) (port : ℕ) (t : Table DeviceConnection) (hands : List Handshake) → IsStreamed c log port t hands
+pub called_host : (c : HostContents) (log : Log) (port : Ports) (t : Table DeviceConnection) (hands : List Handshake) → IsStreamed c log port t hands
     → IsStreamed (called c) log port t hands
 called_host c log port t hands x = same_host c (called c) log port t hands (λ j. refl) refl (λ f. refl) x
 
-pub shut_write_host : (id : ℕ) (c : HostContents) (log : Log) (port : ℕ) (t : Table DeviceConnection) (hands : List Handshake) → IsStreamed c log port t hands
+pub shut_write_host : (id : ℕ) (c : HostContents) (log : Log) (port : Ports) (t : Table DeviceConnection) (hands : List Handshake) → IsStreamed c log port t hands
     → IsStreamed (after_shut_write id c) log port t hands
 shut_write_host id c log port t hands x = same_host c (after_shut_write id c) log port t hands
     (unseen id (λ s. record s { write_shut = true }) (with_shut_write_call c) (λ st. refl) (λ o st. refl)) refl
     (counts_still id (λ s. record s { write_shut = true }) (with_shut_write_call c) (λ st. refl)) x
 
 -- Entries that are no packets.
-pub event_streams : (c : HostContents) (log : Log) (id port : ℕ) (t : Table DeviceConnection) (hands : List Handshake) → IsStreamed c log port t hands
+pub event_streams : (c : HostContents) (log : Log) (id : ℕ) (port : Ports) (t : Table DeviceConnection) (hands : List Handshake) → IsStreamed c log port t hands
     → IsStreamed c (PutEvent id ∷ log) port t hands
 event_streams c log id port t hands x = same_streamed (look c) (look c) c.labelled (count_in c) log (PutEvent id ∷ log) port (λ j. refl)
-    (record { put = λ d. refl; got = λ d. refl; number = λ f. refl; counted = λ f y. y }) t hands x
+    (record { put = λ d. refl; got = λ d. refl; number = λ f. refl; counted = λ kept f y. y }) t hands x
 
-pub mark_streams : (c : HostContents) (log : Log) (cid port : ℕ) (t : Table DeviceConnection) (hands : List Handshake) → IsStreamed c log port t hands
+pub mark_streams : (c : HostContents) (log : Log) (cid : ℕ) (port : Ports) (t : Table DeviceConnection) (hands : List Handshake) → IsStreamed c log port t hands
     → IsStreamed c (Mark cid ∷ log) port t hands
 mark_streams c log cid port t hands x = same_streamed (look c) (look c) c.labelled (count_in c) log (Mark cid ∷ log) port (λ j. refl)
-    (record { put = λ d. refl; got = λ d. refl; number = λ f. refl; counted = λ f y. y }) t hands x
+    (record { put = λ d. refl; got = λ d. refl; number = λ f. refl; counted = λ kept f y. y }) t hands x
 
 -- A line goes on, where it isn't decided.
 pub goes_on : (line : List ℕ) → connect_step line ≡ step.More → is_decided CONNECT_MAX line ≡ false
@@ -384,7 +415,7 @@ goes_on line is = by (is_decided 32 line) (connect_port line) is
     by true (Some port) is = absurd cc
 
 -- A host none of whose streams has a label, and a table without connections.
-pub no_labels : (c : HostContents) (port : ℕ) (t : Table DeviceConnection) → t.entries ≡ [] → c.labelled ≡ []
+pub no_labels : (c : HostContents) (port : Ports) (t : Table DeviceConnection) → t.entries ≡ [] → c.labelled ≡ []
     → ((id : ℕ) (s : Seen) (k : Connection) → look c id ≡ Some s → s.label ≢ Some k)
     → ((id : ℕ) (s : Seen) → look c id ≡ Some s → s.waiting ≡ true → s ≡ client_waits) → IsStreamed c [] port t []
 no_labels c port t empty unlabelled none waits = record {
@@ -397,7 +428,7 @@ no_labels c port t empty unlabelled none waits = record {
         let none_counted = ap (λ (ids : List ℕ). length (filter (is_labelled k.flow c) ids)) unlabelled in
         absurd (omega (arith, some, most, none_counted));
     listed = λ id within. absurd (nowhere (subst (λ (ids : List ℕ). Contains ids id) unlabelled within));
-    counted = λ f. subst (λ (ids : List ℕ). AreCounted (λ g. length (filter (is_labelled f c) ids)) [] f) (sym unlabelled) (empty_counted f);
+    counted = λ f. subst (λ (ids : List ℕ). AreCounted (λ g. length (filter (is_labelled f c) ids)) port.clean [] f) (sym unlabelled) (empty_counted f);
     none = λ k without. nothing_put (side_of Device k.flow) k.number;
     waiting = waits;
     lines = record {
@@ -415,15 +446,15 @@ no_labels c port t empty unlabelled none waits = record {
     nothing_put Asker k = refl
     nothing_put Answerer k = refl
 
-    empty_counted : (f : Flow) → AreCounted (λ g. 0) [] f
+    empty_counted : (f : Flow) → AreCounted (λ g. 0) port.clean [] f
     empty_counted f = none_in (is_assigned f.host)
       where
-        none_in : (b : Bool) → IsCounted b 0 (asked_by (side_by Device b) [] []) false
-        none_in true = (omega arith, omega arith)
+        none_in : (b : Bool) → IsCounted b 0 (asked_by (side_by Device b) [] []) (is_among f port.clean) false
+        none_in true = (omega arith, omega arith, λ kept. refl)
         none_in false = (omega arith, λ marked. absurd cc)
 
 -- A host without streams.
-pub no_streams : (c : HostContents) (port : ℕ) (t : Table DeviceConnection) → t.entries ≡ [] → c.streams ≡ [] → c.labelled ≡ [] → IsStreamed c [] port t []
+pub no_streams : (c : HostContents) (port : Ports) (t : Table DeviceConnection) → t.entries ≡ [] → c.streams ≡ [] → c.labelled ≡ [] → IsStreamed c [] port t []
 no_streams c port t empty fresh unlabelled =
     no_labels c port t empty unlabelled (λ id s k there on. none id s there) (λ id s there waits. absurd (none id s there))
   where

@@ -7,11 +7,11 @@ use Rattle.vs_outside.specs.Host.{HostContents, after_close}
 use Rattle.vs_page.specs.Log.{Log}
 use Rattle.vs_proxy_parts.specs.State.{Handshake}
 use Rattle.laws_tables.proofs.Slots.{found_by}
-use Rattle.laws_device.specs.{Named.Streams.{joined_stream, stream_under}, Carried.Streamed.{AreLabelled, IsJoined, IsStreamed, Seen, connection_of, count_in, look, reading}}
+use Rattle.laws_device.specs.{Named.Streams.{joined_stream, stream_under}, Carried.Streamed.{AreLabelled, IsJoined, IsStreamed, Ports, Seen, connection_of, count_in, look, reading}}
 use Rattle.laws_device.proofs.{Named.Tables.{joined_in, stream_closed_under, value_in}, Carried.HostCalls.{open_before, shut_labels, some_seen}}
 
 -- A stream with a label that isn't closed is that of a connection under one of these slots. No line is of such a stream.
-pub record IsClosing (rest : List ℕ) (t : Table DeviceConnection) (c : HostContents) (log : Log) (port : ℕ)
+pub record IsClosing (rest : List ℕ) (t : Table DeviceConnection) (c : HostContents) (log : Log) (port : Ports)
     (hands : List Handshake) : Type 0 where
   pub streams : AreLabelled (look c) c.labelled (count_in c) log port hands
   pub left : (id : ℕ) (s : Seen) (k : Connection) → look c id ≡ Some s → s.label ≡ Some k → s.closed ≡ false
@@ -52,7 +52,7 @@ listed_by : (slot other : ℕ) (rest : List ℕ) → Contains (slot ∷ rest) ot
 listed_by slot other rest (zero, less, is) apart = absurd (apart (sym is))
 listed_by slot other rest (suc k, less, is) apart = (k, omega (arith, less), is)
 
-module _ (c : HostContents) (log : Log) (port : ℕ) (t : Table DeviceConnection) (hands : List Handshake) where
+module _ (c : HostContents) (log : Log) (port : Ports) (t : Table DeviceConnection) (hands : List Handshake) where
   pub closing_from : IsStreamed c log port t hands → IsClosing (slots t) t c log port hands
   closing_from x = record {
     streams = x.streams;

@@ -6,46 +6,54 @@ use Rattle.laws_history.specs.{Again.{MayPutNow, count, IsClean}, Packets.{has, 
 use Rattle.laws_history.specs.declared.packet.Packet.{Packet}
 use Rattle.vs_page.specs.{Fair.{IsFairLog, asked_by, current, number_of, payload_got}, Held.IsWhole, Log.{Device, Log, and_then, flow_got, flow_put, history_of, side_by, side_of}}
 use Rattle.vs_page.{specs.{Log.whole_of, declared.log.LogEntry.TheVariants.{GotPacket, PutPacket}}, proofs.Flows.same_self}
-use Rattle.laws_tables.{specs.Drains.only_on, proofs.{Adding.{got_adds, got_nothing, number_put, put_nothing, got_over_put}, Fair.own_got_fair, Firsts.{asker_asks, no_present}}}
+use Rattle.laws_tables.{specs.{Drains.only_on, Ends.is_among}, proofs.{Adding.{got_adds, got_nothing, number_put, put_nothing, got_over_put}, Fair.own_got_fair, Firsts.{asker_asks, no_present}}}
 use Rattle.laws_tables.proofs.Logs.{none_on_any}
 use Rattle.laws_device.{specs.Carried.Streamed.{AreCounted, IsCounted}, proofs.Carried.Streamed.StaysStill}
 
--- The same, by what passed on a flow, and what did on its present connection.
-abbrev AreIn : Bool → ℕ → History → History → Type 0
-AreIn b n w h = IsCounted b n (asked_by (side_by Device b) (puts w) (gots w)) (has is_clean_rst (puts h))
+-- No other flow is kept.
+pub kept_less : (b : Bool) (count number : ℕ) (was now marked : Bool) → (now ≡ true → was ≡ true) → IsCounted b count number was marked
+    → IsCounted b count number now marked
+kept_less true count number was now marked less x = (x.0, x.1, λ is. x.2 (less is))
+kept_less false count number was now marked less x = x
 
-got_in : (b s : Bool) (p : Packet) (n : ℕ) (w h : History) → AreIn b n w h → AreIn b n (cond s (Got p ∷ w) w) (cond s (and_then (Got p) h) h)
-got_in b false p n w h x = x
-got_in true true p n w h x = x
-got_in false true p n w h x = by (is_request p)
+-- The same, by what passed on a flow, and what did on its present connection.
+abbrev AreIn : Bool → ℕ → Bool → History → History → Type 0
+AreIn b n k w h = IsCounted b n (asked_by (side_by Device b) (puts w) (gots w)) k (has is_clean_rst (puts h))
+
+got_in : (b s : Bool) (p : Packet) (n : ℕ) (k : Bool) (w h : History) → AreIn b n k w h → AreIn b n k (cond s (Got p ∷ w) w) (cond s (and_then (Got p) h) h)
+got_in b false p n k w h x = x
+got_in true true p n k w h x = x
+got_in false true p n k w h x = by (is_request p)
   where
-    by : (r : Bool) → IsCounted false n (cond r (count is_request (gots w) + 1) (count is_request (gots w)))
+    by : (r : Bool) → IsCounted false n (cond r (count is_request (gots w) + 1) (count is_request (gots w))) k
         (has is_clean_rst (puts (cond r (Got p ∷ []) (Got p ∷ h))))
     by true = (omega (arith, x.0), λ marked. absurd cc)
     by false = x
 
 -- A packet comes: no more are marked after it, and a REQUEST is one more.
-pub counted_got : (p : Packet) (log : Log) (n : Flow → ℕ) (f : Flow) → AreCounted n log f → AreCounted n (GotPacket p ∷ log) f
-counted_got p log n f x = got_in (is_assigned f.host) (same_flow f (flow_got Device p)) p (n f) (whole_of Device f log) (history_of Device f log) x
+pub counted_got : (p : Packet) (log : Log) (n : Flow → ℕ) (kept : List Flow) (f : Flow) → AreCounted n kept log f → AreCounted n kept (GotPacket p ∷ log) f
+counted_got p log n kept f x =
+    got_in (is_assigned f.host) (same_flow f (flow_got Device p)) p (n f) (is_among f kept) (whole_of Device f log) (history_of Device f log) x
 
-put_in : (b s : Bool) (p : Packet) (n : ℕ) (w h : History) → is_request p ≡ false → (s ≡ true → b ≡ false → (is_clean_rst p ≡ false) ⊎ (n ≡ count is_request (gots w)))
-    → AreIn b n w h → AreIn b n (cond s (Put p ∷ w) w) (cond s (and_then (Put p) h) h)
-put_in b false p n w h plain marks x = x
-put_in true true p n w h plain marks x = (x.0, subst (λ (r : Bool). cond r (count is_request (puts w) + 1) (count is_request (puts w)) ≤ n) (sym plain) x.1)
-put_in false true p n w h plain marks x =
-    subst (λ (r : Bool). IsCounted false n (count is_request (gots w)) (has is_clean_rst (puts (cond r (Put p ∷ []) (Put p ∷ h))))) (sym plain)
+put_in : (b s : Bool) (p : Packet) (n : ℕ) (k : Bool) (w h : History) → is_request p ≡ false → (s ≡ true → b ≡ false → (is_clean_rst p ≡ false) ⊎ (n ≡ count is_request (gots w)))
+    → AreIn b n k w h → AreIn b n k (cond s (Put p ∷ w) w) (cond s (and_then (Put p) h) h)
+put_in b false p n k w h plain marks x = x
+put_in true true p n k w h plain marks x =
+    subst (λ (r : Bool). IsCounted true n (cond r (count is_request (puts w) + 1) (count is_request (puts w))) k true) (sym plain) x
+put_in false true p n k w h plain marks x =
+    subst (λ (r : Bool). IsCounted false n (count is_request (gots w)) k (has is_clean_rst (puts (cond r (Put p ∷ []) (Put p ∷ h))))) (sym plain)
     (by (marks refl refl))
   where
-    by : (is_clean_rst p ≡ false) ⊎ (n ≡ count is_request (gots w)) → IsCounted false n (count is_request (gots w)) (is_clean_rst p || has is_clean_rst (puts h))
-    by (inl not) = subst (λ (c : Bool). IsCounted false n (count is_request (gots w)) (c || has is_clean_rst (puts h))) (sym not) x
+    by : (is_clean_rst p ≡ false) ⊎ (n ≡ count is_request (gots w)) → IsCounted false n (count is_request (gots w)) k (is_clean_rst p || has is_clean_rst (puts h))
+    by (inl not) = subst (λ (c : Bool). IsCounted false n (count is_request (gots w)) k (c || has is_clean_rst (puts h))) (sym not) x
     by (inr all) = (x.0, λ marked. all)
 
 -- A packet is put that is no REQUEST: one that isn't marked, or one of a flow each REQUEST of which has its stream.
-pub counted_put : (p : Packet) (log : Log) (n : Flow → ℕ) → is_request p ≡ false
+pub counted_put : (p : Packet) (log : Log) (n : Flow → ℕ) (kept : List Flow) → is_request p ≡ false
     → (is_assigned (flow_put Device p).host ≡ false → (is_clean_rst p ≡ false) ⊎ (n (flow_put Device p) ≡ number_of Device (flow_put Device p) log))
-    → (f : Flow) → AreCounted n log f → AreCounted n (PutPacket p ∷ log) f
-counted_put p log n plain marks f x =
-    put_in (is_assigned f.host) (same_flow f (flow_put Device p)) p (n f) (whole_of Device f log) (history_of Device f log) plain
+    → (f : Flow) → AreCounted n kept log f → AreCounted n kept (PutPacket p ∷ log) f
+counted_put p log n kept plain marks f x =
+    put_in (is_assigned f.host) (same_flow f (flow_put Device p)) p (n f) (is_among f kept) (whole_of Device f log) (history_of Device f log) plain
     (λ own guest. by own guest (marks (subst (λ (g : Flow). is_assigned g.host ≡ false) (same_flow_true f (flow_put Device p) own) guest))) x
   where
     by : same_flow f (flow_put Device p) ≡ true → is_assigned f.host ≡ false
@@ -64,35 +72,38 @@ put_still p log n none plain marks = record {
   put = put_nothing Device p log none;
   got = λ c. sym (got_over_put Device p log c);
   number = λ f. sym (number_put Device p log f plain);
-  counted = counted_put p log n plain marks;
+  counted = λ kept. counted_put p log n kept plain marks;
 }
 
--- A REQUEST is put on a flow: it has a stream there.
-pub counted_asks : (p : Packet) (log : Log) (n : Flow → ℕ) → is_request p ≡ true → is_assigned (flow_put Device p).host ≡ true
-    → number_of Device (flow_put Device p) log + 1 ≤ n (flow_put Device p) → (f : Flow) → AreCounted n log f → AreCounted n (PutPacket p ∷ log) f
-counted_asks p log n asks assigned room f x = by (same_flow f (flow_put Device p)) refl
+-- A REQUEST is put on a flow that isn't kept: it has a stream there.
+pub counted_asks : (p : Packet) (log : Log) (n : Flow → ℕ) (kept : List Flow) → is_request p ≡ true → is_assigned (flow_put Device p).host ≡ true
+    → number_of Device (flow_put Device p) log + 1 ≤ n (flow_put Device p) → is_among (flow_put Device p) kept ≡ false
+    → (f : Flow) → AreCounted n kept log f → AreCounted n kept (PutPacket p ∷ log) f
+counted_asks p log n kept asks assigned room unkept f x = by (same_flow f (flow_put Device p)) refl
   where
-    there : is_assigned f.host ≡ true → number_of Device f log + 1 ≤ n f
-        → AreIn (is_assigned f.host) (n f) (Put p ∷ whole_of Device f log) (and_then (Put p) (history_of Device f log))
-    there own more = of (is_assigned f.host) own more x
+    there : is_assigned f.host ≡ true → number_of Device f log + 1 ≤ n f → is_among f kept ≡ false
+        → AreIn (is_assigned f.host) (n f) (is_among f kept) (Put p ∷ whole_of Device f log) (and_then (Put p) (history_of Device f log))
+    there own more none = of (is_assigned f.host) own more x
       where
         of : (b : Bool) → b ≡ true → asked_by (side_by Device b) (puts (whole_of Device f log)) (gots (whole_of Device f log)) + 1 ≤ n f
-            → AreIn b (n f) (whole_of Device f log) (history_of Device f log)
-            → AreIn b (n f) (Put p ∷ whole_of Device f log) (and_then (Put p) (history_of Device f log))
-        of true own more x = (
-          x.0,
-          subst (λ (r : Bool). cond r (count is_request (puts (whole_of Device f log)) + 1) (count is_request (puts (whole_of Device f log))) ≤ n f)
-              (sym asks) more,
-        )
+            → AreIn b (n f) (is_among f kept) (whole_of Device f log) (history_of Device f log)
+            → AreIn b (n f) (is_among f kept) (Put p ∷ whole_of Device f log) (and_then (Put p) (history_of Device f log))
+        of true own more x =
+            let most = x.1 in
+            let m : ℕ = count is_request (puts (whole_of Device f log)) in
+            let now : IsCounted true (n f) (m + 1) (is_among f kept) true =
+            (more, omega (arith, most), λ is. let both : true ≡ false = sym is ∙ none in absurd cc) in
+            subst (λ (r : Bool). IsCounted true (n f) (cond r (m + 1) m) (is_among f kept) true) (sym asks) now
         of false own more x = absurd cc
 
     by : (s : Bool) → same_flow f (flow_put Device p) ≡ s
-        → AreIn (is_assigned f.host) (n f) (cond s (Put p ∷ whole_of Device f log) (whole_of Device f log))
+        → AreIn (is_assigned f.host) (n f) (is_among f kept) (cond s (Put p ∷ whole_of Device f log) (whole_of Device f log))
         (cond s (and_then (Put p) (history_of Device f log)) (history_of Device f log))
     by false other = x
     by true own =
         let same = sym (same_flow_true f (flow_put Device p) own) in
         there (subst (λ (g : Flow). is_assigned g.host ≡ true) same assigned) (subst (λ (g : Flow). number_of Device g log + 1 ≤ n g) same room)
+        (subst (λ (g : Flow). is_among g kept ≡ false) same unkept)
 
 -- A REQUEST comes, where the log stays fair: each one before it had its stream. And it is one more on its flow, which is the guest's.
 pub record IsAsked (n : Flow → ℕ) (log : Log) (p : Packet) : Type 0 where
@@ -100,9 +111,9 @@ pub record IsAsked (n : Flow → ℕ) (log : Log) (p : Packet) : Type 0 where
   pub all : n (flow_got Device p) ≡ number_of Device (flow_got Device p) log
   pub next : number_of Device (flow_got Device p) (GotPacket p ∷ log) ≡ number_of Device (flow_got Device p) log + 1
 
-pub request_asks : (p : Packet) (log : Log) (n : Flow → ℕ) → IsFairLog Device (GotPacket p ∷ log) → is_request p ≡ true
-    → AreCounted n log (flow_got Device p) → IsAsked n log p
-request_asks p log n fair asks x = record { guest = guest (is_assigned f.host) refl; all = all; next = next }
+pub request_asks : (p : Packet) (log : Log) (n : Flow → ℕ) (kept : List Flow) → IsFairLog Device (GotPacket p ∷ log) → is_request p ≡ true
+    → AreCounted n kept log (flow_got Device p) → IsAsked n log p
+request_asks p log n kept fair asks x = record { guest = guest (is_assigned f.host) refl; all = all; next = next }
   where
     f : Flow
     f = flow_got Device p
@@ -131,8 +142,8 @@ request_asks p log n fair asks x = record { guest = guest (is_assigned f.host) r
     nothing (Put q ∷ h) a b = absurd cc
     nothing (Got q ∷ h) a b = absurd cc
 
-    counted : IsCounted false (n f) (number_of Device f log) (has is_clean_rst (puts h))
-    counted = subst (λ (b : Bool). IsCounted b (n f) (number_of Device f log) (has is_clean_rst (puts h))) outside x
+    counted : IsCounted false (n f) (number_of Device f log) (is_among f kept) (has is_clean_rst (puts h))
+    counted = subst (λ (b : Bool). IsCounted b (n f) (number_of Device f log) (is_among f kept) (has is_clean_rst (puts h))) outside x
 
     empty : (w : History) (side : Side) → w ≡ [] → asked_by side (puts w) (gots w) ≡ 0
     empty [] Asker is = refl

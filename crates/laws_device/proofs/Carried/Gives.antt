@@ -10,7 +10,7 @@ use Rattle.vs_outside.specs.Host.{HostContents}
 use Rattle.vs_page.specs.{Fair.{number_of, payload_got, payload_of, payload_put}, Log.{Device, Log}}
 use Rattle.vs_proxy_parts.specs.State.{Handshake}
 use Rattle.laws_tables.{specs.{Drains.{Drains, only_on}, Ends.is_new}, proofs.{Logs.{all_of, there_on}, Goes.{Goes, comes_in, drops, stays_still}}}
-use Rattle.laws_device.{specs.Carried.Streamed.{AreCounted, IsJoined, IsStreamed, connection_of, count_in, gives, line_for, look}, proofs.Carried.Streamed.changed_streamed}
+use Rattle.laws_device.{specs.Carried.Streamed.{AreCounted, IsJoined, IsStreamed, Ports, connection_of, count_in, gives, line_for, look}, proofs.Carried.Streamed.changed_streamed}
 use Rattle.laws_device.proofs.Carried.Streamed.{join_of}
 use Rattle.vs_conn.specs.declared.end.Owed.TheVariants as owed
 use Rattle.vs_conn.specs.declared.end.State.TheVariants as state
@@ -89,14 +89,14 @@ unanswered_got (Got p ∷ h) fair none = by (is_rw p) refl (unanswered_got h fai
     by true is before = let both : true ≡ false = sym (early is) ∙ older_none p (gots h) none in absurd cc
 
 -- A connection changes as a packet comes, or as it decides something.
-module _ (c : HostContents) (log new : Log) (port : ℕ) (t : Table DeviceConnection) (hands : List Handshake) (x : IsStreamed c log port t hands)
+module _ (c : HostContents) (log new : Log) (port : Ports) (t : Table DeviceConnection) (hands : List Handshake) (x : IsStreamed c log port t hands)
     (sound : IsTable t) (e : DeviceEntry) (is : Contains t.entries e) (k : DeviceConnection) (stream : k.stream ≡ e.value.stream)
     (client : k.by_client ≡ e.value.by_client) (closed : k.closed ≡ e.value.closed) (came : List ℕ)
     (put : (d : Connection) → payload_put Device d log ≡ payload_put Device d new)
     (got : (d : Connection) → payload_got Device d new ≡ payload_got Device d log ++ only_on (connection_of e log) came d)
     (keeps : connection_of (record e { value = k }) new ≡ connection_of e log)
     (number : (f : Flow) → f ≢ e.flow → number_of Device f log ≡ number_of Device f new)
-    (counted : (f : Flow) → AreCounted (count_in c) log f → AreCounted (count_in c) new f) where
+    (counted : (f : Flow) → AreCounted (count_in c) port.clean log f → AreCounted (count_in c) port.clean new f) where
   abbrev join : IsJoined (look c) (count_in c) log e
   join = join_of (look c) c.labelled (count_in c) log port t hands x e is
 

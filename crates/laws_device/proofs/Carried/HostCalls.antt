@@ -11,7 +11,7 @@ use Rattle.vs_page.specs.{Fair.{number_of, payload_got, payload_put}, Log.{Devic
 use Rattle.vs_proxy_parts.specs.State.{Handshake}
 use Rattle.vs_uds.specs.{Reading.is_decided, declared.connect.TheConstants.CONNECT_MAX}
 use Rattle.laws_tables.{specs.{Drains.{Drains, only_on}, Ends.is_new}, proofs.{Changes.others_left, Logs.none_on_any, Goes.drops}}
-use Rattle.laws_device.specs.Carried.Streamed.{AreCounted, AreLabelled, AreStreamed, IsJoined, IsLabelled, IsStreamed, Seen, client_waits, connection_of, count_in, gives, has_line}
+use Rattle.laws_device.specs.Carried.Streamed.{AreCounted, AreLabelled, AreStreamed, IsJoined, IsLabelled, IsStreamed, Ports, Seen, client_waits, connection_of, count_in, gives, has_line}
 use Rattle.laws_device.{specs.Carried.Streamed.{line_for, look, reading, seen, seen_as, taken_of}, proofs.Carried.Streamed.{one_seen, is_or_not, join_moves, join_of}}
 use Rattle.laws_device.proofs.Carried.{Streamed.{moved_streamed, no_entry, one_streamed, recounted, recounted_labels, same_streamed, unlabelled_streamed}, Tabled.stream_stays}
 use Rattle.laws_device.proofs.Carried.{Lines.after_longer, Hosts.{changed_seen, counts_more, counts_still, new_look, none_there, others_look, others_seen, there, unseen_none}}
@@ -21,7 +21,7 @@ use Rattle.vs_outside.specs.declared.host_net.StreamState.TheVariants as state
 use Rattle.vs_outside.specs.declared.host_net.StreamWrite.TheVariants as write
 
 -- Another host, whose streams look the same.
-pub same_host : (c d : HostContents) (log : Log) (port : ℕ) (t : Table DeviceConnection) (hands : List Handshake) → ((j : ℕ) → look c j ≡ look d j)
+pub same_host : (c d : HostContents) (log : Log) (port : Ports) (t : Table DeviceConnection) (hands : List Handshake) → ((j : ℕ) → look c j ≡ look d j)
     → d.labelled ≡ c.labelled → ((f : Flow) → count_in c f ≡ count_in d f) → IsStreamed c log port t hands → IsStreamed d log port t hands
 same_host c d log port t hands same labelled counts x =
     subst (λ (ids : List ℕ). AreStreamed (look d) ids (count_in d) log port t hands) (sym labelled)
@@ -79,7 +79,7 @@ module _ (id : ℕ) (c : HostContents) where
       by b was (inl (same, apart)) = (was ∙ ap (λ (s : Seen). Some s) (sym same), apart)
       by b was (inr closed) = let both : true ≡ false = sym (ap (λ (s : Seen). s.closed) closed) ∙ still in absurd cc
 
-  module _ (log : Log) (port : ℕ) (hands : List Handshake) (x : AreLabelled (look c) c.labelled (count_in c) log port hands)
+  module _ (log : Log) (port : Ports) (hands : List Handshake) (x : AreLabelled (look c) c.labelled (count_in c) log port hands)
       (away : All (λ h. h.stream ≢ id) hands) where
     labels_by : (j : ℕ) (u b : Seen) (f : Connection) → look c j ≡ Some b → ((u ≡ b) × (j ≢ id)) ⊎ (u ≡ shut b) → u.label ≡ Some f
         → (IsLabelled u f (count_in c) log port) × (b.label ≡ Some f)
@@ -132,7 +132,7 @@ module _ (id : ℕ) (c : HostContents) where
         (counts_still id (λ s. record s { state = state.Closed }) c (λ st. refl)) shut_same
 
 -- The stream closes of no connection.
-pub closed_host : (id : ℕ) (c : HostContents) (log : Log) (port : ℕ) (t : Table DeviceConnection) (hands : List Handshake)
+pub closed_host : (id : ℕ) (c : HostContents) (log : Log) (port : Ports) (t : Table DeviceConnection) (hands : List Handshake)
     → IsStreamed c log port t hands
     → ((s : Seen) → look c id ≡ Some s → s.label ≡ None) → All (λ h. h.stream ≢ id) hands → IsStreamed (after_close id c) log port t hands
 closed_host id c log port t hands x free away = record {
@@ -173,7 +173,7 @@ same_ends log e v new =
     ap (λ (b : Bool). let c : Connection = record { flow = e.flow; number = cond b (number_of Device e.flow log + 1) (number_of Device e.flow log) } in c) new
 
 -- The stream closes of a connection, which is over.
-module _ (c : HostContents) (log : Log) (port : ℕ) (t : Table DeviceConnection) (hands : List Handshake) (x : IsStreamed c log port t hands)
+module _ (c : HostContents) (log : Log) (port : Ports) (t : Table DeviceConnection) (hands : List Handshake) (x : IsStreamed c log port t hands)
     (sound : IsTable t) (e : DeviceEntry) (is : Contains t.entries e) where
   abbrev cut : IsJoined (look c) (count_in c) log e
   cut = join_of (look c) c.labelled (count_in c) log port t hands x e is
@@ -274,7 +274,7 @@ module _ (y : Stream) (c : HostContents) (free : y.label ≡ None) where
       sym (others_look y c free j (λ place.
       let both : None ≡ Some u = sym (ap (look c) place ∙ ap (option_map (seen c (length c.streams + 1))) (none_there y c)) ∙ is in absurd cc)) ∙ is
 
-pub client_host : (c : HostContents) (log : Log) (port : ℕ) (t : Table DeviceConnection) (hands : List Handshake) → IsStreamed c log port t hands
+pub client_host : (c : HostContents) (log : Log) (port : Ports) (t : Table DeviceConnection) (hands : List Handshake) → IsStreamed c log port t hands
     → IsStreamed (after_client c) log port t hands
 client_host c log port t hands x =
     recounted (look (after_client c)) c.labelled (count_in c) (count_in (after_client c)) log port t hands (counts_more client_stream c refl)
@@ -289,7 +289,7 @@ client_host c log port t hands x =
     }))
 
 -- ACCEPT: the client's line begins.
-pub accepted_host : (id now : ℕ) (c : HostContents) (log : Log) (port : ℕ) (t : Table DeviceConnection) (hands : List Handshake)
+pub accepted_host : (id now : ℕ) (c : HostContents) (log : Log) (port : Ports) (t : Table DeviceConnection) (hands : List Handshake)
     → accept_answer c ≡ accepted.Stream id → IsStreamed c log port t hands
     → IsStreamed (after_accept (accepted.Stream id) c) log port t (hands ++ record { stream = id; accepted_at = now; line = [] } ∷ [])
 accepted_host id now c log port t hands answer x =
@@ -324,7 +324,7 @@ accepted_host id now c log port t hands answer x =
         absurd cc
 
 -- READ and WRITE of a connection's stream.
-module _ (c : HostContents) (log new : Log) (port : ℕ) (t : Table DeviceConnection) (hands : List Handshake) (x : IsStreamed c log port t hands)
+module _ (c : HostContents) (log new : Log) (port : Ports) (t : Table DeviceConnection) (hands : List Handshake) (x : IsStreamed c log port t hands)
     (sound : IsTable t) (e : DeviceEntry) (is : Contains t.entries e) (k : DeviceConnection) (stream : k.stream ≡ e.value.stream)
     (client : k.by_client ≡ e.value.by_client) (closed : k.closed ≡ e.value.closed) where
   abbrev pub joined : IsJoined (look c) (count_in c) log e
@@ -351,7 +351,7 @@ module _ (c : HostContents) (log new : Log) (port : ℕ) (t : Table DeviceConnec
       → ((d : Connection) → payload_got Device d log ≡ payload_got Device d new)
       → connection_of (record e { value = k }) new ≡ its
       → ((f : Flow) → number_of Device f log ≡ number_of Device f new)
-      → ((f : Flow) → AreCounted (count_in c) log f → AreCounted (count_in c) new f)
+      → ((f : Flow) → AreCounted (count_in c) port.clean log f → AreCounted (count_in c) port.clean new f)
       → Drains (gives k.end) joined.stream.given (k.ok_line ++ k.pending) (line_for e.flow ++ payload_got Device its log)
       → (k.end.state ≡ Asked → (joined.stream.given ≡ []) × (k.ok_line ≡ []) × (k.pending ≡ []) × (k.closed ≡ false))
       → IsStreamed (after_read e.value.stream (read.Got n) c) new port (with_value t e.slot k) hands

@@ -1,11 +1,11 @@
 -- What the host's streams took and gave, as a line is read and a connection opens.
 use Rattle.std.proofs.Common.{◌≡◌, ◌≢◌, ℕ, zero, suc, ◌+◌, ◌≤◌, ◌==◌, min, Bool, true, false, cond, List, [], ◌∷◌, ◌++◌, length, take, get_or, Contains, Option, Some, None}
-use Rattle.std.{proofs.{Common.{is_some, refl, sym, ap, subst, ◌∙◌, arith}, lemmas.{Bool.Decides.nat_tests, Option.{get_or_from_slice_get, slice_get_within}}}, specs.List.All}
-use Rattle.std.specs.{List.find, Option.{option_map, option_map_or}}
+use Rattle.std.proofs.{Common.{is_some, refl, sym, ap, subst, ◌∙◌, arith, ◌⊎◌, inl, inr}, lemmas.{Bool.Decides.nat_tests, Option.{get_or_from_slice_get, slice_get_within}}}
+use Rattle.std.specs.{List.{All, find}, Option.{option_map, option_map_or}}
 use Rattle.vs_conn.specs.End.{answering, asked}
 use Rattle.vs_device_parts.specs.{Connections.new_connection, State.{DeviceConnection, DeviceEntry}}
-use Rattle.vs_flow.specs.{Connection.Connection, Flow.{host_flow, is_assigned, same_flow}, declared.flow.Flow.Flow, Table.{IsTable, Table, entry_of, next_entry, with_entry}}
-use Rattle.vs_flow.proofs.{Entries.{found_passes, none_found, same_flow_true}, Lookups.find_place}
+use Rattle.vs_flow.specs.{Connection.Connection, CleanPairs.without_oldest, Flow.{is_assigned, same_flow}, declared.flow.Flow.Flow, Table.{IsTable, Table, entry_of, next_entry}}
+use Rattle.vs_flow.{specs.Table.with_entry, proofs.{Entries.{found_passes, none_found, same_flow_true}, Lookups.find_place}}
 use Rattle.vs_header.specs.declared.Header.{Header}
 use Rattle.laws_history.specs.{History.{Got, gots, puts}, Packets.{has, is_clean_rst, is_request}, declared.packet.Packet.Packet}
 use Rattle.vs_limits.specs.declared.TheConstants.{BUF_ALLOC}
@@ -15,12 +15,12 @@ use Rattle.vs_page.specs.{Fair.{IsFairLog, current, number_of, payload_got, payl
 use Rattle.vs_page.{specs.declared.log.LogEntry.TheVariants.GotPacket, proofs.{Flows.same_self, Present.present_got}}
 use Rattle.vs_proxy_parts.specs.{Handshakes.{with_line, without_stream}, State.Handshake}
 use Rattle.vs_uds.specs.{OkLine.ok_text, Reading.is_decided, declared.connect.TheConstants.CONNECT_MAX}
-use Rattle.laws_tables.{specs.Drains.Drains, proofs.Adding.{got_nothing, put_over_got}}
-use Rattle.laws_device.specs.Carried.Streamed.{AreCounted, AreLines, AreStreamed, IsCounted, IsStreamed, Seen, connection_of, count_in, has_line, line_for, look, reading, seen}
-use Rattle.laws_device.{specs.Carried.Streamed.seen_as, proofs.Carried.Hosts.{changed_seen, counts_still, counts_then, here_then, new_there, none_there, others_seen, others_then}}
-use Rattle.laws_device.proofs.Carried.{Hosts.{none_labelled, others_there, there}, HostCalls.{closed_host, some_seen}, Counted.{IsAsked, counted_got, number_elsewhere}}
-use Rattle.laws_device.proofs.Carried.{Counted.request_asks, Streamed.{one_streamed, opened_streamed, recounted}, Hands.{with_all, with_apart, without_all, without_none}}
-use Rattle.laws_device.proofs.Carried.Hands.{without_pairs}
+use Rattle.laws_tables.{specs.{Drains.Drains, Ends.{AreDistinct, is_among}, Steps.port_after}, proofs.Adding.{got_nothing, put_over_got}}
+use Rattle.laws_device.specs.Carried.Streamed.{AreCounted, AreLines, AreStreamed, IsCounted, IsStreamed, Ports, Seen, connection_of, count_in, has_line, line_for, look, reading}
+use Rattle.laws_device.{specs.Carried.Streamed.{seen, seen_as}, proofs.Carried.Hosts.{changed_seen, counts_still, counts_then, here_then, new_there, none_there, others_seen}}
+use Rattle.laws_device.proofs.Carried.{Hosts.{others_then, none_labelled, others_there, there}, HostCalls.{closed_host, some_seen}, Counted.{IsAsked, counted_got, kept_less}}
+use Rattle.laws_device.proofs.Carried.{Counted.{number_elsewhere, request_asks}, Streamed.{one_streamed, opened_streamed, recounted}, Hands.{with_all, with_apart, without_all}}
+use Rattle.laws_device.proofs.{Carried.Hands.{without_none, without_pairs}, Clean.{port_below, port_rises, removed_among, removed_own}}
 use Rattle.vs_header.specs.declared.Kind.TheVariants as kind
 use Rattle.vs_outside.specs.declared.host_net.Dialed.TheVariants as dialed
 use Rattle.vs_outside.specs.declared.host_net.StreamRead.TheVariants as read
@@ -81,7 +81,7 @@ without_lines at id hands x = record {
 }
 
 -- Other lines are read.
-other_lines : (c : HostContents) (log : Log) (port : ℕ) (t : Table DeviceConnection) (hands lines : List Handshake)
+other_lines : (c : HostContents) (log : Log) (port : Ports) (t : Table DeviceConnection) (hands lines : List Handshake)
     → IsStreamed c log port t hands
     → AreLines (look c) lines → IsStreamed c log port t lines
 other_lines c log port t hands lines x reads = record {
@@ -99,20 +99,20 @@ other_lines c log port t hands lines x reads = record {
   };
 }
 
-pub without_host : (c : HostContents) (log : Log) (port : ℕ) (t : Table DeviceConnection) (hands : List Handshake) (id : ℕ)
+pub without_host : (c : HostContents) (log : Log) (port : Ports) (t : Table DeviceConnection) (hands : List Handshake) (id : ℕ)
     → IsStreamed c log port t hands → IsStreamed c log port t (without_stream id hands)
 without_host c log port t hands id x = other_lines c log port t hands (without_stream id hands) x
     (without_lines (look c) id hands x.streams.lines)
 
 -- It ends, and its stream is closed.
-pub dropped_host : (c : HostContents) (log : Log) (port : ℕ) (t : Table DeviceConnection) (hands : List Handshake) (id : ℕ) (h : Handshake)
+pub dropped_host : (c : HostContents) (log : Log) (port : Ports) (t : Table DeviceConnection) (hands : List Handshake) (id : ℕ) (h : Handshake)
     → IsStreamed c log port t hands → IsHand (look c) id h → IsStreamed (after_close id c) log port t (without_stream id hands)
 dropped_host c log port t hands id h x hand =
     closed_host id c log port t (without_stream id hands) (without_host c log port t hands id x)
     (λ s seen_now. ap (λ (y : Seen). y.label) (sym (some_seen (reading h.line) s (sym hand.there ∙ seen_now))))
     (without_none id hands x.streams.lines.apart)
 
-pub first_dropped : (c : HostContents) (log : Log) (port : ℕ) (t : Table DeviceConnection) (h : Handshake) (hands : List Handshake)
+pub first_dropped : (c : HostContents) (log : Log) (port : Ports) (t : Table DeviceConnection) (h : Handshake) (hands : List Handshake)
     → IsStreamed c log port t (h ∷ hands) → IsStreamed (after_close h.stream c) log port t hands
 first_dropped c log port t h hands x =
     let here : (h.stream == h.stream) ≡ true = grind arith in
@@ -124,7 +124,7 @@ first_dropped c log port t h hands x =
     }))
 
 -- A byte more of a line.
-module _ (c : HostContents) (log : Log) (port : ℕ) (t : Table DeviceConnection) (hands : List Handshake) (x : IsStreamed c log port t hands)
+module _ (c : HostContents) (log : Log) (port : Ports) (t : Table DeviceConnection) (hands : List Handshake) (x : IsStreamed c log port t hands)
     (id n : ℕ) (h : Handshake) (hand : IsHand (look c) id h) (bytes : List ℕ) (next : bytes ≡ next_bytes id n c) where
   abbrev pub read_on : HostContents
   read_on = after_read id (read.Got n) c
@@ -167,14 +167,14 @@ module _ (c : HostContents) (log : Log) (port : ℕ) (t : Table DeviceConnection
   })
 
 -- The flow of a connection that is to open has none in the table, and the host lists no stream that has no label.
-module _ (c : HostContents) (log : Log) (port : ℕ) (t : Table DeviceConnection) (hands : List Handshake) (x : IsStreamed c log port t hands) where
+module _ (c : HostContents) (log : Log) (port : Ports) (t : Table DeviceConnection) (hands : List Handshake) (x : IsStreamed c log port t hands) where
   pub unlisted : (id : ℕ) → ((b : Seen) → look c id ≡ Some b → b.label ≡ None) → Contains c.labelled id → ⊥
   unlisted id free within =
       let h = x.streams.listed id within in
       let both : Some h.connection ≡ None = sym h.label ∙ free h.stream h.there in absurd cc
 
   -- No stream has the label of a flow whose port is still to come.
-  pub none_counted : (f : Flow) → is_assigned f.host ≡ true → port ≤ f.host → count_in c f ≡ 0
+  pub none_counted : (f : Flow) → is_assigned f.host ≡ true → port.next ≤ f.host → count_in c f ≡ 0
   none_counted f assigned less = by (count_in c f) refl
     where
       by : (n : ℕ) → count_in c f ≡ n → n ≡ 0
@@ -191,12 +191,12 @@ none_apart t f none i e within same =
     let both : true ≡ false = sym (same_self f) ∙ ap (λ (g : Flow). same_flow f g) (sym same) ∙ fails in absurd cc
 
 -- LABEL: a whole line opens a connection.
-module _ (c : HostContents) (log : Log) (port : ℕ) (t : Table DeviceConnection) (lines : List Handshake) (x : IsStreamed c log port t lines)
-    (id guest : ℕ) (line : List ℕ) (here : look c id ≡ Some (reading line)) (away : All (λ h. h.stream ≢ id) lines)
-    (whole : has_line line ≡ true) (none_behind : after_line line ≡ []) (inside : is_assigned port ≡ true) (sound : IsTable t)
-    (alone : entry_of t (host_flow guest port) ≡ None) where
-  abbrev f : Flow
-  f = host_flow guest port
+module _ (c : HostContents) (log : Log) (port : Ports) (t : Table DeviceConnection) (lines : List Handshake) (x : IsStreamed c log port t lines)
+    (id : ℕ) (f : Flow) (line : List ℕ) (here : look c id ≡ Some (reading line)) (away : All (λ h. h.stream ≢ id) lines)
+    (whole : has_line line ≡ true) (none_behind : after_line line ≡ []) (inside : is_assigned f.host ≡ true) (sound : IsTable t)
+    (alone : entry_of t f ≡ None) (given : (port.next ≤ f.host) ⊎ (is_among f port.clean ≡ true)) (once : AreDistinct port.clean) where
+  abbrev after : Ports
+  after = record { next = port_after port.next f.host; clean = without_oldest (same_flow f) port.clean }
 
   abbrev labelled_now : HostContents
   labelled_now = after_label id f c
@@ -228,9 +228,6 @@ module _ (c : HostContents) (log : Log) (port : ℕ) (t : Table DeviceConnection
   none_listed : Contains c.labelled id → ⊥
   none_listed = unlisted c log port t lines x id free
 
-  none_yet : count_in c f ≡ 0
-  none_yet = none_counted c log port t lines x f inside (omega arith)
-
   abbrev first : Connection
   first = record { flow = f; number = count_in c f + 1 }
 
@@ -248,43 +245,53 @@ module _ (c : HostContents) (log : Log) (port : ℕ) (t : Table DeviceConnection
   own_count : count_in labelled_now f ≡ count_in c f + 1
   own_count = counts f ∙ ap (λ (b : Bool). cond b (count_in c f + 1) (count_in c f)) (same_self f)
 
-  -- No REQUEST was put there, and no bytes.
-  no_request : number_of Device f log ≡ 0
-  no_request = let most = counted_inside.1 in omega (arith, most, none_yet)
+  -- Each stream of the flow has its REQUEST.
+  all_asked : count_in c f ≡ number_of Device f log
+  all_asked = by given
     where
-      counted_inside : IsCounted true (count_in c f) (number_of Device f log) (has is_clean_rst (puts (history_of Device f log)))
-      counted_inside = subst (λ (b : Bool). IsCounted b (count_in c f) (number_of Device f log) (has is_clean_rst (puts (history_of Device f log)))) inside
-          (x.streams.counted f)
+      counted_inside : IsCounted true (count_in c f) (number_of Device f log) (is_among f port.clean) (has is_clean_rst (puts (history_of Device f log)))
+      counted_inside = subst (λ (b : Bool). IsCounted b (count_in c f) (number_of Device f log) (is_among f port.clean)
+          (has is_clean_rst (puts (history_of Device f log)))) inside (x.streams.counted f)
+
+      by : (port.next ≤ f.host) ⊎ (is_among f port.clean ≡ true) → count_in c f ≡ number_of Device f log
+      by (inl fresh) =
+          let none = none_counted c log port t lines x f inside fresh in let most = counted_inside.0 in omega (arith, most, none)
+      by (inr again) = counted_inside.2 again
 
   new_number : first ≡ connection_of (next_entry t f (new_connection (asked kind.Stream BUF_ALLOC) id true)) log
-  new_number = ap (λ (n : ℕ). let d : Connection = record { flow = f; number = n + 1 } in d) (none_yet ∙ sym no_request)
+  new_number = ap (λ (n : ℕ). let d : Connection = record { flow = f; number = n + 1 } in d) all_asked
 
   fresh_label : (j : ℕ) (u : Seen) → look c j ≡ Some u → u.label ≢ Some first
   fresh_label j u is on = let most = (x.streams.labels j u first is on).most in absurd (omega (arith, most))
 
-  label_counted : (g : Flow) → AreCounted (count_in c) log g → AreCounted (count_in labelled_now) log g
+  label_counted : (g : Flow) → AreCounted (count_in c) port.clean log g → AreCounted (count_in labelled_now) after.clean log g
   label_counted g old = by (same_flow g f) refl (counts g)
     where
-      own : is_assigned g.host ≡ true → count_in c g ≡ 0 → number_of Device g log ≡ 0 → count_in labelled_now g ≡ count_in c g + 1 → AreCounted (count_in labelled_now) log g
-      own assigned none zero_of more = subst (λ (b : Bool). IsCounted b (count_in labelled_now g) (number_of Device g log) (has is_clean_rst (puts (history_of Device g log))))
-          (sym assigned) (omega (arith, more, none), omega (arith, zero_of))
+      own : is_assigned g.host ≡ true → count_in c g ≡ number_of Device g log → is_among g after.clean ≡ false
+          → count_in labelled_now g ≡ count_in c g + 1 → AreCounted (count_in labelled_now) after.clean log g
+      own assigned all none more = subst (λ (b : Bool). IsCounted b (count_in labelled_now g) (number_of Device g log) (is_among g after.clean)
+          (has is_clean_rst (puts (history_of Device g log))))
+          (sym assigned) (omega (arith, more, all), omega (arith, more, all), λ is. let both : true ≡ false = sym is ∙ none in absurd cc)
 
-      by : (b : Bool) → same_flow g f ≡ b → count_in labelled_now g ≡ cond b (count_in c g + 1) (count_in c g) → AreCounted (count_in labelled_now) log g
+      by : (b : Bool) → same_flow g f ≡ b → count_in labelled_now g ≡ cond b (count_in c g + 1) (count_in c g)
+          → AreCounted (count_in labelled_now) after.clean log g
       by true same more =
           let is : f ≡ g = sym (same_flow_true g f same) in
-          own (subst (λ (h : Flow). is_assigned h.host ≡ true) is inside) (subst (λ (h : Flow). count_in c h ≡ 0) is none_yet)
-          (subst (λ (h : Flow). number_of Device h log ≡ 0) is no_request) more
-      by false other stays = subst (λ (n : ℕ). AreCounted (λ h. n) log g) (sym stays) old
+          own (subst (λ (h : Flow). is_assigned h.host ≡ true) is inside) (subst (λ (h : Flow). count_in c h ≡ number_of Device h log) is all_asked)
+          (subst (λ (h : Flow). is_among h after.clean ≡ false) is (removed_own f port.clean once)) more
+      by false other stays = subst (λ (n : ℕ). AreCounted (λ h. n) after.clean log g) (sym stays)
+          (kept_less (is_assigned g.host) (count_in c g) (number_of Device g log) (is_among g port.clean) (is_among g after.clean)
+          (has is_clean_rst (puts (history_of Device g log))) (removed_among f g port.clean) old)
 
-  pub label_host : IsStreamed labelled_now log (port + 1) (with_entry t f (new_connection (asked kind.Stream BUF_ALLOC) id true)) lines
+  pub label_host : IsStreamed labelled_now log after (with_entry t f (new_connection (asked kind.Stream BUF_ALLOC) id true)) lines
   label_host =
       let none : payload_put Device first log ≡ [] = x.streams.none first fresh_label in
-      subst (λ (ids : List ℕ). AreStreamed (look labelled_now) ids (count_in labelled_now) log (port + 1)
+      subst (λ (ids : List ℕ). AreStreamed (look labelled_now) ids (count_in labelled_now) log after
       (with_entry t f (new_connection (asked kind.Stream BUF_ALLOC) id true)) lines)
       (sym list_is)
-      (opened_streamed (look c) (look labelled_now) c.labelled (count_in c) (count_in labelled_now) log log port (port + 1) t lines lines x id
+      (opened_streamed (look c) (look labelled_now) c.labelled (count_in c) (count_in labelled_now) log log port after t lines lines x id
       (record (reading line) { label = Some first }) first
-      (new_connection (asked kind.Stream BUF_ALLOC) id true) label_seen refl refl others_labelled free (omega arith) counts refl (λ g. refl) (λ g. refl)
+      (new_connection (asked kind.Stream BUF_ALLOC) id true) label_seen refl refl others_labelled free (port_rises port.next f.host) counts refl (λ g. refl) (λ g. refl)
       (none_apart t f alone) (λ g other. refl) label_counted sound refl refl
       (record {
         some = omega arith;
@@ -293,7 +300,7 @@ module _ (c : HostContents) (log : Log) (port : ℕ) (t : Table DeviceConnection
         whole = λ is. whole;
         took = none ∙ sym none_behind;
         gave = (line_for f ++ payload_got Device first log, refl);
-        ported = λ is. omega arith;
+        ported = λ is. port_below port.next f.host;
       })
       (record {
         stream = record (reading line) { label = Some first };
@@ -315,7 +322,7 @@ module _ (c : HostContents) (log : Log) (port : ℕ) (t : Table DeviceConnection
       }))
 
 -- DIAL: a connection opens with a new stream, on a REQUEST after which the log stays fair.
-module _ (c : HostContents) (log : Log) (port : ℕ) (t : Table DeviceConnection) (hands : List Handshake) (x : IsStreamed c log port t hands)
+module _ (c : HostContents) (log : Log) (port : Ports) (t : Table DeviceConnection) (hands : List Handshake) (x : IsStreamed c log port t hands)
     (sound : IsTable t) (p : Packet) (fair : IsFairLog Device (GotPacket p ∷ log)) (asks : is_request p ≡ true) (empty : p.payload ≡ [])
     (alone : entry_of t (flow_got Device p) ≡ None) where
   abbrev g : Flow
@@ -334,7 +341,7 @@ module _ (c : HostContents) (log : Log) (port : ℕ) (t : Table DeviceConnection
   dialed_now = after_dial g (dialed.Stream new_id) c
 
   asked_then : IsAsked (count_in c) log p
-  asked_then = request_asks p log (count_in c) fair asks (x.streams.counted g)
+  asked_then = request_asks p log (count_in c) port.clean fair asks (x.streams.counted g)
 
   nothing_before : (b : Seen) → look c new_id ≡ Some b → b.label ≡ None
   nothing_before b is = let both : None ≡ Some b = sym (ap (option_map (seen c new_id)) (none_there new_stream c)) ∙ is in absurd cc
@@ -377,19 +384,20 @@ module _ (c : HostContents) (log : Log) (port : ℕ) (t : Table DeviceConnection
       ∙ ap (λ (b : Bool). payload_of (gots (cond b (Got p ∷ []) (Got p ∷ history_of Device g log)))) asks
       ∙ empty
 
-  dial_counted : (f : Flow) → AreCounted (count_in c) log f → AreCounted (count_in dialed_now) new f
+  dial_counted : (f : Flow) → AreCounted (count_in c) port.clean log f → AreCounted (count_in dialed_now) port.clean new f
   dial_counted f old = by (same_flow f g) refl (dial_counts f)
     where
-      own : is_assigned f.host ≡ false → count_in dialed_now f ≡ number_of Device f new → AreCounted (count_in dialed_now) new f
-      own guest all = subst (λ (b : Bool). IsCounted b (count_in dialed_now f) (number_of Device f new) (has is_clean_rst (puts (history_of Device f new))))
+      own : is_assigned f.host ≡ false → count_in dialed_now f ≡ number_of Device f new → AreCounted (count_in dialed_now) port.clean new f
+      own guest all = subst (λ (b : Bool). IsCounted b (count_in dialed_now f) (number_of Device f new) (is_among f port.clean)
+          (has is_clean_rst (puts (history_of Device f new))))
           (sym guest) (omega (arith, all), λ marked. all)
 
-      by : (b : Bool) → same_flow f g ≡ b → count_in dialed_now f ≡ cond b (count_in c f + 1) (count_in c f) → AreCounted (count_in dialed_now) new f
+      by : (b : Bool) → same_flow f g ≡ b → count_in dialed_now f ≡ cond b (count_in c f + 1) (count_in c f) → AreCounted (count_in dialed_now) port.clean new f
       by true same more =
           let is : g ≡ f = sym (same_flow_true f g same) in
           own (subst (λ (h : Flow). is_assigned h.host ≡ false) is asked_then.guest)
           (more ∙ subst (λ (h : Flow). count_in c h + 1 ≡ number_of Device h new) is number_now)
-      by false other stays = subst (λ (n : ℕ). AreCounted (λ h. n) new f) (sym stays) (counted_got p log (count_in c) f old)
+      by false other stays = subst (λ (n : ℕ). AreCounted (λ h. n) port.clean new f) (sym stays) (counted_got p log (count_in c) port.clean f old)
 
   no_first_line : line_for g ≡ []
   no_first_line = ap (λ (b : Bool). cond b (ok_text g.host) []) asked_then.guest

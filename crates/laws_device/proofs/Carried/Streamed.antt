@@ -10,7 +10,7 @@ use Rattle.vs_page.specs.{Fair.{IsPrefixOf, number_of, payload_got, payload_put}
 use Rattle.vs_proxy_parts.specs.State.{Handshake}
 use Rattle.laws_tables.{specs.{Drains.{Drains, is_same, only_on}, Ends.is_new}, proofs.{Changes.{changed, others_left}, Logs.{longer, none_on_any, not_on, same_connection}}}
 use Rattle.laws_tables.proofs.Logs.{shorter, there_on}
-use Rattle.laws_device.specs.Carried.Streamed.{AreCounted, AreLabelled, AreLines, AreStreamed, HasLabel, IsJoined, IsLabelled, Seen, client_waits, connection_of, gives, line_for}
+use Rattle.laws_device.specs.Carried.Streamed.{AreCounted, AreLabelled, AreLines, AreStreamed, HasLabel, IsJoined, IsLabelled, Ports, Seen, client_waits, connection_of, gives, line_for}
 use Rattle.laws_device.{specs.{Carried.Streamed.{reading, taken_of}, Named.Streams.stream_under}, proofs.Carried.{Lines.line_longer, Tabled.{stream_comes, stream_kept}}}
 use Rattle.laws_device.proofs.Carried.Tabled.{stream_now, stream_other, stream_stays}
 
@@ -36,10 +36,10 @@ pub record StaysStill (count : Flow → ℕ) (log new : Log) : Type 0 where
   pub put : (c : Connection) → payload_put Device c log ≡ payload_put Device c new
   pub got : (c : Connection) → payload_got Device c log ≡ payload_got Device c new
   pub number : (f : Flow) → number_of Device f log ≡ number_of Device f new
-  pub counted : (f : Flow) → AreCounted count log f → AreCounted count new f
+  pub counted : (kept : List Flow) (f : Flow) → AreCounted count kept log f → AreCounted count kept new f
 
 pub no_entry : (count : Flow → ℕ) (log : Log) → StaysStill count log log
-no_entry count log = record { put = λ c. refl; got = λ c. refl; number = λ f. refl; counted = λ f x. x }
+no_entry count log = record { put = λ c. refl; got = λ c. refl; number = λ f. refl; counted = λ kept f x. x }
 
 -- A connection keeps its number where its flow does.
 pub same_connection_of : (log new : Log) (e : DeviceEntry) → number_of Device e.flow log ≡ number_of Device e.flow new → connection_of e log ≡ connection_of e new
@@ -63,8 +63,8 @@ join_moves at now count log new e j there number got =
       asked = j.asked;
     }
 
-label_moves : (s : Seen) (c : Connection) (count : Flow → ℕ) (log new : Log) (port next : ℕ) → IsLabelled s c count log port
-    → payload_put Device c log ≡ payload_put Device c new → IsPrefixOf s.given (line_for c.flow ++ payload_got Device c new) → port ≤ next
+label_moves : (s : Seen) (c : Connection) (count : Flow → ℕ) (log new : Log) (port next : Ports) → IsLabelled s c count log port
+    → payload_put Device c log ≡ payload_put Device c new → IsPrefixOf s.given (line_for c.flow ++ payload_got Device c new) → port.next ≤ next.next
     → IsLabelled s c count new next
 label_moves s c count log new port next x put gave less = record {
   some = x.some;
@@ -77,7 +77,7 @@ label_moves s c count log new port next x put gave less = record {
 }
 
 -- The same bytes of each stream and connection.
-module _ (at now : ℕ → Option Seen) (labelled : List ℕ) (count : Flow → ℕ) (log new : Log) (port : ℕ) (same : (id : ℕ) → at id ≡ now id)
+module _ (at now : ℕ → Option Seen) (labelled : List ℕ) (count : Flow → ℕ) (log new : Log) (port : Ports) (same : (id : ℕ) → at id ≡ now id)
     (still : StaysStill count log new) where
   same_joined : (e : DeviceEntry) → IsJoined at count log e → IsJoined now count new e
   same_joined e x = join_moves at now count log new e x (sym (same e.value.stream) ∙ x.there) (still.number e.flow) (still.got (connection_of e log))
@@ -104,7 +104,7 @@ module _ (at now : ℕ → Option Seen) (labelled : List ℕ) (count : Flow → 
       every = λ c some most. let u = x.streams.every c some most in (u.0, u.1, sym (same u.0) ∙ u.2, u.3);
       listed = λ id within. let h = x.streams.listed id within in
           record { stream = h.stream; connection = h.connection; there = sym (same id) ∙ h.there; label = h.label };
-      counted = λ f. still.counted f (x.streams.counted f);
+      counted = λ f. still.counted port.clean f (x.streams.counted f);
       none = λ c without. sym (still.put c) ∙ x.streams.none c (λ id s there. without id s (sym (same id) ∙ there));
       waiting = λ id s there. x.streams.waiting id s (same id ∙ there);
       lines = same_lines lines x.streams.lines;
@@ -112,7 +112,7 @@ module _ (at now : ℕ → Option Seen) (labelled : List ℕ) (count : Flow → 
   }
 
 -- The same counts.
-pub recounted_labels : (at : ℕ → Option Seen) (labelled : List ℕ) (count more : Flow → ℕ) (log : Log) (port : ℕ) (lines : List Handshake)
+pub recounted_labels : (at : ℕ → Option Seen) (labelled : List ℕ) (count more : Flow → ℕ) (log : Log) (port : Ports) (lines : List Handshake)
     → ((f : Flow) → count f ≡ more f) → AreLabelled at labelled count log port lines → AreLabelled at labelled more log port lines
 recounted_labels at labelled count more log port lines same x = record {
   labels = λ id s c there label. let l = x.labels id s c there label in record {
@@ -127,13 +127,13 @@ recounted_labels at labelled count more log port lines same x = record {
   unique = x.unique;
   every = λ c some most. x.every c some (subst (λ (n : ℕ). c.number ≤ n) (sym (same c.flow)) most);
   listed = x.listed;
-  counted = λ f. subst (λ (n : ℕ). AreCounted (λ g. n) log f) (same f) (x.counted f);
+  counted = λ f. subst (λ (n : ℕ). AreCounted (λ g. n) port.clean log f) (same f) (x.counted f);
   none = x.none;
   waiting = x.waiting;
   lines = x.lines;
 }
 
-pub recounted : (at : ℕ → Option Seen) (labelled : List ℕ) (count more : Flow → ℕ) (log : Log) (port : ℕ) (t : Table DeviceConnection) (lines : List Handshake)
+pub recounted : (at : ℕ → Option Seen) (labelled : List ℕ) (count more : Flow → ℕ) (log : Log) (port : Ports) (t : Table DeviceConnection) (lines : List Handshake)
     → ((f : Flow) → count f ≡ more f) → AreStreamed at labelled count log port t lines → AreStreamed at labelled more log port t lines
 recounted at labelled count more log port t lines same x = record {
   joined = All-weaker (IsJoined at count log) (IsJoined at more log) (λ e j. record {
@@ -151,12 +151,12 @@ recounted at labelled count more log port t lines same x = record {
 }
 
 -- The stream of a connection.
-abbrev pub join_of : (at : ℕ → Option Seen) (labelled : List ℕ) (count : Flow → ℕ) (log : Log) (port : ℕ) (t : Table DeviceConnection) (hands : List Handshake)
+abbrev pub join_of : (at : ℕ → Option Seen) (labelled : List ℕ) (count : Flow → ℕ) (log : Log) (port : Ports) (t : Table DeviceConnection) (hands : List Handshake)
     → AreStreamed at labelled count log port t hands → (e : DeviceEntry) → Contains t.entries e → IsJoined at count log e
 join_of at labelled count log port t hands x e is = All-contains (IsJoined at count log) t.entries e x.joined is
 
 -- A connection and its stream change: bytes are taken of the stream and put, bytes are got and given to it.
-module _ (at now : ℕ → Option Seen) (labelled : List ℕ) (count : Flow → ℕ) (log new : Log) (port : ℕ) (t : Table DeviceConnection) (lines : List Handshake)
+module _ (at now : ℕ → Option Seen) (labelled : List ℕ) (count : Flow → ℕ) (log new : Log) (port : Ports) (t : Table DeviceConnection) (lines : List Handshake)
     (x : AreStreamed at labelled count log port t lines) (sound : IsTable t) (e : DeviceEntry) (is : Contains t.entries e) (more gave came : List ℕ) where
   abbrev pub join : IsJoined at count log e
   join = join_of at labelled count log port t lines x e is
@@ -176,7 +176,7 @@ module _ (at now : ℕ → Option Seen) (labelled : List ℕ) (count : Flow → 
       (got : (d : Connection) → payload_got Device d new ≡ payload_got Device d log ++ only_on k came d)
       (keeps : connection_of (record e { value = c }) new ≡ k)
       (number : (f : Flow) → f ≢ e.flow → number_of Device f log ≡ number_of Device f new)
-      (counted : (f : Flow) → AreCounted count log f → AreCounted count new f)
+      (counted : (f : Flow) → AreCounted count port.clean log f → AreCounted count port.clean new f)
       (drains : Drains (gives c.end) (join.stream.given ++ gave) (c.ok_line ++ c.pending) (line_for e.flow ++ payload_got Device k new))
       (asked : c.end.state ≡ Asked → (join.stream.given ++ gave ≡ []) × (c.ok_line ≡ []) × (c.pending ≡ []) × (c.closed ≡ false))
       (reads : taken_of (after c.closed) ≡ taken_of join.stream ++ more) where
@@ -296,8 +296,30 @@ module _ (at now : ℕ → Option Seen) (labelled : List ℕ) (count : Flow → 
       streams = moved_labels;
     }
 
+-- Other flows are kept to be used again.
+pub kept_streamed : (at : ℕ → Option Seen) (labelled : List ℕ) (count : Flow → ℕ) (log : Log) (port : Ports) (t : Table DeviceConnection) (lines : List Handshake)
+    → AreStreamed at labelled count log port t lines → (clean : List Flow)
+    → ((f : Flow) → AreCounted count port.clean log f → AreCounted count clean log f)
+    → AreStreamed at labelled count log (record port { clean = clean }) t lines
+kept_streamed at labelled count log port t lines x clean counted = record {
+  joined = x.joined;
+  tabled = x.tabled;
+  streams = record {
+    labels = λ id s c seen label.
+        let old = x.streams.labels id s c seen label in
+        label_moves s c count log log port (record port { clean = clean }) old refl old.gave (omega arith);
+    unique = x.streams.unique;
+    every = x.streams.every;
+    listed = x.streams.listed;
+    counted = λ f. counted f (x.streams.counted f);
+    none = x.streams.none;
+    waiting = x.streams.waiting;
+    lines = x.streams.lines;
+  };
+}
+
 -- A connection leaves whose stream is closed.
-pub left_streamed : (at : ℕ → Option Seen) (labelled : List ℕ) (count : Flow → ℕ) (log : Log) (port : ℕ) (t : Table DeviceConnection) (lines : List Handshake)
+pub left_streamed : (at : ℕ → Option Seen) (labelled : List ℕ) (count : Flow → ℕ) (log : Log) (port : Ports) (t : Table DeviceConnection) (lines : List Handshake)
     → AreStreamed at labelled count log port t lines → IsTable t → (e : DeviceEntry) → Contains t.entries e → e.value.closed ≡ true
     → AreStreamed at labelled count log port (without t e.slot) lines
 left_streamed at labelled count log port t lines x sound e is shut = record {
@@ -316,12 +338,12 @@ left_streamed at labelled count log port t lines x sound e is shut = record {
         absurd cc
 
 -- Bytes come in on a connection to whose stream they aren't given; or a REQUEST, on a flow without a connection.
-pub passed_streamed : (at : ℕ → Option Seen) (labelled : List ℕ) (count : Flow → ℕ) (log new : Log) (port : ℕ) (t : Table DeviceConnection) (lines : List Handshake)
+pub passed_streamed : (at : ℕ → Option Seen) (labelled : List ℕ) (count : Flow → ℕ) (log new : Log) (port : Ports) (t : Table DeviceConnection) (lines : List Handshake)
     → AreStreamed at labelled count log port t lines → (on : Connection) (came : List ℕ)
     → ((c : Connection) → payload_put Device c log ≡ payload_put Device c new)
     → ((c : Connection) → payload_got Device c new ≡ payload_got Device c log ++ only_on on came c)
     → All (λ e. number_of Device e.flow log ≡ number_of Device e.flow new) t.entries
-    → ((f : Flow) → AreCounted count log f → AreCounted count new f)
+    → ((f : Flow) → AreCounted count port.clean log f → AreCounted count port.clean new f)
     → All (λ e. e.flow ≡ on.flow → gives e.value.end ≡ true → came ≡ []) t.entries
     → AreStreamed at labelled count new port t lines
 passed_streamed at labelled count log new port t lines x on came put got number counted idle = record {
@@ -377,7 +399,7 @@ passed_streamed at labelled count log new port t lines x on came put got number 
         none_more false other is = refl
 
 -- The same, where the connection's bytes go through it one after another.
-module _ (at now : ℕ → Option Seen) (labelled : List ℕ) (count : Flow → ℕ) (log new : Log) (port : ℕ) (t : Table DeviceConnection) (lines : List Handshake)
+module _ (at now : ℕ → Option Seen) (labelled : List ℕ) (count : Flow → ℕ) (log new : Log) (port : Ports) (t : Table DeviceConnection) (lines : List Handshake)
     (x : AreStreamed at labelled count log port t lines) (sound : IsTable t) (e : DeviceEntry) (is : Contains t.entries e) (c : DeviceConnection)
     (stream : c.stream ≡ e.value.stream) (client : c.by_client ≡ e.value.by_client) (closed : c.closed ≡ e.value.closed) where
   abbrev pub joined_here : IsJoined at count log e
@@ -388,7 +410,7 @@ module _ (at now : ℕ → Option Seen) (labelled : List ℕ) (count : Flow → 
       → ((d : Connection) → payload_got Device d new ≡ payload_got Device d log ++ only_on (connection_of e log) came d)
       → connection_of (record e { value = c }) new ≡ connection_of e log
       → ((f : Flow) → f ≢ e.flow → number_of Device f log ≡ number_of Device f new)
-      → ((f : Flow) → AreCounted count log f → AreCounted count new f)
+      → ((f : Flow) → AreCounted count port.clean log f → AreCounted count port.clean new f)
       → Drains (gives c.end) joined_here.stream.given (c.ok_line ++ c.pending) (line_for e.flow ++ payload_got Device (connection_of e log) new)
       → (c.end.state ≡ Asked → (joined_here.stream.given ≡ []) × (c.ok_line ≡ []) × (c.pending ≡ []) × (c.closed ≡ false))
       → AreStreamed now labelled count new port (with_value t e.slot c) lines
@@ -416,14 +438,14 @@ module _ (at now : ℕ → Option Seen) (labelled : List ℕ) (count : Flow → 
           ∙ ap (λ (b : Bool). let y : Seen = record s { closed = b } in y) is
 
 -- A stream opens for a connection, the next one of its flow.
-module _ (at now : ℕ → Option Seen) (labelled : List ℕ) (count more : Flow → ℕ) (log new : Log) (port next : ℕ) (t : Table DeviceConnection)
+module _ (at now : ℕ → Option Seen) (labelled : List ℕ) (count more : Flow → ℕ) (log new : Log) (port next : Ports) (t : Table DeviceConnection)
     (hands lines : List Handshake) (x : AreStreamed at labelled count log port t hands) (id : ℕ) (s : Seen) (k : Connection) (c : DeviceConnection)
     (there : now id ≡ Some s) (label : s.label ≡ Some k) (busy : s.waiting ≡ false) (others : (j : ℕ) → j ≢ id → at j ≡ now j)
-    (free : (b : Seen) → at id ≡ Some b → b.label ≡ None) (less : port ≤ next)
+    (free : (b : Seen) → at id ≡ Some b → b.label ≡ None) (less : port.next ≤ next.next)
     (grows : (f : Flow) → more f ≡ cond (same_flow f k.flow) (count f + 1) (count f)) (last : k.number ≡ count k.flow + 1)
     (put : (d : Connection) → payload_put Device d log ≡ payload_put Device d new) (got : (d : Connection) → payload_got Device d log ≡ payload_got Device d new)
     (apart : All (λ e. e.flow ≢ k.flow) t.entries) (number : (f : Flow) → f ≢ k.flow → number_of Device f log ≡ number_of Device f new)
-    (counted : (f : Flow) → AreCounted count log f → AreCounted more new f) where
+    (counted : (f : Flow) → AreCounted count port.clean log f → AreCounted more next.clean new f) where
   rises : (f : Flow) → count f ≤ more f
   rises f = by (same_flow f k.flow) (grows f)
     where
@@ -548,7 +570,7 @@ abbrev IsBack : (ℕ → Option Seen) → ℕ → Seen → Type 0
 IsBack at j u = (b : Bool) × (b ≡ true → at j ≡ Some u) × (b ≡ false → (u.label ≡ None) × (u.waiting ≡ true → u ≡ client_waits))
 
 -- Streams without a label change, or come: none of them waits for anything but to be accepted.
-module _ (at now : ℕ → Option Seen) (labelled : List ℕ) (count : Flow → ℕ) (log : Log) (port : ℕ) (t : Table DeviceConnection) (hands lines : List Handshake)
+module _ (at now : ℕ → Option Seen) (labelled : List ℕ) (count : Flow → ℕ) (log : Log) (port : Ports) (t : Table DeviceConnection) (hands lines : List Handshake)
     (x : AreStreamed at labelled count log port t hands)
     (back : (j : ℕ) (u : Seen) → now j ≡ Some u → IsBack at j u)
     (kept : (j : ℕ) (u : Seen) (d : Connection) → at j ≡ Some u → u.label ≡ Some d → now j ≡ Some u) where
@@ -583,7 +605,7 @@ module _ (at now : ℕ → Option Seen) (labelled : List ℕ) (count : Flow → 
       by j u waits false is other = (other refl).1 waits
 
 -- One of them changes, and others stay: none of it is of a connection.
-pub one_streamed : (at now : ℕ → Option Seen) (labelled : List ℕ) (count : Flow → ℕ) (log : Log) (port : ℕ) (t : Table DeviceConnection) (hands lines : List Handshake)
+pub one_streamed : (at now : ℕ → Option Seen) (labelled : List ℕ) (count : Flow → ℕ) (log : Log) (port : Ports) (t : Table DeviceConnection) (hands lines : List Handshake)
     → AreStreamed at labelled count log port t hands → (id : ℕ) (u : Seen) → now id ≡ Some u → u.label ≡ None → u.waiting ≡ false
     → ((b : Seen) → at id ≡ Some b → b.label ≡ None) → ((j : ℕ) → j ≢ id → at j ≡ now j) → AreLines now lines
     → AreStreamed now labelled count log port t lines

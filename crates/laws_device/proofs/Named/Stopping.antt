@@ -202,7 +202,7 @@ module _ (a : Option Known) where
       (λ still. (tt, λ x d allowed. (grown_same Rx a c d allowed.ring left.0, left.1)))
 
   keeps_leaving : (rs : List Reply) (e : DeviceEntry) (s : DeviceState) (c : Situation) → Leaves rs s c
-      → Keeps CanAny Allows (Leaves rs) (leaving e s) c
+      → Keeps CanAny Allows (Leaves rs) (leaving false e s) c
   keeps_leaving rs e s c left =
       keeps_then CanAny Allows (Leaves rs) (Leaves rs) (closing e stream_closed s) _ c (keeps_closing rs e stream_closed s c left)
       (λ t d also. also)

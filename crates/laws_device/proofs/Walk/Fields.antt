@@ -187,8 +187,8 @@ module _ {S : Type 0} (K : Asking S) (P : Option Chain → Fields → S → Type
     byte_read h hands port s (read.Got n) bytes d at = record {
       more = λ is. at;
       ends = calls.closes None h.stream (fields s) d at;
-      refused = λ guest fault may is. at;
-      opens = λ guest is may none. calls.labels h.stream _ (fields s) d at;
+      refused = λ guest flow fault is given full. at;
+      opens = λ guest flow is given none. calls.labels h.stream flow (fields s) d at;
     }
     byte_read h hands port s read.Again bytes d at = at
     byte_read h hands port s read.End bytes d at = at

@@ -10,7 +10,7 @@ use Rattle.vs_header.specs.declared.Header.{Header}
 use Rattle.vs_outside.specs.declared.host_net.{StreamRead.StreamRead, StreamWrite.StreamWrite}
 use Rattle.vs_replies.specs.declared.Reply.{Reply}
 use Rattle.vs_ring_port.specs.{Contents.{Return, Take, Write}, declared.{queue.Queue.TheVariants.{Event, Rx}, device_ring.{Chain.Chain, Next.Next}, failure.Failure.Failure}}
-use Rattle.vs_device_parts.specs.Connections.{after_leaving, after_shut, after_written, cut_off, is_timed_out, route_to_guest, stream_closed, with_connection, with_fault}
+use Rattle.vs_device_parts.specs.Connections.{after_leaving, after_shut, after_written, cut_off, is_timed_out, keeping, route_to_guest, stream_closed, with_connection, with_fault}
 use Rattle.vs_device_parts.specs.Receiving.{Filling, after_paying, event_on, fill_rx_of, filled_of, hold, holding, may_read, pay_event_of, put_on, put_owed, put_packet}
 use Rattle.vs_device_parts.specs.Receiving.{put_payload, put_reply, put_reply_of, read_answered, read_room, read_stream, read_with_chain, reply_header, round_from, serve_slot}
 use Rattle.vs_device_parts.specs.{Receiving.written, Streams.{Writing, closing, is_written_out, leaving, pump_of, pump_slot, shut_write, tick_of, tick_slot, to_write}}
@@ -112,13 +112,13 @@ module _ {S : Type 0} (K : Asking S) (D : Option Chain → Seen → S → Type 0
     pub keeps_cut_off : (e : DeviceEntry) (s : DeviceState) (c : S) → IsIn s.table e → At s c → Keeps K At (closing e cut_off s) c
     keeps_cut_off e s c is at = keeps_if K At e.value.closed _ _ c (closes.was_cut e s c is at) (closes.cuts e s c is at)
 
-    pub keeps_leaving : (page : Option Chain) (e : DeviceEntry) (v : DeviceConnection) (s : DeviceState) (c : S) → IsIn s.table e
+    pub keeps_leaving : (keep : Bool) (page : Option Chain) (e : DeviceEntry) (v : DeviceConnection) (s : DeviceState) (c : S) → IsIn s.table e
         → v.closed ≡ e.value.closed → v.stream ≡ e.value.stream → D page (seen s) c
-        → Keeps K (λ t d. D page (seen t) d) (leaving (record e { value = v }) s) c
-    keeps_leaving page e v s c is closed stream at =
+        → Keeps K (λ t d. D page (seen t) d) (leaving keep (record e { value = v }) s) c
+    keeps_leaving keep page e v s c is closed stream at =
         keeps_then K (λ t d. D page (seen t) d) (λ t d. D page (seen (after_leaving e.slot t)) d)
         (closing (record e { value = v }) stream_closed s)
-        (λ t. Done (after_leaving e.slot t)) c
+        (λ t. Done (keeping keep e.flow (after_leaving e.slot t))) c
         (keeps_if K (λ t d. D page (seen (after_leaving e.slot t)) d) v.closed _ _ c (closes.was_left page e v s c is closed stream at)
         (closes.leaves page e v s c is closed stream at)) (λ t d kept. kept)
 
@@ -265,7 +265,7 @@ module _ {S : Type 0} (K : Asking S) (D : Option Chain → Seen → S → Type 0
       keeps_after_paying : (e : DeviceEntry) (what : Owed) (s : DeviceState) (c : S) → IsIn s.table e → owes_of e.value.end ≡ Some what
           → At s c
           → Keeps K At (after_paying what e s) c
-      keeps_after_paying e owed.Rst s c is owes at = keeps_leaving None e e.value (record s { last_put = Some e.slot }) c is refl refl at
+      keeps_after_paying e owed.Rst s c is owes at = keeps_leaving false None e e.value (record s { last_put = Some e.slot }) c is refl refl at
       keeps_after_paying e owed.Request s c is owes at = filling.pays e owed.Request (Some s.now) s c is owes at
       keeps_after_paying e what s c is owes at = filling.pays e what e.value.asked_at s c is owes at
 

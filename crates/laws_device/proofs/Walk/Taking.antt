@@ -10,7 +10,7 @@ use Rattle.vs_page.specs.{Log.{Device, flow_to_host}, Open.is_dropped}
 use Rattle.vs_ring_port.specs.{Contents.{Read, Return, Take}, declared.{device_ring.{Chain.Chain, Next.Next}, failure.Failure.Failure, queue.Queue.TheVariants.Tx}}
 use Rattle.vs_uds.specs.{OkLine.ok_text, Path.path_of}
 use Rattle.vs_wrap.specs.Wrap.{counted}
-use Rattle.vs_device_parts.specs.{Transmitting.{dial_answered, failing, heard, on_header, on_known, on_next, on_packet, on_unknown, take_tx_of}, Connections.with_connection}
+use Rattle.vs_device_parts.specs.{Transmitting.{dial_answered, failing, heard, keeps_flow, on_header, on_known, on_next, on_packet, on_unknown, take_tx_of}, Connections.with_connection}
 use Rattle.vs_device_parts.specs.{Connections.{with_dialed, with_fault}, Calls.{Dial, Ring}, State.{DeviceEntry, DeviceState}}
 use Rattle.laws_device.{proofs.Walk.{Keeping.{Asking, Keeps, keeps_if, keeps_some, keeps_then}, Serving.{Closes, by_flow, keeps_leaving}}, specs.Walk.Seen.{Seen, seen}}
 use Rattle.vs_conn.specs.declared.end.Verdict.TheVariants as verdict
@@ -93,7 +93,7 @@ module _ {S : Type 0} (K : Asking S) (D : Option Chain → Seen → S → Type 0
     keeps_on_known chain h e s c found at verdict.Deliver is = taking.delivers chain h e s c found is at
     keeps_on_known chain h e s c found at verdict.Peer is =
         keeps_if K (λ t d. D (Some chain) (seen t) d) (is_reset h) _ _ c (λ reset.
-        keeps_leaving K D closes (Some chain) e (heard h e.value) s c (by_flow s.table (flow_to_host h) e found) refl refl
+        keeps_leaving K D closes (keeps_flow h e) (Some chain) e (heard h e.value) s c (by_flow s.table (flow_to_host h) e found) refl refl
         (taking.ignores chain h s c at))
         (λ other. taking.hears chain h e s c verdict.Peer found is (λ no. absurd cc) at)
     keeps_on_known chain h e s c found at (verdict.Rst (why.Overrun o)) is =

@@ -1,16 +1,16 @@
 -- Handshakes and turns.
-use Rattle.std.proofs.Common.{◌≡◌, ℕ, ◌+◌, ◌==◌, ◌&&◌, nat_le, nat_lt, Bool, true, false, cond, List, [], ◌∷◌, ◌++◌, length, find, Option, Some, None, Result, Ok, Err, refl, sym}
+use Rattle.std.proofs.Common.{◌≡◌, ℕ, ◌+◌, ◌==◌, nat_lt, Bool, true, false, cond, List, [], ◌∷◌, ◌++◌, length, find, Option, Some, None, Result, Ok, Err, refl, sym}
 use Rattle.std.proofs.{Common.{subst, arith}, lemmas.Bool.Decides.nat_tests}
 use Rattle.vs_contents.specs.CallTree.{Done, Ask}
-use Rattle.vs_flow.{proofs.Entries.found_passes, specs.{Flow.host_flow, Table.{has_place, refusal}, declared.{flow.Flow.Flow, table.TableFault.TableFault}}}
-use Rattle.vs_limits.specs.declared.TheConstants.{ASSIGNED_LAST, HANDSHAKES}
+use Rattle.vs_flow.{proofs.Entries.found_passes, specs.{Table.{refusal}, declared.{flow.Flow.Flow, table.TableFault.TableFault}}}
+use Rattle.vs_limits.specs.declared.TheConstants.{HANDSHAKES}
 use Rattle.vs_outside.specs.declared.host_net.{Accepted.Accepted, StreamRead.StreamRead}
 use Rattle.vs_header.specs.declared.Header.{Header}
 use Rattle.vs_ring_port.specs.declared.{device_ring.Chain.Chain, failure.Failure.Failure}
 use Rattle.vs_uds.specs.{ConnectLine.connect_step, declared.{connect.TheConstants.CONNECT_MAX, scan.Step.Step}}
 use Rattle.vs_device_parts.specs.{Calls.{Accept, CloseStream, DeviceTree, Label, ReadStream}, Connections.{is_late, with_client, with_fault}, declared.answers.Filled.Filled}
 use Rattle.vs_device_parts.specs.{Receiving.{fill_rx_of, pay_event_of}, State.DeviceState, Streams.{pump_of, tick_of}, Transmitting.take_tx_of, Turns.open_of}
-use Rattle.vs_proxy_parts.specs.Handshakes.{accept_answered, accept_one, byte_read, dropping, handshake_on, host_fault, line_decided, may_open, opening, read_byte, read_line}
+use Rattle.vs_proxy_parts.specs.Handshakes.{accept_answered, accept_one, byte_read, dropping, handshake_on, host_fault, line_decided, next_after, next_flow, opening, read_byte, read_line}
 use Rattle.vs_proxy_parts.specs.{Handshakes.{shake_hands, streams_of, tick_handshake, tick_handshakes, with_line, without_stream}, Turns.{device_after, event_stage, fill_stage}}
 use Rattle.vs_proxy_parts.specs.{Turns.{filled, pump_stage, take_one, take_stage, tick_stage, took_packet, turn_of, unless_failed}, State.{Handshake, ProxyState, Turning, start}}
 use Rattle.laws_device.proofs.Walk.{Keeping.{Asking, Keeps, keeps_each, keeps_if, keeps_some, keeps_then, keeps_while}, Serving.{Closes, Fills, Writes, keeps_fill_rx}}
@@ -18,10 +18,6 @@ use Rattle.laws_device.{proofs.Walk.{Serving.{keeps_pay_event, keeps_pump, keeps
 use Rattle.vs_outside.specs.declared.host_net.Accepted.TheVariants as accepted
 use Rattle.vs_outside.specs.declared.host_net.StreamRead.TheVariants as read
 use Rattle.vs_uds.specs.declared.scan.Step.TheVariants as step
-
--- A place of the table and a host port are left.
-abbrev pub may_assign : ℕ → DeviceState → Bool
-may_assign port s = has_place s.table && nat_le port ASSIGNED_LAST
 
 -- The handshake on a stream.
 abbrev pub IsOn : Handshake → List Handshake → Type 0
@@ -33,11 +29,12 @@ module _ {S : Type 0} (K : Asking S) (At : List Handshake → ℕ → DeviceStat
   pub record AfterLine (h : Handshake) (line : List ℕ) (hands : List Handshake) (port : ℕ) (s : DeviceState) (d : S) : Type 0 where
     pub more : connect_step line ≡ step.More → At (with_line h.stream line hands) port s d
     pub ends : K.asks (CloseStream h.stream) d (λ a e. At (without_stream h.stream (with_line h.stream line hands)) port s e)
-    pub refused : (guest : ℕ) (fault : TableFault) → may_assign port s ≡ true → refusal s.table (host_flow guest port) ≡ Some fault
-        → At (without_stream h.stream (with_line h.stream line hands)) (port + 1) s d
-    pub opens : (guest : ℕ) → connect_step line ≡ step.Port guest → may_assign port s ≡ true
-        → refusal s.table (host_flow guest port) ≡ None → K.asks (Label h.stream (host_flow guest port)) d
-        (λ a e. At (without_stream h.stream (with_line h.stream line hands)) (port + 1) (with_client (host_flow guest port) h.stream s) e)
+    pub refused : (guest : ℕ) (flow : Flow) (fault : TableFault) → connect_step line ≡ step.Port guest → next_flow guest port s ≡ Some flow
+        → refusal s.table flow ≡ Some fault
+        → At (without_stream h.stream (with_line h.stream line hands)) (next_after port) s d
+    pub opens : (guest : ℕ) (flow : Flow) → connect_step line ≡ step.Port guest → next_flow guest port s ≡ Some flow
+        → refusal s.table flow ≡ None → K.asks (Label h.stream flow) d
+        (λ a e. At (without_stream h.stream (with_line h.stream line hands)) (next_after port) (with_client flow h.stream s) e)
 
   abbrev pub AfterByte : Handshake → List Handshake → ℕ → DeviceState → StreamRead → List ℕ → S → Type 0
   AfterByte h hands port s (read.Got n) bytes d = AfterLine h (h.line ++ bytes) hands port s d
@@ -109,22 +106,20 @@ module _ {S : Type 0} (K : Asking S) (At : List Handshake → ℕ → DeviceStat
       keeps_line_decided n line c after step.More is = after.more is
       keeps_line_decided n line c after step.Bad is = after.ends
       keeps_line_decided n line c after (step.Port port) is =
-          keeps_then K TurnsFirst Turns (cond (may_open u.state) (opening h.stream port u) (dropping h.stream u)) (λ v. Done (v, false)) c
-          (keeps_if K Turns (may_open u.state) _ _ c (λ may.
+          keeps_then K TurnsFirst Turns (elim (next_flow port t.state.next_port t.state.device) [ None ↦ dropping h.stream u | Some flow ↦ opening h.stream flow u ])
+          (λ v. Done (v, false)) c
+          (keeps_some K Turns (next_flow port t.state.next_port t.state.device) (dropping h.stream u) (λ flow. opening h.stream flow u) c (λ none. after.ends) (λ flow given.
           keeps_then K Turns Opened (open_of flow h.stream t.state.device) _ c
           (keeps_some K Opened (refusal t.state.device.table flow)
           (Ask (Label h.stream flow) (λ a. Done (with_client flow h.stream t.state.device, Ok t.state.device.table.given)))
-          (λ fault. Done (t.state.device, Err fault)) c (after.opens port is may) (λ fault. after.refused port fault may))
-          (λ r d kept. kept)) (λ no. after.ends)) (λ v d kept. kept)
+          (λ fault. Done (t.state.device, Err fault)) c (after.opens port flow is given) (λ fault. after.refused port flow fault is given))
+          (λ r d kept. kept))) (λ v d kept. kept)
         where
           u : Turning
           u = record t { state = record t.state { handshakes = with_line h.stream line t.state.handshakes }; read = t.read + n }
 
-          flow : Flow
-          flow = host_flow port t.state.next_port
-
           Opened : DeviceState × Result ℕ TableFault → S → Type 0
-          Opened r d = At (without_stream h.stream u.state.handshakes) (t.state.next_port + 1) r.0 d
+          Opened r d = At (without_stream h.stream u.state.handshakes) (next_after t.state.next_port) r.0 d
 
       keeps_byte_read : (a : StreamRead) (bytes : List ℕ) (c : S) → IsOn h t.state.handshakes
           → AfterByte h t.state.handshakes t.state.next_port t.state.device a bytes c → Keeps K TurnsFirst (byte_read h a bytes t) c

@@ -2,7 +2,7 @@
 use Rattle.std.specs.Prelude.{◌≡◌, ◌≢◌, ℕ, ◌+◌, ◌<◌, ◌≤◌, ◌++◌, ◌==◌, not, Bool, true, false, if◌then◌else◌, List, [], Option, Some, None, AllPairs, Contains, length, position}
 use Rattle.std.specs.{List.{All, list_any}, Option.{option_map, option_map_or}}
 use Rattle.vs_conn.specs.{End.ConnectionEnd, declared.end.State.{State, TheVariants.{Answering, Asked, Live}}}
-use Rattle.vs_device_parts.specs.State.{DeviceConnection, DeviceEntry}
+use Rattle.vs_device_parts.specs.State.{DeviceConnection, DeviceEntry, DeviceState}
 use Rattle.vs_flow.specs.{Connection.Connection, Flow.is_assigned, Table.Table, declared.flow.Flow.Flow}
 use Rattle.vs_outside.specs.{Host.{HostContents, Stream, stream_at, waits}, HostBytes.{after_line, labelled_with}, HostProgram.is_closed}
 use Rattle.laws_device.specs.Named.Streams.{stream_under}
@@ -10,7 +10,7 @@ use Rattle.vs_uds.specs.{declared.{scan.TheConstants.LF, connect.TheConstants.CO
 use Rattle.vs_page.specs.{Fair.{IsPrefixOf, number_of, payload_got, payload_put}, Log.{Device, Log, history_of}}
 use Rattle.vs_proxy_parts.specs.State.{Handshake}
 use Rattle.laws_history.specs.{History.puts, Packets.{has, is_clean_rst}}
-use Rattle.laws_tables.specs.{Drains.Drains, Ends.is_new}
+use Rattle.laws_tables.specs.{Drains.Drains, Ends.{is_among, is_new}}
 
 -- What counts of a stream: the connection that it is by its label, who made it, whether it waits to be accepted, whether the proxy closed
 -- it, and the bytes that the proxy took of it and gave it.
@@ -79,9 +79,17 @@ gives e = gives_in e.state e.own.receive
 abbrev pub connection_of : DeviceEntry → Log → Connection
 connection_of e log = let n = number_of Device e.flow log in record { flow = e.flow; number = if is_new e.value.end then n + 1 else n }
 
+-- The host ports that may be given: those from this one on, and those of flows that may be used again.
+pub record Ports : Type 0 where
+  pub next : ℕ
+  pub clean : List Flow
+
+abbrev pub ports_of : ℕ → DeviceState → Ports
+ports_of port s = record { next = port; clean = s.clean }
+
 -- A stream with a label: the payload put on its connection was taken of it, and it was given a prefix of its OK line and the payload got
 -- there. Its number is one of those that its flow's streams have.
-pub record IsLabelled (s : Seen) (c : Connection) (count : Flow → ℕ) (log : Log) (port : ℕ) : Type 0 where
+pub record IsLabelled (s : Seen) (c : Connection) (count : Flow → ℕ) (log : Log) (port : Ports) : Type 0 where
   pub some : 1 ≤ c.number
   pub most : c.number ≤ count c.flow
   pub client : s.by_client ≡ is_assigned c.flow.host
@@ -89,7 +97,7 @@ pub record IsLabelled (s : Seen) (c : Connection) (count : Flow → ℕ) (log : 
   pub took : payload_put Device c log ≡ taken_of s
   pub gave : IsPrefixOf s.given (line_for c.flow ++ payload_got Device c log)
   -- Its flow isn't one that is still to come.
-  pub ported : is_assigned c.flow.host ≡ true → c.flow.host < port
+  pub ported : is_assigned c.flow.host ≡ true → c.flow.host < port.next
 
 -- A connection and its stream, which is its flow's newest, and open until a RESPONSE came.
 pub record IsJoined (at : ℕ → Option Seen) (count : Flow → ℕ) (log : Log) (e : DeviceEntry) : Type 0 where
@@ -109,16 +117,17 @@ pub record AreLines (at : ℕ → Option Seen) (lines : List Handshake) : Type 0
   pub undecided : All (λ h. is_decided CONNECT_MAX h.line ≡ false) lines
   pub apart : AllPairs (λ g h. g.stream ≢ h.stream) lines
 
--- How many streams have a flow as label, against the REQUESTs on it. Each flow whose port the proxy assigned has one stream at most, and no
--- REQUEST is put without one. On any other flow a REQUEST that is dropped or refused gets no stream, and none follows it: so each REQUEST has one,
--- where the device put a marked RST on the present connection, and another REQUEST may come.
-abbrev pub IsCounted : Bool → ℕ → ℕ → Bool → Type 0
-IsCounted true count number marked = (count ≤ 1) × (number ≤ count)
-IsCounted false count number marked = (count ≤ number) × (marked ≡ true → count ≡ number)
+-- How many streams have a flow as label, against the REQUESTs on it. On a flow whose port the proxy assigned no REQUEST is put without a
+-- stream, and the newest stream may lack one; where the flow is kept to be used again, each stream has one. On any other flow a REQUEST that is
+-- dropped or refused gets no stream, and none follows it: so each REQUEST has one, where the device put a marked RST on the present connection,
+-- and another REQUEST may come.
+abbrev pub IsCounted : Bool → ℕ → ℕ → Bool → Bool → Type 0
+IsCounted true count number kept marked = (number ≤ count) × (count ≤ number + 1) × (kept ≡ true → count ≡ number)
+IsCounted false count number kept marked = (count ≤ number) × (marked ≡ true → count ≡ number)
 
-abbrev pub AreCounted : (Flow → ℕ) → Log → Flow → Type 0
-AreCounted count log f =
-    IsCounted (is_assigned f.host) (count f) (number_of Device f log) (has is_clean_rst (puts (history_of Device f log)))
+abbrev pub AreCounted : (Flow → ℕ) → List Flow → Log → Flow → Type 0
+AreCounted count clean log f =
+    IsCounted (is_assigned f.host) (count f) (number_of Device f log) (is_among f clean) (has is_clean_rst (puts (history_of Device f log)))
 
 -- A stream that has a label.
 pub record HasLabel (at : ℕ → Option Seen) (id : ℕ) : Type 0 where
@@ -129,25 +138,25 @@ pub record HasLabel (at : ℕ → Option Seen) (id : ℕ) : Type 0 where
 
 -- No two streams are of one connection, the streams with a flow as label have all numbers up to their count, and each id that is listed is
 -- that of a stream with a label. On a connection without a stream no payload was put.
-pub record AreLabelled (at : ℕ → Option Seen) (labelled : List ℕ) (count : Flow → ℕ) (log : Log) (port : ℕ) (hands : List Handshake)
+pub record AreLabelled (at : ℕ → Option Seen) (labelled : List ℕ) (count : Flow → ℕ) (log : Log) (port : Ports) (hands : List Handshake)
     : Type 0 where
   pub labels : (id : ℕ) (s : Seen) (c : Connection) → at id ≡ Some s → s.label ≡ Some c → IsLabelled s c count log port
   pub unique : (i j : ℕ) (s t : Seen) (c : Connection) → at i ≡ Some s → at j ≡ Some t → s.label ≡ Some c → t.label ≡ Some c
       → i ≡ j
   pub every : (c : Connection) → 1 ≤ c.number → c.number ≤ count c.flow → (id : ℕ) × (s : Seen) × (at id ≡ Some s) × (s.label ≡ Some c)
   pub listed : (id : ℕ) → Contains labelled id → HasLabel at id
-  pub counted : (f : Flow) → AreCounted count log f
+  pub counted : (f : Flow) → AreCounted count port.clean log f
   pub none : (c : Connection) → ((id : ℕ) (s : Seen) → at id ≡ Some s → s.label ≢ Some c) → payload_put Device c log ≡ []
   pub waiting : (id : ℕ) (s : Seen) → at id ≡ Some s → s.waiting ≡ true → s ≡ client_waits
   pub lines : AreLines at hands
 
 -- Each connection has its stream, and each stream with a label that isn't closed is that of a connection.
-pub record AreStreamed (at : ℕ → Option Seen) (labelled : List ℕ) (count : Flow → ℕ) (log : Log) (port : ℕ)
+pub record AreStreamed (at : ℕ → Option Seen) (labelled : List ℕ) (count : Flow → ℕ) (log : Log) (port : Ports)
     (table : Table DeviceConnection) (hands : List Handshake) : Type 0 where
   pub joined : All (IsJoined at count log) table.entries
   pub tabled : (id : ℕ) (s : Seen) (c : Connection) → at id ≡ Some s → s.label ≡ Some c → s.closed ≡ false
       → (slot : ℕ) × (stream_under table slot ≡ Some id)
   pub streams : AreLabelled at labelled count log port hands
 
-abbrev pub IsStreamed : HostContents → Log → ℕ → Table DeviceConnection → List Handshake → Type 0
+abbrev pub IsStreamed : HostContents → Log → Ports → Table DeviceConnection → List Handshake → Type 0
 IsStreamed c log port table lines = AreStreamed (look c) c.labelled (count_in c) log port table lines

@@ -1,4 +1,7 @@
 -- What one packet of the guest does, step by step.
+use Rattle.vs_device_parts.specs.Transmitting.{keeps_flow, dial_answered, heard, on_header, on_known, on_next, on_packet, on_unknown, refused, take_tx_of, try_request, unknown_why}
+use Rattle.vs_device_parts.specs.{Connections.{keeping, after_leaving, stream_closed, with_connection, with_reply}, Calls.{CloseStream, Dial, DeviceTree, Ring}, State.DeviceEntry}
+use Rattle.vs_device_parts.specs.{State.DeviceState, Streams.{closing, leaving}, Taking.asks_for_stream, declared.answers.Taken.Taken}
 use Rattle.std.proofs.Common.{◌≡◌, ℕ, ◌-◌, ◌==◌, ◌&&◌, Bool, true, false, cond, List, [], ◌∷◌, ◌++◌, length, nat_le, nat_lt, Option, Some, None, refl, sym, ap, subst, ◌∙◌, arith}
 use Rattle.std.{proofs.lemmas.Bool.Decides.nat_tests, specs.Option.option_map}
 use Rattle.vs_conn.specs.{End.{after_op, is_reset, is_of, owes_of, verdict_of}, declared.end.{Verdict.Verdict, Why.Why}}
@@ -10,9 +13,6 @@ use Rattle.vs_page.specs.{Log.{Device, flow_to_host}, Open.is_dropped}
 use Rattle.vs_replies.specs.Owed.{reply_to}
 use Rattle.vs_ring_port.specs.{Contents.{Read, Return, Take}, declared.{device_ring.{Chain.Chain, Next.Next}, failure.Failure.Failure, queue.Queue.TheVariants.Tx}}
 use Rattle.vs_uds.specs.Path.{path_of}
-use Rattle.vs_device_parts.specs.Transmitting.{dial_answered, heard, on_header, on_known, on_next, on_packet, on_unknown, refused, take_tx_of, try_request, unknown_why}
-use Rattle.vs_device_parts.specs.{Connections.{after_leaving, stream_closed, with_connection, with_reply}, Calls.{CloseStream, Dial, DeviceTree, Ring}, State.DeviceEntry}
-use Rattle.vs_device_parts.specs.{State.DeviceState, Streams.{closing, leaving}, Taking.asks_for_stream, declared.answers.Taken.Taken}
 use Rattle.vs_limits.specs.declared.TheConstants.{DEVICE_REPLIES}
 use Rattle.laws_proxy.specs.Account.Judged.{AreUnmoved, AtLength, AtTake, Before, IsAnswered, IsDialedAs, IsDone, IsJudged, IsTried, IsUnknown, OwesReset, delivered_in, read_of}
 use Rattle.laws_proxy.{specs.Account.Made.{Account, Made, Makes, MayGet, account_of, made, new_account, shut}, proofs.Account.Keeping.{Keeps, asking, keeps_end}}
@@ -123,7 +123,7 @@ module _ (chain : Chain) (h : Header) (s : DeviceState) (calls : List Made) (kep
         (λ no. absurd (no refl))
     known_answers verdict.Peer says = message (is_reset h) refl
       where
-        closed_by : is_reset h ≡ true → (b : Bool) → e.value.closed ≡ b → Keeps (λ t later. Now verdict.Peer (after_leaving e.slot t) later)
+        closed_by : is_reset h ≡ true → (b : Bool) → e.value.closed ≡ b → Keeps (λ t later. Now verdict.Peer (keeping (keeps_flow h e) e.flow (after_leaving e.slot t)) later)
             (cond b (Done (with_connection e.slot (stream_closed (heard h e.value)) s))
             (Ask (CloseStream e.value.stream) (λ _. Done (with_connection e.slot (stream_closed (heard h e.value)) s)))) calls
         closed_by reset true is =
@@ -133,11 +133,11 @@ module _ (chain : Chain) (h : Header) (s : DeviceState) (calls : List Made) (kep
             (λ no id. shut_delivers (e.value.stream == id) (account_of calls id))
 
         message : (b : Bool) → is_reset h ≡ b → Keeps (λ t later. Now verdict.Peer t later)
-            (cond b (leaving (record e { value = heard h e.value }) s) (Done (with_connection e.slot (heard h e.value) s))) calls
+            (cond b (leaving (keeps_flow h e) (record e { value = heard h e.value }) s) (Done (with_connection e.slot (heard h e.value) s))) calls
         message true is =
             keeps_then asking (λ t later. Now verdict.Peer t later)
-            (λ t later. Now verdict.Peer (after_leaving e.slot t) later)
-            (closing (record e { value = heard h e.value }) stream_closed s) (λ t. Done (after_leaving e.slot t)) calls
+            (λ t later. Now verdict.Peer (keeping (keeps_flow h e) e.flow (after_leaving e.slot t)) later)
+            (closing (record e { value = heard h e.value }) stream_closed s) (λ t. Done (keeping (keeps_flow h e) e.flow (after_leaving e.slot t))) calls
             (closed_by is e.value.closed refl) (λ t later is. is)
         message false is =
             other_answer verdict.Peer _ [] refl says (done_is false e.value.closed is refl) (λ w is. absurd cc) (λ no id. refl)

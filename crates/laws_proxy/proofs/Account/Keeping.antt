@@ -1,29 +1,27 @@
 -- What a conversation keeps: what holds at each of its ends, of what it leaves and of the calls made.
 use Rattle.laws_device.proofs.Walk.Keeping.{Asking}
 use Rattle.laws_device.proofs.Walk.Keeping as walked
-use Rattle.std.proofs.Common.{◌≡◌, ℕ, ◌≤◌, List, ◌∷◌, Some, subst, sym}
+use Rattle.std.proofs.Common.{◌≡◌, ℕ, List, ◌∷◌, Some, subst, sym}
 use Rattle.vs_contents.specs.CallTree.{Done, Ask, Leads}
-use Rattle.vs_limits.specs.declared.TheConstants.{ASSIGNED_LAST}
 use Rattle.vs_device_parts.specs.Calls.{Call, Answer, DeviceTree, Label, ReadStream, WriteStream}
 use Rattle.laws_proxy.specs.Account.{Made.{Account, Made, MayGet, Makes, account_of, made}, Tied.{IsWhole, reading_account}}
 
--- A stream that is read or written to is one that was given. One that is labelled is a client's whose line is whole; its port is assigned,
--- or below.
+-- A stream that is read or written to is one that was given. One that is labelled is a client's whose line is whole.
 abbrev pub Asks : Call → List Made → Type 0 → Type 0
 Asks (Label stream flow) calls P =
-    ((line : List ℕ) × (account_of calls stream ≡ Some (reading_account line)) × IsWhole line) × (flow.host ≤ ASSIGNED_LAST) × P
+    ((line : List ℕ) × (account_of calls stream ≡ Some (reading_account line)) × IsWhole line) × P
 Asks (ReadStream stream n) calls P = ((a : Account) × (account_of calls stream ≡ Some a)) × P
 Asks (WriteStream stream bytes) calls P = ((a : Account) × (account_of calls stream ≡ Some a)) × P
 Asks call calls P = P
 
 pub asked_for : (call : Call) (calls : List Made) (P : Type 0) → Asks call calls P → P
-asked_for (Label stream flow) calls P asks = asks.2
+asked_for (Label stream flow) calls P asks = asks.1
 asked_for (WriteStream stream bytes) calls P asks = asks.1
 asked_for (ReadStream stream n) calls P asks = asks.1
 asked_for _ calls P asks = asks
 
 pub asks_weaker : (call : Call) (calls : List Made) (P R : Type 0) → (P → R) → Asks call calls P → Asks call calls R
-asks_weaker (Label stream flow) calls P R then asks = (asks.0, asks.1, then asks.2)
+asks_weaker (Label stream flow) calls P R then asks = (asks.0, then asks.1)
 asks_weaker (WriteStream stream bytes) calls P R then asks = (asks.0, then asks.1)
 asks_weaker (ReadStream stream n) calls P R then asks = (asks.0, then asks.1)
 asks_weaker _ calls P R then asks = then asks

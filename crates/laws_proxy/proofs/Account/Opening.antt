@@ -3,13 +3,13 @@ use Rattle.laws_device.proofs.{Walk.Keeping.{keeps_each, keeps_if, keeps_some, k
 use Rattle.laws_proxy.specs.Account.{Made.{Account, Made, account_of, labelled, made, payload_put, payload_taken, shut}, Tied.{Agree, IsLawful, IsOver, IsTied, IsTiedTo, IsWhole}}
 use Rattle.laws_proxy.{specs.Account.Tied.reading_account, proofs.Account.{Accounts.{Changes, changes, changing, stays}, Entries.{added, given_shut, hands_changed, one_account}}}
 use Rattle.laws_proxy.proofs.Account.{Keeping.{asking, Keeps, keeps_weaker}, Closing.Has}
-use Rattle.std.proofs.Common.{◌≡◌, ◌≢◌, ℕ, ◌≤◌, ◌==◌, Bool, true, false, cond, List, [], ◌∷◌, Option, Some, None, Result, Ok, Err, refl, sym, ap, subst, ◌∙◌, arith}
+use Rattle.std.proofs.Common.{◌≡◌, ◌≢◌, ℕ, ◌==◌, Bool, true, false, cond, List, [], ◌∷◌, Option, Some, None, Result, Ok, Err, refl, sym, ap, subst, ◌∙◌, arith}
 use Rattle.std.{proofs.lemmas.List.Elements.All-push, specs.{List.{All, AllPairs}, Option.option_map}}
 use Rattle.vs_conn.specs.End.{asked}
 use Rattle.vs_contents.specs.CallTree.{Done, Ask, bind, for_each}
 use Rattle.vs_flow.specs.{Table.{IsTable, Table, emptied, entry_under, next_entry, refusal, slots}, declared.{flow.Flow.Flow, table.TableFault.TableFault}}
 use Rattle.vs_flow.proofs.Tables.{accepted, with_value_sound}
-use Rattle.vs_limits.specs.declared.TheConstants.{ASSIGNED_LAST, BUF_ALLOC}
+use Rattle.vs_limits.specs.declared.TheConstants.{BUF_ALLOC}
 use Rattle.vs_ring_port.specs.{Contents.PublishCid, declared.failure.Failure.Failure}
 use Rattle.vs_device_parts.specs.{Connections.{new_connection, stream_closed, with_client}, State.{DeviceConnection, DeviceEntry, DeviceState}, Streams.closing, Calls.DeviceTree}
 use Rattle.vs_device_parts.specs.{Calls.{Label, Ring}, Turns.{after_reset, close_slot, open_of, reset_of}}
@@ -70,8 +70,8 @@ module _ (hands after : List Handshake) (flow : Flow) (stream : ℕ) (line : Lis
         carried = x.carried;
       }
 
-  pub keeps_open : flow.host ≤ ASSIGNED_LAST → Keeps (λ y later. Has after y.0 later) (open_of flow stream s) calls
-  keeps_open last = by (refusal s.table flow) refl
+  pub keeps_open : Keeps (λ y later. Has after y.0 later) (open_of flow stream s) calls
+  keeps_open = by (refusal s.table flow) refl
     where
       asks : DeviceTree (DeviceState × Result ℕ TableFault)
       asks = Ask (Label stream flow) (λ a. Done (with_client flow stream s, Ok s.table.given))
@@ -85,7 +85,7 @@ module _ (hands after : List Handshake) (flow : Flow) (stream : ℕ) (line : Lis
         over = x.over;
         carried = x.carried;
       }
-      by None is = ((line, waits, whole), last, λ answer fit. opens is answer)
+      by None is = ((line, waits, whole), λ answer fit. opens is answer)
 
 -- While connections are closed for a reset, what the streams were given stays.
 pub record AreClosing (at : ℕ → Option Account) (put taken : Flow → List ℕ) (t : Table DeviceConnection) : Type 0 where

@@ -1,24 +1,19 @@
 -- Handshakes: their clients' streams are given nothing before they have a connection.
 use Rattle.vs_device_parts.specs.{Calls.{Label, Accept, CloseStream, ReadStream}, State.DeviceState, Connections.with_client}
-use Rattle.laws_device.proofs.{Walk.Turning.{AfterAccept, AfterByte, AfterLine, Between, IsOn, Shakes, may_assign}, Carried.Hands.{ends_by, no_line, with_all, with_apart}}
+use Rattle.laws_device.proofs.{Walk.Turning.{AfterAccept, AfterByte, AfterLine, Between, IsOn, Shakes}, Carried.Hands.{ends_by, no_line, with_all, with_apart}}
 use Rattle.laws_device.proofs.Carried.{Hands.{without_after, without_all, without_none, without_pairs}, Lines.{line_ends, line_whole}}
 use Rattle.laws_proxy.specs.Account.{Made.{Account, Made, MayGet, account_of, is_of, made, new_account, payload_put, payload_taken, shut, with_taken}, Tied.IsWhole}
 use Rattle.laws_proxy.{specs.Account.Tied.reading_account, proofs.Account.{Closing.{D, Has}, Keeping.asking, Opening.{opens, waits_unlabelled}, Accounts.{Changes, changes, comes}}}
 use Rattle.laws_proxy.proofs.Account.Entries.{hands_changed, taken_tied, waiting_kept}
-use Rattle.std.proofs.Common.{◌≡◌, ◌≢◌, ℕ, subst, get_or, ◌≤◌, nat_le, ◌==◌, Bool, true, false, cond, List, [], ◌∷◌, ◌++◌, length, Option, Some, None, refl, sym, ap, ◌∙◌, arith}
-use Rattle.std.{proofs.lemmas.{Bool.{and_parts, Decides.nat_tests}, List.{Elements.All-push, Quantifiers.all_pairs_push, append-nil}}, specs.List.All}
-use Rattle.vs_flow.{specs.{Flow.host_flow, Table.has_place, declared.flow.Flow.Flow}, proofs.{Entries.All_at, Lookups.find_place}}
-use Rattle.vs_limits.specs.declared.TheConstants.{ASSIGNED_LAST}
+use Rattle.std.proofs.Common.{◌≡◌, ◌≢◌, ℕ, subst, get_or, ◌≤◌, ◌==◌, Bool, true, false, cond, List, [], ◌∷◌, ◌++◌, length, Option, Some, None, refl, sym, ap, ◌∙◌, arith}
+use Rattle.std.{proofs.lemmas.{List.{Elements.All-push, Quantifiers.all_pairs_push, append-nil}}, specs.List.All}
+use Rattle.vs_flow.{specs.{declared.flow.Flow.Flow}, proofs.{Entries.All_at, Lookups.find_place}}
 use Rattle.vs_outside.specs.declared.host_net.{Accepted.Accepted, StreamRead.StreamRead}
 use Rattle.vs_uds.specs.{ConnectLine.{connect_port, connect_step}, declared.connect.TheConstants.CONNECT_MAX, Reading.{is_decided, port_or_bad}}
 use Rattle.vs_proxy_parts.specs.{Handshakes.{with_line, without_stream}, State.Handshake}
 use Rattle.vs_outside.specs.declared.host_net.Accepted.TheVariants as accepted
 use Rattle.vs_outside.specs.declared.host_net.StreamRead.TheVariants as read
 use Rattle.vs_uds.specs.declared.scan.Step.TheVariants as step
-
--- A connection opens under a port that is assigned.
-last_port : (port : ℕ) (s : DeviceState) → may_assign port s ≡ true → port ≤ ASSIGNED_LAST
-last_port port s may = let less = (and_parts (has_place s.table) (nat_le port ASSIGNED_LAST) may).1 in grind (arith, nat_tests, less)
 
 -- A byte more makes a line whole by its LF, where the line has none before. A line that isn't decided goes on.
 whole_line : (line bytes : List ℕ) (port : ℕ) → is_decided CONNECT_MAX line ≡ false → length bytes ≤ 1
@@ -165,12 +160,10 @@ module _ (h : Handshake) (hands : List Handshake) (s : DeviceState) (calls : Lis
       more = more_now;
       ends = λ a fit. subst (λ (hs : List Handshake). Has hs s (made (CloseStream h.stream) a ∷ later)) (sym same)
           (dropped h.stream rest s later line now_waits others rest_now a);
-      refused = λ guest fault may is. subst (λ (hs : List Handshake). Has hs s later) (sym same) rest_now;
-      opens = λ guest is may none.
-          let flow : Flow = host_flow guest port in
+      refused = λ guest flow fault is given full. subst (λ (hs : List Handshake). Has hs s later) (sym same) rest_now;
+      opens = λ guest flow is given none.
           let whole : IsWhole line = whole_line h.line bytes guest (waits_on h hands s calls on x).undecided one is in (
             (line, now_waits, whole),
-            last_port port s may,
             λ a fit. subst (λ (hs : List Handshake). Has hs (with_client flow h.stream s) (made (Label h.stream flow) a ∷ later)) (sym same)
                 (opens rest rest flow h.stream line s later whole now_waits rest_now.tied.undecided rest_now.tied.waiting others
                 rest_now.tied.apart rest_now none a),

@@ -59,9 +59,8 @@ unseen_in g st a s shows = (
   shows.1 ∙ sym s.client,
   shows.2 ∙ sym s.label,
   shows.3 ∙ sym s.given,
-  λ flow client label. shows.4 flow (sym s.client ∙ client) (sym s.label ∙ label),
-  shows.5 ∙ ap (λ (bytes : List ℕ). bytes ++ a.taken) (sym s.line) ∙ ap (λ (bytes : List ℕ). (g a).line ++ bytes) (sym s.taken),
-  subst (λ (o : Option Flow). IsRead o (g a)) (sym s.label) (read_same a.label a (g a) s.client s.line s.taken shows.6),
+  shows.4 ∙ ap (λ (bytes : List ℕ). bytes ++ a.taken) (sym s.line) ∙ ap (λ (bytes : List ℕ). (g a).line ++ bytes) (sym s.taken),
+  subst (λ (o : Option Flow). IsRead o (g a)) (sym s.label) (read_same a.label a (g a) s.client s.line s.taken shows.5),
 )
 
 pub same_seen : (g : Account → Account) → ((a : Account) → IsUnseen g a) → (o : Option Stream) (a : Option Account) → ShowsAt o a

@@ -3,7 +3,6 @@ use Rattle.std.proofs.Common.{◌≡◌, ℕ, ◌+◌, ◌≤◌, ◌==◌, Bool
 use Rattle.std.{proofs.lemmas.List.append-nil, specs.Option.{option_map, option_map_or}}
 use Rattle.vs_contents.specs.{CallTree.{Done, Ask, Leads}, Contents.Exposes}
 use Rattle.vs_flow.specs.{declared.flow.Flow.Flow, Table.Table}
-use Rattle.vs_limits.specs.declared.TheConstants.{ASSIGNED_LAST}
 use Rattle.vs_header.specs.declared.TheConstants.{HEADER_LEN}
 use Rattle.vs_outside.specs.Host.{HostContents, Stream, accept_answer, after_accept, after_close, after_dial, after_failed, after_label, after_read, after_shut_write, after_write}
 use Rattle.vs_outside.specs.Host.{called, dial_answer, dialed_stream, fails_now, give_bytes, is_listened, stream_at, take_bytes, waits, IsDialed, IsWritten, with_label_call}
@@ -51,25 +50,23 @@ dialed_id path id c is = by (fails_now c) (is_listened path c) is
 took_shows : (o : Option Flow) (k : ℕ) (bytes : List ℕ) (st : Stream) (x : Account) → bytes ≡ take k st.untaken → x.label ≡ o
     → ShowsIn st (Some x) → ShowsIn (take_bytes k st) (Some (took o bytes x))
 took_shows None k bytes st x got label in_it =
-    let none : x.taken ≡ [] = subst (λ (o : Option Flow). IsRead o x) label in_it.6 in (
+    let none : x.taken ≡ [] = subst (λ (o : Option Flow). IsRead o x) label in_it.5 in (
       in_it.0,
       in_it.1,
       in_it.2,
       in_it.3,
-      in_it.4,
       ap (λ (b : List ℕ). st.taken ++ b) (sym got)
-          ∙ ap (λ (b : List ℕ). b ++ bytes) (in_it.5 ∙ ap (λ (b : List ℕ). x.line ++ b) none ∙ append-nil x.line)
+          ∙ ap (λ (b : List ℕ). b ++ bytes) (in_it.4 ∙ ap (λ (b : List ℕ). x.line ++ b) none ∙ append-nil x.line)
           ∙ sym (append-nil (x.line ++ bytes)) ∙ ap (λ (b : List ℕ). (x.line ++ bytes) ++ b) (sym none),
       subst (λ (o : Option Flow). IsRead o (took None bytes x)) (sym label) none,
     )
 took_shows (Some flow) k bytes st x got label in_it =
-    let was : IsRead (Some flow) x = subst (λ (o : Option Flow). IsRead o x) label in_it.6 in (
+    let was : IsRead (Some flow) x = subst (λ (o : Option Flow). IsRead o x) label in_it.5 in (
       in_it.0,
       in_it.1,
       in_it.2,
       in_it.3,
-      in_it.4,
-      ap (λ (b : List ℕ). st.taken ++ b) (sym got) ∙ ap (λ (b : List ℕ). b ++ bytes) in_it.5 ∙ append_assoc x.line x.taken bytes,
+      ap (λ (b : List ℕ). st.taken ++ b) (sym got) ∙ ap (λ (b : List ℕ). b ++ bytes) in_it.4 ∙ append_assoc x.line x.taken bytes,
       subst (λ (o : Option Flow). IsRead o (took (Some flow) bytes x)) (sym label) was,
     )
 
@@ -93,7 +90,7 @@ module _ (c : HostContents) (calls : List Made) (shows : Shows (account_of calls
             (λ st at in_it.
             let s : ShowsIn st None = subst (ShowsIn st) none in_it in
             subst (ShowsIn (record st { state = state.Open })) (sym ch.here)
-            (refl, s.0, s.1, s.2, (λ flow client label. absurd cc), s.3, refl)),
+            (refl, s.0, s.1, s.2, s.3, refl)),
       )
 
   pub dial_shows : (path : List ℕ) (flow : Flow) (a : Dialed) → IsDialed path a c → Shown (Dial path flow) a (after_dial flow a c)
@@ -110,14 +107,14 @@ module _ (c : HostContents) (calls : List Made) (shows : Shows (account_of calls
         ap (account_of calls) place ∙ none,
         new_shows (dialed_stream flow c.prepared) c (account_of calls) now shows
             (subst (ShowsIn (dialed_stream flow c.prepared)) (sym ch.here ∙ ap now place)
-            (refl, refl, refl, refl, (λ other client label. absurd cc), refl, refl))
+            (refl, refl, refl, refl, refl, refl))
             (λ j other. ch.others j (λ same. other (same ∙ place))),
       )
 
-  pub label_shows : (stream : ℕ) (flow : Flow) (answer : Unit {0}) → flow.host ≤ ASSIGNED_LAST
+  pub label_shows : (stream : ℕ) (flow : Flow) (answer : Unit {0})
       → (line : List ℕ) × (account_of calls stream ≡ Some (reading_account line)) × IsWhole line
       → Shown (Label stream flow) answer (after_label stream flow c)
-  label_shows stream flow answer last (line, is, whole) =
+  label_shows stream flow answer (line, is, whole) =
       let a : Account = reading_account line in
       let now : ℕ → Option Account = account_of (made (Label stream flow) answer ∷ calls) in
       let ch : Changes (account_of calls) now stream (labelled flow a) = changes (labelled flow) stream (account_of calls) a is in (
@@ -131,8 +128,7 @@ module _ (c : HostContents) (calls : List Made) (shows : Shows (account_of calls
               s.1,
               refl,
               s.3,
-              λ other client label. subst (λ (f : Flow). f.host ≤ ASSIGNED_LAST) (one_flow flow other label) last,
-              s.5,
+              s.4,
               whole,
             )),
       )
@@ -171,8 +167,7 @@ module _ (c : HostContents) (calls : List Made) (shows : Shows (account_of calls
               s.2,
               ap (λ (given : List ℕ). given ++ take n bytes) s.3,
               s.4,
-              s.5,
-              read_same x.label x (with_given (take n bytes) x) refl refl refl s.6,
+              read_same x.label x (with_given (take n bytes) x) refl refl refl s.5,
             )),
       )
   write_shows stream bytes write.Failed is known = (tt, failed_shows c (account_of calls) shows)
@@ -200,7 +195,7 @@ module _ (c : HostContents) (calls : List Made) (shows : Shows (account_of calls
 
       by : (st : Stream) (o : Option Account) → ShowsIn st o → ShowsIn (record st { state = state.Closed }) (option_map shut o)
       by st None in_it = in_it
-      by st (Some a) in_it = (refl, in_it.1, in_it.2, in_it.3, in_it.4, in_it.5, read_same a.label a (shut a) refl refl refl in_it.6)
+      by st (Some a) in_it = (refl, in_it.1, in_it.2, in_it.3, in_it.4, read_same a.label a (shut a) refl refl refl in_it.5)
 
 -- Calls on the ring are nothing to the host.
 pub ring_shows : (call : DeviceCall) (a : DeviceAnswer call) (c : HostContents) (calls : List Made) → Shows (account_of calls) c
@@ -248,7 +243,7 @@ step_told (Dial path flow) a old new h calls P asks is shows allowed =
     after_told (Dial path flow) a old new h calls (IsDialed path a) (after_dial flow a) is allowed.host (dial_shows h calls shows path flow a)
 step_told (Label stream flow) a old new h calls P asks is shows allowed =
     after_told (Label stream flow) a old new h calls (λ c. Unit {0}) (after_label stream flow) is allowed.host
-    (λ e. label_shows h calls shows stream flow a asks.1 asks.0)
+    (λ e. label_shows h calls shows stream flow a asks.0)
 step_told (ReadStream stream n) a old new h calls P asks is shows allowed =
     after_told (ReadStream stream n) a old new h calls (IsReadOf stream n a) (after_read stream a.0) is allowed.0.host
     (λ e. read_shows h calls shows stream n a.0 a.1 e allowed.1 asks.0)

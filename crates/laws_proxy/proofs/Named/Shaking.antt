@@ -3,7 +3,7 @@ use Rattle.laws_device.proofs.{Walk.{Turning.{AfterAccept, AfterByte, AfterLine,
 use Rattle.laws_device.{proofs.Named.{Keeping.{asking, Keeps}, Opening.keeps_open, Writing.all_stay}, specs.{Walk.Seen.Seen, Named.Split.{CanReach, is_quiet}}}
 use Rattle.laws_device.specs.Named.Streams.{FindsStreams, HasStreams, IsFree}
 use Rattle.std.{proofs.Common.{Result, Ok, Err, ◌≡◌, ℕ, Bool, true, List, [], ◌∷◌, ◌++◌, Option, Some, None, Contains, refl, sym, subst}, specs.Option.ForSome}
-use Rattle.vs_flow.specs.{Table.refusal, declared.{table.TableFault.TableFault, flow.Flow.Flow}, Flow.host_flow}
+use Rattle.vs_flow.specs.{Table.refusal, declared.{table.TableFault.TableFault, flow.Flow.Flow}}
 use Rattle.vs_ring_port.specs.declared.device_ring.Chain.{Chain}
 use Rattle.vs_device_parts.specs.{Calls.{Label, Accept, Call, CloseStream, ReadStream, Situation, Allows}, Connections.with_client, State.DeviceState}
 use Rattle.laws_proxy.proofs.Named.{Lists.{found_on, ids, ids-push, ids-with_line, left_among, left_apart, not_left}, Hosts.{has_accepted, has_dropped, has_of, is_free}}
@@ -90,8 +90,8 @@ module _ (Can : Call → Situation → Type 0) (reaches : (call : Call) (s : Sit
     line_read line d has = record {
       more = λ is. still;
       ends = dropped h.stream (with_line h.stream line hs) s d among still;
-      refused = λ guest fault may is. refused h.stream (with_line h.stream line hs) s d among still;
-      opens = λ guest is may none. opens h.stream (with_line h.stream line hs) s d among still (host_flow guest port) none;
+      refused = λ guest flow fault is given full. refused h.stream (with_line h.stream line hs) s d among still;
+      opens = λ guest flow is given none. opens h.stream (with_line h.stream line hs) s d among still flow none;
     }
       where
         same : ids hs ≡ ids (with_line h.stream line hs)

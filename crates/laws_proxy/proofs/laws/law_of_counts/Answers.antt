@@ -13,7 +13,7 @@ ends first state_of s tree a b x was keeps runs = λ on l is.
     moving_end (λ y d. P first None (fields (state_of y)) d) tree a b x (keeps (λ m there honest. was honest m there)) runs l is on
 
 pub returns-clause-new : goal.returns-clause-new
-returns-clause-new c = λ cid base r fresh on l is.
+returns-clause-new c = λ cid base port r fresh on l is.
     subst (λ (log : Log). IsCounted cid cid 0 None log) (sym (fresh l is).0) (record { cid_is = refl; dropped_is = refl; unfailed = refl })
 
 pub returns-clause-turn : goal.returns-clause-turn

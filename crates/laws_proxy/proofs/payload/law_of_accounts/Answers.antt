@@ -3,7 +3,7 @@ use Rattle.laws_proxy.proofs.Account.{Keeping.keeps_end, Opening.new_agrees, Tur
 use Rattle.laws_proxy.proofs.payload.law_of_accounts.Goals as goal
 
 pub returns-clause-new : goal.returns-clause-new
-returns-clause-new c = λ cid base. new_agrees _
+returns-clause-new c = λ cid base port. new_agrees _
 
 pub returns-clause-turn : goal.returns-clause-turn
 returns-clause-turn c = λ size now s calls later x holds leads.

@@ -6,7 +6,7 @@ use Rattle.laws_proxy.proofs.Named.{Lists.none_open, Turning.keeps_proxy_reset, 
 use Rattle.laws_proxy.proofs.streams.law_of_streams.Goals as goal
 
 pub returns-clause-new : goal.returns-clause-new
-returns-clause-new c = λ cid base h. new_has [] cid base h (none_open h)
+returns-clause-new c = λ cid base port h. new_has [] cid base h (none_open h)
 
 pub returns-clause-turn : goal.returns-clause-turn
 returns-clause-turn c = λ size now s d e x has runs. keeps_end CanReach Allows _ (turn_of size now s) d e x

@@ -1,5 +1,5 @@
 use Rattle.std.proofs.{Common.{rules, of_calls, nat_le}, lemmas.Fn.always_returns_same}
-use Rattle.vs_device_parts.proofs.Rounds.{AreParted, are_parted, parted_by}
+use Rattle.vs_device_parts.proofs.Rounds.{are_parted, parted_by}
 use Rattle.vs_device_parts.proofs.round.up_to.Goals as goal
 
 pub returns-clause-above : goal.returns-clause-above

@@ -26,7 +26,7 @@ returns-clause-honest c = λ first port ring holds.
 
 pub returns-clause-streamed : goal.returns-clause-streamed
 returns-clause-streamed c = λ first port lines a holds streams.
-    subst (λ (s : DeviceState). AreStreamedWith first port lines s.table a) (sym c.grow_in.ensures.state)
+    subst (λ (s : DeviceState). AreStreamedWith first port lines s a) (sym c.grow_in.ensures.state)
     (grow_streamed c.args.slot c.args.alloc c.args.self.now first port lines a holds streams)
 
 pub returns-clause-bytes : goal.returns-clause-bytes

@@ -9,7 +9,7 @@ returns-clause-calls g c = λ ring.
     let s : DeviceState = c.args.self.now in
     let accepted : refusal s.table c.args.flow ≡ None = rw (← c.self.view_is) (search rules) in
     let d = c.self.inside in
-    let t : DeviceState = the_view (record d { slots = c.open_client-slot.new.self; opened = c.saturating_add-self-inside.result }) in
+    let t : DeviceState = the_view (record d { slots = c.open_client-slot.new.self; clean = c.remove.new.self; opened = c.saturating_add-self-inside.result }) in
     let end : t ≡ with_client c.args.flow c.args.stream s = rw (← c.self.view_is) (search rules) in
     let at : c.open_client-slot.result ≡ s.table.given = rw (← c.self.view_is) c.open_client-slot.ensures.slot in
     opened c.args.flow c.args.stream s accepted t c.open_client-slot.result _ _ (c.label.ensures ring) end at
