@@ -1,11 +1,11 @@
 -- In the last round the device read each stream that it may read, and none had anything to be taken; and wrote to each to which it has something to
 -- write, and none took any.
-use Rattle.std.proofs.Common.{◌≡◌, ◌+◌, ◌<◌, ◌⊎◌, inl, inr, ℕ, List, [], ◌∷◌, length, Option, Some, None, refl, sym, ap, ◌∙◌, arith}
+use Rattle.std.proofs.Common.{◌≡◌, ◌+◌, ◌<◌, ◌⊎◌, inl, inr, List, [], ◌∷◌, length, refl, sym, ap, ◌∙◌, arith}
 use Rattle.vs_ring_port.specs.{Chains.{Held, chains_of, held_of}, declared.queue.Queue.{Queue, TheVariants.Rx}}
 use Rattle.vs_ring_rule.specs.declared.view.Past.{Past}
-use Rattle.vs_ring_shared.specs.{Meetings.after_hearing, Sights.{DeviceSight, device_contents, driver_contents, known_of, sight_in}}
+use Rattle.vs_ring_shared.specs.{Meetings.after_hearing, Sights.{device_contents, driver_contents, known_of, sight_in}}
 use Rattle.vs_device_parts.specs.Playing.{IsItsRing, held_by, situation}
-use Rattle.vs_proxy_parts.specs.{State.ProxyState, Turns.turn_of}
+use Rattle.vs_proxy_parts.specs.{Turns.turn_of}
 use Rattle.vs_proxy_parts.specs.declared.answers.Turn.TheVariants as turn
 use Rattle.vs_apps_parts.specs.Scripts.{RunScript}
 use Rattle.vs_apps.specs.Guests.{GuestsState}

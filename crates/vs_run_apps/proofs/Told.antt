@@ -1,6 +1,5 @@
 -- What a run that is over says, with what was given of its report.
 use Rattle.std.proofs.Common.{◌≡◌, ℕ, List, Option, Result, Ok, Err, refl}
-use Rattle.vs_outside.specs.Host.{HostContents}
 use Rattle.vs_ring_shared.specs.declared.counters.Met.{Met}
 use Rattle.vs_proxy_parts.specs.State.{ProxyState}
 use Rattle.vs_apps_parts.specs.{Scripts.RunScript, declared.journal.Entry.Entry, declared.progress.AppState.AppState}

@@ -1,5 +1,5 @@
 -- What a run of apps ends in.
-use Rattle.std.specs.{Prelude.{◌≡◌, ℕ, length, Some}, Option.ForSome}
+use Rattle.std.specs.{Prelude.{◌≡◌, ℕ, length}, Option.ForSome}
 use Rattle.vs_flow.specs.Connection.{Connection}
 use Rattle.vs_limits.specs.declared.TheConstants.{FIRST_CID}
 use Rattle.vs_driver_parts.specs.Connections.{table_shown as guest_shown}
