@@ -5,7 +5,7 @@ use Rattle.vs_conn.specs.{Headers.{owed_flags, owed_header, owed_op, payload_hea
 use Rattle.vs_conn.{specs.{declared.end.Owed.Owed, Follows.FitsMessage}, proofs.{Frames.paid_kind, Steps.stream_fits}}
 use Rattle.vs_header.specs.{Packet.header_bytes, declared.{Header.Header, Kind.TheVariants.Stream}}
 use Rattle.laws_history.specs.History.{puts}
-use Rattle.vs_limits.specs.declared.TheConstants.{BUF_ALLOC, LAST_PORT}
+use Rattle.vs_limits.specs.declared.TheConstants.{HOST_CID, BUF_ALLOC, LAST_PORT}
 use Rattle.vs_flow.{specs.{Flow.{is_assigned, same_flow}, declared.flow.Flow.Flow, CleanPairs.goes_to}, proofs.{Tables.IsAccepted, Entries.All_at, Lookups.find_place}}
 use Rattle.vs_page.specs.{Log.{Driver, Log, history_of, side_by}, Held.FitsWire, declared.{log.LogEntry.TheVariants.PutPacket, page.TheConstants.PAYLOAD_MAX}}
 use Rattle.vs_page.proofs.Packets.{held_alone, held_payload}
@@ -130,6 +130,13 @@ next_fits host s host_fits fits f is = by (nat_le s.next_port LAST_PORT) refl
         subst (λ (g : Flow). IsFitClean g) (sym (fresh_is host s.next_port s.clean f left is))
         (record { ports = record { guest = omega (arith, below); host = host_fits; peer = omega arith }; peer = refl })
     by false spent = found_has IsFitClean (goes_to host) s.clean f fits.clean_fit (again_is host s.next_port s.clean f spent is)
+
+pub next_peer : (host : ℕ) (s : DriverState) → IsFitState s → (f : Flow) → free_flow host s.next_port s.clean ≡ Some f → f.peer ≡ HOST_CID
+next_peer host s fits f is = by (nat_le s.next_port LAST_PORT) refl
+  where
+    by : (b : Bool) → nat_le s.next_port LAST_PORT ≡ b → f.peer ≡ HOST_CID
+    by true left = ap (λ (g : Flow). g.peer) (fresh_is host s.next_port s.clean f left is)
+    by false spent = (found_has IsFitClean (goes_to host) s.clean f fits.clean_fit (again_is host s.next_port s.clean f spent is)).peer
 
 fit_without : (f : Flow) (fs : List Flow) → All IsFitClean fs → All IsFitClean (flows_without f fs)
 fit_without f [] all = all

@@ -12,7 +12,8 @@ use Rattle.laws_tables.specs.{Heard.is_empty, Steps.{owed_on, payload_on, reply_
 use Rattle.vs_driver_parts.specs.{Connections.next_flow, Conversations.{DriverTree, connect_of, new_of, poll_of, send_of}, Playing.Plays, State.DriverState}
 use Rattle.vs_driver_parts.specs.declared.answers.{ConnectError.ConnectError, Polled.Polled, Sent.Sent}
 use Rattle.laws_driver.{specs.Honest.{IsFresh, IsHonestWith}, proofs.{Calls.{CarriesConnect, CarriesSend, connect_keeps, new_keeps, rests_of, send_keeps}, Carrying.Carries}}
-use Rattle.laws_driver.proofs.{Carrying.Fact, Keeping.{Keeps, keeps_end}, Polling.poll_keeps, Staging.Rests, Tabling.entry_fits}
+use Rattle.laws_driver.proofs.{Carrying.Fact, Keeping.{Keeps, keeps_end}, Polling.poll_keeps, Putting.next_peer, Staging.Rests, Tabling.entry_fits}
+use Rattle.vs_driver_parts.proofs.Clean.{may_connect}
 use Rattle.laws_rest.specs.Rest.{AreRouted, IsRoutedLog, IsRoutedWith}
 
 abbrev ComesFromHost : Packet → Type 0
@@ -76,7 +77,8 @@ connect_routes first host = record {
   refused = λ why s log routed. routed;
   opens = λ s log fits free m was fair routed from.
       let p = request_on Driver s.cid (next_flow host s) Stream in
-      (not_dropped (cid_of first log) s.cid p.header refl m.flows.cid refl, routed from);
+      let host_is = next_peer host s fits (next_flow host s) (may_connect host s free).flow in
+      (not_dropped (cid_of first log) s.cid p.header refl m.flows.cid host_is, routed from);
 }
 
 send_routes : (first id : ℕ) (bytes : List ℕ) → CarriesSend first id bytes (Routed first) (λ answer. Routed first)
