@@ -1,4 +1,4 @@
-use Rattle.std.{specs.Prelude.Result, proofs.Common.{◌≡◌, ℕ, Option, Some, None, sym, ap, subst, ◌∙◌}}
+use Rattle.std.{specs.Prelude.Result, proofs.Common.{◌≡◌, ℕ, Some, None, sym, ap, subst, ◌∙◌}}
 use Rattle.vs_contents.proofs.Leads.{end_of}
 use Rattle.vs_flow.specs.declared.{flow.Flow.Flow, table.TableFault.TableFault}
 use Rattle.vs_device_parts.specs.{Calls.Allows, Playing.{Runs, situation}, State.DeviceState, Turns.open_of}
