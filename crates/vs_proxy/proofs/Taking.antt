@@ -1,5 +1,5 @@
 -- How many connections may come and leave when a packet is taken.
-use Rattle.std.{specs.Prelude.{nat_lt, nat_le}, proofs.Common.{◌≡◌, ◌-◌, ◌==◌, ◌&&◌, length, None, refl, arith}}
+use Rattle.std.{specs.Prelude.{nat_lt, nat_le}, proofs.Common.{◌≡◌, ◌-◌, ◌==◌, ◌&&◌, length, refl, arith}}
 use Rattle.vs_contents.{specs.CallTree.{Done, Ask}, proofs.Leads.{ends_bind, ends_weaker}}
 use Rattle.vs_conn.specs.{End.{verdict_of, is_of, is_reset}, declared.end.Verdict.Verdict}
 use Rattle.vs_flow.specs.{Flow.is_assigned, Table.{entry_of, has_place}}

@@ -13,8 +13,8 @@ abbrev IsNewWith : ℕ → ℕ → RingContents → Table DeviceConnection → L
 IsNewWith cid port ring t replies clean = IsWith cid port (record (new_device cid []) { table = t; replies = replies; clean = clean }) ring
 
 pub returns-clause-streams : goal.returns-clause-streams
-returns-clause-streams c = λ others host open.
-    subst (λ (t : Table DeviceConnection). HasStreams others t host) (sym c.in_ok-new.ensures) (new_has others c.args.cid [] host open)
+returns-clause-streams c = λ others host still.
+    subst (λ (t : Table DeviceConnection). HasStreams others t host) (sym c.in_ok-new.ensures) (new_has others c.args.cid [] host still)
 
 pub returns-clause-honest : goal.returns-clause-honest
 returns-clause-honest c = λ port ring fresh.
