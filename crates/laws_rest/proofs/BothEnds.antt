@@ -1,13 +1,13 @@
 -- Bytes of both ends: what each put came first at the other, and the streams are of the same connections.
 use Rattle.laws_device.specs.{Carried.Streamed.{ports_of, Ports, IsStreamed}, Streams.AreStreamedWith}
-use Rattle.std.proofs.Common.{◌≡◌, ℕ, ◌≤◌, List, refl, sym, ap, subst, ◌∙◌, arith}
-use Rattle.vs_flow.specs.{Connection.{Connection, first_of}, Flow.is_assigned, Table.Table, declared.flow.Flow.Flow}
-use Rattle.laws_history.{specs.{Again.count, Packets.is_request, declared.packet.Packet.Packet, History.{Answerer, Asker, Side, gots, peer, puts}}, proofs.Lists.count_append}
+use Rattle.std.proofs.Common.{◌≡◌, ℕ, ◌≤◌, List, sym, ap, subst, ◌∙◌}
+use Rattle.vs_flow.specs.{Connection.{Connection}, Flow.is_assigned, Table.Table}
+use Rattle.laws_history.{specs.{declared.packet.Packet.Packet, History.{Side, gots, peer, puts}}}
 use Rattle.vs_outside.specs.{Host.HostContents, HostBytes.{host_read, host_wrote}}
-use Rattle.vs_page.specs.{Fair.{IsPrefixOf, asked_by, instance_from, number_of, payload_got, payload_of, payload_put}, Log.{Device, Driver, Role, flow_got, other_role, side_of}}
+use Rattle.vs_page.specs.{Fair.{IsPrefixOf, instance_from, payload_got, payload_of, payload_put}, Log.{Device, Driver, Role, flow_got, other_role, side_of}}
 use Rattle.vs_page.{specs.Log.whole_of, proofs.{Entries.{got_on, on_flow}, Flows.opposite_by, Payload.{instance-append, payload_of-append}}}
 use Rattle.vs_ring_port.specs.{Contents.RingContents, EndLog.EndLog}
-use Rattle.laws_tables.{specs.{Asked.AskOnce, Both.{Both, at}}, proofs.Logs.prefix_then}
+use Rattle.laws_tables.{specs.{Both.{Both, at}}, proofs.Logs.prefix_then}
 use Rattle.vs_driver_parts.specs.{Held.HeldSlots, State.DriverState}
 use Rattle.laws_driver.specs.{Honest.slots_of, Carried.{Calls.{Journal, received_by}, Senders.{IsRightJournal, IsRightWith, sent_to}}}
 use Rattle.vs_device_parts.specs.{Calls.Situation, State.DeviceConnection}

@@ -1,13 +1,12 @@
 -- What the host wrote and read of a connection, against the two logs.
-use Rattle.laws_device.specs.Carried.Streamed.{Ports, IsCounted, IsLabelled, IsStreamed, Seen, connection_in, count_in, has_line, line_for, look, seen}
-use Rattle.laws_device.proofs.Carried.{Hosts.{label_here, stream_is, there}, Lines.after_front}
+use Rattle.laws_device.specs.Carried.Streamed.{Ports, IsLabelled, IsStreamed, Seen, count_in, has_line, line_for, look, seen}
+use Rattle.laws_device.proofs.Carried.{Hosts.{stream_is, there}, Lines.after_front}
 use Rattle.std.proofs.Common.{◌≡◌, ℕ, ◌-◌, ◌≤◌, ◌^◌, ◌<◌, Bool, true, false, cond, List, [], ◌++◌, codes, decimal, slice_get, Option, Some, None, refl, sym, ap, subst, ◌∙◌, arith}
-use Rattle.std.{proofs.{Common.option_and_then, lemmas.{Bool.Decides.nat_tests, Option.slice_get_within}}, specs.Option.{option_map, option_map_or}}
-use Rattle.vs_flow.specs.{Connection.{Connection, first_of}, Flow.is_assigned, Table.Table, declared.flow.Flow.Flow}
-use Rattle.laws_history.specs.{History.puts, Packets.{has, is_clean_rst}}
+use Rattle.std.{proofs.{Common.option_and_then, lemmas.{Bool.Decides.nat_tests, Option.slice_get_within}}, specs.Option.{option_map_or}}
+use Rattle.vs_flow.specs.{Connection.{Connection}, Flow.is_assigned, Table.Table}
 use Rattle.vs_device_parts.specs.State.{DeviceConnection}
 use Rattle.vs_outside.specs.{HostBytes.{after_line, host_read, host_wrote, labelled_with, read_after_ok, stream_of, wrote_after_connect}, Host.{HostContents, Stream, stream_at}}
-use Rattle.vs_page.specs.{Fair.{IsPrefixOf, number_of, payload_got, payload_put}, Log.{Device, Log, history_of}}
+use Rattle.vs_page.specs.{Fair.{IsPrefixOf, payload_got, payload_put}, Log.{Device, Log}}
 use Rattle.vs_proxy_parts.specs.State.{Handshake}
 use Rattle.vs_uds.{proofs.{Leading.has_lf-digits, Ports.WritesPort-decimal}, specs.OkLine.ok_text}
 
