@@ -20,6 +20,8 @@ use Rattle.vs_driver_parts.specs.{Listening.{with_port, with_waiting, without_id
 use Rattle.vs_driver_parts.specs.{Receiving.{is_request, may_open, on_heard, on_known, on_packet, on_unknown, reset_reply, with_reply}, State.{DriverEntry, DriverState}}
 use Rattle.vs_driver_parts.specs.{State.{GoneConnection, Listener, entry_known_as, gone_known_as, is_known_as}, declared.answers.{Accepted.Accepted, ConnectError.ConnectError}}
 use Rattle.vs_driver_parts.specs.declared.answers.{Grown.Grown, ListenError.ListenError, Polled.Polled, Sent.Sent}
+use Rattle.laws_tables.specs.Steps.{is_kept}
+use Rattle.vs_driver_parts.specs.Connections.{keeping}
 use Rattle.laws_driver.specs.{Honest.{IsFresh, IsHonestWith}, Carried.Calls.{Accept, Close, Connect, Grow, GuestCall, Journal, Listen, LookAt, Made, Recv, ReplyTo, Send, Shutdown}}
 use Rattle.laws_driver.{specs.Carried.Calls.{Unlisten, is_right, names, whole_call}, proofs.{Calls.new_keeps, Carrying.{Carries, Fact}, Keeping.keeps_end, Polling.poll_keeps}}
 use Rattle.laws_driver.proofs.{Staging.Rests, Carried.{Growing.honest_stays, Making.{CarriesCall, whole_with}, Righting.told_before, Sending.begins}}
@@ -346,7 +348,8 @@ module _ (journal : Journal) where
       on false = x
   known_given p e s v x = on (ends_connection v p.header)
     where
-      on : (b : Bool) → At (cond b (after_leaving (record e { value = after_packet v p e.value }) s) (with_connection e.slot (after_packet v p e.value) s))
+      on : (b : Bool) → At (cond b (keeping (is_kept Driver e.flow e.value.end p) e.flow (after_leaving (record e { value = after_packet v p e.value }) s))
+          (with_connection e.slot (after_packet v p e.value) s))
       on true = leaving_given (record e { value = after_packet v p e.value }) s x
       on false = x
 
@@ -384,7 +387,7 @@ poll_gives first journal = record {
 
 -- Why a connect is refused, whatever the ring.
 connect_ends : (port : ℕ) (s : DriverState) → AllEnds (λ (y : DriverState × Result ℕ ConnectError). ConnectTells port y.1 []) (connect_of port s)
-connect_ends port s = by (is_assigned port) refl (is_full s) (is_spent s)
+connect_ends port s = by (is_assigned port) refl (is_full s) (is_spent port s)
   where
     page : (t : DriverState) (b : Bool) → AllEnds (λ (y : DriverState × Result ℕ ConnectError). ConnectTells port y.1 [])
         (cond b (bind (post_packet (request_bytes port t) t) (λ u. Done (connected port u, Ok u.next_id))) (Done (t, Err (refused.NoDescriptor t.in_flight))))
