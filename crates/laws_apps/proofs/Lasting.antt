@@ -10,10 +10,10 @@ use Rattle.laws_history.specs.declared.packet.Packet.{Packet}
 use Rattle.vs_page.specs.{Log.{Driver, flow_to_guest}, Open.is_dropped}
 use Rattle.vs_replies.specs.Owed.{reply_to}
 use Rattle.vs_driver_parts.specs.{State.{DriverConnection, DriverEntry, DriverState}, Connections.{after_leaving, after_read, after_shut, paid_connection, waits_no_more}}
-use Rattle.vs_driver_parts.specs.{Connections.{with_connection, with_request}, Conversations.after_paying, Receiving.{after_packet, after_verdict, all_left, ends_connection}}
-use Rattle.vs_driver_parts.specs.Receiving.{is_request, may_open, on_heard, on_known, on_packet, on_unknown, reset_reply, with_reply}
+use Rattle.vs_driver_parts.specs.{Connections.{with_connection, with_request, keeping}, Conversations.after_paying, Receiving.{after_packet, after_verdict, all_left}}
+use Rattle.vs_driver_parts.specs.Receiving.{ends_connection, is_request, may_open, on_heard, on_known, on_packet, on_unknown, reset_reply, with_reply}
 use Rattle.vs_wrap.specs.Wrap.{counted}
-use Rattle.laws_tables.proofs.Slots.{found_by}
+use Rattle.laws_tables.{proofs.Slots.found_by, specs.Steps.is_kept}
 use Rattle.laws_driver.{proofs.Carrying.{Carries, Fact}, specs.Carried.Calls.{Journal, Made, Connect, Listen, Unlisten, Accept, Send, Recv, Shutdown, Grow, Close, LookAt}}
 use Rattle.vs_apps_parts.specs.Told.{told_of}
 use Rattle.laws_apps.specs.Traces.{AllTell, AtId, IsClosing, IsDrained, IsStopped, IsTraced, TellsOf, is_shut, is_touched}
@@ -288,7 +288,8 @@ module _ (by journal : Journal) where
       on false y = y
   known_traced p s e v within is x = on (ends_connection v p.header)
     where
-      on : (b : Bool) → At (cond b (after_leaving (record e { value = after_packet v p e.value }) s) (with_connection e.slot (after_packet v p e.value) s))
+      on : (b : Bool) → let c = after_packet v p e.value in
+          At (cond b (keeping (is_kept Driver e.flow e.value.end p) e.flow (after_leaving (record e { value = c }) s)) (with_connection e.slot c s))
       on true = leaving_traced s (record e { value = after_packet v p e.value }) x
       on false = value_traced s e.slot (after_packet v p e.value) (packet_comes by s.table.entries e v p within is) x
 

@@ -11,16 +11,17 @@ use Rattle.vs_limits.specs.declared.TheConstants.{BUF_ALLOC, HOST_CID, LAST_ID, 
 use Rattle.laws_history.specs.declared.packet.Packet.{Packet}
 use Rattle.vs_page.{specs.{Fair.IsFairLog, Log.{Driver, Log, flow_got}, Open.is_dropped, declared.log.LogEntry.TheVariants.GotPacket}, proofs.Flows.same_is}
 use Rattle.vs_replies.specs.Owed.{reply_to}
-use Rattle.laws_tables.{specs.{Matches.Matches, Steps.HasEnd}, proofs.{Fair.{got_not_refused, heard_all}, Slots.found_by}}
+use Rattle.laws_tables.{specs.{Matches.Matches, Steps.{HasEnd, is_kept, port_after}}, proofs.{Fair.{got_not_refused, heard_all}, Slots.found_by}}
 use Rattle.vs_ring_port.specs.{Contents.RingContents, EndLog.EndLog}
 use Rattle.vs_driver_parts.specs.Connections.{after_closing, after_grow, after_leaving, after_read, after_recv, after_shut, after_shutdown, all_gone_after_read, connected}
 use Rattle.vs_driver_parts.specs.Connections.{entry_closed, entry_grow_answer, entry_read, flow_of, grown_by, is_full, next_flow, paid_connection, shut_in, state_of}
-use Rattle.vs_driver_parts.specs.{Connections.{with_connection, with_end, with_request, without_gone}, Conversations.{after_paying, new_of, new_state, no_credit, not_sent}}
-use Rattle.vs_driver_parts.specs.{Conversations.{poll_of, send_stopped}, Listening.{has_place, is_answered, listen_of, listener_on, listening, next_accepted, with_waiting}}
-use Rattle.vs_driver_parts.specs.{Listening.without_id, Playing.Plays, Receiving.{after_packet, after_verdict, all_left, is_request, may_open, on_heard, on_known, on_packet}}
-use Rattle.vs_driver_parts.specs.{Receiving.{on_unknown, reset_reply, with_reply}, State.{DriverConnection, DriverEntry, DriverState, GoneConnection, Listener, entry_known_as}}
-use Rattle.vs_driver_parts.specs.{State.{gone_known_as, is_known_as}, declared.answers.{Accepted.Accepted, Grown.Grown, ListenError.ListenError, Polled.Polled, Sent.Sent}}
-use Rattle.vs_driver_parts.proofs.{Ids.{HasId, found_under}, Packets.{first_under, others_left, packet_known, packet_unknown}}
+use Rattle.vs_driver_parts.specs.{Connections.{with_connection, with_end, with_request, without_gone, keeping}, Conversations.{after_paying, new_of, new_state, no_credit}}
+use Rattle.vs_driver_parts.specs.{Conversations.{not_sent, poll_of, send_stopped}, Listening.{has_place, is_answered, listen_of, listener_on, listening, next_accepted}}
+use Rattle.vs_driver_parts.specs.{Listening.{with_waiting, without_id}, Playing.Plays, Receiving.{after_packet, after_verdict, all_left, is_request, may_open, on_heard, on_known}}
+use Rattle.vs_driver_parts.specs.{Receiving.{on_packet, on_unknown, reset_reply, with_reply}, State.{DriverConnection, DriverEntry, DriverState, GoneConnection, Listener}}
+use Rattle.vs_driver_parts.specs.{State.{entry_known_as, gone_known_as, is_known_as}, declared.answers.{Accepted.Accepted, Grown.Grown, ListenError.ListenError, Polled.Polled}}
+use Rattle.vs_driver_parts.{specs.declared.answers.Sent.Sent, proofs.{Ids.{HasId, found_under}, Packets.{first_under, others_left, packet_known, packet_unknown}, Clean.given_host}}
+use Rattle.vs_driver_parts.proofs.Clean.{may_connect, port_below, port_rises}
 use Rattle.laws_driver.specs.{Honest.{IsFitState, IsFresh, IsHonestWith, ends_of_state}, Carried.Calls.{Accept, Close, Connect, Grow, GuestCall, Journal, Listen, LookAt, Made}}
 use Rattle.laws_driver.{specs.Carried.Calls.{Recv, ReplyTo, Send, Shutdown, Unlisten, is_right, whole_call}, proofs.{Calls.new_keeps, Carrying.{Carries, Fact}}}
 use Rattle.laws_driver.proofs.{Changing.stands_known, Keeping.keeps_end, Polling.poll_keeps, Resetting.{first_contained, with_cid}, Staging.Rests, Tabling.{Stands, entry_fits}}
@@ -59,7 +60,7 @@ module _ (journal : Journal) (s : DriverState) (x : ArePlaced journal s) where
     heard_value v = value_goes journal e.value (after_packet v p e.value) refl refl refl (got_stands e.value.end p.header) (value_of e stands)
 
     peers : (b : Bool) → let c = after_packet verdict.Peer p e.value in
-        ArePlaced journal (cond b (after_leaving (record e { value = c }) s) (with_connection e.slot c s))
+        ArePlaced journal (cond b (keeping (is_kept Driver e.flow e.value.end p) e.flow (after_leaving (record e { value = c }) s)) (with_connection e.slot c s))
     peers true = leaving journal s x e (after_packet verdict.Peer p e.value) sound stands refl (heard_value verdict.Peer)
     peers false = alters journal s x e (after_packet verdict.Peer p e.value) stands refl (heard_value verdict.Peer)
 
@@ -195,7 +196,9 @@ module _ (journal : Journal) where
       let c : DriverConnection = record { id = s.next_id; end = paid_of (asked Stream BUF_ALLOC) owed.Request; unread = []; unanswered = false; closed = false } in
       let was = goes_on journal m s x refl in
       let given : was_given s.next_id (m ∷ journal) ≡ true = or_first (s.next_id == s.next_id) (was_given s.next_id journal) (eq-eqb s.next_id s.next_id refl) in
-      opening (m ∷ journal) s was (next_flow host s) c refl (s.next_port + 1) s.listeners (omega arith) (λ mine. omega arith) (λ p i there. there) was.ports
+      let f : Flow = next_flow host s in
+      opening (m ∷ journal) s was f c refl (port_after s.next_port f.guest) s.listeners (port_rises s.next_port f.guest) (λ mine. port_below s.next_port f.guest)
+      (λ p i there. there) was.ports
       (record { known = or_first (was_given s.next_id (m ∷ journal)) _ given; own = λ mine. given }) refl (λ no. absurd cc)
 
   -- accept.
@@ -315,7 +318,8 @@ module _ (journal : Journal) where
       λ id is. subst (λ (n : ℕ). IsTo (IsAsked port) (flow_of n (connected port s))) (same_Some s.next_id id is)
           (subst (IsTo (IsAsked port)) (sym (last_found (is_known_as s.next_id) s.table.entries
           (record { slot = s.table.given; flow = next_flow port s; value = record { id = s.next_id; end = paid_of (asked Stream BUF_ALLOC) owed.Request; unread = []; unanswered = false; closed = false } })
-          (unknown_yet s fits x) (ap (λ (b : Bool). b && true) (eq-eqb s.next_id s.next_id refl)) _)) refl),
+          (unknown_yet s fits x) (ap (λ (b : Bool). b && true) (eq-eqb s.next_id s.next_id refl)) _))
+          (given_host port s.next_port s.clean (next_flow port s) (may_connect port s free).flow)),
     );
   }
   call_places first (Send id bytes) apps = record {
