@@ -14,12 +14,14 @@ use Rattle.vs_ring_port.specs.{Contents.RingContents, EndLog.EndLog}
 use Rattle.vs_wrap.specs.Wrap.{counted}
 use Rattle.vs_driver_parts.specs.Connections.{after_close, after_leaving, after_read, after_recv, after_grow, after_shutdown, all_gone_after_read, connected, entry_closed}
 use Rattle.vs_driver_parts.specs.Connections.{entry_grow_answer, entry_read, flow_of, grown_by, is_full, is_spent, shut_in, state_of, waits_no_more, with_connection, with_request}
-use Rattle.vs_driver_parts.specs.{Connections.{without_gone, keeping}, Conversations.{DriverTree, after_paying, connect_of, connect_with_page, has_page, new_of, no_credit}}
-use Rattle.vs_driver_parts.specs.{Conversations.{not_sent, poll_of, post_packet, reap_all, request_bytes, send_stopped}, Listening.{accept_of, is_answered, listener_on, listening}}
-use Rattle.vs_driver_parts.specs.{Listening.{next_accepted, with_port, with_waiting, without_id}, Playing.{Plays, RingAllows}, Receiving.{after_packet, after_verdict, all_left}}
-use Rattle.vs_driver_parts.specs.{Receiving.{ends_connection, is_request, may_open, on_heard, on_known, on_packet, on_unknown, reset_reply, with_reply}, State.DriverEntry}
-use Rattle.vs_driver_parts.specs.{State.{DriverState, GoneConnection, Listener, entry_known_as, gone_known_as, is_known_as}, declared.answers.Accepted.Accepted}
-use Rattle.vs_driver_parts.specs.declared.answers.{ConnectError.ConnectError, Grown.Grown, ListenError.ListenError, Polled.Polled, Sent.Sent}
+use Rattle.vs_driver_parts.specs.{Connections.without_gone, Conversations.{DriverTree, after_paying, connect_of, connect_with_page, has_page, new_of, no_credit, not_sent, poll_of}}
+use Rattle.vs_driver_parts.specs.{Conversations.{post_packet, reap_all, request_bytes, send_stopped}, Listening.{accept_of, is_answered, listener_on, listening, next_accepted}}
+use Rattle.vs_driver_parts.specs.{Listening.{with_port, with_waiting, without_id}, Playing.{Plays, RingAllows}, Receiving.{after_packet, after_verdict, all_left, ends_connection}}
+use Rattle.vs_driver_parts.specs.{Receiving.{is_request, may_open, on_heard, on_known, on_packet, on_unknown, reset_reply, with_reply}, State.{DriverEntry, DriverState}}
+use Rattle.vs_driver_parts.specs.{State.{GoneConnection, Listener, entry_known_as, gone_known_as, is_known_as}, declared.answers.{Accepted.Accepted, ConnectError.ConnectError}}
+use Rattle.vs_driver_parts.specs.declared.answers.{Grown.Grown, ListenError.ListenError, Polled.Polled, Sent.Sent}
+use Rattle.laws_tables.specs.Steps.{is_kept}
+use Rattle.vs_driver_parts.specs.Connections.{keeping}
 use Rattle.laws_driver.specs.{Honest.{IsFresh, IsHonestWith}, Carried.Calls.{Accept, Close, Connect, Grow, GuestCall, Journal, Listen, LookAt, Made, Recv, ReplyTo, Send, Shutdown}}
 use Rattle.laws_driver.{specs.Carried.Calls.{Unlisten, is_right, names, whole_call}, proofs.{Calls.new_keeps, Carrying.{Carries, Fact}, Keeping.keeps_end, Polling.poll_keeps}}
 use Rattle.laws_driver.proofs.{Staging.Rests, Carried.{Growing.honest_stays, Making.{CarriesCall, whole_with}, Righting.told_before, Sending.begins}}
@@ -346,8 +348,8 @@ module _ (journal : Journal) where
       on false = x
   known_given p e s v x = on (ends_connection v p.header)
     where
-      on : (b : Bool) → let c = after_packet v p e.value in
-          At (cond b (keeping (is_kept Driver e.flow e.value.end p) e.flow (after_leaving (record e { value = c }) s)) (with_connection e.slot c s))
+      on : (b : Bool) → At (cond b (keeping (is_kept Driver e.flow e.value.end p) e.flow (after_leaving (record e { value = after_packet v p e.value }) s))
+          (with_connection e.slot (after_packet v p e.value) s))
       on true = leaving_given (record e { value = after_packet v p e.value }) s x
       on false = x
 

@@ -13,7 +13,9 @@ use Rattle.vs_driver_parts.specs.{State.{DriverConnection, DriverEntry, DriverSt
 use Rattle.vs_driver_parts.specs.{Connections.{with_connection, with_request, keeping}, Conversations.after_paying, Receiving.{after_packet, after_verdict, all_left}}
 use Rattle.vs_driver_parts.specs.Receiving.{ends_connection, is_request, may_open, on_heard, on_known, on_packet, on_unknown, reset_reply, with_reply}
 use Rattle.vs_wrap.specs.Wrap.{counted}
-use Rattle.laws_tables.{proofs.Slots.found_by, specs.Steps.is_kept}
+use Rattle.laws_tables.proofs.Slots.{found_by}
+use Rattle.laws_tables.specs.Steps.{is_kept}
+use Rattle.vs_driver_parts.specs.Connections.{keeping}
 use Rattle.laws_driver.{proofs.Carrying.{Carries, Fact}, specs.Carried.Calls.{Journal, Made, Connect, Listen, Unlisten, Accept, Send, Recv, Shutdown, Grow, Close, LookAt}}
 use Rattle.vs_apps_parts.specs.Told.{told_of}
 use Rattle.laws_apps.specs.Traces.{AllTell, AtId, IsClosing, IsDrained, IsStopped, IsTraced, TellsOf, is_shut, is_touched}
@@ -288,8 +290,8 @@ module _ (by journal : Journal) where
       on false y = y
   known_traced p s e v within is x = on (ends_connection v p.header)
     where
-      on : (b : Bool) → let c = after_packet v p e.value in
-          At (cond b (keeping (is_kept Driver e.flow e.value.end p) e.flow (after_leaving (record e { value = c }) s)) (with_connection e.slot c s))
+      on : (b : Bool) → At (cond b (keeping (is_kept Driver e.flow e.value.end p) e.flow (after_leaving (record e { value = after_packet v p e.value }) s))
+          (with_connection e.slot (after_packet v p e.value) s))
       on true = leaving_traced s (record e { value = after_packet v p e.value }) x
       on false = value_traced s e.slot (after_packet v p e.value) (packet_comes by s.table.entries e v p within is) x
 

@@ -15,13 +15,15 @@ use Rattle.laws_tables.{specs.{Matches.Matches, Steps.{HasEnd, is_kept, port_aft
 use Rattle.vs_ring_port.specs.{Contents.RingContents, EndLog.EndLog}
 use Rattle.vs_driver_parts.specs.Connections.{after_closing, after_grow, after_leaving, after_read, after_recv, after_shut, after_shutdown, all_gone_after_read, connected}
 use Rattle.vs_driver_parts.specs.Connections.{entry_closed, entry_grow_answer, entry_read, flow_of, grown_by, is_full, next_flow, paid_connection, shut_in, state_of}
-use Rattle.vs_driver_parts.specs.{Connections.{with_connection, with_end, with_request, without_gone, keeping}, Conversations.{after_paying, new_of, new_state, no_credit}}
-use Rattle.vs_driver_parts.specs.{Conversations.{not_sent, poll_of, send_stopped}, Listening.{has_place, is_answered, listen_of, listener_on, listening, next_accepted}}
-use Rattle.vs_driver_parts.specs.{Listening.{with_waiting, without_id}, Playing.Plays, Receiving.{after_packet, after_verdict, all_left, is_request, may_open, on_heard, on_known}}
-use Rattle.vs_driver_parts.specs.{Receiving.{on_packet, on_unknown, reset_reply, with_reply}, State.{DriverConnection, DriverEntry, DriverState, GoneConnection, Listener}}
-use Rattle.vs_driver_parts.specs.{State.{entry_known_as, gone_known_as, is_known_as}, declared.answers.{Accepted.Accepted, Grown.Grown, ListenError.ListenError, Polled.Polled}}
-use Rattle.vs_driver_parts.{specs.declared.answers.Sent.Sent, proofs.{Ids.{HasId, found_under}, Packets.{first_under, others_left, packet_known, packet_unknown}, Clean.given_host}}
-use Rattle.vs_driver_parts.proofs.Clean.{may_connect, port_below, port_rises}
+use Rattle.vs_driver_parts.specs.{Connections.{with_connection, with_end, with_request, without_gone}, Conversations.{after_paying, new_of, new_state, no_credit, not_sent}}
+use Rattle.vs_driver_parts.specs.{Conversations.{poll_of, send_stopped}, Listening.{has_place, is_answered, listen_of, listener_on, listening, next_accepted, with_waiting}}
+use Rattle.vs_driver_parts.specs.{Listening.without_id, Playing.Plays, Receiving.{after_packet, after_verdict, all_left, is_request, may_open, on_heard, on_known, on_packet}}
+use Rattle.vs_driver_parts.specs.{Receiving.{on_unknown, reset_reply, with_reply}, State.{DriverConnection, DriverEntry, DriverState, GoneConnection, Listener, entry_known_as}}
+use Rattle.vs_driver_parts.specs.{State.{gone_known_as, is_known_as}, declared.answers.{Accepted.Accepted, Grown.Grown, ListenError.ListenError, Polled.Polled, Sent.Sent}}
+use Rattle.vs_driver_parts.proofs.{Ids.{HasId, found_under}, Packets.{first_under, others_left, packet_known, packet_unknown}}
+use Rattle.laws_tables.specs.Steps.{is_kept, port_after}
+use Rattle.vs_driver_parts.specs.Connections.{keeping}
+use Rattle.vs_driver_parts.proofs.Clean.{given_host, may_connect, port_below, port_rises}
 use Rattle.laws_driver.specs.{Honest.{IsFitState, IsFresh, IsHonestWith, ends_of_state}, Carried.Calls.{Accept, Close, Connect, Grow, GuestCall, Journal, Listen, LookAt, Made}}
 use Rattle.laws_driver.{specs.Carried.Calls.{Recv, ReplyTo, Send, Shutdown, Unlisten, is_right, whole_call}, proofs.{Calls.new_keeps, Carrying.{Carries, Fact}}}
 use Rattle.laws_driver.proofs.{Changing.stands_known, Keeping.keeps_end, Polling.poll_keeps, Resetting.{first_contained, with_cid}, Staging.Rests, Tabling.{Stands, entry_fits}}
