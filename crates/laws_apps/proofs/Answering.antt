@@ -9,7 +9,7 @@ use Rattle.vs_limits.specs.declared.TheConstants.{DRIVER_CONNECTIONS, LAST_PORT,
 use Rattle.laws_history.specs.declared.packet.Packet.{Packet}
 use Rattle.vs_page.specs.{Log.{Driver, flow_to_guest}, Open.is_dropped}
 use Rattle.vs_replies.specs.Owed.{reply_to}
-use Rattle.laws_tables.{proofs.Slots.found_by, specs.Steps.is_kept}
+use Rattle.laws_tables.proofs.Slots.{found_by}
 use Rattle.vs_ring_port.specs.{Contents.RingContents, EndLog.EndLog}
 use Rattle.vs_wrap.specs.Wrap.{counted}
 use Rattle.vs_driver_parts.specs.Connections.{after_close, after_leaving, after_read, after_recv, after_grow, after_shutdown, all_gone_after_read, connected, entry_closed}

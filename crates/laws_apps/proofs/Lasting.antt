@@ -10,8 +10,8 @@ use Rattle.laws_history.specs.declared.packet.Packet.{Packet}
 use Rattle.vs_page.specs.{Log.{Driver, flow_to_guest}, Open.is_dropped}
 use Rattle.vs_replies.specs.Owed.{reply_to}
 use Rattle.vs_driver_parts.specs.{State.{DriverConnection, DriverEntry, DriverState}, Connections.{after_leaving, after_read, after_shut, paid_connection, waits_no_more}}
-use Rattle.vs_driver_parts.specs.{Connections.{with_connection, with_request, keeping}, Conversations.after_paying, Receiving.{after_packet, after_verdict, all_left}}
-use Rattle.vs_driver_parts.specs.Receiving.{ends_connection, is_request, may_open, on_heard, on_known, on_packet, on_unknown, reset_reply, with_reply}
+use Rattle.vs_driver_parts.specs.{Connections.{with_connection, with_request}, Conversations.after_paying, Receiving.{after_packet, after_verdict, all_left, ends_connection}}
+use Rattle.vs_driver_parts.specs.Receiving.{is_request, may_open, on_heard, on_known, on_packet, on_unknown, reset_reply, with_reply}
 use Rattle.vs_wrap.specs.Wrap.{counted}
 use Rattle.laws_tables.proofs.Slots.{found_by}
 use Rattle.laws_tables.specs.Steps.{is_kept}

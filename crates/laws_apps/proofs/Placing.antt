@@ -11,7 +11,7 @@ use Rattle.vs_limits.specs.declared.TheConstants.{BUF_ALLOC, HOST_CID, LAST_ID, 
 use Rattle.laws_history.specs.declared.packet.Packet.{Packet}
 use Rattle.vs_page.{specs.{Fair.IsFairLog, Log.{Driver, Log, flow_got}, Open.is_dropped, declared.log.LogEntry.TheVariants.GotPacket}, proofs.Flows.same_is}
 use Rattle.vs_replies.specs.Owed.{reply_to}
-use Rattle.laws_tables.{specs.{Matches.Matches, Steps.{HasEnd, is_kept, port_after}}, proofs.{Fair.{got_not_refused, heard_all}, Slots.found_by}}
+use Rattle.laws_tables.{specs.{Matches.Matches, Steps.HasEnd}, proofs.{Fair.{got_not_refused, heard_all}, Slots.found_by}}
 use Rattle.vs_ring_port.specs.{Contents.RingContents, EndLog.EndLog}
 use Rattle.vs_driver_parts.specs.Connections.{after_closing, after_grow, after_leaving, after_read, after_recv, after_shut, after_shutdown, all_gone_after_read, connected}
 use Rattle.vs_driver_parts.specs.Connections.{entry_closed, entry_grow_answer, entry_read, flow_of, grown_by, is_full, next_flow, paid_connection, shut_in, state_of}
