@@ -10,7 +10,7 @@ use Rattle.vs_ring_port.specs.EndLog.{EndLog}
 use Rattle.vs_ring_shared.specs.Sights.{DeviceSight, Sight, device_contents, device_log}
 use Rattle.vs_driver_parts.specs.State.{DriverState}
 use Rattle.vs_device_parts.specs.{Calls.Situation, Playing.Runs, State.DeviceConnection}
-use Rattle.laws_device.{specs.Carried.Streamed.{IsStreamed, Seen, client_waits, connection_in, look, seen, seen_as}, proofs.Carried.Changing.no_labels}
+use Rattle.laws_device.{specs.Carried.Streamed.{IsStreamed, Ports, Seen, client_waits, connection_in, look, ports_of, seen, seen_as}, proofs.Carried.Changing.no_labels}
 use Rattle.laws_rest.{specs.{Calm.resets_in, Rest.has_no_mark}, proofs.Standing.{AreKept, device_kept}}
 use Rattle.vs_proxy_parts.specs.{State.ProxyState, Turns.{new_proxy, turn_of}, declared.answers.Turn.Turn}
 use Rattle.laws_proxy.proofs.Ordered.{turn_streamed}
@@ -43,7 +43,7 @@ module _ (h : HostContents) (unlabelled : IsUnlabelled h) where
   plain : (id : ℕ) (s : Seen) → look h id ≡ Some s → SeenPlain s
   plain id s is = seen_plain h id (stream_at id h) s is (λ x there. there_plain (id == 0) id x there)
 
-  begins_streamed : (port : ℕ) (t : Table DeviceConnection) → t.entries ≡ [] → IsStreamed h [] port t []
+  begins_streamed : (port : Ports) (t : Table DeviceConnection) → t.entries ≡ [] → IsStreamed h [] port t []
   begins_streamed port t empty =
       no_labels h port t empty unlabelled.0
       (λ id s k is label. let no : ◌≡◌ {A = Option Connection} None (Some k) = sym (plain id s is).0 ∙ label in absurd cc)
@@ -56,9 +56,9 @@ new_begun base a l told silent = record {
   drops = λ on m there all. refl;
   streamed = λ unlabelled on m is few h there.
       let same = same_Some l m (sym told ∙ is) in
-      subst (λ (log : Log). IsStreamed h log ASSIGNED_FIRST (new_proxy FIRST_CID base).device.table [])
+      subst (λ (log : Log). IsStreamed h log (ports_of ASSIGNED_FIRST (new_proxy FIRST_CID base).device) (new_proxy FIRST_CID base).device.table [])
       (sym (ap (λ (x : EndLog). x.entries) (sym same) ∙ silent))
-      (begins_streamed h (unlabelled h there) ASSIGNED_FIRST (new_proxy FIRST_CID base).device.table refl);
+      (begins_streamed h (unlabelled h there) (ports_of ASSIGNED_FIRST (new_proxy FIRST_CID base).device) (new_proxy FIRST_CID base).device.table refl);
   failed = record { grown = omega arith; more = λ some. absurd (omega (arith, some)) };
 }
 

@@ -15,7 +15,7 @@ use Rattle.vs_ring_port.specs.{EndLog.{EndLog, log_reset, log_returned, log_take
 use Rattle.vs_ring_port.specs.declared.queue.Queue.TheVariants.{Tx}
 use Rattle.vs_device_parts.specs.{Calls.{Accept, Allows, Answer, Call, CloseStream, Label, ReadStream, Ring, ShutWrite, Situation, WriteStream}, Connections.after_shut}
 use Rattle.vs_device_parts.specs.{Connections.{after_written, cut_off, new_connection}, Playing.Runs, State.{DeviceConnection, DeviceEntry, DeviceState}, Streams.to_write}
-use Rattle.vs_device_parts.specs.Transmitting.{dial_answered, heard, on_header, on_known, on_next, on_packet, on_unknown, take_tx_of}
+use Rattle.vs_device_parts.specs.Transmitting.{dial_answered, heard, keeps_flow, on_header, on_known, on_next, on_packet, on_unknown, take_tx_of}
 use Rattle.vs_proxy_parts.specs.{State.{Handshake, ProxyState}, Turns.turn_of, declared.answers.Turn.Turn}
 use Rattle.laws_tables.proofs.Changes.{without_changed}
 use Rattle.laws_device.{specs.{Honest.HoldsBytes, Walk.Seen.Seen}, proofs.{Ringing.same_self, Fits.{fewer, fits_after, fits_forwarded, fits_paid, fits_sent, fits_shut}}}
@@ -307,7 +307,7 @@ module _ (hands : List Handshake) where
     )
     known verdict.Peer e s c there is at =
         keeps_if calls (λ t d. Heard chain t d) (is_reset h) _ _ c
-        (λ reset. keeps_leaving calls (D hands) closes (Some chain) e (heard h e.value) s c there refl refl at)
+        (λ reset. keeps_leaving calls (D hands) closes (keeps_flow h e) (Some chain) e (heard h e.value) s c there refl refl at)
         (λ no. (other_holds e s e.value.ok_line verdict.Peer is (λ no. absurd cc) there at.0, at.1))
     known (verdict.Rst (why.Overrun o)) e s c there is at =
         (other_holds e s e.value.ok_line (verdict.Rst (why.Overrun o)) is (λ no. absurd cc) there at.0, at.1)
@@ -374,8 +374,9 @@ byte_read : (h : Handshake) (hands : List Handshake) (port : ℕ) (s : DeviceSta
 byte_read h hands port s (read.Got n) bytes d at = record {
   more = λ is. at;
   ends = (tt, λ a e allowed. (at.0, call_told (CloseStream h.stream) a d e allowed at.1));
-  refused = λ guest fault may is. at;
-  opens = λ guest is may none. (tt, λ a e allowed. (added_holds s.table _ _ (client_holds h.stream) at.0, call_told (Label h.stream _) a d e allowed at.1));
+  refused = λ guest flow fault decided given full. at;
+  opens = λ guest flow decided given none.
+      (tt, λ a e allowed. (added_holds s.table flow _ (client_holds h.stream) at.0, call_told (Label h.stream flow) a d e allowed at.1));
 }
 byte_read h hands port s _ bytes d at = at
 

@@ -312,9 +312,9 @@ byte_read : (h : Handshake) (hands : List Handshake) (port : ℕ) (s : DeviceSta
 byte_read h hands port s (read.Got k) bytes d at = record {
   more = λ is. at;
   ends = λ a e made. goes_on s.table d.host e.host _ _ made.host (λ g. stream_stays h.stream _ g (λ x. (refl, λ none. none))) at;
-  refused = λ guest why may is. at;
-  opens = λ guest is may none a e made. opens_shut s.table e.host
-      (goes_on s.table d.host e.host _ _ made.host (λ g. stream_stays h.stream _ (with_label_call h.stream g) (λ x. (refl, λ none. none))) at) _
+  refused = λ guest flow fault decided given full. at;
+  opens = λ guest flow decided given none a e made. opens_shut s.table e.host
+      (goes_on s.table d.host e.host _ _ made.host (λ g. stream_stays h.stream _ (with_label_call h.stream g) (λ x. (refl, λ none. none))) at) flow
       (new_connection (asked Stream BUF_ALLOC) h.stream true) refl;
 }
 byte_read h hands port s _ bytes d at = at

@@ -1,7 +1,7 @@
 -- A proxy that is steady stays so, and what its ring's end knows of the other one's only grows.
 use Rattle.std.proofs.{Common.{◌≡◌, ℕ, Bool, List, [], Option, Some, None, refl, sym, ap, subst, ◌∙◌, arith}, lemmas.Option.same_Some}
 use Rattle.vs_contents.specs.{CallTree.{Ask, Done}, Contents.Relates}
-use Rattle.vs_limits.specs.declared.TheConstants.{FIRST_CID}
+use Rattle.vs_limits.specs.declared.TheConstants.{ASSIGNED_FIRST, FIRST_CID}
 use Rattle.vs_ring_port.specs.{Contents.{DeviceAnswer, DeviceCall, RingContents}, DeviceCalls.DeviceAllows, EndLog.EndLog, Known.{IsLater, Known}}
 use Rattle.vs_ring_port.{specs.declared.queue.Queue.TheVariants.Rx, proofs.Knowing.device_keeps}
 use Rattle.vs_device_parts.specs.{Calls.{DeviceTree, Situation}, Playing.Runs}
@@ -14,7 +14,7 @@ use Rattle.laws_device.{specs.Honest.ends_of_state, proofs.{Logs.over_runs, Pack
 
 pub new_steady : (base : List ℕ) (a : Situation) (l : EndLog) → a.ring.log ≡ Some l → l.entries ≡ [] → l.held ≡ [] → IsSteady (new_proxy FIRST_CID base) a
 new_steady base a l told silent none = record {
-  order = new_in_order FIRST_CID base a (omega arith) (λ m is.
+  order = new_in_order FIRST_CID base ASSIGNED_FIRST a (omega arith) (omega arith) (λ m is.
       let same = same_Some l m (sym told ∙ is) in
       (ap (λ (x : EndLog). x.entries) (sym same) ∙ silent, ap (λ (x : EndLog). x.held) (sym same) ∙ none));
   no_reset = ap resets_in told ∙ ap (λ (log : Log). resets_in (Some (record l { entries = log }))) silent;

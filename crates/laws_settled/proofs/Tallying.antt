@@ -350,8 +350,8 @@ module _ (cid first : ℕ) where
       let now = host_go c d s.cid s.dropped s.faults false same counts at in record {
         more = λ is. now;
         ends = λ a e made. host_go d e s.cid s.dropped s.faults false made.ring made.faults now;
-        refused = λ guest why may is. now;
-        opens = λ guest is may none a e made. host_go d e s.cid s.dropped s.faults false made.ring made.faults now;
+        refused = λ guest flow fault decided given full. now;
+        opens = λ guest flow decided given none a e made. host_go d e s.cid s.dropped s.faults false made.ring made.faults now;
       }
   byte_read h hands port s read.Again bytes c d same counts at = host_go c d s.cid s.dropped s.faults false same counts at
   byte_read h hands port s read.End bytes c d same counts at = host_go c d s.cid s.dropped s.faults false same counts at
