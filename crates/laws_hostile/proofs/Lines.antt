@@ -1,5 +1,5 @@
 -- Lines of a hostile guest's script, one after the other.
-use Rattle.std.proofs.Common.{◌≡◌, ℕ, ◌<◌, ◌≤◌, ◌^◌, arith, codes, decimal, zero, suc, ◌+◌, ◌-◌, ◌==◌, ◌&&◌, nat_le, Bool, true, false, cond, List, [], ◌∷◌, ◌++◌, length}
+use Rattle.std.proofs.Common.{◌≡◌, ℕ, arith, codes, decimal, zero, suc, ◌+◌, ◌-◌, ◌==◌, ◌&&◌, nat_le, Bool, true, false, cond, List, [], ◌∷◌, ◌++◌, length}
 use Rattle.std.{proofs.Common.{slice_get, Option, Some, None, refl, sym, ap, subst, ◌∙◌}, specs.Option.{option_and_then, option_map_or}}
 use Rattle.vs_flow.specs.declared.flow.Flow.{Flow}
 use Rattle.vs_limits.specs.declared.TheConstants.{GUEST_CID_MIN, GUEST_CID_MAX}
@@ -224,8 +224,7 @@ shown_isolated id st calls given shows = by (account_of calls id) refl shows
         subst (λ (o : Option Flow). IsGivenOwn o st (delivered_to id calls)) (sym in_it.1) in_it.2 in record {
           label = in_it.1 ∙ ap (λ (o : Option Account). option_and_then (λ a. a.label) o) (sym is);
           given = own;
-          read = read_front st.label st (delivered_to id calls)
-              (λ flow client label. let both : None ≡ Some flow = sym in_it.1 ∙ label in absurd cc) own;
+          read = read_front st.label st (delivered_to id calls) own;
           wrote = λ flow label. let both : None ≡ Some flow = sym in_it.1 ∙ label in absurd cc;
         }
     by (Some a) is in_it =

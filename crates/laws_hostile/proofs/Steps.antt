@@ -44,7 +44,7 @@ step_shows Accept around calls P asks shows = accept_shows around.host calls sho
 step_shows (Dial path flow) around calls P asks shows =
     dial_shows around.host calls shows path flow (dial_answer path around.host)
     (dial_is path around.host (dial_answer path around.host) refl)
-step_shows (Label stream flow) around calls P asks shows = label_shows around.host calls shows stream flow tt asks.1 asks.0
+step_shows (Label stream flow) around calls P asks shows = label_shows around.host calls shows stream flow tt asks.0
 step_shows (ReadStream stream n) around calls P asks shows =
     let a = read_answer stream n around.host in
     let is = read_is stream n around.host a refl in

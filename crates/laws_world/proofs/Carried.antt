@@ -9,7 +9,7 @@ use Rattle.vs_flow.specs.{Connection.Connection, Flow.is_assigned, declared.flow
 use Rattle.laws_history.specs.{Again.{IsFairAll, count}, History.{Answerer, Asker, Got, History, Put, Side, gots, peer, puts}, Packets.{has, is_clean_rst, is_request, shuts_send}}
 use Rattle.vs_outside.specs.{Host.{HostContents, Stream, stream_at}, HostBytes.{connection_at, host_read, host_wrote, labelled_with, numbered_in}}
 use Rattle.vs_page.specs.{Fair.{IsPrefixOf, instance_from, number_of, payload_got, payload_of, payload_put}, Log.{Device, Driver, Log, Role, history_of, side_of, whole_of}}
-use Rattle.laws_tables.{specs.{Both.{Both, at}, Later.IsLater, Drains.Drains}, proofs.{Logs.prefix_then, Later.{run_later, stays_shut}, Firsts.none_begun}}
+use Rattle.laws_tables.{specs.{Both.{Both, at}, Later.IsLater, Drains.Drains, Ends.is_among}, proofs.{Logs.prefix_then, Later.{run_later, stays_shut}, Firsts.none_begun}}
 use Rattle.laws_world.{specs.{Pipes.{IsNumbered, IsRightIn, IsSentIn}, Sides.both_of, World.World}, proofs.Sound.{Goes, IsWell}}
 use Rattle.laws_driver.specs.Carried.{Calls.received_by, Senders.sent_to}
 use Rattle.laws_rest.proofs.BothEnds as both
@@ -119,7 +119,8 @@ module _ {fresh : Type 0} (w : World) (well : IsWell fresh w) where
           most = by (is_assigned f.host) ((well.streams new).streams.counted f) l.most;
         }
       where
-        by : (b : Bool) → IsCounted b (count_in w.host f) (number_of Device f device) (has is_clean_rst (puts (history_of Device f device)))
+        by : (b : Bool) → IsCounted b (count_in w.host f) (number_of Device f device) (is_among f w.proxy.device.clean)
+            (has is_clean_rst (puts (history_of Device f device)))
             → (connection_in w.host id f).number ≤ count_in w.host f
             → (connection_in w.host id f).number ≤ number_of Device f device + cond b 1 0
         by true counted most = let one = counted.0 in omega (arith, one, most)

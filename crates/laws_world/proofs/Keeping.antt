@@ -9,7 +9,7 @@ use Rattle.laws_history.specs.declared.packet.Packet.{Packet}
 use Rattle.vs_page.specs.{Log.{Driver, flow_to_guest}, Open.is_dropped}
 use Rattle.vs_driver_parts.specs.{State.{DriverConnection, DriverEntry, DriverState, GoneConnection, Listener, entry_known_as, gone_known_as, is_known_as}, Connections.after_close}
 use Rattle.vs_driver_parts.specs.Connections.{after_closing, after_grow, after_leaving, after_read, after_recv, after_shut, after_shutdown, entry_grow_answer, grown_by}
-use Rattle.vs_driver_parts.specs.Connections.{after_unlisten, all_closed, all_gone_after_read, entry_closed, entry_read, gone_as, gone_closed, is_let_go, next_flow}
+use Rattle.vs_driver_parts.specs.Connections.{after_unlisten, all_closed, all_gone_after_read, entry_closed, entry_read, gone_as, gone_closed, is_let_go, keeping, next_flow}
 use Rattle.vs_driver_parts.specs.Connections.{paid_connection, shut_in, waiting_on, waits_no_more, with_connection, with_end, with_opened, with_request, without_gone}
 use Rattle.vs_driver_parts.specs.{Connections.without_listener, declared.answers.{Grown.Grown, ListenError.ListenError}, Receiving.{after_packet, after_verdict, all_left}}
 use Rattle.vs_driver_parts.specs.{Receiving.{ends_connection, is_request, may_open, on_heard, on_known, on_packet, on_unknown, reset_reply, with_reply}, Listening.listen_of}
@@ -17,6 +17,7 @@ use Rattle.vs_driver_parts.{specs.{Listening.{listener_on, listening, next_accep
 use Rattle.vs_driver_parts.proofs.{Packets.{first_under, others_left}, SameIds.packet_id}
 use Rattle.vs_replies.specs.Owed.{reply_to}
 use Rattle.vs_wrap.specs.Wrap.{counted}
+use Rattle.laws_tables.specs.Steps.{is_kept}
 use Rattle.laws_driver.{specs.{Honest.IsFitState, Carried.Calls.{Accept, Close, Connect, Grow, GuestCall, Listen, LookAt, Recv, Send, Shutdown, Unlisten}}, proofs.Carrying.Carries}
 use Rattle.laws_driver.proofs.{Carrying.Fact, Changing.close_changes, Carried.Making.CarriesCall}
 use Rattle.laws_world.proofs.Listeners.{AllIds}
@@ -112,8 +113,9 @@ module _ {May : ℕ → Type 0} (P : Sight) (kept : IsKept May P) where
             let others = packet_same v p e.value in
             record { id_is = packet_id v p e.value; closed_is = others.0; answered = λ is. others.1 ∙ is }
 
-        by : (b : Bool)
-            → Sees P (cond b (after_leaving (record e { value = after_packet v p e.value }) s) (with_connection e.slot (after_packet v p e.value) s))
+        by : (b : Bool) → Sees P (cond b
+            (keeping (is_kept Driver e.flow e.value.end p) e.flow (after_leaving (record e { value = after_packet v p e.value }) s))
+            (with_connection e.slot (after_packet v p e.value) s))
         by true = leave_kept s e (after_packet v p e.value) under same holds
         by false = kept.changes s e (after_packet v p e.value) under same holds
 

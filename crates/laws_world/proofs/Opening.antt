@@ -7,8 +7,8 @@ use Rattle.vs_outside.specs.Host.{HostContents}
 use Rattle.vs_flow.specs.Connection.{Connection}
 use Rattle.vs_page.specs.Log.{Log}
 use Rattle.laws_tables.{proofs.{Voices.{AreVoiced, voices_start}, Both.start_sound}, specs.Both.Both}
-use Rattle.laws_world.{specs.{Pipes.IsFresh, Events.{happens, run}, Sides.{both_of, driver_ends, log_with_staged}, World.{Beginning, World, opening, first_cid}}, proofs.DriverWalks.Ties}
-use Rattle.laws_world.proofs.{DriverWalks.walk, Runs.and_then, Sound.{Goes, IsWell, goes_still, happens_goes}, Listeners.{AllWait, IsOfPort}, Names.named_then}
+use Rattle.laws_world.{specs.{Pipes.IsFresh, Events.{happens, run}, Sides.{both_of, driver_ends, log_with_staged}, World.{Beginning, World, opening, first_cid}}}
+use Rattle.laws_world.proofs.{DriverWalks.{Ties, walk}, Runs.and_then, Sound.{Goes, IsWell, goes_still, happens_goes}, Listeners.{AllWait, IsOfPort}, Names.named_then}
 use Rattle.vs_ring_port.specs.{DriverCalls.{driver_answer, Stage, Publish}, declared.queue.Queue.TheVariants.{Rx, Event}, EndLog.{EndLog, all_put, entries_marked}, Lists.Rings}
 use Rattle.vs_ring_list.specs.Ends.{Ends, empty_ends}
 use Rattle.vs_driver_parts.specs.{Conversations.{DriverTree, load_cid, new_of, new_state, post_events, post_one, posts, publish_of}, State.DriverState}
@@ -37,8 +37,8 @@ module _ {X : Type 0} (P : X × (Rings × EndLog) → Type 0) (b : Beginning) (k
     where
       by : (full : Bool) → ((m : ℕ) (lists : Rings) (log : EndLog) → IsQuiet lists log
           → P (played driver_answer (bind (while_up_to times (post_one Rx) (made b 0 m)) k) (lists, log)))
-          → P (played driver_answer (bind (bind {A = DriverState × Bool} (bind (Ask (Stage Rx []) (λ _. cond full (Ask (Publish Rx) (λ _. Done (record (made b 0 m) { staged = 0 })))
-          (Done (record (made b 0 m) { staged = m + 1 })))) (λ t. Done (t, true)))
+          → P (played driver_answer (bind (bind {A = DriverState × Bool} (bind (Ask (Stage Rx []) (λ _. cond full
+          (Ask (Publish Rx) (λ _. Done (record (made b 0 m) { staged = 0 }))) (Done (record (made b 0 m) { staged = m + 1 })))) (λ t. Done (t, true)))
           (λ r. elim r.1 as (λ _. DriverTree DriverState) [ true ↦ while_up_to times (post_one Rx) r.0 | false ↦ Done r.0 ])) k) (lists, log))
       by true rest = rest 0 _ _ (record { entries = quiet.entries; staged = quiet.staged; cid = quiet.cid })
       by false rest = rest (m + 1) _ _ (record { entries = quiet.entries; staged = quiet.staged; cid = quiet.cid })
@@ -50,8 +50,8 @@ module _ {X : Type 0} (P : X × (Rings × EndLog) → Type 0) (b : Beginning) (k
     where
       by : (full : Bool) → ((m : ℕ) (lists : Rings) (log : EndLog) → IsQuiet lists log
           → P (played driver_answer (bind (while_up_to times (post_one Event) (made b 0 m)) k) (lists, log)))
-          → P (played driver_answer (bind (bind {A = DriverState × Bool} (bind (Ask (Stage Event []) (λ _. cond full (Ask (Publish Event) (λ _. Done (record (made b 0 m) { staged = 0 })))
-          (Done (record (made b 0 m) { staged = m + 1 })))) (λ t. Done (t, true)))
+          → P (played driver_answer (bind (bind {A = DriverState × Bool} (bind (Ask (Stage Event []) (λ _. cond full
+          (Ask (Publish Event) (λ _. Done (record (made b 0 m) { staged = 0 }))) (Done (record (made b 0 m) { staged = m + 1 })))) (λ t. Done (t, true)))
           (λ r. elim r.1 as (λ _. DriverTree DriverState) [ true ↦ while_up_to times (post_one Event) r.0 | false ↦ Done r.0 ])) k) (lists, log))
       by true rest = rest 0 _ _ (record { entries = quiet.entries; staged = quiet.staged; cid = quiet.cid })
       by false rest = rest (m + 1) _ _ (record { entries = quiet.entries; staged = quiet.staged; cid = quiet.cid })
@@ -75,8 +75,9 @@ marked_none : (cid : ℕ) (log : Log) → log ≡ [] → entries_marked cid log 
 marked_none cid log is = ap (entries_marked cid) is
 
 new_made : (b : Beginning) → MadeBy b (played driver_answer (new_of b.pages b.first 1) ((empty_ends b.pages).lists, (empty_ends b.pages).driver))
-new_made b = twice (MadeBy b) (posts Rx (made b 0 0)) (publish_of Rx) post_events _ (posts_rx (MadeBy b) b (λ s. bind (publish_of Rx s) post_events) after_rx b.pages 0 (empty_ends b.pages).lists (empty_ends b.pages).driver
-    (record { entries = refl; staged = refl; cid = refl }))
+new_made b = twice (MadeBy b) (posts Rx (made b 0 0)) (publish_of Rx) post_events _
+    (posts_rx (MadeBy b) b (λ s. bind (publish_of Rx s) post_events) after_rx b.pages 0 (empty_ends b.pages).lists
+    (empty_ends b.pages).driver (record { entries = refl; staged = refl; cid = refl }))
   where
     loaded : (m : ℕ) (lists : Rings) (log : EndLog) → IsQuiet lists log
         → MadeBy b (played driver_answer (bind (publish_of Event (made b 0 m)) load_cid) (lists, log))
@@ -88,7 +89,8 @@ new_made b = twice (MadeBy b) (posts Rx (made b 0 0)) (publish_of Rx) post_event
 
     after_rx : (m : ℕ) (lists : Rings) (log : EndLog) → IsQuiet lists log
         → MadeBy b (played driver_answer (bind (publish_of Rx (made b 0 m)) post_events) (lists, log))
-    after_rx m lists log quiet = twice (MadeBy b) (posts Event (made b 0 0)) (publish_of Event) load_cid _ (posts_event (MadeBy b) b (λ s. bind (publish_of Event s) load_cid) loaded b.pages 0 _ _
+    after_rx m lists log quiet = twice (MadeBy b) (posts Event (made b 0 0)) (publish_of Event) load_cid _
+        (posts_event (MadeBy b) b (λ s. bind (publish_of Event s) load_cid) loaded b.pages 0 _ _
         (record { entries = quiet.entries; staged = quiet.staged; cid = quiet.cid }))
 
 module _ (b : Beginning) (host : HostContents) where
@@ -142,6 +144,7 @@ module _ (b : Beginning) (host : HostContents) where
         };
         entries = λ i d within. absurd (omega (arith, within));
         owed = λ i d within. absurd (omega (arith, within));
+        clean_fit = λ i d within. absurd (omega (arith, within));
       };
       port = omega arith;
     };
@@ -156,7 +159,7 @@ module _ (b : Beginning) (host : HostContents) where
     overrun = refl;
     counted = record { cid_is = refl; dropped_is = refl; unfailed = refl };
     cids = subst (AreVoiced first_cid) opening_is (voices_start first_cid b.first ASSIGNED_FIRST);
-    streams = λ fresh. no_streams host (opening b host).proxy.next_port (opening b host).proxy.device.table refl fresh.streams fresh.labelled;
+    streams = λ fresh. no_streams host (record { next = ASSIGNED_FIRST; clean = [] }) (opening b host).proxy.device.table refl fresh.streams fresh.labelled;
     opened = (no_account 1).opened;
     right = subst (λ (log : Log). IsRightJournal 1 (no_account 1).opened [] log (slots_of (opening b host).driver)) (sym log_empty)
         (subst (λ (s : DriverState). IsRightJournal 1 (no_account 1).opened [] [] (slots_of s)) (sym new.state) (none_righted b.pages b.first 1));

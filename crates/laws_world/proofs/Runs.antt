@@ -51,8 +51,8 @@ got_before role other step w got = record { packets = got.packets; events = got.
 pub device_runs : (driver : Seat) (step : Step) (w : Seat) → DeviceMayDo step w → HasGotAll (after Device step w).log driver.log
     → Runs (record { driver = driver; device = w }) (record { driver = driver; device = after Device step w })
 device_runs driver (Takes p answer) w may got = one_step Device (Takes p answer) _ _ got.packets refl
-device_runs driver (Opens f kind) w may got = one_step Device (Opens f kind) _ _ may.0 refl
-device_runs driver (Asks f kind) w may got = one_step Device (Asks f kind) _ _ (refl, may.0) refl
+device_runs driver (Opens f kind) w may got = one_step Device (Opens f kind) _ _ may refl
+device_runs driver (Asks f kind) w may got = one_step Device (Asks f kind) _ _ (refl, may) refl
 device_runs driver (TakesEvent id) w may got = let no = may.0 in absurd cc
 device_runs driver step w may got = one_step Device step _ _ may refl
 
@@ -65,7 +65,7 @@ module _ (device : Seat) where
       → Runs (beside_device w) (beside_device (after Driver step w))
   one_runs (Takes p answer) w may got = one_step Driver (Takes p answer) _ _ got.packets refl
   one_runs (TakesEvent id) w may got = one_step Driver (TakesEvent id) _ _ (refl, got.events) refl
-  one_runs (Opens f kind) w may got = one_step Driver (Opens f kind) _ _ may.0 refl
+  one_runs (Opens f kind) w may got = one_step Driver (Opens f kind) _ _ may refl
   one_runs (Asks f kind) w may got = let no = may.0 in absurd cc
   one_runs step w may got = one_step Driver step _ _ may refl
 

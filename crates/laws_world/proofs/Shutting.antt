@@ -1,7 +1,7 @@
 -- Where an end decided to send no more on a connection, what was put there stays, over all steps of both ends, also where its flow is used
 -- again.
 use Rattle.std.proofs.Common.{◌≡◌, ℕ, ◌+◌, ◌≤◌, ◌==◌, ◌&&◌, ◌||◌, not, Bool, true, false, cond, List, [], ◌∷◌, ◌++◌, length, Some, refl, sym, ap, subst, ◌∙◌, append-nil, arith}
-use Rattle.std.proofs.lemmas.{Bool.{Decides.nat_tests, and_parts}, Grind.common_steps}
+use Rattle.std.{proofs.lemmas.{Bool.{Decides.nat_tests, and_parts}, Grind.common_steps}, specs.List.list_any}
 use Rattle.vs_conn.{specs.{End.{CanSend, ConnectionEnd, answering, asked, end_after, is_of, owes_of, paid_of, with_payload_sent}, declared.end.Owed.Owed}, proofs.Frames.got_own}
 use Rattle.vs_conn.proofs.Frames.{paid_own}
 use Rattle.vs_flow.specs.{Connection.Connection, Flow.same_flow, declared.flow.Flow.Flow}
@@ -9,12 +9,12 @@ use Rattle.vs_limits.specs.declared.TheConstants.{BUF_ALLOC}
 use Rattle.laws_history.specs.{Again.count, History.{Answerer, Asker, Got, History, Put, Side, gots, puts}, Packets.{is_request, is_rst}, declared.packet.Packet.Packet}
 use Rattle.vs_page.specs.{Fair.{IsFairLog, asked_by, current, number_of, payload_put}, Log.{Device, Driver, Log, Role, flow_got, flow_put, side_of, whole_of}, Open.is_dropped}
 use Rattle.vs_page.{specs.declared.log.LogEntry.{LogEntry, TheVariants.{GotPacket, PutPacket}}, proofs.Flows.same_is}
-use Rattle.laws_tables.specs.{Asked.has_one, Both.{Asks, Both, Decides, Decision, Happening, IsSound, MakesReset, MayHappen, MayRun, Opens, Pays, Replies, Seat, Sends}}
-use Rattle.laws_tables.specs.{Both.{Shuts, Step, Takes, TakesReset, after, after_packet, answered, at, decided, happens, log_after, part_after, run}, Drains.is_same}
-use Rattle.laws_tables.specs.{Drains.only_on, Ends.{answer_kind, ends_of, is_new, replaced}, Later.may_send_more, Matches.MatchesFlows, Steps.{HasEnd, is_kept, left, owed_on}}
-use Rattle.laws_tables.{specs.Steps.{payload_on, reply_on, request_on, with_clean, with_end}, proofs.{Adding.{put_adds, put_nothing, put_over_got}, Both.step_keeps}}
-use Rattle.laws_tables.proofs.{Fair.got_in_order, Entries.replaced_other, Later.step_adds, News.{MakesNone, changes, comes, leaves}, Steps.{can_old, order_old, owed_flow}}
-use Rattle.laws_tables.proofs.{Steps.{payload_flow, pays_new, request_flow}, Tables.{end_new, only_end}}
+use Rattle.laws_tables.specs.Both.{Asks, Both, Decides, Decision, Happening, IsSound, MakesReset, MayHappen, MayRun, Opens, Pays, Replies, Seat, Sends, Shuts, Step, Takes}
+use Rattle.laws_tables.specs.{Both.{TakesReset, after, after_packet, answered, at, decided, happens, log_after, part_after, run}, Drains.{is_same, only_on}, Ends.answer_kind}
+use Rattle.laws_tables.specs.{Ends.{ends_of, is_new, replaced}, Later.may_send_more, Matches.MatchesFlows, Steps.{HasEnd, is_kept, left, owed_on, payload_on, reply_on, request_on}}
+use Rattle.laws_tables.{specs.Steps.{with_clean, with_end}, proofs.{Adding.{put_adds, put_nothing, put_over_got}, Both.step_keeps, Fair.got_in_order, Entries.replaced_other}}
+use Rattle.laws_tables.proofs.{Later.step_adds, News.{MakesNone, changes, comes, leaves}, Steps.{can_old, order_old, owed_flow, payload_flow, pays_new, request_flow}}
+use Rattle.laws_tables.proofs.Tables.{end_new, only_end}
 use Rattle.vs_conn.specs.declared.end.Owed.TheVariants as owed
 
 -- An end whose REQUEST was put or got, and that may send more.
@@ -24,7 +24,7 @@ may_put e = not (is_new e) && may_send_more e
 -- A connection on which nothing is put any more: a newer one of its flow began, or its end is none that may.
 pub record IsPast (role : Role) (c : Connection) (w : Seat) : Type 0 where
   pub past : c.number ≤ number_of role c.flow w.log
-  pub shut : c.number ≡ number_of role c.flow w.log → has_one may_put (ends_of c.flow w.part.entries) ≡ false
+  pub shut : c.number ≡ number_of role c.flow w.log → list_any may_put (ends_of c.flow w.part.entries) ≡ false
 
 second_none : (a b : Bool) → b ≡ false → (a && b) ≡ false
 second_none true b none = none
@@ -35,7 +35,7 @@ pub is_past : (role : Role) (c : Connection) (w : Seat) (e : ConnectionEnd) → 
     → e.own.send ≡ true → IsPast role c w
 is_past role c w e past has shut = record {
   past = past;
-  shut = λ same. ap (has_one may_put) has ∙ ap (λ (b : Bool). b || false) (second_none (not (is_new e)) (may_send_more e) (ap not shut));
+  shut = λ same. ap (list_any may_put) has ∙ ap (λ (b : Bool). b || false) (second_none (not (is_new e)) (may_send_more e) (ap not shut));
 }
 
 -- An end that began keeps what it decided.
@@ -47,7 +47,7 @@ decided_shut : (e : ConnectionEnd) (what : Decision) → may_send_more e ≡ fal
 decided_shut e (Shuts bits) shut = grind (arith, common_steps, shut)
 decided_shut e y shut = shut
 
-cannot : (e : ConnectionEnd) (n : ℕ) → has_one may_put (e ∷ []) ≡ false → CanSend e n → ⊥
+cannot : (e : ConnectionEnd) (n : ℕ) → list_any may_put (e ∷ []) ≡ false → CanSend e n → ⊥
 cannot = grind (arith, common_steps)
 
 -- How many connections of a flow began: no fewer by an entry more, and one more by a REQUEST.
@@ -107,7 +107,7 @@ module _ (role : Role) (first : ℕ) (b : Both) (s : IsSound first b) where
     module _ (g : Flow) (e : ConnectionEnd) (what : Owed) (has : HasEnd g e w.part) (owes : owes_of e ≡ Some what)
         (same : number_of role f (PutPacket (owed_on role w.part.cid g e what) ∷ w.log) ≡ number_of role f w.log) where
       on_other : (b : Bool) → same_flow f g ≡ b → is_new e ≡ true → MakesNone may_put f w.part.entries (replaced g (paid_of e what) w.part.entries)
-      on_other false other new = λ is. sym (ap (has_one may_put) (replaced_other g f (paid_of e what) w.part.entries other)) ∙ is
+      on_other false other new = λ is. sym (ap (list_any may_put) (replaced_other g f (paid_of e what) w.part.entries other)) ∙ is
       on_other true is new =
           let asking = (end_new role first w.part w.log g e m has new).asking in
           let request = pays_new (side_of role g) e what asking owes in
@@ -181,7 +181,7 @@ module _ (role : Role) (first : ℕ) (b : Both) (s : IsSound first b) where
         let flow : c.flow ≡ g = same_is c.flow g parts.0 in
         let test = parts.1 in
         let number : c.number ≡ number_of role g w.log = grind (arith, nat_tests, test) in
-        absurd (cannot e (length payload) (sym (ap (has_one may_put) (ap (λ (h : Flow). ends_of h w.part.entries) flow ∙ has))
+        absurd (cannot e (length payload) (sym (ap (list_any may_put) (ap (λ (h : Flow). ends_of h w.part.entries) flow ∙ has))
         ∙ x.shut (number ∙ ap (λ (h : Flow). number_of role h w.log) (sym flow))) can)
 
     puts_none : (step : Step) → MayHappen role step b → IsFairLog role (after role step w).log → payload_put role c (after role step w).log ≡ payload_put role c w.log
@@ -202,13 +202,13 @@ module _ (role : Role) (first : ℕ) (b : Both) (s : IsSound first b) where
     step_past step may fair = (
       record {
         past = (let less = x.past in let more = step_more role c.flow step w in omega (arith, less, more));
-        shut = λ same. by same (has_one may_put (ends_of c.flow (after role step w).part.entries)) refl;
+        shut = λ same. by same (list_any may_put (ends_of c.flow (after role step w).part.entries)) refl;
       },
       puts_none step may fair,
     )
       where
         by : c.number ≡ number_of role c.flow (after role step w).log → (b : Bool)
-            → has_one may_put (ends_of c.flow (after role step w).part.entries) ≡ b → b ≡ false
+            → list_any may_put (ends_of c.flow (after role step w).part.entries) ≡ b → b ≡ false
         by same false is = refl
         by same true is =
             let less = x.past in

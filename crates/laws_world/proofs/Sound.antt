@@ -26,7 +26,7 @@ use Rattle.laws_driver.{specs.{Honest.{IsFitState, ends_of_state, slots_of}, Res
 use Rattle.laws_driver.proofs.{Carried.Sending.puts_as, Carrying.{Carries, Fact, Holds, IsTiedBy, RestsWith}, Stepping.{Works, owed_with, publish_with, reply_with, takes_with}}
 use Rattle.laws_driver.proofs.{Keeping.{Keeps, keeps_end, keeps_weaker}, Staging.{Rests, rests_tied, Ties as DriverTies}, Going.stays as seat_stays}
 use Rattle.vs_flow.specs.{Connection.Connection, Table.Table}
-use Rattle.laws_device.{specs.{Carried.Streamed.IsStreamed, Honest.{is_held, IsFitState as IsFitDevice}, Dropped.IsCounted}, proofs.Carried.Changing.StreamedIf}
+use Rattle.laws_device.{specs.{Carried.Streamed.{IsStreamed, Ports, ports_of}, Honest.{is_held, IsFitState as IsFitDevice}, Dropped.IsCounted}, proofs.Carried.Changing.StreamedIf}
 use Rattle.laws_device.proofs.{Carried.{HostCalls.{client_host, same_host}, Hosts.{counts_still, unseen}}, Carrying.{IsToldBy, StreamedOver, With}, Chains.Among, Seats.Carried}
 use Rattle.laws_device.proofs.{Seats.PutsFit, Keeping.{keeps_then, Keeps as DeviceKeeps, keeps_weaker as device_weaker}, Turning.tick_slot_keeps, Dropping.{P, alone, calls}}
 use Rattle.laws_device.proofs.{Dropping.{keeps_both, moving, publishes, tx_calls}, Walk.Fields.fields}
@@ -41,7 +41,7 @@ use Rattle.vs_header.specs.declared.Kind.TheVariants as kind
 use Rattle.vs_outside.specs.declared.mem_stream.HostWritten.TheVariants as written
 
 -- The host's program writes.
-host_written : (id : ℕ) (bytes : List ℕ) (answer : HostWritten) (c : HostContents) (log : Log) (port : ℕ) (t : Table DeviceConnection) (hands : List Handshake)
+host_written : (id : ℕ) (bytes : List ℕ) (answer : HostWritten) (c : HostContents) (log : Log) (port : Ports) (t : Table DeviceConnection) (hands : List Handshake)
     → IsStreamed c log port t hands → IsStreamed (after_host_write id bytes answer c) log port t hands
 host_written id bytes written.Ok c log port t hands x = same_host c (with_stream id (with_bytes bytes) c) log port t hands
     (unseen id (with_bytes bytes) c (λ st. refl) (λ o st. refl)) refl (counts_still id (with_bytes bytes) c (λ st. refl)) x
@@ -78,7 +78,7 @@ pub record IsWell (fresh : Type 0) (w : World) : Type 0 where
   pub counted : IsCounted first_cid w.proxy.device.cid w.proxy.device.dropped w.proxy.device.failed w.rings.device.entries
   pub cids : AreVoiced first_cid (both_of w)
   -- Of a host that had no streams at first.
-  pub streams : StreamedIf fresh w.host w.rings.device.entries w.proxy.next_port w.proxy.device.table w.proxy.handshakes
+  pub streams : StreamedIf fresh w.host w.rings.device.entries (ports_of w.proxy.next_port w.proxy.device) w.proxy.device.table w.proxy.handshakes
 
 -- From such a world to another: ids keep their connections.
 pub record Goes {fresh : Type 0} {w : World} (was : IsWell fresh w) (v : World) : Type 0 where
@@ -267,7 +267,8 @@ module _ (fresh : Type 0) (w : World) (well : IsWell fresh w) where
     well.device.port,
     (
       well.chain.0,
-      λ l is. subst (IsToldBy carry (StreamedOver carry w.proxy.handshakes first_cid w.proxy.next_port w.proxy.device.table) first_cid w.proxy.next_port w.proxy.device true (Some w.host))
+      λ l is. subst (IsToldBy carry (StreamedOver carry w.proxy.handshakes first_cid w.proxy.next_port w.proxy.device)
+          first_cid w.proxy.next_port w.proxy.device true (Some w.host))
           (one_told is) (
             well.chain.1,
             λ honest. (
@@ -278,7 +279,8 @@ module _ (fresh : Type 0) (w : World) (well : IsWell fresh w) where
                 fair = well.sound.fair Device;
                 seated = (well.device_puts, λ got. stays _ _ refl);
               },
-              λ ok plain h there. subst (λ (c : HostContents). IsStreamed c w.rings.device.entries w.proxy.next_port w.proxy.device.table w.proxy.handshakes)
+              λ ok plain h there. subst (λ (c : HostContents). IsStreamed c w.rings.device.entries (ports_of w.proxy.next_port w.proxy.device)
+                  w.proxy.device.table w.proxy.handshakes)
                   (one_told there) (well.streams ok),
             ),
           ),
@@ -391,7 +393,7 @@ module _ (fresh : Type 0) (w : World) (well : IsWell fresh w) where
 
   -- The moment and the host change.
   outside_goes : (now : ℕ) (host : HostContents)
-      → StreamedIf fresh host w.rings.device.entries w.proxy.next_port w.proxy.device.table w.proxy.handshakes
+      → StreamedIf fresh host w.rings.device.entries (ports_of w.proxy.next_port w.proxy.device) w.proxy.device.table w.proxy.handshakes
       → Goes well (at_moment now (record w { host = host }))
   outside_goes now host streams = record {
     well = record {
@@ -421,7 +423,7 @@ module _ (fresh : Type 0) (w : World) (well : IsWell fresh w) where
   }
 
   host_goes : (host : HostContents)
-      → StreamedIf fresh host w.rings.device.entries w.proxy.next_port w.proxy.device.table w.proxy.handshakes → Goes well (record w { host = host })
+      → StreamedIf fresh host w.rings.device.entries (ports_of w.proxy.next_port w.proxy.device) w.proxy.device.table w.proxy.handshakes → Goes well (record w { host = host })
   host_goes host streams = outside_goes w.proxy.device.now host streams
 
   guest_cid_fits : (cid : ℕ) → is_guest_cid cid ≡ true → cid < 2 ^ 64

@@ -12,9 +12,9 @@ use Rattle.vs_ring_port.specs.{Chains.bytes_in, Contents.{Given, PublishCid, Rea
 use Rattle.vs_ring_port.specs.declared.failure.Failure.{Failure}
 use Rattle.vs_uds.specs.Path.{path_of}
 use Rattle.vs_wrap.specs.Wrap.{counted}
-use Rattle.vs_device_parts.specs.{Transmitting.{dial_answered, failing, heard, on_known, on_next, on_packet, on_unknown, refused, try_request, unknown_why}, Steps.chain_came}
-use Rattle.vs_device_parts.specs.{Steps.{puts_event, returns, takes_chain}, Calls.{Answer, Call, CloseStream, DeviceTree, Dial, Ring}, Connections.{after_leaving, stream_closed}}
-use Rattle.vs_device_parts.specs.{Connections.{with_connection, with_reply}, Receiving.pay_event_of, State.{DeviceEntry, DeviceState}, Streams.leaving}
+use Rattle.vs_device_parts.specs.{Transmitting.{dial_answered, failing, heard, keeps_flow, on_known, on_next, on_packet, on_unknown, refused, try_request, unknown_why}}
+use Rattle.vs_device_parts.specs.{Steps.{chain_came, puts_event, returns, takes_chain}, Calls.{Answer, Call, CloseStream, DeviceTree, Dial, Ring}, Connections.stream_closed}
+use Rattle.vs_device_parts.specs.{Connections.{after_leaving, keeping, with_connection, with_reply}, Receiving.pay_event_of, State.{DeviceEntry, DeviceState}, Streams.leaving}
 use Rattle.vs_device_parts.specs.declared.answers.Taken.{Taken}
 use Rattle.vs_limits.specs.declared.TheConstants.{DEVICE_REPLIES}
 use Rattle.vs_proxy_parts.specs.{Turns.{device_after, event_stage, take_one, take_stage, took_packet}, State.{Turning, with_device}}
@@ -64,7 +64,7 @@ abbrev Fine : DeviceTree (DeviceState × Verdict) → Type 0
 Fine tree = OffRing (λ (r : DeviceState × Verdict). r.0.failed ≡ None) tree
 
 module _ (chain : Chain) (h : Header) (s : DeviceState) (fine : s.failed ≡ None) where
-  peer_off : (e : DeviceEntry) (b : Bool) → Fine (bind (cond b (leaving (record e { value = heard h e.value }) s) (Done
+  peer_off : (e : DeviceEntry) (b : Bool) → Fine (bind (cond b (leaving (keeps_flow h e) (record e { value = heard h e.value }) s) (Done
       (with_connection e.slot (heard h e.value) s)))
       (λ t. Done (t, verdict.Peer)))
   peer_off e false = fine
@@ -72,7 +72,7 @@ module _ (chain : Chain) (h : Header) (s : DeviceState) (fine : s.failed ≡ Non
     where
       by : (b : Bool) → Fine (bind (bind (cond b (Done (with_connection e.slot (stream_closed (heard h e.value)) s))
           (Ask (CloseStream e.value.stream) (λ _. Done (with_connection e.slot (stream_closed (heard h e.value)) s))))
-          (λ t. Done (after_leaving e.slot t))) (λ t. Done (t, verdict.Peer)))
+          (λ t. Done (keeping (keeps_flow h e) e.flow (after_leaving e.slot t)))) (λ t. Done (t, verdict.Peer)))
       by true = fine
       by false = (tt, λ _. fine)
 

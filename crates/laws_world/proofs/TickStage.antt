@@ -1,14 +1,14 @@
 -- Timeouts, and the handshakes of a turn, are lists of events.
 use Rattle.std.proofs.Common.{◌≡◌, ℕ, ◌+◌, nat_lt, Bool, true, false, cond, List, ◌++◌, length, Option, Some, None, Result, Ok, Err, refl, ap, ◌∙◌}
 use Rattle.vs_contents.specs.CallTree.{Done, Ask, bind, for_each, played, while_up_to}
-use Rattle.vs_flow.specs.{Flow.host_flow, Table.{entry_under, refusal, slots}, declared.table.TableFault.TableFault}
+use Rattle.vs_flow.specs.{Table.{entry_under, refusal, slots}, declared.{flow.Flow.Flow, table.TableFault.TableFault}}
 use Rattle.vs_outside.specs.{Host.{accept_answer, read_answer}, declared.host_net.{Accepted.Accepted, StreamRead.StreamRead}}
 use Rattle.vs_uds.specs.{ConnectLine.connect_step, declared.{connect.TheConstants.CONNECT_MAX, scan.Step.Step}}
 use Rattle.vs_device_parts.specs.{State.{DeviceEntry, DeviceState}, Streams.{closing, tick_of, tick_slot}, Connections.{cut_off, is_late, is_timed_out, with_client}}
 use Rattle.vs_device_parts.specs.{Connections.with_connection, Calls.{Accept, CloseStream, DeviceTree, Label, ReadStream}}
-use Rattle.vs_proxy_parts.specs.Handshakes.{accept_answered, accept_one, byte_read, dropping, handshake_on, line_decided, may_open, opening, read_byte, read_line, shake_hands}
-use Rattle.vs_proxy_parts.specs.{Handshakes.{streams_of, tick_handshake, tick_handshakes, with_line, without_handshake}, Turns.{device_after, tick_stage}, State.Handshake}
-use Rattle.vs_proxy_parts.specs.State.{ProxyState, Turning, start, with_device}
+use Rattle.vs_proxy_parts.specs.Handshakes.{accept_answered, accept_one, byte_read, dropping, handshake_on, line_decided, next_after, next_flow, opening, read_byte, read_line}
+use Rattle.vs_proxy_parts.specs.{Handshakes.{shake_hands, streams_of, tick_handshake, tick_handshakes, with_line, without_handshake}, Turns.{device_after, tick_stage}}
+use Rattle.vs_proxy_parts.specs.State.{Handshake, ProxyState, Turning, start, with_device}
 use Rattle.vs_limits.specs.declared.TheConstants.{HANDSHAKES}
 use Rattle.laws_world.specs.{Answers.{Around, answer_around, bytes_with}, Steps.Leads, World.{World, around}, Events.{HandshakeTimesOut, Moment, ProxyAccepts, ProxyReads}}
 use Rattle.laws_world.{specs.Events.{TimesOut, at_moment, line_read}, proofs.DeviceLeads.{Does, EndsFine, device_event, does_then, fine_played, plays, proxy_event, with_proxy}}
@@ -144,19 +144,19 @@ module _ (w : World) (t : Turning) (fine : w.proxy.device.failed ≡ None) where
     abbrev with_read : Turning → Turning
     with_read u = record u { state = record u.state { handshakes = hs }; read = u.read + n }
 
-    opens_alike : (port : ℕ) → ByteAlike a (λ u. bind (opening stream port (with_read u)) (λ v. Done (v, false)))
-    opens_alike port = by (refusal w.proxy.device.table (host_flow port w.proxy.next_port))
+    opens_alike : (flow : Flow) → ByteAlike a (λ u. bind (opening stream flow (with_read u)) (λ v. Done (v, false)))
+    opens_alike flow = by (refusal w.proxy.device.table flow)
       where
         by : (o : Option TableFault) → ByteAlike a (λ u. bind (bind (elim o as (λ _. DeviceTree (DeviceState × Result ℕ TableFault)) [
           | Some fault ↦ Done (w.proxy.device, Err fault)
-          | None ↦ Ask (Label stream (host_flow port w.proxy.next_port))
+          | None ↦ Ask (Label stream flow)
               (λ _. Done (
-                with_client (host_flow port w.proxy.next_port) stream w.proxy.device,
+                with_client flow stream w.proxy.device,
                 Ok
                     w.proxy.device.table.given,
               ))
         ]) (λ r. Done (record (with_read u) {
-          state = record (with_device r.0 (without_handshake stream (with_read u).state)) { next_port = w.proxy.next_port + 1 };
+          state = record (with_device r.0 (without_handshake stream (with_read u).state)) { next_port = next_after w.proxy.next_port };
         }))) (λ v. Done (v, false)))
         by (Some fault) = record { same = refl; fine = fine }
         by None = record { same = refl; fine = fine }
@@ -164,12 +164,14 @@ module _ (w : World) (t : Turning) (fine : w.proxy.device.failed ≡ None) where
     decides_alike : (x : Step) → ByteAlike a (λ u. line_decided stream x (with_read u))
     decides_alike step.More = record { same = refl; fine = fine }
     decides_alike step.Bad = record { same = refl; fine = fine }
-    decides_alike (step.Port port) = by (may_open (record w.proxy { handshakes = hs }))
+    decides_alike (step.Port port) = by (next_flow port w.proxy.next_port w.proxy.device)
       where
-        by : (b : Bool) → ByteAlike a (λ u. bind (cond b (opening stream port (with_read u)) (dropping stream (with_read u)))
-            (λ v. Done (v, false)))
-        by true = opens_alike port
-        by false = record { same = refl; fine = fine }
+        by : (o : Option Flow) → ByteAlike a (λ u. bind (elim o as (λ _. DeviceTree Turning) [
+          | None ↦ dropping stream (with_read u)
+          | Some flow ↦ opening stream flow (with_read u)
+        ]) (λ v. Done (v, false)))
+        by None = record { same = refl; fine = fine }
+        by (Some flow) = opens_alike flow
 
   byte_alike : (stream : ℕ) → ByteAlike (around w) (read_byte stream)
   byte_alike stream = by (handshake_on stream w.proxy)

@@ -1,5 +1,5 @@
 -- The two ends of the world as their connections and their logs, and what it is for one to come of another by their small steps.
-use Rattle.std.specs.Prelude.{◌≡◌, List, []}
+use Rattle.std.specs.Prelude.{◌≡◌, List}
 use Rattle.laws_tables.specs.{Ends.{Ends, entries_of}, Both.{Both, Happening, MayRun, run}}
 use Rattle.vs_page.specs.Log.{Log}
 use Rattle.vs_ring_port.specs.EndLog.{EndLog, all_put}
@@ -7,12 +7,11 @@ use Rattle.vs_driver_parts.specs.State.{DriverState}
 use Rattle.vs_proxy_parts.specs.State.{ProxyState}
 use Rattle.laws_world.specs.World.{World}
 
--- Neither end keeps a flow to be used again.
 abbrev pub driver_ends : DriverState → Ends
 driver_ends s = record {
   entries = entries_of (λ c. c.end) s.table;
   replies = s.replies;
-  clean = [];
+  clean = s.clean;
   next_port = s.next_port;
   cid = s.cid;
 }
@@ -21,7 +20,7 @@ abbrev pub device_ends : ProxyState → Ends
 device_ends s = record {
   entries = entries_of (λ c. c.end) s.device.table;
   replies = s.device.replies;
-  clean = [];
+  clean = s.device.clean;
   next_port = s.next_port;
   cid = s.device.cid;
 }
