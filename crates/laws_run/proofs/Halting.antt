@@ -131,7 +131,7 @@ full_by host slots s false false false is = absurd cc
 stops_connect : (host : ℕ) (s : DriverState) (r : ConnectError) (why : WaitsFor) → connect_refusal host s ≡ Some r → wait_of (told_connect (Err r)) ≡ Some why
     → StopsConnect why s
 stops_connect host s (refused.Full slots) why at is =
-    subst (λ (w : WaitsFor). StopsConnect w s) (same_Some waits.Full why is) (full_by host slots s (is_assigned host) (is_full s) (is_spent s) at)
+    subst (λ (w : WaitsFor). StopsConnect w s) (same_Some waits.Full why is) (full_by host slots s (is_assigned host) (is_full s) (is_spent host s) at)
 stops_connect host s (refused.NoDescriptor n) why at is = subst (λ (w : WaitsFor). StopsConnect w s) (same_Some (waits.NoDescriptor n) why is) tt
 stops_connect host s (refused.BadPort port) why at is = absurd cc
 stops_connect host s (refused.PortsSpent port id) why at is = absurd cc
@@ -161,7 +161,7 @@ refusal_roomy : (host : ℕ) (s : DriverState) (refusal : ConnectError) (why : W
 refusal_roomy host s (refused.BadPort port) why is waits = absurd cc
 refusal_roomy host s (refused.Full slots) why is so = subst IsRoomy (same_Some waits.Full why so) tt
 refusal_roomy host s (refused.PortsSpent port id) why is waits = absurd cc
-refusal_roomy host s (refused.NoDescriptor n) why is waits = by (is_assigned host) (is_full s) (is_spent s) is
+refusal_roomy host s (refused.NoDescriptor n) why is waits = by (is_assigned host) (is_full s) (is_spent host s) is
   where
     by : (a b c : Bool) → cond a (Some (refused.BadPort host)) (cond b (Some (refused.Full DRIVER_CONNECTIONS))
         (cond c (Some (refused.PortsSpent s.last_port s.last_id)) None)) ≡ Some (refused.NoDescriptor n) → IsRoomy why

@@ -2,10 +2,9 @@
 use Rattle.std.proofs.Common.{◌≡◌, ◌≢◌, ℕ, zero, suc, ◌+◌, ◌-◌, ◌<◌, ◌≤◌, ◌==◌, ◌||◌, ◌&&◌, nat_le, not, Bool, true, false, cond, List, [], ◌∷◌, ◌++◌, Option, Some, None, Contains}
 use Rattle.std.proofs.Common.{find, filter, is_some, length, map, option_and_then, slice_get, slice_index_or, refl, sym, ap, subst, ◌∙◌, arith, inl, inr, length-append}
 use Rattle.std.proofs.lemmas.{Bool.{Decides.nat_tests, and_parts, eq-eqb, eqb-true}, List.Elements.{All-append, All-contains, All-head, All-map, All-tail, Contains-append_left}}
-use Rattle.std.proofs.lemmas.List.{Elements.{Contains-append_right, Contains-get_or}, Folds.Any-from_list_any, FromFn.{get_or-range_with_len, length-range_with_len}}
-use Rattle.std.proofs.lemmas.{List.{length-map}, Map.Made.{IsDistinct-from_AllPairs, is_member-Decides, length-le_from_is_member}, Option.same_Some}
-use Rattle.std.{proofs.lemmas.Option.slice_get_within, specs.{Bool.Decides, List.{All, AllPairs, cons_option, filter_map, list_any, range_with_len}, Option.option_map}}
-use Rattle.std.specs.{Option.option_map_or, Prelude.position}
+use Rattle.std.proofs.lemmas.List.{Elements.{Contains-append_right, Contains-get_or}, Folds.Any-from_list_any, FromFn.{get_or-range_with_len, length-range_with_len}, length-map}
+use Rattle.std.{proofs.lemmas.{Map.Made.{IsDistinct-from_AllPairs, is_member-Decides, length-le_from_is_member}, Option.{same_Some, slice_get_within}}, specs.Bool.Decides}
+use Rattle.std.specs.{List.{All, AllPairs, cons_option, filter_map, list_any, range_with_len}, Option.{option_map, option_map_or}, Prelude.position}
 use Rattle.vs_conn.specs.declared.end.State.{State, TheVariants.Live}
 use Rattle.vs_flow.{specs.{Connection.Connection, Flow.is_assigned, declared.flow.Flow.Flow}, proofs.Entries.none_found}
 use Rattle.vs_limits.specs.declared.TheConstants.{DRIVER_CONNECTIONS, FIRST_CID}
@@ -19,7 +18,7 @@ use Rattle.vs_device_parts.specs.{Playing.situation, Turns.table_shown as device
 use Rattle.vs_proxy_parts.specs.State.{ProxyState}
 use Rattle.laws_tables.{specs.Drains.is_same, proofs.Logs.same_connection}
 use Rattle.laws_driver.specs.{Honest.slots_of, Carried.{Calls.{GuestCall, Journal, account_of}, Received.ReceivedOn}}
-use Rattle.laws_device.{specs.{Streams.is_open_in, Carried.Streamed.seen as seen_in}, proofs.Carried.Hosts.label_there}
+use Rattle.laws_device.{specs.{Streams.is_open_in, Carried.Streamed.{ports_of, seen as seen_in}}, proofs.Carried.Hosts.label_there}
 use Rattle.laws_rest.proofs.Hosts.{stream_seen}
 use Rattle.laws_proxy.specs.Honest.{IsProxyStreamed}
 use Rattle.laws_settled.specs.Settled.{IsSettled, IsSteady}
@@ -340,7 +339,7 @@ module _ (script : RunScript) (driver : DriverState) (end : Sight) (apps : List 
     stream_counts : (c : Connection) → 1 ≤ c.number → is_assigned c.flow.host ≡ true → has_line opened lines c ≡ false → (s : Stream) → stream_of c h ≡ Some s
         → Contains counted c
     stream_counts c some assigned none s is =
-        let it = stream_seen h e.sight.log p.next_port p.device.table p.handshakes
+        let it = stream_seen h e.sight.log (ports_of p.next_port p.device) p.device.table p.handshakes
         (on script driver end apps entries bytes p e h faults run settled steady old stood all
         room same_apps same_entries polled told past heard polls still same_driver streams idle)
         c some s is in

@@ -13,7 +13,7 @@ use Rattle.vs_page.{specs.Log.Log, proofs.Flows.{same_is, same_self}}
 use Rattle.vs_device_parts.specs.State.{DeviceConnection, DeviceEntry}
 use Rattle.vs_proxy_parts.specs.State.{Handshake}
 use Rattle.laws_device.specs.{Honest.end_in, Streams.{is_open_in, is_open_on}, Carried.Streamed.{IsJoined, IsStreamed, Seen, client_waits, connection_in, connection_of, count_in}}
-use Rattle.laws_device.{specs.Carried.Streamed.{look, seen}, proofs.{Waiting.open_among, Carried.{Closing.{is_under, named}, Hosts.{label_here, label_there, stream_is, there}}}}
+use Rattle.laws_device.{specs.Carried.Streamed.{Ports, look, seen}, proofs.{Waiting.open_among, Carried.{Closing.{is_under, named}, Hosts.{label_here, label_there, stream_is, there}}}}
 use Rattle.laws_rest.proofs.Hosts.{stream_seen}
 use Rattle.laws_run.specs.{Complete.{open_label, open_labels}, Dry.{OfOpen, stream_open}}
 use Rattle.vs_outside.specs.declared.host_net.StreamState.TheVariants as state
@@ -129,7 +129,7 @@ pub record HasStream (h : HostContents) (log : Log) (e : DeviceEntry) : Type 0 w
   pub its : stream_of (connection_of e log) h ≡ Some stream
   pub opened : is_open_in stream.state ≡ true
 
-module _ (h : HostContents) (log : Log) (port : ℕ) (t : Table DeviceConnection) (hands : List Handshake) (streamed : IsStreamed h log port t hands)
+module _ (h : HostContents) (log : Log) (port : Ports) (t : Table DeviceConnection) (hands : List Handshake) (streamed : IsStreamed h log port t hands)
     (table : IsTable t) where
   looked_at : (k : ℕ) (s : Stream) → slice_get h.streams k ≡ Some s → stream_at (k + 1) h ≡ Some s
   looked_at k s at =
@@ -190,7 +190,7 @@ module _ (h : HostContents) (log : Log) (port : ℕ) (t : Table DeviceConnection
       let streams : i + 1 ≡ j + 1 = sym a.stream ∙ ap (λ (x : DeviceEntry). x.value.stream) same ∙ b.stream in
       omega (arith, streams)
 
-module _ (h : HostContents) (log : Log) (port : ℕ) (t : Table DeviceConnection) (hands : List Handshake) (streamed : IsStreamed h log port t hands)
+module _ (h : HostContents) (log : Log) (port : Ports) (t : Table DeviceConnection) (hands : List Handshake) (streamed : IsStreamed h log port t hands)
     (table : IsTable t) (is_open : (e : DeviceEntry) → Contains t.entries e → e.value.closed ≡ false) where
   labels_distinct : (n : ℕ) (xs : List Stream) → ((k : ℕ) (s : Stream) → slice_get xs k ≡ Some s → slice_get h.streams (n + k) ≡ Some s)
       → IsDistinct same_flow (filter_map open_label xs)

@@ -12,7 +12,7 @@ use Rattle.vs_page.proofs.Present.{present_got}
 use Rattle.vs_device_parts.specs.State.{DeviceConnection, DeviceEntry}
 use Rattle.vs_proxy_parts.specs.State.{Handshake}
 use Rattle.laws_tables.{specs.{Ends.{Ends, ends_of, is_among, replied, is_new_in}, Heard.heard_of, Matches.{IsBefore, IsLeftOn, Matches}, Steps.HasEnd}, proofs.Fair.heard_less}
-use Rattle.laws_device.{specs.Carried.Streamed.{IsJoined, IsStreamed, connection_of, count_in, gives_in, has_line, look}, proofs.Carried.{Hosts.there, Lines.after_is_rest}}
+use Rattle.laws_device.{specs.Carried.Streamed.{IsJoined, IsStreamed, Ports, connection_of, count_in, gives_in, has_line, look}, proofs.Carried.{Hosts.there, Lines.after_is_rest}}
 use Rattle.laws_device.proofs.Carried.Lines.{after_longer, line_ends, line_whole, rest_of}
 use Rattle.laws_rest.proofs.Hosts.{read_own}
 use Rattle.vs_conn.specs.declared.end.Stop.TheVariants as stop
@@ -112,7 +112,7 @@ read_within true port given line pending got inside is = by (has_line given) ref
         (sym (after_longer given (line ++ pending) some) ∙ ap after_line is ∙ after_longer (front ++ 10 ∷ []) got (line_whole front)
         ∙ ap (λ (bs : List ℕ). bs ++ got) (line_ends front (ok_front port inside))))
 
-module _ (h : HostContents) (log : Log) (port : ℕ) (t : Table DeviceConnection) (hands : List Handshake) (streamed : IsStreamed h log port t hands)
+module _ (h : HostContents) (log : Log) (port : Ports) (t : Table DeviceConnection) (hands : List Handshake) (streamed : IsStreamed h log port t hands)
     (y : DeviceEntry) (within : Contains t.entries y) (live : y.value.end.state ≡ Live) (goes_on : y.value.end.own.receive ≡ false) where
   abbrev its : Connection
   its = current Device y.flow log
