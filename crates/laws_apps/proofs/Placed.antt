@@ -137,9 +137,6 @@ pub record StandsOn (e d : ConnectionEnd) : Type 0 where
   pub closed : stands_closed e.state e.own ≡ true → stands_closed d.state d.own ≡ true
   pub unanswered : stands_unanswered e.state ≡ true → stands_unanswered d.state ≡ true
 
-pub same_stands : (e : ConnectionEnd) → StandsOn e e
-same_stands e = record { closed = λ is. is; unanswered = λ is. is }
-
 got_live : (e : ConnectionEnd) (h : Header) → e.state ≡ Answering → (end_after e h).state ≢ Live
 got_live e h is live = absurd (grind (arith, common_steps, is, live))
 

@@ -73,13 +73,7 @@ module _ (s : DriverState) (sound : IsTable s.table) (numbers : AreNumbered 1 s.
       let one = one_entry (get_or s.table.entries k d) e (Contains-get_or s.table.entries k d less) at.0 (same ∙ sym at.1) in
       subst (λ (y : DriverEntry). P y.value) (sym one) holds
 
-  -- One that is gone has none; one that isn't known is closed.
-  all_gone : (P : DriverConnection → Type 0) (id : ℕ) (g : GoneConnection) → gone_known_as id s ≡ Some g → All (λ d. d.value.id ≡ id → P d.value) s.table.entries
-  all_gone P id g is = λ k d less same.
-      let found = found_gone (λ (h : GoneConnection). h.id == id) s.gone g is in
-      let other = All-contains (λ h. All (λ e. e.value.id ≡ h.id → ⊥) s.table.entries) s.gone g numbers.apart found.0 in
-      absurd (other k d less (same ∙ sym (eqb-true g.id id found.1)))
-
+  -- One that isn't known is closed.
   unknown : (P : DriverConnection → Type 0) (id : ℕ) → id < s.next_id → entry_known_as id s ≡ None → (is_shut id journal ≡ true) ⊎ AtId P id s.next_id s.table.entries
   unknown P id less none = by (find (λ (e : DriverEntry). e.value.id == id) s.table.entries) refl
     where

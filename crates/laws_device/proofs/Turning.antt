@@ -23,13 +23,13 @@ use Rattle.laws_device.proofs.{Carrying.{ring_only, Fact, IsHeldBy, fact_goes, I
 use Rattle.laws_device.proofs.{Chains.{held_there, is_unwritten, taken_holds}, Changing.{cuts, shuts, unseen, writes, same}, Ringing.{Tells, moves, host_moves}, Keeping.Lets}
 use Rattle.laws_device.proofs.{Keeping.{Keeps, asking as asked_of, keeps_each, keeps_then}, Seats.{AgreesBy, Carried, LeftBy, at_log, seat}, Writing.{write_keeps, Writes}}
 use Rattle.laws_device.proofs.{Filling.under_there, Steps.{it_failed, none_came, cut_with, seat_changed, closing_keeps, called_with}, Tabling.{IsFitConnection, entry_fits}}
-use Rattle.laws_device.proofs.{Clean.removed_flow, Tabling.{opening_fits, removed_fit}, Walk.Keeping.{keeps_if, keeps_some}, Carried.Changing.{called_host, ends_streams, event_streams, failed_host, mark_streams}}
-use Rattle.laws_device.proofs.Carried.{Changing.{shut_write_host, shuts_streams, writes_streams}, Closing.{IsClosing, closing_done as all_closed, closing_from, closing_now}}
-use Rattle.laws_device.{proofs.{Carried.Closing.{closing_passes, closing_was}, Named.Tables.{some_after, some_from}}, specs.Honest.{IsFitClean, IsFitFlow, IsFitState, IsFresh, IsLeft, IsWith}}
-use Rattle.laws_device.specs.{Honest.{end_in, ends_of_state, port_after}, Carried.Streamed.{IsStreamed, ports_of}}
-use Rattle.laws_tables.specs.Steps as steps
+use Rattle.laws_device.proofs.{Tabling.{opening_fits, removed_fit}, Clean.removed_flow, Walk.Keeping.{keeps_if, keeps_some}, Carried.Changing.{called_host, ends_streams}}
+use Rattle.laws_device.proofs.Carried.{Changing.{event_streams, failed_host, mark_streams, shut_write_host, shuts_streams, writes_streams}, Closing.IsClosing}
+use Rattle.laws_device.proofs.{Carried.Closing.{closing_done as all_closed, closing_from, closing_now, closing_passes, closing_was}, Named.Tables.{some_after, some_from}}
+use Rattle.laws_device.specs.{Honest.{IsFitClean, IsFitFlow, IsFitState, IsFresh, IsLeft, IsWith, end_in, ends_of_state, port_after}, Carried.Streamed.{IsStreamed, ports_of}}
 use Rattle.vs_header.specs.declared.Kind.TheVariants.{Stream}
 use Rattle.vs_proxy_parts.specs.State.{Handshake}
+use Rattle.laws_tables.specs.Steps as steps
 use Rattle.vs_outside.specs.declared.host_net.StreamWrite.TheVariants as write
 use Rattle.vs_ring_port.specs.declared.device_ring.Next.TheVariants as next
 

@@ -111,8 +111,8 @@ pub fn law_of_the_table()
     ensures no_overrun { (first port : ℕ) (s : DeviceState) (l : EndLog) → AgreesWith first port s l → s.overrun ≡ 0 }
 {}
 
-/// Any conversation of the device, over any ring and any host: a log that is told is told with more entries. Over an honest ring nothing more is
-/// put on a connection after the SHUTDOWN that says 'no more is sent' (Virtio 1.2, section 5.10.6.5).
+/// Any conversation of the device, over any ring and any host: a log that is told is told with more entries. Over an honest ring no more payload
+/// is put on a connection after the SHUTDOWN that says 'no more is sent' (Virtio 1.2, section 5.10.6.5).
 pub fn law_of_logs<T>()
     ensures grows { (tree : DeviceTree T) (a b : Situation) (x : T) → Runs tree a x b
         → Relates a.ring.log b.ring.log (λ l m. IsLater l.entries m.entries) }

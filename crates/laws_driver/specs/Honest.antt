@@ -69,7 +69,7 @@ pub record IsFit (cid next_port next_id : ℕ) (table : Table DriverConnection) 
 abbrev pub IsFitState : DriverState → Type 0
 IsFitState s = IsFit s.cid s.next_port s.next_id s.table s.replies s.clean
 
--- The driver and its log, where this was the guest's CID at first: no page is left unpublished, no packet was refused, each connection is
+-- The driver and its log, where this was the guest's CID at first: no page is left unpublished, no packet of a connection was refused, each connection is
 -- the one that the log left, the log is fair, and each reset of the transport that the driver was told of has its Mark.
 pub record AgreesWith (first : ℕ) (s : DriverState) (l : EndLog) : Type 0 where
   pub fits : IsFitState s

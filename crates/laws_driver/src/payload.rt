@@ -27,8 +27,8 @@ pub fn law_of_sent()
         → entry_known_as id s ≡ Some e → e.value.end.own.send ≡ true → Plays (send_of id bytes s) c x d → took bytes x.1 ≡ [] }
 {}
 
-/// Any conversation of the driver, over any ring: a log that is told is told with more entries. Over an honest ring nothing more is put on a
-/// connection after the SHUTDOWN that says 'no more is sent' (Virtio 1.2, section 5.10.6.5).
+/// Any conversation of the driver, over any ring: a log that is told is told with more entries. Over an honest ring no more payload is put
+/// on a connection after the SHUTDOWN that says 'no more is sent' (Virtio 1.2, section 5.10.6.5).
 pub fn law_of_logs<T>()
     ensures grows { (tree : DriverTree T) (c d : RingContents) (x : T) → Plays tree c x d → TellsMore c.log d.log }
     ensures shut { (tree : DriverTree T) (c d : RingContents) (x : T) → IsSound Driver c → Plays tree c x d → c.honest ≡ true

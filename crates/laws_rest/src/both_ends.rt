@@ -16,7 +16,7 @@ ghost use Rattle.laws_rest.specs.Bytes.{AreTied, AreTold, BothEnds, CarryBytes};
 /// Driver and device each got first what the other put. Then what the host's program read of a connection is a prefix of what was sent on it,
 /// and what was received on it is a prefix of what that program wrote: of each connection; and so, by a journal that is right, of each id that
 /// was given to a connection; also where a guest uses a pair of ports again. So it is over any two honest rings that tell their logs, and any host
-/// that exposes its streams (Virtio 1.2, section 5.10.6).
+/// that exposes its streams and had none at first, where no payload of an open connection is dropped for its CIDs (Virtio 1.2, section 5.10.6).
 pub fn law_of_both_ends()
     ensures connections { (b : Both) (h : HostContents) (port : Ports) (table : Table DeviceConnection) (hands : List Handshake) (c : Connection)
         (sent received : List ℕ) → BothEnds b → IsStreamed h b.device.log port table hands → 1 ≤ c.number

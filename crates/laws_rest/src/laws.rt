@@ -21,8 +21,8 @@ pub fn law_of_rest()
         → length b.driver.part.entries ≡ length b.device.part.entries }
 {}
 
-/// What the waits of an application rest on. Where nothing is unread at an end that still receives, its peer has credit, so that it looks for
-/// more. Where an end has no credit, and its peer still sends or receives, its peer holds more than half of the first buffer space.
+/// What the waits of an application rest on. Where nothing is unread at an end that didn't shut both directions, its peer has credit, so that
+/// it looks for more. Where an end has no credit, and its peer still sends or receives, its peer holds more than half of the first buffer space.
 pub fn law_of_waits()
     ensures empty { (e other : ConnectionEnd) → ArePaired e other → unread_of e.credit ≡ 0 → is_both e.own ≡ false
         → over_half ≤ free_of other.credit }

@@ -36,10 +36,6 @@ use Rattle.laws_device.proofs.Fits as fits
 use Rattle.laws_device.proofs.Walk.Serving as serving
 
 -- CONNECTIONS
-new_holds : (e : ConnectionEnd) (stream : ℕ) (by_client : Bool) → HoldsBytes e.credit 0 → IsExact (new_connection e stream by_client)
-    → HoldsExactly (new_connection e stream by_client)
-new_holds e stream by_client bytes exact = record { bytes = bytes; exact = exact }
-
 cuts_hold : (c : DeviceConnection) → HoldsExactly c → HoldsExactly (cut_off c)
 cuts_hold c is = record { bytes = fewer c.end.credit (length c.pending) 0 is.bytes (omega arith); exact = λ open_yet. absurd (open_yet refl) }
 

@@ -8,7 +8,7 @@ use Rattle.laws_history.specs.{Packets.{is_request, is_rst}, declared.packet.Pac
 use Rattle.vs_limits.specs.declared.TheConstants.{HOST_CID}
 use Rattle.vs_page.{specs.{Log.{Device, Log, flow_got, packets_put}, Open.is_dropped}, proofs.Flows.same_is}
 use Rattle.vs_replies.specs.declared.Reply.{Reply}
-use Rattle.laws_tables.specs.Both.{Asks, Decides, Forgets, MakesReset, Opens, Pays, PutsEvent, Replies, Seat, Sends, Step, Takes, TakesEvent, TakesReset, after, after_packet}
+use Rattle.laws_tables.specs.Both.{Asks, Decides, MakesReset, Opens, Pays, PutsEvent, Replies, Seat, Sends, Step, Takes, TakesEvent, TakesReset, after, after_packet}
 use Rattle.laws_tables.specs.{Both.answered, Ends.{Ends, FlowEnd, answer_kind, ends_of, flows_of, replaced, replied, without_flow}, Steps.{is_kept, owed_on, paid, payload_on}}
 use Rattle.laws_tables.specs.Steps.{reply_on, request_on, taken, with_clean}
 use Rattle.laws_device.proofs.Seats.{IsAsked, MayDo}
@@ -130,7 +130,6 @@ module _ (w : Seat) (is : IsHosts w.part w.log) where
       record { entries = is.entries; replies = all.1; puts = puts_more (reply_on Device w.part.cid r) w.log is.puts all.0 }
   step_hosts (Decides f e what) may asked =
       record { entries = replaced_still f _ w.part.entries is.entries; replies = is.replies; puts = is.puts }
-  step_hosts Forgets may asked = record { entries = is.entries; replies = is.replies; puts = is.puts }
   step_hosts (Takes p answer) may asked =
       let still = heard p answer (is_dropped Device w.part.cid p.header) refl in record { entries = still.0; replies = still.1; puts = is.puts }
   step_hosts (PutsEvent id) may asked = record { entries = is.entries; replies = is.replies; puts = is.puts }

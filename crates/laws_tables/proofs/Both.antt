@@ -8,11 +8,11 @@ use Rattle.vs_page.specs.{Log.{Driver, Device, HasGotAll, IsNextPacket, Log, Rol
 use Rattle.vs_page.{specs.{declared.log.LogEntry.TheVariants.PutPacket, Fair.IsFairLog, Open.is_dropped}, proofs.Entries.next_fair}
 use Rattle.vs_limits.specs.declared.TheConstants.{HOST_CID}
 use Rattle.laws_tables.specs.Both.{Aborts, Asks, Both, Decides, Decision, Forwards, Grows, Happening, IsSound, MakesReset, MayDecide, MayHappen, MayRun, MayStep, MayStepAll, Opens}
-use Rattle.laws_tables.specs.Both.{Pays, PutsEvent, Replies, Seat, Sends, Shuts, Step, Takes, Forgets, TakesEvent, TakesReset, WantsCredit, after, after_all, after_packet}
+use Rattle.laws_tables.specs.Both.{Pays, PutsEvent, Replies, Seat, Sends, Shuts, Step, Takes, TakesEvent, TakesReset, WantsCredit, after, after_all, after_packet}
 use Rattle.laws_tables.specs.{Both.{answered, at, decided, happens, run, start, with_seat}, Steps.{HasEnd, is_overrun, owed_on, payload_on, reply_on, request_on}, Ends.Ends}
 use Rattle.laws_tables.{specs.{Ends.{answer_kind, ends_of}, Heard.{IsInOrder, IsOrderedLog, heard_of}, Matches.Matches}, proofs.Keeps.{accepts, asks, changes, drops, has_room}}
 use Rattle.laws_tables.proofs.Keeps.{ignores, makes_reset, named_kind, opens, opens_fair, pays, pays_fair, puts_event, refuses, replies, replies_fair, sends, sends_fair}
-use Rattle.laws_tables.proofs.{Keeps.{start_matches, takes, takes_event, forgets, takes_reset}, Fair.{fair_ordered, got_formed, got_is_taken, got_not_refused, heard_all}}
+use Rattle.laws_tables.proofs.{Keeps.{start_matches, takes, takes_event, takes_reset}, Fair.{fair_ordered, got_formed, got_is_taken, got_not_refused, heard_all}}
 use Rattle.laws_tables.proofs.{Fair.{older_ordered, ordered_in_order}, Tables.only_end}
 
 by_role : (P : Role → Type 0) → P Driver → P Device → (role : Role) → P role
@@ -132,7 +132,6 @@ seat_keeps role first (Decides f e what) w may m order =
 seat_keeps role first (Takes p answer) w may m order =
     taking_keeps role first p answer w.part w.log (is_dropped role w.part.cid p.header) refl m may.1
     (ordered_in_order role first p w.log order) may.0
-seat_keeps role first Forgets w may m order = forgets role first w.part w.log m
 seat_keeps role first (PutsEvent id) w may m order = puts_event role first id w.part w.log m
 seat_keeps role first (TakesEvent id) w may m order = takes_event role first id w.part w.log m
 seat_keeps role first (MakesReset cid) w may m order = makes_reset role first cid w.part w.log m
@@ -216,7 +215,6 @@ step_keeps role first (Replies r rest) b s may =
     put_keeps role first (reply_on role w.part.cid r) _ b (kept role first (Replies r rest) b s may
     (replies_fair role first w.part.cid r rest w.part w.log (s.matches role) (s.fair role) may)) s
 step_keeps role first (Decides f e what) b s may = still_keeps role first _ b (kept role first (Decides f e what) b s may (s.fair role)) s
-step_keeps role first Forgets b s may = still_keeps role first _ b (kept role first Forgets b s may (s.fair role)) s
 step_keeps role first (Takes p answer) b s may = take_sound role first p answer b s may
 step_keeps role first (PutsEvent id) b s may =
     let here = s.ties role in

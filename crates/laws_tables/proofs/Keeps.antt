@@ -13,7 +13,7 @@ use Rattle.vs_page.specs.{Open.{phase_reset, cid_of, kind_got, kind_put, left_ki
 use Rattle.vs_page.{specs.Fair.{IsFairLog, IsFairOn}, proofs.{Entries.{one_got, one_put}, Flows.{same_is, same_self}, Phases.{phase_clean, phase_marked}}}
 use Rattle.vs_replies.specs.declared.Reply.{Reply}
 use Rattle.laws_tables.specs.Ends.{Ends, FlowEnd, answer_kind, ends_of, is_among, is_new, replied, replies_of, AreDistinct, flows_of, of_host, replaced, without, without_flow}
-use Rattle.laws_tables.specs.Steps.{HasEnd, HasNone, IsNextFlow, accepted, asking, emptied, forgotten, is_kept, is_overrun, left, opened, owed_on, paid, payload_on, refused}
+use Rattle.laws_tables.specs.Steps.{HasEnd, HasNone, IsNextFlow, accepted, asking, emptied, is_kept, is_overrun, left, opened, owed_on, paid, payload_on, refused}
 use Rattle.laws_tables.specs.{Steps.{reply_on, request_on, reset, taken, with_clean, with_end, with_replies, port_after}, Matches.{AllOwed, IsFairlyLeft, IsOwed, IsReady, Matches}}
 use Rattle.laws_tables.specs.{Matches.{MatchesFlows, IsKept, IsLeftOn, IsUnused, MatchesOn}, Heard.{IsInOrder, IsWithin, IsWithinCredit, heard_of, own_port, is_awaiting, is_fresh}}
 use Rattle.laws_tables.{specs.Heard.route_of, proofs.OnFlow.{end_asks, end_follows, follows_old, asks_on, begins_on, changes_on, closed_on, drops_on, empties_on, fresh_closed}}
@@ -166,10 +166,6 @@ fewer role first port clean part log rises were once m = record {
   fairly = λ fair. let l = m.fairly fair in
       record { within = l.within; kept = λ f among. l.kept f (were f among); ready = l.ready; replies = l.replies };
 }
-
--- An end that keeps no flow any more.
-pub forgets : (role : Role) (first : ℕ) (part : Ends) (log : Log) → Matches role first part log → Matches role first (forgotten part) log
-forgets role first part log m = fewer role first part.next_port [] part log (omega arith) (λ f among. absurd cc) tt m
 
 -- One that keeps another flow.
 keeps_flow : (role : Role) (first : ℕ) (f : Flow) (part : Ends) (log : Log) → IsUsed role f part → IsKept role first part log f

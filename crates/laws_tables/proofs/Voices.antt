@@ -2,7 +2,7 @@
 use Rattle.std.proofs.Common.{rules, ◌≡◌, ℕ, ◌==◌, Bool, true, false, ◌&&◌, not, if◌then◌else◌, is_some, List, [], ◌∷◌, ◌++◌, Option, Some, refl, sym, ap, ◌∙◌, subst, arith}
 use Rattle.std.proofs.lemmas.{Grind.common_steps, Bool.Decides.nat_tests}
 use Rattle.laws_tables.specs.Both.{Asks, Both, Decides, Happening, IsSound, MakesReset, MayHappen, MayRun, Opens, Pays, PutsEvent, Replies, Seat, Sends, Step, Takes, TakesEvent}
-use Rattle.laws_tables.specs.{Both.{TakesReset, after_packet, answered, decided, happens, Forgets, run, start}, Heard.{IsInOrder, heard_of, hears, is_fresh}, Steps.HasEnd}
+use Rattle.laws_tables.specs.{Both.{TakesReset, after_packet, answered, decided, happens, run, start}, Heard.{IsInOrder, heard_of, hears, is_fresh}, Steps.HasEnd}
 use Rattle.laws_tables.specs.{Steps.{is_kept, left, owed_on, paid, payload_on, reply_on, request_on, with_clean, with_end}, Ends.{Ends, ends_of}, Matches.MatchesFlows}
 use Rattle.laws_tables.proofs.{Entries.{added_other, replaced_other, without_other}, Both.{next_is_fair, run_keeps, start_sound, step_keeps}, Fair.{fair_now, fair_order, got_fair}}
 use Rattle.laws_tables.proofs.{Fair.{got_goes_on, got_one, heard_less, heard_puts, own_got_fair}, Frame.{own_or_other, same_of}, Keeps.{asker_peer, kind_by}, Steps.cid_heard}
@@ -270,7 +270,6 @@ driver_step first (Decides f e what) b s may v = record {
   spoken = λ g x has. spoken_got f g b.driver.part (with_end f (decided e what) b.driver.part) b.driver.log x
       (λ y now. v.spoken f e may.0) (λ other. replaced_other f g (decided e what) b.driver.part.entries other) v.spoken has;
 }
-driver_step first Forgets b s may v = record { voices = v.voices; spoken = v.spoken }
 driver_step first (Takes p answer) b s may v = by (is_dropped Driver (let w = b.driver.part in w.cid) p.header)
   where
     by : (dropped : Bool) → IsVoiced (record {

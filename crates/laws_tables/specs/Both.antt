@@ -10,7 +10,7 @@ use Rattle.vs_limits.specs.declared.TheConstants.{BUF_ALLOC_MAX}
 use Rattle.vs_page.specs.{Fair.IsFairLog, Open.is_dropped, Log.{Driver, Device, HasGotAll, IsNextEvent, IsNextPacket, Log, Role, flow_got, history_of, other_role}}
 use Rattle.vs_page.specs.declared.log.LogEntry.TheVariants.{GotEvent, GotPacket, Mark, PutEvent, PutPacket}
 use Rattle.vs_replies.specs.declared.Reply.{Reply}
-use Rattle.laws_tables.specs.{Ends.{Ends, answer_kind, ends_of, is_new}, Matches.Matches, Steps.{HasEnd, IsNextFlow, accepted, asking, emptied, forgotten, opened, owed_on, paid}}
+use Rattle.laws_tables.specs.{Ends.{Ends, answer_kind, ends_of, is_new}, Matches.Matches, Steps.{HasEnd, IsNextFlow, accepted, asking, emptied, opened, owed_on, paid}}
 use Rattle.laws_tables.specs.Steps.{payload_on, refused, reply_on, request_on, reset, taken, with_end, with_replies}
 
 -- What a connection decides, or forwards to its application.
@@ -43,8 +43,6 @@ pub data Step : Type 0 where
   -- It puts the oldest reply that is owed; these are owed after it.
   Replies : Reply → List Reply → Step
   Decides : Flow → ConnectionEnd → Decision → Step
-  -- It keeps no flow any more to be used again.
-  Forgets : Step
   -- It takes a packet. A REQUEST on a flow without a connection is accepted or not.
   Takes : Packet → Bool → Step
   -- The device puts an event and makes a transport reset; the driver takes them, with the guest's CID.
@@ -75,7 +73,6 @@ part_after role (Sends f e payload) part = with_end f (with_payload_sent e (leng
 part_after role (Pays f e what) part = paid f e what part
 part_after role (Replies r rest) part = with_replies rest part
 part_after role (Decides f e what) part = with_end f (decided e what) part
-part_after role Forgets part = forgotten part
 part_after role (Takes p answer) part = after_taking role p answer part
 part_after role (MakesReset cid) part = emptied cid part
 part_after role (TakesReset cid) part = reset cid part
@@ -123,7 +120,6 @@ MayStep role (Pays f e what) w = HasEnd f e w.part × (owes_of e ≡ Some what)
 MayStep role (Replies r rest) w = w.part.replies ≡ r ∷ rest
 MayStep role (Decides f e what) w = HasEnd f e w.part × (is_new e ≡ false) × MayDecide e what
 MayStep role (Takes p answer) w = IsTaken p × (answer ≡ true → is_some (kind_named p.header.kind) ≡ true)
-MayStep role Forgets w = Unit {0}
 MayStep role (PutsEvent id) w = role ≡ Device
 MayStep role (TakesEvent id) w = role ≡ Driver
 MayStep role (MakesReset cid) w = role ≡ Device

@@ -9,7 +9,7 @@ use Rattle.laws_tables.specs.{Both.{Asks, Decides, Opens, Pays, Seat, Sends, Ste
 abbrev pub IsLater : Log → Log → Type 0
 IsLater old new = (newer : Log) × (new ≡ newer ++ old)
 
--- Of a connection up to the present one of its flow, where its end put the SHUTDOWN that says 'no more is sent': nothing more is put.
+-- Of a connection up to the present one of its flow, where its end put the SHUTDOWN that says 'no more is sent': no more payload is put.
 abbrev pub StaysShut : Role → Log → Log → Type 0
 StaysShut role old new = (c : Connection) → has shuts_send (puts (history_of role c.flow old)) ≡ true → c.number ≤ number_of role c.flow old
     → payload_put role c new ≡ payload_put role c old

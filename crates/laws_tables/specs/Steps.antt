@@ -67,10 +67,6 @@ abbrev pub with_clean : Bool → Flow → Ends → Ends
 with_clean true f part = record part { clean = kept CLEAN_PAIRS f part.clean }
 with_clean false f part = part
 
--- No flow is kept any more.
-abbrev pub forgotten : Ends → Ends
-forgotten part = record part { clean = [] }
-
 -- An end of a flow got a packet. With an RST of its type the connection leaves.
 abbrev pub taken : Role → Flow → ConnectionEnd → Packet → Ends → Ends
 taken role f e p part =

@@ -9,8 +9,8 @@ use Rattle.vs_driver_parts.specs.{State.{DriverEntry, DriverState, entry_known_a
 use Rattle.vs_driver_parts.specs.{Connections.{connected, with_end}, Conversations.{DriverTree, connect_with_page, has_page, load_cid, new_state, no_credit, not_sent}}
 use Rattle.vs_driver_parts.specs.Conversations.{payload_bytes, payload_of, post_all, post_events, post_one, post_packet, posts, publish_of, reap_all, request_bytes, send_on}
 use Rattle.vs_driver_parts.specs.Conversations.{send_stopped, send_with_credit, send_with_page}
-use Rattle.laws_world.{specs.{Events.{is_at_rest, works_on}, Plays.guest_line, World.{Beginning, World, opening}}, proofs.{GuestLines.{played_bind, reaps_all}, Polls.published_rests}}
-use Rattle.laws_world.proofs.Polls.{rest_works}
+use Rattle.laws_world.{specs.{Events.{is_at_rest, works_on}, Plays.guest_line, World.{Beginning, World, opening}}, proofs.GuestLines.{played_bind, reaps_all}}
+use Rattle.laws_world.proofs.Polls.{published_rests, rest_works}
 use Rattle.laws_driver.specs.Carried.Calls.{GuestCall, Connect, Send}
 use Rattle.vs_ring_port.specs.declared.queue.Queue.TheVariants as q
 use Rattle.vs_driver_parts.specs.declared.answers.ConnectError.TheVariants as connect_refused

@@ -2,8 +2,8 @@
 
 ghost use Rattle.std.specs.Prelude.{◌≡◌, ◌&&◌, Some};
 ghost use Rattle.vs_flow.specs.{Flow.is_assigned, Table.entry_under};
-ghost use Rattle.vs_device_parts.specs.{Connections.{cut_off, kept_if, stream_closed, with_connection}, Playing.{MayClose, RunsOnHost}, State.{DeviceConnection, DeviceEntry, DeviceState}};
-ghost use Rattle.vs_device_parts.specs.Streams.{closing, leaving};
+ghost use Rattle.vs_device_parts.specs.{Connections.{cut_off, kept_if, stream_closed, with_connection}, Playing.{MayClose, RunsOnHost}, State.{DeviceConnection, DeviceEntry}};
+ghost use Rattle.vs_device_parts.specs.{State.DeviceState, Streams.{closing, leaving}};
 
 use crate::device::Device;
 use vs_device_parts::connection::Connection;

@@ -3,8 +3,8 @@ use Rattle.std.specs.Prelude.{ℕ, ◌+◌, ◌==◌, ◌&&◌, not, Bool, true,
 use Rattle.vs_contents.specs.CallTree.{Done, Ask, bind, for_each}
 use Rattle.vs_flow.specs.Table.{entry_under, slots}
 use Rattle.vs_outside.specs.declared.host_net.StreamWrite.{StreamWrite}
-use Rattle.vs_device_parts.specs.{Connections.{with_connection, with_fault, stream_closed, cut_off, after_shut, after_written, is_timed_out, after_leaving, keeping}, Calls.DeviceTree}
-use Rattle.vs_device_parts.specs.{Calls.{WriteStream, ShutWrite, CloseStream}, State.{DeviceConnection, DeviceState, DeviceEntry}}
+use Rattle.vs_device_parts.specs.Connections.{with_connection, with_fault, stream_closed, cut_off, after_shut, after_written, is_timed_out, after_leaving, keeping}
+use Rattle.vs_device_parts.specs.{Calls.{DeviceTree, WriteStream, ShutWrite, CloseStream}, State.{DeviceConnection, DeviceState, DeviceEntry}}
 use Rattle.vs_limits.specs.declared.TheConstants.{WRITE_MAX}
 use Rattle.vs_outside.specs.declared.host_net.StreamWrite.TheVariants as write
 

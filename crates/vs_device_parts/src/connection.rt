@@ -1,16 +1,16 @@
 //! A connection of the device's table: its end, the host's stream that it is joined to, and what is left to write to that stream.
 
 ghost use Rattle.std.specs.Prelude.{◌≡◌, ◌≤◌, ◌<◌, ◌==◌, ◌&&◌, ◌+◌, ◌-◌, ◌++◌, ℕ, [], true, false, Some, if◌then◌else◌, length, take};
-ghost use Rattle.vs_conn.specs.{End.{CanSend, asked, answering, grown, may_shut, owes_of, verdict_of, view_of, wanting_credit, with_payload_sent}, Headers.owed_header, Shut.is_both};
-ghost use Rattle.vs_conn.specs.{Headers.payload_header, declared.end.{State.TheVariants.Live, Verdict.TheVariants.{Deliver, Accept}}};
+ghost use Rattle.vs_conn.specs.{End.{CanSend, asked, answering, grown, may_shut, owes_of, verdict_of, view_of, wanting_credit, with_payload_sent}, Headers.owed_header};
+ghost use Rattle.vs_conn.specs.{Headers.payload_header, Shut.is_both, declared.end.{State.TheVariants.Live, Verdict.TheVariants.{Deliver, Accept}}};
 ghost use Rattle.vs_credit.specs.Credit.{free_of, unread_of};
 ghost use Rattle.laws_history.specs.Packets.{is_clean_rst};
 ghost use Rattle.vs_header.specs.declared.Kind.TheVariants.{Stream};
 ghost use Rattle.vs_limits.specs.declared.TheConstants.{BUF_ALLOC, BUF_ALLOC_MAX, WRITE_MAX};
 ghost use Rattle.vs_uds.specs.OkLine.{ok_text};
 ghost use Rattle.vs_device_parts.specs.{Connections.{after_shut, after_written, cut_off, is_late, is_timed_out, new_connection, stream_closed}, Paid.paid_connection};
-ghost use Rattle.vs_device_parts.specs.{Receiving.may_read, Room.IsSpare, Streams.{to_write, is_written_out}, Transmitting.{heard, without_payload}, Watched.has_to_write, Growing.grow_answer};
-ghost use Rattle.vs_device_parts.specs.{Served.IsServedSo, declared.answers.Grown.TheVariants.Done};
+ghost use Rattle.vs_device_parts.specs.{Receiving.may_read, Room.IsSpare, Streams.{to_write, is_written_out}, Transmitting.{heard, without_payload}, Watched.has_to_write};
+ghost use Rattle.vs_device_parts.specs.{Growing.grow_answer, Served.IsServedSo, declared.answers.Grown.TheVariants.Done};
 
 use crate::answers::Grown;
 use crate::service::Service;

@@ -2,17 +2,17 @@
 
 ghost use Rattle.std.specs.Prelude.{◌≡◌, ◌<◌, ◌≤◌, ◌++◌, ◌+◌, ◌&&◌, [], true, false, length, Some, None, if◌then◌else◌, IfOk, IfSome, IfNone, IsSomeAnd, AllPairs, option_copied};
 ghost use Rattle.std.specs.{Prelude.{slice_get, vec_capacity}, List.All, Option.{option_map, option_map_or}};
-ghost use Rattle.vs_conn.specs.{End.{CanSend, asked, answering, grown, may_shut, owes_of, verdict_of, wanting_credit, with_payload_sent}, Headers.{owed_header, payload_header}, Shut.is_both};
+ghost use Rattle.vs_conn.specs.{End.{CanSend, asked, answering, grown, may_shut, owes_of, verdict_of, wanting_credit, with_payload_sent}, Headers.{owed_header, payload_header}};
+ghost use Rattle.vs_conn.specs.{Shut.is_both, declared.end.{State.TheVariants.Live, Verdict.TheVariants.{Deliver, Accept}}};
 ghost use Rattle.laws_history.specs.Packets.{is_clean_rst};
-ghost use Rattle.vs_conn.specs.declared.end.{State.TheVariants.Live, Verdict.TheVariants.{Deliver, Accept}};
 ghost use Rattle.vs_credit.specs.Credit.{free_of, unread_of};
 ghost use Rattle.vs_flow.specs.Table.{IsTable, emptied, entry_of, entry_under, has_place, refusal, slots, value_under, with_entry, with_value, without};
 ghost use Rattle.vs_header.specs.declared.Kind.TheVariants.{Stream};
 ghost use Rattle.vs_limits.specs.declared.TheConstants.{BUF_ALLOC, BUF_ALLOC_MAX, DEVICE_CONNECTIONS};
 ghost use Rattle.vs_uds.specs.OkLine.{ok_text};
 ghost use Rattle.vs_device_parts.specs.{Connections.{after_shut, after_written, cut_off, is_timed_out, new_connection, route_to_guest, stream_closed}, Paid.paid_connection};
-ghost use Rattle.vs_device_parts.specs.{Room.IsSpare, State.{DeviceConnection, DeviceEntry}, Transmitting.{heard, without_payload}, Growing.grow_answer, Served.IsServedSo, Watched.has_to_write};
-ghost use Rattle.vs_device_parts.specs.declared.answers.Grown.TheVariants.{Done};
+ghost use Rattle.vs_device_parts.specs.{Room.IsSpare, State.{DeviceConnection, DeviceEntry}, Transmitting.{heard, without_payload}, Growing.grow_answer, Served.IsServedSo};
+ghost use Rattle.vs_device_parts.specs.{Watched.has_to_write, declared.answers.Grown.TheVariants.Done};
 
 use crate::connection::{Buffers, Connection};
 use crate::service::Service;

@@ -1,6 +1,6 @@
 -- What putting replies and what connections owe comes to.
-use Rattle.std.proofs.Common.{◌≡◌, ◌==◌, ℕ, Bool, true, false, List, [], ◌∷◌, length, drop, Option, Some, None, ◌+◌, ◌<◌, ◌≤◌, get_or, drop-cons, add-one, refl, sym, ap, subst, ◌∙◌}
-use Rattle.std.{proofs.Math.ListN.drop_of_length-le, specs.{List.slice_get, Option.IsSomeAnd}}
+use Rattle.std.proofs.Common.{◌≡◌, ◌==◌, ℕ, Bool, true, false, List, [], ◌∷◌, length, drop, Option, Some, None, ◌+◌, ◌<◌, ◌≤◌, get_or, drop-cons, add-one, refl, sym, ap, subst}
+use Rattle.std.{proofs.{Common.◌∙◌, Math.ListN.drop_of_length-le}, specs.{List.slice_get, Option.IsSomeAnd}}
 use Rattle.vs_contents.{specs.CallTree.{Done, bind, for_each}, proofs.{Leads.{leads_of, leads_bind}, Conditions.{may_first, may_rest, may_of}}}
 use Rattle.vs_header.specs.{Packet.header_bytes, declared.Header.Header}
 use Rattle.vs_conn.specs.{End.owes_of, Headers.owed_header, declared.end.Owed.Owed}
@@ -8,8 +8,8 @@ use Rattle.vs_flow.specs.Table.{entry_under}
 use Rattle.vs_replies.specs.declared.Reply.{Reply}
 use Rattle.vs_ring_port.specs.Contents.{RingContents}
 use Rattle.vs_driver_parts.specs.Conversations.{DriverTree, Round, after_paying, has_page, is_rst, one_put, pay_slot, put_owed, put_reply, put_reply_of, reply_header, round_of}
-use Rattle.vs_driver_parts.specs.{Conversations.stage_packet, Connections.{OweNothing, with_connection, paid_connection, route_to_host}, Playing.{CanMake, MayPublishAll, Plays, RingAllows}}
-use Rattle.vs_driver_parts.{specs.{State.{DriverEntry, DriverState}, declared.tally.Tally.Tally}, proofs.Ids.entry_has}
+use Rattle.vs_driver_parts.specs.{Conversations.stage_packet, Connections.{OweNothing, with_connection, paid_connection, route_to_host}, Playing.{CanMake, MayPublishAll, Plays}}
+use Rattle.vs_driver_parts.{specs.{Playing.RingAllows, State.{DriverEntry, DriverState}, declared.tally.Tally.Tally}, proofs.Ids.entry_has}
 use Rattle.vs_driver.proofs.Rest.{left_as, may_next, then}
 use Rattle.vs_conn.specs.declared.end.Owed.TheVariants as owed
 

@@ -6,8 +6,9 @@ use Rattle.vs_outside.specs.declared.host_net.{Accepted.Accepted, StreamRead.Str
 use Rattle.vs_uds.specs.{ConnectLine.connect_step, declared.scan.Step.Step}
 use Rattle.vs_flow.specs.declared.{flow.Flow.Flow, table.TableFault.TableFault}
 use Rattle.vs_device_parts.specs.{Calls.{DeviceTree, Situation, Allows, Accept, ReadStream, CloseStream}, Playing.{CanMake, MayRun, Runs}, State.DeviceState, Turns.open_of}
-use Rattle.vs_proxy_parts.specs.Handshakes.{accept_answered, accept_one, byte_read, dropping, handshake_on, line_decided, next_after, next_flow, read_byte, with_line, without_handshake}
-use Rattle.vs_proxy_parts.specs.{Handshakes.without_stream, Turning.{closing_client, connecting, opening_client, without_it}, State.{Handshake, Turning, with_device}}
+use Rattle.vs_proxy_parts.specs.Handshakes.{accept_answered, accept_one, byte_read, dropping, handshake_on, line_decided, next_after, next_flow, read_byte, with_line}
+use Rattle.vs_proxy_parts.specs.{Handshakes.{without_handshake, without_stream}, Turning.{closing_client, connecting, opening_client, without_it}, State.{Handshake, Turning}}
+use Rattle.vs_proxy_parts.specs.State.{with_device}
 use Rattle.vs_limits.specs.declared.TheConstants.{HANDSHAKES}
 use Rattle.vs_outside.specs.declared.host_net.StreamRead.TheVariants as read
 use Rattle.vs_uds.specs.declared.scan.Step.TheVariants as step

@@ -5,8 +5,8 @@ ghost use Rattle.vs_outside.specs.Host.{IsOpen};
 ghost use Rattle.vs_uds.specs.declared.connect.TheConstants.{CONNECT_MAX};
 ghost use Rattle.vs_device_parts.specs.{Calls.CloseStream, Playing.{AllowsOnHost, MayRunOnHost, RunsOnHost}};
 ghost use Rattle.vs_limits.specs.declared.TheConstants.{HANDSHAKES};
-ghost use Rattle.vs_proxy_parts.specs.{Handshakes.{byte_read, handshake_on, next_after, next_flow, read_byte, read_line, shake_hands}, State.Handshake, Turning.{CountsFew, connecting}};
-ghost use Rattle.vs_proxy_parts.specs.Turning.{read_lines, turning_of};
+ghost use Rattle.vs_proxy_parts.specs.{Handshakes.{byte_read, handshake_on, next_after, next_flow, read_byte, read_line, shake_hands}, State.Handshake, Turning.CountsFew};
+ghost use Rattle.vs_proxy_parts.specs.Turning.{connecting, read_lines, turning_of};
 ghost use Rattle.vs_outside.specs.declared.host_net.StreamRead.TheVariants as read;
 
 use crate::proxy::Proxy;

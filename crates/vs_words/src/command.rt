@@ -1,7 +1,7 @@
 //! What words ask for.
 ghost use Rattle.std.specs.{Prelude.{◌≡◌, ◌≤◌, Some, None, Err, IfOk, map, option_map, string_bytes}, Option.IfSome};
-ghost use Rattle.vs_words.specs.Command.{IsBase, IsFirst, IsInRange, IsQueueSize, command_view, command_of, named_command, play_words, run_words, hostile_words, load_words, peer_words};
-ghost use Rattle.vs_words.specs.{Command.{rings_of, queue_of, base_of, number_of, idle_of, first_of}, declared.error.WordsError.TheVariants.Usage};
+ghost use Rattle.vs_words.specs.Command.{IsBase, IsFirst, IsInRange, IsQueueSize, command_view, command_of, named_command, play_words, run_words, hostile_words, load_words};
+ghost use Rattle.vs_words.specs.{Command.{peer_words, rings_of, queue_of, base_of, number_of, idle_of, first_of}, declared.error.WordsError.TheVariants.Usage};
 
 use crate::error::WordsError;
 use crate::number::number_in;

@@ -9,14 +9,15 @@ use Rattle.vs_device_parts.specs.{Connections.{after_shut, after_written, cut_of
 use Rattle.laws_device.proofs.Carried.Gives.{drop_both, first_of, forwards_asked, forwards_gives, accepted_other, accepts_asked, accepts_response, answered_host, comes_behind}
 use Rattle.laws_device.proofs.Carried.Gives.{delivered_other, delivers_gives, gives_delivered, goes_host, hears_gives, kept_empty, response_empty, shut_gives, shuts_asked}
 use Rattle.laws_device.proofs.Carried.{Gives.{unanswered_got, forwards_old, shuts_old, stays_old}, HostCalls.{read_host, write_host, closed_left, same_ends, same_host}}
-use Rattle.laws_device.proofs.Carried.{Streamed.{join_of, kept_streamed, left_streamed, StaysStill, passed_streamed, same_connection_of, same_streamed}, Opens.none_apart, Hosts.counts_kept}
-use Rattle.laws_device.proofs.Carried.{Hosts.{counts_still, look_kept, unseen}, Counted.{comes_on, counted_asks, counted_got, counted_put, kept_less, number_elsewhere, number_put_elsewhere}}
-use Rattle.laws_device.{proofs.Carried.Counted.{put_still, request_put}, specs.Carried.Streamed.{client_waits, AreCounted, IsCounted, IsJoined, IsStreamed, Ports, connection_of}}
-use Rattle.laws_device.specs.Carried.Streamed.{count_in, gives, line_for, look, seen, Seen}
+use Rattle.laws_device.proofs.Carried.{Streamed.{join_of, kept_streamed, left_streamed, StaysStill, passed_streamed, same_connection_of, same_streamed}, Opens.none_apart}
+use Rattle.laws_device.proofs.Carried.{Hosts.{counts_kept, counts_still, look_kept, unseen}, Counted.{comes_on, counted_asks, counted_got, counted_put, kept_less}}
+use Rattle.laws_device.{proofs.Carried.Counted.{number_elsewhere, number_put_elsewhere, put_still, request_put}, specs.Carried.Streamed.{client_waits, AreCounted, IsCounted}}
+use Rattle.laws_device.specs.Carried.Streamed.{IsJoined, IsStreamed, Ports, connection_of, count_in, gives, line_for, look, seen, Seen}
 use Rattle.laws_history.specs.{Packets.{has, is_clean_rst, is_request, is_response, is_rw}, History.{Answerer, Asker, Got, History, IsFair, Side, gots, puts, MayPut, peer}}
 use Rattle.laws_history.specs.{declared.packet.Packet.Packet, Again.AllowsNow}
-use Rattle.laws_tables.{specs.{Steps.payload_on, Drains.{Drains, only_on}, Ends.{is_among, is_new}}, proofs.{Entries.kept_among, Fair.{fair_now, own_got_fair}, Adding.{got_over_put, number_got, number_put}}}
-use Rattle.laws_tables.proofs.{Adding.{put_adds, put_nothing, put_over_got}, Logs.none_on_any, Goes.{comes_out, Goes, drops, stays_still}, Changes.without_changed}
+use Rattle.laws_tables.{specs.{Steps.payload_on, Drains.{Drains, only_on}, Ends.{is_among, is_new}}, proofs.{Entries.kept_among, Fair.{fair_now, own_got_fair}}}
+use Rattle.laws_tables.proofs.{Adding.{got_over_put, number_got, number_put, put_adds, put_nothing, put_over_got}, Logs.none_on_any, Goes.{comes_out, Goes, drops, stays_still}}
+use Rattle.laws_tables.proofs.Changes.{without_changed}
 use Rattle.vs_outside.specs.Host.{after_close, after_failed, after_read, after_shut_write, after_write, called, dial_answer, fails_now, is_listened, next_bytes, HostContents}
 use Rattle.vs_outside.{specs.{Host.{with_shut_write_call, Stream}, HostBytes.is_labelled}, proofs.Frames.stream_at-after_failed}
 use Rattle.vs_page.specs.{Held.{IsWhole, packet_held, packet_with, payload_held}, Log.{Device, Log, flow_got, flow_put, history_of, side_of, side_by}}

@@ -7,8 +7,8 @@ use Rattle.vs_outside.specs.Host.{HostContents, after_close}
 use Rattle.vs_page.specs.Log.{Log}
 use Rattle.vs_proxy_parts.specs.State.{Handshake}
 use Rattle.laws_tables.proofs.Slots.{found_by}
-use Rattle.laws_device.specs.{Named.Streams.{joined_stream, stream_under}, Carried.Streamed.{AreLabelled, IsJoined, IsStreamed, Ports, Seen, connection_of, count_in, look, reading}}
-use Rattle.laws_device.proofs.{Named.Tables.{joined_in, stream_closed_under, value_in}, Carried.HostCalls.{open_before, shut_labels, some_seen}}
+use Rattle.laws_device.specs.{Named.Streams.{joined_stream, stream_under}, Carried.Streamed.{AreLabelled, IsJoined, IsStreamed, Ports, Seen, connection_of, count_in, look}}
+use Rattle.laws_device.{specs.Carried.Streamed.reading, proofs.{Named.Tables.{joined_in, stream_closed_under, value_in}, Carried.HostCalls.{open_before, shut_labels, some_seen}}}
 
 -- A stream with a label that isn't closed is that of a connection under one of these slots. No line is of such a stream.
 pub record IsClosing (rest : List ℕ) (t : Table DeviceConnection) (c : HostContents) (log : Log) (port : Ports)

@@ -6,8 +6,8 @@ use Rattle.laws_history.specs.{Again.{MayPutNow, count, IsClean}, Packets.{has, 
 use Rattle.laws_history.specs.declared.packet.Packet.{Packet}
 use Rattle.vs_page.specs.{Fair.{IsFairLog, asked_by, current, number_of, payload_got}, Held.IsWhole, Log.{Device, Log, and_then, flow_got, flow_put, history_of, side_by, side_of}}
 use Rattle.vs_page.{specs.{Log.whole_of, declared.log.LogEntry.TheVariants.{GotPacket, PutPacket}}, proofs.Flows.same_self}
-use Rattle.laws_tables.{specs.{Drains.only_on, Ends.is_among}, proofs.{Adding.{got_adds, got_nothing, number_put, put_nothing, got_over_put}, Fair.own_got_fair, Firsts.{asker_asks, no_present}}}
-use Rattle.laws_tables.proofs.Logs.{none_on_any}
+use Rattle.laws_tables.{specs.{Drains.only_on, Ends.is_among}, proofs.{Adding.{got_adds, got_nothing, number_put, put_nothing, got_over_put}, Fair.own_got_fair, Firsts.asker_asks}}
+use Rattle.laws_tables.proofs.{Firsts.no_present, Logs.none_on_any}
 use Rattle.laws_device.{specs.Carried.Streamed.{AreCounted, IsCounted}, proofs.Carried.Streamed.StaysStill}
 
 -- No other flow is kept.

@@ -11,8 +11,8 @@ use Rattle.vs_page.specs.{Fair.{number_of, payload_got, payload_put}, Log.{Devic
 use Rattle.vs_proxy_parts.specs.State.{Handshake}
 use Rattle.vs_uds.specs.{Reading.is_decided, declared.connect.TheConstants.CONNECT_MAX}
 use Rattle.laws_tables.{specs.{Drains.{Drains, only_on}, Ends.is_new}, proofs.{Changes.others_left, Logs.none_on_any, Goes.drops}}
-use Rattle.laws_device.specs.Carried.Streamed.{AreCounted, AreLabelled, AreStreamed, IsJoined, IsLabelled, IsStreamed, Ports, Seen, client_waits, connection_of, count_in, gives, has_line}
-use Rattle.laws_device.{specs.Carried.Streamed.{line_for, look, reading, seen, seen_as, taken_of}, proofs.Carried.Streamed.{one_seen, is_or_not, join_moves, join_of}}
+use Rattle.laws_device.specs.Carried.Streamed.{AreCounted, AreLabelled, AreStreamed, IsJoined, IsLabelled, IsStreamed, Ports, Seen, client_waits, connection_of, count_in, gives}
+use Rattle.laws_device.{specs.Carried.Streamed.{has_line, line_for, look, reading, seen, seen_as, taken_of}, proofs.Carried.Streamed.{one_seen, is_or_not, join_moves, join_of}}
 use Rattle.laws_device.proofs.Carried.{Streamed.{moved_streamed, no_entry, one_streamed, recounted, recounted_labels, same_streamed, unlabelled_streamed}, Tabled.stream_stays}
 use Rattle.laws_device.proofs.Carried.{Lines.after_longer, Hosts.{changed_seen, counts_more, counts_still, new_look, none_there, others_look, others_seen, there, unseen_none}}
 use Rattle.vs_outside.specs.declared.host_net.Accepted.TheVariants as accepted

@@ -10,8 +10,8 @@ use Rattle.vs_page.specs.{Fair.{IsPrefixOf, number_of, payload_got, payload_put}
 use Rattle.vs_proxy_parts.specs.State.{Handshake}
 use Rattle.laws_tables.{specs.{Drains.{Drains, is_same, only_on}, Ends.is_new}, proofs.{Changes.{changed, others_left}, Logs.{longer, none_on_any, not_on, same_connection}}}
 use Rattle.laws_tables.proofs.Logs.{shorter, there_on}
-use Rattle.laws_device.specs.Carried.Streamed.{AreCounted, AreLabelled, AreLines, AreStreamed, HasLabel, IsJoined, IsLabelled, Ports, Seen, client_waits, connection_of, gives, line_for}
-use Rattle.laws_device.{specs.{Carried.Streamed.{reading, taken_of}, Named.Streams.stream_under}, proofs.Carried.{Lines.line_longer, Tabled.{stream_comes, stream_kept}}}
+use Rattle.laws_device.specs.Carried.Streamed.{AreCounted, AreLabelled, AreLines, AreStreamed, HasLabel, IsJoined, IsLabelled, Ports, Seen, client_waits, connection_of, gives}
+use Rattle.laws_device.{specs.{Carried.Streamed.{line_for, reading, taken_of}, Named.Streams.stream_under}, proofs.Carried.{Lines.line_longer, Tabled.{stream_comes, stream_kept}}}
 use Rattle.laws_device.proofs.Carried.Tabled.{stream_now, stream_other, stream_stays}
 
 some_inj : {X : Type 0} (x y : X) → ◌≡◌ {A = Option X} (Some x) (Some y) → x ≡ y

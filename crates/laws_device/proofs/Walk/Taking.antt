@@ -10,8 +10,8 @@ use Rattle.vs_page.specs.{Log.{Device, flow_to_host}, Open.is_dropped}
 use Rattle.vs_ring_port.specs.{Contents.{Read, Return, Take}, declared.{device_ring.{Chain.Chain, Next.Next}, failure.Failure.Failure, queue.Queue.TheVariants.Tx}}
 use Rattle.vs_uds.specs.{OkLine.ok_text, Path.path_of}
 use Rattle.vs_wrap.specs.Wrap.{counted}
-use Rattle.vs_device_parts.specs.{Transmitting.{dial_answered, failing, heard, keeps_flow, on_header, on_known, on_next, on_packet, on_unknown, take_tx_of}, Connections.with_connection}
-use Rattle.vs_device_parts.specs.{Connections.{with_dialed, with_fault}, Calls.{Dial, Ring}, State.{DeviceEntry, DeviceState}}
+use Rattle.vs_device_parts.specs.Transmitting.{dial_answered, failing, heard, keeps_flow, on_header, on_known, on_next, on_packet, on_unknown, take_tx_of}
+use Rattle.vs_device_parts.specs.{Connections.{with_connection, with_dialed, with_fault}, Calls.{Dial, Ring}, State.{DeviceEntry, DeviceState}}
 use Rattle.laws_device.{proofs.Walk.{Keeping.{Asking, Keeps, keeps_if, keeps_some, keeps_then}, Serving.{Closes, by_flow, keeps_leaving}}, specs.Walk.Seen.{Seen, seen}}
 use Rattle.vs_conn.specs.declared.end.Verdict.TheVariants as verdict
 use Rattle.vs_conn.specs.declared.end.Why.TheVariants as why

@@ -1,8 +1,8 @@
 -- Handshakes and turns.
-use Rattle.std.proofs.Common.{◌≡◌, ℕ, ◌+◌, ◌==◌, nat_lt, Bool, true, false, cond, List, [], ◌∷◌, ◌++◌, length, find, Option, Some, None, Result, Ok, Err, refl, sym}
-use Rattle.std.proofs.{Common.{subst, arith}, lemmas.Bool.Decides.nat_tests}
+use Rattle.std.proofs.Common.{◌≡◌, ℕ, ◌+◌, ◌==◌, nat_lt, Bool, true, false, cond, List, [], ◌∷◌, ◌++◌, length, find, Option, Some, None, Result, Ok, Err, refl, sym, subst, arith}
+use Rattle.std.proofs.lemmas.Bool.Decides.{nat_tests}
 use Rattle.vs_contents.specs.CallTree.{Done, Ask}
-use Rattle.vs_flow.{proofs.Entries.found_passes, specs.{Table.{refusal}, declared.{flow.Flow.Flow, table.TableFault.TableFault}}}
+use Rattle.vs_flow.{proofs.Entries.found_passes, specs.{Table.refusal, declared.{flow.Flow.Flow, table.TableFault.TableFault}}}
 use Rattle.vs_limits.specs.declared.TheConstants.{HANDSHAKES}
 use Rattle.vs_outside.specs.declared.host_net.{Accepted.Accepted, StreamRead.StreamRead}
 use Rattle.vs_header.specs.declared.Header.{Header}
@@ -10,9 +10,10 @@ use Rattle.vs_ring_port.specs.declared.{device_ring.Chain.Chain, failure.Failure
 use Rattle.vs_uds.specs.{ConnectLine.connect_step, declared.{connect.TheConstants.CONNECT_MAX, scan.Step.Step}}
 use Rattle.vs_device_parts.specs.{Calls.{Accept, CloseStream, DeviceTree, Label, ReadStream}, Connections.{is_late, with_client, with_fault}, declared.answers.Filled.Filled}
 use Rattle.vs_device_parts.specs.{Receiving.{fill_rx_of, pay_event_of}, State.DeviceState, Streams.{pump_of, tick_of}, Transmitting.take_tx_of, Turns.open_of}
-use Rattle.vs_proxy_parts.specs.Handshakes.{accept_answered, accept_one, byte_read, dropping, handshake_on, host_fault, line_decided, next_after, next_flow, opening, read_byte, read_line}
-use Rattle.vs_proxy_parts.specs.{Handshakes.{shake_hands, streams_of, tick_handshake, tick_handshakes, with_line, without_stream}, Turns.{device_after, event_stage, fill_stage}}
-use Rattle.vs_proxy_parts.specs.{Turns.{filled, pump_stage, take_one, take_stage, tick_stage, took_packet, turn_of, unless_failed}, State.{Handshake, ProxyState, Turning, start}}
+use Rattle.vs_proxy_parts.specs.Handshakes.{accept_answered, accept_one, byte_read, dropping, handshake_on, host_fault, line_decided, next_after, next_flow, opening, read_byte}
+use Rattle.vs_proxy_parts.specs.{Handshakes.{read_line, shake_hands, streams_of, tick_handshake, tick_handshakes, with_line, without_stream}, Turns.{device_after, event_stage}}
+use Rattle.vs_proxy_parts.specs.{Turns.{fill_stage, filled, pump_stage, take_one, take_stage, tick_stage, took_packet, turn_of, unless_failed}, State.{Handshake, ProxyState}}
+use Rattle.vs_proxy_parts.specs.State.{Turning, start}
 use Rattle.laws_device.proofs.Walk.{Keeping.{Asking, Keeps, keeps_each, keeps_if, keeps_some, keeps_then, keeps_while}, Serving.{Closes, Fills, Writes, keeps_fill_rx}}
 use Rattle.laws_device.{proofs.Walk.{Serving.{keeps_pay_event, keeps_pump, keeps_tick}, Taking.{Takes, keeps_take_tx}}, specs.Walk.Seen.{Seen, seen}}
 use Rattle.vs_outside.specs.declared.host_net.Accepted.TheVariants as accepted

@@ -137,15 +137,3 @@ sent_of _ reply s log c = []
 abbrev pub IsJournaledWith : ℕ → (ℕ → Connection) → Journal → DriverState → RingContents → Type 0
 IsJournaledWith first_id opened journal s c = c.honest ≡ true → ForSome c.log (λ l. (now : ℕ → Connection)
     × ((id : ℕ) → 1 ≤ (opened id).number → now id ≡ opened id) × AreReceived (account_of first_id now journal) l.entries (slots_of s))
-
--- What the guest sent on a flow, and what it received there.
-abbrev pub is_on : Flow → Option Flow → Bool
-is_on f g = option_map_or (same_flow f) g false
-
-abbrev pub sent_on : Flow → Journal → List ℕ
-sent_on f [] = []
-sent_on f (made ∷ older) = sent_on f older ++ (if is_on f made.flow then bytes_sent made.call made.reply else [])
-
-abbrev pub received_on : Flow → Journal → List ℕ
-received_on f [] = []
-received_on f (made ∷ older) = received_on f older ++ (if is_on f made.flow then bytes_received made.call made.reply else [])

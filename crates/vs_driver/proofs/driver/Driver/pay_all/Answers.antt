@@ -1,10 +1,10 @@
 use Rattle.std.proofs.Common.{◌≡◌, ℕ, List, ◌<◌, ◌≤◌, length, refl, sym, ap, subst, ◌∙◌, rules, arith}
-use Rattle.vs_ring_port.specs.{declared.queue.Queue.TheVariants.Tx, Counts.no_counts, Counts.with_count}
-use Rattle.vs_driver_parts.specs.{Connections.OweNothing, State.DriverState, Held.HeldSlots, Playing.{IsAtWork, MayPublishAll, Plays, RingAllows}, Conversations.{Round, round_of, pay_all, pay_slot}}
-use Rattle.vs_contents.{specs.CallTree.{for_each}, proofs.Leads.{leads_of}}
+use Rattle.vs_ring_port.specs.{declared.queue.Queue.TheVariants.Tx, Counts.{no_counts, with_count}}
+use Rattle.vs_driver_parts.specs.{Connections.OweNothing, State.DriverState, Held.HeldSlots, Playing.{IsAtWork, MayPublishAll, Plays, RingAllows}, Conversations.{Round, round_of}}
+use Rattle.vs_driver_parts.specs.Conversations.{pay_all, pay_slot}
+use Rattle.vs_contents.{specs.CallTree.for_each, proofs.Leads.leads_of}
 use Rattle.vs_flow.specs.Table.{slots}
-use Rattle.vs_driver.specs.contracts.driver.Driver.{the_view}
-use Rattle.vs_driver.proofs.Paying.{each_more, may_each_step, may_each_more, each_end, pays_none}
+use Rattle.vs_driver.{specs.contracts.driver.Driver.the_view, proofs.Paying.{each_more, may_each_step, may_each_more, each_end, pays_none}}
 use Rattle.vs_driver.proofs.driver.Driver.pay_all.Goals as goal
 
 pub loop-slot-init : goal.loop-slot-init

@@ -1,5 +1,5 @@
-use Rattle.std.proofs.{Common.{◌≡◌, ◌≤◌, Some, None, length, sym, subst, rules, arith}, lemmas.{Grind.common_steps, List.{Elements.All-more, take_all}, Option.{slice_get_cases, slice_get_within, get_or_from_slice_get}}}
-use Rattle.std.specs.List.{All, slice_get}
+use Rattle.std.proofs.{Common.{◌≡◌, ◌≤◌, Some, None, length, sym, subst, rules, arith}, lemmas.{Grind.common_steps, List.{Elements.All-more, take_all}, Option.slice_get_cases}}
+use Rattle.std.{proofs.lemmas.Option.{slice_get_within, get_or_from_slice_get}, specs.List.{All, slice_get}}
 use Rattle.vs_conn.specs.End.{owes_of}
 use Rattle.vs_driver_parts.specs.State.{DriverEntry}
 use Rattle.vs_driver_parts.proofs.slots.Slots.one_owes.Goals as goal
