@@ -31,10 +31,10 @@ invariant_of-result g c =
     subst (λ (s : Sight). AreGuests script (record { driver = driver; end = s; apps = apps; entries = []; bytes = [] })) (sym c.note.ensures.driver)
     (guests_hear script (record { driver = driver; end = c.new_at.new.ring; apps = apps; entries = []; bytes = [] }) all
     (what_it_did c.args.device.now.sight)) in
-    let with_entries : AreGuests script (record { driver = driver; end = c.note.new.driver; apps = apps; entries = c.new-2.result.items; bytes = [] }) =
+    let with_entries : AreGuests script (record { driver = driver; end = c.note.new.driver; apps = apps; entries = c.new.result.items; bytes = [] }) =
     subst (λ (es : List Entry). AreGuests script (record { driver = driver; end = c.note.new.driver; apps = apps; entries = es; bytes = [] }))
-    (sym c.new-2.ensures.items) heard in (
+    (sym c.new.ensures.items) heard in (
       c.requires.script,
-      subst (λ (bs : List ℕ). AreGuests script (record { driver = driver; end = c.note.new.driver; apps = apps; entries = c.new-2.result.items; bytes = bs }))
-          (sym c.new-3.ensures.items) with_entries,
+      subst (λ (bs : List ℕ). AreGuests script (record { driver = driver; end = c.note.new.driver; apps = apps; entries = c.new.result.items; bytes = bs }))
+          (sym c.new-2.ensures.items) with_entries,
     )
