@@ -69,21 +69,21 @@ module _ (carry : Carried) (first port : ℕ) (s : DeviceState) (guest : ℕ) (f
   -- A fresh one.
   fresh : nat_le port ASSIGNED_LAST ≡ true → flow ≡ host_flow guest port → IsTaken carry port s flow
   fresh left is = subst (λ (f : Flow). IsTaken carry port s f) (sym is) (
-    let f : Flow = host_flow guest port in
-    let last : port ≤ ASSIGNED_LAST = grind (arith, nat_tests, left) in
-    let inside : is_assigned port ≡ true = grind (arith, nat_tests, above, last) in
-    let asker = ap (side_by Device) inside in
-    let onward : port_after port port ≡ next_after port = grind (arith, nat_tests, last) in
-    record {
-      gives = record {
-        next = record { asker = asker; port = inl (omega arith) };
-        ports = record { guest = fits; host = omega (arith, last); peer = omega arith };
-        wanted = carry.of_host f refl;
-        port_is = onward;
-      };
-      inside = inside;
-      none = rw (absent s.table f p.fits.sound (p.matches.flows.unused f asker (omega arith)).no_end, place) refl;
-    })
+      let f : Flow = host_flow guest port in
+      let last : port ≤ ASSIGNED_LAST = grind (arith, nat_tests, left) in
+      let inside : is_assigned port ≡ true = grind (arith, nat_tests, above, last) in
+      let asker = ap (side_by Device) inside in
+      let onward : port_after port port ≡ next_after port = grind (arith, nat_tests, last) in
+      record {
+        gives = record {
+          next = record { asker = asker; port = inl (omega arith) };
+          ports = record { guest = fits; host = omega (arith, last); peer = omega arith };
+          wanted = carry.of_host f refl;
+          port_is = onward;
+        };
+        inside = inside;
+        none = rw (absent s.table f p.fits.sound (p.matches.flows.unused f asker (omega arith)).no_end, place) refl;
+      })
 
   -- One that is used again.
   again : nat_le port ASSIGNED_LAST ≡ false → oldest (comes_from guest) s.clean ≡ Some flow → IsTaken carry port s flow

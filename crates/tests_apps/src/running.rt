@@ -60,7 +60,8 @@ pub fn run_hellos<R: AllocGlobal + Threads + Wait + Sync, G: Gate + Send + Drop>
     let mut clock = StepClock::new();
     let mut sink = MemSink::new(alloc, 4096);
     let ended = run(
-        rt, alloc, script, queue, 1_024, "v.sock", &mut host, &mut clock, IDLE, gates, gate, &mut sink,
+        rt, alloc, script, queue, 1_024, "v.sock", &mut host, &mut clock, IDLE, gates, gate,
+        &mut sink,
     );
     Ok((ended, sink))
 }
