@@ -14,7 +14,7 @@ use Rattle.vs_core.{specs.Ready.{IsDrivenAtWork, IsReady, IsServedAtWork, WorldS
 -- A driver just made loads the first CID.
 pub cid_of : (n : ℕ) (w : Ends) (s : DriverState) → over_lists (new_of n FIRST_PORT 1) (empty_ends n) ≡ (s, w) → s.cid ≡ first_cid
 cid_of n w s played =
-    sym (ap (λ (r : DriverState × Ends). r.0.cid) played) ∙ sym (ap (λ (b : Both). b.driver.part.cid) (opening_is n (opened_host [])))
+    sym (ap (λ (r : DriverState × Ends). r.0.cid) played) ∙ sym (ap (λ (b : Both). b.driver.part.cid) (opening_is (from_lowest n) (opened_host [])))
 
 -- A proxy just made, over empty rings.
 served_new : (n : ℕ) (base : List ℕ) (h : HostContents) → IsServedAtWork (new_proxy first_cid base) (empty_ends n) h

@@ -2,7 +2,7 @@
 use Rattle.std.proofs.Common.{ℕ, ◌-◌, ◌==◌, ◌&&◌, not, nat_lt, nat_le, Bool, true, false, cond, List, [], ◌∷◌, ◌++◌, length, Some, Result, Ok, Err, arith}
 use Rattle.vs_contents.specs.CallTree.{Done, bind, for_each}
 use Rattle.vs_conn.specs.{End.{owes_of, is_reset, is_of, verdict_of, wanting_credit}, Headers.{owed_header, payload_header}, declared.end.{Owed.Owed, Verdict.Verdict}}
-use Rattle.vs_flow.specs.{Flow.{host_flow, is_assigned}, Table.{entry_of, entry_under, has_place, refusal, slots}}
+use Rattle.vs_flow.specs.{Flow.is_assigned, declared.flow.Flow.Flow, Table.{entry_of, entry_under, has_place, refusal, slots}}
 use Rattle.vs_header.specs.{Op.op_number, Packet.header_of, declared.{Header.Header, TheConstants.HEADER_LEN, Op.TheVariants.Request, Kind.TheVariants.Stream}}
 use Rattle.vs_outside.specs.declared.host_net.{StreamRead.StreamRead, StreamWrite.StreamWrite}
 use Rattle.vs_page.specs.{Log.{flow_to_host, Device}, Open.is_dropped}
@@ -12,10 +12,10 @@ use Rattle.vs_uds.specs.{ConnectLine.connect_step, declared.scan.Step.Step}
 use Rattle.vs_device_parts.specs.Receiving.{Filling, after_paying, hold, may_read, put_owed, put_packet, put_reply_of, read_answered, read_with_chain, written, put_on}
 use Rattle.vs_device_parts.specs.{Receiving.reply_header, Steps.{chain_came, filling, puts_event, puts_owed, puts_payload, puts_reply, reads, shuts_write, takes_chain, writes}}
 use Rattle.vs_device_parts.specs.{Steps.{writes_on, writing}, Streams.{Writing, closing, is_written_out, leaving, shut_write, tick_slot, to_write, write_answered, write_pending}}
-use Rattle.vs_device_parts.specs.{Connections.{cut_off, is_late, is_timed_out, route_to_guest, stream_closed, with_connection, with_fault}, Transmitting.{heard, on_known}}
+use Rattle.vs_device_parts.specs.{Connections.{cut_off, is_late, is_timed_out, route_to_guest, stream_closed, with_connection, with_fault}, Transmitting.{heard, keeps_flow, on_known}}
 use Rattle.vs_device_parts.specs.{Transmitting.{on_packet, on_unknown}, Calls.DeviceTree, State.{DeviceConnection, DeviceEntry, DeviceState}, Turns.{close_slot, open_of, reset_of}}
 use Rattle.vs_limits.specs.declared.TheConstants.{DEVICE_REPLIES, HANDSHAKES}
-use Rattle.vs_proxy_parts.specs.{Handshakes.{accept_one, byte_read, handshake_on, line_decided, may_open, opening, read_byte, streams_of, tick_handshake}, State.Handshake}
+use Rattle.vs_proxy_parts.specs.{Handshakes.{accept_one, byte_read, handshake_on, line_decided, next_flow, opening, read_byte, streams_of, tick_handshake}, State.Handshake}
 use Rattle.vs_proxy_parts.specs.{State.{ProxyState, Turning}, Turns.{close_handshake, proxy_reset_of, reset_with}}
 use Rattle.laws_world.proofs.Holding.{AllReturnSome, bind_some, cond_some, option_some}
 use Rattle.vs_conn.specs.declared.end.Owed.TheVariants as owed
@@ -35,15 +35,15 @@ each_some step each (i ∷ is) x = bind_some (step i x) (for_each step is) (each
 closing_some : (e : DeviceEntry) (f : DeviceConnection → DeviceConnection) (s : DeviceState) → AllReturnSome (closing e f s)
 closing_some e f s = cond_some e.value.closed _ _ tt (tt, λ a. tt)
 
-leaving_some : (e : DeviceEntry) (s : DeviceState) → AllReturnSome (leaving e s)
-leaving_some e s = bind_some (closing e stream_closed s) _ (closing_some e stream_closed s) (λ t. tt)
+leaving_some : (keep : Bool) (e : DeviceEntry) (s : DeviceState) → AllReturnSome (leaving keep e s)
+leaving_some keep e s = bind_some (closing e stream_closed s) _ (closing_some e stream_closed s) (λ t. tt)
 
 -- A packet is taken.
 known_some : (v : Verdict) (chain : Chain) (h : Header) (e : DeviceEntry) (s : DeviceState) → AllReturnSome (on_known v chain h e s)
 known_some verdict.Accept chain h e s = tt
 known_some verdict.Deliver chain h e s = (tt, λ payload. tt)
 known_some verdict.Discard chain h e s = tt
-known_some verdict.Peer chain h e s = cond_some (is_reset h) _ _ (leaving_some (record e { value = heard h e.value }) s) tt
+known_some verdict.Peer chain h e s = cond_some (is_reset h) _ _ (leaving_some (keeps_flow h e) (record e { value = heard h e.value }) s) tt
 known_some (verdict.Rst (why.Overrun o)) chain h e s = tt
 known_some (verdict.Rst _) chain h e s = tt
 known_some verdict.Ignore chain h e s = tt
@@ -107,7 +107,7 @@ reply_some s = option_some s.chain _ _ tt
     (λ chain. bind_some (put_reply_of s.replies (filling s)) _ (reply_of_some s.replies (filling s)) (λ q. tt))
 
 paying_some : (what : Owed) (e : DeviceEntry) (s : DeviceState) → AllReturnSome (after_paying what e s)
-paying_some owed.Rst e s = leaving_some e _
+paying_some owed.Rst e s = leaving_some false e _
 paying_some _ e s = tt
 
 what_some : (what : Owed) (e : DeviceEntry) (r : Filling)
@@ -188,17 +188,17 @@ late_some stream t =
     option_some (handshake_on stream t.state) _ _ tt
     (λ h. cond_some (is_late t.state.device.now (Some h.accepted_at)) _ _ (tt, λ a. tt) tt)
 
-opens_some : (stream port : ℕ) (t : Turning) → AllReturnSome (opening stream port t)
-opens_some stream port t =
-    bind_some (open_of (host_flow port t.state.next_port) stream t.state.device) _
-    (option_some (refusal t.state.device.table (host_flow port t.state.next_port)) _ _ (tt, λ a. tt) (λ fault. tt))
+opens_some : (stream : ℕ) (flow : Flow) (t : Turning) → AllReturnSome (opening stream flow t)
+opens_some stream flow t =
+    bind_some (open_of flow stream t.state.device) _
+    (option_some (refusal t.state.device.table flow) _ _ (tt, λ a. tt) (λ fault. tt))
     (λ r. tt)
 
 decided_some : (stream : ℕ) (a : Step) (t : Turning) → AllReturnSome (line_decided stream a t)
 decided_some stream line.More t = tt
 decided_some stream line.Bad t = (tt, λ a. tt)
 decided_some stream (line.Port port) t =
-    bind_some _ _ (cond_some (may_open t.state) _ _ (opens_some stream port t) (tt, λ a. tt)) (λ u. tt)
+    bind_some _ _ (option_some (next_flow port t.state.next_port t.state.device) _ _ (tt, λ a. tt) (λ flow. opens_some stream flow t)) (λ u. tt)
 
 byte_some : (h : Handshake) (a : StreamRead) (bytes : List ℕ) (t : Turning) → AllReturnSome (byte_read h a bytes t)
 byte_some h (read.Got n) bytes t = decided_some h.stream (connect_step (h.line ++ bytes)) _

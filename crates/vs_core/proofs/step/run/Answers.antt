@@ -1,5 +1,5 @@
 use Rattle.std.proofs.Common.{rules}
-use Rattle.laws_world.specs.World.{opened_host, opening}
+use Rattle.laws_world.specs.World.{from_lowest, opened_host, opening}
 use Rattle.vs_core.proofs.Running.{led_last, led_next}
 use Rattle.vs_core.proofs.step.run.Goals as goal
 
@@ -8,7 +8,7 @@ loop-event-preserved c = record {
   ready = c.in_ok-step.ensures.happened.ready;
   led =
       led_next c.args.events.now c.loop-event.event-index c.event-item.result c.loop-event.world c.step.new.self
-      (opening c.args.n (opened_host c.args.base.now)) c.loop-event-test.true c.event-item.is c.loop-event.invariant.led
+      (opening (from_lowest c.args.n) (opened_host c.args.base.now)) c.loop-event-test.true c.event-item.is c.loop-event.invariant.led
       c.in_ok-step.ensures.happened.world;
 }
 

@@ -1,4 +1,4 @@
-use Rattle.laws_world.specs.World.{opened_host, opening}
+use Rattle.laws_world.specs.World.{from_lowest, opened_host, opening}
 use Rattle.vs_core.{specs.Ready.IsReady, proofs.Running.IsLed}
 use Rattle.vs_core.proofs.step.run.Given as goal
 
@@ -6,5 +6,5 @@ use Rattle.vs_core.proofs.step.run.Given as goal
 abbrev pub invariant-loop-event : goal.invariant-loop-event
 invariant-loop-event l = record {
   ready : IsReady l.world;
-  led : IsLed l.fn.events l.event-index l.world (opening l.fn.n (opened_host l.fn.base));
+  led : IsLed l.fn.events l.event-index l.world (opening (from_lowest l.fn.n) (opened_host l.fn.base));
 }
