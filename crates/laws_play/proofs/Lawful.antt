@@ -20,8 +20,8 @@ use Rattle.laws_driver.specs.Carried.{Calls.{account_of, flow_accepted, flow_ope
 use Rattle.vs_play.specs.{Answer.{base_path, texts_of, world_after}, Lines.{PlayWorld, event_played}}
 use Rattle.laws_play.proofs.{PlayLines.{after_both, around_journal, front_bounded, lines_of, lines_receive, lines_right, lines_send, rest_bounded, world_is}, Reached.carries}
 use Rattle.laws_play.proofs.{Reached.{holds_open, holds_rest, keeps_credit, keeps_ids, log_is, many_device, many_guest, own_streams, queued, rightly}, Counting.lines_count}
-use Rattle.laws_play.{proofs.Counting.lines_within, specs.{Headline.{begun_play, IsLawful, IsNamedIn, KeepsIds, StaysShut, driver_log, world_of}, Said.{accept_answer, close_answer}}}
-use Rattle.laws_play.specs.Said.{connect_answer}
+use Rattle.laws_play.{proofs.Counting.lines_within, specs.{Headline.{begun_play, IsLawful, IsNamedIn, KeepsIds, StaysShut, driver_log, world_of}, Said.accept_answer}}
+use Rattle.laws_play.specs.Said.{close_answer, connect_answer}
 use Rattle.vs_driver_parts.specs.declared.answers.Accepted.TheVariants as accepted
 use Rattle.vs_driver_parts.specs.declared.answers.Closed.TheVariants as closed
 use Rattle.vs_script.specs.Outside as outside
