@@ -12,8 +12,8 @@ use Rattle.vs_uds.specs.{ConnectLine.connect_step, declared.scan.Step.Step}
 use Rattle.vs_device_parts.specs.Receiving.{Filling, after_paying, hold, may_read, put_owed, put_packet, put_reply_of, read_answered, read_with_chain, written, put_on}
 use Rattle.vs_device_parts.specs.{Receiving.reply_header, Steps.{chain_came, filling, puts_event, puts_owed, puts_payload, puts_reply, reads, shuts_write, takes_chain, writes}}
 use Rattle.vs_device_parts.specs.{Steps.{writes_on, writing}, Streams.{Writing, closing, is_written_out, leaving, shut_write, tick_slot, to_write, write_answered, write_pending}}
-use Rattle.vs_device_parts.specs.{Connections.{cut_off, is_late, is_timed_out, route_to_guest, stream_closed, with_connection, with_fault}, Transmitting.{heard, keeps_flow, on_known}}
-use Rattle.vs_device_parts.specs.{Transmitting.{on_packet, on_unknown}, Calls.DeviceTree, State.{DeviceConnection, DeviceEntry, DeviceState}, Turns.{close_slot, open_of, reset_of}}
+use Rattle.vs_device_parts.specs.{Connections.{cut_off, is_late, is_timed_out, route_to_guest, stream_closed, with_connection, with_fault}, Transmitting.heard}
+use Rattle.vs_device_parts.specs.{Transmitting.{keeps_flow, on_known, on_packet, on_unknown}, Calls.DeviceTree, State.{DeviceConnection, DeviceEntry, DeviceState}, Turns.{close_slot, open_of, reset_of}}
 use Rattle.vs_limits.specs.declared.TheConstants.{DEVICE_REPLIES, HANDSHAKES}
 use Rattle.vs_proxy_parts.specs.{Handshakes.{accept_one, byte_read, handshake_on, line_decided, next_flow, opening, read_byte, streams_of, tick_handshake}, State.Handshake}
 use Rattle.vs_proxy_parts.specs.{State.{ProxyState, Turning}, Turns.{close_handshake, proxy_reset_of, reset_with}}

@@ -1,5 +1,5 @@
 -- What a world holds between two events, and what it is for an event to happen in it.
-use Rattle.std.specs.Prelude.{◌≡◌, ◌<◌, ℕ, List, []}
+use Rattle.std.specs.Prelude.{◌≡◌, ◌<◌, List, []}
 use Rattle.vs_ring_port.specs.{Chains.chains_of, Counts.{no_counts, with_count}, declared.queue.Queue.Queue}
 use Rattle.vs_ring_list.specs.Ends.{Ends, flight_of, staged_of}
 use Rattle.vs_outside.specs.Host.{HostContents}

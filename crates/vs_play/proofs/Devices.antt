@@ -1,6 +1,6 @@
 -- A turn and a reset over list rings with a host in memory.
 use Rattle.std.proofs.Common.{◌≡◌, ℕ, ◌<◌, ◌≤◌, ◌^◌, false, List, [], ◌++◌, Option, Result, Some, unwrap_or, arith, refl, sym, ap, subst, ◌∙◌}
-use Rattle.vs_limits.specs.declared.TheConstants.{GUEST_CID_MAX}
+use Rattle.vs_limits.specs.declared.TheConstants.{ASSIGNED_FIRST, GUEST_CID_MAX}
 use Rattle.vs_ring_port.specs.{Counts.Counts, EndLog.EndLog, Chains.chains_of, declared.failure.Failure.Failure}
 use Rattle.vs_ring_list.specs.Ends.{Ends, device_contents, driver_contents, empty_ends, staged_of}
 use Rattle.vs_outside.specs.Host.{HostContents}
@@ -110,7 +110,7 @@ served_new n h = record {
   chains = λ going. record { chains = refl; rx = tt };
   order = record {
     streams = λ k is. new_has [] first_cid base_path k (none_open k);
-    ring = new_proxy_with first_cid base_path (device_contents (empty_ends n)) (omega arith)
+    ring = new_proxy_with first_cid base_path ASSIGNED_FIRST (device_contents (empty_ends n)) (omega arith) (omega arith)
         (λ l is. subst (λ (x : EndLog). (x.entries ≡ []) × (x.held ≡ [])) (ap (λ (o : Option EndLog). unwrap_or o l) is) (refl, refl));
   };
 }

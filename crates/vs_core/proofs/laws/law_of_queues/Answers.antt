@@ -1,5 +1,5 @@
 use Rattle.laws_world.{specs.{World.{Beginning, opening}, Events.{Event, run}}, proofs.Opening.run_well}
-use Rattle.std.specs.Prelude.{ℕ, List}
+use Rattle.std.specs.Prelude.{List}
 use Rattle.vs_outside.specs.Host.{HostContents}
 use Rattle.vs_page.{specs.Log.{Device, Driver}, proofs.PayloadLogs.prefix}
 use Rattle.vs_ring_list.{specs.Sound.IsTied, proofs.Ties.{device_got, driver_got}}
