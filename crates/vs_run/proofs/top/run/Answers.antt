@@ -5,7 +5,7 @@ use Rattle.vs_run.proofs.top.run.Goals as goal
 
 pub returns-in-Ok-Play-clause-does : goal.returns-in-Ok-Play-clause-does
 returns-in-Ok-Play-clause-does g c =
-    let is : command_of (map string_bytes c.args.words.now) ≡ Some (Play c.in-Ok-Play.rings c.in-Ok-Play.queue) =
+    let is : command_of (map string_bytes c.args.words.now) ≡ Some (Play c.in-Ok-Play.rings c.in-Ok-Play.queue c.in-Ok-Play.first) =
     c.in-Ok-Play.ensures.command ∙ ap (λ x. Some (command_view x)) c.in-Ok-Play.field-0-is in
     subst (λ k. Does k
     (lent (g.S.Source.contents c.args.script.now) (g.H.HostNet.contents c.args.host.now) (g.K.Sink.contents c.args.out.now)
@@ -45,7 +45,7 @@ returns-in-Ok-Load-clause-does g c =
 
 pub returns-in-Ok-Run-clause-does : goal.returns-in-Ok-Run-clause-does
 returns-in-Ok-Run-clause-does g c =
-    let is : command_of (map string_bytes c.args.words.now) ≡ Some (Run c.in-Ok-Run.base.now c.in-Ok-Run.queue c.in-Ok-Run.idle) =
+    let is : command_of (map string_bytes c.args.words.now) ≡ Some (Run c.in-Ok-Run.base.now c.in-Ok-Run.queue c.in-Ok-Run.idle c.in-Ok-Run.first) =
     c.in-Ok-Run.ensures.command ∙ ap (λ x. Some (command_view x)) c.in-Ok-Run.field-0-is in
     subst (λ k. Does k
     (lent (g.S.Source.contents c.args.script.now) (g.H.HostNet.contents c.args.host.now) (g.K.Sink.contents c.args.out.now)
