@@ -1,5 +1,7 @@
 //! How commands end of which one call fails.
 
+ghost use Rattle.std.specs.Prelude.{◌<◌};
+
 use crate::failing::{Called, Command, failing};
 use std::alloc::{AllocError, AllocGlobal};
 use std::sync::Wait;
