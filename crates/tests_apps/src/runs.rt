@@ -8,7 +8,7 @@ use std::alloc::{AllocError, AllocGlobal};
 use std::sync::Wait;
 use std::test::Fail;
 use std::thread::Threads;
-use vs_load::load;
+use vs_load::load::load;
 use vs_outside::{FreeGate, StepClock};
 use vs_run_apps::whole::RunError;
 
