@@ -1,5 +1,7 @@
 //! A play whose guest has fewer ports to give than it opens connections.
 
+ghost use Rattle.std.specs.Prelude.{◌<◌};
+
 use crate::running::ends;
 use std::alloc::{AllocError, Global};
 use std::fmt::Write;
@@ -40,7 +42,9 @@ fn push(
 }
 
 /// A round: connections are opened, two bytes are sent on each, and they are shut and closed.
-fn push_round(script: &mut String, printed: &mut String, round: u64) -> Result<(), AllocError> {
+fn push_round(script: &mut String, printed: &mut String, round: u64) -> Result<(), AllocError>
+    requires { round < 4 }
+{
     let first = round * PORTS + 1;
     for n in 0..PORTS {
         script.push_str("connect 52\n")?;
