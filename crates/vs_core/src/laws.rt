@@ -4,12 +4,12 @@ ghost use Rattle.laws_world.specs.{World.{Beginning, World, first_cid, opening},
 ghost use Rattle.laws_world.specs.{Plays.{poll_line, reset_line}, Steps.Leads, Sides.{Runs, both_of}};
 ghost use Rattle.vs_flow.specs.{Connection.Connection, declared.flow.Flow.Flow};
 ghost use Rattle.std.specs.Prelude.{◌≡◌, ℕ, ◌-◌, ◌^◌, ◌≤◌, ◌||◌, min, false, true, List, [], ◌∷◌, length, All, None};
-ghost use Rattle.vs_limits.specs.declared.TheConstants.{BUF_ALLOC_MAX, FIRST_PORT, ASSIGNED_FIRST};
+ghost use Rattle.vs_limits.specs.declared.TheConstants.{BUF_ALLOC_MAX, ASSIGNED_FIRST};
 ghost use Rattle.vs_conn.specs.End.{ConnectionEnd, is_refused, verdict_of};
 ghost use Rattle.laws_history.specs.declared.packet.Packet.{Packet};
-ghost use Rattle.laws_tables.specs.{Both.start, Ends.{begun_flows, flows_of, is_among, new_flows, replied}, Matches.Matches, Steps.{HasEnd, is_overrun}};
+ghost use Rattle.laws_tables.specs.{Both.{at, start}, Quiet.IsQuietOn, Ends.{begun_flows, flows_of, is_among, new_flows, replied}, Matches.Matches, Steps.{HasEnd, is_overrun}};
 ghost use Rattle.vs_outside.specs.Host.{HostContents};
-ghost use Rattle.vs_page.specs.{Fair.{IsFairLog, IsPrefixOf, payload_got, payload_put}, Log.{Device, Driver, HasGotAll, IsNextPacket, Log, flow_got}, Open.{is_dropped, is_open}};
+ghost use Rattle.vs_page.specs.{Fair.{IsFairLog, IsPrefixOf, payload_got, payload_put}, Log.{Device, Driver, HasGotAll, IsNextPacket, Log, Role, flow_got}, Open.{is_dropped, is_open}};
 ghost use Rattle.vs_page.specs.declared.log.LogEntry.TheVariants.{Mark};
 ghost use Rattle.vs_ring_list.specs.Sound.{IsTied};
 ghost use Rattle.laws_driver.specs.Carried.Calls.{GuestCall, is_right};
@@ -55,7 +55,8 @@ pub fn law_of_logs()
 /// After any list of events each table holds just the connections that the log of its end left open: of the device's those that have
 /// begun, the others ask for their flow and have not put their REQUEST: where the host had no streams at first, the flows of its open streams
 /// on which the log began fewer connections than there are streams. None is from before a transport reset: where the newest entry of a log is
-/// one, none has begun (Virtio 1.2, section 5.10.6.7).
+/// one, none has begun (Virtio 1.2, section 5.10.6.7). Of a flow that an end keeps, to use it again, nothing is under way: the other end has no
+/// connection on it and owes it nothing, and each got all that was put.
 pub fn law_of_tables()
     ensures driver { (how : Beginning) (host : HostContents) (es : List Event) (f : Flow) → let b = both_of (run es (opening how host)) in
         is_among f (flows_of b.driver.part.entries) ≡ is_open Driver first_cid f b.driver.log (is_among f (replied b.driver.part.replies)) }
@@ -70,6 +71,8 @@ pub fn law_of_tables()
         b.driver.log ≡ Mark cid ∷ older → begun_flows b.driver.part.entries ≡ [] }
     ensures device_reset { (how : Beginning) (host : HostContents) (es : List Event) (cid : ℕ) (older : Log) → let b = both_of (run es (opening how host)) in
         b.device.log ≡ Mark cid ∷ older → begun_flows b.device.part.entries ≡ [] }
+    ensures kept { (how : Beginning) (host : HostContents) (es : List Event) (role : Role) (f : Flow) → let b = both_of (run es (opening how host)) in
+        is_among f (at role b).part.clean ≡ true → IsQuietOn role f b }
 {}
 
 /// After any list of events the next packet is never refused where it is of a connection: by the driver none, by the device none that it

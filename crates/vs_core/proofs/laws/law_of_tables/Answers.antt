@@ -1,5 +1,5 @@
 use Rattle.std.proofs.Common.{subst}
-use Rattle.laws_tables.{specs.Matches.Matches, proofs.Tables.all_open, proofs.Tables.driver_open, proofs.Tables.reset_empty}
+use Rattle.laws_tables.{specs.Matches.Matches, proofs.Tables.all_open, proofs.Tables.driver_open, proofs.Tables.reset_empty, proofs.Quiet.quiet_on}
 use Rattle.vs_page.specs.Log.{Device, Driver, Log}
 use Rattle.laws_world.{specs.Events.run, specs.Sides.both_of, specs.World.first_cid, specs.World.opening, proofs.Opening.run_well, proofs.Waiting.at_device}
 use Rattle.vs_core.proofs.laws.law_of_tables.Goals as goal
@@ -24,3 +24,6 @@ pub returns-clause-device_reset : goal.returns-clause-device_reset
 returns-clause-device_reset c = λ how host es cid older is. let b = both_of (run es (opening how host)) in
     reset_empty Device first_cid cid b.device.part older
     (subst (λ (l : Log). Matches Device first_cid b.device.part l) is ((run_well how host es).sound.matches Device)).flows
+
+pub returns-clause-kept : goal.returns-clause-kept
+returns-clause-kept c = λ how host es role f. quiet_on first_cid role f (both_of (run es (opening how host))) (run_well how host es).sound
