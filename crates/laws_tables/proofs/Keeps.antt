@@ -3,7 +3,7 @@ use Rattle.std.proofs.Common.{◌≡◌, ◌≢◌, ◌≤◌, ℕ, Bool, true, 
 use Rattle.std.proofs.{Common.◌++◌, lemmas.Grind.common_steps}
 use Rattle.vs_conn.specs.{End.{CanSend, ConnectionEnd, answering, asked, end_after, is_of, owes_of, paid_of, verdict_of, with_payload_sent}, Follows.{Follows, IsTaken}}
 use Rattle.vs_conn.{specs.{Follows.FitsMessage, declared.end.Owed.Owed}, proofs.{Frames.got_kind, Getting.get_follows, Steps.{answer_follows, asked_follows, send_follows}}}
-use Rattle.vs_flow.specs.{CleanPairs.kept, Flow.same_flow, declared.flow.Flow.Flow}
+use Rattle.vs_flow.specs.{CleanPairs.{kept, of_host}, Flow.same_flow, declared.flow.Flow.Flow}
 use Rattle.vs_header.specs.{Kind.{kind_named, kind_number}, declared.{Header.Header, Kind.Kind}}
 use Rattle.laws_history.specs.{History.{Asker, Entry, Got, History, IsFair, MayPut, Put, Side, gots, is_begun, of_asker, peer, puts}, Packets.{asked_kind, has, is_clean_rst}}
 use Rattle.laws_history.{specs.{Packets.{is_request, is_rst}, declared.packet.Packet.Packet, Again.AllowsNow}, proofs.{Quiet.marked_both, Ties.Later}}
@@ -12,7 +12,7 @@ use Rattle.vs_page.specs.{Log.{Device, Driver, Log, Role, and_then, flow_got, fl
 use Rattle.vs_page.specs.{Open.{phase_reset, cid_of, kind_got, kind_put, left_kind}, declared.log.LogEntry.TheVariants.{GotEvent, GotPacket, Mark, PutEvent, PutPacket}}
 use Rattle.vs_page.{specs.Fair.{IsFairLog, IsFairOn}, proofs.{Entries.{one_got, one_put}, Flows.{same_is, same_self}, Phases.{phase_clean, phase_marked}}}
 use Rattle.vs_replies.specs.declared.Reply.{Reply}
-use Rattle.laws_tables.specs.Ends.{Ends, FlowEnd, answer_kind, ends_of, is_among, is_new, replied, replies_of, AreDistinct, flows_of, of_host, replaced, without, without_flow}
+use Rattle.laws_tables.specs.Ends.{Ends, FlowEnd, answer_kind, ends_of, is_among, is_new, replied, replies_of, AreDistinct, flows_of, replaced, without, without_flow}
 use Rattle.laws_tables.specs.Steps.{HasEnd, HasNone, IsNextFlow, accepted, asking, emptied, is_kept, is_overrun, left, opened, owed_on, paid, payload_on, refused}
 use Rattle.laws_tables.specs.{Steps.{reply_on, request_on, reset, taken, with_clean, with_end, with_replies, port_after}, Matches.{AllOwed, IsFairlyLeft, IsOwed, IsReady, Matches}}
 use Rattle.laws_tables.specs.{Matches.{MatchesFlows, IsKept, IsLeftOn, IsUnused, MatchesOn}, Heard.{IsInOrder, IsWithin, IsWithinCredit, heard_of, own_port, is_awaiting, is_fresh}}
@@ -459,7 +459,7 @@ takes_by role first p e part log false is m kept has order fits =
     let f = flow_got role p in
     let h = heard_of role first f log in
     let after = end_after e p.header in
-    let old = steps.order_old role first p e part log m.flows has order (is_new e) refl in
+    let old = steps.order_old role first p e part log m.flows has order in
     let o = steps.order_one role first p e part log m.flows has order in
     let other = steps.known_goes_on (side_of role f) h p e order o.follows in
     let one = replaced_same f e after part.entries has in
@@ -585,7 +585,6 @@ drops role first p part log m dropped order =
         ready = λ g. own_or_other
             (λ x. (e : ConnectionEnd) → HasEnd x e part → is_new e ≡ true → IsReady (history_of role x (GotPacket p ∷ log))) f g
             (λ e has new. let old = steps.order_old role first p e part log m.flows has (got_in_order role first p log (fair f))
-            (is_new e) refl
             in absurd cc)
             (λ apart. rw apart (left.ready g));
         replies = all_got role p log part.replies fair left.replies;
