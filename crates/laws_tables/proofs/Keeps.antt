@@ -202,10 +202,10 @@ keeps_flow role first f part log used own clean m =
     as_kept g k = record { asker = k.asker; no_end = k.no_end; no_reply = k.no_reply; over = k.over }
 
 -- A flow that may be asked for is ready.
-silent_ready : (role : Role) (first : ℕ) (f : Flow) (log : Log) → IsFairOn role f log → side_of role f ≡ Asker
+silent_none : (role : Role) (first : ℕ) (f : Flow) (log : Log) → IsFairOn role f log → side_of role f ≡ Asker
     → heard_of role first f log ≡ []
-    → IsReady (history_of role f log)
-silent_ready role first f log fair asker silent = by (history_of role f log) (ap puts (sym silent) ∙ heard_puts role first f log)
+    → history_of role f log ≡ []
+silent_none role first f log fair asker silent = by (history_of role f log) (ap puts (sym silent) ∙ heard_puts role first f log)
     (subst (λ s. IsFair s (history_of role f log)) asker (fair_now role f log fair))
   where
     has_asked : (h : History) (x : Entry) → IsFair Asker (x ∷ h) → has is_request (puts (x ∷ h)) ≡ true
@@ -220,16 +220,24 @@ silent_ready role first f log fair asker silent = by (history_of role f log) (ap
         by_got true is = let t = fair.0.timely in absurd (grind (arith, common_steps, is, t))
         by_got false is = fair.0.begun is
 
-    by : (h : History) → [] ≡ puts h → IsFair Asker h → IsReady h
-    by [] none fair = inl refl
+    by : (h : History) → [] ≡ puts h → IsFair Asker h → h ≡ []
+    by [] none fair = refl
     by (x ∷ h) none fair = let both : false ≡ true = ap (has is_request) none ∙ has_asked h x fair in absurd cc
+
+pub next_clean : (role : Role) (first : ℕ) (f : Flow) (part : Ends) (log : Log) → Matches role first part log → IsFairLog role log
+    → IsNextFlow role f part → (history_of role f log ≡ []) ⊎ (phase_of role first f log ≡ Clean)
+next_clean role first f part log m fair next = by next.port
+  where
+    by : (part.next_port ≤ own_port role f) ⊎ (is_among f part.clean ≡ true) → (history_of role f log ≡ []) ⊎ (phase_of role first f log ≡ Clean)
+    by (inl later) = inl (silent_none role first f log (fair f) next.asker (m.flows.unused f next.asker later).silent)
+    by (inr among) = inr ((m.fairly fair).kept f among)
 
 pub next_ready : (role : Role) (first : ℕ) (f : Flow) (part : Ends) (log : Log) → Matches role first part log → IsFairLog role log
     → IsNextFlow role f part → IsReady (history_of role f log)
 next_ready role first f part log m fair next = by next.port
   where
     by : (part.next_port ≤ own_port role f) ⊎ (is_among f part.clean ≡ true) → IsReady (history_of role f log)
-    by (inl later) = silent_ready role first f log (fair f) next.asker (m.flows.unused f next.asker later).silent
+    by (inl later) = inl (silent_none role first f log (fair f) next.asker (m.flows.unused f next.asker later).silent)
     by (inr among) = inr (phase_clean role first f log (fair f) next.asker ((m.fairly fair).kept f among))
 
 -- The port of a flow that is asked for is given, and the flow kept no more.
