@@ -1,7 +1,7 @@
 -- The account where entries are added to the log, and where connections leave the table or open.
 use Rattle.std.proofs.Common.{◌≡◌, ◌≢◌, ℕ, ◌+◌, ◌<◌, ◌≤◌, ◌==◌, Bool, true, false, cond, List, [], ◌∷◌, ◌++◌, length, get_or, Contains, refl, sym, ap, subst, ◌∙◌, arith}
 use Rattle.std.{proofs.lemmas.{List.Elements.{All-contains, All-push}, Bool.Decides.nat_tests}, specs.List.All}
-use Rattle.vs_flow.specs.{Connection.Connection, Flow.{is_assigned, same_flow}, Table.{IsTable, next_entry, with_entry, without}, declared.flow.Flow.Flow}
+use Rattle.vs_flow.specs.{Connection.Connection, Flow.{host_asks, same_flow}, Table.{IsTable, next_entry, with_entry, without}, declared.flow.Flow.Flow}
 use Rattle.vs_flow.proofs.Entries.{same_flow_false}
 use Rattle.laws_history.specs.{History.{Answerer, Asker, Got, History, Side, gots, puts}, declared.packet.Packet.Packet, Packets.is_request, Again.count}
 use Rattle.vs_page.specs.{Fair.{IsPrefixOf, asked_by, current, number_of, payload_got}, Log.{Driver, Log, flow_got, side_of, whole_of}, declared.log.LogEntry.TheVariants.GotPacket}
@@ -113,7 +113,7 @@ module _ (a : Account) (log new : Log) (slots : HeldSlots) (f : Flow) (c : Drive
     (got : (k : Connection) → payload_got Driver k new ≡ payload_got Driver k log) (nothing : payload_got Driver (current Driver f new) new ≡ [])
     (next : number_of Driver f new ≡ number_of Driver f log + 1)
     (others : (g : Flow) → g ≢ f → number_of Driver g new ≡ number_of Driver g log) (id : c.id ≡ slots.next_id) (empty : c.unread ≡ [])
-    (absent : All (λ e. e.flow ≢ f) slots.table.entries) (more : slots.next_port ≤ port) (below : is_assigned f.host ≡ false → f.guest < port) where
+    (absent : All (λ e. e.flow ≢ f) slots.table.entries) (more : slots.next_port ≤ port) (below : host_asks f ≡ false → f.guest < port) where
   abbrev b : Account
   b = with_opened slots.next_id (current Driver f new) a
 
