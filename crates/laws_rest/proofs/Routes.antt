@@ -12,8 +12,8 @@ use Rattle.laws_tables.specs.{Heard.is_empty, Steps.{owed_on, payload_on, reply_
 use Rattle.vs_driver_parts.specs.{Connections.next_flow, Conversations.{DriverTree, connect_of, new_of, poll_of, send_of}, Playing.Plays, State.DriverState}
 use Rattle.vs_driver_parts.specs.declared.answers.{ConnectError.ConnectError, Polled.Polled, Sent.Sent}
 use Rattle.laws_driver.{specs.Honest.{IsFresh, IsHonestWith}, proofs.{Calls.{CarriesConnect, CarriesSend, connect_keeps, new_keeps, rests_of, send_keeps}, Carrying.Carries}}
-use Rattle.laws_driver.proofs.{Carrying.Fact, Keeping.{Keeps, keeps_end}, Polling.poll_keeps, Putting.next_peer, Staging.Rests, Tabling.entry_fits}
-use Rattle.vs_driver_parts.proofs.Clean.{may_connect}
+use Rattle.laws_driver.proofs.{Carrying.Fact, Keeping.{Keeps, keeps_end}, Polling.poll_keeps, Staging.Rests, Tabling.entry_fits}
+use Rattle.vs_driver_parts.proofs.Clean.{given_to, may_connect}
 use Rattle.laws_rest.specs.Rest.{AreRouted, IsRoutedLog, IsRoutedWith}
 
 abbrev ComesFromHost : Packet → Type 0
@@ -61,7 +61,7 @@ poll_routes : (first : ℕ) → Carries true first (Routed first)
 poll_routes first = record {
   owed = λ what e s log fits stands owes m was fair routed from.
       let p = owed_on Driver s.cid e.flow e.value.end what in
-      (not_dropped (cid_of first log) s.cid p.header refl m.flows.cid (entry_fits s e fits stands).peer refl, routed from);
+      (not_dropped (cid_of first log) s.cid p.header refl m.flows.cid ((entry_fits s e fits stands).peer refl), routed from);
   reply = λ r rest s log fits is m fair routed from.
       let p = reply_on Driver s.cid r in
       let begun = ((((one_put Driver log p).0 fair).1).goes_on refl).begun refl in
@@ -77,7 +77,7 @@ connect_routes first host = record {
   refused = λ why s log routed. routed;
   opens = λ s log fits free m was fair routed from.
       let p = request_on Driver s.cid (next_flow HOST_CID host s) Stream in
-      let host_is = next_peer host s fits (next_flow HOST_CID host s) (may_connect HOST_CID host s free).flow in
+      let host_is = (given_to HOST_CID host s.next_port s.clean (next_flow HOST_CID host s) (may_connect HOST_CID host s free).flow).peer_is in
       (not_dropped (cid_of first log) s.cid p.header refl m.flows.cid host_is, routed from);
 }
 
@@ -90,7 +90,7 @@ send_routes first id bytes = record {
   wants = λ e s log fits stands m routed. routed;
   sends = λ e n s log fits stands known can few m was fair routed from.
       let p = payload_on Driver s.cid e.flow e.value.end (take n bytes) in
-      (not_dropped (cid_of first log) s.cid p.header refl m.flows.cid (entry_fits s e fits stands).peer refl, routed from);
+      (not_dropped (cid_of first log) s.cid p.header refl m.flows.cid ((entry_fits s e fits stands).peer refl), routed from);
 }
 
 module _ (first : ℕ) (s : DriverState) (c d : RingContents) (honest : IsHonestWith true first s c) (routed : IsRoutedWith first c) where
@@ -106,7 +106,7 @@ module _ (first : ℕ) (s : DriverState) (c d : RingContents) (honest : IsHonest
       → IsRoutedWith first d
   connect_routed host x port =
       ends (connect_of host s) x (connect_keeps true first HOST_CID host (Routed first) (λ answer. Routed first)
-      (connect_routes first host) s c port starts)
+      (connect_routes first host) (omega arith) port (λ hosts. refl) s c starts)
 
   pub send_routed : (id : ℕ) (bytes : List ℕ) (x : DriverState × Sent) → Plays (send_of id bytes s) c x d → IsRoutedWith first d
   send_routed id bytes x =
