@@ -19,7 +19,7 @@ module _ (first : ℕ) (old : Seat) where
   abbrev pub Walks : Account → Fact → Fact → Fact
   Walks a names sent part s log = Goes old (record { part = part; log = log }) × PutsFit log × IsFurther a (slots_of s) log × names part s log × sent part s log
 
-  pub poll_walks : (a : Account) (s : DriverState) (base : Log) → Carries first (Walks a (named_from s (LookAt 0)) (puts_as base))
+  pub poll_walks : (a : Account) (s : DriverState) (base : Log) → Carries true first (Walks a (named_from s (LookAt 0)) (puts_as base))
   poll_walks a start base =
       let goes = poll_goes first old in
       let received = poll_carries first a in

@@ -57,7 +57,7 @@ pub record DeviceHolds (next : ℕ) (s : DeviceState) : Type 0 where
 pub record IsWell (fresh : Type 0) (w : World) : Type 0 where
   pub tied : IsTied w.rings.lists w.rings.driver.entries w.rings.device.entries
   pub sound : IsSound first_cid (both_of w)
-  pub driver : IsFitState w.driver
+  pub driver : IsFitState true w.driver
   pub device : DeviceHolds w.proxy.next_port w.proxy.device
   pub driver_puts : PutsFit (log_with_staged w.rings.driver)
   pub device_puts : PutsFit w.rings.device.entries
@@ -123,7 +123,7 @@ module _ (fresh : Type 0) (w : World) (well : IsWell fresh w) where
   -- Where nothing is staged, and where packets may be.
   ties_at : (fact : Fact) → Holds fact w.driver (log_with_staged w.rings.driver) → DriverTies first_cid fact w.driver (exposed rings)
   ties_at fact held = λ on l is. subst (IsTiedBy first_cid fact w.driver) (same_told is) (
-    (well.driver, record { none_refused = well.broken; matches = well.sound.matches Driver; fair = well.sound.fair Driver; marks = well.marks }),
+    (well.driver, record { none_refused = λ hosts. well.broken; matches = well.sound.matches Driver; fair = well.sound.fair Driver; marks = well.marks }),
     held,
   )
 
@@ -131,8 +131,8 @@ module _ (fresh : Type 0) (w : World) (well : IsWell fresh w) where
   rests_at fact none held = λ on l is. subst (RestsWith first_cid fact w.driver) (same_told is) (
     (
       well.driver,
-      subst (λ (pages : List (List ℕ)). IsLeft first_cid w.driver.broken (ends_of_state w.driver) pages w.rings.driver.entries) none
-          (record { none_refused = well.broken; matches = well.sound.matches Driver; fair = well.sound.fair Driver; marks = well.marks }),
+      subst (λ (pages : List (List ℕ)). IsLeft true first_cid w.driver.broken (ends_of_state w.driver) pages w.rings.driver.entries) none
+          (record { none_refused = λ hosts. well.broken; matches = well.sound.matches Driver; fair = well.sound.fair Driver; marks = well.marks }),
       none,
     ),
     subst (λ (pages : List (List ℕ)). Holds fact w.driver (all_put pages w.rings.driver.entries)) none held,
@@ -162,7 +162,7 @@ module _ (fresh : Type 0) (w : World) (well : IsWell fresh w) where
           chain = well.chain;
           heads = well.heads;
           known = ends.1.cid;
-          broken = now.0.1.none_refused;
+          broken = now.0.1.none_refused refl;
           marks = now.0.1.marks;
           opened = after.opened;
           right = after.right;
