@@ -23,7 +23,7 @@ use Rattle.vs_driver_parts.specs.{State.{gone_known_as, is_known_as}, declared.a
 use Rattle.vs_driver_parts.proofs.{Ids.{HasId, found_under}, Packets.{first_under, others_left, packet_known, packet_unknown}}
 use Rattle.laws_tables.specs.Steps.{is_kept, port_after}
 use Rattle.vs_driver_parts.specs.Connections.{keeping}
-use Rattle.vs_driver_parts.proofs.Clean.{given_host, may_connect, port_below, port_rises}
+use Rattle.vs_driver_parts.proofs.Clean.{given_to, may_connect, port_below, port_rises}
 use Rattle.laws_driver.specs.{Honest.{IsFitState, IsFresh, IsHonestWith, ends_of_state}, Carried.Calls.{Accept, Close, Connect, Grow, GuestCall, Journal, Listen, LookAt, Made}}
 use Rattle.laws_driver.{specs.Carried.Calls.{Recv, ReplyTo, Send, Shutdown, Unlisten, is_right, whole_call}, proofs.{Calls.new_keeps, Carrying.{Carries, Fact}}}
 use Rattle.laws_driver.proofs.{Changing.stands_known, Keeping.keeps_end, Polling.poll_keeps, Resetting.{first_contained, with_cid}, Staging.Rests, Tabling.{Stands, entry_fits}}
@@ -321,7 +321,7 @@ module _ (journal : Journal) where
           (subst (IsTo (IsAsked port)) (sym (last_found (is_known_as s.next_id) s.table.entries
           (record { slot = s.table.given; flow = next_flow HOST_CID port s; value = record { id = s.next_id; end = paid_of (asked Stream BUF_ALLOC) owed.Request; unread = []; unanswered = false; closed = false } })
           (unknown_yet s fits x) (ap (λ (b : Bool). b && true) (eq-eqb s.next_id s.next_id refl)) _))
-          (given_host port s.next_port s.clean (next_flow HOST_CID port s) (may_connect HOST_CID port s free).flow)),
+          (given_to HOST_CID port s.next_port s.clean (next_flow HOST_CID port s) (may_connect HOST_CID port s free).flow).port_is),
     );
   }
   call_places first (Send id bytes) apps = record {
