@@ -395,7 +395,7 @@ module _ (first : ℕ) (script : RunScript) (old : Run) (run : IsRunOf first scr
     apps = run.apps;
     kept = record {
       routed = poll_routed first old.driver old.ring mid.ring run.kept.honest run.kept.routed (mid.driver, polled) polls.polls;
-      honest = poll_honest first old.driver old.ring mid.ring (mid.driver, polled) run.kept.honest polls.polls;
+      honest = poll_honest true first old.driver old.ring mid.ring (mid.driver, polled) run.kept.honest polls.polls;
       accounted = poll_accounted first 1 (journal_of script old) old.entries old.driver old.ring mid.ring (mid.driver, polled) run.kept.honest run.kept.accounted polls.polls;
       stands = run.kept.stands;
       places = poll_placed first (length script) (journal_of script old) old.entries old.driver old.ring mid.ring run.kept.honest run.kept.places (mid.driver, polled) polls.polls;

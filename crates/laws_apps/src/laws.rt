@@ -17,14 +17,14 @@ ghost use Rattle.vs_limits.specs.declared.TheConstants.{LAST_PORT};
 /// any case (Virtio 1.2, section 5.10.6.3).
 pub fn law_of_accounts()
     ensures call { (first first_id : ℕ) (journal : Journal) (entries : List Entry) (call : GuestCall) (s : DriverState) (c d : RingContents)
-        (x : DriverState × ReplyTo call) → is_right call ≡ true → IsHonestWith first s c → IsAccounted first_id journal entries s c
+        (x : DriverState × ReplyTo call) → is_right call ≡ true → IsHonestWith true first s c → IsAccounted first_id journal entries s c
         → Plays (whole_call call s) c x d → IsAccounted first_id (with_call call s x.1 journal) entries x.0 d }
     ensures poll { (first first_id : ℕ) (journal : Journal) (entries : List Entry) (s : DriverState) (c d : RingContents)
-        (x : DriverState × Polled) → IsHonestWith first s c → IsAccounted first_id journal entries s c → Plays (poll_of s) c x d
+        (x : DriverState × Polled) → IsHonestWith true first s c → IsAccounted first_id journal entries s c → Plays (poll_of s) c x d
         → IsAccounted first_id journal entries x.0 d }
     ensures honest { (first : ℕ) (call : GuestCall) (s : DriverState) (c d : RingContents)
-        (x : DriverState × ReplyTo call) → is_right call ≡ true → IsHonestWith first s c → Plays (whole_call call s) c x d
-        → IsHonestWith first x.0 d }
+        (x : DriverState × ReplyTo call) → is_right call ≡ true → IsHonestWith true first s c → Plays (whole_call call s) c x d
+        → IsHonestWith true first x.0 d }
     // A call that only told to wait needs no entry.
     ensures noted { (first_id : ℕ) (journal : Journal) (entries : List Entry) (call : GuestCall) (s : DriverState) (c d : RingContents)
         (x : DriverState × ReplyTo call) → Plays (whole_call call s) c x d → IsAccounted first_id (with_call call s x.1 journal) entries x.0 d

@@ -22,7 +22,7 @@ module _ (script : RunScript) (driver : DriverState) (end : Sight) (apps : List 
     (steady : IsSteady p (situation (device_contents e) (Some h) faults)) where
   pub none_lost : (driver.broken ≡ 0) × (p.device.overrun ≡ 0)
   none_lost = (
-    (run.kept.honest refl (driver_log end) refl).none_refused,
+    (run.kept.honest refl (driver_log end) refl).none_refused refl,
     ((steady.order.ring.1.1 (device_log e) refl).1 refl).none_overrun,
   )
 

@@ -1,6 +1,6 @@
 //! The calls of apps on the driver, each noted.
 
-ghost use Rattle.std.specs.Prelude.{◌≡◌, ◌+◌, ◌<◌, ◌≤◌, ℕ, List, length, vec_capacity, vec_len};
+ghost use Rattle.std.specs.Prelude.{◌≡◌, ◌+◌, ◌<◌, ◌≤◌, ℕ, Bool, List, length, vec_capacity, vec_len};
 ghost use Rattle.vs_ring_port.specs.{Contents.RingContents, Counts.Counts};
 ghost use Rattle.vs_driver_parts.specs.Playing.{IsRingOf};
 ghost use Rattle.laws_driver.specs.{Honest.{IsHonest, IsHonestWith}, Carried.Calls.{flow_accepted, flow_opened}};
@@ -26,7 +26,7 @@ pub fn connect<R: DriverRing>(
     requires honest { IsHonest driver.old (R.contents ring.old) }
     requires room { vec_len entries.old < vec_capacity entries.old }
     ensures ring { IsRingOf (R.size ring.new) (R.flight ring.new) (R.staged ring.new) driver.new }
-    ensures honest { (first : ℕ) → IsHonestWith first driver.old (R.contents ring.old) → IsHonestWith first driver.new (R.contents ring.new) }
+    ensures honest { (hosts : Bool) (first : ℕ) → IsHonestWith hosts first driver.old (R.contents ring.old) → IsHonestWith hosts first driver.new (R.contents ring.new) }
     ensures calls { (script : RunScript) (apps : List AppState) (bytes : List ℕ) → CallsAs script app (call.Connect port) result
         (run_with driver.old (R.contents ring.old) apps entries.old.items bytes)
         (run_with driver.new (R.contents ring.new) apps entries.new.items bytes) }
@@ -60,7 +60,7 @@ fn flow_accepted(driver: &Driver, answer: Accepted) -> Option<Flow>
 pub fn listen(driver: &mut Driver, entries: &mut Vec<Entry>, app: usize, port: u32) -> Told
     requires room { vec_len entries.old < vec_capacity entries.old }
     ensures ring { (n : ℕ) (flown staged : Counts) → IsRingOf n flown staged driver.old → IsRingOf n flown staged driver.new }
-    ensures honest { (first : ℕ) (c : RingContents) → IsHonestWith first driver.old c → IsHonestWith first driver.new c }
+    ensures honest { (hosts : Bool) (first : ℕ) (c : RingContents) → IsHonestWith hosts first driver.old c → IsHonestWith hosts first driver.new c }
     ensures calls { (script : RunScript) (c : RingContents) (apps : List AppState) (bytes : List ℕ) → CallsAs script app (call.Listen port) result
         (run_with driver.old c apps entries.old.items bytes) (run_with driver.new c apps entries.new.items bytes) }
     ensures room { (vec_capacity entries.new ≡ vec_capacity entries.old) × (vec_len entries.new ≤ vec_len entries.old + 1) }
@@ -73,7 +73,7 @@ pub fn listen(driver: &mut Driver, entries: &mut Vec<Entry>, app: usize, port: u
 pub fn accept(driver: &mut Driver, entries: &mut Vec<Entry>, app: usize, port: u32) -> Told
     requires room { vec_len entries.old < vec_capacity entries.old }
     ensures ring { (n : ℕ) (flown staged : Counts) → IsRingOf n flown staged driver.old → IsRingOf n flown staged driver.new }
-    ensures honest { (first : ℕ) (c : RingContents) → IsHonestWith first driver.old c → IsHonestWith first driver.new c }
+    ensures honest { (hosts : Bool) (first : ℕ) (c : RingContents) → IsHonestWith hosts first driver.old c → IsHonestWith hosts first driver.new c }
     ensures calls { (script : RunScript) (c : RingContents) (apps : List AppState) (bytes : List ℕ) → CallsAs script app (call.Accept port) result
         (run_with driver.old c apps entries.old.items bytes) (run_with driver.new c apps entries.new.items bytes) }
     ensures room { (vec_capacity entries.new ≡ vec_capacity entries.old) × (vec_len entries.new ≤ vec_len entries.old + 1) }
@@ -87,7 +87,7 @@ pub fn accept(driver: &mut Driver, entries: &mut Vec<Entry>, app: usize, port: u
 pub fn close(driver: &mut Driver, entries: &mut Vec<Entry>, app: usize, id: ConnId) -> Told
     requires room { vec_len entries.old < vec_capacity entries.old }
     ensures ring { (n : ℕ) (flown staged : Counts) → IsRingOf n flown staged driver.old → IsRingOf n flown staged driver.new }
-    ensures honest { (first : ℕ) (c : RingContents) → IsHonestWith first driver.old c → IsHonestWith first driver.new c }
+    ensures honest { (hosts : Bool) (first : ℕ) (c : RingContents) → IsHonestWith hosts first driver.old c → IsHonestWith hosts first driver.new c }
     ensures calls { (script : RunScript) (c : RingContents) (apps : List AppState) (bytes : List ℕ) → CallsAs script app (call.Close id) result
         (run_with driver.old c apps entries.old.items bytes) (run_with driver.new c apps entries.new.items bytes) }
     ensures room { (vec_capacity entries.new ≡ vec_capacity entries.old) × (vec_len entries.new ≤ vec_len entries.old + 1) }
@@ -107,7 +107,7 @@ pub fn shutdown(
     requires bits { (1 ≤ bits) × (bits ≤ 3) }
     requires room { vec_len entries.old < vec_capacity entries.old }
     ensures ring { (n : ℕ) (flown staged : Counts) → IsRingOf n flown staged driver.old → IsRingOf n flown staged driver.new }
-    ensures honest { (first : ℕ) (c : RingContents) → IsHonestWith first driver.old c → IsHonestWith first driver.new c }
+    ensures honest { (hosts : Bool) (first : ℕ) (c : RingContents) → IsHonestWith hosts first driver.old c → IsHonestWith hosts first driver.new c }
     ensures calls { (script : RunScript) (c : RingContents) (apps : List AppState) (bytes : List ℕ) → CallsAs script app (call.Shutdown id bits) result
         (run_with driver.old c apps entries.old.items bytes) (run_with driver.new c apps entries.new.items bytes) }
     ensures room { (vec_capacity entries.new ≡ vec_capacity entries.old) × (vec_len entries.new ≤ vec_len entries.old + 1) }
@@ -126,7 +126,7 @@ pub fn grow(
 ) -> Told
     requires room { vec_len entries.old < vec_capacity entries.old }
     ensures ring { (n : ℕ) (flown staged : Counts) → IsRingOf n flown staged driver.old → IsRingOf n flown staged driver.new }
-    ensures honest { (first : ℕ) (c : RingContents) → IsHonestWith first driver.old c → IsHonestWith first driver.new c }
+    ensures honest { (hosts : Bool) (first : ℕ) (c : RingContents) → IsHonestWith hosts first driver.old c → IsHonestWith hosts first driver.new c }
     ensures calls { (script : RunScript) (c : RingContents) (apps : List AppState) (bytes : List ℕ) → CallsAs script app (call.Grow id alloc) result
         (run_with driver.old c apps entries.old.items bytes) (run_with driver.new c apps entries.new.items bytes) }
     ensures room { (vec_capacity entries.new ≡ vec_capacity entries.old) × (vec_len entries.new ≤ vec_len entries.old + 1) }
@@ -161,7 +161,7 @@ pub fn send<R: DriverRing>(
     requires honest { IsHonest driver.old (R.contents ring.old) }
     requires room { vec_len entries.old < vec_capacity entries.old }
     ensures ring { IsRingOf (R.size ring.new) (R.flight ring.new) (R.staged ring.new) driver.new }
-    ensures honest { (first : ℕ) → IsHonestWith first driver.old (R.contents ring.old) → IsHonestWith first driver.new (R.contents ring.new) }
+    ensures honest { (hosts : Bool) (first : ℕ) → IsHonestWith hosts first driver.old (R.contents ring.old) → IsHonestWith hosts first driver.new (R.contents ring.new) }
     ensures calls { (script : RunScript) (apps : List AppState) (got : List ℕ)
         → slice_of from (length bytes.now) (data_at at (acts_of app script)) ≡ bytes.now
         → CallsAs script app (call.Send id bytes.now) result

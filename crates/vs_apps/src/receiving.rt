@@ -1,6 +1,6 @@
 //! A receive of an app, noted.
 
-ghost use Rattle.std.specs.Prelude.{◌≡◌, ◌+◌, ◌<◌, ◌≤◌, ℕ, List, length, take, vec_capacity, vec_len};
+ghost use Rattle.std.specs.Prelude.{◌≡◌, ◌+◌, ◌<◌, ◌≤◌, ℕ, Bool, List, length, take, vec_capacity, vec_len};
 ghost use Rattle.vs_contents.specs.CallTree.{Done};
 ghost use Rattle.vs_ring_port.specs.{Contents.RingContents, Counts.Counts};
 ghost use Rattle.vs_driver_parts.specs.{Connections.got_count, Playing.{IsRingOf, SamePages}};
@@ -17,7 +17,7 @@ use vs_driver::{ConnId, Driver, Received};
 // Receives as many bytes of a connection as the buffer holds, and tells how many stand in front of it.
 fn received(driver: &mut Driver, id: ConnId, buffer: &mut [u8]) -> (Received, usize)
     ensures pages { SamePages driver.old driver.new }
-    ensures honest { (first : ℕ) (c : RingContents) → IsHonestWith first driver.old c → IsHonestWith first driver.new c }
+    ensures honest { (hosts : Bool) (first : ℕ) (c : RingContents) → IsHonestWith hosts first driver.old c → IsHonestWith hosts first driver.new c }
     ensures made { makes_call (call.Recv id (length buffer.old)) driver.old ≡ Done (driver.new, (result.0, take result.1 buffer.new)) }
     ensures count { result.1 ≡ got_count result.0 }
     ensures within { result.1 ≤ length buffer.new }
@@ -31,7 +31,7 @@ fn received(driver: &mut Driver, id: ConnId, buffer: &mut [u8]) -> (Received, us
 fn receive_by(driver: &mut Driver, bytes: &mut Vec<u8>, id: ConnId, buffer: &mut [u8]) -> Received
     requires { vec_len bytes.old + length buffer.old ≤ vec_capacity bytes.old }
     ensures pages { SamePages driver.old driver.new }
-    ensures honest { (first : ℕ) (c : RingContents) → IsHonestWith first driver.old c → IsHonestWith first driver.new c }
+    ensures honest { (hosts : Bool) (first : ℕ) (c : RingContents) → IsHonestWith hosts first driver.old c → IsHonestWith hosts first driver.new c }
     ensures made { Receives id (length buffer.old) driver.old driver.new result bytes.old.items bytes.new.items }
 {
     let (answer, n) = received(driver, id, buffer);
@@ -45,7 +45,7 @@ fn receive(driver: &mut Driver, bytes: &mut Vec<u8>, id: ConnId, len: usize) -> 
     requires few { len ≤ SLICE }
     requires room { vec_len bytes.old + len ≤ vec_capacity bytes.old }
     ensures pages { SamePages driver.old driver.new }
-    ensures honest { (first : ℕ) (c : RingContents) → IsHonestWith first driver.old c → IsHonestWith first driver.new c }
+    ensures honest { (hosts : Bool) (first : ℕ) (c : RingContents) → IsHonestWith hosts first driver.old c → IsHonestWith hosts first driver.new c }
     ensures made { Receives id len driver.old driver.new result bytes.old.items bytes.new.items }
 {
     let mut buffer = [0u8; SLICE];
@@ -65,7 +65,7 @@ pub fn recv(
     requires room { vec_len entries.old < vec_capacity entries.old }
     requires bytes { vec_len bytes.old + len ≤ vec_capacity bytes.old }
     ensures ring { (n : ℕ) (flown staged : Counts) → IsRingOf n flown staged driver.old → IsRingOf n flown staged driver.new }
-    ensures honest { (first : ℕ) (c : RingContents) → IsHonestWith first driver.old c → IsHonestWith first driver.new c }
+    ensures honest { (hosts : Bool) (first : ℕ) (c : RingContents) → IsHonestWith hosts first driver.old c → IsHonestWith hosts first driver.new c }
     ensures calls { (script : RunScript) (c : RingContents) (apps : List AppState) → CallsAs script app (call.Recv id len) result
         (run_with driver.old c apps entries.old.items bytes.old.items) (run_with driver.new c apps entries.new.items bytes.new.items) }
     ensures room { (vec_capacity entries.new ≡ vec_capacity entries.old) × (vec_len entries.new ≤ vec_len entries.old + 1) }

@@ -1,10 +1,10 @@
-use Rattle.std.proofs.Common.{refl}
+use Rattle.std.proofs.Common.{true, refl}
 use Rattle.vs_limits.specs.declared.TheConstants.{FIRST_CID}
 use Rattle.vs_apps.{specs.Guests.guests_with, proofs.Guarding.guests_poll}
 use Rattle.vs_apps.proofs.guests.Guests.poll.Goals as goal
 
 pub poll-requires-clause-honest : goal.poll-requires-clause-honest
-poll-requires-clause-honest g c = (FIRST_CID, c.self.invariant.1.run.kept.honest)
+poll-requires-clause-honest g c = (true, FIRST_CID, c.self.invariant.1.run.kept.honest)
 
 pub invariant_of-self : goal.invariant_of-self
 invariant_of-self g c =

@@ -1,4 +1,4 @@
-use Rattle.std.proofs.{Common.{◌≡◌, length, arith, sym, subst}, lemmas.Grind.common_steps}
+use Rattle.std.proofs.{Common.{◌≡◌, true, length, arith, sym, subst}, lemmas.Grind.common_steps}
 use Rattle.vs_apps_parts.specs.Scripts.{AreRight, RunScript}
 use Rattle.laws_apps.specs.Runs.{Steps}
 use Rattle.vs_limits.specs.declared.TheConstants.{FIRST_CID}
@@ -15,7 +15,7 @@ step-requires-clause-apps g c =
     first_of (omega arith, grind (arith, common_steps, many))
 
 pub step-requires-clause-honest : goal.step-requires-clause-honest
-step-requires-clause-honest g c = (FIRST_CID, c.self.invariant.1.run.kept.honest)
+step-requires-clause-honest g c = (true, FIRST_CID, c.self.invariant.1.run.kept.honest)
 
 pub invariant_of-self : goal.invariant_of-self
 invariant_of-self g c =
