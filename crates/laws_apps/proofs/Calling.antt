@@ -30,7 +30,7 @@ module _ (first : ℕ) (call : GuestCall) (s : DriverState) (c d : RingContents)
       let kept : Rests true first (sent_with first s l.entries call x.1) x.0 d =
       keeps_end _ (whole_call call s) c d x (whole_with first s c call (at_first first s l.entries) (sent_with first s l.entries call) right
       (call_sent first s l.entries call) (begins first (at_first first s l.entries) s c l before.1 (refl, refl) honest)) plays in
-      agrees first x.0 m (kept on m is).0
+      agrees true first x.0 m (kept on m is).0
 
   pub call_accounted : (first_id : ℕ) (journal : Journal) (entries : List Entry) → IsAccounted first_id journal entries s c
       → IsAccounted first_id (with_call call s x.1 journal) entries x.0 d

@@ -23,7 +23,7 @@ use Rattle.vs_driver_parts.specs.{State.{gone_known_as, is_known_as}, declared.a
 use Rattle.vs_driver_parts.proofs.{Ids.{HasId, found_under}, Packets.{first_under, others_left, packet_known, packet_unknown}}
 use Rattle.laws_tables.specs.Steps.{is_kept, port_after}
 use Rattle.vs_driver_parts.specs.Connections.{keeping}
-use Rattle.vs_driver_parts.proofs.Clean.{given_host, may_connect, port_below, port_rises}
+use Rattle.vs_driver_parts.proofs.Clean.{given_to, may_connect, port_below, port_rises}
 use Rattle.laws_driver.specs.{Honest.{IsFitState, IsFresh, IsHonestWith, ends_of_state}, Carried.Calls.{Accept, Close, Connect, Grow, GuestCall, Journal, Listen, LookAt, Made}}
 use Rattle.laws_driver.{specs.Carried.Calls.{Recv, ReplyTo, Send, Shutdown, Unlisten, is_right, whole_call}, proofs.{Calls.new_keeps, Carrying.{Carries, Fact}}}
 use Rattle.laws_driver.proofs.{Changing.stands_known, Keeping.keeps_end, Polling.poll_keeps, Resetting.{first_contained, with_cid}, Staging.Rests, Tabling.{Stands, entry_fits}}
@@ -142,7 +142,7 @@ all_placed journal (e ∷ es) s is fits x =
     all_placed journal es (with_reply (reset_reply e) m) table_is (with_reply_fits m (reset_reply e) l.fits (entry_fits s e fits stands).ports)
     (leaving journal s x e e.value fits.sound stands refl (value_of journal s x e stands))
 
-poll_places : (first : ℕ) (journal : Journal) → Carries true first (places journal)
+pub poll_places : (first : ℕ) (journal : Journal) → Carries true first (places journal)
 poll_places first journal = record {
   owed = λ what e s log fits stands owes m was fair x. pays journal s x what e fits.sound stands owes;
   reply = λ r rest s log fits is m fair x. x;
@@ -191,6 +191,12 @@ module _ (journal : Journal) where
           of : (b : Bool) → (y.value.id == s.next_id) ≡ b → (b && not y.value.closed) ≡ false
           of false other = refl
           of true same = let is = eqb-true y.value.id s.next_id same in let next = x.numbers.given in absurd (omega (arith, own, under, is, next))
+
+  pub opened_flow : (port : ℕ) (s : DriverState) → IsFitState true s → ArePlaced journal s
+      → flow_of s.next_id (connected HOST_CID port s) ≡ Some (next_flow HOST_CID port s)
+  opened_flow port s fits x = last_found (is_known_as s.next_id) s.table.entries
+      (record { slot = s.table.given; flow = next_flow HOST_CID port s; value = record { id = s.next_id; end = paid_of (asked Stream BUF_ALLOC) owed.Request; unread = []; unanswered = false; closed = false } })
+      (unknown_yet s fits x) (ap (λ (b : Bool). b && true) (eq-eqb s.next_id s.next_id refl)) _
 
   connects : (host : ℕ) (s : DriverState) → ArePlaced journal s → ArePlaced (made_as (Connect host) (Ok s.next_id) ∷ journal) (connected HOST_CID host s)
   connects host s x =
@@ -318,10 +324,8 @@ module _ (journal : Journal) where
     opens = λ s log fits free m was fair x. (
       connects port s x,
       λ id is. subst (λ (n : ℕ). IsTo (IsAsked port) (flow_of n (connected HOST_CID port s))) (same_Some s.next_id id is)
-          (subst (IsTo (IsAsked port)) (sym (last_found (is_known_as s.next_id) s.table.entries
-          (record { slot = s.table.given; flow = next_flow HOST_CID port s; value = record { id = s.next_id; end = paid_of (asked Stream BUF_ALLOC) owed.Request; unread = []; unanswered = false; closed = false } })
-          (unknown_yet s fits x) (ap (λ (b : Bool). b && true) (eq-eqb s.next_id s.next_id refl)) _))
-          (given_host port s.next_port s.clean (next_flow HOST_CID port s) (may_connect HOST_CID port s free).flow)),
+          (subst (IsTo (IsAsked port)) (sym (opened_flow port s fits x))
+          (given_to HOST_CID port s.next_port s.clean (next_flow HOST_CID port s) (may_connect HOST_CID port s free).flow).port_is),
     );
   }
   call_places first (Send id bytes) apps = record {
