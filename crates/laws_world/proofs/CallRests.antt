@@ -3,6 +3,7 @@ use Rattle.std.proofs.Common.{◌≡◌, ℕ, zero, suc, ◌+◌, ◌==◌, Bool
 use Rattle.vs_contents.specs.CallTree.{Done, Ask, bind, played, while_up_to}
 use Rattle.vs_conn.specs.{End.{may_send_of, wanting_credit, with_payload_sent}, declared.end.Stop.Stop}
 use Rattle.vs_outside.specs.Host.{HostContents}
+use Rattle.vs_limits.specs.declared.TheConstants.{HOST_CID}
 use Rattle.vs_ring_list.specs.Ends.{empty_ends}
 use Rattle.vs_ring_port.specs.{DriverCalls.{Publish, Stage, driver_answer}, EndLog.{EndLog, with_pages}, Lists.Rings, declared.queue.Queue.Queue}
 use Rattle.vs_driver_parts.specs.{State.{DriverEntry, DriverState, entry_known_as}, declared.answers.{ConnectError.ConnectError, Sent.Sent}, Connections.connect_refusal}

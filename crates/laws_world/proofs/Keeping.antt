@@ -4,6 +4,7 @@ use Rattle.std.proofs.Common.{◌≡◌, ℕ, ◌==◌, ◌&&◌, Bool, true, fa
 use Rattle.std.{proofs.Common.◌∙◌, specs.List.slice_get}
 use Rattle.vs_conn.specs.{End.{ConnectionEnd, grown, is_reset}, declared.end.{Owed.Owed, State.State, Verdict.Verdict}}
 use Rattle.vs_flow.{specs.{CleanPairs.of_host, Table.{IsRising, IsTable, Table, entry_of, entry_under, without}, declared.flow.Flow.Flow}, proofs.Tables.without_sound}
+use Rattle.vs_limits.specs.declared.TheConstants.{HOST_CID}
 use Rattle.vs_header.specs.declared.Header.{Header}
 use Rattle.laws_history.specs.declared.packet.Packet.{Packet}
 use Rattle.vs_page.specs.{Log.{Driver, flow_to_guest}, Open.is_dropped}
