@@ -2,6 +2,8 @@
 
 ghost use Rattle.std.specs.Prelude.{◌≡◌, ◌<◌, ◌+◌, ◌==◌, ℕ, true, false, List, [], ◌∷◌, Option, Some, codes, slice_get};
 ghost use Rattle.vs_script.specs.{App.{Act, Close, Connect, Exchange}, Data.Fill};
+ghost use Rattle.vs_flow.specs.Connection.{Connection};
+ghost use Rattle.vs_page.specs.Log.{Log};
 ghost use Rattle.laws_driver.specs.Carried.Calls.{Made};
 ghost use Rattle.vs_apps_parts.specs.{Scripts.{calls_in, calls_next, told_in}, Told.step_wait, Journals.{wait_noted, wait_place}, declared.journal.Entry.Entry};
 ghost use Rattle.vs_apps_parts.specs.declared.{journal.WaitsFor.WaitsFor, progress.{AppState.AppState, Progress.Progress}};
@@ -33,6 +35,8 @@ pub fn worked_reports()
     ensures status { hello_status ≡ 0 }
     ensures status_of_waits { silent_status ≡ 5 }
     ensures right { hello_is_right }
+    // A report that swaps two connections of one pair of ports isn't, whichever connections ids were given to.
+    ensures swapped { (opened : ℕ → Connection) (log : Log) → swapped_is_right opened log → ⊥ }
 {}
 
 /// Loads.
