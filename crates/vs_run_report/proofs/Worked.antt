@@ -58,14 +58,13 @@ hello_right log some = record {
 none_written : (c : Connection) → c.flow ≡ host_flow 1024 52 → 2 ≤ c.number → host_wrote c two_streams ≡ []
 none_written c same more =
     ap (λ (f : Flow). option_map_or wrote_after_connect (option_and_then (λ id. stream_at id two_streams)
-    (slice_get (labelled_with f two_streams) (c.number - 1))) []) same ∙ by c.number more
+    (slice_get (labelled_with f two_streams) (c.number - 1))) []) same ∙ by (c.number - 1) (omega (arith, more))
   where
-    by : (n : ℕ) → 2 ≤ n → option_map_or wrote_after_connect (option_and_then (λ id. stream_at id two_streams)
-        (slice_get (labelled_with (host_flow 1024 52) two_streams) (n - 1))) [] ≡ []
+    by : (n : ℕ) → 1 ≤ n → option_map_or wrote_after_connect (option_and_then (λ id. stream_at id two_streams)
+        (slice_get (labelled_with (host_flow 1024 52) two_streams) n)) [] ≡ []
     by zero more = absurd (omega (arith, more))
-    by (suc zero) more = absurd (omega (arith, more))
-    by (suc (suc zero)) more = refl
-    by (suc (suc (suc n))) more = refl
+    by (suc zero) more = refl
+    by (suc (suc n)) more = refl
 
 pub never_swapped : (opened : ℕ → Connection) (log : Log) → swapped_is_right opened log → ⊥
 never_swapped opened log report =
