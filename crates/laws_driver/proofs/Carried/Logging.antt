@@ -246,7 +246,7 @@ module _ (a : Account) (log new : Log) (slots : HeldSlots) (f : Flow) (c : Drive
           omega (arith, here, next, old, fresh)
       rising_by i j false false pi qj less some same =
           let was = x.rising i j less (subst (λ (k : Connection). 1 ≤ k.number) (of_old j qj) some)
-              (ap (λ (k : Connection). k.flow) (sym (of_old i pi)) ∙ same ∙ ap (λ (k : Connection). k.flow) (of_old j qj)) in
+          (ap (λ (k : Connection). k.flow) (sym (of_old i pi)) ∙ same ∙ ap (λ (k : Connection). k.flow) (of_old j qj)) in
           let one = ap (λ (k : Connection). k.number) (of_old i pi) in
           let two = ap (λ (k : Connection). k.number) (of_old j qj) in
           omega (arith, was, one, two)
