@@ -1,6 +1,6 @@
 -- A worked report is right.
-use Rattle.std.proofs.{Common.{◌≡◌, ◌<◌, ◌≤◌, ◌-◌, ℕ, zero, suc, [], ◌∷◌, Some, None, length, codes, refl, sym, ap, subst, ◌∙◌, arith, true}, lemmas.List.Elements.{All-cons, All-head, All-nil, All-tail}}
-use Rattle.std.specs.{Option.option_map_or, Prelude.{option_and_then, slice_get}}
+use Rattle.std.proofs.Common.{◌≡◌, ◌<◌, ◌≤◌, ◌-◌, ℕ, zero, suc, [], ◌∷◌, Some, None, length, codes, refl, sym, ap, subst, ◌∙◌, arith, true}
+use Rattle.std.{proofs.lemmas.List.Elements.{All-cons, All-head, All-nil, All-tail}, specs.{Option.option_map_or, Prelude.{option_and_then, slice_get}}}
 use Rattle.vs_flow.specs.{Connection.Connection, Flow.host_flow, declared.flow.Flow.Flow}
 use Rattle.vs_page.specs.{Fair.IsPrefixOf, Log.Log}
 use Rattle.vs_outside.specs.{Host.stream_at, HostBytes.{host_wrote, labelled_with, wrote_after_connect}}
