@@ -142,7 +142,7 @@ all_placed journal (e ∷ es) s is fits x =
     all_placed journal es (with_reply (reset_reply e) m) table_is (with_reply_fits m (reset_reply e) l.fits (entry_fits s e fits stands).ports)
     (leaving journal s x e e.value fits.sound stands refl (value_of journal s x e stands))
 
-poll_places : (first : ℕ) (journal : Journal) → Carries true first (places journal)
+pub poll_places : (first : ℕ) (journal : Journal) → Carries true first (places journal)
 poll_places first journal = record {
   owed = λ what e s log fits stands owes m was fair x. pays journal s x what e fits.sound stands owes;
   reply = λ r rest s log fits is m fair x. x;
@@ -191,6 +191,12 @@ module _ (journal : Journal) where
           of : (b : Bool) → (y.value.id == s.next_id) ≡ b → (b && not y.value.closed) ≡ false
           of false other = refl
           of true same = let is = eqb-true y.value.id s.next_id same in let next = x.numbers.given in absurd (omega (arith, own, under, is, next))
+
+  pub opened_flow : (port : ℕ) (s : DriverState) → IsFitState true s → ArePlaced journal s
+      → flow_of s.next_id (connected HOST_CID port s) ≡ Some (next_flow HOST_CID port s)
+  opened_flow port s fits x = last_found (is_known_as s.next_id) s.table.entries
+      (record { slot = s.table.given; flow = next_flow HOST_CID port s; value = record { id = s.next_id; end = paid_of (asked Stream BUF_ALLOC) owed.Request; unread = []; unanswered = false; closed = false } })
+      (unknown_yet s fits x) (ap (λ (b : Bool). b && true) (eq-eqb s.next_id s.next_id refl)) _
 
   connects : (host : ℕ) (s : DriverState) → ArePlaced journal s → ArePlaced (made_as (Connect host) (Ok s.next_id) ∷ journal) (connected HOST_CID host s)
   connects host s x =
@@ -318,9 +324,7 @@ module _ (journal : Journal) where
     opens = λ s log fits free m was fair x. (
       connects port s x,
       λ id is. subst (λ (n : ℕ). IsTo (IsAsked port) (flow_of n (connected HOST_CID port s))) (same_Some s.next_id id is)
-          (subst (IsTo (IsAsked port)) (sym (last_found (is_known_as s.next_id) s.table.entries
-          (record { slot = s.table.given; flow = next_flow HOST_CID port s; value = record { id = s.next_id; end = paid_of (asked Stream BUF_ALLOC) owed.Request; unread = []; unanswered = false; closed = false } })
-          (unknown_yet s fits x) (ap (λ (b : Bool). b && true) (eq-eqb s.next_id s.next_id refl)) _))
+          (subst (IsTo (IsAsked port)) (sym (opened_flow port s fits x))
           (given_to HOST_CID port s.next_port s.clean (next_flow HOST_CID port s) (may_connect HOST_CID port s free).flow).port_is),
     );
   }

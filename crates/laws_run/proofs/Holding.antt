@@ -466,7 +466,7 @@ module _ (script : RunScript) (driver : DriverState) (end : Sight) (apps : List 
   -- The report, with all that is so of it.
   pub complete_report : (opened : ℕ → Connection)
       × ((t : Totals) (before after : ℕ) → t.broken ≡ driver.broken → t.counters.overrun ≡ p.device.overrun → t.counters.dropped ≡ 0
-      → (1 ≤ t.counters.faults → one_more before ≤ after) → IsRightReport script apps entries bytes t opened h before after)
+      → (1 ≤ t.counters.faults → one_more before ≤ after) → IsRightReport script apps entries bytes t opened end.log h before after)
       × ((t : Totals) → t.guest_open ≡ length (guest_shown driver) → t.device_open ≡ length (device_shown p.device)
       → IsCompleteRun script apps entries bytes t opened h)
       × ArePlaceWaits script apps entries bytes driver opened h

@@ -85,5 +85,6 @@ none_received size port id = record {
   left = λ i d within. absurd (omega (arith, within));
   passed = λ other. omega arith;
   once = λ i j some same. absurd (omega (arith, some));
+  rising = λ i j less some same. absurd (omega (arith, some));
   fresh = λ other less. (refl, refl);
 }

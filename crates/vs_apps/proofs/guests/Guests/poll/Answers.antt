@@ -11,6 +11,6 @@ invariant_of-self g c =
     let inside = c.self.inside in
     let now = c.poll.new in (
       c.self.invariant.0,
-      guests_poll g.N.RunName.script (guests_with inside.driver inside.end inside.apps.items inside.journal) c.self.invariant.1 c.poll.result
+      guests_poll g.N.RunName.first g.N.RunName.script (guests_with inside.driver inside.end inside.apps.items inside.journal) c.self.invariant.1 c.poll.result
           (guests_with now.self now.ring inside.apps.items inside.journal) c.poll.ensures.ring (record { polls = c.poll.ensures.calls; rest = refl }),
     )

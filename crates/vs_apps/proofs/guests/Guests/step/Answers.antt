@@ -24,6 +24,6 @@ invariant_of-self g c =
     let old = guests_with inside.driver inside.end inside.apps.items inside.journal in
     let new = guests_with now.driver now.ring now.apps.items now.journal in (
       c.self.invariant.0,
-      guests_step g.N.RunName.script old c.self.invariant.1 c.args.k c.step.result.0 c.step.result.1 new c.requires c.step.ensures.ring
+      guests_step g.N.RunName.first g.N.RunName.script old c.self.invariant.1 c.args.k c.step.result.0 c.step.result.1 new c.requires c.step.ensures.ring
           (subst (λ (s : RunScript). Steps s c.args.k c.step.result.0 c.step.result.1 (run_in old) (run_in new)) c.self.invariant.0 c.step.ensures.steps),
     )
