@@ -30,12 +30,6 @@ gathered_set made (x ∷ es) zero e new at same =
     let is : x ≡ e = cc in ap (λ (js : Journal). gathered made es ++ js) (same ∙ ap made (sym is))
 gathered_set made (x ∷ es) (suc place) e new at same = ap (λ (js : Journal). js ++ made x) (gathered_set made es place e new at same)
 
--- Bytes behind those that are there leave the older ones where they stand.
-slice_stays : (from n : ℕ) (bytes more : List ℕ) → from + n ≤ length bytes → slice_of from n (bytes ++ more) ≡ slice_of from n bytes
-slice_stays from n bytes more within =
-    ap (λ (xs : List ℕ). take n xs) (drop-append-le from bytes more (omega (arith, within)))
-    ∙ take-append-le n (drop from bytes) more (omega (arith, within, length-drop from bytes))
-
 made_stays : (script : RunScript) (bytes more : List ℕ) (k : ℕ) (c : Called) → ends_at c ≤ length bytes
     → made_of script (bytes ++ more) k c ≡ made_of script bytes k c
 made_stays script bytes more k (called.Recv id len from answer) within =
@@ -99,26 +93,8 @@ owned_set n new (x ∷ es) (suc place) are is = (are.0, owned_set n new es place
 pub called_owned : (n : ℕ) (es : List Entry) (k : ℕ) (c : Called) → k < n → AreOwned n es → NamesFlow c → AreOwned n (es ++ entry_called k c ∷ [])
 called_owned n es k c less are names = owned_snoc n es (entry_called k c) are (record { app = less; flow = names })
 
-stand_snoc : (n : ℕ) (es : List Entry) (e : Entry) → AllStandIn n es → StandsIn n e → AllStandIn n (es ++ e ∷ [])
-stand_snoc n [] e are is = (is, tt)
-stand_snoc n (x ∷ es) e are is = (are.0, stand_snoc n es e are.1 is)
-
-stand_set : (n k times : ℕ) (why : WaitsFor) (es : List Entry) (place : ℕ) → AllStandIn n es → AllStandIn n (slice_set es place (entry_waited k times why))
-stand_set n k times why [] place are = tt
-stand_set n k times why (x ∷ es) zero are = (tt, are.1)
-stand_set n k times why (x ∷ es) (suc place) are = (are.0, stand_set n k times why es place are.1)
-
 pub called_stand : (n : ℕ) (es : List Entry) (k : ℕ) (c : Called) → AllStandIn n es → ends_at c ≤ n → AllStandIn n (es ++ entry_called k c ∷ [])
 called_stand n es k c are within = stand_snoc n es (entry_called k c) are within
-
-pub more_stand : (n m : ℕ) → n ≤ m → (es : List Entry) → AllStandIn n es → AllStandIn m es
-more_stand n m less [] are = tt
-more_stand n m less (e ∷ es) are = (by e.deed are.0, more_stand n m less es are.1)
-  where
-    by : (d : Deed) → elim d as (λ _. Type 0) [ deed.Called c ↦ ends_at c ≤ n | deed.Waited times why ↦ Unit {0} ]
-        → elim d as (λ _. Type 0) [ deed.Called c ↦ ends_at c ≤ m | deed.Waited times why ↦ Unit {0} ]
-    by (deed.Called c) stands = omega (arith, stands, less)
-    by (deed.Waited times why) stands = tt
 
 pub wait_same : (script : RunScript) (bytes : List ℕ) (k : ℕ) (why : WaitsFor) (last : Option ℕ) (es : List Entry)
     → SameCalls script bytes k es (wait_noted k why last es)

@@ -46,11 +46,6 @@ recv_few id n s = by (entry_known_as id s)
     by None = gone_by (gone_known_as id s)
 
 -- A receive: its bytes come behind those of the journal.
-stands_there : (bytes more : List ℕ) (n : ℕ) → length more ≡ n → slice_of (length bytes) n (bytes ++ more) ≡ more
-stands_there bytes more n is =
-    ap (λ (k : ℕ). slice_of (length bytes) k (bytes ++ more)) (sym is)
-    ∙ ap (λ (xs : List ℕ). take (length more) xs) (drop-append_seam bytes more) ∙ take-length more
-
 module _ (script : RunScript) (k id n from : ℕ) (s t : DriverState) (r : Received) (old new : List ℕ) (gives : Receives id n s t r old new) (behind : from ≡ length old)
     (before after : List Entry) (told : Told) where
   abbrev here : Called
