@@ -6,7 +6,7 @@ use Rattle.vs_driver_parts.specs.Connections.{got_count}
 use Rattle.laws_driver.specs.Carried.Calls.{Journal, Made}
 use Rattle.vs_apps_parts.specs.Journals.{AllStandIn, StandsIn, calls_of, calls_of_app, ends_at, entry_called, entry_waited, gathered, made_as, made_by, made_by_app, made_of}
 use Rattle.vs_apps_parts.specs.{Journals.{one_more, times_at, times_in, wait_noted, waited_before}, Scripts.{RunScript, slice_of}, declared.journal.{Called.Called, Deed.Deed}}
-use Rattle.vs_apps_parts.specs.declared.journal.{Entry.Entry, WaitsFor.WaitsFor}
+use Rattle.vs_apps_parts.{specs.declared.journal.{Entry.Entry, WaitsFor.WaitsFor}, proofs.Entries.{slice_stays, stand_set, stand_snoc, wait_as}}
 use Rattle.vs_flow.specs.Connection.{Connection}
 use Rattle.laws_apps.{specs.{Accounts.TellFlows, Placed.{AreOwned, IsOwned, NamesFlow}}, proofs.Opening.{flows_set, flows_snoc}}
 use Rattle.laws_driver.specs.Carried.Calls as call
@@ -98,7 +98,7 @@ called_stand n es k c are within = stand_snoc n es (entry_called k c) are within
 
 pub wait_same : (script : RunScript) (bytes : List ℕ) (k : ℕ) (why : WaitsFor) (last : Option ℕ) (es : List Entry)
     → SameCalls script bytes k es (wait_noted k why last es)
-wait_same script bytes k why last es = by (waited_before k last es) refl
+wait_same script bytes k why last es = wait_as (SameCalls script bytes k es) k why last es added changed
   where
     added : SameCalls script bytes k es (es ++ entry_waited k 1 why ∷ [])
     added = record {
@@ -120,23 +120,3 @@ wait_same script bytes k why last es = by (waited_before k last es) refl
       flows = λ opened are. flows_set opened k (one_more times) why es place are;
       owned = λ n less are. owned_set n (entry_waited k (one_more times) why) es place are (record { app = less; flow = tt });
     }
-
-    at_place : (place times : ℕ) → times_at k place es ≡ Some times → SameCalls script bytes k es (slice_set es place (entry_waited k (one_more times) why))
-    at_place place times is = here (slice_get es place) refl is
-      where
-        here : (o : Option Entry) → slice_get es place ≡ o → elim o as (λ _. Option ℕ) [ None ↦ None | Some e ↦ times_in k e ] ≡ Some times
-            → SameCalls script bytes k es (slice_set es place (entry_waited k (one_more times) why))
-        here None at is = absurd cc
-        here (Some e) at is = changed place times e at is
-
-    placed : (l : Option ℕ) (times : ℕ) → waited_before k l es ≡ Some times
-        → SameCalls script bytes k es (slice_set es (unwrap_or l 0) (entry_waited k (one_more times) why))
-    placed None times is = absurd cc
-    placed (Some place) times is = at_place place times is
-
-    by : (o : Option ℕ) → waited_before k last es ≡ o → SameCalls script bytes k es (elim o as (λ _. List Entry) [
-      | None ↦ es ++ entry_waited k 1 why ∷ []
-      | Some times ↦ slice_set es (unwrap_or last 0) (entry_waited k (one_more times) why)
-    ])
-    by None is = added
-    by (Some times) is = placed last times is

@@ -9,6 +9,7 @@ use Rattle.vs_apps_parts.specs.{Journals.{called_noted, made_as, made_of}, Scrip
 use Rattle.vs_apps_parts.specs.declared.{journal.{Entry.Entry, WaitsFor.WaitsFor}, progress.AppState.AppState, told.Told.Told}
 use Rattle.laws_apps.specs.{Runs.NotesCall, Calls.{CallsAs, Receives, run_with}}
 use Rattle.vs_conn.specs.declared.end.State.{State}
+use Rattle.vs_apps_parts.proofs.Entries.{stands_there}
 use Rattle.laws_driver.specs.Carried.Calls as call
 use Rattle.vs_conn.specs.declared.end.State.TheVariants as state
 use Rattle.vs_driver_parts.specs.declared.answers.Received.TheVariants as recv

@@ -105,10 +105,7 @@ impl<N: RunName> Guests<N> {
             end,
             script,
             apps,
-            journal: Journal {
-                entries: Vec::new(alloc),
-                bytes: Vec::new(alloc),
-            },
+            journal: Journal::new(alloc),
         })
     }
 
@@ -128,8 +125,8 @@ impl<N: RunName> Guests<N> {
 
     /// The journal.
     pub fn journal(&self) -> &Journal
-        ensures entries { result.now.entries.items ≡ self.now.entries }
-        ensures bytes { result.now.bytes.items ≡ self.now.bytes }
+        ensures entries { result.now.entries ≡ self.now.entries }
+        ensures bytes { result.now.bytes ≡ self.now.bytes }
     {
         &self.journal
     }

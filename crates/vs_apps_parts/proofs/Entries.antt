@@ -1,13 +1,13 @@
 -- What an entry more, a wait more and bytes more leave of a journal, and what each says was received on a connection.
-use Rattle.std.proofs.Common.{◌≡◌, ℕ, zero, suc, ◌+◌, ◌<◌, ◌≤◌, ◌==◌, Bool, true, false, cond, if◌then◌else◌, List, [], ◌∷◌, ◌++◌, length, take, drop, Option, Some, None, refl, sym, ap, subst, ◌∙◌}
+use Rattle.std.proofs.Common.{◌≡◌, ℕ, zero, suc, ◌+◌, ◌-◌, ◌<◌, ◌≤◌, ◌==◌, Bool, true, false, cond, if◌then◌else◌, List, [], ◌∷◌, ◌++◌, length, take, drop, Option, Some, None, refl, sym, ap, subst, ◌∙◌}
 use Rattle.std.{proofs.{Common.{append_assoc, append-nil, slice_set, arith}, lemmas.{Bool.eqb-true, List.{drop-append-le, length-append, length-drop, take-append-le}}}, specs.Prelude.slice_get}
 use Rattle.std.{proofs.Math.Seq.{drop-append_seam, take-length}, specs.Option.unwrap_or}
 use Rattle.vs_excerpt.specs.{Excerpt.excerpt_of, declared.Excerpt.Excerpt}
 use Rattle.vs_driver_parts.specs.{Connections.got_count, declared.answers.Received.Received}
 use Rattle.laws_driver.specs.Carried.Calls.{Journal, bytes_received, names, received_by}
 use Rattle.vs_apps_parts.specs.Journals.{AllStandIn, StandsIn, called_noted, calls_of, ends_at, entry_called, entry_waited, made_by, made_of, one_more, times_at, times_in, wait_noted, waited_before}
-use Rattle.vs_apps_parts.specs.{Scripts.{RunScript, slice_of}, Sums.{IsSummed, given_by, given_in, given_on, is_receive, kept_of}, Told.{told_recv, wait_of}, declared.journal.{Called.Called, Deed.Deed}}
-use Rattle.vs_apps_parts.specs.declared.journal.{Entry.Entry, WaitsFor.WaitsFor}
+use Rattle.vs_apps_parts.specs.{Scripts.{RunScript, slice_of}, Sums.{HasSpace, IsSummed, given_by, given_in, given_on, is_receive, kept_of}, Told.{told_recv, wait_of}, declared.journal.{Called.Called, Deed.Deed}}
+use Rattle.vs_apps_parts.specs.declared.{journal.{Entry.Entry, WaitsFor.WaitsFor}, progress.TheConstants.SLICE, told.Told.Told}
 use Rattle.vs_apps_parts.specs.declared.journal.Called.TheVariants as called
 use Rattle.vs_apps_parts.specs.declared.journal.Deed.TheVariants as deed
 use Rattle.vs_driver_parts.specs.declared.answers.Received.TheVariants as recv
@@ -107,21 +107,21 @@ received_append id (m ∷ ms) older =
     ap (λ (xs : List ℕ). xs ++ cond (names id m.id) (bytes_received m.call m.reply) []) (received_append id ms older)
     ∙ append_assoc (received_by id older) (received_by id ms) (cond (names id m.id) (bytes_received m.call m.reply) [])
 
-module _ (id : ℕ) (script : RunScript) (bytes : List ℕ) where
-  none_either : (b : Bool) → cond b [] [] ≡ []
-  none_either true = refl
-  none_either false = refl
+none_either : (b : Bool) (xs : List ℕ) → xs ≡ [] → cond b xs [] ≡ []
+none_either true xs none = none
+none_either false xs none = refl
 
+module _ (id : ℕ) (script : RunScript) (bytes : List ℕ) where
   given_called : (app : ℕ) (c : Called) → received_by id (made_of script bytes app c ∷ []) ≡ given_in id bytes c
   given_called app (called.Connect port answer flow) = refl
   given_called app (called.Listen port answer) = refl
   given_called app (called.Accept port answer flow) = refl
-  given_called app (called.Send other at from len answer) = none_either (id == other)
+  given_called app (called.Send other at from len answer) = none_either (id == other) [] refl
   given_called app (called.Recv other len from answer) = refl
-  given_called app (called.Shutdown other bits answer) = none_either (id == other)
-  given_called app (called.Grow other alloc answer) = none_either (id == other)
-  given_called app (called.Close other answer) = none_either (id == other)
-  given_called app (called.LookAt other answer) = none_either (id == other)
+  given_called app (called.Shutdown other bits answer) = none_either (id == other) [] refl
+  given_called app (called.Grow other alloc answer) = none_either (id == other) [] refl
+  given_called app (called.Close other answer) = none_either (id == other) [] refl
+  given_called app (called.LookAt other answer) = none_either (id == other) [] refl
 
   given_made : (app : ℕ) (d : Deed) → received_by id (made_by script bytes (record { app = app; deed = d })) ≡ given_by id bytes (record { app = app; deed = d })
   given_made app (deed.Called c) = given_called app c
@@ -159,20 +159,24 @@ module _ (count : ℕ) (bytes : List ℕ) (es : List Entry) (kept : Excerpts) (i
     exact = λ id. is.exact id ∙ ap excerpt_of (sym (same id));
   }
 
-  pub summed_wait : (k : ℕ) (why : WaitsFor) (last : Option ℕ) → IsSummed count bytes (wait_noted k why last es) kept
-  summed_wait k why last =
-      wait_as (λ fs. IsSummed count bytes fs kept) k why last es
+  pub summed_wait : (k : ℕ) (why : WaitsFor) (last : Option ℕ) (new : List Entry) → new ≡ wait_noted k why last es → IsSummed count bytes new kept
+  summed_wait k why last new noted =
+      subst (λ (fs : List Entry). IsSummed count bytes fs kept) (sym noted) (wait_as (λ fs. IsSummed count bytes fs kept) k why last es
       (same_given _ (stand_snoc (length bytes) es (entry_waited k 1 why) is.stands tt)
       (λ id. given_snoc id bytes es (entry_waited k 1 why) ∙ append-nil (given_on id bytes es)))
       (λ place times e at so. same_given _ (stand_set (length bytes) k (one_more times) why es place is.stands)
-      (λ id. given_set id bytes es place e (entry_waited k (one_more times) why) at (none_of_wait id bytes k times e so)))
+      (λ id. given_set id bytes es place e (entry_waited k (one_more times) why) at (none_of_wait id bytes k times e so))))
 
-  pub summed_call : (k : ℕ) (c : Called) → is_receive c ≡ false → (o : Option WaitsFor) → IsSummed count bytes (called_noted k c o es) kept
-  summed_call k c other (Some why) = is
-  summed_call k c other None =
+  noted_call : (k : ℕ) (c : Called) → is_receive c ≡ false → (o : Option WaitsFor) → IsSummed count bytes (called_noted k c o es) kept
+  noted_call k c other (Some why) = is
+  noted_call k c other None =
       same_given _ (stand_snoc (length bytes) es (entry_called k c) is.stands (none_ends (length bytes) c other))
       (λ id. given_snoc id bytes es (entry_called k c) ∙ ap (λ (xs : List ℕ). given_on id bytes es ++ xs) (none_given id bytes c other)
       ∙ append-nil (given_on id bytes es))
+
+  pub summed_call : (k : ℕ) (c : Called) (o : Option WaitsFor) (new : List Entry) → is_receive c ≡ false → new ≡ called_noted k c o es
+      → IsSummed count bytes new kept
+  summed_call k c o new other noted = subst (λ (fs : List Entry). IsSummed count bytes fs kept) (sym noted) (noted_call k c other o)
 
 -- A receive: its bytes come behind the others.
 pub stands_there : (bytes more : List ℕ) (n : ℕ) → length more ≡ n → slice_of (length bytes) n (bytes ++ more) ≡ more
@@ -199,8 +203,8 @@ module _ (count : ℕ) (bytes : List ℕ) (es : List Entry) (kept : Excerpts) (i
   slice_is : slice_of from (got_count r) (bytes ++ piece) ≡ piece
   slice_is = ap (λ (n : ℕ). slice_of n (got_count r) (bytes ++ piece)) at ∙ stands_there bytes piece (got_count r) many
 
-  -- With the entry, each connection got so much more.
-  more_on : ℕ → List ℕ
+  -- So much more each connection got.
+  abbrev more_on : ℕ → List ℕ
   more_on other = cond (other == id) piece []
 
   with_entry : (other : ℕ) → given_on other (bytes ++ piece) (es ++ there ∷ []) ≡ given_on other bytes es ++ more_on other
@@ -237,15 +241,35 @@ module _ (count : ℕ) (bytes : List ℕ) (es : List Entry) (kept : Excerpts) (i
     stands = stand_more;
     few = λ other. omega (arith, length-append bytes piece, is.few other, ap (λ (xs : List ℕ). length xs) (given_stays other bytes piece es is.stands));
     exact = λ other. exact_by other (other == id) refl
-        ∙ ap excerpt_of (ap (λ (xs : List ℕ). given_on other bytes es ++ xs) (nothing (other == id)) ∙ append-nil (given_on other bytes es)
+        ∙ ap excerpt_of (ap (λ (xs : List ℕ). given_on other bytes es ++ xs) (none_either (other == id) piece none) ∙ append-nil (given_on other bytes es)
         ∙ sym (given_stays other bytes piece es is.stands));
   }
-    where
-      nothing : (b : Bool) → cond b piece [] ≡ []
-      nothing true = none
-      nothing false = refl
 
-  pub summed_received : (o : Option WaitsFor) → wait_of (told_recv r) ≡ o
+  noted_receive : (o : Option WaitsFor) → wait_of (told_recv r) ≡ o
       → IsSummed (count + length piece) (bytes ++ piece) (called_noted k (called.Recv id len from r) o es) now
-  summed_received None told = summed_noted
-  summed_received (Some why) told = summed_silent (empty piece (many ∙ none_came r why told))
+  noted_receive None told = summed_noted
+  noted_receive (Some why) told = summed_silent (empty piece (many ∙ none_came r why told))
+
+  pub summed_receive : (told : Told) (new : List Entry) (given : List ℕ) → told ≡ told_recv r
+      → new ≡ called_noted k (called.Recv id len from r) (wait_of told) es → given ≡ bytes ++ piece → IsSummed (count + length piece) given new now
+  summed_receive told new given says noted more =
+      subst (λ (bs : List ℕ). IsSummed (count + length piece) bs new now) (sym more)
+      (subst (λ (fs : List Entry). IsSummed (count + length piece) (bytes ++ piece) fs now) (sym noted)
+      (noted_receive (wait_of told) (ap (λ (t : Told). wait_of t) (sym says))))
+
+-- One was noted: room for one less is left.
+module _ (room len new capacity now spare count : ℕ) (space : HasSpace room len capacity spare count) (some : 0 < room) (same : now ≡ capacity)
+    (few : new ≤ len + 1) where
+  pub space_noted : HasSpace (room - 1) new now spare count
+  space_noted = record {
+    entries = omega (arith, space.entries, some, same, few);
+    excerpts = omega (arith, space.excerpts);
+    bytes = omega (arith, space.bytes);
+  }
+
+  pub space_given : (left given : ℕ) → spare ≤ left + 1 → given ≤ SLICE → HasSpace (room - 1) new now left (count + given)
+  space_given left given kept small = record {
+    entries = omega (arith, space.entries, some, same, few);
+    excerpts = omega (arith, space.excerpts, some, kept);
+    bytes = omega (arith, space.bytes, some, small);
+  }

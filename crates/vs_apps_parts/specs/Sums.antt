@@ -47,4 +47,4 @@ pub record IsSummed (count : ℕ) (bytes : List ℕ) (entries : List Entry) (exc
 pub record HasSpace (room len capacity spare count : ℕ) : Type 0 where
   pub entries : len + room ≤ capacity
   pub excerpts : room ≤ spare
-  pub count : count + room * SLICE < 2 ^ 64
+  pub bytes : count + room * SLICE < 2 ^ 64

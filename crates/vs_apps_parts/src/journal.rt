@@ -297,6 +297,7 @@ fn add_wait(entries: &mut Vec<Entry>, last: Option<usize>, app: usize, why: Wait
     requires { vec_len entries.old < vec_capacity entries.old }
     ensures noted { entries.new.items ≡ wait_noted app why last entries.old.items }
     ensures place { result ≡ wait_place app last entries.old.items }
+    ensures room { (vec_capacity entries.new ≡ vec_capacity entries.old) × (vec_len entries.new ≤ vec_len entries.old + 1) }
 {
     if let Some(place) = last {
         if let Some(times) = times_at(entries, app, place) {

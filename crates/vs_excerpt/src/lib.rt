@@ -2,7 +2,7 @@
 #![tactic(auto)]
 
 ghost use Rattle.std.specs.Prelude.{◌≡◌, ◌≤◌, ◌<◌, ◌+◌, ◌-◌, ◌++◌, ◌^◌, [], List, ℕ, drop, length, min, take};
-ghost use Rattle.vs_excerpt.specs.Excerpt.{back_of, excerpt_of, front_of};
+ghost use Rattle.vs_excerpt.specs.Excerpt.{excerpt_of, front_of};
 
 /// The most bytes that are printed in full.
 pub const MAX_IN_FULL: usize = 64;
@@ -76,21 +76,5 @@ impl Excerpt {
         write_back(&mut next.back, piece);
         next.count = self.count + piece.len() as u64;
         next
-    }
-
-    /// The first ones, at most `most` of them and at most `MAX_IN_FULL`.
-    pub fn front(&self, most: usize) -> &[u8]
-        requires { most ≤ MAX_IN_FULL }
-        ensures { (bytes : List ℕ) → self.now ≡ excerpt_of bytes → result.now ≡ take most bytes }
-    {
-        let n = most.min(self.count as usize);
-        &self.front[..n]
-    }
-
-    /// The last `AT_EACH_END`, where there are so many.
-    pub fn back(&self) -> &[u8]
-        ensures { (bytes : List ℕ) → self.now ≡ excerpt_of bytes → AT_EACH_END ≤ length bytes → result.now ≡ drop (length bytes - AT_EACH_END) bytes }
-    {
-        &self.back
     }
 }

@@ -60,8 +60,7 @@ fn report_of<N: RunName>(
         idle,
         guests.script(),
         guests.apps(),
-        journal.entries.as_slice(),
-        journal.bytes.as_slice(),
+        journal,
         &totals,
     )
 }
@@ -73,7 +72,7 @@ fn status<N: RunName>(guests: &Guests<N>) -> u8
     run_status(
         guests.script(),
         guests.apps(),
-        guests.journal().entries.as_slice(),
+        guests.journal().entries(),
     )
 }
 

@@ -4,10 +4,10 @@ use Rattle.vs_script.specs.Data.{content_of}
 use Rattle.vs_apps.proofs.sending.send_next.Goals as goal
 
 pub returns-clause-calls : goal.returns-clause-calls
-returns-clause-calls g c = λ script apps got is.
+returns-clause-calls g c = λ script apps is.
     let content = content_of c.args.content.now in
     let n = c.copy_to-n.result in
     let buffer = c.copy_to-n.new.out in
     sends_next content c.args.progress n buffer c.copy_to-n.ensures.copied script c.args.app c.id.result c.send.result _ _
     c.id.ensures c.copy_to-n.ensures.count
-    (c.send.ensures.calls script apps got (stands content c.args.progress n buffer c.copy_to-n.ensures.copied _ (search rules) is))
+    (c.send.ensures.calls script apps (stands content c.args.progress n buffer c.copy_to-n.ensures.copied _ (search rules) is))

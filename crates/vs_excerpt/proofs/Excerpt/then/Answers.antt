@@ -1,5 +1,5 @@
 use Rattle.std.proofs.{Common.{◌≡◌, ◌++◌, ◌+◌, ◌∙◌, ℕ, List, ap, sym, drop, length}, lemmas.List.length-append}
-use Rattle.vs_excerpt.{specs.{Excerpt.{back_of, front_of}, declared.Excerpt.Excerpt}, proofs.Keeping.back_more}
+use Rattle.vs_excerpt.{specs.declared.Excerpt.Excerpt, proofs.Keeping.back_more}
 use Rattle.vs_excerpt.proofs.Excerpt.then.Goals as goal
 
 made : (n m : ℕ) (f g h k : List ℕ) → n ≡ m → f ≡ g → h ≡ k

@@ -7,9 +7,9 @@ use Rattle.vs_run_report.proofs.connection.push_connections_of.Goals as goal
 pub loop-entry-preserved : goal.loop-entry-preserved
 loop-entry-preserved c =
     let i = c.loop-entry.entry-index in
-    let text = opened_text (calls_of (script_of c.args.script.now) c.args.bytes.now c.args.entries.now) in
+    let text = opened_text (calls_of (script_of c.args.script.now) c.args.journal.now.bytes c.args.journal.now.entries) in
     lines_next (string_bytes c.args.out.now) (string_bytes c.loop-entry.out) (string_bytes c.push_opened_by.new.out) text
-    (λ e. listed (opened_by c.args.app e)) (take i c.args.entries.now) (take (i + 1) c.args.entries.now) _
-    (take_more c.args.entries.now i _ c.loop-entry-test.true) c.loop-entry.invariant
+    (λ e. listed (opened_by c.args.app e)) (take i c.entries-entries.result.now) (take (i + 1) c.entries-entries.result.now) _
+    (take_more c.entries-entries.result.now i _ c.loop-entry-test.true) c.loop-entry.invariant
     (c.in_ok-push_opened_by.ensures
     ∙ ap (λ (o : Option Opened). string_bytes c.loop-entry.out ++ joined (map text (listed o))) c.opened_by.ensures)

@@ -7,4 +7,4 @@ use Rattle.vs_run_report.proofs.connection.push_connections_of.Given as goal
 -- the lines of the entries so far
 abbrev pub invariant-loop-entry : goal.invariant-loop-entry
 invariant-loop-entry l = string_bytes l.out ≡ string_bytes l.fn.out
-    ++ joined (map (opened_text (calls_of (script_of l.script) l.bytes l.entries)) (opened_of l.app (take l.entry-index l.entries)))
+    ++ joined (map (opened_text (calls_of (script_of l.script) l.journal.bytes l.journal.entries)) (opened_of l.app (take l.entry-index l.entries)))
