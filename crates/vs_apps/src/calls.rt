@@ -117,13 +117,7 @@ pub fn shutdown(
 }
 
 /// `grow N`
-pub fn grow(
-    driver: &mut Driver,
-    journal: &mut Journal,
-    app: usize,
-    id: ConnId,
-    alloc: u32,
-) -> Told
+pub fn grow(driver: &mut Driver, journal: &mut Journal, app: usize, id: ConnId, alloc: u32) -> Told
     requires room { HasRoom 1 journal.old }
     ensures ring { (n : ℕ) (flown staged : Counts) → IsRingOf n flown staged driver.old → IsRingOf n flown staged driver.new }
     ensures honest { (first : ℕ) (c : RingContents) → IsHonestWith first driver.old c → IsHonestWith first driver.new c }

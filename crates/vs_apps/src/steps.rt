@@ -147,48 +147,24 @@ fn make_calls<R: DriverRing>(
     let id = progress.id();
     match instruction {
         Instruction::Connect { port } => Heard::one(ask(
-            driver,
-            ring,
-            journal,
-            app,
-            progress,
-            *port,
+            driver, ring, journal, app, progress, *port,
         )),
-        Instruction::Listen { port } => {
-            Heard::one(listen(driver, journal, app, *port))
-        }
-        Instruction::Accept { port } => {
-            Heard::one(accept(driver, journal, app, *port))
-        }
+        Instruction::Listen { port } => { Heard::one(listen(driver, journal, app, *port)) }
+        Instruction::Accept { port } => { Heard::one(accept(driver, journal, app, *port)) }
         Instruction::Send { content } => Heard::one(send_next(
-            driver,
-            ring,
-            journal,
-            app,
-            progress,
-            content,
+            driver, ring, journal, app, progress, content,
         )),
         Instruction::Recv { len } => {
             Heard::one(recv_next(driver, journal, app, progress, *len as usize))
         }
-        Instruction::Drain => Heard::one(recv(
-            driver,
-            journal,
-            app,
-            id,
-            SLICE,
-        )),
+        Instruction::Drain => Heard::one(recv(driver, journal, app, id, SLICE)),
         Instruction::Exchange { content } => {
             let first = send_left(driver, ring, journal, app, progress, content);
             let second = recv_left(driver, journal, app, progress, content.len());
             Heard { first, second }
         }
-        Instruction::Shutdown { bits } => {
-            Heard::one(shutdown(driver, journal, app, id, *bits))
-        }
-        Instruction::Grow { alloc } => {
-            Heard::one(grow(driver, journal, app, id, *alloc))
-        }
+        Instruction::Shutdown { bits } => { Heard::one(shutdown(driver, journal, app, id, *bits)) }
+        Instruction::Grow { alloc } => { Heard::one(grow(driver, journal, app, id, *alloc)) }
         Instruction::Close => Heard::one(close(driver, journal, app, id)),
     }
 }

@@ -1,13 +1,13 @@
 -- What an entry more, a wait more and bytes more leave of a journal, and what each says was received on a connection.
-use Rattle.std.proofs.Common.{◌≡◌, ℕ, zero, suc, ◌+◌, ◌-◌, ◌<◌, ◌≤◌, ◌==◌, Bool, true, false, cond, if◌then◌else◌, List, [], ◌∷◌, ◌++◌, length, take, drop, Option, Some, None, refl, sym, ap, subst, ◌∙◌}
-use Rattle.std.{proofs.{Common.{append_assoc, append-nil, slice_set, arith}, lemmas.{Bool.eqb-true, List.{drop-append-le, length-append, length-drop, take-append-le}}}, specs.Prelude.slice_get}
-use Rattle.std.{proofs.Math.Seq.{drop-append_seam, take-length}, specs.Option.unwrap_or}
+use Rattle.std.proofs.Common.{◌≡◌, ℕ, zero, suc, ◌+◌, ◌-◌, ◌<◌, ◌≤◌, ◌==◌, Bool, true, false, cond, List, [], ◌∷◌, ◌++◌, length, take, drop, Option, Some, None, refl, sym, ap}
+use Rattle.std.proofs.{Common.{subst, ◌∙◌, append_assoc, append-nil, slice_set, arith}, lemmas.{Bool.eqb-true, List.{drop-append-le, length-append, length-drop, take-append-le}}}
+use Rattle.std.{proofs.Math.Seq.{drop-append_seam, take-length}, specs.{Option.unwrap_or, Prelude.slice_get}}
 use Rattle.vs_excerpt.specs.{Excerpt.excerpt_of, declared.Excerpt.Excerpt}
 use Rattle.vs_driver_parts.specs.{Connections.got_count, declared.answers.Received.Received}
 use Rattle.laws_driver.specs.Carried.Calls.{Journal, bytes_received, names, received_by}
-use Rattle.vs_apps_parts.specs.Journals.{AllStandIn, StandsIn, called_noted, calls_of, ends_at, entry_called, entry_waited, made_by, made_of, one_more, times_at, times_in, wait_noted, waited_before}
-use Rattle.vs_apps_parts.specs.{Scripts.{RunScript, slice_of}, Sums.{HasSpace, IsSummed, given_by, given_in, given_on, is_receive, kept_of}, Told.{told_recv, wait_of}, declared.journal.{Called.Called, Deed.Deed}}
-use Rattle.vs_apps_parts.specs.declared.{journal.{Entry.Entry, WaitsFor.WaitsFor}, progress.TheConstants.SLICE, told.Told.Told}
+use Rattle.vs_apps_parts.specs.Journals.{AllStandIn, StandsIn, called_noted, calls_of, ends_at, entry_called, entry_waited, made_by, made_of, one_more, times_in, wait_noted}
+use Rattle.vs_apps_parts.specs.{Journals.waited_before, Scripts.{RunScript, slice_of}, Sums.{HasSpace, IsSummed, given_by, given_in, given_on, is_receive, kept_of}, Told.wait_of}
+use Rattle.vs_apps_parts.specs.{Told.told_recv, declared.{journal.{Called.Called, Deed.Deed, Entry.Entry, WaitsFor.WaitsFor}, progress.TheConstants.SLICE, told.Told.Told}}
 use Rattle.vs_apps_parts.specs.declared.journal.Called.TheVariants as called
 use Rattle.vs_apps_parts.specs.declared.journal.Deed.TheVariants as deed
 use Rattle.vs_driver_parts.specs.declared.answers.Received.TheVariants as recv

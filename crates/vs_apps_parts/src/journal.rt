@@ -15,11 +15,11 @@ use crate::told::Told;
 use indexmap::IndexMap;
 use std::alloc::{AllocError, Global};
 use std::marker::Model;
-use vs_excerpt::Excerpt;
 use vs_driver_parts::answers::{
     Accepted, Closed, ConnId, ConnectError, ConnectionState, Grown, ListenError, Received, Sent,
     Shut,
 };
+use vs_excerpt::Excerpt;
 use vs_flow::Flow;
 
 /// Why an app waits.

@@ -1,6 +1,6 @@
 -- Pieces that come behind others: what is kept of all of them.
 use Rattle.std.proofs.Common.{◌≡◌, ◌≤◌, ◌<◌, ◌+◌, ◌-◌, ◌++◌, ℕ, zero, suc, List, [], ◌∷◌, min, length, take, drop, refl, sym, ap, ◌∙◌, arith, append_assoc}
-use Rattle.std.{specs.Prelude.replicate, proofs.lemmas.List.{drop-append-le, drop-drop, drop_at, length-append, length-replicate, length-take, take-append-le, take-take, take_min}}
+use Rattle.std.{specs.Prelude.replicate, proofs.lemmas.List.{drop-append-le, drop-drop, drop_at, length-append, length-take, take-append-le, take-take, take_min}}
 use Rattle.vs_excerpt.specs.{Excerpt.{back_of, front_of}, declared.TheConstants.{AT_EACH_END, MAX_IN_FULL}}
 
 -- The first n bytes of a piece, over zeros.

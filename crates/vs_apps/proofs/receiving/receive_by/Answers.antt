@@ -7,8 +7,7 @@ pub returns-clause-calls : goal.returns-clause-calls
 returns-clause-calls c = λ script ring apps.
     let got = c.received.result in
     recv_as script c.args.app c.args.id (length c.args.buffer.now) (length c.args.journal.now.bytes) c.args.driver.now c.received.new.driver got.0
-    c.args.journal.now.bytes c.note_received.new.self.bytes
-    (
+    c.args.journal.now.bytes c.note_received.new.self.bytes (
       take got.1 c.received.new.buffer,
       length-take-le got.1 c.received.new.buffer c.received.ensures.within ∙ c.received.ensures.count,
       c.note_received.ensures.bytes,

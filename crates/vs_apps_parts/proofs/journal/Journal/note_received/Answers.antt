@@ -6,8 +6,7 @@ pub invariant_of-self : goal.invariant_of-self
 invariant_of-self c =
     let old = c.self.inside in
     let is = c.self.invariant.0 in
-    let room : 0 < old.room = subst (λ (j : JournalState). 0 < j.room) (sym c.self.view_is) c.requires.room in
-    (
+    let room : 0 < old.room = subst (λ (j : JournalState). 0 < j.room) (sym c.self.view_is) c.requires.room in (
       summed_receive old.count old.bytes.items old.entries.items _ is c.args.app c.args.id c.args.len old.count c.args.answer c.args.bytes.now
           c.requires.count is.counts _ (λ other apart. c.add_piece.ensures.others other (grind (arith, nat_tests, apart)))
           (c.add_piece.ensures.kept (given_on c.args.id old.bytes.items old.entries.items) (is.exact c.args.id)) c.add_called.result _
