@@ -4,8 +4,8 @@ use Rattle.std.proofs.{Common.{None, is_some, Result, Ok, Err, refl, sym, ap, su
 use Rattle.std.{proofs.lemmas.Option.same_Some, specs.{List.list_any, Option.{option_map, option_map_or}}}
 use Rattle.vs_contents.{specs.CallTree.{Done, bind}, proofs.Leads.{AllEnds, end_of}}
 use Rattle.vs_conn.specs.{End.{is_reset, verdict_of}, declared.end.{Owed.Owed, State.State, Verdict.Verdict}}
-use Rattle.vs_flow.{proofs.Entries.found_passes, specs.{Flow.is_assigned, Table.entry_of, declared.flow.Flow.Flow}}
-use Rattle.vs_limits.specs.declared.TheConstants.{DRIVER_CONNECTIONS, LAST_PORT, LISTENERS}
+use Rattle.vs_flow.{proofs.Entries.found_passes, specs.{CleanPairs.of_host, Flow.{host_asks, is_assigned}, Table.entry_of, declared.flow.Flow.Flow}}
+use Rattle.vs_limits.specs.declared.TheConstants.{DRIVER_CONNECTIONS, HOST_CID, LAST_PORT, LISTENERS}
 use Rattle.laws_history.specs.declared.packet.Packet.{Packet}
 use Rattle.vs_page.specs.{Log.{Driver, flow_to_guest}, Open.is_dropped}
 use Rattle.vs_replies.specs.Owed.{reply_to}
@@ -376,32 +376,32 @@ module _ (journal : Journal) where
 abbrev gives : Journal → Fact
 gives journal part s log = AreGiven journal s.next_id s.listeners
 
-poll_gives : (first : ℕ) (journal : Journal) → Carries first (gives journal)
+poll_gives : (first : ℕ) (journal : Journal) → Carries true first (gives journal)
 poll_gives first journal = record {
   owed = λ what e s log fits stands owes m was fair x. pays_given journal what e s x;
   reply = λ r rest s log fits is m fair x. x;
   got = λ p s log fits ports whole m was fair x. packet_given journal p s x;
   event = λ id s log x. x;
-  reset = λ cid s log less fits x. left_given journal s.table.entries (record s { cid = cid }) x;
+  reset = λ cid s log less fits x. left_given journal s.table.entries (record s { cid = cid; clean = of_host s.clean }) x;
 }
 
 -- Why a connect is refused, whatever the ring.
 connect_ends : (port : ℕ) (s : DriverState) → AllEnds (λ (y : DriverState × Result ℕ ConnectError). ConnectTells port y.1 []) (connect_of port s)
-connect_ends port s = by (is_assigned port) refl (is_full s) (is_spent port s)
+connect_ends port s = by (is_assigned port) refl (is_full s) (is_spent HOST_CID port s)
   where
     page : (t : DriverState) (b : Bool) → AllEnds (λ (y : DriverState × Result ℕ ConnectError). ConnectTells port y.1 [])
-        (cond b (bind (post_packet (request_bytes port t) t) (λ u. Done (connected port u, Ok u.next_id))) (Done (t, Err (refused.NoDescriptor t.in_flight))))
+        (cond b (bind (post_packet (request_bytes HOST_CID port t) t) (λ u. Done (connected HOST_CID port u, Ok u.next_id))) (Done (t, Err (refused.NoDescriptor t.in_flight))))
     page t true = λ a b. refl
     page t false = tt
 
     by : (a : Bool) → is_assigned port ≡ a → (b c : Bool) → AllEnds (λ (y : DriverState × Result ℕ ConnectError). ConnectTells port y.1 [])
         (elim (cond a (Some (refused.BadPort port)) (cond b (Some (refused.Full DRIVER_CONNECTIONS)) (cond c (Some (refused.PortsSpent s.last_port s.last_id)) None)))
-        as (λ _. DriverTree (DriverState × Result ℕ ConnectError)) [ Some refusal ↦ Done (s, Err refusal) | None ↦ bind (reap_all s) (connect_with_page port) ])
+        as (λ _. DriverTree (DriverState × Result ℕ ConnectError)) [ Some refusal ↦ Done (s, Err refusal) | None ↦ bind (reap_all s) (connect_with_page HOST_CID port) ])
     by true is b c = is
     by false is true c = tt
     by false is false true = tt
     by false is false false =
-        ends_then (λ (y : DriverState × Result ℕ ConnectError). ConnectTells port y.1 []) (λ (t : DriverState). Unit {0}) (reap_all s) (connect_with_page port)
+        ends_then (λ (y : DriverState × Result ℕ ConnectError). ConnectTells port y.1 []) (λ (t : DriverState). Unit {0}) (reap_all s) (connect_with_page HOST_CID port)
         (ends_any (λ (t : DriverState). Unit {0}) (λ t. tt) (reap_all s)) (λ t u. page t (has_page t))
 
 -- A call of an app's, where a connect is refused so.
@@ -415,6 +415,7 @@ gives_after journal call reply part s log = IsSo call reply → AreGiven (noted 
 module _ (journal : Journal) where
   refusal : (port : ℕ) (why : ConnectError) (s : DriverState) → At journal s → ConnectTells port (Err why) [] → AreGiven (noted (Connect port) (Err why) journal) s.next_id s.listeners
   refusal port (refused.BadPort p) s x is = silent journal s.next_id s.listeners x (Connect port) (Err (refused.BadPort p)) refl refl is
+  refusal port (refused.BadCid cid) s x is = absurd is
   refusal port why s x is = silent journal s.next_id s.listeners x (Connect port) (Err why) refl refl tt
 
   unsent : (id : ℕ) (bytes : List ℕ) (answer : Sent) (s : DriverState) → At journal s → AreGiven (noted (Send id bytes) answer journal) s.next_id s.listeners
@@ -538,7 +539,7 @@ module _ (journal : Journal) (s : DriverState) (placed : ArePlaced journal s) (x
   there = found_on (listener_on port s.listeners) (next_is (is_some (listener_on port s.listeners)) (next_accepted port s) is)
 
   on_port : (i : ℕ) (f : Flow) → i ≡ id → was_closed i journal ≡ false → IsPlaced journal s.listeners i f → IsClients port f
-  on_port i f same shown at = (guest, by (is_assigned f.host) refl)
+  on_port i f same shown at = (guest, by (host_asks f) refl)
     where
       free : was_given i journal ≡ false
       free = ap (λ (n : ℕ). was_given n journal) same ∙ (x.waits port id there.0).1
@@ -548,7 +549,7 @@ module _ (journal : Journal) (s : DriverState) (placed : ArePlaced journal s) (x
           (λ given. let no : true ≡ false = sym given ∙ free in absurd cc) (λ closed. let no : true ≡ false = sym closed ∙ shown in absurd cc)
           (λ waits. x.one f.guest port id (subst (λ (n : ℕ). waits_at f.guest n s.listeners ≡ true) same waits) there.0)
 
-      by : (b : Bool) → is_assigned f.host ≡ b → is_assigned f.host ≡ true
+      by : (b : Bool) → host_asks f ≡ b → host_asks f ≡ true
       by true so = so
       by false so = let no : true ≡ false = sym (at.own so) ∙ free in absurd cc
 
@@ -578,7 +579,7 @@ NamesIt (Connect port) reply s = (id : ℕ) → asked_as reply ≡ Some id → I
 NamesIt (Accept port) reply s = (id : ℕ) → accepted_as reply ≡ Some id → IsTo (IsClients port) (flow_of id s)
 NamesIt call reply s = Unit {0}
 
-module _ (first : ℕ) (journal : Journal) (s : DriverState) (c d : RingContents) (honest : IsHonestWith first s c) (was : AreGivenWith journal s c) where
+module _ (first : ℕ) (journal : Journal) (s : DriverState) (c d : RingContents) (honest : IsHonestWith true first s c) (was : AreGivenWith journal s c) where
   so : (call : GuestCall) (x : DriverState × ReplyTo call) → Plays (whole_call call s) c x d → IsSo call x.1
   so (Connect port) x plays =
       end_of (λ (y : DriverState × Result ℕ ConnectError). ConnectTells port y.1 []) RingAllows (connect_of port s) c d x (connect_ends port s) plays
@@ -589,7 +590,7 @@ module _ (first : ℕ) (journal : Journal) (s : DriverState) (c d : RingContents
   call_answered call x apps right plays = λ on m is.
       let before = told_before (whole_call call s) c d x plays m is in
       let then = was (sym (honest_stays (whole_call call s) c d x plays) ∙ on) before.0 before.1 in
-      let kept : Rests first (gives_after journal call x.1) x.0 d =
+      let kept : Rests true first (gives_after journal call x.1) x.0 d =
       keeps_end _ (whole_call call s) c d x (whole_with first s c call (gives journal) (gives_after journal call) right (call_gives first journal call apps)
       (begins first (gives journal) s c before.0 before.1 then honest)) plays in
       (kept on m is).1 (so call x plays)
@@ -619,8 +620,8 @@ module _ (first : ℕ) (journal : Journal) (s : DriverState) (c d : RingContents
   poll_answered x plays = λ on m is.
       let before = told_before (poll_of s) c d x plays m is in
       let then = was (sym (honest_stays (poll_of s) c d x plays) ∙ on) before.0 before.1 in
-      let kept : Rests first (gives journal) x.0 d =
-      keeps_end _ (poll_of s) c d x (poll_keeps first (gives journal) (poll_gives first journal) s c
+      let kept : Rests true first (gives journal) x.0 d =
+      keeps_end _ (poll_of s) c d x (poll_keeps true first (gives journal) (poll_gives first journal) s c
       (begins first (gives journal) s c before.0 before.1 then honest)) plays in
       (kept on m is).1
 
@@ -630,5 +631,5 @@ new_answered size port c d s fits fresh plays = λ on l is. (kept on l is).1
     none : AreGiven [] 1 []
     none = record { given = λ id is. absurd cc; waits = λ p i is. absurd cc; one = λ p q i a b. absurd cc; heard = λ p is. absurd cc; all = tt }
 
-    kept : Rests s.cid (gives []) s d
-    kept = keeps_end (λ t e. Rests t.cid (gives []) t e) (new_of size port 1) c d s (new_keeps size port 1 fits (gives []) (λ cid. none) c fresh) plays
+    kept : Rests true s.cid (gives []) s d
+    kept = keeps_end (λ t e. Rests true t.cid (gives []) t e) (new_of size port 1) c d s (new_keeps size port 1 fits (gives []) (λ cid. none) c fresh) plays

@@ -22,15 +22,15 @@ as_told : (P : EndLog → Type 0) (l : EndLog) (c : RingContents) → c.log ≡ 
 as_told P l c told holds = λ on m is. subst P (same_some l m (sym told ∙ is)) holds
 
 module _ (first : ℕ) (call : GuestCall) (s : DriverState) (c d : RingContents) (x : DriverState × ReplyTo call) (right : is_right call ≡ true)
-    (honest : IsHonestWith first s c) (plays : Plays (whole_call call s) c x d) where
-  pub call_honest : IsHonestWith first x.0 d
+    (honest : IsHonestWith true first s c) (plays : Plays (whole_call call s) c x d) where
+  pub call_honest : IsHonestWith true first x.0 d
   call_honest = λ on m is.
       let before = told_before (whole_call call s) c d x plays m is in
       let l : EndLog = before.0 in
-      let kept : Rests first (sent_with first s l.entries call x.1) x.0 d =
+      let kept : Rests true first (sent_with first s l.entries call x.1) x.0 d =
       keeps_end _ (whole_call call s) c d x (whole_with first s c call (at_first first s l.entries) (sent_with first s l.entries call) right
       (call_sent first s l.entries call) (begins first (at_first first s l.entries) s c l before.1 (refl, refl) honest)) plays in
-      agrees first x.0 m (kept on m is).0
+      agrees true first x.0 m (kept on m is).0
 
   pub call_accounted : (first_id : ℕ) (journal : Journal) (entries : List Entry) → IsAccounted first_id journal entries s c
       → IsAccounted first_id (with_call call s x.1 journal) entries x.0 d
@@ -48,14 +48,14 @@ port_fits : (port : ℕ) → nat_lt port (2 ^ 32) ≡ true → port < 2 ^ 32
 port_fits port is = grind (arith, nat_tests, is)
 
 pub call_routed : (first : ℕ) (call : GuestCall) (s : DriverState) (c d : RingContents) (x : DriverState × ReplyTo call) → is_right call ≡ true
-    → IsHonestWith first s c → IsRoutedWith first c → Plays (whole_call call s) c x d → IsRoutedWith first d
+    → IsHonestWith true first s c → IsRoutedWith first c → Plays (whole_call call s) c x d → IsRoutedWith first d
 call_routed first (call.Connect port) s c d x right honest routed plays =
     connect_routed first s c d honest routed port x (port_fits port right) plays
 call_routed first (call.Send id bytes) s c d x right honest routed plays = send_routed first s c d honest routed id bytes x plays
 call_routed first call s c d x right honest routed plays = subst (λ (r : RingContents). IsRoutedWith first r) plays.1 routed
 
 module _ (first first_id : ℕ) (journal : Journal) (entries : List Entry) (s : DriverState) (c d : RingContents) (x : DriverState × Polled)
-    (honest : IsHonestWith first s c) (accounted : IsAccounted first_id journal entries s c) (plays : Plays (poll_of s) c x d) where
+    (honest : IsHonestWith true first s c) (accounted : IsAccounted first_id journal entries s c) (plays : Plays (poll_of s) c x d) where
   pub poll_accounted : IsAccounted first_id journal entries x.0 d
   poll_accounted = λ on m is.
       let before = told_before (poll_of s) c d x plays m is in

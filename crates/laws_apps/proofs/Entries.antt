@@ -1,6 +1,6 @@
 -- What an entry more, a wait more and bytes more do to what a journal tells.
 use Rattle.std.proofs.Common.{◌≡◌, ℕ, zero, suc, ◌+◌, ◌<◌, ◌≤◌, ◌==◌, Bool, true, false, cond, List, [], ◌∷◌, ◌++◌, length, take, drop, Option, Some, None, refl, sym, ap, ◌∙◌}
-use Rattle.std.{proofs.{Common.{append_assoc, append-nil, slice_set, arith}, lemmas.List.{take-append-le, drop-append-le, length-drop}}, specs.Prelude.slice_get}
+use Rattle.std.{proofs.{Common.{append_assoc, append-nil, slice_set, subst, arith}, lemmas.List.{take-append-le, drop-append-le, length-drop}}, specs.Prelude.slice_get}
 use Rattle.std.specs.Option.{unwrap_or}
 use Rattle.vs_driver_parts.specs.Connections.{got_count}
 use Rattle.laws_driver.specs.Carried.Calls.{Journal, Made}
@@ -9,6 +9,7 @@ use Rattle.vs_apps_parts.specs.{Journals.{one_more, times_at, times_in, wait_not
 use Rattle.vs_apps_parts.{specs.declared.journal.{Entry.Entry, WaitsFor.WaitsFor}, proofs.Entries.{slice_stays, stand_set, stand_snoc, wait_as}}
 use Rattle.vs_flow.specs.Connection.{Connection}
 use Rattle.laws_apps.{specs.{Accounts.TellFlows, Placed.{AreOwned, IsOwned, NamesFlow}}, proofs.Opening.{flows_set, flows_snoc}}
+use Rattle.laws_apps.specs.Ports.{ArePortsFrom, IsPort, next_port, port_behind, port_called, port_of}
 use Rattle.laws_driver.specs.Carried.Calls as call
 use Rattle.vs_apps_parts.specs.declared.journal.Called.TheVariants as called
 use Rattle.vs_apps_parts.specs.declared.journal.Deed.TheVariants as deed
@@ -69,17 +70,53 @@ module _ (script : RunScript) (bytes : List ℕ) (k times : ℕ) (e : Entry) (is
       by true (deed.Waited n why) is = refl
       by false d is = absurd cc
 
+  wait_port : port_of e ≡ None
+  wait_port = by (e.app == k) e.deed is
+    where
+      by : (b : Bool) (d : Deed)
+          → cond b (elim d as (λ _. Option ℕ) [ deed.Called c ↦ None | deed.Waited times why ↦ Some times ]) None ≡ Some times
+          → elim d as (λ _. Option ℕ) [ deed.Called c ↦ port_called c | deed.Waited times why ↦ None ] ≡ None
+      by true (deed.Called c) is = absurd cc
+      by true (deed.Waited n why) is = refl
+      by false d is = absurd cc
+
 none_still : (b : Bool) (js : Journal) → js ≡ [] → cond b js [] ≡ []
 none_still true js none = none
 none_still false js none = refl
 
--- What each app's wait leaves: all calls, what stands in the journal's bytes, the flows that are told, and whose each entry is.
+-- What each app's wait leaves: all calls, what stands in the journal's bytes, the flows that are told, whose each entry is, and the ports of connects.
 pub record SameCalls (script : RunScript) (bytes : List ℕ) (k : ℕ) (old new : List Entry) : Type 0 where
   pub calls : calls_of script bytes new ≡ calls_of script bytes old
   pub app : (j : ℕ) → calls_of_app j script bytes new ≡ calls_of_app j script bytes old
   pub stands : (n : ℕ) → AllStandIn n old → AllStandIn n new
   pub flows : (opened : ℕ → Connection) → TellFlows opened old → TellFlows opened new
   pub owned : (n : ℕ) → k < n → AreOwned n old → AreOwned n new
+  pub ports : (port : ℕ) → ArePortsFrom port old → ArePortsFrom port new
+  pub behind : (port : ℕ) → port_behind port new ≡ port_behind port old
+
+pub ports_snoc : (port : ℕ) (es : List Entry) (e : Entry) → ArePortsFrom port es → IsPort (port_behind port es) (port_of e) → ArePortsFrom port (es ++ e ∷ [])
+ports_snoc port [] e are is = (is, tt)
+ports_snoc port (x ∷ es) e are is = (are.0, ports_snoc (next_port port (port_of x)) es e are.1 is)
+
+pub behind_snoc : (port : ℕ) (es : List Entry) (e : Entry) → port_behind port (es ++ e ∷ []) ≡ next_port (port_behind port es) (port_of e)
+behind_snoc port [] e = refl
+behind_snoc port (x ∷ es) e = behind_snoc (next_port port (port_of x)) es e
+
+ports_set : (port : ℕ) (es : List Entry) (place : ℕ) (e new : Entry) → slice_get es place ≡ Some e → port_of new ≡ port_of e → ArePortsFrom port es
+    → ArePortsFrom port (slice_set es place new)
+ports_set port [] place e new at same are = are
+ports_set port (x ∷ es) zero e new at same are =
+    let is : x ≡ e = cc in
+    let equal : port_of new ≡ port_of x = same ∙ ap port_of (sym is) in
+    (subst (IsPort port) (sym equal) are.0, subst (λ (o : Option ℕ). ArePortsFrom (next_port port o) es) (sym equal) are.1)
+ports_set port (x ∷ es) (suc place) e new at same are = (are.0, ports_set (next_port port (port_of x)) es place e new at same are.1)
+
+behind_set : (port : ℕ) (es : List Entry) (place : ℕ) (e new : Entry) → slice_get es place ≡ Some e → port_of new ≡ port_of e
+    → port_behind port (slice_set es place new) ≡ port_behind port es
+behind_set port [] place e new at same = refl
+behind_set port (x ∷ es) zero e new at same =
+    let is : x ≡ e = cc in ap (λ (o : Option ℕ). port_behind (next_port port o) es) (same ∙ ap port_of (sym is))
+behind_set port (x ∷ es) (suc place) e new at same = behind_set (next_port port (port_of x)) es place e new at same
 
 owned_snoc : (n : ℕ) (es : List Entry) (e : Entry) → AreOwned n es → IsOwned n e → AreOwned n (es ++ e ∷ [])
 owned_snoc n [] e are is = (is, tt)
@@ -108,6 +145,8 @@ wait_same script bytes k why last es = wait_as (SameCalls script bytes k es) k w
       stands = λ n are. stand_snoc n es (entry_waited k 1 why) are tt;
       flows = λ opened are. flows_snoc opened es (entry_waited k 1 why) are tt;
       owned = λ n less are. owned_snoc n es (entry_waited k 1 why) are (record { app = less; flow = tt });
+      ports = λ port are. ports_snoc port es (entry_waited k 1 why) are tt;
+      behind = λ port. behind_snoc port es (entry_waited k 1 why);
     }
 
     changed : (place times : ℕ) (e : Entry) → slice_get es place ≡ Some e → times_in k e ≡ Some times
@@ -119,4 +158,6 @@ wait_same script bytes k why last es = wait_as (SameCalls script bytes k es) k w
       stands = λ n are. stand_set n k (one_more times) why es place are;
       flows = λ opened are. flows_set opened k (one_more times) why es place are;
       owned = λ n less are. owned_set n (entry_waited k (one_more times) why) es place are (record { app = less; flow = tt });
+      ports = λ port. ports_set port es place e (entry_waited k (one_more times) why) at (sym (wait_port script bytes k times e is));
+      behind = λ port. behind_set port es place e (entry_waited k (one_more times) why) at (sym (wait_port script bytes k times e is));
     }

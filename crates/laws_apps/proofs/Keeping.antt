@@ -116,7 +116,7 @@ called_apps script bytes k (called.Grow id alloc answer) = tt
 called_apps script bytes k (called.Close id answer) = tt
 called_apps script bytes k (called.LookAt id answer) = tt
 
-of_apps : (script : RunScript) (k : ℕ) (call : GuestCall) (reply : ReplyTo call) (old new : Run)
+pub of_apps : (script : RunScript) (k : ℕ) (call : GuestCall) (reply : ReplyTo call) (old new : Run)
     → NotesCall script k (made_as call reply) (wait_of (told_by call reply)) old new → IsOfApps call
 of_apps script k (Unlisten port) reply old new notes = subst (λ (m : Made). IsOfApps m.call) notes.1 (called_apps script new.bytes k notes.0)
 of_apps script k call reply old new notes = tt
@@ -152,7 +152,7 @@ owned_after script k m old new None less notes named owned =
     (names_flow script new.bytes k notes.0 new.driver notes.5 (subst (λ (x : Made). NamesIt x.call x.reply new.driver) (sym notes.1) named)))
 
 module _ (first : ℕ) (script : RunScript) (k : ℕ) (less : k < length script) where
-  call_keeps : (n : ℕ) (m : Made) (old new : Run) → IsApps n m.call → (n ≡ 0) ⊎ (was_given n (journal_of script old) ≡ true) → MakesCall script k m old new
+  pub call_keeps : (n : ℕ) (m : Made) (old new : Run) → IsApps n m.call → (n ≡ 0) ⊎ (was_given n (journal_of script old) ≡ true) → MakesCall script k m old new
       → IsKept first script old → IsKept first script new
   call_keeps n m old new apps names makes kept =
       let x : DriverState × ReplyTo m.call = (new.driver, m.reply) in
@@ -202,7 +202,7 @@ module _ (first : ℕ) (script : RunScript) (k : ℕ) (less : k < length script)
   join_waits true m ms mid old is = ap (λ (o : Option ℕ). waits_noted ms o) is
   join_waits false m ms mid old is = is
 
-  still_given : (n : ℕ) (m : Made) (old mid : Run) → IsKept first script old → MakesCall script k m old mid → (n ≡ 0) ⊎ (was_given n (journal_of script old) ≡ true)
+  pub still_given : (n : ℕ) (m : Made) (old mid : Run) → IsKept first script old → MakesCall script k m old mid → (n ≡ 0) ⊎ (was_given n (journal_of script old) ≡ true)
       → (n ≡ 0) ⊎ (was_given n (journal_of script mid) ≡ true)
   still_given n m old mid kept makes (inl none) = inl none
   still_given n m old mid kept makes (inr given) =
@@ -271,10 +271,10 @@ module _ (first : ℕ) (script : RunScript) (k : ℕ) (mid new : Run) (less : k 
       ∙ state_after k j (k == j) mid.apps state refl (subst (λ (n : ℕ). k < n) (sym run.apps) less)
 
   -- The app is at a connection of its own.
-  apps_next : (calls : CallsNext script k mid) → AreApps (id_of (app_at k mid).progress) (calls_in calls.made)
+  pub apps_next : (calls : CallsNext script k mid) → AreApps (id_of (app_at k mid).progress) (calls_in calls.made)
   apps_next calls = subst (AreApps (id_of (app_at k mid).progress)) (sym calls.calls) (next_apps calls.act (app_at k mid).progress)
 
-  own_given : (id_of (app_at k mid).progress ≡ 0) ⊎ (was_given (id_of (app_at k mid).progress) (journal_of script mid) ≡ true)
+  pub own_given : (id_of (app_at k mid).progress ≡ 0) ⊎ (was_given (id_of (app_at k mid).progress) (journal_of script mid) ≡ true)
   own_given = by (app_at k mid).progress.conn refl
     where
       by : (o : Option ℕ) → (app_at k mid).progress.conn ≡ o → (unwrap_or o 0 ≡ 0) ⊎ (was_given (unwrap_or o 0) (journal_of script mid) ≡ true)
@@ -396,7 +396,7 @@ module _ (first : ℕ) (script : RunScript) (old : Run) (run : IsRunOf first scr
     apps = run.apps;
     kept = record {
       routed = poll_routed first old.driver old.ring mid.ring run.kept.honest run.kept.routed (mid.driver, polled) polls.polls;
-      honest = poll_honest first old.driver old.ring mid.ring (mid.driver, polled) run.kept.honest polls.polls;
+      honest = poll_honest true first old.driver old.ring mid.ring (mid.driver, polled) run.kept.honest polls.polls;
       accounted = poll_accounted first 1 (journal_of script old) old.entries old.driver old.ring mid.ring (mid.driver, polled) run.kept.honest run.kept.accounted polls.polls;
       stands = run.kept.stands;
       places = poll_placed first (length script) (journal_of script old) old.entries old.driver old.ring mid.ring run.kept.honest run.kept.places (mid.driver, polled) polls.polls;

@@ -4,7 +4,7 @@ use Rattle.std.proofs.{Common.{Option, Some, None, refl, sym, ap, ◌∙◌, ari
 use Rattle.std.{proofs.lemmas.List.Elements.Contains-get_or, specs.List.All}
 use Rattle.vs_conn.specs.{End.{ConnectionEnd, aborted, end_after, is_reset, owes_of, paid_of, verdict_of, with_payload_forwarded, with_shut}, Shut.shut_of, declared.end.Owed.Owed}
 use Rattle.vs_conn.{specs.declared.end.{Verdict.Verdict, State.TheVariants.Ended}, proofs.Frames.{got_over, got_own, paid_over, paid_own, paid_peer}}
-use Rattle.vs_flow.specs.Table.{entry_of, revalued}
+use Rattle.vs_flow.specs.{CleanPairs.of_host, Table.{entry_of, revalued}}
 use Rattle.vs_header.specs.declared.Header.{Header}
 use Rattle.laws_history.specs.declared.packet.Packet.{Packet}
 use Rattle.vs_page.specs.{Log.{Driver, flow_to_guest}, Open.is_dropped}
@@ -320,11 +320,11 @@ module _ (by journal : Journal) where
   left_traced [] s x = x
   left_traced (e ∷ es) s x = left_traced es (with_reply (reset_reply e) (after_leaving e s)) (leaving_traced s e x)
 
-  pub poll_traces : (first : ℕ) → Carries first (Traced by journal)
+  pub poll_traces : (first : ℕ) → Carries true first (Traced by journal)
   poll_traces first = record {
     owed = λ what e s log fits stands owes m was fair x. pays_traced what e s stands.contains owes x;
     reply = λ r rest s log fits is m fair x. x;
     got = λ p s log fits ports whole m was fair x. packet_traced p s x;
     event = λ id s log x. x;
-    reset = λ cid s log less fits x. left_traced s.table.entries (record s { cid = cid }) x;
+    reset = λ cid s log less fits x. left_traced s.table.entries (record s { cid = cid; clean = of_host s.clean }) x;
   }

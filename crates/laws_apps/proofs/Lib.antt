@@ -17,4 +17,5 @@ pub mod Opening
 pub mod Placed
 pub mod Placing
 pub mod Answering
+pub mod Ports
 pub mod Named

@@ -84,6 +84,7 @@ none_connect (Err (refused.Full slots)) id is = absurd cc
 none_connect (Err (refused.NoDescriptor n)) id is = absurd cc
 none_connect (Err (refused.BadPort port)) id is = absurd cc
 none_connect (Err (refused.PortsSpent port n)) id is = absurd cc
+none_connect (Err (refused.BadCid cid)) id is = absurd cc
 
 none_accept : (r : Accepted) (id : ℕ) → id_told (told_accept r) ≡ Some id → given_by (call.Accept 0) r ≡ Some id
 none_accept (accepted.Conn n) id is = is

@@ -5,7 +5,7 @@ use Rattle.std.{proofs.lemmas.List.Elements.{All-contains, All-filter, All-head,
 use Rattle.std.specs.Option.{option_map_or}
 use Rattle.vs_conn.specs.{End.{ConnectionEnd, end_after, owes_of, with_payload_forwarded, with_shut}, declared.end.{Owed.Owed, State.{State, TheVariants.{Answering, Asked}}}}
 use Rattle.vs_conn.{specs.declared.{end.State.TheVariants.{Ended, Live}, shut.Shut.Shut}, proofs.Frames.{got_asked, got_answering, got_over, got_own}}
-use Rattle.vs_flow.specs.{Flow.is_assigned, Table.{IsTable, Table, next_entry, revalued, with_entry, with_value, without}, declared.flow.Flow.Flow}
+use Rattle.vs_flow.specs.{Flow.host_asks, Table.{IsTable, Table, next_entry, revalued, with_entry, with_value, without}, declared.flow.Flow.Flow}
 use Rattle.vs_header.specs.declared.Header.{Header}
 use Rattle.vs_driver_parts.specs.Connections.{after_leaving, all_gone_after_read, gone_after_read, gone_as, paid_connection, waits_no_more, with_connection}
 use Rattle.vs_driver_parts.specs.{Listening.{listener_on, with_port, with_waiting, without_id}, SlotFields.AreNumbered, State.{DriverConnection, DriverEntry, DriverState}}
@@ -413,7 +413,7 @@ module _ (journal : Journal) (m : Made) (s : DriverState) (x : ArePlaced journal
 
 -- A connection opens, with the next id.
 module _ (journal : Journal) (s : DriverState) (x : ArePlaced journal s) (f : Flow) (c : DriverConnection) (id : c.id ≡ s.next_id) where
-  pub opening : (port : ℕ) (ms : List Listener) → s.next_port ≤ port → (is_assigned f.host ≡ false → f.guest < port)
+  pub opening : (port : ℕ) (ms : List Listener) → s.next_port ≤ port → (host_asks f ≡ false → f.guest < port)
       → ((p i : ℕ) → waits_at p i s.listeners ≡ true → waits_at p i ms ≡ true) → All (λ l. was_listened l.port journal ≡ true) ms → IsPlaced journal ms c.id f
       → c.closed ≡ false → (c.unanswered ≡ true → stands_unanswered c.end.state ≡ true)
       → HasPlaces journal port (s.next_id + 1) (with_entry s.table f c) s.gone ms

@@ -5,7 +5,7 @@ use Rattle.std.proofs.lemmas.{Bool.{eq-eqb, eqb-true}, Grind.common_steps, List.
 use Rattle.std.{proofs.lemmas.Option.{same_Some, slice_get_within}, specs.List.All}
 use Rattle.vs_conn.specs.End.{ConnectionEnd, answering, asked, grown, is_refused, is_reset, owes_of, paid_of, verdict_of, wanting_credit, with_payload_sent, with_shut}
 use Rattle.vs_conn.specs.declared.end.{Owed.Owed, State.State, Verdict.Verdict}
-use Rattle.vs_flow.{specs.{Flow.{is_assigned, is_host, same_flow}, Table.{IsRising, IsTable, entry_of}, declared.flow.Flow.Flow}, proofs.{Entries.found_passes, Lookups.find_place}}
+use Rattle.vs_flow.{specs.{CleanPairs.of_host, Flow.{is_assigned, is_host, same_flow}, Table.{IsRising, IsTable, entry_of}, declared.flow.Flow.Flow}, proofs.{Entries.found_passes, Lookups.find_place}}
 use Rattle.vs_header.specs.declared.{Header.Header, Kind.TheVariants.Stream}
 use Rattle.vs_limits.specs.declared.TheConstants.{BUF_ALLOC, HOST_CID, LAST_ID, LAST_PORT, WAITING}
 use Rattle.laws_history.specs.declared.packet.Packet.{Packet}
@@ -23,7 +23,7 @@ use Rattle.vs_driver_parts.specs.{State.{gone_known_as, is_known_as}, declared.a
 use Rattle.vs_driver_parts.proofs.{Ids.{HasId, found_under}, Packets.{first_under, others_left, packet_known, packet_unknown}}
 use Rattle.laws_tables.specs.Steps.{is_kept, port_after}
 use Rattle.vs_driver_parts.specs.Connections.{keeping}
-use Rattle.vs_driver_parts.proofs.Clean.{given_host, may_connect, port_below, port_rises}
+use Rattle.vs_driver_parts.proofs.Clean.{given_to, may_connect, port_below, port_rises}
 use Rattle.laws_driver.specs.{Honest.{IsFitState, IsFresh, IsHonestWith, ends_of_state}, Carried.Calls.{Accept, Close, Connect, Grow, GuestCall, Journal, Listen, LookAt, Made}}
 use Rattle.laws_driver.{specs.Carried.Calls.{Recv, ReplyTo, Send, Shutdown, Unlisten, is_right, whole_call}, proofs.{Calls.new_keeps, Carrying.{Carries, Fact}}}
 use Rattle.laws_driver.proofs.{Changing.stands_known, Keeping.keeps_end, Polling.poll_keeps, Resetting.{first_contained, with_cid}, Staging.Rests, Tabling.{Stands, entry_fits}}
@@ -73,7 +73,7 @@ module _ (journal : Journal) (s : DriverState) (x : ArePlaced journal s) where
     by_verdict v taken = alters journal s x e (after_packet v p e.value) stands refl (heard_value v)
 
   -- A REQUEST opens a connection, which waits on its port.
-  parts : (a b c d e : Bool) → (a && b && c && d && e) ≡ true → (b ≡ true) × (c ≡ true)
+  parts : (a b c d e : Bool) → (a && b && c && d && e) ≡ true → ((a && b) ≡ true) × (c ≡ true)
   parts = grind (arith, common_steps)
 
   placed_some : (o : Option Listener) → elim o [ None ↦ false | Some l ↦ nat_lt (length l.waiting) WAITING ] ≡ true → is_some o ≡ true
@@ -104,7 +104,7 @@ module _ (journal : Journal) (s : DriverState) (x : ArePlaced journal s) where
       by false false o may = x
 
 -- A packet that is got.
-packet_placed : (first : ℕ) (journal : Journal) (p : Packet) (s : DriverState) (log : Log) → IsFitState s → Matches Driver first (ends_of_state s) log
+packet_placed : (first : ℕ) (journal : Journal) (p : Packet) (s : DriverState) (log : Log) → IsFitState true s → Matches Driver first (ends_of_state s) log
     → IsFairLog Driver (GotPacket p ∷ log) → ArePlaced journal s → ArePlaced journal (on_packet p s)
 packet_placed first journal p s log fits m fair x = drop_by (is_dropped Driver s.cid p.header)
   where
@@ -112,7 +112,7 @@ packet_placed first journal p s log fits m fair x = drop_by (is_dropped Driver s
     known e stands same =
         let has : HasEnd (flow_got Driver p) e.value.end (ends_of_state s) =
         subst (λ (g : Flow). HasEnd g e.value.end (ends_of_state s)) (sym same) (has_end s e fits stands) in
-        let host : (flow_got Driver p).peer ≡ HOST_CID = ap (λ (g : Flow). g.peer) same ∙ (entry_fits s e fits stands).peer in
+        let host : (flow_got Driver p).peer ≡ HOST_CID = ap (λ (g : Flow). g.peer) same ∙ (entry_fits s e fits stands).peer refl in
         by_verdict journal s x p e fits.sound stands (verdict_of e.value.end p.header)
         (got_not_refused Driver first p e.value.end (ends_of_state s) log m.flows has (fair (flow_got Driver p)) (heard_all first (flow_got Driver p) log host))
 
@@ -128,7 +128,7 @@ packet_placed first journal p s log fits m fair x = drop_by (is_dropped Driver s
     drop_by false = found (entry_of s.table (flow_got Driver p)) refl
 
 -- A transport reset: all leave.
-all_placed : (journal : Journal) (es : List DriverEntry) (s : DriverState) → s.table.entries ≡ es → IsFitState s → ArePlaced journal s
+all_placed : (journal : Journal) (es : List DriverEntry) (s : DriverState) → s.table.entries ≡ es → IsFitState true s → ArePlaced journal s
     → ArePlaced journal (all_left es s)
 all_placed journal [] s is fits x = x
 all_placed journal (e ∷ es) s is fits x =
@@ -142,13 +142,13 @@ all_placed journal (e ∷ es) s is fits x =
     all_placed journal es (with_reply (reset_reply e) m) table_is (with_reply_fits m (reset_reply e) l.fits (entry_fits s e fits stands).ports)
     (leaving journal s x e e.value fits.sound stands refl (value_of journal s x e stands))
 
-poll_places : (first : ℕ) (journal : Journal) → Carries first (places journal)
+pub poll_places : (first : ℕ) (journal : Journal) → Carries true first (places journal)
 poll_places first journal = record {
   owed = λ what e s log fits stands owes m was fair x. pays journal s x what e fits.sound stands owes;
   reply = λ r rest s log fits is m fair x. x;
   got = λ p s log fits ports whole m was fair x. packet_placed first journal p s log fits m fair x;
   event = λ id s log x. x;
-  reset = λ cid s log less fits x. all_placed journal s.table.entries (record s { cid = cid }) refl (with_cid cid s less fits) x;
+  reset = λ cid s log less fits x. all_placed journal s.table.entries (record s { cid = cid; clean = of_host s.clean }) refl (with_cid cid s less fits) x;
 }
 
 -- A call of an app's is no unlisten. What is noted of it, and the flow of the connection that it opened.
@@ -182,7 +182,7 @@ module _ (journal : Journal) where
       ap (λ (b : Bool). elim (cond b (Some y) (find q (ys ++ e ∷ []))) as (λ _. Option Flow) [ None ↦ flow | Some z ↦ Some z.flow ]) (All-head (λ z. q z ≡ false) y ys none)
       ∙ last_found q ys e (All-tail (λ z. q z ≡ false) y ys none) is flow
 
-  unknown_yet : (s : DriverState) → IsFitState s → ArePlaced journal s → All (λ y. is_known_as s.next_id y ≡ false) s.table.entries
+  unknown_yet : (s : DriverState) → IsFitState true s → ArePlaced journal s → All (λ y. is_known_as s.next_id y ≡ false) s.table.entries
   unknown_yet s fits x = λ k d less. by (get_or s.table.entries k d) (x.numbers.slots k d less) (fits.sound.were_given k d less)
     where
       by : (y : DriverEntry) → y.value.id ≡ 1 + y.slot → y.slot < s.table.given → is_known_as s.next_id y ≡ false
@@ -192,13 +192,19 @@ module _ (journal : Journal) where
           of false other = refl
           of true same = let is = eqb-true y.value.id s.next_id same in let next = x.numbers.given in absurd (omega (arith, own, under, is, next))
 
-  connects : (host : ℕ) (s : DriverState) → ArePlaced journal s → ArePlaced (made_as (Connect host) (Ok s.next_id) ∷ journal) (connected host s)
+  pub opened_flow : (port : ℕ) (s : DriverState) → IsFitState true s → ArePlaced journal s
+      → flow_of s.next_id (connected HOST_CID port s) ≡ Some (next_flow HOST_CID port s)
+  opened_flow port s fits x = last_found (is_known_as s.next_id) s.table.entries
+      (record { slot = s.table.given; flow = next_flow HOST_CID port s; value = record { id = s.next_id; end = paid_of (asked Stream BUF_ALLOC) owed.Request; unread = []; unanswered = false; closed = false } })
+      (unknown_yet s fits x) (ap (λ (b : Bool). b && true) (eq-eqb s.next_id s.next_id refl)) _
+
+  connects : (host : ℕ) (s : DriverState) → ArePlaced journal s → ArePlaced (made_as (Connect host) (Ok s.next_id) ∷ journal) (connected HOST_CID host s)
   connects host s x =
       let m : Made = made_as (Connect host) (Ok s.next_id) in
       let c : DriverConnection = record { id = s.next_id; end = paid_of (asked Stream BUF_ALLOC) owed.Request; unread = []; unanswered = false; closed = false } in
       let was = goes_on journal m s x refl in
       let given : was_given s.next_id (m ∷ journal) ≡ true = or_first (s.next_id == s.next_id) (was_given s.next_id journal) (eq-eqb s.next_id s.next_id refl) in
-      let f : Flow = next_flow host s in
+      let f : Flow = next_flow HOST_CID host s in
       opening (m ∷ journal) s was f c refl (port_after s.next_port f.guest) s.listeners (port_rises s.next_port f.guest) (λ mine. port_below s.next_port f.guest)
       (λ p i there. there) was.ports
       (record { known = or_first (was_given s.next_id (m ∷ journal)) _ given; own = λ mine. given }) refl (λ no. absurd cc)
@@ -234,7 +240,7 @@ module _ (journal : Journal) where
   known : (id : ℕ) (i : ℕ) → i ≡ id → (was_given i (made_as (Close id) closed.Done ∷ journal) || was_closed i (made_as (Close id) closed.Done ∷ journal)) ≡ true
   known id i same = or_second (was_given i (made_as (Close id) closed.Done ∷ journal)) _ (or_first (i == id) (was_closed i journal) (eq-eqb i id same))
 
-  shuts : (id : ℕ) (s : DriverState) → IsFitState s → ArePlaced journal s → (o : Option DriverEntry) (q : Option GoneConnection) → entry_known_as id s ≡ o
+  shuts : (id : ℕ) (s : DriverState) → IsFitState true s → ArePlaced journal s → (o : Option DriverEntry) (q : Option GoneConnection) → entry_known_as id s ≡ o
       → gone_known_as id s ≡ q
       → ArePlaced (noted (Close id) (cond (is_some o || is_some q) closed.Done closed.Unknown) journal) (elim o as (λ _. DriverState) [
         | Some e ↦ entry_closed e s
@@ -285,7 +291,7 @@ module _ (journal : Journal) where
       alters journal s x e (record e.value { end = d; unread = unread }) stands refl
       (value_goes journal e.value (record e.value { end = d; unread = unread }) refl refl refl goes (value_of journal s x e stands))
 
-  receives : (id n : ℕ) (s : DriverState) → IsFitState s → ArePlaced journal s → (o : Option DriverEntry) → entry_known_as id s ≡ o
+  receives : (id n : ℕ) (s : DriverState) → IsFitState true s → ArePlaced journal s → (o : Option DriverEntry) → entry_known_as id s ≡ o
       → ArePlaced journal (elim o as (λ _. DriverState) [ Some e ↦ entry_read n e s | None ↦ record s { gone = all_gone_after_read id n s.gone } ])
   receives id n s fits x None at = reading journal s x id n
   receives id n s fits x (Some e) at = by (length e.value.unread == 0)
@@ -294,7 +300,7 @@ module _ (journal : Journal) where
       by true = x
       by false = another s x e (after_read n e.value).end (stands_known id s e fits at) (forwarded_stands e.value.end _) (after_read n e.value).unread
 
-  shutting : (id bits : ℕ) (s : DriverState) → IsFitState s → ArePlaced journal s → (o : Option DriverEntry) → entry_known_as id s ≡ o
+  shutting : (id bits : ℕ) (s : DriverState) → IsFitState true s → ArePlaced journal s → (o : Option DriverEntry) → entry_known_as id s ≡ o
       → ArePlaced journal (elim o as (λ _. DriverState) [ Some e ↦ shut_in e.value.end.state bits e s | None ↦ s ])
   shutting id bits s fits x None at = x
   shutting id bits s fits x (Some e) at = by e.value.end.state
@@ -303,7 +309,7 @@ module _ (journal : Journal) where
       by state.Live = another s x e (after_shut bits e.value).end (stands_known id s e fits at) (shut_stands e.value.end bits) (after_shut bits e.value).unread
       by st = x
 
-  growing : (id alloc : ℕ) (s : DriverState) → IsFitState s → ArePlaced journal s → (o : Option DriverEntry) → entry_known_as id s ≡ o
+  growing : (id alloc : ℕ) (s : DriverState) → IsFitState true s → ArePlaced journal s → (o : Option DriverEntry) → entry_known_as id s ≡ o
       → ArePlaced journal (elim o as (λ _. DriverState) [ Some e ↦ grown_by (entry_grow_answer alloc e) alloc e s | None ↦ s ])
   growing id alloc s fits x None at = x
   growing id alloc s fits x (Some e) at = by (entry_grow_answer alloc e)
@@ -317,11 +323,9 @@ module _ (journal : Journal) where
     refused = λ why s log x. (silent (Connect port) (Err why) s refl x, λ id no. absurd cc);
     opens = λ s log fits free m was fair x. (
       connects port s x,
-      λ id is. subst (λ (n : ℕ). IsTo (IsAsked port) (flow_of n (connected port s))) (same_Some s.next_id id is)
-          (subst (IsTo (IsAsked port)) (sym (last_found (is_known_as s.next_id) s.table.entries
-          (record { slot = s.table.given; flow = next_flow port s; value = record { id = s.next_id; end = paid_of (asked Stream BUF_ALLOC) owed.Request; unread = []; unanswered = false; closed = false } })
-          (unknown_yet s fits x) (ap (λ (b : Bool). b && true) (eq-eqb s.next_id s.next_id refl)) _))
-          (given_host port s.next_port s.clean (next_flow port s) (may_connect port s free).flow)),
+      λ id is. subst (λ (n : ℕ). IsTo (IsAsked port) (flow_of n (connected HOST_CID port s))) (same_Some s.next_id id is)
+          (subst (IsTo (IsAsked port)) (sym (opened_flow port s fits x))
+          (given_to HOST_CID port s.next_port s.clean (next_flow HOST_CID port s) (may_connect HOST_CID port s free).flow).port_is),
     );
   }
   call_places first (Send id bytes) apps = record {
@@ -362,14 +366,14 @@ module _ (journal : Journal) where
   call_places first (Close id) apps = λ s log fits m x. (shuts id s fits x (entry_known_as id s) (gone_known_as id s) refl refl, tt)
   call_places first (LookAt id) apps = λ s log fits m x. (silent (LookAt id) (state_of id s) s refl x, tt)
 
-module _ (first n : ℕ) (journal : Journal) (entries : List Entry) (s : DriverState) (c d : RingContents) (honest : IsHonestWith first s c)
+module _ (first n : ℕ) (journal : Journal) (entries : List Entry) (s : DriverState) (c d : RingContents) (honest : IsHonestWith true first s c)
     (was : ArePlacedWith n journal entries s c) where
   pub call_placed : (call : GuestCall) (x : DriverState × ReplyTo call) → IsOfApps call → is_right call ≡ true → Plays (whole_call call s) c x d
       → (on : d.honest ≡ true) (m : EndLog) → d.log ≡ Some m → ArePlaced (noted call x.1 journal) x.0 × NamesAsked call x.1 x.0 × AreOwned n entries
   call_placed call x apps right plays on m is =
       let before = told_before (whole_call call s) c d x plays m is in
       let then = was (sym (honest_stays (whole_call call s) c d x plays) ∙ on) before.0 before.1 in
-      let kept : Rests first (places_after journal call x.1) x.0 d =
+      let kept : Rests true first (places_after journal call x.1) x.0 d =
       keeps_end _ (whole_call call s) c d x (whole_with first s c call (places journal) (places_after journal call) right (call_places journal first call apps)
       (begins first (places journal) s c before.0 before.1 then.0 honest)) plays in
       ((kept on m is).1.0, named call x.1 x.0 (kept on m is).1.1, then.1)
@@ -382,8 +386,8 @@ module _ (first n : ℕ) (journal : Journal) (entries : List Entry) (s : DriverS
   poll_placed x plays = λ on m is.
       let before = told_before (poll_of s) c d x plays m is in
       let then = was (sym (honest_stays (poll_of s) c d x plays) ∙ on) before.0 before.1 in
-      let kept : Rests first (places journal) x.0 d =
-      keeps_end _ (poll_of s) c d x (poll_keeps first (places journal) (poll_places first journal) s c
+      let kept : Rests true first (places journal) x.0 d =
+      keeps_end _ (poll_of s) c d x (poll_keeps true first (places journal) (poll_places first journal) s c
       (begins first (places journal) s c before.0 before.1 then.0 honest)) plays in
       ((kept on m is).1, then.1)
 
@@ -407,6 +411,6 @@ new_placed n size port c d s fits fresh plays = λ on l is. ((kept on l is).1, t
       ports = λ i e within. absurd (omega (arith, within));
     }
 
-    kept : Rests s.cid (places []) s d
+    kept : Rests true s.cid (places []) s d
     kept =
-        keeps_end (λ t e. Rests t.cid (places []) t e) (new_of size port 1) c d s (new_keeps size port 1 fits (places []) empty c fresh) plays
+        keeps_end (λ t e. Rests true t.cid (places []) t e) (new_of size port 1) c d s (new_keeps size port 1 fits (places []) empty c fresh) plays

@@ -15,7 +15,7 @@ use Rattle.vs_driver_parts.specs.{Connections.{grow_of, state_of, unread_of_id, 
 use Rattle.vs_driver_parts.specs.Conversations.{payload_bytes, payload_of, poll_of, post_packet, reap_all, send_of, send_on, send_stopped, send_with_credit, send_with_page}
 use Rattle.vs_driver_parts.specs.{Held.HeldSlots, Listening.{accept_of, after_accept, listen_of, listening, with_waiting, without_id}, Playing.{Plays, RingAllows}}
 use Rattle.vs_driver_parts.specs.{SlotFields.AreNumbered, declared.answers.{Grown.Grown, Polled.Polled, Received.Received, Sent.Sent}}
-use Rattle.vs_limits.specs.declared.TheConstants.{LAST_PORT}
+use Rattle.vs_limits.specs.declared.TheConstants.{HOST_CID, LAST_PORT}
 use Rattle.vs_page.specs.declared.page.TheConstants.{PAYLOAD_MAX}
 use Rattle.laws_tables.proofs.Slots.{found_by}
 use Rattle.laws_driver.specs.{Honest.{IsFresh, IsHonestWith, slots_of}, Carried.Calls.{GuestCall, Journal, ReplyTo, Connect, Listen, Unlisten, Accept, Send, Recv, Shutdown, Grow}}
@@ -356,7 +356,7 @@ noted_traced call reply journal next es none x tells = by (wait_of (told_by call
     }
 
 -- A send and a connect, on the ring.
-send_traces : (first : ℕ) (by journal : Journal) (id : ℕ) (bytes : List ℕ) → CarriesSend first id bytes (Traced by journal) (λ answer. Traced by journal)
+send_traces : (first : ℕ) (by journal : Journal) (id : ℕ) (bytes : List ℕ) → CarriesSend true first id bytes (Traced by journal) (λ answer. Traced by journal)
 send_traces first by journal id bytes = record {
   stopped = λ why s log x. x;
   unknown = λ s log none x. x;
@@ -373,7 +373,7 @@ send_traces first by journal id bytes = record {
     changes s e end within over own peer x = value_traced by journal s e.slot (record e.value { end = end })
         (comes_as by s.table.entries e (record e.value { end = end }) within refl own refl (end_later e.value end over own peer)) x
 
-connect_traces : (first : ℕ) (journal : Journal) (port : ℕ) → CarriesConnect first port (Traced journal journal) (λ answer. Traced journal journal)
+connect_traces : (first : ℕ) (journal : Journal) (port : ℕ) → CarriesConnect true first HOST_CID port (Traced journal journal) (λ answer. Traced journal journal)
 connect_traces first journal port = record {
   refused = λ why s log x. x;
   opens = λ s log fits free m was fair x.
@@ -381,7 +381,7 @@ connect_traces first journal port = record {
 }
 
 -- A call of an app's.
-module _ (first n : ℕ) (s : DriverState) (c d : RingContents) (journal : Journal) (honest : IsHonestWith first s c)
+module _ (first n : ℕ) (s : DriverState) (c d : RingContents) (journal : Journal) (honest : IsHonestWith true first s c)
     (numbered : c.honest ≡ true → (l : EndLog) → c.log ≡ Some l → AreNumbered 1 s.next_port s.next_id s.table s.gone) (traced : IsTracedWith journal s c)
     (gives : AreGivenWith journal s c) (given : (n ≡ 0) ⊎ (was_given n journal ≡ true)) where
   abbrev Noted : (call : GuestCall) → ReplyTo call → DriverState → Type 0
@@ -417,7 +417,7 @@ module _ (first n : ℕ) (s : DriverState) (c d : RingContents) (journal : Journ
       by : (call : GuestCall) (x : DriverState × ReplyTo call) → is_right call ≡ true → IsApps n call → Plays (whole_call call s) c x d → Noted call x.1 x.0
       by (Unlisten port) x right apps plays = absurd apps
       by (Connect port) x right apps plays =
-          let kept : Rests first (Traced journal journal) x.0 d =
+          let kept : Rests true first (Traced journal journal) x.0 d =
           keeps_end _ (whole_call (Connect port) s) c d x (whole_with first s c (Connect port) (Traced journal journal) (λ answer. Traced journal journal) right
           (connect_traces first journal port) (begins first (Traced journal journal) s c l told t honest)) plays in
           noted_traced (Connect port) x.1 journal x.0.next_id x.0.table.entries (λ id. refl) (kept on_now m now).1 tt
@@ -427,7 +427,7 @@ module _ (first n : ℕ) (s : DriverState) (c d : RingContents) (journal : Journ
           (sends_end s fits numbers journal t id bytes (subst (λ (i : ℕ). i < s.next_id) (sym apps) less)) plays in
           let new = with_noted (made_as (Send id bytes) x.1 ∷ []) journal in
           let noted = noted_traced (Send id bytes) x.1 journal s.next_id s.table.entries (λ i. refl) t tells in
-          let kept : Rests first (Traced new new) x.0 d =
+          let kept : Rests true first (Traced new new) x.0 d =
           keeps_end _ (whole_call (Send id bytes) s) c d x (whole_with first s c (Send id bytes) (Traced new new) (λ r. Traced new new) right (send_traces first new new id bytes)
           (begins first (Traced new new) s c l told noted honest)) plays in
           (kept on_now m now).1
@@ -468,13 +468,13 @@ module _ (first n : ℕ) (s : DriverState) (c d : RingContents) (journal : Journ
       call_by call x right apps plays before.0 (sym (honest_stays (whole_call call s) c d x plays) ∙ on) before.1 m on is
 
 -- A poll.
-pub poll_traced : (first : ℕ) (s : DriverState) (c d : RingContents) (journal : Journal) (x : DriverState × Polled) → IsHonestWith first s c
+pub poll_traced : (first : ℕ) (s : DriverState) (c d : RingContents) (journal : Journal) (x : DriverState × Polled) → IsHonestWith true first s c
     → IsTracedWith journal s c → Plays (poll_of s) c x d → IsTracedWith journal x.0 d
 poll_traced first s c d journal x honest traced plays = λ on m is.
     let before = told_before (poll_of s) c d x plays m is in
     let then : c.honest ≡ true = sym (honest_stays (poll_of s) c d x plays) ∙ on in
-    let kept : Rests first (Traced journal journal) x.0 d =
-    keeps_end _ (poll_of s) c d x (poll_keeps first (Traced journal journal) (poll_traces journal journal first) s c
+    let kept : Rests true first (Traced journal journal) x.0 d =
+    keeps_end _ (poll_of s) c d x (poll_keeps true first (Traced journal journal) (poll_traces journal journal first) s c
     (begins first (Traced journal journal) s c before.0 before.1 (traced then before.0 before.1) honest)) plays in
     (kept on m is).1
 
@@ -485,5 +485,5 @@ new_traced size port c d s fits fresh plays = λ on l is. (kept on l is).1
     none : IsTraced [] [] 1 []
     none = record { touched = λ k e within. absurd (omega (arith, within)); closed = λ k e within. absurd (omega (arith, within)); tell = tt }
 
-    kept : Rests s.cid (Traced [] []) s d
-    kept = keeps_end (λ t e. Rests t.cid (Traced [] []) t e) (new_of size port 1) c d s (new_keeps size port 1 fits (Traced [] []) (λ cid. none) c fresh) plays
+    kept : Rests true s.cid (Traced [] []) s d
+    kept = keeps_end (λ t e. Rests true t.cid (Traced [] []) t e) (new_of size port 1) c d s (new_keeps size port 1 fits (Traced [] []) (λ cid. none) c fresh) plays

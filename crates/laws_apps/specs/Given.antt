@@ -23,10 +23,11 @@ abbrev pub is_heard : ℕ → Journal → Bool
 is_heard port journal = some_did heard_by port journal
 
 -- A connect opened a connection with an id that no call before was given, or its port is one that the device assigns, or it found the slots full, the
--- ports spent or no page; an accept gave such an id, or nobody waited, or no listen before left its port listened on.
+-- ports spent or no page, and no other refusal comes; an accept gave such an id, or nobody waited, or no listen before left its port listened on.
 abbrev pub ConnectTells : ℕ → Result ℕ ConnectError → Journal → Type 0
 ConnectTells port (Ok id) older = was_given id older ≡ false
 ConnectTells port (Err (refused.BadPort p)) older = is_assigned port ≡ true
+ConnectTells port (Err (refused.BadCid cid)) older = ⊥
 ConnectTells port (Err why) older = Unit {0}
 
 abbrev pub AcceptTells : ℕ → Accepted → Journal → Type 0

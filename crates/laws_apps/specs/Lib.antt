@@ -5,3 +5,4 @@ pub mod Calls
 pub mod Rounds
 pub mod Placed
 pub mod Given
+pub mod Ports

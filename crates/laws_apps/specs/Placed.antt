@@ -2,7 +2,7 @@
 use Rattle.std.specs.Prelude.{◌≡◌, ℕ, ◌<◌, ◌==◌, ◌&&◌, ◌||◌, Bool, true, false, List, [], ◌∷◌, Option, Some, None, Result, Ok, Err}
 use Rattle.std.specs.{List.All, List.list_any, Option.ForSome, Option.option_map_or}
 use Rattle.vs_conn.specs.declared.{end.State.State, end.State.TheVariants.{Answering, Ended, Live}, shut.Shut.Shut}
-use Rattle.vs_flow.specs.{Flow.is_assigned, Table.Table, declared.flow.Flow.Flow}
+use Rattle.vs_flow.specs.{Flow.host_asks, Table.Table, declared.flow.Flow.Flow}
 use Rattle.vs_ring_port.specs.Contents.{RingContents}
 use Rattle.vs_driver_parts.specs.{Listening.listener_on, SlotFields.AreNumbered, State.{DriverConnection, DriverEntry, DriverState, GoneConnection, Listener}}
 use Rattle.vs_driver_parts.specs.declared.answers.{Accepted.Accepted, Closed.Closed, ConnectError.ConnectError, ListenError.ListenError}
@@ -65,7 +65,7 @@ waits_at port id ls = list_any (λ w. w == id) (option_map_or (λ l. l.waiting) 
 -- An id was given to an app, or closed, or it waits on the port of its flow. One that the guest asked for was given.
 pub record IsPlaced (journal : Journal) (ls : List Listener) (id : ℕ) (f : Flow) : Type 0 where
   pub known : (was_given id journal || (was_closed id journal || waits_at f.guest id ls)) ≡ true
-  pub own : is_assigned f.host ≡ false → was_given id journal ≡ true
+  pub own : host_asks f ≡ false → was_given id journal ≡ true
 
 -- How an end stands whose id was closed, and one whose RESPONSE isn't put.
 abbrev pub stands_closed : State → Shut → Bool
@@ -117,7 +117,7 @@ abbrev pub IsAsked : ℕ → Flow → Type 0
 IsAsked port f = f.host ≡ port
 
 abbrev pub IsClients : ℕ → Flow → Type 0
-IsClients port f = (f.guest ≡ port) × (is_assigned f.host ≡ true)
+IsClients port f = (f.guest ≡ port) × (host_asks f ≡ true)
 
 abbrev pub NamesFlow : Called → Type 0
 NamesFlow (called.Connect port answer flow) = HasItsFlow (IsAsked port) (asked_as answer) flow

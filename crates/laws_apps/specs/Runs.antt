@@ -36,7 +36,7 @@ journal_of_app k script run = calls_of_app k script run.bytes run.entries
 -- connections and listeners are those that the journal's calls left, are what the calls' replies tell, and were given once. Each entry is an app's of the script,
 -- and has its connection's flow.
 pub record IsKept (first : ℕ) (script : RunScript) (run : Run) : Type 0 where
-  pub honest : IsHonestWith first run.driver run.ring
+  pub honest : IsHonestWith true first run.driver run.ring
   pub routed : IsRoutedWith first run.ring
   pub accounted : IsAccounted 1 (journal_of script run) run.entries run.driver run.ring
   pub stands : AllStandIn (length run.bytes) run.entries

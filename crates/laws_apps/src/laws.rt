@@ -9,7 +9,7 @@ ghost use Rattle.laws_driver.specs.{Honest.{IsFresh, IsHonestWith}, Carried.{Cal
 ghost use Rattle.vs_script.specs.{Script.{Runs, parse_of}, declared.script.Command.TheVariants.Run as ForRun};
 ghost use Rattle.vs_apps_parts.specs.{declared.{journal.{Called.Called, Entry.Entry}, progress.{AppState.AppState, Stepped.Stepped}}, Journals.{entry_called, made_as, sent_as}};
 ghost use Rattle.vs_apps_parts.specs.Scripts.{AreRight, RunScript, with_noted};
-ghost use Rattle.laws_apps.specs.{Accounts.IsAccounted, Runs.{HasFlow, IsRunOf, PollsTo, Run, Steps, no_app}};
+ghost use Rattle.laws_apps.specs.{Accounts.IsAccounted, Ports.GivesPortsWith, Runs.{HasFlow, IsRunOf, PollsTo, Run, Steps, no_app}};
 ghost use Rattle.vs_limits.specs.declared.TheConstants.{LAST_PORT};
 
 /// A call that was made, and a poll, keep the journal's account right: what was sent on each connection is the payload that the log put, and
@@ -17,14 +17,14 @@ ghost use Rattle.vs_limits.specs.declared.TheConstants.{LAST_PORT};
 /// any case (Virtio 1.2, section 5.10.6.3).
 pub fn law_of_accounts()
     ensures call { (first first_id : ℕ) (journal : Journal) (entries : List Entry) (call : GuestCall) (s : DriverState) (c d : RingContents)
-        (x : DriverState × ReplyTo call) → is_right call ≡ true → IsHonestWith first s c → IsAccounted first_id journal entries s c
+        (x : DriverState × ReplyTo call) → is_right call ≡ true → IsHonestWith true first s c → IsAccounted first_id journal entries s c
         → Plays (whole_call call s) c x d → IsAccounted first_id (with_call call s x.1 journal) entries x.0 d }
     ensures poll { (first first_id : ℕ) (journal : Journal) (entries : List Entry) (s : DriverState) (c d : RingContents)
-        (x : DriverState × Polled) → IsHonestWith first s c → IsAccounted first_id journal entries s c → Plays (poll_of s) c x d
+        (x : DriverState × Polled) → IsHonestWith true first s c → IsAccounted first_id journal entries s c → Plays (poll_of s) c x d
         → IsAccounted first_id journal entries x.0 d }
     ensures honest { (first : ℕ) (call : GuestCall) (s : DriverState) (c d : RingContents)
-        (x : DriverState × ReplyTo call) → is_right call ≡ true → IsHonestWith first s c → Plays (whole_call call s) c x d
-        → IsHonestWith first x.0 d }
+        (x : DriverState × ReplyTo call) → is_right call ≡ true → IsHonestWith true first s c → Plays (whole_call call s) c x d
+        → IsHonestWith true first x.0 d }
     // A call that only told to wait needs no entry.
     ensures noted { (first_id : ℕ) (journal : Journal) (entries : List Entry) (call : GuestCall) (s : DriverState) (c d : RingContents)
         (x : DriverState × ReplyTo call) → Plays (whole_call call s) c x d → IsAccounted first_id (with_call call s x.1 journal) entries x.0 d
@@ -48,6 +48,17 @@ pub fn law_of_steps()
         → IsRunOf s.cid script (record { driver = s; ring = d; apps = apps; entries = []; bytes = [] }) }
     ensures polls { (first : ℕ) (script : RunScript) (polled : Polled) (old new : Run) → IsRunOf first script old → PollsTo polled old new
         → IsRunOf first script new }
+{}
+
+/// The k-th connection that connects of a run's apps opened has the guest port k - 1 above that with which the driver was made, as long as that
+/// is at most the last port. Each step of an app and each poll keep it.
+pub fn law_of_ports()
+    ensures steps { (port first k : ℕ) (script : RunScript) (s : Stepped) (moved : Bool) (old new : Run) → k < length script → IsRunOf first script old
+        → Steps script k s moved old new → GivesPortsWith port old.entries old.driver old.ring → GivesPortsWith port new.entries new.driver new.ring }
+    ensures polls { (port first : ℕ) (script : RunScript) (polled : Polled) (old new : Run) → IsRunOf first script old → PollsTo polled old new
+        → GivesPortsWith port old.entries old.driver old.ring → GivesPortsWith port new.entries new.driver new.ring }
+    ensures begins { (size port : ℕ) (c d : RingContents) (s : DriverState) → port ≤ LAST_PORT → IsFresh c → Plays (new_of size port 1) c s d
+        → GivesPortsWith port [] s d }
 {}
 
 /// The apps of each script that is read for a run are right: the bits of each shutdown are 1 to 3.

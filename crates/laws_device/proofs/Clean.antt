@@ -1,8 +1,7 @@
 -- Flows that may be used again, as one of them is given, and the port that is given next.
-use Rattle.std.proofs.{Common.{◌≡◌, ℕ, ◌<◌, ◌≤◌, Bool, true, false, cond, List, [], ◌∷◌, refl, sym, ap, subst, ◌∙◌, arith}, lemmas.{Bool.Decides.nat_tests, Grind.common_steps}}
+use Rattle.std.proofs.{Common.{◌≡◌, ℕ, ◌<◌, ◌≤◌, Bool, true, false, List, [], ◌∷◌, ap, ◌∙◌, arith}, lemmas.{Bool.Decides.nat_tests, Grind.common_steps}}
 use Rattle.vs_flow.specs.{CleanPairs.without_oldest, Flow.same_flow, declared.flow.Flow.Flow}
-use Rattle.vs_page.proofs.Flows.{same_is}
-use Rattle.laws_tables.{specs.{Ends.{AreDistinct, is_among, without}, Steps.port_after}, proofs.Entries.{without_none, without_own}}
+use Rattle.laws_tables.{specs.{Ends.{AreDistinct, is_among}, Steps.port_after}, proofs.{Entries.without_own, Found.removed_flow}}
 
 pub port_below : (port own : ℕ) → own < port_after port own
 port_below port own = grind (arith, nat_tests)
@@ -11,15 +10,6 @@ pub port_rises : (port own : ℕ) → port ≤ port_after port own
 port_rises port own = grind (arith, nat_tests)
 
 -- One that stands once goes wholly.
-pub removed_flow : (f : Flow) (fs : List Flow) → AreDistinct fs → without_oldest (same_flow f) fs ≡ without f fs
-removed_flow f [] once = refl
-removed_flow f (g ∷ gs) once = by (same_flow f g) refl (removed_flow f gs once.1)
-  where
-    by : (b : Bool) → same_flow f g ≡ b → without_oldest (same_flow f) gs ≡ without f gs
-        → cond b gs (g ∷ without_oldest (same_flow f) gs) ≡ cond b (without f gs) (g ∷ without f gs)
-    by true same rest = sym (without_none f gs (subst (λ h. is_among h gs ≡ false) (sym (same_is f g same)) once.0))
-    by false other rest = ap (λ hs. g ∷ hs) rest
-
 pub removed_own : (f : Flow) (fs : List Flow) → AreDistinct fs → is_among f (without_oldest (same_flow f) fs) ≡ false
 removed_own f fs once = ap (is_among f) (removed_flow f fs once) ∙ without_own f fs
 

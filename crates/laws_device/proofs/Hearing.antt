@@ -6,7 +6,7 @@ use Rattle.laws_device.proofs.{Taking.{leaves_with, opens, replies_to, stays_wit
 use Rattle.laws_device.proofs.{Carrying.{StreamedOver, streams_call, streams_go}, Chains.Behind, Seats.{AgreesBy, Carried, LeftBy, seat}, Fits.{delivered, fewer, fits_after}}
 use Rattle.laws_device.{proofs.{Keeping.{Keeps, asking, Lets, keeps_bind}, Steps.closing_keeps, Walk.Keeping.{keeps_if, keeps_some}}, specs.Carried.Streamed.{Ports, ports_of}}
 use Rattle.laws_device.specs.{Carried.Streamed.{IsStreamed, count_in, gives, look}, Honest.{HoldsBytes, ends_of_state}}
-use Rattle.vs_device_parts.specs.{Transmitting.{keeps_flow, dial_answered, heard, on_known, on_packet, on_unknown, refused, unknown_why}, Connections.{keeping, kept_if}}
+use Rattle.vs_device_parts.specs.{Transmitting.{keeps_flow, dial_answered, heard, on_known, on_packet, on_unknown, refused, unknown_why}, Connections.keeping}
 use Rattle.vs_device_parts.specs.{Connections.{after_leaving, stream_closed, with_connection, with_dialed, with_fault, with_reply}, Calls.{DeviceTree, Dial, HostMoves, Situation}}
 use Rattle.vs_device_parts.specs.{State.{DeviceConnection, DeviceEntry, DeviceState}, Streams.{closing, leaving}}
 use Rattle.std.proofs.Common.{◌≡◌, ℕ, ◌+◌, ◌≤◌, ◌==◌, ◌&&◌, Bool, true, false, cond, List, [], ◌∷◌, ◌++◌, length, take, drop, Contains, Option, Some, None, refl, sym, ap, subst}
@@ -14,7 +14,7 @@ use Rattle.std.proofs.{Common.{◌∙◌, arith, length-append, length-take, get
 use Rattle.std.specs.List.{All}
 use Rattle.vs_contents.specs.CallTree.{Done, bind}
 use Rattle.vs_conn.specs.{End.{ConnectionEnd, after_op, end_after, is_reset, is_of, verdict_of}, declared.end.{Verdict.Verdict, Why.Why}}
-use Rattle.vs_flow.{specs.{Table.{entry_of, has_place}, Flow.{is_assigned, same_flow}, declared.flow.Flow.Flow}, proofs.Entries.same_flow_true}
+use Rattle.vs_flow.{specs.{CleanPairs.kept_if, Table.{entry_of, has_place}, Flow.{is_assigned, same_flow}, declared.flow.Flow.Flow}, proofs.Entries.same_flow_true}
 use Rattle.vs_header.specs.{declared.{Kind.{Kind, TheVariants.Stream}, Header.Header, TheConstants.HEADER_LEN}, Op.op_named}
 use Rattle.laws_history.specs.{Packets.is_request, declared.packet.Packet.Packet}
 use Rattle.vs_outside.specs.{declared.host_net.Dialed.Dialed, Host.{HostContents, IsDialed, after_dial, after_failed, after_close, called}}

@@ -3,11 +3,11 @@ use Rattle.std.proofs.Common.{◌≡◌, ℕ, ◌+◌, ◌-◌, ◌==◌, drop, 
 use Rattle.std.{proofs.lemmas.List.Elements.{All-cons, All-drop, All-map, All-push, All-tail, All-filter}, specs.List.All}
 use Rattle.vs_header.specs.declared.Kind.TheVariants.{Stream}
 use Rattle.vs_limits.specs.declared.TheConstants.{CLEAN_PAIRS}
-use Rattle.vs_flow.specs.{CleanPairs.without_oldest, Flow.same_flow, Table.{Table, with_value, without, with_entry, next_entry, revalued}, declared.flow.Flow.Flow}
+use Rattle.vs_flow.specs.{CleanPairs.{kept_if, without_oldest}, Flow.same_flow, Table.{Table, with_value, without, with_entry, next_entry, revalued}, declared.flow.Flow.Flow}
 use Rattle.vs_flow.proofs.Tables.{with_value_sound, without_sound, with_entry_sound, IsAccepted}
 use Rattle.laws_tables.{specs.{Ends.{Ends, FlowEnd, entries_of, is_new}, Steps.{HasEnd, with_clean, with_end, left}}, proofs.Slots.{changed_slot, one_end, removed_slot}}
 use Rattle.laws_tables.proofs.Changes.{without_changed}
-use Rattle.vs_device_parts.specs.{State.{DeviceConnection, DeviceEntry, DeviceState}, Connections.{kept_if, with_connection}}
+use Rattle.vs_device_parts.specs.{State.{DeviceConnection, DeviceEntry, DeviceState}, Connections.with_connection}
 use Rattle.laws_device.specs.Honest.{HasNothing, HoldsBytes, IsFit, IsFitClean, IsFitEntry, IsFitFlow, IsFitState, end_in, ends_of_state}
 
 -- What is kept of a connection.

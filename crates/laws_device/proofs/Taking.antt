@@ -4,13 +4,13 @@ use Rattle.std.proofs.lemmas.{Bool.Decides.nat_tests, Grind.common_steps}
 use Rattle.vs_conn.{specs.{End.{ConnectionEnd, answering, end_after, is_reset, is_of, verdict_of}, Follows.IsTaken}, proofs.Frames.got_kind}
 use Rattle.laws_history.specs.{Packets.{is_request, is_rst}, declared.packet.Packet.Packet}
 use Rattle.vs_limits.specs.declared.TheConstants.{BUF_ALLOC, HOST_CID}
-use Rattle.vs_flow.{specs.{Table.{entry_of, has_place, refusal, with_value, without}, declared.flow.Flow.Flow}, proofs.Tables.accepted}
+use Rattle.vs_flow.{specs.{CleanPairs.kept_if, Table.{entry_of, has_place, refusal, with_value, without}, declared.flow.Flow.Flow}, proofs.Tables.accepted}
 use Rattle.vs_page.specs.{Log.{Device, Log, flow_to_host, side_of}, Fair.IsFairLog, Held.FitsWire, Open.is_dropped, declared.log.LogEntry.TheVariants.GotPacket}
 use Rattle.vs_replies.specs.Owed.{reply_to}
 use Rattle.laws_tables.specs.{Steps.{HasEnd, HasNone, is_kept, is_overrun, left, taken, with_clean, with_end, accepted as accepted_as}, Both.{Seat, Takes, after_packet}}
 use Rattle.laws_tables.{specs.{Both.{after_taking, answered}, Ends.{Ends, FlowEnd, answer_kind, ends_of}, Heard.{IsInOrder, heard_of}, Matches.Matches}, proofs.Keeps.accepts}
 use Rattle.laws_tables.proofs.{Keeps.{drops, has_room, ignores, refuses, takes}, Fair.{got_in_order, got_is_taken}, Slots.{added_slot, no_entry}}
-use Rattle.vs_device_parts.specs.{Connections.{kept_if, new_connection, with_connection, with_dialed, with_reply}, State.{DeviceConnection, DeviceEntry, DeviceState}}
+use Rattle.vs_device_parts.specs.{Connections.{new_connection, with_connection, with_dialed, with_reply}, State.{DeviceConnection, DeviceEntry, DeviceState}}
 use Rattle.laws_device.proofs.{Tabling.{IsFitConnection, begun_fits, connection_ends, connection_fits, has_end, left_ends, left_fits, entry_fits, opening_fits}, Seats.Carried}
 use Rattle.laws_device.{proofs.Seats.{LeftBy, at_log, seat}, specs.Honest.{IsFitFlow, IsFitReply, ends_of_state, end_in}}
 use Rattle.vs_header.specs.declared.{Header.Header, Kind.TheVariants.Stream}

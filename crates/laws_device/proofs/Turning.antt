@@ -5,7 +5,7 @@ use Rattle.std.specs.{List.All, Option.ForSome}
 use Rattle.byteorder.specs.Endian.{little_bytes}
 use Rattle.vs_contents.specs.{CallTree.{Done, Ask, bind, for_each}, Contents.Exposes}
 use Rattle.vs_conn.specs.End.{asked}
-use Rattle.vs_flow.{specs.{Flow.is_host, Table.{IsTable, Table, emptied, entry_under, refusal, slots, with_value}, declared.flow.Flow.Flow}, proofs.Tables.accepted}
+use Rattle.vs_flow.{specs.{CleanPairs.of_host, Flow.is_host, Table.{IsTable, Table, emptied, entry_under, refusal, slots, with_value}, declared.flow.Flow.Flow}, proofs.Tables.accepted}
 use Rattle.vs_limits.specs.declared.TheConstants.{BUF_ALLOC}
 use Rattle.vs_outside.specs.{declared.host_net.StreamWrite.StreamWrite, Host.{HostContents, IsWritten, after_failed, after_close, after_label, after_shut_write, after_write}}
 use Rattle.vs_outside.specs.Host.{called}
@@ -13,8 +13,8 @@ use Rattle.vs_page.specs.{declared.log.LogEntry.TheVariants.{Mark, PutEvent}, Lo
 use Rattle.vs_ring_port.specs.{Contents.{RingContents, PublishCid, Return, Take, Write}, EndLog.{EndLog, log_reset, log_returned, log_taken, entries_returned, with_event}}
 use Rattle.vs_ring_port.specs.{Chains.{Held, bytes_in}, declared.{device_ring.{Chain.Chain, Next.Next}, failure.Failure.Failure, queue.Queue.{Queue, TheVariants.{Event, Tx}}}}
 use Rattle.vs_ring_port.specs.DeviceCalls.{IsTakenAs, IsWholePacket}
-use Rattle.laws_tables.{specs.{Both.{Asks, MakesReset, PutsEvent, Seat}, Ends.{Ends, FlowEnd, is_new, of_host}, Matches.Matches, Steps.{IsNextFlow, asking}}, proofs.Keeps.asks}
-use Rattle.laws_tables.proofs.{Keeps.{makes_reset, puts_event, start_matches}, Slots.{added_slot, found_by}}
+use Rattle.laws_tables.{specs.{Both.{Asks, MakesReset, PutsEvent, Seat}, Ends.{Ends, FlowEnd, is_new}, Matches.Matches, Steps.{IsNextFlow, asking}}, proofs.Keeps.asks}
+use Rattle.laws_tables.proofs.{Found.removed_flow, Keeps.{makes_reset, puts_event, start_matches}, Slots.{added_slot, found_by}}
 use Rattle.vs_device_parts.specs.Connections.{after_shut, after_written, cut_off, is_timed_out, new_connection, stream_closed, with_client, with_connection, with_fault}
 use Rattle.vs_device_parts.specs.Streams.{Writing, closing, is_written_out, pump_of, pump_slot, shut_write, tick_of, tick_slot, to_write, write_answered, write_pending}
 use Rattle.vs_device_parts.specs.{Calls.{DeviceTree, Label, Ring, ShutWrite, WriteStream, Situation}, Turns.{after_reset, close_slot, open_of, reset_of}, State.new_device}
@@ -23,7 +23,7 @@ use Rattle.laws_device.proofs.{Carrying.{ring_only, Fact, IsHeldBy, fact_goes, I
 use Rattle.laws_device.proofs.{Chains.{held_there, is_unwritten, taken_holds}, Changing.{cuts, shuts, unseen, writes, same}, Ringing.{Tells, moves, host_moves}, Keeping.Lets}
 use Rattle.laws_device.proofs.{Keeping.{Keeps, asking as asked_of, keeps_each, keeps_then}, Seats.{AgreesBy, Carried, LeftBy, at_log, seat}, Writing.{write_keeps, Writes}}
 use Rattle.laws_device.proofs.{Filling.under_there, Steps.{it_failed, none_came, cut_with, seat_changed, closing_keeps, called_with}, Tabling.{IsFitConnection, entry_fits}}
-use Rattle.laws_device.proofs.{Tabling.{opening_fits, removed_fit}, Clean.removed_flow, Walk.Keeping.{keeps_if, keeps_some}, Carried.Changing.{called_host, ends_streams}}
+use Rattle.laws_device.proofs.{Tabling.{opening_fits, removed_fit}, Walk.Keeping.{keeps_if, keeps_some}, Carried.Changing.{called_host, ends_streams}}
 use Rattle.laws_device.proofs.Carried.{Changing.{event_streams, failed_host, mark_streams, shut_write_host, shuts_streams, writes_streams}, Closing.IsClosing}
 use Rattle.laws_device.proofs.{Carried.Closing.{closing_done as all_closed, closing_from, closing_now, closing_passes, closing_was}, Named.Tables.{some_after, some_from}}
 use Rattle.laws_device.specs.{Honest.{IsFitClean, IsFitFlow, IsFitState, IsFresh, IsLeft, IsWith, end_in, ends_of_state, port_after}, Carried.Streamed.{IsStreamed, ports_of}}

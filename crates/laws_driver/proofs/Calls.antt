@@ -1,6 +1,6 @@
 -- What each call of the driver keeps over an honest ring.
 use Rattle.std.proofs.Common.{◌≡◌, ℕ, ◌+◌, ◌<◌, ◌≤◌, ◌^◌, ◌==◌, Bool, true, false, cond, min, List, [], ◌∷◌, length, take, Option, Some, None, Result, Ok, Err, refl, sym, ap}
-use Rattle.std.{proofs.Common.{subst, ◌∙◌, arith, length-take}, specs.Prelude.IsOkAnd}
+use Rattle.std.{proofs.{Common.{subst, ◌∙◌, ◌&&◌, arith, length-take}, lemmas.{Bool.Decides.nat_tests, Grind.common_steps}}, specs.Prelude.IsOkAnd}
 use Rattle.vs_contents.specs.CallTree.{Done, Ask, bind}
 use Rattle.vs_conn.specs.{End.{CanSend, may_send_of, wanting_credit, with_payload_sent}, declared.end.Stop.Stop}
 use Rattle.vs_flow.specs.Table.{IsTable}
@@ -9,32 +9,32 @@ use Rattle.vs_page.specs.{Log.{Driver, Log}, Fair.IsFairLog, declared.{log.LogEn
 use Rattle.vs_ring_port.specs.{declared.queue.Queue.{TheVariants.{Rx, Tx, Event}, Queue}, Contents.RingContents, EndLog.{EndLog, entries_marked, log_loaded, log_published}}
 use Rattle.vs_ring_port.specs.{EndLog.log_staged, DriverCalls.Publish}
 use Rattle.laws_tables.{specs.{Matches.Matches, Steps.{payload_on, request_on}}, proofs.Keeps.start_matches}
-use Rattle.vs_driver_parts.specs.Conversations.{DriverTree, connect_of, connect_with_page, has_page, load_cid, new_of, new_state, no_credit, not_sent, one_more_in_flight}
+use Rattle.vs_driver_parts.specs.Conversations.{DriverTree, connect_to, connect_with_page, has_page, load_cid, new_of, new_state, no_credit, not_sent, one_more_in_flight}
 use Rattle.vs_driver_parts.specs.Conversations.{payload_bytes, payload_of, poll_of, post_all, post_events, post_one, post_packet, posts, publish_of, reap_all, request_bytes}
 use Rattle.vs_driver_parts.specs.{Conversations.{send_of, send_stopped, send_with_page, stage_of}, Connections.{connect_refusal, connected, next_flow}}
 use Rattle.vs_driver_parts.specs.{declared.answers.{ConnectError.ConnectError, Polled.Polled, Sent.Sent}, Playing.{MayPublishAll, Plays}, State.{DriverEntry, DriverState}}
-use Rattle.vs_driver_parts.{specs.{State.entry_known_as, Steps.{connects, sends}}, proofs.Clean.none_clean}
-use Rattle.vs_limits.specs.declared.TheConstants.{LAST_PORT, STAGED_MAX}
+use Rattle.vs_driver_parts.{specs.{State.entry_known_as, Steps.sends}, proofs.Clean.none_clean}
+use Rattle.vs_limits.specs.declared.TheConstants.{HOST_CID, LAST_PORT, STAGED_MAX}
 use Rattle.laws_driver.{specs.{Honest.{AgreesWith, IsFitState, IsFresh, IsHonestWith, ends_of_state}, Staged.IsLeft}, proofs.Polling.{not_tx_event, not_tx_rx, poll_keeps}}
 use Rattle.laws_driver.proofs.{Changing.{Changes, stands_known, wanting_changes}, Keeping.{Keeps, keeps_bind, keeps_end, keeps_may, keeps_weaker, keeps_while}, Ringing.IsAtRest}
 use Rattle.laws_driver.proofs.{Ringing.{Tells, agrees, at_rest, can_publish_other, moves, tells_weaker, can_stage_other}, Carrying.{Fact, Holds, RestsWith, carries_nothing}}
-use Rattle.laws_driver.proofs.{Carrying.nothing, Staging.{Rests, SameBut, post_tx, reap_keeps}, Putting.{connect_puts, send_puts}, Tabling.Stands}
+use Rattle.laws_driver.proofs.{Carrying.nothing, Staging.{Rests, SameBut, post_tx, reap_keeps}, Putting.{connect_puts, send_puts}, Tabling.{Stands, fits_weaker}}
 use Rattle.vs_driver_parts.specs.declared.answers.ConnectError.TheVariants as refused
 use Rattle.vs_driver_parts.specs.declared.answers.Sent.TheVariants as sent
 use Rattle.vs_driver_parts.specs.Connections as connections
 
-pub rests_of : (first : ℕ) (s : DriverState) (c : RingContents) → IsHonestWith first s c → Rests first nothing s c
-rests_of first s c honest = tells_weaker (AgreesWith first s) (RestsWith first nothing s) (λ l kept. (at_rest first s l kept, tt)) c honest
+pub rests_of : (hosts : Bool) (first : ℕ) (s : DriverState) (c : RingContents) → IsHonestWith hosts first s c → Rests hosts first nothing s c
+rests_of hosts first s c honest = tells_weaker (AgreesWith hosts first s) (RestsWith hosts first nothing s) (λ l kept. (at_rest hosts first s l kept, tt)) c honest
 
-pub honest_of : (first : ℕ) (fact : Fact) (s : DriverState) (c : RingContents) → Rests first fact s c → IsHonestWith first s c
-honest_of first fact s c rests = tells_weaker (RestsWith first fact s) (AgreesWith first s) (λ l rest. agrees first s l rest.0) c rests
+pub honest_of : (hosts : Bool) (first : ℕ) (fact : Fact) (s : DriverState) (c : RingContents) → Rests hosts first fact s c → IsHonestWith hosts first s c
+honest_of hosts first fact s c rests = tells_weaker (RestsWith hosts first fact s) (AgreesWith hosts first s) (λ l rest. agrees hosts first s l rest.0) c rests
 
 -- A step that puts and gets nothing.
-pub changed : (first : ℕ) (s t : DriverState) (l : EndLog) → Changes s t → IsAtRest first s l → IsAtRest first t l
-changed first s t l step rest = (
+pub changed : (hosts : Bool) (first : ℕ) (s t : DriverState) (l : EndLog) → Changes hosts s t → IsAtRest hosts first s l → IsAtRest hosts first t l
+changed hosts first s t l step rest = (
   step.fits,
   record {
-    none_refused = step.broken ∙ rest.1.none_refused;
+    none_refused = λ all. step.broken ∙ rest.1.none_refused all;
     matches = step.matches first l.entries rest.1.matches;
     fair = rest.1.fair;
     marks = rest.1.marks;
@@ -43,46 +43,46 @@ changed first s t l step rest = (
 )
 
 -- It carries one fact to another.
-pub changed_rests : (first : ℕ) (before after : Fact) (s t : DriverState) (c : RingContents) → (IsFitState s → Changes s t)
-    → ((log : Log) → IsFitState s → Matches Driver first (ends_of_state s) log → Holds before s log → Holds after t log)
-    → Rests first before s c → Rests first after t c
-changed_rests first before after s t c step carries rests =
-    tells_weaker (RestsWith first before s) (RestsWith first after t)
-    (λ l rest. (changed first s t l (step rest.0.0) rest.0, carries l.entries rest.0.0 rest.0.1.matches rest.1)) c rests
+pub changed_rests : (hosts : Bool) (first : ℕ) (before after : Fact) (s t : DriverState) (c : RingContents) → (IsFitState hosts s → Changes hosts s t)
+    → ((log : Log) → IsFitState hosts s → Matches Driver first (ends_of_state s) log → Holds before s log → Holds after t log)
+    → Rests hosts first before s c → Rests hosts first after t c
+changed_rests hosts first before after s t c step carries rests =
+    tells_weaker (RestsWith hosts first before s) (RestsWith hosts first after t)
+    (λ l rest. (changed hosts first s t l (step rest.0.0) rest.0, carries l.entries rest.0.0 rest.0.1.matches rest.1)) c rests
 
-pub still_honest : (first : ℕ) (s t : DriverState) (c : RingContents) → (IsFitState s → Changes s t) → IsHonestWith first s c → IsHonestWith first t c
-still_honest first s t c step honest =
-    honest_of first nothing t c (changed_rests first nothing nothing s t c step (λ log fits m held. tt) (rests_of first s c honest))
+pub still_honest : (hosts : Bool) (first : ℕ) (s t : DriverState) (c : RingContents) → (IsFitState hosts s → Changes hosts s t) → IsHonestWith hosts first s c → IsHonestWith hosts first t c
+still_honest hosts first s t c step honest =
+    honest_of hosts first nothing t c (changed_rests hosts first nothing nothing s t c step (λ log fits m held. tt) (rests_of hosts first s c honest))
 
 -- A connect carries one fact to another, by its answer: where it is refused, and where its REQUEST is put.
-pub record CarriesConnect (first host : ℕ) (before : Fact) (after : Result ℕ ConnectError → Fact) : Type 0 where
+pub record CarriesConnect (hosts : Bool) (first peer to : ℕ) (before : Fact) (after : Result ℕ ConnectError → Fact) : Type 0 where
   pub refused : (why : ConnectError) (s : DriverState) (log : Log) → Holds before s log → Holds (after (Err why)) s log
-  pub opens : (s : DriverState) (log : Log) → let p = request_on Driver s.cid (next_flow host s) Stream in
-      IsFitState s → connect_refusal host s ≡ None → Matches Driver first (ends_of_state s) log → IsFairLog Driver log
-      → IsFairLog Driver (PutPacket p ∷ log) → Holds before s log → Holds (after (Ok s.next_id)) (connected host s) (PutPacket p ∷ log)
+  pub opens : (s : DriverState) (log : Log) → let p = request_on Driver s.cid (next_flow peer to s) Stream in
+      IsFitState hosts s → connect_refusal peer to s ≡ None → Matches Driver first (ends_of_state s) log → IsFairLog Driver log
+      → IsFairLog Driver (PutPacket p ∷ log) → Holds before s log → Holds (after (Ok s.next_id)) (connected peer to s) (PutPacket p ∷ log)
 
 -- The same of a send: where nothing goes, where credit is wanted, and where payload is put.
-pub record CarriesSend (first id : ℕ) (bytes : List ℕ) (before : Fact) (after : Sent → Fact) : Type 0 where
+pub record CarriesSend (hosts : Bool) (first id : ℕ) (bytes : List ℕ) (before : Fact) (after : Sent → Fact) : Type 0 where
   pub stopped : (why : Stop) (s : DriverState) (log : Log) → Holds before s log → Holds (after (send_stopped why)) s log
   pub unknown : (s : DriverState) (log : Log) → entry_known_as id s ≡ None → Holds before s log → Holds (after (not_sent id s)) s log
   pub empty : (s : DriverState) (log : Log) → Holds before s log → Holds (after (sent.Took 0)) s log
   pub full : (n : ℕ) (s : DriverState) (log : Log) → Holds before s log → Holds (after (sent.NoDescriptor n)) s log
-  pub wants : (e : DriverEntry) (s : DriverState) (log : Log) → IsFitState s → Stands s e → Matches Driver first (ends_of_state s) log
+  pub wants : (e : DriverEntry) (s : DriverState) (log : Log) → IsFitState hosts s → Stands s e → Matches Driver first (ends_of_state s) log
       → Holds before s log → Holds (after (no_credit e.value.end)) (connections.with_end (wanting_credit e.value.end) e s) log
   pub sends : (e : DriverEntry) (n : ℕ) (s : DriverState) (log : Log) → let payload = take n bytes in
       let p = payload_on Driver s.cid e.flow e.value.end payload in
-      IsFitState s → Stands s e → entry_known_as id s ≡ Some e → CanSend e.value.end (length payload) → length payload ≤ PAYLOAD_MAX
+      IsFitState hosts s → Stands s e → entry_known_as id s ≡ Some e → CanSend e.value.end (length payload) → length payload ≤ PAYLOAD_MAX
       → Matches Driver first (ends_of_state s) log → IsFairLog Driver log → IsFairLog Driver (PutPacket p ∷ log) → Holds before s log
       → Holds (after (sent.Took (length payload))) (connections.with_end (with_payload_sent e.value.end (length payload)) e s) (PutPacket p ∷ log)
 
-pub connect_nothing : (first host : ℕ) → CarriesConnect first host nothing (λ answer. nothing)
-connect_nothing first host = record {
+pub connect_nothing : (hosts : Bool) (first peer to : ℕ) → CarriesConnect hosts first peer to nothing (λ answer. nothing)
+connect_nothing hosts first peer to = record {
   refused = λ why s log held. tt;
   opens = λ s log fits free m was fair held. tt;
 }
 
-pub send_nothing : (first id : ℕ) (bytes : List ℕ) → CarriesSend first id bytes nothing (λ answer. nothing)
-send_nothing first id bytes = record {
+pub send_nothing : (hosts : Bool) (first id : ℕ) (bytes : List ℕ) → CarriesSend hosts first id bytes nothing (λ answer. nothing)
+send_nothing hosts first id bytes = record {
   stopped = λ why s log held. tt;
   unknown = λ s log none held. tt;
   empty = λ s log held. tt;
@@ -92,10 +92,10 @@ send_nothing first id bytes = record {
 }
 
 -- A fact goes over to another, and nothing else changes.
-goes_over : (first : ℕ) (before after : Fact) (s : DriverState) (c : RingContents)
-    → ((log : Log) → Holds before s log → Holds after s log) → Rests first before s c → Rests first after s c
-goes_over first before after s c go rests =
-    tells_weaker (RestsWith first before s) (RestsWith first after s) (λ l rest. (rest.0, go l.entries rest.1)) c rests
+goes_over : (hosts : Bool) (first : ℕ) (before after : Fact) (s : DriverState) (c : RingContents)
+    → ((log : Log) → Holds before s log → Holds after s log) → Rests hosts first before s c → Rests hosts first after s c
+goes_over hosts first before after s c go rests =
+    tells_weaker (RestsWith hosts first before s) (RestsWith hosts first after s) (λ l rest. (rest.0, go l.entries rest.1)) c rests
 
 can_send : (e : DriverEntry) (credit : ℕ) (bytes : List ℕ) → may_send_of e.value.end ≡ Ok credit
     → CanSend e.value.end (length (payload_of credit bytes)) × (length (payload_of credit bytes) ≤ PAYLOAD_MAX)
@@ -106,63 +106,67 @@ can_send e credit bytes is =
     (subst (λ (r : Result ℕ Stop). IsOkAnd r (λ free. n ≤ free)) (sym is) least, omega (arith, short))
 
 -- connect.
-module _ (first host : ℕ) (before : Fact) (after : Result ℕ ConnectError → Fact) (steps : CarriesConnect first host before after) where
+module _ (hosts : Bool) (first peer to : ℕ) (before : Fact) (after : Result ℕ ConnectError → Fact) (steps : CarriesConnect hosts first peer to before after)
+    (peer_fits : peer < 2 ^ 64) (to_fits : to < 2 ^ 32) (all : hosts ≡ true → peer ≡ HOST_CID) where
   abbrev pub ConnectRests : DriverState × Result ℕ ConnectError → RingContents → Type 0
-  ConnectRests x c = Rests first (after x.1) x.0 c
+  ConnectRests x c = Rests hosts first (after x.1) x.0 c
 
-  opened_by : (b : Bool) (s : DriverState) (c : RingContents) → host < 2 ^ 32 → connect_refusal host s ≡ None → Rests first before s c
-      → Keeps ConnectRests (cond b (bind (post_packet (request_bytes host s) s) (λ t. Done (connected host t, Ok t.next_id)))
+  opened_by : (b : Bool) (s : DriverState) (c : RingContents) → connect_refusal peer to s ≡ None → Rests hosts first before s c
+      → Keeps ConnectRests (cond b (bind (post_packet (request_bytes peer to s) s) (λ t. Done (connected peer to t, Ok t.next_id)))
       (Done (s, Err (refused.NoDescriptor s.in_flight)))) c
-  opened_by true s c port free rests =
-      keeps_bind ConnectRests (post_packet (request_bytes host s) s) (λ t. Done (connected host t, Ok t.next_id)) c
-      (keeps_weaker (λ u d. (u ≡ one_more_in_flight s) × Rests first (after (Ok s.next_id)) (connected host s) d)
-      (λ u d. Rests first (after (Ok u.next_id)) (connected host u) d)
-      (λ u d kept. subst (λ (x : DriverState). Rests first (after (Ok x.next_id)) (connected host x) d) (sym kept.0) kept.1)
-      (post_packet (request_bytes host s) s) c
-      (post_tx first before (after (Ok s.next_id)) (request_on Driver s.cid (next_flow host s) Stream) s (connected host s) (request_bytes host s) c
+  opened_by true s c free rests =
+      keeps_bind ConnectRests (post_packet (request_bytes peer to s) s) (λ t. Done (connected peer to t, Ok t.next_id)) c
+      (keeps_weaker (λ u d. (u ≡ one_more_in_flight s) × Rests hosts first (after (Ok s.next_id)) (connected peer to s) d)
+      (λ u d. Rests hosts first (after (Ok u.next_id)) (connected peer to u) d)
+      (λ u d kept. subst (λ (x : DriverState). Rests hosts first (after (Ok x.next_id)) (connected peer to x) d) (sym kept.0) kept.1)
+      (post_packet (request_bytes peer to s) s) c
+      (post_tx hosts first before (after (Ok s.next_id)) (request_on Driver s.cid (next_flow peer to s) Stream) s (connected peer to s) (request_bytes peer to s) c
       (λ l rest. record {
-        puts = connect_puts host s port rest.0 free;
+        puts = connect_puts peer to s peer_fits to_fits all rest.0 free;
         carries = λ log m was fair held. steps.opens s log rest.0 free m was fair held;
       }) rests))
-  opened_by false s c port free rests =
-      goes_over first before (after (Err (refused.NoDescriptor s.in_flight))) s c
+  opened_by false s c free rests =
+      goes_over hosts first before (after (Err (refused.NoDescriptor s.in_flight))) s c
       (λ log held. steps.refused (refused.NoDescriptor s.in_flight) s log held) rests
 
-  connect_page_keeps : (s : DriverState) (c : RingContents) → host < 2 ^ 32 → connect_refusal host s ≡ None → Rests first before s c
-      → Keeps ConnectRests (connect_with_page host s) c
-  connect_page_keeps s c port free rests = opened_by (has_page s) s c port free rests
+  connect_page_keeps : (s : DriverState) (c : RingContents) → connect_refusal peer to s ≡ None → Rests hosts first before s c
+      → Keeps ConnectRests (connect_with_page peer to s) c
+  connect_page_keeps s c free rests = opened_by (has_page s) s c free rests
 
-  is_refused : (why : ConnectError) (s : DriverState) (c : RingContents) → Rests first before s c → Rests first (after (Err why)) s c
-  is_refused why s c rests = goes_over first before (after (Err why)) s c (λ log held. steps.refused why s log held) rests
+  is_refused : (why : ConnectError) (s : DriverState) (c : RingContents) → Rests hosts first before s c → Rests hosts first (after (Err why)) s c
+  is_refused why s c rests = goes_over hosts first before (after (Err why)) s c (λ log held. steps.refused why s log held) rests
 
-  connect_by : (o : Option ConnectError) (s : DriverState) (c : RingContents) → connect_refusal host s ≡ o → host < 2 ^ 32 → Rests first before s c
-      → Keeps ConnectRests (elim o [ Some refusal ↦ Done (s, Err refusal) | None ↦ bind (reap_all s) (connect_with_page host) ]) c
-  connect_by (Some refusal) s c is port rests = is_refused refusal s c rests
-  connect_by None s c is port rests =
-      keeps_bind ConnectRests (reap_all s) (connect_with_page host) c
-      (keeps_weaker (SameBut first before s) (λ t d. Keeps ConnectRests (connect_with_page host t) d)
-      (λ t d same. subst (λ (x : DriverState). Keeps ConnectRests (connect_with_page host x) d) (sym same.0)
-      (connect_page_keeps (record s { in_flight = t.in_flight }) d port is same.1)) (reap_all s) c (reap_keeps first before s c rests))
+  connect_by : (o : Option ConnectError) (s : DriverState) (c : RingContents) → connect_refusal peer to s ≡ o → Rests hosts first before s c
+      → Keeps ConnectRests (elim o [ Some refusal ↦ Done (s, Err refusal) | None ↦ bind (reap_all s) (connect_with_page peer to) ]) c
+  connect_by (Some refusal) s c is rests = is_refused refusal s c rests
+  connect_by None s c is rests =
+      keeps_bind ConnectRests (reap_all s) (connect_with_page peer to) c
+      (keeps_weaker (SameBut hosts first before s) (λ t d. Keeps ConnectRests (connect_with_page peer to t) d)
+      (λ t d same. subst (λ (x : DriverState). Keeps ConnectRests (connect_with_page peer to x) d) (sym same.0)
+      (connect_page_keeps (record s { in_flight = t.in_flight }) d is same.1)) (reap_all s) c (reap_keeps hosts first before s c rests))
 
-  connects_by : (o : Option ConnectError) (s : DriverState) (c : RingContents) → connect_refusal host s ≡ o → host < 2 ^ 32 → Rests first before s c
-      → Keeps ConnectRests (elim o [ Some refusal ↦ Done (s, Err refusal) | None ↦ connect_with_page host s ]) c
-  connects_by (Some refusal) s c is port rests = is_refused refusal s c rests
-  connects_by None s c is port rests = connect_page_keeps s c port is rests
+  connects_by : (o : Option ConnectError) (s : DriverState) (c : RingContents) → connect_refusal peer to s ≡ o → Rests hosts first before s c
+      → Keeps ConnectRests (elim o [ Some refusal ↦ Done (s, Err refusal) | None ↦ connect_with_page peer to s ]) c
+  connects_by (Some refusal) s c is rests = is_refused refusal s c rests
+  connects_by None s c is rests = connect_page_keeps s c is rests
 
-  pub connects_with : (s : DriverState) (c : RingContents) → host < 2 ^ 32 → Rests first before s c → Keeps ConnectRests (connects host s) c
-  connects_with s c port rests = connects_by (connect_refusal host s) s c refl port rests
+  pub connects_with : (s : DriverState) (c : RingContents) → Rests hosts first before s c → Keeps ConnectRests (elim (connect_refusal peer to s) [
+    | Some refusal ↦ Done (s, Err refusal)
+    | None ↦ connect_with_page peer to s
+  ]) c
+  connects_with s c rests = connects_by (connect_refusal peer to s) s c refl rests
 
-  pub connect_keeps : (s : DriverState) (c : RingContents) → host < 2 ^ 32 → Rests first before s c → Keeps ConnectRests (connect_of host s) c
-  connect_keeps s c port rests = connect_by (connect_refusal host s) s c refl port rests
+  pub connect_keeps : (s : DriverState) (c : RingContents) → Rests hosts first before s c → Keeps ConnectRests (connect_to peer to s) c
+  connect_keeps s c rests = connect_by (connect_refusal peer to s) s c refl rests
 
 -- send.
-module _ (first id : ℕ) (bytes : List ℕ) (before : Fact) (after : Sent → Fact) (steps : CarriesSend first id bytes before after) where
+module _ (hosts : Bool) (first id : ℕ) (bytes : List ℕ) (before : Fact) (after : Sent → Fact) (steps : CarriesSend hosts first id bytes before after) where
   abbrev pub SendRests : DriverState × Sent → RingContents → Type 0
-  SendRests x c = Rests first (after x.1) x.0 c
+  SendRests x c = Rests hosts first (after x.1) x.0 c
 
   paged_by : (b : Bool) (e : DriverEntry) (n : ℕ) (s : DriverState) (c : RingContents) → let payload = take n bytes in
-      entry_known_as id s ≡ Some e → (IsFitState s → Stands s e) → CanSend e.value.end (length payload) → length payload ≤ PAYLOAD_MAX
-      → Rests first before s c
+      entry_known_as id s ≡ Some e → (IsFitState hosts s → Stands s e) → CanSend e.value.end (length payload) → length payload ≤ PAYLOAD_MAX
+      → Rests hosts first before s c
       → Keeps SendRests (cond b (bind (post_packet (payload_bytes e payload s) s)
       (λ t. Done (connections.with_end (with_payload_sent e.value.end (length payload)) e t, sent.Took (length payload))))
       (Done (s, sent.NoDescriptor s.in_flight))) c
@@ -172,46 +176,46 @@ module _ (first id : ℕ) (bytes : List ℕ) (before : Fact) (after : Sent → F
       let then : DriverState → DriverState = λ t. connections.with_end (with_payload_sent e.value.end (length payload)) e t in
       keeps_bind SendRests (post_packet (payload_bytes e payload s) s)
       (λ t. Done (connections.with_end (with_payload_sent e.value.end (length payload)) e t, sent.Took (length payload))) c
-      (keeps_weaker (λ u d. (u ≡ one_more_in_flight s) × Rests first now (then s) d) (λ u d. Rests first now (then u) d)
-      (λ u d kept. subst (λ (x : DriverState). Rests first now (then x) d) (sym kept.0) kept.1) (post_packet (payload_bytes e payload s) s) c
-      (post_tx first before now (payload_on Driver s.cid e.flow e.value.end payload) s (then s) (payload_bytes e payload s) c
+      (keeps_weaker (λ u d. (u ≡ one_more_in_flight s) × Rests hosts first now (then s) d) (λ u d. Rests hosts first now (then u) d)
+      (λ u d kept. subst (λ (x : DriverState). Rests hosts first now (then x) d) (sym kept.0) kept.1) (post_packet (payload_bytes e payload s) s) c
+      (post_tx hosts first before now (payload_on Driver s.cid e.flow e.value.end payload) s (then s) (payload_bytes e payload s) c
       (λ l rest. record {
         puts = send_puts e payload s rest.0 (stands rest.0) can few;
         carries = λ log m was fair held. steps.sends e n s log rest.0 (stands rest.0) known can few m was fair held;
       }) rests))
   paged_by false e n s c known stands can few rests =
-      goes_over first before (after (sent.NoDescriptor s.in_flight)) s c (λ log held. steps.full s.in_flight s log held) rests
+      goes_over hosts first before (after (sent.NoDescriptor s.in_flight)) s c (λ log held. steps.full s.in_flight s log held) rests
 
   -- No credit is there.
-  wanting : (e : DriverEntry) (s : DriverState) (c : RingContents) → (IsFitState s → Stands s e) → Rests first before s c
-      → Rests first (after (no_credit e.value.end)) (connections.with_end (wanting_credit e.value.end) e s) c
+  wanting : (e : DriverEntry) (s : DriverState) (c : RingContents) → (IsFitState hosts s → Stands s e) → Rests hosts first before s c
+      → Rests hosts first (after (no_credit e.value.end)) (connections.with_end (wanting_credit e.value.end) e s) c
   wanting e s c stands rests =
       let t : DriverState = connections.with_end (wanting_credit e.value.end) e s in
-      changed_rests first before (after (no_credit e.value.end)) s t c (λ fits. wanting_changes s e fits (stands fits))
+      changed_rests hosts first before (after (no_credit e.value.end)) s t c (λ fits. wanting_changes s e fits (stands fits))
       (λ log fits m held. steps.wants e s log fits (stands fits) m held) rests
 
   -- The connection may not send.
-  stops : (why : Stop) (s : DriverState) (c : RingContents) → Rests first before s c → Rests first (after (send_stopped why)) s c
-  stops why s c rests = goes_over first before (after (send_stopped why)) s c (λ log held. steps.stopped why s log held) rests
+  stops : (why : Stop) (s : DriverState) (c : RingContents) → Rests hosts first before s c → Rests hosts first (after (send_stopped why)) s c
+  stops why s c rests = goes_over hosts first before (after (send_stopped why)) s c (λ log held. steps.stopped why s log held) rests
 
-  knows_none : (s : DriverState) (c : RingContents) → entry_known_as id s ≡ None → Rests first before s c → Rests first (after (not_sent id s)) s c
-  knows_none s c none rests = goes_over first before (after (not_sent id s)) s c (λ log held. steps.unknown s log none held) rests
+  knows_none : (s : DriverState) (c : RingContents) → entry_known_as id s ≡ None → Rests hosts first before s c → Rests hosts first (after (not_sent id s)) s c
+  knows_none s c none rests = goes_over hosts first before (after (not_sent id s)) s c (λ log held. steps.unknown s log none held) rests
 
   -- Of the whole call, which gets pages back first, and on the pages as they stand.
   module _ (page : DriverEntry → List ℕ → DriverState → DriverTree (DriverState × Sent))
-      (paged : (e : DriverEntry) (credit : ℕ) (s : DriverState) (c : RingContents) → entry_known_as id s ≡ Some e → (IsFitState s → Stands s e)
-      → may_send_of e.value.end ≡ Ok credit → Rests first before s c → Keeps SendRests (page e (payload_of credit bytes) s) c) where
+      (paged : (e : DriverEntry) (credit : ℕ) (s : DriverState) (c : RingContents) → entry_known_as id s ≡ Some e → (IsFitState hosts s → Stands s e)
+      → may_send_of e.value.end ≡ Ok credit → Rests hosts first before s c → Keeps SendRests (page e (payload_of credit bytes) s) c) where
     credit_by : (a b : Bool) (e : DriverEntry) (credit : ℕ) (s : DriverState) (c : RingContents) → entry_known_as id s ≡ Some e
-        → (IsFitState s → Stands s e) → may_send_of e.value.end ≡ Ok credit → Rests first before s c
+        → (IsFitState hosts s → Stands s e) → may_send_of e.value.end ≡ Ok credit → Rests hosts first before s c
         → Keeps SendRests (cond a (Done (s, sent.Took 0)) (cond b (Done (connections.with_end (wanting_credit e.value.end) e s, no_credit e.value.end))
         (page e (payload_of credit bytes) s))) c
     credit_by true b e credit s c known stands is rests =
-        goes_over first before (after (sent.Took 0)) s c (λ log held. steps.empty s log held) rests
+        goes_over hosts first before (after (sent.Took 0)) s c (λ log held. steps.empty s log held) rests
     credit_by false true e credit s c known stands is rests = wanting e s c stands rests
     credit_by false false e credit s c known stands is rests = paged e credit s c known stands is rests
 
     stop_by : (r : Result ℕ Stop) (e : DriverEntry) (s : DriverState) (c : RingContents) → entry_known_as id s ≡ Some e
-        → (IsFitState s → Stands s e) → may_send_of e.value.end ≡ r → Rests first before s c
+        → (IsFitState hosts s → Stands s e) → may_send_of e.value.end ≡ r → Rests hosts first before s c
         → Keeps SendRests (elim r [
           | Err why ↦ Done (s, send_stopped why)
           | Ok credit ↦ cond (length bytes == 0) (Done (s, sent.Took 0))
@@ -221,7 +225,7 @@ module _ (first id : ℕ) (bytes : List ℕ) (before : Fact) (after : Sent → F
     stop_by (Err why) e s c known stands is rests = stops why s c rests
     stop_by (Ok credit) e s c known stands is rests = credit_by (length bytes == 0) (credit == 0) e credit s c known stands is rests
 
-    sent_by : (o : Option DriverEntry) (s : DriverState) (c : RingContents) → entry_known_as id s ≡ o → Rests first before s c
+    sent_by : (o : Option DriverEntry) (s : DriverState) (c : RingContents) → entry_known_as id s ≡ o → Rests hosts first before s c
         → Keeps SendRests (elim o [
           | None ↦ Done (s, not_sent id s)
           | Some e ↦ elim (may_send_of e.value.end) [
@@ -234,24 +238,24 @@ module _ (first id : ℕ) (bytes : List ℕ) (before : Fact) (after : Sent → F
     sent_by None s c is rests = knows_none s c is rests
     sent_by (Some e) s c is rests = stop_by (may_send_of e.value.end) e s c is (λ fits. stands_known id s e fits is) refl rests
 
-  reaped_first : (e : DriverEntry) (credit : ℕ) (s : DriverState) (c : RingContents) → entry_known_as id s ≡ Some e → (IsFitState s → Stands s e)
-      → may_send_of e.value.end ≡ Ok credit → Rests first before s c
+  reaped_first : (e : DriverEntry) (credit : ℕ) (s : DriverState) (c : RingContents) → entry_known_as id s ≡ Some e → (IsFitState hosts s → Stands s e)
+      → may_send_of e.value.end ≡ Ok credit → Rests hosts first before s c
       → Keeps SendRests (bind (reap_all s) (send_with_page e (payload_of credit bytes))) c
   reaped_first e credit s c known stands is rests =
       let payload : List ℕ = payload_of credit bytes in
       let can = can_send e credit bytes is in
       keeps_bind SendRests (reap_all s) (send_with_page e payload) c
-      (keeps_weaker (SameBut first before s) (λ t d. Keeps SendRests (send_with_page e payload t) d)
+      (keeps_weaker (SameBut hosts first before s) (λ t d. Keeps SendRests (send_with_page e payload t) d)
       (λ t d same. subst (λ (x : DriverState). Keeps SendRests (send_with_page e payload x) d) (sym same.0)
       (let r : DriverState = record s { in_flight = t.in_flight } in
       paged_by (has_page r) e (min credit PAYLOAD_MAX) r d known
       (λ fits. let st = stands fits in record { under = st.under; contains = st.contains }) can.0 can.1 same.1))
-      (reap_all s) c (reap_keeps first before s c rests))
+      (reap_all s) c (reap_keeps hosts first before s c rests))
 
-  pub send_keeps : (s : DriverState) (c : RingContents) → Rests first before s c → Keeps SendRests (send_of id bytes s) c
+  pub send_keeps : (s : DriverState) (c : RingContents) → Rests hosts first before s c → Keeps SendRests (send_of id bytes s) c
   send_keeps s c rests = sent_by (λ e payload t. bind (reap_all t) (send_with_page e payload)) reaped_first (entry_known_as id s) s c refl rests
 
-  pub sends_with : (s : DriverState) (c : RingContents) → Rests first before s c → Keeps SendRests (sends id bytes s) c
+  pub sends_with : (s : DriverState) (c : RingContents) → Rests hosts first before s c → Keeps SendRests (sends id bytes s) c
   sends_with s c rests = sent_by send_with_page
       (λ e credit t d known stands is kept. let can = can_send e credit bytes is in
       paged_by (has_page t) e (min credit PAYLOAD_MAX) t d known stands can.0 can.1 kept) (entry_known_as id s) s c refl rests
@@ -315,7 +319,7 @@ module _ (size port id : ℕ) (port_fits : port ≤ LAST_PORT) where
     slots_left = omega arith;
   }
 
-  pub made_fits : (cid : ℕ) → cid < 2 ^ 64 → IsFitState (record made { cid = cid })
+  pub made_fits : (cid : ℕ) → cid < 2 ^ 64 → IsFitState true (record made { cid = cid })
   made_fits cid less = record {
     cid_fits = less;
     port_left = omega (arith, port_fits);
@@ -329,11 +333,11 @@ module _ (size port id : ℕ) (port_fits : port ≤ LAST_PORT) where
     clean_sound = none_clean made.next_port made.table;
   }
 
-  loaded : (cid : ℕ) (l : EndLog) → cid < 2 ^ 64 → Fresh l → IsAtRest cid (record made { cid = cid }) (log_loaded cid l)
+  loaded : (cid : ℕ) (l : EndLog) → cid < 2 ^ 64 → Fresh l → IsAtRest true cid (record made { cid = cid }) (log_loaded cid l)
   loaded cid l less fresh =
-      let P : Log → Type 0 = λ entries. IsLeft cid 0 (ends_of_state (record made { cid = cid })) [] (entries_marked cid entries) in
+      let P : Log → Type 0 = λ entries. IsLeft true cid 0 (ends_of_state (record made { cid = cid })) [] (entries_marked cid entries) in
       let left : P [] = record {
-        none_refused = refl;
+        none_refused = λ all. refl;
         matches = start_matches Driver cid port;
         fair = λ f. tt;
         marks = tt;
@@ -342,24 +346,24 @@ module _ (size port id : ℕ) (port_fits : port ≤ LAST_PORT) where
 
   -- What holds of the slots and a log in which nothing passed.
   module _ (fact : Fact) (starts : (cid : ℕ) → Holds fact (record made { cid = cid }) []) where
-    loaded_with : (cid : ℕ) (l : EndLog) → cid < 2 ^ 64 → Fresh l → RestsWith cid fact (record made { cid = cid }) (log_loaded cid l)
+    loaded_with : (cid : ℕ) (l : EndLog) → cid < 2 ^ 64 → Fresh l → RestsWith true cid fact (record made { cid = cid }) (log_loaded cid l)
     loaded_with cid l less fresh =
         let P : Log → Type 0 = λ entries. Holds fact (record made { cid = cid }) (entries_marked cid entries) in
         (loaded cid l less fresh, subst P (sym fresh.0) (starts cid))
 
-    load_made : (s : DriverState) (c : RingContents) → IsMade s c → Keeps (λ t d. Rests t.cid fact t d) (load_cid s) c
+    load_made : (s : DriverState) (c : RingContents) → IsMade s c → Keeps (λ t d. Rests true t.cid fact t d) (load_cid s) c
     load_made s c is = (
       tt,
       λ cid d call.
           let same : record s { cid = cid } ≡ (let t : DriverState = record made { cid = cid; staged = s.staged } in t) = ap (λ (x : DriverState). let t : DriverState = record x { cid = cid } in t) is.0 in
-          let rests : Rests cid fact (record made { cid = cid; staged = s.staged }) d =
-          moves _ _ _ _ _ (log_loaded cid) c d call.1 Fresh (RestsWith cid fact (record made { cid = cid })) (λ l fresh fair. loaded_with cid l call.0 fresh) is.1 in
-          subst (λ (t : DriverState). Rests cid fact t d) (sym same) rests,
+          let rests : Rests true cid fact (record made { cid = cid; staged = s.staged }) d =
+          moves _ _ _ _ _ (log_loaded cid) c d call.1 Fresh (RestsWith true cid fact (record made { cid = cid })) (λ l fresh fair. loaded_with cid l call.0 fresh) is.1 in
+          subst (λ (t : DriverState). Rests true cid fact t d) (sym same) rests,
     )
 
-    pub new_keeps : (c : RingContents) → Tells Fresh c → Keeps (λ t d. Rests t.cid fact t d) (new_of size port id) c
+    pub new_keeps : (c : RingContents) → Tells Fresh c → Keeps (λ t d. Rests true t.cid fact t d) (new_of size port id) c
     new_keeps c fresh =
-        let Q : DriverState → RingContents → Type 0 = λ t d. Rests t.cid fact t d in
+        let Q : DriverState → RingContents → Type 0 = λ t d. Rests true t.cid fact t d in
         keeps_bind Q (post_all Rx made) post_events c
         (keeps_weaker IsMade (λ t d. Keeps Q (post_events t) d)
         (λ t d is. keeps_bind Q (post_all Event t) load_cid d
@@ -367,47 +371,66 @@ module _ (size port id : ℕ) (port_fits : port ≤ LAST_PORT) where
         (post_all Rx made) c (post_all_made Rx not_tx_rx made c (refl, fresh)))
 
 -- What each call may do, and what holds after it.
-module _ (first : ℕ) where
-  connect_kept : (host : ℕ) (s : DriverState) (c : RingContents) → host < 2 ^ 32 → IsHonestWith first s c
-      → Keeps (λ x d. Rests first nothing x.0 d) (connect_of host s) c
-  connect_kept host s c port honest =
-      connect_keeps first host nothing (λ answer. nothing) (connect_nothing first host) s c port (rests_of first s c honest)
-
-  send_kept : (id : ℕ) (bytes : List ℕ) (s : DriverState) (c : RingContents) → IsHonestWith first s c
-      → Keeps (λ x d. Rests first nothing x.0 d) (send_of id bytes s) c
+module _ (hosts : Bool) (first : ℕ) where
+  send_kept : (id : ℕ) (bytes : List ℕ) (s : DriverState) (c : RingContents) → IsHonestWith hosts first s c
+      → Keeps (λ x d. Rests hosts first nothing x.0 d) (send_of id bytes s) c
   send_kept id bytes s c honest =
-      send_keeps first id bytes nothing (λ answer. nothing) (send_nothing first id bytes) s c (rests_of first s c honest)
+      send_keeps hosts first id bytes nothing (λ answer. nothing) (send_nothing hosts first id bytes) s c (rests_of hosts first s c honest)
 
-  poll_kept : (s : DriverState) (c : RingContents) → IsHonestWith first s c → Keeps (λ x d. Rests first nothing x.0 d) (poll_of s) c
-  poll_kept s c honest = poll_keeps first nothing (carries_nothing first) s c (rests_of first s c honest)
+  poll_kept : (s : DriverState) (c : RingContents) → IsHonestWith hosts first s c → Keeps (λ x d. Rests hosts first nothing x.0 d) (poll_of s) c
+  poll_kept s c honest = poll_keeps hosts first nothing (carries_nothing hosts first) s c (rests_of hosts first s c honest)
 
-  pub connect_may : (host : ℕ) (s : DriverState) (c : RingContents) → host < 2 ^ 32 → IsHonestWith first s c → MayPublishAll (connect_of host s) c
-  connect_may host s c port honest = keeps_may _ (connect_of host s) c (connect_kept host s c port honest)
-
-  pub connect_honest : (host : ℕ) (s : DriverState) (c d : RingContents) (x : DriverState × Result ℕ ConnectError) → host < 2 ^ 32
-      → IsHonestWith first s c → Plays (connect_of host s) c x d → IsHonestWith first x.0 d
-  connect_honest host s c d x port honest plays =
-      honest_of first nothing x.0 d (keeps_end _ (connect_of host s) c d x (connect_kept host s c port honest) plays)
-
-  pub send_may : (id : ℕ) (bytes : List ℕ) (s : DriverState) (c : RingContents) → IsHonestWith first s c → MayPublishAll (send_of id bytes s) c
+  pub send_may : (id : ℕ) (bytes : List ℕ) (s : DriverState) (c : RingContents) → IsHonestWith hosts first s c → MayPublishAll (send_of id bytes s) c
   send_may id bytes s c honest = keeps_may _ (send_of id bytes s) c (send_kept id bytes s c honest)
 
-  pub send_honest : (id : ℕ) (bytes : List ℕ) (s : DriverState) (c d : RingContents) (x : DriverState × Sent) → IsHonestWith first s c
-      → Plays (send_of id bytes s) c x d → IsHonestWith first x.0 d
+  pub send_honest : (id : ℕ) (bytes : List ℕ) (s : DriverState) (c d : RingContents) (x : DriverState × Sent) → IsHonestWith hosts first s c
+      → Plays (send_of id bytes s) c x d → IsHonestWith hosts first x.0 d
   send_honest id bytes s c d x honest plays =
-      honest_of first nothing x.0 d (keeps_end _ (send_of id bytes s) c d x (send_kept id bytes s c honest) plays)
+      honest_of hosts first nothing x.0 d (keeps_end _ (send_of id bytes s) c d x (send_kept id bytes s c honest) plays)
 
-  pub poll_may : (s : DriverState) (c : RingContents) → IsHonestWith first s c → MayPublishAll (poll_of s) c
+  pub poll_may : (s : DriverState) (c : RingContents) → IsHonestWith hosts first s c → MayPublishAll (poll_of s) c
   poll_may s c honest = keeps_may _ (poll_of s) c (poll_kept s c honest)
 
-  pub poll_honest : (s : DriverState) (c d : RingContents) (x : DriverState × Polled) → IsHonestWith first s c → Plays (poll_of s) c x d
-      → IsHonestWith first x.0 d
-  poll_honest s c d x honest plays = honest_of first nothing x.0 d (keeps_end _ (poll_of s) c d x (poll_kept s c honest) plays)
+  pub poll_honest : (s : DriverState) (c d : RingContents) (x : DriverState × Polled) → IsHonestWith hosts first s c → Plays (poll_of s) c x d
+      → IsHonestWith hosts first x.0 d
+  poll_honest s c d x honest plays = honest_of hosts first nothing x.0 d (keeps_end _ (poll_of s) c d x (poll_kept s c honest) plays)
 
 pub new_may : (size port id : ℕ) (c : RingContents) → port ≤ LAST_PORT → IsFresh c → MayPublishAll (new_of size port id) c
 new_may size port id c fits fresh = keeps_may _ (new_of size port id) c (new_keeps size port id fits nothing (λ cid. tt) c fresh)
 
 pub new_honest : (size port id : ℕ) (c d : RingContents) (s : DriverState) → port ≤ LAST_PORT → IsFresh c → Plays (new_of size port id) c s d
-    → IsHonestWith s.cid s d
+    → IsHonestWith true s.cid s d
 new_honest size port id c d s fits fresh plays =
-    honest_of s.cid nothing s d (keeps_end _ (new_of size port id) c d s (new_keeps size port id fits nothing (λ cid. tt) c fresh) plays)
+    honest_of true s.cid nothing s d (keeps_end _ (new_of size port id) c d s (new_keeps size port id fits nothing (λ cid. tt) c fresh) plays)
+
+-- A connect to the host keeps what is said of the peers. One to another guest, and not to the host, leaves less.
+pub honest_weaker : (hosts fewer : Bool) → (fewer ≡ true → hosts ≡ true) → (first : ℕ) (s : DriverState) (c : RingContents) → IsHonestWith hosts first s c
+    → IsHonestWith fewer first s c
+honest_weaker hosts fewer then first s c honest = tells_weaker (AgreesWith hosts first s) (AgreesWith fewer first s) (λ l a. record {
+  fits = fits_weaker hosts fewer then s a.fits;
+  published = a.published;
+  none_refused = λ is. a.none_refused (then is);
+  matches = a.matches;
+  fair = a.fair;
+  marks = a.marks;
+}) c honest
+
+pub both_hosts : (peer : ℕ) (hosts : Bool) → ((peer == HOST_CID) && hosts) ≡ true → (peer ≡ HOST_CID) × (hosts ≡ true)
+both_hosts peer hosts is = (grind (arith, nat_tests, common_steps, is), grind (arith, nat_tests, common_steps, is))
+
+module _ (hosts : Bool) (first peer to : ℕ) (s : DriverState) (c : RingContents) (peer_fits : peer < 2 ^ 64) (to_fits : to < 2 ^ 32)
+    (honest : IsHonestWith hosts first s c) where
+  abbrev with_peer : Bool
+  with_peer = (peer == HOST_CID) && hosts
+
+  connect_kept : Keeps (λ x d. Rests with_peer first nothing x.0 d) (connect_to peer to s) c
+  connect_kept =
+      connect_keeps with_peer first peer to nothing (λ answer. nothing) (connect_nothing with_peer first peer to) peer_fits to_fits (λ is. (both_hosts peer hosts is).0) s c
+      (rests_of with_peer first s c (honest_weaker hosts with_peer (λ is. (both_hosts peer hosts is).1) first s c honest))
+
+  pub connect_may : MayPublishAll (connect_to peer to s) c
+  connect_may = keeps_may _ (connect_to peer to s) c connect_kept
+
+  pub connect_honest : (d : RingContents) (x : DriverState × Result ℕ ConnectError) → Plays (connect_to peer to s) c x d
+      → IsHonestWith ((peer == HOST_CID) && hosts) first x.0 d
+  connect_honest d x plays = honest_of with_peer first nothing x.0 d (keeps_end _ (connect_to peer to s) c d x connect_kept plays)

@@ -1,6 +1,6 @@
 -- What a walk over the driver's conversations carries besides: a fact of the driver, apart from pages of its own in flight, and of its log,
 -- with the packets that are staged.
-use Rattle.std.proofs.Common.{◌≡◌, ℕ, ◌<◌, ◌^◌, List, ◌∷◌, Option, Some, None, refl, sym, subst}
+use Rattle.std.proofs.Common.{◌≡◌, ℕ, ◌<◌, ◌^◌, List, ◌∷◌, Option, Some, None, refl, sym, subst, Bool}
 use Rattle.vs_conn.specs.{End.owes_of, declared.end.Owed.Owed}
 use Rattle.laws_history.specs.declared.packet.Packet.{Packet}
 use Rattle.vs_page.specs.{declared.log.LogEntry.TheVariants.{GotEvent, GotPacket, Mark, PutPacket}, Fair.IsFairLog, Held.IsWhole, Log.{Driver, Log}}
@@ -21,69 +21,69 @@ abbrev pub nothing : Fact
 nothing part s log = Unit {0}
 
 -- It holds of the driver and its log, where no packet is staged, and where some may be.
-abbrev pub RestsWith : ℕ → Fact → DriverState → EndLog → Type 0
-RestsWith first fact s l = IsAtRest first s l × Holds fact s l.entries
+abbrev pub RestsWith : Bool → ℕ → Fact → DriverState → EndLog → Type 0
+RestsWith hosts first fact s l = IsAtRest hosts first s l × Holds fact s l.entries
 
-abbrev pub IsTiedBy : ℕ → Fact → DriverState → EndLog → Type 0
-IsTiedBy first fact s l = IsTied first s l × Holds fact s (all_put l.staged.tx l.entries)
+abbrev pub IsTiedBy : Bool → ℕ → Fact → DriverState → EndLog → Type 0
+IsTiedBy hosts first fact s l = IsTied hosts first s l × Holds fact s (all_put l.staged.tx l.entries)
 
 -- A step that puts a packet carries one fact to another.
-pub record PutsWith (first : ℕ) (before after : Fact) (p : Packet) (s : DriverState) (page : List ℕ) (t : DriverState) : Type 0 where
-  pub puts : Puts p s page t
+pub record PutsWith (hosts : Bool) (first : ℕ) (before after : Fact) (p : Packet) (s : DriverState) (page : List ℕ) (t : DriverState) : Type 0 where
+  pub puts : Puts hosts p s page t
   pub carries : (log : Log) → Matches Driver first (ends_of_state s) log → IsFairLog Driver log → IsFairLog Driver (PutPacket p ∷ log)
       → Holds before s log → Holds after t (PutPacket p ∷ log)
 
-module _ (first : ℕ) (fact : Fact) where
-  pub rest_tied : (s : DriverState) (l : EndLog) → RestsWith first fact s l → IsTiedBy first fact s l
+module _ (hosts : Bool) (first : ℕ) (fact : Fact) where
+  pub rest_tied : (s : DriverState) (l : EndLog) → RestsWith hosts first fact s l → IsTiedBy hosts first fact s l
   rest_tied s l rest =
       let P : List (List ℕ) → Type 0 = λ pages. Holds fact s (all_put pages l.entries) in
-      (tied first s l rest.0, subst P (sym rest.0.2) rest.1)
+      (tied hosts first s l rest.0, subst P (sym rest.0.2) rest.1)
 
-  pub published_rest : (s : DriverState) (l : EndLog) → IsTiedBy first fact s l → RestsWith first fact s (log_published Tx l)
-  published_rest s l tie = (publishes first s l tie.0, tie.1)
+  pub published_rest : (s : DriverState) (l : EndLog) → IsTiedBy hosts first fact s l → RestsWith hosts first fact s (log_published Tx l)
+  published_rest s l tie = (publishes hosts first s l tie.0, tie.1)
 
-  pub published_other : (queue : Queue) → (queue ≡ Tx → ⊥) → (s : DriverState) (l : EndLog) → RestsWith first fact s l
-      → RestsWith first fact s (log_published queue l)
+  pub published_other : (queue : Queue) → (queue ≡ Tx → ⊥) → (s : DriverState) (l : EndLog) → RestsWith hosts first fact s l
+      → RestsWith hosts first fact s (log_published queue l)
   published_other Tx other s l rest = absurd (other refl)
   published_other x other s l rest = rest
 
-  pub staged_other : (queue : Queue) (page : List ℕ) → (queue ≡ Tx → ⊥) → (s : DriverState) (l : EndLog) → RestsWith first fact s l
-      → RestsWith first fact s (log_staged queue page l)
+  pub staged_other : (queue : Queue) (page : List ℕ) → (queue ≡ Tx → ⊥) → (s : DriverState) (l : EndLog) → RestsWith hosts first fact s l
+      → RestsWith hosts first fact s (log_staged queue page l)
   staged_other Tx page other s l rest = absurd (other refl)
   staged_other x page other s l rest = rest
 
-  pub reaped_same : (s : DriverState) (page : Option (List ℕ)) (l : EndLog) → RestsWith first fact s l
-      → RestsWith first fact s (log_reaped Tx page l)
+  pub reaped_same : (s : DriverState) (page : Option (List ℕ)) (l : EndLog) → RestsWith hosts first fact s l
+      → RestsWith hosts first fact s (log_reaped Tx page l)
   reaped_same s None l rest = rest
   reaped_same s (Some page) l rest = rest
 
 -- A packet is staged.
-pub staged_with : (first : ℕ) (before after : Fact) (p : Packet) (s t : DriverState) (page : List ℕ) (l : EndLog)
-    → PutsWith first before after p s page t → IsTiedBy first before s l → IsTiedBy first after t (log_staged Tx page l)
-staged_with first before after p s t page l step tie =
-    let now = stages first p s t page l step.puts tie.0 in
+pub staged_with : (hosts : Bool) (first : ℕ) (before after : Fact) (p : Packet) (s t : DriverState) (page : List ℕ) (l : EndLog)
+    → PutsWith hosts first before after p s page t → IsTiedBy hosts first before s l → IsTiedBy hosts first after t (log_staged Tx page l)
+staged_with hosts first before after p s t page l step tie =
+    let now = stages hosts first p s t page l step.puts tie.0 in
     let last = put_last l.staged.tx page p l.entries step.puts.held in
     let fair = subst (λ (log : Log). IsFairLog Driver log) last now.1.fair in
     let held = step.carries (all_put l.staged.tx l.entries) tie.0.1.matches tie.0.1.fair fair tie.1 in
     (now, subst (λ (log : Log). Holds after t log) (sym last) held)
 
 -- A poll's steps carry it: what a connection owes is put, and the oldest reply; a packet and an event are got; a transport reset is taken.
-pub record Carries (first : ℕ) (fact : Fact) : Type 0 where
+pub record Carries (hosts : Bool) (first : ℕ) (fact : Fact) : Type 0 where
   pub owed : (what : Owed) (e : DriverEntry) (s : DriverState) (log : Log) → let p = owed_on Driver s.cid e.flow e.value.end what in
-      IsFitState s → Stands s e → owes_of e.value.end ≡ Some what → Matches Driver first (ends_of_state s) log
+      IsFitState hosts s → Stands s e → owes_of e.value.end ≡ Some what → Matches Driver first (ends_of_state s) log
       → IsFairLog Driver log → IsFairLog Driver (PutPacket p ∷ log) → Holds fact s log → Holds fact (after_paying what e s) (PutPacket p ∷ log)
   pub reply : (r : Reply) (rest : List Reply) (s : DriverState) (log : Log) → let p = reply_on Driver s.cid r in
-      IsFitState s → s.replies ≡ r ∷ rest → Matches Driver first (ends_of_state s) log → IsFairLog Driver (PutPacket p ∷ log) → Holds fact s log
+      IsFitState hosts s → s.replies ≡ r ∷ rest → Matches Driver first (ends_of_state s) log → IsFairLog Driver (PutPacket p ∷ log) → Holds fact s log
       → Holds fact (record s { replies = rest }) (PutPacket p ∷ log)
-  pub got : (p : Packet) (s : DriverState) (log : Log) → IsFitState s → FitsPorts p.header → IsWhole p
+  pub got : (p : Packet) (s : DriverState) (log : Log) → IsFitState hosts s → FitsPorts p.header → IsWhole p
       → Matches Driver first (ends_of_state s) log → IsFairLog Driver log → IsFairLog Driver (GotPacket p ∷ log) → Holds fact s log
       → Holds fact (on_packet p s) (GotPacket p ∷ log)
   pub event : (id : ℕ) (s : DriverState) (log : Log) → Holds fact s log → Holds fact s (GotEvent id ∷ log)
-  pub reset : (cid : ℕ) (s : DriverState) (log : Log) → cid < 2 ^ 64 → IsFitState s → Holds fact s log
+  pub reset : (cid : ℕ) (s : DriverState) (log : Log) → cid < 2 ^ 64 → IsFitState hosts s → Holds fact s log
       → Holds fact (after_reset cid s) (Mark cid ∷ log)
 
-pub carries_nothing : (first : ℕ) → Carries first nothing
-carries_nothing first = record {
+pub carries_nothing : (hosts : Bool) (first : ℕ) → Carries hosts first nothing
+carries_nothing hosts first = record {
   owed = λ what e s log fits stands owes m was fair held. tt;
   reply = λ r rest s log fits is m fair held. tt;
   got = λ p s log fits ports whole m was fair held. tt;

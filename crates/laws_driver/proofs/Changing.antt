@@ -19,110 +19,112 @@ use Rattle.vs_driver_parts.specs.Connections as connections
 use Rattle.vs_driver_parts.specs.declared.answers.Grown.TheVariants as rise
 
 -- What a step does that puts and gets nothing.
-pub record Changes (s t : DriverState) : Type 0 where
+pub record Changes (hosts : Bool) (s t : DriverState) : Type 0 where
   pub matches : (first : ℕ) (log : Log) → Matches Driver first (ends_of_state s) log → Matches Driver first (ends_of_state t) log
-  pub fits : IsFitState t
+  pub fits : IsFitState hosts t
   pub broken : t.broken ≡ s.broken
   pub goes : (first : ℕ) (log : Log) → Matches Driver first (ends_of_state s) log → Goes (seat s log) (seat t log)
 
-pub same : (s : DriverState) → IsFitState s → Changes s s
-same s fits = record { matches = λ first log m. m; fits = fits; broken = refl; goes = λ first log m. stays (seat s log) (seat s log) refl }
+module _ {hosts : Bool} where
+  pub same : (s : DriverState) → IsFitState hosts s → Changes hosts s s
+  same s fits = record { matches = λ first log m. m; fits = fits; broken = refl; goes = λ first log m. stays (seat s log) (seat s log) refl }
 
-pub stands_known : (id : ℕ) (s : DriverState) (e : DriverEntry) → IsFitState s → entry_known_as id s ≡ Some e → Stands s e
-stands_known id s e fits found =
-    let by = found_by (is_known_as id) s.table.entries e found in
-    record { under = found_under (is_known_as id) s.table e fits.sound found; contains = by.0 }
+  pub stands_known : (id : ℕ) (s : DriverState) (e : DriverEntry) → IsFitState hosts s → entry_known_as id s ≡ Some e → Stands s e
+  stands_known id s e fits found =
+      let by = found_by (is_known_as id) s.table.entries e found in
+      record { under = found_under (is_known_as id) s.table e fits.sound found; contains = by.0 }
 
 -- Whatever follows what the end before it followed.
 abbrev pub FollowsAs : ConnectionEnd → ConnectionEnd → Type 0
 FollowsAs old new = (side : Side) (h : History) → Follows side (puts h) (gots h) old → Follows side (puts h) (gots h) new
 
-connection_changes : (s : DriverState) (e : DriverEntry) (c : DriverConnection) (what : Decision) → IsFitState s → Stands s e → IsHeldBy c
-    → c.end.kind ≡ e.value.end.kind → FollowsAs e.value.end c.end → c.end ≡ decided e.value.end what → MayDecide e.value.end what
-    → Changes s (with_connection e.slot c s)
-connection_changes s e c what fits stands held kind follows is may = record {
-  matches = λ first log m.
-      let has = has_end s e fits stands in
-      let begun = driver_begun first (ends_of_state s) log e.flow e.value.end m.flows has in
-      subst (λ (x : Ends). Matches Driver first x log) (sym (connection_ends s e c fits stands))
-      (changes Driver first e.flow e.value.end c.end (ends_of_state s) log m has begun kind
-      (follows (side_of Driver e.flow) (heard_of Driver first e.flow log)));
-  fits = connection_fits s e.slot c fits held (kind ∙ (entry_fits s e fits stands).kind);
-  broken = refl;
-  goes = λ first log m.
-      let has = has_end s e fits stands in
-      one_step (seat s log) (seat (with_connection e.slot c s) log) (Decides e.flow e.value.end what)
-      (has, driver_begun first (ends_of_state s) log e.flow e.value.end m.flows has, may)
-      (at_log log _ _ (ap (λ (x : ConnectionEnd). with_end e.flow x (ends_of_state s)) (sym is) ∙ sym (connection_ends s e c fits stands)));
-}
+module _ {hosts : Bool} where
+  connection_changes : (s : DriverState) (e : DriverEntry) (c : DriverConnection) (what : Decision) → IsFitState hosts s → Stands s e → IsHeldBy c
+      → c.end.kind ≡ e.value.end.kind → FollowsAs e.value.end c.end → c.end ≡ decided e.value.end what → MayDecide e.value.end what
+      → Changes hosts s (with_connection e.slot c s)
+  connection_changes s e c what fits stands held kind follows is may = record {
+    matches = λ first log m.
+        let has = has_end s e fits stands in
+        let begun = driver_begun first (ends_of_state s) log e.flow e.value.end m.flows has in
+        subst (λ (x : Ends). Matches Driver first x log) (sym (connection_ends s e c fits stands))
+        (changes Driver first e.flow e.value.end c.end (ends_of_state s) log m has begun kind
+        (follows (side_of Driver e.flow) (heard_of Driver first e.flow log)));
+    fits = connection_fits s e.slot c fits held (kind ∙ (entry_fits s e fits stands).kind);
+    broken = refl;
+    goes = λ first log m.
+        let has = has_end s e fits stands in
+        one_step (seat s log) (seat (with_connection e.slot c s) log) (Decides e.flow e.value.end what)
+        (has, driver_begun first (ends_of_state s) log e.flow e.value.end m.flows has, may)
+        (at_log log _ _ (ap (λ (x : ConnectionEnd). with_end e.flow x (ends_of_state s)) (sym is) ∙ sym (connection_ends s e c fits stands)));
+  }
 
--- Credit is wanted.
-pub wanting_changes : (s : DriverState) (e : DriverEntry) → IsFitState s → Stands s e → Changes s (connections.with_end (wanting_credit e.value.end) e s)
-wanting_changes s e fits stands =
-    let held = (entry_fits s e fits stands).buffer in
-    connection_changes s e (record e.value { end = wanting_credit e.value.end }) WantsCredit fits stands (holds_same e.value.end.credit _ e.value.unread held refl refl refl) refl
-    (λ side h follows. ask_follows _ _ _ e.value.end follows) refl tt
+  -- Credit is wanted.
+  pub wanting_changes : (s : DriverState) (e : DriverEntry) → IsFitState hosts s → Stands s e → Changes hosts s (connections.with_end (wanting_credit e.value.end) e s)
+  wanting_changes s e fits stands =
+      let held = (entry_fits s e fits stands).buffer in
+      connection_changes s e (record e.value { end = wanting_credit e.value.end }) WantsCredit fits stands (holds_same e.value.end.credit _ e.value.unread held refl refl refl) refl
+      (λ side h follows. ask_follows _ _ _ e.value.end follows) refl tt
 
--- recv.
-read_changes : (n : ℕ) (s : DriverState) (e : DriverEntry) → IsFitState s → Stands s e → Changes s (with_connection e.slot (after_read n e.value) s)
-read_changes n s e fits stands =
-    let held = (entry_fits s e fits stands).buffer in
-    let k : ℕ = min n (length e.value.unread) in
-    let within : k ≤ length e.value.unread = omega arith in
-    let least : k ≤ unread_of e.value.end.credit = omega (arith, within, held.unread) in
-    connection_changes s e (after_read n e.value) (Forwards k) fits stands (read_fits n e.value held) refl
-    (λ side h follows. forward_follows _ _ _ e.value.end k follows least) refl least
+  -- recv.
+  read_changes : (n : ℕ) (s : DriverState) (e : DriverEntry) → IsFitState hosts s → Stands s e → Changes hosts s (with_connection e.slot (after_read n e.value) s)
+  read_changes n s e fits stands =
+      let held = (entry_fits s e fits stands).buffer in
+      let k : ℕ = min n (length e.value.unread) in
+      let within : k ≤ length e.value.unread = omega arith in
+      let least : k ≤ unread_of e.value.end.credit = omega (arith, within, held.unread) in
+      connection_changes s e (after_read n e.value) (Forwards k) fits stands (read_fits n e.value held) refl
+      (λ side h follows. forward_follows _ _ _ e.value.end k follows least) refl least
 
-entry_read_changes : (n : ℕ) (b : Bool) (s : DriverState) (e : DriverEntry) → IsFitState s → Stands s e
-    → Changes s (cond b s (with_connection e.slot (after_read n e.value) s))
-entry_read_changes n true s e fits stands = same s fits
-entry_read_changes n false s e fits stands = read_changes n s e fits stands
+  entry_read_changes : (n : ℕ) (b : Bool) (s : DriverState) (e : DriverEntry) → IsFitState hosts s → Stands s e
+      → Changes hosts s (cond b s (with_connection e.slot (after_read n e.value) s))
+  entry_read_changes n true s e fits stands = same s fits
+  entry_read_changes n false s e fits stands = read_changes n s e fits stands
 
-pub recv_changes : (id n : ℕ) (s : DriverState) → IsFitState s → Changes s (after_recv id n s)
-recv_changes id n s fits = by (entry_known_as id s) refl
-  where
-    by : (o : Option DriverEntry) → entry_known_as id s ≡ o
-        → Changes s (elim o [ Some e ↦ entry_read n e s | None ↦ record s { gone = all_gone_after_read id n s.gone } ])
-    by None none = record { matches = λ first log m. m; fits = fits; broken = refl; goes = λ first log m. stays _ _ refl }
-    by (Some e) found = entry_read_changes n (length e.value.unread == 0) s e fits (stands_known id s e fits found)
+  pub recv_changes : (id n : ℕ) (s : DriverState) → IsFitState hosts s → Changes hosts s (after_recv id n s)
+  recv_changes id n s fits = by (entry_known_as id s) refl
+    where
+      by : (o : Option DriverEntry) → entry_known_as id s ≡ o
+          → Changes hosts s (elim o [ Some e ↦ entry_read n e s | None ↦ record s { gone = all_gone_after_read id n s.gone } ])
+      by None none = record { matches = λ first log m. m; fits = fits; broken = refl; goes = λ first log m. stays _ _ refl }
+      by (Some e) found = entry_read_changes n (length e.value.unread == 0) s e fits (stands_known id s e fits found)
 
--- shutdown.
-shut_changes : (bits : ℕ) (s : DriverState) (e : DriverEntry) → IsFitState s → Stands s e → Changes s (with_connection e.slot (after_shut bits e.value) s)
-shut_changes bits s e fits stands =
-    let held = (entry_fits s e fits stands).buffer in
-    connection_changes s e (after_shut bits e.value) (Shuts bits) fits stands (shut_fits bits e.value held) refl
-    (λ side h follows. shut_follows _ _ _ e.value.end bits follows) refl tt
+  -- shutdown.
+  shut_changes : (bits : ℕ) (s : DriverState) (e : DriverEntry) → IsFitState hosts s → Stands s e → Changes hosts s (with_connection e.slot (after_shut bits e.value) s)
+  shut_changes bits s e fits stands =
+      let held = (entry_fits s e fits stands).buffer in
+      connection_changes s e (after_shut bits e.value) (Shuts bits) fits stands (shut_fits bits e.value held) refl
+      (λ side h follows. shut_follows _ _ _ e.value.end bits follows) refl tt
 
-shut_by : (st : State) (bits : ℕ) (s : DriverState) (e : DriverEntry) → IsFitState s → Stands s e → Changes s (shut_in st bits e s)
-shut_by state.Live bits s e fits stands = shut_changes bits s e fits stands
-shut_by _ bits s e fits stands = same s fits
+  shut_by : (st : State) (bits : ℕ) (s : DriverState) (e : DriverEntry) → IsFitState hosts s → Stands s e → Changes hosts s (shut_in st bits e s)
+  shut_by state.Live bits s e fits stands = shut_changes bits s e fits stands
+  shut_by _ bits s e fits stands = same s fits
 
-pub shutdown_changes : (id bits : ℕ) (s : DriverState) → IsFitState s → Changes s (after_shutdown id bits s)
-shutdown_changes id bits s fits = by (entry_known_as id s) refl
-  where
-    by : (o : Option DriverEntry) → entry_known_as id s ≡ o → Changes s (elim o [ Some e ↦ shut_in e.value.end.state bits e s | None ↦ s ])
-    by None none = same s fits
-    by (Some e) found = shut_by e.value.end.state bits s e fits (stands_known id s e fits found)
+  pub shutdown_changes : (id bits : ℕ) (s : DriverState) → IsFitState hosts s → Changes hosts s (after_shutdown id bits s)
+  shutdown_changes id bits s fits = by (entry_known_as id s) refl
+    where
+      by : (o : Option DriverEntry) → entry_known_as id s ≡ o → Changes hosts s (elim o [ Some e ↦ shut_in e.value.end.state bits e s | None ↦ s ])
+      by None none = same s fits
+      by (Some e) found = shut_by e.value.end.state bits s e fits (stands_known id s e fits found)
 
--- grow.
-raise_changes : (alloc : ℕ) (s : DriverState) (e : DriverEntry) → IsFitState s → Stands s e → MayGrow e.value.end alloc
-    → Changes s (connections.with_end (grown e.value.end alloc) e s)
-raise_changes alloc s e fits stands may =
-    let held = (entry_fits s e fits stands).buffer in
-    connection_changes s e (record e.value { end = grown e.value.end alloc }) (Grows alloc) fits stands (grow_fits alloc e.value held may.rises may.most) refl
-    (λ side h follows. grow_follows _ _ _ e.value.end alloc follows may.live may.rises may.most) refl (may.live, may.rises, may.most)
+  -- grow.
+  raise_changes : (alloc : ℕ) (s : DriverState) (e : DriverEntry) → IsFitState hosts s → Stands s e → MayGrow e.value.end alloc
+      → Changes hosts s (connections.with_end (grown e.value.end alloc) e s)
+  raise_changes alloc s e fits stands may =
+      let held = (entry_fits s e fits stands).buffer in
+      connection_changes s e (record e.value { end = grown e.value.end alloc }) (Grows alloc) fits stands (grow_fits alloc e.value held may.rises may.most) refl
+      (λ side h follows. grow_follows _ _ _ e.value.end alloc follows may.live may.rises may.most) refl (may.live, may.rises, may.most)
 
-grow_by : (a : Grown) (alloc : ℕ) (s : DriverState) (e : DriverEntry) → entry_grow_answer alloc e ≡ a → IsFitState s → Stands s e
-    → Changes s (grown_by a alloc e s)
-grow_by rise.Done alloc s e done fits stands = raise_changes alloc s e fits stands (may_grow e.value.end alloc done)
-grow_by _ alloc s e done fits stands = same s fits
+  grow_by : (a : Grown) (alloc : ℕ) (s : DriverState) (e : DriverEntry) → entry_grow_answer alloc e ≡ a → IsFitState hosts s → Stands s e
+      → Changes hosts s (grown_by a alloc e s)
+  grow_by rise.Done alloc s e done fits stands = raise_changes alloc s e fits stands (may_grow e.value.end alloc done)
+  grow_by _ alloc s e done fits stands = same s fits
 
-pub grow_changes : (id alloc : ℕ) (s : DriverState) → IsFitState s → Changes s (after_grow id alloc s)
-grow_changes id alloc s fits = by (entry_known_as id s) refl
-  where
-    by : (o : Option DriverEntry) → entry_known_as id s ≡ o → Changes s (elim o [ Some e ↦ grown_by (entry_grow_answer alloc e) alloc e s | None ↦ s ])
-    by None none = same s fits
-    by (Some e) found = grow_by (entry_grow_answer alloc e) alloc s e refl fits (stands_known id s e fits found)
+  pub grow_changes : (id alloc : ℕ) (s : DriverState) → IsFitState hosts s → Changes hosts s (after_grow id alloc s)
+  grow_changes id alloc s fits = by (entry_known_as id s) refl
+    where
+      by : (o : Option DriverEntry) → entry_known_as id s ≡ o → Changes hosts s (elim o [ Some e ↦ grown_by (entry_grow_answer alloc e) alloc e s | None ↦ s ])
+      by None none = same s fits
+      by (Some e) found = grow_by (entry_grow_answer alloc e) alloc s e refl fits (stands_known id s e fits found)
 
 -- close.
 closing_follows : (st : State) (c : DriverConnection) → FollowsAs c.end (after_closing st c).end
@@ -138,54 +140,55 @@ closing_is : (st : State) (c : DriverConnection)
 closing_is state.Live c = (refl, tt, refl)
 closing_is _ c = (refl, tt, refl)
 
-entry_closed_changes : (s : DriverState) (e : DriverEntry) → IsFitState s → Stands s e → Changes s (entry_closed e s)
-entry_closed_changes s e fits stands =
-    let held = (entry_fits s e fits stands).buffer in
-    let is = closing_is e.value.end.state e.value in
-    let c = connection_changes s e (after_closing e.value.end.state e.value) (closing e.value.end.state) fits stands (closing_fits e.value.end.state e.value held)
-    is.2 (closing_follows e.value.end.state e.value) is.0 is.1 in
-    record { matches = c.matches; fits = c.fits; broken = c.broken; goes = c.goes }
+module _ {hosts : Bool} where
+  entry_closed_changes : (s : DriverState) (e : DriverEntry) → IsFitState hosts s → Stands s e → Changes hosts s (entry_closed e s)
+  entry_closed_changes s e fits stands =
+      let held = (entry_fits s e fits stands).buffer in
+      let is = closing_is e.value.end.state e.value in
+      let c = connection_changes s e (after_closing e.value.end.state e.value) (closing e.value.end.state) fits stands (closing_fits e.value.end.state e.value held)
+      is.2 (closing_follows e.value.end.state e.value) is.0 is.1 in
+      record { matches = c.matches; fits = c.fits; broken = c.broken; goes = c.goes }
 
-gone_closed_by : (o : Option GoneConnection) (id : ℕ) (s : DriverState) → IsFitState s → Changes s (elim o [
-  | None ↦ s
-  | Some g ↦ record s { gone = without_gone id s.gone; listeners = with_waiting g.flow.guest (without_id id) s.listeners }
-])
-gone_closed_by None id s fits = same s fits
-gone_closed_by (Some g) id s fits = record { matches = λ first log m. m; fits = fits; broken = refl; goes = λ first log m. stays _ _ refl }
+  gone_closed_by : (o : Option GoneConnection) (id : ℕ) (s : DriverState) → IsFitState hosts s → Changes hosts s (elim o [
+    | None ↦ s
+    | Some g ↦ record s { gone = without_gone id s.gone; listeners = with_waiting g.flow.guest (without_id id) s.listeners }
+  ])
+  gone_closed_by None id s fits = same s fits
+  gone_closed_by (Some g) id s fits = record { matches = λ first log m. m; fits = fits; broken = refl; goes = λ first log m. stays _ _ refl }
 
-pub close_changes : (id : ℕ) (s : DriverState) → IsFitState s → Changes s (after_close id s)
-close_changes id s fits = by (entry_known_as id s) refl
-  where
-    by : (o : Option DriverEntry) → entry_known_as id s ≡ o → Changes s (elim o [ Some e ↦ entry_closed e s | None ↦ gone_closed id s ])
-    by None none = gone_closed_by (gone_known_as id s) id s fits
-    by (Some e) found = entry_closed_changes s e fits (stands_known id s e fits found)
+  pub close_changes : (id : ℕ) (s : DriverState) → IsFitState hosts s → Changes hosts s (after_close id s)
+  close_changes id s fits = by (entry_known_as id s) refl
+    where
+      by : (o : Option DriverEntry) → entry_known_as id s ≡ o → Changes hosts s (elim o [ Some e ↦ entry_closed e s | None ↦ gone_closed id s ])
+      by None none = gone_closed_by (gone_known_as id s) id s fits
+      by (Some e) found = entry_closed_changes s e fits (stands_known id s e fits found)
 
--- unlisten.
-all_closed_changes : (ids : List ℕ) (s : DriverState) → IsFitState s → Changes s (all_closed ids s)
-all_closed_changes [] s fits = same s fits
-all_closed_changes (id ∷ ids) s fits =
-    let one = close_changes id s fits in
-    let rest = all_closed_changes ids (after_close id s) one.fits in
-    record {
-      matches = λ first log m. rest.matches first log (one.matches first log m);
-      fits = rest.fits;
-      broken = rest.broken ∙ one.broken;
-      goes = λ first log m. goes_then _ _ _ (one.goes first log m) (rest.goes first log (one.matches first log m));
-    }
+  -- unlisten.
+  all_closed_changes : (ids : List ℕ) (s : DriverState) → IsFitState hosts s → Changes hosts s (all_closed ids s)
+  all_closed_changes [] s fits = same s fits
+  all_closed_changes (id ∷ ids) s fits =
+      let one = close_changes id s fits in
+      let rest = all_closed_changes ids (after_close id s) one.fits in
+      record {
+        matches = λ first log m. rest.matches first log (one.matches first log m);
+        fits = rest.fits;
+        broken = rest.broken ∙ one.broken;
+        goes = λ first log m. goes_then _ _ _ (one.goes first log m) (rest.goes first log (one.matches first log m));
+      }
 
-pub unlisten_changes : (port : ℕ) (s : DriverState) → IsFitState s → Changes s (after_unlisten port s)
-unlisten_changes port s fits =
-    let c = all_closed_changes (waiting_on port s) s fits in
-    record { matches = c.matches; fits = c.fits; broken = c.broken; goes = c.goes }
+  pub unlisten_changes : (port : ℕ) (s : DriverState) → IsFitState hosts s → Changes hosts s (after_unlisten port s)
+  unlisten_changes port s fits =
+      let c = all_closed_changes (waiting_on port s) s fits in
+      record { matches = c.matches; fits = c.fits; broken = c.broken; goes = c.goes }
 
--- listen and accept.
-pub listen_changes : (port : ℕ) (s : DriverState) → IsFitState s → Changes s (listening port s)
-listen_changes port s fits = record { matches = λ first log m. m; fits = fits; broken = refl; goes = λ first log m. stays _ _ refl }
+  -- listen and accept.
+  pub listen_changes : (port : ℕ) (s : DriverState) → IsFitState hosts s → Changes hosts s (listening port s)
+  listen_changes port s fits = record { matches = λ first log m. m; fits = fits; broken = refl; goes = λ first log m. stays _ _ refl }
 
-accept_by : (o : Option ℕ) (port : ℕ) (s : DriverState) → IsFitState s
-    → Changes s (elim o [ None ↦ s | Some id ↦ record s { listeners = with_waiting port (without_id id) s.listeners } ])
-accept_by None port s fits = same s fits
-accept_by (Some id) port s fits = record { matches = λ first log m. m; fits = fits; broken = refl; goes = λ first log m. stays _ _ refl }
+  accept_by : (o : Option ℕ) (port : ℕ) (s : DriverState) → IsFitState hosts s
+      → Changes hosts s (elim o [ None ↦ s | Some id ↦ record s { listeners = with_waiting port (without_id id) s.listeners } ])
+  accept_by None port s fits = same s fits
+  accept_by (Some id) port s fits = record { matches = λ first log m. m; fits = fits; broken = refl; goes = λ first log m. stays _ _ refl }
 
-pub accept_changes : (port : ℕ) (s : DriverState) → IsFitState s → Changes s (after_accept port s)
-accept_changes port s fits = accept_by (next_accepted port s) port s fits
+  pub accept_changes : (port : ℕ) (s : DriverState) → IsFitState hosts s → Changes hosts s (after_accept port s)
+  accept_changes port s fits = accept_by (next_accepted port s) port s fits

@@ -1,7 +1,7 @@
 -- The step that takes the event page of a transport reset: whatever a ring answers besides, the driver's table is empty then.
 use Rattle.std.{proofs.Common.{◌≡◌, ℕ, ◌+◌, ◌==◌, not, nat_lt, Bool, true, false, cond, List, [], ◌∷◌, length, Option, Some, refl, ap, subst, ◌∙◌}, specs.List.filter}
 use Rattle.vs_contents.{specs.CallTree.{Ask, Done, Leads, bind}, proofs.Leads.{AllEnds, end_of}}
-use Rattle.vs_flow.{specs.Table.{IsRising, IsTable}, proofs.Entries.rising_tail}
+use Rattle.vs_flow.{specs.{CleanPairs.of_host, Table.{IsRising, IsTable}}, proofs.Entries.rising_tail}
 use Rattle.vs_limits.specs.declared.TheConstants.{DRIVER_REPLIES_FULL}
 use Rattle.vs_ring_port.specs.{DriverCalls.{DriverAnswer, DriverCall, LoadCid, Publish, Reap}, declared.queue.Queue.TheVariants.Event}
 use Rattle.vs_driver_parts.specs.{Conversations.{DriverTree, Round, event_reaped, goes_on_with, staged_again, start}, Connections.after_leaving, State.{DriverEntry, DriverState}}
@@ -36,7 +36,7 @@ module _ (s : DriverState) (page : List ℕ) (sound : IsTable s.table) (reset : 
           (Ask LoadCid (λ cid. Done (record (start s) { state = after_reset cid s; count = 1; reset = true })))
           (Done (record (start s) { count = 1 }))) (staged_again Event)) (λ r. Done r.0.state))
       by true is = λ cid. staged (record (start s) { state = after_reset cid s; count = 1; reset = true })
-          (none_left s.table.entries (record s { cid = cid }) refl sound.rising)
+          (none_left s.table.entries (record s { cid = cid; clean = of_host s.clean }) refl sound.rising)
       by false is = absurd cc
 
   pub takes_empties : {S : Type 0} (Allows : (call : DriverCall) → DriverAnswer call → S → S → Type 0) (t : DriverState) (c d : S)

@@ -29,35 +29,35 @@ pub not_tx_event : Event ≡ Tx → ⊥
 not_tx_event is = absurd cc
 
 -- A page with a packet comes back.
-gets_with : (first : ℕ) (fact : Fact) → Carries first fact → (s : DriverState) (page : List ℕ) (l : EndLog) → BringsFit page
-    → RestsWith first fact s l → IsFairLog Driver (log_reaped Rx (Some page) l).entries → RestsWith first fact (on_page page s) (log_reaped Rx (Some page) l)
-gets_with first fact steps s page l ports rest fair = by (packet_held page) refl fair
+gets_with : (hosts : Bool) (first : ℕ) (fact : Fact) → Carries hosts first fact → (s : DriverState) (page : List ℕ) (l : EndLog) → BringsFit page
+    → RestsWith hosts first fact s l → IsFairLog Driver (log_reaped Rx (Some page) l).entries → RestsWith hosts first fact (on_page page s) (log_reaped Rx (Some page) l)
+gets_with hosts first fact steps s page l ports rest fair = by (packet_held page) refl fair
   where
     by : (o : Option Packet) → packet_held page ≡ o → IsFairLog Driver (with_packet (λ p. GotPacket p) o l.entries)
         → let t : DriverState = elim o [ None ↦ s | Some p ↦ on_packet p s ] in
         let log = with_packet (λ p. GotPacket p) o l.entries in
-        (IsFitState t × IsLeft first t.broken (ends_of_state t) [] log × (l.staged.tx ≡ [])) × Holds fact t log
+        (IsFitState hosts t × IsLeft hosts first t.broken (ends_of_state t) [] log × (l.staged.tx ≡ [])) × Holds fact t log
     by None is fair = rest
     by (Some p) is fair =
         let left = rest.0.1 in
-        let g = gets_packet first p s l.entries rest.0.0 (ports p is) (packet_whole page p is).0 left.matches fair in (
-          (g.fits, record { none_refused = g.broken ∙ left.none_refused; matches = g.matches; fair = fair; marks = left.marks }, rest.0.2),
+        let g = gets_packet hosts first p s l.entries rest.0.0 (ports p is) (packet_whole page p is).0 left.matches fair in (
+          (g.fits, record { none_refused = λ all. g.broken all ∙ left.none_refused all; matches = g.matches; fair = fair; marks = left.marks }, rest.0.2),
           steps.got p s l.entries rest.0.0 (ports p is) (packet_whole page p is).0 left.matches left.fair fair rest.1,
         )
 
 -- An event comes back. Where it tells a reset, its Mark is still to come.
-abbrev LeftBehind : Bool → ℕ → DriverState → Log → Type 0
-LeftBehind true first s entries =
-    (older : Log) × (entries ≡ GotEvent 0 ∷ older) × IsLeft first s.broken (ends_of_state s) [] older × IsFairLog Driver entries
-LeftBehind false first s entries = IsLeft first s.broken (ends_of_state s) [] entries
+abbrev LeftBehind : Bool → Bool → ℕ → DriverState → Log → Type 0
+LeftBehind true hosts first s entries =
+    (older : Log) × (entries ≡ GotEvent 0 ∷ older) × IsLeft hosts first s.broken (ends_of_state s) [] older × IsFairLog Driver entries
+LeftBehind false hosts first s entries = IsLeft hosts first s.broken (ends_of_state s) [] entries
 
-event_by : (first : ℕ) (s : DriverState) (o : Option ℕ) (entries : Log) → IsLeft first s.broken (ends_of_state s) [] entries
+event_by : (hosts : Bool) (first : ℕ) (s : DriverState) (o : Option ℕ) (entries : Log) → IsLeft hosts first s.broken (ends_of_state s) [] entries
     → IsFairLog Driver (with_event (λ id. GotEvent id) o entries)
-    → LeftBehind (elim o [ None ↦ false | Some id ↦ id == 0 ]) first s (with_event (λ id. GotEvent id) o entries)
-event_by first s None entries left fair = left
-event_by first s (Some id) entries left fair = by (id == 0) refl
+    → LeftBehind (elim o [ None ↦ false | Some id ↦ id == 0 ]) hosts first s (with_event (λ id. GotEvent id) o entries)
+event_by hosts first s None entries left fair = left
+event_by hosts first s (Some id) entries left fair = by (id == 0) refl
   where
-    by : (b : Bool) → (id == 0) ≡ b → LeftBehind b first s (GotEvent id ∷ entries)
+    by : (b : Bool) → (id == 0) ≡ b → LeftBehind b hosts first s (GotEvent id ∷ entries)
     by true is = let zero : id ≡ 0 = grind (arith, nat_tests, is) in (entries, ap (λ (n : ℕ). GotEvent n ∷ entries) zero, left, fair)
     by false is = record {
       none_refused = left.none_refused;
@@ -66,47 +66,47 @@ event_by first s (Some id) entries left fair = by (id == 0) refl
       marks = (λ zero. grind (arith, nat_tests, is, zero), left.marks);
     }
 
-abbrev EventWith : ℕ → Fact → Bool → DriverState → EndLog → Type 0
-EventWith first fact b s l = (IsFitState s × LeftBehind b first s l.entries × (l.staged.tx ≡ [])) × Holds fact s l.entries
+abbrev EventWith : Bool → ℕ → Fact → Bool → DriverState → EndLog → Type 0
+EventWith hosts first fact b s l = (IsFitState hosts s × LeftBehind b hosts first s l.entries × (l.staged.tx ≡ [])) × Holds fact s l.entries
 
-event_with : (first : ℕ) (fact : Fact) → Carries first fact → (s : DriverState) (page : List ℕ) (l : EndLog) → RestsWith first fact s l
+event_with : (hosts : Bool) (first : ℕ) (fact : Fact) → Carries hosts first fact → (s : DriverState) (page : List ℕ) (l : EndLog) → RestsWith hosts first fact s l
     → IsFairLog Driver (log_reaped Event (Some page) l).entries
-    → EventWith first fact (is_reset_event page) s (log_reaped Event (Some page) l)
-event_with first fact steps s page l rest fair =
-    ((rest.0.0, event_by first s (event_held page) l.entries rest.0.1 fair, rest.0.2), by (event_held page))
+    → EventWith hosts first fact (is_reset_event page) s (log_reaped Event (Some page) l)
+event_with hosts first fact steps s page l rest fair =
+    ((rest.0.0, event_by hosts first s (event_held page) l.entries rest.0.1 fair, rest.0.2), by (event_held page))
   where
     by : (o : Option ℕ) → Holds fact s (with_event (λ id. GotEvent id) o l.entries)
     by None = rest.1
     by (Some id) = steps.event id s l.entries rest.1
 
-loads_with : (first : ℕ) (fact : Fact) → Carries first fact → (cid : ℕ) (s : DriverState) (l : EndLog) → cid < 2 ^ 64
-    → EventWith first fact true s l → RestsWith first fact (after_reset cid s) (log_loaded cid l)
-loads_with first fact steps cid s l less with =
+loads_with : (hosts : Bool) (first : ℕ) (fact : Fact) → Carries hosts first fact → (cid : ℕ) (s : DriverState) (l : EndLog) → cid < 2 ^ 64
+    → EventWith hosts first fact true s l → RestsWith hosts first fact (after_reset cid s) (log_loaded cid l)
+loads_with hosts first fact steps cid s l less with =
     let fits = with.0.0 in
     let left = with.0.1 in
     let r = resets cid s less fits in
     let marked : entries_marked cid l.entries ≡ Mark cid ∷ GotEvent 0 ∷ left.0 = ap (entries_marked cid) left.1 in
     let here : entries_marked cid l.entries ≡ Mark cid ∷ l.entries = marked ∙ ap (λ (log : Log). Mark cid ∷ log) (sym left.1) in
-    let now : IsLeft first (after_reset cid s).broken (ends_of_state (after_reset cid s)) [] (Mark cid ∷ GotEvent 0 ∷ left.0) = record {
-      none_refused = r.broken ∙ left.2.none_refused;
+    let now : IsLeft hosts first (after_reset cid s).broken (ends_of_state (after_reset cid s)) [] (Mark cid ∷ GotEvent 0 ∷ left.0) = record {
+      none_refused = λ all. r.broken ∙ left.2.none_refused all;
       matches = r.matches first (GotEvent 0 ∷ left.0) (takes_event Driver first 0 (ends_of_state s) left.0 left.2.matches);
       fair = subst (λ (log : Log). IsFairLog Driver log) left.1 left.3;
       marks = (refl, left.2.marks);
     } in (
       (
         r.fits,
-        subst (λ (log : Log). IsLeft first (after_reset cid s).broken (ends_of_state (after_reset cid s)) [] log) (sym marked) now,
+        subst (λ (log : Log). IsLeft hosts first (after_reset cid s).broken (ends_of_state (after_reset cid s)) [] log) (sym marked) now,
         with.0.2,
       ),
       subst (λ (log : Log). Holds fact (after_reset cid s) log) (sym here) (steps.reset cid s l.entries less fits with.1),
     )
 
-module _ (first : ℕ) (fact : Fact) (steps : Carries first fact) where
+module _ (hosts : Bool) (first : ℕ) (fact : Fact) (steps : Carries hosts first fact) where
   abbrev pub RoundRests : Round → RingContents → Type 0
-  RoundRests r c = Rests first fact r.state c
+  RoundRests r c = Rests hosts first fact r.state c
 
   abbrev pub RoundTies : Round → RingContents → Type 0
-  RoundTies r c = Ties first fact r.state c
+  RoundTies r c = Ties hosts first fact r.state c
 
   abbrev pub PairRests : Round × Bool → RingContents → Type 0
   PairRests x c = RoundRests x.0 c
@@ -115,29 +115,29 @@ module _ (first : ℕ) (fact : Fact) (steps : Carries first fact) where
   PairTies x c = RoundTies x.0 c
 
   -- Events.
-  taken_by : (b : Bool) (r : Round) (c : RingContents) → Tells (EventWith first fact b r.state) c
+  taken_by : (b : Bool) (r : Round) (c : RingContents) → Tells (EventWith hosts first fact b r.state) c
       → Keeps RoundRests (cond b (Ask LoadCid (λ cid. Done (record r { state = after_reset cid r.state; count = r.count + 1; reset = true })))
       (Done (record r { count = r.count + 1 }))) c
   taken_by true r c tells = (
     tt,
-    λ cid d made. moves _ _ _ _ _ (log_loaded cid) c d made.1 (EventWith first fact true r.state) (RestsWith first fact (after_reset cid r.state))
-        (λ l both fair. loads_with first fact steps cid r.state l made.0 both) tells,
+    λ cid d made. moves _ _ _ _ _ (log_loaded cid) c d made.1 (EventWith hosts first fact true r.state) (RestsWith hosts first fact (after_reset cid r.state))
+        (λ l both fair. loads_with hosts first fact steps cid r.state l made.0 both) tells,
   )
   taken_by false r c tells = tells
 
   again : (queue : Queue) → (queue ≡ Tx → ⊥) → (r : Round) (c : RingContents) → RoundRests r c → Keeps PairRests (staged_again queue r) c
-  again queue other r c rests = keeps_bind PairRests (stage_of queue [] r.state) (goes_on_with r) c (stage_other first fact queue other r.state [] c rests)
+  again queue other r c rests = keeps_bind PairRests (stage_of queue [] r.state) (goes_on_with r) c (stage_other hosts first fact queue other r.state [] c rests)
 
   event_reaped_keeps : (page : Option (List ℕ)) (r : Round) (c d : RingContents) → RingAllows (Reap Event) page c d → RoundRests r c
       → Keeps PairRests (event_reaped r page) d
   event_reaped_keeps None r c d made rests =
-      moves _ _ _ _ _ (log_reaped Event None) c d made.1 (RestsWith first fact r.state) (RestsWith first fact r.state) (λ l rest fair. rest) rests
+      moves _ _ _ _ _ (log_reaped Event None) c d made.1 (RestsWith hosts first fact r.state) (RestsWith hosts first fact r.state) (λ l rest fair. rest) rests
   event_reaped_keeps (Some page) r c d made rests =
       keeps_bind PairRests (event_taken page r) (staged_again Event) d
       (keeps_weaker RoundRests (λ x e. Keeps PairRests (staged_again Event x) e) (λ x e kept. again Event not_tx_event x e kept) (event_taken page r) d
       (taken_by (is_reset_event page) r d
-      (moves _ _ _ _ _ (log_reaped Event (Some page)) c d made.1 (RestsWith first fact r.state) (EventWith first fact (is_reset_event page) r.state)
-      (λ l rest fair. event_with first fact steps r.state page l rest fair) rests)))
+      (moves _ _ _ _ _ (log_reaped Event (Some page)) c d made.1 (RestsWith hosts first fact r.state) (EventWith hosts first fact (is_reset_event page) r.state)
+      (λ l rest fair. event_with hosts first fact steps r.state page l rest fair) rests)))
 
   event_step : (b : Bool) (r : Round) (c : RingContents) → RoundRests r c → Keeps PairRests (cond b (Done (r, false)) (Ask (Reap Event) (event_reaped r))) c
   event_step true r c rests = rests
@@ -150,11 +150,11 @@ module _ (first : ℕ) (fact : Fact) (steps : Carries first fact) where
   packet_reaped_keeps : (page : Option (List ℕ)) (r : Round) (c d : RingContents) → RingAllows (Reap Rx) page c d → RoundRests r c
       → Keeps PairRests (packet_reaped r page) d
   packet_reaped_keeps None r c d made rests =
-      moves _ _ _ _ _ (log_reaped Rx None) c d made.1 (RestsWith first fact r.state) (RestsWith first fact r.state) (λ l rest fair. rest) rests
+      moves _ _ _ _ _ (log_reaped Rx None) c d made.1 (RestsWith hosts first fact r.state) (RestsWith hosts first fact r.state) (λ l rest fair. rest) rests
   packet_reaped_keeps (Some page) r c d made rests =
       again Rx not_tx_rx (record r { state = on_page page r.state; count = r.count + 1 }) d
-      (moves _ _ _ _ _ (log_reaped Rx (Some page)) c d made.1 (RestsWith first fact r.state) (RestsWith first fact (on_page page r.state))
-      (λ l rest fair. gets_with first fact steps r.state page l made.0 rest fair) rests)
+      (moves _ _ _ _ _ (log_reaped Rx (Some page)) c d made.1 (RestsWith hosts first fact r.state) (RestsWith hosts first fact (on_page page r.state))
+      (λ l rest fair. gets_with hosts first fact steps r.state page l made.0 rest fair) rests)
 
   packet_step : (b : Bool) (r : Round) (c : RingContents) → RoundRests r c → Keeps PairRests (cond b (Done (r, false)) (Ask (Reap Rx) (packet_reaped r))) c
   packet_step true r c rests = rests
@@ -165,12 +165,12 @@ module _ (first : ℕ) (fact : Fact) (steps : Carries first fact) where
 
   -- Each of these parts ends by publishing what it staged.
   take_all_keeps : (queue : Queue) → (queue ≡ Tx → ⊥) → (take_one : Round → DriverTree (Round × Bool))
-      → ((r : Round) (c : RingContents) → RoundRests r c → Keeps PairRests (take_one r) c) → (s : DriverState) (c : RingContents) → Rests first fact s c
+      → ((r : Round) (c : RingContents) → RoundRests r c → Keeps PairRests (take_one r) c) → (s : DriverState) (c : RingContents) → Rests hosts first fact s c
       → Keeps RoundRests (take_all queue take_one s) c
   take_all_keeps queue other take_one each s c rests =
       keeps_bind RoundRests (all_taken take_one s) (published queue) c
       (keeps_weaker RoundRests (λ r d. Keeps RoundRests (published queue r) d)
-      (λ r d kept. keeps_bind RoundRests (publish_of queue r.state) (with_state r) d (publish_other first fact queue other r.state d kept))
+      (λ r d kept. keeps_bind RoundRests (publish_of queue r.state) (with_state r) d (publish_other hosts first fact queue other r.state d kept))
       (all_taken take_one s) c (keeps_while RoundRests take_one each s.size (start s) c rests))
 
   -- Owed replies.
@@ -184,7 +184,7 @@ module _ (first : ℕ) (fact : Fact) (steps : Carries first fact) where
       by : (b : Bool) → Keeps PairTies (cond b (bind (stage_packet (header_bytes (reply_header r.state.cid reply)) (record r.state { replies = rest })) (one_put r)) (Done (r, false))) c
       by true =
           keeps_bind PairTies (stage_packet (header_bytes (reply_header r.state.cid reply)) (record r.state { replies = rest })) (one_put r) c
-          (stage_tx first fact (reply_on Driver r.state.cid reply) r.state (record r.state { replies = rest }) (header_bytes (reply_header r.state.cid reply)) c
+          (stage_tx hosts first fact (reply_on Driver r.state.cid reply) r.state (record r.state { replies = rest }) (header_bytes (reply_header r.state.cid reply)) c
           (λ l tie. record {
             puts = reply_puts reply rest r.state tie.0 is;
             carries = λ log m was fair held. steps.reply reply rest r.state log tie.0 is m fair held;
@@ -208,7 +208,7 @@ module _ (first : ℕ) (fact : Fact) (steps : Carries first fact) where
       by : (b : Bool) → Keeps PairTies (cond b (bind (stage_packet (owed_bytes what e r.state) (after_paying what e r.state)) (one_put r)) (Done (r, false))) c
       by true =
           keeps_bind PairTies (stage_packet (owed_bytes what e r.state) (after_paying what e r.state)) (one_put r) c
-          (stage_tx first fact (owed_on Driver r.state.cid e.flow e.value.end what) r.state (after_paying what e r.state) (owed_bytes what e r.state) c
+          (stage_tx hosts first fact (owed_on Driver r.state.cid e.flow e.value.end what) r.state (after_paying what e r.state) (owed_bytes what e r.state) c
           (λ l tie. let stands = stands_under r.state slot e found in record {
             puts = owed_puts what e r.state tie.0 stands owes;
             carries = λ log m was fair held. steps.owed what e r.state log tie.0 stands owes m was fair held;
@@ -238,7 +238,7 @@ module _ (first : ℕ) (fact : Fact) (steps : Carries first fact) where
   pay_all_keeps r c ties = keeps_each RoundTies pay_slot pay_slot_keeps (slots r.state.table) r c ties
 
   published_keeps : (r : Round) (c : RingContents) → RoundTies r c → Keeps RoundRests (published Tx r) c
-  published_keeps r c ties = keeps_bind RoundRests (publish_of Tx r.state) (with_state r) c (publish_tx first fact r.state c ties)
+  published_keeps r c ties = keeps_bind RoundRests (publish_of Tx r.state) (with_state r) c (publish_tx hosts first fact r.state c ties)
 
   pay_and_publish_keeps : (r : Round) (c : RingContents) → RoundTies r c → Keeps RoundRests (pay_and_publish r) c
   pay_and_publish_keeps r c ties =
@@ -249,27 +249,27 @@ module _ (first : ℕ) (fact : Fact) (steps : Carries first fact) where
   publish_and_pay_keeps r c ties =
       keeps_bind RoundRests (published Tx r) pay_and_publish c
       (keeps_weaker RoundRests (λ x d. Keeps RoundRests (pay_and_publish x) d)
-      (λ x d kept. pay_and_publish_keeps x d (rests_tied first fact x.state d kept)) (published Tx r) c (published_keeps r c ties))
+      (λ x d kept. pay_and_publish_keeps x d (rests_tied hosts first fact x.state d kept)) (published Tx r) c (published_keeps r c ties))
 
-  put_all_keeps : (s : DriverState) (c : RingContents) → Rests first fact s c → Keeps RoundRests (put_all s) c
+  put_all_keeps : (s : DriverState) (c : RingContents) → Rests hosts first fact s c → Keeps RoundRests (put_all s) c
   put_all_keeps s c rests =
       keeps_bind RoundRests (put_replies s) publish_and_pay c
       (keeps_weaker RoundTies (λ x d. Keeps RoundRests (publish_and_pay x) d) publish_and_pay_keeps (put_replies s) c
-      (keeps_while RoundTies put_reply put_reply_keeps (length s.replies) (start s) c (rests_tied first fact s c rests)))
+      (keeps_while RoundTies put_reply put_reply_keeps (length s.replies) (start s) c (rests_tied hosts first fact s c rests)))
 
   -- The whole poll.
   abbrev EndRests : DriverState × Polled → RingContents → Type 0
-  EndRests x c = Rests first fact x.0 c
+  EndRests x c = Rests hosts first fact x.0 c
 
-  puts_keeps : (took : ℕ) (reset : Bool) (s : DriverState) (c : RingContents) → Rests first fact s c → Keeps EndRests (poll_puts took reset s) c
+  puts_keeps : (took : ℕ) (reset : Bool) (s : DriverState) (c : RingContents) → Rests hosts first fact s c → Keeps EndRests (poll_puts took reset s) c
   puts_keeps took reset s c rests = keeps_bind EndRests (put_all s) (polled took reset) c (put_all_keeps s c rests)
 
   reaps_keeps : (reset : Bool) (r : Round) (c : RingContents) → RoundRests r c → Keeps EndRests (poll_reaps reset r) c
   reaps_keeps reset r c rests =
       keeps_bind EndRests (reap_all r.state) (poll_puts r.count reset) c
-      (keeps_weaker (SameBut first fact r.state) (λ s d. Keeps EndRests (poll_puts r.count reset s) d)
-      (λ s d same. puts_keeps r.count reset s d (subst (λ (x : DriverState). Rests first fact x d) (sym same.0) same.1)) (reap_all r.state) c
-      (reap_keeps first fact r.state c rests))
+      (keeps_weaker (SameBut hosts first fact r.state) (λ s d. Keeps EndRests (poll_puts r.count reset s) d)
+      (λ s d same. puts_keeps r.count reset s d (subst (λ (x : DriverState). Rests hosts first fact x d) (sym same.0) same.1)) (reap_all r.state) c
+      (reap_keeps hosts first fact r.state c rests))
 
   packets_keeps : (r : Round) (c : RingContents) → RoundRests r c → Keeps EndRests (poll_packets r) c
   packets_keeps r c rests =
@@ -277,7 +277,7 @@ module _ (first : ℕ) (fact : Fact) (steps : Carries first fact) where
       (keeps_weaker RoundRests (λ x d. Keeps EndRests (poll_reaps r.reset x) d) (reaps_keeps r.reset) (take_all Rx take_packet r.state) c
       (take_all_keeps Rx not_tx_rx take_packet take_packet_keeps r.state c rests))
 
-  pub poll_keeps : (s : DriverState) (c : RingContents) → Rests first fact s c → Keeps EndRests (poll_of s) c
+  pub poll_keeps : (s : DriverState) (c : RingContents) → Rests hosts first fact s c → Keeps EndRests (poll_of s) c
   poll_keeps s c rests =
       keeps_bind EndRests (take_all Event take_event s) poll_packets c
       (keeps_weaker RoundRests (λ x d. Keeps EndRests (poll_packets x) d) packets_keeps (take_all Event take_event s) c

@@ -1,5 +1,5 @@
 -- What one call on an honest ring that tells its log keeps.
-use Rattle.std.{proofs.Common.{◌≡◌, ℕ, true, List, [], ◌∷◌, ◌++◌, Option, Some, None, refl, sym, ap, subst, ◌∙◌}, specs.{Prelude.IsSomeAnd, Option.ForSome}}
+use Rattle.std.{proofs.Common.{◌≡◌, ℕ, true, List, [], ◌∷◌, ◌++◌, Option, Some, None, refl, sym, ap, subst, ◌∙◌, Bool}, specs.{Prelude.IsSomeAnd, Option.ForSome}}
 use Rattle.vs_contents.specs.Contents.{Exposes}
 use Rattle.laws_history.specs.{declared.packet.Packet.Packet, Packets.packet_bytes}
 use Rattle.vs_page.specs.{Fair.IsFairLog, Held.{FitsWire, packet_held}, Log.{Driver, Log}, declared.log.LogEntry.TheVariants.PutPacket}
@@ -14,18 +14,18 @@ abbrev pub Tells : (EndLog → Type 0) → RingContents → Type 0
 Tells P c = c.honest ≡ true → ForSome c.log P
 
 -- The same where no packet is staged.
-abbrev pub IsAtRest : ℕ → DriverState → EndLog → Type 0
-IsAtRest first s l = IsFitState s × IsLeft first s.broken (ends_of_state s) [] l.entries × (l.staged.tx ≡ [])
+abbrev pub IsAtRest : Bool → ℕ → DriverState → EndLog → Type 0
+IsAtRest hosts first s l = IsFitState hosts s × IsLeft hosts first s.broken (ends_of_state s) [] l.entries × (l.staged.tx ≡ [])
 
-pub at_rest : (first : ℕ) (s : DriverState) (l : EndLog) → AgreesWith first s l → IsAtRest first s l
-at_rest first s l agrees = (
+pub at_rest : (hosts : Bool) (first : ℕ) (s : DriverState) (l : EndLog) → AgreesWith hosts first s l → IsAtRest hosts first s l
+at_rest hosts first s l agrees = (
   agrees.fits,
   record { none_refused = agrees.none_refused; matches = agrees.matches; fair = agrees.fair; marks = agrees.marks },
   agrees.published,
 )
 
-pub agrees : (first : ℕ) (s : DriverState) (l : EndLog) → IsAtRest first s l → AgreesWith first s l
-agrees first s l rest = record {
+pub agrees : (hosts : Bool) (first : ℕ) (s : DriverState) (l : EndLog) → IsAtRest hosts first s l → AgreesWith hosts first s l
+agrees hosts first s l rest = record {
   fits = rest.0;
   published = rest.2;
   none_refused = rest.1.none_refused;
@@ -34,9 +34,9 @@ agrees first s l rest = record {
   marks = rest.1.marks;
 }
 
-pub tied : (first : ℕ) (s : DriverState) (l : EndLog) → IsAtRest first s l → IsTied first s l
-tied first s l rest =
-    let P : List (List ℕ) → Type 0 = λ pages. IsLeft first s.broken (ends_of_state s) pages l.entries in
+pub tied : (hosts : Bool) (first : ℕ) (s : DriverState) (l : EndLog) → IsAtRest hosts first s l → IsTied hosts first s l
+tied hosts first s l rest =
+    let P : List (List ℕ) → Type 0 = λ pages. IsLeft hosts first s.broken (ends_of_state s) pages l.entries in
     (rest.0, subst P (sym rest.2) rest.1)
 
 pub tells_weaker : (P Q : EndLog → Type 0) → ((l : EndLog) → P l → Q l) → (c : RingContents) → Tells P c → Tells Q c
@@ -60,21 +60,21 @@ can_publish_other Tx c other = absurd (other refl)
 can_publish_other x c other = λ honest l is. tt
 
 -- Staged packets may be published, and nothing is staged then.
-pub publishes : (first : ℕ) (s : DriverState) (l : EndLog) → IsTied first s l → IsAtRest first s (log_published Tx l)
-publishes first s l tie = (
+pub publishes : (hosts : Bool) (first : ℕ) (s : DriverState) (l : EndLog) → IsTied hosts first s l → IsAtRest hosts first s (log_published Tx l)
+publishes hosts first s l tie = (
   tie.0,
   record { none_refused = tie.1.none_refused; matches = tie.1.matches; fair = tie.1.fair; marks = tie.1.marks },
   refl,
 )
 
-pub can_publish : (first : ℕ) (s : DriverState) (c : RingContents) → Tells (IsTied first s) c → CanPublish Tx c
-can_publish first s c tells = λ honest l is. let tie = tells honest l is in tie.1.fair
+pub can_publish : (hosts : Bool) (first : ℕ) (s : DriverState) (c : RingContents) → Tells (IsTied hosts first s) c → CanPublish Tx c
+can_publish hosts first s c tells = λ honest l is. let tie = tells honest l is in tie.1.fair
 
 -- What a step on the driver does that puts a packet, in a page that holds it: which step of its seat it is.
-pub record Puts (packet : Packet) (s : DriverState) (page : List ℕ) (t : DriverState) : Type 0 where
+pub record Puts (hosts : Bool) (packet : Packet) (s : DriverState) (page : List ℕ) (t : DriverState) : Type 0 where
   pub held : packet_held page ≡ Some packet
   pub bytes : page ≡ packet_bytes packet
-  pub fits : IsFitState t
+  pub fits : IsFitState hosts t
   pub broken : t.broken ≡ s.broken
   pub matches : (first : ℕ) (log : Log) → Matches Driver first (ends_of_state s) log
       → Matches Driver first (ends_of_state t) (PutPacket packet ∷ log)
@@ -94,22 +94,22 @@ holds_packet : (page : List ℕ) (p : Packet) → packet_held page ≡ Some p �
 holds_packet page p held bytes = let P : Option Packet → Type 0 = λ o. IsSomeAnd o (λ q. page ≡ packet_bytes q) in subst P (sym held) bytes
 
 -- A page that a step puts its packet in may be staged; so may any page of another queue.
-pub can_stage : (P : EndLog → Type 0) (p : Packet) (s t : DriverState) (page : List ℕ) (c : RingContents)
-    → ((l : EndLog) → P l → Puts p s page t) → Tells P c → CanStage Tx page c
+pub can_stage : {hosts : Bool} (P : EndLog → Type 0) (p : Packet) (s t : DriverState) (page : List ℕ) (c : RingContents)
+    → ((l : EndLog) → P l → Puts hosts p s page t) → Tells P c → CanStage Tx page c
 can_stage P p s t page c puts tells = λ honest l is tx. let put = puts l (tells honest l is) in holds_packet page p put.held put.bytes
 
 pub can_stage_other : (queue : Queue) (page : List ℕ) (c : RingContents) → (queue ≡ Tx → ⊥) → CanStage queue page c
 can_stage_other queue page c other = λ honest l is tx. absurd (other tx)
 
-pub stages : (first : ℕ) (p : Packet) (s t : DriverState) (page : List ℕ) (l : EndLog) → Puts p s page t → IsTied first s l
-    → IsTied first t (log_staged Tx page l)
-stages first p s t page l puts tie =
+pub stages : (hosts : Bool) (first : ℕ) (p : Packet) (s t : DriverState) (page : List ℕ) (l : EndLog) → Puts hosts p s page t → IsTied hosts first s l
+    → IsTied hosts first t (log_staged Tx page l)
+stages hosts first p s t page l puts tie =
     let last = put_last l.staged.tx page p l.entries puts.held in
     let matches = puts.matches first (all_put l.staged.tx l.entries) tie.1.matches in
     let fair = puts.fair first (all_put l.staged.tx l.entries) tie.1.matches tie.1.fair in (
       puts.fits,
       record {
-        none_refused = puts.broken ∙ tie.1.none_refused;
+        none_refused = λ all. puts.broken ∙ tie.1.none_refused all;
         matches = subst (λ (log : Log). Matches Driver first (ends_of_state t) log) (sym last) matches;
         fair = subst (λ (log : Log). IsFairLog Driver log) (sym last) fair;
         marks = subst MarksResets (sym last) tie.1.marks;

@@ -1,5 +1,5 @@
 -- The table that is shown, and the log; the answers of the driver's ring, and of any.
-use Rattle.std.proofs.Common.{◌≡◌, ℕ, List, [], ◌∷◌, map, refl, sym, ap, ◌∙◌}
+use Rattle.std.proofs.Common.{◌≡◌, ℕ, Bool, List, [], ◌∷◌, map, refl, sym, ap, ◌∙◌}
 use Rattle.vs_contents.specs.CallTree.{Done, Ask, Leads}
 use Rattle.vs_flow.specs.declared.flow.Flow.{Flow}
 use Rattle.vs_ring_port.specs.{DriverCalls.{DriverCall, DriverAnswer, Stage, Reap, LoadCid, DriverAllows}, Contents.RingContents, EndLog.EndLog}
@@ -12,8 +12,8 @@ same_flows : (es : List DriverEntry)
 same_flows [] = refl
 same_flows (e ∷ es) = ap (λ (fs : List Flow). e.flow ∷ fs) (same_flows es)
 
-pub left_open : (first : ℕ) (s : DriverState) (l : EndLog) → AgreesWith first s l → IsLeftOpen first (table_shown s) s.replies l
-left_open first s l agrees f = ap (is_among f) (same_flows s.table.entries) ∙ driver_open first (ends_of_state s) l.entries f agrees.matches.flows
+pub left_open : (hosts : Bool) (first : ℕ) (s : DriverState) (l : EndLog) → AgreesWith hosts first s l → IsLeftOpen first (table_shown s) s.replies l
+left_open hosts first s l agrees f = ap (is_among f) (same_flows s.table.entries) ∙ driver_open first (ends_of_state s) l.entries f agrees.matches.flows
 
 pub ring_allows : (call : DriverCall) (a : DriverAnswer call) (c d : RingContents) → RingAllows call a c d → DriverAllows call a c d
 ring_allows (Reap queue) a c d allowed = allowed.1

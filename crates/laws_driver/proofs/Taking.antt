@@ -5,15 +5,16 @@ use Rattle.vs_conn.{specs.{End.{ConnectionEnd, answering, end_after, is_of, is_r
 use Rattle.vs_header.specs.declared.{Header.Header, Kind.{Kind, TheVariants.Stream}}
 use Rattle.laws_history.specs.{Packets.{is_rst, is_clean_rst}, declared.packet.Packet.Packet}
 use Rattle.vs_limits.specs.declared.TheConstants.{BUF_ALLOC, HOST_CID, LAST_ID, DRIVER_CONNECTIONS}
-use Rattle.vs_flow.{proofs.Tables.IsAccepted, specs.{Flow.{is_assigned, same_flow}, Table.entry_of, declared.flow.Flow.Flow}}
+use Rattle.vs_flow.{proofs.{Entries.host_asks_to, Tables.IsAccepted}, specs.{Flow.{host_asks, is_assigned, same_flow}, Table.entry_of, declared.flow.Flow.Flow}}
 use Rattle.vs_page.specs.{Fair.IsFairLog, Held.IsWhole, Log.{Driver, Log, flow_got, flow_to_guest, side_of, side_by}, Open.{is_dropped, asks_for}}
 use Rattle.vs_page.{specs.declared.log.LogEntry.TheVariants.GotPacket, proofs.Flows.same_is}
+use Rattle.vs_wrap.specs.Wrap.{counted}
 use Rattle.vs_replies.specs.{Owed.reply_to, declared.Reply.Reply}
 use Rattle.laws_tables.specs.{Ends.{Ends, FlowEnd, answer_kind, ends_of}, Steps.{HasEnd, HasNone, accepted, is_kept, is_message, left, taken, with_clean, with_end}}
 use Rattle.laws_tables.{specs.{Both.{after_taking, answered, after_packet as after_packet_on}, Heard.{IsInOrder, heard_of}, Matches.Matches}, proofs.Keeps.{accepts, drops}}
 use Rattle.laws_tables.proofs.{Keeps.{ignores, refuses, takes}, Fair.{got_in_order, got_is_taken, got_not_refused, heard_all}, Slots.{added_slot, found_by, no_entry}}
 use Rattle.vs_driver_parts.specs.{Receiving.{after_packet, after_verdict, is_request, may_open, on_heard, on_known, on_packet, on_unknown, with_reply}, Playing.FitsPorts}
-use Rattle.vs_driver_parts.specs.{State.{DriverConnection, DriverEntry, DriverState, slots_held}, Connections.{after_leaving, with_connection, with_request, keeping}}
+use Rattle.vs_driver_parts.specs.{State.{DriverConnection, DriverEntry, DriverState, slots_held}, Connections.{after_leaving, waits_no_more, with_connection, with_request, keeping}}
 use Rattle.vs_driver_parts.proofs.{Ids.found_under, Packets.{packet_known, packet_unknown}, Clean.{clean_entry, none_assigned}}
 use Rattle.laws_driver.{specs.Honest.{IsFitFlow, IsFitReply, IsFitState, end_in, ends_of_state}, proofs.Tabling.{Stands, connection_ends, connection_fits, entry_fits, has_end}}
 use Rattle.laws_driver.proofs.{Tabling.{opening_fits, replies_fit, leaves_kept}, Fits.{IsHeldBy, packet_fits}}
@@ -21,10 +22,10 @@ use Rattle.vs_conn.specs.declared.end.Verdict.TheVariants as verdict
 use Rattle.laws_history.specs.Packets as packets
 
 -- The driver t after it got a packet, whose log was this: it took the packet.
-pub record Gets (first : ℕ) (p : Packet) (s : DriverState) (log : Log) (t : DriverState) : Type 0 where
+pub record Gets (hosts : Bool) (first : ℕ) (p : Packet) (s : DriverState) (log : Log) (t : DriverState) : Type 0 where
   pub matches : Matches Driver first (ends_of_state t) (GotPacket p ∷ log)
-  pub fits : IsFitState t
-  pub broken : t.broken ≡ s.broken
+  pub fits : IsFitState hosts t
+  pub broken : hosts ≡ true → t.broken ≡ s.broken
   pub answer : Bool
   pub ends : ends_of_state t ≡ after_taking Driver p answer (ends_of_state s)
 
@@ -36,9 +37,9 @@ by_ends p answer part es kept are =
     ap (λ (xs : List ConnectionEnd). after_packet_on Driver xs p (flow_got Driver p) answer part) (sym are)
     ∙ ap (λ (b : Bool). cond b part (after_packet_on Driver (ends_of (flow_got Driver p) part.entries) p (flow_got Driver p) answer part)) (sym kept)
 
-module _ (p : Packet) (e : DriverEntry) (s : DriverState) (fits : IsFitState s) (stands : Stands s e) where
+module _ {hosts : Bool} (p : Packet) (e : DriverEntry) (s : DriverState) (fits : IsFitState hosts s) (stands : Stands s e) where
   stays : (c : DriverConnection) → c.end ≡ end_after e.value.end p.header → IsHeldBy c
-      → (ends_of_state (with_connection e.slot c s) ≡ with_end e.flow (end_after e.value.end p.header) (ends_of_state s)) × IsFitState (with_connection e.slot c s)
+      → (ends_of_state (with_connection e.slot c s) ≡ with_end e.flow (end_after e.value.end p.header) (ends_of_state s)) × IsFitState hosts (with_connection e.slot c s)
   stays c is held = (
     connection_ends s e c fits stands ∙ ap (λ (x : ConnectionEnd). with_end e.flow x (ends_of_state s)) is,
     connection_fits s e.slot c fits held
@@ -48,29 +49,42 @@ module _ (p : Packet) (e : DriverEntry) (s : DriverState) (fits : IsFitState s) 
   abbrev keeps : Bool
   keeps = is_kept Driver e.flow e.value.end p
 
-  own_by : (assigned own marked : Bool) → (asks_for (side_by Driver assigned) && own && marked) ≡ true → assigned ≡ false
+  own_by : (asked own marked : Bool) → (asks_for (side_by Driver asked) && own && marked) ≡ true → asked ≡ false
   own_by false own marked is = refl
   own_by true own marked is = absurd cc
+
+  -- A packet that is refused is counted, and the connection waits no more on its port.
+  refused_by : (b : Bool) (c : DriverConnection) → let t : DriverState = with_connection e.slot c (record s { broken = counted s.broken }) in
+      let u : DriverState = cond b (waits_no_more e t) t in
+      (ends_of_state u ≡ ends_of_state (with_connection e.slot c s)) × (IsFitState hosts (with_connection e.slot c s) → IsFitState hosts u)
+  refused_by true c = (refl, λ fit. fit)
+  refused_by false c = (refl, λ fit. fit)
 
   -- A state that a connection leaves or in which it stays.
   peer_by : (b : Bool) (c : DriverConnection) → c.end ≡ end_after e.value.end p.header → IsHeldBy c
       → let t : DriverState = cond b (keeping keeps e.flow (after_leaving (record e { value = c }) s)) (with_connection e.slot c s) in
       (ends_of_state t ≡ cond b (with_clean keeps e.flow (left e.flow (ends_of_state s))) (with_end e.flow (end_after e.value.end p.header) (ends_of_state s)))
-      × IsFitState t × (t.broken ≡ s.broken)
+      × IsFitState hosts t × (t.broken ≡ s.broken)
   peer_by true c is held =
-      let l = leaves_kept keeps s e c fits stands (own_by (is_assigned e.flow.host) (is_both e.value.end.own) (is_clean_rst p)) in (l.ends, l.fits, l.broken)
+      let l = leaves_kept keeps s e c fits stands (own_by (host_asks e.flow) (is_both e.value.end.own) (is_clean_rst p)) in (l.ends, l.fits, l.broken)
   peer_by false c is held = let l = stays c is held in (l.0, l.1, refl)
 
-  pub takes_by : (v : Verdict) → verdict_of e.value.end p.header ≡ v → is_refused v ≡ false → IsWhole p → IsHeldBy e.value
+  pub takes_by : (v : Verdict) → verdict_of e.value.end p.header ≡ v → IsWhole p → IsHeldBy e.value
       → (ends_of_state (after_verdict v p e s) ≡ cond (is_message v && is_reset p.header) (with_clean keeps e.flow (left e.flow (ends_of_state s)))
-      (with_end e.flow (end_after e.value.end p.header) (ends_of_state s))) × IsFitState (after_verdict v p e s) × ((after_verdict v p e s).broken ≡ s.broken)
-  takes_by (verdict.Rst why) is kept whole held = absurd cc
-  takes_by verdict.Peer is kept whole held =
-      peer_by (is_reset p.header) (after_packet verdict.Peer p e.value) refl
-      (subst (λ (w : Verdict). IsHeldBy (after_packet w p e.value)) is (packet_fits p e.value whole held))
-  takes_by v is kept whole held =
+      (with_end e.flow (end_after e.value.end p.header) (ends_of_state s))) × IsFitState hosts (after_verdict v p e s)
+      × (is_refused v ≡ false → (after_verdict v p e s).broken ≡ s.broken)
+  takes_by (verdict.Rst why) is whole held =
+      let c : DriverConnection = after_packet (verdict.Rst why) p e.value in
+      let l = stays c refl (subst (λ (w : Verdict). IsHeldBy (after_packet w p e.value)) is (packet_fits p e.value whole held)) in
+      let r = refused_by e.value.unanswered c in
+      (r.0 ∙ l.0, r.1 l.1, λ kept. absurd cc)
+  takes_by verdict.Peer is whole held =
+      let l = peer_by (is_reset p.header) (after_packet verdict.Peer p e.value) refl
+      (subst (λ (w : Verdict). IsHeldBy (after_packet w p e.value)) is (packet_fits p e.value whole held)) in
+      (l.0, l.1, λ kept. l.2)
+  takes_by v is whole held =
       let l = stays (after_packet v p e.value) refl (subst (λ (w : Verdict). IsHeldBy (after_packet w p e.value)) is (packet_fits p e.value whole held)) in
-      (l.0, l.1, refl)
+      (l.0, l.1, λ kept. refl)
 
   -- A connection leaves at an RST of its type, exactly.
   leaves_by : (v : Verdict) → (is_message v && is_reset p.header) ≡ (is_rst p && is_of e.value.end.kind p.header)
@@ -83,17 +97,18 @@ leaving : (e : ConnectionEnd) (h : Header) → (is_message (verdict_of e h) && i
 leaving = search rules
 
 -- A packet of a connection.
-known : (first : ℕ) (p : Packet) (e : DriverEntry) (s : DriverState) (log : Log) → IsFitState s → Stands s e → flow_got Driver p ≡ e.flow → IsWhole p
-    → is_dropped Driver s.cid p.header ≡ false → Matches Driver first (ends_of_state s) log → IsFairLog Driver (GotPacket p ∷ log) → Gets first p s log (on_known p e s)
-known first p e s log fits stands same whole kept_in m fair =
+known : (hosts : Bool) (first : ℕ) (p : Packet) (e : DriverEntry) (s : DriverState) (log : Log) → IsFitState hosts s → Stands s e → flow_got Driver p ≡ e.flow → IsWhole p
+    → is_dropped Driver s.cid p.header ≡ false → Matches Driver first (ends_of_state s) log → IsFairLog Driver (GotPacket p ∷ log) → Gets hosts first p s log (on_known p e s)
+known hosts first p e s log fits stands same whole kept_in m fair =
     let f : Flow = flow_got Driver p in
     let end : ConnectionEnd = e.value.end in
     let part : Ends = ends_of_state s in
     let has : HasEnd f end part = subst (λ (g : Flow). HasEnd g end part) (sym same) (has_end s e fits stands) in
-    let host : f.peer ≡ HOST_CID = ap (λ (g : Flow). g.peer) same ∙ (entry_fits s e fits stands).peer in
-    let kept : is_refused (verdict_of end p.header) ≡ false = got_not_refused Driver first p end part log m.flows has (fair f) (heard_all first f log host) in
+    let kept : hosts ≡ true → is_refused (verdict_of end p.header) ≡ false = λ all.
+    let host : f.peer ≡ HOST_CID = ap (λ (g : Flow). g.peer) same ∙ (entry_fits s e fits stands).peer all in
+    got_not_refused Driver first p end part log m.flows has (fair f) (heard_all first f log host) in
     let held = (entry_fits s e fits stands).buffer in
-    let by = takes_by p e s fits stands (verdict_of end p.header) refl kept whole held in
+    let by = takes_by p e s fits stands (verdict_of end p.header) refl whole held in
     let ends : ends_of_state (on_known p e s) ≡ taken Driver e.flow end p part = by.0 ∙ leaves_by p e s fits stands (verdict_of end p.header) (leaving end p.header) in
     let now : Matches Driver first (taken Driver f end p part) (GotPacket p ∷ log) =
     takes Driver first p end part log m kept_in has (got_in_order Driver first p log (fair f)) (got_is_taken Driver p log (fair f)) in
@@ -101,13 +116,13 @@ known first p e s log fits stands same whole kept_in m fair =
     record {
       matches = subst (λ (x : Ends). Matches Driver first x (GotPacket p ∷ log)) at now;
       fits = by.1;
-      broken = by.2;
+      broken = λ all. by.2 (kept all);
       answer = false;
       ends = sym at ∙ by_ends p false part (end ∷ []) kept_in has;
     }
 
 -- A packet of an unknown flow.
-pub with_reply_fits : (s : DriverState) (r : Reply) → IsFitState s → IsFitFlow r.flow → IsFitState (with_reply r s)
+pub with_reply_fits : {hosts : Bool} (s : DriverState) (r : Reply) → IsFitState hosts s → IsFitFlow r.flow → IsFitState hosts (with_reply r s)
 with_reply_fits s r fits ports = replies_fit s.cid (s.replies ++ r ∷ []) s fits fits.cid_fits (All-push IsFitReply s.replies r fits.owed ports)
 
 record MayOpen (f : Flow) (s : DriverState) : Type 0 where
@@ -127,7 +142,7 @@ may_open_as f s is = record {
 answering_held : (h : Header) (id : ℕ) → IsHeldBy (record { id = id; end = answering Stream BUF_ALLOC h; unread = []; unanswered = true; closed = false })
 answering_held h id = record { unread = refl; fits = omega arith; space = omega arith; least = omega arith; alloc = omega arith; rx_cnt = omega arith; fwd_cnt = omega arith }
 
-module _ (first : ℕ) (p : Packet) (s : DriverState) (log : Log) (fits : IsFitState s) (none : entry_of s.table (flow_to_guest p.header) ≡ None)
+module _ (hosts : Bool) (first : ℕ) (p : Packet) (s : DriverState) (log : Log) (fits : IsFitState hosts s) (none : entry_of s.table (flow_to_guest p.header) ≡ None)
     (ports : FitsPorts p.header) (kept_in : is_dropped Driver s.cid p.header ≡ false) (m : Matches Driver first (ends_of_state s) log)
     (fair : IsFairLog Driver (GotPacket p ∷ log)) where
   no_end : HasNone (flow_got Driver p) (ends_of_state s)
@@ -139,11 +154,11 @@ module _ (first : ℕ) (p : Packet) (s : DriverState) (log : Log) (fits : IsFitS
   flow_fits : IsFitFlow (flow_to_guest p.header)
   flow_fits = record { guest = ports.dst_port; host = ports.src_port; peer = ports.src_cid }
 
-  replied : is_rst p ≡ false → Gets first p s log (with_reply (reply_to (flow_to_guest p.header) p.header) s)
+  replied : is_rst p ≡ false → Gets hosts first p s log (with_reply (reply_to (flow_to_guest p.header) p.header) s)
   replied other = record {
     matches = refuses Driver first p (ends_of_state s) log m kept_in no_end other order;
     fits = with_reply_fits s (reply_to (flow_to_guest p.header) p.header) fits flow_fits;
-    broken = refl;
+    broken = λ all. refl;
     answer = false;
     ends = refused_by (packets.is_request p)
         ∙ ap (λ (b : Bool). cond b (ends_of_state s) (answered (packets.is_request p) false p (flow_got Driver p) (ends_of_state s))) (sym other)
@@ -155,20 +170,21 @@ module _ (first : ℕ) (p : Packet) (s : DriverState) (log : Log) (fits : IsFitS
       refused_by true = refl
       refused_by false = refl
 
-  was_ignored : is_rst p ≡ true → Gets first p s log s
+  was_ignored : is_rst p ≡ true → Gets hosts first p s log s
   was_ignored rst = record {
     matches = ignores Driver first p (ends_of_state s) log m kept_in no_end rst order;
     fits = fits;
-    broken = refl;
+    broken = λ all. refl;
     answer = false;
     ends = ap (λ (b : Bool). cond b (ends_of_state s) (answered (packets.is_request p) false p (flow_got Driver p) (ends_of_state s))) (sym rst)
         ∙ by_ends p false (ends_of_state s) [] kept_in no_end;
   }
 
-  was_accepted : is_request p.header ≡ true → may_open (flow_to_guest p.header) s ≡ true → Gets first p s log (with_request (flow_to_guest p.header) p.header s)
+  was_accepted : is_request p.header ≡ true → may_open (flow_to_guest p.header) s ≡ true → Gets hosts first p s log (with_request (flow_to_guest p.header) p.header s)
   was_accepted asks may =
       let f : Flow = flow_to_guest p.header in
       let room = may_open_as f s may in
+      let asked : host_asks f ≡ true = host_asks_to f room.peer ∙ room.assigned in
       let c : DriverConnection = record { id = s.next_id; end = answering Stream BUF_ALLOC p.header; unread = []; unanswered = true; closed = false } in
       let free : IsAccepted s.table f = record { absent = none; place = omega (arith, room.place, fits.places); slot = omega (arith, fits.given, room.id) } in
       let asks_for = and_parts (is_of Stream p.header) (packets.is_request p) asks in
@@ -179,11 +195,11 @@ module _ (first : ℕ) (p : Packet) (s : DriverState) (log : Log) (fits : IsFitS
         matches = subst (λ (x : Ends). Matches Driver first x (GotPacket p ∷ log)) (sym ends)
             (accepts Driver first Stream p (ends_of_state s) log m kept_in no_end order (got_is_taken Driver p log (fair (flow_got Driver p))) request
             (eqb-true p.header.kind 1 asks_for.0));
-        fits = opening_fits s f c s.next_port s.clean fits free flow_fits room.peer (answering_held p.header s.next_id) refl fits.port_left (omega arith)
-            (λ own. let both : true ≡ false = sym room.assigned ∙ own in absurd cc) fits.clean_fit
+        fits = opening_fits s f c s.next_port s.clean fits free flow_fits (λ all. room.peer) (answering_held p.header s.next_id) refl fits.port_left (omega arith)
+            (λ own. let both : true ≡ false = sym asked ∙ own in absurd cc) fits.clean_fit
             (clean_entry s.next_port s.next_port s.table f c s.clean fits.clean_sound
-            (none_assigned s.next_port s.table f s.clean fits.clean_sound room.assigned) (omega arith));
-        broken = refl;
+            (none_assigned s.next_port s.table f s.clean fits.clean_sound asked) (omega arith));
+        broken = λ all. refl;
         answer = true;
         ends = ends
             ∙ ap (λ (k : Kind). accepted f k p.header (ends_of_state s)) (sym (ap answer_kind (eqb-true p.header.kind 1 asks_for.0)))
@@ -195,36 +211,36 @@ module _ (first : ℕ) (p : Packet) (s : DriverState) (log : Log) (fits : IsFitS
       not_rst : packets.is_request p ≡ true → is_rst p ≡ false
       not_rst is = grind (arith, nat_tests, common_steps, is)
 
-  unknown : Gets first p s log (on_unknown p s)
+  unknown : Gets hosts first p s log (on_unknown p s)
   unknown = by (is_reset p.header) (is_request p.header) (may_open (flow_to_guest p.header) s) refl refl refl
     where
       by : (a b c : Bool) → is_reset p.header ≡ a → is_request p.header ≡ b → may_open (flow_to_guest p.header) s ≡ c
-          → Gets first p s log (cond a s (cond (b && c) (with_request (flow_to_guest p.header) p.header s) (with_reply (reply_to (flow_to_guest p.header) p.header) s)))
+          → Gets hosts first p s log (cond a s (cond (b && c) (with_request (flow_to_guest p.header) p.header s) (with_reply (reply_to (flow_to_guest p.header) p.header) s)))
       by true b c av bv cv = was_ignored av
       by false true true av bv cv = was_accepted bv cv
       by false true false av bv cv = replied av
       by false false c av bv cv = replied av
 
 -- A packet that is got.
-pub gets_packet : (first : ℕ) (p : Packet) (s : DriverState) (log : Log) → IsFitState s → FitsPorts p.header → IsWhole p
-    → Matches Driver first (ends_of_state s) log → IsFairLog Driver (GotPacket p ∷ log) → Gets first p s log (on_packet p s)
-gets_packet first p s log fits ports whole m fair = drop_by (is_dropped Driver s.cid p.header) refl
+pub gets_packet : (hosts : Bool) (first : ℕ) (p : Packet) (s : DriverState) (log : Log) → IsFitState hosts s → FitsPorts p.header → IsWhole p
+    → Matches Driver first (ends_of_state s) log → IsFairLog Driver (GotPacket p ∷ log) → Gets hosts first p s log (on_packet p s)
+gets_packet hosts first p s log fits ports whole m fair = drop_by (is_dropped Driver s.cid p.header) refl
   where
     by : (o : Option DriverEntry) → entry_of s.table (flow_to_guest p.header) ≡ o → is_dropped Driver s.cid p.header ≡ false
-        → Gets first p s log (on_heard p s)
+        → Gets hosts first p s log (on_heard p s)
     by None none kept_in =
-        subst (λ (t : DriverState). Gets first p s log t) (sym (packet_unknown p s none)) (unknown first p s log fits none ports kept_in m fair)
+        subst (λ (t : DriverState). Gets hosts first p s log t) (sym (packet_unknown p s none)) (unknown hosts first p s log fits none ports kept_in m fair)
     by (Some e) found kept_in =
         let passes = found_by (λ (x : DriverEntry). same_flow (flow_to_guest p.header) x.flow) s.table.entries e found in
         let stands : Stands s e = record { under = found_under _ s.table e fits.sound found; contains = passes.0 } in
         let same = same_is (flow_to_guest p.header) e.flow passes.1 in
-        subst (λ (t : DriverState). Gets first p s log t) (sym (packet_known p s e found)) (known first p e s log fits stands same whole kept_in m fair)
+        subst (λ (t : DriverState). Gets hosts first p s log t) (sym (packet_known p s e found)) (known hosts first p e s log fits stands same whole kept_in m fair)
 
-    drop_by : (b : Bool) → is_dropped Driver s.cid p.header ≡ b → Gets first p s log (cond b s (on_heard p s))
+    drop_by : (b : Bool) → is_dropped Driver s.cid p.header ≡ b → Gets hosts first p s log (cond b s (on_heard p s))
     drop_by true dropped = record {
       matches = drops Driver first p (ends_of_state s) log m dropped (λ asks. got_in_order Driver first p log (fair (flow_got Driver p)));
       fits = fits;
-      broken = refl;
+      broken = λ all. refl;
       answer = false;
       ends = ap (λ (b : Bool). cond b (ends_of_state s)
           (after_packet_on Driver (ends_of (flow_got Driver p) (ends_of_state s).entries) p (flow_got Driver p) false (ends_of_state s))) (sym dropped);

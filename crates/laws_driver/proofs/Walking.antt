@@ -1,5 +1,6 @@
 -- What a walk over the driver's conversations comes to: steps of its seat, from the one that it began with.
-use Rattle.std.proofs.Common.{ℕ, ◌<◌, ◌^◌, List, ◌∷◌, take, refl, sym}
+use Rattle.std.proofs.Common.{◌≡◌, ℕ, ◌<◌, ◌^◌, true, List, ◌∷◌, take, refl, sym, Bool}
+use Rattle.vs_limits.specs.declared.TheConstants.{HOST_CID}
 use Rattle.laws_history.specs.declared.packet.Packet.{Packet}
 use Rattle.vs_page.specs.{Log.Log, declared.log.LogEntry.TheVariants.PutPacket}
 use Rattle.laws_tables.specs.Both.{Seat, Takes, TakesEvent, TakesReset}
@@ -10,29 +11,30 @@ use Rattle.laws_driver.proofs.{Putting.{connect_puts, owed_puts, reply_puts, sen
 abbrev pub goes_from : Seat → Fact
 goes_from w part slots log = Goes w (record { part = part; log = log })
 
-module _ (first : ℕ) (w : Seat) where
-  pub puts_goes : (p : Packet) (s : DriverState) (page : List ℕ) (t : DriverState) (log : Log) → Puts p s page t → Goes w (seat s log)
+module _ (hosts : Bool) (first : ℕ) (w : Seat) where
+  pub puts_goes : (p : Packet) (s : DriverState) (page : List ℕ) (t : DriverState) (log : Log) → Puts hosts p s page t → Goes w (seat s log)
       → Goes w (seat t (PutPacket p ∷ log))
   puts_goes p s page t log puts goes = goes_on w (seat s log) (seat t (PutPacket p ∷ log)) puts.step (puts.may log) (puts.leads log) goes
 
-  pub poll_goes : Carries first (goes_from w)
+  pub poll_goes : Carries hosts first (goes_from w)
   poll_goes = record {
     owed = λ what e s log fits stands owes m was fair goes. puts_goes _ s _ _ log (owed_puts what e s fits stands owes) goes;
     reply = λ r rest s log fits is m fair goes. puts_goes _ s _ (record s { replies = rest }) log (reply_puts r rest s fits is) goes;
     got = λ p s log fits ports whole m was fair goes.
-        let g = gets_packet first p s log fits ports whole m fair in
+        let g = gets_packet hosts first p s log fits ports whole m fair in
         goes_on w (seat s log) _ (Takes p g.answer) tt (at_log _ _ _ (sym g.ends)) goes;
     event = λ id s log goes. goes_on w (seat s log) _ (TakesEvent id) tt refl goes;
     reset = λ cid s log less fits goes. goes_on w (seat s log) _ (TakesReset cid) refl (at_log _ _ _ (sym (resets cid s less fits).ends)) goes;
   }
 
-  pub connect_goes : (host : ℕ) → host < 2 ^ 32 → CarriesConnect first host (goes_from w) (λ answer. goes_from w)
-  connect_goes host port = record {
+  pub connect_goes : (peer to : ℕ) → peer < 2 ^ 64 → to < 2 ^ 32 → (hosts ≡ true → peer ≡ HOST_CID)
+      → CarriesConnect hosts first peer to (goes_from w) (λ answer. goes_from w)
+  connect_goes peer to peer_fits to_fits all = record {
     refused = λ why s log goes. goes;
-    opens = λ s log fits free m was fair goes. puts_goes _ s _ _ log (connect_puts host s port fits free) goes;
+    opens = λ s log fits free m was fair goes. puts_goes _ s _ _ log (connect_puts peer to s peer_fits to_fits all fits free) goes;
   }
 
-  pub send_goes : (id : ℕ) (bytes : List ℕ) → CarriesSend first id bytes (goes_from w) (λ answer. goes_from w)
+  pub send_goes : (id : ℕ) (bytes : List ℕ) → CarriesSend hosts first id bytes (goes_from w) (λ answer. goes_from w)
   send_goes id bytes = record {
     stopped = λ why s log goes. goes;
     unknown = λ s log none goes. goes;

@@ -1,7 +1,7 @@
 -- Where an honest ring tells the driver's log: the driver's connections are those that the log left open, and the log is fair.
-use Rattle.std.specs.{List.All, Option.ForSome, Prelude.{◌≡◌, ℕ, ◌+◌, ◌<◌, ◌≤◌, ◌^◌, false, true, List, [], ◌∷◌}}
+use Rattle.std.specs.{List.All, Option.ForSome, Prelude.{◌≡◌, ℕ, ◌+◌, ◌<◌, ◌≤◌, ◌^◌, Bool, false, true, List, [], ◌∷◌}}
 use Rattle.vs_conn.specs.{End.ConnectionEnd, declared.end.State.State}
-use Rattle.vs_flow.specs.{Flow.is_assigned, Table.{IsTable, Table}, declared.flow.Flow.Flow}
+use Rattle.vs_flow.specs.{Flow.host_asks, Table.{IsTable, Table}, declared.flow.Flow.Flow}
 use Rattle.vs_header.specs.declared.Kind.TheVariants.{Stream}
 use Rattle.vs_limits.specs.declared.TheConstants.{HOST_CID, BUF_ALLOC_MAX, LAST_PORT, DRIVER_CONNECTIONS}
 use Rattle.vs_page.specs.{Fair.IsFairLog, Log.Driver, Open.is_open}
@@ -36,55 +36,56 @@ pub record IsFitFlow (f : Flow) : Type 0 where
   pub host : f.host < 2 ^ 32
   pub peer : f.peer < 2 ^ 64
 
--- A connection is a stream with the host. It holds the bytes that its end counts as unread, of which there are at most its buffer space,
--- which is at most BUF_ALLOC_MAX.
-pub record IsFitEntry (e : DriverEntry) : Type 0 where
+-- A connection is a stream, with the host where the guest has asked the host alone so far. It holds the bytes that its end counts as unread,
+-- of which there are at most its buffer space, which is at most BUF_ALLOC_MAX.
+pub record IsFitEntry (hosts : Bool) (e : DriverEntry) : Type 0 where
   pub ports : IsFitFlow e.flow
-  pub peer : e.flow.peer ≡ HOST_CID
+  pub peer : hosts ≡ true → e.flow.peer ≡ HOST_CID
   pub kind : e.value.end.kind ≡ Stream
   pub buffer : HasRoom e.value.end.credit (record { bytes = e.value.unread; capacity = BUF_ALLOC_MAX })
 
 abbrev pub IsFitReply : Reply → Type 0
 IsFitReply r = IsFitFlow r.flow
 
--- A flow that is kept is one with the host.
-pub record IsFitClean (f : Flow) : Type 0 where
+-- A flow that is kept is one with the host, where the guest has asked the host alone so far.
+pub record IsFitClean (hosts : Bool) (f : Flow) : Type 0 where
   pub ports : IsFitFlow f
-  pub peer : f.peer ≡ HOST_CID
+  pub peer : hosts ≡ true → f.peer ≡ HOST_CID
 
 -- The driver's numbers fit their widths, its table has its places, and the ports of its own connections are below the next, of those that
 -- stand and of those whose flows are kept.
-pub record IsFit (cid next_port next_id : ℕ) (table : Table DriverConnection) (replies : List Reply) (clean : List Flow) : Type 0 where
+pub record IsFit (hosts : Bool) (cid next_port next_id : ℕ) (table : Table DriverConnection) (replies : List Reply) (clean : List Flow) : Type 0 where
   pub cid_fits : cid < 2 ^ 64
   pub port_left : next_port ≤ LAST_PORT + 1
   pub sound : IsTable table
   pub places : table.room ≡ DRIVER_CONNECTIONS
   pub given : table.given ≤ next_id
-  pub entries : All IsFitEntry table.entries
-  pub ports : All (λ e. is_assigned e.flow.host ≡ false → e.flow.guest < next_port) table.entries
+  pub entries : All (IsFitEntry hosts) table.entries
+  pub ports : All (λ e. host_asks e.flow ≡ false → e.flow.guest < next_port) table.entries
   pub owed : All IsFitReply replies
-  pub clean_fit : All IsFitClean clean
+  pub clean_fit : All (IsFitClean hosts) clean
   pub clean_sound : AreClean next_port table clean
 
-abbrev pub IsFitState : DriverState → Type 0
-IsFitState s = IsFit s.cid s.next_port s.next_id s.table s.replies s.clean
+abbrev pub IsFitState : Bool → DriverState → Type 0
+IsFitState hosts s = IsFit hosts s.cid s.next_port s.next_id s.table s.replies s.clean
 
--- The driver and its log, where this was the guest's CID at first: no page is left unpublished, no packet of a connection was refused, each connection is
--- the one that the log left, the log is fair, and each reset of the transport that the driver was told of has its Mark.
-pub record AgreesWith (first : ℕ) (s : DriverState) (l : EndLog) : Type 0 where
-  pub fits : IsFitState s
+-- The driver and its log, where the guest has asked the host alone so far, or maybe other guests too, and this was its CID at first: no page is
+-- left unpublished, each connection is the one that the log left, the log is fair, and each reset of the transport that the driver was told of
+-- has its Mark. No packet of a connection was refused, where all connections are with the host; another guest may be no honest one.
+pub record AgreesWith (hosts : Bool) (first : ℕ) (s : DriverState) (l : EndLog) : Type 0 where
+  pub fits : IsFitState hosts s
   pub published : l.staged.tx ≡ []
-  pub none_refused : s.broken ≡ 0
+  pub none_refused : hosts ≡ true → s.broken ≡ 0
   pub matches : Matches Driver first (ends_of_state s) l.entries
   pub fair : IsFairLog Driver l.entries
   pub marks : MarksResets l.entries
 
 -- The same where the ring is honest and tells the log. Of any other ring nothing is said.
-abbrev pub IsHonestWith : ℕ → DriverState → RingContents → Type 0
-IsHonestWith first s c = c.honest ≡ true → ForSome c.log (AgreesWith first s)
+abbrev pub IsHonestWith : Bool → ℕ → DriverState → RingContents → Type 0
+IsHonestWith hosts first s c = c.honest ≡ true → ForSome c.log (AgreesWith hosts first s)
 
 abbrev pub IsHonest : DriverState → RingContents → Type 0
-IsHonest s c = (first : ℕ) × IsHonestWith first s c
+IsHonest s c = (hosts : Bool) × (first : ℕ) × IsHonestWith hosts first s c
 
 -- The flows of a table that is shown.
 abbrev pub flows_shown : List (Flow × State) → List Flow

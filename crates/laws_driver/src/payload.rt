@@ -17,10 +17,10 @@ ghost use Rattle.laws_driver.specs.Carried.{Senders.IsRightWith, Sent.{PutsJust,
 /// the connection of the send's id, and none on any other. A poll puts no payload (Virtio 1.2, section 5.10.6.3).
 pub fn law_of_sent()
     ensures call { (first : ℕ) (call : GuestCall) (s : DriverState) (c d : RingContents) (x : DriverState × ReplyTo call) → is_right call ≡ true
-        → IsHonestWith first s c → Plays (whole_call call s) c x d → PutsJust (sent_of call x.1 s) c d }
+        → IsHonestWith true first s c → Plays (whole_call call s) c x d → PutsJust (sent_of call x.1 s) c d }
     ensures step { (first : ℕ) (call : GuestCall) (s : DriverState) (c d : RingContents) (x : DriverState × ReplyTo call) → is_right call ≡ true
-        → IsHonestWith first s c → Plays (makes_call call s) c x d → PutsJust (sent_of call x.1 s) c d }
-    ensures poll { (first : ℕ) (s : DriverState) (c d : RingContents) (x : DriverState × Polled) → IsHonestWith first s c
+        → IsHonestWith true first s c → Plays (makes_call call s) c x d → PutsJust (sent_of call x.1 s) c d }
+    ensures poll { (first : ℕ) (s : DriverState) (c d : RingContents) (x : DriverState × Polled) → IsHonestWith true first s c
         → Plays (poll_of s) c x d → PutsJust none_on c d }
     // A send takes nothing once its end has shut its sending.
     ensures shut { (id : ℕ) (bytes : List ℕ) (e : DriverEntry) (s : DriverState) (c d : RingContents) (x : DriverState × Sent)
@@ -40,26 +40,26 @@ pub fn law_of_logs<T>()
 pub fn law_of_received()
     ensures new { (size port id : ℕ) (c d : RingContents) (s : DriverState) → port ≤ LAST_PORT → IsFresh c → Plays (new_of size port id) c s d
         → IsReceivedWith (no_account id) s d }
-    ensures recv { (first id n : ℕ) (a : Account) (s : DriverState) (c : RingContents) → IsHonestWith first s c → IsReceivedWith a s c
+    ensures recv { (first id n : ℕ) (a : Account) (s : DriverState) (c : RingContents) → IsHonestWith true first s c → IsReceivedWith a s c
         → IsReceivedWith (after_receive id n s a) (after_recv id n s) c }
     ensures send { (first id : ℕ) (bytes : List ℕ) (a : Account) (s : DriverState) (c d : RingContents) (x : DriverState × Sent)
-        → IsHonestWith first s c → IsReceivedWith a s c → Plays (send_of id bytes s) c x d → IsReceivedWith a x.0 d }
+        → IsHonestWith true first s c → IsReceivedWith a s c → Plays (send_of id bytes s) c x d → IsReceivedWith a x.0 d }
     // Nor do a connect and a poll. The ids of connections that they open come to the account.
     ensures connect { (first host : ℕ) (a : Account) (s : DriverState) (c d : RingContents) (x : DriverState × Result ℕ ConnectError)
-        → host < 2 ^ 32 → IsHonestWith first s c → IsReceivedWith a s c → Plays (connect_of host s) c x d → GoesOnWith a x.0 d }
+        → host < 2 ^ 32 → IsHonestWith true first s c → IsReceivedWith a s c → Plays (connect_of host s) c x d → GoesOnWith a x.0 d }
     ensures poll { (first : ℕ) (a : Account) (s : DriverState) (c d : RingContents) (x : DriverState × Polled)
-        → IsHonestWith first s c → IsReceivedWith a s c → Plays (poll_of s) c x d → GoesOnWith a x.0 d }
-    ensures shutdown { (first id bits : ℕ) (a : Account) (s : DriverState) (c : RingContents) → IsHonestWith first s c → IsReceivedWith a s c
+        → IsHonestWith true first s c → IsReceivedWith a s c → Plays (poll_of s) c x d → GoesOnWith a x.0 d }
+    ensures shutdown { (first id bits : ℕ) (a : Account) (s : DriverState) (c : RingContents) → IsHonestWith true first s c → IsReceivedWith a s c
         → IsReceivedWith a (after_shutdown id bits s) c }
-    ensures grow { (first id alloc : ℕ) (a : Account) (s : DriverState) (c : RingContents) → IsHonestWith first s c → IsReceivedWith a s c
+    ensures grow { (first id alloc : ℕ) (a : Account) (s : DriverState) (c : RingContents) → IsHonestWith true first s c → IsReceivedWith a s c
         → IsReceivedWith a (after_grow id alloc s) c }
-    ensures close { (first id : ℕ) (a : Account) (s : DriverState) (c : RingContents) → IsHonestWith first s c → IsReceivedWith a s c
+    ensures close { (first id : ℕ) (a : Account) (s : DriverState) (c : RingContents) → IsHonestWith true first s c → IsReceivedWith a s c
         → IsReceivedWith a (after_close id s) c }
-    ensures listen { (first port : ℕ) (a : Account) (s : DriverState) (c : RingContents) → IsHonestWith first s c → IsReceivedWith a s c
+    ensures listen { (first port : ℕ) (a : Account) (s : DriverState) (c : RingContents) → IsHonestWith true first s c → IsReceivedWith a s c
         → IsReceivedWith a (listening port s) c }
-    ensures unlisten { (first port : ℕ) (a : Account) (s : DriverState) (c : RingContents) → IsHonestWith first s c → IsReceivedWith a s c
+    ensures unlisten { (first port : ℕ) (a : Account) (s : DriverState) (c : RingContents) → IsHonestWith true first s c → IsReceivedWith a s c
         → IsReceivedWith a (after_unlisten port s) c }
-    ensures accept { (first port : ℕ) (a : Account) (s : DriverState) (c : RingContents) → IsHonestWith first s c → IsReceivedWith a s c
+    ensures accept { (first port : ℕ) (a : Account) (s : DriverState) (c : RingContents) → IsHonestWith true first s c → IsReceivedWith a s c
         → IsReceivedWith a (after_accept port s) c }
 {}
 
@@ -69,20 +69,20 @@ pub fn law_of_received()
 /// driver that was just made, and so it stays over calls and polls.
 pub fn law_of_journals()
     ensures call { (first id : ℕ) (opened : ℕ → Connection) (journal : Journal) (call : GuestCall) (s : DriverState) (c d : RingContents)
-        (x : DriverState × ReplyTo call) → is_right call ≡ true → IsHonestWith first s c → IsReceivedWith (account_of id opened journal) s c
+        (x : DriverState × ReplyTo call) → is_right call ≡ true → IsHonestWith true first s c → IsReceivedWith (account_of id opened journal) s c
         → Plays (whole_call call s) c x d → IsJournaledWith id opened (with_call call s x.1 journal) x.0 d }
     ensures step { (first id : ℕ) (opened : ℕ → Connection) (journal : Journal) (call : GuestCall) (s : DriverState) (c d : RingContents)
-        (x : DriverState × ReplyTo call) → is_right call ≡ true → IsHonestWith first s c → IsReceivedWith (account_of id opened journal) s c
+        (x : DriverState × ReplyTo call) → is_right call ≡ true → IsHonestWith true first s c → IsReceivedWith (account_of id opened journal) s c
         → Plays (makes_call call s) c x d → IsJournaledWith id opened (with_call call s x.1 journal) x.0 d }
     ensures right_new { (size port id : ℕ) (c d : RingContents) (s : DriverState) → port ≤ LAST_PORT → IsFresh c → Plays (new_of size port id) c s d
         → IsRightWith id (no_account id).opened [] s d }
     ensures right { (first id : ℕ) (opened : ℕ → Connection) (journal : Journal) (call : GuestCall) (s : DriverState) (c d : RingContents)
-        (x : DriverState × ReplyTo call) → is_right call ≡ true → IsHonestWith first s c → IsRightWith id opened journal s c
+        (x : DriverState × ReplyTo call) → is_right call ≡ true → IsHonestWith true first s c → IsRightWith id opened journal s c
         → Plays (whole_call call s) c x d → GoesRightWith id opened (with_call call s x.1 journal) x.0 d }
     ensures right_step { (first id : ℕ) (opened : ℕ → Connection) (journal : Journal) (call : GuestCall) (s : DriverState) (c d : RingContents)
-        (x : DriverState × ReplyTo call) → is_right call ≡ true → IsHonestWith first s c → IsRightWith id opened journal s c
+        (x : DriverState × ReplyTo call) → is_right call ≡ true → IsHonestWith true first s c → IsRightWith id opened journal s c
         → Plays (makes_call call s) c x d → GoesRightWith id opened (with_call call s x.1 journal) x.0 d }
     ensures right_poll { (first id : ℕ) (opened : ℕ → Connection) (journal : Journal) (s : DriverState) (c d : RingContents)
-        (x : DriverState × Polled) → IsHonestWith first s c → IsRightWith id opened journal s c → Plays (poll_of s) c x d
+        (x : DriverState × Polled) → IsHonestWith true first s c → IsRightWith id opened journal s c → Plays (poll_of s) c x d
         → GoesRightWith id opened journal x.0 d }
 {}

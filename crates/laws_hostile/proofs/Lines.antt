@@ -1,13 +1,12 @@
 -- Lines of a hostile guest's script, one after the other.
-use Rattle.std.proofs.Common.{◌≡◌, ℕ, arith, codes, decimal, zero, suc, ◌+◌, ◌-◌, ◌==◌, ◌&&◌, nat_le, Bool, true, false, cond, List, [], ◌∷◌, ◌++◌, length}
+use Rattle.std.proofs.Common.{◌≡◌, ℕ, codes, decimal, zero, suc, ◌+◌, ◌-◌, ◌==◌, ◌&&◌, nat_le, Bool, true, false, cond, List, [], ◌∷◌, ◌++◌, length}
 use Rattle.std.{proofs.Common.{slice_get, Option, Some, None, refl, sym, ap, subst, ◌∙◌}, specs.Option.{option_and_then, option_map_or}}
 use Rattle.vs_flow.specs.declared.flow.Flow.{Flow}
 use Rattle.vs_limits.specs.declared.TheConstants.{GUEST_CID_MIN, GUEST_CID_MAX}
 use Rattle.vs_outside.specs.{HostProgram.{after_client, after_host_write, allowed, client_stream, closed, ended, host_write_answer, with_bytes}, Host.{HostContents, Stream}}
 use Rattle.vs_outside.specs.{Host.{stream_at, waits, with_stream}, HostBytes.{after_line, read_after_ok, wrote_after_connect}, declared.mem_stream.HostWritten.HostWritten}
 use Rattle.vs_page.specs.Fair.{IsPrefixOf}
-use Rattle.laws_device.{specs.Carried.Streamed.has_line, proofs.Carried.Lines.{after_front, after_longer}}
-use Rattle.std.{proofs.lemmas.Bool.Decides.nat_tests, specs.{Fmt.{digit_glyph, digits, digits_onto}, Prelude.{◌/◌, ◌%◌}}}
+use Rattle.laws_device.proofs.Carried.Lines.{after_front, after_longer, ok_front}
 use Rattle.vs_ring_plain.specs.Device.{DeviceState}
 use Rattle.vs_device_parts.specs.Calls.{DeviceTree}
 use Rattle.vs_hostile.specs.Run.{Done, GuestState, HasMemory, HasRings, HasTurned, HostileState, Nothing, Said, beginning, hostile_does, line_in, outside_does, WasReset, over}
@@ -158,25 +157,6 @@ pub run_holds : (lines : List Hostile) → Holds (state_after lines beginning) (
 run_holds lines = lines_hold lines beginning [] beginning_holds
 
 -- Behind its OK line a stream was given what was delivered.
-plain_glyph : (d : ℕ) → (digit_glyph false d == 10) ≡ false
-plain_glyph d = grind (arith, nat_tests)
-
-plain_digits : (k n : ℕ) (acc : List ℕ) → has_line acc ≡ false → has_line (digits_onto k 10 false n acc) ≡ false
-plain_digits zero n acc none = none
-plain_digits (suc k) n acc none =
-    let one : has_line (digit_glyph false (n % 10) ∷ acc) ≡ false = rw (plain_glyph (n % 10)) none in
-    by (n / 10 == 0) one (plain_digits k (n / 10) (digit_glyph false (n % 10) ∷ acc) one)
-  where
-    by : (b : Bool) → has_line (digit_glyph false (n % 10) ∷ acc) ≡ false
-        → has_line (digits_onto k 10 false (n / 10) (digit_glyph false (n % 10) ∷ acc)) ≡ false
-        → has_line (cond b (digit_glyph false (n % 10) ∷ acc) (digits_onto k 10 false (n / 10) (digit_glyph false (n % 10) ∷ acc))) ≡ false
-    by true one rest = one
-    by false one rest = rest
-
-ok_front : (port : ℕ) → has_line (codes "OK " ++ decimal port) ≡ false
-unfolding digits
-ok_front port = plain_digits 64 port [] refl
-
 read_front : (o : Option Flow) (st : Stream) (delivered : List ℕ) → IsGivenOwn o st delivered → IsPrefixOf (read_after_ok st) delivered
 read_front o st delivered given = by o st.by_client refl given
   where

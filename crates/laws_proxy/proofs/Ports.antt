@@ -1,12 +1,12 @@
 -- The flow that a client's connection gets is one of the device's own, and the table takes it.
 use Rattle.std.proofs.Common.{◌≡◌, ℕ, ◌<◌, ◌≤◌, ◌^◌, ◌||◌, nat_le, Bool, true, false, cond, List, [], ◌∷◌, Option, Some, None, refl, sym, ap, subst, ◌∙◌, arith, inl, inr}
-use Rattle.std.{proofs.lemmas.{Bool.Decides.nat_tests, List.Elements.All-tail}, specs.List.{All, find}}
-use Rattle.vs_flow.specs.{CleanPairs.{comes_from, oldest}, Flow.{host_flow, is_assigned, same_flow}, Table.{IsTable, Table, entry_of, has_place, refusal}, declared.flow.Flow.Flow}
-use Rattle.vs_flow.proofs.Entries.{same_flow_true}
+use Rattle.std.{proofs.lemmas.{Bool.Decides.nat_tests, List.Elements.All-tail}, specs.List.All}
+use Rattle.vs_flow.specs.{CleanPairs.{comes_from, oldest}, Flow.{host_asks, host_flow, is_assigned, same_flow}, Table.{IsTable, Table, entry_of, has_place, refusal}, declared.flow.Flow.Flow}
+use Rattle.vs_flow.proofs.Entries.{host_asks_from, same_flow_true}
 use Rattle.vs_limits.specs.declared.TheConstants.{ASSIGNED_FIRST, ASSIGNED_LAST}
-use Rattle.vs_page.{specs.Log.{Device, side_by}, proofs.Flows.same_self}
+use Rattle.vs_page.specs.Log.{Device, side_by}
 use Rattle.vs_ring_port.specs.EndLog.{EndLog}
-use Rattle.laws_tables.{specs.{Ends.{ends_of, entries_of, is_among}, Steps.port_after}, proofs.Slots.{found_by, one_end}}
+use Rattle.laws_tables.{specs.{Ends.{ends_of, entries_of, is_among}, Steps.port_after}, proofs.{Found.found_among, Slots.{found_by, one_end}}}
 use Rattle.vs_device_parts.specs.State.{DeviceConnection, DeviceEntry, DeviceState}
 use Rattle.vs_proxy_parts.specs.Handshakes.{free_flow, next_after, next_flow}
 use Rattle.laws_device.{specs.Honest.{IsFitClean, end_in}, proofs.{Seats.{AgreesBy, Carried}, Turning.Gives}}
@@ -24,19 +24,7 @@ absent t f sound none = by (entry_of t f) refl
         let two : [] ≡ end_in e.value ∷ [] = sym none ∙ ap (λ (g : Flow). ends_of g (entries_of end_in t)) same ∙ one in
         absurd cc
 
--- A flow that is found is one of them, and what is so of each of them is so of it.
-either_true : (a b : Bool) → b ≡ true → (a || b) ≡ true
-either_true true b is = refl
-either_true false b is = is
-
-found_among : (test : Flow → Bool) (f : Flow) (fs : List Flow) → find test fs ≡ Some f → is_among f fs ≡ true
-found_among test f [] is = absurd cc
-found_among test f (g ∷ gs) is = by (test g) is (found_among test f gs)
-  where
-    by : (b : Bool) → cond b (Some g) (find test gs) ≡ Some f → (find test gs ≡ Some f → is_among f gs ≡ true) → is_among f (g ∷ gs) ≡ true
-    by true is rest = let same : g ≡ f = cc in subst (λ h. is_among h (g ∷ gs) ≡ true) same (ap (λ b. b || is_among g gs) (same_self g))
-    by false is rest = either_true (same_flow f g) (is_among f gs) (rest is)
-
+-- What is so of each flow that is kept is so of one that is found among them.
 among_all : (P : Flow → Type 0) (f : Flow) (fs : List Flow) → All P fs → is_among f fs ≡ true → P f
 among_all P f [] each is = absurd cc
 among_all P f (g ∷ gs) each is = by (same_flow f g) refl is (among_all P f gs (All-tail P g gs each))
@@ -51,7 +39,7 @@ above_then port above = grind (arith, nat_tests, above)
 -- So it is of the next flow, over a ring that tells its log.
 pub record IsTaken (carry : Carried) (port : ℕ) (s : DeviceState) (flow : Flow) : Type 0 where
   pub gives : Gives carry port s flow (next_after port)
-  pub inside : is_assigned flow.host ≡ true
+  pub inside : host_asks flow ≡ true
   pub none : refusal s.table flow ≡ None
 
 placed : (s : DeviceState) (o : Option Flow) (flow : Flow) → cond (has_place s.table) o None ≡ Some flow → (has_place s.table ≡ true) × (o ≡ Some flow)
@@ -63,7 +51,7 @@ placed s o flow is = by (has_place s.table) is
 
 module _ (carry : Carried) (first port : ℕ) (s : DeviceState) (guest : ℕ) (flow : Flow) (l : EndLog) (p : AgreesBy carry first port s l)
     (above : ASSIGNED_FIRST ≤ port) (fits : guest < 2 ^ 32) (place : has_place s.table ≡ true) where
-  taken_by : is_assigned flow.host ≡ true → entry_of s.table flow ≡ None → Gives carry port s flow (next_after port) → IsTaken carry port s flow
+  taken_by : host_asks flow ≡ true → entry_of s.table flow ≡ None → Gives carry port s flow (next_after port) → IsTaken carry port s flow
   taken_by inside alone gives = record { gives = gives; inside = inside; none = rw (alone, place) refl }
 
   -- A fresh one.
@@ -91,8 +79,9 @@ module _ (carry : Carried) (first port : ℕ) (s : DeviceState) (guest : ℕ) (f
       let among = found_among (comes_from guest) flow s.clean found in
       let kept = p.matches.flows.kept flow among in
       let fit : IsFitClean flow = among_all IsFitClean flow s.clean p.fits.clean_fit among in
-      let inside : is_assigned flow.host ≡ true = own (is_assigned flow.host) kept.asker in
-      let onward : port_after port flow.host ≡ next_after port = grind (arith, nat_tests, spent, inside) in
+      let inside : host_asks flow ≡ true = own (host_asks flow) kept.asker in
+      let assigned = (host_asks_from flow inside).1 in
+      let onward : port_after port flow.host ≡ next_after port = grind (arith, nat_tests, spent, assigned) in
       taken_by inside (absent s.table flow p.fits.sound kept.no_end) (record {
         next = record { asker = kept.asker; port = inr among };
         ports = fit.ports;

@@ -1,7 +1,7 @@
 -- Bytes of both ends: what each put came first at the other, and the streams are of the same connections.
 use Rattle.laws_device.specs.{Carried.Streamed.{ports_of, Ports, IsStreamed}, Streams.AreStreamedWith}
 use Rattle.std.proofs.Common.{◌≡◌, ℕ, ◌≤◌, List, sym, ap, subst, ◌∙◌}
-use Rattle.vs_flow.specs.{Connection.{Connection}, Flow.is_assigned, Table.Table}
+use Rattle.vs_flow.specs.{Connection.{Connection}, Flow.host_asks, Table.Table}
 use Rattle.laws_history.{specs.{declared.packet.Packet.Packet, History.{Side, gots, peer, puts}}}
 use Rattle.vs_outside.specs.{Host.HostContents, HostBytes.{host_read, host_wrote}}
 use Rattle.vs_page.specs.{Fair.{IsPrefixOf, instance_from, payload_got, payload_of, payload_put}, Log.{Device, Driver, Role, flow_got, other_role, side_of}}
@@ -24,7 +24,7 @@ module _ (b : Both) (ends : BothEnds b) where
       let split = instance-append side c.number (on_flow (flow_got role) c.flow rest.0) came in
       subst (λ (s : Side). IsPrefixOf (payload_got role c (at role b).log)
       (payload_of (instance_from s c.number (puts (whole_of (other_role role) c.flow (at (other_role role) b).log)))))
-      (sym (opposite_by role (is_assigned c.flow.host))) (
+      (sym (opposite_by role (host_asks c.flow))) (
         payload_of split.0,
         ap (λ (ps : List Packet). payload_of (instance_from side c.number ps)) (got_on role c.flow (at role b).log (at (other_role role) b).log rest.0 rest.1)
             ∙ ap payload_of split.1 ∙ payload_of-append split.0 (instance_from side c.number came),

@@ -1,20 +1,14 @@
 -- What the host wrote and read of a connection, against the two logs.
-use Rattle.laws_device.specs.Carried.Streamed.{Ports, IsLabelled, IsStreamed, Seen, count_in, has_line, line_for, look, seen}
-use Rattle.laws_device.proofs.Carried.{Hosts.{stream_is, there}, Lines.after_front}
-use Rattle.std.proofs.Common.{◌≡◌, ℕ, ◌-◌, ◌≤◌, ◌^◌, ◌<◌, Bool, true, false, cond, List, [], ◌++◌, codes, decimal, slice_get, Option, Some, None, refl, sym, ap, subst, ◌∙◌, arith}
-use Rattle.std.{proofs.{Common.option_and_then, lemmas.{Bool.Decides.nat_tests, Option.slice_get_within}}, specs.Option.{option_map_or}}
-use Rattle.vs_flow.specs.{Connection.{Connection}, Flow.is_assigned, Table.Table}
+use Rattle.laws_device.specs.Carried.Streamed.{Ports, IsLabelled, IsStreamed, Seen, count_in, line_for, look, seen}
+use Rattle.laws_device.proofs.Carried.{Hosts.{stream_is, there}, Lines.{after_front, ok_front}}
+use Rattle.std.proofs.Common.{◌≡◌, ℕ, ◌-◌, ◌≤◌, Bool, true, false, cond, List, [], ◌++◌, codes, decimal, slice_get, Option, Some, None, refl, sym, ap, subst, ◌∙◌, arith}
+use Rattle.std.{proofs.{Common.option_and_then, lemmas.Option.slice_get_within}, specs.Option.{option_map_or}}
+use Rattle.vs_flow.specs.{Connection.{Connection}, Flow.host_asks, Table.Table}
 use Rattle.vs_device_parts.specs.State.{DeviceConnection}
 use Rattle.vs_outside.specs.{HostBytes.{after_line, host_read, host_wrote, labelled_with, read_after_ok, stream_of, wrote_after_connect}, Host.{HostContents, Stream, stream_at}}
 use Rattle.vs_page.specs.{Fair.{IsPrefixOf, payload_got, payload_put}, Log.{Device, Log}}
 use Rattle.vs_proxy_parts.specs.State.{Handshake}
-use Rattle.vs_uds.{proofs.{Leading.has_lf-digits, Ports.WritesPort-decimal}, specs.OkLine.ok_text}
-
--- An OK line has no LF but its last byte.
-ok_front : (port : ℕ) → is_assigned port ≡ true → has_line (codes "OK " ++ decimal port) ≡ false
-ok_front port is =
-    let fits : port < 2 ^ 32 = grind (arith, nat_tests, is) in
-    has_lf-digits (decimal port) (WritesPort-decimal port fits).each
+use Rattle.vs_uds.specs.OkLine.{ok_text}
 
 some_stream : (a b : Stream) → ◌≡◌ {A = Option Stream} (Some a) (Some b) → a ≡ b
 some_stream a b is = cc
@@ -62,16 +56,16 @@ module _ (c : HostContents) (log : Log) (port : Ports) (t : Table DeviceConnecti
           let both : None ≡ Some st.stream = sym is ∙ found in absurd cc
   one_stream (Some st) is = let l = (stream_seen st is).own in (l.took, read_front st st.by_client refl l.client l.gave)
     where
-      read_front : (st : Stream) (b : Bool) → st.by_client ≡ b → st.by_client ≡ is_assigned k.flow.host
+      read_front : (st : Stream) (b : Bool) → st.by_client ≡ b → st.by_client ≡ host_asks k.flow
           → IsPrefixOf st.given (line_for k.flow ++ payload_got Device k log)
           → IsPrefixOf (cond st.by_client (after_line st.given) st.given) (payload_got Device k log)
       read_front st true is client gave =
-          let inside : is_assigned k.flow.host ≡ true = sym client ∙ is in
+          let inside : host_asks k.flow ≡ true = sym client ∙ is in
           let line : line_for k.flow ≡ ok_text k.flow.host = ap (λ (b : Bool). cond b (ok_text k.flow.host) []) inside in
-          rw is (after_front (codes "OK " ++ decimal k.flow.host) (payload_got Device k log) st.given (ok_front k.flow.host inside)
+          rw is (after_front (codes "OK " ++ decimal k.flow.host) (payload_got Device k log) st.given (ok_front k.flow.host)
           (subst (λ (bytes : List ℕ). IsPrefixOf st.given (bytes ++ payload_got Device k log)) line gave))
       read_front st false is client gave =
-          let outside : is_assigned k.flow.host ≡ false = sym client ∙ is in
+          let outside : host_asks k.flow ≡ false = sym client ∙ is in
           let line : line_for k.flow ≡ [] = ap (λ (b : Bool). cond b (ok_text k.flow.host) []) outside in
           rw is (subst (λ (bytes : List ℕ). IsPrefixOf st.given (bytes ++ payload_got Device k log)) line gave)
 

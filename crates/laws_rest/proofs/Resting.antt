@@ -4,7 +4,7 @@ use Rattle.std.{proofs.lemmas.{Grind.common_steps, List.Elements.{All-head, All-
 use Rattle.vs_wrap.specs.Wrap.{difference32}
 use Rattle.vs_header.specs.{Kind.kind_number, declared.Kind.Kind}
 use Rattle.vs_conn.specs.{End.{ConnectionEnd, asked, owes_of}, Follows.{Follows, IsLeftBy}, Shut.{is_both, is_within}, declared.{end.State.TheVariants.Live, shut.Shut.Shut}}
-use Rattle.vs_flow.specs.{Flow.{is_assigned, same_flow}, declared.flow.Flow.Flow}
+use Rattle.vs_flow.specs.{Flow.{host_asks, same_flow}, declared.flow.Flow.Flow}
 use Rattle.laws_history.specs.{History.{Answerer, Asker, Got, History, IsFair, MayPut, Put, Side, gots, of_asker, peer, puts}, Packets.{asked_kind, bytes, has, is_response}}
 use Rattle.laws_history.specs.{Packets.{is_rst, told_alloc, told_forwarded}, declared.packet.Packet.Packet}
 use Rattle.vs_limits.specs.declared.TheConstants.{BUF_ALLOC, HOST_CID, UPDATE_AT}
@@ -85,7 +85,7 @@ rest_there role first b f host r =
     let ends = ends_of f (at (other_role role) b).part.entries in
     let there = rest_at (other_role role) first b f host r in
     let t = ties role first b f r in
-    let side = opposite_by role (is_assigned f.host) in
+    let side = opposite_by role (host_asks f) in
     subst (λ s. IsRestingOn (stands (puts h) (gots h)) s (gots h) (puts h) ends) side
     (subst (λ c. IsRestingOn c (side_of (other_role role) f) (gots h) (puts h) ends) (sym (stands_both (puts h) (gots h)))
     (subst (λ x. IsRestingOn (stands (gots h) x) (side_of (other_role role) f) (gots h) x ends) t.went

@@ -12,8 +12,8 @@ use Rattle.laws_tables.specs.{Heard.is_empty, Steps.{owed_on, payload_on, reply_
 use Rattle.vs_driver_parts.specs.{Connections.next_flow, Conversations.{DriverTree, connect_of, new_of, poll_of, send_of}, Playing.Plays, State.DriverState}
 use Rattle.vs_driver_parts.specs.declared.answers.{ConnectError.ConnectError, Polled.Polled, Sent.Sent}
 use Rattle.laws_driver.{specs.Honest.{IsFresh, IsHonestWith}, proofs.{Calls.{CarriesConnect, CarriesSend, connect_keeps, new_keeps, rests_of, send_keeps}, Carrying.Carries}}
-use Rattle.laws_driver.proofs.{Carrying.Fact, Keeping.{Keeps, keeps_end}, Polling.poll_keeps, Putting.next_peer, Staging.Rests, Tabling.entry_fits}
-use Rattle.vs_driver_parts.proofs.Clean.{may_connect}
+use Rattle.laws_driver.proofs.{Carrying.Fact, Keeping.{Keeps, keeps_end}, Polling.poll_keeps, Staging.Rests, Tabling.entry_fits}
+use Rattle.vs_driver_parts.proofs.Clean.{given_to, may_connect}
 use Rattle.laws_rest.specs.Rest.{AreRouted, IsRoutedLog, IsRoutedWith}
 
 abbrev ComesFromHost : Packet → Type 0
@@ -57,11 +57,11 @@ begun_some Answerer [] begun = absurd cc
 begun_some side (entry ∷ h) begun = refl
 
 -- Of each call.
-poll_routes : (first : ℕ) → Carries first (Routed first)
+poll_routes : (first : ℕ) → Carries true first (Routed first)
 poll_routes first = record {
   owed = λ what e s log fits stands owes m was fair routed from.
       let p = owed_on Driver s.cid e.flow e.value.end what in
-      (not_dropped (cid_of first log) s.cid p.header refl m.flows.cid (entry_fits s e fits stands).peer, routed from);
+      (not_dropped (cid_of first log) s.cid p.header refl m.flows.cid ((entry_fits s e fits stands).peer refl), routed from);
   reply = λ r rest s log fits is m fair routed from.
       let p = reply_on Driver s.cid r in
       let begun = ((((one_put Driver log p).0 fair).1).goes_on refl).begun refl in
@@ -72,16 +72,16 @@ poll_routes first = record {
   reset = λ cid s log less fits routed. routed;
 }
 
-connect_routes : (first host : ℕ) → CarriesConnect first host (Routed first) (λ answer. Routed first)
+connect_routes : (first host : ℕ) → CarriesConnect true first HOST_CID host (Routed first) (λ answer. Routed first)
 connect_routes first host = record {
   refused = λ why s log routed. routed;
   opens = λ s log fits free m was fair routed from.
-      let p = request_on Driver s.cid (next_flow host s) Stream in
-      let host_is = next_peer host s fits (next_flow host s) (may_connect host s free).flow in
+      let p = request_on Driver s.cid (next_flow HOST_CID host s) Stream in
+      let host_is = (given_to HOST_CID host s.next_port s.clean (next_flow HOST_CID host s) (may_connect HOST_CID host s free).flow).peer_is in
       (not_dropped (cid_of first log) s.cid p.header refl m.flows.cid host_is, routed from);
 }
 
-send_routes : (first id : ℕ) (bytes : List ℕ) → CarriesSend first id bytes (Routed first) (λ answer. Routed first)
+send_routes : (first id : ℕ) (bytes : List ℕ) → CarriesSend true first id bytes (Routed first) (λ answer. Routed first)
 send_routes first id bytes = record {
   stopped = λ why s log routed. routed;
   unknown = λ s log none routed. routed;
@@ -90,38 +90,38 @@ send_routes first id bytes = record {
   wants = λ e s log fits stands m routed. routed;
   sends = λ e n s log fits stands known can few m was fair routed from.
       let p = payload_on Driver s.cid e.flow e.value.end (take n bytes) in
-      (not_dropped (cid_of first log) s.cid p.header refl m.flows.cid (entry_fits s e fits stands).peer, routed from);
+      (not_dropped (cid_of first log) s.cid p.header refl m.flows.cid ((entry_fits s e fits stands).peer refl), routed from);
 }
 
-module _ (first : ℕ) (s : DriverState) (c d : RingContents) (honest : IsHonestWith first s c) (routed : IsRoutedWith first c) where
-  starts : Rests first (Routed first) s c
-  starts on l is = ((rests_of first s c honest on l is).0, routed on l is)
+module _ (first : ℕ) (s : DriverState) (c d : RingContents) (honest : IsHonestWith true first s c) (routed : IsRoutedWith first c) where
+  starts : Rests true first (Routed first) s c
+  starts on l is = ((rests_of true first s c honest on l is).0, routed on l is)
 
-  ends : {X : Type 0} (tree : DriverTree (DriverState × X)) (x : DriverState × X) → Keeps (λ y e. Rests first (Routed first) y.0 e) tree c
+  ends : {X : Type 0} (tree : DriverTree (DriverState × X)) (x : DriverState × X) → Keeps (λ y e. Rests true first (Routed first) y.0 e) tree c
       → Plays tree c x d
       → IsRoutedWith first d
-  ends tree x keeps plays on l is = let kept : Rests first (Routed first) x.0 d = keeps_end _ tree c d x keeps plays in (kept on l is).1
+  ends tree x keeps plays on l is = let kept : Rests true first (Routed first) x.0 d = keeps_end _ tree c d x keeps plays in (kept on l is).1
 
   pub connect_routed : (host : ℕ) (x : DriverState × Result ℕ ConnectError) → host < 2 ^ 32 → Plays (connect_of host s) c x d
       → IsRoutedWith first d
   connect_routed host x port =
-      ends (connect_of host s) x (connect_keeps first host (Routed first) (λ answer. Routed first)
-      (connect_routes first host) s c port starts)
+      ends (connect_of host s) x (connect_keeps true first HOST_CID host (Routed first) (λ answer. Routed first)
+      (connect_routes first host) (omega arith) port (λ hosts. refl) s c starts)
 
   pub send_routed : (id : ℕ) (bytes : List ℕ) (x : DriverState × Sent) → Plays (send_of id bytes s) c x d → IsRoutedWith first d
   send_routed id bytes x =
-      ends (send_of id bytes s) x (send_keeps first id bytes (Routed first) (λ answer. Routed first)
+      ends (send_of id bytes s) x (send_keeps true first id bytes (Routed first) (λ answer. Routed first)
       (send_routes first id bytes) s c starts)
 
   pub poll_routed : (x : DriverState × Polled) → Plays (poll_of s) c x d → IsRoutedWith first d
-  poll_routed x = ends (poll_of s) x (poll_keeps first (Routed first) (poll_routes first) s c starts)
+  poll_routed x = ends (poll_of s) x (poll_keeps true first (Routed first) (poll_routes first) s c starts)
 
 pub new_routed : (size port id : ℕ) (c d : RingContents) (s : DriverState) → port ≤ LAST_PORT → IsFresh c
     → Plays (new_of size port id) c s d
     → IsRoutedWith s.cid d
 new_routed size port id c d s fits fresh plays on l is =
     let fact : Fact = λ part slots log. (first : ℕ) → IsRoutedLog first log in
-    let kept : Rests s.cid fact s d =
-    keeps_end (λ t e. Rests t.cid fact t e) (new_of size port id) c d s
+    let kept : Rests true s.cid fact s d =
+    keeps_end (λ t e. Rests true t.cid fact t e) (new_of size port id) c d s
     (new_keeps size port id fits fact (λ cid first from. tt) c fresh) plays in
     (kept on l is).1 s.cid

@@ -1,7 +1,7 @@
 -- Whether a flow stands, by the packets put and got on its present connection alone, in whatever order they passed.
 use Rattle.std.proofs.{Common.{◌≡◌, ℕ, Bool, true, false, ◌&&◌, not, if◌then◌else◌, Option, Some, None, List, [], ◌∷◌, refl, sym, ap, ◌∙◌, subst, arith}, lemmas.Grind.common_steps}
 use Rattle.std.{proofs.lemmas.List.Elements.{All-cons, All-head, All-nil, All-tail}, specs.List.All}
-use Rattle.vs_flow.specs.{Flow.{is_assigned, same_flow}, declared.flow.Flow.Flow}
+use Rattle.vs_flow.specs.{Flow.{host_asks, same_flow}, declared.flow.Flow.Flow}
 use Rattle.laws_history.specs.{Again.{AllowsNow, IsFairAll, now_got, now_put}, History.{Answerer, Asker, Got, History, MayPut, Put, Side, gots, is_begun, of_asker, peer, puts}}
 use Rattle.laws_history.{specs.{Packets.{asked_kind, has, is_request, is_rst}, declared.packet.Packet.Packet}, proofs.Present.{is_present, swap, swap_back}}
 use Rattle.vs_limits.specs.declared.TheConstants.{HOST_CID}
@@ -172,7 +172,7 @@ tied role f mine other fair fair_there came went =
     let w = whole_of role f mine in
     let v = whole_of (other_role role) f other in
     let side = side_of role f in
-    let there : side_of (other_role role) f ≡ peer side = opposite_by role (is_assigned f.host) in
+    let there : side_of (other_role role) f ≡ peer side = opposite_by role (host_asks f) in
     let c : puts v ≡ gots w = whole_tied role f mine other came in
     let g : gots v ≡ puts w = sym (subst (λ r. puts (whole_of r f mine) ≡ gots v) (other_twice role) (whole_tied (other_role role) f other mine went)) in
     let here = is_present side w fair in

@@ -1,6 +1,6 @@
 //! A driver's poll that puts nothing, and where its packets go.
 
-ghost use Rattle.std.specs.Prelude.{◌≡◌, ◌<◌, ◌≤◌, ◌^◌, ℕ, List, Result};
+ghost use Rattle.std.specs.Prelude.{◌≡◌, ◌<◌, ◌≤◌, ◌^◌, ℕ, true, List, Result};
 ghost use Rattle.vs_flow.specs.Table.{IsTable};
 ghost use Rattle.vs_ring_port.specs.Contents.{RingContents};
 ghost use Rattle.vs_limits.specs.declared.TheConstants.{LAST_PORT};
@@ -21,9 +21,9 @@ pub fn law_of_routes()
     ensures new { (size port id : ℕ) (c d : RingContents) (s : DriverState) → port ≤ LAST_PORT → IsFresh c → Plays (new_of size port id) c s d
         → IsRoutedWith s.cid d }
     ensures connect { (first host : ℕ) (s : DriverState) (c d : RingContents) (x : DriverState × Result ℕ ConnectError) → host < 2 ^ 32
-        → IsHonestWith first s c → IsRoutedWith first c → Plays (connect_of host s) c x d → IsRoutedWith first d }
+        → IsHonestWith true first s c → IsRoutedWith first c → Plays (connect_of host s) c x d → IsRoutedWith first d }
     ensures send { (first id : ℕ) (bytes : List ℕ) (s : DriverState) (c d : RingContents) (x : DriverState × Sent)
-        → IsHonestWith first s c → IsRoutedWith first c → Plays (send_of id bytes s) c x d → IsRoutedWith first d }
-    ensures poll { (first : ℕ) (s : DriverState) (c d : RingContents) (x : DriverState × Polled) → IsHonestWith first s c
+        → IsHonestWith true first s c → IsRoutedWith first c → Plays (send_of id bytes s) c x d → IsRoutedWith first d }
+    ensures poll { (first : ℕ) (s : DriverState) (c d : RingContents) (x : DriverState × Polled) → IsHonestWith true first s c
         → IsRoutedWith first c → Plays (poll_of s) c x d → IsRoutedWith first d }
 {}

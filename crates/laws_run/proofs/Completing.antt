@@ -103,8 +103,8 @@ module _ (script : RunScript) (driver : DriverState) (end : Sight) (apps : List 
   pub live : (x : DriverEntry) → Contains driver.table.entries x → x.value.end.state ≡ Live
   live x within =
       let fits = (run.kept.honest refl (driver_log end) refl).fits in
-      let fit = All-contains IsFitEntry driver.table.entries x fits.entries within in
-      (settled.paired Driver x.flow x.value.end fit.peer (one_end driver_end driver.table x fits.sound within)).2.here.live
+      let fit = All-contains (IsFitEntry true) driver.table.entries x fits.entries within in
+      (settled.paired Driver x.flow x.value.end (fit.peer refl) (one_end driver_end driver.table x fits.sound within)).2.here.live
 
   -- Both tables.
   device_fits : IsTable p.device.table
@@ -176,8 +176,8 @@ module _ (script : RunScript) (driver : DriverState) (end : Sight) (apps : List 
   pub at_device : (x : DriverEntry) → Contains driver.table.entries x → AtDevice x
   at_device x within =
       let fits = (run.kept.honest refl (driver_log end) refl).fits in
-      let fit = All-contains IsFitEntry driver.table.entries x fits.entries within in
-      let pair = settled.paired Driver x.flow x.value.end fit.peer (one_end driver_end driver.table x fits.sound within) in
+      let fit = All-contains (IsFitEntry true) driver.table.entries x fits.entries within in
+      let pair = settled.paired Driver x.flow x.value.end (fit.peer refl) (one_end driver_end driver.table x fits.sound within) in
       let there = device_entry x.flow pair.0 p.device.table.entries pair.1 in
       record { entry = there.0; within = there.1; flow = there.2; paired = subst (λ (v : ConnectionEnd). ArePaired x.value.end v) (sym there.3) pair.2 }
 
@@ -196,7 +196,7 @@ module _ (script : RunScript) (driver : DriverState) (end : Sight) (apps : List 
       → reads_of at.entry ≡ Some at.entry.value.stream
   reads_there x within unread more at =
       let v : ConnectionEnd = at.entry.value.end in
-      let fit = All-contains IsFitEntry driver.table.entries x (run.kept.honest refl (driver_log end) refl).fits.entries within in
+      let fit = All-contains (IsFitEntry true) driver.table.entries x (run.kept.honest refl (driver_log end) refl).fits.entries within in
       let none : unread_of x.value.end.credit ≡ 0 = sym fit.buffer.unread ∙ ap (λ (bs : List ℕ). length bs) unread in
       let shut = neither x.value.end.peer.send x.value.end.own.receive more in
       let least = credit_there x.value.end v at.paired none (ap (λ (b : Bool). b && x.value.end.own.send) shut.1) in

@@ -5,7 +5,7 @@ use Rattle.vs_contents.{specs.CallTree.{Done, bind}, proofs.Leads.{AllEnds, end_
 use Rattle.vs_conn.specs.{End.{may_send_of, wanting_credit, with_payload_sent}, declared.end.Stop.Stop}
 use Rattle.vs_credit.specs.declared.Credit.{Credit}
 use Rattle.vs_flow.specs.Flow.{is_assigned}
-use Rattle.vs_limits.specs.declared.TheConstants.{DRIVER_CONNECTIONS}
+use Rattle.vs_limits.specs.declared.TheConstants.{DRIVER_CONNECTIONS, HOST_CID}
 use Rattle.vs_script.specs.App.{Act}
 use Rattle.vs_ring_port.specs.Contents.{RingContents}
 use Rattle.vs_driver_parts.specs.Connections.{after_read, after_recv, all_gone_after_read, connect_refusal, connected, is_full, is_spent, entry_answer, entry_read, gone_answer}
@@ -128,13 +128,14 @@ full_by host slots s false true c is = refl
 full_by host slots s false false true is = absurd cc
 full_by host slots s false false false is = absurd cc
 
-stops_connect : (host : ℕ) (s : DriverState) (r : ConnectError) (why : WaitsFor) → connect_refusal host s ≡ Some r → wait_of (told_connect (Err r)) ≡ Some why
+stops_connect : (host : ℕ) (s : DriverState) (r : ConnectError) (why : WaitsFor) → connect_refusal HOST_CID host s ≡ Some r → wait_of (told_connect (Err r)) ≡ Some why
     → StopsConnect why s
 stops_connect host s (refused.Full slots) why at is =
-    subst (λ (w : WaitsFor). StopsConnect w s) (same_Some waits.Full why is) (full_by host slots s (is_assigned host) (is_full s) (is_spent host s) at)
+    subst (λ (w : WaitsFor). StopsConnect w s) (same_Some waits.Full why is) (full_by host slots s (is_assigned host) (is_full s) (is_spent HOST_CID host s) at)
 stops_connect host s (refused.NoDescriptor n) why at is = subst (λ (w : WaitsFor). StopsConnect w s) (same_Some (waits.NoDescriptor n) why is) tt
 stops_connect host s (refused.BadPort port) why at is = absurd cc
 stops_connect host s (refused.PortsSpent port id) why at is = absurd cc
+stops_connect host s (refused.BadCid cid) why at is = absurd cc
 
 stops_accept : (port : ℕ) (s : DriverState) (b : Bool) (o : Option ℕ) (why : WaitsFor) → is_some (listener_on port s.listeners) ≡ b → next_accepted port s ≡ o
     → wait_of (told_accept (cond b (elim o as (λ _. Accepted) [ None ↦ accepted.None | Some id ↦ accepted.Conn id ]) accepted.NotListening)) ≡ Some why
@@ -143,10 +144,10 @@ stops_accept port s true None why listens none is = subst (λ (w : WaitsFor). St
 stops_accept port s true (Some id) why listens some is = absurd cc
 stops_accept port s false o why listens none is = absurd cc
 
-connects_page : (host : ℕ) (s t : DriverState) → SameCore s t → AllEnds (Connects s) (connect_with_page host t)
+connects_page : (host : ℕ) (s t : DriverState) → SameCore s t → AllEnds (Connects s) (connect_with_page HOST_CID host t)
 connects_page host s t same = by (has_page t) refl
   where
-    by : (b : Bool) → has_page t ≡ b → AllEnds (Connects s) (cond b (bind (post_packet (request_bytes host t) t) (λ u. Done (connected host u, Ok u.next_id)))
+    by : (b : Bool) → has_page t ≡ b → AllEnds (Connects s) (cond b (bind (post_packet (request_bytes HOST_CID host t) t) (λ u. Done (connected HOST_CID host u, Ok u.next_id)))
         (Done (t, Err (refused.NoDescriptor t.in_flight))))
     by true has = λ a b why waits. absurd cc
     by false has = λ why is. (
@@ -156,12 +157,13 @@ connects_page host s t same = by (has_page t) refl
     )
 
 -- What refuses a connect at once is no want of a page.
-refusal_roomy : (host : ℕ) (s : DriverState) (refusal : ConnectError) (why : WaitsFor) → connect_refusal host s ≡ Some refusal
+refusal_roomy : (host : ℕ) (s : DriverState) (refusal : ConnectError) (why : WaitsFor) → connect_refusal HOST_CID host s ≡ Some refusal
     → wait_of (told_connect (Err refusal)) ≡ Some why → IsRoomy why
 refusal_roomy host s (refused.BadPort port) why is waits = absurd cc
 refusal_roomy host s (refused.Full slots) why is so = subst IsRoomy (same_Some waits.Full why so) tt
 refusal_roomy host s (refused.PortsSpent port id) why is waits = absurd cc
-refusal_roomy host s (refused.NoDescriptor n) why is waits = by (is_assigned host) (is_full s) (is_spent host s) is
+refusal_roomy host s (refused.BadCid cid) why is waits = absurd cc
+refusal_roomy host s (refused.NoDescriptor n) why is waits = by (is_assigned host) (is_full s) (is_spent HOST_CID host s) is
   where
     by : (a b c : Bool) → cond a (Some (refused.BadPort host)) (cond b (Some (refused.Full DRIVER_CONNECTIONS))
         (cond c (Some (refused.PortsSpent s.last_port s.last_id)) None)) ≡ Some (refused.NoDescriptor n) → IsRoomy why
@@ -170,13 +172,13 @@ refusal_roomy host s (refused.NoDescriptor n) why is waits = by (is_assigned hos
     by false false true says = absurd cc
     by false false false says = absurd cc
 
-connects_as : (host : ℕ) (s : DriverState) (o : Option ConnectError) → connect_refusal host s ≡ o → AllEnds (Connects s) (elim o [
+connects_as : (host : ℕ) (s : DriverState) (o : Option ConnectError) → connect_refusal HOST_CID host s ≡ o → AllEnds (Connects s) (elim o [
   | Some refusal ↦ Done (s, Err refusal)
-  | None ↦ bind (reap_all s) (connect_with_page host)
+  | None ↦ bind (reap_all s) (connect_with_page HOST_CID host)
 ])
 connects_as host s (Some refusal) at = λ why is. (core_same s, stops_connect host s refusal why at is, λ room. refusal_roomy host s refusal why at is)
 connects_as host s None at =
-    ends_then (Connects s) (SameCore s) (reap_all s) (connect_with_page host) (reaps_all s) (λ t same. connects_page host s t same)
+    ends_then (Connects s) (SameCore s) (reap_all s) (connect_with_page HOST_CID host) (reaps_all s) (λ t same. connects_page host s t same)
 
 -- A send.
 abbrev Sends : ℕ → DriverState → DriverState × Sent → Type 0
@@ -303,7 +305,7 @@ accept_roomy accepted.NotListening why is = absurd cc
 pub waits_leave : (c : GuestCall) (s t : DriverState) (old new : RingContents) (reply : ReplyTo c) (why : WaitsFor)
     → Plays (whole_call c s) old (t, reply) new → wait_of (told_by c reply) ≡ Some why → Leaves s t × Stops c why s × (HasRoom s → HasRoom t × IsRoomy why)
 waits_leave (call.Connect port) s t old new reply why plays waits =
-    let both = end_of (Connects s) RingAllows (connect_of port s) old new (t, reply) (connects_as port s (connect_refusal port s) refl) plays why waits in
+    let both = end_of (Connects s) RingAllows (connect_of port s) old new (t, reply) (connects_as port s (connect_refusal HOST_CID port s) refl) plays why waits in
     (leaves_core s t both.0, both.1, λ room. (room_stays s t both.0 room, both.2 room))
 waits_leave (call.Send id bytes) s t old new reply why plays waits =
     end_of (Sends id s) RingAllows (send_of id bytes s) old new (t, reply) (sends_as id bytes s (entry_known_as id s) refl) plays why waits

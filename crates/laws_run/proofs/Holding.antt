@@ -6,7 +6,7 @@ use Rattle.std.proofs.lemmas.List.{Elements.{Contains-append_right, Contains-get
 use Rattle.std.{proofs.lemmas.{Map.Made.{IsDistinct-from_AllPairs, is_member-Decides, length-le_from_is_member}, Option.{same_Some, slice_get_within}}, specs.Bool.Decides}
 use Rattle.std.specs.{List.{All, AllPairs, cons_option, filter_map, list_any, range_with_len}, Option.{option_map, option_map_or}, Prelude.position}
 use Rattle.vs_conn.specs.declared.end.State.{State, TheVariants.Live}
-use Rattle.vs_flow.{specs.{Connection.Connection, Flow.is_assigned, declared.flow.Flow.Flow}, proofs.Entries.none_found}
+use Rattle.vs_flow.{specs.{Connection.Connection, Flow.host_asks, declared.flow.Flow.Flow}, proofs.Entries.none_found}
 use Rattle.vs_limits.specs.declared.TheConstants.{DRIVER_CONNECTIONS, FIRST_CID}
 use Rattle.vs_outside.specs.{Faults.one_more, Host.{HostContents, Stream, stream_at}, HostBytes.{connection_at, labelled_with, numbered_in, stream_of}}
 use Rattle.vs_ring_shared.specs.Sights.{DeviceSight, Sight, device_contents, driver_contents, driver_log}
@@ -336,7 +336,7 @@ module _ (script : RunScript) (driver : DriverState) (end : Sight) (apps : List 
         (ap (λ (c : Connection). let p : Option Connection = Some c in p) (sym same)))
 
     -- One without, which has a stream; or none.
-    stream_counts : (c : Connection) → 1 ≤ c.number → is_assigned c.flow.host ≡ true → has_line opened lines c ≡ false → (s : Stream) → stream_of c h ≡ Some s
+    stream_counts : (c : Connection) → 1 ≤ c.number → host_asks c.flow ≡ true → has_line opened lines c ≡ false → (s : Stream) → stream_of c h ≡ Some s
         → Contains counted c
     stream_counts c some assigned none s is =
         let it = stream_seen h e.sight.log (ports_of p.next_port p.device) p.device.table p.handshakes
@@ -350,7 +350,7 @@ module _ (script : RunScript) (driver : DriverState) (end : Sight) (apps : List 
         ∙ ap (λ (b : Bool). b && option_map_or (λ d. not (has_line opened lines d)) (connection_at it.id h) false) (it.own.client ∙ assigned)
         ∙ ap (λ (o : Option Connection). option_map_or (λ d. not (has_line opened lines d)) o false) here ∙ ap (λ (b : Bool). not b) none) here))
 
-    gone_counts : (g : GoneConnection) → Contains driver.gone g → is_assigned g.flow.host ≡ true → has_line opened lines (opened g.id) ≡ false
+    gone_counts : (g : GoneConnection) → Contains driver.gone g → host_asks g.flow ≡ true → has_line opened lines (opened g.id) ≡ false
         → stream_of (opened g.id) h ≡ None → Contains counted (opened g.id)
     gone_counts g within assigned none alone =
         Contains-append_right (filter_map line_of lined_ones) _ (opened g.id) (Contains-append_right (filter_map its_stream_of unaccepted_ones) _ (opened g.id)
@@ -359,10 +359,10 @@ module _ (script : RunScript) (driver : DriverState) (end : Sight) (apps : List 
         ∙ ap (λ (b : Bool). not b && not (is_some (stream_of (opened g.id) h))) none ∙ ap (λ (o : Option Stream). not (is_some o)) alone) refl))
 
     -- Where it wasn't given: it waits, so it is a client's.
-    of_client : (id : ℕ) (f : Flow) → IsPlaced journal driver.listeners id f → has_line opened lines (opened id) ≡ false → is_assigned f.host ≡ true
-    of_client id f at none = by (is_assigned f.host) refl
+    of_client : (id : ℕ) (f : Flow) → IsPlaced journal driver.listeners id f → has_line opened lines (opened id) ≡ false → host_asks f ≡ true
+    of_client id f at none = by (host_asks f) refl
       where
-        by : (b : Bool) → is_assigned f.host ≡ b → is_assigned f.host ≡ true
+        by : (b : Bool) → host_asks f ≡ b → host_asks f ≡ true
         by true is = is
         by false is = let no_way : true ≡ false = sym (given_has id (at.own is)) ∙ none in absurd cc
 
@@ -381,7 +381,7 @@ module _ (script : RunScript) (driver : DriverState) (end : Sight) (apps : List 
         by false none =
             let s = its_own x within in
             stream_counts (opened x.value.id) (in_table x within)
-            (ap (λ (f : Flow). is_assigned f.host) (flow_of x within) ∙ of_client x.value.id x.flow at.placed none) none s.0 s.1
+            (ap (λ (f : Flow). host_asks f) (flow_of x within) ∙ of_client x.value.id x.flow at.placed none) none s.0 s.1
 
     left_counts : (g : GoneConnection) → Contains driver.gone g → Contains counted (opened g.id)
     left_counts g within = by (has_line opened lines (opened g.id)) refl
@@ -393,7 +393,7 @@ module _ (script : RunScript) (driver : DriverState) (end : Sight) (apps : List 
         streams_of None is none = gone_counts g within (of_client g.id g.flow at.placed none) none is
         streams_of (Some s) is none =
             stream_counts (opened g.id) (in_gone g within).0
-            (ap (λ (f : Flow). is_assigned f.host) (in_gone g within).1 ∙ of_client g.id g.flow at.placed none) none s is
+            (ap (λ (f : Flow). host_asks f) (in_gone g within).1 ∙ of_client g.id g.flow at.placed none) none s is
 
         by : (b : Bool) → has_line opened lines (opened g.id) ≡ b → Contains counted (opened g.id)
         by true has = line_counts g.id (in_gone g within).0 (or_first (not (was_closed g.id journal)) _ (ap (λ (b : Bool). not b) at.kept)) has
@@ -466,7 +466,7 @@ module _ (script : RunScript) (driver : DriverState) (end : Sight) (apps : List 
   -- The report, with all that is so of it.
   pub complete_report : (opened : ℕ → Connection)
       × ((t : Totals) (before after : ℕ) → t.broken ≡ driver.broken → t.counters.overrun ≡ p.device.overrun → t.counters.dropped ≡ 0
-      → (1 ≤ t.counters.faults → one_more before ≤ after) → IsRightReport script apps entries bytes t opened h before after)
+      → (1 ≤ t.counters.faults → one_more before ≤ after) → IsRightReport script apps entries bytes t opened end.log h before after)
       × ((t : Totals) → t.guest_open ≡ length (guest_shown driver) → t.device_open ≡ length (device_shown p.device)
       → IsCompleteRun script apps entries bytes t opened h)
       × ArePlaceWaits script apps entries bytes driver opened h

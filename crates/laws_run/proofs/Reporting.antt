@@ -1,8 +1,9 @@
 -- From what a run ends in to a right report.
 use Rattle.std.{proofs.Common.{◌≡◌, ℕ, ◌<◌, ◌≤◌, List, Some, length, refl, sym, ap, subst, ◌∙◌}, specs.List.All}
-use Rattle.vs_flow.specs.Connection.{Connection}
+use Rattle.vs_flow.specs.{Connection.Connection, declared.flow.Flow.Flow}
 use Rattle.vs_limits.specs.declared.TheConstants.{FIRST_CID}
 use Rattle.vs_outside.specs.{Faults.one_more, Host.HostContents}
+use Rattle.vs_page.specs.{Fair.number_of, Log.Driver}
 use Rattle.vs_ring_shared.specs.Sights.{DeviceSight, Sight, device_contents, device_log, driver_contents, driver_log}
 use Rattle.vs_driver_parts.specs.State.{DriverState}
 use Rattle.vs_device_parts.specs.Playing.{situation}
@@ -22,7 +23,7 @@ module _ (script : RunScript) (driver : DriverState) (end : Sight) (apps : List 
     (steady : IsSteady p (situation (device_contents e) (Some h) faults)) where
   pub none_lost : (driver.broken ≡ 0) × (p.device.overrun ≡ 0)
   none_lost = (
-    (run.kept.honest refl (driver_log end) refl).none_refused,
+    (run.kept.honest refl (driver_log end) refl).none_refused refl,
     ((steady.order.ring.1.1 (device_log e) refl).1 refl).none_overrun,
   )
 
@@ -43,22 +44,28 @@ module _ (script : RunScript) (driver : DriverState) (end : Sight) (apps : List 
     Account opened = IsAccount 1 opened journal entries end.log (slots_of driver)
 
     right_one : (opened : ℕ → Connection) → Account opened → (o : Opened) → (1 ≤ (opened o.id).number) × ((opened o.id).flow ≡ o.flow)
-        → IsRightConnection opened journal h o
+        → IsRightConnection opened end.log journal h o
     right_one opened account o has =
         let c = carried driver end p e settled h faults streams opened journal entries account o.id has.0 in
-        record { some = has.0; flow = has.1; to_host = c.to_host; to_guest = c.to_guest }
+        record {
+          some = has.0;
+          passed = subst (λ (f : Flow). (opened o.id).number ≤ number_of Driver f end.log) has.1 (account.right.received.passed o.id);
+          flow = has.1;
+          to_host = c.to_host;
+          to_guest = c.to_guest;
+        }
 
-    right_all : (opened : ℕ → Connection) → Account opened → All (IsRightConnection opened journal h) (opened_all (length script) entries)
+    right_all : (opened : ℕ → Connection) → Account opened → All (IsRightConnection opened end.log journal h) (opened_all (length script) entries)
     right_all opened account i d less =
         right_one opened account _ (all_opened opened (length script) entries account.flows i d less)
 
     pub right_with : (opened : ℕ → Connection) → Account opened → (t : Totals) (before after : ℕ) → t.broken ≡ driver.broken
         → t.counters.overrun ≡ p.device.overrun → t.counters.dropped ≡ 0 → (1 ≤ t.counters.faults → one_more before ≤ after)
-        → IsRightReport script apps entries bytes t opened h before after
+        → IsRightReport script apps entries bytes t opened end.log h before after
     right_with opened account t before after broken overrun dropped counted = record {
       played = run.follows;
       ended = ended;
-      once = account.right.received.once;
+      rising = account.right.received.rising;
       connections = right_all opened account;
       totals = record { dropped = dropped; overrun = overrun ∙ none_lost.1; broken = broken ∙ none_lost.0; faults = counted };
     }
@@ -68,5 +75,5 @@ module _ (script : RunScript) (driver : DriverState) (end : Sight) (apps : List 
 
     pub right_report : (opened : ℕ → Connection) × ((t : Totals) (before after : ℕ) → t.broken ≡ driver.broken
         → t.counters.overrun ≡ p.device.overrun → t.counters.dropped ≡ 0 → (1 ≤ t.counters.faults → one_more before ≤ after)
-        → IsRightReport script apps entries bytes t opened h before after)
+        → IsRightReport script apps entries bytes t opened end.log h before after)
     right_report = (accounted.0, right_with accounted.0 accounted.1)

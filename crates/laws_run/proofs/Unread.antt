@@ -3,16 +3,16 @@ use Rattle.std.proofs.Common.{◌≡◌, ◌⊎◌, inl, inr, ℕ, ◌+◌, ◌-
 use Rattle.std.proofs.{Common.{Err, None, Option, codes, decimal, refl, sym, ap, subst, ◌∙◌, arith, length-append}, lemmas.{Bool.Decides.nat_tests, List.Elements.All-contains}}
 use Rattle.vs_credit.specs.Credit.{free_of, unread_of}
 use Rattle.vs_conn.specs.{End.{ConnectionEnd, may_send_of, state_may_send}, Follows.{Follows, IsLeftBy}, Shut.is_both, declared.end.State.{State, TheVariants.{Asked, Ended, Live}}}
-use Rattle.vs_flow.specs.{Connection.Connection, Flow.is_assigned, Table.Table, declared.flow.Flow.Flow}
+use Rattle.vs_flow.specs.{Connection.Connection, Flow.host_asks, Table.Table, declared.flow.Flow.Flow}
 use Rattle.vs_outside.specs.{Host.HostContents, HostBytes.{after_line, host_read}}
-use Rattle.vs_uds.{proofs.{Leading.has_lf-digits, Ports.WritesPort-decimal}, specs.OkLine.ok_text}
+use Rattle.vs_uds.specs.OkLine.{ok_text}
 use Rattle.laws_history.specs.{History.{History, Side, gots, puts}, Packets.{bytes, told_forwarded}}
 use Rattle.vs_page.{specs.{Fair.{IsFairLog, current, number_of, payload_got}, Log.{Device, Log, history_of, side_of}, Open.left_kind}, proofs.Payload.length-payload_of}
 use Rattle.vs_page.proofs.Present.{present_got}
 use Rattle.vs_device_parts.specs.State.{DeviceConnection, DeviceEntry}
 use Rattle.vs_proxy_parts.specs.State.{Handshake}
 use Rattle.laws_tables.{specs.{Ends.{Ends, ends_of, is_among, replied, is_new_in}, Heard.heard_of, Matches.{IsBefore, IsLeftOn, Matches}, Steps.HasEnd}, proofs.Fair.heard_less}
-use Rattle.laws_device.{specs.Carried.Streamed.{IsJoined, IsStreamed, Ports, connection_of, count_in, gives_in, has_line, look}, proofs.Carried.{Hosts.there, Lines.after_is_rest}}
+use Rattle.laws_device.{specs.Carried.Streamed.{IsJoined, IsStreamed, Ports, connection_of, count_in, gives_in, has_line, look}, proofs.Carried.{Hosts.there, Lines.{after_is_rest, ok_front}}}
 use Rattle.laws_device.proofs.Carried.Lines.{after_longer, line_ends, line_whole, rest_of}
 use Rattle.laws_rest.proofs.Hosts.{read_own}
 use Rattle.vs_conn.specs.declared.end.Stop.TheVariants as stop
@@ -84,11 +84,6 @@ no_rest (x ∷ xs) none = by (x == 10) none (no_rest xs)
     by true none rest = absurd cc
     by false none rest = rest none
 
-ok_front : (port : ℕ) → is_assigned port ≡ true → has_line (codes "OK " ++ decimal port) ≡ false
-ok_front port is =
-    let fits : port < 2 ^ 32 = grind (arith, nat_tests, is) in
-    has_lf-digits (decimal port) (WritesPort-decimal port fits).each
-
 abbrev Within : List ℕ → List ℕ → List ℕ → Type 0
 Within read pending got = (length read ≡ 0) ⊎ (length read + length pending ≤ length got)
 
@@ -98,10 +93,10 @@ split_len a b c d is =
     let first = length-append a (b ++ c) in
     let rest = length-append b c in omega (arith, all, first, rest)
 
-read_within : (b : Bool) (port : ℕ) (given line pending got : List ℕ) → is_assigned port ≡ b
+read_within : (b : Bool) (port : ℕ) (given line pending got : List ℕ)
     → given ++ (line ++ pending) ≡ cond b (ok_text port) [] ++ got → Within (cond b (after_line given) given) pending got
-read_within false port given line pending got inside is = inr (split_len given line pending got is)
-read_within true port given line pending got inside is = by (has_line given) refl
+read_within false port given line pending got is = inr (split_len given line pending got is)
+read_within true port given line pending got is = by (has_line given) refl
   where
     front : List ℕ
     front = codes "OK " ++ decimal port
@@ -110,7 +105,7 @@ read_within true port given line pending got inside is = by (has_line given) ref
     by false none = inl (ap (λ (bs : List ℕ). length bs) (after_is_rest given ∙ no_rest given none))
     by true some = inr (split_len (after_line given) line pending got
         (sym (after_longer given (line ++ pending) some) ∙ ap after_line is ∙ after_longer (front ++ 10 ∷ []) got (line_whole front)
-        ∙ ap (λ (bs : List ℕ). bs ++ got) (line_ends front (ok_front port inside))))
+        ∙ ap (λ (bs : List ℕ). bs ++ got) (line_ends front (ok_front port))))
 
 module _ (h : HostContents) (log : Log) (port : Ports) (t : Table DeviceConnection) (hands : List Handshake) (streamed : IsStreamed h log port t hands)
     (y : DeviceEntry) (within : Contains t.entries y) (live : y.value.end.state ≡ Live) (goes_on : y.value.end.own.receive ≡ false) where
@@ -129,7 +124,7 @@ module _ (h : HostContents) (log : Log) (port : Ports) (t : Table DeviceConnecti
       (subst (λ (bs : List ℕ). Within bs y.value.pending (payload_got Device (connection_of y log) log))
       (ap (λ (b : Bool). cond b (after_line here.stream.given) here.stream.given) (sym client)
       ∙ read_own h log port t hands streamed (connection_of y log) labels.some y.value.stream here.stream here.at label)
-      (read_within (is_assigned y.flow.host) y.flow.host here.stream.given y.value.ok_line y.value.pending (payload_got Device (connection_of y log) log) refl
+      (read_within (host_asks y.flow) y.flow.host here.stream.given y.value.ok_line y.value.pending (payload_got Device (connection_of y log) log)
       (ap (λ s. s.given ++ (y.value.ok_line ++ y.value.pending)) here.is ∙ all)))
 
   -- Many are pending: so many the host's program has still to read.

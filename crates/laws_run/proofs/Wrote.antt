@@ -1,6 +1,6 @@
 -- What of both ends' bytes holds at rest: all payload arrived, and the host's streams took and gave it.
 use Rattle.std.proofs.Common.{◌≡◌, ℕ, ◌≤◌, true, false, List, [], ◌∷◌, Some, refl, sym, ap, ◌∙◌}
-use Rattle.vs_flow.specs.{Connection.Connection, Flow.is_assigned, declared.flow.Flow.Flow}
+use Rattle.vs_flow.specs.{Connection.Connection, Flow.host_asks, declared.flow.Flow.Flow}
 use Rattle.vs_limits.specs.declared.TheConstants.{FIRST_CID}
 use Rattle.laws_history.specs.{Again.count, Packets.is_request, declared.packet.Packet.Packet, History.{Answerer, Asker, Side, gots, peer, puts}}
 use Rattle.vs_outside.specs.{Host.HostContents, HostBytes.host_wrote}
@@ -23,13 +23,13 @@ module _ (role : Role) (mine other : Log) (all : packets_put other ≡ packets_g
 
   pub same_payload : (c : Connection) → payload_put (other_role role) c other ≡ payload_got role c mine
   same_payload c =
-      ap (λ (side : Side). payload_of (instance_from side c.number (puts (whole_of (other_role role) c.flow other)))) (opposite_by role (is_assigned c.flow.host))
+      ap (λ (side : Side). payload_of (instance_from side c.number (puts (whole_of (other_role role) c.flow other)))) (opposite_by role (host_asks c.flow))
       ∙ ap (λ (ps : List Packet). payload_of (instance_from (peer (side_of role c.flow)) c.number ps)) (there c.flow)
 
 same_number : (driver device : Log) (f : Flow) → packets_put driver ≡ packets_got device → packets_put device ≡ packets_got driver
     → number_of Driver f driver ≡ number_of Device f device
 same_number driver device f to_device to_driver =
-    ap (λ (side : Side). asked_by side (puts (whole_of Driver f driver)) (gots (whole_of Driver f driver))) (opposite_by Device (is_assigned f.host))
+    ap (λ (side : Side). asked_by side (puts (whole_of Driver f driver)) (gots (whole_of Driver f driver))) (opposite_by Device (host_asks f))
     ∙ by (side_of Device f)
   where
     by : (side : Side) → asked_by (peer side) (puts (whole_of Driver f driver)) (gots (whole_of Driver f driver))

@@ -1,7 +1,7 @@
 -- What a wait for a place and a wait for a client say, of a run that is at rest.
 use Rattle.std.specs.{List.{filter, list_any, range_with_len}, Option.option_map_or, Prelude.{◌≡◌, ℕ, ◌+◌, ◌<◌, ◌≤◌, ◌==◌, ◌&&◌, ◌||◌, is_some, not, Bool, true, false, List}}
 use Rattle.std.specs.Prelude.{length, slice_get, Some}
-use Rattle.vs_flow.specs.{Connection.Connection, Flow.is_assigned}
+use Rattle.vs_flow.specs.{Connection.Connection, Flow.host_asks}
 use Rattle.vs_limits.specs.declared.TheConstants.{DRIVER_CONNECTIONS}
 use Rattle.vs_outside.specs.{Host.{HostContents, stream_at}, HostBytes.{connection_at, stream_of}}
 use Rattle.laws_tables.specs.Drains.{is_same}
@@ -37,7 +37,7 @@ is_unaccepted opened lines h id =
 
 abbrev pub is_unlabelled : (ℕ → Connection) → List Opened → HostContents → GoneConnection → Bool
 is_unlabelled opened lines h g =
-    is_assigned g.flow.host && (not (has_line opened lines (opened g.id)) && not (is_some (stream_of (opened g.id) h)))
+    host_asks g.flow && (not (has_line opened lines (opened g.id)) && not (is_some (stream_of (opened g.id) h)))
 
 -- All slots of the driver are held: by those that have lines, and by clients' that nobody accepted.
 abbrev pub LacksPlace : (ℕ → Connection) → Journal → List Opened → DriverState → HostContents → Type 0

@@ -38,7 +38,7 @@ pub fn law_of_complete_runs()
         → IsProxyStreamed FIRST_CID p (situation (device_contents e) (Some h) faults)
         → AreIdle p.device.table (Some h)
         → (opened : ℕ → Connection) × ((t : Totals) (before after : ℕ) → t.broken ≡ driver.broken → t.counters.overrun ≡ p.device.overrun
-        → t.counters.dropped ≡ 0 → (1 ≤ t.counters.faults → one_more before ≤ after) → IsRightReport script apps entries bytes t opened h before after)
+        → t.counters.dropped ≡ 0 → (1 ≤ t.counters.faults → one_more before ≤ after) → IsRightReport script apps entries bytes t opened end.log h before after)
         × ((t : Totals) → t.guest_open ≡ length (guest_shown driver) → t.device_open ≡ length (device_shown p.device)
         → IsCompleteRun script apps entries bytes t opened h) × ArePlaceWaits script apps entries bytes driver opened h }
 {}

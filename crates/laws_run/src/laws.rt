@@ -35,5 +35,5 @@ pub fn law_of_reports()
         → (old stood : Run) → AllStand script (length script) old stood → apps ≡ stood.apps → entries ≡ stood.entries
         → IsProxyStreamed FIRST_CID p (situation (device_contents e) (Some h) faults)
         → (opened : ℕ → Connection) × ((t : Totals) (before after : ℕ) → t.broken ≡ driver.broken → t.counters.overrun ≡ p.device.overrun
-        → t.counters.dropped ≡ 0 → (1 ≤ t.counters.faults → one_more before ≤ after) → IsRightReport script apps entries bytes t opened h before after) }
+        → t.counters.dropped ≡ 0 → (1 ≤ t.counters.faults → one_more before ≤ after) → IsRightReport script apps entries bytes t opened end.log h before after) }
 {}

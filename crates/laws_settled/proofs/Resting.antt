@@ -43,9 +43,9 @@ among_host f (g ∷ gs) all is = by (same_flow f g) refl is (among_host f gs all
     by true same is rest = ap (λ (h : Flow). h.peer) (same_is f g same) ∙ all.0
     by false other is rest = rest is
 
-fit_hosts : (es : List DriverEntry) → All IsFitEntry es → AreWithHost (flows_of (map (λ (e : DriverEntry). record { flow = e.flow; end = e.value.end }) es))
+fit_hosts : (es : List DriverEntry) → All (IsFitEntry true) es → AreWithHost (flows_of (map (λ (e : DriverEntry). record { flow = e.flow; end = e.value.end }) es))
 fit_hosts [] all = tt
-fit_hosts (e ∷ es) all = ((All-head IsFitEntry e es all).peer, fit_hosts es (All-tail IsFitEntry e es all))
+fit_hosts (e ∷ es) all = ((All-head (IsFitEntry true) e es all).peer refl, fit_hosts es (All-tail (IsFitEntry true) e es all))
 
 module _ (n : ℕ) (d : DriverState) (driver : Sight) (p : ProxyState) (device : DeviceSight) (over : AreOver n d driver p device) where
   abbrev both : Both

@@ -44,7 +44,7 @@ ends_at_rest d driver p device = record {
 pub record AreOver (n : ℕ) (d : DriverState) (driver : Sight) (p : ProxyState) (device : DeviceSight) : Type 0 where
   pub some : 0 < n
   pub ring : IsRingOf n (flight_of driver) (staged_of driver) d
-  pub driver_agrees : AgreesWith FIRST_CID d (driver_log driver)
+  pub driver_agrees : AgreesWith true FIRST_CID d (driver_log driver)
   pub routed : IsRoutedLog FIRST_CID driver.log
   pub device_agrees : DeviceAgreesWith FIRST_CID p.next_port p.device (device_log device)
   pub no_mark : has_no_mark device.sight.log ≡ true

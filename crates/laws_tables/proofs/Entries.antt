@@ -2,10 +2,10 @@
 use Rattle.std.proofs.Common.{◌≡◌, ℕ, zero, suc, ◌+◌, ◌-◌, length, drop, Bool, true, false, ◌||◌, if◌then◌else◌, List, [], ◌∷◌, ◌++◌, refl, sym, ap, ◌∙◌, arith}
 use Rattle.std.proofs.lemmas.Grind.{common_steps}
 use Rattle.vs_conn.specs.End.{ConnectionEnd}
-use Rattle.vs_flow.specs.{CleanPairs.kept, Flow.{is_host, same_flow}, declared.flow.Flow.Flow}
+use Rattle.vs_flow.specs.{CleanPairs.{kept, of_host}, Flow.{is_host, same_flow}, declared.flow.Flow.Flow}
 use Rattle.vs_limits.specs.declared.TheConstants.{CLEAN_PAIRS}
 use Rattle.vs_replies.specs.declared.Reply.{Reply}
-use Rattle.laws_tables.specs.Ends.{AreDistinct, FlowEnd, ends_of, flows_of, is_among, of_host, replaced, replied, replies_of, without, without_flow}
+use Rattle.laws_tables.specs.Ends.{AreDistinct, FlowEnd, ends_of, flows_of, is_among, replaced, replied, replies_of, without, without_flow}
 use Rattle.vs_page.proofs.Flows.{same_self, same_is}
 
 -- Flows that are one, and another.

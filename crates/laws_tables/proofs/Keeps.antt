@@ -3,7 +3,7 @@ use Rattle.std.proofs.Common.{◌≡◌, ◌≢◌, ◌≤◌, ℕ, Bool, true, 
 use Rattle.std.proofs.{Common.◌++◌, lemmas.Grind.common_steps}
 use Rattle.vs_conn.specs.{End.{CanSend, ConnectionEnd, answering, asked, end_after, is_of, owes_of, paid_of, verdict_of, with_payload_sent}, Follows.{Follows, IsTaken}}
 use Rattle.vs_conn.{specs.{Follows.FitsMessage, declared.end.Owed.Owed}, proofs.{Frames.got_kind, Getting.get_follows, Steps.{answer_follows, asked_follows, send_follows}}}
-use Rattle.vs_flow.specs.{CleanPairs.kept, Flow.same_flow, declared.flow.Flow.Flow}
+use Rattle.vs_flow.specs.{CleanPairs.{kept, of_host}, Flow.same_flow, declared.flow.Flow.Flow}
 use Rattle.vs_header.specs.{Kind.{kind_named, kind_number}, declared.{Header.Header, Kind.Kind}}
 use Rattle.laws_history.specs.{History.{Asker, Entry, Got, History, IsFair, MayPut, Put, Side, gots, is_begun, of_asker, peer, puts}, Packets.{asked_kind, has, is_clean_rst}}
 use Rattle.laws_history.{specs.{Packets.{is_request, is_rst}, declared.packet.Packet.Packet, Again.AllowsNow}, proofs.{Quiet.marked_both, Ties.Later}}
@@ -12,7 +12,7 @@ use Rattle.vs_page.specs.{Log.{Device, Driver, Log, Role, and_then, flow_got, fl
 use Rattle.vs_page.specs.{Open.{phase_reset, cid_of, kind_got, kind_put, left_kind}, declared.log.LogEntry.TheVariants.{GotEvent, GotPacket, Mark, PutEvent, PutPacket}}
 use Rattle.vs_page.{specs.Fair.{IsFairLog, IsFairOn}, proofs.{Entries.{one_got, one_put}, Flows.{same_is, same_self}, Phases.{phase_clean, phase_marked}}}
 use Rattle.vs_replies.specs.declared.Reply.{Reply}
-use Rattle.laws_tables.specs.Ends.{Ends, FlowEnd, answer_kind, ends_of, is_among, is_new, replied, replies_of, AreDistinct, flows_of, of_host, replaced, without, without_flow}
+use Rattle.laws_tables.specs.Ends.{Ends, FlowEnd, answer_kind, ends_of, is_among, is_new, replied, replies_of, AreDistinct, flows_of, replaced, without, without_flow}
 use Rattle.laws_tables.specs.Steps.{HasEnd, HasNone, IsNextFlow, accepted, asking, emptied, is_kept, is_overrun, left, opened, owed_on, paid, payload_on, refused}
 use Rattle.laws_tables.specs.{Steps.{reply_on, request_on, reset, taken, with_clean, with_end, with_replies, port_after}, Matches.{AllOwed, IsFairlyLeft, IsOwed, IsReady, Matches}}
 use Rattle.laws_tables.specs.{Matches.{MatchesFlows, IsKept, IsLeftOn, IsUnused, MatchesOn}, Heard.{IsInOrder, IsWithin, IsWithinCredit, heard_of, own_port, is_awaiting, is_fresh}}
@@ -202,10 +202,10 @@ keeps_flow role first f part log used own clean m =
     as_kept g k = record { asker = k.asker; no_end = k.no_end; no_reply = k.no_reply; over = k.over }
 
 -- A flow that may be asked for is ready.
-silent_ready : (role : Role) (first : ℕ) (f : Flow) (log : Log) → IsFairOn role f log → side_of role f ≡ Asker
+silent_none : (role : Role) (first : ℕ) (f : Flow) (log : Log) → IsFairOn role f log → side_of role f ≡ Asker
     → heard_of role first f log ≡ []
-    → IsReady (history_of role f log)
-silent_ready role first f log fair asker silent = by (history_of role f log) (ap puts (sym silent) ∙ heard_puts role first f log)
+    → history_of role f log ≡ []
+silent_none role first f log fair asker silent = by (history_of role f log) (ap puts (sym silent) ∙ heard_puts role first f log)
     (subst (λ s. IsFair s (history_of role f log)) asker (fair_now role f log fair))
   where
     has_asked : (h : History) (x : Entry) → IsFair Asker (x ∷ h) → has is_request (puts (x ∷ h)) ≡ true
@@ -220,16 +220,24 @@ silent_ready role first f log fair asker silent = by (history_of role f log) (ap
         by_got true is = let t = fair.0.timely in absurd (grind (arith, common_steps, is, t))
         by_got false is = fair.0.begun is
 
-    by : (h : History) → [] ≡ puts h → IsFair Asker h → IsReady h
-    by [] none fair = inl refl
+    by : (h : History) → [] ≡ puts h → IsFair Asker h → h ≡ []
+    by [] none fair = refl
     by (x ∷ h) none fair = let both : false ≡ true = ap (has is_request) none ∙ has_asked h x fair in absurd cc
+
+pub next_clean : (role : Role) (first : ℕ) (f : Flow) (part : Ends) (log : Log) → Matches role first part log → IsFairLog role log
+    → IsNextFlow role f part → (history_of role f log ≡ []) ⊎ (phase_of role first f log ≡ Clean)
+next_clean role first f part log m fair next = by next.port
+  where
+    by : (part.next_port ≤ own_port role f) ⊎ (is_among f part.clean ≡ true) → (history_of role f log ≡ []) ⊎ (phase_of role first f log ≡ Clean)
+    by (inl later) = inl (silent_none role first f log (fair f) next.asker (m.flows.unused f next.asker later).silent)
+    by (inr among) = inr ((m.fairly fair).kept f among)
 
 pub next_ready : (role : Role) (first : ℕ) (f : Flow) (part : Ends) (log : Log) → Matches role first part log → IsFairLog role log
     → IsNextFlow role f part → IsReady (history_of role f log)
 next_ready role first f part log m fair next = by next.port
   where
     by : (part.next_port ≤ own_port role f) ⊎ (is_among f part.clean ≡ true) → IsReady (history_of role f log)
-    by (inl later) = silent_ready role first f log (fair f) next.asker (m.flows.unused f next.asker later).silent
+    by (inl later) = inl (silent_none role first f log (fair f) next.asker (m.flows.unused f next.asker later).silent)
     by (inr among) = inr (phase_clean role first f log (fair f) next.asker ((m.fairly fair).kept f among))
 
 -- The port of a flow that is asked for is given, and the flow kept no more.
@@ -459,7 +467,7 @@ takes_by role first p e part log false is m kept has order fits =
     let f = flow_got role p in
     let h = heard_of role first f log in
     let after = end_after e p.header in
-    let old = steps.order_old role first p e part log m.flows has order (is_new e) refl in
+    let old = steps.order_old role first p e part log m.flows has order in
     let o = steps.order_one role first p e part log m.flows has order in
     let other = steps.known_goes_on (side_of role f) h p e order o.follows in
     let one = replaced_same f e after part.entries has in
@@ -585,7 +593,6 @@ drops role first p part log m dropped order =
         ready = λ g. own_or_other
             (λ x. (e : ConnectionEnd) → HasEnd x e part → is_new e ≡ true → IsReady (history_of role x (GotPacket p ∷ log))) f g
             (λ e has new. let old = steps.order_old role first p e part log m.flows has (got_in_order role first p log (fair f))
-            (is_new e) refl
             in absurd cc)
             (λ apart. rw apart (left.ready g));
         replies = all_got role p log part.replies fair left.replies;

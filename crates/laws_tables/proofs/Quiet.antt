@@ -1,7 +1,7 @@
 -- Nothing of a flow is under way that is kept to be used again: neither ring holds a packet of it, and the other end owes it none.
 use Rattle.std.proofs.{lemmas.Grind.common_steps, Common.{arith, ◌≡◌, ℕ, ◌-◌, Bool, true, false, ◌||◌, List, [], ◌∷◌, ◌++◌, refl, sym, ap, ◌∙◌, subst}}
 use Rattle.vs_conn.specs.End.{ConnectionEnd}
-use Rattle.vs_flow.specs.{Flow.{is_assigned, same_flow}, declared.flow.Flow.Flow}
+use Rattle.vs_flow.specs.{Flow.{host_asks, same_flow}, declared.flow.Flow.Flow}
 use Rattle.laws_history.specs.{Packets.{has, is_clean_rst, is_request}, declared.packet.Packet.Packet, Again.{IsClean, IsFairAll, after, count, present}, History.{Answerer, Asker}}
 use Rattle.laws_history.{specs.History.{HasGot, History, Side, gots, peer, puts}, proofs.{Present.is_present, Quiet.{IsQuiet, quiet}}}
 use Rattle.vs_page.{specs.{Fair.asked_by, Log.{Log, Role, flow_got, history_of, other_role, side_of, whole_of}}, proofs.{Entries.{got_on, on_flow, present_is}, Flows.opposite_by}}
@@ -39,7 +39,7 @@ none_of [] never = refl
 none_of (e ∷ more) never = absurd (never e more refl)
 
 answers : (role : Role) (f : Flow) → side_of role f ≡ Asker → side_of (other_role role) f ≡ Answerer
-answers role f asker = opposite_by role (is_assigned f.host) ∙ ap peer asker
+answers role f asker = opposite_by role (host_asks f) ∙ ap peer asker
 
 numbers_by : (side other : Side) (w v : History) → side ≡ Asker → other ≡ Answerer → puts w ≡ gots v
     → asked_by side (puts w) (gots w) ≡ asked_by other (puts v) (gots v)

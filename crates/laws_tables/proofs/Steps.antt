@@ -187,11 +187,16 @@ pub rest_owed : (r : Reply) (g : Flow) (rest replies : List Reply) → replies �
 rest_owed r g rest replies is other = rw is (rw other refl)
 
 -- A packet that is got, on a flow that has an end. In order it comes to one that has begun, and is no REQUEST.
+old_by : (role : Role) (side : Side) (h : History) (kind : Option ℕ) (reply_owed : Bool) (ends : List ConnectionEnd) (e : ConnectionEnd) (p : Packet)
+    → IsLeftOn role side h kind reply_owed ends → ends ≡ e ∷ [] → IsInOrder side h p → (b : Bool) → is_new e ≡ b → is_new e ≡ false
+old_by = grind (arith, common_steps)
+
 pub order_old : (role : Role) (first : ℕ) (p : Packet) (e : ConnectionEnd) (part : Ends) (log : Log) → let f = flow_got role p in
-    MatchesFlows role first part log → HasEnd f e part → IsInOrder (side_of role f) (heard_of role first f log) p → (b : Bool)
-    → is_new e ≡ b
-    → is_new e ≡ false
-order_old = grind (arith, common_steps)
+    MatchesFlows role first part log → HasEnd f e part → IsInOrder (side_of role f) (heard_of role first f log) p → is_new e ≡ false
+order_old role first p e part log m has order =
+    let f = flow_got role p in
+    old_by role (side_of role f) (heard_of role first f log) (left_kind role first f log) (is_among f (replied part.replies))
+    (ends_of f part.entries) e p (m.on f) has order (is_new e) refl
 
 pub order_one : (role : Role) (first : ℕ) (p : Packet) (e : ConnectionEnd) (part : Ends) (log : Log) → let f = flow_got role p in
     MatchesFlows role first part log → HasEnd f e part → IsInOrder (side_of role f) (heard_of role first f log) p
@@ -199,7 +204,7 @@ pub order_one : (role : Role) (first : ℕ) (p : Packet) (e : ConnectionEnd) (pa
 order_one role first p e part log m has order =
     let f = flow_got role p in
     end_follows role (side_of role f) (heard_of role first f log) (left_kind role first f log) (is_among f (replied part.replies))
-    (ends_of f part.entries) e (m.on f) has (order_old role first p e part log m has order (is_new e) refl)
+    (ends_of f part.entries) e (m.on f) has (order_old role first p e part log m has order)
 
 pub known_goes_on : (side : Side) (h : History) (p : Packet) (e : ConnectionEnd) → IsInOrder side h p → Follows side (puts h) (gots h) e
     → is_request p ≡ false

@@ -2,13 +2,13 @@
 use Rattle.std.specs.Prelude.{◌≡◌, ◌≤◌, ℕ, ◌+◌, nat_le, ◌⊎◌, Bool, true, false, ◌&&◌, if◌then◌else◌, List, [], ◌∷◌, ◌++◌}
 use Rattle.vs_conn.specs.{Follows.{owed_packet, payload_packet}, Headers.reset_header, Shut.is_both, declared.end.{Owed.Owed, Verdict.Verdict, Why.TheVariants.Overrun}}
 use Rattle.vs_conn.specs.End.{ConnectionEnd, answering, asked, end_after, is_of, paid_of}
-use Rattle.vs_flow.specs.{CleanPairs.kept, declared.flow.Flow.Flow}
+use Rattle.vs_flow.specs.{CleanPairs.{kept, of_host}, declared.flow.Flow.Flow}
 use Rattle.vs_header.specs.declared.{Header.Header, Kind.Kind}
 use Rattle.laws_history.specs.{History.Asker, Packets.{is_clean_rst, is_rst}, declared.packet.Packet.Packet}
 use Rattle.vs_limits.specs.declared.TheConstants.{BUF_ALLOC, CLEAN_PAIRS}
 use Rattle.vs_page.specs.{Log.{Role, side_of}, Open.asks_for}
 use Rattle.vs_replies.specs.declared.Reply.{Reply}
-use Rattle.laws_tables.specs.{Ends.{Ends, ends_of, is_among, of_host, replaced, replies_of, without, without_flow}, Heard.{own_port, route_of}}
+use Rattle.laws_tables.specs.{Ends.{Ends, ends_of, is_among, replaced, replies_of, without, without_flow}, Heard.{own_port, route_of}}
 use Rattle.vs_conn.specs.declared.end.Owed.TheVariants as owed
 use Rattle.vs_conn.specs.declared.end.Verdict.TheVariants as verdict
 

@@ -1,6 +1,6 @@
 //! Laws of an end of many connections.
 
-ghost use Rattle.std.specs.Prelude.{◌≡◌, ◌≢◌, ℕ, ◌≤◌, ◌&&◌, ◌||◌, Bool, false, true, List, [], ◌∷◌, ◌++◌, length, find, AllPairs, Contains, Some, None};
+ghost use Rattle.std.specs.Prelude.{◌≡◌, ◌≢◌, ℕ, ◌≤◌, ◌⊎◌, ◌&&◌, ◌||◌, Bool, false, true, List, [], ◌∷◌, ◌++◌, length, find, AllPairs, Contains, Some, None};
 ghost use Rattle.vs_conn.specs.{Follows.{FitsMessage, Follows, IsTaken}, declared.end.{Owed.{Owed, TheVariants.Response}, State.TheVariants.Live}, End.{CanSend, ConnectionEnd}};
 ghost use Rattle.vs_conn.specs.End.{aborted, asked, grown, is_of, is_refused, is_reset, owes_of, paid_of, verdict_of, wanting_credit, with_payload_forwarded, with_payload_sent};
 ghost use Rattle.vs_conn.specs.End.{with_shut};
@@ -39,6 +39,9 @@ pub fn law_of_opening()
     // A flow that is kept to be used again is clean by the log, where that is fair.
     ensures clean { (role : Role) (first : ℕ) (f : Flow) (part : Ends) (log : Log) → Matches role first part log → IsFairLog role log
         → is_among f part.clean ≡ true → phase_of role first f log ≡ Clean }
+    // One that may be asked for has no history, or is clean by the log: no transport reset stood between its last REQUEST and the marked RST.
+    ensures next { (role : Role) (first : ℕ) (f : Flow) (part : Ends) (log : Log) → Matches role first part log → IsFairLog role log
+        → IsNextFlow role f part → (history_of role f log ≡ []) ⊎ (phase_of role first f log ≡ Clean) }
 {}
 
 /// An end still matches its log after it puts payload that a connection may send, a packet that a connection owes, or the oldest reply
@@ -303,6 +306,9 @@ pub fn law_of_kept_flows()
     ensures clean { (first guest_port host_port : ℕ) (xs : List Happening) (role : Role) (f : Flow)
         → MayRun xs (start first guest_port host_port) → let b = run xs (start first guest_port host_port) in
         is_among f (at role b).part.clean ≡ true → phase_of role first f (at role b).log ≡ Clean }
+    // So it is of any two ends that match their logs, which are fair, each of which got first what the other put.
+    ensures two_ends { (first : ℕ) (role : Role) (f : Flow) (b : Both) → IsSound first b → is_among f (at role b).part.clean ≡ true
+        → IsQuietOn role f b }
 {}
 
 /// A connection of the guest's may open and stand in both tables, and after a transport reset it stands in neither, and nothing is owed.

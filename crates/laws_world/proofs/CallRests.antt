@@ -3,6 +3,7 @@ use Rattle.std.proofs.Common.{◌≡◌, ℕ, zero, suc, ◌+◌, ◌==◌, Bool
 use Rattle.vs_contents.specs.CallTree.{Done, Ask, bind, played, while_up_to}
 use Rattle.vs_conn.specs.{End.{may_send_of, wanting_credit, with_payload_sent}, declared.end.Stop.Stop}
 use Rattle.vs_outside.specs.Host.{HostContents}
+use Rattle.vs_limits.specs.declared.TheConstants.{HOST_CID}
 use Rattle.vs_ring_list.specs.Ends.{empty_ends}
 use Rattle.vs_ring_port.specs.{DriverCalls.{Publish, Stage, driver_answer}, EndLog.{EndLog, with_pages}, Lists.Rings, declared.queue.Queue.Queue}
 use Rattle.vs_driver_parts.specs.{State.{DriverEntry, DriverState, entry_known_as}, declared.answers.{ConnectError.ConnectError, Sent.Sent}, Connections.connect_refusal}
@@ -26,12 +27,12 @@ LeavesRest tree = (r : Rings × EndLog) → AtRest r → AtRest (played driver_a
 posted : (r : Rings × EndLog) → AtRest r → is_at_rest (with_pages q.Tx [] r.1.staged) ≡ true
 posted r rest = published_rests q.Tx r.1.staged (rest_works q.Tx r.1.staged rest)
 
-connect_rests : (port : ℕ) (s : DriverState) → LeavesRest (connect_with_page port s)
+connect_rests : (port : ℕ) (s : DriverState) → LeavesRest (connect_with_page HOST_CID port s)
 connect_rests port s = by (has_page s)
   where
     by : (b : Bool) → LeavesRest {A = DriverState × Result ℕ ConnectError} (cond b
-        (bind (post_packet (request_bytes port s) s)
-        (λ t. Done (connected port t, Ok t.next_id))) (Done (s, Err (connect_refused.NoDescriptor s.in_flight))))
+        (bind (post_packet (request_bytes HOST_CID port s) s)
+        (λ t. Done (connected HOST_CID port t, Ok t.next_id))) (Done (s, Err (connect_refused.NoDescriptor s.in_flight))))
     by true = posted
     by false = λ r rest. rest
 
@@ -56,10 +57,10 @@ module _ (w : World) (rest : is_at_rest w.rings.driver.staged ≡ true) where
   connecting : (port : ℕ) (o : Option ConnectError)
       → AtRest (played driver_answer (elim o as (λ _. DriverTree (DriverState × Result ℕ ConnectError)) [
         | Some refusal ↦ Done (w.driver, Err refusal)
-        | None ↦ bind (reap_all w.driver) (connect_with_page port)
+        | None ↦ bind (reap_all w.driver) (connect_with_page HOST_CID port)
       ]) (w.rings.lists, w.rings.driver)).1
   connecting port (Some refusal) = rest
-  connecting port None = reaped_rests (connect_with_page port) (connect_rests port)
+  connecting port None = reaped_rests (connect_with_page HOST_CID port) (connect_rests port)
 
   sending : (id : ℕ) (bytes : List ℕ) (o : Option DriverEntry)
       → AtRest (played driver_answer (elim o as (λ _. DriverTree (DriverState × Sent)) [
@@ -85,7 +86,7 @@ module _ (w : World) (rest : is_at_rest w.rings.driver.staged ≡ true) where
 
   -- Each call of the guest's.
   pub call_rests : (call : GuestCall) → is_at_rest (guest_line call w).0.rings.driver.staged ≡ true
-  call_rests (Connect port) = connecting port (connect_refusal port w.driver)
+  call_rests (Connect port) = connecting port (connect_refusal HOST_CID port w.driver)
   call_rests (Send id bytes) = sending id bytes (entry_known_as id w.driver)
   call_rests x = rest
 

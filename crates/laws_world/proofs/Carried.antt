@@ -1,11 +1,11 @@
 -- What a world that is well says of the bytes of its connections. Packets that the driver staged count as put.
 use Rattle.std.proofs.Common.{arith, ◌≡◌, ℕ, ◌+◌, ◌≤◌, ◌==◌, ◌++◌, Bool, true, false, cond, List, [], ◌∷◌, Contains, position, Option, Some, None, refl, sym, ap, subst, ◌∙◌}
 use Rattle.std.{proofs.{Common.option_and_then, lemmas.{Bool.Decides.nat_tests, List.Elements.All-contains}}, specs.Option.{option_map, option_map_or}}
-use Rattle.laws_device.{proofs.Carried.Hosts.{label_here, label_there, there as is_there}, specs.Carried.Streamed.{IsCounted, IsJoined, Seen, connection_in, connection_of}}
+use Rattle.laws_device.{proofs.Carried.Hosts.{label_here, label_there, there as is_there}, specs.Carried.Streamed.{CountMatches, IsJoined, Seen, connection_in, connection_of}}
 use Rattle.laws_device.specs.Carried.Streamed.{count_in, gives, line_for, look, number_in, seen}
 use Rattle.laws_rest.specs.Bytes.{BothEnds, CarryBytes}
 use Rattle.vs_device_parts.specs.State.{DeviceEntry}
-use Rattle.vs_flow.specs.{Connection.Connection, Flow.is_assigned, declared.flow.Flow.Flow}
+use Rattle.vs_flow.specs.{Connection.Connection, Flow.host_asks, declared.flow.Flow.Flow}
 use Rattle.laws_history.specs.{Again.{IsFairAll, count}, History.{Answerer, Asker, Got, History, Put, Side, gots, peer, puts}, Packets.{has, is_clean_rst, is_request, shuts_send}}
 use Rattle.vs_outside.specs.{Host.{HostContents, Stream, stream_at}, HostBytes.{connection_at, host_read, host_wrote, labelled_with, numbered_in}}
 use Rattle.vs_page.specs.{Fair.{IsPrefixOf, instance_from, number_of, payload_got, payload_of, payload_put}, Log.{Device, Driver, Log, Role, history_of, side_of, whole_of}}
@@ -116,10 +116,10 @@ module _ {fresh : Type 0} (w : World) (well : IsWell fresh w) where
           connection = connection_in w.host id f;
           at = seen_at w.host id s (connection_in w.host id f) at here l.some;
           flow = refl;
-          most = by (is_assigned f.host) ((well.streams new).streams.counted f) l.most;
+          most = by (host_asks f) ((well.streams new).streams.counted f) l.most;
         }
       where
-        by : (b : Bool) → IsCounted b (count_in w.host f) (number_of Device f device) (is_among f w.proxy.device.clean)
+        by : (b : Bool) → CountMatches b (count_in w.host f) (number_of Device f device) (is_among f w.proxy.device.clean)
             (has is_clean_rst (puts (history_of Device f device)))
             → (connection_in w.host id f).number ≤ count_in w.host f
             → (connection_in w.host id f).number ≤ number_of Device f device + cond b 1 0

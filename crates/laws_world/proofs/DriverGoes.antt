@@ -1,7 +1,8 @@
 -- What the driver's conversations come to: steps of its seat, headers that fit, the account, and the payload that was put.
-use Rattle.std.proofs.Common.{◌≡◌, ℕ, ◌≤◌, true, take, None, refl}
+use Rattle.std.proofs.Common.{◌≡◌, ℕ, ◌≤◌, true, take, None, refl, arith}
 use Rattle.vs_contents.specs.CallTree.{played}
 use Rattle.vs_flow.specs.Connection.{Connection}
+use Rattle.vs_limits.specs.declared.TheConstants.{HOST_CID}
 use Rattle.vs_page.specs.Log.{Log}
 use Rattle.vs_ring_port.specs.{Contents.RingContents, DriverCalls.driver_answer, EndLog.EndLog, Lists.Rings}
 use Rattle.laws_tables.specs.{Both.Seat, Ends.Ends}
@@ -19,9 +20,9 @@ module _ (first : ℕ) (old : Seat) where
   abbrev pub Walks : Account → Fact → Fact → Fact
   Walks a names sent part s log = Goes old (record { part = part; log = log }) × PutsFit log × IsFurther a (slots_of s) log × names part s log × sent part s log
 
-  pub poll_walks : (a : Account) (s : DriverState) (base : Log) → Carries first (Walks a (named_from s (LookAt 0)) (puts_as base))
+  pub poll_walks : (a : Account) (s : DriverState) (base : Log) → Carries true first (Walks a (named_from s (LookAt 0)) (puts_as base))
   poll_walks a start base =
-      let goes = poll_goes first old in
+      let goes = poll_goes true first old in
       let received = poll_carries first a in
       let names = poll_kept Names NamesMay names_kept (NamesFrom start (LookAt 0)) first in
       let sent = poll_puts first base in
@@ -77,7 +78,7 @@ module _ (first : ℕ) (old : Seat) where
           refused = λ why t log x. (goes.refused why t log x.0, x.1, received.refused why t log x.2, names.refused why t log x.3, sent.refused why t log x.4);
           opens = λ t log fits free m was fair x. (
             goes.opens t log fits free m was fair x.0,
-            ((connect_puts port t (port_fits port right) fits free).wire, x.1),
+            ((connect_puts HOST_CID port t (omega arith) (port_fits port right) (λ hosts. refl) fits free).wire, x.1),
             received.opens t log fits free m was fair x.2,
             names.opens t log fits free m was fair x.3,
             sent.opens t log fits free m was fair x.4,

@@ -7,6 +7,7 @@ use Rattle.vs_driver_parts.specs.{Conversations.send_with_page, Steps.{connects,
 use Rattle.vs_driver_parts.specs.{Connections.{connect_refusal, with_end}, declared.answers.{ConnectError.ConnectError, Sent.Sent}}
 use Rattle.vs_conn.specs.{End.{may_send_of, wanting_credit}, declared.end.Stop.Stop}
 use Rattle.vs_flow.specs.declared.flow.Flow.{Flow}
+use Rattle.vs_limits.specs.declared.TheConstants.{HOST_CID}
 use Rattle.laws_driver.specs.Carried.Calls.{GuestCall, ReplyTo, Connect, Listen, Unlisten, Accept, Send, Recv, Shutdown, Grow, Close, LookAt, is_right, flow_named, id_named}
 use Rattle.laws_driver.specs.Carried.Calls.{makes_call, with_call}
 use Rattle.laws_world.specs.{Events.{call_made, Event, GuestCalls, GuestTakes, driver_step, happens, is_at_rest, none_staged, run, where_possible, works_on}, Plays.guest_line}
@@ -130,7 +131,7 @@ call_possible call w rest right = possible_is (is_at_rest w.rings.driver.staged 
     both x y = rw (x, y) refl
 
 -- A connect, and a send, with a page.
-connects_free : (port : ℕ) (s : DriverState) → connect_refusal port s ≡ None → connects port s ≡ connect_with_page port s
+connects_free : (port : ℕ) (s : DriverState) → connect_refusal HOST_CID port s ≡ None → connects port s ≡ connect_with_page HOST_CID port s
 connects_free port s none = rw (none, connects) refl
 
 sends_free : (id : ℕ) (bytes : List ℕ) (s : DriverState) (e : DriverEntry) (credit : ℕ) → entry_known_as id s ≡ Some e
@@ -138,7 +139,7 @@ sends_free : (id : ℕ) (bytes : List ℕ) (s : DriverState) (e : DriverEntry) (
     → sends id bytes s ≡ send_with_page e (payload_of credit bytes) s
 sends_free id bytes s e credit known may some free = rw (known, sends) (rw (may, sends_on) (rw (some, free, sends_with_credit) refl))
 
-connects_refused : (port : ℕ) (s : DriverState) (why : ConnectError) → connect_refusal port s ≡ Some why → connects port s ≡ Done (s, Err why)
+connects_refused : (port : ℕ) (s : DriverState) (why : ConnectError) → connect_refusal HOST_CID port s ≡ Some why → connects port s ≡ Done (s, Err why)
 connects_refused port s why is = rw (is, connects) refl
 
 sends_unknown : (id : ℕ) (bytes : List ℕ) (s : DriverState) → entry_known_as id s ≡ None → sends id bytes s ≡ Done (s, not_sent id s)
@@ -193,15 +194,15 @@ module _ (w : World) (rest : is_at_rest w.rings.driver.staged ≡ true) where
       ∙ ap (λ (t : DriverTree (DriverState × ReplyTo call)). after_call call t (named call w.driver) w) same)
 
   connect_leads : (port : ℕ) → is_right (Connect port) ≡ true → Leads w (guest_line (Connect port) w).0
-  connect_leads port right = by (connect_refusal port w.driver) refl
+  connect_leads port right = by (connect_refusal HOST_CID port w.driver) refl
     where
-      by : (o : Option ConnectError) → connect_refusal port w.driver ≡ o → Leads w (after_call (Connect port)
+      by : (o : Option ConnectError) → connect_refusal HOST_CID port w.driver ≡ o → Leads w (after_call (Connect port)
           (elim o as (λ _. DriverTree (DriverState × Result ℕ ConnectError)) [
             | Some refusal ↦ Done (w.driver, Err refusal)
-            | None ↦ bind (reap_all w.driver) (connect_with_page port)
+            | None ↦ bind (reap_all w.driver) (connect_with_page HOST_CID port)
           ]) (named (Connect port) w.driver) w)
       by (Some refusal) is = plain_call (Connect port) (Done (w.driver, Err refusal)) right (connects_refused port w.driver refusal is)
-      by None is = reaped_call (Connect port) (connect_with_page port) right (λ m. connects_free port (record w.driver { in_flight = m }) is) (λ m. refl)
+      by None is = reaped_call (Connect port) (connect_with_page HOST_CID port) right (λ m. connects_free port (record w.driver { in_flight = m }) is) (λ m. refl)
 
   send_leads : (id : ℕ) (bytes : List ℕ) → Leads w (guest_line (Send id bytes) w).0
   send_leads id bytes = by (entry_known_as id w.driver) refl

@@ -3,7 +3,8 @@
 use Rattle.std.proofs.Common.{◌≡◌, ℕ, ◌==◌, ◌&&◌, Bool, true, false, not, cond, List, [], ◌∷◌, ◌++◌, length, filter, Option, Some, None, is_some, Result, Ok, Err, refl, ap, subst}
 use Rattle.std.{proofs.Common.◌∙◌, specs.List.slice_get}
 use Rattle.vs_conn.specs.{End.{ConnectionEnd, grown, is_reset}, declared.end.{Owed.Owed, State.State, Verdict.Verdict}}
-use Rattle.vs_flow.{specs.{Table.{IsRising, IsTable, Table, entry_of, entry_under, without}, declared.flow.Flow.Flow}, proofs.Tables.without_sound}
+use Rattle.vs_flow.{specs.{CleanPairs.of_host, Table.{IsRising, IsTable, Table, entry_of, entry_under, without}, declared.flow.Flow.Flow}, proofs.Tables.without_sound}
+use Rattle.vs_limits.specs.declared.TheConstants.{HOST_CID}
 use Rattle.vs_header.specs.declared.Header.{Header}
 use Rattle.laws_history.specs.declared.packet.Packet.{Packet}
 use Rattle.vs_page.specs.{Log.{Driver, flow_to_guest}, Open.is_dropped}
@@ -205,12 +206,12 @@ module _ {May : ℕ → Type 0} (P : Sight) (kept : IsKept May P) where
       by (Some e) is =
           kept.less e.flow.guest e.value.id (with_connection e.slot (after_closing e.value.end.state e.value) s) (kept.closes id may s e sound is holds)
 
-  closes_kept : (ids : List ℕ) → AllIds May ids → (s : DriverState) → IsFitState s → Sees P s → Sees P (all_closed ids s)
+  closes_kept : (ids : List ℕ) → AllIds May ids → (s : DriverState) → IsFitState true s → Sees P s → Sees P (all_closed ids s)
   closes_kept [] may s fits holds = holds
   closes_kept (id ∷ ids) may s fits holds =
       closes_kept ids may.1 (after_close id s) (close_changes id s fits).fits (close_kept id may.0 s fits.sound holds)
 
-  unlisten_kept : (b : Bool) (port : ℕ) (s : DriverState) → IsFitState s → Sees P s
+  unlisten_kept : (b : Bool) (port : ℕ) (s : DriverState) → IsFitState true s → Sees P s
       → Sees P (elim b as (λ _. DriverState) [ true ↦ after_unlisten port s | false ↦ s ])
   unlisten_kept true port s fits holds = kept.unlistens port (all_closed (waiting_on port s) s) (closes_kept (waiting_on port s) (kept.waiting port s holds) s fits holds)
   unlisten_kept false port s fits holds = holds
@@ -235,19 +236,19 @@ module _ {I : Type 0} (P : I → Sight) (May : I → ℕ → Type 0) (kept : (i 
   abbrev pub AllKept : Fact
   AllKept part s log = (i : I) → start i → Sees (P i) s
 
-  pub poll_kept : (first : ℕ) → Carries first AllKept
+  pub poll_kept : (first : ℕ) → Carries true first AllKept
   poll_kept first = record {
     owed = λ what e s log fits stands owes m was fair held i x. pay_kept (P i) (kept i) what e s stands.under (held i x);
     reply = λ r rest s log fits is m fair held. held;
     got = λ p s log fits ports whole m was fair held i x. packet_kept (P i) (kept i) p s fits.sound (held i x);
     event = λ id s log held. held;
-    reset = λ cid s log less fits held i x. all_left_kept (P i) (kept i) s.table.entries (record s { cid = cid }) refl fits.sound (held i x);
+    reset = λ cid s log less fits held i x. all_left_kept (P i) (kept i) s.table.entries (record s { cid = cid; clean = of_host s.clean }) refl fits.sound (held i x);
   }
 
   pub call_kept : (first : ℕ) (call : GuestCall) → ((i : I) → start i → MayMake (May i) call) → CarriesCall first call AllKept (λ reply. AllKept)
   call_kept first (Connect port) may = record {
     refused = λ why s log held. held;
-    opens = λ s log fits free m was fair held i x. (kept i).opens s (next_flow port s) _ (held i x);
+    opens = λ s log fits free m was fair held i x. (kept i).opens s (next_flow HOST_CID port s) _ (held i x);
   }
   call_kept first (Send id bytes) may = record {
     stopped = λ why s log held. held;

@@ -6,7 +6,7 @@ use Rattle.vs_ring_port.specs.DriverCalls.{driver_answer}
 use Rattle.vs_flow.{specs.{Table.next_entry, declared.flow.Flow.Flow}, proofs.Entries.{find_none, found_passes}}
 use Rattle.vs_conn.specs.End.{ConnectionEnd, asked, paid_of}
 use Rattle.vs_header.specs.declared.Kind.TheVariants.{Stream}
-use Rattle.vs_limits.specs.declared.TheConstants.{BUF_ALLOC}
+use Rattle.vs_limits.specs.declared.TheConstants.{BUF_ALLOC, HOST_CID}
 use Rattle.vs_driver_parts.specs.{Connections.{connected, flow_of, next_flow, with_opened}, State.{DriverEntry, DriverState, Listener, gone_known_as, is_known_as}}
 use Rattle.vs_driver_parts.specs.{Listening.{accept_of, after_accept, is_answered, listener_on, next_accepted, with_waiting, without_id}, Conversations.connect_of}
 use Rattle.vs_driver_parts.{specs.declared.answers.{Accepted.Accepted, ConnectError.ConnectError}, proofs.Ids.HasId}
@@ -81,17 +81,17 @@ module _ {fresh : Type 0} (w : World) (well : IsWell fresh w) (rest : w.rings.dr
   connect_told host id port is =
       let told = rests_on fresh w well (connect_of host w.driver) (λ x. x.0) Before (λ x. After id x.1) rest
       (well.waiting, well.right.received.numbers.given, well.right.received.numbers.slots)
-      (λ rests. connect_keeps first_cid host Before (After id) (record {
+      (λ rests. connect_keeps true first_cid HOST_CID host Before (After id) (record {
         refused = λ why s log held is. absurd cc;
         opens = λ s log fits free m was fair held is.
             let same : s.next_id ≡ id = cc in
-            subst (λ (k : ℕ). IsTold k (record (connected host s) { in_flight = 0; staged = 0 })) same (record {
+            subst (λ (k : ℕ). IsTold k (record (connected HOST_CID host s) { in_flight = 0; staged = 0 })) same (record {
               given = omega arith;
-              answered = last_answered s (next_flow host s) (paid_of (asked Stream BUF_ALLOC) owed.Request) held.1 held.2 fits.sound.were_given;
+              answered = last_answered s (next_flow HOST_CID host s) (paid_of (asked Stream BUF_ALLOC) owed.Request) held.1 held.2 fits.sound.were_given;
               waits = wait_weaker (IsOfPort s.next_id held.0.0) (IsOther s.next_id) (λ port other of at. let less = of.0 in absurd (omega (arith, less, at)))
                   s.listeners held.0.1;
             });
-      }) w.driver _ port rests) is in
+      }) (omega arith) port (λ hosts. refl) w.driver _ rests) is in
       record { given = told.given; answered = told.answered; waits = told.waits }
 
 -- An accept that gave one did.

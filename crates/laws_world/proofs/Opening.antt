@@ -101,7 +101,7 @@ module _ (b : Beginning) (host : HostContents) where
   ties : Ties (empty_ends b.pages).device tt ((opening b host).rings.lists, (opening b host).rings.driver)
   ties =
       let e : Ends = empty_ends b.pages in
-      (walk e.device tt (λ s d. Rests s.cid nothing s d) (new_of b.pages b.first 1) (e.lists, e.driver) (record {
+      (walk e.device tt (λ s d. Rests true s.cid nothing s d) (new_of b.pages b.first 1) (e.lists, e.driver) (record {
         tied = record { driver_fair = λ f. tt; device_fair = λ f. tt; tx = refl; rx = refl; event = refl; no_event = refl };
         cid = omega arith;
         pages = (tt, tt, tt);
@@ -131,7 +131,7 @@ module _ (b : Beginning) (host : HostContents) where
   opening_well = record {
     tied = ties.tied;
     sound = subst (λ (w : Both). both.IsSound first_cid w) opening_is (start_sound first_cid b.first ASSIGNED_FIRST);
-    driver = subst IsFitState (sym new.state) (made_fits b.pages b.first 1 (leb-true _ _ b.within) first_cid (omega arith));
+    driver = subst (IsFitState true) (sym new.state) (made_fits b.pages b.first 1 (leb-true _ _ b.within) first_cid (omega arith));
     device = record {
       fits = record {
         cid_fits = omega arith;

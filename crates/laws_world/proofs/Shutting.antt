@@ -142,7 +142,7 @@ module _ (role : Role) (first : ℕ) (b : Both) (s : IsSound first b) where
       known true false e more has = leaves may_put f g w.part.entries
       known false k e more has =
           let one : HasEnd g e w.part = has ∙ ap (λ (es : List ConnectionEnd). e ∷ es) (only_end role first w.part w.log g e more m has) in
-          let old = order_old role first p e w.part w.log m one (got_in_order role first p w.log (fair g)) (is_new e) refl in
+          let old = order_old role first p e w.part w.log m one (got_in_order role first p w.log (fair g)) in
           changes may_put f g e (end_after e p.header) more w.part.entries has
           (keeps e (end_after e p.header) old (λ shut. ap (λ o. not o.send) (got_own e p.header) ∙ shut))
 

@@ -1,6 +1,6 @@
 -- A host that nothing happened at, the streams of one, and journals that are right.
 use Rattle.std.specs.Prelude.{◌≡◌, ℕ, ◌+◌, ◌≤◌, if◌then◌else◌, [], Some}
-use Rattle.vs_flow.specs.{Connection.Connection, Flow.is_assigned, declared.flow.Flow.Flow}
+use Rattle.vs_flow.specs.{Connection.Connection, Flow.host_asks, declared.flow.Flow.Flow}
 use Rattle.vs_outside.specs.{Host.HostContents, HostBytes.connection_at}
 use Rattle.vs_page.specs.{Fair.number_of, Log.Device}
 use Rattle.laws_driver.specs.{Honest.slots_of, Carried.Senders.{IsRightJournal, IsSent}}
@@ -17,7 +17,7 @@ pub record IsNumbered (w : World) (id : ℕ) (f : Flow) : Type 0 where
   pub connection : Connection
   pub at : connection_at id w.host ≡ Some connection
   pub flow : connection.flow ≡ f
-  pub most : connection.number ≤ number_of Device f w.rings.device.entries + (if is_assigned f.host then 1 else 0)
+  pub most : connection.number ≤ number_of Device f w.rings.device.entries + (if host_asks f then 1 else 0)
 
 -- The guest's journal is right, where ids were given to these connections. Packets that the driver staged count as put.
 abbrev pub IsRightIn : (ℕ → Connection) → World → Type 0

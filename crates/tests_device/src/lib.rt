@@ -2,6 +2,10 @@
 #![tactic(auto)]
 
 #[cfg(test)]
+mod connect_cid;
+#[cfg(test)]
+mod counting_ring;
+#[cfg(test)]
 mod driver;
 #[cfg(test)]
 mod polls;

@@ -4,7 +4,7 @@ use Rattle.vs_limits.specs.declared.TheConstants.{FIRST_CID}
 use Rattle.vs_driver_parts.specs.{Playing.IsRingOf, State.DriverState}
 use Rattle.vs_ring_shared.specs.Sights.{Sight, driver_contents, flight_of, staged_of}
 use Rattle.vs_apps_parts.specs.{Scripts.{AreRight, RunScript}, Sums.JournalState, declared.{journal.Entry.Entry, progress.AppState.AppState}}
-use Rattle.laws_apps.specs.{Runs.{IsRunOf, Run}, Calls.run_with}
+use Rattle.laws_apps.specs.{Calls.run_with, Ports.GivesPorts, Runs.{IsRunOf, Run}}
 
 pub record GuestsState : Type 0 where
   pub driver : DriverState
@@ -19,8 +19,10 @@ guests_with driver end apps journal = record { driver = driver; end = end; apps 
 abbrev pub run_in : GuestsState → Run
 run_in g = run_with g.driver (driver_contents g.end) g.apps g.entries g.bytes
 
--- The ring is the driver's, and all together are a run of a right script, where the first CID of shared rings was the guest's at first.
-pub record AreGuests (script : RunScript) (g : GuestsState) : Type 0 where
+-- The ring is the driver's, and all together are a run of a right script, where the first CID of shared rings was the guest's at first, and this the
+-- guest's first port.
+pub record AreGuests (first : ℕ) (script : RunScript) (g : GuestsState) : Type 0 where
   pub right : AreRight script
   pub ring : IsRingOf g.end.size (flight_of g.end) (staged_of g.end) g.driver
   pub run : IsRunOf FIRST_CID script (run_in g)
+  pub ports : GivesPorts first g.entries g.driver

@@ -1,6 +1,6 @@
 //! The calls of apps on the driver, each noted.
 
-ghost use Rattle.std.specs.Prelude.{◌≡◌, ◌+◌, ◌≤◌, ℕ, List, length};
+ghost use Rattle.std.specs.Prelude.{◌≡◌, ◌+◌, ◌≤◌, ℕ, Bool, List, length};
 ghost use Rattle.vs_ring_port.specs.{Contents.RingContents, Counts.Counts};
 ghost use Rattle.vs_driver_parts.specs.Playing.{IsRingOf};
 ghost use Rattle.laws_driver.specs.{Honest.{IsHonest, IsHonestWith}, Carried.Calls.{flow_accepted, flow_opened}};
@@ -26,7 +26,7 @@ pub fn connect<R: DriverRing>(
     requires honest { IsHonest driver.old (R.contents ring.old) }
     requires room { HasRoom 1 journal.old }
     ensures ring { IsRingOf (R.size ring.new) (R.flight ring.new) (R.staged ring.new) driver.new }
-    ensures honest { (first : ℕ) → IsHonestWith first driver.old (R.contents ring.old) → IsHonestWith first driver.new (R.contents ring.new) }
+    ensures honest { (hosts : Bool) (first : ℕ) → IsHonestWith hosts first driver.old (R.contents ring.old) → IsHonestWith hosts first driver.new (R.contents ring.new) }
     ensures calls { (script : RunScript) (apps : List AppState) → CallsAs script app (call.Connect port) result
         (run_of driver.old (R.contents ring.old) apps journal.old)
         (run_of driver.new (R.contents ring.new) apps journal.new) }
@@ -60,7 +60,7 @@ fn flow_accepted(driver: &Driver, answer: Accepted) -> Option<Flow>
 pub fn listen(driver: &mut Driver, journal: &mut Journal, app: usize, port: u32) -> Told
     requires room { HasRoom 1 journal.old }
     ensures ring { (n : ℕ) (flown staged : Counts) → IsRingOf n flown staged driver.old → IsRingOf n flown staged driver.new }
-    ensures honest { (first : ℕ) (c : RingContents) → IsHonestWith first driver.old c → IsHonestWith first driver.new c }
+    ensures honest { (hosts : Bool) (first : ℕ) (c : RingContents) → IsHonestWith hosts first driver.old c → IsHonestWith hosts first driver.new c }
     ensures calls { (script : RunScript) (c : RingContents) (apps : List AppState) → CallsAs script app (call.Listen port) result
         (run_of driver.old c apps journal.old) (run_of driver.new c apps journal.new) }
     ensures room { journal.new.room + 1 ≡ journal.old.room }
@@ -73,7 +73,7 @@ pub fn listen(driver: &mut Driver, journal: &mut Journal, app: usize, port: u32)
 pub fn accept(driver: &mut Driver, journal: &mut Journal, app: usize, port: u32) -> Told
     requires room { HasRoom 1 journal.old }
     ensures ring { (n : ℕ) (flown staged : Counts) → IsRingOf n flown staged driver.old → IsRingOf n flown staged driver.new }
-    ensures honest { (first : ℕ) (c : RingContents) → IsHonestWith first driver.old c → IsHonestWith first driver.new c }
+    ensures honest { (hosts : Bool) (first : ℕ) (c : RingContents) → IsHonestWith hosts first driver.old c → IsHonestWith hosts first driver.new c }
     ensures calls { (script : RunScript) (c : RingContents) (apps : List AppState) → CallsAs script app (call.Accept port) result
         (run_of driver.old c apps journal.old) (run_of driver.new c apps journal.new) }
     ensures room { journal.new.room + 1 ≡ journal.old.room }
@@ -87,7 +87,7 @@ pub fn accept(driver: &mut Driver, journal: &mut Journal, app: usize, port: u32)
 pub fn close(driver: &mut Driver, journal: &mut Journal, app: usize, id: ConnId) -> Told
     requires room { HasRoom 1 journal.old }
     ensures ring { (n : ℕ) (flown staged : Counts) → IsRingOf n flown staged driver.old → IsRingOf n flown staged driver.new }
-    ensures honest { (first : ℕ) (c : RingContents) → IsHonestWith first driver.old c → IsHonestWith first driver.new c }
+    ensures honest { (hosts : Bool) (first : ℕ) (c : RingContents) → IsHonestWith hosts first driver.old c → IsHonestWith hosts first driver.new c }
     ensures calls { (script : RunScript) (c : RingContents) (apps : List AppState) → CallsAs script app (call.Close id) result
         (run_of driver.old c apps journal.old) (run_of driver.new c apps journal.new) }
     ensures room { journal.new.room + 1 ≡ journal.old.room }
@@ -107,7 +107,7 @@ pub fn shutdown(
     requires bits { (1 ≤ bits) × (bits ≤ 3) }
     requires room { HasRoom 1 journal.old }
     ensures ring { (n : ℕ) (flown staged : Counts) → IsRingOf n flown staged driver.old → IsRingOf n flown staged driver.new }
-    ensures honest { (first : ℕ) (c : RingContents) → IsHonestWith first driver.old c → IsHonestWith first driver.new c }
+    ensures honest { (hosts : Bool) (first : ℕ) (c : RingContents) → IsHonestWith hosts first driver.old c → IsHonestWith hosts first driver.new c }
     ensures calls { (script : RunScript) (c : RingContents) (apps : List AppState) → CallsAs script app (call.Shutdown id bits) result
         (run_of driver.old c apps journal.old) (run_of driver.new c apps journal.new) }
     ensures room { journal.new.room + 1 ≡ journal.old.room }
@@ -120,7 +120,7 @@ pub fn shutdown(
 pub fn grow(driver: &mut Driver, journal: &mut Journal, app: usize, id: ConnId, alloc: u32) -> Told
     requires room { HasRoom 1 journal.old }
     ensures ring { (n : ℕ) (flown staged : Counts) → IsRingOf n flown staged driver.old → IsRingOf n flown staged driver.new }
-    ensures honest { (first : ℕ) (c : RingContents) → IsHonestWith first driver.old c → IsHonestWith first driver.new c }
+    ensures honest { (hosts : Bool) (first : ℕ) (c : RingContents) → IsHonestWith hosts first driver.old c → IsHonestWith hosts first driver.new c }
     ensures calls { (script : RunScript) (c : RingContents) (apps : List AppState) → CallsAs script app (call.Grow id alloc) result
         (run_of driver.old c apps journal.old) (run_of driver.new c apps journal.new) }
     ensures room { journal.new.room + 1 ≡ journal.old.room }
@@ -155,7 +155,7 @@ pub fn send<R: DriverRing>(
     requires honest { IsHonest driver.old (R.contents ring.old) }
     requires room { HasRoom 1 journal.old }
     ensures ring { IsRingOf (R.size ring.new) (R.flight ring.new) (R.staged ring.new) driver.new }
-    ensures honest { (first : ℕ) → IsHonestWith first driver.old (R.contents ring.old) → IsHonestWith first driver.new (R.contents ring.new) }
+    ensures honest { (hosts : Bool) (first : ℕ) → IsHonestWith hosts first driver.old (R.contents ring.old) → IsHonestWith hosts first driver.new (R.contents ring.new) }
     ensures calls { (script : RunScript) (apps : List AppState)
         → slice_of from (length bytes.now) (data_at at (acts_of app script)) ≡ bytes.now
         → CallsAs script app (call.Send id bytes.now) result

@@ -7,7 +7,7 @@ ghost use Rattle.vs_driver_parts.specs.Playing.{IsRingOf};
 ghost use Rattle.vs_apps_parts.specs.Scripts.{AreRight, script_of};
 ghost use Rattle.vs_ring_rule.specs.declared.view.Past.{Past};
 ghost use Rattle.vs_ring_shared.specs.{Countings.met_between, Meetings.{AreOneTable, after_hearing, what_it_did}, Sights.{empty_sight, flight_of, sight_in, staged_of}};
-ghost use Rattle.laws_apps.specs.Runs.{IsRunOf, PollsTo, Steps};
+ghost use Rattle.laws_apps.specs.{Ports.ArePortsFrom, Runs.{IsRunOf, PollsTo, Steps}};
 ghost use Rattle.vs_apps.specs.Guests.{run_in};
 
 use crate::steps::step;
@@ -20,18 +20,24 @@ use vs_ring_port::{DriverRing, Queue};
 use vs_ring_shared::{DeviceEnd, DriverEnd, Met, RingName, laws_of_driver_end, meet, note};
 use vs_script::App;
 
-/// Which run it is: its rings, and its script. Each call of a program picks them.
+/// Which run it is: its rings, its script, and the guest's first port. Each call of a program picks them.
 pub trait RunName: RingName {
+    ghost use Rattle.std.specs.Prelude.{ℕ};
     ghost use Rattle.vs_apps_parts.specs.Scripts.{RunScript};
 
     /// The script, as plain data.
     ghost script: { RunScript };
+
+    /// The guest port of the first connection that a connect opens.
+    ghost first: { ℕ };
 }
 
 impl RunName for Brand {
     ghost use Rattle.std.specs.Prelude.{[]};
 
     ghost script = { [] };
+
+    ghost first = { 0 };
 }
 
 /// The driver and its end of the rings, the apps, and the journal. They are a run of the script that the type names.
@@ -53,16 +59,17 @@ impl<N: RunName> Model for Guests<N> {
 
     ghost view = { λ g. guests_with g.driver g.end g.apps.items g.journal };
 
-    ghost invariant = { λ g. (script_of g.script.items ≡ N.script) × AreGuests N.script (guests_with g.driver g.end g.apps.items g.journal) };
+    ghost invariant = { λ g. (script_of g.script.items ≡ N.script) × AreGuests N.first N.script (guests_with g.driver g.end g.apps.items g.journal) };
 }
 
 /// What the type says of guests: their driver was made under the first CID of shared rings. The calls of each app are, in order, its
 /// instructions. What the journal says was sent on a connection is the payload that the log put there; and what it says was received, with
-/// the bytes that are unread behind, is the payload that was delivered, while the connection receives. All receive and event pages are in
-/// flight.
+/// the bytes that are unread behind, is the payload that was delivered, while the connection receives. The connections that connects opened
+/// have, the oldest first, the guest ports from the first on, one after another up to the last port. All receive and event pages are in flight.
 pub fn laws_of_guests<N: RunName>(guests: &Guests<N>)
     ensures run { IsRunOf FIRST_CID N.script (run_in guests.now) }
     ensures right { AreRight N.script }
+    ensures ports { ArePortsFrom N.first guests.now.entries }
     ensures ring { let g = guests.now in IsRingOf g.end.size (flight_of g.end) (staged_of g.end) g.driver }
     ensures size { 0 < guests.now.end.size }
     ensures taken { (queue : Queue) → let q = sight_in queue guests.now.end in length q.got ≤ length q.put }
@@ -72,7 +79,7 @@ pub fn laws_of_guests<N: RunName>(guests: &Guests<N>)
 }
 
 impl<N: RunName> Guests<N> {
-    /// Guests that did nothing yet, over an end of rings in which nothing was put, with the guest's first port, which is 1,024 to
+    /// Guests that did nothing yet, over an end of rings in which nothing was put, with the guest's first port, which is the name's, 1,024 to
     /// 1,073,741,823. The device's end, in whose log nothing stands, is told what the driver did.
     ///
     /// The only error is want of memory.
@@ -84,6 +91,7 @@ impl<N: RunName> Guests<N> {
         first: u32,
     ) -> Result<Guests<N>, AllocError>
         requires first { (FIRST_PORT ≤ first) × (first ≤ LAST_PORT) }
+        requires own { first ≡ N.first }
         requires script { script_of script.items ≡ N.script }
         requires right { AreRight N.script }
         requires fresh { end ≡ empty_sight N.ring end.size }

@@ -1,6 +1,6 @@
 //! The next send of an app.
 
-ghost use Rattle.std.specs.Prelude.{◌≡◌, ◌+◌, ℕ, List};
+ghost use Rattle.std.specs.Prelude.{◌≡◌, ◌+◌, ℕ, Bool, List};
 ghost use Rattle.vs_script.specs.Data.{bytes_of, content_of};
 ghost use Rattle.vs_driver_parts.specs.Playing.{IsRingOf};
 ghost use Rattle.laws_driver.specs.Honest.{IsHonest, IsHonestWith};
@@ -28,7 +28,7 @@ pub fn send_next<R: DriverRing>(
     requires honest { IsHonest driver.old (R.contents ring.old) }
     requires room { HasRoom 1 journal.old }
     ensures ring { IsRingOf (R.size ring.new) (R.flight ring.new) (R.staged ring.new) driver.new }
-    ensures honest { (first : ℕ) → IsHonestWith first driver.old (R.contents ring.old) → IsHonestWith first driver.new (R.contents ring.new) }
+    ensures honest { (hosts : Bool) (first : ℕ) → IsHonestWith hosts first driver.old (R.contents ring.old) → IsHonestWith hosts first driver.new (R.contents ring.new) }
     ensures calls { (script : RunScript) (apps : List AppState)
         → data_at progress.at (acts_of app script) ≡ bytes_of (content_of content.now)
         → CallsAs script app (send_next (content_of content.now) progress) result

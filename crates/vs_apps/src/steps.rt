@@ -1,6 +1,6 @@
 //! A step of an app: a poll, and then the calls of the instruction that the app is at.
 
-ghost use Rattle.std.specs.Prelude.{◌≡◌, ◌+◌, ◌<◌, ◌≤◌, ◌^◌, ℕ, nat_lt, if◌then◌else◌, Some, List, [], ◌∷◌, slice_get, slice_index_or, vec_len};
+ghost use Rattle.std.specs.Prelude.{◌≡◌, ◌+◌, ◌<◌, ◌≤◌, ◌^◌, ℕ, Bool, nat_lt, if◌then◌else◌, Some, List, [], ◌∷◌, slice_get, slice_index_or, vec_len};
 ghost use Rattle.vs_script.specs.{App.instruction_view, Data.{bytes_of, content_of, size_of}};
 ghost use Rattle.vs_ring_port.specs.{Contents.RingContents, Counts.Counts};
 ghost use Rattle.vs_driver_parts.specs.Playing.{IsRingOf};
@@ -33,7 +33,7 @@ fn ask<R: DriverRing>(
     requires honest { IsHonest driver.old (R.contents ring.old) }
     requires room { HasRoom 1 journal.old }
     ensures ring { IsRingOf (R.size ring.new) (R.flight ring.new) (R.staged ring.new) driver.new }
-    ensures honest { (first : ℕ) → IsHonestWith first driver.old (R.contents ring.old) → IsHonestWith first driver.new (R.contents ring.new) }
+    ensures honest { (hosts : Bool) (first : ℕ) → IsHonestWith hosts first driver.old (R.contents ring.old) → IsHonestWith hosts first driver.new (R.contents ring.new) }
     ensures calls { (script : RunScript) (apps : List AppState)
         → CallsAs script app (if progress.asked then call.LookAt (id_of progress) else call.Connect port) result
         (run_of driver.old (R.contents ring.old) apps journal.old)
@@ -57,7 +57,7 @@ fn recv_next(
 ) -> Told
     requires room { HasRoom 1 journal.old }
     ensures ring { (n : ℕ) (flown staged : Counts) → IsRingOf n flown staged driver.old → IsRingOf n flown staged driver.new }
-    ensures honest { (first : ℕ) (c : RingContents) → IsHonestWith first driver.old c → IsHonestWith first driver.new c }
+    ensures honest { (hosts : Bool) (first : ℕ) (c : RingContents) → IsHonestWith hosts first driver.old c → IsHonestWith hosts first driver.new c }
     ensures calls { (script : RunScript) (c : RingContents) (apps : List AppState) → CallsAs script app (recv_next len progress) result
         (run_of driver.old c apps journal.old) (run_of driver.new c apps journal.new) }
     ensures room { journal.old.room ≤ journal.new.room + 1 }
@@ -84,7 +84,7 @@ fn send_left<R: DriverRing>(
     requires honest { IsHonest driver.old (R.contents ring.old) }
     requires room { HasRoom 1 journal.old }
     ensures ring { IsRingOf (R.size ring.new) (R.flight ring.new) (R.staged ring.new) driver.new }
-    ensures honest { (first : ℕ) → IsHonestWith first driver.old (R.contents ring.old) → IsHonestWith first driver.new (R.contents ring.new) }
+    ensures honest { (hosts : Bool) (first : ℕ) → IsHonestWith hosts first driver.old (R.contents ring.old) → IsHonestWith hosts first driver.new (R.contents ring.new) }
     ensures calls { (script : RunScript) (apps : List AppState)
         → data_at progress.at (acts_of app script) ≡ bytes_of (content_of content.now)
         → MakesAll script app
@@ -110,7 +110,7 @@ fn recv_left(
 ) -> Option<Told>
     requires room { HasRoom 1 journal.old }
     ensures ring { (n : ℕ) (flown staged : Counts) → IsRingOf n flown staged driver.old → IsRingOf n flown staged driver.new }
-    ensures honest { (first : ℕ) (c : RingContents) → IsHonestWith first driver.old c → IsHonestWith first driver.new c }
+    ensures honest { (hosts : Bool) (first : ℕ) (c : RingContents) → IsHonestWith hosts first driver.old c → IsHonestWith hosts first driver.new c }
     ensures calls { (script : RunScript) (c : RingContents) (apps : List AppState)
         → MakesAll script app (if nat_lt progress.got len then recv_next len progress ∷ [] else []) (listed result)
         (run_of driver.old c apps journal.old) (run_of driver.new c apps journal.new) }
@@ -137,7 +137,7 @@ fn make_calls<R: DriverRing>(
     requires honest { IsHonest driver.old (R.contents ring.old) }
     requires room { HasRoom 2 journal.old }
     ensures ring { IsRingOf (R.size ring.new) (R.flight ring.new) (R.staged ring.new) driver.new }
-    ensures honest { (first : ℕ) → IsHonestWith first driver.old (R.contents ring.old) → IsHonestWith first driver.new (R.contents ring.new) }
+    ensures honest { (hosts : Bool) (first : ℕ) → IsHonestWith hosts first driver.old (R.contents ring.old) → IsHonestWith hosts first driver.new (R.contents ring.new) }
     ensures calls { (script : RunScript) (apps : List AppState)
         → slice_get (acts_of app script) progress.at ≡ Some (instruction_view instruction.now)
         → MakesAll script app (calls_next (instruction_view instruction.now) progress) (told_list result)

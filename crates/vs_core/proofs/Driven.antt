@@ -1,5 +1,5 @@
 -- The rings stay the driver's over its steps and its calls.
-use Rattle.std.proofs.{Common.{◌≡◌, ℕ, ◌<◌, true, [], length, Option, Some, unwrap_or, refl, sym, ap, subst, ◌∙◌, rules}, lemmas.Bool.and_parts}
+use Rattle.std.proofs.{Common.{◌≡◌, ℕ, ◌<◌, Bool, true, [], length, Option, Some, unwrap_or, refl, sym, ap, subst, ◌∙◌, rules}, lemmas.Bool.and_parts}
 use Rattle.vs_ring_port.specs.{Contents.RingContents, Counts.{at, no_counts, with_count}, EndLog.{EndLog, Pages, pages_at}, declared.queue.Queue.{Queue, TheVariants.{Rx, Tx}}}
 use Rattle.vs_ring_port.specs.declared.queue.Queue.TheVariants.{Event}
 use Rattle.vs_ring_list.specs.Ends.{Ends, driver_contents, flight_of, staged_of}
@@ -76,12 +76,12 @@ same_log : (e : Ends) (l : EndLog) → (driver_contents e).log ≡ Some l → e.
 same_log e l is = ap (λ (o : Option EndLog). unwrap_or o e.driver) is
 
 -- Where no transmit page is staged the log is the driver's.
-agrees_at : (s : DriverState) (e : Ends) → e.driver.staged.tx ≡ [] → IsTied first_cid s e.driver → AgreesWith first_cid s e.driver
+agrees_at : (s : DriverState) (e : Ends) → e.driver.staged.tx ≡ [] → IsTied true first_cid s e.driver → AgreesWith true first_cid s e.driver
 agrees_at s e none ties =
-    agrees first_cid s e.driver (ties.0, subst (λ pages. IsLeft first_cid s.broken (ends_of_state s) pages e.driver.entries) none ties.1, none)
+    agrees true first_cid s e.driver (ties.0, subst (λ pages. IsLeft true first_cid s.broken (ends_of_state s) pages e.driver.entries) none ties.1, none)
 
-pub honest_at : (s : DriverState) (e : Ends) → e.driver.staged.tx ≡ [] → IsTied first_cid s e.driver → IsHonestWith first_cid s (driver_contents e)
-honest_at s e none ties = λ honest l is. subst (AgreesWith first_cid s) (same_log e l is) (agrees_at s e none ties)
+pub honest_at : (s : DriverState) (e : Ends) → e.driver.staged.tx ≡ [] → IsTied true first_cid s e.driver → IsHonestWith true first_cid s (driver_contents e)
+honest_at s e none ties = λ honest l is. subst (AgreesWith true first_cid s) (same_log e l is) (agrees_at s e none ties)
 
 not_rx : Rx ≡ Tx → ⊥
 not_rx is = absurd cc
@@ -90,26 +90,26 @@ not_event : Event ≡ Tx → ⊥
 not_event is = absurd cc
 
 pub works_with : (queue : Queue) (s : DriverState) (e : Ends) → works_on queue e.driver.staged ≡ true → IsDrivenAtWork s e
-    → IsWorkingWith queue first_cid s (driver_contents e)
+    → IsWorkingWith queue true first_cid s (driver_contents e)
 works_with Rx s e works driven = honest_at s e (others_empty Rx Tx e.driver.staged works not_rx) driven.tied
-works_with Tx s e works driven = λ honest l is. subst (IsTied first_cid s) (same_log e l is) driven.tied
+works_with Tx s e works driven = λ honest l is. subst (IsTied true first_cid s) (same_log e l is) driven.tied
 works_with Event s e works driven = honest_at s e (others_empty Event Tx e.driver.staged works not_event) driven.tied
 
 pub at_work_with : (queue : Queue) (s : DriverState) (e : Ends) → works_on queue e.driver.staged ≡ true → IsDrivenAtWork s e
     → IsAtWorkWith queue s (driver_contents e)
-at_work_with queue s e works driven = (first_cid, works_with queue s e works driven)
+at_work_with queue s e works driven = (true, first_cid, works_with queue s e works driven)
 
-tied_by : (s : DriverState) (e : Ends) → IsHonestWith first_cid s (driver_contents e) → IsTied first_cid s e.driver
-tied_by s e honest = tied first_cid s e.driver (at_rest first_cid s e.driver (honest refl e.driver refl))
+tied_by : (s : DriverState) (e : Ends) → IsHonestWith true first_cid s (driver_contents e) → IsTied true first_cid s e.driver
+tied_by s e honest = tied true first_cid s e.driver (at_rest true first_cid s e.driver (honest refl e.driver refl))
 
-tied_on : (queue : Queue) (s : DriverState) (e : Ends) → IsWorkingWith queue first_cid s (driver_contents e) → IsTied first_cid s e.driver
+tied_on : (queue : Queue) (s : DriverState) (e : Ends) → IsWorkingWith queue true first_cid s (driver_contents e) → IsTied true first_cid s e.driver
 tied_on Rx s e honest = tied_by s e honest
 tied_on Tx s e ties = ties refl e.driver refl
 tied_on Event s e honest = tied_by s e honest
 
 -- After a step.
 pub stepped : (queue : Queue) (t : DriverState) (w : Ends) → IsAtWork queue w.lists.size (flight_of w) (staged_of w) t
-    → IsWorkingWith queue first_cid t (driver_contents w) → IsDrivenAtWork t w
+    → IsWorkingWith queue true first_cid t (driver_contents w) → IsDrivenAtWork t w
 stepped queue t w ring honest = record {
   size = ring.size;
   flight = ring.flight;
@@ -122,7 +122,7 @@ stepped queue t w ring honest = record {
 no_few : (n : ℕ) → n ≡ 0 → n < STAGED_MAX
 no_few n none = rw none (search rules)
 
-pub rested : (t : DriverState) (w : Ends) → IsRingOf w.lists.size (flight_of w) (staged_of w) t → IsHonestWith first_cid t (driver_contents w)
+pub rested : (t : DriverState) (w : Ends) → IsRingOf w.lists.size (flight_of w) (staged_of w) t → IsHonestWith true first_cid t (driver_contents w)
     → IsDrivenAtWork t w
 rested t w ring honest = record {
   size = ring.size;
@@ -155,15 +155,15 @@ resting s e rest driven =
         let event = others_empty Rx Event e.driver.staged (rest_works Rx e.driver.staged rest) (λ is. absurd cc) in
         rw (rx, tx, event) refl
 
-pub honest_rest : (s : DriverState) (e : Ends) → is_at_rest e.driver.staged ≡ true → IsDrivenAtWork s e → IsHonestWith first_cid s (driver_contents e)
+pub honest_rest : (s : DriverState) (e : Ends) → is_at_rest e.driver.staged ≡ true → IsDrivenAtWork s e → IsHonestWith true first_cid s (driver_contents e)
 honest_rest s e rest driven = honest_at s e (others_empty Rx Tx e.driver.staged (rest_works Rx e.driver.staged rest) not_rx) driven.tied
 
 pub is_honest : (s : DriverState) (e : Ends) → is_at_rest e.driver.staged ≡ true → IsDrivenAtWork s e → IsHonest s (driver_contents e)
-is_honest s e rest driven = (first_cid, honest_rest s e rest driven)
+is_honest s e rest driven = (true, first_cid, honest_rest s e rest driven)
 
 -- A call that leaves the pages.
 pub driven_stays : (s t : DriverState) → SamePages s t
-    → ((first : ℕ) (c : RingContents) → IsHonestWith first s c → IsHonestWith first t c)
+    → ((hosts : Bool) (first : ℕ) (c : RingContents) → IsHonestWith hosts first s c → IsHonestWith hosts first t c)
     → (e : Ends) → is_at_rest e.driver.staged ≡ true → IsDrivenAtWork s e → IsDrivenAtWork t e
 driven_stays s t same honest e rest driven =
     let size : t.size ≡ s.size = same.0 in
@@ -174,5 +174,5 @@ driven_stays s t same honest e rest driven =
       flight = rw tx driven.flight;
       staged = (driven.staged.0, rw staged driven.staged.1);
       few = rw staged driven.few;
-      tied = tied_by t e (honest first_cid (driver_contents e) (honest_rest s e rest driven));
+      tied = tied_by t e (honest true first_cid (driver_contents e) (honest_rest s e rest driven));
     }

@@ -143,18 +143,18 @@ module _ (e : Event) (queue : Queue) (step : DriverState → DriverTree DriverSt
   module _ (works : works_on queue old.rings.driver.staged ≡ true) (s : DriverState) (w : Ends)
       (played : Plays (step old.driver) (driver_contents old.rings) s (driver_contents w)) where
     pub stages_on : IsAtWork queue w.lists.size (flight_of w) (staged_of w) s
-        → ((first : ℕ) → IsWorkingWith queue first old.driver (driver_contents old.rings) → IsWorkingWith queue first s (driver_contents w))
+        → ((hosts : Bool) (first : ℕ) → IsWorkingWith queue hosts first old.driver (driver_contents old.rings) → IsWorkingWith queue hosts first s (driver_contents w))
         → Happens e old (with_driver old s w)
     stages_on ring honest =
         steps_on s w works (over (step old.driver) old.rings w s played)
-        (stepped queue s w ring (honest first_cid (works_with queue old.driver old.rings works ready.driven)))
+        (stepped queue s w ring (honest true first_cid (works_with queue old.driver old.rings works ready.driven)))
 
     pub publishes_on : IsRingOf w.lists.size (flight_of w) (staged_of w) s
-        → ((first : ℕ) → IsWorkingWith queue first old.driver (driver_contents old.rings) → IsHonestWith first s (driver_contents w))
+        → ((hosts : Bool) (first : ℕ) → IsWorkingWith queue hosts first old.driver (driver_contents old.rings) → IsHonestWith hosts first s (driver_contents w))
         → Happens e old (with_driver old s w)
     publishes_on ring honest =
         steps_on s w works (over (step old.driver) old.rings w s played)
-        (rested s w ring (honest first_cid (works_with queue old.driver old.rings works ready.driven)))
+        (rested s w ring (honest true first_cid (works_with queue old.driver old.rings works ready.driven)))
 
   pub works_elsewhere : works_on queue old.rings.driver.staged ≡ false → Happens e old old
   works_elsewhere works =
@@ -192,11 +192,11 @@ module _ (c : GuestCall) (old : WorldState) (ready : IsReady old) where
   pub sends_on : (s : DriverState) (answer : ReplyTo c) (w : Ends) (told : Reply) → is_at_rest old.rings.driver.staged ≡ true → is_right c ≡ true
       → Plays (makes_call c old.driver) (driver_contents old.rings) (s, answer) (driver_contents w)
       → IsRingOf w.lists.size (flight_of w) (staged_of w) s
-      → ((first : ℕ) → IsHonestWith first old.driver (driver_contents old.rings) → IsHonestWith first s (driver_contents w))
+      → ((hosts : Bool) (first : ℕ) → IsHonestWith hosts first old.driver (driver_contents old.rings) → IsHonestWith hosts first s (driver_contents w))
       → Tells c answer told → Steps (event.GuestCalls c) old (with_driver old s w) told
   sends_on s answer w told rest right played ring honest tells =
       calls_on s answer w told rest right (over (makes_call c old.driver) old.rings w (s, answer) played)
-      (rested s w ring (honest first_cid (honest_rest old.driver old.rings rest ready.driven))) tells
+      (rested s w ring (honest true first_cid (honest_rest old.driver old.rings rest ready.driven))) tells
 
   -- One that leaves the rings.
   pub calls : (s : DriverState) (answer : ReplyTo c) (told : Reply) → is_at_rest old.rings.driver.staged ≡ true → is_right c ≡ true
@@ -208,7 +208,7 @@ module _ (c : GuestCall) (old : WorldState) (ready : IsReady old) where
   -- And the driver's pages.
   pub calls_in : (s : DriverState) (answer : ReplyTo c) (told : Reply) → is_at_rest old.rings.driver.staged ≡ true → is_right c ≡ true
       → makes_call c old.driver ≡ Done (s, answer) → SamePages old.driver s
-      → ((first : ℕ) (ring : RingContents) → IsHonestWith first old.driver ring → IsHonestWith first s ring)
+      → ((hosts : Bool) (first : ℕ) (ring : RingContents) → IsHonestWith hosts first old.driver ring → IsHonestWith hosts first s ring)
       → Tells c answer told → Steps (event.GuestCalls c) old (with_driver old s old.rings) told
   calls_in s answer told rest right made same honest tells =
       calls s answer told rest right made (driven_stays old.driver s same honest old.rings rest ready.driven) tells

@@ -22,7 +22,7 @@ driven_still v w same s driven = record {
   flight = same.flight ∙ (driven.flight ∙ ap (λ n. all_flown n s) (sym same.size));
   staged = (driven.staged.0, ap (λ (l : EndLog). staged_of (record v { driver = l })) same.driver ∙ driven.staged.1);
   few = driven.few;
-  tied = subst (λ (l : EndLog). IsTied first_cid s l) (sym same.driver) driven.tied;
+  tied = subst (λ (l : EndLog). IsTied true first_cid s l) (sym same.driver) driven.tied;
 }
 
 -- A conversation that returns no chain with nothing.

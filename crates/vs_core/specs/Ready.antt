@@ -1,5 +1,5 @@
 -- What a world holds between two events, and what it is for an event to happen in it.
-use Rattle.std.specs.Prelude.{◌≡◌, ◌<◌, List, []}
+use Rattle.std.specs.Prelude.{◌≡◌, ◌<◌, true, List, []}
 use Rattle.vs_ring_port.specs.{Chains.chains_of, Counts.{no_counts, with_count}, declared.queue.Queue.Queue}
 use Rattle.vs_ring_list.specs.Ends.{Ends, flight_of, staged_of}
 use Rattle.vs_outside.specs.Host.{HostContents}
@@ -31,7 +31,7 @@ pub record IsDrivenAtWork (s : DriverState) (e : Ends) : Type 0 where
   pub flight : flight_of e ≡ all_flown e.lists.size s
   pub staged : (queue : Queue) × (staged_of e ≡ with_count queue s.staged no_counts)
   pub few : s.staged < STAGED_MAX
-  pub tied : IsTied first_cid s e.driver
+  pub tied : IsTied true first_cid s e.driver
 
 -- The rings and the host are the proxy's: a receive chain that its device holds was taken of the rings, and each connection and each
 -- handshake has an open stream of its own.

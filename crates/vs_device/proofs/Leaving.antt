@@ -1,9 +1,9 @@
 -- What closing a stream comes to, and leaving the table.
 use Rattle.std.{proofs.Common.{◌≡◌, ℕ, ◌==◌, Bool, true, false, not, cond, List, [], ◌∷◌, map, refl, sym, ap, subst, ◌∙◌}, specs.List.filter}
 use Rattle.vs_contents.{specs.CallTree.{Done, Ask, bind}, proofs.{Leads.{leads_of, leads_bind}, Conditions.may_of}}
-use Rattle.vs_flow.{specs.{Table.{Table, with_value, without, revalued}, declared.flow.Flow.Flow}, proofs.Tables.revalued-slot}
+use Rattle.vs_flow.{specs.{CleanPairs.kept_if, Table.{Table, with_value, without, revalued}, declared.flow.Flow.Flow}, proofs.Tables.revalued-slot}
 use Rattle.vs_wrap.specs.Wrap.{counted}
-use Rattle.vs_device_parts.specs.{Calls.{Situation, DeviceTree, Allows, CloseStream}, Connections.{with_connection, stream_closed, after_leaving, keeping, kept_if}}
+use Rattle.vs_device_parts.specs.{Calls.{Situation, DeviceTree, Allows, CloseStream}, Connections.{with_connection, stream_closed, after_leaving, keeping}}
 use Rattle.vs_device_parts.specs.{Playing.{CanMake, MayRun, MayClose, Runs}, State.{DeviceConnection, DeviceEntry, DeviceState}, Streams.{closing, leaving}}
 use Rattle.vs_device_parts.proofs.Under.{with_value_twice}
 

@@ -4,7 +4,7 @@ use Rattle.vs_contents.{specs.CallTree.{Done, bind}, proofs.{Leads.{leads_of, le
 use Rattle.vs_header.specs.declared.Header.{Header}
 use Rattle.vs_conn.{specs.{Shut.is_both, End.{is_reset, verdict_of}, declared.end.{Verdict.Verdict, Why.Why}}, proofs.Frames.got_own}
 use Rattle.vs_page.specs.{Log.{Device, side_by, side_of}, Open.asks_for}
-use Rattle.vs_flow.specs.{Flow.is_assigned, Table.entry_under}
+use Rattle.vs_flow.specs.{Flow.host_asks, Table.entry_under}
 use Rattle.vs_ring_port.specs.declared.device_ring.Chain.{Chain}
 use Rattle.vs_device_parts.{proofs.Under.{has_slot, under_changed, with_its}, specs.{Connections.{with_connection, stream_closed, after_leaving, keeping}, Calls.Situation}}
 use Rattle.vs_device_parts.specs.{Calls.{DeviceTree, Allows}, State.{DeviceConnection, DeviceEntry, DeviceState}, Playing.{CanMake, MayRun, MayClose, Runs}, Streams.leaving}
@@ -33,9 +33,9 @@ kept_by : (assigned both mine marked cleanly : Bool) → mine ≡ both → clean
 kept_by assigned both mine marked cleanly = grind (arith, common_steps)
 
 pub kept_as : (h : Header) (e : DeviceEntry) (marked cleanly : Bool) → cleanly ≡ (is_both (heard h e.value).end.own && marked)
-    → (cleanly && is_assigned e.flow.host) ≡ (asks_for (side_of Device e.flow) && is_both e.value.end.own && marked)
+    → (cleanly && host_asks e.flow) ≡ (asks_for (side_of Device e.flow) && is_both e.value.end.own && marked)
 kept_as h e marked cleanly is =
-    kept_by (is_assigned e.flow.host) (is_both e.value.end.own) (is_both (heard h e.value).end.own) marked cleanly (ap is_both (got_own e.value.end h)) is
+    kept_by (host_asks e.flow) (is_both e.value.end.own) (is_both (heard h e.value).end.own) marked cleanly (ap is_both (got_own e.value.end h)) is
 
 module _ (chain : Chain) (h : Header) (e : DeviceEntry) (s t : DeviceState) where
   abbrev pub same_end : DeviceState

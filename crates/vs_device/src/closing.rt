@@ -1,14 +1,14 @@
 //! Closing the host's streams, and connections that leave the table.
 
 ghost use Rattle.std.specs.Prelude.{◌≡◌, ◌&&◌, Some};
-ghost use Rattle.vs_flow.specs.{Flow.is_assigned, Table.entry_under};
-ghost use Rattle.vs_device_parts.specs.{Connections.{cut_off, kept_if, stream_closed, with_connection}, Playing.{MayClose, RunsOnHost}, State.{DeviceConnection, DeviceEntry}};
+ghost use Rattle.vs_flow.specs.{CleanPairs.kept_if, Flow.host_asks, Table.entry_under};
+ghost use Rattle.vs_device_parts.specs.{Connections.{cut_off, stream_closed, with_connection}, Playing.{MayClose, RunsOnHost}, State.{DeviceConnection, DeviceEntry}};
 ghost use Rattle.vs_device_parts.specs.{State.DeviceState, Streams.{closing, leaving}};
 
 use crate::device::Device;
 use vs_device_parts::connection::Connection;
 use vs_device_parts::host_calls::close;
-use vs_flow::{CleanPairs, Flow, Slot, is_assigned};
+use vs_flow::{CleanPairs, Flow, Slot};
 use vs_outside::HostNet;
 
 impl Device {
@@ -36,7 +36,7 @@ impl Device {
     /// cleanly and a client of the host opened it.
     pub(crate) fn leave<H: HostNet>(&mut self, host: &mut H, slot: Slot, cleanly: bool)
         requires may { (e : DeviceEntry) → entry_under self.old.table slot ≡ Some e → MayClose e.value (H.contents host.old) }
-        ensures calls { (e : DeviceEntry) → entry_under self.old.table slot ≡ Some e → (c : DeviceConnection) → c.closed ≡ e.value.closed → c.stream ≡ e.value.stream → RunsOnHost (leaving (cleanly && is_assigned e.flow.host) (record e { value = c }) self.old) (H.contents host.old) (H.faults host.old) self.new (H.contents host.new) (H.faults host.new) }
+        ensures calls { (e : DeviceEntry) → entry_under self.old.table slot ≡ Some e → (c : DeviceConnection) → c.closed ≡ e.value.closed → c.stream ≡ e.value.stream → RunsOnHost (leaving (cleanly && host_asks e.flow) (record e { value = c }) self.old) (H.contents host.old) (H.faults host.old) self.new (H.contents host.new) (H.faults host.new) }
         ensures chain { self.new.chain ≡ self.old.chain }
     {
         let Some(flow) = self.slots.flow_of(slot) else {
@@ -62,9 +62,9 @@ impl Device {
 
 // Keeps the flow of a connection that a client of the host opened, where it ended cleanly.
 fn keep_own(clean: &mut CleanPairs, cleanly: bool, flow: Flow)
-    ensures { clean.new ≡ kept_if (cleanly && is_assigned flow.host) flow clean.old }
+    ensures { clean.new ≡ kept_if (cleanly && host_asks flow) flow clean.old }
 {
-    if cleanly && is_assigned(flow.host) {
+    if cleanly && flow.host_asks() {
         clean.keep(flow);
     }
 }

@@ -1,14 +1,13 @@
 -- Small steps on a device's connections, apart from ring and host.
 use Rattle.std.specs.Prelude.{ℕ, ◌+◌, ◌-◌, ◌&&◌, ◌||◌, nat_le, Bool, true, false, if◌then◌else◌, List, [], ◌∷◌, ◌++◌, length, drop, Option, Some, None}
 use Rattle.vs_conn.specs.{Shut.is_both, declared.{end.State.State, route.Route.Route}, End.{ConnectionEnd, asked, answering, aborted, with_shut, with_payload_forwarded}}
-use Rattle.vs_flow.specs.{CleanPairs.without_oldest, Flow.same_flow, Table.{with_entry, with_value, without}, declared.flow.Flow.Flow}
+use Rattle.vs_flow.specs.{CleanPairs.{kept_if, without_oldest}, Flow.same_flow, Table.{with_entry, with_value, without}, declared.flow.Flow.Flow}
 use Rattle.vs_header.specs.declared.{Header.Header, Kind.TheVariants.Stream}
-use Rattle.vs_limits.specs.declared.TheConstants.{BUF_ALLOC, CLEAN_PAIRS, TIMEOUT}
+use Rattle.vs_limits.specs.declared.TheConstants.{BUF_ALLOC, TIMEOUT}
 use Rattle.vs_replies.specs.declared.Reply.{Reply}
 use Rattle.vs_wrap.specs.Wrap.{counted}
 use Rattle.vs_device_parts.specs.State.{DeviceConnection, DeviceState}
 use Rattle.vs_conn.specs.declared.end.State.TheVariants as state
-use Rattle.vs_flow.specs.CleanPairs as pairs
 
 abbrev pub with_fault : DeviceState → DeviceState
 with_fault s = record s { faults = counted s.faults }
@@ -62,10 +61,6 @@ abbrev pub after_leaving : ℕ → DeviceState → DeviceState
 after_leaving slot s = record s { table = without s.table slot; closed = counted s.closed }
 
 -- Its flow may be used again, or not.
-abbrev pub kept_if : Bool → Flow → List Flow → List Flow
-kept_if true f fs = pairs.kept CLEAN_PAIRS f fs
-kept_if false f fs = fs
-
 abbrev pub keeping : Bool → Flow → DeviceState → DeviceState
 keeping keep f s = record s { clean = kept_if keep f s.clean }
 

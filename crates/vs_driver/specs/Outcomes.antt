@@ -3,8 +3,8 @@ use Rattle.std.specs.Prelude.{◌≡◌, ℕ, ◌==◌, ◌≤◌, Bool, true, f
 use Rattle.vs_contents.specs.CallTree.{Done, bind}
 use Rattle.vs_conn.specs.{End.{CanSend, may_send_of, with_payload_sent, wanting_credit}, declared.end.Stop.Stop}
 use Rattle.vs_flow.specs.Table.{entry_under}
-use Rattle.vs_driver_parts.specs.{declared.answers.{ConnectError.ConnectError, Sent.Sent}, State.{DriverEntry, DriverState, entry_known_as}, Connections.connect_refusal}
-use Rattle.vs_driver_parts.specs.{Connections.{connected, with_end}, Conversations.{DriverTree, no_credit, not_sent, reap_all, send_stopped, send_with_page}}
+use Rattle.vs_driver_parts.specs.{declared.answers.{ConnectError.ConnectError, Sent.Sent}, State.{DriverEntry, DriverState, entry_known_as}}
+use Rattle.vs_driver_parts.specs.{Connections.{connect_refusal, connected, is_bad_cid, with_end}, Conversations.{DriverTree, no_credit, not_sent, reap_all, send_stopped, send_with_page}}
 use Rattle.vs_page.specs.declared.page.TheConstants.{PAYLOAD_MAX}
 use Rattle.vs_driver_parts.specs.declared.answers.ConnectError.TheVariants as refused
 use Rattle.vs_driver_parts.specs.declared.answers.Sent.TheVariants as sent
@@ -13,9 +13,13 @@ use Rattle.vs_driver_parts.specs.declared.answers.Sent.TheVariants as sent
 abbrev pub KeepsAllButPages : DriverState → DriverState → Type 0
 KeepsAllButPages old new = new ≡ record old { in_flight = new.in_flight }
 
--- A connection to a host port is opened under this id. Transmit pages may have come back before.
-abbrev pub Opens : ℕ → DriverState → DriverState → ℕ → Type 0
-Opens port old new id = (connect_refusal port old ≡ None) × (id ≡ old.next_id) × (new ≡ record (connected port old) { in_flight = new.in_flight })
+-- A connection to a port of a peer is opened under this id. Transmit pages may have come back before.
+abbrev pub Opens : ℕ → ℕ → DriverState → DriverState → ℕ → Type 0
+Opens peer port old new id =
+    (connect_refusal peer port old ≡ None) × (id ≡ old.next_id) × (new ≡ record (connected peer port old) { in_flight = new.in_flight })
+
+abbrev pub OpensCid : ℕ → ℕ → DriverState → DriverState → ℕ → Type 0
+OpensCid cid port old new id = (is_bad_cid cid old ≡ false) × Opens cid port old new id
 
 -- No transmit page is free.
 abbrev pub FindsNoPage : DriverState → DriverState → ConnectError → Type 0
@@ -26,8 +30,16 @@ abbrev pub RefusesBy : Option ConnectError → DriverState → DriverState → C
 RefusesBy (Some refusal) old new e = (e ≡ refusal) × (new ≡ old)
 RefusesBy None old new e = FindsNoPage old new e
 
-abbrev pub Refuses : ℕ → DriverState → DriverState → ConnectError → Type 0
-Refuses port old new e = RefusesBy (connect_refusal port old) old new e
+abbrev pub Refuses : ℕ → ℕ → DriverState → DriverState → ConnectError → Type 0
+Refuses peer port old new e = RefusesBy (connect_refusal peer port old) old new e
+
+-- A CID that no peer has is refused first.
+abbrev pub RefusesCidBy : Bool → ℕ → ℕ → DriverState → DriverState → ConnectError → Type 0
+RefusesCidBy true cid port old new e = (e ≡ refused.BadCid cid) × (new ≡ old)
+RefusesCidBy false cid port old new e = Refuses cid port old new e
+
+abbrev pub RefusesCid : ℕ → ℕ → DriverState → DriverState → ConnectError → Type 0
+RefusesCid cid port old new e = RefusesCidBy (is_bad_cid cid old) cid port old new e
 
 -- send: how many bytes go, as the credit allows and one packet carries.
 abbrev pub sent_at_most : ℕ → List ℕ → ℕ

@@ -1,6 +1,6 @@
 //! Shutting a connection's directions and closing it (Virtio 1.2, section 5.10.6.5), and listening on a port no more.
 
-ghost use Rattle.std.specs.Prelude.{◌≡◌, ℕ, ◌≤◌, [], true, false, Some, is_some, if◌then◌else◌, OnOk, OnErr, IsOk, ◌↔◌, IsTrue};
+ghost use Rattle.std.specs.Prelude.{◌≡◌, ℕ, Bool, ◌≤◌, [], true, false, Some, is_some, if◌then◌else◌, OnOk, OnErr, IsOk, ◌↔◌, IsTrue};
 ghost use Rattle.vs_conn.specs.Shut.{shut_of};
 ghost use Rattle.vs_flow.specs.Table.{entry_under};
 ghost use Rattle.vs_driver_parts.specs.{State.{DriverEntry, gone_known_as}, Listening.listener_on, Connections.{state_of, unread_of_id, shutdown_of, after_shutdown, after_close}};
@@ -30,7 +30,7 @@ impl Driver {
         ensures kept { receives id self.old ≡ true → (shut_of bits).receive ≡ false → unread_of_id id self.new ≡ unread_of_id id self.old }
         ensures others { KeepsOthers id self.old self.new }
         ensures unchanged { UnlessShut result (self.new ≡ self.old) }
-        ensures honest { (first : ℕ) (c : RingContents) → IsHonestWith first self.old c → IsHonestWith first self.new c }
+        ensures honest { (hosts : Bool) (first : ℕ) (c : RingContents) → IsHonestWith hosts first self.old c → IsHonestWith hosts first self.new c }
     {
         match self.slots.known_as(id) {
             Some(slot) => self.shutdown_in(slot, bits),
@@ -65,7 +65,7 @@ impl Driver {
         ensures state { self.new ≡ after_close id self.old }
         ensures unknown { state_of id self.new ≡ seen.Unknown }
         ensures others { KeepsOthers id self.old self.new }
-        ensures honest { (first : ℕ) (c : RingContents) → IsHonestWith first self.old c → IsHonestWith first self.new c }
+        ensures honest { (hosts : Bool) (first : ℕ) (c : RingContents) → IsHonestWith hosts first self.old c → IsHonestWith hosts first self.new c }
     {
         match self.slots.known_as(id) {
             Some(slot) => self.close_in(slot, id),
@@ -107,7 +107,7 @@ impl Driver {
         ensures answer { IsOk result ↔ IsTrue (is_some (listener_on port self.old.listeners)) }
         ensures state { OnOk result (self.new ≡ after_unlisten port self.old) }
         ensures unchanged { OnErr result (self.new ≡ self.old) }
-        ensures honest { (first : ℕ) (c : RingContents) → IsHonestWith first self.old c → IsHonestWith first self.new c }
+        ensures honest { (hosts : Bool) (first : ℕ) (c : RingContents) → IsHonestWith hosts first self.old c → IsHonestWith hosts first self.new c }
     {
         if !self.listeners.is_listened(port) {
             return Err(NotListening);

@@ -1,6 +1,6 @@
 //! Raising the buffer space of a connection (Virtio 1.2, section 5.10.6.3).
 
-ghost use Rattle.std.specs.Prelude.{◌≡◌, ℕ, true, Some};
+ghost use Rattle.std.specs.Prelude.{◌≡◌, ℕ, Bool, true, Some};
 ghost use Rattle.vs_conn.specs.{End.{ConnectionEnd, view_of}, declared.end.Owed.TheVariants.CreditUpdate};
 ghost use Rattle.vs_flow.specs.Table.{entry_under};
 ghost use Rattle.vs_driver_parts.specs.{State.DriverEntry, Connections.{after_grow, entry_grow_answer, grow_answer, grow_of, grown_by, live_grow_answer, unread_of_id}};
@@ -28,7 +28,7 @@ impl Driver {
         ensures others { KeepsOthers id self.old self.new }
         ensures kept { unread_of_id id self.new ≡ unread_of_id id self.old }
         ensures unchanged { UnlessGrown result (self.new ≡ self.old) }
-        ensures honest { (first : ℕ) (c : RingContents) → IsHonestWith first self.old c → IsHonestWith first self.new c }
+        ensures honest { (hosts : Bool) (first : ℕ) (c : RingContents) → IsHonestWith hosts first self.old c → IsHonestWith hosts first self.new c }
     {
         match self.slots.known_as(id) {
             Some(slot) => self.grow_in(slot, alloc),

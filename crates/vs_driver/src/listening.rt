@@ -1,6 +1,6 @@
 //! Listening on ports, and accepting the connections that wait there (Virtio 1.2, section 5.10.6.4).
 
-ghost use Rattle.std.specs.Prelude.{◌≡◌, ℕ, OnOk, OnErr, Some, is_some};
+ghost use Rattle.std.specs.Prelude.{◌≡◌, ℕ, Bool, OnOk, OnErr, Some, is_some};
 ghost use Rattle.vs_driver_parts.specs.Listening.{listen_of, listening, accept_of, after_accept, is_answered, next_accepted};
 ghost use Rattle.vs_ring_port.specs.Contents.{RingContents};
 ghost use Rattle.laws_driver.specs.Honest.{IsHonestWith};
@@ -17,7 +17,7 @@ impl Driver {
         ensures answer { result ≡ listen_of port self.old }
         ensures listens { OnOk result (self.new ≡ listening port self.old) }
         ensures unchanged { OnErr result (self.new ≡ self.old) }
-        ensures honest { (first : ℕ) (c : RingContents) → IsHonestWith first self.old c → IsHonestWith first self.new c }
+        ensures honest { (hosts : Bool) (first : ℕ) (c : RingContents) → IsHonestWith hosts first self.old c → IsHonestWith hosts first self.new c }
     {
         if self.listeners.is_listened(port) {
             return Err(ListenError::Taken);
@@ -37,7 +37,7 @@ impl Driver {
     pub fn accept(&mut self, port: u32) -> Accepted
         ensures answer { result ≡ accept_of port self.old }
         ensures accepted { self.new ≡ after_accept port self.old }
-        ensures honest { (first : ℕ) (c : RingContents) → IsHonestWith first self.old c → IsHonestWith first self.new c }
+        ensures honest { (hosts : Bool) (first : ℕ) (c : RingContents) → IsHonestWith hosts first self.old c → IsHonestWith hosts first self.new c }
     {
         if !self.listeners.is_listened(port) {
             return Accepted::NotListening;

@@ -1,6 +1,6 @@
 //! Making a driver: its memory first, then all receive and event pages are posted (Virtio 1.2, section 5.10.6.1).
 
-ghost use Rattle.std.specs.{Prelude.{◌≡◌, ◌≢◌, ◌<◌, ◌≤◌, [], length, IfOk, OnErr}, List.All};
+ghost use Rattle.std.specs.{Prelude.{◌≡◌, ◌≢◌, ◌<◌, ◌≤◌, [], true, length, IfOk, OnErr}, List.All};
 ghost use Rattle.vs_ring_port.specs.{declared.queue.Queue.TheVariants.{Rx, Tx, Event}, Counts.{at, no_counts, with_count}};
 ghost use Rattle.vs_limits.specs.declared.TheConstants.{FIRST_PORT, LAST_PORT};
 ghost use Rattle.vs_driver_parts.specs.{Conversations.{new_of, new_state, post_all, posts}, Playing.{IsRingOf, MayPublishAll, Plays}};
@@ -28,7 +28,7 @@ impl Driver {
         requires fresh { IsFresh (R.contents ring.old) }
         ensures ring { IfOk result (λ driver. IsRingOf (R.size ring.new) (R.flight ring.new) (R.staged ring.new) driver) }
         ensures calls { IfOk result (λ driver. Plays (new_of (R.size ring.old) FIRST_PORT 1) (R.contents ring.old) driver (R.contents ring.new)) }
-        ensures honest { IfOk result (λ driver. IsHonestWith driver.cid driver (R.contents ring.new)) }
+        ensures honest { IfOk result (λ driver. IsHonestWith true driver.cid driver (R.contents ring.new)) }
         ensures same_size { R.size ring.new ≡ R.size ring.old }
         ensures same_flight { OnErr result (R.flight ring.new ≡ R.flight ring.old) }
         ensures same_contents { OnErr result (R.contents ring.new ≡ R.contents ring.old) }
@@ -53,7 +53,7 @@ impl Driver {
         requires fresh { IsFresh (R.contents ring.old) }
         ensures ring { IfOk result (λ driver. IsRingOf (R.size ring.new) (R.flight ring.new) (R.staged ring.new) driver) }
         ensures calls { IfOk result (λ driver. Plays (new_of (R.size ring.old) port id) (R.contents ring.old) driver (R.contents ring.new)) }
-        ensures honest { IfOk result (λ driver. IsHonestWith driver.cid driver (R.contents ring.new)) }
+        ensures honest { IfOk result (λ driver. IsHonestWith true driver.cid driver (R.contents ring.new)) }
         ensures same_size { R.size ring.new ≡ R.size ring.old }
         ensures same_flight { OnErr result (R.flight ring.new ≡ R.flight ring.old) }
         ensures same_contents { OnErr result (R.contents ring.new ≡ R.contents ring.old) }

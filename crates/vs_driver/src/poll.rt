@@ -1,6 +1,6 @@
 //! A poll of the driver's ring: events and packets are taken, pages come back, and what is owed is put (Virtio 1.2, section 5.10.6).
 
-ghost use Rattle.std.specs.Prelude.{ℕ};
+ghost use Rattle.std.specs.Prelude.{ℕ, Bool};
 ghost use Rattle.vs_driver_parts.specs.{Conversations.poll_of, Playing.IsRingOf, Playing.Plays};
 ghost use Rattle.laws_driver.specs.Honest.{IsHonest, IsHonestWith};
 
@@ -18,7 +18,7 @@ impl Driver {
         requires honest { IsHonest self.old (R.contents ring.old) }
         ensures ring { IsRingOf (R.size ring.new) (R.flight ring.new) (R.staged ring.new) self.new }
         ensures calls { Plays (poll_of self.old) (R.contents ring.old) (self.new, result) (R.contents ring.new) }
-        ensures honest { (first : ℕ) → IsHonestWith first self.old (R.contents ring.old) → IsHonestWith first self.new (R.contents ring.new) }
+        ensures honest { (hosts : Bool) (first : ℕ) → IsHonestWith hosts first self.old (R.contents ring.old) → IsHonestWith hosts first self.new (R.contents ring.new) }
     {
         let events = self.take_events(ring);
         let packets = self.take_packets(ring);

@@ -2,7 +2,7 @@
 
 ghost use Rattle.std.specs.Prelude.{◌≡◌, ℕ, List, ◌<◌, ◌≤◌, ◌==◌, ◌&&◌, ◌^◌, [], true, length, Some, None, not};
 ghost use Rattle.vs_conn.specs.End.{is_refused};
-ghost use Rattle.vs_flow.specs.{Table.{entry_of, entry_under}, declared.flow.Flow.Flow, Flow.is_assigned};
+ghost use Rattle.vs_flow.specs.{Table.{entry_of, entry_under}, declared.flow.Flow.Flow, Flow.host_asks};
 ghost use Rattle.laws_history.specs.declared.packet.Packet.{Packet};
 ghost use Rattle.vs_page.specs.{Held.IsWhole, Log.flow_to_guest, Open.is_dropped};
 ghost use Rattle.vs_limits.specs.declared.TheConstants.{DRIVER_REPLIES, DRIVER_REPLIES_FULL};
@@ -106,7 +106,7 @@ impl Driver {
 
     /// The connection in a slot leaves the table. Its flow may be used again where it ended cleanly and the guest opened it.
     pub(crate) fn leave(&mut self, slot: Slot, cleanly: bool)
-        ensures state { (e : DriverEntry) → entry_under self.old.table slot ≡ Some e → self.new ≡ keeping (cleanly && not (is_assigned e.flow.host)) e.flow (after_leaving e self.old) }
+        ensures state { (e : DriverEntry) → entry_under self.old.table slot ≡ Some e → self.new ≡ keeping (cleanly && not (host_asks e.flow)) e.flow (after_leaving e self.old) }
         ensures pages { SamePages self.old self.new }
     {
         self.leave_list(slot);
@@ -165,7 +165,8 @@ impl Driver {
         }
     }
 
-    /// A transport reset: each connection leaves the table, by rising slot, and RST is owed for its flow. The guest has a CID from now on.
+    /// A transport reset: each connection leaves the table, by rising slot, and RST is owed for its flow. The guest has a CID from now on,
+    /// so of the flows that may be used again those with the host stay.
     pub(crate) fn reset(&mut self, cid: u64)
         requires room { length self.old.replies ≤ DRIVER_REPLIES_FULL }
         ensures state { self.new ≡ after_reset cid self.old }
@@ -174,6 +175,7 @@ impl Driver {
         let connections = self.slots.open();
         prove!(connections <= DRIVER_CONNECTIONS);
         self.cid = cid;
+        self.slots.keep_host();
         while let Some((slot, reply)) = self.slots.first() {
             self.leave(slot, false);
             self.owe(reply);

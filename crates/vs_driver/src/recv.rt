@@ -1,6 +1,6 @@
 //! Reading what came in on a connection (Virtio 1.2, section 5.10.6.3).
 
-ghost use Rattle.std.specs.{Option.option_map_or, Prelude.{◌≡◌, ℕ, ◌++◌, ◌||◌, [], length, Some, if◌then◌else◌}};
+ghost use Rattle.std.specs.{Option.option_map_or, Prelude.{◌≡◌, ℕ, Bool, ◌++◌, ◌||◌, [], length, Some, if◌then◌else◌}};
 ghost use Rattle.vs_conn.specs.{End.{ConnectionEnd, view_of}, Shut.shut_of};
 ghost use Rattle.vs_flow.specs.Table.{entry_under};
 ghost use Rattle.vs_driver_parts.specs.{State.{DriverEntry, gone_known_as}, Connections.{recv_of, unread_of_id, after_recv, is_at_end, nothing_read, all_gone_after_read}};
@@ -29,7 +29,7 @@ impl Driver {
         ensures pipe { bytes_given result out.new ++ unread_of_id id self.new ≡ unread_of_id id self.old }
         ensures others { KeepsOthers id self.old self.new }
         ensures unchanged { UnlessGot result (self.new ≡ self.old) }
-        ensures honest { (first : ℕ) (c : RingContents) → IsHonestWith first self.old c → IsHonestWith first self.new c }
+        ensures honest { (hosts : Bool) (first : ℕ) (c : RingContents) → IsHonestWith hosts first self.old c → IsHonestWith hosts first self.new c }
     {
         match self.slots.known_as(id) {
             Some(slot) => self.recv_in(slot, out),

@@ -1,6 +1,6 @@
 //! Sending on a connection (Virtio 1.2, section 5.10.6.3).
 
-ghost use Rattle.std.specs.Prelude.{◌≡◌, ℕ, ◌≤◌, ◌<◌, ◌==◌, true, length, min, Some, None, Ok, Err, IfOk, is_some};
+ghost use Rattle.std.specs.Prelude.{◌≡◌, ℕ, Bool, ◌≤◌, ◌<◌, ◌==◌, true, length, min, Some, None, Ok, Err, IfOk, is_some};
 ghost use Rattle.vs_conn.specs.End.{CanSend, may_send_of, wanting_credit};
 ghost use Rattle.vs_flow.specs.Table.{IsTable, entry_under};
 ghost use Rattle.vs_page.specs.declared.page.TheConstants.{PAYLOAD_MAX};
@@ -32,7 +32,7 @@ impl Driver {
         ensures outcome { Sends id bytes.now self.old self.new result }
         ensures unread { unread_of_id id self.new ≡ unread_of_id id self.old }
         ensures others { KeepsOthers id self.old self.new }
-        ensures honest { (first : ℕ) → IsHonestWith first self.old (R.contents ring.old) → IsHonestWith first self.new (R.contents ring.new) }
+        ensures honest { (hosts : Bool) (first : ℕ) → IsHonestWith hosts first self.old (R.contents ring.old) → IsHonestWith hosts first self.new (R.contents ring.new) }
     {
         match self.ready_to_send(id, bytes) {
             Ok((slot, most)) => {

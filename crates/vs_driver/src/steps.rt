@@ -1,6 +1,6 @@
 //! Single steps of the driver, each of which moves one page at most: what it does in one event of the world.
 
-ghost use Rattle.std.specs.Prelude.{◌≡◌, ℕ};
+ghost use Rattle.std.specs.Prelude.{◌≡◌, ℕ, Bool};
 ghost use Rattle.vs_ring_port.specs.declared.queue.Queue.TheVariants.{Tx};
 ghost use Rattle.vs_driver_parts.specs.{Conversations.publish_of, Playing.{IsAtWork, IsRingOf, Plays}, Steps.{connects, sends, stages_owed, stages_reply, takes_page}};
 ghost use Rattle.laws_driver.specs.{Honest.{IsHonest, IsHonestWith}, Staged.{IsAtWorkWith, IsWorkingWith}};
@@ -9,6 +9,7 @@ use crate::driver::Driver;
 use vs_driver_parts::answers::{ConnId, ConnectError, Sent};
 use vs_driver_parts::tally::Tally;
 use vs_flow::Slot;
+use vs_limits::HOST_CID;
 use vs_ring_port::{DriverRing, Queue};
 
 /// Pages staged on the queue in work and not published.
@@ -26,7 +27,8 @@ pub fn take_page<R: DriverRing>(driver: &mut Driver, ring: &mut R, queue: Queue)
     ensures ring { IsAtWork queue (R.size ring.new) (R.flight ring.new) (R.staged ring.new) driver.new }
     ensures calls { Plays (takes_page queue driver.old) (R.contents ring.old) driver.new (R.contents ring.new) }
     ensures same_size { R.size ring.new ≡ R.size ring.old }
-    ensures honest { (first : ℕ) → IsWorkingWith queue first driver.old (R.contents ring.old) → IsWorkingWith queue first driver.new (R.contents ring.new) }
+    ensures honest { (hosts : Bool) (first : ℕ) → IsWorkingWith queue hosts first driver.old (R.contents ring.old)
+        → IsWorkingWith queue hosts first driver.new (R.contents ring.new) }
 {
     let mut tally = Tally::none();
     match queue {
@@ -49,7 +51,7 @@ pub fn stage_reply<R: DriverRing>(driver: &mut Driver, ring: &mut R)
     ensures ring { IsAtWork Tx (R.size ring.new) (R.flight ring.new) (R.staged ring.new) driver.new }
     ensures calls { Plays (stages_reply driver.old) (R.contents ring.old) driver.new (R.contents ring.new) }
     ensures same_size { R.size ring.new ≡ R.size ring.old }
-    ensures honest { (first : ℕ) → IsWorkingWith Tx first driver.old (R.contents ring.old) → IsWorkingWith Tx first driver.new (R.contents ring.new) }
+    ensures honest { (hosts : Bool) (first : ℕ) → IsWorkingWith Tx hosts first driver.old (R.contents ring.old) → IsWorkingWith Tx hosts first driver.new (R.contents ring.new) }
 {
     let mut tally = Tally::none();
     driver.put_reply(ring, &mut tally);
@@ -62,7 +64,7 @@ pub fn stage_owed<R: DriverRing>(driver: &mut Driver, ring: &mut R, slot: Slot)
     ensures ring { IsAtWork Tx (R.size ring.new) (R.flight ring.new) (R.staged ring.new) driver.new }
     ensures calls { Plays (stages_owed slot driver.old) (R.contents ring.old) driver.new (R.contents ring.new) }
     ensures same_size { R.size ring.new ≡ R.size ring.old }
-    ensures honest { (first : ℕ) → IsWorkingWith Tx first driver.old (R.contents ring.old) → IsWorkingWith Tx first driver.new (R.contents ring.new) }
+    ensures honest { (hosts : Bool) (first : ℕ) → IsWorkingWith Tx hosts first driver.old (R.contents ring.old) → IsWorkingWith Tx hosts first driver.new (R.contents ring.new) }
 {
     let mut tally = Tally::none();
     driver.put_owed(ring, slot, &mut tally);
@@ -75,7 +77,7 @@ pub fn publish<R: DriverRing>(driver: &mut Driver, ring: &mut R, queue: Queue)
     ensures ring { IsRingOf (R.size ring.new) (R.flight ring.new) (R.staged ring.new) driver.new }
     ensures calls { Plays (publish_of queue driver.old) (R.contents ring.old) driver.new (R.contents ring.new) }
     ensures same_size { R.size ring.new ≡ R.size ring.old }
-    ensures honest { (first : ℕ) → IsWorkingWith queue first driver.old (R.contents ring.old) → IsHonestWith first driver.new (R.contents ring.new) }
+    ensures honest { (hosts : Bool) (first : ℕ) → IsWorkingWith queue hosts first driver.old (R.contents ring.old) → IsHonestWith hosts first driver.new (R.contents ring.new) }
 {
     driver.publish(ring, queue);
 }
@@ -91,11 +93,11 @@ pub fn connect<R: DriverRing>(
     ensures ring { IsRingOf (R.size ring.new) (R.flight ring.new) (R.staged ring.new) driver.new }
     ensures calls { Plays (connects host_port driver.old) (R.contents ring.old) (driver.new, result) (R.contents ring.new) }
     ensures same_size { R.size ring.new ≡ R.size ring.old }
-    ensures honest { (first : ℕ) → IsHonestWith first driver.old (R.contents ring.old) → IsHonestWith first driver.new (R.contents ring.new) }
+    ensures honest { (hosts : Bool) (first : ℕ) → IsHonestWith hosts first driver.old (R.contents ring.old) → IsHonestWith hosts first driver.new (R.contents ring.new) }
 {
-    match driver.connect_refusal(host_port) {
+    match driver.connect_refusal(HOST_CID, host_port) {
         Some(refusal) => Err(refusal),
-        None => driver.connect_with_page(ring, host_port),
+        None => driver.connect_with_page(ring, HOST_CID, host_port),
     }
 }
 
@@ -106,7 +108,7 @@ pub fn send<R: DriverRing>(driver: &mut Driver, ring: &mut R, id: ConnId, bytes:
     ensures ring { IsRingOf (R.size ring.new) (R.flight ring.new) (R.staged ring.new) driver.new }
     ensures calls { Plays (sends id bytes.now driver.old) (R.contents ring.old) (driver.new, result) (R.contents ring.new) }
     ensures same_size { R.size ring.new ≡ R.size ring.old }
-    ensures honest { (first : ℕ) → IsHonestWith first driver.old (R.contents ring.old) → IsHonestWith first driver.new (R.contents ring.new) }
+    ensures honest { (hosts : Bool) (first : ℕ) → IsHonestWith hosts first driver.old (R.contents ring.old) → IsHonestWith hosts first driver.new (R.contents ring.new) }
 {
     match driver.ready_to_send(id, bytes) {
         Ok((slot, most)) => driver.send_with_page(ring, slot, &bytes[..most]),

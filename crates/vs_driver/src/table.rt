@@ -1,6 +1,6 @@
 //! What the driver shows of its connections.
 
-ghost use Rattle.std.specs.{Prelude.◌≡◌, Prelude.ℕ, Prelude.◌<◌, Prelude.◌^◌, Prelude.length, Iterator.YieldsFirst, Iterator.item_count};
+ghost use Rattle.std.specs.{Prelude.{◌≡◌, ℕ, ◌<◌, ◌^◌, Bool, true, length}, Iterator.YieldsFirst, Iterator.item_count};
 ghost use Rattle.vs_ring_port.specs.EndLog.{EndLog};
 ghost use Rattle.vs_driver_parts.specs.Connections.{state_of, state_shown, flow_of, table_shown};
 ghost use Rattle.laws_driver.specs.Honest.{AgreesWith, IsLeftOpen};
@@ -38,8 +38,8 @@ impl Driver {
     /// Packets on known flows that were answered by RST. The count stands still at its last value.
     pub fn broken(&self) -> u64
         ensures count { result ≡ self.now.broken }
-        // None is over an honest ring.
-        ensures honest { (first : ℕ) (l : EndLog) → AgreesWith first self.now l → result ≡ 0 }
+        // None is over an honest ring, where the guest has asked the host alone.
+        ensures honest { (first : ℕ) (l : EndLog) → AgreesWith true first self.now l → result ≡ 0 }
     {
         self.broken
     }
@@ -49,7 +49,7 @@ impl Driver {
         ensures entries { result ≡ table_shown self.now }
         ensures countable { length result < 2 ^ 64 }
         // They are the connections that the ring's log left open.
-        ensures open { (first : ℕ) (l : EndLog) → AgreesWith first self.now l → IsLeftOpen first result self.now.replies l }
+        ensures open { (hosts : Bool) (first : ℕ) (l : EndLog) → AgreesWith hosts first self.now l → IsLeftOpen first result self.now.replies l }
     {
         let slots = &self.slots;
         let connections = slots.open();
@@ -66,7 +66,7 @@ pub struct Entries<'a> {
 }
 
 impl<'a> Model for Entries<'a> {
-    ghost use Rattle.std.specs.Prelude.{List, map, drop};
+    ghost use Rattle.std.specs.Prelude.{Bool, List, map, drop};
     ghost use Rattle.vs_conn.specs.declared.end.State.{State};
     ghost use Rattle.vs_flow.specs.declared.flow.Flow.{Flow};
 

@@ -2,7 +2,7 @@
 use Rattle.std.proofs.Common.{◌≡◌, ◌≢◌, ℕ, suc, take, drop, ◌+◌, ◌<◌, ◌≤◌, ◌==◌, Bool, true, false, not, List, [], ◌∷◌, ◌++◌, length, get_or, Option, Some, None, refl, sym, ap}
 use Rattle.std.proofs.{Common.{◌∙◌, arith}, lemmas.{Bool.Decides.nat_tests, List.Elements.{All-append, All-drop, All-map, All-push, All-take, All-filter, filter_passes}}}
 use Rattle.std.{proofs.lemmas.List.{Kept.AllPairs-filter, Quantifiers.{all_pairs_push, all_pairs_remove}}, specs.{List.{All, filter, remove}, Option.option_map_or}}
-use Rattle.vs_flow.specs.{Flow.is_assigned, Table.{Table, IsTable, entry_under, value_under, with_value, with_entry, without, next_entry, revalued}, declared.flow.Flow.Flow}
+use Rattle.vs_flow.specs.{Flow.host_asks, Table.{Table, IsTable, entry_under, value_under, with_value, with_entry, without, next_entry, revalued}, declared.flow.Flow.Flow}
 use Rattle.vs_flow.proofs.{Entries.none_found, Tables.{revalued-slot, revalued-flow}}
 use Rattle.vs_driver_parts.{specs.{State.{DriverConnection, DriverEntry, GoneConnection}, SlotFields.AreNumbered}, proofs.{Ids.{HasId, under, entry_has}, Known.unmapped}}
 
@@ -56,11 +56,11 @@ module _ (first port next : ℕ) (t : Table DriverConnection) (gone : List GoneC
         apart = λ i g within. All-map (λ (e : DriverEntry). e.value.id ≢ (get_or gone i g).id) (revalued slot d) t.entries (λ k x lt.
             rw (same k x lt) (kept.apart i g within k x lt));
         distinct = kept.distinct;
-        ports = All-map (λ (e : DriverEntry). is_assigned e.flow.host ≡ false → e.flow.guest < port) (revalued slot d) t.entries (λ k x lt.
+        ports = All-map (λ (e : DriverEntry). host_asks e.flow ≡ false → e.flow.guest < port) (revalued slot d) t.entries (λ k x lt.
             rw (revalued-flow slot d (get_or t.entries k x)) (kept.ports k x lt));
       }
 
-  pub numbers_with_entry : (flow : Flow) (c : DriverConnection) (port' : ℕ) → c.id ≡ next → port ≤ port' → (is_assigned flow.host ≡ false → flow.guest < port')
+  pub numbers_with_entry : (flow : Flow) (c : DriverConnection) (port' : ℕ) → c.id ≡ next → port ≤ port' → (host_asks flow ≡ false → flow.guest < port')
       → AreNumbered first port' (next + 1) (with_entry t flow c) gone
   numbers_with_entry flow c port' id more below = record {
     given = omega (arith, kept.given);
@@ -69,7 +69,7 @@ module _ (first port next : ℕ) (t : Table DriverConnection) (gone : List GoneC
     apart = λ k g lt. All-push (λ (e : DriverEntry). e.value.id ≢ (get_or gone k g).id) t.entries (next_entry t flow c) (kept.apart k g lt)
         (λ same. let less = kept.below k g lt in absurd (omega (arith, same, less, id)));
     distinct = kept.distinct;
-    ports = All-push (λ (e : DriverEntry). is_assigned e.flow.host ≡ false → e.flow.guest < port') t.entries (next_entry t flow c)
+    ports = All-push (λ (e : DriverEntry). host_asks e.flow ≡ false → e.flow.guest < port') t.entries (next_entry t flow c)
         (λ k d lt mine. let less = kept.ports k d lt mine in omega (arith, less, more)) below;
   }
 
@@ -82,7 +82,7 @@ module _ (first port next : ℕ) (t : Table DriverConnection) (gone : List GoneC
         below = kept.below;
         apart = λ k g lt. All-filter others (λ (e : DriverEntry). e.value.id ≢ (get_or gone k g).id) t.entries (kept.apart k g lt);
         distinct = kept.distinct;
-        ports = All-filter others (λ (e : DriverEntry). is_assigned e.flow.host ≡ false → e.flow.guest < port) t.entries kept.ports;
+        ports = All-filter others (λ (e : DriverEntry). host_asks e.flow ≡ false → e.flow.guest < port) t.entries kept.ports;
       }
 
   pub numbers_left : (e : DriverEntry) (g : GoneConnection) → IsTable t → entry_under t e.slot ≡ Some e → g.id ≡ e.value.id

@@ -2,7 +2,7 @@
 use Rattle.std.proofs.Common.{◌≡◌, ◌≢◌, ℕ, ◌+◌, ◌<◌, ◌==◌, Bool, true, false, not, cond, List, [], ◌∷◌, ◌++◌, length, map, Some, None, refl, sym, ap, subst, ◌∙◌, arith, eq-eqb}
 use Rattle.std.{proofs.Common.{length-append, ◌&&◌}, specs.{List.{AllPairs, filter, slice_get}, Option.option_map}}
 use Rattle.vs_conn.specs.{End.is_refused, declared.end.Verdict.Verdict, Shut.is_both}
-use Rattle.vs_flow.{specs.{Table.{Table, IsTable, entry_of, entry_under, with_value, without, revalued}, Flow.is_assigned}, proofs.{Entries.found_at, Tables.revalued-slot}}
+use Rattle.vs_flow.{specs.{Table.{Table, IsTable, entry_of, entry_under, with_value, without, revalued}, Flow.host_asks}, proofs.{Entries.found_at, Tables.revalued-slot}}
 use Rattle.vs_flow.proofs.Lookups.{entry_under-with_value}
 use Rattle.laws_history.specs.{declared.packet.Packet.Packet, Packets.is_clean_rst}
 use Rattle.vs_page.specs.{Log.{flow_to_guest, Driver, side_by}, Open.asks_for}
@@ -77,11 +77,11 @@ module _ (p : Packet) (e : DriverEntry) (s : DriverState) (slot : ℕ) (at : e.s
 
   pub over : (v : Verdict) (m new : DriverState) (cleanly : Bool) → cleanly ≡ (is_both e.value.end.own && is_clean_rst p)
       → ends_connection v p.header ≡ true → m ≡ with_connection slot (after_packet v p e.value) s
-      → new ≡ keeping (cleanly && not (is_assigned e.flow.host)) e.flow (after_leaving (with_its e (after_packet v p e.value)) m) → new ≡ after_verdict v p e s
+      → new ≡ keeping (cleanly && not (host_asks e.flow)) e.flow (after_leaving (with_its e (after_packet v p e.value)) m) → new ≡ after_verdict v p e s
   over verdict.Peer m new cleanly clean true_is mid is =
       let c : DriverConnection = after_packet verdict.Peer p e.value in
-      let kept : (cleanly && not (is_assigned e.flow.host)) ≡ keeps =
-      ap (λ (b : Bool). b && not (is_assigned e.flow.host)) clean ∙ kept_as (is_assigned e.flow.host) (is_both e.value.end.own) (is_clean_rst p) in
+      let kept : (cleanly && not (host_asks e.flow)) ≡ keeps =
+      ap (λ (b : Bool). b && not (host_asks e.flow)) clean ∙ kept_as (host_asks e.flow) (is_both e.value.end.own) (is_clean_rst p) in
       is ∙ (ap (λ (b : Bool). keeping b e.flow (after_leaving (with_its e c) m)) kept ∙ (ap (λ (x : DriverState). keeping keeps e.flow x) (left c m mid)
       ∙ ap (λ (b : Bool). cond b (keeping keeps e.flow (after_leaving (with_its e c) s)) (with_connection e.slot c s)) (sym true_is)))
   over _ m new cleanly clean true_is mid is = absurd (cc)

@@ -1,9 +1,9 @@
 -- What the driver's calls do to its connections, apart from the ring.
-use Rattle.std.specs.Prelude.{◌≡◌, ℕ, ◌+◌, ◌==◌, ◌||◌, not, min, nat_lt, nat_le, Bool, true, false, if◌then◌else◌, List, [], ◌∷◌, ◌++◌, length, map, filter, take, drop, Option}
+use Rattle.std.specs.Prelude.{◌≡◌, ℕ, ◌+◌, ◌==◌, ◌&&◌, ◌||◌, not, min, nat_lt, nat_le, Bool, true, false, if◌then◌else◌, List, [], ◌∷◌, ◌++◌, length, map, filter, take, drop, Option}
 use Rattle.std.specs.{Prelude.{Some, All, None, is_some}, Option.{option_map, option_map_or}}
-use Rattle.vs_flow.specs.{Flow.{host_flow, is_assigned}, Table.{Table, with_entry, with_value, without}, declared.flow.Flow.Flow, CleanPairs.{goes_to, kept, oldest}}
+use Rattle.vs_flow.specs.{Flow.is_assigned, Table.{Table, with_entry, with_value, without}, declared.flow.Flow.Flow, CleanPairs.{goes_to, kept_if, oldest}}
 use Rattle.vs_header.specs.declared.{Header.Header, Kind.TheVariants.Stream}
-use Rattle.vs_limits.specs.declared.TheConstants.{BUF_ALLOC, BUF_ALLOC_MAX, LAST_PORT, LAST_ID, DRIVER_CONNECTIONS, CLEAN_PAIRS}
+use Rattle.vs_limits.specs.declared.TheConstants.{BUF_ALLOC, BUF_ALLOC_MAX, LAST_PORT, LAST_ID, DRIVER_CONNECTIONS, GUEST_CID_MAX, HOST_CID}
 use Rattle.vs_conn.specs.{declared.{end.{Owed.Owed, State.State}, route.Route.Route}, End.{ConnectionEnd, asked, answering, grown, paid_of, with_payload_forwarded, with_shut}}
 use Rattle.vs_conn.specs.End.{aborted, owes_of}
 use Rattle.vs_driver_parts.specs.declared.answers.{ConnectionState.ConnectionState, ConnectError.ConnectError, Closed.Closed, Grown.Grown, Received.Received, Shut.Shut}
@@ -42,32 +42,40 @@ with_opened flow end unanswered s = record s {
   table = with_entry s.table flow (record { id = s.next_id; end = end; unread = []; unanswered = unanswered; closed = false });
 }
 
--- The flow of the next connection to a host port, where the guest port comes next and these flows may be used again: a fresh one, and once
--- the last port was given the oldest of these to that port.
-abbrev pub free_flow : ℕ → ℕ → List Flow → Option Flow
-free_flow host port clean = if nat_le port LAST_PORT then Some (host_flow port host) else oldest (goes_to host) clean
+-- The flow of the next connection to a port of a peer, where the guest port comes next and these flows may be used again: a fresh one, and
+-- once the last port was given the oldest of these to that port.
+abbrev pub fresh_flow : ℕ → ℕ → ℕ → Flow
+fresh_flow peer to port = record { guest = port; host = to; peer = peer }
 
--- connect: the flow that it opens, and why it is refused before a page is looked for.
-abbrev pub next_flow : ℕ → DriverState → Flow
-next_flow host s = option_map_or (λ f. f) (free_flow host s.next_port s.clean) (host_flow s.next_port host)
+abbrev pub free_flow : ℕ → ℕ → ℕ → List Flow → Option Flow
+free_flow peer to port clean = if nat_le port LAST_PORT then Some (fresh_flow peer to port) else oldest (goes_to peer to) clean
+
+-- connect: the flow that it opens, and why it is refused before a page is looked for. A port of the host's that the device assigns can't be
+-- asked for.
+abbrev pub next_flow : ℕ → ℕ → DriverState → Flow
+next_flow peer to s = option_map_or (λ f. f) (free_flow peer to s.next_port s.clean) (fresh_flow peer to s.next_port)
 
 abbrev pub is_full : DriverState → Bool
 is_full s = nat_le DRIVER_CONNECTIONS (slots_held s)
 
-abbrev pub is_spent : ℕ → DriverState → Bool
-is_spent host s = not (is_some (free_flow host s.next_port s.clean)) || nat_lt LAST_ID s.next_id
+abbrev pub is_spent : ℕ → ℕ → DriverState → Bool
+is_spent peer to s = not (is_some (free_flow peer to s.next_port s.clean)) || nat_lt LAST_ID s.next_id
 
-abbrev pub connect_refusal : ℕ → DriverState → Option ConnectError
-connect_refusal host s =
-    if is_assigned host then Some (refused.BadPort host)
+abbrev pub connect_refusal : ℕ → ℕ → DriverState → Option ConnectError
+connect_refusal peer to s =
+    if (peer == HOST_CID) && is_assigned to then Some (refused.BadPort to)
     else if is_full s then Some (refused.Full DRIVER_CONNECTIONS)
-    else if is_spent host s then Some (refused.PortsSpent s.last_port s.last_id)
+    else if is_spent peer to s then Some (refused.PortsSpent s.last_port s.last_id)
     else None
 
+-- connect_cid: a CID that no peer has: the guest's own, 0, 1, or one above the highest of a guest.
+abbrev pub is_bad_cid : ℕ → DriverState → Bool
+is_bad_cid cid s = (cid == s.cid) || (nat_lt cid HOST_CID || nat_lt GUEST_CID_MAX cid)
+
 -- The driver after the REQUEST of a connect was put.
-abbrev pub connected : ℕ → DriverState → DriverState
-connected host s =
-    let f = next_flow host s in
+abbrev pub connected : ℕ → ℕ → DriverState → DriverState
+connected peer to s =
+    let f = next_flow peer to s in
     record (with_opened f (paid_of (asked Stream BUF_ALLOC) owed.Request) false s) {
       next_port = port_after s.next_port f.guest;
       last_port = f.guest;
@@ -101,10 +109,6 @@ after_leaving e s = record (leaves_list e s) {
 }
 
 -- Its flow may be used again, or not.
-abbrev pub kept_if : Bool → Flow → List Flow → List Flow
-kept_if true f fs = kept CLEAN_PAIRS f fs
-kept_if false f fs = fs
-
 abbrev pub keeping : Bool → Flow → DriverState → DriverState
 keeping keep f s = record s { clean = kept_if keep f s.clean }
 

@@ -6,13 +6,13 @@ use Rattle.vs_header.specs.{Packet.header_bytes, declared.{Header.Header, Kind.T
 use Rattle.vs_conn.specs.{Headers.{owed_header, payload_header, reset_header}, declared.end.{Owed.Owed, Stop.Stop}, End.{ConnectionEnd, may_send_of, owes_of, with_payload_sent}}
 use Rattle.vs_conn.specs.End.{wanting_credit, asked}
 use Rattle.vs_flow.specs.Table.{entry_under, slots}
-use Rattle.vs_limits.specs.declared.TheConstants.{BUF_ALLOC, DRIVER_CONNECTIONS, DRIVER_REPLIES_FULL, OWED_MAX, STAGED_MAX}
+use Rattle.vs_limits.specs.declared.TheConstants.{BUF_ALLOC, DRIVER_CONNECTIONS, DRIVER_REPLIES_FULL, HOST_CID, OWED_MAX, STAGED_MAX}
 use Rattle.vs_page.specs.declared.page.TheConstants.{PAYLOAD_MAX}
 use Rattle.vs_replies.specs.declared.Reply.{Reply}
 use Rattle.vs_ring_port.specs.{declared.queue.Queue.{Queue, TheVariants.{Rx, Tx, Event}}, DriverCalls.{DriverCall, DriverAnswer, Stage, Publish, Reap, LoadCid}}
 use Rattle.vs_driver_parts.specs.{declared.{answers.{ConnectError.ConnectError, Polled.Polled, Sent.Sent}, tally.Tally.Tally}, Receiving.{on_page, is_reset_event, after_reset}}
 use Rattle.vs_driver_parts.specs.{State.{DriverState, DriverEntry, entry_known_as, gone_known_as}, Connections.{with_end, with_connection, route_to_host, next_flow}}
-use Rattle.vs_driver_parts.specs.Connections.{connect_refusal, connected, after_leaving, paid_connection}
+use Rattle.vs_driver_parts.specs.Connections.{connect_refusal, connected, after_leaving, is_bad_cid, paid_connection}
 use Rattle.vs_conn.specs.declared.end.Owed.TheVariants as owed
 use Rattle.vs_conn.specs.declared.end.Stop.TheVariants as stop
 use Rattle.vs_driver_parts.specs.declared.answers.ConnectError.TheVariants as refused
@@ -96,19 +96,26 @@ abbrev pub new_of : ℕ → ℕ → ℕ → DriverTree DriverState
 new_of size port id = bind (post_all Rx (new_state size port id 0)) post_events
 
 -- connect.
-abbrev pub request_bytes : ℕ → DriverState → List ℕ
-request_bytes host s = header_bytes (owed_header (asked Stream BUF_ALLOC) (route_to_host s.cid (next_flow host s)) owed.Request)
+abbrev pub request_bytes : ℕ → ℕ → DriverState → List ℕ
+request_bytes peer to s = header_bytes (owed_header (asked Stream BUF_ALLOC) (route_to_host s.cid (next_flow peer to s)) owed.Request)
 
-abbrev pub connect_with_page : ℕ → DriverState → DriverTree (DriverState × Result ℕ ConnectError)
-connect_with_page host s =
-    if has_page s then bind (post_packet (request_bytes host s) s) (λ t. Done (connected host t, Ok t.next_id))
+abbrev pub connect_with_page : ℕ → ℕ → DriverState → DriverTree (DriverState × Result ℕ ConnectError)
+connect_with_page peer to s =
+    if has_page s then bind (post_packet (request_bytes peer to s) s) (λ t. Done (connected peer to t, Ok t.next_id))
     else Done (s, Err (refused.NoDescriptor s.in_flight))
 
-abbrev pub connect_of : ℕ → DriverState → DriverTree (DriverState × Result ℕ ConnectError)
-connect_of host s = elim (connect_refusal host s) [
+abbrev pub connect_to : ℕ → ℕ → DriverState → DriverTree (DriverState × Result ℕ ConnectError)
+connect_to peer to s = elim (connect_refusal peer to s) [
   | Some refusal ↦ Done (s, Err refusal)
-  | None ↦ bind (reap_all s) (connect_with_page host)
+  | None ↦ bind (reap_all s) (connect_with_page peer to)
 ]
+
+abbrev pub connect_of : ℕ → DriverState → DriverTree (DriverState × Result ℕ ConnectError)
+connect_of host s = connect_to HOST_CID host s
+
+-- connect_cid.
+abbrev pub connect_cid_of : ℕ → ℕ → DriverState → DriverTree (DriverState × Result ℕ ConnectError)
+connect_cid_of cid port s = if is_bad_cid cid s then Done (s, Err (refused.BadCid cid)) else connect_to cid port s
 
 -- send: at most as many bytes as the credit allows and as one packet carries.
 abbrev pub payload_of : ℕ → List ℕ → List ℕ

@@ -3,8 +3,8 @@ use Rattle.std.specs.Prelude.{◌≡◌, ℕ, ◌+◌, ◌==◌, Bool, false, tr
 use Rattle.vs_conn.specs.End.{ConnectionEnd, asked, answering, paid_of}
 use Rattle.vs_header.specs.declared.{Header.Header, Kind.TheVariants.Stream}
 use Rattle.vs_limits.specs.declared.TheConstants.{BUF_ALLOC, DRIVER_CONNECTIONS}
-use Rattle.vs_flow.specs.{Table.{Table, with_value, with_entry, without}, declared.flow.Flow.Flow}
-use Rattle.vs_driver_parts.specs.{State.{DriverConnection, DriverEntry, GoneConnection, is_known_as}, Connections.{gone_as, is_let_go, kept_if}}
+use Rattle.vs_flow.specs.{Table.{Table, with_value, with_entry, without}, declared.flow.Flow.Flow, CleanPairs.{kept_if, of_host}}
+use Rattle.vs_driver_parts.specs.{State.{DriverConnection, DriverEntry, GoneConnection, is_known_as}, Connections.{gone_as, is_let_go}}
 use Rattle.laws_tables.specs.{Ends.without as flows_without, Steps.port_after}
 use Rattle.vs_conn.specs.declared.end.Owed.TheVariants as owed
 
@@ -68,3 +68,7 @@ left_in e s = record s { table = without s.table e.slot; gone = if is_let_go e.v
 
 abbrev pub kept_in : Bool → Flow → HeldSlots → HeldSlots
 kept_in keep f s = record s { clean = kept_if keep f s.clean }
+
+-- Of the flows that may be used again those with the host stay.
+abbrev pub host_kept_in : HeldSlots → HeldSlots
+host_kept_in s = record s { clean = of_host s.clean }

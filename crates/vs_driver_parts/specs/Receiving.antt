@@ -3,7 +3,7 @@ use Rattle.std.specs.Prelude.{ℕ, ◌==◌, ◌&&◌, not, nat_le, Bool, false,
 use Rattle.vs_header.specs.{Op.op_number, declared.{Header.Header, Kind.TheVariants.Stream, Op.TheVariants.Request}}
 use Rattle.laws_history.specs.declared.packet.Packet.{Packet}
 use Rattle.vs_conn.specs.{End.{verdict_of, end_after, is_of, is_reset}, declared.end.Verdict.Verdict}
-use Rattle.vs_flow.specs.{Flow.{is_assigned, is_host}, Table.entry_of, declared.flow.Flow.Flow}
+use Rattle.vs_flow.specs.{Flow.{is_assigned, is_host}, Table.entry_of, CleanPairs.of_host, declared.flow.Flow.Flow}
 use Rattle.vs_page.specs.{Held.{packet_held, event_held}, Log.{Driver, flow_to_guest}, Open.is_dropped}
 use Rattle.vs_replies.specs.{Owed.reply_to, declared.Reply.Reply}
 use Rattle.vs_limits.specs.declared.TheConstants.{LAST_ID}
@@ -69,7 +69,8 @@ on_page page s = elim (packet_held page) [ None ↦ s | Some p ↦ on_packet p s
 abbrev pub is_reset_event : List ℕ → Bool
 is_reset_event page = elim (event_held page) [ None ↦ false | Some id ↦ id == 0 ]
 
--- A transport reset: each connection leaves the table, by rising slot, and RST is owed for its flow. The guest has a CID from now on.
+-- A transport reset: each connection leaves the table, by rising slot, and RST is owed for its flow. The guest has a CID from now on, so
+-- flows with other guests are used no more.
 abbrev pub reset_reply : DriverEntry → Reply
 reset_reply e = record { flow = e.flow; kind = e.value.end.kind }
 
@@ -78,4 +79,4 @@ all_left [] s = s
 all_left (e ∷ es) s = all_left es (with_reply (reset_reply e) (after_leaving e s))
 
 abbrev pub after_reset : ℕ → DriverState → DriverState
-after_reset cid s = all_left s.table.entries (record s { cid = cid })
+after_reset cid s = all_left s.table.entries (record s { cid = cid; clean = of_host s.clean })

@@ -1,7 +1,7 @@
 -- What always holds of the fields of the driver's slots. No public clause cites this module.
 use Rattle.std.specs.{Prelude.{◌≡◌, ◌≢◌, ℕ, Bool, false, None, ◌+◌, ◌<◌, ◌≤◌, AllPairs, List, length, vec_capacity, [], ◌∷◌}, List.All}
 use Rattle.vs_conn.specs.End.{owes_of}
-use Rattle.vs_flow.specs.{Flow.is_assigned, Table.{Table, IsTable, entry_of}, declared.flow.Flow.Flow}
+use Rattle.vs_flow.specs.{Flow.host_asks, Table.{Table, IsTable, entry_of}, declared.flow.Flow.Flow}
 use Rattle.vs_limits.specs.declared.TheConstants.{DRIVER_CONNECTIONS, LAST_ID, LAST_PORT}
 use Rattle.vs_driver_parts.specs.{declared.slots.Slots.TheInside.Inside, Connections.OweNothing, Room.IsSpare, State.{DriverConnection, GoneConnection}}
 use Rattle.laws_tables.specs.Ends.{AreDistinct}
@@ -14,7 +14,7 @@ pub record AreNumbered (first port next : ℕ) (table : Table DriverConnection) 
   pub below : All (λ g. g.id < next) gone
   pub apart : All (λ g. All (λ e. e.value.id ≢ g.id) table.entries) gone
   pub distinct : AllPairs (λ g h. g.id ≢ h.id) gone
-  pub ports : All (λ e. is_assigned e.flow.host ≡ false → e.flow.guest < port) table.entries
+  pub ports : All (λ e. host_asks e.flow ≡ false → e.flow.guest < port) table.entries
 
 -- What is noted of all, once this connection has changed or was added: where none is noted to owe a packet, none was before, and it owes none.
 pub record IsNoted (old new : Bool) (c : DriverConnection) : Type 0 where
@@ -23,7 +23,7 @@ pub record IsNoted (old new : Bool) (c : DriverConnection) : Type 0 where
 
 -- A flow that may be used again is of a connection that this side opened, and isn't in the table.
 pub record MayReuse (port : ℕ) (table : Table DriverConnection) (f : Flow) : Type 0 where
-  pub own : is_assigned f.host ≡ false
+  pub own : host_asks f ≡ false
   pub given : f.guest < port
   pub absent : entry_of table f ≡ None
 

@@ -2,6 +2,7 @@
 use Rattle.std.specs.Prelude.{ℕ, ◌==◌, if◌then◌else◌, List, length, Some, None, Result, Ok, Err}
 use Rattle.vs_contents.specs.CallTree.{Done, bind}
 use Rattle.vs_conn.specs.End.{may_send_of, wanting_credit}
+use Rattle.vs_limits.specs.declared.TheConstants.{HOST_CID}
 use Rattle.vs_ring_port.specs.declared.queue.Queue.{Queue, TheVariants.{Rx, Tx, Event}}
 use Rattle.vs_driver_parts.specs.{declared.answers.{ConnectError.ConnectError, Sent.Sent}, State.{DriverState, DriverEntry, entry_known_as}, Conversations.{DriverTree, start}}
 use Rattle.vs_driver_parts.specs.Conversations.{reap_one, take_event, take_packet, put_reply, put_owed, connect_with_page, send_with_page, payload_of, no_credit, send_stopped}
@@ -24,7 +25,7 @@ stages_owed slot s = bind (put_owed slot (start s)) (λ r. Done r.0.state)
 
 -- connect and send, on the pages as they stand.
 abbrev pub connects : ℕ → DriverState → DriverTree (DriverState × Result ℕ ConnectError)
-connects port s = elim (connect_refusal port s) [ Some refusal ↦ Done (s, Err refusal) | None ↦ connect_with_page port s ]
+connects port s = elim (connect_refusal HOST_CID port s) [ Some refusal ↦ Done (s, Err refusal) | None ↦ connect_with_page HOST_CID port s ]
 
 abbrev pub sends_with_credit : DriverEntry → ℕ → List ℕ → DriverState → DriverTree (DriverState × Sent)
 sends_with_credit e credit bytes s =

@@ -9,6 +9,11 @@ pub type ConnId = u32;
 /// Why a connect opened nothing.
 #[derive(Clone, Copy, Debug, PartialEq, Eq)]
 pub enum ConnectError {
+    /// No peer has the CID: it is the guest's own, 0, 1, or above the highest of a guest.
+    BadCid {
+        /// The CID.
+        cid: u64,
+    },
     /// The host port is one of those that the device assigns itself.
     BadPort {
         /// The port.

@@ -5,13 +5,13 @@ ghost use Rattle.std.specs.{Prelude.{position, remove, slice_get, ◌^◌, vec_c
 ghost use Rattle.vs_conn.specs.{Headers.{owed_header, payload_header}, End.{CanSend, answering, grown, may_send_of, owes_of, verdict_of, may_shut, with_payload_sent}};
 ghost use Rattle.vs_conn.specs.{End.wanting_credit, declared.end.State.TheVariants.Live, Shut.is_both};
 ghost use Rattle.vs_credit.specs.Credit.{free_of};
-ghost use Rattle.vs_flow.specs.{Flow.is_assigned, Table.{IsTable, entry_of, entry_under, slots, value_under, with_entry}};
+ghost use Rattle.vs_flow.specs.{CleanPairs.kept_if, Flow.host_asks, Table.{IsTable, entry_of, entry_under, slots, value_under, with_entry}};
 ghost use Rattle.laws_history.specs.{declared.packet.Packet.Packet, Packets.is_clean_rst};
 ghost use Rattle.vs_page.specs.Held.{IsWhole};
 ghost use Rattle.vs_limits.specs.declared.TheConstants.{BUF_ALLOC_MAX, LAST_PORT, LAST_ID, DRIVER_CONNECTIONS};
 ghost use Rattle.vs_driver_parts.specs.{State.{DriverEntry, DriverConnection, GoneConnection, is_known_as}, Connections.{route_to_host, after_read, after_shut, after_closing}};
-ghost use Rattle.vs_driver_parts.specs.{Connections.{OweNothing, paid_connection, without_gone, all_gone_after_read, free_flow, kept_if}, Receiving.{after_packet, reset_reply}};
-ghost use Rattle.vs_driver_parts.specs.{Room.IsSpare, Held.{KnowsNone, no_slots, held_in, with_asked_in, with_answering_in, with_connection_in, left_in, kept_in}};
+ghost use Rattle.vs_driver_parts.specs.{Connections.{OweNothing, paid_connection, without_gone, all_gone_after_read, free_flow}, Receiving.{after_packet, reset_reply}};
+ghost use Rattle.vs_driver_parts.specs.{Room.IsSpare, Held.{KnowsNone, no_slots, held_in, with_asked_in, with_answering_in, with_connection_in, left_in, kept_in, host_kept_in}};
 ghost use Rattle.vs_driver_parts.specs.SlotFields.{IsNoted};
 ghost use Rattle.laws_tables.specs.Steps.{port_after};
 
@@ -24,7 +24,7 @@ use std::alloc::{AllocError, Global};
 use std::marker::Model;
 use vs_buffer::ByteFifo;
 use vs_conn::{Owed, Stop, Verdict};
-use vs_flow::{CleanPairs, Entry, Flow, FlowTable, Slot, is_assigned};
+use vs_flow::{CleanPairs, Entry, Flow, FlowTable, Slot};
 use vs_header::Header;
 use vs_limits::{BUF_ALLOC_MAX, DRIVER_CONNECTIONS, LAST_PORT};
 use vs_replies::Reply;
@@ -109,15 +109,19 @@ impl Slots {
         self.table.len()
     }
 
-    /// The flow of the next connection of this side to a host port. `None` comes exactly where the last guest port was given and no flow to that
-    /// port may be used again.
-    pub fn next_flow(&self, host: u32) -> Option<Flow>
-        ensures { result ≡ free_flow host self.now.next_port self.now.clean }
+    /// The flow of the next connection of this side to a port of a peer. `None` comes exactly where the last guest port was given and no flow
+    /// to that port may be used again.
+    pub fn next_flow(&self, peer: u64, port: u32) -> Option<Flow>
+        ensures { result ≡ free_flow peer port self.now.next_port self.now.clean }
     {
         if self.next_port <= LAST_PORT {
-            return Some(Flow::to_host(self.next_port, host));
+            return Some(Flow {
+                guest: self.next_port,
+                host: port,
+                peer,
+            });
         }
-        self.clean.oldest_to(host)
+        self.clean.oldest_to(peer, port)
     }
 
     /// The id that the next connection gets, up to 2^32.
@@ -279,12 +283,12 @@ impl Slots {
         self.gone.iter().find(|gone| gone.has_id(id))
     }
 
-    /// A connection opens on the next flow to its host port, and its REQUEST is put. Its id is returned.
+    /// A connection opens on the next flow to its port, and its REQUEST is put. Its id is returned.
     pub fn open_asked(&mut self, flow: Flow) -> ConnId
         requires free { held_in self.old < DRIVER_CONNECTIONS }
-        requires next { free_flow flow.host self.old.next_port self.old.clean ≡ Some flow }
+        requires next { free_flow flow.peer flow.host self.old.next_port self.old.clean ≡ Some flow }
         requires id { self.old.next_id ≤ LAST_ID }
-        requires host { is_assigned flow.host ≡ false }
+        requires host { host_asks flow ≡ false }
         ensures opened { self.new ≡ with_asked_in flow self.old }
         ensures id { result ≡ self.old.next_id }
     {
@@ -305,7 +309,7 @@ impl Slots {
     pub fn open_answering(&mut self, flow: Flow, request: &Header) -> ConnId
         requires free { held_in self.old < DRIVER_CONNECTIONS }
         requires id { self.old.next_id ≤ LAST_ID }
-        requires host { is_assigned flow.host ≡ true }
+        requires host { host_asks flow ≡ true }
         requires unknown { entry_of self.old.table flow ≡ None }
         ensures opened { self.new ≡ with_answering_in flow request.now self.old }
         ensures id { result ≡ self.old.next_id }
@@ -319,10 +323,17 @@ impl Slots {
         id
     }
 
+    /// Of the flows that may be used again those with the host stay.
+    pub fn keep_host(&mut self)
+        ensures { self.new ≡ host_kept_in self.old }
+    {
+        self.clean.keep_host();
+    }
+
     /// The connection in a slot leaves the table. It is gone then, or its slot is free where it was closed or never answered. Its flow may be
     /// used again where it ended cleanly and this side opened it.
     pub fn leave(&mut self, slot: Slot, cleanly: bool)
-        ensures { (e : DriverEntry) → entry_under self.old.table slot ≡ Some e → self.new ≡ kept_in (cleanly && not (is_assigned e.flow.host)) e.flow (left_in e self.old) }
+        ensures { (e : DriverEntry) → entry_under self.old.table slot ≡ Some e → self.new ≡ kept_in (cleanly && not (host_asks e.flow)) e.flow (left_in e self.old) }
     {
         let Some(flow) = self.table.flow_of(slot) else {
             return;
@@ -510,9 +521,9 @@ fn port_after(next: u32, port: u32) -> u32
 
 // Keeps the flow of a connection that this side opened, where it ended cleanly.
 fn keep_own(clean: &mut CleanPairs, cleanly: bool, flow: Flow)
-    ensures { clean.new ≡ kept_if (cleanly && not (is_assigned flow.host)) flow clean.old }
+    ensures { clean.new ≡ kept_if (cleanly && not (host_asks flow)) flow clean.old }
 {
-    if cleanly && !is_assigned(flow.host) {
+    if cleanly && !flow.host_asks() {
         clean.keep(flow);
     }
 }

@@ -1,12 +1,12 @@
 //! Flows whose ports may be used again, since both ends closed the connection cleanly.
 ghost use Rattle.std.specs.Prelude.{◌≡◌, ◌≤◌, ◌==◌, [], IfOk, position};
 ghost use Rattle.vs_limits.specs.declared.TheConstants.{CLEAN_PAIRS};
-ghost use Rattle.vs_flow.specs.{CleanPairs.{comes_from, goes_to, kept, oldest, without_oldest}, Flow.same_flow};
+ghost use Rattle.vs_flow.specs.{CleanPairs.{comes_from, goes_to, kept, of_host, oldest, without_oldest}, Flow.same_flow};
 
 use crate::flow::Flow;
 use std::alloc::{AllocError, Global};
 use std::marker::Model;
-use vs_limits::CLEAN_PAIRS;
+use vs_limits::{CLEAN_PAIRS, HOST_CID};
 
 /// The flows whose connections were closed cleanly, the oldest first: no packet of them is on its way, so a connection may use such a pair
 /// of ports again. At most `CLEAN_PAIRS` are kept.
@@ -48,11 +48,11 @@ impl CleanPairs {
         self.flows.push_reserved(flow);
     }
 
-    /// The oldest flow to a host port, or `None` where no flow goes there.
-    pub fn oldest_to(&self, host: u32) -> Option<Flow>
-        ensures { result ≡ oldest (goes_to host) self.now }
+    /// The oldest flow to a port of a peer, or `None` where no flow goes there.
+    pub fn oldest_to(&self, peer: u64, port: u32) -> Option<Flow>
+        ensures { result ≡ oldest (goes_to peer port) self.now }
     {
-        let place = place_to(&self.flows, host)?;
+        let place = place_to(&self.flows, peer, port)?;
         Some(self.flows[place])
     }
 
@@ -72,13 +72,22 @@ impl CleanPairs {
             self.flows.remove(place);
         }
     }
+
+    /// Keeps the flows with the host alone.
+    pub fn keep_host(&mut self)
+        ensures { self.new ≡ of_host self.old }
+    {
+        self.flows.retain(|flow| flow.peer == HOST_CID);
+    }
 }
 
-// The place of the oldest flow to a host port.
-fn place_to(flows: &[Flow], host: u32) -> Option<usize>
-    ensures { result ≡ position (goes_to host) flows.now }
+// The place of the oldest flow to a port of a peer.
+fn place_to(flows: &[Flow], peer: u64, port: u32) -> Option<usize>
+    ensures { result ≡ position (goes_to peer port) flows.now }
 {
-    flows.iter().position(|flow| flow.host == host)
+    flows
+        .iter()
+        .position(|flow| flow.peer == peer && flow.host == port)
 }
 
 // The place of the oldest flow from a guest port.

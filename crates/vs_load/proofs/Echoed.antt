@@ -3,13 +3,13 @@ use Rattle.std.proofs.Common.{◌≡◌, ℕ, zero, suc, ◌-◌, ◌==◌, Bool
 use Rattle.std.{proofs.lemmas.{List.Elements.{All-head, All-tail, All-weaker}, Option.same_Some}, specs.{List.All, Prelude.{option_and_then, slice_get}}}
 use Rattle.std.specs.Option.{ForSome, option_map_or}
 use Rattle.vs_flow.specs.Connection.{Connection}
-use Rattle.vs_page.specs.Fair.{IsPrefixOf}
+use Rattle.vs_page.specs.{Fair.IsPrefixOf, Log.Log}
 use Rattle.vs_outside.specs.{Host.{HostContents, Stream, stream_at}, HostBytes.{after_line, host_read, host_wrote, labelled_with, read_after_ok, stream_of, wrote_after_connect}}
 use Rattle.laws_device.proofs.Carried.Lines.{after_is_rest, rest_of}
 use Rattle.vs_ring_shared.specs.declared.counters.Met.{Met}
 use Rattle.vs_echo.specs.Echo.{IsEcho}
 use Rattle.laws_settled.specs.Begun.{IsUnlabelled, Start, start_with}
-use Rattle.vs_apps_parts.specs.{Journals.calls_of, Scripts.RunScript}
+use Rattle.vs_apps_parts.specs.{Journals.calls_of, Scripts.RunScript, declared.journal.Entry.Entry}
 use Rattle.vs_apps.specs.Guests.{GuestsState}
 use Rattle.vs_run_report.specs.{Connections.opened_all, Right.IsRightConnection, declared.connection.Opened.Opened}
 use Rattle.vs_run_apps.specs.{Runs.HasRun, Sides.SideState}
@@ -71,21 +71,29 @@ module _ (h : HostContents) (echo : All IsEcho h.streams) where
   back_on : (k : Connection) → IsPrefixOf (host_wrote k h) (host_read k h)
   back_on k = back_by (stream_of k h) (of_id (slice_get (labelled_with k.flow h) (k.number - 1)))
 
-came_back : (script : RunScript) (g : GuestsState) (opened : ℕ → Connection) (h : HostContents) → All IsEcho h.streams
-    → All (IsRightConnection opened (calls_of script g.bytes g.entries) h) (opened_all (length script) g.entries) → AllCameBack script g
-came_back script g opened h echo right =
+came_back : (script : RunScript) (g : GuestsState) (opened : ℕ → Connection) (log : Log) (h : HostContents) → All IsEcho h.streams
+    → All (IsRightConnection opened log (calls_of script g.bytes g.entries) h) (opened_all (length script) g.entries) → AllCameBack script g
+came_back script g opened log h echo right =
     let journal = calls_of script g.bytes g.entries in
-    All-weaker (IsRightConnection opened journal h) (CameBack journal)
+    All-weaker (IsRightConnection opened log journal h) (CameBack journal)
     (λ (o : Opened) is. front_of_front _ (host_wrote (opened o.id) h) _ is.to_guest
     (front_of_front (host_wrote (opened o.id) h) (host_read (opened o.id) h) _ (back_on h echo (opened o.id)) is.to_host))
     (opened_all (length script) g.entries) right
 
 -- A run over such a host is right, so all came back.
-pub all_came_back : (script : RunScript) (start : Start) (g : GuestsState) (s : SideState) (met : Met) (first h : HostContents) (faults : ℕ)
-    → HasRun script start g s met → start ≡ start_with (Some first) faults → IsUnlabelled first → s.contents ≡ Some h → All IsEcho h.streams
+pub all_came_back : (port : ℕ) (script : RunScript) (start : Start) (g : GuestsState) (s : SideState) (met : Met) (first h : HostContents) (faults : ℕ)
+    → HasRun port script start g s met → start ≡ start_with (Some first) faults → IsUnlabelled first → s.contents ≡ Some h → All IsEcho h.streams
     → AllCameBack script g
-all_came_back script start g s met first h faults run began unlabelled shows echo =
+all_came_back port script start g s met first h faults run began unlabelled shows echo =
     let from : ForSome start.contents IsUnlabelled =
     subst (λ (x : Start). ForSome x.contents IsUnlabelled) (sym began) (λ c is. subst IsUnlabelled (same_Some first c is) unlabelled) in
     let right = run.right from h shows in
-    came_back script g right.0 h echo right.1.0.connections
+    came_back script g right.0 g.end.log h echo right.1.0.connections
+
+-- The same of a script, entries and bytes that are those.
+pub same_came_back : (own script : RunScript) (es fs : List Entry) (bs cs : List ℕ) → script ≡ own → fs ≡ es → cs ≡ bs
+    → All (CameBack (calls_of own bs es)) (opened_all (length own) es) → All (CameBack (calls_of script cs fs)) (opened_all (length script) fs)
+same_came_back own script es fs bs cs named noted given back =
+    subst (λ (x : RunScript). All (CameBack (calls_of x cs fs)) (opened_all (length x) fs)) (sym named)
+    (subst (λ (x : List Entry). All (CameBack (calls_of own cs x)) (opened_all (length own) x)) (sym noted)
+    (subst (λ (x : List ℕ). All (CameBack (calls_of own x es)) (opened_all (length own) es)) (sym given) back))

@@ -1,5 +1,6 @@
 -- What a load ends in.
 use Rattle.std.specs.{List.All, Prelude.{◌≡◌, ℕ, false, List, [], length, Option, Some}}
+use Rattle.vs_limits.specs.declared.TheConstants.{FIRST_PORT}
 use Rattle.vs_outside.specs.Host.{HostContents}
 use Rattle.vs_ring_shared.specs.declared.counters.Met.{Met}
 use Rattle.vs_apps_parts.specs.{Journals.calls_of, Scripts.RunScript}
@@ -20,7 +21,7 @@ pub record IsOver (conns : ℕ) (script : RunScript) (start : Start) (contents :
   pub met : Met
   pub exposes : side.contents ≡ contents
   pub counts : side.faults ≡ faults
-  pub ran : HasRun script start guests side met
+  pub ran : HasRun FIRST_PORT script start guests side met
   pub is : line ≡ load_line conns script guests.entries guests.bytes
 
 -- The load was over, with a host that had no stream when it began, and of which no call had failed, and that found memory for all that it was given.

@@ -1,6 +1,7 @@
 //! A load, from its numbers to its line.
 
 ghost use Rattle.std.specs.Prelude.{◌≡◌, ℕ, IfOk, Option, Some, string_bytes};
+ghost use Rattle.vs_limits.specs.declared.TheConstants.{FIRST_PORT};
 ghost use Rattle.vs_outside.specs.Host.{HostContents};
 ghost use Rattle.vs_ring_shared.specs.{Ports.IsRingSize, Sights.DeviceSight};
 ghost use Rattle.laws_settled.specs.Begun.{IsUnlabelled, start_with};
@@ -60,6 +61,7 @@ fn load_under<W: Threads + Wait + Sync, N: StartName + Send, C: Clock, G: Gate +
     requires rings { rings.table ≡ N.ring }
     requires ready { (ring : DeviceSight) (contents : Option HostContents) (faults : ℕ) → IsSilent ring
         → IsReady (start_with contents faults) (record { proxy = proxy; ring = ring; contents = contents; faults = faults }) }
+    requires first { N.first ≡ FIRST_PORT }
     requires start { N.start ≡ start_with (Some host.old.contents) host.old.faults }
     requires unlabelled { IsUnlabelled host.old.contents }
     ensures { IfOk result (λ line. IsOver conns N.script N.start (Some host.new.contents) host.new.faults (string_bytes line)) }

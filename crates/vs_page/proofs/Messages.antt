@@ -1,6 +1,6 @@
 -- The messages of longer lists of packets begin by those of shorter ones.
 use Rattle.std.proofs.{Common.{◌≡◌, ◌&&◌, ℕ, Bool, true, false, if◌then◌else◌, not, List, [], ◌∷◌, ◌++◌, refl, sym, ap, ◌∙◌, subst, append_assoc}, lemmas.List.append-nil}
-use Rattle.vs_flow.specs.{Flow.is_assigned, Connection.Connection}
+use Rattle.vs_flow.specs.{Flow.host_asks, Connection.Connection}
 use Rattle.vs_header.specs.declared.Kind.{Kind, TheVariants.{Seqpacket, Stream}}
 use Rattle.laws_history.specs.{Packets.{bytes, ends_message}, History.{Side, gots, peer, puts}, declared.packet.Packet.Packet}
 use Rattle.vs_page.specs.{Messages.{AreFirstOf, MessageEnd, ends_got, ends_of, ends_put, ends_record, form, is_nothing, unfinished, whole_by}, Fair.{IsPrefixOf, instance_from}}
@@ -32,7 +32,7 @@ ends_prefix role mine other c got =
     let front = on_flow (flow_got role) c.flow got.packets.0 in
     subst (λ side. AreFirstOf (ends_got role c mine)
     (ends_of (instance_from side c.number (puts (whole_of (other_role role) c.flow other)))))
-    (sym (opposite_by role (is_assigned c.flow.host)))
+    (sym (opposite_by role (host_asks c.flow)))
     (ends_from (peer (side_of role c.flow)) c.number _ front _ (got_on role c.flow mine other got.packets.0 got.packets.1))
 
 pub ends_put_stay : (role : Role) (newer log : Log) (c : Connection) → AreFirstOf (ends_put role c log) (ends_put role c (newer ++ log))

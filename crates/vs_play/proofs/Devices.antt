@@ -26,7 +26,8 @@ driven_still v w same s driven = record {
   };
   honest = (
     driven.honest.0,
-    subst (λ (l : EndLog). IsHonestWith driven.honest.0 s (driver_contents (record v { driver = l }))) (sym same.driver) driven.honest.1,
+    driven.honest.1,
+    subst (λ (l : EndLog). IsHonestWith driven.honest.0 driven.honest.1 s (driver_contents (record v { driver = l }))) (sym same.driver) driven.honest.2,
   );
 }
 

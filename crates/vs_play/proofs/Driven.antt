@@ -1,5 +1,5 @@
 -- The rings stay the driver's over a call that leaves the pages.
-use Rattle.std.proofs.Common.{◌≡◌, ℕ, List, ◌++◌, Result, Ok, Err, OnOk, OnErr, refl, sym, ap, ap₂, subst, ◌∙◌}
+use Rattle.std.proofs.Common.{◌≡◌, ℕ, Bool, List, ◌++◌, Result, Ok, Err, OnOk, OnErr, refl, sym, ap, ap₂, subst, ◌∙◌}
 use Rattle.vs_contents.specs.CallTree.{Done}
 use Rattle.vs_ring_port.specs.Contents.{RingContents}
 use Rattle.vs_ring_list.specs.Ends.{Ends, driver_contents, flight_of, staged_of}
@@ -23,10 +23,10 @@ ring_stays s t e same ring =
     }
 
 pub driven_stays : (s t : DriverState) (e : Ends) → SamePages s t
-    → ((first : ℕ) (c : RingContents) → IsHonestWith first s c → IsHonestWith first t c) → IsDriven s e → IsDriven t e
+    → ((hosts : Bool) (first : ℕ) (c : RingContents) → IsHonestWith hosts first s c → IsHonestWith hosts first t c) → IsDriven s e → IsDriven t e
 driven_stays s t e same honest driven = record {
   ring = ring_stays s t e same driven.ring;
-  honest = (driven.honest.0, honest driven.honest.0 (driver_contents e) driven.honest.1);
+  honest = (driven.honest.0, driven.honest.1, honest driven.honest.0 driven.honest.1 (driver_contents e) driven.honest.2);
 }
 
 -- A call without the rings.
@@ -42,7 +42,7 @@ replies c s t reply e text text' made driven printed = record {
 -- One whose answer and whose end are known.
 pub replies_as : (c : GuestCall) (s t after : DriverState) (reply answer : ReplyTo c) (e : Ends) (text text' : List ℕ)
     → whole_call c s ≡ Done (after, answer) → t ≡ after → reply ≡ answer → SamePages s after
-    → ((first : ℕ) (c : RingContents) → IsHonestWith first s c → IsHonestWith first t c) → IsDriven s e → text' ≡ text ++ reply_text c reply t
+    → ((hosts : Bool) (first : ℕ) (c : RingContents) → IsHonestWith hosts first s c → IsHonestWith hosts first t c) → IsDriven s e → text' ≡ text ++ reply_text c reply t
     → Replies c s t e e text text'
 replies_as c s t after reply answer e text text' whole ends says same honest driven printed =
     replies c s t reply e text text' (whole ∙ sym (ap₂ (λ (x : DriverState) (r : ReplyTo c). Done (x, r)) ends says))

@@ -1,5 +1,5 @@
 -- Over rings that are seen as their ends a call of the driver's or the device's has one end: the one that it has over lists.
-use Rattle.std.proofs.Common.{◌≡◌, ℕ, List, ◌++◌, Option, Some, sym, ap, subst, ◌∙◌}
+use Rattle.std.proofs.Common.{◌≡◌, ℕ, Bool, List, ◌++◌, Option, Some, sym, ap, subst, ◌∙◌}
 use Rattle.vs_outside.specs.Host.{HostContents}
 use Rattle.vs_ring_port.specs.{Chains.chains_of, Contents.RingContents, Counts.Counts, declared.device_ring.Chain.Chain}
 use Rattle.vs_ring_list.specs.Ends.{Ends, device_contents, driver_contents}
@@ -24,19 +24,19 @@ module _ (e : Ends) (n : ℕ) (flown waiting : Counts) (c : RingContents) (shows
   pub honest_of : (s : DriverState) → IsDriven s e → IsHonest s c
   honest_of s driven = subst (IsHonest s) (sym shows.exposes) driven.honest
 
-  pub driven_as : (first : ℕ) (s : DriverState) → IsRingOf n flown waiting s → IsHonestWith first s c → IsDriven s e
-  driven_as first s ring honest = record {
+  pub driven_as : (hosts : Bool) (first : ℕ) (s : DriverState) → IsRingOf n flown waiting s → IsHonestWith hosts first s c → IsDriven s e
+  driven_as hosts first s ring honest = record {
     ring = record {
       size = ring.size ∙ shows.size_is;
       flight = sym shows.flight_is ∙ (ring.flight ∙ ap (λ m. all_flown m s) shows.size_is);
       staged = sym shows.staged_is ∙ ring.staged;
       none = ring.none;
     };
-    honest = (first, subst (IsHonestWith first s) shows.exposes honest);
+    honest = (hosts, first, subst (IsHonestWith hosts first s) shows.exposes honest);
   }
 
-  pub honest_with : (first : ℕ) (s : DriverState) → IsHonestWith first s (driver_contents e) → IsHonestWith first s c
-  honest_with first s honest = subst (IsHonestWith first s) (sym shows.exposes) honest
+  pub honest_with : (hosts : Bool) (first : ℕ) (s : DriverState) → IsHonestWith hosts first s (driver_contents e) → IsHonestWith hosts first s c
+  honest_with hosts first s honest = subst (IsHonestWith hosts first s) (sym shows.exposes) honest
 
 pub played_as : {A : Type 0} (tree : DriverTree A) (v w : Ends) (n m : ℕ) (f g k l : Counts) (c d : RingContents) (x : A)
     → IsDriverOf v n f k c → IsDriverOf w m g l d → Plays tree c x d → over_lists tree v ≡ (x, w)
@@ -45,15 +45,16 @@ played_as tree v w n m f g k l c d x old new plays =
 
 pub answered : {A : Type 0} (tree : DriverTree (DriverState × A)) (text_of : A → DriverState → List ℕ) (v w : Ends) (n m : ℕ) (f g k l : Counts)
     (c d : RingContents) (s t : DriverState) (a : A) (text text' : List ℕ) → IsDriverOf v n f k c → IsDriverOf w m g l d → IsDriven s v
-    → Plays tree c (t, a) d → IsRingOf m g l t → ((first : ℕ) → IsHonestWith first s c → IsHonestWith first t d)
+    → Plays tree c (t, a) d → IsRingOf m g l t → ((hosts : Bool) (first : ℕ) → IsHonestWith hosts first s c → IsHonestWith hosts first t d)
     → text' ≡ text ++ text_of a t → Answers tree text_of t v w text text'
 answered tree text_of v w n m f g k l c d s t a text text' old new driven plays ring honest printed =
-    let first = driven.honest.0 in
+    let hosts = driven.honest.0 in
+    let first = driven.honest.1 in
     record {
       answer = a;
       played = played_as tree v w n m f g k l c d (t, a) old new plays;
       printed = printed;
-      driven = driven_as w m g l d new first t ring (honest first (honest_with v n f k c old first s driven.honest.1));
+      driven = driven_as w m g l d new hosts first t ring (honest hosts first (honest_with v n f k c old hosts first s driven.honest.2));
     }
 
 -- The device's calls.

@@ -24,6 +24,7 @@ connection_text id None = codes "unknown\n"
 
 -- connect PORT
 abbrev pub refused_text : ConnectError → List ℕ
+refused_text (refused.BadCid cid) = codes "bad cid " ++ decimal cid ++ codes "\n"
 refused_text (refused.BadPort port) = codes "bad port " ++ decimal port ++ codes "\n"
 refused_text (refused.Full n) = codes "full " ++ decimal n ++ codes "\n"
 refused_text (refused.PortsSpent port id) = codes "ports spent\n"

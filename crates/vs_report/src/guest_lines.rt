@@ -52,6 +52,7 @@ fn push_refusal(out: &mut String, refusal: ConnectError) -> Result<(), AllocErro
     ensures { OnOk result (string_bytes out.new ≡ string_bytes out.old ++ refused_text refusal) }
 {
     match refusal {
+        ConnectError::BadCid { cid } => push_last(out, "bad cid ", cid),
         ConnectError::BadPort { port } => push_last(out, "bad port ", port as u64),
         ConnectError::Full { slots } => push_last(out, "full ", slots as u64),
         ConnectError::PortsSpent { .. } => out.push_str("ports spent\n"),

@@ -7,7 +7,7 @@ use Rattle.vs_ring_port.specs.Chains.{Held, chains_of}
 use Rattle.vs_device_parts.specs.{Calls.Situation, Playing.situation}
 use Rattle.vs_ring_shared.specs.{Countings.met_between, Meetings.after_hearing, Sights.{DeviceSight, device_contents, device_log}, declared.counters.Met.Met}
 use Rattle.vs_apps_parts.specs.Scripts.{RunScript}
-use Rattle.laws_apps.specs.Runs.{IsRunOf, Run}
+use Rattle.laws_apps.specs.{Ports.ArePortsFrom, Runs.{IsRunOf, Run}}
 use Rattle.laws_proxy.specs.Honest.{IsProxyStreamed}
 use Rattle.laws_settled.{specs.{Begun.{CountsFailed, IsBegun, IsUnlabelled, Start, start_with}, Settled.{IsSettled, IsSteady}}, proofs.Beginning.{dropped_none, new_begun}}
 use Rattle.laws_settled.proofs.Steady.{new_steady}
@@ -51,11 +51,12 @@ module _ (script : RunScript) (start : Start) (g : GuestsState) (s : SideState) 
         told.3,
       )
 
-  pub has_run : (met : Met) → IsRunOf FIRST_CID script (run_in g) → IsSettled g.driver g.end s.proxy s.ring
+  pub has_run : (first : ℕ) (met : Met) → IsRunOf FIRST_CID script (run_in g) → ArePortsFrom first g.entries → IsSettled g.driver g.end s.proxy s.ring
       → LastRound script g s.proxy s.ring s.contents s.faults → AreIdle s.proxy.device.table s.contents → met ≡ met_between g.end.log s.ring.sight.log
-      → IsSteady s.proxy (around s) → IsBegun start s.proxy (around s) → HasRun script start g s met
-  has_run met run rest last idle numbers steady begun = record {
+      → IsSteady s.proxy (around s) → IsBegun start s.proxy (around s) → HasRun first script start g s met
+  has_run first met run ports rest last idle numbers steady begun = record {
     run = run;
+    ports = ports;
     rest = rest;
     last = last;
     idle = idle;
@@ -94,22 +95,22 @@ begun_before start now g s unlabelled same begun = record {
   failed = subst (λ (n : ℕ). CountsFailed n s.proxy.device.faults s.faults) same begun.failed;
 }
 
-module _ (o n : Option HostContents) (P : HostContents → Type 0) (k m : ℕ) (exposes : Exposes o n P after_start) (same : m ≡ k) (script : RunScript)
+module _ (o n : Option HostContents) (P : HostContents → Type 0) (k m : ℕ) (exposes : Exposes o n P after_start) (same : m ≡ k) (first : ℕ) (script : RunScript)
     (contents : Option HostContents) (failed : ℕ) where
-  over_before : (Q : GuestsState → ProxyState → Type 0) → IsOver script (start_with n m) contents failed Q → IsOver script (start_with o k) contents failed Q
+  over_before : (Q : GuestsState → ProxyState → Type 0) → IsOver first script (start_with n m) contents failed Q → IsOver first script (start_with o k) contents failed Q
   over_before Q (g, s, met, shown, counted, run, rest) = (
     g,
     s,
     met,
     shown,
     counted,
-    has_run script (start_with o k) g s met run.run run.rest run.last run.idle run.numbers run.steady
+    has_run script (start_with o k) g s first met run.run run.ports run.rest run.last run.idle run.numbers run.steady
         (begun_before (start_with o k) (start_with n m) g s (still_unlabelled o n P exposes) same run.begun),
     rest,
   )
 
   pub reports_before : (idle : ℕ) (old new : Option (List ℕ)) (faults faults' : ℕ) (r : Result ℕ GiveError)
-      → Reports idle script (start_with n m) contents failed old new faults faults' r → Reports idle script (start_with o k) contents failed old new faults faults' r
+      → Reports idle first script (start_with n m) contents failed old new faults faults' r → Reports idle first script (start_with o k) contents failed old new faults faults' r
   reports_before idle old new faults faults' (Ok status) over = over_before _ over
   reports_before idle old new faults faults' (Err give.Sink) over = over_before _ over
   reports_before idle old new faults faults' (Err give.OutOfMemory) none = none

@@ -10,12 +10,12 @@ use Rattle.vs_run_report.specs.Report.{run_texts}
 use Rattle.laws_settled.specs.Begun.{Start}
 use Rattle.vs_run_apps.specs.{Printed.Gives, Printed.Reports, Printed.texts_of, Runs.HasRun, Runs.totals_of, Sides.SideState}
 
-pub reported : (idle : ℕ) (script : RunScript) (start : Start) (g : GuestsState) (s : SideState) (met : Met) (old new : Option (List ℕ)) (faults faults' : ℕ)
-    (r : Result ℕ GiveError) → HasRun script start g s met → Gives idle script g s.proxy old new faults faults' r
-    → Reports idle script start s.contents s.faults old new faults faults' r
-reported idle script start g s met old new faults faults' (Ok status) run given = (g, s, met, refl, refl, run, given)
-reported idle script start g s met old new faults faults' (Err give.Sink) run given = (g, s, met, refl, refl, run, given)
-reported idle script start g s met old new faults faults' (Err give.OutOfMemory) run given = given
+pub reported : (idle first : ℕ) (script : RunScript) (start : Start) (g : GuestsState) (s : SideState) (met : Met) (old new : Option (List ℕ)) (faults faults' : ℕ)
+    (r : Result ℕ GiveError) → HasRun first script start g s met → Gives idle script g s.proxy old new faults faults' r
+    → Reports idle first script start s.contents s.faults old new faults faults' r
+reported idle first script start g s met old new faults faults' (Ok status) run given = (g, s, met, refl, refl, run, given)
+reported idle first script start g s met old new faults faults' (Err give.Sink) run given = (g, s, met, refl, refl, run, given)
+reported idle first script start g s met old new faults faults' (Err give.OutOfMemory) run given = given
 
 -- the lines of what guests and a proxy show are theirs
 pub same_texts : (idle : ℕ) (script own : RunScript) (g : GuestsState) (p : ProxyState) (apps : List AppState) (entries : List Entry) (bytes : List ℕ)

@@ -26,25 +26,25 @@ Gives idle script g p old new faults faults' (Err give.Sink) =
     EmitsSome old new (joined (texts_of idle script g p)) × CountsFault true faults faults'
 Gives idle script g p old new faults faults' (Err give.OutOfMemory) = (new ≡ old) × (faults' ≡ faults)
 
--- A run that began with this host was over, with a host that exposes this and of which so many calls failed, and P is so of both its sides. What it
+-- A run by a guest with this first port that began with this host was over, with a host that exposes this and of which so many calls failed, and P is so of both its sides. What it
 -- reports is right, as `HasRun` says, where the host exposed its streams and none had a label.
-abbrev pub IsOver : RunScript → Start → Option HostContents → ℕ → (GuestsState → ProxyState → Type 0) → Type 0
-IsOver script start contents faults P =
-    (g : GuestsState) × (s : SideState) × (met : Met) × (s.contents ≡ contents) × (s.faults ≡ faults) × HasRun script start g s met × P g s.proxy
+abbrev pub IsOver : ℕ → RunScript → Start → Option HostContents → ℕ → (GuestsState → ProxyState → Type 0) → Type 0
+IsOver first script start contents faults P =
+    (g : GuestsState) × (s : SideState) × (met : Met) × (s.contents ≡ contents) × (s.faults ≡ faults) × HasRun first script start g s met × P g s.proxy
 
 -- A run was over, and its report was given, all of it or less than all. Or memory ran out, and nothing was given.
-abbrev pub Reports : ℕ → RunScript → Start → Option HostContents → ℕ → Option (List ℕ) → Option (List ℕ) → ℕ → ℕ → Result ℕ GiveError → Type 0
-Reports idle script start contents failed old new faults faults' (Ok status) =
-    IsOver script start contents failed (λ g p. Gives idle script g p old new faults faults' (Ok status))
-Reports idle script start contents failed old new faults faults' (Err give.Sink) =
-    IsOver script start contents failed (λ g p. Gives idle script g p old new faults faults' (Err give.Sink))
-Reports idle script start contents failed old new faults faults' (Err give.OutOfMemory) = (new ≡ old) × (faults' ≡ faults)
+abbrev pub Reports : ℕ → ℕ → RunScript → Start → Option HostContents → ℕ → Option (List ℕ) → Option (List ℕ) → ℕ → ℕ → Result ℕ GiveError → Type 0
+Reports idle first script start contents failed old new faults faults' (Ok status) =
+    IsOver first script start contents failed (λ g p. Gives idle script g p old new faults faults' (Ok status))
+Reports idle first script start contents failed old new faults faults' (Err give.Sink) =
+    IsOver first script start contents failed (λ g p. Gives idle script g p old new faults faults' (Err give.Sink))
+Reports idle first script start contents failed old new faults faults' (Err give.OutOfMemory) = (new ≡ old) × (faults' ≡ faults)
 
 -- The same; or the host didn't start and counted a fault, and nothing was given.
-abbrev pub Answers : ℕ → RunScript → Start → Option HostContents → ℕ → Option (List ℕ) → Option (List ℕ) → ℕ → ℕ → Result ℕ RunError → Type 0
-Answers idle script start contents failed old new faults faults' (Ok status) =
-    Reports idle script start contents failed old new faults faults' (Ok status)
-Answers idle script start contents failed old new faults faults' (Err (error.NotGiven e)) =
-    Reports idle script start contents failed old new faults faults' (Err e)
-Answers idle script start contents failed old new faults faults' (Err error.NotStarted) =
+abbrev pub Answers : ℕ → ℕ → RunScript → Start → Option HostContents → ℕ → Option (List ℕ) → Option (List ℕ) → ℕ → ℕ → Result ℕ RunError → Type 0
+Answers idle first script start contents failed old new faults faults' (Ok status) =
+    Reports idle first script start contents failed old new faults faults' (Ok status)
+Answers idle first script start contents failed old new faults faults' (Err (error.NotGiven e)) =
+    Reports idle first script start contents failed old new faults faults' (Err e)
+Answers idle first script start contents failed old new faults faults' (Err error.NotStarted) =
     CountsFault true start.faults failed × (new ≡ old) × (faults' ≡ faults)

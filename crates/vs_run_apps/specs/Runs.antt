@@ -7,7 +7,7 @@ use Rattle.vs_device_parts.specs.{State.counters_of, Turns.table_shown as device
 use Rattle.vs_proxy_parts.specs.State.{ProxyState}
 use Rattle.vs_ring_shared.specs.{Countings.met_between, declared.counters.Met.Met}
 use Rattle.vs_apps_parts.specs.Scripts.{RunScript}
-use Rattle.laws_apps.specs.Runs.{IsRunOf}
+use Rattle.laws_apps.specs.{Ports.ArePortsFrom, Runs.IsRunOf}
 use Rattle.laws_settled.specs.{Begun.{IsBegun, IsUnlabelled, Start}, Settled.{IsSettled, IsSteady}}
 use Rattle.vs_apps.specs.Guests.{GuestsState, run_in}
 use Rattle.vs_settle.specs.Rounds.{LastRound}
@@ -29,15 +29,17 @@ totals_of g p = record {
 abbrev pub HasRightReport : RunScript → Start → GuestsState → SideState → Type 0
 HasRightReport script start g s =
     ForSome start.contents IsUnlabelled → ForSome s.contents (λ h.
-    (opened : ℕ → Connection) × IsRightReport script g.apps g.entries g.bytes (totals_of g s.proxy) opened h start.faults s.faults
+    (opened : ℕ → Connection) × IsRightReport script g.apps g.entries g.bytes (totals_of g s.proxy) opened g.end.log h start.faults s.faults
     × IsCompleteRun script g.apps g.entries g.bytes (totals_of g s.proxy) opened h
     × ArePlaceWaits script g.apps g.entries g.bytes g.driver opened h)
 
--- The journal is that of a run of the script; both ends are at rest; in the last round nothing moved, and each app was done or waited; the stream of
--- each connection that may read it, and has credit, has nothing to be taken, and that of each connection with bytes pending takes none; and so many
--- packets and events were put and got. The proxy is steady, and came from where the run began; so the report is right.
-pub record HasRun (script : RunScript) (start : Start) (g : GuestsState) (s : SideState) (met : Met) : Type 0 where
+-- The journal is that of a run of the script, whose connects gave the guest ports from the first on, one after another; both ends are at rest; in the
+-- last round nothing moved, and each app was done or waited; the stream of each connection that may read it, and has credit, has nothing to be taken,
+-- and that of each connection with bytes pending takes none; and so many packets and events were put and got. The proxy is steady, and came from where
+-- the run began; so the report is right.
+pub record HasRun (first : ℕ) (script : RunScript) (start : Start) (g : GuestsState) (s : SideState) (met : Met) : Type 0 where
   pub run : IsRunOf FIRST_CID script (run_in g)
+  pub ports : ArePortsFrom first g.entries
   pub rest : IsSettled g.driver g.end s.proxy s.ring
   pub last : LastRound script g s.proxy s.ring s.contents s.faults
   pub idle : AreIdle s.proxy.device.table s.contents

@@ -16,7 +16,7 @@ use vs_proxy::Proxy;
 use vs_ring_shared::{DeviceEnd, NewRings, named};
 use vs_script::App;
 
-/// The guests of a run and the device's end, over new rings, with the guest's first port. The only error is want of memory.
+/// The guests of a run and the device's end, over new rings, with the guest's first port, which is the name's. The only error is want of memory.
 pub fn new_guests<N: RunName>(
     alloc: Global,
     script: Vec<App>,
@@ -27,6 +27,7 @@ pub fn new_guests<N: RunName>(
     requires right { AreRight N.script }
     requires rings { rings.table ≡ N.ring }
     requires first { (FIRST_PORT ≤ first) × (first ≤ LAST_PORT) }
+    requires own { first ≡ N.first }
     ensures silent { IfOk result (λ x. IsSilent x.1) }
     ensures entries { IfOk result (λ x. x.0.entries ≡ []) }
 {

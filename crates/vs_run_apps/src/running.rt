@@ -41,7 +41,7 @@ fn settled<W: Wait, N: StartName, H: HostNet, C: Clock>(
     clock: &mut C,
 ) -> Result<Ran<N>, OutOfMemory>
     requires ready { IsReady N.start (record { proxy = proxy; ring = ring; contents = H.contents host.old; faults = H.faults host.old }) }
-    ensures ran { IfOk result (λ r. HasRun N.script N.start r.guests
+    ensures ran { IfOk result (λ r. HasRun N.first N.script N.start r.guests
         (record { proxy = r.proxy; ring = r.ring; contents = H.contents host.new; faults = H.faults host.new }) r.met) }
 {
     let mut guests = guests;
@@ -80,7 +80,7 @@ fn run_on<
     gate: G,
 ) -> Result<Ran<N>, OutOfMemory>
     requires ready { IsReady N.start (record { proxy = proxy; ring = ring; contents = H.contents host.old; faults = H.faults host.old }) }
-    ensures ran { IfOk result (λ r. HasRun N.script N.start r.guests
+    ensures ran { IfOk result (λ r. HasRun N.first N.script N.start r.guests
         (record { proxy = r.proxy; ring = r.ring; contents = H.contents host.new; faults = H.faults host.new }) r.met) }
 {
     let mut side = DeviceSide::new(proxy, ring, host, clock);
@@ -92,7 +92,7 @@ fn run_on<
     }
 }
 
-/// A run of the script of a name, over new rings of its identity, by a guest with this first port, with a host that has started: the apps run,
+/// A run of the script of a name, over new rings of its identity, by a guest with this first port, the name's, with a host that has started: the apps run,
 /// each on a thread of its own, beside the device on the caller's (`run_all`); then they settle: both ends are at rest, and each app is done or
 /// waits.
 ///
@@ -120,10 +120,11 @@ pub fn run_under<
     requires right { AreRight N.script }
     requires rings { rings.table ≡ N.ring }
     requires first { (FIRST_PORT ≤ first) × (first ≤ LAST_PORT) }
+    requires own { first ≡ N.first }
     requires ready { (ring : DeviceSight) (contents : Option HostContents) (faults : ℕ) → IsSilent ring
         → IsReady (start_with contents faults) (record { proxy = proxy; ring = ring; contents = contents; faults = faults }) }
     requires start { N.start ≡ start_with (H.contents host.old) (H.faults host.old) }
-    ensures ran { IfOk result (λ r. HasRun N.script N.start r.guests
+    ensures ran { IfOk result (λ r. HasRun N.first N.script N.start r.guests
         (record { proxy = r.proxy; ring = r.ring; contents = H.contents host.new; faults = H.faults host.new }) r.met) }
 {
     let Ok((guests, ring)) = new_guests::<N>(alloc, script, rings, first) else {

@@ -59,10 +59,11 @@ fn run_and_report<
     requires right { AreRight N.script }
     requires rings { rings.table ≡ N.ring }
     requires first { (FIRST_PORT ≤ first) × (first ≤ LAST_PORT) }
+    requires own { first ≡ N.first }
     requires ready { (ring : DeviceSight) (contents : Option HostContents) (faults : ℕ) → IsSilent ring
         → IsReady (start_with contents faults) (record { proxy = proxy; ring = ring; contents = contents; faults = faults }) }
     requires start { N.start ≡ start_with (H.contents host.old) (H.faults host.old) }
-    ensures { Reports idle N.script N.start (H.contents host.new) (H.faults host.new) (K.contents out.old) (K.contents out.new) (K.faults out.old)
+    ensures { Reports idle N.first N.script N.start (H.contents host.new) (H.faults host.new) (K.contents out.old) (K.contents out.new) (K.faults out.old)
         (K.faults out.new) result }
 {
     match run_under::<W, N, H, C, G>(
@@ -92,8 +93,8 @@ fn run_started<W: Threads + Wait + Sync, H: HostNet, C: Clock, G: Gate + Send + 
     requires queue { IsRingSize queue }
     requires first { (FIRST_PORT ≤ first) × (first ≤ LAST_PORT) }
     requires base { (1 ≤ length base.now) × (length base.now ≤ BASE_MAX) }
-    ensures { Reports idle (script_of script.items) (start_with (H.contents host.old) (H.faults host.old)) (H.contents host.new) (H.faults host.new) (K.contents out.old) (K.contents out.new)
-        (K.faults out.old) (K.faults out.new) result }
+    ensures { Reports idle first (script_of script.items) (start_with (H.contents host.old) (H.faults host.old)) (H.contents host.new) (H.faults host.new)
+        (K.contents out.old) (K.contents out.new) (K.faults out.old) (K.faults out.new) result }
 {
     let Ok(rings) = make(alloc, queue) else {
         return Err(GiveError::OutOfMemory);
@@ -133,8 +134,8 @@ pub fn run<W: Threads + Wait + Sync, H: HostNet, C: Clock, G: Gate + Send + Drop
     requires queue { IsRingSize queue }
     requires first { (FIRST_PORT ≤ first) × (first ≤ LAST_PORT) }
     requires base { (1 ≤ length base.now) × (length base.now ≤ BASE_MAX) }
-    ensures { Answers idle (script_of script.items) (start_with (H.contents host.old) (H.faults host.old)) (H.contents host.new) (H.faults host.new) (K.contents out.old)
-        (K.contents out.new) (K.faults out.old) (K.faults out.new) result }
+    ensures { Answers idle first (script_of script.items) (start_with (H.contents host.old) (H.faults host.old)) (H.contents host.new) (H.faults host.new)
+        (K.contents out.old) (K.contents out.new) (K.faults out.old) (K.faults out.new) result }
 {
     match host.start(base) {
         Started::Failed => Err(RunError::NotStarted),

@@ -35,6 +35,7 @@ may_tell c why = false
 -- Each reply.
 connect_tells : (r : Result ℕ ConnectError) → Tells waits_to_connect (told_connect r)
 connect_tells (Ok id) = tt
+connect_tells (Err (refused.BadCid cid)) = tt
 connect_tells (Err (refused.BadPort port)) = tt
 connect_tells (Err (refused.Full n)) = refl
 connect_tells (Err (refused.PortsSpent port id)) = tt

@@ -1,6 +1,7 @@
 -- Worked runs and loads: what the definitions compute for them.
-use Rattle.std.specs.Prelude.{ℕ, false, List, [], ◌∷◌, codes, Option, None, Some, Ok}
+use Rattle.std.specs.Prelude.{ℕ, ◌≤◌, false, List, [], ◌∷◌, codes, Option, None, Some, Ok}
 use Rattle.vs_flow.specs.{Connection.Connection, Flow.host_flow}
+use Rattle.vs_page.specs.{Fair.number_of, Log.{Driver, Log}}
 use Rattle.vs_outside.specs.Host.{HostContents, Stream}
 use Rattle.vs_script.specs.{App.{Accept, Close, Connect, Listen, Recv, Send}, Data.Given}
 use Rattle.vs_apps_parts.specs.{Examples.at_next, Journals.{entry_called, entry_waited}, Scripts.RunScript, declared.{journal.Entry.Entry, progress.AppState.AppState}}
@@ -124,4 +125,27 @@ abbrev pub hello_status : ℕ
 hello_status = run_status hello (app_at 3 None ∷ []) hello_entries
 
 abbrev pub hello_is_right : Type 0
-hello_is_right = IsRightReport hello (app_at 3 None ∷ []) hello_entries [] (both_open 0) first_opened hello_host 0 0
+hello_is_right = (log : Log) → 1 ≤ number_of Driver (host_flow 1024 52) log
+    → IsRightReport hello (app_at 3 None ∷ []) hello_entries [] (both_open 0) first_opened log hello_host 0 0
+
+-- One that connects twice on one pair of ports, and receives what the host's program wrote on the first connection, on the second: that is never right.
+abbrev pub again : RunScript
+again = (Connect 52 ∷ Close ∷ Connect 52 ∷ Recv 3 ∷ []) ∷ []
+
+abbrev pub swapped_entries : List Entry
+swapped_entries =
+    entry_called 0 (called.Connect 52 (Ok 1) (Some (host_flow 1024 52))) ∷ entry_called 0 (called.Close 1 closed.Done)
+    ∷ entry_called 0 (called.Connect 52 (Ok 2) (Some (host_flow 1024 52))) ∷ entry_called 0 (called.Recv 2 3 0 (got.Got 3)) ∷ []
+
+abbrev pub written_stream : List ℕ → Stream
+written_stream bytes = record hello_stream { taken = bytes; given = [] }
+
+abbrev pub two_streams : HostContents
+two_streams = record hello_host {
+  streams = written_stream (codes "abc") ∷ written_stream [] ∷ [];
+  labelled = 1 ∷ 2 ∷ [];
+  label_calls = 2;
+}
+
+abbrev pub swapped_is_right : (ℕ → Connection) → Log → Type 0
+swapped_is_right opened log = IsRightReport again (app_at 4 None ∷ []) swapped_entries (codes "abc") (both_open 1) opened log two_streams 0 0

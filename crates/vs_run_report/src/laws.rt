@@ -2,11 +2,14 @@
 
 ghost use Rattle.std.specs.Prelude.{◌≡◌, ◌<◌, ◌+◌, ◌==◌, ℕ, true, false, List, [], ◌∷◌, Option, Some, codes, slice_get};
 ghost use Rattle.vs_script.specs.{App.{Act, Close, Connect, Exchange}, Data.Fill};
+ghost use Rattle.vs_flow.specs.Connection.{Connection};
+ghost use Rattle.vs_page.specs.Log.{Log};
 ghost use Rattle.laws_driver.specs.Carried.Calls.{Made};
 ghost use Rattle.vs_apps_parts.specs.{Scripts.{calls_in, calls_next, told_in}, Told.step_wait, Journals.{wait_noted, wait_place}, declared.journal.Entry.Entry};
 ghost use Rattle.vs_apps_parts.specs.declared.{journal.WaitsFor.WaitsFor, progress.{AppState.AppState, Progress.Progress}};
 ghost use Rattle.vs_run_report.specs.{Endings.ending_of, Right.may_wait, declared.ending.Ending.TheVariants.Waited, Examples.{hello_is_right, hello_printed, hello_says}};
-ghost use Rattle.vs_run_report.specs.{Examples.{hello_status, served_printed, served_says, silent_printed, silent_says, silent_status}, Load.{all_matched, load_script, matches}};
+ghost use Rattle.vs_run_report.specs.Examples.{hello_status, served_printed, served_says, silent_printed, silent_says, silent_status, swapped_is_right};
+ghost use Rattle.vs_run_report.specs.Load.{all_matched, load_script, matches};
 
 /// A step that waits does so for what its instruction may wait for.
 pub fn law_of_waits()
@@ -33,6 +36,8 @@ pub fn worked_reports()
     ensures status { hello_status ≡ 0 }
     ensures status_of_waits { silent_status ≡ 5 }
     ensures right { hello_is_right }
+    // A report that swaps two connections of one pair of ports isn't, whichever connections ids were given to.
+    ensures swapped { (opened : ℕ → Connection) (log : Log) → swapped_is_right opened log → ⊥ }
 {}
 
 /// Loads.

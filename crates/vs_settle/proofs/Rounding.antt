@@ -283,7 +283,7 @@ module _ (script : RunScript) (g : GuestsState) (p : ProxyState) (e : DeviceSigh
     (held : (queue : Queue) → length (sight_in queue e.sight).put + held_of queue e.held ≡ length (sight_in queue e.sight).got)
     (its : IsItsRing (chains_of e.held) p.device) (tied : AreOneTable g.end e.sight) (none_flies : (flight_of g.end).tx ≡ 0)
     (seen : length e.sight.rx.put + g.end.size ≤ e.sight.rx.seen) where
-  agrees : AgreesWith FIRST_CID g.driver (driver_log g.end)
+  agrees : AgreesWith true FIRST_CID g.driver (driver_log g.end)
   agrees = run.kept.honest refl (driver_log g.end) refl
 
   device_agrees : DeviceAgreesWith FIRST_CID p.next_port p.device (device_log e)

@@ -1,17 +1,17 @@
 -- What the host's streams took and gave, through the small changes of the device.
-use Rattle.vs_flow.specs.{CleanPairs.kept, Table.{IsTable, Table, entry_of, with_value, without}, Flow.{is_assigned, same_flow}, declared.flow.Flow.Flow, Connection.Connection}
+use Rattle.vs_flow.specs.{CleanPairs.{kept, kept_if}, Table.{IsTable, Table, entry_of, with_value, without}, Flow.{host_asks, same_flow}, declared.flow.Flow.Flow, Connection.Connection}
 use Rattle.vs_flow.proofs.Entries.{same_flow_true}
 use Rattle.std.proofs.Common.{◌≡◌, ◌≢◌, ℕ, ◌+◌, ◌-◌, ◌≤◌, ◌==◌, ◌&&◌, nat_le, Bool, true, false, cond, List, [], ◌∷◌, ◌++◌, length, take, drop, Contains, Option, Some, None, refl}
 use Rattle.std.proofs.{Common.{sym, ap, subst, ◌∙◌, arith, slice_get, get_or, ◌⊎◌, inl, inr}, lemmas.{Bool.Decides.nat_tests, Grind.common_steps, List.append-nil}}
 use Rattle.std.{proofs.Math.Seq.{drop-nil, take-nil}, specs.{List.{All, filter}, Option.{option_map, option_map_or}}}
 use Rattle.vs_conn.{specs.{End.{ConnectionEnd, end_after, is_of, is_reset, verdict_of, with_shut, with_payload_sent}, declared.end.Verdict.Verdict}, proofs.Frames.got_asked}
-use Rattle.vs_device_parts.specs.{Connections.{after_shut, after_written, cut_off, kept_if}, State.{DeviceConnection, DeviceEntry}, Transmitting.heard, Streams.to_write}
+use Rattle.vs_device_parts.specs.{Connections.{after_shut, after_written, cut_off}, State.{DeviceConnection, DeviceEntry}, Transmitting.heard, Streams.to_write}
 use Rattle.laws_device.proofs.Carried.Gives.{drop_both, first_of, forwards_asked, forwards_gives, accepted_other, accepts_asked, accepts_response, answered_host, comes_behind}
 use Rattle.laws_device.proofs.Carried.Gives.{delivered_other, delivers_gives, gives_delivered, goes_host, hears_gives, kept_empty, response_empty, shut_gives, shuts_asked}
 use Rattle.laws_device.proofs.Carried.{Gives.{unanswered_got, forwards_old, shuts_old, stays_old}, HostCalls.{read_host, write_host, closed_left, same_ends, same_host}}
 use Rattle.laws_device.proofs.Carried.{Streamed.{join_of, kept_streamed, left_streamed, StaysStill, passed_streamed, same_connection_of, same_streamed}, Opens.none_apart}
 use Rattle.laws_device.proofs.Carried.{Hosts.{counts_kept, counts_still, look_kept, unseen}, Counted.{comes_on, counted_asks, counted_got, counted_put, kept_less}}
-use Rattle.laws_device.{proofs.Carried.Counted.{number_elsewhere, number_put_elsewhere, put_still, request_put}, specs.Carried.Streamed.{client_waits, AreCounted, IsCounted}}
+use Rattle.laws_device.{proofs.Carried.Counted.{number_elsewhere, number_put_elsewhere, put_still, request_put}, specs.Carried.Streamed.{client_waits, AreCounted, CountMatches}}
 use Rattle.laws_device.specs.Carried.Streamed.{IsJoined, IsStreamed, Ports, connection_of, count_in, gives, line_for, look, seen, Seen}
 use Rattle.laws_history.specs.{Packets.{has, is_clean_rst, is_request, is_response, is_rw}, History.{Answerer, Asker, Got, History, IsFair, Side, gots, puts, MayPut, peer}}
 use Rattle.laws_history.specs.{declared.packet.Packet.Packet, Again.AllowsNow}
@@ -110,10 +110,10 @@ put_empty c log port t hands p none plain may x = same_streamed (look c) (look c
     all_by true n m newest most = absurd (omega (arith, newest, most))
     all_by false n m newest most = sym newest
 
-    counted_by : (b : Bool) (f : Flow) (new : Bool) → is_assigned f.host ≡ b → cond new (number_of Device f log + 1) (number_of Device f log) ≡ count_in c f
-        → (is_assigned f.host ≡ false → count_in c f ≡ number_of Device f log)
+    counted_by : (b : Bool) (f : Flow) (new : Bool) → host_asks f ≡ b → cond new (number_of Device f log + 1) (number_of Device f log) ≡ count_in c f
+        → (host_asks f ≡ false → count_in c f ≡ number_of Device f log)
     counted_by b f new is newest outside =
-        let counted = subst (λ (b : Bool). IsCounted b (count_in c f) (number_of Device f log) (is_among f port.clean) (has is_clean_rst (puts (history_of Device f log)))) outside
+        let counted = subst (λ (b : Bool). CountMatches b (count_in c f) (number_of Device f log) (is_among f port.clean) (has is_clean_rst (puts (history_of Device f log)))) outside
         (x.streams.counted f) in
         all_by new (count_in c f) (number_of Device f log) newest counted.0
 
@@ -121,8 +121,8 @@ put_empty c log port t hands p none plain may x = same_streamed (look c) (look c
     put_still_by (inl unmarked) = put_still p log (count_in c) none plain (λ guest. inl unmarked)
     put_still_by (inr (e, there, flow)) =
         let j = join_of (look c) c.labelled (count_in c) log port t hands x e there in
-        put_still p log (count_in c) none plain (λ guest. inr (subst (λ (f : Flow). is_assigned f.host ≡ false → count_in c f ≡ number_of Device f log) (sym flow)
-        (counted_by (is_assigned e.flow.host) e.flow (is_new e.value.end) refl j.newest) guest))
+        put_still p log (count_in c) none plain (λ guest. inr (subst (λ (f : Flow). host_asks f ≡ false → count_in c f ≡ number_of Device f log) (sym flow)
+        (counted_by (host_asks e.flow) e.flow (is_new e.value.end) refl j.newest) guest))
 
 -- A REQUEST was put or got on a connection before and after a packet that is none: it keeps its number.
 both_old : (log new : Log) (e : DeviceEntry) (v : DeviceConnection) → is_new v.end ≡ false → is_new e.value.end ≡ false
@@ -192,7 +192,7 @@ module _ (c : HostContents) (log : Log) (port : Ports) (t : Table DeviceConnecti
   asks_streams e is k stream client closed was now ok pending less asks p request none flow by_client unkept =
       let its : Connection = connection_of e log in
       let j = join_of (look c) c.labelled (count_in c) log port t hands x e is in
-      let own : is_assigned e.flow.host ≡ true = sym j.client ∙ by_client in
+      let own : host_asks e.flow ≡ true = sym j.client ∙ by_client in
       let after : connection_of (record e { value = k }) (PutPacket p ∷ log) ≡ its =
       ap (λ (b : Bool). let n = number_of Device e.flow (PutPacket p ∷ log) in
       let d : Connection = record { flow = e.flow; number = cond b (n + 1) n } in d) now
@@ -203,7 +203,7 @@ module _ (c : HostContents) (log : Log) (port : Ports) (t : Table DeviceConnecti
       goes_host c log (PutPacket p ∷ log) port t hands x sound e is k stream client closed [] (put_nothing Device p log none)
       (λ d. got_over_put Device p log d ∙ sym (none_on_any its d (payload_got Device d log))) after
       (λ f other. number_put_elsewhere p log f (λ same. other (same ∙ flow)))
-      (counted_asks p log (count_in c) port.clean request (subst (λ (f : Flow). is_assigned f.host ≡ true) (sym flow) own)
+      (counted_asks p log (count_in c) port.clean request (subst (λ (f : Flow). host_asks f ≡ true) (sym flow) own)
       (subst (λ (f : Flow). number_of Device f log + 1 ≤ count_in c f) (sym flow) (omega (arith, next)))
       (subst (λ (f : Flow). is_among f port.clean ≡ false) (sym flow) unkept))
       (subst (λ (line : List ℕ). Goes (gives e.value.end) (gives k.end) (e.value.ok_line ++ e.value.pending) (line ++ k.pending) [] []) (sym ok)
@@ -248,7 +248,7 @@ module _ (c : HostContents) (log : Log) (port : Ports) (t : Table DeviceConnecti
           (λ on. absurd (delivered_other e.value.end p.header now on))
 
       -- RESPONSE, before which no payload came.
-      pub accepts_streams : e.value.by_client ≡ is_assigned e.flow.host → (line : List ℕ)
+      pub accepts_streams : e.value.by_client ≡ host_asks e.flow → (line : List ℕ)
           → line ≡ cond e.value.by_client (ok_text e.flow.host) [] → verdict_of e.value.end p.header ≡ verdict.Accept
           → IsStreamed c (GotPacket p ∷ log) port (with_value t e.slot (record (heard p.header e.value) { ok_line = line })) hands
       accepts_streams client line written now =
@@ -306,8 +306,8 @@ module _ (c : HostContents) (log : Log) (port : Ports) (t : Table DeviceConnecti
           ∙ ap (λ (b : Bool). cond b (number_of Device e.flow log + 1) (number_of Device e.flow log)) old
 
       own : (b k : Bool) (f : Flow) (marked : Bool) → count_in c f ≡ number_of Device f log
-          → IsCounted b (count_in c f) (number_of Device f log) (is_among f port.clean) marked
-          → IsCounted b (count_in c f) (number_of Device f log) k marked
+          → CountMatches b (count_in c f) (number_of Device f log) (is_among f port.clean) marked
+          → CountMatches b (count_in c f) (number_of Device f log) k marked
       own true k f marked every y = (y.0, y.1, λ is. every)
       own false k f marked every y = y
 
@@ -319,9 +319,9 @@ module _ (c : HostContents) (log : Log) (port : Ports) (t : Table DeviceConnecti
           marks = has is_clean_rst (puts (history_of Device f log))
 
           of : (s : Bool) → same_flow f e.flow ≡ s → AreCounted (count_in c) (kept CLEAN_PAIRS e.flow port.clean) log f
-          of true same = own (is_assigned f.host) (is_among f (kept CLEAN_PAIRS e.flow port.clean)) f marks
+          of true same = own (host_asks f) (is_among f (kept CLEAN_PAIRS e.flow port.clean)) f marks
               (subst (λ (g : Flow). count_in c g ≡ number_of Device g log) (sym (same_flow_true f e.flow same)) all) y
-          of false other = kept_less (is_assigned f.host) (count_in c f) (number_of Device f log) (is_among f port.clean)
+          of false other = kept_less (host_asks f) (count_in c f) (number_of Device f log) (is_among f port.clean)
               (is_among f (kept CLEAN_PAIRS e.flow port.clean)) marks (λ is. kept_among e.flow f port.clean is other) y
 
   -- A connection leaves, whose stream is closed or closes.
@@ -448,9 +448,9 @@ no_labels c port t empty unlabelled none waits = record {
     nothing_put Answerer k = refl
 
     empty_counted : (f : Flow) → AreCounted (λ g. 0) port.clean [] f
-    empty_counted f = none_in (is_assigned f.host)
+    empty_counted f = none_in (host_asks f)
       where
-        none_in : (b : Bool) → IsCounted b 0 (asked_by (side_by Device b) [] []) (is_among f port.clean) false
+        none_in : (b : Bool) → CountMatches b 0 (asked_by (side_by Device b) [] []) (is_among f port.clean) false
         none_in true = (omega arith, omega arith, λ kept. refl)
         none_in false = (omega arith, λ marked. absurd cc)
 

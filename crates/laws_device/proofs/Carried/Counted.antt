@@ -1,31 +1,31 @@
 -- The streams with a flow as label against the REQUESTs of a log, entry by entry.
 use Rattle.std.proofs.Common.{◌≡◌, ◌≢◌, ℕ, ◌+◌, ◌≤◌, ◌||◌, Bool, true, false, cond, List, [], ◌∷◌, ◌++◌, refl, sym, ap, subst, ◌∙◌, arith, ◌⊎◌, inl, inr}
 use Rattle.std.proofs.lemmas.{Bool.Decides.nat_tests, Grind.common_steps}
-use Rattle.vs_flow.{specs.{Connection.Connection, Flow.{is_assigned, same_flow}, declared.flow.Flow.Flow}, proofs.Entries.{same_flow_false, same_flow_true}}
+use Rattle.vs_flow.{specs.{Connection.Connection, Flow.{host_asks, same_flow}, declared.flow.Flow.Flow}, proofs.Entries.{same_flow_false, same_flow_true}}
 use Rattle.laws_history.specs.{Again.{MayPutNow, count, IsClean}, Packets.{has, is_clean_rst, is_request, is_rw}, History.{Asker, Got, History, Put, Side, gots, peer, puts}}
 use Rattle.laws_history.specs.declared.packet.Packet.{Packet}
 use Rattle.vs_page.specs.{Fair.{IsFairLog, asked_by, current, number_of, payload_got}, Held.IsWhole, Log.{Device, Log, and_then, flow_got, flow_put, history_of, side_by, side_of}}
 use Rattle.vs_page.{specs.{Log.whole_of, declared.log.LogEntry.TheVariants.{GotPacket, PutPacket}}, proofs.Flows.same_self}
 use Rattle.laws_tables.{specs.{Drains.only_on, Ends.is_among}, proofs.{Adding.{got_adds, got_nothing, number_put, put_nothing, got_over_put}, Fair.own_got_fair, Firsts.asker_asks}}
 use Rattle.laws_tables.proofs.{Firsts.no_present, Logs.none_on_any}
-use Rattle.laws_device.{specs.Carried.Streamed.{AreCounted, IsCounted}, proofs.Carried.Streamed.StaysStill}
+use Rattle.laws_device.{specs.Carried.Streamed.{AreCounted, CountMatches}, proofs.Carried.Streamed.StaysStill}
 
 -- No other flow is kept.
-pub kept_less : (b : Bool) (count number : ℕ) (was now marked : Bool) → (now ≡ true → was ≡ true) → IsCounted b count number was marked
-    → IsCounted b count number now marked
+pub kept_less : (b : Bool) (count number : ℕ) (was now marked : Bool) → (now ≡ true → was ≡ true) → CountMatches b count number was marked
+    → CountMatches b count number now marked
 kept_less true count number was now marked less x = (x.0, x.1, λ is. x.2 (less is))
 kept_less false count number was now marked less x = x
 
 -- The same, by what passed on a flow, and what did on its present connection.
 abbrev AreIn : Bool → ℕ → Bool → History → History → Type 0
-AreIn b n k w h = IsCounted b n (asked_by (side_by Device b) (puts w) (gots w)) k (has is_clean_rst (puts h))
+AreIn b n k w h = CountMatches b n (asked_by (side_by Device b) (puts w) (gots w)) k (has is_clean_rst (puts h))
 
 got_in : (b s : Bool) (p : Packet) (n : ℕ) (k : Bool) (w h : History) → AreIn b n k w h → AreIn b n k (cond s (Got p ∷ w) w) (cond s (and_then (Got p) h) h)
 got_in b false p n k w h x = x
 got_in true true p n k w h x = x
 got_in false true p n k w h x = by (is_request p)
   where
-    by : (r : Bool) → IsCounted false n (cond r (count is_request (gots w) + 1) (count is_request (gots w))) k
+    by : (r : Bool) → CountMatches false n (cond r (count is_request (gots w) + 1) (count is_request (gots w))) k
         (has is_clean_rst (puts (cond r (Got p ∷ []) (Got p ∷ h))))
     by true = (omega (arith, x.0), λ marked. absurd cc)
     by false = x
@@ -33,30 +33,30 @@ got_in false true p n k w h x = by (is_request p)
 -- A packet comes: no more are marked after it, and a REQUEST is one more.
 pub counted_got : (p : Packet) (log : Log) (n : Flow → ℕ) (kept : List Flow) (f : Flow) → AreCounted n kept log f → AreCounted n kept (GotPacket p ∷ log) f
 counted_got p log n kept f x =
-    got_in (is_assigned f.host) (same_flow f (flow_got Device p)) p (n f) (is_among f kept) (whole_of Device f log) (history_of Device f log) x
+    got_in (host_asks f) (same_flow f (flow_got Device p)) p (n f) (is_among f kept) (whole_of Device f log) (history_of Device f log) x
 
 put_in : (b s : Bool) (p : Packet) (n : ℕ) (k : Bool) (w h : History) → is_request p ≡ false → (s ≡ true → b ≡ false → (is_clean_rst p ≡ false) ⊎ (n ≡ count is_request (gots w)))
     → AreIn b n k w h → AreIn b n k (cond s (Put p ∷ w) w) (cond s (and_then (Put p) h) h)
 put_in b false p n k w h plain marks x = x
 put_in true true p n k w h plain marks x =
-    subst (λ (r : Bool). IsCounted true n (cond r (count is_request (puts w) + 1) (count is_request (puts w))) k true) (sym plain) x
+    subst (λ (r : Bool). CountMatches true n (cond r (count is_request (puts w) + 1) (count is_request (puts w))) k true) (sym plain) x
 put_in false true p n k w h plain marks x =
-    subst (λ (r : Bool). IsCounted false n (count is_request (gots w)) k (has is_clean_rst (puts (cond r (Put p ∷ []) (Put p ∷ h))))) (sym plain)
+    subst (λ (r : Bool). CountMatches false n (count is_request (gots w)) k (has is_clean_rst (puts (cond r (Put p ∷ []) (Put p ∷ h))))) (sym plain)
     (by (marks refl refl))
   where
-    by : (is_clean_rst p ≡ false) ⊎ (n ≡ count is_request (gots w)) → IsCounted false n (count is_request (gots w)) k (is_clean_rst p || has is_clean_rst (puts h))
-    by (inl not) = subst (λ (c : Bool). IsCounted false n (count is_request (gots w)) k (c || has is_clean_rst (puts h))) (sym not) x
+    by : (is_clean_rst p ≡ false) ⊎ (n ≡ count is_request (gots w)) → CountMatches false n (count is_request (gots w)) k (is_clean_rst p || has is_clean_rst (puts h))
+    by (inl not) = subst (λ (c : Bool). CountMatches false n (count is_request (gots w)) k (c || has is_clean_rst (puts h))) (sym not) x
     by (inr all) = (x.0, λ marked. all)
 
 -- A packet is put that is no REQUEST: one that isn't marked, or one of a flow each REQUEST of which has its stream.
 pub counted_put : (p : Packet) (log : Log) (n : Flow → ℕ) (kept : List Flow) → is_request p ≡ false
-    → (is_assigned (flow_put Device p).host ≡ false → (is_clean_rst p ≡ false) ⊎ (n (flow_put Device p) ≡ number_of Device (flow_put Device p) log))
+    → (host_asks (flow_put Device p) ≡ false → (is_clean_rst p ≡ false) ⊎ (n (flow_put Device p) ≡ number_of Device (flow_put Device p) log))
     → (f : Flow) → AreCounted n kept log f → AreCounted n kept (PutPacket p ∷ log) f
 counted_put p log n kept plain marks f x =
-    put_in (is_assigned f.host) (same_flow f (flow_put Device p)) p (n f) (is_among f kept) (whole_of Device f log) (history_of Device f log) plain
-    (λ own guest. by own guest (marks (subst (λ (g : Flow). is_assigned g.host ≡ false) (same_flow_true f (flow_put Device p) own) guest))) x
+    put_in (host_asks f) (same_flow f (flow_put Device p)) p (n f) (is_among f kept) (whole_of Device f log) (history_of Device f log) plain
+    (λ own guest. by own guest (marks (subst (λ (g : Flow). host_asks g ≡ false) (same_flow_true f (flow_put Device p) own) guest))) x
   where
-    by : same_flow f (flow_put Device p) ≡ true → is_assigned f.host ≡ false
+    by : same_flow f (flow_put Device p) ≡ true → host_asks f ≡ false
         → (is_clean_rst p ≡ false) ⊎ (n (flow_put Device p) ≡ number_of Device (flow_put Device p) log)
         → (is_clean_rst p ≡ false) ⊎ (n f ≡ count is_request (gots (whole_of Device f log)))
     by own guest (inl not) = inl not
@@ -66,7 +66,7 @@ counted_put p log n kept plain marks f x =
 
 -- One that has no payload and is no REQUEST.
 pub put_still : (p : Packet) (log : Log) (n : Flow → ℕ) → p.payload ≡ [] → is_request p ≡ false
-    → (is_assigned (flow_put Device p).host ≡ false → (is_clean_rst p ≡ false) ⊎ (n (flow_put Device p) ≡ number_of Device (flow_put Device p) log))
+    → (host_asks (flow_put Device p) ≡ false → (is_clean_rst p ≡ false) ⊎ (n (flow_put Device p) ≡ number_of Device (flow_put Device p) log))
     → StaysStill n log (PutPacket p ∷ log)
 put_still p log n none plain marks = record {
   put = put_nothing Device p log none;
@@ -76,14 +76,14 @@ put_still p log n none plain marks = record {
 }
 
 -- A REQUEST is put on a flow that isn't kept: it has a stream there.
-pub counted_asks : (p : Packet) (log : Log) (n : Flow → ℕ) (kept : List Flow) → is_request p ≡ true → is_assigned (flow_put Device p).host ≡ true
+pub counted_asks : (p : Packet) (log : Log) (n : Flow → ℕ) (kept : List Flow) → is_request p ≡ true → host_asks (flow_put Device p) ≡ true
     → number_of Device (flow_put Device p) log + 1 ≤ n (flow_put Device p) → is_among (flow_put Device p) kept ≡ false
     → (f : Flow) → AreCounted n kept log f → AreCounted n kept (PutPacket p ∷ log) f
 counted_asks p log n kept asks assigned room unkept f x = by (same_flow f (flow_put Device p)) refl
   where
-    there : is_assigned f.host ≡ true → number_of Device f log + 1 ≤ n f → is_among f kept ≡ false
-        → AreIn (is_assigned f.host) (n f) (is_among f kept) (Put p ∷ whole_of Device f log) (and_then (Put p) (history_of Device f log))
-    there own more none = of (is_assigned f.host) own more x
+    there : host_asks f ≡ true → number_of Device f log + 1 ≤ n f → is_among f kept ≡ false
+        → AreIn (host_asks f) (n f) (is_among f kept) (Put p ∷ whole_of Device f log) (and_then (Put p) (history_of Device f log))
+    there own more none = of (host_asks f) own more x
       where
         of : (b : Bool) → b ≡ true → asked_by (side_by Device b) (puts (whole_of Device f log)) (gots (whole_of Device f log)) + 1 ≤ n f
             → AreIn b (n f) (is_among f kept) (whole_of Device f log) (history_of Device f log)
@@ -91,29 +91,29 @@ counted_asks p log n kept asks assigned room unkept f x = by (same_flow f (flow_
         of true own more x =
             let most = x.1 in
             let m : ℕ = count is_request (puts (whole_of Device f log)) in
-            let now : IsCounted true (n f) (m + 1) (is_among f kept) true =
+            let now : CountMatches true (n f) (m + 1) (is_among f kept) true =
             (more, omega (arith, most), λ is. let both : true ≡ false = sym is ∙ none in absurd cc) in
-            subst (λ (r : Bool). IsCounted true (n f) (cond r (m + 1) m) (is_among f kept) true) (sym asks) now
+            subst (λ (r : Bool). CountMatches true (n f) (cond r (m + 1) m) (is_among f kept) true) (sym asks) now
         of false own more x = absurd cc
 
     by : (s : Bool) → same_flow f (flow_put Device p) ≡ s
-        → AreIn (is_assigned f.host) (n f) (is_among f kept) (cond s (Put p ∷ whole_of Device f log) (whole_of Device f log))
+        → AreIn (host_asks f) (n f) (is_among f kept) (cond s (Put p ∷ whole_of Device f log) (whole_of Device f log))
         (cond s (and_then (Put p) (history_of Device f log)) (history_of Device f log))
     by false other = x
     by true own =
         let same = sym (same_flow_true f (flow_put Device p) own) in
-        there (subst (λ (g : Flow). is_assigned g.host ≡ true) same assigned) (subst (λ (g : Flow). number_of Device g log + 1 ≤ n g) same room)
+        there (subst (λ (g : Flow). host_asks g ≡ true) same assigned) (subst (λ (g : Flow). number_of Device g log + 1 ≤ n g) same room)
         (subst (λ (g : Flow). is_among g kept ≡ false) same unkept)
 
 -- A REQUEST comes, where the log stays fair: each one before it had its stream. And it is one more on its flow, which is the guest's.
 pub record IsAsked (n : Flow → ℕ) (log : Log) (p : Packet) : Type 0 where
-  pub guest : is_assigned (flow_got Device p).host ≡ false
+  pub guest : host_asks (flow_got Device p) ≡ false
   pub all : n (flow_got Device p) ≡ number_of Device (flow_got Device p) log
   pub next : number_of Device (flow_got Device p) (GotPacket p ∷ log) ≡ number_of Device (flow_got Device p) log + 1
 
 pub request_asks : (p : Packet) (log : Log) (n : Flow → ℕ) (kept : List Flow) → IsFairLog Device (GotPacket p ∷ log) → is_request p ≡ true
     → AreCounted n kept log (flow_got Device p) → IsAsked n log p
-request_asks p log n kept fair asks x = record { guest = guest (is_assigned f.host) refl; all = all; next = next }
+request_asks p log n kept fair asks x = record { guest = guest (host_asks f) refl; all = all; next = next }
   where
     f : Flow
     f = flow_got Device p
@@ -130,20 +130,20 @@ request_asks p log n kept fair asks x = record { guest = guest (is_assigned f.ho
     theirs : peer (side_of Device f) ≡ Asker
     theirs = asker_asks (peer (side_of Device f)) [] [] p (may.opens asks).1 asks
 
-    guest : (b : Bool) → is_assigned f.host ≡ b → b ≡ false
+    guest : (b : Bool) → host_asks f ≡ b → b ≡ false
     guest false is = refl
     guest true is = let no : peer (side_by Device true) ≡ Asker = ap (λ (b : Bool). peer (side_by Device b)) (sym is) ∙ theirs in absurd cc
 
-    outside : is_assigned f.host ≡ false
-    outside = guest (is_assigned f.host) refl
+    outside : host_asks f ≡ false
+    outside = guest (host_asks f) refl
 
     nothing : (h : History) → gots h ≡ [] → puts h ≡ [] → h ≡ []
     nothing [] a b = refl
     nothing (Put q ∷ h) a b = absurd cc
     nothing (Got q ∷ h) a b = absurd cc
 
-    counted : IsCounted false (n f) (number_of Device f log) (is_among f kept) (has is_clean_rst (puts h))
-    counted = subst (λ (b : Bool). IsCounted b (n f) (number_of Device f log) (is_among f kept) (has is_clean_rst (puts h))) outside x
+    counted : CountMatches false (n f) (number_of Device f log) (is_among f kept) (has is_clean_rst (puts h))
+    counted = subst (λ (b : Bool). CountMatches b (n f) (number_of Device f log) (is_among f kept) (has is_clean_rst (puts h))) outside x
 
     empty : (w : History) (side : Side) → w ≡ [] → asked_by side (puts w) (gots w) ≡ 0
     empty [] Asker is = refl
@@ -167,7 +167,7 @@ request_asks p log n kept fair asks x = record { guest = guest (is_assigned f.ho
     next_by false true false b s r is = absurd cc
 
     next : number_of Device f (GotPacket p ∷ log) ≡ number_of Device f log + 1
-    next = next_by (is_assigned f.host) (same_flow f f) (is_request p) outside (same_self f) refl asks
+    next = next_by (host_asks f) (same_flow f f) (is_request p) outside (same_self f) refl asks
 
 -- On other flows no number changes.
 pub number_elsewhere : (p : Packet) (log : Log) (f : Flow) → f ≢ flow_got Device p → number_of Device f log ≡ number_of Device f (GotPacket p ∷ log)
@@ -184,9 +184,9 @@ pub request_empty : (p : Packet) → is_request p ≡ true → is_rw p ≡ false
 request_empty p is = grind (arith, nat_tests, common_steps, is)
 
 -- A REQUEST that is put is one more on its flow, which is the device's own.
-pub request_put : (p : Packet) (log : Log) (f : Flow) → is_request p ≡ true → f ≡ flow_put Device p → is_assigned f.host ≡ true
+pub request_put : (p : Packet) (log : Log) (f : Flow) → is_request p ≡ true → f ≡ flow_put Device p → host_asks f ≡ true
     → number_of Device f (PutPacket p ∷ log) ≡ number_of Device f log + 1
-request_put p log f asks flow own = by (is_assigned f.host) (same_flow f (flow_put Device p)) own (ap (same_flow f) (sym flow) ∙ same_self f)
+request_put p log f asks flow own = by (host_asks f) (same_flow f (flow_put Device p)) own (ap (same_flow f) (sym flow) ∙ same_self f)
   where
     w : History
     w = whole_of Device f log

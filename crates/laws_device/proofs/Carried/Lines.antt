@@ -1,6 +1,6 @@
 -- What stands behind the first line of some bytes.
-use Rattle.std.proofs.Common.{◌≡◌, ℕ, suc, ◌+◌, ◌==◌, ◌||◌, not, nat_lt, Bool, true, false, cond, List, [], ◌∷◌, ◌++◌, length, drop, Some, None, refl, sym, ap, subst, ◌∙◌, arith}
-use Rattle.std.{proofs.lemmas.Bool.Decides.nat_tests, specs.{List.prefix_len, Option.option_map_or}}
+use Rattle.std.proofs.Common.{◌≡◌, ℕ, zero, suc, codes, decimal, ◌+◌, ◌==◌, ◌||◌, not, nat_lt, Bool, true, false, cond, List, [], ◌∷◌, ◌++◌, length, drop, Some, None, refl, sym, ap, subst, ◌∙◌, arith}
+use Rattle.std.{proofs.lemmas.Bool.Decides.nat_tests, specs.{Fmt.{digit_glyph, digits, digits_onto}, List.prefix_len, Option.option_map_or, Prelude.{◌/◌, ◌%◌}}}
 use Rattle.vs_outside.specs.HostBytes.{after_line}
 use Rattle.vs_page.specs.Fair.{IsPrefixOf}
 use Rattle.laws_device.specs.Carried.Streamed.{has_line}
@@ -105,3 +105,23 @@ rest_front (y ∷ ys) more (x ∷ xs) is (tail, same) =
 
 pub after_front : (line more front : List ℕ) → has_line line ≡ false → IsPrefixOf front ((line ++ 10 ∷ []) ++ more) → IsPrefixOf (after_line front) more
 after_front line more front is all = subst (λ (bytes : List ℕ). IsPrefixOf bytes more) (sym (after_is_rest front)) (rest_front line more front is all)
+
+-- An OK line has no LF but its last byte.
+plain_glyph : (d : ℕ) → (digit_glyph false d == 10) ≡ false
+plain_glyph d = grind (arith, nat_tests)
+
+plain_digits : (k n : ℕ) (acc : List ℕ) → has_line acc ≡ false → has_line (digits_onto k 10 false n acc) ≡ false
+plain_digits zero n acc none = none
+plain_digits (suc k) n acc none =
+    let one : has_line (digit_glyph false (n % 10) ∷ acc) ≡ false = rw (plain_glyph (n % 10)) none in
+    by (n / 10 == 0) one (plain_digits k (n / 10) (digit_glyph false (n % 10) ∷ acc) one)
+  where
+    by : (b : Bool) → has_line (digit_glyph false (n % 10) ∷ acc) ≡ false
+        → has_line (digits_onto k 10 false (n / 10) (digit_glyph false (n % 10) ∷ acc)) ≡ false
+        → has_line (cond b (digit_glyph false (n % 10) ∷ acc) (digits_onto k 10 false (n / 10) (digit_glyph false (n % 10) ∷ acc))) ≡ false
+    by true one rest = one
+    by false one rest = rest
+
+pub ok_front : (port : ℕ) → has_line (codes "OK " ++ decimal port) ≡ false
+unfolding digits
+ok_front port = plain_digits 64 port [] refl

@@ -4,7 +4,7 @@ use Rattle.std.proofs.{Common.{is_some, refl, sym, ap, subst, ◌∙◌, arith, 
 use Rattle.std.specs.{List.{All, find}, Option.{option_map, option_map_or}}
 use Rattle.vs_conn.specs.End.{answering, asked}
 use Rattle.vs_device_parts.specs.{Connections.new_connection, State.{DeviceConnection, DeviceEntry}}
-use Rattle.vs_flow.specs.{Connection.Connection, CleanPairs.without_oldest, Flow.{is_assigned, same_flow}, declared.flow.Flow.Flow, Table.{IsTable, Table, entry_of, next_entry}}
+use Rattle.vs_flow.specs.{Connection.Connection, CleanPairs.without_oldest, Flow.{host_asks, same_flow}, declared.flow.Flow.Flow, Table.{IsTable, Table, entry_of, next_entry}}
 use Rattle.vs_flow.{specs.Table.with_entry, proofs.{Entries.{found_passes, none_found, same_flow_true}, Lookups.find_place}}
 use Rattle.vs_header.specs.declared.Header.{Header}
 use Rattle.laws_history.specs.{History.{Got, gots, puts}, Packets.{has, is_clean_rst, is_request}, declared.packet.Packet.Packet}
@@ -16,7 +16,7 @@ use Rattle.vs_page.{specs.declared.log.LogEntry.TheVariants.GotPacket, proofs.{F
 use Rattle.vs_proxy_parts.specs.{Handshakes.{with_line, without_stream}, State.Handshake}
 use Rattle.vs_uds.specs.{OkLine.ok_text, Reading.is_decided, declared.connect.TheConstants.CONNECT_MAX}
 use Rattle.laws_tables.{specs.{Drains.Drains, Ends.{AreDistinct, is_among}, Steps.port_after}, proofs.Adding.{got_nothing, put_over_got}}
-use Rattle.laws_device.specs.Carried.Streamed.{AreCounted, AreLines, AreStreamed, IsCounted, IsStreamed, Ports, Seen, connection_of, count_in, has_line, line_for, look, reading}
+use Rattle.laws_device.specs.Carried.Streamed.{AreCounted, AreLines, AreStreamed, CountMatches, IsStreamed, Ports, Seen, connection_of, count_in, has_line, line_for, look, reading}
 use Rattle.laws_device.{specs.Carried.Streamed.{seen, seen_as}, proofs.Carried.Hosts.{changed_seen, counts_still, counts_then, here_then, new_there, none_there, others_seen}}
 use Rattle.laws_device.proofs.Carried.{Hosts.{others_then, none_labelled, others_there, there}, HostCalls.{closed_host, some_seen}, Counted.{IsAsked, counted_got, kept_less}}
 use Rattle.laws_device.proofs.Carried.{Counted.{number_elsewhere, request_asks}, Streamed.{one_streamed, opened_streamed, recounted}, Hands.{with_all, with_apart, without_all}}
@@ -174,7 +174,7 @@ module _ (c : HostContents) (log : Log) (port : Ports) (t : Table DeviceConnecti
       let both : Some h.connection ≡ None = sym h.label ∙ free h.stream h.there in absurd cc
 
   -- No stream has the label of a flow whose port is still to come.
-  pub none_counted : (f : Flow) → is_assigned f.host ≡ true → port.next ≤ f.host → count_in c f ≡ 0
+  pub none_counted : (f : Flow) → host_asks f ≡ true → port.next ≤ f.host → count_in c f ≡ 0
   none_counted f assigned less = by (count_in c f) refl
     where
       by : (n : ℕ) → count_in c f ≡ n → n ≡ 0
@@ -193,7 +193,7 @@ none_apart t f none i e within same =
 -- LABEL: a whole line opens a connection.
 module _ (c : HostContents) (log : Log) (port : Ports) (t : Table DeviceConnection) (lines : List Handshake) (x : IsStreamed c log port t lines)
     (id : ℕ) (f : Flow) (line : List ℕ) (here : look c id ≡ Some (reading line)) (away : All (λ h. h.stream ≢ id) lines)
-    (whole : has_line line ≡ true) (none_behind : after_line line ≡ []) (inside : is_assigned f.host ≡ true) (sound : IsTable t)
+    (whole : has_line line ≡ true) (none_behind : after_line line ≡ []) (inside : host_asks f ≡ true) (sound : IsTable t)
     (alone : entry_of t f ≡ None) (given : (port.next ≤ f.host) ⊎ (is_among f port.clean ≡ true)) (once : AreDistinct port.clean) where
   abbrev after : Ports
   after = record { next = port_after port.next f.host; clean = without_oldest (same_flow f) port.clean }
@@ -249,8 +249,8 @@ module _ (c : HostContents) (log : Log) (port : Ports) (t : Table DeviceConnecti
   all_asked : count_in c f ≡ number_of Device f log
   all_asked = by given
     where
-      counted_inside : IsCounted true (count_in c f) (number_of Device f log) (is_among f port.clean) (has is_clean_rst (puts (history_of Device f log)))
-      counted_inside = subst (λ (b : Bool). IsCounted b (count_in c f) (number_of Device f log) (is_among f port.clean)
+      counted_inside : CountMatches true (count_in c f) (number_of Device f log) (is_among f port.clean) (has is_clean_rst (puts (history_of Device f log)))
+      counted_inside = subst (λ (b : Bool). CountMatches b (count_in c f) (number_of Device f log) (is_among f port.clean)
           (has is_clean_rst (puts (history_of Device f log)))) inside (x.streams.counted f)
 
       by : (port.next ≤ f.host) ⊎ (is_among f port.clean ≡ true) → count_in c f ≡ number_of Device f log
@@ -267,9 +267,9 @@ module _ (c : HostContents) (log : Log) (port : Ports) (t : Table DeviceConnecti
   label_counted : (g : Flow) → AreCounted (count_in c) port.clean log g → AreCounted (count_in labelled_now) after.clean log g
   label_counted g old = by (same_flow g f) refl (counts g)
     where
-      own : is_assigned g.host ≡ true → count_in c g ≡ number_of Device g log → is_among g after.clean ≡ false
+      own : host_asks g ≡ true → count_in c g ≡ number_of Device g log → is_among g after.clean ≡ false
           → count_in labelled_now g ≡ count_in c g + 1 → AreCounted (count_in labelled_now) after.clean log g
-      own assigned all none more = subst (λ (b : Bool). IsCounted b (count_in labelled_now g) (number_of Device g log) (is_among g after.clean)
+      own assigned all none more = subst (λ (b : Bool). CountMatches b (count_in labelled_now g) (number_of Device g log) (is_among g after.clean)
           (has is_clean_rst (puts (history_of Device g log))))
           (sym assigned) (omega (arith, more, all), omega (arith, more, all), λ is. let both : true ≡ false = sym is ∙ none in absurd cc)
 
@@ -277,10 +277,10 @@ module _ (c : HostContents) (log : Log) (port : Ports) (t : Table DeviceConnecti
           → AreCounted (count_in labelled_now) after.clean log g
       by true same more =
           let is : f ≡ g = sym (same_flow_true g f same) in
-          own (subst (λ (h : Flow). is_assigned h.host ≡ true) is inside) (subst (λ (h : Flow). count_in c h ≡ number_of Device h log) is all_asked)
+          own (subst (λ (h : Flow). host_asks h ≡ true) is inside) (subst (λ (h : Flow). count_in c h ≡ number_of Device h log) is all_asked)
           (subst (λ (h : Flow). is_among h after.clean ≡ false) is (removed_own f port.clean once)) more
       by false other stays = subst (λ (n : ℕ). AreCounted (λ h. n) after.clean log g) (sym stays)
-          (kept_less (is_assigned g.host) (count_in c g) (number_of Device g log) (is_among g port.clean) (is_among g after.clean)
+          (kept_less (host_asks g) (count_in c g) (number_of Device g log) (is_among g port.clean) (is_among g after.clean)
           (has is_clean_rst (puts (history_of Device g log))) (removed_among f g port.clean) old)
 
   pub label_host : IsStreamed labelled_now log after (with_entry t f (new_connection (asked kind.Stream BUF_ALLOC) id true)) lines
@@ -387,15 +387,15 @@ module _ (c : HostContents) (log : Log) (port : Ports) (t : Table DeviceConnecti
   dial_counted : (f : Flow) → AreCounted (count_in c) port.clean log f → AreCounted (count_in dialed_now) port.clean new f
   dial_counted f old = by (same_flow f g) refl (dial_counts f)
     where
-      own : is_assigned f.host ≡ false → count_in dialed_now f ≡ number_of Device f new → AreCounted (count_in dialed_now) port.clean new f
-      own guest all = subst (λ (b : Bool). IsCounted b (count_in dialed_now f) (number_of Device f new) (is_among f port.clean)
+      own : host_asks f ≡ false → count_in dialed_now f ≡ number_of Device f new → AreCounted (count_in dialed_now) port.clean new f
+      own guest all = subst (λ (b : Bool). CountMatches b (count_in dialed_now f) (number_of Device f new) (is_among f port.clean)
           (has is_clean_rst (puts (history_of Device f new))))
           (sym guest) (omega (arith, all), λ marked. all)
 
       by : (b : Bool) → same_flow f g ≡ b → count_in dialed_now f ≡ cond b (count_in c f + 1) (count_in c f) → AreCounted (count_in dialed_now) port.clean new f
       by true same more =
           let is : g ≡ f = sym (same_flow_true f g same) in
-          own (subst (λ (h : Flow). is_assigned h.host ≡ false) is asked_then.guest)
+          own (subst (λ (h : Flow). host_asks h ≡ false) is asked_then.guest)
           (more ∙ subst (λ (h : Flow). count_in c h + 1 ≡ number_of Device h new) is number_now)
       by false other stays = subst (λ (n : ℕ). AreCounted (λ h. n) port.clean new f) (sym stays) (counted_got p log (count_in c) port.clean f old)
 

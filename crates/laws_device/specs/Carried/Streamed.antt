@@ -3,7 +3,7 @@ use Rattle.std.specs.Prelude.{◌≡◌, ◌≢◌, ℕ, ◌+◌, ◌<◌, ◌�
 use Rattle.std.specs.{List.{All, list_any}, Option.{option_map, option_map_or}}
 use Rattle.vs_conn.specs.{End.ConnectionEnd, declared.end.State.{State, TheVariants.{Answering, Asked, Live}}}
 use Rattle.vs_device_parts.specs.State.{DeviceConnection, DeviceEntry, DeviceState}
-use Rattle.vs_flow.specs.{Connection.Connection, Flow.is_assigned, Table.Table, declared.flow.Flow.Flow}
+use Rattle.vs_flow.specs.{Connection.Connection, Flow.host_asks, Table.Table, declared.flow.Flow.Flow}
 use Rattle.vs_outside.specs.{Host.{HostContents, Stream, stream_at, waits}, HostBytes.{after_line, labelled_with}, HostProgram.is_closed}
 use Rattle.laws_device.specs.Named.Streams.{stream_under}
 use Rattle.vs_uds.specs.{declared.{scan.TheConstants.LF, connect.TheConstants.CONNECT_MAX}, OkLine.ok_text, Reading.is_decided}
@@ -64,7 +64,7 @@ has_line bytes = list_any (λ b. b == LF) bytes
 
 -- The OK line that a stream is given first.
 abbrev pub line_for : Flow → List ℕ
-line_for f = if is_assigned f.host then ok_text f.host else []
+line_for f = if host_asks f then ok_text f.host else []
 
 -- Whether an end's stream is given all that came in.
 abbrev pub gives_in : State → Bool → Bool
@@ -92,12 +92,12 @@ ports_of port s = record { next = port; clean = s.clean }
 pub record IsLabelled (s : Seen) (c : Connection) (count : Flow → ℕ) (log : Log) (port : Ports) : Type 0 where
   pub some : 1 ≤ c.number
   pub most : c.number ≤ count c.flow
-  pub client : s.by_client ≡ is_assigned c.flow.host
+  pub client : s.by_client ≡ host_asks c.flow
   pub whole : s.by_client ≡ true → has_line s.taken ≡ true
   pub took : payload_put Device c log ≡ taken_of s
   pub gave : IsPrefixOf s.given (line_for c.flow ++ payload_got Device c log)
   -- Its flow isn't one that is still to come.
-  pub ported : is_assigned c.flow.host ≡ true → c.flow.host < port.next
+  pub ported : host_asks c.flow ≡ true → c.flow.host < port.next
 
 -- A connection and its stream, which is its flow's newest, and open until a RESPONSE came.
 pub record IsJoined (at : ℕ → Option Seen) (count : Flow → ℕ) (log : Log) (e : DeviceEntry) : Type 0 where
@@ -105,7 +105,7 @@ pub record IsJoined (at : ℕ → Option Seen) (count : Flow → ℕ) (log : Log
   pub there : at e.value.stream ≡ Some stream
   pub label : stream.label ≡ Some (connection_of e log)
   pub newest : (connection_of e log).number ≡ count e.flow
-  pub client : e.value.by_client ≡ is_assigned e.flow.host
+  pub client : e.value.by_client ≡ host_asks e.flow
   pub closed : stream.closed ≡ e.value.closed
   pub drains : Drains (gives e.value.end) stream.given (e.value.ok_line ++ e.value.pending)
       (line_for e.flow ++ payload_got Device (connection_of e log) log)
@@ -121,13 +121,13 @@ pub record AreLines (at : ℕ → Option Seen) (lines : List Handshake) : Type 0
 -- stream, and the newest stream may lack one; where the flow is kept to be used again, each stream has one. On any other flow a REQUEST that is
 -- dropped or refused gets no stream, and none follows it: so each REQUEST has one, where the device put a marked RST on the present connection,
 -- and another REQUEST may come.
-abbrev pub IsCounted : Bool → ℕ → ℕ → Bool → Bool → Type 0
-IsCounted true count number kept marked = (number ≤ count) × (count ≤ number + 1) × (kept ≡ true → count ≡ number)
-IsCounted false count number kept marked = (count ≤ number) × (marked ≡ true → count ≡ number)
+abbrev pub CountMatches : Bool → ℕ → ℕ → Bool → Bool → Type 0
+CountMatches true count number kept marked = (number ≤ count) × (count ≤ number + 1) × (kept ≡ true → count ≡ number)
+CountMatches false count number kept marked = (count ≤ number) × (marked ≡ true → count ≡ number)
 
 abbrev pub AreCounted : (Flow → ℕ) → List Flow → Log → Flow → Type 0
 AreCounted count clean log f =
-    IsCounted (is_assigned f.host) (count f) (number_of Device f log) (is_among f clean) (has is_clean_rst (puts (history_of Device f log)))
+    CountMatches (host_asks f) (count f) (number_of Device f log) (is_among f clean) (has is_clean_rst (puts (history_of Device f log)))
 
 -- A stream that has a label.
 pub record HasLabel (at : ℕ → Option Seen) (id : ℕ) : Type 0 where

@@ -1,6 +1,6 @@
 -- Calls that read nothing keep the account: those that make no use of the ring, and a send.
 use Rattle.laws_tables.{proofs.{Adding.{number_put, got_over_put}, Slots.found_by, Goes.{Goes, ended_goes, shut_goes, stays_still}}, specs.{Steps.payload_on, Drains.receives}}
-use Rattle.std.proofs.Common.{◌≡◌, ℕ, ◌==◌, not, Bool, false, List, [], ◌∷◌, take, length, Option, Some, None, refl, Contains, Result, Ok, Err, ◌∙◌}
+use Rattle.std.proofs.Common.{◌≡◌, ℕ, ◌==◌, not, Bool, false, List, [], ◌∷◌, take, length, Option, Some, None, refl, Contains, Result, Ok, Err, ◌∙◌, true}
 use Rattle.std.proofs.lemmas.List.Elements.{All-filter}
 use Rattle.vs_conn.specs.{End.{grown, with_payload_sent, wanting_credit}, declared.end.State.State}
 use Rattle.vs_flow.specs.Table.{IsTable}
@@ -85,13 +85,13 @@ module _ (a : Account) (log : Log) (s : DriverState) (x : AreReceived a log (slo
       by (Some e) is = closes e.value.end.state e sound (found_by (is_known_as id) s.table.entries e is).0
 
 -- unlisten.
-all_received : (a : Account) (log : Log) (ids : List ℕ) (s : DriverState) → IsFitState s → AreReceived a log (slots_of s)
+all_received : (a : Account) (log : Log) (ids : List ℕ) (s : DriverState) → IsFitState true s → AreReceived a log (slots_of s)
     → AreReceived a log (slots_of (all_closed ids s))
 all_received a log [] s fits x = x
 all_received a log (id ∷ ids) s fits x =
     all_received a log ids (after_close id s) (close_changes id s fits).fits (close_received a log s x id fits.sound)
 
-pub unlisten_received : (a : Account) (log : Log) (port : ℕ) (s : DriverState) → IsFitState s → AreReceived a log (slots_of s)
+pub unlisten_received : (a : Account) (log : Log) (port : ℕ) (s : DriverState) → IsFitState true s → AreReceived a log (slots_of s)
     → AreReceived a log (slots_of (after_unlisten port s))
 unlisten_received a log port s fits x = all_received a log (waiting_on port s) s fits x
 
@@ -113,7 +113,7 @@ accept_slots port s = by (next_accepted port s)
 
 -- send.
 pub send_receives : (first id : ℕ) (bytes : List ℕ) (a : Account)
-    → CarriesSend first id bytes (λ part t log. AreReceived a log (slots_of t)) (λ answer part t log. AreReceived a log (slots_of t))
+    → CarriesSend true first id bytes (λ part t log. AreReceived a log (slots_of t)) (λ answer part t log. AreReceived a log (slots_of t))
 send_receives first id bytes a = record {
   stopped = λ why s log x. x;
   unknown = λ s log none x. x;

@@ -1,5 +1,5 @@
 -- What the journal says was received and sent, once a call was made.
-use Rattle.std.proofs.Common.{ℕ, refl, ◌∙◌}
+use Rattle.std.proofs.Common.{ℕ, refl, ◌∙◌, true}
 use Rattle.vs_flow.specs.Connection.{Connection}
 use Rattle.vs_ring_port.specs.Contents.{RingContents}
 use Rattle.vs_driver_parts.specs.{Conversations.DriverTree, Playing.Plays, State.DriverState}
@@ -10,11 +10,11 @@ use Rattle.laws_driver.proofs.Carried.{Polling.Further, Sending.begins}
 
 -- A conversation that carries what the call carries.
 abbrev pub Carried : ℕ → (call : GuestCall) → DriverTree (DriverState × ReplyTo call) → DriverState → RingContents → Type 1
-Carried first call tree s c = (before : Fact) (after : ReplyTo call → Fact) → CarriesCall first call before after → Rests first before s c
-    → Keeps (λ x d. Rests first (after x.1) x.0 d) tree c
+Carried first call tree s c = (before : Fact) (after : ReplyTo call → Fact) → CarriesCall first call before after → Rests true first before s c
+    → Keeps (λ x d. Rests true first (after x.1) x.0 d) tree c
 
 module _ (first : ℕ) (call : GuestCall) (tree : DriverTree (DriverState × ReplyTo call)) (s : DriverState) (c d : RingContents)
-    (x : DriverState × ReplyTo call) (carried : Carried first call tree s c) (honest : IsHonestWith first s c) (plays : Plays tree c x d) where
+    (x : DriverState × ReplyTo call) (carried : Carried first call tree s c) (honest : IsHonestWith true first s c) (plays : Plays tree c x d) where
   pub journaled : (first_id : ℕ) (opened : ℕ → Connection) (journal : Journal) → IsReceivedWith (account_of first_id opened journal) s c
       → IsJournaledWith first_id opened (with_call call s x.1 journal) x.0 d
   journaled first_id opened journal account = λ on l is. further_journal first_id opened journal call s x.1 _ l.entries (kept on l is).1
@@ -22,13 +22,13 @@ module _ (first : ℕ) (call : GuestCall) (tree : DriverTree (DriverState × Rep
       a : Account
       a = account_of first_id opened journal
 
-      kept : Rests first (Further (account_after call x.1 a)) x.0 d
+      kept : Rests true first (Further (account_after call x.1 a)) x.0 d
       kept = keeps_end _ tree c d x (carried (Further a) (λ reply. Further (account_after call reply a)) (call_received first call a)
           (further_from first a s c honest account)) plays
 
   pub sent_just : PutsJust (sent_of call x.1 s) c d
   sent_just = λ on l is m told k.
-      let kept : Rests first (sent_with first s l.entries call x.1) x.0 d =
+      let kept : Rests true first (sent_with first s l.entries call x.1) x.0 d =
       keeps_end _ tree c d x (carried (at_first first s l.entries) (sent_with first s l.entries call) (call_sent first s l.entries call)
       (begins first (at_first first s l.entries) s c l is (refl, refl) honest)) plays in
       (kept (honest_stays tree c d x plays ∙ on) m told).1 k

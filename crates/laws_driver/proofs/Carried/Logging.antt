@@ -1,7 +1,7 @@
 -- The account where entries are added to the log, and where connections leave the table or open.
 use Rattle.std.proofs.Common.{◌≡◌, ◌≢◌, ℕ, ◌+◌, ◌<◌, ◌≤◌, ◌==◌, Bool, true, false, cond, List, [], ◌∷◌, ◌++◌, length, get_or, Contains, refl, sym, ap, subst, ◌∙◌, arith}
 use Rattle.std.{proofs.lemmas.{List.Elements.{All-contains, All-push}, Bool.Decides.nat_tests}, specs.List.All}
-use Rattle.vs_flow.specs.{Connection.Connection, Flow.{is_assigned, same_flow}, Table.{IsTable, next_entry, with_entry, without}, declared.flow.Flow.Flow}
+use Rattle.vs_flow.specs.{Connection.Connection, Flow.{host_asks, same_flow}, Table.{IsTable, next_entry, with_entry, without}, declared.flow.Flow.Flow}
 use Rattle.vs_flow.proofs.Entries.{same_flow_false}
 use Rattle.laws_history.specs.{History.{Answerer, Asker, Got, History, Side, gots, puts}, declared.packet.Packet.Packet, Packets.is_request, Again.count}
 use Rattle.vs_page.specs.{Fair.{IsPrefixOf, asked_by, current, number_of, payload_got}, Log.{Driver, Log, flow_got, side_of, whole_of}, declared.log.LogEntry.TheVariants.GotPacket}
@@ -43,6 +43,7 @@ module _ (a : Account) (log new : Log) (grows : (c : Connection) → IsPrefixOf 
     left = λ i d within. later_gone (get_or slots.gone i d) (x.left i d within);
     passed = λ id. let m = more (a.opened id).flow in let p = x.passed id in omega (arith, m, p);
     once = x.once;
+    rising = x.rising;
     fresh = x.fresh;
   }
 
@@ -113,7 +114,7 @@ module _ (a : Account) (log new : Log) (slots : HeldSlots) (f : Flow) (c : Drive
     (got : (k : Connection) → payload_got Driver k new ≡ payload_got Driver k log) (nothing : payload_got Driver (current Driver f new) new ≡ [])
     (next : number_of Driver f new ≡ number_of Driver f log + 1)
     (others : (g : Flow) → g ≢ f → number_of Driver g new ≡ number_of Driver g log) (id : c.id ≡ slots.next_id) (empty : c.unread ≡ [])
-    (absent : All (λ e. e.flow ≢ f) slots.table.entries) (more : slots.next_port ≤ port) (below : is_assigned f.host ≡ false → f.guest < port) where
+    (absent : All (λ e. e.flow ≢ f) slots.table.entries) (more : slots.next_port ≤ port) (below : host_asks f ≡ false → f.guest < port) where
   abbrev b : Account
   b = with_opened slots.next_id (current Driver f new) a
 
@@ -175,6 +176,7 @@ module _ (a : Account) (log new : Log) (slots : HeldSlots) (f : Flow) (c : Drive
         (λ is. let less = x.numbers.below i d within in absurd (omega (arith, is, less))) (x.left i d within);
     passed = λ other. passed_by other (other == slots.next_id) refl;
     once = λ i j some same. once_by i j (i == slots.next_id) (j == slots.next_id) refl refl some same;
+    rising = λ i j less some same. rising_by i j (i == slots.next_id) (j == slots.next_id) refl refl less some same;
     fresh = λ other less.
         let fr = x.fresh other (omega (arith, less)) in
         (ap (λ (k : Connection). k.number) (old_is other (λ is. absurd (omega (arith, is, less)))) ∙ fr.0, fr.1);
@@ -225,6 +227,29 @@ module _ (a : Account) (log new : Log) (slots : HeldSlots) (f : Flow) (c : Drive
       once_by i j false true pi qj some same = absurd (is_new i (sym (of_old i pi) ∙ same ∙ of_new j qj))
       once_by i j false false pi qj some same =
           x.once i j (subst (λ (k : Connection). 1 ≤ k.number) (of_old i pi) some) (sym (of_old i pi) ∙ same ∙ of_old j qj)
+
+      zero : (id : ℕ) → slots.next_id ≤ id → 1 ≤ (a.opened id).number → ⊥
+      zero id less some = let none = (x.fresh id less).0 in absurd (omega (arith, none, some))
+
+      rising_by : (i j : ℕ) (p q : Bool) → (i == slots.next_id) ≡ p → (j == slots.next_id) ≡ q → i < j → 1 ≤ (b.opened j).number
+          → (b.opened i).flow ≡ (b.opened j).flow → (b.opened i).number < (b.opened j).number
+      rising_by i j true true pi qj less some same = absurd (grind (arith, nat_tests, pi, qj, less))
+      rising_by i j true false pi qj less some same =
+          let at : i ≡ slots.next_id = grind (arith, nat_tests, pi) in
+          absurd (zero j (omega (arith, at, less)) (subst (λ (k : Connection). 1 ≤ k.number) (of_old j qj) some))
+      rising_by i j false true pi qj less some same =
+          let past = x.passed i in
+          let flow : (a.opened i).flow ≡ f = ap (λ (k : Connection). k.flow) (sym (of_old i pi)) ∙ same ∙ ap (λ (k : Connection). k.flow) (of_new j qj) in
+          let here : (a.opened i).number ≤ number_of Driver f log = subst (λ (g : Flow). (a.opened i).number ≤ number_of Driver g log) flow past in
+          let old = ap (λ (k : Connection). k.number) (of_old i pi) in
+          let fresh = ap (λ (k : Connection). k.number) (of_new j qj) in
+          omega (arith, here, next, old, fresh)
+      rising_by i j false false pi qj less some same =
+          let was = x.rising i j less (subst (λ (k : Connection). 1 ≤ k.number) (of_old j qj) some)
+          (ap (λ (k : Connection). k.flow) (sym (of_old i pi)) ∙ same ∙ ap (λ (k : Connection). k.flow) (of_old j qj)) in
+          let one = ap (λ (k : Connection). k.number) (of_old i pi) in
+          let two = ap (λ (k : Connection). k.number) (of_old j qj) in
+          omega (arith, was, one, two)
 
   pub opened_goes_on : GoesOn a b
   opened_goes_on = record {

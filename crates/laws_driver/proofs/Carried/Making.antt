@@ -3,6 +3,7 @@ use Rattle.std.proofs.Common.{◌≡◌, ℕ, ◌≤◌, ◌<◌, ◌^◌, ◌==
 use Rattle.std.proofs.{Math.Path.fun_ext, lemmas.Bool.Decides.nat_tests}
 use Rattle.vs_contents.specs.CallTree.{Ask, Done}
 use Rattle.vs_flow.specs.Connection.{Connection}
+use Rattle.vs_limits.specs.declared.TheConstants.{HOST_CID}
 use Rattle.vs_header.specs.declared.Kind.TheVariants.{Stream}
 use Rattle.vs_page.{specs.{Fair.payload_put, Log.{Driver, Log}}, proofs.PayloadLogs.put_none}
 use Rattle.vs_ring_port.specs.Contents.{RingContents}
@@ -24,57 +25,57 @@ AtOnce P (Done x) = P x
 AtOnce P (Ask call next) = ⊥
 
 abbrev pub CarriesCall : ℕ → (call : GuestCall) → Fact → (ReplyTo call → Fact) → Type 0
-CarriesCall first (Connect port) before after = CarriesConnect first port before after
-CarriesCall first (Send id bytes) before after = CarriesSend first id bytes before after
-CarriesCall first call before after = (s : DriverState) (log : Log) → IsFitState s → Matches Driver first (ends_of_state s) log → Holds before s log
+CarriesCall first (Connect port) before after = CarriesConnect true first HOST_CID port before after
+CarriesCall first (Send id bytes) before after = CarriesSend true first id bytes before after
+CarriesCall first call before after = (s : DriverState) (log : Log) → IsFitState true s → Matches Driver first (ends_of_state s) log → Holds before s log
     → AtOnce (λ x. Holds (after x.1) x.0 log) (makes_call call s)
 
 pub port_fits : (port : ℕ) → is_right (Connect port) ≡ true → port < 2 ^ 32
 port_fits port right = grind (arith, nat_tests, right)
 
-listened : (port : ℕ) (s : DriverState) → IsFitState s → (r : Result (Unit {0}) ListenError)
-    → Changes s (elim r as (λ _. DriverState) [ Ok x ↦ listening port s | Err why ↦ s ])
+listened : (port : ℕ) (s : DriverState) → IsFitState true s → (r : Result (Unit {0}) ListenError)
+    → Changes true s (elim r as (λ _. DriverState) [ Ok x ↦ listening port s | Err why ↦ s ])
 listened port s fits (Ok x) = listen_changes port s fits
 listened port s fits (Err why) = same s fits
 
-unlistened : (port : ℕ) (s : DriverState) → IsFitState s → (b : Bool)
-    → Changes s (elim b as (λ _. DriverState) [ true ↦ after_unlisten port s | false ↦ s ])
+unlistened : (port : ℕ) (s : DriverState) → IsFitState true s → (b : Bool)
+    → Changes true s (elim b as (λ _. DriverState) [ true ↦ after_unlisten port s | false ↦ s ])
 unlistened port s fits true = unlisten_changes port s fits
 unlistened port s fits false = same s fits
 
 module _ (first : ℕ) (s : DriverState) (c : RingContents) where
   pub made_with : (call : GuestCall) (before : Fact) (after : ReplyTo call → Fact) → is_right call ≡ true → CarriesCall first call before after
-      → Rests first before s c → Keeps (λ x d. Rests first (after x.1) x.0 d) (makes_call call s) c
-  made_with (Connect port) before after right steps rests = connects_with first port before after steps s c (port_fits port right) rests
-  made_with (Send id bytes) before after right steps rests = sends_with first id bytes before after steps s c rests
+      → Rests true first before s c → Keeps (λ x d. Rests true first (after x.1) x.0 d) (makes_call call s) c
+  made_with (Connect port) before after right steps rests = connects_with true first HOST_CID port before after steps (omega arith) (port_fits port right) (λ all. refl) s c rests
+  made_with (Send id bytes) before after right steps rests = sends_with true first id bytes before after steps s c rests
   made_with (Listen port) before after right steps rests =
-      changed_rests first before (after (listen_of port s)) s _ c (λ fits. listened port s fits (listen_of port s)) (steps s) rests
+      changed_rests true first before (after (listen_of port s)) s _ c (λ fits. listened port s fits (listen_of port s)) (steps s) rests
   made_with (Unlisten port) before after right steps rests =
       let found : Bool = is_some (listener_on port s.listeners) in
-      changed_rests first before (after found) s _ c (λ fits. unlistened port s fits found) (steps s) rests
+      changed_rests true first before (after found) s _ c (λ fits. unlistened port s fits found) (steps s) rests
   made_with (Accept port) before after right steps rests =
-      changed_rests first before (after (accept_of port s)) s _ c (accept_changes port s) (steps s) rests
+      changed_rests true first before (after (accept_of port s)) s _ c (accept_changes port s) (steps s) rests
   made_with (Recv id n) before after right steps rests =
-      changed_rests first before (after (recv_of id n s, bytes_got (recv_of id n s) (unread_of_id id s))) s _ c (recv_changes id n s) (steps s) rests
+      changed_rests true first before (after (recv_of id n s, bytes_got (recv_of id n s) (unread_of_id id s))) s _ c (recv_changes id n s) (steps s) rests
   made_with (Shutdown id bits) before after right steps rests =
-      changed_rests first before (after (shutdown_of id s)) s _ c (shutdown_changes id bits s) (steps s) rests
+      changed_rests true first before (after (shutdown_of id s)) s _ c (shutdown_changes id bits s) (steps s) rests
   made_with (Grow id alloc) before after right steps rests =
-      changed_rests first before (after (grow_of id alloc s)) s _ c (grow_changes id alloc s) (steps s) rests
+      changed_rests true first before (after (grow_of id alloc s)) s _ c (grow_changes id alloc s) (steps s) rests
   made_with (Close id) before after right steps rests =
-      changed_rests first before (after (close_of id s)) s _ c (close_changes id s) (steps s) rests
-  made_with (LookAt id) before after right steps rests = changed_rests first before (after (state_of id s)) s s c (same s) (steps s) rests
+      changed_rests true first before (after (close_of id s)) s _ c (close_changes id s) (steps s) rests
+  made_with (LookAt id) before after right steps rests = changed_rests true first before (after (state_of id s)) s s c (same s) (steps s) rests
 
   -- The same of the whole call.
   pub whole_with : (call : GuestCall) (before : Fact) (after : ReplyTo call → Fact) → is_right call ≡ true → CarriesCall first call before after
-      → Rests first before s c → Keeps (λ x d. Rests first (after x.1) x.0 d) (whole_call call s) c
-  whole_with (Connect port) before after right steps rests = connect_keeps first port before after steps s c (port_fits port right) rests
-  whole_with (Send id bytes) before after right steps rests = send_keeps first id bytes before after steps s c rests
+      → Rests true first before s c → Keeps (λ x d. Rests true first (after x.1) x.0 d) (whole_call call s) c
+  whole_with (Connect port) before after right steps rests = connect_keeps true first HOST_CID port before after steps (omega arith) (port_fits port right) (λ all. refl) s c rests
+  whole_with (Send id bytes) before after right steps rests = send_keeps true first id bytes before after steps s c rests
   whole_with call before after right steps rests = made_with call before after right steps rests
 
 -- Steps of the driver's seat.
 pub call_goes : (first : ℕ) (w : Seat) (call : GuestCall) → is_right call ≡ true → CarriesCall first call (goes_from w) (λ reply. goes_from w)
-call_goes first w (Connect port) right = connect_goes first w port (port_fits port right)
-call_goes first w (Send id bytes) right = send_goes first w id bytes
+call_goes first w (Connect port) right = connect_goes true first w HOST_CID port (omega arith) (port_fits port right) (λ all. refl)
+call_goes first w (Send id bytes) right = send_goes true first w id bytes
 call_goes first w (Listen port) right = λ s log fits m goes. goes_then _ _ _ goes ((listened port s fits (listen_of port s)).goes first log m)
 call_goes first w (Unlisten port) right =
     λ s log fits m goes. goes_then _ _ _ goes ((unlistened port s fits (is_some (listener_on port s.listeners))).goes first log m)
@@ -90,7 +91,7 @@ abbrev pub account_after : (call : GuestCall) → ReplyTo call → Account → A
 account_after (Recv id n) reply a = with_received id reply.1 a
 account_after _ reply a = a
 
-send_further : (first id : ℕ) (bytes : List ℕ) (a : Account) → CarriesSend first id bytes (Further a) (λ answer. Further a)
+send_further : (first id : ℕ) (bytes : List ℕ) (a : Account) → CarriesSend true first id bytes (Further a) (λ answer. Further a)
 send_further first id bytes a = record {
   stopped = λ why s log x. x;
   unknown = λ s log none x. x;
@@ -120,7 +121,7 @@ call_received first (Listen port) a = λ s log fits m x.
     subst (λ (slots : HeldSlots). IsFurther a slots log) (sym (listen_slots port s (listen_of port s))) x
 call_received first (Unlisten port) a = λ s log fits m x. by s log fits x (is_some (listener_on port s.listeners))
   where
-    by : (s : DriverState) (log : Log) → IsFitState s → IsFurther a (slots_of s) log → (b : Bool)
+    by : (s : DriverState) (log : Log) → IsFitState true s → IsFurther a (slots_of s) log → (b : Bool)
         → IsFurther a (slots_of (elim b as (λ _. DriverState) [ true ↦ after_unlisten port s | false ↦ s ])) log
     by s log fits x true = (x.0, x.1, unlisten_received x.0 log port s fits x.2)
     by s log fits x false = x
@@ -142,7 +143,7 @@ module _ (first : ℕ) (s : DriverState) (log : Log) where
   call_sent (Connect port) = record {
     refused = λ why t now held. still now held.1;
     opens = λ t now fits free m was fair held c.
-        put_none Driver now (request_on Driver t.cid (next_flow port t) Stream) c refl ∙ still now held.1 c;
+        put_none Driver now (request_on Driver t.cid (next_flow HOST_CID port t) Stream) c refl ∙ still now held.1 c;
   }
   call_sent (Send id bytes) = sending.send_puts first id bytes s log
   call_sent call = λ t now fits m held. still now held.1

@@ -5,7 +5,7 @@ use Rattle.laws_tables.specs.{Matches.Matches, Steps.{HasEnd, owed_on, reply_on,
 use Rattle.std.proofs.Common.{◌≡◌, ◌≢◌, ℕ, ◌+◌, ◌<◌, ◌≤◌, ◌==◌, ◌&&◌, not, Bool, true, false, cond, List, [], ◌∷◌, ◌++◌, Contains, Option, Some, None, refl, sym, ap, subst, ◌∙◌}
 use Rattle.std.{proofs.{Common.arith, lemmas.{Bool.Decides.nat_tests, Grind.common_steps}}, specs.List.{All, filter, slice_get}}
 use Rattle.vs_conn.specs.{End.{ConnectionEnd, answering, end_after, is_refused, is_reset, owes_of, paid_of, verdict_of}, declared.end.{Owed.Owed, Verdict.Verdict}}
-use Rattle.vs_flow.specs.{Connection.Connection, Flow.{is_assigned, same_flow}, Table.{IsRising, IsTable, entry_of, without, Table}, declared.flow.Flow.Flow}
+use Rattle.vs_flow.specs.{Connection.Connection, CleanPairs.of_host, Flow.{host_asks, same_flow}, Table.{IsRising, IsTable, entry_of, without, Table}, declared.flow.Flow.Flow}
 use Rattle.vs_flow.proofs.Entries.{none_found, same_flow_false}
 use Rattle.vs_limits.specs.declared.TheConstants.{BUF_ALLOC, HOST_CID}
 use Rattle.laws_history.specs.{declared.packet.Packet.Packet, Packets.is_rw, Again.count, History.{Answerer, Asker, Got, Side, gots, puts}}
@@ -49,7 +49,7 @@ leaving_received a log s e c sound there same unread x =
 new_by : (e : ConnectionEnd) → owes_of e ≡ Some owed.Request → is_new e ≡ true
 new_by e owes = grind (arith, common_steps, owes)
 
-pays_received : (what : Owed) (a : Account) (e : DriverEntry) (s : DriverState) (log : Log) → IsFitState s → Stands s e → owes_of e.value.end ≡ Some what
+pays_received : (what : Owed) (a : Account) (e : DriverEntry) (s : DriverState) (log : Log) → IsFitState true s → Stands s e → owes_of e.value.end ≡ Some what
     → is_new e.value.end ≡ false → AreReceived a log (slots_of s)
     → AreReceived a (PutPacket (owed_on Driver s.cid e.flow e.value.end what) ∷ log) (slots_of (after_paying what e s))
 pays_received owed.Request a e s log fits stands owes old x =
@@ -62,7 +62,7 @@ pays_received what a e s log fits stands owes old x =
     (stays_still (receives e.value.end) (receives (paid_of e.value.end what)) e.value.unread [] (pays_less e.value.end what owes) (λ on. refl))
 
 -- A transport reset: all leave.
-all_leave : (a : Account) (log : Log) (es : List DriverEntry) (s : DriverState) → s.table.entries ≡ es → IsFitState s → AreReceived a log (slots_of s)
+all_leave : (a : Account) (log : Log) (es : List DriverEntry) (s : DriverState) → s.table.entries ≡ es → IsFitState true s → AreReceived a log (slots_of s)
     → AreReceived a log (slots_of (all_left es s))
 all_leave a log [] s is fits x = x
 all_leave a log (e ∷ es) s is fits x =
@@ -77,7 +77,7 @@ all_leave a log (e ∷ es) s is fits x =
     (leaving_received a log s e e.value fits.sound stands.contains refl refl x)
 
 -- A packet is got, of a connection of the table.
-module _ (first : ℕ) (a : Account) (p : Packet) (e : DriverEntry) (s : DriverState) (log : Log) (fits : IsFitState s) (stands : Stands s e)
+module _ (first : ℕ) (a : Account) (p : Packet) (e : DriverEntry) (s : DriverState) (log : Log) (fits : IsFitState true s) (stands : Stands s e)
     (same : flow_got Driver p ≡ e.flow) (whole : IsWhole p) (m : Matches Driver first (ends_of_state s) log) (was : IsFairLog Driver log)
     (fair : IsFairLog Driver (GotPacket p ∷ log)) (x : AreReceived a log (slots_of s)) where
   has : HasEnd (flow_got Driver p) e.value.end (ends_of_state s)
@@ -88,7 +88,7 @@ module _ (first : ℕ) (a : Account) (p : Packet) (e : DriverEntry) (s : DriverS
 
   kept : is_refused (verdict_of e.value.end p.header) ≡ false
   kept =
-      let host : (flow_got Driver p).peer ≡ HOST_CID = ap (λ (g : Flow). g.peer) same ∙ (entry_fits s e fits stands).peer in
+      let host : (flow_got Driver p).peer ≡ HOST_CID = ap (λ (g : Flow). g.peer) same ∙ (entry_fits s e fits stands).peer refl in
       got_not_refused Driver first p e.value.end (ends_of_state s) log m.flows has (fair (flow_got Driver p)) (heard_all first (flow_got Driver p) log host)
 
   hears : (c : DriverConnection) → c.id ≡ e.value.id → Goes (receives e.value.end) (receives c.end) e.value.unread c.unread [] p.payload
@@ -176,7 +176,7 @@ module _ (a : Account) (p : Packet) (s : DriverState) (log : Log) (whole : IsWho
       λ g apart. ap (λ (b : Bool). let v = cond b (Got p ∷ whole_of Driver g log) (whole_of Driver g log) in asked_by (side_of Driver g) (puts v) (gots v))
       (same_flow_false g f apart) in
       let c : DriverConnection = record { id = s.next_id; end = answering Stream BUF_ALLOC p.header; unread = []; unanswered = true; closed = false } in
-      let below : is_assigned f.host ≡ false → f.guest < s.next_port =
+      let below : host_asks f ≡ false → f.guest < s.next_port =
       λ own. let both : true ≡ false = sym (assigned_by may) ∙ own in absurd cc in (
         with_opened s.next_id (current Driver f (GotPacket p ∷ log)) x.0,
         goes_then a x.0 (with_opened s.next_id (current Driver f (GotPacket p ∷ log)) x.0) x.1
@@ -190,7 +190,7 @@ module _ (a : Account) (p : Packet) (s : DriverState) (log : Log) (whole : IsWho
       no_payload : packets.is_request p ≡ true → is_rw p ≡ false
       no_payload is = grind (arith, nat_tests, common_steps, is)
 
-      assigned_by : may_open (flow_got Driver p) s ≡ true → is_assigned (flow_got Driver p).host ≡ true
+      assigned_by : may_open (flow_got Driver p) s ≡ true → host_asks (flow_got Driver p) ≡ true
       assigned_by is = grind (arith, nat_tests, common_steps, is)
 
   pub unknown_received : IsFurther a (slots_of (on_unknown p s)) (GotPacket p ∷ log)
@@ -211,7 +211,7 @@ not_there t f none i d within on =
     cc
 
 -- A packet.
-heard_received : (first : ℕ) (a : Account) (p : Packet) (s : DriverState) (log : Log) → IsFitState s → IsWhole p → Matches Driver first (ends_of_state s) log
+heard_received : (first : ℕ) (a : Account) (p : Packet) (s : DriverState) (log : Log) → IsFitState true s → IsWhole p → Matches Driver first (ends_of_state s) log
     → IsFairLog Driver log → IsFairLog Driver (GotPacket p ∷ log) → IsFurther a (slots_of s) log → IsFurther a (slots_of (on_packet p s)) (GotPacket p ∷ log)
 heard_received first a p s log fits whole m was fair x = drop_by (is_dropped Driver s.cid p.header) refl
   where
@@ -236,10 +236,10 @@ heard_received first a p s log fits whole m was fair x = drop_by (is_dropped Dri
         apart : All (λ e. e.flow ≢ flow_got Driver p) s.table.entries
         apart i d within on =
             let entry = fits.entries i d within in
-            let both : true ≡ false = sym dropped ∙ of_host (sym (ap (λ (f : Flow). f.peer) on) ∙ entry.peer) in
+            let both : true ≡ false = sym dropped ∙ of_host (sym (ap (λ (f : Flow). f.peer) on) ∙ entry.peer refl) in
             cc
 
-pub poll_carries : (first : ℕ) (a : Account) → Carries first (Further a)
+pub poll_carries : (first : ℕ) (a : Account) → Carries true first (Further a)
 poll_carries first a = record {
   owed = λ what e s log fits stands owes m was fair x.
       let old = driver_begun first (ends_of_state s) log e.flow e.value.end m.flows (has_end s e fits stands) in
@@ -247,10 +247,10 @@ poll_carries first a = record {
   reply = λ r rest s log fits is m fair x. (x.0, x.1, puts_received x.0 (reply_on Driver s.cid r) log (slots_of s) refl x.2);
   got = λ p s log fits ports whole m was fair x. heard_received first a p s log fits whole m was fair x;
   event = λ id s log x. (x.0, x.1, same_received x.0 log (GotEvent id ∷ log) (slots_of s) (λ c. refl) (λ f. refl) x.2);
-  reset = λ cid s log less fits x. (
+  reset = λ cid s log less fits x. let marked = same_received x.0 log (Mark cid ∷ log) (slots_of s) (λ c. refl) (λ f. refl) x.2 in (
     x.0,
     x.1,
-    all_leave x.0 (Mark cid ∷ log) s.table.entries (record s { cid = cid }) refl (with_cid cid s less fits)
-        (same_received x.0 log (Mark cid ∷ log) (slots_of s) (λ c. refl) (λ f. refl) x.2),
+    all_leave x.0 (Mark cid ∷ log) s.table.entries (record s { cid = cid; clean = of_host s.clean }) refl (with_cid cid s less fits)
+        (in_clean x.0 (Mark cid ∷ log) (slots_of s) (of_host s.clean) marked),
   );
 }

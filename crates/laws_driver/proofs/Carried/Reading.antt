@@ -208,6 +208,7 @@ module _ (a : Account) (log : Log) (id n : ℕ) (slots : HeldSlots) (x : AreRece
           (at i d (within_old i less) (i == k) refl);
       passed = x.passed;
       once = x.once;
+      rising = x.rising;
       fresh = λ other less.
           let f = x.fresh other less in
           let below : g.id < slots.next_id = subst (λ (h : GoneConnection). h.id < slots.next_id) is (x.numbers.below k g here) in

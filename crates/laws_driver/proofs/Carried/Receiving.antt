@@ -19,6 +19,7 @@ in_slots a log slots new x next numbers held left = record {
   left = left;
   passed = x.passed;
   once = x.once;
+  rising = x.rising;
   fresh = λ id less. x.fresh id (omega (arith, less, next));
 }
 
@@ -132,6 +133,7 @@ module _ (a : Account) (q : ℕ → List ℕ) (log new : Log) (e : DriverEntry) 
           left = λ i d within. gone_other (get_or slots.gone i d) (gone_id i d within) (x.left i d within);
           passed = λ id. subst (λ (n : ℕ). (a.opened id).number ≤ n) (sym (numbers (a.opened id).flow)) (x.passed id);
           once = x.once;
+          rising = x.rising;
           fresh = λ id less.
               let f = x.fresh id less in
               (f.0, sym (out_other id (λ is. absurd (omega (arith, is, less, given)))) ∙ f.1);

@@ -19,7 +19,7 @@ told_before tree c d x plays m is = by c.log refl (goes_on tree c d x plays).2
     by (Some l) log more = (l, log)
 
 module _ (first : ℕ) (call : GuestCall) (tree : DriverTree (DriverState × ReplyTo call)) (s : DriverState) (c d : RingContents)
-    (x : DriverState × ReplyTo call) (carried : Carried first call tree s c) (honest : IsHonestWith first s c) (plays : Plays tree c x d)
+    (x : DriverState × ReplyTo call) (carried : Carried first call tree s c) (honest : IsHonestWith true first s c) (plays : Plays tree c x d)
     (says : (a : Account) (log : Log) → AreReceived a log (slots_of s) → (now : ℕ → Connection)
     → ((id : ℕ) → 1 ≤ (a.opened id).number → now id ≡ a.opened id) → Says s log now call x.1) where
   pub righted : (first_id : ℕ) (opened : ℕ → Connection) (journal : Journal) → IsRightWith first_id opened journal s c
@@ -42,7 +42,7 @@ module _ (first : ℕ) (call : GuestCall) (tree : DriverTree (DriverState × Rep
 
 -- A call, whole and on the pages as they stand.
 module _ (first : ℕ) (call : GuestCall) (s : DriverState) (c d : RingContents) (x : DriverState × ReplyTo call) (fits : is_right call ≡ true)
-    (honest : IsHonestWith first s c) where
+    (honest : IsHonestWith true first s c) where
   pub call_righted : Plays (whole_call call s) c x d → (first_id : ℕ) (opened : ℕ → Connection) (journal : Journal)
       → IsRightWith first_id opened journal s c → GoesRightWith first_id opened (with_call call s x.1 journal) x.0 d
   call_righted plays = righted first call (whole_call call s) s c d x (λ before after. whole_with first s c call before after fits) honest plays
@@ -54,7 +54,7 @@ module _ (first : ℕ) (call : GuestCall) (s : DriverState) (c d : RingContents)
       (λ a log account now stay. step_says s c d a log account now stay call x plays)
 
 pub poll_righted : (first first_id : ℕ) (opened : ℕ → Connection) (journal : Journal) (s : DriverState) (c d : RingContents) (x : DriverState × Polled)
-    → IsHonestWith first s c → IsRightWith first_id opened journal s c → Plays (poll_of s) c x d → GoesRightWith first_id opened journal x.0 d
+    → IsHonestWith true first s c → IsRightWith first_id opened journal s c → Plays (poll_of s) c x d → GoesRightWith first_id opened journal x.0 d
 poll_righted first first_id opened journal s c d x honest right plays = λ on m is.
     let before = told_before (poll_of s) c d x plays m is in
     let l : EndLog = before.0 in

@@ -2,11 +2,12 @@
 use Rattle.std.specs.{Prelude.{◌≡◌, ℕ, ◌≤◌, ◌^◌, ◌==◌, nat_lt, Bool, true, false, if◌then◌else◌, List, [], ◌∷◌, ◌++◌, Option, Some, None, Result, Ok, Err, is_some}, Option.ForSome}
 use Rattle.std.specs.Option.{option_map_or}
 use Rattle.vs_contents.specs.CallTree.{Done}
-use Rattle.vs_flow.specs.{Connection.Connection, Flow.same_flow, declared.flow.Flow.Flow}
+use Rattle.vs_flow.specs.{Connection.Connection, declared.flow.Flow.Flow}
 use Rattle.vs_driver_parts.specs.declared.answers.{Accepted.Accepted, Closed.Closed, ConnectError.ConnectError, ConnectionState.ConnectionState, ListenError.ListenError}
 use Rattle.vs_driver_parts.specs.{declared.answers.{Received.Received, Sent.Sent, Shut.Shut, Grown.Grown}, State.DriverState, Connections.{recv_of, unread_of_id, after_recv}}
 use Rattle.vs_driver_parts.specs.Connections.{after_grow, grow_of, shutdown_of, after_shutdown, close_of, after_close, after_unlisten, state_of, flow_of, next_flow}
 use Rattle.vs_driver_parts.specs.{Conversations.{DriverTree, connect_of, send_of}, Listening.{listener_on, listen_of, listening, accept_of, after_accept}, Steps.{connects, sends}}
+use Rattle.vs_limits.specs.declared.TheConstants.{HOST_CID}
 use Rattle.vs_page.specs.Log.{Log}
 use Rattle.vs_ring_port.specs.Contents.{RingContents}
 use Rattle.laws_driver.specs.{Honest.slots_of, Carried.{Received.{Account, AreReceived, bytes_got}, Sent.{sent_by, took}}}
@@ -75,7 +76,7 @@ id_named (LookAt id) s = Some id
 id_named _ s = None
 
 abbrev pub flow_named : GuestCall → DriverState → Option Flow
-flow_named (Connect port) s = Some (next_flow port s)
+flow_named (Connect port) s = Some (next_flow HOST_CID port s)
 flow_named (Send id bytes) s = flow_of id s
 flow_named (Recv id n) s = flow_of id s
 flow_named (Shutdown id bits) s = flow_of id s

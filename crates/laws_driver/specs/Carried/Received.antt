@@ -1,5 +1,5 @@
 -- What an application received on the driver's connections, against the payload that was delivered to them.
-use Rattle.std.specs.{List.All, Option.ForSome, Prelude.{◌≡◌, ℕ, ◌≤◌, ◌==◌, ◌++◌, true, if◌then◌else◌, List, [], take}}
+use Rattle.std.specs.{List.All, Option.ForSome, Prelude.{◌≡◌, ℕ, ◌≤◌, ◌<◌, ◌==◌, ◌++◌, true, if◌then◌else◌, List, [], take}}
 use Rattle.vs_flow.specs.{Connection.Connection, Flow.host_flow}
 use Rattle.vs_page.specs.{Fair.IsPrefixOf, Fair.current, Fair.number_of, Fair.payload_got, Log.Driver, Log.Log}
 use Rattle.vs_ring_port.specs.Contents.{RingContents}
@@ -61,6 +61,9 @@ pub record AreReceived (a : Account) (log : Log) (slots : HeldSlots) : Type 0 wh
   pub left : All (ReceivedOn a log) slots.gone
   pub passed : (id : ℕ) → (a.opened id).number ≤ number_of Driver (a.opened id).flow log
   pub once : (i j : ℕ) → 1 ≤ (a.opened i).number → a.opened i ≡ a.opened j → i ≡ j
+  -- Of two ids of one flow the one that was given later has the later connection.
+  pub rising : (i j : ℕ) → i < j → 1 ≤ (a.opened j).number → (a.opened i).flow ≡ (a.opened j).flow
+      → (a.opened i).number < (a.opened j).number
   pub fresh : (id : ℕ) → slots.next_id ≤ id → ((a.opened id).number ≡ 0) × (a.received id ≡ [])
 
 -- The same where an honest ring tells the log.

@@ -3,22 +3,22 @@ use Rattle.laws_driver.proofs.{Calls.still_honest, Changing.{accept_changes, clo
 use Rattle.laws_driver.proofs.laws.law_of_other_calls.Goals as goal
 
 pub returns-clause-recv : goal.returns-clause-recv
-returns-clause-recv c = λ first id n s r honest. still_honest first s (after_recv id n s) r (recv_changes id n s) honest
+returns-clause-recv c = λ hosts first id n s r honest. still_honest hosts first s (after_recv id n s) r (recv_changes id n s) honest
 
 pub returns-clause-shutdown : goal.returns-clause-shutdown
-returns-clause-shutdown c = λ first id bits s r honest. still_honest first s (after_shutdown id bits s) r (shutdown_changes id bits s) honest
+returns-clause-shutdown c = λ hosts first id bits s r honest. still_honest hosts first s (after_shutdown id bits s) r (shutdown_changes id bits s) honest
 
 pub returns-clause-grow : goal.returns-clause-grow
-returns-clause-grow c = λ first id alloc s r honest. still_honest first s (after_grow id alloc s) r (grow_changes id alloc s) honest
+returns-clause-grow c = λ hosts first id alloc s r honest. still_honest hosts first s (after_grow id alloc s) r (grow_changes id alloc s) honest
 
 pub returns-clause-close : goal.returns-clause-close
-returns-clause-close c = λ first id s r honest. still_honest first s (after_close id s) r (close_changes id s) honest
+returns-clause-close c = λ hosts first id s r honest. still_honest hosts first s (after_close id s) r (close_changes id s) honest
 
 pub returns-clause-listen : goal.returns-clause-listen
-returns-clause-listen c = λ first port s r honest. still_honest first s (listening port s) r (listen_changes port s) honest
+returns-clause-listen c = λ hosts first port s r honest. still_honest hosts first s (listening port s) r (listen_changes port s) honest
 
 pub returns-clause-unlisten : goal.returns-clause-unlisten
-returns-clause-unlisten c = λ first port s r honest. still_honest first s (after_unlisten port s) r (unlisten_changes port s) honest
+returns-clause-unlisten c = λ hosts first port s r honest. still_honest hosts first s (after_unlisten port s) r (unlisten_changes port s) honest
 
 pub returns-clause-accept : goal.returns-clause-accept
-returns-clause-accept c = λ first port s r honest. still_honest first s (after_accept port s) r (accept_changes port s) honest
+returns-clause-accept c = λ hosts first port s r honest. still_honest hosts first s (after_accept port s) r (accept_changes port s) honest

@@ -8,10 +8,11 @@ pub returns-clause-new : goal.returns-clause-new
 returns-clause-new c = new_honest
 
 pub returns-clause-connect_may : goal.returns-clause-connect_may
-returns-clause-connect_may c = connect_may
+returns-clause-connect_may c = λ hosts first peer to s r peer_fits to_fits honest. connect_may hosts first peer to s r peer_fits to_fits honest
 
 pub returns-clause-connect : goal.returns-clause-connect
-returns-clause-connect c = connect_honest
+returns-clause-connect c = λ hosts first peer to s r d x peer_fits to_fits honest plays.
+    connect_honest hosts first peer to s r peer_fits to_fits honest d x plays
 
 pub returns-clause-send_may : goal.returns-clause-send_may
 returns-clause-send_may c = send_may

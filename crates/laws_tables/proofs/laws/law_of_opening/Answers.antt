@@ -1,4 +1,4 @@
-use Rattle.laws_tables.proofs.Keeps.{accepts, asks, opens, start_matches}
+use Rattle.laws_tables.proofs.Keeps.{accepts, asks, next_clean, opens, start_matches}
 use Rattle.laws_tables.proofs.laws.law_of_opening.Goals as goal
 
 pub returns-clause-starts : goal.returns-clause-starts
@@ -15,3 +15,6 @@ returns-clause-accepts c = accepts
 
 pub returns-clause-clean : goal.returns-clause-clean
 returns-clause-clean c = λ role first f part log m fair among. (m.fairly fair).kept f among
+
+pub returns-clause-next : goal.returns-clause-next
+returns-clause-next c = next_clean

@@ -70,47 +70,47 @@ pub returns-in-Listen-clause-ring : goal.returns-in-Listen-clause-ring
 returns-in-Listen-clause-ring g c = c.listen.ensures.ring _ _ _ c.requires.ring
 
 pub returns-in-Listen-clause-honest : goal.returns-in-Listen-clause-honest
-returns-in-Listen-clause-honest g c = λ first old. c.listen.ensures.honest first (g.R.DriverRing.contents c.args.ring.now) old
+returns-in-Listen-clause-honest g c = λ hosts first old. c.listen.ensures.honest hosts first (g.R.DriverRing.contents c.args.ring.now) old
 
 pub returns-in-Accept-clause-ring : goal.returns-in-Accept-clause-ring
 returns-in-Accept-clause-ring g c = c.accept.ensures.ring _ _ _ c.requires.ring
 
 pub returns-in-Accept-clause-honest : goal.returns-in-Accept-clause-honest
-returns-in-Accept-clause-honest g c = λ first old. c.accept.ensures.honest first (g.R.DriverRing.contents c.args.ring.now) old
+returns-in-Accept-clause-honest g c = λ hosts first old. c.accept.ensures.honest hosts first (g.R.DriverRing.contents c.args.ring.now) old
 
 pub returns-in-Recv-clause-ring : goal.returns-in-Recv-clause-ring
 returns-in-Recv-clause-ring g c = c.recv_next.ensures.ring _ _ _ c.requires.ring
 
 pub returns-in-Recv-clause-honest : goal.returns-in-Recv-clause-honest
-returns-in-Recv-clause-honest g c = λ first old. c.recv_next.ensures.honest first (g.R.DriverRing.contents c.args.ring.now) old
+returns-in-Recv-clause-honest g c = λ hosts first old. c.recv_next.ensures.honest hosts first (g.R.DriverRing.contents c.args.ring.now) old
 
 pub returns-in-Drain-clause-ring : goal.returns-in-Drain-clause-ring
 returns-in-Drain-clause-ring g c = c.recv.ensures.ring _ _ _ c.requires.ring
 
 pub returns-in-Drain-clause-honest : goal.returns-in-Drain-clause-honest
-returns-in-Drain-clause-honest g c = λ first old. c.recv.ensures.honest first (g.R.DriverRing.contents c.args.ring.now) old
+returns-in-Drain-clause-honest g c = λ hosts first old. c.recv.ensures.honest hosts first (g.R.DriverRing.contents c.args.ring.now) old
 
 pub returns-in-Shutdown-clause-ring : goal.returns-in-Shutdown-clause-ring
 returns-in-Shutdown-clause-ring g c = c.shutdown.ensures.ring _ _ _ c.requires.ring
 
 pub returns-in-Shutdown-clause-honest : goal.returns-in-Shutdown-clause-honest
-returns-in-Shutdown-clause-honest g c = λ first old. c.shutdown.ensures.honest first (g.R.DriverRing.contents c.args.ring.now) old
+returns-in-Shutdown-clause-honest g c = λ hosts first old. c.shutdown.ensures.honest hosts first (g.R.DriverRing.contents c.args.ring.now) old
 
 pub returns-in-Grow-clause-ring : goal.returns-in-Grow-clause-ring
 returns-in-Grow-clause-ring g c = c.grow.ensures.ring _ _ _ c.requires.ring
 
 pub returns-in-Grow-clause-honest : goal.returns-in-Grow-clause-honest
-returns-in-Grow-clause-honest g c = λ first old. c.grow.ensures.honest first (g.R.DriverRing.contents c.args.ring.now) old
+returns-in-Grow-clause-honest g c = λ hosts first old. c.grow.ensures.honest hosts first (g.R.DriverRing.contents c.args.ring.now) old
 
 pub returns-in-Close-clause-ring : goal.returns-in-Close-clause-ring
 returns-in-Close-clause-ring g c = c.close.ensures.ring _ _ _ c.requires.ring
 
 pub returns-in-Close-clause-honest : goal.returns-in-Close-clause-honest
-returns-in-Close-clause-honest g c = λ first old. c.close.ensures.honest first (g.R.DriverRing.contents c.args.ring.now) old
+returns-in-Close-clause-honest g c = λ hosts first old. c.close.ensures.honest hosts first (g.R.DriverRing.contents c.args.ring.now) old
 
 pub returns-in-Exchange-clause-ring : goal.returns-in-Exchange-clause-ring
 returns-in-Exchange-clause-ring g c = c.recv_left-second.ensures.ring _ _ _ c.send_left-first.ensures.ring
 
 pub returns-in-Exchange-clause-honest : goal.returns-in-Exchange-clause-honest
-returns-in-Exchange-clause-honest g c = λ first old. c.recv_left-second.ensures.honest first (g.R.DriverRing.contents c.send_left-first.new.ring)
-    (c.send_left-first.ensures.honest first old)
+returns-in-Exchange-clause-honest g c = λ hosts first old. c.recv_left-second.ensures.honest hosts first (g.R.DriverRing.contents c.send_left-first.new.ring)
+    (c.send_left-first.ensures.honest hosts first old)

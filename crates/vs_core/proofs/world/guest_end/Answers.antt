@@ -1,4 +1,4 @@
-use Rattle.std.proofs.Common.{◌≡◌, ℕ, [], Option, unwrap_or, refl, sym, ap, subst}
+use Rattle.std.proofs.Common.{◌≡◌, ℕ, true, [], Option, unwrap_or, refl, sym, ap, subst}
 use Rattle.vs_ring_port.specs.{Counts.no_counts, EndLog.EndLog, EndLog.empty_log}
 use Rattle.vs_ring_list.specs.Ends.{Ends, driver_contents, empty_ends, flight_of, staged_of}
 use Rattle.vs_driver_parts.specs.{Conversations.new_of, Playing.Plays, State.DriverState}
@@ -37,5 +37,5 @@ pub returns-clause-driven : goal.returns-clause-driven
 returns-clause-driven c =
     let played = made c.args.n c.in_ok-rings.rings c.new-2.new.ring c.in_ok-driver.driver c.in_ok-rings.ensures c.in_ok-driver.ensures.calls in
     rested c.in_ok-driver.driver c.new-2.new.ring c.in_ok-driver.ensures.ring
-    (subst (λ cid. IsHonestWith cid c.in_ok-driver.driver (driver_contents c.new-2.new.ring))
+    (subst (λ cid. IsHonestWith true cid c.in_ok-driver.driver (driver_contents c.new-2.new.ring))
     (cid_of c.args.n c.new-2.new.ring c.in_ok-driver.driver played) c.in_ok-driver.ensures.honest)

@@ -4,9 +4,11 @@ use Rattle.vs_driver.proofs.steps.publish.Goals as goal
 
 pub publish-requires-clause-may : goal.publish-requires-clause-may
 publish-requires-clause-may g c =
-    keeps_may (λ s d. IsHonestWith c.requires.honest.0 s d) (publish_of c.args.queue c.args.driver.now) (g.R.DriverRing.contents c.args.ring.now) (publish_keeps c.requires.honest.0 c.args.queue c.args.driver.now (g.R.DriverRing.contents c.args.ring.now) c.requires.honest.1)
+    keeps_may (λ s d. IsHonestWith c.requires.honest.0 c.requires.honest.1 s d) (publish_of c.args.queue c.args.driver.now) (g.R.DriverRing.contents c.args.ring.now)
+    (publish_keeps c.requires.honest.0 c.requires.honest.1 c.args.queue c.args.driver.now (g.R.DriverRing.contents c.args.ring.now) c.requires.honest.2)
 
 pub returns-clause-honest : goal.returns-clause-honest
-returns-clause-honest g c = λ first honest.
-    keeps_end (λ s d. IsHonestWith first s d) (publish_of c.args.queue c.args.driver.now) (g.R.DriverRing.contents c.args.ring.now) (g.R.DriverRing.contents c.publish.new.ring) c.publish.new.self
-    (publish_keeps first c.args.queue c.args.driver.now (g.R.DriverRing.contents c.args.ring.now) honest) c.publish.ensures.calls
+returns-clause-honest g c = λ hosts first honest.
+    keeps_end (λ s d. IsHonestWith hosts first s d) (publish_of c.args.queue c.args.driver.now) (g.R.DriverRing.contents c.args.ring.now)
+    (g.R.DriverRing.contents c.publish.new.ring) c.publish.new.self
+    (publish_keeps hosts first c.args.queue c.args.driver.now (g.R.DriverRing.contents c.args.ring.now) honest) c.publish.ensures.calls

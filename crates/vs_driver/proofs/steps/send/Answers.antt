@@ -15,8 +15,8 @@ pub send_with_page-requires-clause-may : goal.send_with_page-requires-clause-may
 send_with_page-requires-clause-may g c =
     may_now c.in-Ok.ensures.ready _ (keeps_may _ (sends c.args.id c.args.bytes.now c.args.driver.now)
     (g.R.DriverRing.contents c.args.ring.now)
-    (sends_keeps c.requires.honest.0 c.args.id c.args.bytes.now c.args.driver.now (g.R.DriverRing.contents c.args.ring.now)
-    c.requires.honest.1))
+    (sends_keeps c.requires.honest.0 c.requires.honest.1 c.args.id c.args.bytes.now c.args.driver.now (g.R.DriverRing.contents c.args.ring.now)
+    c.requires.honest.2))
 
 pub send_with_page-requires-clause-held : goal.send_with_page-requires-clause-held
 send_with_page-requires-clause-held g c = held_then c.in-Ok.ensures.ready c.ready_to_send.new.self refl
@@ -31,11 +31,13 @@ pub returns-in-Err-clause-calls : goal.returns-in-Err-clause-calls
 returns-in-Err-clause-calls g c = leads_of RingAllows _ _ _ _ _ c.in-Err.ensures.ready.1 (refl, refl)
 
 pub returns-in-Ok-clause-honest : goal.returns-in-Ok-clause-honest
-returns-in-Ok-clause-honest g c = λ first honest.
+returns-in-Ok-clause-honest g c = λ hosts first honest.
     keeps_end _ (sends c.args.id c.args.bytes.now c.args.driver.now) (g.R.DriverRing.contents c.args.ring.now) (g.R.DriverRing.contents c.send_with_page.new.ring)
-    (c.send_with_page.new.self, c.send_with_page.result) (sends_keeps first c.args.id c.args.bytes.now c.args.driver.now (g.R.DriverRing.contents c.args.ring.now) honest) (returns-in-Ok-clause-calls g c)
+    (c.send_with_page.new.self, c.send_with_page.result) (sends_keeps hosts first c.args.id c.args.bytes.now c.args.driver.now (g.R.DriverRing.contents c.args.ring.now) honest)
+    (returns-in-Ok-clause-calls g c)
 
 pub returns-in-Err-clause-honest : goal.returns-in-Err-clause-honest
-returns-in-Err-clause-honest g c = λ first honest.
+returns-in-Err-clause-honest g c = λ hosts first honest.
     keeps_end _ (sends c.args.id c.args.bytes.now c.args.driver.now) (g.R.DriverRing.contents c.args.ring.now) (g.R.DriverRing.contents c.args.ring.now)
-    (c.ready_to_send.new.self, c.in-Err.answer) (sends_keeps first c.args.id c.args.bytes.now c.args.driver.now (g.R.DriverRing.contents c.args.ring.now) honest) (returns-in-Err-clause-calls g c)
+    (c.ready_to_send.new.self, c.in-Err.answer) (sends_keeps hosts first c.args.id c.args.bytes.now c.args.driver.now (g.R.DriverRing.contents c.args.ring.now) honest)
+    (returns-in-Err-clause-calls g c)

@@ -7,7 +7,7 @@ pub put_owed-requires-clause-may : goal.put_owed-requires-clause-may
 put_owed-requires-clause-may g c =
     may_step (put_owed c.args.slot) c.args.driver.now c.none-tally.result c.none-tally.ensures _
     (keeps_may _ (stages_owed c.args.slot c.args.driver.now) _
-    (owed_keeps c.requires.honest.0 c.args.slot c.args.driver.now _ c.requires.honest.1))
+    (owed_keeps c.requires.honest.0 c.requires.honest.1 c.args.slot c.args.driver.now _ c.requires.honest.2))
 
 pub returns-clause-calls : goal.returns-clause-calls
 returns-clause-calls g c =
@@ -16,6 +16,6 @@ returns-clause-calls g c =
     c.put_owed.ensures.calls
 
 pub returns-clause-honest : goal.returns-clause-honest
-returns-clause-honest g c = λ first honest.
+returns-clause-honest g c = λ hosts first honest.
     keeps_end _ (stages_owed c.args.slot c.args.driver.now) _ _ c.put_owed.new.self
-    (owed_keeps first c.args.slot c.args.driver.now _ honest) (returns-clause-calls g c)
+    (owed_keeps hosts first c.args.slot c.args.driver.now _ honest) (returns-clause-calls g c)

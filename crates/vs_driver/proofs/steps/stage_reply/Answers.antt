@@ -6,7 +6,7 @@ use Rattle.vs_driver.proofs.steps.stage_reply.Goals as goal
 pub put_reply-requires-clause-may : goal.put_reply-requires-clause-may
 put_reply-requires-clause-may g c =
     may_step put_reply c.args.driver.now c.none-tally.result c.none-tally.ensures _
-    (keeps_may _ (stages_reply c.args.driver.now) _ (reply_keeps c.requires.honest.0 c.args.driver.now _ c.requires.honest.1))
+    (keeps_may _ (stages_reply c.args.driver.now) _ (reply_keeps c.requires.honest.0 c.requires.honest.1 c.args.driver.now _ c.requires.honest.2))
 
 pub returns-clause-calls : goal.returns-clause-calls
 returns-clause-calls g c =
@@ -14,6 +14,6 @@ returns-clause-calls g c =
     c.put_reply.result c.put_reply.ensures.calls
 
 pub returns-clause-honest : goal.returns-clause-honest
-returns-clause-honest g c = λ first honest.
-    keeps_end _ (stages_reply c.args.driver.now) _ _ c.put_reply.new.self (reply_keeps first c.args.driver.now _ honest)
+returns-clause-honest g c = λ hosts first honest.
+    keeps_end _ (stages_reply c.args.driver.now) _ _ c.put_reply.new.self (reply_keeps hosts first c.args.driver.now _ honest)
     (returns-clause-calls g c)

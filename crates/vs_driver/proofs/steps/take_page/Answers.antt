@@ -20,7 +20,7 @@ returns-in-Rx-clause-calls g c =
     (round_of c.take_packet.new.self c.take_packet.new.tally) c.take_packet.result c.take_packet.ensures.calls)
 
 pub returns-in-Rx-clause-honest : goal.returns-in-Rx-clause-honest
-returns-in-Rx-clause-honest g c = λ first honest. stays_honest _ _ first _ _ _ (returns-in-Rx-clause-calls g c) honest
+returns-in-Rx-clause-honest g c = λ hosts first honest. stays_honest _ _ hosts first _ _ _ (returns-in-Rx-clause-calls g c) honest
 
 pub returns-in-Tx-clause-calls : goal.returns-in-Tx-clause-calls
 returns-in-Tx-clause-calls g c =
@@ -28,7 +28,7 @@ returns-in-Tx-clause-calls g c =
     (back_stepped c.args.driver.now _ _ c.reap.new.self c.reap.result c.reap.ensures.calls)
 
 pub returns-in-Tx-clause-honest : goal.returns-in-Tx-clause-honest
-returns-in-Tx-clause-honest g c = λ first honest. stays_honest _ _ first _ _ _ (returns-in-Tx-clause-calls g c) honest
+returns-in-Tx-clause-honest g c = λ hosts first honest. stays_honest _ _ hosts first _ _ _ (returns-in-Tx-clause-calls g c) honest
 
 pub returns-in-Event-clause-calls : goal.returns-in-Event-clause-calls
 returns-in-Event-clause-calls g c =
@@ -37,4 +37,4 @@ returns-in-Event-clause-calls g c =
     (round_of c.take_event.new.self c.take_event.new.tally) c.take_event.result c.take_event.ensures.calls)
 
 pub returns-in-Event-clause-honest : goal.returns-in-Event-clause-honest
-returns-in-Event-clause-honest g c = λ first honest. stays_honest _ _ first _ _ _ (returns-in-Event-clause-calls g c) honest
+returns-in-Event-clause-honest g c = λ hosts first honest. stays_honest _ _ hosts first _ _ _ (returns-in-Event-clause-calls g c) honest

@@ -35,4 +35,4 @@ returns-clause-played g c =
 
 pub returns-clause-driven : goal.returns-clause-driven
 returns-clause-driven g c =
-    driven_as _ _ _ _ _ (g.met.R.BothEnds.driver c.new_at.new.ring) _ _ c.in_ok-driver.ensures.ring c.in_ok-driver.ensures.honest
+    driven_as _ _ _ _ _ (g.met.R.BothEnds.driver c.new_at.new.ring) _ _ _ c.in_ok-driver.ensures.ring c.in_ok-driver.ensures.honest

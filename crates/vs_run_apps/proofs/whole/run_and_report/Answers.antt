@@ -3,7 +3,7 @@ use Rattle.vs_run_apps.proofs.whole.run_and_report.Goals as goal
 
 pub returns-in-Ok : goal.returns-in-Ok
 returns-in-Ok g c =
-    reported c.args.idle g.N.RunName.script g.N.StartName.start c.in-Ok.ran.guests (record {
+    reported c.args.idle g.N.RunName.first g.N.RunName.script g.N.StartName.start c.in-Ok.ran.guests (record {
       proxy = c.in-Ok.ran.proxy;
       ring = c.in-Ok.ran.ring;
       contents = g.H.HostNet.contents c.run_under.new.host;

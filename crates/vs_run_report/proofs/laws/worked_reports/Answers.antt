@@ -1,7 +1,7 @@
 -- All are computed.
 use Rattle.std.{proofs.Common.refl, specs.Fmt.digits}
 use Rattle.hex.specs.Hex.{encode_with}
-use Rattle.vs_run_report.proofs.Worked.{hello_right}
+use Rattle.vs_run_report.proofs.Worked.{hello_right, never_swapped}
 use Rattle.vs_run_report.proofs.laws.worked_reports.Goals as goal
 
 pub returns-clause-done : goal.returns-clause-done
@@ -18,3 +18,6 @@ returns-clause-accepts c = refl
 
 pub returns-clause-right : goal.returns-clause-right
 returns-clause-right c = hello_right
+
+pub returns-clause-swapped : goal.returns-clause-swapped
+returns-clause-swapped c = never_swapped

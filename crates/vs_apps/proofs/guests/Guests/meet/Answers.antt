@@ -7,7 +7,7 @@ pub invariant_of-self : goal.invariant_of-self
 invariant_of-self g c =
     let inside = c.self.inside in (
       c.self.invariant.0,
-      subst (λ (end : Sight). AreGuests g.N.RunName.script (guests_with inside.driver end inside.apps.items inside.journal)) (sym c.meet.ensures.driver)
-          (guests_hear g.N.RunName.script (guests_with inside.driver inside.end inside.apps.items inside.journal) c.self.invariant.1
+      subst (λ (end : Sight). AreGuests g.N.RunName.first g.N.RunName.script (guests_with inside.driver end inside.apps.items inside.journal)) (sym c.meet.ensures.driver)
+          (guests_hear g.N.RunName.first g.N.RunName.script (guests_with inside.driver inside.end inside.apps.items inside.journal) c.self.invariant.1
           (what_it_did c.args.device.now.sight)),
     )

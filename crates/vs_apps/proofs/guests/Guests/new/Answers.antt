@@ -13,6 +13,7 @@ returns-in_err-driver-clause-told g c = (c.args.device.now.sight.heard, refl)
 pub invariant_of-result : goal.invariant_of-result
 invariant_of-result g c =
     let script : RunScript = g.N.RunName.script in
+    let first : ℕ = g.N.RunName.first in
     let long : length script ≡ length c.args.script.items =
     ap (λ (s : RunScript). length s) (sym c.requires.script) ∙ length-map c.args.script.items app_view in
     let many : c.len.result ≡ length script = omega (arith, long, c.len.ensures) in
@@ -23,14 +24,16 @@ invariant_of-result g c =
     let cid : driver.cid ≡ FIRST_CID =
     first_loaded c.args.end.size c.args.first 1 (driver_contents c.args.end) c.new_at.new.ring driver c.args.device.now.sight.log
     c.in_ok-driver.ensures.calls c.note.ensures.fits.saw_cid c.requires.silent in
-    let all = new_guests script c.args.end.size c.args.first c.len.result c.args.end c.new_at.new.ring driver apps
+    let made = new_guests script c.args.end.size c.args.first c.len.result c.args.end c.new_at.new.ring driver apps
     (record { progress = c.begun.result; waiting = None }) c.requires.right c.requires.first.1 cid fresh c.in_ok-driver.ensures.calls c.in_ok-driver.ensures.ring many
     (c.in_ok-apps.ensures.items_if_clones_equal (λ y is. first_of (search (rules, is), cc)))
     (ap (λ (p : Progress). let s : AppState = record { progress = p; waiting = None } in s) c.begun.ensures) in
-    let heard : AreGuests script (record { driver = driver; end = c.note.new.driver; apps = apps; entries = []; bytes = [] }) =
-    subst (λ (s : Sight). AreGuests script (record { driver = driver; end = s; apps = apps; entries = []; bytes = [] })) (sym c.note.ensures.driver)
-    (guests_hear script (record { driver = driver; end = c.new_at.new.ring; apps = apps; entries = []; bytes = [] }) all
+    let all = subst (λ (port : ℕ). AreGuests port script (record { driver = driver; end = c.new_at.new.ring; apps = apps; entries = []; bytes = [] }))
+    c.requires.own made in
+    let heard : AreGuests first script (record { driver = driver; end = c.note.new.driver; apps = apps; entries = []; bytes = [] }) =
+    subst (λ (s : Sight). AreGuests first script (record { driver = driver; end = s; apps = apps; entries = []; bytes = [] })) (sym c.note.ensures.driver)
+    (guests_hear first script (record { driver = driver; end = c.new_at.new.ring; apps = apps; entries = []; bytes = [] }) all
     (what_it_did c.args.device.now.sight)) in (
       c.requires.script,
-      subst (λ (j : JournalState). AreGuests script (guests_with driver c.note.new.driver apps j)) (sym c.new.ensures) heard,
+      subst (λ (j : JournalState). AreGuests first script (guests_with driver c.note.new.driver apps j)) (sym c.new.ensures) heard,
     )

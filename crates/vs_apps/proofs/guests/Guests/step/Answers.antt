@@ -1,4 +1,4 @@
-use Rattle.std.proofs.{Common.{◌≡◌, length, arith, sym, subst}, lemmas.Grind.common_steps}
+use Rattle.std.proofs.{Common.{◌≡◌, true, length, arith, sym, subst}, lemmas.Grind.common_steps}
 use Rattle.vs_apps_parts.specs.Scripts.{AreRight, RunScript}
 use Rattle.laws_apps.specs.Runs.{Steps}
 use Rattle.vs_limits.specs.declared.TheConstants.{FIRST_CID}
@@ -15,7 +15,7 @@ step-requires-clause-apps g c =
     first_of (omega arith, grind (arith, common_steps, many))
 
 pub step-requires-clause-honest : goal.step-requires-clause-honest
-step-requires-clause-honest g c = (FIRST_CID, c.self.invariant.1.run.kept.honest)
+step-requires-clause-honest g c = (true, FIRST_CID, c.self.invariant.1.run.kept.honest)
 
 pub invariant_of-self : goal.invariant_of-self
 invariant_of-self g c =
@@ -24,6 +24,6 @@ invariant_of-self g c =
     let old = guests_with inside.driver inside.end inside.apps.items inside.journal in
     let new = guests_with now.driver now.ring now.apps.items now.journal in (
       c.self.invariant.0,
-      guests_step g.N.RunName.script old c.self.invariant.1 c.args.k c.step.result.0 c.step.result.1 new c.requires c.step.ensures.ring
+      guests_step g.N.RunName.first g.N.RunName.script old c.self.invariant.1 c.args.k c.step.result.0 c.step.result.1 new c.requires c.step.ensures.ring
           (subst (λ (s : RunScript). Steps s c.args.k c.step.result.0 c.step.result.1 (run_in old) (run_in new)) c.self.invariant.0 c.step.ensures.steps),
     )

@@ -30,7 +30,7 @@ returns-in-Some-clause-unknown c =
 
 pub returns-in-Some-clause-honest : goal.returns-in-Some-clause-honest
 returns-in-Some-clause-honest c =
-    λ first r honest. kept first _ _ _ r (close_changes c.args.id c.args.self.now) (returns-in-Some-clause-state c) honest
+    λ hosts first r honest. kept hosts first _ _ _ r (close_changes c.args.id c.args.self.now) (returns-in-Some-clause-state c) honest
 
 pub returns-in-None-clause-others : goal.returns-in-None-clause-others
 returns-in-None-clause-others c =
@@ -47,7 +47,7 @@ returns-in-None-clause-unknown c =
     ap (state_of c.args.id) is ∙ gone_close_unknown c.args.id s unknown
 
 pub returns-in-None-clause-honest : goal.returns-in-None-clause-honest
-returns-in-None-clause-honest c = λ first r honest.
+returns-in-None-clause-honest c = λ hosts first r honest.
     let t : DriverState = c.close_gone.new.self in
     let is : t ≡ after_close c.args.id c.args.self.now = search rules in
-    kept first _ t _ r (close_changes c.args.id c.args.self.now) is honest
+    kept hosts first _ t _ r (close_changes c.args.id c.args.self.now) is honest

@@ -10,7 +10,7 @@ post_header-requires-clause-may g c =
     let free : has_page c.args.self.now ≡ true = search rules in
     let P : Header → Type 0 = λ h. MayPublishAll (post_packet (header_bytes h) c.args.self.now) (g.R.DriverRing.contents c.args.ring.now) in
     subst P (sym c.request_header-header.ensures)
-    (may_next (post_packet (request_bytes c.args.host_port s) s) (after_post c.args.host_port) (finds_page c.args.host_port s _ free)
+    (may_next (post_packet (request_bytes c.args.peer c.args.port s) s) (after_post c.args.peer c.args.port) (finds_page c.args.peer c.args.port s _ free)
     c.requires.may)
 
 pub returns-clause-calls : goal.returns-clause-calls
@@ -18,7 +18,7 @@ returns-clause-calls g c =
     let s = c.args.self.now in
     let free : has_page c.args.self.now ≡ true = search rules in
     let P : Header → Type 0 = λ h. Plays (post_packet (header_bytes h) c.args.self.now) (g.R.DriverRing.contents c.args.ring.now) c.post_header.new.self (g.R.DriverRing.contents c.post_header.new.ring) in
-    (then (post_packet (request_bytes c.args.host_port s) s) (after_post c.args.host_port) (finds_page c.args.host_port s _ free)
+    (then (post_packet (request_bytes c.args.peer c.args.port s) s) (after_post c.args.peer c.args.port) (finds_page c.args.peer c.args.port s _ free)
     c.post_header.new.self _
     (subst P c.request_header-header.ensures c.post_header.ensures.calls)).goes_on (c.open.new.self, Ok c.open.result) _
     (rw (c.open.ensures.opened, c.open.ensures.id) refl, refl)

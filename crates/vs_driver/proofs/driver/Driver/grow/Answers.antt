@@ -48,5 +48,5 @@ returns-in-Some-clause-unchanged c =
     unchanged_grown c.grow_in.result c.args.alloc k.entry c.args.self.now c.grow_in.new.self (c.grow_in.ensures.state k.entry k.found)
 
 pub returns-in-Some-clause-honest : goal.returns-in-Some-clause-honest
-returns-in-Some-clause-honest c = λ first r honest.
-    kept first c.args.self.now _ _ r (grow_changes c.args.id c.args.alloc c.args.self.now) (returns-in-Some-clause-state c) honest
+returns-in-Some-clause-honest c = λ hosts first r honest.
+    kept hosts first c.args.self.now _ _ r (grow_changes c.args.id c.args.alloc c.args.self.now) (returns-in-Some-clause-state c) honest

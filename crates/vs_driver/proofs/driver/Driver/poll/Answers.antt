@@ -20,13 +20,13 @@ module _ (s : DriverState) (c : RingContents) (r : Round) (d : RingContents) (ev
 pub take_events-events-requires-clause-may : goal.take_events-events-requires-clause-may
 take_events-events-requires-clause-may g c =
     may_next (take_all Event take_event c.args.self.now) poll_packets (all_left (poll_of c.args.self.now) _)
-    (poll_may c.requires.honest.0 c.args.self.now _ c.requires.honest.1)
+    (poll_may c.requires.honest.0 c.requires.honest.1 c.args.self.now _ c.requires.honest.2)
 
 pub take_packets-packets-requires-clause-may : goal.take_packets-packets-requires-clause-may
 take_packets-packets-requires-clause-may g c =
     let r : Round = round_of c.take_events-events.new.self c.take_events-events.result in
     may_next (take_all Rx take_packet r.state) (poll_reaps r.reset) (took c.args.self.now _ r _ c.take_events-events.ensures.calls)
-    (poll_may c.requires.honest.0 c.args.self.now _ c.requires.honest.1)
+    (poll_may c.requires.honest.0 c.requires.honest.1 c.args.self.now _ c.requires.honest.2)
 
 pub put_all-put-requires-clause-may : goal.put_all-put-requires-clause-may
 put_all-put-requires-clause-may g c =
@@ -34,7 +34,7 @@ put_all-put-requires-clause-may g c =
     let q : Round = round_of c.take_packets-packets.new.self c.take_packets-packets.result in
     may_next (put_all c.reap_all.new.self) (polled q.count r.reset)
     (puts c.args.self.now _ r _ c.take_events-events.ensures.calls q _ c.take_packets-packets.ensures.calls _ _ c.reap_all.ensures.calls)
-    (poll_may c.requires.honest.0 c.args.self.now _ c.requires.honest.1)
+    (poll_may c.requires.honest.0 c.requires.honest.1 c.args.self.now _ c.requires.honest.2)
 
 pub returns-clause-calls : goal.returns-clause-calls
 returns-clause-calls g c =
@@ -45,6 +45,6 @@ returns-clause-calls g c =
     (round_of c.put_all-put.new.self c.put_all-put.result) _ c.put_all-put.ensures.calls).goes_on _ _ (refl, refl)
 
 pub returns-clause-honest : goal.returns-clause-honest
-returns-clause-honest g c = λ first honest.
+returns-clause-honest g c = λ hosts first honest.
     let answer : Polled = record { took = c.take_packets-packets.result.count; posted = c.put_all-put.result.count; reset = c.take_events-events.result.reset } in
-    poll_honest first c.args.self.now _ _ (c.put_all-put.new.self, answer) honest (returns-clause-calls g c)
+    poll_honest hosts first c.args.self.now _ _ (c.put_all-put.new.self, answer) honest (returns-clause-calls g c)

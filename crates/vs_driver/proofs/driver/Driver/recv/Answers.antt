@@ -37,8 +37,8 @@ returns-in-Some-clause-others c =
     others_by c.args.id s c.recv_in.new.self _ (returns-in-Some-clause-state c) (known_recv_others c.args.id s k.entry sound k.known (length c.args.out.now))
 
 pub returns-in-Some-clause-honest : goal.returns-in-Some-clause-honest
-returns-in-Some-clause-honest c = λ first r honest.
-    kept first _ _ _ r (recv_changes c.args.id (length c.args.out.now) c.args.self.now) (returns-in-Some-clause-state c) honest
+returns-in-Some-clause-honest c = λ hosts first r honest.
+    kept hosts first _ _ _ r (recv_changes c.args.id (length c.args.out.now) c.args.self.now) (returns-in-Some-clause-state c) honest
 
 pub returns-in-None-clause-pipe : goal.returns-in-None-clause-pipe
 returns-in-None-clause-pipe c =
@@ -58,7 +58,7 @@ returns-in-None-clause-others c =
     others_by c.args.id s c.recv_gone.new.self _ leaves (gone_recv_others c.args.id s unknown (length c.args.out.now))
 
 pub returns-in-None-clause-honest : goal.returns-in-None-clause-honest
-returns-in-None-clause-honest c = λ first r honest.
+returns-in-None-clause-honest c = λ hosts first r honest.
     let t : DriverState = c.recv_gone.new.self in
     let is : t ≡ after_recv c.args.id (length c.args.out.now) c.args.self.now = search rules in
-    kept first _ t _ r (recv_changes c.args.id (length c.args.out.now) c.args.self.now) is honest
+    kept hosts first _ t _ r (recv_changes c.args.id (length c.args.out.now) c.args.self.now) is honest

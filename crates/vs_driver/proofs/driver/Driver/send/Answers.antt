@@ -14,7 +14,7 @@ send_with_page-requires-clause-credit g c = credit_then c.in-Ok.ensures.ready c.
 pub send_with_page-requires-clause-may : goal.send_with_page-requires-clause-may
 send_with_page-requires-clause-may g c =
     may_then c.in-Ok.ensures.ready c.reap_all.new.self c.reap_all.ensures.others _ _ c.reap_all.ensures.calls
-    (send_may c.requires.honest.0 c.args.id c.args.bytes.now c.args.self.now (g.R.DriverRing.contents c.args.ring.now) c.requires.honest.1)
+    (send_may c.requires.honest.0 c.requires.honest.1 c.args.id c.args.bytes.now c.args.self.now (g.R.DriverRing.contents c.args.ring.now) c.requires.honest.2)
 
 pub send_with_page-requires-clause-held : goal.send_with_page-requires-clause-held
 send_with_page-requires-clause-held g c = held_then c.in-Ok.ensures.ready c.reap_all.new.self c.reap_all.ensures.others
@@ -25,8 +25,8 @@ returns-in-Ok-clause-calls g c =
     c.send_with_page.ensures.calls
 
 pub returns-in-Ok-clause-honest : goal.returns-in-Ok-clause-honest
-returns-in-Ok-clause-honest g c = λ first honest.
-    send_honest first _ _ _ _ _ (c.send_with_page.new.self, c.send_with_page.result) honest (returns-in-Ok-clause-calls g c)
+returns-in-Ok-clause-honest g c = λ hosts first honest.
+    send_honest hosts first _ _ _ _ _ (c.send_with_page.new.self, c.send_with_page.result) honest (returns-in-Ok-clause-calls g c)
 
 pub returns-in-Ok-clause-outcome : goal.returns-in-Ok-clause-outcome
 returns-in-Ok-clause-outcome g c =
@@ -48,8 +48,8 @@ pub returns-in-Err-clause-calls : goal.returns-in-Err-clause-calls
 returns-in-Err-clause-calls g c = leads_of RingAllows _ _ _ _ _ c.in-Err.ensures.ready.0 (refl, refl)
 
 pub returns-in-Err-clause-honest : goal.returns-in-Err-clause-honest
-returns-in-Err-clause-honest g c = λ first honest.
-    send_honest first _ _ _ _ _ (c.ready_to_send.new.self, c.in-Err.answer) honest (returns-in-Err-clause-calls g c)
+returns-in-Err-clause-honest g c = λ hosts first honest.
+    send_honest hosts first _ _ _ _ _ (c.ready_to_send.new.self, c.in-Err.answer) honest (returns-in-Err-clause-calls g c)
 
 pub returns-in-Err-clause-outcome : goal.returns-in-Err-clause-outcome
 returns-in-Err-clause-outcome g c =

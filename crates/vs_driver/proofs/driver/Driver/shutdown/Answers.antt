@@ -44,5 +44,5 @@ returns-in-Some-clause-kept c = λ going still.
     ap (unread_of_id c.args.id) (returns-in-Some-clause-state c) ∙ known_kept c.args.id s k.entry sound k.known c.args.bits going still
 
 pub returns-in-Some-clause-honest : goal.returns-in-Some-clause-honest
-returns-in-Some-clause-honest c = λ first r honest.
-    kept first c.args.self.now _ _ r (shutdown_changes c.args.id c.args.bits c.args.self.now) (returns-in-Some-clause-state c) honest
+returns-in-Some-clause-honest c = λ hosts first r honest.
+    kept hosts first c.args.self.now _ _ r (shutdown_changes c.args.id c.args.bits c.args.self.now) (returns-in-Some-clause-state c) honest

@@ -15,7 +15,7 @@ returns-clause-countable c =
     countable
 
 pub returns-clause-open : goal.returns-clause-open
-returns-clause-open c = λ first l agrees.
+returns-clause-open c = λ hosts first l agrees.
     let s : DriverState = the_view c.self.inside in
-    let seen : AgreesWith first s l = subst (λ (x : DriverState). AgreesWith first x l) (sym c.self.view_is) agrees in
-    subst (λ (x : DriverState). IsLeftOpen first (table_shown s) x.replies l) c.self.view_is (left_open first s l seen)
+    let seen : AgreesWith hosts first s l = subst (λ (x : DriverState). AgreesWith hosts first x l) (sym c.self.view_is) agrees in
+    subst (λ (x : DriverState). IsLeftOpen first (table_shown s) x.replies l) c.self.view_is (left_open hosts first s l seen)

@@ -33,4 +33,4 @@ returns-clause-state c =
 
 pub returns-clause-honest : goal.returns-clause-honest
 returns-clause-honest c =
-    λ first r honest. kept first c.args.self.now _ _ r (unlisten_changes c.args.port c.args.self.now) (returns-clause-state c) honest
+    λ hosts first r honest. kept hosts first c.args.self.now _ _ r (unlisten_changes c.args.port c.args.self.now) (returns-clause-state c) honest

@@ -1,6 +1,6 @@
 use Rattle.std.proofs.{Common.{◌≡◌, ℕ, List, length, Some, true, false, sym, ap, ◌∙◌, rules, arith, ◌&&◌, not, [], ◌∷◌, ◌++◌}, lemmas.List.Elements.All-push}
-use Rattle.vs_flow.specs.{Table.{Table, entry_under, without}, Flow.is_assigned, declared.flow.Flow.Flow}
-use Rattle.vs_driver_parts.specs.{Room.IsSpare, State.{DriverConnection, GoneConnection}, Connections.{is_let_go, kept_if}, Held.HeldSlots}
+use Rattle.vs_flow.specs.{CleanPairs.kept_if, Table.{Table, entry_under, without}, Flow.host_asks, declared.flow.Flow.Flow}
+use Rattle.vs_driver_parts.specs.{Room.IsSpare, State.{DriverConnection, GoneConnection}, Connections.is_let_go, Held.HeldSlots}
 use Rattle.vs_driver_parts.{specs.contracts.slots.Slots.the_view, proofs.{Ids.{IsUnder, under}, Numbers.{numbers_without, numbers_left}, SlotChanges.{left_free, left_kept}}}
 use Rattle.vs_driver_parts.proofs.{SlotChanges.{noted_without, one_fewer}, Clean.{flow_there, left_clean}}
 use Rattle.vs_driver_parts.proofs.slots.Slots.leave.Goals as goal
@@ -34,8 +34,8 @@ returns-then-let_go c = λ e found.
     let there : entry_under s.table c.args.slot ≡ Some e = rw (← c.self.view_is) at found in
     rw (← c.self.view_is) (ap (λ (t : Table DriverConnection). let h : HeldSlots = the_view s in record h { table = t; clean = c.keep_own.new.clean }) table
     ∙ (ap (λ (fs : List Flow). let h : HeldSlots = the_view s in record h { table = without s.table c.args.slot; clean = fs }) (c.keep_own.ensures
-    ∙ ap (λ (f : Flow). kept_if (c.args.cleanly && not (is_assigned f.host)) f s.clean) (flow_there s.table c.args.slot e c.in-Some.flow there c.in-Some.ensures.flow))
-    ∙ ap (λ (h : HeldSlots). record h { clean = kept_if (c.args.cleanly && not (is_assigned e.flow.host)) e.flow s.clean })
+    ∙ ap (λ (f : Flow). kept_if (c.args.cleanly && not (host_asks f)) f s.clean) (flow_there s.table c.args.slot e c.in-Some.flow there c.in-Some.ensures.flow))
+    ∙ ap (λ (h : HeldSlots). record h { clean = kept_if (c.args.cleanly && not (host_asks e.flow)) e.flow s.clean })
     (left_free (the_view s) c.args.slot e c.in-Some-remove.connection there c.in-Some-remove.ensures.value go)))
 
 pub invariant_of-self-2 : goal.invariant_of-self-2
@@ -76,6 +76,6 @@ returns c = λ e found.
     record h { table = without s.table c.args.slot; gone = gone; clean = c.keep_own.new.clean }) c.push_reserved-2.ensures.items
     ∙ (ap (λ (fs : List Flow). let h : HeldSlots = the_view s in
     record h { table = without s.table c.args.slot; gone = s.gone.items ++ c.new.result ∷ []; clean = fs }) (c.keep_own.ensures
-    ∙ ap (λ (f : Flow). kept_if (c.args.cleanly && not (is_assigned f.host)) f s.clean) (flow_there s.table c.args.slot e c.in-Some.flow there c.in-Some.ensures.flow))
-    ∙ ap (λ (h : HeldSlots). record h { clean = kept_if (c.args.cleanly && not (is_assigned e.flow.host)) e.flow s.clean })
+    ∙ ap (λ (f : Flow). kept_if (c.args.cleanly && not (host_asks f)) f s.clean) (flow_there s.table c.args.slot e c.in-Some.flow there c.in-Some.ensures.flow))
+    ∙ ap (λ (h : HeldSlots). record h { clean = kept_if (c.args.cleanly && not (host_asks e.flow)) e.flow s.clean })
     (left_kept (the_view s) c.args.slot e c.in-Some-remove.connection there c.in-Some-remove.ensures.value c.in-Some.flow c.new.result stays c.in-Some.ensures.flow new))))

@@ -1,9 +1,9 @@
 use Rattle.std.proofs.Common.{◌≡◌, ◌+◌, ◌<◌, ◌≤◌, length, ◌∷◌, [], ap, ◌∙◌, rules, arith, length-append, Some}
 use Rattle.vs_flow.{specs.Table.{Table, with_entry, next_entry}, proofs.Tables.with_entry_sound}
 use Rattle.vs_driver_parts.{specs.{Room.IsSpare, State.DriverConnection, Connections.free_flow}, proofs.{Numbers.numbers_with_entry, SlotChanges.{all_front, noted_with_entry}}}
-use Rattle.vs_driver_parts.proofs.Clean.{all_clean, given_absent, given_clean, given_guest, given_within, port_below, port_rises, removed_flow}
+use Rattle.vs_driver_parts.proofs.Clean.{all_clean, given_absent, given_clean, given_guest, given_within, port_below, port_rises}
 use Rattle.vs_limits.specs.declared.TheConstants.{LAST_ID}
-use Rattle.laws_tables.specs.Ends.{without as flows_without}
+use Rattle.laws_tables.{specs.Ends.{without as flows_without}, proofs.Found.removed_flow}
 use Rattle.vs_driver_parts.proofs.slots.Slots.open_asked.Goals as goal
 
 pub insert-requires-clause-unknown : goal.insert-requires-clause-unknown
@@ -25,7 +25,7 @@ invariant_of-self c =
     let kept = c.self.invariant in
     let f = c.args.flow in
     let free : length s.table.entries + length s.gone.items < 64 = rw (← c.self.view_is) at c.requires.free in
-    let next : free_flow f.host s.next_port s.clean ≡ Some f = rw (← c.self.view_is) at c.requires.next in
+    let next : free_flow f.peer f.host s.next_port s.clean ≡ Some f = rw (← c.self.view_is) at c.requires.next in
     let table : c.insert.new.table ≡ with_entry s.table f c.asked-connection.result = c.insert.ensures in
     let id : c.asked-connection.result.id ≡ s.next_id = search rules in
     let entries = ap (λ (t : Table DriverConnection). length t.entries) table in
