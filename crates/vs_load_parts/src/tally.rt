@@ -3,7 +3,7 @@
 ghost use Rattle.std.specs.{Prelude.{◌≡◌, IfOk, length, string_bytes}, List.{All, fold}};
 ghost use Rattle.vs_apps_parts.specs.{Journals.calls_of, Scripts.script_of};
 ghost use Rattle.vs_run_report.specs.Connections.{listed, opened_all, opened_of};
-ghost use Rattle.vs_load_parts.specs.Line.{CameBack, counted_of, counts, load_line};
+ghost use Rattle.vs_load_parts.specs.Line.{CameBack, counted_of, counts, load_line, tally_of};
 
 use std::alloc::{AllocError, Global};
 use vs_apps_parts::journal::Journal;
@@ -24,12 +24,11 @@ pub struct Tally {
 fn add(tally: Tally, opened: Opened, script: &[App], journal: &Journal) -> Tally
     ensures { result ≡ counts (calls_of (script_of script.now) journal.now.bytes journal.now.entries) tally opened }
 {
-    let sent = sent_on(opened.id, script, journal.entries());
-    let came = journal.excerpt(opened.id).count;
-    Tally {
-        sent: tally.sent.saturating_add(sent),
-        matched: tally.matched.saturating_add(came),
-    }
+    let count = sent_on(opened.id, script, journal.entries());
+    let excerpt = journal.excerpt(opened.id);
+    let sent = tally.sent.saturating_add(count);
+    let matched = tally.matched.saturating_add(excerpt.count);
+    Tally { sent, matched }
 }
 
 // The tally with the connection that an entry opened, if it did.
@@ -68,6 +67,15 @@ fn counted_of(script: &[App], journal: &Journal) -> Tally
     tally
 }
 
+/// The bytes that were sent on all connections, and the places that match, where what was received on each is a prefix of what was sent there.
+pub fn tally_of(script: &[App], journal: &Journal) -> Tally
+    requires { All (CameBack (calls_of (script_of script.now) journal.now.bytes journal.now.entries))
+        (opened_all (length (script_of script.now)) journal.now.entries) }
+    ensures { result ≡ tally_of (script_of script.now) journal.now.entries journal.now.bytes }
+{
+    counted_of(script, journal)
+}
+
 /// The line of a load with so many apps, by the journal, where what was received on each connection is a prefix of what was sent there. The only error
 /// is want of memory.
 pub fn load_line(
@@ -80,7 +88,7 @@ pub fn load_line(
         (opened_all (length (script_of script.now)) journal.now.entries) }
     ensures { IfOk result (λ line. string_bytes line ≡ load_line conns (script_of script.now) journal.now.entries journal.now.bytes) }
 {
-    let tally = counted_of(script, journal);
+    let tally = tally_of(script, journal);
     let mut line = String::new(alloc);
     push_load(&mut line, conns, tally.sent, tally.matched)?;
     Ok(line)

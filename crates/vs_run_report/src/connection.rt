@@ -114,7 +114,8 @@ fn push_opened(
         ++ opened_text (calls_of (script_of script.now) journal.now.bytes journal.now.entries) opened) }
 {
     let sent = sent_on(opened.id, script, journal.entries());
-    push_connection(out, opened.flow, sent, &journal.excerpt(opened.id))
+    let received = journal.excerpt(opened.id);
+    push_connection(out, opened.flow, sent, &received)
 }
 
 // The line of the connection that an entry of the app at a place opened, if it did.
