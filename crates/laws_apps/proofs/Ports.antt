@@ -218,7 +218,6 @@ module _ (n : ℕ) where
   call_ports first journal (Close id) apps = λ s log fits m x. closed_port id s x.1 (entry_known_as id s) (gone_known_as id s)
   call_ports first journal (LookAt id) apps = λ s log fits m x. x.1
 
-
 -- An entry that is noted has the port of the connection that its connect opened.
 asked_port : (n b : ℕ) (r : Result ℕ ConnectError) (flow : Option Flow) (s : DriverState) → n ≡ min b (LAST_PORT + 1) → flow ≡ flow_opened r s → Asks n r s
     → IsPort b (port_opened r flow) × (s.next_port ≡ min (next_port b (port_opened r flow)) (LAST_PORT + 1))

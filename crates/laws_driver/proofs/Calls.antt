@@ -50,7 +50,8 @@ changed_rests hosts first before after s t c step carries rests =
     tells_weaker (RestsWith hosts first before s) (RestsWith hosts first after t)
     (λ l rest. (changed hosts first s t l (step rest.0.0) rest.0, carries l.entries rest.0.0 rest.0.1.matches rest.1)) c rests
 
-pub still_honest : (hosts : Bool) (first : ℕ) (s t : DriverState) (c : RingContents) → (IsFitState hosts s → Changes hosts s t) → IsHonestWith hosts first s c → IsHonestWith hosts first t c
+pub still_honest : (hosts : Bool) (first : ℕ) (s t : DriverState) (c : RingContents) → (IsFitState hosts s → Changes hosts s t)
+    → IsHonestWith hosts first s c → IsHonestWith hosts first t c
 still_honest hosts first s t c step honest =
     honest_of hosts first nothing t c (changed_rests hosts first nothing nothing s t c step (λ log fits m held. tt) (rests_of hosts first s c honest))
 

@@ -52,7 +52,8 @@ module _ {hosts : Bool} where
       let end : ConnectionEnd = e.value.end in
       let h : Header = owed_header end (route_to_host s.cid e.flow) what in
       let wire : FitsWire h =
-      header_fits s.cid e.flow end (owed_op what) (owed_flags end what) 0 fits.cid_fits entry.ports entry.buffer.alloc entry.buffer.fwd_cnt (owed_flags_fit end what owes) (omega arith) in
+      header_fits s.cid e.flow end (owed_op what) (owed_flags end what) 0 fits.cid_fits entry.ports entry.buffer.alloc entry.buffer.fwd_cnt
+      (owed_flags_fit end what owes) (omega arith) in
       let step = pays_state what e s fits stands entry.buffer in
       let has = has_end s e fits stands in
       record {

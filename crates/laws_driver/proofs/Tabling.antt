@@ -2,8 +2,8 @@
 use Rattle.std.proofs.Common.{◌≡◌, ℕ, ◌+◌, ◌<◌, ◌≤◌, ◌^◌, ◌==◌, Bool, true, false, cond, not, List, [], ◌∷◌, ◌++◌, get_or, refl, ap, ◌∙◌, Some, arith, ◌-◌, drop, length}
 use Rattle.std.{proofs.lemmas.List.Elements.{All-map, All-push, All-filter, All-drop}, specs.{List.All, Prelude.Contains}}
 use Rattle.vs_header.specs.declared.Kind.TheVariants.{Stream}
-use Rattle.vs_flow.{specs.{CleanPairs.kept_if, Table.{Table, entry_under, with_entry, without, next_entry, revalued}, Flow.host_asks, declared.flow.Flow.Flow}, proofs.Tables.revalued-flow}
-use Rattle.vs_flow.proofs.Tables.{with_value_sound, without_sound, with_entry_sound, IsAccepted}
+use Rattle.vs_flow.specs.{CleanPairs.kept_if, Table.{Table, entry_under, with_entry, without, next_entry, revalued}, Flow.host_asks, declared.flow.Flow.Flow}
+use Rattle.vs_flow.proofs.Tables.{with_value_sound, without_sound, with_entry_sound, revalued-flow, IsAccepted}
 use Rattle.vs_limits.specs.declared.TheConstants.{HOST_CID, LAST_PORT, CLEAN_PAIRS}
 use Rattle.vs_replies.specs.declared.Reply.{Reply}
 use Rattle.laws_tables.{proofs.Slots.{changed_slot, one_end, removed_slot}, specs.{Ends.{Ends, FlowEnd, entries_of}, Steps.{HasEnd, with_end, left, with_clean}}}
@@ -40,7 +40,8 @@ module _ {hosts : Bool} where
     places = fits.places;
     given = fits.given;
     entries = All-map (IsFitEntry hosts) (revalued slot c) s.table.entries (λ k d lt. revalued_fits slot c (get_or s.table.entries k d) held kind (fits.entries k d lt));
-    ports = All-map (λ x. host_asks x.flow ≡ false → x.flow.guest < s.next_port) (revalued slot c) s.table.entries (λ k d lt. rw (revalued-flow slot c (get_or s.table.entries k d)) (fits.ports k d lt));
+    ports = All-map (λ x. host_asks x.flow ≡ false → x.flow.guest < s.next_port) (revalued slot c) s.table.entries
+        (λ k d lt. rw (revalued-flow slot c (get_or s.table.entries k d)) (fits.ports k d lt));
     owed = fits.owed;
     clean_fit = fits.clean_fit;
     clean_sound = clean_value s.next_port s.table s.clean slot c fits.clean_sound;

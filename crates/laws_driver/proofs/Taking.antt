@@ -14,7 +14,8 @@ use Rattle.laws_tables.specs.{Ends.{Ends, FlowEnd, answer_kind, ends_of}, Steps.
 use Rattle.laws_tables.{specs.{Both.{after_taking, answered, after_packet as after_packet_on}, Heard.{IsInOrder, heard_of}, Matches.Matches}, proofs.Keeps.{accepts, drops}}
 use Rattle.laws_tables.proofs.{Keeps.{ignores, refuses, takes}, Fair.{got_in_order, got_is_taken, got_not_refused, heard_all}, Slots.{added_slot, found_by, no_entry}}
 use Rattle.vs_driver_parts.specs.{Receiving.{after_packet, after_verdict, is_request, may_open, on_heard, on_known, on_packet, on_unknown, with_reply}, Playing.FitsPorts}
-use Rattle.vs_driver_parts.specs.{State.{DriverConnection, DriverEntry, DriverState, slots_held}, Connections.{after_leaving, waits_no_more, with_connection, with_request, keeping}}
+use Rattle.vs_driver_parts.specs.State.{DriverConnection, DriverEntry, DriverState, slots_held}
+use Rattle.vs_driver_parts.specs.Connections.{after_leaving, waits_no_more, with_connection, with_request, keeping}
 use Rattle.vs_driver_parts.proofs.{Ids.found_under, Packets.{packet_known, packet_unknown}, Clean.{clean_entry, none_assigned}}
 use Rattle.laws_driver.{specs.Honest.{IsFitFlow, IsFitReply, IsFitState, end_in, ends_of_state}, proofs.Tabling.{Stands, connection_ends, connection_fits, entry_fits, has_end}}
 use Rattle.laws_driver.proofs.{Tabling.{opening_fits, replies_fit, leaves_kept}, Fits.{IsHeldBy, packet_fits}}

@@ -71,7 +71,8 @@ IsFitState hosts s = IsFit hosts s.cid s.next_port s.next_id s.table s.replies s
 
 -- The driver and its log, where the guest has asked the host alone so far, or maybe other guests too, and this was its CID at first: no page is
 -- left unpublished, each connection is the one that the log left, the log is fair, and each reset of the transport that the driver was told of
--- has its Mark. No packet of a connection was refused, where all connections are with the host; another guest may be no honest one.
+-- has its Mark. Where it has asked the host alone, no packet of a connection was refused. One of another guest's may be: an earlier one is
+-- dropped where it's for a CID that the guest hasn't.
 pub record AgreesWith (hosts : Bool) (first : ℕ) (s : DriverState) (l : EndLog) : Type 0 where
   pub fits : IsFitState hosts s
   pub published : l.staged.tx ≡ []

@@ -13,29 +13,41 @@ use Rattle.vs_ring_shared.specs.{Meetings.after_hearing, Sights.{Sight, driver_c
 use Rattle.atomic_table.specs.Seated.{TableId}
 use Rattle.laws_driver.specs.Honest.{IsFresh}
 use Rattle.vs_apps_parts.specs.{Scripts.{AreRight, RunScript, script_of}, declared.progress.{AppState.AppState, Stepped.Stepped}}
-use Rattle.laws_apps.{specs.Runs.{IsRunOf, PollsTo, Steps, no_app}, proofs.{Beginning.begins_run, Keeping.{polls_keep, steps_keep}, Ports.{new_ports, polls_give, steps_give}}}
+use Rattle.laws_apps.specs.{Ports.{GivesPorts, GivesPortsWith}, Runs.{IsRunOf, PollsTo, Steps, no_app}}
+use Rattle.laws_apps.proofs.{Beginning.begins_run, Keeping.{polls_keep, steps_keep}, Ports.{new_ports, polls_give, steps_give}}
 use Rattle.vs_apps.specs.Guests.{AreGuests, GuestsState, run_in}
 
 abbrev OwnRing : GuestsState → Type 0
 OwnRing g = IsRingOf g.end.size (flight_of g.end) (staged_of g.end) g.driver
 
 module _ (first : ℕ) (script : RunScript) (g : GuestsState) (are : AreGuests first script g) where
+  before : GivesPortsWith first g.entries g.driver (driver_contents g.end)
+  before on l is = record { are = are.ports; next = are.next }
+
   pub guests_step : (k : ℕ) (s : Stepped) (moved : Bool) (h : GuestsState) → k < length script → OwnRing h
       → Steps script k s moved (run_in g) (run_in h) → AreGuests first script h
   guests_step k s moved h less ring steps = record {
     right = are.right;
     ring = ring;
     run = steps_keep FIRST_CID script (run_in g) are.run k less s moved (run_in h) steps;
-    ports = steps_give first FIRST_CID script k less s moved (run_in g) (run_in h) are.run steps (λ on l is. are.ports) refl (driver_log h.end) refl;
+    ports = given.are;
+    next = given.next;
   }
+    where
+      given : GivesPorts first h.entries h.driver
+      given = steps_give first FIRST_CID script k less s moved (run_in g) (run_in h) are.run steps before refl (driver_log h.end) refl
 
   pub guests_poll : (polled : Polled) (h : GuestsState) → OwnRing h → PollsTo polled (run_in g) (run_in h) → AreGuests first script h
   guests_poll polled h ring polls = record {
     right = are.right;
     ring = ring;
     run = polls_keep FIRST_CID script (run_in g) are.run polled (run_in h) polls;
-    ports = polls_give first FIRST_CID script (run_in g) (run_in h) are.run polled polls (λ on l is. are.ports) refl (driver_log h.end) refl;
+    ports = given.are;
+    next = given.next;
   }
+    where
+      given : GivesPorts first h.entries h.driver
+      given = polls_give first FIRST_CID script (run_in g) (run_in h) are.run polled polls before refl (driver_log h.end) refl
 
   -- What an end is told of the other changes nothing that it did.
   pub guests_hear : (past : Past) → AreGuests first script (record g { end = after_hearing past g.end })
@@ -58,7 +70,8 @@ module _ (first : ℕ) (script : RunScript) (g : GuestsState) (are : AreGuests f
           follows = run.follows;
           waits = run.waits;
         };
-        ports = record { are = are.ports.are; next = are.ports.next };
+        ports = are.ports;
+        next = are.next;
       }
 
 -- As many apps as the script has.
@@ -116,5 +129,9 @@ new_guests script size port n d e driver apps state right own cid fresh plays ri
   run = subst (λ (first : ℕ). IsRunOf first script (run_in (record { driver = driver; end = e; apps = apps; entries = []; bytes = [] }))) cid
       (begins_run size port (driver_contents d) (driver_contents e) driver script apps own fresh plays
       (ap (λ (xs : List AppState). length xs) are ∙ length-replicate n state ∙ many) (λ k. all_begun n k apps state are is));
-  ports = new_ports size port (driver_contents d) (driver_contents e) driver own fresh plays refl (driver_log e) refl;
+  ports = given.are;
+  next = given.next;
 }
+  where
+    given : GivesPorts port [] driver
+    given = new_ports size port (driver_contents d) (driver_contents e) driver own fresh plays refl (driver_log e) refl

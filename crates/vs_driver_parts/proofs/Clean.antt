@@ -2,8 +2,8 @@
 use Rattle.std.proofs.Common.{◌≡◌, ◌+◌, ◌-◌, ◌<◌, ◌≤◌, ◌==◌, ◌&&◌, ◌||◌, not, nat_le, nat_lt, ◌⊎◌, inl, inr, ℕ, zero, suc, drop, length, Bool, true, false, cond, List, [], ◌∷◌}
 use Rattle.std.{proofs.{Common.{◌++◌, get_or, Option, Some, None, is_some, refl, sym, ap, ◌∙◌, subst, arith}, lemmas.Bool.Decides.nat_tests}, specs.List.{All}}
 use Rattle.std.specs.Option.{option_and_then, option_map_or, option_map, option_or}
-use Rattle.vs_flow.specs.{CleanPairs.{goes_to, kept, kept_if, of_host, oldest}, Flow.{host_asks, is_assigned, is_host, same_flow}, declared.flow.Flow.Flow, Table.{Table, IsTable, entry_of}}
-use Rattle.vs_flow.{specs.Table.{entry_under, revalued, with_entry, with_value, without, next_entry}, proofs.Entries.{find_none, found_passes, same_flow_false}}
+use Rattle.vs_flow.specs.{CleanPairs.{goes_to, kept, kept_if, of_host, oldest}, Flow.{host_asks, is_assigned, is_host, same_flow}, declared.flow.Flow.Flow}
+use Rattle.vs_flow.{specs.Table.{Table, IsTable, entry_of, entry_under, revalued, with_entry, with_value, without, next_entry}, proofs.Entries.{find_none, found_passes, same_flow_false}}
 use Rattle.vs_flow.proofs.Lookups.{entry_of-with_entry, entry_of-with_value, entry_of-without, entry_under_found}
 use Rattle.vs_limits.specs.declared.TheConstants.{CLEAN_PAIRS, DRIVER_CONNECTIONS, HOST_CID, LAST_ID, LAST_PORT}
 use Rattle.vs_page.proofs.Flows.{same_is, same_self}

@@ -1,6 +1,6 @@
 -- What the driver's calls do to its connections, apart from the ring.
-use Rattle.std.specs.Prelude.{◌≡◌, ℕ, ◌+◌, ◌==◌, ◌&&◌, ◌||◌, not, min, nat_lt, nat_le, Bool, true, false, if◌then◌else◌, List, [], ◌∷◌, ◌++◌, length, map, filter, take, drop, Option}
-use Rattle.std.specs.{Prelude.{Some, All, None, is_some}, Option.{option_map, option_map_or}}
+use Rattle.std.specs.Prelude.{◌≡◌, ℕ, ◌+◌, ◌==◌, ◌&&◌, ◌||◌, not, min, nat_lt, nat_le, Bool, true, false, if◌then◌else◌, List, [], ◌∷◌, ◌++◌, length, map, filter, take, drop}
+use Rattle.std.specs.{Prelude.{Option, Some, All, None, is_some}, Option.{option_map, option_map_or}}
 use Rattle.vs_flow.specs.{Flow.is_assigned, Table.{Table, with_entry, with_value, without}, declared.flow.Flow.Flow, CleanPairs.{goes_to, kept_if, oldest}}
 use Rattle.vs_header.specs.declared.{Header.Header, Kind.TheVariants.Stream}
 use Rattle.vs_limits.specs.declared.TheConstants.{BUF_ALLOC, BUF_ALLOC_MAX, LAST_PORT, LAST_ID, DRIVER_CONNECTIONS, GUEST_CID_MAX, HOST_CID}

@@ -1,4 +1,4 @@
-use Rattle.std.proofs.Common.{◌≡◌, false, subst}
+use Rattle.std.proofs.Common.{◌≡◌, false, refl, subst}
 use Rattle.vs_conn.specs.End.{is_refused, verdict_of}
 use Rattle.vs_limits.specs.declared.TheConstants.{ASSIGNED_FIRST}
 use Rattle.laws_tables.{specs.{Both.Both, Steps.HasEnd}, proofs.{Both.{device_has_room, driver_accepts}, Voices.device_takes}}
@@ -12,7 +12,7 @@ returns-clause-driver c = λ how host es p e next has.
     let w = run es (opening how host) in
     let well = run_well how host es in
     driver_accepts first_cid p e (both_of w) well.sound next has
-    (host_of end_in w.driver.table (flow_got Driver p) e (λ i d within. (well.driver.entries i d within).peer) has)
+    (host_of end_in w.driver.table (flow_got Driver p) e (λ i d within. (well.driver.entries i d within).peer refl) has)
 
 pub returns-clause-device : goal.returns-clause-device
 returns-clause-device c = λ how host es p e. let r = and_then _ _ _ (stays _ _ (opening_is how host)) (reached how host es).runs in
