@@ -1,11 +1,10 @@
 -- What an entry more, a wait more and bytes more do to what a journal tells.
-use Rattle.std.proofs.Common.{◌≡◌, ℕ, zero, suc, ◌+◌, ◌<◌, ◌≤◌, ◌==◌, Bool, true, false, cond, List, [], ◌∷◌, ◌++◌, length, take, drop, Option, Some, None, refl, sym, ap, ◌∙◌}
-use Rattle.std.{proofs.{Common.{append_assoc, append-nil, slice_set, subst, arith}, lemmas.List.{take-append-le, drop-append-le, length-drop}}, specs.Prelude.slice_get}
-use Rattle.std.specs.Option.{unwrap_or}
+use Rattle.std.proofs.Common.{◌≡◌, ℕ, zero, suc, ◌<◌, ◌≤◌, ◌==◌, Bool, true, false, cond, List, [], ◌∷◌, ◌++◌, length, Option, Some, None, refl, sym, ap, ◌∙◌}
+use Rattle.std.{proofs.{Common.{append_assoc, append-nil, slice_set, subst}}, specs.Prelude.slice_get}
 use Rattle.vs_driver_parts.specs.Connections.{got_count}
 use Rattle.laws_driver.specs.Carried.Calls.{Journal, Made}
 use Rattle.vs_apps_parts.specs.Journals.{AllStandIn, StandsIn, calls_of, calls_of_app, ends_at, entry_called, entry_waited, gathered, made_as, made_by, made_by_app, made_of}
-use Rattle.vs_apps_parts.specs.{Journals.{one_more, times_at, times_in, wait_noted, waited_before}, Scripts.{RunScript, slice_of}, declared.journal.{Called.Called, Deed.Deed}}
+use Rattle.vs_apps_parts.specs.{Journals.{one_more, times_in, wait_noted}, Scripts.{RunScript}, declared.journal.{Called.Called, Deed.Deed}}
 use Rattle.vs_apps_parts.{specs.declared.journal.{Entry.Entry, WaitsFor.WaitsFor}, proofs.Entries.{slice_stays, stand_set, stand_snoc, wait_as}}
 use Rattle.vs_flow.specs.Connection.{Connection}
 use Rattle.laws_apps.{specs.{Accounts.TellFlows, Placed.{AreOwned, IsOwned, NamesFlow}}, proofs.Opening.{flows_set, flows_snoc}}

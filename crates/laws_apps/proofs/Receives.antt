@@ -1,6 +1,6 @@
 -- A receive, made and noted.
-use Rattle.std.proofs.Common.{◌≡◌, ℕ, ◌≤◌, arith, Bool, true, false, cond, List, [], ◌∷◌, ◌++◌, ◌+◌, length, length-append, subst, take, Option, Some, None, refl, sym, ap, ◌∙◌}
-use Rattle.std.proofs.{Common.append-nil, Math.Seq.{drop-append_seam, take-length}}
+use Rattle.std.proofs.Common.{◌≡◌, ℕ, ◌≤◌, arith, Bool, true, false, cond, List, [], ◌∷◌, ◌++◌, ◌+◌, length, length-append, subst, Option, Some, None, refl, sym, ap, ◌∙◌}
+use Rattle.std.proofs.{Common.append-nil}
 use Rattle.vs_ring_port.specs.Contents.{RingContents}
 use Rattle.vs_driver_parts.specs.{Playing.Plays, State.{DriverState, DriverEntry, GoneConnection, entry_known_as, gone_known_as}, Connections.{entry_answer, gone_answer}}
 use Rattle.vs_driver_parts.specs.{Connections.{is_at_end, nothing_read, read_of, recv_of, got_count}, Conversations.DriverTree, declared.answers.Received.Received}
