@@ -149,8 +149,8 @@ fn make_calls<R: DriverRing>(
         Instruction::Connect { port } => Heard::one(ask(
             driver, ring, journal, app, progress, *port,
         )),
-        Instruction::Listen { port } => { Heard::one(listen(driver, journal, app, *port)) }
-        Instruction::Accept { port } => { Heard::one(accept(driver, journal, app, *port)) }
+        Instruction::Listen { port } => Heard::one(listen(driver, journal, app, *port)),
+        Instruction::Accept { port } => Heard::one(accept(driver, journal, app, *port)),
         Instruction::Send { content } => Heard::one(send_next(
             driver, ring, journal, app, progress, content,
         )),
@@ -163,8 +163,8 @@ fn make_calls<R: DriverRing>(
             let second = recv_left(driver, journal, app, progress, content.len());
             Heard { first, second }
         }
-        Instruction::Shutdown { bits } => { Heard::one(shutdown(driver, journal, app, id, *bits)) }
-        Instruction::Grow { alloc } => { Heard::one(grow(driver, journal, app, id, *alloc)) }
+        Instruction::Shutdown { bits } => Heard::one(shutdown(driver, journal, app, id, *bits)),
+        Instruction::Grow { alloc } => Heard::one(grow(driver, journal, app, id, *alloc)),
         Instruction::Close => Heard::one(close(driver, journal, app, id)),
     }
 }
