@@ -1,6 +1,6 @@
 -- What is printed by an excerpt of bytes.
-use Rattle.std.proofs.Common.{◌≡◌, ◌≤◌, ◌-◌, ◌++◌, ◌==◌, ℕ, nat_le, Bool, true, false, cond, List, [], ◌∷◌, codes, decimal, min, length, take, drop, refl, sym, ap, ◌∙◌, arith}
-use Rattle.std.{proofs.lemmas.{Bool.Decides.nat_tests, List.take_all}, specs.Prelude.replicate}
+use Rattle.std.proofs.Common.{◌≡◌, ◌≤◌, ◌-◌, ◌++◌, ◌==◌, ℕ, nat_le, Bool, true, false, cond, List, [], ◌∷◌, codes, decimal, length, take, drop, refl, ap, ◌∙◌, arith}
+use Rattle.std.proofs.lemmas.{Bool.Decides.nat_tests, List.take_all}
 use Rattle.hex.specs.Hex.{encode_lower}
 use Rattle.vs_excerpt.{specs.{Excerpt.{back_of, excerpt_of, front_of}, declared.TheConstants.{AT_EACH_END, MAX_IN_FULL}}, proofs.Keeping.{shown_back, shown_front}}
 use Rattle.vs_report.specs.Bytes.{counted_text, data_text, excerpt_text, shown_text}
