@@ -6,7 +6,7 @@ ghost use Rattle.vs_run_report.specs.Connections.{listed, opened_all, opened_of}
 ghost use Rattle.vs_load_parts.specs.Line.{CameBack, counted_of, counts, load_line, tally_of};
 
 use std::alloc::{AllocError, Global};
-use vs_apps_parts::journal::Journal;
+use vs_apps_parts::journal::{Entry, Journal};
 use vs_run_report::connection::{Opened, opened_by};
 use vs_run_report::load::push_load;
 use vs_run_report::sums::sent_on;
@@ -41,16 +41,28 @@ fn add_opened(tally: Tally, opened: Option<Opened>, script: &[App], journal: &Jo
     }
 }
 
-// The tally with the connections of the app at a place.
-fn add_app(before: Tally, app: usize, script: &[App], journal: &Journal) -> Tally
-    ensures { result ≡ fold (counts (calls_of (script_of script.now) journal.now.bytes journal.now.entries)) before (opened_of app journal.now.entries) }
+// The tally with the connections that these entries of the app at a place opened.
+fn add_all_opened(
+    before: Tally,
+    app: usize,
+    script: &[App],
+    entries: &[Entry],
+    journal: &Journal,
+) -> Tally
+    ensures { result ≡ fold (counts (calls_of (script_of script.now) journal.now.bytes journal.now.entries)) before (opened_of app entries.now) }
 {
-    let entries = journal.entries();
     let mut tally = before;
     for entry in entries {
         tally = add_opened(tally, opened_by(app, *entry), script, journal);
     }
     tally
+}
+
+// The tally with the connections of the app at a place.
+fn add_app(before: Tally, app: usize, script: &[App], journal: &Journal) -> Tally
+    ensures { result ≡ fold (counts (calls_of (script_of script.now) journal.now.bytes journal.now.entries)) before (opened_of app journal.now.entries) }
+{
+    add_all_opened(before, app, script, journal.entries(), journal)
 }
 
 // What all connections of a run's apps come to, by the journal.

@@ -134,6 +134,23 @@ fn push_opened_by(
     }
 }
 
+// The lines of the connections that these entries of the app at a place opened.
+fn push_all_opened(
+    out: &mut String,
+    app: usize,
+    script: &[App],
+    entries: &[Entry],
+    journal: &Journal,
+) -> Result<(), AllocError>
+    ensures { OnOk result (string_bytes out.new ≡ string_bytes out.old
+        ++ joined (map (opened_text (calls_of (script_of script.now) journal.now.bytes journal.now.entries)) (opened_of app entries.now))) }
+{
+    for entry in entries {
+        push_opened_by(out, opened_by(app, *entry), script, journal)?;
+    }
+    Ok(())
+}
+
 /// The lines of the connections of the app at a place, in the order in which it opened them.
 pub fn push_connections_of(
     out: &mut String,
@@ -144,9 +161,5 @@ pub fn push_connections_of(
     ensures { OnOk result (string_bytes out.new ≡ string_bytes out.old
         ++ joined (map (opened_text (calls_of (script_of script.now) journal.now.bytes journal.now.entries)) (opened_of app journal.now.entries))) }
 {
-    let entries = journal.entries();
-    for entry in entries {
-        push_opened_by(out, opened_by(app, *entry), script, journal)?;
-    }
-    Ok(())
+    push_all_opened(out, app, script, journal.entries(), journal)
 }
