@@ -11,7 +11,7 @@ use Rattle.vs_echo.specs.Echo.{IsEcho}
 use Rattle.laws_settled.specs.Begun.{IsUnlabelled, Start, start_with}
 use Rattle.vs_apps_parts.specs.{Journals.calls_of, Scripts.RunScript, declared.journal.Entry.Entry}
 use Rattle.vs_apps.specs.Guests.{GuestsState}
-use Rattle.vs_run_report.specs.{Connections.opened_all, Right.IsRightConnection, declared.connection.Opened.Opened}
+use Rattle.vs_run_report.specs.{Connections.opened_all, Right.IsRightConnection}
 use Rattle.vs_run_apps.specs.{Runs.HasRun, Sides.SideState}
 use Rattle.vs_load_parts.specs.Line.{CameBack}
 use Rattle.vs_load.specs.Loads.{AllCameBack}
@@ -76,7 +76,7 @@ came_back : (script : RunScript) (g : GuestsState) (opened : ℕ → Connection)
 came_back script g opened log h echo right =
     let journal = calls_of script g.bytes g.entries in
     All-weaker (IsRightConnection opened log journal h) (CameBack journal)
-    (λ (o : Opened) is. front_of_front _ (host_wrote (opened o.id) h) _ is.to_guest
+    (λ o is. front_of_front _ (host_wrote (opened o.id) h) _ is.to_guest
     (front_of_front (host_wrote (opened o.id) h) (host_read (opened o.id) h) _ (back_on h echo (opened o.id)) is.to_host))
     (opened_all (length script) g.entries) right
 
