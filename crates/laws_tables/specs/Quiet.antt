@@ -6,8 +6,7 @@ use Rattle.vs_page.specs.{Fair.number_of, Log.Role, Log.other_role, Log.whole_of
 use Rattle.laws_tables.specs.{Both.Both, Both.at, Ends.ends_of, Ends.is_among, Ends.replied}
 
 -- Each end got all that the other put on the flow, so that both count as many connections, and the other has no connection on it and owes
--- it
--- no reply.
+-- it no reply.
 pub record IsQuietOn (role : Role) (f : Flow) (b : Both) : Type 0 where
   pub came : puts (whole_of (other_role role) f (at (other_role role) b).log) ≡ gots (whole_of role f (at role b).log)
   pub went : puts (whole_of role f (at role b).log) ≡ gots (whole_of (other_role role) f (at (other_role role) b).log)
