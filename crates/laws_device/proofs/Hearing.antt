@@ -3,7 +3,7 @@ use Rattle.laws_device.proofs.Carried.Changing.{keeps_streams, accepts_streams, 
 use Rattle.laws_device.proofs.Carried.{Changing.{hears_streams, leaves_streams, passes_streams, payload_in, reset_empty, unknown_streams}, Counted.request_empty, Streamed.join_of}
 use Rattle.laws_device.proofs.{Carried.Opens.dial_host, Ringing.{Tells, moves, tells_weaker, host_moves, Telling, bytes_held}, Taking.{drops_it, has_its_room, ignores_it}}
 use Rattle.laws_device.proofs.{Taking.{leaves_with, opens, replies_to, stays_with}, Tabling.{IsFitConnection, begun_fits, entry_fits, has_end}, Carrying.{Fact, Closes}}
-use Rattle.laws_device.proofs.{Carrying.{StreamedOver, streams_call, streams_go}, Chains.Behind, Seats.{AgreesBy, Carried, LeftBy, seat}, Fits.{delivered, fewer, fits_after}}
+use Rattle.laws_device.proofs.{Carrying.{StreamedOver, streams_call, streams_go}, Chains.Behind, Seats.{AgreesBy, Carried, LeftBy, seat}, Fits.{fewer, fits_after}}
 use Rattle.laws_device.{proofs.{Keeping.{Keeps, asking, Lets, keeps_bind}, Steps.closing_keeps, Walk.Keeping.{keeps_if, keeps_some}}, specs.Carried.Streamed.{Ports, ports_of}}
 use Rattle.laws_device.specs.{Carried.Streamed.{IsStreamed, count_in, gives, look}, Honest.{HoldsBytes, ends_of_state}}
 use Rattle.vs_device_parts.specs.{Transmitting.{keeps_flow, dial_answered, heard, on_known, on_packet, on_unknown, refused, unknown_why}, Connections.keeping}
@@ -22,7 +22,7 @@ use Rattle.vs_page.specs.{Fair.IsFairLog, Held.{FitsWire, IsWhole, packet_held},
 use Rattle.vs_page.specs.declared.log.LogEntry.TheVariants.{GotPacket}
 use Rattle.vs_replies.specs.Owed.{reply_to}
 use Rattle.vs_ring_port.specs.{Chains.bytes_in, EndLog.EndLog, declared.device_ring.Chain.Chain}
-use Rattle.laws_tables.{specs.{Ends.is_new, Steps.{is_overrun, HasEnd}, Heard.heard_of}, proofs.{Slots.found_by, Fair.{got_goes_on, got_one}, OnFlow.follows_old}}
+use Rattle.laws_tables.{specs.{Drains.delivered, Ends.is_new, Steps.{is_overrun, HasEnd}, Heard.heard_of}, proofs.{Slots.found_by, Fair.{got_goes_on, got_one}, OnFlow.follows_old}}
 use Rattle.vs_wrap.specs.Wrap.{counted}
 use Rattle.vs_proxy_parts.specs.State.{Handshake}
 use Rattle.vs_uds.specs.OkLine.{ok_text}

@@ -2,7 +2,6 @@ pub mod Keeping
 pub mod Seats
 pub mod Shown
 pub mod Fits
-pub mod Bytes
 pub mod Clean
 pub mod Tabling
 pub mod Chains

@@ -11,9 +11,10 @@ use Rattle.vs_page.proofs.Packets.{held_payload}
 use Rattle.vs_replies.specs.declared.Reply.{Reply}
 use Rattle.laws_tables.{specs.{Steps.{owed_on, paid, payload_on, with_end}, Ends.{Ends, is_new}, Matches.Matches, Both.{Pays, Replies, Seat, Sends}}, proofs.Keeps.{owed_old, pays}}
 use Rattle.laws_tables.proofs.{Keeps.{pays_fair, replies, replies_fair, sends, sends_fair}, OwedFlags.owed_flags_fit}
-use Rattle.laws_device.proofs.{Tabling.{begun_fits, connection_ends, connection_fits, entry_fits, has_end, left_ends, left_fits}, Seats.{Carried, at_log, seat}, Bytes.header_fits}
-use Rattle.laws_device.{proofs.{Bytes.reset_fits, Fits.{fits_paid, fits_sent}}, specs.Honest.{HoldsBytes, IsFit, IsFitEntry, IsFitReply, IsFitState, ends_of_state, ends_with}}
+use Rattle.laws_device.proofs.{Tabling.{begun_fits, connection_ends, connection_fits, entry_fits, has_end, left_ends, left_fits}, Seats.{Carried, at_log, seat}}
+use Rattle.laws_device.{proofs.Fits.{fits_paid, fits_sent}, specs.Honest.{HoldsBytes, IsFit, IsFitEntry, IsFitFlow, IsFitReply, IsFitState, ends_of_state, ends_with}}
 use Rattle.vs_device_parts.specs.{State.{DeviceConnection, DeviceEntry, DeviceState}, Connections.{route_to_guest, with_connection}, Receiving.reply_header}
+use Rattle.laws_tables.proofs.Wire.{FitsRoute, header_fits, reset_fits}
 use Rattle.vs_conn.specs.declared.end.Owed.TheVariants as owed
 use Rattle.vs_header.specs.declared.Op.TheVariants as op
 
@@ -33,6 +34,9 @@ pub record PutsTo (carry : Carried) (port : ℕ) (h : Header) (payload : List �
 abbrev pub Puts : Carried → ℕ → DeviceState → Header → List ℕ → DeviceState → Type 0
 Puts carry port s h payload t = PutsTo carry port h payload s.cid s.overrun s.table s.replies s.clean t.cid t.overrun t.table t.replies t.clean
 
+route_fits : (cid : ℕ) (f : Flow) → cid < 2 ^ 64 → IsFitFlow f → FitsRoute (route_to_guest cid f)
+route_fits cid f fits ports = record { src_cid = ports.peer; dst_cid = fits; src_port = ports.host; dst_port = ports.guest }
+
 held_empty : (h : Header) → FitsWire h → h.len ≡ 0 → packet_held (header_bytes h ++ []) ≡
     (let p : Packet = record { header = h; payload = [] } in Some p)
 held_empty h wire none = ap packet_held (append-nil (header_bytes h)) ∙ held_alone h wire none
@@ -43,7 +47,7 @@ module _ (carry : Carried) (port : ℕ) (s : DeviceState) (fits : IsFitState s) 
       → Puts carry port s (reply_header reply s) [] (record s { replies = rest })
   reply_puts reply rest is =
       let owed : All IsFitReply (reply ∷ rest) = subst (λ (rs : List Reply). All IsFitReply rs) is fits.owed in
-      let wire = reset_fits s.cid reply.flow reply.kind fits.cid_fits (owed 0 reply (omega arith)) in
+      let wire = reset_fits _ (route_fits s.cid reply.flow fits.cid_fits (owed 0 reply (omega arith))) reply.kind in
       record {
         held = held_empty (reply_header reply s) wire refl;
         fits = record {
@@ -72,7 +76,7 @@ module _ (carry : Carried) (port : ℕ) (s : DeviceState) (fits : IsFitState s) 
         let end : ConnectionEnd = e.value.end in
         let now : DeviceConnection = record e.value { end = with_payload_sent end (length payload) } in
         let h : Header = payload_header end (route_to_guest s.cid e.flow) (length payload) in
-        let wire : FitsWire h = header_fits s.cid e.flow end op.Rw 0 (length payload) fits.cid_fits entry.ports
+        let wire : FitsWire h = header_fits _ (route_fits s.cid e.flow fits.cid_fits entry.ports) end op.Rw 0 (length payload)
         (omega (arith, entry.bytes.alloc))
         entry.bytes.fwd (omega arith) small in
         let fits_message : (log : Log) → FitsMessage end (puts (history_of Device e.flow log)) (length payload) =
@@ -100,7 +104,7 @@ module _ (carry : Carried) (port : ℕ) (s : DeviceState) (fits : IsFitState s) 
       header = owed_header e.value.end (route_to_guest s.cid e.flow) what
 
       wire : FitsWire (owed_header e.value.end (route_to_guest s.cid e.flow) what)
-      wire = header_fits s.cid e.flow e.value.end (owed_op what) (owed_flags e.value.end what) 0 fits.cid_fits entry.ports
+      wire = header_fits _ (route_fits s.cid e.flow fits.cid_fits entry.ports) e.value.end (owed_op what) (owed_flags e.value.end what) 0
           (omega (arith, entry.bytes.alloc))
           entry.bytes.fwd (owed_flags_fit e.value.end what owes) (omega arith)
 

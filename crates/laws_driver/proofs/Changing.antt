@@ -6,13 +6,13 @@ use Rattle.vs_credit.specs.Credit.{unread_of}
 use Rattle.laws_history.specs.History.{Side, gots, puts, History}
 use Rattle.vs_page.specs.Log.{Driver, Log, side_of}
 use Rattle.laws_tables.specs.{Both.{Aborts, Decides, Decision, Forwards, Grows, MayDecide, Shuts, WantsCredit, decided}, Ends.Ends, Heard.heard_of, Matches.Matches, Steps.with_end}
-use Rattle.laws_tables.proofs.{Keeps.changes, Slots.found_by, Tables.driver_begun}
+use Rattle.laws_tables.proofs.{Going.{Goes, goes_then, one_step, stays}, Keeps.changes, Slots.found_by, Tables.driver_begun}
 use Rattle.vs_driver_parts.specs.{State.{DriverConnection, DriverEntry, DriverState, GoneConnection, entry_known_as, gone_known_as, is_known_as}, Connections.after_close}
 use Rattle.vs_driver_parts.specs.Connections.{after_closing, after_grow, after_read, after_recv, after_shut, after_shutdown, entry_grow_answer, grown_by, after_unlisten}
 use Rattle.vs_driver_parts.specs.Connections.{all_closed, all_gone_after_read, entry_closed, entry_read, gone_closed, shut_in, waiting_on, with_connection, without_gone}
 use Rattle.vs_driver_parts.{specs.{declared.answers.Grown.Grown, Listening.{after_accept, listening, next_accepted, with_waiting, without_id}}, proofs.Growing.{MayGrow, may_grow}}
 use Rattle.vs_driver_parts.proofs.Ids.{found_under}
-use Rattle.laws_driver.{specs.Honest.{IsFitState, ends_of_state}, proofs.{Going.{Goes, at_log, goes_then, one_step, seat, stays}, Tabling.{Stands, connection_ends}}}
+use Rattle.laws_driver.{specs.Honest.{IsFitState, ends_of_state}, proofs.{Going.{at_log, seat}, Tabling.{Stands, connection_ends}}}
 use Rattle.laws_driver.proofs.{Tabling.{connection_fits, entry_fits, has_end}, Fits.{IsHeldBy, closing_fits, grow_fits, holds_same, read_fits, shut_fits}}
 use Rattle.vs_conn.specs.declared.end.State.TheVariants as state
 use Rattle.vs_driver_parts.specs.Connections as connections
@@ -23,11 +23,11 @@ pub record Changes (hosts : Bool) (s t : DriverState) : Type 0 where
   pub matches : (first : ℕ) (log : Log) → Matches Driver first (ends_of_state s) log → Matches Driver first (ends_of_state t) log
   pub fits : IsFitState hosts t
   pub broken : t.broken ≡ s.broken
-  pub goes : (first : ℕ) (log : Log) → Matches Driver first (ends_of_state s) log → Goes (seat s log) (seat t log)
+  pub goes : (first : ℕ) (log : Log) → Matches Driver first (ends_of_state s) log → Goes Driver (seat s log) (seat t log)
 
 module _ {hosts : Bool} where
   pub same : (s : DriverState) → IsFitState hosts s → Changes hosts s s
-  same s fits = record { matches = λ first log m. m; fits = fits; broken = refl; goes = λ first log m. stays (seat s log) (seat s log) refl }
+  same s fits = record { matches = λ first log m. m; fits = fits; broken = refl; goes = λ first log m. stays Driver (seat s log) (seat s log) refl }
 
   pub stands_known : (id : ℕ) (s : DriverState) (e : DriverEntry) → IsFitState hosts s → entry_known_as id s ≡ Some e → Stands s e
   stands_known id s e fits found =
@@ -53,7 +53,7 @@ module _ {hosts : Bool} where
     broken = refl;
     goes = λ first log m.
         let has = has_end s e fits stands in
-        one_step (seat s log) (seat (with_connection e.slot c s) log) (Decides e.flow e.value.end what)
+        one_step Driver (seat s log) (seat (with_connection e.slot c s) log) (Decides e.flow e.value.end what)
         (has, driver_begun first (ends_of_state s) log e.flow e.value.end m.flows has, may)
         (at_log log _ _ (ap (λ (x : ConnectionEnd). with_end e.flow x (ends_of_state s)) (sym is) ∙ sym (connection_ends s e c fits stands)));
   }
@@ -85,7 +85,7 @@ module _ {hosts : Bool} where
     where
       by : (o : Option DriverEntry) → entry_known_as id s ≡ o
           → Changes hosts s (elim o [ Some e ↦ entry_read n e s | None ↦ record s { gone = all_gone_after_read id n s.gone } ])
-      by None none = record { matches = λ first log m. m; fits = fits; broken = refl; goes = λ first log m. stays _ _ refl }
+      by None none = record { matches = λ first log m. m; fits = fits; broken = refl; goes = λ first log m. stays Driver _ _ refl }
       by (Some e) found = entry_read_changes n (length e.value.unread == 0) s e fits (stands_known id s e fits found)
 
   -- shutdown.
@@ -154,7 +154,7 @@ module _ {hosts : Bool} where
     | Some g ↦ record s { gone = without_gone id s.gone; listeners = with_waiting g.flow.guest (without_id id) s.listeners }
   ])
   gone_closed_by None id s fits = same s fits
-  gone_closed_by (Some g) id s fits = record { matches = λ first log m. m; fits = fits; broken = refl; goes = λ first log m. stays _ _ refl }
+  gone_closed_by (Some g) id s fits = record { matches = λ first log m. m; fits = fits; broken = refl; goes = λ first log m. stays Driver _ _ refl }
 
   pub close_changes : (id : ℕ) (s : DriverState) → IsFitState hosts s → Changes hosts s (after_close id s)
   close_changes id s fits = by (entry_known_as id s) refl
@@ -173,7 +173,7 @@ module _ {hosts : Bool} where
         matches = λ first log m. rest.matches first log (one.matches first log m);
         fits = rest.fits;
         broken = rest.broken ∙ one.broken;
-        goes = λ first log m. goes_then _ _ _ (one.goes first log m) (rest.goes first log (one.matches first log m));
+        goes = λ first log m. goes_then Driver _ _ _ (one.goes first log m) (rest.goes first log (one.matches first log m));
       }
 
   pub unlisten_changes : (port : ℕ) (s : DriverState) → IsFitState hosts s → Changes hosts s (after_unlisten port s)
@@ -183,12 +183,12 @@ module _ {hosts : Bool} where
 
   -- listen and accept.
   pub listen_changes : (port : ℕ) (s : DriverState) → IsFitState hosts s → Changes hosts s (listening port s)
-  listen_changes port s fits = record { matches = λ first log m. m; fits = fits; broken = refl; goes = λ first log m. stays _ _ refl }
+  listen_changes port s fits = record { matches = λ first log m. m; fits = fits; broken = refl; goes = λ first log m. stays Driver _ _ refl }
 
   accept_by : (o : Option ℕ) (port : ℕ) (s : DriverState) → IsFitState hosts s
       → Changes hosts s (elim o [ None ↦ s | Some id ↦ record s { listeners = with_waiting port (without_id id) s.listeners } ])
   accept_by None port s fits = same s fits
-  accept_by (Some id) port s fits = record { matches = λ first log m. m; fits = fits; broken = refl; goes = λ first log m. stays _ _ refl }
+  accept_by (Some id) port s fits = record { matches = λ first log m. m; fits = fits; broken = refl; goes = λ first log m. stays Driver _ _ refl }
 
   pub accept_changes : (port : ℕ) (s : DriverState) → IsFitState hosts s → Changes hosts s (after_accept port s)
   accept_changes port s fits = accept_by (next_accepted port s) port s fits

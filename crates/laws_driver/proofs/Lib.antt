@@ -3,7 +3,6 @@ pub mod Going
 pub mod Ringing
 pub mod Fits
 pub mod Tabling
-pub mod Bytes
 pub mod Putting
 pub mod Taking
 pub mod Resetting

@@ -12,17 +12,20 @@ use Rattle.vs_page.proofs.Packets.{held_alone, held_payload}
 use Rattle.vs_replies.specs.declared.Reply.{Reply}
 use Rattle.laws_tables.specs.{Steps.{IsNextFlow, opened, owed_on, paid, payload_on, reply_on, request_on, with_end, port_after}, Ends.{Ends, FlowEnd, without as flows_without}}
 use Rattle.laws_tables.{specs.Matches.Matches, proofs.{Keeps.{opens, opens_fair, pays, pays_fair, replies, replies_fair, sends, sends_fair}, Slots.added_slot}}
-use Rattle.laws_tables.proofs.OwedFlags.{owed_flags_fit}
+use Rattle.laws_tables.proofs.{OwedFlags.owed_flags_fit, Wire.{FitsRoute, header_fits, reset_fits}}
 use Rattle.vs_driver_parts.specs.{Connections.{connect_refusal, connected, next_flow, paid_connection, route_to_host, with_connection, free_flow}, Conversations.after_paying}
 use Rattle.vs_driver_parts.specs.{Conversations.{owed_bytes, payload_bytes, reply_header, request_bytes}, State.{DriverConnection, DriverEntry, DriverState}}
 use Rattle.vs_driver_parts.proofs.Clean.{again_is, fresh_is, given_absent, given_clean, given_from, given_to, given_within, may_connect, port_below, port_rises}
 use Rattle.laws_driver.{specs.Honest.{IsFitFlow, IsFitReply, IsFitState, end_in, ends_of_state, IsFitClean}, proofs.{Fits.{IsHeldBy, paid_fits, sent_fits}, Tabling.Stands}}
-use Rattle.laws_driver.proofs.{Tabling.{connection_ends, connection_fits, entry_fits, has_end, leaves, opening_fits, replies_fit}, Bytes.{header_fits, reset_fits}, Going.at_log}
+use Rattle.laws_driver.proofs.{Tabling.{connection_ends, connection_fits, entry_fits, has_end, leaves, opening_fits, replies_fit}, Going.at_log}
 use Rattle.laws_driver.proofs.Ringing.{Puts}
 use Rattle.vs_conn.specs.declared.end.Owed.TheVariants as owed
 use Rattle.vs_header.specs.declared.Op.TheVariants as op
 use Rattle.vs_driver_parts.specs.Connections as connections
 use Rattle.laws_tables.specs.Both as seats
+
+route_fits : (cid : ℕ) (f : Flow) → cid < 2 ^ 64 → IsFitFlow f → FitsRoute (route_to_host cid f)
+route_fits cid f fits ports = record { src_cid = fits; dst_cid = ports.peer; src_port = ports.guest; dst_port = ports.host }
 
 -- The packet that a connection owes is put.
 pub record Pays (hosts : Bool) (what : Owed) (e : DriverEntry) (s t : DriverState) : Type 0 where
@@ -52,7 +55,7 @@ module _ {hosts : Bool} where
       let end : ConnectionEnd = e.value.end in
       let h : Header = owed_header end (route_to_host s.cid e.flow) what in
       let wire : FitsWire h =
-      header_fits s.cid e.flow end (owed_op what) (owed_flags end what) 0 fits.cid_fits entry.ports entry.buffer.alloc entry.buffer.fwd_cnt
+      header_fits (route_to_host s.cid e.flow) (route_fits s.cid e.flow fits.cid_fits entry.ports) end (owed_op what) (owed_flags end what) 0 entry.buffer.alloc entry.buffer.fwd_cnt
       (owed_flags_fit end what owes) (omega arith) in
       let step = pays_state what e s fits stands entry.buffer in
       let has = has_end s e fits stands in
@@ -76,7 +79,7 @@ module _ {hosts : Bool} where
       → Puts hosts (reply_on Driver s.cid reply) s (header_bytes (reply_header s.cid reply)) (record s { replies = rest })
   reply_puts reply rest s fits is =
       let owed : All IsFitReply (reply ∷ rest) = subst (λ (rs : List Reply). All IsFitReply rs) is fits.owed in
-      let wire = reset_fits s.cid reply.kind reply.flow fits.cid_fits (All-head IsFitReply reply rest owed) in
+      let wire = reset_fits _ (route_fits s.cid reply.flow fits.cid_fits (All-head IsFitReply reply rest owed)) reply.kind in
       record {
         held = held_alone (reply_header s.cid reply) wire refl;
         bytes = sym (append-nil (header_bytes (reply_header s.cid reply)));
@@ -100,7 +103,7 @@ module _ {hosts : Bool} where
       let now : DriverConnection = record e.value { end = with_payload_sent end (length payload) } in
       let h : Header = payload_header end (route_to_host s.cid e.flow) (length payload) in
       let small : length payload < 2 ^ 32 = omega (arith, few) in
-      let wire : FitsWire h = header_fits s.cid e.flow end op.Rw 0 (length payload) fits.cid_fits entry.ports entry.buffer.alloc entry.buffer.fwd_cnt (omega arith) small in
+      let wire : FitsWire h = header_fits _ (route_fits s.cid e.flow fits.cid_fits entry.ports) end op.Rw 0 (length payload) entry.buffer.alloc entry.buffer.fwd_cnt (omega arith) small in
       let has = has_end s e fits stands in
       let fits_message : (log : Log) → FitsMessage end (puts (history_of Driver e.flow log)) (length payload) =
       λ log. stream_fits end (puts (history_of Driver e.flow log)) (length payload) entry.kind in
@@ -159,7 +162,7 @@ module _ {hosts : Bool} where
       let given : free_flow f.peer f.host s.next_port s.clean ≡ Some f =
       ap (λ (n : ℕ). free_flow n f.host s.next_port s.clean) goes.peer_is ∙ ap (λ (n : ℕ). free_flow peer n s.next_port s.clean) goes.port_is ∙ may.flow in
       let h : Header = owed_header (asked Stream BUF_ALLOC) (route_to_host s.cid f) owed.Request in
-      let wire : FitsWire h = header_fits s.cid f (asked Stream BUF_ALLOC) op.Request 0 0 fits.cid_fits ports (omega arith) (omega arith) (omega arith) (omega arith) in
+      let wire : FitsWire h = header_fits _ (route_fits s.cid f fits.cid_fits ports) (asked Stream BUF_ALLOC) op.Request 0 0 (omega arith) (omega arith) (omega arith) (omega arith) in
       let next : IsNextFlow Driver f (ends_of_state s) =
       record { asker = ap (λ (b : Bool). side_by Driver b) may.own; port = given_from peer to s.next_port s.clean f may.flow } in
       let c : DriverConnection = record { id = s.next_id; end = paid_of (asked Stream BUF_ALLOC) owed.Request; unread = []; unanswered = false; closed = false } in

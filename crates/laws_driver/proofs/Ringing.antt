@@ -5,9 +5,9 @@ use Rattle.laws_history.specs.{declared.packet.Packet.Packet, Packets.packet_byt
 use Rattle.vs_page.specs.{Fair.IsFairLog, Held.{FitsWire, packet_held}, Log.{Driver, Log}, declared.log.LogEntry.TheVariants.PutPacket}
 use Rattle.vs_ring_port.specs.{EndLog.{EndLog, all_put, log_published, log_staged, with_packet}, DriverCalls.{CanPublish, CanStage, DriverAnswer, DriverCall, DriverMoves}}
 use Rattle.vs_ring_port.specs.{DriverCalls.HoldsPacket, Lists.Rings, declared.queue.Queue.{Queue, TheVariants.Tx}, Contents.RingContents}
-use Rattle.laws_tables.specs.{Both.{Step, after}, Matches.Matches}
+use Rattle.laws_tables.{specs.{Both.{Step, after}, Matches.Matches}, proofs.Going.MayDo}
 use Rattle.vs_driver_parts.specs.State.{DriverState}
-use Rattle.laws_driver.{proofs.Going.{MayDo, seat}, specs.{Honest.{AgreesWith, IsFitState, ends_of_state}, Staged.{IsLeft, IsTied}, Resets.MarksResets}}
+use Rattle.laws_driver.{proofs.Going.seat, specs.{Honest.{AgreesWith, IsFitState, ends_of_state}, Staged.{IsLeft, IsTied}, Resets.MarksResets}}
 
 -- P holds of the log of an honest ring, where it tells it.
 abbrev pub Tells : (EndLog → Type 0) → RingContents → Type 0
@@ -82,7 +82,7 @@ pub record Puts (hosts : Bool) (packet : Packet) (s : DriverState) (page : List 
       → IsFairLog Driver (PutPacket packet ∷ log)
   pub wire : FitsWire packet.header
   pub step : Step
-  pub may : (log : Log) → MayDo step (seat s log)
+  pub may : (log : Log) → MayDo Driver step (seat s log)
   pub leads : (log : Log) → after Driver step (seat s log) ≡ seat t (PutPacket packet ∷ log)
 
 pub put_last : (pages : List (List ℕ)) (page : List ℕ) (p : Packet) (log : Log) → packet_held page ≡ Some p

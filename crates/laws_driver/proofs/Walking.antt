@@ -2,19 +2,19 @@
 use Rattle.std.proofs.Common.{◌≡◌, ℕ, ◌<◌, ◌^◌, true, List, ◌∷◌, take, refl, sym, Bool}
 use Rattle.vs_limits.specs.declared.TheConstants.{HOST_CID}
 use Rattle.laws_history.specs.declared.packet.Packet.{Packet}
-use Rattle.vs_page.specs.{Log.Log, declared.log.LogEntry.TheVariants.PutPacket}
-use Rattle.laws_tables.specs.Both.{Seat, Takes, TakesEvent, TakesReset}
+use Rattle.vs_page.specs.{Log.{Driver, Log}, declared.log.LogEntry.TheVariants.PutPacket}
+use Rattle.laws_tables.{specs.Both.{Seat, Takes, TakesEvent, TakesReset}, proofs.Going.{Goes, goes_on, goes_then}}
 use Rattle.vs_driver_parts.specs.State.{DriverState}
-use Rattle.laws_driver.proofs.{Calls.{CarriesConnect, CarriesSend}, Carrying.{Carries, Fact}, Changing.wanting_changes, Going.{Goes, at_log, goes_on, goes_then, seat}}
+use Rattle.laws_driver.proofs.{Calls.{CarriesConnect, CarriesSend}, Carrying.{Carries, Fact}, Changing.wanting_changes, Going.{at_log, seat}}
 use Rattle.laws_driver.proofs.{Putting.{connect_puts, owed_puts, reply_puts, send_puts}, Resetting.resets, Ringing.Puts, Taking.gets_packet}
 
 abbrev pub goes_from : Seat → Fact
-goes_from w part slots log = Goes w (record { part = part; log = log })
+goes_from w part slots log = Goes Driver w (record { part = part; log = log })
 
 module _ (hosts : Bool) (first : ℕ) (w : Seat) where
-  pub puts_goes : (p : Packet) (s : DriverState) (page : List ℕ) (t : DriverState) (log : Log) → Puts hosts p s page t → Goes w (seat s log)
-      → Goes w (seat t (PutPacket p ∷ log))
-  puts_goes p s page t log puts goes = goes_on w (seat s log) (seat t (PutPacket p ∷ log)) puts.step (puts.may log) (puts.leads log) goes
+  pub puts_goes : (p : Packet) (s : DriverState) (page : List ℕ) (t : DriverState) (log : Log) → Puts hosts p s page t → Goes Driver w (seat s log)
+      → Goes Driver w (seat t (PutPacket p ∷ log))
+  puts_goes p s page t log puts goes = goes_on Driver w (seat s log) (seat t (PutPacket p ∷ log)) puts.step (puts.may log) (puts.leads log) goes
 
   pub poll_goes : Carries hosts first (goes_from w)
   poll_goes = record {
@@ -22,9 +22,9 @@ module _ (hosts : Bool) (first : ℕ) (w : Seat) where
     reply = λ r rest s log fits is m fair goes. puts_goes _ s _ (record s { replies = rest }) log (reply_puts r rest s fits is) goes;
     got = λ p s log fits ports whole m was fair goes.
         let g = gets_packet hosts first p s log fits ports whole m fair in
-        goes_on w (seat s log) _ (Takes p g.answer) tt (at_log _ _ _ (sym g.ends)) goes;
-    event = λ id s log goes. goes_on w (seat s log) _ (TakesEvent id) tt refl goes;
-    reset = λ cid s log less fits goes. goes_on w (seat s log) _ (TakesReset cid) refl (at_log _ _ _ (sym (resets cid s less fits).ends)) goes;
+        goes_on Driver w (seat s log) _ (Takes p g.answer) tt (at_log _ _ _ (sym g.ends)) goes;
+    event = λ id s log goes. goes_on Driver w (seat s log) _ (TakesEvent id) refl refl goes;
+    reset = λ cid s log less fits goes. goes_on Driver w (seat s log) _ (TakesReset cid) refl (at_log _ _ _ (sym (resets cid s less fits).ends)) goes;
   }
 
   pub connect_goes : (peer to : ℕ) → peer < 2 ^ 64 → to < 2 ^ 32 → (hosts ≡ true → peer ≡ HOST_CID)
@@ -40,6 +40,6 @@ module _ (hosts : Bool) (first : ℕ) (w : Seat) where
     unknown = λ s log none goes. goes;
     empty = λ s log goes. goes;
     full = λ n s log goes. goes;
-    wants = λ e s log fits stands m goes. goes_then _ _ _ goes ((wanting_changes s e fits stands).goes first log m);
+    wants = λ e s log fits stands m goes. goes_then Driver _ _ _ goes ((wanting_changes s e fits stands).goes first log m);
     sends = λ e n s log fits stands known can few m was fair goes. puts_goes _ s _ _ log (send_puts e (take n bytes) s fits stands can few) goes;
   }

@@ -1,5 +1,5 @@
 -- A flow that is found among those that are kept, and what is left of them without one.
-use Rattle.std.proofs.Common.{◌≡◌, ◌||◌, Bool, true, false, cond, List, [], ◌∷◌, Option, Some, refl, sym, ap, subst}
+use Rattle.std.proofs.Common.{◌≡◌, ◌||◌, Bool, true, false, cond, List, [], ◌∷◌, Some, refl, sym, ap, subst}
 use Rattle.std.specs.List.{find}
 use Rattle.vs_flow.specs.{CleanPairs.without_oldest, Flow.same_flow, declared.flow.Flow.Flow}
 use Rattle.vs_page.proofs.Flows.{same_is, same_self}

@@ -1,15 +1,21 @@
 -- An end that decided to send no more on a connection puts no payload there.
-use Rattle.std.{specs.List.list_any, proofs.Common.{◌≡◌, ℕ, ◌&&◌, ◌||◌, not, Bool, true, false, cond, List, [], ◌∷◌, ◌++◌, length, refl, sym, ap, subst, ◌∙◌, append-nil, arith}}
-use Rattle.std.proofs.lemmas.Grind.{common_steps}
-use Rattle.vs_conn.{specs.End.{CanSend, ConnectionEnd}, proofs.Frames.{got_own, paid_own}}
-use Rattle.vs_flow.specs.{Flow.same_flow, declared.flow.Flow.Flow}
-use Rattle.laws_history.specs.{Again.present, History.{Answerer, Asker, History, Put, Side, gots, is_begun, puts}, declared.packet.Packet.Packet}
-use Rattle.vs_page.specs.{Fair.payload_of, Log.{Log, Role, flow_got, flow_put, side_of, whole_of}, declared.log.LogEntry.{LogEntry, TheVariants.{GotPacket, PutPacket}}}
-use Rattle.vs_page.proofs.{Entries.present_is, Flows.same_is}
-use Rattle.laws_tables.specs.{Drains.{has_passed, put_on}, Ends.{ends_of, is_new}, Heard.is_empty, Matches.MatchesFlows, Both.{Asks, Decides, Decision, Opens, Pays, Replies, Seat}}
-use Rattle.laws_tables.specs.{Both.{Sends, Shuts, Step, Takes, after, decided, log_after}, Later.{IsShut, StillShut, UsesOnce, may_send_more}, Steps.{HasEnd, owed_on, payload_on}}
-use Rattle.laws_tables.{specs.Steps.{reply_on, request_on}, proofs.{Fair.heard_none, Later.step_adds, News.{MakesOther, Stays, step_makes}, Steps.payload_flow, Tables.end_begun}}
-use Rattle.laws_tables.proofs.Tables.{end_new}
+use Rattle.std.{specs.List.list_any, proofs.Common.{◌≡◌, ℕ, ◌+◌, ◌≤◌, ◌==◌, ◌&&◌, ◌||◌, not, Bool, true, false, cond, List, [], ◌∷◌, ◌++◌, length, Some, refl, sym, ap, subst, ◌∙◌, append-nil, arith}}
+use Rattle.std.proofs.lemmas.{Bool.{Decides.nat_tests, and_parts}, Grind.common_steps}
+use Rattle.vs_conn.specs.{End.{CanSend, ConnectionEnd, answering, asked, end_after, is_of, owes_of, paid_of, with_payload_sent}, declared.end.Owed.Owed}
+use Rattle.vs_conn.proofs.Frames.{got_own, paid_own}
+use Rattle.vs_flow.specs.{Connection.Connection, Flow.same_flow, declared.flow.Flow.Flow}
+use Rattle.vs_limits.specs.declared.TheConstants.{BUF_ALLOC}
+use Rattle.laws_history.specs.{Again.count, History.{Answerer, Asker, Got, History, Put, Side, gots, puts}, Packets.{is_request, is_rst}, declared.packet.Packet.Packet}
+use Rattle.vs_page.specs.{Fair.{IsFairLog, asked_by, current, number_of, payload_of, payload_put}, Log.{Log, Role, flow_got, flow_put, side_of, whole_of}, Open.is_dropped}
+use Rattle.vs_page.{specs.declared.log.LogEntry.{LogEntry, TheVariants.{GotPacket, PutPacket}}, proofs.Flows.same_is}
+use Rattle.laws_tables.specs.Both.{Asks, Both, Decides, Decision, Happening, IsSound, MakesReset, MayRun, Opens, Pays, Replies, Seat, Sends, Shuts, Step, Takes}
+use Rattle.laws_tables.specs.Both.{TakesReset, after, after_packet, answered, at, decided, log_after, part_after, run}
+use Rattle.laws_tables.specs.{Drains.{is_same, only_on, put_on}, Ends.{answer_kind, ends_of, is_new, replaced}, Later.{AsksOther, IsPast, IsShut, StillPast, StillShut, may_put, may_send_more}}
+use Rattle.laws_tables.specs.{Matches.{Matches, MatchesFlows}, Steps.{HasEnd, is_kept, left, owed_on, payload_on, reply_on, request_on, with_clean, with_end}}
+use Rattle.laws_tables.proofs.{Adding.{put_adds, put_nothing, put_over_got}, Both.run_keeps, Entries.replaced_other, Fair.got_in_order, Going.{Goes, MayDo, MayDoAll, done, fair_keeps, run_goes, step_fair}}
+use Rattle.laws_tables.proofs.{Later.step_adds, News.{MakesNone, MakesOther, Stays, changes, comes, leaves, step_makes}, Steps.{can_old, order_old, owed_flow, payload_flow, pays_new, request_flow}}
+use Rattle.laws_tables.proofs.Tables.{end_new, only_end}
+use Rattle.vs_conn.specs.declared.end.Owed.TheVariants as owed
 
 -- What an end decided it keeps, and it may send nothing.
 decided_shut : (e : ConnectionEnd) (what : Decision) → may_send_more e ≡ false → may_send_more (decided e what) ≡ false
@@ -24,16 +30,19 @@ shut_stays = record {
   decided = decided_shut;
 }
 
-cannot : (e : ConnectionEnd) (n : ℕ) → list_any may_send_more (e ∷ []) ≡ false → CanSend e n → ⊥
+cannot : (e : ConnectionEnd) (n : ℕ) → list_any may_put (e ∷ []) ≡ false → CanSend e n → ⊥
 cannot = grind (arith, common_steps)
 
--- What an entry of the log adds.
-more_passed : (role : Role) (f : Flow) (entry : LogEntry) (log : Log) → has_passed role f log ≡ true → has_passed role f (entry ∷ log) ≡ true
-more_passed = grind (arith, common_steps)
+first_none : (a b : Bool) → a ≡ false → (a && b) ≡ false
+first_none a b none = ap (λ (c : Bool). c && b) none
 
-all_passed : (role : Role) (f : Flow) (newer log : Log) → has_passed role f log ≡ true → has_passed role f (newer ++ log) ≡ true
-all_passed role f [] log some = some
-all_passed role f (entry ∷ newer) log some = more_passed role f entry (newer ++ log) (all_passed role f newer log some)
+second_none : (a b : Bool) → b ≡ false → (a && b) ≡ false
+second_none true b none = none
+second_none false b none = refl
+
+-- A flow, until it is asked for again.
+pub is_shut : (f : Flow) (w : Seat) (e : ConnectionEnd) → HasEnd f e w.part → e.own.send ≡ true → IsShut f w
+is_shut f w e has shut = ap (list_any may_send_more) has ∙ ap (λ (b : Bool). not b || false) shut
 
 put_by : (b : Bool) (p : Packet) (h : History) → p.payload ≡ [] → payload_of (puts (cond b (Put p ∷ h) h)) ≡ payload_of (puts h)
 put_by true p h none = ap (λ (bytes : List ℕ). payload_of (puts h) ++ bytes) none ∙ append-nil (payload_of (puts h))
@@ -45,78 +54,238 @@ put_none role f p log none = put_by (same_flow f (flow_put role p)) p (whole_of 
 put_got : (role : Role) (f : Flow) (p : Packet) (log : Log) → put_on role f (GotPacket p ∷ log) ≡ put_on role f log
 put_got = grind (arith, common_steps)
 
-module _ (role : Role) (f : Flow) (w : Seat) (x : IsShut role f w) where
-  -- A flow on which nothing passed is another.
-  is_other : (g : Flow) → whole_of role g w.log ≡ [] → (b : Bool) → same_flow f g ≡ b → b ≡ false
-  is_other g silent false is = refl
-  is_other g silent true is = absurd (
-      let no : true ≡ false = sym x.passed ∙ ap (λ (h : Flow). has_passed role h w.log) (same_is f g is) ∙ ap (λ (h : History). not (is_empty h)) silent in
-      cc)
-
-  none_on : (g : Flow) (b : Bool) → whole_of role g w.log ≡ [] → (same_flow f g && b) ≡ false
-  none_on g b silent = ap (λ (c : Bool). c && b) (is_other g silent (same_flow f g) refl)
-
-  makes : (step : Step) → UsesOnce role step w → MakesOther may_send_more f step role w.part
-  makes (Opens g kind) once = none_on g _ once
-  makes (Asks g kind) once = none_on g _ once
-  makes (Sends g e payload) once = once.0
-  makes (Pays g e what) once = once
-  makes (Decides g e what) once = once
-  makes (Takes p answer) once = λ asks. none_on (flow_got role p) _ (once asks)
-  makes step once = tt
+module _ (role : Role) (f : Flow) (w : Seat) (shut : IsShut f w) where
+  makes : (step : Step) → AsksOther role f step w → MakesOther may_send_more f step role w.part
+  makes (Opens g kind) other = first_none (same_flow f g) _ other
+  makes (Asks g kind) other = first_none (same_flow f g) _ other
+  makes (Sends g e payload) named = named.0
+  makes (Pays g e what) named = named
+  makes (Decides g e what) named = named
+  makes (Takes p answer) other = λ asks. first_none (same_flow f (flow_got role p)) _ (other asks)
+  makes step other = tt
 
   sends_other : (g : Flow) (e : ConnectionEnd) (payload : List ℕ) → HasEnd g e w.part → CanSend e (length payload) → (b : Bool) → same_flow f g ≡ b
       → b ≡ false
   sends_other g e payload has can false is = refl
-  sends_other g e payload has can true is = absurd (cannot e (length payload)
-      (ap (list_any may_send_more) (sym has) ∙ ap (λ (h : Flow). list_any may_send_more (ends_of h w.part.entries)) (sym (same_is f g is)) ∙ x.shut) can)
+  sends_other g e payload has can true is =
+      let none : may_send_more e || false ≡ false = ap (list_any may_send_more) (sym has) ∙ ap (λ (h : Flow). list_any may_send_more (ends_of h w.part.entries)) (sym (same_is f g is)) ∙ shut in
+      absurd (cannot e (length payload) (grind (arith, common_steps, none)) can)
 
-  puts_none : (step : Step) → UsesOnce role step w → put_on role f (after role step w).log ≡ put_on role f w.log
-  puts_none (Opens g kind) once = put_none role f (request_on role w.part.cid g kind) w.log refl
-  puts_none (Sends g e payload) once =
-      let other = ap (same_flow f) (payload_flow role w.part.cid g e payload) ∙ sends_other g e payload once.0 once.1 (same_flow f g) refl in
+  puts_none : (step : Step) → AsksOther role f step w → put_on role f (after role step w).log ≡ put_on role f w.log
+  puts_none (Opens g kind) other = put_none role f (request_on role w.part.cid g kind) w.log refl
+  puts_none (Sends g e payload) named =
+      let other = ap (same_flow f) (payload_flow role w.part.cid g e payload) ∙ sends_other g e payload named.0 named.1 (same_flow f g) refl in
       ap (λ (b : Bool). payload_of (puts (cond b (Put (payload_on role w.part.cid g e payload) ∷ whole_of role f w.log) (whole_of role f w.log)))) other
-  puts_none (Pays g e what) once = put_none role f (owed_on role w.part.cid g e what) w.log refl
-  puts_none (Replies r rest) once = put_none role f (reply_on role w.part.cid r) w.log refl
-  puts_none (Takes p answer) once = put_got role f p w.log
-  puts_none step once = refl
+  puts_none (Pays g e what) named = put_none role f (owed_on role w.part.cid g e what) w.log refl
+  puts_none (Replies r rest) other = put_none role f (reply_on role w.part.cid r) w.log refl
+  puts_none (Takes p answer) other = put_got role f p w.log
+  puts_none step other = refl
 
-  pub step_shut : (step : Step) → UsesOnce role step w → StillShut role f w (after role step w)
-  step_shut step once = record {
-    is = record {
-      passed = subst (λ (log : Log). has_passed role f log ≡ true) (sym (step_adds role w.part.cid step w.log))
-          (all_passed role f (log_after role w.part.cid step []) w.log x.passed);
-      shut = none (list_any may_send_more (ends_of f (after role step w).part.entries)) refl;
-    };
-    put = puts_none step once;
+  pub step_shut : (step : Step) → AsksOther role f step w → StillShut role f w (after role step w)
+  step_shut step other = record {
+    is = none (list_any may_send_more (ends_of f (after role step w).part.entries)) refl;
+    put = puts_none step other;
   }
     where
       none : (b : Bool) → list_any may_send_more (ends_of f (after role step w).part.entries) ≡ b → b ≡ false
       none false is = refl
-      none true is = absurd (let no : true ≡ false = sym (step_makes may_send_more shut_stays f step role w.part (makes step once) is) ∙ x.shut in cc)
+      none true is = absurd (let no : true ≡ false = sym (step_makes may_send_more shut_stays f step role w.part (makes step other) is) ∙ shut in cc)
 
--- A flow whose end decided to send no more is shut: something passed on it.
-not_begun : (side : Side) → is_begun side [] [] ≡ true → ⊥
-not_begun Asker is = absurd cc
-not_begun Answerer is = absurd cc
+-- A connection, also where its flow is used again.
+pub is_past : (role : Role) (c : Connection) (w : Seat) (e : ConnectionEnd) → HasEnd c.flow e w.part → e.own.send ≡ true
+    → c.number ≤ number_of role c.flow w.log → IsPast role c w
+is_past role c w e has shut past = record {
+  past = past;
+  shut = λ same. ap (list_any may_put) has ∙ ap (λ (b : Bool). b || false) (second_none (not (is_new e)) (may_send_more e) (ap not shut));
+}
 
-module _ (role : Role) (first : ℕ) (f : Flow) (w : Seat) (e : ConnectionEnd) (matches : MatchesFlows role first w.part w.log) (has : HasEnd f e w.part)
-    (shut : e.own.send ≡ true) where
-  none_silent : (new : Bool) → is_new e ≡ new → whole_of role f w.log ≡ [] → ⊥
-  none_silent true is none =
-      let open_ : e.own.send ≡ false = ap (λ (y : ConnectionEnd). y.own.send) (end_new role first w.part w.log f e matches has is).asking.asks in
-      absurd (cc (open_, shut))
-  none_silent false is none =
-      let follows = end_begun role first w.part w.log f e matches has is in
-      let silent = heard_none role first f w.log (sym (present_is role f w.log) ∙ ap present none) in
-      not_begun (side_of role f) (subst (λ (h : History). is_begun (side_of role f) (puts h) (gots h) ≡ true) silent follows.begun)
+-- An end that began keeps what it decided.
+keeps : (e now : ConnectionEnd) → is_new e ≡ false → (may_send_more e ≡ false → may_send_more now ≡ false) → may_put e ≡ false → may_put now ≡ false
+keeps e now old stays none =
+    second_none (not (is_new now)) (may_send_more now) (stays (sym (ap (λ (b : Bool). not b && may_send_more e) old) ∙ none))
 
-  some_passed : (h : History) → whole_of role f w.log ≡ h → not (is_empty h) ≡ true
-  some_passed [] none = absurd (none_silent (is_new e) refl none)
-  some_passed (entry ∷ h) some = refl
+-- How many connections of a flow began: no fewer by an entry more, and one more by a REQUEST.
+more_by : (role : Role) (f : Flow) (entry : LogEntry) (log : Log) → number_of role f log ≤ number_of role f (entry ∷ log)
+more_by = grind (arith, common_steps)
 
-  pub is_shut : IsShut role f w
-  is_shut = record {
-    passed = some_passed (whole_of role f w.log) refl;
-    shut = ap (list_any may_send_more) has ∙ ap (λ (b : Bool). not b || false) shut;
-  }
+more_all : (role : Role) (f : Flow) (newer log : Log) → number_of role f log ≤ number_of role f (newer ++ log)
+more_all role f [] log = omega arith
+more_all role f (entry ∷ newer) log =
+    let one = more_by role f entry (newer ++ log) in let rest = more_all role f newer log in omega (arith, one, rest)
+
+step_more : (role : Role) (f : Flow) (step : Step) (w : Seat) → number_of role f w.log ≤ number_of role f (after role step w).log
+step_more role f step w =
+    subst (λ (log : Log). number_of role f w.log ≤ number_of role f log) (sym (step_adds role w.part.cid step w.log))
+    (more_all role f (log_after role w.part.cid step []) w.log)
+
+asks_by : (side : Side) (p : Packet) (w : History) (b : Bool) → b ≡ true → side ≡ Asker → is_request p ≡ true
+    → let v : History = cond b (Put p ∷ w) w in asked_by side (puts v) (gots v) ≡ asked_by side (puts w) (gots w) + 1
+asks_by Asker p w true is own asks = ap (λ (b : Bool). cond b (count is_request (puts w) + 1) (count is_request (puts w))) asks
+asks_by Answerer p w b is own asks = absurd cc
+asks_by side p w false is own asks = absurd cc
+
+got_by : (side : Side) (p : Packet) (w : History) (b : Bool) → b ≡ true → side ≡ Answerer → is_request p ≡ true
+    → let v : History = cond b (Got p ∷ w) w in asked_by side (puts v) (gots v) ≡ asked_by side (puts w) (gots w) + 1
+got_by Answerer p w true is own asks = ap (λ (b : Bool). cond b (count is_request (gots w) + 1) (count is_request (gots w))) asks
+got_by Asker p w b is own asks = absurd cc
+got_by side p w false is own asks = absurd cc
+
+put_asks : (role : Role) (f g : Flow) (p : Packet) (log : Log) → flow_put role p ≡ g → same_flow f g ≡ true → side_of role g ≡ Asker → is_request p ≡ true
+    → number_of role f (PutPacket p ∷ log) ≡ number_of role f log + 1
+put_asks role f g p log flow same own asks =
+    asks_by (side_of role f) p (whole_of role f log) (same_flow f (flow_put role p)) (ap (same_flow f) flow ∙ same)
+    (ap (side_of role) (same_is f g same) ∙ own) asks
+
+got_asks : (role : Role) (f : Flow) (p : Packet) (log : Log) → same_flow f (flow_got role p) ≡ true → side_of role (flow_got role p) ≡ Answerer
+    → is_request p ≡ true → number_of role f (GotPacket p ∷ log) ≡ number_of role f log + 1
+got_asks role f p log same own asks =
+    got_by (side_of role f) p (whole_of role f log) (same_flow f (flow_got role p)) same (ap (side_of role) (same_is f (flow_got role p) same) ∙ own) asks
+
+module _ (role : Role) (first : ℕ) (w : Seat) (m : MatchesFlows role first w.part w.log) where
+  module _ (f : Flow) where
+    -- An end that comes, where no connection of the flow began.
+    elsewhere : (g : Flow) (b : Bool) → (same_flow f g ≡ true → ⊥) → (same_flow f g && b) ≡ false
+    elsewhere g b never = by (same_flow f g) refl
+      where
+        by : (a : Bool) → same_flow f g ≡ a → (a && b) ≡ false
+        by true is = absurd (never is)
+        by false is = refl
+
+    -- What is owed is put.
+    module _ (g : Flow) (e : ConnectionEnd) (what : Owed) (has : HasEnd g e w.part) (owes : owes_of e ≡ Some what)
+        (same : number_of role f (PutPacket (owed_on role w.part.cid g e what) ∷ w.log) ≡ number_of role f w.log) where
+      on_other : (b : Bool) → same_flow f g ≡ b → is_new e ≡ true → MakesNone may_put f w.part.entries (replaced g (paid_of e what) w.part.entries)
+      on_other false other new = λ is. sym (ap (list_any may_put) (replaced_other g f (paid_of e what) w.part.entries other)) ∙ is
+      on_other true is new =
+          let asking = (end_new role first w.part w.log g e m has new).asking in
+          let request = pays_new (side_of role g) e what asking owes in
+          let more = put_asks role f g (owed_on role w.part.cid g e what) w.log (owed_flow role w.part.cid g e what) is asking.asker
+          (ap (λ (x : Owed). is_request (owed_on role w.part.cid g e x)) request) in
+          absurd (omega (arith, more, same))
+
+      pays : (new : Bool) → is_new e ≡ new → MakesNone may_put f w.part.entries (replaced g (paid_of e what) w.part.entries)
+      pays true new = on_other (same_flow f g) refl new
+      pays false old =
+          changes may_put f g e (paid_of e what) [] w.part.entries has (keeps e (paid_of e what) old (λ shut. ap (λ o. not o.send) (paid_own e what) ∙ shut))
+
+    -- A packet is taken.
+    module _ (p : Packet) (answer : Bool) (fair : IsFairLog role (GotPacket p ∷ w.log))
+        (same : number_of role f (GotPacket p ∷ w.log) ≡ number_of role f w.log) where
+      abbrev g : Flow
+      g = flow_got role p
+
+      asked_here : is_request p ≡ true → same_flow f g ≡ true → ⊥
+      asked_here asks is =
+          let more = got_asks role f p w.log is ((got_in_order role first p w.log (fair g)).request asks).0 asks in omega (arith, more, same)
+
+      unknown : (rst asks a : Bool) → is_request p ≡ asks → MakesNone may_put f w.part.entries (cond rst w.part (answered asks a p g w.part)).entries
+      unknown true asks a is = λ one. one
+      unknown false true true is = comes may_put f g (answering (answer_kind p.header.kind) BUF_ALLOC p.header) w.part.entries (elsewhere g _ (asked_here is))
+      unknown false true false is = λ one. one
+      unknown false false a is = λ one. one
+
+      known : (leaves_it k : Bool) (e : ConnectionEnd) (more : List ConnectionEnd) → ends_of g w.part.entries ≡ e ∷ more
+          → MakesNone may_put f w.part.entries (cond leaves_it (with_clean k g (left g w.part)) (with_end g (end_after e p.header) w.part)).entries
+      known true true e more has = leaves may_put f g w.part.entries
+      known true false e more has = leaves may_put f g w.part.entries
+      known false k e more has =
+          let one : HasEnd g e w.part = has ∙ ap (λ (es : List ConnectionEnd). e ∷ es) (only_end role first w.part w.log g e more m has) in
+          let old = order_old role first p e w.part w.log m one (got_in_order role first p w.log (fair g)) in
+          changes may_put f g e (end_after e p.header) more w.part.entries has
+          (keeps e (end_after e p.header) old (λ shut. ap (λ o. not o.send) (got_own e p.header) ∙ shut))
+
+      heard_by : (es : List ConnectionEnd) → ends_of g w.part.entries ≡ es → MakesNone may_put f w.part.entries (after_packet role es p g answer w.part).entries
+      heard_by [] has = unknown (is_rst p) (is_request p) answer refl
+      heard_by (e ∷ more) has = known (is_rst p && is_of e.kind p.header) (is_kept role g e p) e more has
+
+      takes : (dropped : Bool) → MakesNone may_put f w.part.entries (cond dropped w.part (after_packet role (ends_of g w.part.entries) p g answer w.part)).entries
+      takes true = λ one. one
+      takes false = heard_by (ends_of g w.part.entries) refl
+
+    -- Where no connection of the flow begins, no end of it comes to be one that may put.
+    comes_none : (step : Step) → MayDo role step w → IsFairLog role (after role step w).log → number_of role f (after role step w).log ≡ number_of role f w.log
+        → MakesNone may_put f w.part.entries (part_after role step w.part).entries
+    comes_none (Opens g kind) may fair same = comes may_put f g (paid_of (asked kind BUF_ALLOC) owed.Request) w.part.entries (elsewhere g _ (λ is.
+        let more = put_asks role f g (request_on role w.part.cid g kind) w.log (request_flow role w.part.cid g kind) is may.asker refl in omega (arith, more, same)))
+    comes_none (Asks g kind) may fair same = comes may_put f g (asked kind BUF_ALLOC) w.part.entries (second_none (same_flow f g) _ refl)
+    comes_none (Sends g e payload) may fair same =
+        let now = with_payload_sent e (length payload) in
+        changes may_put f g e now [] w.part.entries may.0 (keeps e now (can_old e (length payload) may.1) (λ shut. shut))
+    comes_none (Pays g e owed.Rst) may fair same = leaves may_put f g w.part.entries
+    comes_none (Pays g e what) may fair same = pays g e what may.0 may.1 same (is_new e) refl
+    comes_none (Decides g e what) may fair same = changes may_put f g e (decided e what) [] w.part.entries may.0 (keeps e (decided e what) may.1 (decided_shut e what))
+    comes_none (Takes p answer) may fair same = takes p answer fair same (is_dropped role w.part.cid p.header)
+    comes_none (MakesReset cid) may fair same = λ one. absurd cc
+    comes_none (TakesReset cid) may fair same = λ one. absurd cc
+    comes_none step may fair same = λ one. one
+
+  module _ (c : Connection) (x : IsPast role c w) where
+    -- A send goes on another connection.
+    sends_none : (g : Flow) (e : ConnectionEnd) (payload : List ℕ) → HasEnd g e w.part → CanSend e (length payload) → (b : Bool)
+        → is_same c (current role g w.log) ≡ b → cond b payload [] ≡ []
+    sends_none g e payload has can false other = refl
+    sends_none g e payload has can true same =
+        let parts = and_parts (same_flow c.flow g) (c.number == number_of role g w.log) same in
+        let flow : c.flow ≡ g = same_is c.flow g parts.0 in
+        let test = parts.1 in
+        let number : c.number ≡ number_of role g w.log = grind (arith, nat_tests, test) in
+        absurd (cannot e (length payload) (sym (ap (list_any may_put) (ap (λ (h : Flow). ends_of h w.part.entries) flow ∙ has))
+        ∙ x.shut (number ∙ ap (λ (h : Flow). number_of role h w.log) (sym flow))) can)
+
+    puts_nothing : (step : Step) → MayDo role step w → IsFairLog role (after role step w).log → payload_put role c (after role step w).log ≡ payload_put role c w.log
+    puts_nothing (Opens g kind) may fair = sym (put_nothing role (request_on role w.part.cid g kind) w.log refl c)
+    puts_nothing (Sends g e payload) may fair =
+        let p : Packet = payload_on role w.part.cid g e payload in
+        put_adds role p w.log refl (step_fair role (Sends g e payload) w fair) fair c
+        ∙ ap (λ (h : Flow). payload_put role c w.log ++ only_on (current role h w.log) payload c) (payload_flow role w.part.cid g e payload)
+        ∙ ap (λ (bytes : List ℕ). payload_put role c w.log ++ bytes)
+        (sends_none g e payload may.0 may.1 (is_same c (current role g w.log)) refl) ∙ append-nil (payload_put role c w.log)
+    puts_nothing (Pays g e what) may fair = sym (put_nothing role (owed_on role w.part.cid g e what) w.log refl c)
+    puts_nothing (Replies r rest) may fair = sym (put_nothing role (reply_on role w.part.cid r) w.log refl c)
+    puts_nothing (Takes p answer) may fair = put_over_got role p w.log c
+    puts_nothing step may fair = refl
+
+    pub step_past : (step : Step) → MayDo role step w → IsFairLog role (after role step w).log
+        → StillPast role c w (after role step w)
+    step_past step may fair = record {
+      is = record {
+        past = (let less = x.past in let more = step_more role c.flow step w in omega (arith, less, more));
+        shut = λ same. by same (list_any may_put (ends_of c.flow (after role step w).part.entries)) refl;
+      };
+      put = puts_nothing step may fair;
+    }
+      where
+        by : c.number ≡ number_of role c.flow (after role step w).log → (b : Bool)
+            → list_any may_put (ends_of c.flow (after role step w).part.entries) ≡ b → b ≡ false
+        by same false is = refl
+        by same true is =
+            let less = x.past in
+            let more = step_more role c.flow step w in
+            let still : number_of role c.flow (after role step w).log ≡ number_of role c.flow w.log = omega (arith, less, more, same) in
+            let no : true ≡ false = sym (comes_none c.flow step may fair still is) ∙ x.shut (same ∙ still) in absurd cc
+
+-- From its decision on, over any steps of its seat, and of both.
+module _ (role : Role) (first : ℕ) (c : Connection) where
+  record Past (v w : Seat) : Type 0 where
+    matches : Matches role first w.part w.log
+    still : StillPast role c v w
+
+  all_past : (v : Seat) → Matches role first v.part v.log → IsPast role c v → (steps : List Step) → MayDoAll role steps v
+      → IsFairLog role (done role steps v).log → Past v (done role steps v)
+  all_past v m x [] may fair = record { matches = m; still = record { is = x; put = refl } }
+  all_past v m x (step ∷ older) may fair =
+      let w = done role older v in
+      let was = all_past v m x older may.0 (step_fair role step w fair) in
+      let now = step_past role first w was.matches.flows c was.still.is step may.1 fair in record {
+        matches = fair_keeps role first step w may.1 was.matches fair;
+        still = record { is = now.is; put = now.put ∙ was.still.put };
+      }
+
+  pub goes_past : (v w : Seat) → Goes role v w → Matches role first v.part v.log → IsFairLog role w.log → IsPast role c v → StillPast role c v w
+  goes_past v w goes m fair x =
+      let P : Seat → Type 0 = StillPast role c v in
+      subst P goes.ends (all_past v m x goes.steps goes.may (subst (λ (u : Seat). IsFairLog role u.log) (sym goes.ends) fair)).still
+
+  pub run_past : (xs : List Happening) (b : Both) → IsSound first b → MayRun xs b → IsPast role c (at role b)
+      → StillPast role c (at role b) (at role (run xs b))
+  run_past xs b s may = goes_past (at role b) (at role (run xs b)) (run_goes role xs b may) (s.matches role) ((run_keeps first xs b s may).fair role)

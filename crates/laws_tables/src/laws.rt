@@ -6,7 +6,7 @@ ghost use Rattle.vs_conn.specs.End.{aborted, asked, grown, is_of, is_refused, is
 ghost use Rattle.vs_conn.specs.End.{with_shut};
 ghost use Rattle.vs_header.specs.{Kind.kind_number, declared.{Kind.{Kind, TheVariants.Stream}, Header.Header}};
 ghost use Rattle.vs_credit.specs.Credit.{unread_of};
-ghost use Rattle.vs_flow.specs.{Flow.same_flow, declared.{flow.Flow.Flow, table.Entry.Entry}, Table.{IsTable, Table, entry_of, with_entry, with_value, without}};
+ghost use Rattle.vs_flow.specs.{Connection.Connection, Flow.same_flow, declared.{flow.Flow.Flow, table.Entry.Entry}, Table.{IsTable, Table, entry_of, with_entry, with_value, without}};
 ghost use Rattle.vs_limits.specs.declared.TheConstants.{ASSIGNED_FIRST, FIRST_PORT, HOST_CID, BUF_ALLOC_MAX};
 ghost use Rattle.laws_history.specs.{Again.IsClean, History.{Asker, Got, Put, gots, puts}, Packets.{is_clean_rst, is_request, is_rst}, declared.packet.Packet.Packet};
 ghost use Rattle.laws_tables.specs.{Matches.{IsAsking, Matches}, Quiet.IsQuietOn, Both.{Both, Happening, IsSound, MayRun, MayStep, MayStepAll, Seat, Step}};
@@ -14,11 +14,11 @@ ghost use Rattle.laws_tables.specs.{Both.{after, after_all, after_packet, at, ne
 ghost use Rattle.laws_tables.specs.Examples.{asking_end, closing, guest_cid, guest_flow, heard_on, host_end, assigned_flow, kept_falsely, live_end, log_of_false_mark};
 ghost use Rattle.laws_tables.specs.Examples.{log_of_return, log_of_two, log_over_reset, log_with_drop, lost_response, new_cid, opening, payload_after, resetting, unput};
 ghost use Rattle.laws_tables.specs.Ends.{AreDistinct, Ends, answer_kind, begun_flows, ends_of, entries_of, flows_of, is_among, is_new, new_flows, replied, replaced, without_flow};
-ghost use Rattle.laws_tables.specs.{Heard.{AsksOnce, AsksOnceLog, IsAllHeard, IsInOrder, IsOrderedLog, IsWithin, heard_of, is_awaiting, is_empty}, Later.{IsShut, StillShut}};
-ghost use Rattle.laws_tables.specs.{Later.UsesOnce, Steps.{HasEnd, HasNone, IsNextFlow, accepted, asking, emptied, is_message, is_overrun, left, opened, owed_on, paid}};
+ghost use Rattle.laws_tables.specs.{Heard.{AsksOnce, AsksOnceLog, IsAllHeard, IsInOrder, IsOrderedLog, IsWithin, heard_of, is_awaiting, is_empty}, Later.{AsksOther, IsPast, IsShut, StillPast, StillShut}};
+ghost use Rattle.laws_tables.specs.Steps.{HasEnd, HasNone, IsNextFlow, accepted, asking, emptied, is_message, is_overrun, left, opened, owed_on, paid};
 ghost use Rattle.laws_tables.specs.Steps.{payload_on, refused, reply_on, request_on, reset, taken, with_connection, with_end, with_replies};
 ghost use Rattle.vs_replies.specs.declared.Reply.{Reply};
-ghost use Rattle.vs_page.specs.{Fair.{IsFairLog, IsFairOn}, Frame.is_about, Log.{Device, Driver, IsNextPacket, Log, Role, and_then, flow_got, flow_put, history_of, side_of}};
+ghost use Rattle.vs_page.specs.{Fair.{IsFairLog, IsFairOn, number_of}, Frame.is_about, Log.{Device, Driver, IsNextPacket, Log, Role, and_then, flow_got, flow_put, history_of, side_of}};
 ghost use Rattle.vs_page.specs.{Log.whole_of, declared.log.LogEntry.{TheVariants.{GotEvent, GotPacket, Mark, PutEvent, PutPacket}, LogEntry}, Open.{Clean, Over, cid_of}};
 ghost use Rattle.vs_page.specs.Open.{is_dropped, is_open, phase_of};
 
@@ -142,13 +142,16 @@ pub fn law_of_one_seat()
         ≡ (is_open role first f w.log (is_among f (replied w.part.replies)) || is_among f (new_flows w.part.entries)) }
 {}
 
-/// Shutting is for good, over any ring that tells its log. Where a connection's end decided to send no more, its flow is shut; and where no flow
-/// is used twice, so it stays over each step, and no payload is put there (Virtio 1.2, section 5.10.6.5).
+/// Shutting is for good, over any ring that tells its log. Once a connection's end decided to send no more, told or not, no payload is put on its
+/// flow, whatever its seat does, until the flow is asked for again or a REQUEST is taken on it. Where the seat matches its log, and that is fair,
+/// none is put on the connection ever, also where its flow is used again (Virtio 1.2, section 5.10.6.5).
 pub fn law_of_shutting()
-    ensures begins { (role : Role) (first : ℕ) (f : Flow) (w : Seat) (e : ConnectionEnd) → Matches role first w.part w.log → HasEnd f e w.part
-        → e.own.send ≡ true → IsShut role f w }
-    ensures step { (role : Role) (f : Flow) (step : Step) (w : Seat) → UsesOnce role step w → IsShut role f w
-        → StillShut role f w (after role step w) }
+    ensures begins { (f : Flow) (w : Seat) (e : ConnectionEnd) → HasEnd f e w.part → e.own.send ≡ true → IsShut f w }
+    ensures step { (role : Role) (f : Flow) (step : Step) (w : Seat) → AsksOther role f step w → IsShut f w → StillShut role f w (after role step w) }
+    ensures decides { (role : Role) (c : Connection) (w : Seat) (e : ConnectionEnd) → HasEnd c.flow e w.part → e.own.send ≡ true
+        → c.number ≤ number_of role c.flow w.log → IsPast role c w }
+    ensures stays { (role : Role) (first : ℕ) (c : Connection) (step : Step) (w : Seat) → MayStep role step w → Matches role first w.part w.log
+        → let v = after role step w in IsFairLog role v.log → IsPast role c w → StillPast role c w v }
 {}
 
 /// What a step on a flow's connection does to the ends of that flow and of others.

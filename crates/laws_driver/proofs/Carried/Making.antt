@@ -7,12 +7,12 @@ use Rattle.vs_limits.specs.declared.TheConstants.{HOST_CID}
 use Rattle.vs_header.specs.declared.Kind.TheVariants.{Stream}
 use Rattle.vs_page.{specs.{Fair.payload_put, Log.{Driver, Log}}, proofs.PayloadLogs.put_none}
 use Rattle.vs_ring_port.specs.Contents.{RingContents}
-use Rattle.laws_tables.specs.{Both.Seat, Matches.Matches, Steps.request_on}
+use Rattle.laws_tables.{specs.{Both.Seat, Matches.Matches, Steps.request_on}, proofs.Going.goes_then}
 use Rattle.vs_driver_parts.specs.{Connections.{after_unlisten, close_of, grow_of, next_flow, recv_of, shutdown_of, state_of, unread_of_id}, Listening.{accept_of, listen_of}}
 use Rattle.vs_driver_parts.specs.{Listening.{listener_on, listening}, declared.answers.ListenError.ListenError, Conversations.DriverTree, Held.HeldSlots, State.DriverState}
 use Rattle.laws_driver.proofs.Changing.{Changes, accept_changes, close_changes, grow_changes, listen_changes, recv_changes, same, shutdown_changes, unlisten_changes}
 use Rattle.laws_driver.proofs.{Calls.{CarriesConnect, CarriesSend, changed_rests, connect_keeps, send_keeps, connects_with, sends_with}, Walking.{connect_goes, goes_from}}
-use Rattle.laws_driver.proofs.{Walking.send_goes, Carrying.{Fact, Holds}, Going.goes_then, Keeping.Keeps, Staging.Rests, Carried.Changing.{accept_slots, listen_slots}}
+use Rattle.laws_driver.proofs.{Walking.send_goes, Carrying.{Fact, Holds}, Keeping.Keeps, Staging.Rests, Carried.Changing.{accept_slots, listen_slots}}
 use Rattle.laws_driver.proofs.Carried.{Changing.{close_received, grow_received, send_receives, shutdown_received, unlisten_received}, Connecting.connect_carries, Polling.Further}
 use Rattle.laws_driver.{proofs.Carried.{Polling.IsFurther, Reading.{given_none, recv_received}}, specs.{Honest.{IsFitState, ends_of_state, slots_of}, Carried.Calls.GuestCall}}
 use Rattle.laws_driver.specs.Carried.Calls.{ReplyTo, Connect, Listen, Unlisten, Accept, Send, Recv, Shutdown, Grow, Close, LookAt, Journal, account_of, id_named, is_right}
@@ -76,14 +76,14 @@ module _ (first : ℕ) (s : DriverState) (c : RingContents) where
 pub call_goes : (first : ℕ) (w : Seat) (call : GuestCall) → is_right call ≡ true → CarriesCall first call (goes_from w) (λ reply. goes_from w)
 call_goes first w (Connect port) right = connect_goes true first w HOST_CID port (omega arith) (port_fits port right) (λ all. refl)
 call_goes first w (Send id bytes) right = send_goes true first w id bytes
-call_goes first w (Listen port) right = λ s log fits m goes. goes_then _ _ _ goes ((listened port s fits (listen_of port s)).goes first log m)
+call_goes first w (Listen port) right = λ s log fits m goes. goes_then Driver _ _ _ goes ((listened port s fits (listen_of port s)).goes first log m)
 call_goes first w (Unlisten port) right =
-    λ s log fits m goes. goes_then _ _ _ goes ((unlistened port s fits (is_some (listener_on port s.listeners))).goes first log m)
-call_goes first w (Accept port) right = λ s log fits m goes. goes_then _ _ _ goes ((accept_changes port s fits).goes first log m)
-call_goes first w (Recv id n) right = λ s log fits m goes. goes_then _ _ _ goes ((recv_changes id n s fits).goes first log m)
-call_goes first w (Shutdown id bits) right = λ s log fits m goes. goes_then _ _ _ goes ((shutdown_changes id bits s fits).goes first log m)
-call_goes first w (Grow id alloc) right = λ s log fits m goes. goes_then _ _ _ goes ((grow_changes id alloc s fits).goes first log m)
-call_goes first w (Close id) right = λ s log fits m goes. goes_then _ _ _ goes ((close_changes id s fits).goes first log m)
+    λ s log fits m goes. goes_then Driver _ _ _ goes ((unlistened port s fits (is_some (listener_on port s.listeners))).goes first log m)
+call_goes first w (Accept port) right = λ s log fits m goes. goes_then Driver _ _ _ goes ((accept_changes port s fits).goes first log m)
+call_goes first w (Recv id n) right = λ s log fits m goes. goes_then Driver _ _ _ goes ((recv_changes id n s fits).goes first log m)
+call_goes first w (Shutdown id bits) right = λ s log fits m goes. goes_then Driver _ _ _ goes ((shutdown_changes id bits s fits).goes first log m)
+call_goes first w (Grow id alloc) right = λ s log fits m goes. goes_then Driver _ _ _ goes ((grow_changes id alloc s fits).goes first log m)
+call_goes first w (Close id) right = λ s log fits m goes. goes_then Driver _ _ _ goes ((close_changes id s fits).goes first log m)
 call_goes first w (LookAt id) right = λ s log fits m goes. goes
 
 -- The account: a receive gives bytes.
