@@ -3,7 +3,7 @@ use Rattle.std.proofs.Common.{◌≡◌, ◌+◌, ◌<◌, ◌≤◌, ◌==◌, 
 use Rattle.std.proofs.{Common.{nat_lt, slice_get, ◌⊎◌, slice_index_or, refl, sym, ap, subst, ◌∙◌, arith, append-nil, length-append, length-take, take}, lemmas.Bool.and_parts}
 use Rattle.std.proofs.lemmas.{Bool.{Decides.nat_tests, eqb-true}, Grind.common_steps, List.{Elements.{All-contains}, length-map}, Option.same_Some}
 use Rattle.std.{proofs.lemmas.Option.slice_get_read, specs.{List.{AllPairs}, Option.{ForSome, option_map, option_map_or, unwrap_or}, Prelude.not}}
-use Rattle.vs_flow.{specs.{Connection.Connection, Flow.same_flow, Table.{IsTable, entry_under, value_under}, declared.flow.Flow.Flow}, proofs.Entries.found_at}
+use Rattle.vs_flow.{specs.{Connection.Connection, Flow.{host_asks, same_flow}, Table.{IsTable, entry_under, value_under}, declared.flow.Flow.Flow}, proofs.Entries.found_at}
 use Rattle.vs_conn.specs.{End.{ConnectionEnd, may_send_of}, Shut.is_both, declared.{end.State.{State, TheVariants.{Ended, Live}}, shut.Shut.Shut}}
 use Rattle.vs_limits.specs.declared.TheConstants.{FIRST_CID}
 use Rattle.vs_outside.specs.{Host.{HostContents, Stream, stream_at}, HostBytes.{host_read, host_wrote}}
@@ -26,11 +26,11 @@ use Rattle.vs_script.specs.{App.{Act, Exchange}, Data.{Content, bytes_of, size_o
 use Rattle.laws_apps.{proofs.Naming.sent_by_id, specs.{Accounts.IsAccount, Calls.run_with, Rounds.AllStand, Runs.{IsRunOf, PollsTo, Run, poll_moved}, Traces.{AllTell, AtId}}}
 use Rattle.laws_apps.specs.Traces.{IsClosing, IsDrained, IsStopped, IsTraced, TellsOf, is_shut, is_touched}
 use Rattle.vs_report.specs.declared.giving.Totals.{Totals}
-use Rattle.vs_run_report.specs.{Endings.{ending_at, state_at, why_at}, Report.ended_at, declared.ending.Ending.Ending}
+use Rattle.vs_run_report.specs.{Connections.opened_all, declared.connection.Opened.Opened, Endings.{ending_at, state_at, why_at}, Report.ended_at, declared.ending.Ending.Ending}
 use Rattle.laws_run.specs.{Complete.{IsAtOpen, IsCompleteEnding, IsCompleteExchange, IsCompleteRun, IsCompleteWait, LacksCredit, open_labels}, Bounds.{AreShutDown, HasBounds}}
-use Rattle.laws_run.specs.{Bounds.{HasEnd, IsBounded, IsShutDown, TakesOn, calls_of_others, done_at, early, is_cut, total}, Dry.{AreIdle, IsDry, IsFull, IsFullAt, OfOpen}}
+use Rattle.laws_run.specs.{Bounds.{HasEnd, IsBounded, IsShutDown, TakesOn, calls_of_others, done_at, early, is_cut, total}, Dry.{AreIdle, IsDry, IsFull, IsFullAt, OfOpen}, Labels.{AreClients, HasStream}}
 use Rattle.laws_run.{specs.Dry.{reads_of, stream_open, writes_of}, proofs.{Bounding.{AreFree, ArePlain, Way, all_moved, receiving, sending, sending_all, tally}, Moved.all_plain}}
-use Rattle.laws_run.proofs.{Moved.{app_early, app_free, app_less, app_plain, drain_early, drained, free_moves, free_sends, stopped, received_enough, sent_enough}, Trying.all_lined}
+use Rattle.laws_run.proofs.{Moved.{app_early, app_free, app_less, app_plain, drain_early, drained, free_moves, free_sends, stopped, received_enough, sent_enough}, Labels.clients_stream, Opening.all_opened, Trying.all_lined}
 use Rattle.laws_run.proofs.{Trying.{all_tried, tried}, Alike.{AreApart, HasApart, Leaves, leaves_core}, Drying.under_at, Endings.{Ends, all_ends, ends_on}, Wrote.same_current}
 use Rattle.laws_run.proofs.{Wrote.{same_payload, streamed, to_device, wrote_there}, Unread.{live_connection, no_free, some_unread, to_read, unread_within}}
 use Rattle.laws_run.proofs.{Halting.{Halts, IsRoomy, Stops, first_call}, Open.{among_entry, as_many_open, entry_of_open, one_is, open_stream, stream_there}, Still.poll_still}
@@ -471,6 +471,15 @@ module _ (script : RunScript) (driver : DriverState) (end : Sight) (apps : List 
                 let most = app_less script bytes k w.tell id entries in
                 let same = ap (λ (js : Journal). tally w.tell id js) played.2 in omega (arith, all, most, same)
 
+    -- Clients have their streams.
+    clients_run : AreClients opened (opened_all (length script) entries) h
+    clients_run i d less = of _ (all_opened opened (length script) entries account.flows i d less)
+      where
+        of : (o : Opened) → (1 ≤ (opened o.id).number) × ((opened o.id).flow ≡ o.flow) → host_asks (opened o.id).flow ≡ true → HasStream (opened o.id) h
+        of o has asks = clients_stream h e.sight.log (ports_of p.next_port p.device) p.device.table p.handshakes on (opened o.id) has.0 asks
+            (subst (λ (n : ℕ). (opened o.id).number ≤ n) (ap (λ (c : Connection). c.number) (same_current driver end p e settled (opened o.id).flow))
+            (account.right.received.passed o.id))
+
     wait_complete : (k : ℕ) (why : WaitsFor) → Halts old.driver (acts_of k script) (state_at k apps).progress why driver
         → IsCompleteWait opened journal h (state_at k apps).progress.conn why
     wait_complete k waits.Full halts = tt
@@ -567,4 +576,5 @@ module _ (script : RunScript) (driver : DriverState) (end : Sight) (apps : List 
       bounded = bounded_run;
       given = (run.kept.given refl (driver_log end) refl).all;
       owned = (run.kept.places refl (driver_log end) refl).1;
+      clients = clients_run;
     }

@@ -14,6 +14,7 @@ pub mod Pumping
 pub mod Bounding
 pub mod Moved
 pub mod Trying
+pub mod Labels
 pub mod Completing
 pub mod Lines
 pub mod Holding

@@ -1,4 +1,5 @@
 pub mod Dry
 pub mod Bounds
+pub mod Labels
 pub mod Complete
 pub mod Places
