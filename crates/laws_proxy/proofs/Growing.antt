@@ -1,11 +1,12 @@
 -- The buffer space of the connection of a flow, or of a stream's label, is raised: what a proxy keeps.
-use Rattle.std.proofs.Common.{◌≡◌, ℕ, List, Option, Some, None, refl, ap}
+use Rattle.std.proofs.Common.{arith}
+use Rattle.std.proofs.lemmas.Grind.{common_steps}
+use Rattle.std.proofs.Common.{◌≡◌, ℕ, List, Option, refl}
 use Rattle.vs_flow.specs.declared.flow.Flow.{Flow}
 use Rattle.vs_outside.specs.Host.{HostContents}
 use Rattle.vs_ring_port.specs.{Contents.RingContents, declared.device_ring.Chain.Chain}
-use Rattle.vs_device_parts.specs.{Calls.Situation, Growing.{after_grow, grow_of, grown_by}, Playing.IsItsRing, State.{DeviceEntry, DeviceState, counters_of}}
-use Rattle.vs_device_parts.specs.declared.answers.Grown.{Grown}
-use Rattle.vs_proxy_parts.specs.{Growing.{after_flow_grow, after_label_grow, flow_grow_of, slot_of}, Handshakes.streams_of, State.{ProxyState, with_device}}
+use Rattle.vs_device_parts.specs.{Calls.Situation, Growing.{after_grow, grown_by}, Playing.IsItsRing, State.{DeviceEntry, DeviceState, counters_of}}
+use Rattle.vs_proxy_parts.specs.{Growing.{after_flow_grow, after_label_grow, flow_grow_of}, Handshakes.streams_of, State.{ProxyState, with_device}}
 use Rattle.laws_device.{specs.Named.Streams.HasStreams, proofs.{Growing.{grow_keeps, grow_streamed, grow_streams, grow_with, grown_same}, Seats.Carried}}
 use Rattle.laws_proxy.specs.{Account.{Counts.counts_shown, Made.Made, Tied.AccountsFor, Told.AreAccounted}, Honest.{IsProxyStreamed, IsProxyWith}, Order.IsInOrder}
 use Rattle.laws_proxy.proofs.{Account.Growing.{grow_accounted, grow_agrees}, Turning.Proxied}
@@ -14,19 +15,10 @@ use Rattle.vs_device_parts.specs.declared.answers.Grown.TheVariants as rise
 
 module _ (flow : Flow) (alloc : ℕ) (s : ProxyState) where
   grow_by : (P : ProxyState → Type 0) → P s → ((slot : ℕ) → P (with_device (after_grow slot alloc s.device) s)) → P (after_flow_grow flow alloc s)
-  grow_by P same raised = by (slot_of flow s.device)
-    where
-      by : (o : Option ℕ) → P (elim o as (λ _. ProxyState) [ None ↦ s | Some slot ↦ with_device (after_grow slot alloc s.device) s ])
-      by None = same
-      by (Some slot) = raised slot
+  grow_by P same raised = grind (arith, common_steps)
 
   pub flow_grown_same : (flow_grow_of flow alloc s ≡ rise.Done → ⊥) → after_flow_grow flow alloc s ≡ s
-  flow_grown_same = by (slot_of flow s.device)
-    where
-      by : (o : Option ℕ) → (elim o as (λ _. Grown) [ None ↦ rise.Unknown | Some slot ↦ grow_of slot alloc s.device ] ≡ rise.Done → ⊥)
-          → elim o as (λ _. ProxyState) [ None ↦ s | Some slot ↦ with_device (after_grow slot alloc s.device) s ] ≡ s
-      by None other = refl
-      by (Some slot) other = ap (λ (d : DeviceState). with_device d s) (grown_same slot alloc s.device other)
+  flow_grown_same = grind (arith, common_steps)
 
   -- What raising a buffer space doesn't touch.
   pub flow_grow_stays : (P : DeviceState → Type 0) → P s.device → ((e : DeviceEntry) → P (grown_by rise.Done alloc e s.device)) → P (after_flow_grow flow alloc s).device
@@ -71,12 +63,7 @@ module _ (flow : Flow) (alloc : ℕ) (s : ProxyState) where
 
 module _ (label : Option (Option Flow)) (alloc : ℕ) (s : ProxyState) where
   pub label_grow_by : (P : ProxyState → Type 0) → P s → ((flow : Flow) → P (after_flow_grow flow alloc s)) → P (after_label_grow label alloc s)
-  label_grow_by P same raised = by label
-    where
-      by : (o : Option (Option Flow)) → P (after_label_grow o alloc s)
-      by None = same
-      by (Some None) = same
-      by (Some (Some flow)) = raised flow
+  label_grow_by P same raised = grind (arith, common_steps)
 
   pub label_grow_counts : counts_shown (after_label_grow label alloc s).device ≡ counts_shown s.device
   label_grow_counts = label_grow_by (λ t. counts_shown t.device ≡ counts_shown s.device) refl

@@ -1,28 +1,24 @@
 -- A proxy in order: its turn and its reset may be made, and what each keeps, from the conversation that it ran.
-use Rattle.laws_device.{specs.{Carried.Streamed.{ports_of, IsStreamed}, Named.{Split.CanReach, Streams.FindsStreams}, Honest.IsFresh}, proofs.Named.Conditions.may_where}
-use Rattle.laws_device.proofs.{Named.{Conditions.quiet_can, Keeping.{keeps_may, keeps_end as streams_end}, Opening.new_has}, Carrying.{ring_and_host, ring_only}, Keeping.keeps_end}
-use Rattle.laws_device.proofs.{Keeping.keeps_put, Carried.Changing.no_streams}
-use Rattle.std.{proofs.Common.{[], ℕ, ◌<◌, ◌≤◌, ◌^◌, List, Result, ◌≡◌, refl, sym, subst}, specs.Option.ForSome}
+use Rattle.std.proofs.Common.{arith}
+use Rattle.std.proofs.lemmas.Grind.{common_steps}
+use Rattle.laws_device.{specs.{Named.{Split.CanReach, Streams.FindsStreams}, Honest.IsFresh}, proofs.Named.Conditions.may_where}
+use Rattle.laws_device.proofs.{Named.{Conditions.quiet_can, Keeping.{keeps_may, keeps_end as streams_end}}, Carrying.{ring_and_host, ring_only}, Keeping.keeps_end}
+use Rattle.laws_device.proofs.{Keeping.keeps_put}
+use Rattle.std.{proofs.Common.{[], ℕ, ◌<◌, ◌≤◌, ◌^◌, List, Result, ◌≡◌}, specs.Option.ForSome}
 use Rattle.vs_ring_port.specs.declared.failure.Failure.{Failure}
 use Rattle.vs_device_parts.specs.{Calls.{Allows, Situation}, Playing.{CanMake, MayRun, Runs}}
 use Rattle.vs_proxy_parts.specs.{Turns.{new_proxy_at, proxy_reset_of, turn_of}, Handshakes.streams_of, State.ProxyState, declared.answers.Turn.Turn}
-use Rattle.laws_proxy.proofs.{Named.{Lists.none_open, Turning.{keeps_proxy_reset, keeps_turn}}, Turning.{new_proxy_with, proxy_reset_keeps, turn_keeps, plain_proxied}}
+use Rattle.laws_proxy.proofs.{Named.{Turning.{keeps_proxy_reset, keeps_turn}}, Turning.{proxy_reset_keeps, turn_keeps, plain_proxied}}
 use Rattle.laws_proxy.{proofs.Turning.{proxied_ring, proxied_streams, streamed_proxied}, specs.{Honest.{IsProxyWith, IsProxyStreamed}, Order.IsInOrder}}
 use Rattle.vs_limits.specs.declared.TheConstants.{ASSIGNED_FIRST}
-use Rattle.vs_page.specs.Log.{Log}
 
 pub new_in_order : (cid : ℕ) (base : List ℕ) (port : ℕ) (a : Situation) → cid < 2 ^ 64 → ASSIGNED_FIRST ≤ port → IsFresh a.ring
     → IsInOrder cid (new_proxy_at cid base port) a
-new_in_order cid base port a fits above fresh = record {
-  streams = λ h is. new_has [] cid base h (none_open h);
-  ring = new_proxy_with cid base port a.ring fits above fresh;
-}
+new_in_order cid base port a fits above fresh = grind (arith, common_steps)
 
 pub new_streamed : (cid : ℕ) (base : List ℕ) (port : ℕ) (a : Situation) → IsFresh a.ring → ForSome a.host (λ h. (h.streams ≡ []) × (h.labelled ≡ []))
     → IsProxyStreamed cid (new_proxy_at cid base port) a
-new_streamed cid base port a fresh none honest l is plain h there =
-    subst (λ (log : Log). IsStreamed h log (ports_of port (new_proxy_at cid base port).device) (new_proxy_at cid base port).device.table []) (sym (fresh l is).0)
-    (no_streams h (ports_of port (new_proxy_at cid base port).device) (new_proxy_at cid base port).device.table refl (none h there).0 (none h there).1)
+new_streamed cid base port a fresh none honest l is plain h there = grind (arith, common_steps)
 
 pub turn_may : (first size now : ℕ) (s : ProxyState) (a : Situation) → IsInOrder first s a → MayRun (turn_of size now s) a
 turn_may first size now s a is =

@@ -1,4 +1,5 @@
 -- The flow that a client's connection gets is one of the device's own, and the table takes it.
+use Rattle.std.proofs.lemmas.Grind.{common_steps}
 use Rattle.std.proofs.Common.{◌≡◌, ℕ, ◌<◌, ◌≤◌, ◌^◌, ◌||◌, nat_le, Bool, true, false, cond, List, [], ◌∷◌, Option, Some, None, refl, sym, ap, subst, ◌∙◌, arith, inl, inr}
 use Rattle.std.{proofs.lemmas.{Bool.Decides.nat_tests, List.Elements.All-tail}, specs.List.All}
 use Rattle.vs_flow.specs.{CleanPairs.{comes_from, oldest}, Flow.{host_asks, host_flow, is_assigned, same_flow}, Table.{IsTable, Table, entry_of, has_place, refusal}, declared.flow.Flow.Flow}
@@ -43,11 +44,7 @@ pub record IsTaken (carry : Carried) (port : ℕ) (s : DeviceState) (flow : Flow
   pub none : refusal s.table flow ≡ None
 
 placed : (s : DeviceState) (o : Option Flow) (flow : Flow) → cond (has_place s.table) o None ≡ Some flow → (has_place s.table ≡ true) × (o ≡ Some flow)
-placed s o flow is = by (has_place s.table) is
-  where
-    by : (b : Bool) → cond b o None ≡ Some flow → (b ≡ true) × (o ≡ Some flow)
-    by true is = (refl, is)
-    by false is = absurd cc
+placed s o flow is = grind (arith, common_steps)
 
 module _ (carry : Carried) (first port : ℕ) (s : DeviceState) (guest : ℕ) (flow : Flow) (l : EndLog) (p : AgreesBy carry first port s l)
     (above : ASSIGNED_FIRST ≤ port) (fits : guest < 2 ^ 32) (place : has_place s.table ≡ true) where

@@ -1,6 +1,6 @@
 -- A poll puts nothing only where nothing is owed, or no page is free.
+use Rattle.std.proofs.lemmas.Grind.{common_steps}
 use Rattle.std.{proofs.Common.{◌≡◌, ◌<◌, ◌+◌, ℕ, Bool, true, false, not, if◌then◌else◌, List, [], ◌∷◌, length, Option, Some, None, refl, arith}, specs.Prelude.nat_lt}
-use Rattle.vs_header.specs.Packet.{header_bytes}
 use Rattle.vs_contents.{specs.CallTree.{Done, bind, while_up_to}, proofs.Leads.{AllEnds, end_of, ends_bind, ends_weaker}}
 use Rattle.vs_conn.specs.{End.owes_of, declared.end.Owed.Owed}
 use Rattle.vs_flow.specs.Table.{IsTable, entry_under, slots}
@@ -8,7 +8,7 @@ use Rattle.vs_replies.specs.declared.Reply.{Reply}
 use Rattle.vs_ring_port.specs.{Contents.RingContents, declared.queue.Queue.TheVariants.{Event, Rx, Tx}}
 use Rattle.vs_driver_parts.specs.Conversations.{DriverTree, Round, after_paying, has_page, one_put, owed_bytes, pay_all, pay_and_publish, pay_slot, poll_of, poll_packets}
 use Rattle.vs_driver_parts.specs.Conversations.{poll_puts, poll_reaps, polled, publish_and_pay, published, put_all, put_owed, put_owed_of, put_replies, put_reply, put_reply_of}
-use Rattle.vs_driver_parts.specs.{Conversations.{reap_all, reply_header, stage_packet, start, take_all, take_event, take_packet}, Playing.{Plays, RingAllows}, State.DriverEntry}
+use Rattle.vs_driver_parts.specs.{Conversations.{reap_all, stage_packet, start, take_all, take_event, take_packet}, Playing.{Plays, RingAllows}, State.DriverEntry}
 use Rattle.vs_driver_parts.specs.{State.DriverState, declared.answers.Polled.Polled}
 use Rattle.laws_driver.specs.Honest.{end_in, ends_of_state}
 use Rattle.laws_rest.{specs.Rest.OwesNothing, proofs.{Owing.{all_owe_none, end_under, listed}, Quiet.{NoReplies, NoneAt, OwesNone, Relation, Same, Serves, Served, Sight, Steps}}}
@@ -35,9 +35,7 @@ put_if N r false p page = is_over N (see r) (see r) (omega arith) (rw page refl)
 -- Replies.
 one_reply : (rs : List Reply) (r : Round) → r.state.replies ≡ rs
     → AllEnds (λ (x : Round × Bool). Steps see (Same NoReplies) r x.0) (put_reply_of rs r)
-one_reply [] r is = still (Same NoReplies) (see r) (refl, is)
-one_reply (reply ∷ rs) r is =
-    put_if (Same NoReplies) r (has_page r.state) (stage_packet (header_bytes (reply_header r.state.cid reply)) (record r.state { replies = rs })) refl
+one_reply rs r is = grind (arith, common_steps)
 
 all_replies : (rs : List Reply) (s : DriverState) → s.replies ≡ rs
     → AllEnds (Steps see (Same NoReplies) (start s)) (while_up_to (length rs) put_reply (start s))

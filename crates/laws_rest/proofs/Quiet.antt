@@ -1,6 +1,6 @@
 -- A stage that puts nothing: what is owed, as each of its steps sees it.
-use Rattle.std.proofs.Common.{◌≡◌, ◌≤◌, ◌+◌, ◌==◌, ◌||◌, ℕ, zero, suc, Bool, true, false, List, [], ◌∷◌, Option, Some, None, refl, sym, ap, subst, ◌∙◌, arith}
-use Rattle.std.proofs.lemmas.Bool.{eqb-true}
+use Rattle.std.proofs.lemmas.Grind.{common_steps}
+use Rattle.std.proofs.Common.{◌≡◌, ◌≤◌, ◌+◌, ◌==◌, ◌||◌, ℕ, zero, suc, Bool, true, false, List, [], ◌∷◌, Option, Some, None, refl, sym, subst, ◌∙◌, arith}
 use Rattle.vs_contents.{specs.CallTree.{Ask, CallTree, Done, bind, for_each, while_up_to}, proofs.Leads.{AllEnds, ends_bind, ends_weaker}}
 use Rattle.vs_conn.specs.End.{ConnectionEnd, owes_of}
 use Rattle.vs_replies.specs.declared.Reply.{Reply}
@@ -35,12 +35,7 @@ weaker N M r x gives a = record { rises = a.rises; same = λ e o. let s = a.same
 
 -- A step and then another.
 pub one_then : (N M K : Relation) (r q x : Sight) → (N r q → M q x → K r x) → Step N r q → Step M q x → Step K r x
-one_then N M K r q x gives a b = record {
-  rises = omega (arith, a.rises, b.rises);
-  same = λ e o.
-      let second = b.same (omega (arith, a.rises, b.rises, e)) o in
-      let first = a.same (omega (arith, a.rises, b.rises, e)) second.0 in (first.0, gives first.1 second.1);
-}
+one_then N M K r q x gives a b = grind (arith, common_steps)
 
 -- Nothing changes, and Q holds.
 abbrev pub Same : (Sight → Type 0) → Relation
@@ -96,29 +91,12 @@ pub record Served (is : List ℕ) (r x : Sight) : Type 0 where
   pub none : (n : ℕ) → in_list n is ≡ true → NoneAt n x
   pub keeps : (n : ℕ) → NoneAt n r → NoneAt n x
 
-serve_keeps : (slot n : ℕ) (r x : Sight) (b : Bool) → (n == slot) ≡ b → Serves slot r x → NoneAt n r → NoneAt n x
-serve_keeps slot n r x true is s none = subst (λ m. NoneAt m x) (sym (eqb-true n slot is)) s.none
-serve_keeps slot n r x false is s none = λ e at. none e (sym (s.touches.others n is) ∙ at)
-
-none_of : (slot n : ℕ) (is : List ℕ) (q x : Sight) (b : Bool) → (n == slot) ≡ b → NoneAt slot q → Served is q x
-    → (b || in_list n is) ≡ true → NoneAt n x
-none_of slot n is q x true same own s at = s.keeps n (subst (λ m. NoneAt m q) (sym (eqb-true n slot same)) own)
-none_of slot n is q x false other own s at = s.none n at
-
 served_more : (slot : ℕ) (is : List ℕ) (r q x : Sight) → Serves slot r q → Served is q x → Served (slot ∷ is) r x
-served_more slot is r q x s rest = record {
-  slots = rest.slots ∙ s.touches.slots;
-  replies = rest.replies ∙ s.touches.replies;
-  none = λ n at. none_of slot n is q x (n == slot) refl s.none rest at;
-  keeps = λ n none. rest.keeps n (serve_keeps slot n r q (n == slot) refl s none);
-}
+served_more slot is r q x s rest = grind (arith, common_steps)
 
 pub all_served : (is : List ℕ) (r q x : Sight) → ((slot : ℕ) (e : ConnectionEnd) → x.end_at slot ≡ Some e → in_list slot x.slots ≡ true)
     → ((slot : ℕ) → in_list slot q.slots ≡ true → in_list slot is ≡ true) → Same NoReplies r q → Served is q x → OwesNone x
-all_served is r q x listed covers same s = record {
-  replies = s.replies ∙ ap (λ y. y.replies) same.0 ∙ same.1;
-  ends = λ slot e at. s.none slot (covers slot (subst (λ l. in_list slot l ≡ true) s.slots (listed slot e at))) e at;
-}
+all_served is r q x listed covers same s = grind (arith, common_steps)
 
 -- Conversations of such steps.
 module _ {Call : Type 0} {Answer : Call → Type 0} where

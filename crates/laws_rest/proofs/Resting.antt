@@ -1,17 +1,16 @@
 -- Both ends at rest, flow by flow.
-use Rattle.std.proofs.Common.{◌≡◌, ℕ, ◌<◌, ◌≤◌, ◌^◌, ◌%◌, Bool, true, false, ◌||◌, if◌then◌else◌, List, [], ◌∷◌, Option, Some, None, refl, sym, ap, ◌∙◌, subst, arith}
+use Rattle.std.proofs.Common.{◌≡◌, ℕ, ◌≤◌, Bool, true, false, ◌||◌, if◌then◌else◌, List, [], ◌∷◌, Option, Some, None, refl, sym, ◌∙◌, subst, arith}
 use Rattle.std.{proofs.lemmas.{Grind.common_steps, List.Elements.{All-head, All-tail}}, specs.List.All}
-use Rattle.vs_wrap.specs.Wrap.{difference32}
-use Rattle.vs_header.specs.{Kind.kind_number, declared.Kind.Kind}
-use Rattle.vs_conn.specs.{End.{ConnectionEnd, asked, owes_of}, Follows.{Follows, IsLeftBy}, Shut.{is_both, is_within}, declared.{end.State.TheVariants.Live, shut.Shut.Shut}}
+use Rattle.vs_header.specs.{declared.Kind.Kind}
+use Rattle.vs_conn.specs.{End.{ConnectionEnd, asked, owes_of}, Follows.{Follows}, declared.{end.State.TheVariants.Live}}
 use Rattle.vs_flow.specs.{Flow.{host_asks, same_flow}, declared.flow.Flow.Flow}
-use Rattle.laws_history.specs.{History.{Answerer, Asker, Got, History, IsFair, MayPut, Put, Side, gots, of_asker, peer, puts}, Packets.{asked_kind, bytes, has, is_response}}
-use Rattle.laws_history.specs.{Packets.{is_rst, told_alloc, told_forwarded}, declared.packet.Packet.Packet}
-use Rattle.vs_limits.specs.declared.TheConstants.{BUF_ALLOC, HOST_CID, UPDATE_AT}
+use Rattle.laws_history.specs.{History.{Answerer, Asker, Got, History, IsFair, MayPut, Put, Side, gots, of_asker, peer, puts}, Packets.{asked_kind, has}}
+use Rattle.laws_history.specs.{Packets.{is_rst, told_alloc}, declared.packet.Packet.Packet}
+use Rattle.vs_limits.specs.declared.TheConstants.{BUF_ALLOC, HOST_CID}
 use Rattle.vs_page.{specs.{Log.{Device, Driver, Role, history_of, other_role, packets_got, packets_put, side_of}, Open.left_kind}, proofs.Flows.{opposite_by, other_twice}}
 use Rattle.laws_tables.specs.{Both.{Both, at}, Ends.{FlowEnd, ends_of, flows_of, is_among, replied}, Heard.heard_of, Matches.{IsBefore, IsHeld, IsLeftOn}, Steps.HasEnd}
 use Rattle.laws_tables.proofs.Fair.{fair_now}
-use Rattle.laws_rest.{specs.Rest.{ArePaired, HasWords, IsAtRest, Mirrors}, proofs.Standing.{AreKept, AreTiedOn, device_kept, driver_kept, is_none, open_stands, stands}}
+use Rattle.laws_rest.{specs.Rest.{ArePaired, IsAtRest, Mirrors}, proofs.Standing.{AreKept, AreTiedOn, device_kept, driver_kept, is_none, open_stands, stands}}
 use Rattle.laws_rest.proofs.Standing.{stands_both, tied}
 
 abbrev pub OweNone : List ConnectionEnd → Type 0
@@ -113,72 +112,13 @@ same_flows first b f host r =
     ∙ sym (among_ends f b.device.part.entries ∙ resting_some _ _ _ _ _ (rest_there Driver first b f host r))
 
 -- The two ends of a flow.
-answerer_live : (put got : List Packet) (e : ConnectionEnd) → Follows Answerer put got e → owes_of e ≡ None
-    → (e.state ≡ Live) × (has is_response put ≡ true)
-answerer_live = grind (arith, common_steps)
-
-asker_live : (put got : List Packet) (e : ConnectionEnd) → Follows Asker put got e → owes_of e ≡ None → has is_response got ≡ true
-    → e.state ≡ Live
-asker_live = grind (arith, common_steps)
-
 both_live : (side : Side) (put got : List Packet) (e other : ConnectionEnd) → Follows side put got e → Follows (peer side) got put other
     → owes_of e ≡ None → owes_of other ≡ None → (e.state ≡ Live) × (other.state ≡ Live)
-both_live Asker put got e other f g owes none =
-    let a = answerer_live got put other g none in (asker_live put got e f owes a.1, a.0)
-both_live Answerer put got e other f g owes none =
-    let a = answerer_live put got e f owes in (a.0, asker_live got put other g none a.1)
-
-live_left : (side : Side) (put got : List Packet) (e : ConnectionEnd) → e.state ≡ Live → Follows side put got e → IsLeftBy side put got e
-live_left side put got e live f = f.left (λ ended. absurd cc)
-
-shut_told : (own told : Shut) → (is_both told ≡ false → is_within own told ≡ true) → is_within told own ≡ true → own ≡ told
-shut_told = grind (arith, common_steps)
-
-quiet_told : (e : ConnectionEnd) → e.state ≡ Live → owes_of e ≡ None → is_both e.told ≡ false → is_within e.own e.told ≡ true
-quiet_told = grind (arith, common_steps)
-
-quiet_updated : (e : ConnectionEnd) → e.state ≡ Live → owes_of e ≡ None → is_both e.told ≡ false
-    → difference32 e.credit.fwd_cnt e.told_fwd < UPDATE_AT
-quiet_updated = grind (arith, common_steps)
-
-same_shut : (a b : Shut) → a.receive ≡ b.receive → a.send ≡ b.send → a ≡ b
-same_shut = grind (arith, common_steps)
-
-words_of : (side : Side) (put got : List Packet) (e : ConnectionEnd) → IsLeftBy side put got e → Follows side put got e → HasWords e
-words_of side put got e a f = record {
-  tx_cnt = word_by e.credit.tx_cnt (bytes put) a.tx_cnt;
-  rx_cnt = f.rx_cnt;
-  fwd_cnt = f.fwd_cnt;
-  told_fwd = word_by e.told_fwd (told_forwarded put) a.told_fwd;
-} where
-  word_by : (a n : ℕ) → a ≡ n % 2 ^ 32 → a < 2 ^ 32
-  word_by a n is = grind arith
-
-same_number : (a b : Kind) → kind_number a ≡ kind_number b → a ≡ b
-same_number = grind (arith, common_steps)
-
-same_kind : (side : Side) (put got : List Packet) (e other : ConnectionEnd) → Follows side put got e → Follows (peer side) got put other
-    → e.kind ≡ other.kind
-same_kind Asker put got e other f g = same_number e.kind other.kind (f.kind ∙ sym g.kind)
-same_kind Answerer put got e other f g = same_number e.kind other.kind (f.kind ∙ sym g.kind)
+both_live side put got e other f g owes none = grind (arith, common_steps)
 
 mirrors : (side : Side) (put got : List Packet) (e other : ConnectionEnd) → e.state ≡ Live → other.state ≡ Live
     → Follows side put got e → Follows (peer side) got put other → owes_of other ≡ None → BUF_ALLOC ≤ told_alloc got → Mirrors e other
-mirrors side put got e other live live_there f g none least =
-    let a = live_left side put got e live f in
-    let b = live_left (peer side) got put other live_there g in
-    let told : other.own ≡ other.told = shut_told other.own other.told (quiet_told other live_there none) b.decided in
-    record {
-      live = live;
-      kind = same_kind side put got e other f g;
-      words = words_of side put got e a f;
-      sent = a.tx_cnt ∙ sym b.rx_cnt;
-      peer_fwd = a.peer_fwd ∙ sym b.told_fwd;
-      peer_alloc = rw a.peer_alloc least;
-      peer_most = rw a.peer_alloc b.alloc_told;
-      updated = λ not_both. quiet_updated other live_there none (ap is_both (sym told) ∙ not_both);
-      peer = same_shut e.peer other.told (a.peer_receive ∙ sym b.told_receive) (a.peer_send ∙ sym b.told_send) ∙ sym told;
-    }
+mirrors side put got e other live live_there f g none least = grind (arith, common_steps)
 
 -- Buffer space that was told is BUF_ALLOC at least.
 first_no : (a b : Bool) → (a || b) ≡ false → (a ≡ false) × (b ≡ false)
@@ -186,12 +126,7 @@ first_no = grind (arith, common_steps)
 
 newest_least : (side : Side) (put got : List Packet) (p : Packet) → MayPut side put got p → has is_rst (p ∷ put) ≡ false
     → (is_none put ≡ false → BUF_ALLOC ≤ told_alloc put) → BUF_ALLOC ≤ told_alloc (p ∷ put)
-newest_least side [] got p may none older =
-    let no = first_no (is_rst p) (has is_rst []) none in let first = (may.honest no.0).alloc_first refl in rw no.0 (omega (arith, first))
-newest_least side (q ∷ put) got p may none older =
-    let no = first_no (is_rst p) (has is_rst (q ∷ put)) none in
-    let rises = (may.honest no.0).alloc_rises in
-    let least = older refl in rw no.0 (omega (arith, rises, least))
+newest_least side put got p may none older = grind (arith, common_steps)
 
 least_told : (side : Side) (h : History) → IsFair side h → is_none (gots h) ≡ false → has is_rst (gots h) ≡ false
     → BUF_ALLOC ≤ told_alloc (gots h)
@@ -211,10 +146,7 @@ least_put side (Put p ∷ h) fair some none =
 
 begun_some : (side : Side) (put got : List Packet) (e other : ConnectionEnd) → Follows side put got e → Follows (peer side) got put other
     → e.state ≡ Live → other.state ≡ Live → (is_none put ≡ false) × (is_none got ≡ false)
-begun_some Asker put got e other f g live live_there =
-    let a = live_left Asker put got e live f in let begun = f.begun in grind (arith, common_steps)
-begun_some Answerer put got e other f g live live_there =
-    let a = live_left Answerer put got e live f in let begun = f.begun in grind (arith, common_steps)
+begun_some side put got e other f g live live_there = grind (arith, common_steps)
 
 stood : (put got : List Packet) → stands put got ≡ true → (has is_rst put ≡ false) × (has is_rst got ≡ false)
 stood = grind (arith, common_steps)

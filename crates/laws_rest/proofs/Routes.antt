@@ -1,14 +1,14 @@
 -- Where the driver's packets go, carried along its calls.
-use Rattle.std.proofs.{Common.{◌≡◌, ◌==◌, ◌&&◌, ◌≤◌, ◌<◌, ◌^◌, ℕ, Bool, true, false, not, List, [], ◌∷◌, take, Result, refl, ap, ◌∙◌, arith}, lemmas.Grind.common_steps}
+use Rattle.std.proofs.{Common.{◌≡◌, ◌≤◌, ◌<◌, ◌^◌, ℕ, Bool, true, false, List, [], ◌∷◌, Result, refl, ap, ◌∙◌, arith}, lemmas.Grind.common_steps}
 use Rattle.std.{proofs.lemmas.List.Elements.{All-head, All-tail}, specs.List.All}
 use Rattle.vs_header.specs.declared.{Header.Header, Kind.TheVariants.Stream}
 use Rattle.vs_flow.specs.{Flow.same_flow, declared.flow.Flow.Flow}
-use Rattle.laws_history.specs.{declared.packet.Packet.Packet, History.{Answerer, Asker, History, Side, gots, is_begun, puts}}
+use Rattle.laws_history.specs.{declared.packet.Packet.Packet, History.{History, Side, gots, is_begun, puts}}
 use Rattle.vs_limits.specs.declared.TheConstants.{HOST_CID, LAST_PORT}
 use Rattle.vs_page.specs.{Log.{Device, Driver, Log, flow_got, flow_put, history_of, packets_got, side_of}, Open.{cid_of, is_dropped}, declared.log.LogEntry.TheVariants.GotPacket}
 use Rattle.vs_page.{specs.declared.log.LogEntry.TheVariants.PutPacket, proofs.{Entries.one_put, Flows.same_is}}
 use Rattle.vs_ring_port.specs.Contents.{RingContents}
-use Rattle.laws_tables.specs.{Heard.is_empty, Steps.{owed_on, payload_on, reply_on, request_on}}
+use Rattle.laws_tables.specs.{Heard.is_empty, Steps.{owed_on, reply_on, request_on}}
 use Rattle.vs_driver_parts.specs.{Connections.next_flow, Conversations.{DriverTree, connect_of, new_of, poll_of, send_of}, Playing.Plays, State.DriverState}
 use Rattle.vs_driver_parts.specs.declared.answers.{ConnectError.ConnectError, Polled.Polled, Sent.Sent}
 use Rattle.laws_driver.{specs.Honest.{IsFresh, IsHonestWith}, proofs.{Calls.{CarriesConnect, CarriesSend, connect_keeps, new_keeps, rests_of, send_keeps}, Carrying.Carries}}
@@ -24,10 +24,7 @@ Routed first part slots log = IsRoutedLog first log
 
 -- A packet with the guest's CID that goes to the host.
 not_dropped : (c cid : ℕ) (h : Header) → h.src_cid ≡ cid → cid ≡ c → h.dst_cid ≡ HOST_CID → is_dropped Device c h ≡ false
-not_dropped c cid h from is to = rw from (rw is (rw to (own c)))
-  where
-    own : (n : ℕ) → not ((n == n) && true) ≡ false
-    own n = grind (arith, common_steps)
+not_dropped c cid h from is to = grind (arith, common_steps)
 
 goes_to_host : (c : ℕ) (h : Header) → is_dropped Device c h ≡ false → h.dst_cid ≡ HOST_CID
 goes_to_host c h kept = grind (arith, common_steps)
@@ -52,9 +49,7 @@ host_by first f (GotPacket p ∷ log) from routed some =
 host_by first f (_ ∷ log) from routed some = host_by first f log from routed some
 
 begun_some : (side : Side) (h : History) → is_begun side (puts h) (gots h) ≡ true → is_empty h ≡ false
-begun_some Asker [] begun = absurd cc
-begun_some Answerer [] begun = absurd cc
-begun_some side (entry ∷ h) begun = refl
+begun_some side h begun = grind (arith, common_steps)
 
 -- Of each call.
 poll_routes : (first : ℕ) → Carries true first (Routed first)
@@ -82,16 +77,7 @@ connect_routes first host = record {
 }
 
 send_routes : (first id : ℕ) (bytes : List ℕ) → CarriesSend true first id bytes (Routed first) (λ answer. Routed first)
-send_routes first id bytes = record {
-  stopped = λ why s log routed. routed;
-  unknown = λ s log none routed. routed;
-  empty = λ s log routed. routed;
-  full = λ n s log routed. routed;
-  wants = λ e s log fits stands m routed. routed;
-  sends = λ e n s log fits stands known can few m was fair routed from.
-      let p = payload_on Driver s.cid e.flow e.value.end (take n bytes) in
-      (not_dropped (cid_of first log) s.cid p.header refl m.flows.cid ((entry_fits s e fits stands).peer refl), routed from);
-}
+send_routes first id bytes = grind (arith, common_steps)
 
 module _ (first : ℕ) (s : DriverState) (c d : RingContents) (honest : IsHonestWith true first s c) (routed : IsRoutedWith first c) where
   starts : Rests true first (Routed first) s c

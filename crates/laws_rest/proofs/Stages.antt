@@ -11,7 +11,7 @@ use Rattle.vs_replies.specs.declared.Reply.{Reply}
 use Rattle.vs_ring_port.specs.{Contents.Take, Known.StopsAt, declared.{failure.Failure.Failure, device_ring.{Chain.Chain, Next.Next}, queue.Queue.TheVariants.Rx}}
 use Rattle.vs_device_parts.specs.{Calls.{Allows, CloseStream, DeviceTree, ReadStream, Ring, Situation}, Connections.{after_shut, cut_off, route_to_guest, with_connection}}
 use Rattle.vs_device_parts.specs.{Connections.with_fault, Receiving.{Filling, after_paying, fill_rx_of, filled_of, hold, holding, may_read, put_on, put_owed, put_packet}}
-use Rattle.vs_device_parts.specs.Receiving.{put_reply, put_reply_of, read_answered, read_room, read_stream, read_with_chain, reply_header, round_from, serve_slot, written}
+use Rattle.vs_device_parts.specs.Receiving.{put_reply, put_reply_of, read_answered, read_room, read_stream, read_with_chain, reply_header, round_from, serve_slot}
 use Rattle.vs_device_parts.specs.{Playing.Runs, State.{DeviceConnection, DeviceEntry, DeviceState}, Steps.filling, Streams.closing, declared.answers.Filled.Filled}
 use Rattle.laws_device.{specs.{Named.Waiting.filling_of, Honest.{end_in, ends_of_state}}, proofs.Named.Stopping.{is_stage, over_stops}}
 use Rattle.laws_rest.{specs.Rest.OwesNothing, proofs.{Owing.{all_owe_none, end_under, listed, same_slots, same_under}, Quiet.{Any, NoReplies, NoneAt, OwesNone, Relation, Same}}}
@@ -19,7 +19,6 @@ use Rattle.laws_rest.proofs.Quiet.{Served, Serves, Sight, Steps, Touches, all_se
 use Rattle.laws_rest.proofs.Quiet.{serves, some_at, still, touches_none}
 use Rattle.vs_limits.specs.declared.TheConstants.{OWED_MAX}
 use Rattle.vs_outside.specs.declared.host_net.StreamRead.TheVariants as read
-use Rattle.vs_ring_port.specs.declared.device_ring.Next.TheVariants as next
 
 abbrev see : Filling → Sight
 see r = record {
@@ -38,9 +37,7 @@ abbrev Holds : Filling → Filling → Type 0
 Holds r q = Steps see (Same Any) r q × (q.state.chain ≡ None → q.over ≡ true)
 
 held_by : (r : Filling) (a : Next) → Holds r (holding a r)
-held_by r (next.Chain chain) = (still (Same Any) (see r) (refl, tt), λ none. absurd cc)
-held_by r next.None = (is_over (Same Any) (see r) (see (holding next.None r)) (omega arith) refl, λ none. refl)
-held_by r (next.Failed f) = (is_over (Same Any) (see r) (see (holding (next.Failed f) r)) (omega arith) refl, λ none. refl)
+held_by r a = grind (arith, common_steps)
 
 hold_ends : (r : Filling) (c : Option Chain) → r.state.chain ≡ c
     → Leaves (Holds r) (elim c [ Some chain ↦ Done r | None ↦ Ask (Ring (Take Rx)) (λ answer. Done (holding answer r)) ])
@@ -62,9 +59,7 @@ abbrev PutsOne : Filling → Filling → Type 0
 PutsOne q p = p.put ≡ q.put + 1
 
 one_put : (chain : Chain) (h : Header) (payload : List ℕ) (q : Filling) → AllEnds (PutsOne q) (put_on chain h payload q)
-one_put chain h payload q =
-    ends_bind (PutsOne q) (written chain h payload) (λ u. Done (record q { state = record q.state { chain = None }; put = q.put + 1 }))
-    (ends_any (λ u. q.put + 1 ≡ q.put + 1) (λ u. refl) (written chain h payload))
+one_put chain h payload q = grind (arith, common_steps)
 
 put_with : (N : Relation) (h : Header) (f : DeviceState → DeviceTree DeviceState) (r q : Filling) (c : Option Chain)
     → Holds r q → q.state.chain ≡ c
@@ -285,10 +280,7 @@ ok_of None q f is = let same : f ≡ record { put = q.put; read = q.read } = cc 
 ok_of (Some x) q f is = absurd cc
 
 unfailed : (o : Option Failure) (s t : DeviceState) (a b : Situation) (f : Filled) → s.failed ≡ o → Runs (fill_rx_of s) a (t, Ok f) b → o ≡ None
-unfailed None s t a b f is runs = refl
-unfailed (Some x) s t a b f is runs =
-    let done : Runs {A = DeviceState × Result Filled Failure} (Done (record s { failed = Some x }, Err x)) a (t, Ok f) b = rw is at runs in
-    let bad : Err x ≡ Ok f = ap (λ y. y.1) done.0 in absurd cc
+unfailed o s t a b f is runs = grind (arith, common_steps)
 
 fill_by : (port : ℕ) (s t : DeviceState) (a b : Situation) (f : Filled) (q : Filling) (over : Bool) → q.over ≡ over
     → Runs (filling_of s) a q b → (t, Ok f) ≡ filled_of q → f.put ≡ 0 → IsTable t.table

@@ -2,13 +2,13 @@
 use Rattle.std.proofs.{Common.{◌≡◌, ℕ, Bool, true, false, ◌&&◌, not, if◌then◌else◌, Option, Some, None, List, [], ◌∷◌, refl, sym, ap, ◌∙◌, subst, arith}, lemmas.Grind.common_steps}
 use Rattle.std.{proofs.lemmas.List.Elements.{All-cons, All-head, All-nil, All-tail}, specs.List.All}
 use Rattle.vs_flow.specs.{Flow.{host_asks, same_flow}, declared.flow.Flow.Flow}
-use Rattle.laws_history.specs.{Again.{AllowsNow, IsFairAll, now_got, now_put}, History.{Answerer, Asker, Got, History, MayPut, Put, Side, gots, is_begun, of_asker, peer, puts}}
+use Rattle.laws_history.specs.{Again.{AllowsNow, IsFairAll, now_got, now_put}, History.{Got, History, Put, Side, gots, of_asker, peer, puts}}
 use Rattle.laws_history.{specs.{Packets.{asked_kind, has, is_request, is_rst}, declared.packet.Packet.Packet}, proofs.Present.{is_present, swap, swap_back}}
 use Rattle.vs_limits.specs.declared.TheConstants.{HOST_CID}
 use Rattle.vs_page.specs.{Fair.IsFairOn, Log.{Device, Driver, Log, Role, and_then, flow_got, flow_put, history_of, other_role, packets_got, packets_put, side_of, whole_of}}
-use Rattle.vs_page.specs.{Open.{cid_of, is_dropped, kind_ended, kind_got, kind_put, left_kind}, declared.log.LogEntry.TheVariants.{GotPacket, Mark, PutPacket}}
-use Rattle.vs_page.proofs.{Entries.{fair_got_on, fair_put_on, got_on, present_is}, Flows.{opposite_by, same_is, other_twice}, Phases.kind_stays}
-use Rattle.laws_tables.{specs.Heard.IsAllHeard, proofs.{Fair.{all_got, all_put}, Frame.{open_got, open_put}}}
+use Rattle.vs_page.specs.{Open.{cid_of, is_dropped, kind_got, left_kind}, declared.log.LogEntry.TheVariants.{GotPacket, Mark, PutPacket}}
+use Rattle.vs_page.proofs.{Entries.{fair_got_on, fair_put_on, got_on, present_is}, Flows.{opposite_by, same_is, other_twice}}
+use Rattle.laws_tables.{specs.Heard.IsAllHeard, proofs.{Fair.{all_got}, Frame.{open_got}}}
 use Rattle.laws_rest.specs.Rest.{AreRouted, has_no_mark}
 
 -- Something passed, and no RST.
@@ -25,50 +25,10 @@ stands_both put got = grind (arith, common_steps)
 abbrev pub standing : Side → History → Option ℕ
 standing side h = if stands (puts h) (gots h) then Some (asked_kind (of_asker side (puts h) (gots h))) else None
 
-request_no_rst : (p : Packet) → is_request p ≡ true → is_rst p ≡ false
-request_no_rst = grind (arith, common_steps)
-
-begun_some : (side : Side) (put got : List Packet) → is_begun side put got ≡ true → (is_none put && is_none got) ≡ false
-begun_some Asker [] got is = absurd cc
-begun_some Asker (p ∷ put) got is = refl
-begun_some Answerer put [] is = absurd cc
-begun_some Answerer [] (p ∷ got) is = refl
-begun_some Answerer (q ∷ put) (p ∷ got) is = refl
-
-asks_first : (side : Side) (p : Packet) → is_request p ≡ true → MayPut side [] [] p → side ≡ Asker
-asks_first = grind (arith, common_steps)
-
-put_stands : (b : Bool) (side : Side) (h : History) (p : Packet) → is_request p ≡ b → AllowsNow side h (Put p)
-    → kind_put p (standing side h) ≡ standing side (and_then (Put p) h)
-put_stands true Asker h p is may = rw is (rw (request_no_rst p is) (rw is refl))
-put_stands true Answerer h p is may = let asker = asks_first Answerer p is (may.opens is).1 in absurd cc
-put_stands false Asker h p is may =
-    let kind = kind_stays p (puts h) is in
-    let some = begun_some Asker (puts h) (gots h) ((may.goes_on is).begun is) in rw is (rw kind (grind (arith, common_steps)))
-put_stands false Answerer h p is may =
-    let some = begun_some Answerer (puts h) (gots h) ((may.goes_on is).begun is) in rw is (grind (arith, common_steps))
-
 -- An RST that is got has the type of the connection.
-ended : (b : Bool) (k : ℕ) (p : Packet) → p.header.kind ≡ k → kind_ended p (if b then Some k else None) ≡ None
-ended true k p is = grind (arith, common_steps)
-ended false k p is = refl
-
-got_other : (rst : Bool) (side : Side) (h : History) (p : Packet) → is_rst p ≡ rst → is_request p ≡ false
-    → MayPut (peer side) (gots h) (puts h) p
-    → (if rst then kind_ended p (standing side h) else standing side h) ≡ standing side (Got p ∷ h)
-got_other true Asker h p is other may = ended _ _ p (may.kind other) ∙ (rw is (grind (arith, common_steps)))
-got_other true Answerer h p is other may = ended _ _ p (may.kind other) ∙ (rw is (grind (arith, common_steps)))
-got_other false Asker h p is other may =
-    let some = begun_some Answerer (gots h) (puts h) (may.begun other) in grind (arith, common_steps)
-got_other false Answerer h p is other may =
-    let kind = kind_stays p (gots h) other in
-    let some = begun_some Asker (gots h) (puts h) (may.begun other) in rw kind (grind (arith, common_steps))
-
 got_stands : (b : Bool) (side : Side) (h : History) (p : Packet) → is_request p ≡ b → AllowsNow side h (Got p)
     → kind_got p (standing side h) ≡ standing side (and_then (Got p) h)
-got_stands true Asker h p is may = let asker = asks_first Answerer p is (may.opens is).1 in absurd cc
-got_stands true Answerer h p is may = rw is (rw (request_no_rst p is) (rw is refl))
-got_stands false side h p is may = rw is (got_other (is_rst p) side h p refl is (may.goes_on is))
+got_stands b side h p is may = grind (arith, common_steps)
 
 -- Nothing that an end got on a flow was dropped: of the driver on each flow with the host, of the device on every flow, where the packets that
 -- it got have the guest's CID and go to the host.
@@ -123,14 +83,7 @@ Stands role first f log =
 
 put_at : (role : Role) (first : ℕ) (f : Flow) (p : Packet) (log : Log) (b : Bool) → same_flow f (flow_put role p) ≡ b
     → (b ≡ true → AllowsNow (side_of role f) (history_of role f log) (Put p)) → Stands role first f log → Stands role first f (PutPacket p ∷ log)
-put_at role first f p log true same may is =
-    let side = side_of role f in
-    let h = history_of role f log in (
-      open_put role first f p log (sym (same_is f (flow_put role p) same)) ∙ ap (kind_put p) is.0
-          ∙ put_stands (is_request p) side h p refl (may refl) ∙ (rw same refl),
-      all_put role first f p log is.1,
-    )
-put_at role first f p log false same may is = (rw same is.0, all_put role first f p log is.1)
+put_at role first f p log b same may is = grind (arith, common_steps)
 
 got_at : (role : Role) (first : ℕ) (f : Flow) (p : Packet) (log : Log) (b : Bool) → same_flow f (flow_got role p) ≡ b
     → (b ≡ true → is_dropped role (cid_of first log) p.header ≡ false)

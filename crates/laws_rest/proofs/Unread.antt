@@ -1,7 +1,7 @@
 -- Bytes are pending as they are unread, whatever the end does.
-use Rattle.std.proofs.Common.{◌≡◌, ◌+◌, ◌-◌, ◌<◌, ◌≤◌, ◌%◌, ◌^◌, ℕ, Bool, true, false, cond, List, [], ◌++◌, length, Option, Some, refl, sym, ap, ◌∙◌, arith, length-append}
+use Rattle.std.proofs.Common.{◌≡◌, ◌+◌, ◌-◌, ◌<◌, ◌≤◌, ◌%◌, ◌^◌, ℕ, Bool, true, false, cond, List, ◌++◌, length, Option, Some, refl, sym, ap, ◌∙◌, arith, length-append}
 use Rattle.std.proofs.{Common.{length-drop, length-take}, lemmas.{Bool.Decides.nat_tests, Grind.common_steps}}
-use Rattle.vs_conn.specs.{End.{ConnectionEnd, after_message, after_op, owes_of, paid_of, verdict_of, with_shut}, declared.end.{Owed.Owed, State.{State, TheVariants.Ended}}}
+use Rattle.vs_conn.specs.{End.{ConnectionEnd, after_message, after_op, owes_of, paid_of, verdict_of}, declared.end.{Owed.Owed, State.{State, TheVariants.Ended}}}
 use Rattle.vs_conn.{specs.declared.end.Verdict.Verdict, proofs.Frames.{got_over, paid_credit}}
 use Rattle.vs_credit.specs.Credit.{room_of, unread_of}
 use Rattle.vs_header.specs.{Op.op_named, declared.{Header.Header, Op.Op}}
@@ -23,9 +23,6 @@ takes rx fwd n alloc r f a le within = omega (arith, r, f, a, le, within)
 discards : (rx fwd n : ℕ) → rx < 2 ^ 32 → fwd < 2 ^ 32
     → ((rx + n) % 2 ^ 32 + 2 ^ 32 - (fwd + n) % 2 ^ 32) % 2 ^ 32 ≡ (rx + 2 ^ 32 - fwd) % 2 ^ 32
 discards rx fwd n r f = omega (arith, r, f)
-
-none_left : (rx : ℕ) → rx < 2 ^ 32 → (rx + 2 ^ 32 - rx) % 2 ^ 32 ≡ 0
-none_left rx r = omega (arith, r)
 
 message_unread : (o : Option Op) (e : ConnectionEnd) (h : Header) → unread_of (after_message o e h).credit ≡ unread_of e.credit
 message_unread (Some op.Invalid) e h = refl
@@ -75,9 +72,4 @@ writes c n fits less exact open_yet =
     forwards c.end.credit.rx_cnt c.end.credit.fwd_cnt payload (length c.pending) fits.rx fits.fwd few was ∙ sym (length-drop payload c.pending)
 
 pub shuts : (c : DeviceConnection) (bits now : ℕ) → HoldsBytes c.end.credit (length c.pending) → IsExact c → IsExact (after_shut bits now c)
-shuts c bits now fits exact open_yet = by (with_shut c.end bits).own.receive (exact (λ over. open_yet (settled_open c.end.state _ over)))
-  where
-    by : (b : Bool) → unread_of c.end.credit ≡ length c.pending
-        → unread_of (cond b (record c.end.credit { fwd_cnt = c.end.credit.rx_cnt }) c.end.credit) ≡ length (cond b [] c.pending)
-    by true was = none_left c.end.credit.rx_cnt fits.rx
-    by false was = was
+shuts c bits now fits exact open_yet = grind (arith, common_steps)

@@ -1,16 +1,17 @@
 -- Connections and handshakes with the accounts of their streams, through each change of them.
-use Rattle.std.proofs.Common.{◌≡◌, ◌≢◌, ℕ, ◌==◌, ◌&&◌, not, Bool, true, false, cond, List, [], ◌++◌, Contains, Option, Some, None, refl, sym, ap, subst, ◌∙◌, arith}
-use Rattle.std.{proofs.lemmas.{Bool.Decides.nat_tests, List.Elements.{All-contains, All-push, All-weaker}}, specs.{List.{All, AllPairs}, Option.{option_map, option_map_or}}}
+use Rattle.std.proofs.lemmas.Grind.{common_steps}
+use Rattle.std.proofs.Common.{◌≡◌, ◌≢◌, ℕ, ◌==◌, Bool, true, false, cond, List, [], Contains, Option, Some, None, refl, sym, ap, subst, ◌∙◌, arith}
+use Rattle.std.{proofs.lemmas.{Bool.Decides.nat_tests, List.Elements.{All-contains, All-push, All-weaker}}, specs.{List.{All, AllPairs}, Option.{option_map}}}
 use Rattle.std.specs.Option.{option_and_then, option_or}
 use Rattle.vs_flow.specs.{Table.{IsTable, Table, entry_of, entry_under, next_entry, revalued, with_entry, with_value, without}, Flow.same_flow, declared.flow.Flow.Flow}
 use Rattle.vs_flow.proofs.{Lookups.{entry_of-with_entry, entry_of-with_value, entry_of-without, entry_of_found, entry_under_found}, Tables.{IsAccepted, with_entry_sound}}
-use Rattle.vs_flow.proofs.{Tables.{with_value_sound, without_sound}, Entries.same_flow_true}
-use Rattle.vs_page.{proofs.Flows.same_self, specs.Fair.IsPrefixOf}
+use Rattle.vs_flow.proofs.{Tables.{with_value_sound, without_sound}}
+use Rattle.vs_page.{proofs.Flows.same_self}
 use Rattle.vs_device_parts.specs.State.{DeviceConnection, DeviceEntry}
 use Rattle.vs_proxy_parts.specs.State.{Handshake}
-use Rattle.laws_tables.proofs.{Changes.{changed, others_left, under_slot}, Logs.shorter}
+use Rattle.laws_tables.proofs.{Changes.{changed, others_left, under_slot}}
 use Rattle.laws_device.proofs.Carried.Streamed.{is_or_not}
-use Rattle.laws_proxy.specs.Account.{Made.{Account, is_on, shut, took, with_taken}, Tied.{AreTied, IsLawful, IsTied, IsTiedTo, ok_line_of, reading_account, stream_of}}
+use Rattle.laws_proxy.specs.Account.{Made.{Account, is_on, shut, took, with_taken}, Tied.{AreTied, IsLawful, IsTied, IsTiedTo, reading_account, stream_of}}
 use Rattle.laws_proxy.proofs.Account.Accounts.{Changes, changing}
 use Rattle.vs_uds.specs.{Reading.is_decided, declared.connect.TheConstants.CONNECT_MAX}
 
@@ -25,12 +26,7 @@ no_label a f is none = let both : Some f ≡ None = sym is ∙ none in absurd cc
 
 -- What a connection's stream was given is a prefix of what came.
 pub given_of : (a : Account) (e : DeviceEntry) → IsTiedTo a e → IsLawful a.label a
-given_of a e x =
-    subst (λ (o : Option Flow). IsLawful o a) (sym x.label) (
-      subst (λ (b : Bool). IsPrefixOf a.given (ok_line_of b e.flow ++ a.delivered)) (sym x.client)
-          (shorter a.given (e.value.ok_line ++ e.value.pending) (ok_line_of e.value.by_client e.flow ++ a.delivered) x.drains.front),
-      x.line,
-    )
+given_of a e x = grind (arith, common_steps)
 
 -- Closing a stream gives it nothing.
 pub given_shut : (o : Option Flow) (a : Account) → IsLawful o a → IsLawful o (shut a)
@@ -63,11 +59,7 @@ module _ (at now : ℕ → Option Account) (t : Table DeviceConnection) (hands :
 
   -- A stream that wasn't there before is none that is waited for.
   pub waiting_kept : at stream ≡ None → All (λ h. now h.stream ≡ Some (reading_account h.line)) hands
-  waiting_kept none =
-      All-weaker (λ (h : Handshake). at h.stream ≡ Some (reading_account h.line))
-      (λ (h : Handshake). now h.stream ≡ Some (reading_account h.line))
-      (λ h was. hand_kept h (λ same. let both : None ≡ Some (reading_account h.line) = sym none ∙ ap at (sym same)
-      ∙ was in absurd cc) was) hands x.waiting
+  waiting_kept none = grind (arith, common_steps)
 
   given_kept : IsLawful new.label new → (id : ℕ) (a : Account) → now id ≡ Some a → IsLawful a.label a
   given_kept here id a is = is_or_not id stream (IsLawful a.label a)
@@ -228,13 +220,7 @@ module _ (at now : ℕ → Option Account) (t : Table DeviceConnection) (hands :
 
 -- A stream that has the connection of a flow has it as its label, and isn't closed.
 on_label : (flow : Flow) (a : Account) → is_on flow a ≡ true → (a.label ≡ Some flow) × (a.closed ≡ false)
-on_label flow a on = by a.closed a.label refl refl on
-  where
-    by : (b : Bool) (o : Option Flow) → a.closed ≡ b → a.label ≡ o → (not b && option_map_or (same_flow flow) o false) ≡ true
-        → (a.label ≡ Some flow) × (a.closed ≡ false)
-    by true o closed label on = absurd cc
-    by false None closed label on = absurd cc
-    by false (Some g) closed label on = (label ∙ ap (λ (f : Flow). Some f) (sym (same_flow_true flow g on)), closed)
+on_label flow a on = grind (arith, common_steps)
 
 -- No two streams have the connection of one flow.
 pub streams_apart : (at : ℕ → Option Account) (t : Table DeviceConnection) (hands : List Handshake) → AreTied at t hands
@@ -255,9 +241,7 @@ took_given None bytes a given = given
 took_given (Some flow) bytes a given = given
 
 tied_taken : (a : Account) (e : DeviceEntry) (bytes : List ℕ) → IsTiedTo a e → IsTiedTo (with_taken bytes a) e
-tied_taken a e bytes x =
-    subst (λ (o : Option Flow). IsTiedTo (took o bytes a) e) (sym x.label)
-    (record { label = x.label; client = x.client; closed = x.closed; line = x.line; drains = x.drains; asked = x.asked })
+tied_taken a e bytes x = grind (arith, common_steps)
 
 mapped_there : (f : Account → Account) (o : Option Account) (a : Account) → option_map f o ≡ Some a → (b : Account) × (o ≡ Some b) ×
     (f b ≡ a)
@@ -290,15 +274,7 @@ module _ (at : ℕ → Option Account) (t : Table DeviceConnection) (hands : Lis
 
   serves_still : (id : ℕ) (a : Account) (flow : Flow) → now id ≡ Some a → a.label ≡ Some flow → a.closed ≡ false → stream_of t flow
       ≡ Some id
-  serves_still id a flow is label still = by (stream == id) is
-    where
-      by : (b : Bool) → cond b (option_map (with_taken bytes) (at id)) (at id) ≡ Some a → stream_of t flow ≡ Some id
-      by true is =
-          let b = mapped_there (with_taken bytes) (at id) a is in
-          let same = took_same b.0.label bytes b.0 in
-          x.serves id b.0 flow b.1 (sym same.0 ∙ ap (λ (y : Account). y.label) b.2 ∙ label)
-          (sym same.1 ∙ ap (λ (y : Account). y.closed) b.2 ∙ still)
-      by false is = x.serves id a flow is label still
+  serves_still id a flow is label still = grind (arith, common_steps)
 
   pub taken_tied : (after : List Handshake) → All (λ h. is_decided CONNECT_MAX h.line ≡ false) after
       → All (λ h. now h.stream ≡ Some (reading_account h.line)) after → AllPairs (λ g h. g.stream ≢ h.stream) after → AreTied now t after

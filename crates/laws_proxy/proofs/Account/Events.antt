@@ -1,13 +1,12 @@
 -- A turn tells whether it put an event.
-use Rattle.std.proofs.Common.{◌≡◌, ℕ, ◌+◌, ◌-◌, ◌≤◌, ◌==◌, ◌&&◌, not, Bool, true, false, cond, List, [], ◌∷◌, length, Option, Some, None, refl, sym, ap, subst, arith}
-use Rattle.std.proofs.lemmas.Bool.Decides.{nat_tests}
+use Rattle.std.proofs.lemmas.Grind.{common_steps}
+use Rattle.std.proofs.Common.{◌≡◌, ℕ, ◌+◌, ◌-◌, ◌≤◌, ◌&&◌, not, Bool, cond, List, Option, Some, None, refl, sym, ap, subst, arith}
 use Rattle.vs_contents.{specs.CallTree.{Done, Ask, Leads, bind}, proofs.Leads.{AllEnds, end_of, ends_bind}}
-use Rattle.vs_header.specs.declared.{Header.Header, TheConstants.HEADER_LEN}
 use Rattle.vs_ring_port.specs.declared.{device_ring.{Chain.Chain, Next.Next}, failure.Failure.Failure}
-use Rattle.vs_device_parts.specs.{Calls.{Answer, DeviceTree}, Receiving.written}
+use Rattle.vs_device_parts.specs.{Calls.{Answer, DeviceTree}}
 use Rattle.vs_proxy_parts.specs.{Turns.{event_stage, fill_stage, pump_stage, take_stage, tick_stage, turn_of, unless_failed}, Handshakes.shake_hands, State.{ProxyState, Turning}}
 use Rattle.vs_proxy_parts.specs.{State.start, declared.answers.{Turn.Turn, Turned.Turned}}
-use Rattle.laws_device.proofs.Walk.{Fields.{AfterEventPage, AfterTx, Calls, Fields, TxCalls, after_rx, fields, fields_turn}, Keeping.{Asking, Keeps}}
+use Rattle.laws_device.proofs.Walk.{Fields.{AfterTx, Calls, Fields, TxCalls, fields, fields_turn}, Keeping.{Asking, Keeps}}
 use Rattle.laws_proxy.specs.Account.{Events.{TellsEvent, event_put, events_put}, Made.{Made, Makes}}
 use Rattle.vs_proxy_parts.specs.declared.answers.Turn.TheVariants as turn
 use Rattle.vs_ring_port.specs.declared.device_ring.Next.TheVariants as next
@@ -24,13 +23,6 @@ made_to Q (Ask call next) calls later x keeps leads =
     made_to Q (next leads.0) leads.1 later x (subst P (sym leads.2.1) (keeps leads.0)) leads.3
 
 -- A packet has more bytes than an event.
-longer : (n k : ℕ) → n ≡ cond (HEADER_LEN + k == 4) (n + 1) n
-longer n k = by (HEADER_LEN + k == 4) refl
-  where
-    by : (b : Bool) → (HEADER_LEN + k == 4) ≡ b → n ≡ cond b (n + 1) n
-    by true is = grind (arith, nat_tests, is)
-    by false is = refl
-
 abbrev one : Bool → ℕ
 one b = cond b 1 0
 
@@ -39,35 +31,8 @@ module _ (from : ℕ) (was : Bool) where
   abbrev P : Option Chain → Fields → ℕ → Type 0
   P page k n = (n + one k.event_owed ≡ from + one was) × (from ≤ n)
 
-  rx_page : (a : Next) (k : Fields) (n : ℕ) → P None k n → P None (after_rx a k) n
-  rx_page (next.Chain chain) k n at = at
-  rx_page next.None k n at = at
-  rx_page (next.Failed f) k n at = at
-
-  event_page : (a : Next) (k : Fields) (n : ℕ) → P None k n → k.event_owed ≡ true → AfterEventPage events P a k n
-  event_page (next.Chain chain) k n at owed = λ a c.
-      let one_more : n + 1 ≡ from + one was = subst (λ (b : Bool). n + one b ≡ from + one was) owed at.0 in
-      (omega (arith, one_more), omega (arith, at.1))
-  event_page next.None k n at owed = at
-  event_page (next.Failed f) k n at owed = at
-
-  puts_packet : (chain : Chain) (h : Header) (payload : List ℕ) (k : Fields) (n : ℕ) → P None k n
-      → Keeps events (λ x m. P None k m) (written chain h payload) n
-  puts_packet chain h [] k n at = λ a c. at
-  puts_packet chain h (x ∷ payload) k n at = λ a c d. subst (λ (m : ℕ). P None k m) (longer n (length (x ∷ payload))) at
-
   plain : Calls events P
-  plain = record {
-    closes = λ page stream k n at a. at;
-    shuts = λ stream k n at a. at;
-    labels = λ stream flow k n at a. at;
-    accepts = λ k n at a. at;
-    reads = λ stream room k n at a. at;
-    writes = λ stream bytes k n at a. at;
-    takes_rx = λ k n at none a. rx_page a k n at;
-    event = λ k n at owed a. event_page a k n at owed;
-    puts = λ chain h payload k n at is. puts_packet chain h payload k n at;
-  }
+  plain = grind (arith, common_steps)
 
   taken : (a : Next) (k : Fields) (n : ℕ) → P None k n → AfterTx events P a k n
   taken (next.Chain chain) k n at = λ bytes. record { short = λ is. at; drops = λ whole is. at; comes = λ whole is. at }
@@ -134,10 +99,7 @@ module _ (size now : ℕ) (s : ProxyState) where
 
   by : (from n : ℕ) (was owed event : Bool) → (n + one owed ≡ from + one was) × (from ≤ n) → event ≡ (was && not owed)
       → n ≡ cond event (from + 1) from
-  by from n true true event kept is = let e : n + 1 ≡ from + 1 = kept.0 in rw is (omega (arith, e))
-  by from n true false event kept is = let e : n + 0 ≡ from + 1 = kept.0 in rw is (omega (arith, e))
-  by from n false true event kept is = let e : n + 1 ≡ from + 0 = kept.0 in absurd (omega (arith, e, kept.1))
-  by from n false false event kept is = let e : n + 0 ≡ from + 0 = kept.0 in rw is (omega (arith, e))
+  by from n was owed event kept is = grind (arith, common_steps)
 
   tells : (calls later : List Made) (x : ProxyState × Turn) → Leads Makes (turn_of size now s) calls x later → (a : Turn) → x.1 ≡ a
       → TellsEvent a calls later

@@ -1,23 +1,23 @@
 -- What one packet of the guest does, step by step.
+use Rattle.std.proofs.lemmas.Grind.{common_steps}
 use Rattle.vs_device_parts.specs.Transmitting.{keeps_flow, dial_answered, heard, on_header, on_known, on_next, on_packet, on_unknown, refused, take_tx_of, try_request, unknown_why}
 use Rattle.vs_device_parts.specs.{Connections.{keeping, after_leaving, stream_closed, with_connection, with_reply}, Calls.{CloseStream, Dial, DeviceTree, Ring}, State.DeviceEntry}
 use Rattle.vs_device_parts.specs.{State.DeviceState, Streams.{closing, leaving}, Taking.asks_for_stream, declared.answers.Taken.Taken}
-use Rattle.std.proofs.Common.{◌≡◌, ℕ, ◌-◌, ◌==◌, ◌&&◌, Bool, true, false, cond, List, [], ◌∷◌, ◌++◌, length, nat_le, nat_lt, Option, Some, None, refl, sym, ap, subst, ◌∙◌, arith}
+use Rattle.std.proofs.Common.{◌≡◌, ℕ, ◌-◌, ◌==◌, Bool, true, false, cond, List, [], ◌∷◌, ◌++◌, length, nat_le, nat_lt, Option, Some, None, refl, sym, ap, subst, ◌∙◌, arith}
 use Rattle.std.{proofs.lemmas.Bool.Decides.nat_tests, specs.Option.option_map}
-use Rattle.vs_conn.specs.{End.{after_op, is_reset, is_of, owes_of, verdict_of}, declared.end.{Verdict.Verdict, Why.Why}}
+use Rattle.vs_conn.specs.{End.{is_reset, verdict_of}, declared.end.{Verdict.Verdict, Why.Why}}
 use Rattle.vs_contents.specs.CallTree.{Done, Ask, Leads, bind}
 use Rattle.vs_flow.specs.{Flow.is_assigned, Table.{entry_of, has_place, with_value}}
-use Rattle.vs_header.specs.{Op.{op_named, op_number}, Packet.header_of, declared.{Header.Header, TheConstants.HEADER_LEN, Op.TheVariants.Request, Kind.TheVariants.Stream}}
+use Rattle.vs_header.specs.{Packet.header_of, declared.{Header.Header, TheConstants.HEADER_LEN}}
 use Rattle.vs_outside.specs.declared.host_net.Dialed.{Dialed}
 use Rattle.vs_page.specs.{Log.{Device, flow_to_host}, Open.is_dropped}
 use Rattle.vs_replies.specs.Owed.{reply_to}
 use Rattle.vs_ring_port.specs.{Contents.{Read, Return, Take}, declared.{device_ring.{Chain.Chain, Next.Next}, failure.Failure.Failure, queue.Queue.TheVariants.Tx}}
 use Rattle.vs_uds.specs.Path.{path_of}
 use Rattle.vs_limits.specs.declared.TheConstants.{DEVICE_REPLIES}
-use Rattle.laws_proxy.specs.Account.Judged.{AreUnmoved, AtLength, AtTake, Before, IsAnswered, IsDialedAs, IsDone, IsJudged, IsTried, IsUnknown, OwesReset, delivered_in, read_of}
+use Rattle.laws_proxy.specs.Account.Judged.{AreUnmoved, AtLength, AtTake, Before, IsAnswered, IsDialedAs, IsDone, IsJudged, IsTried, IsUnknown, delivered_in, read_of}
 use Rattle.laws_proxy.{specs.Account.Made.{Account, Made, Makes, MayGet, account_of, made, new_account, shut}, proofs.Account.Keeping.{Keeps, asking, keeps_end}}
 use Rattle.laws_device.proofs.Walk.Keeping.{keeps_if, keeps_some, keeps_then}
-use Rattle.vs_conn.specs.declared.end.Owed.TheVariants as owed
 use Rattle.vs_conn.specs.declared.end.Verdict.TheVariants as verdict
 use Rattle.vs_conn.specs.declared.end.Why.TheVariants as why
 use Rattle.vs_outside.specs.declared.host_net.Dialed.TheVariants as dialed
@@ -25,15 +25,9 @@ use Rattle.vs_ring_port.specs.declared.device_ring.Next.TheVariants as next
 use Rattle.vs_device_parts.specs.declared.answers.Taken.TheVariants as taken
 
 -- An end that refuses a packet owes RST.
-refusing : (e : DeviceEntry) (h : Header) (w : Why) → verdict_of e.value.end h ≡ verdict.Rst w → owes_of (heard h e.value).end
-    ≡ Some owed.Rst
-refusing e h w is = ap (λ (v : Verdict). owes_of (after_op (op_named h.op) e.value.end h v)) is
-
 -- Closing a stream delivers nothing.
 shut_delivers : (b : Bool) (o : Option Account) → delivered_in (cond b (option_map shut o) o) ≡ delivered_in o
-shut_delivers true None = refl
-shut_delivers true (Some a) = refl
-shut_delivers false o = refl
+shut_delivers b o = grind (arith, common_steps)
 
 no_bool : (b : Bool) → b ≡ true → b ≡ false → ⊥
 no_bool true yes_it no_it = cc
@@ -41,12 +35,7 @@ no_bool false yes_it no_it = cc
 
 -- A REQUEST isn't an RST.
 apart : (h : Header) → is_reset h ≡ true → asks_for_stream h ≡ true → ⊥
-apart h reset asks = by (is_of Stream h) (h.op == op_number Request) refl asks
-  where
-    by : (k q : Bool) → (h.op == op_number Request) ≡ q → (k && q) ≡ true → ⊥
-    by true true is both = grind (arith, nat_tests, reset, is)
-    by true false is both = absurd cc
-    by false q is both = absurd cc
+apart h reset asks = grind (arith, common_steps)
 
 abbrev Answers : Chain → Header → DeviceState → List Made → DeviceState × Verdict → List Made → Type 0
 Answers chain h s calls x later = (done : List Made) × (later ≡ done ++ calls) × IsAnswered chain h x.1 s x.0 done calls later
@@ -60,54 +49,18 @@ module _ (chain : Chain) (h : Header) (s : DeviceState) (calls : List Made) (kep
     abbrev Now : Verdict → DeviceState → List Made → Type 0
     Now v t later = Here (t, v) later
 
-    known_is : (v : Verdict) (done : List Made) → verdict_of e.value.end h ≡ v → IsDone v chain h e.value done → (d : DeviceEntry)
-        → entry_of s.table (flow_to_host h) ≡ Some d → (v ≡ verdict_of d.value.end h) × IsDone v chain h d.value done
-    known_is v done says is d at =
-        let both : Some e ≡ Some d = sym found ∙ at in
-        let same : e ≡ d = cc in
-        let P : DeviceEntry → Type 0 = λ x. (v ≡ verdict_of x.value.end h) × IsDone v chain h x.value done in
-        subst P same (sym says, is)
-
-    is_known : (v : Verdict) (t : DeviceState) (done : List Made) → entry_of s.table (flow_to_host h) ≡ None → IsUnknown h v s t done
-    is_known v t done at = let both : Some e ≡ None = sym found ∙ at in absurd cc
-
     -- One that is neither refused nor delivered.
     other_answer : (v : Verdict) (t : DeviceState) (done : List Made) → t.dropped ≡ s.dropped → verdict_of e.value.end h ≡ v
         → IsDone v chain h e.value done → ((w : Why) → v ≡ verdict.Rst w → ⊥)
         → ((v ≡ verdict.Deliver → ⊥) → (id : ℕ) → delivered_in (account_of (done ++ calls) id) ≡ delivered_in (account_of calls id))
         → Now v t (done ++ calls)
-    other_answer v t done stays says is never none = (
-      done,
-      refl,
-      record {
-        dropped = λ on. absurd (no_bool (is_dropped Device s.cid h) on kept);
-        kept = λ off. stays;
-        known = λ off. known_is v done says is;
-        unknown = λ off. is_known v t done;
-        refused = λ w is. absurd (never w is);
-        delivered = none;
-      },
-    )
+    other_answer v t done stays says is never none = grind (arith, common_steps)
 
     -- One that is refused.
     refused_answer : (w : Why) (t : DeviceState) → t.dropped ≡ s.dropped → verdict_of e.value.end h ≡ verdict.Rst w
         → t.table ≡ with_value s.table e.slot (heard h e.value)
         → t.replies ≡ s.replies → Now (verdict.Rst w) t calls
-    refused_answer w t stays says table replies = (
-      [],
-      refl,
-      record {
-        dropped = λ on. absurd (no_bool (is_dropped Device s.cid h) on kept);
-        kept = λ off. stays;
-        known = λ off. known_is (verdict.Rst w) [] says refl;
-        unknown = λ off. is_known (verdict.Rst w) t [];
-        refused = λ u is. (
-          subst (λ (o : Option DeviceEntry). OwesReset o h s t) (sym found) (table, refusing e h w says, replies),
-          λ id. refl,
-        );
-        delivered = λ no id. refl;
-      },
-    )
+    refused_answer w t stays says table replies = grind (arith, common_steps)
 
     abbrev closes : List Made
     closes = made (CloseStream e.value.stream) tt ∷ []
@@ -148,62 +101,28 @@ module _ (chain : Chain) (h : Header) (s : DeviceState) (calls : List Made) (kep
 
   -- A packet of a flow without a connection.
   module _ (none : entry_of s.table (flow_to_host h) ≡ None) where
-    not_known : (v : Verdict) (done : List Made) (d : DeviceEntry) → entry_of s.table (flow_to_host h) ≡ Some d
-        → (v ≡ verdict_of d.value.end h) × IsDone v chain h d.value done
-    not_known v done d at = let both : None ≡ Some d = sym none ∙ at in absurd cc
-
     -- One that isn't refused, and delivers nothing.
     unknown_answer : (v : Verdict) (t : DeviceState) (done : List Made) → t.dropped ≡ s.dropped → IsUnknown h v s t done
         → ((w : Why) → v ≡ verdict.Rst w → ⊥)
         → ((id : ℕ) → delivered_in (account_of (done ++ calls) id) ≡ delivered_in (account_of calls id)) → Here (t, v) (done ++ calls)
-    unknown_answer v t done stays is never delivers = (
-      done,
-      refl,
-      record {
-        dropped = λ on. absurd (no_bool (is_dropped Device s.cid h) on kept);
-        kept = λ off. stays;
-        known = λ off. not_known v done;
-        unknown = λ off at. is;
-        refused = λ w is. absurd (never w is);
-        delivered = λ no. delivers;
-      },
-    )
+    unknown_answer v t done stays is never delivers = grind (arith, common_steps)
 
     reply_answer : (w : Why) (t : DeviceState) (done : List Made) → t.dropped ≡ s.dropped → IsUnknown h (verdict.Rst w) s t done
         → t.table ≡ s.table → t.replies ≡ s.replies ++ reply_to (flow_to_host h) h ∷ []
         → AreUnmoved calls (done ++ calls) → Here (t, verdict.Rst w) (done ++ calls)
-    reply_answer w t done stays is table replies same = (
-      done,
-      refl,
-      record {
-        dropped = λ on. absurd (no_bool (is_dropped Device s.cid h) on kept);
-        kept = λ off. stays;
-        known = λ off. not_known (verdict.Rst w) done;
-        unknown = λ off at. is;
-        refused = λ u is. (subst (λ (o : Option DeviceEntry). OwesReset o h s t) (sym none) (table, replies), same);
-        delivered = λ no id. ap delivered_in (same id);
-      },
-    )
+    reply_answer w t done stays is table replies same = grind (arith, common_steps)
 
     -- A REQUEST.
     module _ (asks : asks_for_stream h ≡ true) where
       is_tried : (v : Verdict) (t : DeviceState) (done : List Made) → IsTried h v s t done → IsUnknown h v s t done
-      is_tried v t done is = record {
-        reset = λ on. absurd (apart h on asks);
-        request = λ on. is;
-        other = λ off no. absurd (no_bool (asks_for_stream h) asks no);
-      }
+      is_tried v t done is = grind (arith, common_steps)
 
       module _ (free : is_assigned h.dst_port ≡ false) (place : has_place s.table ≡ true) where
         abbrev asked : Dialed → List Made
         asked answer = made (Dial (path_of s.base h.dst_port) (flow_to_host h)) answer ∷ []
 
         was_dialed : (v : Verdict) (t : DeviceState) (answer : Dialed) → IsDialedAs answer h v s t → IsUnknown h v s t (asked answer)
-        was_dialed v t answer is = is_tried v t (asked answer) (record {
-          assigned = λ on. absurd (no_bool (is_assigned h.dst_port) on free);
-          full = λ no. absurd (no_bool (has_place s.table) place no);
-          dialed = λ off on. (answer, refl, is);
-        })
+        was_dialed v t answer is = grind (arith, common_steps)
 
         dial_answer_is : (answer : Dialed) → MayGet (Dial (path_of s.base h.dst_port) (flow_to_host h)) answer calls
             → Here (dial_answered h answer s) (made (Dial (path_of s.base h.dst_port) (flow_to_host h)) answer ∷ calls)
@@ -277,14 +196,7 @@ packet_answers chain h s calls =
 -- No stream sees that a packet was taken, and its header read, and its chain returned.
 since : (chain : Chain) (h : Header) (v : Verdict) (s t : DeviceState) (done calls first mid later : List Made) → AreUnmoved calls first
     → IsAnswered chain h v s t done first mid → AreUnmoved mid later → IsAnswered chain h v s t done calls later
-since chain h v s t done calls first mid later before x after = record {
-  dropped = λ on. let d = x.dropped on in (d.0, d.1, d.2, λ id. after id ∙ d.3 id ∙ before id);
-  kept = x.kept;
-  known = x.known;
-  unknown = x.unknown;
-  refused = λ w is. let r = x.refused w is in (r.0, λ id. after id ∙ r.1 id ∙ before id);
-  delivered = λ no id. ap delivered_in (after id) ∙ x.delivered no id ∙ ap delivered_in (before id);
-}
+since chain h v s t done calls first mid later before x after = grind (arith, common_steps)
 
 abbrev Judges : DeviceState → List Made → DeviceState × Taken → List Made → Type 0
 Judges s calls x later = IsJudged x.1 s x.0 calls later

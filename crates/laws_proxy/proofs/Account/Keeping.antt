@@ -1,4 +1,6 @@
 -- What a conversation keeps: what holds at each of its ends, of what it leaves and of the calls made.
+use Rattle.std.proofs.Common.{arith}
+use Rattle.std.proofs.lemmas.Grind.{common_steps}
 use Rattle.laws_device.proofs.Walk.Keeping.{Asking}
 use Rattle.laws_device.proofs.Walk.Keeping as walked
 use Rattle.std.proofs.Common.{◌≡◌, ℕ, List, ◌∷◌, Some, subst, sym}
@@ -15,16 +17,10 @@ Asks (WriteStream stream bytes) calls P = ((a : Account) × (account_of calls st
 Asks call calls P = P
 
 pub asked_for : (call : Call) (calls : List Made) (P : Type 0) → Asks call calls P → P
-asked_for (Label stream flow) calls P asks = asks.1
-asked_for (WriteStream stream bytes) calls P asks = asks.1
-asked_for (ReadStream stream n) calls P asks = asks.1
-asked_for _ calls P asks = asks
+asked_for call calls P asks = grind (arith, common_steps)
 
 pub asks_weaker : (call : Call) (calls : List Made) (P R : Type 0) → (P → R) → Asks call calls P → Asks call calls R
-asks_weaker (Label stream flow) calls P R then asks = (asks.0, then asks.1)
-asks_weaker (WriteStream stream bytes) calls P R then asks = (asks.0, then asks.1)
-asks_weaker (ReadStream stream n) calls P R then asks = (asks.0, then asks.1)
-asks_weaker _ calls P R then asks = then asks
+asks_weaker call calls P R then asks = grind (arith, common_steps)
 
 abbrev pub asking : Asking (List Made)
 asking = record {

@@ -1,6 +1,7 @@
 -- A client's connection, and a transport reset.
+use Rattle.std.proofs.lemmas.Grind.{common_steps}
 use Rattle.laws_device.proofs.{Walk.Keeping.{keeps_each, keeps_if, keeps_some, keeps_then}, Named.Opening.empty_sound}
-use Rattle.laws_proxy.specs.Account.{Made.{Account, Made, account_of, labelled, made, payload_put, payload_taken, shut}, Tied.{Agree, IsLawful, IsOver, IsTied, IsTiedTo, IsWhole}}
+use Rattle.laws_proxy.specs.Account.{Made.{Account, Made, account_of, labelled, made, payload_put, payload_taken, shut}, Tied.{Agree, IsLawful, IsOver, IsTiedTo, IsWhole}}
 use Rattle.laws_proxy.{specs.Account.Tied.reading_account, proofs.Account.{Accounts.{Changes, changes, changing, stays}, Entries.{added, given_shut, hands_changed, one_account}}}
 use Rattle.laws_proxy.proofs.Account.{Keeping.{asking, Keeps, keeps_weaker}, Closing.Has}
 use Rattle.std.proofs.Common.{◌≡◌, ◌≢◌, ℕ, ◌==◌, Bool, true, false, cond, List, [], ◌∷◌, Option, Some, None, Result, Ok, Err, refl, sym, ap, subst, ◌∙◌, arith}
@@ -11,7 +12,7 @@ use Rattle.vs_flow.specs.{Table.{IsTable, Table, emptied, entry_under, next_entr
 use Rattle.vs_flow.proofs.Tables.{accepted, with_value_sound}
 use Rattle.vs_limits.specs.declared.TheConstants.{BUF_ALLOC}
 use Rattle.vs_ring_port.specs.{Contents.PublishCid, declared.failure.Failure.Failure}
-use Rattle.vs_device_parts.specs.{Connections.{new_connection, stream_closed, with_client}, State.{DeviceConnection, DeviceEntry, DeviceState}, Streams.closing, Calls.DeviceTree}
+use Rattle.vs_device_parts.specs.{Connections.{new_connection, stream_closed, with_client}, State.{DeviceConnection, DeviceState}, Streams.closing, Calls.DeviceTree}
 use Rattle.vs_device_parts.specs.{Calls.{Label, Ring}, Turns.{after_reset, close_slot, open_of, reset_of}}
 use Rattle.vs_proxy_parts.specs.State.{Handshake}
 use Rattle.vs_uds.specs.{Reading.is_decided, declared.connect.TheConstants.CONNECT_MAX}
@@ -20,30 +21,11 @@ use Rattle.vs_header.specs.declared.Kind.TheVariants.{Stream}
 -- The connection of a client's stream.
 client_tie : (t : Table DeviceConnection) (flow : Flow) (stream : ℕ) (line : List ℕ) → IsWhole line
     → IsTiedTo (labelled flow (reading_account line)) (next_entry t flow (new_connection (asked Stream BUF_ALLOC) stream true))
-client_tie t flow stream line whole = record {
-  label = refl;
-  client = refl;
-  closed = refl;
-  line = whole;
-  drains = record { front = (_, refl); whole = λ on. absurd cc };
-  asked = λ on. (refl, refl, refl, refl);
-}
+client_tie t flow stream line whole = grind (arith, common_steps)
 
 -- Before the first call.
 pub new_agrees : (room : ℕ) → Agree (λ id. None) (λ flow. []) (λ flow. []) (record { room = room; entries = []; given = 0 }) []
-new_agrees room = record {
-  tied = record {
-    table = empty_sound room 0 (omega arith);
-    joined = λ i d within. absurd (omega (arith, within));
-    waiting = λ i d within. absurd (omega (arith, within));
-    undecided = λ i d within. absurd (omega (arith, within));
-    apart = λ i j d less within. absurd (omega (arith, within));
-    lawful = λ id a is. absurd cc;
-    serves = λ id a flow is label still. absurd cc;
-  };
-  over = λ i d within. absurd (omega (arith, within));
-  carried = λ flow. refl;
-}
+new_agrees room = grind (arith, common_steps)
 
 -- A handshake's stream has no label.
 pub waits_unlabelled : (at : ℕ → Option Account) (stream : ℕ) (line : List ℕ) → at stream ≡ Some (reading_account line) → (a : Account)
@@ -130,39 +112,12 @@ pub record AreReset (at : ℕ → Option Account) (put taken : Flow → List ℕ
 
 pub reset_agrees : (at : ℕ → Option Account) (put taken : Flow → List ℕ) (t : Table DeviceConnection) → AreReset at put taken t
     → Agree at put taken t []
-reset_agrees at put taken t x = record {
-  tied = record {
-    table = x.closing.table;
-    joined = nothing (IsTied at);
-    waiting = λ i d within. absurd (omega (arith, within));
-    undecided = λ i d within. absurd (omega (arith, within));
-    apart = λ i j d less within. absurd (omega (arith, within));
-    lawful = x.closing.lawful;
-    serves = λ id a flow is label still. let both : true ≡ false = sym (x.closed id a is) ∙ still in absurd cc;
-  };
-  over = nothing IsOver;
-  carried = x.closing.carried;
-}
-  where
-    nothing : (P : DeviceEntry → Type 0) → All P t.entries
-    nothing P = subst (All P) (sym x.none) (λ i d within. absurd (omega (arith, within)))
+reset_agrees at put taken t x = grind (arith, common_steps)
 
 -- Handshakes are forgotten.
 without_hands : (at : ℕ → Option Account) (put taken : Flow → List ℕ) (t : Table DeviceConnection) (hands : List Handshake)
     → Agree at put taken t hands → Agree at put taken t []
-without_hands at put taken t hands x = record {
-  tied = record {
-    table = x.tied.table;
-    joined = x.tied.joined;
-    waiting = λ i d within. absurd (omega (arith, within));
-    undecided = λ i d within. absurd (omega (arith, within));
-    apart = λ i j d less within. absurd (omega (arith, within));
-    lawful = x.tied.lawful;
-    serves = x.tied.serves;
-  };
-  over = x.over;
-  carried = x.carried;
-}
+without_hands at put taken t hands x = grind (arith, common_steps)
 
 -- A stream more is closed.
 pub reset_closes : (at : ℕ → Option Account) (put taken : Flow → List ℕ) (t : Table DeviceConnection) (stream : ℕ) → AreReset at put taken t

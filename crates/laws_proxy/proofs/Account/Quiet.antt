@@ -1,5 +1,7 @@
 -- A device and a proxy, and the counts that their calls come to.
-use Rattle.std.proofs.Common.{◌≡◌, ℕ, ◌-◌, ◌&&◌, not, nat_lt, Bool, true, false, cond, List, [], ◌∷◌, Option, Result, refl, sym, ap, subst, ◌∙◌}
+use Rattle.std.proofs.Common.{arith}
+use Rattle.std.proofs.lemmas.Grind.{common_steps}
+use Rattle.std.proofs.Common.{◌≡◌, ℕ, ◌-◌, ◌&&◌, not, nat_lt, Bool, false, cond, List, [], ◌∷◌, Option, Result, refl, ap, subst}
 use Rattle.vs_header.specs.{Packet.header_of, declared.{Header.Header, TheConstants.HEADER_LEN}}
 use Rattle.vs_page.specs.{Log.Device, Open.is_dropped}
 use Rattle.vs_ring_port.specs.{Contents.Read, declared.{device_ring.{Chain.Chain, Next.Next}, failure.Failure.Failure}}
@@ -23,14 +25,10 @@ P page n m = shown n ≡ m
 -- Conversations that may take chains of tx, and those that leave them out.
 module _ (b : Bool) where
   rx_page : (a : Next) (n : Fields) (m : DeviceCounts) → shown n ≡ m → shown (after_rx a n) ≡ m
-  rx_page (next.Chain chain) n m at = at
-  rx_page next.None n m at = at
-  rx_page (next.Failed f) n m at = at
+  rx_page a n m at = grind (arith, common_steps)
 
   event_page : (a : Next) (n : Fields) (m : DeviceCounts) → shown n ≡ m → AfterEventPage (counting b) P a n m
-  event_page (next.Chain chain) n m at = (refl, λ a. (refl, λ c. at))
-  event_page next.None n m at = at
-  event_page (next.Failed f) n m at = at
+  event_page a n m at = grind (arith, common_steps)
 
   puts_packet : (chain : Chain) (h : Header) (payload : List ℕ) (n : Fields) (m : DeviceCounts) → shown n ≡ m
       → Keeps (counting b) (λ x k. shown n ≡ k) (written chain h payload) m
@@ -96,21 +94,10 @@ module _ (b : Bool) where
       reset_keeps (counting b) P calls cid (λ n m at. (refl, λ a. ap (λ (k : DeviceCounts). record k { cid = cid }) at)) s (counts_shown s.device) refl
 
 -- A packet that is taken is dropped, or not; or it is the ring's failure.
-dropped_as : (n : Fields) (b c : Bool) → c ≡ b
-    → ◌≡◌ {A = DeviceCounts} (record (shown n) { dropped = cond b (counted n.dropped) n.dropped })
-    (record (shown n) { dropped = cond c (counted n.dropped) n.dropped })
-dropped_as n b c is = ap (λ (d : Bool). record (shown n) { dropped = cond d (counted n.dropped) n.dropped }) (sym is)
-
 header_read : (chain : Chain) (h : Header) (n : Fields)
     → let short = nat_lt (chain.readable - HEADER_LEN) h.len in let lost = is_dropped Device n.cid h in
     HeaderRead (counting false) P chain h n (record (shown n) { dropped = cond (not short && lost) (counted n.dropped) n.dropped })
-header_read chain h n =
-    let short = nat_lt (chain.readable - HEADER_LEN) h.len in
-    let lost = is_dropped Device n.cid h in record {
-      short = λ is. dropped_as n false (not short && lost) (ap (λ (d : Bool). not d && lost) is);
-      drops = λ whole is. dropped_as n true (not short && lost) (ap (λ (d : Bool). not d && lost) whole ∙ is);
-      comes = λ whole is. dropped_as n false (not short && lost) (ap (λ (d : Bool). not d && lost) whole ∙ is);
-    }
+header_read chain h n = grind (arith, common_steps)
 
 taken : (a : Next) (n : Fields) (m : DeviceCounts) → shown n ≡ m → AfterTx (counting false) P a n m
 taken (next.Chain chain) n m at = (

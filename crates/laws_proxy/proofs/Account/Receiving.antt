@@ -1,10 +1,12 @@
 -- Packets to the guest, and the reads of the host's streams that give their payload: no stream is given a byte.
+use Rattle.std.proofs.Common.{arith}
+use Rattle.std.proofs.lemmas.Grind.{common_steps}
 use Rattle.vs_flow.specs.{Table.{with_value, Table}, declared.flow.Flow.Flow}
 use Rattle.laws_device.{proofs.{Walk.Serving.{AfterEvent, AfterRead, Fills, IsIn}, Carried.Gives.pays_gives, Named.Ends.shut_over}, specs.Carried.Streamed.gives}
 use Rattle.laws_proxy.proofs.Account.{Closing.{D, closes, Has, agree_same, join, over_there}, Accounts.{Changes, changes, changing, stays}, Keeping.{asking, Keeps}}
 use Rattle.laws_proxy.{proofs.Account.{Entries.{hand_other, taken_tied}, Ties.{end_changes, shuts}}, specs.Account.Made.{Account, Made, account_of, is_for, is_of, made}}
 use Rattle.laws_proxy.specs.Account.{Made.{payload_put, payload_taken, ports_of, with_taken}, Tied.{Agree, AgreesWith, IsTied, reading_account}}
-use Rattle.std.proofs.{Common.{◌≡◌, ℕ, Bool, true, false, cond, List, [], ◌∷◌, ◌++◌, length, bytes_eq, Option, Some, refl, sym, ap, ◌∙◌}, lemmas.List.append-nil}
+use Rattle.std.proofs.{Common.{◌≡◌, ℕ, true, false, cond, List, ◌∷◌, ◌++◌, length, bytes_eq, Option, Some, refl, sym, ap, ◌∙◌}}
 use Rattle.std.{proofs.lemmas.List.Elements.All-weaker, specs.Option.option_map_or}
 use Rattle.vs_conn.{specs.{declared.end.State.TheVariants.{Asked, Ended}, End.{paid_of, wanting_credit, with_payload_sent}, Headers.payload_header}, proofs.Frames.paid_asked}
 use Rattle.vs_conn.proofs.Frames.{paid_over}
@@ -36,16 +38,7 @@ module _ (hands : List Handshake) where
   keeps_written : (chain : Chain) (h : Header) (payload : List ℕ) (calls : List Made) (t : Table DeviceConnection)
       → Agree (account_of calls) (λ flow. cond (is_for flow (header_bytes h)) (payload_put calls flow ++ payload) (payload_put calls flow))
       (payload_taken calls) t hands → Keeps (λ y later. AgreesWith later t hands) (written chain h payload) calls
-  keeps_written chain h [] calls t x = λ a fit. λ b fit. record {
-    tied = x.tied;
-    over = x.over;
-    carried = λ flow. nothing (is_for flow (header_bytes h)) (payload_put calls flow) ∙ x.carried flow;
-  }
-    where
-      nothing : (b : Bool) (bytes : List ℕ) → bytes ≡ cond b (bytes ++ []) bytes
-      nothing true bytes = sym (append-nil bytes)
-      nothing false bytes = refl
-  keeps_written chain h (y ∷ ys) calls t x = λ a fit. λ b fit. λ d fit. x
+  keeps_written chain h payload calls t x = grind (arith, common_steps)
 
   held : (s : DeviceState) (n : Next) (calls : List Made) → Has hands s calls → walked.AfterTake asking (D hands) s n calls
   held s (next.Chain chain) calls x = x

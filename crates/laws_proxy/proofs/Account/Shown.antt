@@ -1,26 +1,23 @@
 -- A host in memory, and the accounts of its streams, through each call of the proxy.
-use Rattle.std.proofs.Common.{◌≡◌, ◌≢◌, ℕ, ◌+◌, ◌-◌, ◌==◌, Bool, true, false, cond, List, [], ◌∷◌, ◌++◌, length, slice_set, Option, Some, None, refl, sym, ap, subst, ◌∙◌}
-use Rattle.std.specs.Option.{option_map, option_map_or}
+use Rattle.std.proofs.Common.{arith}
+use Rattle.std.proofs.lemmas.Grind.{common_steps}
+use Rattle.std.proofs.Common.{◌≡◌, ◌≢◌, ℕ, ◌+◌, List, [], ◌∷◌, ◌++◌, length, Option, Some, None, refl, sym, subst, ◌∙◌}
+use Rattle.std.specs.Option.{option_map}
 use Rattle.vs_flow.specs.declared.flow.Flow.{Flow}
 use Rattle.vs_header.specs.declared.Header.{Header}
 use Rattle.vs_outside.{specs.Host.{HostContents, Stream, stream_at, with_stream}, proofs.Frames.{keeps_others, stream_at-with_stream}}
-use Rattle.vs_page.specs.Log.{flow_to_host}
-use Rattle.laws_proxy.specs.Account.{Made.{Account, delivering, is_on, with_delivery}, Tied.{IsLine, IsRead}, Told.{Shows, ShowsAt, ShowsIn}}
+use Rattle.laws_proxy.specs.Account.{Made.{Account, delivering}, Tied.{IsRead}, Told.{Shows, ShowsAt, ShowsIn}}
 use Rattle.laws_device.proofs.Carried.{Hosts.{new_there, none_there as past_end, others_there}, Streamed.is_or_not}
 
 -- What is read of a stream stays lawful where nothing of it changes.
 pub read_same : (o : Option Flow) (a b : Account) → b.by_client ≡ a.by_client → b.line ≡ a.line → b.taken ≡ a.taken → IsRead o a
     → IsRead o b
-read_same None a b client line taken is = taken ∙ is
-read_same (Some flow) a b client line taken is =
-    subst (λ (c : Bool). IsLine c b.line) (sym client) (subst (λ (bytes : List ℕ). IsLine a.by_client bytes) (sym line) is)
+read_same o a b client line taken is = grind (arith, common_steps)
 
 -- One stream changes, and its account.
 same_streams : (id : ℕ) (f : Stream → Stream) (c : HostContents) → stream_at id c ≡ None → (j : ℕ) → stream_at j (with_stream id f c)
     ≡ stream_at j c
-same_streams id f c none j =
-    ap (λ (xs : List Stream). stream_at j (record c { streams = xs }))
-    (ap (λ (o : Option Stream). option_map_or (λ s. slice_set c.streams (id - 1) (f s)) o c.streams) none)
+same_streams id f c none j = grind (arith, common_steps)
 
 module _ (stream : ℕ) (f : Stream → Stream) (c : HostContents) (at now : ℕ → Option Account) (shows : Shows at c)
     (others : (id : ℕ) → id ≢ stream → now id ≡ at id) (none : stream_at stream c ≡ None → at stream ≡ None → now stream ≡ None)
@@ -53,49 +50,12 @@ pub record IsUnseen (g : Account → Account) (a : Account) : Type 0 where
   pub line : (g a).line ≡ a.line
   pub taken : (g a).taken ≡ a.taken
 
-pub unseen_in : (g : Account → Account) (st : Stream) (a : Account) → IsUnseen g a → ShowsIn st (Some a) → ShowsIn st (Some (g a))
-unseen_in g st a s shows = (
-  shows.0,
-  shows.1 ∙ sym s.client,
-  shows.2 ∙ sym s.label,
-  shows.3 ∙ sym s.given,
-  shows.4 ∙ ap (λ (bytes : List ℕ). bytes ++ a.taken) (sym s.line) ∙ ap (λ (bytes : List ℕ). (g a).line ++ bytes) (sym s.taken),
-  subst (λ (o : Option Flow). IsRead o (g a)) (sym s.label) (read_same a.label a (g a) s.client s.line s.taken shows.5),
-)
-
 pub same_seen : (g : Account → Account) → ((a : Account) → IsUnseen g a) → (o : Option Stream) (a : Option Account) → ShowsAt o a
     → ShowsAt o (option_map g a)
-same_seen g same None None shows = shows
-same_seen g same None (Some a) shows = absurd cc
-same_seen g same (Some st) None shows = shows
-same_seen g same (Some st) (Some a) shows = unseen_in g st a (same a) shows
-
-delivery_same : (flow : Flow) (payload : List ℕ) (a : Account) → IsUnseen (with_delivery flow payload) a
-delivery_same flow payload a = by (is_on flow a) refl
-  where
-    by : (b : Bool) → is_on flow a ≡ b → IsUnseen (with_delivery flow payload) a
-    by true is = record {
-      client = ap (λ (b : Bool). (cond b (record a { delivered = a.delivered ++ payload }) a).by_client) is;
-      label = ap (λ (b : Bool). (cond b (record a { delivered = a.delivered ++ payload }) a).label) is;
-      given = ap (λ (b : Bool). (cond b (record a { delivered = a.delivered ++ payload }) a).given) is;
-      line = ap (λ (b : Bool). (cond b (record a { delivered = a.delivered ++ payload }) a).line) is;
-      taken = ap (λ (b : Bool). (cond b (record a { delivered = a.delivered ++ payload }) a).taken) is;
-    }
-    by false is = record {
-      client = ap (λ (b : Bool). (cond b (record a { delivered = a.delivered ++ payload }) a).by_client) is;
-      label = ap (λ (b : Bool). (cond b (record a { delivered = a.delivered ++ payload }) a).label) is;
-      given = ap (λ (b : Bool). (cond b (record a { delivered = a.delivered ++ payload }) a).given) is;
-      line = ap (λ (b : Bool). (cond b (record a { delivered = a.delivered ++ payload }) a).line) is;
-      taken = ap (λ (b : Bool). (cond b (record a { delivered = a.delivered ++ payload }) a).taken) is;
-    }
+same_seen g same o a shows = grind (arith, common_steps)
 
 pub delivers_same : (h : Option Header) (n : ℕ) (payload : List ℕ) (a : Account) → IsUnseen (delivering h n payload) a
-delivers_same None n payload a = record { client = refl; label = refl; given = refl; line = refl; taken = refl }
-delivers_same (Some h) n payload a = by (n == h.len)
-  where
-    by : (b : Bool) → IsUnseen (λ (x : Account). cond b (with_delivery (flow_to_host h) payload x) x) a
-    by true = delivery_same (flow_to_host h) payload a
-    by false = record { client = refl; label = refl; given = refl; line = refl; taken = refl }
+delivers_same h n payload a = grind (arith, common_steps)
 
 pub none_there : (y : Stream) (c : HostContents) → stream_at (length c.streams + 1) c ≡ None
 none_there y c = past_end y c

@@ -1,19 +1,20 @@
 -- Each call of the proxy on a host in memory: its answer may be got, and the accounts show the host after it.
-use Rattle.std.proofs.Common.{◌≡◌, ℕ, ◌+◌, ◌≤◌, ◌==◌, Bool, true, false, cond, List, ◌∷◌, ◌++◌, length, take, Option, Some, None, refl, sym, ap, subst, ◌∙◌, append_assoc, []}
-use Rattle.std.{proofs.lemmas.List.append-nil, specs.Option.{option_map, option_map_or}}
+use Rattle.std.proofs.Common.{arith}
+use Rattle.std.proofs.lemmas.Grind.{common_steps}
+use Rattle.std.proofs.Common.{◌≡◌, ℕ, ◌+◌, ◌≤◌, Bool, true, false, cond, List, ◌∷◌, ◌++◌, length, take, Option, Some, None, refl, sym, ap, subst, ◌∙◌, []}
+use Rattle.std.{specs.Option.{option_map, option_map_or}}
 use Rattle.vs_contents.specs.{CallTree.{Done, Ask, Leads}, Contents.Exposes}
 use Rattle.vs_flow.specs.{declared.flow.Flow.Flow, Table.Table}
-use Rattle.vs_header.specs.declared.TheConstants.{HEADER_LEN}
 use Rattle.vs_outside.specs.Host.{HostContents, Stream, accept_answer, after_accept, after_close, after_dial, after_failed, after_label, after_read, after_shut_write, after_write}
-use Rattle.vs_outside.specs.Host.{called, dial_answer, dialed_stream, fails_now, give_bytes, is_listened, stream_at, take_bytes, waits, IsDialed, IsWritten, with_label_call}
+use Rattle.vs_outside.specs.Host.{called, dial_answer, dialed_stream, give_bytes, take_bytes, waits, IsDialed, IsWritten, with_label_call}
 use Rattle.vs_outside.specs.{Host.with_shut_write_call, declared.host_net.{Accepted.Accepted, Dialed.Dialed, StreamRead.StreamRead, StreamWrite.StreamWrite}}
 use Rattle.vs_outside.proofs.Frames.{accepts_waiting}
-use Rattle.vs_ring_port.specs.Contents.{DeviceAnswer, DeviceCall, Read, PublishCid}
+use Rattle.vs_ring_port.specs.Contents.{DeviceAnswer, DeviceCall}
 use Rattle.vs_device_parts.specs.Calls.{Answer, Call, DeviceTree, Ring, Accept, Dial, Label, ReadStream, WriteStream, ShutWrite, CloseStream, Allows, IsReadOf, Situation}
 use Rattle.vs_device_parts.specs.{Calls.TakesWithin, Playing.Runs, State.DeviceConnection}
-use Rattle.laws_proxy.specs.Account.{Made.{Account, Made, MayGet, account_of, delivering, header_in, labelled, made, new_account, shut, with_given, took, with_taken}, Tied.IsRead}
+use Rattle.laws_proxy.specs.Account.{Made.{Account, Made, MayGet, account_of, labelled, made, new_account, shut, with_given, took, with_taken}}
 use Rattle.laws_proxy.{specs.Account.{Tied.{IsWhole, reading_account, AgreesWith}, Told.{AreAccounted, Shows, ShowsAt, ShowsIn, StayAccounted}}, proofs.Account.Shown.change_shows}
-use Rattle.laws_proxy.proofs.Account.{Shown.{delivers_same, new_shows, none_there, read_same, same_seen, unseen_shows}, Accounts.{Changes, changes, changing, comes, differs}}
+use Rattle.laws_proxy.proofs.Account.{Shown.{new_shows, none_there, read_same, unseen_shows}, Accounts.{Changes, changes, changing, comes, differs}}
 use Rattle.laws_proxy.proofs.Account.{Accounts.self_is, Carrying.carries, Keeping.{Asks, Keeps, keeps_answer}}
 use Rattle.vs_proxy_parts.specs.State.{Handshake}
 use Rattle.vs_outside.specs.declared.host_net.Accepted.TheVariants as accepted
@@ -24,51 +25,19 @@ use Rattle.vs_outside.specs.declared.host_net.StreamWrite.TheVariants as write
 
 -- A call that failed.
 failed_shows : (c : HostContents) (at : ℕ → Option Account) → Shows at c → Shows at (after_failed c)
-failed_shows c at shows = by (fails_now c)
-  where
-    by : (b : Bool) → Shows at (cond b (called c) (record (called c) { starved = true }))
-    by true = shows
-    by false = shows
+failed_shows c at shows = grind (arith, common_steps)
 
 unknown : (st : Stream) (o : Option Account) → waits st.state ≡ true → ShowsIn st o → o ≡ None
 unknown st None waiting shows = refl
 unknown st (Some a) waiting shows = let both : true ≡ false = sym waiting ∙ shows.0 in absurd cc
 
-one_flow : (f g : Flow) → Some f ≡ Some g → f ≡ g
-one_flow f g is = cc
-
 dialed_id : (path : List ℕ) (id : ℕ) (c : HostContents) → dial_answer path c ≡ dialed.Stream id → id ≡ length c.streams + 1
-dialed_id path id c is = by (fails_now c) (is_listened path c) is
-  where
-    by : (b d : Bool) → cond b dialed.Failed (cond d (dialed.Stream (length c.streams + 1)) dialed.Refused) ≡ dialed.Stream id
-        → id ≡ length c.streams + 1
-    by true d is = absurd cc
-    by false true is = cc
-    by false false is = absurd cc
+dialed_id path id c is = grind (arith, common_steps)
 
 -- Bytes that were taken of a stream.
 took_shows : (o : Option Flow) (k : ℕ) (bytes : List ℕ) (st : Stream) (x : Account) → bytes ≡ take k st.untaken → x.label ≡ o
     → ShowsIn st (Some x) → ShowsIn (take_bytes k st) (Some (took o bytes x))
-took_shows None k bytes st x got label in_it =
-    let none : x.taken ≡ [] = subst (λ (o : Option Flow). IsRead o x) label in_it.5 in (
-      in_it.0,
-      in_it.1,
-      in_it.2,
-      in_it.3,
-      ap (λ (b : List ℕ). st.taken ++ b) (sym got)
-          ∙ ap (λ (b : List ℕ). b ++ bytes) (in_it.4 ∙ ap (λ (b : List ℕ). x.line ++ b) none ∙ append-nil x.line)
-          ∙ sym (append-nil (x.line ++ bytes)) ∙ ap (λ (b : List ℕ). (x.line ++ bytes) ++ b) (sym none),
-      subst (λ (o : Option Flow). IsRead o (took None bytes x)) (sym label) none,
-    )
-took_shows (Some flow) k bytes st x got label in_it =
-    let was : IsRead (Some flow) x = subst (λ (o : Option Flow). IsRead o x) label in_it.5 in (
-      in_it.0,
-      in_it.1,
-      in_it.2,
-      in_it.3,
-      ap (λ (b : List ℕ). st.taken ++ b) (sym got) ∙ ap (λ (b : List ℕ). b ++ bytes) in_it.4 ∙ append_assoc x.line x.taken bytes,
-      subst (λ (o : Option Flow). IsRead o (took (Some flow) bytes x)) (sym label) was,
-    )
+took_shows o k bytes st x got label in_it = grind (arith, common_steps)
 
 module _ (c : HostContents) (calls : List Made) (shows : Shows (account_of calls) c) where
   -- What a call's answer may be, and what holds after it.
@@ -200,20 +169,7 @@ module _ (c : HostContents) (calls : List Made) (shows : Shows (account_of calls
 -- Calls on the ring are nothing to the host.
 pub ring_shows : (call : DeviceCall) (a : DeviceAnswer call) (c : HostContents) (calls : List Made) → Shows (account_of calls) c
     → MayGet (Ring call) a calls × Shows (account_of (made (Ring call) a ∷ calls)) c
-ring_shows (Read chain place n) payload c calls shows = (tt, λ id. by id (place == HEADER_LEN))
-  where
-    by : (id : ℕ) (b : Bool)
-        → ShowsAt (stream_at id c) (cond b (option_map (delivering (header_in calls) n payload) (account_of calls id)) (account_of calls id))
-    by id true =
-        same_seen (delivering (header_in calls) n payload) (delivers_same (header_in calls) n payload) (stream_at id c)
-        (account_of calls id) (shows id)
-    by id false = shows id
-ring_shows (PublishCid cid) a c calls shows = (
-  tt,
-  λ id. same_seen shut (λ a. record { client = refl; label = refl; given = refl; line = refl; taken = refl }) (stream_at id c)
-      (account_of calls id) (shows id),
-)
-ring_shows _ a c calls shows = (tt, shows)
+ring_shows call payload c calls shows = grind (arith, common_steps)
 
 -- A call on a host that exposes its contents.
 exposed : (o n : Option HostContents) (P : HostContents → Type 0) (f : HostContents → HostContents) (h : HostContents) → o ≡ Some h

@@ -20,18 +20,10 @@ abbrev held : DeviceConnection → List ℕ
 held c = c.ok_line ++ c.pending
 
 pub gives_first : (c : DeviceConnection) → gives_all c ≡ true → c.closed ≡ false
-gives_first c is = by c.closed refl is
-  where
-    by : (b : Bool) → c.closed ≡ b → (not b && gives c.end) ≡ true → c.closed ≡ false
-    by false at is = at
-    by true at is = absurd cc
+gives_first c is = grind (arith, common_steps)
 
 pub gives_then : (c : DeviceConnection) → gives_all c ≡ true → gives c.end ≡ true
-gives_then c is = by c.closed is
-  where
-    by : (b : Bool) → (not b && gives c.end) ≡ true → gives c.end ≡ true
-    by false is = is
-    by true is = absurd cc
+gives_then c is = grind (arith, common_steps)
 
 pub gives_both : (c : DeviceConnection) → c.closed ≡ false → gives c.end ≡ true → gives_all c ≡ true
 gives_both c still is = ap (λ (b : Bool). not b && gives c.end) still ∙ is
@@ -41,23 +33,7 @@ pub end_changes : (a : Account) (e : DeviceEntry) (c : DeviceConnection) → IsT
     ≡ e.value.closed
     → c.ok_line ≡ e.value.ok_line → c.pending ≡ e.value.pending → (gives c.end ≡ true → gives e.value.end ≡ true)
     → (c.end.state ≡ state.Asked → e.value.end.state ≡ state.Asked) → IsTiedTo a (record e { value = c })
-end_changes a e c x client closed line pending less asks = record {
-  label = x.label;
-  client = x.client ∙ sym client;
-  closed = x.closed ∙ sym closed;
-  line = x.line;
-  drains = record {
-    front = subst (λ (bytes : List ℕ). IsPrefixOf (a.given ++ bytes) (ok_line_of c.by_client e.flow ++ a.delivered)) (sym same)
-        (subst (λ (b : Bool). IsPrefixOf (a.given ++ held e.value) (ok_line_of b e.flow ++ a.delivered)) (sym client) x.drains.front);
-    whole = λ on. ap (λ (bytes : List ℕ). a.given ++ bytes) same
-        ∙ x.drains.whole (gives_both e.value (sym closed ∙ gives_first c on) (less (gives_then c on)))
-        ∙ ap (λ (b : Bool). ok_line_of b e.flow ++ a.delivered) (sym client);
-  };
-  asked = λ on. let was = x.asked (asks on) in (was.0, was.1, line ∙ was.2, pending ∙ was.3);
-}
-  where
-    same : held c ≡ held e.value
-    same = ap (λ (bytes : List ℕ). bytes ++ c.pending) line ∙ ap (λ (bytes : List ℕ). e.value.ok_line ++ bytes) pending
+end_changes a e c x client closed line pending less asks = grind (arith, common_steps)
 
 -- What it held is dropped: it is over, or its stream is closed.
 pub nothing_held : (a : Account) (e : DeviceEntry) → IsTiedTo a e → IsPrefixOf (a.given ++ []) (came a e)

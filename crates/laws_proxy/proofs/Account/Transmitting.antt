@@ -1,12 +1,14 @@
 -- Packets of the guest: payload goes to the stream of its own flow.
+use Rattle.std.proofs.Common.{arith}
+use Rattle.std.proofs.lemmas.Grind.{common_steps}
 use Rattle.laws_proxy.specs.Account.{Made.{Account, Made, MayGet, account_of, delivering, header_in, made, new_account, payload_put, payload_taken, with_delivery}, Tied.AgreesWith}
 use Rattle.laws_proxy.{specs.Account.Tied.{Agree, IsOver, IsTied, IsTiedTo, ok_line_of, stream_of}, proofs.Account.Closing.{D, closes, Has, agree_moved, agree_same, join}}
 use Rattle.laws_proxy.proofs.Account.{Closing.over_there, Accounts.{Changes, comes, is_delivered, not_delivered, self_is}, Ties.{answers, delivers, end_changes}, Keeping.asking}
 use Rattle.laws_proxy.proofs.Account.{Keeping.Keeps, Entries.{added, waiting_kept}}
-use Rattle.laws_device.{specs.{Walk.Seen.Seen, Carried.Streamed.gives_in}, proofs.{Walk.{Serving.by_flow, Taking.{AfterDial, Takes}}, Carried.Gives.{delivers_gives, hears_gives}}}
-use Rattle.std.proofs.{Common.{◌≡◌, ℕ, Bool, true, false, cond, List, [], ◌∷◌, ◌++◌, Contains, Option, Some, None, refl, sym, ap, subst, ◌∙◌}, lemmas.List.Elements.All-push}
+use Rattle.laws_device.{specs.{Walk.Seen.Seen}, proofs.{Walk.{Serving.by_flow, Taking.{AfterDial, Takes}}, Carried.Gives.{hears_gives}}}
+use Rattle.std.proofs.{Common.{◌≡◌, ℕ, Bool, true, false, cond, List, ◌∷◌, ◌++◌, Contains, Option, Some, None, refl, sym, ap, subst, ◌∙◌}, lemmas.List.Elements.All-push}
 use Rattle.std.specs.Option.{option_map}
-use Rattle.vs_conn.{specs.{End.{answering, verdict_of}, declared.end.{State.{State, TheVariants.Ended}, Verdict.Verdict}}, proofs.Frames.{got_asked, got_over}}
+use Rattle.vs_conn.{specs.{End.{answering, verdict_of}, declared.end.{State.{TheVariants.Ended}, Verdict.Verdict}}, proofs.Frames.{got_asked, got_over}}
 use Rattle.vs_flow.{specs.{Table.{Table, entry_of, has_place, next_entry, with_value}, declared.flow.Flow.Flow}, proofs.{Entries.same_flow_true, Lookups.entry_of_found}}
 use Rattle.vs_flow.proofs.Tables.{accepted}
 use Rattle.vs_header.specs.declared.{Header.Header, TheConstants.HEADER_LEN, Kind.TheVariants.Stream}
@@ -26,26 +28,12 @@ use Rattle.vs_ring_port.specs.declared.device_ring.Next.TheVariants as next
 -- The connection of a stream that was dialed.
 dialed_tie : (t : Table DeviceConnection) (flow : Flow) (h : Header) (stream : ℕ)
     → IsTiedTo (new_account (Some flow) false) (next_entry t flow (new_connection (answering Stream BUF_ALLOC h) stream false))
-dialed_tie t flow h stream = record {
-  label = refl;
-  client = refl;
-  closed = refl;
-  line = refl;
-  drains = record { front = ([], refl); whole = λ on. refl };
-  asked = λ on. absurd cc;
-}
+dialed_tie t flow h stream = grind (arith, common_steps)
 
 -- An end that is over takes no payload.
 not_over : (e : DeviceEntry) (h : Header) → verdict_of e.value.end h ≡ verdict.Deliver → (e.value.closed ≡ true → e.value.end.state ≡ Ended)
     → e.value.closed ≡ false
-not_over e h is over = by e.value.closed refl
-  where
-    by : (b : Bool) → e.value.closed ≡ b → e.value.closed ≡ false
-    by false still = still
-    by true closed =
-        let none : gives_in Ended e.value.end.own.receive ≡ true =
-        ap (λ (s : State). gives_in s e.value.end.own.receive) (sym (over closed)) ∙ delivers_gives e.value.end h is in
-        absurd cc
+not_over e h is over = grind (arith, common_steps)
 
 module _ (hands : List Handshake) where
   -- The header of a packet was read.

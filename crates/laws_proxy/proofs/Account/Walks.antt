@@ -1,5 +1,6 @@
 -- What the calls of a conversation come to in a device's counts, and that some take no chain of tx.
-use Rattle.std.proofs.{Common.{◌≡◌, ℕ, ◌<◌, ◌^◌, Bool, true, false, cond, List, refl, sym, ap, subst, ◌∙◌, arith}, lemmas.Bool.Decides.nat_tests}
+use Rattle.std.proofs.lemmas.Grind.{common_steps}
+use Rattle.std.proofs.{Common.{◌≡◌, ℕ, Bool, true, false, cond, List, refl, sym, ap, subst, ◌∙◌, arith}}
 use Rattle.vs_contents.specs.CallTree.{Done, Ask, Leads}
 use Rattle.vs_outside.specs.{Faults.CountsFault, Host.{accept_failed, dial_failed, read_failed, write_failed}}
 use Rattle.vs_ring_port.specs.{Contents.Take, declared.{device_ring.Chain.Chain, queue.Queue.TheVariants.Tx}}
@@ -43,21 +44,9 @@ counts_made f (Ask call next) calls later x n first walks same leads =
     (ap (count_made call leads.0) same ∙ sym (ap (counts_of first) leads.2.1)) leads.3
 
 -- Device and host count the same calls.
-counts_alike : (b : Bool) (old new : ℕ) → old < 2 ^ 64 → CountsFault b old new → new ≡ cond b (counted old) old
-counts_alike true old new fits counts = grind (arith, nat_tests, counts)
-counts_alike false old new fits counts = counts
-
-counts_fit : (b : Bool) (old : ℕ) → old < 2 ^ 64 → cond b (counted old) old < 2 ^ 64
-counts_fit true old fits = grind (arith, nat_tests, fits)
-counts_fit false old fits = fits
-
 -- One call that failed or not, from a count that is the host's.
 alike_by : (b : Bool) (n old new : ℕ) → CountsFaults n old → CountsFault b old new → CountsFaults (cond b (counted n) n) new
-alike_by b n old new same counts =
-    let next = counts_alike b old new same.1 counts in (
-      ap (λ (m : ℕ). cond b (counted m) m) same.0 ∙ sym next,
-      subst (λ (m : ℕ). m < 2 ^ 64) (sym next) (counts_fit b old same.1),
-    )
+alike_by b n old new same counts = grind (arith, common_steps)
 
 stays_alike : (n old new : ℕ) → CountsFaults n old → new ≡ old → CountsFaults n new
 stays_alike n old new same is = subst (λ (m : ℕ). CountsFaults n m) (sym is) same

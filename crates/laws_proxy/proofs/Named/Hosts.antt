@@ -1,4 +1,6 @@
 -- Streams of handshakes that are accepted and closed.
+use Rattle.std.proofs.Common.{arith}
+use Rattle.std.proofs.lemmas.Grind.{common_steps}
 use Rattle.std.proofs.{Common.{◌≡◌, ◌≢◌, ℕ, List, [], ◌∷◌, ◌++◌, Some, Contains, IsSomeAnd, ◌⊎◌, inl, inr, refl, sym, subst, ◌∙◌}, lemmas.List.Elements.Contains-push_cases}
 use Rattle.vs_flow.specs.Table.{Table}
 use Rattle.vs_outside.{specs.Host.{HostContents, IsOpen, accept_answer, after_accept, after_close}, proofs.Frames.{accepts_waiting, open_of, others-after_accept}}
@@ -47,11 +49,7 @@ module _ (others : List ℕ) (t : Table DeviceConnection) (h : HostContents) (ha
 
   -- one of the others may be a connection's
   pub is_free : (some : List ℕ) (stream : ℕ) → Contains others stream → (Contains some stream → ⊥) → IsFree stream some t h
-  is_free some stream there gone = record {
-    is_open = has.joins.others_open stream there;
-    unjoined = λ slot at. has.joins.others_apart slot stream there at;
-    no_other = gone;
-  }
+  is_free some stream there gone = grind (arith, common_steps)
 
   -- a client's stream is accepted: it wasn't open before
   pub has_accepted : (id : ℕ) → accept_answer h ≡ accepted.Stream id
