@@ -1,39 +1,62 @@
 -- Calls that read nothing keep the account: those that make no use of the ring, and a send.
-use Rattle.laws_tables.{proofs.{Adding.{number_put, got_over_put}, Slots.found_by, Goes.{Goes, ended_goes, shut_goes, stays_still}}, specs.{Steps.payload_on, Drains.receives}}
-use Rattle.std.proofs.Common.{◌≡◌, ℕ, ◌==◌, not, Bool, false, List, [], ◌∷◌, take, length, Option, Some, None, refl, Contains, Result, Ok, Err, ◌∙◌, true}
-use Rattle.std.proofs.lemmas.List.Elements.{All-filter}
-use Rattle.vs_conn.specs.{End.{grown, with_payload_sent, wanting_credit}, declared.end.State.State}
+use Rattle.laws_tables.{proofs.{Adding.{number_put, got_over_put}, Slots.found_by, Goes.{Goes, drops, ended_goes, stays_still}}, specs.Steps.payload_on}
+use Rattle.std.proofs.Common.{◌≡◌, ℕ, ◌==◌, ◌&&◌, ◌||◌, not, cond, Bool, false, List, [], ◌∷◌, take, length, Option, Some, None, refl, Contains, Result, Ok, Err, ◌∙◌, true, arith}
+use Rattle.std.proofs.lemmas.{Grind.common_steps, List.Elements.All-filter}
+use Rattle.vs_conn.specs.{End.{grown, is_open, with_payload_sent, with_shut, wanting_credit}, declared.end.State.State}
 use Rattle.vs_flow.specs.Table.{IsTable}
 use Rattle.laws_history.specs.{declared.packet.Packet.Packet, Packets.is_request}
-use Rattle.vs_page.specs.{Fair.payload_got, Log.{Driver, Log}, declared.log.LogEntry.TheVariants.PutPacket}
+use Rattle.vs_page.specs.{Fair.{IsFairLog, payload_got}, Log.{Driver, Log}, declared.log.LogEntry.TheVariants.PutPacket}
 use Rattle.vs_driver_parts.specs.{State.{DriverConnection, DriverEntry, DriverState, GoneConnection, entry_known_as, gone_known_as, is_known_as}, Connections.after_close}
 use Rattle.vs_driver_parts.specs.Connections.{after_closing, after_grow, after_shut, after_shutdown, after_unlisten, all_closed, entry_grow_answer, grown_by, entry_closed}
 use Rattle.vs_driver_parts.specs.{Connections.{gone_closed, shut_in, waiting_on, without_gone}, declared.answers.{Grown.Grown, ListenError.ListenError}, Listening.after_accept}
 use Rattle.vs_driver_parts.{specs.{Listening.{listening, next_accepted, with_waiting, without_id}, Held.with_connection_in}, proofs.Numbers.numbers_gone_without}
-use Rattle.laws_driver.{specs.{Honest.{IsFitState, slots_of}, Carried.Received.{Account, AreReceived, ReceivedOn}}, proofs.{Calls.CarriesSend, Changing.close_changes}}
-use Rattle.laws_driver.proofs.Carried.{Reading.given_none, Receiving.{changed_received, in_slots}}
+use Rattle.laws_driver.{specs.{Honest.{IsFitState, slots_of}, Carried.Received.{Account, AreReceived, EndsClean, ReceivedOn, keeps_all}}, proofs.{Calls.CarriesSend, Changing.close_changes}}
+use Rattle.laws_driver.proofs.Carried.{Delivering.put_lasts, Reading.given_none, Receiving.{changed_received, in_slots}}
 use Rattle.vs_conn.specs.declared.end.State.TheVariants as state
 use Rattle.vs_driver_parts.specs.declared.answers.Grown.TheVariants as rise
+
+-- Directions are shut, by a shutdown or a close.
+shut_goes_by : (before aborted shut : Bool) (unread : List ℕ) → (not (aborted || shut) ≡ true → before ≡ true)
+    → Goes before (not (aborted || shut)) unread (cond shut [] unread) [] []
+shut_goes_by before true true unread less = drops before unread []
+shut_goes_by before false true unread less = drops before unread []
+shut_goes_by before aborted false unread less = stays_still before _ unread [] less (λ on. refl)
+
+module _ (bits : ℕ) (c : DriverConnection) (closed : Bool) (unclosed : closed ≡ false → c.closed ≡ false) where
+  abbrev k : DriverConnection
+  k = record (after_shut bits c) { closed = closed }
+
+  shut_less : keeps_all k ≡ true → keeps_all c ≡ true
+  shut_less is = grind (arith, common_steps, is, unclosed)
+
+  shut_goes : Goes (keeps_all c) (keeps_all k) c.unread k.unread [] []
+  shut_goes = shut_goes_by (keeps_all c) (closed && not (is_open k.end.state)) (with_shut c.end bits).own.receive c.unread shut_less
+
+  shut_clean : EndsClean c → EndsClean k
+  shut_clean over on is = grind (arith, common_steps, over, unclosed, on, is)
 
 module _ (a : Account) (log : Log) (s : DriverState) (x : AreReceived a log (slots_of s)) where
   -- A connection of the table changes, and no byte moves; and the driver puts a packet besides.
   pub alters : (e : DriverEntry) (c : DriverConnection) → IsTable s.table → Contains s.table.entries e → c.id ≡ e.value.id
-      → Goes (receives e.value.end) (receives c.end) e.value.unread c.unread [] [] → AreReceived a log (with_connection_in e.slot c (slots_of s))
-  alters e c sound there same goes =
+      → Goes (keeps_all e.value) (keeps_all c) e.value.unread c.unread [] [] → (EndsClean e.value → EndsClean c)
+      → AreReceived a log (with_connection_in e.slot c (slots_of s))
+  alters e c sound there same goes over =
       changed_received a a.received log log e [] [] (λ id. given_none (id == e.value.id) (a.received id)) (λ k. given_none _ (payload_got Driver k log))
-      (λ f. refl) (slots_of s) x sound there c same goes
+      (λ f. refl) (λ k past over. (refl, over)) (slots_of s) x sound there c same goes over
 
-  pub puts_and_alters : (p : Packet) (e : DriverEntry) (c : DriverConnection) → is_request p ≡ false → IsTable s.table → Contains s.table.entries e
-      → c.id ≡ e.value.id → Goes (receives e.value.end) (receives c.end) e.value.unread c.unread [] []
-      → AreReceived a (PutPacket p ∷ log) (with_connection_in e.slot c (slots_of s))
-  puts_and_alters p e c plain sound there same goes =
+  pub puts_and_alters : (p : Packet) (e : DriverEntry) (c : DriverConnection) → is_request p ≡ false → IsFairLog Driver (PutPacket p ∷ log)
+      → IsTable s.table → Contains s.table.entries e → c.id ≡ e.value.id → Goes (keeps_all e.value) (keeps_all c) e.value.unread c.unread [] []
+      → (EndsClean e.value → EndsClean c) → AreReceived a (PutPacket p ∷ log) (with_connection_in e.slot c (slots_of s))
+  puts_and_alters p e c plain fair sound there same goes over =
       changed_received a a.received log (PutPacket p ∷ log) e [] [] (λ id. given_none (id == e.value.id) (a.received id))
       (λ k. got_over_put Driver p log k ∙ given_none _ (payload_got Driver k log))
-      (λ f. number_put Driver p log f plain) (slots_of s) x sound there c same goes
+      (λ f. number_put Driver p log f plain) (put_lasts p log fair) (slots_of s) x sound there c same goes over
 
   -- shutdown.
   shut_by : (st : State) (bits : ℕ) (e : DriverEntry) → IsTable s.table → Contains s.table.entries e → AreReceived a log (slots_of (shut_in st bits e s))
-  shut_by state.Live bits e sound there = alters e (after_shut bits e.value) sound there refl (shut_goes e.value.end bits e.value.unread)
+  shut_by state.Live bits e sound there =
+      let unclosed : e.value.closed ≡ false → e.value.closed ≡ false = λ on. on in
+      alters e (after_shut bits e.value) sound there refl (shut_goes bits e.value e.value.closed unclosed) (shut_clean bits e.value e.value.closed unclosed)
   shut_by _ bits e sound there = x
 
   pub shutdown_received : (id bits : ℕ) → IsTable s.table → AreReceived a log (slots_of (after_shutdown id bits s))
@@ -49,7 +72,7 @@ module _ (a : Account) (log : Log) (s : DriverState) (x : AreReceived a log (slo
       → AreReceived a log (slots_of (grown_by answer alloc e s))
   grow_by rise.Done alloc e sound there =
       alters e (record e.value { end = grown e.value.end alloc }) sound there refl
-      (stays_still (receives e.value.end) (receives e.value.end) e.value.unread [] (λ on. on) (λ on. refl))
+      (stays_still (keeps_all e.value) (keeps_all e.value) e.value.unread [] (λ on. on) (λ on. refl)) (λ over. over)
   grow_by _ alloc e sound there = x
 
   pub grow_received : (id alloc : ℕ) → IsTable s.table → AreReceived a log (slots_of (after_grow id alloc s))
@@ -63,8 +86,11 @@ module _ (a : Account) (log : Log) (s : DriverState) (x : AreReceived a log (slo
   -- close.
   closes : (st : State) (e : DriverEntry) → IsTable s.table → Contains s.table.entries e
       → AreReceived a log (with_connection_in e.slot (after_closing st e.value) (slots_of s))
-  closes state.Live e sound there = alters e (after_closing state.Live e.value) sound there refl (shut_goes e.value.end 3 e.value.unread)
-  closes st e sound there = alters e (after_closing st e.value) sound there refl (ended_goes (receives e.value.end) e.value.unread)
+  closes state.Live e sound there =
+      let unclosed : true ≡ false → e.value.closed ≡ false = λ on. absurd cc in
+      alters e (after_closing state.Live e.value) sound there refl (shut_goes 3 e.value true unclosed) (shut_clean 3 e.value true unclosed)
+  closes st e sound there =
+      alters e (after_closing st e.value) sound there refl (ended_goes (keeps_all e.value) e.value.unread) (λ over on. absurd cc)
 
   gone_received : (o : Option GoneConnection) (id : ℕ) → AreReceived a log (slots_of (elim o as (λ _. DriverState) [
     | None ↦ s
@@ -121,9 +147,9 @@ send_receives first id bytes a = record {
   full = λ n s log x. x;
   wants = λ e s log fits stands m x.
       alters a log s x e (record e.value { end = wanting_credit e.value.end }) fits.sound stands.contains refl
-      (stays_still (receives e.value.end) (receives e.value.end) e.value.unread [] (λ on. on) (λ on. refl));
+      (stays_still (keeps_all e.value) (keeps_all e.value) e.value.unread [] (λ on. on) (λ on. refl)) (λ over. over);
   sends = λ e n s log fits stands known can few m was fair x.
       puts_and_alters a log s x (payload_on Driver s.cid e.flow e.value.end (take n bytes)) e
-      (record e.value { end = with_payload_sent e.value.end (length (take n bytes)) }) refl fits.sound stands.contains refl
-      (stays_still (receives e.value.end) (receives e.value.end) e.value.unread [] (λ on. on) (λ on. refl));
+      (record e.value { end = with_payload_sent e.value.end (length (take n bytes)) }) refl fair fits.sound stands.contains refl
+      (stays_still (keeps_all e.value) (keeps_all e.value) e.value.unread [] (λ on. on) (λ on. refl)) (λ over. over);
 }

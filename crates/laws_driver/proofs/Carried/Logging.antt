@@ -1,14 +1,16 @@
 -- The account where entries are added to the log, and where connections leave the table or open.
-use Rattle.std.proofs.Common.{◌≡◌, ◌≢◌, ℕ, ◌+◌, ◌<◌, ◌≤◌, ◌==◌, Bool, true, false, cond, List, [], ◌∷◌, ◌++◌, length, get_or, Contains, refl, sym, ap, subst, ◌∙◌, arith}
-use Rattle.std.{proofs.lemmas.{List.Elements.{All-contains, All-push}, Bool.Decides.nat_tests}, specs.List.All}
+use Rattle.std.proofs.Common.{◌≡◌, ◌≢◌, ℕ, ◌+◌, ◌<◌, ◌≤◌, ◌==◌, ◌&&◌, ◌||◌, not, Bool, true, false, cond, List, [], ◌∷◌, ◌++◌, length, get_or, Contains, refl, sym, ap, subst, ◌∙◌, arith}
+use Rattle.std.{proofs.lemmas.{Grind.common_steps, List.Elements.{All-contains, All-push}, Bool.Decides.nat_tests}, specs.List.All}
+use Rattle.vs_conn.specs.{End.{ConnectionEnd, is_open}, declared.shut.Shut.Shut}
 use Rattle.vs_flow.specs.{Connection.Connection, Flow.{host_asks, same_flow}, Table.{IsTable, next_entry, with_entry, without}, declared.flow.Flow.Flow}
 use Rattle.vs_flow.proofs.Entries.{same_flow_false}
 use Rattle.laws_history.specs.{History.{Answerer, Asker, Got, History, Side, gots, puts}, declared.packet.Packet.Packet, Packets.is_request, Again.count}
-use Rattle.vs_page.specs.{Fair.{IsPrefixOf, asked_by, current, number_of, payload_got}, Log.{Driver, Log, flow_got, side_of, whole_of}, declared.log.LogEntry.TheVariants.GotPacket}
+use Rattle.vs_page.specs.{Fair.{IsFairLog, IsPrefixOf, asked_by, current, number_of, payload_got}, Held.IsWhole, Log.{Driver, Log, flow_got, side_of, whole_of}, declared.log.LogEntry.TheVariants.GotPacket}
 use Rattle.vs_page.proofs.{Flows.{same_is, same_self, still}, PayloadLogs.got_stays}
-use Rattle.vs_driver_parts.{proofs.Numbers.{numbers_left, numbers_with_entry, numbers_without}, specs.{Held.HeldSlots, State.{DriverConnection, DriverEntry, GoneConnection}}}
-use Rattle.laws_tables.{specs.Drains.{Drains, receives}, proofs.{Changes.{others_left, under_slot}, Logs.{all_of, nothing_more, prefix_then}}}
-use Rattle.laws_driver.{specs.Carried.Received.{Account, AreReceived, GoesOn, ReceivedOn, ReceivesOn, with_opened}, proofs.Carried.Receiving.{apart_by, in_slots, number_same}}
+use Rattle.vs_driver_parts.{proofs.Numbers.{numbers_left, numbers_with_entry, numbers_without}, specs.{Connections.{gone_as, is_let_go}, Held.HeldSlots, State.{DriverConnection, DriverEntry, GoneConnection}}}
+use Rattle.laws_tables.{specs.Drains.Drains, proofs.{Changes.{others_left, under_slot}, Logs.{all_of, nothing_more, prefix_then}}}
+use Rattle.laws_driver.specs.Carried.Received.{Account, AreReceived, EndsClean, GetsNoMore, GoesOn, ReceivedOn, ReceivesOn, got_until_reset, keeps_all, with_opened}
+use Rattle.laws_driver.proofs.Carried.{Delivering.{IsThrough, Lasts, got_lasts}, Receiving.{apart_by, in_slots, number_same}}
 
 -- What more entries leave: the payload of each connection grows, and so do the numbers; on the flows of the table nothing is new.
 pub record Leaves (log new : Log) (e : DriverEntry) : Type 0 where
@@ -16,7 +18,7 @@ pub record Leaves (log new : Log) (e : DriverEntry) : Type 0 where
   pub got : (k : ℕ) → let c : Connection = record { flow = e.flow; number = k } in payload_got Driver c new ≡ payload_got Driver c log
 
 module _ (a : Account) (log new : Log) (grows : (c : Connection) → IsPrefixOf (payload_got Driver c log) (payload_got Driver c new))
-    (more : (f : Flow) → number_of Driver f log ≤ number_of Driver f new) where
+    (more : (f : Flow) → number_of Driver f log ≤ number_of Driver f new) (lasts : Lasts log new) where
   later_on : (e : DriverEntry) → Leaves log new e → ReceivesOn a log e → ReceivesOn a new e
   later_on e leaves x =
       let now : current Driver e.flow log ≡ current Driver e.flow new =
@@ -24,23 +26,22 @@ module _ (a : Account) (log new : Log) (grows : (c : Connection) → IsPrefixOf 
       record {
         present = x.present ∙ now;
         some = subst (λ (n : ℕ). 1 ≤ n) (sym leaves.number) x.some;
-        drains = subst (λ (bytes : List ℕ). Drains (receives e.value.end) (a.received e.value.id) e.value.unread bytes)
+        drains = subst (λ (bytes : List ℕ). Drains (keeps_all e.value) (a.received e.value.id) e.value.unread bytes)
             (sym (leaves.got (number_of Driver e.flow log)) ∙ ap (λ (c : Connection). payload_got Driver c new) now) x.drains;
+        over = x.over;
       }
 
-  later_gone : (g : GoneConnection) → ReceivedOn a log g → ReceivedOn a new g
-  later_gone g x = record {
-    flow = x.flow;
-    some = x.some;
-    front = prefix_then _ _ _ x.front (grows (a.opened g.id));
-  }
+  later_gone : (g : GoneConnection) → (a.opened g.id).number ≤ number_of Driver (a.opened g.id).flow log → ReceivedOn a log g → ReceivedOn a new g
+  later_gone g past x =
+      let last = lasts (a.opened g.id) past x.over in
+      record { flow = x.flow; some = x.some; drains = subst (Drains (not g.end.own.receive) (a.received g.id) g.unread) (sym last.0) x.drains; over = last.1 }
 
   pub later_received : (slots : HeldSlots) → All (Leaves log new) slots.table.entries → AreReceived a log slots → AreReceived a new slots
   later_received slots leaves x = record {
     numbers = x.numbers;
     front = λ id. prefix_then _ _ _ (x.front id) (grows (a.opened id));
     held = λ i d within. later_on (get_or slots.table.entries i d) (leaves i d within) (x.held i d within);
-    left = λ i d within. later_gone (get_or slots.gone i d) (x.left i d within);
+    left = λ i d within. later_gone (get_or slots.gone i d) (x.passed (get_or slots.gone i d).id) (x.left i d within);
     passed = λ id. let m = more (a.opened id).flow in let p = x.passed id in omega (arith, m, p);
     once = x.once;
     rising = x.rising;
@@ -48,12 +49,12 @@ module _ (a : Account) (log new : Log) (grows : (c : Connection) → IsPrefixOf 
   }
 
 -- Nothing was got.
-pub same_received : (a : Account) (log new : Log) (slots : HeldSlots)
+pub same_received : (a : Account) (log new : Log) (slots : HeldSlots) → Lasts log new
     → ((c : Connection) → payload_got Driver c new ≡ payload_got Driver c log) → ((f : Flow) → number_of Driver f new ≡ number_of Driver f log)
     → AreReceived a log slots → AreReceived a new slots
-same_received a log new slots got numbers x =
+same_received a log new slots lasts got numbers x =
     later_received a log new (λ c. all_of (payload_got Driver c log) (payload_got Driver c new) (sym (got c)))
-    (λ f. let same = numbers f in omega (arith, same)) slots
+    (λ f. let same = numbers f in omega (arith, same)) lasts slots
     (λ i d within. let e = get_or slots.table.entries i d in record { number = numbers e.flow; got = λ k. got (record { flow = e.flow; number = k }) }) x
 
 -- A packet is got of a flow that has no connection.
@@ -67,17 +68,20 @@ number_by Answerer p w true = by (is_request p)
     by true = omega arith
     by false = omega arith
 
-pub passes_by : (a : Account) (p : Packet) (log : Log) (slots : HeldSlots) → All (λ e. e.flow ≢ flow_got Driver p) slots.table.entries
-    → AreReceived a log slots → AreReceived a (GotPacket p ∷ log) slots
-passes_by a p log slots apart x =
+pub passes_by : (a : Account) (p : Packet) (log : Log) (slots : HeldSlots) → IsWhole p → IsFairLog Driver log → IsFairLog Driver (GotPacket p ∷ log)
+    → All (λ e. e.flow ≢ flow_got Driver p) slots.table.entries → AreReceived a log slots → AreReceived a (GotPacket p ∷ log) slots
+passes_by a p log slots whole was fair apart x =
     later_received a log (GotPacket p ∷ log) (λ c. got_stays Driver (GotPacket p ∷ []) log c)
-    (λ f. number_by (side_of Driver f) p (whole_of Driver f log) (same_flow f (flow_got Driver p))) slots
+    (λ f. number_by (side_of Driver f) p (whole_of Driver f log) (same_flow f (flow_got Driver p))) (got_lasts p log whole was fair) slots
     (λ i d within.
     let e = get_or slots.table.entries i d in
     let alone = still Driver 0 e.flow (GotPacket p) log (same_flow_false e.flow (flow_got Driver p) (apart i d within)) in record {
       number = ap (λ (w : History). asked_by (side_of Driver e.flow) (puts w) (gots w)) alone.whole;
       got = alone.got;
     }) x
+
+stays_open : (c : DriverConnection) → is_let_go c ≡ false → c.closed ≡ false
+stays_open = grind (arith, common_steps)
 
 -- A connection leaves the table.
 module _ (a : Account) (log : Log) (slots : HeldSlots) (x : AreReceived a log slots) (sound : IsTable slots.table) (e : DriverEntry)
@@ -88,33 +92,44 @@ module _ (a : Account) (log : Log) (slots : HeldSlots) (x : AreReceived a log sl
       (numbers_without a.first_id slots.next_port slots.next_id slots.table slots.gone x.numbers e.slot)
       (others_left slots.table sound e there (ReceivesOn a log) (ReceivesOn a log) x.held (λ y other z. z)) x.left
 
-  left_received : (g : GoneConnection) → g.id ≡ e.value.id → g.flow ≡ e.flow → g.unread ≡ e.value.unread
-      → AreReceived a log (record slots { table = without slots.table e.slot; gone = slots.gone ++ g ∷ [] })
-  left_received g same flow unread =
-      let y = without_received in
-      let old = All-contains (ReceivesOn a log) slots.table.entries e x.held there in
-      let opened : a.opened g.id ≡ current Driver e.flow log = ap a.opened same ∙ old.present in
-      in_slots a log slots (record slots { table = without slots.table e.slot; gone = slots.gone ++ g ∷ [] }) x refl
-      (numbers_left a.first_id slots.next_port slots.next_id slots.table slots.gone x.numbers e g sound (under_slot slots.table sound e there) same) y.held
-      (All-push (ReceivedOn a log) slots.gone g x.left (record {
-        flow = ap (λ (c : Connection). c.flow) opened ∙ sym flow;
-        some = subst (λ (c : Connection). 1 ≤ c.number) (sym opened) old.some;
-        front = subst (λ (c : Connection). IsPrefixOf (a.received g.id ++ g.unread) (payload_got Driver c log)) (sym opened)
-            (subst (λ (id : ℕ). IsPrefixOf (a.received id ++ g.unread) (payload_got Driver (current Driver e.flow log) log)) (sym same)
-            (subst (λ (bytes : List ℕ). IsPrefixOf (a.received e.value.id ++ bytes) (payload_got Driver (current Driver e.flow log) log)) (sym unread) old.drains.front));
-      }))
+  module _ (end : ConnectionEnd) (own : end.own ≡ e.value.end.own) where
+    abbrev g : GoneConnection
+    g = gone_as (record e { value = record e.value { end = end } })
 
-  pub leaves_received : (let_go : Bool) (g : GoneConnection) → g.id ≡ e.value.id → g.flow ≡ e.flow → g.unread ≡ e.value.unread
-      → AreReceived a log (record slots { table = without slots.table e.slot; gone = cond let_go slots.gone (slots.gone ++ g ∷ []) })
-  leaves_received true g same flow unread = without_received
-  leaves_received false g same flow unread = left_received g same flow unread
+    left_received : e.value.closed ≡ false → IsThrough e.flow log
+        → AreReceived a log (record slots { table = without slots.table e.slot; gone = slots.gone ++ g ∷ [] })
+    left_received unclosed through =
+        let old = All-contains (ReceivesOn a log) slots.table.entries e x.held there in
+        let P : Bool → Shut → List ℕ → Type 0 =
+        λ closed shut came. Drains (not (closed && not (is_open e.value.end.state) || shut.receive)) (a.received e.value.id) e.value.unread came in
+        let all : List ℕ = payload_got Driver (current Driver e.flow log) log in
+        let now : P false end.own (got_until_reset (current Driver e.flow log) log) =
+        subst (P false end.own) (sym through.0)
+        (subst (λ (shut : Shut). P false shut all) (sym own) (subst (λ (closed : Bool). P closed e.value.end.own all) unclosed old.drains)) in
+        in_slots a log slots (record slots { table = without slots.table e.slot; gone = slots.gone ++ g ∷ [] }) x refl
+        (numbers_left a.first_id slots.next_port slots.next_id slots.table slots.gone x.numbers e g sound (under_slot slots.table sound e there) refl)
+        without_received.held
+        (All-push (ReceivedOn a log) slots.gone g x.left (record {
+          flow = ap (λ (c : Connection). c.flow) old.present;
+          some = subst (λ (c : Connection). 1 ≤ c.number) (sym old.present) old.some;
+          drains = subst (λ (c : Connection). Drains (not end.own.receive) (a.received e.value.id) e.value.unread (got_until_reset c log)) (sym old.present) now;
+          over = subst (λ (c : Connection). GetsNoMore c log) (sym old.present) through.1;
+        }))
+
+    pub leaves_received : (b : Bool) → is_let_go e.value ≡ b → (e.value.closed ≡ false → EndsClean e.value → IsThrough e.flow log)
+        → AreReceived a log (record slots { table = without slots.table e.slot; gone = cond b slots.gone (slots.gone ++ g ∷ []) })
+    leaves_received true is through = without_received
+    leaves_received false is through =
+        let unclosed = stays_open e.value is in
+        left_received unclosed (through unclosed (All-contains (ReceivesOn a log) slots.table.entries e x.held there).over)
 
 -- A connection opens: it is the next of its flow, of which the table has none.
 module _ (a : Account) (log new : Log) (slots : HeldSlots) (f : Flow) (c : DriverConnection) (port : ℕ) (x : AreReceived a log slots)
     (got : (k : Connection) → payload_got Driver k new ≡ payload_got Driver k log) (nothing : payload_got Driver (current Driver f new) new ≡ [])
     (next : number_of Driver f new ≡ number_of Driver f log + 1)
     (others : (g : Flow) → g ≢ f → number_of Driver g new ≡ number_of Driver g log) (id : c.id ≡ slots.next_id) (empty : c.unread ≡ [])
-    (absent : All (λ e. e.flow ≢ f) slots.table.entries) (more : slots.next_port ≤ port) (below : host_asks f ≡ false → f.guest < port) where
+    (absent : All (λ e. e.flow ≢ f) slots.table.entries) (more : slots.next_port ≤ port) (below : host_asks f ≡ false → f.guest < port)
+    (lasts : Lasts log new) (over : EndsClean c) where
   abbrev b : Account
   b = with_opened slots.next_id (current Driver f new) a
 
@@ -149,17 +164,22 @@ module _ (a : Account) (log new : Log) (slots : HeldSlots) (f : Flow) (c : Drive
       record {
         present = old_is e.value.id other ∙ y.present ∙ now;
         some = subst (λ (n : ℕ). 1 ≤ n) (sym number) y.some;
-        drains = subst (λ (bytes : List ℕ). Drains (receives e.value.end) (a.received e.value.id) e.value.unread bytes)
+        drains = subst (λ (bytes : List ℕ). Drains (keeps_all e.value) (a.received e.value.id) e.value.unread bytes)
             (sym (got (current Driver e.flow log)) ∙ ap (λ (k : Connection). payload_got Driver k new) now) y.drains;
+        over = y.over;
       }
 
   gone_still : (g : GoneConnection) → g.id ≢ slots.next_id → ReceivedOn a log g → ReceivedOn b new g
-  gone_still g other y = record {
-    flow = ap (λ (k : Connection). k.flow) (old_is g.id other) ∙ y.flow;
-    some = subst (λ (k : Connection). 1 ≤ k.number) (sym (old_is g.id other)) y.some;
-    front = subst (λ (k : Connection). IsPrefixOf (a.received g.id ++ g.unread) (payload_got Driver k new)) (sym (old_is g.id other))
-        (subst (λ (bytes : List ℕ). IsPrefixOf (a.received g.id ++ g.unread) bytes) (sym (got (a.opened g.id))) y.front);
-  }
+  gone_still g other y =
+      let last = lasts (a.opened g.id) (x.passed g.id) y.over in
+      let same = sym (old_is g.id other) in
+      let drained : List ℕ → Type 0 = λ came. Drains (not g.end.own.receive) (a.received g.id) g.unread came in
+      record {
+        flow = ap (λ (k : Connection). k.flow) (old_is g.id other) ∙ y.flow;
+        some = subst (λ (k : Connection). 1 ≤ k.number) same y.some;
+        drains = subst (λ (k : Connection). drained (got_until_reset k new)) same (subst drained (sym last.0) y.drains);
+        over = subst (λ (k : Connection). GetsNoMore k new) same last.1;
+      }
 
   pub opened_received : AreReceived b new (record slots { next_port = port; next_id = slots.next_id + 1; last_id = slots.next_id; table = with_entry slots.table f c })
   opened_received = record {
@@ -171,6 +191,7 @@ module _ (a : Account) (log new : Log) (slots : HeldSlots) (f : Flow) (c : Drive
           present = ap b.opened id ∙ opened_is;
           some = omega (arith, next);
           drains = record { front = all_of (a.received c.id ++ c.unread) (payload_got Driver (current Driver f new) new) none; whole = λ on. none };
+          over = over;
         });
     left = λ i d within. gone_still (get_or slots.gone i d)
         (λ is. let less = x.numbers.below i d within in absurd (omega (arith, is, less))) (x.left i d within);

@@ -1,14 +1,16 @@
 -- A poll keeps the account, with the ids of the connections that it opens.
 use Rattle.laws_tables.proofs.{Adding.{number_got, number_put, got_over_put, got_adds}, Fair.{got_goes_on, got_not_refused, heard_all}, Slots.found_by, Tables.driver_begun}
-use Rattle.laws_tables.{proofs.Goes.{Goes, comes_in, delivers_to, hears_less, only_delivered, pays_less, stays_still}, specs.{Drains.{only_on, receives}, Ends.is_new}}
+use Rattle.laws_tables.{proofs.{Fair.own_got_fair, Goes.{Goes, comes_in, only_delivered, stays_still}, Slots.one_end}, specs.{Drains.{only_on, receives}, Ends.is_new}}
 use Rattle.laws_tables.specs.{Matches.Matches, Steps.{HasEnd, owed_on, reply_on, is_kept}}
-use Rattle.std.proofs.Common.{◌≡◌, ◌≢◌, ℕ, ◌+◌, ◌<◌, ◌≤◌, ◌==◌, ◌&&◌, not, Bool, true, false, cond, List, [], ◌∷◌, ◌++◌, Contains, Option, Some, None, refl, sym, ap, subst, ◌∙◌}
-use Rattle.std.{proofs.{Common.arith, lemmas.{Bool.Decides.nat_tests, Grind.common_steps}}, specs.List.{All, filter, slice_get}}
-use Rattle.vs_conn.specs.{End.{ConnectionEnd, answering, end_after, is_refused, is_reset, owes_of, paid_of, verdict_of}, declared.end.{Owed.Owed, Verdict.Verdict}}
+use Rattle.std.proofs.Common.{◌≡◌, ◌≢◌, ℕ, ◌+◌, ◌<◌, ◌≤◌, ◌==◌, ◌&&◌, not, nat_le, suc, ◌⊎◌, inl, inr, Bool, true, false, cond, List, [], ◌∷◌, ◌++◌, get_or, Contains, Option, Some, None, refl, sym, ap, subst, ◌∙◌}
+use Rattle.std.{proofs.{Common.arith, lemmas.{Bool.Decides.nat_tests, Grind.common_steps, List.Elements.{All-contains, Contains-get_or}}}, specs.List.{All, filter, slice_get}}
+use Rattle.vs_conn.specs.{End.{ConnectionEnd, answering, end_after, is_refused, is_reset, owes_of, paid_of, verdict_of}, declared.end.{Owed.Owed, State.TheVariants.Ended, Verdict.Verdict}}
+use Rattle.vs_conn.proofs.Frames.{got_own}
 use Rattle.vs_flow.specs.{Connection.Connection, CleanPairs.of_host, Flow.{host_asks, same_flow}, Table.{IsRising, IsTable, entry_of, without, Table}, declared.flow.Flow.Flow}
 use Rattle.vs_flow.proofs.Entries.{none_found, same_flow_false}
+use Rattle.vs_header.specs.declared.Header.{Header}
 use Rattle.vs_limits.specs.declared.TheConstants.{BUF_ALLOC, HOST_CID}
-use Rattle.laws_history.specs.{declared.packet.Packet.Packet, Packets.is_rw, Again.count, History.{Answerer, Asker, Got, Side, gots, puts}}
+use Rattle.laws_history.specs.{declared.packet.Packet.Packet, Packets.is_rw, Again.count, History.{Answerer, Asker, Got, History, Side, gots, puts}}
 use Rattle.vs_page.specs.{Fair.{IsFairLog, asked_by, current, number_of, payload_got, payload_of}, Held.IsWhole, Log.{Driver, Log, and_then, flow_got, history_of, side_by}}
 use Rattle.vs_page.{specs.{Log.{side_of, whole_of}, Open.is_dropped, declared.log.LogEntry.TheVariants.{GotEvent, GotPacket, Mark, PutPacket}}, proofs.Flows.{same_is, same_self}}
 use Rattle.vs_page.proofs.{PayloadLogs.got_none, Present.present_got}
@@ -17,7 +19,9 @@ use Rattle.vs_driver_parts.specs.{Conversations.after_paying, Held.HeldSlots, St
 use Rattle.vs_driver_parts.specs.{Connections.{paid_connection, with_connection, with_request, waits_no_more, keeping}, Receiving.{after_packet, after_verdict, all_left}}
 use Rattle.vs_driver_parts.{specs.Receiving.{is_request, may_open, on_heard, on_known, on_packet, on_unknown, reset_reply, with_reply}, proofs.Ids.found_under}
 use Rattle.vs_driver_parts.proofs.Packets.{first_under, others_left, packet_known, packet_unknown}
-use Rattle.laws_driver.{specs.{Honest.{IsFitState, ends_of_state, slots_of}, Carried.Received.{Account, AreReceived, GoesOn, with_opened}}, proofs.Carrying.{Carries, Fact}}
+use Rattle.laws_driver.{specs.{Honest.{IsFitState, end_in, ends_of_state, slots_of}, Carried.Received.{Account, AreReceived, EndsClean, GoesOn, ReceivesOn}}}
+use Rattle.laws_driver.{specs.Carried.Received.{ends_payload, keeps_all, reset_number, with_opened}, proofs.Carrying.{Carries, Fact}}
+use Rattle.laws_driver.proofs.Carried.Delivering.{IsThrough, all_until, clean_got, event_lasts, got_lasts, mark_lasts, no_payload, over_marked, put_lasts, stands_alive, until_marked}
 use Rattle.laws_driver.proofs.{Tabling.{Stands, entry_fits, has_end, leaves}, Resetting.{first_contained, with_cid}, Taking.with_reply_fits, Carried.Changing.puts_and_alters}
 use Rattle.laws_driver.proofs.Carried.{Logging.{leaves_received, opened_goes_on, opened_received, passes_by, same_received}, Reading.given_none, Receiving.changed_received}
 use Rattle.laws_driver.proofs.Carried.Receiving.{in_clean}
@@ -27,18 +31,21 @@ use Rattle.vs_conn.specs.declared.end.Verdict.TheVariants as verdict
 use Rattle.laws_history.specs.Packets as packets
 
 -- A packet that the driver puts, which opens nothing.
-pub puts_received : (a : Account) (p : Packet) (log : Log) (slots : HeldSlots) → packets.is_request p ≡ false → AreReceived a log slots
-    → AreReceived a (PutPacket p ∷ log) slots
-puts_received a p log slots plain x =
-    same_received a log (PutPacket p ∷ log) slots (got_over_put Driver p log) (λ f. number_put Driver p log f plain) x
+pub puts_received : (a : Account) (p : Packet) (log : Log) (slots : HeldSlots) → packets.is_request p ≡ false → IsFairLog Driver (PutPacket p ∷ log)
+    → AreReceived a log slots → AreReceived a (PutPacket p ∷ log) slots
+puts_received a p log slots plain fair x =
+    same_received a log (PutPacket p ∷ log) slots (put_lasts p log fair) (got_over_put Driver p log) (λ f. number_put Driver p log f plain) x
 
 -- A connection leaves the table.
-pub leaving_received : (a : Account) (log : Log) (s : DriverState) (e : DriverEntry) (c : DriverConnection) → IsTable s.table
-    → Contains s.table.entries e → c.id ≡ e.value.id → c.unread ≡ e.value.unread → AreReceived a log (slots_of s)
-    → AreReceived a log (slots_of (after_leaving (record e { value = c }) s))
-leaving_received a log s e c sound there same unread x =
-    by c.unanswered (leaves_received a log (slots_of s) x sound e there (is_let_go c) (gone_as (record e { value = c })) same refl unread)
+pub leaving_received : (a : Account) (log : Log) (s : DriverState) (e : DriverEntry) (end : ConnectionEnd) → end.own ≡ e.value.end.own → IsTable s.table
+    → Contains s.table.entries e → (e.value.closed ≡ false → EndsClean e.value → IsThrough e.flow log) → AreReceived a log (slots_of s)
+    → AreReceived a log (slots_of (after_leaving (record e { value = record e.value { end = end } }) s))
+leaving_received a log s e end own sound there through x =
+    by e.value.unanswered (leaves_received a log (slots_of s) x sound e there end own (is_let_go e.value) refl through)
   where
+    c : DriverConnection
+    c = record e.value { end = end }
+
     by : (b : Bool) → let gone = cond (is_let_go c) s.gone (s.gone ++ gone_as (record e { value = c }) ∷ []) in
         AreReceived a log (record (slots_of s) { table = without s.table e.slot; gone = gone })
         → AreReceived a log (slots_of (record (cond b (waits_no_more (record e { value = c }) s) s) { table = without s.table e.slot; gone = gone }))
@@ -49,23 +56,42 @@ leaving_received a log s e c sound there same unread x =
 new_by : (e : ConnectionEnd) → owes_of e ≡ Some owed.Request → is_new e ≡ true
 new_by e owes = grind (arith, common_steps, owes)
 
-pays_received : (what : Owed) (a : Account) (e : DriverEntry) (s : DriverState) (log : Log) → IsFitState true s → Stands s e → owes_of e.value.end ≡ Some what
-    → is_new e.value.end ≡ false → AreReceived a log (slots_of s)
+owes_over : (e : ConnectionEnd) → owes_of e ≡ Some owed.Rst → e.state ≡ Ended
+owes_over e owes = grind (arith, common_steps, owes)
+
+paid_less : (what : Owed) (c : DriverConnection) → owes_of c.end ≡ Some what → keeps_all (paid_connection what c) ≡ true → keeps_all c ≡ true
+paid_less what c owes is = grind (arith, common_steps, owes, is)
+
+paid_clean : (what : Owed) (c : DriverConnection) → owes_of c.end ≡ Some what → EndsClean c → EndsClean (paid_connection what c)
+paid_clean what c owes over unclosed is = grind (arith, common_steps, owes, over, unclosed, is)
+
+pays_received : (what : Owed) (first : ℕ) (a : Account) (e : DriverEntry) (s : DriverState) (log : Log) → IsFitState true s → Stands s e → owes_of e.value.end ≡ Some what
+    → Matches Driver first (ends_of_state s) log → IsFairLog Driver log → IsFairLog Driver (PutPacket (owed_on Driver s.cid e.flow e.value.end what) ∷ log)
+    → AreReceived a log (slots_of s)
     → AreReceived a (PutPacket (owed_on Driver s.cid e.flow e.value.end what) ∷ log) (slots_of (after_paying what e s))
-pays_received owed.Request a e s log fits stands owes old x =
+pays_received owed.Request first a e s log fits stands owes m was fair x =
+    let old = driver_begun first (ends_of_state s) log e.flow e.value.end m.flows (has_end s e fits stands) in
     let both : true ≡ false = sym (new_by e.value.end owes) ∙ old in absurd cc
-pays_received owed.Rst a e s log fits stands owes old x =
-    leaving_received a (PutPacket (owed_on Driver s.cid e.flow e.value.end owed.Rst) ∷ log) s e e.value fits.sound stands.contains refl refl
-    (puts_received a (owed_on Driver s.cid e.flow e.value.end owed.Rst) log (slots_of s) refl x)
-pays_received what a e s log fits stands owes old x =
-    puts_and_alters a log s x (owed_on Driver s.cid e.flow e.value.end what) e (paid_connection what e.value) refl fits.sound stands.contains refl
-    (stays_still (receives e.value.end) (receives (paid_of e.value.end what)) e.value.unread [] (pays_less e.value.end what owes) (λ on. refl))
+pays_received owed.Rst first a e s log fits stands owes m was fair x =
+    let has = has_end s e fits stands in
+    let host = (entry_fits s e fits stands).peer refl in
+    let alive = stands_alive first (ends_of_state s) log e.flow e.value.end m.flows has was in
+    puts_received a (owed_on Driver s.cid e.flow e.value.end owed.Rst) log (slots_of (after_leaving e s)) refl fair
+    (leaving_received a log s e e.value.end refl fits.sound stands.contains
+    (λ unclosed over. (
+      all_until (current Driver e.flow log) log alive,
+      λ is on. clean_got first (ends_of_state s) log e.flow e.value.end m.flows has host (over unclosed (owes_over e.value.end owes)),
+    )) x)
+pays_received what first a e s log fits stands owes m was fair x =
+    puts_and_alters a log s x (owed_on Driver s.cid e.flow e.value.end what) e (paid_connection what e.value) refl fair fits.sound stands.contains refl
+    (stays_still (keeps_all e.value) (keeps_all (paid_connection what e.value)) e.value.unread [] (paid_less what e.value owes) (λ on. refl))
+    (paid_clean what e.value owes)
 
 -- A transport reset: all leave.
-all_leave : (a : Account) (log : Log) (es : List DriverEntry) (s : DriverState) → s.table.entries ≡ es → IsFitState true s → AreReceived a log (slots_of s)
-    → AreReceived a log (slots_of (all_left es s))
-all_leave a log [] s is fits x = x
-all_leave a log (e ∷ es) s is fits x =
+all_leave : (a : Account) (log : Log) (es : List DriverEntry) (s : DriverState) → s.table.entries ≡ es → IsFitState true s
+    → All (λ e. IsThrough e.flow log) es → AreReceived a log (slots_of s) → AreReceived a log (slots_of (all_left es s))
+all_leave a log [] s is fits through x = x
+all_leave a log (e ∷ es) s is fits through x =
     let P : List DriverEntry → Type 0 = λ xs. IsRising xs in
     let rising : P (e ∷ es) = subst P is fits.sound.rising in
     let first : slice_get s.table.entries 0 ≡ Some e = ap (λ (xs : List DriverEntry). slice_get xs 0) is in
@@ -74,9 +100,41 @@ all_leave a log (e ∷ es) s is fits x =
     let m : DriverState = after_leaving e s in
     let table_is : m.table.entries ≡ es = ap (λ (xs : List DriverEntry). filter (λ x. not (x.slot == e.slot)) xs) is ∙ others_left e es rising in
     all_leave a log es (with_reply (reset_reply e) m) table_is (with_reply_fits m (reset_reply e) l.fits (entry_fits s e fits stands).ports)
-    (leaving_received a log s e e.value fits.sound stands.contains refl refl x)
+    (λ i d less. through (suc i) d (omega (arith, less)))
+    (leaving_received a log s e e.value.end refl fits.sound stands.contains (λ unclosed over. through 0 e (omega arith)) x)
+
+-- Each of the table had all that was got on it.
+all_through : (first cid : ℕ) (s : DriverState) (log : Log) → IsFitState true s → Matches Driver first (ends_of_state s) log → IsFairLog Driver log
+    → All (λ e. IsThrough e.flow (Mark cid ∷ log)) s.table.entries
+all_through first cid s log fits m was i d less =
+    let e = get_or s.table.entries i d in
+    let c = current Driver e.flow log in
+    let has = one_end end_in s.table e fits.sound (Contains-get_or s.table.entries i d less) in
+    (until_marked c cid log (omega arith) ∙ all_until c log (stands_alive first (ends_of_state s) log e.flow e.value.end m.flows has was),
+        over_marked c cid log (omega arith))
 
 -- A packet is got, of a connection of the table.
+got_less : (p : Packet) (c : DriverConnection) → keeps_all (record c { end = end_after c.end p.header }) ≡ true → keeps_all c ≡ true
+got_less p c is = grind (arith, common_steps, is)
+
+got_clean : (p : Packet) (c : DriverConnection) → is_refused (verdict_of c.end p.header) ≡ false → EndsClean c
+    → EndsClean (record c { end = end_after c.end p.header })
+got_clean p c kept over unclosed is = grind (arith, common_steps, kept, over, unclosed, is)
+
+keeps_delivered : (c : DriverConnection) (h : Header) → verdict_of c.end h ≡ verdict.Deliver → keeps_all c ≡ true
+keeps_delivered c h is = grind (arith, common_steps, is)
+
+rst_ends : (p : Packet) (h : History) (b : Bool) → b ≡ true → is_reset p.header ≡ true → ends_payload (gots (cond b (and_then (Got p) h) h)) ≡ true
+rst_ends = grind (arith, common_steps)
+
+-- One that is open is given payload by no other verdict; and to one that is over, but not by a close, its peer puts none.
+open_or_clean : (c : DriverConnection) → keeps_all c ≡ true → EndsClean c → (receives c.end ≡ true) ⊎ (c.end.clean ≡ true)
+open_or_clean c is over = grind (arith, common_steps, is, over)
+
+stays_open : (e : ConnectionEnd) (p : Packet) → is_rw p ≡ true → is_refused (verdict_of e p.header) ≡ false → receives e ≡ true
+    → receives (end_after e p.header) ≡ true
+stays_open e p rw kept is = grind (arith, nat_tests, common_steps, rw, kept, is)
+
 module _ (first : ℕ) (a : Account) (p : Packet) (e : DriverEntry) (s : DriverState) (log : Log) (fits : IsFitState true s) (stands : Stands s e)
     (same : flow_got Driver p ≡ e.flow) (whole : IsWhole p) (m : Matches Driver first (ends_of_state s) log) (was : IsFairLog Driver log)
     (fair : IsFairLog Driver (GotPacket p ∷ log)) (x : AreReceived a log (slots_of s)) where
@@ -86,36 +144,64 @@ module _ (first : ℕ) (a : Account) (p : Packet) (e : DriverEntry) (s : DriverS
   plain : packets.is_request p ≡ false
   plain = got_goes_on Driver first p e.value.end (ends_of_state s) log m.flows has (fair (flow_got Driver p))
 
+  was_clean : EndsClean e.value
+  was_clean = (All-contains (ReceivesOn a log) s.table.entries e x.held stands.contains).over
+
   kept : is_refused (verdict_of e.value.end p.header) ≡ false
   kept =
       let host : (flow_got Driver p).peer ≡ HOST_CID = ap (λ (g : Flow). g.peer) same ∙ (entry_fits s e fits stands).peer refl in
       got_not_refused Driver first p e.value.end (ends_of_state s) log m.flows has (fair (flow_got Driver p)) (heard_all first (flow_got Driver p) log host)
 
-  hears : (c : DriverConnection) → c.id ≡ e.value.id → Goes (receives e.value.end) (receives c.end) e.value.unread c.unread [] p.payload
-      → AreReceived a (GotPacket p ∷ log) (slots_of (with_connection e.slot c s))
-  hears c id goes =
+  hears : (c : DriverConnection) → c.id ≡ e.value.id → Goes (keeps_all e.value) (keeps_all c) e.value.unread c.unread [] p.payload
+      → (EndsClean e.value → EndsClean c) → AreReceived a (GotPacket p ∷ log) (slots_of (with_connection e.slot c s))
+  hears c id goes over =
       changed_received a a.received log (GotPacket p ∷ log) e [] p.payload (λ other. given_none (other == e.value.id) (a.received other))
       (λ k. subst (λ (g : Flow). payload_got Driver k (GotPacket p ∷ log) ≡ payload_got Driver k log ++ only_on (current Driver g log) p.payload k) same
       (got_adds Driver p log plain was fair k))
-      (λ f. number_got Driver p log f plain) (slots_of s) x fits.sound stands.contains c id goes
+      (λ f. number_got Driver p log f plain) (got_lasts p log whole was fair) (slots_of s) x fits.sound stands.contains c id goes over
+
+  abbrev its : DriverConnection
+  its = record e.value { end = end_after e.value.end p.header }
+
+  silent : (v : Verdict) → verdict_of e.value.end p.header ≡ v → is_refused v ≡ false → (v ≡ verdict.Deliver → ⊥)
+      → (receives e.value.end ≡ true) ⊎ (e.value.end.clean ≡ true) → (b : Bool) → is_rw p ≡ b → is_rw p ≡ false
+  silent v is taken other unclosed false rw = rw
+  silent v is taken other (inl on) true rw = only_delivered e.value.end p v is taken other (stays_open e.value.end p rw kept on)
+  silent v is taken other (inr clean) true rw =
+      let f = flow_got Driver p in
+      let host : f.peer ≡ HOST_CID = ap (λ (g : Flow). g.peer) same ∙ (entry_fits s e fits stands).peer refl in
+      no_payload _ p _ _ ((own_got_fair Driver p log (fair f)).1.goes_on plain) (clean_got first (ends_of_state s) log f e.value.end m.flows has host clean)
 
   unmoved : (v : Verdict) → verdict_of e.value.end p.header ≡ v → is_refused v ≡ false → (v ≡ verdict.Deliver → ⊥)
-      → Goes (receives e.value.end) (receives (end_after e.value.end p.header)) e.value.unread e.value.unread [] p.payload
-  unmoved v is taken other = stays_still (receives e.value.end) (receives (end_after e.value.end p.header)) e.value.unread p.payload
-      (hears_less e.value.end p.header) (λ on. whole.none (only_delivered e.value.end p v is taken other on))
+      → Goes (keeps_all e.value) (keeps_all its) e.value.unread e.value.unread [] p.payload
+  unmoved v is taken other = stays_still (keeps_all e.value) (keeps_all its) e.value.unread p.payload (got_less p e.value)
+      (λ on. whole.none (silent v is taken other (open_or_clean e.value (got_less p e.value on) was_clean) (is_rw p) refl))
 
   empty_rst : is_reset p.header ≡ true → is_rw p ≡ false
   empty_rst is = grind (arith, nat_tests, common_steps, is)
+
+  -- After its RST the peer puts nothing more.
+  reset_through : is_reset p.header ≡ true → IsThrough e.flow (GotPacket p ∷ log)
+  reset_through reset =
+      let alive = stands_alive first (ends_of_state s) log e.flow e.value.end m.flows (has_end s e fits stands) was in
+      (
+        all_until (current Driver e.flow (GotPacket p ∷ log)) (GotPacket p ∷ log)
+            (subst (λ (n : ℕ). nat_le n (reset_number e.flow log) ≡ false) (sym (number_got Driver p log e.flow plain)) alive),
+        λ is on. subst (λ (f : Flow). ends_payload (gots (history_of Driver f (GotPacket p ∷ log))) ≡ true) same
+            (rst_ends p (history_of Driver (flow_got Driver p) log) (same_flow (flow_got Driver p) (flow_got Driver p)) (same_self (flow_got Driver p)) reset),
+      )
 
   peers : (b : Bool) → verdict_of e.value.end p.header ≡ verdict.Peer → is_reset p.header ≡ b
       → let c = after_packet verdict.Peer p e.value in
       AreReceived a (GotPacket p ∷ log) (slots_of (cond b (keeping (is_kept Driver e.flow e.value.end p) e.flow (after_leaving (record e { value = c }) s))
       (with_connection e.slot c s)))
-  peers false is reset = hears (after_packet verdict.Peer p e.value) refl (unmoved verdict.Peer is refl (λ (q : verdict.Peer ≡ verdict.Deliver). cc))
+  peers false is reset =
+      hears (after_packet verdict.Peer p e.value) refl (unmoved verdict.Peer is refl (λ (q : verdict.Peer ≡ verdict.Deliver). cc)) (got_clean p e.value kept)
   peers true is reset =
       in_clean a (GotPacket p ∷ log) _ _
-      (leaving_received a (GotPacket p ∷ log) s e (after_packet verdict.Peer p e.value) fits.sound stands.contains refl refl
-      (same_received a log (GotPacket p ∷ log) (slots_of s) (λ k. got_none Driver log p k (whole.none (empty_rst reset)))
+      (leaving_received a (GotPacket p ∷ log) s e (end_after e.value.end p.header) (got_own e.value.end p.header) fits.sound stands.contains
+      (λ unclosed over. reset_through reset)
+      (same_received a log (GotPacket p ∷ log) (slots_of s) (got_lasts p log whole was fair) (λ k. got_none Driver log p k (whole.none (empty_rst reset)))
       (λ f. number_got Driver p log f plain) x))
 
   by_verdict : (v : Verdict) → verdict_of e.value.end p.header ≡ v → is_refused v ≡ false → AreReceived a (GotPacket p ∷ log) (slots_of (after_verdict v p e s))
@@ -123,8 +209,8 @@ module _ (first : ℕ) (a : Account) (p : Packet) (e : DriverEntry) (s : DriverS
   by_verdict verdict.Peer is taken = peers (is_reset p.header) is refl
   by_verdict verdict.Deliver is taken =
       hears (after_packet verdict.Deliver p e.value) refl
-      (comes_in (receives e.value.end) (receives (end_after e.value.end p.header)) e.value.unread p.payload (delivers_to e.value.end p.header is))
-  by_verdict v is taken = hears (after_packet v p e.value) refl (unmoved v is taken (λ (q : v ≡ verdict.Deliver). cc))
+      (comes_in (keeps_all e.value) (keeps_all its) e.value.unread p.payload (keeps_delivered e.value p.header is)) (got_clean p e.value kept)
+  by_verdict v is taken = hears (after_packet v p e.value) refl (unmoved v is taken (λ (q : v ≡ verdict.Deliver). cc)) (got_clean p e.value kept)
 
   pub known_received : AreReceived a (GotPacket p ∷ log) (slots_of (on_known p e s))
   known_received = by_verdict (verdict_of e.value.end p.header) refl kept
@@ -149,13 +235,13 @@ number_rises Answerer put got p is request = ap (λ (b : Bool). cond b (count pa
 number_rises Asker put got p is request = absurd cc
 
 -- Of a flow that has no connection.
-module _ (a : Account) (p : Packet) (s : DriverState) (log : Log) (whole : IsWhole p) (fair : IsFairLog Driver (GotPacket p ∷ log))
+module _ (a : Account) (p : Packet) (s : DriverState) (log : Log) (whole : IsWhole p) (was : IsFairLog Driver log) (fair : IsFairLog Driver (GotPacket p ∷ log))
     (absent : All (λ e. e.flow ≢ flow_got Driver p) s.table.entries) (x : IsFurther a (slots_of s) log) where
   abbrev f : Flow
   f = flow_got Driver p
 
   passes : IsFurther a (slots_of s) (GotPacket p ∷ log)
-  passes = (x.0, x.1, passes_by x.0 p log (slots_of s) absent x.2)
+  passes = (x.0, x.1, passes_by x.0 p log (slots_of s) whole was fair absent x.2)
 
   opens : is_request p.header ≡ true → may_open f s ≡ true → IsFurther a (slots_of (with_request f p.header s)) (GotPacket p ∷ log)
   opens asks may =
@@ -177,11 +263,13 @@ module _ (a : Account) (p : Packet) (s : DriverState) (log : Log) (whole : IsWho
       (same_flow_false g f apart) in
       let c : DriverConnection = record { id = s.next_id; end = answering Stream BUF_ALLOC p.header; unread = []; unanswered = true; closed = false } in
       let below : host_asks f ≡ false → f.guest < s.next_port =
-      λ own. let both : true ≡ false = sym (assigned_by may) ∙ own in absurd cc in (
+      λ own. let both : true ≡ false = sym (assigned_by may) ∙ own in absurd cc in
+      let lasts = got_lasts p log whole was fair in
+      let clean : EndsClean c = λ unclosed is. absurd cc in (
         with_opened s.next_id (current Driver f (GotPacket p ∷ log)) x.0,
         goes_then a x.0 (with_opened s.next_id (current Driver f (GotPacket p ∷ log)) x.0) x.1
-            (opened_goes_on x.0 log (GotPacket p ∷ log) (slots_of s) f c s.next_port x.2 got nothing next others refl refl absent (omega arith) below),
-        opened_received x.0 log (GotPacket p ∷ log) (slots_of s) f c s.next_port x.2 got nothing next others refl refl absent (omega arith) below,
+            (opened_goes_on x.0 log (GotPacket p ∷ log) (slots_of s) f c s.next_port x.2 got nothing next others refl refl absent (omega arith) below lasts clean),
+        opened_received x.0 log (GotPacket p ∷ log) (slots_of s) f c s.next_port x.2 got nothing next others refl refl absent (omega arith) below lasts clean,
       )
     where
       asked_by_header : is_request p.header ≡ true → packets.is_request p ≡ true
@@ -218,7 +306,7 @@ heard_received first a p s log fits whole m was fair x = drop_by (is_dropped Dri
     found : (o : Option DriverEntry) → entry_of s.table (flow_got Driver p) ≡ o → IsFurther a (slots_of (on_heard p s)) (GotPacket p ∷ log)
     found None none =
         subst (λ (t : DriverState). IsFurther a (slots_of t) (GotPacket p ∷ log)) (sym (packet_unknown p s none))
-        (unknown_received a p s log whole fair (not_there s.table (flow_got Driver p) none) x)
+        (unknown_received a p s log whole was fair (not_there s.table (flow_got Driver p) none) x)
     found (Some e) is =
         let passes = found_by (λ (y : DriverEntry). same_flow (flow_got Driver p) y.flow) s.table.entries e is in
         let stands : Stands s e = record { under = found_under _ s.table e fits.sound is; contains = passes.0 } in
@@ -231,7 +319,7 @@ heard_received first a p s log fits whole m was fair x = drop_by (is_dropped Dri
 
     drop_by : (b : Bool) → is_dropped Driver s.cid p.header ≡ b → IsFurther a (slots_of (cond b s (on_heard p s))) (GotPacket p ∷ log)
     drop_by false kept = found (entry_of s.table (flow_got Driver p)) refl
-    drop_by true dropped = (x.0, x.1, passes_by x.0 p log (slots_of s) apart x.2)
+    drop_by true dropped = (x.0, x.1, passes_by x.0 p log (slots_of s) whole was fair apart x.2)
       where
         apart : All (λ e. e.flow ≢ flow_got Driver p) s.table.entries
         apart i d within on =
@@ -242,15 +330,14 @@ heard_received first a p s log fits whole m was fair x = drop_by (is_dropped Dri
 pub poll_carries : (first : ℕ) (a : Account) → Carries true first (Further a)
 poll_carries first a = record {
   owed = λ what e s log fits stands owes m was fair x.
-      let old = driver_begun first (ends_of_state s) log e.flow e.value.end m.flows (has_end s e fits stands) in
-      (x.0, x.1, pays_received what x.0 e s log fits stands owes old x.2);
-  reply = λ r rest s log fits is m fair x. (x.0, x.1, puts_received x.0 (reply_on Driver s.cid r) log (slots_of s) refl x.2);
+      (x.0, x.1, pays_received what first x.0 e s log fits stands owes m was fair x.2);
+  reply = λ r rest s log fits is m fair x. (x.0, x.1, puts_received x.0 (reply_on Driver s.cid r) log (slots_of s) refl fair x.2);
   got = λ p s log fits ports whole m was fair x. heard_received first a p s log fits whole m was fair x;
-  event = λ id s log x. (x.0, x.1, same_received x.0 log (GotEvent id ∷ log) (slots_of s) (λ c. refl) (λ f. refl) x.2);
-  reset = λ cid s log less fits x. let marked = same_received x.0 log (Mark cid ∷ log) (slots_of s) (λ c. refl) (λ f. refl) x.2 in (
+  event = λ id s log x. (x.0, x.1, same_received x.0 log (GotEvent id ∷ log) (slots_of s) (event_lasts id log) (λ c. refl) (λ f. refl) x.2);
+  reset = λ cid s log less fits m was x. let marked = same_received x.0 log (Mark cid ∷ log) (slots_of s) (mark_lasts cid log) (λ c. refl) (λ f. refl) x.2 in (
     x.0,
     x.1,
     all_leave x.0 (Mark cid ∷ log) s.table.entries (record s { cid = cid; clean = of_host s.clean }) refl (with_cid cid s less fits)
-        (in_clean x.0 (Mark cid ∷ log) (slots_of s) (of_host s.clean) marked),
+        (all_through first cid s log fits m was) (in_clean x.0 (Mark cid ∷ log) (slots_of s) (of_host s.clean) marked),
   );
 }

@@ -1,12 +1,12 @@
 -- What an application received, through each change of a connection.
-use Rattle.laws_tables.{specs.Drains.{only_on, Drains, receives}, proofs.{Changes.{changed, under_slot}, Logs.{longer, shorter}, Goes.Goes}}
-use Rattle.std.proofs.Common.{◌≡◌, ◌≢◌, ℕ, ◌<◌, ◌≤◌, ◌==◌, ◌&&◌, Bool, true, false, cond, List, [], ◌++◌, length, get_or, Contains, refl, sym, ap, subst, ◌∙◌, arith, append-nil}
+use Rattle.laws_tables.{specs.Drains.{only_on, Drains}, proofs.{Changes.{changed, under_slot}, Logs.{longer, shorter}, Goes.Goes}}
+use Rattle.std.proofs.Common.{◌≡◌, ◌≢◌, ℕ, ◌<◌, ◌≤◌, ◌==◌, ◌&&◌, not, Bool, true, false, cond, List, [], ◌++◌, length, get_or, Contains, refl, sym, ap, subst, ◌∙◌, arith, append-nil}
 use Rattle.std.{proofs.{Math.Path.fun_ext, lemmas.{Bool.Decides.nat_tests, List.Elements.All-contains}}, specs.List.All}
 use Rattle.vs_flow.{specs.{Connection.Connection, Table.IsTable, declared.flow.Flow.Flow}, proofs.Entries.same_flow_false}
 use Rattle.vs_page.{specs.{Fair.{IsPrefixOf, current, number_of, payload_got}, Log.{Driver, Log}}, proofs.Flows.same_self}
 use Rattle.vs_driver_parts.{specs.{State.{DriverConnection, DriverEntry, GoneConnection}, Held.{HeldSlots, with_connection_in}, SlotFields.AreNumbered}, proofs.Ids.HasId}
 use Rattle.vs_driver_parts.proofs.{Ids.value_of, Numbers.{id_there, numbers_with_value}}
-use Rattle.laws_driver.specs.Carried.Received.{Account, AreReceived, ReceivedOn, ReceivesOn}
+use Rattle.laws_driver.{specs.Carried.Received.{Account, AreReceived, EndsClean, ReceivedOn, ReceivesOn, got_until_reset, keeps_all}, proofs.Carried.Delivering.Lasts}
 
 -- Other slots, of which the next one has the same id.
 pub in_slots : (a : Account) (log : Log) (slots new : HeldSlots) → AreReceived a log slots → new.next_id ≡ slots.next_id
@@ -43,7 +43,7 @@ number_same n = grind (arith, nat_tests)
 module _ (a : Account) (q : ℕ → List ℕ) (log new : Log) (e : DriverEntry) (taken more : List ℕ)
     (out : (id : ℕ) → q id ≡ a.received id ++ cond (id == e.value.id) taken [])
     (came : (c : Connection) → payload_got Driver c new ≡ payload_got Driver c log ++ only_on (current Driver e.flow log) more c)
-    (numbers : (f : Flow) → number_of Driver f new ≡ number_of Driver f log) where
+    (numbers : (f : Flow) → number_of Driver f new ≡ number_of Driver f log) (lasts : Lasts log new) where
   abbrev b : Account
   b = record a { received = q }
 
@@ -79,28 +79,34 @@ module _ (a : Account) (q : ℕ → List ℕ) (log new : Log) (e : DriverEntry) 
   on_other y other apart x = record {
     present = x.present ∙ now_is y.flow;
     some = subst (λ (n : ℕ). 1 ≤ n) (sym (numbers y.flow)) x.some;
-    drains = subst (λ (bytes : List ℕ). Drains (receives y.value.end) bytes y.value.unread (payload_got Driver (current Driver y.flow new) new))
+    drains = subst (λ (bytes : List ℕ). Drains (keeps_all y.value) bytes y.value.unread (payload_got Driver (current Driver y.flow new) new))
         (out_other y.value.id apart)
-        (subst (λ (bytes : List ℕ). Drains (receives y.value.end) (a.received y.value.id) y.value.unread bytes) (came_other y.flow other) x.drains);
+        (subst (λ (bytes : List ℕ). Drains (keeps_all y.value) (a.received y.value.id) y.value.unread bytes) (came_other y.flow other) x.drains);
+    over = x.over;
   }
 
-  gone_other : (g : GoneConnection) → g.id ≢ e.value.id → ReceivedOn a log g → ReceivedOn b new g
-  gone_other g apart x = record {
-    flow = x.flow;
-    some = x.some;
-    front = subst (λ (bytes : List ℕ). IsPrefixOf (bytes ++ g.unread) (payload_got Driver (a.opened g.id) new)) (out_other g.id apart)
-        (comes (a.received g.id ++ g.unread) (a.opened g.id) x.front);
-  }
+  gone_other : (g : GoneConnection) → g.id ≢ e.value.id → (a.opened g.id).number ≤ number_of Driver (a.opened g.id).flow log → ReceivedOn a log g
+      → ReceivedOn b new g
+  gone_other g apart past x =
+      let last = lasts (a.opened g.id) past x.over in record {
+        flow = x.flow;
+        some = x.some;
+        drains = subst (λ (bytes : List ℕ). Drains (not g.end.own.receive) bytes g.unread (got_until_reset (a.opened g.id) new)) (out_other g.id apart)
+            (subst (λ (bytes : List ℕ). Drains (not g.end.own.receive) (a.received g.id) g.unread bytes) (sym last.0) x.drains);
+        over = last.1;
+      }
 
   here : (c : DriverConnection) → c.id ≡ e.value.id
-      → Goes (receives e.value.end) (receives c.end) e.value.unread c.unread taken more → ReceivesOn a log e → ReceivesOn b new (record e { value = c })
-  here c same goes x = record {
+      → Goes (keeps_all e.value) (keeps_all c) e.value.unread c.unread taken more → (EndsClean e.value → EndsClean c) → ReceivesOn a log e
+      → ReceivesOn b new (record e { value = c })
+  here c same goes over x = record {
     present = ap a.opened same ∙ x.present ∙ now_is e.flow;
     some = subst (λ (n : ℕ). 1 ≤ n) (sym (numbers e.flow)) x.some;
-    drains = subst (λ (bytes : List ℕ). Drains (receives c.end) bytes c.unread (payload_got Driver (current Driver e.flow new) new))
+    drains = subst (λ (bytes : List ℕ). Drains (keeps_all c) bytes c.unread (payload_got Driver (current Driver e.flow new) new))
         (sym (ap q same ∙ out_here))
-        (subst (λ (bytes : List ℕ). Drains (receives c.end) (a.received e.value.id ++ taken) c.unread bytes) came_here
+        (subst (λ (bytes : List ℕ). Drains (keeps_all c) (a.received e.value.id ++ taken) c.unread bytes) came_here
         (goes (a.received e.value.id) (payload_got Driver at log) x.drains));
+    over = over x.over;
   }
 
   module _ (slots : HeldSlots) (x : AreReceived a log slots) (sound : IsTable slots.table) (there : Contains slots.table.entries e) where
@@ -121,16 +127,17 @@ module _ (a : Account) (q : ℕ → List ℕ) (log new : Log) (e : DriverEntry) 
         All-contains (λ (y : DriverEntry). y.value.id ≢ (get_or slots.gone i d).id) slots.table.entries e (x.numbers.apart i d within) there (sym same)
 
     pub changed_received : (c : DriverConnection) → c.id ≡ e.value.id
-        → Goes (receives e.value.end) (receives c.end) e.value.unread c.unread taken more → AreReceived b new (with_connection_in e.slot c slots)
-    changed_received c same goes =
-        let now = here c same goes was in
+        → Goes (keeps_all e.value) (keeps_all c) e.value.unread c.unread taken more → (EndsClean e.value → EndsClean c)
+        → AreReceived b new (with_connection_in e.slot c slots)
+    changed_received c same goes over =
+        let now = here c same goes over was in
         record {
           numbers = numbers_with_value a.first_id slots.next_port slots.next_id slots.table slots.gone x.numbers e.slot c
               (id_there slots.table e.slot e.value c (value_of slots.table e.slot e (under_slot slots.table sound e there)) same);
           front = λ id. front_by now id (id == e.value.id) refl;
           held = changed slots.table sound e there (ReceivesOn a log) (ReceivesOn b new) c x.held now
               (λ y other on. on_other y other (other_id y other on) on);
-          left = λ i d within. gone_other (get_or slots.gone i d) (gone_id i d within) (x.left i d within);
+          left = λ i d within. gone_other (get_or slots.gone i d) (gone_id i d within) (x.passed (get_or slots.gone i d).id) (x.left i d within);
           passed = λ id. subst (λ (n : ℕ). (a.opened id).number ≤ n) (sym (numbers (a.opened id).flow)) (x.passed id);
           once = x.once;
           rising = x.rising;
