@@ -1,12 +1,11 @@
 -- What an entry more, a wait more and bytes more do to what a journal tells.
-use Rattle.std.proofs.Common.{◌≡◌, ℕ, zero, suc, ◌+◌, ◌<◌, ◌≤◌, ◌==◌, Bool, true, false, cond, List, [], ◌∷◌, ◌++◌, length, take, drop, Option, Some, None, refl, sym, ap, ◌∙◌}
-use Rattle.std.{proofs.{Common.{append_assoc, append-nil, slice_set, subst, arith}, lemmas.List.{take-append-le, drop-append-le, length-drop}}, specs.Prelude.slice_get}
-use Rattle.std.specs.Option.{unwrap_or}
+use Rattle.std.proofs.Common.{◌≡◌, ℕ, zero, suc, ◌<◌, ◌≤◌, ◌==◌, Bool, true, false, cond, List, [], ◌∷◌, ◌++◌, length, Option, Some, None, refl, sym, ap, ◌∙◌}
+use Rattle.std.{proofs.{Common.{append_assoc, append-nil, slice_set, subst}}, specs.Prelude.slice_get}
 use Rattle.vs_driver_parts.specs.Connections.{got_count}
 use Rattle.laws_driver.specs.Carried.Calls.{Journal, Made}
 use Rattle.vs_apps_parts.specs.Journals.{AllStandIn, StandsIn, calls_of, calls_of_app, ends_at, entry_called, entry_waited, gathered, made_as, made_by, made_by_app, made_of}
-use Rattle.vs_apps_parts.specs.{Journals.{one_more, times_at, times_in, wait_noted, waited_before}, Scripts.{RunScript, slice_of}, declared.journal.{Called.Called, Deed.Deed}}
-use Rattle.vs_apps_parts.specs.declared.journal.{Entry.Entry, WaitsFor.WaitsFor}
+use Rattle.vs_apps_parts.specs.{Journals.{one_more, times_in, wait_noted}, Scripts.{RunScript}, declared.journal.{Called.Called, Deed.Deed}}
+use Rattle.vs_apps_parts.{specs.declared.journal.{Entry.Entry, WaitsFor.WaitsFor}, proofs.Entries.{slice_stays, stand_set, stand_snoc, wait_as}}
 use Rattle.vs_flow.specs.Connection.{Connection}
 use Rattle.laws_apps.{specs.{Accounts.TellFlows, Placed.{AreOwned, IsOwned, NamesFlow}}, proofs.Opening.{flows_set, flows_snoc}}
 use Rattle.laws_apps.specs.Ports.{ArePortsFrom, IsPort, next_port, port_behind, port_called, port_of}
@@ -30,12 +29,6 @@ gathered_set made [] place e new at same = refl
 gathered_set made (x ∷ es) zero e new at same =
     let is : x ≡ e = cc in ap (λ (js : Journal). gathered made es ++ js) (same ∙ ap made (sym is))
 gathered_set made (x ∷ es) (suc place) e new at same = ap (λ (js : Journal). js ++ made x) (gathered_set made es place e new at same)
-
--- Bytes behind those that are there leave the older ones where they stand.
-slice_stays : (from n : ℕ) (bytes more : List ℕ) → from + n ≤ length bytes → slice_of from n (bytes ++ more) ≡ slice_of from n bytes
-slice_stays from n bytes more within =
-    ap (λ (xs : List ℕ). take n xs) (drop-append-le from bytes more (omega (arith, within)))
-    ∙ take-append-le n (drop from bytes) more (omega (arith, within, length-drop from bytes))
 
 made_stays : (script : RunScript) (bytes more : List ℕ) (k : ℕ) (c : Called) → ends_at c ≤ length bytes
     → made_of script (bytes ++ more) k c ≡ made_of script bytes k c
@@ -136,30 +129,12 @@ owned_set n new (x ∷ es) (suc place) are is = (are.0, owned_set n new es place
 pub called_owned : (n : ℕ) (es : List Entry) (k : ℕ) (c : Called) → k < n → AreOwned n es → NamesFlow c → AreOwned n (es ++ entry_called k c ∷ [])
 called_owned n es k c less are names = owned_snoc n es (entry_called k c) are (record { app = less; flow = names })
 
-stand_snoc : (n : ℕ) (es : List Entry) (e : Entry) → AllStandIn n es → StandsIn n e → AllStandIn n (es ++ e ∷ [])
-stand_snoc n [] e are is = (is, tt)
-stand_snoc n (x ∷ es) e are is = (are.0, stand_snoc n es e are.1 is)
-
-stand_set : (n k times : ℕ) (why : WaitsFor) (es : List Entry) (place : ℕ) → AllStandIn n es → AllStandIn n (slice_set es place (entry_waited k times why))
-stand_set n k times why [] place are = tt
-stand_set n k times why (x ∷ es) zero are = (tt, are.1)
-stand_set n k times why (x ∷ es) (suc place) are = (are.0, stand_set n k times why es place are.1)
-
 pub called_stand : (n : ℕ) (es : List Entry) (k : ℕ) (c : Called) → AllStandIn n es → ends_at c ≤ n → AllStandIn n (es ++ entry_called k c ∷ [])
 called_stand n es k c are within = stand_snoc n es (entry_called k c) are within
 
-pub more_stand : (n m : ℕ) → n ≤ m → (es : List Entry) → AllStandIn n es → AllStandIn m es
-more_stand n m less [] are = tt
-more_stand n m less (e ∷ es) are = (by e.deed are.0, more_stand n m less es are.1)
-  where
-    by : (d : Deed) → elim d as (λ _. Type 0) [ deed.Called c ↦ ends_at c ≤ n | deed.Waited times why ↦ Unit {0} ]
-        → elim d as (λ _. Type 0) [ deed.Called c ↦ ends_at c ≤ m | deed.Waited times why ↦ Unit {0} ]
-    by (deed.Called c) stands = omega (arith, stands, less)
-    by (deed.Waited times why) stands = tt
-
 pub wait_same : (script : RunScript) (bytes : List ℕ) (k : ℕ) (why : WaitsFor) (last : Option ℕ) (es : List Entry)
     → SameCalls script bytes k es (wait_noted k why last es)
-wait_same script bytes k why last es = by (waited_before k last es) refl
+wait_same script bytes k why last es = wait_as (SameCalls script bytes k es) k why last es added changed
   where
     added : SameCalls script bytes k es (es ++ entry_waited k 1 why ∷ [])
     added = record {
@@ -185,23 +160,3 @@ wait_same script bytes k why last es = by (waited_before k last es) refl
       ports = λ port. ports_set port es place e (entry_waited k (one_more times) why) at (sym (wait_port script bytes k times e is));
       behind = λ port. behind_set port es place e (entry_waited k (one_more times) why) at (sym (wait_port script bytes k times e is));
     }
-
-    at_place : (place times : ℕ) → times_at k place es ≡ Some times → SameCalls script bytes k es (slice_set es place (entry_waited k (one_more times) why))
-    at_place place times is = here (slice_get es place) refl is
-      where
-        here : (o : Option Entry) → slice_get es place ≡ o → elim o as (λ _. Option ℕ) [ None ↦ None | Some e ↦ times_in k e ] ≡ Some times
-            → SameCalls script bytes k es (slice_set es place (entry_waited k (one_more times) why))
-        here None at is = absurd cc
-        here (Some e) at is = changed place times e at is
-
-    placed : (l : Option ℕ) (times : ℕ) → waited_before k l es ≡ Some times
-        → SameCalls script bytes k es (slice_set es (unwrap_or l 0) (entry_waited k (one_more times) why))
-    placed None times is = absurd cc
-    placed (Some place) times is = at_place place times is
-
-    by : (o : Option ℕ) → waited_before k last es ≡ o → SameCalls script bytes k es (elim o as (λ _. List Entry) [
-      | None ↦ es ++ entry_waited k 1 why ∷ []
-      | Some times ↦ slice_set es (unwrap_or last 0) (entry_waited k (one_more times) why)
-    ])
-    by None is = added
-    by (Some times) is = placed last times is

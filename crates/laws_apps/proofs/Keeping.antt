@@ -11,7 +11,8 @@ use Rattle.laws_apps.{specs.{Runs.{moved_state, no_app}, Given.AreGivenWith, Tra
 use Rattle.laws_apps.proofs.{Giving.{AreApps, next_apps}, Named.{app_did, conn_given, still_did}, Tracing.{IsApps, call_traced, poll_traced}, Waiting.{called_waits, moved_waits}}
 use Rattle.laws_apps.proofs.{Waiting.{wait_waits, waited_waits, waits_noted}, Calling.{call_accounted, call_honest, call_routed, entry_accounted, poll_accounted, told_accounted}}
 use Rattle.laws_apps.proofs.{Placing.{IsOfApps, call_placed, poll_placed}, Noting.{call_noted, same_accounted}, Entries.{SameCalls, app_calls_stay}}
-use Rattle.laws_apps.proofs.Entries.{called_owned, called_stand, calls_stay, gathered_snoc, more_stand, wait_same}
+use Rattle.vs_apps_parts.proofs.Entries.{more_stand}
+use Rattle.laws_apps.proofs.Entries.{called_owned, called_stand, calls_stay, gathered_snoc, wait_same}
 use Rattle.vs_flow.specs.declared.flow.Flow.{Flow}
 use Rattle.vs_apps_parts.specs.declared.{journal.{Called.Called, Entry.Entry, WaitsFor.WaitsFor}, progress.{AppState.AppState, Progress.Progress, Stepped.Stepped}, told.Told.Told}
 use Rattle.vs_apps_parts.specs.Journals.{AllStandIn, calls_of, calls_of_app, entry_called, last_wait, made_as, made_by, made_by_app, made_of, wait_noted, wait_place}

@@ -1,6 +1,6 @@
 -- A receive, made and noted.
-use Rattle.std.proofs.Common.{◌≡◌, ℕ, ◌≤◌, arith, Bool, true, false, cond, List, [], ◌∷◌, ◌++◌, ◌+◌, length, length-append, subst, take, Option, Some, None, refl, sym, ap, ◌∙◌}
-use Rattle.std.proofs.{Common.append-nil, Math.Seq.{drop-append_seam, take-length}}
+use Rattle.std.proofs.Common.{◌≡◌, ℕ, ◌≤◌, arith, Bool, true, false, cond, List, [], ◌∷◌, ◌++◌, ◌+◌, length, length-append, subst, Option, Some, None, refl, sym, ap, ◌∙◌}
+use Rattle.std.proofs.{Common.append-nil}
 use Rattle.vs_ring_port.specs.Contents.{RingContents}
 use Rattle.vs_driver_parts.specs.{Playing.Plays, State.{DriverState, DriverEntry, GoneConnection, entry_known_as, gone_known_as}, Connections.{entry_answer, gone_answer}}
 use Rattle.vs_driver_parts.specs.{Connections.{is_at_end, nothing_read, read_of, recv_of, got_count}, Conversations.DriverTree, declared.answers.Received.Received}
@@ -9,6 +9,7 @@ use Rattle.vs_apps_parts.specs.{Journals.{called_noted, made_as, made_of}, Scrip
 use Rattle.vs_apps_parts.specs.declared.{journal.{Entry.Entry, WaitsFor.WaitsFor}, progress.AppState.AppState, told.Told.Told}
 use Rattle.laws_apps.specs.{Runs.NotesCall, Calls.{CallsAs, Receives, run_with}}
 use Rattle.vs_conn.specs.declared.end.State.{State}
+use Rattle.vs_apps_parts.proofs.Entries.{stands_there}
 use Rattle.laws_driver.specs.Carried.Calls as call
 use Rattle.vs_conn.specs.declared.end.State.TheVariants as state
 use Rattle.vs_driver_parts.specs.declared.answers.Received.TheVariants as recv
@@ -46,11 +47,6 @@ recv_few id n s = by (entry_known_as id s)
     by None = gone_by (gone_known_as id s)
 
 -- A receive: its bytes come behind those of the journal.
-stands_there : (bytes more : List ℕ) (n : ℕ) → length more ≡ n → slice_of (length bytes) n (bytes ++ more) ≡ more
-stands_there bytes more n is =
-    ap (λ (k : ℕ). slice_of (length bytes) k (bytes ++ more)) (sym is)
-    ∙ ap (λ (xs : List ℕ). take (length more) xs) (drop-append_seam bytes more) ∙ take-length more
-
 module _ (script : RunScript) (k id n from : ℕ) (s t : DriverState) (r : Received) (old new : List ℕ) (gives : Receives id n s t r old new) (behind : from ≡ length old)
     (before after : List Entry) (told : Told) where
   abbrev here : Called

@@ -111,22 +111,22 @@ module _ (script : RunScript) (k : ℕ) where
               moves = λ i. with_app k (record { progress = then i; waiting = place i }) over;
             }
 
-    pub waits_as : (s : AppState) (why : WaitsFor) (place : ℕ) (entries : List Entry) → s ≡ app_at k mid
+    pub waits_as : (s : AppState) (why : WaitsFor) (place : ℕ) (entries : List Entry) (bytes : List ℕ) → bytes ≡ over.bytes → s ≡ app_at k mid
         → slice_get (acts_of k script) s.progress.at ≡ Some act → MakesAll script k (calls_next act s.progress) told mid over
         → step_wait told ≡ Some why → place ≡ wait_place k s.waiting over.entries → entries ≡ wait_noted k why s.waiting over.entries
-        → Waits script k why mid (record (with_app k (record { progress = s.progress; waiting = Some place }) over) { entries = entries })
-    waits_as s why place entries is found all waits at notes = subst For (sym is) here found all at notes
+        → Waits script k why mid (record (with_app k (record { progress = s.progress; waiting = Some place }) over) { entries = entries; bytes = bytes })
+    waits_as s why place entries bytes stay is found all waits at notes = subst For (sym is) here found all at notes
       where
         For : AppState → Type 0
         For s = slice_get (acts_of k script) s.progress.at ≡ Some act → MakesAll script k (calls_next act s.progress) told mid over
             → place ≡ wait_place k s.waiting over.entries → entries ≡ wait_noted k why s.waiting over.entries
-            → Waits script k why mid (record (with_app k (record { progress = s.progress; waiting = Some place }) over) { entries = entries })
+            → Waits script k why mid (record (with_app k (record { progress = s.progress; waiting = Some place }) over) { entries = entries; bytes = bytes })
 
         here : For (app_at k mid)
         here found all at notes = record {
           calls = record { act = act; next = found; made = all.made; calls = all.are; over = over; makes = all.makes };
           waits = ap step_wait all.tell ∙ waits;
-          notes = λ i. record (with_app k (record { progress = (app_at k mid).progress; waiting = Some (at i) }) over) { entries = notes i };
+          notes = λ i. record (with_app k (record { progress = (app_at k mid).progress; waiting = Some (at i) }) over) { entries = notes i; bytes = stay i };
         }
 
   -- The poll before it, where room for the journal was made first.

@@ -1,11 +1,11 @@
 -- What the call of an app does.
-use Rattle.std.specs.Prelude.{◌≡◌, ℕ, ◌+◌, ◌≤◌, List, ◌++◌, length, vec_capacity, vec_len}
+use Rattle.std.specs.Prelude.{◌≡◌, ℕ, ◌≤◌, List, ◌++◌, length}
 use Rattle.vs_contents.specs.CallTree.{Done}
 use Rattle.vs_ring_port.specs.Contents.{RingContents}
 use Rattle.vs_driver_parts.specs.{Connections.got_count, State.DriverState, declared.answers.Received.Received}
 use Rattle.laws_driver.specs.Carried.Calls.{GuestCall, Made, ReplyTo, makes_call}
-use Rattle.vs_apps_parts.specs.{Journals.made_as, Scripts.{RunScript, calls_in, told_in}, Told.told_by, declared.journal.{Entry.Entry, Journal.Journal}}
-use Rattle.vs_apps_parts.specs.declared.{progress.{AppState.AppState, TheConstants.SLICE}, told.Told.Told}
+use Rattle.vs_apps_parts.specs.{Journals.made_as, Scripts.{RunScript, calls_in, told_in}, Sums.JournalState, Told.told_by, declared.journal.Entry.Entry}
+use Rattle.vs_apps_parts.specs.declared.{progress.AppState.AppState, told.Told.Told}
 use Rattle.laws_apps.specs.Runs.{MakesCall, MakesCalls, Run}
 use Rattle.laws_driver.specs.Carried.Calls as call
 
@@ -21,12 +21,12 @@ abbrev pub Receives : ℕ → ℕ → DriverState → DriverState → Received �
 Receives id n s t r old new = (more : List ℕ) × (length more ≡ got_count r) × (new ≡ old ++ more)
     × (makes_call (call.Recv id n) s ≡ Done (t, (r, more)))
 
--- A run's journal, with room for so many entries more and for the bytes of a receive.
-abbrev pub run_of : DriverState → RingContents → List AppState → Journal → Run
-run_of driver ring apps journal = run_with driver ring apps journal.entries.items journal.bytes.items
+-- A run's journal, with room for so many calls and waits more.
+abbrev pub run_of : DriverState → RingContents → List AppState → JournalState → Run
+run_of driver ring apps journal = run_with driver ring apps journal.entries journal.bytes
 
-abbrev pub HasRoom : ℕ → Journal → Type 0
-HasRoom n journal = (vec_len journal.entries + n ≤ vec_capacity journal.entries) × (vec_len journal.bytes + SLICE ≤ vec_capacity journal.bytes)
+abbrev pub HasRoom : ℕ → JournalState → Type 0
+HasRoom n journal = n ≤ journal.room
 
 -- Calls are made and noted, one after another, and told this.
 pub record MakesAll (script : RunScript) (k : ℕ) (calls : List GuestCall) (told : List Told) (old new : Run) : Type 0 where

@@ -1,5 +1,5 @@
 -- What keeps guests a run of their script.
-use Rattle.std.proofs.Common.{◌≡◌, ◌<◌, ◌≤◌, ℕ, zero, suc, Bool, List, [], ◌∷◌, ◌++◌, length, get_or, refl, sym, ap, subst, ◌∙◌, arith, Option, Some, None}
+use Rattle.std.proofs.Common.{◌≡◌, ◌<◌, ◌≤◌, ℕ, zero, suc, Bool, List, [], ◌∷◌, ◌++◌, length, get_or, refl, sym, ap, subst, ◌∙◌, Option, Some, None}
 use Rattle.std.{proofs.lemmas.{List.{length-map, length-replicate}, Option.same_Some}, specs.Prelude.replicate}
 use Rattle.vs_limits.specs.declared.TheConstants.{FIRST_CID, LAST_PORT}
 use Rattle.vs_contents.{specs.Contents.Relates, proofs.Leads.leads_split}

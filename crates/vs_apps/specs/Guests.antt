@@ -3,7 +3,7 @@ use Rattle.std.specs.Prelude.{◌≡◌, ℕ, ◌+◌, min, List}
 use Rattle.vs_limits.specs.declared.TheConstants.{FIRST_CID, LAST_PORT}
 use Rattle.vs_driver_parts.specs.{Playing.IsRingOf, State.DriverState}
 use Rattle.vs_ring_shared.specs.Sights.{Sight, driver_contents, flight_of, staged_of}
-use Rattle.vs_apps_parts.specs.{Scripts.{AreRight, RunScript}, declared.{journal.{Entry.Entry, Journal.Journal}, progress.AppState.AppState}}
+use Rattle.vs_apps_parts.specs.{Scripts.{AreRight, RunScript}, Sums.JournalState, declared.{journal.Entry.Entry, progress.AppState.AppState}}
 use Rattle.laws_apps.specs.{Calls.run_with, Ports.{ArePortsFrom, port_behind}, Runs.{IsRunOf, Run}}
 
 pub record GuestsState : Type 0 where
@@ -13,8 +13,8 @@ pub record GuestsState : Type 0 where
   pub entries : List Entry
   pub bytes : List ℕ
 
-abbrev pub guests_with : DriverState → Sight → List AppState → Journal → GuestsState
-guests_with driver end apps journal = record { driver = driver; end = end; apps = apps; entries = journal.entries.items; bytes = journal.bytes.items }
+abbrev pub guests_with : DriverState → Sight → List AppState → JournalState → GuestsState
+guests_with driver end apps journal = record { driver = driver; end = end; apps = apps; entries = journal.entries; bytes = journal.bytes }
 
 abbrev pub run_in : GuestsState → Run
 run_in g = run_with g.driver (driver_contents g.end) g.apps g.entries g.bytes

@@ -1,14 +1,14 @@
 //! The calls of apps on the driver, each noted.
 
-ghost use Rattle.std.specs.Prelude.{◌≡◌, ◌+◌, ◌<◌, ◌≤◌, ℕ, Bool, List, length, vec_capacity, vec_len};
+ghost use Rattle.std.specs.Prelude.{◌≡◌, ◌+◌, ◌≤◌, ℕ, Bool, List, length};
 ghost use Rattle.vs_ring_port.specs.{Contents.RingContents, Counts.Counts};
 ghost use Rattle.vs_driver_parts.specs.Playing.{IsRingOf};
 ghost use Rattle.laws_driver.specs.{Honest.{IsHonest, IsHonestWith}, Carried.Calls.{flow_accepted, flow_opened}};
 ghost use Rattle.vs_apps_parts.specs.{Journals.data_at, Scripts.{RunScript, acts_of, slice_of}, declared.progress.AppState.AppState};
-ghost use Rattle.laws_apps.specs.Calls.{CallsAs, run_with};
+ghost use Rattle.laws_apps.specs.Calls.{CallsAs, HasRoom, run_of};
 ghost use Rattle.laws_driver.specs.Carried.Calls as call;
 
-use vs_apps_parts::journal::{Called, Entry, note_called};
+use vs_apps_parts::journal::{Called, Journal};
 use vs_apps_parts::told::Told;
 use vs_driver::{Accepted, ConnId, ConnectError, Driver};
 use vs_flow::Flow;
@@ -18,23 +18,23 @@ use vs_ring_port::DriverRing;
 pub fn connect<R: DriverRing>(
     driver: &mut Driver,
     ring: &mut R,
-    entries: &mut Vec<Entry>,
+    journal: &mut Journal,
     app: usize,
     port: u32,
 ) -> Told
     requires ring { IsRingOf (R.size ring.old) (R.flight ring.old) (R.staged ring.old) driver.old }
     requires honest { IsHonest driver.old (R.contents ring.old) }
-    requires room { vec_len entries.old < vec_capacity entries.old }
+    requires room { HasRoom 1 journal.old }
     ensures ring { IsRingOf (R.size ring.new) (R.flight ring.new) (R.staged ring.new) driver.new }
     ensures honest { (hosts : Bool) (first : ℕ) → IsHonestWith hosts first driver.old (R.contents ring.old) → IsHonestWith hosts first driver.new (R.contents ring.new) }
-    ensures calls { (script : RunScript) (apps : List AppState) (bytes : List ℕ) → CallsAs script app (call.Connect port) result
-        (run_with driver.old (R.contents ring.old) apps entries.old.items bytes)
-        (run_with driver.new (R.contents ring.new) apps entries.new.items bytes) }
-    ensures room { (vec_capacity entries.new ≡ vec_capacity entries.old) × (vec_len entries.new ≤ vec_len entries.old + 1) }
+    ensures calls { (script : RunScript) (apps : List AppState) → CallsAs script app (call.Connect port) result
+        (run_of driver.old (R.contents ring.old) apps journal.old)
+        (run_of driver.new (R.contents ring.new) apps journal.new) }
+    ensures room { journal.new.room + 1 ≡ journal.old.room }
 {
     let answer = driver.connect(ring, port);
     let flow = flow_opened(driver, answer);
-    note_called(entries, app, Called::Connect { port, answer, flow })
+    journal.note_call(app, Called::Connect { port, answer, flow })
 }
 
 // The flow of the connection that a connect opened, and of one that an accept gave.
@@ -57,100 +57,94 @@ fn flow_accepted(driver: &Driver, answer: Accepted) -> Option<Flow>
 }
 
 /// `listen PORT`
-pub fn listen(driver: &mut Driver, entries: &mut Vec<Entry>, app: usize, port: u32) -> Told
-    requires room { vec_len entries.old < vec_capacity entries.old }
+pub fn listen(driver: &mut Driver, journal: &mut Journal, app: usize, port: u32) -> Told
+    requires room { HasRoom 1 journal.old }
     ensures ring { (n : ℕ) (flown staged : Counts) → IsRingOf n flown staged driver.old → IsRingOf n flown staged driver.new }
     ensures honest { (hosts : Bool) (first : ℕ) (c : RingContents) → IsHonestWith hosts first driver.old c → IsHonestWith hosts first driver.new c }
-    ensures calls { (script : RunScript) (c : RingContents) (apps : List AppState) (bytes : List ℕ) → CallsAs script app (call.Listen port) result
-        (run_with driver.old c apps entries.old.items bytes) (run_with driver.new c apps entries.new.items bytes) }
-    ensures room { (vec_capacity entries.new ≡ vec_capacity entries.old) × (vec_len entries.new ≤ vec_len entries.old + 1) }
+    ensures calls { (script : RunScript) (c : RingContents) (apps : List AppState) → CallsAs script app (call.Listen port) result
+        (run_of driver.old c apps journal.old) (run_of driver.new c apps journal.new) }
+    ensures room { journal.new.room + 1 ≡ journal.old.room }
 {
     let answer = driver.listen(port);
-    note_called(entries, app, Called::Listen { port, answer })
+    journal.note_call(app, Called::Listen { port, answer })
 }
 
 /// `accept PORT`
-pub fn accept(driver: &mut Driver, entries: &mut Vec<Entry>, app: usize, port: u32) -> Told
-    requires room { vec_len entries.old < vec_capacity entries.old }
+pub fn accept(driver: &mut Driver, journal: &mut Journal, app: usize, port: u32) -> Told
+    requires room { HasRoom 1 journal.old }
     ensures ring { (n : ℕ) (flown staged : Counts) → IsRingOf n flown staged driver.old → IsRingOf n flown staged driver.new }
     ensures honest { (hosts : Bool) (first : ℕ) (c : RingContents) → IsHonestWith hosts first driver.old c → IsHonestWith hosts first driver.new c }
-    ensures calls { (script : RunScript) (c : RingContents) (apps : List AppState) (bytes : List ℕ) → CallsAs script app (call.Accept port) result
-        (run_with driver.old c apps entries.old.items bytes) (run_with driver.new c apps entries.new.items bytes) }
-    ensures room { (vec_capacity entries.new ≡ vec_capacity entries.old) × (vec_len entries.new ≤ vec_len entries.old + 1) }
+    ensures calls { (script : RunScript) (c : RingContents) (apps : List AppState) → CallsAs script app (call.Accept port) result
+        (run_of driver.old c apps journal.old) (run_of driver.new c apps journal.new) }
+    ensures room { journal.new.room + 1 ≡ journal.old.room }
 {
     let answer = driver.accept(port);
     let flow = flow_accepted(driver, answer);
-    note_called(entries, app, Called::Accept { port, answer, flow })
+    journal.note_call(app, Called::Accept { port, answer, flow })
 }
 
 /// `close`
-pub fn close(driver: &mut Driver, entries: &mut Vec<Entry>, app: usize, id: ConnId) -> Told
-    requires room { vec_len entries.old < vec_capacity entries.old }
+pub fn close(driver: &mut Driver, journal: &mut Journal, app: usize, id: ConnId) -> Told
+    requires room { HasRoom 1 journal.old }
     ensures ring { (n : ℕ) (flown staged : Counts) → IsRingOf n flown staged driver.old → IsRingOf n flown staged driver.new }
     ensures honest { (hosts : Bool) (first : ℕ) (c : RingContents) → IsHonestWith hosts first driver.old c → IsHonestWith hosts first driver.new c }
-    ensures calls { (script : RunScript) (c : RingContents) (apps : List AppState) (bytes : List ℕ) → CallsAs script app (call.Close id) result
-        (run_with driver.old c apps entries.old.items bytes) (run_with driver.new c apps entries.new.items bytes) }
-    ensures room { (vec_capacity entries.new ≡ vec_capacity entries.old) × (vec_len entries.new ≤ vec_len entries.old + 1) }
+    ensures calls { (script : RunScript) (c : RingContents) (apps : List AppState) → CallsAs script app (call.Close id) result
+        (run_of driver.old c apps journal.old) (run_of driver.new c apps journal.new) }
+    ensures room { journal.new.room + 1 ≡ journal.old.room }
 {
     let answer = driver.close(id);
-    note_called(entries, app, Called::Close { id, answer })
+    journal.note_call(app, Called::Close { id, answer })
 }
 
 /// `shutdown B`
 pub fn shutdown(
     driver: &mut Driver,
-    entries: &mut Vec<Entry>,
+    journal: &mut Journal,
     app: usize,
     id: ConnId,
     bits: u8,
 ) -> Told
     requires bits { (1 ≤ bits) × (bits ≤ 3) }
-    requires room { vec_len entries.old < vec_capacity entries.old }
+    requires room { HasRoom 1 journal.old }
     ensures ring { (n : ℕ) (flown staged : Counts) → IsRingOf n flown staged driver.old → IsRingOf n flown staged driver.new }
     ensures honest { (hosts : Bool) (first : ℕ) (c : RingContents) → IsHonestWith hosts first driver.old c → IsHonestWith hosts first driver.new c }
-    ensures calls { (script : RunScript) (c : RingContents) (apps : List AppState) (bytes : List ℕ) → CallsAs script app (call.Shutdown id bits) result
-        (run_with driver.old c apps entries.old.items bytes) (run_with driver.new c apps entries.new.items bytes) }
-    ensures room { (vec_capacity entries.new ≡ vec_capacity entries.old) × (vec_len entries.new ≤ vec_len entries.old + 1) }
+    ensures calls { (script : RunScript) (c : RingContents) (apps : List AppState) → CallsAs script app (call.Shutdown id bits) result
+        (run_of driver.old c apps journal.old) (run_of driver.new c apps journal.new) }
+    ensures room { journal.new.room + 1 ≡ journal.old.room }
 {
     let answer = driver.shutdown(id, bits);
-    note_called(entries, app, Called::Shutdown { id, bits, answer })
+    journal.note_call(app, Called::Shutdown { id, bits, answer })
 }
 
 /// `grow N`
-pub fn grow(
-    driver: &mut Driver,
-    entries: &mut Vec<Entry>,
-    app: usize,
-    id: ConnId,
-    alloc: u32,
-) -> Told
-    requires room { vec_len entries.old < vec_capacity entries.old }
+pub fn grow(driver: &mut Driver, journal: &mut Journal, app: usize, id: ConnId, alloc: u32) -> Told
+    requires room { HasRoom 1 journal.old }
     ensures ring { (n : ℕ) (flown staged : Counts) → IsRingOf n flown staged driver.old → IsRingOf n flown staged driver.new }
     ensures honest { (hosts : Bool) (first : ℕ) (c : RingContents) → IsHonestWith hosts first driver.old c → IsHonestWith hosts first driver.new c }
-    ensures calls { (script : RunScript) (c : RingContents) (apps : List AppState) (bytes : List ℕ) → CallsAs script app (call.Grow id alloc) result
-        (run_with driver.old c apps entries.old.items bytes) (run_with driver.new c apps entries.new.items bytes) }
-    ensures room { (vec_capacity entries.new ≡ vec_capacity entries.old) × (vec_len entries.new ≤ vec_len entries.old + 1) }
+    ensures calls { (script : RunScript) (c : RingContents) (apps : List AppState) → CallsAs script app (call.Grow id alloc) result
+        (run_of driver.old c apps journal.old) (run_of driver.new c apps journal.new) }
+    ensures room { journal.new.room + 1 ≡ journal.old.room }
 {
     let answer = driver.grow(id, alloc);
-    note_called(entries, app, Called::Grow { id, alloc, answer })
+    journal.note_call(app, Called::Grow { id, alloc, answer })
 }
 
 /// The look at a connection that was asked for.
-pub fn look_at(driver: &Driver, entries: &mut Vec<Entry>, app: usize, id: ConnId) -> Told
-    requires room { vec_len entries.old < vec_capacity entries.old }
-    ensures calls { (script : RunScript) (c : RingContents) (apps : List AppState) (bytes : List ℕ) → CallsAs script app (call.LookAt id) result
-        (run_with driver.now c apps entries.old.items bytes) (run_with driver.now c apps entries.new.items bytes) }
-    ensures room { (vec_capacity entries.new ≡ vec_capacity entries.old) × (vec_len entries.new ≤ vec_len entries.old + 1) }
+pub fn look_at(driver: &Driver, journal: &mut Journal, app: usize, id: ConnId) -> Told
+    requires room { HasRoom 1 journal.old }
+    ensures calls { (script : RunScript) (c : RingContents) (apps : List AppState) → CallsAs script app (call.LookAt id) result
+        (run_of driver.now c apps journal.old) (run_of driver.now c apps journal.new) }
+    ensures room { journal.new.room + 1 ≡ journal.old.room }
 {
     let answer = driver.state(id);
-    note_called(entries, app, Called::LookAt { id, answer })
+    journal.note_call(app, Called::LookAt { id, answer })
 }
 
 /// A send of `bytes`, which stand in the data of the app's instruction at place `at`, from byte `from` on.
 pub fn send<R: DriverRing>(
     driver: &mut Driver,
     ring: &mut R,
-    entries: &mut Vec<Entry>,
+    journal: &mut Journal,
     app: usize,
     id: ConnId,
     at: usize,
@@ -159,19 +153,18 @@ pub fn send<R: DriverRing>(
 ) -> Told
     requires ring { IsRingOf (R.size ring.old) (R.flight ring.old) (R.staged ring.old) driver.old }
     requires honest { IsHonest driver.old (R.contents ring.old) }
-    requires room { vec_len entries.old < vec_capacity entries.old }
+    requires room { HasRoom 1 journal.old }
     ensures ring { IsRingOf (R.size ring.new) (R.flight ring.new) (R.staged ring.new) driver.new }
     ensures honest { (hosts : Bool) (first : ℕ) → IsHonestWith hosts first driver.old (R.contents ring.old) → IsHonestWith hosts first driver.new (R.contents ring.new) }
-    ensures calls { (script : RunScript) (apps : List AppState) (got : List ℕ)
+    ensures calls { (script : RunScript) (apps : List AppState)
         → slice_of from (length bytes.now) (data_at at (acts_of app script)) ≡ bytes.now
         → CallsAs script app (call.Send id bytes.now) result
-        (run_with driver.old (R.contents ring.old) apps entries.old.items got)
-        (run_with driver.new (R.contents ring.new) apps entries.new.items got) }
-    ensures room { (vec_capacity entries.new ≡ vec_capacity entries.old) × (vec_len entries.new ≤ vec_len entries.old + 1) }
+        (run_of driver.old (R.contents ring.old) apps journal.old)
+        (run_of driver.new (R.contents ring.new) apps journal.new) }
+    ensures room { journal.new.room + 1 ≡ journal.old.room }
 {
     let answer = driver.send(ring, id, bytes);
-    note_called(
-        entries,
+    journal.note_call(
         app,
         Called::Send {
             id,

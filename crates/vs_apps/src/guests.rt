@@ -14,7 +14,7 @@ use crate::steps::step;
 use std::alloc::{AllocError, Global};
 use std::marker::{Brand, Model};
 use vs_apps_parts::journal::Journal;
-use vs_apps_parts::progress::{AppState, Progress, Stepped};
+use vs_apps_parts::progress::{AppState, Progress, SLICE, Stepped};
 use vs_driver::{Driver, Polled};
 use vs_ring_port::{DriverRing, Queue};
 use vs_ring_shared::{DeviceEnd, DriverEnd, Met, RingName, laws_of_driver_end, meet, note};
@@ -48,6 +48,8 @@ pub struct Guests<N: RunName> {
     script: Vec<App>,
     apps: Vec<AppState>,
     journal: Journal,
+    // What sends and receives copy by way of. It is never cleared: a step that waits costs little.
+    buffer: [u8; SLICE],
 }
 
 impl<N: RunName> Model for Guests<N> {
@@ -113,10 +115,8 @@ impl<N: RunName> Guests<N> {
             end,
             script,
             apps,
-            journal: Journal {
-                entries: Vec::new(alloc),
-                bytes: Vec::new(alloc),
-            },
+            journal: Journal::new(alloc),
+            buffer: [0; SLICE],
         })
     }
 
@@ -136,8 +136,8 @@ impl<N: RunName> Guests<N> {
 
     /// The journal.
     pub fn journal(&self) -> &Journal
-        ensures entries { result.now.entries.items ≡ self.now.entries }
-        ensures bytes { result.now.bytes.items ≡ self.now.bytes }
+        ensures entries { result.now.entries ≡ self.now.entries }
+        ensures bytes { result.now.bytes ≡ self.now.bytes }
     {
         &self.journal
     }
@@ -169,6 +169,7 @@ impl<N: RunName> Guests<N> {
             &mut self.journal,
             &self.script,
             k,
+            &mut self.buffer,
         )
     }
 

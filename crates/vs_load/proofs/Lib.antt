@@ -1,1 +1,2 @@
+pub mod Echoed
 pub mod Over

@@ -4,18 +4,18 @@ ghost use Rattle.std.specs.Prelude.{◌≡◌, ℕ, IfOk, Option, Some, string_b
 ghost use Rattle.vs_limits.specs.declared.TheConstants.{FIRST_PORT};
 ghost use Rattle.vs_outside.specs.Host.{HostContents};
 ghost use Rattle.vs_ring_shared.specs.{Ports.IsRingSize, Sights.DeviceSight};
-ghost use Rattle.laws_settled.specs.Begun.{start_with};
+ghost use Rattle.laws_settled.specs.Begun.{IsUnlabelled, start_with};
 ghost use Rattle.vs_apps_parts.specs.Scripts.{AreRight, script_of};
 ghost use Rattle.vs_run_apps.specs.Sides.{IsReady, IsSilent};
 ghost use Rattle.vs_load_parts.specs.Line.{load_line};
-ghost use Rattle.vs_load.specs.Loads.{IsLoaded, IsOver};
+ghost use Rattle.vs_load.specs.Loads.{AllCameBack, IsLoaded, IsOver};
 
 use std::alloc::{AllocError, Global};
 use std::marker::Brand;
 use std::sync::Wait;
 use std::thread::Threads;
 use vs_apps::guests::{Guests, RunName};
-use vs_echo::EchoHost;
+use vs_echo::{EchoHost, law_of_echoes};
 use vs_limits::FIRST_PORT;
 use vs_load_parts::apps::{law_of_loads, load_apps};
 use vs_load_parts::tally::load_line;
@@ -36,16 +36,10 @@ const LOAD_BASE: &str = "v.sock";
 
 // The line of a load that is over.
 fn line_of<N: RunName>(alloc: Global, conns: u32, guests: &Guests<N>) -> Result<String, AllocError>
+    requires { AllCameBack N.script guests.now }
     ensures { IfOk result (λ line. string_bytes line ≡ load_line conns N.script guests.now.entries guests.now.bytes) }
 {
-    let journal = guests.journal();
-    load_line(
-        alloc,
-        conns,
-        guests.script(),
-        journal.entries.as_slice(),
-        journal.bytes.as_slice(),
-    )
+    load_line(alloc, conns, guests.script(), guests.journal())
 }
 
 // A load under a name, of which nothing with that name is left but the line.
@@ -69,12 +63,16 @@ fn load_under<W: Threads + Wait + Sync, N: StartName + Send, C: Clock, G: Gate +
         → IsReady (start_with contents faults) (record { proxy = proxy; ring = ring; contents = contents; faults = faults }) }
     requires first { N.first ≡ FIRST_PORT }
     requires start { N.start ≡ start_with (Some host.old.contents) host.old.faults }
+    requires unlabelled { IsUnlabelled host.old.contents }
     ensures { IfOk result (λ line. IsOver conns N.script N.start (Some host.new.contents) host.new.faults (string_bytes line)) }
 {
     match run_under::<W, N, EchoHost, C, G>(
         rt, alloc, script, rings, FIRST_PORT, proxy, host, clock, LOAD_IDLE, gates, gate,
     ) {
-        Ok(ran) => line_of(alloc, conns, &ran.guests),
+        Ok(ran) => {
+            law_of_echoes(host);
+            line_of(alloc, conns, &ran.guests)
+        }
         Err(_) => Err(AllocError),
     }
 }

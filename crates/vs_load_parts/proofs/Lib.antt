@@ -1,3 +1,2 @@
 pub mod Scripted
-pub mod Sending
 pub mod Tallies

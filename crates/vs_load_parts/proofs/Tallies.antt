@@ -1,35 +1,47 @@
 -- How the counts of a load add up, and how matches do.
-use Rattle.std.proofs.{Common.{◌≡◌, ◌≤◌, ◌<◌, ℕ, ◌+◌, ◌==◌, min, if◌then◌else◌, List, [], ◌∷◌, ◌++◌, length, drop, get_or, refl, sym, ap, ◌∙◌, arith}, lemmas.List.drop_more}
-use Rattle.std.{proofs.lemmas.{List.{flat_map_more, length-drop, Sums.fold-append}, Bool.Decides.nat_tests}, specs.List.{flat_map, fold}}
-use Rattle.vs_run_report.specs.Load.{matches}
+use Rattle.std.proofs.{Common.{◌≡◌, ℕ, ◌+◌, ◌==◌, ◌^◌, min, if◌then◌else◌, List, [], ◌∷◌, ◌++◌, length, refl, sym, ap, ◌∙◌, arith}, lemmas.List.Elements.{All-head, All-tail}}
+use Rattle.std.{proofs.lemmas.{List.{flat_map_more, Sums.fold-append}, Bool.Decides.nat_tests}, specs.List.{All, flat_map, fold}}
+use Rattle.laws_driver.specs.Carried.Calls.{Journal, received_by}
+use Rattle.vs_apps_parts.specs.{Journals.{calls_of, sent_as}, Scripts.RunScript, declared.journal.Entry.Entry}
+use Rattle.vs_excerpt.specs.{Excerpt.excerpt_of, declared.Excerpt.Excerpt}
+use Rattle.vs_run_report.specs.{Connections.{capped, opened_all}, Load.matches, declared.connection.Opened.Opened}
+use Rattle.vs_load_parts.specs.{Line.{CameBack, adds, counted_of, counts, no_tally, tally_of}, declared.tally.Tally.Tally}
 
--- One place more, and no place more.
-pub match_next : (xs ys : List ℕ) (i count new total : ℕ) (x y : ℕ) → i < length xs → i < length ys
-    → count + matches (drop i xs) (drop i ys) ≡ total → new ≡ count + (if get_or xs i x == get_or ys i y then 1 else 0)
-    → new + matches (drop (i + 1) xs) (drop (i + 1) ys) ≡ total
-match_next xs ys i count new total x y in_xs in_ys before is =
-    let both : matches (drop i xs) (drop i ys)
-    ≡ (if get_or xs i x == get_or ys i y then 1 else 0) + matches (drop (i + 1) xs) (drop (i + 1) ys) =
-    rw (drop_more xs i x in_xs, drop_more ys i y in_ys) refl in
-    omega (arith, before, is, both)
+-- As many places match of a list and one that it begins with as that has.
+match_front : (xs more : List ℕ) → matches (xs ++ more) xs ≡ length xs
+match_front [] [] = refl
+match_front [] (y ∷ more) = refl
+match_front (x ∷ xs) more = grind (arith, nat_tests, match_front xs more)
 
-none_left : (xs ys : List ℕ) → min (length xs) (length ys) ≡ 0 → matches xs ys ≡ 0
-none_left [] ys none = refl
-none_left (x ∷ xs) [] none = refl
-none_left (x ∷ xs) (y ∷ ys) none = absurd (omega (arith, none))
+adds_as : (journal : Journal) (t : Tally) (o : Opened) → CameBack journal o → adds journal t o ≡ counts journal t o
+adds_as journal t o back =
+    let many : matches (sent_as o.id journal) (received_by o.id journal) ≡ length (received_by o.id journal) =
+    ap (λ (xs : List ℕ). matches xs (received_by o.id journal)) back.1 ∙ match_front (received_by o.id journal) back.0 in
+    ap (λ (n : ℕ). let tally : Tally = record { sent = capped (t.sent + length (sent_as o.id journal)); matched = capped (t.matched + n) } in tally) many
 
-pub match_all : (xs ys : List ℕ) (i count total : ℕ) → min (length xs) (length ys) ≤ i
-    → count + matches (drop i xs) (drop i ys) ≡ total → count ≡ total
-match_all xs ys i count total end is =
-    let short : min (length (drop i xs)) (length (drop i ys)) ≡ 0 = omega (arith, length-drop i xs, length-drop i ys, end) in
-    omega (arith, is, none_left (drop i xs) (drop i ys) short)
+all_as : (journal : Journal) (os : List Opened) (t : Tally) → All (CameBack journal) os → fold (adds journal) t os ≡ fold (counts journal) t os
+all_as journal [] t back = refl
+all_as journal (o ∷ os) t back =
+    ap (λ (x : Tally). fold (adds journal) x os) (adds_as journal t o (All-head (CameBack journal) o os back))
+    ∙ all_as journal os (counts journal t o) (All-tail (CameBack journal) o os back)
 
-match_self : (xs : List ℕ) → length xs ≡ matches xs xs
-match_self [] = refl
-match_self (x ∷ xs) = grind (arith, nat_tests, match_self xs)
+pub counted_as : (script : RunScript) (entries : List Entry) (bytes : List ℕ) (t : Tally)
+    → All (CameBack (calls_of script bytes entries)) (opened_all (length script) entries) → t ≡ counted_of script entries bytes
+    → t ≡ tally_of script entries bytes
+counted_as script entries bytes t back is = is ∙ sym (all_as (calls_of script bytes entries) (opened_all (length script) entries) no_tally back)
 
-pub match_same : (xs ys : List ℕ) → xs ≡ ys → length xs ≡ matches xs ys
-match_same xs ys same = match_self xs ∙ ap (matches xs) same
+-- A connection more.
+capped_more : (n m : ℕ) → min (n + capped m) (2 ^ 64 - 1) ≡ capped (n + m)
+capped_more n m = omega arith
+
+pub one_more : (journal : Journal) (t new : Tally) (o : Opened) (sent : ℕ) (e : Excerpt) → sent ≡ capped (length (sent_as o.id journal))
+    → e ≡ excerpt_of (received_by o.id journal) → new.sent ≡ capped (t.sent + sent) → new.matched ≡ capped (t.matched + e.count)
+    → new ≡ counts journal t o
+one_more journal t new o sent e count came all matched =
+    let one : new.sent ≡ capped (t.sent + length (sent_as o.id journal)) =
+    all ∙ ap (λ (n : ℕ). capped (t.sent + n)) count ∙ capped_more t.sent (length (sent_as o.id journal)) in
+    let two : new.matched ≡ capped (t.matched + length (received_by o.id journal)) = matched ∙ ap (λ (x : Excerpt). capped (t.matched + x.count)) came in
+    cc
 
 -- The parts of one more.
 pub fold_next : {A B X : Type 0} (f : B → A → B) (g : X → List A) (a mid new : B) (xs xs' : List X) (x : X) → xs' ≡ xs ++ x ∷ []

@@ -4,5 +4,4 @@
 #![tactic(auto)]
 
 pub mod apps;
-pub mod pieces;
 pub mod tally;

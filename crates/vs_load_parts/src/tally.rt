@@ -1,16 +1,15 @@
 //! How many bytes the apps of a load sent, and how many came back.
 
-ghost use Rattle.std.specs.{Prelude.{◌≡◌, ◌+◌, ◌==◌, if◌then◌else◌, IfOk, string_bytes}, List.fold};
+ghost use Rattle.std.specs.{Prelude.{◌≡◌, IfOk, length, string_bytes}, List.{All, fold}};
 ghost use Rattle.vs_apps_parts.specs.{Journals.calls_of, Scripts.script_of};
-ghost use Rattle.vs_run_report.specs.{Connections.{listed, opened_of}, Load.matches};
-ghost use Rattle.vs_load_parts.specs.Line.{adds, load_line, tally_of};
+ghost use Rattle.vs_run_report.specs.Connections.{listed, opened_all, opened_of};
+ghost use Rattle.vs_load_parts.specs.Line.{CameBack, counted_of, counts, load_line, tally_of};
 
-use crate::pieces::sent_on;
 use std::alloc::{AllocError, Global};
-use vs_apps_parts::journal::Entry;
+use vs_apps_parts::journal::{Entry, Journal};
 use vs_run_report::connection::{Opened, opened_by};
 use vs_run_report::load::push_load;
-use vs_run_report::sums::add_up;
+use vs_run_report::sums::sent_on;
 use vs_script::App;
 
 /// The bytes that were sent, and the places where the byte that came back is the one that was sent. Each count stands still at the last number of
@@ -21,132 +20,87 @@ pub struct Tally {
     pub matched: u64,
 }
 
-// The bytes of one connection at a time.
-#[derive(Drop)]
-struct Buffers {
-    sent: Vec<u8>,
-    received: Vec<u8>,
-}
-
-// Whether two bytes are the same, as a number.
-fn same(a: u8, b: u8) -> u64
-    ensures { result ≡ (if a == b then 1 else 0) }
-{
-    if a == b { 1 } else { 0 }
-}
-
-/// At how many places two slices hold the same byte.
-#[tactic(auto, using(crate::proofs::Tallies::match_next, crate::proofs::Tallies::match_all))]
-pub fn matches(sent: &[u8], received: &[u8]) -> u64
-    ensures { result ≡ matches sent.now received.now }
-{
-    if sent == received {
-        return sent.len() as u64;
-    }
-    let mut count = 0u64;
-    for i in 0..sent.len().min(received.len()) {
-        count += same(sent[i], received[i]);
-    }
-    count
-}
-
 // The tally with one connection more.
-fn add(
-    tally: Tally,
-    opened: Opened,
-    script: &[App],
-    entries: &[Entry],
-    bytes: &[u8],
-    buffers: &mut Buffers,
-) -> Result<Tally, AllocError>
-    ensures { IfOk result (λ t. t ≡ adds (calls_of (script_of script.now) bytes.now entries.now) tally opened) }
+fn add(tally: Tally, opened: Opened, script: &[App], journal: &Journal) -> Tally
+    ensures { result ≡ counts (calls_of (script_of script.now) journal.now.bytes journal.now.entries) tally opened }
 {
-    sent_on(opened.id, script, entries, bytes, &mut buffers.sent)?;
-    add_up(opened.id, script, entries, bytes, &mut buffers.received)?;
-    Ok(Tally {
-        sent: tally.sent.saturating_add(buffers.sent.len() as u64),
-        matched: tally
-            .matched
-            .saturating_add(matches(&buffers.sent, &buffers.received)),
-    })
+    let count = sent_on(opened.id, script, journal.entries());
+    let excerpt = journal.excerpt(opened.id);
+    let sent = tally.sent.saturating_add(count);
+    let matched = tally.matched.saturating_add(excerpt.count);
+    Tally { sent, matched }
 }
 
 // The tally with the connection that an entry opened, if it did.
-fn add_opened(
-    tally: Tally,
-    opened: Option<Opened>,
-    script: &[App],
-    entries: &[Entry],
-    bytes: &[u8],
-    buffers: &mut Buffers,
-) -> Result<Tally, AllocError>
-    ensures { IfOk result (λ t. t ≡ fold (adds (calls_of (script_of script.now) bytes.now entries.now)) tally (listed opened)) }
+fn add_opened(tally: Tally, opened: Option<Opened>, script: &[App], journal: &Journal) -> Tally
+    ensures { result ≡ fold (counts (calls_of (script_of script.now) journal.now.bytes journal.now.entries)) tally (listed opened) }
 {
     match opened {
-        Some(opened) => add(tally, opened, script, entries, bytes, buffers),
-        None => Ok(tally),
+        Some(opened) => add(tally, opened, script, journal),
+        None => tally,
     }
 }
 
-// The tally with the connections of the app at a place.
-fn add_app(
+// The tally with the connections that these entries of the app at a place opened.
+fn add_all_opened(
     before: Tally,
     app: usize,
     script: &[App],
     entries: &[Entry],
-    bytes: &[u8],
-    buffers: &mut Buffers,
-) -> Result<Tally, AllocError>
-    ensures { IfOk result (λ t. t ≡ fold (adds (calls_of (script_of script.now) bytes.now entries.now)) before (opened_of app entries.now)) }
+    journal: &Journal,
+) -> Tally
+    ensures { result ≡ fold (counts (calls_of (script_of script.now) journal.now.bytes journal.now.entries)) before (opened_of app entries.now) }
 {
     let mut tally = before;
     for entry in entries {
-        tally = add_opened(
-            tally,
-            opened_by(app, *entry),
-            script,
-            entries,
-            bytes,
-            buffers,
-        )?;
+        tally = add_opened(tally, opened_by(app, *entry), script, journal);
     }
-    Ok(tally)
+    tally
 }
 
-/// What all connections of a run's apps come to, by the journal's entries and bytes. The only error is want of memory.
-pub fn tally_of(
-    alloc: Global,
-    script: &[App],
-    entries: &[Entry],
-    bytes: &[u8],
-) -> Result<Tally, AllocError>
-    ensures { IfOk result (λ t. t ≡ tally_of (script_of script.now) entries.now bytes.now) }
+// The tally with the connections of the app at a place.
+fn add_app(before: Tally, app: usize, script: &[App], journal: &Journal) -> Tally
+    ensures { result ≡ fold (counts (calls_of (script_of script.now) journal.now.bytes journal.now.entries)) before (opened_of app journal.now.entries) }
 {
-    let mut buffers = Buffers {
-        sent: Vec::new(alloc),
-        received: Vec::new(alloc),
-    };
+    add_all_opened(before, app, script, journal.entries(), journal)
+}
+
+// What all connections of a run's apps come to, by the journal.
+fn counted_of(script: &[App], journal: &Journal) -> Tally
+    ensures { result ≡ counted_of (script_of script.now) journal.now.entries journal.now.bytes }
+{
     let mut tally = Tally {
         sent: 0,
         matched: 0,
     };
     for k in 0..script.len() {
-        tally = add_app(tally, k, script, entries, bytes, &mut buffers)?;
+        tally = add_app(tally, k, script, journal);
     }
-    Ok(tally)
+    tally
 }
 
-/// The line of a load with so many apps, by the journal's entries and bytes. The only error is want of memory.
+/// The bytes that were sent on all connections, and the places that match, where what was received on each is a prefix of what was sent there.
+pub fn tally_of(script: &[App], journal: &Journal) -> Tally
+    requires { All (CameBack (calls_of (script_of script.now) journal.now.bytes journal.now.entries))
+        (opened_all (length (script_of script.now)) journal.now.entries) }
+    ensures { result ≡ tally_of (script_of script.now) journal.now.entries journal.now.bytes }
+{
+    counted_of(script, journal)
+}
+
+/// The line of a load with so many apps, by the journal, where what was received on each connection is a prefix of what was sent there. The only error
+/// is want of memory.
 pub fn load_line(
     alloc: Global,
     conns: u32,
     script: &[App],
-    entries: &[Entry],
-    bytes: &[u8],
+    journal: &Journal,
 ) -> Result<String, AllocError>
-    ensures { IfOk result (λ line. string_bytes line ≡ load_line conns (script_of script.now) entries.now bytes.now) }
+    requires { All (CameBack (calls_of (script_of script.now) journal.now.bytes journal.now.entries))
+        (opened_all (length (script_of script.now)) journal.now.entries) }
+    ensures { IfOk result (λ line. string_bytes line ≡ load_line conns (script_of script.now) journal.now.entries journal.now.bytes) }
 {
-    let tally = tally_of(alloc, script, entries, bytes)?;
+    let tally = tally_of(script, journal);
     let mut line = String::new(alloc);
     push_load(&mut line, conns, tally.sent, tally.matched)?;
     Ok(line)

@@ -1,3 +1,4 @@
 pub mod LinesGiven
 pub mod Reports
 pub mod HostPrograms
+pub mod Excerpts

@@ -1,17 +1,13 @@
 //! Bytes as they are printed in a line.
 
-ghost use Rattle.std.specs.Prelude.{◌≡◌, ◌++◌, OnOk, string_bytes};
+ghost use Rattle.std.specs.Prelude.{◌≡◌, ◌++◌, OnOk, List, ℕ, string_bytes};
 ghost use Rattle.hex.specs.Hex.{encode_lower};
-ghost use Rattle.vs_report.specs.Bytes.{data_text, counted_text, some_text};
+ghost use Rattle.vs_excerpt.specs.Excerpt.{excerpt_of};
+ghost use Rattle.vs_report.specs.Bytes.{data_text, counted_text, excerpt_text, shown_text, some_text};
 
 use crate::number::push_number;
 use std::alloc::AllocError;
-
-/// The most bytes that are printed in full.
-const MAX_IN_FULL: usize = 64;
-
-/// Of longer data, the bytes that are printed of its beginning, and of its end.
-const AT_EACH_END: usize = 16;
+use vs_excerpt::{AT_EACH_END, Excerpt, MAX_IN_FULL};
 
 /// Appends bytes as they are printed: `-` for none, the hex digits of up to 64 bytes, and of more than that those of the first 16, `..` and
 /// those of the last 16.
@@ -31,6 +27,35 @@ pub fn push_counted(out: &mut String, bytes: &[u8]) -> Result<(), AllocError>
     push_number(out, "", bytes.len() as u64)?;
     out.push_str(" ")?;
     push_data(out, bytes)
+}
+
+/// Appends how many bytes there are, and the bytes as they are printed, by an excerpt of them.
+pub fn push_excerpt(out: &mut String, excerpt: &Excerpt) -> Result<(), AllocError>
+    ensures { OnOk result (string_bytes out.new ≡ string_bytes out.old ++ excerpt_text excerpt.now) }
+{
+    push_number(out, "", excerpt.count)?;
+    out.push_str(" ")?;
+    push_shown(out, excerpt)
+}
+
+/// What is printed by an excerpt of bytes is what is printed of these bytes.
+pub fn law_of_excerpts()
+    ensures { (bytes : List ℕ) → excerpt_text (excerpt_of bytes) ≡ counted_text bytes }
+{}
+
+// Appends the bytes by an excerpt of them.
+fn push_shown(out: &mut String, excerpt: &Excerpt) -> Result<(), AllocError>
+    ensures { OnOk result (string_bytes out.new ≡ string_bytes out.old ++ shown_text excerpt.now) }
+{
+    if excerpt.count == 0 {
+        return out.push_str("-");
+    }
+    if excerpt.count <= MAX_IN_FULL as u64 {
+        return push_hex(out, &excerpt.front[..excerpt.count as usize]);
+    }
+    push_hex(out, &excerpt.front[..AT_EACH_END])?;
+    out.push_str("..")?;
+    push_hex(out, &excerpt.back)
 }
 
 // Appends bytes, all of them or their two ends.

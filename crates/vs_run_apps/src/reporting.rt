@@ -60,8 +60,7 @@ fn report_of<N: RunName>(
         idle,
         guests.script(),
         guests.apps(),
-        journal.entries.as_slice(),
-        journal.bytes.as_slice(),
+        journal,
         &totals,
     )
 }
@@ -70,11 +69,7 @@ fn report_of<N: RunName>(
 fn status<N: RunName>(guests: &Guests<N>) -> u8
     ensures { result ≡ run_status N.script guests.now.apps guests.now.entries }
 {
-    run_status(
-        guests.script(),
-        guests.apps(),
-        guests.journal().entries.as_slice(),
-    )
+    run_status(guests.script(), guests.apps(), guests.journal().entries())
 }
 
 /// Gives the report of a run that is over to the sink, each line by itself, and answers the run's status: 0, or 5 where an app isn't done.

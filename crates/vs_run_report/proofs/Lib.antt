@@ -4,3 +4,4 @@ pub mod Waiting
 pub mod Worked
 pub mod Noted
 pub mod Cut
+pub mod Printed

@@ -1,12 +1,12 @@
--- What the entries of a journal add to what was sent and received on a connection.
+-- What the entries of a journal add to how much was sent on a connection.
 use Rattle.std.proofs.Common.{◌≡◌, ℕ, ◌+◌, ◌-◌, ◌==◌, ◌^◌, min, if◌then◌else◌, Bool, true, false, List, [], ◌∷◌, ◌++◌, length, take, drop, refl, sym, ap, ◌∙◌, arith, append_assoc}
 use Rattle.std.proofs.{Common.append-nil, lemmas.List.{length-append, length-drop, length-take, FromFn.length-map-range_with_len}}
 use Rattle.vs_script.specs.Data.{Content, Fill, Given, bytes_of, filled, size_of}
-use Rattle.laws_driver.specs.Carried.{Calls.{Journal, bytes_received, bytes_sent, names, received_by}, Sent.took}
+use Rattle.laws_driver.specs.Carried.{Calls.{Journal, bytes_sent, names}, Sent.took}
 use Rattle.vs_apps_parts.specs.{Journals.{calls_of, data_at, gathered, made_by, made_of, sent_as}, Scripts.{RunScript, acts_of, slice_of}, declared.journal.Called.Called}
 use Rattle.vs_apps_parts.specs.declared.journal.{Deed.Deed, Entry.Entry}
 use Rattle.vs_driver_parts.specs.declared.answers.Sent.{Sent}
-use Rattle.vs_run_report.specs.{Connections.capped, Sums.{given_by, given_in, sent_by, sent_number, took_number}}
+use Rattle.vs_run_report.specs.{Connections.capped, Sums.{sent_by, sent_number, took_number}}
 use Rattle.vs_apps_parts.specs.declared.journal.Called.TheVariants as called
 use Rattle.vs_apps_parts.specs.declared.journal.Deed.TheVariants as deed
 use Rattle.vs_driver_parts.specs.declared.answers.Sent.TheVariants as sent
@@ -50,18 +50,6 @@ module _ (id : ℕ) (script : RunScript) (bytes : List ℕ) (app : ℕ) where
   sent_called (called.Close other answer) = ap (λ (xs : List ℕ). length xs) (none_either (id == other) [] refl)
   sent_called (called.LookAt other answer) = ap (λ (xs : List ℕ). length xs) (none_either (id == other) [] refl)
 
-  given_called : (c : Called) → (let m = made_of script bytes app c in if names id m.id then bytes_received m.call m.reply else [])
-      ≡ given_in id bytes c
-  given_called (called.Connect port answer flow) = refl
-  given_called (called.Listen port answer) = refl
-  given_called (called.Accept port answer flow) = refl
-  given_called (called.Send other at from len answer) = none_either (id == other) [] refl
-  given_called (called.Recv other len from answer) = refl
-  given_called (called.Shutdown other bits answer) = none_either (id == other) [] refl
-  given_called (called.Grow other alloc answer) = none_either (id == other) [] refl
-  given_called (called.Close other answer) = none_either (id == other) [] refl
-  given_called (called.LookAt other answer) = none_either (id == other) [] refl
-
   sent_with : (older : Journal) (d : Deed)
       → length (sent_as id (made_by script bytes (record { app = app; deed = d }) ++ older))
       ≡ length (sent_as id older) + sent_by id script (record { app = app; deed = d })
@@ -69,12 +57,6 @@ module _ (id : ℕ) (script : RunScript) (bytes : List ℕ) (app : ℕ) where
       length-append (sent_as id older) (let m = made_of script bytes app c in if names id m.id then bytes_sent m.call m.reply else [])
       ∙ ap (λ (n : ℕ). length (sent_as id older) + n) (sent_called c)
   sent_with older (deed.Waited times why) = omega arith
-
-  given_with : (older : Journal) (d : Deed)
-      → received_by id (made_by script bytes (record { app = app; deed = d }) ++ older)
-      ≡ received_by id older ++ given_by id bytes (record { app = app; deed = d })
-  given_with older (deed.Called c) = ap (λ (xs : List ℕ). received_by id older ++ xs) (given_called c)
-  given_with older (deed.Waited times why) = sym (append-nil (received_by id older))
 
 -- One entry more.
 gathered_more : (made : Entry → Journal) (es : List Entry) (e : Entry) → gathered made (es ++ e ∷ []) ≡ made e ++ gathered made es
@@ -97,10 +79,3 @@ module _ (id : ℕ) (script : RunScript) (bytes : List ℕ) (es : List Entry) (i
       is ∙ ap (λ (k : ℕ). min (k + m) (2 ^ 64 - 1)) before ∙ ap (λ (k : ℕ). min (capped (length (sent_as id older)) + k) (2 ^ 64 - 1)) more
       ∙ capped_more (length (sent_as id older)) (sent_by id script e)
       ∙ ap capped (sym (ap (λ (j : Journal). length (sent_as id j)) (calls_next script bytes es i e at) ∙ sent_with id script bytes e.app older e.deed))
-
-  pub given_next : (old piece new : List ℕ) → old ≡ received_by id (calls_of script bytes (take i es)) → piece ≡ given_by id bytes e
-      → new ≡ old ++ piece → new ≡ received_by id (calls_of script bytes (take (i + 1) es))
-  given_next old piece new before more is =
-      let older = calls_of script bytes (take i es) in
-      is ∙ ap (λ (xs : List ℕ). xs ++ piece) before ∙ ap (λ (xs : List ℕ). received_by id older ++ xs) more
-      ∙ sym (ap (received_by id) (calls_next script bytes es i e at) ∙ given_with id script bytes e.app older e.deed)

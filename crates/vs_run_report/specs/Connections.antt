@@ -59,10 +59,12 @@ abbrev pub carried_by : Journal → Opened → Carried
 carried_by journal o = record { flow = o.flow; sent = capped (length (sent_as o.id journal)); received = received_by o.id journal }
 
 -- conn G H sent N received N DATA
+abbrev pub connection_line : Flow → ℕ → List ℕ → List ℕ
+connection_line flow sent received =
+    codes "conn " ++ decimal flow.guest ++ codes " " ++ decimal flow.host ++ codes " sent " ++ decimal sent ++ codes " received " ++ received ++ codes "\n"
+
 abbrev pub connection_text : Carried → List ℕ
-connection_text c =
-    codes "conn " ++ decimal c.flow.guest ++ codes " " ++ decimal c.flow.host ++ codes " sent " ++ decimal c.sent ++ codes " received "
-    ++ counted_text c.received ++ codes "\n"
+connection_text c = connection_line c.flow c.sent (counted_text c.received)
 
 abbrev pub opened_text : Journal → Opened → List ℕ
 opened_text journal o = connection_text (carried_by journal o)

@@ -1,9 +1,9 @@
--- What one entry of a journal adds to what was sent and received on a connection, as numbers and places.
-use Rattle.std.specs.Prelude.{ℕ, ◌-◌, ◌==◌, min, if◌then◌else◌, List, [], length}
-use Rattle.vs_apps_parts.specs.{Journals.data_at, Scripts.{RunScript, acts_of, slice_of}, declared.journal.{Called.Called, Entry.Entry}}
+-- How many bytes one entry of a journal adds to what was sent on a connection.
+use Rattle.std.specs.Prelude.{ℕ, ◌-◌, ◌==◌, min, if◌then◌else◌, length}
+use Rattle.vs_apps_parts.specs.{Journals.data_at, Scripts.{RunScript, acts_of}, declared.journal.{Called.Called, Entry.Entry}}
 use Rattle.vs_apps_parts.specs.declared.journal.Called.TheVariants as called
 use Rattle.vs_apps_parts.specs.declared.journal.Deed.TheVariants as deed
-use Rattle.vs_driver_parts.specs.{Connections.got_count, declared.answers.Sent.Sent}
+use Rattle.vs_driver_parts.specs.declared.answers.Sent.{Sent}
 use Rattle.vs_driver_parts.specs.declared.answers.Sent.TheVariants as sent
 
 -- How many bytes a send of so many took.
@@ -18,11 +18,3 @@ sent_number id script app c = 0
 
 abbrev pub sent_by : ℕ → RunScript → Entry → ℕ
 sent_by id script e = elim e.deed [ deed.Called c ↦ sent_number id script e.app c | deed.Waited times why ↦ 0 ]
-
--- The bytes that a receive gave.
-abbrev pub given_in : ℕ → List ℕ → Called → List ℕ
-given_in id bytes (called.Recv other len from answer) = if id == other then slice_of from (got_count answer) bytes else []
-given_in id bytes c = []
-
-abbrev pub given_by : ℕ → List ℕ → Entry → List ℕ
-given_by id bytes e = elim e.deed [ deed.Called c ↦ given_in id bytes c | deed.Waited times why ↦ [] ]

@@ -8,7 +8,7 @@ ghost use Rattle.vs_run_report.specs.{Report.{app_line, app_lines, connection_li
 use crate::connection::push_connections_of;
 use crate::ending::{Ending, ending_of, push_app};
 use std::alloc::{AllocError, Global};
-use vs_apps_parts::journal::Entry;
+use vs_apps_parts::journal::{Entry, Journal};
 use vs_apps_parts::progress::{AppState, Progress};
 use vs_report::giving::Totals;
 use vs_report::report::{push_counts, push_device_open, push_guest_open};
@@ -98,16 +98,14 @@ pub fn push_apps(
 /// A line for each connection of each app.
 pub fn push_connections(
     out: &mut String,
-    buffer: &mut Vec<u8>,
     script: &[App],
-    entries: &[Entry],
-    bytes: &[u8],
+    journal: &Journal,
 ) -> Result<(), AllocError>
     ensures { OnOk result (string_bytes out.new ≡ string_bytes out.old
-        ++ joined (connection_lines (script_of script.now) entries.now bytes.now)) }
+        ++ joined (connection_lines (script_of script.now) journal.now.entries journal.now.bytes)) }
 {
     for k in 0..script.len() {
-        push_connections_of(out, buffer, k, script, entries, bytes)?;
+        push_connections_of(out, k, script, journal)?;
     }
     Ok(())
 }
@@ -122,22 +120,20 @@ fn push_totals(out: &mut String, totals: &Totals) -> Result<(), AllocError>
 }
 
 /// The report of a run, where an app gives up after `idle` steps in a row that waited: a line for each app and for each connection of each
-/// app, how many entries the tables have, and what was counted. The buffer is for the bytes of one connection at a time.
+/// app, how many entries the tables have, and what was counted.
 pub fn push_run(
     out: &mut String,
-    buffer: &mut Vec<u8>,
     idle: u32,
     script: &[App],
     apps: &[AppState],
-    entries: &[Entry],
-    bytes: &[u8],
+    journal: &Journal,
     totals: &Totals,
 ) -> Result<(), AllocError>
     ensures { OnOk result (string_bytes out.new ≡ string_bytes out.old
-        ++ joined (run_texts idle (script_of script.now) apps.now entries.now bytes.now totals.now)) }
+        ++ joined (run_texts idle (script_of script.now) apps.now journal.now.entries journal.now.bytes totals.now)) }
 {
-    push_apps(out, idle, script, apps, entries)?;
-    push_connections(out, buffer, script, entries, bytes)?;
+    push_apps(out, idle, script, apps, journal.entries())?;
+    push_connections(out, script, journal)?;
     push_totals(out, totals)
 }
 
@@ -147,24 +143,13 @@ pub fn report_text(
     idle: u32,
     script: &[App],
     apps: &[AppState],
-    entries: &[Entry],
-    bytes: &[u8],
+    journal: &Journal,
     totals: &Totals,
 ) -> Result<String, AllocError>
     ensures { IfOk result (λ text. string_bytes text
-        ≡ joined (run_texts idle (script_of script.now) apps.now entries.now bytes.now totals.now)) }
+        ≡ joined (run_texts idle (script_of script.now) apps.now journal.now.entries journal.now.bytes totals.now)) }
 {
     let mut text = String::new(alloc);
-    let mut buffer = Vec::new(alloc);
-    push_run(
-        &mut text,
-        &mut buffer,
-        idle,
-        script,
-        apps,
-        entries,
-        bytes,
-        totals,
-    )?;
+    push_run(&mut text, idle, script, apps, journal, totals)?;
     Ok(text)
 }

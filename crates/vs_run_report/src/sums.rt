@@ -1,34 +1,23 @@
-//! What was sent and received on a connection, by a journal.
+//! How many bytes were sent on a connection, by a journal.
 
-ghost use Rattle.std.specs.Prelude.{◌≡◌, IfOk, List, ℕ, length};
-ghost use Rattle.laws_driver.specs.Carried.Calls.{received_by};
+ghost use Rattle.std.specs.Prelude.{◌≡◌, List, ℕ, length};
 ghost use Rattle.vs_script.specs.App.{instruction_view};
-ghost use Rattle.vs_apps_parts.specs.{Journals.{calls_of, data_at, data_in, sent_as}, Scripts.{acts_of, script_of, slice_of}};
-ghost use Rattle.vs_run_report.specs.{Connections.capped, Sums.{given_by, given_in, sent_by, sent_number, took_number}};
+ghost use Rattle.vs_apps_parts.specs.{Journals.{calls_of, data_at, data_in, sent_as}, Scripts.{acts_of, script_of}};
+ghost use Rattle.vs_run_report.specs.{Connections.capped, Sums.{sent_by, sent_number, took_number}};
 
-use std::alloc::AllocError;
 use vs_apps_parts::journal::{Called, Deed, Entry};
 use vs_driver_parts::answers::{ConnId, Sent};
 use vs_script::{App, Instruction};
 
-/// How many bytes were sent on a connection, and those that were received on it, which take the place of what the buffer held.
-pub fn add_up(
-    id: ConnId,
-    script: &[App],
-    entries: &[Entry],
-    bytes: &[u8],
-    received: &mut Vec<u8>,
-) -> Result<u64, AllocError>
-    ensures sent { IfOk result (λ sent. sent ≡ capped (length (sent_as id (calls_of (script_of script.now) bytes.now entries.now)))) }
-    ensures received { IfOk result (λ sent. received.new.items ≡ received_by id (calls_of (script_of script.now) bytes.now entries.now)) }
+/// How many bytes were sent on a connection. The count stands still at the last number of 64 bits.
+pub fn sent_on(id: ConnId, script: &[App], entries: &[Entry]) -> u64
+    ensures { (bytes : List ℕ) → result ≡ capped (length (sent_as id (calls_of (script_of script.now) bytes entries.now))) }
 {
-    received.clear();
     let mut sent = 0u64;
     for entry in entries {
         sent = sent.saturating_add(sent_by(id, script, *entry) as u64);
-        received.extend_from_slice(given_by(id, bytes, *entry))?;
     }
-    Ok(sent)
+    sent
 }
 
 // How many bytes an entry tells that a send took.
@@ -98,43 +87,4 @@ fn data_len_in(instruction: &Instruction) -> usize
         Instruction::Exchange { content } => content.len(),
         _ => 0,
     }
-}
-
-// The bytes that an entry tells that a receive gave.
-fn given_by(id: ConnId, bytes: &[u8], entry: Entry) -> &[u8]
-    ensures { result.now ≡ given_by id bytes.now entry }
-{
-    match entry.deed {
-        Deed::Called(called) => given_in(id, bytes, called),
-        Deed::Waited { times: _, why: _ } => &[],
-    }
-}
-
-// The bytes that a call gave.
-fn given_in(id: ConnId, bytes: &[u8], called: Called) -> &[u8]
-    ensures { result.now ≡ given_in id bytes.now called }
-{
-    match called {
-        Called::Recv {
-            id: other,
-            len: _,
-            from,
-            answer,
-        } => {
-            if id == other {
-                slice_of(from, answer.count(), bytes)
-            } else {
-                &[]
-            }
-        }
-        _ => &[],
-    }
-}
-
-// Of the bytes from a place on the first ones.
-fn slice_of(from: usize, len: usize, bytes: &[u8]) -> &[u8]
-    ensures { result.now ≡ slice_of from len bytes.now }
-{
-    let rest = &bytes[from.min(bytes.len())..];
-    &rest[..len.min(rest.len())]
 }

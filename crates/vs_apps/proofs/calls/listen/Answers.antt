@@ -11,7 +11,7 @@ returns-clause-ring c = λ n flown staged. ring_same n flown staged _ _
     (listen_stays c.args.port _ _ c.listen-answer.result c.listen-answer.ensures.listens c.listen-answer.ensures.unchanged)
 
 pub returns-clause-calls : goal.returns-clause-calls
-returns-clause-calls c = λ script ring apps bytes. calls_as script c.args.app (call.Listen c.args.port) c.listen-answer.result
-    (called.Listen c.args.port c.listen-answer.result) c.listen-answer.new.self _ _ bytes refl (omega arith) tt refl _ ring ring apps _ refl
+returns-clause-calls c = λ script ring apps. calls_as script c.args.app (call.Listen c.args.port) c.listen-answer.result
+    (called.Listen c.args.port c.listen-answer.result) c.listen-answer.new.self _ _ c.args.journal.now.bytes refl (omega arith) tt refl _ ring ring apps _ _ refl
     (listen_plays c.args.port _ _ _ ring c.listen-answer.ensures.answer c.listen-answer.ensures.listens c.listen-answer.ensures.unchanged)
-    (c.note_called.ensures.told script bytes) c.note_called.ensures.noted
+    (c.note_call.ensures.told script c.args.journal.now.bytes) c.note_call.ensures.entries c.note_call.ensures.bytes

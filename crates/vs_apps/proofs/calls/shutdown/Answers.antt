@@ -12,7 +12,7 @@ returns-clause-ring c = λ n flown staged. ring_same n flown staged _ _
     (subst (SamePages c.args.driver.now) (sym c.shutdown-answer.ensures.state) (shutdown_stays c.args.id c.args.bits c.args.driver.now))
 
 pub returns-clause-calls : goal.returns-clause-calls
-returns-clause-calls c = λ script ring apps bytes. calls_as script c.args.app (call.Shutdown c.args.id c.args.bits) c.shutdown-answer.result
-    (called.Shutdown c.args.id c.args.bits c.shutdown-answer.result) c.shutdown-answer.new.self _ _ bytes refl (omega arith) tt refl _ ring ring apps _ refl
+returns-clause-calls c = λ script ring apps. calls_as script c.args.app (call.Shutdown c.args.id c.args.bits) c.shutdown-answer.result
+    (called.Shutdown c.args.id c.args.bits c.shutdown-answer.result) c.shutdown-answer.new.self _ _ c.args.journal.now.bytes refl (omega arith) tt refl _ ring ring apps _ _ refl
     (shutdown_plays c.args.id c.args.bits _ _ _ ring c.shutdown-answer.ensures.answer c.shutdown-answer.ensures.state)
-    (c.note_called.ensures.told script bytes) c.note_called.ensures.noted
+    (c.note_call.ensures.told script c.args.journal.now.bytes) c.note_call.ensures.entries c.note_call.ensures.bytes

@@ -1,13 +1,13 @@
-use Rattle.std.proofs.Common.{rules}
-use Rattle.vs_driver.proofs.RingPages.{ring_same}
-use Rattle.laws_apps.proofs.Receives.{recv_as}
+use Rattle.std.proofs.{Common.{◌≡◌, ◌≤◌, ℕ, length, subst, arith, rules}, lemmas.List.length-take-le}
+use Rattle.vs_apps_parts.specs.declared.progress.TheConstants.{SLICE}
+use Rattle.laws_apps.specs.Calls.{CallsAs, run_of}
+use Rattle.laws_driver.specs.Carried.Calls as call
 use Rattle.vs_apps.proofs.receiving.recv.Goals as goal
 
 pub returns-clause-calls : goal.returns-clause-calls
-returns-clause-calls c = λ script ring apps. recv_as script c.args.app c.args.id c.args.len c.len-from.result c.args.driver.now c.receive-answer.new.driver
-    c.receive-answer.result c.args.bytes.now.items c.receive-answer.new.bytes.items c.receive-answer.ensures.made (search (rules, c.len-from.ensures, c.type_inv.bytes))
-    c.args.entries.now.items c.note_called.new.entries.items c.note_called.result ring apps
-    (c.note_called.ensures.told script c.receive-answer.new.bytes.items) c.note_called.ensures.noted
-
-pub returns-clause-ring : goal.returns-clause-ring
-returns-clause-ring c = λ n flown staged. ring_same n flown staged _ _ c.receive-answer.ensures.pages
+returns-clause-calls c = λ script ring apps.
+    let long : length c.args.buffer.now ≡ SLICE = search rules in
+    let within : c.args.len ≤ length c.args.buffer.now = omega (arith, long, c.requires.few) in
+    subst (λ (n : ℕ). CallsAs script c.args.app (call.Recv c.args.id n) c.receive_by.result
+    (run_of c.args.driver.now ring apps c.args.journal.now) (run_of c.receive_by.new.driver ring apps c.receive_by.new.journal))
+    (length-take-le c.args.len c.args.buffer.now within) (c.receive_by.ensures.calls script ring apps)

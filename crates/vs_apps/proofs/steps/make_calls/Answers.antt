@@ -10,22 +10,22 @@ use Rattle.vs_apps.proofs.steps.make_calls.Goals as goal
 pub returns-in-Connect-clause-calls : goal.returns-in-Connect-clause-calls
 returns-in-Connect-clause-calls g c = λ script apps found.
     made_for script c.args.app c.args.instruction.now (code.Connect c.in-Connect.port) c.args.progress _ _ _ _ _ c.in-Connect.is refl c.one.ensures
-    (one_made script c.args.app _ c.ask.result _ _ (c.ask.ensures.calls script apps c.args.journal.now.bytes.items))
+    (one_made script c.args.app _ c.ask.result _ _ (c.ask.ensures.calls script apps))
 
 pub returns-in-Listen-clause-calls : goal.returns-in-Listen-clause-calls
 returns-in-Listen-clause-calls g c = λ script apps found.
     made_for script c.args.app c.args.instruction.now (code.Listen c.in-Listen.port) c.args.progress _ _ _ _ _ c.in-Listen.is refl c.one-in-Listen.ensures
-    (one_made script c.args.app _ c.listen.result _ _ (c.listen.ensures.calls script (g.R.DriverRing.contents c.args.ring.now) apps c.args.journal.now.bytes.items))
+    (one_made script c.args.app _ c.listen.result _ _ (c.listen.ensures.calls script (g.R.DriverRing.contents c.args.ring.now) apps))
 
 pub returns-in-Accept-clause-calls : goal.returns-in-Accept-clause-calls
 returns-in-Accept-clause-calls g c = λ script apps found.
     made_for script c.args.app c.args.instruction.now (code.Accept c.in-Accept.port) c.args.progress _ _ _ _ _ c.in-Accept.is refl c.one-in-Accept.ensures
-    (one_made script c.args.app _ c.accept.result _ _ (c.accept.ensures.calls script (g.R.DriverRing.contents c.args.ring.now) apps c.args.journal.now.bytes.items))
+    (one_made script c.args.app _ c.accept.result _ _ (c.accept.ensures.calls script (g.R.DriverRing.contents c.args.ring.now) apps))
 
 pub returns-in-Send-clause-calls : goal.returns-in-Send-clause-calls
 returns-in-Send-clause-calls g c = λ script apps found.
     made_for script c.args.app c.args.instruction.now (code.Send c.in-Send.content) c.args.progress _ _ _ _ _ c.in-Send.is refl c.one-in-Send.ensures
-    (one_made script c.args.app _ c.send_next.result _ _ (c.send_next.ensures.calls script apps c.args.journal.now.bytes.items
+    (one_made script c.args.app _ c.send_next.result _ _ (c.send_next.ensures.calls script apps
     (data_of script c.args.app c.args.progress.at c.args.instruction.now (code.Send c.in-Send.content) found c.in-Send.is)))
 
 pub returns-in-Recv-clause-calls : goal.returns-in-Recv-clause-calls
@@ -41,23 +41,23 @@ returns-in-Drain-clause-calls g c = λ script apps found.
 pub returns-in-Shutdown-clause-calls : goal.returns-in-Shutdown-clause-calls
 returns-in-Shutdown-clause-calls g c = λ script apps found.
     made_for script c.args.app c.args.instruction.now (code.Shutdown c.in-Shutdown.bits) c.args.progress _ _ _ _ _ c.in-Shutdown.is (ap (λ (id : ℕ). let cs : List GuestCall = call.Shutdown id c.in-Shutdown.bits ∷ [] in cs) (sym c.id-id.ensures)) c.one-in-Shutdown.ensures
-    (one_made script c.args.app _ c.shutdown.result _ _ (c.shutdown.ensures.calls script (g.R.DriverRing.contents c.args.ring.now) apps c.args.journal.now.bytes.items))
+    (one_made script c.args.app _ c.shutdown.result _ _ (c.shutdown.ensures.calls script (g.R.DriverRing.contents c.args.ring.now) apps))
 
 pub returns-in-Grow-clause-calls : goal.returns-in-Grow-clause-calls
 returns-in-Grow-clause-calls g c = λ script apps found.
     made_for script c.args.app c.args.instruction.now (code.Grow c.in-Grow.alloc) c.args.progress _ _ _ _ _ c.in-Grow.is (ap (λ (id : ℕ). let cs : List GuestCall = call.Grow id c.in-Grow.alloc ∷ [] in cs) (sym c.id-id.ensures)) c.one-in-Grow.ensures
-    (one_made script c.args.app _ c.grow.result _ _ (c.grow.ensures.calls script (g.R.DriverRing.contents c.args.ring.now) apps c.args.journal.now.bytes.items))
+    (one_made script c.args.app _ c.grow.result _ _ (c.grow.ensures.calls script (g.R.DriverRing.contents c.args.ring.now) apps))
 
 pub returns-in-Close-clause-calls : goal.returns-in-Close-clause-calls
 returns-in-Close-clause-calls g c = λ script apps found.
     made_for script c.args.app c.args.instruction.now code.Close c.args.progress _ _ _ _ _ c.in-Close.is (ap (λ (id : ℕ). let cs : List GuestCall = call.Close id ∷ [] in cs) (sym c.id-id.ensures)) c.one-in-Close.ensures
-    (one_made script c.args.app _ c.close.result _ _ (c.close.ensures.calls script (g.R.DriverRing.contents c.args.ring.now) apps c.args.journal.now.bytes.items))
+    (one_made script c.args.app _ c.close.result _ _ (c.close.ensures.calls script (g.R.DriverRing.contents c.args.ring.now) apps))
 
 pub returns-in-Exchange-clause-calls : goal.returns-in-Exchange-clause-calls
 returns-in-Exchange-clause-calls g c = λ script apps found.
     made_for script c.args.app c.args.instruction.now (code.Exchange c.in-Exchange.content) c.args.progress _ _ _ _ _ c.in-Exchange.is refl refl
     (both_made script c.args.app _ _ _ _ _ _ _
-    (c.send_left-first.ensures.calls script apps c.args.journal.now.bytes.items
+    (c.send_left-first.ensures.calls script apps
     (data_of script c.args.app c.args.progress.at c.args.instruction.now (code.Exchange c.in-Exchange.content) found c.in-Exchange.is))
     (made_same script c.args.app _ _ _ _ _
     (ap (λ (n : ℕ). let cs : List GuestCall = if nat_lt c.args.progress.got n then recv_next n c.args.progress ∷ [] else [] in cs) c.len.ensures.size)

@@ -1,5 +1,6 @@
-use Rattle.std.proofs.Common.{Some, ap, string_bytes, subst, sym, ◌∙◌}
-use Rattle.laws_settled.specs.Begun.{start_with}
+use Rattle.std.proofs.{Common.{Some, ap, refl, string_bytes, subst, sym, ◌∙◌}, lemmas.List.Elements.All-nil}
+use Rattle.vs_outside.specs.HostProgram.{HostMemory}
+use Rattle.laws_settled.specs.Begun.{IsUnlabelled, start_with}
 use Rattle.vs_apps_parts.specs.Scripts.{AreRight}
 use Rattle.vs_run_report.specs.Load.{load_script}
 use Rattle.vs_load.specs.Loads.{IsOver}
@@ -7,6 +8,10 @@ use Rattle.vs_load.proofs.load.load.Goals as goal
 
 pub load_under-requires-clause-right : goal.load_under-requires-clause-right
 load_under-requires-clause-right g c κs within = subst AreRight (sym c.in_ok-script.ensures.apps) c.law_of_loads.ensures
+
+pub load_under-requires-clause-unlabelled : goal.load_under-requires-clause-unlabelled
+load_under-requires-clause-unlabelled g c κs within =
+    subst (λ (m : HostMemory). IsUnlabelled m.contents) (sym c.in_ok-host.ensures) (refl, All-nil _)
 
 pub returns : goal.returns
 returns g c =

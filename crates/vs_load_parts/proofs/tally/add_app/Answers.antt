@@ -1,13 +1,12 @@
-use Rattle.std.{proofs.{Common.{◌+◌, Option, ap, ◌∙◌, take}, lemmas.List.take_more}, specs.List.fold}
-use Rattle.vs_apps_parts.specs.{Journals.calls_of, Scripts.script_of}
-use Rattle.vs_run_report.specs.{Connections.{listed, opened_by}, declared.connection.Opened.Opened}
-use Rattle.vs_load_parts.{specs.Line.adds, proofs.Tallies.fold_next}
+use Rattle.std.{proofs.Common.{List, ap, ◌∙◌}, specs.List.fold}
+use Rattle.vs_apps_parts.specs.{Journals.calls_of, Scripts.script_of, declared.journal.Entry.Entry}
+use Rattle.vs_run_report.specs.Connections.{opened_of}
+use Rattle.vs_load_parts.specs.Line.{counts}
 use Rattle.vs_load_parts.proofs.tally.add_app.Goals as goal
 
-pub loop-entry-preserved : goal.loop-entry-preserved
-loop-entry-preserved c =
-    let i = c.loop-entry.entry-index in
-    let f = adds (calls_of (script_of c.args.script.now) c.args.bytes.now c.args.entries.now) in
-    fold_next f (λ e. listed (opened_by c.args.app e)) c.args.before c.loop-entry.tally _ (take i c.args.entries.now)
-    (take (i + 1) c.args.entries.now) _ (take_more c.args.entries.now i _ c.loop-entry-test.true) c.loop-entry.invariant
-    (c.in_ok-tally.ensures ∙ ap (λ (o : Option Opened). fold f c.loop-entry.tally (listed o)) c.opened_by.ensures)
+pub returns : goal.returns
+returns c =
+    let journal = c.args.journal.now in
+    c.add_all_opened.ensures
+    ∙ ap (λ (es : List Entry). fold (counts (calls_of (script_of c.args.script.now) journal.bytes journal.entries)) c.args.before (opened_of c.args.app es))
+    c.entries.ensures

@@ -6,6 +6,6 @@ use Rattle.vs_run_report.proofs.report.push_connections.Goals as goal
 pub loop-k-preserved : goal.loop-k-preserved
 loop-k-preserved c =
     lines_next (string_bytes c.args.out.now) (string_bytes c.loop-k.out) (string_bytes c.push_connections_of.new.out)
-    (opened_text (calls_of (script_of c.args.script.now) c.args.bytes.now c.args.entries.now)) (λ k. opened_of k c.args.entries.now)
+    (opened_text (calls_of (script_of c.args.script.now) c.args.journal.now.bytes c.args.journal.now.entries)) (λ k. opened_of k c.args.journal.now.entries)
     (range_with_len 0 c.loop-k.k) (range_with_len 0 (c.loop-k.k + 1)) c.loop-k.k (range_more c.loop-k.k) c.loop-k.invariant
     c.in_ok-push_connections_of.ensures

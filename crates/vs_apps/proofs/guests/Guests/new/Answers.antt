@@ -1,10 +1,10 @@
-use Rattle.std.proofs.{Common.{◌≡◌, ℕ, List, [], length, sym, ap, subst, ◌∙◌, arith, refl, rules, None}, lemmas.List.length-map}
+use Rattle.std.proofs.{Common.{◌≡◌, ℕ, [], length, sym, ap, subst, ◌∙◌, arith, refl, rules, None}, lemmas.List.length-map}
 use Rattle.vs_limits.specs.declared.TheConstants.{FIRST_CID}
 use Rattle.vs_script.specs.App.{app_view}
 use Rattle.vs_ring_shared.specs.{Meetings.what_it_did, Sights.{Sight, driver_contents}}
 use Rattle.laws_driver.specs.Honest.{IsFresh}
-use Rattle.vs_apps_parts.specs.{Scripts.RunScript, declared.{journal.Entry.Entry, progress.{AppState.AppState, Progress.Progress}}}
-use Rattle.vs_apps.{specs.Guests.AreGuests, proofs.Guarding.{first_loaded, fresh_end, guests_hear, new_guests}}
+use Rattle.vs_apps_parts.specs.{Scripts.RunScript, Sums.JournalState, declared.progress.{AppState.AppState, Progress.Progress}}
+use Rattle.vs_apps.{specs.Guests.{AreGuests, guests_with}, proofs.Guarding.{first_loaded, fresh_end, guests_hear, new_guests}}
 use Rattle.vs_apps.proofs.guests.Guests.new.Goals as goal
 
 pub returns-in_err-driver-clause-told : goal.returns-in_err-driver-clause-told
@@ -33,11 +33,7 @@ invariant_of-result g c =
     let heard : AreGuests first script (record { driver = driver; end = c.note.new.driver; apps = apps; entries = []; bytes = [] }) =
     subst (λ (s : Sight). AreGuests first script (record { driver = driver; end = s; apps = apps; entries = []; bytes = [] })) (sym c.note.ensures.driver)
     (guests_hear first script (record { driver = driver; end = c.new_at.new.ring; apps = apps; entries = []; bytes = [] }) all
-    (what_it_did c.args.device.now.sight)) in
-    let with_entries : AreGuests first script (record { driver = driver; end = c.note.new.driver; apps = apps; entries = c.new.result.items; bytes = [] }) =
-    subst (λ (es : List Entry). AreGuests first script (record { driver = driver; end = c.note.new.driver; apps = apps; entries = es; bytes = [] }))
-    (sym c.new.ensures.items) heard in (
+    (what_it_did c.args.device.now.sight)) in (
       c.requires.script,
-      subst (λ (bs : List ℕ). AreGuests first script (record { driver = driver; end = c.note.new.driver; apps = apps; entries = c.new.result.items; bytes = bs }))
-          (sym c.new-2.ensures.items) with_entries,
+      subst (λ (j : JournalState). AreGuests first script (guests_with driver c.note.new.driver apps j)) (sym c.new.ensures) heard,
     )
