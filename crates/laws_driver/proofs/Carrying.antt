@@ -79,8 +79,7 @@ pub record Carries (hosts : Bool) (first : ℕ) (fact : Fact) : Type 0 where
       → Matches Driver first (ends_of_state s) log → IsFairLog Driver log → IsFairLog Driver (GotPacket p ∷ log) → Holds fact s log
       → Holds fact (on_packet p s) (GotPacket p ∷ log)
   pub event : (id : ℕ) (s : DriverState) (log : Log) → Holds fact s log → Holds fact s (GotEvent id ∷ log)
-  pub reset : (cid : ℕ) (s : DriverState) (log : Log) → cid < 2 ^ 64 → IsFitState hosts s → Matches Driver first (ends_of_state s) log
-      → IsFairLog Driver log → Holds fact s log
+  pub reset : (cid : ℕ) (s : DriverState) (log : Log) → cid < 2 ^ 64 → IsFitState hosts s → Holds fact s log
       → Holds fact (after_reset cid s) (Mark cid ∷ log)
 
 pub carries_nothing : (hosts : Bool) (first : ℕ) → Carries hosts first nothing
@@ -89,5 +88,5 @@ carries_nothing hosts first = record {
   reply = λ r rest s log fits is m fair held. tt;
   got = λ p s log fits ports whole m was fair held. tt;
   event = λ id s log held. tt;
-  reset = λ cid s log less fits m was held. tt;
+  reset = λ cid s log less fits held. tt;
 }

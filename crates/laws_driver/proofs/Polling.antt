@@ -11,7 +11,7 @@ use Rattle.vs_page.proofs.Holding.{packet_whole}
 use Rattle.vs_replies.specs.declared.Reply.{Reply}
 use Rattle.vs_ring_port.specs.{EndLog.{EndLog, entries_marked, log_loaded, log_reaped, with_event, with_packet}, declared.queue.Queue.{TheVariants.{Rx, Tx, Event}, Queue}}
 use Rattle.vs_ring_port.specs.{Contents.RingContents, DriverCalls.{Reap, LoadCid}}
-use Rattle.laws_tables.{specs.{Matches.Matches, Steps.{owed_on, reply_on}}, proofs.{Keeps.takes_event, Slots.found_by}}
+use Rattle.laws_tables.{specs.Steps.{owed_on, reply_on}, proofs.{Keeps.takes_event, Slots.found_by}}
 use Rattle.vs_driver_parts.specs.Conversations.{DriverTree, Round, after_paying, all_taken, event_reaped, event_taken, goes_on_with, has_page, one_put, owed_bytes, packet_reaped}
 use Rattle.vs_driver_parts.specs.Conversations.{pay_all, pay_and_publish, pay_slot, poll_of, poll_packets, poll_puts, poll_reaps, polled, publish_and_pay, publish_of, published}
 use Rattle.vs_driver_parts.specs.Conversations.{put_all, put_owed, put_owed_of, put_replies, put_reply, put_reply_of, reap_all, reply_header, stage_of, stage_packet, staged_again}
@@ -87,12 +87,10 @@ loads_with hosts first fact steps cid s l less with =
     let r = resets cid s less fits in
     let marked : entries_marked cid l.entries ≡ Mark cid ∷ GotEvent 0 ∷ left.0 = ap (entries_marked cid) left.1 in
     let here : entries_marked cid l.entries ≡ Mark cid ∷ l.entries = marked ∙ ap (λ (log : Log). Mark cid ∷ log) (sym left.1) in
-    let matched = takes_event Driver first 0 (ends_of_state s) left.0 left.2.matches in
-    let fair : IsFairLog Driver (GotEvent 0 ∷ left.0) = subst (λ (log : Log). IsFairLog Driver log) left.1 left.3 in
     let now : IsLeft hosts first (after_reset cid s).broken (ends_of_state (after_reset cid s)) [] (Mark cid ∷ GotEvent 0 ∷ left.0) = record {
       none_refused = λ all. r.broken ∙ left.2.none_refused all;
-      matches = r.matches first (GotEvent 0 ∷ left.0) matched;
-      fair = fair;
+      matches = r.matches first (GotEvent 0 ∷ left.0) (takes_event Driver first 0 (ends_of_state s) left.0 left.2.matches);
+      fair = subst (λ (log : Log). IsFairLog Driver log) left.1 left.3;
       marks = (refl, left.2.marks);
     } in (
       (
@@ -100,8 +98,7 @@ loads_with hosts first fact steps cid s l less with =
         subst (λ (log : Log). IsLeft hosts first (after_reset cid s).broken (ends_of_state (after_reset cid s)) [] log) (sym marked) now,
         with.0.2,
       ),
-      subst (λ (log : Log). Holds fact (after_reset cid s) log) (sym here) 
-          (steps.reset cid s l.entries less fits (subst (λ (log : Log). Matches Driver first (ends_of_state s) log) (sym left.1) matched) left.3 with.1),
+      subst (λ (log : Log). Holds fact (after_reset cid s) log) (sym here) (steps.reset cid s l.entries less fits with.1),
     )
 
 module _ (hosts : Bool) (first : ℕ) (fact : Fact) (steps : Carries hosts first fact) where

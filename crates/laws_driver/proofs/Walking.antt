@@ -24,7 +24,7 @@ module _ (hosts : Bool) (first : ℕ) (w : Seat) where
         let g = gets_packet hosts first p s log fits ports whole m fair in
         goes_on Driver w (seat s log) _ (Takes p g.answer) tt (at_log _ _ _ (sym g.ends)) goes;
     event = λ id s log goes. goes_on Driver w (seat s log) _ (TakesEvent id) refl refl goes;
-    reset = λ cid s log less fits m was goes. goes_on Driver w (seat s log) _ (TakesReset cid) refl (at_log _ _ _ (sym (resets cid s less fits).ends)) goes;
+    reset = λ cid s log less fits goes. goes_on Driver w (seat s log) _ (TakesReset cid) refl (at_log _ _ _ (sym (resets cid s less fits).ends)) goes;
   }
 
   pub connect_goes : (peer to : ℕ) → peer < 2 ^ 64 → to < 2 ^ 32 → (hosts ≡ true → peer ≡ HOST_CID)

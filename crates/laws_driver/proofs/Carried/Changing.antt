@@ -42,7 +42,7 @@ module _ (a : Account) (log : Log) (s : DriverState) (x : AreReceived a log (slo
       → AreReceived a log (with_connection_in e.slot c (slots_of s))
   alters e c sound there same goes over =
       changed_received a a.received log log e [] [] (λ id. given_none (id == e.value.id) (a.received id)) (λ k. given_none _ (payload_got Driver k log))
-      (λ f. refl) (λ k past over. (refl, over)) (slots_of s) x sound there c same goes over
+      (λ f. refl) (([], refl), λ k past over. (refl, over)) (slots_of s) x sound there c same goes over
 
   pub puts_and_alters : (p : Packet) (e : DriverEntry) (c : DriverConnection) → is_request p ≡ false → IsFairLog Driver (PutPacket p ∷ log)
       → IsTable s.table → Contains s.table.entries e → c.id ≡ e.value.id → Goes (keeps_all e.value) (keeps_all c) e.value.unread c.unread [] []

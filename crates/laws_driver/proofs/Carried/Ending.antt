@@ -7,7 +7,7 @@ use Rattle.vs_ring_port.specs.Contents.{RingContents}
 use Rattle.vs_driver_parts.specs.{declared.answers.{ConnectError.ConnectError, Polled.Polled, Sent.Sent}, Conversations.{connect_of, new_of, new_state, poll_of, send_of}}
 use Rattle.vs_driver_parts.specs.{Playing.Plays, State.DriverState}
 use Rattle.laws_driver.proofs.{Polling.poll_keeps, Calls.{connect_keeps, new_keeps, send_keeps}, Carrying.Fact, Keeping.keeps_end, Ringing.at_rest, Staging.Rests}
-use Rattle.laws_driver.{proofs.Carried.{Connecting.{connect_carries, none_received}, Delivering.none_passed, Polling.{Further, poll_carries}, Changing.send_receives}, specs.Honest.{IsFresh, IsHonestWith}}
+use Rattle.laws_driver.{proofs.Carried.{Connecting.{connect_carries, none_received}, Polling.{Further, poll_carries}, Changing.send_receives}, specs.Honest.{IsFresh, IsHonestWith}}
 use Rattle.laws_driver.specs.{Honest.slots_of, Carried.{Received.{Account, AreReceived, GoesOnWith, IsReceivedWith, no_account}, Senders.{IsRightJournal, IsRightWith}}}
 
 abbrev pub received_by : Account → Fact
@@ -42,10 +42,14 @@ connect_ends first host a s c d x port honest account plays = λ on l is.
     (kept on l is).1
 
 -- Nothing was sent before the first call.
+none_put : (side : Side) (k : ℕ) → payload_of (instance_from side k []) ≡ []
+none_put Asker k = refl
+none_put Answerer k = refl
+
 pub none_righted : (size port id : ℕ) → IsRightJournal id (no_account id).opened [] [] (slots_of (new_state size port id 0))
 none_righted size port id = record {
   received = none_received size port id;
-  sent = record { senders = tt; puts = λ k. none_passed (side_of Driver k.flow) k.number };
+  sent = record { senders = tt; puts = λ k. none_put (side_of Driver k.flow) k.number };
 }
 
 abbrev starts : ℕ → Fact

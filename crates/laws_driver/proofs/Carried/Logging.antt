@@ -9,8 +9,8 @@ use Rattle.vs_page.specs.{Fair.{IsFairLog, IsPrefixOf, asked_by, current, number
 use Rattle.vs_page.proofs.{Flows.{same_is, same_self, still}, PayloadLogs.got_stays}
 use Rattle.vs_driver_parts.{proofs.Numbers.{numbers_left, numbers_with_entry, numbers_without}, specs.{Connections.{gone_as, is_let_go}, Held.HeldSlots, State.{DriverConnection, DriverEntry, GoneConnection}}}
 use Rattle.laws_tables.{specs.Drains.Drains, proofs.{Changes.{others_left, under_slot}, Logs.{all_of, nothing_more, prefix_then}}}
-use Rattle.laws_driver.specs.Carried.Received.{Account, AreReceived, EndsClean, GetsNoMore, GoesOn, ReceivedOn, ReceivesOn, got_until_reset, keeps_all, with_opened}
-use Rattle.laws_driver.proofs.Carried.{Delivering.{IsThrough, Lasts, got_lasts}, Receiving.{apart_by, in_slots, number_same}}
+use Rattle.laws_driver.specs.Carried.Received.{Account, AreReceived, DrainsTo, EndsClean, GoesOn, ReceivedOn, ReceivesOn, keeps_all, with_opened}
+use Rattle.laws_driver.proofs.Carried.{Delivering.{IsThrough, Lasts, drains_on, got_lasts}, Receiving.{apart_by, in_slots, number_same}}
 
 -- What more entries leave: the payload of each connection grows, and so do the numbers; on the flows of the table nothing is new.
 pub record Leaves (log new : Log) (e : DriverEntry) : Type 0 where
@@ -32,9 +32,7 @@ module _ (a : Account) (log new : Log) (grows : (c : Connection) → IsPrefixOf 
       }
 
   later_gone : (g : GoneConnection) → (a.opened g.id).number ≤ number_of Driver (a.opened g.id).flow log → ReceivedOn a log g → ReceivedOn a new g
-  later_gone g past x =
-      let last = lasts (a.opened g.id) past x.over in
-      record { flow = x.flow; some = x.some; drains = subst (Drains (not g.end.own.receive) (a.received g.id) g.unread) (sym last.0) x.drains; over = last.1 }
+  later_gone g past x = record { flow = x.flow; some = x.some; drains = drains_on _ _ _ _ _ _ lasts past x.drains }
 
   pub later_received : (slots : HeldSlots) → All (Leaves log new) slots.table.entries → AreReceived a log slots → AreReceived a new slots
   later_received slots leaves x = record {
@@ -103,17 +101,19 @@ module _ (a : Account) (log : Log) (slots : HeldSlots) (x : AreReceived a log sl
         let P : Bool → Shut → List ℕ → Type 0 =
         λ closed shut came. Drains (not (closed && not (is_open e.value.end.state) || shut.receive)) (a.received e.value.id) e.value.unread came in
         let all : List ℕ = payload_got Driver (current Driver e.flow log) log in
-        let now : P false end.own (got_until_reset (current Driver e.flow log) log) =
-        subst (P false end.own) (sym through.0)
-        (subst (λ (shut : Shut). P false shut all) (sym own) (subst (λ (closed : Bool). P closed e.value.end.own all) unclosed old.drains)) in
+        let now : DrainsTo (not end.own.receive) (a.received e.value.id) e.value.unread (current Driver e.flow log) log = (
+          through.0,
+          through.1,
+          subst (P false end.own) through.2
+              (subst (λ (shut : Shut). P false shut all) (sym own) (subst (λ (closed : Bool). P closed e.value.end.own all) unclosed old.drains)),
+        ) in
         in_slots a log slots (record slots { table = without slots.table e.slot; gone = slots.gone ++ g ∷ [] }) x refl
         (numbers_left a.first_id slots.next_port slots.next_id slots.table slots.gone x.numbers e g sound (under_slot slots.table sound e there) refl)
         without_received.held
         (All-push (ReceivedOn a log) slots.gone g x.left (record {
           flow = ap (λ (c : Connection). c.flow) old.present;
           some = subst (λ (c : Connection). 1 ≤ c.number) (sym old.present) old.some;
-          drains = subst (λ (c : Connection). Drains (not end.own.receive) (a.received e.value.id) e.value.unread (got_until_reset c log)) (sym old.present) now;
-          over = subst (λ (c : Connection). GetsNoMore c log) (sym old.present) through.1;
+          drains = subst (λ (c : Connection). DrainsTo (not end.own.receive) (a.received e.value.id) e.value.unread c log) (sym old.present) now;
         }))
 
     pub leaves_received : (b : Bool) → is_let_go e.value ≡ b → (e.value.closed ≡ false → EndsClean e.value → IsThrough e.flow log)
@@ -170,16 +170,12 @@ module _ (a : Account) (log new : Log) (slots : HeldSlots) (f : Flow) (c : Drive
       }
 
   gone_still : (g : GoneConnection) → g.id ≢ slots.next_id → ReceivedOn a log g → ReceivedOn b new g
-  gone_still g other y =
-      let last = lasts (a.opened g.id) (x.passed g.id) y.over in
-      let same = sym (old_is g.id other) in
-      let drained : List ℕ → Type 0 = λ came. Drains (not g.end.own.receive) (a.received g.id) g.unread came in
-      record {
-        flow = ap (λ (k : Connection). k.flow) (old_is g.id other) ∙ y.flow;
-        some = subst (λ (k : Connection). 1 ≤ k.number) same y.some;
-        drains = subst (λ (k : Connection). drained (got_until_reset k new)) same (subst drained (sym last.0) y.drains);
-        over = subst (λ (k : Connection). GetsNoMore k new) same last.1;
-      }
+  gone_still g other y = record {
+    flow = ap (λ (k : Connection). k.flow) (old_is g.id other) ∙ y.flow;
+    some = subst (λ (k : Connection). 1 ≤ k.number) (sym (old_is g.id other)) y.some;
+    drains = subst (λ (k : Connection). DrainsTo (not g.end.own.receive) (a.received g.id) g.unread k new) (sym (old_is g.id other))
+        (drains_on _ _ _ _ _ _ lasts (x.passed g.id) y.drains);
+  }
 
   pub opened_received : AreReceived b new (record slots { next_port = port; next_id = slots.next_id + 1; last_id = slots.next_id; table = with_entry slots.table f c })
   opened_received = record {

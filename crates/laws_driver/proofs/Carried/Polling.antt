@@ -1,10 +1,10 @@
 -- A poll keeps the account, with the ids of the connections that it opens.
 use Rattle.laws_tables.proofs.{Adding.{number_got, number_put, got_over_put, got_adds}, Fair.{got_goes_on, got_not_refused, heard_all}, Slots.found_by, Tables.driver_begun}
-use Rattle.laws_tables.{proofs.{Fair.own_got_fair, Goes.{Goes, comes_in, only_delivered, stays_still}, Slots.one_end}, specs.{Drains.{only_on, receives}, Ends.is_new}}
+use Rattle.laws_tables.{proofs.{Fair.own_got_fair, Goes.{Goes, comes_in, only_delivered, stays_still}}, specs.{Drains.{only_on, receives}, Ends.is_new}}
 use Rattle.laws_tables.specs.{Matches.Matches, Steps.{HasEnd, owed_on, reply_on, is_kept}}
-use Rattle.std.proofs.Common.{◌≡◌, ◌≢◌, ℕ, ◌+◌, ◌<◌, ◌≤◌, ◌==◌, ◌&&◌, not, nat_le, suc, ◌⊎◌, inl, inr, Bool, true, false, cond, List, [], ◌∷◌, ◌++◌, get_or, Contains, Option, Some, None, refl, sym, ap, subst, ◌∙◌}
-use Rattle.std.{proofs.{Common.arith, lemmas.{Bool.Decides.nat_tests, Grind.common_steps, List.Elements.{All-contains, Contains-get_or}}}, specs.List.{All, filter, slice_get}}
-use Rattle.vs_conn.specs.{End.{ConnectionEnd, answering, end_after, is_refused, is_reset, owes_of, paid_of, verdict_of}, declared.end.{Owed.Owed, State.TheVariants.Ended, Verdict.Verdict}}
+use Rattle.std.proofs.Common.{◌≡◌, ◌≢◌, ℕ, ◌+◌, ◌<◌, ◌≤◌, ◌==◌, ◌&&◌, not, ◌⊎◌, inl, inr, Bool, true, false, cond, List, [], ◌∷◌, ◌++◌, Contains, Option, Some, None, refl, sym, ap, subst, ◌∙◌}
+use Rattle.std.{proofs.{Common.arith, lemmas.{Bool.Decides.nat_tests, Grind.common_steps, List.Elements.All-contains}}, specs.List.{All, filter, slice_get}}
+use Rattle.vs_conn.specs.{End.{ConnectionEnd, answering, end_after, is_refused, is_reset, owes_of, verdict_of}, declared.end.{Owed.Owed, State.TheVariants.Ended, Verdict.Verdict}}
 use Rattle.vs_conn.proofs.Frames.{got_own}
 use Rattle.vs_flow.specs.{Connection.Connection, CleanPairs.of_host, Flow.{host_asks, same_flow}, Table.{IsRising, IsTable, entry_of, without, Table}, declared.flow.Flow.Flow}
 use Rattle.vs_flow.proofs.Entries.{none_found, same_flow_false}
@@ -19,9 +19,9 @@ use Rattle.vs_driver_parts.specs.{Conversations.after_paying, Held.HeldSlots, St
 use Rattle.vs_driver_parts.specs.{Connections.{paid_connection, with_connection, with_request, waits_no_more, keeping}, Receiving.{after_packet, after_verdict, all_left}}
 use Rattle.vs_driver_parts.{specs.Receiving.{is_request, may_open, on_heard, on_known, on_packet, on_unknown, reset_reply, with_reply}, proofs.Ids.found_under}
 use Rattle.vs_driver_parts.proofs.Packets.{first_under, others_left, packet_known, packet_unknown}
-use Rattle.laws_driver.{specs.{Honest.{IsFitState, end_in, ends_of_state, slots_of}, Carried.Received.{Account, AreReceived, EndsClean, GoesOn, ReceivesOn}}}
-use Rattle.laws_driver.{specs.Carried.Received.{ends_payload, keeps_all, reset_number, with_opened}, proofs.Carrying.{Carries, Fact}}
-use Rattle.laws_driver.proofs.Carried.Delivering.{IsThrough, all_until, clean_got, event_lasts, got_lasts, mark_lasts, no_payload, over_marked, put_lasts, stands_alive, until_marked}
+use Rattle.laws_driver.{specs.{Honest.{IsFitState, ends_of_state, slots_of}, Carried.Received.{Account, AreReceived, EndsClean, GoesOn, ReceivesOn}}}
+use Rattle.laws_driver.{specs.Carried.Received.{ends_payload, keeps_all, with_opened}, proofs.Carrying.{Carries, Fact}}
+use Rattle.laws_driver.proofs.Carried.Delivering.{IsThrough, clean_got, got_lasts, no_payload, put_lasts}
 use Rattle.laws_driver.proofs.{Tabling.{Stands, entry_fits, has_end, leaves}, Resetting.{first_contained, with_cid}, Taking.with_reply_fits, Carried.Changing.puts_and_alters}
 use Rattle.laws_driver.proofs.Carried.{Logging.{leaves_received, opened_goes_on, opened_received, passes_by, same_received}, Reading.given_none, Receiving.changed_received}
 use Rattle.laws_driver.proofs.Carried.Receiving.{in_clean}
@@ -75,12 +75,12 @@ pays_received owed.Request first a e s log fits stands owes m was fair x =
 pays_received owed.Rst first a e s log fits stands owes m was fair x =
     let has = has_end s e fits stands in
     let host = (entry_fits s e fits stands).peer refl in
-    let alive = stands_alive first (ends_of_state s) log e.flow e.value.end m.flows has was in
     puts_received a (owed_on Driver s.cid e.flow e.value.end owed.Rst) log (slots_of (after_leaving e s)) refl fair
     (leaving_received a log s e e.value.end refl fits.sound stands.contains
     (λ unclosed over. (
-      all_until (current Driver e.flow log) log alive,
-      λ is on. clean_got first (ends_of_state s) log e.flow e.value.end m.flows has host (over unclosed (owes_over e.value.end owes)),
+      log,
+      inl (refl, λ is. clean_got first (ends_of_state s) log e.flow e.value.end m.flows has host (over unclosed (owes_over e.value.end owes))),
+      refl,
     )) x)
 pays_received what first a e s log fits stands owes m was fair x =
     puts_and_alters a log s x (owed_on Driver s.cid e.flow e.value.end what) e (paid_connection what e.value) refl fair fits.sound stands.contains refl
@@ -88,10 +88,10 @@ pays_received what first a e s log fits stands owes m was fair x =
     (paid_clean what e.value owes)
 
 -- A transport reset: all leave.
-all_leave : (a : Account) (log : Log) (es : List DriverEntry) (s : DriverState) → s.table.entries ≡ es → IsFitState true s
-    → All (λ e. IsThrough e.flow log) es → AreReceived a log (slots_of s) → AreReceived a log (slots_of (all_left es s))
-all_leave a log [] s is fits through x = x
-all_leave a log (e ∷ es) s is fits through x =
+all_leave : (a : Account) (cid : ℕ) (log : Log) (es : List DriverEntry) (s : DriverState) → s.table.entries ≡ es → IsFitState true s
+    → AreReceived a (Mark cid ∷ log) (slots_of s) → AreReceived a (Mark cid ∷ log) (slots_of (all_left es s))
+all_leave a cid log [] s is fits x = x
+all_leave a cid log (e ∷ es) s is fits x =
     let P : List DriverEntry → Type 0 = λ xs. IsRising xs in
     let rising : P (e ∷ es) = subst P is fits.sound.rising in
     let first : slice_get s.table.entries 0 ≡ Some e = ap (λ (xs : List DriverEntry). slice_get xs 0) is in
@@ -99,19 +99,9 @@ all_leave a log (e ∷ es) s is fits through x =
     let l = leaves s e e.value fits stands in
     let m : DriverState = after_leaving e s in
     let table_is : m.table.entries ≡ es = ap (λ (xs : List DriverEntry). filter (λ x. not (x.slot == e.slot)) xs) is ∙ others_left e es rising in
-    all_leave a log es (with_reply (reset_reply e) m) table_is (with_reply_fits m (reset_reply e) l.fits (entry_fits s e fits stands).ports)
-    (λ i d less. through (suc i) d (omega (arith, less)))
-    (leaving_received a log s e e.value.end refl fits.sound stands.contains (λ unclosed over. through 0 e (omega arith)) x)
-
--- Each of the table had all that was got on it.
-all_through : (first cid : ℕ) (s : DriverState) (log : Log) → IsFitState true s → Matches Driver first (ends_of_state s) log → IsFairLog Driver log
-    → All (λ e. IsThrough e.flow (Mark cid ∷ log)) s.table.entries
-all_through first cid s log fits m was i d less =
-    let e = get_or s.table.entries i d in
-    let c = current Driver e.flow log in
-    let has = one_end end_in s.table e fits.sound (Contains-get_or s.table.entries i d less) in
-    (until_marked c cid log (omega arith) ∙ all_until c log (stands_alive first (ends_of_state s) log e.flow e.value.end m.flows has was),
-        over_marked c cid log (omega arith))
+    all_leave a cid log es (with_reply (reset_reply e) m) table_is (with_reply_fits m (reset_reply e) l.fits (entry_fits s e fits stands).ports)
+    (leaving_received a (Mark cid ∷ log) s e e.value.end refl fits.sound stands.contains
+    (λ unclosed over. (log, inr (cid, ([], refl), omega arith), refl)) x)
 
 -- A packet is got, of a connection of the table.
 got_less : (p : Packet) (c : DriverConnection) → keeps_all (record c { end = end_after c.end p.header }) ≡ true → keeps_all c ≡ true
@@ -133,7 +123,7 @@ open_or_clean c is over = grind (arith, common_steps, is, over)
 
 stays_open : (e : ConnectionEnd) (p : Packet) → is_rw p ≡ true → is_refused (verdict_of e p.header) ≡ false → receives e ≡ true
     → receives (end_after e p.header) ≡ true
-stays_open e p rw kept is = grind (arith, nat_tests, common_steps, rw, kept, is)
+stays_open e p piece kept is = grind (arith, nat_tests, common_steps, piece, kept, is)
 
 module _ (first : ℕ) (a : Account) (p : Packet) (e : DriverEntry) (s : DriverState) (log : Log) (fits : IsFitState true s) (stands : Stands s e)
     (same : flow_got Driver p ≡ e.flow) (whole : IsWhole p) (m : Matches Driver first (ends_of_state s) log) (was : IsFairLog Driver log)
@@ -165,9 +155,9 @@ module _ (first : ℕ) (a : Account) (p : Packet) (e : DriverEntry) (s : DriverS
 
   silent : (v : Verdict) → verdict_of e.value.end p.header ≡ v → is_refused v ≡ false → (v ≡ verdict.Deliver → ⊥)
       → (receives e.value.end ≡ true) ⊎ (e.value.end.clean ≡ true) → (b : Bool) → is_rw p ≡ b → is_rw p ≡ false
-  silent v is taken other unclosed false rw = rw
-  silent v is taken other (inl on) true rw = only_delivered e.value.end p v is taken other (stays_open e.value.end p rw kept on)
-  silent v is taken other (inr clean) true rw =
+  silent v is taken other unclosed false piece = piece
+  silent v is taken other (inl on) true piece = only_delivered e.value.end p v is taken other (stays_open e.value.end p piece kept on)
+  silent v is taken other (inr clean) true piece =
       let f = flow_got Driver p in
       let host : f.peer ≡ HOST_CID = ap (λ (g : Flow). g.peer) same ∙ (entry_fits s e fits stands).peer refl in
       no_payload _ p _ _ ((own_got_fair Driver p log (fair f)).1.goes_on plain) (clean_got first (ends_of_state s) log f e.value.end m.flows has host clean)
@@ -183,12 +173,14 @@ module _ (first : ℕ) (a : Account) (p : Packet) (e : DriverEntry) (s : DriverS
   -- After its RST the peer puts nothing more.
   reset_through : is_reset p.header ≡ true → IsThrough e.flow (GotPacket p ∷ log)
   reset_through reset =
-      let alive = stands_alive first (ends_of_state s) log e.flow e.value.end m.flows (has_end s e fits stands) was in
-      (
-        all_until (current Driver e.flow (GotPacket p ∷ log)) (GotPacket p ∷ log)
-            (subst (λ (n : ℕ). nat_le n (reset_number e.flow log) ≡ false) (sym (number_got Driver p log e.flow plain)) alive),
-        λ is on. subst (λ (f : Flow). ends_payload (gots (history_of Driver f (GotPacket p ∷ log))) ≡ true) same
-            (rst_ends p (history_of Driver (flow_got Driver p) log) (same_flow (flow_got Driver p) (flow_got Driver p)) (same_self (flow_got Driver p)) reset),
+      let f = flow_got Driver p in (
+        _,
+        inl (
+          refl,
+          λ is. subst (λ (g : Flow). ends_payload (gots (history_of Driver g (GotPacket p ∷ log))) ≡ true) same
+              (rst_ends p (history_of Driver f log) (same_flow f f) (same_self f) reset),
+        ),
+        refl,
       )
 
   peers : (b : Bool) → verdict_of e.value.end p.header ≡ verdict.Peer → is_reset p.header ≡ b
@@ -333,11 +325,12 @@ poll_carries first a = record {
       (x.0, x.1, pays_received what first x.0 e s log fits stands owes m was fair x.2);
   reply = λ r rest s log fits is m fair x. (x.0, x.1, puts_received x.0 (reply_on Driver s.cid r) log (slots_of s) refl fair x.2);
   got = λ p s log fits ports whole m was fair x. heard_received first a p s log fits whole m was fair x;
-  event = λ id s log x. (x.0, x.1, same_received x.0 log (GotEvent id ∷ log) (slots_of s) (event_lasts id log) (λ c. refl) (λ f. refl) x.2);
-  reset = λ cid s log less fits m was x. let marked = same_received x.0 log (Mark cid ∷ log) (slots_of s) (mark_lasts cid log) (λ c. refl) (λ f. refl) x.2 in (
-    x.0,
-    x.1,
-    all_leave x.0 (Mark cid ∷ log) s.table.entries (record s { cid = cid; clean = of_host s.clean }) refl (with_cid cid s less fits)
-        (all_through first cid s log fits m was) (in_clean x.0 (Mark cid ∷ log) (slots_of s) (of_host s.clean) marked),
-  );
+  event = λ id s log x. (x.0, x.1, same_received x.0 log (GotEvent id ∷ log) (slots_of s) ((GotEvent id ∷ [], refl), λ c past over. (refl, over)) (λ c. refl) (λ f. refl) x.2);
+  reset = λ cid s log less fits x.
+      let marked = same_received x.0 log (Mark cid ∷ log) (slots_of s) ((Mark cid ∷ [], refl), λ c past over. (refl, over)) (λ c. refl) (λ f. refl) x.2 in (
+        x.0,
+        x.1,
+        all_leave x.0 cid log s.table.entries (record s { cid = cid; clean = of_host s.clean }) refl (with_cid cid s less fits)
+            (in_clean x.0 (Mark cid ∷ log) (slots_of s) (of_host s.clean) marked),
+      );
 }

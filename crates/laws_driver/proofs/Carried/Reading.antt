@@ -1,5 +1,5 @@
 -- A receive: the bytes that it gives are of the unread ones the first.
-use Rattle.laws_tables.{specs.Drains.{only_on, Drains}, proofs.{Slots.found_by, Logs.{nothing_more, prefix_then, shorter}, Goes.comes_out}}
+use Rattle.laws_tables.{specs.Drains.{only_on, Drains}, proofs.{Slots.found_by, Logs.{nothing_more, shorter}, Goes.comes_out}}
 use Rattle.std.proofs.Common.{◌≡◌, ◌≢◌, ℕ, zero, suc, ◌<◌, ◌==◌, nat_lt, not, Bool, true, false, cond, List, [], ◌∷◌, ◌++◌, length, take, drop, get_or, Option, Some, None, refl}
 use Rattle.std.proofs.{Common.{sym, ap, subst, ◌∙◌, arith, append-nil, append_assoc, take-append-drop}, lemmas.{List.{get_or_default, take_min}, Option.get_or_from_slice_get}}
 use Rattle.std.{proofs.{lemmas.{Grind.common_steps, Option.slice_get_within, Bool.Decides.nat_tests}, Math.Seq.take-nil}, specs.List.All}
@@ -11,7 +11,7 @@ use Rattle.vs_driver_parts.specs.{Connections.{unread_of_id, with_connection}, S
 use Rattle.vs_driver_parts.{specs.{declared.answers.Received.Received, Held.HeldSlots, SlotFields.AreNumbered}, proofs.{GoneChanges.read_none, Known.after_recv_gone}}
 use Rattle.vs_driver_parts.proofs.Known.{after_recv_known, recv_gone_some, recv_known, unread_gone_some, unread_known}
 use Rattle.laws_driver.{specs.{Honest.slots_of, Carried.Received.{Account, AreReceived, EndsClean, ReceivedOn, after_receive, bytes_got}}}
-use Rattle.laws_driver.{specs.Carried.Received.{got_until_reset, keeps_all, with_received}, proofs.Carried.{Delivering.front_until, Receiving.apart_by}}
+use Rattle.laws_driver.{specs.Carried.Received.{DrainsTo, keeps_all, with_received}, proofs.Carried.{Delivering.front_of, Receiving.apart_by}}
 use Rattle.laws_driver.proofs.Carried.Receiving.{changed_received, number_same, same_account}
 use Rattle.vs_conn.specs.declared.end.State.TheVariants as state
 use Rattle.vs_driver_parts.specs.declared.answers.Received.TheVariants as got
@@ -79,7 +79,7 @@ module _ (a : Account) (log : Log) (id n : ℕ) (s : DriverState) (x : AreReceiv
     read false some =
         changed_received a _ log log e (take n e.value.unread) []
         (λ other. ap (λ (k : ℕ). a.received other ++ cond (other == k) (take n e.value.unread) []) (sym id_is))
-        (λ c. none_more c) (λ f. refl) (λ c past over. (refl, over)) (slots_of s) x sound (found_by (is_known_as id) s.table.entries e known).0
+        (λ c. none_more c) (λ f. refl) (([], refl), λ c past over. (refl, over)) (slots_of s) x sound (found_by (is_known_as id) s.table.entries e known).0
         (after_read n e.value) refl
         (comes_out (keeps_all e.value) (keeps_all (after_read n e.value)) e.value.unread n (reads_less n e.value)) (read_clean n e.value)
       where
@@ -162,11 +162,11 @@ module _ (a : Account) (log : Log) (id n : ℕ) (slots : HeldSlots) (x : AreRece
         ∙ append_assoc (a.received g.id) (take n g.unread) (drop n g.unread)
         ∙ ap (λ (bytes : List ℕ). a.received g.id ++ bytes) (take-append-drop n g.unread)
 
-    now_drains : Drains (not g.end.own.receive) (q g.id) (drop n g.unread) (got_until_reset (a.opened g.id) log)
-    now_drains = record {
-      front = subst (λ (bytes : List ℕ). IsPrefixOf bytes (got_until_reset (a.opened g.id) log)) (sym all_there) old.drains.front;
-      whole = λ on. all_there ∙ old.drains.whole on;
-    }
+    now_drains : DrainsTo (not g.end.own.receive) (q g.id) (drop n g.unread) (a.opened g.id) log
+    now_drains =
+        let all = payload_got Driver (a.opened g.id) old.drains.0 in
+        let front = subst (λ (bytes : List ℕ). IsPrefixOf bytes all) (sym all_there) old.drains.2.front in
+        (old.drains.0, old.drains.1, record { front = front; whole = λ on. all_there ∙ old.drains.2.whole on })
 
     at : (i : ℕ) (d : GoneConnection) → i < length slots.gone → (b : Bool) → (i == k) ≡ b
         → ReceivedOn (with_received id (take n g.unread) a) log (read_as id n (get_or slots.gone i d))
@@ -176,7 +176,7 @@ module _ (a : Account) (log : Log) (id n : ℕ) (slots : HeldSlots) (x : AreRece
         let passes : (g.id == id) ≡ true = grind (arith, nat_tests, named) in
         subst (λ (h : GoneConnection). ReceivedOn (with_received id (take n g.unread) a) log (read_as id n h)) (sym there)
         (subst (λ (c : Bool). ReceivedOn (with_received id (take n g.unread) a) log (cond c (record g { unread = drop n g.unread }) g)) (sym passes)
-        (record { flow = old.flow; some = old.some; drains = now_drains; over = old.over }))
+        (record { flow = old.flow; some = old.some; drains = now_drains }))
     at i d within false other =
         let h = get_or slots.gone i d in
         let apart : h.id ≢ id = subst (λ (j : ℕ). h.id ≢ j) named (other_gone i d within other) in
@@ -185,15 +185,14 @@ module _ (a : Account) (log : Log) (id n : ℕ) (slots : HeldSlots) (x : AreRece
         (record {
           flow = was.flow;
           some = was.some;
-          drains = subst (λ (bytes : List ℕ). Drains (not h.end.own.receive) bytes h.unread (got_until_reset (a.opened h.id) log)) (q_other h.id apart) was.drains;
-          over = was.over;
+          drains = subst (λ (bytes : List ℕ). DrainsTo (not h.end.own.receive) bytes h.unread (a.opened h.id) log) (q_other h.id apart) was.drains;
         })
 
     front_by : (other : ℕ) (b : Bool) → (other == id) ≡ b → IsPrefixOf (q other) (payload_got Driver (a.opened other) log)
     front_by other true same =
         let is_g : g.id ≡ other = grind (arith, nat_tests, same, named) in
         subst (λ (j : ℕ). IsPrefixOf (q j) (payload_got Driver (a.opened j) log)) is_g
-        (prefix_then _ _ _ (shorter (q g.id) (drop n g.unread) _ now_drains.front) (front_until (a.opened g.id) log))
+        (shorter (q g.id) (drop n g.unread) (payload_got Driver (a.opened g.id) log) (front_of _ _ _ _ _ now_drains))
     front_by other false apart =
         subst (λ (bytes : List ℕ). IsPrefixOf bytes (payload_got Driver (a.opened other) log))
         (sym (ap (λ (c : Bool). a.received other ++ cond c (take n g.unread) []) apart ∙ append-nil (a.received other))) (x.front other)

@@ -6,7 +6,7 @@ use Rattle.vs_flow.{specs.{Connection.Connection, Table.IsTable, declared.flow.F
 use Rattle.vs_page.{specs.{Fair.{IsPrefixOf, current, number_of, payload_got}, Log.{Driver, Log}}, proofs.Flows.same_self}
 use Rattle.vs_driver_parts.{specs.{State.{DriverConnection, DriverEntry, GoneConnection}, Held.{HeldSlots, with_connection_in}, SlotFields.AreNumbered}, proofs.Ids.HasId}
 use Rattle.vs_driver_parts.proofs.{Ids.value_of, Numbers.{id_there, numbers_with_value}}
-use Rattle.laws_driver.{specs.Carried.Received.{Account, AreReceived, EndsClean, ReceivedOn, ReceivesOn, got_until_reset, keeps_all}, proofs.Carried.Delivering.Lasts}
+use Rattle.laws_driver.{specs.Carried.Received.{Account, AreReceived, DrainsTo, EndsClean, ReceivedOn, ReceivesOn, keeps_all}, proofs.Carried.Delivering.{Lasts, drains_on}}
 
 -- Other slots, of which the next one has the same id.
 pub in_slots : (a : Account) (log : Log) (slots new : HeldSlots) → AreReceived a log slots → new.next_id ≡ slots.next_id
@@ -87,14 +87,12 @@ module _ (a : Account) (q : ℕ → List ℕ) (log new : Log) (e : DriverEntry) 
 
   gone_other : (g : GoneConnection) → g.id ≢ e.value.id → (a.opened g.id).number ≤ number_of Driver (a.opened g.id).flow log → ReceivedOn a log g
       → ReceivedOn b new g
-  gone_other g apart past x =
-      let last = lasts (a.opened g.id) past x.over in record {
-        flow = x.flow;
-        some = x.some;
-        drains = subst (λ (bytes : List ℕ). Drains (not g.end.own.receive) bytes g.unread (got_until_reset (a.opened g.id) new)) (out_other g.id apart)
-            (subst (λ (bytes : List ℕ). Drains (not g.end.own.receive) (a.received g.id) g.unread bytes) (sym last.0) x.drains);
-        over = last.1;
-      }
+  gone_other g apart past x = record {
+    flow = x.flow;
+    some = x.some;
+    drains = subst (λ (bytes : List ℕ). DrainsTo (not g.end.own.receive) bytes g.unread (a.opened g.id) new) (out_other g.id apart)
+        (drains_on _ _ _ _ _ _ lasts past x.drains);
+  }
 
   here : (c : DriverConnection) → c.id ≡ e.value.id
       → Goes (keeps_all e.value) (keeps_all c) e.value.unread c.unread taken more → (EndsClean e.value → EndsClean c) → ReceivesOn a log e

@@ -39,7 +39,7 @@ poll_puts first log = record {
   reply = λ r rest s now fits is m fair held c. put_none Driver now _ c refl ∙ held c;
   got = λ p s now fits ports whole m was fair held c. put_over_got Driver p now c ∙ held c;
   event = λ id s now held. held;
-  reset = λ cid s now less fits m was held. held;
+  reset = λ cid s now less fits held. held;
 }
 
 -- A call that puts none.

@@ -1,14 +1,14 @@
 -- What an application received on the driver's connections, against the payload that was delivered to them.
-use Rattle.std.specs.{List.All, Option.ForSome, Prelude.{◌≡◌, ℕ, ◌≤◌, ◌<◌, ◌==◌, ◌++◌, ◌&&◌, ◌||◌, not, nat_le, Bool, true, false, if◌then◌else◌, List, [], ◌∷◌, take}}
+use Rattle.std.specs.{List.All, Option.ForSome, Prelude.{◌≡◌, ℕ, ◌≤◌, ◌<◌, ◌==◌, ◌++◌, ◌&&◌, ◌||◌, not, ◌⊎◌, Bool, true, false, if◌then◌else◌, List, [], ◌∷◌, take}}
 use Rattle.vs_conn.specs.{End.is_open, declared.end.State.TheVariants.{Ended}}
-use Rattle.vs_flow.specs.{Connection.Connection, Flow.host_flow, declared.flow.Flow.Flow}
+use Rattle.vs_flow.specs.{Connection.Connection, Flow.host_flow}
 use Rattle.laws_history.specs.{declared.packet.Packet.Packet, Packets.{has, has_both, is_rst}, History.gots}
 use Rattle.vs_page.specs.{Fair.{IsPrefixOf, current, number_of, payload_got}, Log.{Driver, Log, history_of}, declared.log.LogEntry.TheVariants.Mark}
 use Rattle.vs_ring_port.specs.Contents.{RingContents}
 use Rattle.vs_driver_parts.specs.{declared.answers.Received.Received, Held.HeldSlots, SlotFields.AreNumbered, State.DriverEntry}
 use Rattle.vs_driver_parts.specs.{State.{DriverConnection, DriverState, GoneConnection}, Connections.{recv_of, unread_of_id}}
 use Rattle.laws_driver.specs.Honest.{slots_of}
-use Rattle.laws_tables.specs.Drains.{Drains}
+use Rattle.laws_tables.specs.{Drains.Drains, Later.IsLater}
 use Rattle.vs_driver_parts.specs.declared.answers.Received.TheVariants as got
 
 -- The account of an application: the id that its first connection got; by ids, which connection of which flow it is, 0 where none has the id;
@@ -41,27 +41,18 @@ bytes_got _ unread = []
 abbrev pub after_receive : ℕ → ℕ → DriverState → Account → Account
 after_receive id n s a = with_received id (bytes_got (recv_of id n s) (unread_of_id id s)) a
 
--- The number of a flow's present connection at the newest transport reset, 0 where there was none; and whether one ended a connection.
-abbrev pub reset_number : Flow → Log → ℕ
-reset_number f [] = 0
-reset_number f (Mark cid ∷ log) = number_of Driver f log
-reset_number f (_ ∷ log) = reset_number f log
-
-abbrev pub was_reset : Connection → Log → Bool
-was_reset c log = nat_le c.number (reset_number c.flow log)
-
--- The payload got on a connection, but for packets that were under way at the transport reset that ended it.
-abbrev pub got_until_reset : Connection → Log → List ℕ
-got_until_reset c [] = []
-got_until_reset c (entry ∷ log) = if was_reset c (entry ∷ log) then got_until_reset c log else payload_got Driver c (entry ∷ log)
-
--- A peer that put these puts no more payload. So nothing more is got on a connection that isn't its flow's present one, or was reset, or whose
--- peer put these.
+-- Nothing more is got on a connection: it isn't the present one of its flow, or its peer put what no payload follows.
 abbrev pub ends_payload : List Packet → Bool
 ends_payload ps = has is_rst ps || has_both ps
 
 abbrev pub GetsNoMore : Connection → Log → Type 0
-GetsNoMore c log = c ≡ current Driver c.flow log → was_reset c log ≡ false → ends_payload (gots (history_of Driver c.flow log)) ≡ true
+GetsNoMore c log = c ≡ current Driver c.flow log → ends_payload (gots (history_of Driver c.flow log)) ≡ true
+
+-- The front of a log in which stands all that was delivered to a connection that is gone: the whole log, or, since packets may have been under
+-- way, that up to a transport reset after the connection began.
+abbrev pub EndsAt : Connection → Log → Log → Type 0
+EndsAt c front log =
+    ((front ≡ log) × GetsNoMore c log) ⊎ ((cid : ℕ) × IsLater (Mark cid ∷ front) log × (c.number ≤ number_of Driver c.flow front))
 
 -- Nothing is dropped of what comes in: the application didn't say that it receives no more, and no close aborted the connection.
 abbrev pub keeps_all : DriverConnection → Bool
@@ -79,13 +70,14 @@ pub record ReceivesOn (a : Account) (log : Log) (e : DriverEntry) : Type 0 where
   pub drains : Drains (keeps_all e.value) (a.received e.value.id) e.value.unread (payload_got Driver (current Driver e.flow log) log)
   pub over : EndsClean e.value
 
--- One that is gone is a connection of its flow, the present one or an older one. The same is so of it, however it left the table, without the
--- packets that were under way at a transport reset.
+-- One that is gone is a connection of its flow, the present one or an older one. The same is so of it, however it left the table.
+abbrev pub DrainsTo : Bool → List ℕ → List ℕ → Connection → Log → Type 0
+DrainsTo all out held c log = (front : Log) × EndsAt c front log × Drains all out held (payload_got Driver c front)
+
 pub record ReceivedOn (a : Account) (log : Log) (g : GoneConnection) : Type 0 where
   pub flow : (a.opened g.id).flow ≡ g.flow
   pub some : 1 ≤ (a.opened g.id).number
-  pub drains : Drains (not g.end.own.receive) (a.received g.id) g.unread (got_until_reset (a.opened g.id) log)
-  pub over : GetsNoMore (a.opened g.id) log
+  pub drains : DrainsTo (not g.end.own.receive) (a.received g.id) g.unread (a.opened g.id) log
 
 -- The account is right: so are the connections of the table, and those that are gone. What was received on any id is a prefix of the payload
 -- delivered to its connection. The connections of ids have passed, no two of them are one; ids that are still to be given have none.
