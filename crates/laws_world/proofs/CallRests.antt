@@ -1,7 +1,6 @@
 -- Whole calls leave no page staged; nor does the opening of the world.
-use Rattle.std.proofs.Common.{arith}
 use Rattle.std.proofs.lemmas.Grind.{common_steps}
-use Rattle.std.proofs.Common.{◌≡◌, ℕ, zero, suc, ◌+◌, ◌==◌, Bool, true, false, cond, List, [], length, Option, Some, None, Result, Ok, Err, refl, ap, ◌∙◌}
+use Rattle.std.proofs.Common.{◌≡◌, ℕ, zero, suc, ◌+◌, ◌==◌, Bool, true, false, cond, List, [], length, Option, Some, None, Result, Ok, Err, refl, ap, ◌∙◌, arith}
 use Rattle.vs_contents.specs.CallTree.{Done, Ask, bind, played, while_up_to}
 use Rattle.vs_conn.specs.{End.{may_send_of, wanting_credit}, declared.end.Stop.Stop}
 use Rattle.vs_outside.specs.Host.{HostContents}

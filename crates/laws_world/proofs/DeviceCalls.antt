@@ -1,7 +1,5 @@
 -- Each call of the device's, whole, is a list of events.
-use Rattle.std.proofs.Common.{arith}
-use Rattle.std.proofs.lemmas.Grind.{common_steps}
-use Rattle.std.proofs.Common.{◌≡◌, ℕ, Option, Some, None, refl, subst}
+use Rattle.std.proofs.{Common.{◌≡◌, ℕ, Option, Some, None, refl, subst, arith}, lemmas.Grind.common_steps}
 use Rattle.vs_contents.specs.CallTree.{played}
 use Rattle.vs_ring_port.specs.declared.failure.Failure.{Failure}
 use Rattle.vs_device_parts.specs.{Calls.DeviceTree, Receiving.{fill_rx_of, pay_event_of}, State.DeviceState, Streams.{pump_of, tick_of}, Transmitting.take_tx_of}

@@ -1,7 +1,5 @@
 -- Steps of the device and of the proxy as lists of events: how they are put together.
-use Rattle.std.proofs.Common.{arith}
-use Rattle.std.proofs.lemmas.Grind.{common_steps}
-use Rattle.std.proofs.Common.{◌≡◌, ℕ, zero, suc, Bool, true, false, List, [], ◌∷◌, None, refl, sym, subst, ◌∙◌}
+use Rattle.std.proofs.{Common.{◌≡◌, ℕ, zero, suc, Bool, true, false, List, [], ◌∷◌, None, refl, sym, subst, ◌∙◌, arith}, lemmas.Grind.common_steps}
 use Rattle.vs_contents.{specs.CallTree.{Done, Ask, bind, for_each, played, while_up_to}, proofs.Leads.AllEnds}
 use Rattle.vs_device_parts.specs.{Calls.{Answer, Call, DeviceTree}, State.DeviceState}
 use Rattle.vs_proxy_parts.specs.State.{ProxyState, Turning, start, with_device}

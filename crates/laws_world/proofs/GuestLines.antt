@@ -1,7 +1,6 @@
 -- Each call of the guest's, whole, is a list of events.
-use Rattle.std.proofs.Common.{arith}
 use Rattle.std.proofs.lemmas.Grind.{common_steps}
-use Rattle.std.proofs.Common.{◌≡◌, ℕ, zero, suc, ◌==◌, Bool, true, false, cond, List, [], ◌∷◌, ◌++◌, length, Option, Some, None, refl, sym, ap, subst, ◌∙◌, Result, Ok, Err}
+use Rattle.std.proofs.Common.{◌≡◌, ℕ, zero, suc, ◌==◌, Bool, true, false, cond, List, [], ◌∷◌, ◌++◌, length, Option, Some, None, refl, sym, ap, subst, ◌∙◌, Result, Ok, Err, arith}
 use Rattle.vs_contents.specs.CallTree.{Done, Ask, bind, played, while_up_to}
 use Rattle.vs_ring_port.specs.{DriverCalls.{driver_answer, Reap}, EndLog.{EndLog, Pages}, Lists.{Rings, oldest}}
 use Rattle.vs_driver_parts.specs.Conversations.{DriverTree, reap_all, reap_one, reaped, connect_with_page, no_credit, not_sent, payload_of, send_on, send_stopped, send_with_credit}

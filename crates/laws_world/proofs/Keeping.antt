@@ -1,8 +1,7 @@
 -- A fact of the driver's connections and of who waits, through each of the driver's steps and each call of the guest's: it is kept where small
 -- changes keep it.
-use Rattle.std.proofs.Common.{arith}
 use Rattle.std.proofs.lemmas.Grind.{common_steps}
-use Rattle.std.proofs.Common.{◌≡◌, ℕ, ◌==◌, Bool, true, false, not, cond, List, [], ◌∷◌, ◌++◌, length, filter, Option, Some, None, is_some, Result, Ok, Err, refl, ap, subst}
+use Rattle.std.proofs.Common.{◌≡◌, ℕ, ◌==◌, Bool, true, false, not, cond, List, [], ◌∷◌, ◌++◌, length, filter, Option, Some, None, is_some, Result, Ok, Err, refl, ap, subst, arith}
 use Rattle.std.{proofs.Common.◌∙◌, specs.List.slice_get}
 use Rattle.vs_conn.specs.{End.{ConnectionEnd, grown}, declared.end.{Owed.Owed, State.State, Verdict.Verdict}}
 use Rattle.vs_flow.{specs.{CleanPairs.of_host, Table.{IsRising, IsTable, Table, entry_of, entry_under, without}, declared.flow.Flow.Flow}, proofs.Tables.without_sound}

@@ -1,7 +1,6 @@
 -- Over list rings with a host in memory that isn't starved each conversation of the device's has one end.
-use Rattle.std.proofs.Common.{arith}
 use Rattle.std.proofs.lemmas.Grind.{common_steps}
-use Rattle.std.{proofs.Common.{◌≡◌, ℕ, Bool, false, List, length, Option, Some, None, unwrap_or, refl, sym, ap, ap₂, subst, ◌∙◌}}
+use Rattle.std.{proofs.Common.{◌≡◌, ℕ, Bool, false, List, length, Option, Some, None, unwrap_or, refl, sym, ap, ap₂, subst, ◌∙◌, arith}}
 use Rattle.vs_contents.specs.{CallTree.{Done, Ask, played}, Contents.Exposes}
 use Rattle.vs_flow.specs.declared.flow.Flow.{Flow}
 use Rattle.vs_outside.specs.Host.{HostContents, after_accept, after_dial, after_label, after_read, after_write, after_shut_write, after_close, after_failed}

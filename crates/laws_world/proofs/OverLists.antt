@@ -1,7 +1,5 @@
 -- Over list rings each conversation of the driver's has one end.
-use Rattle.std.proofs.Common.{arith}
-use Rattle.std.proofs.lemmas.Grind.{common_steps}
-use Rattle.std.proofs.Common.{◌≡◌, Some, None, refl, sym, ap, ap₂, subst, ◌∙◌}
+use Rattle.std.proofs.{Common.{◌≡◌, Some, None, refl, sym, ap, ap₂, subst, ◌∙◌, arith}, lemmas.Grind.common_steps}
 use Rattle.vs_contents.specs.CallTree.{Done, Ask, Leads, played}
 use Rattle.vs_ring_port.specs.{DriverCalls.{DriverCall, DriverAnswer, Publish, DriverAllows, DriverMoves, driver_answer}, Contents.RingContents, EndLog.EndLog, Lists.Rings}
 use Rattle.vs_ring_list.{specs.Ends.{Ends, driver_contents}, proofs.Determined.driver_determined}

@@ -1,7 +1,5 @@
 -- A poll of the driver's is a list of events.
-use Rattle.std.proofs.Common.{arith}
-use Rattle.std.proofs.lemmas.Grind.{common_steps}
-use Rattle.std.proofs.Common.{◌≡◌, ℕ, zero, suc, ◌&&◌, Bool, true, false, List, [], ◌∷◌, length, refl, sym, ap, subst, ◌∙◌}
+use Rattle.std.proofs.{Common.{◌≡◌, ℕ, zero, suc, ◌&&◌, Bool, true, false, List, [], ◌∷◌, length, refl, sym, ap, subst, ◌∙◌, arith}, lemmas.Grind.common_steps}
 use Rattle.std.proofs.lemmas.Bool.{and_parts}
 use Rattle.vs_contents.specs.CallTree.{Done, bind, for_each, played, while_up_to}
 use Rattle.vs_flow.specs.Table.{slots}
@@ -118,7 +116,6 @@ publishes_does queue w works =
     (possible_is (works_on queue w.rings.driver.staged) (driver_step (publish_of queue)) w works) refl
     (still_works queue [] w.rings.driver.staged works)
 
--- A page that was taken is staged again.
 -- A packet is taken.
 packet_alike : (w : World) (count : ℕ) (reset : Bool) → works_on q.Rx w.rings.driver.staged ≡ true → Alike q.Rx w count reset take_packet
 packet_alike w count reset works = grind (arith, common_steps)

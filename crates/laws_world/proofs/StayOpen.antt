@@ -1,6 +1,5 @@
 -- Streams that are open stay open.
-use Rattle.std.proofs.lemmas.Grind.{common_steps}
-use Rattle.std.proofs.Common.{◌≡◌, ℕ, ◌-◌, eqb, Bool, true, false, cond, List, [], ◌∷◌, ◌++◌, Option, Some, None, refl, sym, ap, subst, ◌∙◌}
+use Rattle.std.proofs.{Common.{◌≡◌, ℕ, ◌-◌, eqb, Bool, true, false, cond, List, [], ◌∷◌, ◌++◌, Option, Some, None, refl, sym, ap, subst, ◌∙◌}, lemmas.Grind.common_steps}
 use Rattle.std.{proofs.Common.arith, proofs.lemmas.Bool.Decides.nat_tests, specs.Prelude.slice_get}
 use Rattle.vs_flow.specs.Table.{Table}
 use Rattle.vs_outside.specs.{Host.{HostContents, Stream, IsOpen, stream_at, with_stream}, HostProgram.{after_client, after_host_write}}

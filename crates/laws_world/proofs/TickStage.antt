@@ -1,7 +1,5 @@
 -- Timeouts, and the handshakes of a turn, are lists of events.
-use Rattle.std.proofs.Common.{arith}
-use Rattle.std.proofs.lemmas.Grind.{common_steps}
-use Rattle.std.proofs.Common.{◌≡◌, ℕ, ◌+◌, Bool, false, List, ◌++◌, Option, Some, None, refl, ◌∙◌}
+use Rattle.std.proofs.{Common.{◌≡◌, ℕ, ◌+◌, Bool, false, List, ◌++◌, Option, Some, None, refl, ◌∙◌, arith}, lemmas.Grind.common_steps}
 use Rattle.vs_contents.specs.CallTree.{Done, Ask, bind, for_each, played, while_up_to}
 use Rattle.vs_flow.specs.{Table.{slots}, declared.{flow.Flow.Flow}}
 use Rattle.vs_outside.specs.{Host.{read_answer}, declared.host_net.{StreamRead.StreamRead}}

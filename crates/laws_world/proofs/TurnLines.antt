@@ -1,7 +1,5 @@
 -- A turn of the proxy's, whole, is a list of events.
-use Rattle.std.proofs.Common.{arith}
-use Rattle.std.proofs.lemmas.Grind.{common_steps}
-use Rattle.std.proofs.Common.{◌≡◌, ℕ, None, refl}
+use Rattle.std.proofs.{Common.{◌≡◌, ℕ, None, refl, arith}, lemmas.Grind.common_steps}
 use Rattle.vs_contents.specs.CallTree.{Done, bind}
 use Rattle.vs_device_parts.specs.Calls.{DeviceTree}
 use Rattle.vs_proxy_parts.specs.{Turns.{event_stage, fill_stage, pump_stage, take_stage, tick_stage, turned, unless_failed}, Handshakes.shake_hands, State.{ProxyState, Turning}}
