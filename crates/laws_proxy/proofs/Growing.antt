@@ -1,7 +1,5 @@
 -- The buffer space of the connection of a flow, or of a stream's label, is raised: what a proxy keeps.
-use Rattle.std.proofs.Common.{arith}
-use Rattle.std.proofs.lemmas.Grind.{common_steps}
-use Rattle.std.proofs.Common.{◌≡◌, ℕ, List, Option, refl}
+use Rattle.std.proofs.{Common.{◌≡◌, ℕ, List, Option, refl, arith}, lemmas.Grind.common_steps}
 use Rattle.vs_flow.specs.declared.flow.Flow.{Flow}
 use Rattle.vs_outside.specs.Host.{HostContents}
 use Rattle.vs_ring_port.specs.{Contents.RingContents, declared.device_ring.Chain.Chain}

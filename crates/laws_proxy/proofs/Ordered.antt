@@ -1,10 +1,9 @@
 -- A proxy in order: its turn and its reset may be made, and what each keeps, from the conversation that it ran.
-use Rattle.std.proofs.Common.{arith}
 use Rattle.std.proofs.lemmas.Grind.{common_steps}
 use Rattle.laws_device.{specs.{Named.{Split.CanReach, Streams.FindsStreams}, Honest.IsFresh}, proofs.Named.Conditions.may_where}
 use Rattle.laws_device.proofs.{Named.{Conditions.quiet_can, Keeping.{keeps_may, keeps_end as streams_end}}, Carrying.{ring_and_host, ring_only}, Keeping.keeps_end}
 use Rattle.laws_device.proofs.{Keeping.keeps_put}
-use Rattle.std.{proofs.Common.{[], ℕ, ◌<◌, ◌≤◌, ◌^◌, List, Result, ◌≡◌}, specs.Option.ForSome}
+use Rattle.std.{proofs.Common.{[], ℕ, ◌<◌, ◌≤◌, ◌^◌, List, Result, ◌≡◌, arith}, specs.Option.ForSome}
 use Rattle.vs_ring_port.specs.declared.failure.Failure.{Failure}
 use Rattle.vs_device_parts.specs.{Calls.{Allows, Situation}, Playing.{CanMake, MayRun, Runs}}
 use Rattle.vs_proxy_parts.specs.{Turns.{new_proxy_at, proxy_reset_of, turn_of}, Handshakes.streams_of, State.ProxyState, declared.answers.Turn.Turn}

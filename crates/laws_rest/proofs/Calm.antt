@@ -1,7 +1,6 @@
 -- A turn publishes no CID, and puts no event where none is owed.
-use Rattle.std.proofs.Common.{arith}
 use Rattle.std.proofs.lemmas.Grind.{common_steps}
-use Rattle.std.{proofs.Common.{◌≡◌, ◌≢◌, ℕ, false, Option, Some, None, sym, ap, subst, ◌∙◌}, specs.Option.IfSome}
+use Rattle.std.{proofs.Common.{◌≡◌, ◌≢◌, ℕ, false, Option, Some, None, sym, ap, subst, ◌∙◌, arith}, specs.Option.IfSome}
 use Rattle.vs_contents.specs.{CallTree.{Ask, Done}}
 use Rattle.vs_ring_port.specs.{Chains.chain_of, Contents.{PublishCid, Return, Take}}
 use Rattle.vs_ring_port.specs.{declared.{device_ring.{Chain.Chain, Next.Next}, queue.Queue.{Queue, TheVariants.Event}}}

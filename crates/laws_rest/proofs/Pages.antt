@@ -1,6 +1,5 @@
 -- Where the counts of pages meet, each end took all that the other gave.
-use Rattle.std.proofs.lemmas.Grind.{common_steps}
-use Rattle.std.proofs.Common.{◌≡◌, ◌≤◌, ℕ, length, arith}
+use Rattle.std.proofs.{Common.{◌≡◌, ◌≤◌, ℕ, length, arith}, lemmas.Grind.common_steps}
 use Rattle.vs_ring_rule.specs.Rule.{IsFront}
 use Rattle.laws_rest.specs.Pages.{AllGiven, AreTied, NoneInFlight, Pages, Queued}
 

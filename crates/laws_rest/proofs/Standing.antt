@@ -25,7 +25,6 @@ stands_both put got = grind (arith, common_steps)
 abbrev pub standing : Side → History → Option ℕ
 standing side h = if stands (puts h) (gots h) then Some (asked_kind (of_asker side (puts h) (gots h))) else None
 
--- An RST that is got has the type of the connection.
 got_stands : (b : Bool) (side : Side) (h : History) (p : Packet) → is_request p ≡ b → AllowsNow side h (Got p)
     → kind_got p (standing side h) ≡ standing side (and_then (Got p) h)
 got_stands b side h p is may = grind (arith, common_steps)

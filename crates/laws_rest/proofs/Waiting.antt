@@ -1,12 +1,9 @@
 -- Credit and unread bytes of two ends at rest.
-use Rattle.std.proofs.lemmas.Grind.{common_steps}
-use Rattle.std.proofs.Common.{◌≡◌, ◌≤◌, false, arith}
+use Rattle.std.proofs.{Common.{◌≡◌, ◌≤◌, false, arith}, lemmas.Grind.common_steps}
 use Rattle.vs_conn.specs.{End.ConnectionEnd, Shut.is_both}
 use Rattle.vs_credit.specs.Credit.{free_of, unread_of}
 use Rattle.laws_rest.specs.Rest.{ArePaired, over_half}
 
--- Two counters that are no way apart are one.
--- The way from c to a is at most the way from c to b and that from b to a.
 pub credit_there : (e other : ConnectionEnd) → ArePaired e other → unread_of e.credit ≡ 0 → is_both e.own ≡ false
     → over_half ≤ free_of other.credit
 credit_there e other p none receives = grind (arith, common_steps)

@@ -1,4 +1,5 @@
 -- What a run began with, over its turns and where it comes to rest.
+use Rattle.std.proofs.lemmas.Grind.{common_steps}
 use Rattle.std.proofs.Common.{◌≡◌, ◌==◌, ◌-◌, ℕ, zero, suc, Bool, true, false, cond, List, [], ◌∷◌, Option, Some, None, refl, sym, ap, subst, ◌∙◌, arith, slice_get}
 use Rattle.std.{proofs.lemmas.{List.Elements.{All-cons, All-head, All-nil, All-tail}, Option.same_Some}, specs.{List.All, Option.option_map}}
 use Rattle.vs_flow.specs.{Connection.Connection, Table.Table, declared.flow.Flow.Flow}
@@ -10,7 +11,7 @@ use Rattle.vs_ring_port.specs.EndLog.{EndLog}
 use Rattle.vs_ring_shared.specs.Sights.{DeviceSight, Sight, device_contents, device_log}
 use Rattle.vs_driver_parts.specs.State.{DriverState}
 use Rattle.vs_device_parts.specs.{Calls.Situation, Playing.Runs, State.DeviceConnection}
-use Rattle.laws_device.{specs.Carried.Streamed.{IsStreamed, Ports, Seen, client_waits, connection_in, look, ports_of, seen, seen_as}, proofs.Carried.Changing.no_labels}
+use Rattle.laws_device.{specs.Carried.Streamed.{IsStreamed, Ports, Seen, client_waits, look, ports_of, seen, seen_as}, proofs.Carried.Changing.no_labels}
 use Rattle.laws_rest.{specs.{Calm.resets_in, Rest.has_no_mark}, proofs.Standing.{AreKept, device_kept}}
 use Rattle.vs_proxy_parts.specs.{State.ProxyState, Turns.{new_proxy, turn_of}, declared.answers.Turn.Turn}
 use Rattle.laws_proxy.proofs.Ordered.{turn_streamed}
@@ -30,10 +31,7 @@ plain_at (x ∷ xs) (suc i) s is all = plain_at xs i s is (All-tail IsPlain x xs
 
 seen_plain : (h : HostContents) (id : ℕ) (o : Option Stream) (s : Seen) → option_map (seen h id) o ≡ Some s → ((x : Stream) → o ≡ Some x → IsPlain x)
     → SeenPlain s
-seen_plain h id None s is plain = absurd cc
-seen_plain h id (Some x) s is plain =
-    let unlabelled : seen h id x ≡ seen_as None x = ap (λ (o : Option Flow). seen_as (option_map (connection_in h id) o) x) (plain x refl).0 in
-    subst SeenPlain (sym unlabelled ∙ same_Some (seen h id x) s is) (refl, (plain x refl).1)
+seen_plain h id o s is plain = grind (arith, common_steps)
 
 module _ (h : HostContents) (unlabelled : IsUnlabelled h) where
   there_plain : (b : Bool) (id : ℕ) (s : Stream) → cond b None (slice_get h.streams (id - 1)) ≡ Some s → IsPlain s

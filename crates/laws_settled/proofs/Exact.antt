@@ -1,9 +1,10 @@
 -- Through a turn the device holds of each connection just the bytes that its end counts as unread, over a ring that tells its log.
-use Rattle.std.proofs.Common.{◌≡◌, ◌+◌, ◌-◌, ◌≤◌, ◌==◌, ◌&&◌, not, ℕ, nat_le, nat_lt, Bool, true, false, cond, List, [], ◌∷◌, ◌++◌, length, drop, take, get_or, Option, Some, None}
-use Rattle.std.proofs.{Common.{refl, sym, ap, subst, ◌∙◌, arith, append-nil, length-append, length-drop, length-take}, lemmas.{Bool.Decides.nat_tests, List.Elements.All-contains}}
+use Rattle.std.proofs.lemmas.Grind.{common_steps}
+use Rattle.std.proofs.Common.{◌≡◌, ◌-◌, ◌≤◌, ◌==◌, ◌&&◌, not, ℕ, nat_le, nat_lt, true, false, cond, List, [], ◌∷◌, ◌++◌, length, drop, take, get_or, Option, Some, None}
+use Rattle.std.proofs.{Common.{refl, sym, ap, subst, ◌∙◌, arith, length-append, length-drop, length-take}, lemmas.{Bool.Decides.nat_tests, List.Elements.All-contains}}
 use Rattle.std.proofs.lemmas.List.Elements.{All-filter, All-map, All-push}
 use Rattle.vs_contents.specs.{CallTree.{Ask, Done, bind}, Contents.Exposes}
-use Rattle.vs_conn.specs.End.{ConnectionEnd, answering, asked, is_of, is_reset, paid_of, verdict_of, wanting_credit, with_payload_sent, end_after, owes_of, with_shut}
+use Rattle.vs_conn.specs.End.{answering, asked, is_of, is_reset, paid_of, verdict_of, wanting_credit, with_payload_sent, owes_of}
 use Rattle.vs_conn.specs.declared.end.{Owed.Owed, Verdict.Verdict}
 use Rattle.vs_flow.specs.{Flow.is_assigned, Table.{Table, entry_of, has_place, next_entry, revalued, with_entry, with_value, without}, declared.flow.Flow.Flow}
 use Rattle.vs_header.specs.{Op.op_number, Packet.header_of, declared.{Header.Header, Kind.TheVariants.Stream, Op.TheVariants.Request, TheConstants.HEADER_LEN}}
@@ -18,11 +19,11 @@ use Rattle.vs_device_parts.specs.{Connections.{after_written, cut_off, new_conne
 use Rattle.vs_device_parts.specs.Transmitting.{dial_answered, heard, keeps_flow, on_header, on_known, on_next, on_packet, on_unknown, take_tx_of}
 use Rattle.vs_proxy_parts.specs.{State.{Handshake, ProxyState}, Turns.turn_of, declared.answers.Turn.Turn}
 use Rattle.laws_tables.proofs.Changes.{without_changed}
-use Rattle.laws_device.{specs.{Honest.HoldsBytes, Walk.Seen.Seen}, proofs.{Ringing.same_self, Fits.{fewer, fits_after, fits_forwarded, fits_paid, fits_sent, fits_shut}}}
+use Rattle.laws_device.{specs.{Honest.HoldsBytes, Walk.Seen.Seen}, proofs.{Ringing.same_self, Fits.{fewer, fits_forwarded, fits_paid, fits_sent}}}
 use Rattle.laws_device.proofs.{Named.Keeping.{asking, keeps_end}, Walk.{Keeping.{Asking, Keeps, keeps_if, keeps_some, keeps_then}, Serving.{AfterRead, AfterWrite, Closes, Fills}}}
 use Rattle.laws_device.proofs.Walk.{Serving.{IsIn, Writes, by_flow, keeps_fill_rx, keeps_leaving, keeps_pay_event, keeps_pump, keeps_tick}, Turning.{AfterAccept, AfterByte}}
 use Rattle.laws_device.proofs.Walk.Turning.{Between, Ends, Shakes, keeps_turn_by}
-use Rattle.laws_rest.{specs.Pending.{IsExact, delivered}, proofs.Unread.{hears, pays, shuts, writes}}
+use Rattle.laws_rest.{proofs.Unread.{pays, writes}}
 use Rattle.laws_settled.specs.Exact.{AreExact, HoldsExactly}
 use Rattle.vs_conn.specs.declared.end.Verdict.TheVariants as verdict
 use Rattle.vs_conn.specs.declared.end.Why.TheVariants as why
@@ -32,7 +33,6 @@ use Rattle.vs_outside.specs.declared.host_net.StreamRead.TheVariants as read
 use Rattle.vs_outside.specs.declared.host_net.StreamWrite.TheVariants as write
 use Rattle.vs_ring_port.specs.declared.device_ring.Next.TheVariants as next
 use Rattle.vs_device_parts.specs.declared.answers.Taken.TheVariants as taken
-use Rattle.laws_device.proofs.Fits as fits
 use Rattle.laws_device.proofs.Walk.Serving as serving
 
 -- CONNECTIONS
@@ -49,16 +49,8 @@ pays_hold : (c : DeviceConnection) (what : Owed) (asked_at : Option ℕ) → owe
     → HoldsExactly (record c { end = paid_of c.end what; asked_at = asked_at })
 pays_hold c what asked_at owes is = record { bytes = fits_paid c.end what (length c.pending) is.bytes; exact = λ open_yet. pays c what owes is.exact open_yet }
 
-kept_by : (b : Bool) (bytes : List ℕ) → cond b 0 (length bytes) ≡ length (cond b [] bytes)
-kept_by true bytes = refl
-kept_by false bytes = refl
-
 shuts_hold : (c : DeviceConnection) (bits now : ℕ) → HoldsExactly c → HoldsExactly (after_shut bits now c)
-shuts_hold c bits now is = record {
-  bytes = subst (λ (u : ℕ). HoldsBytes (with_shut c.end bits).credit u) (kept_by (with_shut c.end bits).own.receive c.pending)
-      (fits_shut c.end bits (length c.pending) is.bytes);
-  exact = shuts c bits now is.bytes is.exact;
-}
+shuts_hold c bits now is = grind (arith, common_steps)
 
 writes_hold : (c : DeviceConnection) (n : ℕ) → n ≤ length (to_write c) → HoldsExactly c → HoldsExactly (after_written n c)
 writes_hold c n less is =
@@ -72,38 +64,20 @@ writes_hold c n less is =
       exact = writes c n is.bytes less is.exact;
     }
 
-none_delivered : (v : Verdict) → (v ≡ verdict.Deliver → ⊥) → (n : ℕ) → 0 ≡ delivered v n
-none_delivered verdict.Deliver other n = absurd (other refl)
-none_delivered _ other n = refl
-
 hears_hold : (c : DeviceConnection) (h : Header) (line : List ℕ) → (verdict_of c.end h ≡ verdict.Deliver → ⊥) → HoldsExactly c
     → HoldsExactly (record (heard h c) { ok_line = line })
-hears_hold c h line other is = record {
-  bytes = fewer (end_after c.end h).credit _ (length c.pending) (fits_after c.end h (length c.pending) is.bytes) (omega arith);
-  exact = λ open_yet. hears c h [] is.bytes (none_delivered (verdict_of c.end h) other h.len) is.exact open_yet ∙ ap (λ (bs : List ℕ). length bs) (append-nil c.pending);
-}
+hears_hold c h line other is = grind (arith, common_steps)
 
 delivers_hold : (c : DeviceConnection) (h : Header) (payload : List ℕ) → verdict_of c.end h ≡ verdict.Deliver → length payload ≡ h.len → HoldsExactly c
     → HoldsExactly (record (heard h c) { pending = c.pending ++ payload })
-delivers_hold c h payload is len held =
-    let both = length-append c.pending payload in
-    record {
-      bytes = fewer (end_after c.end h).credit (length c.pending + h.len) (length (c.pending ++ payload))
-          (subst (λ (v : Verdict). HoldsBytes (end_after c.end h).credit (length c.pending + fits.delivered v h.len)) is
-          (fits_after c.end h (length c.pending) held.bytes)) (omega (arith, both, len));
-      exact = hears c h payload held.bytes (len ∙ ap (λ (v : Verdict). delivered v h.len) (sym is)) held.exact;
-    }
+delivers_hold c h payload is len held = grind (arith, common_steps)
 
 -- TABLES
 abbrev EntryHolds : DeviceEntry → Type 0
 EntryHolds e = HoldsExactly e.value
 
 revalued_holds : (slot : ℕ) (c : DeviceConnection) (e : DeviceEntry) → HoldsExactly c → EntryHolds e → EntryHolds (revalued slot c e)
-revalued_holds slot c e one is = by (e.slot == slot)
-  where
-    by : (b : Bool) → EntryHolds (cond b (record e { value = c }) e)
-    by true = one
-    by false = is
+revalued_holds slot c e one is = grind (arith, common_steps)
 
 with_holds : (t : Table DeviceConnection) (slot : ℕ) (c : DeviceConnection) → HoldsExactly c → AreExact t → AreExact (with_value t slot c)
 with_holds t slot c one all =
@@ -126,10 +100,7 @@ client_holds : (stream : ℕ) → HoldsExactly (new_connection (asked Stream BUF
 client_holds stream = record { bytes = empty_fits; exact = λ open_yet. refl }
 
 dialed_holds : (h : Header) (stream : ℕ) → HoldsExactly (new_connection (answering Stream BUF_ALLOC h) stream false)
-dialed_holds h stream = record {
-  bytes = record { unread = omega arith; within = omega arith; alloc = omega arith; rx = omega arith; fwd = omega arith };
-  exact = λ open_yet. refl;
-}
+dialed_holds h stream = grind (arith, common_steps)
 
 -- RINGS: one that tells its log goes on telling it, and while a chain of tx is held, its bytes.
 abbrev Told : RingContents → Type 0
@@ -238,9 +209,7 @@ module _ (hands : List Handshake) where
   }
 
   event_came : (s : DeviceState) (n : Next) (d : Situation) → At s d → serving.AfterEvent calls (D hands) s n d
-  event_came s (next.Chain chain) d at =
-      (tt, λ a e wrote. (tt, λ b f returned. (at.0, call_told (Ring (Return chain 4)) b e f returned (call_told (Ring (Write chain 0 _)) a d e wrote at.1))))
-  event_came s _ d at = at
+  event_came s n d at = grind (arith, common_steps)
 
   held : (s : DeviceState) (n : Next) (d : Situation) → At s d → serving.AfterTake calls (D hands) s n d
   held s (next.Chain chain) d at = at

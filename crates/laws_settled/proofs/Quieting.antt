@@ -1,6 +1,7 @@
 -- A turn that put nothing.
+use Rattle.std.proofs.lemmas.Grind.{common_steps}
 use Rattle.std.proofs.Common.{◌≡◌, ◌+◌, ◌-◌, ◌≤◌, ◌&&◌, not, ◌⊎◌, inl, inr, ℕ, Bool, true, false, Option, Some, None, Ok, Err, refl, sym, ap, subst, ◌∙◌, arith}
-use Rattle.std.{proofs.lemmas.Option.same_Some, specs.Option.ForSome}
+use Rattle.std.{specs.Option.ForSome}
 use Rattle.vs_contents.{specs.{CallTree.Done, Contents.Relates}, proofs.Leads.leads_split}
 use Rattle.vs_flow.specs.Table.{IsTable}
 use Rattle.vs_ring_port.specs.{Known.{Known, StopsAt}, declared.{failure.Failure.Failure, queue.Queue.TheVariants.Rx}}
@@ -130,9 +131,7 @@ says : (s : ProxyState) (l : Turning) (t : Turned) → turned s l ≡ turn.Turne
 says s l t answer = says_by s l t l.state.device.failed answer
 
 told_taken : (o p : Option Known) → Relates o p (StopsAt Rx) → ForSome p (λ k. k.rx.told ≤ k.rx.taken)
-told_taken None p stops = λ k is. absurd cc
-told_taken (Some j) None stops = absurd stops
-told_taken (Some j) (Some i) stops = λ k is. subst (λ (x : Known). x.rx.told ≤ x.rx.taken) (same_Some i k is) stops.all_told
+told_taken o p stops = grind (arith, common_steps)
 
 -- The filling of a turn that put nothing, and the writing before it.
 pub record LastFill (b : Situation) (d : DeviceState) (t : Turned) : Type 0 where

@@ -1,12 +1,12 @@
 -- From what the last round tells to the ends at rest.
-use Rattle.std.proofs.Common.{◌≡◌, ◌≤◌, ◌+◌, ◌-◌, ◌⊎◌, ◌||◌, inl, inr, ℕ, Bool, true, false, List, [], ◌∷◌, ◌++◌, length, refl, sym, ap, subst, ◌∙◌, arith}
+use Rattle.std.proofs.{Common.{◌≡◌, ◌+◌, ◌||◌, ℕ, Bool, true, false, List, [], ◌∷◌, ◌++◌, length, refl, sym, ap, subst, ◌∙◌, arith}, lemmas.Grind.common_steps}
 use Rattle.std.{proofs.lemmas.List.Elements.{All-head, All-tail}, specs.{List.All, Prelude.map}}
 use Rattle.vs_flow.specs.{Flow.same_flow, declared.flow.Flow.Flow}
 use Rattle.vs_limits.specs.declared.TheConstants.{FIRST_CID, HOST_CID}
 use Rattle.laws_history.specs.declared.packet.Packet.{Packet}
 use Rattle.vs_page.specs.{Fair.IsFairLog, Held.{held_in, packet_held}, Log.{Device, Driver, Log, Role, events_got, events_put, other_role, packets_got, packets_put}}
 use Rattle.vs_page.{specs.declared.log.LogEntry.TheVariants.{GotEvent, GotPacket, Mark, PutEvent, PutPacket}, proofs.Flows.same_is}
-use Rattle.vs_ring_port.specs.{Counts.Counts, declared.queue.Queue.TheVariants.{Rx, Tx}}
+use Rattle.vs_ring_port.specs.{declared.queue.Queue.TheVariants.{Rx, Tx}}
 use Rattle.vs_ring_shared.specs.Sights.{DeviceSight, Sight}
 use Rattle.laws_tables.specs.{Both.{Both, at}, Ends.{flows_of, is_among}, Matches.Matches}
 use Rattle.vs_driver_parts.specs.State.{DriverEntry, DriverState}
@@ -66,11 +66,7 @@ module _ (n : ℕ) (d : DriverState) (driver : Sight) (p : ProxyState) (device :
       all_there tx (record { there = over.tied.there Tx; back = over.tied.back Tx; held = omega (arith, held) }) (omega (arith, took, none))
 
   pub rx_flight : length driver.rx.put ≡ length driver.rx.got + n
-  rx_flight =
-      let took = over.driver_took Rx in
-      let staged : length driver.rx.staged ≡ 0 = ap (λ (c : Counts). c.rx) over.ring.staged in
-      let flight : length driver.rx.put + length driver.rx.staged - length driver.rx.got ≡ n = ap (λ (c : Counts). c.rx) over.ring.flight in
-      omega (arith, took, staged, flight)
+  rx_flight = grind (arith, common_steps)
 
   rx_same : device.sight.rx.put ≡ driver.rx.got
   unfolding rx
@@ -86,11 +82,7 @@ module _ (n : ℕ) (d : DriverState) (driver : Sight) (p : ProxyState) (device :
   to_driver = over.tied.device_log.put ∙ ap (λ pages. held_in packet_held pages) rx_same ∙ sym over.tied.driver_log.got
 
   device_owes : OwesNothing both.device.part
-  device_owes = by over.device_owes
-    where
-      by : OwesNothing both.device.part ⊎ (length driver.rx.put ≤ length device.sight.rx.put) → OwesNothing both.device.part
-      by (inl none) = none
-      by (inr lacks) = let given = over.all_given in let some = over.some in absurd (omega (arith, lacks, given, some))
+  device_owes = grind (arith, common_steps)
 
   matches : (role : Role) → Matches role FIRST_CID (at role both).part (at role both).log
   matches Driver = over.driver_agrees.matches

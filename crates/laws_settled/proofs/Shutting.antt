@@ -1,7 +1,8 @@
 -- Through a turn the device shuts the receiving of a connection only where the host's program closed its stream.
-use Rattle.std.proofs.Common.{◌≡◌, ℕ, zero, suc, ◌-◌, ◌==◌, ◌||◌, not, Bool, true, false, cond, List, [], ◌∷◌, ◌++◌, length, min, get_or, Option, Some, None, refl, sym, ap, subst}
+use Rattle.std.proofs.lemmas.Grind.{common_steps}
+use Rattle.std.proofs.Common.{◌≡◌, ℕ, zero, suc, ◌-◌, ◌==◌, ◌||◌, not, Bool, true, false, cond, List, [], ◌∷◌, ◌++◌, length, get_or, Option, Some, None, refl, sym, ap, subst}
 use Rattle.std.proofs.{Common.{◌∙◌, arith, drop, take}, lemmas.{Bool.{eq-eqb, eqb-true}, List.Elements.{All-contains, All-filter, All-map, All-push}, Option.same_Some}}
-use Rattle.std.specs.{Option.{ForSome, option_map_or}, Prelude.slice_get}
+use Rattle.std.specs.{Option.{ForSome}, Prelude.slice_get}
 use Rattle.vs_contents.specs.Contents.{Exposes}
 use Rattle.vs_conn.{specs.{End.{answering, asked, paid_of, wanting_credit, with_payload_sent}, Headers.payload_header, Shut.neither}, proofs.Frames.{got_own, paid_own}}
 use Rattle.vs_flow.specs.{Table.{Table, next_entry, revalued, with_entry, with_value, without}, declared.flow.Flow.Flow}
@@ -9,8 +10,8 @@ use Rattle.vs_header.specs.declared.{Header.Header, Kind.TheVariants.Stream}
 use Rattle.vs_limits.specs.declared.TheConstants.{BUF_ALLOC}
 use Rattle.vs_page.specs.Log.{flow_to_host}
 use Rattle.vs_uds.specs.OkLine.{ok_text}
-use Rattle.vs_outside.specs.Host.{HostContents, Stream as HostStream, after_accept, after_dial, after_read, after_write, called, dialed_stream, fails_now, stream_at, taken_of}
-use Rattle.vs_outside.specs.Host.{with_label_call, with_shut_write_call, with_stream, write_answer, write_of, give_bytes, read_answer, read_of, take_bytes}
+use Rattle.vs_outside.specs.Host.{HostContents, Stream as HostStream, after_accept, after_dial, after_read, after_write, called, dialed_stream, fails_now, stream_at}
+use Rattle.vs_outside.specs.Host.{with_label_call, with_shut_write_call, with_stream, write_answer, give_bytes, read_answer, take_bytes}
 use Rattle.vs_outside.{specs.declared.host_net.{Accepted.Accepted, Dialed.Dialed, StreamRead.StreamRead, StreamWrite.StreamWrite}, proofs.Frames.{keeps_others, slice_get-append}}
 use Rattle.vs_outside.proofs.Frames.{stream_at-with_stream, stream_place}
 use Rattle.vs_ring_port.specs.declared.device_ring.{Chain.Chain, Next.Next}
@@ -89,48 +90,17 @@ write_stays id bytes _ h = stays_none h
 
 -- A write that says so was of such a stream.
 closed_so : (id n : ℕ) (h : HostContents) → write.Closed ≡ write_answer id n h → IsClosedAt id h
-closed_so id n h is = by (fails_now h) (stream_at id h) refl is
-  where
-    of : (s : HostStream) (b c : Bool) → s.host_closed ≡ b → write.Closed ≡ cond b write.Closed (cond c write.Again (write.Took (taken_of n s))) → s.host_closed ≡ true
-    of s true c at so = at
-    of s false true at so = absurd cc
-    of s false false at so = absurd cc
-
-    by : (b : Bool) (o : Option HostStream) → stream_at id h ≡ o → write.Closed ≡ cond b write.Failed (option_map_or (write_of n) o write.Again) → IsClosedAt id h
-    by true o at so = absurd cc
-    by false None at so = absurd cc
-    by false (Some s) at so = (s, at, of s s.host_closed (taken_of n s == 0) refl so)
+closed_so id n h is = grind (arith, common_steps)
 
 ended_so : (id n : ℕ) (h : HostContents) → read.End ≡ read_answer id n h → IsEndedAt id h
-ended_so id n h is = by (fails_now h) (stream_at id h) refl is
-  where
-    empty : (xs : List ℕ) → (length xs == 0) ≡ true → xs ≡ []
-    empty [] none = refl
-    empty (x ∷ xs) none = let no = eqb-true (length (x ∷ xs)) 0 none in absurd (omega (arith, no))
-
-    of : (s : HostStream) (b : Bool) → (length s.untaken == 0) ≡ b → (c : Bool) → s.ended ≡ c
-        → read.End ≡ cond b (cond c read.End read.Again) (read.Got (min n (length s.untaken))) → GivesNoMore s
-    of s true none true at so = (at, λ e. empty s.untaken none)
-    of s true none false at so = absurd cc
-    of s false some c at so = absurd cc
-
-    by : (b : Bool) (o : Option HostStream) → stream_at id h ≡ o → read.End ≡ cond b read.Failed (option_map_or (read_of n) o read.Again) → IsEndedAt id h
-    by true o at so = absurd cc
-    by false None at so = absurd cc
-    by false (Some s) at so = (s, at, of s (length s.untaken == 0) refl s.ended refl so)
+ended_so id n h is = grind (arith, common_steps)
 
 -- TABLES
 same_shut : (h : HostContents) (c d : DeviceConnection) → d.stream ≡ c.stream → d.end.own ≡ c.end.own → IsShutBy c h → IsShutBy d h
-same_shut h c d stream own is = record {
-  receives = λ shut. subst (λ (n : ℕ). IsClosedAt n h) (sym stream) (is.receives (ap (λ o. o.receive) (sym own) ∙ shut));
-  sends = λ shut. subst (λ (n : ℕ). IsEndedAt n h) (sym stream) (is.sends (ap (λ o. o.send) (sym own) ∙ shut));
-}
+same_shut h c d stream own is = grind (arith, common_steps)
 
 stays_shut : (h g : HostContents) (c : DeviceConnection) → Stay h g → IsShutBy c h → IsShutBy c g
-stays_shut h g c stays is = record {
-  receives = λ own. let was = is.receives own in let now = stays c.stream was.0 was.1 in (now.0, now.1, now.2 ∙ was.2);
-  sends = λ own. let was = is.sends own in let now = stays c.stream was.0 was.1 in (now.0, now.1, now.3 was.2);
-}
+stays_shut h g c stays is = grind (arith, common_steps)
 
 goes_on : (t : Table DeviceConnection) (o n : Option HostContents) (P : HostContents → Type 0) (f : HostContents → HostContents) → Exposes o n P f
     → ((h : HostContents) → Stay h (f h)) → AreShutBy t o → AreShutBy t n
@@ -210,9 +180,7 @@ U hands chain h s c = AreShutBy s.table c.host
 
 written_still : (t : Table DeviceConnection) (chain : Chain) (h : Header) (payload : List ℕ) (c : Situation) → AreShutBy t c.host
     → Keeps allowed (λ x d. AreShutBy t d.host) (written chain h payload) c
-written_still t chain h [] c at = λ a d made b e more. same_host t d.host e.host more.1 (same_host t c.host d.host made.1 at)
-written_still t chain h (x ∷ payload) c at = λ a d made b e more r f last.
-    same_host t e.host f.host last.1 (same_host t d.host e.host more.1 (same_host t c.host d.host made.1 at))
+written_still t chain h payload c at = grind (arith, common_steps)
 
 module _ (hands : List Handshake) where
   closes : Closes allowed (D hands)

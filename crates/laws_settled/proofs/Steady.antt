@@ -1,32 +1,18 @@
 -- A proxy that is steady stays so, and what its ring's end knows of the other one's only grows.
-use Rattle.std.proofs.{Common.{◌≡◌, ℕ, Bool, List, [], Option, Some, None, refl, sym, ap, subst, ◌∙◌, arith}, lemmas.Option.same_Some}
-use Rattle.vs_contents.specs.{CallTree.{Ask, Done}, Contents.Relates}
-use Rattle.vs_limits.specs.declared.TheConstants.{ASSIGNED_FIRST, FIRST_CID}
-use Rattle.vs_ring_port.specs.{Contents.{DeviceAnswer, DeviceCall, RingContents}, DeviceCalls.DeviceAllows, EndLog.EndLog, Known.{IsLater, Known}}
-use Rattle.vs_ring_port.{specs.declared.queue.Queue.TheVariants.Rx, proofs.Knowing.device_keeps}
+use Rattle.std.proofs.lemmas.Grind.{common_steps}
+use Rattle.std.proofs.{Common.{◌≡◌, ℕ, Bool, List, [], Option, Some, None, refl, ◌∙◌, arith}}
+use Rattle.vs_contents.specs.{Contents.Relates}
+use Rattle.vs_limits.specs.declared.TheConstants.{FIRST_CID}
+use Rattle.vs_ring_port.specs.{Contents.{DeviceAnswer, DeviceCall, RingContents}, DeviceCalls.DeviceAllows, EndLog.EndLog, Known.{Known}}
 use Rattle.vs_device_parts.specs.{Calls.{DeviceTree, Situation}, Playing.Runs}
 use Rattle.laws_rest.{specs.Calm.resets_in, proofs.Calm.calm_turns}
-use Rattle.vs_page.specs.Log.{Log}
 use Rattle.vs_proxy_parts.specs.{State.ProxyState, Turns.{new_proxy, turn_of}, declared.answers.Turn.Turn}
-use Rattle.laws_proxy.proofs.Ordered.{new_in_order, turn_honest, turn_streams}
-use Rattle.laws_settled.{specs.{Hosts.IsHosts, Settled.IsSteady}, proofs.{Exact.exact_turns, Hosted.turn_hosts, Shutting.turn_shuts}}
-use Rattle.laws_device.{specs.Honest.ends_of_state, proofs.{Logs.over_runs, Packets.joined}}
+use Rattle.laws_proxy.proofs.Ordered.{turn_honest, turn_streams}
+use Rattle.laws_settled.{specs.{Settled.IsSteady}, proofs.{Exact.exact_turns, Hosted.turn_hosts, Shutting.turn_shuts}}
+use Rattle.laws_device.{proofs.{Logs.over_runs, Packets.joined}}
 
 pub new_steady : (base : List ℕ) (a : Situation) (l : EndLog) → a.ring.log ≡ Some l → l.entries ≡ [] → l.held ≡ [] → IsSteady (new_proxy FIRST_CID base) a
-new_steady base a l told silent none = record {
-  order = new_in_order FIRST_CID base ASSIGNED_FIRST a (omega arith) (omega arith) (λ m is.
-      let same = same_Some l m (sym told ∙ is) in
-      (ap (λ (x : EndLog). x.entries) (sym same) ∙ silent, ap (λ (x : EndLog). x.held) (sym same) ∙ none));
-  no_reset = ap resets_in told ∙ ap (λ (log : Log). resets_in (Some (record l { entries = log }))) silent;
-  no_event = (refl, tt);
-  hosts = λ honest m is.
-      let same = same_Some l m (sym told ∙ is) in
-      subst (λ (log : Log). IsHosts (ends_of_state (new_proxy FIRST_CID base).next_port (new_proxy FIRST_CID base).device) log)
-      (sym (ap (λ (x : EndLog). x.entries) (sym same) ∙ silent))
-      (record { entries = tt; replies = tt; puts = λ i d within. absurd (omega (arith, within)) });
-  exact = λ i d within. absurd (omega (arith, within));
-  shut = λ h is i d within. absurd (omega (arith, within));
-}
+new_steady base a l told silent none = grind (arith, common_steps)
 
 -- A ring that tells of resets tells its log.
 log_told : (o : Option EndLog) (r : Bool × List ℕ) → resets_in o ≡ Some r → (l : EndLog) × (o ≡ Some l)
@@ -59,12 +45,7 @@ as_much None = refl
 as_much (Some k) = refl
 
 by_ring : (call : DeviceCall) (a : DeviceAnswer call) (c d : RingContents) → DeviceAllows call a c d → Relates c.known d.known ToldAsMuch
-by_ring call a c d allowed = later c.known d.known (device_keeps (Ask call (λ z. Done z)) a c d (a, d, allowed, (refl, refl)))
-  where
-    later : (o p : Option Known) → Relates o p IsLater → Relates o p ToldAsMuch
-    later None p is = is
-    later (Some k) None is = absurd is
-    later (Some k) (Some i) is = is.told Rx
+by_ring call a c d allowed = grind (arith, common_steps)
 
 pub told_runs : {A : Type 0} (tree : DeviceTree A) (c d : Situation) (x : A) → Runs tree c x d → Relates c.ring.known d.ring.known ToldAsMuch
 told_runs = over_runs (λ c d. Relates c.known d.known ToldAsMuch) (λ c. as_much c.known)

@@ -1,18 +1,17 @@
 -- A poll counts each page of rx that it takes back.
+use Rattle.std.proofs.lemmas.Grind.{common_steps}
 use Rattle.std.proofs.Common.{◌≡◌, ◌+◌, ◌==◌, ℕ, zero, suc, nat_le, nat_lt, Bool, true, false, cond, List, [], ◌∷◌, length, Option, Some, None, refl, sym, ap, subst, ◌∙◌, arith}
 use Rattle.vs_contents.specs.{CallTree.{Ask, Done, bind, for_each, while_up_to}, Contents.Relates}
-use Rattle.vs_conn.specs.{End.owes_of, declared.end.Owed.Owed}
-use Rattle.vs_flow.specs.Table.{entry_under, slots}
-use Rattle.vs_header.specs.Packet.{header_bytes}
+use Rattle.vs_flow.specs.Table.{slots}
 use Rattle.vs_limits.specs.declared.TheConstants.{DRIVER_REPLIES_FULL, OWED_MAX, STAGED_MAX}
 use Rattle.vs_replies.specs.declared.Reply.{Reply}
 use Rattle.vs_ring_port.specs.{Contents.RingContents, DriverCalls.{DriverAnswer, DriverCall, DriverLearns, LoadCid, Publish, Reap, Stage}, EndLog.EndLog, Known.{Finds, Known}}
 use Rattle.vs_ring_port.specs.{Known.{after_stores, stores_for}, declared.queue.Queue.{Queue, TheVariants.{Event, Rx, Tx}}}
-use Rattle.vs_driver_parts.specs.Conversations.{DriverTree, Round, after_paying, all_taken, event_reaped, event_taken, goes_on_with, has_page, one_put, packet_reaped, pay_all}
+use Rattle.vs_driver_parts.specs.Conversations.{DriverTree, Round, all_taken, event_reaped, event_taken, goes_on_with, packet_reaped, pay_all}
 use Rattle.vs_driver_parts.specs.Conversations.{pay_and_publish, pay_slot, poll_of, poll_packets, poll_puts, poll_reaps, polled, publish_and_pay, published, put_all, put_owed}
-use Rattle.vs_driver_parts.specs.Conversations.{owed_bytes, put_owed_of, put_replies, reply_header, put_reply, put_reply_of, reap_all, reap_one, stage_of, stage_packet}
+use Rattle.vs_driver_parts.specs.Conversations.{put_replies, put_reply, put_reply_of, reap_all, reap_one, stage_of}
 use Rattle.vs_driver_parts.specs.{Conversations.{staged_again, take_all, take_event, take_packet}, Playing.{Plays, RingAllows}, Receiving.{is_reset_event, on_page}}
-use Rattle.vs_driver_parts.specs.{State.{DriverEntry, DriverState}, declared.answers.Polled.Polled}
+use Rattle.vs_driver_parts.specs.{State.{DriverState}, declared.answers.Polled.Polled}
 
 -- How many pages of rx were taken back, after a call.
 abbrev more : (call : DriverCall) → DriverAnswer call → ℕ → ℕ
@@ -93,30 +92,11 @@ module _ (n : ℕ) where
   reaps_one : (s : DriverState) → Same n (reap_one s)
   reaps_one s = same_if (s.in_flight == 0) _ _ n refl (λ a. refl)
 
-  stages_packet : (bytes : List ℕ) (s : DriverState) (r : Round) → Same n (bind (stage_packet bytes s) (one_put r))
-  stages_packet bytes s r = same_then (stage_packet bytes s) (one_put r) n (stages Tx bytes (record s { in_flight = s.in_flight + 1 })) (λ t. refl)
-
   puts_reply : (rs : List Reply) (r : Round) → Same n (put_reply_of rs r)
-  puts_reply [] r = refl
-  puts_reply (reply ∷ rs) r =
-      same_if (has_page r.state) _ _ n (stages_packet (header_bytes (reply_header r.state.cid reply)) (record r.state { replies = rs }) r) refl
-
-  puts_what : (what : Owed) (e : DriverEntry) (r : Round) → Same n (put_owed_of what e r)
-  puts_what what e r = same_if (has_page r.state) _ _ n (stages_packet (owed_bytes what e r.state) (after_paying what e r.state) r) refl
+  puts_reply rs r = grind (arith, common_steps)
 
   puts_owed : (slot : ℕ) (r : Round) → Same n (put_owed slot r)
-  puts_owed slot r = by (entry_under r.state.table slot)
-    where
-      owing : (e : DriverEntry) (o : Option Owed) → Same n (elim o as (λ _. DriverTree (Round × Bool)) [ None ↦ Done (r, false) | Some what ↦ put_owed_of what e r ])
-      owing e None = refl
-      owing e (Some what) = puts_what what e r
-
-      by : (o : Option DriverEntry) → Same n (elim o as (λ _. DriverTree (Round × Bool)) [
-        | None ↦ Done (r, false)
-        | Some e ↦ elim (owes_of e.value.end) [ None ↦ Done (r, false) | Some what ↦ put_owed_of what e r ]
-      ])
-      by None = refl
-      by (Some e) = owing e (owes_of e.value.end)
+  puts_owed slot r = grind (arith, common_steps)
 
   pays_all : (r : Round) → Same n (pay_all r)
   pays_all r = same_each pay_slot n (λ slot q. same_while (put_owed slot) n (puts_owed slot) OWED_MAX q) (slots r.state.table) r
@@ -170,17 +150,10 @@ abbrev Rises : ℕ → ℕ → Known → Known → Type 0
 Rises n m k i = i.rx.taken + n ≡ k.rx.taken + m
 
 finds_rises : (queue : Queue) (page : Option (List ℕ)) (n : ℕ) (k i : Known) → Finds queue page k i → Rises n (more (Reap queue) page n) k i
-finds_rises Rx None n k i finds = ap (λ (j : Known). j.rx.taken + n) finds.is ∙ omega arith
-finds_rises Rx (Some page) n k i finds = ap (λ (j : Known). j.rx.taken + n) finds.1.is ∙ omega arith
-finds_rises Tx None n k i finds = ap (λ (j : Known). j.rx.taken + n) finds.is
-finds_rises Tx (Some page) n k i finds = ap (λ (j : Known). j.rx.taken + n) finds.1.is
-finds_rises Event None n k i finds = ap (λ (j : Known). j.rx.taken + n) finds.is
-finds_rises Event (Some page) n k i finds = ap (λ (j : Known). j.rx.taken + n) finds.1.is
+finds_rises queue page n k i finds = grind (arith, common_steps)
 
 stores_rise : (queue : Queue) (n stores : ℕ) (k i : Known) → i ≡ after_stores stores queue k → Rises n n k i
-stores_rise Rx n stores k i is = ap (λ (j : Known). j.rx.taken + n) is
-stores_rise Tx n stores k i is = ap (λ (j : Known). j.rx.taken + n) is
-stores_rise Event n stores k i is = ap (λ (j : Known). j.rx.taken + n) is
+stores_rise queue n stores k i is = grind (arith, common_steps)
 
 learn_rises : (call : DriverCall) (a : DriverAnswer call) (log : Option EndLog) (n : ℕ) (k i : Known) → DriverLearns call a log k i
     → Rises n (more call a n) k i
@@ -197,17 +170,11 @@ learns (Reap queue) page c d allowed = allowed.1.known
 learns LoadCid cid c d allowed = allowed.1.known
 
 no_rise : (n : ℕ) (o p : Option Known) → o ≡ p → Relates o p (Rises n n)
-no_rise n None p same = sym same
-no_rise n (Some k) None same = absurd cc
-no_rise n (Some k) (Some i) same = let is : i ≡ k = cc in ap (λ (j : Known). j.rx.taken + n) is
+no_rise n o p same = grind (arith, common_steps)
 
 rises_then : (R : Known → Known → Type 0) (o p q : Option Known) (n j m : ℕ) → Relates o p R → ((k i : Known) → R k i → Rises n j k i)
     → Relates p q (Rises j m) → Relates o q (Rises n m)
-rises_then R None None q n j m first rises rest = rest
-rises_then R None (Some i) q n j m first rises rest = absurd cc
-rises_then R (Some k) None q n j m first rises rest = absurd first
-rises_then R (Some k) (Some i) None n j m first rises rest = absurd rest
-rises_then R (Some k) (Some i) (Some l) n j m first rises rest = let one = rises k i first in omega (arith, one, rest)
+rises_then R o p q n j m first rises rest = grind (arith, common_steps)
 
 walks_run : {A : Type 0} (Q : A → ℕ → Type 0) (tree : DriverTree A) (n : ℕ) (c d : RingContents) (x : A) → Walks Q tree n → Plays tree c x d
     → (m : ℕ) × Q x m × Relates c.known d.known (Rises n m)
@@ -226,9 +193,7 @@ abbrev pub TakesNone : Known → Known → Type 0
 TakesNone k i = i.rx.taken ≡ k.rx.taken
 
 takes_none : (o p : Option Known) (m : ℕ) → m ≡ 0 → Relates o p (Rises 0 m) → Relates o p TakesNone
-takes_none None p m none rises = rises
-takes_none (Some k) None m none rises = rises
-takes_none (Some k) (Some i) m none rises = omega (arith, none, rises)
+takes_none o p m none rises = grind (arith, common_steps)
 
 pub poll_takes_none : (s t : DriverState) (c d : RingContents) (p : Polled) → Plays (poll_of s) c (t, p) d → p.took ≡ 0
     → Relates c.known d.known TakesNone

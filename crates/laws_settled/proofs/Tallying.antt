@@ -1,6 +1,7 @@
 -- A turn counts a packet as dropped only where it is one, and a fault only where a call of the host failed.
-use Rattle.std.proofs.Common.{◌≡◌, ℕ, ◌+◌, ◌≤◌, Bool, true, false, List, [], ◌∷◌, length, take, IsSomeAnd, Option, Some, None, refl, sym, ap, subst, ◌∙◌, arith}
-use Rattle.std.{proofs.lemmas.{Bool.Decides.nat_tests, List.Elements.{All-head, All-tail}, Option.same_Some}, specs.{List.All, Option.ForSome}}
+use Rattle.std.proofs.lemmas.Grind.{common_steps}
+use Rattle.std.proofs.Common.{◌≡◌, ℕ, ◌+◌, Bool, true, false, List, [], ◌∷◌, length, take, IsSomeAnd, Option, Some, None, refl, sym, ap, subst, ◌∙◌, arith}
+use Rattle.std.{proofs.lemmas.{List.Elements.{All-head, All-tail}, Option.same_Some}, specs.{List.All, Option.ForSome}}
 use Rattle.byteorder.specs.Endian.{little_bytes}
 use Rattle.vs_contents.specs.{CallTree.{Ask, Done}, Contents.Exposes}
 use Rattle.vs_conn.specs.Headers.{payload_header}
@@ -8,9 +9,9 @@ use Rattle.laws_history.specs.{Packets.packet_bytes, declared.packet.Packet.Pack
 use Rattle.vs_header.specs.{Packet.{header_bytes, header_of}, declared.{Header.Header, TheConstants.HEADER_LEN}}
 use Rattle.vs_outside.specs.{Faults.{CountsFault, one_more}, Host.{accept_failed, dial_failed, read_failed, write_failed}, declared.host_net.{Accepted.Accepted, Dialed.Dialed}}
 use Rattle.vs_outside.specs.declared.host_net.{StreamRead.StreamRead, StreamWrite.StreamWrite}
-use Rattle.vs_page.specs.{Held.{event_held, packet_held}, Log.{Device, Log, packets_got}, Open.is_dropped, declared.log.LogEntry.TheVariants.{GotPacket, PutEvent, PutPacket}}
+use Rattle.vs_page.specs.{Held.{packet_held}, Log.{Device, Log, packets_got}, Open.is_dropped, declared.log.LogEntry.TheVariants.{GotPacket}}
 use Rattle.vs_ring_port.specs.{Chains.{bytes_in, chain_of}, Contents.{DeviceAnswer, DeviceCall, Given, PublishCid, Read, Return, RingContents, Take, Write}, DeviceCalls.IsTakenAs}
-use Rattle.vs_ring_port.specs.{DeviceCalls.IsTakenWhole, EndLog.{EndLog, entries_returned, log_returned, log_taken, log_reset, log_written, with_event, with_packet}}
+use Rattle.vs_ring_port.specs.{DeviceCalls.IsTakenWhole, EndLog.{EndLog, entries_returned, log_returned, log_taken, log_reset, log_written, with_packet}}
 use Rattle.vs_ring_port.specs.declared.{device_ring.{Chain.Chain, Next.Next}, queue.Queue.{Queue, TheVariants.{Event, Rx, Tx}}}
 use Rattle.vs_device_parts.specs.{Calls.{Allows, Answer, DeviceTree, Ring, Situation}, Connections.route_to_guest, Playing.Runs, Receiving.written, State.DeviceEntry}
 use Rattle.vs_device_parts.specs.State.{DeviceState}
@@ -18,8 +19,6 @@ use Rattle.vs_proxy_parts.specs.{State.{Handshake, ProxyState}, declared.answers
 use Rattle.laws_device.proofs.{Ringing.bytes_held, Transmitting.header_is, Walk.{Keeping.{Asking, Keeps}, Serving.{AfterEvent, AfterRead, AfterWrite, Closes, Fills, Writes}}}
 use Rattle.laws_device.{proofs.Walk.{Taking.{AfterDial, Takes}, Turning.{AfterAccept, AfterByte, Between, Shakes, keeps_turn}}, specs.Walk.Seen.{Seen, seen}}
 use Rattle.laws_settled.specs.Begun.{CountsFailed, IsKept}
-use Rattle.vs_outside.specs.declared.host_net.Accepted.TheVariants as accepted
-use Rattle.vs_outside.specs.declared.host_net.Dialed.TheVariants as dialed
 use Rattle.vs_outside.specs.declared.host_net.StreamRead.TheVariants as read
 use Rattle.vs_outside.specs.declared.host_net.StreamWrite.TheVariants as write
 use Rattle.vs_ring_port.specs.declared.device_ring.Next.TheVariants as next
@@ -39,13 +38,8 @@ runs_end Q (Done y) c d x keeps runs =
 runs_end Q (Ask call go) c d x keeps runs = runs_end Q (go runs.0) runs.1 d x (keeps runs.0 runs.1 runs.2) runs.3
 
 -- FAULTS
-one_rises : (n m : ℕ) → n ≤ m → (n ≤ one_more m) × (one_more n ≤ one_more m)
-one_rises n m most = (grind (arith, nat_tests, most), grind (arith, nat_tests, most))
-
 one_failed : (first counted new n m : ℕ) → m ≡ one_more n → CountsFailed first counted n → CountsFailed first new m
-one_failed first counted new n m is was =
-    let both = one_rises first n was.grown in
-    subst (λ (k : ℕ). CountsFailed first new k) (sym is) (record { grown = both.0; more = λ some. both.1 })
+one_failed first counted new n m is was = grind (arith, common_steps)
 
 rises : (b : Bool) (first counted n m : ℕ) → CountsFault b n m → CountsFailed first counted n → CountsFailed first counted m
 rises false first counted n m is was = subst (λ (k : ℕ). CountsFailed first counted k) (sym is) was
@@ -72,18 +66,8 @@ keeps_got : (o n : Option EndLog) (P : EndLog → Type 0) (g : EndLog → EndLog
 keeps_got o n P g is same m there =
     let was = exposed o n P g is m there in (was.0, was.1, ap (λ (x : EndLog). packets_got x.entries) was.3 ∙ same was.0)
 
-put_same : (o : Option Packet) (log : Log) → packets_got (with_packet (λ p. PutPacket p) o log) ≡ packets_got log
-put_same None log = refl
-put_same (Some p) log = refl
-
-event_same : (o : Option ℕ) (log : Log) → packets_got (with_event (λ id. PutEvent id) o log) ≡ packets_got log
-event_same None log = refl
-event_same (Some id) log = refl
-
 returned_same : (queue : Queue) (page : List ℕ) (log : Log) → packets_got (entries_returned queue page log) ≡ packets_got log
-returned_same Rx page log = put_same (packet_held page) log
-returned_same Event page log = event_same (event_held page) log
-returned_same Tx page log = refl
+returned_same queue page log = grind (arith, common_steps)
 
 -- All calls but the one that takes a page of tx.
 abbrev IsOther : DeviceCall → Type 0
@@ -92,15 +76,7 @@ IsOther call = Unit {0}
 
 taken_same : (queue : Queue) (a : Next) (page : Option (List ℕ)) (l : EndLog) → IsOther (Take queue)
     → packets_got (log_taken queue a page l).entries ≡ packets_got l.entries
-taken_same Tx a page l other = absurd other
-taken_same Rx (next.Chain chain) (Some page) l other = refl
-taken_same Event (next.Chain chain) (Some page) l other = refl
-taken_same _ a page l other = refl
-
-untaken : (n : Next) (page : Option (List ℕ)) (l : EndLog) → chain_of n ≡ None → packets_got (log_taken Tx n page l).entries ≡ packets_got l.entries
-untaken (next.Chain chain) page l none = absurd cc
-untaken next.None page l none = refl
-untaken (next.Failed f) page l none = refl
+taken_same queue a page l other = grind (arith, common_steps)
 
 ring_follows : (call : DeviceCall) (a : DeviceAnswer call) (c d : Situation) → IsOther call → Allows (Ring call) a c d → Follows c.ring d.ring
 ring_follows (Take queue) a c d other made = record {
@@ -128,17 +104,8 @@ ring_follows (PublishCid cid) a c d other made = record {
   got = keeps_got c.ring.log d.ring.log _ (log_reset cid) made.0.log (λ l. refl);
 }
 
-host_follows : (c d : RingContents) → d ≡ c → Follows c d
-host_follows c d same = record {
-  honest = ap (λ (r : RingContents). r.honest) same;
-  got = λ m there. (m, sym (ap (λ (r : RingContents). r.log) same) ∙ there, refl);
-}
-
 drops_still : (cid own dropped : ℕ) (c d : RingContents) → Follows c d → Drops cid own dropped c → Drops cid own dropped d
-drops_still cid own dropped c d follow was honest m there =
-    let before = follow.got m there in
-    let at = was (sym follow.honest ∙ honest) before.0 before.1 in
-    (at.0, subst (λ (ps : List Packet). All (IsKept cid) ps → dropped ≡ 0) (sym before.2) at.1)
+drops_still cid own dropped c d follow was honest m there = grind (arith, common_steps)
 
 -- The header of a packet that was just got.
 module _ (cid own dropped : ℕ) (chain : Chain) (bytes : List ℕ) where
@@ -196,17 +163,11 @@ module _ (cid first : ℕ) where
   -- A call on the host, and one that failed and that the device counts.
   host_go : (c d : Situation) (own dropped counted : ℕ) (b : Bool) → d.ring ≡ c.ring → CountsFault b c.faults d.faults → Tallies own dropped counted c
       → Tallies own dropped counted d
-  host_go c d own dropped counted b same counts at = record {
-    drops = drops_still cid own dropped c.ring d.ring (host_follows c.ring d.ring same) at.drops;
-    failed = rises b first counted c.faults d.faults counts at.failed;
-  }
+  host_go c d own dropped counted b same counts at = grind (arith, common_steps)
 
   host_fault : (c d : Situation) (own dropped counted new : ℕ) → d.ring ≡ c.ring → CountsFault true c.faults d.faults → Tallies own dropped counted c
       → Tallies own dropped new d
-  host_fault c d own dropped counted new same counts at = record {
-    drops = drops_still cid own dropped c.ring d.ring (host_follows c.ring d.ring same) at.drops;
-    failed = one_failed first counted new c.faults d.faults counts at.failed;
-  }
+  host_fault c d own dropped counted new same counts at = grind (arith, common_steps)
 
   ring_go : (call : DeviceCall) (a : DeviceAnswer call) (c d : Situation) (own dropped counted : ℕ) → IsOther call → Allows (Ring call) a c d
       → Tallies own dropped counted c → Tallies own dropped counted d
@@ -302,13 +263,7 @@ module _ (cid first : ℕ) where
     -- No page was there, or the ring failed: no packet was got.
     none_taken : (s : DeviceState) (n : Next) (c d : Situation) → chain_of n ≡ None → Allows (Ring (Take Tx)) n c d → D hands None (seen s) c
         → Tallies s.cid s.dropped s.faults d
-    none_taken s n c d none made at = record {
-      drops = drops_still cid s.cid s.dropped c.ring d.ring (record {
-        honest = made.0.1.honest;
-        got = keeps_got c.ring.log d.ring.log _ (log_taken Tx n made.0.0) made.0.1.log (λ l. untaken n made.0.0 l none);
-      }) at.drops;
-      failed = rises false first s.faults c.faults d.faults made.2 at.failed;
-    }
+    none_taken s n c d none made at = grind (arith, common_steps)
 
     taken_by : (s : DeviceState) (n : Next) (c d : Situation) → Allows (Ring (Take Tx)) n c d → D hands None (seen s) c
         → taking.AfterTake allowed (D hands) (U hands) s n d
@@ -322,9 +277,7 @@ module _ (cid first : ℕ) where
 
     dials : (chain : Chain) (h : Header) (s : DeviceState) (a : Dialed) (c d : Situation) → d.ring ≡ c.ring → CountsFault (dial_failed a) c.faults d.faults
         → D hands (Some chain) (seen s) c → AfterDial allowed (D hands) (U hands) chain h s a d
-    dials chain h s (dialed.Stream id) c d same counts at = host_go c d s.cid s.dropped s.faults false same counts at
-    dials chain h s dialed.Refused c d same counts at = host_go c d s.cid s.dropped s.faults false same counts at
-    dials chain h s dialed.Failed c d same counts at = host_fault c d s.cid s.dropped s.faults _ same counts at
+    dials chain h s a c d same counts at = grind (arith, common_steps)
 
     takes : Takes allowed (D hands) (U hands)
     takes = record {
@@ -339,9 +292,7 @@ module _ (cid first : ℕ) where
 
   accepted_by : (hands : List Handshake) (port : ℕ) (s : DeviceState) (a : Accepted) (c d : Situation) → d.ring ≡ c.ring
       → CountsFault (accept_failed a) c.faults d.faults → D hands None (seen s) c → AfterAccept allowed (Between D) hands port s a d
-  accepted_by hands port s (accepted.Stream id) c d same counts at = host_go c d s.cid s.dropped s.faults false same counts at
-  accepted_by hands port s accepted.None c d same counts at = host_go c d s.cid s.dropped s.faults false same counts at
-  accepted_by hands port s accepted.Failed c d same counts at = host_fault c d s.cid s.dropped s.faults _ same counts at
+  accepted_by hands port s a c d same counts at = grind (arith, common_steps)
 
   byte_read : (h : Handshake) (hands : List Handshake) (port : ℕ) (s : DeviceState) (a : StreamRead) (bytes : List ℕ) (c d : Situation)
       → d.ring ≡ c.ring → CountsFault (read_failed a) c.faults d.faults → D hands None (seen s) c

@@ -1,20 +1,20 @@
 -- Whole calls leave no page staged; nor does the opening of the world.
-use Rattle.std.proofs.Common.{◌≡◌, ℕ, zero, suc, ◌+◌, ◌==◌, Bool, true, false, cond, List, [], length, Option, Some, None, Result, Ok, Err, refl, ap, ◌∙◌}
+use Rattle.std.proofs.lemmas.Grind.{common_steps}
+use Rattle.std.proofs.Common.{◌≡◌, ℕ, zero, suc, ◌+◌, ◌==◌, Bool, true, false, cond, List, [], length, Option, Some, None, Result, Ok, Err, refl, ap, ◌∙◌, arith}
 use Rattle.vs_contents.specs.CallTree.{Done, Ask, bind, played, while_up_to}
-use Rattle.vs_conn.specs.{End.{may_send_of, wanting_credit, with_payload_sent}, declared.end.Stop.Stop}
+use Rattle.vs_conn.specs.{End.{may_send_of, wanting_credit}, declared.end.Stop.Stop}
 use Rattle.vs_outside.specs.Host.{HostContents}
 use Rattle.vs_limits.specs.declared.TheConstants.{HOST_CID}
 use Rattle.vs_ring_list.specs.Ends.{empty_ends}
-use Rattle.vs_ring_port.specs.{DriverCalls.{Publish, Stage, driver_answer}, EndLog.{EndLog, with_pages}, Lists.Rings, declared.queue.Queue.Queue}
+use Rattle.vs_ring_port.specs.{DriverCalls.{Publish, Stage, driver_answer}, EndLog.{EndLog}, Lists.Rings, declared.queue.Queue.Queue}
 use Rattle.vs_driver_parts.specs.{State.{DriverEntry, DriverState, entry_known_as}, declared.answers.{ConnectError.ConnectError, Sent.Sent}, Connections.connect_refusal}
-use Rattle.vs_driver_parts.specs.{Connections.{connected, with_end}, Conversations.{DriverTree, connect_with_page, has_page, load_cid, new_state, no_credit, not_sent}}
-use Rattle.vs_driver_parts.specs.Conversations.{payload_bytes, payload_of, post_all, post_events, post_one, post_packet, posts, publish_of, reap_all, request_bytes, send_on}
+use Rattle.vs_driver_parts.specs.{Connections.{with_end}, Conversations.{DriverTree, connect_with_page, load_cid, new_state, no_credit, not_sent}}
+use Rattle.vs_driver_parts.specs.Conversations.{payload_of, post_all, post_events, post_one, posts, publish_of, reap_all, send_on}
 use Rattle.vs_driver_parts.specs.Conversations.{send_stopped, send_with_credit, send_with_page}
 use Rattle.laws_world.{specs.{Events.{is_at_rest, works_on}, Plays.guest_line, World.{Beginning, World, opening}}, proofs.GuestLines.{played_bind, reaps_all}}
 use Rattle.laws_world.proofs.Polls.{published_rests, rest_works}
 use Rattle.laws_driver.specs.Carried.Calls.{GuestCall, Connect, Send}
 use Rattle.vs_ring_port.specs.declared.queue.Queue.TheVariants as q
-use Rattle.vs_driver_parts.specs.declared.answers.ConnectError.TheVariants as connect_refused
 use Rattle.vs_driver_parts.specs.declared.answers.Sent.TheVariants as sent
 
 abbrev AtRest : Rings × EndLog → Type 0
@@ -24,26 +24,11 @@ AtRest r = is_at_rest r.1.staged ≡ true
 abbrev LeavesRest : {A : Type 0} → DriverTree A → Type 0
 LeavesRest tree = (r : Rings × EndLog) → AtRest r → AtRest (played driver_answer tree r).1
 
-posted : (r : Rings × EndLog) → AtRest r → is_at_rest (with_pages q.Tx [] r.1.staged) ≡ true
-posted r rest = published_rests q.Tx r.1.staged (rest_works q.Tx r.1.staged rest)
-
 connect_rests : (port : ℕ) (s : DriverState) → LeavesRest (connect_with_page HOST_CID port s)
-connect_rests port s = by (has_page s)
-  where
-    by : (b : Bool) → LeavesRest {A = DriverState × Result ℕ ConnectError} (cond b
-        (bind (post_packet (request_bytes HOST_CID port s) s)
-        (λ t. Done (connected HOST_CID port t, Ok t.next_id))) (Done (s, Err (connect_refused.NoDescriptor s.in_flight))))
-    by true = posted
-    by false = λ r rest. rest
+connect_rests port s = grind (arith, common_steps)
 
 send_rests : (e : DriverEntry) (payload : List ℕ) (s : DriverState) → LeavesRest (send_with_page e payload s)
-send_rests e payload s = by (has_page s)
-  where
-    by : (b : Bool) → LeavesRest {A = DriverState × Sent} (cond b (bind (post_packet (payload_bytes e payload s) s)
-        (λ t. Done (with_end (with_payload_sent e.value.end (length payload)) e t, sent.Took (length payload)))) (Done
-        (s, sent.NoDescriptor s.in_flight)))
-    by true = posted
-    by false = λ r rest. rest
+send_rests e payload s = grind (arith, common_steps)
 
 module _ (w : World) (rest : is_at_rest w.rings.driver.staged ≡ true) where
   reaped_rests : {A : Type 0} (k : DriverState → DriverTree A) → ((s : DriverState) → LeavesRest (k s))

@@ -1,13 +1,13 @@
 -- What a world that is well says of the bytes of its connections. Packets that the driver staged count as put.
-use Rattle.std.proofs.Common.{arith, ◌≡◌, ℕ, ◌+◌, ◌≤◌, ◌==◌, ◌++◌, Bool, true, false, cond, List, [], ◌∷◌, Contains, position, Option, Some, None, refl, sym, ap, subst, ◌∙◌}
-use Rattle.std.{proofs.{Common.option_and_then, lemmas.{Bool.Decides.nat_tests, List.Elements.All-contains}}, specs.Option.{option_map, option_map_or}}
-use Rattle.laws_device.{proofs.Carried.Hosts.{label_here, label_there, there as is_there}, specs.Carried.Streamed.{CountMatches, IsJoined, Seen, connection_in, connection_of}}
-use Rattle.laws_device.specs.Carried.Streamed.{count_in, gives, line_for, look, number_in, seen}
+use Rattle.std.proofs.{Common.{arith, ◌≡◌, ℕ, ◌+◌, ◌≤◌, ◌==◌, ◌++◌, Bool, true, false, cond, List, [], ◌∷◌, Contains, Some, refl, sym, ap, subst, ◌∙◌}, lemmas.Grind.common_steps}
+use Rattle.std.{proofs.{lemmas.{Bool.Decides.nat_tests, List.Elements.All-contains}}, specs.Option.{option_map}}
+use Rattle.laws_device.{proofs.Carried.Hosts.{label_here, there as is_there}, specs.Carried.Streamed.{CountMatches, IsJoined, Seen, connection_in, connection_of}}
+use Rattle.laws_device.specs.Carried.Streamed.{count_in, gives, line_for, look, seen}
 use Rattle.laws_rest.specs.Bytes.{BothEnds, CarryBytes}
 use Rattle.vs_device_parts.specs.State.{DeviceEntry}
 use Rattle.vs_flow.specs.{Connection.Connection, Flow.host_asks, declared.flow.Flow.Flow}
 use Rattle.laws_history.specs.{Again.{IsFairAll, count}, History.{Answerer, Asker, Got, History, Put, Side, gots, peer, puts}, Packets.{has, is_clean_rst, is_request, shuts_send}}
-use Rattle.vs_outside.specs.{Host.{HostContents, Stream, stream_at}, HostBytes.{connection_at, host_read, host_wrote, labelled_with, numbered_in}}
+use Rattle.vs_outside.specs.{Host.{HostContents, Stream, stream_at}, HostBytes.{connection_at, host_read, host_wrote}}
 use Rattle.vs_page.specs.{Fair.{IsPrefixOf, instance_from, number_of, payload_got, payload_of, payload_put}, Log.{Device, Driver, Log, Role, history_of, side_of, whole_of}}
 use Rattle.laws_tables.{specs.{Both.{Both, at}, Later.IsLater, Drains.Drains, Ends.is_among}, proofs.{Logs.prefix_then, Later.{run_later, stays_shut}, Firsts.none_begun}}
 use Rattle.laws_world.{specs.{Pipes.{IsNumbered, IsRightIn, IsSentIn}, Sides.both_of, World.World}, proofs.Sound.{Goes, IsWell}}
@@ -15,23 +15,9 @@ use Rattle.laws_driver.specs.Carried.{Calls.received_by, Senders.sent_to}
 use Rattle.laws_rest.proofs.BothEnds as both
 
 -- A stream that is seen with a label is of that connection.
-numbered_by : (ids : List ℕ) (id : ℕ) (f : Flow) → 1 ≤ number_in ids id → numbered_in ids id f ≡ Some (record { flow = f; number = number_in ids id })
-numbered_by ids id f = by (position (λ other. other == id) ids)
-  where
-    by : (o : Option ℕ) → 1 ≤ option_map_or (λ place. place + 1) o 0
-        → option_map (λ place. let k : Connection = record { flow = f; number = place + 1 } in k) o
-        ≡ Some (record { flow = f; number = option_map_or (λ place. place + 1) o 0 })
-    by None some = absurd (omega (arith, some))
-    by (Some place) some = refl
-
 seen_at : (h : HostContents) (id : ℕ) (s : Stream) (k : Connection) → stream_at id h ≡ Some s → (seen h id s).label ≡ Some k → 1 ≤ k.number
     → connection_at id h ≡ Some k
-seen_at h id s k at label some =
-    let its = label_there h id s.label k label in
-    ap (option_and_then (λ (t : Stream). option_and_then (λ f. numbered_in (labelled_with f h) id f) t.label)) at
-    ∙ ap (option_and_then (λ f. numbered_in (labelled_with f h) id f)) its.0
-    ∙ numbered_by (labelled_with k.flow h) id k.flow (subst (λ (d : Connection). 1 ≤ d.number) its.1 some)
-    ∙ ap (λ (d : Connection). Some d) (sym its.1)
+seen_at h id s k at label some = grind (arith, common_steps)
 
 -- Nothing was got on a flow before its first connection.
 none_before : (side : Side) (w : History) → IsFairAll side w → instance_from (peer side) 0 (gots w) ≡ []

@@ -1,10 +1,10 @@
 -- Each call of the device's, whole, is a list of events.
-use Rattle.std.proofs.Common.{◌≡◌, ℕ, Bool, true, false, Option, Some, None, refl, subst}
-use Rattle.vs_contents.specs.CallTree.{Done, played}
+use Rattle.std.proofs.{Common.{◌≡◌, ℕ, Option, Some, None, refl, subst, arith}, lemmas.Grind.common_steps}
+use Rattle.vs_contents.specs.CallTree.{played}
 use Rattle.vs_ring_port.specs.declared.failure.Failure.{Failure}
 use Rattle.vs_device_parts.specs.{Calls.DeviceTree, Receiving.{fill_rx_of, pay_event_of}, State.DeviceState, Streams.{pump_of, tick_of}, Transmitting.take_tx_of}
 use Rattle.vs_device_parts.specs.declared.answers.Taken.{Taken}
-use Rattle.vs_proxy_parts.specs.{State.{Turning, start, with_device}, Turns.{device_after, took_packet}}
+use Rattle.vs_proxy_parts.specs.{State.{start, with_device}}
 use Rattle.laws_world.{specs.{Answers.{Around, answer_around}, Steps.{Leads, device_calls}, World.{World, around}}, proofs.DeviceLeads.{device_bind, plays, with_proxy}}
 use Rattle.laws_world.proofs.{FillStage.fill_does, GuestLines.leads_none, PumpStage.pump_all_does, TakeStage.{counts, event_does, take_goes}, TickStage.ticks_do}
 
@@ -39,14 +39,7 @@ fills_lead w = called fill_rx_of w (λ f. leads_none (failed_as (Some f) w) _ re
 uncounted : (w : World) (d : DeviceState) (taken : Taken) (a : Around)
     → Leads w (with_proxy (played answer_around (counts (start w.proxy) (d, taken)) a).0.0.state
     (played answer_around (counts (start w.proxy) (d, taken)) a).1 w) → Leads w (with_proxy (with_device d w.proxy) a w)
-uncounted w d taken a leads = by (took_packet taken) leads
-  where
-    by : (b : Bool) → (let r = played answer_around (elim b as (λ _. DeviceTree (Turning × Bool)) [
-      | true ↦ Done (record (device_after d (start w.proxy)) { took = 1 }, true)
-      | false ↦ Done (device_after d (start w.proxy), false)
-    ]) a in Leads w (with_proxy r.0.0.state r.1 w)) → Leads w (with_proxy (with_device d w.proxy) a w)
-    by true leads = leads
-    by false leads = leads
+uncounted w d taken a leads = grind (arith, common_steps)
 
 takes_fine : (w : World) → w.proxy.device.failed ≡ None → CallLeads take_tx_of w
 takes_fine w fine =

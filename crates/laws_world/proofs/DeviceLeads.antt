@@ -1,9 +1,9 @@
 -- Steps of the device and of the proxy as lists of events: how they are put together.
-use Rattle.std.proofs.Common.{◌≡◌, ℕ, zero, suc, Bool, true, false, cond, List, [], ◌∷◌, None, is_some, refl, sym, ap, subst, ◌∙◌}
+use Rattle.std.proofs.{Common.{◌≡◌, ℕ, zero, suc, Bool, true, false, List, [], ◌∷◌, None, refl, sym, subst, ◌∙◌, arith}, lemmas.Grind.common_steps}
 use Rattle.vs_contents.{specs.CallTree.{Done, Ask, bind, for_each, played, while_up_to}, proofs.Leads.AllEnds}
 use Rattle.vs_device_parts.specs.{Calls.{Answer, Call, DeviceTree}, State.DeviceState}
 use Rattle.vs_proxy_parts.specs.State.{ProxyState, Turning, start, with_device}
-use Rattle.laws_world.specs.{Answers.{Around, answer_around}, Events.{Event, device_step, happens, has_failed, proxy_step, unless_failed}, Steps.Leads, World.{World, around}}
+use Rattle.laws_world.specs.{Answers.{Around, answer_around}, Events.{Event, device_step, happens, proxy_step, unless_failed}, Steps.Leads, World.{World, around}}
 use Rattle.laws_world.proofs.GuestLines.{leads_none, leads_one, leads_then}
 
 abbrev pub plays : {A : Type 0} → DeviceTree A → World → A × Around
@@ -58,11 +58,7 @@ fine_played tree a fine = ends_played (λ (d : DeviceState). d.failed ≡ None) 
 
 -- A step of a device whose ring didn't fail is an event.
 pub unless_is : (w : World) (step : World → World) → w.proxy.device.failed ≡ None → unless_failed step w ≡ step w
-unless_is w step fine = by (has_failed w) (ap is_some fine)
-  where
-    by : (b : Bool) → b ≡ false → cond b w (step w) ≡ step w
-    by false is = refl
-    by true is = absurd cc
+unless_is w step fine = grind (arith, common_steps)
 
 pub device_event : (e : Event) (step : DeviceState → DeviceTree DeviceState) (w : World) → happens e w ≡ unless_failed (device_step step) w
     → w.proxy.device.failed ≡ None → (let x = plays (step w.proxy.device) w in Leads w (with_proxy (with_device x.0 w.proxy) x.1 w))

@@ -1,26 +1,25 @@
 -- The device's conversations over list rings that are tied to the driver's log, and over a host in memory: whatever such a conversation keeps,
 -- it keeps here.
-use Rattle.std.proofs.Common.{◌≡◌, ℕ, zero, suc, ◌+◌, ◌<◌, ◌≤◌, ◌^◌, Bool, true, false, cond, List, [], ◌∷◌, length, take, drop, Option, Some, None, refl, sym, ap, subst, ◌∙◌}
-use Rattle.std.proofs.Common.{arith}
+use Rattle.std.proofs.lemmas.Grind.{common_steps}
+use Rattle.std.proofs.Common.{◌≡◌, ℕ, ◌+◌, ◌<◌, ◌≤◌, ◌^◌, Bool, true, false, cond, List, [], ◌∷◌, length, take, drop, Option, Some, None, refl, sym, ap, subst, ◌∙◌, arith}
 use Rattle.vs_contents.specs.CallTree.{Ask, Done, played}
 use Rattle.vs_header.specs.{Packet.header_of, declared.TheConstants.HEADER_LEN}
 use Rattle.laws_history.specs.declared.packet.Packet.{Packet}
 use Rattle.vs_outside.specs.Host.{HostContents, IsDialed, IsWritten, accept_answer, accept_failed, after_accept, after_close, after_dial, after_label, after_read, after_shut_write}
 use Rattle.vs_outside.specs.{Host.{after_write, dial_answer, dial_failed, fails_now, read_answer, read_failed, stream_at, write_answer, write_failed}, Faults.CountsFault}
 use Rattle.vs_outside.specs.{Faults.one_more, declared.host_net.{Dialed.Dialed, StreamRead.StreamRead, StreamWrite.StreamWrite}}
-use Rattle.vs_page.specs.{Fair.IsFairLog, Held.{FitsWire, held_in, packet_held}, Log.{Device, IsNextPacket, Log}, declared.log.LogEntry.TheVariants.{GotPacket, PutPacket}}
+use Rattle.vs_page.specs.{Fair.IsFairLog, Held.{FitsWire, held_in, packet_held}, Log.{Device, IsNextPacket, Log}, declared.log.LogEntry.TheVariants.{GotPacket}}
 use Rattle.vs_ring_port.specs.{Chains.{Held, bytes_in, same_chain, with_bytes, without_held, held_of}, Contents.{DeviceAnswer, DeviceCall, Given, PublishCid, Read, Return}}
 use Rattle.vs_ring_port.specs.{Contents.{RingContents, Take, Write}, DeviceCalls.{DeviceMoves, IsTakenAs, IsTakenWhole, IsWholePacket, device_answer}, EndLog.EndLog}
 use Rattle.vs_ring_port.specs.{EndLog.{entries_returned, log_reset, log_returned, log_taken, log_written, with_packet}, Lists.{Rings, after_return, after_take, all_but_oldest}}
 use Rattle.vs_ring_port.specs.{Lists.{next_at, next_given, oldest, place_after, queue_of, with_queue}, declared.queue.Queue.{Queue, TheVariants.{Event, Rx, Tx}}}
 use Rattle.vs_ring_port.specs.declared.device_ring.Chain.{Chain}
-use Rattle.vs_ring_list.{specs.{Ends.{Ends, device_contents}, Sound.IsTied}, proofs.{Held.same_chain_is, Ties.{fair-return_event, tied-return, tied-take}}}
+use Rattle.vs_ring_list.{specs.{Ends.{Ends, device_contents}, Sound.IsTied}, proofs.{Held.same_chain_is, Ties.{tied-return, tied-take}}}
 use Rattle.vs_device_parts.specs.Calls.{Accept, Call, CloseStream, DeviceTree, Dial, HostMoves, IsFitAnswer, IsReadOf, Label, ReadStream, Ring, ShutWrite, Situation, TakesWithin}
 use Rattle.vs_device_parts.specs.{Calls.WriteStream, Playing.situation}
-use Rattle.laws_device.{proofs.{Keeping.{Can, Keeps, Lets}, Seats.PutsFit, Transmitting.header_is, Carried.Short.{bytes_short, read_short, write_short}}, specs.Honest.is_held}
+use Rattle.laws_device.{proofs.{Keeping.{Can, Keeps, Lets}, Seats.PutsFit, Transmitting.header_is, Carried.Short.{write_short}}, specs.Honest.is_held}
 use Rattle.laws_world.{specs.{Answers.{Around, answer_around, bytes_with}, Pages.PageHolds}, proofs.{Rings.{AreGiven, given_left}, Wire.next_fits}}
 use Rattle.vs_outside.specs.declared.host_net.Dialed.TheVariants as dialed
-use Rattle.vs_outside.specs.declared.host_net.StreamRead.TheVariants as read
 use Rattle.vs_outside.specs.declared.host_net.StreamWrite.TheVariants as write
 
 -- The page of each chain of tx that is held begins with a header that fits.
@@ -56,19 +55,10 @@ heads_without chain (h ∷ held) heads = by (same_chain chain h.chain) (heads_wi
     by true rest = heads.1
     by false rest = (heads.0, rest)
 
-none_taken : (bytes : List ℕ) → take 0 bytes ≡ []
-none_taken [] = refl
-none_taken (b ∷ bytes) = refl
-
 -- What is returned leaves the log fair.
 returned_fair : (queue : Queue) (len : ℕ) (bytes : List ℕ) (lists : Rings) (driver : Log) (log : EndLog) → IsTied lists driver log.entries
     → (0 < len → IsWholePacket queue (take len bytes) log) → IsFairLog Device (entries_returned queue (take len bytes) log.entries)
-returned_fair Tx len bytes lists driver log tied whole = tied.device_fair
-returned_fair Event len bytes lists driver log tied whole = fair-return_event lists driver log.entries tied (take len bytes)
-returned_fair Rx zero bytes lists driver log tied whole =
-    subst (λ (page : List ℕ). IsFairLog Device (with_packet (λ p. PutPacket p) (packet_held page) log.entries)) (sym (none_taken bytes))
-    tied.device_fair
-returned_fair Rx (suc n) bytes lists driver log tied whole = (whole (omega arith)).1
+returned_fair queue len bytes lists driver log tied whole = grind (arith, common_steps)
 
 same_cid : (q : Queue) (page : List ℕ) (lists : Rings) → (after_return q page lists).cid ≡ lists.cid
 same_cid Rx page lists = refl
@@ -87,11 +77,7 @@ dials path h dialed.Failed is = tt
 dials path h x is = sym is
 
 reads : (stream n : ℕ) (h : HostContents) (a : StreamRead) → read_answer stream n h ≡ a → IsReadOf stream n (a, bytes_with stream a h) h × (length (bytes_with stream a h) ≤ n)
-reads stream n h (read.Got k) is =
-    let short = read_short n k (fails_now h) (stream_at stream h) is in
-    let few = bytes_short k (stream_at stream h) in
-    ((sym is, refl), omega (arith, short, few))
-reads stream n h x is = ((sym is, refl), omega arith)
+reads stream n h a is = grind (arith, common_steps)
 
 writes : (stream n : ℕ) (h : HostContents) (a : StreamWrite) → write_answer stream n h ≡ a → IsWritten stream n a h × TakesWithin n a
 writes stream n h (write.Took k) is = (sym is, write_short n k (fails_now h) (stream_at stream h) is)

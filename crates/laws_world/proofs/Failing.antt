@@ -1,8 +1,9 @@
 -- Over list rings and a host in memory each call that failed is one that was to fail: a fault counted is one fewer to come.
-use Rattle.std.proofs.Common.{◌≡◌, ℕ, ◌+◌, ◌-◌, ◌≤◌, ◌==◌, ◌||◌, min, nat_lt, Bool, true, false, cond, List, [], ◌∷◌, length, map, filter, Option, Some, None, Result, refl, sym}
-use Rattle.std.{proofs.{Common.{subst, arith}, lemmas.Bool.Decides.nat_tests}, specs.Option.option_map_or}
-use Rattle.vs_outside.specs.Host.{HostContents, Stream, accept_answer, after_accept, after_dial, after_failed, after_read, after_write, accept_failed, called, dial_failed}
-use Rattle.vs_outside.specs.Host.{read_failed, write_failed, dial_answer, fails_now, is_listened, oldest_client, read_answer, read_of, stream_at, taken_of, write_answer, write_of}
+use Rattle.std.proofs.lemmas.Grind.{common_steps}
+use Rattle.std.proofs.Common.{◌≡◌, ℕ, ◌+◌, ◌-◌, ◌≤◌, ◌==◌, ◌||◌, nat_lt, Bool, true, false, cond, List, [], ◌∷◌, length, map, filter, Option, None, Result, refl, sym}
+use Rattle.std.{proofs.{Common.{subst, arith}, lemmas.Bool.Decides.nat_tests}}
+use Rattle.vs_outside.specs.Host.{HostContents, accept_answer, after_accept, after_dial, after_failed, after_read, after_write, accept_failed, called, dial_failed}
+use Rattle.vs_outside.specs.Host.{read_failed, write_failed, dial_answer, fails_now, read_answer, write_answer}
 use Rattle.vs_outside.specs.{Faults.{counted_down, fails_next}, declared.host_net.{Accepted.Accepted, Dialed.Dialed, StreamRead.StreamRead, StreamWrite.StreamWrite}}
 use Rattle.vs_header.specs.declared.Header.{Header}
 use Rattle.vs_ring_port.specs.{declared.{device_ring.{Chain.Chain, Next.Next}, queue.Queue.TheVariants.{Event, Rx}, failure.Failure.Failure}, Contents.Take}
@@ -69,60 +70,20 @@ module _ (m : ℕ) where
       grind (arith, nat_tests, at, less)
 
   after_failed_is : (h : HostContents) → (after_failed h).to_fail ≡ (called h).to_fail
-  after_failed_is h = by (fails_now h)
-    where
-      by : (b : Bool) → (let c : HostContents = cond b (called h) (record (called h) { starved = true }) in c).to_fail ≡ (called h).to_fail
-      by true = refl
-      by false = refl
+  after_failed_is h = grind (arith, common_steps)
 
   -- A call that failed was to fail.
   read_to_fail : (stream room : ℕ) (h : HostContents) → read_answer stream room h ≡ read.Failed → fails_now h ≡ true
-  read_to_fail stream room h is = by (fails_now h) is
-    where
-      of_stream : (s : Stream) (a b : Bool) → cond a (cond b read.End read.Again) (read.Got (min room (length s.untaken))) ≡ read.Failed → ⊥
-      of_stream s true true is = absurd cc
-      of_stream s true false is = absurd cc
-      of_stream s false b is = absurd cc
-
-      none : (o : Option Stream) → option_map_or (read_of room) o read.Again ≡ read.Failed → ⊥
-      none None is = absurd cc
-      none (Some s) is = of_stream s (length s.untaken == 0) s.ended is
-
-      by : (b : Bool) → cond b read.Failed (option_map_or (read_of room) (stream_at stream h) read.Again) ≡ read.Failed → b ≡ true
-      by true is = refl
-      by false is = absurd (none (stream_at stream h) is)
+  read_to_fail stream room h is = grind (arith, common_steps)
 
   write_to_fail : (stream n : ℕ) (h : HostContents) → write_answer stream n h ≡ write.Failed → fails_now h ≡ true
-  write_to_fail stream n h is = by (fails_now h) is
-    where
-      of_stream : (s : Stream) (a b : Bool) → cond a write.Closed (cond b write.Again (write.Took (taken_of n s))) ≡ write.Failed → ⊥
-      of_stream s true b is = absurd cc
-      of_stream s false true is = absurd cc
-      of_stream s false false is = absurd cc
-
-      none : (o : Option Stream) → option_map_or (write_of n) o write.Again ≡ write.Failed → ⊥
-      none None is = absurd cc
-      none (Some s) is = of_stream s s.host_closed (taken_of n s == 0) is
-
-      by : (b : Bool) → cond b write.Failed (option_map_or (write_of n) (stream_at stream h) write.Again) ≡ write.Failed → b ≡ true
-      by true is = refl
-      by false is = absurd (none (stream_at stream h) is)
+  write_to_fail stream n h is = grind (arith, common_steps)
 
   dial_to_fail : (path : List ℕ) (h : HostContents) → dial_answer path h ≡ dialed.Failed → fails_now h ≡ true
-  dial_to_fail path h is = by (fails_now h) (is_listened path h) is
-    where
-      by : (b c : Bool) → cond b dialed.Failed (cond c (dialed.Stream (length h.streams + 1)) dialed.Refused) ≡ dialed.Failed → b ≡ true
-      by true c is = refl
-      by false true is = absurd cc
-      by false false is = absurd cc
+  dial_to_fail path h is = grind (arith, common_steps)
 
   accept_to_fail : (h : HostContents) → accept_answer h ≡ accepted.Failed → fails_now h ≡ true
-  accept_to_fail h is = by (fails_now h) (oldest_client h) is
-    where
-      by : (b : Bool) (o : Option ℕ) → cond b accepted.Failed (option_map_or accepted.Stream o accepted.None) ≡ accepted.Failed → b ≡ true
-      by true o is = refl
-      by false None is = absurd cc
-      by false (Some id) is = absurd cc
+  accept_to_fail h is = grind (arith, common_steps)
 
   abbrev on : HostContents → Around → Around
   on h a = record a { host = h }

@@ -1,5 +1,5 @@
 -- What a device's call leaves of what the driver's end sees: its log, the size of the rings, and how many pages are in flight.
-use Rattle.std.proofs.Common.{◌≡◌, ℕ, List, [], ◌∷◌, refl, sym, ap, subst, ◌∙◌}
+use Rattle.std.proofs.{Common.{◌≡◌, ℕ, List, [], ◌∷◌, refl, sym, ap, subst, ◌∙◌, arith}, lemmas.Grind.common_steps}
 use Rattle.vs_ring_port.specs.{Contents.{DeviceCall, DeviceAnswer, Take, Read, Write, Return, Given, PublishCid}, Counts.Counts, DeviceCalls.device_answer, EndLog.EndLog}
 use Rattle.vs_ring_port.specs.{EndLog.log_taken, Lists.{Rings, after_return, after_take, next_at, next_given, queue_of}, declared.queue.Queue.{Queue, TheVariants.{Rx, Tx, Event}}}
 use Rattle.vs_ring_list.{specs.Ends.{Ends, device_contents, flight_of}, proofs.Flights.{flight_of-taken, in_flight-written, in_flight-returned}}
@@ -15,11 +15,7 @@ pub leaves_stay : (v : Ends) → LeavesDriver v v
 leaves_stay v = record { driver = refl; size = refl; flight = refl }
 
 pub leaves_then : (u v w : Ends) → LeavesDriver u v → LeavesDriver v w → LeavesDriver u w
-leaves_then u v w first rest = record {
-  driver = rest.driver ∙ first.driver;
-  size = rest.size ∙ first.size;
-  flight = rest.flight ∙ first.flight;
-}
+leaves_then u v w first rest = grind (arith, common_steps)
 
 same_counts : (f g : Counts) → f.rx ≡ g.rx → f.tx ≡ g.tx → f.event ≡ g.event → f ≡ g
 same_counts f g rx tx event = λ i. record { rx = rx i; tx = tx i; event = event i }

@@ -1,5 +1,6 @@
 -- Each call of the guest's, whole, is a list of events.
-use Rattle.std.proofs.Common.{◌≡◌, ℕ, zero, suc, ◌==◌, ◌&&◌, Bool, true, false, cond, List, [], ◌∷◌, ◌++◌, length, Option, Some, None, refl, sym, ap, subst, ◌∙◌, Result, Ok, Err}
+use Rattle.std.proofs.lemmas.Grind.{common_steps}
+use Rattle.std.proofs.Common.{◌≡◌, ℕ, zero, suc, ◌==◌, Bool, true, false, cond, List, [], ◌∷◌, ◌++◌, length, Option, Some, None, refl, sym, ap, subst, ◌∙◌, Result, Ok, Err, arith}
 use Rattle.vs_contents.specs.CallTree.{Done, Ask, bind, played, while_up_to}
 use Rattle.vs_ring_port.specs.{DriverCalls.{driver_answer, Reap}, EndLog.{EndLog, Pages}, Lists.{Rings, oldest}}
 use Rattle.vs_driver_parts.specs.Conversations.{DriverTree, reap_all, reap_one, reaped, connect_with_page, no_credit, not_sent, payload_of, send_on, send_stopped, send_with_credit}
@@ -10,7 +11,7 @@ use Rattle.vs_flow.specs.declared.flow.Flow.{Flow}
 use Rattle.vs_limits.specs.declared.TheConstants.{HOST_CID}
 use Rattle.laws_driver.specs.Carried.Calls.{GuestCall, ReplyTo, Connect, Listen, Unlisten, Accept, Send, Recv, Shutdown, Grow, Close, LookAt, is_right, flow_named, id_named}
 use Rattle.laws_driver.specs.Carried.Calls.{makes_call, with_call}
-use Rattle.laws_world.specs.{Events.{call_made, Event, GuestCalls, GuestTakes, driver_step, happens, is_at_rest, none_staged, run, where_possible, works_on}, Plays.guest_line}
+use Rattle.laws_world.specs.{Events.{call_made, Event, GuestCalls, GuestTakes, driver_step, happens, is_at_rest, run, where_possible, works_on}, Plays.guest_line}
 use Rattle.laws_world.specs.{Steps.Leads, World.World}
 use Rattle.vs_ring_port.specs.declared.queue.Queue.TheVariants as q
 use Rattle.vs_driver_parts.specs.declared.answers.Sent.TheVariants as sent
@@ -45,13 +46,7 @@ possible_is false step w is = absurd cc
 
 -- Transmit pages are reaped.
 rest_works : (staged : Pages) → is_at_rest staged ≡ true → works_on q.Tx staged ≡ true
-rest_works staged rest = by (none_staged staged.rx) (none_staged staged.tx) (none_staged staged.event) rest
-  where
-    by : (a b c : Bool) → (a && b && c) ≡ true → (a && c) ≡ true
-    by true true true is = refl
-    by true true false is = absurd cc
-    by true false c is = absurd cc
-    by false b c is = absurd cc
+rest_works staged rest = grind (arith, common_steps)
 
 -- Reaping one transmit page is an event, and stages nothing.
 reap_leads : (w : World) → is_at_rest w.rings.driver.staged ≡ true
@@ -125,10 +120,7 @@ reaps_all (suc n) w rest =
 -- A call of the guest's on the pages as they stand is an event.
 call_possible : (call : GuestCall) (w : World) → is_at_rest w.rings.driver.staged ≡ true → is_right call ≡ true
     → happens (GuestCalls call) w ≡ (call_made call w).0
-call_possible call w rest right = possible_is (is_at_rest w.rings.driver.staged && is_right call) (λ v. (call_made call v).0) w (both rest right)
-  where
-    both : {a b : Bool} → a ≡ true → b ≡ true → (a && b) ≡ true
-    both x y = rw (x, y) refl
+call_possible call w rest right = grind (arith, common_steps)
 
 -- A connect, and a send, with a page.
 connects_free : (port : ℕ) (s : DriverState) → connect_refusal HOST_CID port s ≡ None → connects port s ≡ connect_with_page HOST_CID port s

@@ -1,8 +1,9 @@
 -- A fact of the driver's connections and of who waits, through each of the driver's steps and each call of the guest's: it is kept where small
 -- changes keep it.
-use Rattle.std.proofs.Common.{◌≡◌, ℕ, ◌==◌, ◌&&◌, Bool, true, false, not, cond, List, [], ◌∷◌, ◌++◌, length, filter, Option, Some, None, is_some, Result, Ok, Err, refl, ap, subst}
+use Rattle.std.proofs.lemmas.Grind.{common_steps}
+use Rattle.std.proofs.Common.{◌≡◌, ℕ, ◌==◌, Bool, true, false, not, cond, List, [], ◌∷◌, ◌++◌, length, filter, Option, Some, None, is_some, Result, Ok, Err, refl, ap, subst, arith}
 use Rattle.std.{proofs.Common.◌∙◌, specs.List.slice_get}
-use Rattle.vs_conn.specs.{End.{ConnectionEnd, grown, is_reset}, declared.end.{Owed.Owed, State.State, Verdict.Verdict}}
+use Rattle.vs_conn.specs.{End.{ConnectionEnd, grown}, declared.end.{Owed.Owed, State.State, Verdict.Verdict}}
 use Rattle.vs_flow.{specs.{CleanPairs.of_host, Table.{IsRising, IsTable, Table, entry_of, entry_under, without}, declared.flow.Flow.Flow}, proofs.Tables.without_sound}
 use Rattle.vs_limits.specs.declared.TheConstants.{HOST_CID}
 use Rattle.vs_header.specs.declared.Header.{Header}
@@ -13,10 +14,9 @@ use Rattle.vs_driver_parts.specs.Connections.{after_closing, after_grow, after_l
 use Rattle.vs_driver_parts.specs.Connections.{after_unlisten, all_closed, all_gone_after_read, entry_closed, entry_read, gone_as, gone_closed, is_let_go, keeping, next_flow}
 use Rattle.vs_driver_parts.specs.Connections.{paid_connection, shut_in, waiting_on, waits_no_more, with_connection, with_end, with_opened, with_request, without_gone}
 use Rattle.vs_driver_parts.specs.{Connections.without_listener, declared.answers.{Grown.Grown, ListenError.ListenError}, Receiving.{after_packet, after_verdict, all_left}}
-use Rattle.vs_driver_parts.specs.{Receiving.{ends_connection, is_request, may_open, on_heard, on_known, on_packet, on_unknown, reset_reply, with_reply}, Listening.listen_of}
+use Rattle.vs_driver_parts.specs.{Receiving.{ends_connection, on_heard, on_known, on_packet, on_unknown, reset_reply, with_reply}, Listening.listen_of}
 use Rattle.vs_driver_parts.{specs.{Listening.{listener_on, listening, next_accepted, with_port, with_waiting, without_id}, Conversations.after_paying}, proofs.Ids.found_under}
 use Rattle.vs_driver_parts.proofs.{Packets.{first_under, others_left}, SameIds.packet_id}
-use Rattle.vs_replies.specs.Owed.{reply_to}
 use Rattle.vs_wrap.specs.Wrap.{counted}
 use Rattle.laws_tables.specs.Steps.{is_kept}
 use Rattle.laws_driver.{specs.{Honest.IsFitState, Carried.Calls.{Accept, Close, Connect, Grow, GuestCall, Listen, LookAt, Recv, Send, Shutdown, Unlisten}}, proofs.Carrying.Carries}
@@ -121,13 +121,7 @@ module _ {May : ℕ → Type 0} (P : Sight) (kept : IsKept May P) where
         by false = kept.changes s e (after_packet v p e.value) under same holds
 
     unknown_kept : Sees P (on_unknown p s)
-    unknown_kept = by (is_reset p.header) (is_request p.header && may_open (flow_to_guest p.header) s)
-      where
-        by : (r q : Bool) → Sees P (cond r s (cond q (with_request (flow_to_guest p.header) p.header s)
-            (with_reply (reply_to (flow_to_guest p.header) p.header) s)))
-        by true q = holds
-        by false true = kept.asks s (flow_to_guest p.header) p.header holds
-        by false false = holds
+    unknown_kept = grind (arith, common_steps)
 
     packet_kept : Sees P (on_packet p s)
     packet_kept = by (is_dropped Driver s.cid p.header)

@@ -1,9 +1,10 @@
 -- Over list rings with a host in memory that isn't starved each conversation of the device's has one end.
-use Rattle.std.{proofs.Common.{◌≡◌, ℕ, ◌+◌, Bool, true, false, cond, List, length, Option, Some, None, unwrap_or, refl, sym, ap, ap₂, subst, ◌∙◌}, specs.Option.option_map_or}
+use Rattle.std.proofs.lemmas.Grind.{common_steps}
+use Rattle.std.{proofs.Common.{◌≡◌, ℕ, Bool, false, List, length, Option, Some, None, unwrap_or, refl, sym, ap, ap₂, subst, ◌∙◌, arith}}
 use Rattle.vs_contents.specs.{CallTree.{Done, Ask, played}, Contents.Exposes}
 use Rattle.vs_flow.specs.declared.flow.Flow.{Flow}
-use Rattle.vs_outside.specs.Host.{HostContents, after_accept, after_dial, after_label, after_read, after_write, after_shut_write, after_close, after_failed, called, fails_now}
-use Rattle.vs_outside.specs.{Host.{is_listened, IsDialed, IsWritten, stream_at, write_of}, declared.host_net.{Accepted.Accepted, Dialed.Dialed, StreamRead.StreamRead}}
+use Rattle.vs_outside.specs.Host.{HostContents, after_accept, after_dial, after_label, after_read, after_write, after_shut_write, after_close, after_failed}
+use Rattle.vs_outside.specs.{Host.{IsDialed, IsWritten}, declared.host_net.{Accepted.Accepted, Dialed.Dialed, StreamRead.StreamRead}}
 use Rattle.vs_outside.specs.declared.host_net.StreamWrite.{StreamWrite}
 use Rattle.vs_ring_port.specs.{Contents.{RingContents, DeviceCall, DeviceAnswer, Read, Write, PublishCid}, DeviceCalls.{DeviceAllows, DeviceMoves}, EndLog.EndLog, Lists.Rings}
 use Rattle.vs_ring_list.{specs.Ends.{Ends, device_contents}, proofs.Determined.device_determined}
@@ -11,7 +12,7 @@ use Rattle.vs_device_parts.specs.Calls.{Call, Answer, Ring, Accept, Dial, Label,
 use Rattle.vs_device_parts.specs.{Calls.IsReadOf, Playing.{Runs, situation}}
 use Rattle.laws_device.proofs.Keeping.{Keeps}
 use Rattle.laws_world.{proofs.{Flown.{LeavesDriver, leaves_stay, leaves_then, leaves_call}, Holding.{IsHeldFor, MayHold, kept_held}}, specs.Answers.{Around, answer_around}}
-use Rattle.laws_world.specs.{Answers.bytes_with, Over.{beside, over_both}}
+use Rattle.laws_world.specs.{Over.{beside, over_both}}
 use Rattle.vs_outside.specs.declared.host_net.Accepted.TheVariants as accepted
 use Rattle.vs_outside.specs.declared.host_net.Dialed.TheVariants as dialed
 use Rattle.vs_outside.specs.declared.host_net.StreamRead.TheVariants as read
@@ -83,18 +84,7 @@ host_step call a failed P f v h s t ring host moves fed answered =
 
 -- A host that fails without being told to is starved.
 fed_failed : (h : HostContents) → (after_failed h).starved ≡ false → h.starved ≡ false
-fed_failed h fed = by (fails_now h) fed
-  where
-    by : (b : Bool) → (let c : HostContents = cond b (called h) (record (called h) { starved = true }) in c).starved ≡ false → h.starved ≡ false
-    by true fed = fed
-    by false fed = absurd cc
-
-fails : (h : HostContents) → (after_failed h).starved ≡ false → fails_now h ≡ true
-fails h fed = by (fails_now h) fed
-  where
-    by : (b : Bool) → (let c : HostContents = cond b (called h) (record (called h) { starved = true }) in c).starved ≡ false → b ≡ true
-    by true fed = refl
-    by false fed = absurd cc
+fed_failed h fed = grind (arith, common_steps)
 
 accept_fed : (a : Accepted) (h : HostContents) → (after_accept a h).starved ≡ false → h.starved ≡ false
 accept_fed (accepted.Stream id) h e = e
@@ -106,49 +96,25 @@ dial_fed flow x h e = e
 
 dial_answered : (path : List ℕ) (flow : Flow) (a : Dialed) (v : Ends) (h : HostContents) → IsDialed path a h → (after_dial flow a h).starved ≡ false
     → answer_around (Dial path flow) (beside v h) ≡ (a, beside v (after_dial flow a h))
-dial_answered path flow (dialed.Stream id) v h is e = ap (λ (b : Dialed). (b, beside v (after_dial flow b h))) (sym is)
-dial_answered path flow dialed.Refused v h is e = ap (λ (b : Dialed). (b, beside v (after_dial flow b h))) (sym is)
-dial_answered path flow dialed.Failed v h is e =
-    ap (λ (b : Dialed). (b, beside v (after_dial flow b h)))
-    (ap (λ (b : Bool). cond b dialed.Failed (cond (is_listened path h) (dialed.Stream (length h.streams + 1)) dialed.Refused)) (fails h e))
+dial_answered path flow a v h is e = grind (arith, common_steps)
 
 read_fed : (stream : ℕ) (a : StreamRead) (h : HostContents) → (after_read stream a h).starved ≡ false → h.starved ≡ false
 read_fed stream (read.Got n) h e = e
 read_fed stream x h e = e
 
-abbrev read_result : ℕ → Ends → HostContents → StreamRead → (StreamRead × List ℕ) × Around
-read_result stream v h b = ((b, bytes_with stream b h), beside v (after_read stream b h))
-
-abbrev read_with : ℕ → Ends → HostContents → StreamRead → List ℕ → (StreamRead × List ℕ) × Around
-read_with stream v h b bytes = ((b, bytes), beside v (after_read stream b h))
-
 read_answered : (stream n : ℕ) (a : StreamRead) (bytes : List ℕ) (v : Ends) (h : HostContents) → IsReadOf stream n (a, bytes) h
     → answer_around (ReadStream stream n) (beside v h) ≡ ((a, bytes), beside v (after_read stream a h))
-read_answered stream n (read.Got k) bytes v h is =
-    ap (read_result stream v h) (sym is.0) ∙ ap (read_with stream v h (read.Got k)) (sym is.1)
-read_answered stream n read.Again bytes v h is = ap (read_result stream v h) (sym is.0) ∙ ap (read_with stream v h read.Again) (sym is.1)
-read_answered stream n read.End bytes v h is = ap (read_result stream v h) (sym is.0) ∙ ap (read_with stream v h read.End) (sym is.1)
-read_answered stream n read.Failed bytes v h is = ap (read_result stream v h) (sym is.0) ∙ ap (read_with stream v h read.Failed) (sym is.1)
+read_answered stream n a bytes v h is = grind (arith, common_steps)
 
 write_fed : (stream : ℕ) (bytes : List ℕ) (a : StreamWrite) (h : HostContents) → (after_write stream bytes a h).starved ≡ false → h.starved ≡ false
 write_fed stream bytes write.Failed h e = fed_failed h e
 write_fed stream bytes x h e = e
 
-abbrev write_result : ℕ → List ℕ → Ends → HostContents → StreamWrite → StreamWrite × Around
-write_result stream bytes v h b = (b, beside v (after_write stream bytes b h))
-
 -- What a write that isn't to fail is answered.
-abbrev other_write : ℕ → ℕ → HostContents → StreamWrite
-other_write stream n h = option_map_or (write_of n) (stream_at stream h) write.Again
-
 write_answered : (stream : ℕ) (bytes : List ℕ) (a : StreamWrite) (v : Ends) (h : HostContents) → IsWritten stream (length bytes) a h
     → (after_write stream bytes a h).starved ≡ false
     → answer_around (WriteStream stream bytes) (beside v h) ≡ (a, beside v (after_write stream bytes a h))
-write_answered stream bytes (write.Took n) v h is e = ap (write_result stream bytes v h) (sym is)
-write_answered stream bytes write.Again v h is e = ap (write_result stream bytes v h) (sym is)
-write_answered stream bytes write.Closed v h is e = ap (write_result stream bytes v h) (sym is)
-write_answered stream bytes write.Failed v h is e =
-    ap (write_result stream bytes v h) (ap (λ (b : Bool). cond b write.Failed (other_write stream (length bytes) h)) (fails h e))
+write_answered stream bytes a v h is e = grind (arith, common_steps)
 
 step : (call : Call) (a : Answer call) (v : Ends) (h : HostContents) (s t : Situation) → IsHeldFor call (device_contents v)
     → s.ring ≡ device_contents v → s.host ≡ Some h → Allows call a s t → IsStep call a v h t
@@ -210,13 +176,7 @@ ends_at (Ask call k) v h s x t ring host may runs =
 
 -- Two rings that expose the same are the same.
 exposed : (v w : Ends) → device_contents v ≡ device_contents w → v ≡ w
-exposed v w same =
-    let lists : v.lists ≡ w.lists = ap (λ (c : RingContents). unwrap_or c.lists v.lists) same in
-    let device : v.device ≡ w.device = ap (λ (c : RingContents). unwrap_or c.log v.device) same in
-    let driver : v.driver ≡ w.driver = ap (λ (c : RingContents). unwrap_or c.other v.driver) same in
-    ap (λ (x : Rings). record v { lists = x }) lists
-    ∙ (ap (λ (x : EndLog). record { lists = w.lists; driver = x; device = v.device }) driver
-    ∙ ap (λ (x : EndLog). record { lists = w.lists; driver = w.driver; device = x }) device)
+exposed v w same = grind (arith, common_steps)
 
 -- A call of the device's over list rings and a host in memory: what it leads to is what it is played to, where the host isn't starved.
 pub record IsPlayed {A : Type 0} (tree : DeviceTree A) (v : Ends) (h : HostContents) (x : A) (w : Ends) (g : HostContents) : Type 0 where

@@ -1,5 +1,5 @@
 -- Over list rings each conversation of the driver's has one end.
-use Rattle.std.proofs.Common.{◌≡◌, Some, None, unwrap_or, refl, sym, ap, ap₂, subst, ◌∙◌}
+use Rattle.std.proofs.{Common.{◌≡◌, Some, None, refl, sym, ap, ap₂, subst, ◌∙◌, arith}, lemmas.Grind.common_steps}
 use Rattle.vs_contents.specs.CallTree.{Done, Ask, Leads, played}
 use Rattle.vs_ring_port.specs.{DriverCalls.{DriverCall, DriverAnswer, Publish, DriverAllows, DriverMoves, driver_answer}, Contents.RingContents, EndLog.EndLog, Lists.Rings}
 use Rattle.vs_ring_list.{specs.Ends.{Ends, driver_contents}, proofs.Determined.driver_determined}
@@ -62,13 +62,7 @@ ends_at {A} (Ask call k) v x t h =
 
 -- Two rings that expose the same are the same.
 exposed : (v w : Ends) → driver_contents v ≡ driver_contents w → v ≡ w
-exposed v w same =
-    let lists : v.lists ≡ w.lists = ap (λ (c : RingContents). unwrap_or c.lists v.lists) same in
-    let driver : v.driver ≡ w.driver = ap (λ (c : RingContents). unwrap_or c.log v.driver) same in
-    let device : v.device ≡ w.device = ap (λ (c : RingContents). unwrap_or c.other v.device) same in
-    ap (λ (x : Rings). record v { lists = x }) lists
-    ∙ (ap (λ (x : EndLog). record { lists = w.lists; driver = x; device = v.device }) driver
-    ∙ ap (λ (x : EndLog). record { lists = w.lists; driver = w.driver; device = x }) device)
+exposed v w same = grind (arith, common_steps)
 
 -- A call of the driver's over list rings: what it leads to is what it is played to.
 pub over : {A : Type 0} (tree : DriverTree A) (v w : Ends) (x : A) → Plays tree (driver_contents v) x (driver_contents w)

@@ -1,19 +1,16 @@
 -- A poll of the driver's is a list of events.
-use Rattle.std.proofs.Common.{◌≡◌, ℕ, zero, suc, ◌+◌, ◌==◌, ◌&&◌, nat_le, nat_lt, Bool, true, false, cond, List, [], ◌∷◌, length, Option, Some, None, refl, sym, ap, subst, ◌∙◌}
+use Rattle.std.proofs.{Common.{◌≡◌, ℕ, zero, suc, ◌&&◌, Bool, true, false, List, [], ◌∷◌, length, refl, sym, ap, subst, ◌∙◌, arith}, lemmas.Grind.common_steps}
 use Rattle.std.proofs.lemmas.Bool.{and_parts}
-use Rattle.vs_contents.specs.CallTree.{Done, Ask, bind, for_each, played, while_up_to}
-use Rattle.vs_conn.specs.{End.owes_of, declared.end.Owed.Owed}
-use Rattle.vs_flow.specs.Table.{entry_under, slots}
-use Rattle.vs_replies.specs.declared.Reply.{Reply}
-use Rattle.vs_ring_port.specs.{Lists.{Rings, after_reap, oldest}, declared.queue.Queue.Queue, DriverCalls.{driver_answer, LoadCid, Publish, Reap, Stage}, EndLog.{EndLog, Pages}}
-use Rattle.vs_ring_port.specs.EndLog.{log_loaded, log_reaped, with_pages}
-use Rattle.vs_header.specs.Packet.{header_bytes}
-use Rattle.vs_driver_parts.specs.{Receiving.{after_reset, is_reset_event, on_page}, State.{DriverEntry, DriverState}, Conversations.{all_taken, pay_all, pay_and_publish, pay_slot}}
-use Rattle.vs_driver_parts.specs.Conversations.{poll_of, poll_packets, poll_puts, poll_reaps, polled, publish_and_pay, put_all, put_replies, reap_all, take_all, after_paying}
-use Rattle.vs_driver_parts.specs.Conversations.{has_page, one_more_in_flight, one_put, owed_bytes, put_owed_of, put_reply_of, reply_header, stage_packet, DriverTree, Round}
-use Rattle.vs_driver_parts.specs.Conversations.{event_reaped, goes_on_with, packet_reaped, publish_of, published, put_owed, put_reply, staged_again, start, take_event, take_packet}
+use Rattle.vs_contents.specs.CallTree.{Done, bind, for_each, played, while_up_to}
+use Rattle.vs_flow.specs.Table.{slots}
+use Rattle.vs_ring_port.specs.{Lists.{Rings}, declared.queue.Queue.Queue, DriverCalls.{driver_answer}, EndLog.{EndLog, Pages}}
+use Rattle.vs_ring_port.specs.EndLog.{with_pages}
+use Rattle.vs_driver_parts.specs.{State.{DriverState}, Conversations.{all_taken, pay_all, pay_and_publish, pay_slot}}
+use Rattle.vs_driver_parts.specs.Conversations.{poll_of, poll_packets, poll_puts, poll_reaps, polled, publish_and_pay, put_all, put_replies, reap_all, take_all}
+use Rattle.vs_driver_parts.specs.Conversations.{DriverTree, Round}
+use Rattle.vs_driver_parts.specs.Conversations.{publish_of, published, put_owed, put_reply, start, take_event, take_packet}
 use Rattle.vs_driver_parts.specs.Steps.{stages_owed, stages_reply, takes_page}
-use Rattle.vs_limits.specs.declared.TheConstants.{DRIVER_REPLIES_FULL, OWED_MAX}
+use Rattle.vs_limits.specs.declared.TheConstants.{OWED_MAX}
 use Rattle.laws_world.specs.{Steps.Leads, World.World, Events.{Event, GuestPays, GuestPublishes, GuestReplies, GuestTakes, driver_step, happens, is_at_rest, none_staged, works_on}}
 use Rattle.laws_world.proofs.GuestLines.{leads_none, leads_one, leads_then, played_bind, possible_is, reaps_all, with_driver}
 use Rattle.vs_ring_port.specs.declared.queue.Queue.TheVariants as q
@@ -92,50 +89,12 @@ still_works : (queue : Queue) (pages : List (List ℕ)) (staged : Pages) → wor
 still_works q.Rx pages staged works = works
 still_works x pages staged works = works
 
-staged_alike : (w : World) (count : ℕ) (reset : Bool) → works_on q.Tx w.rings.driver.staged ≡ true → (bytes : List ℕ) (t : DriverState)
-    → Alike q.Tx w count reset (λ r. bind (stage_packet bytes t) (one_put r))
-staged_alike w count reset works bytes t = by (t.staged + 1 == 16)
-  where
-    by : (b : Bool) → Alike q.Tx w count reset (λ r. bind (Ask (Stage q.Tx bytes) (λ _. cond b
-        (Ask (Publish q.Tx) (λ _. Done (record (one_more_in_flight t) { staged = 0 })))
-        (Done (record (one_more_in_flight t) { staged = t.staged + 1 })))) (one_put r))
-    by true = record { same = refl; works = works }
-    by false = record { same = refl; works = works }
-
 reply_alike : (w : World) (count : ℕ) (reset : Bool) → works_on q.Tx w.rings.driver.staged ≡ true → Alike q.Tx w count reset put_reply
-reply_alike w count reset works = by w.driver.replies
-  where
-    with_page : (reply : Reply) (rest : List Reply) (b : Bool) → Alike q.Tx w count reset (λ r. cond b
-        (bind (stage_packet (header_bytes (reply_header w.driver.cid reply)) (record w.driver { replies = rest })) (one_put r)) (Done (r, false)))
-    with_page reply rest true = staged_alike w count reset works (header_bytes (reply_header w.driver.cid reply)) (record w.driver { replies = rest })
-    with_page reply rest false = record { same = refl; works = works }
-
-    by : (rs : List Reply) → Alike q.Tx w count reset (put_reply_of rs)
-    by [] = record { same = refl; works = works }
-    by (reply ∷ rest) = with_page reply rest (has_page w.driver)
+reply_alike w count reset works = grind (arith, common_steps)
 
 owed_alike : (slot : ℕ) (w : World) (count : ℕ) (reset : Bool) → works_on q.Tx w.rings.driver.staged ≡ true
     → Alike q.Tx w count reset (put_owed slot)
-owed_alike slot w count reset works = by (entry_under w.driver.table slot)
-  where
-    with_page : (e : DriverEntry) (what : Owed) (b : Bool) → Alike q.Tx w count reset (λ r. cond b
-        (bind (stage_packet (owed_bytes what e w.driver) (after_paying what e w.driver)) (one_put r)) (Done (r, false)))
-    with_page e what true = staged_alike w count reset works (owed_bytes what e w.driver) (after_paying what e w.driver)
-    with_page e what false = record { same = refl; works = works }
-
-    owing : (e : DriverEntry) (o : Option Owed) → Alike q.Tx w count reset (λ r. elim o as (λ _. DriverTree (Round × Bool)) [
-      | None ↦ Done (r, false)
-      | Some what ↦ put_owed_of what e r
-    ])
-    owing e None = record { same = refl; works = works }
-    owing e (Some what) = with_page e what (has_page w.driver)
-
-    by : (o : Option DriverEntry) → Alike q.Tx w count reset (λ r. elim o as (λ _. DriverTree (Round × Bool)) [
-      | None ↦ Done (r, false)
-      | Some e ↦ elim (owes_of e.value.end) as (λ _. DriverTree (Round × Bool)) [ None ↦ Done (r, false) | Some what ↦ put_owed_of what e r ]
-    ])
-    by None = record { same = refl; works = works }
-    by (Some e) = owing e (owes_of e.value.end)
+owed_alike slot w count reset works = grind (arith, common_steps)
 
 reply_does : StepDoes q.Tx put_reply
 reply_does w count reset works =
@@ -157,52 +116,13 @@ publishes_does queue w works =
     (possible_is (works_on queue w.rings.driver.staged) (driver_step (publish_of queue)) w works) refl
     (still_works queue [] w.rings.driver.staged works)
 
--- A page that was taken is staged again.
-again_alike : (queue : Queue) (w : World) (count : ℕ) (reset : Bool) (x : Rings × EndLog) → works_on queue x.1.staged ≡ true
-    → (f : Round → Round) (t : DriverState) → AlikeFrom queue w count reset x (λ r. staged_again queue (record (f r) { state = t }))
-again_alike queue w count reset x works f t = by (t.staged + 1 == 16)
-  where
-    by : (b : Bool) → AlikeFrom queue w count reset x (λ r. bind (Ask (Stage queue []) (λ _. cond b
-        (Ask (Publish queue) (λ _. Done (record t { staged = 0 })))
-        (Done (record t { staged = t.staged + 1 })))) (goes_on_with (record (f r) { state = t })))
-    by true = record { same = refl; works = still_works queue [] _ (still_works queue _ x.1.staged works) }
-    by false = record { same = refl; works = still_works queue _ x.1.staged works }
-
 -- A packet is taken.
 packet_alike : (w : World) (count : ℕ) (reset : Bool) → works_on q.Rx w.rings.driver.staged ≡ true → Alike q.Rx w count reset take_packet
-packet_alike w count reset works = by (nat_le DRIVER_REPLIES_FULL (length w.driver.replies))
-  where
-    came : (o : Option (List ℕ))
-        → AlikeFrom q.Rx w count reset (after_reap q.Rx w.rings.lists, log_reaped q.Rx o w.rings.driver) (λ r. packet_reaped r o)
-    came None = record { same = refl; works = works }
-    came (Some page) =
-        again_alike q.Rx w count reset (after_reap q.Rx w.rings.lists, log_reaped q.Rx (Some page) w.rings.driver) works
-        (λ r. record r { count = r.count + 1 }) (on_page page w.driver)
-
-    by : (b : Bool) → Alike q.Rx w count reset (λ r. cond b (Done (r, false)) (Ask (Reap q.Rx) (packet_reaped r)))
-    by true = record { same = refl; works = works }
-    by false = came (oldest w.rings.lists.rx.back)
+packet_alike w count reset works = grind (arith, common_steps)
 
 -- An event is.
 event_alike : (w : World) (count : ℕ) (reset : Bool) → works_on q.Event w.rings.driver.staged ≡ true → Alike q.Event w count reset take_event
-event_alike w count reset works = by (nat_lt DRIVER_REPLIES_FULL (length w.driver.replies))
-  where
-    taken : (x : Rings × EndLog) → works_on q.Event x.1.staged ≡ true → (b : Bool) → AlikeFrom q.Event w count reset x (λ r. bind (cond b
-        (Ask LoadCid (λ cid. Done (record r { state = after_reset cid r.state; count = r.count + 1; reset = true })))
-        (Done (record r { count = r.count + 1 }))) (staged_again q.Event))
-    taken x works true =
-        again_alike q.Event w count reset (x.0, log_loaded x.0.cid x.1) works (λ r. record r { count = r.count + 1; reset = true })
-        (after_reset x.0.cid w.driver)
-    taken x works false = again_alike q.Event w count reset x works (λ r. record r { count = r.count + 1 }) w.driver
-
-    came : (o : Option (List ℕ))
-        → AlikeFrom q.Event w count reset (after_reap q.Event w.rings.lists, log_reaped q.Event o w.rings.driver) (λ r. event_reaped r o)
-    came None = record { same = refl; works = works }
-    came (Some page) = taken (after_reap q.Event w.rings.lists, log_reaped q.Event (Some page) w.rings.driver) works (is_reset_event page)
-
-    by : (b : Bool) → Alike q.Event w count reset (λ r. cond b (Done (r, false)) (Ask (Reap q.Event) (event_reaped r)))
-    by true = record { same = refl; works = works }
-    by false = came (oldest w.rings.lists.event.back)
+event_alike w count reset works = grind (arith, common_steps)
 
 packet_does : StepDoes q.Rx take_packet
 packet_does w count reset works =
@@ -222,10 +142,7 @@ pub record Rests (w : World) (s : DriverState) (r : Rings × EndLog) : Type 0 wh
   pub rest : is_at_rest r.1.staged ≡ true
 
 all_three : (a b c : Bool) → a ≡ true → b ≡ true → c ≡ true → (a && b && c) ≡ true
-all_three true true true x y z = refl
-all_three false b c x y z = absurd cc
-all_three true false c x y z = absurd cc
-all_three true true false x y z = absurd cc
+all_three a b c x y z = grind (arith, common_steps)
 
 pub published_rests : (queue : Queue) (staged : Pages) → works_on queue staged ≡ true → is_at_rest (with_pages queue [] staged) ≡ true
 published_rests q.Rx staged works = let w = and_parts (none_staged staged.tx) (none_staged staged.event) works in all_three _ _ _ refl w.0 w.1
@@ -233,16 +150,7 @@ published_rests q.Tx staged works = let w = and_parts (none_staged staged.rx) (n
 published_rests q.Event staged works = let w = and_parts (none_staged staged.rx) (none_staged staged.tx) works in all_three _ _ _ w.0 w.1 refl
 
 pub rest_works : (queue : Queue) (staged : Pages) → is_at_rest staged ≡ true → works_on queue staged ≡ true
-rest_works queue staged rest = by queue (none_staged staged.rx) (none_staged staged.tx) (none_staged staged.event) refl refl refl rest
-  where
-    by : (queue : Queue) (a b c : Bool) → none_staged staged.rx ≡ a → none_staged staged.tx ≡ b → none_staged staged.event ≡ c → (a && b && c) ≡ true
-        → works_on queue staged ≡ true
-    by q.Rx true true true x y z is = rw (y, z) refl
-    by q.Tx true true true x y z is = rw (x, z) refl
-    by q.Event true true true x y z is = rw (x, y) refl
-    by queue false b c x y z is = absurd cc
-    by queue true false c x y z is = absurd cc
-    by queue true true false x y z is = absurd cc
+rest_works queue staged rest = grind (arith, common_steps)
 
 rests_then : {A B : Type 0} (w : World) (p : DriverTree A) (f : A → DriverTree B) (state_of : B → DriverState) (middle : A → DriverState)
     → (let r = plays p w in Leads w (with_driver (middle r.0) r.1 w))

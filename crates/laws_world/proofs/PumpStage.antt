@@ -1,9 +1,9 @@
 -- The device's writes to the host's streams are a list of events.
-use Rattle.std.proofs.Common.{◌≡◌, ℕ, ◌+◌, ◌==◌, Bool, true, false, cond, length, Option, Some, None, refl}
+use Rattle.std.proofs.{Common.{◌≡◌, ℕ, ◌+◌, ◌==◌, Bool, true, false, cond, length, Option, Some, None, refl, arith}, lemmas.Grind.common_steps}
 use Rattle.vs_contents.specs.CallTree.{Done, Ask, bind, played}
 use Rattle.vs_flow.specs.Table.{entry_under, slots}
 use Rattle.vs_outside.specs.{Host.write_answer, declared.host_net.StreamWrite.StreamWrite}
-use Rattle.vs_device_parts.specs.{Calls.{CloseStream, DeviceTree, ShutWrite, WriteStream}, Connections.{cut_off, with_connection, with_fault}, Streams.{Writing, is_written_out}}
+use Rattle.vs_device_parts.specs.{Calls.{CloseStream, DeviceTree, WriteStream}, Connections.{cut_off, with_connection, with_fault}, Streams.{Writing}}
 use Rattle.vs_device_parts.specs.{Streams.{pump_of, pump_slot, shut_write, to_write, write_answered, write_pending}, State.{DeviceEntry, DeviceState}, Steps.{shuts_write, writes}}
 use Rattle.vs_device_parts.specs.Steps.{writes_on, writing}
 use Rattle.vs_proxy_parts.specs.{State.{ProxyState, with_device}, Turns.{device_after, pump_stage}}
@@ -58,20 +58,7 @@ module _ (w : World) (x : Writing) (fine : w.proxy.device.failed ≡ None) where
           answered_from e (write_answer e.value.stream (length (to_write e.value)) w.host) a leads
 
   shut_from : (slot : ℕ) → FromEvent (shut_write slot)
-  shut_from slot = by (entry_under w.proxy.device.table slot)
-    where
-      out : (e : DeviceEntry) (b : Bool) → FromEvent (λ y. cond b (Ask (ShutWrite e.value.stream) (λ _.
-          Done (record y { state = with_connection slot (record e.value { write_shut = true }) y.state }))) (Done y))
-      out e true leads = record { leads = leads; fine = fine }
-      out e false leads = record { leads = leads; fine = fine }
-
-      by : (o : Option DeviceEntry) → FromEvent (λ y. elim o as (λ _. DeviceTree Writing) [
-        | None ↦ Done y
-        | Some e ↦ cond (is_written_out e.value) (Ask (ShutWrite e.value.stream) (λ _.
-            Done (record y { state = with_connection slot (record e.value { write_shut = true }) y.state }))) (Done y)
-      ])
-      by None leads = record { leads = leads; fine = fine }
-      by (Some e) leads = out e (is_written_out e.value) leads
+  shut_from slot = grind (arith, common_steps)
 
 shut_does : (slot : ℕ) → WriteDoes (shut_write slot)
 shut_does slot w x fine = shut_from w x fine slot (device_event (DeviceShutsWrite slot) (shuts_write slot) w refl fine)

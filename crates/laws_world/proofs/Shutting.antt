@@ -1,6 +1,6 @@
 -- Where an end decided to send no more on a connection, what was put there stays, over all steps of both ends, also where its flow is used
 -- again.
-use Rattle.std.proofs.Common.{◌≡◌, ℕ, ◌+◌, ◌≤◌, ◌==◌, ◌&&◌, ◌||◌, not, Bool, true, false, cond, List, [], ◌∷◌, ◌++◌, length, Some, refl, sym, ap, subst, ◌∙◌, append-nil, arith}
+use Rattle.std.proofs.Common.{◌≡◌, ℕ, ◌+◌, ◌≤◌, ◌==◌, ◌&&◌, not, Bool, true, false, cond, List, [], ◌∷◌, ◌++◌, length, Some, refl, sym, ap, subst, ◌∙◌, append-nil, arith}
 use Rattle.std.{proofs.lemmas.{Bool.{Decides.nat_tests, and_parts}, Grind.common_steps}, specs.List.list_any}
 use Rattle.vs_conn.{specs.{End.{CanSend, ConnectionEnd, answering, asked, end_after, is_of, owes_of, paid_of, with_payload_sent}, declared.end.Owed.Owed}, proofs.Frames.got_own}
 use Rattle.vs_conn.proofs.Frames.{paid_own}
@@ -33,10 +33,7 @@ second_none false b none = refl
 -- So it is of one whose end decided to send no more.
 pub is_past : (role : Role) (c : Connection) (w : Seat) (e : ConnectionEnd) → c.number ≤ number_of role c.flow w.log → HasEnd c.flow e w.part
     → e.own.send ≡ true → IsPast role c w
-is_past role c w e past has shut = record {
-  past = past;
-  shut = λ same. ap (list_any may_put) has ∙ ap (λ (b : Bool). b || false) (second_none (not (is_new e)) (may_send_more e) (ap not shut));
-}
+is_past role c w e past has shut = grind (arith, common_steps)
 
 -- An end that began keeps what it decided.
 keeps : (e now : ConnectionEnd) → is_new e ≡ false → (may_send_more e ≡ false → may_send_more now ≡ false) → may_put e ≡ false → may_put now ≡ false
@@ -97,11 +94,7 @@ module _ (role : Role) (first : ℕ) (b : Both) (s : IsSound first b) where
   module _ (f : Flow) where
     -- An end that comes, where no connection of the flow began.
     elsewhere : (g : Flow) (b : Bool) → (same_flow f g ≡ true → ⊥) → (same_flow f g && b) ≡ false
-    elsewhere g b never = by (same_flow f g) refl
-      where
-        by : (a : Bool) → same_flow f g ≡ a → (a && b) ≡ false
-        by true is = absurd (never is)
-        by false is = refl
+    elsewhere g b never = grind (arith, common_steps)
 
     -- What is owed is put.
     module _ (g : Flow) (e : ConnectionEnd) (what : Owed) (has : HasEnd g e w.part) (owes : owes_of e ≡ Some what)

@@ -1,4 +1,5 @@
 -- Each event is some of the steps of the two ends.
+use Rattle.std.proofs.lemmas.Grind.{common_steps}
 use Rattle.std.proofs.Common.{◌≡◌, ℕ, ◌^◌, ◌<◌, ◌≤◌, ◌&&◌, nat_le, Bool, true, false, List, [], ◌∷◌, refl, sym, subst, arith, Some, IfSome, None, Option, is_some, cond}
 use Rattle.std.{proofs.lemmas.Bool.{Decides.nat_tests, and_parts}, specs.Option.ForSome}
 use Rattle.vs_contents.specs.CallTree.{played, Done}
@@ -96,12 +97,7 @@ nothing_staged [] is = refl
 nothing_staged (page ∷ pages) is = absurd cc
 
 pub tx_at_rest : (staged : Pages) → is_at_rest staged ≡ true → staged.tx ≡ []
-tx_at_rest staged is = by staged.tx (none_staged staged.rx) (none_staged staged.event) is
-  where
-    by : (pages : List (List ℕ)) (a c : Bool) → (a && none_staged pages && c) ≡ true → pages ≡ []
-    by [] a c is = refl
-    by (page ∷ pages) true c is = absurd cc
-    by (page ∷ pages) false c is = absurd cc
+tx_at_rest staged is = grind (arith, common_steps)
 
 -- The driver plays a conversation.
 module _ (fresh : Type 0) (w : World) (well : IsWell fresh w) where

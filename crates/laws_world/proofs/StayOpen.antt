@@ -1,5 +1,5 @@
 -- Streams that are open stay open.
-use Rattle.std.proofs.Common.{◌≡◌, ℕ, ◌-◌, eqb, Bool, true, false, cond, List, [], ◌∷◌, ◌++◌, Option, Some, None, refl, sym, ap, subst, ◌∙◌}
+use Rattle.std.proofs.{Common.{◌≡◌, ℕ, ◌-◌, eqb, Bool, true, false, cond, List, [], ◌∷◌, ◌++◌, Option, Some, None, refl, sym, ap, subst, ◌∙◌}, lemmas.Grind.common_steps}
 use Rattle.std.{proofs.Common.arith, proofs.lemmas.Bool.Decides.nat_tests, specs.Prelude.slice_get}
 use Rattle.vs_flow.specs.Table.{Table}
 use Rattle.vs_outside.specs.{Host.{HostContents, Stream, IsOpen, stream_at, with_stream}, HostProgram.{after_client, after_host_write}}
@@ -14,17 +14,7 @@ abbrev pub StayOpen : HostContents → HostContents → Type 0
 StayOpen h g = (id : ℕ) → IsOpen id h → IsOpen id g
 
 pub still_has : (others : List ℕ) (t : Table DeviceConnection) (h g : HostContents) → StayOpen h g → HasStreams others t h → HasStreams others t g
-still_has others t h g opens has = let j = has.joins in record {
-  joins = record {
-    table = j.table;
-    all_open = λ slot id is. opens id (j.all_open slot id is);
-    apart = j.apart;
-    others_open = λ id among. opens id (j.others_open id among);
-    others_differ = j.others_differ;
-    others_apart = j.others_apart;
-  };
-  over = has.over;
-}
+still_has others t h g opens has = grind (arith, common_steps)
 
 -- A stream's program changes, and no state.
 pub stream_stays : (id : ℕ) (f : Stream → Stream) (h : HostContents) → ((s : Stream) → (f s).state ≡ s.state) → StayOpen h (with_stream id f h)

@@ -1,20 +1,19 @@
 -- The packets that the device takes in a turn, and the event that it puts, are a list of events.
-use Rattle.std.proofs.Common.{◌≡◌, ℕ, zero, suc, ◌+◌, ◌-◌, ◌==◌, ◌&&◌, nat_le, nat_lt, Bool, true, false, cond, List, [], ◌∷◌, length, take, Option, Some, None, refl, sym, ap}
-use Rattle.std.proofs.Common.{subst, ◌∙◌}
+use Rattle.std.proofs.Common.{◌≡◌, ℕ, zero, suc, ◌+◌, ◌-◌, ◌&&◌, nat_le, nat_lt, Bool, true, false, cond, List, [], ◌∷◌, length, take, Option, Some, None, refl, sym, ap, arith}
+use Rattle.std.proofs.{Common.{subst, ◌∙◌}, lemmas.Grind.common_steps}
 use Rattle.vs_contents.specs.CallTree.{Done, Ask, bind, played, while_up_to}
-use Rattle.vs_conn.specs.{End.{is_of, is_reset, verdict_of}, declared.end.Verdict.Verdict}
-use Rattle.vs_flow.specs.{Flow.is_assigned, Table.{entry_of, has_place}}
-use Rattle.vs_header.specs.{declared.{Kind.TheVariants.Stream, Header.Header, Op.TheVariants.Request}, Op.op_number, Packet.header_of}
+use Rattle.vs_conn.specs.{declared.end.Verdict.Verdict}
+use Rattle.vs_flow.specs.{Flow.is_assigned, Table.{has_place}}
+use Rattle.vs_header.specs.{declared.{Header.Header}, Packet.header_of}
 use Rattle.vs_outside.specs.declared.host_net.Dialed.{Dialed}
-use Rattle.vs_page.specs.{Log.{Device, flow_to_host}, Open.is_dropped}
+use Rattle.vs_page.specs.{Log.{flow_to_host}}
 use Rattle.vs_replies.specs.Owed.{reply_to}
 use Rattle.vs_ring_port.specs.{Chains.bytes_in, Contents.{Given, PublishCid, Read, Return, Take, Write}, EndLog.EndLog, Lists.chain_with, declared.device_ring.Chain.Chain}
 use Rattle.vs_ring_port.specs.declared.failure.Failure.{Failure}
 use Rattle.vs_uds.specs.Path.{path_of}
-use Rattle.vs_wrap.specs.Wrap.{counted}
-use Rattle.vs_device_parts.specs.{Transmitting.{dial_answered, failing, heard, keeps_flow, on_known, on_next, on_packet, on_unknown, refused, try_request, unknown_why}}
-use Rattle.vs_device_parts.specs.{Steps.{chain_came, puts_event, returns, takes_chain}, Calls.{Answer, Call, CloseStream, DeviceTree, Dial, Ring}, Connections.stream_closed}
-use Rattle.vs_device_parts.specs.{Connections.{after_leaving, keeping, with_connection, with_reply}, Receiving.pay_event_of, State.{DeviceEntry, DeviceState}, Streams.leaving}
+use Rattle.vs_device_parts.specs.{Transmitting.{dial_answered, failing, on_next, on_packet, refused, try_request, unknown_why}}
+use Rattle.vs_device_parts.specs.{Steps.{chain_came, puts_event, returns, takes_chain}, Calls.{Answer, Call, DeviceTree, Dial, Ring}}
+use Rattle.vs_device_parts.specs.{Connections.{with_reply}, Receiving.pay_event_of, State.{DeviceState}}
 use Rattle.vs_device_parts.specs.declared.answers.Taken.{Taken}
 use Rattle.vs_limits.specs.declared.TheConstants.{DEVICE_REPLIES}
 use Rattle.vs_proxy_parts.specs.{Turns.{device_after, event_stage, take_one, take_stage, took_packet}, State.{Turning, with_device}}
@@ -23,7 +22,6 @@ use Rattle.laws_world.specs.{Events.{DevicePutsEvent, DeviceReturns, DeviceTakes
 use Rattle.laws_world.{specs.World.around, proofs.{DeviceLeads.{Does, device_bind, device_event, does_nothing, does_then, leads_bind, plays, with_proxy}, GuestLines.leads_none}}
 use Rattle.laws_world.proofs.{GuestLines.{leads_one, leads_then, possible_is}, TickStage.{TurnDoes, turning_at}}
 use Rattle.vs_conn.specs.declared.end.Verdict.TheVariants as verdict
-use Rattle.vs_conn.specs.declared.end.Why.TheVariants as why
 use Rattle.vs_outside.specs.declared.host_net.Dialed.TheVariants as dialed
 use Rattle.vs_ring_port.specs.declared.failure.Failure.TheVariants as failure
 use Rattle.vs_ring_port.specs.declared.queue.Queue.TheVariants as q
@@ -64,25 +62,6 @@ abbrev Fine : DeviceTree (DeviceState × Verdict) → Type 0
 Fine tree = OffRing (λ (r : DeviceState × Verdict). r.0.failed ≡ None) tree
 
 module _ (chain : Chain) (h : Header) (s : DeviceState) (fine : s.failed ≡ None) where
-  peer_off : (e : DeviceEntry) (b : Bool) → Fine (bind (cond b (leaving (keeps_flow h e) (record e { value = heard h e.value }) s) (Done
-      (with_connection e.slot (heard h e.value) s)))
-      (λ t. Done (t, verdict.Peer)))
-  peer_off e false = fine
-  peer_off e true = by e.value.closed
-    where
-      by : (b : Bool) → Fine (bind (bind (cond b (Done (with_connection e.slot (stream_closed (heard h e.value)) s))
-          (Ask (CloseStream e.value.stream) (λ _. Done (with_connection e.slot (stream_closed (heard h e.value)) s))))
-          (λ t. Done (keeping (keeps_flow h e) e.flow (after_leaving e.slot t)))) (λ t. Done (t, verdict.Peer)))
-      by true = fine
-      by false = (tt, λ _. fine)
-
-  known_off : (e : DeviceEntry) (v : Verdict) → Fine (bind (on_known v chain h e s) (λ t. Done (t, v)))
-  known_off e verdict.Deliver = (tt, λ payload. fine)
-  known_off e verdict.Peer = peer_off e (is_reset h)
-  known_off e (verdict.Rst (why.Overrun o)) = fine
-  known_off e (verdict.Rst _) = fine
-  known_off e x = fine
-
   dial_off : (d : Dialed) → (dial_answered h d s).0.failed ≡ None
   dial_off (dialed.Stream stream) = fine
   dial_off x = fine
@@ -103,16 +82,7 @@ module _ (chain : Chain) (h : Header) (s : DeviceState) (fine : s.failed ≡ Non
   unknown_off false false = fine
 
   packet_off : Fine (on_packet chain h s)
-  packet_off = by (is_dropped Device s.cid h) (entry_of s.table (flow_to_host h))
-    where
-      by : (b : Bool) (o : Option DeviceEntry) → Fine (cond b (Done (record s { dropped = counted s.dropped }, verdict.Ignore))
-          (elim o as (λ _. DeviceTree (DeviceState × Verdict)) [
-            | None ↦ on_unknown h s
-            | Some e ↦ bind (on_known (verdict_of e.value.end h) chain h e s) (λ t. Done (t, verdict_of e.value.end h))
-          ]))
-      by true o = fine
-      by false None = unknown_off (is_reset h) (is_of Stream h && (h.op == op_number Request))
-      by false (Some e) = known_off e (verdict_of e.value.end h)
+  packet_off = grind (arith, common_steps)
 
 -- One packet. The stage goes on where the ring didn't fail.
 pub record Goes (w : World) (r : Turning × Bool) (a : Around) : Type 0 where

@@ -1,19 +1,17 @@
 -- Timeouts, and the handshakes of a turn, are lists of events.
-use Rattle.std.proofs.Common.{◌≡◌, ℕ, ◌+◌, nat_lt, Bool, true, false, cond, List, ◌++◌, length, Option, Some, None, Result, Ok, Err, refl, ap, ◌∙◌}
+use Rattle.std.proofs.{Common.{◌≡◌, ℕ, ◌+◌, Bool, false, List, ◌++◌, Option, Some, None, refl, ◌∙◌, arith}, lemmas.Grind.common_steps}
 use Rattle.vs_contents.specs.CallTree.{Done, Ask, bind, for_each, played, while_up_to}
-use Rattle.vs_flow.specs.{Table.{entry_under, refusal, slots}, declared.{flow.Flow.Flow, table.TableFault.TableFault}}
-use Rattle.vs_outside.specs.{Host.{accept_answer, read_answer}, declared.host_net.{Accepted.Accepted, StreamRead.StreamRead}}
+use Rattle.vs_flow.specs.{Table.{slots}, declared.{flow.Flow.Flow}}
+use Rattle.vs_outside.specs.{Host.{read_answer}, declared.host_net.{StreamRead.StreamRead}}
 use Rattle.vs_uds.specs.{ConnectLine.connect_step, declared.{connect.TheConstants.CONNECT_MAX, scan.Step.Step}}
-use Rattle.vs_device_parts.specs.{State.{DeviceEntry, DeviceState}, Streams.{closing, tick_of, tick_slot}, Connections.{cut_off, is_late, is_timed_out, with_client}}
-use Rattle.vs_device_parts.specs.{Connections.with_connection, Calls.{Accept, CloseStream, DeviceTree, Label, ReadStream}}
-use Rattle.vs_proxy_parts.specs.Handshakes.{accept_answered, accept_one, byte_read, dropping, handshake_on, line_decided, next_after, next_flow, opening, read_byte, read_line}
-use Rattle.vs_proxy_parts.specs.{Handshakes.{shake_hands, streams_of, tick_handshake, tick_handshakes, with_line, without_handshake}, Turns.{device_after, tick_stage}}
+use Rattle.vs_device_parts.specs.{State.{DeviceState}, Streams.{tick_of, tick_slot}}
+use Rattle.vs_device_parts.specs.{Calls.{DeviceTree, ReadStream}}
+use Rattle.vs_proxy_parts.specs.Handshakes.{accept_one, byte_read, dropping, handshake_on, line_decided, next_flow, opening, read_byte, read_line}
+use Rattle.vs_proxy_parts.specs.{Handshakes.{shake_hands, streams_of, tick_handshake, tick_handshakes, with_line}, Turns.{device_after, tick_stage}}
 use Rattle.vs_proxy_parts.specs.State.{Handshake, ProxyState, Turning, start, with_device}
-use Rattle.vs_limits.specs.declared.TheConstants.{HANDSHAKES}
 use Rattle.laws_world.specs.{Answers.{Around, answer_around, bytes_with}, Steps.Leads, World.{World, around}, Events.{HandshakeTimesOut, Moment, ProxyAccepts, ProxyReads}}
 use Rattle.laws_world.{specs.Events.{TimesOut, at_moment, line_read}, proofs.DeviceLeads.{Does, EndsFine, device_event, does_then, fine_played, plays, proxy_event, with_proxy}}
 use Rattle.laws_world.proofs.GuestLines.{leads_one, leads_then}
-use Rattle.vs_outside.specs.declared.host_net.Accepted.TheVariants as accepted
 use Rattle.vs_outside.specs.declared.host_net.StreamRead.TheVariants as read
 use Rattle.vs_uds.specs.declared.scan.Step.TheVariants as step
 use Rattle.laws_world.proofs.DeviceLeads as leads
@@ -35,24 +33,7 @@ devices step does xs w fine =
 
 -- A connection times out.
 tick_fine : (slot : ℕ) (s : DeviceState) → s.failed ≡ None → EndsFine (tick_slot slot s)
-tick_fine slot s fine = by (entry_under s.table slot)
-  where
-    closed_by : (e : DeviceEntry) (b : Bool) → EndsFine (cond b
-        (Done (with_connection e.slot (cut_off e.value) s)) (Ask (CloseStream e.value.stream)
-        (λ _. Done (with_connection e.slot (cut_off e.value) s))))
-    closed_by e true = fine
-    closed_by e false = λ _. fine
-
-    timed : (e : DeviceEntry) (b : Bool) → EndsFine (cond b (closing e cut_off s) (Done s))
-    timed e true = closed_by e e.value.closed
-    timed e false = fine
-
-    by : (o : Option DeviceEntry) → EndsFine (elim o as (λ _. DeviceTree DeviceState) [
-      | None ↦ Done s
-      | Some e ↦ cond (is_timed_out s.now e.value) (closing e cut_off s) (Done s)
-    ])
-    by None = fine
-    by (Some e) = timed e (is_timed_out s.now e.value)
+tick_fine slot s fine = grind (arith, common_steps)
 
 tick_does : (slot : ℕ) (w : World) → w.proxy.device.failed ≡ None
     → let r = plays (tick_slot slot w.proxy.device) w in Does w (with_device r.0 w.proxy) r.1
@@ -104,34 +85,11 @@ Alike w t step =
 module _ (w : World) (t : Turning) (fine : w.proxy.device.failed ≡ None) where
   -- A handshake times out.
   late_alike : (stream : ℕ) → Alike w t (tick_handshake stream)
-  late_alike stream = by (handshake_on stream w.proxy)
-    where
-      late : (b : Bool) → Alike w t (λ u. cond b (dropping stream u) (Done u))
-      late true = record { same = refl; fine = fine }
-      late false = record { same = refl; fine = fine }
-
-      by : (o : Option Handshake) → Alike w t (λ u. elim o as (λ _. DeviceTree Turning) [
-        | None ↦ Done u
-        | Some h ↦ cond (is_late w.proxy.device.now (Some h.accepted_at)) (dropping stream u) (Done u)
-      ])
-      by None = record { same = refl; fine = fine }
-      by (Some h) = late (is_late w.proxy.device.now (Some h.accepted_at))
+  late_alike stream = grind (arith, common_steps)
 
   -- A client is accepted.
   accept_alike : Alike w t accept_one
-  accept_alike = by (nat_lt (length w.proxy.handshakes) HANDSHAKES)
-    where
-      answered : (x : Accepted) → (let p = (accept_answered x (start w.proxy)).state in let q = (accept_answered x
-          (turning_at w t)).state in
-          (p ≡ q) × (q.device.failed ≡ None))
-      answered (accepted.Stream stream) = (refl, fine)
-      answered x = (refl, fine)
-
-      by : (b : Bool) → Alike w t (λ u. cond b (Ask Accept (λ answer. Done (accept_answered answer u))) (Done u))
-      by true = let one = answered (accept_answer w.host) in
-          let a = (answer_around Accept (around w)).1 in
-          record { same = ap (λ (p : ProxyState). with_proxy p a w) one.0; fine = one.1 }
-      by false = record { same = refl; fine = fine }
+  accept_alike = grind (arith, common_steps)
 
   -- A byte of a line is read.
   abbrev ByteAlike : Around → (Turning → DeviceTree (Turning × Bool)) → Type 0
@@ -145,21 +103,7 @@ module _ (w : World) (t : Turning) (fine : w.proxy.device.failed ≡ None) where
     with_read u = record u { state = record u.state { handshakes = hs }; read = u.read + n }
 
     opens_alike : (flow : Flow) → ByteAlike a (λ u. bind (opening stream flow (with_read u)) (λ v. Done (v, false)))
-    opens_alike flow = by (refusal w.proxy.device.table flow)
-      where
-        by : (o : Option TableFault) → ByteAlike a (λ u. bind (bind (elim o as (λ _. DeviceTree (DeviceState × Result ℕ TableFault)) [
-          | Some fault ↦ Done (w.proxy.device, Err fault)
-          | None ↦ Ask (Label stream flow)
-              (λ _. Done (
-                with_client flow stream w.proxy.device,
-                Ok
-                    w.proxy.device.table.given,
-              ))
-        ]) (λ r. Done (record (with_read u) {
-          state = record (with_device r.0 (without_handshake stream (with_read u).state)) { next_port = next_after w.proxy.next_port };
-        }))) (λ v. Done (v, false)))
-        by (Some fault) = record { same = refl; fine = fine }
-        by None = record { same = refl; fine = fine }
+    opens_alike flow = grind (arith, common_steps)
 
     decides_alike : (x : Step) → ByteAlike a (λ u. line_decided stream x (with_read u))
     decides_alike step.More = record { same = refl; fine = fine }

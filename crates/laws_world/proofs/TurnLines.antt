@@ -1,7 +1,6 @@
 -- A turn of the proxy's, whole, is a list of events.
-use Rattle.std.proofs.Common.{◌≡◌, ℕ, Option, Some, None, refl}
+use Rattle.std.proofs.{Common.{◌≡◌, ℕ, None, refl, arith}, lemmas.Grind.common_steps}
 use Rattle.vs_contents.specs.CallTree.{Done, bind}
-use Rattle.vs_ring_port.specs.declared.failure.Failure.{Failure}
 use Rattle.vs_device_parts.specs.Calls.{DeviceTree}
 use Rattle.vs_proxy_parts.specs.{Turns.{event_stage, fill_stage, pump_stage, take_stage, tick_stage, turned, unless_failed}, Handshakes.shake_hands, State.{ProxyState, Turning}}
 use Rattle.vs_proxy_parts.specs.{State.start, declared.answers.Turn.Turn}
@@ -14,13 +13,7 @@ StageLeads stage w t = let r = plays (stage (turning_at w t)) w in Leads w (with
 
 unless : (stage : Turning → DeviceTree Turning) (w : World) (t : Turning) → (w.proxy.device.failed ≡ None → StageLeads stage w t)
     → StageLeads (unless_failed stage) w t
-unless stage w t leads = by w.proxy.device.failed leads
-  where
-    by : (o : Option Failure) → (o ≡ None → StageLeads stage w t)
-        → (let r = plays (elim o as (λ _. DeviceTree Turning) [ Some f ↦ Done (turning_at w t) | None ↦ stage (turning_at w t) ]) w in
-        Leads w (with_proxy r.0.state r.1 w))
-    by (Some f) leads = leads_none w w refl
-    by None leads = leads refl
+unless stage w t leads = grind (arith, common_steps)
 
 -- One stage, and then what follows.
 abbrev Rest : (Turning → DeviceTree (ProxyState × Turn)) → Type 0

@@ -1,12 +1,12 @@
 -- The device's table by its log and by the host's streams: the connections whose REQUEST isn't put have streams, and no other open stream
 -- has a label.
-use Rattle.std.proofs.{Common.{◌≡◌, ◌+◌, ◌<◌, ◌&&◌, ◌||◌, nat_lt, Bool, true, cond, Contains, ap, subst, ◌∙◌, arith}, lemmas.Bool.{Decides.nat_tests, and_parts}}
-use Rattle.std.proofs.lemmas.List.Elements.{All-contains}
+use Rattle.std.proofs.lemmas.Grind.{common_steps}
+use Rattle.std.proofs.{Common.{◌≡◌, ◌&&◌, ◌||◌, nat_lt, Bool, true, Contains, ap, subst, ◌∙◌, arith}, lemmas.Bool.{and_parts}}
 use Rattle.vs_device_parts.specs.State.{DeviceEntry}
 use Rattle.vs_flow.specs.declared.flow.Flow.{Flow}
 use Rattle.vs_page.specs.{Fair.number_of, Log.{Device, Log}, Open.is_open}
 use Rattle.laws_tables.{specs.Ends.{flows_of, is_among, is_new, new_flows, replied}, proofs.Tables.all_open}
-use Rattle.laws_device.{specs.{Carried.Streamed.{IsJoined, connection_of, count_in, look}, Streams.{has_open_stream, is_waiting_for_request}}, proofs.Waiting.{new_on, new_open}}
+use Rattle.laws_device.{specs.{Carried.Streamed.{count_in}, Streams.{has_open_stream, is_waiting_for_request}}, proofs.Waiting.{new_on, new_open}}
 use Rattle.laws_device.proofs.Waiting.{open_among, tied_by}
 use Rattle.laws_world.{specs.{Sides.device_ends, World.{World, first_cid}}, proofs.Sound.IsWell}
 
@@ -18,12 +18,7 @@ module _ {fresh : Type 0} (w : World) (well : IsWell fresh w) where
     -- Its stream is its flow's newest, and the log didn't begin it.
     less_begun : (e : DeviceEntry) → Contains w.proxy.device.table.entries e → is_new e.value.end ≡ true
         → nat_lt (number_of Device e.flow log) (count_in w.host e.flow) ≡ true
-    less_begun e there new =
-        let j = All-contains (IsJoined (look w.host) (count_in w.host) log) w.proxy.device.table.entries e (well.streams yes).joined there in
-        let number : (connection_of e log).number ≡ number_of Device e.flow log + 1 =
-        ap (λ (b : Bool). cond b (number_of Device e.flow log + 1) (number_of Device e.flow log)) new in
-        let newest = j.newest in
-        let less : number_of Device e.flow log < count_in w.host e.flow = omega (arith, number, newest) in grind (arith, nat_tests, less)
+    less_begun e there new = grind (arith, common_steps)
 
     new_waits : (f : Flow) → is_among f (new_flows (device_ends w.proxy).entries) ≡ true → is_waiting_for_request f w.host log ≡ true
     new_waits f is =

@@ -1,6 +1,5 @@
 -- What a call says of the stream that it names, and of all others.
-use Rattle.std.proofs.lemmas.Grind.{common_steps}
-use Rattle.std.proofs.Common.{◌≡◌, ◌≢◌, ℕ, ◌==◌, true, false, cond, List, ◌++◌, Option, Some, refl}
+use Rattle.std.proofs.{Common.{◌≡◌, ◌≢◌, ℕ, ◌==◌, true, false, cond, List, ◌++◌, Option, Some, refl}, lemmas.Grind.common_steps}
 use Rattle.std.{proofs.Common.arith, proofs.lemmas.Bool.Decides.nat_tests, specs.Option.option_map}
 use Rattle.vs_flow.{specs.declared.flow.Flow.Flow}
 use Rattle.laws_proxy.specs.Account.Made.{Account, with_delivery}

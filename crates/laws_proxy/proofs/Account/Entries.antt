@@ -1,6 +1,5 @@
 -- Connections and handshakes with the accounts of their streams, through each change of them.
-use Rattle.std.proofs.lemmas.Grind.{common_steps}
-use Rattle.std.proofs.Common.{◌≡◌, ◌≢◌, ℕ, ◌==◌, Bool, true, false, cond, List, [], Contains, Option, Some, None, refl, sym, ap, subst, ◌∙◌, arith}
+use Rattle.std.proofs.{Common.{◌≡◌, ◌≢◌, ℕ, ◌==◌, Bool, true, false, cond, List, [], Contains, Option, Some, None, refl, sym, ap, subst, ◌∙◌, arith}, lemmas.Grind.common_steps}
 use Rattle.std.{proofs.lemmas.{Bool.Decides.nat_tests, List.Elements.{All-contains, All-push, All-weaker}}, specs.{List.{All, AllPairs}, Option.{option_map}}}
 use Rattle.std.specs.Option.{option_and_then, option_or}
 use Rattle.vs_flow.specs.{Table.{IsTable, Table, entry_of, entry_under, next_entry, revalued, with_entry, with_value, without}, Flow.same_flow, declared.flow.Flow.Flow}

@@ -1,6 +1,5 @@
 -- A turn tells whether it put an event.
-use Rattle.std.proofs.lemmas.Grind.{common_steps}
-use Rattle.std.proofs.Common.{◌≡◌, ℕ, ◌+◌, ◌-◌, ◌≤◌, ◌&&◌, not, Bool, cond, List, Option, Some, None, refl, sym, ap, subst, arith}
+use Rattle.std.proofs.{Common.{◌≡◌, ℕ, ◌+◌, ◌-◌, ◌≤◌, ◌&&◌, not, Bool, cond, List, Option, Some, None, refl, sym, ap, subst, arith}, lemmas.Grind.common_steps}
 use Rattle.vs_contents.{specs.CallTree.{Done, Ask, Leads, bind}, proofs.Leads.{AllEnds, end_of, ends_bind}}
 use Rattle.vs_ring_port.specs.declared.{device_ring.{Chain.Chain, Next.Next}, failure.Failure.Failure}
 use Rattle.vs_device_parts.specs.{Calls.{Answer, DeviceTree}}
@@ -22,7 +21,6 @@ made_to Q (Ask call next) calls later x keeps leads =
     let P : List Made → Type 0 = λ m. Keeps events Q (next leads.0) (events_put m) in
     made_to Q (next leads.0) leads.1 later x (subst P (sym leads.2.1) (keeps leads.0)) leads.3
 
--- A packet has more bytes than an event.
 abbrev one : Bool → ℕ
 one b = cond b 1 0
 

@@ -24,7 +24,6 @@ use Rattle.vs_outside.specs.declared.host_net.Dialed.TheVariants as dialed
 use Rattle.vs_ring_port.specs.declared.device_ring.Next.TheVariants as next
 use Rattle.vs_device_parts.specs.declared.answers.Taken.TheVariants as taken
 
--- An end that refuses a packet owes RST.
 -- Closing a stream delivers nothing.
 shut_delivers : (b : Bool) (o : Option Account) → delivered_in (cond b (option_map shut o) o) ≡ delivered_in o
 shut_delivers b o = grind (arith, common_steps)

@@ -1,9 +1,7 @@
 -- What a conversation keeps: what holds at each of its ends, of what it leaves and of the calls made.
-use Rattle.std.proofs.Common.{arith}
-use Rattle.std.proofs.lemmas.Grind.{common_steps}
 use Rattle.laws_device.proofs.Walk.Keeping.{Asking}
 use Rattle.laws_device.proofs.Walk.Keeping as walked
-use Rattle.std.proofs.Common.{◌≡◌, ℕ, List, ◌∷◌, Some, subst, sym}
+use Rattle.std.proofs.{Common.{◌≡◌, ℕ, List, ◌∷◌, Some, subst, sym, arith}, lemmas.Grind.common_steps}
 use Rattle.vs_contents.specs.CallTree.{Done, Ask, Leads}
 use Rattle.vs_device_parts.specs.Calls.{Call, Answer, DeviceTree, Label, ReadStream, WriteStream}
 use Rattle.laws_proxy.specs.Account.{Made.{Account, Made, MayGet, Makes, account_of, made}, Tied.{IsWhole, reading_account}}

@@ -1,7 +1,5 @@
 -- A device and a proxy, and the counts that their calls come to.
-use Rattle.std.proofs.Common.{arith}
-use Rattle.std.proofs.lemmas.Grind.{common_steps}
-use Rattle.std.proofs.Common.{◌≡◌, ℕ, ◌-◌, ◌&&◌, not, nat_lt, Bool, false, cond, List, [], ◌∷◌, Option, Result, refl, ap, subst}
+use Rattle.std.proofs.{Common.{◌≡◌, ℕ, ◌-◌, ◌&&◌, not, nat_lt, Bool, false, cond, List, [], ◌∷◌, Option, Result, refl, ap, subst, arith}, lemmas.Grind.common_steps}
 use Rattle.vs_header.specs.{Packet.header_of, declared.{Header.Header, TheConstants.HEADER_LEN}}
 use Rattle.vs_page.specs.{Log.Device, Open.is_dropped}
 use Rattle.vs_ring_port.specs.{Contents.Read, declared.{device_ring.{Chain.Chain, Next.Next}, failure.Failure.Failure}}

@@ -1,12 +1,11 @@
 -- Packets to the guest, and the reads of the host's streams that give their payload: no stream is given a byte.
-use Rattle.std.proofs.Common.{arith}
 use Rattle.std.proofs.lemmas.Grind.{common_steps}
 use Rattle.vs_flow.specs.{Table.{with_value, Table}, declared.flow.Flow.Flow}
 use Rattle.laws_device.{proofs.{Walk.Serving.{AfterEvent, AfterRead, Fills, IsIn}, Carried.Gives.pays_gives, Named.Ends.shut_over}, specs.Carried.Streamed.gives}
 use Rattle.laws_proxy.proofs.Account.{Closing.{D, closes, Has, agree_same, join, over_there}, Accounts.{Changes, changes, changing, stays}, Keeping.{asking, Keeps}}
 use Rattle.laws_proxy.{proofs.Account.{Entries.{hand_other, taken_tied}, Ties.{end_changes, shuts}}, specs.Account.Made.{Account, Made, account_of, is_for, is_of, made}}
 use Rattle.laws_proxy.specs.Account.{Made.{payload_put, payload_taken, ports_of, with_taken}, Tied.{Agree, AgreesWith, IsTied, reading_account}}
-use Rattle.std.proofs.{Common.{◌≡◌, ℕ, true, false, cond, List, ◌∷◌, ◌++◌, length, bytes_eq, Option, Some, refl, sym, ap, ◌∙◌}}
+use Rattle.std.proofs.{Common.{◌≡◌, ℕ, true, false, cond, List, ◌∷◌, ◌++◌, length, bytes_eq, Option, Some, refl, sym, ap, ◌∙◌, arith}}
 use Rattle.std.{proofs.lemmas.List.Elements.All-weaker, specs.Option.option_map_or}
 use Rattle.vs_conn.{specs.{declared.end.State.TheVariants.{Asked, Ended}, End.{paid_of, wanting_credit, with_payload_sent}, Headers.payload_header}, proofs.Frames.paid_asked}
 use Rattle.vs_conn.proofs.Frames.{paid_over}

@@ -1,7 +1,6 @@
 -- Each call of the proxy on a host in memory: its answer may be got, and the accounts show the host after it.
-use Rattle.std.proofs.Common.{arith}
 use Rattle.std.proofs.lemmas.Grind.{common_steps}
-use Rattle.std.proofs.Common.{◌≡◌, ℕ, ◌+◌, ◌≤◌, Bool, true, false, cond, List, ◌∷◌, ◌++◌, length, take, Option, Some, None, refl, sym, ap, subst, ◌∙◌, []}
+use Rattle.std.proofs.Common.{◌≡◌, ℕ, ◌+◌, ◌≤◌, Bool, true, false, cond, List, ◌∷◌, ◌++◌, length, take, Option, Some, None, refl, sym, ap, subst, ◌∙◌, [], arith}
 use Rattle.std.{specs.Option.{option_map, option_map_or}}
 use Rattle.vs_contents.specs.{CallTree.{Done, Ask, Leads}, Contents.Exposes}
 use Rattle.vs_flow.specs.{declared.flow.Flow.Flow, Table.Table}

@@ -1,12 +1,11 @@
 -- Packets of the guest: payload goes to the stream of its own flow.
-use Rattle.std.proofs.Common.{arith}
 use Rattle.std.proofs.lemmas.Grind.{common_steps}
 use Rattle.laws_proxy.specs.Account.{Made.{Account, Made, MayGet, account_of, delivering, header_in, made, new_account, payload_put, payload_taken, with_delivery}, Tied.AgreesWith}
 use Rattle.laws_proxy.{specs.Account.Tied.{Agree, IsOver, IsTied, IsTiedTo, ok_line_of, stream_of}, proofs.Account.Closing.{D, closes, Has, agree_moved, agree_same, join}}
 use Rattle.laws_proxy.proofs.Account.{Closing.over_there, Accounts.{Changes, comes, is_delivered, not_delivered, self_is}, Ties.{answers, delivers, end_changes}, Keeping.asking}
 use Rattle.laws_proxy.proofs.Account.{Keeping.Keeps, Entries.{added, waiting_kept}}
 use Rattle.laws_device.{specs.{Walk.Seen.Seen}, proofs.{Walk.{Serving.by_flow, Taking.{AfterDial, Takes}}, Carried.Gives.{hears_gives}}}
-use Rattle.std.proofs.{Common.{◌≡◌, ℕ, Bool, true, false, cond, List, ◌∷◌, ◌++◌, Contains, Option, Some, None, refl, sym, ap, subst, ◌∙◌}, lemmas.List.Elements.All-push}
+use Rattle.std.proofs.{Common.{◌≡◌, ℕ, Bool, true, false, cond, List, ◌∷◌, ◌++◌, Contains, Option, Some, None, refl, sym, ap, subst, ◌∙◌, arith}, lemmas.List.Elements.All-push}
 use Rattle.std.specs.Option.{option_map}
 use Rattle.vs_conn.{specs.{End.{answering, verdict_of}, declared.end.{State.{TheVariants.Ended}, Verdict.Verdict}}, proofs.Frames.{got_asked, got_over}}
 use Rattle.vs_flow.{specs.{Table.{Table, entry_of, has_place, next_entry, with_value}, declared.flow.Flow.Flow}, proofs.{Entries.same_flow_true, Lookups.entry_of_found}}

@@ -1,11 +1,9 @@
 -- A turn and a reset.
-use Rattle.std.proofs.Common.{arith}
-use Rattle.std.proofs.lemmas.Grind.{common_steps}
 use Rattle.laws_device.proofs.Walk.Keeping.{keeps_each, keeps_then}
 use Rattle.laws_proxy.specs.Account.{Made.{Made, account_of, payload_put, payload_taken}, Tied.AccountsFor, Told.{AreAccounted, Shows, StayAccounted}}
 use Rattle.laws_proxy.proofs.Account.{Opening.{AreReset, ResetEnds, keeps_reset, reset_agrees, reset_closes}, Closing.{D, closes}, Keeping.{asking, Keeps}}
 use Rattle.laws_proxy.proofs.Account.{Receiving.fills, Shaking.shakes, Transmitting.{U, takes}, Writing.writes, Telling.stay_accounted}
-use Rattle.std.proofs.Common.{ℕ, List, [], Some, Result, Ok, Err}
+use Rattle.std.proofs.{Common.{ℕ, List, [], Some, Result, Ok, Err, arith}, lemmas.Grind.common_steps}
 use Rattle.vs_contents.specs.CallTree.{Done, for_each}
 use Rattle.vs_ring_port.specs.declared.failure.Failure.{Failure}
 use Rattle.vs_device_parts.specs.{Calls.Situation, Playing.Runs, State.DeviceState, Turns.reset_of}

@@ -43,7 +43,6 @@ counts_made f (Ask call next) calls later x n first walks same leads =
     counts_made f (next leads.0) leads.1 later x (count_made call leads.0 n) first (walks.1 leads.0)
     (ap (count_made call leads.0) same ∙ sym (ap (counts_of first) leads.2.1)) leads.3
 
--- Device and host count the same calls.
 -- One call that failed or not, from a count that is the host's.
 alike_by : (b : Bool) (n old new : ℕ) → CountsFaults n old → CountsFault b old new → CountsFaults (cond b (counted n) n) new
 alike_by b n old new same counts = grind (arith, common_steps)

@@ -1,7 +1,6 @@
 -- Streams of handshakes that are accepted and closed.
-use Rattle.std.proofs.Common.{arith}
 use Rattle.std.proofs.lemmas.Grind.{common_steps}
-use Rattle.std.proofs.{Common.{◌≡◌, ◌≢◌, ℕ, List, [], ◌∷◌, ◌++◌, Some, Contains, IsSomeAnd, ◌⊎◌, inl, inr, refl, sym, subst, ◌∙◌}, lemmas.List.Elements.Contains-push_cases}
+use Rattle.std.proofs.{Common.{◌≡◌, ◌≢◌, ℕ, List, [], ◌∷◌, ◌++◌, Some, Contains, IsSomeAnd, ◌⊎◌, inl, inr, refl, sym, subst, ◌∙◌, arith}, lemmas.List.Elements.Contains-push_cases}
 use Rattle.vs_flow.specs.Table.{Table}
 use Rattle.vs_outside.{specs.Host.{HostContents, IsOpen, accept_answer, after_accept, after_close}, proofs.Frames.{accepts_waiting, open_of, others-after_accept}}
 use Rattle.vs_outside.proofs.Frames.{others-after_close, stays_open}
