@@ -5,13 +5,13 @@ use Rattle.std.proofs.lemmas.{Grind.common_steps, List.Elements.All-filter}
 use Rattle.vs_conn.specs.{End.{grown, is_open, with_payload_sent, with_shut, wanting_credit}, declared.end.State.State}
 use Rattle.vs_flow.specs.Table.{IsTable}
 use Rattle.laws_history.specs.{declared.packet.Packet.Packet, Packets.is_request}
-use Rattle.vs_page.specs.{Fair.{IsFairLog, payload_got}, Log.{Driver, Log}, declared.log.LogEntry.TheVariants.PutPacket}
+use Rattle.vs_page.specs.{Fair.payload_got, Log.{Driver, Log}, declared.log.LogEntry.TheVariants.PutPacket}
 use Rattle.vs_driver_parts.specs.{State.{DriverConnection, DriverEntry, DriverState, GoneConnection, entry_known_as, gone_known_as, is_known_as}, Connections.after_close}
 use Rattle.vs_driver_parts.specs.Connections.{after_closing, after_grow, after_shut, after_shutdown, after_unlisten, all_closed, entry_grow_answer, grown_by, entry_closed}
 use Rattle.vs_driver_parts.specs.{Connections.{gone_closed, shut_in, waiting_on, without_gone}, declared.answers.{Grown.Grown, ListenError.ListenError}, Listening.after_accept}
 use Rattle.vs_driver_parts.{specs.{Listening.{listening, next_accepted, with_waiting, without_id}, Held.with_connection_in}, proofs.Numbers.numbers_gone_without}
 use Rattle.laws_driver.{specs.{Honest.{IsFitState, slots_of}, Carried.Received.{Account, AreReceived, EndsClean, ReceivedOn, keeps_all}}, proofs.{Calls.CarriesSend, Changing.close_changes}}
-use Rattle.laws_driver.proofs.Carried.{Delivering.put_lasts, Reading.given_none, Receiving.{changed_received, in_slots}}
+use Rattle.laws_driver.proofs.Carried.{Reading.given_none, Receiving.{changed_received, in_slots}}
 use Rattle.vs_conn.specs.declared.end.State.TheVariants as state
 use Rattle.vs_driver_parts.specs.declared.answers.Grown.TheVariants as rise
 
@@ -42,15 +42,15 @@ module _ (a : Account) (log : Log) (s : DriverState) (x : AreReceived a log (slo
       → AreReceived a log (with_connection_in e.slot c (slots_of s))
   alters e c sound there same goes over =
       changed_received a a.received log log e [] [] (λ id. given_none (id == e.value.id) (a.received id)) (λ k. given_none _ (payload_got Driver k log))
-      (λ f. refl) (([], refl), λ k past over. (refl, over)) (slots_of s) x sound there c same goes over
+      (λ f. refl) ([], refl) (slots_of s) x sound there c same goes over
 
-  pub puts_and_alters : (p : Packet) (e : DriverEntry) (c : DriverConnection) → is_request p ≡ false → IsFairLog Driver (PutPacket p ∷ log)
-      → IsTable s.table → Contains s.table.entries e → c.id ≡ e.value.id → Goes (keeps_all e.value) (keeps_all c) e.value.unread c.unread [] []
+  pub puts_and_alters : (p : Packet) (e : DriverEntry) (c : DriverConnection) → is_request p ≡ false → IsTable s.table → Contains s.table.entries e
+      → c.id ≡ e.value.id → Goes (keeps_all e.value) (keeps_all c) e.value.unread c.unread [] []
       → (EndsClean e.value → EndsClean c) → AreReceived a (PutPacket p ∷ log) (with_connection_in e.slot c (slots_of s))
-  puts_and_alters p e c plain fair sound there same goes over =
+  puts_and_alters p e c plain sound there same goes over =
       changed_received a a.received log (PutPacket p ∷ log) e [] [] (λ id. given_none (id == e.value.id) (a.received id))
       (λ k. got_over_put Driver p log k ∙ given_none _ (payload_got Driver k log))
-      (λ f. number_put Driver p log f plain) (put_lasts p log fair) (slots_of s) x sound there c same goes over
+      (λ f. number_put Driver p log f plain) (PutPacket p ∷ [], refl) (slots_of s) x sound there c same goes over
 
   -- shutdown.
   shut_by : (st : State) (bits : ℕ) (e : DriverEntry) → IsTable s.table → Contains s.table.entries e → AreReceived a log (slots_of (shut_in st bits e s))
@@ -150,6 +150,6 @@ send_receives first id bytes a = record {
       (stays_still (keeps_all e.value) (keeps_all e.value) e.value.unread [] (λ on. on) (λ on. refl)) (λ over. over);
   sends = λ e n s log fits stands known can few m was fair x.
       puts_and_alters a log s x (payload_on Driver s.cid e.flow e.value.end (take n bytes)) e
-      (record e.value { end = with_payload_sent e.value.end (length (take n bytes)) }) refl fair fits.sound stands.contains refl
+      (record e.value { end = with_payload_sent e.value.end (length (take n bytes)) }) refl fits.sound stands.contains refl
       (stays_still (keeps_all e.value) (keeps_all e.value) e.value.unread [] (λ on. on) (λ on. refl)) (λ over. over);
 }

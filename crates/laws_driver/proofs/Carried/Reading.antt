@@ -11,7 +11,7 @@ use Rattle.vs_driver_parts.specs.{Connections.{unread_of_id, with_connection}, S
 use Rattle.vs_driver_parts.{specs.{declared.answers.Received.Received, Held.HeldSlots, SlotFields.AreNumbered}, proofs.{GoneChanges.read_none, Known.after_recv_gone}}
 use Rattle.vs_driver_parts.proofs.Known.{after_recv_known, recv_gone_some, recv_known, unread_gone_some, unread_known}
 use Rattle.laws_driver.{specs.{Honest.slots_of, Carried.Received.{Account, AreReceived, EndsClean, ReceivedOn, after_receive, bytes_got}}}
-use Rattle.laws_driver.{specs.Carried.Received.{DrainsTo, keeps_all, with_received}, proofs.Carried.{Delivering.front_of, Receiving.apart_by}}
+use Rattle.laws_driver.{specs.Carried.Received.{DrainsTo, keeps_all, with_received}, proofs.Carried.Receiving.{apart_by, front_of}}
 use Rattle.laws_driver.proofs.Carried.Receiving.{changed_received, number_same, same_account}
 use Rattle.vs_conn.specs.declared.end.State.TheVariants as state
 use Rattle.vs_driver_parts.specs.declared.answers.Received.TheVariants as got
@@ -79,7 +79,7 @@ module _ (a : Account) (log : Log) (id n : ℕ) (s : DriverState) (x : AreReceiv
     read false some =
         changed_received a _ log log e (take n e.value.unread) []
         (λ other. ap (λ (k : ℕ). a.received other ++ cond (other == k) (take n e.value.unread) []) (sym id_is))
-        (λ c. none_more c) (λ f. refl) (([], refl), λ c past over. (refl, over)) (slots_of s) x sound (found_by (is_known_as id) s.table.entries e known).0
+        (λ c. none_more c) (λ f. refl) ([], refl) (slots_of s) x sound (found_by (is_known_as id) s.table.entries e known).0
         (after_read n e.value) refl
         (comes_out (keeps_all e.value) (keeps_all (after_read n e.value)) e.value.unread n (reads_less n e.value)) (read_clean n e.value)
       where
@@ -164,9 +164,9 @@ module _ (a : Account) (log : Log) (id n : ℕ) (slots : HeldSlots) (x : AreRece
 
     now_drains : DrainsTo (not g.end.own.receive) (q g.id) (drop n g.unread) (a.opened g.id) log
     now_drains =
-        let all = payload_got Driver (a.opened g.id) old.drains.0 in
-        let front = subst (λ (bytes : List ℕ). IsPrefixOf bytes all) (sym all_there) old.drains.2.front in
-        (old.drains.0, old.drains.1, record { front = front; whole = λ on. all_there ∙ old.drains.2.whole on })
+        let (front, later, is, ends, drains) = old.drains in
+        let first = subst (λ (bytes : List ℕ). IsPrefixOf bytes (payload_got Driver (a.opened g.id) front)) (sym all_there) drains.front in
+        (front, later, is, ends, record { front = first; whole = λ on. all_there ∙ drains.whole on })
 
     at : (i : ℕ) (d : GoneConnection) → i < length slots.gone → (b : Bool) → (i == k) ≡ b
         → ReceivedOn (with_received id (take n g.unread) a) log (read_as id n (get_or slots.gone i d))
