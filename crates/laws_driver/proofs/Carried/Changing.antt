@@ -16,24 +16,19 @@ use Rattle.vs_conn.specs.declared.end.State.TheVariants as state
 use Rattle.vs_driver_parts.specs.declared.answers.Grown.TheVariants as rise
 
 -- Directions are shut, by a shutdown or a close.
-shut_goes_by : (before aborted shut : Bool) (unread : List ℕ) → (not (aborted || shut) ≡ true → before ≡ true)
+shut_goes : (before aborted shut : Bool) (unread : List ℕ) → (not (aborted || shut) ≡ true → before ≡ true)
     → Goes before (not (aborted || shut)) unread (cond shut [] unread) [] []
-shut_goes_by before true true unread less = drops before unread []
-shut_goes_by before false true unread less = drops before unread []
-shut_goes_by before aborted false unread less = stays_still before _ unread [] less (λ on. refl)
+shut_goes before true true unread less = drops before unread []
+shut_goes before false true unread less = drops before unread []
+shut_goes before aborted false unread less = stays_still before _ unread [] less (λ on. refl)
 
-module _ (bits : ℕ) (c : DriverConnection) (closed : Bool) (unclosed : closed ≡ false → c.closed ≡ false) where
-  abbrev k : DriverConnection
-  k = record (after_shut bits c) { closed = closed }
-
-  shut_less : keeps_all k ≡ true → keeps_all c ≡ true
-  shut_less is = grind (arith, common_steps, is, unclosed)
-
-  shut_goes : Goes (keeps_all c) (keeps_all k) c.unread k.unread [] []
-  shut_goes = shut_goes_by (keeps_all c) (closed && not (is_open k.end.state)) (with_shut c.end bits).own.receive c.unread shut_less
-
-  shut_clean : EndsClean c → EndsClean k
-  shut_clean over on is = grind (arith, common_steps, over, unclosed, on, is)
+shut_keeps : (bits : ℕ) (c : DriverConnection) (closed : Bool) → (closed ≡ false → c.closed ≡ false) → let k = record (after_shut bits c) { closed = closed } in
+    Goes (keeps_all c) (keeps_all k) c.unread k.unread [] [] × (EndsClean c → EndsClean k)
+shut_keeps bits c closed unclosed = (
+  shut_goes (keeps_all c) (closed && not (is_open (with_shut c.end bits).state)) (with_shut c.end bits).own.receive c.unread
+      (λ is. grind (arith, common_steps, is, unclosed)),
+  λ over on is. grind (arith, common_steps, over, unclosed, on, is),
+)
 
 module _ (a : Account) (log : Log) (s : DriverState) (x : AreReceived a log (slots_of s)) where
   -- A connection of the table changes, and no byte moves; and the driver puts a packet besides.
@@ -55,8 +50,7 @@ module _ (a : Account) (log : Log) (s : DriverState) (x : AreReceived a log (slo
   -- shutdown.
   shut_by : (st : State) (bits : ℕ) (e : DriverEntry) → IsTable s.table → Contains s.table.entries e → AreReceived a log (slots_of (shut_in st bits e s))
   shut_by state.Live bits e sound there =
-      let unclosed : e.value.closed ≡ false → e.value.closed ≡ false = λ on. on in
-      alters e (after_shut bits e.value) sound there refl (shut_goes bits e.value e.value.closed unclosed) (shut_clean bits e.value e.value.closed unclosed)
+      let k = shut_keeps bits e.value e.value.closed (λ on. on) in alters e (after_shut bits e.value) sound there refl k.0 k.1
   shut_by _ bits e sound there = x
 
   pub shutdown_received : (id bits : ℕ) → IsTable s.table → AreReceived a log (slots_of (after_shutdown id bits s))
@@ -87,8 +81,7 @@ module _ (a : Account) (log : Log) (s : DriverState) (x : AreReceived a log (slo
   closes : (st : State) (e : DriverEntry) → IsTable s.table → Contains s.table.entries e
       → AreReceived a log (with_connection_in e.slot (after_closing st e.value) (slots_of s))
   closes state.Live e sound there =
-      let unclosed : true ≡ false → e.value.closed ≡ false = λ on. absurd cc in
-      alters e (after_closing state.Live e.value) sound there refl (shut_goes 3 e.value true unclosed) (shut_clean 3 e.value true unclosed)
+      let k = shut_keeps 3 e.value true (λ on. absurd cc) in alters e (after_closing state.Live e.value) sound there refl k.0 k.1
   closes st e sound there =
       alters e (after_closing st e.value) sound there refl (ended_goes (keeps_all e.value) e.value.unread) (λ over on. absurd cc)
 

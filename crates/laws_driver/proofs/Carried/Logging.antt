@@ -78,9 +78,6 @@ passes_by a p log slots apart x =
       got = alone.got;
     }) x
 
-stays_open : (c : DriverConnection) → is_let_go c ≡ false → c.closed ≡ false
-stays_open = grind (arith, common_steps)
-
 -- A connection leaves the table.
 module _ (a : Account) (log : Log) (slots : HeldSlots) (x : AreReceived a log slots) (sound : IsTable slots.table) (e : DriverEntry)
     (there : Contains slots.table.entries e) where
@@ -94,14 +91,16 @@ module _ (a : Account) (log : Log) (slots : HeldSlots) (x : AreReceived a log sl
     abbrev g : GoneConnection
     g = gone_as (record e { value = record e.value { end = end } })
 
-    left_received : e.value.closed ≡ false → ends_with e.flow log ≡ true
-        → AreReceived a log (record slots { table = without slots.table e.slot; gone = slots.gone ++ g ∷ [] })
-    left_received unclosed ends =
+    pub leaves_received : (b : Bool) → is_let_go e.value ≡ b → (e.value.closed ≡ false → EndsClean e.value → ends_with e.flow log ≡ true)
+        → AreReceived a log (record slots { table = without slots.table e.slot; gone = cond b slots.gone (slots.gone ++ g ∷ []) })
+    leaves_received true is ends = without_received
+    leaves_received false is ends =
         let old = All-contains (ReceivesOn a log) slots.table.entries e x.held there in
+        let unclosed : e.value.closed ≡ false = grind (arith, common_steps, is) in
         let P : Bool → Shut → Type 0 = λ closed shut. Drains (not (closed && not (is_open e.value.end.state) || shut.receive))
         (a.received e.value.id) e.value.unread (payload_got Driver (current Driver e.flow log) log) in
         let now : DrainsTo (not end.own.receive) (a.received e.value.id) e.value.unread (current Driver e.flow log) log =
-        (log, ([], refl), refl, ends, subst (P false) (sym own) (subst (λ (closed : Bool). P closed e.value.end.own) unclosed old.drains)) in
+        (log, ([], refl), refl, ends unclosed old.over, subst (P false) (sym own) (subst (λ (closed : Bool). P closed e.value.end.own) unclosed old.drains)) in
         in_slots a log slots (record slots { table = without slots.table e.slot; gone = slots.gone ++ g ∷ [] }) x refl
         (numbers_left a.first_id slots.next_port slots.next_id slots.table slots.gone x.numbers e g sound (under_slot slots.table sound e there) refl)
         without_received.held
@@ -110,13 +109,6 @@ module _ (a : Account) (log : Log) (slots : HeldSlots) (x : AreReceived a log sl
           some = subst (λ (c : Connection). 1 ≤ c.number) (sym old.present) old.some;
           drains = subst (λ (c : Connection). DrainsTo (not end.own.receive) (a.received e.value.id) e.value.unread c log) (sym old.present) now;
         }))
-
-    pub leaves_received : (b : Bool) → is_let_go e.value ≡ b → (e.value.closed ≡ false → EndsClean e.value → ends_with e.flow log ≡ true)
-        → AreReceived a log (record slots { table = without slots.table e.slot; gone = cond b slots.gone (slots.gone ++ g ∷ []) })
-    leaves_received true is ends = without_received
-    leaves_received false is ends =
-        let unclosed = stays_open e.value is in
-        left_received unclosed (ends unclosed (All-contains (ReceivesOn a log) slots.table.entries e x.held there).over)
 
 -- A connection opens: it is the next of its flow, of which the table has none.
 module _ (a : Account) (log new : Log) (slots : HeldSlots) (f : Flow) (c : DriverConnection) (port : ℕ) (x : AreReceived a log slots)

@@ -23,7 +23,7 @@ use Rattle.laws_driver.{specs.{Honest.{IsFitState, ends_of_state, slots_of}, Car
 use Rattle.laws_driver.{specs.Carried.Received.{ends_with, keeps_all, with_opened}, proofs.Carrying.{Carries, Fact}}
 use Rattle.laws_driver.proofs.{Tabling.{Stands, entry_fits, has_end, leaves}, Resetting.{first_contained, with_cid}, Taking.with_reply_fits, Carried.Changing.puts_and_alters}
 use Rattle.laws_driver.proofs.Carried.{Logging.{leaves_received, opened_goes_on, opened_received, passes_by, same_received}, Reading.given_none, Receiving.changed_received}
-use Rattle.laws_driver.proofs.Carried.Receiving.{in_clean}
+use Rattle.laws_driver.proofs.Carried.Receiving.{Keeps, in_clean}
 use Rattle.vs_header.specs.declared.Kind.TheVariants.{Stream}
 use Rattle.vs_conn.specs.declared.end.Owed.TheVariants as owed
 use Rattle.vs_conn.specs.declared.end.Verdict.TheVariants as verdict
@@ -72,18 +72,14 @@ new_by e owes = grind (arith, common_steps, owes)
 owes_over : (e : ConnectionEnd) → owes_of e ≡ Some owed.Rst → e.state ≡ Ended
 owes_over e owes = grind (arith, common_steps, owes)
 
-paid_less : (what : Owed) (c : DriverConnection) → owes_of c.end ≡ Some what → keeps_all (paid_connection what c) ≡ true → keeps_all c ≡ true
-paid_less what c owes is = grind (arith, common_steps, owes, is)
-
-paid_clean : (what : Owed) (c : DriverConnection) → owes_of c.end ≡ Some what → EndsClean c → EndsClean (paid_connection what c)
-paid_clean what c owes over unclosed is = grind (arith, common_steps, owes, over, unclosed, is)
+paid_keeps : (what : Owed) (c : DriverConnection) → owes_of c.end ≡ Some what → Keeps c (paid_connection what c)
+paid_keeps what c owes = (λ is. grind (arith, common_steps, owes, is), λ over unclosed is. grind (arith, common_steps, owes, over, unclosed, is))
 
 pays_received : (what : Owed) (first : ℕ) (a : Account) (e : DriverEntry) (s : DriverState) (log : Log) → IsFitState true s → Stands s e → owes_of e.value.end ≡ Some what
     → Matches Driver first (ends_of_state s) log → AreReceived a log (slots_of s)
     → AreReceived a (PutPacket (owed_on Driver s.cid e.flow e.value.end what) ∷ log) (slots_of (after_paying what e s))
 pays_received owed.Request first a e s log fits stands owes m x =
-    let old = driver_begun first (ends_of_state s) log e.flow e.value.end m.flows (has_end s e fits stands) in
-    let both : true ≡ false = sym (new_by e.value.end owes) ∙ old in absurd cc
+    let both : true ≡ false = sym (new_by e.value.end owes) ∙ driver_begun first (ends_of_state s) log e.flow e.value.end m.flows (has_end s e fits stands) in absurd cc
 pays_received owed.Rst first a e s log fits stands owes m x =
     let has = has_end s e fits stands in
     let host = (entry_fits s e fits stands).peer refl in
@@ -93,13 +89,10 @@ pays_received owed.Rst first a e s log fits stands owes m x =
     (clean_got first (ends_of_state s) log e.flow e.value.end m.flows has host (over unclosed (owes_over e.value.end owes)))) x)
 pays_received what first a e s log fits stands owes m x =
     puts_and_alters a log s x (owed_on Driver s.cid e.flow e.value.end what) e (paid_connection what e.value) refl fits.sound stands.contains refl
-    (stays_still (keeps_all e.value) (keeps_all (paid_connection what e.value)) e.value.unread [] (paid_less what e.value owes) (λ on. refl))
-    (paid_clean what e.value owes)
+    (stays_still (keeps_all e.value) (keeps_all (paid_connection what e.value)) e.value.unread [] (paid_keeps what e.value owes).0 (λ on. refl))
+    (paid_keeps what e.value owes).1
 
 -- A transport reset: all leave.
-reset_ends : (f : Flow) (cid : ℕ) (log : Log) → ends_with f (Mark cid ∷ log) ≡ true
-reset_ends f cid log = grind (arith, common_steps)
-
 all_leave : (a : Account) (cid : ℕ) (log : Log) (es : List DriverEntry) (s : DriverState) → s.table.entries ≡ es → IsFitState true s
     → AreReceived a (Mark cid ∷ log) (slots_of s) → AreReceived a (Mark cid ∷ log) (slots_of (all_left es s))
 all_leave a cid log [] s is fits x = x
@@ -112,16 +105,11 @@ all_leave a cid log (e ∷ es) s is fits x =
     let m : DriverState = after_leaving e s in
     let table_is : m.table.entries ≡ es = ap (λ (xs : List DriverEntry). filter (λ x. not (x.slot == e.slot)) xs) is ∙ others_left e es rising in
     all_leave a cid log es (with_reply (reset_reply e) m) table_is (with_reply_fits m (reset_reply e) l.fits (entry_fits s e fits stands).ports)
-    (leaving_received a (Mark cid ∷ log) s e e.value.end refl fits.sound stands.contains
-    (λ unclosed over. reset_ends e.flow cid log) x)
+    (leaving_received a (Mark cid ∷ log) s e e.value.end refl fits.sound stands.contains (λ unclosed over. refl) x)
 
 -- A packet is got, of a connection of the table.
-got_less : (p : Packet) (c : DriverConnection) → keeps_all (record c { end = end_after c.end p.header }) ≡ true → keeps_all c ≡ true
-got_less p c is = grind (arith, common_steps, is)
-
-got_clean : (p : Packet) (c : DriverConnection) → is_refused (verdict_of c.end p.header) ≡ false → EndsClean c
-    → EndsClean (record c { end = end_after c.end p.header })
-got_clean p c kept over unclosed is = grind (arith, common_steps, kept, over, unclosed, is)
+got_keeps : (p : Packet) (c : DriverConnection) → is_refused (verdict_of c.end p.header) ≡ false → Keeps c (record c { end = end_after c.end p.header })
+got_keeps p c kept = (λ is. grind (arith, common_steps, is), λ over unclosed is. grind (arith, common_steps, kept, over, unclosed, is))
 
 keeps_delivered : (c : DriverConnection) (h : Header) → verdict_of c.end h ≡ verdict.Deliver → keeps_all c ≡ true
 keeps_delivered c h is = grind (arith, common_steps, is)
@@ -146,24 +134,26 @@ module _ (first : ℕ) (a : Account) (p : Packet) (e : DriverEntry) (s : DriverS
   plain : packets.is_request p ≡ false
   plain = got_goes_on Driver first p e.value.end (ends_of_state s) log m.flows has (fair (flow_got Driver p))
 
-  was_clean : EndsClean e.value
-  was_clean = (All-contains (ReceivesOn a log) s.table.entries e x.held stands.contains).over
+  host : (flow_got Driver p).peer ≡ HOST_CID
+  host = ap (λ (g : Flow). g.peer) same ∙ (entry_fits s e fits stands).peer refl
 
   kept : is_refused (verdict_of e.value.end p.header) ≡ false
   kept =
-      let host : (flow_got Driver p).peer ≡ HOST_CID = ap (λ (g : Flow). g.peer) same ∙ (entry_fits s e fits stands).peer refl in
       got_not_refused Driver first p e.value.end (ends_of_state s) log m.flows has (fair (flow_got Driver p)) (heard_all first (flow_got Driver p) log host)
 
-  hears : (c : DriverConnection) → c.id ≡ e.value.id → Goes (keeps_all e.value) (keeps_all c) e.value.unread c.unread [] p.payload
-      → (EndsClean e.value → EndsClean c) → AreReceived a (GotPacket p ∷ log) (slots_of (with_connection e.slot c s))
-  hears c id goes over =
+  abbrev its : List ℕ → DriverConnection
+  its unread = record e.value { end = end_after e.value.end p.header; unread = unread }
+
+  keeps : Keeps e.value (its e.value.unread)
+  keeps = got_keeps p e.value kept
+
+  hears : (unread : List ℕ) → Goes (keeps_all e.value) (keeps_all (its unread)) e.value.unread unread [] p.payload
+      → AreReceived a (GotPacket p ∷ log) (slots_of (with_connection e.slot (its unread) s))
+  hears unread goes =
       changed_received a a.received log (GotPacket p ∷ log) e [] p.payload (λ other. given_none (other == e.value.id) (a.received other))
       (λ k. subst (λ (g : Flow). payload_got Driver k (GotPacket p ∷ log) ≡ payload_got Driver k log ++ only_on (current Driver g log) p.payload k) same
       (got_adds Driver p log plain was fair k))
-      (λ f. number_got Driver p log f plain) (GotPacket p ∷ [], refl) (slots_of s) x fits.sound stands.contains c id goes over
-
-  abbrev its : DriverConnection
-  its = record e.value { end = end_after e.value.end p.header }
+      (λ f. number_got Driver p log f plain) (GotPacket p ∷ [], refl) (slots_of s) x fits.sound stands.contains (its unread) refl goes keeps.1
 
   silent : (v : Verdict) → verdict_of e.value.end p.header ≡ v → is_refused v ≡ false → (v ≡ verdict.Deliver → ⊥)
       → (receives e.value.end ≡ true) ⊎ (e.value.end.clean ≡ true) → (b : Bool) → is_rw p ≡ b → is_rw p ≡ false
@@ -171,13 +161,14 @@ module _ (first : ℕ) (a : Account) (p : Packet) (e : DriverEntry) (s : DriverS
   silent v is taken other (inl on) true piece = only_delivered e.value.end p v is taken other (stays_open e.value.end p piece kept on)
   silent v is taken other (inr clean) true piece =
       let f = flow_got Driver p in
-      let host : f.peer ≡ HOST_CID = ap (λ (g : Flow). g.peer) same ∙ (entry_fits s e fits stands).peer refl in
       no_payload _ p _ _ ((own_got_fair Driver p log (fair f)).1.goes_on plain) (clean_got first (ends_of_state s) log f e.value.end m.flows has host clean)
 
   unmoved : (v : Verdict) → verdict_of e.value.end p.header ≡ v → is_refused v ≡ false → (v ≡ verdict.Deliver → ⊥)
-      → Goes (keeps_all e.value) (keeps_all its) e.value.unread e.value.unread [] p.payload
-  unmoved v is taken other = stays_still (keeps_all e.value) (keeps_all its) e.value.unread p.payload (got_less p e.value)
-      (λ on. whole.none (silent v is taken other (open_or_clean e.value (got_less p e.value on) was_clean) (is_rw p) refl))
+      → Goes (keeps_all e.value) (keeps_all (its e.value.unread)) e.value.unread e.value.unread [] p.payload
+  unmoved v is taken other =
+      let over = (All-contains (ReceivesOn a log) s.table.entries e x.held stands.contains).over in
+      stays_still (keeps_all e.value) (keeps_all (its e.value.unread)) e.value.unread p.payload keeps.0
+      (λ on. whole.none (silent v is taken other (open_or_clean e.value (keeps.0 on) over) (is_rw p) refl))
 
   empty_rst : is_reset p.header ≡ true → is_rw p ≡ false
   empty_rst is = grind (arith, nat_tests, common_steps, is)
@@ -186,8 +177,7 @@ module _ (first : ℕ) (a : Account) (p : Packet) (e : DriverEntry) (s : DriverS
       → let c = after_packet verdict.Peer p e.value in
       AreReceived a (GotPacket p ∷ log) (slots_of (cond b (keeping (is_kept Driver e.flow e.value.end p) e.flow (after_leaving (record e { value = c }) s))
       (with_connection e.slot c s)))
-  peers false is reset =
-      hears (after_packet verdict.Peer p e.value) refl (unmoved verdict.Peer is refl (λ (q : verdict.Peer ≡ verdict.Deliver). cc)) (got_clean p e.value kept)
+  peers false is reset = hears e.value.unread (unmoved verdict.Peer is refl (λ (q : verdict.Peer ≡ verdict.Deliver). cc))
   peers true is reset =
       in_clean a (GotPacket p ∷ log) _ _
       (leaving_received a (GotPacket p ∷ log) s e (end_after e.value.end p.header) (got_own e.value.end p.header) fits.sound stands.contains
@@ -199,9 +189,9 @@ module _ (first : ℕ) (a : Account) (p : Packet) (e : DriverEntry) (s : DriverS
   by_verdict (verdict.Rst why) is taken = absurd cc
   by_verdict verdict.Peer is taken = peers (is_reset p.header) is refl
   by_verdict verdict.Deliver is taken =
-      hears (after_packet verdict.Deliver p e.value) refl
-      (comes_in (keeps_all e.value) (keeps_all its) e.value.unread p.payload (keeps_delivered e.value p.header is)) (got_clean p e.value kept)
-  by_verdict v is taken = hears (after_packet v p e.value) refl (unmoved v is taken (λ (q : v ≡ verdict.Deliver). cc)) (got_clean p e.value kept)
+      hears (e.value.unread ++ p.payload)
+      (comes_in (keeps_all e.value) (keeps_all (its (e.value.unread ++ p.payload))) e.value.unread p.payload (keeps_delivered e.value p.header is))
+  by_verdict v is taken = hears e.value.unread (unmoved v is taken (λ (q : v ≡ verdict.Deliver). cc))
 
   pub known_received : AreReceived a (GotPacket p ∷ log) (slots_of (on_known p e s))
   known_received = by_verdict (verdict_of e.value.end p.header) refl kept

@@ -1,9 +1,9 @@
 -- What an application received, through each change of a connection.
-use Rattle.laws_tables.{specs.{Drains.{only_on, Drains}, Later.IsLater}, proofs.{Changes.{changed, under_slot}, Later.later_then, Logs.{longer, prefix_then, shorter}, Goes.Goes}}
+use Rattle.laws_tables.{specs.{Drains.{only_on, Drains}, Later.IsLater}, proofs.{Changes.{changed, under_slot}, Later.later_then, Logs.{longer, shorter}, Goes.Goes}}
 use Rattle.std.proofs.Common.{◌≡◌, ◌≢◌, ℕ, ◌<◌, ◌≤◌, ◌==◌, ◌&&◌, not, Bool, true, false, cond, List, [], ◌++◌, length, get_or, Contains, refl, sym, ap, subst, ◌∙◌, arith, append-nil}
 use Rattle.std.{proofs.{Math.Path.fun_ext, lemmas.{Bool.Decides.nat_tests, List.Elements.All-contains}}, specs.List.All}
 use Rattle.vs_flow.{specs.{Connection.Connection, Table.IsTable, declared.flow.Flow.Flow}, proofs.Entries.same_flow_false}
-use Rattle.vs_page.{specs.{Fair.{IsPrefixOf, current, number_of, payload_got}, Log.{Driver, Log}}, proofs.{Flows.same_self, PayloadLogs.got_stays}}
+use Rattle.vs_page.{specs.{Fair.{IsPrefixOf, current, number_of, payload_got}, Log.{Driver, Log}}, proofs.{Flows.same_self}}
 use Rattle.vs_driver_parts.{specs.{State.{DriverConnection, DriverEntry, GoneConnection}, Held.{HeldSlots, with_connection_in}, SlotFields.AreNumbered}, proofs.Ids.HasId}
 use Rattle.vs_driver_parts.proofs.{Ids.value_of, Numbers.{id_there, numbers_with_value}}
 use Rattle.laws_driver.specs.Carried.Received.{Account, AreReceived, DrainsTo, EndsClean, ReceivedOn, ReceivesOn, keeps_all}
@@ -39,13 +39,13 @@ apart_by a b other = grind (arith, nat_tests, other)
 pub number_same : (n : ℕ) → (n == n) ≡ true
 number_same n = grind (arith, nat_tests)
 
+-- What a step of a connection keeps.
+abbrev pub Keeps : DriverConnection → DriverConnection → Type 0
+Keeps c k = (keeps_all k ≡ true → keeps_all c ≡ true) × (EndsClean c → EndsClean k)
+
 -- What was delivered to a connection that is gone stays, whatever comes besides.
 pub drains_on : (all : Bool) (out held : List ℕ) (c : Connection) (log new : Log) → IsLater log new → DrainsTo all out held c log → DrainsTo all out held c new
 drains_on all out held c log new later (front, older, is, ends, drains) = (front, later_then front log new older later, is, ends, drains)
-
-pub front_of : (all : Bool) (out held : List ℕ) (c : Connection) (log : Log) → DrainsTo all out held c log → IsPrefixOf (out ++ held) (payload_got Driver c log)
-front_of all out held c log (front, later, is, ends, drains) =
-    subst (λ (l : Log). IsPrefixOf (out ++ held) (payload_got Driver c l)) (sym later.1) (prefix_then _ _ _ drains.front (got_stays Driver later.0 front c))
 
 -- A connection of the table changes: these bytes of it are read, and these come in.
 module _ (a : Account) (q : ℕ → List ℕ) (log new : Log) (e : DriverEntry) (taken more : List ℕ)

@@ -47,7 +47,7 @@ resets (Mark cid ∷ log) = true
 resets _ = false
 
 abbrev pub ends_with : Flow → Log → Bool
-ends_with f log = let got = gots (history_of Driver f log) in has is_rst got || (has_both got || resets log)
+ends_with f log = let got = gots (history_of Driver f log) in resets log || (has is_rst got || has_both got)
 
 -- Nothing is dropped of what comes in: the application didn't say that it receives no more, and no close aborted the connection.
 abbrev pub keeps_all : DriverConnection → Bool
