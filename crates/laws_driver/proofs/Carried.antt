@@ -1,7 +1,6 @@
 -- The bytes of the driver's connections, over any ring that tells its log: what its calls put, and what they gave.
 pub mod Growing
 pub mod Sending
-pub mod Delivering
 pub mod Receiving
 pub mod Reading
 pub mod Changing

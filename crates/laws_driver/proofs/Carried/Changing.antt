@@ -5,35 +5,30 @@ use Rattle.std.proofs.lemmas.{Grind.common_steps, List.Elements.All-filter}
 use Rattle.vs_conn.specs.{End.{grown, is_open, with_payload_sent, with_shut, wanting_credit}, declared.end.State.State}
 use Rattle.vs_flow.specs.Table.{IsTable}
 use Rattle.laws_history.specs.{declared.packet.Packet.Packet, Packets.is_request}
-use Rattle.vs_page.specs.{Fair.{IsFairLog, payload_got}, Log.{Driver, Log}, declared.log.LogEntry.TheVariants.PutPacket}
+use Rattle.vs_page.specs.{Fair.payload_got, Log.{Driver, Log}, declared.log.LogEntry.TheVariants.PutPacket}
 use Rattle.vs_driver_parts.specs.{State.{DriverConnection, DriverEntry, DriverState, GoneConnection, entry_known_as, gone_known_as, is_known_as}, Connections.after_close}
 use Rattle.vs_driver_parts.specs.Connections.{after_closing, after_grow, after_shut, after_shutdown, after_unlisten, all_closed, entry_grow_answer, grown_by, entry_closed}
 use Rattle.vs_driver_parts.specs.{Connections.{gone_closed, shut_in, waiting_on, without_gone}, declared.answers.{Grown.Grown, ListenError.ListenError}, Listening.after_accept}
 use Rattle.vs_driver_parts.{specs.{Listening.{listening, next_accepted, with_waiting, without_id}, Held.with_connection_in}, proofs.Numbers.numbers_gone_without}
 use Rattle.laws_driver.{specs.{Honest.{IsFitState, slots_of}, Carried.Received.{Account, AreReceived, EndsClean, ReceivedOn, keeps_all}}, proofs.{Calls.CarriesSend, Changing.close_changes}}
-use Rattle.laws_driver.proofs.Carried.{Delivering.put_lasts, Reading.given_none, Receiving.{changed_received, in_slots}}
+use Rattle.laws_driver.proofs.Carried.{Reading.given_none, Receiving.{changed_received, in_slots}}
 use Rattle.vs_conn.specs.declared.end.State.TheVariants as state
 use Rattle.vs_driver_parts.specs.declared.answers.Grown.TheVariants as rise
 
 -- Directions are shut, by a shutdown or a close.
-shut_goes_by : (before aborted shut : Bool) (unread : List ℕ) → (not (aborted || shut) ≡ true → before ≡ true)
+shut_goes : (before aborted shut : Bool) (unread : List ℕ) → (not (aborted || shut) ≡ true → before ≡ true)
     → Goes before (not (aborted || shut)) unread (cond shut [] unread) [] []
-shut_goes_by before true true unread less = drops before unread []
-shut_goes_by before false true unread less = drops before unread []
-shut_goes_by before aborted false unread less = stays_still before _ unread [] less (λ on. refl)
+shut_goes before true true unread less = drops before unread []
+shut_goes before false true unread less = drops before unread []
+shut_goes before aborted false unread less = stays_still before _ unread [] less (λ on. refl)
 
-module _ (bits : ℕ) (c : DriverConnection) (closed : Bool) (unclosed : closed ≡ false → c.closed ≡ false) where
-  abbrev k : DriverConnection
-  k = record (after_shut bits c) { closed = closed }
-
-  shut_less : keeps_all k ≡ true → keeps_all c ≡ true
-  shut_less is = grind (arith, common_steps, is, unclosed)
-
-  shut_goes : Goes (keeps_all c) (keeps_all k) c.unread k.unread [] []
-  shut_goes = shut_goes_by (keeps_all c) (closed && not (is_open k.end.state)) (with_shut c.end bits).own.receive c.unread shut_less
-
-  shut_clean : EndsClean c → EndsClean k
-  shut_clean over on is = grind (arith, common_steps, over, unclosed, on, is)
+shut_keeps : (bits : ℕ) (c : DriverConnection) (closed : Bool) → (closed ≡ false → c.closed ≡ false) → let k = record (after_shut bits c) { closed = closed } in
+    Goes (keeps_all c) (keeps_all k) c.unread k.unread [] [] × (EndsClean c → EndsClean k)
+shut_keeps bits c closed unclosed = (
+  shut_goes (keeps_all c) (closed && not (is_open (with_shut c.end bits).state)) (with_shut c.end bits).own.receive c.unread
+      (λ is. grind (arith, common_steps, is, unclosed)),
+  λ over on is. grind (arith, common_steps, over, unclosed, on, is),
+)
 
 module _ (a : Account) (log : Log) (s : DriverState) (x : AreReceived a log (slots_of s)) where
   -- A connection of the table changes, and no byte moves; and the driver puts a packet besides.
@@ -42,21 +37,20 @@ module _ (a : Account) (log : Log) (s : DriverState) (x : AreReceived a log (slo
       → AreReceived a log (with_connection_in e.slot c (slots_of s))
   alters e c sound there same goes over =
       changed_received a a.received log log e [] [] (λ id. given_none (id == e.value.id) (a.received id)) (λ k. given_none _ (payload_got Driver k log))
-      (λ f. refl) (([], refl), λ k past over. (refl, over)) (slots_of s) x sound there c same goes over
+      (λ f. refl) ([], refl) (slots_of s) x sound there c same goes over
 
-  pub puts_and_alters : (p : Packet) (e : DriverEntry) (c : DriverConnection) → is_request p ≡ false → IsFairLog Driver (PutPacket p ∷ log)
-      → IsTable s.table → Contains s.table.entries e → c.id ≡ e.value.id → Goes (keeps_all e.value) (keeps_all c) e.value.unread c.unread [] []
+  pub puts_and_alters : (p : Packet) (e : DriverEntry) (c : DriverConnection) → is_request p ≡ false → IsTable s.table → Contains s.table.entries e
+      → c.id ≡ e.value.id → Goes (keeps_all e.value) (keeps_all c) e.value.unread c.unread [] []
       → (EndsClean e.value → EndsClean c) → AreReceived a (PutPacket p ∷ log) (with_connection_in e.slot c (slots_of s))
-  puts_and_alters p e c plain fair sound there same goes over =
+  puts_and_alters p e c plain sound there same goes over =
       changed_received a a.received log (PutPacket p ∷ log) e [] [] (λ id. given_none (id == e.value.id) (a.received id))
       (λ k. got_over_put Driver p log k ∙ given_none _ (payload_got Driver k log))
-      (λ f. number_put Driver p log f plain) (put_lasts p log fair) (slots_of s) x sound there c same goes over
+      (λ f. number_put Driver p log f plain) (PutPacket p ∷ [], refl) (slots_of s) x sound there c same goes over
 
   -- shutdown.
   shut_by : (st : State) (bits : ℕ) (e : DriverEntry) → IsTable s.table → Contains s.table.entries e → AreReceived a log (slots_of (shut_in st bits e s))
   shut_by state.Live bits e sound there =
-      let unclosed : e.value.closed ≡ false → e.value.closed ≡ false = λ on. on in
-      alters e (after_shut bits e.value) sound there refl (shut_goes bits e.value e.value.closed unclosed) (shut_clean bits e.value e.value.closed unclosed)
+      let k = shut_keeps bits e.value e.value.closed (λ on. on) in alters e (after_shut bits e.value) sound there refl k.0 k.1
   shut_by _ bits e sound there = x
 
   pub shutdown_received : (id bits : ℕ) → IsTable s.table → AreReceived a log (slots_of (after_shutdown id bits s))
@@ -87,8 +81,7 @@ module _ (a : Account) (log : Log) (s : DriverState) (x : AreReceived a log (slo
   closes : (st : State) (e : DriverEntry) → IsTable s.table → Contains s.table.entries e
       → AreReceived a log (with_connection_in e.slot (after_closing st e.value) (slots_of s))
   closes state.Live e sound there =
-      let unclosed : true ≡ false → e.value.closed ≡ false = λ on. absurd cc in
-      alters e (after_closing state.Live e.value) sound there refl (shut_goes 3 e.value true unclosed) (shut_clean 3 e.value true unclosed)
+      let k = shut_keeps 3 e.value true (λ on. absurd cc) in alters e (after_closing state.Live e.value) sound there refl k.0 k.1
   closes st e sound there =
       alters e (after_closing st e.value) sound there refl (ended_goes (keeps_all e.value) e.value.unread) (λ over on. absurd cc)
 
@@ -150,6 +143,6 @@ send_receives first id bytes a = record {
       (stays_still (keeps_all e.value) (keeps_all e.value) e.value.unread [] (λ on. on) (λ on. refl)) (λ over. over);
   sends = λ e n s log fits stands known can few m was fair x.
       puts_and_alters a log s x (payload_on Driver s.cid e.flow e.value.end (take n bytes)) e
-      (record e.value { end = with_payload_sent e.value.end (length (take n bytes)) }) refl fair fits.sound stands.contains refl
+      (record e.value { end = with_payload_sent e.value.end (length (take n bytes)) }) refl fits.sound stands.contains refl
       (stays_still (keeps_all e.value) (keeps_all e.value) e.value.unread [] (λ on. on) (λ on. refl)) (λ over. over);
 }

@@ -1,5 +1,5 @@
 -- A connect opens a connection on which nothing was delivered; and the account of a driver that was just made.
-use Rattle.laws_tables.{proofs.Adding.got_over_put, specs.Steps.{request_on, port_after}}
+use Rattle.laws_tables.{proofs.Adding.got_over_put, specs.{Later.IsLater, Steps.{request_on, port_after}}}
 use Rattle.std.{proofs.Common.{◌≡◌, ◌≢◌, ℕ, ◌+◌, ◌<◌, Bool, true, false, cond, None, List, [], ◌∷◌, refl, ap, ◌∙◌, arith, Some}, specs.List.All}
 use Rattle.vs_conn.specs.End.{asked, paid_of}
 use Rattle.vs_flow.{specs.{Connection.Connection, Flow.host_asks, declared.flow.Flow.Flow}, proofs.Entries.same_flow_false}
@@ -11,7 +11,7 @@ use Rattle.vs_page.{specs.declared.log.LogEntry.TheVariants.PutPacket, proofs.{F
 use Rattle.vs_driver_parts.specs.{Connections.{connect_refusal, connected, next_flow, free_flow}, Held.HeldSlots, State.{DriverConnection, DriverState}, Conversations.new_state}
 use Rattle.vs_driver_parts.proofs.Clean.{given_absent, given_to, may_connect, port_below, port_rises}
 use Rattle.laws_driver.{specs.{Honest.{IsFitState, slots_of}, Carried.Received.{Account, AreReceived, EndsClean, no_account, with_opened}}, proofs.Calls.CarriesConnect}
-use Rattle.laws_driver.proofs.Carried.{Delivering.put_lasts, Polling.{Further, IsFurther, goes_then, not_there}, Logging.{opened_goes_on, opened_received}, Receiving.in_slots}
+use Rattle.laws_driver.proofs.Carried.{Polling.{Further, IsFurther, goes_then, not_there}, Logging.{opened_goes_on, opened_received}, Receiving.in_slots}
 use Rattle.vs_conn.specs.declared.end.Owed.TheVariants as owed
 
 -- The numbers given last don't count, nor do the flows that are kept.
@@ -53,16 +53,16 @@ connected_received a host s log fits free fair x =
     let c : DriverConnection = record { id = s.next_id; end = paid_of (asked Stream BUF_ALLOC) owed.Request; unread = []; unanswered = false; closed = false } in
     let port : ℕ = port_after s.next_port f.guest in
     let below : host_asks f ≡ false → f.guest < port = λ mine. port_below s.next_port f.guest in
-    let lasts = put_lasts p log fair in
+    let later : IsLater log new = (PutPacket p ∷ [], refl) in
     let clean : EndsClean c = λ unclosed is. absurd cc in
     let b : Account = with_opened s.next_id (current Driver f new) x.0 in (
       b,
       goes_then a x.0 b x.1
-          (opened_goes_on x.0 log new (slots_of s) f c port x.2 got nothing next others refl refl absent (port_rises s.next_port f.guest) below lasts clean),
+          (opened_goes_on x.0 log new (slots_of s) f c port x.2 got nothing next others refl refl absent (port_rises s.next_port f.guest) below later clean),
       with_last b new (record (slots_of s) { next_port = port; next_id = s.next_id + 1; table = (connected HOST_CID host s).table }) f.guest s.next_id
           (connected HOST_CID host s).clean
           (with_last b new _ s.last_port s.last_id s.clean
-          (opened_received x.0 log new (slots_of s) f c port x.2 got nothing next others refl refl absent (port_rises s.next_port f.guest) below lasts clean)),
+          (opened_received x.0 log new (slots_of s) f c port x.2 got nothing next others refl refl absent (port_rises s.next_port f.guest) below later clean)),
     )
 
 pub connect_carries : (first host : ℕ) (a : Account) → CarriesConnect true first HOST_CID host (Further a) (λ answer. Further a)

@@ -5,12 +5,12 @@ use Rattle.vs_conn.specs.{End.{ConnectionEnd, is_open}, declared.shut.Shut.Shut}
 use Rattle.vs_flow.specs.{Connection.Connection, Flow.{host_asks, same_flow}, Table.{IsTable, next_entry, with_entry, without}, declared.flow.Flow.Flow}
 use Rattle.vs_flow.proofs.Entries.{same_flow_false}
 use Rattle.laws_history.specs.{History.{Answerer, Asker, Got, History, Side, gots, puts}, declared.packet.Packet.Packet, Packets.is_request, Again.count}
-use Rattle.vs_page.specs.{Fair.{IsFairLog, IsPrefixOf, asked_by, current, number_of, payload_got}, Held.IsWhole, Log.{Driver, Log, flow_got, side_of, whole_of}, declared.log.LogEntry.TheVariants.GotPacket}
+use Rattle.vs_page.specs.{Fair.{IsPrefixOf, asked_by, current, number_of, payload_got}, Log.{Driver, Log, flow_got, side_of, whole_of}, declared.log.LogEntry.TheVariants.GotPacket}
 use Rattle.vs_page.proofs.{Flows.{same_is, same_self, still}, PayloadLogs.got_stays}
 use Rattle.vs_driver_parts.{proofs.Numbers.{numbers_left, numbers_with_entry, numbers_without}, specs.{Connections.{gone_as, is_let_go}, Held.HeldSlots, State.{DriverConnection, DriverEntry, GoneConnection}}}
-use Rattle.laws_tables.{specs.Drains.Drains, proofs.{Changes.{others_left, under_slot}, Logs.{all_of, nothing_more, prefix_then}}}
-use Rattle.laws_driver.specs.Carried.Received.{Account, AreReceived, DrainsTo, EndsClean, GoesOn, ReceivedOn, ReceivesOn, keeps_all, with_opened}
-use Rattle.laws_driver.proofs.Carried.{Delivering.{IsThrough, Lasts, drains_on, got_lasts}, Receiving.{apart_by, in_slots, number_same}}
+use Rattle.laws_tables.{specs.{Drains.Drains, Later.IsLater}, proofs.{Changes.{others_left, under_slot}, Logs.{all_of, nothing_more, prefix_then}}}
+use Rattle.laws_driver.specs.Carried.Received.{Account, AreReceived, DrainsTo, EndsClean, GoesOn, ReceivedOn, ReceivesOn, ends_with, keeps_all, with_opened}
+use Rattle.laws_driver.proofs.Carried.Receiving.{apart_by, drains_on, in_slots, number_same}
 
 -- What more entries leave: the payload of each connection grows, and so do the numbers; on the flows of the table nothing is new.
 pub record Leaves (log new : Log) (e : DriverEntry) : Type 0 where
@@ -18,7 +18,7 @@ pub record Leaves (log new : Log) (e : DriverEntry) : Type 0 where
   pub got : (k : ℕ) → let c : Connection = record { flow = e.flow; number = k } in payload_got Driver c new ≡ payload_got Driver c log
 
 module _ (a : Account) (log new : Log) (grows : (c : Connection) → IsPrefixOf (payload_got Driver c log) (payload_got Driver c new))
-    (more : (f : Flow) → number_of Driver f log ≤ number_of Driver f new) (lasts : Lasts log new) where
+    (more : (f : Flow) → number_of Driver f log ≤ number_of Driver f new) (later : IsLater log new) where
   later_on : (e : DriverEntry) → Leaves log new e → ReceivesOn a log e → ReceivesOn a new e
   later_on e leaves x =
       let now : current Driver e.flow log ≡ current Driver e.flow new =
@@ -31,15 +31,15 @@ module _ (a : Account) (log new : Log) (grows : (c : Connection) → IsPrefixOf 
         over = x.over;
       }
 
-  later_gone : (g : GoneConnection) → (a.opened g.id).number ≤ number_of Driver (a.opened g.id).flow log → ReceivedOn a log g → ReceivedOn a new g
-  later_gone g past x = record { flow = x.flow; some = x.some; drains = drains_on _ _ _ _ _ _ lasts past x.drains }
+  later_gone : (g : GoneConnection) → ReceivedOn a log g → ReceivedOn a new g
+  later_gone g x = record { flow = x.flow; some = x.some; drains = drains_on _ _ _ _ _ _ later x.drains }
 
   pub later_received : (slots : HeldSlots) → All (Leaves log new) slots.table.entries → AreReceived a log slots → AreReceived a new slots
   later_received slots leaves x = record {
     numbers = x.numbers;
     front = λ id. prefix_then _ _ _ (x.front id) (grows (a.opened id));
     held = λ i d within. later_on (get_or slots.table.entries i d) (leaves i d within) (x.held i d within);
-    left = λ i d within. later_gone (get_or slots.gone i d) (x.passed (get_or slots.gone i d).id) (x.left i d within);
+    left = λ i d within. later_gone (get_or slots.gone i d) (x.left i d within);
     passed = λ id. let m = more (a.opened id).flow in let p = x.passed id in omega (arith, m, p);
     once = x.once;
     rising = x.rising;
@@ -47,12 +47,12 @@ module _ (a : Account) (log new : Log) (grows : (c : Connection) → IsPrefixOf 
   }
 
 -- Nothing was got.
-pub same_received : (a : Account) (log new : Log) (slots : HeldSlots) → Lasts log new
+pub same_received : (a : Account) (log new : Log) (slots : HeldSlots) → IsLater log new
     → ((c : Connection) → payload_got Driver c new ≡ payload_got Driver c log) → ((f : Flow) → number_of Driver f new ≡ number_of Driver f log)
     → AreReceived a log slots → AreReceived a new slots
-same_received a log new slots lasts got numbers x =
+same_received a log new slots later got numbers x =
     later_received a log new (λ c. all_of (payload_got Driver c log) (payload_got Driver c new) (sym (got c)))
-    (λ f. let same = numbers f in omega (arith, same)) lasts slots
+    (λ f. let same = numbers f in omega (arith, same)) later slots
     (λ i d within. let e = get_or slots.table.entries i d in record { number = numbers e.flow; got = λ k. got (record { flow = e.flow; number = k }) }) x
 
 -- A packet is got of a flow that has no connection.
@@ -66,20 +66,17 @@ number_by Answerer p w true = by (is_request p)
     by true = omega arith
     by false = omega arith
 
-pub passes_by : (a : Account) (p : Packet) (log : Log) (slots : HeldSlots) → IsWhole p → IsFairLog Driver log → IsFairLog Driver (GotPacket p ∷ log)
-    → All (λ e. e.flow ≢ flow_got Driver p) slots.table.entries → AreReceived a log slots → AreReceived a (GotPacket p ∷ log) slots
-passes_by a p log slots whole was fair apart x =
+pub passes_by : (a : Account) (p : Packet) (log : Log) (slots : HeldSlots) → All (λ e. e.flow ≢ flow_got Driver p) slots.table.entries
+    → AreReceived a log slots → AreReceived a (GotPacket p ∷ log) slots
+passes_by a p log slots apart x =
     later_received a log (GotPacket p ∷ log) (λ c. got_stays Driver (GotPacket p ∷ []) log c)
-    (λ f. number_by (side_of Driver f) p (whole_of Driver f log) (same_flow f (flow_got Driver p))) (got_lasts p log whole was fair) slots
+    (λ f. number_by (side_of Driver f) p (whole_of Driver f log) (same_flow f (flow_got Driver p))) (GotPacket p ∷ [], refl) slots
     (λ i d within.
     let e = get_or slots.table.entries i d in
     let alone = still Driver 0 e.flow (GotPacket p) log (same_flow_false e.flow (flow_got Driver p) (apart i d within)) in record {
       number = ap (λ (w : History). asked_by (side_of Driver e.flow) (puts w) (gots w)) alone.whole;
       got = alone.got;
     }) x
-
-stays_open : (c : DriverConnection) → is_let_go c ≡ false → c.closed ≡ false
-stays_open = grind (arith, common_steps)
 
 -- A connection leaves the table.
 module _ (a : Account) (log : Log) (slots : HeldSlots) (x : AreReceived a log slots) (sound : IsTable slots.table) (e : DriverEntry)
@@ -94,19 +91,16 @@ module _ (a : Account) (log : Log) (slots : HeldSlots) (x : AreReceived a log sl
     abbrev g : GoneConnection
     g = gone_as (record e { value = record e.value { end = end } })
 
-    left_received : e.value.closed ≡ false → IsThrough e.flow log
-        → AreReceived a log (record slots { table = without slots.table e.slot; gone = slots.gone ++ g ∷ [] })
-    left_received unclosed through =
+    pub leaves_received : (b : Bool) → is_let_go e.value ≡ b → (e.value.closed ≡ false → EndsClean e.value → ends_with e.flow log ≡ true)
+        → AreReceived a log (record slots { table = without slots.table e.slot; gone = cond b slots.gone (slots.gone ++ g ∷ []) })
+    leaves_received true is ends = without_received
+    leaves_received false is ends =
         let old = All-contains (ReceivesOn a log) slots.table.entries e x.held there in
-        let P : Bool → Shut → List ℕ → Type 0 =
-        λ closed shut came. Drains (not (closed && not (is_open e.value.end.state) || shut.receive)) (a.received e.value.id) e.value.unread came in
-        let all : List ℕ = payload_got Driver (current Driver e.flow log) log in
-        let now : DrainsTo (not end.own.receive) (a.received e.value.id) e.value.unread (current Driver e.flow log) log = (
-          through.0,
-          through.1,
-          subst (P false end.own) through.2
-              (subst (λ (shut : Shut). P false shut all) (sym own) (subst (λ (closed : Bool). P closed e.value.end.own all) unclosed old.drains)),
-        ) in
+        let unclosed : e.value.closed ≡ false = grind (arith, common_steps, is) in
+        let P : Bool → Shut → Type 0 = λ closed shut. Drains (not (closed && not (is_open e.value.end.state) || shut.receive))
+        (a.received e.value.id) e.value.unread (payload_got Driver (current Driver e.flow log) log) in
+        let now : DrainsTo (not end.own.receive) (a.received e.value.id) e.value.unread (current Driver e.flow log) log =
+        (log, ([], refl), refl, ends unclosed old.over, subst (P false) (sym own) (subst (λ (closed : Bool). P closed e.value.end.own) unclosed old.drains)) in
         in_slots a log slots (record slots { table = without slots.table e.slot; gone = slots.gone ++ g ∷ [] }) x refl
         (numbers_left a.first_id slots.next_port slots.next_id slots.table slots.gone x.numbers e g sound (under_slot slots.table sound e there) refl)
         without_received.held
@@ -116,20 +110,13 @@ module _ (a : Account) (log : Log) (slots : HeldSlots) (x : AreReceived a log sl
           drains = subst (λ (c : Connection). DrainsTo (not end.own.receive) (a.received e.value.id) e.value.unread c log) (sym old.present) now;
         }))
 
-    pub leaves_received : (b : Bool) → is_let_go e.value ≡ b → (e.value.closed ≡ false → EndsClean e.value → IsThrough e.flow log)
-        → AreReceived a log (record slots { table = without slots.table e.slot; gone = cond b slots.gone (slots.gone ++ g ∷ []) })
-    leaves_received true is through = without_received
-    leaves_received false is through =
-        let unclosed = stays_open e.value is in
-        left_received unclosed (through unclosed (All-contains (ReceivesOn a log) slots.table.entries e x.held there).over)
-
 -- A connection opens: it is the next of its flow, of which the table has none.
 module _ (a : Account) (log new : Log) (slots : HeldSlots) (f : Flow) (c : DriverConnection) (port : ℕ) (x : AreReceived a log slots)
     (got : (k : Connection) → payload_got Driver k new ≡ payload_got Driver k log) (nothing : payload_got Driver (current Driver f new) new ≡ [])
     (next : number_of Driver f new ≡ number_of Driver f log + 1)
     (others : (g : Flow) → g ≢ f → number_of Driver g new ≡ number_of Driver g log) (id : c.id ≡ slots.next_id) (empty : c.unread ≡ [])
     (absent : All (λ e. e.flow ≢ f) slots.table.entries) (more : slots.next_port ≤ port) (below : host_asks f ≡ false → f.guest < port)
-    (lasts : Lasts log new) (over : EndsClean c) where
+    (later : IsLater log new) (over : EndsClean c) where
   abbrev b : Account
   b = with_opened slots.next_id (current Driver f new) a
 
@@ -174,7 +161,7 @@ module _ (a : Account) (log new : Log) (slots : HeldSlots) (f : Flow) (c : Drive
     flow = ap (λ (k : Connection). k.flow) (old_is g.id other) ∙ y.flow;
     some = subst (λ (k : Connection). 1 ≤ k.number) (sym (old_is g.id other)) y.some;
     drains = subst (λ (k : Connection). DrainsTo (not g.end.own.receive) (a.received g.id) g.unread k new) (sym (old_is g.id other))
-        (drains_on _ _ _ _ _ _ lasts (x.passed g.id) y.drains);
+        (drains_on _ _ _ _ _ _ later y.drains);
   }
 
   pub opened_received : AreReceived b new (record slots { next_port = port; next_id = slots.next_id + 1; last_id = slots.next_id; table = with_entry slots.table f c })

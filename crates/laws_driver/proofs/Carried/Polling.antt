@@ -1,7 +1,7 @@
 -- A poll keeps the account, with the ids of the connections that it opens.
 use Rattle.laws_tables.proofs.{Adding.{number_got, number_put, got_over_put, got_adds}, Fair.{got_goes_on, got_not_refused, heard_all}, Slots.found_by, Tables.driver_begun}
-use Rattle.laws_tables.{proofs.{Fair.own_got_fair, Goes.{Goes, comes_in, only_delivered, stays_still}}, specs.{Drains.{only_on, receives}, Ends.is_new}}
-use Rattle.laws_tables.specs.{Matches.Matches, Steps.{HasEnd, owed_on, reply_on, is_kept}}
+use Rattle.laws_tables.{proofs.{Fair.own_got_fair, OnFlow.end_follows, Goes.{Goes, comes_in, only_delivered, stays_still}}, specs.{Drains.{only_on, receives}, Ends.is_new}}
+use Rattle.laws_tables.specs.{Ends.{Ends, ends_of, is_among, replied}, Heard.heard_of, Later.IsLater, Matches.{Matches, MatchesFlows}, Steps.{HasEnd, owed_on, reply_on, is_kept}}
 use Rattle.std.proofs.Common.{◌≡◌, ◌≢◌, ℕ, ◌+◌, ◌<◌, ◌≤◌, ◌==◌, ◌&&◌, not, ◌⊎◌, inl, inr, Bool, true, false, cond, List, [], ◌∷◌, ◌++◌, Contains, Option, Some, None, refl, sym, ap, subst, ◌∙◌}
 use Rattle.std.{proofs.{Common.arith, lemmas.{Bool.Decides.nat_tests, Grind.common_steps, List.Elements.All-contains}}, specs.List.{All, filter, slice_get}}
 use Rattle.vs_conn.specs.{End.{ConnectionEnd, answering, end_after, is_refused, is_reset, owes_of, verdict_of}, declared.end.{Owed.Owed, State.TheVariants.Ended, Verdict.Verdict}}
@@ -10,9 +10,9 @@ use Rattle.vs_flow.specs.{Connection.Connection, CleanPairs.of_host, Flow.{host_
 use Rattle.vs_flow.proofs.Entries.{none_found, same_flow_false}
 use Rattle.vs_header.specs.declared.Header.{Header}
 use Rattle.vs_limits.specs.declared.TheConstants.{BUF_ALLOC, HOST_CID}
-use Rattle.laws_history.specs.{declared.packet.Packet.Packet, Packets.is_rw, Again.count, History.{Answerer, Asker, Got, History, Side, gots, puts}}
+use Rattle.laws_history.specs.{declared.packet.Packet.Packet, Packets.{has_both, is_rw}, Again.count, History.{Answerer, Asker, Got, History, MayPut, Side, gots, puts}}
 use Rattle.vs_page.specs.{Fair.{IsFairLog, asked_by, current, number_of, payload_got, payload_of}, Held.IsWhole, Log.{Driver, Log, and_then, flow_got, history_of, side_by}}
-use Rattle.vs_page.{specs.{Log.{side_of, whole_of}, Open.is_dropped, declared.log.LogEntry.TheVariants.{GotEvent, GotPacket, Mark, PutPacket}}, proofs.Flows.{same_is, same_self}}
+use Rattle.vs_page.{specs.{Log.{side_of, whole_of}, Open.{is_dropped, left_kind}, declared.log.LogEntry.TheVariants.{GotEvent, GotPacket, Mark, PutPacket}}, proofs.Flows.{same_is, same_self}}
 use Rattle.vs_page.proofs.{PayloadLogs.got_none, Present.present_got}
 use Rattle.vs_replies.specs.Owed.{reply_to}
 use Rattle.vs_driver_parts.specs.{Conversations.after_paying, Held.HeldSlots, State.{DriverConnection, DriverEntry, DriverState}, Connections.{after_leaving, gone_as, is_let_go}}
@@ -20,28 +20,27 @@ use Rattle.vs_driver_parts.specs.{Connections.{paid_connection, with_connection,
 use Rattle.vs_driver_parts.{specs.Receiving.{is_request, may_open, on_heard, on_known, on_packet, on_unknown, reset_reply, with_reply}, proofs.Ids.found_under}
 use Rattle.vs_driver_parts.proofs.Packets.{first_under, others_left, packet_known, packet_unknown}
 use Rattle.laws_driver.{specs.{Honest.{IsFitState, ends_of_state, slots_of}, Carried.Received.{Account, AreReceived, EndsClean, GoesOn, ReceivesOn}}}
-use Rattle.laws_driver.{specs.Carried.Received.{ends_payload, keeps_all, with_opened}, proofs.Carrying.{Carries, Fact}}
-use Rattle.laws_driver.proofs.Carried.Delivering.{IsThrough, clean_got, got_lasts, no_payload, put_lasts}
+use Rattle.laws_driver.{specs.Carried.Received.{ends_with, keeps_all, with_opened}, proofs.Carrying.{Carries, Fact}}
 use Rattle.laws_driver.proofs.{Tabling.{Stands, entry_fits, has_end, leaves}, Resetting.{first_contained, with_cid}, Taking.with_reply_fits, Carried.Changing.puts_and_alters}
 use Rattle.laws_driver.proofs.Carried.{Logging.{leaves_received, opened_goes_on, opened_received, passes_by, same_received}, Reading.given_none, Receiving.changed_received}
-use Rattle.laws_driver.proofs.Carried.Receiving.{in_clean}
+use Rattle.laws_driver.proofs.Carried.Receiving.{Keeps, in_clean}
 use Rattle.vs_header.specs.declared.Kind.TheVariants.{Stream}
 use Rattle.vs_conn.specs.declared.end.Owed.TheVariants as owed
 use Rattle.vs_conn.specs.declared.end.Verdict.TheVariants as verdict
 use Rattle.laws_history.specs.Packets as packets
 
 -- A packet that the driver puts, which opens nothing.
-pub puts_received : (a : Account) (p : Packet) (log : Log) (slots : HeldSlots) → packets.is_request p ≡ false → IsFairLog Driver (PutPacket p ∷ log)
-    → AreReceived a log slots → AreReceived a (PutPacket p ∷ log) slots
-puts_received a p log slots plain fair x =
-    same_received a log (PutPacket p ∷ log) slots (put_lasts p log fair) (got_over_put Driver p log) (λ f. number_put Driver p log f plain) x
+pub puts_received : (a : Account) (p : Packet) (log : Log) (slots : HeldSlots) → packets.is_request p ≡ false → AreReceived a log slots
+    → AreReceived a (PutPacket p ∷ log) slots
+puts_received a p log slots plain x =
+    same_received a log (PutPacket p ∷ log) slots (PutPacket p ∷ [], refl) (got_over_put Driver p log) (λ f. number_put Driver p log f plain) x
 
 -- A connection leaves the table.
 pub leaving_received : (a : Account) (log : Log) (s : DriverState) (e : DriverEntry) (end : ConnectionEnd) → end.own ≡ e.value.end.own → IsTable s.table
-    → Contains s.table.entries e → (e.value.closed ≡ false → EndsClean e.value → IsThrough e.flow log) → AreReceived a log (slots_of s)
+    → Contains s.table.entries e → (e.value.closed ≡ false → EndsClean e.value → ends_with e.flow log ≡ true) → AreReceived a log (slots_of s)
     → AreReceived a log (slots_of (after_leaving (record e { value = record e.value { end = end } }) s))
-leaving_received a log s e end own sound there through x =
-    by e.value.unanswered (leaves_received a log (slots_of s) x sound e there end own (is_let_go e.value) refl through)
+leaving_received a log s e end own sound there ends x =
+    by e.value.unanswered (leaves_received a log (slots_of s) x sound e there end own (is_let_go e.value) refl ends)
   where
     c : DriverConnection
     c = record e.value { end = end }
@@ -52,6 +51,20 @@ leaving_received a log s e end own sound there through x =
     by true y = y
     by false y = y
 
+-- The peer of a clean end told both bits, and puts no payload.
+ends_both : (f : Flow) (log : Log) → has_both (gots (history_of Driver f log)) ≡ true → ends_with f log ≡ true
+ends_both f log both = grind (arith, common_steps, both)
+
+no_payload : (side : Side) (p : Packet) (put got : List Packet) → MayPut side put got p → has_both put ≡ true → is_rw p ≡ false
+no_payload = grind (arith, nat_tests, common_steps)
+
+clean_got : (first : ℕ) (part : Ends) (log : Log) (f : Flow) (e : ConnectionEnd) → MatchesFlows Driver first part log → HasEnd f e part → f.peer ≡ HOST_CID
+    → e.clean ≡ true → has_both (gots (history_of Driver f log)) ≡ true
+clean_got first part log f e m has host clean =
+    let one = end_follows Driver (side_of Driver f) (heard_of Driver first f log) (left_kind Driver first f log) (is_among f (replied part.replies))
+    (ends_of f part.entries) e (m.on f) has (driver_begun first part log f e m has) in
+    subst (λ (h : History). has_both (gots h) ≡ true) (heard_all first f log host) (one.follows.clean clean)
+
 -- What a connection owes is put.
 new_by : (e : ConnectionEnd) → owes_of e ≡ Some owed.Request → is_new e ≡ true
 new_by e owes = grind (arith, common_steps, owes)
@@ -59,33 +72,25 @@ new_by e owes = grind (arith, common_steps, owes)
 owes_over : (e : ConnectionEnd) → owes_of e ≡ Some owed.Rst → e.state ≡ Ended
 owes_over e owes = grind (arith, common_steps, owes)
 
-paid_less : (what : Owed) (c : DriverConnection) → owes_of c.end ≡ Some what → keeps_all (paid_connection what c) ≡ true → keeps_all c ≡ true
-paid_less what c owes is = grind (arith, common_steps, owes, is)
-
-paid_clean : (what : Owed) (c : DriverConnection) → owes_of c.end ≡ Some what → EndsClean c → EndsClean (paid_connection what c)
-paid_clean what c owes over unclosed is = grind (arith, common_steps, owes, over, unclosed, is)
+paid_keeps : (what : Owed) (c : DriverConnection) → owes_of c.end ≡ Some what → Keeps c (paid_connection what c)
+paid_keeps what c owes = (λ is. grind (arith, common_steps, owes, is), λ over unclosed is. grind (arith, common_steps, owes, over, unclosed, is))
 
 pays_received : (what : Owed) (first : ℕ) (a : Account) (e : DriverEntry) (s : DriverState) (log : Log) → IsFitState true s → Stands s e → owes_of e.value.end ≡ Some what
-    → Matches Driver first (ends_of_state s) log → IsFairLog Driver log → IsFairLog Driver (PutPacket (owed_on Driver s.cid e.flow e.value.end what) ∷ log)
-    → AreReceived a log (slots_of s)
+    → Matches Driver first (ends_of_state s) log → AreReceived a log (slots_of s)
     → AreReceived a (PutPacket (owed_on Driver s.cid e.flow e.value.end what) ∷ log) (slots_of (after_paying what e s))
-pays_received owed.Request first a e s log fits stands owes m was fair x =
-    let old = driver_begun first (ends_of_state s) log e.flow e.value.end m.flows (has_end s e fits stands) in
-    let both : true ≡ false = sym (new_by e.value.end owes) ∙ old in absurd cc
-pays_received owed.Rst first a e s log fits stands owes m was fair x =
+pays_received owed.Request first a e s log fits stands owes m x =
+    let both : true ≡ false = sym (new_by e.value.end owes) ∙ driver_begun first (ends_of_state s) log e.flow e.value.end m.flows (has_end s e fits stands) in absurd cc
+pays_received owed.Rst first a e s log fits stands owes m x =
     let has = has_end s e fits stands in
     let host = (entry_fits s e fits stands).peer refl in
-    puts_received a (owed_on Driver s.cid e.flow e.value.end owed.Rst) log (slots_of (after_leaving e s)) refl fair
+    puts_received a (owed_on Driver s.cid e.flow e.value.end owed.Rst) log (slots_of (after_leaving e s)) refl
     (leaving_received a log s e e.value.end refl fits.sound stands.contains
-    (λ unclosed over. (
-      log,
-      inl (refl, λ is. clean_got first (ends_of_state s) log e.flow e.value.end m.flows has host (over unclosed (owes_over e.value.end owes))),
-      refl,
-    )) x)
-pays_received what first a e s log fits stands owes m was fair x =
-    puts_and_alters a log s x (owed_on Driver s.cid e.flow e.value.end what) e (paid_connection what e.value) refl fair fits.sound stands.contains refl
-    (stays_still (keeps_all e.value) (keeps_all (paid_connection what e.value)) e.value.unread [] (paid_less what e.value owes) (λ on. refl))
-    (paid_clean what e.value owes)
+    (λ unclosed over. ends_both e.flow log
+    (clean_got first (ends_of_state s) log e.flow e.value.end m.flows has host (over unclosed (owes_over e.value.end owes)))) x)
+pays_received what first a e s log fits stands owes m x =
+    puts_and_alters a log s x (owed_on Driver s.cid e.flow e.value.end what) e (paid_connection what e.value) refl fits.sound stands.contains refl
+    (stays_still (keeps_all e.value) (keeps_all (paid_connection what e.value)) e.value.unread [] (paid_keeps what e.value owes).0 (λ on. refl))
+    (paid_keeps what e.value owes).1
 
 -- A transport reset: all leave.
 all_leave : (a : Account) (cid : ℕ) (log : Log) (es : List DriverEntry) (s : DriverState) → s.table.entries ≡ es → IsFitState true s
@@ -100,22 +105,17 @@ all_leave a cid log (e ∷ es) s is fits x =
     let m : DriverState = after_leaving e s in
     let table_is : m.table.entries ≡ es = ap (λ (xs : List DriverEntry). filter (λ x. not (x.slot == e.slot)) xs) is ∙ others_left e es rising in
     all_leave a cid log es (with_reply (reset_reply e) m) table_is (with_reply_fits m (reset_reply e) l.fits (entry_fits s e fits stands).ports)
-    (leaving_received a (Mark cid ∷ log) s e e.value.end refl fits.sound stands.contains
-    (λ unclosed over. (log, inr (cid, ([], refl), omega arith), refl)) x)
+    (leaving_received a (Mark cid ∷ log) s e e.value.end refl fits.sound stands.contains (λ unclosed over. refl) x)
 
 -- A packet is got, of a connection of the table.
-got_less : (p : Packet) (c : DriverConnection) → keeps_all (record c { end = end_after c.end p.header }) ≡ true → keeps_all c ≡ true
-got_less p c is = grind (arith, common_steps, is)
-
-got_clean : (p : Packet) (c : DriverConnection) → is_refused (verdict_of c.end p.header) ≡ false → EndsClean c
-    → EndsClean (record c { end = end_after c.end p.header })
-got_clean p c kept over unclosed is = grind (arith, common_steps, kept, over, unclosed, is)
+got_keeps : (p : Packet) (c : DriverConnection) → is_refused (verdict_of c.end p.header) ≡ false → Keeps c (record c { end = end_after c.end p.header })
+got_keeps p c kept = (λ is. grind (arith, common_steps, is), λ over unclosed is. grind (arith, common_steps, kept, over, unclosed, is))
 
 keeps_delivered : (c : DriverConnection) (h : Header) → verdict_of c.end h ≡ verdict.Deliver → keeps_all c ≡ true
 keeps_delivered c h is = grind (arith, common_steps, is)
 
-rst_ends : (p : Packet) (h : History) (b : Bool) → b ≡ true → is_reset p.header ≡ true → ends_payload (gots (cond b (and_then (Got p) h) h)) ≡ true
-rst_ends = grind (arith, common_steps)
+rst_ends : (f : Flow) (p : Packet) (log : Log) → same_flow f (flow_got Driver p) ≡ true → is_reset p.header ≡ true → ends_with f (GotPacket p ∷ log) ≡ true
+rst_ends f p log same is = grind (arith, common_steps, same, is)
 
 -- One that is open is given payload by no other verdict; and to one that is over, but not by a close, its peer puts none.
 open_or_clean : (c : DriverConnection) → keeps_all c ≡ true → EndsClean c → (receives c.end ≡ true) ⊎ (c.end.clean ≡ true)
@@ -134,24 +134,26 @@ module _ (first : ℕ) (a : Account) (p : Packet) (e : DriverEntry) (s : DriverS
   plain : packets.is_request p ≡ false
   plain = got_goes_on Driver first p e.value.end (ends_of_state s) log m.flows has (fair (flow_got Driver p))
 
-  was_clean : EndsClean e.value
-  was_clean = (All-contains (ReceivesOn a log) s.table.entries e x.held stands.contains).over
+  host : (flow_got Driver p).peer ≡ HOST_CID
+  host = ap (λ (g : Flow). g.peer) same ∙ (entry_fits s e fits stands).peer refl
 
   kept : is_refused (verdict_of e.value.end p.header) ≡ false
   kept =
-      let host : (flow_got Driver p).peer ≡ HOST_CID = ap (λ (g : Flow). g.peer) same ∙ (entry_fits s e fits stands).peer refl in
       got_not_refused Driver first p e.value.end (ends_of_state s) log m.flows has (fair (flow_got Driver p)) (heard_all first (flow_got Driver p) log host)
 
-  hears : (c : DriverConnection) → c.id ≡ e.value.id → Goes (keeps_all e.value) (keeps_all c) e.value.unread c.unread [] p.payload
-      → (EndsClean e.value → EndsClean c) → AreReceived a (GotPacket p ∷ log) (slots_of (with_connection e.slot c s))
-  hears c id goes over =
+  abbrev its : List ℕ → DriverConnection
+  its unread = record e.value { end = end_after e.value.end p.header; unread = unread }
+
+  keeps : Keeps e.value (its e.value.unread)
+  keeps = got_keeps p e.value kept
+
+  hears : (unread : List ℕ) → Goes (keeps_all e.value) (keeps_all (its unread)) e.value.unread unread [] p.payload
+      → AreReceived a (GotPacket p ∷ log) (slots_of (with_connection e.slot (its unread) s))
+  hears unread goes =
       changed_received a a.received log (GotPacket p ∷ log) e [] p.payload (λ other. given_none (other == e.value.id) (a.received other))
       (λ k. subst (λ (g : Flow). payload_got Driver k (GotPacket p ∷ log) ≡ payload_got Driver k log ++ only_on (current Driver g log) p.payload k) same
       (got_adds Driver p log plain was fair k))
-      (λ f. number_got Driver p log f plain) (got_lasts p log whole was fair) (slots_of s) x fits.sound stands.contains c id goes over
-
-  abbrev its : DriverConnection
-  its = record e.value { end = end_after e.value.end p.header }
+      (λ f. number_got Driver p log f plain) (GotPacket p ∷ [], refl) (slots_of s) x fits.sound stands.contains (its unread) refl goes keeps.1
 
   silent : (v : Verdict) → verdict_of e.value.end p.header ≡ v → is_refused v ≡ false → (v ≡ verdict.Deliver → ⊥)
       → (receives e.value.end ≡ true) ⊎ (e.value.end.clean ≡ true) → (b : Bool) → is_rw p ≡ b → is_rw p ≡ false
@@ -159,50 +161,37 @@ module _ (first : ℕ) (a : Account) (p : Packet) (e : DriverEntry) (s : DriverS
   silent v is taken other (inl on) true piece = only_delivered e.value.end p v is taken other (stays_open e.value.end p piece kept on)
   silent v is taken other (inr clean) true piece =
       let f = flow_got Driver p in
-      let host : f.peer ≡ HOST_CID = ap (λ (g : Flow). g.peer) same ∙ (entry_fits s e fits stands).peer refl in
       no_payload _ p _ _ ((own_got_fair Driver p log (fair f)).1.goes_on plain) (clean_got first (ends_of_state s) log f e.value.end m.flows has host clean)
 
   unmoved : (v : Verdict) → verdict_of e.value.end p.header ≡ v → is_refused v ≡ false → (v ≡ verdict.Deliver → ⊥)
-      → Goes (keeps_all e.value) (keeps_all its) e.value.unread e.value.unread [] p.payload
-  unmoved v is taken other = stays_still (keeps_all e.value) (keeps_all its) e.value.unread p.payload (got_less p e.value)
-      (λ on. whole.none (silent v is taken other (open_or_clean e.value (got_less p e.value on) was_clean) (is_rw p) refl))
+      → Goes (keeps_all e.value) (keeps_all (its e.value.unread)) e.value.unread e.value.unread [] p.payload
+  unmoved v is taken other =
+      let over = (All-contains (ReceivesOn a log) s.table.entries e x.held stands.contains).over in
+      stays_still (keeps_all e.value) (keeps_all (its e.value.unread)) e.value.unread p.payload keeps.0
+      (λ on. whole.none (silent v is taken other (open_or_clean e.value (keeps.0 on) over) (is_rw p) refl))
 
   empty_rst : is_reset p.header ≡ true → is_rw p ≡ false
   empty_rst is = grind (arith, nat_tests, common_steps, is)
-
-  -- After its RST the peer puts nothing more.
-  reset_through : is_reset p.header ≡ true → IsThrough e.flow (GotPacket p ∷ log)
-  reset_through reset =
-      let f = flow_got Driver p in (
-        _,
-        inl (
-          refl,
-          λ is. subst (λ (g : Flow). ends_payload (gots (history_of Driver g (GotPacket p ∷ log))) ≡ true) same
-              (rst_ends p (history_of Driver f log) (same_flow f f) (same_self f) reset),
-        ),
-        refl,
-      )
 
   peers : (b : Bool) → verdict_of e.value.end p.header ≡ verdict.Peer → is_reset p.header ≡ b
       → let c = after_packet verdict.Peer p e.value in
       AreReceived a (GotPacket p ∷ log) (slots_of (cond b (keeping (is_kept Driver e.flow e.value.end p) e.flow (after_leaving (record e { value = c }) s))
       (with_connection e.slot c s)))
-  peers false is reset =
-      hears (after_packet verdict.Peer p e.value) refl (unmoved verdict.Peer is refl (λ (q : verdict.Peer ≡ verdict.Deliver). cc)) (got_clean p e.value kept)
+  peers false is reset = hears e.value.unread (unmoved verdict.Peer is refl (λ (q : verdict.Peer ≡ verdict.Deliver). cc))
   peers true is reset =
       in_clean a (GotPacket p ∷ log) _ _
       (leaving_received a (GotPacket p ∷ log) s e (end_after e.value.end p.header) (got_own e.value.end p.header) fits.sound stands.contains
-      (λ unclosed over. reset_through reset)
-      (same_received a log (GotPacket p ∷ log) (slots_of s) (got_lasts p log whole was fair) (λ k. got_none Driver log p k (whole.none (empty_rst reset)))
+      (λ unclosed over. rst_ends e.flow p log (subst (λ (f : Flow). same_flow f (flow_got Driver p) ≡ true) same (same_self (flow_got Driver p))) reset)
+      (same_received a log (GotPacket p ∷ log) (slots_of s) (GotPacket p ∷ [], refl) (λ k. got_none Driver log p k (whole.none (empty_rst reset)))
       (λ f. number_got Driver p log f plain) x))
 
   by_verdict : (v : Verdict) → verdict_of e.value.end p.header ≡ v → is_refused v ≡ false → AreReceived a (GotPacket p ∷ log) (slots_of (after_verdict v p e s))
   by_verdict (verdict.Rst why) is taken = absurd cc
   by_verdict verdict.Peer is taken = peers (is_reset p.header) is refl
   by_verdict verdict.Deliver is taken =
-      hears (after_packet verdict.Deliver p e.value) refl
-      (comes_in (keeps_all e.value) (keeps_all its) e.value.unread p.payload (keeps_delivered e.value p.header is)) (got_clean p e.value kept)
-  by_verdict v is taken = hears (after_packet v p e.value) refl (unmoved v is taken (λ (q : v ≡ verdict.Deliver). cc)) (got_clean p e.value kept)
+      hears (e.value.unread ++ p.payload)
+      (comes_in (keeps_all e.value) (keeps_all (its (e.value.unread ++ p.payload))) e.value.unread p.payload (keeps_delivered e.value p.header is))
+  by_verdict v is taken = hears e.value.unread (unmoved v is taken (λ (q : v ≡ verdict.Deliver). cc))
 
   pub known_received : AreReceived a (GotPacket p ∷ log) (slots_of (on_known p e s))
   known_received = by_verdict (verdict_of e.value.end p.header) refl kept
@@ -227,13 +216,13 @@ number_rises Answerer put got p is request = ap (λ (b : Bool). cond b (count pa
 number_rises Asker put got p is request = absurd cc
 
 -- Of a flow that has no connection.
-module _ (a : Account) (p : Packet) (s : DriverState) (log : Log) (whole : IsWhole p) (was : IsFairLog Driver log) (fair : IsFairLog Driver (GotPacket p ∷ log))
+module _ (a : Account) (p : Packet) (s : DriverState) (log : Log) (whole : IsWhole p) (fair : IsFairLog Driver (GotPacket p ∷ log))
     (absent : All (λ e. e.flow ≢ flow_got Driver p) s.table.entries) (x : IsFurther a (slots_of s) log) where
   abbrev f : Flow
   f = flow_got Driver p
 
   passes : IsFurther a (slots_of s) (GotPacket p ∷ log)
-  passes = (x.0, x.1, passes_by x.0 p log (slots_of s) whole was fair absent x.2)
+  passes = (x.0, x.1, passes_by x.0 p log (slots_of s) absent x.2)
 
   opens : is_request p.header ≡ true → may_open f s ≡ true → IsFurther a (slots_of (with_request f p.header s)) (GotPacket p ∷ log)
   opens asks may =
@@ -256,12 +245,12 @@ module _ (a : Account) (p : Packet) (s : DriverState) (log : Log) (whole : IsWho
       let c : DriverConnection = record { id = s.next_id; end = answering Stream BUF_ALLOC p.header; unread = []; unanswered = true; closed = false } in
       let below : host_asks f ≡ false → f.guest < s.next_port =
       λ own. let both : true ≡ false = sym (assigned_by may) ∙ own in absurd cc in
-      let lasts = got_lasts p log whole was fair in
+      let later : IsLater log (GotPacket p ∷ log) = (GotPacket p ∷ [], refl) in
       let clean : EndsClean c = λ unclosed is. absurd cc in (
         with_opened s.next_id (current Driver f (GotPacket p ∷ log)) x.0,
         goes_then a x.0 (with_opened s.next_id (current Driver f (GotPacket p ∷ log)) x.0) x.1
-            (opened_goes_on x.0 log (GotPacket p ∷ log) (slots_of s) f c s.next_port x.2 got nothing next others refl refl absent (omega arith) below lasts clean),
-        opened_received x.0 log (GotPacket p ∷ log) (slots_of s) f c s.next_port x.2 got nothing next others refl refl absent (omega arith) below lasts clean,
+            (opened_goes_on x.0 log (GotPacket p ∷ log) (slots_of s) f c s.next_port x.2 got nothing next others refl refl absent (omega arith) below later clean),
+        opened_received x.0 log (GotPacket p ∷ log) (slots_of s) f c s.next_port x.2 got nothing next others refl refl absent (omega arith) below later clean,
       )
     where
       asked_by_header : is_request p.header ≡ true → packets.is_request p ≡ true
@@ -298,7 +287,7 @@ heard_received first a p s log fits whole m was fair x = drop_by (is_dropped Dri
     found : (o : Option DriverEntry) → entry_of s.table (flow_got Driver p) ≡ o → IsFurther a (slots_of (on_heard p s)) (GotPacket p ∷ log)
     found None none =
         subst (λ (t : DriverState). IsFurther a (slots_of t) (GotPacket p ∷ log)) (sym (packet_unknown p s none))
-        (unknown_received a p s log whole was fair (not_there s.table (flow_got Driver p) none) x)
+        (unknown_received a p s log whole fair (not_there s.table (flow_got Driver p) none) x)
     found (Some e) is =
         let passes = found_by (λ (y : DriverEntry). same_flow (flow_got Driver p) y.flow) s.table.entries e is in
         let stands : Stands s e = record { under = found_under _ s.table e fits.sound is; contains = passes.0 } in
@@ -311,7 +300,7 @@ heard_received first a p s log fits whole m was fair x = drop_by (is_dropped Dri
 
     drop_by : (b : Bool) → is_dropped Driver s.cid p.header ≡ b → IsFurther a (slots_of (cond b s (on_heard p s))) (GotPacket p ∷ log)
     drop_by false kept = found (entry_of s.table (flow_got Driver p)) refl
-    drop_by true dropped = (x.0, x.1, passes_by x.0 p log (slots_of s) whole was fair apart x.2)
+    drop_by true dropped = (x.0, x.1, passes_by x.0 p log (slots_of s) apart x.2)
       where
         apart : All (λ e. e.flow ≢ flow_got Driver p) s.table.entries
         apart i d within on =
@@ -322,12 +311,12 @@ heard_received first a p s log fits whole m was fair x = drop_by (is_dropped Dri
 pub poll_carries : (first : ℕ) (a : Account) → Carries true first (Further a)
 poll_carries first a = record {
   owed = λ what e s log fits stands owes m was fair x.
-      (x.0, x.1, pays_received what first x.0 e s log fits stands owes m was fair x.2);
-  reply = λ r rest s log fits is m fair x. (x.0, x.1, puts_received x.0 (reply_on Driver s.cid r) log (slots_of s) refl fair x.2);
+      (x.0, x.1, pays_received what first x.0 e s log fits stands owes m x.2);
+  reply = λ r rest s log fits is m fair x. (x.0, x.1, puts_received x.0 (reply_on Driver s.cid r) log (slots_of s) refl x.2);
   got = λ p s log fits ports whole m was fair x. heard_received first a p s log fits whole m was fair x;
-  event = λ id s log x. (x.0, x.1, same_received x.0 log (GotEvent id ∷ log) (slots_of s) ((GotEvent id ∷ [], refl), λ c past over. (refl, over)) (λ c. refl) (λ f. refl) x.2);
+  event = λ id s log x. (x.0, x.1, same_received x.0 log (GotEvent id ∷ log) (slots_of s) (GotEvent id ∷ [], refl) (λ c. refl) (λ f. refl) x.2);
   reset = λ cid s log less fits x.
-      let marked = same_received x.0 log (Mark cid ∷ log) (slots_of s) ((Mark cid ∷ [], refl), λ c past over. (refl, over)) (λ c. refl) (λ f. refl) x.2 in (
+      let marked = same_received x.0 log (Mark cid ∷ log) (slots_of s) (Mark cid ∷ [], refl) (λ c. refl) (λ f. refl) x.2 in (
         x.0,
         x.1,
         all_leave x.0 cid log s.table.entries (record s { cid = cid; clean = of_host s.clean }) refl (with_cid cid s less fits)

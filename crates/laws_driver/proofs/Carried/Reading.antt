@@ -1,17 +1,17 @@
 -- A receive: the bytes that it gives are of the unread ones the first.
-use Rattle.laws_tables.{specs.Drains.{only_on, Drains}, proofs.{Slots.found_by, Logs.{nothing_more, shorter}, Goes.comes_out}}
+use Rattle.laws_tables.{specs.Drains.{only_on, Drains}, proofs.{Slots.found_by, Logs.{nothing_more, prefix_then, shorter}, Goes.comes_out}}
 use Rattle.std.proofs.Common.{◌≡◌, ◌≢◌, ℕ, zero, suc, ◌<◌, ◌==◌, nat_lt, not, Bool, true, false, cond, List, [], ◌∷◌, ◌++◌, length, take, drop, get_or, Option, Some, None, refl}
 use Rattle.std.proofs.{Common.{sym, ap, subst, ◌∙◌, arith, append-nil, append_assoc, take-append-drop}, lemmas.{List.{get_or_default, take_min}, Option.get_or_from_slice_get}}
 use Rattle.std.{proofs.{lemmas.{Grind.common_steps, Option.slice_get_within, Bool.Decides.nat_tests}, Math.Seq.take-nil}, specs.List.All}
 use Rattle.vs_conn.specs.declared.end.State.{State}
 use Rattle.vs_flow.{specs.{Connection.Connection, Table.IsTable}, proofs.{Entries.found_passes, Lookups.find_place}}
-use Rattle.vs_page.specs.{Fair.{IsPrefixOf, current, payload_got}, Log.{Driver, Log}}
+use Rattle.vs_page.{specs.{Fair.{IsPrefixOf, current, payload_got}, Log.{Driver, Log}}, proofs.PayloadLogs.got_stays}
 use Rattle.vs_driver_parts.specs.Connections.{after_read, after_recv, all_gone_after_read, entry_answer, entry_read, gone_answer, is_at_end, nothing_read, read_of, recv_of}
 use Rattle.vs_driver_parts.specs.{Connections.{unread_of_id, with_connection}, State.{DriverConnection, DriverEntry, DriverState, GoneConnection, entry_known_as, gone_known_as, is_known_as}}
 use Rattle.vs_driver_parts.{specs.{declared.answers.Received.Received, Held.HeldSlots, SlotFields.AreNumbered}, proofs.{GoneChanges.read_none, Known.after_recv_gone}}
 use Rattle.vs_driver_parts.proofs.Known.{after_recv_known, recv_gone_some, recv_known, unread_gone_some, unread_known}
-use Rattle.laws_driver.{specs.{Honest.slots_of, Carried.Received.{Account, AreReceived, EndsClean, ReceivedOn, after_receive, bytes_got}}}
-use Rattle.laws_driver.{specs.Carried.Received.{DrainsTo, keeps_all, with_received}, proofs.Carried.{Delivering.front_of, Receiving.apart_by}}
+use Rattle.laws_driver.{specs.{Honest.slots_of, Carried.Received.{Account, AreReceived, ReceivedOn, after_receive, bytes_got}}}
+use Rattle.laws_driver.{specs.Carried.Received.{DrainsTo, keeps_all, with_received}, proofs.Carried.Receiving.{Keeps, apart_by}}
 use Rattle.laws_driver.proofs.Carried.Receiving.{changed_received, number_same, same_account}
 use Rattle.vs_conn.specs.declared.end.State.TheVariants as state
 use Rattle.vs_driver_parts.specs.declared.answers.Received.TheVariants as got
@@ -38,12 +38,8 @@ gone_bytes n g = bytes_of n g.unread _ (by (is_at_end g.end))
     by true xs = refl
     by false xs = refl
 
--- A connection of which bytes are read.
-reads_less : (n : ℕ) (c : DriverConnection) → keeps_all (after_read n c) ≡ true → keeps_all c ≡ true
-reads_less n c is = grind (arith, common_steps, is)
-
-read_clean : (n : ℕ) (c : DriverConnection) → EndsClean c → EndsClean (after_read n c)
-read_clean n c over unclosed is = grind (arith, common_steps, over, unclosed, is)
+read_keeps : (n : ℕ) (c : DriverConnection) → Keeps c (after_read n c)
+read_keeps n c = (λ is. grind (arith, common_steps, is), λ over unclosed is. grind (arith, common_steps, over, unclosed, is))
 
 -- Nothing is given.
 pub given_none : (b : Bool) (xs : List ℕ) → xs ≡ xs ++ cond b [] []
@@ -79,9 +75,9 @@ module _ (a : Account) (log : Log) (id n : ℕ) (s : DriverState) (x : AreReceiv
     read false some =
         changed_received a _ log log e (take n e.value.unread) []
         (λ other. ap (λ (k : ℕ). a.received other ++ cond (other == k) (take n e.value.unread) []) (sym id_is))
-        (λ c. none_more c) (λ f. refl) (([], refl), λ c past over. (refl, over)) (slots_of s) x sound (found_by (is_known_as id) s.table.entries e known).0
+        (λ c. none_more c) (λ f. refl) ([], refl) (slots_of s) x sound (found_by (is_known_as id) s.table.entries e known).0
         (after_read n e.value) refl
-        (comes_out (keeps_all e.value) (keeps_all (after_read n e.value)) e.value.unread n (reads_less n e.value)) (read_clean n e.value)
+        (comes_out (keeps_all e.value) (keeps_all (after_read n e.value)) e.value.unread n (read_keeps n e.value).0) (read_keeps n e.value).1
       where
         none_more : (c : Connection) → payload_got Driver c log ≡ payload_got Driver c log ++ only_on (current Driver e.flow log) [] c
         none_more c = given_none _ (payload_got Driver c log)
@@ -164,9 +160,9 @@ module _ (a : Account) (log : Log) (id n : ℕ) (slots : HeldSlots) (x : AreRece
 
     now_drains : DrainsTo (not g.end.own.receive) (q g.id) (drop n g.unread) (a.opened g.id) log
     now_drains =
-        let all = payload_got Driver (a.opened g.id) old.drains.0 in
-        let front = subst (λ (bytes : List ℕ). IsPrefixOf bytes all) (sym all_there) old.drains.2.front in
-        (old.drains.0, old.drains.1, record { front = front; whole = λ on. all_there ∙ old.drains.2.whole on })
+        let (front, later, is, ends, drains) = old.drains in
+        let first = subst (λ (bytes : List ℕ). IsPrefixOf bytes (payload_got Driver (a.opened g.id) front)) (sym all_there) drains.front in
+        (front, later, is, ends, record { front = first; whole = λ on. all_there ∙ drains.whole on })
 
     at : (i : ℕ) (d : GoneConnection) → i < length slots.gone → (b : Bool) → (i == k) ≡ b
         → ReceivedOn (with_received id (take n g.unread) a) log (read_as id n (get_or slots.gone i d))
@@ -191,8 +187,10 @@ module _ (a : Account) (log : Log) (id n : ℕ) (slots : HeldSlots) (x : AreRece
     front_by : (other : ℕ) (b : Bool) → (other == id) ≡ b → IsPrefixOf (q other) (payload_got Driver (a.opened other) log)
     front_by other true same =
         let is_g : g.id ≡ other = grind (arith, nat_tests, same, named) in
+        let (front, later, is, ends, drains) = now_drains in
         subst (λ (j : ℕ). IsPrefixOf (q j) (payload_got Driver (a.opened j) log)) is_g
-        (shorter (q g.id) (drop n g.unread) (payload_got Driver (a.opened g.id) log) (front_of _ _ _ _ _ now_drains))
+        (subst (λ (l : Log). IsPrefixOf (q g.id) (payload_got Driver (a.opened g.id) l)) (sym later.1)
+        (prefix_then _ _ _ (shorter (q g.id) (drop n g.unread) _ drains.front) (got_stays Driver later.0 front (a.opened g.id))))
     front_by other false apart =
         subst (λ (bytes : List ℕ). IsPrefixOf bytes (payload_got Driver (a.opened other) log))
         (sym (ap (λ (c : Bool). a.received other ++ cond c (take n g.unread) []) apart ∙ append-nil (a.received other))) (x.front other)

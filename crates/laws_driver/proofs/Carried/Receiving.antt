@@ -1,12 +1,12 @@
 -- What an application received, through each change of a connection.
-use Rattle.laws_tables.{specs.Drains.{only_on, Drains}, proofs.{Changes.{changed, under_slot}, Logs.{longer, shorter}, Goes.Goes}}
+use Rattle.laws_tables.{specs.{Drains.{only_on, Drains}, Later.IsLater}, proofs.{Changes.{changed, under_slot}, Later.later_then, Logs.{longer, shorter}, Goes.Goes}}
 use Rattle.std.proofs.Common.{◌≡◌, ◌≢◌, ℕ, ◌<◌, ◌≤◌, ◌==◌, ◌&&◌, not, Bool, true, false, cond, List, [], ◌++◌, length, get_or, Contains, refl, sym, ap, subst, ◌∙◌, arith, append-nil}
 use Rattle.std.{proofs.{Math.Path.fun_ext, lemmas.{Bool.Decides.nat_tests, List.Elements.All-contains}}, specs.List.All}
 use Rattle.vs_flow.{specs.{Connection.Connection, Table.IsTable, declared.flow.Flow.Flow}, proofs.Entries.same_flow_false}
-use Rattle.vs_page.{specs.{Fair.{IsPrefixOf, current, number_of, payload_got}, Log.{Driver, Log}}, proofs.Flows.same_self}
+use Rattle.vs_page.{specs.{Fair.{IsPrefixOf, current, number_of, payload_got}, Log.{Driver, Log}}, proofs.{Flows.same_self}}
 use Rattle.vs_driver_parts.{specs.{State.{DriverConnection, DriverEntry, GoneConnection}, Held.{HeldSlots, with_connection_in}, SlotFields.AreNumbered}, proofs.Ids.HasId}
 use Rattle.vs_driver_parts.proofs.{Ids.value_of, Numbers.{id_there, numbers_with_value}}
-use Rattle.laws_driver.{specs.Carried.Received.{Account, AreReceived, DrainsTo, EndsClean, ReceivedOn, ReceivesOn, keeps_all}, proofs.Carried.Delivering.{Lasts, drains_on}}
+use Rattle.laws_driver.specs.Carried.Received.{Account, AreReceived, DrainsTo, EndsClean, ReceivedOn, ReceivesOn, keeps_all}
 
 -- Other slots, of which the next one has the same id.
 pub in_slots : (a : Account) (log : Log) (slots new : HeldSlots) → AreReceived a log slots → new.next_id ≡ slots.next_id
@@ -39,11 +39,19 @@ apart_by a b other = grind (arith, nat_tests, other)
 pub number_same : (n : ℕ) → (n == n) ≡ true
 number_same n = grind (arith, nat_tests)
 
+-- What a step of a connection keeps.
+abbrev pub Keeps : DriverConnection → DriverConnection → Type 0
+Keeps c k = (keeps_all k ≡ true → keeps_all c ≡ true) × (EndsClean c → EndsClean k)
+
+-- What was delivered to a connection that is gone stays, whatever comes besides.
+pub drains_on : (all : Bool) (out held : List ℕ) (c : Connection) (log new : Log) → IsLater log new → DrainsTo all out held c log → DrainsTo all out held c new
+drains_on all out held c log new later (front, older, is, ends, drains) = (front, later_then front log new older later, is, ends, drains)
+
 -- A connection of the table changes: these bytes of it are read, and these come in.
 module _ (a : Account) (q : ℕ → List ℕ) (log new : Log) (e : DriverEntry) (taken more : List ℕ)
     (out : (id : ℕ) → q id ≡ a.received id ++ cond (id == e.value.id) taken [])
     (came : (c : Connection) → payload_got Driver c new ≡ payload_got Driver c log ++ only_on (current Driver e.flow log) more c)
-    (numbers : (f : Flow) → number_of Driver f new ≡ number_of Driver f log) (lasts : Lasts log new) where
+    (numbers : (f : Flow) → number_of Driver f new ≡ number_of Driver f log) (later : IsLater log new) where
   abbrev b : Account
   b = record a { received = q }
 
@@ -85,13 +93,12 @@ module _ (a : Account) (q : ℕ → List ℕ) (log new : Log) (e : DriverEntry) 
     over = x.over;
   }
 
-  gone_other : (g : GoneConnection) → g.id ≢ e.value.id → (a.opened g.id).number ≤ number_of Driver (a.opened g.id).flow log → ReceivedOn a log g
-      → ReceivedOn b new g
-  gone_other g apart past x = record {
+  gone_other : (g : GoneConnection) → g.id ≢ e.value.id → ReceivedOn a log g → ReceivedOn b new g
+  gone_other g apart x = record {
     flow = x.flow;
     some = x.some;
     drains = subst (λ (bytes : List ℕ). DrainsTo (not g.end.own.receive) bytes g.unread (a.opened g.id) new) (out_other g.id apart)
-        (drains_on _ _ _ _ _ _ lasts past x.drains);
+        (drains_on _ _ _ _ _ _ later x.drains);
   }
 
   here : (c : DriverConnection) → c.id ≡ e.value.id
@@ -135,7 +142,7 @@ module _ (a : Account) (q : ℕ → List ℕ) (log new : Log) (e : DriverEntry) 
           front = λ id. front_by now id (id == e.value.id) refl;
           held = changed slots.table sound e there (ReceivesOn a log) (ReceivesOn b new) c x.held now
               (λ y other on. on_other y other (other_id y other on) on);
-          left = λ i d within. gone_other (get_or slots.gone i d) (gone_id i d within) (x.passed (get_or slots.gone i d).id) (x.left i d within);
+          left = λ i d within. gone_other (get_or slots.gone i d) (gone_id i d within) (x.left i d within);
           passed = λ id. subst (λ (n : ℕ). (a.opened id).number ≤ n) (sym (numbers (a.opened id).flow)) (x.passed id);
           once = x.once;
           rising = x.rising;

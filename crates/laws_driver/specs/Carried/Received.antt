@@ -1,8 +1,8 @@
 -- What an application received on the driver's connections, against the payload that was delivered to them.
-use Rattle.std.specs.{List.All, Option.ForSome, Prelude.{◌≡◌, ℕ, ◌≤◌, ◌<◌, ◌==◌, ◌++◌, ◌&&◌, ◌||◌, not, ◌⊎◌, Bool, true, false, if◌then◌else◌, List, [], ◌∷◌, take}}
+use Rattle.std.specs.{List.All, Option.ForSome, Prelude.{◌≡◌, ℕ, ◌≤◌, ◌<◌, ◌==◌, ◌++◌, ◌&&◌, ◌||◌, not, Bool, true, false, if◌then◌else◌, List, [], ◌∷◌, take}}
 use Rattle.vs_conn.specs.{End.is_open, declared.end.State.TheVariants.{Ended}}
-use Rattle.vs_flow.specs.{Connection.Connection, Flow.host_flow}
-use Rattle.laws_history.specs.{declared.packet.Packet.Packet, Packets.{has, has_both, is_rst}, History.gots}
+use Rattle.vs_flow.specs.{Connection.Connection, Flow.host_flow, declared.flow.Flow.Flow}
+use Rattle.laws_history.specs.{Packets.{has, has_both, is_rst}, History.gots}
 use Rattle.vs_page.specs.{Fair.{IsPrefixOf, current, number_of, payload_got}, Log.{Driver, Log, history_of}, declared.log.LogEntry.TheVariants.Mark}
 use Rattle.vs_ring_port.specs.Contents.{RingContents}
 use Rattle.vs_driver_parts.specs.{declared.answers.Received.Received, Held.HeldSlots, SlotFields.AreNumbered, State.DriverEntry}
@@ -41,18 +41,13 @@ bytes_got _ unread = []
 abbrev pub after_receive : ℕ → ℕ → DriverState → Account → Account
 after_receive id n s a = with_received id (bytes_got (recv_of id n s) (unread_of_id id s)) a
 
--- Nothing more is got on a connection: it isn't the present one of its flow, or its peer put what no payload follows.
-abbrev pub ends_payload : List Packet → Bool
-ends_payload ps = has is_rst ps || has_both ps
+-- No payload of a flow's present connection is delivered after this log: its peer put an RST or both SHUTDOWN bits, or a transport reset came last.
+abbrev pub resets : Log → Bool
+resets (Mark cid ∷ log) = true
+resets _ = false
 
-abbrev pub GetsNoMore : Connection → Log → Type 0
-GetsNoMore c log = c ≡ current Driver c.flow log → ends_payload (gots (history_of Driver c.flow log)) ≡ true
-
--- The front of a log in which stands all that was delivered to a connection that is gone: the whole log, or, since packets may have been under
--- way, that up to a transport reset after the connection began.
-abbrev pub EndsAt : Connection → Log → Log → Type 0
-EndsAt c front log =
-    ((front ≡ log) × GetsNoMore c log) ⊎ ((cid : ℕ) × IsLater (Mark cid ∷ front) log × (c.number ≤ number_of Driver c.flow front))
+abbrev pub ends_with : Flow → Log → Bool
+ends_with f log = let got = gots (history_of Driver f log) in resets log || (has is_rst got || has_both got)
 
 -- Nothing is dropped of what comes in: the application didn't say that it receives no more, and no close aborted the connection.
 abbrev pub keeps_all : DriverConnection → Bool
@@ -70,9 +65,10 @@ pub record ReceivesOn (a : Account) (log : Log) (e : DriverEntry) : Type 0 where
   pub drains : Drains (keeps_all e.value) (a.received e.value.id) e.value.unread (payload_got Driver (current Driver e.flow log) log)
   pub over : EndsClean e.value
 
--- One that is gone is a connection of its flow, the present one or an older one. The same is so of it, however it left the table.
+-- One that is gone is a connection of its flow, the present one or an older one. The same is so of it by the front of the log with which it ended.
 abbrev pub DrainsTo : Bool → List ℕ → List ℕ → Connection → Log → Type 0
-DrainsTo all out held c log = (front : Log) × EndsAt c front log × Drains all out held (payload_got Driver c front)
+DrainsTo all out held c log = (front : Log) × IsLater front log × (c ≡ current Driver c.flow front) × (ends_with c.flow front ≡ true)
+    × Drains all out held (payload_got Driver c front)
 
 pub record ReceivedOn (a : Account) (log : Log) (g : GoneConnection) : Type 0 where
   pub flow : (a.opened g.id).flow ≡ g.flow
