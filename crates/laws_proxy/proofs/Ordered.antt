@@ -10,6 +10,7 @@ use Rattle.laws_proxy.proofs.{Named.{Lists.none_open, Turning.{keeps_proxy_reset
 use Rattle.laws_proxy.{proofs.Turning.{proxied_ring, proxied_streams, streamed_proxied}, specs.{Honest.{IsProxyWith, IsProxyStreamed}, Order.IsInOrder}}
 use Rattle.vs_limits.specs.declared.TheConstants.{ASSIGNED_FIRST}
 use Rattle.vs_page.specs.Log.{Log}
+use Rattle.std.proofs.Common.{true}
 
 pub new_in_order : (cid : ℕ) (base : List ℕ) (port : ℕ) (a : Situation) → cid < 2 ^ 64 → ASSIGNED_FIRST ≤ port → IsFresh a.ring
     → IsInOrder cid (new_proxy_at cid base port) a
@@ -21,8 +22,8 @@ new_in_order cid base port a fits above fresh = record {
 pub new_streamed : (cid : ℕ) (base : List ℕ) (port : ℕ) (a : Situation) → IsFresh a.ring → ForSome a.host (λ h. (h.streams ≡ []) × (h.labelled ≡ []))
     → IsProxyStreamed cid (new_proxy_at cid base port) a
 new_streamed cid base port a fresh none honest l is plain h there =
-    subst (λ (log : Log). IsStreamed h log (ports_of port (new_proxy_at cid base port).device) (new_proxy_at cid base port).device.table []) (sym (fresh l is).0)
-    (no_streams h (ports_of port (new_proxy_at cid base port).device) (new_proxy_at cid base port).device.table refl (none h there).0 (none h there).1)
+    subst (λ (log : Log). IsStreamed h log (ports_of true port (new_proxy_at cid base port).device) (new_proxy_at cid base port).device.table []) (sym (fresh l is).0)
+    (no_streams h (ports_of true port (new_proxy_at cid base port).device) (new_proxy_at cid base port).device.table refl (refl, refl) (none h there).0 (none h there).1)
 
 pub turn_may : (first size now : ℕ) (s : ProxyState) (a : Situation) → IsInOrder first s a → MayRun (turn_of size now s) a
 turn_may first size now s a is =
